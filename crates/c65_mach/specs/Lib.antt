@@ -1,0 +1,5 @@
+pub mod State
+pub mod Table
+pub mod Step
+pub mod Hooks
+pub mod Run
