@@ -1,5 +1,6 @@
 pub mod State
 pub mod Table
 pub mod Step
+pub mod Registers
 pub mod Hooks
 pub mod Run

@@ -1,5 +1,7 @@
 -- One row of a run, on whole numbers.
-use Rattle.std.specs.Prelude.{◌≡◌, ℕ, ◌+◌, ◌-◌, ◌*◌, ◌/◌, ◌%◌, Bool, true, false, Option, Some, None, if◌then◌else◌, ◌==◌, ◌&&◌, nat_lt, bit_and, bit_or, bit_xor}
+use Rattle.std.specs.Prelude.{◌≡◌, ℕ, ◌+◌, ◌-◌, ◌*◌, ◌/◌, ◌%◌, Bool, true, false, Option, Some, None, Result, Ok, Err, if◌then◌else◌, ◌==◌, ◌&&◌, nat_lt, bit_and, bit_or, bit_xor}
+use Rattle.c65_base.specs.declared.refusal.Refusal.{Refusal}
+use Rattle.c65_base.specs.declared.refusal.Refusal.TheVariants.{Illegal}
 use Rattle.c65_mach.specs.declared.rows.Row.{Row}
 use Rattle.c65_mach.specs.declared.rows.Op.{Op}
 use Rattle.c65_mach.specs.declared.rows.Op.TheVariants.{Adc, And, Asl, Bcc, Bcs, Beq, Bit, Bmi, Bne, Bpl, Brk, Bvc, Bvs, Clc, Cld, Cli, Clv, Cmp, Cpx, Cpy, Dec, Dex, Dey, Eor, Inc, Inx, Iny, Jmp, Jsr, Lda, Ldx, Ldy, Lsr, Nop, Ora, Pha, Php, Pla, Plp, Rol, Ror, Rti, Rts, Sbc, Sec, Sed, Sei, Sta, Stx, Sty, Tax, Tay, Tsx, Txa, Txs, Tya}
@@ -338,7 +340,15 @@ step_by (Some row) t = Some (done row t)
 abbrev pub step : State → Option State
 step t = step_by (row_at t) t
 
--- The row at pc is done and answers its cycles. Where there is none, nothing is done.
-abbrev pub Steps : Option Row → State → State → Option ℕ → Type 0
-Steps None old new result = (new ≡ old) × (result ≡ None)
-Steps (Some row) old new result = (new ≡ done row old) × (result ≡ Some (cycles_of row old))
+-- The row at pc is done and answers its cycles. A byte without a row is refused, and nothing is done.
+abbrev pub Steps : Option Row → State → State → Result ℕ Refusal → Type 0
+Steps None old new result = (new ≡ old) × (result ≡ Err (Illegal old.pc))
+Steps (Some row) old new result = (new ≡ done row old) × (result ≡ Ok (cycles_of row old))
+
+-- how many bytes an operation pushes
+abbrev pub pushes : Op → ℕ
+pushes Brk = 3
+pushes Jsr = 2
+pushes Pha = 1
+pushes Php = 1
+pushes _ = 0

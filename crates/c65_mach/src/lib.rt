@@ -3,8 +3,10 @@
 
 mod image;
 mod machine;
+mod registers;
 mod rows;
 
 pub use image::Image;
 pub use machine::{Machine, step};
+pub use registers::Regs;
 pub use rows::{Mode, Op, Row, decode};

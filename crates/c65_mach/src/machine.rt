@@ -1,10 +1,14 @@
 // The machine's registers and memory.
-ghost use Rattle.std.specs.Prelude.{◌≡◌, ◌+◌, ◌*◌, ◌/◌, ◌%◌, ◌-◌, length, if◌then◌else◌, nat_lt, true, false, ◌==◌, ◌<◌, ◌≤◌};
-ghost use Rattle.c65_mach.specs.State.{State, read, write};
+ghost use Rattle.std.specs.Prelude.{◌≡◌, ◌+◌, ◌*◌, ◌/◌, ◌%◌, ◌-◌, length, if◌then◌else◌, nat_lt, true, false, ◌==◌, ◌<◌, ◌≤◌, IfOk, IfErr};
+ghost use Rattle.c65_mach.specs.State.{State, read, write, zero_state};
+ghost use Rattle.c65_mach.specs.Hooks.{put_word, hooked};
+ghost use Rattle.c65_mach.specs.Registers.{regs_of, with_regs, flags_of};
 ghost use Rattle.c65_mach.specs.Step.{after, word_at, zero_word, size_of, direct, indexed, page_next, branched, place_of, negative, bit, signed, with_a, with_x, with_y, compared, summed, decimal_low, decimal_carry, decimal_sum, added, decimal_borrow, decimal_lend, decimal_difference, subtracted, bits_tested, changed, is_taken, more_cycles, change, branch, push, pulled, dropped, pulled_word, returned, push_word, packed, unpacked, flags_pulled, called, broken, act, done, row_at, step, Steps};
 
+use crate::registers::Regs;
 use crate::rows::{Mode, Op, decode};
-use std::alloc::{AllocError, Global};
+use c65_base::Refusal;
+use std::alloc::Global;
 use std::marker::Model;
 
 /// Registers, flags and 65,536 bytes of memory.
@@ -72,15 +76,18 @@ fn decimal_difference(a: u8, v: u8, c: bool) -> u8
 }
 
 impl Machine {
-    /// A machine whose memory is zero.
-    pub fn new(alloc: Global) -> Result<Machine, AllocError> {
+    /// A machine with no memory, registers and flags set but S, which is $FF. It refuses for want of memory alone.
+    pub fn new(alloc: Global) -> Result<Machine, Refusal>
+        ensures ok { IfOk result (λ machine. machine ≡ zero_state) }
+        ensures refused { IfErr result (λ refusal. refusal ≡ Refusal.OutOfMemory) }
+    {
         let memory = vec![in alloc; 0; 65536]?;
         Ok(Machine {
             a: 0,
             x: 0,
             y: 0,
             s: 255,
-            pc: 512,
+            pc: 0,
             n: false,
             v: false,
             d: false,
@@ -91,28 +98,105 @@ impl Machine {
         })
     }
 
+    /// The accumulator.
     pub fn a(&self) -> u8
         ensures { result ≡ self.now.regs.a }
     {
         self.a
     }
 
+    /// The index register X.
+    pub fn x(&self) -> u8
+        ensures { result ≡ self.now.regs.x }
+    {
+        self.x
+    }
+
+    /// The index register Y.
+    pub fn y(&self) -> u8
+        ensures { result ≡ self.now.regs.y }
+    {
+        self.y
+    }
+
+    /// The stack pointer. The next byte that is pushed goes to $0100 + S.
+    pub fn s(&self) -> u8
+        ensures { result ≡ self.now.s }
+    {
+        self.s
+    }
+
+    /// The program counter: the address of the next row.
+    pub fn pc(&self) -> u16
+        ensures { result ≡ self.now.pc }
+    {
+        self.pc
+    }
+
+    /// The registers, with the flags in one byte.
+    pub fn regs(&self) -> Regs
+        ensures { result ≡ regs_of self.now }
+    {
+        Regs {
+            a: self.a,
+            x: self.x,
+            y: self.y,
+            s: self.s,
+            p: self.flags(),
+            pc: self.pc,
+        }
+    }
+
+    /// Sets the registers and flags, and leaves memory as it is. Bits 4 and 5 of `p` name no flag.
+    pub fn set_regs(&mut self, regs: Regs)
+        ensures { self.new ≡ with_regs regs self.old }
+    {
+        self.a = regs.a;
+        self.x = regs.x;
+        self.y = regs.y;
+        self.s = regs.s;
+        self.pc = regs.pc;
+        self.unpack(regs.p);
+    }
+
+    /// The byte at an address.
     pub fn read(&self, at: u16) -> u8
         ensures { result ≡ read self.now.mem at }
     {
         self.memory[usize::from(at)]
     }
 
+    /// Puts a byte at an address.
     pub fn write(&mut self, at: u16, value: u8)
         ensures { self.new ≡ record self.old { mem = write self.old.mem at value } }
     {
         self.memory[usize::from(at)] = value;
     }
 
-    fn word(&self, at: u16) -> u16
+    /// The word at an address, low byte first. Behind $FFFF comes $0000.
+    pub fn word(&self, at: u16) -> u16
         ensures { result ≡ word_at self.now.mem at }
     {
         u16::from_le_bytes([self.read(at), self.read(at.wrapping_add(1))])
+    }
+
+    /// Puts a word at an address, low byte first. Behind $FFFF comes $0000.
+    pub fn put_word(&mut self, at: u16, value: u16)
+        ensures { self.new ≡ record self.old { mem = put_word self.old.mem at value } }
+    {
+        let [low, high] = value.to_le_bytes();
+        self.write(at, low);
+        self.write(at.wrapping_add(1), high);
+    }
+
+    /// Answers a hook's caller: the word goes to A and X, and control returns as by RTS.
+    pub fn answer_hook(&mut self, answer: u16)
+        ensures { self.new ≡ hooked answer self.old }
+    {
+        let [low, high] = answer.to_le_bytes();
+        self.a = low;
+        self.x = high;
+        self.return_to(1);
     }
 
     fn zero_word(&self, at: u8) -> u16
@@ -302,16 +386,22 @@ impl Machine {
         self.pc = u16::from_le_bytes([low, high]).wrapping_add(more);
     }
 
-    fn pack(&self) -> u8
-        ensures { result ≡ packed self.now }
+    fn flags(&self) -> u8
+        ensures value { result ≡ flags_of self.now }
+        ensures small { result ≤ 207 }
     {
         128 * bit(self.n)
             + 64 * bit(self.v)
-            + 48
             + 8 * bit(self.d)
             + 4 * bit(self.i)
             + 2 * bit(self.z)
             + bit(self.c)
+    }
+
+    fn pack(&self) -> u8
+        ensures { result ≡ packed self.now }
+    {
+        self.flags() + 48
     }
 
     fn unpack(&mut self, flags: u8)
@@ -469,16 +559,19 @@ fn index(base: u16, index: u8) -> (u16, bool)
     )
 }
 
-/// Does the row at pc, and answers its cycles.
-pub fn step(machine: &mut Machine) -> Option<u8>
+/// Does the row at pc, and answers its cycles. It refuses a byte that has no row, and then the machine is unchanged.
+pub fn step(machine: &mut Machine) -> Result<u8, Refusal>
     ensures { Steps (row_at machine.old) machine.old machine.new result }
 {
-    let row = decode(machine.read(machine.pc))?;
+    let pc = machine.pc;
+    let Some(row) = decode(machine.read(pc)) else {
+        return Err(Refusal::Illegal { pc });
+    };
     let (at, crosses) = machine.place(row.mode);
     let more = machine.more_cycles(row.mode, row.op, row.page, crosses);
-    machine.pc = machine.pc.wrapping_add(size(row.mode));
+    machine.pc = pc.wrapping_add(size(row.mode));
     machine.operate(row.op, row.mode, at);
-    Some(row.cycles + more)
+    Ok(row.cycles + more)
 }
 
 fn size(mode: Mode) -> u16

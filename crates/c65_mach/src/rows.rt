@@ -1,6 +1,7 @@
 // The table of opcodes.
 ghost use Rattle.std.specs.Prelude.{◌≡◌, ◌+◌, ◌<◌, true, false};
 ghost use Rattle.c65_mach.specs.Table.{row_of};
+ghost use Rattle.c65_mach.specs.Step.{pushes};
 
 #[derive(Clone, Copy, Debug, PartialEq, Eq)]
 pub enum Op {
@@ -60,6 +61,20 @@ pub enum Op {
     Txa,
     Txs,
     Tya,
+}
+
+impl Op {
+    /// How many bytes the operation pushes on the stack of page 1.
+    pub fn pushes(self) -> u8
+        ensures { result ≡ pushes self }
+    {
+        match self {
+            Op::Brk => 3,
+            Op::Jsr => 2,
+            Op::Pha | Op::Php => 1,
+            _ => 0,
+        }
+    }
 }
 
 #[derive(Clone, Copy, Debug, PartialEq, Eq)]

@@ -3,4 +3,4 @@ use Rattle.c65_mach.proofs.Cycles.{short}
 use Rattle.c65_mach.proofs.machine.step.Goals as goal
 
 pub overflow_add-result : goal.overflow_add-result
-overflow_add-result c = let h : c.in_ok-row.row.cycles < 8 = short _ _ (sym c.in_ok-row.ensures) in omega (arith, h, c.more_cycles-more.ensures.small)
+overflow_add-result c = let h : c.in-Some.row.cycles < 8 = short _ _ (sym c.in-Some.ensures) in omega (arith, h, c.more_cycles-more.ensures.small)
