@@ -1,10 +1,11 @@
 // The machine's registers and memory.
-ghost use Rattle.std.specs.Prelude.{◌≡◌, ◌+◌, ◌*◌, ◌/◌, ◌%◌, ◌-◌, length, if◌then◌else◌, nat_lt, true, false, ◌==◌, ◌<◌, ◌≤◌, IfOk, IfErr};
-ghost use Rattle.c65_mach.specs.State.{State, read, write, zero_state};
+ghost use Rattle.std.specs.Prelude.{◌≡◌, ◌+◌, ◌*◌, ◌/◌, ◌%◌, ◌-◌, length, if◌then◌else◌, nat_lt, true, false, ◌==◌, ◌<◌, ◌≤◌, ◌++◌, take, drop, IfOk, IfErr};
+ghost use Rattle.c65_mach.specs.State.{State, read, write, zero_state, loaded};
 ghost use Rattle.c65_mach.specs.Hooks.{put_word, hooked};
 ghost use Rattle.c65_mach.specs.Registers.{regs_of, with_regs, flags_of};
 ghost use Rattle.c65_mach.specs.Step.{after, word_at, zero_word, size_of, direct, indexed, page_next, branched, place_of, negative, bit, signed, with_a, with_x, with_y, compared, summed, decimal_low, decimal_carry, decimal_sum, added, decimal_borrow, decimal_lend, decimal_difference, subtracted, bits_tested, changed, is_taken, more_cycles, change, branch, push, pulled, dropped, pulled_word, returned, push_word, packed, unpacked, flags_pulled, called, broken, act, done, row_at, step, Steps};
 
+use crate::image::Image;
 use crate::registers::Regs;
 use crate::rows::{Mode, Op, decode};
 use c65_base::Refusal;
@@ -75,6 +76,18 @@ fn decimal_difference(a: u8, v: u8, c: bool) -> u8
     (difference % 256) as u8
 }
 
+// Puts as many of the bytes as there is room for from an index on.
+fn lay(memory: &mut [u8], at: usize, bytes: &[u8])
+    requires { at ≤ length memory.old }
+    ensures { memory.new ≡ take at memory.old ++ (take (length memory.old - at) bytes.now ++ drop (at + length bytes.now) memory.old) }
+{
+    let room = memory.len() - at;
+    let count = bytes.len().min(room);
+    let (_, rest) = memory.split_at_mut(at);
+    let (place, _) = rest.split_at_mut(count);
+    place.copy_from_slice(&bytes[..count]);
+}
+
 impl Machine {
     /// A machine with no memory, registers and flags set but S, which is $FF. It refuses for want of memory alone.
     pub fn new(alloc: Global) -> Result<Machine, Refusal>
@@ -96,6 +109,27 @@ impl Machine {
             c: false,
             memory,
         })
+    }
+
+    /// Makes the machine ready to run an image from its beginning, whatever it did before.
+    /// Payload bytes that would pass $FFFF are left out.
+    pub fn load(&mut self, image: &Image)
+        ensures { self.new ≡ loaded image.now }
+    {
+        self.set_regs(Regs {
+            a: 0,
+            x: 0,
+            y: 0,
+            s: 255,
+            p: 0,
+            pc: image.reset,
+        });
+        self.memory.fill(0);
+        lay(
+            &mut self.memory,
+            usize::from(image.load),
+            image.payload.as_slice(),
+        );
     }
 
     /// The accumulator.
