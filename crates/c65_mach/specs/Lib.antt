@@ -3,4 +3,5 @@ pub mod Table
 pub mod Step
 pub mod Registers
 pub mod Hooks
+pub mod Images
 pub mod Run

@@ -1,0 +1,61 @@
+-- The form of an image as a file: a header of 12 bytes, and the payload.
+use Rattle.std.specs.Prelude.{◌≡◌, ℕ, ◌+◌, ◌-◌, ◌*◌, ◌/◌, ◌%◌, ◌≤◌, List, [], ◌∷◌, ◌++◌, length, drop, slice_index, Option, Some, None, Result, Ok, Err, if◌then◌else◌, ◌==◌, nat_lt, codes}
+use Rattle.c65_base.specs.declared.options.Cpu.{Cpu}
+use Rattle.c65_base.specs.declared.options.Cpu.TheVariants.{Nmos, Cmos}
+use Rattle.c65_base.specs.declared.refusal.Refusal.{Refusal}
+use Rattle.c65_base.specs.declared.refusal.Refusal.TheVariants.{OutOfMemory, BadImage}
+use Rattle.c65_mach.specs.declared.image.Image.{Image}
+
+abbrev pub cpu_byte : Cpu → ℕ
+cpu_byte Nmos = 0
+cpu_byte Cmos = 1
+
+-- the file of an image: `sim65`, the version 2, the processor, sp, and the load and reset addresses, low byte first
+abbrev pub bytes_of : Image → List ℕ
+bytes_of image = codes "sim65" ++ 2 ∷ cpu_byte image.cpu ∷ image.sp ∷ image.load % 256 ∷ image.load / 256 ∷ image.reset % 256 ∷ image.reset / 256 ∷ image.payload
+
+-- an image whose file is accepted: it is for the 6502, and its payload ends at or below $FFFF
+pub record IsLegal (image : Image) : Type 0 where
+  pub cpu : image.cpu ≡ Nmos
+  pub fits : image.load + length image.payload ≤ 65536
+
+-- the bytes that each accepted file begins with: `sim65`, the version 2 and the processor 0
+abbrev pub fixed : List ℕ
+fixed = codes "sim65" ++ 2 ∷ 0 ∷ []
+
+-- the offset of the first byte that is wrong or is not there, counted from here
+abbrev pub wrong_in : List ℕ → List ℕ → ℕ → Option ℕ
+wrong_in [] bytes at = None
+wrong_in (want ∷ wants) [] at = Some at
+wrong_in (want ∷ wants) (byte ∷ bytes) at = if byte == want then wrong_in wants bytes (at + 1) else Some at
+
+abbrev pub word_in : List ℕ → ℕ → ℕ
+word_in bytes at = slice_index bytes at + 256 * slice_index bytes (at + 1)
+
+-- behind the fixed part: a header that is cut off ends at the fault; else the fault is the byte for address 65,536
+abbrev pub late_fault : List ℕ → Option ℕ
+late_fault bytes =
+    let end = 12 + 65536 - word_in bytes 8 in
+    if nat_lt (length bytes) 12 then Some (length bytes) else if nat_lt end (length bytes) then Some end else None
+
+abbrev pub or_else : Option ℕ → Option ℕ → Option ℕ
+or_else (Some at) other = Some at
+or_else None other = other
+
+-- the first offset that breaks the form
+abbrev pub fault_of : List ℕ → Option ℕ
+fault_of bytes = or_else (wrong_in fixed bytes 0) (late_fault bytes)
+
+-- what a file without a fault spells
+abbrev pub image_of : List ℕ → Image
+image_of bytes = record { cpu = Nmos; sp = slice_index bytes 7; load = word_in bytes 8; reset = word_in bytes 10; payload = drop 12 bytes }
+
+-- what reading a file answers: the image that it spells, or its fault
+abbrev pub RefusesFor : Option ℕ → Refusal → Type 0
+RefusesFor fault OutOfMemory = fault ≡ None
+RefusesFor fault (BadImage offset) = fault ≡ Some offset
+RefusesFor fault _ = ⊥
+
+abbrev pub Parses : List ℕ → Result Image Refusal → Type 0
+Parses bytes (Ok image) = (fault_of bytes ≡ None) × (image ≡ image_of bytes)
+Parses bytes (Err refusal) = RefusesFor (fault_of bytes) refusal
