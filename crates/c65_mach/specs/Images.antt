@@ -19,6 +19,10 @@ pub record IsLegal (image : Image) : Type 0 where
   pub cpu : image.cpu ≡ Nmos
   pub fits : image.load + length image.payload ≤ 65536
 
+-- an accepted file, and the image that it spells
+abbrev pub Spells : List ℕ → Image → Type 0
+Spells bytes image = IsLegal image × (bytes ≡ bytes_of image)
+
 -- the bytes that each accepted file begins with: `sim65`, the version 2 and the processor 0
 abbrev pub fixed : List ℕ
 fixed = codes "sim65" ++ 2 ∷ 0 ∷ []

@@ -1,6 +1,6 @@
 // What a run starts from, and its form as a file.
-ghost use Rattle.std.specs.Prelude.{◌≡◌, ◌+◌, ◌<◌, ◌≤◌, length, IfOk, IfErr, IfNone, ◌/◌, ◌%◌, ◌∷◌, []};
-ghost use Rattle.c65_mach.specs.Images.{bytes_of, cpu_byte, word_in, wrong_in, fixed, fault_of, Parses};
+ghost use Rattle.std.specs.Prelude.{◌≡◌, ◌+◌, ◌<◌, ◌≤◌, length, IfOk, IfErr, IfNone, MatchResult, ◌/◌, ◌%◌, ◌∷◌, []};
+ghost use Rattle.c65_mach.specs.Images.{bytes_of, cpu_byte, word_in, wrong_in, fixed, fault_of, Spells, Parses};
 
 use c65_base::{Cpu, Refusal, Text};
 use std::alloc::Global;
@@ -56,7 +56,15 @@ impl Image {
     /// breaks the form: a byte that is wrong, the end of a header that is cut off, or the first byte of the payload
     /// that would pass $FFFF. Files for the 65C02 are not accepted. Any other refusal is for want of memory.
     pub fn parse(alloc: Global, bytes: &[u8]) -> Result<Image, Refusal>
+        ensures found { IfOk result (λ image. Spells bytes.now image) }
+        ensures only { (image : Image) → Spells bytes.now image → MatchResult result (λ read. read ≡ image) (λ refusal. refusal ≡ Refusal.OutOfMemory) }
         ensures exact { Parses bytes.now result }
+    {
+        Image::read(alloc, bytes)
+    }
+
+    fn read(alloc: Global, bytes: &[u8]) -> Result<Image, Refusal>
+        ensures { Parses bytes.now result }
     {
         if let Some(offset) = first_fault(bytes) {
             return Err(Refusal::BadImage { offset });
