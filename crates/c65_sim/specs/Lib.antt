@@ -1,0 +1,4 @@
+pub mod View
+pub mod Budgets
+pub mod Turns
+pub mod Runs
