@@ -12,7 +12,7 @@ use Rattle.c65_small.specs.SmallImage.{IsQuiet, AgreesAlways, QuietAlways}
 use Rattle.c65_small.specs.SmallCode.{routine, body_code, image_for}
 use Rattle.c65_small.proofs.Rows.{Flags, state, moment}
 use Rattle.c65_small.proofs.Facts.{Facts, Holds}
-use Rattle.c65_small.proofs.Putchar.{Way, set, reached}
+use Rattle.c65_small.proofs.Putchar.{Way, set, reached, not_read}
 use Rattle.c65_small.proofs.MainRun.{Stage, Finish, put_stage, end_stage}
 
 seam : (pre : List ℕ) (b : ℕ) (rest : List ℕ) → get_or (pre ++ (b ∷ rest)) (length pre) 0 ≡ b
@@ -76,7 +76,7 @@ first_stage way f memory values answer starts size holds = record {
   came = starts;
   quiet = λ k le. let none : 0 ≡ k = omega arith in
       subst (λ n. IsQuiet way.input (moment_of (reached way n))) none
-      (subst (λ (p : Progress). IsQuiet way.input (moment_of p)) (sym starts) (record { unread = refl; high = omega arith }));
+      (subst (λ (p : Progress). IsQuiet way.input (moment_of p)) (sym starts) (record { unread = refl; reads_not = not_read 545 refl; high = omega arith }));
   size = size;
   facts = holds-facts routine (body_code values answer) memory 512 holds;
   held = holds-tail routine (body_code values answer) memory 512 holds;

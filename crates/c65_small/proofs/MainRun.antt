@@ -7,7 +7,7 @@ use Rattle.c65_mach.specs.Step.{after}
 use Rattle.c65_mach.specs.Run.{Running, Ended}
 use Rattle.c65_small.proofs.Rows.{Flags, state, moment, with_sign, Plain, lda, jsr, jmp}
 use Rattle.c65_small.proofs.Facts.{Facts, facts-set, Holds}
-use Rattle.c65_small.proofs.Putchar.{Way, set, reached, Quiet, quiet_on, quiet_same, Was, routine_facts, Kept, kept-set, on}
+use Rattle.c65_small.proofs.Putchar.{Way, set, reached, Quiet, quiet_on, quiet_same, Was, routine_facts, Kept, kept-set, on, not_read}
 use Rattle.c65_small.proofs.PutcharRun.{to_hook, at_hook}
 
 -- between two calls
@@ -55,7 +55,7 @@ loads way rows output pc v rest to stage =
 
 quiet_loads : (way : Way) (rows : ℕ) (output : List ℕ) (pc v : ℕ) (rest : List ℕ) → pc + 5 ≤ 60000 → (stage : Stage way rows output pc (169 ∷ v ∷ rest)) → Quiet way (rows + 1)
 quiet_loads way rows output pc v rest to stage =
-    quiet_same way rows output output _ _ stage.quiet stage.came (loads way rows output pc v rest to stage) refl
+    quiet_same way rows output output _ _ stage.quiet stage.came (loads way rows output pc v rest to stage) refl (plain_below (pc + 2) (omega arith)).2
 
 pub put_stage : (way : Way) (rows : ℕ) (output : List ℕ) (pc v : ℕ) (rest : List ℕ) → 545 ≤ pc → pc + 5 + length rest ≤ 60000
     → Stage way rows output pc (169 ∷ v ∷ 32 ∷ 0 ∷ 2 ∷ rest) → Stage way (rows + 17) (output ++ v ∷ []) (pc + 5) rest
@@ -83,7 +83,7 @@ put_stage way rows output pc v rest from to stage =
       f = f1;
       memory = m1;
       came = called;
-      quiet = quiet_on way (rows + 1) _ quiet1 called (record { unread = refl; high = lit≤ tt });
+      quiet = quiet_on way (rows + 1) _ quiet1 called (record { unread = refl; reads_not = not_read 512 refl; high = lit≤ tt });
       size = length-set m0 510 (q % 256) ∙ size0;
       facts = (f510, facts-set ((511, q / 256) ∷ routine_facts) m0 510 (q % 256) refl facts0);
       kept = kept-set stage.memory m0 510 (q % 256) (inl (lit< tt)) (kept-set stage.memory stage.memory 511 (q / 256) (inl (lit< tt)) (kept-none stage.memory));
@@ -93,7 +93,8 @@ put_stage way rows output pc v rest from to stage =
     let m3 : List ℕ = slice_set m2 1 255 in
     let count : rows + 1 + 1 + 1 + 1 + 1 + 1 + 1 + 1 + 1 + 1 + 1 + 1 + 1 + 1 + 1 + 1 + 1 ≡ rows + 17 = omega arith in
     let wrote = on way _ _ _ hooked.came (at_hook way.args way.input output stage.y hooked.f v (q % 256) (q / 256) hooked.memory hooked.facts) in
-    let quiet17 = quiet_on way _ _ hooked.quiet wrote (record { unread = refl; high = lit≤ tt }) in
+    let gone = ap (λ n. nat_eq n 65526) (return_is pc (omega arith)) ∙ (plain_below (pc + 5) (omega arith)).2 in
+    let quiet17 = quiet_on way _ _ hooked.quiet wrote (record { unread = refl; reads_not = not_read _ gone; high = lit≤ tt }) in
     let back : reached way (rows + 17) ≡ Running (moment way.input (output ++ v ∷ []) (state 1 0 stage.y 255 hooked.f (pc + 5) m3)) =
     ap (reached way) (sym count)
     ∙ wrote
@@ -134,12 +135,12 @@ end_stage way rows output pc v from to stage =
     let at4 : slice_index stage.memory (after (after (pc + 2) 1) 1) ≡ 255 = ap (slice_index stage.memory) (sym four) ∙ stage.held.1.1.1.1.0 in
     let jumped : reached way (rows + 1 + 1) ≡ Running (moment way.input output (state v stage.x stage.y 255 f1 65529 stage.memory)) =
     on way (rows + 1) _ _ loaded (jmp (set way) way.input output v stage.x stage.y 255 f1 (pc + 2) 249 255 stage.memory (plain_below (pc + 2) (omega arith)) op at3 at4) in
-    let quiet2 = quiet_same way (rows + 1) output output _ _ quiet1 loaded jumped refl in
+    let quiet2 = quiet_same way (rows + 1) output output _ _ quiet1 loaded jumped refl refl in
     let last : State = state v stage.x stage.y 255 f1 65529 stage.memory in
     let ended : reached way (rows + 1 + 1 + 1) ≡ Ended (moment way.input output last) v = on way (rows + 1 + 1) _ _ jumped refl in
     let count : rows + 1 + 1 + 1 ≡ rows + 3 = omega arith in
     record {
       last = last;
       came = ap (reached way) (sym count) ∙ ended;
-      quiet = subst (Quiet way) count (quiet_on way (rows + 1 + 1) _ quiet2 ended (record { unread = refl; high = lit≤ tt }));
+      quiet = subst (Quiet way) count (quiet_on way (rows + 1 + 1) _ quiet2 ended (record { unread = refl; reads_not = not_read 65529 refl; high = lit≤ tt }));
     }

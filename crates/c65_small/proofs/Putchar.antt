@@ -1,5 +1,5 @@
 -- The routine putchar, row by row.
-use Rattle.std.proofs.Common.{◌≡◌, ℕ, ◌+◌, ◌*◌, ◌<◌, ◌≤◌, ◌⊎◌, inl, inr, true, suc, List, [], ◌∷◌, length, slice_set, Some, ap, sym, refl, subst, ◌∙◌, arith, get_or-set_same}
+use Rattle.std.proofs.Common.{◌≡◌, ℕ, ◌+◌, ◌*◌, ◌<◌, ◌≤◌, ◌⊎◌, inl, inr, true, suc, List, [], ◌∷◌, length, slice_set, Some, ap, sym, refl, subst, ◌∙◌, arith, get_or-set_same, nat_eq, false, ◌≢◌}
 use Rattle.std.proofs.Math.ListN.{length-set}
 use Rattle.c65_mach.specs.State.{State}
 use Rattle.c65_mach.specs.Step.{after}
@@ -59,23 +59,26 @@ quiet_on way rows p quiet came now = λ k le. by k (split k rows le)
     by k (inl before) = quiet k before
     by k (inr here) = subst (λ n. IsQuiet way.input (moment_of (reached way n))) here (subst (λ (q : Progress). IsQuiet way.input (moment_of q)) (sym came) now)
 
+pub not_read : (pc : ℕ) → nat_eq pc 65526 ≡ false → pc ≢ 65526
+not_read pc other = λ same. let clash : true ≡ false = sym (ap (λ n. nat_eq n 65526) same) ∙ other in cc
+
 -- a row that leaves S alone is as quiet as the one before
 pub quiet_same : (way : Way) (rows : ℕ) (o o' : List ℕ) (m m' : State) → Quiet way rows → reached way rows ≡ Running (moment way.input o m)
-    → reached way (rows + 1) ≡ Running (moment way.input o' m') → m'.s ≡ m.s → Quiet way (rows + 1)
-quiet_same way rows o o' m m' quiet here came same =
+    → reached way (rows + 1) ≡ Running (moment way.input o' m') → m'.s ≡ m.s → nat_eq m'.pc 65526 ≡ false → Quiet way (rows + 1)
+quiet_same way rows o o' m m' quiet here came same other =
     let before : IsQuiet way.input (moment way.input o m) = subst (λ (p : Progress). IsQuiet way.input (moment_of p)) here (quiet rows (omega arith)) in
-    quiet_on way rows (Running (moment way.input o' m')) quiet came (record { unread = refl; high = omega (arith, before.high, same) })
+    quiet_on way rows (Running (moment way.input o' m')) quiet came (record { unread = refl; reads_not = not_read m'.pc other; high = omega (arith, before.high, same) })
 
 pub was_lda : (way : Way) (rows : ℕ) (output : List ℕ) (a x y s pc v : ℕ) (fs : List (ℕ × ℕ)) (old : List ℕ)
     → Was way rows output a x y s pc fs old → Plain pc → found pc fs ≡ Some 169 → found (after pc 1) fs ≡ Some v
-    → Was way (rows + 1) output v x y s (after pc 2) fs old
-was_lda way rows output a x y s pc v fs old was plain op at =
+    → nat_eq (after pc 2) 65526 ≡ false → Was way (rows + 1) output v x y s (after pc 2) fs old
+was_lda way rows output a x y s pc v fs old was plain op at other =
     let came = on way rows _ _ was.came (lda (set way) way.input output a x y s was.f pc v was.memory plain (fact fs was.memory pc 169 op was.facts) (fact fs was.memory (after pc 1) v at was.facts)) in
     record {
       f = with_sign was.f v;
       memory = was.memory;
       came = came;
-      quiet = quiet_same way rows output output _ (state v x y s (with_sign was.f v) (after pc 2) was.memory) was.quiet was.came came refl;
+      quiet = quiet_same way rows output output _ (state v x y s (with_sign was.f v) (after pc 2) was.memory) was.quiet was.came came refl other;
       size = was.size;
       facts = was.facts;
       kept = was.kept;
@@ -83,14 +86,14 @@ was_lda way rows output a x y s pc v fs old was plain op at =
 
 pub was_ldx : (way : Way) (rows : ℕ) (output : List ℕ) (a x y s pc v : ℕ) (fs : List (ℕ × ℕ)) (old : List ℕ)
     → Was way rows output a x y s pc fs old → Plain pc → found pc fs ≡ Some 162 → found (after pc 1) fs ≡ Some v
-    → Was way (rows + 1) output a v y s (after pc 2) fs old
-was_ldx way rows output a x y s pc v fs old was plain op at =
+    → nat_eq (after pc 2) 65526 ≡ false → Was way (rows + 1) output a v y s (after pc 2) fs old
+was_ldx way rows output a x y s pc v fs old was plain op at other =
     let came = on way rows _ _ was.came (ldx (set way) way.input output a x y s was.f pc v was.memory plain (fact fs was.memory pc 162 op was.facts) (fact fs was.memory (after pc 1) v at was.facts)) in
     record {
       f = with_sign was.f v;
       memory = was.memory;
       came = came;
-      quiet = quiet_same way rows output output _ (state a v y s (with_sign was.f v) (after pc 2) was.memory) was.quiet was.came came refl;
+      quiet = quiet_same way rows output output _ (state a v y s (with_sign was.f v) (after pc 2) was.memory) was.quiet was.came came refl other;
       size = was.size;
       facts = was.facts;
       kept = was.kept;
@@ -98,15 +101,15 @@ was_ldx way rows output a x y s pc v fs old was plain op at =
 
 pub was_jmp : (way : Way) (rows : ℕ) (output : List ℕ) (a x y s pc low high : ℕ) (fs : List (ℕ × ℕ)) (old : List ℕ)
     → Was way rows output a x y s pc fs old → Plain pc → found pc fs ≡ Some 76 → found (after pc 1) fs ≡ Some low → found (after (after pc 1) 1) fs ≡ Some high
-    → Was way (rows + 1) output a x y s (low + 256 * high) fs old
-was_jmp way rows output a x y s pc low high fs old was plain op at at' =
+    → nat_eq (low + 256 * high) 65526 ≡ false → Was way (rows + 1) output a x y s (low + 256 * high) fs old
+was_jmp way rows output a x y s pc low high fs old was plain op at at' other =
     let came = on way rows _ _ was.came (jmp (set way) way.input output a x y s was.f pc low high was.memory plain
     (fact fs was.memory pc 76 op was.facts) (fact fs was.memory (after pc 1) low at was.facts) (fact fs was.memory (after (after pc 1) 1) high at' was.facts)) in
     record {
       f = was.f;
       memory = was.memory;
       came = came;
-      quiet = quiet_same way rows output output _ (state a x y s was.f (low + 256 * high) was.memory) was.quiet was.came came refl;
+      quiet = quiet_same way rows output output _ (state a x y s was.f (low + 256 * high) was.memory) was.quiet was.came came refl other;
       size = was.size;
       facts = was.facts;
       kept = was.kept;
@@ -136,20 +139,20 @@ was_stored way rows output a x y s f pc i fs old memory came quiet size facts ke
 
 pub was_sta_zero : (way : Way) (rows : ℕ) (output : List ℕ) (a x y s pc z : ℕ) (fs : List (ℕ × ℕ)) (old : List ℕ)
     → Was way rows output a x y s pc fs old → Plain pc → found pc fs ≡ Some 133 → found (after pc 1) fs ≡ Some z
-    → absent z fs ≡ true → z < 256 → Was way (rows + 1) output a x y s (after pc 2) ((z, a) ∷ fs) old
-was_sta_zero way rows output a x y s pc z fs old was plain op at new low =
+    → absent z fs ≡ true → z < 256 → nat_eq (after pc 2) 65526 ≡ false → Was way (rows + 1) output a x y s (after pc 2) ((z, a) ∷ fs) old
+was_sta_zero way rows output a x y s pc z fs old was plain op at new low other =
     let came = on way rows _ _ was.came (sta_zero (set way) way.input output a x y s was.f pc z was.memory plain (fact fs was.memory pc 133 op was.facts) (fact fs was.memory (after pc 1) z at was.facts)) in
     was_stored way (rows + 1) output a x y s was.f (after pc 2) z fs old was.memory came
-    (quiet_same way rows output output _ (state a x y s was.f (after pc 2) (slice_set was.memory z a)) was.quiet was.came came refl)
+    (quiet_same way rows output output _ (state a x y s was.f (after pc 2) (slice_set was.memory z a)) was.quiet was.came came refl other)
     was.size was.facts was.kept new (omega arith) (inl (omega arith))
 
 pub was_sta : (way : Way) (rows : ℕ) (output : List ℕ) (a x y s pc low high : ℕ) (fs : List (ℕ × ℕ)) (old : List ℕ)
     → Was way rows output a x y s pc fs old → Plain pc → found pc fs ≡ Some 141 → found (after pc 1) fs ≡ Some low → found (after (after pc 1) 1) fs ≡ Some high
     → absent (low + 256 * high) fs ≡ true → 60000 ≤ low + 256 * high → low + 256 * high < 65536
-    → Was way (rows + 1) output a x y s (after pc 3) ((low + 256 * high, a) ∷ fs) old
-was_sta way rows output a x y s pc low high fs old was plain op at at' new above fits =
+    → nat_eq (after pc 3) 65526 ≡ false → Was way (rows + 1) output a x y s (after pc 3) ((low + 256 * high, a) ∷ fs) old
+was_sta way rows output a x y s pc low high fs old was plain op at at' new above fits other =
     let came = on way rows _ _ was.came (sta (set way) way.input output a x y s was.f pc low high was.memory plain
     (fact fs was.memory pc 141 op was.facts) (fact fs was.memory (after pc 1) low at was.facts) (fact fs was.memory (after (after pc 1) 1) high at' was.facts)) in
     was_stored way (rows + 1) output a x y s was.f (after pc 3) (low + 256 * high) fs old was.memory came
-    (quiet_same way rows output output _ (state a x y s was.f (after pc 3) (slice_set was.memory (low + 256 * high) a)) was.quiet was.came came refl)
+    (quiet_same way rows output output _ (state a x y s was.f (after pc 3) (slice_set was.memory (low + 256 * high) a)) was.quiet was.came came refl other)
     was.size was.facts was.kept new fits (inr above)

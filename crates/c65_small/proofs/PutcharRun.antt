@@ -16,20 +16,20 @@ pub to_hook : (way : Way) (rows : ℕ) (output : List ℕ) (c x y low high : ℕ
     → Was way rows output c x y 253 512 ((510, low) ∷ (511, high) ∷ routine_facts) old
     → Was way (rows + 1 + 1 + 1 + 1 + 1 + 1 + 1 + 1 + 1 + 1 + 1 + 1 + 1 + 1) output 1 0 y 253 65527 (hook_facts c low high) old
 to_hook way rows output c x y low high old w0 =
-    let w1 = was_sta_zero way (rows) output c x y 253 512 8 ((510, low) ∷ (511, high) ∷ routine_facts) old w0 (refl, refl, refl, refl, refl, refl) refl refl refl (lit< tt) in
-    let w2 = was_lda way (rows + 1) output c x y 253 514 236 ((8, c) ∷ (510, low) ∷ (511, high) ∷ routine_facts) old w1 (refl, refl, refl, refl, refl, refl) refl refl in
-    let w3 = was_sta_zero way (rows + 1 + 1) output 236 x y 253 516 0 ((8, c) ∷ (510, low) ∷ (511, high) ∷ routine_facts) old w2 (refl, refl, refl, refl, refl, refl) refl refl refl (lit< tt) in
-    let w4 = was_lda way (rows + 1 + 1 + 1) output 236 x y 253 518 255 ((0, 236) ∷ (8, c) ∷ (510, low) ∷ (511, high) ∷ routine_facts) old w3 (refl, refl, refl, refl, refl, refl) refl refl in
-    let w5 = was_sta_zero way (rows + 1 + 1 + 1 + 1) output 255 x y 253 520 1 ((0, 236) ∷ (8, c) ∷ (510, low) ∷ (511, high) ∷ routine_facts) old w4 (refl, refl, refl, refl, refl, refl) refl refl refl (lit< tt) in
-    let w6 = was_lda way (rows + 1 + 1 + 1 + 1 + 1) output 255 x y 253 522 8 ((1, 255) ∷ (0, 236) ∷ (8, c) ∷ (510, low) ∷ (511, high) ∷ routine_facts) old w5 (refl, refl, refl, refl, refl, refl) refl refl in
-    let w7 = was_sta way (rows + 1 + 1 + 1 + 1 + 1 + 1) output 8 x y 253 524 236 255 ((1, 255) ∷ (0, 236) ∷ (8, c) ∷ (510, low) ∷ (511, high) ∷ routine_facts) old w6 (refl, refl, refl, refl, refl, refl) refl refl refl refl (lit≤ tt) (lit< tt) in
-    let w8 = was_lda way (rows + 1 + 1 + 1 + 1 + 1 + 1 + 1) output 8 x y 253 527 0 ((65516, 8) ∷ (1, 255) ∷ (0, 236) ∷ (8, c) ∷ (510, low) ∷ (511, high) ∷ routine_facts) old w7 (refl, refl, refl, refl, refl, refl) refl refl in
-    let w9 = was_sta way (rows + 1 + 1 + 1 + 1 + 1 + 1 + 1 + 1) output 0 x y 253 529 237 255 ((65516, 8) ∷ (1, 255) ∷ (0, 236) ∷ (8, c) ∷ (510, low) ∷ (511, high) ∷ routine_facts) old w8 (refl, refl, refl, refl, refl, refl) refl refl refl refl (lit≤ tt) (lit< tt) in
-    let w10 = was_sta way (rows + 1 + 1 + 1 + 1 + 1 + 1 + 1 + 1 + 1) output 0 x y 253 532 239 255 ((65517, 0) ∷ (65516, 8) ∷ (1, 255) ∷ (0, 236) ∷ (8, c) ∷ (510, low) ∷ (511, high) ∷ routine_facts) old w9 (refl, refl, refl, refl, refl, refl) refl refl refl refl (lit≤ tt) (lit< tt) in
-    let w11 = was_lda way (rows + 1 + 1 + 1 + 1 + 1 + 1 + 1 + 1 + 1 + 1) output 0 x y 253 535 1 ((65519, 0) ∷ (65517, 0) ∷ (65516, 8) ∷ (1, 255) ∷ (0, 236) ∷ (8, c) ∷ (510, low) ∷ (511, high) ∷ routine_facts) old w10 (refl, refl, refl, refl, refl, refl) refl refl in
-    let w12 = was_sta way (rows + 1 + 1 + 1 + 1 + 1 + 1 + 1 + 1 + 1 + 1 + 1) output 1 x y 253 537 238 255 ((65519, 0) ∷ (65517, 0) ∷ (65516, 8) ∷ (1, 255) ∷ (0, 236) ∷ (8, c) ∷ (510, low) ∷ (511, high) ∷ routine_facts) old w11 (refl, refl, refl, refl, refl, refl) refl refl refl refl (lit≤ tt) (lit< tt) in
-    let w13 = was_ldx way (rows + 1 + 1 + 1 + 1 + 1 + 1 + 1 + 1 + 1 + 1 + 1 + 1) output 1 x y 253 540 0 ((65518, 1) ∷ (65519, 0) ∷ (65517, 0) ∷ (65516, 8) ∷ (1, 255) ∷ (0, 236) ∷ (8, c) ∷ (510, low) ∷ (511, high) ∷ routine_facts) old w12 (refl, refl, refl, refl, refl, refl) refl refl in
-    was_jmp way (rows + 1 + 1 + 1 + 1 + 1 + 1 + 1 + 1 + 1 + 1 + 1 + 1 + 1) output 1 0 y 253 542 247 255 ((65518, 1) ∷ (65519, 0) ∷ (65517, 0) ∷ (65516, 8) ∷ (1, 255) ∷ (0, 236) ∷ (8, c) ∷ (510, low) ∷ (511, high) ∷ routine_facts) old w13 (refl, refl, refl, refl, refl, refl) refl refl refl
+    let w1 = was_sta_zero way (rows) output c x y 253 512 8 ((510, low) ∷ (511, high) ∷ routine_facts) old w0 (refl, refl, refl, refl, refl, refl) refl refl refl (lit< tt) refl in
+    let w2 = was_lda way (rows + 1) output c x y 253 514 236 ((8, c) ∷ (510, low) ∷ (511, high) ∷ routine_facts) old w1 (refl, refl, refl, refl, refl, refl) refl refl refl in
+    let w3 = was_sta_zero way (rows + 1 + 1) output 236 x y 253 516 0 ((8, c) ∷ (510, low) ∷ (511, high) ∷ routine_facts) old w2 (refl, refl, refl, refl, refl, refl) refl refl refl (lit< tt) refl in
+    let w4 = was_lda way (rows + 1 + 1 + 1) output 236 x y 253 518 255 ((0, 236) ∷ (8, c) ∷ (510, low) ∷ (511, high) ∷ routine_facts) old w3 (refl, refl, refl, refl, refl, refl) refl refl refl in
+    let w5 = was_sta_zero way (rows + 1 + 1 + 1 + 1) output 255 x y 253 520 1 ((0, 236) ∷ (8, c) ∷ (510, low) ∷ (511, high) ∷ routine_facts) old w4 (refl, refl, refl, refl, refl, refl) refl refl refl (lit< tt) refl in
+    let w6 = was_lda way (rows + 1 + 1 + 1 + 1 + 1) output 255 x y 253 522 8 ((1, 255) ∷ (0, 236) ∷ (8, c) ∷ (510, low) ∷ (511, high) ∷ routine_facts) old w5 (refl, refl, refl, refl, refl, refl) refl refl refl in
+    let w7 = was_sta way (rows + 1 + 1 + 1 + 1 + 1 + 1) output 8 x y 253 524 236 255 ((1, 255) ∷ (0, 236) ∷ (8, c) ∷ (510, low) ∷ (511, high) ∷ routine_facts) old w6 (refl, refl, refl, refl, refl, refl) refl refl refl refl (lit≤ tt) (lit< tt) refl in
+    let w8 = was_lda way (rows + 1 + 1 + 1 + 1 + 1 + 1 + 1) output 8 x y 253 527 0 ((65516, 8) ∷ (1, 255) ∷ (0, 236) ∷ (8, c) ∷ (510, low) ∷ (511, high) ∷ routine_facts) old w7 (refl, refl, refl, refl, refl, refl) refl refl refl in
+    let w9 = was_sta way (rows + 1 + 1 + 1 + 1 + 1 + 1 + 1 + 1) output 0 x y 253 529 237 255 ((65516, 8) ∷ (1, 255) ∷ (0, 236) ∷ (8, c) ∷ (510, low) ∷ (511, high) ∷ routine_facts) old w8 (refl, refl, refl, refl, refl, refl) refl refl refl refl (lit≤ tt) (lit< tt) refl in
+    let w10 = was_sta way (rows + 1 + 1 + 1 + 1 + 1 + 1 + 1 + 1 + 1) output 0 x y 253 532 239 255 ((65517, 0) ∷ (65516, 8) ∷ (1, 255) ∷ (0, 236) ∷ (8, c) ∷ (510, low) ∷ (511, high) ∷ routine_facts) old w9 (refl, refl, refl, refl, refl, refl) refl refl refl refl (lit≤ tt) (lit< tt) refl in
+    let w11 = was_lda way (rows + 1 + 1 + 1 + 1 + 1 + 1 + 1 + 1 + 1 + 1) output 0 x y 253 535 1 ((65519, 0) ∷ (65517, 0) ∷ (65516, 8) ∷ (1, 255) ∷ (0, 236) ∷ (8, c) ∷ (510, low) ∷ (511, high) ∷ routine_facts) old w10 (refl, refl, refl, refl, refl, refl) refl refl refl in
+    let w12 = was_sta way (rows + 1 + 1 + 1 + 1 + 1 + 1 + 1 + 1 + 1 + 1 + 1) output 1 x y 253 537 238 255 ((65519, 0) ∷ (65517, 0) ∷ (65516, 8) ∷ (1, 255) ∷ (0, 236) ∷ (8, c) ∷ (510, low) ∷ (511, high) ∷ routine_facts) old w11 (refl, refl, refl, refl, refl, refl) refl refl refl refl (lit≤ tt) (lit< tt) refl in
+    let w13 = was_ldx way (rows + 1 + 1 + 1 + 1 + 1 + 1 + 1 + 1 + 1 + 1 + 1 + 1) output 1 x y 253 540 0 ((65518, 1) ∷ (65519, 0) ∷ (65517, 0) ∷ (65516, 8) ∷ (1, 255) ∷ (0, 236) ∷ (8, c) ∷ (510, low) ∷ (511, high) ∷ routine_facts) old w12 (refl, refl, refl, refl, refl, refl) refl refl refl in
+    was_jmp way (rows + 1 + 1 + 1 + 1 + 1 + 1 + 1 + 1 + 1 + 1 + 1 + 1 + 1) output 1 0 y 253 542 247 255 ((65518, 1) ∷ (65519, 0) ∷ (65517, 0) ∷ (65516, 8) ∷ (1, 255) ∷ (0, 236) ∷ (8, c) ∷ (510, low) ∷ (511, high) ∷ routine_facts) old w13 (refl, refl, refl, refl, refl, refl) refl refl refl refl
 
 -- the hook writes the byte, and goes back
 pub at_hook : (args : List (List ℕ)) (input output : List ℕ) (y : ℕ) (f : Flags) (c low high : ℕ) (memory : List ℕ) → Facts memory (hook_facts c low high)

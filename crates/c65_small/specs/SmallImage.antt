@@ -1,5 +1,5 @@
 -- What a text's image is, or why there is none.
-use Rattle.std.specs.Prelude.{◌≡◌, ℕ, ◌+◌, ◌≤◌, List, length, Result, Ok, Err, ⊤}
+use Rattle.std.specs.Prelude.{◌≡◌, ◌≢◌, ℕ, ◌+◌, ◌≤◌, List, length, Result, Ok, Err, ⊤}
 use Rattle.c65_base.specs.declared.code.Code.TheVariants.{Form}
 use Rattle.c65_base.specs.declared.refusal.Refusal.{Refusal}
 use Rattle.c65_base.specs.declared.refusal.Refusal.TheVariants.{OutOfMemory, At}
@@ -8,9 +8,10 @@ use Rattle.c65_mach.specs.Run.{Moment, moment_of, run_of}
 use Rattle.c65_small.specs.Form.{Small, Says}
 use Rattle.c65_small.specs.Meaning.{Agrees}
 
--- nothing was read, and the stack of page 1 has room for what any row pushes
+-- nothing was read, the next row is no `read`, and the stack of page 1 has room for what any row pushes
 pub record IsQuiet (input : List ℕ) (now : Moment) : Type 0 where
   pub unread : now.input ≡ input
+  pub reads_not : now.machine.pc ≢ 0xFFF6
   pub high : 3 ≤ now.machine.s
 
 -- At each step the image agrees with the program, for all arguments and any input.
