@@ -9,7 +9,7 @@ abbrev zeros : ℕ → List ℕ
 zeros n = replicate n 0
 
 -- so many bytes of a list and of what follows it
-take-past : (xs ys : List ℕ) (n k : ℕ) → n ≡ length xs + k → take n (xs ++ ys) ≡ xs ++ take k ys
+pub take-past : (xs ys : List ℕ) (n k : ℕ) → n ≡ length xs + k → take n (xs ++ ys) ≡ xs ++ take k ys
 take-past xs ys n k e = rw e (take-append-add xs ys k)
 
 room : (n at : ℕ) (bytes : List ℕ) → at ≤ n → take (n - at) bytes ++ replicate (n - (at + length bytes)) 0 ≡ take (n - at) (bytes ++ replicate n 0)

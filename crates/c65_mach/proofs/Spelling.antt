@@ -9,10 +9,7 @@ use Rattle.c65_base.specs.declared.options.Cpu.TheVariants.{Nmos}
 use Rattle.c65_base.specs.declared.refusal.Refusal.{Refusal}
 use Rattle.c65_base.specs.declared.refusal.Refusal.TheVariants.{OutOfMemory, BadImage}
 use Rattle.c65_mach.specs.declared.image.Image.{Image}
-use Rattle.c65_mach.specs.Images.{bytes_of, IsLegal, Spells, fixed, wrong_in, word_in, late_fault, or_else, fault_of, image_of, RefusesFor, Parses}
-
-abbrev pub IsBytes : List ℕ → Type 0
-IsBytes bytes = (i : ℕ) → get_or bytes i 0 < 256
+use Rattle.c65_mach.specs.Images.{IsBytes, bytes_of, IsLegal, Spells, fixed, wrong_in, word_in, late_fault, or_else, fault_of, image_of, RefusesFor, Parses}
 
 pub right_start : (wants bytes : List ℕ) (at : ℕ) → wrong_in wants bytes at ≡ None → bytes ≡ wants ++ drop (length wants) bytes
 right_start [] bytes at h = refl

@@ -1,5 +1,5 @@
 -- The form of an image as a file: a header of 12 bytes, and the payload.
-use Rattle.std.specs.Prelude.{◌≡◌, ℕ, ◌+◌, ◌-◌, ◌*◌, ◌/◌, ◌%◌, ◌≤◌, List, [], ◌∷◌, ◌++◌, length, drop, slice_index, Option, Some, None, Result, Ok, Err, if◌then◌else◌, ◌==◌, nat_lt, codes}
+use Rattle.std.specs.Prelude.{◌≡◌, ℕ, ◌+◌, ◌-◌, ◌*◌, ◌/◌, ◌%◌, ◌<◌, ◌≤◌, List, [], ◌∷◌, ◌++◌, length, take, drop, slice_index, Option, Some, None, Result, Ok, Err, if◌then◌else◌, ◌==◌, nat_lt, codes}
 use Rattle.c65_base.specs.declared.options.Cpu.{Cpu}
 use Rattle.c65_base.specs.declared.options.Cpu.TheVariants.{Nmos, Cmos}
 use Rattle.c65_base.specs.declared.refusal.Refusal.{Refusal}
@@ -22,6 +22,25 @@ pub record IsLegal (image : Image) : Type 0 where
 -- an accepted file, and the image that it spells
 abbrev pub Spells : List ℕ → Image → Type 0
 Spells bytes image = IsLegal image × (bytes ≡ bytes_of image)
+
+abbrev pub IsBytes : List ℕ → Type 0
+IsBytes bytes = (i : ℕ) → slice_index bytes i < 256
+
+-- what some accepted file begins with
+abbrev pub Begins : List ℕ → Type 0
+Begins front = (rest : List ℕ) × (image : Image) × IsBytes rest × Spells (front ++ rest) image
+
+-- The form breaks at this offset: an accepted file may begin with the bytes before it, and none with the byte there too;
+-- or the bytes end there, and are no accepted file.
+pub record BreaksAt (bytes : List ℕ) (offset : ℕ) : Type 0 where
+  pub within : offset ≤ length bytes
+  pub begins : Begins (take offset bytes)
+  pub no_further : offset < length bytes → ¬ (Begins (take (offset + 1) bytes))
+  pub cut : offset ≡ length bytes → (image : Image) → ¬ (Spells bytes image)
+
+abbrev pub Breaks : List ℕ → Refusal → Type 0
+Breaks bytes (BadImage offset) = BreaksAt bytes offset
+Breaks bytes _ = Unit {0}
 
 -- the bytes that each accepted file begins with: `sim65`, the version 2 and the processor 0
 abbrev pub fixed : List ℕ

@@ -1,6 +1,6 @@
 // What a run starts from, and its form as a file.
 ghost use Rattle.std.specs.Prelude.{◌≡◌, ◌+◌, ◌<◌, ◌≤◌, length, IfOk, IfErr, IfNone, MatchResult, ◌/◌, ◌%◌, ◌∷◌, []};
-ghost use Rattle.c65_mach.specs.Images.{bytes_of, cpu_byte, word_in, wrong_in, fixed, fault_of, Spells, Parses};
+ghost use Rattle.c65_mach.specs.Images.{bytes_of, cpu_byte, word_in, wrong_in, fixed, fault_of, Spells, Breaks, Parses};
 
 use c65_base::{Cpu, Refusal, Text};
 use std::alloc::Global;
@@ -58,6 +58,7 @@ impl Image {
     pub fn parse(alloc: Global, bytes: &[u8]) -> Result<Image, Refusal>
         ensures found { IfOk result (λ image. Spells bytes.now image) }
         ensures only { (image : Image) → Spells bytes.now image → MatchResult result (λ read. read ≡ image) (λ refusal. refusal ≡ Refusal.OutOfMemory) }
+        ensures first { IfErr result (λ refusal. Breaks bytes.now refusal) }
         ensures exact { Parses bytes.now result }
     {
         Image::read(alloc, bytes)
