@@ -1,5 +1,5 @@
 -- The fault of a file is the first offset at which its form breaks.
-use Rattle.std.proofs.Common.{◌≡◌, ◌≢◌, ℕ, ◌+◌, ◌-◌, ◌*◌, ◌/◌, ◌%◌, ◌<◌, ◌≤◌, suc, zero, List, [], ◌∷◌, ◌++◌, length, take, drop, get_or, Some, None, refl, sym, ap, ◌∙◌, subst, lit<, append_assoc, arith, inl, inr, ◌⊎◌}
+use Rattle.std.proofs.Common.{◌≡◌, ◌≢◌, ℕ, ◌+◌, ◌-◌, ◌/◌, ◌%◌, ◌<◌, ◌≤◌, suc, zero, List, [], ◌∷◌, ◌++◌, length, take, drop, get_or, Some, None, refl, sym, ap, ◌∙◌, subst, lit<, append_assoc, arith, inl, inr, ◌⊎◌}
 use Rattle.std.specs.Prelude.{Option, Result, Ok, Err, IfErr, replicate}
 use Rattle.std.proofs.lemmas.List.{length-append, length-replicate, length-take-le, take-append-drop, take-append-le, take_all, append-nil, get_or-take, get_or-drop, get_or_append_left}
 use Rattle.std.proofs.lemmas.Bool.{cases_lt, le-ltb, lt-ltb}
@@ -9,7 +9,7 @@ use Rattle.c65_base.specs.declared.options.Cpu.TheVariants.{Nmos}
 use Rattle.c65_base.specs.declared.refusal.Refusal.{Refusal}
 use Rattle.c65_base.specs.declared.refusal.Refusal.TheVariants.{BadImage}
 use Rattle.c65_mach.specs.declared.image.Image.{Image}
-use Rattle.c65_mach.specs.Images.{IsBytes, Begins, BreaksAt, Breaks, bytes_of, IsLegal, Spells, fixed, wrong_in, word_in, late_fault, or_else, fault_of, image_of, Parses}
+use Rattle.c65_mach.specs.Images.{IsBytes, BreaksAt, Breaks, bytes_of, IsLegal, Spells, fixed, wrong_in, word_in, late_fault, or_else, fault_of, image_of, Parses}
 use Rattle.c65_mach.proofs.Loading.{take-past}
 use Rattle.c65_mach.proofs.Spelling.{spelled, right_start, no_late}
 
@@ -70,13 +70,16 @@ wrong_place (want ∷ wants) (byte ∷ bytes) at o h =
     elim (eqb_tells byte want) [
       | inl is ↦ (let same : byte ≡ want = is.1 in
           let later = wrong_place wants bytes (at + 1) o (rw is.0 at h) in
-          let w = later.2 in
-          (suc later.0, omega (arith, later.1), record {
-            inside = omega (arith, w.inside);
-            within = omega (arith, w.within);
-            same = rw (same, w.same) refl;
-            other = λ short. w.other (omega (arith, short));
-          }))
+          let w = later.2 in (
+            suc later.0,
+            omega (arith, later.1),
+            record {
+              inside = omega (arith, w.inside);
+              within = omega (arith, w.within);
+              same = rw (same, w.same) refl;
+              other = λ short. w.other (omega (arith, short));
+            },
+          ))
       | inr is ↦ (let there : Some at ≡ Some o = rw is.0 at h in let same : at ≡ o = cc in
           (0, omega arith, record { inside = omega arith; within = omega arith; same = refl; other = λ short. is.1 }))
     ]
@@ -91,10 +94,10 @@ late_some bytes o h =
     elim (cases_lt (length bytes) 12) [
       | inl short ↦ (let there : Some (length bytes) ≡ Some o = rw (lt-ltb (length bytes) 12 short) at h in inl (short, cc))
       | inr long ↦ elim (cases_lt end (length bytes)) [
-          | inl over ↦ (let there : Some end ≡ Some o = rw (le-ltb (length bytes) 12 long, lt-ltb end (length bytes) over) at h in
-              let is : o ≡ end = cc in inr (long, is, omega arith))
-          | inr fits ↦ (let there : ◌≡◌ {A = Option ℕ} None (Some o) = rw (le-ltb (length bytes) 12 long, le-ltb end (length bytes) fits) at h in absurd cc)
-        ]
+        | inl over ↦ (let there : Some end ≡ Some o = rw (le-ltb (length bytes) 12 long, lt-ltb end (length bytes) over) at h in
+            let is : o ≡ end = cc in inr (long, is, omega arith))
+        | inr fits ↦ (let there : ◌≡◌ {A = Option ℕ} None (Some o) = rw (le-ltb (length bytes) 12 long, le-ltb end (length bytes) fits) at h in absurd cc)
+      ]
     ]
 
 -- a file that is right at its start and not too long is accepted
@@ -179,9 +182,9 @@ breaks_at bytes o are h =
     elim (either (wrong_in fixed bytes 0) (late_fault bytes) o h) [
       | inl wrong ↦ (let place = wrong_place fixed bytes 0 o wrong in let same : place.0 ≡ o = omega (arith, place.1) in subst (λ (k : ℕ). BreaksAt bytes k) same (wrong_breaks bytes place.0 place.2))
       | inr late ↦ elim (late_some bytes o late.1) [
-          | inl short ↦ short_breaks bytes o are late.0 short.0 short.1
-          | inr long ↦ long_breaks bytes o are late.0 long.0 long.1 long.2
-        ]
+        | inl short ↦ short_breaks bytes o are late.0 short.0 short.1
+        | inr long ↦ long_breaks bytes o are late.0 long.0 long.1 long.2
+      ]
     ]
 
 breaks : (bytes : List ℕ) (fault : Option ℕ) (refusal : Refusal) → IsBytes bytes → fault_of bytes ≡ fault → Parses bytes (Err refusal) → Breaks bytes refusal

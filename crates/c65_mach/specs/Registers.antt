@@ -1,4 +1,4 @@
--- The registers and flags as one value, whose byte p has the flags at their bits (MCS6500 Programming Manual, 3.1 to 3.6).
+-- The registers and flags as one value, whose byte p has the flags at their bits (MCS6500 Programming Manual, chapter 3).
 use Rattle.std.specs.Prelude.{ℕ, ◌+◌, ◌*◌}
 use Rattle.c65_mach.specs.declared.registers.Regs.{Regs}
 use Rattle.c65_mach.specs.State.{State}

@@ -1,4 +1,4 @@
--- One row of a run, on whole numbers.
+-- One row of a run, on whole numbers (MCS6500 Programming Manual; decimal mode by this project's own formulas).
 use Rattle.std.specs.Prelude.{◌≡◌, ℕ, ◌+◌, ◌-◌, ◌*◌, ◌/◌, ◌%◌, Bool, true, false, Option, Some, None, Result, Ok, Err, if◌then◌else◌, ◌==◌, ◌&&◌, nat_lt, bit_and, bit_or, bit_xor}
 use Rattle.c65_base.specs.declared.refusal.Refusal.{Refusal}
 use Rattle.c65_base.specs.declared.refusal.Refusal.TheVariants.{Illegal}

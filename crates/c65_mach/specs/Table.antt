@@ -1,4 +1,4 @@
--- The table of opcodes: one row for each of the 151.
+-- The table of opcodes: one row for each of the 151 (MCS6500 Programming Manual, appendices A and B).
 use Rattle.std.specs.Prelude.{ℕ, Option, Some, None, Bool, true, false, if◌then◌else◌, ◌==◌, List, [], ◌∷◌}
 use Rattle.c65_mach.specs.declared.rows.Row.{Row}
 use Rattle.c65_mach.specs.declared.rows.Op.{Op}

@@ -1,8 +1,9 @@
-// The table of opcodes.
+// The table of opcodes (MCS6500 Programming Manual, appendices A and B).
 ghost use Rattle.std.specs.Prelude.{◌≡◌, ◌+◌, ◌<◌, true, false};
 ghost use Rattle.c65_mach.specs.Table.{row_of};
 ghost use Rattle.c65_mach.specs.Step.{pushes};
 
+/// The 56 operations, by their mnemonics in the MCS6500 Programming Manual.
 #[derive(Clone, Copy, Debug, PartialEq, Eq)]
 pub enum Op {
     Adc,
@@ -77,20 +78,34 @@ impl Op {
     }
 }
 
+/// Where an operation finds its operand (MCS6500 Programming Manual, chapters 5 and 6).
 #[derive(Clone, Copy, Debug, PartialEq, Eq)]
 pub enum Mode {
+    /// No operand: `INX`.
     Implied,
+    /// The accumulator: `ASL A`.
     Accumulator,
+    /// The byte behind the opcode: `LDA #$12`.
     Immediate,
+    /// A byte of the zero page: `LDA $12`.
     ZeroPage,
+    /// A byte of the zero page, X further on and still in that page: `LDA $12,X`.
     ZeroPageX,
+    /// The same with Y: `LDX $12,Y`.
     ZeroPageY,
+    /// A byte by its address, or an address to go to: `LDA $1234`.
     Absolute,
+    /// A byte X behind an address: `LDA $1234,X`.
     AbsoluteX,
+    /// A byte Y behind an address: `LDA $1234,Y`.
     AbsoluteY,
+    /// A byte whose address lies in the zero page, X further on: `LDA ($12,X)`.
     IndirectX,
+    /// A byte Y behind the address that lies in the zero page: `LDA ($12),Y`.
     IndirectY,
+    /// To go to the address that lies at an address: `JMP ($1234)`.
     Indirect,
+    /// To go up to 127 bytes forward or 128 back: `BNE $1234`.
     Relative,
 }
 
@@ -99,7 +114,9 @@ pub enum Mode {
 pub struct Row {
     pub op: Op,
     pub mode: Mode,
+    /// The cycles it takes at least.
     pub cycles: u8,
+    /// Whether it takes one more where an index leads into another page.
     pub page: bool,
 }
 
