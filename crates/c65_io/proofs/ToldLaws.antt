@@ -1,8 +1,8 @@
 -- Laws of told bytes.
-use Rattle.std.proofs.Common.{◌≡◌, ℕ, ◌+◌, ◌-◌, ◌<◌, ◌≤◌, min, List, [], ◌∷◌, ◌++◌, length, take, drop, None, Some, Option, ap, refl, sym, ◌∙◌, append_assoc, arith}
+use Rattle.std.proofs.Common.{◌≡◌, ℕ, ◌+◌, ◌-◌, ◌<◌, ◌≤◌, min, List, [], ◌++◌, length, take, drop, None, Some, Option, ap, refl, sym, ◌∙◌, append_assoc, arith}
 use Rattle.std.proofs.lemmas.List.{drop-drop, take-append-drop, take_at, append-nil, take_rest, drop_all, length-drop, length-take-le, take_min, take-append-le}
 use Rattle.std.proofs.Math.Seq.{take-add, take-append-add}
-use Rattle.c65_io.specs.Told.{append_told, prepend_told}
+use Rattle.c65_io.specs.Told.{append_told}
 
 pub append_told-nil : (told : Option (List ℕ)) → append_told told [] ≡ told
 append_told-nil None = refl

@@ -114,7 +114,7 @@ impl<'a, R: rt::Files> Files for HostFiles<'a, R> {
                 }
             },
             Err(error) => {
-                if error.kind() == ErrorKind::NotFound {
+                if error.kind() == ErrorKind::NotFound || error.kind() == ErrorKind::NotADirectory {
                     self.misses = self.misses.saturating_add(1);
                     Err(FileFault::Missing)
                 } else {

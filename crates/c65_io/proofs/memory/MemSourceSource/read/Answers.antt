@@ -1,4 +1,4 @@
-use Rattle.std.proofs.Common.{rules, ◌≡◌, Some, length, take, drop, ◌+◌, ◌-◌, ap, sym, ◌∙◌, arith}
+use Rattle.std.proofs.Common.{Some, length, take, drop, ◌+◌, ◌-◌, ap, sym, ◌∙◌, arith}
 use Rattle.c65_io.proofs.ToldLaws.{copied_then_left, none_left}
 use Rattle.c65_io.specs.Memory.{MemSourceView}
 use Rattle.c65_io.proofs.memory.MemSourceSource.read.Goals as goal
