@@ -1,5 +1,6 @@
 // The operations on the registers (MCS6500 Programming Manual, chapters 2, 3 and 10), with decimal mode by this project's formulas.
 ghost use Rattle.std.specs.Prelude.{◌≡◌, ◌<◌};
+ghost use Rattle.c65_mach.specs.Decimal.{IsDifference};
 ghost use Rattle.c65_mach.specs.Step.{with_a, with_x, with_y, compared, summed, decimal_low, decimal_sum, added, decimal_difference, subtracted, bits_tested, changed};
 
 use super::{Machine, bit};
@@ -25,7 +26,8 @@ fn decimal_sum(a: u8, v: u8, c: bool) -> u16
 // A decimal difference. 16 is added to the low digits and 512 to the whole, so that no number is below 0:
 // 16 and 512 are what 0 would be, and 496 is 512 - 16.
 fn decimal_difference(a: u8, v: u8, c: bool) -> u8
-    ensures { result ≡ decimal_difference a v c }
+    ensures value { result ≡ decimal_difference a v c }
+    ensures written { IsDifference a v c result }
 {
     let low = 15 + a % 16 + bit(c) - v % 16;
     let low = if low < 16 { (low + 10) % 16 } else { low };
