@@ -1,0 +1,6 @@
+pub mod Depth
+pub mod Lists
+pub mod Nodes
+pub mod Parts
+pub mod Trees
+pub mod View
