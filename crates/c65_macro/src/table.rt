@@ -1,0 +1,126 @@
+// The table of macros.
+ghost use Rattle.std.specs.Prelude.{◌≡◌, ◌≤◌, ◌≤ℤ◌, pos, negsuc, is_some, IsTrue, OnOk, OnErr, IfErr, IfOk, option_copied, Ok, length};
+ghost use Rattle.c65_base.specs.Answers.{Fails};
+ghost use Rattle.c65_macro.specs.Definitions;
+
+use crate::definition::{body_fault, same_macro};
+use crate::item::{Macro, Words};
+use c65_base::{Code, Name, Pos, Refusal, Size};
+use indexmap::IndexMap;
+use std::alloc::Global;
+use std::marker::Model;
+
+/// The macros that are defined, which contracts see as the lists of their names and definitions.
+#[derive(Drop)]
+pub struct Macros {
+    predefined: IndexMap<Name, Macro>,
+    defined: IndexMap<Name, Macro>,
+    words: Words,
+    file: Name,
+    offset: i64,
+    alloc: Global,
+}
+
+impl Model for Macros {
+    ghost use Rattle.std.specs.Prelude.{◌≤◌, length};
+    ghost use Rattle.c65_macro.specs.Table.{Table};
+
+    ghost Value = { Table };
+
+    ghost view = { λ m. record { predefined = m.predefined.entries; defined = m.defined.entries; words = m.words; file = m.file; offset = m.offset } };
+
+    ghost invariant = { λ m. length m.defined.entries ≤ 16384 };
+}
+
+impl Macros {
+    ghost use Rattle.c65_macro.specs.Table;
+
+    /// From here on `__FILE__` is the string literal whose spelling is `file`, and `__LINE__` the line of its place
+    /// plus the offset (C90 6.8.4). The offset is from -4,294,967,295 to 4,294,967,295.
+    pub fn set_line(&mut self, file: Name, offset: i64)
+        requires low { negsuc 4294967294 ≤ℤ offset }
+        requires high { offset ≤ℤ pos 4294967295 }
+        ensures { self.new ≡ record self.old { file = file; offset = offset } }
+    {
+        self.file = file;
+        self.offset = offset;
+    }
+
+    /// Whether a name is that of a predefined macro, which is neither defined nor removed.
+    pub fn is_predefined(&self, name: Name) -> bool
+        ensures { result ≡ Table.is_predefined self.now name }
+    {
+        self.predefined.contains_key(&name)
+    }
+
+    /// The macro of a name.
+    pub fn get(&self, name: Name) -> Option<&Macro>
+        ensures { option_copied result ≡ Table.lookup self.now name }
+    {
+        match self.predefined.get(&name) {
+            Some(item) => Some(item),
+            None => self.defined.get(&name),
+        }
+    }
+
+    /// Removes a macro, and says whether its name was there. A predefined one stays.
+    pub fn undef(&mut self, name: Name) -> bool
+        ensures there { result ≡ is_some (Table.lookup self.old name) }
+        ensures gone { self.new ≡ Table.removed self.old name }
+    {
+        if self.is_predefined(name) {
+            return true;
+        }
+        let removed = self.defined.shift_remove(&name);
+        removed.is_some()
+    }
+
+    /// Why a macro can not be defined, unless it is for another one of its name or for want of room.
+    fn form(&self, item: &Macro, pos: Pos) -> Result<(), Refusal>
+        ensures ok { OnOk result (Definitions.form self.now item.now pos ≡ Ok tt) }
+        ensures refused { IfErr result (λ e. Fails e (Definitions.form self.now item.now pos)) }
+    {
+        if self.is_predefined(item.name) || item.name == self.words.defined {
+            return Err(Refusal::At {
+                code: Code::PredefinedName,
+                pos,
+            });
+        }
+        if let Some(params) = &item.params && params.as_slice().len() > 127 {
+            return Err(Refusal::TooLarge {
+                limit: Size::MacroArguments,
+                value: 128,
+            });
+        }
+        match body_fault(self.words, &item.params, item.body.as_slice()) {
+            Some((code, pos)) => Err(Refusal::At { code, pos }),
+            None => Ok(()),
+        }
+    }
+
+    /// Defines a macro, whose name stands at `pos`. A second definition has to be the same.
+    pub fn define(&mut self, item: Macro, pos: Pos) -> Result<(), Refusal>
+        ensures ok { OnOk result (Definitions.define self.old item pos ≡ Ok self.new) }
+        ensures refused { IfErr result (λ e. Fails e (Definitions.define self.old item pos)) }
+        ensures kept { OnErr result (self.new ≡ self.old) }
+    {
+        self.form(&item, pos)?;
+        if let Some(old) = self.defined.get(&item.name) {
+            if same_macro(old, &item) {
+                return Ok(());
+            }
+            return Err(Refusal::At {
+                code: Code::MacroRedefined,
+                pos,
+            });
+        }
+        if self.defined.len() == 16_384 {
+            return Err(Refusal::TooLarge {
+                limit: Size::Macros,
+                value: 16_385,
+            });
+        }
+        self.defined.insert(item.name, item)?;
+        Ok(())
+    }
+}
