@@ -1,5 +1,5 @@
 -- Which definitions are taken, and what they change (C90 6.8.3).
-use Rattle.std.specs.Prelude.{ℕ, List, [], ◌∷◌, ◌++◌, length, Bool, true, false, ◌==◌, ◌&&◌, ◌||◌, not, nat_lt, Option, Some, None, if◌then◌else◌, Result, Ok, Err}
+use Rattle.std.specs.Prelude.{ℕ, List, [], ◌∷◌, ◌++◌, length, Bool, true, false, ◌==◌, ◌&&◌, ◌||◌, not, nat_lt, Option, Some, None, option_map, if◌then◌else◌, Result, Ok, Err}
 use Rattle.std.specs.List.{list_any}
 use Rattle.std.specs.Cmp.Lexicographic.{pointwise}
 use Rattle.c65_base.specs.declared.names.Name.{Name}
@@ -79,11 +79,16 @@ no_fault (Some f) = Err f
 abbrev pub form : Table → Macro → Pos → Result (Unit {0}) Fault
 form table item place = if is_kept table item.name then Err (at codes.PredefinedName place) else if nat_lt 127 (parameter_count item.params) then Err (large sizes.MacroArguments 128) else no_fault (body_fault table.words item.params item.body)
 
+-- whether a macro of this name is defined, and is the same
+abbrev pub known : Table → Macro → Option Bool
+known table item = option_map (λ old. same_macro old item) (find item.name table.defined)
+
 -- the table once a definition of the right form is taken
-abbrev pub added : Table → Macro → Pos → Option Macro → Result Table Fault
-added table item place (Some old) = if same_macro old item then Ok table else Err (at codes.MacroRedefined place)
+abbrev pub added : Table → Macro → Pos → Option Bool → Result Table Fault
+added table item place (Some true) = Ok table
+added table item place (Some false) = Err (at codes.MacroRedefined place)
 added table item place None = if length table.defined == 16384 then Err (large sizes.Macros 16385) else Ok (record table { defined = table.defined ++ (item.name, item) ∷ [] })
 
 -- the table once this macro is defined, whose name stands at a place, or the first fault
 abbrev pub define : Table → Macro → Pos → Result Table Fault
-define table item place = form table item place >>= λ _. added table item place (find item.name table.defined)
+define table item place = form table item place >>= λ _. added table item place (known table item)

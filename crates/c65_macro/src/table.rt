@@ -1,5 +1,5 @@
 // The table of macros.
-ghost use Rattle.std.specs.Prelude.{◌≡◌, ◌≤◌, ◌≤ℤ◌, pos, negsuc, is_some, IsTrue, OnOk, OnErr, IfErr, IfOk, option_copied, Ok, length};
+ghost use Rattle.std.specs.Prelude.{◌≡◌, ◌≤◌, ◌≤ℤ◌, pos, negsuc, is_some, IsTrue, OnOk, OnErr, IfErr, IfOk, option_copied, Ok, None};
 ghost use Rattle.c65_base.specs.Answers.{Fails};
 ghost use Rattle.c65_macro.specs.Definitions;
 
@@ -86,7 +86,9 @@ impl Macros {
                 pos,
             });
         }
-        if let Some(params) = &item.params && params.as_slice().len() > 127 {
+        if let Some(params) = &item.params
+            && params.as_slice().len() > 127
+        {
             return Err(Refusal::TooLarge {
                 limit: Size::MacroArguments,
                 value: 128,
@@ -98,22 +100,23 @@ impl Macros {
         }
     }
 
-    /// Defines a macro, whose name stands at `pos`. A second definition has to be the same.
-    pub fn define(&mut self, item: Macro, pos: Pos) -> Result<(), Refusal>
-        ensures ok { OnOk result (Definitions.define self.old item pos ≡ Ok self.new) }
-        ensures refused { IfErr result (λ e. Fails e (Definitions.define self.old item pos)) }
+    /// Whether a macro of this name is defined, and is the same.
+    fn known(&self, item: &Macro) -> Option<bool>
+        ensures { result ≡ Definitions.known self.now item.now }
+    {
+        match self.defined.get(&item.name) {
+            Some(old) => Some(same_macro(old, item)),
+            None => None,
+        }
+    }
+
+    /// Adds a macro of a name that has none.
+    fn add(&mut self, item: Macro, pos: Pos) -> Result<(), Refusal>
+        requires { Definitions.known self.old item ≡ None }
+        ensures ok { OnOk result (Definitions.added self.old item pos None ≡ Ok self.new) }
+        ensures refused { IfErr result (λ e. Fails e (Definitions.added self.old item pos None)) }
         ensures kept { OnErr result (self.new ≡ self.old) }
     {
-        self.form(&item, pos)?;
-        if let Some(old) = self.defined.get(&item.name) {
-            if same_macro(old, &item) {
-                return Ok(());
-            }
-            return Err(Refusal::At {
-                code: Code::MacroRedefined,
-                pos,
-            });
-        }
         if self.defined.len() == 16_384 {
             return Err(Refusal::TooLarge {
                 limit: Size::Macros,
@@ -122,5 +125,22 @@ impl Macros {
         }
         self.defined.insert(item.name, item)?;
         Ok(())
+    }
+
+    /// Defines a macro, whose name stands at `pos`. A second definition has to be the same.
+    pub fn define(&mut self, item: Macro, pos: Pos) -> Result<(), Refusal>
+        ensures ok { OnOk result (Definitions.define self.old item pos ≡ Ok self.new) }
+        ensures refused { IfErr result (λ e. Fails e (Definitions.define self.old item pos)) }
+        ensures kept { OnErr result (self.new ≡ self.old) }
+    {
+        self.form(&item, pos)?;
+        match self.known(&item) {
+            Some(true) => Ok(()),
+            Some(false) => Err(Refusal::At {
+                code: Code::MacroRedefined,
+                pos,
+            }),
+            None => self.add(item, pos),
+        }
     }
 }
