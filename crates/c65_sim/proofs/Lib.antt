@@ -1,0 +1,6 @@
+pub mod Bytes
+pub mod ArgLaws
+pub mod TakeLaws
+pub mod TurnLaws
+pub mod Legs
+pub mod RunLaws

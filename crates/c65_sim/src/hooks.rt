@@ -346,9 +346,9 @@ impl Computer {
         if is_refused(&self.machine, guard) {
             return Err(Stop::HardStack);
         }
-        match step(&mut self.machine) {
-            Ok(cycles) => Ok(cycles),
-            Err(_) => Err(Stop::Illegal),
-        }
+        let Ok(cycles) = step(&mut self.machine) else {
+            return Err(Stop::Illegal);
+        };
+        Ok(cycles)
     }
 }

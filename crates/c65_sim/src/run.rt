@@ -62,6 +62,7 @@ fn go_on<I: Source, O: Sink>(
 ) -> Leg
     requires { computer.old.is_at_end ≡ false }
     ensures leg { Goes budget guard count computer.old computer.new (I.left input.old) (I.left input.new) (O.written out.old) (O.written out.new) result.rows (answer_of budget computer.new.machine.pc result.stop) }
+    ensures fits { count + result.rows < 2 ^ 64 }
     ensures reads { ReadCause (I.faults input.old) (I.faults input.new) (answer_of budget computer.new.machine.pc result.stop) }
     ensures writes { WriteCause (O.faults out.old) (O.faults out.new) (answer_of budget computer.new.machine.pc result.stop) }
 {
@@ -181,12 +182,18 @@ impl Run {
         }
         self.computer.reopen();
         let leg = go_on(&mut self.computer, input, out, budget, guard, self.count);
-        self.count += leg.rows;
-        if let Stop::Exit(status) = leg.stop {
-            self.count += 1;
-            self.status = Some(status);
+        match answer(budget, self.computer.pc(), leg.stop) {
+            Ok(status) => {
+                // The exit is a row too.
+                self.count += leg.rows + 1;
+                self.status = Some(status);
+                Ok(status)
+            }
+            Err(refusal) => {
+                self.count += leg.rows;
+                Err(refusal)
+            }
         }
-        answer(budget, self.computer.pc(), leg.stop)
     }
 
     /// The rows done so far, in all calls.
