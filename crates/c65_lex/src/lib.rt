@@ -1,6 +1,10 @@
-//! The preprocessing tokens of a text (C90 5.1.1.2, phases 2 and 3, and 6.1).
+//! The preprocessing tokens of a text (C90 5.1.1.2, phases 1 to 3, and 6.1).
 #![tactic(auto)]
 
+mod blanks;
+mod classes;
+mod lengths;
+mod place;
 mod token;
 
 pub use token::{Paths, PpKind, PpToken, PpTokens, PpUnit};

@@ -1,0 +1,4 @@
+pub mod Cells
+pub mod Spellings
+pub mod Lengths
+pub mod Blanks
