@@ -133,3 +133,31 @@ module _ (text : List ℕ) (place next : Place) where
       let g : drop place.at text ≡ [] = drop_all place.at text h in
       let t : place.column == 0 ≡ false = grind (arith, nat_tests) in
       rw (a, l, g) (rw t refl)
+
+-- no more cells than bytes, and the last line end
+joined_short : (n k : ℕ) (bs : List ℕ) → length (joined n k bs) ≤ length bs + 1
+joined_short n k [] = by (k == 0)
+  where
+    by : (t : Bool) → (let cs : List Cell = if t then [] else record { byte = 10; line = n; column = k } ∷ [] in length cs) ≤ 1
+    by true = omega arith
+    by false = omega arith
+joined_short n k (b ∷ []) = omega (arith, joined_short (line_after b n) (column_after b k) [])
+joined_short n k (b ∷ c ∷ bs) = by ((b == 92) && (c == 10)) (joined_short (next_line n) k bs) (joined_short (line_after b n) (column_after b k) (c ∷ bs))
+  where
+    by : (t : Bool) → length (joined (next_line n) k bs) ≤ length bs + 1 → length (joined (line_after b n) (column_after b k) (c ∷ bs)) ≤ length (c ∷ bs) + 1 → length (if t then joined (next_line n) k bs else record { byte = b; line = n; column = k } ∷ joined (line_after b n) (column_after b k) (c ∷ bs)) ≤ length (b ∷ c ∷ bs) + 1
+    by true h i = omega (arith, h)
+    by false h i = omega (arith, i)
+
+without_short : (bs : List ℕ) → length (without_returns bs) ≤ length bs
+without_short [] = omega arith
+without_short (b ∷ bs) = by ((b == 13) && begins_with 10 bs) (without_short bs)
+  where
+    by : (t : Bool) → length (without_returns bs) ≤ length bs → length (if t then without_returns bs else b ∷ without_returns bs) ≤ length (b ∷ bs)
+    by true h = omega (arith, h)
+    by false h = omega (arith, h)
+
+pub ahead_short : (text : List ℕ) (place : Place) → length (ahead text place) ≤ length text + 1
+unfolding ahead
+ahead_short text place =
+    let d : length (drop place.at text) ≤ length text = simp length-drop (omega arith) in
+    omega (arith, joined_short place.line place.column (without_returns (drop place.at text)), without_short (drop place.at text))

@@ -2,3 +2,5 @@ pub mod Cells
 pub mod Spellings
 pub mod Lengths
 pub mod Blanks
+pub mod Next
+pub mod Scanned

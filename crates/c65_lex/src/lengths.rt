@@ -1,12 +1,12 @@
 // How far the token at a place goes (C90 6.1).
-ghost use Rattle.std.specs.Prelude.{◌≡◌, ◌∷◌, ◌+◌, Some, None, false, true};
-ghost use Rattle.c65_lex.specs.Cells.{ahead, bytes};
+ghost use Rattle.std.specs.Prelude.{◌≡◌, ◌<◌, [], ◌∷◌, ◌+◌, Some, None, false, true};
+ghost use Rattle.c65_lex.specs.Cells.{ahead, bytes, cell_of};
 ghost use Rattle.c65_lex.specs.Spellings;
 ghost use Rattle.c65_lex.specs.Lengths;
-ghost use Rattle.c65_lex.specs.Lengths.{run_from, tail_from, close_from, quoted_of, literal_of, header_of, punct_or_other, bare_of, token_of, quote_kind};
+ghost use Rattle.c65_lex.specs.Lengths.{run_from, tail_from, close_from, quoted_of, literal_of, header_of, bare_of, token_of, punct_length};
 
 use crate::classes::{continues, is_digit, is_letter, is_punct1, is_punct2, is_punct3, is_word};
-use crate::place::{Place, read};
+use crate::place::{Place, Reading, read};
 use crate::token::PpKind;
 
 /// The byte at a place.
@@ -73,4 +73,144 @@ fn close_of(text: &[u8], from: Place, start: usize, quote: u8, plain: bool) -> O
         place = reading.rest;
     }
     None
+}
+
+/// A literal whose quote stands here, with as many bytes before it.
+fn quoted_at(text: &[u8], place: Place, before: usize) -> Option<(PpKind, usize)>
+    requires { before < 2 }
+    ensures { result ≡ quoted_of before (bytes (ahead text.now place)) }
+{
+    let quote = read(text, place)?;
+    let kind = if quote.byte == b'\'' {
+        PpKind::Char
+    } else if quote.byte == b'"' {
+        PpKind::Text
+    } else {
+        return None;
+    };
+    let count = close_of(text, quote.rest, before + 1, quote.byte, false)?;
+    Some((kind, count))
+}
+
+/// The character constant or the string literal that stands here.
+fn literal_at(text: &[u8], place: Place) -> Option<(PpKind, usize)>
+    ensures { result ≡ literal_of (bytes (ahead text.now place)) }
+{
+    let first = read(text, place)?;
+    if first.byte == b'L' {
+        quoted_at(text, first.rest, 1)
+    } else {
+        quoted_at(text, place, 0)
+    }
+}
+
+/// The header name that stands here.
+fn header_at(text: &[u8], place: Place) -> Option<(PpKind, usize)>
+    ensures { result ≡ header_of (bytes (ahead text.now place)) }
+{
+    let first = read(text, place)?;
+    let close = if first.byte == b'<' {
+        b'>'
+    } else if first.byte == b'"' {
+        b'"'
+    } else {
+        return None;
+    };
+    let second = peek(text, first.rest)?;
+    if second == close {
+        return None;
+    }
+    let count = close_of(text, first.rest, 1, close, true)?;
+    Some((PpKind::Header, count))
+}
+
+fn length_of_one(first: u8) -> usize
+    ensures { result ≡ punct_length (first ∷ []) }
+{
+    if is_punct1(first) { 1 } else { 0 }
+}
+
+fn length_of_two(first: u8, second: u8) -> usize
+    ensures { result ≡ punct_length (first ∷ second ∷ []) }
+{
+    if is_punct2(first, second) {
+        2
+    } else {
+        length_of_one(first)
+    }
+}
+
+fn length_of_three(first: u8, second: u8, third: u8) -> usize
+    ensures { result ≡ punct_length (first ∷ second ∷ third ∷ []) }
+{
+    if is_punct3(first, second, third) {
+        3
+    } else {
+        length_of_two(first, second)
+    }
+}
+
+/// How long the punctuator is that begins with a byte, or 0.
+fn punct_at(text: &[u8], first: u8, rest: Place) -> usize
+    ensures { result ≡ punct_length (first ∷ bytes (ahead text.now rest)) }
+{
+    match read(text, rest) {
+        Some(second) => match peek(text, second.rest) {
+            Some(third) => length_of_three(first, second.byte, third),
+            None => length_of_two(first, second.byte),
+        },
+        None => length_of_one(first),
+    }
+}
+
+fn begins_number(text: &[u8], first: u8, rest: Place) -> bool
+    ensures { result ≡ Spellings.begins_number first (bytes (ahead text.now rest)) }
+{
+    if is_digit(first) {
+        return true;
+    }
+    if first != b'.' {
+        return false;
+    }
+    match peek(text, rest) {
+        Some(second) => is_digit(second),
+        None => false,
+    }
+}
+
+/// The token that begins with a byte, where no literal and no header name does.
+fn bare_at(text: &[u8], first: u8, rest: Place) -> (PpKind, usize)
+    ensures { result ≡ bare_of first (bytes (ahead text.now rest)) }
+{
+    if first == b'\n' {
+        return (PpKind::LineEnd, 1);
+    }
+    if is_letter(first) {
+        return (PpKind::Name, word_length(text, rest));
+    }
+    if begins_number(text, first, rest) {
+        return (PpKind::Number, number_length(text, first, rest));
+    }
+    let length = punct_at(text, first, rest);
+    if length == 0 {
+        (PpKind::Other, 1)
+    } else {
+        (PpKind::Punct, length)
+    }
+}
+
+/// The class and the length of the token at a place, whose first byte is given.
+pub fn token_at(text: &[u8], place: Place, first: Reading, header: bool) -> (PpKind, usize)
+    requires { ahead text.now place ≡ cell_of first ∷ ahead text.now first.rest }
+    ensures { result ≡ token_of header first.byte (bytes (ahead text.now first.rest)) }
+{
+    if header {
+        if let Some(found) = header_at(text, place) {
+            return found;
+        }
+    }
+    match literal_at(text, place) {
+        Some(found) => found,
+        None => bare_at(text, first.byte, first.rest),
+    }
 }

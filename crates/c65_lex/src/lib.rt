@@ -5,6 +5,7 @@ mod blanks;
 mod classes;
 mod lengths;
 mod place;
+mod scan;
 mod token;
 
 pub use token::{Paths, PpKind, PpToken, PpTokens, PpUnit};

@@ -1,0 +1,11 @@
+use Rattle.std.proofs.Common.{◌≡◌, ℕ, length}
+use Rattle.std.specs.Prelude.{nat_lt}
+use Rattle.c65_lex.specs.Cells.{ahead}
+use Rattle.c65_lex.specs.Blanks.{Blanks}
+use Rattle.c65_lex.proofs.scan.skip.Given as goal
+
+abbrev pub invariant-loop-rest : goal.invariant-loop-rest
+invariant-loop-rest l = (n : ℕ) × Blanks n (ahead l.text l.fn.from) (ahead l.text l.place) × (l.space ≡ nat_lt 0 n)
+
+abbrev pub decreases-loop-rest : goal.decreases-loop-rest
+decreases-loop-rest l = length (ahead l.text l.place)

@@ -1,0 +1,14 @@
+use Rattle.std.proofs.Common.{◌≡◌, ◌++◌, ℕ, length, take, drop, Bool}
+use Rattle.c65_lex.specs.Cells.{ahead, bytes}
+use Rattle.c65_lex.specs.Next.{is_any_long}
+use Rattle.c65_lex.proofs.scan.take.Given as goal
+
+abbrev pub invariant-loop-left : goal.invariant-loop-left
+invariant-loop-left l = record {
+  long : is_any_long (take l.left (ahead l.text l.place)) ≡ is_any_long (take l.fn.count (ahead l.text l.fn.from));
+  spelled : l.spelling.items ++ bytes (take l.left (ahead l.text l.place)) ≡ bytes (take l.fn.count (ahead l.text l.fn.from));
+  behind : drop l.left (ahead l.text l.place) ≡ drop l.fn.count (ahead l.text l.fn.from);
+}
+
+abbrev pub decreases-loop-left : goal.decreases-loop-left
+decreases-loop-left l = l.left
