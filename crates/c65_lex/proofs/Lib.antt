@@ -1,2 +1,5 @@
 pub mod Joints
 pub mod Gaps
+pub mod Bytes
+pub mod Reach
+pub mod Spelled
