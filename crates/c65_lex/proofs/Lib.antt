@@ -3,3 +3,4 @@ pub mod Gaps
 pub mod Bytes
 pub mod Reach
 pub mod Spelled
+pub mod Longest

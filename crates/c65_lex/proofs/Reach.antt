@@ -84,18 +84,18 @@ closes n quote plain taken (b ∷ bs) m h = by (b == 10) refl (not taken && (b =
         record { more = suc c.more; m_is = omega (arith, c.m_is); some = omega arith; fits = omega (arith, c.fits); closed = closed_later quote plain taken b c.more bs p q c.closed }
 
 -- where a backslash takes nothing a closing quote is found, too
-pub plain_closes : (n quote : ℕ) (taken : Bool) (bs : List ℕ) (m : ℕ) → close_from n quote false taken bs ≡ Some m → close_from n quote true false bs ≡ None → ⊥
-plain_closes n quote taken [] m h g = cc
-plain_closes n quote taken (b ∷ bs) m h g = by (b == 10) refl (b == quote) refl (not taken && (b == quote)) refl (plain_closes (n + 1) quote (takes_next false taken b) bs m)
+pub plain_closes : (n k quote : ℕ) (taken : Bool) (bs : List ℕ) (m : ℕ) → close_from n quote false taken bs ≡ Some m → close_from k quote true false bs ≡ None → ⊥
+plain_closes n k quote taken [] m h g = cc
+plain_closes n k quote taken (b ∷ bs) m h g = by (b == 10) refl (b == quote) refl (not taken && (b == quote)) refl (plain_closes (n + 1) (k + 1) quote (takes_next false taken b) bs m)
   where
-    by : (t : Bool) → (b == 10) ≡ t → (u : Bool) → (b == quote) ≡ u → (v : Bool) → not taken && (b == quote) ≡ v → (close_from (n + 1) quote false (takes_next false taken b) bs ≡ Some m → close_from (n + 1) quote true false bs ≡ None → ⊥) → ⊥
-    by true p u q v r f = let k : None ≡ Some m = rw p at h in cc
-    by false p true q v r f = let k : Some (n + 1) ≡ None = rw (p, q) at g in cc
+    by : (t : Bool) → (b == 10) ≡ t → (u : Bool) → (b == quote) ≡ u → (v : Bool) → not taken && (b == quote) ≡ v → (close_from (n + 1) quote false (takes_next false taken b) bs ≡ Some m → close_from (k + 1) quote true false bs ≡ None → ⊥) → ⊥
+    by true p u q v r f = let d : None ≡ Some m = rw p at h in cc
+    by false p true q v r f = let d : Some (k + 1) ≡ None = rw (p, q) at g in cc
     by false p false q true r f = no_both (b == quote) (both (not taken) (b == quote) r).1 q
     by false p false q false r f =
-        let k : close_from (n + 1) quote true false bs ≡ None = rw (p, q) at g in
+        let d : close_from (k + 1) quote true false bs ≡ None = rw (p, q) at g in
         let i : close_from (n + 1) quote false (takes_next false taken b) bs ≡ Some m = rw (p, r) at h in
-        f i k
+        f i d
 
 -- the closing quote stands behind all bytes that are not it
 pub close_past : (n quote : ℕ) (plain taken : Bool) (j : ℕ) (bs : List ℕ) (m : ℕ) → are_all (λ x. not (x == quote)) (take j bs) ≡ true → j ≤ length bs → close_from n quote plain taken bs ≡ Some m → n + j < m
