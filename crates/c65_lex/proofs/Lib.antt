@@ -4,3 +4,5 @@ pub mod Bytes
 pub mod Reach
 pub mod Spelled
 pub mod Longest
+pub mod Tokens
+pub mod Unique

@@ -4,3 +4,4 @@ pub mod Lengths
 pub mod Blanks
 pub mod Next
 pub mod Scanned
+pub mod Unread

@@ -23,42 +23,39 @@ abbrev pub first_line : List Cell → ℕ
 first_line [] = 0
 first_line (c ∷ cs) = c.line
 
--- behind white space and comments the text is at its end
-pub record IsEnded (start : List Cell) : Type 0 where
-  pub blanks : ℕ
-  pub behind : Blanks blanks start []
-
--- behind white space and comments a comment without its end begins
-pub record IsOpenComment (start : List Cell) (line : ℕ) : Type 0 where
-  pub blanks : ℕ
-  pub cells : List Cell
-  pub behind : Blanks blanks start cells
-  pub open_here : blank_of cells ≡ unclosed
-  pub line_is : line ≡ first_line cells
-
--- behind white space and comments a line is too long in the next of them, or in the token
-pub record IsLongLine (header : Bool) (start : List Cell) : Type 0 where
-  pub blanks : ℕ
-  pub cells : List Cell
-  pub behind : Blanks blanks start cells
-  pub long_here : (blank_of cells ≡ too_long) ⊎ ((blank_of cells ≡ none) × (kind : PpKind) × (n : ℕ) × IsToken header (bytes cells) kind n × (is_any_long (take n cells) ≡ true))
-
--- behind white space and comments the token stands
-pub record IsNextToken (header : Bool) (start : List Cell) (kind : PpKind) (spelling : List ℕ) (line : ℕ) (space : Bool) (rest : List Cell) : Type 0 where
-  pub blanks : ℕ
-  pub cells : List Cell
-  pub behind : Blanks blanks start cells
-  pub begins : blank_of cells ≡ none
+-- the token that stands at the first of these cells
+pub record IsTokenHere (header : Bool) (cells : List Cell) (kind : PpKind) (spelling : List ℕ) (line : ℕ) (rest : List Cell) : Type 0 where
   pub size : ℕ
   pub is_token : IsToken header (bytes cells) kind size
   pub not_long : is_any_long (take size cells) ≡ false
   pub spelling_is : spelling ≡ bytes (take size cells)
   pub line_is : line ≡ first_line cells
-  pub space_is : space ≡ nat_lt 0 blanks
   pub rest_is : rest ≡ drop size cells
 
-abbrev pub IsNext : Bool → List Cell → Next → Type 0
-IsNext header start ended = IsEnded start
-IsNext header start (open_comment line) = IsOpenComment start line
-IsNext header start long_line = IsLongLine header start
-IsNext header start (token kind spelling line space rest) = IsNextToken header start kind spelling line space rest
+-- a line is too long at a byte of the white space, the comment or the token that stands here
+abbrev pub IsLongHere : Bool → List Cell → Type 0
+IsLongHere header cells = (blank_of cells ≡ too_long) ⊎ ((blank_of cells ≡ none) × (kind : PpKind) × (size : ℕ) × IsToken header (bytes cells) kind size × (is_any_long (take size cells) ≡ true))
+
+-- what stands at the first of these cells, behind so many blanks
+abbrev pub Stands : Bool → ℕ → List Cell → Next → Type 0
+Stands header blanks cells ended = cells ≡ []
+Stands header blanks cells (open_comment line) = (blank_of cells ≡ unclosed) × (line ≡ first_line cells)
+Stands header blanks cells long_line = IsLongHere header cells
+Stands header blanks cells (token kind spelling line space rest) = (blank_of cells ≡ none) × (space ≡ nat_lt 0 blanks) × IsTokenHere header cells kind spelling line rest
+
+-- white space and comments, one after another, lead to what comes next
+pub record IsNext (header : Bool) (start : List Cell) (next : Next) : Type 0 where
+  pub blanks : ℕ
+  pub cells : List Cell
+  pub behind : Blanks blanks start cells
+  pub stands : Stands header blanks cells next
+
+-- what takes memory: the spelling of a token, and as much of it as stands before the line's limit
+abbrev pub TakesMemory : Next → Type 0
+TakesMemory ended = ⊥
+TakesMemory (open_comment line) = ⊥
+TakesMemory long_line = Unit {0}
+TakesMemory (token kind spelling line space rest) = Unit {0}
+
+abbrev pub NeedsMemory : Bool → List Cell → Type 0
+NeedsMemory header start = (next : Next) × IsNext header start next × TakesMemory next

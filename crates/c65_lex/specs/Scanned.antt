@@ -7,12 +7,12 @@ use Rattle.c65_lex.specs.declared.scan.Scanned.{Scanned}
 use Rattle.c65_lex.specs.declared.scan.Scanned.TheVariants as scanned
 use Rattle.c65_lex.specs.Cells.{Cell, ahead, bytes}
 use Rattle.c65_lex.specs.Blanks.{Blanks, blank_of, none, unclosed, too_long}
-use Rattle.c65_lex.specs.Next.{Next, ended, open_comment, long_line, token, is_any_long, IsOpenComment, first_line}
+use Rattle.c65_lex.specs.Next.{Next, ended, open_comment, long_line, token, is_any_long, first_line}
 
 -- so many blanks lead here, and no more follow
 abbrev pub IsSkipped : List ℕ → List Cell → Skipped → Type 0
 IsSkipped text start (Here place space) = (n : ℕ) × Blanks n start (ahead text place) × (blank_of (ahead text place) ≡ none) × (space ≡ nat_lt 0 n)
-IsSkipped text start (Unclosed line) = IsOpenComment start line
+IsSkipped text start (Unclosed line) = (n : ℕ) × (cells : List Cell) × Blanks n start cells × (blank_of cells ≡ unclosed) × (line ≡ first_line cells)
 IsSkipped text start TooLong = (n : ℕ) × (cells : List Cell) × Blanks n start cells × (blank_of cells ≡ too_long)
 
 abbrev pub IsTaken : List ℕ → ℕ → List Cell → Option (List ℕ × Place) → Type 0

@@ -4,8 +4,10 @@
 mod blanks;
 mod classes;
 mod lengths;
+mod lexer;
 mod place;
 mod scan;
 mod token;
 
+pub use lexer::Lexer;
 pub use token::{Paths, PpKind, PpToken, PpTokens, PpUnit};

@@ -1,7 +1,7 @@
 // The next token of a text.
-ghost use Rattle.std.specs.Prelude.{◌≡◌, IfOk};
+ghost use Rattle.std.specs.Prelude.{◌≡◌, IfOk, OnErr};
 ghost use Rattle.c65_lex.specs.Cells.{ahead};
-ghost use Rattle.c65_lex.specs.Next.{IsNext, first_line};
+ghost use Rattle.c65_lex.specs.Next.{IsNext, NeedsMemory, first_line};
 ghost use Rattle.c65_lex.specs.Scanned.{IsTaken, IsSkipped, next_in};
 
 use crate::blanks::{Gap, gap_at};
@@ -91,7 +91,8 @@ fn take(alloc: Global, text: &[u8], from: Place, count: usize) -> Result<Option<
 
 /// The next token, or why there is none.
 pub fn scan(alloc: Global, text: &[u8], from: Place, header: bool) -> Result<Scanned, AllocError>
-    ensures { IfOk result (λ r. IsNext header (ahead text.now from) (next_in text.now r)) }
+    ensures next { IfOk result (λ r. IsNext header (ahead text.now from) (next_in text.now r)) }
+    ensures memory { OnErr result (NeedsMemory header (ahead text.now from)) }
 {
     let (place, space) = match skip(text, from) {
         Skipped::Here(place, space) => (place, space),
