@@ -1,0 +1,6 @@
+pub mod Words
+pub mod Digits
+pub mod Numbers
+pub mod Chars
+pub mod Tokens
+pub mod Steps

@@ -1,8 +1,9 @@
 // The tokens of a unit (C90 6.1).
-ghost use Rattle.std.specs.Prelude.{◌≡◌, List};
+ghost use Rattle.std.specs.Prelude.{◌≡◌, ◌++◌, ◌∷◌, [], List, OnOk};
 
 use c65_base::{Name, Pos, Text as Bytes};
 use c65_ints::IntType;
+use std::alloc::AllocError;
 use std::marker::Model;
 
 /// C90's keywords (6.1.1), and four of this compiler.
@@ -193,6 +194,14 @@ impl Tokens {
         ensures { result ≡ tokens.items }
     {
         Tokens { tokens }
+    }
+
+    /// One more token.
+    pub fn push(&mut self, token: Token) -> Result<(), AllocError>
+        ensures { OnOk result (self.new ≡ self.old ++ token ∷ []) }
+    {
+        self.tokens.push(token)?;
+        Ok(())
     }
 
     pub fn as_slice(&self) -> &[Token]
