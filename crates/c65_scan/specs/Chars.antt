@@ -1,5 +1,5 @@
 -- The characters of character constants and string literals (C90 6.1.3.4, 6.1.4).
-use Rattle.std.specs.Prelude.{ℕ, ◌+◌, ◌-◌, ◌*◌, ◌==◌, ◌&&◌, nat_le, nat_lt, if◌then◌else◌, Bool, List, [], ◌∷◌, ◌++◌, length, take, drop, slice_index_or, Option, Some, None, option_map, Result, Ok, Err}
+use Rattle.std.specs.Prelude.{ℕ, ◌+◌, ◌-◌, ◌*◌, ◌==◌, nat_le, nat_lt, if◌then◌else◌, Bool, List, [], ◌∷◌, length, take, drop, slice_index_or, Option, Some, None, option_map, Result, Ok, Err}
 use Rattle.c65_base.specs.declared.code.Code.{Code}
 use Rattle.c65_base.specs.declared.code.Code.TheVariants.{BadEscape, CharConstant}
 use Rattle.c65_scan.specs.declared.chars.Reading.{Reading}

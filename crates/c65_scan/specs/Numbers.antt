@@ -1,5 +1,5 @@
 -- Integer constants (C90 6.1.3.2), and which numbers are floating constants (C90 6.1.3.1).
-use Rattle.std.specs.Prelude.{ℕ, ◌+◌, ◌*◌, Bool, true, false, ◌||◌, ◌==◌, nat_le, min, if◌then◌else◌, List, [], ◌∷◌, drop, slice_index_or, find, Option, Some, None, option_map, option_and_then, is_some, ℤ, pos, int_le, Result, Ok, Err}
+use Rattle.std.specs.Prelude.{ℕ, ◌+◌, ◌*◌, Bool, true, false, ◌||◌, ◌==◌, min, if◌then◌else◌, List, [], ◌∷◌, drop, slice_index_or, find, Option, Some, None, option_map, option_and_then, is_some, pos, int_le, Result, Ok, Err}
 use Rattle.c65_base.specs.declared.code.Code.{Code}
 use Rattle.c65_base.specs.declared.code.Code.TheVariants.{BadNumber, NumberRange, Float}
 use Rattle.c65_ints.specs.declared.types.IntType.{IntType}
@@ -114,9 +114,13 @@ float_from p (c ∷ cs) = elim (float_part p c) [ Some q ↦ float_from q cs | N
 abbrev pub is_float : List ℕ → Bool
 is_float s = float_from parts.Start s
 
+-- a preprocessing number that is no integer constant
+abbrev pub no_integer : List ℕ → Result (IntType × ℕ) Code
+no_integer s = if is_float s then Err Float else Err BadNumber
+
 -- type and value of a preprocessing number
 abbrev pub number_in : Base → List ℕ → Result (IntType × ℕ) Code
-number_in b s = elim (integer_of b (digits_of b s)) [ Some c ↦ typed b c | None ↦ (if is_float s then Err Float else Err BadNumber) ]
+number_in b s = elim (integer_of b (digits_of b s)) [ Some c ↦ typed b c | None ↦ no_integer s ]
 
 abbrev pub number_of : List ℕ → Result (IntType × ℕ) Code
 number_of s = number_in (base_of s) s

@@ -6,14 +6,22 @@ pub fn octal_digit(byte: u8) -> Option<u8>
     ensures value { result ≡ octal_of byte }
     ensures bound { IfSome result (λ d. d < 8) }
 {
-    if b'0' <= byte && byte <= b'7' { Some(byte - b'0') } else { None }
+    if b'0' <= byte && byte <= b'7' {
+        Some(byte - b'0')
+    } else {
+        None
+    }
 }
 
 pub fn decimal_digit(byte: u8) -> Option<u8>
     ensures value { result ≡ decimal_of byte }
     ensures bound { IfSome result (λ d. d < 10) }
 {
-    if b'0' <= byte && byte <= b'9' { Some(byte - b'0') } else { None }
+    if b'0' <= byte && byte <= b'9' {
+        Some(byte - b'0')
+    } else {
+        None
+    }
 }
 
 pub fn hexadecimal_digit(byte: u8) -> Option<u8>

@@ -1,6 +1,6 @@
 // Integer constants (C90 6.1.3.2).
-ghost use Rattle.std.specs.Prelude.{◌≡◌, ◌<◌, ◌^◌, IfSome};
-ghost use Rattle.c65_scan.specs.Numbers.{capped, radix_of, digit_of, is_x, base_of, digits_of, with_letter, suffix_from, integer_from, integer_of, starts, row_of, type_of, typed, number_of, number_in};
+ghost use Rattle.std.specs.Prelude.{◌≡◌, ◌<◌, ◌≤◌, IfSome};
+ghost use Rattle.c65_scan.specs.Numbers.{capped, radix_of, digit_of, is_x, base_of, digits_of, with_letter, suffix_from, integer_from, integer_of, starts, row_of, type_of, typed, number_of};
 ghost use Rattle.c65_scan.specs.declared.number.Suffix.TheVariants.{Plain};
 
 use crate::digits::{byte_or_zero, decimal_digit, hexadecimal_digit, octal_digit};
@@ -87,7 +87,8 @@ fn read_suffix(text: &[u8]) -> Option<Suffix>
 
 // The value, or 2 to the 32 where it is not below that, and the suffix.
 fn read_integer(base: Base, text: &[u8]) -> Option<(u64, Suffix)>
-    ensures { result ≡ capped (integer_from base 0 text.now) }
+    ensures value { result ≡ capped (integer_from base 0 text.now) }
+    ensures bound { IfSome result (λ c. c.0 ≤ 4294967296) }
 {
     let mut value = 0;
     for (at, byte) in text.iter().enumerate() {
@@ -134,13 +135,35 @@ fn type_row(base: Base, suffix: Suffix) -> &'static [IntType]
 }
 
 fn constant_type(base: Base, suffix: Suffix, value: u64) -> Option<IntType>
-    requires { value < 2 ^ 33 }
+    requires { value ≤ 4294967296 }
     ensures { result ≡ type_of base suffix value }
 {
     type_row(base, suffix)
         .iter()
         .copied()
         .find(|ty| value as i64 <= ty.greatest())
+}
+
+fn typed_constant(base: Base, suffix: Suffix, value: u64) -> Result<(IntType, u32), Code>
+    requires { value ≤ 4294967296 }
+    ensures { result ≡ typed base (value, suffix) }
+{
+    match constant_type(base, suffix, value) {
+        Some(ty) => Ok((ty, value as u32)),
+        None => Err(Code::NumberRange),
+    }
+}
+
+// The value, capped, and the suffix of an integer constant.
+fn integer(base: Base, digits: &[u8]) -> Option<(u64, Suffix)>
+    ensures value { result ≡ capped (integer_of base digits.now) }
+    ensures bound { IfSome result (λ c. c.0 ≤ 4294967296) }
+{
+    if starts_number(base, digits) {
+        read_integer(base, digits)
+    } else {
+        None
+    }
 }
 
 /// Type and value of a preprocessing number.
@@ -151,14 +174,12 @@ pub fn read_number(text: &[u8]) -> Result<(IntType, u32), Code>
     ensures { result ≡ number_of text.now }
 {
     let base = base_of_constant(text);
-    let digits = digits(base, text);
-    let integer = if starts_number(base, digits) { read_integer(base, digits) } else { None };
-    match integer {
-        Some((value, suffix)) => match constant_type(base, suffix, value) {
-            Some(ty) => Ok((ty, value as u32)),
-            None => Err(Code::NumberRange),
-        },
-        None if is_float(text) => Err(Code::Float),
-        None => Err(Code::BadNumber),
+    match integer(base, digits(base, text)) {
+        Some((value, suffix)) => typed_constant(base, suffix, value),
+        None => Err(if is_float(text) {
+            Code::Float
+        } else {
+            Code::BadNumber
+        }),
     }
 }

@@ -87,7 +87,12 @@ fn fault_of_other(spelling: &[u8]) -> Code
 }
 
 /// The class and value of a preprocessing token of this spelling.
-pub fn read_value(alloc: Global, kind: PpKind, name: Name, spelling: &[u8]) -> Result<Value, AllocError>
+pub fn read_value(
+    alloc: Global,
+    kind: PpKind,
+    name: Name,
+    spelling: &[u8],
+) -> Result<Value, AllocError>
     ensures { IfOk result (λ v. v ≡ value_of kind name spelling.now) }
 {
     match kind {
