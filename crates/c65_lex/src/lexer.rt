@@ -27,8 +27,9 @@ impl Model for Lexer {
 }
 
 impl Lexer {
-    ghost use Rattle.c65_lex.specs.Unread.{unread, IsAnswered, Answers};
-    ghost use Rattle.c65_lex.specs.Next.{Next, IsNext};
+    ghost use Rattle.std.specs.Prelude.{◌↔◌, OnErr};
+    ghost use Rattle.c65_lex.specs.Unread.{unread, IsAnswered, Answers, IsKept};
+    ghost use Rattle.c65_lex.specs.Next.{Next, IsNext, ended};
 
     /// The text of a file, from its first byte on. It takes no memory.
     pub fn new(alloc: Global, text: Vec<u8>, file: u64) -> Lexer
@@ -51,6 +52,18 @@ impl Lexer {
     /// without its end, a line of more than 32,767 bytes, and the 65,536th spelling, and stays then
     /// where it was.
     pub fn next(&mut self, names: &mut Names, header: bool) -> Result<Option<PpToken>, Refusal>
+        ensures some { IsAnswered header self.old names.old result self.new names.new }
+
+        // Only one thing comes next, so this is the answer to it and to nothing else.
+        ensures only { (next : Next) → IsNext header self.old.cells next
+            → Answers self.old names.old next result self.new names.new }
+        ensures end { (result ≡ Ok None) ↔ IsNext header self.old.cells ended }
+        ensures kept { OnErr result (IsKept self.old names.old self.new names.new) }
+    {
+        self.answer(names, header)
+    }
+
+    fn answer(&mut self, names: &mut Names, header: bool) -> Result<Option<PpToken>, Refusal>
         ensures { IsAnswered header self.old names.old result self.new names.new }
     {
         match scan(self.alloc, &self.text, self.place, header)? {

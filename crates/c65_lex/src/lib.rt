@@ -7,6 +7,8 @@ mod lengths;
 mod lexer;
 mod place;
 mod scan;
+#[cfg(test)]
+mod tests;
 mod token;
 
 pub use lexer::Lexer;

@@ -1,0 +1,153 @@
+use crate::lexer::Lexer;
+use crate::token::PpKind;
+use c65_base::{Code, Names, Refusal, Size};
+use std::alloc::Global;
+use std::test::Fail;
+
+fn letter(kind: PpKind) -> u8 {
+    match kind {
+        PpKind::Name => b'N',
+        PpKind::Number => b'D',
+        PpKind::Char => b'C',
+        PpKind::Text => b'T',
+        PpKind::Punct => b'P',
+        PpKind::Header => b'H',
+        PpKind::Other => b'O',
+        PpKind::LineEnd => b'E',
+    }
+}
+
+/// The tokens of a short text: of each a space where white space stands before it, its class, its
+/// line and its spelling.
+fn listed(alloc: Global, text: &[u8], header: bool) -> Result<Vec<u8>, Refusal> {
+    let mut names = Names::new(alloc);
+    let mut lexer = Lexer::new(alloc, Vec::from_slice(alloc, text)?, 7);
+    let mut list = Vec::new(alloc);
+    for _ in 0..100 {
+        let Some(token) = lexer.next(&mut names, header)? else {
+            break;
+        };
+        if token.space {
+            list.push(b' ')?;
+        }
+        list.push(letter(token.kind))?;
+        list.push(b'0' + (token.pos.line % 10) as u8)?;
+        list.push(b':')?;
+        if let Some(spelling) = names.spelling(token.spelling) {
+            list.extend_from_slice(spelling)?;
+        }
+        list.push(b'|')?;
+    }
+    Ok(list)
+}
+
+#[test]
+fn lists_tokens(rt: HostRuntime) -> Result<(), Fail> {
+    let rows: [(&[u8], &[u8]); 20] = [
+        (b"x+++y", b"N1:x|P1:++|P1:+|N1:y|E1:\n|"),
+        (b"x+++++y\n", b"N1:x|P1:++|P1:++|P1:+|N1:y|E1:\n|"),
+        (b"1Ex 0xe+1 0x1f+1", b"D1:1Ex| D1:0xe+1| D1:0x1f|P1:+|D1:1|E1:\n|"),
+        (b".5 ... ..", b"D1:.5| P1:...| P1:.|P1:.|E1:\n|"),
+        (b">>=<<=->##>>#", b"P1:>>=|P1:<<=|P1:->|P1:##|P1:>>|P1:#|E1:\n|"),
+        (
+            b"a\\\nb 1\\\n2 +\\\n+ '\\\nx' \"s\\\nt\" /\\\n* c *\\\n/z",
+            b"N1:ab| D2:12| P3:++| C4:'x'| T5:\"st\"| N8:z|E8:\n|",
+        ),
+        (b"a/* */b\n", b"N1:a| N1:b|E1:\n|"),
+        (b"a // b\nc", b"N1:a| E1:\n|N2:c|E2:\n|"),
+        (b"/* a\nb */c/**/", b" N2:c| E2:\n|"),
+        (b"/*/ */a/ *b", b" N1:a|P1:/| P1:*|N1:b|E1:\n|"),
+        (b"a\r\nb\\\r\nc\r\n", b"N1:a|E1:\n|N2:bc|E3:\n|"),
+        (b"a\rb", b"N1:a|O1:\r|N1:b|E1:\n|"),
+        (b"@ \\ 'a", b"O1:@| O1:\\| O1:'|N1:a|E1:\n|"),
+        (b"L'a' L\"b\" L 'x' L'", b"C1:L'a'| T1:L\"b\"| N1:L| C1:'x'| N1:L|O1:'|E1:\n|"),
+        (b"'\\'' \"\\\"\" ''", b"C1:'\\''| T1:\"\\\"\"| C1:''|E1:\n|"),
+        (b"\"a\n\"b\"", b"O1:\"|N1:a|E1:\n|T2:\"b\"|E2:\n|"),
+        (b"\xff \"\xff\"/*\xff*/", b"O1:\xff| T1:\"\xff\"| E1:\n|"),
+        (b"<a>", b"P1:<|N1:a|P1:>|E1:\n|"),
+        (b"", b""),
+        (b"\n\x0b\x0c\t \n", b"E1:\n| E2:\n|"),
+    ];
+    for (text, want) in rows {
+        let list = listed(rt.alloc(), text, false)?;
+        assert_eq!(rt; list.as_slice(), want);
+    }
+    Ok(())
+}
+
+#[test]
+fn lists_header_names(rt: HostRuntime) -> Result<(), Fail> {
+    let rows: [(&[u8], &[u8]); 4] = [
+        (b"<a/b.h> x", b"H1:<a/b.h>| N1:x|E1:\n|"),
+        (b"\"c\\\"d", b"H1:\"c\\\"|N1:d|E1:\n|"),
+        (b"<x \"y", b"P1:<|N1:x| O1:\"|N1:y|E1:\n|"),
+        (b"<> \"\" L\"a\"", b"P1:<|P1:>| T1:\"\"| T1:L\"a\"|E1:\n|"),
+    ];
+    for (text, want) in rows {
+        let list = listed(rt.alloc(), text, true)?;
+        assert_eq!(rt; list.as_slice(), want);
+    }
+    Ok(())
+}
+
+#[test]
+fn refuses_an_open_comment_where_it_begins(rt: HostRuntime) -> Result<(), Fail> {
+    let rows: [(&[u8], u32); 3] = [(b"/* a", 1), (b"\n  /* b\n\n", 2), (b"\\\n/*/", 2)];
+    for (text, want) in rows {
+        let alloc = rt.alloc();
+        let mut names = Names::new(alloc);
+        let mut lexer = Lexer::new(alloc, Vec::from_slice(alloc, text)?, 7);
+        for _ in 0..3 {
+            match lexer.next(&mut names, false) {
+                Err(Refusal::At { code, pos }) => {
+                    assert!(rt; code == Code::OpenComment && pos.file == 7 && pos.line == want);
+                }
+                Ok(found) => assert!(rt; found.is_some()),
+                Err(_) => assert!(rt; false),
+            }
+        }
+    }
+    Ok(())
+}
+
+#[test]
+fn refuses_a_long_line(rt: HostRuntime) -> Result<(), Fail> {
+    let alloc = rt.alloc();
+    for (byte, count, fits) in [
+        (b' ', 32_767, true),
+        (b' ', 32_768, false),
+        (b'a', 32_767, true),
+        (b'a', 32_768, false),
+    ] {
+        let mut names = Names::new(alloc);
+        let mut lexer = Lexer::new(alloc, vec![in alloc; byte; count]?, 0);
+        let found = lexer.next(&mut names, false);
+        let mut is_long = false;
+        if let Err(Refusal::TooLarge { limit, value }) = &found {
+            is_long = *limit == Size::Line && *value == 32_768;
+        }
+        assert!(rt; found.is_ok() == fits && is_long != fits);
+    }
+    Ok(())
+}
+
+/// A file of 1 MiB less a byte: 69,905 lines of eight tokens.
+#[test]
+fn lexes_a_large_file(rt: HostRuntime) -> Result<(), Fail> {
+    let alloc = rt.alloc();
+    let mut text = Vec::new(alloc);
+    for _ in 0..69_905 {
+        text.extend_from_slice(b"int x/**/=1+y;\n")?;
+    }
+    let mut names = Names::new(alloc);
+    let mut lexer = Lexer::new(alloc, text, 0);
+    let mut count = 0u64;
+    for _ in 0..1_000_000 {
+        if lexer.next(&mut names, false)?.is_none() {
+            break;
+        }
+        count += 1;
+    }
+    assert_eq!(rt; count, 559_240);
+    Ok(())
+}
