@@ -116,9 +116,9 @@ fn give_args(machine: &mut Machine, sp: u8, args: &[Text])
     requires { arguments_size args.now ≤ 1024 }
     ensures { machine.new ≡ given_args sp args.now machine.old }
 {
-    let count = args.len() as u16;
+    let argc = args.len() as u16;
     let pointer = ax(machine);
-    let list = machine.word(u16::from(sp)).wrapping_sub(2 * (count + 1));
+    let list = machine.word(u16::from(sp)).wrapping_sub(2 * (argc + 1));
     let mut at = list;
     let mut lowest = list;
     for arg in args {
@@ -132,7 +132,7 @@ fn give_args(machine: &mut Machine, sp: u8, args: &[Text])
     machine.put_word(at, 0);
     machine.put_word(u16::from(sp), lowest);
     machine.put_word(pointer, list);
-    machine.answer_hook(count);
+    machine.answer_hook(argc);
 }
 
 /// Reads until the bytes are full or the input ends, and answers how many were read.

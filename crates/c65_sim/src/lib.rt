@@ -4,5 +4,7 @@
 mod hooks;
 mod run;
 mod stop;
+#[cfg(test)]
+mod tests;
 
 pub use run::{Budget, Run};
