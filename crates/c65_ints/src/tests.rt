@@ -4,7 +4,7 @@ use IntType::{Int, Long, SChar, Short, UChar, UInt, ULong, UShort};
 
 #[test]
 fn types_have_their_ranges(rt: HostRuntime) {
-    let rows = [
+    let rows: [(IntType, u32, i64, i64); 8] = [
         (SChar, 1, -128, 127),
         (UChar, 1, 0, 255),
         (Short, 2, -32_768, 32_767),
@@ -18,16 +18,23 @@ fn types_have_their_ranges(rt: HostRuntime) {
         assert_eq!(rt; ty.size(), size, "size of {ty:?}");
         assert_eq!(rt; ty.width(), 8 * size, "width of {ty:?}");
         assert_eq!(rt; ty.is_signed(), least < 0, "sign of {ty:?}");
-        assert_eq!(rt; ty.modulus(), greatest - least + 1, "modulus of {ty:?}");
+        assert_eq!(rt;
+            ty.modulus(),
+            greatest.saturating_sub(least).saturating_add(1),
+            "modulus of {ty:?}"
+        );
         assert_eq!(rt; ty.least(), least, "least of {ty:?}");
         assert_eq!(rt; ty.greatest(), greatest, "greatest of {ty:?}");
-        assert!(rt; ty.holds(least) && !ty.holds(least - 1), "least of {ty:?}");
         assert!(rt;
-            ty.holds(greatest) && !ty.holds(greatest + 1),
+            ty.holds(least) && !ty.holds(least.saturating_sub(1)),
+            "least of {ty:?}"
+        );
+        assert!(rt;
+            ty.holds(greatest) && !ty.holds(greatest.saturating_add(1)),
             "greatest of {ty:?}"
         );
-        assert_eq!(rt; wrap(ty, greatest + 1), least, "above {ty:?}");
-        assert_eq!(rt; wrap(ty, least - 1), greatest, "below {ty:?}");
+        assert_eq!(rt; wrap(ty, greatest.saturating_add(1)), least, "above {ty:?}");
+        assert_eq!(rt; wrap(ty, least.saturating_sub(1)), greatest, "below {ty:?}");
     }
     assert_eq!(rt; wrap(ULong, -1), 4_294_967_295);
     assert_eq!(rt; wrap(SChar, i64::MIN + 200), -56);
