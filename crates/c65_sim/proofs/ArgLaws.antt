@@ -1,8 +1,8 @@
 -- Laws of the arguments on the software stack.
-use Rattle.std.proofs.Common.{◌≡◌, ℕ, ◌+◌, ◌-◌, ◌*◌, ◌%◌, ◌<◌, ◌≤◌, zero, suc, List, [], ◌∷◌, ◌++◌, length, drop, get_or, ap, sym, refl, ◌∙◌, arith}
+use Rattle.std.proofs.Common.{◌≡◌, ℕ, ◌+◌, ◌-◌, ◌*◌, ◌%◌, ◌<◌, ◌≤◌, suc, List, [], ◌∷◌, ◌++◌, length, drop, get_or, ap, sym, ◌∙◌, arith}
 use Rattle.std.proofs.Math.Seq.{drop-cons}
 use Rattle.std.proofs.Math.ListN.{drop_of_length-le}
-use Rattle.c65_mach.specs.State.{State, Memory, read, write}
+use Rattle.c65_mach.specs.State.{State, Memory, write}
 use Rattle.c65_mach.specs.Step.{after, word_at}
 use Rattle.c65_mach.specs.Hooks.{put_word, put_bytes, below, laid_args, given_args, hooked, ax}
 use Rattle.c65_sim.proofs.Bytes.{put_bytes-end}

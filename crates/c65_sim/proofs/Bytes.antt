@@ -1,9 +1,9 @@
 -- Laws of bytes in memory.
-use Rattle.std.proofs.Common.{◌≡◌, ℕ, ◌+◌, ◌-◌, ◌%◌, ◌<◌, ◌≤◌, zero, suc, List, [], ◌∷◌, ◌++◌, length, take, set, ap, sym, refl, ◌∙◌, append_assoc, arith}
+use Rattle.std.proofs.Common.{◌≡◌, ℕ, ◌+◌, ◌-◌, ◌<◌, suc, List, [], ◌∷◌, ◌++◌, length, take, set, ap, sym, ◌∙◌, append_assoc, arith}
 use Rattle.std.proofs.lemmas.List.{take_more_set, length-set}
 use Rattle.c65_mach.specs.State.{State, Memory, read, write}
 use Rattle.c65_mach.specs.Step.{after}
-use Rattle.c65_mach.specs.Hooks.{put_word, put_bytes, bytes_from}
+use Rattle.c65_mach.specs.Hooks.{put_bytes, bytes_from}
 
 pub after-after : (at n : ℕ) → after (after at 1) n ≡ after at (suc n)
 after-after at n = omega arith

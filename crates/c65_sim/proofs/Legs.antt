@@ -1,22 +1,20 @@
 -- What a call has done after so many rows, and how it ends.
-use Rattle.std.proofs.Common.{◌≡◌, ◌⊎◌, inl, inr, ℕ, ◌+◌, ◌-◌, ◌^◌, ◌<◌, ◌≤◌, min, zero, suc, List, [], ◌∷◌, ◌++◌, length, take, drop, Bool, true, false, Option, Some, None, Result, Ok, Err, ap, sym, refl, subst, ◌∙◌, append_assoc, arith}
-use Rattle.std.specs.Prelude.{if◌then◌else◌, ◌&&◌}
-use Rattle.std.proofs.lemmas.List.{append-nil}
+use Rattle.std.proofs.Common.{◌≡◌, ◌⊎◌, inl, inr, ℕ, ◌+◌, ◌-◌, ◌^◌, ◌<◌, ◌≤◌, min, suc, List, [], ◌++◌, length, take, Bool, true, false, Option, Some, None, Result, Ok, Err, ap, sym, refl, subst, ◌∙◌, append_assoc, arith}
+use Rattle.std.specs.Prelude.{◌&&◌}
 use Rattle.std.proofs.Math.Seq.{drop-append_seam}
 use Rattle.c65_base.specs.declared.refusal.Refusal.{Refusal}
-use Rattle.c65_io.specs.Told.{append_told, prepend_told, IsAtEnd}
+use Rattle.c65_io.specs.Told.{append_told, prepend_told}
 use Rattle.c65_io.proofs.ToldLaws.{append_told-nil, append_told-append}
 use Rattle.c65_mach.specs.State.{State}
-use Rattle.c65_mach.specs.Step.{row_at}
-use Rattle.c65_mach.specs.Hooks.{ax, descriptor_of, bytes_to_write}
-use Rattle.c65_mach.specs.Run.{Setting, Moment, Progress, Running, Ended, Stopped, turn, next, onward, moment_of, is_hook, next_cycles, cycles_next, cycles_after}
+use Rattle.c65_mach.specs.Hooks.{descriptor_of, bytes_to_write}
+use Rattle.c65_mach.specs.Run.{Setting, Moment, Progress, Running, Ended, turn, next, onward, moment_of, next_cycles, cycles_next, cycles_after}
 use Rattle.c65_sim.specs.declared.run.Budget.{Budget}
 use Rattle.c65_sim.specs.declared.run.Budget.TheVariants.{Instructions, Cycles}
 use Rattle.c65_sim.specs.declared.stop.Stop.{Stop}
 use Rattle.c65_sim.specs.declared.stop.Stop.TheVariants.{Exit, Limit, HardStack, Illegal, ReadFault, WriteFault}
 use Rattle.c65_sim.specs.View.{ComputerView}
 use Rattle.c65_sim.specs.Budgets.{number_of, price_of, spent_after, is_too_deep, start_of, IsFree}
-use Rattle.c65_sim.specs.Turns.{IsRest, EndIsTold, moment, TurnsBy, Turns, Stops, ReadFails, WriteFails}
+use Rattle.c65_sim.specs.Turns.{IsRest, EndIsTold, moment, Turns}
 use Rattle.c65_sim.specs.Runs.{retold, StandAt, FailsToRead, FailsToWrite, IsRefused, EndsBy, Goes, answer_of}
 use Rattle.c65_sim.proofs.TurnLaws.{prepend_told-nil, at_exit, stopped_turn}
 use Rattle.c65_sim.proofs.TakeLaws.{prepend_told-append}

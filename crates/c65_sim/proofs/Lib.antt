@@ -4,3 +4,4 @@ pub mod TakeLaws
 pub mod TurnLaws
 pub mod Legs
 pub mod RunLaws
+pub mod SumLaws

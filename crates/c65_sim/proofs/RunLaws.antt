@@ -1,5 +1,5 @@
 -- A call of `run` from the rows that its computer did.
-use Rattle.std.proofs.Common.{◌≡◌, ℕ, ◌+◌, ◌<◌, ◌^◌, List, Bool, false, Option, Some, None, Result, Ok, Err, ap, sym, refl, subst, ◌∙◌, arith}
+use Rattle.std.proofs.Common.{◌≡◌, ℕ, ◌+◌, ◌<◌, ◌^◌, List, Bool, false, Option, None, Result, Ok, ap, sym, subst, ◌∙◌, arith}
 use Rattle.c65_base.specs.declared.refusal.Refusal.{Refusal}
 use Rattle.c65_mach.specs.State.{State}
 use Rattle.c65_mach.specs.Run.{Setting}

@@ -1,9 +1,9 @@
 -- Laws of bytes that are read.
-use Rattle.std.proofs.Common.{◌≡◌, ℕ, ◌+◌, ◌-◌, ◌<◌, ◌≤◌, List, [], ◌∷◌, ◌++◌, length, take, drop, Bool, true, false, Option, Some, None, ap, sym, refl, ◌∙◌, append_assoc, arith}
-use Rattle.std.proofs.lemmas.List.{take_at, length-take-le, take-append-le}
+use Rattle.std.proofs.Common.{◌≡◌, ℕ, ◌+◌, ◌-◌, ◌≤◌, List, ◌++◌, length, take, Option, Some, None, ap, sym, refl, ◌∙◌, append_assoc}
+use Rattle.std.proofs.lemmas.List.{length-take-le, take-append-le}
 use Rattle.std.proofs.Math.Seq.{take-append-add}
 use borrow.Rule.Slice.PartMut.{put_mid, post_of}
-use Rattle.c65_io.specs.Told.{prepend_told, IsAtEnd}
+use Rattle.c65_io.specs.Told.{prepend_told}
 
 pub prepend_told-append : (xs ys : List ℕ) (told : Option (List ℕ)) → prepend_told xs (prepend_told ys told) ≡ prepend_told (xs ++ ys) told
 prepend_told-append xs ys None = refl

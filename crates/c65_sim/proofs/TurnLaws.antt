@@ -1,5 +1,5 @@
 -- Laws of turns.
-use Rattle.std.proofs.Common.{◌≡◌, ◌⊎◌, inl, inr, ℕ, ◌+◌, ◌<◌, ◌≤◌, List, [], ◌∷◌, ◌++◌, length, take, drop, Bool, true, false, cond, Option, Some, None, Result, Ok, Err, ap, sym, refl, subst, ◌∙◌, arith, eqb}
+use Rattle.std.proofs.Common.{◌≡◌, inl, inr, ℕ, ◌<◌, ◌≤◌, List, [], ◌++◌, length, take, drop, Bool, true, false, Option, Some, None, Ok, Err, ap, sym, refl, subst, ◌∙◌, arith}
 use Rattle.std.specs.Prelude.{if◌then◌else◌, ◌==◌, ◌&&◌}
 use Rattle.std.proofs.lemmas.Bool.{false≢true, eqb-true, eq-eqb, cases_lt}
 use Rattle.std.proofs.lemmas.Bool.Decides.{eqb_tells}
@@ -7,15 +7,15 @@ use Rattle.c65_sim.specs.Budgets.{is_too_deep}
 use Rattle.std.proofs.lemmas.List.{append-nil, length-take-le, take_at, take_all, drop_all}
 use Rattle.std.proofs.Math.Seq.{drop-append_seam}
 use Rattle.c65_base.specs.declared.refusal.Refusal.{Refusal}
-use Rattle.c65_io.specs.Told.{append_told, prepend_told, IsAtEnd}
+use Rattle.c65_io.specs.Told.{append_told, prepend_told}
 use Rattle.c65_io.proofs.ToldLaws.{append_told-nil}
 use Rattle.c65_mach.specs.declared.rows.Row.{Row}
-use Rattle.c65_mach.specs.State.{State, Memory}
-use Rattle.c65_mach.specs.Step.{row_at, step, step_by, Steps, done, cycles_of}
+use Rattle.c65_mach.specs.State.{State}
+use Rattle.c65_mach.specs.Step.{row_at, step, step_by, Steps, cycles_of}
 use Rattle.c65_mach.specs.Hooks.{ax, descriptor_of, buffer_of, popped, opened, closed, hooked, read_into, written, not_served, bytes_to_write, given_args, put_bytes}
 use Rattle.c65_mach.specs.Run.{Setting, Moment, Progress, Running, Ended, Stopped, turn, row_done, reads, writes, is_hook, next_cycles, row_cycles}
 use Rattle.c65_sim.specs.View.{ComputerView}
-use Rattle.c65_sim.specs.Turns.{IsRest, EndIsTold, moment, TurnsBy, Reads, Writes, Takes}
+use Rattle.c65_sim.specs.Turns.{IsRest, EndIsTold, moment, TurnsBy, Takes}
 
 pub prepend_told-nil : (told : Option (List ℕ)) → told ≡ prepend_told [] told
 prepend_told-nil None = refl

@@ -1,5 +1,5 @@
 -- When a row may be done: budgets, the guard of the hardware stack, and the count of rows.
-use Rattle.std.specs.Prelude.{◌≡◌, ℕ, ◌+◌, ◌-◌, ◌^◌, ◌<◌, Bool, true, false, ◌&&◌, List, [], Option, Some, None, if◌then◌else◌, nat_lt}
+use Rattle.std.specs.Prelude.{◌≡◌, ℕ, ◌+◌, ◌-◌, ◌^◌, ◌<◌, Bool, false, ◌&&◌, List, [], Option, Some, None, if◌then◌else◌, nat_lt}
 use Rattle.c65_mach.specs.declared.rows.Row.{Row}
 use Rattle.c65_mach.specs.State.{State}
 use Rattle.c65_mach.specs.Step.{row_at, pushes}

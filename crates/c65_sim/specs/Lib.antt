@@ -2,3 +2,4 @@ pub mod View
 pub mod Budgets
 pub mod Turns
 pub mod Runs
+pub mod Laws

@@ -1,5 +1,5 @@
 -- What a call of `run` does: rows of the run's definition, up to its budget.
-use Rattle.std.specs.Prelude.{◌≡◌, ℕ, ◌+◌, ◌-◌, ◌^◌, ◌<◌, ◌≤◌, ◌⊎◌, Bool, true, false, List, [], ◌++◌, take, drop, min, Option, Some, None, Result, Ok, Err}
+use Rattle.std.specs.Prelude.{◌≡◌, ℕ, ◌+◌, ◌-◌, ◌^◌, ◌<◌, ◌≤◌, ◌⊎◌, Bool, true, List, ◌++◌, take, drop, min, Option, Some, None, Result, Ok, Err}
 use Rattle.c65_base.specs.declared.refusal.Refusal.{Refusal}
 use Rattle.c65_base.specs.declared.refusal.Refusal.TheVariants.{OutOfMemory, ReadFault, WriteFault, TooLarge, HardStack, Limit, Illegal}
 use Rattle.c65_base.specs.declared.refusal.Size.TheVariants.{Arguments}

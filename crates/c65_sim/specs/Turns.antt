@@ -1,11 +1,11 @@
 -- One turn of the computer: a row, or the hook at pc, over devices that may tell nothing.
-use Rattle.std.specs.Prelude.{◌≡◌, ℕ, ◌+◌, ◌<◌, ◌≤◌, Bool, true, false, ◌&&◌, List, [], ◌++◌, length, take, Option, Some, None, Result, Ok, Err, ⊤}
+use Rattle.std.specs.Prelude.{◌≡◌, ℕ, ◌<◌, ◌≤◌, Bool, true, false, ◌&&◌, List, [], ◌++◌, length, take, Option, None, Result, Ok, Err, ⊤}
 use Rattle.c65_io.specs.Causes.{Rose}
 use Rattle.c65_io.specs.Told.{append_told, prepend_told, IsAtEnd}
 use Rattle.c65_mach.specs.State.{State}
 use Rattle.c65_mach.specs.Step.{row_at}
 use Rattle.c65_mach.specs.Hooks.{ax, descriptor_of, bytes_to_write}
-use Rattle.c65_mach.specs.Run.{Setting, Moment, Progress, Running, turn, is_hook, next_cycles}
+use Rattle.c65_mach.specs.Run.{Setting, Moment, Running, turn, is_hook, next_cycles}
 use Rattle.c65_sim.specs.declared.stop.Stop.{Stop}
 use Rattle.c65_sim.specs.declared.stop.Stop.TheVariants.{Exit, Limit, HardStack, Illegal, ReadFault, WriteFault}
 use Rattle.c65_sim.specs.View.{ComputerView}

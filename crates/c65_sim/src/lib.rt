@@ -2,9 +2,11 @@
 #![tactic(auto)]
 
 mod hooks;
+mod laws;
 mod run;
 mod stop;
 #[cfg(test)]
 mod tests;
 
+pub use laws::two_runs_are_one;
 pub use run::{Budget, Run};

@@ -1,5 +1,5 @@
 use Rattle.std.proofs.Common.{rules, arith, ◌≤◌, length, ◌∙◌}
-use Rattle.c65_sim.proofs.TakeLaws.{filled_more, failed_after}
+use Rattle.c65_sim.proofs.TakeLaws.{filled_more}
 use Rattle.c65_sim.proofs.hooks.fill.Goals as goal
 
 pub loop-at-preserved : goal.loop-at-preserved

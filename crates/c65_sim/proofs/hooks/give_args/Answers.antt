@@ -1,9 +1,9 @@
 use Rattle.std.proofs.Common.{◌≡◌, ◌+◌, ◌-◌, ◌*◌, ◌%◌, ◌≤◌, length, get_or, drop, ap, sym, refl, ◌∙◌, arith, ℕ, List}
 use Rattle.std.proofs.lemmas.List.Sums.{sum_by-drop_more}
 use Rattle.std.specs.Prelude.{sum_by}
-use Rattle.c65_mach.specs.State.{State, Memory, write}
+use Rattle.c65_mach.specs.State.{State, write}
 use Rattle.c65_mach.specs.Step.{after, word_at}
-use Rattle.c65_mach.specs.Hooks.{put_bytes, put_word, hooked}
+use Rattle.c65_mach.specs.Hooks.{put_bytes, put_word}
 use Rattle.c65_sim.proofs.ArgLaws.{laid_more, given}
 use Rattle.c65_sim.proofs.Bytes.{memory_again}
 use Rattle.c65_sim.proofs.hooks.give_args.Goals as goal

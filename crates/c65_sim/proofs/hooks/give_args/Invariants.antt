@@ -1,4 +1,4 @@
-use Rattle.std.proofs.Common.{◌≡◌, ◌+◌, ◌≤◌, drop, length, ℕ, List}
+use Rattle.std.proofs.Common.{◌≡◌, ◌+◌, ◌≤◌, drop, length}
 use Rattle.std.specs.Prelude.{sum_by}
 use Rattle.c65_mach.specs.Hooks.{laid_args}
 use Rattle.c65_sim.proofs.hooks.give_args.Given as goal

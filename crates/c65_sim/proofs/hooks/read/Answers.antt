@@ -1,8 +1,7 @@
-use Rattle.std.proofs.Common.{◌≡◌, ◌≤◌, length, take, ap, sym, ◌∙◌, arith}
+use Rattle.std.proofs.Common.{◌≡◌, ◌≤◌, length, take, ap, ◌∙◌, arith}
 use Rattle.std.proofs.lemmas.List.{length-take-le}
 use Rattle.std.specs.Prelude.{◌==◌, true, false}
-use Rattle.c65_mach.specs.State.{State}
-use Rattle.c65_mach.specs.Hooks.{descriptor_of, buffer_of, ax, put_bytes, read_into}
+use Rattle.c65_mach.specs.Hooks.{descriptor_of, buffer_of, ax, put_bytes}
 use Rattle.c65_sim.proofs.TurnLaws.{read_done, read_refused, read_machine, is_at, is_not_at}
 use Rattle.c65_sim.proofs.hooks.read.Goals as goal
 

@@ -1,8 +1,7 @@
-use Rattle.std.proofs.Common.{◌≡◌, ◌≤◌, length, take, ap, sym, ◌∙◌, arith}
+use Rattle.std.proofs.Common.{◌≡◌, ◌≤◌, length, take, ap, ◌∙◌, arith}
 use Rattle.std.proofs.lemmas.List.{length-take-le}
 use Rattle.std.specs.Prelude.{◌==◌, true, false}
-use Rattle.c65_mach.specs.State.{State}
-use Rattle.c65_mach.specs.Hooks.{descriptor_of, buffer_of, ax, bytes_to_write, bytes_from, hooked, written, popped}
+use Rattle.c65_mach.specs.Hooks.{descriptor_of, buffer_of, ax, bytes_to_write, bytes_from, hooked, written}
 use Rattle.c65_sim.proofs.TurnLaws.{write_done, write_refused, is_at, is_not_at}
 use Rattle.c65_sim.proofs.hooks.write.Goals as goal
 

@@ -1,4 +1,4 @@
-use Rattle.std.proofs.Common.{◌≡◌, ap, sym, ◌∙◌, refl, false}
+use Rattle.std.proofs.Common.{◌≡◌, ap, sym, ◌∙◌, false}
 use Rattle.std.specs.Prelude.{◌&&◌}
 use Rattle.c65_mach.specs.Run.{Setting, is_hook}
 use Rattle.c65_mach.specs.State.{State}

@@ -1,7 +1,6 @@
-use Rattle.std.proofs.Common.{◌≡◌, ◌+◌, ◌<◌, ◌^◌, Result, Ok, Err, ℕ, ap, sym, refl, ◌∙◌, arith}
-use Rattle.c65_base.specs.declared.refusal.Refusal.{Refusal}
+use Rattle.std.proofs.Common.{◌≡◌, Ok, Err, ap, sym, refl, ◌∙◌}
 use Rattle.c65_sim.specs.Runs.{answer_of}
-use Rattle.c65_sim.proofs.RunLaws.{finished, room_for_exit}
+use Rattle.c65_sim.proofs.RunLaws.{finished}
 use Rattle.c65_sim.proofs.run.Run.run.Goals as goal
 
 pub returns-in-Ok-clause-run : goal.returns-in-Ok-clause-run
