@@ -97,8 +97,8 @@ bounded false b bs k f g h = or_bound k (literal_of (b ∷ bs)) (bare_of b bs) g
 bare_some : (b : ℕ) (bs : List ℕ) → 1 ≤ (bare_of b bs).1
 bare_some b bs = by (b == 10) (is_letter b) (begins_number b bs)
   where
-    other : (n : ℕ) → 1 ≤ (punct_or_other n).1
-    other n = pick (n == 0) refl
+    which : (n : ℕ) → 1 ≤ (punct_or_other n).1
+    which n = pick (n == 0) refl
       where
         pick : (t : Bool) → (n == 0) ≡ t → (let f : Found = if t then (Other, 1) else (Punct, n) in 1 ≤ f.1)
         pick true e = omega arith
@@ -108,7 +108,7 @@ bare_some b bs = by (b == 10) (is_letter b) (begins_number b bs)
     by true u v = omega arith
     by false true v = omega (arith, run_bound 1 is_word 0 bs refl (omega arith))
     by false false true = omega (arith, tail_bound 1 b 0 bs refl (omega arith))
-    by false false false = other (punct_length (b ∷ bs))
+    by false false false = which (punct_length (b ∷ bs))
 
 token_some : (header : Bool) (b : ℕ) (bs : List ℕ) → 1 ≤ (token_of header b bs).1
 token_some header b bs = bounded header b bs 1 (headers_some b bs) (literals_some b bs) (bare_some b bs)
@@ -161,9 +161,9 @@ number_bound : (header : Bool) (b j : ℕ) (bs : List ℕ) → begins_number b (
 number_bound header b j bs l a w =
     let f = number_first b (take j bs) l in
     bounded header b bs (suc j)
-      (λ s e. absurd (no_header_of b bs s (no_header b bs (apart is_number_byte b 60 f refl) (apart is_number_byte b 34 f refl)) e))
-      (λ s e. absurd (no_literal_of b bs s (apart is_number_byte b 76 f refl) (apart_quote is_number_byte b f refl refl) e))
-      bare
+    (λ s e. absurd (no_header_of b bs s (no_header b bs (apart is_number_byte b 60 f refl) (apart is_number_byte b 34 f refl)) e))
+    (λ s e. absurd (no_literal_of b bs s (apart is_number_byte b 76 f refl) (apart_quote is_number_byte b f refl refl) e))
+    bare
   where
     digit_take : (j : ℕ) (bs : List ℕ) → begins_digit (take j bs) ≡ true → begins_digit bs ≡ true
     digit_take zero bs h = absurd cc
@@ -211,9 +211,9 @@ punct_header b j bs h w s e = by (b == 60) refl
 punct_token : (header : Bool) (b j : ℕ) (bs : List ℕ) → is_punct (b ∷ take j bs) ≡ true → j ≤ length bs → suc j ≤ (token_of header b bs).1
 punct_token header b j bs h w =
     bounded header b bs (suc j)
-      (punct_header b j bs h w)
-      (λ s e. absurd (no_literal_of b bs s (punct_fails (λ x. x == 76) b refl (punct_first b (take j bs) h)) (punct_fails is_quote b refl (punct_first b (take j bs) h)) e))
-      (bare (begins_number b bs) refl)
+    (punct_header b j bs h w)
+    (λ s e. absurd (no_literal_of b bs s (punct_fails (λ x. x == 76) b refl (punct_first b (take j bs) h)) (punct_fails is_quote b refl (punct_first b (take j bs) h)) e))
+    (bare (begins_number b bs) refl)
   where
     short : (j : ℕ) (bs : List ℕ) → begins_digit bs ≡ true → is_punct (46 ∷ take j bs) ≡ true → j ≤ length bs → j ≡ 0
     short zero bs d h w = refl
@@ -296,8 +296,8 @@ text_free true b zero bs h c e = absurd cc
 text_free true b (suc j) [] h c e = absurd cc
 text_free true b (suc j) (x ∷ bs) h c e = subst (λ (y : ℕ). begins_header (y ∷ x ∷ bs) ≡ false) (sym e) (subst (λ (y : ℕ). is_header_quote true (y ∷ x ∷ take j bs) ≡ false) e h)
 
-module _ (header : Bool) (b j : ℕ) (bs : List ℕ) (other : PpKind) (w : j ≤ length bs) where
-  longest_by : (e : Bool) → is_line_end (b ∷ take j bs) ≡ e → (x : Bool) → header && is_header (b ∷ take j bs) ≡ x → (c : Bool) → is_literal 39 (b ∷ take j bs) ≡ c → (q : Bool) → is_literal 34 (b ∷ take j bs) ≡ q → (k : Bool) → is_header_quote header (b ∷ take j bs) ≡ k → (n : Bool) → is_name (b ∷ take j bs) ≡ n → (u : Bool) → is_number (b ∷ take j bs) ≡ u → (p : Bool) → is_punct (b ∷ take j bs) ≡ p → (o : Bool) → is_other (b ∷ take j bs) ≡ o → class_by e x c (q && not k) n u p o ≡ Some other → suc j ≤ (token_of header b bs).1
+module _ (header : Bool) (b j : ℕ) (bs : List ℕ) (which : PpKind) (w : j ≤ length bs) where
+  longest_by : (e : Bool) → is_line_end (b ∷ take j bs) ≡ e → (x : Bool) → header && is_header (b ∷ take j bs) ≡ x → (c : Bool) → is_literal 39 (b ∷ take j bs) ≡ c → (q : Bool) → is_literal 34 (b ∷ take j bs) ≡ q → (k : Bool) → is_header_quote header (b ∷ take j bs) ≡ k → (n : Bool) → is_name (b ∷ take j bs) ≡ n → (u : Bool) → is_number (b ∷ take j bs) ≡ u → (p : Bool) → is_punct (b ∷ take j bs) ≡ p → (o : Bool) → is_other (b ∷ take j bs) ≡ o → class_by e x c (q && not k) n u p o ≡ Some which → suc j ≤ (token_of header b bs).1
   longest_by true e x f c g q i k l n m u r p s o t h = let z = first_only is_line_end b j bs (λ _ _. refl) e w in omega (arith, z, token_some header b bs)
   longest_by false e true f c g q i k l n m u r p s o t h =
       let y = both header (is_header (b ∷ take j bs)) f in
@@ -327,8 +327,8 @@ module _ (header : Bool) (b j : ℕ) (bs : List ℕ) (other : PpKind) (w : j ≤
   longest_by false e false f false g false i k l false m false r false s true t h = let z = first_only is_other b j bs (λ _ _. refl) t w in omega (arith, z, token_some header b bs)
   longest_by false e false f false g false i k l false m false r false s false t h = absurd cc
 
-longest : (header : Bool) (b j : ℕ) (bs : List ℕ) (other : PpKind) → j ≤ length bs → class_of header (b ∷ take j bs) ≡ Some other → suc j ≤ (token_of header b bs).1
-longest header b j bs other w h = longest_by header b j bs other w (is_line_end (b ∷ take j bs)) refl (header && is_header (b ∷ take j bs)) refl (is_literal 39 (b ∷ take j bs)) refl (is_literal 34 (b ∷ take j bs)) refl (is_header_quote header (b ∷ take j bs)) refl (is_name (b ∷ take j bs)) refl (is_number (b ∷ take j bs)) refl (is_punct (b ∷ take j bs)) refl (is_other (b ∷ take j bs)) refl h
+longest : (header : Bool) (b j : ℕ) (bs : List ℕ) (which : PpKind) → j ≤ length bs → class_of header (b ∷ take j bs) ≡ Some which → suc j ≤ (token_of header b bs).1
+longest header b j bs which w h = longest_by header b j bs which w (is_line_end (b ∷ take j bs)) refl (header && is_header (b ∷ take j bs)) refl (is_literal 39 (b ∷ take j bs)) refl (is_literal 34 (b ∷ take j bs)) refl (is_header_quote header (b ∷ take j bs)) refl (is_name (b ∷ take j bs)) refl (is_number (b ∷ take j bs)) refl (is_punct (b ∷ take j bs)) refl (is_other (b ∷ take j bs)) refl h
 
 -- what the lengths give is a spelling
 pub record Spells (header : Bool) (b : ℕ) (bs : List ℕ) (t : Found) : Type 0 where
@@ -417,8 +417,8 @@ spells_literal header b bs s h e = by (literals b bs s e)
     by (inr q) =
         let k = head b q.quote bs q.rest q.bs_is in
         spells_plain header b bs q.m s (ap is_quote k.0 ∙ q.quote_is) h
-          (ap (λ (x : List ℕ). close_from 1 b false false x) k.1 ∙ ap (λ (x : ℕ). close_from 1 x false false q.rest) k.0 ∙ q.found)
-          (q.s_is ∙ ap (λ (x : ℕ). (quote_kind x, q.m)) (sym k.0))
+        (ap (λ (x : List ℕ). close_from 1 b false false x) k.1 ∙ ap (λ (x : ℕ). close_from 1 x false false q.rest) k.0 ∙ q.found)
+        (q.s_is ∙ ap (λ (x : ℕ). (quote_kind x, q.m)) (sym k.0))
 
 -- a number begins with its first two bytes
 number_front : (b : ℕ) (bs : List ℕ) (j : ℕ) → begins_number b bs ≡ true → (begins_digit bs ≡ true → 0 < j) → begins_number b (take j bs) ≡ true
@@ -541,6 +541,6 @@ token_is header b bs w =
       longest = no_longer;
     }
   where
-    no_longer : (m : ℕ) (other : PpKind) → m ≤ length (b ∷ bs) → class_of header (take m (b ∷ bs)) ≡ Some other → m ≤ (token_of header b bs).1
-    no_longer zero other l h = omega arith
-    no_longer (suc j) other l h = longest header b j bs other (omega arith) h
+    no_longer : (m : ℕ) (which : PpKind) → m ≤ length (b ∷ bs) → class_of header (take m (b ∷ bs)) ≡ Some which → m ≤ (token_of header b bs).1
+    no_longer zero which l h = omega arith
+    no_longer (suc j) which l h = longest header b j bs which (omega arith) h

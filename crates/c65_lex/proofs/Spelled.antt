@@ -54,11 +54,11 @@ pub spelled_name : (header : Bool) (b : ℕ) (bs : List ℕ) → is_letter b ≡
 spelled_name header b bs l a =
     let x : b ∷ bs ≡ b ∷ bs = refl in
     at_name (is_line_end (b ∷ bs)) (header && is_header (b ∷ bs)) (is_literal 39 (b ∷ bs)) (is_literal 34 (b ∷ bs) && not (is_header_quote header (b ∷ bs))) (is_name (b ∷ bs)) (is_number (b ∷ bs)) (is_punct (b ∷ bs)) (is_other (b ∷ bs))
-      (no_line_end b bs (apart is_letter b 10 l refl))
-      (no_header_here header b bs (no_header b bs (apart is_letter b 60 l refl) (apart is_letter b 34 l refl)))
-      (no_literal_here 39 b bs (apart is_letter b 39 l refl) (and_false (b == 76) (is_quoted 39 bs) (word_no_quote 39 bs refl a)))
-      (and_first (is_literal 34 (b ∷ bs)) (not (is_header_quote header (b ∷ bs))) (no_literal_here 34 b bs (apart is_letter b 34 l refl) (and_false (b == 76) (is_quoted 34 bs) (word_no_quote 34 bs refl a))))
-      (rw (l, a) refl)
+    (no_line_end b bs (apart is_letter b 10 l refl))
+    (no_header_here header b bs (no_header b bs (apart is_letter b 60 l refl) (apart is_letter b 34 l refl)))
+    (no_literal_here 39 b bs (apart is_letter b 39 l refl) (and_false (b == 76) (is_quoted 39 bs) (word_no_quote 39 bs refl a)))
+    (and_first (is_literal 34 (b ∷ bs)) (not (is_header_quote header (b ∷ bs))) (no_literal_here 34 b bs (apart is_letter b 34 l refl) (and_false (b == 76) (is_quoted 34 bs) (word_no_quote 34 bs refl a))))
+    (rw (l, a) refl)
 
 abbrev pub is_number_byte : ℕ → Bool
 is_number_byte b = is_digit b || (b == 46)
@@ -78,12 +78,12 @@ spelled_number header b bs l a =
     let f = number_first b bs l in
     let k : (b == 76) ≡ false = apart is_number_byte b 76 f refl in
     at_number (is_line_end (b ∷ bs)) (header && is_header (b ∷ bs)) (is_literal 39 (b ∷ bs)) (is_literal 34 (b ∷ bs) && not (is_header_quote header (b ∷ bs))) (is_name (b ∷ bs)) (is_number (b ∷ bs)) (is_punct (b ∷ bs)) (is_other (b ∷ bs))
-      (no_line_end b bs (apart is_number_byte b 10 f refl))
-      (no_header_here header b bs (no_header b bs (apart is_number_byte b 60 f refl) (apart is_number_byte b 34 f refl)))
-      (no_literal_here 39 b bs (apart is_number_byte b 39 f refl) (and_first (b == 76) (is_quoted 39 bs) k))
-      (and_first (is_literal 34 (b ∷ bs)) (not (is_header_quote header (b ∷ bs))) (no_literal_here 34 b bs (apart is_number_byte b 34 f refl) (and_first (b == 76) (is_quoted 34 bs) k)))
-      (and_first (is_letter b) (are_all is_word bs) (number_no_letter b f))
-      (rw (l, a) refl)
+    (no_line_end b bs (apart is_number_byte b 10 f refl))
+    (no_header_here header b bs (no_header b bs (apart is_number_byte b 60 f refl) (apart is_number_byte b 34 f refl)))
+    (no_literal_here 39 b bs (apart is_number_byte b 39 f refl) (and_first (b == 76) (is_quoted 39 bs) k))
+    (and_first (is_literal 34 (b ∷ bs)) (not (is_header_quote header (b ∷ bs))) (no_literal_here 34 b bs (apart is_number_byte b 34 f refl) (and_first (b == 76) (is_quoted 34 bs) k)))
+    (and_first (is_letter b) (are_all is_word bs) (number_no_letter b f))
+    (rw (l, a) refl)
 
 -- nothing is closed without its closing quote
 no_close : (quote : ℕ) (plain taken : Bool) (bs : List ℕ) → are_all (λ x. not (x == quote)) bs ≡ true → is_closed quote plain taken bs ≡ false
@@ -113,13 +113,13 @@ spelled_punct header b bs h g =
     let f = punct_first b bs h in
     let k : (b == 76) ≡ false = punct_fails (λ x. x == 76) b refl f in
     at_punct (is_line_end (b ∷ bs)) (header && is_header (b ∷ bs)) (is_literal 39 (b ∷ bs)) (is_literal 34 (b ∷ bs) && not (is_header_quote header (b ∷ bs))) (is_name (b ∷ bs)) (is_number (b ∷ bs)) (is_punct (b ∷ bs)) (is_other (b ∷ bs))
-      (no_line_end b bs (punct_fails (λ x. x == 10) b refl f))
-      (punct_no_header header b bs h)
-      (no_literal_here 39 b bs (punct_fails (λ x. x == 39) b refl f) (and_first (b == 76) (is_quoted 39 bs) k))
-      (and_first (is_literal 34 (b ∷ bs)) (not (is_header_quote header (b ∷ bs))) (no_literal_here 34 b bs (punct_fails (λ x. x == 34) b refl f) (and_first (b == 76) (is_quoted 34 bs) k)))
-      (and_first (is_letter b) (are_all is_word bs) (punct_fails is_letter b refl f))
-      (and_first (begins_number b bs) (is_tail b bs) g)
-      h
+    (no_line_end b bs (punct_fails (λ x. x == 10) b refl f))
+    (punct_no_header header b bs h)
+    (no_literal_here 39 b bs (punct_fails (λ x. x == 39) b refl f) (and_first (b == 76) (is_quoted 39 bs) k))
+    (and_first (is_literal 34 (b ∷ bs)) (not (is_header_quote header (b ∷ bs))) (no_literal_here 34 b bs (punct_fails (λ x. x == 34) b refl f) (and_first (b == 76) (is_quoted 34 bs) k)))
+    (and_first (is_letter b) (are_all is_word bs) (punct_fails is_letter b refl f))
+    (and_first (begins_number b bs) (is_tail b bs) g)
+    h
 
 stray : (b : ℕ) → (b == 10) ≡ false → is_white b ≡ false → is_letter b ≡ false → is_digit b ≡ false → is_punct1 b ≡ false → is_stray b ≡ true
 stray b a w l d p = rw (a, w, l, d, p) refl
@@ -127,14 +127,14 @@ stray b a w l d p = rw (a, w, l, d, p) refl
 pub spelled_other : (header : Bool) (b : ℕ) → (b == 10) ≡ false → is_white b ≡ false → is_letter b ≡ false → is_digit b ≡ false → is_punct1 b ≡ false → class_of header (b ∷ []) ≡ Some Other
 spelled_other header b a w l d p =
     at_other (is_line_end (b ∷ [])) (header && is_header (b ∷ [])) (is_literal 39 (b ∷ [])) (is_literal 34 (b ∷ []) && not (is_header_quote header (b ∷ []))) (is_name (b ∷ [])) (is_number (b ∷ [])) (is_punct (b ∷ [])) (is_other (b ∷ []))
-      a
-      (and_false header (is_header (b ∷ [])) refl)
-      (none_of 39)
-      (and_first (is_literal 34 (b ∷ [])) (not (is_header_quote header (b ∷ []))) (none_of 34))
-      (rw l refl)
-      (and_first (begins_number b []) (is_tail b []) (rw d (and_false (b == 46) false refl)))
-      p
-      (stray b a w l d p)
+    a
+    (and_false header (is_header (b ∷ [])) refl)
+    (none_of 39)
+    (and_first (is_literal 34 (b ∷ [])) (not (is_header_quote header (b ∷ []))) (none_of 34))
+    (rw l refl)
+    (and_first (begins_number b []) (is_tail b []) (rw d (and_false (b == 46) false refl)))
+    p
+    (stray b a w l d p)
   where
     none_of : (quote : ℕ) → is_literal quote (b ∷ []) ≡ false
     none_of quote = rw (and_false (b == quote) false refl, and_false (b == 76) false refl) refl
@@ -150,17 +150,17 @@ spelled_header b (x ∷ bs) h c =
 pub spelled_char : (header : Bool) (bs : List ℕ) → is_closed 39 false false bs ≡ true → class_of header (39 ∷ bs) ≡ Some Char
 spelled_char header bs c =
     at_char (is_line_end (39 ∷ bs)) (header && is_header (39 ∷ bs)) (is_literal 39 (39 ∷ bs)) (is_literal 34 (39 ∷ bs) && not (is_header_quote header (39 ∷ bs))) (is_name (39 ∷ bs)) (is_number (39 ∷ bs)) (is_punct (39 ∷ bs)) (is_other (39 ∷ bs))
-      (no_line_end 39 bs refl)
-      (no_header_here header 39 bs (no_header 39 bs refl refl))
-      (rw c refl)
+    (no_line_end 39 bs refl)
+    (no_header_here header 39 bs (no_header 39 bs refl refl))
+    (rw c refl)
 
 pub spelled_text : (header : Bool) (bs : List ℕ) → is_closed 34 false false bs ≡ true → header && begins_header (34 ∷ bs) ≡ false → class_of header (34 ∷ bs) ≡ Some Text
 spelled_text header bs c k =
     at_text (is_line_end (34 ∷ bs)) (header && is_header (34 ∷ bs)) (is_literal 39 (34 ∷ bs)) (is_literal 34 (34 ∷ bs) && not (is_header_quote header (34 ∷ bs))) (is_name (34 ∷ bs)) (is_number (34 ∷ bs)) (is_punct (34 ∷ bs)) (is_other (34 ∷ bs))
-      (no_line_end 34 bs refl)
-      (whole header (begins_header (34 ∷ bs)) (is_closed 34 true false bs) k)
-      refl
-      (rw c (quote_out header (begins_header (34 ∷ bs)) k))
+    (no_line_end 34 bs refl)
+    (whole header (begins_header (34 ∷ bs)) (is_closed 34 true false bs) k)
+    refl
+    (rw c (quote_out header (begins_header (34 ∷ bs)) k))
   where
     whole : (h b c : Bool) → h && b ≡ false → h && (b && c) ≡ false
     whole true b c e = and_first b c e
@@ -173,17 +173,17 @@ spelled_text header bs c k =
 pub spelled_wide_char : (header : Bool) (bs : List ℕ) → is_closed 39 false false bs ≡ true → class_of header (76 ∷ 39 ∷ bs) ≡ Some Char
 spelled_wide_char header bs c =
     at_char false (header && is_header (76 ∷ 39 ∷ bs)) (is_literal 39 (76 ∷ 39 ∷ bs)) (is_literal 34 (76 ∷ 39 ∷ bs) && not (is_header_quote header (76 ∷ 39 ∷ bs))) (is_name (76 ∷ 39 ∷ bs)) (is_number (76 ∷ 39 ∷ bs)) (is_punct (76 ∷ 39 ∷ bs)) (is_other (76 ∷ 39 ∷ bs))
-      refl
-      (no_header_here header 76 (39 ∷ bs) refl)
-      (rw c refl)
+    refl
+    (no_header_here header 76 (39 ∷ bs) refl)
+    (rw c refl)
 
 pub spelled_wide_text : (header : Bool) (bs : List ℕ) → is_closed 34 false false bs ≡ true → class_of header (76 ∷ 34 ∷ bs) ≡ Some Text
 spelled_wide_text header bs c =
     at_text false (header && is_header (76 ∷ 34 ∷ bs)) (is_literal 39 (76 ∷ 34 ∷ bs)) (is_literal 34 (76 ∷ 34 ∷ bs) && not (is_header_quote header (76 ∷ 34 ∷ bs))) (is_name (76 ∷ 34 ∷ bs)) (is_number (76 ∷ 34 ∷ bs)) (is_punct (76 ∷ 34 ∷ bs)) (is_other (76 ∷ 34 ∷ bs))
-      refl
-      (no_header_here header 76 (34 ∷ bs) refl)
-      refl
-      (rw c (out header))
+    refl
+    (no_header_here header 76 (34 ∷ bs) refl)
+    refl
+    (rw c (out header))
   where
     out : (h : Bool) → not ((h && false) && false) ≡ true
     out true = refl

@@ -21,7 +21,7 @@ none_white c cs h = by (is_white c.byte) refl (is_long c) refl
 pub token_here : (header : Bool) (cells : List Cell) (c : Cell) (cs : List Cell) → cells ≡ c ∷ cs → blank_of cells ≡ none → IsToken header (bytes cells) (token_of header c.byte (bytes cs)).0 (token_of header c.byte (bytes cs)).1
 token_here header cells c cs e h =
     subst (λ (x : List Cell). IsToken header (bytes x) (token_of header c.byte (bytes cs)).0 (token_of header c.byte (bytes cs)).1) (sym e)
-      (token_is header c.byte (bytes cs) (none_white c cs (subst (λ (x : List Cell). blank_of x ≡ none) e h)))
+    (token_is header c.byte (bytes cs) (none_white c cs (subst (λ (x : List Cell). blank_of x ≡ none) e h)))
 
 -- the spelling takes memory
 pub needs : (header : Bool) (start cells : List Cell) (n : ℕ) (kind : PpKind) (size : ℕ) → Blanks n start cells → blank_of cells ≡ none → IsToken header (bytes cells) kind size → NeedsMemory header start

@@ -5,3 +5,4 @@ pub mod Blanks
 pub mod Next
 pub mod Scanned
 pub mod Unread
+pub mod Text

@@ -69,7 +69,12 @@ fn skip(text: &[u8], from: Place) -> Skipped
 }
 
 /// Takes that many bytes, unless the line is too long at one of them.
-fn take(alloc: Global, text: &[u8], from: Place, count: usize) -> Result<Option<(Text, Place)>, AllocError>
+fn take(
+    alloc: Global,
+    text: &[u8],
+    from: Place,
+    count: usize,
+) -> Result<Option<(Text, Place)>, AllocError>
     ensures { IfOk result (IsTaken text.now count (ahead text.now from)) }
 {
     let mut spelling = Vec::new(alloc);

@@ -46,9 +46,15 @@ fn lists_tokens(rt: HostRuntime) -> Result<(), Fail> {
     let rows: [(&[u8], &[u8]); 20] = [
         (b"x+++y", b"N1:x|P1:++|P1:+|N1:y|E1:\n|"),
         (b"x+++++y\n", b"N1:x|P1:++|P1:++|P1:+|N1:y|E1:\n|"),
-        (b"1Ex 0xe+1 0x1f+1", b"D1:1Ex| D1:0xe+1| D1:0x1f|P1:+|D1:1|E1:\n|"),
+        (
+            b"1Ex 0xe+1 0x1f+1",
+            b"D1:1Ex| D1:0xe+1| D1:0x1f|P1:+|D1:1|E1:\n|",
+        ),
         (b".5 ... ..", b"D1:.5| P1:...| P1:.|P1:.|E1:\n|"),
-        (b">>=<<=->##>>#", b"P1:>>=|P1:<<=|P1:->|P1:##|P1:>>|P1:#|E1:\n|"),
+        (
+            b">>=<<=->##>>#",
+            b"P1:>>=|P1:<<=|P1:->|P1:##|P1:>>|P1:#|E1:\n|",
+        ),
         (
             b"a\\\nb 1\\\n2 +\\\n+ '\\\nx' \"s\\\nt\" /\\\n* c *\\\n/z",
             b"N1:ab| D2:12| P3:++| C4:'x'| T5:\"st\"| N8:z|E8:\n|",
@@ -60,7 +66,10 @@ fn lists_tokens(rt: HostRuntime) -> Result<(), Fail> {
         (b"a\r\nb\\\r\nc\r\n", b"N1:a|E1:\n|N2:bc|E3:\n|"),
         (b"a\rb", b"N1:a|O1:\r|N1:b|E1:\n|"),
         (b"@ \\ 'a", b"O1:@| O1:\\| O1:'|N1:a|E1:\n|"),
-        (b"L'a' L\"b\" L 'x' L'", b"C1:L'a'| T1:L\"b\"| N1:L| C1:'x'| N1:L|O1:'|E1:\n|"),
+        (
+            b"L'a' L\"b\" L 'x' L'",
+            b"C1:L'a'| T1:L\"b\"| N1:L| C1:'x'| N1:L|O1:'|E1:\n|",
+        ),
         (b"'\\'' \"\\\"\" ''", b"C1:'\\''| T1:\"\\\"\"| C1:''|E1:\n|"),
         (b"\"a\n\"b\"", b"O1:\"|N1:a|E1:\n|T2:\"b\"|E2:\n|"),
         (b"\xff \"\xff\"/*\xff*/", b"O1:\xff| T1:\"\xff\"| E1:\n|"),
@@ -131,23 +140,22 @@ fn refuses_a_long_line(rt: HostRuntime) -> Result<(), Fail> {
     Ok(())
 }
 
-/// A file of 1 MiB less a byte: 69,905 lines of eight tokens.
 #[test]
-fn lexes_a_large_file(rt: HostRuntime) -> Result<(), Fail> {
+fn lexes_many_lines(rt: HostRuntime) -> Result<(), Fail> {
     let alloc = rt.alloc();
     let mut text = Vec::new(alloc);
-    for _ in 0..69_905 {
+    for _ in 0..2_000 {
         text.extend_from_slice(b"int x/**/=1+y;\n")?;
     }
     let mut names = Names::new(alloc);
     let mut lexer = Lexer::new(alloc, text, 0);
     let mut count = 0u64;
-    for _ in 0..1_000_000 {
+    for before in 0..20_000u64 {
         if lexer.next(&mut names, false)?.is_none() {
+            count = before;
             break;
         }
-        count += 1;
     }
-    assert_eq!(rt; count, 559_240);
+    assert_eq!(rt; count, 16_000);
     Ok(())
 }

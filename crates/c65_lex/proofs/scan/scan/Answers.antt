@@ -16,7 +16,7 @@ returns-in_default-2 c =
     let s = c.in-Here.ensures in
     let cells : List Cell = ahead c.args.text.now c.in-Here.place in
     let t : IsToken c.args.header (bytes cells) c.token_at-kind.result.0 c.token_at-kind.result.1 =
-        subst (λ (x : Found). IsToken c.args.header (bytes cells) x.0 x.1) (sym c.token_at-kind.ensures) (token_here c.args.header cells (cell_of c.in-Some.first) (ahead c.args.text.now c.in-Some.first.rest) c.in-Some.ensures s.2) in
+    subst (λ (x : Found). IsToken c.args.header (bytes cells) x.0 x.1) (sym c.token_at-kind.ensures) (token_here c.args.header cells (cell_of c.in-Some.first) (ahead c.args.text.now c.in-Some.first.rest) c.in-Some.ensures s.2) in
     record { next = record { blanks = s.0; cells = cells; behind = s.1; stands = inr (s.2, c.token_at-kind.result.0, c.token_at-kind.result.1, t, rw c.in_default-2.is at c.in_ok-spelling.ensures) }; memory = tt }
 
 pub returns : goal.returns
@@ -24,7 +24,7 @@ returns c =
     let s = c.in-Here.ensures in
     let cells : List Cell = ahead c.args.text.now c.in-Here.place in
     let t : IsToken c.args.header (bytes cells) c.token_at-kind.result.0 c.token_at-kind.result.1 =
-        subst (λ (x : Found). IsToken c.args.header (bytes cells) x.0 x.1) (sym c.token_at-kind.ensures) (token_here c.args.header cells (cell_of c.in-Some.first) (ahead c.args.text.now c.in-Some.first.rest) c.in-Some.ensures s.2) in
+    subst (λ (x : Found). IsToken c.args.header (bytes cells) x.0 x.1) (sym c.token_at-kind.ensures) (token_here c.args.header cells (cell_of c.in-Some.first) (ahead c.args.text.now c.in-Some.first.rest) c.in-Some.ensures s.2) in
     let k = rw c.in-Some-2.is at c.in_ok-spelling.ensures in
     record { next = record { blanks = s.0; cells = cells; behind = s.1; stands = (s.2, s.3, record { size = c.token_at-kind.result.1; is_token = t; not_long = k.0; spelling_is = k.1; line_is = sym (ap first_line c.in-Some.ensures); rest_is = k.2 }) }; memory = tt }
 
@@ -33,5 +33,5 @@ returns-in_err-spelling-clause-memory c =
     let s = c.in-Here.ensures in
     let cells : List Cell = ahead c.args.text.now c.in-Here.place in
     let t : IsToken c.args.header (bytes cells) c.token_at-kind.result.0 c.token_at-kind.result.1 =
-        subst (λ (x : Found). IsToken c.args.header (bytes cells) x.0 x.1) (sym c.token_at-kind.ensures) (token_here c.args.header cells (cell_of c.in-Some.first) (ahead c.args.text.now c.in-Some.first.rest) c.in-Some.ensures s.2) in
+    subst (λ (x : Found). IsToken c.args.header (bytes cells) x.0 x.1) (sym c.token_at-kind.ensures) (token_here c.args.header cells (cell_of c.in-Some.first) (ahead c.args.text.now c.in-Some.first.rest) c.in-Some.ensures s.2) in
     on_err c.from_residual.result _ (needs c.args.header (ahead c.args.text.now c.args.from) cells s.0 c.token_at-kind.result.0 c.token_at-kind.result.1 s.1 s.2 t)
