@@ -12,7 +12,7 @@ fn scanned(alloc: Global, pieces: &[(PpKind, &[u8])]) -> Result<Tokens, Refusal>
     let mut tokens = Vec::new(alloc);
     let mut line = 0;
     for (kind, spelling) in pieces {
-        line = (line + 1) % 1000;
+        line = line % 1000 + 1;
         let spelling = names.intern(spelling)?;
         tokens.push(PpToken {
             kind: *kind,
