@@ -1,0 +1,172 @@
+-- From a file's image and its run to what the tool answers.
+use Rattle.std.proofs.Common.{◌≡◌, ℕ, ◌+◌, ◌-◌, ◌*◌, ◌≤◌, ◌<◌, ◌⊎◌, inl, inr, zero, suc, ◌==◌, Bool, true, false, nat_lt, cond, List, [], ◌∷◌, ◌++◌, length, take, get_or, None, Some, Option, Result, Ok, Err, ap, sym, subst, refl, ◌∙◌, arith}
+use Rattle.std.proofs.lemmas.List.{take_all, length-take, get_or-take}
+use Rattle.std.proofs.lemmas.Bool.{cases_lt, lt-ltb, le-ltb}
+use Rattle.c65_base.specs.declared.code.Code.{Code}
+use Rattle.c65_base.specs.declared.code.Code.TheVariants.{Form}
+use Rattle.c65_base.specs.declared.refusal.Pos.{Pos}
+use Rattle.c65_base.specs.declared.refusal.Refusal.{Refusal}
+use Rattle.c65_base.specs.declared.refusal.Refusal.TheVariants.{OutOfMemory, Missing, ReadFault, WriteFault, Source, At, TooLarge, BadImage, Limit, Illegal}
+use Rattle.c65_mach.specs.declared.image.Image.{Image}
+use Rattle.c65_mach.specs.Images.{Parses, fault_of, late_fault, wrong_in, fixed, word_in, or_else}
+use Rattle.c65_io.specs.Contents.{Contents}
+use Rattle.c65_small.specs.Form.{Small, Says}
+use Rattle.c65_small.specs.SmallImage.{IsImageOf, MakesImage}
+use Rattle.c65_driver.specs.Text.{ReadsHeld, ReadsText, ReadsSome}
+use Rattle.c65_driver.specs.Words.{Command, GoFile, RunImage, NoCommand}
+use Rattle.c65_driver.specs.Tool.{GoServes, RunServes, IsServed, Setup, setup_of, ImageRuns, MadeRuns, StopsBefore, HeldSource, HeldImage, ToldSource, ToldSpelled, ToldImage, SomeSource, SomeRead, SomeImage, GoAnswers, RunAnswers, ToldGo, ToldRun, ToldAnswer, KeepsInput}
+use Rattle.c65_driver.proofs.EndLaws.{SmallRuns, small_runs}
+
+-- a text that was cut is not of the form
+whole : (bytes : List ℕ) → length (take 4097 bytes) ≤ 4096 → take 4097 bytes ≡ bytes
+whole bytes short = let fits : length bytes ≤ 4097 = omega (arith, length-take 4097 bytes) in take_all 4097 bytes fits
+
+image_whole : (bytes text : List ℕ) (image : Image) → text ≡ take 4097 bytes → IsImageOf text image → IsImageOf bytes image
+image_whole bytes text image cut of =
+    let cut_of : IsImageOf (take 4097 bytes) image = subst (λ (t : List ℕ). IsImageOf t image) cut of in
+    subst (λ (t : List ℕ). IsImageOf t image) (whole bytes cut_of.says.short) cut_of
+
+says_cut : (bytes text : List ℕ) (program : Small) → text ≡ take 4097 bytes → Says bytes program → Says text program
+says_cut bytes text program cut says =
+    let fits : length bytes ≤ 4097 = omega (arith, says.short) in
+    subst (λ (t : List ℕ). Says t program) (sym (cut ∙ take_all 4097 bytes fits)) says
+
+held_ok : (held : Option (List ℕ)) (path text : List ℕ) (image : Image) → ReadsHeld 4097 path held (Ok text) → IsImageOf text image → HeldSource held path (Ok image)
+held_ok None path text image reads of = absurd reads
+held_ok (Some bytes) path text image reads of = image_whole bytes text image reads of
+
+pub source_ok : (held : Contents) (path text : List ℕ) (image : Image) → ReadsText 4097 held path (Ok text) → IsImageOf text image → ToldSource held path (Ok image)
+source_ok None path text image reads of = tt
+source_ok (Some held) path text image reads of = held_ok (held path) path text image reads of
+
+held_at : (held : Option (List ℕ)) (path text file : List ℕ) (code : Code) (pos : Pos) → ReadsHeld 4097 path held (Ok text) → MakesImage text (Err (At code pos))
+    → file ≡ path → HeldSource held path (Err (Source code file pos.line))
+held_at None path text file code pos reads none same = absurd reads
+held_at (Some bytes) path text file Form pos reads none same =
+    (same, ap (λ (p : Pos). p.line) none.0, λ program says. none.1 program (says_cut bytes text program reads says))
+held_at (Some bytes) path text file code pos reads none same = absurd none
+
+pub source_at : (held : Contents) (path text file : List ℕ) (code : Code) (pos : Pos) → ReadsText 4097 held path (Ok text) → MakesImage text (Err (At code pos))
+    → file ≡ path → ToldSource held path (Err (Source code file pos.line))
+source_at None path text file code pos reads none same = tt
+source_at (Some held) path text file code pos reads none same = held_at (held path) path text file code pos reads none same
+
+pub some_at : (path text file : List ℕ) (code : Code) (pos : Pos) → MakesImage text (Err (At code pos)) → file ≡ path → SomeSource path (Err (Source code file pos.line))
+some_at path text file Form pos none same = (same, ap (λ (p : Pos). p.line) none.0)
+some_at path text file code pos none same = absurd none
+
+held_err : (most : ℕ) (held : Option (List ℕ)) (path : List ℕ) (r : Refusal) → ReadsHeld most path held (Err r) → HeldSource held path (Err r)
+held_err most None path (Missing missed) reads = reads
+held_err most None path OutOfMemory reads = tt
+held_err most (Some bytes) path OutOfMemory reads = tt
+held_err most (Some bytes) path ReadFault reads = tt
+held_err most None path r reads = absurd reads
+held_err most (Some bytes) path r reads = absurd reads
+
+pub source_err : (most : ℕ) (held : Contents) (path : List ℕ) (r : Refusal) → ReadsText most held path (Err r) → ToldSource held path (Err r)
+source_err most None path r reads = tt
+source_err most (Some held) path r reads = held_err most (held path) path r reads
+
+pub some_err : (path : List ℕ) (r : Refusal) → ReadsSome path (Err r) → SomeSource path (Err r)
+some_err path OutOfMemory reads = tt
+some_err path (Missing missed) reads = reads
+some_err path ReadFault reads = tt
+some_err path r reads = absurd reads
+
+spelled_held_err : (most : ℕ) (held : Option (List ℕ)) (path : List ℕ) (r : Refusal) → ReadsHeld most path held (Err r) → HeldImage held path (Err r)
+spelled_held_err most None path (Missing missed) reads = reads
+spelled_held_err most None path OutOfMemory reads = tt
+spelled_held_err most (Some bytes) path OutOfMemory reads = tt
+spelled_held_err most (Some bytes) path ReadFault reads = tt
+spelled_held_err most None path r reads = absurd reads
+spelled_held_err most (Some bytes) path r reads = absurd reads
+
+pub spelled_err : (most : ℕ) (held : Contents) (path : List ℕ) (r : Refusal) → ReadsText most held path (Err r) → ToldSpelled held path (Err r)
+spelled_err most None path r reads = tt
+spelled_err most (Some held) path r reads = spelled_held_err most (held path) path r reads
+
+pub some_read_err : (path : List ℕ) (r : Refusal) → ReadsSome path (Err r) → SomeRead path (Err r)
+some_read_err path OutOfMemory reads = tt
+some_read_err path (Missing missed) reads = reads
+some_read_err path ReadFault reads = tt
+some_read_err path r reads = absurd reads
+
+-- Bytes behind the first 65,549 change no answer.
+wrong-take : (wants bytes : List ℕ) (n at : ℕ) → length wants ≤ n → wrong_in wants (take n bytes) at ≡ wrong_in wants bytes at
+wrong-take [] bytes n at fits = refl
+wrong-take (want ∷ wants) [] n at fits = ap (λ bs. wrong_in (want ∷ wants) bs at) (take_all n [] (omega arith))
+wrong-take (want ∷ wants) (b ∷ bs) zero at fits = absurd (omega arith)
+wrong-take (want ∷ wants) (b ∷ bs) (suc n) at fits = ap (λ o. cond (b == want) o (Some at)) (wrong-take wants bs n (at + 1) (omega arith))
+
+word-take : (bytes : List ℕ) (n at : ℕ) → at + 1 < n → word_in (take n bytes) at ≡ word_in bytes at
+word-take bytes n at fits =
+    ap (λ low. low + 256 * get_or (take n bytes) (at + 1) 0) (get_or-take n bytes at 0 (omega arith))
+    ∙ ap (λ high. get_or bytes at 0 + 256 * high) (get_or-take n bytes (at + 1) 0 fits)
+
+late_long : (bytes : List ℕ) (load : ℕ) → word_in bytes 8 ≡ load → 65549 ≤ length bytes → late_fault bytes ≡ Some (12 + 65536 - load)
+late_long bytes load is long =
+    let enough : nat_lt (length bytes) 12 ≡ false = le-ltb (length bytes) 12 (omega arith) in
+    let past : nat_lt (12 + 65536 - load) (length bytes) ≡ true = lt-ltb (12 + 65536 - load) (length bytes) (omega arith) in
+    rw (is, enough, past) refl
+
+fault-take : (bytes : List ℕ) → 65549 ≤ length bytes → fault_of (take 65549 bytes) ≡ fault_of bytes
+fault-take bytes long =
+    let size : length (take 65549 bytes) ≡ 65549 = omega (arith, length-take 65549 bytes) in
+    ap (λ o. or_else o (late_fault (take 65549 bytes))) (wrong-take fixed bytes 65549 0 (omega arith))
+    ∙ ap (or_else (wrong_in fixed bytes 0))
+    (late_long (take 65549 bytes) (word_in bytes 8) (word-take bytes 65549 8 (omega arith)) (omega (arith, size)) ∙ sym (late_long bytes (word_in bytes 8) refl long))
+
+or_some : (o : Option ℕ) (e : ℕ) → or_else o (Some e) ≡ None → ⊥
+or_some None e is = let both : Some e ≡ None = is in cc
+or_some (Some a) e is = let both : Some a ≡ None = is in cc
+
+long_faulty : (bytes : List ℕ) → 65549 ≤ length bytes → fault_of bytes ≡ None → ⊥
+long_faulty bytes long none =
+    or_some (wrong_in fixed bytes 0) (12 + 65536 - word_in bytes 8)
+    (sym (ap (or_else (wrong_in fixed bytes 0)) (late_long bytes (word_in bytes 8) refl long)) ∙ none)
+
+spelled_by : (bytes : List ℕ) (image : Image) → (length bytes < 65549) ⊎ (65549 ≤ length bytes) → Parses (take 65549 bytes) (Ok image) → Parses bytes (Ok image)
+spelled_by bytes image (inl short) parses = subst (λ (bs : List ℕ). Parses bs (Ok image)) (take_all 65549 bytes (omega arith)) parses
+spelled_by bytes image (inr long) parses =
+    absurd (long_faulty (take 65549 bytes) (omega (arith, length-take 65549 bytes)) parses.0)
+
+bad_by : (bytes : List ℕ) (offset : ℕ) → (length bytes < 65549) ⊎ (65549 ≤ length bytes) → Parses (take 65549 bytes) (Err (BadImage offset)) → Parses bytes (Err (BadImage offset))
+bad_by bytes offset (inl short) parses = subst (λ (bs : List ℕ). Parses bs (Err (BadImage offset))) (take_all 65549 bytes (omega arith)) parses
+bad_by bytes offset (inr long) parses = sym (fault-take bytes long) ∙ parses
+
+spelled_held : (held : Option (List ℕ)) (path bytes : List ℕ) (image : Image) → ReadsHeld 65549 path held (Ok bytes) → Parses bytes (Ok image) → HeldImage held path (Ok image)
+spelled_held None path bytes image reads parses = absurd reads
+spelled_held (Some all) path bytes image reads parses =
+    spelled_by all image (cases_lt (length all) 65549) (subst (λ (bs : List ℕ). Parses bs (Ok image)) reads parses)
+
+pub spelled_ok : (held : Contents) (path bytes : List ℕ) (image : Image) → ReadsText 65549 held path (Ok bytes) → Parses bytes (Ok image) → ToldSpelled held path (Ok image)
+spelled_ok None path bytes image reads parses = tt
+spelled_ok (Some held) path bytes image reads parses = spelled_held (held path) path bytes image reads parses
+
+bad_held : (held : Option (List ℕ)) (path bytes : List ℕ) (offset : ℕ) → ReadsHeld 65549 path held (Ok bytes) → Parses bytes (Err (BadImage offset))
+    → HeldImage held path (Err (BadImage offset))
+bad_held None path bytes offset reads parses = absurd reads
+bad_held (Some all) path bytes offset reads parses =
+    bad_by all offset (cases_lt (length all) 65549) (subst (λ (bs : List ℕ). Parses bs (Err (BadImage offset))) reads parses)
+
+pub spelled_bad : (held : Contents) (path bytes : List ℕ) (offset : ℕ) → ReadsText 65549 held path (Ok bytes) → Parses bytes (Err (BadImage offset))
+    → ToldSpelled held path (Err (BadImage offset))
+spelled_bad None path bytes offset reads parses = tt
+spelled_bad (Some held) path bytes offset reads parses = bad_held (held path) path bytes offset reads parses
+
+held_free : (held : Option (List ℕ)) (path : List ℕ) → HeldImage held path (Err OutOfMemory)
+held_free None path = tt
+held_free (Some bytes) path = tt
+
+-- want of memory is free
+pub spelled_free : (held : Contents) (path : List ℕ) → ToldSpelled held path (Err OutOfMemory)
+spelled_free None path = tt
+spelled_free (Some held) path = held_free (held path) path
+
+source_held_free : (held : Option (List ℕ)) (path : List ℕ) → HeldSource held path (Err OutOfMemory)
+source_held_free None path = tt
+source_held_free (Some bytes) path = tt
+
+pub source_free : (held : Contents) (path : List ℕ) → ToldSource held path (Err OutOfMemory)
+source_free None path = tt
+source_free (Some held) path = source_held_free (held path) path

@@ -1,0 +1,5 @@
+pub mod Words
+pub mod Tasks
+pub mod Text
+pub mod Tool
+pub mod Outcome
