@@ -4,3 +4,4 @@ pub mod WordLaws
 pub mod EndLaws
 pub mod AnswerLaws
 pub mod ToolLaws
+pub mod RunLaws

@@ -1,9 +1,0 @@
-//! Whole commands over files and streams in memory, as tests.
-#![tactic(auto)]
-
-#[cfg(test)]
-mod commands;
-#[cfg(test)]
-mod go;
-#[cfg(test)]
-mod run;
