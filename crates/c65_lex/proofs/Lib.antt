@@ -6,3 +6,4 @@ pub mod Spelled
 pub mod Longest
 pub mod Tokens
 pub mod Unique
+pub mod Plain

@@ -6,3 +6,4 @@ pub mod Next
 pub mod Scanned
 pub mod Unread
 pub mod Text
+pub mod Jumps

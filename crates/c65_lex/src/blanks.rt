@@ -5,6 +5,7 @@ ghost use Rattle.c65_lex.specs.Blanks;
 ghost use Rattle.c65_lex.specs.Blanks.{blank_in, blank_of, opens};
 
 use crate::classes::is_white;
+use crate::jumps::{over_comment, over_line};
 use crate::place::{Place, Reading, is_beyond, read};
 
 /// What stands at a place: no white space and no comment; one of them, up to a place; a comment
@@ -21,7 +22,7 @@ pub enum Gap {
 fn past_line(text: &[u8], from: Place) -> Gap
     ensures { blank_in text.now result ≡ Blanks.past_line (ahead text.now from) }
 {
-    let mut place = from;
+    let mut place = over_line(text, from);
     while let Some(reading) = read(text, place) {
         if reading.byte == b'\n' {
             break;
@@ -38,7 +39,7 @@ fn past_line(text: &[u8], from: Place) -> Gap
 fn past_comment(text: &[u8], from: Place) -> Gap
     ensures { blank_in text.now result ≡ Blanks.past_comment false (ahead text.now from) }
 {
-    let mut place = from;
+    let mut place = over_comment(text, from);
     let mut star = false;
     while let Some(reading) = read(text, place) {
         if is_beyond(reading) {

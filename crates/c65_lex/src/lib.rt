@@ -3,6 +3,7 @@
 
 mod blanks;
 mod classes;
+mod jumps;
 mod lengths;
 mod lexer;
 mod place;
