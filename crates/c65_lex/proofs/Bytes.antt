@@ -1,8 +1,8 @@
 -- Which bytes begin which tokens.
-use Rattle.std.proofs.Common.{◌≡◌, ℕ, zero, suc, ◌+◌, ◌<◌, ◌≤◌, List, [], ◌∷◌, length, take, refl, sym, ap, ◌∙◌, subst, arith, Bool, true, false, ◌⊎◌, inl, inr}
-use Rattle.std.specs.Prelude.{◌==◌, ◌&&◌, ◌||◌, not, if◌then◌else◌, codes}
+use Rattle.std.proofs.Common.{◌≡◌, ℕ, zero, suc, ◌<◌, List, [], ◌∷◌, take, refl, ap, ◌∙◌, arith, Bool, true, false, ◌⊎◌, inl, inr}
+use Rattle.std.specs.Prelude.{◌==◌, ◌&&◌, ◌||◌, not, codes}
 use Rattle.std.proofs.lemmas.Bool.Decides.{nat_tests}
-use Rattle.c65_lex.specs.Spellings.{among, are_all, is_letter, is_digit, is_word, is_white, is_punct1, is_punct2, is_punct3, is_punct, begins_header, header_close, begins_digit}
+use Rattle.c65_lex.specs.Spellings.{among, are_all, is_punct1, is_punct2, is_punct3, is_punct, begins_header}
 
 pub eq_is : (a b : ℕ) → (a == b) ≡ true → a ≡ b
 eq_is a b h = grind (arith, nat_tests)

@@ -1,10 +1,10 @@
 -- White space and comments, one after another.
-use Rattle.std.proofs.Common.{◌≡◌, ℕ, zero, suc, ◌+◌, ◌<◌, ◌≤◌, List, [], ◌∷◌, length, refl, sym, ap, ◌∙◌, subst, arith, Bool, true, false}
-use Rattle.std.specs.Prelude.{◌==◌, ◌&&◌, ◌||◌, if◌then◌else◌, nat_lt}
+use Rattle.std.proofs.Common.{◌≡◌, ℕ, ◌<◌, ◌≤◌, List, [], ◌∷◌, length, refl, sym, arith, Bool, true, false}
+use Rattle.std.specs.Prelude.{◌==◌, ◌&&◌}
 use Rattle.std.proofs.lemmas.Bool.Decides.{nat_tests}
-use Rattle.c65_lex.specs.Cells.{Cell, is_long, bytes, begins_with}
+use Rattle.c65_lex.specs.Cells.{Cell, is_long}
 use Rattle.c65_lex.specs.Spellings.{is_white}
-use Rattle.c65_lex.specs.Blanks.{Blank, none, over, unclosed, too_long, past_line, past_comment, past_star, opens, blank_of}
+use Rattle.c65_lex.specs.Blanks.{none, over, too_long, past_line, past_comment, past_star, opens, blank_of}
 
 over_is : (a b : List Cell) → over a ≡ over b → a ≡ b
 over_is a b e = cc

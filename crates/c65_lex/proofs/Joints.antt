@@ -1,12 +1,12 @@
 -- What vanishes between two cells.
-use Rattle.std.proofs.Common.{◌≡◌, ℕ, zero, suc, ◌+◌, ◌<◌, ◌≤◌, List, [], ◌∷◌, length, length-drop, drop, get_or, add-one, ◌-◌, ◌≢◌, refl, sym, ap, ◌∙◌, subst, arith, Bool, true, false}
+use Rattle.std.proofs.Common.{◌≡◌, ℕ, suc, ◌+◌, ◌<◌, ◌≤◌, List, [], ◌∷◌, length, length-drop, drop, get_or, add-one, ◌-◌, ◌≢◌, refl, sym, arith, Bool, true, false}
 use Rattle.std.specs.Prelude.{◌==◌, ◌&&◌, ◌||◌, if◌then◌else◌, nat_lt}
 use Rattle.std.proofs.Math.Seq.{drop-cons}
 use Rattle.std.proofs.lemmas.List.{drop_all}
 use Rattle.std.proofs.lemmas.Grind.{common_steps}
 use Rattle.std.proofs.lemmas.Bool.Decides.{nat_tests}
 use Rattle.c65_lex.specs.declared.place.Place.{Place}
-use Rattle.c65_lex.specs.Cells.{Cell, cells, joined, without_returns, begins_with, joint, next_line, line_after, column_after, last_line_end, ahead}
+use Rattle.c65_lex.specs.Cells.{Cell, cells, joined, without_returns, begins_with, joint, next_line, line_after, column_after, ahead}
 
 abbrev pub line_behind : ℕ → ℕ → ℕ
 line_behind d n = if nat_lt 1 d then next_line n else n

@@ -7,7 +7,7 @@ use Rattle.c65_lex.specs.declared.token.PpKind.TheVariants.{Name, Number, Char, 
 use Rattle.c65_lex.specs.Spellings.{are_all, is_letter, is_digit, is_word, is_white, is_name, is_tail, begins_digit, begins_number, is_number, is_closed, is_quoted, is_literal, header_close, begins_header, is_header, is_header_quote, is_punct1, is_punct, is_other, is_line_end, class_of, IsToken}
 use Rattle.c65_lex.specs.Lengths.{run_from, tail_from, close_from, with_kind, quote_kind, quoted_of, literal_of, header_of, punct_length, punct_or_other, bare_of, or_else, token_of}
 use Rattle.c65_lex.proofs.Bytes.{eq_is, both, either, neither, and_false, no_both, apart, punct_fails, punct_first, less_has_no_greater, no_header, header_take, header_front}
-use Rattle.c65_lex.proofs.Reach.{run_bound, tail_bound, closed_close, Closes, closes, plain_closes, close_past, punct_bound, Puncts, puncts_here, runs, tails}
+use Rattle.c65_lex.proofs.Reach.{run_bound, tail_bound, closed_close, closes, plain_closes, close_past, punct_bound, puncts_here, runs, tails}
 use Rattle.c65_lex.proofs.Spelled.{spelled_name, spelled_number, spelled_punct, spelled_other, spelled_header, spelled_char, spelled_text, spelled_wide_char, spelled_wide_text, class_by, is_number_byte, number_first}
 
 abbrev pub Found : Type 0

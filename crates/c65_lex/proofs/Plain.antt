@@ -1,10 +1,10 @@
 -- Over bytes among which nothing vanishes a comment goes on.
-use Rattle.std.proofs.Common.{◌≡◌, ℕ, zero, suc, ◌+◌, ◌-◌, ◌<◌, ◌≤◌, List, [], ◌∷◌, length, length-drop, take, drop, get_or, min, refl, sym, ap, ◌∙◌, subst, arith, Bool, true, false}
-use Rattle.std.specs.Prelude.{◌==◌, ◌&&◌, ◌||◌, not, if◌then◌else◌, nat_le, slice_index, IsTrue}
+use Rattle.std.proofs.Common.{◌≡◌, ℕ, zero, suc, ◌+◌, ◌-◌, ◌<◌, ◌≤◌, List, [], ◌∷◌, length, take, drop, get_or, min, refl, sym, ap, ◌∙◌, arith, Bool, true, false}
+use Rattle.std.specs.Prelude.{◌==◌, ◌||◌, not, nat_le, slice_index, IsTrue}
 use Rattle.std.proofs.lemmas.Bool.Decides.{nat_tests}
 use Rattle.std.proofs.lemmas.Grind.{common_steps}
 use Rattle.c65_lex.specs.declared.place.Place.{Place}
-use Rattle.c65_lex.specs.Cells.{Cell, cells, ahead, joint, begins_with, line_after, column_after, is_long}
+use Rattle.c65_lex.specs.Cells.{cells, ahead, joint, line_after, column_after, is_long}
 use Rattle.c65_lex.specs.Blanks.{past_line, past_comment}
 use Rattle.memchr.specs.Find.{Nowhere, NoneBefore, Passes, is_byte, is_byte2}
 use Rattle.c65_lex.specs.Jumps.{are_plain}

@@ -1,7 +1,6 @@
 -- How far a spelling goes, and how far the lengths look.
-use Rattle.std.proofs.Common.{◌≡◌, ℕ, zero, suc, ◌+◌, ◌-◌, ◌<◌, ◌≤◌, List, [], ◌∷◌, length, take, refl, sym, ap, ◌∙◌, subst, arith, Bool, true, false, ◌⊎◌, inl, inr, Option, Some, None}
-use Rattle.std.specs.Prelude.{◌==◌, ◌&&◌, ◌||◌, not, if◌then◌else◌}
-use Rattle.std.proofs.lemmas.Bool.Decides.{nat_tests}
+use Rattle.std.proofs.Common.{◌≡◌, ℕ, zero, suc, ◌+◌, ◌<◌, ◌≤◌, List, [], ◌∷◌, length, take, refl, sym, ap, ◌∙◌, arith, Bool, true, false, Some, None}
+use Rattle.std.specs.Prelude.{◌==◌, ◌&&◌, not, if◌then◌else◌}
 use Rattle.c65_lex.specs.Spellings.{are_all, is_tail, continues, is_closed, takes_next, is_empty, is_punct, is_punct1, is_punct2, is_punct3}
 use Rattle.c65_lex.specs.Lengths.{run_from, tail_from, close_from, punct_length}
 use Rattle.c65_lex.proofs.Bytes.{both, no_both}

@@ -1,11 +1,11 @@
 -- A spelling has one class.
-use Rattle.std.proofs.Common.{◌≡◌, ℕ, zero, suc, ◌+◌, ◌<◌, ◌≤◌, List, [], ◌∷◌, length, take, refl, sym, ap, ◌∙◌, subst, arith, Bool, true, false, ◌⊎◌, inl, inr, Option, Some, None}
+use Rattle.std.proofs.Common.{◌≡◌, ℕ, List, [], ◌∷◌, refl, sym, ap, subst, arith, Bool, true, false, ◌⊎◌, inl, inr, Option, Some, None}
 use Rattle.std.specs.Prelude.{◌==◌, ◌&&◌, ◌||◌, not, if◌then◌else◌}
 use Rattle.std.proofs.lemmas.Bool.Decides.{nat_tests}
 use Rattle.c65_lex.specs.declared.token.PpKind.{PpKind}
 use Rattle.c65_lex.specs.declared.token.PpKind.TheVariants.{Name, Number, Char, Text, Punct, Header, Other, LineEnd}
 use Rattle.c65_lex.specs.Spellings.{are_all, is_letter, is_digit, is_word, is_white, is_name, is_tail, begins_digit, begins_number, is_number, is_closed, takes_next, is_quoted, is_literal, header_close, begins_header, is_header, is_header_quote, is_punct1, is_punct, is_stray, is_other, is_line_end, class_of}
-use Rattle.c65_lex.proofs.Bytes.{eq_is, both, either, neither, and_false, no_both, apart, punct_fails, punct_first, less_has_no_greater, no_header, among_fails, not_true}
+use Rattle.c65_lex.proofs.Bytes.{eq_is, both, either, and_false, apart, punct_fails, punct_first, less_has_no_greater, no_header, not_true}
 
 abbrev pub class_by : Bool → Bool → Bool → Bool → Bool → Bool → Bool → Bool → Option PpKind
 class_by e h c t n u p o = if e then Some LineEnd else if h then Some Header else if c then Some Char else if t then Some Text else if n then Some Name else if u then Some Number else if p then Some Punct else if o then Some Other else None

@@ -1,12 +1,12 @@
 -- The token at a place.
-use Rattle.std.proofs.Common.{◌≡◌, ℕ, List, [], ◌∷◌, take, drop, refl, sym, ap, ◌∙◌, subst, Bool, true, false, ◌⊎◌, inl, inr}
-use Rattle.std.specs.Prelude.{nat_lt, if◌then◌else◌, ◌||◌}
+use Rattle.std.proofs.Common.{◌≡◌, ℕ, List, ◌∷◌, take, drop, refl, sym, subst, Bool, true, false, inr}
+use Rattle.std.specs.Prelude.{nat_lt}
 use Rattle.c65_lex.specs.declared.token.PpKind.{PpKind}
 use Rattle.c65_lex.specs.Cells.{Cell, bytes, is_long}
 use Rattle.c65_lex.specs.Spellings.{IsToken, is_white}
 use Rattle.c65_lex.specs.Lengths.{token_of}
-use Rattle.c65_lex.specs.Blanks.{Blanks, blank_of, none, over, too_long, unclosed, opens, past_line, past_star}
-use Rattle.c65_lex.specs.Next.{Next, long_line, token, is_any_long, first_line, IsNext, NeedsMemory}
+use Rattle.c65_lex.specs.Blanks.{Blanks, blank_of, none, over, too_long}
+use Rattle.c65_lex.specs.Next.{long_line, token, is_any_long, first_line, NeedsMemory}
 use Rattle.c65_lex.proofs.Longest.{token_is}
 
 -- what is no white space and no comment begins with no white byte

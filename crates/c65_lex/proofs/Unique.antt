@@ -1,12 +1,11 @@
 -- Only one thing comes next.
-use Rattle.std.proofs.Common.{◌≡◌, ℕ, zero, suc, ◌+◌, ◌-◌, ◌<◌, ◌≤◌, List, [], ◌∷◌, length, take, drop, refl, sym, ap, ◌∙◌, subst, arith, Bool, true, false, ◌⊎◌, inl, inr, Option, Some, None}
-use Rattle.std.specs.Prelude.{nat_lt}
+use Rattle.std.proofs.Common.{◌≡◌, ℕ, zero, suc, ◌+◌, ◌-◌, ◌<◌, ◌≤◌, List, [], take, drop, refl, sym, ap, ◌∙◌, subst, arith, Bool, true, false, ◌⊎◌, inl, inr, Some}
 use Rattle.std.proofs.lemmas.Bool.{cases_lt}
 use Rattle.c65_lex.specs.declared.token.PpKind.{PpKind}
 use Rattle.c65_lex.specs.Cells.{Cell, bytes}
 use Rattle.c65_lex.specs.Spellings.{IsToken, class_of}
-use Rattle.c65_lex.specs.Blanks.{Blank, Blanks, blank_of, none, over, too_long, unclosed}
-use Rattle.c65_lex.specs.Next.{Next, ended, open_comment, long_line, token, is_any_long, first_line, IsTokenHere, IsLongHere, Stands, IsNext}
+use Rattle.c65_lex.specs.Blanks.{Blanks, blank_of, none, over, too_long, unclosed}
+use Rattle.c65_lex.specs.Next.{Next, ended, open_comment, long_line, token, is_any_long, IsLongHere, Stands, IsNext}
 
 over_is : (a b : List Cell) → over a ≡ over b → a ≡ b
 over_is a b e = cc

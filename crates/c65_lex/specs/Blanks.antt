@@ -1,5 +1,5 @@
 -- White space and comments (C90 6.1 and 6.1.9).
-use Rattle.std.specs.Prelude.{◌≡◌, ℕ, zero, suc, List, [], ◌∷◌, Bool, true, false, ◌==◌, ◌&&◌, if◌then◌else◌}
+use Rattle.std.specs.Prelude.{◌≡◌, ℕ, zero, suc, List, [], ◌∷◌, Bool, false, ◌==◌, ◌&&◌, if◌then◌else◌}
 use Rattle.c65_lex.specs.Cells.{Cell, is_long, bytes, begins_with, ahead}
 use Rattle.c65_lex.specs.declared.blanks.Gap.{Gap}
 use Rattle.c65_lex.specs.declared.blanks.Gap.TheVariants.{Nothing, Over, Unclosed, TooLong}

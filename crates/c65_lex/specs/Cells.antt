@@ -1,5 +1,5 @@
 -- The bytes of a text when its lines are joined (C90 5.1.1.2, phases 1 and 2).
-use Rattle.std.specs.Prelude.{◌≡◌, ℕ, ◌+◌, min, List, [], ◌∷◌, map, drop, Bool, true, false, ◌==◌, ◌&&◌, if◌then◌else◌, nat_le, not}
+use Rattle.std.specs.Prelude.{ℕ, ◌+◌, min, List, [], ◌∷◌, map, drop, Bool, false, ◌==◌, ◌&&◌, if◌then◌else◌, nat_le, not}
 use Rattle.c65_lex.specs.declared.place.Place.{Place}
 use Rattle.c65_lex.specs.declared.place.Reading.{Reading}
 

@@ -1,8 +1,8 @@
 -- How far the token that begins here goes, by one look from its first byte on.
-use Rattle.std.specs.Prelude.{◌≡◌, ℕ, ◌+◌, List, [], ◌∷◌, Bool, true, false, ◌==◌, ◌&&◌, ◌||◌, not, if◌then◌else◌, Option, Some, None}
+use Rattle.std.specs.Prelude.{ℕ, ◌+◌, List, [], ◌∷◌, Bool, true, false, ◌==◌, ◌&&◌, ◌||◌, not, if◌then◌else◌, Option, Some, None}
 use Rattle.c65_lex.specs.declared.token.PpKind.{PpKind}
 use Rattle.c65_lex.specs.declared.token.PpKind.TheVariants.{Name, Number, Char, Text, Punct, Header, Other, LineEnd}
-use Rattle.c65_lex.specs.Spellings.{is_letter, is_digit, is_word, continues, begins_number, takes_next, begins_header, header_close, is_punct1, is_punct2, is_punct3}
+use Rattle.c65_lex.specs.Spellings.{is_letter, is_word, continues, begins_number, takes_next, begins_header, header_close, is_punct1, is_punct2, is_punct3}
 
 abbrev pub first : List ℕ → Option ℕ
 first [] = None

@@ -1,5 +1,5 @@
 -- What comes next in a text (C90 5.1.1.2, phase 3).
-use Rattle.std.specs.Prelude.{◌≡◌, ◌⊎◌, ℕ, List, [], ◌∷◌, Bool, true, false, ◌||◌, take, drop, nat_lt, Option, Some, None}
+use Rattle.std.specs.Prelude.{◌≡◌, ◌⊎◌, ℕ, List, [], ◌∷◌, Bool, true, false, ◌||◌, take, drop, nat_lt}
 use Rattle.c65_lex.specs.declared.token.PpKind.{PpKind}
 use Rattle.c65_lex.specs.Cells.{Cell, bytes, is_long}
 use Rattle.c65_lex.specs.Spellings.{IsToken}

@@ -1,5 +1,5 @@
 -- What the scanner's answers say of the cells ahead.
-use Rattle.std.specs.Prelude.{◌≡◌, ◌⊎◌, ℕ, List, [], ◌∷◌, Bool, true, false, take, drop, nat_lt, Option, Some, None}
+use Rattle.std.specs.Prelude.{◌≡◌, ℕ, List, true, false, take, drop, nat_lt, Option, Some, None}
 use Rattle.c65_lex.specs.declared.place.Place.{Place}
 use Rattle.c65_lex.specs.declared.scan.Skipped.{Skipped}
 use Rattle.c65_lex.specs.declared.scan.Skipped.TheVariants.{Here, Unclosed, TooLong}

@@ -1,9 +1,9 @@
 -- The preprocessing tokens of a whole text (C90 5.1.1.2, phases 1 to 3, and 6.1).
-use Rattle.std.specs.Prelude.{◌≡◌, ℕ, List, [], ◌∷◌, Bool, true, false, ◌&&◌, if◌then◌else◌, bytes_eq, codes}
+use Rattle.std.specs.Prelude.{ℕ, List, [], ◌∷◌, Bool, true, false, if◌then◌else◌, bytes_eq, codes}
 use Rattle.c65_lex.specs.declared.token.PpKind.{PpKind}
-use Rattle.c65_lex.specs.declared.token.PpKind.TheVariants.{Name, Number, Char, Text, Punct, Header, Other, LineEnd}
+use Rattle.c65_lex.specs.declared.token.PpKind.TheVariants.{Name, Punct, LineEnd}
 use Rattle.c65_lex.specs.Cells.{Cell, cells}
-use Rattle.c65_lex.specs.Next.{Next, ended, token, IsNext}
+use Rattle.c65_lex.specs.Next.{ended, token, IsNext}
 
 -- a token as it stands in a text
 pub record Lexeme : Type 0 where

@@ -1,4 +1,4 @@
-use Rattle.std.proofs.Common.{◌≡◌, length, false}
+use Rattle.std.proofs.Common.{◌≡◌, length}
 use Rattle.c65_lex.specs.Cells.{ahead}
 use Rattle.c65_lex.specs.Blanks.{past_line}
 use Rattle.c65_lex.proofs.blanks.past_line.Given as goal

@@ -1,6 +1,5 @@
 use Rattle.std.proofs.Common.{◌≡◌, ◌+◌, length, false}
 use Rattle.c65_lex.specs.Cells.{ahead, bytes}
-use Rattle.c65_lex.specs.Spellings
 use Rattle.c65_lex.specs.Lengths.{close_from}
 use Rattle.c65_lex.proofs.lengths.close_of.Given as goal
 

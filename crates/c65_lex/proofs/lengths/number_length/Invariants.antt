@@ -1,6 +1,5 @@
-use Rattle.std.proofs.Common.{◌≡◌, ◌+◌, length, false}
+use Rattle.std.proofs.Common.{◌≡◌, ◌+◌, length}
 use Rattle.c65_lex.specs.Cells.{ahead, bytes}
-use Rattle.c65_lex.specs.Spellings
 use Rattle.c65_lex.specs.Lengths.{tail_from}
 use Rattle.c65_lex.proofs.lengths.number_length.Given as goal
 

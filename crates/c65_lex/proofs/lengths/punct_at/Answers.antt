@@ -1,5 +1,5 @@
-use Rattle.std.proofs.Common.{◌≡◌, ℕ, List, [], ◌∷◌, Some, refl, sym, ap, ◌∙◌, map}
-use Rattle.c65_lex.specs.Cells.{Cell, ahead, bytes, cell_of}
+use Rattle.std.proofs.Common.{◌≡◌, ℕ, List, [], ◌∷◌, Some, refl, ◌∙◌}
+use Rattle.c65_lex.specs.Cells.{ahead, bytes, cell_of}
 use Rattle.c65_lex.specs.Lengths.{punct_length, first}
 use Rattle.c65_lex.proofs.lengths.punct_at.Goals as goal
 

@@ -1,4 +1,4 @@
-use Rattle.std.proofs.Common.{◌≡◌, ◌+◌, length, false}
+use Rattle.std.proofs.Common.{◌≡◌, ◌+◌, length}
 use Rattle.c65_lex.specs.Cells.{ahead, bytes}
 use Rattle.c65_lex.specs.Spellings
 use Rattle.c65_lex.specs.Lengths.{run_from}

@@ -1,4 +1,4 @@
-use Rattle.std.proofs.Common.{◌≡◌, arith, refl}
+use Rattle.std.proofs.Common.{arith, refl}
 use Rattle.c65_lex.proofs.Joints.{ahead_end}
 use Rattle.c65_lex.proofs.place.no_further.Goals as goal
 

@@ -1,4 +1,4 @@
-use Rattle.std.proofs.Common.{◌≡◌, arith, refl, sym, ◌∙◌}
+use Rattle.std.proofs.Common.{arith, refl, sym, ◌∙◌}
 use Rattle.c65_lex.proofs.Joints.{ahead_step, ahead_none, ahead_last}
 use Rattle.c65_lex.proofs.place.read.Goals as goal
 

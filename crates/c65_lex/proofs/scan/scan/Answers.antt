@@ -1,5 +1,4 @@
-use Rattle.std.proofs.Common.{◌≡◌, ℕ, List, sym, refl, ap, subst, ◌∙◌, inr, Bool, true, false, Result, Ok, Err, OnErr}
-use Rattle.c65_lex.specs.declared.token.PpKind.{PpKind}
+use Rattle.std.proofs.Common.{List, sym, ap, subst, inr, Result, Ok, Err, OnErr}
 use Rattle.c65_lex.specs.Cells.{Cell, ahead, bytes, cell_of}
 use Rattle.c65_lex.specs.Spellings.{IsToken}
 use Rattle.c65_lex.specs.Next.{first_line}

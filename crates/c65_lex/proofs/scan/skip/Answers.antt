@@ -1,5 +1,4 @@
-use Rattle.std.proofs.Common.{◌≡◌, sym, refl, arith, ◌∙◌, ◌+◌, suc}
-use Rattle.std.specs.Prelude.{nat_lt, true}
+use Rattle.std.proofs.Common.{sym, arith, suc}
 use Rattle.std.proofs.lemmas.Bool.Decides.{nat_tests}
 use Rattle.c65_lex.specs.Cells.{ahead}
 use Rattle.c65_lex.proofs.Gaps.{over_shorter}

@@ -1,4 +1,4 @@
-use Rattle.std.proofs.Common.{◌≡◌, ◌++◌, ℕ, length, take, drop, Bool}
+use Rattle.std.proofs.Common.{◌≡◌, ◌++◌, take, drop}
 use Rattle.c65_lex.specs.Cells.{ahead, bytes}
 use Rattle.c65_lex.specs.Next.{is_any_long}
 use Rattle.c65_lex.proofs.scan.take.Given as goal

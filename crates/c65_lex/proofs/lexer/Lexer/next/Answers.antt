@@ -1,7 +1,5 @@
 use Rattle.std.proofs.Common.{◌≡◌, ℕ, List, sym, subst, ◌∙◌, Option, Some, None, Result, Ok, Err, OnErr, inl, inr, Bool}
 use Rattle.c65_base.specs.declared.refusal.Refusal.{Refusal}
-use Rattle.c65_base.specs.declared.refusal.Refusal.TheVariants.{OutOfMemory, At, TooLarge}
-use Rattle.c65_base.specs.declared.refusal.Size.TheVariants.{Line}
 use Rattle.c65_lex.specs.declared.token.PpToken.{PpToken}
 use Rattle.c65_lex.specs.Unread.{Unread, Answers, IsKept}
 use Rattle.c65_lex.specs.Next.{Next, ended, open_comment, long_line, token, IsNext}
