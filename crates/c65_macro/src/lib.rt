@@ -1,9 +1,19 @@
 //! Macros and their expansion (C90 6.8.3).
 #![tactic(auto)]
 
+mod class;
 mod definition;
+mod expand;
+mod fill;
 mod item;
+mod marked;
+mod predefined;
+mod sets;
 mod table;
+mod text;
+mod uses;
+#[cfg(test)]
+mod tests;
 
 pub use item::{Macro, Params, Words};
 pub use table::Macros;

@@ -13,12 +13,12 @@ use std::marker::Model;
 /// The macros that are defined, which contracts see as the lists of their names and definitions.
 #[derive(Drop)]
 pub struct Macros {
-    predefined: IndexMap<Name, Macro>,
-    defined: IndexMap<Name, Macro>,
-    words: Words,
-    file: Name,
-    offset: i64,
-    alloc: Global,
+    pub(crate) predefined: IndexMap<Name, Macro>,
+    pub(crate) defined: IndexMap<Name, Macro>,
+    pub(crate) words: Words,
+    pub(crate) file: Name,
+    pub(crate) offset: i64,
+    pub(crate) alloc: Global,
 }
 
 impl Model for Macros {

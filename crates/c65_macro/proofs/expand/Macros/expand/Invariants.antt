@@ -1,0 +1,4 @@
+use Rattle.c65_macro.proofs.expand.Macros.expand.Given as goal
+
+abbrev pub decreases-loop-steps : goal.decreases-loop-steps
+decreases-loop-steps l = l.steps
