@@ -120,7 +120,8 @@ fn is_literal(quote: u8, bytes: &[u8]) -> bool
     ensures { result ≡ Spellings.is_literal quote bytes.now }
 {
     match bytes.split_first() {
-        Some((first, more)) => is_quoted(quote, bytes) || (*first == b'L' && is_quoted(quote, more)),
+        Some((first, more)) => is_quoted(quote, bytes)
+            || (*first == b'L' && is_quoted(quote, more)),
         None => false,
     }
 }
@@ -130,8 +131,30 @@ fn is_punct1(byte: u8) -> bool
 {
     matches!(
         byte,
-        b'[' | b']' | b'(' | b')' | b'{' | b'}' | b'.' | b'&' | b'*' | b'+' | b'-' | b'~' | b'!'
-            | b'/' | b'%' | b'<' | b'>' | b'^' | b'|' | b'?' | b':' | b'=' | b',' | b'#' | b';'
+        b'[' | b']'
+            | b'('
+            | b')'
+            | b'{'
+            | b'}'
+            | b'.'
+            | b'&'
+            | b'*'
+            | b'+'
+            | b'-'
+            | b'~'
+            | b'!'
+            | b'/'
+            | b'%'
+            | b'<'
+            | b'>'
+            | b'^'
+            | b'|'
+            | b'?'
+            | b':'
+            | b'='
+            | b','
+            | b'#'
+            | b';'
     )
 }
 

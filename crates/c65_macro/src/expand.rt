@@ -269,7 +269,10 @@ impl Gathered {
         ensures { IfErr result StopsExpansion }
     {
         let Gathered {
-            lists, list, size, ..
+            lists,
+            list,
+            size,
+            ..
         } = self;
         let mut lists = lists;
         lists.push(list)?;
@@ -307,7 +310,13 @@ impl Macros {
     }
 
     /// Replaces an object-like macro.
-    fn replace(&self, state: &mut State, item: Marked, found: &Macro, names: &mut Names) -> Result<(), Refusal>
+    fn replace(
+        &self,
+        state: &mut State,
+        item: Marked,
+        found: &Macro,
+        names: &mut Names,
+    ) -> Result<(), Refusal>
         ensures { IfErr result StopsExpansion }
     {
         let hide = state.sets.with(found.name, item.hide)?;
@@ -324,7 +333,15 @@ impl Macros {
                 pos: item.token.pos,
             };
             let body = found.body.as_slice();
-            replacement(state.alloc, names, &mut state.sets, used, hide, item.token.space, body)?
+            replacement(
+                state.alloc,
+                names,
+                &mut state.sets,
+                used,
+                hide,
+                item.token.space,
+                body,
+            )?
         };
         state.put(items)
     }
@@ -394,7 +411,13 @@ impl Macros {
     }
 
     /// Replaces a use whose arguments are all done.
-    fn complete(&self, state: &mut State, pending: Pending, found: &Macro, names: &mut Names) -> Result<(), Refusal>
+    fn complete(
+        &self,
+        state: &mut State,
+        pending: Pending,
+        found: &Macro,
+        names: &mut Names,
+    ) -> Result<(), Refusal>
         ensures { IfErr result StopsExpansion }
     {
         let name = pending.name;
@@ -408,7 +431,15 @@ impl Macros {
         let common = state.sets.both(name.hide, pending.close)?;
         let hide = state.sets.with(found.name, common)?;
         let body = found.body.as_slice();
-        let items = replacement(state.alloc, names, &mut state.sets, used, hide, name.token.space, body)?;
+        let items = replacement(
+            state.alloc,
+            names,
+            &mut state.sets,
+            used,
+            hide,
+            name.token.space,
+            body,
+        )?;
         let Pending { level, size, .. } = pending;
         state.level = level;
         state.waiting = state.waiting.saturating_sub(size);

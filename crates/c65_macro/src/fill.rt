@@ -117,7 +117,13 @@ impl Filling {
 }
 
 /// The tokens of a body with the arguments in their places.
-fn fill(alloc: Global, names: &mut Names, sets: &mut Sets, used: Use<'_>, body: &[PpToken]) -> Result<Vec<Marked>, Refusal>
+fn fill(
+    alloc: Global,
+    names: &mut Names,
+    sets: &mut Sets,
+    used: Use<'_>,
+    body: &[PpToken],
+) -> Result<Vec<Marked>, Refusal>
     ensures { IfErr result StopsExpansion }
 {
     let mut filling = Filling {
@@ -165,7 +171,14 @@ fn add(
     };
     match used.argument_of(arguments, token) {
         Some(argument) => filling.attach(alloc, names, sets, used.pos, argument, token.space),
-        None => filling.attach(alloc, names, sets, used.pos, &[used.own(token)], token.space),
+        None => filling.attach(
+            alloc,
+            names,
+            sets,
+            used.pos,
+            &[used.own(token)],
+            token.space,
+        ),
     }
 }
 

@@ -10,10 +10,10 @@ mod marked;
 mod predefined;
 mod sets;
 mod table;
-mod text;
-mod uses;
 #[cfg(test)]
 mod tests;
+mod text;
+mod uses;
 
 pub use item::{Macro, Params, Words};
 pub use table::Macros;

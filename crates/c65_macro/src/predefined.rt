@@ -37,7 +37,12 @@ fn words(names: &mut Names) -> Result<Words, Refusal>
 }
 
 /// Adds a macro without parameters.
-fn add(alloc: Global, table: &mut IndexMap<Name, Macro>, name: Name, body: &[PpToken]) -> Result<(), Refusal>
+fn add(
+    alloc: Global,
+    table: &mut IndexMap<Name, Macro>,
+    name: Name,
+    body: &[PpToken],
+) -> Result<(), Refusal>
     ensures { IfErr result LacksRoom }
 {
     let body = PpTokens::from_vec(Vec::from_slice(alloc, body)?);
@@ -102,15 +107,47 @@ impl Macros {
         let mut table = IndexMap::new(alloc);
         add(alloc, &mut table, words.line, &[])?;
         add(alloc, &mut table, words.file, &[])?;
-        add_one(alloc, &mut table, names, b"__DATE__", PpKind::Text, b"\"Jan  1 1970\"")?;
-        add_one(alloc, &mut table, names, b"__TIME__", PpKind::Text, b"\"00:00:00\"")?;
+        add_one(
+            alloc,
+            &mut table,
+            names,
+            b"__DATE__",
+            PpKind::Text,
+            b"\"Jan  1 1970\"",
+        )?;
+        add_one(
+            alloc,
+            &mut table,
+            names,
+            b"__TIME__",
+            PpKind::Text,
+            b"\"00:00:00\"",
+        )?;
         add_switch(alloc, &mut table, names, b"__STDC__", true)?;
         add_switch(alloc, &mut table, names, b"__CC65__", true)?;
         let on = options.optimise;
         add_switch(alloc, &mut table, names, b"__OPT__", on)?;
-        add_switch(alloc, &mut table, names, b"__OPT_i__", on && options.inline_more)?;
-        add_switch(alloc, &mut table, names, b"__OPT_r__", on && options.register_vars)?;
-        add_switch(alloc, &mut table, names, b"__OPT_s__", on && options.known_functions)?;
+        add_switch(
+            alloc,
+            &mut table,
+            names,
+            b"__OPT_i__",
+            on && options.inline_more,
+        )?;
+        add_switch(
+            alloc,
+            &mut table,
+            names,
+            b"__OPT_r__",
+            on && options.register_vars,
+        )?;
+        add_switch(
+            alloc,
+            &mut table,
+            names,
+            b"__OPT_s__",
+            on && options.known_functions,
+        )?;
         Ok(Macros {
             predefined: table,
             defined: IndexMap::new(alloc),
@@ -155,7 +192,12 @@ impl Macros {
     }
 
     /// What stands for `__FILE__`.
-    pub(crate) fn file_name(&self, alloc: Global, item: Marked, hide: Hide) -> Result<Vec<Marked>, Refusal>
+    pub(crate) fn file_name(
+        &self,
+        alloc: Global,
+        item: Marked,
+        hide: Hide,
+    ) -> Result<Vec<Marked>, Refusal>
         ensures { IfErr result StopsExpansion }
     {
         one(alloc, item, hide, PpKind::Text, self.file)
@@ -163,7 +205,13 @@ impl Macros {
 }
 
 /// One token in the place of a name.
-fn one(alloc: Global, item: Marked, hide: Hide, kind: PpKind, spelling: Name) -> Result<Vec<Marked>, Refusal>
+fn one(
+    alloc: Global,
+    item: Marked,
+    hide: Hide,
+    kind: PpKind,
+    spelling: Name,
+) -> Result<Vec<Marked>, Refusal>
     ensures { IfErr result StopsExpansion }
 {
     let mut items = Vec::new(alloc);

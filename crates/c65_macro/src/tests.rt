@@ -1,3 +1,5 @@
+ghost use Rattle.std.specs.Prelude.{◌<◌, ◌≤◌, length};
+
 use crate::class::class_of;
 use crate::{Macro, Macros, Params};
 use c65_base::{Code, Name, Names, Options, Pos, Refusal, Size};
@@ -6,7 +8,11 @@ use std::alloc::Global;
 use std::test::Fail;
 
 /// The longest spelling of a token at the front.
-fn longest(text: &[u8]) -> usize {
+fn longest(text: &[u8]) -> usize
+    requires { 0 < length text.now }
+    ensures positive { 0 < result }
+    ensures within { result ≤ length text.now }
+{
     let mut length = text.len();
     while length > 1 {
         if class_of(&text[..length]).is_some() {
@@ -50,23 +56,31 @@ fn place(line: u32) -> Pos {
 }
 
 /// The parameters between parentheses, and how many tokens they take.
-fn params_of(alloc: Global, comma: Name, close: Name, tokens: &[PpToken]) -> Result<(Vec<Name>, usize), Refusal> {
+fn params_of(
+    alloc: Global,
+    comma: Name,
+    close: Name,
+    tokens: &[PpToken],
+) -> Result<(Vec<Name>, usize), Refusal> {
     let mut params = Vec::new(alloc);
-    let mut count = 0;
-    for token in tokens {
-        count += 1;
+    for (i, token) in tokens.iter().enumerate() {
         if token.spelling == close {
-            break;
+            return Ok((params, i + 1));
         }
         if token.spelling != comma {
             params.push(token.spelling)?;
         }
     }
-    Ok((params, count))
+    Ok((params, tokens.len()))
 }
 
 /// Defines a macro as a directive's line does behind its name.
-fn define(alloc: Global, macros: &mut Macros, names: &mut Names, text: &str) -> Result<(), Refusal> {
+fn define(
+    alloc: Global,
+    macros: &mut Macros,
+    names: &mut Names,
+    text: &str,
+) -> Result<(), Refusal> {
     let tokens = lex(alloc, names, text, 1)?;
     let open = names.intern(b"(")?;
     let close = names.intern(b")")?;
@@ -92,7 +106,12 @@ fn define(alloc: Global, macros: &mut Macros, names: &mut Names, text: &str) -> 
 }
 
 /// Does the definitions, one a line, and gives the expansion of a text, whose lines begin with the 10th.
-fn expansion(alloc: Global, names: &mut Names, definitions: &[&str], text: &str) -> Result<Vec<PpToken>, Refusal> {
+fn expansion(
+    alloc: Global,
+    names: &mut Names,
+    definitions: &[&str],
+    text: &str,
+) -> Result<Vec<PpToken>, Refusal> {
     let mut macros = Macros::new(alloc, &Options::none(), names)?;
     for definition in definitions {
         define(alloc, &mut macros, names, definition)?;
@@ -114,7 +133,16 @@ fn shown(alloc: Global, names: &Names, tokens: &[PpToken]) -> Result<Vec<u8>, Re
 }
 
 const PUZZLE: [&str; 10] = [
-    "x 2", "f(a) f(x * (a))", "g f", "z z[0]", "h g(~", "m(a) a(w)", "w 0,1", "t(a) a", "p() int", "q(x) x",
+    "x 2",
+    "f(a) f(x * (a))",
+    "g f",
+    "z z[0]",
+    "h g(~",
+    "m(a) a(w)",
+    "w 0,1",
+    "t(a) a",
+    "p() int",
+    "q(x) x",
 ];
 
 const STRINGS: [&str; 8] = [
@@ -132,11 +160,27 @@ const STRINGS: [&str; 8] = [
 fn the_examples_of_the_standard(rt: HostRuntime) -> Result<(), Fail> {
     let rows: [(&[&str], &str, &str); 10] = [
         (&["TABSIZE 100"], "int table[TABSIZE];", "int table[100];"),
-        (&["max(a, b) ((a) > (b) ? (a) : (b))"], "max(x,y+1)", "((x) > (y+1) ? (x) : (y+1))"),
-        (&PUZZLE, "f(y+1) + f(f(z)) % t(t(g)(0) + t)(1);", "f(2 * (y+1)) + f(2 * (f(2 * (z[0])))) % f(2 * (0)) + t(1);"),
-        (&PUZZLE, "g(x+(3,4)-w) | h 5) & m\n(f)^m(m);", "f(2 * (2+(3,4)-0,1)) | f(2 * (~ 5)) & f(2 * (0,1))^m(0,1);"),
+        (
+            &["max(a, b) ((a) > (b) ? (a) : (b))"],
+            "max(x,y+1)",
+            "((x) > (y+1) ? (x) : (y+1))",
+        ),
+        (
+            &PUZZLE,
+            "f(y+1) + f(f(z)) % t(t(g)(0) + t)(1);",
+            "f(2 * (y+1)) + f(2 * (f(2 * (z[0])))) % f(2 * (0)) + t(1);",
+        ),
+        (
+            &PUZZLE,
+            "g(x+(3,4)-w) | h 5) & m\n(f)^m(m);",
+            "f(2 * (2+(3,4)-0,1)) | f(2 * (~ 5)) & f(2 * (0,1))^m(0,1);",
+        ),
         (&PUZZLE, "p() i[q()]", "int i[]"),
-        (&STRINGS, "debug(1, 2);", "printf(\"x\" \"1\" \"= %d, x\" \"2\" \"= %s\", x1, x2);"),
+        (
+            &STRINGS,
+            "debug(1, 2);",
+            "printf(\"x\" \"1\" \"= %d, x\" \"2\" \"= %s\", x1, x2);",
+        ),
         (
             &STRINGS,
             "fputs(str(strncmp(\"abc\\0d\", \"abc\", '\\4') /* \n */ == 0) str(: @\\n), s);",
@@ -191,12 +235,20 @@ fn fault(code: Code, line: u32) -> Refusal {
 fn uses_that_are_refused(rt: HostRuntime) -> Result<(), Fail> {
     let rows: [(&[&str], &str, Refusal); 7] = [
         (&["p(a) a"], "\np(1\n\n", fault(Code::OpenArguments, 11)),
-        (&["p(a) a", "g p("], "\np(g)(1)", fault(Code::OpenArguments, 11)),
+        (
+            &["p(a) a", "g p("],
+            "\np(g)(1)",
+            fault(Code::OpenArguments, 11),
+        ),
         (&["p(a) a"], "\n\np(1,2)", fault(Code::MacroArguments, 12)),
         (&["p(a,b) a"], "p(1)", fault(Code::MacroArguments, 10)),
         (&["p() a"], "p(1)", fault(Code::MacroArguments, 10)),
         (&["p(a,b) a ## b"], "\np(+,/)", fault(Code::BadPaste, 11)),
-        (&["p(a,b) a ## b", "q p(/,/)"], "\nq", fault(Code::BadPaste, 11)),
+        (
+            &["p(a,b) a ## b", "q p(/,/)"],
+            "\nq",
+            fault(Code::BadPaste, 11),
+        ),
     ];
     for (definitions, text, expected) in &rows {
         let mut names = Names::new(rt.alloc());
@@ -249,14 +301,18 @@ fn lines_files_and_options(rt: HostRuntime) -> Result<(), Fail> {
     };
     let mut macros = Macros::new(alloc, &options, &mut names)?;
     define(alloc, &mut macros, &mut names, "here(a) a __LINE__")?;
-    let text = "__LINE__ __FILE__\nhere(\n__LINE__)\n__OPT__ __OPT_r__ __OPT_i__ __DATE__ __TIME__ __CC65__";
+    let text =
+        "__LINE__ __FILE__\nhere(\n__LINE__)\n__OPT__ __OPT_r__ __OPT_i__ __DATE__ __TIME__ __CC65__";
     let line = lex(alloc, &mut names, text, 10)?;
     let first = macros.expand(&line, &mut names)?;
     let out = shown(alloc, &names, &first)?;
-    assert_eq!(rt; out.as_slice(), b"10 \"\"\n12 11\n1 1 __OPT_i__ \"Jan  1 1970\" \"00:00:00\" 1".as_slice());
+    assert_eq!(rt;
+        out.as_slice(),
+        b"10 \"\"\n12 11\n1 1 __OPT_i__ \"Jan  1 1970\" \"00:00:00\" 1".as_slice()
+    );
     let file = names.intern(b"\"b.c\"")?;
     macros.set_line(file, -3);
-    let second = macros.expand(&line[..2], &mut names)?;
+    let second = macros.expand(line.get(..2).unwrap_or(&[]), &mut names)?;
     let out = shown(alloc, &names, &second)?;
     assert_eq!(rt; out.as_slice(), b"7 \"b.c\"".as_slice());
     let stdc = names.intern(b"__STDC__")?;
@@ -275,7 +331,15 @@ fn places_and_white_space(rt: HostRuntime) -> Result<(), Fail> {
     let alloc = rt.alloc();
     let mut names = Names::new(alloc);
     let tokens = expansion(alloc, &mut names, &["f(a) [a # a]"], "x\n f(\ny\nz)")?;
-    let expected = [(10, false), (10, false), (11, true), (12, false), (13, true), (11, true), (11, false)];
+    let expected = [
+        (10, false),
+        (10, false),
+        (11, true),
+        (12, false),
+        (13, true),
+        (11, true),
+        (11, false),
+    ];
     assert_eq!(rt; tokens.len(), expected.len());
     for (token, (line, space)) in tokens.iter().zip(expected.iter()) {
         assert_eq!(rt; token.pos.line, *line);
