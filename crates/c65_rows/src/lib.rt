@@ -1,0 +1,9 @@
+//! Whole commands over files and streams in memory, as tests.
+#![tactic(auto)]
+
+#[cfg(test)]
+mod commands;
+#[cfg(test)]
+mod go;
+#[cfg(test)]
+mod run;
