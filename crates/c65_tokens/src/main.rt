@@ -2,6 +2,9 @@
 //! `c65_tokens FILE` prints how many preprocessing tokens, line ends included, and how many tokens it has.
 #![tactic(auto)]
 
+#[cfg(test)]
+mod tests;
+
 use c65_base::{Names, Refusal};
 use c65_lex::{Lexer, Paths, PpTokens, PpUnit};
 use c65_scan::scan;
