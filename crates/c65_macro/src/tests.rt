@@ -2,7 +2,7 @@ ghost use Rattle.std.specs.Prelude.{◌<◌, ◌≤◌, length};
 
 use crate::class::class_of;
 use crate::{Macro, Macros, Params};
-use c65_base::{Code, Name, Names, Options, Pos, Refusal, Size};
+use c65_base::{Code, Name, Names, Options, Pos, Refusal};
 use c65_lex::{PpKind, PpToken, PpTokens};
 use std::alloc::Global;
 use std::test::Fail;
@@ -49,10 +49,6 @@ fn lex(alloc: Global, names: &mut Names, text: &str, first: u32) -> Result<Vec<P
         rest = &rest[length..];
     }
     Ok(tokens)
-}
-
-fn place(line: u32) -> Pos {
-    Pos { file: 0, line }
 }
 
 /// The parameters between parentheses, and how many tokens they take.
@@ -156,6 +152,28 @@ const STRINGS: [&str; 8] = [
     "LOW LOW \", world\"",
 ];
 
+/// Does a text expand to this one after these definitions?
+fn expands_to(
+    alloc: Global,
+    definitions: &[&str],
+    text: &str,
+    expected: &str,
+) -> Result<bool, Refusal> {
+    let mut names = Names::new(alloc);
+    let tokens = expansion(alloc, &mut names, definitions, text)?;
+    let out = shown(alloc, &names, &tokens)?;
+    Ok(out.as_slice() == expected.as_bytes())
+}
+
+/// The fault of the definitions or of the text's expansion, and its line.
+fn fault_of(alloc: Global, definitions: &[&str], text: &str) -> Option<(Code, u32)> {
+    let mut names = Names::new(alloc);
+    match expansion(alloc, &mut names, definitions, text) {
+        Err(Refusal::At { code, pos }) => Some((code, pos.line)),
+        _ => None,
+    }
+}
+
 #[test]
 fn the_examples_of_the_standard(rt: HostRuntime) -> Result<(), Fail> {
     let rows: [(&[&str], &str, &str); 10] = [
@@ -190,11 +208,8 @@ fn the_examples_of_the_standard(rt: HostRuntime) -> Result<(), Fail> {
         (&STRINGS, "glue(HIGH, LOW);", "\"hello\";"),
         (&STRINGS, "xglue(HIGH, LOW)", "\"hello\" \", world\""),
     ];
-    for (definitions, text, expected) in &rows {
-        let mut names = Names::new(rt.alloc());
-        let tokens = expansion(rt.alloc(), &mut names, definitions, text)?;
-        let out = shown(rt.alloc(), &names, &tokens)?;
-        assert_eq!(rt; out.as_slice(), expected.as_bytes(), "{text}");
+    for (definitions, text, expected) in rows {
+        assert!(rt; expands_to(rt.alloc(), definitions, text, expected)?);
     }
     Ok(())
 }
@@ -215,47 +230,25 @@ fn expansions(rt: HostRuntime) -> Result<(), Fail> {
         (&["e", "f(a) <a>"], "f(e)e.", "<>."),
         (&["p(a) a ## 1", "v 2"], "p(v) v", "v1 2"),
     ];
-    for (definitions, text, expected) in &rows {
-        let mut names = Names::new(rt.alloc());
-        let tokens = expansion(rt.alloc(), &mut names, definitions, text)?;
-        let out = shown(rt.alloc(), &names, &tokens)?;
-        assert_eq!(rt; out.as_slice(), expected.as_bytes(), "{text}");
+    for (definitions, text, expected) in rows {
+        assert!(rt; expands_to(rt.alloc(), definitions, text, expected)?);
     }
     Ok(())
 }
 
-fn fault(code: Code, line: u32) -> Refusal {
-    Refusal::At {
-        code,
-        pos: place(line),
-    }
-}
-
 #[test]
 fn uses_that_are_refused(rt: HostRuntime) -> Result<(), Fail> {
-    let rows: [(&[&str], &str, Refusal); 7] = [
-        (&["p(a) a"], "\np(1\n\n", fault(Code::OpenArguments, 11)),
-        (
-            &["p(a) a", "g p("],
-            "\np(g)(1)",
-            fault(Code::OpenArguments, 11),
-        ),
-        (&["p(a) a"], "\n\np(1,2)", fault(Code::MacroArguments, 12)),
-        (&["p(a,b) a"], "p(1)", fault(Code::MacroArguments, 10)),
-        (&["p() a"], "p(1)", fault(Code::MacroArguments, 10)),
-        (&["p(a,b) a ## b"], "\np(+,/)", fault(Code::BadPaste, 11)),
-        (
-            &["p(a,b) a ## b", "q p(/,/)"],
-            "\nq",
-            fault(Code::BadPaste, 11),
-        ),
+    let rows: [(&[&str], &str, Code, u32); 7] = [
+        (&["p(a) a"], "\np(1\n\n", Code::OpenArguments, 11),
+        (&["p(a) a", "g p("], "\np(g)(1)", Code::OpenArguments, 11),
+        (&["p(a) a"], "\n\np(1,2)", Code::MacroArguments, 12),
+        (&["p(a,b) a"], "p(1)", Code::MacroArguments, 10),
+        (&["p() a"], "p(1)", Code::MacroArguments, 10),
+        (&["p(a,b) a ## b"], "\np(+,/)", Code::BadPaste, 11),
+        (&["p(a,b) a ## b", "q p(/,/)"], "\nq", Code::BadPaste, 11),
     ];
-    for (definitions, text, expected) in &rows {
-        let mut names = Names::new(rt.alloc());
-        match expansion(rt.alloc(), &mut names, definitions, text) {
-            Ok(_) => assert!(rt; false, "{text}"),
-            Err(refusal) => assert_eq!(rt; &refusal, expected, "{text}"),
-        }
+    for (definitions, text, code, line) in rows {
+        assert!(rt; fault_of(rt.alloc(), definitions, text) == Some((code, line)));
     }
     Ok(())
 }
@@ -280,19 +273,16 @@ fn definitions_that_are_refused(rt: HostRuntime) -> Result<(), Fail> {
         (&["f ## b"], Some(Code::BadPaste)),
         (&["f(a) a ##"], Some(Code::BadPaste)),
     ];
-    for (definitions, code) in &rows {
-        let mut names = Names::new(rt.alloc());
-        match (expansion(rt.alloc(), &mut names, definitions, ""), code) {
-            (Err(refusal), Some(code)) => assert_eq!(rt; refusal, fault(*code, 1)),
-            (outcome, _) => assert_eq!(rt; outcome.is_ok(), code.is_none()),
-        }
+    for (definitions, code) in rows {
+        let fault = fault_of(rt.alloc(), definitions, "");
+        assert!(rt; fault == code.map(|code| (code, 1)));
     }
     Ok(())
 }
 
-#[test]
-fn lines_files_and_options(rt: HostRuntime) -> Result<(), Fail> {
-    let alloc = rt.alloc();
+/// The text's expansion where the optimiser and register variables are on, and that of its first two tokens once the
+/// lines are three less and the file has another name.
+fn options_and_lines(alloc: Global, text: &str) -> Result<(Vec<u8>, Vec<u8>), Refusal> {
     let mut names = Names::new(alloc);
     let options = Options {
         optimise: true,
@@ -301,28 +291,45 @@ fn lines_files_and_options(rt: HostRuntime) -> Result<(), Fail> {
     };
     let mut macros = Macros::new(alloc, &options, &mut names)?;
     define(alloc, &mut macros, &mut names, "here(a) a __LINE__")?;
-    let text =
-        "__LINE__ __FILE__\nhere(\n__LINE__)\n__OPT__ __OPT_r__ __OPT_i__ __DATE__ __TIME__ __CC65__";
     let line = lex(alloc, &mut names, text, 10)?;
     let first = macros.expand(&line, &mut names)?;
-    let out = shown(alloc, &names, &first)?;
-    assert_eq!(rt;
-        out.as_slice(),
-        b"10 \"\"\n12 11\n1 1 __OPT_i__ \"Jan  1 1970\" \"00:00:00\" 1".as_slice()
-    );
     let file = names.intern(b"\"b.c\"")?;
     macros.set_line(file, -3);
     let second = macros.expand(line.get(..2).unwrap_or(&[]), &mut names)?;
-    let out = shown(alloc, &names, &second)?;
-    assert_eq!(rt; out.as_slice(), b"7 \"b.c\"".as_slice());
+    Ok((
+        shown(alloc, &names, &first)?,
+        shown(alloc, &names, &second)?,
+    ))
+}
+
+#[test]
+fn lines_files_and_options(rt: HostRuntime) -> Result<(), Fail> {
+    let text =
+        "__LINE__ __FILE__\nhere(\n__LINE__)\n__OPT__ __OPT_r__ __OPT_i__ __DATE__ __TIME__ __CC65__";
+    let (first, second) = options_and_lines(rt.alloc(), text)?;
+    let expected = "10 \"\"\n12 11\n1 1 __OPT_i__ \"Jan  1 1970\" \"00:00:00\" 1";
+    assert!(rt; first.as_slice() == expected.as_bytes());
+    assert!(rt; second.as_slice() == "7 \"b.c\"".as_bytes());
+    Ok(())
+}
+
+/// Which of these hold: a predefined name is there to be removed, and stays; a defined one is there once.
+fn removals(alloc: Global) -> Result<[bool; 4], Refusal> {
+    let mut names = Names::new(alloc);
+    let mut macros = Macros::new(alloc, &Options::none(), &mut names)?;
+    define(alloc, &mut macros, &mut names, "here 1")?;
     let stdc = names.intern(b"__STDC__")?;
     let here = names.intern(b"here")?;
-    assert!(rt; macros.undef(stdc));
-    assert!(rt; macros.is_predefined(stdc));
-    assert!(rt; macros.get(stdc).is_some());
-    assert!(rt; macros.undef(here));
-    assert!(rt; !macros.undef(here));
-    assert!(rt; macros.get(here).is_none());
+    let was_predefined = macros.undef(stdc) && macros.is_predefined(stdc);
+    let stays = macros.get(stdc).is_some();
+    let was_there = macros.undef(here);
+    let gone = !macros.undef(here) && macros.get(here).is_none();
+    Ok([was_predefined, stays, was_there, gone])
+}
+
+#[test]
+fn macros_are_removed(rt: HostRuntime) -> Result<(), Fail> {
+    assert!(rt; removals(rt.alloc())? == [true; 4]);
     Ok(())
 }
 
@@ -342,8 +349,7 @@ fn places_and_white_space(rt: HostRuntime) -> Result<(), Fail> {
     ];
     assert_eq!(rt; tokens.len(), expected.len());
     for (token, (line, space)) in tokens.iter().zip(expected.iter()) {
-        assert_eq!(rt; token.pos.line, *line);
-        assert_eq!(rt; token.space, *space);
+        assert!(rt; token.pos.line == *line && token.space == *space);
     }
     Ok(())
 }
