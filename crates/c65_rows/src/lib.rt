@@ -4,6 +4,12 @@
 #[cfg(test)]
 mod commands;
 #[cfg(test)]
+mod fuzz;
+#[cfg(test)]
 mod go;
 #[cfg(test)]
+mod images;
+#[cfg(test)]
 mod run;
+#[cfg(test)]
+mod slow;
