@@ -8,9 +8,11 @@ mod lengths;
 mod lexer;
 mod place;
 mod scan;
+mod spelling;
 #[cfg(test)]
 mod tests;
 mod token;
 
 pub use lexer::Lexer;
+pub use spelling::class_of;
 pub use token::{Paths, PpKind, PpToken, PpTokens, PpUnit};

@@ -1,4 +1,5 @@
 use crate::lexer::Lexer;
+use crate::spelling::class_of;
 use crate::token::PpKind;
 use c65_base::{Code, Names, Refusal, Size};
 use std::alloc::Global;
@@ -157,5 +158,31 @@ fn lexes_many_lines(rt: HostRuntime) -> Result<(), Fail> {
         }
     }
     assert_eq!(rt; count, 16_000);
+    Ok(())
+}
+
+#[test]
+fn classes_of_whole_spellings(rt: HostRuntime) -> Result<(), Fail> {
+    let rows: [(&[u8], u8); 12] = [
+        (b"ab1", b'N'),
+        (b".5e+1", b'D'),
+        (b"L'\\''", b'C'),
+        (b"\"a\"", b'T'),
+        (b">>=", b'P'),
+        (b"@", b'O'),
+        (b"\n", b'E'),
+        (b"", b'-'),
+        (b"a b", b'-'),
+        (b"+-", b'-'),
+        (b"'a", b'-'),
+        (b"<a>", b'-'),
+    ];
+    for (text, want) in rows {
+        let class = match class_of(text) {
+            Some(kind) => letter(kind),
+            None => b'-',
+        };
+        assert_eq!(rt; class, want);
+    }
     Ok(())
 }
