@@ -1,0 +1,7 @@
+use Rattle.std.proofs.Common.{IsTrue, ◌↔◌, subst, sym}
+use Rattle.c65_code.specs.Parts.{has_part}
+use Rattle.c65_code.proofs.PartLaws.{has_part-minus, minus_iff}
+use Rattle.c65_code.proofs.parts.RegSet.minus.Goals as goal
+
+pub returns-clause-parts : goal.returns-clause-parts
+returns-clause-parts c = λ p. subst (λ b. IsTrue b ↔ (IsTrue (has_part c.args.self p) × ¬ (IsTrue (has_part c.args.other p)))) (sym (has_part-minus c.args.self c.args.other p)) (minus_iff (has_part c.args.self p) (has_part c.args.other p))

@@ -1,0 +1,5 @@
+pub mod Parts
+pub mod Names
+pub mod Effects
+pub mod Access
+pub mod Segments

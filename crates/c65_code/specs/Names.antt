@@ -1,0 +1,181 @@
+-- The names of the runtime's routines, and which routine has a name.
+use Rattle.std.specs.Prelude.{ℕ, List, [], ◌∷◌, Option, Some, None, find, codes, bytes_eq}
+use Rattle.c65_code.specs.declared.routine.Count.{Count}
+use Rattle.c65_code.specs.declared.routine.Count.TheVariants.{One, Two, Three, Four, Five, Six, Seven, Eight}
+use Rattle.c65_code.specs.declared.routine.Width.{Width}
+use Rattle.c65_code.specs.declared.routine.Width.TheVariants.{Ax, Eax}
+use Rattle.c65_code.specs.declared.routine.TosOp.{TosOp}
+use Rattle.c65_code.specs.declared.routine.TosOp.TheVariants as tos
+use Rattle.c65_code.specs.declared.routine.UnaryRoutine.{UnaryRoutine}
+use Rattle.c65_code.specs.declared.routine.UnaryRoutine.TheVariants.{Neg, Compl, Shl1, Shr1, Asr1, BNeg}
+use Rattle.c65_code.specs.declared.routine.LibraryFunction.{LibraryFunction}
+use Rattle.c65_code.specs.declared.routine.LibraryFunction.TheVariants.{PutChar, GetChar, Puts, Exit, MemCpy, MemSet, StrCmp, StrCpy, StrLen}
+use Rattle.c65_code.specs.declared.routine.Routine.{Routine}
+use Rattle.c65_code.specs.declared.routine.Routine.TheVariants as routines
+
+abbrev pub raise_name_of : Count → List ℕ
+raise_name_of One = codes "incsp1"
+raise_name_of Two = codes "incsp2"
+raise_name_of Three = codes "incsp3"
+raise_name_of Four = codes "incsp4"
+raise_name_of Five = codes "incsp5"
+raise_name_of Six = codes "incsp6"
+raise_name_of Seven = codes "incsp7"
+raise_name_of Eight = codes "incsp8"
+
+abbrev pub lower_name_of : Count → List ℕ
+lower_name_of One = codes "decsp1"
+lower_name_of Two = codes "decsp2"
+lower_name_of Three = codes "decsp3"
+lower_name_of Four = codes "decsp4"
+lower_name_of Five = codes "decsp5"
+lower_name_of Six = codes "decsp6"
+lower_name_of Seven = codes "decsp7"
+lower_name_of Eight = codes "decsp8"
+
+abbrev pub word_name_of : TosOp → List ℕ
+word_name_of tos.Add = codes "tosaddax"
+word_name_of tos.Sub = codes "tossubax"
+word_name_of tos.Mul = codes "tosmulax"
+word_name_of tos.And = codes "tosandax"
+word_name_of tos.Or = codes "tosorax"
+word_name_of tos.Xor = codes "tosxorax"
+word_name_of tos.Div = codes "tosdivax"
+word_name_of tos.Mod = codes "tosmodax"
+word_name_of tos.UDiv = codes "tosudivax"
+word_name_of tos.UMod = codes "tosumodax"
+word_name_of tos.Shl = codes "tosshlax"
+word_name_of tos.Shr = codes "tosshrax"
+word_name_of tos.Asr = codes "tosasrax"
+word_name_of tos.Eq = codes "toseqax"
+word_name_of tos.Ne = codes "tosneax"
+word_name_of tos.Lt = codes "tosltax"
+word_name_of tos.Le = codes "tosleax"
+word_name_of tos.Gt = codes "tosgtax"
+word_name_of tos.Ge = codes "tosgeax"
+word_name_of tos.ULt = codes "tosultax"
+word_name_of tos.ULe = codes "tosuleax"
+word_name_of tos.UGt = codes "tosugtax"
+word_name_of tos.UGe = codes "tosugeax"
+
+abbrev pub long_name_of : TosOp → List ℕ
+long_name_of tos.Add = codes "tosaddeax"
+long_name_of tos.Sub = codes "tossubeax"
+long_name_of tos.Mul = codes "tosmuleax"
+long_name_of tos.And = codes "tosandeax"
+long_name_of tos.Or = codes "tosoreax"
+long_name_of tos.Xor = codes "tosxoreax"
+long_name_of tos.Div = codes "tosdiveax"
+long_name_of tos.Mod = codes "tosmodeax"
+long_name_of tos.UDiv = codes "tosudiveax"
+long_name_of tos.UMod = codes "tosumodeax"
+long_name_of tos.Shl = codes "tosshleax"
+long_name_of tos.Shr = codes "tosshreax"
+long_name_of tos.Asr = codes "tosasreax"
+long_name_of tos.Eq = codes "toseqeax"
+long_name_of tos.Ne = codes "tosneeax"
+long_name_of tos.Lt = codes "toslteax"
+long_name_of tos.Le = codes "tosleeax"
+long_name_of tos.Gt = codes "tosgteax"
+long_name_of tos.Ge = codes "tosgeeax"
+long_name_of tos.ULt = codes "tosulteax"
+long_name_of tos.ULe = codes "tosuleeax"
+long_name_of tos.UGt = codes "tosugteax"
+long_name_of tos.UGe = codes "tosugeeax"
+
+abbrev pub unary_name_of : UnaryRoutine → Width → List ℕ
+unary_name_of Neg Ax = codes "negax"
+unary_name_of Neg Eax = codes "negeax"
+unary_name_of Compl Ax = codes "complax"
+unary_name_of Compl Eax = codes "compleax"
+unary_name_of Shl1 Ax = codes "shlax1"
+unary_name_of Shl1 Eax = codes "shleax1"
+unary_name_of Shr1 Ax = codes "shrax1"
+unary_name_of Shr1 Eax = codes "shreax1"
+unary_name_of Asr1 Ax = codes "asrax1"
+unary_name_of Asr1 Eax = codes "asreax1"
+unary_name_of BNeg Ax = codes "bnegax"
+unary_name_of BNeg Eax = codes "bnegeax"
+
+abbrev pub library_name_of : LibraryFunction → List ℕ
+library_name_of PutChar = codes "putchar"
+library_name_of GetChar = codes "getchar"
+library_name_of Puts = codes "puts"
+library_name_of Exit = codes "exit"
+library_name_of MemCpy = codes "memcpy"
+library_name_of MemSet = codes "memset"
+library_name_of StrCmp = codes "strcmp"
+library_name_of StrCpy = codes "strcpy"
+library_name_of StrLen = codes "strlen"
+
+abbrev pub name_of : Routine → List ℕ
+name_of routines.PushA = codes "pusha"
+name_of routines.PushAx = codes "pushax"
+name_of routines.PushA0 = codes "pusha0"
+name_of routines.Push0 = codes "push0"
+name_of routines.PushEax = codes "pusheax"
+name_of routines.PopA = codes "popa"
+name_of routines.PopAx = codes "popax"
+name_of routines.PopEax = codes "popeax"
+name_of routines.PopPtrs = codes "popptrs"
+name_of (routines.IncSp count) = raise_name_of count
+name_of (routines.DecSp count) = lower_name_of count
+name_of routines.AddYSp = codes "addysp"
+name_of routines.SubYSp = codes "subysp"
+name_of routines.LdAxYSp = codes "ldaxysp"
+name_of routines.LdAx0Sp = codes "ldax0sp"
+name_of routines.LdEaxYSp = codes "ldeaxysp"
+name_of routines.StAxYSp = codes "staxysp"
+name_of routines.StAx0Sp = codes "stax0sp"
+name_of routines.StEaxYSp = codes "steaxysp"
+name_of routines.LdAi = codes "ldai"
+name_of routines.LdAxi = codes "ldaxi"
+name_of routines.LdEaxi = codes "ldeaxi"
+name_of routines.StATos = codes "statos"
+name_of routines.StAxTos = codes "staxtos"
+name_of routines.StEaxTos = codes "steaxtos"
+name_of routines.CopyTos = codes "copytos"
+name_of (routines.Tos op Ax) = word_name_of op
+name_of (routines.Tos op Eax) = long_name_of op
+name_of (routines.Unary op width) = unary_name_of op width
+name_of routines.SignA = codes "signa"
+name_of routines.LongAx = codes "longax"
+name_of routines.ULongAx = codes "ulongax"
+name_of routines.SaveRegs = codes "saveregs"
+name_of routines.RestRegs = codes "restregs"
+name_of routines.CallPtr4 = codes "callptr4"
+name_of routines.Start = codes "start"
+name_of routines.StartArgs = codes "startargs"
+name_of (routines.Library function) = library_name_of function
+name_of routines.HookOpen = codes "hookopen"
+name_of routines.HookClose = codes "hookclose"
+name_of routines.HookRead = codes "hookread"
+name_of routines.HookWrite = codes "hookwrite"
+name_of routines.HookArgs = codes "hookargs"
+name_of routines.HookExit = codes "hookexit"
+
+abbrev pub stack_routines : List Routine
+stack_routines = routines.PushA ∷ routines.PushAx ∷ routines.PushA0 ∷ routines.Push0 ∷ routines.PushEax ∷ routines.PopA ∷ routines.PopAx ∷ routines.PopEax ∷ routines.PopPtrs ∷ routines.IncSp One ∷ routines.IncSp Two ∷ routines.IncSp Three ∷ routines.IncSp Four ∷ routines.IncSp Five ∷ routines.IncSp Six ∷ routines.IncSp Seven ∷ routines.IncSp Eight ∷ routines.DecSp One ∷ routines.DecSp Two ∷ routines.DecSp Three ∷ routines.DecSp Four ∷ routines.DecSp Five ∷ routines.DecSp Six ∷ routines.DecSp Seven ∷ routines.DecSp Eight ∷ routines.AddYSp ∷ routines.SubYSp ∷ routines.LdAxYSp ∷ routines.LdAx0Sp ∷ routines.LdEaxYSp ∷ routines.StAxYSp ∷ routines.StAx0Sp ∷ routines.StEaxYSp ∷ []
+
+abbrev pub word_operators : List Routine
+word_operators = routines.Tos tos.Add Ax ∷ routines.Tos tos.Sub Ax ∷ routines.Tos tos.Mul Ax ∷ routines.Tos tos.And Ax ∷ routines.Tos tos.Or Ax ∷ routines.Tos tos.Xor Ax ∷ routines.Tos tos.Div Ax ∷ routines.Tos tos.Mod Ax ∷ routines.Tos tos.UDiv Ax ∷ routines.Tos tos.UMod Ax ∷ routines.Tos tos.Shl Ax ∷ routines.Tos tos.Shr Ax ∷ routines.Tos tos.Asr Ax ∷ routines.Tos tos.Eq Ax ∷ routines.Tos tos.Ne Ax ∷ routines.Tos tos.Lt Ax ∷ routines.Tos tos.Le Ax ∷ routines.Tos tos.Gt Ax ∷ routines.Tos tos.Ge Ax ∷ routines.Tos tos.ULt Ax ∷ routines.Tos tos.ULe Ax ∷ routines.Tos tos.UGt Ax ∷ routines.Tos tos.UGe Ax ∷ []
+
+abbrev pub long_operators : List Routine
+long_operators = routines.Tos tos.Add Eax ∷ routines.Tos tos.Sub Eax ∷ routines.Tos tos.Mul Eax ∷ routines.Tos tos.And Eax ∷ routines.Tos tos.Or Eax ∷ routines.Tos tos.Xor Eax ∷ routines.Tos tos.Div Eax ∷ routines.Tos tos.Mod Eax ∷ routines.Tos tos.UDiv Eax ∷ routines.Tos tos.UMod Eax ∷ routines.Tos tos.Shl Eax ∷ routines.Tos tos.Shr Eax ∷ routines.Tos tos.Asr Eax ∷ routines.Tos tos.Eq Eax ∷ routines.Tos tos.Ne Eax ∷ routines.Tos tos.Lt Eax ∷ routines.Tos tos.Le Eax ∷ routines.Tos tos.Gt Eax ∷ routines.Tos tos.Ge Eax ∷ routines.Tos tos.ULt Eax ∷ routines.Tos tos.ULe Eax ∷ routines.Tos tos.UGt Eax ∷ routines.Tos tos.UGe Eax ∷ []
+
+abbrev pub other_routines : List Routine
+other_routines = routines.LdAi ∷ routines.LdAxi ∷ routines.LdEaxi ∷ routines.StATos ∷ routines.StAxTos ∷ routines.StEaxTos ∷ routines.CopyTos ∷ routines.Unary Neg Ax ∷ routines.Unary Neg Eax ∷ routines.Unary Compl Ax ∷ routines.Unary Compl Eax ∷ routines.Unary Shl1 Ax ∷ routines.Unary Shl1 Eax ∷ routines.Unary Shr1 Ax ∷ routines.Unary Shr1 Eax ∷ routines.Unary Asr1 Ax ∷ routines.Unary Asr1 Eax ∷ routines.Unary BNeg Ax ∷ routines.Unary BNeg Eax ∷ routines.SignA ∷ routines.LongAx ∷ routines.ULongAx ∷ routines.SaveRegs ∷ routines.RestRegs ∷ routines.CallPtr4 ∷ routines.Start ∷ routines.StartArgs ∷ []
+
+abbrev pub outside_routines : List Routine
+outside_routines = routines.Library PutChar ∷ routines.Library GetChar ∷ routines.Library Puts ∷ routines.Library Exit ∷ routines.Library MemCpy ∷ routines.Library MemSet ∷ routines.Library StrCmp ∷ routines.Library StrCpy ∷ routines.Library StrLen ∷ routines.HookOpen ∷ routines.HookClose ∷ routines.HookRead ∷ routines.HookWrite ∷ routines.HookArgs ∷ routines.HookExit ∷ []
+
+-- the first of these routines that has the name
+abbrev pub found_in : List Routine → List ℕ → Option Routine
+found_in routines name = find (λ r. bytes_eq (name_of r) name) routines
+
+abbrev pub or_else : Option Routine → Option Routine → Option Routine
+or_else (Some r) other = Some r
+or_else None other = other
+
+abbrev pub routine_named : List ℕ → Option Routine
+routine_named name = or_else (found_in stack_routines name) (or_else (found_in word_operators name) (or_else (found_in long_operators name) (or_else (found_in other_routines name) (found_in outside_routines name))))
