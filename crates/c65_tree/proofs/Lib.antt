@@ -1,2 +1,4 @@
+pub mod Growing
+pub mod Made
 pub mod Lists
 pub mod Views

@@ -37,7 +37,7 @@ exprs_row : (n : Count) (xs : Trees.ExprList) (row : b.Row_of-Expr n) → v.expr
 exprs_row n xs b.end_of-Expr = refl
 exprs_row n xs (b.more_of-Expr l e rest) = exprs_row _ (Trees.and_expr xs (v.expr_at l e)) rest
 
-specifiers_row : (n : Count) (xs : Trees.SpecifierList) (row : b.Row_of-Specifier n) → v.specifiers_in xs row ≡ v.specifiers_from xs (b.items-the_row-Specifier n row)
+pub specifiers_row : (n : Count) (xs : Trees.SpecifierList) (row : b.Row_of-Specifier n) → v.specifiers_in xs row ≡ v.specifiers_from xs (b.items-the_row-Specifier n row)
 specifiers_row n xs b.end_of-Specifier = refl
 specifiers_row n xs (b.more_of-Specifier l k rest) = specifiers_row _ (Trees.and_specifier xs (v.specifier_at l k)) rest
 
@@ -49,7 +49,7 @@ enumerators_row : (n : Count) (xs : Trees.EnumeratorList) (row : b.Row_of-Enumer
 enumerators_row n xs b.end_of-Enumerator = refl
 enumerators_row n xs (b.more_of-Enumerator (Enumerator' l m w) rest) = enumerators_row _ (v.with_enumerator xs (Enumerator' l m w)) rest
 
-members_row : (n : Count) (xs : Trees.MemberList) (row : b.Row_of-MemberDeclarator n) → v.members_in xs row ≡ v.members_from xs (b.items-the_row-MemberDeclarator n row)
+pub members_row : (n : Count) (xs : Trees.MemberList) (row : b.Row_of-MemberDeclarator n) → v.members_in xs row ≡ v.members_from xs (b.items-the_row-MemberDeclarator n row)
 members_row n xs b.end_of-MemberDeclarator = refl
 members_row n xs (b.more_of-MemberDeclarator (MemberDeclarator' l k w) rest) = members_row _ (v.with_member xs (MemberDeclarator' l k w)) rest
 

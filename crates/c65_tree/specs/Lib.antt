@@ -4,3 +4,4 @@ pub mod Nodes
 pub mod Parts
 pub mod Trees
 pub mod View
+pub mod Optional

@@ -4,6 +4,10 @@
 mod count;
 mod expr;
 mod extent;
+mod grow;
+mod make_decl;
+mod make_expr;
+mod make_stmt;
 mod stmt;
 
 pub use count::nodes;
@@ -12,4 +16,8 @@ pub use expr::{
     Params, Specifier, SpecifierKind, Specifiers, Storage, TypeName,
 };
 pub use extent::depth;
+pub use grow::{
+    with_enumerator, with_expr, with_init, with_member, with_member_decl, with_param,
+    with_specifier, with_stmt,
+};
 pub use stmt::{Decl, Function, InitDeclarator, InitKind, Initialiser, Item, Stmt, StmtKind, Unit};

@@ -1,0 +1,9 @@
+use Rattle.std.proofs.Common.{ap, ◌∙◌}
+use Rattle.c65_tree.specs.Trees
+use Rattle.c65_tree.specs.View as v
+use Rattle.c65_tree.proofs.Views
+use Rattle.c65_tree.specs.declared.expr.Expr.{Expr}
+use Rattle.c65_tree.proofs.expr.Expr.call.Goals as goal
+
+pub returns : goal.returns
+returns c = Views.call_view c.args.pos c.in_ok-new.field-0 c.args.arguments ∙ ap (λ (x : Expr). Trees.call c.args.pos (v.expr_of x) (v.exprs_from Trees.no_exprs c.args.arguments.items)) c.in_ok-new.ensures.ok
