@@ -1,6 +1,7 @@
 pub mod State
 pub mod Table
 pub mod Step
+pub mod Advance
 pub mod Registers
 pub mod Decimal
 pub mod Hooks

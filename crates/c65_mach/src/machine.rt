@@ -5,6 +5,7 @@ ghost use Rattle.c65_mach.specs.Hooks.{put_word, hooked};
 ghost use Rattle.c65_mach.specs.Registers.{regs_of, with_regs, flags_of};
 ghost use Rattle.c65_mach.specs.Step.{word_at, bit, returned, unpacked};
 
+mod advance;
 mod arithmetic;
 mod row;
 

@@ -42,6 +42,7 @@ fn decimal_difference(a: u8, v: u8, c: bool) -> u8
 
 impl Machine {
     // A result in A sets N and Z.
+    #[inline(always)]
     pub(super) fn set_a(&mut self, value: u8)
         ensures { self.new ≡ record self.old { regs = with_a value self.old.regs } }
     {
@@ -51,6 +52,7 @@ impl Machine {
     }
 
     // A result in X sets N and Z.
+    #[inline(always)]
     pub(super) fn set_x(&mut self, value: u8)
         ensures { self.new ≡ record self.old { regs = with_x value self.old.regs } }
     {
@@ -60,6 +62,7 @@ impl Machine {
     }
 
     // A result in Y sets N and Z.
+    #[inline(always)]
     pub(super) fn set_y(&mut self, value: u8)
         ensures { self.new ≡ record self.old { regs = with_y value self.old.regs } }
     {
@@ -69,6 +72,7 @@ impl Machine {
     }
 
     // CMP, CPX and CPY: C says that the register is not below the operand.
+    #[inline(always)]
     pub(super) fn compare(&mut self, register: u8, value: u8)
         ensures { self.new ≡ record self.old { regs = compared register value self.old.regs } }
     {
@@ -92,6 +96,7 @@ impl Machine {
     }
 
     // ADC. In decimal mode A and C are those of the decimal sum, and N, V and Z those of the binary one.
+    #[inline(always)]
     pub(super) fn add(&mut self, value: u8)
         ensures { self.new ≡ record self.old { regs = added self.old.d value self.old.regs } }
     {
@@ -106,6 +111,7 @@ impl Machine {
     }
 
     // SBC adds the complement. In decimal mode A alone is that of the decimal difference.
+    #[inline(always)]
     pub(super) fn subtract(&mut self, value: u8)
         ensures { self.new ≡ record self.old { regs = subtracted self.old.d value self.old.regs } }
     {
@@ -119,6 +125,7 @@ impl Machine {
     }
 
     // BIT.
+    #[inline(always)]
     pub(super) fn test_bits(&mut self, value: u8)
         ensures { self.new ≡ record self.old { regs = bits_tested value self.old.regs } }
     {
@@ -128,6 +135,7 @@ impl Machine {
     }
 
     // What the shifts, INC and DEC make of an operand, and the carry after it.
+    #[inline(always)]
     pub(super) fn changed(&self, op: Op, value: u8) -> (u8, bool)
         ensures { result ≡ changed op value self.now.regs }
     {

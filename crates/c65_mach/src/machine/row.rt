@@ -4,11 +4,12 @@ ghost use Rattle.c65_mach.specs.State.{read};
 ghost use Rattle.c65_mach.specs.Step.{after, zero_word, size_of, indexed, page_next, branched, place_of, is_taken, more_cycles, change, branch, push, pulled, dropped, push_word, packed, flags_pulled, called, broken, act, row_at, Steps};
 
 use super::{Machine, bit};
-use crate::rows::{Mode, Op, decode};
+use crate::rows::{Mode, Op};
 use c65_base::Refusal;
 
 impl Machine {
     // A word of the zero page, which stays in that page.
+    #[inline(always)]
     fn zero_word(&self, at: u8) -> u16
         ensures { result ≡ zero_word self.now.mem at }
     {
@@ -19,6 +20,7 @@ impl Machine {
     }
 
     // A shift, INC or DEC of A or of a byte of memory.
+    #[inline(always)]
     fn change(&mut self, op: Op, mode: Mode, at: u16)
         ensures { self.new ≡ change op mode at self.old }
     {
@@ -36,6 +38,7 @@ impl Machine {
     }
 
     // Whether a branch is taken.
+    #[inline(always)]
     fn is_taken(&self, op: Op) -> bool
         ensures { result ≡ is_taken op self.now.regs }
     {
@@ -52,7 +55,8 @@ impl Machine {
     }
 
     // The cycles of a row beyond those of the table.
-    fn more_cycles(&self, mode: Mode, op: Op, page: bool, crosses: bool) -> u8
+    #[inline(always)]
+    pub(super) fn more_cycles(&self, mode: Mode, op: Op, page: bool, crosses: bool) -> u8
         ensures value { result ≡ more_cycles mode op page crosses self.now.regs }
         ensures small { result ≤ 2 }
     {
@@ -69,6 +73,7 @@ impl Machine {
     }
 
     // A branch goes to its target if it is taken.
+    #[inline(always)]
     fn branch(&mut self, taken: bool, at: u16)
         ensures { self.new ≡ branch taken at self.old }
     {
@@ -78,6 +83,7 @@ impl Machine {
     }
 
     // A push writes and then lowers S, modulo 256.
+    #[inline(always)]
     fn push(&mut self, value: u8)
         ensures { self.new ≡ push value self.old }
     {
@@ -86,6 +92,7 @@ impl Machine {
     }
 
     // A word goes to the stack high byte first.
+    #[inline(always)]
     fn push_word(&mut self, value: u16)
         ensures { self.new ≡ push_word value self.old }
     {
@@ -95,6 +102,7 @@ impl Machine {
     }
 
     // A pull raises S, modulo 256, and then reads.
+    #[inline(always)]
     fn pull(&mut self) -> u8
         ensures value { result ≡ pulled self.old }
         ensures new { self.new ≡ dropped self.old }
@@ -104,6 +112,7 @@ impl Machine {
     }
 
     // The flags as PHP and BRK push them, with bits 4 and 5 set.
+    #[inline(always)]
     fn pack(&self) -> u8
         ensures { result ≡ packed self.now }
     {
@@ -111,6 +120,7 @@ impl Machine {
     }
 
     // BRK pushes the address of the byte behind its second one, and the flags.
+    #[inline(always)]
     fn break_off(&mut self)
         ensures { self.new ≡ broken self.old }
     {
@@ -123,7 +133,8 @@ impl Machine {
     }
 
     // The operand's address, and whether it lies in another page than the base, or than the next instruction.
-    fn place(&self, mode: Mode) -> (u16, bool)
+    #[inline(always)]
+    pub(super) fn place(&self, mode: Mode) -> (u16, bool)
         ensures { result ≡ place_of mode self.now }
     {
         let at = self.pc.wrapping_add(1);
@@ -144,6 +155,7 @@ impl Machine {
     }
 
     // The word of an indirect jump: its high byte comes from the same page.
+    #[inline(always)]
     fn page_word(&self, at: u16) -> u16
         ensures { result ≡ read self.now.mem at + 256 * read self.now.mem (page_next at) }
     {
@@ -152,6 +164,7 @@ impl Machine {
     }
 
     // Where a branch leads.
+    #[inline(always)]
     fn target(&self, offset: u8) -> (u16, bool)
         ensures { result ≡ (let next = after self.now.pc 2 in let to = branched next offset in (to, if next / 256 == to / 256 then false else true)) }
     {
@@ -166,6 +179,7 @@ impl Machine {
     }
 
     // JSR pushes the address of its own last byte.
+    #[inline(always)]
     fn call(&mut self, at: u16)
         ensures { self.new ≡ called at self.old }
     {
@@ -174,6 +188,7 @@ impl Machine {
     }
 
     // PLP, and the first half of RTI.
+    #[inline(always)]
     fn pull_flags(&mut self)
         ensures { self.new ≡ flags_pulled self.old }
     {
@@ -182,7 +197,8 @@ impl Machine {
     }
 
     // What an operation does, once pc is at the next instruction.
-    fn operate(&mut self, op: Op, mode: Mode, at: u16)
+    #[inline(always)]
+    pub(super) fn operate(&mut self, op: Op, mode: Mode, at: u16)
         ensures { self.new ≡ act op mode at self.old }
     {
         match op {
@@ -253,6 +269,7 @@ impl Machine {
 }
 
 // An indexed address, and whether it lies in another page than its base.
+#[inline(always)]
 fn index(base: u16, index: u8) -> (u16, bool)
     ensures { result ≡ indexed base index }
 {
@@ -263,22 +280,20 @@ fn index(base: u16, index: u8) -> (u16, bool)
 }
 
 /// Does the row at pc, and answers its cycles. It refuses a byte that has no row, and then the machine is unchanged.
+#[inline(always)]
 pub fn step(machine: &mut Machine) -> Result<u8, Refusal>
     ensures { Steps (row_at machine.old) machine.old machine.new result }
 {
     let pc = machine.pc;
-    let Some(row) = decode(machine.read(pc)) else {
-        return Err(Refusal::Illegal { pc });
-    };
-    let (at, crosses) = machine.place(row.mode);
-    let more = machine.more_cycles(row.mode, row.op, row.page, crosses);
-    machine.pc = pc.wrapping_add(size(row.mode));
-    machine.operate(row.op, row.mode, at);
-    Ok(row.cycles + more)
+    match machine.advance() {
+        Some(cycles) => Ok(cycles),
+        None => Err(Refusal::Illegal { pc }),
+    }
 }
 
 // The bytes of an instruction.
-fn size(mode: Mode) -> u16
+#[inline(always)]
+pub(super) fn size(mode: Mode) -> u16
     ensures { result ≡ size_of mode }
 {
     match mode {

@@ -1,6 +1,10 @@
-use Rattle.std.proofs.Common.{arith, sym, ◌<◌}
-use Rattle.c65_mach.proofs.Cycles.{short}
+use Rattle.std.proofs.Common.{ap}
+use Rattle.c65_mach.specs.State.{State}
+use Rattle.c65_mach.proofs.Advancing.{stepped, refused}
 use Rattle.c65_mach.proofs.machine.row.step.Goals as goal
 
-pub overflow_add-result : goal.overflow_add-result
-overflow_add-result c = let h : c.in-Some.row.cycles < 8 = short _ _ (sym c.in-Some.ensures) in omega (arith, h, c.more_cycles-more.ensures.small)
+pub returns-in-Some : goal.returns-in-Some
+returns-in-Some c = stepped _ _ _ _ c.in-Some.ensures
+
+pub returns-in-None : goal.returns-in-None
+returns-in-None c = refused _ _ _ _ (ap (λ (t : State). t.pc) c.machine.view_is) c.in-None.ensures
