@@ -1,11 +1,14 @@
 -- Decimal differences on whole numbers are those on integers.
-use Rattle.std.proofs.Common.{◌≡◌, ℕ, ◌+◌, ◌-◌, ◌*◌, ◌/◌, ◌%◌, ◌<◌, ◌≤◌, Bool, refl, sym, subst, arith, inl, inr}
+use Rattle.std.proofs.Common.{◌≡◌, ℕ, ◌+◌, ◌-◌, ◌*◌, ◌/◌, ◌%◌, ◌<◌, ◌≤◌, Bool, true, false, refl, sym, subst, arith, inl, inr}
 use Rattle.std.specs.Prelude.{ℤ, pos, ◌+ℤ◌, ◌-ℤ◌}
 use Rattle.std.proofs.lemmas.Int.{ints}
 use Rattle.std.proofs.lemmas.Bool.{cases_lt, le-ltb, lt-ltb}
 use Rattle.c65_mach.specs.Step.{bit, decimal_borrow, decimal_lend, decimal_difference}
 use Rattle.c65_mach.specs.Decimal.{IsRest, BorrowsLow, Borrows, IsDifference}
-use Rattle.c65_mach.proofs.Cycles.{bit-small}
+
+bit-small : (b : Bool) → bit b ≤ 1
+bit-small true = omega arith
+bit-small false = omega arith
 
 -- the low digits, with 16 more
 low_digits : (low : ℕ) → low < 32 → BorrowsLow (pos low -ℤ pos 16) (pos (decimal_borrow low) -ℤ pos 16) × (decimal_borrow low < 32)

@@ -1,5 +1,6 @@
-// A row of a run by its opcode. Each opcode calls what does its row with its operation and mode as constants, and these calls are
-// inlined, so that the compiled code goes from an opcode right to what it does.
+// The row at pc, by its opcode. Each opcode calls what does its row, with operation and mode as constants, and those calls are inlined:
+// so the compiled code goes from an opcode right to what it does. The table of `decode` stands here once more, as code. Both are
+// proved from the one table of specs/.
 ghost use Rattle.std.specs.Prelude.{◌≡◌, ◌+◌, ◌<◌, true, false, Some};
 ghost use Rattle.c65_mach.specs.Advance.{Advances};
 ghost use Rattle.c65_mach.specs.Step.{row_at};
@@ -10,7 +11,7 @@ use super::row::size;
 use crate::rows::{Mode, Op};
 
 impl Machine {
-    // Does a row, and answers its cycles.
+    // Does a row of the table, and answers its cycles.
     #[inline(always)]
     fn perform(&mut self, op: Op, mode: Mode, cycles: u8, page: bool) -> Option<u8>
         requires { cycles < 8 }
@@ -24,6 +25,7 @@ impl Machine {
         Some(cycles + more)
     }
 
+    // A row that takes no more cycles in another page.
     #[inline(always)]
     fn plain(&mut self, op: Op, mode: Mode, cycles: u8) -> Option<u8>
         requires { cycles < 8 }
@@ -32,6 +34,7 @@ impl Machine {
         self.perform(op, mode, cycles, false)
     }
 
+    // A row that takes one more cycle in another page.
     #[inline(always)]
     fn paged(&mut self, op: Op, mode: Mode, cycles: u8) -> Option<u8>
         requires { cycles < 8 }
@@ -40,6 +43,7 @@ impl Machine {
         self.perform(op, mode, cycles, true)
     }
 
+    // The opcodes by their high digit.
     #[inline(always)]
     fn advance_0(&mut self, low: u8) -> Option<u8>
         requires { low < 16 }
@@ -440,6 +444,7 @@ impl Machine {
         }
     }
 
+    // The row of an opcode.
     #[inline(always)]
     fn advance_by(&mut self, byte: u8) -> Option<u8>
         ensures { Advances (row_of byte) self.old self.new result }
