@@ -1,0 +1,151 @@
+-- Words that make small typed trees, for samples.
+use Rattle.std.specs.Prelude.{ℕ, List, [], ◌∷◌, true, false, pos, negsuc, Some, None}
+use Rattle.c65_base.specs.declared.operators.BinaryOp.{BinaryOp}
+use Rattle.c65_base.specs.declared.operators.StepKind.{StepKind}
+use Rattle.c65_ints.specs.declared.types.IntType.TheVariants as I
+use Rattle.c65_ctype.specs.Trees.{Ty, int, pointer, array, tag, function, QTy, qual, Fn, fn, known, QTys, end, more, MemberTy, TypesTy}
+use Rattle.c65_meaning.specs.declared.items.Library.{Library}
+use Rattle.c65_meaning.specs.declared.items.Class.TheVariants.{Static, Auto}
+use Rattle.c65_meaning.specs.Trees.{Typed, node, constant, object, func, deref, member, load, address, decay, convert, binary, assign, step, call, Nodes, none, some, Stmt, set, block, return, Stmts, done, also, ObjectTree, FuncTree, ProgramTree}
+use Rattle.c65_meaning.specs.Shapes.{qualified_type}
+
+-- ---- types
+
+abbrev pub plain : Ty → QTy
+plain t = qual t false false
+
+abbrev pub integer : QTy
+integer = plain (int I.Int)
+
+abbrev pub unsigned : QTy
+unsigned = plain (int I.UInt)
+
+abbrev pub character : QTy
+character = plain (int I.UChar)
+
+abbrev pub structure : QTy
+structure = plain (tag 0)
+
+abbrev pub pointer_to : QTy → QTy
+pointer_to t = plain (pointer t)
+
+abbrev pub array_of : ℕ → QTy → QTy
+array_of n t = plain (array t (Some n))
+
+abbrev pub all_types : List QTy → QTys
+all_types [] = end
+all_types (t ∷ rest) = more t (all_types rest)
+
+-- a function with a prototype
+abbrev pub takes : List QTy → QTy → Fn
+takes params result = fn result (known (all_types params)) false false
+
+-- a member of one byte, and a bit-field of type unsigned int
+abbrev pub byte_member : ℕ → MemberTy
+byte_member o = record { name = None; ty = character; offset = o; bits = None }
+
+abbrev pub bit_field : ℕ → ℕ → MemberTy
+bit_field low width = record { name = None; ty = unsigned; offset = 0; bits = Some (low, width) }
+
+abbrev pub no_types : TypesTy
+no_types = record { tags = []; units = 1 }
+
+-- one structure of two bytes
+abbrev pub one_structure : List MemberTy → TypesTy
+one_structure members = record { tags = record { unit = 0; is_union = false; layout = Some (record { is_union = false; members = members; size = 2 }) } ∷ []; units = 1 }
+
+-- ---- expressions
+
+abbrev pub number : ℕ → Typed
+number n = node integer (constant (pos n))
+
+-- -1 - n
+abbrev pub below_zero : ℕ → Typed
+below_zero n = node integer (constant (negsuc n))
+
+abbrev pub place : QTy → ℕ → Typed
+place t i = node t (object i)
+
+abbrev pub value_of : Typed → Typed
+value_of e = node (qualified_type e) (load e)
+
+abbrev pub address_of : Typed → Typed
+address_of e = node (pointer_to (qualified_type e)) (address e)
+
+-- the value of an object of type int
+abbrev pub value : ℕ → Typed
+value i = value_of (place integer i)
+
+-- what a pointer to a type names
+abbrev pub at : QTy → Typed → Typed
+at t e = node t (deref e)
+
+-- the first element of an array of a type
+abbrev pub first_of : QTy → Typed → Typed
+first_of t e = node (pointer_to t) (decay e)
+
+abbrev pub as_type : QTy → Typed → Typed
+as_type t e = node t (convert e)
+
+abbrev pub member_of : QTy → Typed → ℕ → Typed
+member_of t e m = node t (member e m)
+
+-- an operator whose result is an int, and one on a pointer
+abbrev pub with : BinaryOp → Typed → Typed → Typed
+with op a b = node integer (binary op a b)
+
+abbrev pub beside : BinaryOp → Typed → Typed → Typed
+beside op a b = node (qualified_type a) (binary op a b)
+
+abbrev pub store : Typed → Typed → Typed
+store a b = node (qualified_type a) (assign a b)
+
+abbrev pub change : StepKind → ℕ → Typed
+change kind i = node integer (step kind (place integer i))
+
+abbrev pub all_arguments : List Typed → Nodes
+all_arguments [] = none
+all_arguments (e ∷ rest) = some e (all_arguments rest)
+
+abbrev pub call_as : ℕ → Fn → QTy → List Typed → Typed
+call_as f t result args = node result (call (node (pointer_to (plain (function t))) (decay (node (plain (function t)) (func f)))) (all_arguments args))
+
+-- ---- statements
+
+abbrev pub all_statements : List Stmt → Stmts
+all_statements [] = done
+all_statements (s ∷ rest) = also s (all_statements rest)
+
+abbrev pub scope : List ℕ → List Stmt → Stmt
+scope objects ss = block objects (all_statements ss)
+
+abbrev pub give : Typed → Stmt
+give e = return (Some e)
+
+abbrev pub initial : ℕ → Typed → Stmt
+initial i e = set i 0 e
+
+-- ---- programs
+
+abbrev pub local : QTy → ObjectTree
+local t = record { name = record { 0 = 0 }; ty = t; class = Auto; init = None }
+
+abbrev pub static : QTy → ObjectTree
+static t = record { name = record { 0 = 0 }; ty = t; class = Static; init = None }
+
+abbrev pub defined : Fn → List ℕ → Stmt → FuncTree
+defined t params body = record { name = record { 0 = 0 }; ty = t; external = true; params = params; body = Some body; library = None }
+
+abbrev pub provided : Fn → List ℕ → Library → FuncTree
+provided t params l = record { name = record { 0 = 0 }; ty = t; external = true; params = params; body = None; library = Some l }
+
+-- `int main(void)`
+abbrev pub main_of : Stmt → FuncTree
+main_of body = defined (takes [] integer) [] body
+
+-- a program with these types and literals; `main` is its first function
+abbrev pub program_with : TypesTy → List (List ℕ) → List ObjectTree → List FuncTree → ProgramTree
+program_with types literals objects funcs = record { unit = record { types = types; objects = objects; literals = literals; funcs = funcs }; main = 0 }
+
+abbrev pub program_of : List ObjectTree → List FuncTree → ProgramTree
+program_of objects funcs = program_with no_types [] objects funcs

@@ -1,0 +1,102 @@
+-- What active calls cost on the two stacks, read off the source alone.
+use Rattle.std.specs.Prelude.{ℕ, suc, ◌+◌, ◌*◌, max, List, [], ◌∷◌, Option, Some, None, length}
+use Rattle.c65_ctype.specs.Trees.{Ty}
+use Rattle.c65_ctype.specs.Sizes.{size_of}
+use Rattle.c65_meaning.specs.Trees.{Typed, node, Node, deref, member, load, address, decay, convert, unary, binary, both, either, choice, comma, assign, assign_op, assign_step, step, copy, call, Nodes, none, some, Stmt, eval, set, block, branch, while, do_while, for, switch, case, default, label, return, Stmts, done, also, UnitTree}
+use Rattle.c65_meaning.specs.Shapes.{object_size, object_in}
+
+abbrev mutual
+  -- the greatest number of values that wait while an expression is evaluated
+  pub need : Typed → ℕ
+  need (node t e) = need_in e
+
+  pub need_in : Node → ℕ
+  need_in (deref a) = need a
+  need_in (member a m) = need a
+  need_in (load a) = need a
+  need_in (address a) = need a
+  need_in (decay a) = need a
+  need_in (convert a) = need a
+  need_in (unary op a) = need a
+  need_in (binary op a b) = max (need a) (1 + need b)
+  need_in (both a b) = max (need a) (1 + need b)
+  need_in (either a b) = max (need a) (1 + need b)
+  need_in (choice a b c) = max (need a) (max (need b) (need c))
+  need_in (comma a b) = max (need a) (1 + need b)
+  need_in (assign a b) = max (need a) (1 + need b)
+  need_in (assign_op op ct a b) = max (need a) (1 + need b)
+  need_in (assign_step op a b) = max (need a) (1 + need b)
+  need_in (step kind a) = need a
+  need_in (copy a b) = max (need a) (1 + need b)
+  need_in (call f args) = max (need f) (need_of_all args)
+  need_in _ = 0
+
+  -- the greatest of i and the need of argument i together, i from 1
+  pub need_of_all : Nodes → ℕ
+  need_of_all none = 0
+  need_of_all (some e rest) = 1 + max (need e) (need_of_all rest)
+
+abbrev pub need_if : Option Typed → ℕ
+need_if None = 0
+need_if (Some e) = need e
+
+abbrev mutual
+  -- the greatest need of the expressions in a statement
+  pub greatest_need : Stmt → ℕ
+  greatest_need (eval e) = need e
+  greatest_need (set i o e) = need e
+  greatest_need (block objs ss) = greatest_need_of_all ss
+  greatest_need (branch e a b) = max (need e) (max (greatest_need a) (greatest_need b))
+  greatest_need (while e s) = max (need e) (greatest_need s)
+  greatest_need (do_while s e) = max (greatest_need s) (need e)
+  greatest_need (for i c x s) = max (max (need_if i) (need_if c)) (max (need_if x) (greatest_need s))
+  greatest_need (switch e s) = max (need e) (greatest_need s)
+  greatest_need (case v s) = greatest_need s
+  greatest_need (default s) = greatest_need s
+  greatest_need (label l s) = greatest_need s
+  greatest_need (return o) = need_if o
+  greatest_need _ = 0
+
+  pub greatest_need_of_all : Stmts → ℕ
+  greatest_need_of_all done = 0
+  greatest_need_of_all (also s rest) = max (greatest_need s) (greatest_need_of_all rest)
+
+module _ (u : UnitTree) where
+  abbrev pub bytes_of_objects : List ℕ → ℕ
+  bytes_of_objects [] = 0
+  bytes_of_objects (i ∷ rest) = object_size u.types (object_in u i) + bytes_of_objects rest
+
+  abbrev mutual
+    -- the bytes of all objects of the blocks in a statement
+    pub local_bytes : Stmt → ℕ
+    local_bytes (block objs ss) = bytes_of_objects objs + all_local_bytes ss
+    local_bytes (branch e a b) = local_bytes a + local_bytes b
+    local_bytes (while e s) = local_bytes s
+    local_bytes (do_while s e) = local_bytes s
+    local_bytes (for i c x s) = local_bytes s
+    local_bytes (switch e s) = local_bytes s
+    local_bytes (case v s) = local_bytes s
+    local_bytes (default s) = local_bytes s
+    local_bytes (label l s) = local_bytes s
+    local_bytes _ = 0
+
+    pub all_local_bytes : Stmts → ℕ
+    all_local_bytes done = 0
+    all_local_bytes (also s rest) = local_bytes s + all_local_bytes rest
+
+  -- the bytes of arguments of these types
+  abbrev pub argument_bytes : List Ty → ℕ
+  argument_bytes [] = 0
+  argument_bytes (t ∷ rest) = size_of u.types t + argument_bytes rest
+
+  -- of one active call, which was passed so many bytes
+  abbrev pub soft_cost : ℕ → Stmt → ℕ
+  soft_cost passed body = passed + local_bytes body + 6 + 8 * greatest_need body
+
+-- of the program's own arguments: each with its closing zero, and the list of their places with its closing null
+abbrev pub text_bytes : List (List ℕ) → ℕ
+text_bytes [] = 0
+text_bytes (a ∷ rest) = suc (length a) + text_bytes rest
+
+abbrev pub arguments_bytes : List (List ℕ) → ℕ
+arguments_bytes args = text_bytes args + 2 * suc (length args)

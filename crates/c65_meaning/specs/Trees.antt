@@ -1,0 +1,94 @@
+-- Typed trees and programs (C90 6.3, 6.6, 6.7): expressions with their types, statements, objects, functions.
+-- Objects, literals and functions go by their numbers in the program, members by their places in the structure, labels by numbers
+-- in their function.
+use Rattle.std.specs.Prelude.{ℕ, ℤ, List, Bool, Option}
+use Rattle.c65_base.specs.declared.names.Name.{Name}
+use Rattle.c65_base.specs.declared.operators.UnaryOp.{UnaryOp}
+use Rattle.c65_base.specs.declared.operators.BinaryOp.{BinaryOp}
+use Rattle.c65_base.specs.declared.operators.StepKind.{StepKind}
+use Rattle.c65_ints.specs.declared.types.IntType.{IntType}
+use Rattle.c65_ctype.specs.Trees.{QTy, Fn, TypesTy}
+use Rattle.c65_meaning.specs.declared.items.Class.{Class}
+use Rattle.c65_meaning.specs.declared.items.Cell.{Cell}
+use Rattle.c65_meaning.specs.declared.items.Library.{Library}
+
+mutual
+  pub data Typed : Type 0 where
+    node : QTy → Node → Typed
+
+  pub data Node : Type 0 where
+    constant : ℤ → Node
+    null : Node
+    literal : ℕ → Node
+    object : ℕ → Node
+    func : ℕ → Node
+    deref : Typed → Node
+    member : Typed → ℕ → Node
+    load : Typed → Node
+    address : Typed → Node
+    decay : Typed → Node
+    convert : Typed → Node
+    unary : UnaryOp → Typed → Node
+    binary : BinaryOp → Typed → Typed → Node
+    both : Typed → Typed → Node
+    either : Typed → Typed → Node
+    choice : Typed → Typed → Typed → Node
+    comma : Typed → Typed → Node
+    assign : Typed → Typed → Node
+    assign_op : BinaryOp → IntType → Typed → Typed → Node
+    assign_step : BinaryOp → Typed → Typed → Node
+    step : StepKind → Typed → Node
+    copy : Typed → Typed → Node
+    call : Typed → Nodes → Node
+
+  pub data Nodes : Type 0 where
+    none : Nodes
+    some : Typed → Nodes → Nodes
+
+mutual
+  pub data Stmt : Type 0 where
+    empty : Stmt
+    eval : Typed → Stmt
+    set : ℕ → ℕ → Typed → Stmt
+    clear : ℕ → Stmt
+    block : List ℕ → Stmts → Stmt
+    branch : Typed → Stmt → Stmt → Stmt
+    while : Typed → Stmt → Stmt
+    do_while : Stmt → Typed → Stmt
+    for : Option Typed → Option Typed → Option Typed → Stmt → Stmt
+    switch : Typed → Stmt → Stmt
+    case : ℤ → Stmt → Stmt
+    default : Stmt → Stmt
+    label : ℕ → Stmt → Stmt
+    goto : ℕ → Stmt
+    break : Stmt
+    continue : Stmt
+    return : Option Typed → Stmt
+
+  pub data Stmts : Type 0 where
+    done : Stmts
+    also : Stmt → Stmts → Stmts
+
+pub record ObjectTree : Type 0 where
+  pub name : Name
+  pub ty : QTy
+  pub class : Class
+  pub init : Option (List Cell)
+
+pub record FuncTree : Type 0 where
+  pub name : Name
+  pub ty : Fn
+  pub external : Bool
+  pub params : List ℕ
+  pub body : Option Stmt
+  pub library : Option Library
+
+pub record UnitTree : Type 0 where
+  pub types : TypesTy
+  pub objects : List ObjectTree
+  pub literals : List (List ℕ)
+  pub funcs : List FuncTree
+
+pub record ProgramTree : Type 0 where
+  pub unit : UnitTree
+  pub main : ℕ

@@ -1,0 +1,16 @@
+//! The meaning of typed programs: a machine on trees with blocks in place of addresses. The definitions stand in specs/,
+//! and docs/MEANING.md tells them in words. The functions here say what holds of them: laws of runs and of the store, and how
+//! small programs end.
+#![tactic(auto)]
+
+mod action;
+mod ending;
+mod items;
+mod laws;
+pub mod samples;
+pub mod undefined;
+
+pub use action::Action;
+pub use ending::Ending;
+pub use items::{Cell, Class, Library, Target};
+pub use laws::{last_stays, output_grows, runs_go_on, stored_is_read, stores_stay};
