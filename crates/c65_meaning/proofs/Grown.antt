@@ -1,7 +1,7 @@
 -- What a step leaves of output and turns: scenes that show the same, and states that show more.
 use Rattle.std.proofs.Common.{◌≡◌, ℕ, suc, refl, sym, ap, List, [], ◌∷◌, ◌++◌, append-nil, Bool, true, false, ◌∙◌, arith}
 use Rattle.std.specs.Prelude.{Result, Ok, Err, Option, Some, None, ⊤, if◌then◌else◌}
-use Rattle.c65_meaning.specs.Trees.{UnitTree}
+use Rattle.c65_meaning.specs.Trees.{UnitTy}
 use Rattle.c65_meaning.specs.Why.{Why, ◌>>=◌}
 use Rattle.c65_meaning.specs.Store.{Store, Value}
 use Rattle.c65_meaning.specs.Items.{Item}
@@ -84,11 +84,11 @@ then_same out turns f (Ok c) h g = g c h
 
 -- ---- beginning and end of blocks
 
-pub begin_out : (u : UnitTree) (objects : List ℕ) (c : Scene) → (begin_objects u objects c).out ≡ c.out
+pub begin_out : (u : UnitTy) (objects : List ℕ) (c : Scene) → (begin_objects u objects c).out ≡ c.out
 begin_out u [] c = refl
 begin_out u (i ∷ rest) c = begin_out u rest (begin_object u i c)
 
-pub begin_turns : (u : UnitTree) (objects : List ℕ) (c : Scene) → (begin_objects u objects c).turns ≡ c.turns
+pub begin_turns : (u : UnitTy) (objects : List ℕ) (c : Scene) → (begin_objects u objects c).turns ≡ c.turns
 begin_turns u [] c = refl
 begin_turns u (i ∷ rest) c = begin_turns u rest (begin_object u i c)
 
@@ -108,7 +108,7 @@ pub end_turns : (objects : List ℕ) (c : Scene) → (end_objects objects c).tur
 end_turns [] c = refl
 end_turns (i ∷ rest) c = end_turns rest (end_named (block_in c.frames i) c) ∙ end_named_turns (block_in c.frames i) c
 
-pub begin_same : (out : List ℕ) (turns : ℕ) (u : UnitTree) (objects : List ℕ) (c : Scene) → Same out turns c → Same out turns (begin_objects u objects c)
+pub begin_same : (out : List ℕ) (turns : ℕ) (u : UnitTy) (objects : List ℕ) (c : Scene) → Same out turns c → Same out turns (begin_objects u objects c)
 begin_same out turns u objects c h = like out turns c (begin_objects u objects c) h (begin_out u objects c) (begin_turns u objects c)
 
 pub end_same : (out : List ℕ) (turns : ℕ) (objects : List ℕ) (c : Scene) → Same out turns c → Same out turns (end_objects objects c)

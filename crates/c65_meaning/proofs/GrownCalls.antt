@@ -5,7 +5,7 @@ use Rattle.c65_ints.specs.Ranges.{residue}
 use Rattle.c65_ctype.specs.Trees.{Ty}
 use Rattle.c65_meaning.specs.declared.items.Library.{Library}
 use Rattle.c65_meaning.specs.declared.items.Library.TheVariants.{Putchar, Getchar, Puts, Exit, Memcpy, Memset, Strcmp, Strcpy, Strlen}
-use Rattle.c65_meaning.specs.Trees.{Stmt, FuncTree, UnitTree}
+use Rattle.c65_meaning.specs.Trees.{Stmt, FuncTy, UnitTy}
 use Rattle.c65_meaning.specs.Why.{Why, ◌>>=◌}
 use Rattle.c65_meaning.specs.Store.{write, Value, Whole, Null, Place, Opaque, NoValue, Shape, Store}
 use Rattle.c65_meaning.specs.Shapes.{object_in, object_shape}
@@ -33,10 +33,10 @@ back_in_grows out turns (f ∷ fs) k vs c v h = runs out turns k (v ∷ vs) c h
 without_frame_same : (out : List ℕ) (turns : ℕ) (c : Scene) → Same out turns c → Same out turns (without_frame c)
 without_frame_same out turns c h = like out turns c (without_frame c) h refl refl
 
-pub left_call_grows : (u : UnitTree) (out : List ℕ) (turns : ℕ) (v : Value) (k : List Item) (vs : List Value) (c : Scene) → Same out turns c → Grown out turns (left_call u v k vs c)
+pub left_call_grows : (u : UnitTy) (out : List ℕ) (turns : ℕ) (v : Value) (k : List Item) (vs : List Value) (c : Scene) → Same out turns c → Grown out turns (left_call u v k vs c)
 left_call_grows u out turns v k vs c h = back_in_grows out turns (frames_below c.frames) k vs (without_frame (end_objects (params_of (slice_get u.funcs (func_in c.frames))) c)) v (without_frame_same out turns (end_objects (params_of (slice_get u.funcs (func_in c.frames))) c) (end_same out turns (params_of (slice_get u.funcs (func_in c.frames))) c h))
 
-pub returned_grows : (u : UnitTree) (v : Value) (vs : List Value) (c : Scene) (o : Option Left) → Grown c.out c.turns (returned u v vs c o)
+pub returned_grows : (u : UnitTy) (v : Value) (vs : List Value) (c : Scene) (o : Option Left) → Grown c.out c.turns (returned u v vs c o)
 returned_grows u v vs c None = tt
 returned_grows u v vs c (Some r) = left_call_grows u c.out c.turns v (behind r.work) vs (end_objects r.objects c) (end_same c.out c.turns r.objects c (itself c))
 
@@ -147,7 +147,7 @@ shift : (out : List ℕ) (turns : ℕ) (c : Scene) (o : Result Scene Why) → Sa
 shift out turns c (Err why) h g = tt
 shift out turns c (Ok d) h g = record { same_out = g.same_out ∙ h.same_out; same_turns = g.same_turns ∙ h.same_turns }
 
-params_same : (u : UnitTree) (out : List ℕ) (turns : ℕ) (objects : List ℕ) (args : List Value) (c : Scene) → Same out turns c → SameIf out turns (with_params u objects args c)
+params_same : (u : UnitTy) (out : List ℕ) (turns : ℕ) (objects : List ℕ) (args : List Value) (c : Scene) → Same out turns c → SameIf out turns (with_params u objects args c)
 params_same u out turns [] args c h = h
 params_same u out turns (i ∷ objects) [] c h = tt
 params_same u out turns (i ∷ objects) (v ∷ args) c h = then_same out turns (with_params u objects args) (put true (object_shape u.types (object_in u i)) (begin_object u i c) (Place c.next 0) v) (shift out turns c _ h (put_same true (object_shape u.types (object_in u i)) (begin_object u i c) (Place c.next 0) v)) (λ d. params_same u out turns objects args d)
@@ -156,20 +156,20 @@ unless_deep_grows : (out : List ℕ) (turns : ℕ) (k : List Item) (vs : List Va
 unless_deep_grows out turns k vs (Err why) h = tt
 unless_deep_grows out turns k vs (Ok c) h = if_grows out turns (is_deep c.frames) Deep (Running k vs c) tt (turns_on out turns k vs c h)
 
-called_grows : (u : UnitTree) (f : ℕ) (types : List Ty) (args : List Value) (g : FuncTree) (body : Option Stmt) (l : Option Library) (k : List Item) (vs : List Value) (c : Scene) → Grown c.out c.turns (called u f types args g body l k vs c)
+called_grows : (u : UnitTy) (f : ℕ) (types : List Ty) (args : List Value) (g : FuncTy) (body : Option Stmt) (l : Option Library) (k : List Item) (vs : List Value) (c : Scene) → Grown c.out c.turns (called u f types args g body l k vs c)
 called_grows u f types args g (Some body) l k vs c = unless_deep_grows c.out c.turns _ vs (with_params u g.params args (new_frame u f (soft_cost u (argument_bytes u types) body) (turned c))) (params_same u c.out (suc c.turns) g.params args (new_frame u f (soft_cost u (argument_bytes u types) body) (turned c)) (record { same_out = refl; same_turns = refl }))
 called_grows u f types args g None (Some l) k vs c = served_grows l args k vs c (effect_of c l args)
 called_grows u f types args g None None k vs c = tt
 
-refused_grows : (u : UnitTree) (out : List ℕ) (turns : ℕ) (o : Option Why) (s : State) → Grown out turns s → Grown out turns (unless_refused u o s)
+refused_grows : (u : UnitTy) (out : List ℕ) (turns : ℕ) (o : Option Why) (s : State) → Grown out turns s → Grown out turns (unless_refused u o s)
 refused_grows u out turns None s h = h
 refused_grows u out turns (Some why) s h = tt
 
-accepted_grows : (u : UnitTree) (callee : Ty) (f : ℕ) (types : List Ty) (args : List Value) (o : Option FuncTree) (k : List Item) (vs : List Value) (c : Scene) → Grown c.out c.turns (accepted u callee f types args o k vs c)
+accepted_grows : (u : UnitTy) (callee : Ty) (f : ℕ) (types : List Ty) (args : List Value) (o : Option FuncTy) (k : List Item) (vs : List Value) (c : Scene) → Grown c.out c.turns (accepted u callee f types args o k vs c)
 accepted_grows u callee f types args None k vs c = tt
 accepted_grows u callee f types args (Some g) k vs c = refused_grows u c.out c.turns (allowed u callee types args g) _ (called_grows u f types args g g.body g.library k vs c)
 
-call_of_grows : (u : UnitTree) (callee : Ty) (types : List Ty) (args : List Value) (f : Value) (k : List Item) (vs : List Value) (c : Scene) → Grown c.out c.turns (call_of u callee types args f k vs c)
+call_of_grows : (u : UnitTy) (callee : Ty) (types : List Ty) (args : List Value) (f : Value) (k : List Item) (vs : List Value) (c : Scene) → Grown c.out c.turns (call_of u callee types args f k vs c)
 call_of_grows u callee types args (Place f zero) k vs c = accepted_grows u callee f types args (slice_get u.funcs f) k vs c
 call_of_grows u callee types args (Place f (suc o)) k vs c = tt
 call_of_grows u callee types args (Whole z) k vs c = tt
@@ -177,6 +177,6 @@ call_of_grows u callee types args Null k vs c = tt
 call_of_grows u callee types args Opaque k vs c = tt
 call_of_grows u callee types args NoValue k vs c = tt
 
-pub invoked_grows : (u : UnitTree) (callee : Ty) (types : List Ty) (k : List Item) (o : Option (List Value × List Value)) (c : Scene) → Grown c.out c.turns (invoked u callee types k o c)
+pub invoked_grows : (u : UnitTy) (callee : Ty) (types : List Ty) (k : List Item) (o : Option (List Value × List Value)) (c : Scene) → Grown c.out c.turns (invoked u callee types k o c)
 invoked_grows u callee types k None c = tt
 invoked_grows u callee types k (Some r) c = one_grows c.out c.turns r.1 _ (λ f vs. call_of_grows u callee types r.0 f k vs c)

@@ -1,7 +1,7 @@
 -- Output only grows, and turns only rise: each item leaves what was written before.
 use Rattle.std.proofs.Common.{◌≡◌, ℕ, zero, suc, ◌+◌, refl, sym, ap, List, [], ◌∷◌, ◌++◌, append_assoc, append-nil, pos, Bool, true, false, ◌∙◌, arith}
 use Rattle.std.specs.Prelude.{Result, Ok, Err, Option, Some, None, if◌then◌else◌, nat_lt, nat_le, ◌==◌, ◌&&◌, slice_get}
-use Rattle.c65_meaning.specs.Trees.{Typed, Stmt, UnitTree, ProgramTree}
+use Rattle.c65_meaning.specs.Trees.{MaybeTyped, absent, present, Stmt, UnitTy, ProgramTy}
 use Rattle.c65_meaning.specs.Why.{Why}
 use Rattle.c65_meaning.specs.Store.{carry, put_cell, byte, Value, Whole, Null, Place, Opaque, NoValue, Shape}
 use Rattle.c65_meaning.specs.Operators.{is_post, truth_of}
@@ -80,19 +80,19 @@ left_for_grows : (vs : List Value) (c : Scene) (o : Option Left) → Grown c.out
 left_for_grows vs c None = tt
 left_for_grows vs c (Some r) = runs c.out c.turns r.work vs (end_objects r.objects c) (end_same c.out c.turns r.objects c (itself c))
 
-landed_grows : (u : UnitTree) (n : ℕ) (vs : List Value) (c : Scene) (from : Left) (o : Option Landing) → Grown c.out c.turns (landed u n vs c from o)
+landed_grows : (u : UnitTy) (n : ℕ) (vs : List Value) (c : Scene) (from : Left) (o : Option Landing) → Grown c.out c.turns (landed u n vs c from o)
 landed_grows u n vs c from None = tt
 landed_grows u n vs c from (Some to) = has_turn_grows c.out c.turns (nat_le to.at n) to.work vs (begin_objects u (without to.objects from.objects) (end_objects (without from.objects to.objects) c)) (begin_same c.out c.turns u (without to.objects from.objects) (end_objects (without from.objects to.objects) c) (end_same c.out c.turns (without from.objects to.objects) c (itself c)))
 
-jumped_grows : (u : UnitTree) (l n : ℕ) (vs : List Value) (c : Scene) (o : Option Left) → Grown c.out c.turns (jumped u l n vs c o)
+jumped_grows : (u : UnitTy) (l n : ℕ) (vs : List Value) (c : Scene) (o : Option Left) → Grown c.out c.turns (jumped u l n vs c o)
 jumped_grows u l n vs c None = tt
 jumped_grows u l n vs c (Some from) = landed_grows u n vs c from (label_in u l from.work (body_of (slice_get u.funcs (func_in c.frames))))
 
-switched_grows : (u : UnitTree) (k : List Item) (vs : List Value) (c : Scene) (o : Option Landing) → Grown c.out c.turns (switched u k vs c o)
+switched_grows : (u : UnitTy) (k : List Item) (vs : List Value) (c : Scene) (o : Option Landing) → Grown c.out c.turns (switched u k vs c o)
 switched_grows u k vs c None = same k vs c
 switched_grows u k vs c (Some to) = runs c.out c.turns to.work vs (begin_objects u to.objects c) (begin_same c.out c.turns u to.objects c (itself c))
 
-case_grows : (u : UnitTree) (n : ℕ) (body : Stmt) (k : List Item) (vs : List Value) (c : Scene) (v : Value) → Grown c.out c.turns (chosen_case u n body k vs c v)
+case_grows : (u : UnitTy) (n : ℕ) (body : Stmt) (k : List Item) (vs : List Value) (c : Scene) (v : Value) → Grown c.out c.turns (chosen_case u n body k vs c v)
 case_grows u n body k vs c (Whole z) = switched_grows u k vs c _
 case_grows u n body k vs c Null = tt
 case_grows u n body k vs c (Place b o) = tt
@@ -104,17 +104,17 @@ case_grows u n body k vs c NoValue = tt
 turn : (k : List Item) (vs : List Value) (c : Scene) → Grown c.out c.turns (Running k vs (turned c))
 turn k vs c = turns_on c.out c.turns k vs (turned c) (record { same_out = refl; same_turns = refl })
 
-after_body_grows : (u : UnitTree) (l : Loop) (o : Option Typed) (k : List Item) (vs : List Value) (c : Scene) → Grown c.out c.turns (after_body u l o k vs c)
-after_body_grows u l None k vs c = turn (head_of u l k) vs c
-after_body_grows u l (Some e) k vs c = same (plan u e (Back l ∷ k)) vs c
+after_body_grows : (u : UnitTy) (l : Loop) (o : MaybeTyped) (k : List Item) (vs : List Value) (c : Scene) → Grown c.out c.turns (after_body u l o k vs c)
+after_body_grows u l absent k vs c = turn (head_of u l k) vs c
+after_body_grows u l (present e) k vs c = same (plan u e (Back l ∷ k)) vs c
 
-last_test_grows : (u : UnitTree) (l : Loop) (o : Option Typed) (k : List Item) (vs : List Value) (c : Scene) → Grown c.out c.turns (last_test u l o k vs c)
-last_test_grows u l None k vs c = tt
-last_test_grows u l (Some e) k vs c = same (plan u e (Redo l ∷ k)) vs c
+last_test_grows : (u : UnitTy) (l : Loop) (o : MaybeTyped) (k : List Item) (vs : List Value) (c : Scene) → Grown c.out c.turns (last_test u l o k vs c)
+last_test_grows u l absent k vs c = tt
+last_test_grows u l (present e) k vs c = same (plan u e (Redo l ∷ k)) vs c
 
 -- ---- each item
 
-module _ (p : ProgramTree) where
+module _ (p : ProgramTy) where
   perform_grows : (i : Item) (k : List Item) (vs : List Value) (c : Scene) → Grown c.out c.turns (perform p i k vs c)
   perform_grows (Push v) k vs c = same k (v ∷ vs) c
   perform_grows (Name i) k vs c = go_on_grows (object_place p.unit i c) k vs c

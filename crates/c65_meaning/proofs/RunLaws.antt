@@ -1,12 +1,12 @@
 -- Laws of runs: going on, and last states.
 use Rattle.std.proofs.Common.{◌≡◌, ℕ, zero, suc, ◌+◌, refl, ap, ◌∙◌, arith}
-use Rattle.c65_meaning.specs.Trees.{ProgramTree}
+use Rattle.c65_meaning.specs.Trees.{ProgramTy}
 use Rattle.c65_meaning.specs.State.{State, Undefined, Deep, Ended, Running}
 use Rattle.c65_meaning.specs.Step.{step, steps}
 use Rattle.c65_meaning.specs.Start.{start}
 use Rattle.c65_meaning.specs.Laws.{IsLast, RunsGoOn, LastStays}
 
-module _ (p : ProgramTree) where
+module _ (p : ProgramTy) where
   steps_add : (n m : ℕ) (s : State) → steps p (n + m) s ≡ steps p m (steps p n s)
   steps_add zero m s = let e : 0 + m ≡ m = omega arith in ap (λ k. steps p k s) e
   steps_add (suc n) m s = let e : suc n + m ≡ suc (n + m) = omega arith in ap (λ k. steps p k s) e ∙ steps_add n m (step p s)

@@ -1,6 +1,6 @@
 -- Where a jump goes on: the work that follows a label in a statement (C90 6.1.2.3, 6.6.1, 6.6.4.2, 6.6.6.1).
 use Rattle.std.specs.Prelude.{ℕ, suc, ◌+◌, ◌==◌, ℤ, Bool, true, false, List, [], ◌∷◌, ◌++◌, Option, Some, None, if◌then◌else◌}
-use Rattle.c65_meaning.specs.Trees.{Stmt, block, branch, while, do_while, for, switch, case, default, label, Stmts, done, also, UnitTree}
+use Rattle.c65_meaning.specs.Trees.{Stmt, block, if_stmt, while, do_while, for_loop, switch, case, default, label, Stmts, no_stmts, and_stmts, present, absent, UnitTy}
 use Rattle.c65_meaning.specs.Integers.{same_number}
 use Rattle.c65_meaning.specs.Items.{Item, End, Next, Check, EndSwitch, Leave, test_first, test_last, plan_stmt, plan_stmts}
 use Rattle.c65_meaning.specs.Sites.{count}
@@ -47,15 +47,15 @@ abbrev pub found : Bool → ℕ → List Item → Option Landing → Option Land
 found true n work r = Some (record { work = work; objects = []; at = n })
 found false n work r = r
 
-module _ (u : UnitTree) (what : Sought) where
+module _ (u : UnitTy) (what : Sought) where
   abbrev mutual
     -- the work that follows what is sought in a statement, and then k
     pub after : ℕ → Stmt → List Item → Option Landing
     after n (block objs ss) k = within objs (after_all (suc n) ss (End objs ∷ k))
-    after n (branch e a b) k = or_else (after (suc n) a k) (after (suc n + count a) b k)
-    after n (while e s) k = after (suc n) s (Next (test_first (Some e) None (suc n) s) ∷ k)
+    after n (if_stmt e a b) k = or_else (after (suc n) a k) (after (suc n + count a) b k)
+    after n (while e s) k = after (suc n) s (Next (test_first (present e) absent (suc n) s) ∷ k)
     after n (do_while s e) k = after (suc n) s (Check (test_last e (suc n) s) ∷ k)
-    after n (for i c x s) k = after (suc n) s (Next (test_first c x (suc n) s) ∷ k)
+    after n (for_loop i c x s) k = after (suc n) s (Next (test_first c x (suc n) s) ∷ k)
     after n (switch e s) k = for_label what (after (suc n) s (EndSwitch ∷ k))
     after n (case v s) k = found (is_case what v) n (plan_stmt u (suc n) s k) (after (suc n) s k)
     after n (default s) k = found (is_default what) n (plan_stmt u (suc n) s k) (after (suc n) s k)
@@ -63,8 +63,8 @@ module _ (u : UnitTree) (what : Sought) where
     after n _ k = None
 
     pub after_all : ℕ → Stmts → List Item → Option Landing
-    after_all n done k = None
-    after_all n (also s rest) k = or_else (after n s (plan_stmts u (n + count s) rest k)) (after_all (n + count s) rest k)
+    after_all n no_stmts k = None
+    after_all n (and_stmts s rest) k = or_else (after n s (plan_stmts u (n + count s) rest k)) (after_all (n + count s) rest k)
 
 -- ---- what a jump drops
 

@@ -3,16 +3,13 @@ use Rattle.std.specs.Prelude.{ℕ, List, [], ◌∷◌, true, false, pos, negsuc
 use Rattle.c65_base.specs.declared.operators.BinaryOp.{BinaryOp}
 use Rattle.c65_base.specs.declared.operators.StepKind.{StepKind}
 use Rattle.c65_ints.specs.declared.types.IntType.TheVariants as I
-use Rattle.c65_ctype.specs.Trees.{Ty, int, pointer, array, tag, function, QTy, qual, Fn, fn, known, QTys, end, more, MemberTy, TypesTy}
+use Rattle.c65_ctype.specs.Trees.{int, pointer, array, tag, function, QTy, Fn, fn, known, QTys, end, more, MemberTy, TypesTy}
 use Rattle.c65_meaning.specs.declared.items.Library.{Library}
 use Rattle.c65_meaning.specs.declared.items.Class.TheVariants.{Static, Auto}
-use Rattle.c65_meaning.specs.Trees.{Typed, node, constant, object, func, deref, member, load, address, decay, convert, binary, assign, step, call, Nodes, none, some, Stmt, set, block, return, Stmts, done, also, ObjectTree, FuncTree, ProgramTree}
-use Rattle.c65_meaning.specs.Shapes.{qualified_type}
+use Rattle.c65_meaning.specs.Trees.{Typed, node, constant, object, func, deref, member, load, address, decay, convert, binary, assign, step, call, Nodes, none, some, Stmt, set_part, block, return, Stmts, no_stmts, and_stmts, present, type_of, ObjectTy, FuncTy, ProgramTy}
+use Rattle.c65_meaning.specs.Calls.{plain}
 
 -- ---- types
-
-abbrev pub plain : Ty → QTy
-plain t = qual t false false
 
 abbrev pub integer : QTy
 integer = plain (int I.Int)
@@ -67,10 +64,10 @@ abbrev pub place : QTy → ℕ → Typed
 place t i = node t (object i)
 
 abbrev pub value_of : Typed → Typed
-value_of e = node (qualified_type e) (load e)
+value_of e = node (type_of e) (load e)
 
 abbrev pub address_of : Typed → Typed
-address_of e = node (pointer_to (qualified_type e)) (address e)
+address_of e = node (pointer_to (type_of e)) (address e)
 
 -- the value of an object of type int
 abbrev pub value : ℕ → Typed
@@ -95,10 +92,10 @@ abbrev pub with : BinaryOp → Typed → Typed → Typed
 with op a b = node integer (binary op a b)
 
 abbrev pub beside : BinaryOp → Typed → Typed → Typed
-beside op a b = node (qualified_type a) (binary op a b)
+beside op a b = node (type_of a) (binary op a b)
 
 abbrev pub store : Typed → Typed → Typed
-store a b = node (qualified_type a) (assign a b)
+store a b = node (type_of a) (assign a b)
 
 abbrev pub change : StepKind → ℕ → Typed
 change kind i = node integer (step kind (place integer i))
@@ -113,39 +110,39 @@ call_as f t result args = node result (call (node (pointer_to (plain (function t
 -- ---- statements
 
 abbrev pub all_statements : List Stmt → Stmts
-all_statements [] = done
-all_statements (s ∷ rest) = also s (all_statements rest)
+all_statements [] = no_stmts
+all_statements (s ∷ rest) = and_stmts s (all_statements rest)
 
 abbrev pub scope : List ℕ → List Stmt → Stmt
 scope objects ss = block objects (all_statements ss)
 
 abbrev pub give : Typed → Stmt
-give e = return (Some e)
+give e = return (present e)
 
 abbrev pub initial : ℕ → Typed → Stmt
-initial i e = set i 0 e
+initial i e = set_part i 0 e
 
 -- ---- programs
 
-abbrev pub local : QTy → ObjectTree
+abbrev pub local : QTy → ObjectTy
 local t = record { name = record { 0 = 0 }; ty = t; class = Auto; init = None }
 
-abbrev pub static : QTy → ObjectTree
+abbrev pub static : QTy → ObjectTy
 static t = record { name = record { 0 = 0 }; ty = t; class = Static; init = None }
 
-abbrev pub defined : Fn → List ℕ → Stmt → FuncTree
+abbrev pub defined : Fn → List ℕ → Stmt → FuncTy
 defined t params body = record { name = record { 0 = 0 }; ty = t; external = true; params = params; body = Some body; library = None }
 
-abbrev pub provided : Fn → List ℕ → Library → FuncTree
+abbrev pub provided : Fn → List ℕ → Library → FuncTy
 provided t params l = record { name = record { 0 = 0 }; ty = t; external = true; params = params; body = None; library = Some l }
 
 -- `int main(void)`
-abbrev pub main_of : Stmt → FuncTree
+abbrev pub main_of : Stmt → FuncTy
 main_of body = defined (takes [] integer) [] body
 
 -- a program with these types and literals; `main` is its first function
-abbrev pub program_with : TypesTy → List (List ℕ) → List ObjectTree → List FuncTree → ProgramTree
+abbrev pub program_with : TypesTy → List (List ℕ) → List ObjectTy → List FuncTy → ProgramTy
 program_with types literals objects funcs = record { unit = record { types = types; objects = objects; literals = literals; funcs = funcs }; main = 0 }
 
-abbrev pub program_of : List ObjectTree → List FuncTree → ProgramTree
+abbrev pub program_of : List ObjectTy → List FuncTy → ProgramTy
 program_of objects funcs = program_with no_types [] objects funcs

@@ -1,9 +1,17 @@
 -- What a call passes, and which functions may be called so (C90 6.3.2.2).
 use Rattle.std.specs.Prelude.{ℕ, ◌&&◌, Bool, true, false, List, [], ◌∷◌, Option, Some, None}
-use Rattle.c65_ctype.specs.Trees.{Ty, void, pointer, function, qual, Fn, fn, unknown, known, QTys, end, more, TypesTy, type_in}
-use Rattle.c65_meaning.specs.Trees.{ObjectTree, FuncTree, UnitTree}
-use Rattle.c65_meaning.specs.Compatible.{are_compatible, are_compatible_functions, promoted}
+use Rattle.c65_ctype.specs.Trees.{Ty, void, int, pointer, function, QTy, qual, Fn, fn, unknown, known, QTys, end, more, TypesTy, type_in}
+use Rattle.c65_meaning.specs.Trees.{ObjectTy, FuncTy, UnitTy}
+use Rattle.c65_meaning.specs.Compatible.{are_compatible, promoted_int}
 use Rattle.c65_meaning.specs.Shapes.{object_in}
+
+abbrev pub plain : Ty → QTy
+plain t = qual t false false
+
+-- the integer promotions (C90 6.2.1.1)
+abbrev pub promoted : Ty → Ty
+promoted (int t) = int (promoted_int t)
+promoted t = t
 
 -- the function type of a function, or of a pointer to one
 abbrev pub function_type : Ty → Option Fn
@@ -27,17 +35,17 @@ module _ (types : TypesTy) where
   fit [] variadic end = true
   fit (t ∷ args) variadic end = variadic
   fit [] variadic (more q rest) = false
-  fit (t ∷ args) variadic (more q rest) = are_compatible types t (type_in q) && fit args variadic rest
+  fit (t ∷ args) variadic (more q rest) = are_compatible types (plain t) (plain (type_in q)) && fit args variadic rest
 
-module _ (u : UnitTree) where
-  abbrev pub parameter_type : Option ObjectTree → Ty
+module _ (u : UnitTy) where
+  abbrev pub parameter_type : Option ObjectTy → Ty
   parameter_type None = void
   parameter_type (Some x) = type_in x.ty
 
   -- and for those of a definition without a prototype
   abbrev pub fit_objects : List Ty → List ℕ → Bool
   fit_objects [] [] = true
-  fit_objects (t ∷ args) (i ∷ objects) = are_compatible u.types t (promoted (parameter_type (object_in u i))) && fit_objects args objects
+  fit_objects (t ∷ args) (i ∷ objects) = are_compatible u.types (plain t) (plain (promoted (parameter_type (object_in u i)))) && fit_objects args objects
   fit_objects _ _ = false
 
   abbrev pub fit_definition : List Ty → List ℕ → Fn → Bool
@@ -46,8 +54,8 @@ module _ (u : UnitTree) where
 
   abbrev pub agree : Option Fn → Fn → Bool
   agree None g = false
-  agree (Some f) g = are_compatible_functions u.types f g
+  agree (Some f) g = are_compatible u.types (plain (function f)) (plain (function g))
 
   -- the type of the callee is compatible with the call
-  abbrev pub accepts : Ty → List Ty → FuncTree → Bool
+  abbrev pub accepts : Ty → List Ty → FuncTy → Bool
   accepts callee args g = agree (function_type callee) g.ty && fit_definition (passed_to (function_type callee) args) g.params g.ty

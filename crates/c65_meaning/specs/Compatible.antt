@@ -32,10 +32,6 @@ promoted_int Short = Int
 promoted_int UShort = UInt
 promoted_int t = t
 
-abbrev pub promoted : Ty → Ty
-promoted (int t) = int (promoted_int t)
-promoted t = t
-
 abbrev pub stays_promoted : Ty → Bool
 stays_promoted (int t) = same_int t (promoted_int t)
 stays_promoted t = true
@@ -122,8 +118,5 @@ same_tag u (suc n) s t = s == t || (other_unit (slice_get u.tags s) (slice_get u
 abbrev pub most_pairs : TypesTy → ℕ
 most_pairs u = suc (length u.tags * length u.tags)
 
-abbrev pub are_compatible : TypesTy → Ty → Ty → Bool
-are_compatible u s t = same_type (same_tag u (most_pairs u)) s t
-
-abbrev pub are_compatible_functions : TypesTy → Fn → Fn → Bool
-are_compatible_functions u f g = same_function (same_tag u (most_pairs u)) f g
+abbrev pub are_compatible : TypesTy → QTy → QTy → Bool
+are_compatible u s t = same_qualified (same_tag u (most_pairs u)) s t

@@ -1,8 +1,8 @@
 -- What active calls cost on the two stacks, read off the source alone.
-use Rattle.std.specs.Prelude.{ℕ, suc, ◌+◌, ◌*◌, max, List, [], ◌∷◌, Option, Some, None, length}
+use Rattle.std.specs.Prelude.{ℕ, suc, ◌+◌, ◌*◌, max, List, [], ◌∷◌, length}
 use Rattle.c65_ctype.specs.Trees.{Ty}
 use Rattle.c65_ctype.specs.Sizes.{size_of}
-use Rattle.c65_meaning.specs.Trees.{Typed, node, Node, deref, member, load, address, decay, convert, unary, binary, both, either, choice, comma, assign, assign_op, assign_step, step, copy, call, Nodes, none, some, Stmt, eval, set, block, branch, while, do_while, for, switch, case, default, label, return, Stmts, done, also, UnitTree}
+use Rattle.c65_meaning.specs.Trees.{Typed, node, Node, deref, member, load, address, decay, convert, unary, binary, both, either, choice, comma, assign, assign_op, assign_step, step, copy, call, Nodes, none, some, Stmt, eval, set_part, block, if_stmt, while, do_while, for_loop, switch, case, default, label, return, Stmts, no_stmts, and_stmts, MaybeTyped, absent, present, UnitTy}
 use Rattle.c65_meaning.specs.Shapes.{object_size, object_in}
 
 abbrev mutual
@@ -36,20 +36,20 @@ abbrev mutual
   need_of_all none = 0
   need_of_all (some e rest) = 1 + max (need e) (need_of_all rest)
 
-abbrev pub need_if : Option Typed → ℕ
-need_if None = 0
-need_if (Some e) = need e
+abbrev pub need_if : MaybeTyped → ℕ
+need_if absent = 0
+need_if (present e) = need e
 
 abbrev mutual
   -- the greatest need of the expressions in a statement
   pub greatest_need : Stmt → ℕ
   greatest_need (eval e) = need e
-  greatest_need (set i o e) = need e
+  greatest_need (set_part i o e) = need e
   greatest_need (block objs ss) = greatest_need_of_all ss
-  greatest_need (branch e a b) = max (need e) (max (greatest_need a) (greatest_need b))
+  greatest_need (if_stmt e a b) = max (need e) (max (greatest_need a) (greatest_need b))
   greatest_need (while e s) = max (need e) (greatest_need s)
   greatest_need (do_while s e) = max (greatest_need s) (need e)
-  greatest_need (for i c x s) = max (max (need_if i) (need_if c)) (max (need_if x) (greatest_need s))
+  greatest_need (for_loop i c x s) = max (max (need_if i) (need_if c)) (max (need_if x) (greatest_need s))
   greatest_need (switch e s) = max (need e) (greatest_need s)
   greatest_need (case v s) = greatest_need s
   greatest_need (default s) = greatest_need s
@@ -58,10 +58,10 @@ abbrev mutual
   greatest_need _ = 0
 
   pub greatest_need_of_all : Stmts → ℕ
-  greatest_need_of_all done = 0
-  greatest_need_of_all (also s rest) = max (greatest_need s) (greatest_need_of_all rest)
+  greatest_need_of_all no_stmts = 0
+  greatest_need_of_all (and_stmts s rest) = max (greatest_need s) (greatest_need_of_all rest)
 
-module _ (u : UnitTree) where
+module _ (u : UnitTy) where
   abbrev pub bytes_of_objects : List ℕ → ℕ
   bytes_of_objects [] = 0
   bytes_of_objects (i ∷ rest) = object_size u.types (object_in u i) + bytes_of_objects rest
@@ -70,10 +70,10 @@ module _ (u : UnitTree) where
     -- the bytes of all objects of the blocks in a statement
     pub local_bytes : Stmt → ℕ
     local_bytes (block objs ss) = bytes_of_objects objs + all_local_bytes ss
-    local_bytes (branch e a b) = local_bytes a + local_bytes b
+    local_bytes (if_stmt e a b) = local_bytes a + local_bytes b
     local_bytes (while e s) = local_bytes s
     local_bytes (do_while s e) = local_bytes s
-    local_bytes (for i c x s) = local_bytes s
+    local_bytes (for_loop i c x s) = local_bytes s
     local_bytes (switch e s) = local_bytes s
     local_bytes (case v s) = local_bytes s
     local_bytes (default s) = local_bytes s
@@ -81,8 +81,8 @@ module _ (u : UnitTree) where
     local_bytes _ = 0
 
     pub all_local_bytes : Stmts → ℕ
-    all_local_bytes done = 0
-    all_local_bytes (also s rest) = local_bytes s + all_local_bytes rest
+    all_local_bytes no_stmts = 0
+    all_local_bytes (and_stmts s rest) = local_bytes s + all_local_bytes rest
 
   -- the bytes of arguments of these types
   abbrev pub argument_bytes : List Ty → ℕ

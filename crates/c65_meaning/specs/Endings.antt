@@ -1,6 +1,6 @@
 -- How the run of a sample ends, and when.
 use Rattle.std.specs.Prelude.{◌≡◌, ℕ, suc, List, ⊤}
-use Rattle.c65_meaning.specs.Trees.{ProgramTree}
+use Rattle.c65_meaning.specs.Trees.{ProgramTy}
 use Rattle.c65_meaning.specs.declared.ending.Ending.{Ending}
 use Rattle.c65_meaning.specs.declared.ending.Ending.TheVariants.{Status, Undefined, TooDeep}
 use Rattle.c65_meaning.specs.Why.{By}
@@ -18,6 +18,6 @@ IsRunning (HasNone why) = ⊥
 IsRunning IsDeep = ⊥
 
 -- so many steps leave the run going, and the next one ends it like this
-pub record EndsAfter (p : ProgramTree) (args : List (List ℕ)) (input : List ℕ) (n : ℕ) (out : List ℕ) (turns : ℕ) (e : Ending) : Type 0 where
+pub record EndsAfter (p : ProgramTy) (args : List (List ℕ)) (input : List ℕ) (n : ℕ) (out : List ℕ) (turns : ℕ) (e : Ending) : Type 0 where
   pub running : IsRunning (sem p args input n)
   pub ending : sem p args input (suc n) ≡ ended out turns e

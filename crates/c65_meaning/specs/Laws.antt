@@ -2,7 +2,7 @@
 use Rattle.std.specs.Prelude.{◌≡◌, ℕ, suc, ◌+◌, ◌^◌, ◌≤◌, Bool, List, ◌++◌, Ok, Option, Some, ⊤}
 use Rattle.c65_ints.specs.declared.types.IntType.{IntType}
 use Rattle.c65_ints.specs.Ranges.{wrap_of, is_signed_of, placed, residue}
-use Rattle.c65_meaning.specs.Trees.{ProgramTree}
+use Rattle.c65_meaning.specs.Trees.{ProgramTy}
 use Rattle.c65_meaning.specs.Store.{Block, Store, Value, Whole, Null, Place, Opaque, Shape, Number, Field, Pointer, size_in, read, write}
 use Rattle.c65_meaning.specs.State.{State, Undefined, Deep, Ended, Running}
 use Rattle.c65_meaning.specs.Step.{steps}
@@ -12,7 +12,7 @@ use Rattle.c65_meaning.specs.Sem.{Outcome, Runs, Ends, HasNone, IsDeep, sem, sta
 
 -- The state after n + m steps is m steps on from the one after n steps.
 abbrev pub RunsGoOn : Type 0
-RunsGoOn = (p : ProgramTree) (args : List (List ℕ)) (input : List ℕ) (n m : ℕ)
+RunsGoOn = (p : ProgramTy) (args : List (List ℕ)) (input : List ℕ) (n m : ℕ)
     → state_at p args input (n + m) ≡ steps p m (state_at p args input n)
 
 -- an end, an undefined action and too deep a call
@@ -24,7 +24,7 @@ IsLast (Running work values at) = ⊥
 
 -- A last state stays.
 abbrev pub LastStays : Type 0
-LastStays = (p : ProgramTree) (s : State) (n : ℕ) → IsLast s → steps p n s ≡ s
+LastStays = (p : ProgramTy) (s : State) (n : ℕ) → IsLast s → steps p n s ≡ s
 
 -- later output begins with the earlier one, and turns only rise, by at most one a step
 pub record IsLater (steps : ℕ) (out : List ℕ) (turns : ℕ) (later : List ℕ) (more : ℕ) : Type 0 where
@@ -48,7 +48,7 @@ Follows n IsDeep later = later ≡ IsDeep
 
 -- Output only grows, turns only rise, and an end, an undefined action and too deep a call stay.
 abbrev pub OutputGrows : Type 0
-OutputGrows = (p : ProgramTree) (args : List (List ℕ)) (input : List ℕ) (n m : ℕ)
+OutputGrows = (p : ProgramTy) (args : List (List ℕ)) (input : List ℕ) (n m : ℕ)
     → Follows m (sem p args input n) (sem p args input (n + m))
 
 -- ---- the store

@@ -1,53 +1,53 @@
 -- Small programs that end by themselves.
-use Rattle.std.specs.Prelude.{ℕ, pos, [], ◌∷◌, Some}
+use Rattle.std.specs.Prelude.{ℕ, pos, [], ◌∷◌}
 use Rattle.c65_base.specs.declared.operators.BinaryOp.TheVariants.{Add, Mul, Lt, Shr}
 use Rattle.c65_base.specs.declared.operators.StepKind.TheVariants.{PreInc, PostInc}
 use Rattle.c65_ints.specs.declared.types.IntType.TheVariants as I
 use Rattle.c65_meaning.specs.declared.items.Library.TheVariants as L
-use Rattle.c65_meaning.specs.Trees.{Typed, node, literal, assign_op, copy, Stmt, eval, while, for, switch, case, default, label, goto, break, branch, empty, ProgramTree}
+use Rattle.c65_meaning.specs.Trees.{Typed, node, literal, assign_op, copy, Stmt, eval, while, for_loop, switch, case, default, label, goto, break, if_stmt, empty, present, ProgramTy}
 use Rattle.c65_meaning.specs.Building.{integer, unsigned, character, structure, pointer_to, array_of, takes, byte_member, bit_field, one_structure, no_types, number, below_zero, place, value_of, value, at, first_of, as_type, member_of, with, beside, store, change, call_as, scope, give, initial, local, static, defined, provided, main_of, program_with, program_of}
 
 -- int main(void) { int a = -32767-1; return a < 1; }
-abbrev pub least_below_one : ProgramTree
+abbrev pub least_below_one : ProgramTy
 least_below_one = program_of (local integer ∷ []) (main_of (scope (0 ∷ []) (initial 0 (below_zero 32767) ∷ give (with Lt (value 0) (number 1)) ∷ [])) ∷ [])
 
 -- int main(void) { int i = 0; while (i < 3) i++; return i; }
-abbrev pub counting_loop : ProgramTree
+abbrev pub counting_loop : ProgramTy
 counting_loop = program_of (local integer ∷ []) (main_of (scope (0 ∷ []) (initial 0 (number 0) ∷ while (with Lt (value 0) (number 3)) (eval (change PostInc 0)) ∷ give (value 0) ∷ [])) ∷ [])
 
 -- int f(int a, int b) { return a * 10 + b; } int main(void) { int i = 1; return f(i++, i); }
-abbrev pub arguments_in_order : ProgramTree
+abbrev pub arguments_in_order : ProgramTy
 arguments_in_order = program_of (local integer ∷ local integer ∷ local integer ∷ []) (main_of (scope (2 ∷ []) (initial 2 (number 1) ∷ give (call_as 1 (takes (integer ∷ integer ∷ []) integer) integer (change PostInc 2 ∷ value 2 ∷ [])) ∷ [])) ∷ defined (takes (integer ∷ integer ∷ []) integer) (0 ∷ 1 ∷ []) (give (with Add (with Mul (value 0) (number 10)) (value 1))) ∷ [])
 
 -- static int i; int inc(void) { return i = i + 1; } int main(void) { return i + inc(); }
-abbrev pub left_before_call : ProgramTree
+abbrev pub left_before_call : ProgramTy
 left_before_call = program_of (static integer ∷ []) (main_of (give (with Add (value 0) (call_as 1 (takes [] integer) integer []))) ∷ defined (takes [] integer) [] (give (store (place integer 0) (with Add (value 0) (number 1)))) ∷ [])
 
 -- int main(void) { return -8 >> 1 < 0; }
-abbrev pub negative_shifted : ProgramTree
+abbrev pub negative_shifted : ProgramTy
 negative_shifted = program_of [] (main_of (give (with Lt (with Shr (below_zero 7) (number 1)) (number 0))) ∷ [])
 
 -- int main(void) { struct { unsigned a : 3, b : 6; } s; s.b = 70; return s.M; }
-abbrev pub bit_fields : ℕ → ProgramTree
+abbrev pub bit_fields : ℕ → ProgramTy
 bit_fields m = program_with (one_structure (bit_field 0 3 ∷ bit_field 3 6 ∷ [])) [] (local structure ∷ []) (main_of (scope (0 ∷ []) (eval (store (member_of unsigned (place structure 0) 1) (as_type unsigned (number 70))) ∷ give (as_type integer (value_of (member_of unsigned (place structure 0) m))) ∷ [])) ∷ [])
 
 -- int main(void) { struct { unsigned char a, b; } s, t; s.a = 7; t = s; return t.M; }
-abbrev pub structure_copied : ℕ → ProgramTree
+abbrev pub structure_copied : ℕ → ProgramTy
 structure_copied m = program_with (one_structure (byte_member 0 ∷ byte_member 1 ∷ [])) [] (local structure ∷ local structure ∷ []) (main_of (scope (0 ∷ 1 ∷ []) (eval (store (member_of character (place structure 0) 0) (as_type character (number 7))) ∷ eval (node structure (copy (place structure 1) (place structure 0))) ∷ give (as_type integer (value_of (member_of character (place structure 1) m))) ∷ [])) ∷ [])
 
 abbrev pub add_to : ℕ → Typed → Stmt
 add_to i e = eval (node integer (assign_op Add I.Int (place integer i) e))
 
 -- int main(void) { int i, n = 0; for (i = 0; i < 4; i++) switch (i) { case 1: n += 10; case 2: n += 1; break; default: n += 100; } return n; }
-abbrev pub switch_in_loop : ProgramTree
-switch_in_loop = program_of (local integer ∷ local integer ∷ []) (main_of (scope (0 ∷ 1 ∷ []) (initial 1 (number 0) ∷ for (Some (store (place integer 0) (number 0))) (Some (with Lt (value 0) (number 4))) (Some (change PostInc 0)) (switch (value 0) (scope [] (case (pos 1) (add_to 1 (number 10)) ∷ case (pos 2) (add_to 1 (number 1)) ∷ break ∷ default (add_to 1 (number 100)) ∷ []))) ∷ give (value 1) ∷ [])) ∷ [])
+abbrev pub switch_in_loop : ProgramTy
+switch_in_loop = program_of (local integer ∷ local integer ∷ []) (main_of (scope (0 ∷ 1 ∷ []) (initial 1 (number 0) ∷ for_loop (present (store (place integer 0) (number 0))) (present (with Lt (value 0) (number 4))) (present (change PostInc 0)) (switch (value 0) (scope [] (case (pos 1) (add_to 1 (number 10)) ∷ case (pos 2) (add_to 1 (number 1)) ∷ break ∷ default (add_to 1 (number 100)) ∷ []))) ∷ give (value 1) ∷ [])) ∷ [])
 
 -- int main(void) { int i = 0; again: ++i; if (i < 3) goto again; goto out; out: return i; }
-abbrev pub jumps_both_ways : ProgramTree
-jumps_both_ways = program_of (local integer ∷ []) (main_of (scope (0 ∷ []) (initial 0 (number 0) ∷ label 0 (eval (change PreInc 0)) ∷ branch (with Lt (value 0) (number 3)) (goto 0) empty ∷ goto 1 ∷ label 1 (give (value 0)) ∷ [])) ∷ [])
+abbrev pub jumps_both_ways : ProgramTy
+jumps_both_ways = program_of (local integer ∷ []) (main_of (scope (0 ∷ []) (initial 0 (number 0) ∷ label 0 (eval (change PreInc 0)) ∷ if_stmt (with Lt (value 0) (number 3)) (goto 0) empty ∷ goto 1 ∷ label 1 (give (value 0)) ∷ [])) ∷ [])
 
 -- int main(int argc, char **argv) { return argv[1][0]; }
-abbrev pub second_argument : ProgramTree
+abbrev pub second_argument : ProgramTy
 second_argument = program_of (local integer ∷ local (pointer_to (pointer_to character)) ∷ []) (defined (takes (integer ∷ pointer_to (pointer_to character) ∷ []) integer) (0 ∷ 1 ∷ []) (give (as_type integer (value_of (at character (value_of (at (pointer_to character) (beside Add (value_of (place (pointer_to (pointer_to character)) 1)) (number 1)))))))) ∷ [])
 
 -- literal l, of three bytes, as a pointer to its first
@@ -55,5 +55,5 @@ abbrev pub text : ℕ → Typed
 text l = first_of character (node (array_of 3 character) (literal l))
 
 -- int main(void) { return puts("hi") + strcmp("ab", "ad"); }
-abbrev pub library_calls : ProgramTree
-library_calls = program_with no_types ((104 ∷ 105 ∷ 0 ∷ []) ∷ (97 ∷ 98 ∷ 0 ∷ []) ∷ (97 ∷ 100 ∷ 0 ∷ []) ∷ []) (local (pointer_to character) ∷ local (pointer_to character) ∷ []) (main_of (give (with Add (call_as 1 (takes (pointer_to character ∷ []) integer) integer (text 0 ∷ [])) (call_as 2 (takes (pointer_to character ∷ pointer_to character ∷ []) integer) integer (text 1 ∷ text 2 ∷ [])))) ∷ provided (takes (pointer_to character ∷ []) integer) (0 ∷ []) L.Puts ∷ provided (takes (pointer_to character ∷ pointer_to character ∷ []) integer) (0 ∷ 1 ∷ []) L.Strcmp ∷ [])
+abbrev pub library_calls : ProgramTy
+library_calls = program_with no_types ((104 ∷ 105 ∷ []) ∷ (97 ∷ 98 ∷ []) ∷ (97 ∷ 100 ∷ []) ∷ []) (local (pointer_to character) ∷ local (pointer_to character) ∷ []) (main_of (give (with Add (call_as 1 (takes (pointer_to character ∷ []) integer) integer (text 0 ∷ [])) (call_as 2 (takes (pointer_to character ∷ pointer_to character ∷ []) integer) integer (text 1 ∷ text 2 ∷ [])))) ∷ provided (takes (pointer_to character ∷ []) integer) (0 ∷ []) L.Puts ∷ provided (takes (pointer_to character ∷ pointer_to character ∷ []) integer) (0 ∷ 1 ∷ []) L.Strcmp ∷ [])

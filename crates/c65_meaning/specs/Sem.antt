@@ -1,13 +1,13 @@
 -- The meaning of a program: n steps from the call of `main`, and when the run of an image agrees with it.
 use Rattle.std.specs.Prelude.{◌≡◌, ℕ, ◌+◌, ◌*◌, ◌≤◌, List, ⊤}
-use Rattle.c65_meaning.specs.Trees.{ProgramTree}
+use Rattle.c65_meaning.specs.Trees.{ProgramTy}
 use Rattle.c65_meaning.specs.Why.{Why}
 use Rattle.c65_meaning.specs.Sites.{jumps}
 use Rattle.c65_meaning.specs.State.{State, Undefined, Deep, Ended, Running}
 use Rattle.c65_meaning.specs.Step.{steps}
 use Rattle.c65_meaning.specs.Start.{start}
 
-abbrev pub state_at : ProgramTree → List (List ℕ) → List ℕ → ℕ → State
+abbrev pub state_at : ProgramTy → List (List ℕ) → List ℕ → ℕ → State
 state_at p args input n = steps p n (start p args input)
 
 -- ---- what is seen of a run
@@ -24,7 +24,7 @@ outcome_of Deep = IsDeep
 outcome_of (Ended out status turns) = Ends out status turns
 outcome_of (Running work values c) = Runs c.out c.turns
 
-abbrev pub sem : ProgramTree → List (List ℕ) → List ℕ → ℕ → Outcome
+abbrev pub sem : ProgramTy → List (List ℕ) → List ℕ → ℕ → Outcome
 sem p args input n = outcome_of (state_at p args input n)
 
 -- nothing undefined has happened, and no call was too deep
@@ -54,7 +54,7 @@ Matches (Ends out status turns) (SeenEnded out2 status2) = (out ≡ out2) × (st
 Matches _ _ = ⊥
 
 -- the run has the same output and state at a moment that is early enough, and at one that is late enough
-pub record Agrees (p : ProgramTree) (run : ℕ → Seen) (args : List (List ℕ)) (input : List ℕ) (n : ℕ) : Type 0 where
+pub record Agrees (p : ProgramTy) (run : ℕ → Seen) (args : List (List ℕ)) (input : List ℕ) (n : ℕ) : Type 0 where
   pub defined : IsDefined (sem p args input n)
   pub early : ℕ
   pub is_early : early ≤ 4096 * (n + 1)

@@ -5,20 +5,17 @@ use Rattle.c65_ctype.specs.Tables.{layout_at}
 use Rattle.c65_ctype.specs.Sizes.{size_of}
 use Rattle.c65_meaning.specs.declared.items.Class.{Class}
 use Rattle.c65_meaning.specs.declared.items.Class.TheVariants.{Auto, Register}
-use Rattle.c65_meaning.specs.Trees.{Typed, node, member, Nodes, none, some, ObjectTree, UnitTree}
+use Rattle.c65_meaning.specs.Trees.{Typed, node, member, Nodes, none, some, type_of, ObjectTy, UnitTy}
 use Rattle.c65_meaning.specs.Store.{Shape, Number, Field, Pointer, Area}
 
--- the type of a tree
-abbrev pub qualified_type : Typed → QTy
-qualified_type (node t e) = t
-
-abbrev pub type_of : Typed → Ty
-type_of e = type_in (qualified_type e)
+-- the type of a tree, without its qualifiers
+abbrev pub bare_type : Typed → Ty
+bare_type e = type_in (type_of e)
 
 -- the types of arguments
 abbrev pub types_of : Nodes → List Ty
 types_of none = []
-types_of (some e rest) = type_of e ∷ types_of rest
+types_of (some e rest) = bare_type e ∷ types_of rest
 
 -- ---- shapes
 
@@ -50,7 +47,7 @@ member_shape (Some m) s = field_shape (type_in m.ty) m.bits s
 
 -- how the object lies that a place names
 abbrev pub place_shape : TypesTy → Typed → Shape
-place_shape types (node t (member a m)) = member_shape (member_at types (type_of a) m) (shape_of types (type_in t))
+place_shape types (node t (member a m)) = member_shape (member_at types (bare_type a) m) (shape_of types (type_in t))
 place_shape types (node t e) = shape_of types (type_in t)
 
 -- ---- objects
@@ -64,15 +61,15 @@ abbrev mutual
   pub are_const : QTy → Bool
   are_const (qual t c v) = c || elements_const t
 
-abbrev pub object_size : TypesTy → Option ObjectTree → ℕ
+abbrev pub object_size : TypesTy → Option ObjectTy → ℕ
 object_size types None = 0
 object_size types (Some x) = size_of types (type_in x.ty)
 
-abbrev pub object_sealed : Option ObjectTree → Bool
+abbrev pub object_sealed : Option ObjectTy → Bool
 object_sealed None = false
 object_sealed (Some x) = are_const x.ty
 
-abbrev pub object_shape : TypesTy → Option ObjectTree → Shape
+abbrev pub object_shape : TypesTy → Option ObjectTy → Shape
 object_shape types None = Area 0
 object_shape types (Some x) = shape_of types (type_in x.ty)
 
@@ -81,19 +78,19 @@ is_automatic Auto = true
 is_automatic Register = true
 is_automatic _ = false
 
-abbrev pub lives_in_frame : Option ObjectTree → Bool
+abbrev pub lives_in_frame : Option ObjectTy → Bool
 lives_in_frame None = false
 lives_in_frame (Some x) = is_automatic x.class
 
-abbrev pub object_in : UnitTree → ℕ → Option ObjectTree
+abbrev pub object_in : UnitTy → ℕ → Option ObjectTy
 object_in u i = slice_get u.objects i
 
 -- the first blocks are the functions, then the literals, then the objects of the program; automatic ones leave theirs unused
-abbrev pub literal_block : UnitTree → ℕ → ℕ
+abbrev pub literal_block : UnitTy → ℕ → ℕ
 literal_block u l = length u.funcs + l
 
-abbrev pub object_block : UnitTree → ℕ → ℕ
+abbrev pub object_block : UnitTy → ℕ → ℕ
 object_block u i = length u.funcs + length u.literals + i
 
-abbrev pub first_block : UnitTree → ℕ
+abbrev pub first_block : UnitTy → ℕ
 first_block u = length u.funcs + length u.literals + length u.objects

@@ -4,7 +4,7 @@ use Rattle.c65_meaning.specs.declared.items.Cell.{Cell as InitialCell}
 use Rattle.c65_meaning.specs.declared.items.Cell.TheVariants.{Byte, Piece as InitialPiece}
 use Rattle.c65_meaning.specs.declared.items.Target.{Target}
 use Rattle.c65_meaning.specs.declared.items.Target.TheVariants as T
-use Rattle.c65_meaning.specs.Trees.{Stmt, ObjectTree, FuncTree, UnitTree, ProgramTree}
+use Rattle.c65_meaning.specs.Trees.{Stmt, ObjectTy, FuncTy, UnitTy, ProgramTy}
 use Rattle.c65_meaning.specs.declared.action.Action.TheVariants.{OffsetOutside}
 use Rattle.c65_meaning.specs.Why.{By, Unfit}
 use Rattle.c65_meaning.specs.Store.{Cell, Piece, byte, Block, Store, Value, Whole, Place, function_block, set_block, size_in_store}
@@ -22,9 +22,10 @@ bytes_at (b ∷ rest) (suc o) = bytes_at rest o
 abbrev pub text_block : Bool → List ℕ → Block
 text_block sealed text = record { size = length text; holds = length text; live = true; sealed = sealed; cells = bytes_at text }
 
+-- a literal has a closing zero
 abbrev pub literal_in : Option (List ℕ) → Option Block
 literal_in None = None
-literal_in (Some text) = Some (text_block true text)
+literal_in (Some text) = Some (text_block true (text ++ 0 ∷ []))
 
 abbrev pub from_zero : ℤ → ℕ
 from_zero (pos n) = n
@@ -41,7 +42,7 @@ abbrev pub with_texts : ℕ → List (List ℕ) → Store → Store
 with_texts b [] s = s
 with_texts b (a ∷ rest) s = with_texts (suc b) rest (set_block s b (text_block false (a ++ 0 ∷ [])))
 
-module _ (u : UnitTree) where
+module _ (u : UnitTy) where
   abbrev pub target_block : Target → ℕ
   target_block (T.Object i) = object_block u i
   target_block (T.Literal l) = literal_block u l
@@ -57,7 +58,7 @@ module _ (u : UnitTree) where
   cells_of (Some cells) o = initial_cell (slice_get cells o)
 
   -- a static object has its initial value, or zero bytes
-  abbrev pub static_block : Option ObjectTree → Option Block
+  abbrev pub static_block : Option ObjectTy → Option Block
   static_block None = None
   static_block (Some x) = if lives_in_frame (Some x) then None else Some (record { size = object_size u.types (Some x); holds = object_size u.types (Some x); live = true; sealed = object_sealed (Some x); cells = cells_of x.init })
 
@@ -82,7 +83,7 @@ module _ (u : UnitTree) where
   init_inside None = true
   init_inside (Some cells) = are_inside cells
 
-  abbrev pub objects_inside : List ObjectTree → Bool
+  abbrev pub objects_inside : List ObjectTy → Bool
   objects_inside [] = true
   objects_inside (x ∷ rest) = init_inside x.init && objects_inside rest
 
@@ -104,14 +105,14 @@ module _ (u : UnitTree) where
   main_values args [] = []
   main_values args _ = Whole (pos (length args)) ∷ Place (first_block u) 0 ∷ []
 
-  abbrev pub started : ℕ → List (List ℕ) → List ℕ → FuncTree → Option Stmt → State
+  abbrev pub started : ℕ → List (List ℕ) → List ℕ → FuncTy → Option Stmt → State
   started f args input g None = Undefined Unfit
   started f args input g (Some body) = entered u f g body (soft_cost u (bytes_of_objects u g.params) body + arguments_bytes args) (main_values args g.params) [] [] (first_scene g.params args input)
 
-  abbrev pub started_by : ℕ → List (List ℕ) → List ℕ → Option FuncTree → State
+  abbrev pub started_by : ℕ → List (List ℕ) → List ℕ → Option FuncTy → State
   started_by f args input None = Undefined Unfit
   started_by f args input (Some g) = started f args input g g.body
 
 -- the call of `main`; an initial pointer that points outside its object is undefined from the start
-abbrev pub start : ProgramTree → List (List ℕ) → List ℕ → State
+abbrev pub start : ProgramTy → List (List ℕ) → List ℕ → State
 start p args input = if objects_inside p.unit p.unit.objects then started_by p.unit p.main args input (slice_get p.unit.funcs p.main) else Undefined (By OffsetOutside)

@@ -3,7 +3,7 @@ use Rattle.std.specs.Prelude.{ℕ, zero, suc, ◌+◌, ◌==◌, ◌&&◌, ◌||
 use Rattle.c65_ints.specs.Ranges.{residue}
 use Rattle.c65_ctype.specs.Trees.{Ty}
 use Rattle.c65_meaning.specs.declared.items.Library.{Library}
-use Rattle.c65_meaning.specs.Trees.{Typed, Stmt, FuncTree, UnitTree, ProgramTree}
+use Rattle.c65_meaning.specs.Trees.{MaybeTyped, absent, present, Stmt, FuncTy, UnitTy, ProgramTy}
 use Rattle.c65_meaning.specs.declared.action.Action.TheVariants.{OutsideObject, CalleeType, NoResult, PartialOverlap}
 use Rattle.c65_meaning.specs.Why.{Why, By, Unfit, ◌>>=◌}
 use Rattle.c65_meaning.specs.Integers.{truth}
@@ -60,7 +60,7 @@ abbrev pub place_in : Option ℕ → Result Value Why
 place_in None = Err Unfit
 place_in (Some b) = Ok (Place b 0)
 
-module _ (u : UnitTree) where
+module _ (u : UnitTy) where
   -- the block of an object: the active call's own, or the one of the whole run
   abbrev pub object_place : ℕ → Scene → Result Value Why
   object_place i c = if lives_in_frame (object_in u i) then place_in (block_in c.frames i) else Ok (Place (object_block u i) 0)
@@ -180,7 +180,7 @@ abbrev pub served : Library → List Value → List Item → List Value → Scen
 served f args k vs c (Err why) = Undefined why
 served f args k vs c (Ok e) = library_call e.bytes f args k vs c
 
-module _ (u : UnitTree) where
+module _ (u : UnitTy) where
   -- each parameter is a new block that holds its argument; further arguments of a variadic function are dropped
   abbrev pub with_params : List ℕ → List Value → Scene → Result Scene Why
   with_params [] args c = Ok c
@@ -191,23 +191,23 @@ module _ (u : UnitTree) where
   new_frame f cost c = record c { frames = record { func = f; object = λ i. None; cost = cost } ∷ c.frames }
 
   -- a call of a function that has a body
-  abbrev pub entered : ℕ → FuncTree → Stmt → ℕ → List Value → List Item → List Value → Scene → State
+  abbrev pub entered : ℕ → FuncTy → Stmt → ℕ → List Value → List Item → List Value → Scene → State
   entered f g body cost args k vs c = unless_deep (plan_stmt u 0 body (Leave ∷ k)) vs (with_params g.params args (new_frame f cost c))
 
-  abbrev pub called : ℕ → List Ty → List Value → FuncTree → Option Stmt → Option Library → List Item → List Value → Scene → State
+  abbrev pub called : ℕ → List Ty → List Value → FuncTy → Option Stmt → Option Library → List Item → List Value → Scene → State
   called f types args g (Some body) library k vs c = entered f g body (soft_cost u (argument_bytes u types) body) args k vs (turned c)
   called f types args g None (Some l) k vs c = served l args k vs c (effect_of c l args)
   called f types args g None None k vs c = Undefined Unfit
 
   -- the values are there, and the function fits the call
-  abbrev pub allowed : Ty → List Ty → List Value → FuncTree → Option Why
+  abbrev pub allowed : Ty → List Ty → List Value → FuncTy → Option Why
   allowed callee types args g = if are_values args then (if accepts u callee types g then None else Some (By CalleeType)) else Some (By NoResult)
 
   abbrev pub unless_refused : Option Why → State → State
   unless_refused (Some why) s = Undefined why
   unless_refused None s = s
 
-  abbrev pub accepted : Ty → ℕ → List Ty → List Value → Option FuncTree → List Item → List Value → Scene → State
+  abbrev pub accepted : Ty → ℕ → List Ty → List Value → Option FuncTy → List Item → List Value → Scene → State
   accepted callee f types args None k vs c = Undefined (By CalleeType)
   accepted callee f types args (Some g) k vs c = unless_refused (allowed callee types args g) (called f types args g g.body g.library k vs c)
 
@@ -237,7 +237,7 @@ abbrev pub behind : List Item → List Item
 behind [] = []
 behind (i ∷ k) = k
 
-abbrev pub params_of : Option FuncTree → List ℕ
+abbrev pub params_of : Option FuncTy → List ℕ
 params_of None = []
 params_of (Some f) = f.params
 
@@ -258,7 +258,7 @@ abbrev pub has_turn : Bool → Scene → Scene
 has_turn true c = turned c
 has_turn false c = c
 
-abbrev pub body_of : Option FuncTree → Option Stmt
+abbrev pub body_of : Option FuncTy → Option Stmt
 body_of None = None
 body_of (Some f) = f.body
 
@@ -266,7 +266,7 @@ abbrev pub left_for : List Value → Scene → Option Left → State
 left_for vs c None = Undefined Unfit
 left_for vs c (Some r) = Running r.work vs (end_objects r.objects c)
 
-module _ (u : UnitTree) where
+module _ (u : UnitTy) where
   -- the parameters end with the call
   abbrev pub left_call : Value → List Item → List Value → Scene → State
   left_call v k vs c = back_in (frames_below c.frames) k vs (without_frame (end_objects (params_of (slice_get u.funcs (func_in c.frames))) c)) v
@@ -305,17 +305,17 @@ module _ (u : UnitTree) where
 
   -- ---- loops
 
-  abbrev pub after_body : Loop → Option Typed → List Item → List Value → Scene → State
-  after_body l None k vs c = Running (head_of u l k) vs (turned c)
-  after_body l (Some e) k vs c = Running (plan u e (Back l ∷ k)) vs c
+  abbrev pub after_body : Loop → MaybeTyped → List Item → List Value → Scene → State
+  after_body l absent k vs c = Running (head_of u l k) vs (turned c)
+  after_body l (present e) k vs c = Running (plan u e (Back l ∷ k)) vs c
 
-  abbrev pub last_test : Loop → Option Typed → List Item → List Value → Scene → State
-  last_test l None k vs c = Undefined Unfit
-  last_test l (Some e) k vs c = Running (plan u e (Redo l ∷ k)) vs c
+  abbrev pub last_test : Loop → MaybeTyped → List Item → List Value → Scene → State
+  last_test l absent k vs c = Undefined Unfit
+  last_test l (present e) k vs c = Running (plan u e (Redo l ∷ k)) vs c
 
 -- ---- one item
 
-module _ (p : ProgramTree) where
+module _ (p : ProgramTy) where
   -- reaching the end of `main` is `return 0`
   abbrev pub at_the_end : List Frame → Value
   at_the_end frames = if func_in frames == p.main then Whole (pos 0) else NoValue

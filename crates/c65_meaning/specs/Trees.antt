@@ -45,17 +45,21 @@ mutual
     none : Nodes
     some : Typed → Nodes → Nodes
 
+pub data MaybeTyped : Type 0 where
+  absent : MaybeTyped
+  present : Typed → MaybeTyped
+
 mutual
   pub data Stmt : Type 0 where
     empty : Stmt
     eval : Typed → Stmt
-    set : ℕ → ℕ → Typed → Stmt
+    set_part : ℕ → ℕ → Typed → Stmt
     clear : ℕ → Stmt
     block : List ℕ → Stmts → Stmt
-    branch : Typed → Stmt → Stmt → Stmt
+    if_stmt : Typed → Stmt → Stmt → Stmt
     while : Typed → Stmt → Stmt
     do_while : Stmt → Typed → Stmt
-    for : Option Typed → Option Typed → Option Typed → Stmt → Stmt
+    for_loop : MaybeTyped → MaybeTyped → MaybeTyped → Stmt → Stmt
     switch : Typed → Stmt → Stmt
     case : ℤ → Stmt → Stmt
     default : Stmt → Stmt
@@ -63,19 +67,19 @@ mutual
     goto : ℕ → Stmt
     break : Stmt
     continue : Stmt
-    return : Option Typed → Stmt
+    return : MaybeTyped → Stmt
 
   pub data Stmts : Type 0 where
-    done : Stmts
-    also : Stmt → Stmts → Stmts
+    no_stmts : Stmts
+    and_stmts : Stmt → Stmts → Stmts
 
-pub record ObjectTree : Type 0 where
+pub record ObjectTy : Type 0 where
   pub name : Name
   pub ty : QTy
   pub class : Class
   pub init : Option (List Cell)
 
-pub record FuncTree : Type 0 where
+pub record FuncTy : Type 0 where
   pub name : Name
   pub ty : Fn
   pub external : Bool
@@ -83,12 +87,15 @@ pub record FuncTree : Type 0 where
   pub body : Option Stmt
   pub library : Option Library
 
-pub record UnitTree : Type 0 where
+pub record UnitTy : Type 0 where
   pub types : TypesTy
-  pub objects : List ObjectTree
+  pub objects : List ObjectTy
   pub literals : List (List ℕ)
-  pub funcs : List FuncTree
+  pub funcs : List FuncTy
 
-pub record ProgramTree : Type 0 where
-  pub unit : UnitTree
+pub record ProgramTy : Type 0 where
+  pub unit : UnitTy
   pub main : ℕ
+
+abbrev pub type_of : Typed → QTy
+type_of (node t e) = t
