@@ -1,34 +1,49 @@
--- What a step leaves of output and turns: scenes that show the same, and states that show more.
-use Rattle.std.proofs.Common.{◌≡◌, ℕ, suc, refl, sym, ap, List, [], ◌∷◌, ◌++◌, append-nil, Bool, true, false, ◌∙◌, arith}
-use Rattle.std.specs.Prelude.{Result, Ok, Err, Option, Some, None, ⊤, if◌then◌else◌}
+-- What a step leaves of output, turns and names of blocks: scenes that show the same, and states that show more.
+use Rattle.std.proofs.Common.{◌≡◌, ℕ, zero, suc, ◌+◌, ◌≤◌, refl, sym, ap, List, [], ◌∷◌, ◌++◌, append-nil, Bool, true, false, ◌∙◌, arith}
+use Rattle.std.specs.Prelude.{Result, Ok, Err, Option, Some, None, ⊤, if◌then◌else◌, ◌==◌}
 use Rattle.c65_meaning.specs.Trees.{UnitTy}
 use Rattle.c65_meaning.specs.Why.{Why, ◌>>=◌}
-use Rattle.c65_meaning.specs.Store.{Store, Value}
+use Rattle.c65_meaning.specs.Store.{Store, Value, Block, end_block, unset_block}
+use Rattle.c65_meaning.specs.Shapes.{object_in, object_size, object_sealed}
 use Rattle.c65_meaning.specs.Items.{Item}
-use Rattle.c65_meaning.specs.State.{State, Undefined, Deep, Ended, Running, Scene, block_in, turned}
+use Rattle.c65_meaning.specs.State.{State, Undefined, Deep, Ended, Running, Scene, block_in, turned, with_store}
 use Rattle.c65_meaning.specs.Step.{one, two, go_on, with_scene, decided, stored, begin_objects, begin_object, end_objects, end_named, has_turn}
-use Rattle.c65_meaning.specs.Laws.{IsLater}
+use Rattle.c65_meaning.specs.Laws.{IsLater, IsLaterIn, KeepsNames}
+use Rattle.c65_meaning.proofs.Blocks.{same_later, later_twice, Keeps, KeepsIf, end_keeps}
 
-abbrev pub Grown : List ℕ → ℕ → State → Type 0
-Grown out turns (Undefined why) = ⊤
-Grown out turns Deep = ⊤
-Grown out turns (Ended later status more) = IsLater 1 out turns later more
-Grown out turns (Running work vs c) = IsLater 1 out turns c.out c.turns
+-- a scene some steps later
+pub record Onward (n : ℕ) (c d : Scene) : Type 0 where
+  pub shows : IsLater n c.out c.turns d.out d.turns
+  pub names : KeepsNames c d
 
--- a scene that shows this
-pub record Same (out : List ℕ) (turns : ℕ) (c : Scene) : Type 0 where
-  pub same_out : c.out ≡ out
-  pub same_turns : c.turns ≡ turns
+-- what a step from a scene comes to
+abbrev pub Grown : Scene → State → Type 0
+Grown c (Undefined why) = ⊤
+Grown c Deep = ⊤
+Grown c (Ended later status more) = IsLater 1 c.out c.turns later more
+Grown c (Running work vs d) = Onward 1 c d
 
-abbrev pub SameIf : List ℕ → ℕ → Result Scene Why → Type 0
-SameIf out turns (Ok c) = Same out turns c
-SameIf out turns (Err why) = ⊤
+-- a scene that shows the same
+pub record Same (c d : Scene) : Type 0 where
+  pub same_out : d.out ≡ c.out
+  pub same_turns : d.turns ≡ c.turns
+  pub names : KeepsNames c d
 
-pub itself : (c : Scene) → Same c.out c.turns c
-itself c = record { same_out = refl; same_turns = refl }
+abbrev pub SameIf : Scene → Result Scene Why → Type 0
+SameIf c (Ok d) = Same c d
+SameIf c (Err why) = ⊤
 
-pub like : (out : List ℕ) (turns : ℕ) (c d : Scene) → Same out turns c → d.out ≡ c.out → d.turns ≡ c.turns → Same out turns d
-like out turns c d h e f = record { same_out = e ∙ h.same_out; same_turns = f ∙ h.same_turns }
+pub names_itself : (c : Scene) → KeepsNames c c
+names_itself c = record { later = omega arith; blocks = λ b h. same_later (c.store b) }
+
+pub names_twice : (c d e : Scene) → KeepsNames c d → KeepsNames d e → KeepsNames c e
+names_twice c d e h g = let first : c.next ≤ d.next = h.later in let second : d.next ≤ e.next = g.later in record { later = omega arith; blocks = λ b small. later_twice (c.store b) (d.store b) (e.store b) (h.blocks b small) (g.blocks b (omega arith)) }
+
+pub itself : (c : Scene) → Same c c
+itself c = record { same_out = refl; same_turns = refl; names = names_itself c }
+
+pub same_twice : (c d e : Scene) → Same c d → Same d e → Same c e
+same_twice c d e h g = record { same_out = g.same_out ∙ h.same_out; same_turns = g.same_turns ∙ h.same_turns; names = names_twice c d e h.names g.names }
 
 pub no_later : (out later : List ℕ) (turns more : ℕ) → later ≡ out → more ≡ turns → IsLater 1 out turns later more
 no_later out later turns more e f = record { written = []; begins = e ∙ sym (append-nil out); least = omega arith; most = omega arith }
@@ -39,81 +54,86 @@ one_turn out later turns more e f = record { written = []; begins = e ∙ sym (a
 pub more_out : (out later w : List ℕ) (turns : ℕ) → later ≡ out ++ w → IsLater 1 out turns later turns
 more_out out later w turns e = record { written = w; begins = e; least = omega arith; most = omega arith }
 
-pub runs : (out : List ℕ) (turns : ℕ) (k : List Item) (vs : List Value) (c : Scene) → Same out turns c → Grown out turns (Running k vs c)
-runs out turns k vs c h = no_later out c.out turns c.turns h.same_out h.same_turns
+pub runs : (c : Scene) (k : List Item) (vs : List Value) (d : Scene) → Same c d → Grown c (Running k vs d)
+runs c k vs d h = record { shows = no_later c.out d.out c.turns d.turns h.same_out h.same_turns; names = h.names }
 
-pub turns_on : (out : List ℕ) (turns : ℕ) (k : List Item) (vs : List Value) (c : Scene) → Same out (suc turns) c → Grown out turns (Running k vs c)
-turns_on out turns k vs c h = one_turn out c.out turns c.turns h.same_out h.same_turns
+-- behind a turn
+pub turns_on : (c : Scene) (k : List Item) (vs : List Value) (d : Scene) → Same (turned c) d → Grown c (Running k vs d)
+turns_on c k vs d h = record { shows = one_turn c.out d.out c.turns d.turns h.same_out h.same_turns; names = record { later = h.names.later; blocks = h.names.blocks } }
 
-pub same : (k : List Item) (vs : List Value) (c : Scene) → Grown c.out c.turns (Running k vs c)
-same k vs c = runs c.out c.turns k vs c (itself c)
+pub same : (k : List Item) (vs : List Value) (c : Scene) → Grown c (Running k vs c)
+same k vs c = runs c k vs c (itself c)
 
-pub one_grows : (out : List ℕ) (turns : ℕ) (vs : List Value) (f : Value → List Value → State) → ((v : Value) (r : List Value) → Grown out turns (f v r)) → Grown out turns (one vs f)
-one_grows out turns [] f h = tt
-one_grows out turns (v ∷ vs) f h = h v vs
+pub turn : (k : List Item) (vs : List Value) (c : Scene) → Grown c (Running k vs (turned c))
+turn k vs c = turns_on c k vs (turned c) (itself (turned c))
 
-pub two_grow : (out : List ℕ) (turns : ℕ) (vs : List Value) (f : Value → Value → List Value → State) → ((y x : Value) (r : List Value) → Grown out turns (f y x r)) → Grown out turns (two vs f)
-two_grow out turns [] f h = tt
-two_grow out turns (y ∷ []) f h = tt
-two_grow out turns (y ∷ x ∷ vs) f h = h y x vs
+pub one_grows : (c : Scene) (vs : List Value) (f : Value → List Value → State) → ((v : Value) (r : List Value) → Grown c (f v r)) → Grown c (one vs f)
+one_grows c [] f h = tt
+one_grows c (v ∷ vs) f h = h v vs
 
-pub go_on_grows : (o : Result Value Why) (k : List Item) (vs : List Value) (c : Scene) → Grown c.out c.turns (go_on o k vs c)
-go_on_grows (Err why) k vs c = tt
-go_on_grows (Ok v) k vs c = same k (v ∷ vs) c
+pub two_grow : (c : Scene) (vs : List Value) (f : Value → Value → List Value → State) → ((y x : Value) (r : List Value) → Grown c (f y x r)) → Grown c (two vs f)
+two_grow c [] f h = tt
+two_grow c (y ∷ []) f h = tt
+two_grow c (y ∷ x ∷ vs) f h = h y x vs
 
-pub if_grows : (out : List ℕ) (turns : ℕ) (t : Bool) (a b : State) → Grown out turns a → Grown out turns b → Grown out turns (if t then a else b)
-if_grows out turns true a b g h = g
-if_grows out turns false a b g h = h
+pub go_on_grows : (c : Scene) (o : Result Value Why) (k : List Item) (vs : List Value) (d : Scene) → Same c d → Grown c (go_on o k vs d)
+go_on_grows c (Err why) k vs d h = tt
+go_on_grows c (Ok v) k vs d h = runs c k (v ∷ vs) d h
 
-pub decided_grows : (out : List ℕ) (turns : ℕ) (o : Result Bool Why) (a b : State) → Grown out turns a → Grown out turns b → Grown out turns (decided o a b)
-decided_grows out turns (Err why) a b g h = tt
-decided_grows out turns (Ok true) a b g h = g
-decided_grows out turns (Ok false) a b g h = h
+pub goes_on : (c : Scene) (o : Result Value Why) (k : List Item) (vs : List Value) → Grown c (go_on o k vs c)
+goes_on c o k vs = go_on_grows c o k vs c (itself c)
 
-pub with_scene_grows : (out : List ℕ) (turns : ℕ) (o : Result Scene Why) (k : List Item) (vs : List Value) → SameIf out turns o → Grown out turns (with_scene o k vs)
-with_scene_grows out turns (Err why) k vs h = tt
-with_scene_grows out turns (Ok c) k vs h = runs out turns k vs c h
+pub if_grows : (c : Scene) (t : Bool) (a b : State) → Grown c a → Grown c b → Grown c (if t then a else b)
+if_grows c true a b g h = g
+if_grows c false a b g h = h
 
-pub stored_same : (c : Scene) (o : Result Store Why) → SameIf c.out c.turns (stored c o)
-stored_same c (Err why) = tt
-stored_same c (Ok s) = record { same_out = refl; same_turns = refl }
+pub decided_grows : (c : Scene) (o : Result Bool Why) (a b : State) → Grown c a → Grown c b → Grown c (decided o a b)
+decided_grows c (Err why) a b g h = tt
+decided_grows c (Ok true) a b g h = g
+decided_grows c (Ok false) a b g h = h
 
-pub then_same : (out : List ℕ) (turns : ℕ) (f : Scene → Result Scene Why) (o : Result Scene Why) → SameIf out turns o → ((c : Scene) → Same out turns c → SameIf out turns (f c)) → SameIf out turns (o >>= f)
-then_same out turns f (Err why) h g = tt
-then_same out turns f (Ok c) h g = g c h
+pub with_scene_grows : (c : Scene) (o : Result Scene Why) (k : List Item) (vs : List Value) → SameIf c o → Grown c (with_scene o k vs)
+with_scene_grows c (Err why) k vs h = tt
+with_scene_grows c (Ok d) k vs h = runs c k vs d h
+
+-- ---- stores
+
+pub store_same : (c : Scene) (s : Store) → Keeps c.store s → Same c (with_store c s)
+store_same c s h = record { same_out = refl; same_turns = refl; names = record { later = omega arith; blocks = λ b small. h b } }
+
+pub stored_same : (c : Scene) (o : Result Store Why) → KeepsIf c.store o → SameIf c (stored c o)
+stored_same c (Err why) h = tt
+stored_same c (Ok s) h = store_same c s h
+
+pub then_same : (c : Scene) (f : Scene → Result Scene Why) (o : Result Scene Why) → SameIf c o → ((d : Scene) → Same c d → SameIf c (f d)) → SameIf c (o >>= f)
+then_same c f (Err why) h g = tt
+then_same c f (Ok d) h g = g d h
 
 -- ---- beginning and end of blocks
 
-pub begin_out : (u : UnitTy) (objects : List ℕ) (c : Scene) → (begin_objects u objects c).out ≡ c.out
-begin_out u [] c = refl
-begin_out u (i ∷ rest) c = begin_out u rest (begin_object u i c)
+-- a number below the next new one is not that one
+older : (s : Store) (next b : ℕ) (x : Block) (t : Bool) → (b == next) ≡ t → suc b ≤ next → IsLaterIn (s b) (if t then Some x else s b)
+older s next b x true e h = let same : b ≡ next = grind arith in absurd (omega arith)
+older s next b x false e h = same_later (s b)
 
-pub begin_turns : (u : UnitTy) (objects : List ℕ) (c : Scene) → (begin_objects u objects c).turns ≡ c.turns
-begin_turns u [] c = refl
-begin_turns u (i ∷ rest) c = begin_turns u rest (begin_object u i c)
+begin_one : (u : UnitTy) (i : ℕ) (c : Scene) → Same c (begin_object u i c)
+begin_one u i c = record { same_out = refl; same_turns = refl; names = record { later = omega arith; blocks = λ b small. older c.store c.next b (unset_block (object_size u.types (object_in u i)) (object_sealed (object_in u i))) (b == c.next) refl small } }
 
-end_named_out : (o : Option ℕ) (c : Scene) → (end_named o c).out ≡ c.out
-end_named_out None c = refl
-end_named_out (Some b) c = refl
+pub begin_keeps : (u : UnitTy) (i : ℕ) (c d : Scene) → Same c d → Same c (begin_object u i d)
+begin_keeps u i c d h = same_twice c d (begin_object u i d) h (begin_one u i d)
 
-end_named_turns : (o : Option ℕ) (c : Scene) → (end_named o c).turns ≡ c.turns
-end_named_turns None c = refl
-end_named_turns (Some b) c = refl
+pub begin_same : (u : UnitTy) (objects : List ℕ) (c d : Scene) → Same c d → Same c (begin_objects u objects d)
+begin_same u [] c d h = h
+begin_same u (i ∷ rest) c d h = begin_same u rest c (begin_object u i d) (begin_keeps u i c d h)
 
-pub end_out : (objects : List ℕ) (c : Scene) → (end_objects objects c).out ≡ c.out
-end_out [] c = refl
-end_out (i ∷ rest) c = end_out rest (end_named (block_in c.frames i) c) ∙ end_named_out (block_in c.frames i) c
+end_one : (o : Option ℕ) (c : Scene) → Same c (end_named o c)
+end_one None c = itself c
+end_one (Some b) c = store_same c (end_block c.store b) (end_keeps c.store b)
 
-pub end_turns : (objects : List ℕ) (c : Scene) → (end_objects objects c).turns ≡ c.turns
-end_turns [] c = refl
-end_turns (i ∷ rest) c = end_turns rest (end_named (block_in c.frames i) c) ∙ end_named_turns (block_in c.frames i) c
+pub end_same : (objects : List ℕ) (c d : Scene) → Same c d → Same c (end_objects objects d)
+end_same [] c d h = h
+end_same (i ∷ rest) c d h = end_same rest c (end_named (block_in d.frames i) d) (same_twice c d (end_named (block_in d.frames i) d) h (end_one (block_in d.frames i) d))
 
-pub begin_same : (out : List ℕ) (turns : ℕ) (u : UnitTy) (objects : List ℕ) (c : Scene) → Same out turns c → Same out turns (begin_objects u objects c)
-begin_same out turns u objects c h = like out turns c (begin_objects u objects c) h (begin_out u objects c) (begin_turns u objects c)
-
-pub end_same : (out : List ℕ) (turns : ℕ) (objects : List ℕ) (c : Scene) → Same out turns c → Same out turns (end_objects objects c)
-end_same out turns objects c h = like out turns c (end_objects objects c) h (end_out objects c) (end_turns objects c)
-
-pub has_turn_grows : (out : List ℕ) (turns : ℕ) (t : Bool) (k : List Item) (vs : List Value) (c : Scene) → Same out turns c → Grown out turns (Running k vs (has_turn t c))
-has_turn_grows out turns true k vs c h = turns_on out turns k vs (turned c) (record { same_out = h.same_out; same_turns = ap suc h.same_turns })
-has_turn_grows out turns false k vs c h = runs out turns k vs c h
+pub has_turn_grows : (c : Scene) (t : Bool) (k : List Item) (vs : List Value) (d : Scene) → Same c d → Grown c (Running k vs (has_turn t d))
+has_turn_grows c true k vs d h = record { shows = one_turn c.out d.out c.turns (suc d.turns) h.same_out (ap suc h.same_turns); names = record { later = h.names.later; blocks = h.names.blocks } }
+has_turn_grows c false k vs d h = runs c k vs d h

@@ -1,10 +1,11 @@
 -- What holds of every run, and of the store.
-use Rattle.std.specs.Prelude.{◌≡◌, ℕ, suc, ◌+◌, ◌^◌, ◌≤◌, Bool, List, ◌++◌, Ok, Option, Some, ⊤}
+use Rattle.std.specs.Prelude.{◌≡◌, ℕ, suc, ◌+◌, ◌^◌, ◌≤◌, Bool, false, List, ◌++◌, Ok, Option, Some, None, ⊤}
 use Rattle.c65_ints.specs.declared.types.IntType.{IntType}
 use Rattle.c65_ints.specs.Ranges.{wrap_of, is_signed_of, placed, residue}
 use Rattle.c65_meaning.specs.Trees.{ProgramTy}
 use Rattle.c65_meaning.specs.Store.{Block, Store, Value, Whole, Null, Place, Opaque, Shape, Number, Field, Pointer, size_in, read, write}
-use Rattle.c65_meaning.specs.State.{State, Undefined, Deep, Ended, Running}
+use Rattle.c65_meaning.specs.State.{State, Scene, Undefined, Deep, Ended, Running}
+use Rattle.c65_meaning.specs.Items.{Item}
 use Rattle.c65_meaning.specs.Step.{steps}
 use Rattle.c65_meaning.specs.Sem.{Outcome, Runs, Ends, HasNone, IsDeep, sem, state_at}
 
@@ -50,6 +51,30 @@ Follows n IsDeep later = later ≡ IsDeep
 abbrev pub OutputGrows : Type 0
 OutputGrows = (p : ProgramTy) (args : List (List ℕ)) (input : List ℕ) (n m : ℕ)
     → Follows m (sem p args input n) (sem p args input (n + m))
+
+-- ---- names of blocks
+
+-- a block some time later: as large, sealed as it was, and ended if it had ended
+pub record IsLaterBlock (x y : Block) : Type 0 where
+  pub same_size : y.size ≡ x.size
+  pub same_holds : y.holds ≡ x.holds
+  pub same_seal : y.sealed ≡ x.sealed
+  pub stays_ended : x.live ≡ false → y.live ≡ false
+
+abbrev pub IsLaterIn : Option Block → Option Block → Type 0
+IsLaterIn None None = ⊤
+IsLaterIn (Some x) (Some y) = IsLaterBlock x y
+IsLaterIn _ _ = ⊥
+
+-- a number below the next new one names the same block from then on, or none
+pub record KeepsNames (c d : Scene) : Type 0 where
+  pub later : c.next ≤ d.next
+  pub blocks : (b : ℕ) → suc b ≤ c.next → IsLaterIn (c.store b) (d.store b)
+
+-- A number that has named a block never names another one, and a block that has ended stays so.
+abbrev pub NamesStay : Type 0
+NamesStay = (p : ProgramTy) (n : ℕ) (work later : List Item) (values others : List Value) (c d : Scene)
+    → steps p n (Running work values c) ≡ Running later others d → KeepsNames c d
 
 -- ---- the store
 

@@ -13,4 +13,4 @@ pub mod undefined;
 pub use action::Action;
 pub use ending::Ending;
 pub use items::{Cell, Class, Library, Target};
-pub use laws::{last_stays, output_grows, runs_go_on, stored_is_read, stores_stay};
+pub use laws::{last_stays, names_stay, output_grows, runs_go_on, stored_is_read, stores_stay};
