@@ -1,4 +1,12 @@
+pub mod Compatible
+pub mod Composite
+pub mod Depth
+pub mod Layouts
+pub mod Places
+pub mod Raised
+pub mod Sizes
+pub mod Tables
+pub mod Tags
 pub mod Trees
 pub mod Views
-pub mod Tables
-pub mod Sizes
+pub mod Visited

@@ -1,6 +1,7 @@
 -- Types as trees (C90 6.1.2.5, 6.5.3, 6.5.4), without where they lie in memory; layouts and tags.
 use Rattle.std.specs.Prelude.{ℕ, List, Bool, Option}
 use Rattle.c65_base.specs.declared.names.Name.{Name}
+use Rattle.c65_base.specs.declared.refusal.Pos.{Pos}
 use Rattle.c65_ints.specs.declared.types.IntType.{IntType}
 
 mutual
@@ -37,6 +38,13 @@ pub record MemberTy : Type 0 where
   pub ty : QTy
   pub offset : ℕ
   pub bits : Option (ℕ × ℕ)
+
+-- a member as it is declared: a bit-field has a width
+pub record FieldTy : Type 0 where
+  pub name : Option Name
+  pub ty : QTy
+  pub width : Option ℕ
+  pub pos : Pos
 
 -- a structure or union: its members and its bytes
 pub record LayoutTy : Type 0 where

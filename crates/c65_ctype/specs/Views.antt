@@ -1,9 +1,11 @@
 -- The types of the code, as trees without Box and Vec.
-use Rattle.std.specs.Prelude.{List, [], ◌∷◌, map, option_map}
+use Rattle.std.specs.Prelude.{List, [], ◌∷◌, map, Option, Some, None, option_map}
+use Rattle.std.specs.Global.{Vec}
 use Rattle.c65_ctype.specs.declared.types.QType.{QType}
 use Rattle.c65_ctype.specs.declared.types.CType.{CType, Void, Int, Pointer', Array', Struct, Function'}
 use Rattle.c65_ctype.specs.declared.types.FnType.{FnType, FnType', Held-FnType-params, None', Some', Row_of-QType, end_of-QType, more_of-QType}
 use Rattle.c65_ctype.specs.declared.types.Member.{Member}
+use Rattle.c65_ctype.specs.declared.types.Field.{Field}
 use Rattle.c65_ctype.specs.declared.types.Layout.{Layout}
 use Rattle.c65_ctype.specs.declared.types.Tag.{Tag}
 use Rattle.c65_ctype.specs.declared.types.TagTable.{TagTable}
@@ -36,6 +38,10 @@ abbrev pub qtys_of : List QType → Trees.QTys
 qtys_of [] = Trees.end
 qtys_of (q ∷ qs) = Trees.more (qty_of q) (qtys_of qs)
 
+abbrev pub params_in : Option (Vec QType) → Trees.Params
+params_in None = Trees.unknown
+params_in (Some v) = Trees.known (qtys_of v.items)
+
 abbrev pub member_of : Member → Trees.MemberTy
 member_of m = record { name = m.name; ty = qty_of m.ty; offset = m.offset; bits = m.bits }
 
@@ -47,3 +53,6 @@ tag_of t = record { unit = t.unit; is_union = t.is_union; layout = option_map la
 
 abbrev pub types_of : TagTable → Trees.TypesTy
 types_of t = record { tags = map tag_of t.tags.items; units = t.units }
+
+abbrev pub field_of : Field → Trees.FieldTy
+field_of f = record { name = f.name; ty = qty_of f.ty; width = f.width; pos = f.pos }

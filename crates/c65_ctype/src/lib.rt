@@ -2,6 +2,14 @@
 //! compatibility and composite types (C90 6.1.2.5, 6.1.2.6, 6.5.2 to 6.5.4).
 #![tactic(auto)]
 
+mod agree;
+mod compat;
+mod composite;
+mod copy;
+mod depth;
+mod layout;
+mod place;
+mod raise;
 mod sizes;
 mod table;
 mod types;
