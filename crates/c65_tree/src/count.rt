@@ -87,7 +87,7 @@ fn init_declarator_count(declarator: &InitDeclarator) -> u64
 }
 
 #[cycle(init_count)]
-fn init_count(init: &Initialiser) -> u64
+pub fn init_count(init: &Initialiser) -> u64
     ensures { result ≡ min (init_nodes (init_of init.now)) 18446744073709551615 }
 {
     match &init.kind {
@@ -124,7 +124,7 @@ fn three_count(first: &Option<Expr>, second: &Option<Expr>, third: &Option<Expr>
 }
 
 #[cycle(stmt_count)]
-fn stmt_count(stmt: &Stmt) -> u64
+pub fn stmt_count(stmt: &Stmt) -> u64
     ensures { result ≡ min (stmt_nodes (stmt_of stmt.now)) 18446744073709551615 }
 {
     match &stmt.kind {
