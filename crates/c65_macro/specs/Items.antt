@@ -1,6 +1,5 @@
 -- The tokens of an expansion, and what a step of it gives (C90 6.8.3).
-use Rattle.std.specs.Prelude.{◌≡◌, ℕ, ◌+◌, List, [], ◌∷◌, ◌++◌, map, filter, length, Bool, true, false, ◌==◌, Option, Some, None, slice_get, if◌then◌else◌}
-use Rattle.std.specs.List.{list_any}
+use Rattle.std.specs.Prelude.{◌≡◌, ℕ, ◌+◌, List, [], ◌∷◌, ◌++◌, map, length, Bool, true, false, ◌==◌, Option, Some, None, slice_get, if◌then◌else◌}
 use Rattle.std.specs.Option.{unwrap_or}
 use Rattle.c65_base.specs.declared.names.Name.{Name}
 use Rattle.c65_base.specs.declared.refusal.Pos.{Pos}
@@ -10,12 +9,13 @@ use Rattle.c65_base.specs.Names.{name_of}
 use Rattle.c65_lex.specs.declared.token.PpKind.{PpKind}
 use Rattle.c65_lex.specs.declared.token.PpToken.{PpToken}
 use Rattle.c65_macro.specs.Table.{is_line_end}
+use Rattle.c65_macro.specs.Sets.{Set, none, either}
 
--- A token with the numbers of the macros that may no longer replace it, and whether a replacement
--- has put it before the rest of the list.
+-- A token with the macros that may no longer replace it, and whether a replacement has put it before
+-- the rest of the list.
 pub record Item : Type 0 where
   pub token : PpToken
-  pub hide : List ℕ
+  pub hide : Set
   pub put : Bool
 
 -- what a step gives: too few steps were allowed; a fault; or a value, with the spellings known then
@@ -43,16 +43,10 @@ abbrev pub put_count : List Item → ℕ
 put_count [] = 0
 put_count (i ∷ is) = (if i.put then weight i.token else 0) + put_count is
 
-abbrev pub has : List ℕ → ℕ → Bool
-has ns n = list_any (λ m. m == n) ns
+abbrev pub hidden : Set → Item → Item
+hidden hs i = record { token = i.token; hide = either hs i.hide; put = true }
 
-abbrev pub both : List ℕ → List ℕ → List ℕ
-both a b = filter (has b) a
-
-abbrev pub hidden : List ℕ → Item → Item
-hidden hs i = record { token = i.token; hide = hs ++ i.hide; put = true }
-
-abbrev pub hide_all : List ℕ → List Item → List Item
+abbrev pub hide_all : Set → List Item → List Item
 hide_all hs is = map (hidden hs) is
 
 -- with this white space before the first
@@ -61,7 +55,7 @@ with_space space [] = []
 with_space space (i ∷ is) = record i { token = record i.token { space = space } } ∷ is
 
 abbrev pub items : List PpToken → List Item
-items ts = map (λ t. record { token = t; hide = []; put = false }) ts
+items ts = map (λ t. record { token = t; hide = none; put = false }) ts
 
 abbrev pub tokens : List Item → List PpToken
 tokens is = map (λ i. i.token) is
@@ -78,5 +72,5 @@ abbrev pub learn : List (List ℕ) → List ℕ → Outcome Name
 learn names s = learn_as names s (name_of names s)
 
 -- a token that is made in the place of another
-abbrev pub made : List (List ℕ) → PpKind → List ℕ → Pos → Bool → List ℕ → Outcome Item
+abbrev pub made : List (List ℕ) → PpKind → List ℕ → Pos → Bool → Set → Outcome Item
 made names kind s place space hide = learn names s >>= λ names name. done names (record { token = record { kind = kind; spelling = name; pos = place; space = space }; hide = hide; put = true })

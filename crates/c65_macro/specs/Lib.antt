@@ -1,7 +1,11 @@
 pub mod Table
 pub mod Definitions
+pub mod Sets
 pub mod Items
 pub mod Fill
 pub mod Uses
 pub mod Expand
 pub mod Refusals
+pub mod Answered
+pub mod Views
+pub mod Machine

@@ -1,5 +1,5 @@
 -- The use of a function-like macro: its arguments (C90 6.8.3).
-use Rattle.std.specs.Prelude.{ℕ, zero, suc, ◌+◌, List, [], ◌∷◌, ◌++◌, length, Bool, true, false, ◌==◌, ◌&&◌, ◌||◌, not, nat_lt, nat_le, if◌then◌else◌}
+use Rattle.std.specs.Prelude.{ℕ, zero, suc, ◌+◌, List, [], ◌∷◌, ◌++◌, length, Bool, true, false, ◌==◌, ◌&&◌, ◌||◌, not, nat_lt, nat_le, Option, Some, None, if◌then◌else◌}
 use Rattle.c65_base.specs.declared.names.Name.{Name}
 use Rattle.c65_base.specs.declared.refusal.Size.TheVariants as sizes
 use Rattle.c65_base.specs.Answers.{Fault, large}
@@ -51,19 +51,23 @@ abbrev pub gather : Words → ℕ → Bool → ℕ → List (List Item) → List
 gather w outside gap depth args arg size [] = unclosed
 gather w outside gap depth args arg size (i ∷ is) = gather_as w outside gap depth args arg size i is (role w i.token) (λ gap depth args arg size. gather w outside gap depth args arg size is)
 
+-- what stands behind the parenthesis that opens next, behind line ends or none
+abbrev pub behind : Words → List Item → Option (List Item)
+behind w [] = None
+behind w (i ∷ is) = elim (role w i.token) [ LineEnd ↦ behind w is | Opening ↦ Some is | Closing ↦ None | Comma ↦ None | Other ↦ None ]
+
 -- the use whose name stands just before: line ends before its parenthesis are dropped
 abbrev pub use_at : Words → ℕ → List Item → Gathering
-use_at w outside [] = no_use
-use_at w outside (i ∷ is) = elim (role w i.token) [ LineEnd ↦ use_at w outside is | Opening ↦ gather w outside false 0 [] [] 0 is | Closing ↦ no_use | Comma ↦ no_use | Other ↦ no_use ]
+use_at w outside is = elim (behind w is) [ None ↦ no_use | Some rest ↦ gather w outside false 0 [] [] 0 rest ]
 
 -- a macro without parameters has one empty argument in its parentheses
-abbrev pub is_blank : List (List Item) → Bool
+abbrev pub is_blank : {A : Type 0} → List (List A) → Bool
 is_blank [] = false
 is_blank ([] ∷ []) = true
 is_blank ([] ∷ b ∷ args) = false
 is_blank ((i ∷ is) ∷ args) = false
 
-abbrev pub is_fit : List Name → List (List Item) → Bool
+abbrev pub is_fit : {A : Type 0} → List Name → List (List A) → Bool
 is_fit [] args = is_blank args
 is_fit (p ∷ ps) args = length (p ∷ ps) == length args
 

@@ -1,315 +1,64 @@
-// The expansion of a list of tokens: a stack of lists that are being expanded, each inside a use of the one below.
-ghost use Rattle.std.specs.Prelude.{◌≡◌, ◌<◌, IfErr, IfSome, vec_len};
+// The expansion of a list of tokens (C90 6.8.3).
+ghost use Rattle.std.specs.Prelude.{◌≡◌, List, Some, None, IfErr, IfOk, option_copied, ◌||◌};
+ghost use Rattle.c65_base.specs.declared.names.Name.{Name};
 ghost use Rattle.c65_macro.specs.Refusals.{StopsExpansion};
+ghost use Rattle.c65_macro.specs.declared.sets.Node.{Node};
+ghost use Rattle.c65_macro.specs.Sets.{Extends, set_of, with_name};
+ghost use Rattle.c65_macro.specs.Answered.{Gives};
+ghost use Rattle.c65_macro.specs.Table.{lookup, same_name};
+ghost use Rattle.c65_macro.specs.Expand;
+ghost use Rattle.c65_macro.specs.Views.{item_of, items_of, lists_of};
+ghost use Rattle.c65_macro.specs.Machine.{Steps, stage_of, frame_of, frames_of, use_with, use_left, with_argument};
 
-use crate::fill::{Use, replacement};
-use crate::item::{Macro, Params, Words};
-use crate::marked::{Marked, is_line_end, weight};
+use crate::fill::{Used, replacement, single};
+use crate::gather::Arguments;
+use crate::item::{Macro, Params};
+use crate::marked::{Argument, Marked, plus};
 use crate::sets::{Hide, Sets};
+use crate::state::{Level, Pending, State, marked, unmarked};
 use crate::table::Macros;
-use crate::uses::{Role, is_fit, is_replaced, is_use, role_of};
-use c65_base::{Code, Name, Names, Pos, Refusal, Size};
+use crate::uses::{is_fit, is_replaced};
+use c65_base::{Code, Name, Names, Refusal};
 use c65_lex::{PpKind, PpToken};
-use std::alloc::Global;
+use std::alloc::AllocError;
 use std::mem;
-
-/// How many tokens may wait, and how many an expansion may have.
-const LIMIT: u64 = 500_000;
-
-/// How many arguments a use may have.
-const ARGUMENTS: usize = 127;
-
-fn too_many_tokens() -> Refusal
-    ensures { StopsExpansion result }
-{
-    Refusal::TooLarge {
-        limit: Size::Tokens,
-        value: 500_001,
-    }
-}
-
-/// A list that is being expanded: what is left, with the next token last, what came out, and how many more may.
-#[derive(Drop)]
-struct Level {
-    todo: Vec<Marked>,
-    out: Vec<Marked>,
-    room: u64,
-}
-
-/// A use whose arguments are being replaced, and the list in which it stands.
-#[derive(Drop)]
-struct Pending {
-    level: Level,
-    name: Marked,
-    close: Hide,
-    size: u64,
-    raw: Vec<Vec<Marked>>,
-    full: Vec<Vec<Marked>>,
-}
-
-/// The arguments of a use: how many tokens they have together, and what may not replace the closing parenthesis.
-#[derive(Drop)]
-struct Arguments {
-    lists: Vec<Vec<Marked>>,
-    size: u64,
-    close: Hide,
-}
-
-/// An expansion: the list on top, the uses below it, and how many tokens wait.
-#[derive(Drop)]
-struct State {
-    level: Level,
-    pending: Vec<Pending>,
-    waiting: u64,
-    sets: Sets,
-    alloc: Global,
-}
-
-impl Level {
-    fn new(alloc: Global) -> Level {
-        Level {
-            todo: Vec::new(alloc),
-            out: Vec::new(alloc),
-            room: LIMIT,
-        }
-    }
-}
-
-impl State {
-    fn start(alloc: Global, line: &[PpToken]) -> Result<State, Refusal>
-        ensures { IfErr result StopsExpansion }
-    {
-        let mut level = Level::new(alloc);
-        for token in line.iter().rev() {
-            level.todo.push(Marked::of(*token))?;
-        }
-        Ok(State {
-            level,
-            pending: Vec::new(alloc),
-            waiting: 0,
-            sets: Sets::new(alloc),
-            alloc,
-        })
-    }
-
-    /// Takes the next token.
-    fn next(&mut self) -> Option<Marked>
-        ensures { IfSome result (λ _. vec_len self.new.level.todo < vec_len self.old.level.todo) }
-    {
-        let item = self.level.todo.pop()?;
-        if item.put {
-            self.waiting = self.waiting.saturating_sub(weight(&item.token));
-        }
-        Some(item)
-    }
-
-    /// A token that stays.
-    fn keep(&mut self, item: Marked) -> Result<(), Refusal>
-        ensures { IfErr result StopsExpansion }
-    {
-        if !is_line_end(&item.token) {
-            if self.level.room == 0 {
-                return Err(too_many_tokens());
-            }
-            self.level.room -= 1;
-        }
-        self.level.out.push(item)?;
-        Ok(())
-    }
-
-    /// More tokens wait.
-    fn wait(&mut self, count: u64) -> Result<(), Refusal>
-        ensures refused { IfErr result StopsExpansion }
-        ensures kept { self.new.level ≡ self.old.level }
-    {
-        self.waiting = self.waiting.saturating_add(count);
-        if self.waiting > LIMIT {
-            return Err(too_many_tokens());
-        }
-        Ok(())
-    }
-
-    /// Puts a replacement before the rest of the list.
-    fn put(&mut self, replacement: Vec<Marked>) -> Result<(), Refusal>
-        ensures { IfErr result StopsExpansion }
-    {
-        let mut items = replacement;
-        let mut count: u64 = 0;
-        for item in &items {
-            count = count.saturating_add(weight(&item.token));
-        }
-        self.wait(count)?;
-        while let Some(item) = items.pop() {
-            self.level.todo.push(item)?;
-        }
-        Ok(())
-    }
-
-    /// Goes over line ends and the opening parenthesis.
-    fn enter(&mut self, words: Words) {
-        while let Some(item) = self.next() {
-            match role_of(words, &item.token) {
-                Role::LineEnd => {}
-                _ => return,
-            }
-        }
-    }
-
-    /// The arguments of a use behind its opening parenthesis; the place is that of its name.
-    fn gather(&mut self, words: Words, pos: Pos) -> Result<Arguments, Refusal>
-        ensures { IfErr result StopsExpansion }
-    {
-        let mut gathered = Gathered::new(self.alloc);
-        while let Some(item) = self.next() {
-            let role = role_of(words, &item.token);
-            if role == Role::Closing && gathered.depth == 0 {
-                return gathered.close(item.hide);
-            }
-            if gathered.take(item, role)? {
-                self.wait(1)?;
-            }
-        }
-        Err(Refusal::At {
-            code: Code::OpenArguments,
-            pos,
-        })
-    }
-
-    /// Begins the expansion of a list in a use.
-    fn begin(&mut self, pending: Pending, list: Vec<Marked>) -> Result<(), Refusal>
-        ensures { IfErr result StopsExpansion }
-    {
-        let mut level = Level::new(self.alloc);
-        let mut items = list;
-        while let Some(item) = items.pop() {
-            level.todo.push(item)?;
-        }
-        self.pending.push(pending)?;
-        self.level = level;
-        Ok(())
-    }
-
-    fn finish(self) -> Result<Vec<PpToken>, Refusal>
-        ensures { IfErr result StopsExpansion }
-    {
-        let State { level, alloc, .. } = self;
-        let mut tokens = Vec::new(alloc);
-        for item in &level.out {
-            tokens.push(item.token)?;
-        }
-        Ok(tokens)
-    }
-}
-
-/// The arguments that were gathered so far.
-#[derive(Drop)]
-struct Gathered {
-    lists: Vec<Vec<Marked>>,
-    list: Vec<Marked>,
-    size: u64,
-    depth: u64,
-    gap: bool,
-    alloc: Global,
-}
-
-impl Gathered {
-    fn new(alloc: Global) -> Gathered {
-        Gathered {
-            lists: Vec::new(alloc),
-            list: Vec::new(alloc),
-            size: 0,
-            depth: 0,
-            gap: false,
-            alloc,
-        }
-    }
-
-    /// Takes a token, and says whether it waits.
-    fn take(&mut self, item: Marked, role: Role) -> Result<bool, Refusal>
-        ensures { IfErr result StopsExpansion }
-    {
-        match role {
-            Role::LineEnd => {
-                self.gap = true;
-                return Ok(false);
-            }
-            Role::Comma if self.depth == 0 => {
-                self.gap = false;
-                return self.separate();
-            }
-            Role::Opening => self.depth = self.depth.saturating_add(1),
-            Role::Closing => self.depth = self.depth.saturating_sub(1),
-            _ => {}
-        }
-        let mut item = item;
-        item.token.space = item.token.space || self.gap;
-        item.put = false;
-        self.gap = false;
-        self.list.push(item)?;
-        self.size = self.size.saturating_add(1);
-        Ok(true)
-    }
-
-    /// One more argument begins.
-    fn separate(&mut self) -> Result<bool, Refusal>
-        ensures { IfErr result StopsExpansion }
-    {
-        if self.lists.len() + 1 >= ARGUMENTS {
-            return Err(Refusal::TooLarge {
-                limit: Size::MacroArguments,
-                value: 128,
-            });
-        }
-        let list = mem::replace(&mut self.list, Vec::new(self.alloc));
-        self.lists.push(list)?;
-        Ok(false)
-    }
-
-    fn close(self, hide: Hide) -> Result<Arguments, Refusal>
-        ensures { IfErr result StopsExpansion }
-    {
-        let Gathered {
-            lists,
-            list,
-            size,
-            ..
-        } = self;
-        let mut lists = lists;
-        lists.push(list)?;
-        Ok(Arguments {
-            lists,
-            size,
-            close: hide,
-        })
-    }
-}
 
 impl Macros {
     /// The macro whose name a token is.
-    fn macro_of(&self, token: &PpToken) -> Option<&Macro> {
+    fn macro_of(&self, token: &PpToken) -> Option<&Macro>
+        ensures { option_copied result ≡ Expand.macro_of self.now token.now }
+    {
         match token.kind {
             PpKind::Name => self.get(token.spelling),
             _ => None,
         }
     }
 
-    /// Does one step: a token stays or is replaced, or an argument is done.
+    /// Does the next token: it stays or is replaced, or its use begins.
     fn step(&self, state: &mut State, item: Marked, names: &mut Names) -> Result<(), Refusal>
-        ensures { IfErr result StopsExpansion }
+        ensures refused { IfErr result StopsExpansion }
+        ensures grows { Extends names.old names.new }
+        ensures kept { Extends state.old.sets state.new.sets }
+        ensures value { (nodes : List Node) → Extends state.new.sets nodes → Steps self.now (items_of nodes state.old.level.out.items) (frames_of nodes state.old.pending.items) (λ go. Expand.in_front self.now go names.old state.old.level.outside state.old.level.room (item_of nodes item) (items_of nodes state.old.level.rest) (Expand.macro_of self.now item.token)) result names.new (stage_of nodes state.new.level) (frames_of nodes state.new.pending.items) }
     {
         let Some(found) = self.macro_of(&item.token) else {
-            return state.keep(item);
+            return state.level.keep(item);
         };
-        if state.sets.has(item.hide, item.token.spelling) {
-            return state.keep(item);
+        if state.sets.has(item.hide, item.token.spelling)? {
+            return state.level.keep(item);
         }
-        match &found.params {
-            Some(params) => self.apply(state, item, found, params, names),
-            None => self.replace(state, item, found, names),
-        }
+        self.replace(state, item, found, names)
     }
 
-    /// Replaces an object-like macro.
+    /// Whether a name is `__LINE__` or `__FILE__`.
+    fn is_place(&self, name: Name) -> bool
+        ensures { result ≡ (same_name name self.now.words.line || same_name name self.now.words.file) }
+    {
+        let words = self.words();
+        name == words.line || name == words.file
+    }
+
+    /// Replaces a macro, or begins a use of it.
     fn replace(
         &self,
         state: &mut State,
@@ -317,36 +66,100 @@ impl Macros {
         found: &Macro,
         names: &mut Names,
     ) -> Result<(), Refusal>
-        ensures { IfErr result StopsExpansion }
+        requires { lookup self.now item.token.spelling ≡ Some found.now }
+        ensures refused { IfErr result StopsExpansion }
+        ensures grows { Extends names.old names.new }
+        ensures kept { Extends state.old.sets state.new.sets }
+        ensures value { (nodes : List Node) → Extends state.new.sets nodes → Steps self.now (items_of nodes state.old.level.out.items) (frames_of nodes state.old.pending.items) (λ go. Expand.replace self.now go names.old state.old.level.outside state.old.level.room (item_of nodes item) (items_of nodes state.old.level.rest) found.now) result names.new (stage_of nodes state.new.level) (frames_of nodes state.new.pending.items) }
     {
-        let hide = state.sets.with(found.name, item.hide)?;
-        let items = if found.name == self.words().line {
-            self.line_number(state.alloc, item, hide, names)?
-        } else if found.name == self.words().file {
-            self.file_name(state.alloc, item, hide)?
-        } else {
-            let used = Use {
-                words: self.words(),
-                params: &found.params,
-                raw: &[],
-                full: &[],
-                pos: item.token.pos,
-            };
-            let body = found.body.as_slice();
-            replacement(
-                state.alloc,
-                names,
-                &mut state.sets,
-                used,
-                hide,
-                item.token.space,
-                body,
-            )?
-        };
-        state.put(items)
+        if self.is_place(found.name) {
+            return self.replace_place(state, item, found.name, names);
+        }
+        match &found.params {
+            Some(params) => self.apply(state, item, found, params, names),
+            None => self.replace_object(state, item, found, names),
+        }
     }
 
-    /// Replaces a function-like macro, or begins with its first argument, where a use stands there.
+    fn is_line(&self, name: Name) -> bool
+        ensures { result ≡ same_name name self.now.words.line }
+    {
+        name == self.words().line
+    }
+
+    /// What stands for `__LINE__` or `__FILE__`.
+    fn place_token(
+        &self,
+        item: Marked,
+        hide: Hide,
+        name: Name,
+        names: &mut Names,
+    ) -> Result<Marked, Refusal>
+        ensures refused { IfErr result StopsExpansion }
+        ensures grows { Extends names.old names.new }
+        ensures value { (nodes : List Node) → set_of nodes hide.0 ≡ with_name name.0 (set_of nodes item.hide.0) → Gives (item_of nodes) result names.new (Expand.place_token self.now names.old (item_of nodes item) name) }
+    {
+        if self.is_line(name) {
+            return self.line_number(item, hide, names);
+        }
+        Ok(self.file_name(item, hide))
+    }
+
+    /// Replaces `__LINE__` or `__FILE__`.
+    fn replace_place(
+        &self,
+        state: &mut State,
+        item: Marked,
+        name: Name,
+        names: &mut Names,
+    ) -> Result<(), Refusal>
+        ensures refused { IfErr result StopsExpansion }
+        ensures grows { Extends names.old names.new }
+        ensures kept { Extends state.old.sets state.new.sets }
+        ensures value { (nodes : List Node) → Extends state.new.sets nodes → Steps self.now (items_of nodes state.old.level.out.items) (frames_of nodes state.old.pending.items) (λ go. Expand.replace_place self.now go names.old state.old.level.outside state.old.level.room (item_of nodes item) (items_of nodes state.old.level.rest) name) result names.new (stage_of nodes state.new.level) (frames_of nodes state.new.pending.items) }
+    {
+        let hide = state.sets.with(name, item.hide)?;
+        let token = self.place_token(item, hide, name, names)?;
+        let items = single(self.alloc(), token)?;
+        state.level.put(items)
+    }
+
+    /// Replaces an object-like macro.
+    fn replace_object(
+        &self,
+        state: &mut State,
+        item: Marked,
+        found: &Macro,
+        names: &mut Names,
+    ) -> Result<(), Refusal>
+        requires { found.now.params ≡ None }
+        ensures refused { IfErr result StopsExpansion }
+        ensures grows { Extends names.old names.new }
+        ensures kept { Extends state.old.sets state.new.sets }
+        ensures value { (nodes : List Node) → Extends state.new.sets nodes → Steps self.now (items_of nodes state.old.level.out.items) (frames_of nodes state.old.pending.items) (λ go. Expand.replace_with self.now go names.old state.old.level.outside state.old.level.room (item_of nodes item) (items_of nodes state.old.level.rest) found.now None) result names.new (stage_of nodes state.new.level) (frames_of nodes state.new.pending.items) }
+    {
+        let alloc = self.alloc();
+        let hide = state.sets.with(found.name, item.hide)?;
+        let used = Used {
+            words: self.words(),
+            raw: Vec::new(alloc),
+            full: Vec::new(alloc),
+            place: item.token.pos,
+        };
+        let items = replacement(
+            alloc,
+            names,
+            &mut state.sets,
+            &found.params,
+            &used,
+            hide,
+            item.token.space,
+            found.body.as_slice(),
+        )?;
+        state.level.put(items)
+    }
+
+    /// Begins a use of a function-like macro, where one stands there.
     fn apply(
         &self,
         state: &mut State,
@@ -355,14 +168,24 @@ impl Macros {
         params: &Params,
         names: &mut Names,
     ) -> Result<(), Refusal>
-        ensures { IfErr result StopsExpansion }
+        requires known { lookup self.now item.token.spelling ≡ Some found.now }
+        requires has { found.now.params ≡ Some params.now }
+        ensures refused { IfErr result StopsExpansion }
+        ensures grows { Extends names.old names.new }
+        ensures kept { Extends state.old.sets state.new.sets }
+        ensures value { (nodes : List Node) → Extends state.new.sets nodes → Steps self.now (items_of nodes state.old.level.out.items) (frames_of nodes state.old.pending.items) (λ go. Expand.replace_with self.now go names.old state.old.level.outside state.old.level.room (item_of nodes item) (items_of nodes state.old.level.rest) found.now (Some params.now)) result names.new (stage_of nodes state.new.level) (frames_of nodes state.new.pending.items) }
     {
-        let words = self.words();
-        if !is_use(words, &state.level.todo) {
-            return state.keep(item);
+        let alloc = self.alloc();
+        let marks = self.words();
+        if !state.level.rest.is_use(marks) {
+            return state.level.keep(item);
         }
-        state.enter(words);
-        let arguments = state.gather(words, item.token.pos)?;
+        state.level.rest.enter(marks);
+        let outside = state.level.outside;
+        let arguments = state
+            .level
+            .rest
+            .gather(alloc, marks, outside, item.token.pos)?;
         if !is_fit(params.as_slice(), &arguments.lists) {
             return Err(Refusal::At {
                 code: Code::MacroArguments,
@@ -370,16 +193,34 @@ impl Macros {
             });
         }
         let Arguments { lists, size, close } = arguments;
-        let level = mem::replace(&mut state.level, Level::new(state.alloc));
+        let gathered = plus(outside, size)?;
+        let inside = plus(gathered, state.level.rest.put())?;
+        let level = mem::replace(&mut state.level, Level::new(alloc, 0));
         let pending = Pending {
             level,
             name: item,
             close,
-            size,
             raw: lists,
-            full: Vec::new(state.alloc),
+            full: Vec::new(alloc),
+            inside,
         };
         self.advance(state, pending, found, params, names)
+    }
+
+    /// What is to be expanded of an argument: all of it, where its parameter stands beside no # and no ##.
+    fn wanted(
+        &self,
+        found: &Macro,
+        param: Name,
+        argument: &[Marked],
+    ) -> Result<Vec<Marked>, AllocError>
+        ensures { IfOk result (λ v. (nodes : List Node) → items_of nodes v.items ≡ Expand.wanted self.now found.now.body param (items_of nodes argument.now)) }
+    {
+        if is_replaced(self.words(), param, found.body.as_slice()) {
+            Vec::from_slice(self.alloc(), argument)
+        } else {
+            Ok(Vec::new(self.alloc()))
+        }
     }
 
     /// Goes on with the next argument of a use, or replaces the use when all are done.
@@ -391,23 +232,26 @@ impl Macros {
         params: &Params,
         names: &mut Names,
     ) -> Result<(), Refusal>
-        ensures { IfErr result StopsExpansion }
+        requires known { lookup self.now pending.name.token.spelling ≡ Some found.now }
+        requires has { found.now.params ≡ Some params.now }
+        ensures refused { IfErr result StopsExpansion }
+        ensures grows { Extends names.old names.new }
+        ensures kept { Extends state.old.sets state.new.sets }
+        ensures value { (nodes : List Node) → Extends state.new.sets nodes → Steps self.now (items_of nodes pending.level.out.items) (frames_of nodes state.old.pending.items) (λ go. use_with self.now go names.old (frame_of nodes pending) found.now (Some params.now)) result names.new (stage_of nodes state.new.level) (frames_of nodes state.new.pending.items) }
     {
         let done = pending.full.len();
-        let next = match (params.as_slice().get(done), pending.raw.get(done)) {
-            (Some(param), Some(argument)) => {
-                if is_replaced(self.words(), *param, found.body.as_slice()) {
-                    Some(Vec::from_slice(state.alloc, argument)?)
-                } else {
-                    Some(Vec::new(state.alloc))
-                }
-            }
-            _ => None,
+        let Some(param) = params.as_slice().get(done) else {
+            return self.complete(state, pending, found, names);
         };
-        match next {
-            Some(list) => state.begin(pending, list),
-            None => self.complete(state, pending, found, names),
-        }
+        let Some(argument) = pending.raw.get(done) else {
+            return self.complete(state, pending, found, names);
+        };
+        let list = self.wanted(found, *param, argument.as_slice())?;
+        let mut level = Level::new(self.alloc(), pending.inside);
+        level.rest.push_all(list)?;
+        state.pending.push(pending)?;
+        state.level = level;
+        Ok(())
     }
 
     /// Replaces a use whose arguments are all done.
@@ -418,64 +262,84 @@ impl Macros {
         found: &Macro,
         names: &mut Names,
     ) -> Result<(), Refusal>
-        ensures { IfErr result StopsExpansion }
+        ensures refused { IfErr result StopsExpansion }
+        ensures grows { Extends names.old names.new }
+        ensures kept { Extends state.old.sets state.new.sets }
+        ensures value { (nodes : List Node) (params : List Name) → found.now.params ≡ Some params → Extends state.new.sets nodes → Steps self.now (items_of nodes pending.level.out.items) (frames_of nodes state.old.pending.items) (λ go. Expand.finish self.now go names.old pending.level.outside pending.level.room (item_of nodes pending.name) (item_of nodes pending.close) (items_of nodes pending.level.rest) found.now params (lists_of nodes pending.raw.items) (lists_of nodes pending.full.items)) result names.new (stage_of nodes state.new.level) (frames_of nodes state.new.pending.items) }
     {
-        let name = pending.name;
-        let used = Use {
+        let Pending {
+            level,
+            name,
+            close,
+            raw,
+            full,
+            ..
+        } = pending;
+        let used = Used {
             words: self.words(),
-            params: &found.params,
-            raw: &pending.raw,
-            full: &pending.full,
-            pos: name.token.pos,
+            raw,
+            full,
+            place: name.token.pos,
         };
-        let common = state.sets.both(name.hide, pending.close)?;
+        let common = state.sets.both(name.hide, close.hide)?;
         let hide = state.sets.with(found.name, common)?;
-        let body = found.body.as_slice();
         let items = replacement(
-            state.alloc,
+            self.alloc(),
             names,
             &mut state.sets,
-            used,
+            &found.params,
+            &used,
             hide,
             name.token.space,
-            body,
+            found.body.as_slice(),
         )?;
-        let Pending { level, size, .. } = pending;
         state.level = level;
-        state.waiting = state.waiting.saturating_sub(size);
-        state.put(items)
+        state.level.put(items)
     }
 
     /// Takes up the use below, once the expansion of its argument is done.
     fn resume(&self, state: &mut State, pending: Pending, names: &mut Names) -> Result<(), Refusal>
-        ensures { IfErr result StopsExpansion }
+        ensures refused { IfErr result StopsExpansion }
+        ensures grows { Extends names.old names.new }
+        ensures kept { Extends state.old.sets state.new.sets }
+        ensures value { (nodes : List Node) → Extends state.new.sets nodes → Steps self.now (items_of nodes pending.level.out.items) (frames_of nodes state.old.pending.items) (λ go. use_left self.now go names.old (with_argument (frame_of nodes pending) (items_of nodes state.old.level.out.items)) (lookup self.now pending.name.token.spelling)) result names.new (stage_of nodes state.new.level) (frames_of nodes state.new.pending.items) }
     {
         let mut pending = pending;
-        let level = mem::replace(&mut state.level, Level::new(state.alloc));
+        let level = mem::replace(&mut state.level, Level::new(self.alloc(), 0));
         let Level { out, .. } = level;
-        pending.full.push(out)?;
-        match self.get(pending.name.token.spelling) {
-            Some(found) => match &found.params {
-                Some(params) => self.advance(state, pending, found, params, names),
-                None => Ok(()),
-            },
-            None => Ok(()),
+        pending.full.push(Argument::from_vec(out))?;
+        let Some(found) = self.get(pending.name.token.spelling) else {
+            return Err(Refusal::OutOfMemory);
+        };
+        match &found.params {
+            Some(params) => self.advance(state, pending, found, params, names),
+            None => Err(Refusal::OutOfMemory),
         }
     }
 
     /// The expansion of a list of tokens (C90 6.8.3).
     pub fn expand(&self, line: &[PpToken], names: &mut Names) -> Result<Vec<PpToken>, Refusal>
-        ensures { IfErr result StopsExpansion }
+        ensures refused { IfErr result StopsExpansion }
+        ensures grows { Extends names.old names.new }
+        ensures expands { IfOk result (λ out. Expand.Expands self.now names.old line.now out.items names.new) }
+        ensures faults { IfErr result (λ e. Expand.Refuses e self.now names.old line.now) }
     {
-        let mut state = State::start(self.alloc(), line)?;
+        let alloc = self.alloc();
+        let mut level = Level::new(alloc, 0);
+        level.rest.push_all(marked(alloc, line)?)?;
+        let mut state = State {
+            level,
+            pending: Vec::new(alloc),
+            sets: Sets::new(alloc),
+        };
         let mut steps = u64::MAX;
         while steps > 0 {
             steps -= 1;
-            match state.next() {
+            match state.level.rest.pop() {
                 Some(item) => self.step(&mut state, item, names)?,
                 None => match state.pending.pop() {
                     Some(pending) => self.resume(&mut state, pending, names)?,
-                    None => return state.finish(),
+                    None => return Ok(unmarked(alloc, &state.level.out)?),
                 },
             }
         }

@@ -1,14 +1,16 @@
 //! Macros and their expansion (C90 6.8.3).
 #![tactic(auto)]
 
-mod class;
 mod definition;
 mod expand;
 mod fill;
+mod gather;
 mod item;
 mod marked;
 mod predefined;
+mod rest;
 mod sets;
+mod state;
 mod table;
 #[cfg(test)]
 mod tests;

@@ -1,17 +1,23 @@
 // The predefined macros (C90 6.8.8), and what stands for __LINE__ and __FILE__.
-ghost use Rattle.std.specs.Prelude.{◌≡◌, [], pos, IfErr, IfOk};
+ghost use Rattle.std.specs.Prelude.{◌≡◌, List, [], pos, true, IfErr, IfOk, decimal};
 ghost use Rattle.c65_macro.specs.Refusals.{StopsExpansion, LacksRoom};
+ghost use Rattle.c65_macro.specs.declared.sets.Node.{Node};
+ghost use Rattle.c65_macro.specs.Sets.{Extends, set_of};
+ghost use Rattle.c65_macro.specs.Table.{line_of};
+ghost use Rattle.c65_macro.specs.Items;
+ghost use Rattle.c65_macro.specs.Answered.{Gives};
+ghost use Rattle.c65_macro.specs.Views.{item_of};
 
 use crate::item::{Macro, Words};
 use crate::marked::Marked;
 use crate::sets::Hide;
 use crate::table::Macros;
-use crate::text::learn;
+use crate::text::made;
 use c65_base::{Name, Names, Options, Pos, Refusal};
 use c65_lex::{PpKind, PpToken, PpTokens};
 use indexmap::IndexMap;
 use itoa::write_digits;
-use std::alloc::Global;
+use std::alloc::{AllocError, Global};
 
 /// The name of a spelling that is known from the start.
 fn spelled(names: &mut Names, spelling: &[u8]) -> Result<Name, Refusal>
@@ -170,59 +176,51 @@ impl Macros {
     }
 
     /// The line that `__LINE__` gives at a place.
-    fn line_at(&self, pos: Pos) -> u64 {
-        let line = i64::from(pos.line).saturating_add(self.offset);
-        u64::try_from(line).unwrap_or(0)
+    fn line_at(&self, token: &PpToken) -> Result<u64, AllocError>
+        ensures { IfOk result (λ line. line ≡ line_of self.now token.now) }
+    {
+        match i64::from(token.pos.line).checked_add(self.offset) {
+            Some(line) => Ok(u64::try_from(line).unwrap_or(0)),
+            None => Err(AllocError),
+        }
     }
 
     /// What stands for `__LINE__`.
     pub(crate) fn line_number(
         &self,
-        alloc: Global,
         item: Marked,
         hide: Hide,
         names: &mut Names,
-    ) -> Result<Vec<Marked>, Refusal>
-        ensures { IfErr result StopsExpansion }
+    ) -> Result<Marked, Refusal>
+        ensures refused { IfErr result StopsExpansion }
+        ensures grows { Extends names.old names.new }
+        ensures value { (nodes : List Node) → Gives (item_of nodes) result names.new (Items.made names.old PpKind.Number (decimal (line_of self.now item.token)) item.token.pos item.token.space (set_of nodes hide.0)) }
     {
         let mut digits = [48; 20];
-        let start = write_digits(self.line_at(item.token.pos), &mut digits, 20);
-        let spelling = learn(names, &digits[start..])?;
-        one(alloc, item, hide, PpKind::Number, spelling)
+        let line = self.line_at(&item.token)?;
+        let start = write_digits(line, &mut digits, 20);
+        made(
+            names,
+            PpKind::Number,
+            &digits[start..],
+            item.token.pos,
+            item.token.space,
+            hide,
+        )
     }
 
     /// What stands for `__FILE__`.
-    pub(crate) fn file_name(
-        &self,
-        alloc: Global,
-        item: Marked,
-        hide: Hide,
-    ) -> Result<Vec<Marked>, Refusal>
-        ensures { IfErr result StopsExpansion }
+    pub(crate) fn file_name(&self, item: Marked, hide: Hide) -> Marked
+        ensures { (nodes : List Node) → item_of nodes result ≡ record { token = record { kind = PpKind.Text; spelling = self.now.file; pos = item.token.pos; space = item.token.space }; hide = set_of nodes hide.0; put = true } }
     {
-        one(alloc, item, hide, PpKind::Text, self.file)
+        Marked {
+            token: PpToken {
+                kind: PpKind::Text,
+                spelling: self.file,
+                ..item.token
+            },
+            hide,
+            put: true,
+        }
     }
-}
-
-/// One token in the place of a name.
-fn one(
-    alloc: Global,
-    item: Marked,
-    hide: Hide,
-    kind: PpKind,
-    spelling: Name,
-) -> Result<Vec<Marked>, Refusal>
-    ensures { IfErr result StopsExpansion }
-{
-    let mut items = Vec::new(alloc);
-    items.push(Marked {
-        token: PpToken {
-            kind,
-            spelling,
-            ..item.token
-        },
-        hide,
-        put: true,
-    })?;
-    Ok(items)
 }

@@ -5,7 +5,7 @@ ghost use Rattle.c65_macro.specs.Uses;
 use crate::definition::{is_mark, is_parameter};
 use crate::fill::begins_paste;
 use crate::item::Words;
-use crate::marked::{Marked, is_line_end};
+use crate::marked::{Argument, is_line_end};
 use c65_base::Name;
 use c65_lex::PpToken;
 
@@ -35,25 +35,15 @@ pub fn role_of(words: Words, token: &PpToken) -> Role
     }
 }
 
-/// Whether a parenthesis opens next, behind line ends or none. The last token is the next one.
-pub fn is_use(words: Words, todo: &[Marked]) -> bool {
-    for item in todo.iter().rev() {
-        match role_of(words, &item.token) {
-            Role::LineEnd => {}
-            Role::Opening => return true,
-            _ => return false,
-        }
-    }
-    false
-}
-
 /// Whether these arguments are as many as the parameters: without parameters one empty argument stands in the
 /// parentheses.
-pub fn is_fit(params: &[Name], arguments: &[Vec<Marked>]) -> bool {
+pub fn is_fit(params: &[Name], arguments: &[Argument]) -> bool
+    ensures { result ≡ Uses.is_fit params.now arguments.now }
+{
     if params.is_empty() {
-        match arguments {
-            [only] => only.is_empty(),
-            _ => false,
+        match arguments.split_first() {
+            Some((only, others)) => only.as_slice().is_empty() && others.is_empty(),
+            None => false,
         }
     } else {
         params.len() == arguments.len()

@@ -1,5 +1,0 @@
-use Rattle.std.proofs.Common.{vec_len}
-use Rattle.c65_macro.proofs.expand.State.gather.Given as goal
-
-abbrev pub decreases-loop-item : goal.decreases-loop-item
-decreases-loop-item l = vec_len l.self.level.todo
