@@ -3,3 +3,4 @@ pub mod Names
 pub mod Effects
 pub mod Access
 pub mod Segments
+pub mod Literals

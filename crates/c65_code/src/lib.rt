@@ -2,12 +2,18 @@
 #![tactic(auto)]
 
 mod access;
+mod code;
 mod effects;
+mod gather;
+mod items;
 mod line;
 mod parts;
 mod routine;
 mod segment;
 
+pub use code::{Bytes, Code, DataCell, Datum, DatumKind, Literals, Symbol};
+pub use gather::literals;
+pub use items::Items;
 pub use line::{Callee, Line, Operand, Sym};
 pub use parts::{Part, RegSet};
 pub use routine::{Count, LibraryFunction, Routine, TosOp, UnaryRoutine, Width};
