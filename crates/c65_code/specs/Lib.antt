@@ -4,3 +4,17 @@ pub mod Effects
 pub mod Access
 pub mod Segments
 pub mod Literals
+pub mod LineState
+pub mod Placement
+pub mod Forms
+pub mod Numbers
+pub mod Texts
+pub mod Rows
+pub mod Moves
+pub mod Weights
+pub mod Steady
+pub mod Comes
+pub mod Runs
+pub mod Starts
+pub mod Follows
+pub mod RawMachine
