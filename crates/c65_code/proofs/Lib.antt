@@ -1,2 +1,5 @@
 pub mod PartLaws
 pub mod RoutineNames
+pub mod ExampleLaws
+pub mod WeightLaws
+pub mod StickLaws

@@ -18,3 +18,5 @@ pub mod Runs
 pub mod Starts
 pub mod Follows
 pub mod RawMachine
+pub mod Examples
+pub mod LineLaws

@@ -54,18 +54,18 @@ abbrev pub Gives : Option ℕ → ℕ → Type 0
 Gives None v = Unit {0}
 Gives (Some w) v = v ≡ w
 
-abbrev pub GivesPointers : Option (ℕ × ℕ) → State → Type 0
-GivesPointers None u = Unit {0}
-GivesPointers (Some w) u = (u.zp 8 + 256 * u.zp 9 ≡ w.0) × (u.zp 10 + 256 * u.zp 11 ≡ w.1)
+abbrev pub GivesPointers : Option (ℕ × ℕ) → Bytes → Type 0
+GivesPointers None zp = Unit {0}
+GivesPointers (Some w) zp = (zp 8 + 256 * zp 9 ≡ w.0) × (zp 10 + 256 * zp 11 ≡ w.1)
 
 -- the bytes from an address of the zero page on
-abbrev pub GivesBytes : ℕ → List ℕ → State → Type 0
-GivesBytes at [] u = Unit {0}
-GivesBytes at (v ∷ vs) u = (u.zp at ≡ v) × GivesBytes (at + 1) vs u
+abbrev pub GivesBytes : ℕ → List ℕ → Bytes → Type 0
+GivesBytes at [] zp = Unit {0}
+GivesBytes at (v ∷ vs) zp = (zp at ≡ v) × GivesBytes (at + 1) vs zp
 
-abbrev pub GivesBank : Option (List ℕ) → State → Type 0
-GivesBank None u = Unit {0}
-GivesBank (Some vs) u = GivesBytes 20 vs u
+abbrev pub GivesBank : Option (List ℕ) → Bytes → Type 0
+GivesBank None zp = Unit {0}
+GivesBank (Some vs) zp = GivesBytes 20 vs zp
 
 -- The state after a routine. What its row leaves open may be anything; below the old sp memory may be, down to the row's room.
 pub record Meets (r : Row) (t u : State) : Type 0 where
@@ -73,8 +73,8 @@ pub record Meets (r : Row) (t u : State) : Type 0 where
   pub a : Gives r.a u.regs.a
   pub x : Gives r.x u.regs.x
   pub sreg : Gives r.sreg (sreg_of u)
-  pub pointers : GivesPointers r.pointers u
-  pub bank : GivesBank r.bank u
+  pub pointers : GivesPointers r.pointers u.zp
+  pub bank : GivesBank r.bank u.zp
   pub kept : (p : Part) → has_part r.changes p ≡ false → Same p t u
   pub high : (i : ℕ) → 26 ≤ i → t.zp i ≡ u.zp i
   pub mem : (b : ℕ) → (b + r.room < sp_of t) ⊎ ((sp_of t ≤ b) ⊎ (r.sp ≤ b)) → u.mem b ≡ written t.mem r.writes b
@@ -180,9 +180,6 @@ sp_row r sp t = keeping t (record (row_by r t) { sp = sp })
 
 abbrev pub push_row : Routine → List ℕ → State → Row
 push_row r bytes t = keeping t (pushing bytes t (row_by r t))
-
-
-
 
 -- what an operator costs
 abbrev pub tos_cost : TosOp → ℕ

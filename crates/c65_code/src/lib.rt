@@ -6,14 +6,18 @@ mod code;
 mod effects;
 mod gather;
 mod items;
+mod laws;
 mod line;
 mod parts;
 mod routine;
 mod segment;
+#[cfg(test)]
+mod tests;
 
 pub use code::{Bytes, Code, DataCell, Datum, DatumKind, Literals, Symbol};
 pub use gather::literals;
 pub use items::Items;
+pub use laws::{calls_leave_y_open, never_sticks, operator_results, rows_leave_a_open, runs_weigh};
 pub use line::{Callee, Line, Operand, Sym};
 pub use parts::{Part, RegSet};
 pub use routine::{Count, LibraryFunction, Routine, TosOp, UnaryRoutine, Width};
