@@ -1,13 +1,13 @@
 // Names of routines there and back, what lines read and set, and segments and literals on their happy path.
-ghost use Rattle.std.specs.Prelude.{IsTrue};
+ghost use Rattle.std.specs.Prelude.{◌≡◌, ◌∷◌, [], IsTrue, OnOk};
 ghost use Rattle.std.specs.List.{list_all};
 ghost use Rattle.c65_code.specs.Parts.{is_part};
 
 use crate::{
     Callee, Code, Count, DataCell, Datum, DatumKind, Draft, Items, Line, Operand, Part, RegSet,
-    Routine, Sym, Symbol, TosOp, Width, literals,
+    Routine, Seg, Sym, Symbol, TosOp, Width, literals,
 };
-use c65_base::Text;
+use c65_base::{Refusal, Text};
 use c65_mach::{Mode, Op};
 use std::test::Fail;
 
@@ -47,6 +47,7 @@ fn does(op: Op, mode: Mode, operand: Operand) -> Line {
 }
 
 // A line, what it reads and what it sets, by the manual and the table of routines; the function gives A and X.
+#[derive(Clone, Copy)]
 struct Case {
     line: Line,
     reads: RegSet,
@@ -157,24 +158,63 @@ fn reads_and_sets(rt: HostRuntime) {
     }
 }
 
+const FIVE: Line = Line::Do(Op::Lda, Mode::Immediate, Operand::Byte(5));
+
+const BACK: Line = Line::Do(Op::Rts, Mode::Implied, Operand::Nothing);
+
+const MARK: Line = Line::Label(7);
+
+fn two_lines(draft: &mut Draft) -> Result<(), Refusal>
+    requires { draft.old.lines ≡ [] }
+    ensures { OnOk result (draft.new.lines ≡ FIVE ∷ BACK ∷ []) }
+{
+    draft.push(FIVE)?;
+    draft.push(BACK)?;
+    Ok(())
+}
+
+fn close_two(draft: Draft) -> Seg
+    requires { draft.lines ≡ FIVE ∷ BACK ∷ [] }
+    ensures { result.lines ≡ FIVE ∷ BACK ∷ [] }
+{
+    draft.close()
+}
+
+fn insert_mark(seg: &mut Seg) -> Result<(), Refusal>
+    requires { seg.old.lines ≡ FIVE ∷ BACK ∷ [] }
+    ensures { OnOk result (seg.new.lines ≡ MARK ∷ FIVE ∷ BACK ∷ []) }
+{
+    seg.insert(0, MARK)
+}
+
+fn replace_two(seg: &mut Seg) -> Result<(), Refusal>
+    requires { seg.old.lines ≡ MARK ∷ FIVE ∷ BACK ∷ [] }
+{
+    seg.replace(0, 2, &[BACK])
+}
+
 #[test]
 fn segments(rt: HostRuntime) -> Result<(), Fail> {
     let out = RegSet::of(&[Part::A]);
-    let five = does(Op::Lda, Mode::Immediate, Operand::Byte(5));
-    let back = does(Op::Rts, Mode::Implied, Operand::Nothing);
     let mut draft = Draft::new(rt.alloc(), out);
-    draft.push(five)?;
-    draft.push(back)?;
-    assert_eq!(rt; draft.fresh(), 0);
-    assert_eq!(rt; draft.labels(), 1);
-    let mut seg = draft.close();
-    assert_eq!(rt; seg.lines(), [five, back].as_slice());
+    two_lines(&mut draft)?;
+    assert_eq!(rt; draft.labels(), 0);
+    let mut seg = close_two(draft);
+    assert_eq!(rt; seg.lines(), [FIVE, BACK].as_slice());
     assert_eq!(rt; seg.out(), out);
-    seg.insert(0, Line::Label(7))?;
-    assert_eq!(rt; seg.lines(), [Line::Label(7), five, back].as_slice());
-    seg.replace(0, 2, &[back])?;
-    assert_eq!(rt; seg.lines(), [back, back].as_slice());
+    insert_mark(&mut seg)?;
+    assert_eq!(rt; seg.lines(), [MARK, FIVE, BACK].as_slice());
+    replace_two(&mut seg)?;
+    assert_eq!(rt; seg.lines(), [BACK, BACK].as_slice());
     Ok(())
+}
+
+#[test]
+fn labels(rt: HostRuntime) {
+    let mut draft = Draft::new(rt.alloc(), RegSet::empty());
+    assert_eq!(rt; draft.fresh(), 0);
+    assert_eq!(rt; draft.fresh(), 1);
+    assert_eq!(rt; draft.labels(), 2);
 }
 
 #[test]
