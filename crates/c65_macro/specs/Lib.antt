@@ -9,3 +9,4 @@ pub mod Refusals
 pub mod Answered
 pub mod Views
 pub mod Machine
+pub mod Predefined

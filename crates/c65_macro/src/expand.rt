@@ -297,7 +297,8 @@ impl Macros {
         state.level.put(items)
     }
 
-    /// Takes up the use below, once the expansion of its argument is done.
+    /// Takes up the use below, once the expansion of its argument is done. Its macro is still in the table, which does
+    /// not change in between; otherwise nothing is promised but the answer for want of memory.
     fn resume(&self, state: &mut State, pending: Pending, names: &mut Names) -> Result<(), Refusal>
         ensures refused { IfErr result StopsExpansion }
         ensures grows { Extends names.old names.new }

@@ -5,6 +5,7 @@ mod definition;
 mod expand;
 mod fill;
 mod gather;
+mod given;
 mod item;
 mod marked;
 mod predefined;

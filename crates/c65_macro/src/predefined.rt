@@ -1,13 +1,15 @@
 // The predefined macros (C90 6.8.8), and what stands for __LINE__ and __FILE__.
-ghost use Rattle.std.specs.Prelude.{◌≡◌, List, [], pos, true, IfErr, IfOk, decimal};
+ghost use Rattle.std.specs.Prelude.{◌≡◌, List, [], pos, true, IfErr, IfOk, OnOk, None, decimal};
 ghost use Rattle.c65_macro.specs.Refusals.{StopsExpansion, LacksRoom};
 ghost use Rattle.c65_macro.specs.declared.sets.Node.{Node};
 ghost use Rattle.c65_macro.specs.Sets.{Extends, set_of};
 ghost use Rattle.c65_macro.specs.Table.{line_of};
 ghost use Rattle.c65_macro.specs.Items;
+ghost use Rattle.c65_macro.specs.Predefined;
 ghost use Rattle.c65_macro.specs.Answered.{Gives};
 ghost use Rattle.c65_macro.specs.Views.{item_of};
 
+use crate::given::Given;
 use crate::item::{Macro, Words};
 use crate::marked::Marked;
 use crate::sets::Hide;
@@ -21,24 +23,36 @@ use std::alloc::{AllocError, Global};
 
 /// The name of a spelling that is known from the start.
 fn spelled(names: &mut Names, spelling: &[u8]) -> Result<Name, Refusal>
-    ensures { IfErr result LacksRoom }
+    ensures refused { IfErr result LacksRoom }
+    ensures grows { Extends names.old names.new }
+    ensures value { Gives (λ name. name) result names.new (Items.learn names.old spelling.now) }
 {
     names.intern(spelling)
 }
 
 /// The names that definitions and expansions look at.
 fn words(names: &mut Names) -> Result<Words, Refusal>
-    ensures { IfErr result LacksRoom }
+    ensures refused { IfErr result LacksRoom }
+    ensures grows { Extends names.old names.new }
+    ensures value { Gives (λ words. words) result names.new (Predefined.words_from names.old) }
 {
+    let hash = spelled(names, b"#")?;
+    let paste = spelled(names, b"##")?;
+    let opening = spelled(names, b"(")?;
+    let closing = spelled(names, b")")?;
+    let comma = spelled(names, b",")?;
+    let line = spelled(names, b"__LINE__")?;
+    let file = spelled(names, b"__FILE__")?;
+    let defined = spelled(names, b"defined")?;
     Ok(Words {
-        hash: spelled(names, b"#")?,
-        paste: spelled(names, b"##")?,
-        opening: spelled(names, b"(")?,
-        closing: spelled(names, b")")?,
-        comma: spelled(names, b",")?,
-        line: spelled(names, b"__LINE__")?,
-        file: spelled(names, b"__FILE__")?,
-        defined: spelled(names, b"defined")?,
+        hash,
+        paste,
+        opening,
+        closing,
+        comma,
+        line,
+        file,
+        defined,
     })
 }
 
@@ -48,8 +62,8 @@ fn add(
     table: &mut IndexMap<Name, Macro>,
     name: Name,
     body: &[PpToken],
-) -> Result<(), Refusal>
-    ensures { IfErr result LacksRoom }
+) -> Result<(), AllocError>
+    ensures { OnOk result (table.new.entries ≡ Predefined.put table.old.entries name body.now) }
 {
     let body = PpTokens::from_vec(Vec::from_slice(alloc, body)?);
     table.insert(
@@ -64,39 +78,61 @@ fn add(
 }
 
 /// Adds a macro that stands for one token.
-fn add_one(
+fn add_given(
     alloc: Global,
     table: &mut IndexMap<Name, Macro>,
     names: &mut Names,
-    name: &[u8],
-    kind: PpKind,
-    spelling: &[u8],
+    given: Given,
 ) -> Result<(), Refusal>
-    ensures { IfErr result LacksRoom }
+    ensures refused { IfErr result LacksRoom }
+    ensures grows { Extends names.old names.new }
+    ensures value { Gives (λ _. table.new.entries) result names.new (Predefined.with_given table.old.entries names.old given) }
 {
-    let name = spelled(names, name)?;
-    let spelling = spelled(names, spelling)?;
+    let name = spelled(names, given.name())?;
+    let spelling = spelled(names, given.text())?;
     let token = PpToken {
-        kind,
+        kind: given.kind(),
         spelling,
         pos: Pos { file: 0, line: 1 },
         space: false,
     };
-    add(alloc, table, name, &[token])
+    add(alloc, table, name, &[token])?;
+    Ok(())
 }
 
-/// Adds a macro that stands for 1, if it is asked for.
-fn add_switch(
+/// Adds a macro that stands for one token, where the options ask for it.
+fn add_if(
     alloc: Global,
     table: &mut IndexMap<Name, Macro>,
     names: &mut Names,
-    name: &[u8],
-    is_on: bool,
+    options: &Options,
+    given: Given,
 ) -> Result<(), Refusal>
-    ensures { IfErr result LacksRoom }
+    ensures refused { IfErr result LacksRoom }
+    ensures grows { Extends names.old names.new }
+    ensures value { Gives (λ _. table.new.entries) result names.new (Predefined.with_if options.now table.old.entries names.old given) }
 {
-    if is_on {
-        add_one(alloc, table, names, name, PpKind::Number, b"1")?;
+    if !given.is_on(options) {
+        return Ok(());
+    }
+    add_given(alloc, table, names, given)
+}
+
+/// Adds all that stand for one token.
+fn add_all(
+    alloc: Global,
+    table: &mut IndexMap<Name, Macro>,
+    names: &mut Names,
+    options: &Options,
+) -> Result<(), Refusal>
+    ensures refused { IfErr result LacksRoom }
+    ensures grows { Extends names.old names.new }
+    ensures value { Gives (λ _. table.new.entries) result names.new (Predefined.with_all options.now table.old.entries names.old Predefined.all) }
+{
+    let mut rest: &[Given] = &Given::ALL;
+    while let Some((given, more)) = rest.split_first() {
+        add_if(alloc, table, names, options, *given)?;
+        rest = more;
     }
     Ok(())
 }
@@ -107,53 +143,15 @@ impl Macros {
     pub fn new(alloc: Global, options: &Options, names: &mut Names) -> Result<Macros, Refusal>
         ensures made { IfOk result (λ m. (m.defined ≡ []) × (m.offset ≡ pos 0)) }
         ensures refused { IfErr result LacksRoom }
+        ensures grows { Extends names.old names.new }
+        ensures value { Gives (λ m. m) result names.new (Predefined.initial options.now names.old) }
     {
         let words = words(names)?;
         let file = spelled(names, b"\"\"")?;
         let mut table = IndexMap::new(alloc);
         add(alloc, &mut table, words.line, &[])?;
         add(alloc, &mut table, words.file, &[])?;
-        add_one(
-            alloc,
-            &mut table,
-            names,
-            b"__DATE__",
-            PpKind::Text,
-            b"\"Jan  1 1970\"",
-        )?;
-        add_one(
-            alloc,
-            &mut table,
-            names,
-            b"__TIME__",
-            PpKind::Text,
-            b"\"00:00:00\"",
-        )?;
-        add_switch(alloc, &mut table, names, b"__STDC__", true)?;
-        add_switch(alloc, &mut table, names, b"__CC65__", true)?;
-        let on = options.optimise;
-        add_switch(alloc, &mut table, names, b"__OPT__", on)?;
-        add_switch(
-            alloc,
-            &mut table,
-            names,
-            b"__OPT_i__",
-            on && options.inline_more,
-        )?;
-        add_switch(
-            alloc,
-            &mut table,
-            names,
-            b"__OPT_r__",
-            on && options.register_vars,
-        )?;
-        add_switch(
-            alloc,
-            &mut table,
-            names,
-            b"__OPT_s__",
-            on && options.known_functions,
-        )?;
+        add_all(alloc, &mut table, names, options)?;
         Ok(Macros {
             predefined: table,
             defined: IndexMap::new(alloc),

@@ -51,7 +51,8 @@ impl Sets {
         }
     }
 
-    /// The name that a set has before the rest of it. The set is one of these.
+    /// The name that a set has before the rest of it. The set is one of these; for any other number the answer is that
+    /// for want of memory.
     fn node(&self, set: Hide) -> Result<Option<Node>, AllocError>
         ensures falls { IfOk result (λ o. IfSome o (λ node. node.rest.0 < set.0)) }
         ensures value { IfOk result (λ o. (table : List Node) → Extends self.now table → MatchOption o (set_of table set.0 ≡ none) (λ node. set_of table set.0 ≡ with_name node.name.0 (set_of table node.rest.0))) }

@@ -1,7 +1,7 @@
-use Rattle.std.proofs.Common.{◌≡◌, ◌∙◌, ◌++◌, ◌∷◌, [], List, sym, ap}
+use Rattle.std.proofs.Common.{◌∙◌, ◌++◌, List, sym, ap}
 use Rattle.c65_macro.specs.declared.sets.Node.{Node}
-use Rattle.c65_macro.specs.Sets.{Extends, Set, set_of, either}
-use Rattle.c65_macro.specs.Items.{Item, hide_all}
+use Rattle.c65_macro.specs.Sets.{Extends, set_of}
+use Rattle.c65_macro.specs.Items.{hide_all}
 use Rattle.c65_macro.specs.Views.{items_of}
 use Rattle.c65_macro.proofs.HideSets.{extends_trans}
 use Rattle.c65_macro.proofs.Filling.{hidden_push}

@@ -1,8 +1,8 @@
-use Rattle.std.proofs.Common.{◌≡◌, ◌∙◌, ℕ, List, [], ◌∷◌, sym, ap}
+use Rattle.std.proofs.Common.{◌∙◌, ℕ, List, [], ◌∷◌, sym, ap}
 use Rattle.std.proofs.lemmas.Result.{err_from_is_err_and}
 use Rattle.c65_macro.specs.Fill
 use Rattle.c65_macro.specs.Items.{Outcome, Item, done, ◌>>=◌}
-use Rattle.c65_macro.specs.Views.{items_of, item_of, tokens_of, use_of}
+use Rattle.c65_macro.specs.Views.{items_of, tokens_of, use_of}
 use Rattle.c65_macro.proofs.Seen.{stops_bind, stops_same}
 use Rattle.c65_macro.proofs.Filling.{operand_some, operand_none, operand_plain}
 use Rattle.c65_macro.proofs.fill.operand.Goals as goal

@@ -1,4 +1,4 @@
-use Rattle.std.proofs.Common.{◌≡◌, ◌∙◌, ◌++◌, ◌∷◌, [], List, sym, ap, append_assoc}
+use Rattle.std.proofs.Common.{◌∙◌, ◌++◌, ◌∷◌, [], sym, ap, append_assoc}
 use Rattle.c65_macro.specs.declared.marked.Marked.{Marked}
 use Rattle.c65_macro.specs.Items
 use Rattle.c65_macro.specs.Views.{item_of, items_of}

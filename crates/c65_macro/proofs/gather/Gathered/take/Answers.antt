@@ -1,4 +1,4 @@
-use Rattle.std.proofs.Common.{◌∙◌, sym}
+use Rattle.std.proofs.Common.{◌∙◌}
 use Rattle.c65_macro.specs.Views.{item_of}
 use Rattle.c65_macro.proofs.Gathering.{take_opening, take_closing, take_comma, take_other, take_separate}
 use Rattle.c65_macro.proofs.gather.Gathered.take.Goals as goal

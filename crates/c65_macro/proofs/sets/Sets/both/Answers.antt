@@ -1,9 +1,8 @@
-use Rattle.std.proofs.Common.{◌≡◌, ◌∙◌, List, Some, None, sym, ap}
-use Rattle.std.specs.Prelude.{MatchOption, if◌then◌else◌}
+use Rattle.std.proofs.Common.{◌≡◌, ◌∙◌, sym, ap}
 use Rattle.std.proofs.lemmas.Option.{MatchOption-at_some, MatchOption-at_none}
 use Rattle.c65_macro.specs.declared.sets.Node.{Node}
 use Rattle.c65_macro.specs.Sets.{Extends, Set, set_of, either, both, none, with_name}
-use Rattle.c65_macro.proofs.HideSets.{extends_same, extends_trans, both_step, both_all}
+use Rattle.c65_macro.proofs.HideSets.{extends_trans, both_step, both_all}
 use Rattle.c65_macro.proofs.sets.Sets.both.Goals as goal
 
 pub loop-node-preserved : goal.loop-node-preserved

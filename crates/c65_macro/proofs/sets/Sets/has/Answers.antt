@@ -1,6 +1,6 @@
-use Rattle.std.proofs.Common.{◌≡◌, ◌≤◌, ◌∙◌, List, false, length, sym, ap, subst, arith}
+use Rattle.std.proofs.Common.{◌≤◌, ◌∙◌, List, length, sym, ap, subst, arith}
 use Rattle.c65_macro.specs.declared.sets.Node.{Node}
-use Rattle.c65_macro.specs.Sets.{Extends, Set, set_of}
+use Rattle.c65_macro.specs.Sets.{Extends, Set}
 use Rattle.c65_macro.proofs.HideSets.{extends_set, set_lacks}
 use Rattle.c65_macro.proofs.sets.Sets.has.Goals as goal
 

@@ -1,10 +1,10 @@
-use Rattle.std.proofs.Common.{◌≡◌, ◌∙◌, ℕ, List, Some, None, sym, ap}
-use Rattle.std.specs.Prelude.{◌==◌, if◌then◌else◌}
+use Rattle.std.proofs.Common.{◌≡◌, ◌∙◌, ℕ, List, sym, ap}
+use Rattle.std.specs.Prelude.{◌==◌}
 use Rattle.std.proofs.lemmas.Bool.{eqb-true}
 use Rattle.std.proofs.lemmas.Option.{MatchOption-at_some, MatchOption-at_none}
 use Rattle.c65_macro.specs.declared.sets.Node.{Node}
 use Rattle.c65_macro.specs.Sets.{Extends, Set, set_of, either, none, with_name}
-use Rattle.c65_macro.proofs.HideSets.{extends_same, extends_trans, join_step, holds_step, none_left, not_false}
+use Rattle.c65_macro.proofs.HideSets.{extends_trans, join_step, holds_step, none_left, not_false}
 use Rattle.c65_macro.proofs.sets.Sets.joined.Goals as goal
 
 pub returns-in_default-clause-value : goal.returns-in_default-clause-value

@@ -1,7 +1,6 @@
-use Rattle.std.proofs.Common.{◌≡◌, ◌≤◌, ◌+◌, ◌∙◌, ℕ, List, [], ◌∷◌, ◌++◌, length, sym, ap, subst, arith, true, false}
-use Rattle.c65_base.specs.declared.names.Name.{Name}
+use Rattle.std.proofs.Common.{◌≡◌, ◌≤◌, List, [], ◌∷◌, ◌++◌, length, sym, subst, arith}
 use Rattle.c65_macro.specs.declared.sets.Node.{Node}
-use Rattle.c65_macro.specs.Sets.{Extends, IsLinked, IsSeen, set_of, with_name}
+use Rattle.c65_macro.specs.Sets.{Extends, IsLinked, IsSeen}
 use Rattle.c65_macro.proofs.HideSets.{set_new, linked_more, seen_more}
 use Rattle.c65_macro.proofs.sets.Sets.with.Goals as goal
 

@@ -1,10 +1,10 @@
-use Rattle.std.proofs.Common.{◌≡◌, ◌≢◌, ap, subst, ◌∙◌, sym, Some, None, option_map, Ok, List, [], ◌∷◌, ◌++◌, length, arith}
+use Rattle.std.proofs.Common.{◌≡◌, ◌≢◌, ap, subst, ◌∙◌, sym, None, Ok, List, [], ◌∷◌, ◌++◌, length}
 use Rattle.indexmap.proofs.CallerLemmas.{insert_entry-new}
 use Rattle.c65_base.specs.declared.names.Name.{Name}
 use Rattle.c65_macro.specs.declared.item.Macro.{Macro}
 use Rattle.c65_macro.specs.contracts.table.Macros.{the_view}
 use Rattle.c65_macro.specs.Table.{Table, find}
-use Rattle.c65_macro.specs.Definitions.{added, same_macro, known}
+use Rattle.c65_macro.specs.Definitions.{added, same_macro}
 use Rattle.c65_macro.proofs.Tables.{added-new, not_mapped}
 use Rattle.c65_macro.proofs.table.Macros.add.Goals as goal
 

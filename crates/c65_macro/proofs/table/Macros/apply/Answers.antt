@@ -1,4 +1,4 @@
-use Rattle.std.proofs.Common.{◌≡◌, ◌∙◌, ◌+◌, ℕ, List, [], sym, ap, subst, refl, Some, Err, true, false}
+use Rattle.std.proofs.Common.{◌≡◌, ◌∙◌, ◌+◌, ℕ, [], sym, ap, subst, refl, Some, Err, true, false}
 use Rattle.std.proofs.lemmas.Result.{err_from_is_err_and}
 use Rattle.c65_base.specs.declared.code.Code.TheVariants as codes
 use Rattle.c65_base.specs.declared.refusal.Refusal.TheVariants as refusals

@@ -1,6 +1,5 @@
-use Rattle.std.proofs.Common.{◌≡◌, ◌∙◌, List, sym, ap, Some, refl}
+use Rattle.std.proofs.Common.{◌≡◌, ◌∙◌, sym, ap, Some, refl}
 use Rattle.std.proofs.lemmas.Result.{err_from_is_err_and}
-use Rattle.c65_macro.specs.declared.sets.Node.{Node}
 use Rattle.c65_macro.specs.Fill.{replacement}
 use Rattle.c65_macro.specs.Sets.{Extends, Set, set_of, with_name, both}
 use Rattle.c65_macro.specs.Views.{item_of, items_of, lists_of}

@@ -1,8 +1,8 @@
-use Rattle.std.proofs.Common.{◌≡◌, ◌∙◌, ◌++◌, List, [], sym, ap, length, arith}
+use Rattle.std.proofs.Common.{◌≡◌, ◌∙◌, ◌++◌, ap, length, arith}
 use Rattle.std.proofs.lemmas.List.{append-nil, nil_from_length}
 use Rattle.std.proofs.lemmas.Result.{err_from_is_err_and}
 use Rattle.c65_macro.specs.Items
-use Rattle.c65_macro.specs.Views.{item_of, items_of, tokens_of}
+use Rattle.c65_macro.specs.Views.{items_of, tokens_of}
 use Rattle.c65_macro.specs.Machine.{stage_of, frames_of}
 use Rattle.c65_macro.proofs.HideSets.{extends_same, extends_trans}
 use Rattle.c65_macro.proofs.Replacing.{start_state, expand_step, expand_stop, climb_step, climb_stop, refused_so, expand_end}

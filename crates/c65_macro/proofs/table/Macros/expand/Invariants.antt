@@ -1,4 +1,4 @@
-use Rattle.std.proofs.Common.{◌≡◌, List}
+use Rattle.std.proofs.Common.{List}
 use Rattle.c65_macro.specs.declared.sets.Node.{Node}
 use Rattle.c65_macro.specs.Sets.{Extends}
 use Rattle.c65_macro.specs.Items

@@ -1,4 +1,4 @@
-use Rattle.std.proofs.Common.{◌≡◌, ap, subst, ◌∙◌, sym, Some, None, option_map}
+use Rattle.std.proofs.Common.{◌≡◌, ap, subst, ◌∙◌, Some, None, option_map}
 use Rattle.c65_macro.specs.Definitions
 use Rattle.c65_macro.specs.Definitions.{same_macro}
 use Rattle.c65_macro.proofs.table.Macros.known.Goals as goal

@@ -1,8 +1,8 @@
-use Rattle.std.proofs.Common.{◌≡◌, ◌∙◌, List, sym, ap, true, false}
+use Rattle.std.proofs.Common.{◌∙◌, sym, ap, true}
 use Rattle.c65_lex.specs.declared.token.PpKind.TheVariants as kinds
 use Rattle.std.specs.Prelude.{decimal}
 use Rattle.c65_macro.specs.Table.{same_name, line_of}
-use Rattle.c65_macro.specs.Sets.{Set, set_of, with_name}
+use Rattle.c65_macro.specs.Sets.{Set, set_of}
 use Rattle.c65_macro.specs.Items.{Item, made, done}
 use Rattle.c65_macro.specs.Expand
 use Rattle.c65_macro.specs.Views.{item_of}

@@ -1,4 +1,4 @@
-use Rattle.std.proofs.Common.{◌≡◌, ◌∙◌, List, sym, ap, true, false, Some, None}
+use Rattle.std.proofs.Common.{◌∙◌, sym, ap, Some, None}
 use Rattle.std.specs.Prelude.{◌||◌}
 use Rattle.c65_macro.specs.Table.{same_name}
 use Rattle.c65_macro.specs.Expand

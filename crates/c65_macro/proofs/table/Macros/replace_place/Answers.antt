@@ -1,8 +1,7 @@
-use Rattle.std.proofs.Common.{◌≡◌, ◌∙◌, List, [], ◌∷◌, sym, ap}
+use Rattle.std.proofs.Common.{◌≡◌, ◌∙◌, [], ◌∷◌, sym, ap}
 use Rattle.std.proofs.lemmas.Result.{err_from_is_err_and}
 use Rattle.c65_macro.specs.Expand
 use Rattle.c65_macro.specs.Items.{done, ◌>>=◌}
-use Rattle.c65_macro.specs.Sets.{set_of, with_name}
 use Rattle.c65_macro.specs.Views.{item_of, items_of}
 use Rattle.c65_macro.specs.Machine.{stage_of, frames_of}
 use Rattle.c65_macro.proofs.Seen.{stops_bind}

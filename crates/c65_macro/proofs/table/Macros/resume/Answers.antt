@@ -1,6 +1,5 @@
-use Rattle.std.proofs.Common.{◌≡◌, ◌∙◌, ◌++◌, ◌∷◌, List, [], sym, ap, Some}
+use Rattle.std.proofs.Common.{◌≡◌, ◌∙◌, ◌++◌, ◌∷◌, [], sym, ap, Some}
 use Rattle.c65_macro.specs.declared.state.Level.{Level}
-use Rattle.c65_macro.specs.declared.marked.Marked.{Marked}
 use Rattle.c65_macro.specs.Table.{lookup}
 use Rattle.c65_macro.specs.Views.{item_of, items_of, lists_of}
 use Rattle.c65_macro.specs.Machine.{Frame, stage_of, frame_of, frames_of, use_with, use_left, with_argument}

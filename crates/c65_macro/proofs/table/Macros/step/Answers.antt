@@ -1,4 +1,4 @@
-use Rattle.std.proofs.Common.{◌≡◌, ◌∙◌, List, sym, ap, true, false, Some, None}
+use Rattle.std.proofs.Common.{◌∙◌, sym, ap}
 use Rattle.c65_macro.specs.Expand
 use Rattle.c65_macro.specs.Views.{item_of, items_of}
 use Rattle.c65_macro.specs.Machine.{stage_of, frames_of}
