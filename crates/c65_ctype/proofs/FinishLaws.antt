@@ -1,13 +1,13 @@
 -- A tag gets its layout.
-use Rattle.std.proofs.Common.{◌≡◌, ℕ, zero, suc, ◌<◌, List, [], ◌∷◌, length, map, get_or, set, refl, sym, ap, ◌∙◌, subst, arith, Ok, Some, None}
+use Rattle.std.proofs.Common.{◌≡◌, ℕ, zero, suc, ◌-◌, ◌<◌, List, [], ◌∷◌, ◌++◌, Bool, length, map, get_or, set, refl, sym, ap, ◌∙◌, subst, arith, Ok, Some, None}
 use Rattle.std.specs.Prelude.{option_map, slice_get}
 use Rattle.std.proofs.lemmas.Option.{slice_get-map, slice_get_read}
 use Rattle.c65_ctype.specs.declared.types.Tag.{Tag}
 use Rattle.c65_ctype.specs.declared.types.Layout.{Layout}
 use Rattle.c65_ctype.specs.declared.types.TagTable.{TagTable}
-use Rattle.c65_ctype.specs.Trees.{FieldTy, TagTy}
+use Rattle.c65_ctype.specs.Trees.{FieldTy, TagTy, TypesTy}
 use Rattle.c65_ctype.specs.Layouts.{layout_for}
-use Rattle.c65_ctype.specs.Tags.{IsUnfinished, with_layout, finished, kind_of}
+use Rattle.c65_ctype.specs.Tags.{IsUnfinished, with_tag, with_layout, finished, kind_of}
 use Rattle.c65_ctype.specs.Views.{layout_of, tag_of, types_of}
 
 pub layout_set : (ts : List Tag) (i : ℕ) (x : Tag) (l : Layout) → x ≡ get_or ts i x → map tag_of (set ts i (record { unit = x.unit; is_union = x.is_union; layout = Some l })) ≡ with_layout (map tag_of ts) i (layout_of l)
@@ -36,3 +36,12 @@ finished_now inside now same tag fields x y l unfinished is_x is_y laid =
     ap (λ (t : TagTable). finished (types_of t) tag fields) (sym same)
     ∙ finished_is inside tag fields y l there is_y exact
     ∙ ap (λ (ts : List TagTy). Ok (record { tags = ts; units = inside.units })) (sym (layout_set inside.tags.items tag x l is_x))
+
+last_layout : (ts : List TagTy) (x : TagTy) → option_map (λ (y : TagTy). y.layout) (slice_get (ts ++ x ∷ []) (length ts)) ≡ Some x.layout
+last_layout [] x = refl
+last_layout (t ∷ ts) x = last_layout ts x
+
+-- a tag that was just opened is not finished
+pub opened : (old new : TypesTy) (is_union : Bool) (tag : ℕ) → new ≡ with_tag old is_union None → tag ≡ length old.tags → IsUnfinished new tag
+opened old new is_union tag opens is =
+    subst (λ (t : TypesTy). IsUnfinished t tag) (sym opens) (subst (IsUnfinished (with_tag old is_union None)) (sym is) (last_layout old.tags (record { unit = old.units - 1; is_union = is_union; layout = None })))

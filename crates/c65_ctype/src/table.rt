@@ -94,10 +94,12 @@ impl Types {
     pub fn open_tag(&mut self, is_union: bool) -> Result<u32, Refusal>
         ensures tag { IfOk result (λ tag. tag ≡ length (types_of self.old).tags) }
         ensures ok { OnOk result (types_of self.new ≡ with_tag (types_of self.old) is_union None) }
+        ensures unfinished { IfOk result (λ tag. IsUnfinished (types_of self.new) tag) }
         ensures refused { IfErr result (λ e. e ≡ OutOfMemory) }
         ensures kept { OnErr result (types_of self.new ≡ types_of self.old) }
     {
-        self.add(is_union, None)
+        let tag = self.add(is_union, None)?;
+        Ok(tag)
     }
 
     /// Gives an unfinished tag of this table its layout (C90 6.5.2.1). Refuses `BitField`,
