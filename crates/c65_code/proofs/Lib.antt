@@ -3,3 +3,4 @@ pub mod RoutineNames
 pub mod ExampleLaws
 pub mod WeightLaws
 pub mod StickLaws
+pub mod OpcodeLaws

@@ -20,3 +20,5 @@ pub mod Follows
 pub mod RawMachine
 pub mod Examples
 pub mod LineLaws
+pub mod Opcodes
+pub mod Writable

@@ -1,5 +1,6 @@
 // Laws of the machine on lines, each the contract of a function that does nothing.
 ghost use Rattle.c65_code.specs.Examples.{GivesResult};
+ghost use Rattle.c65_code.specs.Opcodes.{RowsAreTheTables};
 ghost use Rattle.c65_code.specs.LineLaws.{NeverSticks, RunsWeigh, LeavesAOpen, CallsLeaveYOpen};
 
 use crate::routine::{TosOp, Width};
@@ -30,4 +31,9 @@ pub fn rows_leave_a_open()
 /// What a call does not pass may be anything in the callee.
 pub fn calls_leave_y_open()
     ensures { CallsLeaveYOpen }
+{}
+
+/// An operation has a mode exactly where the table of opcodes has such a row.
+pub fn rows_are_the_tables()
+    ensures { RowsAreTheTables }
 {}

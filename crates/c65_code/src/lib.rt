@@ -17,7 +17,10 @@ mod tests;
 pub use code::{Bytes, Code, DataCell, Datum, DatumKind, Literals, Symbol};
 pub use gather::literals;
 pub use items::Items;
-pub use laws::{calls_leave_y_open, never_sticks, operator_results, rows_leave_a_open, runs_weigh};
+pub use laws::{
+    calls_leave_y_open, never_sticks, operator_results, rows_are_the_tables, rows_leave_a_open,
+    runs_weigh,
+};
 pub use line::{Callee, Line, Operand, Sym};
 pub use parts::{Part, RegSet};
 pub use routine::{Count, LibraryFunction, Routine, TosOp, UnaryRoutine, Width};
