@@ -1,13 +1,13 @@
 -- Results of operators from their rows.
-use Rattle.std.proofs.Common.{◌≡◌, ℕ, ◌+◌, ◌*◌, ◌/◌, ◌%◌, ◌<◌, Option, Some, refl, ◌∙◌, ap, subst, arith, lit<}
+use Rattle.std.proofs.Common.{◌≡◌, ℕ, ◌<◌, Option, Some, ◌∙◌, ap, subst, arith, lit<}
 use Rattle.c65_code.specs.declared.routine.Width.{Width}
 use Rattle.c65_code.specs.declared.routine.Width.TheVariants.{Ax, Eax}
 use Rattle.c65_code.specs.declared.routine.TosOp.{TosOp}
 use Rattle.c65_code.specs.declared.routine.TosOp.TheVariants.{Mul, Div, Asr, UMod}
 use Rattle.c65_code.specs.declared.routine.Routine.TheVariants.{Tos}
 use Rattle.c65_code.specs.Numbers.{tos_result}
-use Rattle.c65_code.specs.LineState.{State, sp_of, sreg_of, ax_of, eax_of}
-use Rattle.c65_code.specs.Rows.{Row, Meets, giving_if, number_at, primary_of, costing, popping, tos_cost, row_by}
+use Rattle.c65_code.specs.LineState.{State, ax_of, eax_of}
+use Rattle.c65_code.specs.Rows.{Row, Meets, giving_if, costing, popping, tos_cost, row_by}
 use Rattle.c65_code.specs.Examples.{GivesResult}
 
 word_given : (o : Option ℕ) (v : ℕ) (row : Row) (t u : State) → o ≡ Some v → v < 65536 → Meets (giving_if Ax o row) t u → ax_of u ≡ v

@@ -1,5 +1,5 @@
 -- Where a steady run stands at a line that is no call of a routine, there is a move.
-use Rattle.std.proofs.Common.{◌≡◌, ℕ, zero, suc, ◌+◌, ◌-◌, ◌*◌, ◌/◌, ◌%◌, ◌^◌, ◌<◌, ◌≤◌, ◌==◌, ◌⊎◌, Bool, true, false, IsTrue, List, [], ◌∷◌, All, Option, Some, None, refl, sym, ◌∙◌, ap, subst, cond, bit_and, bit_or, bit_xor, arith, lit<}
+use Rattle.std.proofs.Common.{◌≡◌, ℕ, suc, ◌+◌, ◌*◌, ◌/◌, ◌%◌, ◌<◌, ◌==◌, Bool, true, false, List, [], ◌∷◌, All, Option, Some, None, refl, subst, cond, bit_and, arith, lit<}
 use Rattle.std.proofs.lemmas.List.Elements.{All-nil, All-cons, All-head, All-tail}
 use Rattle.std.proofs.lemmas.Nat.{or_of_8, xor_of_8, and_le_l}
 use Rattle.c65_mach.specs.declared.rows.Op.{Op}
@@ -7,17 +7,16 @@ use Rattle.c65_mach.specs.declared.rows.Op.TheVariants as ops
 use Rattle.c65_mach.specs.declared.rows.Mode.{Mode}
 use Rattle.c65_mach.specs.declared.rows.Mode.TheVariants as modes
 use Rattle.c65_mach.specs.State.{Regs}
-use Rattle.c65_mach.specs.Step.{bit, negative, signed, with_a, with_x, apply, stored, changed, Kind, Reads, Stores, Changes, Branches, Registers, Moves as Moving, kind_of}
+use Rattle.c65_mach.specs.Step.{bit, signed, apply, stored, changed, Kind, Reads, Stores, Changes, Branches, Registers, Moves as Moving, kind_of}
 use Rattle.c65_code.specs.declared.parts.Part.{Part}
 use Rattle.c65_code.specs.declared.parts.Part.TheVariants as parts
 use Rattle.c65_code.specs.declared.parts.RegSet.{RegSet}
 use Rattle.c65_code.specs.declared.routine.LibraryFunction.{LibraryFunction}
-use Rattle.c65_code.specs.declared.line.Line.{Line}
-use Rattle.c65_code.specs.LineState.{Place, Bytes, write, State, Frame, s_of, Same, IsBytes}
-use Rattle.c65_code.specs.Placement.{Placement, Setting, word_of}
+use Rattle.c65_code.specs.LineState.{Place, Bytes, write, State, Frame, Same, IsBytes}
+use Rattle.c65_code.specs.Placement.{Setting, word_of}
 use Rattle.c65_code.specs.Forms.{Form, Mark, Plain, Branch, Jump, Far, Push, Pull, Depth, Return, Run, Enter, Through, Stray, form_of}
-use Rattle.c65_code.specs.Moves.{Ref, Given, ZeroAt, MemAt, ref_of, value_at, put, change, effect, settle, next, Keeps, Enters, Returns, Calls, IsCallee, Goes, Moves}
-use Rattle.c65_code.specs.Steady.{IsCalm, IsSteady, IsWithin}
+use Rattle.c65_code.specs.Moves.{Ref, Given, ZeroAt, MemAt, ref_of, value_at, put, change, effect, settle, Keeps, Returns, Calls, IsCallee, Goes}
+use Rattle.c65_code.specs.Steady.{IsCalm, IsWithin}
 use Rattle.c65_code.specs.LineLaws.{IsOwn, given_of, IsGivenByte, NeverSticks}
 
 abbrev IsByte : ℕ → Type 0

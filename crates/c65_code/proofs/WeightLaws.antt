@@ -1,8 +1,7 @@
 -- What moves weigh, and what they leave open.
-use Rattle.std.proofs.Common.{◌≡◌, ℕ, zero, suc, ◌+◌, ◌*◌, ◌<◌, ◌≤◌, ◌||◌, Bool, true, false, IsTrue, List, [], ◌∷◌, Option, Some, None, slice_get, length, refl, sym, ◌∙◌, ap, subst, arith, lit≤, cond}
+use Rattle.std.proofs.Common.{◌≡◌, ℕ, zero, suc, ◌≤◌, ◌||◌, true, false, IsTrue, List, [], ◌∷◌, Option, Some, None, refl, sym, ◌∙◌, ap, subst, arith, lit≤}
 use Rattle.c65_code.specs.declared.parts.Part.{Part}
 use Rattle.c65_code.specs.declared.parts.Part.TheVariants as parts
-use Rattle.c65_code.specs.declared.parts.RegSet.{RegSet}
 use Rattle.c65_code.specs.declared.routine.Width.{Width}
 use Rattle.c65_code.specs.declared.routine.Width.TheVariants.{Ax, Eax}
 use Rattle.c65_code.specs.declared.routine.TosOp.{TosOp}
@@ -13,17 +12,15 @@ use Rattle.c65_code.specs.declared.routine.LibraryFunction.{LibraryFunction}
 use Rattle.c65_code.specs.declared.routine.LibraryFunction.TheVariants.{PutChar, GetChar, Puts, Exit, MemCpy, MemSet, StrCmp, StrCpy, StrLen}
 use Rattle.c65_code.specs.declared.routine.Routine.{Routine}
 use Rattle.c65_code.specs.declared.routine.Routine.TheVariants as routines
-use Rattle.c65_code.specs.declared.line.Line.{Line}
 use Rattle.c65_code.specs.Parts.{has_part, union_of}
 use Rattle.c65_code.specs.Effects.{kept_at_calls}
-use Rattle.c65_code.specs.LineState.{Place, State, sp_of, Same}
+use Rattle.c65_code.specs.LineState.{State, sp_of, Same}
 use Rattle.c65_code.specs.Placement.{Setting}
 use Rattle.c65_code.specs.Forms.{Form, Mark, Plain, Branch, Jump, Far, Push, Pull, Depth, Return, Run, Enter, Through, Stray, form_of}
 use Rattle.c65_code.specs.Numbers.{tos_result, result_width}
-use Rattle.c65_code.specs.Rows.{Row, Meets, Gives, row_of, row_by, costing, popping, giving_if, number_at, size_of, primary_of, tos_cost, read_row}
-use Rattle.c65_code.specs.Moves.{Keeps, Moves, Enters, Calls}
+use Rattle.c65_code.specs.Rows.{Row, Gives, row_of, row_by, costing, popping, giving_if, number_at, size_of, primary_of, tos_cost, read_row}
+use Rattle.c65_code.specs.Moves.{Enters, Calls}
 use Rattle.c65_code.specs.Weights.{row_cost, call_weight, Weighs}
-use Rattle.c65_code.specs.Runs.{IsSteadyFor}
 use Rattle.c65_code.specs.LineLaws.{RunsWeigh, LeavesAOpen, CallsLeaveYOpen, with_a, with_y}
 
 tos_costs : (op : TosOp) → 1 ≤ tos_cost op

@@ -1,6 +1,6 @@
 -- Whatever is left open, each way of a run comes to a moment of a kind, steady on the way and within a weight
 -- (docs/MEANING.md, "Runs").
-use Rattle.std.specs.Prelude.{◌≡◌, ℕ, suc, ◌+◌, ◌≤◌, ◌==◌, ◌&&◌, Bool, IsTrue, if◌then◌else◌, List, [], Option, Some, slice_get}
+use Rattle.std.specs.Prelude.{◌≡◌, ℕ, suc, ◌+◌, ◌≤◌, ◌==◌, ◌&&◌, Bool, IsTrue, if◌then◌else◌, List, Option, Some, slice_get}
 use Rattle.c65_code.specs.declared.line.Line.{Line}
 use Rattle.c65_code.specs.LineState.{Place, State}
 use Rattle.c65_code.specs.Placement.{Setting}

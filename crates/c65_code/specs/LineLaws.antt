@@ -1,5 +1,5 @@
 -- Laws of the machine on lines.
-use Rattle.std.specs.Prelude.{◌≡◌, ℕ, ◌<◌, ◌≤◌, true, false, List, Option, Some, None}
+use Rattle.std.specs.Prelude.{◌≡◌, ℕ, ◌<◌, ◌≤◌, true, false, List, None}
 use Rattle.c65_code.specs.declared.parts.Part.TheVariants.{A, Y}
 use Rattle.c65_code.specs.declared.parts.RegSet.{RegSet}
 use Rattle.c65_code.specs.declared.line.Sym.{Sym}

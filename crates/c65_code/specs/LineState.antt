@@ -1,5 +1,5 @@
 -- The state of the machine on lines (docs/MEANING.md, "The line machine").
-use Rattle.std.specs.Prelude.{◌≡◌, ℕ, ◌+◌, ◌-◌, ◌*◌, ◌%◌, ◌/◌, ◌<◌, ◌==◌, Bool, if◌then◌else◌, All, List, [], ◌∷◌, Option, length, sum_by}
+use Rattle.std.specs.Prelude.{◌≡◌, ℕ, ◌+◌, ◌-◌, ◌*◌, ◌%◌, ◌<◌, ◌==◌, if◌then◌else◌, All, List, Option, length, sum_by}
 use Rattle.c65_mach.specs.State.{Regs}
 use Rattle.c65_code.specs.declared.parts.Part.{Part}
 use Rattle.c65_code.specs.declared.parts.Part.TheVariants.{A, X, Y, Zp, N, V, Z, C}

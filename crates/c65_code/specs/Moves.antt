@@ -1,6 +1,6 @@
 -- One move of the machine on lines (docs/MEANING.md, "The line machine"). A routine is one move by its row; what a call
 -- and a return leave open may be anything.
-use Rattle.std.specs.Prelude.{◌≡◌, ℕ, zero, suc, ◌+◌, ◌-◌, ◌%◌, ◌<◌, ◌≤◌, ◌==◌, ◌⊎◌, Bool, true, false, IsTrue, if◌then◌else◌, List, [], ◌∷◌, Option, Some, None}
+use Rattle.std.specs.Prelude.{◌≡◌, ℕ, zero, suc, ◌+◌, ◌%◌, ◌<◌, ◌≤◌, ◌==◌, false, IsTrue, if◌then◌else◌, List, [], ◌∷◌, Option, Some, None}
 use Rattle.c65_mach.specs.declared.rows.Op.{Op}
 use Rattle.c65_mach.specs.declared.rows.Mode.{Mode}
 use Rattle.c65_mach.specs.declared.rows.Mode.TheVariants.{Accumulator, Immediate, ZeroPage, ZeroPageX, ZeroPageY, Absolute, AbsoluteX, AbsoluteY, IndirectX, IndirectY}
@@ -9,15 +9,13 @@ use Rattle.c65_mach.specs.Step.{after, signed, with_a, with_x, apply, stored, ch
 use Rattle.c65_code.specs.declared.parts.Part.{Part}
 use Rattle.c65_code.specs.declared.parts.Part.TheVariants.{A}
 use Rattle.c65_code.specs.declared.parts.RegSet.{RegSet}
-use Rattle.c65_code.specs.declared.routine.Routine.{Routine}
 use Rattle.c65_code.specs.declared.routine.Routine.TheVariants.{Library}
 use Rattle.c65_code.specs.declared.routine.LibraryFunction.{LibraryFunction}
-use Rattle.c65_code.specs.declared.line.Operand.{Operand}
 use Rattle.c65_code.specs.declared.line.Line.{Line}
 use Rattle.c65_code.specs.declared.line.Line.TheVariants.{Label}
 use Rattle.c65_code.specs.Parts.{has_part, union_of, minus_of}
 use Rattle.c65_code.specs.Effects.{kept_at_calls, ptr4_bytes}
-use Rattle.c65_code.specs.LineState.{Place, Bytes, write, State, Frame, zero_word, s_of, Same, IsBytes}
+use Rattle.c65_code.specs.LineState.{Place, write, State, Frame, zero_word, s_of, Same, IsBytes}
 use Rattle.c65_code.specs.Placement.{Placement, Setting, word_of}
 use Rattle.c65_code.specs.Forms.{Form, Mark, Plain, Branch, Jump, Far, Push, Pull, Depth, Return, Run, Enter, Through, Stray, form_of}
 use Rattle.c65_code.specs.Rows.{Row, Meets, row_of}

@@ -1,8 +1,6 @@
 -- The machine whose calls all enter lines, those of routines too (docs/MEANING.md, "The machine without rows"): for the
 -- proof that each routine does what its row says. It has one way on, and its weight counts instructions.
-use Rattle.std.specs.Prelude.{◌≡◌, ℕ, suc, ◌+◌, ◌-◌, ◌*◌, ◌%◌, ◌<◌, ◌≤◌, ◌==◌, ◌⊎◌, Bool, true, false, IsTrue, if◌then◌else◌, All, List, [], ◌∷◌, ◌++◌, Option, Some, None, slice_get, take, length}
-use Rattle.c65_mach.specs.declared.rows.Op.{Op}
-use Rattle.c65_mach.specs.declared.rows.Mode.{Mode}
+use Rattle.std.specs.Prelude.{◌≡◌, ℕ, suc, ◌+◌, ◌-◌, ◌*◌, ◌%◌, ◌<◌, ◌≤◌, ◌==◌, ◌⊎◌, Bool, IsTrue, if◌then◌else◌, All, List, [], ◌∷◌, ◌++◌, Option, Some, None, slice_get, take, length}
 use Rattle.c65_code.specs.declared.routine.Routine.{Routine}
 use Rattle.c65_code.specs.declared.routine.Routine.TheVariants as routines
 use Rattle.c65_code.specs.declared.routine.Width.TheVariants.{Ax}

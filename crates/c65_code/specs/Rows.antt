@@ -1,6 +1,6 @@
 -- What each routine of the runtime does (docs/MACHINE.md, "Routines"): a row of numbers, computed from the state before,
 -- and one relation that gives every row its meaning.
-use Rattle.std.specs.Prelude.{◌≡◌, ℕ, zero, suc, ◌+◌, ◌-◌, ◌*◌, ◌/◌, ◌%◌, ◌<◌, ◌≤◌, ◌==◌, ◌&&◌, ◌⊎◌, Bool, true, false, not, if◌then◌else◌, nat_lt, nat_le, List, [], ◌∷◌, ◌++◌, Option, Some, None, length, drop}
+use Rattle.std.specs.Prelude.{◌≡◌, ℕ, ◌+◌, ◌-◌, ◌*◌, ◌/◌, ◌%◌, ◌<◌, ◌≤◌, ◌⊎◌, Bool, true, false, if◌then◌else◌, nat_lt, nat_le, List, [], ◌∷◌, ◌++◌, Option, Some, None, length, drop}
 use Rattle.c65_code.specs.declared.parts.Part.{Part}
 use Rattle.c65_code.specs.declared.parts.RegSet.{RegSet}
 use Rattle.c65_code.specs.declared.routine.Count.{Count}
@@ -16,9 +16,9 @@ use Rattle.c65_code.specs.declared.routine.Routine.{Routine}
 use Rattle.c65_code.specs.declared.routine.Routine.TheVariants as routines
 use Rattle.c65_code.specs.Parts.{has_part}
 use Rattle.c65_code.specs.Effects.{routine_sets}
-use Rattle.c65_code.specs.Numbers.{words_of, tos_result, result_width, unary_result, unary_width}
+use Rattle.c65_code.specs.Numbers.{tos_result, result_width, unary_result, unary_width}
 use Rattle.c65_code.specs.Texts.{bytes_at, range_of, filled, listed, copied, text_length, common_length, difference}
-use Rattle.c65_code.specs.LineState.{Bytes, write, word_at, State, Frame, sp_of, sreg_of, ax_of, eax_of, Same}
+use Rattle.c65_code.specs.LineState.{Bytes, write, word_at, State, sp_of, sreg_of, ax_of, eax_of, Same}
 
 -- A row. `None` for a result leaves it open. `near` are the addresses that the routine counts from the sp, `far` those that
 -- it takes from elsewhere; of these it reads or writes the bytes. `room` is how far below the sp it may leave other bytes.

@@ -1,5 +1,5 @@
 -- Runs one by one: a list of the places and states after each move (docs/MEANING.md, "Runs").
-use Rattle.std.specs.Prelude.{◌≡◌, ℕ, zero, suc, ◌+◌, ◌≤◌, ◌⊎◌, List, [], ◌∷◌, Option, Some, slice_get, length, IsSome}
+use Rattle.std.specs.Prelude.{◌≡◌, ℕ, zero, suc, ◌+◌, ◌≤◌, ◌⊎◌, List, [], ◌∷◌, Some, slice_get, length, IsSome}
 use Rattle.c65_code.specs.declared.line.Line.{Line}
 use Rattle.c65_code.specs.LineState.{Place, State}
 use Rattle.c65_code.specs.Placement.{Setting}

@@ -1,12 +1,10 @@
 -- What a run keeps that stays within the stacks and the data (docs/MEANING.md, "Steady runs").
-use Rattle.std.specs.Prelude.{◌≡◌, ℕ, ◌+◌, ◌<◌, ◌≤◌, ◌⊎◌, ◌%◌, Bool, true, IsTrue, All, List, [], ◌∷◌, Option, Some, None, max, min}
-use Rattle.c65_mach.specs.declared.rows.Op.{Op}
-use Rattle.c65_mach.specs.declared.rows.Mode.{Mode}
+use Rattle.std.specs.Prelude.{◌≡◌, ℕ, ◌+◌, ◌<◌, ◌≤◌, ◌⊎◌, IsTrue, All, List, [], ◌∷◌, Option, Some, None, max, min}
 use Rattle.c65_mach.specs.Step.{Kind, Stores, Changes, kind_of}
 use Rattle.c65_code.specs.declared.routine.LibraryFunction.{LibraryFunction}
 use Rattle.c65_code.specs.declared.routine.Routine.TheVariants.{Library}
 use Rattle.c65_code.specs.declared.line.Line.{Line}
-use Rattle.c65_code.specs.LineState.{State, sp_of, s_of, zero_word, IsBytes}
+use Rattle.c65_code.specs.LineState.{State, sp_of, s_of, IsBytes}
 use Rattle.c65_code.specs.Placement.{Placement, Setting, word_of, stack_start, stack_end}
 use Rattle.c65_code.specs.Forms.{Form, Plain, Branch, Jump, Push, Depth, Pull, Return, Run, Enter, Through, form_of}
 use Rattle.c65_code.specs.Rows.{Row, row_of}

@@ -1,5 +1,5 @@
 -- Bytes in memory as the library's functions read and write them (C90 7.11).
-use Rattle.std.specs.Prelude.{◌≡◌, ℕ, zero, suc, ◌+◌, ◌-◌, ◌==◌, ◌<◌, nat_lt, Bool, if◌then◌else◌, List, [], ◌∷◌}
+use Rattle.std.specs.Prelude.{ℕ, zero, suc, ◌+◌, ◌-◌, ◌==◌, nat_lt, if◌then◌else◌, List, [], ◌∷◌}
 use Rattle.c65_code.specs.LineState.{Bytes, write}
 
 -- so many bytes from an address on

@@ -1,6 +1,5 @@
 -- How many instructions a move may take (docs/MEANING.md, "Weights"), and how many bytes a line may take.
-use Rattle.std.specs.Prelude.{◌≡◌, ℕ, ◌+◌, ◌==◌, if◌then◌else◌, List, [], ◌∷◌, Option, Some, None}
-use Rattle.c65_mach.specs.declared.rows.Op.{Op}
+use Rattle.std.specs.Prelude.{◌≡◌, ℕ, ◌+◌, List, [], ◌∷◌, Option, Some, None}
 use Rattle.c65_mach.specs.declared.rows.Mode.{Mode}
 use Rattle.c65_mach.specs.declared.rows.Mode.TheVariants.{Relative}
 use Rattle.c65_mach.specs.Step.{size_of}
@@ -18,7 +17,7 @@ use Rattle.c65_code.specs.LineState.{State}
 use Rattle.c65_code.specs.Placement.{Setting}
 use Rattle.c65_code.specs.Segments.{Segment}
 use Rattle.c65_code.specs.declared.line.Sym.{Sym}
-use Rattle.c65_code.specs.Forms.{Form, Branch, Run, Enter, Through, form_of}
+use Rattle.c65_code.specs.Forms.{Form, Branch, Run, Enter, Through}
 use Rattle.c65_code.specs.Rows.{Row, row_of}
 use Rattle.c65_code.specs.Moves.{IsCallee}
 

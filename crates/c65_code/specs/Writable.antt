@@ -1,5 +1,5 @@
 -- Which codes the assembly text can write (docs/MACHINE.md, "Symbols").
-use Rattle.std.specs.Prelude.{◌≡◌, ◌↔◌, ℕ, ◌+◌, ◌<◌, ◌≤◌, ◌⊎◌, ◌&&◌, ◌||◌, ◌==◌, Bool, true, false, IsTrue, nat_le, List, [], ◌∷◌, Option, Some, slice_get, length, decimal}
+use Rattle.std.specs.Prelude.{◌≡◌, ◌↔◌, ℕ, ◌<◌, ◌≤◌, ◌⊎◌, ◌&&◌, ◌||◌, ◌==◌, Bool, false, IsTrue, nat_le, List, ◌∷◌, Some, slice_get, length, decimal}
 use Rattle.std.specs.List.{list_all}
 use Rattle.c65_mach.specs.declared.rows.Mode.{Mode}
 use Rattle.c65_mach.specs.declared.rows.Mode.TheVariants.{Indirect}
@@ -15,7 +15,7 @@ use Rattle.c65_code.specs.declared.code.Code.{Code}
 use Rattle.c65_code.specs.declared.code.Symbol.{Symbol}
 use Rattle.c65_code.specs.declared.code.Datum.{Datum}
 use Rattle.c65_code.specs.declared.code.DatumKind.{DatumKind}
-use Rattle.c65_code.specs.declared.code.DatumKind.TheVariants.{Data, Const, Zero}
+use Rattle.c65_code.specs.declared.code.DatumKind.TheVariants.{Zero}
 use Rattle.c65_code.specs.declared.code.DataCell.{DataCell}
 use Rattle.c65_code.specs.declared.code.DataCell.TheVariants.{Byte, Address}
 use Rattle.c65_code.specs.Parts.{minus_of, no_parts}
@@ -84,8 +84,8 @@ IsCellKnown count (Address sym offset) = IsKnown count sym
 
 -- zero data have no cells, other data have cells alone
 abbrev pub IsShaped : DatumKind → ℕ → ℕ → Type 0
-IsShaped Zero cells zeros = cells ≡ 0
-IsShaped _ cells zeros = (1 ≤ cells) × (zeros ≡ 0)
+IsShaped Zero cells blank = cells ≡ 0
+IsShaped _ cells blank = (1 ≤ cells) × (blank ≡ 0)
 
 pub record IsWritable (code : Code) : Type 0 where
   pub spelled : (i : ℕ) (symbol : Symbol) → slice_get code.symbols i ≡ Some symbol → IsSpelling symbol.spelling
