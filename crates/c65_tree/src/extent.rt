@@ -1,5 +1,5 @@
 // How deep and how large trees are, in one walk.
-ghost use Rattle.std.specs.Prelude.{◌≡◌, ◌+◌, ◌≤◌, min, max};
+ghost use Rattle.std.specs.Prelude.{◌≡◌, ◌+◌, ◌≤◌, min, max, nat_le};
 ghost use Rattle.c65_tree.specs.Lists.{deepest, total, of_option};
 ghost use Rattle.c65_tree.specs.Depth.{expr_depth, type_depth, specifiers_depth, specifier_depth, declarator_depth, params_depth};
 ghost use Rattle.c65_tree.specs.Nodes.{expr_nodes, type_nodes, specifiers_nodes, specifier_nodes, declarator_nodes, params_nodes};
@@ -52,6 +52,13 @@ pub fn depth(expr: &Expr) -> u32
     ensures { result ≡ expr_depth (expr_of expr.now) }
 {
     expr_extent(expr).depth
+}
+
+/// Whether an expression is no deeper than this.
+pub fn is_within(expr: &Expr, limit: u16) -> bool
+    ensures { result ≡ nat_le (expr_depth (expr_of expr.now)) limit }
+{
+    expr_extent(expr).depth <= limit as u32
 }
 
 #[cycle(extent)]

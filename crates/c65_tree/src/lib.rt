@@ -17,7 +17,7 @@ pub use expr::{
     Declarator, DeclaratorKind, Enumerator, Expr, ExprKind, MemberDecl, MemberDeclarator, Param,
     Params, Specifier, SpecifierKind, Specifiers, Storage, TypeName,
 };
-pub use extent::depth;
+pub use extent::{depth, is_within};
 pub use grow::{
     with_enumerator, with_expr, with_init, with_member, with_member_decl, with_param,
     with_specifier, with_stmt,
