@@ -1,7 +1,7 @@
 // The lexer: a text's preprocessing tokens, one after another.
 ghost use Rattle.std.specs.Prelude.{◌≡◌};
 
-use crate::place::Place;
+use crate::place::{Place, read};
 use crate::scan::{Scanned, Spelled, scan};
 use crate::token::PpToken;
 use c65_base::{Code, Names, Pos, Refusal, Size};
@@ -27,7 +27,7 @@ impl Model for Lexer {
 }
 
 impl Lexer {
-    ghost use Rattle.std.specs.Prelude.{◌↔◌, OnErr};
+    ghost use Rattle.std.specs.Prelude.{◌↔◌, [], IsTrue, OnErr};
     ghost use Rattle.c65_lex.specs.Unread.{unread, IsAnswered, Answers, IsKept};
     ghost use Rattle.c65_lex.specs.Next.{Next, IsNext, ended};
 
@@ -46,6 +46,13 @@ impl Lexer {
             file,
             alloc,
         }
+    }
+
+    /// Whether the text is at its end. It takes no memory.
+    pub fn is_at_end(&self) -> bool
+        ensures { IsTrue result ↔ (self.now.cells ≡ []) }
+    {
+        read(&self.text, self.place).is_none()
     }
 
     /// The next token; None at the end of the text. `header` allows a header name. Refuses a comment

@@ -1,0 +1,7 @@
+use Rattle.std.proofs.Common.{◌≡◌, ◌⊎◌, Ok}
+use Rattle.c65_io.specs.Causes.{Rose}
+use Rattle.c65_ppdir.specs.Counts.{Serves, outside}
+use Rattle.c65_ppdir.proofs.files.find_first.Given as goal
+
+abbrev pub invariant-loop-path : goal.invariant-loop-path
+invariant-loop-path g l = (Serves {T = Unit {0}} l.fn.folders (outside (g.F.Files.contents l.fn.files) (g.F.Files.write_faults l.fn.files) (g.F.Files.faults l.fn.files) (g.F.Files.misses l.fn.files)) (outside (g.F.Files.contents l.files) (g.F.Files.write_faults l.files) (g.F.Files.faults l.files) (g.F.Files.misses l.files)) (Ok tt)) × (Rose (g.F.Files.misses l.fn.files) (g.F.Files.misses l.files) ⊎ (l.path-index ≡ 0))

@@ -1,0 +1,11 @@
+pub mod Arithmetic
+pub mod Expressions
+pub mod Readings
+pub mod Causes
+pub mod Conditions
+pub mod DirectiveLines
+pub mod Tokens
+pub mod Misfits
+pub mod Headers
+pub mod Search
+pub mod Counts

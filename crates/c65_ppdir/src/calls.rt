@@ -1,0 +1,97 @@
+// Calls of the crates below, with the refusals that preprocessing has.
+ghost use Rattle.std.specs.Prelude.{◌≡◌, IfErr};
+ghost use Rattle.c65_macro.specs.Table.{is_name_kind};
+ghost use Rattle.c65_scan.specs.Tokens.{spelling_in};
+ghost use Rattle.c65_ppdir.specs.Causes.{Stops};
+ghost use Rattle.c65_ppdir.specs.Tokens;
+
+use crate::line::Cut;
+use c65_base::{Code, Name, Names, Pos, Refusal, Size};
+use c65_lex::{Lexer, PpKind, PpToken};
+use c65_macro::{Macro, Macros};
+
+/// A fault at a place.
+pub fn at(code: Code, pos: Pos) -> Refusal
+    ensures { result ≡ Refusal.At code pos }
+{
+    Refusal::At { code, pos }
+}
+
+/// The spelling of a name; nothing for one that the table did not give.
+pub fn spelling_of<'a>(names: &'a Names, name: Name) -> &'a [u8]
+    ensures { result.now ≡ spelling_in names.now name }
+{
+    match names.spelling(name) {
+        Some(spelling) => spelling,
+        None => &[],
+    }
+}
+
+/// The name of a spelling.
+pub fn intern(names: &mut Names, spelling: &[u8]) -> Result<Name, Refusal>
+    ensures { IfErr result Stops }
+{
+    names.intern(spelling)
+}
+
+/// The next token of a text.
+pub fn next_token(
+    lexer: &mut Lexer,
+    names: &mut Names,
+    header: bool,
+) -> Result<Option<PpToken>, Cut> {
+    match lexer.next(names, header) {
+        Ok(token) => Ok(token),
+        Err(Refusal::At { pos, .. }) => Err(Cut::OpenComment(pos)),
+        Err(Refusal::TooLarge {
+            limit: Size::Line, ..
+        }) => Err(Cut::LongLine),
+        Err(Refusal::TooLarge { .. }) => Err(Cut::Names),
+        Err(_) => Err(Cut::NoMemory),
+    }
+}
+
+/// The expansion of a list of tokens.
+pub fn expand(
+    macros: &Macros,
+    list: &[PpToken],
+    names: &mut Names,
+) -> Result<Vec<PpToken>, Refusal>
+    ensures { IfErr result Stops }
+{
+    macros.expand(list, names)
+}
+
+/// Defines a macro whose name stands at a place.
+pub fn define(macros: &mut Macros, item: Macro, pos: Pos) -> Result<(), Refusal>
+    ensures { IfErr result Stops }
+{
+    macros.define(item, pos)
+}
+
+/// Whether a token is the punctuator of this spelling.
+pub fn is_mark(names: &Names, token: &PpToken, spelling: &[u8]) -> bool
+    ensures { result ≡ Tokens.is_mark names.now spelling.now token.now }
+{
+    match token.kind {
+        PpKind::Punct => spelling_of(names, token.spelling) == spelling,
+        _ => false,
+    }
+}
+
+/// Whether a token is a name.
+pub fn is_name(token: &PpToken) -> bool
+    ensures { result ≡ is_name_kind token.now.kind }
+{
+    match token.kind {
+        PpKind::Name => true,
+        _ => false,
+    }
+}
+
+/// Whether a token is the name of this spelling.
+pub fn is_word(names: &Names, token: &PpToken, spelling: &[u8]) -> bool
+    ensures { result ≡ Tokens.is_word names.now spelling.now token.now }
+{
+    is_name(token) && spelling_of(names, token.spelling) == spelling
+}

@@ -1,0 +1,235 @@
+// The entry of the crate: a file and all that it includes.
+ghost use Rattle.std.specs.Prelude.{◌≡◌, IfErr};
+ghost use Rattle.c65_ppdir.specs.Causes.{Stops, StopsReading, StopsUnit, StopsCommand};
+ghost use Rattle.c65_ppdir.specs.Counts.{FaultCause, MissCause, Relocates, Serves, outside};
+
+use crate::command::{Define, define_all};
+use crate::files::{Found, complete, seek, seek_main};
+use crate::headers::BuiltIn;
+use crate::include::Header;
+use crate::unit::{Event, Unit};
+use c65_base::{Names, Options, Refusal, Text};
+use c65_io::Files;
+use c65_lex::{Paths, PpTokens, PpUnit};
+use c65_macro::Macros;
+use std::alloc::Global;
+
+/// Opens a file with this path and text, and adds its path to the unit's list.
+fn open(
+    unit: &mut Unit,
+    names: &mut Names,
+    paths: &mut Vec<Text>,
+    path: Text,
+    text: Vec<u8>,
+) -> Result<(), Refusal>
+    ensures { IfErr result Stops }
+{
+    let number = paths.len() as u64;
+    unit.open(names, path.as_slice(), text, number)?;
+    paths.push(path)?;
+    Ok(())
+}
+
+/// Opens a built-in header.
+fn open_built_in(
+    alloc: Global,
+    unit: &mut Unit,
+    names: &mut Names,
+    paths: &mut Vec<Text>,
+    header: BuiltIn,
+) -> Result<(), Refusal>
+    ensures { IfErr result Stops }
+{
+    let path = Text::copy_of(alloc, header.path())?;
+    let text = unit.built_in(header)?;
+    open(unit, names, paths, path, text)
+}
+
+/// Opens a file that was found.
+fn enter<F: Files>(
+    alloc: Global,
+    files: &mut F,
+    folders: &[Text],
+    unit: &mut Unit,
+    names: &mut Names,
+    paths: &mut Vec<Text>,
+    found: Found,
+) -> Result<(), Refusal>
+    ensures serves { Serves folders.now (outside (F.contents files.old) (F.write_faults files.old) (F.faults files.old) (F.misses files.old))
+        (outside (F.contents files.new) (F.write_faults files.new) (F.faults files.new) (F.misses files.new)) result }
+{
+    match unit.check_room() {
+        Ok(()) => {}
+        Err(refusal) => return Err(refusal),
+    }
+    match found {
+        Found::File(path, first, name) => {
+            match complete(files, folders, path.as_slice(), name, first) {
+                Ok(text) => open(unit, names, paths, path, text),
+                Err(refusal) => Err(refusal),
+            }
+        }
+        Found::BuiltIn(header) => open_built_in(alloc, unit, names, paths, header),
+    }
+}
+
+/// The path of the file of a number.
+fn path_at(paths: &[Text], number: u64) -> &[u8] {
+    match paths.get(number as usize) {
+        Some(path) => path.as_slice(),
+        None => &[],
+    }
+}
+
+/// Includes a header in a file by its number.
+fn include<F: Files>(
+    alloc: Global,
+    files: &mut F,
+    folders: &[Text],
+    unit: &mut Unit,
+    names: &mut Names,
+    paths: &mut Vec<Text>,
+    header: Header,
+    number: u64,
+) -> Result<(), Refusal>
+    ensures serves { Serves folders.now (outside (F.contents files.old) (F.write_faults files.old) (F.faults files.old) (F.misses files.old))
+        (outside (F.contents files.new) (F.write_faults files.new) (F.faults files.new) (F.misses files.new)) result }
+{
+    match seek(alloc, files, folders, path_at(paths, number), header) {
+        Ok(found) => enter(alloc, files, folders, unit, names, paths, found),
+        Err(refusal) => Err(refusal),
+    }
+}
+
+/// Reads all lines of a unit whose first file is open.
+fn read_lines<F: Files>(
+    alloc: Global,
+    files: &mut F,
+    folders: &[Text],
+    unit: Unit,
+    names: &mut Names,
+    paths: &mut Vec<Text>,
+) -> Result<PpTokens, Refusal>
+    ensures serves { Serves folders.now (outside (F.contents files.old) (F.write_faults files.old) (F.faults files.old) (F.misses files.old))
+        (outside (F.contents files.new) (F.write_faults files.new) (F.faults files.new) (F.misses files.new)) result }
+{
+    let mut unit = unit;
+    for _ in 0..u64::MAX {
+        match unit.advance(names) {
+            Ok(Event::Line) => {}
+            Ok(Event::Include(header, number)) => {
+                match include(
+                    alloc, files, folders, &mut unit, names, paths, header, number,
+                ) {
+                    Ok(()) => {}
+                    Err(refusal) => return Err(refusal),
+                }
+            }
+            Ok(Event::End) => return Ok(unit.into_tokens()),
+            Err(refusal) => return Err(refusal),
+        }
+    }
+    Err(Refusal::OutOfMemory)
+}
+
+/// Reads a unit from its first file on.
+fn read_unit<F: Files>(
+    alloc: Global,
+    files: &mut F,
+    folders: &[Text],
+    path: &Text,
+    unit: Unit,
+    names: &mut Names,
+    paths: &mut Vec<Text>,
+) -> Result<PpTokens, Refusal>
+    ensures serves { Serves folders.now (outside (F.contents files.old) (F.write_faults files.old) (F.faults files.old) (F.misses files.old))
+        (outside (F.contents files.new) (F.write_faults files.new) (F.faults files.new) (F.misses files.new)) result }
+{
+    let mut unit = unit;
+    let found = match seek_main(alloc, files, folders, path) {
+        Ok(found) => found,
+        Err(refusal) => return Err(refusal),
+    };
+    match enter(alloc, files, folders, &mut unit, names, paths, found) {
+        Ok(()) => read_lines(alloc, files, folders, unit, names, paths),
+        Err(refusal) => Err(refusal),
+    }
+}
+
+/// The path of a number in a unit's list.
+fn path_of(alloc: Global, paths: Vec<Text>, number: u64) -> Text {
+    let mut paths = paths;
+    if number < paths.len() as u64 {
+        paths.swap_remove(number as usize)
+    } else {
+        Text::from_vec(Vec::new(alloc))
+    }
+}
+
+/// A refusal with its file's path in the place of its number.
+fn located(alloc: Global, refusal: Refusal, paths: Vec<Text>) -> Refusal
+    requires { StopsReading refusal }
+    ensures refused { StopsUnit result }
+    ensures same { Relocates refusal result }
+{
+    match refusal {
+        Refusal::At { code, pos } => Refusal::Source {
+            code,
+            file: path_of(alloc, paths, pos.file),
+            line: pos.line,
+        },
+        other => other,
+    }
+}
+
+/// The preprocessing tokens of a file with all that it includes (C90 5.1.1.2, phases 1 to 4). The definitions stand before its
+/// first line; headers are sought in the folders.
+///
+/// The definitions and the texts are refused at their first fault: the one that the least front of what was read decides.
+pub fn preprocess<F: Files>(
+    alloc: Global,
+    files: &mut F,
+    options: &Options,
+    defines: &[Define],
+    folders: &[Text],
+    path: &Text,
+    names: &mut Names,
+) -> Result<PpUnit, Refusal>
+    ensures refused { IfErr result StopsUnit }
+    ensures read { FaultCause (F.faults files.old) (F.faults files.new) result }
+    ensures missing { MissCause folders.now (F.misses files.old) (F.misses files.new) result }
+    ensures same { F.contents files.new ≡ F.contents files.old }
+    ensures writes { F.write_faults files.new ≡ F.write_faults files.old }
+{
+    let unit = match begin_unit(alloc, options, defines, names) {
+        Ok(unit) => unit,
+        Err(refusal) => return Err(refusal),
+    };
+    let mut paths = Vec::new(alloc);
+    match read_unit(alloc, files, folders, path, unit, names, &mut paths) {
+        Ok(tokens) => Ok(PpUnit {
+            tokens,
+            files: Paths::from_vec(paths),
+        }),
+        Err(refusal) => Err(located(alloc, refusal, paths)),
+    }
+}
+
+/// A unit with the predefined macros and those of the command line.
+fn begin_unit(
+    alloc: Global,
+    options: &Options,
+    defines: &[Define],
+    names: &mut Names,
+) -> Result<Unit, Refusal>
+    ensures { IfErr result StopsCommand }
+{
+    let mut macros = match Macros::new(alloc, options, names) {
+        Ok(macros) => macros,
+        Err(refusal) => return Err(refusal),
+    };
+    match define_all(alloc, &mut macros, names, defines) {
+        Ok(()) => Ok(Unit::new(alloc, options, macros)),
+        Err(refusal) => Err(refusal),
+    }
+}

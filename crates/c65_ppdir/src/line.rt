@@ -1,0 +1,124 @@
+// A line of a directive.
+ghost use Rattle.std.specs.Prelude.{◌≡◌, IfErr};
+ghost use Rattle.c65_ppdir.specs.Causes.{Stops};
+ghost use Rattle.c65_ppdir.specs.Misfits.{IsMisfit};
+ghost use Rattle.c65_ppdir.specs.declared.line.Misfit.TheVariants.{Stopped};
+ghost use Rattle.c65_base.specs.declared.refusal.Refusal.TheVariants.{OutOfMemory};
+
+use crate::calls::at;
+use c65_base::{Code, Pos, Refusal, Size};
+use c65_lex::PpToken;
+use std::alloc::{AllocError, AllocFailed};
+
+/// Why tokens have not the form that a directive needs.
+#[derive(Debug, Drop)]
+pub enum Misfit {
+    /// The line ends too early.
+    Short,
+    /// A token stands where it can not.
+    Wrong,
+    /// Something else came first.
+    Stopped(Refusal),
+}
+
+impl From<AllocError> for Misfit {
+    ghost from_gives = { λ _ m. m ≡ Stopped OutOfMemory };
+
+    fn from(_: AllocError) -> Misfit {
+        Misfit::Stopped(Refusal::OutOfMemory)
+    }
+}
+
+impl<T: Drop> From<AllocFailed<T>> for Misfit {
+    ghost from_gives = { λ _ m. m ≡ Stopped OutOfMemory };
+
+    fn from(_: AllocFailed<T>) -> Misfit {
+        Misfit::Stopped(Refusal::OutOfMemory)
+    }
+}
+
+/// What cuts a line off before its end.
+#[derive(Clone, Copy, Debug, PartialEq, Eq)]
+pub enum Cut {
+    /// A comment without its end, which begins at this place.
+    OpenComment(Pos),
+    /// More bytes than a line may have.
+    LongLine,
+    /// More bytes than a file may have.
+    LongFile,
+    /// One spelling too many.
+    Names,
+    NoMemory,
+}
+
+impl Cut {
+    pub fn refusal(self) -> Refusal
+        ensures { Stops result }
+    {
+        match self {
+            Cut::OpenComment(pos) => at(Code::OpenComment, pos),
+            Cut::LongLine => Refusal::TooLarge {
+                limit: Size::Line,
+                value: 32_768,
+            },
+            Cut::LongFile => Refusal::TooLarge {
+                limit: Size::File,
+                value: 1_048_577,
+            },
+            Cut::Names => Refusal::TooLarge {
+                limit: Size::Names,
+                value: 65_536,
+            },
+            Cut::NoMemory => Refusal::OutOfMemory,
+        }
+    }
+}
+
+/// The place of a line's #, the tokens behind it, the number of the line on which it ends, and what cuts it off before.
+#[derive(Drop)]
+pub struct Line {
+    pub hash: Pos,
+    pub tokens: Vec<PpToken>,
+    pub end: u32,
+    pub cut: Option<Cut>,
+}
+
+impl Line {
+    /// The tokens behind the directive's name.
+    pub fn rest(&self) -> &[PpToken] {
+        match self.tokens.split_first() {
+            Some((_, rest)) => rest,
+            None => &[],
+        }
+    }
+
+    /// Whether the line has its end.
+    pub fn is_whole(&self) -> bool {
+        self.cut.is_none()
+    }
+
+    /// Refuses a line that is cut off.
+    pub fn check(&self) -> Result<(), Refusal>
+        ensures { IfErr result Stops }
+    {
+        match self.cut {
+            Some(cut) => Err(cut.refusal()),
+            None => Ok(()),
+        }
+    }
+
+    /// The refusal of a line without the form that it needs. What cuts it off comes before what its end would decide.
+    pub fn refusal(&self, misfit: Misfit) -> Refusal
+        requires { IsMisfit misfit }
+        ensures { Stops result }
+    {
+        match misfit {
+            Misfit::Stopped(refusal) => refusal,
+            Misfit::Wrong => at(Code::DirectiveForm, self.hash),
+            Misfit::Short => match self.cut {
+                Some(cut) => cut.refusal(),
+                None => at(Code::DirectiveForm, self.hash),
+            },
+        }
+    }
+}

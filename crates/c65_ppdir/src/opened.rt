@@ -1,0 +1,188 @@
+// A file that is open: what is left of its text, how its lines are counted, and its groups.
+ghost use Rattle.std.specs.Prelude.{IfErr};
+ghost use Rattle.c65_ppdir.specs.Causes.{Stops};
+
+use crate::calls::{is_mark, is_word, next_token};
+use crate::condition::Groups;
+use crate::line::{Cut, Line};
+use crate::numbering::Count;
+use c65_base::{Name, Names, Pos, Refusal};
+use c65_lex::{Lexer, PpKind, PpToken};
+use std::alloc::Global;
+
+/// How many bytes a file may have.
+pub const MOST: usize = 1_048_576;
+
+/// A file that is open.
+#[derive(Drop)]
+pub struct Opened {
+    lexer: Lexer,
+    ending: Ending,
+    /// Its number in the unit's list.
+    pub number: u64,
+    /// Its name as a string literal.
+    pub literal: Name,
+    pub count: Count,
+    pub groups: Groups,
+}
+
+/// Where the bytes that are kept of a file end.
+#[derive(Clone, Copy, Debug, PartialEq, Eq)]
+enum Ending {
+    /// At the file's end.
+    Whole,
+    /// Where a line ends, and more bytes follow than a file may have.
+    BetweenLines,
+    /// Within a line, which goes on with bytes that a file may not have.
+    InLine,
+}
+
+/// What is read next.
+#[derive(Drop)]
+pub enum Read {
+    Token(PpToken),
+    LineEnd(PpToken),
+    /// The file's end.
+    End,
+    /// What cuts the line off. Where the file is too long the token before may go on.
+    Cut(Cut),
+}
+
+/// What is read next of lines that are skipped.
+#[derive(Drop)]
+pub enum Unseen {
+    /// A # at this place.
+    Hash(Pos),
+    Token,
+    LineEnd,
+    End,
+    Cut(Cut),
+}
+
+fn ending_of(text: &[u8]) -> Ending {
+    match text {
+        [.., b'\\', b'\n'] => Ending::InLine,
+        [.., b'\\', b'\r', b'\n'] => Ending::InLine,
+        [.., b'\n'] => Ending::BetweenLines,
+        _ => Ending::InLine,
+    }
+}
+
+fn is_line_end(token: &PpToken) -> bool {
+    match token.kind {
+        PpKind::LineEnd => true,
+        _ => false,
+    }
+}
+
+impl Opened {
+    /// A file with this text, of which one byte more than a file may have is kept.
+    pub fn new(alloc: Global, text: Vec<u8>, number: u64, literal: Name) -> Opened {
+        let mut text = text;
+        let mut ending = Ending::Whole;
+        if text.len() > MOST {
+            text.truncate(MOST);
+            ending = ending_of(&text);
+        }
+        Opened {
+            lexer: Lexer::new(alloc, text, number),
+            ending,
+            number,
+            literal,
+            count: Count::own(),
+            groups: Groups::new(alloc),
+        }
+    }
+
+    /// Reads a token.
+    pub fn read(&mut self, names: &mut Names, header: bool) -> Read
+    {
+        match next_token(&mut self.lexer, names, header) {
+            Ok(Some(token)) => {
+                if !is_line_end(&token) {
+                    Read::Token(token)
+                } else if self.ending == Ending::InLine && self.lexer.is_at_end() {
+                    Read::Cut(Cut::LongFile)
+                } else {
+                    Read::LineEnd(token)
+                }
+            }
+            Ok(None) if self.ending == Ending::Whole => Read::End,
+            Ok(None) => Read::Cut(Cut::LongFile),
+            Err(Cut::OpenComment(_)) if self.ending != Ending::Whole => Read::Cut(Cut::LongFile),
+            Err(cut) => Read::Cut(cut),
+        }
+    }
+
+    /// Reads a token of a line that is skipped, whose spelling gets no name.
+    pub fn read_unseen(&mut self, alloc: Global) -> Unseen
+    {
+        let mut names = Names::new(alloc);
+        match self.read(&mut names, false) {
+            Read::Token(token) if is_mark(&names, &token, b"#") => Unseen::Hash(token.pos),
+            Read::Token(_) => Unseen::Token,
+            Read::LineEnd(_) => Unseen::LineEnd,
+            Read::End => Unseen::End,
+            Read::Cut(cut) => Unseen::Cut(cut),
+        }
+    }
+
+    /// Skips the rest of a line.
+    pub fn skip_line(&mut self, alloc: Global) -> Result<(), Refusal>
+        ensures { IfErr result Stops }
+    {
+        for _ in 0..u64::MAX {
+            match self.read_unseen(alloc) {
+                Unseen::Hash(_) | Unseen::Token => {}
+                Unseen::LineEnd | Unseen::End => return Ok(()),
+                Unseen::Cut(cut) => return Err(cut.refusal()),
+            }
+        }
+        Ok(())
+    }
+
+    /// Reads the line behind a #. A header name may stand behind `include`.
+    pub fn read_line(
+        &mut self,
+        alloc: Global,
+        names: &mut Names,
+        hash: Pos,
+    ) -> Result<Line, Refusal>
+        ensures { IfErr result Stops }
+    {
+        let mut tokens: Vec<PpToken> = Vec::new(alloc);
+        let mut end = hash.line;
+        let mut cut = None;
+        for _ in 0..u64::MAX {
+            match self.read(names, allows_header(names, &tokens)) {
+                Read::Token(token) => tokens.push(token)?,
+                Read::LineEnd(token) => {
+                    end = token.pos.line;
+                    break;
+                }
+                Read::End => break,
+                Read::Cut(found) => {
+                    if found == Cut::LongFile {
+                        let _ = tokens.pop();
+                    }
+                    cut = Some(found);
+                    break;
+                }
+            }
+        }
+        Ok(Line {
+            hash,
+            tokens,
+            end,
+            cut,
+        })
+    }
+}
+
+/// Whether a header name may stand behind these tokens of a directive (C90 6.1.7).
+fn allows_header(names: &Names, tokens: &[PpToken]) -> bool {
+    match tokens {
+        [only] => is_word(names, only, b"include"),
+        _ => false,
+    }
+}
