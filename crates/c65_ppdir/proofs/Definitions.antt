@@ -1,5 +1,5 @@
 -- A definition is refused for faults that a unit may have.
-use Rattle.std.proofs.Common.{◌≡◌, ℕ, List, [], ◌∷◌, Bool, true, false, Option, Some, None, Result, Ok, Err, subst}
+use Rattle.std.proofs.Common.{ℕ, List, [], ◌∷◌, Bool, true, false, Option, Some, None, Result, Ok, Err, subst}
 use Rattle.std.specs.Prelude.{IfErr, IfSome, if◌then◌else◌, refl, ◌&&◌, ◌==◌, ◌++◌, nat_lt, length}
 use Rattle.c65_base.specs.declared.code.Code.TheVariants as codes
 use Rattle.c65_base.specs.declared.refusal.Size.TheVariants as sizes

@@ -1,5 +1,5 @@
 -- Groups of #if, #elif, #else and #endif (C90 6.8.1). The innermost open group is the first of a list.
-use Rattle.std.specs.Prelude.{ℕ, List, [], ◌∷◌, length, reverse, Bool, true, false, nat_le, Option, Some, None, Result, Ok, Err, if◌then◌else◌}
+use Rattle.std.specs.Prelude.{List, [], ◌∷◌, length, reverse, Bool, true, false, nat_le, Option, Some, None, Result, Ok, Err, if◌then◌else◌}
 use Rattle.c65_base.specs.declared.code.Code.TheVariants.{LooseConditional}
 use Rattle.c65_base.specs.declared.refusal.Pos.{Pos}
 use Rattle.c65_base.specs.declared.refusal.Size.TheVariants.{Conditionals}

@@ -1,5 +1,5 @@
 -- What reading files does to their counts of faults, and which refusals it has.
-use Rattle.std.specs.Prelude.{◌≡◌, ◌≤◌, ◌⊎◌, ℕ, List, [], Bool, false, Option, Some, None, Result, Ok, Err, IfErr, ⊤}
+use Rattle.std.specs.Prelude.{◌≡◌, ◌≤◌, ◌⊎◌, ℕ, List, [], false, Option, None, Result, Ok, Err, IfErr, ⊤}
 use Rattle.c65_base.specs.declared.refusal.Refusal.{Refusal}
 use Rattle.c65_base.specs.declared.refusal.Refusal.TheVariants as refusals
 use Rattle.c65_io.specs.Causes.{Rose}

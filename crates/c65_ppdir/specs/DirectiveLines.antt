@@ -2,7 +2,7 @@
 use Rattle.std.specs.Prelude.{ℕ, List, [], ◌∷◌, Option, Some, None, find, codes, bytes_eq, if◌then◌else◌}
 use Rattle.c65_base.specs.declared.refusal.Pos.{Pos}
 use Rattle.c65_lex.specs.declared.token.PpToken.{PpToken}
-use Rattle.c65_macro.specs.Table.{is_name_kind, is_punct_kind}
+use Rattle.c65_macro.specs.Table.{is_name_kind}
 use Rattle.c65_scan.specs.Tokens.{spelling_in}
 use Rattle.c65_ppdir.specs.declared.directive.Directive.{Directive}
 use Rattle.c65_ppdir.specs.declared.directive.Directive.TheVariants as directives

@@ -1,5 +1,5 @@
 -- Constant expressions of #if (C90 6.4 and 6.8.1), read with a stack of what is open: one step for each symbol.
-use Rattle.std.specs.Prelude.{ℕ, List, [], ◌∷◌, Bool, true, false, nat_le, if◌then◌else◌, Option, Some, None}
+use Rattle.std.specs.Prelude.{ℕ, List, [], ◌∷◌, nat_le, if◌then◌else◌, Option, Some, None}
 use Rattle.c65_base.specs.declared.operators.BinaryOp.TheVariants as ops
 use Rattle.c65_ppdir.specs.declared.value.Value.{Value}
 use Rattle.c65_ppdir.specs.declared.value.Prefix.TheVariants as prefixes

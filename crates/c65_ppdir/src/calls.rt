@@ -43,20 +43,19 @@ pub fn next_token(
     match lexer.next(names, header) {
         Ok(token) => Ok(token),
         Err(Refusal::At { pos, .. }) => Err(Cut::OpenComment(pos)),
-        Err(Refusal::TooLarge {
-            limit: Size::Line, ..
-        }) => Err(Cut::LongLine),
+        Err(
+            Refusal::TooLarge {
+                limit: Size::Line,
+                ..
+            },
+        ) => Err(Cut::LongLine),
         Err(Refusal::TooLarge { .. }) => Err(Cut::Names),
         Err(_) => Err(Cut::NoMemory),
     }
 }
 
 /// The expansion of a list of tokens.
-pub fn expand(
-    macros: &Macros,
-    list: &[PpToken],
-    names: &mut Names,
-) -> Result<Vec<PpToken>, Refusal>
+pub fn expand(macros: &Macros, list: &[PpToken], names: &mut Names) -> Result<Vec<PpToken>, Refusal>
     ensures { IfErr result Stops }
 {
     macros.expand(list, names)

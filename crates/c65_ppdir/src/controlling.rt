@@ -109,10 +109,7 @@ fn has_unsigned_suffix(spelling: &[u8]) -> bool {
 /// The value of a number or a character constant: unsigned by its suffix, or where long has not the value.
 fn operand(kind: PpKind, spelling: &[u8], value: u32) -> Symbol {
     let is_unsigned = kind == PpKind::Number && has_unsigned_suffix(spelling);
-    Symbol::Operand(make_value(
-        is_unsigned || value > 2_147_483_647,
-        i64::from(value),
-    ))
+    Symbol::Operand(make_value(is_unsigned || value > 2_147_483_647, i64::from(value)))
 }
 
 /// Whether a fault is that of a token which is none; that a constant is no integer is not among them.

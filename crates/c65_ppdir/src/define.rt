@@ -18,11 +18,7 @@ struct Shape {
 }
 
 /// A macro with these parameters and this body.
-fn with_parameters(
-    alloc: Global,
-    params: Vec<Name>,
-    body: &[PpToken],
-) -> Result<Shape, Misfit>
+fn with_parameters(alloc: Global, params: Vec<Name>, body: &[PpToken]) -> Result<Shape, Misfit>
     ensures { IfErr result IsMisfit }
 {
     Ok(Shape {

@@ -95,8 +95,7 @@ impl Opened {
     }
 
     /// Reads a token.
-    pub fn read(&mut self, names: &mut Names, header: bool) -> Read
-    {
+    pub fn read(&mut self, names: &mut Names, header: bool) -> Read {
         match next_token(&mut self.lexer, names, header) {
             Ok(Some(token)) => {
                 if !is_line_end(&token) {
@@ -115,8 +114,7 @@ impl Opened {
     }
 
     /// Reads a token of a line that is skipped, whose spelling gets no name.
-    pub fn read_unseen(&mut self, alloc: Global) -> Unseen
-    {
+    pub fn read_unseen(&mut self, alloc: Global) -> Unseen {
         let mut names = Names::new(alloc);
         match self.read(&mut names, false) {
             Read::Token(token) if is_mark(&names, &token, b"#") => Unseen::Hash(token.pos),

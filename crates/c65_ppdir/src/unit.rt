@@ -112,10 +112,12 @@ impl Unit {
     {
         match self.output.flush(&self.macros, names) {
             // These are found only where the list ends.
-            Err(Refusal::At {
-                code: Code::OpenArguments,
-                ..
-            }) => fault,
+            Err(
+                Refusal::At {
+                    code: Code::OpenArguments,
+                    ..
+                },
+            ) => fault,
             Err(Refusal::OutOfMemory) | Ok(()) => fault,
             Err(refusal) => refusal,
         }
@@ -136,8 +138,7 @@ impl Unit {
         }
     }
 
-    fn read(&mut self, names: &mut Names) -> Read
-    {
+    fn read(&mut self, names: &mut Names) -> Read {
         match self.opened.last_mut() {
             Some(file) => file.read(names, false),
             None => Read::End,
@@ -256,12 +257,7 @@ impl Unit {
     }
 
     /// Does what a directive other than #include says.
-    fn obey(
-        &mut self,
-        names: &mut Names,
-        directive: Directive,
-        line: Line,
-    ) -> Result<(), Refusal>
+    fn obey(&mut self, names: &mut Names, directive: Directive, line: Line) -> Result<(), Refusal>
         ensures { IfErr result Stops }
     {
         match directive {
@@ -327,12 +323,7 @@ impl Unit {
     }
 
     /// Reads the condition of a part of the innermost group, and takes the part where it holds.
-    fn decide(
-        &mut self,
-        names: &mut Names,
-        directive: Directive,
-        line: Line,
-    ) -> Result<(), Refusal>
+    fn decide(&mut self, names: &mut Names, directive: Directive, line: Line) -> Result<(), Refusal>
         ensures { IfErr result Stops }
     {
         let holds = match directive {

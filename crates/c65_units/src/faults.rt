@@ -71,7 +71,11 @@ fn faults_have_their_lines(rt: HostRuntime) -> Result<(), Fail> {
         ("a\n#endif", Code::LooseConditional, 2),
         ("#if 1\n#else\n#else\n#endif", Code::LooseConditional, 3),
         ("#if 0\n#else\n#elif 1\n#endif", Code::LooseConditional, 3),
-        ("#if 0\n#if 1\n#else\n#else\n#endif\n#endif", Code::LooseConditional, 4),
+        (
+            "#if 0\n#if 1\n#else\n#else\n#endif\n#endif",
+            Code::LooseConditional,
+            4,
+        ),
         ("\n#if 1\n", Code::OpenConditional, 2),
         ("\n#if 0\n#if 1\n#endif", Code::OpenConditional, 2),
         ("#if 1\n#if 1\n", Code::OpenConditional, 1),

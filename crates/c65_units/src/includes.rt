@@ -23,7 +23,10 @@ const TREE: [(&str, &str); 8] = [
 #[test]
 fn files_are_sought_in_order(rt: HostRuntime) -> Result<(), Fail> {
     let rows: [(&str, &str); 13] = [
-        ("#include \"d/x.h\"\n__FILE__ __LINE__", "beside \"d/x.h\" 2 \"a.c\" 2"),
+        (
+            "#include \"d/x.h\"\n__FILE__ __LINE__",
+            "beside \"d/x.h\" 2 \"a.c\" 2",
+        ),
         ("#include \"y.h\"", "above"),
         ("#include <y.h>", "c65: missing file y.h\n"),
         ("#include <z.h>\n#include \"z.h\"", "first own"),
@@ -34,12 +37,26 @@ fn files_are_sought_in_order(rt: HostRuntime) -> Result<(), Fail> {
         ("#include \"b.h\"", "c65: missing file b.h\n"),
         ("#if 0\n#include \"b.h\"\n#endif", ""),
         ("#include </stdio.h>", "c65: missing file /stdio.h\n"),
-        ("#line 7 \"w\"\n#include \"y.h\"\n__LINE__ __FILE__", "above 8 \"w\""),
-        ("#define f(a) a\nf(1\n#include \"y.h\"\n)", "a.c:2: error 116\n"),
+        (
+            "#line 7 \"w\"\n#include \"y.h\"\n__LINE__ __FILE__",
+            "above 8 \"w\"",
+        ),
+        (
+            "#define f(a) a\nf(1\n#include \"y.h\"\n)",
+            "a.c:2: error 116\n",
+        ),
     ];
     for (text, expected) in rows {
         let files = [
-            ("a.c", text), TREE[0], TREE[1], TREE[2], TREE[3], TREE[4], TREE[5], TREE[6], TREE[7],
+            ("a.c", text),
+            TREE[0],
+            TREE[1],
+            TREE[2],
+            TREE[3],
+            TREE[4],
+            TREE[5],
+            TREE[6],
+            TREE[7],
         ];
         let given = Given {
             folders: &["p", "q"],
@@ -61,11 +78,23 @@ fn headers_are_built_in(rt: HostRuntime) -> Result<(), Fail> {
             "#include <stddef.h>\n#include <stdlib.h>\nEXIT_FAILURE",
             "typedef unsigned int size_t ; typedef int ptrdiff_t ; void exit ( int ) ; 1",
         ),
-        ("#include <limits.h>\nCHAR_MAX CHAR_MIN INT_MIN", "255 0 ( - 32767 - 1 )"),
-        ("#include <limits.h>\n#if SHRT_MIN<0&&UINT_MAX==65535&&LONG_MIN<-LONG_MAX&&ULONG_MAX>0\na\n#endif", "a"),
-        ("#include <stdint.h>\n#include <stdint.h>", "typedef signed char int8_t ; typedef unsigned char uint8_t ; typedef int int16_t ; typedef unsigned int uint16_t ; typedef long int32_t ; typedef unsigned long uint32_t ;"),
+        (
+            "#include <limits.h>\nCHAR_MAX CHAR_MIN INT_MIN",
+            "255 0 ( - 32767 - 1 )",
+        ),
+        (
+            "#include <limits.h>\n#if SHRT_MIN<0&&UINT_MAX==65535&&LONG_MIN<-LONG_MAX&&ULONG_MAX>0\na\n#endif",
+            "a",
+        ),
+        (
+            "#include <stdint.h>\n#include <stdint.h>",
+            "typedef signed char int8_t ; typedef unsigned char uint8_t ; typedef int int16_t ; typedef unsigned int uint16_t ; typedef long int32_t ; typedef unsigned long uint32_t ;",
+        ),
         ("#include <b.h>", "c65: missing file b.h\n"),
-        ("#define EOF 1\n#include <stdio.h>", "<stdio.h>:1: error 114\n"),
+        (
+            "#define EOF 1\n#include <stdio.h>",
+            "<stdio.h>:1: error 114\n",
+        ),
     ];
     for (text, expected) in rows {
         let files = [("a.c", text)];
@@ -79,7 +108,10 @@ fn definitions_come_first(rt: HostRuntime) -> Result<(), Fail> {
     let rows: [(&[(&str, &str)], &str); 7] = [
         (&[("x", "1"), ("y", "x+x")], "1+1"),
         (&[("x", "1"), ("x", "2")], "<command>:2: error 114\n"),
-        (&[("y", "1"), ("y", "1"), ("__LINE__", "")], "<command>:3: error 123\n"),
+        (
+            &[("y", "1"), ("y", "1"), ("__LINE__", "")],
+            "<command>:3: error 123\n",
+        ),
         (&[("y", "/*")], "<command>:1: error 101\n"),
         (&[("y", "a ##")], "<command>:1: error 117\n"),
         (&[("1", "a")], "<command>:1: error 111\n"),
@@ -92,7 +124,10 @@ fn definitions_come_first(rt: HostRuntime) -> Result<(), Fail> {
             ..plain(&files)
         };
         let out = told(rt.alloc(), &given)?;
-        assert!(rt; out.is_empty() || out.as_slice() == expected.as_bytes(), "{expected}");
+        assert!(rt;
+            out.is_empty() || out.as_slice() == expected.as_bytes(),
+            "{expected}"
+        );
         assert!(rt; out.is_empty() == (expected == "1+1"), "{expected}");
     }
     Ok(())

@@ -55,7 +55,9 @@ pub fn unit_of(alloc: Global, names: &mut Names, given: &Given) -> Result<PpUnit
         ..Options::none()
     };
     let path = text(alloc, "a.c")?;
-    preprocess(alloc, &mut files, &options, &defines, &folders, &path, names)
+    preprocess(
+        alloc, &mut files, &options, &defines, &folders, &path, names,
+    )
 }
 
 /// The tokens of a unit with one space between them, line ends left out.

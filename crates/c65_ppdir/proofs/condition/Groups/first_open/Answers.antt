@@ -1,6 +1,5 @@
-use Rattle.std.proofs.Common.{◌∙◌, ap, sym, List}
+use Rattle.std.proofs.Common.{◌∙◌, ap, sym}
 use Rattle.std.proofs.lemmas.List.{reverse-reverse}
-use Rattle.c65_ppdir.specs.declared.condition.Group.{Group}
 use Rattle.c65_ppdir.specs.Conditions.{first_pos, first_open}
 use Rattle.c65_ppdir.proofs.condition.Groups.first_open.Goals as goal
 
