@@ -10,7 +10,7 @@ use Rattle.c65_csem.specs.declared.items.Target.{Target}
 use Rattle.c65_csem.specs.declared.items.Target.TheVariants as targets
 use Rattle.c65_csem.specs.declared.items.Library.{Library}
 use Rattle.c65_csem.specs.Trees.{Stmt, ObjectTy, FuncTy, UnitTy}
-use Rattle.c65_csem.specs.Places.{is_automatic, is_scalar, plain_of}
+use Rattle.c65_csem.specs.Places.{is_scalar, is_sized_in, plain_of}
 use Rattle.c65_csem.specs.Typed.{IsResult, result_of}
 use Rattle.c65_csem.specs.Statements.{Context, IsStmt, IsDistinct, labels_of, IsAutomatic}
 
@@ -40,7 +40,13 @@ abbrev pub HasRoomFor : Class → Option (List Cell) → Type 0
 HasRoomFor class None = Unit {0}
 HasRoomFor class (Some cells) = IsTrue (may_have_init class)
 
+-- an object that is only declared may have no size yet
+abbrev pub HasSize : UnitTy → QTy → Class → Type 0
+HasSize u t Declared = Unit {0}
+HasSize u t _ = IsTrue (is_sized_in u.types t)
+
 pub record IsObject (u : UnitTy) (o : ObjectTy) : Type 0 where
+  pub size : HasSize u o.ty o.class
   pub init : IsInit u o o.init
   pub class : HasRoomFor o.class o.init
 
