@@ -6,3 +6,5 @@ pub mod RunLaws
 pub mod CellLaws
 pub mod BitFieldLaws
 pub mod StoreLaws
+pub mod Ranges
+pub mod Fitting

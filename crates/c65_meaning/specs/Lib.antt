@@ -10,7 +10,6 @@ pub mod Items
 pub mod After
 pub mod State
 pub mod Library
-pub mod Compatible
 pub mod Calls
 pub mod Step
 pub mod Start
@@ -20,3 +19,4 @@ pub mod Building
 pub mod Endings
 pub mod Samples
 pub mod UndefinedSamples
+pub mod Fits
