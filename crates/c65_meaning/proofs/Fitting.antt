@@ -20,7 +20,7 @@ use Rattle.c65_meaning.specs.Operators.{number, test, number_or, while_live, pla
 use Rattle.c65_meaning.specs.Fits.{Fits, IsTarget, ConversionsFit, compares, calculated_shape, result_shape, OperatorsFit, unary_shape, UnaryOperatorsFit, StepsFit}
 use Rattle.c65_meaning.proofs.Ranges.{wrap_in, zero_in, quotient_in, remainder_in, left_in, right_in, elements_in}
 
-abbrev given : Value → Result Value Why
+abbrev pub given : Value → Result Value Why
 given v = Ok v
 
 number_fits : (t : IntType) (z : ℤ) (r : Value) → number z ≡ given r → InRange t z → Fits (Number t) r
@@ -301,7 +301,7 @@ steps_fit s kind (Area size) v r e = absurd (cc)
 
 -- ---- conversions
 
-fits_as : (f : Shape) (v w : Value) → given v ≡ given w → Fits f v → Fits f w
+pub fits_as : (f : Shape) (v w : Value) → given v ≡ given w → Fits f v → Fits f w
 fits_as f v w e h = let same : v ≡ w = cc in subst (Fits f) same h
 
 pointer_of_fits : (size : ℕ) (z : ℤ) → Fits (Pointer size) (pointer_of z)

@@ -8,3 +8,4 @@ pub mod BitFieldLaws
 pub mod StoreLaws
 pub mod Ranges
 pub mod Fitting
+pub mod ReadFitting

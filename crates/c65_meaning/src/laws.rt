@@ -1,4 +1,5 @@
 // Laws of runs and of the store, each the contract of a function that does nothing.
+ghost use Rattle.c65_meaning.specs.Fits.{ConversionsFit, OperatorsFit, UnaryOperatorsFit, StepsFit, ReadsFit};
 ghost use Rattle.c65_meaning.specs.Laws.{RunsGoOn, LastStays, OutputGrows, NamesStay, StoredIsRead, StoresStay};
 
 /// The state after n + m steps is m steps on from the one after n steps.
@@ -29,4 +30,29 @@ pub fn stored_is_read()
 /// A store changes the cells of its object and nothing else.
 pub fn stores_stay()
     ensures { StoresStay }
+{}
+
+/// What is read from bytes is a value of its shape: a number of its type, a place, null, or what may not be used.
+pub fn reads_fit()
+    ensures { ReadsFit }
+{}
+
+/// A conversion gives a value of the type that it converts to.
+pub fn conversions_fit()
+    ensures { ConversionsFit }
+{}
+
+/// An operator on two values gives a value of its result's type.
+pub fn operators_fit()
+    ensures { OperatorsFit }
+{}
+
+/// An operator on one value gives a value of its result's type.
+pub fn unary_operators_fit()
+    ensures { UnaryOperatorsFit }
+{}
+
+/// One more or one less is a value of the same type.
+pub fn steps_fit()
+    ensures { StepsFit }
 {}
