@@ -1,11 +1,11 @@
 -- Blocks stay under every change of the store: as large, as sealed, and ended where they had ended.
-use Rattle.std.proofs.Common.{◌≡◌, ℕ, suc, ◌+◌, ◌≤◌, refl, Bool, true, false, ◌∙◌, arith}
+use Rattle.std.proofs.Common.{◌≡◌, ℕ, ◌+◌, refl, Bool, true, false, ◌∙◌, arith}
 use Rattle.std.specs.Prelude.{Result, Ok, Err, Option, Some, None, ⊤, if◌then◌else◌, ◌==◌, nat_le}
 use Rattle.c65_meaning.specs.declared.action.Action.{Action}
 use Rattle.c65_meaning.specs.declared.action.Action.TheVariants.{OutsideObject, ReadOnly, EndedObject, LibraryArgument}
 use Rattle.c65_meaning.specs.Why.{Why, By, ◌>>=◌}
 use Rattle.c65_meaning.specs.Store.{Cell, Block, Store, Value, Whole, Null, Place, Opaque, NoValue, Shape, byte, size_in, set_block, set_cells, reached_or, reached, writable, with_value, with_cell, write, put_cell, carry, end_in, end_block}
-use Rattle.c65_meaning.specs.Library.{area, filled, overlap, copied_apart, copied_area, filled_area}
+use Rattle.c65_meaning.specs.Library.{area, filled, overlap, copied_area, filled_area}
 use Rattle.c65_meaning.specs.Laws.{IsLaterBlock, IsLaterIn}
 
 pub same_later : (m : Option Block) → IsLaterIn m m

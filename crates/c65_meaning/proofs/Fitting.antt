@@ -1,23 +1,21 @@
 -- Converting and operating give values that fit.
-use Rattle.std.proofs.Common.{◌≡◌, ℕ, zero, suc, ◌+◌, ◌≤◌, ℤ, pos, negsuc, ◌+ℤ◌, ◌-ℤ◌, ◌*ℤ◌, neg_ℤ, unsigned_abs, int_div, Bool, true, false, refl, subst, sym, ap, arith}
-use Rattle.std.specs.Prelude.{Option, Some, None, Result, Ok, Err, nat_le, not, ◌==◌, if◌then◌else◌, ⊤, bit_and, bit_or, bit_xor}
+use Rattle.std.proofs.Common.{◌≡◌, ℕ, zero, suc, ◌≤◌, ℤ, pos, negsuc, ◌+ℤ◌, ◌-ℤ◌, ◌*ℤ◌, neg_ℤ, unsigned_abs, int_div, Bool, true, false, refl, subst, arith}
+use Rattle.std.specs.Prelude.{Option, Some, None, Result, Ok, Err, nat_le, not, ◌==◌, if◌then◌else◌, bit_and, bit_or, bit_xor}
 use Rattle.std.proofs.lemmas.Int.{ints}
-use Rattle.c65_base.specs.declared.operators.UnaryOp.{UnaryOp}
 use Rattle.c65_base.specs.declared.operators.UnaryOp.TheVariants.{Neg, Plus, BitNot, Not, Deref, Address}
 use Rattle.c65_base.specs.declared.operators.BinaryOp.{BinaryOp}
 use Rattle.c65_base.specs.declared.operators.BinaryOp.TheVariants.{Mul, Div, Rem, Add, Sub, Shl, Shr, Lt, Gt, Le, Ge, Eq, Ne, BitAnd, BitXor, BitOr}
-use Rattle.c65_base.specs.declared.operators.StepKind.{StepKind}
 use Rattle.c65_ints.specs.declared.types.IntType.{IntType}
 use Rattle.c65_ints.specs.declared.types.IntType.TheVariants.{Int}
 use Rattle.c65_ints.specs.Ranges.{InRange, wrap_of, residue, modulus_of}
 use Rattle.c65_ints.specs.Results.{quotient_of, remainder_of, shifted_left_of, shifted_right_of}
 use Rattle.c65_meaning.specs.declared.action.Action.{Action}
 use Rattle.c65_meaning.specs.declared.action.Action.TheVariants.{DivisionByZero, ShiftCount, EndedObject, OffsetOutside, PointersApart}
-use Rattle.c65_meaning.specs.Why.{Why, By, Unfit, ◌>>=◌, or_by}
+use Rattle.c65_meaning.specs.Why.{Why, By, ◌>>=◌}
 use Rattle.c65_meaning.specs.Integers.{truth, by_bits}
 use Rattle.c65_meaning.specs.Store.{Store, Value, Whole, Null, Place, Opaque, NoValue, Shape, Number, Field, Pointer, Area, is_live, block_size}
-use Rattle.c65_meaning.specs.Operators.{number, test, number_or, while_live, placed_at, moved, pointer_of, converted, calculated, elements_between, in_one_block, may_meet, apart, in_two_blocks, on_places, both_null, on_pointers, on_pointer_and_number, on_number_and_pointer, binary, unary, truth_of, sign_of, bumped}
-use Rattle.c65_meaning.specs.Fits.{Fits, IsTarget, ConversionsFit, compares, calculated_shape, result_shape, OperatorsFit, unary_shape, UnaryOperatorsFit, StepsFit}
+use Rattle.c65_meaning.specs.Operators.{number, test, number_or, while_live, placed_at, moved, pointer_of, calculated, elements_between, in_one_block, may_meet, apart, in_two_blocks, on_places, both_null, on_pointers, on_pointer_and_number, on_number_and_pointer, truth_of, sign_of}
+use Rattle.c65_meaning.specs.Fits.{Fits, ConversionsFit, compares, calculated_shape, OperatorsFit, UnaryOperatorsFit, StepsFit}
 use Rattle.c65_meaning.proofs.Ranges.{wrap_in, zero_in, quotient_in, remainder_in, left_in, right_in, elements_in}
 
 abbrev pub given : Value → Result Value Why

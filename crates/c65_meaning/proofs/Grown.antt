@@ -1,7 +1,7 @@
 -- What a step leaves of output, turns and names of blocks: scenes that show the same, and states that show more.
-use Rattle.std.proofs.Common.{◌≡◌, ℕ, zero, suc, ◌+◌, ◌≤◌, refl, sym, ap, List, [], ◌∷◌, ◌++◌, append-nil, Bool, true, false, ◌∙◌, arith}
+use Rattle.std.proofs.Common.{◌≡◌, ℕ, suc, ◌≤◌, refl, sym, ap, List, [], ◌∷◌, ◌++◌, append-nil, Bool, true, false, ◌∙◌, arith}
 use Rattle.std.specs.Prelude.{Result, Ok, Err, Option, Some, None, ⊤, if◌then◌else◌, ◌==◌}
-use Rattle.c65_meaning.specs.Trees.{UnitTy}
+use Rattle.c65_csem.specs.Trees.{UnitTy}
 use Rattle.c65_meaning.specs.Why.{Why, ◌>>=◌}
 use Rattle.c65_meaning.specs.Store.{Store, Value, Block, end_block, unset_block}
 use Rattle.c65_meaning.specs.Shapes.{object_in, object_size, object_sealed}

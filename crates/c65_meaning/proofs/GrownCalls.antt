@@ -3,9 +3,9 @@ use Rattle.std.proofs.Common.{arith, ◌≡◌, ℕ, zero, suc, ◌*◌, refl, s
 use Rattle.std.specs.Prelude.{Result, Ok, Err, Option, Some, None, ⊤, slice_get}
 use Rattle.c65_ints.specs.Ranges.{residue}
 use Rattle.c65_ctype.specs.Trees.{Ty}
-use Rattle.c65_meaning.specs.declared.items.Library.{Library}
-use Rattle.c65_meaning.specs.declared.items.Library.TheVariants.{Putchar, Getchar, Puts, Exit, Memcpy, Memset, Strcmp, Strcpy, Strlen}
-use Rattle.c65_meaning.specs.Trees.{Stmt, FuncTy, UnitTy}
+use Rattle.c65_csem.specs.declared.items.Library.{Library}
+use Rattle.c65_csem.specs.declared.items.Library.TheVariants.{Putchar, Getchar, Puts, Exit, Memcpy, Memset, Strcmp, Strcpy, Strlen}
+use Rattle.c65_csem.specs.Trees.{Stmt, FuncTy, UnitTy}
 use Rattle.c65_meaning.specs.Why.{Why, ◌>>=◌}
 use Rattle.c65_meaning.specs.Store.{write, Value, Whole, Null, Place, Opaque, NoValue, Shape, Store}
 use Rattle.c65_meaning.specs.Shapes.{object_in, object_shape}
@@ -16,7 +16,7 @@ use Rattle.c65_meaning.specs.After.{Left}
 use Rattle.c65_meaning.specs.Library.{Effect, effect_of, arg0, arg1, arg2, arg3, number_in, count_in, got, copied_area, filled_area, text_at, compared_texts, stores}
 use Rattle.c65_meaning.specs.Step.{put, begin_object, status_of, back_in, left_call, frames_below, without_frame, params_of, func_in, returned, behind, end_objects, finished, ended_or, library_call, served, called, accepted, allowed, unless_refused, call_of, invoked, unless_deep, with_params, new_frame, is_deep}
 use Rattle.c65_meaning.proofs.Blocks.{same_later, Keeps, KeepsIf, write_keeps, copied_keeps, filled_area_keeps}
-use Rattle.c65_meaning.proofs.Grown.{Onward, Grown, Same, SameIf, itself, same_twice, no_later, more_out, runs, turns_on, same, one_grows, if_grows, stored_same, then_same, begin_keeps, end_same}
+use Rattle.c65_meaning.proofs.Grown.{Grown, Same, SameIf, itself, same_twice, no_later, more_out, runs, turns_on, same, one_grows, if_grows, stored_same, then_same, begin_keeps, end_same}
 
 -- ---- ends of calls
 

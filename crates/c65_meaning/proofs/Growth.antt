@@ -1,18 +1,19 @@
 -- Output only grows, turns only rise, and names of blocks stay: each item leaves what was there before.
-use Rattle.std.proofs.Common.{subst, ◌≡◌, ℕ, zero, suc, ◌+◌, refl, sym, ap, List, [], ◌∷◌, ◌++◌, append_assoc, append-nil, pos, Bool, true, false, ◌∙◌, arith}
+use Rattle.std.proofs.Common.{subst, ◌≡◌, ℕ, zero, suc, ◌+◌, sym, ap, List, [], ◌∷◌, ◌++◌, append_assoc, append-nil, pos, Bool, true, false, ◌∙◌, arith}
 use Rattle.std.specs.Prelude.{⊤, Result, Ok, Err, Option, Some, None, if◌then◌else◌, nat_lt, nat_le, ◌==◌, ◌&&◌, slice_get}
-use Rattle.c65_meaning.specs.Trees.{MaybeTyped, absent, present, Stmt, UnitTy, ProgramTy}
+use Rattle.c65_csem.specs.Trees.{MaybeTyped, absent, present, Stmt, UnitTy}
+use Rattle.c65_meaning.specs.Program.{ProgramTy}
 use Rattle.c65_meaning.specs.Why.{Why}
 use Rattle.c65_meaning.specs.Store.{carry, put_cell, byte, Value, Whole, Null, Place, Opaque, NoValue, Shape}
 use Rattle.c65_meaning.specs.Operators.{is_post, truth_of}
 use Rattle.c65_meaning.specs.Items.{Item, Loop, Push, Name, Follow, Move, Fetch, Keep, Change, Apply1, Apply2, Both, Either, Truth, Choose, Drop, Put, Peek, Bump, PutUnder, Carry, Invoke, Busy, Skip, Init, CarryInto, Wipe, Begin, End, Branch, Test, Pass, Enter, Next, Back, Check, Redo, Select, EndSwitch, Jump, LeaveLoop, GoOn, Give, GiveNothing, Leave, head_of, plan, plan_stmt, plan_stmts}
 use Rattle.c65_meaning.specs.After.{Left, Landing, without, up_to_call, up_to_break, up_to_continue}
-use Rattle.c65_meaning.specs.State.{State, Undefined, Deep, Ended, Running, Scene, turned}
-use Rattle.c65_meaning.specs.Step.{step, steps, perform, go_on, begin_objects, end_objects, loaded, put, assigned, partly_overlap, carried, carried_byte, carry_step, copy_step, carry_into_step, set_area_step, cleared, wipe_step, clear_step, left_for, landed, jumped, label_in, body_of, func_in, switched, chosen_case, after_body, last_test, is_value, under, place_in_object, at_the_end, object_place, taken}
+use Rattle.c65_meaning.specs.State.{State, Undefined, Deep, Ended, Running, Scene}
+use Rattle.c65_meaning.specs.Step.{step, steps, perform, begin_objects, end_objects, loaded, put, assigned, partly_overlap, carried, carried_byte, carry_step, copy_step, carry_into_step, set_area_step, cleared, wipe_step, clear_step, left_for, landed, jumped, label_in, body_of, func_in, switched, chosen_case, after_body, last_test, is_value, under, place_in_object, at_the_end, object_place, taken}
 use Rattle.c65_meaning.specs.Sem.{outcome_of, state_at}
 use Rattle.c65_meaning.specs.Laws.{IsLater, Shows, Follows, OutputGrows, NamesStay}
 use Rattle.c65_meaning.proofs.Blocks.{carry_keeps, put_cell_keeps}
-use Rattle.c65_meaning.proofs.Grown.{Onward, Grown, Same, SameIf, itself, names_itself, names_twice, runs, same, turn, one_grows, two_grow, go_on_grows, goes_on, if_grows, decided_grows, with_scene_grows, stored_same, begin_same, end_same, has_turn_grows}
+use Rattle.c65_meaning.proofs.Grown.{Onward, Grown, SameIf, itself, names_itself, names_twice, runs, same, turn, one_grows, two_grow, go_on_grows, goes_on, if_grows, decided_grows, with_scene_grows, stored_same, begin_same, end_same, has_turn_grows}
 use Rattle.c65_meaning.proofs.GrownCalls.{left_call_grows, returned_grows, library_grows, put_same, invoked_grows}
 use Rattle.c65_meaning.proofs.RunLaws.{runs_go_on, last_stays}
 

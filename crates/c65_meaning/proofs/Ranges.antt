@@ -1,5 +1,5 @@
 -- Numbers in the range of their types.
-use Rattle.std.proofs.Common.{◌≡◌, ℕ, zero, suc, ◌+◌, ◌-◌, ◌*◌, ◌/◌, ◌%◌, ◌<◌, ◌≤◌, ◌^◌, ℤ, pos, negsuc, neg_ℤ, ◌≤ℤ◌, ◌+ℤ◌, ◌-ℤ◌, ◌*ℤ◌, unsigned_abs, int_div, int_rem, Bool, true, false, nat_le, if◌then◌else◌, refl, subst, sym, ◌∙◌, ap, arith}
+use Rattle.std.proofs.Common.{◌≡◌, ℕ, zero, suc, ◌+◌, ◌-◌, ◌/◌, ◌%◌, ◌<◌, ◌≤◌, ◌^◌, ℤ, pos, negsuc, neg_ℤ, ◌≤ℤ◌, ◌+ℤ◌, ◌-ℤ◌, ◌*ℤ◌, unsigned_abs, int_div, int_rem, Bool, true, false, nat_le, if◌then◌else◌, refl, subst, arith}
 use Rattle.std.specs.Prelude.{Option, Some, None, option_map}
 use Rattle.std.proofs.lemmas.Int.{ints, quot-rem}
 use Rattle.std.proofs.Math.Nat.{div-le_self}
@@ -7,7 +7,7 @@ use lib.IntN.{*ℤ_comm}
 use Rattle.c65_ints.specs.declared.types.IntType.{IntType}
 use Rattle.c65_ints.specs.declared.types.IntType.TheVariants.{SChar, UChar, Short, UShort, Int, UInt, Long, ULong}
 use Rattle.c65_ints.specs.Ranges.{modulus_of, is_signed_of, residue, placed, wrap_of, least_of, greatest_of, InRange}
-use Rattle.c65_ints.specs.Results.{cut, unless_zero, quotient_of, remainder_of, floor_of, count_of, shifted_left_of, shifted_right_of}
+use Rattle.c65_ints.specs.Results.{cut, quotient_of, remainder_of, floor_of, count_of, shifted_left_of, shifted_right_of}
 
 -- a remainder below a modulus that is not above the type's
 unsigned_placed : (t : IntType) (m r : ℕ) → is_signed_of t ≡ false → r < m → m ≤ modulus_of t → InRange t (pos r)

@@ -1,16 +1,14 @@
 -- What is read from bytes fits.
-use Rattle.std.proofs.Common.{◌≡◌, ℕ, zero, suc, ◌+◌, ◌-◌, ◌*◌, ◌/◌, ◌%◌, ◌^◌, ◌<◌, ◌≤◌, refl, subst, sym, ap, ◌∙◌, Bool, true, false, arith}
-use Rattle.std.specs.Prelude.{Result, Ok, Err, ◌==◌, if◌then◌else◌, ⊤, bit_and}
+use Rattle.std.proofs.Common.{◌≡◌, ℕ, zero, suc, ◌+◌, ◌-◌, ◌*◌, ◌/◌, ◌%◌, ◌^◌, ◌<◌, ◌≤◌, refl, subst, sym, Bool, true, false, arith}
+use Rattle.std.specs.Prelude.{◌==◌, if◌then◌else◌, bit_and}
 use Rattle.std.proofs.lemmas.Nat.{and_le_r, pow_pos}
-use Rattle.std.proofs.Math.Nat.{mul-div_cancel, div-le-div_right, pow-suc}
+use Rattle.std.proofs.Math.Nat.{div-le_of_le-mul, mul_comm, pow-suc}
 use Rattle.std.proofs.Math.Pow.{pow_mono}
 use Rattle.c65_ints.specs.declared.types.IntType.{IntType}
 use Rattle.c65_ints.specs.declared.types.IntType.TheVariants.{SChar, UChar, Short, UShort, Int, UInt, Long, ULong}
-use Rattle.c65_ints.specs.Ranges.{modulus_of, is_signed_of, width_of, placed}
-use Rattle.c65_ctype.specs.Sizes.{bytes_of}
-use Rattle.c65_meaning.specs.Why.{Why, By}
+use Rattle.c65_ints.specs.Ranges.{is_signed_of, width_of, placed}
 use Rattle.c65_meaning.specs.Store.{Cell, Bits, Piece, Clouded, Value, Whole, Null, Place, Opaque, Shape, Number, Field, Pointer, Area, Gathered, Lacking, Hidden, Found, hide, below, gather, gathered, gather_part, gathered_field, moved_down, mask_of, as_number, as_pointer, are_of_one, read_pair, read_cells}
-use Rattle.c65_meaning.specs.Fits.{Fits, IsByte, IsShape, ReadsFit}
+use Rattle.c65_meaning.specs.Fits.{Fits, IsByte, ReadsFit}
 use Rattle.c65_meaning.proofs.Ranges.{placed_in}
 use Rattle.c65_meaning.proofs.Fitting.{given, fits_as}
 
@@ -49,12 +47,12 @@ gather_found (Bits known value) m g h e = tested (known == 255) e
 gather_found (Piece i b o) m g h e = absurd (hide_none m g e)
 gather_found Clouded m g h e = absurd (hide_none m g e)
 
+one_byte_more : (n m : ℕ) (g : Gathered) → ((h : ℕ) → g ≡ sum h → h < 256 ^ n) → Byte 255 m g → m < 256 ^ suc n
+one_byte_more n m g below x = let rest : x.rest.high < 256 ^ n = below x.rest.high x.rest.above in let power : 256 ^ suc n ≡ 256 ^ n * 256 = pow-suc 256 n in let is : m ≡ x.low + 256 * x.rest.high = x.rest.is in let small : x.low ≤ 255 = x.small in omega arith
+
 gathered_below : (n : ℕ) (cells : ℕ → Cell) (o m : ℕ) → ((p : ℕ) → IsByte (cells p)) → gathered n cells o ≡ sum m → m < 256 ^ n
 gathered_below zero cells o m h e = let same : 0 ≡ m = cc in subst (λ k. k < 1) same (omega arith)
-gathered_below (suc n) cells o m h e = one_more (gather_found (cells o) m (gathered n cells (suc o)) (h o) e)
-  where
-    one_more : Byte 255 m (gathered n cells (suc o)) → m < 256 ^ suc n
-    one_more x = let rest : x.rest.high < 256 ^ n = gathered_below n cells (suc o) x.rest.high h x.rest.above in let power : 256 ^ suc n ≡ 256 ^ n * 256 = pow-suc 256 n in let is : m ≡ x.low + 256 * x.rest.high = x.rest.is in let small : x.low ≤ 255 = x.small in omega arith
+gathered_below (suc n) cells o m h e = one_byte_more n m (gathered n cells (suc o)) (λ k. gathered_below n cells (suc o) k h) (gather_found (cells o) m (gathered n cells (suc o)) (h o) e)
 
 -- a number that was gathered below 2 to its width
 found_fits : (t : IntType) (width : ℕ) (f : Shape) (g : Gathered) (v : Value) → width ≤ width_of t → ((m : ℕ) → g ≡ sum m → m < 2 ^ width) → (Fits f Opaque) → ((z : _) → Fits (Number t) (Whole z) → Fits f (Whole z)) → as_number (is_signed_of t) width g ≡ given v → Fits f v
@@ -108,7 +106,7 @@ field_below : (low width : ℕ) (cells : ℕ → Cell) (o m : ℕ) → moved_dow
 field_below low width cells o m e = made (moved_found low m (gathered_field (mask_of low width) cells o) e)
   where
     made : ((n : ℕ) × (gathered_field (mask_of low width) cells o ≡ sum n) × (m ≡ n / 2 ^ low)) → m < 2 ^ width
-    made (n, f, g) = let most : n ≤ mask_of low width = unit_below (mask_of low width) cells o n f in let lower : n / 2 ^ low ≤ mask_of low width / 2 ^ low = div-le-div_right (2 ^ low) most in let whole : mask_of low width / 2 ^ low ≡ 2 ^ width - 1 = mul-div_cancel (2 ^ width - 1) (pow_pos low) in let some : 0 < 2 ^ width = pow_pos width in omega arith
+    made (n, f, g) = let most : n ≤ mask_of low width = unit_below (mask_of low width) cells o n f in let turned : (2 ^ width - 1) * 2 ^ low ≡ 2 ^ low * (2 ^ width - 1) = mul_comm (2 ^ width - 1) (2 ^ low) in let product : n ≤ 2 ^ low * (2 ^ width - 1) = subst (λ k. n ≤ k) turned most in let lower : n / 2 ^ low ≤ 2 ^ width - 1 = div-le_of_le-mul (2 ^ low) product in let some : 0 < 2 ^ width = pow_pos width in omega arith
 
 field_range : (t : IntType) (low width : ℕ) (z : _) → Fits (Number t) (Whole z) → Fits (Field t low width) (Whole z)
 field_range t low width z h = h

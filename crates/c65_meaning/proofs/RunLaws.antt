@@ -1,6 +1,6 @@
 -- Laws of runs: going on, and last states.
 use Rattle.std.proofs.Common.{◌≡◌, ℕ, zero, suc, ◌+◌, refl, ap, ◌∙◌, arith}
-use Rattle.c65_meaning.specs.Trees.{ProgramTy}
+use Rattle.c65_meaning.specs.Program.{ProgramTy}
 use Rattle.c65_meaning.specs.State.{State, Undefined, Deep, Ended, Running}
 use Rattle.c65_meaning.specs.Step.{step, steps}
 use Rattle.c65_meaning.specs.Start.{start}

@@ -1,6 +1,6 @@
 -- Where a jump goes on: the work that follows a label in a statement (C90 6.1.2.3, 6.6.1, 6.6.4.2, 6.6.6.1).
 use Rattle.std.specs.Prelude.{ℕ, suc, ◌+◌, ◌==◌, ℤ, Bool, true, false, List, [], ◌∷◌, ◌++◌, Option, Some, None, if◌then◌else◌}
-use Rattle.c65_meaning.specs.Trees.{Stmt, block, if_stmt, while, do_while, for_loop, switch, case, default, label, Stmts, no_stmts, and_stmts, present, absent, UnitTy}
+use Rattle.c65_csem.specs.Trees.{Stmt, block, if_stmt, while, do_while, for_loop, switch, case, default, label, Stmts, no_stmts, and_stmts, present, absent, UnitTy}
 use Rattle.c65_meaning.specs.Integers.{same_number}
 use Rattle.c65_meaning.specs.Items.{Item, End, Next, Check, EndSwitch, Leave, test_first, test_last, plan_stmt, plan_stmts}
 use Rattle.c65_meaning.specs.Sites.{count}

@@ -1,28 +1,14 @@
 -- What a call passes, and which functions may be called so (C90 6.3.2.2).
 use Rattle.std.specs.Prelude.{ℕ, ◌&&◌, Bool, true, false, List, [], ◌∷◌, Option, Some, None}
-use Rattle.c65_ints.specs.declared.types.IntType.{IntType}
-use Rattle.c65_ints.specs.declared.types.IntType.TheVariants as I
-use Rattle.c65_ctype.specs.Trees.{Ty, void, int, pointer, function, QTy, qual, Fn, fn, unknown, known, QTys, end, more, TypesTy, type_in}
-use Rattle.c65_meaning.specs.Trees.{ObjectTy, FuncTy, UnitTy}
+use Rattle.c65_ctype.specs.Trees.{Ty, void, int, pointer, function, qual, Fn, fn, unknown, known, QTys, end, more, TypesTy, type_in}
+use Rattle.c65_csem.specs.Trees.{ObjectTy, FuncTy, UnitTy}
 use Rattle.c65_ctype.specs.Compatible.{are_compatible}
+use Rattle.c65_csem.specs.Places.{plain, promoted_of}
 use Rattle.c65_meaning.specs.Shapes.{object_in}
 
-abbrev pub plain : Ty → QTy
-plain t = qual t false false
-
 -- the integer promotions (C90 6.2.1.1)
-abbrev pub promoted_int : IntType → IntType
-promoted_int I.SChar = I.Int
-promoted_int I.UChar = I.Int
-promoted_int I.Short = I.Int
-promoted_int I.UShort = I.UInt
-promoted_int I.Int = I.Int
-promoted_int I.UInt = I.UInt
-promoted_int I.Long = I.Long
-promoted_int I.ULong = I.ULong
-
 abbrev pub promoted : Ty → Ty
-promoted (int t) = int (promoted_int t)
+promoted (int t) = int (promoted_of t)
 promoted t = t
 
 -- the function type of a function, or of a pointer to one

@@ -2,7 +2,7 @@
 use Rattle.std.specs.Prelude.{ℕ, suc, ◌+◌, ◌*◌, max, List, [], ◌∷◌, length}
 use Rattle.c65_ctype.specs.Trees.{Ty}
 use Rattle.c65_ctype.specs.Sizes.{size_of}
-use Rattle.c65_meaning.specs.Trees.{Typed, node, Node, deref, member, load, address, decay, convert, unary, binary, both, either, choice, comma, assign, assign_op, assign_step, step, copy, call, Nodes, none, some, Stmt, eval, set_part, block, if_stmt, while, do_while, for_loop, switch, case, default, label, return, Stmts, no_stmts, and_stmts, MaybeTyped, absent, present, UnitTy}
+use Rattle.c65_csem.specs.Trees.{Typed, node, Node, deref, member, load, address, decay, convert, unary, binary, both, either, choice, comma, assign, assign_op, assign_step, step, copy, call, Nodes, none, some, Stmt, eval, set_part, block, if_stmt, while, do_while, for_loop, switch, case, default, label, return, Stmts, no_stmts, and_stmts, MaybeTyped, absent, present, UnitTy}
 use Rattle.c65_meaning.specs.Shapes.{object_size, object_in}
 
 abbrev mutual

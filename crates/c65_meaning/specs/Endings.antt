@@ -1,6 +1,6 @@
 -- How the run of a sample ends, and when.
 use Rattle.std.specs.Prelude.{◌≡◌, ℕ, suc, List, ⊤}
-use Rattle.c65_meaning.specs.Trees.{ProgramTy}
+use Rattle.c65_meaning.specs.Program.{ProgramTy}
 use Rattle.c65_meaning.specs.declared.ending.Ending.{Ending}
 use Rattle.c65_meaning.specs.declared.ending.Ending.TheVariants.{Status, Undefined, TooDeep}
 use Rattle.c65_meaning.specs.Why.{By}

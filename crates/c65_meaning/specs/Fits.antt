@@ -1,6 +1,6 @@
 -- Which values an expression or an object of a shape may have, and that reading, converting and operating give such values
 -- (C90 6.1.2.5, 6.2.1, 6.3).
-use Rattle.std.specs.Prelude.{◌≡◌, ℕ, ◌≤◌, Bool, true, false, ℤ, Ok, ⊤}
+use Rattle.std.specs.Prelude.{◌≡◌, ℕ, ◌≤◌, Bool, true, false, Ok, ⊤}
 use Rattle.c65_base.specs.declared.operators.UnaryOp.{UnaryOp}
 use Rattle.c65_base.specs.declared.operators.UnaryOp.TheVariants.{Not}
 use Rattle.c65_base.specs.declared.operators.BinaryOp.{BinaryOp}

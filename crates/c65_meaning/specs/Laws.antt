@@ -2,7 +2,7 @@
 use Rattle.std.specs.Prelude.{◌≡◌, ℕ, suc, ◌+◌, ◌^◌, ◌≤◌, Bool, false, List, ◌++◌, Ok, Option, Some, None, ⊤}
 use Rattle.c65_ints.specs.declared.types.IntType.{IntType}
 use Rattle.c65_ints.specs.Ranges.{wrap_of, is_signed_of, placed, residue}
-use Rattle.c65_meaning.specs.Trees.{ProgramTy}
+use Rattle.c65_meaning.specs.Program.{ProgramTy}
 use Rattle.c65_meaning.specs.Store.{Block, Store, Value, Whole, Null, Place, Opaque, Shape, Number, Field, Pointer, size_in, read, write}
 use Rattle.c65_meaning.specs.State.{State, Scene, Undefined, Deep, Ended, Running}
 use Rattle.c65_meaning.specs.Items.{Item}

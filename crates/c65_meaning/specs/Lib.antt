@@ -1,4 +1,4 @@
-pub mod Trees
+pub mod Program
 pub mod Why
 pub mod Integers
 pub mod Store

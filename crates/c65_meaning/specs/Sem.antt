@@ -1,6 +1,6 @@
 -- The meaning of a program: n steps from the call of `main`, and when the run of an image agrees with it.
 use Rattle.std.specs.Prelude.{◌≡◌, ℕ, ◌+◌, ◌*◌, ◌≤◌, List, ⊤}
-use Rattle.c65_meaning.specs.Trees.{ProgramTy}
+use Rattle.c65_meaning.specs.Program.{ProgramTy}
 use Rattle.c65_meaning.specs.Why.{Why}
 use Rattle.c65_meaning.specs.Sites.{jumps}
 use Rattle.c65_meaning.specs.State.{State, Undefined, Deep, Ended, Running}

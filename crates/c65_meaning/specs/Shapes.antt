@@ -1,11 +1,9 @@
 -- What the meaning reads off a program's types: shapes of objects, and numbers of blocks.
-use Rattle.std.specs.Prelude.{ℕ, ◌+◌, ◌||◌, Bool, true, false, List, [], ◌∷◌, Option, Some, None, length, option_and_then, slice_get}
-use Rattle.c65_ctype.specs.Trees.{Ty, int, pointer, array, tag, QTy, qual, MemberTy, TypesTy, type_in}
-use Rattle.c65_ctype.specs.Tables.{layout_at}
+use Rattle.std.specs.Prelude.{ℕ, ◌+◌, ◌||◌, Bool, false, List, [], ◌∷◌, Option, Some, None, length, slice_get}
+use Rattle.c65_ctype.specs.Trees.{Ty, int, pointer, array, QTy, qual, MemberTy, TypesTy, type_in}
 use Rattle.c65_ctype.specs.Sizes.{size_of}
-use Rattle.c65_meaning.specs.declared.items.Class.{Class}
-use Rattle.c65_meaning.specs.declared.items.Class.TheVariants.{Auto, Register}
-use Rattle.c65_meaning.specs.Trees.{Typed, node, member, Nodes, none, some, type_of, ObjectTy, UnitTy}
+use Rattle.c65_csem.specs.Trees.{Typed, node, member, Nodes, none, some, type_of, ObjectTy, UnitTy}
+use Rattle.c65_csem.specs.Places.{member_at, is_automatic}
 use Rattle.c65_meaning.specs.Store.{Shape, Number, Field, Pointer, Area}
 
 -- the type of a tree, without its qualifiers
@@ -23,14 +21,6 @@ abbrev pub shape_of : TypesTy → Ty → Shape
 shape_of types (int t) = Number t
 shape_of types (pointer q) = Pointer (size_of types (type_in q))
 shape_of types t = Area (size_of types t)
-
-abbrev pub tag_of : Ty → Option ℕ
-tag_of (tag n) = Some n
-tag_of _ = None
-
--- member m of the structure or union of a type
-abbrev pub member_at : TypesTy → Ty → ℕ → Option MemberTy
-member_at types t m = option_and_then (λ l. slice_get l.members m) (option_and_then (layout_at types) (tag_of t))
 
 abbrev pub offset_of : Option MemberTy → ℕ
 offset_of None = 0
@@ -72,11 +62,6 @@ object_sealed (Some x) = are_const x.ty
 abbrev pub object_shape : TypesTy → Option ObjectTy → Shape
 object_shape types None = Area 0
 object_shape types (Some x) = shape_of types (type_in x.ty)
-
-abbrev pub is_automatic : Class → Bool
-is_automatic Auto = true
-is_automatic Register = true
-is_automatic _ = false
 
 abbrev pub lives_in_frame : Option ObjectTy → Bool
 lives_in_frame None = false

@@ -1,10 +1,11 @@
 -- The call of `main`: the initial store and the arguments of the program (C90 5.1.2.2.1, 6.1.2.4, 6.1.4, 6.5.7).
 use Rattle.std.specs.Prelude.{ℕ, zero, suc, ◌+◌, ◌-◌, ◌*◌, ◌/◌, ◌%◌, ◌&&◌, Bool, true, false, ℤ, pos, negsuc, List, [], ◌∷◌, ◌++◌, Option, Some, None, slice_get, length, nat_lt, nat_le, if◌then◌else◌}
-use Rattle.c65_meaning.specs.declared.items.Cell.{Cell as InitialCell}
-use Rattle.c65_meaning.specs.declared.items.Cell.TheVariants.{Byte, Piece as InitialPiece}
-use Rattle.c65_meaning.specs.declared.items.Target.{Target}
-use Rattle.c65_meaning.specs.declared.items.Target.TheVariants as T
-use Rattle.c65_meaning.specs.Trees.{Stmt, ObjectTy, FuncTy, UnitTy, ProgramTy}
+use Rattle.c65_csem.specs.declared.items.Cell.{Cell as InitialCell}
+use Rattle.c65_csem.specs.declared.items.Cell.TheVariants.{Byte, Piece as InitialPiece}
+use Rattle.c65_csem.specs.declared.items.Target.{Target}
+use Rattle.c65_csem.specs.declared.items.Target.TheVariants as T
+use Rattle.c65_csem.specs.Trees.{Stmt, ObjectTy, FuncTy, UnitTy}
+use Rattle.c65_meaning.specs.Program.{ProgramTy}
 use Rattle.c65_meaning.specs.declared.action.Action.TheVariants.{OffsetOutside}
 use Rattle.c65_meaning.specs.Why.{By, Unfit}
 use Rattle.c65_meaning.specs.Store.{Cell, Piece, byte, Block, Store, Value, Whole, Place, function_block, set_block, size_in_store}

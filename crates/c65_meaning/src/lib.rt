@@ -5,15 +5,13 @@
 
 mod action;
 mod ending;
-mod items;
 mod laws;
 pub mod samples;
 pub mod undefined;
 
 pub use action::Action;
 pub use ending::Ending;
-pub use items::{Cell, Class, Library, Target};
 pub use laws::{
-    conversions_fit, last_stays, names_stay, operators_fit, output_grows, reads_fit, runs_go_on, steps_fit,
-    stored_is_read, stores_stay, unary_operators_fit,
+    conversions_fit, last_stays, names_stay, operators_fit, output_grows, reads_fit, runs_go_on,
+    steps_fit, stored_is_read, stores_stay, unary_operators_fit,
 };
