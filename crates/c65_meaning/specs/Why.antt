@@ -2,7 +2,7 @@
 use Rattle.std.specs.Prelude.{Result, Ok, Err, Option, Some, None}
 use Rattle.c65_meaning.specs.declared.action.Action.{Action}
 
--- an undefined action; or trees or values that do not fit one another, which no run of a well typed program has
+-- an undefined action; or trees or values that do not fit one another, as where an object is named outside its block
 pub data Why : Type 0 where
   By : (action : Action) → Why
   Unfit : Why
