@@ -1,0 +1,10 @@
+pub mod Assembly
+pub mod Stack
+pub mod Memory
+pub mod Operators
+pub mod Orders
+pub mod Shifts
+pub mod Unary
+pub mod Library
+pub mod Routines
+pub mod Short
