@@ -7,8 +7,7 @@ use std::test::Fail;
 /// Whether the condition holds of these bytes, or the line of its refusal.
 fn decides(alloc: Global, condition: &str, expected: &str) -> Result<bool, Refusal> {
     let text = format!(in alloc; "#if {condition}\ny\n#else\nn\n#endif\n")?;
-    let files = [("a.c", text.as_str())];
-    let out = told(alloc, &plain(&files))?;
+    let out = told(alloc, &plain(text.as_str()))?;
     Ok(out.as_slice() == expected.as_bytes())
 }
 

@@ -8,8 +8,7 @@ use std::test::Fail;
 fn has_fault(alloc: Global, text: &str, code: Code, line: u32) -> Result<bool, Refusal> {
     let number = code.number();
     let expected = format!(in alloc; "a.c:{line}: error {number}\n")?;
-    let files = [("a.c", text)];
-    let out = told(alloc, &plain(&files))?;
+    let out = told(alloc, &plain(text))?;
     Ok(out.as_slice() == expected.as_bytes())
 }
 

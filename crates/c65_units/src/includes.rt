@@ -1,5 +1,5 @@
 // Includes, built-in headers and definitions on the command line.
-use crate::show::{Given, plain, told};
+use crate::show::{Given, among, defined, plain, told};
 use c65_base::Refusal;
 use std::alloc::Global;
 use std::test::Fail;
@@ -47,21 +47,7 @@ fn files_are_sought_in_order(rt: HostRuntime) -> Result<(), Fail> {
         ),
     ];
     for (text, expected) in rows {
-        let files = [
-            ("a.c", text),
-            TREE[0],
-            TREE[1],
-            TREE[2],
-            TREE[3],
-            TREE[4],
-            TREE[5],
-            TREE[6],
-            TREE[7],
-        ];
-        let given = Given {
-            folders: &["p", "q"],
-            ..plain(&files)
-        };
+        let given = among(text, &TREE, &["p", "q"], &[]);
         assert!(rt; gives(rt.alloc(), &given, expected)?, "{text}");
     }
     Ok(())
@@ -97,8 +83,7 @@ fn headers_are_built_in(rt: HostRuntime) -> Result<(), Fail> {
         ),
     ];
     for (text, expected) in rows {
-        let files = [("a.c", text)];
-        assert!(rt; gives(rt.alloc(), &plain(&files), expected)?, "{text}");
+        assert!(rt; gives(rt.alloc(), &plain(text), expected)?, "{text}");
     }
     Ok(())
 }
@@ -106,7 +91,7 @@ fn headers_are_built_in(rt: HostRuntime) -> Result<(), Fail> {
 #[test]
 fn definitions_come_first(rt: HostRuntime) -> Result<(), Fail> {
     let rows: [(&[(&str, &str)], &str); 7] = [
-        (&[("x", "1"), ("y", "x+x")], "1+1"),
+        (&[("x", "1"), ("y", "x+x")], "1 1 + 1"),
         (&[("x", "1"), ("x", "2")], "<command>:2: error 114\n"),
         (
             &[("y", "1"), ("y", "1"), ("__LINE__", "")],
@@ -118,30 +103,22 @@ fn definitions_come_first(rt: HostRuntime) -> Result<(), Fail> {
         (&[("y", "a\nb")], "<command>:1: error 111\n"),
     ];
     for (defines, expected) in rows {
-        let files = [("a.c", "#define s(a) t(a)\n#define t(a) #a\n")];
-        let given = Given {
-            defines,
-            ..plain(&files)
-        };
-        let out = told(rt.alloc(), &given)?;
-        assert!(rt;
-            out.is_empty() || out.as_slice() == expected.as_bytes(),
-            "{expected}"
-        );
-        assert!(rt; out.is_empty() == (expected == "1+1"), "{expected}");
+        let given = defined("x y", defines);
+        assert!(rt; gives(rt.alloc(), &given, expected)?, "{expected}");
     }
     Ok(())
 }
 
 #[test]
 fn reads_fail_at_each_call(rt: HostRuntime) -> Result<(), Fail> {
-    let files = [("a.c", "a\n#include <b.h>\nc"), ("y/b.h", "b")];
     for call in 1..7u32 {
-        let given = Given {
-            folders: &["x", "y"],
-            fail: &[call],
-            ..plain(&files)
-        };
+        let fail = [call];
+        let given = among(
+            "a\n#include <b.h>\nc",
+            &[("y/b.h", "b")],
+            &["x", "y"],
+            &fail,
+        );
         // The third call misses the file of the first folder, and a missing file does not fail.
         let expected = if call == 3 || call == 6 {
             "a b c"

@@ -32,8 +32,7 @@ fn gives(
 ) -> Result<bool, Refusal> {
     let (front, middle, back) = parts;
     let text = nested(alloc, front, middle, back, count)?;
-    let files = [("a.c", text.as_str())];
-    let out = told(alloc, &plain(&files))?;
+    let out = told(alloc, &plain(text.as_str()))?;
     Ok(out.as_slice() == expected.as_bytes())
 }
 
@@ -88,8 +87,7 @@ fn chain_gives(alloc: Global, count: u32, expected: &str) -> Result<bool, Refusa
         text.push_str(piece.as_str())?;
     }
     text.push_str("#ifndef done\n#define done\nend\n#endif\n")?;
-    let files = [("a.c", text.as_str())];
-    let out = told(alloc, &plain(&files))?;
+    let out = told(alloc, &plain(text.as_str()))?;
     Ok(out.as_slice() == expected.as_bytes())
 }
 

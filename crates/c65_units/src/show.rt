@@ -5,24 +5,51 @@ use c65_lex::PpKind;
 use c65_ppdir::{Define, PpUnit, preprocess};
 use std::alloc::Global;
 
-/// What a unit is made of: files by path, definitions, folders, and the calls that fail.
+/// What a unit is made of: the text of `a.c`, other files by path, definitions, folders, and the calls that fail.
 #[derive(Clone, Copy)]
 pub struct Given<'a> {
+    pub text: &'a str,
     pub files: &'a [(&'a str, &'a str)],
     pub defines: &'a [(&'a str, &'a str)],
     pub folders: &'a [&'a str],
     pub fail: &'a [u32],
-    pub signed_chars: bool,
 }
 
-/// One file `a.c` and others.
-pub fn plain<'a>(files: &'a [(&'a str, &'a str)]) -> Given<'a> {
+/// One file `a.c` with this text.
+pub fn plain<'a>(text: &'a str) -> Given<'a> {
     Given {
-        files,
+        text,
+        files: &[],
         defines: &[],
         folders: &[],
         fail: &[],
-        signed_chars: false,
+    }
+}
+
+/// With other files, folders in which headers are sought, and calls that fail.
+pub fn among<'a>(
+    text: &'a str,
+    files: &'a [(&'a str, &'a str)],
+    folders: &'a [&'a str],
+    fail: &'a [u32],
+) -> Given<'a> {
+    Given {
+        text,
+        files,
+        defines: &[],
+        folders,
+        fail,
+    }
+}
+
+/// With definitions on the command line.
+pub fn defined<'a>(text: &'a str, defines: &'a [(&'a str, &'a str)]) -> Given<'a> {
+    Given {
+        text,
+        files: &[],
+        defines,
+        folders: &[],
+        fail: &[],
     }
 }
 
@@ -33,6 +60,10 @@ fn text(alloc: Global, bytes: &str) -> Result<Text, Refusal> {
 /// The unit of `a.c`.
 pub fn unit_of(alloc: Global, names: &mut Names, given: &Given) -> Result<PpUnit, Refusal> {
     let mut files = mem_files(alloc, Vec::from_slice(alloc, given.fail)?);
+    files.put(
+        Vec::from_slice(alloc, b"a.c")?,
+        Vec::from_slice(alloc, given.text.as_bytes())?,
+    )?;
     for (path, bytes) in given.files {
         files.put(
             Vec::from_slice(alloc, path.as_bytes())?,
@@ -50,10 +81,7 @@ pub fn unit_of(alloc: Global, names: &mut Names, given: &Given) -> Result<PpUnit
     for folder in given.folders {
         folders.push(text(alloc, folder)?)?;
     }
-    let options = Options {
-        signed_chars: given.signed_chars,
-        ..Options::none()
-    };
+    let options = Options::none();
     let path = text(alloc, "a.c")?;
     preprocess(
         alloc, &mut files, &options, &defines, &folders, &path, names,

@@ -6,8 +6,7 @@ use std::test::Fail;
 
 /// Whether `a.c` with this text gives these tokens, or this line of a refusal.
 fn gives(alloc: Global, text: &str, expected: &str) -> Result<bool, Refusal> {
-    let files = [("a.c", text)];
-    let out = told(alloc, &plain(&files))?;
+    let out = told(alloc, &plain(text))?;
     Ok(out.as_slice() == expected.as_bytes())
 }
 
