@@ -1,5 +1,5 @@
 -- Pieces of lines put one behind another.
-use Rattle.std.proofs.Common.{◌≡◌, List, [], ◌∷◌, OnOk, Result, subst, sym}
+use Rattle.std.proofs.Common.{◌≡◌, List, ◌∷◌, OnOk, Result, subst}
 use Rattle.c65_base.specs.declared.refusal.Refusal.{Refusal}
 use Rattle.c65_code.specs.declared.line.Line.{Line}
 use Rattle.c65_code.specs.Segments.{Drafted}

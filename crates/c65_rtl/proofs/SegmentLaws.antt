@@ -1,5 +1,5 @@
 -- Each routine's lines keep what a segment's lines keep.
-use Rattle.std.proofs.Common.{◌≡◌, List, IsTrue, true, false, refl, subst, sym}
+use Rattle.std.proofs.Common.{◌≡◌, List, IsTrue, false, refl, subst, sym}
 use Rattle.c65_code.specs.declared.line.Line.{Line}
 use Rattle.c65_code.specs.declared.routine.Routine.{Routine}
 use Rattle.c65_code.specs.declared.routine.Routine.TheVariants as routines

@@ -1,5 +1,5 @@
 -- The start of a program, and the functions of C's library (C90 7.9, 7.10, 7.11) over the simulator's hooks.
-use Rattle.std.specs.Prelude.{ℕ, ◌+◌, List, [], ◌∷◌, ◌++◌}
+use Rattle.std.specs.Prelude.{◌+◌, List, [], ◌∷◌}
 use Rattle.c65_mach.specs.declared.rows.Op.TheVariants.{Bcs, Beq, Bne, Cmp, Dex, Dey, Inc, Inx, Iny, Lda, Ldx, Ldy, Rts, Sbc, Sec, Sta, Stx, Tax, Tya}
 use Rattle.c65_code.specs.declared.line.Line.{Line}
 use Rattle.c65_code.specs.declared.line.Line.TheVariants.{Label, Call}
@@ -9,7 +9,6 @@ use Rattle.c65_code.specs.declared.routine.Routine.TheVariants as routines
 use Rattle.c65_code.specs.declared.routine.LibraryFunction.{LibraryFunction}
 use Rattle.c65_code.specs.declared.routine.LibraryFunction.TheVariants.{PutChar, GetChar, Puts, Exit, MemCpy, MemSet, StrCmp, StrCpy, StrLen}
 use Rattle.c65_code.specs.declared.line.Callee.TheVariants as callees
-use Rattle.c65_code.specs.declared.line.Sym.{Sym}
 use Rattle.c65_code.specs.Effects.{ax}
 use Rattle.c65_code.specs.declared.routine.Count.TheVariants.{One, Two, Four}
 use Rattle.c65_rtl.specs.Stack.{raise_pieces, top_word_pieces}

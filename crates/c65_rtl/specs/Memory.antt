@@ -1,5 +1,5 @@
 -- Loads and stores through pointers, copies, and the register variables.
-use Rattle.std.specs.Prelude.{ℕ, ◌+◌, List, [], ◌∷◌, ◌++◌}
+use Rattle.std.specs.Prelude.{◌+◌, List, [], ◌∷◌}
 use Rattle.c65_mach.specs.declared.rows.Op.TheVariants.{Bcs, Beq, Bne, Dec, Dex, Dey, Inc, Iny, Jmp, Lda, Ldx, Ldy, Pha, Pla, Rts, Sbc, Sec, Sta, Stx, Tax, Txa}
 use Rattle.c65_code.specs.declared.line.Line.{Line}
 use Rattle.c65_code.specs.declared.line.Line.TheVariants.{Label}

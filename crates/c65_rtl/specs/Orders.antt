@@ -1,5 +1,5 @@
 -- Equality and the orders of TOS and the primary register.
-use Rattle.std.specs.Prelude.{ℕ, ◌+◌, List, [], ◌∷◌, ◌++◌}
+use Rattle.std.specs.Prelude.{◌+◌, List, [], ◌∷◌, ◌++◌}
 use Rattle.c65_mach.specs.declared.rows.Op.TheVariants.{Bne, Bvc, Eor, Iny, Lda, Ldx, Ldy, Ora, Sbc, Sta, Txa}
 use Rattle.c65_code.specs.declared.line.Line.{Line}
 use Rattle.c65_code.specs.declared.line.Line.TheVariants.{Label}

@@ -1,5 +1,5 @@
 -- Shifts of TOS by the primary register.
-use Rattle.std.specs.Prelude.{ℕ, ◌+◌, List, [], ◌∷◌, ◌++◌}
+use Rattle.std.specs.Prelude.{◌+◌, List, [], ◌∷◌, ◌++◌}
 use Rattle.c65_mach.specs.declared.rows.Op.TheVariants.{And, Asl, Beq, Bne, Clc, Cmp, Cpx, Dex, Iny, Lda, Ldx, Ldy, Rol, Ror, Sta, Tax}
 use Rattle.c65_code.specs.declared.line.Line.{Line}
 use Rattle.c65_code.specs.declared.line.Line.TheVariants.{Label}

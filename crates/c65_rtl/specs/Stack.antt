@@ -1,5 +1,5 @@
 -- The software stack: pushes, pops, moves of its pointer, loads and stores.
-use Rattle.std.specs.Prelude.{ℕ, ◌+◌, List, [], ◌∷◌, ◌++◌}
+use Rattle.std.specs.Prelude.{ℕ, ◌+◌, List, [], ◌∷◌}
 use Rattle.c65_mach.specs.declared.rows.Op.TheVariants.{Adc, Bcc, Bcs, Beq, Bne, Clc, Cpy, Dec, Dey, Eor, Inc, Iny, Lda, Ldx, Ldy, Pha, Pla, Rts, Sbc, Sec, Sta, Sty, Tax, Txa, Tya}
 use Rattle.c65_code.specs.declared.line.Line.{Line}
 use Rattle.c65_code.specs.declared.line.Line.TheVariants.{Label}

@@ -1,5 +1,5 @@
 -- The operators on the primary register alone, and the widenings.
-use Rattle.std.specs.Prelude.{ℕ, ◌+◌, List, [], ◌∷◌, ◌++◌}
+use Rattle.std.specs.Prelude.{◌+◌, List, [], ◌∷◌}
 use Rattle.c65_mach.specs.declared.rows.Op.TheVariants.{Adc, Asl, Bcc, Clc, Cmp, Cpx, Cpy, Dex, Dey, Eor, Lda, Ldx, Ldy, Lsr, Ora, Rol, Ror, Rts, Sta, Stx, Sty, Tax, Tay, Txa, Tya}
 use Rattle.c65_code.specs.declared.line.Line.{Line}
 use Rattle.c65_code.specs.declared.line.Line.TheVariants.{Label}

@@ -1,11 +1,10 @@
 -- Each routine's lines keep what a segment's lines keep.
-use Rattle.std.proofs.Common.{◌≡◌, List, IsTrue, true, false, refl, subst, sym}
+use Rattle.std.proofs.Common.{◌≡◌, List, IsTrue, false, refl, subst, sym}
 use Rattle.c65_code.specs.declared.line.Line.{Line}
 use Rattle.c65_code.specs.declared.routine.Routine.{Routine}
 use Rattle.c65_code.specs.declared.routine.Routine.TheVariants as routines
 use Rattle.c65_code.specs.declared.routine.TosOp.{TosOp}
 use Rattle.c65_code.specs.declared.routine.TosOp.TheVariants as tos
-use Rattle.c65_code.specs.declared.routine.Width.{Width}
 use Rattle.c65_code.specs.declared.routine.Width.TheVariants.{Ax, Eax}
 use Rattle.c65_code.specs.Segments.{IsSegment}
 use Rattle.c65_rtlwide.specs.Wide.{is_wide, lines_of}

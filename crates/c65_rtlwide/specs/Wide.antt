@@ -6,8 +6,7 @@ use Rattle.c65_code.specs.declared.line.Line.TheVariants.{Label}
 use Rattle.c65_rtl.specs.Assembly.{sp, sreg, regsave, ptr1, ptr2, ptr3, ptr4, tmp1, tmp2, implied, value, zero_page, by_y, branch}
 use Rattle.c65_code.specs.declared.routine.TosOp.{TosOp}
 use Rattle.c65_code.specs.declared.routine.TosOp.TheVariants as tos
-use Rattle.c65_code.specs.declared.routine.Width.{Width}
-use Rattle.c65_code.specs.declared.routine.Width.TheVariants.{Ax, Eax}
+use Rattle.c65_code.specs.declared.routine.Width.TheVariants.{Eax}
 use Rattle.c65_code.specs.declared.routine.Routine.{Routine}
 use Rattle.c65_code.specs.declared.routine.Routine.TheVariants as routines
 use Rattle.c65_code.specs.declared.routine.Count.TheVariants.{Four}

@@ -1,4 +1,4 @@
-use Rattle.std.proofs.Common.{◌≡◌, OnOk, ◌∷◌, [], subst, sym}
+use Rattle.std.proofs.Common.{◌≡◌, OnOk, ◌∷◌, subst, sym}
 use Rattle.c65_code.specs.declared.routine.LibraryFunction.{LibraryFunction}
 use Rattle.c65_rtl.specs.Assembly.{with_pieces}
 use Rattle.c65_code.specs.declared.routine.Count.TheVariants.{Four}

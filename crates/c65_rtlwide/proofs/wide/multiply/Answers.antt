@@ -1,4 +1,4 @@
-use Rattle.std.proofs.Common.{◌∷◌, []}
+use Rattle.std.proofs.Common.{◌∷◌}
 use Rattle.c65_code.specs.declared.routine.Count.TheVariants.{Four}
 use Rattle.c65_rtl.specs.Stack.{raise_pieces}
 use Rattle.c65_rtlwide.specs.Wide.{terms, nothing_yet, multiply, remainder}

@@ -3,7 +3,7 @@ use Rattle.std.proofs.Common.{◌≡◌, ◌∙◌, ap, List, []}
 use Rattle.c65_code.specs.declared.line.Line.{Line}
 use Rattle.c65_code.specs.Segments.{Drafted}
 use Rattle.c65_rtl.specs.Assembly.{with_all, with_pieces}
-use Rattle.c65_rtlwide.specs.Wide.{wide_pieces, lines_of}
+use Rattle.c65_rtlwide.specs.Wide.{wide_pieces}
 use Rattle.c65_rtlwide.proofs.SegmentLaws.{closes}
 use Rattle.c65_rtlwide.proofs.wide.wide_routine.Goals as goal
 
