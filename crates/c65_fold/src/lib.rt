@@ -2,6 +2,8 @@
 #![tactic(auto)]
 
 mod compute;
+#[cfg(test)]
+mod tests;
 mod values;
 
 pub use values::constant;
