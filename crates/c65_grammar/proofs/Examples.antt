@@ -90,10 +90,19 @@ left_to_right sc l m a b c ts d = let tight : 12 ≤ 11 = d.4.4.0 in omega arith
 
 -- `sizeof (T)` is the size of a type where T is one
 pub a_size : (sc : Scope) (l : Pos) (T : Name) → sc T ≡ true → expr sc (t.sizeof_type l (t.type_name (only l T) (t.nameless l))) (of_word l keywords.Sizeof ∷ of_mark l puncts.OpenParen ∷ of_name l T ∷ of_mark l puncts.CloseParen ∷ [])
-a_size sc l T is_type =
-    (of_word l keywords.Sizeof ∷ [], of_mark l puncts.OpenParen ∷ of_name l T ∷ of_mark l puncts.CloseParen ∷ [], refl, refl,
-      (of_mark l puncts.OpenParen ∷ [], of_name l T ∷ of_mark l puncts.CloseParen ∷ [], refl, (l, refl),
-        (l, (of_name l T ∷ [], of_mark l puncts.CloseParen ∷ [], refl, (of_name l T ∷ [], [], refl, only_specifier sc false l T is_type, ((refl, refl), refl)), refl))))
+a_size sc l T is_type = (
+  of_word l keywords.Sizeof ∷ [],
+  of_mark l puncts.OpenParen ∷ of_name l T ∷ of_mark l puncts.CloseParen ∷ [],
+  refl,
+  refl,
+  (
+    of_mark l puncts.OpenParen ∷ [],
+    of_name l T ∷ of_mark l puncts.CloseParen ∷ [],
+    refl,
+    (l, refl),
+    (l, (of_name l T ∷ [], of_mark l puncts.CloseParen ∷ [], refl, (of_name l T ∷ [], [], refl, only_specifier sc false l T is_type, ((refl, refl), refl)), refl)),
+  ),
+)
 
 -- a label may have any name, a type's too
 pub a_label : (sc : Scope) (l : Pos) (n : Name) → statement sc (t.label l n (t.eval l None)) (of_name l n ∷ of_mark l puncts.Colon ∷ of_mark l puncts.Semicolon ∷ [])
@@ -106,26 +115,62 @@ typed_takes false = refl
 -- `f(a) int a; { }` is an old-style definition
 abbrev old_style : Pos → Name → Name → t.FunctionTree
 old_style l f a = record {
-    specifiers = t.specifiers l t.no_specifiers;
-    declarator = t.function l (t.named l f) (t.param_names ((a, l) ∷ []));
-    declarations = record { specifiers = t.specifiers l (t.and_specifier t.no_specifiers (t.word l t.int)); declarators = record { declarator = t.named l a; init = None } ∷ [] } ∷ [];
-    body = t.block l [] t.no_stmts }
+  specifiers = t.specifiers l t.no_specifiers;
+  declarator = t.function l (t.named l f) (t.param_names ((a, l) ∷ []));
+  declarations = record { specifiers = t.specifiers l (t.and_specifier t.no_specifiers (t.word l t.int)); declarators = record { declarator = t.named l a; init = None } ∷ [] } ∷ [];
+  body = t.block l [] t.no_stmts;
+}
 
 pub an_old_style_definition : (sc : Scope) (l : Pos) (f a : Name) → sc f ≡ false → sc a ≡ false → function sc (old_style l f a) (of_name l f ∷ of_mark l puncts.OpenParen ∷ of_name l a ∷ of_mark l puncts.CloseParen ∷ of_word l keywords.Int ∷ of_name l a ∷ of_mark l puncts.Semicolon ∷ of_mark l puncts.OpenBrace ∷ of_mark l puncts.CloseBrace ∷ [])
 an_old_style_definition sc l f a f_is a_is =
     let head = of_name l f ∷ of_mark l puncts.OpenParen ∷ of_name l a ∷ of_mark l puncts.CloseParen ∷ [] in
     let middle = of_word l keywords.Int ∷ of_name l a ∷ of_mark l puncts.Semicolon ∷ [] in
-    let end = of_mark l puncts.OpenBrace ∷ of_mark l puncts.CloseBrace ∷ [] in
-    ([], head ++ (middle ++ end), refl, (refl, refl),
-      (head, middle ++ end, refl,
-        (of_name l f ∷ [], of_mark l puncts.OpenParen ∷ of_name l a ∷ of_mark l puncts.CloseParen ∷ [], refl, (refl, (ap (takes_name (named false)) f_is, refl)),
-          (of_mark l puncts.OpenParen ∷ [], of_name l a ∷ of_mark l puncts.CloseParen ∷ [], refl, refl,
-            (of_name l a ∷ [], of_mark l puncts.CloseParen ∷ [], refl, (refl, ([], of_name l a ∷ [], refl, refl, (of_name l a ∷ [], [], refl, (a_is, refl), refl))), (l, refl)))),
-        (middle, end, refl,
-          (middle, [], refl,
-            (of_word l keywords.Int ∷ [], of_name l a ∷ of_mark l puncts.Semicolon ∷ [], refl, ((refl, refl), ([], of_word l keywords.Int ∷ [], refl, refl, refl)),
-              (of_name l a ∷ [], of_mark l puncts.Semicolon ∷ [], refl,
+    let end = of_mark l puncts.OpenBrace ∷ of_mark l puncts.CloseBrace ∷ [] in (
+      [],
+      head ++ (middle ++ end),
+      refl,
+      (refl, refl),
+      (
+        head,
+        middle ++ end,
+        refl,
+        (
+          of_name l f ∷ [],
+          of_mark l puncts.OpenParen ∷ of_name l a ∷ of_mark l puncts.CloseParen ∷ [],
+          refl,
+          (refl, (ap (takes_name (named false)) f_is, refl)),
+          (
+            of_mark l puncts.OpenParen ∷ [],
+            of_name l a ∷ of_mark l puncts.CloseParen ∷ [],
+            refl,
+            refl,
+            (of_name l a ∷ [], of_mark l puncts.CloseParen ∷ [], refl, (refl, ([], of_name l a ∷ [], refl, refl, (of_name l a ∷ [], [], refl, (a_is, refl), refl))), (l, refl)),
+          ),
+        ),
+        (
+          middle,
+          end,
+          refl,
+          (
+            middle,
+            [],
+            refl,
+            (
+              of_word l keywords.Int ∷ [],
+              of_name l a ∷ of_mark l puncts.Semicolon ∷ [],
+              refl,
+              ((refl, refl), ([], of_word l keywords.Int ∷ [], refl, refl, refl)),
+              (
+                of_name l a ∷ [],
+                of_mark l puncts.Semicolon ∷ [],
+                refl,
                 ([], of_name l a ∷ [], refl, refl, (of_name l a ∷ [], [], refl, (typed_takes _, refl), ([], [], refl, refl, refl))),
-                (l, refl))),
-            refl),
-          (refl, (of_mark l puncts.OpenBrace ∷ [], of_mark l puncts.CloseBrace ∷ [], refl, refl, ([], of_mark l puncts.CloseBrace ∷ [], refl, refl, ([], of_mark l puncts.CloseBrace ∷ [], refl, refl, (l, refl))))))))
+                (l, refl),
+              ),
+            ),
+            refl,
+          ),
+          (refl, (of_mark l puncts.OpenBrace ∷ [], of_mark l puncts.CloseBrace ∷ [], refl, refl, ([], of_mark l puncts.CloseBrace ∷ [], refl, refl, ([], of_mark l puncts.CloseBrace ∷ [], refl, refl, (l, refl))))),
+        ),
+      ),
+    )
