@@ -9,3 +9,4 @@ pub mod Misfits
 pub mod Headers
 pub mod Search
 pub mod Counts
+pub mod DefineLines
