@@ -9,4 +9,3 @@ pub mod Misfits
 pub mod Headers
 pub mod Search
 pub mod Counts
-pub mod DefineLines

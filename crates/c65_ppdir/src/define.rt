@@ -1,10 +1,7 @@
 // Lines of #define and #undef (C90 6.8.3).
-ghost use Rattle.std.specs.Prelude.{◌≡◌, [], IfErr, Ok, Some, None};
-ghost use Rattle.c65_macro.specs.Definitions;
+ghost use Rattle.std.specs.Prelude.{IfErr};
 ghost use Rattle.c65_ppdir.specs.Causes.{Stops};
-ghost use Rattle.c65_ppdir.specs.DefineLines;
-ghost use Rattle.c65_ppdir.specs.DefineLines.{parts_of, with_parameter, parameters, parameter_list, shape, free_name, definition, removal, only_name};
-ghost use Rattle.c65_ppdir.specs.Misfits.{IsMisfit, Reads};
+ghost use Rattle.c65_ppdir.specs.Misfits.{IsMisfit};
 
 use crate::calls::{at, define, is_mark, is_name, is_word};
 use crate::line::{Line, Misfit};
@@ -22,8 +19,7 @@ struct Shape {
 
 /// A macro with these parameters and this body.
 fn with_parameters(alloc: Global, params: Vec<Name>, body: &[PpToken]) -> Result<Shape, Misfit>
-    ensures refused { IfErr result IsMisfit }
-    ensures parts { Reads parts_of result (Ok (Some params.items, body.now)) }
+    ensures { IfErr result IsMisfit }
 {
     Ok(Shape {
         params: Some(params),
@@ -33,8 +29,7 @@ fn with_parameters(alloc: Global, params: Vec<Name>, body: &[PpToken]) -> Result
 
 /// One more parameter. No two have one name.
 fn add_parameter(params: &mut Vec<Name>, token: &PpToken) -> Result<(), Misfit>
-    ensures refused { IfErr result IsMisfit }
-    ensures added { Reads (λ _. params.new.items) result (with_parameter params.old.items token.now) }
+    ensures { IfErr result IsMisfit }
 {
     if !is_name(token) || params.contains(&token.spelling) {
         return Err(Misfit::Wrong);
@@ -49,18 +44,19 @@ fn add_parameter(params: &mut Vec<Name>, token: &PpToken) -> Result<(), Misfit>
     Ok(())
 }
 
-/// Reads parameters up to their closing parenthesis, and the body behind it.
+/// Reads parameters behind their opening parenthesis, and the body behind them.
 fn read_parameters(alloc: Global, names: &Names, tokens: &[PpToken]) -> Result<Shape, Misfit>
-    ensures refused { IfErr result IsMisfit }
-    ensures parts { Reads parts_of result (parameters names.now [] tokens.now) }
+    ensures { IfErr result IsMisfit }
 {
     let mut params = Vec::new(alloc);
     let mut rest = tokens;
-    while let Some((name, behind)) = rest.split_first() {
-        match add_parameter(&mut params, name) {
-            Ok(()) => {}
-            Err(misfit) => return Err(misfit),
+    if let Some((first, body)) = rest.split_first() {
+        if is_mark(names, first, b")") {
+            return with_parameters(alloc, params, body);
         }
+    }
+    while let Some((name, behind)) = rest.split_first() {
+        add_parameter(&mut params, name)?;
         let Some((mark, more)) = behind.split_first() else {
             return Err(Misfit::Short);
         };
@@ -75,57 +71,31 @@ fn read_parameters(alloc: Global, names: &Names, tokens: &[PpToken]) -> Result<S
     Err(Misfit::Short)
 }
 
-/// Reads what stands behind the opening parenthesis of a list of parameters, which may be empty.
-fn read_list(alloc: Global, names: &Names, tokens: &[PpToken]) -> Result<Shape, Misfit>
-    ensures refused { IfErr result IsMisfit }
-    ensures parts { Reads parts_of result (parameter_list names.now tokens.now) }
+/// What stands behind the name of a definition: parameters where a parenthesis follows at once, and a body.
+fn read_shape(alloc: Global, names: &Names, tokens: &[PpToken]) -> Result<Shape, Misfit>
+    ensures { IfErr result IsMisfit }
 {
-    match tokens.split_first() {
-        Some((first, body)) if is_mark(names, first, b")") => {
-            with_parameters(alloc, Vec::new(alloc), body)
+    if let Some((first, rest)) = tokens.split_first() {
+        if is_mark(names, first, b"(") && !first.space {
+            return read_parameters(alloc, names, rest);
         }
-        Some(_) => read_parameters(alloc, names, tokens),
-        None => Err(Misfit::Short),
     }
-}
-
-/// A macro without parameters.
-fn without_parameters(alloc: Global, body: &[PpToken]) -> Result<Shape, Misfit>
-    ensures refused { IfErr result IsMisfit }
-    ensures parts { Reads parts_of result (Ok (None, body.now)) }
-{
     Ok(Shape {
         params: None,
-        body: Vec::from_slice(alloc, body)?,
+        body: Vec::from_slice(alloc, tokens)?,
     })
 }
 
-/// What stands behind the name of a definition: parameters where a parenthesis follows at once, and a body.
-fn read_shape(alloc: Global, names: &Names, tokens: &[PpToken]) -> Result<Shape, Misfit>
-    ensures refused { IfErr result IsMisfit }
-    ensures parts { Reads parts_of result (shape names.now tokens.now) }
-{
-    match tokens.split_first() {
-        Some((first, rest)) if is_mark(names, first, b"(") && !first.space => {
-            read_list(alloc, names, rest)
-        }
-        _ => without_parameters(alloc, tokens),
-    }
-}
-
 /// Whether a name may be defined and removed.
-fn is_free(macros: &Macros, names: &Names, token: &PpToken) -> bool
-    ensures { result ≡ DefineLines.is_free macros.now names.now token.now }
-{
+fn is_free(macros: &Macros, names: &Names, token: &PpToken) -> bool {
     !macros.is_predefined(token.spelling) && !is_word(names, token, b"defined")
 }
 
 /// The name that a line defines or removes, which stands first.
 fn read_name(macros: &Macros, names: &Names, tokens: &[PpToken]) -> Result<PpToken, Misfit>
-    ensures refused { IfErr result IsMisfit }
-    ensures name { Reads (λ t. t) result (free_name macros.now names.now tokens.now) }
+    ensures { IfErr result IsMisfit }
 {
-    let Some((first, _)) = tokens.split_first() else {
+    let Some(first) = tokens.first() else {
         return Err(Misfit::Short);
     };
     if !is_name(first) {
@@ -137,38 +107,11 @@ fn read_name(macros: &Macros, names: &Names, tokens: &[PpToken]) -> Result<PpTok
     Ok(*first)
 }
 
-fn is_nothing(tokens: &[PpToken]) -> bool
-    ensures { result ≡ Definitions.is_nothing tokens.now }
-{
-    match tokens.split_first() {
-        Some(_) => false,
-        None => true,
-    }
-}
-
 /// The tokens behind the first.
-pub fn behind_first(tokens: &[PpToken]) -> &[PpToken]
-    ensures { result.now ≡ DefineLines.behind_first tokens.now }
-{
+pub fn behind_first(tokens: &[PpToken]) -> &[PpToken] {
     match tokens.split_first() {
         Some((_, rest)) => rest,
         None => &[],
-    }
-}
-
-/// A macro of these parts.
-fn macro_of(name: Name, shape: Shape) -> Macro
-    ensures { result ≡ DefineLines.macro_of name (parts_of shape) }
-{
-    let Shape { params, body } = shape;
-    let params = match params {
-        Some(params) => Some(Params::from_vec(params)),
-        None => None,
-    };
-    Macro {
-        name,
-        params,
-        body: PpTokens::from_vec(body),
     }
 }
 
@@ -179,17 +122,21 @@ fn read_definition(
     names: &Names,
     tokens: &[PpToken],
 ) -> Result<(Macro, Pos), Misfit>
-    ensures refused { IfErr result IsMisfit }
-    ensures definition { Reads (λ d. d) result (definition macros.now names.now tokens.now) }
+    ensures { IfErr result IsMisfit }
 {
-    let name = match read_name(macros, names, tokens) {
-        Ok(name) => name,
-        Err(misfit) => return Err(misfit),
+    let name = read_name(macros, names, tokens)?;
+    let shape = read_shape(alloc, names, behind_first(tokens))?;
+    let Shape { params, body } = shape;
+    let params = match params {
+        Some(params) => Some(Params::from_vec(params)),
+        None => None,
     };
-    match read_shape(alloc, names, behind_first(tokens)) {
-        Ok(shape) => Ok((macro_of(name.spelling, shape), name.pos)),
-        Err(misfit) => Err(misfit),
-    }
+    let item = Macro {
+        name: name.spelling,
+        params,
+        body: PpTokens::from_vec(body),
+    };
+    Ok((item, name.pos))
 }
 
 /// Does a #define line.
@@ -212,13 +159,13 @@ pub fn define_line(
 
 /// The name that an #undef line removes.
 fn read_removal(macros: &Macros, names: &Names, tokens: &[PpToken]) -> Result<Name, Misfit>
-    ensures refused { IfErr result IsMisfit }
-    ensures name { Reads (λ n. n) result (removal macros.now names.now tokens.now) }
+    ensures { IfErr result IsMisfit }
 {
-    match read_name(macros, names, tokens) {
-        Ok(name) if is_nothing(behind_first(tokens)) => Ok(name.spelling),
-        Ok(_) => Err(Misfit::Wrong),
-        Err(misfit) => Err(misfit),
+    let name = read_name(macros, names, tokens)?;
+    if behind_first(tokens).is_empty() {
+        Ok(name.spelling)
+    } else {
+        Err(Misfit::Wrong)
     }
 }
 
@@ -238,13 +185,12 @@ pub fn undef_line(macros: &mut Macros, names: &Names, line: Line) -> Result<(), 
 
 /// The only name on a line of #ifdef or #ifndef.
 pub fn read_only_name(tokens: &[PpToken]) -> Result<Name, Misfit>
-    ensures refused { IfErr result IsMisfit }
-    ensures name { Reads (λ n. n) result (only_name tokens.now) }
+    ensures { IfErr result IsMisfit }
 {
     let Some((first, rest)) = tokens.split_first() else {
         return Err(Misfit::Short);
     };
-    if is_name(first) && is_nothing(rest) {
+    if is_name(first) && rest.is_empty() {
         Ok(first.spelling)
     } else {
         Err(Misfit::Wrong)
