@@ -1,0 +1,5 @@
+pub mod Blocks
+pub mod Stacks
+pub mod Answering
+pub mod Turns
+pub mod Tokens

@@ -1,0 +1,17 @@
+pub mod Levels
+pub mod Plugs
+pub mod Names
+pub mod Signs
+pub mod Scopes
+pub mod Blocks
+pub mod Listings
+pub mod Lists
+pub mod Optional
+pub mod Frames
+pub mod Expressions
+pub mod Declarators
+pub mod Specifiers
+pub mod Machine
+pub mod Views
+pub mod Leaves
+pub mod Reading
