@@ -1,5 +1,0 @@
-pub mod Blocks
-pub mod Stacks
-pub mod Answering
-pub mod Turns
-pub mod Tokens
