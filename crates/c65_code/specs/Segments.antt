@@ -155,6 +155,17 @@ has_row ops.Bvc mode = is_branched mode
 has_row ops.Bvs mode = is_branched mode
 has_row _ mode = is_implied mode
 
+-- LDX LDY STX STY CPX CPY BIT
+abbrev pub is_index_op : Op → Bool
+is_index_op ops.Ldx = true
+is_index_op ops.Ldy = true
+is_index_op ops.Stx = true
+is_index_op ops.Sty = true
+is_index_op ops.Cpx = true
+is_index_op ops.Cpy = true
+is_index_op ops.Bit = true
+is_index_op _ = false
+
 -- operations that no line has: calls are lines of their own, D and I stay clear, and S moves by pushes and pulls alone
 abbrev pub is_barred : Op → Bool
 is_barred ops.Jsr = true
@@ -245,10 +256,13 @@ is_closing (Do ops.Rts mode operand) = true
 is_closing (Do ops.Jmp mode operand) = true
 is_closing _ = false
 
+-- whether the last of the lines is one, and where there is none, what is said
+abbrev pub closed_by : Bool → List Line → Bool
+closed_by last [] = last
+closed_by last (line ∷ lines) = closed_by (is_closing line) lines
+
 abbrev pub is_closed : List Line → Bool
-is_closed [] = false
-is_closed (line ∷ []) = is_closing line
-is_closed (line ∷ lines) = is_closed lines
+is_closed lines = closed_by false lines
 
 -- what a segment's lines keep: each may stand there, no label stands twice, each target is a label, and the last line is RTS or JMP
 pub record IsSegment (lines : List Line) : Type 0 where

@@ -4,6 +4,7 @@
 mod access;
 mod code;
 mod effects;
+mod fits;
 mod gather;
 mod items;
 mod laws;
@@ -15,6 +16,7 @@ mod segment;
 mod tests;
 
 pub use code::{Bytes, Code, DataCell, Datum, DatumKind, Literals, Symbol};
+pub use fits::{has_opcode, is_segment};
 pub use gather::literals;
 pub use items::Items;
 pub use laws::{

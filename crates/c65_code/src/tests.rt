@@ -5,7 +5,8 @@ ghost use Rattle.c65_code.specs.Parts.{is_part};
 
 use crate::{
     Callee, Code, Count, DataCell, Datum, DatumKind, Draft, Items, Line, Operand, Part, RegSet,
-    Routine, Seg, Sym, Symbol, TosOp, Width, literals,
+    Routine, Seg, Sym, Symbol, TosOp, Width, has_opcode,
+    is_segment, literals,
 };
 use c65_base::{Refusal, Text};
 use c65_mach::{Mode, Op};
@@ -207,6 +208,26 @@ fn segments(rt: HostRuntime) -> Result<(), Fail> {
     replace_two(&mut seg)?;
     assert_eq!(rt; seg.lines(), [BACK, BACK].as_slice());
     Ok(())
+}
+
+#[test]
+fn segments_and_others(rt: HostRuntime) {
+    let branch = does(Op::Bne, Mode::Relative, Operand::To(7));
+    assert!(rt; is_segment(&[MARK, branch, BACK]));
+    assert!(rt; !is_segment(&[branch, BACK]));
+    assert!(rt; !is_segment(&[MARK, MARK, BACK]));
+    assert!(rt; !is_segment(&[FIVE]));
+    assert!(rt; !is_segment(&[]));
+    assert!(rt; has_opcode(Op::Ldx, Mode::ZeroPageY));
+    assert!(rt; !has_opcode(Op::Ldx, Mode::ZeroPageX));
+}
+
+#[test]
+fn sets(rt: HostRuntime) {
+    let ax = RegSet::of(&[Part::A, Part::X]);
+    assert!(rt; ax.has(Part::A) && !ax.has(Part::Zp(25)));
+    assert!(rt; ax.is_within(RegSet::all()) && !RegSet::all().is_within(ax));
+    assert_eq!(rt; ax.minus(RegSet::of(&[Part::A])), RegSet::empty().with(Part::X));
 }
 
 #[test]
