@@ -5,8 +5,7 @@ ghost use Rattle.c65_code.specs.Parts.{is_part};
 
 use crate::{
     Callee, Code, Count, DataCell, Datum, DatumKind, Draft, Items, Line, Operand, Part, RegSet,
-    Routine, Seg, Sym, Symbol, TosOp, Width, has_opcode,
-    is_segment, literals,
+    Routine, Seg, Sym, Symbol, TosOp, Width, has_opcode, is_segment, literals,
 };
 use c65_base::{Refusal, Text};
 use c65_mach::{Mode, Op};
@@ -227,7 +226,10 @@ fn sets(rt: HostRuntime) {
     let ax = RegSet::of(&[Part::A, Part::X]);
     assert!(rt; ax.has(Part::A) && !ax.has(Part::Zp(25)));
     assert!(rt; ax.is_within(RegSet::all()) && !RegSet::all().is_within(ax));
-    assert_eq!(rt; ax.minus(RegSet::of(&[Part::A])), RegSet::empty().with(Part::X));
+    assert_eq!(rt;
+        ax.minus(RegSet::of(&[Part::A])),
+        RegSet::empty().with(Part::X)
+    );
 }
 
 #[test]
