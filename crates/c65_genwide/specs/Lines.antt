@@ -1,0 +1,21 @@
+-- Lines in the words of the assembler, and lines put behind others.
+use Rattle.std.specs.Prelude.{ℕ, List, ◌++◌}
+use Rattle.c65_mach.specs.declared.rows.Op.{Op}
+use Rattle.c65_mach.specs.declared.rows.Mode.TheVariants.{Immediate}
+use Rattle.c65_code.specs.declared.line.Operand.TheVariants.{Byte}
+use Rattle.c65_code.specs.declared.line.Callee.TheVariants as callees
+use Rattle.c65_code.specs.declared.line.Line.{Line}
+use Rattle.c65_code.specs.declared.line.Line.TheVariants.{Do, Call}
+use Rattle.c65_code.specs.declared.routine.Routine.{Routine}
+use Rattle.c65_code.specs.Segments.{Drafted}
+
+-- #v
+abbrev pub value : Op → ℕ → Line
+value op v = Do op Immediate (Byte v)
+
+abbrev pub call : Routine → Line
+call r = Call (callees.Routine r)
+
+-- the draft with lines behind its own
+abbrev pub with_lines : Drafted → List Line → Drafted
+with_lines draft lines = record draft { lines = draft.lines ++ lines }
