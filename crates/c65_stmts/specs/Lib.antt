@@ -1,0 +1,4 @@
+pub mod Signs
+pub mod Frames
+pub mod Lists
+pub mod Views
