@@ -1,0 +1,4 @@
+pub mod CallLaws
+pub mod FoldLaws
+pub mod RangeLaws
+pub mod TypedLaws

@@ -1,9 +1,11 @@
-//! Integer constants among typed trees: what operators make of them (C90 6.3, 6.4).
+//! Integer constants among typed trees: what operators make of them, and folding (C90 6.3, 6.4).
 #![tactic(auto)]
 
 mod compute;
+mod folding;
 #[cfg(test)]
 mod tests;
 mod values;
 
-pub use values::constant;
+pub use folding::fold;
+pub use values::{constant, is_constant};

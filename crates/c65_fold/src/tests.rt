@@ -1,4 +1,4 @@
-use crate::constant;
+use crate::{constant, fold};
 use c65_base::BinaryOp;
 use c65_csem::{TExpr, TKind, int_type};
 use c65_ints::IntType;
@@ -12,14 +12,43 @@ fn number(value: i64) -> TExpr {
     }
 }
 
-/// The value of an operator on two constants of type int.
-fn of(alloc: Global, op: BinaryOp, a: i64, b: i64) -> Result<Option<i64>, AllocError> {
-    let a = Box::new(alloc, number(a))?;
-    let b = Box::new(alloc, number(b))?;
-    Ok(constant(&TExpr {
+/// An operator on two values of type int.
+fn binary(alloc: Global, op: BinaryOp, a: TExpr, b: TExpr) -> Result<TExpr, AllocError> {
+    let a = Box::new(alloc, a)?;
+    let b = Box::new(alloc, b)?;
+    Ok(TExpr {
         ty: int_type(IntType::Int),
         kind: TKind::Binary(op, a, b),
-    }))
+    })
+}
+
+/// The value of an object of type int.
+fn loaded(alloc: Global) -> Result<TExpr, AllocError> {
+    let place = TExpr {
+        ty: int_type(IntType::Int),
+        kind: TKind::Object(0),
+    };
+    let place = Box::new(alloc, place)?;
+    Ok(TExpr {
+        ty: int_type(IntType::Int),
+        kind: TKind::Load(place),
+    })
+}
+
+/// Whether a tree is this constant.
+fn is_number(e: &TExpr, value: i64) -> bool {
+    match &e.kind {
+        TKind::Const(z) => *z == value,
+        _ => false,
+    }
+}
+
+/// Whether the left operand of an operator is this constant.
+fn left_is(e: &TExpr, value: i64) -> bool {
+    match &e.kind {
+        TKind::Binary(_, left, _) => is_number(left, value),
+        _ => false,
+    }
 }
 
 #[test]
@@ -39,7 +68,22 @@ fn operators_on_constants(rt: HostRuntime) -> Result<(), Fail> {
         (BinaryOp::BitOr, -4, 1, Some(-3)),
     ];
     for (op, a, b, value) in &rows {
-        assert!(rt; of(rt.alloc(), *op, *a, *b)? == *value);
+        let e = binary(rt.alloc(), *op, number(*a), number(*b))?;
+        assert!(rt; constant(&e) == *value);
     }
+    Ok(())
+}
+
+/// Of `2*3+x` the product is left as a constant; `1/0` stays.
+#[test]
+fn constants_are_folded(rt: HostRuntime) -> Result<(), Fail> {
+    let alloc = rt.alloc();
+    let product = binary(alloc, BinaryOp::Mul, number(2), number(3))?;
+    let mut sum = binary(alloc, BinaryOp::Add, product, loaded(alloc)?)?;
+    fold(&mut sum);
+    assert!(rt; left_is(&sum, 6));
+    let mut quotient = binary(alloc, BinaryOp::Div, number(1), number(0))?;
+    fold(&mut quotient);
+    assert!(rt; left_is(&quotient, 1));
     Ok(())
 }

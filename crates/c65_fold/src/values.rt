@@ -10,7 +10,7 @@ use c65_csem::{TExpr, TKind};
 use c65_ctype::CType;
 use c65_ints::{IntType, wrap};
 
-fn number_type(ty: &CType) -> Option<IntType>
+pub fn number_type(ty: &CType) -> Option<IntType>
     ensures { result ≡ number_type (ty_of ty.now) }
 {
     match ty {
@@ -19,8 +19,9 @@ fn number_type(ty: &CType) -> Option<IntType>
     }
 }
 
-/// Whether an expression has the form of an integer constant expression.
-fn is_constant(e: &TExpr) -> bool
+/// Whether an expression has the form of an integer constant expression; its value may be
+/// undefined. It takes no memory.
+pub fn is_constant(e: &TExpr) -> bool
     ensures { result ≡ is_constant (typed_of e.now) }
 {
     if number_type(&e.ty.ty).is_none() {
