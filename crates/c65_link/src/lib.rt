@@ -1,0 +1,18 @@
+//! The linker: a code's functions, its data and the routines that it uses, placed and written as an image.
+#![tactic(auto)]
+
+mod body;
+mod bytes;
+mod laws;
+mod layout;
+mod linking;
+mod missing;
+mod opcode;
+mod routines;
+mod symbols;
+#[cfg(test)]
+mod tests;
+mod uses;
+
+pub use laws::{calls_go_on, opcodes_are_the_tables, opposites_differ, routines_are_ordered};
+pub use linking::link;
