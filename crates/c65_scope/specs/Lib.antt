@@ -1,0 +1,4 @@
+pub mod Declaring
+pub mod Parts
+pub mod Scopes
+pub mod Tables
