@@ -1,0 +1,16 @@
+//! Expressions as lines of code, over the frame of their function.
+#![tactic(auto)]
+
+mod arguments;
+mod calls;
+mod expr;
+mod initial;
+mod operands;
+mod places;
+mod shorts;
+mod steps;
+mod types;
+
+pub use c65_frame::{Frame, Home};
+pub use expr::gen_expr;
+pub use initial::gen_set;

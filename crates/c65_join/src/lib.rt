@@ -1,0 +1,18 @@
+//! The units of a program are joined (C90 6.1.2.2, 6.7): names of external linkage with one name
+//! become one item, and each number in a tree becomes a number of the program.
+#![tactic(auto)]
+
+mod assign;
+mod checks;
+mod join;
+mod known;
+mod library;
+mod marks;
+mod numbers;
+mod renumber;
+mod table;
+#[cfg(test)]
+mod tests;
+mod unit;
+
+pub use join::join;

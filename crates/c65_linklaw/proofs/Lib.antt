@@ -1,0 +1,4 @@
+pub mod Labels
+pub mod Sizes
+pub mod Reach
+pub mod Lines
