@@ -1,5 +1,0 @@
-pub mod Contexts
-pub mod Expressions
-pub mod Statements
-pub mod Kinds
-pub mod Units

@@ -1,6 +1,0 @@
-pub mod Specifying
-pub mod Stacks
-pub mod Memory
-pub mod Declaring
-pub mod Faults
-pub mod Causes

@@ -1,4 +1,0 @@
-pub mod Labels
-pub mod Sizes
-pub mod Reach
-pub mod Lines

@@ -1,4 +1,0 @@
-pub mod Stacks
-pub mod Answering
-pub mod Turns
-pub mod Tokens

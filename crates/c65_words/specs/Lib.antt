@@ -1,5 +1,0 @@
-pub mod Borrowed
-pub mod Commands
-pub mod Told
-pub mod Values
-pub mod Words
