@@ -12,3 +12,4 @@ pub mod Pairs
 pub mod Pointers
 pub mod Unaries
 pub mod Values
+pub mod WellTyped

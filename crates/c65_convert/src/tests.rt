@@ -1,5 +1,9 @@
-use crate::{assign, binary, cast};
-use c65_base::{BinaryOp, Code, Name, Pos, Refusal};
+use crate::{
+    Category, address, assign, assign_op, assigned, binary, both, call, cast, choice, classify,
+    comma, condition, either, index, is_lvalue, is_null, member, size_of_expr, size_of_type, step,
+    switch_value, unary,
+};
+use c65_base::{BinaryOp, Code, Name, Pos, Refusal, Size, StepKind, UnaryOp};
 use c65_csem::{TExpr, TKind, int_type, pointer_to};
 use c65_ctype::{CType, Field, FnType, QType, Types};
 use c65_ints::IntType;
@@ -48,6 +52,13 @@ fn number(kind: IntType, value: i64) -> TExpr {
 fn is_int(q: &QType, kind: IntType) -> bool {
     match q.ty {
         CType::Int(other) => other == kind && !q.is_const && !q.is_volatile,
+        _ => false,
+    }
+}
+
+fn is_pointer(q: &QType) -> bool {
+    match classify(&q.ty) {
+        Category::Pointer => true,
         _ => false,
     }
 }
@@ -344,5 +355,166 @@ fn assignments(rt: HostRuntime) -> Result<(), Fail> {
     for (a, b, code) in &rows {
         assert!(rt; assign_fault(rt.alloc(), *a, *b)? == *code);
     }
+    Ok(())
+}
+
+/// The bit-field `b` of a structure.
+fn bits(alloc: Global, types: &Types) -> Result<TExpr, Refusal> {
+    let object = shaped(alloc, types, Shape::Open)?;
+    member(alloc, types, HERE, false, object, Name(1))
+}
+
+fn bit_fields(alloc: Global) -> Result<[bool; 5], Refusal> {
+    let types = structures(alloc)?;
+    let e = bits(alloc, &types)?;
+    let negative = unary(
+        alloc,
+        &types,
+        HERE,
+        UnaryOp::Neg,
+        false,
+        bits(alloc, &types)?,
+    )?;
+    let whole = cast(
+        alloc,
+        &types,
+        HERE,
+        &int_type(IntType::UInt),
+        bits(alloc, &types)?,
+    )?;
+    let sum = binary(
+        alloc,
+        &types,
+        HERE,
+        BinaryOp::Add,
+        whole,
+        number(IntType::Int, 1),
+    )?;
+    let size = fault(size_of_expr(&types, HERE, &e))?;
+    let place = fault(address(alloc, &types, HERE, false, bits(alloc, &types)?))?;
+    let unknown = shaped(alloc, &types, Shape::Open)?;
+    let unknown = fault(member(alloc, &types, HERE, false, unknown, Name(7)))?;
+    Ok([
+        is_int(&negative.ty, IntType::Int),
+        is_int(&sum.ty, IntType::UInt),
+        is_lvalue(&e) && size == Some(Code::BitField),
+        place == Some(Code::BitField),
+        unknown == Some(Code::MemberUnknown),
+    ])
+}
+
+/// The fault of a call with so many arguments of type long, of a function without a prototype or
+/// with one int parameter.
+fn call_fault(alloc: Global, prototype: bool, count: u32) -> Result<TExpr, Refusal> {
+    let types = Types::new(alloc);
+    let mut parameters = Vec::new(alloc);
+    parameters.push(int_type(IntType::Int))?;
+    let parameters = if prototype { Some(parameters) } else { None };
+    let function = FnType::new(int_type(IntType::Int), parameters, false, false);
+    let ty = plain(CType::Function(Box::new(alloc, function)?));
+    let mut arguments = Vec::new(alloc);
+    for _ in 0..count {
+        arguments.push(number(IntType::Long, 1))?;
+    }
+    let function = TExpr {
+        ty,
+        kind: TKind::Func(0),
+    };
+    call(alloc, &types, HERE, function, arguments)
+}
+
+fn calls(alloc: Global) -> Result<[bool; 4], Refusal> {
+    let types = Types::new(alloc);
+    let large = Refusal::TooLarge {
+        limit: Size::ArgumentBytes,
+        value: 251,
+    };
+    let none = call(
+        alloc,
+        &types,
+        HERE,
+        number(IntType::Int, 1),
+        Vec::new(alloc),
+    );
+    Ok([
+        fault(call_fault(alloc, true, 1))?.is_none(),
+        fault(call_fault(alloc, true, 2))? == Some(Code::ArgumentCount),
+        call_fault(alloc, false, 63).is_err_and(|e| e == large),
+        fault(none)? == Some(Code::NotCallable),
+    ])
+}
+
+fn others(alloc: Global) -> Result<[bool; 10], Refusal> {
+    let types = structures(alloc)?;
+    let one = |kind| number(kind, 1);
+    let register = address(alloc, &types, HERE, true, object(int_type(IntType::Int)));
+    let element = index(
+        alloc,
+        &types,
+        HERE,
+        shaped(alloc, &types, Shape::Ints)?,
+        one(IntType::Int),
+    )?;
+    let moved = assign_op(
+        alloc,
+        &types,
+        HERE,
+        BinaryOp::Add,
+        shaped(alloc, &types, Shape::Ints)?,
+        one(IntType::Int),
+    )?;
+    let stepped = step(
+        alloc,
+        &types,
+        HERE,
+        StepKind::PostInc,
+        shaped(alloc, &types, Shape::Nothing)?,
+    );
+    let and = both(alloc, HERE, one(IntType::Long), one(IntType::Int))?;
+    let or = either(
+        alloc,
+        HERE,
+        shaped(alloc, &types, Shape::Open)?,
+        one(IntType::Int),
+    );
+    let last = comma(alloc, one(IntType::Int), one(IntType::Long))?;
+    let size = size_of_type(&types, HERE, &CType::Struct(1))?;
+    let switch = switch_value(alloc, &types, HERE, one(IntType::UChar))?;
+    let test = condition(alloc, HERE, shaped(alloc, &types, Shape::Ints)?)?;
+    let chosen = choice(
+        alloc,
+        &types,
+        HERE,
+        one(IntType::Int),
+        shaped(alloc, &types, Shape::Ints)?,
+        number(IntType::Int, 0),
+    )?;
+    let byte = assigned(
+        alloc,
+        &types,
+        HERE,
+        &CType::Int(IntType::UChar),
+        one(IntType::Int),
+    )?;
+    Ok([
+        fault(register)? == Some(Code::RegisterAddress),
+        is_lvalue(&element) && is_int(&element.ty, IntType::Int),
+        !is_lvalue(&moved),
+        fault(stepped)? == Some(Code::IncompleteType),
+        is_int(&and.ty, IntType::Int),
+        fault(or)? == Some(Code::Operands),
+        is_int(&last.ty, IntType::Long) && is_int(&switch.ty, IntType::Int),
+        is_int(&size.ty, IntType::UInt) && is_pointer(&chosen.ty),
+        !is_null(&test),
+        is_int(&byte.ty, IntType::UChar),
+    ])
+}
+
+#[test]
+fn each_construct_once(rt: HostRuntime) -> Result<(), Fail> {
+    assert!(rt; bit_fields(rt.alloc())? == [true; 5]);
+    assert!(rt; calls(rt.alloc())? == [true; 4]);
+    assert!(rt; call_fault(rt.alloc(), false, 62).is_ok());
+    assert!(rt; others(rt.alloc())? == [true; 10]);
     Ok(())
 }
