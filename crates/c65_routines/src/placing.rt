@@ -1,0 +1,281 @@
+// The runtime in memory: the lines of each segment as bytes, one segment behind another.
+use c65_base::Refusal;
+use c65_code::{
+    Callee, Count, LibraryFunction, Line, Operand, Routine, Seg, TosOp, UnaryRoutine, Width,
+};
+use c65_mach::{Machine, Mode, Op, decode};
+use c65_rtl::{is_narrow, routine};
+use c65_rtlwide::{is_wide, wide_routine};
+use std::alloc::Global;
+
+/// The address of the first routine.
+pub const FIRST: u16 = 0x0200;
+
+/// The address of main, for `start` and `startargs`.
+pub const MAIN: u16 = 0x3000;
+
+const PLAIN: [Routine; 32] = [
+    Routine::PushA,
+    Routine::PushAx,
+    Routine::PushA0,
+    Routine::Push0,
+    Routine::PushEax,
+    Routine::PopA,
+    Routine::PopAx,
+    Routine::PopEax,
+    Routine::PopPtrs,
+    Routine::AddYSp,
+    Routine::SubYSp,
+    Routine::LdAxYSp,
+    Routine::LdAx0Sp,
+    Routine::LdEaxYSp,
+    Routine::StAxYSp,
+    Routine::StAx0Sp,
+    Routine::StEaxYSp,
+    Routine::LdAi,
+    Routine::LdAxi,
+    Routine::LdEaxi,
+    Routine::StATos,
+    Routine::StAxTos,
+    Routine::StEaxTos,
+    Routine::CopyTos,
+    Routine::SignA,
+    Routine::LongAx,
+    Routine::ULongAx,
+    Routine::SaveRegs,
+    Routine::RestRegs,
+    Routine::CallPtr4,
+    Routine::Start,
+    Routine::StartArgs,
+];
+
+pub const COUNTS: [Count; 8] = [
+    Count::One,
+    Count::Two,
+    Count::Three,
+    Count::Four,
+    Count::Five,
+    Count::Six,
+    Count::Seven,
+    Count::Eight,
+];
+
+pub const OPERATORS: [TosOp; 23] = [
+    TosOp::Add,
+    TosOp::Sub,
+    TosOp::Mul,
+    TosOp::And,
+    TosOp::Or,
+    TosOp::Xor,
+    TosOp::Div,
+    TosOp::Mod,
+    TosOp::UDiv,
+    TosOp::UMod,
+    TosOp::Shl,
+    TosOp::Shr,
+    TosOp::Asr,
+    TosOp::Eq,
+    TosOp::Ne,
+    TosOp::Lt,
+    TosOp::Le,
+    TosOp::Gt,
+    TosOp::Ge,
+    TosOp::ULt,
+    TosOp::ULe,
+    TosOp::UGt,
+    TosOp::UGe,
+];
+
+pub const UNARY: [UnaryRoutine; 6] = [
+    UnaryRoutine::Neg,
+    UnaryRoutine::Compl,
+    UnaryRoutine::Shl1,
+    UnaryRoutine::Shr1,
+    UnaryRoutine::Asr1,
+    UnaryRoutine::BNeg,
+];
+
+const LIBRARY: [LibraryFunction; 9] = [
+    LibraryFunction::PutChar,
+    LibraryFunction::GetChar,
+    LibraryFunction::Puts,
+    LibraryFunction::Exit,
+    LibraryFunction::MemCpy,
+    LibraryFunction::MemSet,
+    LibraryFunction::StrCmp,
+    LibraryFunction::StrCpy,
+    LibraryFunction::StrLen,
+];
+
+/// A machine with the whole runtime in memory, and where each routine begins.
+#[derive(Drop)]
+pub struct Runtime {
+    pub machine: Machine,
+    pub starts: Vec<(Routine, u16)>,
+    /// The address behind the last routine.
+    pub end: u16,
+}
+
+fn all_routines(alloc: Global) -> Result<Vec<Routine>, Refusal> {
+    let mut routines = Vec::from_slice(alloc, &PLAIN)?;
+    for count in COUNTS {
+        routines.push(Routine::IncSp(count))?;
+        routines.push(Routine::DecSp(count))?;
+    }
+    for op in OPERATORS {
+        routines.push(Routine::Tos(op, Width::Ax))?;
+        routines.push(Routine::Tos(op, Width::Eax))?;
+    }
+    for op in UNARY {
+        routines.push(Routine::Unary(op, Width::Ax))?;
+        routines.push(Routine::Unary(op, Width::Eax))?;
+    }
+    for function in LIBRARY {
+        routines.push(Routine::Library(function))?;
+    }
+    Ok(routines)
+}
+
+fn segment(alloc: Global, which: Routine) -> Result<Option<Seg>, Refusal> {
+    if is_narrow(which) {
+        return Ok(Some(routine(alloc, which)?));
+    }
+    if is_wide(which) {
+        return Ok(Some(wide_routine(alloc, which)?));
+    }
+    Ok(None)
+}
+
+fn size_of(line: &Line) -> u16 {
+    match line {
+        Line::Label(_) => 0,
+        Line::Call(_) => 3,
+        Line::Do(_, Mode::Implied | Mode::Accumulator, _) => 1,
+        Line::Do(_, Mode::Absolute | Mode::AbsoluteX | Mode::AbsoluteY | Mode::Indirect, _) => 3,
+        Line::Do(_, _, _) => 2,
+    }
+}
+
+fn place_of(lines: &[Line], base: u16, label: u32) -> u16 {
+    let mut at = base;
+    for line in lines {
+        if *line == Line::Label(label) {
+            return at;
+        }
+        at = at.wrapping_add(size_of(line));
+    }
+    at
+}
+
+// A byte without a row where the table has none.
+fn opcode(op: Op, mode: Mode) -> u8 {
+    for byte in 0..=255_u8 {
+        if let Some(row) = decode(byte) {
+            if row.op == op && row.mode == mode {
+                return byte;
+            }
+        }
+    }
+    0x02
+}
+
+/// Where a routine begins; a hook, at its address.
+pub fn start_of(starts: &[(Routine, u16)], which: Routine) -> u16 {
+    match which {
+        Routine::HookOpen => 0xFFF4,
+        Routine::HookClose => 0xFFF5,
+        Routine::HookRead => 0xFFF6,
+        Routine::HookWrite => 0xFFF7,
+        Routine::HookArgs => 0xFFF8,
+        Routine::HookExit => 0xFFF9,
+        _ => listed(starts, which),
+    }
+}
+
+fn listed(starts: &[(Routine, u16)], which: Routine) -> u16 {
+    for (routine, start) in starts {
+        if *routine == which {
+            return *start;
+        }
+    }
+    0
+}
+
+fn called(starts: &[(Routine, u16)], callee: &Callee) -> u16 {
+    match callee {
+        Callee::Routine(which) => start_of(starts, *which),
+        _ => MAIN,
+    }
+}
+
+// The operand of the line at an address: a byte, a branch's distance, or the address of a label.
+fn operand(lines: &[Line], base: u16, at: u16, mode: Mode, operand: Operand) -> u16 {
+    match operand {
+        Operand::Byte(value) | Operand::Zero(value) => u16::from(value),
+        Operand::To(label) if mode == Mode::Relative => place_of(lines, base, label)
+            .wrapping_sub(at)
+            .wrapping_sub(2),
+        Operand::To(label) => place_of(lines, base, label),
+        _ => 0,
+    }
+}
+
+fn put_word(machine: &mut Machine, at: u16, size: u16, word: u16) {
+    let [low, high] = word.to_le_bytes();
+    if size > 1 {
+        machine.write(at.wrapping_add(1), low);
+    }
+    if size > 2 {
+        machine.write(at.wrapping_add(2), high);
+    }
+}
+
+// Puts the lines at an address, and answers the address behind them.
+fn put_lines(machine: &mut Machine, starts: &[(Routine, u16)], lines: &[Line], base: u16) -> u16 {
+    let mut at = base;
+    for line in lines {
+        let size = size_of(line);
+        match *line {
+            Line::Label(_) => {}
+            Line::Call(callee) => {
+                machine.write(at, opcode(Op::Jsr, Mode::Absolute));
+                put_word(machine, at, size, called(starts, &callee));
+            }
+            Line::Do(op, mode, what) => {
+                machine.write(at, opcode(op, mode));
+                put_word(machine, at, size, operand(lines, base, at, mode, what));
+            }
+        }
+        at = at.wrapping_add(size);
+    }
+    at
+}
+
+// Puts each routine behind the one before, and answers where each begins and the last one ends.
+fn put_all(
+    alloc: Global,
+    machine: &mut Machine,
+    starts: &[(Routine, u16)],
+) -> Result<(Vec<(Routine, u16)>, u16), Refusal> {
+    let mut at = FIRST;
+    let mut places = Vec::new(alloc);
+    for which in all_routines(alloc)?.iter() {
+        places.push((*which, at))?;
+        if let Some(seg) = segment(alloc, *which)? {
+            at = put_lines(machine, starts, seg.lines(), at);
+        }
+    }
+    Ok((places, at))
+}
+
+/// The whole runtime. It is put down twice, since calls lead forward.
+pub fn placed_runtime(alloc: Global) -> Result<Runtime, Refusal> {
+    let mut machine = Machine::new(alloc)?;
+    let (starts, _) = put_all(alloc, &mut machine, &[])?;
+    let (starts, end) = put_all(alloc, &mut machine, &starts)?;
+    Ok(Runtime {
+        machine,
+        starts,
+        end,
+    })
+}
