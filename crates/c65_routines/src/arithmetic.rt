@@ -28,7 +28,10 @@ pub fn signed(width: Width, value: i64) -> i64 {
 
 // From 0 up to the size.
 fn wrapped(width: Width, value: i64) -> i64 {
-    value.wrapping_rem_euclid(size(width))
+    match width {
+        Width::Ax => value.wrapping_rem_euclid(65_536),
+        Width::Eax => value.wrapping_rem_euclid(4_294_967_296),
+    }
 }
 
 fn times_two(value: i64, count: i64) -> i64 {
