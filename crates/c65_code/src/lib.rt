@@ -12,8 +12,6 @@ mod line;
 mod parts;
 mod routine;
 mod segment;
-#[cfg(test)]
-mod tests;
 
 pub use code::{Bytes, Code, DataCell, Datum, DatumKind, Literals, Symbol};
 pub use fits::{has_opcode, is_segment};

@@ -3,8 +3,6 @@
 
 mod compute;
 mod folding;
-#[cfg(test)]
-mod tests;
 mod values;
 
 pub use folding::fold;

@@ -11,8 +11,6 @@ mod passing;
 mod place;
 mod sizes;
 mod symbols;
-#[cfg(test)]
-mod tests;
 
 pub use frame::Frame;
 pub use home::{Arrival, Home, Moved};

@@ -2,8 +2,6 @@
 //! operand in the primary register.
 #![tactic(auto)]
 
-#[cfg(test)]
-mod tests;
 mod wide;
 mod writing;
 

@@ -10,8 +10,6 @@ mod missing;
 mod opcode;
 mod routines;
 mod symbols;
-#[cfg(test)]
-mod tests;
 mod uses;
 
 pub use laws::{calls_go_on, opcodes_are_the_tables, opposites_differ, routines_are_ordered};

@@ -13,8 +13,6 @@ mod rest;
 mod sets;
 mod state;
 mod table;
-#[cfg(test)]
-mod tests;
 mod text;
 mod uses;
 

@@ -12,6 +12,3 @@ pub use frame::{
 };
 pub use list::{InitList, Listed, enter_list, with_initialiser};
 pub use sign::{Mark, Sign, is_label, is_mark, least_depth, sign_of, starts_declaration};
-
-#[cfg(test)]
-mod tests;

@@ -9,8 +9,6 @@ mod make_decl;
 mod make_expr;
 mod make_stmt;
 mod stmt;
-#[cfg(test)]
-mod tests;
 
 pub use count::nodes;
 pub use expr::{

@@ -1,25 +1,15 @@
-// Depths and counts of trees made by hand.
-ghost use Rattle.std.specs.Prelude.{◌≡◌};
-ghost use Rattle.c65_tree.specs.Depth.{expr_depth};
-ghost use Rattle.c65_tree.specs.View.{expr_of};
-
-use crate::count::{init_count, stmt_count};
-use crate::expr::{
-    Declarator, Enumerator, Expr, ExprKind, Params, Specifier, SpecifierKind, Specifiers, TypeName,
-};
-use crate::extent::{Extent, depth, expr_extent, type_extent};
-use crate::grow::{with_enumerator, with_expr, with_init};
-use crate::nodes;
-use crate::stmt::{Initialiser, Stmt, Unit};
+// Depths of trees made by hand.
 use c65_base::{BinaryOp, Name, Pos};
 use c65_ints::IntType;
+use c65_tree::{
+    Declarator, Enumerator, Expr, ExprKind, Params, Specifier, SpecifierKind, Specifiers, TypeName,
+    Unit, is_within, nodes, with_enumerator, with_expr,
+};
 use std::alloc::{AllocError, Global};
 
 const AT: Pos = Pos { file: 0, line: 1 };
 
-fn one() -> Expr
-    ensures { expr_depth (expr_of result) ≡ 1 }
-{
+fn one() -> Expr {
     let kind = ExprKind::Number(IntType::Int, 1);
     Expr { pos: AT, kind }
 }
@@ -28,8 +18,8 @@ fn name() -> Expr {
     Expr::name(AT, Name(7))
 }
 
-fn is(extent: Extent, deep: u32, many: u64) -> bool {
-    extent.depth == deep && extent.nodes == many
+fn is_deep(e: &Expr, depth: u16) -> bool {
+    is_within(e, depth) && !is_within(e, depth.saturating_sub(1))
 }
 
 fn int(alloc: Global) -> Result<Specifiers, AllocError> {
@@ -41,7 +31,7 @@ fn int(alloc: Global) -> Result<Specifiers, AllocError> {
 
 #[test]
 fn a_leaf(rt: HostRuntime) {
-    assert_eq!(rt; depth(&one()), 1);
+    assert!(rt; is_deep(&one(), 1));
 }
 
 #[test]
@@ -56,7 +46,7 @@ fn each_parenthesis_counts(rt: HostRuntime) -> Result<(), AllocError> {
     for _ in 0..255 {
         e = Expr::paren(rt.alloc(), AT, e)?;
     }
-    assert!(rt; is(expr_extent(&e), 256, 256));
+    assert!(rt; is_deep(&e, 256));
     Ok(())
 }
 
@@ -72,7 +62,7 @@ fn call(alloc: Global) -> Result<Expr, AllocError> {
 #[test]
 fn a_call(rt: HostRuntime) -> Result<(), AllocError> {
     let e = call(rt.alloc())?;
-    assert!(rt; is(expr_extent(&e), 4, 7));
+    assert!(rt; is_deep(&e, 4));
     Ok(())
 }
 
@@ -85,7 +75,7 @@ fn int_array(alloc: Global) -> Result<TypeName, AllocError> {
 #[test]
 fn a_bound_in_a_type_name(rt: HostRuntime) -> Result<(), AllocError> {
     let e = Expr::sizeof_type(rt.alloc(), AT, int_array(rt.alloc())?)?;
-    assert!(rt; is(expr_extent(&e), 3, 2));
+    assert!(rt; is_deep(&e, 3));
     Ok(())
 }
 
@@ -105,32 +95,7 @@ fn enum_pointer(alloc: Global) -> Result<TypeName, AllocError> {
 
 #[test]
 fn enumerators_and_a_pointer_to_a_function(rt: HostRuntime) -> Result<(), AllocError> {
-    let t = enum_pointer(rt.alloc())?;
-    assert!(rt; is(type_extent(&t), 4, 3));
-    Ok(())
-}
-
-/// `if (1) ; else return x;`
-fn selection(alloc: Global) -> Result<Stmt, AllocError> {
-    let other = Stmt::give_back(AT, Some(name()));
-    Stmt::if_else(alloc, AT, one(), Stmt::eval(AT, None), other)
-}
-
-#[test]
-fn both_branches_count(rt: HostRuntime) -> Result<(), AllocError> {
-    assert_eq!(rt; stmt_count(&selection(rt.alloc())?), 5);
-    Ok(())
-}
-
-/// `{ 1, { x } }`
-fn nested(alloc: Global) -> Result<Initialiser, AllocError> {
-    let inner = with_init(Vec::new(alloc), Initialiser::value(AT, name()))?;
-    let outer = with_init(Vec::new(alloc), Initialiser::value(AT, one()))?;
-    Ok(Initialiser::list(AT, with_init(outer, Initialiser::list(AT, inner))?))
-}
-
-#[test]
-fn braces_are_no_expressions(rt: HostRuntime) -> Result<(), AllocError> {
-    assert_eq!(rt; init_count(&nested(rt.alloc())?), 2);
+    let e = Expr::sizeof_type(rt.alloc(), AT, enum_pointer(rt.alloc())?)?;
+    assert!(rt; is_deep(&e, 5));
     Ok(())
 }

@@ -1,5 +1,5 @@
 use Rattle.std.proofs.Common.{◌<◌, ◌≤◌, length}
-use Rattle.c65_macro.proofs.tests.longest.Given as goal
+use Rattle.c65_calls.proofs.expansions.longest.Given as goal
 
 abbrev pub invariant-loop-length : goal.invariant-loop-length
 invariant-loop-length l = (0 < l.length) × (l.length ≤ length l.text)

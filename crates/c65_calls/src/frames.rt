@@ -1,7 +1,7 @@
-use crate::{Arrival, Frame, Home, Moved};
 use c65_base::{Name, Refusal, Size};
 use c65_csem::{Class, Parts, TFunc, TObject, TStmt};
 use c65_ctype::{CType, FnType, QType, Types};
+use c65_frame::{Arrival, Frame, Home, Moved};
 use c65_ints::IntType;
 use std::alloc::{AllocError, Global};
 use std::test::Fail;

@@ -1,5 +1,5 @@
-use crate::{Frame, Head, enter, place_in};
 use c65_base::Pos;
+use c65_stmts::{Frame, Head, enter, place_in};
 use std::test::Fail;
 
 #[test]

@@ -1,10 +1,10 @@
 // Codes made by hand, and the bytes of their images by the manual.
-use crate::link;
 use c65_base::{LinkKind, Refusal, Size, Text};
 use c65_code::{
     Callee, Code, Datum, DatumKind, Draft, Items, Line, Operand, RegSet, Seg, Sym, Symbol,
     is_segment,
 };
+use c65_link::link;
 use c65_mach::{Mode, Op};
 use std::alloc::Global;
 use std::test::Fail;

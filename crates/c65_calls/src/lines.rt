@@ -3,11 +3,11 @@ ghost use Rattle.std.specs.Prelude.{◌≡◌, ◌∷◌, [], IsTrue, OnOk};
 ghost use Rattle.std.specs.List.{list_all};
 ghost use Rattle.c65_code.specs.Parts.{is_part};
 
-use crate::{
+use c65_base::{Refusal, Text};
+use c65_code::{
     Callee, Code, Count, DataCell, Datum, DatumKind, Draft, Items, Line, Operand, Part, RegSet,
     Routine, Seg, Sym, Symbol, TosOp, Width, has_opcode, is_segment, literals,
 };
-use c65_base::{Refusal, Text};
 use c65_mach::{Mode, Op};
 use std::test::Fail;
 

@@ -1,7 +1,7 @@
 // Operators at each kind of type.
-use crate::gen_wide;
 use c65_base::BinaryOp;
 use c65_code::{Callee, Draft, Line, Operand, RegSet, Routine, TosOp, Width};
+use c65_genwide::gen_wide;
 use c65_ints::IntType;
 use c65_mach::{Mode, Op};
 use std::test::Fail;

@@ -1,6 +1,6 @@
-use crate::{constant, fold};
 use c65_base::BinaryOp;
 use c65_csem::{TExpr, TKind, int_type};
+use c65_fold::{constant, fold};
 use c65_ints::IntType;
 use std::alloc::{AllocError, Global};
 use std::test::Fail;

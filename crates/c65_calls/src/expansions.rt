@@ -1,8 +1,8 @@
 ghost use Rattle.std.specs.Prelude.{◌<◌, ◌≤◌, length};
 
-use crate::{Macro, Macros, Params};
 use c65_base::{Code, Name, Names, Options, Pos, Refusal};
 use c65_lex::{PpKind, PpToken, PpTokens, class_of};
+use c65_macro::{Macro, Macros, Params};
 use std::alloc::Global;
 use std::test::Fail;
 
