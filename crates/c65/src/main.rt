@@ -22,7 +22,7 @@ fn main(rt: HostRuntime) -> ExitCode {
     let mut input = HostSource::new(rt.stdin());
     let mut out = HostSink::new(rt.stdout());
     let mut err = HostSink::new(rt.stderr());
-    let mut made = Made { image: None };
+    let mut made = Made::nothing();
     let outcome = tool(
         alloc, &words, &mut files, &mut input, &mut out, &mut err, &mut made,
     );

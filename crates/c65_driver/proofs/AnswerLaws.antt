@@ -1,77 +1,14 @@
--- From a file's image and its run to what the tool answers.
+-- From what a file holds to the image that it spells.
 use Rattle.std.proofs.Common.{◌≡◌, ℕ, ◌+◌, ◌-◌, ◌*◌, ◌≤◌, ◌<◌, ◌⊎◌, inl, inr, zero, suc, ◌==◌, Bool, true, false, nat_lt, cond, List, [], ◌∷◌, ◌++◌, length, take, get_or, None, Some, Option, Result, Ok, Err, ap, sym, subst, refl, ◌∙◌, arith}
 use Rattle.std.proofs.lemmas.List.{take_all, length-take, get_or-take}
 use Rattle.std.proofs.lemmas.Bool.{cases_lt, lt-ltb, le-ltb}
-use Rattle.c65_base.specs.declared.code.Code.{Code}
-use Rattle.c65_base.specs.declared.code.Code.TheVariants.{Form}
-use Rattle.c65_base.specs.declared.refusal.Pos.{Pos}
 use Rattle.c65_base.specs.declared.refusal.Refusal.{Refusal}
-use Rattle.c65_base.specs.declared.refusal.Refusal.TheVariants.{OutOfMemory, Missing, ReadFault, WriteFault, Source, At, TooLarge, BadImage, Limit, Illegal}
+use Rattle.c65_base.specs.declared.refusal.Refusal.TheVariants.{OutOfMemory, Missing, ReadFault, BadImage}
 use Rattle.c65_mach.specs.declared.image.Image.{Image}
 use Rattle.c65_mach.specs.Images.{Parses, fault_of, late_fault, wrong_in, fixed, word_in, or_else}
 use Rattle.c65_io.specs.Contents.{Contents}
-use Rattle.c65_small.specs.Form.{Small, Says}
-use Rattle.c65_small.specs.SmallImage.{IsImageOf, MakesImage}
 use Rattle.c65_driver.specs.Text.{ReadsHeld, ReadsText, ReadsSome}
-use Rattle.c65_driver.specs.Words.{Command, GoFile, RunImage, NoCommand}
-use Rattle.c65_driver.specs.Tool.{GoServes, RunServes, IsServed, Setup, setup_of, ImageRuns, MadeRuns, StopsBefore, HeldSource, HeldImage, ToldSource, ToldSpelled, ToldImage, SomeSource, SomeRead, SomeImage, GoAnswers, RunAnswers, ToldGo, ToldRun, ToldAnswer, KeepsInput}
-use Rattle.c65_driver.proofs.EndLaws.{SmallRuns, small_runs}
-
--- a text that was cut is not of the form
-whole : (bytes : List ℕ) → length (take 4097 bytes) ≤ 4096 → take 4097 bytes ≡ bytes
-whole bytes short = let fits : length bytes ≤ 4097 = omega (arith, length-take 4097 bytes) in take_all 4097 bytes fits
-
-image_whole : (bytes text : List ℕ) (image : Image) → text ≡ take 4097 bytes → IsImageOf text image → IsImageOf bytes image
-image_whole bytes text image cut of =
-    let cut_of : IsImageOf (take 4097 bytes) image = subst (λ (t : List ℕ). IsImageOf t image) cut of in
-    subst (λ (t : List ℕ). IsImageOf t image) (whole bytes cut_of.says.short) cut_of
-
-says_cut : (bytes text : List ℕ) (program : Small) → text ≡ take 4097 bytes → Says bytes program → Says text program
-says_cut bytes text program cut says =
-    let fits : length bytes ≤ 4097 = omega (arith, says.short) in
-    subst (λ (t : List ℕ). Says t program) (sym (cut ∙ take_all 4097 bytes fits)) says
-
-held_ok : (held : Option (List ℕ)) (path text : List ℕ) (image : Image) → ReadsHeld 4097 path held (Ok text) → IsImageOf text image → HeldSource held path (Ok image)
-held_ok None path text image reads of = absurd reads
-held_ok (Some bytes) path text image reads of = image_whole bytes text image reads of
-
-pub source_ok : (held : Contents) (path text : List ℕ) (image : Image) → ReadsText 4097 held path (Ok text) → IsImageOf text image → ToldSource held path (Ok image)
-source_ok None path text image reads of = tt
-source_ok (Some held) path text image reads of = held_ok (held path) path text image reads of
-
-held_at : (held : Option (List ℕ)) (path text file : List ℕ) (code : Code) (pos : Pos) → ReadsHeld 4097 path held (Ok text) → MakesImage text (Err (At code pos))
-    → file ≡ path → HeldSource held path (Err (Source code file pos.line))
-held_at None path text file code pos reads none same = absurd reads
-held_at (Some bytes) path text file Form pos reads none same =
-    (same, ap (λ (p : Pos). p.line) none.0, λ program says. none.1 program (says_cut bytes text program reads says))
-held_at (Some bytes) path text file code pos reads none same = absurd none
-
-pub source_at : (held : Contents) (path text file : List ℕ) (code : Code) (pos : Pos) → ReadsText 4097 held path (Ok text) → MakesImage text (Err (At code pos))
-    → file ≡ path → ToldSource held path (Err (Source code file pos.line))
-source_at None path text file code pos reads none same = tt
-source_at (Some held) path text file code pos reads none same = held_at (held path) path text file code pos reads none same
-
-pub some_at : (path text file : List ℕ) (code : Code) (pos : Pos) → MakesImage text (Err (At code pos)) → file ≡ path → SomeSource path (Err (Source code file pos.line))
-some_at path text file Form pos none same = (same, ap (λ (p : Pos). p.line) none.0)
-some_at path text file code pos none same = absurd none
-
-held_err : (most : ℕ) (held : Option (List ℕ)) (path : List ℕ) (r : Refusal) → ReadsHeld most path held (Err r) → HeldSource held path (Err r)
-held_err most None path (Missing missed) reads = reads
-held_err most None path OutOfMemory reads = tt
-held_err most (Some bytes) path OutOfMemory reads = tt
-held_err most (Some bytes) path ReadFault reads = tt
-held_err most None path r reads = absurd reads
-held_err most (Some bytes) path r reads = absurd reads
-
-pub source_err : (most : ℕ) (held : Contents) (path : List ℕ) (r : Refusal) → ReadsText most held path (Err r) → ToldSource held path (Err r)
-source_err most None path r reads = tt
-source_err most (Some held) path r reads = held_err most (held path) path r reads
-
-pub some_err : (path : List ℕ) (r : Refusal) → ReadsSome path (Err r) → SomeSource path (Err r)
-some_err path OutOfMemory reads = tt
-some_err path (Missing missed) reads = reads
-some_err path ReadFault reads = tt
-some_err path r reads = absurd reads
+use Rattle.c65_driver.specs.Told.{HeldImage, ToldImage, SomeImage}
 
 spelled_held_err : (most : ℕ) (held : Option (List ℕ)) (path : List ℕ) (r : Refusal) → ReadsHeld most path held (Err r) → HeldImage held path (Err r)
 spelled_held_err most None path (Missing missed) reads = reads
@@ -81,11 +18,11 @@ spelled_held_err most (Some bytes) path ReadFault reads = tt
 spelled_held_err most None path r reads = absurd reads
 spelled_held_err most (Some bytes) path r reads = absurd reads
 
-pub spelled_err : (most : ℕ) (held : Contents) (path : List ℕ) (r : Refusal) → ReadsText most held path (Err r) → ToldSpelled held path (Err r)
+pub spelled_err : (most : ℕ) (held : Contents) (path : List ℕ) (r : Refusal) → ReadsText most held path (Err r) → ToldImage held path (Err r)
 spelled_err most None path r reads = tt
 spelled_err most (Some held) path r reads = spelled_held_err most (held path) path r reads
 
-pub some_read_err : (path : List ℕ) (r : Refusal) → ReadsSome path (Err r) → SomeRead path (Err r)
+pub some_read_err : (path : List ℕ) (r : Refusal) → ReadsSome path (Err r) → SomeImage path (Err r)
 some_read_err path OutOfMemory reads = tt
 some_read_err path (Missing missed) reads = reads
 some_read_err path ReadFault reads = tt
@@ -139,7 +76,7 @@ spelled_held None path bytes image reads parses = absurd reads
 spelled_held (Some all) path bytes image reads parses =
     spelled_by all image (cases_lt (length all) 65549) (subst (λ (bs : List ℕ). Parses bs (Ok image)) reads parses)
 
-pub spelled_ok : (held : Contents) (path bytes : List ℕ) (image : Image) → ReadsText 65549 held path (Ok bytes) → Parses bytes (Ok image) → ToldSpelled held path (Ok image)
+pub spelled_ok : (held : Contents) (path bytes : List ℕ) (image : Image) → ReadsText 65549 held path (Ok bytes) → Parses bytes (Ok image) → ToldImage held path (Ok image)
 spelled_ok None path bytes image reads parses = tt
 spelled_ok (Some held) path bytes image reads parses = spelled_held (held path) path bytes image reads parses
 
@@ -150,7 +87,7 @@ bad_held (Some all) path bytes offset reads parses =
     bad_by all offset (cases_lt (length all) 65549) (subst (λ (bs : List ℕ). Parses bs (Err (BadImage offset))) reads parses)
 
 pub spelled_bad : (held : Contents) (path bytes : List ℕ) (offset : ℕ) → ReadsText 65549 held path (Ok bytes) → Parses bytes (Err (BadImage offset))
-    → ToldSpelled held path (Err (BadImage offset))
+    → ToldImage held path (Err (BadImage offset))
 spelled_bad None path bytes offset reads parses = tt
 spelled_bad (Some held) path bytes offset reads parses = bad_held (held path) path bytes offset reads parses
 
@@ -159,14 +96,6 @@ held_free None path = tt
 held_free (Some bytes) path = tt
 
 -- want of memory is free
-pub spelled_free : (held : Contents) (path : List ℕ) → ToldSpelled held path (Err OutOfMemory)
+pub spelled_free : (held : Contents) (path : List ℕ) → ToldImage held path (Err OutOfMemory)
 spelled_free None path = tt
 spelled_free (Some held) path = held_free (held path) path
-
-source_held_free : (held : Option (List ℕ)) (path : List ℕ) → HeldSource held path (Err OutOfMemory)
-source_held_free None path = tt
-source_held_free (Some bytes) path = tt
-
-pub source_free : (held : Contents) (path : List ℕ) → ToldSource held path (Err OutOfMemory)
-source_free None path = tt
-source_free (Some held) path = source_held_free (held path) path

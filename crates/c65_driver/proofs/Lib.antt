@@ -1,7 +1,9 @@
 pub mod PartLaws
 pub mod TextLaws
-pub mod WordLaws
-pub mod EndLaws
 pub mod AnswerLaws
-pub mod ToolLaws
 pub mod RunLaws
+pub mod GoLaws
+pub mod LinkLaws
+pub mod BuildLaws
+pub mod ImageLaws
+pub mod ToolLaws

@@ -6,7 +6,7 @@ use Rattle.c65_mach.specs.declared.image.Image.{Image}
 use Rattle.c65_sim.specs.declared.run.Budget.{Budget}
 use Rattle.c65_sim.specs.View.{RunView, started, arguments_size}
 use Rattle.c65_sim.specs.Runs.{Runs}
-use Rattle.c65_driver.specs.Tool.{Setup, ImageRuns}
+use Rattle.c65_driver.specs.Setups.{Setup, ImageRuns}
 
 runs_by : (setup : Setup) (image : Image) (new : RunView) (l l' w w' : Option (List ℕ)) (r : Result ℕ Refusal) → arguments_size setup.args ≤ 1024
     → Runs setup.budget setup.guard (started image setup.args) new l l' w w' r → ImageRuns setup image l l' w w' r

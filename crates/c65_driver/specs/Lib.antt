@@ -1,5 +1,8 @@
-pub mod Words
-pub mod Tasks
-pub mod Text
-pub mod Tool
+pub mod Causes
+pub mod Compiled
 pub mod Outcome
+pub mod Outside
+pub mod Setups
+pub mod Text
+pub mod Told
+pub mod Tool

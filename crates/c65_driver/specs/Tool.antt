@@ -1,41 +1,47 @@
--- What the tool answers, and why.
-use Rattle.std.specs.Prelude.{◌≡◌, ℕ, ◌+◌, ◌%◌, ◌^◌, ◌-◌, ◌<◌, ◌≤◌, ◌⊎◌, Bool, true, false, min, List, [], ◌∷◌, length, take, Option, Some, None, Result, Ok, Err, ⊤}
-use Rattle.c65_base.specs.declared.code.Code.{Code}
-use Rattle.c65_base.specs.declared.code.Code.TheVariants.{Form}
+-- What the tool does, and what it answers, and why.
+use Rattle.std.specs.Prelude.{◌≡◌, ℕ, ◌<◌, true, false, List, length, take, Option, None, Result, Ok, Err, ⊤}
 use Rattle.c65_base.specs.declared.refusal.Refusal.{Refusal}
-use Rattle.c65_base.specs.declared.refusal.Refusal.TheVariants.{OutOfMemory, Usage, Missing, ReadFault, WriteFault, Source, TooLarge, BadImage, Limit, Illegal}
-use Rattle.c65_base.specs.declared.refusal.Size.{Size}
+use Rattle.c65_base.specs.declared.refusal.Refusal.TheVariants.{OutOfMemory, Usage, Missing, ReadFault, WriteFault, Source, TooLarge, BadImage, Link, HardStack, Limit, Illegal}
 use Rattle.c65_base.specs.declared.refusal.Size.TheVariants.{Arguments}
+use Rattle.c65_base.specs.Limits.{limit_of}
 use Rattle.c65_base.specs.Lines.{line_of}
+use Rattle.c65_code.specs.declared.code.Code.{Code}
 use Rattle.c65_io.specs.Causes.{Rose}
-use Rattle.c65_io.specs.Contents.{Contents}
 use Rattle.c65_io.specs.Told.{append_told}
 use Rattle.c65_mach.specs.declared.image.Image.{Image}
-use Rattle.c65_mach.specs.Images.{Parses}
-use Rattle.c65_sim.specs.declared.run.Budget.{Budget}
-use Rattle.c65_sim.specs.declared.run.Budget.TheVariants.{Instructions, Cycles}
-use Rattle.c65_sim.specs.View.{RunView, started, arguments_size}
-use Rattle.c65_sim.specs.Runs.{Runs}
-use Rattle.c65_small.specs.Form.{Small, Says}
-use Rattle.c65_small.specs.Meaning.{low_bytes}
-use Rattle.c65_small.specs.SmallImage.{IsImageOf}
-use Rattle.c65_driver.specs.Words.{Command, GoFile, RunImage, NoCommand}
-
--- Usage comes exactly where the words are no command, with the place where none continues.
-abbrev pub UsageIs : Command → Result ℕ Refusal → Type 0
-UsageIs (NoCommand word) result = result ≡ Err (Usage word)
-UsageIs command (Err (Usage word)) = ⊥
-UsageIs command result = ⊤
+use Rattle.c65_ppdir.specs.Counts.{FaultCause, MissCause as HeaderCause}
+use Rattle.c65_sim.specs.Runs.{WriteCause}
+use Rattle.c65_words.specs.Commands.{Spelled}
+use Rattle.c65_words.specs.Words.{Spelling, Is, NoCommand}
+use Rattle.c65_words.specs.declared.command.CommandKind.{CommandKind}
+use Rattle.c65_words.specs.declared.command.CommandKind.TheVariants as kinds
+use Rattle.c65_chain.specs.Refused.{StopsChain, UnitsLimit}
+use Rattle.c65_driver.specs.Causes.{ReadCauses, MissCause}
+use Rattle.c65_driver.specs.Compiled.{IsLinked, output_of, BuildsFile}
+use Rattle.c65_driver.specs.Outside.{FilesSide, Outside}
+use Rattle.c65_driver.specs.Setups.{setup_of, MadeRuns}
+use Rattle.c65_driver.specs.Told.{ToldRun, MadeOf, first_of}
 
 -- No other answer comes of `go`.
-abbrev pub GoServes : List ℕ → Result ℕ Refusal → Type 0
-GoServes file (Ok status) = ⊤
-GoServes file (Err OutOfMemory) = ⊤
-GoServes file (Err (Missing path)) = path ≡ file
-GoServes file (Err ReadFault) = ⊤
-GoServes file (Err WriteFault) = ⊤
-GoServes file (Err (Source Form path line)) = (path ≡ file) × (line ≡ 1)
-GoServes file (Err refusal) = ⊥
+abbrev pub GoServes : Result ℕ Refusal → Type 0
+GoServes (Ok status) = ⊤
+GoServes (Err OutOfMemory) = ⊤
+GoServes (Err (Missing path)) = ⊤
+GoServes (Err ReadFault) = ⊤
+GoServes (Err WriteFault) = ⊤
+GoServes (Err (Source code file line)) = ⊤
+GoServes (Err (TooLarge limit value)) = limit_of limit < value
+GoServes (Err (Link kind name)) = ⊤
+GoServes (Err (HardStack pc)) = ⊤
+GoServes (Err (Limit count)) = ⊤
+GoServes (Err (Illegal pc)) = ⊤
+GoServes (Err refusal) = ⊥
+
+-- No other answer comes of `build`.
+abbrev pub BuildServes : Result ℕ Refusal → Type 0
+BuildServes (Ok status) = status ≡ 0
+BuildServes (Err WriteFault) = ⊤
+BuildServes (Err refusal) = StopsChain refusal
 
 -- No other answer comes of `run`.
 abbrev pub RunServes : List ℕ → Result ℕ Refusal → Type 0
@@ -50,164 +56,71 @@ RunServes image (Err (Limit count)) = ⊤
 RunServes image (Err (Illegal pc)) = ⊤
 RunServes image (Err refusal) = ⊥
 
-abbrev pub IsServed : Command → Result ℕ Refusal → Type 0
-IsServed (GoFile file) result = GoServes file result
-IsServed (RunImage cycles image args) result = RunServes image result
-IsServed (NoCommand word) result = result ≡ Err (Usage word)
+-- `go`: the image is linked from the code that was compiled, and the run is that of the image
+pub record Goes (command : Spelled) (old new : Outside) (code : Option Code) (image : Option Image) (answer : Result ℕ Refusal) : Type 0 where
+  pub served : GoServes answer
+  pub units : UnitsLimit (length command.files) answer
+  pub read : ReadCauses old.files.faults new.files.faults old.input_faults new.input_faults answer
+  pub missing : HeaderCause command.folders old.files.misses new.files.misses answer
+  pub write : WriteCause old.out_faults new.out_faults answer
+  pub files : new.files.contents ≡ old.files.contents
+  pub file_writes : new.files.writes ≡ old.files.writes
+  pub made : MadeRuns (setup_of true command) image old.left new.left old.written new.written answer
+  pub from_code : IsLinked code image answer
 
--- A count of failed reads rose where the answer is a read fault, that of the files or that of the input, and both stand still elsewhere.
-abbrev pub ReadCauses : {T : Type 0} → ℕ → ℕ → ℕ → ℕ → Result T Refusal → Type 0
-ReadCauses files files' input input' (Err ReadFault) = (files ≤ files') × (input ≤ input') × (Rose files files' ⊎ Rose input input')
-ReadCauses files files' input input' result = (files' ≡ files) × (input' ≡ input)
+-- `build`: the image is linked from the code that was compiled, and its bytes are written to one path
+pub record Builds (command : Spelled) (old new : FilesSide) (code : Option Code) (image : Option Image) (answer : Result ℕ Refusal) : Type 0 where
+  pub served : BuildServes answer
+  pub units : UnitsLimit (length command.files) answer
+  pub read : FaultCause old.faults new.faults answer
+  pub missing : HeaderCause command.folders old.misses new.misses answer
+  pub write : WriteCause old.writes new.writes answer
+  pub contents : BuildsFile (output_of command.out) image old.contents new.contents answer
+  pub from_code : IsLinked code image answer
 
--- The count of missing paths rose where the answer is Missing, and stands still elsewhere.
-abbrev pub MissCause : {T : Type 0} → ℕ → ℕ → Result T Refusal → Type 0
-MissCause before now (Err (Missing path)) = (before ≤ now) × Rose before now
-MissCause before now result = now ≡ before
+-- input and output are as they were
+pub record BuildsAlone (command : Spelled) (old new : Outside) (code : Option Code) (image : Option Image) (answer : Result ℕ Refusal) : Type 0 where
+  pub builds : Builds command old.files new.files code image answer
+  pub left : new.left ≡ old.left
+  pub input_faults : new.input_faults ≡ old.input_faults
+  pub written : new.written ≡ old.written
+  pub out_faults : new.out_faults ≡ old.out_faults
 
--- how a command runs its image: the rows or cycles, the guard of the hardware stack, and the program's arguments
-pub record Setup : Type 0 where
-  pub budget : Budget
-  pub guard : Bool
-  pub args : List (List ℕ)
+-- `run`: the image is the one that the file spells, and the run is that of the image
+pub record Runs (command : Spelled) (old new : Outside) (code : Option Code) (image : Option Image) (answer : Result ℕ Refusal) : Type 0 where
+  pub served : RunServes (first_of command.files) answer
+  pub read : ReadCauses old.files.faults new.files.faults old.input_faults new.input_faults answer
+  pub missing : MissCause old.files.misses new.files.misses answer
+  pub write : WriteCause old.out_faults new.out_faults answer
+  pub files : new.files.contents ≡ old.files.contents
+  pub file_writes : new.files.writes ≡ old.files.writes
+  pub made : MadeRuns (setup_of false command) image old.left new.left old.written new.written answer
+  pub told : ToldRun old.files.contents (first_of command.files) answer
+  pub told_made : MadeOf old.files.contents (first_of command.files) image
+  pub no_code : code ≡ None
 
-abbrev pub budget_of : Option ℕ → Budget
-budget_of None = Instructions (2 ^ 64 - 1)
-budget_of (Some cycles) = Cycles cycles
+-- Usage with this word; want of memory may come in its place
+abbrev pub IsUsage : ℕ → Result ℕ Refusal → Type 0
+IsUsage word (Err OutOfMemory) = ⊤
+IsUsage word answer = answer ≡ Err (Usage word)
 
--- argument 0 of `run` is the name of the image
-abbrev pub setup_of : Command → Setup
-setup_of (GoFile file) = record { budget = Instructions (2 ^ 64 - 1); guard = true; args = [] }
-setup_of (RunImage cycles image args) = record { budget = budget_of cycles; guard = false; args = image ∷ args }
-setup_of (NoCommand word) = record { budget = Instructions 0; guard = false; args = [] }
+-- the words are no command, and nothing happens
+pub record Refuses (word : ℕ) (old new : Outside) (code : Option Code) (image : Option Image) (answer : Result ℕ Refusal) : Type 0 where
+  pub usage : IsUsage word answer
+  pub still : new ≡ old
+  pub no_code : code ≡ None
+  pub no_image : image ≡ None
 
--- nothing was read or written
-abbrev pub Untouched : Option (List ℕ) → Option (List ℕ) → Option (List ℕ) → Option (List ℕ) → Type 0
-Untouched left left' written written' = (left' ≡ left) × (written' ≡ written)
+-- the word `text` begins no command yet
+abbrev pub Serves : CommandKind → Spelled → Outside → Outside → Option Code → Option Image → Result ℕ Refusal → Type 0
+Serves kinds.Go command old new code image answer = Goes command old new code image answer
+Serves kinds.Build command old new code image answer = BuildsAlone command old new code image answer
+Serves kinds.Run command old new code image answer = Runs command old new code image answer
+Serves kinds.Text command old new code image answer = Refuses 0 old new code image answer
 
--- What the run of an image does to input and output, and what it answers. Arguments above 1,024 bytes start no run.
-abbrev pub ImageRuns : Setup → Image → Option (List ℕ) → Option (List ℕ) → Option (List ℕ) → Option (List ℕ) → Result ℕ Refusal → Type 0
-ImageRuns setup image left left' written written' (Err OutOfMemory) = Untouched left left' written written'
-ImageRuns setup image left left' written written' (Err (TooLarge limit value)) =
-    (1024 < arguments_size setup.args) × (limit ≡ Arguments) × (value ≡ min (arguments_size setup.args) (2 ^ 64 - 1)) × Untouched left left' written written'
-ImageRuns setup image left left' written written' result =
-    (arguments_size setup.args ≤ 1024)
-    × ((new : RunView) × Runs setup.budget setup.guard (started image setup.args) new left left' written written' result)
-
--- what may be answered before there is an image
-abbrev pub StopsBefore : Result ℕ Refusal → Type 0
-StopsBefore (Err OutOfMemory) = ⊤
-StopsBefore (Err (Usage word)) = ⊤
-StopsBefore (Err (Missing path)) = ⊤
-StopsBefore (Err ReadFault) = ⊤
-StopsBefore (Err (Source code file line)) = ⊤
-StopsBefore (Err (BadImage offset)) = ⊤
-StopsBefore result = ⊥
-
--- The run is that of the image that was made. Without one nothing is read or written.
-abbrev pub MadeRuns : Command → Option Image → Option (List ℕ) → Option (List ℕ) → Option (List ℕ) → Option (List ℕ) → Result ℕ Refusal → Type 0
-MadeRuns command (Some image) left left' written written' result = ImageRuns (setup_of command) image left left' written written' result
-MadeRuns command None left left' written written' result = StopsBefore result × Untouched left left' written written'
-
--- `go` reads no input
-abbrev pub KeepsInput : Command → Option (List ℕ) → Option (List ℕ) → ℕ → ℕ → Type 0
-KeepsInput (RunImage cycles image args) left left' before now = ⊤
-KeepsInput command left left' before now = (left' ≡ left) × (now ≡ before)
-
--- the image of a told source file, or why there is none
-abbrev pub HeldSource : Option (List ℕ) → List ℕ → Result Image Refusal → Type 0
-HeldSource None file (Err (Missing path)) = path ≡ file
-HeldSource held file (Err OutOfMemory) = ⊤
-HeldSource (Some bytes) file (Ok image) = IsImageOf bytes image
-HeldSource (Some bytes) file (Err (Source Form path line)) = (path ≡ file) × (line ≡ 1) × ((program : Small) → Says bytes program → ⊥)
-HeldSource (Some bytes) file (Err ReadFault) = ⊤
-HeldSource held file result = ⊥
-
--- the image that a told file spells, or why there is none
-abbrev pub HeldImage : Option (List ℕ) → List ℕ → Result Image Refusal → Type 0
-HeldImage None file (Err (Missing path)) = path ≡ file
-HeldImage held file (Err OutOfMemory) = ⊤
-HeldImage (Some bytes) file (Ok image) = Parses bytes (Ok image)
-HeldImage (Some bytes) file (Err (BadImage offset)) = Parses bytes (Err (BadImage offset))
-HeldImage (Some bytes) file (Err ReadFault) = ⊤
-HeldImage held file result = ⊥
-
-abbrev pub ToldSource : Contents → List ℕ → Result Image Refusal → Type 0
-ToldSource None file result = ⊤
-ToldSource (Some held) file result = HeldSource (held file) file result
-
-abbrev pub ToldSpelled : Contents → List ℕ → Result Image Refusal → Type 0
-ToldSpelled None file result = ⊤
-ToldSpelled (Some held) file result = HeldImage (held file) file result
-
-abbrev pub ToldImage : Contents → Command → Result Image Refusal → Type 0
-ToldImage contents (GoFile file) result = ToldSource contents file result
-ToldImage contents (RunImage cycles image args) result = ToldSpelled contents image result
-ToldImage contents (NoCommand word) result = ⊥
-
--- an image of the command, or one of its refusals
-abbrev pub SomeSource : List ℕ → Result Image Refusal → Type 0
-SomeSource file (Ok image) = (text : List ℕ) × IsImageOf text image
-SomeSource file (Err OutOfMemory) = ⊤
-SomeSource file (Err (Missing path)) = path ≡ file
-SomeSource file (Err ReadFault) = ⊤
-SomeSource file (Err (Source Form path line)) = (path ≡ file) × (line ≡ 1)
-SomeSource file (Err refusal) = ⊥
-
-abbrev pub SomeRead : List ℕ → Result Image Refusal → Type 0
-SomeRead file (Ok image) = (bytes : List ℕ) × Parses bytes (Ok image)
-SomeRead file (Err OutOfMemory) = ⊤
-SomeRead file (Err (Missing path)) = path ≡ file
-SomeRead file (Err ReadFault) = ⊤
-SomeRead file (Err (BadImage offset)) = ⊤
-SomeRead file (Err refusal) = ⊥
-
-abbrev pub SomeImage : Command → Result Image Refusal → Type 0
-SomeImage (GoFile file) result = SomeSource file result
-SomeImage (RunImage cycles image args) result = SomeRead image result
-SomeImage (NoCommand word) result = ⊥
-
--- what a told text says is what `go` writes and answers
-abbrev pub GoAnswers : Option (List ℕ) → List ℕ → Option (List ℕ) → Option (List ℕ) → Result ℕ Refusal → Type 0
-GoAnswers None file written written' (Err (Missing path)) = (path ≡ file) × (written' ≡ written)
-GoAnswers held file written written' (Err OutOfMemory) = written' ≡ written
-GoAnswers (Some bytes) file written written' (Ok status) =
-    (program : Small) × (Says bytes program × ((written' ≡ append_told written (low_bytes program.puts)) × (status ≡ program.answer % 256)))
-GoAnswers (Some bytes) file written written' (Err WriteFault) =
-    (program : Small) × (Says bytes program × ((count : ℕ) × (written' ≡ append_told written (take count (low_bytes program.puts)))))
-GoAnswers (Some bytes) file written written' (Err (Source Form path line)) =
-    (path ≡ file) × (line ≡ 1) × (written' ≡ written) × ((program : Small) → Says bytes program → ⊥)
-GoAnswers (Some bytes) file written written' (Err ReadFault) = written' ≡ written
-GoAnswers held file written written' result = ⊥
-
--- `run` refuses what a told file holds exactly where it spells no image
-abbrev pub RunAnswers : Option (List ℕ) → List ℕ → Result ℕ Refusal → Type 0
-RunAnswers None file (Err (Missing path)) = path ≡ file
-RunAnswers held file (Err OutOfMemory) = ⊤
-RunAnswers None file result = ⊥
-RunAnswers (Some bytes) file (Err (Missing path)) = ⊥
-RunAnswers (Some bytes) file (Err (BadImage offset)) = Parses bytes (Err (BadImage offset))
-RunAnswers (Some bytes) file (Err ReadFault) = ⊤
-RunAnswers (Some bytes) file result = (image : Image) × Parses bytes (Ok image)
-
-abbrev pub ToldGo : Contents → List ℕ → Option (List ℕ) → Option (List ℕ) → Result ℕ Refusal → Type 0
-ToldGo None file written written' result = ⊤
-ToldGo (Some held) file written written' result = GoAnswers (held file) file written written' result
-
-abbrev pub ToldRun : Contents → List ℕ → Result ℕ Refusal → Type 0
-ToldRun None file result = ⊤
-ToldRun (Some held) file result = RunAnswers (held file) file result
-
-abbrev pub ToldAnswer : Contents → Command → Option (List ℕ) → Option (List ℕ) → Result ℕ Refusal → Type 0
-ToldAnswer contents (GoFile file) written written' result = ToldGo contents file written written' result
-ToldAnswer contents (RunImage cycles image args) written written' result = ToldRun contents image result
-ToldAnswer contents (NoCommand word) written written' result = written' ≡ written
-
--- the image that was made is one of the told file
-abbrev pub MadeOf : Contents → Command → Option Image → Type 0
-MadeOf contents (NoCommand word) made = made ≡ None
-MadeOf contents command None = ⊤
-MadeOf contents command (Some image) = ToldImage contents command (Ok image)
+abbrev pub Performs : Spelling → Outside → Outside → Option Code → Option Image → Result ℕ Refusal → Type 0
+Performs (Is command) old new code image answer = Serves command.kind command old new code image answer
+Performs (NoCommand word) old new code image answer = Refuses word old new code image answer
 
 -- a refusal's line, all of it where the count did not rise; Done writes nothing
 abbrev pub Reports : ℕ → ℕ → Option (List ℕ) → Option (List ℕ) → Result ℕ Refusal → Type 0

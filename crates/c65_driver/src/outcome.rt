@@ -3,13 +3,29 @@ ghost use Rattle.std.specs.Prelude.{◌≡◌};
 ghost use Rattle.c65_driver.specs.Outcome.{code_of};
 
 use c65_base::Refusal;
+use c65_code::Code;
 use c65_mach::Image;
 
 /// What a call made on its way.
-#[derive(Debug, Drop)]
+#[derive(Drop)]
 pub struct Made {
-    /// The image that was run: the compiled one, or the one that was read.
+    /// The code that was linked.
+    pub code: Option<Code>,
+    /// The image that was linked, or the one that was read.
     pub image: Option<Image>,
+}
+
+impl Made {
+    /// Nothing yet.
+    pub fn nothing() -> Made
+        ensures code { result.code ≡ None }
+        ensures image { result.image ≡ None }
+    {
+        Made {
+            code: None,
+            image: None,
+        }
+    }
 }
 
 /// How a call of the tool ended.

@@ -1,14 +1,13 @@
 // The run of an image, as the command asks for it.
-ghost use Rattle.std.specs.Prelude.{◌≡◌, ◌∷◌, IfOk, IfErr, map, string_bytes};
-ghost use Rattle.c65_driver.specs.Tasks.{command_by};
-ghost use Rattle.c65_driver.specs.Tool.{setup_of, budget_of, ImageRuns};
+ghost use Rattle.std.specs.Prelude.{◌≡◌, ◌++◌, IfOk, IfErr, take};
+ghost use Rattle.c65_driver.specs.Setups.{setup_of, budget_of, ImageRuns};
 ghost use Rattle.c65_sim.specs.Runs.{ReadCause, WriteCause};
 
-use crate::words::Task;
 use c65_base::{Refusal, Text};
 use c65_io::{Sink, Source};
 use c65_mach::Image;
 use c65_sim::{Budget, Run};
+use c65_words::Command;
 use std::alloc::Global;
 use std::marker::Model;
 
@@ -21,7 +20,7 @@ pub struct Plan {
 }
 
 impl Model for Plan {
-    ghost use Rattle.c65_driver.specs.Tool.{Setup};
+    ghost use Rattle.c65_driver.specs.Setups.{Setup};
 
     ghost Value = { Setup };
 
@@ -38,44 +37,36 @@ fn budget(cycles: Option<u32>) -> Budget
     }
 }
 
-/// The name of the image, and then the arguments.
-fn arguments(alloc: Global, image: &str, args: &[String]) -> Result<Vec<Text>, Refusal>
-    ensures ok { IfOk result (λ texts. texts.items ≡ image.now ∷ map string_bytes args.now) }
+/// The name of the first file, and then the arguments.
+fn arguments(alloc: Global, files: &[Text], args: &[Text]) -> Result<Vec<Text>, Refusal>
+    ensures ok { IfOk result (λ texts. texts.items ≡ take 1 files.now ++ args.now) }
     ensures refused { IfErr result (λ refusal. refusal ≡ Refusal.OutOfMemory) }
 {
     let mut texts = Vec::new(alloc);
-    texts.push(Text::copy_of(alloc, image.as_bytes())?)?;
+    if let Some(first) = files.first() {
+        texts.push(first.copy(alloc)?)?;
+    }
     for arg in args {
-        texts.push(Text::copy_of(alloc, arg.as_bytes())?)?;
+        texts.push(arg.copy(alloc)?)?;
     }
     Ok(texts)
 }
 
 impl Plan {
-    /// How a command runs its image.
-    pub fn of(alloc: Global, task: &Task) -> Result<Plan, Refusal>
-        ensures ok { IfOk result (λ plan. plan ≡ setup_of (command_by task.now)) }
+    /// How a command runs its image, with the guard or without it.
+    pub fn of(alloc: Global, guard: bool, command: &Command) -> Result<Plan, Refusal>
+        ensures ok { IfOk result (λ plan. plan ≡ setup_of guard command.now) }
         ensures refused { IfErr result (λ refusal. refusal ≡ Refusal.OutOfMemory) }
     {
-        match task {
-            Task::Go { .. } => Ok(Plan {
-                budget: Budget::Instructions(u64::MAX),
-                guard: true,
-                args: Vec::new(alloc),
-            }),
-            Task::Run {
-                cycles,
-                image,
-                args,
-            } => {
-                let args = arguments(alloc, image, args)?;
-                Ok(Plan {
-                    budget: budget(*cycles),
-                    guard: false,
-                    args,
-                })
-            }
-        }
+        let args = match arguments(alloc, &command.files, &command.args) {
+            Ok(args) => args,
+            Err(_) => return Err(Refusal::OutOfMemory),
+        };
+        Ok(Plan {
+            budget: budget(command.cycles),
+            guard,
+            args,
+        })
     }
 
     /// Runs an image.

@@ -1,7 +1,7 @@
 // Reading the front of a file.
 ghost use Rattle.std.specs.Prelude.{◌≡◌, ◌≤◌, ◌<◌};
 ghost use Rattle.c65_driver.specs.Text.{ReadsText, ReadsSome};
-ghost use Rattle.c65_driver.specs.Tool.{MissCause};
+ghost use Rattle.c65_driver.specs.Causes.{MissCause};
 ghost use Rattle.c65_sim.specs.Runs.{ReadCause};
 
 use c65_base::{Refusal, Text};

@@ -1,50 +1,42 @@
 // The top call.
 ghost use Rattle.std.specs.Prelude.{◌≡◌, map, string_bytes};
-ghost use Rattle.c65_driver.specs.Words.{command_of};
-ghost use Rattle.c65_driver.specs.Tool.{UsageIs, IsServed, ReadCauses, MissCause, MadeRuns, KeepsInput, ToldAnswer, MadeOf, Reports};
+ghost use Rattle.c65_words.specs.Words.{spelling_of};
+ghost use Rattle.c65_driver.specs.Tool.{Goes, Builds, Runs, Serves, Performs, Reports};
+ghost use Rattle.c65_driver.specs.Outside.{files_side, outside};
+ghost use Rattle.c65_driver.specs.Told.{first_of};
 ghost use Rattle.c65_driver.specs.Outcome.{answer_of};
-ghost use Rattle.c65_sim.specs.Runs.{WriteCause};
 
-use crate::load::make_image;
+use crate::compiled::{make_image, output, write_image};
+use crate::load::spelled_image;
 use crate::outcome::{Made, Outcome};
 use crate::report::write_line;
 use crate::run::Plan;
-use crate::words::read_words;
 use c65_base::Refusal;
 use c65_io::{Files, Sink, Source};
+use c65_words::{Command, CommandKind, spell};
 use std::alloc::Global;
 
-/// Makes the image of the command, keeps it in `made`, and runs it.
-fn perform<F: Files, I: Source, O: Sink>(
+/// Compiles and links the files, and runs their image.
+fn go<F: Files, I: Source, O: Sink>(
     alloc: Global,
-    words: &[String],
+    command: &Command,
     files: &mut F,
     input: &mut I,
     out: &mut O,
     made: &mut Made,
 ) -> Result<u8, Refusal>
-    ensures usage { UsageIs (command_of (map string_bytes words.now)) result }
-    ensures served { IsServed (command_of (map string_bytes words.now)) result }
-    ensures read { ReadCauses (F.faults files.old) (F.faults files.new) (I.faults input.old) (I.faults input.new) result }
-    ensures missing { MissCause (F.misses files.old) (F.misses files.new) result }
-    ensures write { WriteCause (O.faults out.old) (O.faults out.new) result }
-    ensures files { F.contents files.new ≡ F.contents files.old }
-    ensures file_writes { F.write_faults files.new ≡ F.write_faults files.old }
-    ensures input { KeepsInput (command_of (map string_bytes words.now)) (I.left input.old) (I.left input.new) (I.faults input.old) (I.faults input.new) }
-    ensures made { MadeRuns (command_of (map string_bytes words.now)) made.new.image (I.left input.old) (I.left input.new) (O.written out.old) (O.written out.new) result }
-    ensures told { ToldAnswer (F.contents files.old) (command_of (map string_bytes words.now)) (O.written out.old) (O.written out.new) result }
-    ensures told_made { MadeOf (F.contents files.old) (command_of (map string_bytes words.now)) made.new.image }
+    requires code { made.old.code ≡ None }
+    requires image { made.old.image ≡ None }
+    ensures { Goes command.now
+        (outside (F.contents files.old) (F.faults files.old) (F.write_faults files.old) (F.misses files.old) (I.left input.old) (I.faults input.old) (O.written out.old) (O.faults out.old))
+        (outside (F.contents files.new) (F.faults files.new) (F.write_faults files.new) (F.misses files.new) (I.left input.new) (I.faults input.new) (O.written out.new) (O.faults out.new))
+        made.new.code made.new.image result }
 {
-    made.image = None;
-    let task = match read_words(words) {
-        Ok(task) => task,
-        Err(word) => return Err(Refusal::Usage { word }),
-    };
-    let plan = match Plan::of(alloc, &task) {
+    let plan = match Plan::of(alloc, true, command) {
         Ok(plan) => plan,
         Err(_) => return Err(Refusal::OutOfMemory),
     };
-    let image = match make_image(alloc, files, &task) {
+    let image = match make_image(alloc, files, command, made) {
         Ok(image) => image,
         Err(refusal) => return Err(refusal),
     };
@@ -53,8 +45,105 @@ fn perform<F: Files, I: Source, O: Sink>(
     answer
 }
 
-/// Does what the words after the program's name say: `go FILE` compiles and runs a file, and
-/// `run [-x N] IMAGE [-- any ARG]` runs an image, up to N cycles. The image is left in `made`.
+/// Compiles and links the files, and writes their image.
+fn build<F: Files>(
+    alloc: Global,
+    command: &Command,
+    files: &mut F,
+    made: &mut Made,
+) -> Result<u8, Refusal>
+    requires code { made.old.code ≡ None }
+    requires image { made.old.image ≡ None }
+    ensures { Builds command.now
+        (files_side (F.contents files.old) (F.faults files.old) (F.write_faults files.old) (F.misses files.old))
+        (files_side (F.contents files.new) (F.faults files.new) (F.write_faults files.new) (F.misses files.new))
+        made.new.code made.new.image result }
+{
+    let image = match make_image(alloc, files, command, made) {
+        Ok(image) => image,
+        Err(refusal) => return Err(refusal),
+    };
+    let answer = write_image(alloc, files, output(command), &image);
+    made.image = Some(image);
+    answer
+}
+
+/// The path of the image that a command runs.
+fn image_path(command: &Command) -> &[u8]
+    ensures { result.now ≡ first_of command.now.files }
+{
+    match command.files.first() {
+        Some(path) => path.as_slice(),
+        None => &[],
+    }
+}
+
+/// Runs the image that a file spells.
+fn run_image<F: Files, I: Source, O: Sink>(
+    alloc: Global,
+    command: &Command,
+    files: &mut F,
+    input: &mut I,
+    out: &mut O,
+    made: &mut Made,
+) -> Result<u8, Refusal>
+    requires code { made.old.code ≡ None }
+    requires image { made.old.image ≡ None }
+    ensures { Runs command.now
+        (outside (F.contents files.old) (F.faults files.old) (F.write_faults files.old) (F.misses files.old) (I.left input.old) (I.faults input.old) (O.written out.old) (O.faults out.old))
+        (outside (F.contents files.new) (F.faults files.new) (F.write_faults files.new) (F.misses files.new) (I.left input.new) (I.faults input.new) (O.written out.new) (O.faults out.new))
+        made.new.code made.new.image result }
+{
+    let plan = match Plan::of(alloc, false, command) {
+        Ok(plan) => plan,
+        Err(_) => return Err(Refusal::OutOfMemory),
+    };
+    let image = match spelled_image(alloc, files, image_path(command)) {
+        Ok(image) => image,
+        Err(refusal) => return Err(refusal),
+    };
+    let answer = plan.run(alloc, &image, input, out);
+    made.image = Some(image);
+    answer
+}
+
+fn kind_of(command: &Command) -> CommandKind
+    ensures { result ≡ command.now.kind }
+{
+    command.kind
+}
+
+/// Does a command. The assembly text is not written yet: its command is none.
+#[tactic(auto, using(crate::proofs::ToolLaws::performs_text))]
+fn perform<F: Files, I: Source, O: Sink>(
+    alloc: Global,
+    words: &[String],
+    files: &mut F,
+    input: &mut I,
+    out: &mut O,
+    made: &mut Made,
+) -> Result<u8, Refusal>
+    ensures { Performs (spelling_of (map string_bytes words.now))
+        (outside (F.contents files.old) (F.faults files.old) (F.write_faults files.old) (F.misses files.old) (I.left input.old) (I.faults input.old) (O.written out.old) (O.faults out.old))
+        (outside (F.contents files.new) (F.faults files.new) (F.write_faults files.new) (F.misses files.new) (I.left input.new) (I.faults input.new) (O.written out.new) (O.faults out.new))
+        made.new.code made.new.image result }
+{
+    made.code = None;
+    made.image = None;
+    let command = match spell(alloc, words) {
+        Ok(command) => command,
+        Err(refusal) => return Err(refusal),
+    };
+    match kind_of(&command) {
+        CommandKind::Go => go(alloc, &command, files, input, out, made),
+        CommandKind::Build => build(alloc, &command, files, made),
+        CommandKind::Run => run_image(alloc, &command, files, input, out, made),
+        CommandKind::Text => Err(Refusal::Usage { word: 0 }),
+    }
+}
+
+/// Does what the words after the program's name say: `go` compiles, links and runs files, `build` writes their image, and `run`
+/// runs an image. What was made is left in `made`.
 ///
 /// The line of a refusal goes to `err`, all of it unless `err` fails.
 pub fn tool<F: Files, I: Source, O: Sink, E: Sink>(
@@ -66,17 +155,10 @@ pub fn tool<F: Files, I: Source, O: Sink, E: Sink>(
     err: &mut E,
     made: &mut Made,
 ) -> Outcome
-    ensures usage { UsageIs (command_of (map string_bytes words.now)) (answer_of result) }
-    ensures served { IsServed (command_of (map string_bytes words.now)) (answer_of result) }
-    ensures read { ReadCauses (F.faults files.old) (F.faults files.new) (I.faults input.old) (I.faults input.new) (answer_of result) }
-    ensures missing { MissCause (F.misses files.old) (F.misses files.new) (answer_of result) }
-    ensures write { WriteCause (O.faults out.old) (O.faults out.new) (answer_of result) }
-    ensures files { F.contents files.new ≡ F.contents files.old }
-    ensures file_writes { F.write_faults files.new ≡ F.write_faults files.old }
-    ensures input { KeepsInput (command_of (map string_bytes words.now)) (I.left input.old) (I.left input.new) (I.faults input.old) (I.faults input.new) }
-    ensures made { MadeRuns (command_of (map string_bytes words.now)) made.new.image (I.left input.old) (I.left input.new) (O.written out.old) (O.written out.new) (answer_of result) }
-    ensures told { ToldAnswer (F.contents files.old) (command_of (map string_bytes words.now)) (O.written out.old) (O.written out.new) (answer_of result) }
-    ensures told_made { MadeOf (F.contents files.old) (command_of (map string_bytes words.now)) made.new.image }
+    ensures performed { Performs (spelling_of (map string_bytes words.now))
+        (outside (F.contents files.old) (F.faults files.old) (F.write_faults files.old) (F.misses files.old) (I.left input.old) (I.faults input.old) (O.written out.old) (O.faults out.old))
+        (outside (F.contents files.new) (F.faults files.new) (F.write_faults files.new) (F.misses files.new) (I.left input.new) (I.faults input.new) (O.written out.new) (O.faults out.new))
+        made.new.code made.new.image (answer_of result) }
     ensures report { Reports (E.faults err.old) (E.faults err.new) (E.written err.old) (E.written err.new) (answer_of result) }
 {
     match perform(alloc, words, files, input, out, made) {

@@ -55,7 +55,7 @@ pub fn command(alloc: Global, given: &Given) -> Result<Left, Refusal> {
     );
     let mut out = mem_sink(alloc, Vec::from_slice(alloc, given.fail_out)?);
     let mut err = mem_sink(alloc, Vec::new(alloc));
-    let mut made = Made { image: None };
+    let mut made = Made::nothing();
     let outcome = tool(
         alloc, &words, &mut files, &mut input, &mut out, &mut err, &mut made,
     );

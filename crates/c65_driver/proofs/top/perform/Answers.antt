@@ -1,88 +1,41 @@
-use Rattle.std.proofs.Common.{map, string_bytes, refl}
-use Rattle.c65_driver.specs.Words.{command_of}
-use Rattle.c65_driver.specs.Tasks.{command_by}
-use Rattle.c65_driver.proofs.ToolLaws.{Before, before_words, before_free, before_run, After, after_run}
+use Rattle.std.proofs.Common.{◌∙◌, sym, map, string_bytes, refl}
+use Rattle.c65_words.specs.Words.{spelling_of}
+use Rattle.c65_words.specs.declared.command.CommandKind.TheVariants as kinds
+use Rattle.c65_driver.specs.Outside.{outside}
+use Rattle.c65_driver.proofs.ToolLaws.{performs_not, performs_by}
 use Rattle.c65_driver.proofs.top.perform.Goals as goal
 
 pub returns-in-Err : goal.returns-in-Err
 returns-in-Err g c =
-    let before = before_words (command_of (map string_bytes c.args.words.now)) c.in-Err.word (g.F.Files.contents c.args.files.now)
-    (g.F.Files.faults c.args.files.now) (g.I.Source.faults c.args.input.now) (g.F.Files.misses c.args.files.now) (g.O.Sink.faults c.args.out.now)
-    (g.I.Source.left c.args.input.now) (g.O.Sink.written c.args.out.now) c.in-Err.ensures in
-    record {
-      usage = before.usage;
-      served = before.served;
-      read = before.read;
-      missing = before.missing;
-      write = before.write;
-      files = refl;
-      file_writes = refl;
-      input = before.input;
-      made = before.made;
-      told = before.told;
-      told_made = before.told_made;
-    }
+    performs_not (spelling_of (map string_bytes c.args.words.now))
+    (outside (g.F.Files.contents c.args.files.now) (g.F.Files.faults c.args.files.now) (g.F.Files.write_faults c.args.files.now) (g.F.Files.misses c.args.files.now)
+    (g.I.Source.left c.args.input.now) (g.I.Source.faults c.args.input.now) (g.O.Sink.written c.args.out.now) (g.O.Sink.faults c.args.out.now))
+    c.in-Err.refusal c.in-Err.ensures
 
-pub returns-in-Err-of : goal.returns-in-Err-of
-returns-in-Err-of g c =
-    let before = before_free (command_of (map string_bytes c.args.words.now)) c.in-Ok.task (g.F.Files.contents c.args.files.now)
-    (g.F.Files.faults c.args.files.now) (g.I.Source.faults c.args.input.now) (g.F.Files.misses c.args.files.now) (g.O.Sink.faults c.args.out.now)
-    (g.I.Source.left c.args.input.now) (g.O.Sink.written c.args.out.now) c.in-Ok.ensures in
-    record {
-      usage = before.usage;
-      served = before.served;
-      read = before.read;
-      missing = before.missing;
-      write = before.write;
-      files = refl;
-      file_writes = refl;
-      input = before.input;
-      made = before.made;
-      told = before.told;
-      told_made = before.told_made;
-    }
+pub returns-in-Go : goal.returns-in-Go
+returns-in-Go g c =
+    performs_by (spelling_of (map string_bytes c.args.words.now)) c.in-Ok.command kinds.Go
+    (outside (g.F.Files.contents c.args.files.now) (g.F.Files.faults c.args.files.now) (g.F.Files.write_faults c.args.files.now) (g.F.Files.misses c.args.files.now)
+    (g.I.Source.left c.args.input.now) (g.I.Source.faults c.args.input.now) (g.O.Sink.written c.args.out.now) (g.O.Sink.faults c.args.out.now))
+    (outside (g.F.Files.contents c.go.new.files) (g.F.Files.faults c.go.new.files) (g.F.Files.write_faults c.go.new.files) (g.F.Files.misses c.go.new.files)
+    (g.I.Source.left c.go.new.input) (g.I.Source.faults c.go.new.input) (g.O.Sink.written c.go.new.out) (g.O.Sink.faults c.go.new.out))
+    c.go.new.made.code c.go.new.made.image c.go.result c.in-Ok.ensures (sym c.kind_of.ensures ∙ c.in-Go.is) c.go.ensures
 
-pub returns-in-Err-make_image : goal.returns-in-Err-make_image
-returns-in-Err-make_image g c =
-    let made = c.in-Err-make_image.ensures in
-    let before = before_run (command_of (map string_bytes c.args.words.now)) (command_by c.in-Ok.task) (g.F.Files.contents c.args.files.now)
-    (g.F.Files.faults c.args.files.now) (g.F.Files.faults c.make_image.new.files) (g.I.Source.faults c.args.input.now)
-    (g.F.Files.misses c.args.files.now) (g.F.Files.misses c.make_image.new.files) (g.O.Sink.faults c.args.out.now)
-    (g.I.Source.left c.args.input.now) (g.O.Sink.written c.args.out.now) c.in-Err-make_image.refusal c.in-Ok.ensures made.told made.some made.read made.missing in
-    record {
-      usage = before.usage;
-      served = before.served;
-      read = before.read;
-      missing = before.missing;
-      write = before.write;
-      files = made.same;
-      file_writes = made.writes;
-      input = before.input;
-      made = before.made;
-      told = before.told;
-      told_made = before.told_made;
-    }
+pub returns-in-Build : goal.returns-in-Build
+returns-in-Build g c =
+    performs_by (spelling_of (map string_bytes c.args.words.now)) c.in-Ok.command kinds.Build
+    (outside (g.F.Files.contents c.args.files.now) (g.F.Files.faults c.args.files.now) (g.F.Files.write_faults c.args.files.now) (g.F.Files.misses c.args.files.now)
+    (g.I.Source.left c.args.input.now) (g.I.Source.faults c.args.input.now) (g.O.Sink.written c.args.out.now) (g.O.Sink.faults c.args.out.now))
+    (outside (g.F.Files.contents c.build.new.files) (g.F.Files.faults c.build.new.files) (g.F.Files.write_faults c.build.new.files) (g.F.Files.misses c.build.new.files)
+    (g.I.Source.left c.args.input.now) (g.I.Source.faults c.args.input.now) (g.O.Sink.written c.args.out.now) (g.O.Sink.faults c.args.out.now))
+    c.build.new.made.code c.build.new.made.image c.build.result c.in-Ok.ensures (sym c.kind_of.ensures ∙ c.in-Build.is)
+    (record { builds = c.build.ensures; left = refl; input_faults = refl; written = refl; out_faults = refl })
 
-pub returns : goal.returns
-returns g c =
-    let made = c.in-Ok-make_image.ensures in
-    let run = c.run-answer.ensures in
-    let after = after_run (command_of (map string_bytes c.args.words.now)) (command_by c.in-Ok.task) c.in-Ok-of.plan (g.F.Files.contents c.args.files.now)
-    c.in-Ok-make_image.image (g.F.Files.faults c.args.files.now) (g.F.Files.faults c.make_image.new.files)
-    (g.I.Source.faults c.args.input.now) (g.I.Source.faults c.run-answer.new.input)
-    (g.F.Files.misses c.args.files.now) (g.F.Files.misses c.make_image.new.files)
-    (g.I.Source.left c.args.input.now) (g.I.Source.left c.run-answer.new.input) (g.O.Sink.written c.args.out.now) (g.O.Sink.written c.run-answer.new.out)
-    c.run-answer.result c.in-Ok.ensures c.in-Ok-of.ensures.ok made.told made.some run.run run.read made.read made.missing in
-    record {
-      usage = after.usage;
-      served = after.served;
-      read = after.read;
-      missing = after.missing;
-      write = run.write;
-      files = made.same;
-      file_writes = made.writes;
-      input = after.input;
-      made = after.made;
-      told = after.told;
-      told_made = after.told_made;
-    }
+pub returns-in-Run : goal.returns-in-Run
+returns-in-Run g c =
+    performs_by (spelling_of (map string_bytes c.args.words.now)) c.in-Ok.command kinds.Run
+    (outside (g.F.Files.contents c.args.files.now) (g.F.Files.faults c.args.files.now) (g.F.Files.write_faults c.args.files.now) (g.F.Files.misses c.args.files.now)
+    (g.I.Source.left c.args.input.now) (g.I.Source.faults c.args.input.now) (g.O.Sink.written c.args.out.now) (g.O.Sink.faults c.args.out.now))
+    (outside (g.F.Files.contents c.run_image.new.files) (g.F.Files.faults c.run_image.new.files) (g.F.Files.write_faults c.run_image.new.files) (g.F.Files.misses c.run_image.new.files)
+    (g.I.Source.left c.run_image.new.input) (g.I.Source.faults c.run_image.new.input) (g.O.Sink.written c.run_image.new.out) (g.O.Sink.faults c.run_image.new.out))
+    c.run_image.new.made.code c.run_image.new.made.image c.run_image.result c.in-Ok.ensures (sym c.kind_of.ensures ∙ c.in-Run.is) c.run_image.ensures

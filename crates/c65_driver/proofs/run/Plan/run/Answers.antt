@@ -1,5 +1,5 @@
 use Rattle.std.proofs.Common.{◌≡◌}
-use Rattle.c65_driver.specs.Tool.{Setup}
+use Rattle.c65_driver.specs.Setups.{Setup}
 use Rattle.c65_driver.proofs.RunLaws.{image_runs}
 use Rattle.c65_driver.proofs.run.Plan.run.Goals as goal
 

@@ -1,0 +1,49 @@
+// One unit.
+ghost use Rattle.c65_chain.specs.Compiled.{Compiles, outside};
+
+use crate::refused::located;
+use c65_base::{Names, Options, Refusal, Text};
+use c65_csem::TUnit;
+use c65_decl::parse_unit;
+use c65_init::elab_unit;
+use c65_io::Files;
+use c65_lex::PpUnit;
+use c65_ppdir::{Define, preprocess};
+use c65_scan::scan;
+use std::alloc::Global;
+
+/// The typed parts of a preprocessed unit.
+fn typed(alloc: Global, options: &Options, unit: &PpUnit, names: &Names) -> Result<TUnit, Refusal> {
+    let tokens = match scan(alloc, unit, names) {
+        Ok(tokens) => tokens,
+        Err(refusal) => return Err(refusal),
+    };
+    let tree = match parse_unit(alloc, tokens.as_slice()) {
+        Ok(tree) => tree,
+        Err(refusal) => return Err(refusal),
+    };
+    elab_unit(alloc, &tree, options)
+}
+
+/// The typed parts of the unit of a file.
+pub fn typed_unit<F: Files>(
+    alloc: Global,
+    files: &mut F,
+    options: &Options,
+    defines: &[Define],
+    folders: &[Text],
+    path: &Text,
+    names: &mut Names,
+) -> Result<TUnit, Refusal>
+    ensures { Compiles folders.now (outside (F.contents files.old) (F.write_faults files.old) (F.faults files.old) (F.misses files.old))
+        (outside (F.contents files.new) (F.write_faults files.new) (F.faults files.new) (F.misses files.new)) result }
+{
+    let unit = match preprocess(alloc, files, options, defines, folders, path, names) {
+        Ok(unit) => unit,
+        Err(refusal) => return Err(refusal),
+    };
+    match typed(alloc, options, &unit, names) {
+        Ok(parts) => Ok(parts),
+        Err(refusal) => Err(located(alloc, refusal, unit.files)),
+    }
+}

@@ -1,0 +1,17 @@
+//! Whether typed trees are well typed, and a unit of them a whole program: tests for those who make
+//! a unit of parts.
+#![tactic(auto)]
+
+mod calls;
+mod exprs;
+mod labels;
+mod lists;
+mod nodes;
+mod operators;
+mod same;
+mod sizes;
+mod stmts;
+mod types;
+mod units;
+
+pub use units::{is_program, is_unit, program_from, unit_from};

@@ -1,0 +1,14 @@
+pub mod Access
+pub mod Binaries
+pub mod Calls
+pub mod Casts
+pub mod Categories
+pub mod Changes
+pub mod Choices
+pub mod Constness
+pub mod Logic
+pub mod Numbers
+pub mod Pairs
+pub mod Pointers
+pub mod Unaries
+pub mod Values

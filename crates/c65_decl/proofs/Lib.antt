@@ -1,0 +1,6 @@
+pub mod Specifying
+pub mod Stacks
+pub mod Memory
+pub mod Declaring
+pub mod Enumerating
+pub mod Turns

@@ -1,0 +1,9 @@
+use Rattle.std.proofs.Common.{◌≡◌, ap, sym, ◌∙◌}
+use Rattle.std.specs.List.{list_any}
+use Rattle.c65_tree.specs.View.{specifier_of}
+use Rattle.c65_grammar.specs.Parts.{is_typedef_specifier}
+use Rattle.c65_decl.proofs.Specifying.{typedef_among}
+use Rattle.c65_decl.proofs.trees.is_typedef.Goals as goal
+
+pub returns : goal.returns
+returns c = c.any_typedef.ensures ∙ ap (list_any (λ q. is_typedef_specifier (specifier_of q))) c.deref.ensures.value ∙ sym (typedef_among c.args.specifiers.now)

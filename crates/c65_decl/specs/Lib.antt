@@ -1,0 +1,10 @@
+pub mod Words
+pub mod Here
+pub mod Expressions
+pub mod Initialisers
+pub mod Enumerators
+pub mod Declaring
+pub mod Decls
+pub mod Openings
+pub mod Statements
+pub mod Units

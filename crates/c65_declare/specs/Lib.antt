@@ -1,0 +1,9 @@
+pub mod Calling
+pub mod Constants
+pub mod Declarators
+pub mod Drafts
+pub mod Headings
+pub mod Prototypes
+pub mod Shapes
+pub mod Tagging
+pub mod Words

@@ -1,0 +1,74 @@
+-- What compiling and linking a command's files gives, and what writing the image does.
+use Rattle.std.specs.Prelude.{◌≡◌, ℕ, List, length, codes, Option, Some, None, Result, Ok, Err, IfErr, ⊤}
+use Rattle.c65_base.specs.declared.refusal.Refusal.{Refusal}
+use Rattle.c65_base.specs.declared.refusal.Refusal.TheVariants.{OutOfMemory, WriteFault}
+use Rattle.c65_code.specs.declared.code.Code.{Code}
+use Rattle.c65_io.specs.Contents.{Contents, WritesFile}
+use Rattle.c65_mach.specs.declared.image.Image.{Image}
+use Rattle.c65_mach.specs.Images.{bytes_of}
+use Rattle.c65_link.specs.Linked.{linked, Fails}
+use Rattle.c65_ppdir.specs.Counts.{FaultCause, MissCause}
+use Rattle.c65_sim.specs.Runs.{WriteCause}
+use Rattle.c65_chain.specs.Refused.{StopsChain, UnitsLimit}
+use Rattle.c65_driver.specs.Outside.{FilesSide}
+
+-- the image is the linker's of the code, or the linker refused the code, or there is no code
+abbrev pub LinkedBy : Option Code → Result Image Refusal → Type 0
+LinkedBy None (Ok image) = ⊥
+LinkedBy None (Err refusal) = ⊤
+LinkedBy (Some code) (Ok image) = linked code ≡ Ok image
+LinkedBy (Some code) (Err refusal) = Fails refusal (linked code)
+
+-- the same of what was made and of the command's answer
+abbrev pub IsLinked : Option Code → Option Image → Result ℕ Refusal → Type 0
+IsLinked None None (Ok status) = ⊥
+IsLinked None None (Err refusal) = ⊤
+IsLinked None (Some image) answer = ⊥
+IsLinked (Some code) (Some image) answer = linked code ≡ Ok image
+IsLinked (Some code) None (Ok status) = ⊥
+IsLinked (Some code) None (Err refusal) = Fails refusal (linked code)
+
+-- the image of files: the files are as they were, and the counts rise with their cause alone
+pub record Compiles (folders files : List (List ℕ)) (old new : FilesSide) (code : Option Code) (answer : Result Image Refusal) : Type 0 where
+  pub same : new.contents ≡ old.contents
+  pub written : new.writes ≡ old.writes
+  pub read : FaultCause old.faults new.faults answer
+  pub missing : MissCause folders old.misses new.misses answer
+  pub refused : IfErr answer StopsChain
+  pub units : UnitsLimit (length files) answer
+  pub from_code : LinkedBy code answer
+
+-- the path of `-o`, or `a.out`
+abbrev pub output_of : Option (List ℕ) → List ℕ
+output_of None = codes "a.out"
+output_of (Some path) = path
+
+abbrev pub wrote : Result Unit Unit
+wrote = Ok tt
+
+abbrev pub wrote_not : Result Unit Unit
+wrote_not = Err tt
+
+-- the path holds the bytes, or is open where the write failed, and the other paths are as they were; nothing was written elsewhere
+abbrev pub WritesBytes : List ℕ → List ℕ → Contents → Contents → Result ℕ Refusal → Type 0
+WritesBytes path bytes old new (Ok status) = WritesFile old new path bytes wrote
+WritesBytes path bytes old new (Err WriteFault) = WritesFile old new path bytes wrote_not
+WritesBytes path bytes old new (Err refusal) = new ≡ old
+
+abbrev pub WriteServes : Result ℕ Refusal → Type 0
+WriteServes (Ok status) = status ≡ 0
+WriteServes (Err OutOfMemory) = ⊤
+WriteServes (Err WriteFault) = ⊤
+WriteServes (Err refusal) = ⊥
+
+pub record WritesImage (path bytes : List ℕ) (old new : FilesSide) (answer : Result ℕ Refusal) : Type 0 where
+  pub served : WriteServes answer
+  pub contents : WritesBytes path bytes old.contents new.contents answer
+  pub cause : WriteCause old.writes new.writes answer
+  pub faults : new.faults ≡ old.faults
+  pub misses : new.misses ≡ old.misses
+
+-- without an image no path was written
+abbrev pub BuildsFile : List ℕ → Option Image → Contents → Contents → Result ℕ Refusal → Type 0
+BuildsFile path (Some image) old new answer = WritesBytes path (bytes_of image) old new answer
+BuildsFile path None old new answer = new ≡ old

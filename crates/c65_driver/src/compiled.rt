@@ -1,0 +1,104 @@
+// From a command's files to their image, and the image's file.
+ghost use Rattle.std.specs.Prelude.{◌≡◌};
+ghost use Rattle.c65_mach.specs.Images.{bytes_of};
+ghost use Rattle.c65_driver.specs.Compiled.{Compiles, WritesImage, output_of};
+ghost use Rattle.c65_driver.specs.Outside.{files_side};
+
+use crate::outcome::Made;
+use c65_base::{Refusal, Text};
+use c65_chain::{Define, compile};
+use c65_io::{Failed, Files};
+use c65_link::link;
+use c65_mach::Image;
+use c65_words::{Command, Definition};
+use std::alloc::{AllocError, Global};
+
+/// Definitions as the preprocessor takes them.
+fn defines(alloc: Global, definitions: &[Definition]) -> Result<Vec<Define>, AllocError> {
+    let mut defines = Vec::new(alloc);
+    for definition in definitions {
+        let name = definition.name.copy(alloc)?;
+        let body = definition.body.copy(alloc)?;
+        defines.push(Define { name, body })?;
+    }
+    Ok(defines)
+}
+
+fn folders(command: &Command) -> &[Text]
+    ensures { result.now ≡ command.now.folders }
+{
+    &command.folders
+}
+
+fn paths(command: &Command) -> &[Text]
+    ensures { result.now ≡ command.now.files }
+{
+    &command.files
+}
+
+/// The image of a command's files. The code that it was linked from stays in `made`.
+pub fn make_image<F: Files>(
+    alloc: Global,
+    files: &mut F,
+    command: &Command,
+    made: &mut Made,
+) -> Result<Image, Refusal>
+    requires { made.old.code ≡ None }
+    ensures compiled { Compiles command.now.folders command.now.files
+        (files_side (F.contents files.old) (F.faults files.old) (F.write_faults files.old) (F.misses files.old))
+        (files_side (F.contents files.new) (F.faults files.new) (F.write_faults files.new) (F.misses files.new))
+        made.new.code result }
+    ensures kept { made.new.image ≡ made.old.image }
+{
+    let defines = match defines(alloc, &command.defines) {
+        Ok(defines) => defines,
+        Err(_) => return Err(Refusal::OutOfMemory),
+    };
+    let code = match compile(
+        alloc,
+        files,
+        &command.options,
+        &defines,
+        folders(command),
+        paths(command),
+    ) {
+        Ok(code) => code,
+        Err(refusal) => return Err(refusal),
+    };
+    let linked = link(alloc, &code);
+    made.code = Some(code);
+    linked
+}
+
+/// The path of the image's file.
+pub fn output(command: &Command) -> &[u8]
+    ensures { result.now ≡ output_of command.now.out }
+{
+    match &command.out {
+        Some(path) => path.as_slice(),
+        None => b"a.out",
+    }
+}
+
+/// Writes the bytes of an image to a file.
+#[tactic(auto, using(crate::proofs::BuildLaws::wrote_all, crate::proofs::BuildLaws::wrote_some))]
+pub fn write_image<F: Files>(
+    alloc: Global,
+    files: &mut F,
+    path: &[u8],
+    image: &Image,
+) -> Result<u8, Refusal>
+    ensures { WritesImage path.now (bytes_of image.now)
+        (files_side (F.contents files.old) (F.faults files.old) (F.write_faults files.old) (F.misses files.old))
+        (files_side (F.contents files.new) (F.faults files.new) (F.write_faults files.new) (F.misses files.new))
+        result }
+{
+    let bytes = match image.bytes(alloc) {
+        Ok(bytes) => bytes,
+        Err(_) => return Err(Refusal::OutOfMemory),
+    };
+    match files.write(path, &bytes) {
+        Ok(()) => Ok(0),
+        Err(Failed) => Err(Refusal::WriteFault),
+    }
+}

@@ -1,0 +1,63 @@
+-- The entry of a function (docs/MACHINE.md, "Calls").
+use Rattle.std.specs.Prelude.{ℕ, ◌+◌, ◌-◌, ◌/◌, ◌%◌, nat_lt, Bool, if◌then◌else◌, List, [], ◌∷◌, ◌++◌}
+use Rattle.c65_mach.specs.declared.rows.Op.TheVariants.{Adc, Clc, Lda, Ldy, Sta, Stx, Tax, Tay, Tya}
+use Rattle.c65_code.specs.declared.line.Line.{Line}
+use Rattle.c65_code.specs.declared.routine.Routine.{Routine}
+use Rattle.c65_code.specs.declared.routine.Routine.TheVariants.{PushA, PushAx, PushEax, LdAxYSp, LdAi, LdAxi, SaveRegs}
+use Rattle.c65_frame.specs.declared.home.Arrival.{Arrival}
+use Rattle.c65_frame.specs.declared.home.Arrival.TheVariants.{Pushed, Kept}
+use Rattle.c65_frame.specs.declared.home.Moved.{Moved}
+use Rattle.c65_frame.specs.Frames.{Framed}
+use Rattle.c65_genwide.specs.Lines.{value, call}
+use Rattle.c65_genentry.specs.Words.{sp, regbank, implied, zero_page, by_y}
+use Rattle.c65_genentry.specs.Stack.{lower_code}
+
+abbrev pub push_of : ℕ → Routine
+push_of bytes = if nat_lt bytes 2 then PushA else (if nat_lt bytes 3 then PushAx else PushEax)
+
+-- the last parameter goes from the registers onto the software stack
+abbrev pub pushed_code : Arrival → List Line
+pushed_code (Pushed bytes) = call (push_of bytes) ∷ []
+pushed_code _ = []
+
+abbrev pub bank_store : ℕ → ℕ → List Line
+bank_store bank bytes = if nat_lt bytes 2 then zero_page Sta ((regbank + bank) % 256) ∷ [] else zero_page Sta ((regbank + bank) % 256) ∷ zero_page Stx (((regbank + bank) % 256 + 1) % 256) ∷ []
+
+-- or to regbank
+abbrev pub kept_code : Arrival → List Line
+kept_code (Kept bank bytes) = bank_store bank bytes
+kept_code _ = []
+
+-- regbank is saved where any of it is taken
+abbrev pub saved_code : ℕ → List Line
+saved_code bank = if nat_lt 0 bank then call SaveRegs ∷ [] else []
+
+-- the number of bytes that a variadic call pushed goes from Y to A, and from there to the byte at sp
+abbrev pub counted_code : Bool → List Line
+counted_code variadic = if variadic then implied Tya ∷ [] else []
+
+abbrev pub count_code : Bool → List Line
+count_code variadic = if variadic then call PushA ∷ [] else []
+
+abbrev pub near_load : ℕ → ℕ → List Line
+near_load at bytes = if nat_lt bytes 2 then value Ldy at ∷ by_y Lda sp ∷ [] else value Ldy (at + 1) ∷ call LdAxYSp ∷ []
+
+abbrev pub far_load : ℕ → ℕ → List Line
+far_load at bytes = (implied Clc ∷ zero_page Lda sp ∷ value Adc (at % 256) ∷ implied Tay ∷ zero_page Lda (sp + 1) ∷ value Adc (at / 256) ∷ implied Tax ∷ implied Tya ∷ []) ++ (if nat_lt bytes 2 then call LdAi ∷ [] else call LdAxi ∷ [])
+
+abbrev pub load_code : ℕ → ℕ → List Line
+load_code at bytes = if nat_lt at 255 then near_load at bytes else far_load at bytes
+
+-- a parameter goes from the software stack to regbank
+abbrev pub moved_code : Moved → List Line
+moved_code m = load_code m.from m.bytes ++ bank_store m.bank m.bytes
+
+abbrev pub all_moved : List Moved → List Line
+all_moved [] = []
+all_moved (m ∷ ms) = moved_code m ++ all_moved ms
+
+abbrev pub taken_bytes : Bool → ℕ → ℕ
+taken_bytes variadic soft = if variadic then soft - 1 else soft
+
+abbrev pub entry_code : Framed → List Line
+entry_code f = pushed_code f.last ++ (counted_code f.variadic ++ (saved_code f.bank ++ (kept_code f.last ++ (lower_code (taken_bytes f.variadic f.soft) ++ (count_code f.variadic ++ all_moved f.moved)))))

@@ -1,0 +1,100 @@
+// Blocks of bytes that are cleared or copied.
+ghost use Rattle.std.specs.Prelude.{◌≡◌, OnOk};
+ghost use Rattle.c65_genentry.specs.Words.{with_code};
+ghost use Rattle.c65_genentry.specs.Bytes.{page_code, rest_code, rest_labels, pages_code, block_code, block_labels, clear_code, copy_code};
+
+use crate::drafts::{fresh, label};
+use crate::places::{PTR1, PTR2};
+use c65_base::Refusal;
+use c65_code::Line::Do;
+use c65_code::Operand::{Byte, Nothing, To, Zero};
+use c65_code::{Draft, Line};
+use c65_genwide::put;
+use c65_mach::Mode::{Immediate, Implied, IndirectY, Relative, ZeroPage};
+use c65_mach::Op::{Bne, Cpy, Inc, Iny, Lda, Ldy, Sta};
+
+/// Lines for each of 256 bytes, by Y from 0, and then others once.
+fn put_page(each: &[Line], after: &[Line], draft: &mut Draft) -> Result<(), Refusal>
+    ensures { OnOk result (draft.new ≡ with_code 1 (page_code each.now after.now draft.old.labels) draft.old) }
+{
+    let head = fresh(draft)?;
+    label(draft, head)?;
+    put(draft, each)?;
+    put(
+        draft,
+        &[Do(Iny, Implied, Nothing), Do(Bne, Relative, To(head))],
+    )?;
+    put(draft, after)
+}
+
+#[tactic(auto, using(crate::proofs::Repeats::pages_next))]
+fn put_pages(each: &[Line], after: &[Line], count: u16, draft: &mut Draft) -> Result<(), Refusal>
+    ensures { OnOk result (draft.new ≡ with_code count (pages_code each.now after.now count draft.old.labels) draft.old) }
+{
+    for _round in 0..count {
+        put_page(each, after, draft)?;
+    }
+    Ok(())
+}
+
+/// Lines for each of so many bytes, by Y from 0.
+fn put_rest(each: &[Line], bytes: u8, draft: &mut Draft) -> Result<(), Refusal>
+    ensures { OnOk result (draft.new ≡ with_code (rest_labels bytes) (rest_code each.now bytes draft.old.labels) draft.old) }
+{
+    if bytes == 0 {
+        return put(draft, &[]);
+    }
+    let head = fresh(draft)?;
+    label(draft, head)?;
+    put(draft, each)?;
+    put(
+        draft,
+        &[
+            Do(Iny, Implied, Nothing),
+            Do(Cpy, Immediate, Byte(bytes)),
+            Do(Bne, Relative, To(head)),
+        ],
+    )
+}
+
+fn put_block(each: &[Line], after: &[Line], bytes: u16, draft: &mut Draft) -> Result<(), Refusal>
+    ensures { OnOk result (draft.new ≡ with_code (block_labels bytes) (block_code each.now after.now bytes draft.old.labels) draft.old) }
+{
+    put_pages(each, after, bytes / 256, draft)?;
+    put_rest(each, (bytes % 256) as u8, draft)
+}
+
+/// So many bytes from the address in ptr1 on become zero.
+pub fn clear_bytes(bytes: u16, draft: &mut Draft) -> Result<(), Refusal>
+    ensures { OnOk result (draft.new ≡ with_code (block_labels bytes) (clear_code bytes draft.old.labels) draft.old) }
+{
+    put(
+        draft,
+        &[Do(Ldy, Immediate, Byte(0)), Do(Lda, Immediate, Byte(0))],
+    )?;
+    put_block(
+        &[Do(Sta, IndirectY, Zero(PTR1))],
+        &[Do(Inc, ZeroPage, Zero(PTR1 + 1))],
+        bytes,
+        draft,
+    )
+}
+
+/// So many bytes from the address in ptr1 on are copied to the address in ptr2, ascending.
+pub fn copy_bytes(bytes: u16, draft: &mut Draft) -> Result<(), Refusal>
+    ensures { OnOk result (draft.new ≡ with_code (block_labels bytes) (copy_code bytes draft.old.labels) draft.old) }
+{
+    put(draft, &[Do(Ldy, Immediate, Byte(0))])?;
+    put_block(
+        &[
+            Do(Lda, IndirectY, Zero(PTR1)),
+            Do(Sta, IndirectY, Zero(PTR2)),
+        ],
+        &[
+            Do(Inc, ZeroPage, Zero(PTR1 + 1)),
+            Do(Inc, ZeroPage, Zero(PTR2 + 1)),
+        ],
+        bytes,
+        draft,
+    )
+}

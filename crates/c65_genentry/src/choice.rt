@@ -1,0 +1,100 @@
+// The choice of a case (C90 6.6.4.2).
+ghost use Rattle.std.specs.Prelude.{◌≡◌, ◌≤◌, OnOk, length};
+ghost use Rattle.c65_genwide.specs.Lines.{with_lines};
+ghost use Rattle.c65_genentry.specs.Words.{with_code};
+ghost use Rattle.c65_genentry.specs.Choice.{bits_of, byte_of, word_test, long_test, test_code, case_code, choice_code};
+
+use crate::drafts::{fresh, label};
+use crate::places::SREG;
+use c65_base::Refusal;
+use c65_code::Line::Do;
+use c65_code::Operand::{Byte, To, Zero};
+use c65_code::{Draft, Width};
+use c65_genwide::put;
+use c65_mach::Mode::{Immediate, Relative, ZeroPage};
+use c65_mach::Op::{Beq, Bne, Cmp, Cpx, Cpy, Ldy};
+
+/// A value in two's complement of 32 bits.
+fn bits_of(value: i64) -> u32
+    ensures { result ≡ bits_of value }
+{
+    value.rem_euclid(4_294_967_296) as u32
+}
+
+/// The byte of a number whose unit is this power of 256.
+fn byte_of(bits: u32, unit: u32) -> u8
+    requires { 1 ≤ unit }
+    ensures { result ≡ byte_of bits unit }
+{
+    (bits / unit % 256) as u8
+}
+
+fn put_word_test(bits: u32, other: u32, case: u32, draft: &mut Draft) -> Result<(), Refusal>
+    ensures { OnOk result (draft.new ≡ with_lines draft.old (word_test bits other case)) }
+{
+    put(
+        draft,
+        &[
+            Do(Cpx, Immediate, Byte(byte_of(bits, 256))),
+            Do(Bne, Relative, To(other)),
+            Do(Cmp, Immediate, Byte(byte_of(bits, 1))),
+            Do(Beq, Relative, To(case)),
+        ],
+    )
+}
+
+fn put_long_test(bits: u32, other: u32, case: u32, draft: &mut Draft) -> Result<(), Refusal>
+    ensures { OnOk result (draft.new ≡ with_lines draft.old (long_test bits other case)) }
+{
+    put(
+        draft,
+        &[
+            Do(Ldy, ZeroPage, Zero(SREG)),
+            Do(Cpy, Immediate, Byte(byte_of(bits, 65_536))),
+            Do(Bne, Relative, To(other)),
+            Do(Ldy, ZeroPage, Zero(SREG + 1)),
+            Do(Cpy, Immediate, Byte(byte_of(bits, 16_777_216))),
+            Do(Bne, Relative, To(other)),
+        ],
+    )?;
+    put_word_test(bits, other, case, draft)?;
+    Ok(())
+}
+
+fn put_test(
+    width: Width,
+    bits: u32,
+    other: u32,
+    case: u32,
+    draft: &mut Draft,
+) -> Result<(), Refusal>
+    ensures { OnOk result (draft.new ≡ with_lines draft.old (test_code width bits other case)) }
+{
+    match width {
+        Width::Ax => put_word_test(bits, other, case, draft),
+        Width::Eax => put_long_test(bits, other, case, draft),
+    }
+}
+
+/// Goes to a case where the primary register has its value; the register stays.
+fn put_case(width: Width, value: i64, case: u32, draft: &mut Draft) -> Result<(), Refusal>
+    ensures { OnOk result (draft.new ≡ with_code 1 (case_code width value case draft.old.labels) draft.old) }
+{
+    let other = fresh(draft)?;
+    put_test(width, bits_of(value), other, case, draft)?;
+    label(draft, other)?;
+    Ok(())
+}
+
+/// Goes to the case with the value that the primary register has. The label of the first case is
+/// given, and the others follow it.
+pub fn choose(width: Width, first: u32, values: &[i64], draft: &mut Draft) -> Result<(), Refusal>
+    ensures { OnOk result (draft.new ≡ with_code (length values.now) (choice_code width first draft.old.labels values.now) draft.old) }
+{
+    let mut case = first;
+    for value in values {
+        put_case(width, *value, case, draft)?;
+        case = case.wrapping_add(1);
+    }
+    Ok(())
+}

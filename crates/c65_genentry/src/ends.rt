@@ -1,0 +1,76 @@
+// The end of a function (MACHINE.md, "Calls").
+ghost use Rattle.std.specs.Prelude.{◌≡◌, OnOk};
+ghost use Rattle.c65_genwide.specs.Lines.{with_lines};
+ghost use Rattle.c65_genentry.specs.Ends.{restored_code, plain_end, variadic_end, end_code};
+
+use crate::places::{SP, TMP1};
+use crate::stack::raise;
+use c65_base::Refusal;
+use c65_code::Line::Do;
+use c65_code::Operand::{Byte, Nothing, Zero};
+use c65_code::{Draft, Routine};
+use c65_frame::Frame;
+use c65_genwide::{put, run};
+use c65_mach::Mode::{Immediate, Implied, IndirectY, ZeroPage};
+use c65_mach::Op::{Lda, Ldy, Pha, Pla, Rts, Sta, Tay};
+
+/// Regbank is as it was where any of it was taken; the primary register stays.
+fn put_restored(bank: u8, draft: &mut Draft) -> Result<(), Refusal>
+    ensures { OnOk result (draft.new ≡ with_lines draft.old (restored_code bank)) }
+{
+    if bank > 0 {
+        run(draft, Routine::RestRegs)
+    } else {
+        put(draft, &[])
+    }
+}
+
+fn put_plain(soft: u16, bank: u8, stacked: u16, draft: &mut Draft) -> Result<(), Refusal>
+    ensures { OnOk result (draft.new ≡ with_lines draft.old (plain_end soft bank stacked)) }
+{
+    raise(soft, draft)?;
+    put_restored(bank, draft)?;
+    raise(stacked, draft)?;
+    put(draft, &[Do(Rts, Implied, Nothing)])
+}
+
+/// The number of bytes that the call pushed waits on the hard stack while the rest is removed.
+fn put_variadic(soft: u16, bank: u8, draft: &mut Draft) -> Result<(), Refusal>
+    ensures { OnOk result (draft.new ≡ with_lines draft.old (variadic_end soft bank)) }
+{
+    put(
+        draft,
+        &[
+            Do(Sta, ZeroPage, Zero(TMP1)),
+            Do(Ldy, Immediate, Byte(0)),
+            Do(Lda, IndirectY, Zero(SP)),
+            Do(Pha, Implied, Nothing),
+            Do(Lda, ZeroPage, Zero(TMP1)),
+        ],
+    )?;
+    raise(soft, draft)?;
+    put_restored(bank, draft)?;
+    put(
+        draft,
+        &[
+            Do(Sta, ZeroPage, Zero(TMP1)),
+            Do(Pla, Implied, Nothing),
+            Do(Tay, Implied, Nothing),
+            Do(Lda, ZeroPage, Zero(TMP1)),
+        ],
+    )?;
+    run(draft, Routine::AddYSp)?;
+    put(draft, &[Do(Rts, Implied, Nothing)])
+}
+
+/// Puts the lines at which a function ends: sp is as it was before its parameters were pushed,
+/// regbank is as it was at the call, and the primary register stays.
+pub fn put_end(frame: &Frame, draft: &mut Draft) -> Result<(), Refusal>
+    ensures { OnOk result (draft.new ≡ with_lines draft.old (end_code frame.now)) }
+{
+    if frame.is_variadic() {
+        put_variadic(frame.soft(), frame.bank(), draft)
+    } else {
+        put_plain(frame.soft(), frame.bank(), frame.stacked(), draft)
+    }
+}

@@ -1,0 +1,187 @@
+// The entry of a function (MACHINE.md, "Calls").
+ghost use Rattle.std.specs.Prelude.{◌≡◌, ◌<◌, OnOk};
+ghost use Rattle.c65_genwide.specs.Lines.{with_lines};
+ghost use Rattle.c65_genentry.specs.Entry.{push_of, pushed_code, counted_code, saved_code, kept_code, bank_store, near_load, far_load, load_code, moved_code, all_moved, taken_bytes, count_code, entry_code};
+
+use crate::places::{REGBANK, SP};
+use crate::stack::lower;
+use c65_base::Refusal;
+use c65_code::Line::Do;
+use c65_code::Operand::{Byte, Nothing, Zero};
+use c65_code::{Draft, Routine};
+use c65_frame::{Arrival, Frame, Moved};
+use c65_genwide::{put, run};
+use c65_mach::Mode::{Immediate, Implied, IndirectY, ZeroPage};
+use c65_mach::Op::{Adc, Clc, Lda, Ldy, Sta, Stx, Tax, Tay, Tya};
+
+/// What pushes a parameter of so many bytes.
+fn push_of(bytes: u32) -> Routine
+    ensures { result ≡ push_of bytes }
+{
+    if bytes < 2 {
+        Routine::PushA
+    } else if bytes < 3 {
+        Routine::PushAx
+    } else {
+        Routine::PushEax
+    }
+}
+
+/// The last parameter goes from the registers onto the software stack.
+fn put_pushed(last: Arrival, draft: &mut Draft) -> Result<(), Refusal>
+    ensures { OnOk result (draft.new ≡ with_lines draft.old (pushed_code last)) }
+{
+    match last {
+        Arrival::Pushed(bytes) => run(draft, push_of(bytes)),
+        Arrival::Passed | Arrival::Kept(_, _) => put(draft, &[]),
+    }
+}
+
+fn store_bank(bank: u8, bytes: u8, draft: &mut Draft) -> Result<(), Refusal>
+    ensures { OnOk result (draft.new ≡ with_lines draft.old (bank_store bank bytes)) }
+{
+    let byte = REGBANK.wrapping_add(bank);
+    if bytes < 2 {
+        put(draft, &[Do(Sta, ZeroPage, Zero(byte))])
+    } else {
+        put(
+            draft,
+            &[
+                Do(Sta, ZeroPage, Zero(byte)),
+                Do(Stx, ZeroPage, Zero(byte.wrapping_add(1))),
+            ],
+        )
+    }
+}
+
+/// The last parameter goes from the registers to regbank.
+fn put_kept(last: Arrival, draft: &mut Draft) -> Result<(), Refusal>
+    ensures { OnOk result (draft.new ≡ with_lines draft.old (kept_code last)) }
+{
+    match last {
+        Arrival::Kept(bank, bytes) => store_bank(bank, bytes, draft),
+        Arrival::Passed | Arrival::Pushed(_) => put(draft, &[]),
+    }
+}
+
+/// Regbank is saved where any of it is taken; the primary register stays.
+fn put_saved(bank: u8, draft: &mut Draft) -> Result<(), Refusal>
+    ensures { OnOk result (draft.new ≡ with_lines draft.old (saved_code bank)) }
+{
+    if bank > 0 {
+        run(draft, Routine::SaveRegs)
+    } else {
+        put(draft, &[])
+    }
+}
+
+/// The number of bytes that the call pushed goes from Y to A.
+fn put_counted(variadic: bool, draft: &mut Draft) -> Result<(), Refusal>
+    ensures { OnOk result (draft.new ≡ with_lines draft.old (counted_code variadic)) }
+{
+    if variadic {
+        put(draft, &[Do(Tya, Implied, Nothing)])
+    } else {
+        put(draft, &[])
+    }
+}
+
+/// That number goes from A to the byte at sp.
+fn put_count(variadic: bool, draft: &mut Draft) -> Result<(), Refusal>
+    ensures { OnOk result (draft.new ≡ with_lines draft.old (count_code variadic)) }
+{
+    if variadic {
+        run(draft, Routine::PushA)
+    } else {
+        put(draft, &[])
+    }
+}
+
+fn load_near(at: u8, bytes: u8, draft: &mut Draft) -> Result<(), Refusal>
+    requires { at < 255 }
+    ensures { OnOk result (draft.new ≡ with_lines draft.old (near_load at bytes)) }
+{
+    if bytes < 2 {
+        put(
+            draft,
+            &[Do(Ldy, Immediate, Byte(at)), Do(Lda, IndirectY, Zero(SP))],
+        )
+    } else {
+        put(draft, &[Do(Ldy, Immediate, Byte(at + 1))])?;
+        run(draft, Routine::LdAxYSp)
+    }
+}
+
+fn load_far(at: u16, bytes: u8, draft: &mut Draft) -> Result<(), Refusal>
+    ensures { OnOk result (draft.new ≡ with_lines draft.old (far_load at bytes)) }
+{
+    put(
+        draft,
+        &[
+            Do(Clc, Implied, Nothing),
+            Do(Lda, ZeroPage, Zero(SP)),
+            Do(Adc, Immediate, Byte((at % 256) as u8)),
+            Do(Tay, Implied, Nothing),
+            Do(Lda, ZeroPage, Zero(SP + 1)),
+            Do(Adc, Immediate, Byte((at / 256) as u8)),
+            Do(Tax, Implied, Nothing),
+            Do(Tya, Implied, Nothing),
+        ],
+    )?;
+    if bytes < 2 {
+        run(draft, Routine::LdAi)
+    } else {
+        run(draft, Routine::LdAxi)
+    }
+}
+
+fn load_at(at: u16, bytes: u8, draft: &mut Draft) -> Result<(), Refusal>
+    ensures { OnOk result (draft.new ≡ with_lines draft.old (load_code at bytes)) }
+{
+    if at < 255 {
+        load_near(at as u8, bytes, draft)
+    } else {
+        load_far(at, bytes, draft)
+    }
+}
+
+/// A parameter goes from the software stack to regbank.
+fn put_moved(moved: Moved, draft: &mut Draft) -> Result<(), Refusal>
+    ensures { OnOk result (draft.new ≡ with_lines draft.old (moved_code moved)) }
+{
+    load_at(moved.from, moved.bytes, draft)?;
+    store_bank(moved.bank, moved.bytes, draft)
+}
+
+fn put_all_moved(all: &[Moved], draft: &mut Draft) -> Result<(), Refusal>
+    ensures { OnOk result (draft.new ≡ with_lines draft.old (all_moved all.now)) }
+{
+    for moved in all {
+        put_moved(*moved, draft)?;
+    }
+    Ok(())
+}
+
+/// How many bytes the entry takes before it pushes the number of a variadic call.
+fn taken_bytes(variadic: bool, soft: u16) -> u16
+    ensures { result ≡ taken_bytes variadic soft }
+{
+    if variadic {
+        soft.saturating_sub(1)
+    } else {
+        soft
+    }
+}
+
+/// Puts the lines at which a function begins. Its objects then have their homes.
+pub fn put_entry(frame: &Frame, draft: &mut Draft) -> Result<(), Refusal>
+    ensures { OnOk result (draft.new ≡ with_lines draft.old (entry_code frame.now)) }
+{
+    put_pushed(frame.last(), draft)?;
+    put_counted(frame.is_variadic(), draft)?;
+    put_saved(frame.bank(), draft)?;
+    put_kept(frame.last(), draft)?;
+    lower(taken_bytes(frame.is_variadic(), frame.soft()), draft)?;
+    put_count(frame.is_variadic(), draft)?;
+    put_all_moved(frame.moved(), draft)
+}

@@ -1,0 +1,76 @@
+-- The call behind its arguments (C90 6.3.2.2; docs/MACHINE.md, "Calls").
+use Rattle.std.specs.Prelude.{ℕ, ◌+◌, Bool, if◌then◌else◌, Option, Some, None, slice_get, List, [], ◌∷◌, ◌++◌}
+use Rattle.c65_ints.specs.declared.types.IntType.{IntType}
+use Rattle.c65_csem.specs.declared.items.Library.{Library}
+use Rattle.c65_csem.specs.declared.items.Library.TheVariants as library
+use Rattle.c65_csem.specs.declared.items.TFunc.{TFunc}
+use Rattle.c65_csem.specs.Trees.{Typed, node, decay, func}
+use Rattle.c65_mach.specs.declared.rows.Op.TheVariants.{Iny, Lda, Ldy, Sta}
+use Rattle.c65_code.specs.declared.line.Callee.TheVariants.{Function, Pointer}
+use Rattle.c65_code.specs.declared.line.Line.{Line}
+use Rattle.c65_code.specs.declared.line.Line.TheVariants.{Call}
+use Rattle.c65_code.specs.declared.routine.Count.TheVariants.{Two}
+use Rattle.c65_code.specs.declared.routine.LibraryFunction.{LibraryFunction}
+use Rattle.c65_code.specs.declared.routine.LibraryFunction.TheVariants.{PutChar, GetChar, Puts, Exit, MemCpy, MemSet, StrCmp, StrCpy, StrLen}
+use Rattle.c65_code.specs.declared.routine.Routine.TheVariants as routines
+use Rattle.c65_frame.specs.Frames.{Framed}
+use Rattle.c65_frame.specs.Symbols.{numbers_of, function_symbol}
+use Rattle.c65_genwide.specs.Lines.{value, call}
+use Rattle.c65_genwide.specs.Wide.{narrow_code}
+use Rattle.c65_genload.specs.Words.{sp, tmp1, implied, zero_page, by_y}
+use Rattle.c65_genexpr.specs.declared.arguments.Passed.{Passed}
+use Rattle.c65_genexpr.specs.Arguments.{registers_of, reads_of}
+
+abbrev pub ptr4 : ℕ
+ptr4 = 14
+
+abbrev pub named_in : Typed → Option ℕ
+named_in (node t (func i)) = Some i
+named_in (node t _) = None
+
+-- the number of a function that is called by its name
+abbrev pub named : Typed → Option ℕ
+named (node t (decay e)) = named_in e
+named (node t _) = None
+
+abbrev pub library_in : Option TFunc → Option Library
+library_in None = None
+library_in (Some f) = f.library
+
+abbrev pub library_at : Framed → ℕ → Option Library
+library_at f i = library_in (slice_get f.parts.funcs.items i)
+
+abbrev pub routine_of : Library → LibraryFunction
+routine_of library.Putchar = PutChar
+routine_of library.Getchar = GetChar
+routine_of library.Puts = Puts
+routine_of library.Exit = Exit
+routine_of library.Memcpy = MemCpy
+routine_of library.Memset = MemSet
+routine_of library.Strcmp = StrCmp
+routine_of library.Strcpy = StrCpy
+routine_of library.Strlen = StrLen
+
+-- the number of bytes that were passed
+abbrev pub count_code : Bool → Passed → List Line
+count_code counted p = if counted then value Ldy p.stacked ∷ [] else []
+
+-- the function's address, which waits below the arguments
+abbrev pub fetch_code : Passed → List Line
+fetch_code p = zero_page Sta tmp1 ∷ value Ldy p.stacked ∷ by_y Lda sp ∷ zero_page Sta ptr4 ∷ implied Iny ∷ by_y Lda sp ∷ zero_page Sta (ptr4 + 1) ∷ zero_page Lda tmp1 ∷ []
+
+-- a character comes back in A alone
+abbrev pub result_code : Option IntType → List Line
+result_code None = []
+result_code (Some kind) = narrow_code kind
+
+-- a function of the library is its routine
+abbrev pub named_by : Framed → ℕ → Option Library → Bool → Passed → Option IntType → List Line
+named_by f i (Some l) counted p kind = call (routines.Library (routine_of l)) ∷ result_code kind
+named_by f i None counted p kind = count_code counted p ++ (Call (Function (function_symbol (numbers_of f.parts) i) (reads_of counted p) (registers_of kind)) ∷ result_code kind)
+
+abbrev pub named_code : Framed → ℕ → Bool → Passed → Option IntType → List Line
+named_code f i counted p kind = named_by f i (library_at f i) counted p kind
+
+abbrev pub pointer_code : Bool → Passed → Option IntType → List Line
+pointer_code counted p kind = fetch_code p ++ (count_code counted p ++ (Call (Pointer (reads_of counted p) (registers_of kind)) ∷ call (routines.IncSp Two) ∷ result_code kind))

@@ -1,0 +1,367 @@
+// Expressions (C90 6.3).
+ghost use Rattle.std.specs.Prelude.{◌≡◌, [], ◌+◌, ◌≤◌, OnOk, IfOk};
+ghost use Rattle.c65_csem.specs.Views.{typed_of, nodes_of};
+ghost use Rattle.c65_genexpr.specs.Arguments.{passed_of};
+ghost use Rattle.c65_genexpr.specs.Places.{IsKnown, place_of};
+ghost use Rattle.c65_genexpr.specs.Uses.{uses, head_uses, args_uses};
+ghost use Rattle.c65_genexpr.specs.Code.{grown, with_label, target_code, expr_code, binary_code, both_code, either_code, choice_code, assign_code, compound_code, call_code, args_code};
+
+use crate::arguments::{Passed, argument_bytes, is_counted, is_fast, joined, put_argument, stays};
+use crate::calls::{named, put_named, put_pointer};
+use crate::operands::{
+    Operands, computes, operands_of, put_behind, put_between, put_conversion, put_unary,
+};
+use crate::places::{more, place_of, put_object};
+use crate::shorts::{put_short, residue_of, short_of};
+use crate::steps::{amount_of, put_close, put_open, put_step};
+use crate::types::{access_of, kind_of, offset_at, result_kind, target_bytes};
+use c65_base::{BinaryOp, Refusal};
+use c65_code::Line::{Do, Label};
+use c65_code::Operand::{Byte, To};
+use c65_code::{Draft, Width};
+use c65_csem::{TExpr, TKind};
+use c65_frame::Frame;
+use c65_genload::{
+    Place, copy, held, hold, load, number, push, put_offset, put_symbol, store, test, waiting,
+};
+use c65_genwide::{put, width_of};
+use c65_ints::IntType;
+use c65_mach::Mode::{Absolute, Immediate, Relative};
+use c65_mach::Op::{Beq, Bne, Jmp, Lda, Ldx};
+
+/// A label that was not given before; where there is none, want of memory.
+fn next_label(draft: &mut Draft) -> Result<u32, Refusal>
+    ensures label { IfOk result (λ l. l ≡ draft.old.labels) }
+    ensures draft { OnOk result (draft.new ≡ with_label draft.old) }
+{
+    if draft.labels() >= 0x8000_0000 {
+        return Err(Refusal::OutOfMemory);
+    }
+    Ok(draft.fresh())
+}
+
+/// Puts the lines of an expression behind those of the draft, where so many bytes of values wait on
+/// the software stack. The value then stands in the primary register: in A and X, or in A, X and
+/// sreg; of a place, and of a structure or union, the address. After a refusal the draft is not used
+/// again.
+pub fn gen_expr(
+    expr: &TExpr,
+    frame: &Frame<'_>,
+    pushed: u32,
+    draft: &mut Draft,
+) -> Result<(), Refusal>
+    requires { pushed ≤ 65535 }
+    ensures { OnOk result (draft.new ≡ grown draft.old (expr_code frame.now pushed draft.old.labels (typed_of expr.now)) (uses (typed_of expr.now))) }
+{
+    put_expr(expr, frame, pushed as u16, draft)
+}
+
+#[cycle(expression)]
+fn put_expr(e: &TExpr, frame: &Frame<'_>, pushed: u16, draft: &mut Draft) -> Result<(), Refusal>
+    ensures { OnOk result (draft.new ≡ grown draft.old (expr_code frame.now pushed draft.old.labels (typed_of e.now)) (uses (typed_of e.now))) }
+{
+    match &e.kind {
+        TKind::Const(z) => number(width_of(kind_of(&e.ty.ty)), residue_of(*z), draft),
+        TKind::Null => number(Width::Ax, 0, draft),
+        TKind::Literal(literal) => put_symbol(frame.numbers().literal(*literal), 0, draft),
+        TKind::Object(object) => put_object(frame, pushed, *object, draft),
+        TKind::Func(function) => put_symbol(frame.numbers().function(*function), 0, draft),
+        TKind::Deref(a) | TKind::Address(a) | TKind::Decay(a) => put_expr(a, frame, pushed, draft),
+        TKind::Member(a, member) => {
+            put_expr(a, frame, pushed, draft)?;
+            put_offset(offset_at(&frame.parts().types, &a.ty.ty, *member), draft)
+        }
+        TKind::Load(a) => {
+            let place = place_of(frame, pushed, a);
+            put_target(a, place, frame, pushed, draft)?;
+            load(place, access_of(&frame.parts().types, a), draft)
+        }
+        TKind::Convert(a) => {
+            put_expr(a, frame, pushed, draft)?;
+            put_conversion(&e.ty.ty, kind_of(&a.ty.ty), draft)
+        }
+        TKind::Unary(op, a) => {
+            put_expr(a, frame, pushed, draft)?;
+            put_unary(*op, width_of(kind_of(&a.ty.ty)), draft)
+        }
+        TKind::Binary(op, a, b) => put_binary(a, b, *op, frame, pushed, draft),
+        TKind::And(a, b) => put_both(a, b, frame, pushed, draft),
+        TKind::Or(a, b) => put_either(a, b, frame, pushed, draft),
+        TKind::Cond(c, a, b) => put_choice(c, a, b, frame, pushed, draft),
+        TKind::Comma(a, b) => {
+            put_expr(a, frame, pushed, draft)?;
+            put_expr(b, frame, pushed, draft)
+        }
+        TKind::Assign(a, b) => put_assign(a, b, frame, pushed, draft),
+        TKind::AssignOp(op, kind, a, b) => {
+            put_compound(a, b, *op, Operands::Numbers(*kind), frame, pushed, draft)
+        }
+        TKind::AssignStep(op, a, b) => {
+            let size = target_bytes(frame, &a.ty.ty);
+            put_compound(
+                a,
+                b,
+                *op,
+                Operands::PointerFirst(size),
+                frame,
+                pushed,
+                draft,
+            )
+        }
+        TKind::Step(how, a) => {
+            let place = place_of(frame, pushed, a);
+            put_target(a, place, frame, pushed, draft)?;
+            let access = access_of(&frame.parts().types, a);
+            let amount = amount_of(frame, *how, &a.ty.ty);
+            put_step(*how, place, access, amount, draft)
+        }
+        TKind::Copy(a, b) => {
+            put_expr(a, frame, pushed, draft)?;
+            push(Width::Ax, draft)?;
+            put_expr(b, frame, more(pushed, 2), draft)?;
+            copy(frame.bytes(&e.ty.ty), draft)
+        }
+        TKind::Call(callee, args) => {
+            let kind = result_kind(&e.ty.ty);
+            put_call(callee, args, kind, frame, pushed, draft)
+        }
+    }
+}
+
+// A place whose address takes no lines of code has no labels.
+fn skip(
+    a: &TExpr,
+    place: Place,
+    frame: &Frame<'_>,
+    pushed: u16,
+    draft: &mut Draft,
+) -> Result<(), Refusal>
+    requires at { place ≡ place_of frame.now pushed (typed_of a.now) }
+    requires known { IsKnown place }
+    ensures { OnOk result (draft.new ≡ grown draft.old [] (uses (typed_of a.now))) }
+{
+    put(draft, &[])
+}
+
+// The address of a place, where it takes lines of code.
+#[cycle(expression)]
+fn put_target(
+    a: &TExpr,
+    place: Place,
+    frame: &Frame<'_>,
+    pushed: u16,
+    draft: &mut Draft,
+) -> Result<(), Refusal>
+    requires { place ≡ place_of frame.now pushed (typed_of a.now) }
+    ensures { OnOk result (draft.new ≡ grown draft.old (target_code place (expr_code frame.now pushed draft.old.labels (typed_of a.now))) (uses (typed_of a.now))) }
+{
+    match place {
+        Place::Far => put_expr(a, frame, pushed, draft),
+        Place::Bank(_) | Place::Near(_) | Place::Data(_, _) => skip(a, place, frame, pushed, draft),
+    }
+}
+
+#[cycle(expression)]
+fn put_binary(
+    a: &TExpr,
+    b: &TExpr,
+    op: BinaryOp,
+    frame: &Frame<'_>,
+    pushed: u16,
+    draft: &mut Draft,
+) -> Result<(), Refusal>
+    ensures { OnOk result (draft.new ≡ grown draft.old (binary_code frame.now pushed draft.old.labels op (typed_of a.now) (typed_of b.now)) (uses (typed_of a.now) + uses (typed_of b.now))) }
+{
+    let operands = operands_of(frame, &a.ty.ty, &b.ty.ty);
+    let wait = waiting(width_of(computes(operands)));
+    match short_of(op, operands, b) {
+        Some(number) => {
+            put_expr(a, frame, pushed, draft)?;
+            put_short(op, operands, number, b, draft)
+        }
+        None => {
+            put_expr(a, frame, pushed, draft)?;
+            put_between(operands, draft)?;
+            put_expr(b, frame, more(pushed, wait), draft)?;
+            put_behind(op, operands, kind_of(&b.ty.ty), draft)
+        }
+    }
+}
+
+// `&&`: the test of a side that is zero leaves 0 in A.
+#[cycle(expression)]
+fn put_both(
+    a: &TExpr,
+    b: &TExpr,
+    frame: &Frame<'_>,
+    pushed: u16,
+    draft: &mut Draft,
+) -> Result<(), Refusal>
+    ensures { OnOk result (draft.new ≡ grown draft.old (both_code frame.now pushed draft.old.labels (typed_of a.now) (typed_of b.now)) (1 + (uses (typed_of a.now) + uses (typed_of b.now)))) }
+{
+    let no = next_label(draft)?;
+    put_expr(a, frame, pushed, draft)?;
+    test(width_of(kind_of(&a.ty.ty)), draft)?;
+    put(draft, &[Do(Beq, Relative, To(no))])?;
+    put_expr(b, frame, pushed, draft)?;
+    test(width_of(kind_of(&b.ty.ty)), draft)?;
+    put(
+        draft,
+        &[
+            Do(Beq, Relative, To(no)),
+            Do(Lda, Immediate, Byte(1)),
+            Label(no),
+            Do(Ldx, Immediate, Byte(0)),
+        ],
+    )
+}
+
+// `||`
+#[cycle(expression)]
+fn put_either(
+    a: &TExpr,
+    b: &TExpr,
+    frame: &Frame<'_>,
+    pushed: u16,
+    draft: &mut Draft,
+) -> Result<(), Refusal>
+    ensures { OnOk result (draft.new ≡ grown draft.old (either_code frame.now pushed draft.old.labels (typed_of a.now) (typed_of b.now)) (2 + (uses (typed_of a.now) + uses (typed_of b.now)))) }
+{
+    let yes = next_label(draft)?;
+    let no = next_label(draft)?;
+    put_expr(a, frame, pushed, draft)?;
+    test(width_of(kind_of(&a.ty.ty)), draft)?;
+    put(draft, &[Do(Bne, Relative, To(yes))])?;
+    put_expr(b, frame, pushed, draft)?;
+    test(width_of(kind_of(&b.ty.ty)), draft)?;
+    put(
+        draft,
+        &[
+            Do(Beq, Relative, To(no)),
+            Label(yes),
+            Do(Lda, Immediate, Byte(1)),
+            Label(no),
+            Do(Ldx, Immediate, Byte(0)),
+        ],
+    )
+}
+
+// `?:`
+#[cycle(expression)]
+fn put_choice(
+    c: &TExpr,
+    a: &TExpr,
+    b: &TExpr,
+    frame: &Frame<'_>,
+    pushed: u16,
+    draft: &mut Draft,
+) -> Result<(), Refusal>
+    ensures { OnOk result (draft.new ≡ grown draft.old (choice_code frame.now pushed draft.old.labels (typed_of c.now) (typed_of a.now) (typed_of b.now)) (2 + (uses (typed_of c.now) + (uses (typed_of a.now) + uses (typed_of b.now))))) }
+{
+    let other = next_label(draft)?;
+    let end = next_label(draft)?;
+    put_expr(c, frame, pushed, draft)?;
+    test(width_of(kind_of(&c.ty.ty)), draft)?;
+    put(draft, &[Do(Beq, Relative, To(other))])?;
+    put_expr(a, frame, pushed, draft)?;
+    put(draft, &[Do(Jmp, Absolute, To(end)), Label(other)])?;
+    put_expr(b, frame, pushed, draft)?;
+    put(draft, &[Label(end)])
+}
+
+// `=` on scalars
+#[cycle(expression)]
+fn put_assign(
+    a: &TExpr,
+    b: &TExpr,
+    frame: &Frame<'_>,
+    pushed: u16,
+    draft: &mut Draft,
+) -> Result<(), Refusal>
+    ensures { OnOk result (draft.new ≡ grown draft.old (assign_code frame.now pushed draft.old.labels (typed_of a.now) (typed_of b.now)) (uses (typed_of a.now) + uses (typed_of b.now))) }
+{
+    let place = place_of(frame, pushed, a);
+    put_target(a, place, frame, pushed, draft)?;
+    hold(place, draft)?;
+    put_expr(b, frame, more(pushed, held(place)), draft)?;
+    store(place, access_of(&frame.parts().types, a), draft)
+}
+
+// The other assignments to scalars: the address of the left side is had once.
+#[cycle(expression)]
+fn put_compound(
+    a: &TExpr,
+    b: &TExpr,
+    op: BinaryOp,
+    operands: Operands,
+    frame: &Frame<'_>,
+    pushed: u16,
+    draft: &mut Draft,
+) -> Result<(), Refusal>
+    ensures { OnOk result (draft.new ≡ grown draft.old (compound_code frame.now pushed draft.old.labels op operands (typed_of a.now) (typed_of b.now)) (uses (typed_of a.now) + uses (typed_of b.now))) }
+{
+    let place = place_of(frame, pushed, a);
+    let access = access_of(&frame.parts().types, a);
+    let kind = computes(operands);
+    let wait = more(held(place), waiting(width_of(kind)));
+    put_target(a, place, frame, pushed, draft)?;
+    put_open(place, access, kind, draft)?;
+    put_expr(b, frame, more(pushed, wait), draft)?;
+    put_close(op, operands, kind_of(&b.ty.ty), place, access, draft)
+}
+
+#[cycle(expression)]
+fn put_call(
+    callee: &TExpr,
+    args: &[TExpr],
+    kind: Option<IntType>,
+    frame: &Frame<'_>,
+    pushed: u16,
+    draft: &mut Draft,
+) -> Result<(), Refusal>
+    ensures { OnOk result (draft.new ≡ grown draft.old (call_code frame.now pushed draft.old.labels kind (typed_of callee.now) (nodes_of args.now)) (head_uses (typed_of callee.now) + args_uses (nodes_of args.now))) }
+{
+    let fast = is_fast(&callee.ty.ty);
+    let counted = is_counted(&callee.ty.ty);
+    match named(callee) {
+        Some(function) => {
+            let passed = put_args(args, fast, frame, pushed, draft)?;
+            put_named(frame, function, counted, passed, kind, draft)
+        }
+        None => {
+            put_expr(callee, frame, pushed, draft)?;
+            push(Width::Ax, draft)?;
+            let passed = put_args(args, fast, frame, more(pushed, 2), draft)?;
+            put_pointer(counted, passed, kind, draft)
+        }
+    }
+}
+
+// Arguments from left to right.
+#[cycle(expression)]
+fn put_args(
+    args: &[TExpr],
+    fast: bool,
+    frame: &Frame<'_>,
+    pushed: u16,
+    draft: &mut Draft,
+) -> Result<Passed, Refusal>
+    ensures passed { IfOk result (λ p. p ≡ passed_of fast (nodes_of args.now)) }
+    ensures lines { OnOk result (draft.new ≡ grown draft.old (args_code frame.now pushed draft.old.labels fast (nodes_of args.now)) (args_uses (nodes_of args.now))) }
+{
+    match args {
+        [] => Ok(Passed {
+            stacked: 0,
+            last: None,
+        }),
+        [first, rest @ ..] => {
+            let kept = stays(fast, rest);
+            let kind = kind_of(&first.ty.ty);
+            put_expr(first, frame, pushed, draft)?;
+            put_argument(kept, kind, draft)?;
+            let waiting_now = more(pushed, argument_bytes(kept, kind));
+            let passed = put_args(rest, fast, frame, waiting_now, draft)?;
+            Ok(joined(kept, kind, passed))
+        }
+    }
+}

@@ -1,0 +1,14 @@
+//! Expressions as lines of code, over the frame of their function.
+#![tactic(auto)]
+
+mod arguments;
+mod calls;
+mod expr;
+mod operands;
+mod places;
+mod shorts;
+mod steps;
+mod types;
+
+pub use c65_frame::{Frame, Home};
+pub use expr::gen_expr;

@@ -1,0 +1,115 @@
+// Values that are changed where they are kept (C90 6.3.2.4, 6.3.3.1, 6.3.16.2).
+ghost use Rattle.std.specs.Prelude.{◌≡◌, OnOk};
+ghost use Rattle.c65_ctype.specs.Views.{ty_of};
+ghost use Rattle.c65_genwide.specs.Lines.{with_lines};
+ghost use Rattle.c65_genexpr.specs.Steps.{is_up, is_post, amount_of, back_code, after_code, step_code, open_code, close_code};
+
+use crate::operands::{Operands, computes, put_behind};
+use crate::shorts::negative;
+use crate::types::target_bytes;
+use c65_base::{BinaryOp, Refusal, StepKind};
+use c65_code::Draft;
+use c65_ctype::CType;
+use c65_frame::Frame;
+use c65_genload::{Access, Place, add, convert, hold, in_field, load, push, store, value_type};
+use c65_genwide::{put, width_of};
+use c65_ints::IntType;
+
+fn is_up(how: StepKind) -> bool
+    ensures { result ≡ is_up how }
+{
+    match how {
+        StepKind::PreInc | StepKind::PostInc => true,
+        StepKind::PreDec | StepKind::PostDec => false,
+    }
+}
+
+fn is_post(how: StepKind) -> bool
+    ensures { result ≡ is_post how }
+{
+    match how {
+        StepKind::PostInc | StepKind::PostDec => true,
+        StepKind::PreInc | StepKind::PreDec => false,
+    }
+}
+
+/// What a step adds, modulo 2 to the 32: one, or the bytes of an element.
+pub fn amount_of(frame: &Frame<'_>, how: StepKind, ty: &CType) -> u32
+    ensures { result ≡ amount_of frame.now how (ty_of ty.now) }
+{
+    let size = target_bytes(frame, ty);
+    if is_up(how) { size } else { negative(size) }
+}
+
+// The value before, from the one behind the step.
+fn put_back(access: Access, amount: u32, draft: &mut Draft) -> Result<(), Refusal>
+    ensures { OnOk result (draft.new ≡ with_lines draft.old (back_code access amount)) }
+{
+    match access {
+        Access::Whole(kind) => add(kind, negative(amount), draft),
+        Access::Part(field) => {
+            add(field.kind, negative(amount), draft)?;
+            in_field(field, draft)
+        }
+    }
+}
+
+fn put_after(how: StepKind, access: Access, amount: u32, draft: &mut Draft) -> Result<(), Refusal>
+    ensures { OnOk result (draft.new ≡ with_lines draft.old (after_code how access amount)) }
+{
+    if is_post(how) {
+        put_back(access, amount, draft)
+    } else {
+        put(draft, &[])
+    }
+}
+
+/// `++` and `--`, behind the address of a place that is anywhere. The value behind the step is the
+/// one before it and an amount, modulo 2 to the width, so either is had from the other.
+pub fn put_step(
+    how: StepKind,
+    place: Place,
+    access: Access,
+    amount: u32,
+    draft: &mut Draft,
+) -> Result<(), Refusal>
+    ensures { OnOk result (draft.new ≡ with_lines draft.old (step_code how place access amount)) }
+{
+    hold(place, draft)?;
+    load(place, access, draft)?;
+    add(value_type(access), amount, draft)?;
+    store(place, access, draft)?;
+    put_after(how, access, amount, draft)
+}
+
+/// Behind the address of the left side of a compound assignment: its value waits, in the type in
+/// which the operator computes, above an address that waits.
+pub fn put_open(
+    place: Place,
+    access: Access,
+    kind: IntType,
+    draft: &mut Draft,
+) -> Result<(), Refusal>
+    ensures { OnOk result (draft.new ≡ with_lines draft.old (open_code place access kind)) }
+{
+    hold(place, draft)?;
+    load(place, access, draft)?;
+    convert(value_type(access), kind, draft)?;
+    push(width_of(kind), draft)
+}
+
+/// Behind the right side of a compound assignment, which is of this type.
+pub fn put_close(
+    op: BinaryOp,
+    operands: Operands,
+    right: IntType,
+    place: Place,
+    access: Access,
+    draft: &mut Draft,
+) -> Result<(), Refusal>
+    ensures { OnOk result (draft.new ≡ with_lines draft.old (close_code op operands right place access)) }
+{
+    put_behind(op, operands, right, draft)?;
+    convert(computes(operands), value_type(access), draft)?;
+    store(place, access, draft)
+}

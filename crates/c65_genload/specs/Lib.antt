@@ -1,0 +1,8 @@
+pub mod Addresses
+pub mod Conversions
+pub mod Fields
+pub mod Loads
+pub mod Numbers
+pub mod Places
+pub mod Stores
+pub mod Words

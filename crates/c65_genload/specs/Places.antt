@@ -1,0 +1,37 @@
+-- Where objects lie, and what is kept there.
+use Rattle.std.specs.Prelude.{ℕ, ◌+◌, ◌%◌}
+use Rattle.c65_ints.specs.declared.types.IntType.{IntType}
+use Rattle.c65_ints.specs.declared.types.IntType.TheVariants.{SChar, UChar, Short, UShort, Int, UInt, Long, ULong}
+use Rattle.c65_genload.specs.declared.places.Extent.{Extent}
+use Rattle.c65_genload.specs.declared.places.Extent.TheVariants.{One, Two, Four}
+use Rattle.c65_genload.specs.declared.places.Place.{Place}
+use Rattle.c65_genload.specs.declared.places.Place.TheVariants.{Far}
+use Rattle.c65_genload.specs.declared.places.Access.{Access}
+use Rattle.c65_genload.specs.declared.places.Access.TheVariants.{Whole, Part}
+
+-- the type of the value that is kept
+abbrev pub type_in : Access → IntType
+type_in (Whole kind) = kind
+type_in (Part field) = field.kind
+
+-- the bytes that wait for a place
+abbrev pub held : Place → ℕ
+held Far = 2
+held _ = 0
+
+-- sums of one byte, and of an address
+abbrev pub byte_more : ℕ → ℕ → ℕ
+byte_more at n = (at + n) % 256
+
+abbrev pub word_more : ℕ → ℕ → ℕ
+word_more at n = (at + n) % 65536
+
+abbrev pub extent_of : IntType → Extent
+extent_of SChar = One
+extent_of UChar = One
+extent_of Short = Two
+extent_of UShort = Two
+extent_of Int = Two
+extent_of UInt = Two
+extent_of Long = Four
+extent_of ULong = Four

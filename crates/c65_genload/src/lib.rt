@@ -1,0 +1,20 @@
+//! The lines that load, store, convert and add: what expressions are made of, beside operators and
+//! calls.
+#![tactic(auto)]
+
+mod address;
+mod conversions;
+mod fields;
+mod loads;
+mod numbers;
+mod places;
+mod stores;
+mod zero_page;
+
+pub use address::{put_address, put_offset, put_raised, put_symbol};
+pub use conversions::{bytes_of, convert, pass, push, test, waiting};
+pub use fields::{extract, in_field};
+pub use loads::{hold, load};
+pub use numbers::{add, divide, number, scale};
+pub use places::{Access, Extent, Field, Place, extent_of, held, value_type};
+pub use stores::{copy, store};

@@ -1,0 +1,125 @@
+// Values taken from where they are kept (C90 6.2.2.1).
+ghost use Rattle.std.specs.Prelude.{◌≡◌, OnOk};
+ghost use Rattle.c65_genwide.specs.Lines.{with_lines};
+ghost use Rattle.c65_genload.specs.Loads.{hold_code, bank_code, near_code, data_code, far_code, bytes_code, load_code};
+
+use crate::fields::extract;
+use crate::places::{Access, Extent, Place, extent_of};
+use crate::zero_page::{REGBANK, SP, SREG};
+use c65_base::Refusal;
+use c65_code::Line::Do;
+use c65_code::Operand::{At, Byte, Zero};
+use c65_code::{Draft, Routine, Sym};
+use c65_genwide::{narrow, put, run};
+use c65_mach::Mode::{Absolute, Immediate, IndirectY, ZeroPage};
+use c65_mach::Op::{Lda, Ldx, Ldy, Sta};
+
+/// The address of a place that is anywhere goes onto the software stack, and stays in AX.
+pub fn hold(place: Place, draft: &mut Draft) -> Result<(), Refusal>
+    ensures { OnOk result (draft.new ≡ with_lines draft.old (hold_code place)) }
+{
+    match place {
+        Place::Far => run(draft, Routine::PushAx),
+        Place::Bank(_) | Place::Near(_) | Place::Data(_, _) => put(draft, &[]),
+    }
+}
+
+fn load_bank(at: u8, extent: Extent, draft: &mut Draft) -> Result<(), Refusal>
+    ensures { OnOk result (draft.new ≡ with_lines draft.old (bank_code at extent)) }
+{
+    let byte = REGBANK.wrapping_add(at);
+    match extent {
+        Extent::One => put(draft, &[Do(Lda, ZeroPage, Zero(byte))]),
+        Extent::Two | Extent::Four => put(
+            draft,
+            &[
+                Do(Lda, ZeroPage, Zero(byte)),
+                Do(Ldx, ZeroPage, Zero(byte.wrapping_add(1))),
+            ],
+        ),
+    }
+}
+
+fn load_near(at: u8, extent: Extent, draft: &mut Draft) -> Result<(), Refusal>
+    ensures { OnOk result (draft.new ≡ with_lines draft.old (near_code at extent)) }
+{
+    match extent {
+        Extent::One => put(
+            draft,
+            &[Do(Ldy, Immediate, Byte(at)), Do(Lda, IndirectY, Zero(SP))],
+        ),
+        Extent::Two => {
+            put(draft, &[Do(Ldy, Immediate, Byte(at.wrapping_add(1)))])?;
+            run(draft, Routine::LdAxYSp)
+        }
+        Extent::Four => {
+            put(draft, &[Do(Ldy, Immediate, Byte(at.wrapping_add(3)))])?;
+            run(draft, Routine::LdEaxYSp)
+        }
+    }
+}
+
+fn load_data(sym: Sym, at: u16, extent: Extent, draft: &mut Draft) -> Result<(), Refusal>
+    ensures { OnOk result (draft.new ≡ with_lines draft.old (data_code sym at extent)) }
+{
+    match extent {
+        Extent::One => put(draft, &[Do(Lda, Absolute, At(sym, at))]),
+        Extent::Two => put(
+            draft,
+            &[
+                Do(Lda, Absolute, At(sym, at)),
+                Do(Ldx, Absolute, At(sym, at.wrapping_add(1))),
+            ],
+        ),
+        Extent::Four => put(
+            draft,
+            &[
+                Do(Lda, Absolute, At(sym, at.wrapping_add(2))),
+                Do(Sta, ZeroPage, Zero(SREG)),
+                Do(Lda, Absolute, At(sym, at.wrapping_add(3))),
+                Do(Sta, ZeroPage, Zero(SREG + 1)),
+                Do(Lda, Absolute, At(sym, at)),
+                Do(Ldx, Absolute, At(sym, at.wrapping_add(1))),
+            ],
+        ),
+    }
+}
+
+fn load_far(extent: Extent, draft: &mut Draft) -> Result<(), Refusal>
+    ensures { OnOk result (draft.new ≡ with_lines draft.old (far_code extent)) }
+{
+    match extent {
+        Extent::One => run(draft, Routine::LdAi),
+        Extent::Two => run(draft, Routine::LdAxi),
+        Extent::Four => run(draft, Routine::LdEaxi),
+    }
+}
+
+/// The bytes at a place come into A, AX or EAX.
+pub fn load_bytes(place: Place, extent: Extent, draft: &mut Draft) -> Result<(), Refusal>
+    ensures { OnOk result (draft.new ≡ with_lines draft.old (bytes_code place extent)) }
+{
+    match place {
+        Place::Bank(at) => load_bank(at, extent, draft),
+        Place::Near(at) => load_near(at, extent, draft),
+        Place::Data(sym, at) => load_data(sym, at, extent, draft),
+        Place::Far => load_far(extent, draft),
+    }
+}
+
+/// The value that is kept at a place comes into the primary register. The address of a place that is
+/// anywhere is in AX before.
+pub fn load(place: Place, access: Access, draft: &mut Draft) -> Result<(), Refusal>
+    ensures { OnOk result (draft.new ≡ with_lines draft.old (load_code place access)) }
+{
+    match access {
+        Access::Whole(kind) => {
+            load_bytes(place, extent_of(kind), draft)?;
+            narrow(kind, draft)
+        }
+        Access::Part(field) => {
+            load_bytes(place, Extent::Two, draft)?;
+            extract(field, draft)
+        }
+    }
+}

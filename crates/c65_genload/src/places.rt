@@ -1,0 +1,74 @@
+// Where objects lie, and what is kept there.
+ghost use Rattle.std.specs.Prelude.{◌≡◌};
+ghost use Rattle.c65_genload.specs.Places.{held, type_in, extent_of};
+
+use c65_code::Sym;
+use c65_ints::IntType;
+
+/// Where an object or a part of one lies.
+#[derive(Clone, Copy, Debug, PartialEq, Eq)]
+pub enum Place {
+    /// From this byte of regbank on.
+    Bank(u8),
+    /// So many bytes above sp, at most 252.
+    Near(u8),
+    /// So far behind a symbol.
+    Data(Sym, u16),
+    /// Anywhere. Its address is in AX, and waits on the software stack while more is computed.
+    Far,
+}
+
+/// The bits of a unit of 16 bits that are a bit-field: the type of its value, its lowest bit and
+/// its width (C90 6.5.2.1).
+#[derive(Clone, Copy, Debug, PartialEq, Eq)]
+pub struct Field {
+    pub kind: IntType,
+    pub low: u8,
+    pub width: u8,
+}
+
+/// What is kept at a place: a number, where a pointer is an unsigned int, or a bit-field.
+#[derive(Clone, Copy, Debug, PartialEq, Eq)]
+pub enum Access {
+    Whole(IntType),
+    Part(Field),
+}
+
+/// The type of the value that is kept.
+pub fn value_type(access: Access) -> IntType
+    ensures { result ≡ type_in access }
+{
+    match access {
+        Access::Whole(kind) => kind,
+        Access::Part(field) => field.kind,
+    }
+}
+
+/// How many bytes wait on the software stack for a place.
+pub fn held(place: Place) -> u16
+    ensures { result ≡ held place }
+{
+    match place {
+        Place::Far => 2,
+        Place::Bank(_) | Place::Near(_) | Place::Data(_, _) => 0,
+    }
+}
+
+/// How many bytes are moved at once.
+#[derive(Clone, Copy, Debug, PartialEq, Eq)]
+pub enum Extent {
+    One,
+    Two,
+    Four,
+}
+
+/// The bytes of a type.
+pub fn extent_of(kind: IntType) -> Extent
+    ensures { result ≡ extent_of kind }
+{
+    match kind {
+        IntType::SChar | IntType::UChar => Extent::One,
+        IntType::Short | IntType::UShort | IntType::Int | IntType::UInt => Extent::Two,
+        IntType::Long | IntType::ULong => Extent::Four,
+    }
+}

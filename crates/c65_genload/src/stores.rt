@@ -1,0 +1,164 @@
+// Values put where they are kept (C90 6.3.16).
+ghost use Rattle.std.specs.Prelude.{◌≡◌, OnOk};
+ghost use Rattle.c65_genwide.specs.Lines.{with_lines};
+ghost use Rattle.c65_genload.specs.Stores.{bank_store, near_store, data_store, far_store, bytes_store, after_store, under_code, field_store, store_code, copy_code};
+
+use crate::fields::{align, extract, others};
+use crate::loads::load_bytes;
+use crate::numbers::mask;
+use crate::places::{Access, Extent, Field, Place, extent_of};
+use crate::zero_page::{PTR3, REGBANK, SP, SREG};
+use c65_base::Refusal;
+use c65_code::Line::Do;
+use c65_code::Operand::{At, Byte, Nothing, Zero};
+use c65_code::{Draft, Routine, Sym, TosOp, Width};
+use c65_genwide::{narrow, put, run};
+use c65_ints::IntType;
+use c65_mach::Mode::{Absolute, Immediate, Implied, IndirectY, ZeroPage};
+use c65_mach::Op::{Lda, Ldy, Sta, Stx, Sty, Tay, Tya};
+
+fn store_bank(at: u8, extent: Extent, draft: &mut Draft) -> Result<(), Refusal>
+    ensures { OnOk result (draft.new ≡ with_lines draft.old (bank_store at extent)) }
+{
+    let byte = REGBANK.wrapping_add(at);
+    match extent {
+        Extent::One => put(draft, &[Do(Sta, ZeroPage, Zero(byte))]),
+        Extent::Two | Extent::Four => put(
+            draft,
+            &[
+                Do(Sta, ZeroPage, Zero(byte)),
+                Do(Stx, ZeroPage, Zero(byte.wrapping_add(1))),
+            ],
+        ),
+    }
+}
+
+fn store_near(at: u8, extent: Extent, draft: &mut Draft) -> Result<(), Refusal>
+    ensures { OnOk result (draft.new ≡ with_lines draft.old (near_store at extent)) }
+{
+    put(draft, &[Do(Ldy, Immediate, Byte(at))])?;
+    match extent {
+        Extent::One => put(draft, &[Do(Sta, IndirectY, Zero(SP))]),
+        Extent::Two => run(draft, Routine::StAxYSp),
+        Extent::Four => run(draft, Routine::StEaxYSp),
+    }
+}
+
+fn store_data(sym: Sym, at: u16, extent: Extent, draft: &mut Draft) -> Result<(), Refusal>
+    ensures { OnOk result (draft.new ≡ with_lines draft.old (data_store sym at extent)) }
+{
+    match extent {
+        Extent::One => put(draft, &[Do(Sta, Absolute, At(sym, at))]),
+        Extent::Two => put(
+            draft,
+            &[
+                Do(Sta, Absolute, At(sym, at)),
+                Do(Stx, Absolute, At(sym, at.wrapping_add(1))),
+            ],
+        ),
+        Extent::Four => put(
+            draft,
+            &[
+                Do(Sta, Absolute, At(sym, at)),
+                Do(Stx, Absolute, At(sym, at.wrapping_add(1))),
+                Do(Ldy, ZeroPage, Zero(SREG)),
+                Do(Sty, Absolute, At(sym, at.wrapping_add(2))),
+                Do(Ldy, ZeroPage, Zero(SREG + 1)),
+                Do(Sty, Absolute, At(sym, at.wrapping_add(3))),
+            ],
+        ),
+    }
+}
+
+fn store_far(extent: Extent, draft: &mut Draft) -> Result<(), Refusal>
+    ensures { OnOk result (draft.new ≡ with_lines draft.old (far_store extent)) }
+{
+    match extent {
+        Extent::One => run(draft, Routine::StATos),
+        Extent::Two => run(draft, Routine::StAxTos),
+        Extent::Four => run(draft, Routine::StEaxTos),
+    }
+}
+
+/// A, AX or EAX goes to a place. An address that waited is popped.
+fn store_bytes(place: Place, extent: Extent, draft: &mut Draft) -> Result<(), Refusal>
+    ensures { OnOk result (draft.new ≡ with_lines draft.old (bytes_store place extent)) }
+{
+    match place {
+        Place::Bank(at) => store_bank(at, extent, draft),
+        Place::Near(at) => store_near(at, extent, draft),
+        Place::Data(sym, at) => store_data(sym, at, extent, draft),
+        Place::Far => store_far(extent, draft),
+    }
+}
+
+// A store through an address leaves A alone in place of a character.
+fn restore(place: Place, kind: IntType, draft: &mut Draft) -> Result<(), Refusal>
+    ensures { OnOk result (draft.new ≡ with_lines draft.old (after_store place kind)) }
+{
+    match place {
+        Place::Far => narrow(kind, draft),
+        Place::Bank(_) | Place::Near(_) | Place::Data(_, _) => put(draft, &[]),
+    }
+}
+
+// The word at a place, above whose address one word more waits.
+fn load_under(place: Place, draft: &mut Draft) -> Result<(), Refusal>
+    ensures { OnOk result (draft.new ≡ with_lines draft.old (under_code place)) }
+{
+    match place {
+        Place::Near(at) => load_bytes(Place::Near(at.wrapping_add(2)), Extent::Two, draft),
+        Place::Far => {
+            put(draft, &[Do(Ldy, Immediate, Byte(3))])?;
+            run(draft, Routine::LdAxYSp)?;
+            run(draft, Routine::LdAxi)
+        }
+        Place::Bank(_) | Place::Data(_, _) => load_bytes(place, Extent::Two, draft),
+    }
+}
+
+// The other bits of the unit stay.
+fn store_field(place: Place, field: Field, draft: &mut Draft) -> Result<(), Refusal>
+    ensures { OnOk result (draft.new ≡ with_lines draft.old (field_store place field)) }
+{
+    align(field, draft)?;
+    run(draft, Routine::PushAx)?;
+    load_under(place, draft)?;
+    mask(others(field), draft)?;
+    run(draft, Routine::Tos(TosOp::Or, Width::Ax))?;
+    store_bytes(place, Extent::Two, draft)?;
+    extract(field, draft)
+}
+
+/// The primary register goes to a place, and is what the place then holds. An address that waited is
+/// popped.
+pub fn store(place: Place, access: Access, draft: &mut Draft) -> Result<(), Refusal>
+    ensures { OnOk result (draft.new ≡ with_lines draft.old (store_code place access)) }
+{
+    match access {
+        Access::Whole(kind) => {
+            store_bytes(place, extent_of(kind), draft)?;
+            restore(place, kind, draft)
+        }
+        Access::Part(field) => store_field(place, field, draft),
+    }
+}
+
+/// So many bytes are copied from the address in AX to the one that waits, which AX becomes (C90
+/// 6.3.16.1).
+pub fn copy(size: u32, draft: &mut Draft) -> Result<(), Refusal>
+    ensures { OnOk result (draft.new ≡ with_lines draft.old (copy_code size)) }
+{
+    put(
+        draft,
+        &[
+            Do(Tay, Implied, Nothing),
+            Do(Lda, Immediate, Byte((size % 256) as u8)),
+            Do(Sta, ZeroPage, Zero(PTR3)),
+            Do(Lda, Immediate, Byte((size / 256 % 256) as u8)),
+            Do(Sta, ZeroPage, Zero(PTR3 + 1)),
+            Do(Tya, Implied, Nothing),
+        ],
+    )?;
+    run(draft, Routine::CopyTos)
+}

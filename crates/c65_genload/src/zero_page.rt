@@ -1,0 +1,11 @@
+// The zero page (docs/MACHINE.md, "Zero page").
+
+pub const SP: u8 = 0;
+/// The high half of EAX.
+pub const SREG: u8 = 2;
+
+pub const PTR3: u8 = 12;
+
+pub const TMP1: u8 = 16;
+/// The register variables.
+pub const REGBANK: u8 = 20;

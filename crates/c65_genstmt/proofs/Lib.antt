@@ -1,0 +1,4 @@
+pub mod Answering
+pub mod Counts
+pub mod Drafts
+pub mod Loops

@@ -1,0 +1,163 @@
+// Functions (C90 6.7.1; MACHINE.md, "Calls").
+ghost use Rattle.std.specs.Prelude.{◌≡◌, ◌≤◌, ◌^◌, IfOk, IfErr, OnOk};
+ghost use Rattle.c65_base.specs.declared.refusal.Refusal.TheVariants.{OutOfMemory};
+ghost use Rattle.c65_base.specs.Answers.{Gives};
+ghost use Rattle.c65_csem.specs.Views.{func_of};
+ghost use Rattle.c65_genwide.specs.Lines.{with_lines};
+ghost use Rattle.c65_genstmt.specs.Functions.{body_room, with_body, main_code, with_function, no_lines, closed, gives_of, function_of, function_at};
+
+use crate::cases::room_of;
+use crate::jumps::Ways;
+use crate::stmt::put_stmt;
+use c65_base::{Options, Refusal};
+use c65_code::Line::Do;
+use c65_code::Operand::Byte;
+use c65_code::{Draft, RegSet, Seg, is_segment};
+use c65_csem::{Parts, TFunc, TProgram};
+use c65_frame::{Frame, bytes_or, registers};
+use c65_genentry::{fresh, label, put_end, put_entry, reserve};
+use c65_genwide::put;
+use c65_mach::Mode::Immediate;
+use c65_mach::Op::{Lda, Ldx};
+use std::alloc::Global;
+
+/// What a function gives, by the type of its result.
+fn gives_of(parts: &Parts, function: &TFunc) -> RegSet
+    ensures { result ≡ gives_of parts.now (func_of function.now) }
+{
+    registers(bytes_or(&parts.types, &function.ty.result.ty, 0))
+}
+
+/// Reaching the end of main returns 0 (C90 5.1.2.2.3).
+fn put_zero(is_main: bool, draft: &mut Draft) -> Result<(), Refusal>
+    ensures { OnOk result (draft.new ≡ with_lines draft.old (main_code is_main)) }
+{
+    if is_main {
+        put(
+            draft,
+            &[Do(Ldx, Immediate, Byte(0)), Do(Lda, Immediate, Byte(0))],
+        )
+    } else {
+        put(draft, &[])
+    }
+}
+
+fn body_room(function: &TFunc) -> u64
+    ensures exact { result ≡ body_room (func_of function.now).body }
+    ensures few { result ≤ 2 ^ 32 }
+{
+    match &function.body {
+        Some(body) => room_of(body),
+        None => 0,
+    }
+}
+
+fn put_body(
+    alloc: Global,
+    function: &TFunc,
+    frame: &Frame<'_>,
+    draft: &mut Draft,
+) -> Result<(), Refusal>
+    ensures { OnOk result (draft.new ≡ with_body frame.now (func_of function.now).body draft.old) }
+{
+    let ways = Ways {
+        behind: 0,
+        onward: 0,
+        other: 0,
+    };
+    let mut case = 0;
+    match &function.body {
+        Some(body) => put_stmt(alloc, body, frame, ways, &mut case, draft),
+        None => Ok(()),
+    }
+}
+
+/// The lines of a function. Label 0 is that of its end, and those of its statements follow.
+fn put_function(
+    alloc: Global,
+    function: &TFunc,
+    frame: &Frame<'_>,
+    is_main: bool,
+    draft: &mut Draft,
+) -> Result<(), Refusal>
+    ensures { OnOk result (draft.new ≡ with_function frame.now is_main (func_of function.now).body draft.old) }
+{
+    let end = fresh(draft)?;
+    let _ = reserve(draft, body_room(function) as usize)?;
+    put_entry(frame, draft)?;
+    put_body(alloc, function, frame, draft)?;
+    put_zero(is_main, draft)?;
+    label(draft, end)?;
+    put_end(frame, draft)?;
+    Ok(())
+}
+
+/// The same as a draft. What stops it is want of memory.
+#[tactic(auto, using(crate::proofs::Drafts::draft_is))]
+fn drafted(
+    alloc: Global,
+    parts: &Parts,
+    function: &TFunc,
+    frame: &Frame<'_>,
+    is_main: bool,
+) -> Result<Draft, Refusal>
+    ensures lines { IfOk result (λ d. d ≡ with_function frame.now is_main (func_of function.now).body (no_lines (gives_of parts.now (func_of function.now)))) }
+    ensures refused { IfErr result (λ e. e ≡ OutOfMemory) }
+{
+    let mut draft = Draft::new(alloc, gives_of(parts, function));
+    match put_function(alloc, function, frame, is_main, &mut draft) {
+        Ok(()) => Ok(draft),
+        Err(_) => Err(Refusal::OutOfMemory),
+    }
+}
+
+/// A segment of the lines. Where they are none, that is refused as want of memory.
+#[tactic(auto, using(crate::proofs::Drafts::segment_is))]
+fn close(draft: Draft) -> Result<Seg, Refusal>
+    ensures ok { IfOk result (λ s. s ≡ closed draft) }
+    ensures refused { IfErr result (λ e. e ≡ OutOfMemory) }
+{
+    if is_segment(draft.lines()) {
+        Ok(draft.close())
+    } else {
+        Err(Refusal::OutOfMemory)
+    }
+}
+
+/// The segment of a function of a program with these parts.
+#[tactic(auto, using(crate::proofs::Answering::memory_fails, crate::proofs::Answering::fails_before, crate::proofs::Answering::goes_on), unfolding(crate::specs::Functions::function_of))]
+pub fn segment_of(
+    alloc: Global,
+    parts: &Parts,
+    function: &TFunc,
+    is_main: bool,
+    honoured: bool,
+) -> Result<Seg, Refusal>
+    ensures { Gives (λ s. s) result (function_of parts.now is_main honoured (func_of function.now)) }
+{
+    let frame = Frame::of(alloc, parts, function, honoured)?;
+    let draft = drafted(alloc, parts, function, &frame, is_main)?;
+    close(draft)
+}
+
+/// The lines of a function of the program, by its number. Refuses `Frame` where its parameters and
+/// automatic objects have more than 1,024 bytes, and otherwise for want of memory alone: a number
+/// that names no function, more labels than there are, and jumps that have no label are refused so
+/// too.
+pub fn gen_function(
+    alloc: Global,
+    program: &TProgram,
+    func: u32,
+    options: &Options,
+) -> Result<Seg, Refusal>
+    ensures { Gives (λ s. s) result (function_at program.now.0 program.now.1 options.now.register_vars func) }
+{
+    let parts = program.unit().parts();
+    match parts.funcs.get(func as usize) {
+        Some(function) => {
+            let is_main = func == program.main();
+            segment_of(alloc, parts, function, is_main, options.register_vars)
+        }
+        None => Err(Refusal::OutOfMemory),
+    }
+}

@@ -1,0 +1,78 @@
+// Jumps and conditions.
+ghost use Rattle.std.specs.Prelude.{◌≡◌, ◌∷◌, [], OnOk};
+ghost use Rattle.c65_mach.specs.declared.rows.Op.TheVariants.{Jmp};
+ghost use Rattle.c65_ctype.specs.Views.{ty_of};
+ghost use Rattle.c65_csem.specs.Views.{typed_of};
+ghost use Rattle.c65_genexpr.specs.Types.{kind_of};
+ghost use Rattle.c65_genwide.specs.Lines.{with_lines};
+ghost use Rattle.c65_genentry.specs.Words.{jump};
+ghost use Rattle.c65_genstmt.specs.Jumps.{following, with_value, with_condition};
+
+use c65_base::Refusal;
+use c65_code::{Draft, Line, Operand};
+use c65_csem::TExpr;
+use c65_ctype::CType;
+use c65_frame::Frame;
+use c65_genexpr::gen_expr;
+use c65_genload::test;
+use c65_genwide::width_of;
+use c65_ints::IntType;
+use c65_mach::{Mode, Op};
+
+/// Where jumps out of a statement lead, as labels.
+#[derive(Clone, Copy)]
+pub struct Ways {
+    /// Behind the innermost loop or switch.
+    pub behind: u32,
+    /// To where the innermost loop goes on.
+    pub onward: u32,
+    /// To the default label of the innermost switch.
+    pub other: u32,
+}
+
+/// The label behind a label.
+pub fn following(label: u32) -> u32
+    ensures { result ≡ following label }
+{
+    label.wrapping_add(1)
+}
+
+/// The integer type whose values stand for those of a scalar type.
+pub fn kind_of(ty: &CType) -> IntType
+    ensures { result ≡ kind_of (ty_of ty.now) }
+{
+    match ty {
+        CType::Int(kind) => *kind,
+        _ => IntType::UInt,
+    }
+}
+
+/// A jump.
+pub fn put_jump(label: u32, draft: &mut Draft) -> Result<(), Refusal>
+    ensures { OnOk result (draft.new ≡ with_lines draft.old (jump Jmp label ∷ [])) }
+{
+    draft.push(Line::Do(Op::Jmp, Mode::Absolute, Operand::To(label)))
+}
+
+/// The lines of an expression where no value waits.
+pub fn put_value(expr: &TExpr, frame: &Frame<'_>, draft: &mut Draft) -> Result<(), Refusal>
+    ensures { OnOk result (draft.new ≡ with_value frame.now (typed_of expr.now) draft.old) }
+{
+    gen_expr(expr, frame, 0, draft)
+}
+
+/// A condition, and a branch where it is zero, or where it is not.
+pub fn put_condition(
+    expr: &TExpr,
+    frame: &Frame<'_>,
+    op: Op,
+    label: u32,
+    draft: &mut Draft,
+) -> Result<(), Refusal>
+    ensures { OnOk result (draft.new ≡ with_condition frame.now op label (typed_of expr.now) draft.old) }
+{
+    put_value(expr, frame, draft)?;
+    test(width_of(kind_of(&expr.ty.ty)), draft)?;
+    draft.push(Line::Do(op, Mode::Relative, Operand::To(label)))?;
+    Ok(())
+}

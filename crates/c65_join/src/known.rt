@@ -1,0 +1,39 @@
+// The names that joining knows of itself: that of the main function, and those of the library.
+ghost use Rattle.std.specs.Prelude.{◌≡◌, true, IfSome};
+ghost use Rattle.c65_join.specs.Known.{is_main_at, library_at};
+
+use crate::library::by_spelling;
+use c65_base::{Name, Names};
+use c65_csem::Library;
+
+/// The function of the library that a name is.
+pub fn library_named(names: &Names, name: Name) -> Option<Library>
+    ensures { result ≡ library_at names.now name.0 }
+{
+    match names.spelling(name) {
+        Some(spelling) => by_spelling(spelling),
+        None => None,
+    }
+}
+
+fn is_main_name(names: &Names, name: Name) -> bool
+    ensures { result ≡ is_main_at names.now name.0 }
+{
+    match names.spelling(name) {
+        Some(spelling) => spelling == b"main".as_slice(),
+        None => false,
+    }
+}
+
+/// The name of the main function.
+pub fn name_of_main(names: &Names) -> Option<Name>
+    ensures { IfSome result (λ n. is_main_at names.now n.0 ≡ true) }
+{
+    for number in 0..names.len() as u32 {
+        let name = Name(number);
+        if is_main_name(names, name) {
+            return Some(name);
+        }
+    }
+    None
+}

@@ -1,0 +1,4 @@
+pub mod Stacks
+pub mod Answering
+pub mod Turns
+pub mod Tokens

@@ -1,0 +1,16 @@
+// Where a parser stands.
+ghost use Rattle.std.specs.Prelude.{◌<◌, length};
+
+use c65_scan::Token;
+use c65_scopes::Scope;
+use std::alloc::Global;
+
+/// Tokens that are being read, and the names that are types there.
+#[derive(Drop)]
+pub struct Parser<'a> {
+    pub(crate) tokens: &'a [Token],
+    pub(crate) at: usize,
+    pub(crate) scope: Scope,
+    pub(crate) alloc: Global,
+    ghost inside: { at < length tokens.now },
+}

@@ -1,9 +1,0 @@
-pub mod ScanLaws
-pub mod FormLaws
-pub mod NumberLaws
-pub mod Facts
-pub mod Rows
-pub mod Putchar
-pub mod PutcharRun
-pub mod MainRun
-pub mod Agreement

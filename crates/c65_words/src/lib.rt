@@ -1,0 +1,10 @@
+//! The words of the command line: the command that they spell, or the word at which they spell none.
+#![tactic(auto)]
+
+mod command;
+mod spelling;
+mod told;
+mod value;
+
+pub use command::{Command, CommandKind, Definition};
+pub use spelling::spell;
