@@ -1,0 +1,5 @@
+pub mod Constants
+pub mod Naming
+pub mod Operators
+pub mod Places
+pub mod Typing

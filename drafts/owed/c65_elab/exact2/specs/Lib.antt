@@ -1,0 +1,3 @@
+pub mod Constants
+pub mod Naming
+pub mod Operators

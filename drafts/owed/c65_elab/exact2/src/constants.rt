@@ -1,0 +1,27 @@
+// The values of integer constant expressions (C90 6.4) where they are needed.
+ghost use Rattle.std.specs.Prelude.{◌≡◌};
+ghost use Rattle.c65_base.specs.Answers.{Gives};
+ghost use Rattle.c65_csem.specs.Views.{typed_of};
+ghost use Rattle.c65_elab.specs.Constants.{value_at};
+
+use c65_base::{Code, Pos, Refusal};
+use c65_csem::TExpr;
+use c65_declare::fault;
+use c65_fold::constant;
+
+/// The value of a constant expression at a place. Refuses `NotConstant`, and `ConstantValue` where
+/// the value is undefined.
+pub fn value_at(expr: &TExpr, pos: Pos) -> Result<i64, Refusal>
+    ensures { Gives (λ z. z) result (value_at (typed_of expr.now) pos) }
+{
+    match constant(expr) {
+        Some(value) => Ok(value),
+        None => {
+            if c65_fold::is_constant(expr) {
+                Err(fault(Code::ConstantValue, pos))
+            } else {
+                Err(fault(Code::NotConstant, pos))
+            }
+        }
+    }
+}

@@ -1,0 +1,17 @@
+//! From syntax trees to types and typed trees: specifiers, declarators and expressions in a scope
+//! (C90 6.3 to 6.5).
+#![tactic(auto)]
+
+mod constants;
+mod elab;
+mod lists;
+mod names;
+mod operators;
+mod public;
+#[cfg(test)]
+mod tests;
+
+pub use c65_declare::{Formal, Formals, Heading, name_place};
+pub use c65_scope::{Entity, Scope};
+pub use constants::value_at;
+pub use public::{elab_declarator, elab_expr, elab_heading, elab_specifiers};

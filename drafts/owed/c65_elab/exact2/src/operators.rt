@@ -1,0 +1,68 @@
+// Operators that ask the scope, or that are several in one construct.
+ghost use Rattle.std.specs.Prelude.{◌≡◌};
+ghost use Rattle.c65_base.specs.Answers.{Gives};
+ghost use Rattle.c65_ctype.specs.Views.{types_of};
+ghost use Rattle.c65_csem.specs.Views.{typed_of};
+ghost use Rattle.c65_scope.specs.Scopes.{scope_of};
+ghost use Rattle.c65_elab.specs.Operators.{is_register_class, is_register, on_place, assigning};
+
+use c65_base::{BinaryOp, Pos, Refusal, UnaryOp};
+use c65_convert::{assign, assign_op, unary};
+use c65_csem::{Class, TExpr, TKind};
+use c65_ctype::Types;
+use c65_scope::Scope;
+use std::alloc::Global;
+
+fn is_register_class(class: Class) -> bool
+    ensures { result ≡ is_register_class class }
+{
+    match class {
+        Class::Register => true,
+        _ => false,
+    }
+}
+
+/// Whether an expression names an object of class register, or a part of one (C90 6.5.1).
+fn is_register(scope: &Scope, e: &TExpr) -> bool
+    ensures { result ≡ is_register (scope_of scope.now) (typed_of e.now) }
+{
+    match &e.kind {
+        TKind::Object(number) => match scope.object(*number) {
+            Some(object) => is_register_class(object.class),
+            None => false,
+        },
+        TKind::Member(object, _) => is_register(scope, object),
+        _ => false,
+    }
+}
+
+/// An operator of one operand (C90 6.3.3).
+pub fn on_place(
+    alloc: Global,
+    scope: &Scope,
+    pos: Pos,
+    op: UnaryOp,
+    e: TExpr,
+) -> Result<TExpr, Refusal>
+    ensures { Gives typed_of result (on_place (scope_of scope.now) pos op (typed_of e)) }
+{
+    let register = is_register(scope, &e);
+    unary(alloc, scope.types(), pos, op, register, e)
+}
+
+/// An assignment, which is compound where there is an operator (C90 6.3.16).
+pub fn assigning(
+    alloc: Global,
+    types: &Types,
+    pos: Pos,
+    op: Option<BinaryOp>,
+    a: TExpr,
+    b: TExpr,
+) -> Result<TExpr, Refusal>
+    ensures { Gives typed_of result (assigning (types_of types.now) pos op (typed_of a) (typed_of b)) }
+{
+    match op {
+        None => assign(alloc, types, pos, a, b),
+        Some(op) => assign_op(alloc, types, pos, op, a, b),
+    }
+}

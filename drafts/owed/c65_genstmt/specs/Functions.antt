@@ -1,0 +1,64 @@
+-- The lines of a function (C90 6.7.1; docs/MACHINE.md, "Calls").
+use Rattle.std.specs.Prelude.{ℕ, ◌+◌, ◌==◌, Bool, if◌then◌else◌, Option, None, Some, option_map, slice_get, Result, Ok, Err, List, [], ◌∷◌, ◌++◌}
+use Rattle.c65_base.specs.declared.refusal.Size.TheVariants as sizes
+use Rattle.c65_base.specs.Answers.{Fault, large, ◌>>=◌}
+use Rattle.c65_ctype.specs.Trees.{type_in}
+use Rattle.c65_ctype.specs.Views.{types_of}
+use Rattle.c65_csem.specs.declared.items.Parts.{Parts}
+use Rattle.c65_csem.specs.Trees.{Stmt, FuncTy}
+use Rattle.c65_csem.specs.Typed.{result_of}
+use Rattle.c65_csem.specs.Views.{func_of}
+use Rattle.c65_mach.specs.declared.rows.Op.TheVariants.{Lda, Ldx}
+use Rattle.c65_code.specs.declared.line.Line.{Line}
+use Rattle.c65_code.specs.declared.line.Line.TheVariants.{Label}
+use Rattle.c65_code.specs.declared.parts.RegSet.{RegSet}
+use Rattle.c65_code.specs.Segments.{Segment}
+use Rattle.c65_frame.specs.Frames.{Framed, frame_of}
+use Rattle.c65_frame.specs.Registers.{registers}
+use Rattle.c65_frame.specs.Sizes.{bytes_or}
+use Rattle.c65_genwide.specs.Lines.{value}
+use Rattle.c65_genentry.specs.Entry.{entry_code}
+use Rattle.c65_genentry.specs.Ends.{end_code}
+use Rattle.c65_genstmt.specs.Cases.{room_of}
+use Rattle.c65_genstmt.specs.Stmts.{ways, stmt_code, stmt_labels}
+
+-- what a function gives, by the type of its result
+abbrev pub gives_of : Parts → FuncTy → RegSet
+gives_of parts f = registers (bytes_or (types_of parts.types) (type_in (result_of f.ty)) 0)
+
+abbrev pub body_room : Option Stmt → ℕ
+body_room None = 0
+body_room (Some body) = room_of body
+
+abbrev pub body_code : Framed → ℕ → Option Stmt → List Line
+body_code f fresh None = []
+body_code f fresh (Some body) = stmt_code f (ways 0 0 0) 0 fresh body
+
+abbrev pub body_labels : Framed → Option Stmt → ℕ
+body_labels f None = 0
+body_labels f (Some body) = stmt_labels f body
+
+-- reaching the end of main returns 0 (C90 5.1.2.2.3)
+abbrev pub main_code : Bool → List Line
+main_code is_main = if is_main then value Ldx 0 ∷ value Lda 0 ∷ [] else []
+
+-- the first free label is that of the end, and the labels of statements follow it
+abbrev pub whole_code : Framed → Bool → ℕ → Option Stmt → List Line
+whole_code f is_main fresh body = entry_code f ++ (body_code f (fresh + 1 + body_room body) body ++ (main_code is_main ++ (Label fresh ∷ end_code f)))
+
+abbrev pub whole_labels : Framed → Option Stmt → ℕ
+whole_labels f body = 1 + body_room body + body_labels f body
+
+abbrev pub segment_of : Parts → Bool → FuncTy → Framed → Segment
+segment_of parts is_main g f = record { lines = whole_code f is_main 0 g.body; out = gives_of parts g }
+
+abbrev pub function_of : Parts → Bool → Bool → FuncTy → Result Segment Fault
+function_of parts is_main honoured g = frame_of parts honoured g >>= (λ f. Ok (segment_of parts is_main g f))
+
+abbrev pub function_in : Parts → Bool → Bool → Option FuncTy → Result Segment Fault
+function_in parts is_main honoured None = Err (large sizes.Frame 0)
+function_in parts is_main honoured (Some g) = function_of parts is_main honoured g
+
+-- by its number
+abbrev pub function_at : Parts → ℕ → Bool → ℕ → Result Segment Fault
+function_at parts main honoured func = function_in parts (func == main) honoured (option_map func_of (slice_get parts.funcs.items func))
