@@ -1,5 +1,0 @@
-pub mod Constants
-pub mod Naming
-pub mod Operators
-pub mod Places
-pub mod Typing
