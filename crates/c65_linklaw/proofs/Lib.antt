@@ -1,0 +1,5 @@
+pub mod Labels
+pub mod Sizes
+pub mod Reach
+pub mod Lines
+pub mod Extents

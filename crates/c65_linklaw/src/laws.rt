@@ -1,0 +1,24 @@
+// Laws, each the contract of a function that does nothing.
+ghost use Rattle.c65_linklaw.specs.Coded.{LinesAreCoded};
+ghost use Rattle.c65_linklaw.specs.Extents.{CodeIsWithinItsExtent, SizesAreLengths, ImagesAreBounded};
+
+/// The bytes of a segment's lines, wherever they stand in program space, are its instructions one behind another: each
+/// with its opcode and operand, and each branch leads to its label, itself or as the opposite one round a jump.
+pub fn lines_are_coded()
+    ensures { LinesAreCoded }
+{}
+
+/// Functions take no more bytes than their lines with every branch a long one.
+pub fn code_is_within_its_extent()
+    ensures { CodeIsWithinItsExtent }
+{}
+
+/// Lines are as many bytes as the size says by which the addresses behind them are placed.
+pub fn sizes_are_lengths()
+    ensures { SizesAreLengths }
+{}
+
+/// An image's file holds the code within its extent, the data, and at most 8,192 bytes of the runtime.
+pub fn images_are_bounded()
+    ensures { ImagesAreBounded }
+{}

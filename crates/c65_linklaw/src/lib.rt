@@ -1,0 +1,6 @@
+//! Laws of the linker: what it writes for lines is their machine code, in as many bytes as it says.
+#![tactic(auto)]
+
+mod laws;
+
+pub use laws::{code_is_within_its_extent, images_are_bounded, lines_are_coded, sizes_are_lengths};
