@@ -1,5 +1,5 @@
 -- What an address constant names (C90 6.4).
-use Rattle.std.specs.Prelude.{ℕ, Bool, true, false, not, Option, Some, None, slice_get}
+use Rattle.std.specs.Prelude.{Bool, true, false, not, Option, Some, None, slice_get}
 use Rattle.c65_csem.specs.declared.items.Target.{Target}
 use Rattle.c65_csem.specs.declared.items.Target.TheVariants.{Object, Literal, Func}
 use Rattle.c65_csem.specs.Trees.{ObjectTy, UnitTy}

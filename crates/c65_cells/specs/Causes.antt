@@ -1,6 +1,5 @@
 -- Why initial values are refused.
-use Rattle.std.specs.Prelude.{◌≡◌, ℕ, ◌<◌, Bool, true, false}
-use Rattle.c65_base.specs.declared.code.Code.{Code}
+use Rattle.std.specs.Prelude.{◌≡◌, ◌<◌}
 use Rattle.c65_base.specs.declared.code.Code.TheVariants.{Initialiser, NotConstant, ConstantValue}
 use Rattle.c65_base.specs.declared.refusal.Pos.{Pos}
 use Rattle.c65_base.specs.declared.refusal.Size.TheVariants as sizes

@@ -1,3 +1,5 @@
 pub mod Addresses
 pub mod Causes
 pub mod Cells
+pub mod Parts
+pub mod Sinks

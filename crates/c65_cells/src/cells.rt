@@ -1,7 +1,7 @@
 // The first bytes of an object.
-ghost use Rattle.std.specs.Prelude.{◌≡◌, ◌≤◌, OnOk, length, set, take};
+ghost use Rattle.std.specs.Prelude.{◌≡◌, ◌≤◌, OnOk, length, set, take, slice_get};
 ghost use Rattle.std.specs.Int.{w64, cast_unsigned, to_le_bytes};
-ghost use Rattle.c65_cells.specs.Cells.{grown, placed, written, pointed};
+ghost use Rattle.c65_cells.specs.Cells.{grown, placed, written, pointed, byte_in, low_bits, unit_at, with_bits};
 
 use c65_csem::{Cell, Target};
 use std::alloc::AllocError;
@@ -79,7 +79,10 @@ pub fn put_pointer(
     Ok(())
 }
 
-fn byte_at(cells: &[Cell], at: usize) -> u8 {
+/// The byte at a place; zero where none is.
+fn byte_at(cells: &[Cell], at: usize) -> u8
+    ensures { result ≡ byte_in (slice_get cells.now at) }
+{
     match cells.get(at) {
         Some(Cell::Byte(byte)) => *byte,
         _ => 0,
@@ -87,33 +90,36 @@ fn byte_at(cells: &[Cell], at: usize) -> u8 {
 }
 
 /// The lowest bits of a number, so many of its first 16.
-fn lowest_bits(value: i64, width: u8) -> u16 {
-    let bytes = value.to_le_bytes();
-    let low = u16::from_le_bytes([bytes[0], bytes[1]]);
-    if width < 1 {
-        0
-    } else if width < 16 {
-        low & (0xffff >> (16 - width))
-    } else {
-        low
-    }
+fn lowest_bits(value: i64, width: u8) -> u16
+    ensures { result ≡ low_bits value width }
+{
+    let low = (value.cast_unsigned() % 65_536) as u16;
+    if width < 16 { low % (1 << width) } else { low }
 }
 
-/// The value of a bit-field in its unit of two bytes.
+/// A unit of two bytes, the lower one first, as a number.
+fn unit_at(cells: &[Cell], at: usize) -> u16
+    requires { at ≤ 4294967303 }
+    ensures { result ≡ unit_at cells.now at }
+{
+    byte_at(cells, at) as u16 + 256 * byte_at(cells, at + 1) as u16
+}
+
+/// The value of a bit-field in its unit of two bytes, whose other bits stay.
 pub fn put_bits(
     cells: &mut Vec<Cell>,
     offset: u32,
     lowest: u8,
     width: u8,
     value: i64,
-) -> Result<(), AllocError> {
+) -> Result<(), AllocError>
+    ensures { OnOk result (cells.new.items ≡ with_bits cells.old.items offset lowest width value) }
+{
     let from = offset as usize;
     grow(cells, from + 2)?;
-    let before = u16::from_le_bytes([byte_at(cells, from), byte_at(cells, from + 1)]);
     let shift = if lowest < 16 { lowest } else { 0 };
-    let unit = before | (lowest_bits(value, width) << shift);
-    let bytes = unit.to_le_bytes();
-    put(cells, from, Cell::Byte(bytes[0]));
-    put(cells, from + 1, Cell::Byte(bytes[1]));
+    let unit = unit_at(cells, from) | (lowest_bits(value, width) << shift);
+    put(cells, from, Cell::Byte((unit % 256) as u8));
+    put(cells, from + 1, Cell::Byte((unit / 256) as u8));
     Ok(())
 }

@@ -1,6 +1,7 @@
 // The parts of an object to which the values of an initialiser go, in their order (C90 6.5.7).
-ghost use Rattle.std.specs.Prelude.{◌≡◌, ◌+◌, ◌*◌, IfErr, IfOk};
-ghost use Rattle.c65_ctype.specs.Views.{qty_of};
+ghost use Rattle.std.specs.Prelude.{◌≡◌, ◌+◌, ◌*◌, ◌<◌, IfErr, IfOk, IfSome, drop, map, length, option_map};
+ghost use Rattle.c65_ctype.specs.Views.{qty_of, types_of, member_of};
+ghost use Rattle.c65_cells.specs.Parts.{part_of, pair_of, plain_part, named_from, next_member};
 ghost use Rattle.c65_cells.specs.Causes.{IsPartFault, IsShapeFault};
 ghost use Rattle.c65_cells.specs.Cells.{is_below};
 
@@ -21,7 +22,7 @@ pub struct Part {
 
 /// An object as a part.
 pub fn whole(alloc: Global, ty: &QType) -> Result<Part, AllocError>
-    ensures { IfOk result (λ p. (qty_of p.ty ≡ qty_of ty.now) × (p.offset ≡ 0)) }
+    ensures { IfOk result (λ p. part_of p ≡ plain_part (qty_of ty.now) 0) }
 {
     Ok(Part {
         ty: ty.copy(alloc)?,
@@ -31,7 +32,10 @@ pub fn whole(alloc: Global, ty: &QType) -> Result<Part, AllocError>
 }
 
 /// The place of the first member with a name from this place on.
-fn named_member(members: &[Member], from: usize) -> Option<usize> {
+fn named_member(members: &[Member], from: usize) -> Option<usize>
+    ensures exact { result ≡ named_from (drop from (map member_of members.now)) from }
+    ensures inside { IfSome result (λ at. at < length members.now) }
+{
     for at in from..members.len() {
         if members[at].name.is_some() {
             return Some(at);
@@ -48,7 +52,9 @@ pub fn member_part(
     tag: u32,
     offset: u32,
     from: usize,
-) -> Result<Option<(Part, usize)>, AllocError> {
+) -> Result<Option<(Part, usize)>, AllocError>
+    ensures { IfOk result (λ found. option_map pair_of found ≡ next_member (types_of types.now) tag offset from) }
+{
     let Some(layout) = types.get(tag) else {
         return Ok(None);
     };
@@ -66,7 +72,7 @@ pub fn member_part(
         offset: offset.saturating_add(member.offset),
         bits: member.bits,
     };
-    Ok(Some((part, at.saturating_add(1))))
+    Ok(Some((part, at + 1)))
 }
 
 /// An element of an array as a part.
@@ -77,8 +83,7 @@ pub fn element_part(
     size: u32,
     index: u32,
 ) -> Result<Part, Refusal>
-    ensures place { IfOk result (λ p. p.offset ≡ base + size * index) }
-    ensures same { IfOk result (λ p. qty_of p.ty ≡ qty_of element.now) }
+    ensures exact { IfOk result (λ p. part_of p ≡ plain_part (qty_of element.now) (base + size * index)) }
     ensures refused { IfErr result IsPartFault }
 {
     Ok(Part {

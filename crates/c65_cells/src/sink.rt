@@ -1,8 +1,10 @@
 // Where initial values go.
-ghost use Rattle.std.specs.Prelude.{◌≡◌, ◌≤◌, IfErr};
+ghost use Rattle.std.specs.Prelude.{◌≡◌, ◌≤◌, ◌++◌, IfErr, OnOk, map, option_map};
 ghost use Rattle.c65_base.specs.declared.refusal.Refusal.TheVariants.{OutOfMemory, At};
 ghost use Rattle.c65_ctype.specs.Sizes.{bytes_of};
+ghost use Rattle.c65_csem.specs.Views.{typed_of, stmt_of};
 ghost use Rattle.c65_cells.specs.Causes.{IsPointerFault};
+ghost use Rattle.c65_cells.specs.Sinks.{sink_of, with_set, with_number, byte_set, beginning};
 
 use crate::address::{Constant, constant_pointer};
 use crate::cells::{put_bits, put_number, put_pointer};
@@ -30,7 +32,8 @@ pub fn fault(code: Code, pos: Pos) -> Refusal
 
 /// Stores a value into an automatic object.
 pub fn set(sink: &mut Sink, offset: u32, value: TExpr) -> Result<(), Refusal>
-    ensures { IfErr result (λ e. e ≡ OutOfMemory) }
+    ensures exact { OnOk result (sink_of sink.new ≡ with_set (sink_of sink.old) offset (typed_of value)) }
+    ensures refused { IfErr result (λ e. e ≡ OutOfMemory) }
 {
     let mut value = value;
     fold(&mut value);
@@ -59,7 +62,8 @@ pub fn store_number(
     value: TExpr,
     known: i64,
 ) -> Result<(), Refusal>
-    ensures { IfErr result (λ e. e ≡ OutOfMemory) }
+    ensures exact { OnOk result (sink_of sink.new ≡ with_number (sink_of sink.old) offset kind bits (typed_of value) known) }
+    ensures refused { IfErr result (λ e. e ≡ OutOfMemory) }
 {
     match bits {
         Some((lowest, width)) => {
@@ -123,7 +127,9 @@ pub fn store_pointer(
 }
 
 /// The statement that stores a byte which is not zero.
-fn set_byte(object: u32, offset: u32, cell: Cell) -> Option<TStmt> {
+fn set_byte(object: u32, offset: u32, cell: Cell) -> Option<TStmt>
+    ensures { option_map stmt_of result ≡ byte_set object offset cell }
+{
     match cell {
         Cell::Byte(0) => None,
         Cell::Byte(byte) => {
@@ -140,7 +146,8 @@ fn set_byte(object: u32, offset: u32, cell: Cell) -> Option<TStmt> {
 /// Adds the statements that begin an automatic object, and behind them those that store its bytes
 /// which are not zero.
 pub fn begin_automatic(sink: Sink, stmts: &mut Vec<TStmt>) -> Result<(), Refusal>
-    ensures { IfErr result (λ e. e ≡ OutOfMemory) }
+    ensures exact { OnOk result (map stmt_of stmts.new.items ≡ map stmt_of stmts.old.items ++ beginning (sink_of sink)) }
+    ensures refused { IfErr result (λ e. e ≡ OutOfMemory) }
 {
     let Sink {
         object,

@@ -1,5 +1,7 @@
 // String literals as the initial values of arrays of characters (C90 6.5.7).
-ghost use Rattle.std.specs.Prelude.{◌≡◌, IfErr, IfOk, length};
+ghost use Rattle.std.specs.Prelude.{◌≡◌, IfErr, IfOk, OnOk, length};
+ghost use Rattle.c65_ctype.specs.Views.{ty_of};
+ghost use Rattle.c65_cells.specs.Sinks.{sink_of, with_char, with_text, char_kind};
 ghost use Rattle.c65_base.specs.declared.refusal.Refusal.TheVariants.{OutOfMemory};
 ghost use Rattle.c65_cells.specs.Causes.{IsTextFault};
 ghost use Rattle.c65_cells.specs.Cells.{elements};
@@ -53,7 +55,8 @@ pub fn text_for<'a>(ty: &CType, init: &'a Initialiser) -> Option<&'a Bytes> {
 
 /// A character of an array.
 fn put_char(sink: &mut Sink, offset: u32, kind: IntType, byte: u8) -> Result<(), Refusal>
-    ensures { IfErr result (λ e. e ≡ OutOfMemory) }
+    ensures exact { OnOk result (sink_of sink.new ≡ with_char (sink_of sink.old) offset kind byte) }
+    ensures refused { IfErr result (λ e. e ≡ OutOfMemory) }
 {
     if !sink.is_automatic {
         put_number(&mut sink.cells, offset, 1, byte as i64)?;
@@ -94,7 +97,9 @@ fn elements(count: Option<u32>, length: usize, pos: Pos) -> Result<u32, Refusal>
     }
 }
 
-fn kind_of(element: &CType) -> IntType {
+fn kind_of(element: &CType) -> IntType
+    ensures { result ≡ char_kind (ty_of element.now) }
+{
     match element {
         CType::Int(kind) => *kind,
         _ => IntType::UChar,
@@ -112,6 +117,7 @@ pub fn put_text(
     pos: Pos,
 ) -> Result<u32, Refusal>
     ensures number { IfOk result (λ n. n ≡ elements count (length text.now)) }
+    ensures exact { OnOk result (sink_of sink.new ≡ with_text (sink_of sink.old) (ty_of element.now) offset text.now) }
     ensures refused { IfErr result (IsTextFault pos) }
 {
     let kind = kind_of(element);
