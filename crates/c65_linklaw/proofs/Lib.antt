@@ -3,3 +3,4 @@ pub mod Sizes
 pub mod Reach
 pub mod Lines
 pub mod Extents
+pub mod Placed

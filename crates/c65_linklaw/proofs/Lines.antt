@@ -19,7 +19,7 @@ use Rattle.c65_linklaw.proofs.Labels.{offset_here, offset_elsewhere, far_kept, n
 use Rattle.c65_linklaw.proofs.Sizes.{IsSized, line_sized, line_length, plus_most, grown, IsSmall, Next, next}
 use Rattle.c65_linklaw.proofs.Reach.{IsAfter, IsBefore, leads_forward, leads_backward, after, not_true}
 
-stands_split : (xs ys : List ℕ) (m : Memory) (at : ℕ) → Stands m at (xs ++ ys) → Stands m at xs × Stands m (at + length xs) ys
+pub stands_split : (xs ys : List ℕ) (m : Memory) (at : ℕ) → Stands m at (xs ++ ys) → Stands m at xs × Stands m (at + length xs) ys
 stands_split [] ys m at h =
     let e : at ≡ at + 0 = omega arith in
     (tt, subst (λ n. Stands m n ys) e h)

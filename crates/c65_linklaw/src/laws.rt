@@ -1,5 +1,6 @@
 // Laws, each the contract of a function that does nothing.
 ghost use Rattle.c65_linklaw.specs.Coded.{LinesAreCoded};
+ghost use Rattle.c65_linklaw.specs.Placed.{FunctionsStand};
 ghost use Rattle.c65_linklaw.specs.Extents.{CodeIsWithinItsExtent, SizesAreLengths, ImagesAreBounded};
 
 /// The bytes of a segment's lines, wherever they stand in program space, are its instructions one behind another: each
@@ -21,4 +22,10 @@ pub fn sizes_are_lengths()
 /// An image's file holds the code within its extent, the data, and at most 8,192 bytes of the runtime.
 pub fn images_are_bounded()
     ensures { ImagesAreBounded }
+{}
+
+/// Where an image's file stands in memory from $0200 on, the lines of each function of the code stand as machine code
+/// behind the start and the functions before it.
+pub fn functions_stand()
+    ensures { FunctionsStand }
 {}

@@ -3,4 +3,7 @@
 
 mod laws;
 
-pub use laws::{code_is_within_its_extent, images_are_bounded, lines_are_coded, sizes_are_lengths};
+pub use laws::{
+    code_is_within_its_extent, functions_stand, images_are_bounded, lines_are_coded,
+    sizes_are_lengths,
+};
