@@ -4,3 +4,4 @@ pub mod Reach
 pub mod Lines
 pub mod Extents
 pub mod Placed
+pub mod Symbols

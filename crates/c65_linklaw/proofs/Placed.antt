@@ -1,9 +1,7 @@
 -- Functions one behind another, from the file's bytes to machine code.
-use Rattle.std.proofs.Common.{◌≡◌, ℕ, zero, suc, ◌+◌, ◌*◌, ◌≤◌, ◌<◌, ◌^◌, ◌-◌, ◌%◌, Bool, true, false, nat_lt, if◌then◌else◌, List, [], ◌∷◌, ◌++◌, take, slice_get, Option, Some, None, Result, Ok, Err, length, refl, ap, sym, ◌∙◌, subst, arith, le-ltb}
-use Rattle.std.proofs.lemmas.List.{length-append, append_assoc, append-nil}
+use Rattle.std.proofs.Common.{◌≡◌, ℕ, zero, suc, ◌+◌, ◌≤◌, ◌^◌, ◌-◌, ◌%◌, Bool, true, false, nat_lt, if◌then◌else◌, List, [], ◌∷◌, ◌++◌, take, slice_get, Option, Some, None, Result, Ok, Err, length, refl, sym, ◌∙◌, subst, arith}
+use Rattle.std.proofs.lemmas.List.{append_assoc, append-nil}
 use Rattle.std.proofs.lemmas.Bool.{ltb-false}
-use Rattle.c65_base.specs.declared.refusal.Size.TheVariants as limits
-use Rattle.c65_base.specs.Limits.{limit_of}
 use Rattle.c65_mach.specs.declared.image.Image.{Image}
 use Rattle.c65_code.specs.declared.routine.Routine.{Routine}
 use Rattle.c65_code.specs.declared.line.Sym.{Sym}
@@ -16,16 +14,16 @@ use Rattle.c65_code.specs.Segments.{Segment, IsSegment}
 use Rattle.c65_code.specs.Placement.{program_start}
 use Rattle.c65_link.specs.declared.symbols.Target.{Target}
 use Rattle.c65_link.specs.declared.symbols.Target.TheVariants.{Nowhere, Own, Library}
-use Rattle.c65_link.specs.Bodies.{Labels, Body, body_of, plus}
-use Rattle.c65_link.specs.Bytes.{Spot, Written, Tables, spot_of, lines_bytes, with_lines, with_functions, with_routines, data_bytes}
-use Rattle.c65_link.specs.Layouts.{Layout, layout_of, empty_layout, code_layout, with_targets, with_data, with_zeros, with_all_data, with_all_zeros, cells_end}
+use Rattle.c65_link.specs.Bodies.{Body, body_of, plus}
+use Rattle.c65_link.specs.Bytes.{Spot, Written, Tables, lines_bytes, with_lines, with_functions, with_routines, data_bytes}
+use Rattle.c65_link.specs.Layouts.{Layout, empty_layout, with_targets, with_data, with_zeros, with_all_data, with_all_zeros, cells_end}
 use Rattle.c65_link.specs.Layouts.{with_lines as layout_lines, with_functions as layout_functions, with_routines as layout_routines}
 use Rattle.c65_link.specs.Runtime.{routine_lines}
 use Rattle.c65_link.specs.Symbols.{targets_of, missing_of}
-use Rattle.c65_link.specs.Linked.{Fault, large, entry_of, parts_of, tables_of, routine_tables, payload_by, payload_of, image_of, named_or_placed, linked}
-use Rattle.c65_linklaw.specs.Coded.{Memory, Stands, AreCoded, spot_for, bytes_at}
-use Rattle.c65_linklaw.specs.Placed.{behind, first_address, address_of, layout_in, FunctionsStand}
-use Rattle.c65_linklaw.proofs.Sizes.{plus_grows, plus_most, plus_exact}
+use Rattle.c65_link.specs.Linked.{Fault, large, entry_of, parts_of, tables_of, routine_tables, payload_of, image_of, named_or_placed}
+use Rattle.c65_linklaw.specs.Coded.{Memory, Stands, AreCoded, spot_for}
+use Rattle.c65_linklaw.specs.Placed.{behind, first_address, layout_in, FunctionsStand}
+use Rattle.c65_linklaw.proofs.Sizes.{plus_grows, plus_most}
 use Rattle.c65_linklaw.proofs.Extents.{sizes_are_lengths}
 use Rattle.c65_linklaw.proofs.Lines.{stands_split, lines_are_coded}
 

@@ -1,10 +1,11 @@
 -- Where the functions of a linked code stand in memory.
-use Rattle.std.specs.Prelude.{◌≡◌, ℕ, ◌+◌, List, [], ◌∷◌, take, slice_get, Option, Some, Result, Ok}
+use Rattle.std.specs.Prelude.{◌≡◌, ℕ, ◌+◌, ◌<◌, ◌%◌, IsTrue, List, [], ◌∷◌, ◌++◌, map, length, take, slice_get, slice_index, Some, Ok}
 use Rattle.c65_mach.specs.declared.image.Image.{Image}
 use Rattle.c65_code.specs.declared.line.Sym.{Sym}
 use Rattle.c65_code.specs.declared.code.Code.{Code}
 use Rattle.c65_code.specs.Placement.{program_start}
-use Rattle.c65_code.specs.Segments.{Segment, IsSegment}
+use Rattle.c65_code.specs.declared.code.Datum.{Datum}
+use Rattle.c65_code.specs.Segments.{Segment, IsSegment, is_distinct}
 use Rattle.c65_link.specs.Runtime.{routine_lines}
 use Rattle.c65_link.specs.Bodies.{body_of, plus}
 use Rattle.c65_link.specs.Symbols.{targets_of}
@@ -30,3 +31,17 @@ layout_in code = layout_of code (targets_of code) (entry_of code) (parts_of code
 -- Where an image's file stands in memory, each function's lines stand as machine code at the function's address.
 abbrev pub FunctionsStand : Type 0
 FunctionsStand = (code : Code) (image : Image) (m : Memory) (k : ℕ) (f : Sym × Segment) → linked code ≡ Ok image → Stands m program_start image.payload → slice_get code.functions k ≡ Some f → IsSegment f.1.lines → AreCoded m (spot_for f.1.lines (address_of code k) (layout_in code).symbols (layout_in code).routines) (address_of code k) f.1.lines (address_of code k + (body_of f.1.lines).size)
+
+-- the symbols of functions and of data
+abbrev pub function_number : Sym × Segment → ℕ
+function_number f = f.0.0
+
+abbrev pub datum_number : Datum → ℕ
+datum_number datum = datum.sym.0
+
+abbrev pub numbers_of : Code → List ℕ
+numbers_of code = map function_number code.functions ++ map datum_number code.datums
+
+-- Where no symbol is defined twice, a function's symbol has the function's address.
+abbrev pub SymbolsLead : Type 0
+SymbolsLead = (code : Code) (k : ℕ) (f : Sym × Segment) → slice_get code.functions k ≡ Some f → f.0.0 < length code.symbols → IsTrue (is_distinct (numbers_of code)) → slice_index (layout_in code).symbols f.0.0 ≡ address_of code k % 65536

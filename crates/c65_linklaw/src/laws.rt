@@ -1,6 +1,6 @@
 // Laws, each the contract of a function that does nothing.
 ghost use Rattle.c65_linklaw.specs.Coded.{LinesAreCoded};
-ghost use Rattle.c65_linklaw.specs.Placed.{FunctionsStand};
+ghost use Rattle.c65_linklaw.specs.Placed.{FunctionsStand, SymbolsLead};
 ghost use Rattle.c65_linklaw.specs.Extents.{CodeIsWithinItsExtent, SizesAreLengths, ImagesAreBounded};
 
 /// The bytes of a segment's lines, wherever they stand in program space, are its instructions one behind another: each
@@ -28,4 +28,9 @@ pub fn images_are_bounded()
 /// behind the start and the functions before it.
 pub fn functions_stand()
     ensures { FunctionsStand }
+{}
+
+/// Where no symbol is defined twice, the symbol of a function has that function's address.
+pub fn symbols_lead()
+    ensures { SymbolsLead }
 {}
