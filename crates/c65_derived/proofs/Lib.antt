@@ -1,0 +1,14 @@
+pub mod Phrases
+pub mod Says
+pub mod Alike
+pub mod Places
+pub mod States
+pub mod Operands
+pub mod Operations
+pub mod Members
+pub mod Exprs
+pub mod Declarators
+pub mod Specifiers
+pub mod Params
+pub mod Run
+pub mod Derivations

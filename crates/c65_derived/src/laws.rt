@@ -1,0 +1,22 @@
+// That the grammar derives each tree that was read from the tokens that were read, in the scope there.
+ghost use Rattle.c65_derived.specs.Derived.{ExprsAreDerived, SpecifiersAreDerived, DeclaratorsAreDerived, TypesAreDerived};
+
+/// An expression (C90 6.3), an assignment expression or a constant expression, with the scope behind it.
+pub fn expressions_are_derived()
+    ensures { ExprsAreDerived }
+{}
+
+/// Declaration specifiers (C90 6.5), or none.
+pub fn specifiers_are_derived()
+    ensures { SpecifiersAreDerived }
+{}
+
+/// A declarator (C90 6.5.4) of any sort.
+pub fn declarators_are_derived()
+    ensures { DeclaratorsAreDerived }
+{}
+
+/// A type name (C90 6.5.5).
+pub fn types_are_derived()
+    ensures { TypesAreDerived }
+{}

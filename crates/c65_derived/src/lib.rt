@@ -1,0 +1,11 @@
+//! What the parser reads is what the grammar derives.
+//!
+//! Each law is the contract of a function that does nothing. The parser's calls have a machine's run as their
+//! contract, one step a token; the laws say of that run which phrase of the grammar stands in what it has read.
+#![tactic(auto)]
+
+mod laws;
+
+pub use laws::{
+    declarators_are_derived, expressions_are_derived, specifiers_are_derived, types_are_derived,
+};
