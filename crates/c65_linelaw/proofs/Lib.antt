@@ -1,0 +1,4 @@
+pub mod MetRows
+pub mod Results
+pub mod Routines
+pub mod Sticks
