@@ -1,0 +1,10 @@
+pub mod Operators
+pub mod Settling
+pub mod Kept
+pub mod Marks
+pub mod Jumps
+pub mod Scenes
+pub mod Calls
+pub mod Steps
+pub mod Starts
+pub mod Runs

@@ -1,0 +1,8 @@
+//! Folding keeps the meaning of programs. The statements stand in specs/; each is the contract of a function that does nothing.
+//! Beside them, small programs whose meaning is computed.
+#![tactic(auto)]
+
+mod laws;
+pub mod samples;
+
+pub use laws::{constants_settle, folding_fails_no_more, folding_keeps};
