@@ -5,3 +5,4 @@ pub mod Lines
 pub mod Extents
 pub mod Placed
 pub mod Symbols
+pub mod Routines

@@ -1,5 +1,5 @@
 -- Functions one behind another, from the file's bytes to machine code.
-use Rattle.std.proofs.Common.{◌≡◌, ℕ, zero, suc, ◌+◌, ◌≤◌, ◌^◌, ◌-◌, ◌%◌, Bool, true, false, nat_lt, if◌then◌else◌, List, [], ◌∷◌, ◌++◌, take, slice_get, Option, Some, None, Result, Ok, Err, length, refl, sym, ◌∙◌, subst, arith}
+use Rattle.std.proofs.Common.{◌≡◌, ℕ, zero, suc, ◌+◌, ◌≤◌, ◌^◌, ◌-◌, ◌%◌, Bool, true, false, nat_lt, if◌then◌else◌, List, [], ◌∷◌, ◌++◌, take, slice_get, Option, Some, None, Result, Ok, Err, length, refl, ap, sym, ◌∙◌, subst, arith}
 use Rattle.std.proofs.lemmas.List.{append_assoc, append-nil}
 use Rattle.std.proofs.lemmas.Bool.{ltb-false}
 use Rattle.c65_mach.specs.declared.image.Image.{Image}
@@ -22,34 +22,34 @@ use Rattle.c65_link.specs.Runtime.{routine_lines}
 use Rattle.c65_link.specs.Symbols.{targets_of, missing_of}
 use Rattle.c65_link.specs.Linked.{Fault, large, entry_of, parts_of, tables_of, routine_tables, payload_of, image_of, named_or_placed}
 use Rattle.c65_linklaw.specs.Coded.{Memory, Stands, AreCoded, spot_for}
-use Rattle.c65_linklaw.specs.Placed.{behind, first_address, layout_in, FunctionsStand}
+use Rattle.c65_linklaw.specs.Placed.{behind, first_address, layout_in, routines_in, behind_routines, FunctionsStand}
 use Rattle.c65_linklaw.proofs.Sizes.{plus_grows, plus_most}
 use Rattle.c65_linklaw.proofs.Extents.{sizes_are_lengths}
 use Rattle.c65_linklaw.proofs.Lines.{stands_split, lines_are_coded}
 
 -- Addresses only grow, up to the greatest that 64 bits hold
 
-record Grows (a b : ℕ) : Type 0 where
-  least : a ≤ b
-  most : b ≤ 2 ^ 64 - 1
+pub record Grows (a b : ℕ) : Type 0 where
+  pub least : a ≤ b
+  pub most : b ≤ 2 ^ 64 - 1
 
-stays : (a : ℕ) → a ≤ 2 ^ 64 - 1 → Grows a a
+pub stays : (a : ℕ) → a ≤ 2 ^ 64 - 1 → Grows a a
 stays a h = record { least = omega arith; most = h }
 
-more : (a n : ℕ) → a ≤ 2 ^ 64 - 1 → Grows a (plus a n)
+pub more : (a n : ℕ) → a ≤ 2 ^ 64 - 1 → Grows a (plus a n)
 more a n h = record { least = plus_grows a n h; most = plus_most a n }
 
-on : (a b c : ℕ) → Grows a b → Grows b c → Grows a c
+pub on : (a b c : ℕ) → Grows a b → Grows b c → Grows a c
 on a b c f g = record { least = omega (arith, f.least, g.least); most = g.most }
 
-behind_grows : (fs : List (Sym × Segment)) (at : ℕ) → at ≤ 2 ^ 64 - 1 → Grows at (behind at fs)
+pub behind_grows : (fs : List (Sym × Segment)) (at : ℕ) → at ≤ 2 ^ 64 - 1 → Grows at (behind at fs)
 behind_grows [] at h = stays at h
 behind_grows (f ∷ fs) at h =
     let n : ℕ = plus at (body_of f.1.lines).size in
     let here : Grows at n = more at (body_of f.1.lines).size h in
     on at n (behind n fs) here (behind_grows fs n here.most)
 
-functions_behind : (fs : List (Sym × Segment)) (layout : Layout) → (layout_functions layout fs).at ≡ behind layout.at fs
+pub functions_behind : (fs : List (Sym × Segment)) (layout : Layout) → (layout_functions layout fs).at ≡ behind layout.at fs
 functions_behind [] layout = refl
 functions_behind (f ∷ fs) layout = functions_behind fs _
 
@@ -88,11 +88,14 @@ zeros_grow (datum ∷ datums) layout h =
     let here : Grows layout.at (with_zeros datum.kind layout datum).at = one_zeros datum.kind layout datum h in
     on layout.at (with_zeros datum.kind layout datum).at (with_all_zeros (with_zeros datum.kind layout datum) datums).at here (zeros_grow datums (with_zeros datum.kind layout datum) here.most)
 
--- behind the functions of a code there is at most what the layout says
-functions_end : (code : Code) → Grows (behind (first_address code) code.functions) (layout_in code).at
-functions_end code =
+routines_behind : (rs : List Routine) (layout : Layout) → (layout_routines layout rs).at ≡ behind_routines layout.at rs
+routines_behind [] layout = refl
+routines_behind (r ∷ rs) layout = routines_behind rs _
+
+pub routines_end : (code : Code) → Grows (behind_routines (behind (first_address code) code.functions) (routines_in code)) (layout_in code).at
+routines_end code =
     let targets : List Target = targets_of code in
-    let parts : List Routine = parts_of code targets in
+    let parts : List Routine = routines_in code in
     let begun : Layout = layout_lines (empty_layout (length code.symbols)) (routine_lines (entry_of code)) in
     let coded : Layout = layout_functions begun code.functions in
     let all : Layout = layout_routines coded parts in
@@ -103,14 +106,31 @@ functions_end code =
     let functions : Grows (first_address code) end = behind_grows code.functions (first_address code) first.most in
     let at_end : coded.at ≡ end = functions_behind code.functions begun in
     let a : Grows coded.at all.at = routines_grow parts coded (omega (arith, at_end, functions.most)) in
+    let is : all.at ≡ behind_routines coded.at parts = routines_behind parts coded in
+    let moved : behind_routines coded.at parts ≡ behind_routines end parts = ap (λ (n : ℕ). behind_routines n parts) at_end in
     let same : named.at ≡ all.at = targets_stay targets 0 all in
     let b : Grows named.at given.at = data_grow code.datums named (omega (arith, same, a.most)) in
     let c : Grows given.at (with_all_zeros given code.datums).at = zeros_grow code.datums given b.most in
-    record { least = omega (arith, at_end, a.least, same, b.least, c.least); most = c.most }
+    record { least = omega (arith, is, moved, same, b.least, c.least); most = c.most }
+
+pub routines_reach : (rs : List Routine) (at : ℕ) → at ≤ 2 ^ 64 - 1 → Grows at (behind_routines at rs)
+routines_reach [] at h = stays at h
+routines_reach (r ∷ rs) at h =
+    let n : ℕ = plus at (body_of (routine_lines r)).size in
+    let here : Grows at n = more at (body_of (routine_lines r)).size h in
+    on at n (behind_routines n rs) here (routines_reach rs n here.most)
+
+-- behind the functions of a code there is at most what the layout says
+pub functions_end : (code : Code) → Grows (behind (first_address code) code.functions) (layout_in code).at
+functions_end code =
+    let begin : ℕ = behind (first_address code) code.functions in
+    let first : Grows program_start (first_address code) = more program_start (body_of (routine_lines (entry_of code))).size (omega arith) in
+    let functions : Grows (first_address code) begin = behind_grows code.functions (first_address code) first.most in
+    on begin (behind_routines begin (routines_in code)) (layout_in code).at (routines_reach (routines_in code) begin functions.most) (routines_end code)
 
 -- The file of an image that was linked, and where it ends
 
-abbrev Given : Result Image Fault → List ℕ → ℕ → Type 0
+abbrev pub Given : Result Image Fault → List ℕ → ℕ → Type 0
 Given (Ok image) payload at = (image.payload ≡ payload) × (at ≤ 63472)
 Given (Err e) payload at = Unit {0}
 
@@ -120,10 +140,10 @@ given_by false at payload e =
     let low : at - 512 ≤ 62960 = ltb-false 62960 (at - 512) e in
     (refl, omega (arith, low))
 
-abbrev file_of : Code → List ℕ
+abbrev pub file_of : Code → List ℕ
 file_of code = payload_of code (layout_in code) (entry_of code) (parts_of code (targets_of code))
 
-given : (code : Code) (name : Option (List ℕ)) → Given (named_or_placed code (targets_of code) name) (file_of code) (layout_in code).at
+pub given : (code : Code) (name : Option (List ℕ)) → Given (named_or_placed code (targets_of code) name) (file_of code) (layout_in code).at
 given code (Some name) = tt
 given code None = given_by (nat_lt 62960 ((layout_in code).at - 512)) (layout_in code).at (file_of code) refl
 
@@ -132,14 +152,14 @@ given code None = given_by (nat_lt 62960 ((layout_in code).at - 512)) (layout_in
 abbrev spot_at : Tables → ℕ → Body → Spot
 spot_at tables at body = record { body = body; base = at % 65536; symbols = tables.symbols; routines = tables.routines }
 
-abbrev one_bytes : Tables → ℕ → List Line → List ℕ
+abbrev pub one_bytes : Tables → ℕ → List Line → List ℕ
 one_bytes tables at lines = lines_bytes (spot_at tables at (body_of lines)) (record { far = 0; near = 0 }) lines
 
-abbrev functions_bytes : Tables → ℕ → List (Sym × Segment) → List ℕ
+abbrev pub functions_bytes : Tables → ℕ → List (Sym × Segment) → List ℕ
 functions_bytes tables at [] = []
 functions_bytes tables at (f ∷ fs) = one_bytes tables at f.1.lines ++ functions_bytes tables (plus at (body_of f.1.lines).size) fs
 
-written_functions : (fs : List (Sym × Segment)) (tables : Tables) (w : Written) → (with_functions tables w fs).bytes ≡ w.bytes ++ functions_bytes tables w.at fs
+pub written_functions : (fs : List (Sym × Segment)) (tables : Tables) (w : Written) → (with_functions tables w fs).bytes ≡ w.bytes ++ functions_bytes tables w.at fs
 written_functions [] tables w = sym (append-nil w.bytes)
 written_functions (f ∷ fs) tables w = written_functions fs tables (with_lines tables w f.1.lines) ∙ append_assoc w.bytes (one_bytes tables w.at f.1.lines) (functions_bytes tables (plus w.at (body_of f.1.lines).size) fs)
 
@@ -149,22 +169,22 @@ stands_before [] tables w m at h = h
 stands_before (r ∷ rs) tables w m at h = (stands_split w.bytes (one_bytes tables w.at (routine_lines r)) m at (stands_before rs tables (with_lines tables w (routine_lines r)) m at h)).0
 
 -- the lines of a function where they fit
-record Fits (at size : ℕ) : Type 0 where
-  sum : plus at size ≡ at + size
-  low : at + size ≤ 65535
+pub record Fits (at size : ℕ) : Type 0 where
+  pub sum : plus at size ≡ at + size
+  pub low : at + size ≤ 65535
 
-fits : (at size end : ℕ) → at ≤ 2 ^ 64 - 1 → Grows (plus at size) end → end ≤ 65535 → Fits at size
+pub fits : (at size end : ℕ) → at ≤ 2 ^ 64 - 1 → Grows (plus at size) end → end ≤ 65535 → Fits at size
 fits at size end h g low =
     let small : plus at size ≤ 65535 = omega (arith, g.least, low) in
     record { sum = omega (arith, small); low = omega (arith, small) }
 
-one_stands : (lines : List Line) (tables : Tables) (at : ℕ) (m : Memory) → Fits at (body_of lines).size → Stands m at (one_bytes tables at lines) → IsSegment lines → AreCoded m (spot_for lines at tables.symbols tables.routines) at lines (at + (body_of lines).size)
+pub one_stands : (lines : List Line) (tables : Tables) (at : ℕ) (m : Memory) → Fits at (body_of lines).size → Stands m at (one_bytes tables at lines) → IsSegment lines → AreCoded m (spot_for lines at tables.symbols tables.routines) at lines (at + (body_of lines).size)
 one_stands lines tables at m f h segment =
     let low : at + (body_of lines).size ≤ 65535 = f.low in
     let base : at % 65536 ≡ at = omega (arith, low) in
     lines_are_coded lines at tables.symbols tables.routines m segment low (subst (λ (b : ℕ). Stands m at (lines_bytes (record { body = body_of lines; base = b; symbols = tables.symbols; routines = tables.routines }) (record { far = 0; near = 0 }) lines)) base h)
 
-one_length : (lines : List Line) (tables : Tables) (at : ℕ) → Fits at (body_of lines).size → at + length (one_bytes tables at lines) ≡ plus at (body_of lines).size
+pub one_length : (lines : List Line) (tables : Tables) (at : ℕ) → Fits at (body_of lines).size → at + length (one_bytes tables at lines) ≡ plus at (body_of lines).size
 one_length lines tables at f =
     let low : at + (body_of lines).size ≤ 65535 = f.low in
     let n : length (one_bytes tables at lines) ≡ (body_of lines).size = sizes_are_lengths lines (at % 65536) tables.symbols tables.routines (omega (arith, low)) in

@@ -23,11 +23,11 @@ use Rattle.c65_linklaw.specs.Placed.{behind, function_number, datum_number, Symb
 -- Numbers that occur once
 
 -- a number that is none of these
-abbrev Lacks : List ℕ → ℕ → Type 0
+abbrev pub Lacks : List ℕ → ℕ → Type 0
 Lacks [] n = Unit {0}
 Lacks (x ∷ xs) n = (n ≢ x) × Lacks xs n
 
-lacks : (xs : List ℕ) (n : ℕ) → is_among xs n ≡ false → Lacks xs n
+pub lacks : (xs : List ℕ) (n : ℕ) → is_among xs n ≡ false → Lacks xs n
 lacks [] n h = tt
 lacks (x ∷ xs) n h =
     let parts = or_parts (nat_eq n x) (is_among xs n) h in
@@ -41,7 +41,7 @@ lacks_second : (xs ys : List ℕ) (n : ℕ) → Lacks (xs ++ ys) n → Lacks ys 
 lacks_second [] ys n h = h
 lacks_second (x ∷ xs) ys n h = lacks_second xs ys n h.1
 
-not_true : (b : Bool) → not b ≡ true → b ≡ false
+pub not_true : (b : Bool) → not b ≡ true → b ≡ false
 not_true true h = absurd cc
 not_true false h = refl
 

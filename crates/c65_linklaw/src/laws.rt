@@ -1,6 +1,6 @@
 // Laws, each the contract of a function that does nothing.
 ghost use Rattle.c65_linklaw.specs.Coded.{LinesAreCoded};
-ghost use Rattle.c65_linklaw.specs.Placed.{FunctionsStand, SymbolsLead};
+ghost use Rattle.c65_linklaw.specs.Placed.{FunctionsStand, SymbolsLead, RoutinesStand};
 ghost use Rattle.c65_linklaw.specs.Extents.{CodeIsWithinItsExtent, SizesAreLengths, ImagesAreBounded};
 
 /// The bytes of a segment's lines, wherever they stand in program space, are its instructions one behind another: each
@@ -33,4 +33,10 @@ pub fn functions_stand()
 /// Where no symbol is defined twice, the symbol of a function has that function's address.
 pub fn symbols_lead()
     ensures { SymbolsLead }
+{}
+
+/// Where an image's file stands in memory from $0200 on, the lines of each routine that is used stand as machine code at
+/// the address that calls of it have.
+pub fn routines_stand()
+    ensures { RoutinesStand }
 {}

@@ -5,5 +5,5 @@ mod laws;
 
 pub use laws::{
     code_is_within_its_extent, functions_stand, images_are_bounded, lines_are_coded,
-    sizes_are_lengths, symbols_lead,
+    routines_stand, sizes_are_lengths, symbols_lead,
 };
