@@ -1,1 +1,0 @@
-int main(void){putchar(65);return 300;}
