@@ -1,0 +1,80 @@
+#!/usr/bin/env bash
+# Prints how long ./c65 (or the program that C65 names) takes to compile, and how much memory it needs.
+# Usage, at the top of the repository: bench/compile.sh
+#   1. a program of 255 functions: compiled, linked and started
+#   2. sources of 1 KB to 1 MB: declarations alone, and functions up to what fits an image, in nanoseconds a byte
+#   3. the least of some bounds of memory within which 1 MiB of source compiles
+set -eu
+c65=${C65:-./c65}
+folder=$(mktemp -d)
+trap 'rm -rf "$folder"' EXIT
+
+# The program of N functions: each mixes its argument with a number of a fixed sequence, and main calls all of them.
+functions() {
+    awk -v n="$1" 'BEGIN {
+        s = n
+        for (i = 0; i < n; i++) {
+            printf "unsigned f%d(unsigned x){return(x*3u+%du)^(x>>1);}\n", i, s
+            s = (25173 * s + 13849) % 65536
+        }
+        print "int main(void){unsigned x=1u;"
+        for (i = 0; i < n; i++) printf "x=f%d(x);\n", i
+        print "return(int)(x&255u);}"
+    }'
+}
+
+# About so many bytes of declarations, and a main.
+declarations() {
+    awk -v most="$1" 'BEGIN {
+        for (i = 0; bytes < most - 60; i++) {
+            line = sprintf("/* item %d */\nstruct s%d { int a, b[%d]; struct s%d *next; };\nextern unsigned f%d(struct s%d *item, unsigned x);\n", i, i, i % 90 + 1, i, i, i)
+            bytes += length(line)
+            printf "%s", line
+        }
+        print "int main(void) { return 0; }"
+    }'
+}
+
+# The least processor milliseconds of five runs of a command.
+milliseconds() {
+    local TIMEFORMAT='%U %S' best='' used
+    for _ in 1 2 3 4 5; do
+        used=$({ time "$@" > /dev/null 2>&1 || true; } 2>&1 | awk '{ print ($1 + $2) * 1000 }')
+        best=$(awk -v a="${best:-$used}" -v b="$used" 'BEGIN { print a < b ? a : b }')
+    done
+    echo "$best"
+}
+
+report() {
+    awk -v what="$1" -v bytes="$2" -v used="$3" 'BEGIN { printf "%s: %d bytes of source, %.1f ms, %.0f ns a byte\n", what, bytes, used, used * 1000000 / bytes }'
+}
+
+functions 255 > "$folder/big.c"
+status=0
+"$c65" go "$folder/big.c" > /dev/null || status=$?
+echo "the program of 255 functions ends with status $status"
+size=$(wc -c < "$folder/big.c")
+report "compiled and linked" "$size" "$(milliseconds "$c65" build -o "$folder/big" "$folder/big.c")"
+report "compiled, linked and started" "$size" "$(milliseconds "$c65" go -x 1 "$folder/big.c")"
+report "compiled, linked and run to its end" "$size" "$(milliseconds "$c65" go "$folder/big.c")"
+
+for size in 1000 4000 16000 64000 250000 1000000; do
+    declarations "$size" > "$folder/made.c"
+    "$c65" build -o "$folder/made" "$folder/made.c" || { echo "declarations of $size bytes are refused" >&2; exit 1; }
+    report "declarations" "$(wc -c < "$folder/made.c")" "$(milliseconds "$c65" build -o "$folder/made" "$folder/made.c")"
+done
+for count in 8 32 128 512; do
+    functions "$count" > "$folder/made.c"
+    status=0
+    "$c65" build -o "$folder/made" "$folder/made.c" 2> "$folder/line" || status=$?
+    report "$count functions (status $status)" "$(wc -c < "$folder/made.c")" "$(milliseconds "$c65" build -o "$folder/made" "$folder/made.c")"
+done
+
+declarations 1048400 > "$folder/made.c"
+for bound in 50 75 100 125 150 175 200 250 300 400; do
+    if (ulimit -v $((bound * 1024)) && "$c65" build -o "$folder/made" "$folder/made.c") 2> /dev/null; then
+        echo "1 MiB of source compiles within $bound MiB of memory"
+        exit 0
+    fi
+done
+echo "1 MiB of source needs more than 400 MiB of memory"
