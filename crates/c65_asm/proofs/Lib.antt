@@ -1,0 +1,17 @@
+pub mod CallLaws
+pub mod LineLaws
+pub mod ByteLaws
+pub mod SymbolLaws
+pub mod LabelLaws
+pub mod WordLaws
+pub mod SetLaws
+pub mod NameLaws
+pub mod OperandLaws
+pub mod RowLaws
+pub mod FeedLaws
+pub mod NumberLaws
+pub mod FunctionLaws
+pub mod DataLaws
+pub mod TextLaws
+pub mod ReadLaws
+pub mod SoundLaws

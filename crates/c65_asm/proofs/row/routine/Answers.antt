@@ -1,0 +1,8 @@
+use Rattle.std.proofs.Common.{Option, ap, option_map}
+use Rattle.c65_code.specs.declared.routine.Routine.{Routine}
+use Rattle.c65_asm.specs.Rows.{Run}
+use Rattle.c65_asm.proofs.CallLaws.{none_named}
+use Rattle.c65_asm.proofs.row.routine.Goals as goal
+
+pub returns-in-None : goal.returns-in-None
+returns-in-None c = ap (λ (o : Option Routine). option_map Run o) (none_named c.args.text.now c.in-None.ensures.found)

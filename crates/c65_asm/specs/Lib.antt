@@ -1,0 +1,10 @@
+pub mod Lent
+pub mod Text
+pub mod Words
+pub mod Rows
+pub mod Symbols
+pub mod Opened
+pub mod Reading
+pub mod Read
+pub mod Renumbered
+pub mod Back

@@ -1,0 +1,13 @@
+//! The assembly text of a code: written, and read back.
+#![tactic(auto)]
+
+mod mnemonic;
+mod printing;
+mod reader;
+mod reading;
+mod row;
+mod table;
+mod words;
+
+pub use printing::print;
+pub use reading::{Answer, read};

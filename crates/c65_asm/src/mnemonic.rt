@@ -1,0 +1,147 @@
+// The names of operations.
+ghost use Rattle.std.specs.Prelude.{◌≡◌};
+ghost use Rattle.c65_asm.specs.Text.{mnemonic_of};
+ghost use Rattle.c65_asm.specs.Rows.{op_among, op_named};
+
+use c65_mach::Op;
+
+/// An operation's name in assembly text.
+pub fn mnemonic(op: Op) -> &'static [u8]
+    ensures { result.now ≡ mnemonic_of op }
+{
+    match op {
+        Op::Adc => b"ADC",
+        Op::And => b"AND",
+        Op::Asl => b"ASL",
+        Op::Bcc => b"BCC",
+        Op::Bcs => b"BCS",
+        Op::Beq => b"BEQ",
+        Op::Bit => b"BIT",
+        Op::Bmi => b"BMI",
+        Op::Bne => b"BNE",
+        Op::Bpl => b"BPL",
+        Op::Brk => b"BRK",
+        Op::Bvc => b"BVC",
+        Op::Bvs => b"BVS",
+        Op::Clc => b"CLC",
+        Op::Cld => b"CLD",
+        Op::Cli => b"CLI",
+        Op::Clv => b"CLV",
+        Op::Cmp => b"CMP",
+        Op::Cpx => b"CPX",
+        Op::Cpy => b"CPY",
+        Op::Dec => b"DEC",
+        Op::Dex => b"DEX",
+        Op::Dey => b"DEY",
+        Op::Eor => b"EOR",
+        Op::Inc => b"INC",
+        Op::Inx => b"INX",
+        Op::Iny => b"INY",
+        Op::Jmp => b"JMP",
+        Op::Jsr => b"JSR",
+        Op::Lda => b"LDA",
+        Op::Ldx => b"LDX",
+        Op::Ldy => b"LDY",
+        Op::Lsr => b"LSR",
+        Op::Nop => b"NOP",
+        Op::Ora => b"ORA",
+        Op::Pha => b"PHA",
+        Op::Php => b"PHP",
+        Op::Pla => b"PLA",
+        Op::Plp => b"PLP",
+        Op::Rol => b"ROL",
+        Op::Ror => b"ROR",
+        Op::Rti => b"RTI",
+        Op::Rts => b"RTS",
+        Op::Sbc => b"SBC",
+        Op::Sec => b"SEC",
+        Op::Sed => b"SED",
+        Op::Sei => b"SEI",
+        Op::Sta => b"STA",
+        Op::Stx => b"STX",
+        Op::Sty => b"STY",
+        Op::Tax => b"TAX",
+        Op::Tay => b"TAY",
+        Op::Tsx => b"TSX",
+        Op::Txa => b"TXA",
+        Op::Txs => b"TXS",
+        Op::Tya => b"TYA",
+    }
+}
+
+const OPERATIONS: [Op; 56] = [
+    Op::Adc,
+    Op::And,
+    Op::Asl,
+    Op::Bcc,
+    Op::Bcs,
+    Op::Beq,
+    Op::Bit,
+    Op::Bmi,
+    Op::Bne,
+    Op::Bpl,
+    Op::Brk,
+    Op::Bvc,
+    Op::Bvs,
+    Op::Clc,
+    Op::Cld,
+    Op::Cli,
+    Op::Clv,
+    Op::Cmp,
+    Op::Cpx,
+    Op::Cpy,
+    Op::Dec,
+    Op::Dex,
+    Op::Dey,
+    Op::Eor,
+    Op::Inc,
+    Op::Inx,
+    Op::Iny,
+    Op::Jmp,
+    Op::Jsr,
+    Op::Lda,
+    Op::Ldx,
+    Op::Ldy,
+    Op::Lsr,
+    Op::Nop,
+    Op::Ora,
+    Op::Pha,
+    Op::Php,
+    Op::Pla,
+    Op::Plp,
+    Op::Rol,
+    Op::Ror,
+    Op::Rti,
+    Op::Rts,
+    Op::Sbc,
+    Op::Sec,
+    Op::Sed,
+    Op::Sei,
+    Op::Sta,
+    Op::Stx,
+    Op::Sty,
+    Op::Tax,
+    Op::Tay,
+    Op::Tsx,
+    Op::Txa,
+    Op::Txs,
+    Op::Tya,
+];
+
+fn among(operations: &[Op], name: &[u8]) -> Option<Op>
+    ensures { result ≡ op_among operations.now name.now }
+{
+    for op in operations {
+        if mnemonic(*op) == name {
+            return Some(*op);
+        }
+    }
+    None
+}
+
+/// The operation of a name.
+pub fn op_of(name: &[u8]) -> Option<Op>
+    ensures { result ≡ op_named name.now }
+{
+    among(&OPERATIONS, name)
+}

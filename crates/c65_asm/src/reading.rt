@@ -1,0 +1,145 @@
+// Assembly text back to its code.
+ghost use Rattle.std.specs.Prelude.{◌≡◌, [], IfOk, MatchResult, option_map};
+ghost use Rattle.c65_code.specs.Writable.{IsWritable};
+ghost use Rattle.c65_asm.specs.Text.{text_of};
+ghost use Rattle.c65_asm.specs.Renumbered.{IsOfTypes};
+ghost use Rattle.c65_asm.specs.Back.{ReadsBack};
+ghost use Rattle.c65_asm.specs.Reading.{start, step};
+ghost use Rattle.c65_asm.specs.Read.{seen, finished, seen_first, with_rest, first_line, next_number, at_end, lines_in, compared, read_text, RefusesText};
+
+use crate::printing::printed;
+use crate::reader::Reader;
+use crate::words::cut;
+use c65_base::{Code as Fault, Refusal, Text};
+use c65_code::Code;
+use std::alloc::{AllocError, Global};
+
+/// What reading a text gives.
+#[derive(Drop)]
+pub enum Answer {
+    Code(Code),
+    /// The first line with which no text goes on, counted from 1.
+    Line(u32),
+}
+
+fn behind<'a>(
+    reader: Reader,
+    line: &[u8],
+    rest: &'a [u8],
+) -> Result<Option<(Reader, &'a [u8])>, AllocError>
+    ensures { IfOk result (λ first. option_map seen_first first ≡ option_map (with_rest rest.now) (step (seen reader) line.now)) }
+{
+    let next = reader.with_line(line)?;
+    match next {
+        Some(next) => Ok(Some((next, rest))),
+        None => Ok(None),
+    }
+}
+
+// The reader behind the first line, and the text there; none where no text begins so.
+fn with_first_line<'a>(
+    reader: Reader,
+    text: &'a [u8],
+) -> Result<Option<(Reader, &'a [u8])>, AllocError>
+    ensures { IfOk result (λ first. option_map seen_first first ≡ first_line (seen reader) text.now) }
+{
+    match cut(text, b'\n') {
+        Some((line, rest)) => behind(reader, line, rest),
+        None => Ok(None),
+    }
+}
+
+fn next_number(line: u32) -> u32
+    ensures { result ≡ next_number line }
+{
+    if line == 4_294_967_295 {
+        line
+    } else {
+        line + 1
+    }
+}
+
+fn at_end(reader: Reader, line: u32) -> Result<Answer, AllocError>
+    ensures { IfOk result (λ answer. answer ≡ at_end line (finished (seen reader))) }
+{
+    let code = reader.finish()?;
+    match code {
+        Some(code) => Ok(Answer::Code(code)),
+        None => Ok(Answer::Line(line)),
+    }
+}
+
+fn read_lines(alloc: Global, text: &[u8]) -> Result<Answer, AllocError>
+    ensures { IfOk result (λ answer. answer ≡ lines_in start 1 [] text.now) }
+{
+    let mut reader = Reader::new(alloc);
+    let mut line = 1_u32;
+    let mut rest = text;
+    while rest.len() > 0 {
+        let first = with_first_line(reader, rest)?;
+        match first {
+            Some((next, after)) => {
+                reader = next;
+                line = next_number(line);
+                rest = after;
+            }
+            None => return Ok(Answer::Line(line)),
+        }
+    }
+    at_end(reader, line)
+}
+
+// The answer, where its code has this text.
+fn compared(alloc: Global, text: &[u8], answer: Answer) -> Result<Answer, AllocError>
+    ensures { IfOk result (λ compared_answer. compared_answer ≡ compared text.now answer) }
+{
+    match answer {
+        Answer::Code(code) => {
+            let print = printed(alloc, &code)?;
+            if print.as_slice() == text {
+                Ok(Answer::Code(code))
+            } else {
+                Ok(Answer::Line(1))
+            }
+        }
+        Answer::Line(line) => Ok(Answer::Line(line)),
+    }
+}
+
+fn answer_to(alloc: Global, text: &[u8]) -> Result<Answer, AllocError>
+    ensures { IfOk result (λ answer. answer ≡ read_text text.now) }
+{
+    let answer = read_lines(alloc, text)?;
+    compared(alloc, text, answer)
+}
+
+fn refused(alloc: Global, line: u32) -> Result<Refusal, AllocError>
+    ensures { IfOk result (λ refusal. RefusesText (Answer.Line line) refusal) }
+{
+    let file = Text::copy_of(alloc, b"<text>")?;
+    Ok(Refusal::Source {
+        code: Fault::AssemblyText,
+        file,
+        line,
+    })
+}
+
+/// The code of an assembly text (docs/TEXT.md), with the symbols numbered in the order in which the text first names them.
+/// So the text that `print` gives of a code is read as that code, with its symbols renumbered.
+///
+/// A text that `print` writes for no code is refused as `AssemblyText` of the file `<text>`, at the first line with which
+/// no such text goes on. Any other refusal is for want of memory.
+pub fn read(alloc: Global, text: &[u8]) -> Result<Code, Refusal>
+    ensures exact { MatchResult result (λ code. read_text text.now ≡ Answer.Code code) (λ refusal. RefusesText (read_text text.now) refusal) }
+    ensures text { IfOk result (λ code. text_of code ≡ text.now) }
+    ensures printed { (code : _) → IsWritable code → IsOfTypes code → text_of code ≡ text.now → ReadsBack code result }
+{
+    let answer = answer_to(alloc, text)?;
+    match answer {
+        Answer::Code(code) => Ok(code),
+        Answer::Line(line) => {
+            let refusal = refused(alloc, line)?;
+            Err(refusal)
+        }
+    }
+}
