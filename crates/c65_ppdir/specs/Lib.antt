@@ -9,3 +9,12 @@ pub mod Misfits
 pub mod Headers
 pub mod Search
 pub mod Counts
+pub mod Finding
+pub mod DefineLines
+pub mod Lines
+pub mod IncludeLines
+pub mod NumberLines
+pub mod Expansions
+pub mod UnitTokens
+pub mod Resolved
+pub mod ConditionLines

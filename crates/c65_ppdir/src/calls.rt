@@ -1,5 +1,11 @@
 // Calls of the crates below, with the refusals that preprocessing has.
-ghost use Rattle.std.specs.Prelude.{◌≡◌, IfErr};
+ghost use Rattle.std.specs.Prelude.{◌≡◌, IfErr, IfOk};
+ghost use Rattle.c65_base.specs.declared.refusal.Refusal.TheVariants.{OutOfMemory};
+ghost use Rattle.c65_base.specs.Answers.{Gives};
+ghost use Rattle.c65_macro.specs.Answered;
+ghost use Rattle.c65_macro.specs.Definitions;
+ghost use Rattle.c65_macro.specs.Expand;
+ghost use Rattle.c65_macro.specs.Items.{learn};
 ghost use Rattle.c65_macro.specs.Table.{is_name_kind};
 ghost use Rattle.c65_scan.specs.Tokens.{spelling_in};
 ghost use Rattle.c65_ppdir.specs.Causes.{Stops};
@@ -29,41 +35,52 @@ pub fn spelling_of<'a>(names: &'a Names, name: Name) -> &'a [u8]
 
 /// The name of a spelling.
 pub fn intern(names: &mut Names, spelling: &[u8]) -> Result<Name, Refusal>
-    ensures { IfErr result Stops }
+    ensures stops { IfErr result Stops }
+    ensures exact { Answered.Gives (λ n. n) result names.new (learn names.old spelling.now) }
 {
     names.intern(spelling)
 }
 
-/// The next token of a text.
-pub fn next_token(
-    lexer: &mut Lexer,
-    names: &mut Names,
-    header: bool,
-) -> Result<Option<PpToken>, Cut> {
+/// What comes next in a text.
+#[derive(Drop)]
+pub enum Lexed {
+    Token(PpToken),
+    End,
+    Cut(Cut),
+}
+
+/// The next token of a text. Only want of memory is an error.
+pub fn next_token(lexer: &mut Lexer, names: &mut Names, header: bool) -> Result<Lexed, Refusal>
+    ensures { IfErr result (λ e. e ≡ OutOfMemory) }
+{
     match lexer.next(names, header) {
-        Ok(token) => Ok(token),
-        Err(Refusal::At { pos, .. }) => Err(Cut::OpenComment(pos)),
+        Ok(Some(token)) => Ok(Lexed::Token(token)),
+        Ok(None) => Ok(Lexed::End),
+        Err(Refusal::At { pos, .. }) => Ok(Lexed::Cut(Cut::OpenComment(pos))),
         Err(
             Refusal::TooLarge {
                 limit: Size::Line,
                 ..
             },
-        ) => Err(Cut::LongLine),
-        Err(Refusal::TooLarge { .. }) => Err(Cut::Names),
-        Err(_) => Err(Cut::NoMemory),
+        ) => Ok(Lexed::Cut(Cut::LongLine)),
+        Err(Refusal::TooLarge { .. }) => Ok(Lexed::Cut(Cut::Names)),
+        Err(_) => Err(Refusal::OutOfMemory),
     }
 }
 
 /// The expansion of a list of tokens.
 pub fn expand(macros: &Macros, list: &[PpToken], names: &mut Names) -> Result<Vec<PpToken>, Refusal>
-    ensures { IfErr result Stops }
+    ensures refused { IfErr result Stops }
+    ensures expands { IfOk result (λ out. Expand.Expands macros.now names.old list.now out.items names.new) }
+    ensures faults { IfErr result (λ e. Expand.Refuses e macros.now names.old list.now) }
 {
     macros.expand(list, names)
 }
 
 /// Defines a macro whose name stands at a place.
 pub fn define(macros: &mut Macros, item: Macro, pos: Pos) -> Result<(), Refusal>
-    ensures { IfErr result Stops }
+    ensures refused { IfErr result Stops }
+    ensures defined { Gives (λ _. macros.new) result (Definitions.define macros.old item pos) }
 {
     macros.define(item, pos)
 }

@@ -2,7 +2,7 @@
 ghost use Rattle.std.specs.Prelude.{◌≡◌, IfErr};
 ghost use Rattle.c65_ppdir.specs.Causes.{Stops, StopsCommand};
 
-use crate::calls::{at, define, intern, next_token};
+use crate::calls::{Lexed, at, define, intern, next_token};
 use c65_base::{Code, Names, Pos, Refusal, Text};
 use c65_lex::{Lexer, PpKind, PpToken, PpTokens, class_of};
 use c65_macro::{Macro, Macros};
@@ -35,10 +35,10 @@ fn body_of(alloc: Global, names: &mut Names, text: &Text) -> Result<Vec<PpToken>
     let mut tokens = Vec::new(alloc);
     let mut has_ended = false;
     for _ in 0..u64::MAX {
-        let token = match next_token(&mut lexer, names, false) {
-            Ok(Some(token)) => token,
-            Ok(None) => break,
-            Err(cut) => return Err(cut.refusal()),
+        let token = match next_token(&mut lexer, names, false)? {
+            Lexed::Token(token) => token,
+            Lexed::End => break,
+            Lexed::Cut(cut) => return Err(cut.refusal()),
         };
         if has_ended {
             return Err(at(Code::DirectiveForm, place()));

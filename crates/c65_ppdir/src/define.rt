@@ -1,7 +1,12 @@
 // Lines of #define and #undef (C90 6.8.3).
-ghost use Rattle.std.specs.Prelude.{IfErr};
+ghost use Rattle.std.specs.Prelude.{◌≡◌, [], IfErr, Ok, Some, None};
+ghost use Rattle.c65_macro.specs.Definitions;
 ghost use Rattle.c65_ppdir.specs.Causes.{Stops};
-ghost use Rattle.c65_ppdir.specs.Misfits.{IsMisfit};
+ghost use Rattle.c65_ppdir.specs.DefineLines;
+ghost use Rattle.c65_ppdir.specs.DefineLines.{parts_of, with_parameter, parameters, parameter_list, shape, free_name, definition, removal, only_name};
+ghost use Rattle.c65_ppdir.specs.Lines;
+ghost use Rattle.c65_ppdir.specs.Misfits.{IsMisfit, Reads};
+ghost use Rattle.c65_base.specs.Answers.{Gives};
 
 use crate::calls::{at, define, is_mark, is_name, is_word};
 use crate::line::{Line, Misfit};
@@ -19,7 +24,8 @@ struct Shape {
 
 /// A macro with these parameters and this body.
 fn with_parameters(alloc: Global, params: Vec<Name>, body: &[PpToken]) -> Result<Shape, Misfit>
-    ensures { IfErr result IsMisfit }
+    ensures refused { IfErr result IsMisfit }
+    ensures parts { Reads parts_of result (Ok (Some params.items, body.now)) }
 {
     Ok(Shape {
         params: Some(params),
@@ -29,7 +35,8 @@ fn with_parameters(alloc: Global, params: Vec<Name>, body: &[PpToken]) -> Result
 
 /// One more parameter. No two have one name.
 fn add_parameter(params: &mut Vec<Name>, token: &PpToken) -> Result<(), Misfit>
-    ensures { IfErr result IsMisfit }
+    ensures refused { IfErr result IsMisfit }
+    ensures added { Reads (λ _. params.new.items) result (with_parameter params.old.items token.now) }
 {
     if !is_name(token) || params.contains(&token.spelling) {
         return Err(Misfit::Wrong);
@@ -44,19 +51,18 @@ fn add_parameter(params: &mut Vec<Name>, token: &PpToken) -> Result<(), Misfit>
     Ok(())
 }
 
-/// Reads parameters behind their opening parenthesis, and the body behind them.
+/// Reads parameters up to their closing parenthesis, and the body behind it.
 fn read_parameters(alloc: Global, names: &Names, tokens: &[PpToken]) -> Result<Shape, Misfit>
-    ensures { IfErr result IsMisfit }
+    ensures refused { IfErr result IsMisfit }
+    ensures parts { Reads parts_of result (parameters names.now [] tokens.now) }
 {
     let mut params = Vec::new(alloc);
     let mut rest = tokens;
-    if let Some((first, body)) = rest.split_first() {
-        if is_mark(names, first, b")") {
-            return with_parameters(alloc, params, body);
-        }
-    }
     while let Some((name, behind)) = rest.split_first() {
-        add_parameter(&mut params, name)?;
+        match add_parameter(&mut params, name) {
+            Ok(()) => {}
+            Err(misfit) => return Err(misfit),
+        }
         let Some((mark, more)) = behind.split_first() else {
             return Err(Misfit::Short);
         };
@@ -71,31 +77,57 @@ fn read_parameters(alloc: Global, names: &Names, tokens: &[PpToken]) -> Result<S
     Err(Misfit::Short)
 }
 
-/// What stands behind the name of a definition: parameters where a parenthesis follows at once, and a body.
-fn read_shape(alloc: Global, names: &Names, tokens: &[PpToken]) -> Result<Shape, Misfit>
-    ensures { IfErr result IsMisfit }
+/// Reads what stands behind the opening parenthesis of a list of parameters, which may be empty.
+fn read_list(alloc: Global, names: &Names, tokens: &[PpToken]) -> Result<Shape, Misfit>
+    ensures refused { IfErr result IsMisfit }
+    ensures parts { Reads parts_of result (parameter_list names.now tokens.now) }
 {
-    if let Some((first, rest)) = tokens.split_first() {
-        if is_mark(names, first, b"(") && !first.space {
-            return read_parameters(alloc, names, rest);
+    match tokens.split_first() {
+        Some((first, body)) if is_mark(names, first, b")") => {
+            with_parameters(alloc, Vec::new(alloc), body)
         }
+        Some(_) => read_parameters(alloc, names, tokens),
+        None => Err(Misfit::Short),
     }
+}
+
+/// A macro without parameters.
+fn without_parameters(alloc: Global, body: &[PpToken]) -> Result<Shape, Misfit>
+    ensures refused { IfErr result IsMisfit }
+    ensures parts { Reads parts_of result (Ok (None, body.now)) }
+{
     Ok(Shape {
         params: None,
-        body: Vec::from_slice(alloc, tokens)?,
+        body: Vec::from_slice(alloc, body)?,
     })
 }
 
+/// What stands behind the name of a definition: parameters where a parenthesis follows at once, and a body.
+fn read_shape(alloc: Global, names: &Names, tokens: &[PpToken]) -> Result<Shape, Misfit>
+    ensures refused { IfErr result IsMisfit }
+    ensures parts { Reads parts_of result (shape names.now tokens.now) }
+{
+    match tokens.split_first() {
+        Some((first, rest)) if is_mark(names, first, b"(") && !first.space => {
+            read_list(alloc, names, rest)
+        }
+        _ => without_parameters(alloc, tokens),
+    }
+}
+
 /// Whether a name may be defined and removed.
-fn is_free(macros: &Macros, names: &Names, token: &PpToken) -> bool {
+fn is_free(macros: &Macros, names: &Names, token: &PpToken) -> bool
+    ensures { result ≡ DefineLines.is_free macros.now names.now token.now }
+{
     !macros.is_predefined(token.spelling) && !is_word(names, token, b"defined")
 }
 
 /// The name that a line defines or removes, which stands first.
 fn read_name(macros: &Macros, names: &Names, tokens: &[PpToken]) -> Result<PpToken, Misfit>
-    ensures { IfErr result IsMisfit }
+    ensures refused { IfErr result IsMisfit }
+    ensures name { Reads (λ t. t) result (free_name macros.now names.now tokens.now) }
 {
-    let Some(first) = tokens.first() else {
+    let Some((first, _)) = tokens.split_first() else {
         return Err(Misfit::Short);
     };
     if !is_name(first) {
@@ -107,11 +139,39 @@ fn read_name(macros: &Macros, names: &Names, tokens: &[PpToken]) -> Result<PpTok
     Ok(*first)
 }
 
+/// Whether no token is left.
+pub fn is_nothing(tokens: &[PpToken]) -> bool
+    ensures { result ≡ Definitions.is_nothing tokens.now }
+{
+    match tokens.split_first() {
+        Some(_) => false,
+        None => true,
+    }
+}
+
 /// The tokens behind the first.
-pub fn behind_first(tokens: &[PpToken]) -> &[PpToken] {
+pub fn behind_first(tokens: &[PpToken]) -> &[PpToken]
+    ensures { result.now ≡ DefineLines.behind_first tokens.now }
+{
     match tokens.split_first() {
         Some((_, rest)) => rest,
         None => &[],
+    }
+}
+
+/// A macro of these parts.
+fn macro_of(name: Name, shape: Shape) -> Macro
+    ensures { result ≡ DefineLines.macro_of name (parts_of shape) }
+{
+    let Shape { params, body } = shape;
+    let params = match params {
+        Some(params) => Some(Params::from_vec(params)),
+        None => None,
+    };
+    Macro {
+        name,
+        params,
+        body: PpTokens::from_vec(body),
     }
 }
 
@@ -122,21 +182,17 @@ fn read_definition(
     names: &Names,
     tokens: &[PpToken],
 ) -> Result<(Macro, Pos), Misfit>
-    ensures { IfErr result IsMisfit }
+    ensures refused { IfErr result IsMisfit }
+    ensures definition { Reads (λ d. d) result (definition macros.now names.now tokens.now) }
 {
-    let name = read_name(macros, names, tokens)?;
-    let shape = read_shape(alloc, names, behind_first(tokens))?;
-    let Shape { params, body } = shape;
-    let params = match params {
-        Some(params) => Some(Params::from_vec(params)),
-        None => None,
+    let name = match read_name(macros, names, tokens) {
+        Ok(name) => name,
+        Err(misfit) => return Err(misfit),
     };
-    let item = Macro {
-        name: name.spelling,
-        params,
-        body: PpTokens::from_vec(body),
-    };
-    Ok((item, name.pos))
+    match read_shape(alloc, names, behind_first(tokens)) {
+        Ok(shape) => Ok((macro_of(name.spelling, shape), name.pos)),
+        Err(misfit) => Err(misfit),
+    }
 }
 
 /// Does a #define line.
@@ -146,51 +202,50 @@ pub fn define_line(
     names: &Names,
     line: Line,
 ) -> Result<(), Refusal>
-    ensures { IfErr result Stops }
+    ensures stops { IfErr result Stops }
+    ensures exact { Gives (λ _. macros.new) result (Lines.defined macros.old names.now line) }
 {
-    match read_definition(alloc, macros, names, line.rest()) {
-        Ok((item, pos)) => {
-            line.check()?;
-            define(macros, item, pos)
-        }
-        Err(misfit) => Err(line.refusal(misfit)),
+    match line.answer(read_definition(alloc, macros, names, line.rest())) {
+        Ok((item, pos)) => define(macros, item, pos),
+        Err(refusal) => Err(refusal),
     }
 }
 
 /// The name that an #undef line removes.
 fn read_removal(macros: &Macros, names: &Names, tokens: &[PpToken]) -> Result<Name, Misfit>
-    ensures { IfErr result IsMisfit }
+    ensures refused { IfErr result IsMisfit }
+    ensures name { Reads (λ n. n) result (removal macros.now names.now tokens.now) }
 {
-    let name = read_name(macros, names, tokens)?;
-    if behind_first(tokens).is_empty() {
-        Ok(name.spelling)
-    } else {
-        Err(Misfit::Wrong)
+    match read_name(macros, names, tokens) {
+        Ok(name) if is_nothing(behind_first(tokens)) => Ok(name.spelling),
+        Ok(_) => Err(Misfit::Wrong),
+        Err(misfit) => Err(misfit),
     }
 }
 
 /// Does an #undef line.
 pub fn undef_line(macros: &mut Macros, names: &Names, line: Line) -> Result<(), Refusal>
-    ensures { IfErr result Stops }
+    ensures stops { IfErr result Stops }
+    ensures exact { Gives (λ _. macros.new) result (Lines.undefined macros.old names.now line) }
 {
-    match read_removal(macros, names, line.rest()) {
+    match line.answer(read_removal(macros, names, line.rest())) {
         Ok(name) => {
-            line.check()?;
             let _ = macros.undef(name);
             Ok(())
         }
-        Err(misfit) => Err(line.refusal(misfit)),
+        Err(refusal) => Err(refusal),
     }
 }
 
 /// The only name on a line of #ifdef or #ifndef.
 pub fn read_only_name(tokens: &[PpToken]) -> Result<Name, Misfit>
-    ensures { IfErr result IsMisfit }
+    ensures refused { IfErr result IsMisfit }
+    ensures name { Reads (λ n. n) result (only_name tokens.now) }
 {
     let Some((first, rest)) = tokens.split_first() else {
         return Err(Misfit::Short);
     };
-    if is_name(first) && rest.is_empty() {
+    if is_name(first) && is_nothing(rest) {
         Ok(first.spelling)
     } else {
         Err(Misfit::Wrong)

@@ -2,6 +2,8 @@
 ghost use Rattle.std.specs.Prelude.{◌≡◌, IfErr};
 ghost use Rattle.c65_ppdir.specs.Causes.{Stops, StopsReading, StopsUnit, StopsCommand};
 ghost use Rattle.c65_ppdir.specs.Counts.{FaultCause, MissCause, Relocates, Serves, outside};
+ghost use Rattle.c65_ppdir.specs.Finding;
+ghost use Rattle.c65_ppdir.specs.Finding.{IsThere, Enters, Includes, Misses, MissesInUnit};
 
 use crate::command::{Define, define_all};
 use crate::files::{Found, complete, seek, seek_main};
@@ -55,8 +57,10 @@ fn enter<F: Files>(
     paths: &mut Vec<Text>,
     found: Found,
 ) -> Result<(), Refusal>
+    requires { IsThere (F.contents files.old) found }
     ensures serves { Serves folders.now (outside (F.contents files.old) (F.write_faults files.old) (F.faults files.old) (F.misses files.old))
         (outside (F.contents files.new) (F.write_faults files.new) (F.faults files.new) (F.misses files.new)) result }
+    ensures enters { Enters (F.contents files.old) found result }
 {
     match unit.check_room() {
         Ok(()) => {}
@@ -74,7 +78,9 @@ fn enter<F: Files>(
 }
 
 /// The path of the file of a number.
-fn path_at(paths: &[Text], number: u64) -> &[u8] {
+fn path_at(paths: &[Text], number: u64) -> &[u8]
+    ensures { result.now ≡ Finding.path_at paths.now number }
+{
     match paths.get(number as usize) {
         Some(path) => path.as_slice(),
         None => &[],
@@ -94,6 +100,7 @@ fn include<F: Files>(
 ) -> Result<(), Refusal>
     ensures serves { Serves folders.now (outside (F.contents files.old) (F.write_faults files.old) (F.faults files.old) (F.misses files.old))
         (outside (F.contents files.new) (F.write_faults files.new) (F.faults files.new) (F.misses files.new)) result }
+    ensures includes { Includes (F.contents files.old) (Finding.path_at paths.old.items number) folders.now header result }
 {
     match seek(alloc, files, folders, path_at(paths, number), header) {
         Ok(found) => enter(alloc, files, folders, unit, names, paths, found),
@@ -112,6 +119,7 @@ fn read_lines<F: Files>(
 ) -> Result<PpTokens, Refusal>
     ensures serves { Serves folders.now (outside (F.contents files.old) (F.write_faults files.old) (F.faults files.old) (F.misses files.old))
         (outside (F.contents files.new) (F.write_faults files.new) (F.faults files.new) (F.misses files.new)) result }
+    ensures misses { Misses (F.contents files.old) folders.now result }
 {
     let mut unit = unit;
     for _ in 0..u64::MAX {
@@ -144,6 +152,7 @@ fn read_unit<F: Files>(
 ) -> Result<PpTokens, Refusal>
     ensures serves { Serves folders.now (outside (F.contents files.old) (F.write_faults files.old) (F.faults files.old) (F.misses files.old))
         (outside (F.contents files.new) (F.write_faults files.new) (F.faults files.new) (F.misses files.new)) result }
+    ensures misses { MissesInUnit (F.contents files.old) folders.now path.now result }
 {
     let mut unit = unit;
     let found = match seek_main(alloc, files, folders, path) {
@@ -198,6 +207,7 @@ pub fn preprocess<F: Files>(
     ensures refused { IfErr result StopsUnit }
     ensures read { FaultCause (F.faults files.old) (F.faults files.new) result }
     ensures missing { MissCause folders.now (F.misses files.old) (F.misses files.new) result }
+    ensures sought { MissesInUnit (F.contents files.old) folders.now path.now result }
     ensures same { F.contents files.new ≡ F.contents files.old }
     ensures writes { F.write_faults files.new ≡ F.write_faults files.old }
 {

@@ -1,6 +1,7 @@
 // Reading files, and seeking the file of an #include.
 ghost use Rattle.std.specs.Prelude.{◌≡◌, ◌∷◌, ◌++◌, [], map, None, IfOk, OnOk, if◌then◌else◌};
 ghost use Rattle.c65_ppdir.specs.Counts.{Serves, MissedAll, outside};
+ghost use Rattle.c65_ppdir.specs.Finding.{BeginsAt, Opens, Completes, Finds, Seeks, SeeksMain, header_of};
 ghost use Rattle.c65_ppdir.specs.Headers.{built_in_of};
 ghost use Rattle.c65_ppdir.specs.Search;
 
@@ -23,6 +24,7 @@ fn begin<F: Files>(
     ensures serves { Serves folders.now (outside (F.contents files.old) (F.write_faults files.old) (F.faults files.old) (F.misses files.old))
         (outside (F.contents files.new) (F.write_faults files.new) (F.faults files.new) (F.misses files.new)) result }
     ensures missed { MissedAll (path.now ∷ []) (F.misses files.old) (F.misses files.new) result }
+    ensures opens { Opens (λ front. front.items) (F.contents files.old) path.now result }
 {
     let _ = folders;
     let mut piece = [0u8; PIECE];
@@ -45,8 +47,10 @@ pub fn complete<F: Files>(
     name: Text,
     first: Vec<u8>,
 ) -> Result<Vec<u8>, Refusal>
+    requires { BeginsAt (F.contents files.old) path.now first.items }
     ensures serves { Serves folders.now (outside (F.contents files.old) (F.write_faults files.old) (F.faults files.old) (F.misses files.old))
         (outside (F.contents files.new) (F.write_faults files.new) (F.faults files.new) (F.misses files.new)) result }
+    ensures completes { Completes (λ text. text.items) (F.contents files.old) path.now name result }
 {
     let _ = folders;
     let mut text = first;
@@ -171,6 +175,7 @@ fn find_first<F: Files>(
     ensures serves { Serves folders.now (outside (F.contents files.old) (F.write_faults files.old) (F.faults files.old) (F.misses files.old))
         (outside (F.contents files.new) (F.write_faults files.new) (F.faults files.new) (F.misses files.new)) result }
     ensures missed { MissedAll paths.now (F.misses files.old) (F.misses files.new) result }
+    ensures finds { Finds (λ file. (file.path, file.bytes.items)) (F.contents files.old) paths.now result }
 {
     for path in paths {
         match begin(alloc, files, folders, path.as_slice()) {
@@ -187,7 +192,7 @@ fn find_first<F: Files>(
 
 /// The built-in header of a name; none of a name that begins with /.
 fn built_in(name: &[u8]) -> Option<BuiltIn>
-    ensures { result ≡ (if Search.is_rooted name.now then None else built_in_of name.now) }
+    ensures { result ≡ header_of name.now }
 {
     if is_rooted(name) {
         None
@@ -207,6 +212,7 @@ pub fn seek<F: Files>(
 ) -> Result<Found, Refusal>
     ensures serves { Serves folders.now (outside (F.contents files.old) (F.write_faults files.old) (F.faults files.old) (F.misses files.old))
         (outside (F.contents files.new) (F.write_faults files.new) (F.faults files.new) (F.misses files.new)) result }
+    ensures seeks { Seeks (F.contents files.old) including.now folders.now header result }
 {
     let Header { name, is_quoted } = header;
     let Ok(paths) = places(alloc, including, folders, is_quoted, name.as_slice()) else {
@@ -231,6 +237,7 @@ pub fn seek_main<F: Files>(
 ) -> Result<Found, Refusal>
     ensures serves { Serves folders.now (outside (F.contents files.old) (F.write_faults files.old) (F.faults files.old) (F.misses files.old))
         (outside (F.contents files.new) (F.write_faults files.new) (F.faults files.new) (F.misses files.new)) result }
+    ensures seeks { SeeksMain (F.contents files.old) path.now result }
 {
     let Ok(copy) = path.copy(alloc) else {
         return Err(Refusal::OutOfMemory);

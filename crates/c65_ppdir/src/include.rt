@@ -1,15 +1,22 @@
 // Lines of #include (C90 6.8.2).
-ghost use Rattle.std.specs.Prelude.{IfErr};
+ghost use Rattle.std.specs.Prelude.{◌≡◌, [], IfErr, OnOk, ◌++◌};
+ghost use Rattle.c65_lex.specs.Cells;
+ghost use Rattle.c65_scan.specs.Tokens.{spelling_in};
 ghost use Rattle.c65_ppdir.specs.Causes.{Stops};
-ghost use Rattle.c65_ppdir.specs.Misfits.{IsMisfit};
+ghost use Rattle.c65_ppdir.specs.Expansions.{ReadsExpansion, IsIncluded};
+ghost use Rattle.c65_ppdir.specs.Lines;
+ghost use Rattle.c65_ppdir.specs.Lines.{on_line};
+ghost use Rattle.c65_ppdir.specs.IncludeLines;
+ghost use Rattle.c65_ppdir.specs.IncludeLines.{whole, closed, angled, marked, replaced, plain, spaced};
+ghost use Rattle.c65_ppdir.specs.Misfits.{IsMisfit, Reads};
 
 use crate::calls::{expand, is_mark, spelling_of};
-use crate::define::behind_first;
+use crate::define::is_nothing;
 use crate::line::{Line, Misfit};
 use c65_base::{Names, Refusal, Text};
 use c65_lex::{PpKind, PpToken};
 use c65_macro::Macros;
-use std::alloc::Global;
+use std::alloc::{AllocError, Global};
 
 /// A file to be included: its name as it stands in the directive, and whether it stands in quotes.
 #[derive(Debug, Drop)]
@@ -19,19 +26,32 @@ pub struct Header {
 }
 
 /// What stands between the first and the last byte of a spelling.
-fn inner(spelling: &[u8]) -> &[u8] {
-    match spelling {
-        [_, inner @ .., _] => inner,
-        _ => &[],
+fn inner(spelling: &[u8]) -> &[u8]
+    ensures { result.now ≡ IncludeLines.inner spelling.now }
+{
+    if spelling.len() < 2 {
+        return &[];
+    }
+    &spelling[1..spelling.len() - 1]
+}
+
+/// Whether a spelling begins with a byte.
+pub fn begins_with(byte: u8, spelling: &[u8]) -> bool
+    ensures { result ≡ Cells.begins_with byte spelling.now }
+{
+    match spelling.split_first() {
+        Some((first, _)) => *first == byte,
+        None => false,
     }
 }
 
 /// The header of a token that stands for itself: a header name, or a string literal without a prefix.
 fn read_whole(alloc: Global, spelling: &[u8]) -> Result<Header, Misfit>
-    ensures { IfErr result IsMisfit }
+    ensures refused { IfErr result IsMisfit }
+    ensures header { Reads (λ h. h) result (whole spelling.now) }
 {
-    let is_quoted = spelling.first() == Some(&b'"');
-    let is_angled = spelling.first() == Some(&b'<');
+    let is_quoted = begins_with(b'"', spelling);
+    let is_angled = begins_with(b'<', spelling);
     let name = inner(spelling);
     if name.is_empty() || !(is_quoted || is_angled) {
         return Err(Misfit::Wrong);
@@ -42,61 +62,107 @@ fn read_whole(alloc: Global, spelling: &[u8]) -> Result<Header, Misfit>
     })
 }
 
+/// One space, where white space stands before a token that is not the first.
+fn add_space(name: &mut Vec<u8>, space: bool) -> Result<(), AllocError>
+    ensures { OnOk result (name.new.items ≡ spaced name.old.items space) }
+{
+    if space && !name.is_empty() {
+        name.push(b' ')?;
+    }
+    Ok(())
+}
+
+/// A token of a name.
+fn add_token(names: &Names, name: &mut Vec<u8>, token: &PpToken) -> Result<(), AllocError>
+    ensures { OnOk result (name.new.items ≡ spaced name.old.items token.now.space ++ spelling_in names.now token.now.spelling) }
+{
+    add_space(name, token.space)?;
+    name.extend_from_slice(spelling_of(names, token.spelling))?;
+    Ok(())
+}
+
+/// The header whose name is followed by > and these tokens.
+fn close(name: Vec<u8>, tokens: &[PpToken]) -> Result<Header, Misfit>
+    ensures refused { IfErr result IsMisfit }
+    ensures header { Reads (λ h. h) result (closed name.items tokens.now) }
+{
+    if name.is_empty() || !is_nothing(tokens) {
+        return Err(Misfit::Wrong);
+    }
+    Ok(Header {
+        name: Text::from_vec(name),
+        is_quoted: false,
+    })
+}
+
 /// The header whose name stands in tokens from behind a < up to a >. White space between two tokens is one space.
 fn read_angled(alloc: Global, names: &Names, tokens: &[PpToken]) -> Result<Header, Misfit>
-    ensures { IfErr result IsMisfit }
+    ensures refused { IfErr result IsMisfit }
+    ensures header { Reads (λ h. h) result (angled names.now [] tokens.now) }
 {
     let mut name = Vec::new(alloc);
     let mut rest = tokens;
     while let Some((token, more)) = rest.split_first() {
         if is_mark(names, token, b">") {
-            if name.is_empty() || !more.is_empty() {
-                return Err(Misfit::Wrong);
-            }
-            return Ok(Header {
-                name: Text::from_vec(name),
-                is_quoted: false,
-            });
+            return close(name, more);
         }
-        if token.space && !name.is_empty() {
-            name.push(b' ')?;
-        }
-        name.extend_from_slice(spelling_of(names, token.spelling))?;
+        add_token(names, &mut name, token)?;
         rest = more;
     }
     Err(Misfit::Short)
 }
 
-/// The header of tokens that were replaced.
-fn read_replaced(alloc: Global, names: &Names, tokens: &[PpToken]) -> Result<Header, Misfit>
-    ensures { IfErr result IsMisfit }
-{
-    let Some((first, rest)) = tokens.split_first() else {
-        return Err(Misfit::Short);
-    };
-    match first.kind {
-        PpKind::Text if rest.is_empty() => read_whole(alloc, spelling_of(names, first.spelling)),
-        PpKind::Punct if is_mark(names, first, b"<") => read_angled(alloc, names, rest),
-        _ => Err(Misfit::Wrong),
-    }
-}
-
-/// The header of a line that begins with a header name.
-fn read_plain(
+/// The header of a token that stands alone.
+fn read_alone(
     alloc: Global,
     names: &Names,
     first: &PpToken,
     rest: &[PpToken],
 ) -> Result<Header, Misfit>
-    ensures { IfErr result IsMisfit }
+    ensures refused { IfErr result IsMisfit }
+    ensures header { Reads (λ h. h) result (plain names.now first.now rest.now) }
 {
-    if !rest.is_empty() {
+    if !is_nothing(rest) {
         return Err(Misfit::Wrong);
     }
     read_whole(alloc, spelling_of(names, first.spelling))
 }
 
-fn is_header(token: &PpToken) -> bool {
+/// The header of tokens that begin with a punctuator.
+fn read_marked(
+    alloc: Global,
+    names: &Names,
+    first: &PpToken,
+    rest: &[PpToken],
+) -> Result<Header, Misfit>
+    ensures refused { IfErr result IsMisfit }
+    ensures header { Reads (λ h. h) result (marked names.now first.now rest.now) }
+{
+    if is_mark(names, first, b"<") {
+        read_angled(alloc, names, rest)
+    } else {
+        Err(Misfit::Wrong)
+    }
+}
+
+/// The header of tokens that were replaced.
+fn read_replaced(alloc: Global, names: &Names, tokens: &[PpToken]) -> Result<Header, Misfit>
+    ensures refused { IfErr result IsMisfit }
+    ensures header { Reads (λ h. h) result (replaced names.now tokens.now) }
+{
+    let Some((first, rest)) = tokens.split_first() else {
+        return Err(Misfit::Short);
+    };
+    match first.kind {
+        PpKind::Text => read_alone(alloc, names, first, rest),
+        PpKind::Punct => read_marked(alloc, names, first, rest),
+        _ => Err(Misfit::Wrong),
+    }
+}
+
+fn is_header(token: &PpToken) -> bool
+    ensures { result ≡ IncludeLines.is_header token.now }
+{
     match token.kind {
         PpKind::Header => true,
         _ => false,
@@ -108,13 +174,14 @@ fn read_expanded(
     alloc: Global,
     macros: &Macros,
     names: &mut Names,
-    tokens: &[PpToken],
-) -> Result<Header, Misfit>
-    ensures { IfErr result IsMisfit }
+    line: &Line,
+) -> Result<Header, Refusal>
+    ensures stops { IfErr result Stops }
+    ensures exact { ReadsExpansion (λ h. h) (λ now ts. on_line line.now.hash line.now.cut (replaced now ts)) macros.now names.old (Lines.rest line.now) names.new result }
 {
-    match expand(macros, tokens, names) {
-        Ok(expanded) => read_replaced(alloc, names, &expanded),
-        Err(refusal) => Err(Misfit::Stopped(refusal)),
+    match expand(macros, line.rest(), names) {
+        Ok(expanded) => line.answer(read_replaced(alloc, names, &expanded)),
+        Err(refusal) => Err(refusal),
     }
 }
 
@@ -125,20 +192,14 @@ pub fn include_line(
     names: &mut Names,
     line: Line,
 ) -> Result<Header, Refusal>
-    ensures { IfErr result Stops }
+    ensures stops { IfErr result Stops }
+    ensures exact { IsIncluded macros.now names.old line names.new result }
 {
-    let header = match line.rest().first() {
-        Some(first) if is_header(first) => {
-            read_plain(alloc, names, first, behind_first(line.rest()))
+    match line.rest().split_first() {
+        Some((first, rest)) if is_header(first) => {
+            line.answer(read_alone(alloc, names, first, rest))
         }
-        Some(_) if line.is_whole() => read_expanded(alloc, macros, names, line.rest()),
-        _ => Err(Misfit::Short),
-    };
-    match header {
-        Ok(header) => {
-            line.check()?;
-            Ok(header)
-        }
-        Err(misfit) => Err(line.refusal(misfit)),
+        Some(_) if line.is_whole() => read_expanded(alloc, macros, names, &line),
+        _ => Err(line.refusal(Misfit::Short)),
     }
 }

@@ -1,7 +1,10 @@
 // A line of a directive.
-ghost use Rattle.std.specs.Prelude.{◌≡◌, IfErr};
+ghost use Rattle.std.specs.Prelude.{◌≡◌, not, is_some, IfErr, Result};
+ghost use Rattle.c65_base.specs.Answers.{Gives};
 ghost use Rattle.c65_ppdir.specs.Causes.{Stops};
-ghost use Rattle.c65_ppdir.specs.Misfits.{IsMisfit};
+ghost use Rattle.c65_ppdir.specs.DefineLines;
+ghost use Rattle.c65_ppdir.specs.Lines.{ending, cut_refusal, on_line, refusal_of};
+ghost use Rattle.c65_ppdir.specs.Misfits.{IsMisfit, Reads, Trouble};
 ghost use Rattle.c65_ppdir.specs.declared.line.Misfit.TheVariants.{Stopped};
 ghost use Rattle.c65_base.specs.declared.refusal.Refusal.TheVariants.{OutOfMemory};
 
@@ -48,12 +51,12 @@ pub enum Cut {
     LongFile,
     /// One spelling too many.
     Names,
-    NoMemory,
 }
 
 impl Cut {
     pub fn refusal(self) -> Refusal
-        ensures { Stops result }
+        ensures stops { Stops result }
+        ensures exact { result ≡ cut_refusal self }
     {
         match self {
             Cut::OpenComment(pos) => at(Code::OpenComment, pos),
@@ -69,7 +72,6 @@ impl Cut {
                 limit: Size::Names,
                 value: 65_536,
             },
-            Cut::NoMemory => Refusal::OutOfMemory,
         }
     }
 }
@@ -85,7 +87,9 @@ pub struct Line {
 
 impl Line {
     /// The tokens behind the directive's name.
-    pub fn rest(&self) -> &[PpToken] {
+    pub fn rest(&self) -> &[PpToken]
+        ensures { result.now ≡ DefineLines.behind_first self.now.tokens.items }
+    {
         match self.tokens.split_first() {
             Some((_, rest)) => rest,
             None => &[],
@@ -93,13 +97,16 @@ impl Line {
     }
 
     /// Whether the line has its end.
-    pub fn is_whole(&self) -> bool {
+    pub fn is_whole(&self) -> bool
+        ensures { result ≡ not (is_some self.now.cut) }
+    {
         self.cut.is_none()
     }
 
     /// Refuses a line that is cut off.
     pub fn check(&self) -> Result<(), Refusal>
-        ensures { IfErr result Stops }
+        ensures stops { IfErr result Stops }
+        ensures exact { Gives (λ _. tt) result (ending self.now.cut) }
     {
         match self.cut {
             Some(cut) => Err(cut.refusal()),
@@ -107,10 +114,26 @@ impl Line {
         }
     }
 
+    /// What was read of the line's tokens, or its refusal.
+    pub fn answer<T: Drop>(&self, read: Result<T, Misfit>) -> Result<T, Refusal>
+        requires { IfErr read IsMisfit }
+        ensures stops { IfErr result Stops }
+        ensures exact { (y : Result T Trouble) → Reads (λ t. t) read y → Gives (λ t. t) result (on_line self.now.hash self.now.cut y) }
+    {
+        match read {
+            Ok(value) => match self.check() {
+                Ok(()) => Ok(value),
+                Err(refusal) => Err(refusal),
+            },
+            Err(misfit) => Err(self.refusal(misfit)),
+        }
+    }
+
     /// The refusal of a line without the form that it needs. What cuts it off comes before what its end would decide.
     pub fn refusal(&self, misfit: Misfit) -> Refusal
         requires { IsMisfit misfit }
-        ensures { Stops result }
+        ensures stops { Stops result }
+        ensures exact { result ≡ refusal_of self.now.hash self.now.cut misfit }
     {
         match misfit {
             Misfit::Stopped(refusal) => refusal,

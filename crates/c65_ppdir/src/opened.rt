@@ -1,8 +1,9 @@
 // A file that is open: what is left of its text, how its lines are counted, and its groups.
-ghost use Rattle.std.specs.Prelude.{IfErr};
+ghost use Rattle.std.specs.Prelude.{◌≡◌, IfErr};
+ghost use Rattle.c65_base.specs.declared.refusal.Refusal.TheVariants.{OutOfMemory};
 ghost use Rattle.c65_ppdir.specs.Causes.{Stops};
 
-use crate::calls::{is_mark, is_word, next_token};
+use crate::calls::{Lexed, is_mark, is_word, next_token};
 use crate::condition::Groups;
 use crate::line::{Cut, Line};
 use crate::numbering::Count;
@@ -94,34 +95,42 @@ impl Opened {
         }
     }
 
-    /// Reads a token.
-    pub fn read(&mut self, names: &mut Names, header: bool) -> Read {
+    /// Reads a token. Only want of memory is an error.
+    pub fn read(&mut self, names: &mut Names, header: bool) -> Result<Read, Refusal>
+        ensures { IfErr result (λ e. e ≡ OutOfMemory) }
+    {
         match next_token(&mut self.lexer, names, header) {
-            Ok(Some(token)) => {
+            Ok(Lexed::Token(token)) => {
                 if !is_line_end(&token) {
-                    Read::Token(token)
+                    Ok(Read::Token(token))
                 } else if self.ending == Ending::InLine && self.lexer.is_at_end() {
-                    Read::Cut(Cut::LongFile)
+                    Ok(Read::Cut(Cut::LongFile))
                 } else {
-                    Read::LineEnd(token)
+                    Ok(Read::LineEnd(token))
                 }
             }
-            Ok(None) if self.ending == Ending::Whole => Read::End,
-            Ok(None) => Read::Cut(Cut::LongFile),
-            Err(Cut::OpenComment(_)) if self.ending != Ending::Whole => Read::Cut(Cut::LongFile),
-            Err(cut) => Read::Cut(cut),
+            Ok(Lexed::End) if self.ending == Ending::Whole => Ok(Read::End),
+            Ok(Lexed::End) => Ok(Read::Cut(Cut::LongFile)),
+            Ok(Lexed::Cut(Cut::OpenComment(_))) if self.ending != Ending::Whole => {
+                Ok(Read::Cut(Cut::LongFile))
+            }
+            Ok(Lexed::Cut(cut)) => Ok(Read::Cut(cut)),
+            Err(_) => Err(Refusal::OutOfMemory),
         }
     }
 
-    /// Reads a token of a line that is skipped, whose spelling gets no name.
-    pub fn read_unseen(&mut self, alloc: Global) -> Unseen {
+    /// Reads a token of a line that is skipped, whose spelling gets no name. Only want of memory is an error.
+    pub fn read_unseen(&mut self, alloc: Global) -> Result<Unseen, Refusal>
+        ensures { IfErr result (λ e. e ≡ OutOfMemory) }
+    {
         let mut names = Names::new(alloc);
         match self.read(&mut names, false) {
-            Read::Token(token) if is_mark(&names, &token, b"#") => Unseen::Hash(token.pos),
-            Read::Token(_) => Unseen::Token,
-            Read::LineEnd(_) => Unseen::LineEnd,
-            Read::End => Unseen::End,
-            Read::Cut(cut) => Unseen::Cut(cut),
+            Ok(Read::Token(token)) if is_mark(&names, &token, b"#") => Ok(Unseen::Hash(token.pos)),
+            Ok(Read::Token(_)) => Ok(Unseen::Token),
+            Ok(Read::LineEnd(_)) => Ok(Unseen::LineEnd),
+            Ok(Read::End) => Ok(Unseen::End),
+            Ok(Read::Cut(cut)) => Ok(Unseen::Cut(cut)),
+            Err(_) => Err(Refusal::OutOfMemory),
         }
     }
 
@@ -130,7 +139,7 @@ impl Opened {
         ensures { IfErr result Stops }
     {
         for _ in 0..u64::MAX {
-            match self.read_unseen(alloc) {
+            match self.read_unseen(alloc)? {
                 Unseen::Hash(_) | Unseen::Token => {}
                 Unseen::LineEnd | Unseen::End => return Ok(()),
                 Unseen::Cut(cut) => return Err(cut.refusal()),
@@ -152,7 +161,7 @@ impl Opened {
         let mut end = hash.line;
         let mut cut = None;
         for _ in 0..u64::MAX {
-            match self.read(names, allows_header(names, &tokens)) {
+            match self.read(names, allows_header(names, &tokens))? {
                 Read::Token(token) => tokens.push(token)?,
                 Read::LineEnd(token) => {
                     end = token.pos.line;

@@ -1,6 +1,9 @@
 // The lines of a unit: the files that are open, the macros and the tokens so far.
 ghost use Rattle.std.specs.Prelude.{◌≡◌, IfErr};
+ghost use Rattle.c65_base.specs.Answers.{Gives};
+ghost use Rattle.c65_base.specs.declared.refusal.Refusal.TheVariants.{OutOfMemory};
 ghost use Rattle.c65_ppdir.specs.Causes.{Stops};
+ghost use Rattle.c65_ppdir.specs.Lines;
 
 use crate::calls::{at, intern, is_mark, is_word};
 use crate::condition::Groups;
@@ -118,7 +121,7 @@ impl Unit {
                     ..
                 },
             ) => fault,
-            Err(Refusal::OutOfMemory) | Ok(()) => fault,
+            Ok(()) => fault,
             Err(refusal) => refusal,
         }
     }
@@ -138,10 +141,12 @@ impl Unit {
         }
     }
 
-    fn read(&mut self, names: &mut Names) -> Read {
+    fn read(&mut self, names: &mut Names) -> Result<Read, Refusal>
+        ensures { IfErr result (λ e. e ≡ OutOfMemory) }
+    {
         match self.opened.last_mut() {
             Some(file) => file.read(names, false),
-            None => Read::End,
+            None => Ok(Read::End),
         }
     }
 
@@ -149,7 +154,7 @@ impl Unit {
     fn active_line(&mut self, names: &mut Names) -> Result<Event, Refusal>
         ensures { IfErr result Stops }
     {
-        match self.read(names) {
+        match self.read(names)? {
             Read::Token(token) => {
                 if is_mark(names, &token, b"#") {
                     self.output.flush(&self.macros, names)?;
@@ -173,7 +178,7 @@ impl Unit {
         ensures { IfErr result Stops }
     {
         for _ in 0..u64::MAX {
-            match self.read(names) {
+            match self.read(names)? {
                 Read::Token(token) => self.output.add(token)?,
                 Read::LineEnd(token) => {
                     self.output.add(token)?;
@@ -199,7 +204,7 @@ impl Unit {
         let Some(file) = self.opened.last_mut() else {
             return Ok(Event::End);
         };
-        match file.read_unseen(alloc) {
+        match file.read_unseen(alloc)? {
             Unseen::Hash(pos) => {
                 let line = file.read_line(alloc, names, pos)?;
                 self.skipped_directive(names, line)
@@ -343,13 +348,7 @@ impl Unit {
     fn is_defined(&self, line: Line) -> Result<bool, Refusal>
         ensures { IfErr result Stops }
     {
-        match read_only_name(line.rest()) {
-            Ok(name) => {
-                line.check()?;
-                Ok(self.macros.get(name).is_some())
-            }
-            Err(misfit) => Err(line.refusal(misfit)),
-        }
+        is_defined_in(&self.macros, line)
     }
 
     /// Does a #line line.
@@ -378,11 +377,23 @@ impl Unit {
     }
 }
 
+/// Whether the only name of a line is that of a macro.
+fn is_defined_in(macros: &Macros, line: Line) -> Result<bool, Refusal>
+    ensures stops { IfErr result Stops }
+    ensures exact { Gives (λ b. b) result (Lines.is_defined macros.now line) }
+{
+    match line.answer(read_only_name(line.rest())) {
+        Ok(name) => Ok(macros.get(name).is_some()),
+        Err(refusal) => Err(refusal),
+    }
+}
+
 /// Does a #pragma line: it is passed over, but for one that is refused.
 fn pragma_line(names: &Names, line: Line) -> Result<(), Refusal>
-    ensures { IfErr result Stops }
+    ensures stops { IfErr result Stops }
+    ensures exact { Gives (λ _. tt) result (Lines.pragma names.now line) }
 {
-    if let Some(first) = line.rest().first() {
+    if let Some((first, _)) = line.rest().split_first() {
         if is_word(names, first, b"charmap") {
             return Err(at(Code::Charmap, line.hash));
         }

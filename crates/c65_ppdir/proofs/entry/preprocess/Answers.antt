@@ -2,8 +2,13 @@ use Rattle.c65_lex.specs.declared.token.PpUnit.{PpUnit}
 use Rattle.c65_lex.specs.declared.token.PpToken.{PpToken}
 use Rattle.std.proofs.Common.{List}
 use Rattle.c65_ppdir.proofs.Counts.{relocated}
+use Rattle.c65_ppdir.proofs.Missing.{relocated_misses}
 use Rattle.c65_ppdir.proofs.entry.preprocess.Goals as goal
 
 pub returns-in-Err-read_unit-clause-missing : goal.returns-in-Err-read_unit-clause-missing
 returns-in-Err-read_unit-clause-missing g c =
     relocated (List PpToken) PpUnit c.args.folders.now _ _ c.in-Err-read_unit.refusal c.located.result c.located.ensures.same c.in-Err-read_unit.ensures.serves.missing
+
+pub returns-in-Err-read_unit-clause-sought : goal.returns-in-Err-read_unit-clause-sought
+returns-in-Err-read_unit-clause-sought g c =
+    relocated_misses (List PpToken) PpUnit (g.F.Files.contents c.args.files.now) c.args.folders.now c.args.path.now c.in-Err-read_unit.refusal c.located.result c.located.ensures.same c.in-Err-read_unit.ensures.misses
