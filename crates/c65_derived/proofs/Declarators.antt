@@ -24,7 +24,7 @@ use Rattle.c65_parse.specs.Expressions.{goes, with_member}
 use Rattle.c65_parse.specs.Declarators as machine
 use Rattle.c65_parse.specs.Declarators.{is_optional, derived, is_derived, plug_declarator, reduce_declarator, close_group, with_type, close_type, declares, close_param, close_member_declarator, close_declarator, declarator_end, without_name, open_group, declarator_step}
 use Rattle.c65_parse.specs.Machine.{changed}
-use Rattle.c65_grammar.specs.Phrases.{Phrase, ◌▸◌, at_some, some, mark}
+use Rattle.c65_grammar.specs.Phrases.{Phrase, ◌▸◌, at_some, mark}
 use Rattle.c65_grammar.specs.Parts.{declarator_start, first_name, is_nameless, is_direct, declared_name, has_type}
 use Rattle.c65_grammar.specs.Scopes.{Scope, after_declarator, after_specifiers, declare_maybe}
 use Rattle.c65_grammar.specs.Expressions as g

@@ -12,3 +12,4 @@ pub mod Specifiers
 pub mod Params
 pub mod Run
 pub mod Derivations
+pub mod Answered

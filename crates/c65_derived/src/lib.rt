@@ -4,8 +4,13 @@
 //! contract, one step a token; the laws say of that run which phrase of the grammar stands in what it has read.
 #![tactic(auto)]
 
+mod calls;
 mod laws;
 
+pub use calls::{
+    take_assignment, take_constant, take_declarator, take_expression, take_specifiers,
+    take_type_name, take_untyped_declarator,
+};
 pub use laws::{
     declarators_are_derived, expressions_are_derived, specifiers_are_derived, types_are_derived,
 };
