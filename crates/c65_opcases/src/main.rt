@@ -1,0 +1,49 @@
+//! Does `c65 go` for each file that is named, and prints its name, what the program writes, and what the tool answers.
+#![tactic(auto)]
+
+use c65_base::Refusal;
+use c65_driver::{Made, tool};
+use c65_io::{Files, HostFiles, HostSink, MemSink, mem_sink, mem_source, write_all};
+use std::alloc::Global;
+use std::env;
+
+/// What a command left.
+#[derive(Drop)]
+struct Left {
+    status: u8,
+    out: MemSink,
+    err: MemSink,
+}
+
+/// `go` for a file of the host.
+fn go<F: Files>(alloc: Global, files: &mut F, path: String) -> Result<Left, Refusal> {
+    let mut words = Vec::new(alloc);
+    words.push(String::from_str(alloc, "go")?)?;
+    words.push(path)?;
+    let mut input = mem_source(Vec::new(alloc), Vec::new(alloc));
+    let mut out = mem_sink(alloc, Vec::new(alloc));
+    let mut err = mem_sink(alloc, Vec::new(alloc));
+    let mut made = Made::nothing();
+    let outcome = tool(
+        alloc, &words, files, &mut input, &mut out, &mut err, &mut made,
+    );
+    Ok(Left {
+        status: outcome.code(),
+        out,
+        err,
+    })
+}
+
+fn main(rt: HostRuntime) -> Result<(), anyhow::Error> {
+    let alloc = rt.alloc();
+    let mut files = HostFiles::new(&rt);
+    for path in env::args(&rt)?.skip(1) {
+        println!(rt; "== {path}")?;
+        let left = go(alloc, &mut files, path)?;
+        let mut console = HostSink::new(rt.stdout());
+        let _ = write_all(&mut console, left.out.written());
+        let _ = write_all(&mut console, left.err.written());
+        println!(rt; "status {}", left.status)?;
+    }
+    Ok(())
+}
