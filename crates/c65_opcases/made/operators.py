@@ -9,6 +9,11 @@ def counts_for(left, right):
     return [n for n in COUNTS[BITS[promoted(left)]] if n in range(0, 128)]
 
 
+def every_other(xs, ys):
+    """Half of the pairs, as the loops of the programs have them: each value of one list beside every other one of the other."""
+    return [(x, y) for i, x in enumerate(xs) for j, y in enumerate(ys) if i % 2 == j % 2]
+
+
 def table(name, kind, values):
     return 'static %s %s[] = { %s };\n' % (NAMES[kind], name, ', '.join(constant(kind, v) for v in values))
 
@@ -39,7 +44,7 @@ def operators(left):
 
         def each(expression, type_of, name, count, guard):
             sy, ey = set_y.replace('Y', name), expression
-            return ('    for (i = 0; i < %d; i++) { %s for (j = 0; j < %d; j++) { %s %smix(%s); } } mix(sizeof(%s)); show(\' \');\n'
+            return ('    for (i = 0; i < %d; i++) { %s for (j = i & 1; j < %d; j += 2) { %s %smix(%s); } } mix(sizeof(%s)); show(\' \');\n'
                     % (len(xs), set_x, count, sy, guard, ey, type_of))
 
         body, line, keep = [], [], Sum()
@@ -49,16 +54,15 @@ def operators(left):
             yy = y.replace('Y', name)
             text = '%s ? %s : %s' % (x, yy, x) if op == '?' else '(%s, %s)' % (x, yy) if op == ',' else '%s %s %s' % (x, op, yy)
             body.append(each(text, text, name, len(values), 'if (%s) ' % yy if op in ('/', '%') else ''))
-            for a in xs:
-                for b in values:
-                    if op in ('&&', '||'):
-                        keep.mix(int(a != 0 and b != 0) if op == '&&' else int(a != 0 or b != 0))
-                    elif op == ',':
-                        keep.mix(b)
-                    elif op == '?':
-                        keep.mix(within(common(left, right), b if a else a))
-                    elif is_defined(op, left, right, b):
-                        keep.mix(binary(op, left, a, right, b))
+            for a, b in every_other(xs, values):
+                if op in ('&&', '||'):
+                    keep.mix(int(a != 0 and b != 0) if op == '&&' else int(a != 0 or b != 0))
+                elif op == ',':
+                    keep.mix(b)
+                elif op == '?':
+                    keep.mix(within(common(left, right), b if a else a))
+                elif is_defined(op, left, right, b):
+                    keep.mix(binary(op, left, a, right, b))
             kind = 'i' if op in ('&&', '||') else right if op == ',' else common(left, right) if op == '?' else result_kind(op, left, right)
             keep.mix(BITS[kind] // 8)
             line.append(keep.shown())
@@ -92,18 +96,17 @@ def assignments(left):
             values, name = (ns, 'count_' + right) if op in ('<<', '>>') else (ys, 'right_' + right)
             place = PLACES[(at + nth) % len(PLACES)]
             guard = 'if (%s[j]) ' % name if op in ('/', '%') else ''
-            body.append("    for (i = 0; i < %d; i++) for (j = 0; j < %d; j++) %s{ %s = left[i]; mix(%s %s= %s[j]); mix(%s); } mix(sizeof(%s %s= 1)); show(' ');\n"
+            body.append("    for (i = 0; i < %d; i++) for (j = i & 1; j < %d; j += 2) %s{ %s = left[i]; mix(%s %s= %s[j]); mix(%s); } mix(sizeof(%s %s= 1)); show(' ');\n"
                         % (len(EDGES[left]), len(values), guard, place, place, op, name, place, place, op))
-            for x in EDGES[left]:
-                for y in values:
-                    if not op:
-                        v = within(left, y)
-                    elif is_defined(op, left, right, y):
-                        v = within(left, binary(op, left, x, right, y))
-                    else:
-                        continue
-                    keep.mix(v)
-                    keep.mix(v)
+            for x, y in every_other(EDGES[left], values):
+                if not op:
+                    v = within(left, y)
+                elif is_defined(op, left, right, y):
+                    v = within(left, binary(op, left, x, right, y))
+                else:
+                    continue
+                keep.mix(v)
+                keep.mix(v)
             keep.mix(BITS[left] // 8)
             line.append(keep.shown())
         out.append('static void with_%s(void)\n{\n    int i, j;\n%s    putchar(10);\n}\n' % (right, ''.join(body)))
