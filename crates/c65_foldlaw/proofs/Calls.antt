@@ -14,11 +14,12 @@ use Rattle.c65_meaning.specs.After.{ToLabel, Landing, Left, without}
 use Rattle.c65_meaning.specs.State.{Frame, Scene, State, Running, turned, name_object}
 use Rattle.c65_meaning.specs.Library.{Effect, effect_of}
 use Rattle.c65_meaning.specs.Step.{begin_object, begin_objects, end_objects, with_params, new_frame, entered, called, allowed, unless_refused, accepted, call_of, invoked, status_of, back_in, behind, params_of, func_in, frames_below, without_frame, left_call, returned, left_for, landed, label_in, body_of, jumped, switched, ended_or, finished, library_call, served}
+use Rattle.c65_foldlaw.specs.Laws.{Cheaper}
 use Rattle.c65_foldlaw.specs.Programs.{folded_stmt, folded_body, folded_func, folded_unit}
 use Rattle.c65_foldlaw.proofs.Kept.{func_same, cost_less}
 use Rattle.c65_foldlaw.proofs.Marks.{TypedStmt, Works, item, stmt_works}
 use Rattle.c65_foldlaw.proofs.Jumps.{CallIf, LeftIf, LandIf, after_land}
-use Rattle.c65_foldlaw.proofs.Scenes.{Cheaper, framed, func_in_same, below_cheaper, Sim, SceneIf, runs, one_sim, bound_scene, put_scene, Now, name_cheaper, begins, ends, goes, turns, unless_deep_sim}
+use Rattle.c65_foldlaw.proofs.Scenes.{framed, func_in_same, below_cheaper, Sim, SceneIf, runs, one_sim, bound_scene, put_scene, Now, name_cheaper, begins, ends, goes, turns, unless_deep_sim}
 
 -- ---- what a body is typed by
 

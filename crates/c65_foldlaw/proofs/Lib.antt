@@ -8,3 +8,4 @@ pub mod Calls
 pub mod Steps
 pub mod Starts
 pub mod Runs
+pub mod Expressions

@@ -11,15 +11,15 @@ use Rattle.c65_meaning.specs.Start.{start}
 use Rattle.c65_meaning.specs.Sem.{Runs, outcome_of, IsDefined}
 use Rattle.c65_meaning.specs.Laws.{IsLast}
 use Rattle.c65_foldlaw.specs.Programs.{folded_program}
-use Rattle.c65_foldlaw.specs.Laws.{IsIn, Quietly, Leads, FoldingKeeps, FoldingFailsNoMore}
+use Rattle.c65_foldlaw.specs.Laws.{Cheaper, IsIn, Quietly, Leads, FoldingKeeps, FoldingAddsNothing}
 use Rattle.c65_foldlaw.proofs.Settling.{settles}
 use Rattle.c65_foldlaw.proofs.Marks.{Mark, Plain, Known, left, right, AreGood, of_marks, folded_item}
-use Rattle.c65_foldlaw.proofs.Scenes.{Cheaper, framed, Sim, Beside}
+use Rattle.c65_foldlaw.proofs.Scenes.{framed, Sim, Beside}
 use Rattle.c65_foldlaw.proofs.Calls.{TypedFuncs}
 use Rattle.c65_foldlaw.proofs.Steps.{perform_sim}
 use Rattle.c65_foldlaw.proofs.Starts.{typed_funcs, starts}
 
-last_stays : (p : ProgramTy) (s : State) (n : ℕ) → IsLast s → steps p n s ≡ s
+pub last_stays : (p : ProgramTy) (s : State) (n : ℕ) → IsLast s → steps p n s ≡ s
 last_stays p s zero h = refl
 last_stays p (Undefined why) (suc n) h = last_stays p (Undefined why) n h
 last_stays p Deep (suc n) h = last_stays p Deep n h
@@ -124,13 +124,13 @@ module _ (p : ProgramTy) where
     meets zero = none_first
     meets (suc b) = next b (meets b)
 
-    -- ---- nothing more is undefined
+    -- ---- nothing is added
 
-    -- our run goes on for at least as long, and where it is defined the folded one is
+    -- our run goes on for at least as long, and where it is defined shows what the folded one does
     record Covers (least : ℕ) (s t : State) : Type 0 where
       moment : ℕ
       long : least ≤ moment
-      defined : IsDefined (outcome_of (steps p moment s)) → IsDefined (outcome_of t)
+      shows : IsDefined (outcome_of (steps p moment s)) → outcome_of (steps p moment s) ≡ outcome_of t
 
     abbrev CoversFrom : ℕ → Type 0
     CoversFrom n = (m : List Mark) → AreGood p.unit m → (vs : List Value) (c : Scene) (gs : List Frame) → Cheaper c.frames gs → Covers n (Running (left p.unit m) vs c) (steps q n (Running (right p.unit m) vs (framed gs c)))
@@ -138,7 +138,8 @@ module _ (p : ProgramTy) where
     covers_later : (n j : ℕ) (s r t : State) → 1 ≤ j → steps p j s ≡ r → Covers n r t → Covers (suc n) s t
     covers_later n j s r t h e w =
         let long : n ≤ w.moment = w.long in
-        record { moment = j + w.moment; long = omega arith; defined = λ d. w.defined (defined_at (steps p w.moment r) (steps p (j + w.moment) s) (steps_add j w.moment s ∙ ap (λ (x : State). steps p w.moment x) e) d) }
+        let same : steps p (j + w.moment) s ≡ steps p w.moment r = steps_add j w.moment s ∙ ap (λ (x : State). steps p w.moment x) e in
+        record { moment = j + w.moment; long = omega arith; shows = λ d. ap outcome_of same ∙ w.shows (defined_at (steps p w.moment r) (steps p (j + w.moment) s) same d) }
 
     covers_works : (n : ℕ) → CoversFrom n → (k : List Item) (vs : List Value) (c : Scene) (t : State) → Beside p.unit k vs c t → Covers n (Running k vs c) (steps q n t)
     covers_works n from k vs c t w =
@@ -147,14 +148,14 @@ module _ (p : ProgramTy) where
         subst (λ (x : State). Covers n (Running k vs c) (steps q n x)) f (subst (λ (x : State). Covers n x (steps q n (Running (right p.unit w.works.marks) vs (framed w.frames c)))) e (from w.works.marks w.works.good vs c w.frames w.cheaper))
 
     covers_sim : (n : ℕ) → CoversFrom n → (s t : State) → Sim p.unit s t → Covers n s (steps q n t)
-    covers_sim n from (Undefined why) t w = record { moment = n; long = omega arith; defined = λ d. absurd (defined_at (Undefined why) (steps p n (Undefined why)) (last_stays p (Undefined why) n tt) d) }
-    covers_sim n from Deep t w = record { moment = n; long = omega arith; defined = λ d. absurd (defined_at Deep (steps p n Deep) (last_stays p Deep n tt) d) }
-    covers_sim n from (Ended out status turns) t w = record { moment = n; long = omega arith; defined = λ d. subst (λ (x : State). IsDefined (outcome_of x)) (sym (ap (λ (x : State). steps q n x) w ∙ last_stays q (Ended out status turns) n tt)) tt }
+    covers_sim n from (Undefined why) t w = record { moment = n; long = omega arith; shows = λ d. absurd (defined_at (Undefined why) (steps p n (Undefined why)) (last_stays p (Undefined why) n tt) d) }
+    covers_sim n from Deep t w = record { moment = n; long = omega arith; shows = λ d. absurd (defined_at Deep (steps p n Deep) (last_stays p Deep n tt) d) }
+    covers_sim n from (Ended out status turns) t w = record { moment = n; long = omega arith; shows = λ d. ap outcome_of (last_stays p (Ended out status turns) n tt ∙ sym (ap (λ (x : State). steps q n x) w ∙ last_stays q (Ended out status turns) n tt)) }
     covers_sim n from (Running k vs c) t w = covers_works n from k vs c t w
 
     covers : (n : ℕ) → CoversFrom n
-    covers zero m good vs c gs cheaper = record { moment = 0; long = omega arith; defined = λ d. tt }
-    covers (suc n) [] good vs c gs cheaper = record { moment = suc n; long = omega arith; defined = λ d. absurd (defined_at (Undefined Unfit) (steps p n (Undefined Unfit)) (last_stays p (Undefined Unfit) n tt) d) }
+    covers zero m good vs c gs cheaper = record { moment = 0; long = omega arith; shows = λ d. refl }
+    covers (suc n) [] good vs c gs cheaper = record { moment = suc n; long = omega arith; shows = λ d. absurd (defined_at (Undefined Unfit) (steps p n (Undefined Unfit)) (last_stays p (Undefined Unfit) n tt) d) }
     covers (suc n) (Plain i ∷ m) good vs c gs cheaper =
         covers_later n 1 (Running (i ∷ left p.unit m) vs c) (perform p i (left p.unit m) vs c) _ (omega arith) refl
         (covers_sim n (covers n) (perform p i (left p.unit m) vs c) (perform q (folded_item i) (right p.unit m) vs (framed gs c)) (perform_sim p typed i good.0 (left p.unit m) (right p.unit m) (of_marks p.unit m good.1) vs c gs cheaper))
@@ -168,8 +169,8 @@ folding_keeps p args input n w d =
     let m = stepped p typed n (meets p typed n) n (omega arith) (start p args input) (start (folded_program p) args input) (starts p typed args input) d in
     record { moment = m.moment; within = m.few; shows = m.shows }
 
-pub fails_no_more : FoldingFailsNoMore
-fails_no_more p args input n w d =
+pub adds_nothing : FoldingAddsNothing
+adds_nothing p args input n w =
     let typed = typed_funcs p.unit w.unit in
     let c = covers_sim p typed n (covers p typed n) (start p args input) (start (folded_program p) args input) (starts p typed args input) in
-    record { moment = c.moment; later = c.long; fails = λ h. d (c.defined h) }
+    record { moment = c.moment; later = c.long; shows = c.shows }

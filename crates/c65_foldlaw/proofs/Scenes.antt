@@ -9,21 +9,12 @@ use Rattle.c65_meaning.specs.Shapes.{object_in, lives_in_frame, object_block}
 use Rattle.c65_meaning.specs.Items.{Item, Carry, CarryInto, Wipe}
 use Rattle.c65_meaning.specs.State.{Frame, Scene, State, Undefined, Deep, Ended, Running, turned, soft_sum, hard_sum, block_in, name_object}
 use Rattle.c65_meaning.specs.Step.{one, two, go_on, with_scene, decided, stored, place_in, object_place, begin_object, begin_objects, end_named, end_objects, loaded, put, assigned, partly_overlap, carried, carried_byte, carry_step, copy_step, carry_into_step, set_area_step, at_offset, cleared, wipe_step, clear_step, is_deep, unless_deep, func_in, frames_below, place_in_object, has_turn}
+use Rattle.c65_foldlaw.specs.Laws.{Cheaper}
 use Rattle.c65_foldlaw.specs.Programs.{folded_unit}
 use Rattle.c65_foldlaw.proofs.Kept.{funcs_same}
 use Rattle.c65_foldlaw.proofs.Marks.{Works, item}
 
 -- ---- active calls
-
-pub record IsCheaper (f g : Frame) : Type 0 where
-  pub func : g.func ≡ f.func
-  pub object : g.object ≡ f.object
-  pub cost : g.cost ≤ f.cost
-
-abbrev pub Cheaper : List Frame → List Frame → Type 0
-Cheaper [] [] = ⊤
-Cheaper (f ∷ fs) (g ∷ gs) = IsCheaper f g × Cheaper fs gs
-Cheaper _ _ = ⊥
 
 abbrev pub framed : List Frame → Scene → Scene
 framed gs c = record c { frames = gs }

@@ -11,10 +11,11 @@ use Rattle.c65_meaning.specs.Items.{Item, Loop, Push, Name, Follow, Move, Fetch,
 use Rattle.c65_meaning.specs.After.{ToCase, ToDefault}
 use Rattle.c65_meaning.specs.State.{Frame, Scene, Running, turned}
 use Rattle.c65_meaning.specs.Step.{put, is_value, under, taken, place_in_object, after_body, last_test, chosen_case, at_the_end, perform, left_call}
+use Rattle.c65_foldlaw.specs.Laws.{Cheaper}
 use Rattle.c65_foldlaw.specs.Programs.{folded_if, folded_stmt, folded_unit, folded_program}
 use Rattle.c65_foldlaw.proofs.Marks.{folded_loop, folded_item, TypedStmt, TypedLoop, TypedItem, Works, item, plan_works, head_works, stmt_works, stmts_work}
 use Rattle.c65_foldlaw.proofs.Jumps.{call_left, break_left, continue_left, or_else_land, after_land}
-use Rattle.c65_foldlaw.proofs.Scenes.{Cheaper, framed, func_in_same, Sim, SceneIf, runs, one_sim, two_sim, go_on_sim, if_sim, decided_sim, with_scene_sim, loaded_same, put_scene, assigned_sim, copy_sim, set_area_sim, clear_sim, object_same, place_in_same, Now, begins, ends, goes}
+use Rattle.c65_foldlaw.proofs.Scenes.{framed, func_in_same, Sim, SceneIf, runs, one_sim, two_sim, go_on_sim, if_sim, decided_sim, with_scene_sim, loaded_same, put_scene, assigned_sim, copy_sim, set_area_sim, clear_sim, object_same, place_in_same, Now, begins, ends, goes}
 use Rattle.c65_foldlaw.proofs.Calls.{TypedFuncs, left_call_sim, returned_sim, left_for_sim, jumped_sim, switched_sim, library_sim, invoked_sim}
 
 module _ (u : UnitTy) where

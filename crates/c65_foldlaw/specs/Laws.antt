@@ -1,17 +1,17 @@
 -- Folding keeps the meaning, in no more steps (C90 6.4).
-use Rattle.std.specs.Prelude.{◌≡◌, ℕ, zero, suc, ◌≤◌, ℤ, List, ◌∷◌}
+use Rattle.std.specs.Prelude.{◌≡◌, ℕ, zero, suc, ◌≤◌, ℤ, List, [], ◌∷◌, ⊤}
 use Rattle.c65_ctype.specs.Trees.{QTy}
 use Rattle.c65_csem.specs.Trees.{Typed, node, constant}
 use Rattle.c65_csem.specs.Typed.{IsTyped}
-use Rattle.c65_csem.specs.Units.{IsProgram}
+use Rattle.c65_csem.specs.Units.{IsUnit, IsProgram}
 use Rattle.c65_fold.specs.Folded.{folded}
 use Rattle.c65_meaning.specs.Program.{ProgramTy}
 use Rattle.c65_meaning.specs.Store.{Value, Whole}
 use Rattle.c65_meaning.specs.Items.{Item, plan}
-use Rattle.c65_meaning.specs.State.{State, Undefined, Deep, Ended, Running, Scene}
-use Rattle.c65_meaning.specs.Step.{step}
+use Rattle.c65_meaning.specs.State.{Frame, State, Undefined, Deep, Ended, Running, Scene}
+use Rattle.c65_meaning.specs.Step.{step, steps}
 use Rattle.c65_meaning.specs.Sem.{Outcome, IsDefined, sem}
-use Rattle.c65_foldlaw.specs.Programs.{folded_program}
+use Rattle.c65_foldlaw.specs.Programs.{folded_unit, folded_program}
 
 -- ---- one expression
 
@@ -41,6 +41,33 @@ ConstantsSettle = (p : ProgramTy) (e : Typed) (t : QTy) (z : ℤ)
     → (k : List Item) (values : List Value) (c : Scene)
     → Leads p c (Running (plan p.unit e k) values c) (Running k (Whole z ∷ values) c)
 
+-- the same active call, at no greater cost on the software stack
+pub record IsCheaper (f g : Frame) : Type 0 where
+  pub func : g.func ≡ f.func
+  pub object : g.object ≡ f.object
+  pub cost : g.cost ≤ f.cost
+
+abbrev pub Cheaper : List Frame → List Frame → Type 0
+Cheaper [] [] = ⊤
+Cheaper (f ∷ fs) (g ∷ gs) = IsCheaper f g × Cheaper fs gs
+Cheaper _ _ = ⊥
+
+-- a run comes to the end of its work after so many steps at most, with these values and this scene, but for what the calls cost
+pub record EndsWithin (p : ProgramTy) (most : ℕ) (s : State) (values : List Value) (c : Scene) : Type 0 where
+  pub moment : ℕ
+  pub within : moment ≤ most
+  pub calls : List Frame
+  pub cheaper : Cheaper c.frames calls
+  pub ends : steps p moment s ≡ Running [] values (record c { frames = calls })
+
+-- Where the run of an expression comes to its end, in any state, that of its folded form in the folded program does, in no more
+-- steps: with the same value, store, input, output and turns.
+abbrev pub ExpressionsKeep : Type 0
+ExpressionsKeep = (p : ProgramTy) (e : Typed) → IsUnit p.unit → IsTyped p.unit e
+    → (n : ℕ) (values ended : List Value) (c d : Scene)
+    → steps p n (Running (plan p.unit e []) values c) ≡ Running [] ended d
+    → EndsWithin (folded_program p) n (Running (plan (folded_unit p.unit) (folded e) []) values c) ended d
+
 -- ---- whole programs
 
 -- a run shows this after some steps, no more than so many
@@ -56,14 +83,15 @@ FoldingKeeps = (p : ProgramTy) (args : List (List ℕ)) (input : List ℕ) (n : 
     → IsProgram p.unit p.main → IsDefined (sem p args input n)
     → ShowsWithin (folded_program p) args input n (sem p args input n)
 
--- a run comes to an undefined action or too deep a call after at least so many steps
-pub record Fails (p : ProgramTy) (args : List (List ℕ)) (input : List ℕ) (least : ℕ) : Type 0 where
+-- a run shows this after some steps, no fewer than so many, if it is defined there
+pub record ShowsLater (p : ProgramTy) (args : List (List ℕ)) (input : List ℕ) (least : ℕ) (shown : Outcome) : Type 0 where
   pub moment : ℕ
   pub later : least ≤ moment
-  pub fails : IsDefined (sem p args input moment) → ⊥
+  pub shows : IsDefined (sem p args input moment) → sem p args input moment ≡ shown
 
--- Folding makes nothing undefined and no call too deep: where the folded form fails, the program itself fails, no earlier.
-abbrev pub FoldingFailsNoMore : Type 0
-FoldingFailsNoMore = (p : ProgramTy) (args : List (List ℕ)) (input : List ℕ) (n : ℕ)
-    → IsProgram p.unit p.main → (IsDefined (sem (folded_program p) args input n) → ⊥)
-    → Fails p args input n
+-- What the folded form shows after n steps, the program itself shows after at least n, unless it is undefined or too deep there: folding
+-- adds no output and no end, and no undefined action or depth of its own.
+abbrev pub FoldingAddsNothing : Type 0
+FoldingAddsNothing = (p : ProgramTy) (args : List (List ℕ)) (input : List ℕ) (n : ℕ)
+    → IsProgram p.unit p.main
+    → ShowsLater p args input n (sem (folded_program p) args input n)

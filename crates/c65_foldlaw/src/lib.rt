@@ -5,4 +5,4 @@
 mod laws;
 pub mod samples;
 
-pub use laws::{constants_settle, folding_fails_no_more, folding_keeps};
+pub use laws::{constants_settle, expressions_keep, folding_adds_nothing, folding_keeps};
