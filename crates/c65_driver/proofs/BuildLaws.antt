@@ -1,8 +1,7 @@
 -- What `build` answers.
 use Rattle.std.proofs.Common.{◌≡◌, ℕ, ◌≤◌, List, length, None, Some, Option, Result, Ok, Err, sym, subst, refl, ◌∙◌, arith}
 use Rattle.c65_base.specs.declared.refusal.Refusal.{Refusal}
-use Rattle.c65_base.specs.declared.refusal.Refusal.TheVariants.{OutOfMemory, Missing, ReadFault, WriteFault, TooLarge}
-use Rattle.c65_base.specs.declared.refusal.Size.TheVariants.{Units}
+use Rattle.c65_base.specs.declared.refusal.Refusal.TheVariants.{OutOfMemory, ReadFault, WriteFault}
 use Rattle.c65_code.specs.declared.code.Code.{Code}
 use Rattle.c65_io.specs.declared.outside.Failed.{Failed}
 use Rattle.c65_io.specs.Contents.{Contents, WritesFile}
@@ -12,16 +11,16 @@ use Rattle.c65_ppdir.specs.Counts.{FaultCause, MissCause as HeaderCause}
 use Rattle.c65_sim.specs.Runs.{WriteCause}
 use Rattle.c65_chain.specs.Refused.{StopsChain, UnitsLimit}
 use Rattle.c65_words.specs.Commands.{Spelled}
-use Rattle.c65_driver.specs.Compiled.{LinkedBy, IsLinked, Compiles, output_of, wrote, wrote_not, WritesBytes, WriteServes, WritesImage, BuildsFile}
+use Rattle.c65_driver.specs.Compiled.{LinkedBy, IsLinked, Compiles, output_of, wrote, wrote_not, WritesBytes, WriteServes, WritesImage}
 use Rattle.c65_driver.specs.Outside.{FilesSide, Outside}
 use Rattle.c65_driver.specs.Tool.{BuildServes, Builds, BuildsAlone}
 use Rattle.c65_driver.proofs.GoLaws.{units_of, headers_of, linked_stop}
 
-stop_served : (r : Refusal) → StopsChain r → BuildServes (Err r)
+pub stop_served : (r : Refusal) → StopsChain r → BuildServes (Err r)
 stop_served WriteFault stops = tt
 stop_served r stops = stops
 
-faults_of : (f f' : ℕ) (r : Refusal) → FaultCause {T = Image} f f' (Err r) → FaultCause {T = ℕ} f f' (Err r)
+pub faults_of : (f f' : ℕ) (r : Refusal) → FaultCause {T = Image} f f' (Err r) → FaultCause {T = ℕ} f f' (Err r)
 faults_of f f' ReadFault cause = cause
 faults_of f f' r cause = cause
 
@@ -38,6 +37,7 @@ stopped command old new code r stops = record {
   missing = headers_of Image ℕ command.folders old.misses new.misses r stops.missing;
   write = no_write old.writes new.writes r stops.refused stops.written;
   contents = stops.same;
+  from_text = stops.from_text;
   from_code = linked_stop code r stops.from_code;
 }
 
@@ -46,31 +46,31 @@ pub builds_stop : (command : Spelled) (old new : FilesSide) (code : Option Code)
 builds_stop command old new code image r none stops =
     subst (λ (made : Option Image). Builds command old new code made (Err r)) (sym none) (stopped command old new code r stops)
 
-wrote_served : (r : Result ℕ Refusal) → WriteServes r → BuildServes r
+pub wrote_served : (r : Result ℕ Refusal) → WriteServes r → BuildServes r
 wrote_served (Ok s) served = served
 wrote_served (Err OutOfMemory) served = tt
 wrote_served (Err WriteFault) served = tt
 wrote_served (Err r) served = absurd served
 
-wrote_units : (count : ℕ) (r : Result ℕ Refusal) → count ≤ 64 → WriteServes r → UnitsLimit count r
+pub wrote_units : (count : ℕ) (r : Result ℕ Refusal) → count ≤ 64 → WriteServes r → UnitsLimit count r
 wrote_units count (Ok s) few served = few
 wrote_units count (Err OutOfMemory) few served = tt
 wrote_units count (Err WriteFault) few served = few
 wrote_units count (Err r) few served = absurd served
 
-wrote_faults : (f f' : ℕ) (r : Result ℕ Refusal) → f' ≡ f → WriteServes r → FaultCause f f' r
+pub wrote_faults : (f f' : ℕ) (r : Result ℕ Refusal) → f' ≡ f → WriteServes r → FaultCause f f' r
 wrote_faults f f' (Ok s) same served = same
 wrote_faults f f' (Err OutOfMemory) same served = same
 wrote_faults f f' (Err WriteFault) same served = same
 wrote_faults f f' (Err r) same served = absurd served
 
-wrote_headers : (folders : List (List ℕ)) (m m' : ℕ) (r : Result ℕ Refusal) → m ≤ m' → WriteServes r → HeaderCause folders m m' r
+pub wrote_headers : (folders : List (List ℕ)) (m m' : ℕ) (r : Result ℕ Refusal) → m ≤ m' → WriteServes r → HeaderCause folders m m' r
 wrote_headers folders m m' (Ok s) le served = le
 wrote_headers folders m m' (Err OutOfMemory) le served = le
 wrote_headers folders m m' (Err WriteFault) le served = le
 wrote_headers folders m m' (Err r) le served = absurd served
 
-linked_wrote : (code : Option Code) (image : Image) (r : Result ℕ Refusal) → LinkedBy code (Ok image) → IsLinked code (Some image) r
+pub linked_wrote : (code : Option Code) (image : Image) (r : Result ℕ Refusal) → LinkedBy code (Ok image) → IsLinked code (Some image) r
 linked_wrote None image r by = absurd by
 linked_wrote (Some code) image r by = by
 
@@ -85,6 +85,7 @@ builds_wrote command old mid new code image path r is made wrote = record {
   write = subst (λ n. WriteCause n new.writes r) made.written wrote.cause;
   contents = subst (λ (held : Contents). WritesBytes (output_of command.out) (bytes_of image) held new.contents r) made.same
       (subst (λ (p : List ℕ). WritesBytes p (bytes_of image) mid.contents new.contents r) is wrote.contents);
+  from_text = made.from_text;
   from_code = linked_wrote code image r made.from_code;
 }
 
@@ -110,6 +111,7 @@ builds_free command old = record {
     missing = omega arith;
     write = refl;
     contents = refl;
+    from_text = tt;
     from_code = tt;
   };
   left = refl;

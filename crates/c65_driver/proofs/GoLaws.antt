@@ -1,9 +1,9 @@
 -- What `go` answers, before and after the run of its image.
-use Rattle.std.proofs.Common.{◌≡◌, ℕ, ◌≤◌, ◌<◌, ◌⊎◌, inl, inr, List, length, None, Some, Option, Result, Ok, Err, true, false, cond, Bool, nat_lt, sym, subst, ap, refl, ◌∙◌, arith}
+use Rattle.std.proofs.Common.{◌≡◌, ℕ, ◌≤◌, ◌<◌, inl, inr, List, length, None, Some, Option, Result, Ok, Err, true, sym, subst, refl, arith}
 use Rattle.c65_base.specs.declared.refusal.Refusal.{Refusal}
 use Rattle.c65_base.specs.declared.refusal.Refusal.TheVariants.{OutOfMemory, Missing, ReadFault, WriteFault, Source, TooLarge, BadImage, Link, HardStack, Limit, Illegal}
 use Rattle.c65_base.specs.declared.refusal.Size.{Size}
-use Rattle.c65_base.specs.declared.refusal.Size.TheVariants.{Units, Arguments, Image as ImageSize}
+use Rattle.c65_base.specs.declared.refusal.Size.TheVariants.{Units, Arguments}
 use Rattle.c65_base.specs.Limits.{limit_of}
 use Rattle.c65_code.specs.declared.code.Code.{Code}
 use Rattle.c65_mach.specs.declared.image.Image.{Image}
@@ -14,7 +14,7 @@ use Rattle.c65_words.specs.Commands.{Spelled}
 use Rattle.c65_driver.specs.Causes.{ReadCauses}
 use Rattle.c65_driver.specs.Compiled.{LinkedBy, IsLinked, Compiles}
 use Rattle.c65_driver.specs.Outside.{FilesSide, Outside}
-use Rattle.c65_driver.specs.Setups.{Setup, setup_of, ImageRuns, StopsBefore, Untouched}
+use Rattle.c65_driver.specs.Setups.{Setup, setup_of, ImageRuns, StopsBefore}
 use Rattle.c65_driver.specs.Tool.{GoServes, Goes}
 
 -- Before there is an image.
@@ -70,6 +70,7 @@ stopped command old new l w i o code r stops = record {
   files = stops.same;
   file_writes = stops.written;
   made = (stops_before r stops.refused, (refl, refl));
+  from_text = stops.from_text;
   from_code = linked_stop code r stops.from_code;
 }
 
@@ -91,6 +92,7 @@ goes_free command old = record {
   files = refl;
   file_writes = refl;
   made = (tt, (refl, refl));
+  from_text = tt;
   from_code = tt;
 }
 
@@ -149,5 +151,6 @@ goes_run command plan old new l l' w w' i i' o o' code image r is made runs read
   files = made.same;
   file_writes = made.written;
   made = subst (λ (s : Setup). ImageRuns s image l l' w w' r) is runs;
+  from_text = made.from_text;
   from_code = linked_run code image r made.from_code;
 }

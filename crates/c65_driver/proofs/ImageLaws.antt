@@ -1,5 +1,5 @@
 -- What `run` answers, before and after the run of its image.
-use Rattle.std.proofs.Common.{◌≡◌, ℕ, ◌≤◌, ◌⊎◌, inl, inr, List, None, Some, Option, Result, Ok, Err, true, false, sym, subst, refl, ◌∙◌, arith}
+use Rattle.std.proofs.Common.{◌≡◌, ℕ, inl, List, None, Some, Option, Result, Ok, Err, true, false, sym, subst, refl, arith}
 use Rattle.c65_base.specs.declared.refusal.Refusal.{Refusal}
 use Rattle.c65_base.specs.declared.refusal.Refusal.TheVariants.{OutOfMemory, Missing, ReadFault, WriteFault, TooLarge, BadImage, HardStack, Limit, Illegal}
 use Rattle.c65_code.specs.declared.code.Code.{Code}

@@ -5,5 +5,6 @@ pub mod RunLaws
 pub mod GoLaws
 pub mod LinkLaws
 pub mod BuildLaws
+pub mod PrintLaws
 pub mod ImageLaws
 pub mod ToolLaws

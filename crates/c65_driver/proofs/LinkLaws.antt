@@ -13,7 +13,7 @@ use Rattle.c65_link.specs.Symbols.{targets_of, missing_of}
 use Rattle.c65_link.specs.Linked.{Fault, undefined, large, linked, named_or_placed, entry_of, parts_of, image_of, payload_of, Fails, Gives}
 use Rattle.c65_ppdir.specs.Counts.{FaultCause, MissCause as HeaderCause}
 use Rattle.c65_chain.specs.Refused.{StopsChain, UnitsLimit}
-use Rattle.c65_driver.specs.Compiled.{LinkedBy, Compiles}
+use Rattle.c65_driver.specs.Compiled.{IsRead, Compiles}
 use Rattle.c65_driver.specs.Outside.{FilesSide}
 use Rattle.c65_driver.proofs.GoLaws.{units_of, headers_of}
 
@@ -52,23 +52,25 @@ units_link code count (TooLarge Units value) fails few = absurd fails
 units_link code count r fails few = few
 
 pub compiles_linked : (folders files : List (List ℕ)) (old new : FilesSide) (code : Code) (r : Result Image Refusal) → new.contents ≡ old.contents → new.writes ≡ old.writes
-    → new.faults ≡ old.faults → old.misses ≤ new.misses → length files ≤ 64 → Gives r (linked code) → Compiles folders files old new (Some code) r
-compiles_linked folders files old new code (Ok image) same written faults misses few gives = record {
+    → new.faults ≡ old.faults → old.misses ≤ new.misses → length files ≤ 64 → IsRead (Some code) → Gives r (linked code) → Compiles folders files old new (Some code) r
+compiles_linked folders files old new code (Ok image) same written faults misses few read gives = record {
   same = same;
   written = written;
   read = faults;
   missing = misses;
   refused = tt;
   units = few;
+  from_text = read;
   from_code = gives;
 }
-compiles_linked folders files old new code (Err r) same written faults misses few gives = record {
+compiles_linked folders files old new code (Err r) same written faults misses few read gives = record {
   same = same;
   written = written;
   read = fault_link code old.faults new.faults r gives faults;
   missing = header_link code folders old.misses new.misses r gives misses;
   refused = fails_stops code r gives;
   units = units_link code (length files) r gives few;
+  from_text = read;
   from_code = gives;
 }
 
@@ -86,6 +88,7 @@ without_code folders files old new r same written read missing stops units = rec
   missing = headers_of Code Image folders old.misses new.misses r missing;
   refused = stops;
   units = units_of Code Image (length files) r units;
+  from_text = tt;
   from_code = tt;
 }
 

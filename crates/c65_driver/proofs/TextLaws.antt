@@ -1,5 +1,5 @@
 -- Laws of reading a file piece by piece.
-use Rattle.std.proofs.Common.{◌≡◌, ℕ, ◌+◌, ◌-◌, ◌≤◌, ◌<◌, min, List, [], ◌++◌, length, take, drop, None, Some, Option, Ok, Err, ap, sym, subst, ◌∙◌, arith}
+use Rattle.std.proofs.Common.{◌≡◌, ℕ, ◌+◌, ◌≤◌, ◌<◌, List, ◌++◌, length, take, drop, None, Some, Option, Ok, Err, ap, sym, subst, ◌∙◌, arith}
 use Rattle.std.proofs.lemmas.List.{take_all, take-take, length-drop, length-take-le, length-append}
 use Rattle.std.proofs.Math.Seq.{take-add}
 use Rattle.c65_base.specs.declared.refusal.Refusal.TheVariants.{Missing}

@@ -1,5 +1,5 @@
 -- From a command to what the tool does.
-use Rattle.std.proofs.Common.{◌≡◌, ℕ, List, None, Some, Option, Result, Ok, Err, sym, subst, refl, ◌∙◌}
+use Rattle.std.proofs.Common.{◌≡◌, ℕ, None, Option, Result, Err, sym, subst, refl}
 use Rattle.c65_base.specs.declared.refusal.Refusal.{Refusal}
 use Rattle.c65_base.specs.declared.refusal.Refusal.TheVariants.{OutOfMemory, Usage}
 use Rattle.c65_code.specs.declared.code.Code.{Code}
@@ -13,6 +13,7 @@ use Rattle.c65_driver.specs.Tool.{Refuses, Serves, Performs}
 use Rattle.c65_driver.proofs.GoLaws.{goes_free}
 use Rattle.c65_driver.proofs.BuildLaws.{builds_free}
 use Rattle.c65_driver.proofs.ImageLaws.{runs_free}
+use Rattle.c65_driver.proofs.PrintLaws.{texts_free}
 
 refuses_free : (word : ℕ) (old : Outside) → Refuses word old old None None (Err OutOfMemory)
 refuses_free word old = record { usage = tt; still = refl; no_code = refl; no_image = refl }
@@ -21,7 +22,7 @@ serves_free : (kind : CommandKind) (command : Spelled) (old : Outside) → Serve
 serves_free kinds.Go command old = goes_free command old
 serves_free kinds.Build command old = builds_free command old
 serves_free kinds.Run command old = runs_free command old
-serves_free kinds.Text command old = refuses_free 0 old
+serves_free kinds.Text command old = texts_free command old
 
 -- want of memory
 pub performs_free : (spelling : Spelling) (old : Outside) → Performs spelling old old None None (Err OutOfMemory)
@@ -40,9 +41,3 @@ pub performs_by : (spelling : Spelling) (command : Spelled) (kind : CommandKind)
     → spelling ≡ Is command → command.kind ≡ kind → Serves kind command old new code image r → Performs spelling old new code image r
 performs_by spelling command kind old new code image r is of serves =
     subst (λ (s : Spelling). Performs s old new code image r) (sym is) (subst (λ (k : CommandKind). Serves k command old new code image r) (sym of) serves)
-
--- the assembly text
-pub performs_text : (spelling : Spelling) (command : Spelled) (old : Outside) → spelling ≡ Is command → command.kind ≡ kinds.Text
-    → Performs spelling old old None None (Err (Usage 0))
-performs_text spelling command old is of =
-    performs_by spelling command kinds.Text old old None None (Err (Usage 0)) is of (record { usage = refl; still = refl; no_code = refl; no_image = refl })

@@ -2,6 +2,9 @@
 use Rattle.std.specs.Prelude.{◌≡◌, ℕ, List, length, codes, Option, Some, None, Result, Ok, Err, IfErr, ⊤}
 use Rattle.c65_base.specs.declared.refusal.Refusal.{Refusal}
 use Rattle.c65_base.specs.declared.refusal.Refusal.TheVariants.{OutOfMemory, WriteFault}
+use Rattle.c65_asm.specs.Text.{text_of}
+use Rattle.c65_asm.specs.Read.{read_text}
+use Rattle.c65_asm.specs.declared.reading.Answer.TheVariants as answers
 use Rattle.c65_code.specs.declared.code.Code.{Code}
 use Rattle.c65_io.specs.Contents.{Contents, WritesFile}
 use Rattle.c65_mach.specs.declared.image.Image.{Image}
@@ -28,6 +31,15 @@ IsLinked (Some code) (Some image) answer = linked code ≡ Ok image
 IsLinked (Some code) None (Ok status) = ⊥
 IsLinked (Some code) None (Err refusal) = Fails refusal (linked code)
 
+-- the assembly text reads as this code
+abbrev pub ReadsAs : List ℕ → Code → Type 0
+ReadsAs text code = read_text text ≡ answers.Code code
+
+-- the code is what its own assembly text reads as
+abbrev pub IsRead : Option Code → Type 0
+IsRead None = ⊤
+IsRead (Some code) = ReadsAs (text_of code) code
+
 -- the image of files: the files are as they were, and the counts rise with their cause alone
 pub record Compiles (folders files : List (List ℕ)) (old new : FilesSide) (code : Option Code) (answer : Result Image Refusal) : Type 0 where
   pub same : new.contents ≡ old.contents
@@ -36,6 +48,7 @@ pub record Compiles (folders files : List (List ℕ)) (old new : FilesSide) (cod
   pub missing : MissCause folders old.misses new.misses answer
   pub refused : IfErr answer StopsChain
   pub units : UnitsLimit (length files) answer
+  pub from_text : IsRead code
   pub from_code : LinkedBy code answer
 
 -- the path of `-o`, or `a.out`

@@ -1,3 +1,4 @@
+pub mod Assembly
 pub mod Causes
 pub mod Compiled
 pub mod Outcome

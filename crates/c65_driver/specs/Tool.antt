@@ -16,9 +16,10 @@ use Rattle.c65_words.specs.Words.{Spelling, Is, NoCommand}
 use Rattle.c65_words.specs.declared.command.CommandKind.{CommandKind}
 use Rattle.c65_words.specs.declared.command.CommandKind.TheVariants as kinds
 use Rattle.c65_chain.specs.Refused.{StopsChain, UnitsLimit}
+use Rattle.c65_driver.specs.Assembly.{MadeText}
 use Rattle.c65_driver.specs.Causes.{ReadCauses, MissCause}
-use Rattle.c65_driver.specs.Compiled.{IsLinked, output_of, BuildsFile}
-use Rattle.c65_driver.specs.Outside.{FilesSide, Outside}
+use Rattle.c65_driver.specs.Compiled.{IsRead, IsLinked, output_of, BuildsFile}
+use Rattle.c65_driver.specs.Outside.{FilesSide, TextSide, Outside, text_part}
 use Rattle.c65_driver.specs.Setups.{setup_of, MadeRuns}
 use Rattle.c65_driver.specs.Told.{ToldRun, MadeOf, first_of}
 
@@ -37,7 +38,7 @@ GoServes (Err (Limit count)) = ⊤
 GoServes (Err (Illegal pc)) = ⊤
 GoServes (Err refusal) = ⊥
 
--- No other answer comes of `build`.
+-- No other answer comes of `build` and `text`.
 abbrev pub BuildServes : Result ℕ Refusal → Type 0
 BuildServes (Ok status) = status ≡ 0
 BuildServes (Err WriteFault) = ⊤
@@ -56,7 +57,7 @@ RunServes image (Err (Limit count)) = ⊤
 RunServes image (Err (Illegal pc)) = ⊤
 RunServes image (Err refusal) = ⊥
 
--- `go`: the image is linked from the code that was compiled, and the run is that of the image
+-- `go`: the image is linked from the code that was compiled, as its text reads, and the run is that of the image
 pub record Goes (command : Spelled) (old new : Outside) (code : Option Code) (image : Option Image) (answer : Result ℕ Refusal) : Type 0 where
   pub served : GoServes answer
   pub units : UnitsLimit (length command.files) answer
@@ -66,9 +67,10 @@ pub record Goes (command : Spelled) (old new : Outside) (code : Option Code) (im
   pub files : new.files.contents ≡ old.files.contents
   pub file_writes : new.files.writes ≡ old.files.writes
   pub made : MadeRuns (setup_of true command) image old.left new.left old.written new.written answer
+  pub from_text : IsRead code
   pub from_code : IsLinked code image answer
 
--- `build`: the image is linked from the code that was compiled, and its bytes are written to one path
+-- `build`: the image is linked from the code that was compiled, as its text reads, and its bytes are written to one path
 pub record Builds (command : Spelled) (old new : FilesSide) (code : Option Code) (image : Option Image) (answer : Result ℕ Refusal) : Type 0 where
   pub served : BuildServes answer
   pub units : UnitsLimit (length command.files) answer
@@ -76,6 +78,7 @@ pub record Builds (command : Spelled) (old new : FilesSide) (code : Option Code)
   pub missing : HeaderCause command.folders old.misses new.misses answer
   pub write : WriteCause old.writes new.writes answer
   pub contents : BuildsFile (output_of command.out) image old.contents new.contents answer
+  pub from_text : IsRead code
   pub from_code : IsLinked code image answer
 
 -- input and output are as they were
@@ -85,6 +88,22 @@ pub record BuildsAlone (command : Spelled) (old new : Outside) (code : Option Co
   pub input_faults : new.input_faults ≡ old.input_faults
   pub written : new.written ≡ old.written
   pub out_faults : new.out_faults ≡ old.out_faults
+
+-- `text`: the image is linked from the code that was compiled, as its text reads, and this text is written
+pub record Texts (command : Spelled) (old new : TextSide) (code : Option Code) (image : Option Image) (answer : Result ℕ Refusal) : Type 0 where
+  pub served : BuildServes answer
+  pub units : UnitsLimit (length command.files) answer
+  pub read : FaultCause old.files.faults new.files.faults answer
+  pub missing : HeaderCause command.folders old.files.misses new.files.misses answer
+  pub text : MadeText command.out code image old new answer
+  pub from_text : IsRead code
+  pub from_code : IsLinked code image answer
+
+-- the input is as it was
+pub record TextsAlone (command : Spelled) (old new : Outside) (code : Option Code) (image : Option Image) (answer : Result ℕ Refusal) : Type 0 where
+  pub texts : Texts command (text_part old) (text_part new) code image answer
+  pub left : new.left ≡ old.left
+  pub input_faults : new.input_faults ≡ old.input_faults
 
 -- `run`: the image is the one that the file spells, and the run is that of the image
 pub record Runs (command : Spelled) (old new : Outside) (code : Option Code) (image : Option Image) (answer : Result ℕ Refusal) : Type 0 where
@@ -111,12 +130,12 @@ pub record Refuses (word : ℕ) (old new : Outside) (code : Option Code) (image 
   pub no_code : code ≡ None
   pub no_image : image ≡ None
 
--- the word `text` begins no command yet
+-- the command of each word
 abbrev pub Serves : CommandKind → Spelled → Outside → Outside → Option Code → Option Image → Result ℕ Refusal → Type 0
 Serves kinds.Go command old new code image answer = Goes command old new code image answer
 Serves kinds.Build command old new code image answer = BuildsAlone command old new code image answer
 Serves kinds.Run command old new code image answer = Runs command old new code image answer
-Serves kinds.Text command old new code image answer = Refuses 0 old new code image answer
+Serves kinds.Text command old new code image answer = TextsAlone command old new code image answer
 
 abbrev pub Performs : Spelling → Outside → Outside → Option Code → Option Image → Result ℕ Refusal → Type 0
 Performs (Is command) old new code image answer = Serves command.kind command old new code image answer

@@ -4,6 +4,7 @@ ghost use Rattle.c65_mach.specs.Images.{bytes_of};
 ghost use Rattle.c65_driver.specs.Compiled.{Compiles, WritesImage, output_of};
 ghost use Rattle.c65_driver.specs.Outside.{files_side};
 
+use crate::assembly::read_back;
 use crate::outcome::Made;
 use c65_base::{Refusal, Text};
 use c65_chain::{Define, compile};
@@ -36,7 +37,8 @@ fn paths(command: &Command) -> &[Text]
     &command.files
 }
 
-/// The image of a command's files. The code that it was linked from stays in `made`.
+/// The image of a command's files. The code goes through its assembly text to the linker; what the text reads as stays in
+/// `made`.
 pub fn make_image<F: Files>(
     alloc: Global,
     files: &mut F,
@@ -65,6 +67,10 @@ pub fn make_image<F: Files>(
         Ok(code) => code,
         Err(refusal) => return Err(refusal),
     };
+    let code = match read_back(alloc, &code) {
+        Ok(code) => code,
+        Err(_) => return Err(Refusal::OutOfMemory),
+    };
     let linked = link(alloc, &code);
     made.code = Some(code);
     linked
@@ -80,8 +86,21 @@ pub fn output(command: &Command) -> &[u8]
     }
 }
 
-/// Writes the bytes of an image to a file.
+/// Writes bytes to a file.
 #[tactic(auto, using(crate::proofs::BuildLaws::wrote_all, crate::proofs::BuildLaws::wrote_some))]
+pub fn write_bytes<F: Files>(files: &mut F, path: &[u8], bytes: &[u8]) -> Result<u8, Refusal>
+    ensures { WritesImage path.now bytes.now
+        (files_side (F.contents files.old) (F.faults files.old) (F.write_faults files.old) (F.misses files.old))
+        (files_side (F.contents files.new) (F.faults files.new) (F.write_faults files.new) (F.misses files.new))
+        result }
+{
+    match files.write(path, bytes) {
+        Ok(()) => Ok(0),
+        Err(Failed) => Err(Refusal::WriteFault),
+    }
+}
+
+/// Writes the bytes of an image to a file.
 pub fn write_image<F: Files>(
     alloc: Global,
     files: &mut F,
@@ -93,12 +112,8 @@ pub fn write_image<F: Files>(
         (files_side (F.contents files.new) (F.faults files.new) (F.write_faults files.new) (F.misses files.new))
         result }
 {
-    let bytes = match image.bytes(alloc) {
-        Ok(bytes) => bytes,
-        Err(_) => return Err(Refusal::OutOfMemory),
-    };
-    match files.write(path, &bytes) {
-        Ok(()) => Ok(0),
-        Err(Failed) => Err(Refusal::WriteFault),
+    match image.bytes(alloc) {
+        Ok(bytes) => write_bytes(files, path, &bytes),
+        Err(_) => Err(Refusal::OutOfMemory),
     }
 }

@@ -1,6 +1,7 @@
 //! The tool: words in, a status out.
 #![tactic(auto)]
 
+mod assembly;
 mod compiled;
 mod load;
 mod outcome;

@@ -1,11 +1,12 @@
 // The top call.
 ghost use Rattle.std.specs.Prelude.{◌≡◌, map, string_bytes};
 ghost use Rattle.c65_words.specs.Words.{spelling_of};
-ghost use Rattle.c65_driver.specs.Tool.{Goes, Builds, Runs, Serves, Performs, Reports};
-ghost use Rattle.c65_driver.specs.Outside.{files_side, outside};
+ghost use Rattle.c65_driver.specs.Tool.{Goes, Builds, Runs, Texts, Serves, Performs, Reports};
+ghost use Rattle.c65_driver.specs.Outside.{files_side, text_side, outside};
 ghost use Rattle.c65_driver.specs.Told.{first_of};
 ghost use Rattle.c65_driver.specs.Outcome.{answer_of};
 
+use crate::assembly::{made_text, write_text};
 use crate::compiled::{make_image, output, write_image};
 use crate::load::spelled_image;
 use crate::outcome::{Made, Outcome};
@@ -68,6 +69,33 @@ fn build<F: Files>(
     answer
 }
 
+/// Compiles and links the files, and writes the assembly text of their code.
+fn text<F: Files, O: Sink>(
+    alloc: Global,
+    command: &Command,
+    files: &mut F,
+    out: &mut O,
+    made: &mut Made,
+) -> Result<u8, Refusal>
+    requires code { made.old.code ≡ None }
+    requires image { made.old.image ≡ None }
+    ensures { Texts command.now
+        (text_side (F.contents files.old) (F.faults files.old) (F.write_faults files.old) (F.misses files.old) (O.written out.old) (O.faults out.old))
+        (text_side (F.contents files.new) (F.faults files.new) (F.write_faults files.new) (F.misses files.new) (O.written out.new) (O.faults out.new))
+        made.new.code made.new.image result }
+{
+    let image = match make_image(alloc, files, command, made) {
+        Ok(image) => image,
+        Err(refusal) => return Err(refusal),
+    };
+    made.image = Some(image);
+    let text = match made_text(alloc, made) {
+        Ok(text) => text,
+        Err(_) => return Err(Refusal::OutOfMemory),
+    };
+    write_text(command, text.as_slice(), files, out)
+}
+
 /// The path of the image that a command runs.
 fn image_path(command: &Command) -> &[u8]
     ensures { result.now ≡ first_of command.now.files }
@@ -113,8 +141,7 @@ fn kind_of(command: &Command) -> CommandKind
     command.kind
 }
 
-/// Does a command. The assembly text is not written yet: its command is none.
-#[tactic(auto, using(crate::proofs::ToolLaws::performs_text))]
+/// Does a command.
 fn perform<F: Files, I: Source, O: Sink>(
     alloc: Global,
     words: &[String],
@@ -138,12 +165,12 @@ fn perform<F: Files, I: Source, O: Sink>(
         CommandKind::Go => go(alloc, &command, files, input, out, made),
         CommandKind::Build => build(alloc, &command, files, made),
         CommandKind::Run => run_image(alloc, &command, files, input, out, made),
-        CommandKind::Text => Err(Refusal::Usage { word: 0 }),
+        CommandKind::Text => text(alloc, &command, files, out, made),
     }
 }
 
-/// Does what the words after the program's name say: `go` compiles, links and runs files, `build` writes their image, and `run`
-/// runs an image. What was made is left in `made`.
+/// Does what the words after the program's name say: `go` compiles, links and runs files, `build` writes their image, `text`
+/// writes the assembly text of their code, and `run` runs an image. What was made is left in `made`.
 ///
 /// The line of a refusal goes to `err`, all of it unless `err` fails.
 pub fn tool<F: Files, I: Source, O: Sink, E: Sink>(

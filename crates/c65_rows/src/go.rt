@@ -40,7 +40,7 @@ fn options_and_words_are_read(rt: HostRuntime) -> Result<(), Fail> {
     let rows: [(&[&str], u8, &str); 8] = [
         (&["go"], 102, "c65: usage at word 1\n"),
         (&["fly", "a.c"], 102, "c65: usage at word 0\n"),
-        (&["text", "a.c"], 102, "c65: usage at word 0\n"),
+        (&["text", "a.c", "-x", "9"], 102, "c65: usage at word 2\n"),
         (&["go", "a.c", "-o", "x"], 102, "c65: usage at word 2\n"),
         (&["go", "b.c"], 103, "c65: missing file b.c\n"),
         (&["go", "-DN=7", "a.c"], 7, ""),

@@ -1,4 +1,5 @@
 use Rattle.std.proofs.Common.{Some, Err}
+use Rattle.c65_base.specs.declared.refusal.Refusal.TheVariants.{OutOfMemory}
 use Rattle.c65_driver.specs.Outside.{files_side}
 use Rattle.c65_driver.proofs.LinkLaws.{compiles_linked, compiles_not, compiles_free, compiles_as}
 use Rattle.c65_driver.proofs.compiled.make_image.Goals as goal
@@ -19,12 +20,22 @@ returns-in-Err-compile-clause-compiled g c =
     c.folders.ensures c.paths.ensures
     (compiles_not c.folders.result.now c.paths.result.now old new c.args.made.now.code c.in-Err-compile.refusal c.requires made.same made.writes made.read made.missing made.refused made.units)
 
+pub returns-in-Err-read_back-clause-compiled : goal.returns-in-Err-read_back-clause-compiled
+returns-in-Err-read_back-clause-compiled g c =
+    let made = c.in-Ok-compile.ensures in
+    let old = files_side (g.F.Files.contents c.args.files.now) (g.F.Files.faults c.args.files.now) (g.F.Files.write_faults c.args.files.now) (g.F.Files.misses c.args.files.now) in
+    let new =
+    files_side (g.F.Files.contents c.compile.new.files) (g.F.Files.faults c.compile.new.files) (g.F.Files.write_faults c.compile.new.files) (g.F.Files.misses c.compile.new.files) in
+    compiles_as c.folders.result.now c.args.command.now.folders c.paths.result.now c.args.command.now.files old new c.args.made.now.code (Err OutOfMemory)
+    c.folders.ensures c.paths.ensures
+    (compiles_not c.folders.result.now c.paths.result.now old new c.args.made.now.code OutOfMemory c.requires made.same made.writes made.read made.missing tt tt)
+
 pub returns-clause-compiled : goal.returns-clause-compiled
 returns-clause-compiled g c =
     let made = c.in-Ok-compile.ensures in
     let old = files_side (g.F.Files.contents c.args.files.now) (g.F.Files.faults c.args.files.now) (g.F.Files.write_faults c.args.files.now) (g.F.Files.misses c.args.files.now) in
     let new =
     files_side (g.F.Files.contents c.compile.new.files) (g.F.Files.faults c.compile.new.files) (g.F.Files.write_faults c.compile.new.files) (g.F.Files.misses c.compile.new.files) in
-    compiles_as c.folders.result.now c.args.command.now.folders c.paths.result.now c.args.command.now.files old new (Some c.in-Ok-compile.code) c.link-linked.result
+    compiles_as c.folders.result.now c.args.command.now.folders c.paths.result.now c.args.command.now.files old new (Some c.in-Ok-read_back.code) c.link-linked.result
     c.folders.ensures c.paths.ensures
-    (compiles_linked c.folders.result.now c.paths.result.now old new c.in-Ok-compile.code c.link-linked.result made.same made.writes made.read made.missing made.units c.link-linked.ensures)
+    (compiles_linked c.folders.result.now c.paths.result.now old new c.in-Ok-read_back.code c.link-linked.result made.same made.writes made.read made.missing made.units c.in-Ok-read_back.ensures.again c.link-linked.ensures)

@@ -1,4 +1,4 @@
-use Rattle.std.proofs.Common.{◌∙◌, ◌≡◌, ◌≤◌, List, ℕ, Ok, Err, length, arith, subst, sym, ap}
+use Rattle.std.proofs.Common.{◌∙◌, ◌≡◌, ◌≤◌, List, ℕ, Ok, Err, length, arith, subst, sym}
 use Rattle.c65_io.specs.declared.outside.FileFault.{FileFault}
 use Rattle.c65_io.specs.Contents.{ReadsFile}
 use Rattle.c65_driver.specs.Text.{ReadsText, HasRead}

@@ -1,4 +1,4 @@
-use Rattle.std.proofs.Common.{◌≡◌, ◌-◌, ◌+◌, ◌≤◌, vec_len, length}
+use Rattle.std.proofs.Common.{◌≡◌, ◌-◌, ◌+◌, vec_len}
 use Rattle.c65_driver.specs.Text.{HasRead}
 use Rattle.c65_driver.proofs.text.read_text.Given as goal
 

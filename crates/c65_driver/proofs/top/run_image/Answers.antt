@@ -1,4 +1,3 @@
-use Rattle.std.proofs.Common.{◌∙◌}
 use Rattle.c65_driver.specs.Outside.{files_side, outside}
 use Rattle.c65_driver.proofs.ImageLaws.{runs_none, runs_stop, runs_run}
 use Rattle.c65_driver.proofs.top.run_image.Goals as goal
