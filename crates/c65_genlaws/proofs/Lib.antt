@@ -1,0 +1,14 @@
+pub mod Made
+pub mod Pieces
+pub mod ExprLaws
+pub mod Flat
+pub mod Puts
+pub mod Others
+pub mod StmtLaws
+pub mod FunctionLaws
+pub mod StackPieces
+pub mod StackLaws
+pub mod StackStmts
+pub mod Sizes
+pub mod SizeLaws
+pub mod FrameLaws

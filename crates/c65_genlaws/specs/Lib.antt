@@ -1,0 +1,4 @@
+pub mod Bulk
+pub mod Labels
+pub mod Laws
+pub mod Stack

@@ -1,0 +1,156 @@
+-- What waits on the software stack above a function's frame, line by line (docs/MACHINE.md, "Routines" and "Calls").
+use Rattle.std.specs.Prelude.{ℕ, ◌+◌, ◌==◌, if◌then◌else◌, Bool, Option, Some, None, List, [], ◌∷◌, ◌++◌}
+use Rattle.c65_ints.specs.declared.types.IntType.{IntType}
+use Rattle.c65_csem.specs.Trees.{Typed, node, Node, constant, null, literal, object, func, deref, member, load, address, decay, convert, unary, binary, both, either, choice, comma, assign, assign_op, assign_step, step, copy, call, Nodes, none, some, MaybeTyped, absent, present, Stmt, empty, eval, set_part, clear, block, if_stmt, while, do_while, for_loop, switch, case, default, label, goto, break, continue, return, Stmts, no_stmts, and_stmts}
+use Rattle.c65_code.specs.declared.line.Callee.{Callee}
+use Rattle.c65_code.specs.declared.line.Callee.TheVariants as callees
+use Rattle.c65_code.specs.declared.line.Line.{Line}
+use Rattle.c65_code.specs.declared.line.Line.TheVariants.{Label, Do, Call}
+use Rattle.c65_code.specs.declared.routine.Routine.{Routine}
+use Rattle.c65_code.specs.declared.routine.Routine.TheVariants as routines
+use Rattle.c65_code.specs.Rows.{number_of}
+use Rattle.c65_genload.specs.Conversions.{waiting, size_of}
+use Rattle.c65_genexpr.specs.Types.{kind_in, bare}
+use Rattle.c65_genexpr.specs.Arguments.{is_fast, stays}
+use Rattle.c65_genexpr.specs.Calls.{named}
+
+-- the bytes of each value that waits, the last one first; and of the calls to come what each takes away, the last one first
+pub record Waiting : Type 0 where
+  pub values : List ℕ
+  pub calls : List (List ℕ)
+
+abbrev pub waiting_by : List ℕ → List (List ℕ) → Waiting
+waiting_by values calls = record { values = values; calls = calls }
+
+-- these values are taken away, where they are the last ones
+abbrev pub taken : List ℕ → List ℕ → Option (List ℕ)
+taken [] values = Some values
+taken (n ∷ ns) [] = None
+taken (n ∷ ns) (m ∷ values) = if m == n then taken ns values else None
+
+abbrev pub left : List (List ℕ) → Option (List ℕ) → Option Waiting
+left calls None = None
+left calls (Some values) = Some (waiting_by values calls)
+
+abbrev pub pushed : ℕ → Waiting → Option Waiting
+pushed n w = Some (waiting_by (n ∷ w.values) w.calls)
+
+abbrev pub popped : ℕ → Waiting → Option Waiting
+popped n w = left w.calls (taken (n ∷ []) w.values)
+
+-- a call takes away its arguments
+abbrev pub called : List (List ℕ) → List ℕ → Option Waiting
+called [] values = None
+called (ns ∷ calls) values = left calls (taken ns values)
+
+abbrev pub by_routine : Routine → Waiting → Option Waiting
+by_routine routines.PushA w = pushed 1 w
+by_routine routines.PushAx w = pushed 2 w
+by_routine routines.PushA0 w = pushed 2 w
+by_routine routines.Push0 w = pushed 2 w
+by_routine routines.PushEax w = pushed 4 w
+by_routine routines.PopA w = popped 1 w
+by_routine routines.PopAx w = popped 2 w
+by_routine routines.PopEax w = popped 4 w
+by_routine (routines.IncSp count) w = popped (number_of count) w
+by_routine (routines.DecSp count) w = pushed (number_of count) w
+by_routine routines.StATos w = popped 2 w
+by_routine routines.StAxTos w = popped 2 w
+by_routine routines.StEaxTos w = popped 2 w
+by_routine routines.CopyTos w = popped 2 w
+by_routine (routines.Tos op width) w = popped (waiting width) w
+by_routine (routines.Library f) w = called w.calls w.values
+by_routine _ w = Some w
+
+abbrev pub by_callee : Callee → Waiting → Option Waiting
+by_callee (callees.Routine r) w = by_routine r w
+by_callee _ w = called w.calls w.values
+
+abbrev pub by_line : Line → Waiting → Option Waiting
+by_line (Label l) w = Some w
+by_line (Do op mode operand) w = Some w
+by_line (Call callee) w = by_callee callee w
+
+abbrev pub behind : Line → Option Waiting → Option Waiting
+behind line None = None
+behind line (Some w) = by_line line w
+
+-- what waits behind lines, if they take away nothing but what waits
+abbrev pub waits : Option Waiting → List Line → Option Waiting
+waits w [] = w
+waits w (line ∷ lines) = waits (behind line w) lines
+
+-- ---- the calls of an expression
+
+abbrev pub argument_bytes : Bool → IntType → List ℕ
+argument_bytes kept kind = if kept then [] else size_of kind ∷ []
+
+-- the arguments that wait when a function is called, the last one first
+abbrev pub passed : Bool → Nodes → List ℕ
+passed fast none = []
+passed fast (some e es) = passed fast es ++ argument_bytes (stays fast es) (kind_in e)
+
+abbrev pub bytes_in : List ℕ → ℕ
+bytes_in [] = 0
+bytes_in (n ∷ ns) = n + bytes_in ns
+
+-- a function that is called by its name takes no lines of its own
+abbrev pub unless_named : Option ℕ → List (List ℕ) → List (List ℕ)
+unless_named (Some i) calls = []
+unless_named None calls = calls
+
+-- what each call of an expression takes away, in the order of their lines
+abbrev mutual
+  pub calls_of : Typed → List (List ℕ)
+  calls_of (node t n) = node_calls n
+
+  pub node_calls : Node → List (List ℕ)
+  node_calls (deref e) = calls_of e
+  node_calls (member e m) = calls_of e
+  node_calls (load e) = calls_of e
+  node_calls (address e) = calls_of e
+  node_calls (decay e) = calls_of e
+  node_calls (convert e) = calls_of e
+  node_calls (unary op e) = calls_of e
+  node_calls (binary op a b) = calls_of a ++ calls_of b
+  node_calls (both a b) = calls_of a ++ calls_of b
+  node_calls (either a b) = calls_of a ++ calls_of b
+  node_calls (choice c a b) = calls_of c ++ (calls_of a ++ calls_of b)
+  node_calls (comma a b) = calls_of a ++ calls_of b
+  node_calls (assign a b) = calls_of a ++ calls_of b
+  node_calls (assign_op op k a b) = calls_of a ++ calls_of b
+  node_calls (assign_step op a b) = calls_of a ++ calls_of b
+  node_calls (step how e) = calls_of e
+  node_calls (copy a b) = calls_of a ++ calls_of b
+  node_calls (call g es) = unless_named (named g) (calls_of g) ++ (args_calls es ++ passed (is_fast (bare g)) es ∷ [])
+  node_calls _ = []
+
+  pub args_calls : Nodes → List (List ℕ)
+  args_calls none = []
+  args_calls (some e es) = calls_of e ++ args_calls es
+
+-- ---- the calls of a statement
+
+abbrev pub maybe_calls : MaybeTyped → List (List ℕ)
+maybe_calls absent = []
+maybe_calls (present e) = calls_of e
+
+abbrev mutual
+  pub statement_calls : Stmt → List (List ℕ)
+  statement_calls (eval e) = calls_of e
+  statement_calls (set_part i offset e) = calls_of e
+  statement_calls (block os ss) = statements_calls ss
+  statement_calls (if_stmt e a b) = calls_of e ++ (statement_calls a ++ statement_calls b)
+  statement_calls (while e a) = calls_of e ++ statement_calls a
+  statement_calls (do_while a e) = statement_calls a ++ calls_of e
+  statement_calls (for_loop i c n a) = maybe_calls i ++ (maybe_calls c ++ (statement_calls a ++ maybe_calls n))
+  statement_calls (switch e a) = calls_of e ++ statement_calls a
+  statement_calls (case z a) = statement_calls a
+  statement_calls (default a) = statement_calls a
+  statement_calls (label n a) = statement_calls a
+  statement_calls (return e) = maybe_calls e
+  statement_calls _ = []
+
+  pub statements_calls : Stmts → List (List ℕ)
+  statements_calls no_stmts = []
+  statements_calls (and_stmts a ss) = statement_calls a ++ statements_calls ss
