@@ -12,4 +12,17 @@ pub mod Specifiers
 pub mod Params
 pub mod Run
 pub mod Derivations
+pub mod Got
+pub mod Begins
+pub mod Parts
+pub mod Inits
+pub mod Decls
+pub mod Openings
+pub mod Declarations
+pub mod Statements
+pub mod Enumerated
+pub mod Units
+pub mod Rooms
+pub mod Within
+pub mod Small
 pub mod Answered

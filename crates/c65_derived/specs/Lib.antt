@@ -1,2 +1,4 @@
 pub mod Derived
 pub mod Calls
+pub mod Limits
+pub mod Units

@@ -9,8 +9,9 @@ mod laws;
 
 pub use calls::{
     take_assignment, take_constant, take_declarator, take_expression, take_specifiers,
-    take_type_name, take_untyped_declarator,
+    take_type_name, take_unit, take_untyped_declarator,
 };
 pub use laws::{
-    declarators_are_derived, expressions_are_derived, specifiers_are_derived, types_are_derived,
+    declarators_are_derived, expressions_are_derived, specifiers_are_derived, trees_are_within,
+    types_are_derived, units_are_derived,
 };

@@ -1,0 +1,21 @@
+-- A unit that was read is one that the grammar derives from the unit's tokens.
+use Rattle.std.specs.Prelude.{◌≡◌, List, [], ◌∷◌, Ok}
+use Rattle.c65_scan.specs.declared.token.Token.{Token}
+use Rattle.c65_scan.specs.declared.token.TokenKind.TheVariants as kinds
+use Rattle.c65_tree.specs.Trees as t
+use Rattle.c65_decl.specs.Units.{unit_read}
+use Rattle.c65_grammar.specs.Readings.{units, IsUnit}
+
+-- the last token is the unit's end, and no other one is
+abbrev pub EndsOnce : List Token → Type 0
+EndsOnce [] = ⊥
+EndsOnce (tok ∷ []) = tok.kind ≡ kinds.End
+EndsOnce (tok ∷ next ∷ ts) = (tok.kind ≡ kinds.End → ⊥) × EndsOnce (next ∷ ts)
+
+-- C90 6.7
+abbrev pub UnitsAreDerived : Type 0
+UnitsAreDerived = (tokens : List Token) (unit : t.UnitTree) → EndsOnce tokens → unit_read tokens ≡ Ok unit → units unit tokens
+
+-- and within the limit of depth
+abbrev pub UnitsAreUnits : Type 0
+UnitsAreUnits = (tokens : List Token) (unit : t.UnitTree) → EndsOnce tokens → unit_read tokens ≡ Ok unit → IsUnit tokens unit
