@@ -23,7 +23,7 @@ use Rattle.c65_frame.specs.Frames.{Framed, has_prototype, is_variadic, register_
 use Rattle.c65_genlaws.specs.Laws.{FramesAreSmall}
 
 -- a sum that is small did not stand still
-min_small : (a : ℕ) → min a 18446744073709551615 ≤ 1024 → min a 18446744073709551615 ≡ a
+pub min_small : (a : ℕ) → min a 18446744073709551615 ≤ 1024 → min a 18446744073709551615 ≡ a
 min_small a h = go (cases_lt a 18446744073709551615)
   where
     go : (a < 18446744073709551615) ⊎ (18446744073709551615 ≤ a) → min a 18446744073709551615 ≡ a
@@ -31,9 +31,9 @@ min_small a h = go (cases_lt a 18446744073709551615)
     go (inr le) = let most : min a 18446744073709551615 ≡ 18446744073709551615 = min-eq_right le in absurd (omega (arith, h, most))
 
 -- what is placed between counts in full, where there is room for all
-record Room (p q : Places) : Type 0 where
-  few : p.total ≤ 1024
-  soft : q.soft + p.total ≤ p.soft + q.total
+pub record Room (p q : Places) : Type 0 where
+  pub few : p.total ≤ 1024
+  pub soft : q.soft + p.total ≤ p.soft + q.total
 
 parameter_room : (fit : Bool) (bank : ℕ) (p : Places) → (if fit then with_banked bank p.total p else with_later p).total ≤ 1024 → Room p (if fit then with_banked bank p.total p else with_later p)
 parameter_room true bank p h = record { few = h; soft = omega arith }
@@ -58,7 +58,7 @@ step_room parts honoured i Local p h =
     local_room (nat_lt 1024 (more p.total bytes)) (fits bank p) bank bytes (more p.total bytes) p refl refl h
 step_room parts honoured i Parameter p h = let bank : ℕ = bank_bytes honoured (object_in parts i) in parameter_room (fits bank p) bank p h
 
-all_room : (parts : Parts) (honoured : Bool) (i : ℕ) (marks : List Mark) (p : Places) → (placed_all parts honoured i marks p).total ≤ 1024 → Room p (placed_all parts honoured i marks p)
+pub all_room : (parts : Parts) (honoured : Bool) (i : ℕ) (marks : List Mark) (p : Places) → (placed_all parts honoured i marks p).total ≤ 1024 → Room p (placed_all parts honoured i marks p)
 all_room parts honoured i [] p h = record { few = h; soft = omega arith }
 all_room parts honoured i (mark ∷ marks) p h =
     let q : Places = with_marked parts honoured i mark p in
@@ -96,7 +96,7 @@ first_few false = omega arith
 
 -- ---- frames
 
-answered : {A E : Type 0} (b : Bool) (x : E) (y f : A) → (if b then Err x else Ok y) ≡ Ok f → (b ≡ false) × (y ≡ f)
+pub answered : {A E : Type 0} (b : Bool) (x : E) (y f : A) → (if b then Err x else Ok y) ≡ Ok f → (b ≡ false) × (y ≡ f)
 answered true x y f h = absurd cc
 answered false x y f h = (refl, cc)
 

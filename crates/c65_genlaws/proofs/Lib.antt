@@ -12,3 +12,5 @@ pub mod StackStmts
 pub mod Sizes
 pub mod SizeLaws
 pub mod FrameLaws
+pub mod HomeLaws
+pub mod ProgramLaws

@@ -35,10 +35,10 @@ one l x = if l == x then 1 else 0
 abbrev pub below : ℕ → ℕ → ℕ
 below n x = if nat_lt x n then 1 else 0
 
-below_in : (n x : ℕ) → x < n → below n x ≡ 1
+pub below_in : (n x : ℕ) → x < n → below n x ≡ 1
 below_in n x h = ap (λ b. if b then 1 else 0) (lt-ltb x n h)
 
-below_out : (n x : ℕ) → n ≤ x → below n x ≡ 0
+pub below_out : (n x : ℕ) → n ≤ x → below n x ≡ 0
 below_out n x h = ap (λ b. if b then 1 else 0) (le-ltb x n h)
 
 pub one_same : (x : ℕ) → one x x ≡ 1

@@ -1,7 +1,10 @@
 -- How large a program is, by its nodes: the expressions, statements, objects, parameters and functions.
-use Rattle.std.specs.Prelude.{ℕ, ◌+◌, ◌≤◌, List, length}
-use Rattle.c65_csem.specs.Trees.{Typed, node, Node, constant, null, literal, object, func, deref, member, load, address, decay, convert, unary, binary, both, either, choice, comma, assign, assign_op, assign_step, step, copy, call, Nodes, none, some, MaybeTyped, absent, present, Stmt, empty, eval, set_part, clear, block, if_stmt, while, do_while, for_loop, switch, case, default, label, goto, break, continue, return, Stmts, no_stmts, and_stmts}
-use Rattle.c65_frame.specs.Frames.{Framed, type_bytes}
+use Rattle.std.specs.Prelude.{◌≡◌, ℕ, ◌+◌, ◌≤◌, Bool, Option, None, Some, Ok, List, [], ◌∷◌, length}
+use Rattle.c65_csem.specs.declared.items.Parts.{Parts}
+use Rattle.c65_csem.specs.declared.items.TFunc.{TFunc}
+use Rattle.c65_csem.specs.Views.{func_of}
+use Rattle.c65_csem.specs.Trees.{Typed, node, Node, constant, null, literal, object, func, deref, member, load, address, decay, convert, unary, binary, both, either, choice, comma, assign, assign_op, assign_step, step, copy, call, Nodes, none, some, MaybeTyped, absent, present, Stmt, empty, eval, set_part, clear, block, if_stmt, while, do_while, for_loop, switch, case, default, label, goto, break, continue, return, Stmts, no_stmts, and_stmts, FuncTy}
+use Rattle.c65_frame.specs.Frames.{Framed, frame_of, type_bytes}
 use Rattle.c65_genexpr.specs.Types.{bare}
 use Rattle.c65_genstmt.specs.Objects.{object_bytes}
 
@@ -83,3 +86,22 @@ abbrev mutual
   pub AllSetFew : Framed → Stmts → Type 0
   AllSetFew f no_stmts = Unit {0}
   AllSetFew f (and_stmts a ss) = SetsFew f a × AllSetFew f ss
+
+-- the nodes of a function that has a body: the function, its parameters and its body's
+abbrev pub body_nodes : FuncTy → Option Stmt → ℕ
+body_nodes g None = 0
+body_nodes g (Some body) = 1 + (length g.params + statement_nodes body)
+
+abbrev pub function_nodes : FuncTy → ℕ
+function_nodes g = body_nodes g g.body
+
+abbrev pub functions_nodes : List TFunc → ℕ
+functions_nodes [] = 0
+functions_nodes (g ∷ gs) = function_nodes (func_of g) + functions_nodes gs
+
+abbrev pub HasFewSets : Parts → Bool → FuncTy → Type 0
+HasFewSets parts honoured g = (body : Stmt) (f : Framed) → g.body ≡ Some body → frame_of parts honoured g ≡ Ok f → SetsFew f body
+
+abbrev pub HaveFewSets : Parts → Bool → List TFunc → Type 0
+HaveFewSets parts honoured [] = Unit {0}
+HaveFewSets parts honoured (g ∷ gs) = HasFewSets parts honoured (func_of g) × HaveFewSets parts honoured gs

@@ -2,3 +2,4 @@ pub mod Bulk
 pub mod Labels
 pub mod Laws
 pub mod Stack
+pub mod Homes

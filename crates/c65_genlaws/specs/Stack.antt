@@ -43,6 +43,7 @@ abbrev pub called : List (List ℕ) → List ℕ → Option Waiting
 called [] values = None
 called (ns ∷ calls) values = left calls (taken ns values)
 
+-- other routines move sp otherwise, or save and restore regbank: they stand at the entry and the end of functions alone
 abbrev pub by_routine : Routine → Waiting → Option Waiting
 by_routine routines.PushA w = pushed 1 w
 by_routine routines.PushAx w = pushed 2 w
@@ -60,7 +61,20 @@ by_routine routines.StEaxTos w = popped 2 w
 by_routine routines.CopyTos w = popped 2 w
 by_routine (routines.Tos op width) w = popped (waiting width) w
 by_routine (routines.Library f) w = called w.calls w.values
-by_routine _ w = Some w
+by_routine routines.LdAxYSp w = Some w
+by_routine routines.LdAx0Sp w = Some w
+by_routine routines.LdEaxYSp w = Some w
+by_routine routines.StAxYSp w = Some w
+by_routine routines.StAx0Sp w = Some w
+by_routine routines.StEaxYSp w = Some w
+by_routine routines.LdAi w = Some w
+by_routine routines.LdAxi w = Some w
+by_routine routines.LdEaxi w = Some w
+by_routine (routines.Unary op width) w = Some w
+by_routine routines.SignA w = Some w
+by_routine routines.LongAx w = Some w
+by_routine routines.ULongAx w = Some w
+by_routine _ w = None
 
 abbrev pub by_callee : Callee → Waiting → Option Waiting
 by_callee (callees.Routine r) w = by_routine r w

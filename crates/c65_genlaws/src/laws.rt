@@ -1,5 +1,5 @@
 // Laws of the lines that the generator writes, each the contract of a function that does nothing.
-ghost use Rattle.c65_genlaws.specs.Laws.{ExpressionsOwnTheirLabels, ExpressionsAreSmall, ExpressionsAreFit, ExpressionsKeepTheStack, StatementsKeepTheStack, CallsAreCounted, FramesAreSmall, FunctionsAreSmall, FunctionsAreSegments};
+ghost use Rattle.c65_genlaws.specs.Laws.{ExpressionsOwnTheirLabels, ExpressionsAreSmall, ExpressionsAreFit, ExpressionsKeepTheStack, StatementsKeepTheStack, CallsAreCounted, FramesAreSmall, HomesAreApart, FunctionsAreSmall, ProgramsAreSmall, FunctionsAreSegments};
 
 /// An expression's lines have the labels from the first free one on, as many as it uses, each once; their branches lead to these alone.
 pub fn expressions_own_their_labels()
@@ -44,4 +44,14 @@ pub fn frames_are_small()
 /// A function has at most 128 bytes for itself, each parameter and each node of its body.
 pub fn functions_are_small()
     ensures { FunctionsAreSmall }
+{}
+
+/// No byte of regbank or above sp is part of two homes of a function, and its homes in regbank are together the bytes that it takes.
+pub fn homes_are_apart()
+    ensures { HomesAreApart }
+{}
+
+/// The extent of a program's code is at most 128 bytes for each function that has a body, each of its parameters and each node of the body.
+pub fn programs_are_small()
+    ensures { ProgramsAreSmall }
 {}
