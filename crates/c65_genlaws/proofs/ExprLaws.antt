@@ -1,7 +1,5 @@
 -- The lines of an expression: its labels, its size, and the form of each line.
-use Rattle.std.proofs.Common.{◌≡◌, ℕ, zero, suc, ◌+◌, ◌-◌, ◌*◌, ◌<◌, ◌≤◌, ◌==◌, Bool, true, false, IsTrue, Option, None, Some, ℤ, List, [], ◌∷◌, ◌++◌, refl, sym, ◌∙◌, ap, subst, arith}
-use Rattle.std.specs.Prelude.{if◌then◌else◌}
-use Rattle.std.specs.List.{list_all}
+use Rattle.std.proofs.Common.{◌≡◌, ℕ, ◌+◌, ◌-◌, ◌*◌, ◌≤◌, Bool, true, false, Option, None, Some, List, [], ◌∷◌, ◌++◌, refl, sym, arith}
 use Rattle.c65_base.specs.declared.operators.BinaryOp.{BinaryOp}
 use Rattle.c65_ints.specs.declared.types.IntType.{IntType}
 use Rattle.c65_ctype.specs.Trees.{QTy, TypesTy, type_in}
@@ -14,7 +12,6 @@ use Rattle.c65_code.specs.declared.line.Line.{Line}
 use Rattle.c65_code.specs.declared.line.Line.TheVariants.{Label, Do}
 use Rattle.c65_code.specs.declared.routine.Width.TheVariants.{Ax}
 use Rattle.c65_code.specs.Segments.{is_fit}
-use Rattle.c65_code.specs.Weights.{lines_size}
 use Rattle.c65_frame.specs.Symbols.{numbers_of, literal_symbol, function_symbol}
 use Rattle.c65_frame.specs.Frames.{Framed, type_bytes}
 use Rattle.c65_genwide.specs.Wide.{width_of}
@@ -26,21 +23,20 @@ use Rattle.c65_genload.specs.Words.{branch}
 use Rattle.c65_genload.specs.Places.{held}
 use Rattle.c65_genload.specs.Conversions.{push_code, waiting}
 use Rattle.c65_genload.specs.Loads.{hold_code}
-use Rattle.c65_genload.specs.Stores.{store_code, copy_code}
+use Rattle.c65_genload.specs.Stores.{store_code}
 use Rattle.c65_genexpr.specs.declared.operands.Operands.{Operands}
 use Rattle.c65_genexpr.specs.declared.operands.Operands.TheVariants.{Numbers, PointerFirst}
 use Rattle.c65_genexpr.specs.Types.{kind_of, result_kind, kind_in, bare, offset_at, bits_at, field_or, access_of, target_bytes}
 use Rattle.c65_genexpr.specs.Places.{more, moved, place_of, IsKnown}
-use Rattle.c65_genexpr.specs.Operands.{residue_of, operands_of, computes, is_short, constant_in, short_in, short_of, between_code, behind_code, short_code, binary_by}
-use Rattle.c65_genexpr.specs.Steps.{amount_of, step_code, open_code, close_code}
-use Rattle.c65_genexpr.specs.Arguments.{is_fast, is_counted, stays, passed_of, argument_code, argument_bytes}
-use Rattle.c65_genexpr.specs.Calls.{named, named_code, pointer_code}
+use Rattle.c65_genexpr.specs.Operands.{residue_of, operands_of, computes, is_short, short_in, short_of, between_code, behind_code, short_code, binary_by}
+use Rattle.c65_genexpr.specs.Steps.{amount_of, open_code, close_code}
+use Rattle.c65_genexpr.specs.Arguments.{is_fast, is_counted, stays, passed_of, argument_bytes}
+use Rattle.c65_genexpr.specs.Calls.{named}
 use Rattle.c65_genexpr.specs.Uses.{unless_named, uses, node_uses, args_uses}
-use Rattle.c65_genexpr.specs.Code.{target_code, truth_code, test_in, behind_open, compound, call_by, expr_code, node_code, args_code}
-use Rattle.c65_genlaws.specs.Labels.{times, is_within, among, OwnsLabels}
-use Rattle.c65_genlaws.specs.Bulk.{nodes, node_nodes, nodes_in}
+use Rattle.c65_genexpr.specs.Code.{target_code, truth_code, behind_open, compound, call_by, expr_code, node_code, args_code}
+use Rattle.c65_genlaws.specs.Bulk.{nodes, nodes_in}
 use Rattle.c65_genlaws.specs.Laws.{ExpressionsOwnTheirLabels, ExpressionsAreSmall, ExpressionsAreFit}
-use Rattle.c65_genlaws.proofs.Made.{is_plain, Leads, leads_wider, leads_append, leads_plain, leads_to, times-append, size-append, plain_times, among_split, among_one, all_append, Piece, Made, made_piece, made_append, made_behind, made_before, made_wider, made_as, made_none}
+use Rattle.c65_genlaws.proofs.Made.{Leads, leads_wider, leads_append, leads_plain, leads_to, times-append, size-append, plain_times, among_split, among_one, all_append, Piece, Made, made_piece, made_append, made_behind, made_before, made_wider, made_as, made_none}
 use Rattle.c65_genlaws.proofs.Pieces.{by_access, number_piece, symbol_piece, object_piece, offset_piece, load_piece, conversion_piece, unary_piece, between_piece, behind_piece, short_piece, push_piece, test_piece, hold_piece, store_piece, copy_piece, step_piece, open_piece, close_piece, named_piece, pointer_piece, argument_piece}
 
 -- ---- places that are known

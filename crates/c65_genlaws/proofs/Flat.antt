@@ -1,15 +1,14 @@
 -- Lines at the entry and the end of functions, and about objects: of any size, with no labels or with labels of their own.
-use Rattle.std.proofs.Common.{◌≡◌, ℕ, zero, suc, ◌+◌, ◌-◌, ◌*◌, ◌/◌, ◌%◌, ◌<◌, ◌≤◌, ◌==◌, Bool, true, false, Option, None, Some, ℤ, List, [], ◌∷◌, ◌++◌, length, refl, sym, ◌∙◌, ap, subst, arith}
+use Rattle.std.proofs.Common.{◌≡◌, ℕ, zero, suc, ◌+◌, ◌/◌, ◌%◌, ◌==◌, Bool, true, false, Option, None, Some, List, [], ◌∷◌, ◌++◌, refl, sym, ◌∙◌, subst, arith}
 use Rattle.std.specs.Prelude.{if◌then◌else◌, nat_lt, nat_le}
 use Rattle.std.specs.List.{list_all}
 use Rattle.c65_mach.specs.declared.rows.Op.TheVariants.{Adc, Clc, Tax, Bne, Cpy, Iny, Inc, Lda, Ldy, Sta, Stx, Pha, Pla, Rts, Tay, Tya}
 use Rattle.c65_mach.specs.declared.rows.Mode.TheVariants.{Relative}
-use Rattle.c65_code.specs.declared.line.Sym.{Sym}
 use Rattle.c65_code.specs.declared.line.Line.{Line}
 use Rattle.c65_code.specs.declared.line.Line.TheVariants.{Label}
 use Rattle.c65_code.specs.declared.routine.Count.{Count}
-use Rattle.c65_code.specs.declared.routine.Routine.TheVariants.{PushA, AddYSp, SubYSp, SaveRegs, RestRegs, LdAxYSp, LdAi, LdAxi, IncSp, DecSp}
-use Rattle.c65_code.specs.Segments.{is_fit, targets_of}
+use Rattle.c65_code.specs.declared.routine.Routine.TheVariants.{PushA, AddYSp, SaveRegs, RestRegs, LdAxYSp, LdAi, LdAxi}
+use Rattle.c65_code.specs.Segments.{is_fit}
 use Rattle.c65_frame.specs.declared.home.Arrival.{Arrival}
 use Rattle.c65_frame.specs.declared.home.Arrival.TheVariants.{Passed, Pushed, Kept}
 use Rattle.c65_frame.specs.declared.home.Moved.{Moved}
@@ -18,7 +17,7 @@ use Rattle.c65_genwide.specs.Lines.{value, call}
 use Rattle.c65_genentry.specs.Words.{sp, tmp1, tmp2, ptr1, ptr2, regbank, implied, zero_page, by_y, branch}
 use Rattle.c65_genentry.specs.Stack.{count_of, raise_by, lower_by, small_raise, small_lower, repeated, raise_code, lower_code}
 use Rattle.c65_genentry.specs.Ends.{restored_code, plain_end, variadic_end, end_code}
-use Rattle.c65_genentry.specs.Entry.{push_of, pushed_code, bank_store, kept_code, saved_code, counted_code, count_code, near_load, far_load, load_code, moved_code, all_moved, taken_bytes, entry_code}
+use Rattle.c65_genentry.specs.Entry.{pushed_code, bank_store, kept_code, saved_code, counted_code, count_code, near_load, far_load, load_code, moved_code, all_moved, taken_bytes, entry_code}
 use Rattle.c65_genentry.specs.Pointers as pointers
 use Rattle.c65_genentry.specs.Bytes.{page_code, pages_code, rest_code, rest_labels, block_code, block_labels}
 use Rattle.c65_genentry.specs.Bytes as blocks
@@ -28,9 +27,9 @@ use Rattle.c65_genload.specs.Stores.{store_code}
 use Rattle.c65_genstmt.specs.declared.objects.Spot.{Spot}
 use Rattle.c65_genstmt.specs.declared.objects.Spot.TheVariants.{Bank, Soft, Data}
 use Rattle.c65_genstmt.specs.Objects.{point_code, stored_code}
-use Rattle.c65_genlaws.specs.Labels.{times, is_within, among}
+use Rattle.c65_genlaws.specs.Labels.{times, among}
 use Rattle.c65_genlaws.proofs.Made.{is_plain, times-append, plain_times, among_split, among_none, among_one, Leads, leads_wider, leads_append, leads_plain, leads_to, all_append, Piece, Made}
-use Rattle.c65_genlaws.proofs.Pieces.{by_access, store_piece}
+use Rattle.c65_genlaws.proofs.Pieces.{store_piece}
 
 pub record Flat (lines : List Line) : Type 0 where
   pub plain : list_all is_plain lines ≡ true

@@ -1,25 +1,24 @@
 -- How large frames are.
-use Rattle.std.proofs.Common.{◌≡◌, ℕ, zero, suc, ◌+◌, ◌-◌, ◌%◌, ◌<◌, ◌≤◌, ◌⊎◌, inl, inr, Bool, true, false, Option, None, Some, List, [], ◌∷◌, ◌++◌, length, refl, sym, ◌∙◌, ap, slice_get, arith}
-use Rattle.std.specs.Prelude.{if◌then◌else◌, min, nat_lt, nat_le, take, Result, Ok, Err}
+use Rattle.std.proofs.Common.{◌≡◌, ℕ, ◌+◌, ◌-◌, ◌%◌, ◌<◌, ◌≤◌, ◌⊎◌, inl, inr, Bool, true, false, Option, None, Some, List, [], ◌∷◌, length, refl, ◌∙◌, ap, slice_get, arith}
+use Rattle.std.specs.Prelude.{if◌then◌else◌, min, nat_lt, Ok, Err}
 use Rattle.std.proofs.Math.Nat.{min-le_right, min-eq_left, min-eq_right}
 use Rattle.std.proofs.lemmas.Bool.{ltb-true, ltb-false, cases_lt}
 use Rattle.std.proofs.lemmas.List.{length-append, length-take}
 use Rattle.c65_base.specs.declared.refusal.Size.TheVariants as sizes
-use Rattle.c65_base.specs.Answers.{Fault, large}
+use Rattle.c65_base.specs.Answers.{large}
 use Rattle.c65_csem.specs.declared.items.Parts.{Parts}
-use Rattle.c65_csem.specs.Trees.{FuncTy}
 use Rattle.c65_ctype.specs.Views.{types_of}
 use Rattle.c65_frame.specs.declared.home.Home.{Home}
 use Rattle.c65_frame.specs.declared.home.Home.TheVariants.{Bank, Soft}
 use Rattle.c65_frame.specs.declared.home.Arrival.{Arrival}
 use Rattle.c65_frame.specs.declared.mark.Mark.{Mark}
 use Rattle.c65_frame.specs.declared.mark.Mark.TheVariants.{Other, Local, Parameter}
-use Rattle.c65_frame.specs.Places.{Places, more, none_placed, fits, with_none, with_banked, with_soft, placed_local, with_local, with_later, with_parameter, with_marked, placed_all}
+use Rattle.c65_frame.specs.Places.{Places, more, none_placed, fits, with_none, with_banked, with_soft, with_later, with_marked, placed_all}
 use Rattle.c65_frame.specs.Arrivals.{Arrivals, arrive, with_slot, arrived}
 use Rattle.c65_frame.specs.Sizes.{object_in, object_bytes, slot_bytes, bank_bytes}
 use Rattle.c65_frame.specs.Marks.{lowest, all_marks}
 use Rattle.c65_frame.specs.Objects.{locals_of}
-use Rattle.c65_frame.specs.Frames.{Framed, has_prototype, is_variadic, register_param, arrival, is_kept, last_bytes, without_last, bytes_without, saved_bytes, first_arrivals, arranged, settled, limited, passed_bytes, placed_in, frame_of}
+use Rattle.c65_frame.specs.Frames.{has_prototype, is_variadic, register_param, arrival, is_kept, last_bytes, without_last, bytes_without, saved_bytes, first_arrivals, settled, passed_bytes, placed_in}
 use Rattle.c65_genlaws.specs.Laws.{FramesAreSmall}
 
 -- a sum that is small did not stand still

@@ -1,9 +1,7 @@
 -- The lines of a function are a segment.
-use Rattle.std.proofs.Common.{◌≡◌, ℕ, zero, suc, ◌+◌, ◌*◌, ◌%◌, ◌<◌, ◌≤◌, ◌==◌, ◌&&◌, ◌||◌, ◌⊎◌, inl, inr, Bool, true, false, not, IsTrue, Option, None, Some, List, [], ◌∷◌, ◌++◌, length, refl, sym, ◌∙◌, ap, subst, slice_get, arith}
+use Rattle.std.proofs.Common.{◌≡◌, ℕ, zero, suc, ◌+◌, ◌<◌, ◌≤◌, ◌||◌, ◌⊎◌, inl, inr, Bool, true, false, not, None, Some, List, [], ◌∷◌, ◌++◌, length, refl, sym, ◌∙◌, ap, slice_get, arith}
 use Rattle.std.specs.Prelude.{if◌then◌else◌, max, slice_index_or, nat_eq, IsSome, Contains}
-use Rattle.std.specs.List.{list_all, list_any}
 use Rattle.std.proofs.lemmas.Bool.{cases_eq, and_from, eq-eqb, ne_eqb}
-use Rattle.std.proofs.lemmas.Bool.Decides.{nat_tests}
 use Rattle.std.proofs.Math.Nat.{le-max_left, le-max_right}
 use Rattle.std.proofs.lemmas.List.{length-append}
 use Rattle.c65_csem.specs.Trees.{Stmt, empty, eval, set_part, clear, block, if_stmt, while, do_while, for_loop, switch, case, default, label, goto, break, continue, return, Stmts, no_stmts, and_stmts, UnitTy, FuncTy}
@@ -20,16 +18,15 @@ use Rattle.c65_genentry.specs.Drafts.{with_labels}
 use Rattle.c65_genentry.specs.Entry.{entry_code}
 use Rattle.c65_genentry.specs.Stack.{raise_code}
 use Rattle.c65_genentry.specs.Ends.{restored_code, plain_end, variadic_end, end_code}
-use Rattle.c65_genstmt.specs.declared.jumps.Ways.{Ways}
 use Rattle.c65_genstmt.specs.Jumps.{following}
 use Rattle.c65_genstmt.specs.Cases.{room_of, room_in}
 use Rattle.c65_genstmt.specs.Stmts.{with_label, ways, with_stmt}
-use Rattle.c65_genstmt.specs.Functions.{main_code, no_lines, with_function}
+use Rattle.c65_genstmt.specs.Functions.{main_code, no_lines}
 use Rattle.c65_genlaws.specs.Labels.{times, among}
 use Rattle.c65_genlaws.specs.Laws.{FunctionsAreSegments}
 use Rattle.c65_genlaws.proofs.Made.{within, among_inside}
-use Rattle.c65_genlaws.proofs.Flat.{Flat, flat_if, flat_none, entry_flat, end_flat}
-use Rattle.c65_genlaws.proofs.Puts.{one, below, below_next, below_more, at_most_one, one_same, one_other, Puts, no_others, Free, puts_then, puts_end, puts_flat, puts_label}
+use Rattle.c65_genlaws.proofs.Flat.{Flat, flat_none, entry_flat, end_flat}
+use Rattle.c65_genlaws.proofs.Puts.{one, below_next, below_more, at_most_one, one_same, one_other, Puts, puts_then, puts_end, puts_flat, puts_label}
 use Rattle.c65_genlaws.proofs.Others.{names, names_in, others, laid, times_one, others_are}
 use Rattle.c65_genlaws.proofs.StmtLaws.{Exits, stmt_puts}
 

@@ -1,33 +1,29 @@
 -- Homes do not overlap.
-use Rattle.std.proofs.Common.{◌≡◌, ℕ, zero, suc, ◌+◌, ◌-◌, ◌%◌, ◌<◌, ◌≤◌, ◌&&◌, ◌⊎◌, inl, inr, Bool, true, false, Option, None, Some, List, [], ◌∷◌, ◌++◌, length, refl, sym, ◌∙◌, ap, subst, slice_get, slice_set, arith}
-use Rattle.std.specs.Prelude.{if◌then◌else◌, min, nat_lt, nat_le, take, Ok}
+use Rattle.std.proofs.Common.{◌≡◌, ℕ, zero, suc, ◌+◌, ◌-◌, ◌<◌, ◌≤◌, ◌&&◌, ◌⊎◌, inl, inr, Bool, true, false, Option, None, Some, List, [], ◌∷◌, ◌++◌, length, refl, sym, ◌∙◌, ap, subst, slice_get, slice_set, arith}
+use Rattle.std.specs.Prelude.{if◌then◌else◌, min, nat_lt, nat_le, take}
 use Rattle.std.proofs.Math.Nat.{min-le_left, min-le_right}
-use Rattle.std.proofs.lemmas.Bool.{and_parts, ltb-true, ltb-false, leb-true, le-leb, cases_lt, lt-ltb, le-ltb}
+use Rattle.std.proofs.lemmas.Bool.{and_parts, ltb-true, ltb-false, leb-true, le-leb, cases_lt}
 use Rattle.std.proofs.lemmas.List.{append_assoc}
 use Rattle.c65_base.specs.declared.refusal.Size.TheVariants as sizes
 use Rattle.c65_base.specs.Answers.{large}
 use Rattle.c65_ctype.specs.Views.{types_of}
 use Rattle.c65_csem.specs.declared.items.Parts.{Parts}
-use Rattle.c65_csem.specs.Trees.{FuncTy, ObjectTy}
-use Rattle.c65_csem.specs.Statements.{IsDistinct}
+use Rattle.c65_csem.specs.Trees.{ObjectTy}
 use Rattle.c65_csem.specs.Places.{is_register}
 use Rattle.c65_ctype.specs.Trees.{type_in}
 use Rattle.c65_frame.specs.declared.home.Home.{Home}
 use Rattle.c65_frame.specs.declared.home.Home.TheVariants.{Bank, Soft}
-use Rattle.c65_frame.specs.declared.home.Arrival.{Arrival}
-use Rattle.c65_frame.specs.declared.home.Arrival.TheVariants.{Passed, Pushed, Kept}
 use Rattle.c65_frame.specs.declared.mark.Mark.{Mark}
 use Rattle.c65_frame.specs.declared.mark.Mark.TheVariants.{Other, Local, Parameter}
-use Rattle.c65_frame.specs.Places.{Places, more, none_placed, fits, with_none, with_banked, with_soft, placed_local, with_local, with_later, with_parameter, with_marked, placed_all}
+use Rattle.c65_frame.specs.Places.{Places, more, none_placed, fits, with_none, with_banked, with_soft, with_later, with_marked, placed_all}
 use Rattle.c65_frame.specs.Arrivals.{slots, Arrivals, arrive, with_slot, arrived}
 use Rattle.c65_frame.specs.Sizes.{object_in, object_bytes, slot_bytes, bank_size, bank_bytes}
 use Rattle.c65_frame.specs.Marks.{least, lowest, marked, no_marks, all_marks}
 use Rattle.c65_frame.specs.Objects.{locals_of}
-use Rattle.c65_frame.specs.Frames.{Framed, has_prototype, is_variadic, takes_stack, register_param, flat, home_at, arrival_at, arrival, is_kept, last_bytes, without_last, bytes_without, saved_bytes, first_arrivals, settled, passed_bytes, placed_in, frame_of}
+use Rattle.c65_frame.specs.Frames.{Framed, has_prototype, is_variadic, takes_stack, register_param, flat, home_at, arrival_at, arrival, is_kept, last_bytes, without_last, bytes_without, saved_bytes, first_arrivals, settled, passed_bytes, placed_in}
 use Rattle.c65_genlaws.specs.Labels.{among}
 use Rattle.c65_genlaws.specs.Homes.{next, in_bank, in_blocks, in_home, in_params}
 use Rattle.c65_genlaws.specs.Laws.{HomesAreApart}
-use Rattle.c65_genlaws.proofs.Made.{among_low, among_high}
 use Rattle.c65_genlaws.proofs.Puts.{below, below_in, below_out, below_more, at_most_one}
 use Rattle.c65_genlaws.proofs.FrameLaws.{Room, all_room, answered, min_small}
 

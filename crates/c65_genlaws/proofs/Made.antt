@@ -1,5 +1,5 @@
 -- Lines made of pieces: their labels, their targets, their forms and their size.
-use Rattle.std.proofs.Common.{◌≡◌, ℕ, zero, suc, ◌+◌, ◌*◌, ◌<◌, ◌≤◌, ◌==◌, ◌&&◌, ◌⊎◌, inl, inr, Bool, true, false, not, IsTrue, List, [], ◌∷◌, ◌++◌, refl, sym, ◌∙◌, ap, subst, cond, arith}
+use Rattle.std.proofs.Common.{◌≡◌, ℕ, ◌+◌, ◌<◌, ◌≤◌, ◌==◌, ◌⊎◌, inl, inr, Bool, true, false, not, List, [], ◌∷◌, ◌++◌, refl, sym, ◌∙◌, ap, subst, arith}
 use Rattle.std.specs.Prelude.{if◌then◌else◌, nat_le, nat_lt}
 use Rattle.std.specs.List.{list_all}
 use Rattle.std.proofs.lemmas.Bool.{and_parts, and_from, and_left, and_right, le-leb, lt-leb, lt-ltb, le-ltb, leb-true, ltb-true, eq-eqb, ne_eqb, cases_lt, cases_order}
@@ -11,7 +11,7 @@ use Rattle.c65_code.specs.declared.line.Operand.TheVariants.{Nothing, Byte, Low,
 use Rattle.c65_code.specs.declared.line.Line.{Line}
 use Rattle.c65_code.specs.declared.line.Line.TheVariants.{Label, Do, Call}
 use Rattle.c65_code.specs.Segments.{is_to, is_fit, target_of, targets_of}
-use Rattle.c65_code.specs.Weights.{line_size, lines_size}
+use Rattle.c65_code.specs.Weights.{lines_size}
 use Rattle.c65_genlaws.specs.Labels.{times, is_within, among}
 
 -- ---- labels and targets

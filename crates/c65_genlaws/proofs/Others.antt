@@ -1,13 +1,12 @@
 -- The labels that a statement puts and that were given outside it: of cases and of default, and of statements.
-use Rattle.std.proofs.Common.{◌≡◌, ℕ, zero, suc, ◌+◌, ◌*◌, ◌%◌, ◌<◌, ◌≤◌, ◌==◌, ◌⊎◌, inl, inr, ◌||◌, max, Bool, true, false, Some, ℤ, List, [], ◌∷◌, ◌++◌, length, refl, sym, ◌∙◌, ap, subst, slice_get, arith}
-use Rattle.std.specs.Prelude.{if◌then◌else◌}
+use Rattle.std.proofs.Common.{◌≡◌, ℕ, zero, suc, ◌+◌, ◌≤◌, ◌||◌, Bool, true, false, ℤ, List, ◌++◌, length, refl, sym, ◌∙◌, ap, arith}
 use Rattle.std.proofs.lemmas.List.{length-append}
-use Rattle.c65_csem.specs.Trees.{Stmt, empty, eval, set_part, clear, block, if_stmt, while, do_while, for_loop, switch, case, default, label, goto, break, continue, return, Stmts, no_stmts, and_stmts, UnitTy}
-use Rattle.c65_csem.specs.Statements.{labels_of, labels_in, cases_of, cases_in, defaults_of, defaults_in, IsDistinct, Context, IsStmt, AreStmts}
+use Rattle.c65_csem.specs.Trees.{Stmt, empty, eval, set_part, clear, block, if_stmt, while, do_while, for_loop, switch, case, default, label, goto, break, continue, return, Stmts, no_stmts, and_stmts}
+use Rattle.c65_csem.specs.Statements.{cases_of, cases_in, defaults_of, defaults_in}
 use Rattle.c65_genstmt.specs.Jumps.{following}
 use Rattle.c65_genstmt.specs.Stmts.{case_behind, case_behind_all}
-use Rattle.c65_genstmt.specs.Cases.{has_default, have_default, room_of, room_in}
-use Rattle.c65_genlaws.specs.Labels.{is_within, among}
+use Rattle.c65_genstmt.specs.Cases.{has_default, have_default}
+use Rattle.c65_genlaws.specs.Labels.{among}
 use Rattle.c65_genlaws.proofs.Made.{among_split, among_none, among_one}
 use Rattle.c65_genlaws.proofs.Puts.{one, one_same}
 

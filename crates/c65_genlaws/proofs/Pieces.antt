@@ -1,6 +1,6 @@
 -- The pieces of which lines are made: each with its greatest size.
-use Rattle.std.proofs.Common.{◌≡◌, ℕ, zero, suc, ◌+◌, ◌-◌, ◌*◌, ◌/◌, ◌%◌, ◌<◌, ◌≤◌, ◌==◌, Bool, true, false, Option, None, Some, List, [], ◌∷◌, ◌++◌, refl, arith}
-use Rattle.std.specs.Prelude.{min, nat_le}
+use Rattle.std.proofs.Common.{ℕ, ◌+◌, ◌-◌, ◌%◌, ◌≤◌, ◌==◌, Bool, true, false, Option, None, Some, List, [], ◌∷◌, ◌++◌, refl, arith}
+use Rattle.std.specs.Prelude.{min}
 use Rattle.c65_base.specs.declared.operators.UnaryOp.{UnaryOp}
 use Rattle.c65_base.specs.declared.operators.UnaryOp.TheVariants as unary
 use Rattle.c65_base.specs.declared.operators.BinaryOp.{BinaryOp}
@@ -11,24 +11,22 @@ use Rattle.c65_ints.specs.declared.types.IntType.TheVariants as ints
 use Rattle.c65_ints.specs.Ranges.{is_signed_of}
 use Rattle.c65_ctype.specs.Trees.{Ty, void, int, pointer, array, tag, function}
 use Rattle.c65_csem.specs.declared.items.Library.{Library}
-use Rattle.c65_mach.specs.declared.rows.Op.TheVariants.{Ldx}
 use Rattle.c65_code.specs.declared.line.Sym.{Sym}
 use Rattle.c65_code.specs.declared.line.Line.{Line}
 use Rattle.c65_code.specs.declared.line.Line.TheVariants.{Call}
 use Rattle.c65_code.specs.declared.line.Callee.TheVariants.{Function, Pointer}
 use Rattle.c65_code.specs.declared.routine.Count.TheVariants.{Two as two_bytes}
-use Rattle.c65_code.specs.declared.routine.Routine.TheVariants.{PushAx, LdAi, LdAxi, LdAxYSp, Tos, Unary, IncSp, Library as library_routine}
+use Rattle.c65_code.specs.declared.routine.Routine.TheVariants.{PushAx, LdAi, Tos, Unary, IncSp, Library as library_routine}
 use Rattle.c65_code.specs.declared.routine.UnaryRoutine.TheVariants.{Shl1}
 use Rattle.c65_code.specs.declared.routine.TosOp.{TosOp}
 use Rattle.c65_code.specs.declared.routine.TosOp.TheVariants as tos
 use Rattle.c65_code.specs.declared.routine.Width.{Width}
 use Rattle.c65_code.specs.declared.routine.Width.TheVariants.{Ax, Eax}
-use Rattle.c65_code.specs.declared.parts.RegSet.{RegSet}
 use Rattle.c65_frame.specs.declared.home.Home.{Home}
 use Rattle.c65_frame.specs.declared.home.Home.TheVariants as homes
 use Rattle.c65_frame.specs.Frames.{Framed, home_of, is_raised}
 use Rattle.c65_frame.specs.Symbols.{numbers_of, object_symbol, function_symbol}
-use Rattle.c65_genwide.specs.Lines.{value, call}
+use Rattle.c65_genwide.specs.Lines.{call}
 use Rattle.c65_genwide.specs.Wide.{width_of, narrow_code, wide_code, tos_of, is_comparison}
 use Rattle.c65_genload.specs.declared.places.Extent.{Extent}
 use Rattle.c65_genload.specs.declared.places.Extent.TheVariants.{One, Two, Four}
@@ -38,16 +36,15 @@ use Rattle.c65_genload.specs.declared.places.Place.TheVariants as places
 use Rattle.c65_genload.specs.declared.places.Access.{Access}
 use Rattle.c65_genload.specs.declared.places.Access.TheVariants.{Whole, Part}
 use Rattle.c65_genload.specs.Places.{type_in, byte_more, extent_of}
-use Rattle.c65_genload.specs.Numbers.{number_code, add_word_code, add_long_code, add_by_width, add_code, mask_code, by_code, shift_code, scale_code, divide_code}
+use Rattle.c65_genload.specs.Numbers.{number_code, add_word_code, add_by_width, add_code, mask_code, by_code, shift_code, scale_code, divide_code}
 use Rattle.c65_genload.specs.Conversions.{widen_code, convert_code, convert_to, push_code, pass_code, test_code}
 use Rattle.c65_genload.specs.Addresses.{symbol_code, address_code, above_code, raised_code, offset_code}
-use Rattle.c65_genload.specs.Fields.{ones, others, extract_code, range_code, aligned_code}
+use Rattle.c65_genload.specs.Fields.{ones, others, extract_code, aligned_code}
 use Rattle.c65_genload.specs.Loads.{hold_code, bytes_code, load_code}
 use Rattle.c65_genload.specs.Stores.{bytes_store, after_store, under_code, field_store, store_code, copy_code}
 use Rattle.c65_genexpr.specs.declared.operands.Operands.{Operands}
 use Rattle.c65_genexpr.specs.declared.operands.Operands.TheVariants.{Numbers, PointerFirst, PointerLast, Pointers}
 use Rattle.c65_genexpr.specs.declared.arguments.Passed.{Passed}
-use Rattle.c65_genexpr.specs.Types.{kind_of}
 use Rattle.c65_genexpr.specs.Places.{more, soft_code, code_at, object_code}
 use Rattle.c65_genexpr.specs.Operands.{computes, between_code, difference_code, behind_code, unary_code, conversion_code, negative, scaled, short_code}
 use Rattle.c65_genexpr.specs.Steps.{is_post, back_code, after_code, step_code, open_code, close_code}

@@ -1,5 +1,5 @@
 -- The bytes of whole programs, by their nodes.
-use Rattle.std.proofs.Common.{◌≡◌, ℕ, zero, suc, ◌+◌, ◌*◌, ◌≤◌, ◌==◌, Bool, Option, None, Some, List, [], ◌∷◌, ◌++◌, length, refl, sym, ◌∙◌, ap, arith}
+use Rattle.std.proofs.Common.{◌≡◌, ℕ, suc, ◌+◌, ◌*◌, ◌≤◌, ◌==◌, Bool, Option, None, Some, List, [], ◌∷◌, ◌++◌, refl, sym, ap, arith}
 use Rattle.std.specs.Prelude.{Result, Ok, Err}
 use Rattle.c65_base.specs.Answers.{Fault, ◌>>=◌}
 use Rattle.c65_csem.specs.declared.items.Parts.{Parts}
@@ -13,7 +13,7 @@ use Rattle.c65_code.specs.Weights.{lines_size, functions_size, extent_of}
 use Rattle.c65_frame.specs.Symbols.{numbers_of, function_symbol}
 use Rattle.c65_frame.specs.Frames.{Framed, frame_of}
 use Rattle.c65_genstmt.specs.Functions.{gives_of, no_lines, with_function, segment_of, function_of}
-use Rattle.c65_genstmt.specs.Programs.{one_more, function_added, functions_from, functions_of, code_of, program_of}
+use Rattle.c65_genstmt.specs.Programs.{one_more, function_added, functions_from, functions_of, code_of}
 use Rattle.c65_genlaws.specs.Bulk.{HasFewSets, HaveFewSets, body_nodes, function_nodes, functions_nodes}
 use Rattle.c65_genlaws.specs.Laws.{ProgramsAreSmall}
 use Rattle.c65_genlaws.proofs.SizeLaws.{functions_are_small}

@@ -1,12 +1,11 @@
 -- What becomes of a draft: which labels it puts, and where it leads.
-use Rattle.std.proofs.Common.{◌≡◌, ℕ, zero, suc, ◌+◌, ◌*◌, ◌%◌, ◌<◌, ◌≤◌, ◌==◌, ◌⊎◌, inl, inr, Bool, true, false, List, [], ◌∷◌, ◌++◌, refl, sym, ◌∙◌, ap, arith}
+use Rattle.std.proofs.Common.{◌≡◌, ℕ, ◌+◌, ◌<◌, ◌≤◌, ◌==◌, ◌⊎◌, inl, inr, Bool, true, List, [], ◌∷◌, ◌++◌, refl, ◌∙◌, ap, arith}
 use Rattle.std.specs.Prelude.{if◌then◌else◌, nat_lt}
 use Rattle.std.specs.List.{list_all}
 use Rattle.std.proofs.lemmas.Bool.{and_parts, and_from, lt-ltb, le-ltb, eq-eqb, ne_eqb, cases_lt}
 use Rattle.std.proofs.lemmas.List.Folds.{list_all-append}
 use Rattle.c65_mach.specs.declared.rows.Op.{Op}
 use Rattle.c65_mach.specs.declared.rows.Op.TheVariants.{Jmp}
-use Rattle.c65_mach.specs.declared.rows.Mode.TheVariants.{Relative}
 use Rattle.c65_csem.specs.Trees.{Typed}
 use Rattle.c65_code.specs.declared.line.Line.{Line}
 use Rattle.c65_code.specs.declared.line.Line.TheVariants.{Label}
@@ -15,11 +14,10 @@ use Rattle.c65_frame.specs.Frames.{Framed}
 use Rattle.c65_genwide.specs.Lines.{with_lines}
 use Rattle.c65_genwide.specs.Wide.{width_of}
 use Rattle.c65_genexpr.specs.Types.{kind_in}
-use Rattle.c65_genexpr.specs.Code.{grown, expr_code, test_in}
+use Rattle.c65_genexpr.specs.Code.{expr_code, test_in}
 use Rattle.c65_genexpr.specs.Uses.{uses}
 use Rattle.c65_genentry.specs.Words.{jump, branch, with_code}
 use Rattle.c65_genstmt.specs.Jumps.{with_value, with_condition}
-use Rattle.c65_genentry.specs.Drafts.{with_labels}
 use Rattle.c65_genstmt.specs.Stmts.{with_label, with_jump, two_given, three_given}
 use Rattle.c65_genlaws.specs.Labels.{times, is_within, among}
 use Rattle.c65_genlaws.proofs.Made.{times-append, plain_times, targets-append, plain_targets, among_inside, among_in, among_low, among_high, among_one, all_append}

@@ -1,15 +1,13 @@
 -- The bytes of statements and functions, by their nodes.
-use Rattle.std.proofs.Common.{◌≡◌, ℕ, zero, suc, ◌+◌, ◌*◌, ◌%◌, ◌<◌, ◌≤◌, Bool, true, false, Some, ℤ, List, [], ◌∷◌, ◌++◌, length, refl, arith}
+use Rattle.std.proofs.Common.{ℕ, ◌+◌, ◌*◌, ◌%◌, ◌≤◌, Bool, true, false, ℤ, List, [], ◌∷◌, length, arith}
 use Rattle.std.proofs.lemmas.List.{length-append}
 use Rattle.c65_csem.specs.Trees.{Typed, MaybeTyped, absent, present, Stmt, empty, eval, set_part, clear, block, if_stmt, while, do_while, for_loop, switch, case, default, label, goto, break, continue, return, Stmts, no_stmts, and_stmts}
 use Rattle.c65_csem.specs.Places.{is_tag}
 use Rattle.c65_csem.specs.Statements.{cases_of, cases_in}
 use Rattle.c65_mach.specs.declared.rows.Op.{Op}
 use Rattle.c65_mach.specs.declared.rows.Op.TheVariants.{Beq, Bne, Jmp, Sta, Stx}
-use Rattle.c65_mach.specs.declared.rows.Mode.TheVariants.{Relative}
 use Rattle.c65_code.specs.declared.line.Line.{Line}
 use Rattle.c65_code.specs.declared.line.Line.TheVariants.{Label}
-use Rattle.c65_code.specs.declared.parts.RegSet.{RegSet}
 use Rattle.c65_code.specs.Segments.{Drafted}
 use Rattle.c65_code.specs.Weights.{lines_size}
 use Rattle.c65_frame.specs.Frames.{Framed, type_bytes}
@@ -31,15 +29,15 @@ use Rattle.c65_genstmt.specs.declared.jumps.Ways.{Ways}
 use Rattle.c65_genstmt.specs.declared.objects.Spot.{Spot}
 use Rattle.c65_genstmt.specs.declared.objects.Spot.TheVariants.{Bank, Soft, Data}
 use Rattle.c65_genstmt.specs.Jumps.{following, with_value, with_condition}
-use Rattle.c65_genstmt.specs.Objects.{spot_of, object_bytes, point_code, stored_code, with_copied, with_kept, with_set, with_zeros, with_cleared}
-use Rattle.c65_genstmt.specs.Stmts.{case_behind, with_label, with_jump, two_given, three_given, with_maybe, with_test, ways, default_way, with_choice, with_bottom, with_stmt, with_stmts}
+use Rattle.c65_genstmt.specs.Objects.{spot_of, object_bytes, point_code, stored_code, with_copied, with_kept, with_zeros}
+use Rattle.c65_genstmt.specs.Stmts.{case_behind, with_label, with_jump, two_given, three_given, with_maybe, with_test, ways, default_way, with_stmt, with_stmts}
 use Rattle.c65_genstmt.specs.Cases.{room_of}
-use Rattle.c65_genstmt.specs.Functions.{main_code, no_lines, with_function}
+use Rattle.c65_genstmt.specs.Functions.{main_code, no_lines}
 use Rattle.c65_genlaws.specs.Bulk.{nodes, maybe_nodes, statement_nodes, statements_nodes, SetsFew, AllSetFew}
 use Rattle.c65_genlaws.specs.Laws.{FunctionsAreSmall}
 use Rattle.c65_genlaws.proofs.Made.{size-append}
 use Rattle.c65_genlaws.proofs.Pieces.{test_piece}
-use Rattle.c65_genlaws.proofs.ExprLaws.{room, expr_made}
+use Rattle.c65_genlaws.proofs.ExprLaws.{expr_made}
 use Rattle.c65_genlaws.proofs.FrameLaws.{frames_are_small}
 use Rattle.c65_genlaws.proofs.Sizes.{Takes, choice_size, point_size, stored_size, bank_clear_size, clear_size, copy_size, entry_size, end_size, main_size}
 

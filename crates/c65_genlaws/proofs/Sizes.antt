@@ -1,12 +1,11 @@
 -- The bytes of the lines at the entry and the end of functions, and about objects.
-use Rattle.std.proofs.Common.{◌≡◌, ℕ, zero, suc, ◌+◌, ◌*◌, ◌/◌, ◌%◌, ◌<◌, ◌≤◌, ◌==◌, Bool, true, false, Option, None, Some, ℤ, List, [], ◌∷◌, ◌++◌, length, refl, arith}
+use Rattle.std.proofs.Common.{ℕ, zero, suc, ◌+◌, ◌*◌, ◌/◌, ◌%◌, ◌≤◌, ◌==◌, Bool, true, false, Option, None, Some, ℤ, List, [], ◌∷◌, ◌++◌, length, arith}
 use Rattle.std.specs.Prelude.{if◌then◌else◌, nat_lt, nat_le}
 use Rattle.c65_mach.specs.declared.rows.Op.TheVariants.{Adc, Bne, Clc, Cpy, Iny, Inc, Lda, Ldy, Sta, Stx, Pha, Pla, Rts, Tax, Tay, Tya}
 use Rattle.c65_code.specs.declared.line.Line.{Line}
 use Rattle.c65_code.specs.declared.line.Line.TheVariants.{Label}
 use Rattle.c65_code.specs.declared.routine.Count.{Count}
-use Rattle.c65_code.specs.declared.routine.Routine.{Routine}
-use Rattle.c65_code.specs.declared.routine.Routine.TheVariants.{PushA, PushAx, PushEax, AddYSp, SubYSp, SaveRegs, RestRegs, LdAxYSp, LdAi, LdAxi}
+use Rattle.c65_code.specs.declared.routine.Routine.TheVariants.{PushA, PushAx, PushEax, AddYSp, SaveRegs, RestRegs, LdAxYSp, LdAi, LdAxi}
 use Rattle.c65_code.specs.declared.routine.Width.{Width}
 use Rattle.c65_code.specs.declared.routine.Width.TheVariants.{Ax, Eax}
 use Rattle.c65_code.specs.Weights.{lines_size}
@@ -19,11 +18,11 @@ use Rattle.c65_genwide.specs.Lines.{value, call}
 use Rattle.c65_genentry.specs.Words.{sp, tmp1, tmp2, ptr1, ptr2, regbank, implied, zero_page, by_y, branch}
 use Rattle.c65_genentry.specs.Stack.{count_of, raise_by, lower_by, small_raise, small_lower, repeated, raise_code, lower_code}
 use Rattle.c65_genentry.specs.Ends.{restored_code, plain_end, variadic_end, end_code}
-use Rattle.c65_genentry.specs.Entry.{push_of, pushed_code, bank_store, kept_code, saved_code, counted_code, count_code, near_load, far_load, load_code, moved_code, all_moved, taken_bytes, entry_code}
+use Rattle.c65_genentry.specs.Entry.{pushed_code, bank_store, kept_code, near_load, far_load, load_code, all_moved, taken_bytes, entry_code}
 use Rattle.c65_genentry.specs.Pointers as pointers
 use Rattle.c65_genentry.specs.Bytes.{page_code, pages_code, rest_code, block_code}
 use Rattle.c65_genentry.specs.Bytes as blocks
-use Rattle.c65_genentry.specs.Choice.{bits_of, test_code, case_code, choice_code}
+use Rattle.c65_genentry.specs.Choice.{bits_of, test_code, choice_code}
 use Rattle.c65_genload.specs.declared.places.Access.TheVariants.{Whole}
 use Rattle.c65_genload.specs.declared.places.Place.TheVariants as places
 use Rattle.c65_genload.specs.Stores.{store_code}
@@ -31,7 +30,7 @@ use Rattle.c65_genstmt.specs.declared.objects.Spot.{Spot}
 use Rattle.c65_genstmt.specs.declared.objects.Spot.TheVariants.{Bank, Soft, Data}
 use Rattle.c65_genstmt.specs.Objects.{point_code, stored_code}
 use Rattle.c65_genstmt.specs.Functions.{main_code}
-use Rattle.c65_genlaws.proofs.Made.{size-append, Piece}
+use Rattle.c65_genlaws.proofs.Made.{size-append}
 use Rattle.c65_genlaws.proofs.Pieces.{store_piece}
 
 -- lines of at most so many bytes

@@ -1,5 +1,5 @@
 -- An expression's lines leave what waits, and each call takes away what was passed to it.
-use Rattle.std.proofs.Common.{◌≡◌, ℕ, zero, suc, ◌+◌, ◌%◌, ◌==◌, Bool, true, false, Option, None, Some, ℤ, List, [], ◌∷◌, ◌++◌, refl, sym, ◌∙◌, ap, subst, arith}
+use Rattle.std.proofs.Common.{◌≡◌, ℕ, ◌+◌, ◌%◌, ◌==◌, Bool, true, false, Option, None, Some, List, [], ◌∷◌, ◌++◌, refl, sym, ◌∙◌, ap, subst, arith}
 use Rattle.std.specs.Prelude.{if◌then◌else◌}
 use Rattle.std.proofs.lemmas.Bool.{eq-eqb}
 use Rattle.c65_base.specs.declared.operators.BinaryOp.{BinaryOp}
@@ -17,28 +17,27 @@ use Rattle.c65_code.specs.declared.line.Line.TheVariants.{Label, Do, Call}
 use Rattle.c65_code.specs.declared.routine.Count.TheVariants.{Two as two_bytes}
 use Rattle.c65_code.specs.declared.routine.Routine.TheVariants.{IncSp, Library as library_routine}
 use Rattle.c65_code.specs.declared.routine.Width.TheVariants.{Ax}
-use Rattle.c65_frame.specs.Symbols.{numbers_of, literal_symbol, function_symbol}
+use Rattle.c65_frame.specs.Symbols.{numbers_of, function_symbol}
 use Rattle.c65_frame.specs.Frames.{Framed, type_bytes}
-use Rattle.c65_genwide.specs.Lines.{value}
-use Rattle.c65_genwide.specs.Wide.{width_of, narrow_code}
+use Rattle.c65_genwide.specs.Wide.{width_of}
 use Rattle.c65_genload.specs.declared.places.Place.{Place}
 use Rattle.c65_genload.specs.declared.places.Place.TheVariants as places
 use Rattle.c65_genload.specs.declared.places.Access.{Access}
 use Rattle.c65_genload.specs.Words.{branch}
 use Rattle.c65_genload.specs.Places.{held}
-use Rattle.c65_genload.specs.Conversions.{push_code, waiting}
+use Rattle.c65_genload.specs.Conversions.{waiting}
 use Rattle.c65_genexpr.specs.declared.operands.Operands.{Operands}
 use Rattle.c65_genexpr.specs.declared.operands.Operands.TheVariants.{Numbers, PointerFirst}
 use Rattle.c65_genexpr.specs.declared.arguments.Passed.{Passed}
 use Rattle.c65_genexpr.specs.Types.{kind_of, result_kind, kind_in, bare, offset_at, access_of, target_bytes}
-use Rattle.c65_genexpr.specs.Places.{more, moved, place_of, IsKnown}
-use Rattle.c65_genexpr.specs.Operands.{residue_of, operands_of, computes, is_short, short_of, between_code, behind_code, short_code, binary_by}
+use Rattle.c65_genexpr.specs.Places.{more, place_of, IsKnown}
+use Rattle.c65_genexpr.specs.Operands.{residue_of, operands_of, computes, is_short, short_of, binary_by}
 use Rattle.c65_genexpr.specs.Steps.{amount_of}
 use Rattle.c65_genexpr.specs.Arguments.{is_fast, is_counted, stays, passed_of, argument_code, reads_of, registers_of}
 use Rattle.c65_genexpr.specs.Arguments as arguments
-use Rattle.c65_genexpr.specs.Calls.{named, routine_of, count_code, fetch_code, result_code, library_at, named_by, named_code, pointer_code}
+use Rattle.c65_genexpr.specs.Calls.{named, routine_of, count_code, fetch_code, result_code, library_at, named_by, pointer_code}
 use Rattle.c65_genexpr.specs.Uses.{uses}
-use Rattle.c65_genexpr.specs.Code.{target_code, truth_code, test_in, behind_open, compound, call_by, expr_code, node_code, args_code}
+use Rattle.c65_genexpr.specs.Code.{target_code, behind_open, compound, call_by, expr_code, node_code, args_code}
 use Rattle.c65_genlaws.specs.Stack.{bytes_in, Waiting, waiting_by, taken, left, waits, argument_bytes, passed, unless_named, calls_of, node_calls, args_calls}
 use Rattle.c65_genlaws.specs.Laws.{ExpressionsKeepTheStack, CallsAreCounted}
 use Rattle.c65_genlaws.proofs.ExprLaws.{moved_known, no_short}

@@ -1,6 +1,6 @@
 -- The lines of statements leave what waits on the software stack.
 use Rattle.std.proofs.Common.{◌≡◌, ℕ, zero, suc, ◌+◌, ◌/◌, ◌%◌, ◌==◌, Bool, true, false, Some, ℤ, List, [], ◌∷◌, ◌++◌, length, refl, sym, ◌∙◌, ap}
-use Rattle.std.specs.Prelude.{if◌then◌else◌, nat_lt, nat_le, Option}
+use Rattle.std.specs.Prelude.{nat_lt, nat_le, Option}
 use Rattle.c65_csem.specs.Trees.{Typed, MaybeTyped, absent, present, Stmt, empty, eval, set_part, clear, block, if_stmt, while, do_while, for_loop, switch, case, default, label, goto, break, continue, return, Stmts, no_stmts, and_stmts}
 use Rattle.c65_csem.specs.Places.{is_tag}
 use Rattle.c65_csem.specs.Statements.{cases_of}
@@ -15,7 +15,6 @@ use Rattle.c65_frame.specs.Frames.{Framed, type_bytes}
 use Rattle.c65_genwide.specs.Lines.{value, with_lines}
 use Rattle.c65_genwide.specs.Wide.{width_of}
 use Rattle.c65_genload.specs.Conversions.{size_of}
-use Rattle.c65_genload.specs.Stores.{store_code}
 use Rattle.c65_genload.specs.declared.places.Access.{Access}
 use Rattle.c65_genload.specs.declared.places.Access.TheVariants.{Whole}
 use Rattle.c65_genload.specs.declared.places.Place.TheVariants as places
@@ -26,17 +25,17 @@ use Rattle.c65_genentry.specs.Words.{ptr1, ptr2, tmp1, tmp2, regbank, implied, z
 use Rattle.c65_genentry.specs.Bytes.{page_code, pages_code, rest_code, block_code, block_labels}
 use Rattle.c65_genentry.specs.Bytes as blocks
 use Rattle.c65_genentry.specs.Pointers as pointers
-use Rattle.c65_genentry.specs.Choice.{bits_of, test_code, case_code, choice_code}
+use Rattle.c65_genentry.specs.Choice.{bits_of, test_code, choice_code}
 use Rattle.c65_genstmt.specs.declared.jumps.Ways.{Ways}
 use Rattle.c65_genstmt.specs.declared.objects.Spot.{Spot}
 use Rattle.c65_genstmt.specs.declared.objects.Spot.TheVariants.{Bank, Soft, Data}
 use Rattle.c65_genstmt.specs.Jumps.{following, with_value, with_condition}
-use Rattle.c65_genstmt.specs.Objects.{spot_of, object_bytes, point_code, stored_code, with_copied, with_kept, with_set, with_zeros, with_cleared}
-use Rattle.c65_genstmt.specs.Stmts.{case_behind, with_label, with_jump, two_given, three_given, with_maybe, with_test, ways, default_way, with_choice, with_bottom, with_stmt, with_stmts}
+use Rattle.c65_genstmt.specs.Objects.{spot_of, object_bytes, point_code, stored_code, with_copied, with_kept, with_zeros}
+use Rattle.c65_genstmt.specs.Stmts.{case_behind, with_label, with_jump, two_given, three_given, with_maybe, with_test, ways, default_way, with_stmt, with_stmts}
 use Rattle.c65_genlaws.specs.Stack.{Waiting, waiting_by, waits, calls_of, maybe_calls, statement_calls, statements_calls}
 use Rattle.c65_genlaws.specs.Laws.{StatementsKeepTheStack}
 use Rattle.c65_genlaws.proofs.StackPieces.{waits_append, Leaves, leaves_then, leaves_none, leaves_if, Still, test_still, stored_leaves}
-use Rattle.c65_genlaws.proofs.StackLaws.{joined, nothing_more, expressions_keep_the_stack}
+use Rattle.c65_genlaws.proofs.StackLaws.{joined, expressions_keep_the_stack}
 
 -- between two drafts stand lines that leave what waits, by these calls
 record Keeps (cs : List (List ℕ)) (d e : Drafted) : Type 0 where

@@ -1,13 +1,12 @@
 -- The lines of statements: the labels that they put, and where they lead.
-use Rattle.std.proofs.Common.{◌≡◌, ℕ, zero, suc, ◌+◌, ◌*◌, ◌%◌, ◌<◌, ◌≤◌, ◌==◌, ◌⊎◌, inl, inr, Bool, true, false, Option, None, Some, ℤ, List, [], ◌∷◌, ◌++◌, length, refl, sym, ◌∙◌, ap, subst, arith}
+use Rattle.std.proofs.Common.{◌≡◌, ℕ, suc, ◌+◌, ◌%◌, ◌≤◌, Bool, true, false, ℤ, List, [], ◌∷◌, length, refl, sym, ap, arith}
 use Rattle.std.specs.Prelude.{if◌then◌else◌, Contains}
 use Rattle.std.specs.List.{list_all}
-use Rattle.std.proofs.lemmas.Bool.{and_from, cases_Bool}
+use Rattle.std.proofs.lemmas.Bool.{and_from}
 use Rattle.c65_csem.specs.Trees.{Typed, MaybeTyped, absent, present, Stmt, empty, eval, set_part, clear, block, if_stmt, while, do_while, for_loop, switch, case, default, label, goto, break, continue, return, Stmts, no_stmts, and_stmts, UnitTy}
 use Rattle.c65_csem.specs.Places.{is_tag}
 use Rattle.c65_csem.specs.Statements.{cases_of, defaults_of, Context, looping, switching, IsStmt, AreStmts}
-use Rattle.c65_mach.specs.declared.rows.Op.TheVariants.{Beq, Bne, Jmp, Sta, Stx}
-use Rattle.c65_mach.specs.declared.rows.Mode.TheVariants.{Relative}
+use Rattle.c65_mach.specs.declared.rows.Op.TheVariants.{Beq, Bne, Sta, Stx}
 use Rattle.c65_code.specs.declared.line.Line.{Line}
 use Rattle.c65_code.specs.declared.line.Line.TheVariants.{Label}
 use Rattle.c65_code.specs.declared.routine.Width.{Width}
@@ -20,23 +19,23 @@ use Rattle.c65_genload.specs.Conversions.{size_of}
 use Rattle.c65_genload.specs.declared.places.Access.TheVariants.{Whole}
 use Rattle.c65_genexpr.specs.Types.{kind_in, bare}
 use Rattle.c65_genentry.specs.Drafts.{with_labels}
-use Rattle.c65_genentry.specs.Words.{ptr1, ptr2, zero_page, branch, jump, with_code}
+use Rattle.c65_genentry.specs.Words.{ptr1, ptr2, zero_page, with_code}
 use Rattle.c65_genentry.specs.Bytes.{block_labels}
 use Rattle.c65_genentry.specs.Bytes as blocks
 use Rattle.c65_genentry.specs.Pointers as pointers
-use Rattle.c65_genentry.specs.Choice.{bits_of, word_test, long_test, test_code, case_code, choice_code}
+use Rattle.c65_genentry.specs.Choice.{bits_of, test_code, case_code, choice_code}
 use Rattle.c65_genstmt.specs.declared.jumps.Ways.{Ways}
 use Rattle.c65_genstmt.specs.declared.objects.Spot.{Spot}
 use Rattle.c65_genstmt.specs.declared.objects.Spot.TheVariants.{Bank, Soft, Data}
 use Rattle.c65_genstmt.specs.Jumps.{following, with_value, with_condition}
-use Rattle.c65_genstmt.specs.Objects.{spot_of, object_bytes, point_code, stored_code, with_copied, with_kept, with_set, with_zeros, with_cleared}
+use Rattle.c65_genstmt.specs.Objects.{spot_of, object_bytes, point_code, stored_code, with_copied, with_kept, with_set, with_zeros}
 use Rattle.c65_genstmt.specs.Cases.{has_default}
-use Rattle.c65_genstmt.specs.Stmts.{case_behind, with_label, with_jump, two_given, three_given, with_maybe, with_test, ways, default_way, with_choice, with_bottom, with_stmt, with_stmts}
+use Rattle.c65_genstmt.specs.Stmts.{case_behind, with_label, with_jump, two_given, three_given, with_maybe, with_test, ways, default_way, with_stmt, with_stmts}
 use Rattle.c65_genlaws.specs.Labels.{times, is_within, among}
 use Rattle.c65_genlaws.proofs.Made.{times-append, within, within_wider, among_inside, among_split, among_none, among_one, all_append}
-use Rattle.c65_genlaws.proofs.Flat.{Flat, Own, point_flat, stored_flat, bank_clear_flat, clear_own, copy_own}
-use Rattle.c65_genlaws.proofs.Puts.{one, below, below_next, below_more, one_same, Arrives, Covers, Puts, no_others, Free, Passes, puts_same, puts_then, puts_end, two_labels, three_labels, puts_flat, puts_label, puts_jump, puts_own, puts_value, puts_condition, arrives_append}
-use Rattle.c65_genlaws.proofs.Others.{names, names_in, others, others_in, laid, times_one, others_are, laid_among, few_defaults, default_counts, some_default}
+use Rattle.c65_genlaws.proofs.Flat.{Flat, point_flat, stored_flat, bank_clear_flat, clear_own, copy_own}
+use Rattle.c65_genlaws.proofs.Puts.{one, below_next, below_more, one_same, Puts, no_others, Free, Passes, puts_same, puts_then, puts_end, two_labels, three_labels, puts_flat, puts_label, puts_jump, puts_own, puts_value, puts_condition, arrives_append}
+use Rattle.c65_genlaws.proofs.Others.{names, others, others_in, laid, others_are, laid_among, few_defaults, default_counts, some_default}
 
 -- ---- objects
 
