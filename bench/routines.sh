@@ -2,7 +2,7 @@
 # Prints what the routines of the runtime take: for each its bytes and its cycles on one state, the call's six and those of
 # RTS counted, and beside them those of cc65's routine of that name, where cc65 is installed.
 # The proved program c65_costs is built first where there is none. cc65's bytes are those that a first call adds to a
-# program that has none, less the call's three; its cycles are by sim65.
+# program that has none, less the call's three: 0 where every program has the routine. Its cycles are by sim65.
 set -eu
 
 top=$(CDPATH='' cd -- "$(dirname -- "$0")/.." && pwd -P)

@@ -24,6 +24,8 @@ use Rattle.c65_rtlrows.proofs.ArithmeticWords.{tosaddax, tossubax, tosandax, tos
 use Rattle.c65_rtlrows.proofs.ArithmeticLongs.{tosaddeax, tossubeax, tosandeax, tosoreax, tosxoreax}
 use Rattle.c65_rtlrows.proofs.OrderWords.{toseqax, tosneax, tosltax, tosleax, tosgtax, tosgeax, tosultax, tosuleax, tosugtax, tosugeax}
 use Rattle.c65_rtlrows.proofs.OrderLongs.{toseqeax, tosneeax, toslteax, tosleeax, tosgteax, tosgeeax, tosulteax, tosuleeax, tosugteax, tosugeeax}
+use Rattle.c65_rtlrows.proofs.ShiftWords.{tosshlax, tosshrax, tosasrax}
+use Rattle.c65_rtlrows.proofs.ShiftLongs.{tosshleax, tosshreax, tosasreax}
 
 none_shown : IsTrue false → ⊥
 none_shown h = cc
@@ -52,9 +54,9 @@ operator_of_words s tos.Div shown has = absurd (none_shown shown)
 operator_of_words s tos.Mod shown has = absurd (none_shown shown)
 operator_of_words s tos.UDiv shown has = absurd (none_shown shown)
 operator_of_words s tos.UMod shown has = absurd (none_shown shown)
-operator_of_words s tos.Shl shown has = absurd (none_shown shown)
-operator_of_words s tos.Shr shown has = absurd (none_shown shown)
-operator_of_words s tos.Asr shown has = absurd (none_shown shown)
+operator_of_words s tos.Shl shown has = tosshlax s has
+operator_of_words s tos.Shr shown has = tosshrax s has
+operator_of_words s tos.Asr shown has = tosasrax s has
 
 operator_of_longs : (s : RawSetting) (op : TosOp) → IsTrue (is_shown (routines.Tos op Eax)) → s.lines (s.routine (routines.Tos op Eax)) ≡ lines_of (routines.Tos op Eax) → MeetsRow s (routines.Tos op Eax)
 operator_of_longs s tos.Add shown has = tosaddeax s has
@@ -77,9 +79,9 @@ operator_of_longs s tos.Div shown has = absurd (none_shown shown)
 operator_of_longs s tos.Mod shown has = absurd (none_shown shown)
 operator_of_longs s tos.UDiv shown has = absurd (none_shown shown)
 operator_of_longs s tos.UMod shown has = absurd (none_shown shown)
-operator_of_longs s tos.Shl shown has = absurd (none_shown shown)
-operator_of_longs s tos.Shr shown has = absurd (none_shown shown)
-operator_of_longs s tos.Asr shown has = absurd (none_shown shown)
+operator_of_longs s tos.Shl shown has = tosshleax s has
+operator_of_longs s tos.Shr shown has = tosshreax s has
+operator_of_longs s tos.Asr shown has = tosasreax s has
 
 pub rows_are_met : RowsAreMet
 rows_are_met s routines.PushA shown has = pusha s has
@@ -155,9 +157,12 @@ narrow tos.Div width shown = absurd (none_shown shown)
 narrow tos.Mod width shown = absurd (none_shown shown)
 narrow tos.UDiv width shown = absurd (none_shown shown)
 narrow tos.UMod width shown = absurd (none_shown shown)
-narrow tos.Shl width shown = absurd (none_shown shown)
-narrow tos.Shr width shown = absurd (none_shown shown)
-narrow tos.Asr width shown = absurd (none_shown shown)
+narrow tos.Shl Ax shown = refl
+narrow tos.Shl Eax shown = refl
+narrow tos.Shr Ax shown = refl
+narrow tos.Shr Eax shown = refl
+narrow tos.Asr Ax shown = refl
+narrow tos.Asr Eax shown = refl
 
 pub shown_are_narrow : (r : Routine) → IsTrue (is_shown r) → IsTrue (is_narrow r)
 shown_are_narrow routines.PushA shown = refl

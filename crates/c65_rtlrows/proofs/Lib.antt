@@ -21,4 +21,8 @@ pub mod Comparisons
 pub mod Orders
 pub mod OrderWords
 pub mod OrderLongs
+pub mod Rounds
+pub mod Shifting
+pub mod ShiftWords
+pub mod ShiftLongs
 pub mod AllRows

@@ -1,6 +1,8 @@
 -- That the lines of a routine do what its row says (docs/MACHINE.md, "Routines").
-use Rattle.std.specs.Prelude.{◌≡◌, ℕ, suc, ◌-◌, ◌<◌, ◌≤◌, Bool, IsTrue, Some, None}
+use Rattle.std.specs.Prelude.{◌≡◌, ℕ, suc, ◌-◌, ◌<◌, ◌≤◌, ◌||◌, Bool, true, false, IsTrue, Some, None}
 use Rattle.c65_code.specs.declared.routine.Routine.{Routine}
+use Rattle.c65_code.specs.declared.routine.Routine.TheVariants as routines
+use Rattle.c65_code.specs.declared.routine.TosOp.TheVariants as tos
 use Rattle.c65_code.specs.LineState.{Place, State, sp_of, s_of, IsBytes}
 use Rattle.c65_code.specs.declared.code.Code.{Code}
 use Rattle.c65_code.specs.Placement.{Placement, IsPlacement, program_start, stack_start, stack_end}
@@ -37,9 +39,16 @@ pub record Runs (s : RawSetting) (r : Routine) (row : Row) (back : Place) (t : S
 abbrev pub MeetsRow : RawSetting → Routine → Type 0
 MeetsRow s r = (row : Row) (back : Place) (t : State) → row_of r t ≡ Some row → MayRun s row t → Runs s r row back t
 
--- the routines for which this is shown: those without loops and calls
+-- the shifts, whose loop turns once for each bit
+abbrev pub is_shift : Routine → Bool
+is_shift (routines.Tos tos.Shl width) = true
+is_shift (routines.Tos tos.Shr width) = true
+is_shift (routines.Tos tos.Asr width) = true
+is_shift _ = false
+
+-- the routines for which this is shown: those without loops and calls, and the shifts
 abbrev pub is_shown : Routine → Bool
-is_shown r = is_straight r
+is_shown r = is_straight r || is_shift r
 
 -- wherever the routine's lines stand under its number
 abbrev pub RowsAreMet : Type 0

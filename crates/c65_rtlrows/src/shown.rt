@@ -8,14 +8,13 @@ use c65_code::{Routine, Seg, TosOp};
 use c65_rtl::routine;
 use std::alloc::Global;
 
-/// Whether the routine's lines are shown to meet its row: it has no loops and calls nothing.
+/// Whether the routine's lines are shown to meet its row: it has no loops and calls nothing, or is a shift.
 pub fn is_shown(which: Routine) -> bool
     ensures { result ≡ is_shown which }
 {
     match which {
         Routine::Tos(TosOp::Mul | TosOp::Div | TosOp::Mod, _) => false,
         Routine::Tos(TosOp::UDiv | TosOp::UMod, _) => false,
-        Routine::Tos(TosOp::Shl | TosOp::Shr | TosOp::Asr, _) => false,
         Routine::CopyTos | Routine::Start | Routine::StartArgs | Routine::Library(_) => false,
         Routine::HookOpen | Routine::HookClose | Routine::HookRead => false,
         Routine::HookWrite | Routine::HookArgs | Routine::HookExit => false,
