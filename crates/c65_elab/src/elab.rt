@@ -1,7 +1,20 @@
 // From syntax trees to types and typed trees: the walk, part by part in the order of the source.
+ghost use Rattle.std.specs.Prelude.{map};
+ghost use Rattle.c65_base.specs.Answers.{Gives};
+ghost use Rattle.c65_ctype.specs.Views.{qty_of, field_of};
+ghost use Rattle.c65_csem.specs.Views.{typed_of, nodes_of};
+ghost use Rattle.c65_declare.specs.Declarators.{part_of, formal_of, formals_of};
+ghost use Rattle.c65_declare.specs.Drafts.{draft_of};
+ghost use Rattle.c65_scope.specs.Scopes.{scope_of};
+ghost use Rattle.c65_tree.specs.Optional.{maybe_expr, maybe_declarator};
+ghost use Rattle.c65_tree.specs.Trees.{no_exprs, no_specifiers, no_more_enumerators, no_member_decls, no_more_members, no_more_params};
+ghost use Rattle.c65_tree.specs.View.{expr_of, exprs_from, type_of, specifiers_of, specifier_of, specifiers_from, enumerators_from, member_decls_from, members_from, declarator_of, params_of, params_from};
+ghost use Rattle.c65_elab.specs.Items.{enumerator_of, fields_of, a_member_of, parameter_of};
+ghost use Rattle.c65_elab.specs.Typing.{typed, typed_list, value_in, type_named, specified, drafted, specifier_in, enumerators_in, fields_in, members_in, member_in, parts_in, formals_in, prototype_in};
 
-use crate::constants::value_at;
-use crate::lists::{is_single, is_sole};
+use crate::blocks::{leave, object_count};
+use crate::constants::{value_at, value_of};
+use crate::lists::{is_first, is_single, is_sole};
 use crate::names::{declare_first, literal, named, typedef_type};
 use crate::operators::{assigning, on_place};
 use c65_base::{Code, Name, Refusal};
@@ -26,7 +39,9 @@ use std::alloc::Global;
 
 /// The typed tree of an expression (C90 6.3).
 #[cycle(elab)]
-pub fn expression(alloc: Global, scope: &mut Scope, expr: &Expr) -> Result<TExpr, Refusal> {
+pub fn expression(alloc: Global, scope: &mut Scope, expr: &Expr) -> Result<TExpr, Refusal>
+    ensures { Gives (λ e. (typed_of e, scope_of scope.new)) result (typed (expr_of expr.now) (scope_of scope.old)) }
+{
     let pos = expr.pos;
     match &expr.kind {
         ExprKind::Name(name) => named(alloc, scope, *name, pos),
@@ -108,7 +123,9 @@ pub fn expression(alloc: Global, scope: &mut Scope, expr: &Expr) -> Result<TExpr
 
 /// The typed trees of arguments.
 #[cycle(elab)]
-fn expressions(alloc: Global, scope: &mut Scope, list: &[Expr]) -> Result<Vec<TExpr>, Refusal> {
+fn expressions(alloc: Global, scope: &mut Scope, list: &[Expr]) -> Result<Vec<TExpr>, Refusal>
+    ensures { Gives (λ v. (nodes_of v.items, scope_of scope.new)) result (typed_list (exprs_from no_exprs list.now) (scope_of scope.old)) }
+{
     let mut typed = Vec::new(alloc);
     for expr in list {
         let e = expression(alloc, scope, expr)?;
@@ -119,7 +136,9 @@ fn expressions(alloc: Global, scope: &mut Scope, list: &[Expr]) -> Result<Vec<TE
 
 /// The value of a constant expression, if there is one (C90 6.4).
 #[cycle(elab)]
-fn value_in(alloc: Global, scope: &mut Scope, expr: &Option<Expr>) -> Result<Option<i64>, Refusal> {
+fn value_in(alloc: Global, scope: &mut Scope, expr: &Option<Expr>) -> Result<Option<i64>, Refusal>
+    ensures { Gives (λ z. (z, scope_of scope.new)) result (value_in (maybe_expr expr.now) (scope_of scope.old)) }
+{
     match expr {
         None => Ok(None),
         Some(expr) => {
@@ -131,7 +150,9 @@ fn value_in(alloc: Global, scope: &mut Scope, expr: &Option<Expr>) -> Result<Opt
 
 /// The type of a type name (C90 6.5.5).
 #[cycle(elab)]
-fn type_name(alloc: Global, scope: &mut Scope, name: &TypeName) -> Result<QType, Refusal> {
+fn type_name(alloc: Global, scope: &mut Scope, name: &TypeName) -> Result<QType, Refusal>
+    ensures { Gives (λ q. (qty_of q, scope_of scope.new)) result (type_named (type_of name.now) (scope_of scope.old)) }
+{
     let (_, base) = specifiers(alloc, scope, &name.specifiers, false)?;
     let (_, list) = parts(alloc, scope, &name.declarator, false)?;
     shaped(alloc, scope.types(), &base, &name.declarator, &list)
@@ -144,7 +165,9 @@ pub fn specifiers(
     scope: &mut Scope,
     list: &Specifiers,
     alone: bool,
-) -> Result<(Option<Storage>, QType), Refusal> {
+) -> Result<(Option<Storage>, QType), Refusal>
+    ensures { Gives (λ x. ((x.0, qty_of x.1), scope_of scope.new)) result (specified (specifiers_of list.now) alone (scope_of scope.old)) }
+{
     let sole = is_sole(alone, &list.items);
     let draft = drafted(alloc, scope, &list.items, sole)?;
     draft.finish(scope.plain_char(), alone, list.pos)
@@ -157,7 +180,9 @@ fn drafted(
     scope: &mut Scope,
     items: &[Specifier],
     sole: bool,
-) -> Result<Draft, Refusal> {
+) -> Result<Draft, Refusal>
+    ensures { Gives (λ d. (draft_of d, scope_of scope.new)) result (drafted (specifiers_from no_specifiers items.now) sole (scope_of scope.old)) }
+{
     let mut draft = Draft::new();
     for item in items {
         draft = specifier(alloc, scope, item, draft, sole)?;
@@ -173,7 +198,9 @@ fn specifier(
     item: &Specifier,
     draft: Draft,
     sole: bool,
-) -> Result<Draft, Refusal> {
+) -> Result<Draft, Refusal>
+    ensures { Gives (λ d. (draft_of d, scope_of scope.new)) result (specifier_in (specifier_of item.now) (draft_of draft) sole (scope_of scope.old)) }
+{
     let pos = item.pos;
     match &item.kind {
         SpecifierKind::Storage(storage) => draft.with_storage(*storage, pos),
@@ -194,32 +221,38 @@ fn specifier(
             let ty = typedef_type(alloc, scope, *name, pos)?;
             draft.with_type(ty, false, pos)
         }
-        SpecifierKind::Tagged(is_union, name, None) => {
-            let tag = named_tag(scope, *is_union, *name, sole, pos)?;
-            draft.with_type(tag_type(tag), name.is_some(), pos)
-        }
-        SpecifierKind::Tagged(is_union, name, Some(members)) => {
-            let tag = begun_tag(scope, *is_union, *name, pos)?;
-            let fields = fields(alloc, scope, members)?;
-            scope.finish_tag(tag, fields, pos)?;
-            draft.with_type(tag_type(tag), name.is_some(), pos)
-        }
-        SpecifierKind::Enum(name, None) => {
-            let ty = named_enumeration(scope, *name, pos)?;
-            draft.with_type(ty, true, pos)
-        }
-        SpecifierKind::Enum(name, Some(list)) => {
-            begin_enumeration(scope, *name, pos)?;
-            enumerators(alloc, scope, list)?;
-            draft.with_type(int_type(IntType::Int), true, pos)
-        }
+        SpecifierKind::Tagged(is_union, name, members) => match members {
+            None => {
+                let tag = named_tag(scope, *is_union, *name, sole, pos)?;
+                draft.with_type(tag_type(tag), name.is_some(), pos)
+            }
+            Some(list) => {
+                let tag = begun_tag(scope, *is_union, *name, pos)?;
+                let fields = fields(alloc, scope, list)?;
+                scope.finish_tag(tag, fields, pos)?;
+                draft.with_type(tag_type(tag), name.is_some(), pos)
+            }
+        },
+        SpecifierKind::Enum(name, given) => match given {
+            None => {
+                let ty = named_enumeration(scope, *name, pos)?;
+                draft.with_type(ty, true, pos)
+            }
+            Some(list) => {
+                begin_enumeration(scope, *name, pos)?;
+                enumerators(alloc, scope, list)?;
+                draft.with_type(int_type(IntType::Int), true, pos)
+            }
+        },
     }
 }
 
 /// Declares enumeration constants, each one more than that before it where it has no value of its
 /// own (C90 6.5.2.2), and gives one more than the last.
 #[cycle(elab)]
-fn enumerators(alloc: Global, scope: &mut Scope, list: &[Enumerator]) -> Result<i64, Refusal> {
+fn enumerators(alloc: Global, scope: &mut Scope, list: &[Enumerator]) -> Result<i64, Refusal>
+    ensures { Gives (λ z. (z, scope_of scope.new)) result (enumerators_in (enumerators_from no_more_enumerators list.now) (scope_of scope.old)) }
+{
     let mut next: i64 = 0;
     for item in list {
         next = enumerator(alloc, scope, item, next)?;
@@ -235,7 +268,9 @@ fn enumerator(
     scope: &mut Scope,
     item: &Enumerator,
     next: i64,
-) -> Result<i64, Refusal> {
+) -> Result<i64, Refusal>
+    ensures { Gives (λ z. (z, scope_of scope.new)) result (enumerator_of item.now next (scope_of scope.old)) }
+{
     let given = value_in(alloc, scope, &item.value)?;
     let value = enumerator_value(given.unwrap_or(next), item.pos)?;
     scope.declare_enumerator(item.name, value, item.pos)?;
@@ -244,7 +279,9 @@ fn enumerator(
 
 /// The members of a structure or union (C90 6.5.2.1).
 #[cycle(elab)]
-fn fields(alloc: Global, scope: &mut Scope, list: &[MemberDecl]) -> Result<Vec<Field>, Refusal> {
+fn fields(alloc: Global, scope: &mut Scope, list: &[MemberDecl]) -> Result<Vec<Field>, Refusal>
+    ensures { Gives (λ v. (map field_of v.items, scope_of scope.new)) result (fields_in (member_decls_from no_member_decls list.now) (scope_of scope.old)) }
+{
     let mut all = Vec::new(alloc);
     for item in list {
         all = and_fields(alloc, scope, item, all)?;
@@ -259,7 +296,9 @@ fn and_fields(
     scope: &mut Scope,
     item: &MemberDecl,
     fields: Vec<Field>,
-) -> Result<Vec<Field>, Refusal> {
+) -> Result<Vec<Field>, Refusal>
+    ensures { Gives (λ v. (map field_of v.items, scope_of scope.new)) result (fields_of item.now (map field_of fields.items) (scope_of scope.old)) }
+{
     let (_, base) = specifiers(alloc, scope, &item.specifiers, false)?;
     let signed = is_signed(&item.specifiers);
     members(alloc, scope, &item.declarators, fields, &base, signed)
@@ -274,7 +313,9 @@ fn members(
     fields: Vec<Field>,
     base: &QType,
     signed: bool,
-) -> Result<Vec<Field>, Refusal> {
+) -> Result<Vec<Field>, Refusal>
+    ensures { Gives (λ v. (map field_of v.items, scope_of scope.new)) result (members_in (members_from no_more_members list.now) (map field_of fields.items) (qty_of base.now) signed (scope_of scope.old)) }
+{
     let mut all = fields;
     for item in list {
         let field = a_member(alloc, scope, item, base, signed)?;
@@ -291,7 +332,9 @@ fn a_member(
     item: &MemberDeclarator,
     base: &QType,
     signed: bool,
-) -> Result<Field, Refusal> {
+) -> Result<Field, Refusal>
+    ensures { Gives (λ f. (field_of f, scope_of scope.new)) result (a_member_of item.now (qty_of base.now) signed (scope_of scope.old)) }
+{
     let (name, ty) = member_type(alloc, scope, &item.declarator, base)?;
     let width = value_in(alloc, scope, &item.width)?;
     field(name, ty, signed, width, item.pos)
@@ -304,7 +347,9 @@ fn member_type(
     scope: &mut Scope,
     item: &Option<Declarator>,
     base: &QType,
-) -> Result<(Option<Name>, QType), Refusal> {
+) -> Result<(Option<Name>, QType), Refusal>
+    ensures { Gives (λ x. ((x.0, qty_of x.1), scope_of scope.new)) result (member_in (maybe_declarator item.now) (qty_of base.now) (scope_of scope.old)) }
+{
     match item {
         None => Ok((None, base.copy(alloc)?)),
         Some(item) => {
@@ -323,7 +368,9 @@ pub fn parts(
     scope: &mut Scope,
     item: &Declarator,
     defines: bool,
-) -> Result<(Option<Name>, Vec<Part>), Refusal> {
+) -> Result<(Option<Name>, Vec<Part>), Refusal>
+    ensures { Gives (λ x. ((x.0, map part_of x.1.items), scope_of scope.new)) result (parts_in (declarator_of item.now) defines (scope_of scope.old)) }
+{
     let pos = item.pos;
     match &item.kind {
         DeclaratorKind::Abstract => Ok((None, Vec::new(alloc))),
@@ -344,13 +391,14 @@ pub fn parts(
         DeclaratorKind::Array(inner, Some(size)) => {
             let (name, before) = parts(alloc, scope, inner, defines)?;
             let e = expression(alloc, scope, size)?;
-            let size = array_count(value_at(&e, size.pos)?, pos)?;
+            let value = value_of(&e, size)?;
+            let size = array_count(value, pos)?;
             let all = with_part(before, Part::Array(Some(size), pos))?;
             Ok((name, all))
         }
         DeclaratorKind::Function(inner, params) => {
             let (name, before) = parts(alloc, scope, inner, defines)?;
-            let stays = defines && before.is_empty();
+            let stays = defines && is_first(&before);
             let formals = formals(alloc, scope, params, stays)?;
             let all = with_part(before, Part::Function(formals, pos))?;
             Ok((name, all))
@@ -366,19 +414,18 @@ fn formals(
     scope: &mut Scope,
     params: &Params,
     stays: bool,
-) -> Result<Formals, Refusal> {
+) -> Result<Formals, Refusal>
+    ensures { Gives (λ x. (formals_of x, scope_of scope.new)) result (formals_in (params_of params.now) stays (scope_of scope.old)) }
+{
     match params {
         Params::Empty => Ok(Formals::Unknown),
         Params::Names(names) => Ok(Formals::Names(Vec::from_slice(alloc, names)?)),
         Params::Types(list, variadic) => {
+            let objects = object_count(scope);
             scope.open()?;
-            let objects = scope.parts().objects.len();
             let sole = is_single(list, *variadic);
             let (formals, _) = prototype(alloc, scope, list, sole)?;
-            if !stays {
-                scope.close();
-                scope.keep_objects(objects);
-            }
+            leave(scope, stays, objects);
             Ok(Formals::Types(without_void(alloc, formals), *variadic))
         }
     }
@@ -391,7 +438,9 @@ fn prototype(
     scope: &mut Scope,
     params: &[Param],
     sole: bool,
-) -> Result<(Vec<Formal>, u32), Refusal> {
+) -> Result<(Vec<Formal>, u32), Refusal>
+    ensures { Gives (λ x. ((map formal_of x.0.items, x.1), scope_of scope.new)) result (prototype_in (params_from no_more_params params.now) sole (scope_of scope.old)) }
+{
     let mut formals = Vec::new(alloc);
     let mut bytes: u32 = 0;
     for param in params {
@@ -404,12 +453,9 @@ fn prototype(
 
 /// One parameter.
 #[cycle(elab)]
-fn parameter(
-    alloc: Global,
-    scope: &mut Scope,
-    param: &Param,
-    sole: bool,
-) -> Result<Formal, Refusal> {
+fn parameter(alloc: Global, scope: &mut Scope, param: &Param, sole: bool) -> Result<Formal, Refusal>
+    ensures { Gives (λ f. (formal_of f, scope_of scope.new)) result (parameter_of param.now sole (scope_of scope.old)) }
+{
     let item = &param.declarator;
     let (storage, base) = specifiers(alloc, scope, &param.specifiers, false)?;
     let is_register = param_storage(storage, &param.specifiers)?;

@@ -2,6 +2,7 @@
 //! (C90 6.3 to 6.5).
 #![tactic(auto)]
 
+mod blocks;
 mod constants;
 mod elab;
 mod lists;

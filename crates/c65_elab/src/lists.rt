@@ -1,6 +1,8 @@
-// Lists of one item.
-ghost use Rattle.std.specs.Prelude.{◌≡◌, ◌&&◌, ◌==◌, not, length};
+// Lists of one item, and of none.
+ghost use Rattle.std.specs.Prelude.{◌≡◌, ◌&&◌, ◌==◌, not, length, map};
+ghost use Rattle.c65_declare.specs.Declarators.{part_of};
 
+use c65_declare::Part;
 use c65_tree::{Param, Specifier};
 
 /// Whether no declarator follows, and there is one specifier.
@@ -15,4 +17,12 @@ pub fn is_single(params: &[Param], variadic: bool) -> bool
     ensures { result ≡ ((length params.now == 1) && not variadic) }
 {
     params.len() == 1 && !variadic
+}
+
+/// Whether no part stands before.
+#[tactic(auto, using(crate::proofs::Parts::parts_many))]
+pub fn is_first(parts: &[Part]) -> bool
+    ensures { result ≡ (length (map part_of parts.now) == 0) }
+{
+    parts.is_empty()
 }

@@ -1,4 +1,14 @@
 // What the crate gives.
+ghost use Rattle.c65_base.specs.Answers.{Gives};
+ghost use Rattle.c65_ctype.specs.Views.{qty_of};
+ghost use Rattle.c65_csem.specs.Views.{typed_of};
+ghost use Rattle.c65_declare.specs.Headings.{heading_of};
+ghost use Rattle.c65_scope.specs.Scopes.{scope_of};
+ghost use Rattle.c65_tree.specs.View.{expr_of, specifiers_of, declarator_of};
+ghost use Rattle.c65_elab.specs.Headings.{declarator_in, headed};
+ghost use Rattle.c65_elab.specs.Typing.{typed, specified};
+
+use crate::blocks::{end_names, object_count};
 use crate::elab::{expression, parts, specifiers};
 use c65_base::{Name, Refusal};
 use c65_csem::TExpr;
@@ -15,7 +25,9 @@ pub fn elab_specifiers(
     scope: &mut Scope,
     list: &Specifiers,
     alone: bool,
-) -> Result<(Option<Storage>, QType), Refusal> {
+) -> Result<(Option<Storage>, QType), Refusal>
+    ensures { Gives (λ x. ((x.0, qty_of x.1), scope_of scope.new)) result (specified (specifiers_of list.now) alone (scope_of scope.old)) }
+{
     specifiers(alloc, scope, list, alone)
 }
 
@@ -25,19 +37,12 @@ pub fn elab_declarator(
     scope: &mut Scope,
     base: &QType,
     item: &Declarator,
-) -> Result<(Option<Name>, QType), Refusal> {
+) -> Result<(Option<Name>, QType), Refusal>
+    ensures { Gives (λ x. ((x.0, qty_of x.1), scope_of scope.new)) result (declarator_in (qty_of base.now) (declarator_of item.now) (scope_of scope.old)) }
+{
     let (name, list) = parts(alloc, scope, item, false)?;
     let ty = shaped(alloc, scope.types(), base, item, &list)?;
     Ok((name, ty))
-}
-
-/// Ends the block of a definition's parameters for ordinary identifiers: their tags stay for the
-/// function's body, which is the next block.
-fn end_names(scope: &mut Scope, block: u32) {
-    if scope.block > block {
-        scope.names.close(scope.block);
-        scope.block = block;
-    }
 }
 
 /// The name, the type and the parameters of a function that is defined by this declarator (C90
@@ -49,9 +54,11 @@ pub fn elab_heading(
     scope: &mut Scope,
     base: &QType,
     item: &Declarator,
-) -> Result<Heading, Refusal> {
+) -> Result<Heading, Refusal>
+    ensures { Gives (λ h. (heading_of h, scope_of scope.new)) result (headed (qty_of base.now) (declarator_of item.now) (scope_of scope.old)) }
+{
     let block = scope.block;
-    let objects = scope.parts().objects.len();
+    let objects = object_count(scope);
     let (name, list) = parts(alloc, scope, item, true)?;
     end_names(scope, block);
     scope.keep_objects(objects);
@@ -60,6 +67,8 @@ pub fn elab_heading(
 }
 
 /// The typed tree of an expression.
-pub fn elab_expr(alloc: Global, scope: &mut Scope, expr: &Expr) -> Result<TExpr, Refusal> {
+pub fn elab_expr(alloc: Global, scope: &mut Scope, expr: &Expr) -> Result<TExpr, Refusal>
+    ensures { Gives (λ e. (typed_of e, scope_of scope.new)) result (typed (expr_of expr.now) (scope_of scope.old)) }
+{
     expression(alloc, scope, expr)
 }
