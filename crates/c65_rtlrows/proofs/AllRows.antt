@@ -24,8 +24,12 @@ use Rattle.c65_rtlrows.proofs.ArithmeticWords.{tosaddax, tossubax, tosandax, tos
 use Rattle.c65_rtlrows.proofs.ArithmeticLongs.{tosaddeax, tossubeax, tosandeax, tosoreax, tosxoreax}
 use Rattle.c65_rtlrows.proofs.OrderWords.{toseqax, tosneax, tosltax, tosleax, tosgtax, tosgeax, tosultax, tosuleax, tosugtax, tosugeax}
 use Rattle.c65_rtlrows.proofs.OrderLongs.{toseqeax, tosneeax, toslteax, tosleeax, tosgteax, tosgeeax, tosulteax, tosuleeax, tosugteax, tosugeeax}
-use Rattle.c65_rtlrows.proofs.ShiftWords.{tosshlax, tosshrax, tosasrax}
-use Rattle.c65_rtlrows.proofs.ShiftLongs.{tosshleax, tosshreax, tosasreax}
+use Rattle.c65_rtlrows.proofs.ShiftWordUp.{tosshlax}
+use Rattle.c65_rtlrows.proofs.ShiftWordDown.{tosshrax}
+use Rattle.c65_rtlrows.proofs.ShiftWordSigned.{tosasrax}
+use Rattle.c65_rtlrows.proofs.ShiftLongUp.{tosshleax}
+use Rattle.c65_rtlrows.proofs.ShiftLongDown.{tosshreax}
+use Rattle.c65_rtlrows.proofs.ShiftLongSigned.{tosasreax}
 
 none_shown : IsTrue false → ⊥
 none_shown h = cc

@@ -23,6 +23,12 @@ pub mod OrderWords
 pub mod OrderLongs
 pub mod Rounds
 pub mod Shifting
-pub mod ShiftWords
-pub mod ShiftLongs
+pub mod ShiftWordPieces
+pub mod ShiftWordUp
+pub mod ShiftWordDown
+pub mod ShiftWordSigned
+pub mod ShiftLongPieces
+pub mod ShiftLongUp
+pub mod ShiftLongDown
+pub mod ShiftLongSigned
 pub mod AllRows
