@@ -14,7 +14,7 @@ fn has_fault(alloc: Global, text: &str, code: Code, line: u32) -> Result<bool, R
 
 #[test]
 fn forms_are_refused(rt: HostRuntime) -> Result<(), Fail> {
-    let texts: [&str; 33] = [
+    let texts: [&str; 49] = [
         "\n#3",
         "\n# 'a'",
         "\n#define",
@@ -48,6 +48,22 @@ fn forms_are_refused(rt: HostRuntime) -> Result<(), Fail> {
         "\n#line 1 2",
         "\n#line 1 \"a\" b",
         "\n#line 1 L\"a\"",
+        "\n#line 1 <a>",
+        "\n#line 1.5",
+        "\n#line -1",
+        "\n#line 99999999999999999999",
+        "\n#\"a\"",
+        "\n#define \"a\"",
+        "\n#define f(,) x",
+        "\n#define f(a,,b) x",
+        "\n#define f(a\n)",
+        "\n#undef f(a)",
+        "\n#include b.h",
+        "\n#include 'b.h'",
+        "\n#include <b.h> x",
+        "\n#define l <\n#include l",
+        "\n#ifndef 3",
+        "\n#ifndef a b",
     ];
     for text in texts {
         let code = if text.ends_with("/*") {
@@ -55,7 +71,8 @@ fn forms_are_refused(rt: HostRuntime) -> Result<(), Fail> {
         } else {
             Code::DirectiveForm
         };
-        assert!(rt; has_fault(rt.alloc(), text, code, 2)?, "{text}");
+        let line = if text.ends_with(" l") { 3 } else { 2 };
+        assert!(rt; has_fault(rt.alloc(), text, code, line)?, "{text}");
     }
     Ok(())
 }

@@ -12,7 +12,7 @@ fn gives(alloc: Global, text: &str, expected: &str) -> Result<bool, Refusal> {
 
 #[test]
 fn texts_give_tokens(rt: HostRuntime) -> Result<(), Fail> {
-    let rows: [(&str, &str); 20] = [
+    let rows: [(&str, &str); 26] = [
         ("#define x (4+x)\nx\n", "( 4 + x )"),
         (
             "#define s(a) #a\n#define t(a) s(a)\n#define q 1\ns(q)\nt(q)\n",
@@ -45,6 +45,21 @@ fn texts_give_tokens(rt: HostRuntime) -> Result<(), Fail> {
         ("#define f(a) a __LINE__\nf(\n__LINE__\n)", "3 2"),
         ("#pragma once @ '\n#define u\n#undef u\n#undef v\nu", "u"),
         ("#define f(a) a\n#define g f(1\n#pragma x\nf(2)", "2"),
+        (
+            "#if 0\n#elif 0\na\n#elif 1\nb\n#elif 1/0\nc\n#else\nd\n#endif",
+            "b",
+        ),
+        (
+            "#if 0\n#if 1/0\n'\n#elif (\n#endif\n#include 3\n#define 3\n#line x\n#error\n#else\na\n#endif",
+            "a",
+        ),
+        (
+            "#define f(a, b) __LINE__ a b __LINE__\nf(__LINE__,\n\n__LINE__)",
+            "2 2 4 2",
+        ),
+        ("#define x \\\n __LINE__\nx \\\n x\n__LINE__", "3 4 5"),
+        ("#li\\\nne 1\\\n0\n__LINE__", "10"),
+        ("a\r\n#define b c\r\nb", "a c"),
     ];
     for (text, expected) in rows {
         assert!(rt; gives(rt.alloc(), text, expected)?, "{text}");
