@@ -1,0 +1,13 @@
+//! Tests of the typing of whole texts: each fault of the typing walk at its line, the limits, and C90's conversions.
+#![tactic(auto)]
+
+#[cfg(test)]
+mod conversions;
+#[cfg(test)]
+mod faults;
+#[cfg(test)]
+mod front;
+#[cfg(test)]
+mod limits;
+#[cfg(test)]
+mod trees;
