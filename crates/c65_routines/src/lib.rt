@@ -13,3 +13,5 @@ mod operators;
 mod placing;
 #[cfg(test)]
 mod stack;
+#[cfg(test)]
+mod whole;
