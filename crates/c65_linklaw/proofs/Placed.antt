@@ -190,10 +190,10 @@ one_length lines tables at f =
     let n : length (one_bytes tables at lines) ≡ (body_of lines).size = sizes_are_lengths lines (at % 65536) tables.symbols tables.routines (omega (arith, low)) in
     omega (arith, n, f.sum)
 
-same_function : (f g : Sym × Segment) → Some g ≡ Some f → g ≡ f
+pub same_function : (f g : Sym × Segment) → Some g ≡ Some f → g ≡ f
 same_function f g h = cc
 
-nothing : {P : Type 0} (f : Sym × Segment) → ◌≡◌ {A = Option (Sym × Segment)} None (Some f) → P
+pub nothing : {P : Type 0} (f : Sym × Segment) → ◌≡◌ {A = Option (Sym × Segment)} None (Some f) → P
 nothing f h = absurd cc
 
 abbrev Coded : Memory → Tables → ℕ → Sym × Segment → Type 0

@@ -28,7 +28,8 @@ use Rattle.c65_linklaw.specs.Coded.{Memory, Stands, AreCoded, spot_for}
 use Rattle.c65_linklaw.specs.Placed.{behind, first_address, layout_in, routines_in, behind_routines, routine_address, RoutinesStand}
 use Rattle.c65_linklaw.proofs.Sizes.{plus_most}
 use Rattle.c65_linklaw.proofs.Lines.{stands_split}
-use Rattle.c65_linklaw.proofs.Symbols.{Lacks, lacks, not_true}
+use Rattle.c65_linklaw.proofs.Reach.{not_true}
+use Rattle.c65_linklaw.proofs.Symbols.{Lacks, lacks}
 use Rattle.c65_linklaw.proofs.Placed.{Grows, more, behind_grows, functions_behind, functions_end, routines_end, routines_reach, Given, given, file_of, one_bytes, functions_bytes, written_functions, Fits, fits, one_stands, one_length}
 
 -- What is taken, in order

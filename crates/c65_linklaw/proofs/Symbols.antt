@@ -19,6 +19,8 @@ use Rattle.c65_link.specs.Symbols.{named_targets, targets_of}
 use Rattle.c65_link.specs.Symbols.{with_functions as own_functions, with_datums as own_datums}
 use Rattle.c65_link.specs.Linked.{entry_of, parts_of}
 use Rattle.c65_linklaw.specs.Placed.{behind, function_number, datum_number, SymbolsLead}
+use Rattle.c65_linklaw.proofs.Reach.{not_true}
+use Rattle.c65_linklaw.proofs.Placed.{same_function, nothing}
 
 -- Numbers that occur once
 
@@ -40,10 +42,6 @@ lacks_first (x ∷ xs) ys n h = (h.0, lacks_first xs ys n h.1)
 lacks_second : (xs ys : List ℕ) (n : ℕ) → Lacks (xs ++ ys) n → Lacks ys n
 lacks_second [] ys n h = h
 lacks_second (x ∷ xs) ys n h = lacks_second xs ys n h.1
-
-pub not_true : (b : Bool) → not b ≡ true → b ≡ false
-not_true true h = absurd cc
-not_true false h = refl
 
 -- behind the k-th number, and among others, it does not occur again
 record Once (rest others : List ℕ) (n : ℕ) : Type 0 where
@@ -101,16 +99,10 @@ data_owned : (datums : List Datum) (targets : List Target) (n : ℕ) → get_or 
 data_owned [] targets n h = h
 data_owned (datum ∷ datums) targets n h = data_owned datums (slice_set targets datum.sym.0 Own) n (set_owned targets datum.sym.0 n h)
 
-none_there : {P : Type 0} (f : Sym × Segment) → ◌≡◌ {A = Option (Sym × Segment)} None (Some f) → P
-none_there f h = absurd cc
-
-same_one : (f g : Sym × Segment) → Some g ≡ Some f → g ≡ f
-same_one f g h = cc
-
 function_owned : (fs : List (Sym × Segment)) (targets : List Target) (k : ℕ) (f : Sym × Segment) → slice_get fs k ≡ Some f → f.0.0 < length targets → get_or (own_functions targets fs) f.0.0 Nowhere ≡ Own
-function_owned [] targets k f here inside = none_there f here
+function_owned [] targets k f here inside = nothing f here
 function_owned (g ∷ fs) targets zero f here inside =
-    let same : f ≡ g = sym (same_one f g here) in
+    let same : f ≡ g = sym (same_function f g here) in
     functions_owned fs (slice_set targets g.0.0 Own) f.0.0 (subst (λ (x : Sym × Segment). get_or (slice_set targets x.0.0 Own) f.0.0 Nowhere ≡ Own) same (get_or-set_same targets f.0.0 Own Nowhere inside))
 function_owned (g ∷ fs) targets (suc k) f here inside = function_owned fs (slice_set targets g.0.0 Own) k f here (subst (λ (n : ℕ). f.0.0 < n) (sym (length-set targets g.0.0 Own)) inside)
 
@@ -143,10 +135,10 @@ targets_keep (Library l ∷ targets) i n layout h =
 -- the k-th function's symbol
 
 lead : (fs : List (Sym × Segment)) (others : List ℕ) (layout : Layout) (k : ℕ) (f : Sym × Segment) → slice_get fs k ≡ Some f → f.0.0 < length layout.symbols → is_distinct (map function_number fs ++ others) ≡ true → slice_index (with_functions layout fs).symbols f.0.0 ≡ behind layout.at (take k fs) % 65536
-lead [] others layout k f here inside distinct = none_there f here
+lead [] others layout k f here inside distinct = nothing f here
 lead (g ∷ fs) others layout zero f here inside distinct =
     let o : Once (map function_number fs) others g.0.0 = once g.0.0 (map function_number fs) others distinct in
-    let same : g ≡ f = same_one f g here in
+    let same : g ≡ f = same_function f g here in
     let at_g : slice_index (with_functions (with_function layout g) fs).symbols g.0.0 ≡ layout.at % 65536 = functions_keep fs (with_function layout g) g.0.0 o.later ∙ get_or-set_same layout.symbols g.0.0 (layout.at % 65536) 0 (subst (λ (x : Sym × Segment). x.0.0 < length layout.symbols) (sym same) inside) in
     subst (λ (x : Sym × Segment). slice_index (with_functions (with_function layout g) fs).symbols x.0.0 ≡ layout.at % 65536) same at_g
 lead (g ∷ fs) others layout (suc k) f here inside distinct =
@@ -155,10 +147,10 @@ lead (g ∷ fs) others layout (suc k) f here inside distinct =
 
 -- the k-th function's symbol is none of the data's
 no_datum : (fs : List (Sym × Segment)) (others : List ℕ) (k : ℕ) (f : Sym × Segment) → slice_get fs k ≡ Some f → is_distinct (map function_number fs ++ others) ≡ true → Lacks others f.0.0
-no_datum [] others k f here distinct = none_there f here
+no_datum [] others k f here distinct = nothing f here
 no_datum (g ∷ fs) others zero f here distinct =
     let o : Once (map function_number fs) others g.0.0 = once g.0.0 (map function_number fs) others distinct in
-    subst (λ (x : Sym × Segment). Lacks others x.0.0) (same_one f g here) o.elsewhere
+    subst (λ (x : Sym × Segment). Lacks others x.0.0) (same_function f g here) o.elsewhere
 no_datum (g ∷ fs) others (suc k) f here distinct =
     let parts = and_parts (not (is_among (map function_number fs ++ others) g.0.0)) (is_distinct (map function_number fs ++ others)) distinct in
     no_datum fs others k f here parts.1
