@@ -9,7 +9,7 @@ use Rattle.c65_code.specs.declared.line.Line.{Line}
 use Rattle.c65_code.specs.Parts.{no_parts}
 use Rattle.c65_code.specs.Texts.{bytes_at, range_of, listed}
 use Rattle.c65_code.specs.LineState.{Place, State, Frame, word_at, sp_of, s_of, ax_of, zero_word, IsBytes}
-use Rattle.c65_code.specs.Placement.{Placement, word_of, stack_end}
+use Rattle.c65_code.specs.Placement.{Placement, word_of, program_start, stack_start, stack_end}
 use Rattle.c65_code.specs.Forms.{Form, Mark, Plain, Branch, Jump, Far, Push, Pull, Depth, Return, Run, Enter, Through, Stray, form_of}
 use Rattle.c65_code.specs.Rows.{Row, Meets, row_by, row_of, giving, popping, word_bytes}
 use Rattle.c65_code.specs.Moves.{Ref, Given, ZeroAt, MemAt, ref_of, settle, next, Does}
@@ -164,8 +164,33 @@ abbrev pub HasDone : Option ℕ → Row → Place → State → Place → State 
 HasDone None row back t p u = (p ≡ back) × Meets row t u
 HasDone (Some status) row back t p u = (u.ended ≡ Some status) × (u.output ≡ t.output ++ row.out)
 
--- Each routine, called from anywhere in a state in which its row has room, does what its row says, in no more instructions
--- than it costs, the call's own counted, at most 64 bytes below the sp and 26 below the S before its call.
+-- data lie in program space, as in every placement of a code
+abbrev pub LieLow : Placement → Type 0
+LieLow place = (b : ℕ) → IsTrue (place.is_data b) → (program_start ≤ b) × (b < stack_start)
+
+-- what holds at a call
+pub record MayRun (s : RawSetting) (row : Row) (t : State) : Type 0 where
+  pub room : HasRoom s.place row t
+  pub high : sp_of t ≤ stack_end
+  pub bytes : IsBytes t
+  pub running : t.ended ≡ None
+  pub data_low : LieLow s.place
+
+-- 64 bytes of the software stack and 26 of the hard stack, counted from before the call
+abbrev pub reach_of : State → Bounds
+reach_of t = record { soft = sp_of t - 64; hard = s_of t - 26 }
+
+-- The routine, called in a state, does what the row says, within the reach and in fewer instructions than the row costs: the
+-- call is one more.
+pub record Runs (s : RawSetting) (r : Routine) (row : Row) (back : Place) (t : State) : Type 0 where
+  pub weight : ℕ
+  pub within : suc weight ≤ row.cost
+  pub comes : RawComes s (reach_of t) (HasDone row.ends row back t) weight (entry_of s (s.routine r)) (called back t)
+
+-- it does so at every call that its row admits
+abbrev pub MeetsRow : RawSetting → Routine → Type 0
+MeetsRow s r = (row : Row) (back : Place) (t : State) → row_of r t ≡ Some row → MayRun s row t → Runs s r row back t
+
+-- each routine does, called from anywhere
 pub record IsRuntime (s : RawSetting) : Type 0 where
-  pub by : (r : Routine) (row : Row) (back : Place) (t : State) → row_of r t ≡ Some row → HasRoom s.place row t → IsBytes t → t.ended ≡ None
-      → (v : ℕ) × (suc v ≤ row.cost) × RawComes s (record { soft = sp_of t - 64; hard = s_of t - 26 }) (HasDone row.ends row back t) v (entry_of s (s.routine r)) (called back t)
+  pub meets : (r : Routine) → MeetsRow s r

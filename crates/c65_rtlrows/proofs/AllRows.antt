@@ -7,9 +7,9 @@ use Rattle.c65_code.specs.declared.routine.TosOp.TheVariants as tos
 use Rattle.c65_code.specs.declared.routine.Width.{Width}
 use Rattle.c65_code.specs.declared.routine.Width.TheVariants.{Ax, Eax}
 use Rattle.c65_code.specs.Rows.{Row}
-use Rattle.c65_code.specs.RawMachine.{RawSetting}
+use Rattle.c65_code.specs.RawMachine.{RawSetting, MeetsRow}
 use Rattle.c65_rtl.specs.Routines.{is_narrow, lines_of}
-use Rattle.c65_rtlrows.specs.RowLaws.{is_shown, MeetsRow, RowsAreMet}
+use Rattle.c65_rtlrows.specs.RowLaws.{is_shown, RowsAreMet}
 use Rattle.c65_rtlrows.proofs.Pushes.{pusha, pushax, pusha0, push0}
 use Rattle.c65_rtlrows.proofs.SpMoves.{incsp, decsp, addysp, subysp}
 use Rattle.c65_rtlrows.proofs.Loads.{ldaxysp, ldax0sp, popax, popa}

@@ -10,11 +10,10 @@ use Rattle.c65_code.specs.declared.line.Line.{Line}
 use Rattle.c65_code.specs.LineState.{Place, write, word_at, State, sp_of}
 use Rattle.c65_code.specs.Placement.{Placement}
 use Rattle.c65_code.specs.Rows.{Row, row_by, keeping, giving, popping, reading, needing}
-use Rattle.c65_code.specs.RawMachine.{RawSetting, Bounds, IsReachable, called}
+use Rattle.c65_code.specs.RawMachine.{RawSetting, Bounds, IsReachable, called, MayRun, Runs, MeetsRow, reach_of}
 use Rattle.c65_rtl.specs.Assembly.{sp, sreg, implied, value, zero_page, by_y}
 use Rattle.c65_rtl.specs.Stack.{raise_one, raise_two}
 use Rattle.c65_rtl.specs.Routines.{lines_of}
-use Rattle.c65_rtlrows.specs.RowLaws.{MayRun, Runs, MeetsRow, reach_of}
 use Rattle.c65_rtlrows.proofs.Ways.{leads, Ends, runs}
 use Rattle.c65_rtlrows.proofs.Meeting.{lt_true, ends_by}
 use Rattle.c65_rtlrows.proofs.Opens.{OpenBytes, opens_near}

@@ -9,11 +9,10 @@ use Rattle.c65_code.specs.declared.line.Line.{Line}
 use Rattle.c65_code.specs.LineState.{Place, Bytes, write, word_at, State, sp_of, sreg_of}
 use Rattle.c65_code.specs.Placement.{Placement}
 use Rattle.c65_code.specs.Rows.{Row, row_by, giving, popping, reading, needing, push_row, long_at}
-use Rattle.c65_code.specs.RawMachine.{RawSetting, Bounds, called}
+use Rattle.c65_code.specs.RawMachine.{RawSetting, Bounds, called, MayRun, Runs, MeetsRow, reach_of}
 use Rattle.c65_rtl.specs.Assembly.{sp, sreg, ptr1, ptr2, implied, value, zero_page, by_y}
 use Rattle.c65_rtl.specs.Stack.{raise_by_y, push_long}
 use Rattle.c65_rtl.specs.Routines.{lines_of}
-use Rattle.c65_rtlrows.specs.RowLaws.{MayRun, Runs, MeetsRow, reach_of}
 use Rattle.c65_rtlrows.proofs.Ways.{leads, Ends, runs}
 use Rattle.c65_rtlrows.proofs.Meeting.{ends_by, write_swap}
 use Rattle.c65_rtlrows.proofs.Opens.{OpenBytes, opens_near}

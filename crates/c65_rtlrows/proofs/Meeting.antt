@@ -11,9 +11,8 @@ use Rattle.c65_code.specs.Parts.{has_part}
 use Rattle.c65_code.specs.LineState.{Bytes, write, State, sp_of, sreg_of, Same}
 use Rattle.c65_code.specs.Placement.{Placement}
 use Rattle.c65_code.specs.Steady.{IsOpen}
-use Rattle.c65_code.specs.RawMachine.{Bounds, IsReachable}
+use Rattle.c65_code.specs.RawMachine.{Bounds, IsReachable, LieLow}
 use Rattle.c65_code.specs.Rows.{Row, Gives, GivesPointers, GivesBank, written}
-use Rattle.c65_rtlrows.specs.RowLaws.{LieLow}
 use Rattle.c65_rtlrows.proofs.Ways.{Ends}
 
 -- what tests tell

@@ -8,10 +8,9 @@ use Rattle.c65_code.specs.declared.line.Line.{Line}
 use Rattle.c65_code.specs.LineState.{Place, Bytes, write, word_at, State, ax_of}
 use Rattle.c65_code.specs.Placement.{Placement}
 use Rattle.c65_code.specs.Rows.{Row, row_by, giving, far_reading, costing, long_at}
-use Rattle.c65_code.specs.RawMachine.{RawSetting, Bounds, IsReachable, called}
+use Rattle.c65_code.specs.RawMachine.{RawSetting, Bounds, IsReachable, called, MayRun, Runs, MeetsRow, reach_of}
 use Rattle.c65_rtl.specs.Assembly.{sreg, ptr1, implied, value, zero_page, by_y}
 use Rattle.c65_rtl.specs.Routines.{lines_of}
-use Rattle.c65_rtlrows.specs.RowLaws.{MayRun, Runs, MeetsRow, reach_of}
 use Rattle.c65_rtlrows.proofs.Ways.{leads, Ends, runs}
 use Rattle.c65_rtlrows.proofs.Meeting.{ends_by}
 use Rattle.c65_rtlrows.proofs.Opens.{OpenBytes, opens_far}

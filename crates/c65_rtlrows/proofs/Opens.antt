@@ -7,8 +7,7 @@ use Rattle.c65_code.specs.Placement.{Placement}
 use Rattle.c65_code.specs.Texts.{range_of}
 use Rattle.c65_code.specs.Rows.{Row}
 use Rattle.c65_code.specs.Steady.{IsOpen}
-use Rattle.c65_code.specs.RawMachine.{RawSetting, Bounds, IsReachable}
-use Rattle.c65_rtlrows.specs.RowLaws.{MayRun, reach_of, LieLow}
+use Rattle.c65_code.specs.RawMachine.{RawSetting, Bounds, IsReachable, MayRun, reach_of, LieLow}
 use Rattle.c65_rtlrows.proofs.Meeting.{reached, below_end}
 
 -- so many bytes from an address on may be reached, and lie below the end of the software stack

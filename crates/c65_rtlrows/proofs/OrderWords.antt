@@ -9,10 +9,9 @@ use Rattle.c65_code.specs.declared.line.Line.{Line}
 use Rattle.c65_code.specs.LineState.{Place, word_at, State, sp_of, ax_of}
 use Rattle.c65_code.specs.Numbers.{turned}
 use Rattle.c65_code.specs.Rows.{Row, tos_row}
-use Rattle.c65_code.specs.RawMachine.{RawSetting, called}
+use Rattle.c65_code.specs.RawMachine.{RawSetting, called, MayRun, Runs, MeetsRow, reach_of}
 use Rattle.c65_rtl.specs.Stack.{raise_two}
 use Rattle.c65_rtl.specs.Routines.{lines_of}
-use Rattle.c65_rtlrows.specs.RowLaws.{MayRun, Runs, MeetsRow, reach_of}
 use Rattle.c65_rtlrows.proofs.Ways.{Ends, runs}
 use Rattle.c65_rtlrows.proofs.Meeting.{ends_by}
 use Rattle.c65_rtlrows.proofs.Opens.{OpenBytes, opens_near}

@@ -13,11 +13,10 @@ use Rattle.c65_code.specs.declared.parts.Part.TheVariants.{A, X, Y, Zp, N, V, Z,
 use Rattle.c65_code.specs.Parts.{has_part}
 use Rattle.c65_code.specs.Rows.{Row, row_of, push_row, Gives, GivesPointers, GivesBank, written}
 use Rattle.c65_code.specs.Steady.{IsOpen}
-use Rattle.c65_code.specs.RawMachine.{RawSetting, Bounds, IsReachable, called}
+use Rattle.c65_code.specs.RawMachine.{RawSetting, Bounds, IsReachable, called, MayRun, Runs, MeetsRow, reach_of}
 use Rattle.c65_rtl.specs.Assembly.{sp, implied, value, by_y}
 use Rattle.c65_rtl.specs.Stack.{push_byte, push_word}
 use Rattle.c65_rtl.specs.Routines.{lines_of}
-use Rattle.c65_rtlrows.specs.RowLaws.{MayRun, Runs, MeetsRow, reach_of}
 use Rattle.c65_rtlrows.proofs.Ways.{leads, Ends, runs}
 use Rattle.c65_rtlrows.proofs.Meeting.{eq_true, eq_false, not_true, not_false, write_other, write_swap, KeptUnless, ends_by, reached}
 use Rattle.c65_rtlrows.proofs.Pieces.{Moved, left, lowers_by}

@@ -12,10 +12,9 @@ use Rattle.c65_code.specs.Parts.{no_parts}
 use Rattle.c65_code.specs.Forms.{Form, Mark, Plain, Branch, Jump, Far, Push, Pull, Depth, Return, Run, Enter, Through, Stray, op_form, form_of}
 use Rattle.c65_code.specs.Moves.{Ref, Given, ZeroAt, MemAt, ref_of, effect, settle, labelled}
 use Rattle.c65_code.specs.Segments.{is_among}
-use Rattle.c65_code.specs.RawMachine.{RawSetting, Bounds, RawComes, raw_weight, HasDone, called, entry_of}
+use Rattle.c65_code.specs.RawMachine.{RawSetting, Bounds, RawComes, raw_weight, HasDone, called, entry_of, MayRun, reach_of, Runs}
 use Rattle.c65_code.specs.Rows.{Row}
 use Rattle.c65_rtl.specs.Short.{is_onward, leads_on}
-use Rattle.c65_rtlrows.specs.RowLaws.{MayRun, reach_of, Runs}
 use Rattle.c65_rtlrows.proofs.Ways.{Way, when, either, at_operand, pulling, by_form, by_label, leads, IsAt, IsOwn, IsSought, place_at, and_parts, not_parts, whole_at, next_do, next_call, next_label, weaken, on_form, moved_to, Goes_on, by_line, past_label, on_line, at_label, Ends}
 
 abbrev pub back_or_on : Bool → (State → Type 0) → Way → ℕ → Bool → State → Type 0

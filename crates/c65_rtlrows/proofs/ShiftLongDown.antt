@@ -13,10 +13,9 @@ use Rattle.c65_code.specs.declared.line.Line.TheVariants.{Label}
 use Rattle.c65_code.specs.LineState.{Place, Bytes, write, State, sp_of, eax_of, IsBytes}
 use Rattle.c65_code.specs.Placement.{Placement}
 use Rattle.c65_code.specs.Rows.{Row, row_by, popping, costing, giving_if, long_at}
-use Rattle.c65_code.specs.RawMachine.{RawSetting, Bounds, called}
+use Rattle.c65_code.specs.RawMachine.{RawSetting, Bounds, called, MayRun, Runs, MeetsRow, reach_of}
 use Rattle.c65_rtl.specs.Assembly.{tmp1, tmp2, tmp3, implied, on_a, zero_page, branch}
 use Rattle.c65_rtl.specs.Routines.{lines_of}
-use Rattle.c65_rtlrows.specs.RowLaws.{MayRun, Runs, MeetsRow, reach_of}
 use Rattle.c65_rtlrows.proofs.Ways.{Ends}
 use Rattle.c65_rtlrows.proofs.Rounds.{leads_round, onward_round, Less, Enters, IsLoop, runs_rounds}
 use Rattle.c65_rtlrows.proofs.Meeting.{eq_true, eq_false, lt_true, not_true, not_false, write_other, ends_by}

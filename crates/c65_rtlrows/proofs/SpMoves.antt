@@ -9,12 +9,11 @@ use Rattle.c65_code.specs.declared.line.Line.{Line}
 use Rattle.c65_code.specs.LineState.{Place, State, sp_of}
 use Rattle.c65_code.specs.Placement.{Placement}
 use Rattle.c65_code.specs.Rows.{sp_row, number_of}
-use Rattle.c65_code.specs.RawMachine.{RawSetting, Bounds, called}
+use Rattle.c65_code.specs.RawMachine.{RawSetting, Bounds, called, MayRun, Runs, MeetsRow, reach_of}
 use Rattle.c65_rtl.specs.Assembly.{value}
 use Rattle.c65_rtl.specs.Short.{IsShort}
 use Rattle.c65_rtl.specs.Stack.{raise_one, raise_two, raise_by_y, lower_one, lower_two, lower_by_y}
 use Rattle.c65_rtl.specs.Routines.{lines_of}
-use Rattle.c65_rtlrows.specs.RowLaws.{MayRun, Runs, MeetsRow, reach_of}
 use Rattle.c65_rtlrows.proofs.Ways.{leads, Ends, runs}
 use Rattle.c65_rtlrows.proofs.Meeting.{ends_by}
 use Rattle.c65_rtlrows.proofs.Pieces.{Moved, Follows, left, raise_one_at, raise_two_at, raise_by_y_at, lower_one_at, lower_two_at, lower_by_y_at}

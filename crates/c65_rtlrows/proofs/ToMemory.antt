@@ -8,12 +8,11 @@ use Rattle.c65_code.specs.LineState.{Place, Bytes, write, word_at, State, sp_of}
 use Rattle.c65_code.specs.Placement.{Placement}
 use Rattle.c65_code.specs.Texts.{bytes_at}
 use Rattle.c65_code.specs.Rows.{Row, row_by, keeping, popping, costing, store_row, push_row, bank_of}
-use Rattle.c65_code.specs.RawMachine.{RawSetting, Bounds, IsReachable, called}
+use Rattle.c65_code.specs.RawMachine.{RawSetting, Bounds, IsReachable, called, MayRun, Runs, MeetsRow, reach_of}
 use Rattle.c65_rtl.specs.Assembly.{sp, sreg, ptr1, tmp1, regbank, implied, value, zero_page, by_y}
 use Rattle.c65_rtl.specs.Stack.{raise_two, raise_by_y}
 use Rattle.c65_rtl.specs.Memory.{save_bank}
 use Rattle.c65_rtl.specs.Routines.{lines_of}
-use Rattle.c65_rtlrows.specs.RowLaws.{MayRun, Runs, MeetsRow, reach_of}
 use Rattle.c65_rtlrows.proofs.Ways.{leads, Ends, runs}
 use Rattle.c65_rtlrows.proofs.Meeting.{ends_by}
 use Rattle.c65_rtlrows.proofs.Opens.{OpenBytes, opens_near, opens_far}

@@ -16,10 +16,9 @@ use Rattle.c65_code.specs.LineState.{Place, write, State, ax_of}
 use Rattle.c65_code.specs.Placement.{Placement}
 use Rattle.c65_code.specs.Numbers.{shifted_right, truth}
 use Rattle.c65_code.specs.Rows.{Row, unary_row}
-use Rattle.c65_code.specs.RawMachine.{RawSetting, Bounds, called}
+use Rattle.c65_code.specs.RawMachine.{RawSetting, Bounds, called, MayRun, Runs, MeetsRow, reach_of}
 use Rattle.c65_rtl.specs.Assembly.{tmp1, implied, on_a, value, zero_page}
 use Rattle.c65_rtl.specs.Routines.{lines_of}
-use Rattle.c65_rtlrows.specs.RowLaws.{MayRun, Runs, MeetsRow, reach_of}
 use Rattle.c65_rtlrows.proofs.Ways.{leads, Ends, runs}
 use Rattle.c65_rtlrows.proofs.Meeting.{ends_by}
 use Rattle.c65_rtlrows.proofs.Pieces.{left, xor_ones}

@@ -19,9 +19,8 @@ use Rattle.c65_code.specs.Rows.{Row, Meets}
 use Rattle.c65_code.specs.Moves.{Ref, Given, ZeroAt, MemAt, ref_of, value_at, put, change, effect, settle, labelled, next}
 use Rattle.c65_code.specs.Parts.{no_parts}
 use Rattle.c65_code.specs.Segments.{is_among}
-use Rattle.c65_code.specs.RawMachine.{RawSetting, Bounds, IsReachable, IsRawOpen, IsRawWithin, RawComes, here, on, RawGoes, raw_weight, HasFrame, RawReturns, HasDone, called, entry_of}
+use Rattle.c65_code.specs.RawMachine.{RawSetting, Bounds, IsReachable, IsRawOpen, IsRawWithin, RawComes, here, on, RawGoes, raw_weight, HasFrame, RawReturns, HasDone, called, entry_of, MayRun, reach_of, Runs}
 use Rattle.c65_rtl.specs.Short.{IsShort, is_onward, leads_on, total_weight}
-use Rattle.c65_rtlrows.specs.RowLaws.{MayRun, reach_of, Runs}
 
 -- where lines lead from a state: at once, or from the label on that is sought
 abbrev pub Way : Type 1

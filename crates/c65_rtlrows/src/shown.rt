@@ -1,7 +1,7 @@
 // The routines whose lines are shown to meet their rows.
 ghost use Rattle.std.specs.Prelude.{◌≡◌, IfOk, IsTrue};
-ghost use Rattle.c65_code.specs.RawMachine.{RawSetting};
-ghost use Rattle.c65_rtlrows.specs.RowLaws.{is_shown, MeetsRow};
+ghost use Rattle.c65_code.specs.RawMachine.{RawSetting, MeetsRow};
+ghost use Rattle.c65_rtlrows.specs.RowLaws.{is_shown};
 
 use c65_base::Refusal;
 use c65_code::{Routine, Seg, TosOp};
