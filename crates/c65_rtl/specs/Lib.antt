@@ -8,3 +8,4 @@ pub mod Unary
 pub mod Library
 pub mod Routines
 pub mod Short
+pub mod Rows

@@ -1,6 +1,8 @@
 // The routine of each name.
 ghost use Rattle.std.specs.Prelude.{◌≡◌, OnOk, IfOk, IsTrue};
+ghost use Rattle.c65_code.specs.RawMachine.{RawSetting, MeetsRow};
 ghost use Rattle.c65_rtl.specs.Assembly.{with_pieces};
+ghost use Rattle.c65_rtl.specs.Rows.{is_shown};
 ghost use Rattle.c65_rtl.specs.Short.{IsShort, is_straight, cost_of};
 ghost use Rattle.c65_rtl.specs.Routines.{is_narrow, tos_pieces, stack_pieces, pieces_of, lines_of, given_by};
 
@@ -81,13 +83,15 @@ fn write(draft: &mut Draft, which: Routine) -> Result<(), Refusal>
 /// The lines of a routine, and what it gives: its result and what it keeps.
 ///
 /// In `start` and `startargs` symbol 0 stands for main. The routines that are called stand in lines of their own.
-/// A routine without loops and calls does each line at most once, and weighs less than its row's cost.
+/// A routine without loops and calls does each line at most once, and weighs less than its row's cost. Wherever the lines of
+/// such a routine, or of a shift by a count, stand under its number, each call that its row admits does what the row says.
 /// It refuses for want of memory alone.
 pub fn routine(alloc: Global, which: Routine) -> Result<Seg, Refusal>
     requires { IsTrue (is_narrow which) }
     ensures lines { IfOk result (λ seg. seg.lines ≡ lines_of which) }
     ensures out { IfOk result (λ seg. seg.out ≡ given_by which) }
     ensures short { IsTrue (is_straight which) → IfOk result (λ seg. IsShort (cost_of which) seg.lines) }
+    ensures meets { IsTrue (is_shown which) → IfOk result (λ seg. (s : RawSetting) → s.lines (s.routine which) ≡ seg.lines → MeetsRow s which) }
 {
     let mut draft = Draft::new(alloc, given(which));
     write(&mut draft, which)?;

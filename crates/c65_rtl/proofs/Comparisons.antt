@@ -1,0 +1,178 @@
+-- What the comparisons of the lines tell of numbers.
+use Rattle.std.proofs.Common.{◌≡◌, ℕ, suc, ◌+◌, ◌-◌, ◌*◌, ◌/◌, ◌%◌, ◌<◌, ◌≤◌, Bool, nat_eq, ◌∙◌, arith}
+use Rattle.std.specs.Prelude.{nat_lt, nat_le, bit_and, bit_or, bit_xor}
+use Rattle.c65_mach.specs.Step.{bit, negative}
+use Rattle.c65_code.specs.declared.routine.Width.TheVariants.{Ax, Eax}
+use Rattle.c65_code.specs.Numbers.{turned}
+use Rattle.c65_rtl.proofs.UnaryWords.{bit_carry}
+use Rattle.c65_rtl.proofs.Flags.{le_same, eq_same, xor_none, xor_same, or_none_left, or_none_right, or_both, flipped, sign_of_sum}
+
+-- AX, or EAX, less the number on the stack, byte by byte, where c is 1 if nothing more is taken off
+abbrev pub less_0 : ℕ → ℕ → ℕ → ℕ
+less_0 c a m0 = a + (255 - m0) + c
+
+abbrev pub less_1 : ℕ → ℕ → ℕ → ℕ → ℕ → ℕ
+less_1 c a x m0 m1 = x + (255 - m1) + bit (nat_lt 255 (less_0 c a m0))
+
+abbrev pub less_2 : ℕ → ℕ → ℕ → ℕ → ℕ → ℕ → ℕ → ℕ
+less_2 c a x l m0 m1 m2 = l + (255 - m2) + bit (nat_lt 255 (less_1 c a x m0 m1))
+
+abbrev pub less_3 : ℕ → ℕ → ℕ → ℕ → ℕ → ℕ → ℕ → ℕ → ℕ → ℕ
+less_3 c a x l h m0 m1 m2 m3 = h + (255 - m3) + bit (nat_lt 255 (less_2 c a x l m0 m1 m2))
+
+-- V of a sum
+abbrev pub overflow : ℕ → ℕ → ℕ → Bool
+overflow x w sum = negative (bit_and (bit_xor x (sum % 256)) (bit_xor w (sum % 256)))
+
+pub word_equal : (a x m0 m1 : ℕ) → a < 256 → m0 < 256 → nat_eq (bit_or (bit_xor x m1) (bit_xor a m0)) 0 ≡ nat_eq (m0 + 256 * m1) (a + 256 * x)
+word_equal a x m0 m1 la l0 = eq_same (bit_or (bit_xor x m1) (bit_xor a m0)) 0 (m0 + 256 * m1) (a + 256 * x) to from
+  where
+    to : bit_or (bit_xor x m1) (bit_xor a m0) ≡ 0 → m0 + 256 * m1 ≡ a + 256 * x
+    to none =
+        let high : x ≡ m1 = xor_none x m1 (or_none_left (bit_xor x m1) (bit_xor a m0) none) in
+        let low : a ≡ m0 = xor_none a m0 (or_none_right (bit_xor x m1) (bit_xor a m0) none) in
+        omega arith
+
+    from : m0 + 256 * m1 ≡ a + 256 * x → bit_or (bit_xor x m1) (bit_xor a m0) ≡ 0
+    from same =
+        let high : x ≡ m1 = omega arith in
+        let low : a ≡ m0 = omega arith in
+        or_both (bit_xor x m1) (bit_xor a m0) (xor_same x m1 high) (xor_same a m0 low)
+
+pub long_equal : (a x l h m0 m1 m2 m3 : ℕ) → a < 256 → x < 256 → l < 256 → m0 < 256 → m1 < 256 → m2 < 256
+    → nat_eq (bit_or (bit_xor h m3) (bit_or (bit_xor l m2) (bit_or (bit_xor x m1) (bit_xor a m0)))) 0 ≡ nat_eq (m0 + 256 * m1 + 65536 * (m2 + 256 * m3)) (a + 256 * x + 65536 * (l + 256 * h))
+long_equal a x l h m0 m1 m2 m3 la lx ll l0 l1 l2 = eq_same (bit_or (bit_xor h m3) second) 0 (m0 + 256 * m1 + 65536 * (m2 + 256 * m3)) (a + 256 * x + 65536 * (l + 256 * h)) to from
+  where
+    first : ℕ
+    first = bit_or (bit_xor x m1) (bit_xor a m0)
+
+    second : ℕ
+    second = bit_or (bit_xor l m2) first
+
+    to : bit_or (bit_xor h m3) second ≡ 0 → m0 + 256 * m1 + 65536 * (m2 + 256 * m3) ≡ a + 256 * x + 65536 * (l + 256 * h)
+    to whole =
+        let rest : second ≡ 0 = or_none_right (bit_xor h m3) second whole in
+        let last : first ≡ 0 = or_none_right (bit_xor l m2) first rest in
+        let d3 : h ≡ m3 = xor_none h m3 (or_none_left (bit_xor h m3) second whole) in
+        let d2 : l ≡ m2 = xor_none l m2 (or_none_left (bit_xor l m2) first rest) in
+        let d1 : x ≡ m1 = xor_none x m1 (or_none_left (bit_xor x m1) (bit_xor a m0) last) in
+        let d0 : a ≡ m0 = xor_none a m0 (or_none_right (bit_xor x m1) (bit_xor a m0) last) in
+        omega arith
+
+    from : m0 + 256 * m1 + 65536 * (m2 + 256 * m3) ≡ a + 256 * x + 65536 * (l + 256 * h) → bit_or (bit_xor h m3) second ≡ 0
+    from same =
+        let d3 : h ≡ m3 = omega arith in
+        let d2 : l ≡ m2 = omega arith in
+        let d1 : x ≡ m1 = omega arith in
+        let d0 : a ≡ m0 = omega arith in
+        or_both (bit_xor h m3) second (xor_same h m3 d3) (or_both (bit_xor l m2) first (xor_same l m2 d2) (or_both (bit_xor x m1) (bit_xor a m0) (xor_same x m1 d1) (xor_same a m0 d0)))
+
+pub word_clc : (a x m0 m1 : ℕ) → a < 256 → x < 256 → m0 < 256 → m1 < 256 → nat_lt 255 (less_1 0 a x m0 m1) ≡ nat_lt (m0 + 256 * m1) (a + 256 * x)
+word_clc a x m0 m1 la lx l0 l1 =
+    let small : (less_0 0 a m0) < 512 = omega arith in
+    let c0 : bit (nat_lt 255 (less_0 0 a m0)) ≡ (less_0 0 a m0) / 256 = bit_carry (less_0 0 a m0) small in
+    le_same 256 (less_1 0 a x m0 m1) (suc (m0 + 256 * m1)) (a + 256 * x) (λ g. omega arith) (λ g. omega arith)
+
+-- the carry out of the lower three bytes
+lower_clc : (a x l m0 m1 m2 : ℕ) → a < 256 → x < 256 → l < 256 → m0 < 256 → m1 < 256 → m2 < 256
+    → bit (nat_lt 255 (less_2 0 a x l m0 m1 m2)) ≡ (a + 256 * x + 65536 * l + (16777215 - (m0 + 256 * m1 + 65536 * m2)) + 0) / 16777216
+lower_clc a x l m0 m1 m2 la lx ll l0 l1 l2 =
+    let t0 : (less_0 0 a m0) < 512 = omega arith in
+    let c0 : bit (nat_lt 255 (less_0 0 a m0)) ≡ (less_0 0 a m0) / 256 = bit_carry (less_0 0 a m0) t0 in
+    let t1 : (less_1 0 a x m0 m1) < 512 = omega arith in
+    let c1 : bit (nat_lt 255 (less_1 0 a x m0 m1)) ≡ (less_1 0 a x m0 m1) / 256 = bit_carry (less_1 0 a x m0 m1) t1 in
+    let t2 : (less_2 0 a x l m0 m1 m2) < 512 = omega arith in
+    let c2 : bit (nat_lt 255 (less_2 0 a x l m0 m1 m2)) ≡ (less_2 0 a x l m0 m1 m2) / 256 = bit_carry (less_2 0 a x l m0 m1 m2) t2 in
+    let e : (less_2 0 a x l m0 m1 m2) / 256 ≡ (a + 256 * x + 65536 * l + (16777215 - (m0 + 256 * m1 + 65536 * m2)) + 0) / 16777216 = omega arith in
+    c2 ∙ e
+
+pub long_clc : (a x l h m0 m1 m2 m3 : ℕ) → a < 256 → x < 256 → l < 256 → h < 256 → m0 < 256 → m1 < 256 → m2 < 256 → m3 < 256 → nat_lt 255 (less_3 0 a x l h m0 m1 m2 m3) ≡ nat_lt (m0 + 256 * m1 + 65536 * (m2 + 256 * m3)) (a + 256 * x + 65536 * (l + 256 * h))
+long_clc a x l h m0 m1 m2 m3 la lx ll lh l0 l1 l2 l3 =
+    let t0 : (less_0 0 a m0) < 512 = omega arith in
+    let c0 : bit (nat_lt 255 (less_0 0 a m0)) ≡ (less_0 0 a m0) / 256 = bit_carry (less_0 0 a m0) t0 in
+    let t1 : (less_1 0 a x m0 m1) < 512 = omega arith in
+    let c1 : bit (nat_lt 255 (less_1 0 a x m0 m1)) ≡ (less_1 0 a x m0 m1) / 256 = bit_carry (less_1 0 a x m0 m1) t1 in
+    let t2 : (less_2 0 a x l m0 m1 m2) < 512 = omega arith in
+    let c2 : bit (nat_lt 255 (less_2 0 a x l m0 m1 m2)) ≡ (less_2 0 a x l m0 m1 m2) / 256 = bit_carry (less_2 0 a x l m0 m1 m2) t2 in
+    le_same 256 (less_3 0 a x l h m0 m1 m2 m3) (suc (m0 + 256 * m1 + 65536 * (m2 + 256 * m3))) (a + 256 * x + 65536 * (l + 256 * h)) (λ g. omega arith) (λ g. omega arith)
+
+pub word_signed_clc : (a x m0 m1 : ℕ) → a < 256 → x < 256 → m0 < 256 → m1 < 256 → flipped (overflow x (255 - m1) (less_1 0 a x m0 m1)) (negative ((less_1 0 a x m0 m1) % 256)) ≡ nat_le (turned Ax (a + 256 * x)) (turned Ax (m0 + 256 * m1))
+word_signed_clc a x m0 m1 la lx l0 l1 =
+    let small : (less_0 0 a m0) < 512 = omega arith in
+    let c0 : bit (nat_lt 255 (less_0 0 a m0)) ≡ (less_0 0 a m0) / 256 = bit_carry (less_0 0 a m0) small in
+    let part : 255 - m1 < 256 = omega arith in
+    let carry : bit (nat_lt 255 (less_0 0 a m0)) ≤ 1 = omega arith in
+    let is_a : (turned Ax (a + 256 * x)) ≡ a + 256 * ((x + 128) % 256) = omega arith in
+    let is_t : (turned Ax (m0 + 256 * m1)) ≡ m0 + 256 * ((m1 + 128) % 256) = omega arith in
+    let is_part : (255 - m1 + 128) % 256 ≡ 255 - (m1 + 128) % 256 = omega arith in
+    let high_a : (x + 128) % 256 < 256 = omega arith in
+    let high_t : (m1 + 128) % 256 < 256 = omega arith in
+    sign_of_sum x (255 - m1) (bit (nat_lt 255 (less_0 0 a m0))) lx part carry
+    ∙ le_same (suc ((x + 128) % 256 + (255 - m1 + 128) % 256 + bit (nat_lt 255 (less_0 0 a m0)))) 256 (turned Ax (a + 256 * x)) (turned Ax (m0 + 256 * m1)) (λ g. omega arith) (λ g. omega arith)
+
+pub long_signed_clc : (a x l h m0 m1 m2 m3 : ℕ) → a < 256 → x < 256 → l < 256 → h < 256 → m0 < 256 → m1 < 256 → m2 < 256 → m3 < 256
+    → flipped (overflow h (255 - m3) (less_3 0 a x l h m0 m1 m2 m3)) (negative ((less_3 0 a x l h m0 m1 m2 m3) % 256)) ≡ nat_le (turned Eax (a + 256 * x + 65536 * (l + 256 * h))) (turned Eax (m0 + 256 * m1 + 65536 * (m2 + 256 * m3)))
+long_signed_clc a x l h m0 m1 m2 m3 la lx ll lh l0 l1 l2 l3 =
+    let carry_is = lower_clc a x l m0 m1 m2 la lx ll l0 l1 l2 in
+    let part : 255 - m3 < 256 = omega arith in
+    let carry : bit (nat_lt 255 (less_2 0 a x l m0 m1 m2)) ≤ 1 = omega arith in
+    let is_a : (turned Eax (a + 256 * x + 65536 * (l + 256 * h))) ≡ a + 256 * x + 65536 * l + 16777216 * ((h + 128) % 256) = omega arith in
+    let is_t : (turned Eax (m0 + 256 * m1 + 65536 * (m2 + 256 * m3))) ≡ m0 + 256 * m1 + 65536 * m2 + 16777216 * ((m3 + 128) % 256) = omega arith in
+    let is_part : (255 - m3 + 128) % 256 ≡ 255 - (m3 + 128) % 256 = omega arith in
+    sign_of_sum h (255 - m3) (bit (nat_lt 255 (less_2 0 a x l m0 m1 m2))) lh part carry
+    ∙ le_same (suc ((h + 128) % 256 + (255 - m3 + 128) % 256 + bit (nat_lt 255 (less_2 0 a x l m0 m1 m2)))) 256 (turned Eax (a + 256 * x + 65536 * (l + 256 * h))) (turned Eax (m0 + 256 * m1 + 65536 * (m2 + 256 * m3))) (λ g. omega arith) (λ g. omega arith)
+
+pub word_sec : (a x m0 m1 : ℕ) → a < 256 → x < 256 → m0 < 256 → m1 < 256 → nat_lt 255 (less_1 1 a x m0 m1) ≡ nat_le (m0 + 256 * m1) (a + 256 * x)
+word_sec a x m0 m1 la lx l0 l1 =
+    let small : (less_0 1 a m0) < 512 = omega arith in
+    let c0 : bit (nat_lt 255 (less_0 1 a m0)) ≡ (less_0 1 a m0) / 256 = bit_carry (less_0 1 a m0) small in
+    le_same 256 (less_1 1 a x m0 m1) (m0 + 256 * m1) (a + 256 * x) (λ g. omega arith) (λ g. omega arith)
+
+-- the carry out of the lower three bytes
+lower_sec : (a x l m0 m1 m2 : ℕ) → a < 256 → x < 256 → l < 256 → m0 < 256 → m1 < 256 → m2 < 256
+    → bit (nat_lt 255 (less_2 1 a x l m0 m1 m2)) ≡ (a + 256 * x + 65536 * l + (16777215 - (m0 + 256 * m1 + 65536 * m2)) + 1) / 16777216
+lower_sec a x l m0 m1 m2 la lx ll l0 l1 l2 =
+    let t0 : (less_0 1 a m0) < 512 = omega arith in
+    let c0 : bit (nat_lt 255 (less_0 1 a m0)) ≡ (less_0 1 a m0) / 256 = bit_carry (less_0 1 a m0) t0 in
+    let t1 : (less_1 1 a x m0 m1) < 512 = omega arith in
+    let c1 : bit (nat_lt 255 (less_1 1 a x m0 m1)) ≡ (less_1 1 a x m0 m1) / 256 = bit_carry (less_1 1 a x m0 m1) t1 in
+    let t2 : (less_2 1 a x l m0 m1 m2) < 512 = omega arith in
+    let c2 : bit (nat_lt 255 (less_2 1 a x l m0 m1 m2)) ≡ (less_2 1 a x l m0 m1 m2) / 256 = bit_carry (less_2 1 a x l m0 m1 m2) t2 in
+    let e : (less_2 1 a x l m0 m1 m2) / 256 ≡ (a + 256 * x + 65536 * l + (16777215 - (m0 + 256 * m1 + 65536 * m2)) + 1) / 16777216 = omega arith in
+    c2 ∙ e
+
+pub long_sec : (a x l h m0 m1 m2 m3 : ℕ) → a < 256 → x < 256 → l < 256 → h < 256 → m0 < 256 → m1 < 256 → m2 < 256 → m3 < 256 → nat_lt 255 (less_3 1 a x l h m0 m1 m2 m3) ≡ nat_le (m0 + 256 * m1 + 65536 * (m2 + 256 * m3)) (a + 256 * x + 65536 * (l + 256 * h))
+long_sec a x l h m0 m1 m2 m3 la lx ll lh l0 l1 l2 l3 =
+    let t0 : (less_0 1 a m0) < 512 = omega arith in
+    let c0 : bit (nat_lt 255 (less_0 1 a m0)) ≡ (less_0 1 a m0) / 256 = bit_carry (less_0 1 a m0) t0 in
+    let t1 : (less_1 1 a x m0 m1) < 512 = omega arith in
+    let c1 : bit (nat_lt 255 (less_1 1 a x m0 m1)) ≡ (less_1 1 a x m0 m1) / 256 = bit_carry (less_1 1 a x m0 m1) t1 in
+    let t2 : (less_2 1 a x l m0 m1 m2) < 512 = omega arith in
+    let c2 : bit (nat_lt 255 (less_2 1 a x l m0 m1 m2)) ≡ (less_2 1 a x l m0 m1 m2) / 256 = bit_carry (less_2 1 a x l m0 m1 m2) t2 in
+    le_same 256 (less_3 1 a x l h m0 m1 m2 m3) (m0 + 256 * m1 + 65536 * (m2 + 256 * m3)) (a + 256 * x + 65536 * (l + 256 * h)) (λ g. omega arith) (λ g. omega arith)
+
+pub word_signed_sec : (a x m0 m1 : ℕ) → a < 256 → x < 256 → m0 < 256 → m1 < 256 → flipped (overflow x (255 - m1) (less_1 1 a x m0 m1)) (negative ((less_1 1 a x m0 m1) % 256)) ≡ nat_lt (turned Ax (a + 256 * x)) (turned Ax (m0 + 256 * m1))
+word_signed_sec a x m0 m1 la lx l0 l1 =
+    let small : (less_0 1 a m0) < 512 = omega arith in
+    let c0 : bit (nat_lt 255 (less_0 1 a m0)) ≡ (less_0 1 a m0) / 256 = bit_carry (less_0 1 a m0) small in
+    let part : 255 - m1 < 256 = omega arith in
+    let carry : bit (nat_lt 255 (less_0 1 a m0)) ≤ 1 = omega arith in
+    let is_a : (turned Ax (a + 256 * x)) ≡ a + 256 * ((x + 128) % 256) = omega arith in
+    let is_t : (turned Ax (m0 + 256 * m1)) ≡ m0 + 256 * ((m1 + 128) % 256) = omega arith in
+    let is_part : (255 - m1 + 128) % 256 ≡ 255 - (m1 + 128) % 256 = omega arith in
+    let high_a : (x + 128) % 256 < 256 = omega arith in
+    let high_t : (m1 + 128) % 256 < 256 = omega arith in
+    sign_of_sum x (255 - m1) (bit (nat_lt 255 (less_0 1 a m0))) lx part carry
+    ∙ le_same (suc ((x + 128) % 256 + (255 - m1 + 128) % 256 + bit (nat_lt 255 (less_0 1 a m0)))) 256 (suc (turned Ax (a + 256 * x))) (turned Ax (m0 + 256 * m1)) (λ g. omega arith) (λ g. omega arith)
+
+pub long_signed_sec : (a x l h m0 m1 m2 m3 : ℕ) → a < 256 → x < 256 → l < 256 → h < 256 → m0 < 256 → m1 < 256 → m2 < 256 → m3 < 256
+    → flipped (overflow h (255 - m3) (less_3 1 a x l h m0 m1 m2 m3)) (negative ((less_3 1 a x l h m0 m1 m2 m3) % 256)) ≡ nat_lt (turned Eax (a + 256 * x + 65536 * (l + 256 * h))) (turned Eax (m0 + 256 * m1 + 65536 * (m2 + 256 * m3)))
+long_signed_sec a x l h m0 m1 m2 m3 la lx ll lh l0 l1 l2 l3 =
+    let carry_is = lower_sec a x l m0 m1 m2 la lx ll l0 l1 l2 in
+    let part : 255 - m3 < 256 = omega arith in
+    let carry : bit (nat_lt 255 (less_2 1 a x l m0 m1 m2)) ≤ 1 = omega arith in
+    let is_a : (turned Eax (a + 256 * x + 65536 * (l + 256 * h))) ≡ a + 256 * x + 65536 * l + 16777216 * ((h + 128) % 256) = omega arith in
+    let is_t : (turned Eax (m0 + 256 * m1 + 65536 * (m2 + 256 * m3))) ≡ m0 + 256 * m1 + 65536 * m2 + 16777216 * ((m3 + 128) % 256) = omega arith in
+    let is_part : (255 - m3 + 128) % 256 ≡ 255 - (m3 + 128) % 256 = omega arith in
+    sign_of_sum h (255 - m3) (bit (nat_lt 255 (less_2 1 a x l m0 m1 m2))) lh part carry
+    ∙ le_same (suc ((h + 128) % 256 + (255 - m3 + 128) % 256 + bit (nat_lt 255 (less_2 1 a x l m0 m1 m2)))) 256 (suc (turned Eax (a + 256 * x + 65536 * (l + 256 * h)))) (turned Eax (m0 + 256 * m1 + 65536 * (m2 + 256 * m3))) (λ g. omega arith) (λ g. omega arith)

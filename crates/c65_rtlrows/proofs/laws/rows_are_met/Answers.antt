@@ -1,5 +1,0 @@
-use Rattle.c65_rtlrows.proofs.AllRows.{rows_are_met}
-use Rattle.c65_rtlrows.proofs.laws.rows_are_met.Goals as goal
-
-pub returns : goal.returns
-returns c = rows_are_met
