@@ -1,0 +1,6 @@
+//! Laws of the software stack: what a function's entry and its end do to it, each the contract of a function that does nothing.
+#![tactic(auto)]
+
+mod laws;
+
+pub use laws::{ends_raise_sp, ends_undo_entries, entries_lower_sp};
