@@ -1,0 +1,16 @@
+pub mod Alike
+pub mod Edges
+pub mod Runs
+pub mod Steps
+pub mod Readings
+pub mod Firsts
+pub mod Exprs
+pub mod Operands
+pub mod Ends
+pub mod Specifiers
+pub mod Members
+pub mod Declarators
+pub mod Params
+pub mod Casts
+pub mod Whole
+pub mod Top

@@ -1,0 +1,12 @@
+//! What the grammar derives is what the parser reads.
+//!
+//! Each law is the contract of a function that does nothing. The parser's calls have a machine's run as their
+//! contract, one step a token; the laws say that the run gives each tree of the grammar within the limit of depth,
+//! before a token with which it does not go on, and so that tokens have one tree at most.
+#![tactic(auto)]
+
+mod laws;
+
+pub use laws::{
+    declarators_are_read, expressions_are_read, specifiers_are_read, trees_are_one, types_are_read,
+};
