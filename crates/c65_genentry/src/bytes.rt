@@ -1,5 +1,6 @@
 // Blocks of bytes that are cleared or copied.
-ghost use Rattle.std.specs.Prelude.{◌≡◌, OnOk};
+ghost use Rattle.std.specs.Prelude.{◌≡◌, OnOk, IfErr};
+ghost use Rattle.c65_base.specs.declared.refusal.Refusal.TheVariants.{OutOfMemory};
 ghost use Rattle.c65_genentry.specs.Words.{with_code};
 ghost use Rattle.c65_genentry.specs.Bytes.{page_code, rest_code, rest_labels, pages_code, block_code, block_labels, clear_code, copy_code};
 
@@ -15,7 +16,8 @@ use c65_mach::Op::{Bne, Cpy, Inc, Iny, Lda, Ldy, Sta};
 
 /// Lines for each of 256 bytes, by Y from 0, and then others once.
 fn put_page(each: &[Line], after: &[Line], draft: &mut Draft) -> Result<(), Refusal>
-    ensures { OnOk result (draft.new ≡ with_code 1 (page_code each.now after.now draft.old.labels) draft.old) }
+    ensures lines { OnOk result (draft.new ≡ with_code 1 (page_code each.now after.now draft.old.labels) draft.old) }
+    ensures refused { IfErr result (λ e. e ≡ OutOfMemory) }
 {
     let head = fresh(draft)?;
     label(draft, head)?;
@@ -29,7 +31,8 @@ fn put_page(each: &[Line], after: &[Line], draft: &mut Draft) -> Result<(), Refu
 
 #[tactic(auto, using(crate::proofs::Repeats::pages_next))]
 fn put_pages(each: &[Line], after: &[Line], count: u16, draft: &mut Draft) -> Result<(), Refusal>
-    ensures { OnOk result (draft.new ≡ with_code count (pages_code each.now after.now count draft.old.labels) draft.old) }
+    ensures lines { OnOk result (draft.new ≡ with_code count (pages_code each.now after.now count draft.old.labels) draft.old) }
+    ensures refused { IfErr result (λ e. e ≡ OutOfMemory) }
 {
     for _round in 0..count {
         put_page(each, after, draft)?;
@@ -39,7 +42,8 @@ fn put_pages(each: &[Line], after: &[Line], count: u16, draft: &mut Draft) -> Re
 
 /// Lines for each of so many bytes, by Y from 0.
 fn put_rest(each: &[Line], bytes: u8, draft: &mut Draft) -> Result<(), Refusal>
-    ensures { OnOk result (draft.new ≡ with_code (rest_labels bytes) (rest_code each.now bytes draft.old.labels) draft.old) }
+    ensures lines { OnOk result (draft.new ≡ with_code (rest_labels bytes) (rest_code each.now bytes draft.old.labels) draft.old) }
+    ensures refused { IfErr result (λ e. e ≡ OutOfMemory) }
 {
     if bytes == 0 {
         return put(draft, &[]);
@@ -58,7 +62,8 @@ fn put_rest(each: &[Line], bytes: u8, draft: &mut Draft) -> Result<(), Refusal>
 }
 
 fn put_block(each: &[Line], after: &[Line], bytes: u16, draft: &mut Draft) -> Result<(), Refusal>
-    ensures { OnOk result (draft.new ≡ with_code (block_labels bytes) (block_code each.now after.now bytes draft.old.labels) draft.old) }
+    ensures lines { OnOk result (draft.new ≡ with_code (block_labels bytes) (block_code each.now after.now bytes draft.old.labels) draft.old) }
+    ensures refused { IfErr result (λ e. e ≡ OutOfMemory) }
 {
     put_pages(each, after, bytes / 256, draft)?;
     put_rest(each, (bytes % 256) as u8, draft)
@@ -66,7 +71,8 @@ fn put_block(each: &[Line], after: &[Line], bytes: u16, draft: &mut Draft) -> Re
 
 /// So many bytes from the address in ptr1 on become zero.
 pub fn clear_bytes(bytes: u16, draft: &mut Draft) -> Result<(), Refusal>
-    ensures { OnOk result (draft.new ≡ with_code (block_labels bytes) (clear_code bytes draft.old.labels) draft.old) }
+    ensures lines { OnOk result (draft.new ≡ with_code (block_labels bytes) (clear_code bytes draft.old.labels) draft.old) }
+    ensures refused { IfErr result (λ e. e ≡ OutOfMemory) }
 {
     put(
         draft,
@@ -82,7 +88,8 @@ pub fn clear_bytes(bytes: u16, draft: &mut Draft) -> Result<(), Refusal>
 
 /// So many bytes from the address in ptr1 on are copied to the address in ptr2, ascending.
 pub fn copy_bytes(bytes: u16, draft: &mut Draft) -> Result<(), Refusal>
-    ensures { OnOk result (draft.new ≡ with_code (block_labels bytes) (copy_code bytes draft.old.labels) draft.old) }
+    ensures lines { OnOk result (draft.new ≡ with_code (block_labels bytes) (copy_code bytes draft.old.labels) draft.old) }
+    ensures refused { IfErr result (λ e. e ≡ OutOfMemory) }
 {
     put(draft, &[Do(Ldy, Immediate, Byte(0))])?;
     put_block(

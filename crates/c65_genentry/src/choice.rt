@@ -1,5 +1,6 @@
 // The choice of a case (C90 6.6.4.2).
-ghost use Rattle.std.specs.Prelude.{◌≡◌, ◌≤◌, OnOk, length};
+ghost use Rattle.std.specs.Prelude.{◌≡◌, ◌≤◌, OnOk, length, IfErr};
+ghost use Rattle.c65_base.specs.declared.refusal.Refusal.TheVariants.{OutOfMemory};
 ghost use Rattle.c65_genwide.specs.Lines.{with_lines};
 ghost use Rattle.c65_genentry.specs.Words.{with_code};
 ghost use Rattle.c65_genentry.specs.Choice.{bits_of, byte_of, word_test, long_test, test_code, case_code, choice_code};
@@ -30,7 +31,8 @@ fn byte_of(bits: u32, unit: u32) -> u8
 }
 
 fn put_word_test(bits: u32, other: u32, case: u32, draft: &mut Draft) -> Result<(), Refusal>
-    ensures { OnOk result (draft.new ≡ with_lines draft.old (word_test bits other case)) }
+    ensures lines { OnOk result (draft.new ≡ with_lines draft.old (word_test bits other case)) }
+    ensures refused { IfErr result (λ e. e ≡ OutOfMemory) }
 {
     put(
         draft,
@@ -44,7 +46,8 @@ fn put_word_test(bits: u32, other: u32, case: u32, draft: &mut Draft) -> Result<
 }
 
 fn put_long_test(bits: u32, other: u32, case: u32, draft: &mut Draft) -> Result<(), Refusal>
-    ensures { OnOk result (draft.new ≡ with_lines draft.old (long_test bits other case)) }
+    ensures lines { OnOk result (draft.new ≡ with_lines draft.old (long_test bits other case)) }
+    ensures refused { IfErr result (λ e. e ≡ OutOfMemory) }
 {
     put(
         draft,
@@ -68,7 +71,8 @@ fn put_test(
     case: u32,
     draft: &mut Draft,
 ) -> Result<(), Refusal>
-    ensures { OnOk result (draft.new ≡ with_lines draft.old (test_code width bits other case)) }
+    ensures lines { OnOk result (draft.new ≡ with_lines draft.old (test_code width bits other case)) }
+    ensures refused { IfErr result (λ e. e ≡ OutOfMemory) }
 {
     match width {
         Width::Ax => put_word_test(bits, other, case, draft),
@@ -78,7 +82,8 @@ fn put_test(
 
 /// Goes to a case where the primary register has its value; the register stays.
 fn put_case(width: Width, value: i64, case: u32, draft: &mut Draft) -> Result<(), Refusal>
-    ensures { OnOk result (draft.new ≡ with_code 1 (case_code width value case draft.old.labels) draft.old) }
+    ensures lines { OnOk result (draft.new ≡ with_code 1 (case_code width value case draft.old.labels) draft.old) }
+    ensures refused { IfErr result (λ e. e ≡ OutOfMemory) }
 {
     let other = fresh(draft)?;
     put_test(width, bits_of(value), other, case, draft)?;
@@ -89,7 +94,8 @@ fn put_case(width: Width, value: i64, case: u32, draft: &mut Draft) -> Result<()
 /// Goes to the case with the value that the primary register has. The label of the first case is
 /// given, and the others follow it.
 pub fn choose(width: Width, first: u32, values: &[i64], draft: &mut Draft) -> Result<(), Refusal>
-    ensures { OnOk result (draft.new ≡ with_code (length values.now) (choice_code width first draft.old.labels values.now) draft.old) }
+    ensures lines { OnOk result (draft.new ≡ with_code (length values.now) (choice_code width first draft.old.labels values.now) draft.old) }
+    ensures refused { IfErr result (λ e. e ≡ OutOfMemory) }
 {
     let mut case = first;
     for value in values {

@@ -1,5 +1,6 @@
 // The end of a function (MACHINE.md, "Calls").
-ghost use Rattle.std.specs.Prelude.{◌≡◌, OnOk};
+ghost use Rattle.std.specs.Prelude.{◌≡◌, OnOk, IfErr};
+ghost use Rattle.c65_base.specs.declared.refusal.Refusal.TheVariants.{OutOfMemory};
 ghost use Rattle.c65_genwide.specs.Lines.{with_lines};
 ghost use Rattle.c65_genentry.specs.Ends.{restored_code, plain_end, variadic_end, end_code};
 
@@ -16,7 +17,8 @@ use c65_mach::Op::{Lda, Ldy, Pha, Pla, Rts, Sta, Tay};
 
 /// Regbank is as it was where any of it was taken; the primary register stays.
 fn put_restored(bank: u8, draft: &mut Draft) -> Result<(), Refusal>
-    ensures { OnOk result (draft.new ≡ with_lines draft.old (restored_code bank)) }
+    ensures lines { OnOk result (draft.new ≡ with_lines draft.old (restored_code bank)) }
+    ensures refused { IfErr result (λ e. e ≡ OutOfMemory) }
 {
     if bank > 0 {
         run(draft, Routine::RestRegs)
@@ -26,7 +28,8 @@ fn put_restored(bank: u8, draft: &mut Draft) -> Result<(), Refusal>
 }
 
 fn put_plain(soft: u16, bank: u8, stacked: u16, draft: &mut Draft) -> Result<(), Refusal>
-    ensures { OnOk result (draft.new ≡ with_lines draft.old (plain_end soft bank stacked)) }
+    ensures lines { OnOk result (draft.new ≡ with_lines draft.old (plain_end soft bank stacked)) }
+    ensures refused { IfErr result (λ e. e ≡ OutOfMemory) }
 {
     raise(soft, draft)?;
     put_restored(bank, draft)?;
@@ -36,7 +39,8 @@ fn put_plain(soft: u16, bank: u8, stacked: u16, draft: &mut Draft) -> Result<(),
 
 /// The number of bytes that the call pushed waits on the hard stack while the rest is removed.
 fn put_variadic(soft: u16, bank: u8, draft: &mut Draft) -> Result<(), Refusal>
-    ensures { OnOk result (draft.new ≡ with_lines draft.old (variadic_end soft bank)) }
+    ensures lines { OnOk result (draft.new ≡ with_lines draft.old (variadic_end soft bank)) }
+    ensures refused { IfErr result (λ e. e ≡ OutOfMemory) }
 {
     put(
         draft,
@@ -66,7 +70,8 @@ fn put_variadic(soft: u16, bank: u8, draft: &mut Draft) -> Result<(), Refusal>
 /// Puts the lines at which a function ends: sp is as it was before its parameters were pushed,
 /// regbank is as it was at the call, and the primary register stays.
 pub fn put_end(frame: &Frame, draft: &mut Draft) -> Result<(), Refusal>
-    ensures { OnOk result (draft.new ≡ with_lines draft.old (end_code frame.now)) }
+    ensures lines { OnOk result (draft.new ≡ with_lines draft.old (end_code frame.now)) }
+    ensures refused { IfErr result (λ e. e ≡ OutOfMemory) }
 {
     if frame.is_variadic() {
         put_variadic(frame.soft(), frame.bank(), draft)

@@ -1,5 +1,6 @@
 // The entry of a function (MACHINE.md, "Calls").
-ghost use Rattle.std.specs.Prelude.{◌≡◌, ◌<◌, OnOk};
+ghost use Rattle.std.specs.Prelude.{◌≡◌, ◌<◌, OnOk, IfErr};
+ghost use Rattle.c65_base.specs.declared.refusal.Refusal.TheVariants.{OutOfMemory};
 ghost use Rattle.c65_genwide.specs.Lines.{with_lines};
 ghost use Rattle.c65_genentry.specs.Entry.{push_of, pushed_code, counted_code, saved_code, kept_code, bank_store, near_load, far_load, load_code, moved_code, all_moved, taken_bytes, count_code, entry_code};
 
@@ -29,7 +30,8 @@ fn push_of(bytes: u32) -> Routine
 
 /// The last parameter goes from the registers onto the software stack.
 fn put_pushed(last: Arrival, draft: &mut Draft) -> Result<(), Refusal>
-    ensures { OnOk result (draft.new ≡ with_lines draft.old (pushed_code last)) }
+    ensures lines { OnOk result (draft.new ≡ with_lines draft.old (pushed_code last)) }
+    ensures refused { IfErr result (λ e. e ≡ OutOfMemory) }
 {
     match last {
         Arrival::Pushed(bytes) => run(draft, push_of(bytes)),
@@ -38,7 +40,8 @@ fn put_pushed(last: Arrival, draft: &mut Draft) -> Result<(), Refusal>
 }
 
 fn store_bank(bank: u8, bytes: u8, draft: &mut Draft) -> Result<(), Refusal>
-    ensures { OnOk result (draft.new ≡ with_lines draft.old (bank_store bank bytes)) }
+    ensures lines { OnOk result (draft.new ≡ with_lines draft.old (bank_store bank bytes)) }
+    ensures refused { IfErr result (λ e. e ≡ OutOfMemory) }
 {
     let byte = REGBANK.wrapping_add(bank);
     if bytes < 2 {
@@ -56,7 +59,8 @@ fn store_bank(bank: u8, bytes: u8, draft: &mut Draft) -> Result<(), Refusal>
 
 /// The last parameter goes from the registers to regbank.
 fn put_kept(last: Arrival, draft: &mut Draft) -> Result<(), Refusal>
-    ensures { OnOk result (draft.new ≡ with_lines draft.old (kept_code last)) }
+    ensures lines { OnOk result (draft.new ≡ with_lines draft.old (kept_code last)) }
+    ensures refused { IfErr result (λ e. e ≡ OutOfMemory) }
 {
     match last {
         Arrival::Kept(bank, bytes) => store_bank(bank, bytes, draft),
@@ -66,7 +70,8 @@ fn put_kept(last: Arrival, draft: &mut Draft) -> Result<(), Refusal>
 
 /// Regbank is saved where any of it is taken; the primary register stays.
 fn put_saved(bank: u8, draft: &mut Draft) -> Result<(), Refusal>
-    ensures { OnOk result (draft.new ≡ with_lines draft.old (saved_code bank)) }
+    ensures lines { OnOk result (draft.new ≡ with_lines draft.old (saved_code bank)) }
+    ensures refused { IfErr result (λ e. e ≡ OutOfMemory) }
 {
     if bank > 0 {
         run(draft, Routine::SaveRegs)
@@ -77,7 +82,8 @@ fn put_saved(bank: u8, draft: &mut Draft) -> Result<(), Refusal>
 
 /// The number of bytes that the call pushed goes from Y to A.
 fn put_counted(variadic: bool, draft: &mut Draft) -> Result<(), Refusal>
-    ensures { OnOk result (draft.new ≡ with_lines draft.old (counted_code variadic)) }
+    ensures lines { OnOk result (draft.new ≡ with_lines draft.old (counted_code variadic)) }
+    ensures refused { IfErr result (λ e. e ≡ OutOfMemory) }
 {
     if variadic {
         put(draft, &[Do(Tya, Implied, Nothing)])
@@ -88,7 +94,8 @@ fn put_counted(variadic: bool, draft: &mut Draft) -> Result<(), Refusal>
 
 /// That number goes from A to the byte at sp.
 fn put_count(variadic: bool, draft: &mut Draft) -> Result<(), Refusal>
-    ensures { OnOk result (draft.new ≡ with_lines draft.old (count_code variadic)) }
+    ensures lines { OnOk result (draft.new ≡ with_lines draft.old (count_code variadic)) }
+    ensures refused { IfErr result (λ e. e ≡ OutOfMemory) }
 {
     if variadic {
         run(draft, Routine::PushA)
@@ -99,7 +106,8 @@ fn put_count(variadic: bool, draft: &mut Draft) -> Result<(), Refusal>
 
 fn load_near(at: u8, bytes: u8, draft: &mut Draft) -> Result<(), Refusal>
     requires { at < 255 }
-    ensures { OnOk result (draft.new ≡ with_lines draft.old (near_load at bytes)) }
+    ensures lines { OnOk result (draft.new ≡ with_lines draft.old (near_load at bytes)) }
+    ensures refused { IfErr result (λ e. e ≡ OutOfMemory) }
 {
     if bytes < 2 {
         put(
@@ -113,7 +121,8 @@ fn load_near(at: u8, bytes: u8, draft: &mut Draft) -> Result<(), Refusal>
 }
 
 fn load_far(at: u16, bytes: u8, draft: &mut Draft) -> Result<(), Refusal>
-    ensures { OnOk result (draft.new ≡ with_lines draft.old (far_load at bytes)) }
+    ensures lines { OnOk result (draft.new ≡ with_lines draft.old (far_load at bytes)) }
+    ensures refused { IfErr result (λ e. e ≡ OutOfMemory) }
 {
     put(
         draft,
@@ -136,7 +145,8 @@ fn load_far(at: u16, bytes: u8, draft: &mut Draft) -> Result<(), Refusal>
 }
 
 fn load_at(at: u16, bytes: u8, draft: &mut Draft) -> Result<(), Refusal>
-    ensures { OnOk result (draft.new ≡ with_lines draft.old (load_code at bytes)) }
+    ensures lines { OnOk result (draft.new ≡ with_lines draft.old (load_code at bytes)) }
+    ensures refused { IfErr result (λ e. e ≡ OutOfMemory) }
 {
     if at < 255 {
         load_near(at as u8, bytes, draft)
@@ -147,14 +157,16 @@ fn load_at(at: u16, bytes: u8, draft: &mut Draft) -> Result<(), Refusal>
 
 /// A parameter goes from the software stack to regbank.
 fn put_moved(moved: Moved, draft: &mut Draft) -> Result<(), Refusal>
-    ensures { OnOk result (draft.new ≡ with_lines draft.old (moved_code moved)) }
+    ensures lines { OnOk result (draft.new ≡ with_lines draft.old (moved_code moved)) }
+    ensures refused { IfErr result (λ e. e ≡ OutOfMemory) }
 {
     load_at(moved.from, moved.bytes, draft)?;
     store_bank(moved.bank, moved.bytes, draft)
 }
 
 fn put_all_moved(all: &[Moved], draft: &mut Draft) -> Result<(), Refusal>
-    ensures { OnOk result (draft.new ≡ with_lines draft.old (all_moved all.now)) }
+    ensures lines { OnOk result (draft.new ≡ with_lines draft.old (all_moved all.now)) }
+    ensures refused { IfErr result (λ e. e ≡ OutOfMemory) }
 {
     for moved in all {
         put_moved(*moved, draft)?;
@@ -175,7 +187,8 @@ fn taken_bytes(variadic: bool, soft: u16) -> u16
 
 /// Puts the lines at which a function begins. Its objects then have their homes.
 pub fn put_entry(frame: &Frame, draft: &mut Draft) -> Result<(), Refusal>
-    ensures { OnOk result (draft.new ≡ with_lines draft.old (entry_code frame.now)) }
+    ensures lines { OnOk result (draft.new ≡ with_lines draft.old (entry_code frame.now)) }
+    ensures refused { IfErr result (λ e. e ≡ OutOfMemory) }
 {
     put_pushed(frame.last(), draft)?;
     put_counted(frame.is_variadic(), draft)?;

@@ -1,5 +1,6 @@
 // Pointers in the zero page, and what is stored through them.
-ghost use Rattle.std.specs.Prelude.{◌≡◌, ◌<◌, OnOk};
+ghost use Rattle.std.specs.Prelude.{◌≡◌, ◌<◌, OnOk, IfErr};
+ghost use Rattle.c65_base.specs.declared.refusal.Refusal.TheVariants.{OutOfMemory};
 ghost use Rattle.c65_genwide.specs.Lines.{with_lines};
 ghost use Rattle.c65_genentry.specs.Pointers.{near_code, symbol_code, second_byte, upper_bytes, third_bytes, further_bytes, far_store, clear_code};
 
@@ -15,7 +16,8 @@ use c65_mach::Op::{Adc, Clc, Iny, Lda, Ldy, Sta, Stx};
 /// A pointer in the zero page becomes the address so many bytes above sp. X stays.
 pub fn point_near(pointer: u8, at: u16, draft: &mut Draft) -> Result<(), Refusal>
     requires { pointer < 255 }
-    ensures { OnOk result (draft.new ≡ with_lines draft.old (near_code pointer at)) }
+    ensures lines { OnOk result (draft.new ≡ with_lines draft.old (near_code pointer at)) }
+    ensures refused { IfErr result (λ e. e ≡ OutOfMemory) }
 {
     put(
         draft,
@@ -34,7 +36,8 @@ pub fn point_near(pointer: u8, at: u16, draft: &mut Draft) -> Result<(), Refusal
 /// A pointer in the zero page becomes the address so far behind a symbol. X stays.
 pub fn point_symbol(pointer: u8, sym: Sym, at: u16, draft: &mut Draft) -> Result<(), Refusal>
     requires { pointer < 255 }
-    ensures { OnOk result (draft.new ≡ with_lines draft.old (symbol_code pointer sym at)) }
+    ensures lines { OnOk result (draft.new ≡ with_lines draft.old (symbol_code pointer sym at)) }
+    ensures refused { IfErr result (λ e. e ≡ OutOfMemory) }
 {
     put(
         draft,
@@ -48,7 +51,8 @@ pub fn point_symbol(pointer: u8, sym: Sym, at: u16, draft: &mut Draft) -> Result
 }
 
 fn store_second(draft: &mut Draft) -> Result<(), Refusal>
-    ensures { OnOk result (draft.new ≡ with_lines draft.old second_byte) }
+    ensures lines { OnOk result (draft.new ≡ with_lines draft.old second_byte) }
+    ensures refused { IfErr result (λ e. e ≡ OutOfMemory) }
 {
     put(
         draft,
@@ -61,7 +65,8 @@ fn store_second(draft: &mut Draft) -> Result<(), Refusal>
 }
 
 fn store_upper(draft: &mut Draft) -> Result<(), Refusal>
-    ensures { OnOk result (draft.new ≡ with_lines draft.old upper_bytes) }
+    ensures lines { OnOk result (draft.new ≡ with_lines draft.old upper_bytes) }
+    ensures refused { IfErr result (λ e. e ≡ OutOfMemory) }
 {
     put(
         draft,
@@ -77,7 +82,8 @@ fn store_upper(draft: &mut Draft) -> Result<(), Refusal>
 }
 
 fn store_third(bytes: u32, draft: &mut Draft) -> Result<(), Refusal>
-    ensures { OnOk result (draft.new ≡ with_lines draft.old (third_bytes bytes)) }
+    ensures lines { OnOk result (draft.new ≡ with_lines draft.old (third_bytes bytes)) }
+    ensures refused { IfErr result (λ e. e ≡ OutOfMemory) }
 {
     if bytes < 3 {
         put(draft, &[])
@@ -88,7 +94,8 @@ fn store_third(bytes: u32, draft: &mut Draft) -> Result<(), Refusal>
 
 /// The bytes behind the first one.
 fn store_further(bytes: u32, draft: &mut Draft) -> Result<(), Refusal>
-    ensures { OnOk result (draft.new ≡ with_lines draft.old (further_bytes bytes)) }
+    ensures lines { OnOk result (draft.new ≡ with_lines draft.old (further_bytes bytes)) }
+    ensures refused { IfErr result (λ e. e ≡ OutOfMemory) }
 {
     if bytes < 2 {
         put(draft, &[])
@@ -102,7 +109,8 @@ fn store_further(bytes: u32, draft: &mut Draft) -> Result<(), Refusal>
 /// So many bytes of the primary register, 1, 2 or 4, go to the place so many bytes above sp. The
 /// primary register is open then.
 pub fn store_far(at: u16, bytes: u32, draft: &mut Draft) -> Result<(), Refusal>
-    ensures { OnOk result (draft.new ≡ with_lines draft.old (far_store at bytes)) }
+    ensures lines { OnOk result (draft.new ≡ with_lines draft.old (far_store at bytes)) }
+    ensures refused { IfErr result (λ e. e ≡ OutOfMemory) }
 {
     put(
         draft,
@@ -123,7 +131,8 @@ pub fn store_far(at: u16, bytes: u32, draft: &mut Draft) -> Result<(), Refusal>
 
 /// So many bytes of regbank, 1 or 2, become zero.
 pub fn clear_bank(bank: u8, bytes: u32, draft: &mut Draft) -> Result<(), Refusal>
-    ensures { OnOk result (draft.new ≡ with_lines draft.old (clear_code bank bytes)) }
+    ensures lines { OnOk result (draft.new ≡ with_lines draft.old (clear_code bank bytes)) }
+    ensures refused { IfErr result (λ e. e ≡ OutOfMemory) }
 {
     let byte = REGBANK.wrapping_add(bank);
     put(

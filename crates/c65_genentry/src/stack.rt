@@ -1,5 +1,6 @@
 // The software stack's pointer raised and lowered.
-ghost use Rattle.std.specs.Prelude.{◌≡◌, OnOk};
+ghost use Rattle.std.specs.Prelude.{◌≡◌, OnOk, IfErr};
+ghost use Rattle.c65_base.specs.declared.refusal.Refusal.TheVariants.{OutOfMemory};
 ghost use Rattle.c65_mach.specs.declared.rows.Op.TheVariants.{Ldy};
 ghost use Rattle.c65_genwide.specs.Lines.{value, with_lines};
 ghost use Rattle.c65_genentry.specs.Stack.{count_of, small_raise, small_lower, raise_code, lower_code};
@@ -34,7 +35,8 @@ fn count_of(bytes: u8) -> Option<Count>
 }
 
 fn small_raise(bytes: u8, draft: &mut Draft) -> Result<(), Refusal>
-    ensures { OnOk result (draft.new ≡ with_lines draft.old (small_raise bytes)) }
+    ensures lines { OnOk result (draft.new ≡ with_lines draft.old (small_raise bytes)) }
+    ensures refused { IfErr result (λ e. e ≡ OutOfMemory) }
 {
     if bytes == 0 {
         return put(draft, &[]);
@@ -49,7 +51,8 @@ fn small_raise(bytes: u8, draft: &mut Draft) -> Result<(), Refusal>
 }
 
 fn small_lower(bytes: u8, draft: &mut Draft) -> Result<(), Refusal>
-    ensures { OnOk result (draft.new ≡ with_lines draft.old (small_lower bytes)) }
+    ensures lines { OnOk result (draft.new ≡ with_lines draft.old (small_lower bytes)) }
+    ensures refused { IfErr result (λ e. e ≡ OutOfMemory) }
 {
     if bytes == 0 {
         return put(draft, &[]);
@@ -66,7 +69,8 @@ fn small_lower(bytes: u8, draft: &mut Draft) -> Result<(), Refusal>
 /// sp is raised by so many bytes; A, X and sreg stay.
 #[tactic(auto, using(crate::proofs::Repeats::repeated_next))]
 pub fn raise(bytes: u16, draft: &mut Draft) -> Result<(), Refusal>
-    ensures { OnOk result (draft.new ≡ with_lines draft.old (raise_code bytes)) }
+    ensures lines { OnOk result (draft.new ≡ with_lines draft.old (raise_code bytes)) }
+    ensures refused { IfErr result (λ e. e ≡ OutOfMemory) }
 {
     for _round in 0..bytes / 255 {
         small_raise(255, draft)?;
@@ -77,7 +81,8 @@ pub fn raise(bytes: u16, draft: &mut Draft) -> Result<(), Refusal>
 /// sp is lowered by so many bytes; A, X and sreg stay.
 #[tactic(auto, using(crate::proofs::Repeats::repeated_next))]
 pub fn lower(bytes: u16, draft: &mut Draft) -> Result<(), Refusal>
-    ensures { OnOk result (draft.new ≡ with_lines draft.old (lower_code bytes)) }
+    ensures lines { OnOk result (draft.new ≡ with_lines draft.old (lower_code bytes)) }
+    ensures refused { IfErr result (λ e. e ≡ OutOfMemory) }
 {
     for _round in 0..bytes / 255 {
         small_lower(255, draft)?;

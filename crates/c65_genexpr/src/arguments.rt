@@ -1,8 +1,9 @@
 // What a call passes (docs/MACHINE.md, "Calls").
-ghost use Rattle.std.specs.Prelude.{◌≡◌, OnOk};
+ghost use Rattle.std.specs.Prelude.{◌≡◌, OnOk, OnErr, IfErr};
+ghost use Rattle.c65_base.specs.declared.refusal.Refusal.TheVariants.{OutOfMemory};
 ghost use Rattle.c65_ctype.specs.Views.{ty_of};
 ghost use Rattle.c65_csem.specs.Views.{nodes_of};
-ghost use Rattle.c65_genwide.specs.Lines.{with_lines};
+ghost use Rattle.c65_genwide.specs.Lines.{with_lines, Keeps};
 ghost use Rattle.c65_genexpr.specs.Arguments.{is_fast, is_counted, stays, joined, registers_of, reads_of, argument_code, argument_bytes};
 
 use c65_base::Refusal;
@@ -75,7 +76,9 @@ pub fn joined(kept: bool, kind: IntType, passed: Passed) -> Passed
 
 /// An argument stays in registers, or goes onto the software stack.
 pub fn put_argument(kept: bool, kind: IntType, draft: &mut Draft) -> Result<(), Refusal>
-    ensures { OnOk result (draft.new ≡ with_lines draft.old (argument_code kept kind)) }
+    ensures lines { OnOk result (draft.new ≡ with_lines draft.old (argument_code kept kind)) }
+    ensures refused { IfErr result (λ e. e ≡ OutOfMemory) }
+    ensures kept { OnErr result (Keeps draft.old draft.new) }
 {
     if kept {
         put(draft, &[])

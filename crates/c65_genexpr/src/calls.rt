@@ -1,7 +1,8 @@
 // The call behind its arguments (C90 6.3.2.2; docs/MACHINE.md, "Calls").
-ghost use Rattle.std.specs.Prelude.{◌≡◌, OnOk};
+ghost use Rattle.std.specs.Prelude.{◌≡◌, OnOk, OnErr, IfErr};
+ghost use Rattle.c65_base.specs.declared.refusal.Refusal.TheVariants.{OutOfMemory};
 ghost use Rattle.c65_csem.specs.Views.{typed_of};
-ghost use Rattle.c65_genwide.specs.Lines.{with_lines};
+ghost use Rattle.c65_genwide.specs.Lines.{with_lines, Keeps};
 ghost use Rattle.c65_genexpr.specs.Calls.{named, library_at, routine_of, fetch_code, count_code, named_code, pointer_code, result_code};
 
 use crate::arguments::{Passed, reads_of, registers_of};
@@ -62,7 +63,9 @@ fn routine_of(library: Library) -> LibraryFunction
 
 // The number of bytes that were passed goes to Y.
 fn put_count(counted: bool, passed: Passed, draft: &mut Draft) -> Result<(), Refusal>
-    ensures { OnOk result (draft.new ≡ with_lines draft.old (count_code counted passed)) }
+    ensures lines { OnOk result (draft.new ≡ with_lines draft.old (count_code counted passed)) }
+    ensures refused { IfErr result (λ e. e ≡ OutOfMemory) }
+    ensures kept { OnErr result (Keeps draft.old draft.new) }
 {
     if counted {
         put(draft, &[Do(Ldy, Immediate, Byte(passed.stacked))])
@@ -73,7 +76,9 @@ fn put_count(counted: bool, passed: Passed, draft: &mut Draft) -> Result<(), Ref
 
 // The function's address, which waits below the arguments, goes to ptr4; A, X and sreg stay.
 fn put_fetch(passed: Passed, draft: &mut Draft) -> Result<(), Refusal>
-    ensures { OnOk result (draft.new ≡ with_lines draft.old (fetch_code passed)) }
+    ensures lines { OnOk result (draft.new ≡ with_lines draft.old (fetch_code passed)) }
+    ensures refused { IfErr result (λ e. e ≡ OutOfMemory) }
+    ensures kept { OnErr result (Keeps draft.old draft.new) }
 {
     put(
         draft,
@@ -92,7 +97,9 @@ fn put_fetch(passed: Passed, draft: &mut Draft) -> Result<(), Refusal>
 
 // A character comes back in A alone.
 fn put_result(result_kind: Option<IntType>, draft: &mut Draft) -> Result<(), Refusal>
-    ensures { OnOk result (draft.new ≡ with_lines draft.old (result_code result_kind)) }
+    ensures lines { OnOk result (draft.new ≡ with_lines draft.old (result_code result_kind)) }
+    ensures refused { IfErr result (λ e. e ≡ OutOfMemory) }
+    ensures kept { OnErr result (Keeps draft.old draft.new) }
 {
     match result_kind {
         Some(kind) => narrow(kind, draft),
@@ -109,7 +116,9 @@ pub fn put_named(
     result_kind: Option<IntType>,
     draft: &mut Draft,
 ) -> Result<(), Refusal>
-    ensures { OnOk result (draft.new ≡ with_lines draft.old (named_code frame.now function counted passed result_kind)) }
+    ensures lines { OnOk result (draft.new ≡ with_lines draft.old (named_code frame.now function counted passed result_kind)) }
+    ensures refused { IfErr result (λ e. e ≡ OutOfMemory) }
+    ensures kept { OnErr result (Keeps draft.old draft.new) }
 {
     match library_at(frame, function) {
         Some(library) => {
@@ -134,7 +143,9 @@ pub fn put_pointer(
     result_kind: Option<IntType>,
     draft: &mut Draft,
 ) -> Result<(), Refusal>
-    ensures { OnOk result (draft.new ≡ with_lines draft.old (pointer_code counted passed result_kind)) }
+    ensures lines { OnOk result (draft.new ≡ with_lines draft.old (pointer_code counted passed result_kind)) }
+    ensures refused { IfErr result (λ e. e ≡ OutOfMemory) }
+    ensures kept { OnErr result (Keeps draft.old draft.new) }
 {
     put_fetch(passed, draft)?;
     put_count(counted, passed, draft)?;

@@ -1,6 +1,8 @@
 // Expressions (C90 6.3).
-ghost use Rattle.std.specs.Prelude.{◌≡◌, [], ◌+◌, ◌≤◌, OnOk, IfOk};
+ghost use Rattle.std.specs.Prelude.{◌≡◌, [], ◌+◌, ◌≤◌, OnOk, IfOk, OnErr, IfErr};
+ghost use Rattle.c65_base.specs.declared.refusal.Refusal.TheVariants.{OutOfMemory};
 ghost use Rattle.c65_csem.specs.Views.{typed_of, nodes_of};
+ghost use Rattle.c65_genwide.specs.Lines.{Keeps};
 ghost use Rattle.c65_genexpr.specs.Arguments.{passed_of};
 ghost use Rattle.c65_genexpr.specs.Places.{IsKnown, place_of};
 ghost use Rattle.c65_genexpr.specs.Uses.{uses, head_uses, args_uses};
@@ -30,9 +32,12 @@ use c65_mach::Mode::{Absolute, Immediate, Relative};
 use c65_mach::Op::{Beq, Bne, Jmp, Lda, Ldx};
 
 /// A label that was not given before; where there is none, want of memory.
+#[tactic(auto, using(c65_genwide::proofs::Kept::kept_same, crate::proofs::Kept::label_then))]
 fn next_label(draft: &mut Draft) -> Result<u32, Refusal>
     ensures label { IfOk result (λ l. l ≡ draft.old.labels) }
     ensures draft { OnOk result (draft.new ≡ with_label draft.old) }
+    ensures refused { IfErr result (λ e. e ≡ OutOfMemory) }
+    ensures kept { OnErr result (Keeps draft.old draft.new) }
 {
     if draft.labels() >= 0x8000_0000 {
         return Err(Refusal::OutOfMemory);
@@ -42,8 +47,8 @@ fn next_label(draft: &mut Draft) -> Result<u32, Refusal>
 
 /// Puts the lines of an expression behind those of the draft, where so many bytes of values wait on
 /// the software stack. The value then stands in the primary register: in A and X, or in A, X and
-/// sreg; of a place, and of a structure or union, the address. After a refusal the draft is not used
-/// again.
+/// sreg; of a place, and of a structure or union, the address. Refuses for want of memory alone, of
+/// labels too; the draft then has its old lines, and perhaps new ones behind them.
 pub fn gen_expr(
     expr: &TExpr,
     frame: &Frame<'_>,
@@ -51,14 +56,18 @@ pub fn gen_expr(
     draft: &mut Draft,
 ) -> Result<(), Refusal>
     requires { pushed ≤ 65535 }
-    ensures { OnOk result (draft.new ≡ grown draft.old (expr_code frame.now pushed draft.old.labels (typed_of expr.now)) (uses (typed_of expr.now))) }
+    ensures lines { OnOk result (draft.new ≡ grown draft.old (expr_code frame.now pushed draft.old.labels (typed_of expr.now)) (uses (typed_of expr.now))) }
+    ensures refused { IfErr result (λ e. e ≡ OutOfMemory) }
+    ensures kept { OnErr result (Keeps draft.old draft.new) }
 {
     put_expr(expr, frame, pushed as u16, draft)
 }
 
 #[cycle(expression)]
 fn put_expr(e: &TExpr, frame: &Frame<'_>, pushed: u16, draft: &mut Draft) -> Result<(), Refusal>
-    ensures { OnOk result (draft.new ≡ grown draft.old (expr_code frame.now pushed draft.old.labels (typed_of e.now)) (uses (typed_of e.now))) }
+    ensures lines { OnOk result (draft.new ≡ grown draft.old (expr_code frame.now pushed draft.old.labels (typed_of e.now)) (uses (typed_of e.now))) }
+    ensures refused { IfErr result (λ e. e ≡ OutOfMemory) }
+    ensures kept { OnErr result (Keeps draft.old draft.new) }
 {
     match &e.kind {
         TKind::Const(z) => number(width_of(kind_of(&e.ty.ty)), residue_of(*z), draft),
@@ -138,7 +147,9 @@ fn skip(
 ) -> Result<(), Refusal>
     requires at { place ≡ place_of frame.now pushed (typed_of a.now) }
     requires known { IsKnown place }
-    ensures { OnOk result (draft.new ≡ grown draft.old [] (uses (typed_of a.now))) }
+    ensures lines { OnOk result (draft.new ≡ grown draft.old [] (uses (typed_of a.now))) }
+    ensures refused { IfErr result (λ e. e ≡ OutOfMemory) }
+    ensures kept { OnErr result (Keeps draft.old draft.new) }
 {
     put(draft, &[])
 }
@@ -153,7 +164,9 @@ fn put_target(
     draft: &mut Draft,
 ) -> Result<(), Refusal>
     requires { place ≡ place_of frame.now pushed (typed_of a.now) }
-    ensures { OnOk result (draft.new ≡ grown draft.old (target_code place (expr_code frame.now pushed draft.old.labels (typed_of a.now))) (uses (typed_of a.now))) }
+    ensures lines { OnOk result (draft.new ≡ grown draft.old (target_code place (expr_code frame.now pushed draft.old.labels (typed_of a.now))) (uses (typed_of a.now))) }
+    ensures refused { IfErr result (λ e. e ≡ OutOfMemory) }
+    ensures kept { OnErr result (Keeps draft.old draft.new) }
 {
     match place {
         Place::Far => put_expr(a, frame, pushed, draft),
@@ -170,7 +183,9 @@ fn put_binary(
     pushed: u16,
     draft: &mut Draft,
 ) -> Result<(), Refusal>
-    ensures { OnOk result (draft.new ≡ grown draft.old (binary_code frame.now pushed draft.old.labels op (typed_of a.now) (typed_of b.now)) (uses (typed_of a.now) + uses (typed_of b.now))) }
+    ensures lines { OnOk result (draft.new ≡ grown draft.old (binary_code frame.now pushed draft.old.labels op (typed_of a.now) (typed_of b.now)) (uses (typed_of a.now) + uses (typed_of b.now))) }
+    ensures refused { IfErr result (λ e. e ≡ OutOfMemory) }
+    ensures kept { OnErr result (Keeps draft.old draft.new) }
 {
     let operands = operands_of(frame, &a.ty.ty, &b.ty.ty);
     let wait = waiting(width_of(computes(operands)));
@@ -197,7 +212,9 @@ fn put_both(
     pushed: u16,
     draft: &mut Draft,
 ) -> Result<(), Refusal>
-    ensures { OnOk result (draft.new ≡ grown draft.old (both_code frame.now pushed draft.old.labels (typed_of a.now) (typed_of b.now)) (1 + (uses (typed_of a.now) + uses (typed_of b.now)))) }
+    ensures lines { OnOk result (draft.new ≡ grown draft.old (both_code frame.now pushed draft.old.labels (typed_of a.now) (typed_of b.now)) (1 + (uses (typed_of a.now) + uses (typed_of b.now)))) }
+    ensures refused { IfErr result (λ e. e ≡ OutOfMemory) }
+    ensures kept { OnErr result (Keeps draft.old draft.new) }
 {
     let no = next_label(draft)?;
     put_expr(a, frame, pushed, draft)?;
@@ -225,7 +242,9 @@ fn put_either(
     pushed: u16,
     draft: &mut Draft,
 ) -> Result<(), Refusal>
-    ensures { OnOk result (draft.new ≡ grown draft.old (either_code frame.now pushed draft.old.labels (typed_of a.now) (typed_of b.now)) (2 + (uses (typed_of a.now) + uses (typed_of b.now)))) }
+    ensures lines { OnOk result (draft.new ≡ grown draft.old (either_code frame.now pushed draft.old.labels (typed_of a.now) (typed_of b.now)) (2 + (uses (typed_of a.now) + uses (typed_of b.now)))) }
+    ensures refused { IfErr result (λ e. e ≡ OutOfMemory) }
+    ensures kept { OnErr result (Keeps draft.old draft.new) }
 {
     let yes = next_label(draft)?;
     let no = next_label(draft)?;
@@ -256,7 +275,9 @@ fn put_choice(
     pushed: u16,
     draft: &mut Draft,
 ) -> Result<(), Refusal>
-    ensures { OnOk result (draft.new ≡ grown draft.old (choice_code frame.now pushed draft.old.labels (typed_of c.now) (typed_of a.now) (typed_of b.now)) (2 + (uses (typed_of c.now) + (uses (typed_of a.now) + uses (typed_of b.now))))) }
+    ensures lines { OnOk result (draft.new ≡ grown draft.old (choice_code frame.now pushed draft.old.labels (typed_of c.now) (typed_of a.now) (typed_of b.now)) (2 + (uses (typed_of c.now) + (uses (typed_of a.now) + uses (typed_of b.now))))) }
+    ensures refused { IfErr result (λ e. e ≡ OutOfMemory) }
+    ensures kept { OnErr result (Keeps draft.old draft.new) }
 {
     let other = next_label(draft)?;
     let end = next_label(draft)?;
@@ -278,7 +299,9 @@ fn put_assign(
     pushed: u16,
     draft: &mut Draft,
 ) -> Result<(), Refusal>
-    ensures { OnOk result (draft.new ≡ grown draft.old (assign_code frame.now pushed draft.old.labels (typed_of a.now) (typed_of b.now)) (uses (typed_of a.now) + uses (typed_of b.now))) }
+    ensures lines { OnOk result (draft.new ≡ grown draft.old (assign_code frame.now pushed draft.old.labels (typed_of a.now) (typed_of b.now)) (uses (typed_of a.now) + uses (typed_of b.now))) }
+    ensures refused { IfErr result (λ e. e ≡ OutOfMemory) }
+    ensures kept { OnErr result (Keeps draft.old draft.new) }
 {
     let place = place_of(frame, pushed, a);
     put_target(a, place, frame, pushed, draft)?;
@@ -298,7 +321,9 @@ fn put_compound(
     pushed: u16,
     draft: &mut Draft,
 ) -> Result<(), Refusal>
-    ensures { OnOk result (draft.new ≡ grown draft.old (compound_code frame.now pushed draft.old.labels op operands (typed_of a.now) (typed_of b.now)) (uses (typed_of a.now) + uses (typed_of b.now))) }
+    ensures lines { OnOk result (draft.new ≡ grown draft.old (compound_code frame.now pushed draft.old.labels op operands (typed_of a.now) (typed_of b.now)) (uses (typed_of a.now) + uses (typed_of b.now))) }
+    ensures refused { IfErr result (λ e. e ≡ OutOfMemory) }
+    ensures kept { OnErr result (Keeps draft.old draft.new) }
 {
     let place = place_of(frame, pushed, a);
     let access = access_of(&frame.parts().types, a);
@@ -319,7 +344,9 @@ fn put_call(
     pushed: u16,
     draft: &mut Draft,
 ) -> Result<(), Refusal>
-    ensures { OnOk result (draft.new ≡ grown draft.old (call_code frame.now pushed draft.old.labels kind (typed_of callee.now) (nodes_of args.now)) (head_uses (typed_of callee.now) + args_uses (nodes_of args.now))) }
+    ensures lines { OnOk result (draft.new ≡ grown draft.old (call_code frame.now pushed draft.old.labels kind (typed_of callee.now) (nodes_of args.now)) (head_uses (typed_of callee.now) + args_uses (nodes_of args.now))) }
+    ensures refused { IfErr result (λ e. e ≡ OutOfMemory) }
+    ensures kept { OnErr result (Keeps draft.old draft.new) }
 {
     let fast = is_fast(&callee.ty.ty);
     let counted = is_counted(&callee.ty.ty);
@@ -348,6 +375,8 @@ fn put_args(
 ) -> Result<Passed, Refusal>
     ensures passed { IfOk result (λ p. p ≡ passed_of fast (nodes_of args.now)) }
     ensures lines { OnOk result (draft.new ≡ grown draft.old (args_code frame.now pushed draft.old.labels fast (nodes_of args.now)) (args_uses (nodes_of args.now))) }
+    ensures refused { IfErr result (λ e. e ≡ OutOfMemory) }
+    ensures kept { OnErr result (Keeps draft.old draft.new) }
 {
     match args {
         [] => Ok(Passed {

@@ -1,5 +1,5 @@
 //! Expressions as lines of code, over the frame of their function.
-#![tactic(auto)]
+#![tactic(auto, using(c65_genwide::proofs::Kept::kept_then, c65_genwide::proofs::Kept::kept_last))]
 
 mod arguments;
 mod calls;

@@ -1,7 +1,8 @@
 // Operators between their two operands (C90 6.3.3 to 6.3.12).
-ghost use Rattle.std.specs.Prelude.{◌≡◌, OnOk};
+ghost use Rattle.std.specs.Prelude.{◌≡◌, OnOk, OnErr, IfErr};
+ghost use Rattle.c65_base.specs.declared.refusal.Refusal.TheVariants.{OutOfMemory};
 ghost use Rattle.c65_ctype.specs.Views.{ty_of};
-ghost use Rattle.c65_genwide.specs.Lines.{with_lines};
+ghost use Rattle.c65_genwide.specs.Lines.{with_lines, Keeps};
 ghost use Rattle.c65_genexpr.specs.Operands.{operands_of, computes, between_code, behind_code, unary_code, conversion_code};
 
 use crate::types::{kind_of, target_bytes};
@@ -48,7 +49,9 @@ pub fn computes(operands: Operands) -> IntType
 
 /// Behind the left operand, which then waits.
 pub fn put_between(operands: Operands, draft: &mut Draft) -> Result<(), Refusal>
-    ensures { OnOk result (draft.new ≡ with_lines draft.old (between_code operands)) }
+    ensures lines { OnOk result (draft.new ≡ with_lines draft.old (between_code operands)) }
+    ensures refused { IfErr result (λ e. e ≡ OutOfMemory) }
+    ensures kept { OnErr result (Keeps draft.old draft.new) }
 {
     match operands {
         Operands::PointerLast(size) => {
@@ -68,7 +71,9 @@ pub fn put_behind(
     right: IntType,
     draft: &mut Draft,
 ) -> Result<(), Refusal>
-    ensures { OnOk result (draft.new ≡ with_lines draft.old (behind_code op operands right)) }
+    ensures lines { OnOk result (draft.new ≡ with_lines draft.old (behind_code op operands right)) }
+    ensures refused { IfErr result (λ e. e ≡ OutOfMemory) }
+    ensures kept { OnErr result (Keeps draft.old draft.new) }
 {
     match operands {
         Operands::Numbers(kind) => {
@@ -92,7 +97,9 @@ pub fn put_behind(
 
 /// `-`, `~` and `!`.
 pub fn put_unary(op: UnaryOp, width: Width, draft: &mut Draft) -> Result<(), Refusal>
-    ensures { OnOk result (draft.new ≡ with_lines draft.old (unary_code op width)) }
+    ensures lines { OnOk result (draft.new ≡ with_lines draft.old (unary_code op width)) }
+    ensures refused { IfErr result (λ e. e ≡ OutOfMemory) }
+    ensures kept { OnErr result (Keeps draft.old draft.new) }
 {
     match op {
         UnaryOp::Neg => run(draft, Routine::Unary(UnaryRoutine::Neg, width)),
@@ -104,7 +111,9 @@ pub fn put_unary(op: UnaryOp, width: Width, draft: &mut Draft) -> Result<(), Ref
 
 /// A conversion, also to void (C90 6.3.4).
 pub fn put_conversion(to: &CType, from: IntType, draft: &mut Draft) -> Result<(), Refusal>
-    ensures { OnOk result (draft.new ≡ with_lines draft.old (conversion_code (ty_of to.now) from)) }
+    ensures lines { OnOk result (draft.new ≡ with_lines draft.old (conversion_code (ty_of to.now) from)) }
+    ensures refused { IfErr result (λ e. e ≡ OutOfMemory) }
+    ensures kept { OnErr result (Keeps draft.old draft.new) }
 {
     match to {
         CType::Void => put(draft, &[]),

@@ -1,7 +1,8 @@
 // Where the places of an expression lie.
-ghost use Rattle.std.specs.Prelude.{◌≡◌, OnOk};
+ghost use Rattle.std.specs.Prelude.{◌≡◌, OnOk, OnErr, IfErr};
+ghost use Rattle.c65_base.specs.declared.refusal.Refusal.TheVariants.{OutOfMemory};
 ghost use Rattle.c65_csem.specs.Views.{typed_of};
-ghost use Rattle.c65_genwide.specs.Lines.{with_lines};
+ghost use Rattle.c65_genwide.specs.Lines.{with_lines, Keeps};
 ghost use Rattle.c65_genexpr.specs.Places.{more, near, object_place, moved, place_of, object_code};
 
 use crate::types::offset_at;
@@ -86,7 +87,9 @@ pub fn put_object(
     object: u32,
     draft: &mut Draft,
 ) -> Result<(), Refusal>
-    ensures { OnOk result (draft.new ≡ with_lines draft.old (object_code frame.now pushed object)) }
+    ensures lines { OnOk result (draft.new ≡ with_lines draft.old (object_code frame.now pushed object)) }
+    ensures refused { IfErr result (λ e. e ≡ OutOfMemory) }
+    ensures kept { OnErr result (Keeps draft.old draft.new) }
 {
     match frame.home(object) {
         Some(Home::Bank(_)) => put(draft, &[]),

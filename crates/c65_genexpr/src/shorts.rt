@@ -1,7 +1,8 @@
 // Operators whose right operand is a constant (C90 6.3.6).
-ghost use Rattle.std.specs.Prelude.{◌≡◌, Some, OnOk};
+ghost use Rattle.std.specs.Prelude.{◌≡◌, Some, OnOk, OnErr, IfErr};
+ghost use Rattle.c65_base.specs.declared.refusal.Refusal.TheVariants.{OutOfMemory};
 ghost use Rattle.c65_csem.specs.Views.{typed_of};
-ghost use Rattle.c65_genwide.specs.Lines.{with_lines};
+ghost use Rattle.c65_genwide.specs.Lines.{with_lines, Keeps};
 ghost use Rattle.c65_genexpr.specs.Code.{grown};
 ghost use Rattle.c65_genexpr.specs.Uses.{uses};
 ghost use Rattle.c65_genexpr.specs.Operands.{residue_of, negative, constant_in, is_short, short_of, scaled, short_code};
@@ -72,7 +73,9 @@ fn scaled(operands: Operands, number: u32) -> u32
 }
 
 fn put_sum(op: BinaryOp, operands: Operands, number: u32, draft: &mut Draft) -> Result<(), Refusal>
-    ensures { OnOk result (draft.new ≡ with_lines draft.old (short_code op operands number)) }
+    ensures lines { OnOk result (draft.new ≡ with_lines draft.old (short_code op operands number)) }
+    ensures refused { IfErr result (λ e. e ≡ OutOfMemory) }
+    ensures kept { OnErr result (Keeps draft.old draft.new) }
 {
     let amount = scaled(operands, number);
     match op {
@@ -91,7 +94,9 @@ pub fn put_short(
     draft: &mut Draft,
 ) -> Result<(), Refusal>
     requires { short_of op operands (typed_of right.now) ≡ Some number }
-    ensures { OnOk result (draft.new ≡ grown draft.old (short_code op operands number) (uses (typed_of right.now))) }
+    ensures lines { OnOk result (draft.new ≡ grown draft.old (short_code op operands number) (uses (typed_of right.now))) }
+    ensures refused { IfErr result (λ e. e ≡ OutOfMemory) }
+    ensures kept { OnErr result (Keeps draft.old draft.new) }
 {
     put_sum(op, operands, number, draft)
 }

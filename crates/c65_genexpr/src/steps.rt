@@ -1,7 +1,8 @@
 // Values that are changed where they are kept (C90 6.3.2.4, 6.3.3.1, 6.3.16.2).
-ghost use Rattle.std.specs.Prelude.{◌≡◌, OnOk};
+ghost use Rattle.std.specs.Prelude.{◌≡◌, OnOk, OnErr, IfErr};
+ghost use Rattle.c65_base.specs.declared.refusal.Refusal.TheVariants.{OutOfMemory};
 ghost use Rattle.c65_ctype.specs.Views.{ty_of};
-ghost use Rattle.c65_genwide.specs.Lines.{with_lines};
+ghost use Rattle.c65_genwide.specs.Lines.{with_lines, Keeps};
 ghost use Rattle.c65_genexpr.specs.Steps.{is_up, is_post, amount_of, back_code, after_code, step_code, open_code, close_code};
 
 use crate::operands::{Operands, computes, put_behind};
@@ -43,7 +44,9 @@ pub fn amount_of(frame: &Frame<'_>, how: StepKind, ty: &CType) -> u32
 
 // The value before, from the one behind the step.
 fn put_back(access: Access, amount: u32, draft: &mut Draft) -> Result<(), Refusal>
-    ensures { OnOk result (draft.new ≡ with_lines draft.old (back_code access amount)) }
+    ensures lines { OnOk result (draft.new ≡ with_lines draft.old (back_code access amount)) }
+    ensures refused { IfErr result (λ e. e ≡ OutOfMemory) }
+    ensures kept { OnErr result (Keeps draft.old draft.new) }
 {
     match access {
         Access::Whole(kind) => add(kind, negative(amount), draft),
@@ -55,7 +58,9 @@ fn put_back(access: Access, amount: u32, draft: &mut Draft) -> Result<(), Refusa
 }
 
 fn put_after(how: StepKind, access: Access, amount: u32, draft: &mut Draft) -> Result<(), Refusal>
-    ensures { OnOk result (draft.new ≡ with_lines draft.old (after_code how access amount)) }
+    ensures lines { OnOk result (draft.new ≡ with_lines draft.old (after_code how access amount)) }
+    ensures refused { IfErr result (λ e. e ≡ OutOfMemory) }
+    ensures kept { OnErr result (Keeps draft.old draft.new) }
 {
     if is_post(how) {
         put_back(access, amount, draft)
@@ -73,7 +78,9 @@ pub fn put_step(
     amount: u32,
     draft: &mut Draft,
 ) -> Result<(), Refusal>
-    ensures { OnOk result (draft.new ≡ with_lines draft.old (step_code how place access amount)) }
+    ensures lines { OnOk result (draft.new ≡ with_lines draft.old (step_code how place access amount)) }
+    ensures refused { IfErr result (λ e. e ≡ OutOfMemory) }
+    ensures kept { OnErr result (Keeps draft.old draft.new) }
 {
     hold(place, draft)?;
     load(place, access, draft)?;
@@ -90,7 +97,9 @@ pub fn put_open(
     kind: IntType,
     draft: &mut Draft,
 ) -> Result<(), Refusal>
-    ensures { OnOk result (draft.new ≡ with_lines draft.old (open_code place access kind)) }
+    ensures lines { OnOk result (draft.new ≡ with_lines draft.old (open_code place access kind)) }
+    ensures refused { IfErr result (λ e. e ≡ OutOfMemory) }
+    ensures kept { OnErr result (Keeps draft.old draft.new) }
 {
     hold(place, draft)?;
     load(place, access, draft)?;
@@ -107,7 +116,9 @@ pub fn put_close(
     access: Access,
     draft: &mut Draft,
 ) -> Result<(), Refusal>
-    ensures { OnOk result (draft.new ≡ with_lines draft.old (close_code op operands right place access)) }
+    ensures lines { OnOk result (draft.new ≡ with_lines draft.old (close_code op operands right place access)) }
+    ensures refused { IfErr result (λ e. e ≡ OutOfMemory) }
+    ensures kept { OnErr result (Keeps draft.old draft.new) }
 {
     put_behind(op, operands, right, draft)?;
     convert(computes(operands), value_type(access), draft)?;

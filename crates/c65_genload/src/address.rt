@@ -1,6 +1,7 @@
 // Addresses (C90 6.3.3.2).
-ghost use Rattle.std.specs.Prelude.{◌≡◌, OnOk};
-ghost use Rattle.c65_genwide.specs.Lines.{with_lines};
+ghost use Rattle.std.specs.Prelude.{◌≡◌, OnOk, OnErr, IfErr};
+ghost use Rattle.c65_base.specs.declared.refusal.Refusal.TheVariants.{OutOfMemory};
+ghost use Rattle.c65_genwide.specs.Lines.{with_lines, Keeps};
 ghost use Rattle.c65_genload.specs.Addresses.{symbol_code, address_code, raised_code, offset_code};
 
 use crate::numbers::add;
@@ -16,7 +17,9 @@ use c65_mach::Op::{Adc, Clc, Lda, Ldx, Tax, Tay, Tya};
 
 /// AX is an address behind a symbol.
 pub fn put_symbol(sym: Sym, at: u16, draft: &mut Draft) -> Result<(), Refusal>
-    ensures { OnOk result (draft.new ≡ with_lines draft.old (symbol_code sym at)) }
+    ensures lines { OnOk result (draft.new ≡ with_lines draft.old (symbol_code sym at)) }
+    ensures refused { IfErr result (λ e. e ≡ OutOfMemory) }
+    ensures kept { OnErr result (Keeps draft.old draft.new) }
 {
     put(
         draft,
@@ -29,7 +32,9 @@ pub fn put_symbol(sym: Sym, at: u16, draft: &mut Draft) -> Result<(), Refusal>
 
 /// AX is the address so many bytes above sp.
 pub fn put_address(at: u16, draft: &mut Draft) -> Result<(), Refusal>
-    ensures { OnOk result (draft.new ≡ with_lines draft.old (address_code at)) }
+    ensures lines { OnOk result (draft.new ≡ with_lines draft.old (address_code at)) }
+    ensures refused { IfErr result (λ e. e ≡ OutOfMemory) }
+    ensures kept { OnErr result (Keeps draft.old draft.new) }
 {
     put(
         draft,
@@ -49,7 +54,9 @@ pub fn put_address(at: u16, draft: &mut Draft) -> Result<(), Refusal>
 /// AX is the address so many bytes above sp, and higher by the number in the byte so many bytes
 /// above sp.
 pub fn put_raised(counter: u16, at: u16, draft: &mut Draft) -> Result<(), Refusal>
-    ensures { OnOk result (draft.new ≡ with_lines draft.old (raised_code counter at)) }
+    ensures lines { OnOk result (draft.new ≡ with_lines draft.old (raised_code counter at)) }
+    ensures refused { IfErr result (λ e. e ≡ OutOfMemory) }
+    ensures kept { OnErr result (Keeps draft.old draft.new) }
 {
     put_address(counter, draft)?;
     run(draft, Routine::LdAi)?;
@@ -70,7 +77,9 @@ pub fn put_raised(counter: u16, at: u16, draft: &mut Draft) -> Result<(), Refusa
 
 /// The address in AX goes on by so many bytes.
 pub fn put_offset(offset: u32, draft: &mut Draft) -> Result<(), Refusal>
-    ensures { OnOk result (draft.new ≡ with_lines draft.old (offset_code offset)) }
+    ensures lines { OnOk result (draft.new ≡ with_lines draft.old (offset_code offset)) }
+    ensures refused { IfErr result (λ e. e ≡ OutOfMemory) }
+    ensures kept { OnErr result (Keeps draft.old draft.new) }
 {
     if offset == 0 {
         put(draft, &[])

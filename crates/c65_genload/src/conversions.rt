@@ -1,6 +1,7 @@
 // Conversions, and values that are pushed, passed and tested.
-ghost use Rattle.std.specs.Prelude.{◌≡◌, OnOk};
-ghost use Rattle.c65_genwide.specs.Lines.{with_lines};
+ghost use Rattle.std.specs.Prelude.{◌≡◌, OnOk, OnErr, IfErr};
+ghost use Rattle.c65_base.specs.declared.refusal.Refusal.TheVariants.{OutOfMemory};
+ghost use Rattle.c65_genwide.specs.Lines.{with_lines, Keeps};
 ghost use Rattle.c65_genload.specs.Conversions.{widen_code, convert_code, push_code, pass_code, test_code, size_of, waiting};
 
 use crate::zero_page::{SREG, TMP1};
@@ -15,7 +16,9 @@ use c65_mach::Op::{Ora, Stx};
 
 /// EAX from a value of this type.
 fn widen(from: IntType, draft: &mut Draft) -> Result<(), Refusal>
-    ensures { OnOk result (draft.new ≡ with_lines draft.old (widen_code from)) }
+    ensures lines { OnOk result (draft.new ≡ with_lines draft.old (widen_code from)) }
+    ensures refused { IfErr result (λ e. e ≡ OutOfMemory) }
+    ensures kept { OnErr result (Keeps draft.old draft.new) }
 {
     match from {
         IntType::Long | IntType::ULong => put(draft, &[]),
@@ -26,7 +29,9 @@ fn widen(from: IntType, draft: &mut Draft) -> Result<(), Refusal>
 
 /// A value of one type becomes one of another (C90 6.2.1.2).
 pub fn convert(from: IntType, to: IntType, draft: &mut Draft) -> Result<(), Refusal>
-    ensures { OnOk result (draft.new ≡ with_lines draft.old (convert_code from to)) }
+    ensures lines { OnOk result (draft.new ≡ with_lines draft.old (convert_code from to)) }
+    ensures refused { IfErr result (λ e. e ≡ OutOfMemory) }
+    ensures kept { OnErr result (Keeps draft.old draft.new) }
 {
     match width_of(to) {
         Width::Ax => narrow(to, draft),
@@ -57,7 +62,9 @@ pub fn bytes_of(kind: IntType) -> u16
 
 /// The value goes onto the software stack, where it waits.
 pub fn push(width: Width, draft: &mut Draft) -> Result<(), Refusal>
-    ensures { OnOk result (draft.new ≡ with_lines draft.old (push_code width)) }
+    ensures lines { OnOk result (draft.new ≡ with_lines draft.old (push_code width)) }
+    ensures refused { IfErr result (λ e. e ≡ OutOfMemory) }
+    ensures kept { OnErr result (Keeps draft.old draft.new) }
 {
     match width {
         Width::Ax => run(draft, Routine::PushAx),
@@ -67,7 +74,9 @@ pub fn push(width: Width, draft: &mut Draft) -> Result<(), Refusal>
 
 /// The value goes onto the software stack as a parameter, at its own size.
 pub fn pass(kind: IntType, draft: &mut Draft) -> Result<(), Refusal>
-    ensures { OnOk result (draft.new ≡ with_lines draft.old (pass_code kind)) }
+    ensures lines { OnOk result (draft.new ≡ with_lines draft.old (pass_code kind)) }
+    ensures refused { IfErr result (λ e. e ≡ OutOfMemory) }
+    ensures kept { OnErr result (Keeps draft.old draft.new) }
 {
     match kind {
         IntType::SChar | IntType::UChar => run(draft, Routine::PushA),
@@ -80,7 +89,9 @@ pub fn pass(kind: IntType, draft: &mut Draft) -> Result<(), Refusal>
 
 /// The flag Z says whether the value is zero, and A is zero then.
 pub fn test(width: Width, draft: &mut Draft) -> Result<(), Refusal>
-    ensures { OnOk result (draft.new ≡ with_lines draft.old (test_code width)) }
+    ensures lines { OnOk result (draft.new ≡ with_lines draft.old (test_code width)) }
+    ensures refused { IfErr result (λ e. e ≡ OutOfMemory) }
+    ensures kept { OnErr result (Keeps draft.old draft.new) }
 {
     match width {
         Width::Ax => put(

@@ -1,6 +1,7 @@
 // Bit-fields in their units of 16 bits (C90 6.5.2.1).
-ghost use Rattle.std.specs.Prelude.{◌≡◌, ◌<◌, OnOk};
-ghost use Rattle.c65_genwide.specs.Lines.{with_lines};
+ghost use Rattle.std.specs.Prelude.{◌≡◌, ◌<◌, OnOk, OnErr, IfErr};
+ghost use Rattle.c65_base.specs.declared.refusal.Refusal.TheVariants.{OutOfMemory};
+ghost use Rattle.c65_genwide.specs.Lines.{with_lines, Keeps};
 ghost use Rattle.c65_genload.specs.Fields.{ones, others, extract_code, range_code, aligned_code};
 
 use crate::numbers::{mask, shift};
@@ -25,7 +26,9 @@ pub fn others(field: Field) -> u32
 
 /// AX is a unit, and becomes the value of the field in it.
 pub fn extract(field: Field, draft: &mut Draft) -> Result<(), Refusal>
-    ensures { OnOk result (draft.new ≡ with_lines draft.old (extract_code field)) }
+    ensures lines { OnOk result (draft.new ≡ with_lines draft.old (extract_code field)) }
+    ensures refused { IfErr result (λ e. e ≡ OutOfMemory) }
+    ensures kept { OnErr result (Keeps draft.old draft.new) }
 {
     if field.kind.is_signed() {
         let above = (field.low as u32 + field.width as u32).min(16);
@@ -39,7 +42,9 @@ pub fn extract(field: Field, draft: &mut Draft) -> Result<(), Refusal>
 
 /// AX is brought into the range of a field.
 pub fn in_field(field: Field, draft: &mut Draft) -> Result<(), Refusal>
-    ensures { OnOk result (draft.new ≡ with_lines draft.old (range_code field)) }
+    ensures lines { OnOk result (draft.new ≡ with_lines draft.old (range_code field)) }
+    ensures refused { IfErr result (λ e. e ≡ OutOfMemory) }
+    ensures kept { OnErr result (Keeps draft.old draft.new) }
 {
     let lowest = Field {
         kind: field.kind,
@@ -51,7 +56,9 @@ pub fn in_field(field: Field, draft: &mut Draft) -> Result<(), Refusal>
 
 /// AX is a value, and becomes the unit that has it in the field and zeros beside it.
 pub fn align(field: Field, draft: &mut Draft) -> Result<(), Refusal>
-    ensures { OnOk result (draft.new ≡ with_lines draft.old (aligned_code field)) }
+    ensures lines { OnOk result (draft.new ≡ with_lines draft.old (aligned_code field)) }
+    ensures refused { IfErr result (λ e. e ≡ OutOfMemory) }
+    ensures kept { OnErr result (Keeps draft.old draft.new) }
 {
     mask(ones(field.width), draft)?;
     shift(TosOp::Shl, field.low as u32, draft)

@@ -1,6 +1,6 @@
 //! The lines that load, store, convert and add: what expressions are made of, beside operators and
 //! calls.
-#![tactic(auto)]
+#![tactic(auto, using(c65_genwide::proofs::Kept::kept_then, c65_genwide::proofs::Kept::kept_last))]
 
 mod address;
 mod conversions;

@@ -1,6 +1,7 @@
 // Values taken from where they are kept (C90 6.2.2.1).
-ghost use Rattle.std.specs.Prelude.{◌≡◌, OnOk};
-ghost use Rattle.c65_genwide.specs.Lines.{with_lines};
+ghost use Rattle.std.specs.Prelude.{◌≡◌, OnOk, OnErr, IfErr};
+ghost use Rattle.c65_base.specs.declared.refusal.Refusal.TheVariants.{OutOfMemory};
+ghost use Rattle.c65_genwide.specs.Lines.{with_lines, Keeps};
 ghost use Rattle.c65_genload.specs.Loads.{hold_code, bank_code, near_code, data_code, far_code, bytes_code, load_code};
 
 use crate::fields::extract;
@@ -16,7 +17,9 @@ use c65_mach::Op::{Lda, Ldx, Ldy, Sta};
 
 /// The address of a place that is anywhere goes onto the software stack, and stays in AX.
 pub fn hold(place: Place, draft: &mut Draft) -> Result<(), Refusal>
-    ensures { OnOk result (draft.new ≡ with_lines draft.old (hold_code place)) }
+    ensures lines { OnOk result (draft.new ≡ with_lines draft.old (hold_code place)) }
+    ensures refused { IfErr result (λ e. e ≡ OutOfMemory) }
+    ensures kept { OnErr result (Keeps draft.old draft.new) }
 {
     match place {
         Place::Far => run(draft, Routine::PushAx),
@@ -25,7 +28,9 @@ pub fn hold(place: Place, draft: &mut Draft) -> Result<(), Refusal>
 }
 
 fn load_bank(at: u8, extent: Extent, draft: &mut Draft) -> Result<(), Refusal>
-    ensures { OnOk result (draft.new ≡ with_lines draft.old (bank_code at extent)) }
+    ensures lines { OnOk result (draft.new ≡ with_lines draft.old (bank_code at extent)) }
+    ensures refused { IfErr result (λ e. e ≡ OutOfMemory) }
+    ensures kept { OnErr result (Keeps draft.old draft.new) }
 {
     let byte = REGBANK.wrapping_add(at);
     match extent {
@@ -41,7 +46,9 @@ fn load_bank(at: u8, extent: Extent, draft: &mut Draft) -> Result<(), Refusal>
 }
 
 fn load_near(at: u8, extent: Extent, draft: &mut Draft) -> Result<(), Refusal>
-    ensures { OnOk result (draft.new ≡ with_lines draft.old (near_code at extent)) }
+    ensures lines { OnOk result (draft.new ≡ with_lines draft.old (near_code at extent)) }
+    ensures refused { IfErr result (λ e. e ≡ OutOfMemory) }
+    ensures kept { OnErr result (Keeps draft.old draft.new) }
 {
     match extent {
         Extent::One => put(
@@ -60,7 +67,9 @@ fn load_near(at: u8, extent: Extent, draft: &mut Draft) -> Result<(), Refusal>
 }
 
 fn load_data(sym: Sym, at: u16, extent: Extent, draft: &mut Draft) -> Result<(), Refusal>
-    ensures { OnOk result (draft.new ≡ with_lines draft.old (data_code sym at extent)) }
+    ensures lines { OnOk result (draft.new ≡ with_lines draft.old (data_code sym at extent)) }
+    ensures refused { IfErr result (λ e. e ≡ OutOfMemory) }
+    ensures kept { OnErr result (Keeps draft.old draft.new) }
 {
     match extent {
         Extent::One => put(draft, &[Do(Lda, Absolute, At(sym, at))]),
@@ -86,7 +95,9 @@ fn load_data(sym: Sym, at: u16, extent: Extent, draft: &mut Draft) -> Result<(),
 }
 
 fn load_far(extent: Extent, draft: &mut Draft) -> Result<(), Refusal>
-    ensures { OnOk result (draft.new ≡ with_lines draft.old (far_code extent)) }
+    ensures lines { OnOk result (draft.new ≡ with_lines draft.old (far_code extent)) }
+    ensures refused { IfErr result (λ e. e ≡ OutOfMemory) }
+    ensures kept { OnErr result (Keeps draft.old draft.new) }
 {
     match extent {
         Extent::One => run(draft, Routine::LdAi),
@@ -97,7 +108,9 @@ fn load_far(extent: Extent, draft: &mut Draft) -> Result<(), Refusal>
 
 /// The bytes at a place come into A, AX or EAX.
 pub fn load_bytes(place: Place, extent: Extent, draft: &mut Draft) -> Result<(), Refusal>
-    ensures { OnOk result (draft.new ≡ with_lines draft.old (bytes_code place extent)) }
+    ensures lines { OnOk result (draft.new ≡ with_lines draft.old (bytes_code place extent)) }
+    ensures refused { IfErr result (λ e. e ≡ OutOfMemory) }
+    ensures kept { OnErr result (Keeps draft.old draft.new) }
 {
     match place {
         Place::Bank(at) => load_bank(at, extent, draft),
@@ -110,7 +123,9 @@ pub fn load_bytes(place: Place, extent: Extent, draft: &mut Draft) -> Result<(),
 /// The value that is kept at a place comes into the primary register. The address of a place that is
 /// anywhere is in AX before.
 pub fn load(place: Place, access: Access, draft: &mut Draft) -> Result<(), Refusal>
-    ensures { OnOk result (draft.new ≡ with_lines draft.old (load_code place access)) }
+    ensures lines { OnOk result (draft.new ≡ with_lines draft.old (load_code place access)) }
+    ensures refused { IfErr result (λ e. e ≡ OutOfMemory) }
+    ensures kept { OnErr result (Keeps draft.old draft.new) }
 {
     match access {
         Access::Whole(kind) => {

@@ -1,6 +1,7 @@
 // Numbers that are known: taken, added, multiplied and divided by.
-ghost use Rattle.std.specs.Prelude.{◌≡◌, OnOk};
-ghost use Rattle.c65_genwide.specs.Lines.{with_lines};
+ghost use Rattle.std.specs.Prelude.{◌≡◌, OnOk, OnErr, IfErr};
+ghost use Rattle.c65_base.specs.declared.refusal.Refusal.TheVariants.{OutOfMemory};
+ghost use Rattle.c65_genwide.specs.Lines.{with_lines, Keeps};
 ghost use Rattle.c65_genload.specs.Numbers.{first, second, third, fourth, number_code, add_word_code, add_long_code, add_code, mask_code, by_code, shift_code, scale_code, divide_code};
 
 use crate::zero_page::SREG;
@@ -39,7 +40,9 @@ fn fourth(number: u32) -> u8
 
 /// The primary register becomes a number of so many bytes.
 pub fn number(width: Width, number: u32, draft: &mut Draft) -> Result<(), Refusal>
-    ensures { OnOk result (draft.new ≡ with_lines draft.old (number_code width number)) }
+    ensures lines { OnOk result (draft.new ≡ with_lines draft.old (number_code width number)) }
+    ensures refused { IfErr result (λ e. e ≡ OutOfMemory) }
+    ensures kept { OnErr result (Keeps draft.old draft.new) }
 {
     match width {
         Width::Ax => put(
@@ -64,7 +67,9 @@ pub fn number(width: Width, number: u32, draft: &mut Draft) -> Result<(), Refusa
 }
 
 fn add_word(number: u32, draft: &mut Draft) -> Result<(), Refusal>
-    ensures { OnOk result (draft.new ≡ with_lines draft.old (add_word_code number)) }
+    ensures lines { OnOk result (draft.new ≡ with_lines draft.old (add_word_code number)) }
+    ensures refused { IfErr result (λ e. e ≡ OutOfMemory) }
+    ensures kept { OnErr result (Keeps draft.old draft.new) }
 {
     put(
         draft,
@@ -81,7 +86,9 @@ fn add_word(number: u32, draft: &mut Draft) -> Result<(), Refusal>
 }
 
 fn add_long(number: u32, draft: &mut Draft) -> Result<(), Refusal>
-    ensures { OnOk result (draft.new ≡ with_lines draft.old (add_long_code number)) }
+    ensures lines { OnOk result (draft.new ≡ with_lines draft.old (add_long_code number)) }
+    ensures refused { IfErr result (λ e. e ≡ OutOfMemory) }
+    ensures kept { OnErr result (Keeps draft.old draft.new) }
 {
     put(
         draft,
@@ -105,7 +112,9 @@ fn add_long(number: u32, draft: &mut Draft) -> Result<(), Refusal>
 
 /// A number is added to the primary register, and the sum brought back into the type.
 pub fn add(kind: IntType, number: u32, draft: &mut Draft) -> Result<(), Refusal>
-    ensures { OnOk result (draft.new ≡ with_lines draft.old (add_code kind number)) }
+    ensures lines { OnOk result (draft.new ≡ with_lines draft.old (add_code kind number)) }
+    ensures refused { IfErr result (λ e. e ≡ OutOfMemory) }
+    ensures kept { OnErr result (Keeps draft.old draft.new) }
 {
     match width_of(kind) {
         Width::Ax => {
@@ -118,7 +127,9 @@ pub fn add(kind: IntType, number: u32, draft: &mut Draft) -> Result<(), Refusal>
 
 /// The bits of AX that a number has.
 pub fn mask(number: u32, draft: &mut Draft) -> Result<(), Refusal>
-    ensures { OnOk result (draft.new ≡ with_lines draft.old (mask_code number)) }
+    ensures lines { OnOk result (draft.new ≡ with_lines draft.old (mask_code number)) }
+    ensures refused { IfErr result (λ e. e ≡ OutOfMemory) }
+    ensures kept { OnErr result (Keeps draft.old draft.new) }
 {
     put(
         draft,
@@ -135,7 +146,9 @@ pub fn mask(number: u32, draft: &mut Draft) -> Result<(), Refusal>
 
 /// AX and a number, by an operator.
 fn by(op: TosOp, amount: u32, draft: &mut Draft) -> Result<(), Refusal>
-    ensures { OnOk result (draft.new ≡ with_lines draft.old (by_code op amount)) }
+    ensures lines { OnOk result (draft.new ≡ with_lines draft.old (by_code op amount)) }
+    ensures refused { IfErr result (λ e. e ≡ OutOfMemory) }
+    ensures kept { OnErr result (Keeps draft.old draft.new) }
 {
     run(draft, Routine::PushAx)?;
     number(Width::Ax, amount, draft)?;
@@ -144,7 +157,9 @@ fn by(op: TosOp, amount: u32, draft: &mut Draft) -> Result<(), Refusal>
 
 /// AX is shifted by so many bits.
 pub fn shift(op: TosOp, count: u32, draft: &mut Draft) -> Result<(), Refusal>
-    ensures { OnOk result (draft.new ≡ with_lines draft.old (shift_code op count)) }
+    ensures lines { OnOk result (draft.new ≡ with_lines draft.old (shift_code op count)) }
+    ensures refused { IfErr result (λ e. e ≡ OutOfMemory) }
+    ensures kept { OnErr result (Keeps draft.old draft.new) }
 {
     if count == 0 {
         put(draft, &[])
@@ -155,7 +170,9 @@ pub fn shift(op: TosOp, count: u32, draft: &mut Draft) -> Result<(), Refusal>
 
 /// A number of elements of so many bytes becomes a number of bytes (C90 6.3.6).
 pub fn scale(size: u32, draft: &mut Draft) -> Result<(), Refusal>
-    ensures { OnOk result (draft.new ≡ with_lines draft.old (scale_code size)) }
+    ensures lines { OnOk result (draft.new ≡ with_lines draft.old (scale_code size)) }
+    ensures refused { IfErr result (λ e. e ≡ OutOfMemory) }
+    ensures kept { OnErr result (Keeps draft.old draft.new) }
 {
     if size == 1 {
         put(draft, &[])
@@ -168,7 +185,9 @@ pub fn scale(size: u32, draft: &mut Draft) -> Result<(), Refusal>
 
 /// A number of bytes becomes a number of elements of so many bytes (C90 6.3.6).
 pub fn divide(size: u32, draft: &mut Draft) -> Result<(), Refusal>
-    ensures { OnOk result (draft.new ≡ with_lines draft.old (divide_code size)) }
+    ensures lines { OnOk result (draft.new ≡ with_lines draft.old (divide_code size)) }
+    ensures refused { IfErr result (λ e. e ≡ OutOfMemory) }
+    ensures kept { OnErr result (Keeps draft.old draft.new) }
 {
     if size == 1 {
         put(draft, &[])

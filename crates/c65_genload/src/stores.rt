@@ -1,6 +1,7 @@
 // Values put where they are kept (C90 6.3.16).
-ghost use Rattle.std.specs.Prelude.{◌≡◌, OnOk};
-ghost use Rattle.c65_genwide.specs.Lines.{with_lines};
+ghost use Rattle.std.specs.Prelude.{◌≡◌, OnOk, OnErr, IfErr};
+ghost use Rattle.c65_base.specs.declared.refusal.Refusal.TheVariants.{OutOfMemory};
+ghost use Rattle.c65_genwide.specs.Lines.{with_lines, Keeps};
 ghost use Rattle.c65_genload.specs.Stores.{bank_store, near_store, data_store, far_store, bytes_store, after_store, under_code, field_store, store_code, copy_code};
 
 use crate::fields::{align, extract, others};
@@ -18,7 +19,9 @@ use c65_mach::Mode::{Absolute, Immediate, Implied, IndirectY, ZeroPage};
 use c65_mach::Op::{Lda, Ldy, Sta, Stx, Sty, Tay, Tya};
 
 fn store_bank(at: u8, extent: Extent, draft: &mut Draft) -> Result<(), Refusal>
-    ensures { OnOk result (draft.new ≡ with_lines draft.old (bank_store at extent)) }
+    ensures lines { OnOk result (draft.new ≡ with_lines draft.old (bank_store at extent)) }
+    ensures refused { IfErr result (λ e. e ≡ OutOfMemory) }
+    ensures kept { OnErr result (Keeps draft.old draft.new) }
 {
     let byte = REGBANK.wrapping_add(at);
     match extent {
@@ -34,7 +37,9 @@ fn store_bank(at: u8, extent: Extent, draft: &mut Draft) -> Result<(), Refusal>
 }
 
 fn store_near(at: u8, extent: Extent, draft: &mut Draft) -> Result<(), Refusal>
-    ensures { OnOk result (draft.new ≡ with_lines draft.old (near_store at extent)) }
+    ensures lines { OnOk result (draft.new ≡ with_lines draft.old (near_store at extent)) }
+    ensures refused { IfErr result (λ e. e ≡ OutOfMemory) }
+    ensures kept { OnErr result (Keeps draft.old draft.new) }
 {
     put(draft, &[Do(Ldy, Immediate, Byte(at))])?;
     match extent {
@@ -45,7 +50,9 @@ fn store_near(at: u8, extent: Extent, draft: &mut Draft) -> Result<(), Refusal>
 }
 
 fn store_data(sym: Sym, at: u16, extent: Extent, draft: &mut Draft) -> Result<(), Refusal>
-    ensures { OnOk result (draft.new ≡ with_lines draft.old (data_store sym at extent)) }
+    ensures lines { OnOk result (draft.new ≡ with_lines draft.old (data_store sym at extent)) }
+    ensures refused { IfErr result (λ e. e ≡ OutOfMemory) }
+    ensures kept { OnErr result (Keeps draft.old draft.new) }
 {
     match extent {
         Extent::One => put(draft, &[Do(Sta, Absolute, At(sym, at))]),
@@ -71,7 +78,9 @@ fn store_data(sym: Sym, at: u16, extent: Extent, draft: &mut Draft) -> Result<()
 }
 
 fn store_far(extent: Extent, draft: &mut Draft) -> Result<(), Refusal>
-    ensures { OnOk result (draft.new ≡ with_lines draft.old (far_store extent)) }
+    ensures lines { OnOk result (draft.new ≡ with_lines draft.old (far_store extent)) }
+    ensures refused { IfErr result (λ e. e ≡ OutOfMemory) }
+    ensures kept { OnErr result (Keeps draft.old draft.new) }
 {
     match extent {
         Extent::One => run(draft, Routine::StATos),
@@ -82,7 +91,9 @@ fn store_far(extent: Extent, draft: &mut Draft) -> Result<(), Refusal>
 
 /// A, AX or EAX goes to a place. An address that waited is popped.
 fn store_bytes(place: Place, extent: Extent, draft: &mut Draft) -> Result<(), Refusal>
-    ensures { OnOk result (draft.new ≡ with_lines draft.old (bytes_store place extent)) }
+    ensures lines { OnOk result (draft.new ≡ with_lines draft.old (bytes_store place extent)) }
+    ensures refused { IfErr result (λ e. e ≡ OutOfMemory) }
+    ensures kept { OnErr result (Keeps draft.old draft.new) }
 {
     match place {
         Place::Bank(at) => store_bank(at, extent, draft),
@@ -94,7 +105,9 @@ fn store_bytes(place: Place, extent: Extent, draft: &mut Draft) -> Result<(), Re
 
 // A store through an address leaves A alone in place of a character.
 fn restore(place: Place, kind: IntType, draft: &mut Draft) -> Result<(), Refusal>
-    ensures { OnOk result (draft.new ≡ with_lines draft.old (after_store place kind)) }
+    ensures lines { OnOk result (draft.new ≡ with_lines draft.old (after_store place kind)) }
+    ensures refused { IfErr result (λ e. e ≡ OutOfMemory) }
+    ensures kept { OnErr result (Keeps draft.old draft.new) }
 {
     match place {
         Place::Far => narrow(kind, draft),
@@ -104,7 +117,9 @@ fn restore(place: Place, kind: IntType, draft: &mut Draft) -> Result<(), Refusal
 
 // The word at a place, above whose address one word more waits.
 fn load_under(place: Place, draft: &mut Draft) -> Result<(), Refusal>
-    ensures { OnOk result (draft.new ≡ with_lines draft.old (under_code place)) }
+    ensures lines { OnOk result (draft.new ≡ with_lines draft.old (under_code place)) }
+    ensures refused { IfErr result (λ e. e ≡ OutOfMemory) }
+    ensures kept { OnErr result (Keeps draft.old draft.new) }
 {
     match place {
         Place::Near(at) => load_bytes(Place::Near(at.wrapping_add(2)), Extent::Two, draft),
@@ -119,7 +134,9 @@ fn load_under(place: Place, draft: &mut Draft) -> Result<(), Refusal>
 
 // The other bits of the unit stay.
 fn store_field(place: Place, field: Field, draft: &mut Draft) -> Result<(), Refusal>
-    ensures { OnOk result (draft.new ≡ with_lines draft.old (field_store place field)) }
+    ensures lines { OnOk result (draft.new ≡ with_lines draft.old (field_store place field)) }
+    ensures refused { IfErr result (λ e. e ≡ OutOfMemory) }
+    ensures kept { OnErr result (Keeps draft.old draft.new) }
 {
     align(field, draft)?;
     run(draft, Routine::PushAx)?;
@@ -133,7 +150,9 @@ fn store_field(place: Place, field: Field, draft: &mut Draft) -> Result<(), Refu
 /// The primary register goes to a place, and is what the place then holds. An address that waited is
 /// popped.
 pub fn store(place: Place, access: Access, draft: &mut Draft) -> Result<(), Refusal>
-    ensures { OnOk result (draft.new ≡ with_lines draft.old (store_code place access)) }
+    ensures lines { OnOk result (draft.new ≡ with_lines draft.old (store_code place access)) }
+    ensures refused { IfErr result (λ e. e ≡ OutOfMemory) }
+    ensures kept { OnErr result (Keeps draft.old draft.new) }
 {
     match access {
         Access::Whole(kind) => {
@@ -147,7 +166,9 @@ pub fn store(place: Place, access: Access, draft: &mut Draft) -> Result<(), Refu
 /// So many bytes are copied from the address in AX to the one that waits, which AX becomes (C90
 /// 6.3.16.1).
 pub fn copy(size: u32, draft: &mut Draft) -> Result<(), Refusal>
-    ensures { OnOk result (draft.new ≡ with_lines draft.old (copy_code size)) }
+    ensures lines { OnOk result (draft.new ≡ with_lines draft.old (copy_code size)) }
+    ensures refused { IfErr result (λ e. e ≡ OutOfMemory) }
+    ensures kept { OnErr result (Keeps draft.old draft.new) }
 {
     put(
         draft,

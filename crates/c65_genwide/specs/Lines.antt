@@ -1,5 +1,5 @@
 -- Lines in the words of the assembler, and lines put behind others.
-use Rattle.std.specs.Prelude.{ℕ, List, ◌++◌}
+use Rattle.std.specs.Prelude.{◌≡◌, ℕ, ◌+◌, List, ◌++◌}
 use Rattle.c65_mach.specs.declared.rows.Op.{Op}
 use Rattle.c65_mach.specs.declared.rows.Mode.TheVariants.{Immediate}
 use Rattle.c65_code.specs.declared.line.Operand.TheVariants.{Byte}
@@ -19,3 +19,9 @@ call r = Call (callees.Routine r)
 -- the draft with lines behind its own
 abbrev pub with_lines : Drafted → List Line → Drafted
 with_lines draft lines = record draft { lines = draft.lines ++ lines }
+
+-- the draft has its old lines, and perhaps new ones behind them and new labels
+pub record Keeps (old new : Drafted) : Type 0 where
+  pub lines : List Line
+  pub labels : ℕ
+  pub is : new ≡ record old { lines = old.lines ++ lines; labels = old.labels + labels }

@@ -1,6 +1,6 @@
 //! The binary operators as lines of code, between a left operand on the software stack and a right
 //! operand in the primary register.
-#![tactic(auto)]
+#![tactic(auto, using(crate::proofs::Kept::kept_run, crate::proofs::Kept::kept_then, crate::proofs::Kept::kept_last))]
 
 mod wide;
 mod writing;

@@ -1,6 +1,7 @@
 // The routine of each operator at each integer type, and what brings its result into the type.
-ghost use Rattle.std.specs.Prelude.{◌≡◌, OnOk};
-ghost use Rattle.c65_genwide.specs.Lines.{with_lines};
+ghost use Rattle.std.specs.Prelude.{◌≡◌, OnOk, OnErr, IfErr};
+ghost use Rattle.c65_base.specs.declared.refusal.Refusal.TheVariants.{OutOfMemory};
+ghost use Rattle.c65_genwide.specs.Lines.{with_lines, Keeps};
 ghost use Rattle.c65_genwide.specs.Wide.{signed_or, width_of, tos_of, is_comparison, narrow_code, wide_code};
 
 use crate::writing::{put, run};
@@ -62,7 +63,9 @@ fn is_comparison(op: BinaryOp) -> bool
 /// Puts the lines that bring AX into the range of a character type; for the other types there are
 /// none (C90 6.2.1.2).
 pub fn narrow(ty: IntType, draft: &mut Draft) -> Result<(), Refusal>
-    ensures { OnOk result (draft.new ≡ with_lines draft.old (narrow_code ty)) }
+    ensures lines { OnOk result (draft.new ≡ with_lines draft.old (narrow_code ty)) }
+    ensures refused { IfErr result (λ e. e ≡ OutOfMemory) }
+    ensures kept { OnErr result (Keeps draft.old draft.new) }
 {
     match ty {
         IntType::UChar => put(
@@ -78,7 +81,9 @@ pub fn narrow(ty: IntType, draft: &mut Draft) -> Result<(), Refusal>
 /// there, the right one is in the primary register, which the result takes. Both are of the type's
 /// width, a count of bits to shift by too. A comparison leaves 1 or 0 in AX (C90 6.3.5 to 6.3.12).
 pub fn gen_wide(op: BinaryOp, ty: IntType, draft: &mut Draft) -> Result<(), Refusal>
-    ensures { OnOk result (draft.new ≡ with_lines draft.old (wide_code op ty)) }
+    ensures lines { OnOk result (draft.new ≡ with_lines draft.old (wide_code op ty)) }
+    ensures refused { IfErr result (λ e. e ≡ OutOfMemory) }
+    ensures kept { OnErr result (Keeps draft.old draft.new) }
 {
     run(
         draft,

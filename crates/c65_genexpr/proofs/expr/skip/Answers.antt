@@ -6,9 +6,9 @@ use Rattle.c65_genexpr.specs.Uses.{uses}
 use Rattle.c65_genexpr.proofs.Known.{known_uses}
 use Rattle.c65_genexpr.proofs.expr.skip.Goals as goal
 
-pub returns : goal.returns
-returns c =
+pub returns-clause-lines : goal.returns-clause-lines
+returns-clause-lines c =
     let P : Place → Type 0 = λ p. IsKnown p in
     let known : IsKnown (place_of c.args.frame.now c.args.pushed (typed_of c.args.a.now)) = subst P c.requires.at c.requires.known in
     let no_labels : uses (typed_of c.args.a.now) ≡ 0 = known_uses c.args.frame.now c.args.pushed (typed_of c.args.a.now) known in
-    rw (no_labels, add-zero) c.put.ensures
+    rw (no_labels, add-zero) c.put.ensures.lines
