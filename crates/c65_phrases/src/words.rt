@@ -109,7 +109,10 @@ fn kind_of(word: Word) -> TokenKind {
 }
 
 fn push(tokens: &mut Vec<Token>, kind: TokenKind) -> Result<(), AllocError> {
-    let line = (tokens.len() as u32).saturating_add(1);
+    let line = match u32::try_from(tokens.len()) {
+        Ok(count) => count.saturating_add(1),
+        Err(_) => u32::MAX,
+    };
     tokens.push(Token {
         kind,
         pos: Pos { file: 0, line },
