@@ -1,2 +1,4 @@
 pub mod CellLaws
+pub mod ItemLaws
 pub mod PartLaws
+pub mod Ranges

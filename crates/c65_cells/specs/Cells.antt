@@ -48,12 +48,6 @@ with_unit cs at unit = set (set cs at (Byte (unit % 256))) (at + 1) (Byte (unit 
 abbrev pub with_bits : List Cell → ℕ → ℕ → ℕ → ℤ → List Cell
 with_bits cs at lowest width z = with_unit (grown cs (at + 2)) at (bit_or (unit_at (grown cs (at + 2)) at) (shifted (low_bits z width) lowest))
 
--- how many elements an array of characters has that so many begin: all that it has, or one more for
--- the last zero
-abbrev pub elements : Option ℕ → ℕ → ℕ
-elements None n = n + 1
-elements (Some m) n = m
-
 -- whether an array that has so many elements, where that is known, has one more
 abbrev pub is_below : ℕ → Option ℕ → Bool
 is_below n None = true

@@ -1,5 +1,7 @@
 -- The parts of an object to which the values of an initialiser go (C90 6.5.7).
-use Rattle.std.specs.Prelude.{ℕ, ◌+◌, ◌^◌, ◌-◌, min, ◌&&◌, nat_lt, if◌then◌else◌, List, [], ◌∷◌, drop, slice_get, Option, Some, None, is_some}
+use Rattle.std.specs.Prelude.{ℕ, ◌+◌, ◌^◌, ◌-◌, min, ◌&&◌, nat_lt, if◌then◌else◌, List, [], ◌∷◌, drop, slice_get, Option, Some, None, is_some, Result, Ok, ◌*◌}
+use Rattle.c65_base.specs.Answers.{Fault, ◌>>=◌}
+use Rattle.c65_ctype.specs.Sizes.{limited}
 use Rattle.c65_ctype.specs.Trees.{QTy, MemberTy, LayoutTy, TypesTy}
 use Rattle.c65_ctype.specs.Tables.{layout_at}
 use Rattle.c65_ctype.specs.Views.{qty_of}
@@ -17,6 +19,10 @@ part_of p = record { ty = qty_of p.ty; offset = p.offset; bits = p.bits }
 -- a part that is no bit-field
 abbrev pub plain_part : QTy → ℕ → PartTy
 plain_part t offset = record { ty = t; offset = offset; bits = None }
+
+-- an element of an array; no object has more than 65,535 bytes
+abbrev pub element_at : QTy → ℕ → ℕ → ℕ → Result PartTy Fault
+element_at element base size index = limited (base + size * index) >>= (λ offset. Ok (plain_part element offset))
 
 -- the place of the first member with a name, where the first of these stands at a place
 abbrev pub named_from : List MemberTy → ℕ → Option ℕ

@@ -1,9 +1,14 @@
 // The parts of an object to which the values of an initialiser go, in their order (C90 6.5.7).
 ghost use Rattle.std.specs.Prelude.{◌≡◌, ◌+◌, ◌*◌, ◌<◌, IfErr, IfOk, IfSome, drop, map, length, option_map};
-ghost use Rattle.c65_ctype.specs.Views.{qty_of, types_of, member_of};
-ghost use Rattle.c65_cells.specs.Parts.{part_of, pair_of, plain_part, named_from, next_member};
-ghost use Rattle.c65_cells.specs.Causes.{IsPartFault, IsShapeFault};
+ghost use Rattle.c65_base.specs.Answers.{Gives};
+ghost use Rattle.c65_ctype.specs.Sizes.{limited};
+ghost use Rattle.c65_ctype.specs.Views.{ty_of, qty_of, types_of, member_of};
+ghost use Rattle.c65_tree.specs.View.{expr_of, init_of};
+ghost use Rattle.c65_cells.specs.Parts.{part_of, pair_of, plain_part, element_at, named_from, next_member};
+ghost use Rattle.c65_cells.specs.Causes.{IsShapeFault};
 ghost use Rattle.c65_cells.specs.Cells.{is_below};
+ghost use Rattle.c65_cells.specs.Items.{first_place};
+ghost use Rattle.c65_cells.specs.Values.{item_value, only_value, scalar_value, takes_whole};
 
 use crate::sink::fault;
 use crate::texts::text_for;
@@ -83,8 +88,7 @@ pub fn element_part(
     size: u32,
     index: u32,
 ) -> Result<Part, Refusal>
-    ensures exact { IfOk result (λ p. part_of p ≡ plain_part (qty_of element.now) (base + size * index)) }
-    ensures refused { IfErr result IsPartFault }
+    ensures { Gives part_of result (element_at (qty_of element.now) base size index) }
 {
     Ok(Part {
         ty: element.copy(alloc)?,
@@ -95,11 +99,9 @@ pub fn element_part(
 
 /// The byte where an element begins.
 fn offset_of(base: u32, size: u32, index: u32) -> Result<u32, Refusal>
-    ensures place { IfOk result (λ n. n ≡ base + size * index) }
-    ensures refused { IfErr result IsPartFault }
+    ensures { Gives (λ n. n) result (limited (base + size * index)) }
 {
-    let distance = (size as u64).saturating_mul(index as u64);
-    let offset = distance.saturating_add(base as u64);
+    let offset = base as u64 + size as u64 * index as u64;
     if offset > 65_535 {
         return Err(Refusal::TooLarge {
             limit: Size::Object,
@@ -111,7 +113,8 @@ fn offset_of(base: u32, size: u32, index: u32) -> Result<u32, Refusal>
 
 /// The value of an item that is no list.
 fn item_value(item: &Initialiser) -> Result<&Expr, Refusal>
-    ensures { IfErr result IsShapeFault }
+    ensures exact { Gives (λ e. expr_of e.now) result (item_value (init_of item.now)) }
+    ensures refused { IfErr result IsShapeFault }
 {
     match &item.kind {
         InitKind::Value(e) => Ok(e),
@@ -121,20 +124,32 @@ fn item_value(item: &Initialiser) -> Result<&Expr, Refusal>
 
 /// The one value of a scalar, with or without braces.
 pub fn scalar_value(init: &Initialiser) -> Result<&Expr, Refusal>
-    ensures { IfErr result IsShapeFault }
+    ensures exact { Gives (λ e. expr_of e.now) result (scalar_value (init_of init.now)) }
+    ensures refused { IfErr result IsShapeFault }
 {
     match &init.kind {
         InitKind::Value(e) => Ok(e),
-        InitKind::List(items) => match items.as_slice() {
-            [item] => item_value(item),
-            [_, second, ..] => Err(fault(Code::Initialiser, second.pos)),
-            [] => Err(fault(Code::Initialiser, init.pos)),
-        },
+        InitKind::List(items) => only_value(items, init.pos),
+    }
+}
+
+/// The value of the one item of a list.
+#[tactic(auto, using(crate::proofs::ItemLaws::place_is))]
+fn only_value(items: &[Initialiser], pos: Pos) -> Result<&Expr, Refusal>
+    ensures exact { Gives (λ e. expr_of e.now) result (only_value pos (map init_of items.now)) }
+    ensures refused { IfErr result IsShapeFault }
+{
+    match items {
+        [item] => item_value(item),
+        [_, second, ..] => Err(fault(Code::Initialiser, second.pos)),
+        [] => Err(fault(Code::Initialiser, pos)),
     }
 }
 
 /// Whether a part takes one item: a scalar, a list in braces, or a string literal for characters.
-pub fn takes_whole(ty: &CType, item: &Initialiser) -> bool {
+pub fn takes_whole(ty: &CType, item: &Initialiser) -> bool
+    ensures { result ≡ takes_whole (ty_of ty.now) (init_of item.now) }
+{
     match ty {
         CType::Array(_, _) | CType::Struct(_) => match &item.kind {
             InitKind::List(_) => true,
@@ -155,9 +170,12 @@ pub fn is_below(taken: u32, count: Option<u32>) -> bool
 }
 
 /// The place of the first item of a list.
-pub fn first_pos(items: &[Initialiser]) -> Pos {
-    match items.first() {
-        Some(item) => item.pos,
-        None => Pos { file: 0, line: 0 },
+#[tactic(auto, using(crate::proofs::ItemLaws::place_is))]
+pub fn first_pos(items: &[Initialiser]) -> Pos
+    ensures { result ≡ first_place (map init_of items.now) }
+{
+    match items {
+        [item, ..] => item.pos,
+        [] => Pos { file: 0, line: 0 },
     }
 }

@@ -1,10 +1,11 @@
 // Where initial values go.
-ghost use Rattle.std.specs.Prelude.{◌≡◌, ◌≤◌, ◌++◌, IfErr, OnOk, map, option_map};
+ghost use Rattle.std.specs.Prelude.{◌≡◌, ◌≤◌, ◌++◌, IfErr, OnOk, Ok, Some, None, map, option_map, if◌then◌else◌};
 ghost use Rattle.c65_base.specs.declared.refusal.Refusal.TheVariants.{OutOfMemory, At};
+ghost use Rattle.c65_base.specs.Answers.{Gives};
 ghost use Rattle.c65_ctype.specs.Sizes.{bytes_of};
-ghost use Rattle.c65_csem.specs.Views.{typed_of, stmt_of};
-ghost use Rattle.c65_cells.specs.Causes.{IsPointerFault};
-ghost use Rattle.c65_cells.specs.Sinks.{sink_of, with_set, with_number, byte_set, beginning};
+ghost use Rattle.c65_csem.specs.Views.{typed_of, stmt_of, unit_of};
+ghost use Rattle.c65_cells.specs.Addresses.{within_32};
+ghost use Rattle.c65_cells.specs.Sinks.{sink_of, with_set, with_number, pointer_put, with_pointer, byte_set, beginning};
 
 use crate::address::{Constant, constant_pointer};
 use crate::cells::{put_bits, put_number, put_pointer};
@@ -32,8 +33,7 @@ pub fn fault(code: Code, pos: Pos) -> Refusal
 
 /// Stores a value into an automatic object.
 pub fn set(sink: &mut Sink, offset: u32, value: TExpr) -> Result<(), Refusal>
-    ensures exact { OnOk result (sink_of sink.new ≡ with_set (sink_of sink.old) offset (typed_of value)) }
-    ensures refused { IfErr result (λ e. e ≡ OutOfMemory) }
+    ensures { Gives (λ x. sink_of sink.new) result (Ok (with_set (sink_of sink.old) offset (typed_of value))) }
 {
     let mut value = value;
     fold(&mut value);
@@ -42,7 +42,7 @@ pub fn set(sink: &mut Sink, offset: u32, value: TExpr) -> Result<(), Refusal>
 }
 
 /// The bytes of an integer type.
-fn bytes_of(kind: IntType) -> u32
+pub(crate) fn bytes_of(kind: IntType) -> u32
     ensures exact { result ≡ bytes_of kind }
     ensures small { result ≤ 8 }
 {
@@ -62,8 +62,7 @@ pub fn store_number(
     value: TExpr,
     known: i64,
 ) -> Result<(), Refusal>
-    ensures exact { OnOk result (sink_of sink.new ≡ with_number (sink_of sink.old) offset kind bits (typed_of value) known) }
-    ensures refused { IfErr result (λ e. e ≡ OutOfMemory) }
+    ensures { Gives (λ x. sink_of sink.new) result (Ok (with_number (sink_of sink.old) offset kind bits (typed_of value) known)) }
 {
     match bits {
         Some((lowest, width)) => {
@@ -80,6 +79,14 @@ pub fn store_number(
     }
 }
 
+/// A number that 32 bits hold.
+#[tactic(auto, using(crate::proofs::Ranges::narrow_is))]
+fn narrow(value: i64) -> Option<i32>
+    ensures { result ≡ (if within_32 value then Some value else None) }
+{
+    i32::try_from(value).ok()
+}
+
 /// A constant pointer into the bytes of an object.
 fn put_constant(
     cells: &mut Vec<Cell>,
@@ -87,19 +94,19 @@ fn put_constant(
     constant: Constant,
     pos: Pos,
 ) -> Result<(), Refusal>
-    ensures { IfErr result (IsPointerFault pos) }
+    ensures { Gives (λ x. cells.new.items) result (pointer_put cells.old.items offset pos constant) }
 {
     match constant {
         Constant::Number(known) => {
             put_number(cells, offset, 2, known)?;
             Ok(())
         }
-        Constant::At(target, distance) => match i32::try_from(distance) {
-            Ok(distance) => {
+        Constant::At(target, distance) => match narrow(distance) {
+            Some(distance) => {
                 put_pointer(cells, offset, target, distance)?;
                 Ok(())
             }
-            Err(_) => Err(fault(Code::ConstantValue, pos)),
+            None => Err(fault(Code::ConstantValue, pos)),
         },
     }
 }
@@ -113,11 +120,11 @@ pub fn store_pointer(
     value: TExpr,
     pos: Pos,
 ) -> Result<(), Refusal>
-    ensures { IfErr result (IsPointerFault pos) }
+    ensures { Gives (λ x. sink_of sink.new) result (with_pointer (unit_of parts.now) (sink_of sink.old) offset (typed_of value) pos) }
 {
     let mut value = value;
     fold(&mut value);
-    let Some(constant) = constant_pointer(parts, &value, pos) else {
+    let Some(constant) = constant_pointer(parts, &value) else {
         return Err(fault(Code::NotConstant, pos));
     };
     if sink.is_automatic {

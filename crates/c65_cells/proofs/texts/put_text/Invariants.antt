@@ -4,4 +4,4 @@ use Rattle.c65_cells.proofs.texts.put_text.Given as goal
 
 -- what is left goes on from here
 abbrev pub invariant-loop-byte : goal.invariant-loop-byte
-invariant-loop-byte l = with_chars (sink_of l.sink) l.at l.kind (drop l.byte-index l.byte-items) ≡ with_chars (sink_of l.initial.sink) l.initial.at l.kind l.byte-items
+invariant-loop-byte l = with_chars (sink_of l.sink) l.at l.kind (drop l.byte-index l.chars) ≡ with_chars (sink_of l.initial.sink) l.initial.at l.kind l.chars
