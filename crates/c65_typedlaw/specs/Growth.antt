@@ -1,0 +1,18 @@
+-- What a unit declares only grows: structures and unions stay as they were finished, literals stay, functions stay,
+-- and an object keeps a type that is alike and whether it has an address.
+use Rattle.std.specs.Prelude.{◌≡◌, ℕ, List, Some, slice_get, IsTrue}
+use Rattle.c65_ctype.specs.Trees.{LayoutTy}
+use Rattle.c65_ctype.specs.Tables.{layout_at}
+use Rattle.c65_csem.specs.Trees.{ObjectTy, FuncTy, UnitTy}
+use Rattle.c65_csem.specs.Places.{are_alike, is_register}
+
+-- an object after further declarations of it
+pub record IsLater (o p : ObjectTy) : Type 0 where
+  pub alike : IsTrue (are_alike o.ty p.ty)
+  pub register : is_register p.class ≡ is_register o.class
+
+pub record Grows (u v : UnitTy) : Type 0 where
+  pub types : (tag : ℕ) (l : LayoutTy) → layout_at u.types tag ≡ Some l → layout_at v.types tag ≡ Some l
+  pub objects : (i : ℕ) (o : ObjectTy) → slice_get u.objects i ≡ Some o → (p : ObjectTy) × (slice_get v.objects i ≡ Some p) × IsLater o p
+  pub literals : (i : ℕ) (bytes : List ℕ) → slice_get u.literals i ≡ Some bytes → slice_get v.literals i ≡ Some bytes
+  pub funcs : (i : ℕ) (f : FuncTy) → slice_get u.funcs i ≡ Some f → (g : FuncTy) × (slice_get v.funcs i ≡ Some g)
