@@ -4,3 +4,11 @@ pub mod EntryWay
 pub mod EndWay
 pub mod FrameOrder
 pub mod CallWay
+pub mod Levels
+pub mod ExprLevels
+pub mod BlockLevels
+pub mod StmtLevels
+pub mod FunctionLevels
+pub mod RowMoves
+pub mod LineMoves
+pub mod ParameterLaws

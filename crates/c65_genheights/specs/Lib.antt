@@ -1,2 +1,5 @@
 pub mod Passing
 pub mod Calls
+pub mod Heights
+pub mod Going
+pub mod Parameters

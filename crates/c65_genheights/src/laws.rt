@@ -1,5 +1,8 @@
 // Laws of the software stack, each the contract of a function that does nothing.
 ghost use Rattle.c65_genheights.specs.Calls.{EntriesLowerSp, EndsRaiseSp, EndsUndoEntries};
+ghost use Rattle.c65_genheights.specs.Heights.{ExpressionsAreLevel, FunctionsAreLevel};
+ghost use Rattle.c65_genheights.specs.Parameters.{CallsPassTheirParameters};
+ghost use Rattle.c65_genheights.specs.Going.{MovesKeepHeights, FunctionsKeepHeights};
 
 /// A function's entry lowers sp by the bytes that its frame says, and puts regbank away as it found it.
 pub fn entries_lower_sp()
@@ -14,4 +17,29 @@ pub fn ends_raise_sp()
 /// So the end undoes the entry: behind a call regbank is as before it, and sp is higher by exactly the parameters that the call pushed.
 pub fn ends_undo_entries()
     ensures { EndsUndoEntries }
+{}
+
+/// Whichever line of an expression leads to a label, the same values wait on the software stack there as at the label, which is one of its own.
+pub fn expressions_are_level()
+    ensures { ExpressionsAreLevel }
+{}
+
+/// So it is with the lines of a well typed function between its entry and its end, before and behind which nothing waits.
+pub fn functions_are_level()
+    ensures { FunctionsAreLevel }
+{}
+
+/// As the machine goes through such lines, sp lies lower by exactly the bytes that wait, whichever way it goes.
+pub fn moves_keep_heights()
+    ensures { MovesKeepHeights }
+{}
+
+/// So it is in each function: between its entry and its end sp is the frame's, lower by the bytes that wait.
+pub fn functions_keep_heights()
+    ensures { FunctionsKeepHeights }
+{}
+
+/// A call with a prototype passes as many bytes on the software stack as the end of the function takes away there.
+pub fn calls_pass_their_parameters()
+    ensures { CallsPassTheirParameters }
 {}

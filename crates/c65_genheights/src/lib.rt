@@ -3,4 +3,7 @@
 
 mod laws;
 
-pub use laws::{ends_raise_sp, ends_undo_entries, entries_lower_sp};
+pub use laws::{
+    calls_pass_their_parameters, ends_raise_sp, ends_undo_entries, entries_lower_sp,
+    expressions_are_level, functions_are_level, functions_keep_heights, moves_keep_heights,
+};
