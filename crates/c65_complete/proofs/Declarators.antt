@@ -29,7 +29,7 @@ use Rattle.c65_grammar.specs.Spellings as spell
 use Rattle.c65_grammar.specs.Parts.{first_name, is_nameless}
 use Rattle.c65_grammar.specs.Scopes.{Scope, after, after_declarator, after_maybe}
 use Rattle.c65_grammar.specs.Expressions as g
-use Rattle.c65_complete.specs.Read.{sort_of, NoSuffix, Bare}
+use Rattle.c65_complete.specs.Tokens.{sort_of, NoSuffix, Bare}
 use Rattle.c65_complete.proofs.Alike.{level_is}
 use Rattle.c65_complete.proofs.Runs.{steps, same, First, first_map, split, single, Leads, before, behind, behind_some, between}
 use Rattle.c65_complete.proofs.Steps.{roomy}

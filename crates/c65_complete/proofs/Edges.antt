@@ -3,7 +3,7 @@ use Rattle.std.proofs.Common.{◌≡◌, ℕ, suc, ◌-◌, ◌≤◌, List, [],
 use Rattle.std.proofs.lemmas.Bool.{leb-false}
 use Rattle.std.specs.Prelude.{nat_le}
 use Rattle.c65_scan.specs.declared.token.Token.{Token}
-use Rattle.c65_complete.specs.Read.{rank}
+use Rattle.c65_complete.specs.Tokens.{rank}
 
 abbrev pub edge_low : Bool → ℕ → ℕ
 edge_low true n = n

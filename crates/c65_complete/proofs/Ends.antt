@@ -17,7 +17,7 @@ use Rattle.c65_measured.specs.Signs.{sign_of_kind, sign_of_keyword, sign_of_punc
 use Rattle.c65_grammar.specs.Parts.{is_nameless, is_direct}
 use Rattle.c65_grammar.specs.Scopes.{Scope}
 use Rattle.c65_grammar.specs.Expressions as g
-use Rattle.c65_complete.specs.Read.{NoSuffix, Bare}
+use Rattle.c65_complete.specs.Tokens.{NoSuffix, Bare}
 use Rattle.c65_complete.proofs.Runs.{First}
 use Rattle.c65_complete.proofs.Readings.{Halts}
 use Rattle.c65_complete.proofs.Firsts.{opens_first, opens_map, DeclaratorKind, Declares, begins_declarator}

@@ -14,3 +14,4 @@ pub mod Params
 pub mod Casts
 pub mod Whole
 pub mod Top
+pub mod Accepted

@@ -26,7 +26,7 @@ use Rattle.c65_grammar.specs.Phrases.{◌▸◌, token, given, one, some_mark}
 use Rattle.c65_grammar.specs.Parts.{level, has_type, list_has_type, is_empty_list, first_place, declarator_start}
 use Rattle.c65_grammar.specs.Scopes.{Scope, declare, after, after_list, after_member_decls, after_member_list, after_enumerator_list, after_declarator, after_maybe, after_maybe_declarator}
 use Rattle.c65_grammar.specs.Expressions as g
-use Rattle.c65_complete.specs.Read.{NoSuffix}
+use Rattle.c65_complete.specs.Tokens.{NoSuffix}
 use Rattle.c65_complete.proofs.Alike.{level_is}
 use Rattle.c65_complete.proofs.Runs.{takes, steps, same, first_map, split, Leads, before, before_some, behind_some, between_some}
 use Rattle.c65_complete.proofs.Steps.{roomy}

@@ -29,7 +29,7 @@ use Rattle.c65_grammar.specs.Phrases.{◌▸◌, token, some}
 use Rattle.c65_grammar.specs.Parts.{has_type, is_typedef, list_has_type, is_empty_list, first_place, is_nameless, declared_name}
 use Rattle.c65_grammar.specs.Scopes.{Scope, declare_maybe, after_list, after_specifiers, after_declarator, after_params}
 use Rattle.c65_grammar.specs.Expressions as g
-use Rattle.c65_complete.specs.Read.{NoSuffix, Bare}
+use Rattle.c65_complete.specs.Tokens.{NoSuffix, Bare}
 use Rattle.c65_complete.proofs.Alike.{name_is}
 use Rattle.c65_complete.proofs.Runs.{takes, steps, same, First, first_map, split, single, Leads, before_some, behind, behind_some, between}
 use Rattle.c65_complete.proofs.Steps.{roomy}

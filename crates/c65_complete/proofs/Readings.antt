@@ -21,7 +21,7 @@ use Rattle.c65_grammar.specs.Phrases.{token}
 use Rattle.c65_grammar.specs.Parts.{has_type, is_typedef, list_has_type, list_is_typedef, specifier_place, is_type_specifier, is_typedef_specifier}
 use Rattle.c65_grammar.specs.Scopes.{Scope, after, after_exprs, after_type, after_specifiers, after_list, after_specifier, after_member_decls, after_member_list, after_enumerator_list, after_declarator, after_params}
 use Rattle.c65_grammar.specs.Expressions as g
-use Rattle.c65_complete.specs.Read.{sort_of, Bare, NoSuffix}
+use Rattle.c65_complete.specs.Tokens.{sort_of, Bare, NoSuffix}
 use Rattle.c65_complete.proofs.Edges.{edge, Follows}
 use Rattle.c65_complete.proofs.Runs.{First}
 

@@ -21,7 +21,7 @@ use Rattle.c65_parse.specs.Frames.{Operation, Frame, in_operation, in_prefix, Ne
 use Rattle.c65_parse.specs.Expressions.{goes, within, names_type, leaf_of, begin_by, begin_with, operand_step, hole_of, hole, ends, plug, plug_frame, reduce, goes_on, extend_by, extend, close, expr_step}
 use Rattle.c65_parse.specs.Machine.{run}
 use Rattle.c65_grammar.specs.Scopes.{Scope}
-use Rattle.c65_complete.specs.Read.{rank}
+use Rattle.c65_complete.specs.Tokens.{rank}
 use Rattle.c65_complete.proofs.Edges.{Follows}
 use Rattle.c65_complete.proofs.Runs.{First, same}
 

@@ -32,7 +32,8 @@ use Rattle.c65_grammar.specs.Phrases.{token}
 use Rattle.c65_grammar.specs.Parts.{list_has_type, is_empty_list}
 use Rattle.c65_grammar.specs.Scopes.{Scope, no_types, after, after_list, after_specifiers, after_declarator, after_type}
 use Rattle.c65_grammar.specs.Expressions as g
-use Rattle.c65_complete.specs.Read.{rank, EndsExpr, ExprsAreRead, EndsSpecifiers, SpecifiersAreRead, Bare, NoSuffix, EndsDeclarator, DeclaratorsAreRead, TypesAreRead, sort_of}
+use Rattle.c65_complete.specs.Read.{EndsExpr, ExprsAreRead, EndsSpecifiers, SpecifiersAreRead, EndsDeclarator, DeclaratorsAreRead, TypesAreRead}
+use Rattle.c65_complete.specs.Tokens.{rank, Bare, NoSuffix, sort_of}
 use Rattle.c65_complete.specs.One.{ExprsAreOne, SpecifiersAreOne, DeclaratorsAreOne, TypesAreOne}
 use Rattle.c65_complete.proofs.Alike.{level_is}
 use Rattle.c65_complete.proofs.Edges.{edge, edge_above}

@@ -1,2 +1,4 @@
+pub mod Tokens
 pub mod Read
 pub mod One
+pub mod Calls

@@ -2,32 +2,21 @@
 -- does not go on.
 use Rattle.std.specs.Prelude.{◌≡◌, ◌≤◌, ◌<◌, ◌⊎◌, ℕ, List, ◌∷◌, ◌++◌, Bool, true, false, Ok}
 use Rattle.c65_base.specs.declared.refusal.Pos.{Pos}
-use Rattle.c65_scan.specs.declared.token.Keyword.TheVariants as keywords
 use Rattle.c65_scan.specs.declared.token.Punct.TheVariants as puncts
 use Rattle.c65_scan.specs.declared.token.Token.{Token}
 use Rattle.c65_scan.specs.declared.token.TokenKind.{TokenKind}
 use Rattle.c65_scan.specs.declared.token.TokenKind.TheVariants as kinds
 use Rattle.c65_tree.specs.Trees as t
 use Rattle.c65_tree.specs.Depth.{expr_depth, specifiers_depth, declarator_depth, type_depth}
-use Rattle.c65_measured.specs.Signs.{sign_of_keyword, sign_of_kind, begins_specifiers, left_of, rank_of}
+use Rattle.c65_measured.specs.Signs.{sign_of_keyword, sign_of_kind, begins_specifiers, left_of}
 use Rattle.c65_scopes.specs.Scopes.{Blocks}
 use Rattle.c65_parse.specs.declared.frame.Sort.{Sort}
-use Rattle.c65_parse.specs.declared.frame.Sort.TheVariants as sorts
 use Rattle.c65_parse.specs.Reading.{expr_read, specifiers_read, declarator_read, type_read}
 use Rattle.c65_grammar.specs.Parts.{level, has_type}
 use Rattle.c65_grammar.specs.Scopes.{Scope, no_types, after, after_specifiers, after_declarator, after_type}
 use Rattle.c65_grammar.specs.Expressions as g
 use Rattle.c65_grammar.specs.Statements.{head_specifiers}
-
-abbrev pub sort_of : Sort → g.Sort
-sort_of (sorts.Named typed) = g.named typed
-sort_of (sorts.Param typed) = g.param typed
-sort_of (sorts.Member typed) = g.member typed
-sort_of sorts.Abstract = g.abstract
-
--- the level of the expression that a token goes on to; 0 where it goes on with none
-abbrev pub rank : TokenKind → ℕ
-rank k = rank_of (sign_of_kind no_types k)
+use Rattle.c65_complete.specs.Tokens.{sort_of, rank, Bare, NoSuffix}
 
 -- the token is no operator behind an operand, or makes an expression of a lower level (C90 6.3)
 abbrev pub EndsExpr : ℕ → TokenKind → Type 0
@@ -52,23 +41,6 @@ abbrev pub SpecifiersAreRead : Type 0
 SpecifiersAreRead = (sc : Scope) (outer : Blocks) (tree : t.SpecifiersTree) (front : List Token) (next : Token) (others : List Token)
     → head_specifiers sc next.pos tree front → specifiers_depth tree ≤ 256 → EndsSpecifiers (has_type tree) (after_specifiers sc tree) next.kind
     → specifiers_read (sc ∷ outer) (front ++ next ∷ others) ≡ Ok (tree, next ∷ others, after_specifiers sc tree ∷ outer)
-
--- a token with which no declarator begins, nor a qualifier behind a star (C90 6.5.4, 6.5.5)
-abbrev pub Bare : TokenKind → Type 0
-Bare (kinds.Name n) = ⊥
-Bare (kinds.Keyword keywords.FastCall) = ⊥
-Bare (kinds.Keyword keywords.CDecl) = ⊥
-Bare (kinds.Keyword keywords.Const) = ⊥
-Bare (kinds.Keyword keywords.Volatile) = ⊥
-Bare (kinds.Punct puncts.Star) = ⊥
-Bare (kinds.Punct puncts.OpenParen) = ⊥
-Bare _ = Unit {0}
-
--- a token that goes on with no direct declarator
-abbrev pub NoSuffix : TokenKind → Type 0
-NoSuffix (kinds.Punct puncts.OpenParen) = ⊥
-NoSuffix (kinds.Punct puncts.OpenBracket) = ⊥
-NoSuffix _ = Unit {0}
 
 -- where the name may lack, the place of the token behind counts
 abbrev pub EndsDeclarator : Bool → Pos → Token → Type 0
