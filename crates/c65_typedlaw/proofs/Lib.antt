@@ -1,5 +1,6 @@
 pub mod AccessLaws
 pub mod AnswerLaws
+pub mod Answered
 pub mod CallLaws
 pub mod ChangeLaws
 pub mod ChoiceLaws
