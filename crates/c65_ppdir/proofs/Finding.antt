@@ -10,7 +10,7 @@ use Rattle.c65_ppdir.specs.declared.files.Found.{Found}
 use Rattle.c65_ppdir.specs.declared.files.Found.TheVariants as kinds
 use Rattle.c65_ppdir.specs.declared.include.Header.{Header}
 use Rattle.c65_ppdir.specs.Search.{paths_of}
-use Rattle.c65_ppdir.specs.Finding.{TellsNothing, Begins, BeginsAt, or_next, first_held, IsFile, IsFirst, IsThere, IsNotMissing, IsSought, Seeks, SeeksMain}
+use Rattle.c65_ppdir.specs.Finding.{TellsNothing, Begins, BeginsAt, or_next, first_held, IsFile, IsFirst, IsThere, IsNotMissing, IsSought, Seeks}
 
 begins_there : (o : Option (List ℕ)) (into : List ℕ) (n : ℕ) → ReadsFrom o 0 into (Ok n) → Begins o (take n into)
 begins_there None into n h = absurd h
@@ -73,7 +73,3 @@ found_is_there c d including folders header found same h =
 pub not_missing_seeks : (c : Contents) (including : List ℕ) (folders : List (List ℕ)) (header : Header) (e : Refusal) → IsNotMissing e → Seeks c including folders header (Err e)
 not_missing_seeks c including folders header (refusals.Missing path) h = absurd h
 not_missing_seeks c including folders header _ h = tt
-
-pub not_missing_main : (c : Contents) (path : List ℕ) (e : Refusal) → IsNotMissing e → SeeksMain c path (Err e)
-not_missing_main c path (refusals.Missing name) h = absurd h
-not_missing_main c path _ h = tt

@@ -5,3 +5,8 @@ pub mod Resolved
 pub mod Answers
 pub mod Parameters
 pub mod Missing
+pub mod Lexing
+pub mod Relations
+pub mod Reading
+pub mod Acting
+pub mod Standing

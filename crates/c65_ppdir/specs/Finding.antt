@@ -105,11 +105,11 @@ Seeks contents including folders header (Ok found) = IsSought contents (paths_of
 Seeks contents including folders header (Err (refusals.Missing name)) = (name ≡ header.name) × IsNowhere contents (paths_of including folders header.is_quoted header.name) header.name
 Seeks contents including folders header (Err refusal) = ⊤
 
--- The answer of a search for the unit's own file.
-abbrev pub SeeksMain : Contents → List ℕ → Result Found Refusal → Type 0
-SeeksMain contents path (Ok found) = IsSought contents (path ∷ []) path found
-SeeksMain contents path (Err (refusals.Missing name)) = (name ≡ path) × IsAbsent contents path
-SeeksMain contents path (Err refusal) = ⊤
+-- The answer of a read of the unit's own file.
+abbrev pub ReadsMain : {V : Type 0} → (V → List ℕ) → Contents → List ℕ → Result V Refusal → Type 0
+ReadsMain view contents path (Ok text) = IsReadAt contents path (view text)
+ReadsMain view contents path (Err (refusals.Missing name)) = (name ≡ path) × IsAbsent contents path
+ReadsMain view contents path (Err refusal) = ⊤
 
 abbrev pub HasName : Found → List ℕ → Type 0
 HasName (kinds.File path front missing) name = name ≡ missing

@@ -18,3 +18,10 @@ pub mod Expansions
 pub mod UnitTokens
 pub mod Resolved
 pub mod ConditionLines
+pub mod Relations
+pub mod Lexing
+pub mod Opening
+pub mod Gathering
+pub mod Progress
+pub mod LineActions
+pub mod Standing

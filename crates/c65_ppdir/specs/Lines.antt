@@ -61,7 +61,7 @@ on_line hash cut (Ok x) = ending cut >>= λ _. Ok x
 on_line hash cut (Err trouble) = Err (trouble_fault hash cut trouble)
 
 abbrev pub rest : Line → List PpToken
-rest line = behind_first line.tokens.items
+rest line = behind_first line.tokens
 
 -- the macros behind a #define line
 abbrev pub defined : Table → List (List ℕ) → Line → Result Table Fault

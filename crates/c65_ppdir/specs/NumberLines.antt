@@ -1,5 +1,5 @@
 -- Lines of #line: the tokens behind the directive's name, expanded (C90 6.8.4).
-use Rattle.std.specs.Prelude.{ℕ, ◌+◌, ◌-◌, ◌*◌, List, [], ◌∷◌, min, Bool, true, false, ◌&&◌, nat_le, nat_lt, if◌then◌else◌, Option, Some, None, Result, Ok, Err}
+use Rattle.std.specs.Prelude.{ℕ, ◌+◌, ◌-◌, ◌*◌, ℤ, pos, ◌-ℤ◌, List, [], ◌∷◌, min, Bool, true, false, ◌&&◌, nat_le, nat_lt, if◌then◌else◌, Option, Some, None, Result, Ok, Err}
 use Rattle.c65_base.specs.declared.names.Name.{Name}
 use Rattle.c65_lex.specs.declared.token.PpKind.{PpKind}
 use Rattle.c65_lex.specs.declared.token.PpKind.TheVariants as kinds
@@ -7,8 +7,17 @@ use Rattle.c65_lex.specs.declared.token.PpToken.{PpToken}
 use Rattle.c65_lex.specs.Cells.{begins_with}
 use Rattle.c65_macro.specs.Definitions.{is_nothing}
 use Rattle.c65_scan.specs.Tokens.{spelling_in}
+use Rattle.c65_ppdir.specs.declared.numbering.Count.{Count}
 use Rattle.c65_ppdir.specs.declared.numbering.Given.{Given}
 use Rattle.c65_ppdir.specs.Misfits.{Trouble, short, wrong, ◌then◌}
+
+-- each line has its own number
+abbrev pub own_count : Count
+own_count = record { given = 0; real = 0 }
+
+-- what is added to a line's own number
+abbrev pub offset : Count → ℤ
+offset c = pos c.given -ℤ pos c.real
 
 -- the value of decimal digits, counted up to 32,768
 abbrev pub digits : ℕ → List ℕ → Option ℕ

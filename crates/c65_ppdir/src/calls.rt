@@ -9,6 +9,8 @@ ghost use Rattle.c65_macro.specs.Items.{learn};
 ghost use Rattle.c65_macro.specs.Table.{is_name_kind};
 ghost use Rattle.c65_scan.specs.Tokens.{spelling_in};
 ghost use Rattle.c65_ppdir.specs.Causes.{Stops};
+ghost use Rattle.c65_ppdir.specs.Lexing;
+ghost use Rattle.c65_ppdir.specs.Lexing.{IsLexed, lexing};
 ghost use Rattle.c65_ppdir.specs.Tokens;
 
 use crate::line::Cut;
@@ -49,22 +51,36 @@ pub enum Lexed {
     Cut(Cut),
 }
 
+/// What a quantity above its limit cuts off.
+fn cut_by_size(limit: Size) -> Cut
+    ensures { result ≡ Lexing.cut_by_size limit }
+{
+    match limit {
+        Size::Line => Cut::LongLine,
+        _ => Cut::Names,
+    }
+}
+
+/// What a refusal of the lexer says of the text.
+fn lexed_refusal(refusal: Refusal) -> Result<Lexed, Refusal>
+    ensures { result ≡ Lexing.lexed_refusal refusal }
+{
+    match refusal {
+        Refusal::At { pos, .. } => Ok(Lexed::Cut(Cut::OpenComment(pos))),
+        Refusal::TooLarge { limit, .. } => Ok(Lexed::Cut(cut_by_size(limit))),
+        _ => Err(Refusal::OutOfMemory),
+    }
+}
+
 /// The next token of a text. Only want of memory is an error.
 pub fn next_token(lexer: &mut Lexer, names: &mut Names, header: bool) -> Result<Lexed, Refusal>
-    ensures { IfErr result (λ e. e ≡ OutOfMemory) }
+    ensures refused { IfErr result (λ e. e ≡ OutOfMemory) }
+    ensures exact { IfOk result (λ l. IsLexed header lexer.old names.old (lexing l lexer.new names.new)) }
 {
     match lexer.next(names, header) {
         Ok(Some(token)) => Ok(Lexed::Token(token)),
         Ok(None) => Ok(Lexed::End),
-        Err(Refusal::At { pos, .. }) => Ok(Lexed::Cut(Cut::OpenComment(pos))),
-        Err(
-            Refusal::TooLarge {
-                limit: Size::Line,
-                ..
-            },
-        ) => Ok(Lexed::Cut(Cut::LongLine)),
-        Err(Refusal::TooLarge { .. }) => Ok(Lexed::Cut(Cut::Names)),
-        Err(_) => Err(Refusal::OutOfMemory),
+        Err(refusal) => lexed_refusal(refusal),
     }
 }
 

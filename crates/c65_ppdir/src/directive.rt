@@ -1,10 +1,10 @@
 // Which directive a line is (C90 6.8).
 ghost use Rattle.std.specs.Prelude.{◌≡◌, find, bytes_eq};
 ghost use Rattle.c65_ppdir.specs.DirectiveLines;
-ghost use Rattle.c65_ppdir.specs.DirectiveLines.{directive_spelling, directive_of};
+ghost use Rattle.c65_ppdir.specs.DirectiveLines.{directive_spelling, directive_of, IsDeed};
 
 use crate::calls::{is_name, spelling_of};
-use c65_base::{Names, Pos};
+use c65_base::{Code, Names, Pos};
 use c65_lex::PpToken;
 
 /// The directives that have names.
@@ -103,5 +103,98 @@ pub fn head_of(names: &Names, tokens: &[PpToken]) -> Head
     match find_directive(spelling_of(names, first.spelling)) {
         Some(directive) => Head::Known(directive),
         None => Head::Unknown(first.pos),
+    }
+}
+
+/// What the condition of a part of a group looks at.
+#[derive(Clone, Copy, Debug, PartialEq, Eq)]
+pub enum Test {
+    /// The value of an expression.
+    Condition,
+    /// Whether a name is defined.
+    Defined,
+    /// Whether a name is not defined.
+    Undefined,
+}
+
+/// What begins or ends a part of a group.
+#[derive(Clone, Copy, Debug, PartialEq, Eq)]
+pub enum Part {
+    Begin(Test),
+    Alternate,
+    Otherwise,
+    End,
+}
+
+/// What the line of a directive does.
+#[derive(Clone, Copy, Debug, PartialEq, Eq)]
+pub enum Deed {
+    Nothing,
+    Define,
+    Undef,
+    Include,
+    Renumber,
+    Pragma,
+    Group(Part),
+    /// It is refused for this, with this place.
+    Refused(Code, Pos),
+}
+
+/// The part of a group that a directive begins or ends.
+fn part_by(directive: Directive) -> Option<Part>
+    ensures { result ≡ DirectiveLines.part_by directive }
+{
+    match directive {
+        Directive::If => Some(Part::Begin(Test::Condition)),
+        Directive::Ifdef => Some(Part::Begin(Test::Defined)),
+        Directive::Ifndef => Some(Part::Begin(Test::Undefined)),
+        Directive::Elif => Some(Part::Alternate),
+        Directive::Else => Some(Part::Otherwise),
+        Directive::Endif => Some(Part::End),
+        _ => None,
+    }
+}
+
+/// The part of a group that a line begins or ends.
+pub fn part_of(head: Head) -> Option<Part>
+    ensures { result ≡ DirectiveLines.part_of head }
+{
+    match head {
+        Head::Known(directive) => part_by(directive),
+        _ => None,
+    }
+}
+
+/// What a directive with its # at this place does.
+fn deed_by(directive: Directive, hash: Pos) -> Deed
+    ensures exact { result ≡ DirectiveLines.deed_by directive hash }
+    ensures deed { IsDeed result }
+{
+    match directive {
+        Directive::Define => Deed::Define,
+        Directive::Undef => Deed::Undef,
+        Directive::Include => Deed::Include,
+        Directive::If => Deed::Group(Part::Begin(Test::Condition)),
+        Directive::Ifdef => Deed::Group(Part::Begin(Test::Defined)),
+        Directive::Ifndef => Deed::Group(Part::Begin(Test::Undefined)),
+        Directive::Elif => Deed::Group(Part::Alternate),
+        Directive::Else => Deed::Group(Part::Otherwise),
+        Directive::Endif => Deed::Group(Part::End),
+        Directive::Line => Deed::Renumber,
+        Directive::Error => Deed::Refused(Code::ErrorDirective, hash),
+        Directive::Pragma => Deed::Pragma,
+    }
+}
+
+/// What a line with its # at this place does.
+pub fn deed_of(hash: Pos, head: Head) -> Deed
+    ensures exact { result ≡ DirectiveLines.deed_of hash head }
+    ensures deed { IsDeed result }
+{
+    match head {
+        Head::Nothing => Deed::Nothing,
+        Head::Known(directive) => deed_by(directive, hash),
+        Head::Unknown(pos) => Deed::Refused(Code::Directive, pos),
+        Head::Misshapen => Deed::Refused(Code::DirectiveForm, hash),
     }
 }

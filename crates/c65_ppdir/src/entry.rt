@@ -6,11 +6,11 @@ ghost use Rattle.c65_ppdir.specs.Finding;
 ghost use Rattle.c65_ppdir.specs.Finding.{IsThere, Enters, Includes, Misses, MissesInUnit};
 
 use crate::command::{Define, define_all};
-use crate::files::{Found, complete, seek, seek_main};
+use crate::files::{Found, complete, read_main, seek};
 use crate::headers::BuiltIn;
 use crate::include::Header;
 use crate::unit::{Event, Unit};
-use c65_base::{Names, Options, Refusal, Text};
+use c65_base::{Names, Options, Refusal, Size, Text};
 use c65_io::Files;
 use c65_lex::{Paths, PpTokens, PpUnit};
 use c65_macro::Macros;
@@ -62,9 +62,11 @@ fn enter<F: Files>(
         (outside (F.contents files.new) (F.write_faults files.new) (F.faults files.new) (F.misses files.new)) result }
     ensures enters { Enters (F.contents files.old) found result }
 {
-    match unit.check_room() {
-        Ok(()) => {}
-        Err(refusal) => return Err(refusal),
+    if !unit.has_room() {
+        return Err(Refusal::TooLarge {
+            limit: Size::Includes,
+            value: 65,
+        });
     }
     match found {
         Found::File(path, first, name) => {
@@ -140,13 +142,34 @@ fn read_lines<F: Files>(
     Err(Refusal::OutOfMemory)
 }
 
+/// Opens the first file of a unit.
+fn begin(
+    alloc: Global,
+    options: &Options,
+    macros: Macros,
+    names: &mut Names,
+    paths: &mut Vec<Text>,
+    path: &Text,
+    text: Vec<u8>,
+) -> Result<Unit, Refusal>
+    ensures { IfErr result Stops }
+{
+    let unit = match Unit::begin(alloc, options, macros, names, path.as_slice(), text) {
+        Ok(unit) => unit,
+        Err(refusal) => return Err(refusal),
+    };
+    paths.push(path.copy(alloc)?)?;
+    Ok(unit)
+}
+
 /// Reads a unit from its first file on.
 fn read_unit<F: Files>(
     alloc: Global,
     files: &mut F,
+    options: &Options,
     folders: &[Text],
     path: &Text,
-    unit: Unit,
+    macros: Macros,
     names: &mut Names,
     paths: &mut Vec<Text>,
 ) -> Result<PpTokens, Refusal>
@@ -154,13 +177,12 @@ fn read_unit<F: Files>(
         (outside (F.contents files.new) (F.write_faults files.new) (F.faults files.new) (F.misses files.new)) result }
     ensures misses { MissesInUnit (F.contents files.old) folders.now path.now result }
 {
-    let mut unit = unit;
-    let found = match seek_main(alloc, files, folders, path) {
-        Ok(found) => found,
+    let text = match read_main(alloc, files, folders, path) {
+        Ok(text) => text,
         Err(refusal) => return Err(refusal),
     };
-    match enter(alloc, files, folders, &mut unit, names, paths, found) {
-        Ok(()) => read_lines(alloc, files, folders, unit, names, paths),
+    match begin(alloc, options, macros, names, paths, path, text) {
+        Ok(unit) => read_lines(alloc, files, folders, unit, names, paths),
         Err(refusal) => Err(refusal),
     }
 }
@@ -211,12 +233,14 @@ pub fn preprocess<F: Files>(
     ensures same { F.contents files.new ≡ F.contents files.old }
     ensures writes { F.write_faults files.new ≡ F.write_faults files.old }
 {
-    let unit = match begin_unit(alloc, options, defines, names) {
-        Ok(unit) => unit,
+    let macros = match begin_macros(alloc, options, defines, names) {
+        Ok(macros) => macros,
         Err(refusal) => return Err(refusal),
     };
     let mut paths = Vec::new(alloc);
-    match read_unit(alloc, files, folders, path, unit, names, &mut paths) {
+    match read_unit(
+        alloc, files, options, folders, path, macros, names, &mut paths,
+    ) {
         Ok(tokens) => Ok(PpUnit {
             tokens,
             files: Paths::from_vec(paths),
@@ -225,13 +249,13 @@ pub fn preprocess<F: Files>(
     }
 }
 
-/// A unit with the predefined macros and those of the command line.
-fn begin_unit(
+/// The predefined macros and those of the command line.
+fn begin_macros(
     alloc: Global,
     options: &Options,
     defines: &[Define],
     names: &mut Names,
-) -> Result<Unit, Refusal>
+) -> Result<Macros, Refusal>
     ensures { IfErr result StopsCommand }
 {
     let mut macros = match Macros::new(alloc, options, names) {
@@ -239,7 +263,7 @@ fn begin_unit(
         Err(refusal) => return Err(refusal),
     };
     match define_all(alloc, &mut macros, names, defines) {
-        Ok(()) => Ok(Unit::new(alloc, options, macros)),
+        Ok(()) => Ok(macros),
         Err(refusal) => Err(refusal),
     }
 }

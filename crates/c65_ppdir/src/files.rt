@@ -1,7 +1,7 @@
 // Reading files, and seeking the file of an #include.
 ghost use Rattle.std.specs.Prelude.{◌≡◌, ◌∷◌, ◌++◌, [], map, None, IfOk, OnOk, if◌then◌else◌};
 ghost use Rattle.c65_ppdir.specs.Counts.{Serves, MissedAll, outside};
-ghost use Rattle.c65_ppdir.specs.Finding.{BeginsAt, Opens, Completes, Finds, Seeks, SeeksMain, header_of};
+ghost use Rattle.c65_ppdir.specs.Finding.{BeginsAt, Opens, Completes, Finds, Seeks, ReadsMain, header_of};
 ghost use Rattle.c65_ppdir.specs.Headers.{built_in_of};
 ghost use Rattle.c65_ppdir.specs.Search;
 
@@ -228,25 +228,22 @@ pub fn seek<F: Files>(
     }
 }
 
-/// The first file of a unit.
-pub fn seek_main<F: Files>(
+/// The text of a unit's own file.
+pub fn read_main<F: Files>(
     alloc: Global,
     files: &mut F,
     folders: &[Text],
     path: &Text,
-) -> Result<Found, Refusal>
+) -> Result<Vec<u8>, Refusal>
     ensures serves { Serves folders.now (outside (F.contents files.old) (F.write_faults files.old) (F.faults files.old) (F.misses files.old))
         (outside (F.contents files.new) (F.write_faults files.new) (F.faults files.new) (F.misses files.new)) result }
-    ensures seeks { SeeksMain (F.contents files.old) path.now result }
+    ensures reads { ReadsMain (λ text. text.items) (F.contents files.old) path.now result }
 {
-    let Ok(copy) = path.copy(alloc) else {
-        return Err(Refusal::OutOfMemory);
-    };
     let Ok(name) = path.copy(alloc) else {
         return Err(Refusal::OutOfMemory);
     };
     match begin(alloc, files, folders, path.as_slice()) {
-        Ok(Some(bytes)) => Ok(Found::File(copy, bytes, name)),
+        Ok(Some(first)) => complete(files, folders, path.as_slice(), name, first),
         Ok(None) => Err(Refusal::Missing { path: name }),
         Err(refusal) => Err(refusal),
     }

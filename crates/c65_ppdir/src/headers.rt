@@ -1,5 +1,5 @@
 // The headers that are built in. A header gives its declarations once in a unit.
-ghost use Rattle.std.specs.Prelude.{◌≡◌, find, bytes_eq};
+ghost use Rattle.std.specs.Prelude.{◌≡◌, [], find, bytes_eq, IfOk, OnOk};
 ghost use Rattle.c65_ppdir.specs.Headers;
 
 use std::alloc::{AllocError, Global};
@@ -98,7 +98,9 @@ impl BuiltIn {
     }
 
     /// The name by which a unit's list has it.
-    pub fn path(self) -> &'static [u8] {
+    pub fn path(self) -> &'static [u8]
+        ensures { result.now ≡ Headers.path_of self }
+    {
         match self {
             BuiltIn::Stdio => b"<stdio.h>",
             BuiltIn::Stdlib => b"<stdlib.h>",
@@ -110,7 +112,9 @@ impl BuiltIn {
     }
 
     /// Whether it declares `size_t`.
-    fn has_size(self) -> bool {
+    fn has_size(self) -> bool
+        ensures { result ≡ Headers.has_size self }
+    {
         match self {
             BuiltIn::Stdlib | BuiltIn::Strings | BuiltIn::Stddef => true,
             BuiltIn::Stdio | BuiltIn::Limits | BuiltIn::Stdint => false,
@@ -118,7 +122,9 @@ impl BuiltIn {
     }
 
     /// What it declares besides `size_t` and the limits of plain char.
-    fn text(self) -> &'static [u8] {
+    fn text(self) -> &'static [u8]
+        ensures { result.now ≡ Headers.text_of self }
+    {
         match self {
             BuiltIn::Stdio => STDIO,
             BuiltIn::Stdlib => STDLIB,
@@ -148,44 +154,69 @@ pub fn find_built_in(name: &[u8]) -> Option<BuiltIn>
     built_in_among(&ALL, name)
 }
 
+/// Whether one of these headers declares `size_t`.
+fn is_sized(headers: &[BuiltIn]) -> bool
+    ensures { result ≡ Headers.is_sized headers.now }
+{
+    for header in headers {
+        if header.has_size() {
+            return true;
+        }
+    }
+    false
+}
+
+fn size_text(declares: bool) -> &'static [u8]
+    ensures { result.now ≡ Headers.size_text declares }
+{
+    if declares { SIZE } else { b"" }
+}
+
+/// The limits of plain char.
+fn plain_text(is_char_signed: bool, header: BuiltIn) -> &'static [u8]
+    ensures { result.now ≡ Headers.plain_text is_char_signed header }
+{
+    match header {
+        BuiltIn::Limits if is_char_signed => PLAIN_SIGNED,
+        BuiltIn::Limits => PLAIN_UNSIGNED,
+        _ => b"",
+    }
+}
+
 /// The built-in headers that a unit has included.
 #[derive(Drop)]
 pub struct Included {
     headers: Vec<BuiltIn>,
-    has_size: bool,
     is_char_signed: bool,
     alloc: Global,
 }
 
 impl Included {
-    pub fn new(alloc: Global, is_char_signed: bool) -> Included {
+    pub fn new(alloc: Global, is_char_signed: bool) -> Included
+        ensures none { result.headers.items ≡ [] }
+        ensures signed { result.is_char_signed ≡ is_char_signed }
+    {
         Included {
             headers: Vec::new(alloc),
-            has_size: false,
             is_char_signed,
             alloc,
         }
     }
 
     /// The text of a header at its inclusion: nothing from the second one on.
-    pub fn include(&mut self, header: BuiltIn) -> Result<Vec<u8>, AllocError> {
-        let mut text = Vec::new(self.alloc);
-        if self.headers.contains(&header) {
-            return Ok(text);
+    pub fn include(&mut self, header: BuiltIn) -> Result<Vec<u8>, AllocError>
+        ensures text { IfOk result (λ text. text.items ≡ Headers.text_behind self.old.is_char_signed self.old.headers.items header) }
+        ensures headers { OnOk result (self.new.headers.items ≡ Headers.with_header self.old.headers.items header) }
+        ensures signed { self.new.is_char_signed ≡ self.old.is_char_signed }
+    {
+        if built_in_among(&self.headers, header.name()).is_some() {
+            return Ok(Vec::new(self.alloc));
         }
-        self.headers.push(header)?;
-        if header.has_size() && !self.has_size {
-            self.has_size = true;
-            text.extend_from_slice(SIZE)?;
-        }
+        let size = size_text(header.has_size() && !is_sized(&self.headers));
+        let mut text = Vec::from_slice(self.alloc, size)?;
         text.extend_from_slice(header.text())?;
-        if header == BuiltIn::Limits {
-            text.extend_from_slice(if self.is_char_signed {
-                PLAIN_SIGNED
-            } else {
-                PLAIN_UNSIGNED
-            })?;
-        }
+        text.extend_from_slice(plain_text(self.is_char_signed, header))?;
+        self.headers.push(header)?;
         Ok(text)
     }
 }

@@ -15,6 +15,7 @@ mod include;
 mod line;
 mod numbering;
 mod opened;
+mod reader;
 mod tokens;
 mod unit;
 mod value;

@@ -10,7 +10,7 @@ ghost use Rattle.c65_base.specs.declared.refusal.Refusal.TheVariants.{OutOfMemor
 
 use crate::calls::at;
 use c65_base::{Code, Pos, Refusal, Size};
-use c65_lex::PpToken;
+use c65_lex::{PpToken, PpTokens};
 use std::alloc::{AllocError, AllocFailed};
 
 /// Why tokens have not the form that a directive needs.
@@ -80,7 +80,7 @@ impl Cut {
 #[derive(Drop)]
 pub struct Line {
     pub hash: Pos,
-    pub tokens: Vec<PpToken>,
+    pub tokens: PpTokens,
     pub end: u32,
     pub cut: Option<Cut>,
 }
@@ -88,9 +88,9 @@ pub struct Line {
 impl Line {
     /// The tokens behind the directive's name.
     pub fn rest(&self) -> &[PpToken]
-        ensures { result.now ≡ DefineLines.behind_first self.now.tokens.items }
+        ensures { result.now ≡ DefineLines.behind_first self.now.tokens }
     {
-        match self.tokens.split_first() {
+        match self.tokens.as_slice().split_first() {
             Some((_, rest)) => rest,
             None => &[],
         }

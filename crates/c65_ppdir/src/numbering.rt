@@ -25,7 +25,9 @@ pub struct Count {
 
 impl Count {
     /// Each line by its own number.
-    pub fn own() -> Count {
+    pub fn own() -> Count
+        ensures { result ≡ NumberLines.own_count }
+    {
         Count { given: 0, real: 0 }
     }
 
@@ -33,6 +35,7 @@ impl Count {
     pub fn offset(self) -> i64
         ensures low { negsuc 4294967294 ≤ℤ result }
         ensures high { result ≤ℤ pos 4294967295 }
+        ensures exact { result ≡ NumberLines.offset self }
     {
         i64::from(self.given) - i64::from(self.real)
     }

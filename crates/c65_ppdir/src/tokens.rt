@@ -1,12 +1,15 @@
 // The tokens of a unit, as lists between two directives give them.
 ghost use Rattle.std.specs.Prelude.{◌≡◌, ◌++◌, ◌∷◌, [], IfErr, OnOk};
 ghost use Rattle.c65_base.specs.Answers.{Gives};
+ghost use Rattle.c65_base.specs.declared.refusal.Refusal.TheVariants.{OutOfMemory};
 ghost use Rattle.c65_ppdir.specs.Causes.{Stops};
 ghost use Rattle.c65_ppdir.specs.Expansions.{ReadsExpansion};
+ghost use Rattle.c65_ppdir.specs.Gathering.{used};
 ghost use Rattle.c65_ppdir.specs.UnitTokens;
 ghost use Rattle.c65_ppdir.specs.UnitTokens.{with_token, with_tokens};
 
 use crate::calls::expand;
+use crate::line::Cut;
 use c65_base::{Names, Refusal, Size};
 use c65_lex::{PpKind, PpToken, PpTokens};
 use c65_macro::Macros;
@@ -115,7 +118,10 @@ pub struct Output {
 }
 
 impl Output {
-    pub fn new(alloc: Global) -> Output {
+    pub fn new(alloc: Global) -> Output
+        ensures given { result.given ≡ [] }
+        ensures list { result.list.items ≡ [] }
+    {
         Output {
             given: Gathered::new(alloc),
             list: Vec::new(alloc),
@@ -125,7 +131,7 @@ impl Output {
 
     /// A token that was read.
     pub fn add(&mut self, token: PpToken) -> Result<(), Refusal>
-        ensures stops { IfErr result Stops }
+        ensures refused { IfErr result (λ e. e ≡ OutOfMemory) }
         ensures added { OnOk result (self.new.list.items ≡ self.old.list.items ++ token ∷ []) }
         ensures same { self.new.given ≡ self.old.given }
     {
@@ -133,9 +139,14 @@ impl Output {
         Ok(())
     }
 
-    /// Takes the last token back.
-    pub fn take_back(&mut self) {
-        let _ = self.list.pop();
+    /// Takes the tokens back that are not used where this cuts a line off.
+    pub fn take_back(&mut self, cut: Cut)
+        ensures taken { self.new.list.items ≡ used cut self.old.list.items }
+        ensures same { self.new.given ≡ self.old.given }
+    {
+        if cut == Cut::LongFile {
+            let _ = self.list.pop();
+        }
     }
 
     /// Ends the list and gives its expansion to the unit.

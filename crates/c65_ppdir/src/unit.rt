@@ -1,25 +1,21 @@
-// The lines of a unit: the files that are open, the macros and the tokens so far.
-ghost use Rattle.std.specs.Prelude.{◌≡◌, IfErr};
-ghost use Rattle.c65_base.specs.Answers.{Gives};
-ghost use Rattle.c65_base.specs.declared.refusal.Refusal.TheVariants.{OutOfMemory};
+// The lines of a unit: the files that are open, and what the reading of the innermost one asks for.
+ghost use Rattle.std.specs.Prelude.{◌≡◌, ℕ, List, ◌++◌, reverse, IfErr, IfOk, OnOk};
 ghost use Rattle.c65_ppdir.specs.Causes.{Stops};
-ghost use Rattle.c65_ppdir.specs.Lines;
+ghost use Rattle.c65_ppdir.specs.Headers;
+ghost use Rattle.c65_ppdir.specs.Progress.{progress};
+ghost use Rattle.c65_ppdir.specs.Relations.{Comes};
+ghost use Rattle.c65_ppdir.specs.Standing;
 
-use crate::calls::{at, intern, is_mark, is_word};
-use crate::condition::Groups;
-use crate::controlling::condition_line;
-use crate::define::{define_line, read_only_name, undef_line};
-use crate::directive::{Directive, Head, head_of};
+use crate::calls::intern;
 use crate::headers::{BuiltIn, Included};
-use crate::include::{Header, include_line};
-use crate::line::{Cut, Line};
-use crate::numbering::{Count, number_line};
-use crate::opened::{Opened, Read, Unseen};
-use crate::tokens::Output;
-use c65_base::{Code, Names, Options, Pos, Refusal, Size};
-use c65_lex::{PpToken, PpTokens};
+use crate::include::Header;
+use crate::opened::Opened;
+use crate::reader::{Reader, Turn};
+use c65_base::{Name, Names, Options, Refusal, Size};
+use c65_lex::PpTokens;
 use c65_macro::Macros;
-use std::alloc::Global;
+use std::alloc::{AllocError, Global};
+use std::mem;
 
 /// What a line asks for.
 #[derive(Drop)]
@@ -32,62 +28,99 @@ pub enum Event {
     End,
 }
 
-/// A unit that is being read: the files that are open, the innermost last.
+/// A unit that is being read: the innermost file, and those that include it, the innermost last.
 #[derive(Drop)]
 pub struct Unit {
-    macros: Macros,
-    opened: Vec<Opened>,
-    output: Output,
+    reader: Reader,
+    file: Opened,
+    outer: Vec<Opened>,
     included: Included,
     alloc: Global,
 }
 
-/// A path as a string literal.
-fn literal_of(alloc: Global, path: &[u8]) -> Result<Vec<u8>, Refusal>
-    ensures { IfErr result Stops }
+/// The bytes of a path within a string literal.
+fn add_escaped(literal: &mut Vec<u8>, path: &[u8]) -> Result<(), AllocError>
+    ensures { OnOk result (literal.new.items ≡ literal.old.items ++ Standing.escaped path.now) }
 {
-    let mut literal = Vec::new(alloc);
-    literal.push(b'"')?;
-    for byte in path {
+    let mut rest = path;
+    while let Some((byte, more)) = rest.split_first() {
         if *byte == b'"' || *byte == b'\\' {
             literal.push(b'\\')?;
         }
         literal.push(*byte)?;
+        rest = more;
     }
+    Ok(())
+}
+
+/// A path as a string literal.
+fn literal_of(alloc: Global, path: &[u8]) -> Result<Vec<u8>, AllocError>
+    ensures { IfOk result (λ literal. literal.items ≡ Standing.literal_of path.now) }
+{
+    let mut literal = Vec::new(alloc);
+    literal.push(b'"')?;
+    add_escaped(&mut literal, path)?;
     literal.push(b'"')?;
     Ok(literal)
 }
 
+/// The name of a path as a string literal.
+fn literal_name(alloc: Global, names: &mut Names, path: &[u8]) -> Result<Name, Refusal>
+    ensures stops { IfErr result Stops }
+    ensures exact { Comes (λ n. (n, names.new)) (Standing.learned names.old (Standing.literal_of path.now)) result }
+{
+    match literal_of(alloc, path) {
+        Ok(literal) => intern(names, &literal),
+        Err(_) => Err(Refusal::OutOfMemory),
+    }
+}
+
 impl Unit {
-    pub fn new(alloc: Global, options: &Options, macros: Macros) -> Unit {
-        Unit {
-            macros,
-            opened: Vec::new(alloc),
-            output: Output::new(alloc),
-            included: Included::new(alloc, options.signed_chars),
+    /// A unit whose first file has this path and text.
+    pub fn begin(
+        alloc: Global,
+        options: &Options,
+        macros: Macros,
+        names: &mut Names,
+        path: &[u8],
+        text: Vec<u8>,
+    ) -> Result<Unit, Refusal>
+        ensures stops { IfErr result Stops }
+        ensures exact { Comes (λ u. Standing.standing u.reader u.file u.outer.items u.included.headers.items names.new) (Standing.first_standing macros path.now text.items names.old) result }
+        ensures signed { IfOk result (λ u. u.included.is_char_signed ≡ options.now.signed_chars) }
+    {
+        let literal = match literal_name(alloc, names, path) {
+            Ok(literal) => literal,
+            Err(refusal) => return Err(refusal),
+        };
+        let file = Opened::new(alloc, text, 0, literal);
+        let mut reader = Reader::new(alloc, macros);
+        reader.count_from(literal, file.count);
+        let outer = Vec::new(alloc);
+        let included = Included::new(alloc, options.signed_chars);
+        Ok(Unit {
+            reader,
+            file,
+            outer,
+            included,
             alloc,
-        }
+        })
     }
 
     /// Whether one more file may be open.
-    pub fn check_room(&self) -> Result<(), Refusal>
-        ensures { IfErr result Stops }
+    pub fn has_room(&self) -> bool
+        ensures { (names : List (List ℕ)) → result ≡ Standing.has_room (Standing.standing self.now.reader self.now.file self.now.outer.items self.now.included.headers.items names) }
     {
-        if self.opened.len() >= 64 {
-            return Err(Refusal::TooLarge {
-                limit: Size::Includes,
-                value: 65,
-            });
-        }
-        Ok(())
+        self.outer.len() < 63
     }
 
     /// The text of a built-in header at its inclusion.
-    pub fn built_in(&mut self, header: BuiltIn) -> Result<Vec<u8>, Refusal>
-        ensures { IfErr result Stops }
+    pub fn built_in(&mut self, header: BuiltIn) -> Result<Vec<u8>, AllocError>
+        ensures text { IfOk result (λ text. text.items ≡ Headers.text_behind self.old.included.is_char_signed self.old.included.headers.items header) }
+        ensures headers { OnOk result (self.new.included.headers.items ≡ Headers.with_header self.old.included.headers.items header) }
+        ensures same { (self.new.reader ≡ self.old.reader) × (self.new.file ≡ self.old.file) × (self.new.outer ≡ self.old.outer) × (self.new.included.is_char_signed ≡ self.old.included.is_char_signed) }
     {
-        let text = self.included.include(header)?;
-        Ok(text)
+        self.included.include(header)
     }
 
     /// Opens a file with this path, text and number.
@@ -98,305 +131,56 @@ impl Unit {
         text: Vec<u8>,
         number: u64,
     ) -> Result<(), Refusal>
-        ensures { IfErr result Stops }
+        ensures stops { IfErr result Stops }
+        ensures exact { Comes (λ _. Standing.standing self.new.reader self.new.file self.new.outer.items self.new.included.headers.items names.new) (Standing.opening number path.now text.items (Standing.standing self.old.reader self.old.file self.old.outer.items self.old.included.headers.items names.old)) result }
+        ensures signed { self.new.included.is_char_signed ≡ self.old.included.is_char_signed }
     {
-        let literal = literal_of(self.alloc, path)?;
-        let literal = intern(names, &literal)?;
+        let literal = match literal_name(self.alloc, names, path) {
+            Ok(literal) => literal,
+            Err(refusal) => return Err(refusal),
+        };
         let file = Opened::new(self.alloc, text, number, literal);
-        self.opened.push(file)?;
-        self.macros.set_line(literal, 0);
+        self.reader.count_from(literal, file.count);
+        let outer = mem::replace(&mut self.file, file);
+        self.outer.push(outer)?;
         Ok(())
-    }
-
-    /// What comes first of a fault that is found here and the faults of the list before it.
-    fn settle(&mut self, names: &mut Names, fault: Refusal) -> Refusal
-        requires { Stops fault }
-        ensures { Stops result }
-    {
-        match self.output.flush(&self.macros, names) {
-            // These are found only where the list ends.
-            Err(
-                Refusal::At {
-                    code: Code::OpenArguments,
-                    ..
-                },
-            ) => fault,
-            Ok(()) => fault,
-            Err(refusal) => refusal,
-        }
     }
 
     /// Reads a line of the innermost file.
     pub fn advance(&mut self, names: &mut Names) -> Result<Event, Refusal>
-        ensures { IfErr result Stops }
+        ensures stops { IfErr result Stops }
+        ensures exact { Comes (λ e. (e, Standing.standing self.new.reader self.new.file self.new.outer.items self.new.included.headers.items names.new)) (Standing.advanced (Standing.standing self.old.reader self.old.file self.old.outer.items self.old.included.headers.items names.old)) result }
+        ensures signed { self.new.included.is_char_signed ≡ self.old.included.is_char_signed }
     {
-        let is_active = match self.opened.last() {
-            Some(file) => file.groups.is_active(),
-            None => return Ok(Event::End),
-        };
-        if is_active {
-            self.active_line(names)
-        } else {
-            self.skipped_line(names)
+        let number = self.file.number;
+        match self.reader.turn(&mut self.file, names) {
+            Ok(Turn::Line) => Ok(Event::Line),
+            Ok(Turn::Include(header)) => Ok(Event::Include(header, number)),
+            Ok(Turn::FileEnd) => Ok(self.leave()),
+            Err(refusal) => Err(refusal),
         }
     }
 
-    fn read(&mut self, names: &mut Names) -> Result<Read, Refusal>
-        ensures { IfErr result (λ e. e ≡ OutOfMemory) }
+    /// Goes back to the file that includes the innermost one.
+    fn leave(&mut self) -> Event
+        ensures exact { (names : List (List ℕ)) → (result, Standing.standing self.new.reader self.new.file self.new.outer.items self.new.included.headers.items names) ≡ Standing.left (progress self.old.reader self.old.file names) (reverse self.old.outer.items) self.old.included.headers.items }
+        ensures signed { self.new.included.is_char_signed ≡ self.old.included.is_char_signed }
     {
-        match self.opened.last_mut() {
-            Some(file) => file.read(names, false),
-            None => Ok(Read::End),
-        }
-    }
-
-    /// A line that is read.
-    fn active_line(&mut self, names: &mut Names) -> Result<Event, Refusal>
-        ensures { IfErr result Stops }
-    {
-        match self.read(names)? {
-            Read::Token(token) => {
-                if is_mark(names, &token, b"#") {
-                    self.output.flush(&self.macros, names)?;
-                    self.directive(names, token.pos)
-                } else {
-                    self.output.add(token)?;
-                    self.text_line(names)
-                }
+        match self.outer.pop() {
+            Some(file) => {
+                self.reader.count_from(file.literal, file.count);
+                self.file = file;
+                Event::Line
             }
-            Read::LineEnd(token) => {
-                self.output.add(token)?;
-                Ok(Event::Line)
-            }
-            Read::End => self.close(names),
-            Read::Cut(cut) => Err(self.settle(names, cut.refusal())),
+            None => Event::End,
         }
-    }
-
-    /// The rest of a line that is no directive.
-    fn text_line(&mut self, names: &mut Names) -> Result<Event, Refusal>
-        ensures { IfErr result Stops }
-    {
-        for _ in 0..u64::MAX {
-            match self.read(names)? {
-                Read::Token(token) => self.output.add(token)?,
-                Read::LineEnd(token) => {
-                    self.output.add(token)?;
-                    break;
-                }
-                Read::End => break,
-                Read::Cut(cut) => {
-                    if cut == Cut::LongFile {
-                        self.output.take_back();
-                    }
-                    return Err(self.settle(names, cut.refusal()));
-                }
-            }
-        }
-        Ok(Event::Line)
-    }
-
-    /// A line that is skipped unless it is a directive.
-    fn skipped_line(&mut self, names: &mut Names) -> Result<Event, Refusal>
-        ensures { IfErr result Stops }
-    {
-        let alloc = self.alloc;
-        let Some(file) = self.opened.last_mut() else {
-            return Ok(Event::End);
-        };
-        match file.read_unseen(alloc)? {
-            Unseen::Hash(pos) => {
-                let line = file.read_line(alloc, names, pos)?;
-                self.skipped_directive(names, line)
-            }
-            Unseen::Token => {
-                file.skip_line(alloc)?;
-                Ok(Event::Line)
-            }
-            Unseen::LineEnd => Ok(Event::Line),
-            Unseen::End => self.close(names),
-            Unseen::Cut(cut) => Err(cut.refusal()),
-        }
-    }
-
-    /// Ends the innermost file.
-    fn close(&mut self, names: &mut Names) -> Result<Event, Refusal>
-        ensures { IfErr result Stops }
-    {
-        let first_open = match self.opened.last() {
-            Some(file) => file.groups.first_open(),
-            None => None,
-        };
-        if let Some(pos) = first_open {
-            return Err(self.settle(names, at(Code::OpenConditional, pos)));
-        }
-        self.output.flush(&self.macros, names)?;
-        let _ = self.opened.pop();
-        if let Some(file) = self.opened.last() {
-            self.macros.set_line(file.literal, file.count.offset());
-        }
-        Ok(Event::Line)
-    }
-
-    /// A line behind a # at this place.
-    fn directive(&mut self, names: &mut Names, hash: Pos) -> Result<Event, Refusal>
-        ensures { IfErr result Stops }
-    {
-        let alloc = self.alloc;
-        let Some(file) = self.opened.last_mut() else {
-            return Ok(Event::End);
-        };
-        let number = file.number;
-        let line = file.read_line(alloc, names, hash)?;
-        match head_of(names, &line.tokens) {
-            Head::Nothing => line.check()?,
-            Head::Misshapen => return Err(at(Code::DirectiveForm, hash)),
-            Head::Unknown(pos) => return Err(at(Code::Directive, pos)),
-            Head::Known(Directive::Include) => {
-                let header = include_line(alloc, &self.macros, names, line)?;
-                return Ok(Event::Include(header, number));
-            }
-            Head::Known(directive) => self.obey(names, directive, line)?,
-        }
-        Ok(Event::Line)
-    }
-
-    /// Does what a directive other than #include says.
-    fn obey(&mut self, names: &mut Names, directive: Directive, line: Line) -> Result<(), Refusal>
-        ensures { IfErr result Stops }
-    {
-        match directive {
-            Directive::Define => define_line(self.alloc, &mut self.macros, names, line),
-            Directive::Undef => undef_line(&mut self.macros, names, line),
-            Directive::Line => self.renumber(names, line),
-            Directive::Error => Err(at(Code::ErrorDirective, line.hash)),
-            Directive::Pragma => pragma_line(names, line),
-            Directive::Include => line.check(),
-            _ => self.conditional(names, directive, line),
-        }
-    }
-
-    /// A directive among lines that are skipped.
-    fn skipped_directive(&mut self, names: &mut Names, line: Line) -> Result<Event, Refusal>
-        ensures { IfErr result Stops }
-    {
-        match head_of(names, &line.tokens) {
-            Head::Known(directive) => self.conditional(names, directive, line)?,
-            _ => line.check()?,
-        }
-        Ok(Event::Line)
-    }
-
-    /// The groups of the innermost file.
-    fn groups(&mut self) -> Option<&mut Groups> {
-        match self.opened.last_mut() {
-            Some(file) => Some(&mut file.groups),
-            None => None,
-        }
-    }
-
-    /// A directive that begins, parts or ends a group; others are passed over.
-    fn conditional(
-        &mut self,
-        names: &mut Names,
-        directive: Directive,
-        line: Line,
-    ) -> Result<(), Refusal>
-        ensures { IfErr result Stops }
-    {
-        let Some(file) = self.opened.last_mut() else {
-            return line.check();
-        };
-        let groups = &mut file.groups;
-        let hash = line.hash;
-        match directive {
-            Directive::If | Directive::Ifdef | Directive::Ifndef => {
-                if groups.begin(hash)? {
-                    return self.decide(names, directive, line);
-                }
-            }
-            Directive::Elif => {
-                if groups.alternate(hash)? {
-                    return self.decide(names, directive, line);
-                }
-            }
-            Directive::Else => groups.otherwise(hash)?,
-            Directive::Endif => groups.end(hash)?,
-            _ => {}
-        }
-        line.check()
-    }
-
-    /// Reads the condition of a part of the innermost group, and takes the part where it holds.
-    fn decide(&mut self, names: &mut Names, directive: Directive, line: Line) -> Result<(), Refusal>
-        ensures { IfErr result Stops }
-    {
-        let holds = match directive {
-            Directive::Ifdef => self.is_defined(line)?,
-            Directive::Ifndef => !self.is_defined(line)?,
-            _ => condition_line(self.alloc, &self.macros, names, line)?,
-        };
-        if holds {
-            if let Some(file) = self.opened.last_mut() {
-                file.groups.take()?;
-            }
-        }
-        Ok(())
-    }
-
-    /// Whether the only name of a line is defined.
-    fn is_defined(&self, line: Line) -> Result<bool, Refusal>
-        ensures { IfErr result Stops }
-    {
-        is_defined_in(&self.macros, line)
-    }
-
-    /// Does a #line line.
-    fn renumber(&mut self, names: &mut Names, line: Line) -> Result<(), Refusal>
-        ensures { IfErr result Stops }
-    {
-        let real = line.end;
-        let given = number_line(&self.macros, names, line)?;
-        if let Some(file) = self.opened.last_mut() {
-            file.count = Count {
-                given: given.number,
-                real,
-            };
-            if let Some(literal) = given.file {
-                file.literal = literal;
-            }
-            self.macros.set_line(file.literal, file.count.offset());
-        }
-        Ok(())
     }
 
     /// The tokens of the unit.
-    pub fn into_tokens(self) -> PpTokens {
-        let Unit { output, .. } = self;
-        output.into_tokens()
+    pub fn into_tokens(self) -> PpTokens
+        ensures { result ≡ self.reader.output.given }
+    {
+        let Unit { reader, .. } = self;
+        reader.into_tokens()
     }
-}
-
-/// Whether the only name of a line is that of a macro.
-fn is_defined_in(macros: &Macros, line: Line) -> Result<bool, Refusal>
-    ensures stops { IfErr result Stops }
-    ensures exact { Gives (λ b. b) result (Lines.is_defined macros.now line) }
-{
-    match line.answer(read_only_name(line.rest())) {
-        Ok(name) => Ok(macros.get(name).is_some()),
-        Err(refusal) => Err(refusal),
-    }
-}
-
-/// Does a #pragma line: it is passed over, but for one that is refused.
-fn pragma_line(names: &Names, line: Line) -> Result<(), Refusal>
-    ensures stops { IfErr result Stops }
-    ensures exact { Gives (λ _. tt) result (Lines.pragma names.now line) }
-{
-    if let Some((first, _)) = line.rest().split_first() {
-        if is_word(names, first, b"charmap") {
-            return Err(at(Code::Charmap, line.hash));
-        }
-    }
-    line.check()
 }

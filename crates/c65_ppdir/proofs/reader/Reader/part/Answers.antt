@@ -1,0 +1,17 @@
+use Rattle.std.proofs.Common.{◌≡◌, subst}
+use Rattle.c65_ppdir.specs.declared.directive.Part.{Part}
+use Rattle.c65_ppdir.specs.declared.directive.Part.TheVariants as parts
+use Rattle.c65_ppdir.specs.Conditions.{begin}
+use Rattle.c65_ppdir.specs.LineActions.{begun, parted}
+use Rattle.c65_ppdir.specs.Progress.{Progress, progress}
+use Rattle.c65_ppdir.specs.Relations.{of, Comes}
+use Rattle.c65_ppdir.proofs.Relations.{goes_on}
+use Rattle.c65_ppdir.proofs.reader.Reader.part.Goals as goal
+
+pub returns-in-Ok-clause-exact : goal.returns-in-Ok-clause-exact
+returns-in-Ok-clause-exact c =
+    let p = progress c.args.self.now c.args.file.now c.args.names.now in
+    let view : Unit {0} → Progress = λ x. progress c.begin_part.new.self c.begin_part.new.file c.begin_part.new.names in
+    let e : parts.Begin c.in-Begin.test ≡ c.args.part = cc (c.in-Begin.is) in
+    subst (λ (x : Part). Comes view (parted x c.args.line p) c.begin_part.result) e
+    (goes_on view (of (begin c.args.line.hash c.args.file.now.groups)) (begun c.in-Begin.test c.args.line p) (c.in-Ok.is_read, c.begin.new.self) c.begin_part.result c.in-Ok.ensures.after c.begin_part.ensures.exact)
