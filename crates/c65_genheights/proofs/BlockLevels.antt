@@ -1,5 +1,5 @@
 -- The lines about objects and of the choice of a case: their labels, and what waits there.
-use Rattle.std.proofs.Common.{◌≡◌, ℕ, zero, suc, ◌+◌, ◌/◌, ◌%◌, ◌==◌, ◌≤◌, ◌⊎◌, inl, inr, Bool, true, false, Some, ℤ, List, [], ◌∷◌, ◌++◌, length, refl, sym, ◌∙◌, ap, arith}
+use Rattle.std.proofs.Common.{◌≡◌, ℕ, zero, suc, ◌+◌, ◌/◌, ◌%◌, ◌==◌, ◌≤◌, ◌⊎◌, inl, inr, Bool, true, false, ℤ, List, [], ◌∷◌, ◌++◌, length, refl, ap, arith}
 use Rattle.std.specs.Prelude.{if◌then◌else◌, nat_lt, nat_le}
 use Rattle.std.specs.List.{list_all}
 use Rattle.c65_mach.specs.declared.rows.Op.TheVariants.{Beq, Bne, Sta, Stx, Iny, Cpy, Lda, Ldy, Inc, Cpx, Cmp}
@@ -23,7 +23,7 @@ use Rattle.c65_genlaws.proofs.Made.{is_plain}
 use Rattle.c65_genlaws.proofs.Puts.{one_same}
 use Rattle.c65_genlaws.proofs.Others.{laid}
 use Rattle.c65_genlaws.proofs.StackPieces.{Leaves, leaves_then, leaves_none, leaves_if, Still, stored_leaves}
-use Rattle.c65_genheights.proofs.Levels.{Level, Nowhere, There, Or, level_then, level_end, level_piece, level_none, level_label, level_leads, Closed, closed_open, closed_then}
+use Rattle.c65_genheights.proofs.Levels.{Level, Nowhere, There, level_then, level_end, level_piece, level_none, level_label, level_leads, Closed, closed_then}
 
 -- ---- loops over bytes
 

@@ -128,7 +128,7 @@ raised_bank false soft t u l = l.bank
 
 -- ---- the return
 
-kept_part : (reads : RegSet) (i : ℕ) → has_part kept_at_calls (Zp i) ≡ true → has_part (union_of reads kept_at_calls) (Zp i) ≡ true
+pub kept_part : (reads : RegSet) (i : ℕ) → has_part kept_at_calls (Zp i) ≡ true → has_part (union_of reads kept_at_calls) (Zp i) ≡ true
 kept_part reads i h = has_part-union reads kept_at_calls (Zp i) ∙ or_right (has_part reads (Zp i)) (has_part kept_at_calls (Zp i)) h
   where
     or_right : (a b : Bool) → b ≡ true → (a || b) ≡ true

@@ -38,13 +38,13 @@ use Rattle.c65_genexpr.specs.Arguments as arguments
 use Rattle.c65_genexpr.specs.Calls.{named, routine_of, count_code, fetch_code, result_code, library_at, named_by, named_code, pointer_code}
 use Rattle.c65_genexpr.specs.Uses.{uses}
 use Rattle.c65_genexpr.specs.Code.{target_code, behind_open, compound, call_by, truth_code, test_in, expr_code, node_code, args_code}
-use Rattle.c65_genlaws.specs.Stack.{Waiting, waiting_by, taken, left, waits, argument_bytes, passed, unless_named, calls_of, node_calls, args_calls}
+use Rattle.c65_genlaws.specs.Stack.{waiting_by, taken, left, waits, argument_bytes, passed, unless_named, calls_of, node_calls, args_calls}
 use Rattle.c65_genlaws.proofs.Made.{is_plain}
 use Rattle.c65_genlaws.proofs.ExprLaws.{moved_known, no_short}
 use Rattle.c65_genlaws.proofs.Pieces.{number_piece, symbol_piece, offset_piece, object_piece, conversion_piece, push_piece, argument_piece, test_piece, hold_piece, load_piece, store_piece, copy_piece, unary_piece, between_piece, behind_piece, short_piece, step_piece, open_piece, close_piece, named_piece, pointer_piece}
 use Rattle.c65_genlaws.proofs.StackPieces.{waits_append, Leaves, leaves_then, leaves_none, Still, narrow_still, number_still, object_still, offset_still, conversion_still, push_leaves, argument_leaves, test_still, holding, hold_leaves, load_still, stored_leaves, copy_leaves, unary_still, between_leaves, behind_leaves, short_still, step_still, open_leaves, close_leaves}
 use Rattle.c65_genlaws.proofs.StackLaws.{nothing_more}
-use Rattle.c65_genheights.proofs.Levels.{Stands, Leads, Level, Nowhere, There, Or, level_then, level_end, level_as, level_behind, level_plain, level_piece, level_none, level_label, level_leads, Closed, closed_open, closed_then, closed_behind, closed_as}
+use Rattle.c65_genheights.proofs.Levels.{Level, Nowhere, There, level_then, level_end, level_behind, level_plain, level_piece, level_none, level_label, level_leads, Closed, closed_open, closed_then, closed_behind, closed_as}
 
 -- a piece of lines behind closed ones, and before
 behind : {cs : List (List ℕ)} {v u t : List ℕ} {a b : List Line} → Closed cs v a u → Leaves u b t → list_all is_plain b ≡ true → Closed cs v (a ++ b) t

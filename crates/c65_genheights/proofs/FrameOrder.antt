@@ -1,5 +1,5 @@
 -- Frames keep what their entries rely on.
-use Rattle.std.proofs.Common.{◌≡◌, ℕ, zero, suc, ◌+◌, ◌-◌, ◌%◌, ◌<◌, ◌≤◌, ◌||◌, Bool, true, false, Option, None, Some, List, [], ◌∷◌, ◌++◌, refl, sym, ap, ◌∙◌, slice_get, slice_set, arith}
+use Rattle.std.proofs.Common.{◌≡◌, ℕ, zero, suc, ◌+◌, ◌-◌, ◌%◌, ◌<◌, ◌≤◌, ◌||◌, Bool, true, false, Option, None, Some, List, [], ◌∷◌, ◌++◌, refl, sym, ap, subst, ◌∙◌, slice_get, slice_set, arith}
 use Rattle.std.specs.Prelude.{if◌then◌else◌, nat_lt, nat_le, Ok, Err}
 use Rattle.std.proofs.lemmas.Bool.{and_parts, ltb-true, ltb-false}
 use Rattle.c65_base.specs.declared.refusal.Size.TheVariants as sizes
@@ -19,7 +19,7 @@ use Rattle.c65_frame.specs.Arrivals.{Arrivals, arrive, with_slot, arrived}
 use Rattle.c65_frame.specs.Sizes.{object_in, object_bytes, slot_bytes, bank_bytes}
 use Rattle.c65_frame.specs.Marks.{lowest, all_marks}
 use Rattle.c65_frame.specs.Objects.{locals_of}
-use Rattle.c65_frame.specs.Frames.{Framed, has_prototype, is_variadic, takes_stack, register_param, flat, home_at, arrival_at, arrival, is_kept, last_bytes, without_last, bytes_without, saved_bytes, first_arrivals, settled, passed_bytes, placed_in, frame_of}
+use Rattle.c65_frame.specs.Frames.{Framed, has_prototype, is_variadic, takes_stack, register_param, flat, home_at, home_of, arrival_at, arrival, is_kept, last_bytes, without_last, bytes_without, saved_bytes, first_arrivals, settled, passed_bytes, placed_in, frame_of}
 use Rattle.c65_genentry.specs.Entry.{kept_code}
 use Rattle.c65_genheights.proofs.EntryWay.{IsOrderly}
 
@@ -29,7 +29,7 @@ answered false x y f h = (refl, cc)
 
 -- ---- where nothing is taken of regbank, no home is there
 
-abbrev NotBank : Option Home → Type 0
+abbrev pub NotBank : Option Home → Type 0
 NotBank (Some (Bank b)) = ⊥
 NotBank _ = Unit {0}
 
@@ -179,3 +179,20 @@ frames_are_orderly parts honoured g f h =
           let all : Unmoved (arrived parts prototype low (p.soft + saved_bytes p.bank) (without_last (is_kept last) g.params) arrivals) = arrived_unmoved parts prototype low (p.soft + saved_bytes p.bank) (without_last (is_kept last) g.params) arrivals still in
           (ap kept_code (sym arrives) ∙ none_kept parts prototype low p.homes (register_param g) none, sym moves ∙ all.moved);
     }
+
+-- and no object has a home there
+pub frames_without_bank : (parts : Parts) (honoured : Bool) (g : FuncTy) (f : Framed) → frame_of parts honoured g ≡ Ok f → f.bank ≡ 0 → (i : ℕ) → NotBank (home_of f i)
+frames_without_bank parts honoured g f h nothing i =
+    let p : Places = placed_in parts honoured g in
+    let low : ℕ = lowest (locals_of g) g.params in
+    let passed : ℕ = passed_bytes parts g in
+    let prototype : Bool = has_prototype g.ty in
+    let last : Arrival = arrival parts prototype low p.homes (register_param g) in
+    let given : (nat_lt 1024 p.total ≡ false) × (settled parts g low passed p ≡ f) = answered (nat_lt 1024 p.total) (large sizes.Frame p.total) (settled parts g low passed p) f h in
+    let grows : Grows (none_placed (is_variadic g.ty) passed) p = all_grow parts honoured low (all_marks (locals_of g) g.params) (none_placed (is_variadic g.ty) passed) in
+    let arrivals : Arrivals = first_arrivals p (bytes_without (is_kept last) passed (last_bytes parts prototype (register_param g))) in
+    let bank : p.bank ≡ f.bank = ap (λ z. z.bank) given.1 in
+    let none : NoBank p.homes = grows.none (bank ∙ nothing) tt in
+    let still : Unmoved arrivals = record { homes = none; moved = refl } in
+    let all : Unmoved (arrived parts prototype low (p.soft + saved_bytes p.bank) (without_last (is_kept last) g.params) arrivals) = arrived_unmoved parts prototype low (p.soft + saved_bytes p.bank) (without_last (is_kept last) g.params) arrivals still in
+    subst (λ (x : Framed). NotBank (home_of x i)) given.1 (home_none low i (arrived parts prototype low (p.soft + saved_bytes p.bank) (without_last (is_kept last) g.params) arrivals).homes all.homes)

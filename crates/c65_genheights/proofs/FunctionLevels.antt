@@ -1,10 +1,10 @@
 -- The lines of expressions and functions are level.
 use Rattle.std.proofs.Common.{◌≡◌, ℕ, zero, suc, ◌+◌, ◌<◌, ◌≤◌, ◌==◌, ◌||◌, ◌⊎◌, inl, inr, Bool, true, false, not, Some, List, [], ◌∷◌, ◌++◌, length, nat_eq, refl, sym, ◌∙◌, ap, subst, arith}
-use Rattle.std.specs.Prelude.{if◌then◌else◌, slice_index_or, Contains}
+use Rattle.std.specs.Prelude.{if◌then◌else◌, slice_index_or}
 use Rattle.std.specs.List.{list_all}
 use Rattle.std.proofs.lemmas.Bool.{cases_eq, and_parts, eq-eqb, ne_eqb}
-use Rattle.c65_csem.specs.Trees.{Typed, Stmt, empty, eval, set_part, clear, block, if_stmt, while, do_while, for_loop, switch, case, default, label, goto, break, continue, return, Stmts, no_stmts, and_stmts, UnitTy, FuncTy}
-use Rattle.c65_csem.specs.Statements.{labels_of, labels_in, cases_of, defaults_of}
+use Rattle.c65_csem.specs.Trees.{Stmt, empty, eval, set_part, clear, block, if_stmt, while, do_while, for_loop, switch, case, default, label, goto, break, continue, return, Stmts, no_stmts, and_stmts, UnitTy, FuncTy}
+use Rattle.c65_csem.specs.Statements.{labels_of, labels_in}
 use Rattle.c65_csem.specs.Units.{context_of, IsBody}
 use Rattle.c65_code.specs.declared.line.Line.{Line}
 use Rattle.c65_code.specs.declared.line.Line.TheVariants.{Label, Do, Call}
@@ -14,7 +14,6 @@ use Rattle.c65_code.specs.Segments as segments
 use Rattle.c65_frame.specs.Frames.{Framed}
 use Rattle.c65_genwide.specs.Lines.{with_lines}
 use Rattle.c65_genexpr.specs.Uses.{uses}
-use Rattle.c65_genexpr.specs.Code.{expr_code}
 use Rattle.c65_genentry.specs.Drafts.{with_labels}
 use Rattle.c65_genentry.specs.Entry.{entry_code}
 use Rattle.c65_genentry.specs.Ends.{end_code}
@@ -23,7 +22,7 @@ use Rattle.c65_genstmt.specs.Cases.{room_of}
 use Rattle.c65_genstmt.specs.Stmts.{with_label, ways, with_stmt}
 use Rattle.c65_genstmt.specs.Functions.{main_code, no_lines}
 use Rattle.c65_genlaws.specs.Labels.{times, is_within, among}
-use Rattle.c65_genlaws.specs.Stack.{waiting_by, calls_of, statement_calls}
+use Rattle.c65_genlaws.specs.Stack.{waiting_by, statement_calls}
 use Rattle.c65_genlaws.proofs.Made.{is_plain, times-append}
 use Rattle.c65_genlaws.proofs.ExprLaws.{expressions_own_their_labels}
 use Rattle.c65_genlaws.proofs.FunctionLaws.{functions_are_segments}
@@ -31,8 +30,8 @@ use Rattle.c65_genlaws.proofs.Others.{names, names_in, others, others_are}
 use Rattle.c65_genlaws.proofs.Puts.{one, one_same}
 use Rattle.c65_genlaws.proofs.StackPieces.{Still, leaves_none}
 use Rattle.c65_genlaws.proofs.StackLaws.{nothing_more}
-use Rattle.c65_genheights.specs.Heights.{AreLevel, ExpressionsAreLevel, FunctionsAreLevel}
-use Rattle.c65_genheights.proofs.Levels.{Stands, Leads, Level, all_level, Closed, closed_lines}
+use Rattle.c65_genheights.specs.Heights.{ExpressionsAreLevel, FunctionsAreLevel}
+use Rattle.c65_genheights.proofs.Levels.{all_level, closed_lines}
 use Rattle.c65_genheights.proofs.ExprLevels.{expr_level}
 use Rattle.c65_genheights.proofs.StmtLevels.{Grows, grows_then, grows_behind, grows_end, grows_lines, grows_label, append_lines, Exits, to_behind, to_onward, to_end, to_label, stmt_grows}
 

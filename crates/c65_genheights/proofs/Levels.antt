@@ -1,5 +1,5 @@
 -- Where labels stand and where branches lead, and what waits there.
-use Rattle.std.proofs.Common.{◌≡◌, ℕ, zero, suc, ◌+◌, ◌≤◌, ◌⊎◌, inl, inr, Bool, true, false, not, Option, None, Some, is_some, List, [], ◌∷◌, ◌++◌, slice_get, take, refl, sym, ◌∙◌, ap, subst, arith}
+use Rattle.std.proofs.Common.{◌≡◌, ℕ, zero, suc, ◌≤◌, ◌⊎◌, inl, inr, true, not, Option, None, Some, is_some, List, [], ◌∷◌, ◌++◌, slice_get, take, refl, sym, ◌∙◌, ap, subst, arith}
 use Rattle.std.specs.List.{list_all}
 use Rattle.std.proofs.lemmas.Bool.{and_parts}
 use Rattle.c65_mach.specs.declared.rows.Op.{Op}

@@ -12,3 +12,8 @@ pub mod FunctionLevels
 pub mod RowMoves
 pub mod LineMoves
 pub mod ParameterLaws
+pub mod CallMoves
+pub mod BankPieces
+pub mod BankExprs
+pub mod BankStmts
+pub mod BankMoves

@@ -1,9 +1,8 @@
 -- The machine's moves by lines that call no function keep sp and what waits together.
-use Rattle.std.proofs.Common.{◌≡◌, ◌≢◌, ℕ, zero, suc, ◌+◌, ◌*◌, ◌==◌, ◌<◌, ◌≤◌, ◌⊎◌, inl, inr, Bool, true, false, IsTrue, Option, None, Some, List, [], ◌∷◌, ◌++◌, length, slice_get, take, refl, sym, ap, subst, ◌∙◌, arith}
+use Rattle.std.proofs.Common.{◌≡◌, ℕ, zero, suc, ◌+◌, ◌==◌, ◌≤◌, Bool, true, false, Option, None, Some, List, [], ◌∷◌, ◌++◌, length, slice_get, take, refl, sym, ap, subst, ◌∙◌, arith}
 use Rattle.std.specs.Prelude.{if◌then◌else◌, not, IsSome}
 use Rattle.std.specs.List.{list_all}
 use Rattle.std.proofs.lemmas.Bool.{eqb-true, eq-eqb, and_parts}
-use Rattle.c65_mach.specs.State.{Regs}
 use Rattle.c65_mach.specs.Step.{Kind, Reads, Stores, Changes, Branches, Registers, Moves as Moving, kind_of, is_taken, changed, stored, signed}
 use Rattle.c65_mach.specs.declared.rows.Op.{Op}
 use Rattle.c65_mach.specs.declared.rows.Op.TheVariants as ops
@@ -12,20 +11,18 @@ use Rattle.c65_mach.specs.declared.rows.Mode.TheVariants.{Implied, Accumulator, 
 use Rattle.c65_code.specs.declared.routine.Routine.{Routine}
 use Rattle.c65_code.specs.declared.line.Operand.{Operand}
 use Rattle.c65_code.specs.declared.line.Operand.TheVariants.{Nothing, Byte, Low, High, Zero, At, To}
-use Rattle.c65_code.specs.declared.line.Callee.{Callee}
 use Rattle.c65_code.specs.declared.line.Callee.TheVariants as callees
 use Rattle.c65_code.specs.declared.line.Line.{Line}
 use Rattle.c65_code.specs.declared.line.Line.TheVariants.{Label, Do, Call}
 use Rattle.c65_code.specs.Segments.{labels_of, is_to, target_of}
 use Rattle.c65_code.specs.LineState.{Place, State, sp_of}
 use Rattle.c65_code.specs.Placement.{Placement, Setting, word_of}
-use Rattle.c65_code.specs.Forms.{Form, Mark, Plain, Branch, Jump, Far, Push, Pull, Depth, Return, Run, Enter, Through, Stray, branch_form, jump_form, move_form, op_form, form_of}
-use Rattle.c65_code.specs.Moves.{Ref, Given, ZeroAt, MemAt, ref_of, value_at, put, change, effect, labelled, settle, next, Goes as ByForm, Moves}
+use Rattle.c65_code.specs.Forms.{Plain, Run, branch_form, jump_form, move_form, op_form, form_of}
+use Rattle.c65_code.specs.Moves.{Ref, Given, ZeroAt, MemAt, ref_of, value_at, put, change, effect, labelled, settle, Goes as ByForm, Moves}
 use Rattle.c65_code.specs.Steady.{IsAllowed, Writes, IsWithin, IsSteady}
-use Rattle.c65_frame.specs.Frames.{Framed}
 use Rattle.c65_genentry.specs.Entry.{entry_code}
 use Rattle.c65_genentry.specs.Ends.{end_code}
-use Rattle.c65_genlaws.specs.Stack.{Waiting, waiting_by, behind, waits, bytes_in, by_routine}
+use Rattle.c65_genlaws.specs.Stack.{Waiting, behind, waits, bytes_in, by_routine}
 use Rattle.c65_genlaws.proofs.Made.{is_plain}
 use Rattle.c65_genlaws.proofs.Flat.{entry_flat, end_flat}
 use Rattle.c65_genheights.specs.Heights.{values_in, height_at, AreLevel}
@@ -194,13 +191,13 @@ next_height w (x ∷ a) (suc j) line e = next_height (behind x w) a j line e
 -- ---- one move
 
 -- a place in the middle, or behind it
-record Arrives (g : ℕ) (before middle : List Line) (q : Place) (h : Option (List ℕ)) (w : Option Waiting) : Type 0 where
-  at : ℕ
-  low : at ≤ length middle
-  to : q ≡ (g, length before + at)
-  height : height_at w middle at ≡ h
+pub record Arrives (g : ℕ) (before middle : List Line) (q : Place) (h : Option (List ℕ)) (w : Option Waiting) : Type 0 where
+  pub at : ℕ
+  pub low : at ≤ length middle
+  pub to : q ≡ (g, length before + at)
+  pub height : height_at w middle at ≡ h
 
-settles : (g m : ℕ) (lines before middle rest : List Line) (w : Option Waiting) (q : Place) → lines ≡ before ++ (middle ++ rest) → labels_of rest ≡ [] → m ≤ length middle → q ≡ (g, settle lines (length before + m)) → Arrives g before middle q (height_at w middle m) w
+pub settles : (g m : ℕ) (lines before middle rest : List Line) (w : Option Waiting) (q : Place) → lines ≡ before ++ (middle ++ rest) → labels_of rest ≡ [] → m ≤ length middle → q ≡ (g, settle lines (length before + m)) → Arrives g before middle q (height_at w middle m) w
 settles g m lines before middle rest w q e none le to =
     let there = settle_height middle rest w m none le in
     record {

@@ -1,19 +1,19 @@
 -- A call passes as many bytes as the function takes.
-use Rattle.std.proofs.Common.{◌≡◌, ℕ, zero, suc, ◌+◌, ◌-◌, ◌<◌, ◌≤◌, not, Bool, true, false, Option, None, Some, List, [], ◌∷◌, ◌++◌, length, refl, sym, ap, subst, ◌∙◌, slice_get, arith}
-use Rattle.std.specs.Prelude.{if◌then◌else◌, nat_lt, ◌||◌}
+use Rattle.std.proofs.Common.{◌≡◌, ℕ, suc, ◌+◌, ◌-◌, ◌≤◌, not, Bool, true, false, Option, None, Some, List, [], ◌∷◌, ◌++◌, length, refl, sym, ap, subst, ◌∙◌, slice_get, arith}
+use Rattle.std.specs.Prelude.{if◌then◌else◌, nat_lt}
 use Rattle.std.proofs.lemmas.Bool.{ltb-false}
 use Rattle.std.proofs.lemmas.Option.{slice_get-map}
 use Rattle.c65_base.specs.declared.refusal.Size.TheVariants as sizes
 use Rattle.c65_base.specs.Answers.{large}
 use Rattle.c65_ints.specs.declared.types.IntType.{IntType}
 use Rattle.c65_ints.specs.declared.types.IntType.TheVariants as ints
-use Rattle.c65_ctype.specs.Trees.{Ty, void, int, pointer, array, tag, function, QTy, qual, type_in, QTys, end, more, Fn, fn, known, TypesTy}
+use Rattle.c65_ctype.specs.Trees.{Ty, void, int, pointer, array, tag, function, QTy, qual, type_in, QTys, end, more, Fn, TypesTy}
 use Rattle.c65_ctype.specs.Views.{types_of}
 use Rattle.c65_csem.specs.declared.items.Parts.{Parts}
-use Rattle.c65_csem.specs.Trees.{Typed, type_of, Nodes, none, some, Stmt, FuncTy, ObjectTy}
+use Rattle.c65_csem.specs.Trees.{Typed, type_of, Nodes, none, some, ObjectTy}
 use Rattle.c65_csem.specs.Places.{is_scalar, plain_of}
 use Rattle.c65_csem.specs.Typed.{IsValue, AreGiven}
-use Rattle.c65_csem.specs.Units.{AreParams, MatchParams, IsBody}
+use Rattle.c65_csem.specs.Units.{AreParams, MatchParams}
 use Rattle.c65_csem.specs.Views.{object_of, unit_of}
 use Rattle.c65_frame.specs.declared.home.Home.{Home}
 use Rattle.c65_frame.specs.declared.home.Home.TheVariants.{Bank, Soft}
@@ -26,7 +26,7 @@ use Rattle.c65_frame.specs.Sizes.{object_in, slot_bytes}
 use Rattle.c65_frame.specs.Sizes as sizing
 use Rattle.c65_frame.specs.Marks.{lowest, all_marks}
 use Rattle.c65_frame.specs.Objects.{locals_of}
-use Rattle.c65_frame.specs.Frames.{Framed, has_prototype, is_variadic, takes_stack, register_param, home_at, arrival_at, arrival, is_kept, last_bytes, bytes_without, settled, passed_bytes, placed_in, frame_of}
+use Rattle.c65_frame.specs.Frames.{has_prototype, is_variadic, takes_stack, register_param, home_at, arrival_at, arrival, is_kept, last_bytes, bytes_without, settled, passed_bytes, placed_in}
 use Rattle.c65_genload.specs.Conversions.{size_of}
 use Rattle.c65_genexpr.specs.Types.{kind_of, kind_in, bare}
 use Rattle.c65_genexpr.specs.Arguments.{stays}

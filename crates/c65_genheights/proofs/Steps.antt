@@ -106,7 +106,7 @@ lifts_then p q = record {
 
 -- ---- rows
 
-bank_kept : (row : Row) (t u : State) → Meets row t u → has_part row.changes (Zp 20) ≡ false → has_part row.changes (Zp 21) ≡ false → has_part row.changes (Zp 22) ≡ false
+pub bank_kept : (row : Row) (t u : State) → Meets row t u → has_part row.changes (Zp 20) ≡ false → has_part row.changes (Zp 21) ≡ false → has_part row.changes (Zp 22) ≡ false
     → has_part row.changes (Zp 23) ≡ false → has_part row.changes (Zp 24) ≡ false → has_part row.changes (Zp 25) ≡ false → bank_of u ≡ bank_of t
 bank_kept row t u meets h0 h1 h2 h3 h4 h5 =
     let e0 : t.zp 20 ≡ u.zp 20 = meets.kept (Zp 20) h0 in

@@ -30,7 +30,7 @@ use Rattle.c65_genstmt.specs.declared.jumps.Ways.{Ways}
 use Rattle.c65_genstmt.specs.declared.objects.Spot.{Spot}
 use Rattle.c65_genstmt.specs.declared.objects.Spot.TheVariants.{Bank, Soft, Data}
 use Rattle.c65_genstmt.specs.Jumps.{following, with_value, with_condition}
-use Rattle.c65_genstmt.specs.Objects.{spot_of, object_bytes, point_code, stored_code, with_copied, with_kept, with_set, with_zeros}
+use Rattle.c65_genstmt.specs.Objects.{spot_of, object_bytes, point_code, stored_code, with_copied, with_kept, with_zeros}
 use Rattle.c65_genstmt.specs.Cases.{has_default}
 use Rattle.c65_genstmt.specs.Stmts.{case_behind, with_label, with_jump, two_given, three_given, with_maybe, with_test, ways, default_way, with_stmt, with_stmts}
 use Rattle.c65_genlaws.specs.Stack.{calls_of, maybe_calls, statement_calls, statements_calls}
@@ -39,11 +39,11 @@ use Rattle.c65_genlaws.proofs.Pieces.{test_piece}
 use Rattle.c65_genlaws.proofs.Flat.{point_flat, stored_flat, bank_clear_flat}
 use Rattle.c65_genlaws.proofs.Puts.{one, one_same}
 use Rattle.c65_genlaws.proofs.Others.{names, others, others_in, laid, others_are, default_counts, some_default}
-use Rattle.c65_genlaws.proofs.StackPieces.{Leaves, Still, test_still}
+use Rattle.c65_genlaws.proofs.StackPieces.{Still, test_still}
 use Rattle.c65_genlaws.proofs.StackLaws.{nothing_more}
-use Rattle.c65_genheights.proofs.Levels.{Level, Nowhere, There, Or, level_then, level_end, level_as, level_piece, level_none, level_label, level_leads, Closed, closed_open, closed_then, closed_behind}
+use Rattle.c65_genheights.proofs.Levels.{Level, Nowhere, level_then, level_end, level_piece, level_none, level_label, level_leads, Closed}
 use Rattle.c65_genheights.proofs.ExprLevels.{expr_level}
-use Rattle.c65_genheights.proofs.BlockLevels.{clear_level, copy_level, point_still, stored_still, bank_clear_still, Cases, choice_level}
+use Rattle.c65_genheights.proofs.BlockLevels.{clear_level, copy_level, point_still, stored_still, bank_clear_still, choice_level}
 
 -- labels that m counts, where nothing waits; and labels of X
 abbrev pub Counted : (ℕ → ℕ) → ℕ → List ℕ → Type 0

@@ -1,5 +1,6 @@
 -- Where sp stands as the machine goes through lines (docs/MACHINE.md, "Calls").
-use Rattle.std.specs.Prelude.{◌≡◌, ℕ, ◌+◌, ◌^◌, ◌≤◌, Bool, Option, Some, None, List, [], ◌++◌, length, slice_get}
+use Rattle.std.specs.Prelude.{◌≡◌, ℕ, suc, ◌+◌, ◌^◌, ◌≤◌, Bool, Ok, Option, Some, None, List, [], ◌++◌, length, slice_get}
+use Rattle.c65_csem.specs.declared.items.Parts.{Parts}
 use Rattle.c65_csem.specs.Trees.{Stmt, UnitTy, FuncTy}
 use Rattle.c65_csem.specs.Units.{IsBody}
 use Rattle.c65_code.specs.declared.parts.RegSet.{RegSet}
@@ -9,13 +10,15 @@ use Rattle.c65_code.specs.Segments.{labels_of}
 use Rattle.c65_code.specs.LineState.{Place, State, sp_of}
 use Rattle.c65_code.specs.Placement.{Setting}
 use Rattle.c65_code.specs.Forms.{Form, Run, IsLocal, form_of}
-use Rattle.c65_code.specs.Moves.{Moves}
+use Rattle.c65_code.specs.Moves.{Enters, Moves}
 use Rattle.c65_code.specs.Steady.{IsSteady}
-use Rattle.c65_frame.specs.Frames.{Framed}
+use Rattle.c65_frame.specs.Frames.{Framed, frame_of}
 use Rattle.c65_genentry.specs.Entry.{entry_code}
 use Rattle.c65_genentry.specs.Ends.{end_code}
 use Rattle.c65_genstmt.specs.Functions.{no_lines, with_function}
 use Rattle.c65_genlaws.specs.Stack.{Waiting, waiting_by, waits, bytes_in, statement_calls}
+use Rattle.c65_genheights.specs.Passing.{Passes}
+use Rattle.c65_genheights.specs.Calls.{pushed_bytes, passed_bytes, Holds}
 use Rattle.c65_genheights.specs.Heights.{height_at, AreLevel}
 
 abbrev pub sum_in : Option (List ℕ) → ℕ
@@ -56,3 +59,12 @@ FunctionsKeepHeights = (u : UnitTy) (g : FuncTy) (body : Stmt) (f : Framed) (is_
     → IsBody u g body → (with_function f is_main (Some body) (no_lines out)).labels ≤ 2 ^ 32 → s.lines n ≡ (with_function f is_main (Some body) (no_lines out)).lines
     → (middle : List Line) × (s.lines n ≡ entry_code f ++ (middle ++ end_code f)) × (waits (at_first body) middle ≡ Some (waiting_by [] []))
     × ((j : ℕ) (line : Line) (q : Place) (t v : State) → slice_get middle j ≡ Some line → IsOwn (form_of line) → IsSteady s line t → Moves s line (n, length (entry_code f) + j) t q v → Goes n (length (entry_code f)) middle (at_first body) j t q v)
+
+-- So does a call of a function, from the calling line to the line behind it, where the call takes away what the function takes, and the
+-- body of the function leaves sp and what its entry put away as they were.
+abbrev pub CallsKeepHeights : Type 0
+CallsKeepHeights = (s : Setting) (g j n : ℕ) (reads gives : RegSet) (before middle rest : List Line) (w : Option Waiting) (parts : Parts) (honoured : Bool) (called : FuncTy) (f : Framed) (q r o back : Place) (a t u v x : State)
+    → s.lines g ≡ before ++ (middle ++ rest) → labels_of rest ≡ [] → suc j ≤ length middle
+    → frame_of parts honoured called ≡ Ok f → waiting_at w middle j + pushed_bytes f.last ≡ waiting_at w middle (suc j) + passed_bytes f t
+    → Enters s n reads gives (g, length before + j) a q t → Passes s (entry_code f) q t r u → Holds f u v → Passes s (end_code f) o v back x
+    → Goes g (length before) middle w j a back x

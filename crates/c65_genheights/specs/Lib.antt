@@ -3,3 +3,4 @@ pub mod Calls
 pub mod Heights
 pub mod Going
 pub mod Parameters
+pub mod Bank

@@ -1,5 +1,5 @@
 -- That a call passes what the function takes (C90 6.3.2.2; docs/MACHINE.md, "Calls").
-use Rattle.std.specs.Prelude.{◌≡◌, ℕ, ◌+◌, not, Bool, false, Ok}
+use Rattle.std.specs.Prelude.{◌≡◌, ◌+◌, not, Bool, false, Ok}
 use Rattle.c65_ctype.specs.Trees.{QTy, QTys, fn, known}
 use Rattle.c65_csem.specs.declared.items.Parts.{Parts}
 use Rattle.c65_csem.specs.Trees.{Nodes, Stmt, FuncTy}

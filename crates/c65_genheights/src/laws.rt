@@ -1,8 +1,9 @@
 // Laws of the software stack, each the contract of a function that does nothing.
 ghost use Rattle.c65_genheights.specs.Calls.{EntriesLowerSp, EndsRaiseSp, EndsUndoEntries};
 ghost use Rattle.c65_genheights.specs.Heights.{ExpressionsAreLevel, FunctionsAreLevel};
+ghost use Rattle.c65_genheights.specs.Bank.{FunctionsLeaveRegbank, MovesLeaveRegbank};
 ghost use Rattle.c65_genheights.specs.Parameters.{CallsPassTheirParameters};
-ghost use Rattle.c65_genheights.specs.Going.{MovesKeepHeights, FunctionsKeepHeights};
+ghost use Rattle.c65_genheights.specs.Going.{MovesKeepHeights, FunctionsKeepHeights, CallsKeepHeights};
 
 /// A function's entry lowers sp by the bytes that its frame says, and puts regbank away as it found it.
 pub fn entries_lower_sp()
@@ -42,4 +43,19 @@ pub fn functions_keep_heights()
 /// A call with a prototype passes as many bytes on the software stack as the end of the function takes away there.
 pub fn calls_pass_their_parameters()
     ensures { CallsPassTheirParameters }
+{}
+
+/// So it is behind a call, where it takes away what the function takes and the function's body leaves sp and what its entry put away as they were.
+pub fn calls_keep_heights()
+    ensures { CallsKeepHeights }
+{}
+
+/// A function that takes nothing of regbank, and so does not save it, has no line that writes any of it.
+pub fn functions_leave_regbank()
+    ensures { FunctionsLeaveRegbank }
+{}
+
+/// A move by such a line leaves regbank as it was.
+pub fn moves_leave_regbank()
+    ensures { MovesLeaveRegbank }
 {}

@@ -1,9 +1,10 @@
-//! Laws of the software stack: what a function's entry and its end do to it, each the contract of a function that does nothing.
+//! Laws of the software stack and of regbank in a function, each the contract of a function that does nothing.
 #![tactic(auto)]
 
 mod laws;
 
 pub use laws::{
-    calls_pass_their_parameters, ends_raise_sp, ends_undo_entries, entries_lower_sp,
-    expressions_are_level, functions_are_level, functions_keep_heights, moves_keep_heights,
+    calls_keep_heights, calls_pass_their_parameters, ends_raise_sp, ends_undo_entries,
+    entries_lower_sp, expressions_are_level, functions_are_level, functions_keep_heights,
+    functions_leave_regbank, moves_keep_heights, moves_leave_regbank,
 };
