@@ -1,1 +1,10 @@
-pub mod RefusedLaws
+pub mod CheckLaws
+pub mod ItemLaws
+pub mod NameLaws
+pub mod PartsLaws
+pub mod RaisedLaws
+pub mod RenumberLaws
+pub mod SizeLaws
+pub mod TableLaws
+pub mod TurnLaws
+pub mod UseLaws

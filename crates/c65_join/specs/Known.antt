@@ -1,6 +1,7 @@
 -- The names that joining knows of itself: those of the main function and of the library (C90 5.1.2.2.1, 7.7, 7.9, 7.10,
 -- 7.11).
-use Rattle.std.specs.Prelude.{ℕ, List, [], ◌∷◌, Bool, false, Option, Some, None, find, codes, bytes_eq, slice_get}
+use Rattle.std.specs.Prelude.{ℕ, ◌+◌, List, [], ◌∷◌, Bool, false, Option, Some, None, find, codes, bytes_eq, slice_get, if◌then◌else◌}
+use Rattle.c65_base.specs.declared.names.Name.{Name}
 use Rattle.c65_csem.specs.declared.items.Library.{Library}
 use Rattle.c65_csem.specs.declared.items.Library.TheVariants as the
 
@@ -36,3 +37,11 @@ is_main_in (Some spelling) = bytes_eq spelling (codes "main")
 -- the name of the main function
 abbrev pub is_main_at : List (List ℕ) → ℕ → Bool
 is_main_at names n = is_main_in (slice_get names n)
+
+abbrev pub main_spelling : List ℕ
+main_spelling = codes "main"
+
+-- the first name from number i on that is the main function's
+abbrev pub main_named : ℕ → List (List ℕ) → Option Name
+main_named i [] = None
+main_named i (s ∷ ss) = if bytes_eq s (codes "main") then Some (record { 0 = i }) else main_named (i + 1) ss

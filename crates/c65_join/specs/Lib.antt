@@ -1,3 +1,10 @@
+pub mod Answers
+pub mod Checks
+pub mod Items
+pub mod Joined
 pub mod Known
+pub mod Numbers
 pub mod Prototypes
-pub mod Refused
+pub mod Renumbered
+pub mod Tables
+pub mod Uses

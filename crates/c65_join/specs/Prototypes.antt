@@ -1,9 +1,9 @@
 -- The prototypes of the library's functions, where plain char is this type (C90 7.7, 7.9, 7.10, 7.11), and the types
 -- that the main function may have (C90 5.1.2.2.1).
-use Rattle.std.specs.Prelude.{Bool, true, false}
+use Rattle.std.specs.Prelude.{true, false}
 use Rattle.c65_ints.specs.declared.types.IntType.{IntType}
 use Rattle.c65_ints.specs.declared.types.IntType.TheVariants.{Int, UInt}
-use Rattle.c65_ctype.specs.Trees.{void, int, pointer, QTy, qual, Fn, fn, Params, unknown, known, QTys, end, more}
+use Rattle.c65_ctype.specs.Trees.{void, int, pointer, QTy, qual, Fn, fn, known, QTys, end, more}
 use Rattle.c65_csem.specs.declared.items.Library.{Library}
 use Rattle.c65_csem.specs.declared.items.Library.TheVariants as the
 

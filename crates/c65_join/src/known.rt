@@ -1,6 +1,6 @@
 // The names that joining knows of itself: that of the main function, and those of the library.
-ghost use Rattle.std.specs.Prelude.{◌≡◌, true, IfSome};
-ghost use Rattle.c65_join.specs.Known.{is_main_at, library_at};
+ghost use Rattle.std.specs.Prelude.{◌≡◌};
+ghost use Rattle.c65_join.specs.Known.{library_at, is_main_at, main_named};
 
 use crate::library::by_spelling;
 use c65_base::{Name, Names};
@@ -26,8 +26,9 @@ fn is_main_name(names: &Names, name: Name) -> bool
 }
 
 /// The name of the main function.
+#[tactic(auto, using(crate::proofs::NameLaws::main_next, crate::proofs::NameLaws::main_here, crate::proofs::NameLaws::main_past))]
 pub fn name_of_main(names: &Names) -> Option<Name>
-    ensures { IfSome result (λ n. is_main_at names.now n.0 ≡ true) }
+    ensures { result ≡ main_named 0 names.now }
 {
     for number in 0..names.len() as u32 {
         let name = Name(number);

@@ -1,5 +1,11 @@
 // Which objects and functions of a unit its trees use.
-use c65_csem::{Cell, TExpr, TKind, TStmt, Target};
+ghost use Rattle.std.specs.Prelude.{◌≡◌, IfOk, replicate, slice_set, true, false, map};
+ghost use Rattle.c65_csem.specs.Views.{typed_of, node_of, nodes_of, maybe_of, stmt_of, stmts_of, object_of, func_of};
+ghost use Rattle.c65_join.specs.Items.{items_of};
+ghost use Rattle.c65_join.specs.Uses.{marks_of, is_marked, named, named_by, named_in, maybe_named, stmt_named, stmts_named, target_named, cell_named, cells_named, inits_named, bodies_named, uses_of};
+
+use crate::unit::Unit;
+use c65_csem::{Cell, TExpr, TFunc, TKind, TObject, TStmt, Target};
 use std::alloc::{AllocError, Global};
 
 /// For each object and function of a unit, whether it is used.
@@ -9,54 +15,74 @@ pub struct Marks {
     pub funcs: Vec<bool>,
 }
 
-fn mark(marks: &mut [bool], number: u32) {
-    if let Some(used) = marks.get_mut(number as usize) {
-        *used = true;
+#[tactic(auto, using(std::proofs::lemmas::List::set_past))]
+fn mark(marks: &mut Vec<bool>, number: u32)
+    ensures { marks.new.items ≡ slice_set marks.old.items number true }
+{
+    let at = number as usize;
+    if at < marks.len() {
+        marks[at] = true;
     }
 }
 
-pub fn is_marked(marks: &[bool], number: usize) -> bool {
+pub fn is_marked(marks: &[bool], number: usize) -> bool
+    ensures { result ≡ is_marked marks.now number }
+{
     match marks.get(number) {
         Some(used) => *used,
         None => false,
     }
 }
 
-fn unmarked(alloc: Global, count: usize) -> Result<Vec<bool>, AllocError> {
+fn unmarked(alloc: Global, count: usize) -> Result<Vec<bool>, AllocError>
+    ensures { IfOk result (λ v. v.items ≡ replicate count false) }
+{
     let mut marks = Vec::new(alloc);
-    for _ in 0..count {
-        marks.push(false)?;
-    }
+    marks.resize(count, false)?;
     Ok(marks)
 }
 
-impl Marks {
-    /// For so many objects and functions, none of them used.
-    pub fn new(alloc: Global, objects: usize, funcs: usize) -> Result<Marks, AllocError> {
-        Ok(Marks {
-            objects: unmarked(alloc, objects)?,
-            funcs: unmarked(alloc, funcs)?,
-        })
+/// Marks what an initial pointer names.
+fn mark_target(marks: &mut Marks, target: Target)
+    ensures { marks_of marks.new ≡ target_named target (marks_of marks.old) }
+{
+    match target {
+        Target::Object(number) => mark(&mut marks.objects, number),
+        Target::Func(number) => mark(&mut marks.funcs, number),
+        Target::Literal(_) => {}
     }
+}
 
-    /// Marks what an initial value names.
-    pub fn mark_cells(&mut self, cells: &[Cell]) {
-        for cell in cells {
-            if let Cell::Piece(target, _, _) = cell {
-                match target {
-                    Target::Object(number) => mark(&mut self.objects, *number),
-                    Target::Func(number) => mark(&mut self.funcs, *number),
-                    Target::Literal(_) => {}
-                }
-            }
-        }
+fn mark_cell(marks: &mut Marks, cell: Cell)
+    ensures { marks_of marks.new ≡ cell_named cell (marks_of marks.old) }
+{
+    if let Cell::Piece(target, _, _) = cell {
+        mark_target(marks, target);
+    }
+}
+
+/// Marks what an initial value names.
+fn mark_cells(marks: &mut Marks, cells: &[Cell])
+    ensures { marks_of marks.new ≡ cells_named cells.now (marks_of marks.old) }
+{
+    for cell in cells {
+        mark_cell(marks, *cell);
     }
 }
 
 /// Marks what an expression names.
 #[cycle(exprs)]
-pub fn mark_expr(marks: &mut Marks, e: &TExpr) {
-    match &e.kind {
+fn mark_expr(marks: &mut Marks, e: &TExpr)
+    ensures { marks_of marks.new ≡ named (typed_of e.now) (marks_of marks.old) }
+{
+    mark_kind(marks, &e.kind);
+}
+
+#[cycle(exprs)]
+fn mark_kind(marks: &mut Marks, kind: &TKind)
+    ensures { marks_of marks.new ≡ named_by (node_of kind.now) (marks_of marks.old) }
+{
+    match kind {
         TKind::Const(_) | TKind::Null | TKind::Literal(_) => {}
         TKind::Object(number) => mark(&mut marks.objects, *number),
         TKind::Func(number) => mark(&mut marks.funcs, *number),
@@ -85,20 +111,26 @@ pub fn mark_expr(marks: &mut Marks, e: &TExpr) {
             mark_expr(marks, b);
         }
         TKind::Call(function, arguments) => {
-            mark_expr(marks, function);
-            mark_exprs(marks, arguments);
+            let callee: &TExpr = function;
+            let given: &[TExpr] = arguments;
+            mark_expr(marks, callee);
+            mark_exprs(marks, given);
         }
     }
 }
 
 #[cycle(exprs)]
-fn mark_exprs(marks: &mut Marks, es: &[TExpr]) {
+fn mark_exprs(marks: &mut Marks, es: &[TExpr])
+    ensures { marks_of marks.new ≡ named_in (nodes_of es.now) (marks_of marks.old) }
+{
     for e in es {
         mark_expr(marks, e);
     }
 }
 
-fn mark_maybe(marks: &mut Marks, e: &Option<TExpr>) {
+fn mark_maybe(marks: &mut Marks, e: &Option<TExpr>)
+    ensures { marks_of marks.new ≡ maybe_named (maybe_of e.now) (marks_of marks.old) }
+{
     if let Some(e) = e {
         mark_expr(marks, e);
     }
@@ -106,11 +138,16 @@ fn mark_maybe(marks: &mut Marks, e: &Option<TExpr>) {
 
 /// Marks what a statement names.
 #[cycle(stmts)]
-pub fn mark_stmt(marks: &mut Marks, stmt: &TStmt) {
+fn mark_stmt(marks: &mut Marks, stmt: &TStmt)
+    ensures { marks_of marks.new ≡ stmt_named (stmt_of stmt.now) (marks_of marks.old) }
+{
     match stmt {
         TStmt::Empty | TStmt::Clear(_) | TStmt::Goto(_) | TStmt::Break | TStmt::Continue => {}
         TStmt::Eval(e) | TStmt::Set(_, _, e) => mark_expr(marks, e),
-        TStmt::Block(_, stmts) => mark_stmts(marks, stmts),
+        TStmt::Block(_, stmts) => {
+            let inner: &[TStmt] = stmts;
+            mark_stmts(marks, inner);
+        }
         TStmt::If(e, a, b) => {
             mark_expr(marks, e);
             mark_stmt(marks, a);
@@ -138,8 +175,45 @@ pub fn mark_stmt(marks: &mut Marks, stmt: &TStmt) {
 }
 
 #[cycle(stmts)]
-fn mark_stmts(marks: &mut Marks, stmts: &[TStmt]) {
+fn mark_stmts(marks: &mut Marks, stmts: &[TStmt])
+    ensures { marks_of marks.new ≡ stmts_named (stmts_of stmts.now) (marks_of marks.old) }
+{
     for stmt in stmts {
         mark_stmt(marks, stmt);
     }
+}
+
+/// Marks what the initial values of objects name.
+fn mark_inits(marks: &mut Marks, objects: &[TObject])
+    ensures { marks_of marks.new ≡ inits_named (map object_of objects.now) (marks_of marks.old) }
+{
+    for object in objects {
+        if let Some(cells) = &object.init {
+            mark_cells(marks, cells);
+        }
+    }
+}
+
+/// Marks what the bodies of functions name.
+fn mark_bodies(marks: &mut Marks, funcs: &[TFunc])
+    ensures { marks_of marks.new ≡ bodies_named (map func_of funcs.now) (marks_of marks.old) }
+{
+    for func in funcs {
+        if let Some(body) = &func.body {
+            mark_stmt(marks, body);
+        }
+    }
+}
+
+/// What the trees of a unit use.
+pub fn uses_of(alloc: Global, unit: &Unit) -> Result<Marks, AllocError>
+    ensures { IfOk result (λ m. marks_of m ≡ uses_of (items_of unit.now)) }
+{
+    let mut marks = Marks {
+        objects: unmarked(alloc, unit.objects.len())?,
+        funcs: unmarked(alloc, unit.funcs.len())?,
+    };
+    mark_inits(&mut marks, &unit.objects);
+    mark_bodies(&mut marks, &unit.funcs);
+    Ok(marks)
 }

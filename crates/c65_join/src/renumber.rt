@@ -1,27 +1,26 @@
 // The numbers and tags of a unit's trees become those of the program.
-ghost use Rattle.std.specs.Prelude.{◌≡◌, IfErr};
-ghost use Rattle.c65_base.specs.declared.refusal.Refusal.TheVariants.{OutOfMemory};
+ghost use Rattle.std.specs.Prelude.{◌≡◌, IfOk, OnOk, map};
+ghost use Rattle.c65_csem.specs.Views.{typed_of, node_of, maybe_of, stmt_of};
+ghost use Rattle.c65_join.specs.Numbers.{numbers_of};
+ghost use Rattle.c65_join.specs.Renumbered.{object_number, renumbered, renumbered_node, renumbered_maybe, renumbered_stmt, renumbered_target, renumbered_cell};
 
 use crate::numbers::Numbers;
-use c65_base::Refusal;
+use crate::unit::raise_type;
 use c65_csem::{Cell, TExpr, TKind, TStmt, Target};
-use std::alloc::Global;
+use std::alloc::{AllocError, Global};
 
 /// The numbers of an expression.
 #[cycle(exprs)]
-pub fn renumber_expr(alloc: Global, numbers: &Numbers, e: &mut TExpr) -> Result<(), Refusal>
-    ensures { IfErr result (λ e. e ≡ OutOfMemory) }
+pub fn renumber_expr(alloc: Global, numbers: &Numbers, e: &mut TExpr) -> Result<(), AllocError>
+    ensures { OnOk result (typed_of e.new ≡ renumbered (numbers_of numbers.now) (typed_of e.old)) }
 {
-    if numbers.tags > 0 {
-        let raised = e.ty.raised(alloc, numbers.tags)?;
-        e.ty = raised;
-    }
+    raise_type(alloc, &mut e.ty, numbers.tags)?;
     renumber_kind(alloc, numbers, &mut e.kind)
 }
 
 #[cycle(exprs)]
-fn renumber_kind(alloc: Global, numbers: &Numbers, kind: &mut TKind) -> Result<(), Refusal>
-    ensures { IfErr result (λ e. e ≡ OutOfMemory) }
+fn renumber_kind(alloc: Global, numbers: &Numbers, kind: &mut TKind) -> Result<(), AllocError>
+    ensures { OnOk result (node_of kind.new ≡ renumbered_node (numbers_of numbers.now) (node_of kind.old)) }
 {
     match kind {
         TKind::Const(_) | TKind::Null => Ok(()),
@@ -95,8 +94,8 @@ fn renumber_kind(alloc: Global, numbers: &Numbers, kind: &mut TKind) -> Result<(
     }
 }
 
-fn renumber_maybe(alloc: Global, numbers: &Numbers, e: &mut Option<TExpr>) -> Result<(), Refusal>
-    ensures { IfErr result (λ e. e ≡ OutOfMemory) }
+fn renumber_maybe(alloc: Global, numbers: &Numbers, e: &mut Option<TExpr>) -> Result<(), AllocError>
+    ensures { OnOk result (maybe_of e.new ≡ renumbered_maybe (numbers_of numbers.now) (maybe_of e.old)) }
 {
     match e {
         Some(e) => renumber_expr(alloc, numbers, e),
@@ -105,8 +104,8 @@ fn renumber_maybe(alloc: Global, numbers: &Numbers, e: &mut Option<TExpr>) -> Re
 }
 
 /// The numbers of objects.
-pub fn renumber_objects(numbers: &Numbers, objects: &mut Vec<u32>) -> Result<(), Refusal>
-    ensures { IfErr result (λ e. e ≡ OutOfMemory) }
+pub fn renumber_objects(numbers: &Numbers, objects: &mut Vec<u32>) -> Result<(), AllocError>
+    ensures { OnOk result (objects.new.items ≡ map (object_number (numbers_of numbers.now)) objects.old.items) }
 {
     for i in 0..objects.len() {
         let found = numbers.object(objects[i])?;
@@ -117,8 +116,8 @@ pub fn renumber_objects(numbers: &Numbers, objects: &mut Vec<u32>) -> Result<(),
 
 /// The numbers of a statement.
 #[cycle(stmts)]
-pub fn renumber_stmt(alloc: Global, numbers: &Numbers, stmt: &mut TStmt) -> Result<(), Refusal>
-    ensures { IfErr result (λ e. e ≡ OutOfMemory) }
+pub fn renumber_stmt(alloc: Global, numbers: &Numbers, stmt: &mut TStmt) -> Result<(), AllocError>
+    ensures { OnOk result (stmt_of stmt.new ≡ renumbered_stmt (numbers_of numbers.now) (stmt_of stmt.old)) }
 {
     match stmt {
         TStmt::Empty | TStmt::Goto(_) | TStmt::Break | TStmt::Continue => Ok(()),
@@ -170,8 +169,8 @@ pub fn renumber_stmt(alloc: Global, numbers: &Numbers, stmt: &mut TStmt) -> Resu
     }
 }
 
-fn renumbered_target(numbers: &Numbers, target: Target) -> Result<Target, Refusal>
-    ensures { IfErr result (λ e. e ≡ OutOfMemory) }
+fn renumbered_target(numbers: &Numbers, target: Target) -> Result<Target, AllocError>
+    ensures { IfOk result (λ t. t ≡ renumbered_target (numbers_of numbers.now) target) }
 {
     match target {
         Target::Object(number) => Ok(Target::Object(numbers.object(number)?)),
@@ -180,16 +179,25 @@ fn renumbered_target(numbers: &Numbers, target: Target) -> Result<Target, Refusa
     }
 }
 
+fn renumbered_cell(numbers: &Numbers, cell: Cell) -> Result<Cell, AllocError>
+    ensures { IfOk result (λ c. c ≡ renumbered_cell (numbers_of numbers.now) cell) }
+{
+    match cell {
+        Cell::Byte(byte) => Ok(Cell::Byte(byte)),
+        Cell::Piece(target, offset, part) => {
+            let found = renumbered_target(numbers, target)?;
+            Ok(Cell::Piece(found, offset, part))
+        }
+    }
+}
+
 /// The numbers of an initial value.
-pub fn renumber_cells(numbers: &Numbers, cells: &mut Vec<Cell>) -> Result<(), Refusal>
-    ensures { IfErr result (λ e. e ≡ OutOfMemory) }
+pub fn renumber_cells(numbers: &Numbers, cells: &mut Vec<Cell>) -> Result<(), AllocError>
+    ensures { OnOk result (cells.new.items ≡ map (renumbered_cell (numbers_of numbers.now)) cells.old.items) }
 {
     for i in 0..cells.len() {
-        let cell = cells[i];
-        if let Cell::Piece(target, offset, part) = cell {
-            let found = renumbered_target(numbers, target)?;
-            cells[i] = Cell::Piece(found, offset, part);
-        }
+        let found = renumbered_cell(numbers, cells[i])?;
+        cells[i] = found;
     }
     Ok(())
 }
