@@ -9,6 +9,7 @@ pub mod GrowthLaws
 pub mod HeadingLaws
 pub mod NamingLaws
 pub mod OperatorLaws
+pub mod RangeLaws
 pub mod ScopeLaws
 pub mod SizeLaws
 pub mod StepLaws

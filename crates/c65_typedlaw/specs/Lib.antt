@@ -1,3 +1,4 @@
+pub mod Constants
 pub mod Growth
 pub mod Laws
 pub mod Numbers

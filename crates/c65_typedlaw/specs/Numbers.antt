@@ -1,7 +1,18 @@
 -- Syntax trees whose integer constants each lie in the range of their type (C90 6.1.3.2), as scanning gives them.
-use Rattle.std.specs.Prelude.{pos}
+use Rattle.std.specs.Prelude.{pos, List, [], ◌∷◌}
 use Rattle.c65_ints.specs.Ranges.{InRange}
+use Rattle.c65_scan.specs.declared.token.Token.{Token}
+use Rattle.c65_scan.specs.declared.token.TokenKind.{TokenKind}
+use Rattle.c65_scan.specs.declared.token.TokenKind.TheVariants as kinds
 use Rattle.c65_tree.specs.Trees as t
+
+abbrev pub IsRangedToken : TokenKind → Type 0
+IsRangedToken (kinds.Number k n) = InRange k (pos n)
+IsRangedToken _ = Unit {0}
+
+abbrev pub AreRangedTokens : List Token → Type 0
+AreRangedTokens [] = Unit {0}
+AreRangedTokens (x ∷ xs) = IsRangedToken x.kind × AreRangedTokens xs
 
 abbrev mutual
   pub IsRanged : t.ExprTree → Type 0

@@ -1,4 +1,5 @@
 // What typing makes is well typed, each law the contract of a function that does nothing.
+ghost use Rattle.c65_typedlaw.specs.Constants.{ConstantsAreRanged};
 ghost use Rattle.c65_typedlaw.specs.Laws.{TreesStayTyped, ScopesBegin, DeclarationsKeepScopes, ExpressionsAreTyped, TypesKeepScopes};
 ghost use Rattle.c65_typedlaw.specs.WellTyped.{ConstructsAreTyped};
 
@@ -30,4 +31,9 @@ pub fn expressions_are_typed()
 /// Specifiers, declarators, headings of functions and type names keep the scope.
 pub fn types_keep_scopes()
     ensures { TypesKeepScopes }
+{}
+
+/// Constants lie in the ranges of their types in each tree that the grammar derives from tokens in which they do.
+pub fn constants_are_ranged()
+    ensures { ConstantsAreRanged }
 {}

@@ -7,6 +7,6 @@ mod laws;
 
 pub use calls::{typed_declarator, typed_expression, typed_heading, typed_specifiers};
 pub use laws::{
-    constructs_are_typed, declarations_keep_scopes, expressions_are_typed, scopes_begin,
-    trees_stay_typed, types_keep_scopes,
+    constants_are_ranged, constructs_are_typed, declarations_keep_scopes, expressions_are_typed,
+    scopes_begin, trees_stay_typed, types_keep_scopes,
 };
