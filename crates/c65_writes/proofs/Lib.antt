@@ -1,0 +1,14 @@
+pub mod Well
+pub mod Loads
+pub mod Entries
+pub mod Lists
+pub mod Known
+pub mod Places
+pub mod Exprs
+pub mod Moves
+pub mod Objects
+pub mod Stmts
+pub mod Symbols
+pub mod Data
+pub mod Functions
+pub mod Programs
