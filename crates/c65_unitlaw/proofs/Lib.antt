@@ -1,0 +1,4 @@
+pub mod Heres
+pub mod Inits
+pub mod Decls
+pub mod Whole

@@ -1,0 +1,44 @@
+-- That initialisers and declarations are read, and that tokens have one at most.
+use Rattle.std.proofs.Common.{◌≡◌, List, [], ◌∷◌, ◌++◌, refl, sym, ap, ◌∙◌, inl, arith}
+use Rattle.std.specs.Prelude.{Ok, Err}
+use Rattle.c65_scan.specs.declared.token.Token.{Token}
+use Rattle.c65_scan.specs.declared.token.TokenKind.TheVariants as kinds
+use Rattle.c65_scopes.specs.Scopes.{Blocks}
+use Rattle.c65_parse.specs.Reading.{Answer}
+use Rattle.c65_decl.specs.Initialisers.{initialiser_read}
+use Rattle.c65_decl.specs.Decls.{declaration_read}
+use Rattle.c65_grammar.specs.Phrases.{token}
+use Rattle.c65_grammar.specs.Scopes.{after_init, after_decl}
+use Rattle.c65_unitlaw.specs.Declared.{InitsAreRead, DeclarationsAreRead, InitsAreOne, DeclarationsAreOne}
+use Rattle.c65_unitlaw.proofs.Inits.{InitRun, reads_init}
+use Rattle.c65_unitlaw.proofs.Decls.{declaration_is}
+
+-- two readings of the same tokens
+tree_or : {A : Type 0} → A → Answer A → A
+tree_or other r = elim r as (λ _. _) [ Ok a ↦ a.0 | Err e ↦ other ]
+
+same_tree : {A : Type 0} (a b : A) (r : Answer A) (rest more : List Token) (scope behind : Blocks) → r ≡ Ok (a, rest, scope) → r ≡ Ok (b, more, behind) → a ≡ b
+unfolding tree_or
+same_tree a b r rest more scope behind e f = ap (tree_or a) (sym e ∙ f)
+
+pub inits_are_read : InitsAreRead
+inits_are_read unit sc outer tree front next others p deep enough ends =
+    let run : InitRun unit [] sc outer tree (front ++ next ∷ others) (next ∷ others) = reads_init tree unit [] sc outer front (next ∷ others) p (omega (arith, deep)) enough tt ends in
+    run.are
+
+pub declarations_are_read : DeclarationsAreRead
+declarations_are_read unit sc outer tree front next others p deep enough = declaration_is unit tree sc outer front (next ∷ others) p deep enough tt
+
+pub inits_are_one : InitsAreOne
+inits_are_one sc ts tree other p q deep low =
+    let next : Token = token kinds.End (record { file = 0; line = 1 }) in
+    let unit = ts ++ next ∷ [] in
+    same_tree tree other (initialiser_read unit (sc ∷ []) (ts ++ next ∷ [])) (next ∷ []) (next ∷ []) (after_init sc tree ∷ []) (after_init sc other ∷ [])
+    (inits_are_read unit sc [] tree ts next [] p deep (omega arith) (inl refl)) (inits_are_read unit sc [] other ts next [] q low (omega arith) (inl refl))
+
+pub declarations_are_one : DeclarationsAreOne
+declarations_are_one sc ts tree other p q deep low =
+    let next : Token = token kinds.End (record { file = 0; line = 1 }) in
+    let unit = ts ++ next ∷ [] in
+    same_tree tree other (declaration_read unit (sc ∷ []) (ts ++ next ∷ [])) (next ∷ []) (next ∷ []) (after_decl sc tree ∷ []) (after_decl sc other ∷ [])
+    (declarations_are_read unit sc [] tree ts next [] p deep (omega arith)) (declarations_are_read unit sc [] other ts next [] q low (omega arith))

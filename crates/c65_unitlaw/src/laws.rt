@@ -1,0 +1,14 @@
+// That what the grammar derives of declarations is read, and that tokens have one such tree at most.
+ghost use Rattle.c65_unitlaw.specs.Declared.{InitsAreRead, DeclarationsAreRead, InitsAreOne, DeclarationsAreOne};
+
+/// An initialiser (C90 6.5.7) within the limit of depth, in no more steps than the unit has tokens.
+pub fn initialisers_are_read()
+    ensures read { InitsAreRead }
+    ensures one { InitsAreOne }
+{}
+
+/// A declaration (C90 6.5) within the limit of depth, in no more steps than the unit has tokens.
+pub fn declarations_are_read()
+    ensures read { DeclarationsAreRead }
+    ensures one { DeclarationsAreOne }
+{}
