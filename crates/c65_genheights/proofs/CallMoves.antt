@@ -12,7 +12,7 @@ use Rattle.c65_genheights.proofs.EndWay.{kept_part}
 use Rattle.c65_genheights.proofs.CallWay.{ends_undo_entries}
 use Rattle.c65_genheights.proofs.LineMoves.{Arrives, settles}
 
-entered_sp : (s : Setting) (n : ℕ) (reads gives : RegSet) (p q : Place) (a t : State) → Enters s n reads gives p a q t → sp_of t ≡ sp_of a
+pub entered_sp : (s : Setting) (n : ℕ) (reads gives : RegSet) (p q : Place) (a t : State) → Enters s n reads gives p a q t → sp_of t ≡ sp_of a
 entered_sp s n reads gives p q a t e =
     let low : a.zp 0 ≡ t.zp 0 = e.keeps.part (Zp 0) (kept_part reads 0 refl) in
     let high : a.zp 1 ≡ t.zp 1 = e.keeps.part (Zp 1) (kept_part reads 1 refl) in

@@ -17,3 +17,4 @@ pub mod BankPieces
 pub mod BankExprs
 pub mod BankStmts
 pub mod BankMoves
+pub mod WalkLaws

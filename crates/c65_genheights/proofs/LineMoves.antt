@@ -265,7 +265,7 @@ moves_keep_heights s g j before middle rest w (Call (callees.Pointer reads gives
 
 -- ---- functions
 
-no_labels : (a : List Line) → list_all is_plain a ≡ true → labels_of a ≡ []
+pub no_labels : (a : List Line) → list_all is_plain a ≡ true → labels_of a ≡ []
 no_labels [] h = refl
 no_labels (Label l ∷ a) h = absurd cc
 no_labels (Do op mode operand ∷ a) h = no_labels a (and_parts (not (is_to operand)) (list_all is_plain a) h).1

@@ -4,3 +4,4 @@ pub mod Heights
 pub mod Going
 pub mod Parameters
 pub mod Bank
+pub mod Walks

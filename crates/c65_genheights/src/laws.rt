@@ -2,6 +2,7 @@
 ghost use Rattle.c65_genheights.specs.Calls.{EntriesLowerSp, EndsRaiseSp, EndsUndoEntries};
 ghost use Rattle.c65_genheights.specs.Heights.{ExpressionsAreLevel, FunctionsAreLevel};
 ghost use Rattle.c65_genheights.specs.Bank.{FunctionsLeaveRegbank, MovesLeaveRegbank};
+ghost use Rattle.c65_genheights.specs.Walks.{WalksKeepHeights};
 ghost use Rattle.c65_genheights.specs.Parameters.{CallsPassTheirParameters};
 ghost use Rattle.c65_genheights.specs.Going.{MovesKeepHeights, FunctionsKeepHeights, CallsKeepHeights};
 
@@ -58,4 +59,9 @@ pub fn functions_leave_regbank()
 /// A move by such a line leaves regbank as it was.
 pub fn moves_leave_regbank()
     ensures { MovesLeaveRegbank }
+{}
+
+/// On a way from one line of a function to another sp and what waits have the same sum at each line, with all calls on it and in these.
+pub fn walks_keep_heights()
+    ensures { WalksKeepHeights }
 {}
