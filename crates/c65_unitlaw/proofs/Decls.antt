@@ -60,7 +60,7 @@ Follows tok = Plain tok × (EndsInit tok)
 abbrev ListsOn : Token → Type 0
 ListsOn tok = EndsInit tok × (is_mark marks.Equal (sign_of tok.kind) ≡ false)
 
-more_first : (ds : List t.InitDeclaratorTree) (q : t.SpecifiersTree) (sc : Scope) (k : Pos) (zs rest : List Token) → init_declarators false q sc ds zs → First ListsOn (zs ++ token (kinds.Punct puncts.Semicolon) k ∷ rest)
+pub more_first : (ds : List t.InitDeclaratorTree) (q : t.SpecifiersTree) (sc : Scope) (k : Pos) (zs rest : List Token) → init_declarators false q sc ds zs → First ListsOn (zs ++ token (kinds.Punct puncts.Semicolon) k ∷ rest)
 more_first [] q sc k zs rest p = subst (λ ts. First ListsOn (ts ++ token (kinds.Punct puncts.Semicolon) k ∷ rest)) (sym p) (inl refl, refl)
 more_first (d ∷ ds) q sc k zs rest p = before_some (λ ts. First ListsOn ts) (kinds.Punct puncts.Comma) zs (token (kinds.Punct puncts.Semicolon) k ∷ rest) p (λ l us pu. (inr (omega arith), refl))
 
@@ -68,7 +68,7 @@ more_plain : (ds : List t.InitDeclaratorTree) (q : t.SpecifiersTree) (sc : Scope
 more_plain [] q sc k zs rest p = subst (λ ts. First Plain (ts ++ token (kinds.Punct puncts.Semicolon) k ∷ rest)) (sym p) tt
 more_plain (d ∷ ds) q sc k zs rest p = before_some (λ ts. First Plain ts) (kinds.Punct puncts.Comma) zs (token (kinds.Punct puncts.Semicolon) k ∷ rest) p (λ l us pu. tt)
 
-behind_first : (i : Option t.InitTree) (ds : List t.InitDeclaratorTree) (q : t.SpecifiersTree) (inner sc : Scope) (k : Pos) (ws rest : List Token) → (optional_init inner i ▸ init_declarators false q sc ds) ws → First Plain (ws ++ token (kinds.Punct puncts.Semicolon) k ∷ rest)
+pub behind_first : (i : Option t.InitTree) (ds : List t.InitDeclaratorTree) (q : t.SpecifiersTree) (inner sc : Scope) (k : Pos) (ws rest : List Token) → (optional_init inner i ▸ init_declarators false q sc ds) ws → First Plain (ws ++ token (kinds.Punct puncts.Semicolon) k ∷ rest)
 behind_first None ds q inner sc k ws rest p = split (λ ts. First Plain ts) ws (token (kinds.Punct puncts.Semicolon) k ∷ rest) p (λ ys zs a pz. subst (λ ts. First Plain (ts ++ (zs ++ token (kinds.Punct puncts.Semicolon) k ∷ rest))) (sym a) (more_plain ds q sc k zs rest pz))
 behind_first (Some i) ds q inner sc k ws rest p = split (λ ts. First Plain ts) ws (token (kinds.Punct puncts.Semicolon) k ∷ rest) p (λ ys zs py pz. before_some (λ ts. First Plain ts) (kinds.Punct puncts.Equal) ys (zs ++ token (kinds.Punct puncts.Semicolon) k ∷ rest) py (λ l us pu. tt))
 
@@ -123,7 +123,7 @@ declarators_are (d ∷ ds) unit (u ∷ us) q done e i sc outer k xs rest p fit d
     ∙ ap (λ x. Ok (x, rest, sc2 ∷ outer)) (append_assoc done (one ∷ []) (d ∷ ds)))))) enough room
 
 -- with what a declaration's declarators begin
-abbrev EndsThem : t.SpecifiersTree → Scope → Token → Type 0
+abbrev pub EndsThem : t.SpecifiersTree → Scope → Token → Type 0
 EndsThem q sc tok = EndsSpecifiers (has_type q) sc tok.kind
 
 declares_ends : (typed : Bool) (sc : Scope) (d : t.DeclaratorTree) (k : TokenKind) → DeclaratorKind (g.named typed) sc d k → EndsSpecifiers typed sc k × (is_mark marks.Semicolon (sign_of k) ≡ false)
@@ -146,7 +146,7 @@ pub head_is : (q : t.SpecifiersTree) (sc : Scope) (m : Pos) (xs : List Token) �
 head_is (t.specifiers l t.no_specifiers) sc m xs p = absurd (let e = p.0.0 in cc)
 head_is (t.specifiers l (t.and_specifier qs q)) sc m xs p = p
 
-specifiers_of : (q : t.SpecifiersTree) (sc : Scope) (outer : Blocks) (xs ts : List Token) → g.specifiers sc true q xs → specifiers_depth q ≤ 256 → Left ts → First (EndsThem q (after_specifiers sc q)) ts → specifiers_read (sc ∷ outer) (xs ++ ts) ≡ Ok (q, ts, after_specifiers sc q ∷ outer)
+pub specifiers_of : (q : t.SpecifiersTree) (sc : Scope) (outer : Blocks) (xs ts : List Token) → g.specifiers sc true q xs → specifiers_depth q ≤ 256 → Left ts → First (EndsThem q (after_specifiers sc q)) ts → specifiers_read (sc ∷ outer) (xs ++ ts) ≡ Ok (q, ts, after_specifiers sc q ∷ outer)
 specifiers_of q sc outer xs [] p deep left f = absurd left
 specifiers_of q sc outer xs (r ∷ rs) p deep left f = specifiers_are_read sc outer q xs r rs (head_is q sc r.pos xs p) deep f
 

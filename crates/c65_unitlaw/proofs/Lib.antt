@@ -1,4 +1,9 @@
 pub mod Heres
 pub mod Inits
 pub mod Decls
+pub mod Tests
+pub mod Words
+pub mod Stmts
+pub mod Blocks
+pub mod Units
 pub mod Whole

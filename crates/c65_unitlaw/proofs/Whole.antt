@@ -1,8 +1,9 @@
--- That initialisers and declarations are read, and that tokens have one at most.
-use Rattle.std.proofs.Common.{◌≡◌, List, [], ◌∷◌, ◌++◌, refl, sym, ap, ◌∙◌, inl, arith}
-use Rattle.std.specs.Prelude.{Ok, Err}
+-- That what the grammar derives is read, and that tokens have one tree at most.
+use Rattle.std.proofs.Common.{◌≡◌, List, [], ◌∷◌, ◌++◌, refl, sym, ap, ◌∙◌, inl, arith, subst}
+use Rattle.std.specs.Prelude.{Ok, Err, Result}
 use Rattle.c65_scan.specs.declared.token.Token.{Token}
 use Rattle.c65_scan.specs.declared.token.TokenKind.TheVariants as kinds
+use Rattle.c65_tree.specs.Trees as t
 use Rattle.c65_scopes.specs.Scopes.{Blocks}
 use Rattle.c65_parse.specs.Reading.{Answer}
 use Rattle.c65_decl.specs.Initialisers.{initialiser_read}
@@ -12,6 +13,13 @@ use Rattle.c65_grammar.specs.Scopes.{after_init, after_decl}
 use Rattle.c65_unitlaw.specs.Declared.{InitsAreRead, DeclarationsAreRead, InitsAreOne, DeclarationsAreOne}
 use Rattle.c65_unitlaw.proofs.Inits.{InitRun, reads_init}
 use Rattle.c65_unitlaw.proofs.Decls.{declaration_is}
+use Rattle.c65_unitlaw.proofs.Stmts.{StmtRun}
+use Rattle.c65_unitlaw.proofs.Blocks.{reads_stmt}
+use Rattle.c65_unitlaw.proofs.Units.{unit_is}
+use Rattle.c65_unitlaw.specs.Units.{StatementsAreRead, UnitsAreRead, UnitsAreOne, AcceptsUnit}
+use Rattle.c65_decl.specs.Units.{unit_read}
+use Rattle.c65_base.specs.Answers.{Fault, Gives}
+use Rattle.c65_base.specs.declared.refusal.Refusal.{Refusal}
 
 -- two readings of the same tokens
 tree_or : {A : Type 0} → A → Answer A → A
@@ -42,3 +50,22 @@ declarations_are_one sc ts tree other p q deep low =
     let unit = ts ++ next ∷ [] in
     same_tree tree other (declaration_read unit (sc ∷ []) (ts ++ next ∷ [])) (next ∷ []) (next ∷ []) (after_decl sc tree ∷ []) (after_decl sc other ∷ [])
     (declarations_are_read unit sc [] tree ts next [] p deep (omega arith)) (declarations_are_read unit sc [] other ts next [] q low (omega arith))
+
+pub statements_are_read : StatementsAreRead
+statements_are_read unit sc outer tree front next others p tall inner enough safe =
+    let run : StmtRun unit unit [] sc outer tree (front ++ next ∷ others) (next ∷ others) = reads_stmt tree unit unit [] sc outer front (next ∷ others) p (omega (arith, tall)) inner enough enough tt safe in
+    run.are
+
+pub units_are_read : UnitsAreRead
+units_are_read tokens unit h = unit_is tokens unit h.derives h.within
+
+unit_or : t.UnitTree → Result t.UnitTree Fault → t.UnitTree
+unit_or other (Ok u) = u
+unit_or other (Err e) = other
+
+pub units_are_one : UnitsAreOne
+unfolding unit_or
+units_are_one tokens unit other h k = ap (unit_or unit) (sym (units_are_read tokens unit h) ∙ units_are_read tokens other k)
+
+pub accepted : {X : Type 0} (view : X → t.UnitTree) (r : Result X Refusal) (tokens : List Token) → Gives view r (unit_read tokens) → AcceptsUnit tokens view r
+accepted view r tokens h unit k = subst (Gives view r) (units_are_read tokens unit k) h

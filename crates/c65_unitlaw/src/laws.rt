@@ -1,5 +1,7 @@
-// That what the grammar derives of declarations is read, and that tokens have one such tree at most.
+// That what the grammar derives of declarations, statements and units is read, and that tokens have one such tree at
+// most.
 ghost use Rattle.c65_unitlaw.specs.Declared.{InitsAreRead, DeclarationsAreRead, InitsAreOne, DeclarationsAreOne};
+ghost use Rattle.c65_unitlaw.specs.Units.{StatementsAreRead, UnitsAreRead, UnitsAreOne};
 
 /// An initialiser (C90 6.5.7) within the limit of depth, in no more steps than the unit has tokens.
 pub fn initialisers_are_read()
@@ -11,4 +13,15 @@ pub fn initialisers_are_read()
 pub fn declarations_are_read()
     ensures read { DeclarationsAreRead }
     ensures one { DeclarationsAreOne }
+{}
+
+/// A statement (C90 6.6) within the limit of depth, in no more steps than the unit has tokens.
+pub fn statements_are_read()
+    ensures { StatementsAreRead }
+{}
+
+/// A unit (C90 6.7) within the limit of depth.
+pub fn units_are_read()
+    ensures read { UnitsAreRead }
+    ensures one { UnitsAreOne }
 {}
