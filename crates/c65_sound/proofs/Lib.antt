@@ -2,5 +2,8 @@ pub mod Stacks
 pub mod Values
 pub mod Stores
 pub mod Plans
+pub mod Scopes
 pub mod Steps
 pub mod Expressions
+pub mod Statements
+pub mod StatementSteps

@@ -48,7 +48,7 @@ place_kind a h = ap (λ (b : Bool). kind_if b (type_in (type_of a))) h
 below_place : (a : Typed) → IsTrue (is_place a) → Below (kind_of a) naming
 below_place a h = below_same (kind_of a) naming (place_kind a h)
 
-tag_kind : (b : Bool) (t : Ty) → IsTrue (is_tag t) → kind_if b t ≡ naming
+pub tag_kind : (b : Bool) (t : Ty) → IsTrue (is_tag t) → kind_if b t ≡ naming
 tag_kind true t h = refl
 tag_kind false (tag n) h = refl
 tag_kind false _ h = absurd (cc)
@@ -256,8 +256,8 @@ module _ (u : UnitTy) where
 
 -- ---- the work
 
-module _ (u : UnitTy) (c : Scene) where
-  put_takes : (t : Bool) (s : Shape) (x : Kind) (k : List Item) (ks : List Kind) → IsScalarShape s → Below (kind_in s) x → Takes u c k (x ∷ ks) → Takes u c (put_step t s ∷ k) (kind_in s ∷ naming ∷ with_kind t x ks)
+module _ (S : Type 0) (u : UnitTy) (c : Scene) where
+  put_takes : (t : Bool) (s : Shape) (x : Kind) (k : List Item) (ks : List Kind) → IsScalarShape s → Below (kind_in s) x → Takes S u c k (x ∷ ks) → Takes S u c (put_step t s ∷ k) (kind_in s ∷ naming ∷ with_kind t x ks)
   put_takes true s x k ks i b g = g
   put_takes false s x k ks i b g = (i, (x, b, g))
 
@@ -268,10 +268,10 @@ module _ (u : UnitTy) (c : Scene) where
   shape a = shape_of u.types (bare_type a)
 
   mutual
-    pub takes : (e : Typed) (x : Kind) (k : List Item) (ks : List Kind) → IsTyped u e → AreThere u c e → Below (kind_of e) x → Takes u c k (x ∷ ks) → Takes u c (plan u e k) ks
+    pub takes : (e : Typed) (x : Kind) (k : List Item) (ks : List Kind) → IsTyped u e → AreThere u c e → Below (kind_of e) x → Takes S u c k (x ∷ ks) → Takes S u c (plan u e k) ks
     takes (node t n) x k ks w h b g = node_takes t n x k ks w h b g
 
-    node_takes : (t : QTy) (n : Node) (x : Kind) (k : List Item) (ks : List Kind) → IsNode u t n → AreThereIn u c n → Below (kind_of (node t n)) x → Takes u c k (x ∷ ks) → Takes u c (plan_node u t n k) ks
+    node_takes : (t : QTy) (n : Node) (x : Kind) (k : List Item) (ks : List Kind) → IsNode u t n → AreThereIn u c n → Below (kind_of (node t n)) x → Takes S u c k (x ∷ ks) → Takes S u c (plan_node u t n k) ks
     node_takes t (constant z) x k ks w h b g = (x, raise (D u c) (kind_at (type_in t)) x (Whole z) b (subst (λ (q : QTy). Suits (D u c) (kind_at (type_in q)) (Whole z)) (sym w.1) tt), g)
     node_takes t null x k ks w h b g = (x, raise (D u c) (kind_at (type_in t)) x Null b (subst (λ (q : QTy). Suits (D u c) (kind_at (type_in q)) Null) (sym w.1) tt), g)
     node_takes t (literal l) x k ks w h b g = (x, raise (D u c) naming x (Place (literal_block u l) 0) b h, g)
@@ -303,18 +303,18 @@ module _ (u : UnitTy) (c : Scene) where
           scalar_place u a w.0 w.2.1,
           tt,
           takes d arithmetic (Apply2 op (Number ct) (shape d) ∷ Put (at a) ∷ k) (arithmetic ∷ naming ∷ ks) w.1 h.1 (below_value d (plain (int i.0)) w.5 i.1)
-              (subst (λ (s : Shape). Does u c (Apply2 op (Number ct) s) (Takes u c (Put (at a) ∷ k)) (arithmetic ∷ arithmetic ∷ naming ∷ ks)) (sym (int_shape u (type_of d) i.0 i.1))
+              (subst (λ (s : Shape). Does S u c (Apply2 op (Number ct) s) (Takes S u c (Put (at a) ∷ k)) (arithmetic ∷ arithmetic ∷ naming ∷ ks)) (sym (int_shape u (type_of d) i.0 i.1))
               (tt, refl, refl, (arithmetic, tt, (scalar_place u a w.0 w.2.1, (x, held u t a x w.0 w.2.1 w.4 b, g))))),
         )
     node_takes t (assign_step op a d) x k ks w h b g =
         let is : type_in (type_of a) ≡ pointer w.4.0.0 = same_type t (type_of a) w.3 ∙ ap type_in w.4.0.1 in
         let low : Below pointing x = subst (λ (q : QTy). Below (kind_at (type_in q)) x) w.4.0.1 b in
         takes a naming (Peek (shape a) (shape a) ∷ plan u d (Apply2 op (shape a) (shape d) ∷ Put (shape a) ∷ k)) ks w.0 h.0 (below_place a w.2.0)
-        (subst (λ (y : Ty). Takes u c (Peek (shape_of u.types y) (shape_of u.types y) ∷ plan u d (Apply2 op (shape_of u.types y) (shape d) ∷ Put (shape_of u.types y) ∷ k)) (naming ∷ ks)) (sym is) (
+        (subst (λ (y : Ty). Takes S u c (Peek (shape_of u.types y) (shape_of u.types y) ∷ plan u d (Apply2 op (shape_of u.types y) (shape d) ∷ Put (shape_of u.types y) ∷ k)) (naming ∷ ks)) (sym is) (
           tt,
           tt,
           takes d arithmetic (Apply2 op (Pointer (size_of u.types (type_in w.4.0.0))) (shape d) ∷ Put (Pointer (size_of u.types (type_in w.4.0.0))) ∷ k) (pointing ∷ naming ∷ ks) w.1 h.1 (below_value d (plain (int w.6.0)) w.5 w.6.1)
-              (subst (λ (s : Shape). Does u c (Apply2 op (Pointer (size_of u.types (type_in w.4.0.0))) s) (Takes u c (Put (Pointer (size_of u.types (type_in w.4.0.0))) ∷ k)) (arithmetic ∷ pointing ∷ naming ∷ ks)) (sym (int_shape u (type_of d) w.6.0 w.6.1))
+              (subst (λ (s : Shape). Does S u c (Apply2 op (Pointer (size_of u.types (type_in w.4.0.0))) s) (Takes S u c (Put (Pointer (size_of u.types (type_in w.4.0.0))) ∷ k)) (arithmetic ∷ pointing ∷ naming ∷ ks)) (sym (int_shape u (type_of d) w.6.0 w.6.1))
               (steps_move op w.7, refl, refl, (pointing, tt, (tt, (x, low, g))))),
         ))
     node_takes t (step kind a) x k ks w h b g =
@@ -329,6 +329,6 @@ module _ (u : UnitTy) (c : Scene) where
     node_takes t (call f es) x k ks w h b g =
         takes f (kind_of f) (plan_all u es (Invoke (bare_type f) (types_of es) ∷ k)) ks w.0 h.0 (below_refl (kind_of f)) (all_take es (Invoke (bare_type f) (types_of es) ∷ k) (kind_of f ∷ ks) w.3 h.1 (λ js. tt))
 
-    all_take : (es : Nodes) (k : List Item) (ks : List Kind) → AreTyped u es → AreAllThere u c es → ((js : List Kind) → Takes u c k js) → Takes u c (plan_all u es k) ks
+    all_take : (es : Nodes) (k : List Item) (ks : List Kind) → AreTyped u es → AreAllThere u c es → ((js : List Kind) → Takes S u c k js) → Takes S u c (plan_all u es k) ks
     all_take none k ks w h f = f ks
     all_take (some e rest) k ks w h f = takes e (kind_of e) (plan_all u rest k) ks w.0 h.0 (below_refl (kind_of e)) (all_take rest k (kind_of e ∷ ks) w.1 h.1 f)

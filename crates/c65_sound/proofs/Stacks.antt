@@ -1,20 +1,22 @@
 -- What pending work finds among the waiting values.
-use Rattle.std.specs.Prelude.{◌≡◌, ℕ, Bool, true, false, List, [], ◌∷◌, Result, Ok, Err, Some, IsSome, IsTrue, ⊤}
+use Rattle.std.specs.Prelude.{◌≡◌, ℕ, Bool, true, false, List, [], ◌∷◌, Result, Ok, Err, Some, IsSome, IsTrue, All, ⊤}
 use Rattle.c65_base.specs.declared.operators.UnaryOp.{UnaryOp}
 use Rattle.c65_base.specs.declared.operators.UnaryOp.TheVariants.{Neg, BitNot, Not}
 use Rattle.c65_base.specs.declared.operators.BinaryOp.{BinaryOp}
 use Rattle.c65_base.specs.declared.operators.BinaryOp.TheVariants.{Add, Sub, Lt, Gt, Le, Ge, Eq, Ne}
 use Rattle.c65_ctype.specs.Trees.{Ty, void, int, pointer, array, tag, function, type_in}
-use Rattle.c65_csem.specs.Trees.{Typed, type_of, UnitTy}
+use Rattle.c65_csem.specs.Trees.{Typed, type_of, MaybeTyped, absent, present, Stmt, Stmts, UnitTy}
 use Rattle.c65_csem.specs.Places.{is_place}
 use Rattle.c65_csem.specs.Typed.{IsTyped}
+use Rattle.c65_csem.specs.Statements.{Context, IsStmt, AreStmts, NamesAutomatic}
 use Rattle.c65_meaning.specs.Why.{Why, By, Unfit}
 use Rattle.c65_meaning.specs.Store.{Cell, Piece, Block, Store, Value, Whole, Null, Place, Opaque, NoValue, Shape, Number, Field, Pointer, Area}
 use Rattle.c65_meaning.specs.Operators.{is_post}
 use Rattle.c65_meaning.specs.Fits.{IsTarget}
-use Rattle.c65_meaning.specs.Items.{Item, Push, Name, Follow, Move, Fetch, Keep, Change, Apply1, Apply2, Both, Either, Truth, Choose, Drop, Put, Peek, Bump, PutUnder, Carry, Invoke}
+use Rattle.c65_meaning.specs.Items.{Item, Push, Name, Follow, Move, Fetch, Keep, Change, Apply1, Apply2, Both, Either, Truth, Choose, Drop, Put, Peek, Bump, PutUnder, Carry, Invoke, Loop, Skip, Init, CarryInto, Wipe, Begin, End, Branch, Test, Pass, Enter, Next, Back, Check, Redo, Select, EndSwitch, Jump, LeaveLoop, GoOn, Give, GiveNothing}
 use Rattle.c65_meaning.specs.State.{Scene, State, Undefined, Running}
 use Rattle.c65_sound.specs.Laws.{HasBlock, AreThere}
+use Rattle.c65_sound.specs.Statements.{IsScoped, AreScoped, entering, IsReady}
 
 -- a number, a pointer, a place, and any value
 pub data Kind : Type 0 where
@@ -146,7 +148,7 @@ module _ (D : ℕ → Type 0) where
     pub there : (b : ℕ) → D b → IsSome (s b)
     pub all : (b : ℕ) (x : Block) → s b ≡ Some x → CellsFit x.cells
 
--- the work of an expression that began in a scene
+-- what began in a scene
 module _ (u : UnitTy) (c : Scene) where
   abbrev pub D : ℕ → Type 0
   D b = IsSome (c.store b)
@@ -158,8 +160,70 @@ module _ (u : UnitTy) (c : Scene) where
   abbrev pub IsArmOf : Kind → Typed → Type 0
   IsArmOf y e = IsPart e × Below (kind_of e) y
 
+  -- a statement whose names are in scope, and whose scope has blocks
+  pub record IsWork (s : Stmt) : Type 0 where
+    pub scope : List ℕ
+    pub context : Context
+    pub typed : IsStmt u context s
+    pub scoped : IsScoped u scope s
+    pub ready : IsReady u scope c
+
+  -- a block that is to begin: its objects come into scope
+  pub record IsBlock (objects : List ℕ) (ss : Stmts) : Type 0 where
+    pub scope : List ℕ
+    pub context : Context
+    pub automatic : All (NamesAutomatic u) objects
+    pub typed : AreStmts u context ss
+    pub scoped : AreScoped u (entering objects scope) ss
+    pub ready : IsReady u scope c
+
+  abbrev pub IsMaybePart : MaybeTyped → Type 0
+  IsMaybePart absent = ⊤
+  IsMaybePart (present e) = IsPart e
+
+  pub record IsLoop (l : Loop) : Type 0 where
+    pub body : IsWork l.body
+    pub test : IsMaybePart l.test
+    pub next : IsMaybePart l.next
+
+  abbrev pub HasTest : MaybeTyped → Type 0
+  HasTest absent = ⊥
+  HasTest (present e) = ⊤
+
+  -- what an item of a statement does; where a run of one statement stops, nothing is asked
+  abbrev pub Acts : Item → (List Kind → Type 0) → List Kind → Type 0
+  Acts Skip f ks = f ks
+  Acts (Init i o s) f (x ∷ ks) = HasBlock u c i × f ks
+  Acts (CarryInto i o done size) f (naming ∷ ks) = HasBlock u c i × f ks
+  Acts (Wipe i done size) f ks = HasBlock u c i × f ks
+  Acts (Begin n objects body) f ks = IsBlock objects body × f ks
+  Acts (End objects) f ks = f ks
+  Acts (Branch m a n b) f (x ∷ ks) = IsWork a × IsWork b × f ks
+  Acts (Test l) f (x ∷ ks) = IsLoop l × f ks
+  Acts (Pass l) f ks = IsLoop l × f ks
+  Acts (Enter l) f ks = IsLoop l × HasTest l.test × f ks
+  Acts (Next l) f ks = IsLoop l × f ks
+  Acts (Back l) f (x ∷ ks) = IsLoop l × f ks
+  Acts (Check l) f ks = IsLoop l × HasTest l.test × f ks
+  Acts (Redo l) f (x ∷ ks) = IsLoop l × HasTest l.test × f ks
+  Acts (Select left n body) f ks = ⊤
+  Acts EndSwitch f ks = f ks
+  Acts (Jump l n) f ks = ⊤
+  Acts LeaveLoop f ks = ⊤
+  Acts GoOn f ks = ⊤
+  Acts Give f ks = ⊤
+  Acts GiveNothing f ks = ⊤
+  Acts _ f ks = ⊥
+
+  -- a scene of the same call
+  pub record IsScene (d : Scene) : Type 0 where
+    pub frames : d.frames ≡ c.frames
+    pub store : StoreFits D d.store
+
+-- the work of an expression, or where S holds of statements too
+module _ (S : Type 0) (u : UnitTy) (c : Scene) where
   abbrev pub Does : Item → (List Kind → Type 0) → List Kind → Type 0
-  Does (Push v) f ks = (x : Kind) × Suits D x v × f (x ∷ ks)
+  Does (Push v) f ks = (x : Kind) × Suits (D u c) x v × f (x ∷ ks)
   Does (Name i) f ks = HasBlock u c i × Gives naming f ks
   Does Follow f (pointing ∷ ks) = Gives naming f ks
   Does (Move o) f (naming ∷ ks) = Gives naming f ks
@@ -168,10 +232,10 @@ module _ (u : UnitTy) (c : Scene) where
   Does (Change to) f (x ∷ ks) = IsTarget to × Gives (kind_in to) f ks
   Does (Apply1 op s) f (x ∷ ks) = Operates op s x × Gives arithmetic f ks
   Does (Apply2 op l r) f (y ∷ x ∷ ks) = Combines op l r × (y ≡ kind_in r) × (x ≡ kind_in l) × Gives (joined l r) f ks
-  Does (Both b) f (x ∷ ks) = IsPart b × Gives arithmetic f ks
-  Does (Either b) f (x ∷ ks) = IsPart b × Gives arithmetic f ks
+  Does (Both b) f (x ∷ ks) = IsPart u c b × Gives arithmetic f ks
+  Does (Either b) f (x ∷ ks) = IsPart u c b × Gives arithmetic f ks
   Does Truth f (x ∷ ks) = Gives arithmetic f ks
-  Does (Choose a b) f (x ∷ ks) = (y : Kind) × IsArmOf y a × IsArmOf y b × f (y ∷ ks)
+  Does (Choose a b) f (x ∷ ks) = (y : Kind) × IsArmOf u c y a × IsArmOf u c y b × f (y ∷ ks)
   Does Drop f (x ∷ ks) = f ks
   Does (Put s) f (y ∷ naming ∷ ks) = IsScalarShape s × Gives (kind_in s) f ks
   Does (Peek s to) f (naming ∷ ks) = IsScalarShape s × Becomes s to × f (kind_in to ∷ naming ∷ ks)
@@ -179,22 +243,17 @@ module _ (u : UnitTy) (c : Scene) where
   Does (PutUnder s) f (y ∷ naming ∷ ks) = f ks
   Does (Carry done size) f (naming ∷ naming ∷ ks) = Gives naming f ks
   Does (Invoke callee types) f ks = ⊤
-  Does _ f ks = ⊥
+  Does i f ks = S × Acts u c i f ks
 
   abbrev pub Takes : List Item → List Kind → Type 0
   Takes [] ks = ⊤
   Takes (i ∷ k) ks = Does i (Takes k) ks
 
-  -- a scene of the same call
-  pub record IsScene (d : Scene) : Type 0 where
-    pub frames : d.frames ≡ c.frames
-    pub store : StoreFits D d.store
-
   pub record IsRunning (work : List Item) (vs : List Value) (d : Scene) : Type 0 where
     pub kinds : List Kind
     pub takes : Takes work kinds
-    pub suited : AreSuited D kinds vs
-    pub scene : IsScene d
+    pub suited : AreSuited (D u c) kinds vs
+    pub scene : IsScene u c d
 
   abbrev pub IsGood : State → Type 0
   IsGood (Undefined Unfit) = ⊥

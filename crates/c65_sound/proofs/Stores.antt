@@ -114,7 +114,7 @@ module _ (D : ℕ → Type 0) where
   pub write_sound : (first : Bool) (f : Shape) (s : Store) (b o : ℕ) (v : Value) → StoreFits D s → D b → Stands D v → Sound (StoreFits D) (write first f s b o v)
   write_sound first f s b o v h d i = bind_sound BlockFits (StoreFits D) (reached_to_write first (s b) o (size_in f)) (λ x. Ok (set_block s b (with_value f x o v))) (to_write first s b o (size_in f) h d) (λ x g. block_set s b (with_value f x o v) h (set_fits x.cells o (size_in f) (new_cells f v x.cells o) g (new_fits f v x.cells o i g)))
 
-  put_sound : (first : Bool) (s : Store) (b o : ℕ) (x : Cell) → StoreFits D s → D b → CellFits D x → Sound (StoreFits D) (put_cell first s b o x)
+  pub put_sound : (first : Bool) (s : Store) (b o : ℕ) (x : Cell) → StoreFits D s → D b → CellFits D x → Sound (StoreFits D) (put_cell first s b o x)
   put_sound first s b o x h d i = bind_sound BlockFits (StoreFits D) (reached_to_write first (s b) o 1) (λ y. Ok (set_block s b (with_cell y o x))) (to_write first s b o 1 h d) (λ y g. block_set s b (with_cell y o x) h (set_fits y.cells o 1 (λ i. x) g (λ q. i)))
 
   pub carry_sound : (first : Bool) (s : Store) (b o c p : ℕ) → StoreFits D s → D b → D c → Sound (StoreFits D) (carry first s b o c p)

@@ -1,8 +1,15 @@
 // Laws of the meaning of well typed trees, each the contract of a function that does nothing.
 ghost use Rattle.c65_sound.specs.Laws.{ExpressionsFit};
+ghost use Rattle.c65_sound.specs.Statements.{StatementsFit};
 
 /// Where each object that a well typed expression names has a block, and memory names only blocks that there are, the run of the
 /// expression, up to its end or its next call, never comes to trees or values that do not fit.
 pub fn expressions_fit()
     ensures { ExpressionsFit }
+{}
+
+/// Where the names of a well typed statement are in a scope whose objects have blocks, and memory names only blocks that there are, the run
+/// of the statement, up to its end or its next call or jump, never comes to trees or values that do not fit.
+pub fn statements_fit()
+    ensures { StatementsFit }
 {}

@@ -1,0 +1,216 @@
+-- The work of a well typed statement whose names are in scope finds the values that it takes, also when more blocks have begun.
+use Rattle.std.proofs.Common.{◌≡◌, ℕ, suc, ◌+◌, List, [], ◌∷◌, sym, subst}
+use Rattle.std.specs.Prelude.{IsTrue, ⊤}
+use Rattle.c65_ctype.specs.Trees.{Ty, int, pointer}
+use Rattle.c65_csem.specs.Trees.{Typed, MaybeTyped, absent, present, Stmt, empty, eval, set_part, clear, block, if_stmt, while, do_while, for_loop, switch, case, default, label, goto, break, continue, return, Stmts, no_stmts, and_stmts, UnitTy}
+use Rattle.c65_csem.specs.Places.{is_scalar, is_place}
+use Rattle.c65_csem.specs.Typed.{IsTyped}
+use Rattle.c65_csem.specs.Statements as st
+use Rattle.c65_csem.specs.Statements.{Context, looping, switching, IsInitial, IsMaybe, IsMaybeCondition, IsStmt, AreStmts}
+use Rattle.c65_meaning.specs.Store.{Cell, Piece, Bits, Clouded, Value, Whole, Null, Place, Opaque, NoValue, Shape, Number, Field, Pointer, Area}
+use Rattle.c65_meaning.specs.Shapes.{bare_type, object_in, shape_of}
+use Rattle.c65_meaning.specs.Sites.{count, cases_of}
+use Rattle.c65_meaning.specs.Items.{Item, Push, Name, Follow, Move, Fetch, Keep, Change, Apply1, Apply2, Both, Either, Truth, Choose, Drop, Put, Peek, Bump, PutUnder, Carry, Invoke, Loop, Skip, Init, CarryInto, Wipe, Begin, End, Branch, Test, Pass, Enter, Next, Back, Check, Redo, Select, EndSwitch, Jump, LeaveLoop, GoOn, Give, GiveNothing, initial_store, test_first, test_last, plan, first, tested, head_of, plan_stmt, plan_stmts}
+use Rattle.c65_meaning.specs.State.{Scene}
+use Rattle.c65_meaning.specs.Operators.{is_post}
+use Rattle.c65_sound.specs.Laws.{HasBlock}
+use Rattle.c65_sound.specs.Statements.{IsScopedIn, IsScopedMaybe, IsScoped, AreScoped, IsReady}
+use Rattle.c65_sound.proofs.Stacks.{Kind, arithmetic, pointing, naming, free, kind_in, kind_of, joined, with_kind, Gives, Stands, Suits, AreSuited, CellFits, D, IsPart, IsWork, IsBlock, IsMaybePart, IsLoop, Does, Takes}
+use Rattle.c65_sound.proofs.Plans.{below_refl, tag_kind, takes}
+use Rattle.c65_sound.proofs.Scopes.{is_some_in, there, Grows, stays, ready_stays}
+
+-- ---- more blocks
+
+module _ (u : UnitTy) (c e : Scene) (g : Grows u c e) where
+  stands_on : (v : Value) → Stands (D u c) v → Stands (D u e) v
+  stands_on (Place b o) h = g.blocks b h
+  stands_on (Whole z) h = tt
+  stands_on Null h = tt
+  stands_on Opaque h = tt
+  stands_on NoValue h = tt
+
+  suits_on : (x : Kind) (v : Value) → Suits (D u c) x v → Suits (D u e) x v
+  suits_on free v h = stands_on v h
+  suits_on arithmetic (Whole z) h = tt
+  suits_on arithmetic Opaque h = tt
+  suits_on arithmetic NoValue h = tt
+  suits_on pointing Null h = tt
+  suits_on pointing (Place b o) h = g.blocks b h
+  suits_on pointing Opaque h = tt
+  suits_on pointing NoValue h = tt
+  suits_on naming (Place b o) h = g.blocks b h
+  suits_on _ v h = absurd h
+
+  pub cell_on : (x : Cell) → CellFits (D u c) x → CellFits (D u e) x
+  cell_on (Piece k b o) h = g.blocks b h
+  cell_on (Bits known value) h = tt
+  cell_on Clouded h = tt
+
+  pub suited_on : (ks : List Kind) (vs : List Value) → AreSuited (D u c) ks vs → AreSuited (D u e) ks vs
+  suited_on [] vs h = tt
+  suited_on (x ∷ ks) [] h = absurd h
+  suited_on (x ∷ ks) (v ∷ vs) h = (suits_on x v h.0, suited_on ks vs h.1)
+
+  part_on : (a : Typed) → IsPart u c a → IsPart u e a
+  part_on a h = record { typed = h.typed; there = stays u c e g a h.there }
+
+  maybe_on : (m : MaybeTyped) → IsMaybePart u c m → IsMaybePart u e m
+  maybe_on absent h = tt
+  maybe_on (present a) h = part_on a h
+
+  work_on : (s : Stmt) → IsWork u c s → IsWork u e s
+  work_on s h = record { scope = h.scope; context = h.context; typed = h.typed; scoped = h.scoped; ready = ready_stays u c e g h.scope h.ready }
+
+  block_on : (objects : List ℕ) (ss : Stmts) → IsBlock u c objects ss → IsBlock u e objects ss
+  block_on objects ss h = record { scope = h.scope; context = h.context; automatic = h.automatic; typed = h.typed; scoped = h.scoped; ready = ready_stays u c e g h.scope h.ready }
+
+  loop_on : (l : Loop) → IsLoop u c l → IsLoop u e l
+  loop_on l h = record { body = work_on l.body h.body; test = maybe_on l.test h.test; next = maybe_on l.next h.next }
+
+  module _ (f q : List Kind → Type 0) (m : (js : List Kind) → f js → q js) where
+    gives_on : (y : Kind) (ks : List Kind) → Gives y f ks → Gives y q ks
+    gives_on y ks h = (h.0, h.1, m (h.0 ∷ ks) h.2)
+
+    does_on : (i : Item) (ks : List Kind) → Does ⊤ u c i f ks → Does ⊤ u e i q ks
+    does_on (Push v) ks h = (h.0, suits_on h.0 v h.1, m (h.0 ∷ ks) h.2)
+    does_on (Name i) ks h = (g.objects i h.0, gives_on naming ks h.1)
+    does_on Follow (pointing ∷ ks) h = gives_on naming ks h
+    does_on (Move o) (naming ∷ ks) h = gives_on naming ks h
+    does_on (Fetch s) (naming ∷ ks) h = (h.0, gives_on (kind_in s) ks h.1)
+    does_on Keep (naming ∷ ks) h = gives_on pointing ks h
+    does_on (Change to) (x ∷ ks) h = (h.0, gives_on (kind_in to) ks h.1)
+    does_on (Apply1 op s) (x ∷ ks) h = (h.0, gives_on arithmetic ks h.1)
+    does_on (Apply2 op l r) (y ∷ x ∷ ks) h = (h.0, h.1, h.2, gives_on (joined l r) ks h.3)
+    does_on (Both b) (x ∷ ks) h = (part_on b h.0, gives_on arithmetic ks h.1)
+    does_on (Either b) (x ∷ ks) h = (part_on b h.0, gives_on arithmetic ks h.1)
+    does_on Truth (x ∷ ks) h = gives_on arithmetic ks h
+    does_on (Choose a b) (x ∷ ks) h = (h.0, (part_on a h.1.0, h.1.1), (part_on b h.2.0, h.2.1), m (h.0 ∷ ks) h.3)
+    does_on Drop (x ∷ ks) h = m ks h
+    does_on (Put s) (y ∷ naming ∷ ks) h = (h.0, gives_on (kind_in s) ks h.1)
+    does_on (Peek s to) (naming ∷ ks) h = (h.0, h.1, m (kind_in to ∷ naming ∷ ks) h.2)
+    does_on (Bump kind s) (y ∷ naming ∷ ks) h = (h.0, h.1, h.2, h.3, m (kind_in s ∷ naming ∷ with_kind (is_post kind) h.2 ks) h.4)
+    does_on (PutUnder s) (y ∷ naming ∷ ks) h = m ks h
+    does_on (Carry done size) (naming ∷ naming ∷ ks) h = gives_on naming ks h
+    does_on (Invoke callee types) ks h = tt
+    does_on Skip ks h = (tt, m ks h.1)
+    does_on (Init i o s) (x ∷ ks) h = (tt, (g.objects i h.1.0, m ks h.1.1))
+    does_on (CarryInto i o done size) (naming ∷ ks) h = (tt, (g.objects i h.1.0, m ks h.1.1))
+    does_on (Wipe i done size) ks h = (tt, (g.objects i h.1.0, m ks h.1.1))
+    does_on (Begin n objects body) ks h = (tt, (block_on objects body h.1.0, m ks h.1.1))
+    does_on (End objects) ks h = (tt, m ks h.1)
+    does_on (Branch n a o b) (x ∷ ks) h = (tt, (work_on a h.1.0, work_on b h.1.1, m ks h.1.2))
+    does_on (Test l) (x ∷ ks) h = (tt, (loop_on l h.1.0, m ks h.1.1))
+    does_on (Pass l) ks h = (tt, (loop_on l h.1.0, m ks h.1.1))
+    does_on (Enter l) ks h = (tt, (loop_on l h.1.0, h.1.1, m ks h.1.2))
+    does_on (Next l) ks h = (tt, (loop_on l h.1.0, m ks h.1.1))
+    does_on (Back l) (x ∷ ks) h = (tt, (loop_on l h.1.0, m ks h.1.1))
+    does_on (Check l) ks h = (tt, (loop_on l h.1.0, h.1.1, m ks h.1.2))
+    does_on (Redo l) (x ∷ ks) h = (tt, (loop_on l h.1.0, h.1.1, m ks h.1.2))
+    does_on (Select left n body) ks h = (tt, tt)
+    does_on EndSwitch ks h = (tt, m ks h.1)
+    does_on (Jump l n) ks h = (tt, tt)
+    does_on LeaveLoop ks h = (tt, tt)
+    does_on GoOn ks h = (tt, tt)
+    does_on Give ks h = (tt, tt)
+    does_on GiveNothing ks h = (tt, tt)
+    does_on _ ks h = absurd h.1
+
+  pub takes_on : (k : List Item) (ks : List Kind) → Takes ⊤ u c k ks → Takes ⊤ u e k ks
+  takes_on [] ks h = tt
+  takes_on (i ∷ k) ks h = does_on (Takes ⊤ u c k) (Takes ⊤ u e k) (takes_on k) i ks h
+
+-- ---- the work of a statement
+
+-- a structure or union is handed on as its place
+abbrev AreaNames : Shape → Kind → Type 0
+AreaNames (Area size) x = x ≡ naming
+AreaNames _ x = ⊤
+
+named_area : (f : Shape) (x : Kind) → x ≡ naming → AreaNames f x
+named_area (Area size) x e = e
+named_area (Number t) x e = tt
+named_area (Field t low width) x e = tt
+named_area (Pointer size) x e = tt
+
+module _ (u : UnitTy) where
+  scalar_area : (t : Ty) (x : Kind) → IsTrue (is_scalar t) → AreaNames (shape_of u.types t) x
+  scalar_area (int k) x h = tt
+  scalar_area (pointer q) x h = tt
+  scalar_area _ x h = absurd (cc)
+
+  initial_area : (e : Typed) → IsInitial e → AreaNames (shape_of u.types (bare_type e)) (kind_of e)
+  initial_area e (st.IsInitial.value v) = scalar_area (bare_type e) (kind_of e) v.0.0
+  initial_area e (st.IsInitial.place h) = named_area (shape_of u.types (bare_type e)) (kind_of e) (tag_kind (is_place e) (bare_type e) h)
+
+module _ (u : UnitTy) (c : Scene) where
+  abbrev Works : List Item → List Kind → Type 0
+  Works k ks = Takes ⊤ u c k ks
+
+  initial_takes : (i o : ℕ) (f : Shape) (x : Kind) (k : List Item) (ks : List Kind) → AreaNames f x → HasBlock u c i → Works k ks → Works (initial_store i o f ∷ k) (x ∷ ks)
+  initial_takes i o (Area size) x k ks e h t = subst (λ (y : Kind). Works (CarryInto i o 0 size ∷ k) (y ∷ ks)) (sym e) (tt, (h, t))
+  initial_takes i o (Number t) x k ks e h w = (tt, (h, w))
+  initial_takes i o (Field t low width) x k ks e h w = (tt, (h, w))
+  initial_takes i o (Pointer size) x k ks e h w = (tt, (h, w))
+
+  pub part_takes : (e : Typed) (k : List Item) (ks : List Kind) → IsPart u c e → Works k (kind_of e ∷ ks) → Works (plan u e k) ks
+  part_takes e k ks h t = takes ⊤ u c e (kind_of e) k ks h.typed h.there (below_refl (kind_of e)) t
+
+  head_on : (m : MaybeTyped) (l : Loop) (k : List Item) (ks : List Kind) → IsMaybePart u c m → IsLoop u c l → Works k ks → Works (tested u m (Test l ∷ k) (Pass l ∷ k)) ks
+  head_on absent l k ks h w t = (tt, (w, t))
+  head_on (present e) l k ks h w t = part_takes e (Test l ∷ k) ks h (tt, (w, t))
+
+  pub head_takes : (l : Loop) (k : List Item) (ks : List Kind) → IsLoop u c l → Works k ks → Works (head_of u l k) ks
+  head_takes l k ks h t = head_on l.test l k ks h.test h t
+
+  first_takes : (m : MaybeTyped) (k : List Item) (ks : List Kind) → IsMaybePart u c m → Works k ks → Works (first u m k) ks
+  first_takes absent k ks h t = t
+  first_takes (present e) k ks h t = part_takes e (Drop ∷ k) ks h t
+
+  module _ (scope : List ℕ) (r : IsReady u scope c) where
+    part : (e : Typed) → IsTyped u e → IsScopedIn u scope e → IsPart u c e
+    part e w h = record { typed = w; there = there u c scope r e w h }
+
+    maybe : (m : MaybeTyped) → IsMaybe u m → IsScopedMaybe u scope m → IsMaybePart u c m
+    maybe absent w h = tt
+    maybe (present e) w h = part e w h
+
+    condition : (m : MaybeTyped) → IsMaybeCondition u m → IsScopedMaybe u scope m → IsMaybePart u c m
+    condition absent w h = tt
+    condition (present e) w h = part e w.0 h
+
+    work : (x : Context) (s : Stmt) → IsStmt u x s → IsScoped u scope s → IsWork u c s
+    work x s w h = record { scope = scope; context = x; typed = w; scoped = h; ready = r }
+
+    mutual
+      pub stmt_takes : (x : Context) (n : ℕ) (s : Stmt) (k : List Item) (ks : List Kind) → IsStmt u x s → IsScoped u scope s → Works k ks → Works (plan_stmt u n s k) ks
+      stmt_takes x n empty k ks w h t = (tt, t)
+      stmt_takes x n (eval e) k ks w h t = part_takes e (Drop ∷ k) ks (part e w h) t
+      stmt_takes x n (set_part i o e) k ks w h t = part_takes e (initial_store i o (shape_of u.types (bare_type e)) ∷ k) ks (part e w.typed h.1) (initial_takes i o (shape_of u.types (bare_type e)) (kind_of e) k ks (initial_area u e w.initial) (r.objects i (is_some_in (object_in u i) w.object w.automatic.0) h.0) t)
+      stmt_takes x n (clear i) k ks w h t = (tt, (r.objects i (is_some_in (object_in u i) w.0 w.1.0) h, t))
+      stmt_takes x n (block os ss) k ks w h t = (tt, (record { scope = scope; context = x; automatic = w.0; typed = w.1; scoped = h; ready = r }, t))
+      stmt_takes x n (if_stmt e a b) k ks w h t = part_takes e (Branch (suc n) a (suc n + count a) b ∷ k) ks (part e w.0.0 h.0) (tt, (work x a w.1 h.1, work x b w.2 h.2, t))
+      stmt_takes x n (while e a) k ks w h t =
+          let loop : IsLoop u c (test_first (present e) absent (suc n) a) = record { body = work (looping x) a w.1 h.1; test = part e w.0.0 h.0; next = tt } in
+          head_takes (test_first (present e) absent (suc n) a) k ks loop t
+      stmt_takes x n (do_while a e) k ks w h t =
+          let loop : IsLoop u c (test_last e (suc n) a) = record { body = work (looping x) a w.0 h.0; test = part e w.1.0 h.1; next = tt } in
+          (tt, (loop, tt, t))
+      stmt_takes x n (for_loop i d m a) k ks w h t =
+          let loop : IsLoop u c (test_first d m (suc n) a) = record { body = work (looping x) a w.3 h.3; test = condition d w.1 h.1; next = maybe m w.2 h.2 } in
+          first_takes i (head_of u (test_first d m (suc n) a) k) ks (maybe i w.0 h.0) (head_takes (test_first d m (suc n) a) k ks loop t)
+      stmt_takes x n (switch e a) k ks w h t = part_takes e (Select (cases_of a) (suc n) a ∷ k) ks (part e w.1.typed h.0) (tt, tt)
+      stmt_takes x n (case v a) k ks w h t = stmt_takes x (suc n) a k ks w.1 h t
+      stmt_takes x n (default a) k ks w h t = stmt_takes x (suc n) a k ks w.1 h t
+      stmt_takes x n (label l a) k ks w h t = stmt_takes x (suc n) a k ks w h t
+      stmt_takes x n (goto l) k ks w h t = (tt, tt)
+      stmt_takes x n break k ks w h t = (tt, tt)
+      stmt_takes x n continue k ks w h t = (tt, tt)
+      stmt_takes x n (return absent) k ks w h t = (tt, tt)
+      stmt_takes x n (return (present e)) k ks w h t = part_takes e (Give ∷ k) ks (part e w.0 h) (tt, tt)
+
+      pub stmts_take : (x : Context) (n : ℕ) (ss : Stmts) (k : List Item) (ks : List Kind) → AreStmts u x ss → AreScoped u scope ss → Works k ks → Works (plan_stmts u n ss k) ks
+      stmts_take x n no_stmts k ks w h t = t
+      stmts_take x n (and_stmts a rest) k ks w h t = stmt_takes x n a (plan_stmts u (n + count a) rest k) ks w.0 h.0 (stmts_take x (n + count a) rest k ks w.1 h.1 t)
+
+  pub work_takes : (n : ℕ) (s : Stmt) (k : List Item) (ks : List Kind) → IsWork u c s → Works k ks → Works (plan_stmt u n s k) ks
+  work_takes n s k ks h t = stmt_takes h.scope h.ready h.context n s k ks h.typed h.scoped t
