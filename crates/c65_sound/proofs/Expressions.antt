@@ -8,7 +8,7 @@ use Rattle.c65_meaning.specs.Items.{Item, Push, Name, Follow, Move, Fetch, Keep,
 use Rattle.c65_meaning.specs.State.{Scene, State, Undefined, Deep, Ended, Running}
 use Rattle.c65_meaning.specs.Step.{step}
 use Rattle.c65_sound.specs.Laws.{IsClosed, IsFit, stops, steps_here, ExpressionsFit}
-use Rattle.c65_sound.proofs.Stacks.{Kind, kind_of, CellFits, StoreFits, D, Does, Takes, IsGood}
+use Rattle.c65_sound.proofs.Stacks.{Kind, Exit, kind_of, CellFits, StoreFits, D, Does, Takes, Out, IsGood}
 use Rattle.c65_sound.proofs.Plans.{below_refl, takes}
 use Rattle.c65_sound.proofs.Steps.{is_of_expression, performs}
 
@@ -31,28 +31,28 @@ module _ (p : ProgramTy) (c : Scene) where
   fit (Ended out status turns) h = tt
   fit (Running work vs d) h = closed d.store h.scene.store
 
-  of_expression : (j : Item) (f : List Kind → Type 0) (ks : List Kind) (vs : List Value) (k : List Item) (d : Scene) → stops (Running (j ∷ k) vs d) ≡ false → Does ⊥ p.unit c j f ks → IsTrue (is_of_expression j)
-  of_expression (Push v) f ks vs k d e t = refl
-  of_expression (Name i) f ks vs k d e t = refl
-  of_expression Follow f ks vs k d e t = refl
-  of_expression (Move o) f ks vs k d e t = refl
-  of_expression (Fetch g) f ks vs k d e t = refl
-  of_expression Keep f ks vs k d e t = refl
-  of_expression (Change to) f ks vs k d e t = refl
-  of_expression (Apply1 op g) f ks vs k d e t = refl
-  of_expression (Apply2 op g h) f ks vs k d e t = refl
-  of_expression (Both a) f ks vs k d e t = refl
-  of_expression (Either a) f ks vs k d e t = refl
-  of_expression Truth f ks vs k d e t = refl
-  of_expression (Choose a b) f ks vs k d e t = refl
-  of_expression Drop f ks vs k d e t = refl
-  of_expression (Put g) f ks vs k d e t = refl
-  of_expression (Peek g to) f ks vs k d e t = refl
-  of_expression (Bump kind g) f ks vs k d e t = refl
-  of_expression (PutUnder g) f ks vs k d e t = refl
-  of_expression (Carry done size) f ks vs k d e t = refl
-  of_expression (Invoke callee types) f ks vs k d e t = absurd (cc)
-  of_expression _ f ks vs k d e t = absurd t.0
+  of_expression : (j : Item) (f : List Kind → Type 0) (q : Exit → List Kind → Type 0) (ks : List Kind) (vs : List Value) (k : List Item) (d : Scene) → stops (Running (j ∷ k) vs d) ≡ false → Does ⊥ p.unit c j f q ks → IsTrue (is_of_expression j)
+  of_expression (Push v) f q ks vs k d e t = refl
+  of_expression (Name i) f q ks vs k d e t = refl
+  of_expression Follow f q ks vs k d e t = refl
+  of_expression (Move o) f q ks vs k d e t = refl
+  of_expression (Fetch g) f q ks vs k d e t = refl
+  of_expression Keep f q ks vs k d e t = refl
+  of_expression (Change to) f q ks vs k d e t = refl
+  of_expression (Apply1 op g) f q ks vs k d e t = refl
+  of_expression (Apply2 op g h) f q ks vs k d e t = refl
+  of_expression (Both a) f q ks vs k d e t = refl
+  of_expression (Either a) f q ks vs k d e t = refl
+  of_expression Truth f q ks vs k d e t = refl
+  of_expression (Choose a b) f q ks vs k d e t = refl
+  of_expression Drop f q ks vs k d e t = refl
+  of_expression (Put g) f q ks vs k d e t = refl
+  of_expression (Peek g to) f q ks vs k d e t = refl
+  of_expression (Bump kind g) f q ks vs k d e t = refl
+  of_expression (PutUnder g) f q ks vs k d e t = refl
+  of_expression (Carry done size) f q ks vs k d e t = refl
+  of_expression (Invoke callee types) f q ks vs k d e t = absurd (cc)
+  of_expression _ f q ks vs k d e t = absurd t.0
 
   steps_well : (s : State) → stops s ≡ false → IsGood ⊥ p.unit c s → IsGood ⊥ p.unit c (step p s)
   steps_well (Undefined (By action)) e h = tt
@@ -60,7 +60,7 @@ module _ (p : ProgramTy) (c : Scene) where
   steps_well Deep e h = tt
   steps_well (Ended out status turns) e h = tt
   steps_well (Running [] vs d) e h = absurd (cc)
-  steps_well (Running (j ∷ k) vs d) e h = performs ⊥ p c j k h.kinds vs d (of_expression j (Takes ⊥ p.unit c k) h.kinds vs k d e h.takes) h.takes h.suited h.scene
+  steps_well (Running (j ∷ k) vs d) e h = performs ⊥ p c j k h.kinds vs d (of_expression j (Takes ⊥ p.unit c k) (Out ⊥ p.unit c k) h.kinds vs k d e h.takes) h.takes h.suited h.scene
 
   goes_well : (n : ℕ) (s : State) → IsGood ⊥ p.unit c s → IsGood ⊥ p.unit c (steps_here p n s)
   goes_well zero s h = h

@@ -19,7 +19,7 @@ use Rattle.c65_meaning.specs.Fits.{IsTarget}
 use Rattle.c65_meaning.specs.Items.{Item, Follow, Move, Fetch, Keep, Change, Apply1, Apply2, Both, Either, Choose, Drop, Put, Peek, Bump, Carry, Invoke, put_step, plan, plan_node, plan_all}
 use Rattle.c65_meaning.specs.State.{Scene}
 use Rattle.c65_sound.specs.Laws.{AreThere, AreThereIn, AreAllThere}
-use Rattle.c65_sound.proofs.Stacks.{Kind, arithmetic, pointing, naming, free, kind_in, kind_at, kind_if, kind_of, Below, IsScalarShape, Operates, is_move, is_add, meets, Combines, joined, Becomes, with_kind, Suits, D, Does, Takes}
+use Rattle.c65_sound.proofs.Stacks.{Kind, arithmetic, pointing, naming, free, kind_in, kind_at, kind_if, kind_of, Below, IsScalarShape, Operates, is_move, is_add, meets, Combines, joined, Becomes, with_kind, Suits, D, Does, Takes, Out}
 use Rattle.c65_sound.proofs.Values.{raise}
 
 -- ---- kinds of trees
@@ -303,7 +303,7 @@ module _ (S : Type 0) (u : UnitTy) (c : Scene) where
           scalar_place u a w.0 w.2.1,
           tt,
           takes d arithmetic (Apply2 op (Number ct) (shape d) ∷ Put (at a) ∷ k) (arithmetic ∷ naming ∷ ks) w.1 h.1 (below_value d (plain (int i.0)) w.5 i.1)
-              (subst (λ (s : Shape). Does S u c (Apply2 op (Number ct) s) (Takes S u c (Put (at a) ∷ k)) (arithmetic ∷ arithmetic ∷ naming ∷ ks)) (sym (int_shape u (type_of d) i.0 i.1))
+              (subst (λ (s : Shape). Does S u c (Apply2 op (Number ct) s) (Takes S u c (Put (at a) ∷ k)) (Out S u c (Put (at a) ∷ k)) (arithmetic ∷ arithmetic ∷ naming ∷ ks)) (sym (int_shape u (type_of d) i.0 i.1))
               (tt, refl, refl, (arithmetic, tt, (scalar_place u a w.0 w.2.1, (x, held u t a x w.0 w.2.1 w.4 b, g))))),
         )
     node_takes t (assign_step op a d) x k ks w h b g =
@@ -314,7 +314,7 @@ module _ (S : Type 0) (u : UnitTy) (c : Scene) where
           tt,
           tt,
           takes d arithmetic (Apply2 op (Pointer (size_of u.types (type_in w.4.0.0))) (shape d) ∷ Put (Pointer (size_of u.types (type_in w.4.0.0))) ∷ k) (pointing ∷ naming ∷ ks) w.1 h.1 (below_value d (plain (int w.6.0)) w.5 w.6.1)
-              (subst (λ (s : Shape). Does S u c (Apply2 op (Pointer (size_of u.types (type_in w.4.0.0))) s) (Takes S u c (Put (Pointer (size_of u.types (type_in w.4.0.0))) ∷ k)) (arithmetic ∷ pointing ∷ naming ∷ ks)) (sym (int_shape u (type_of d) w.6.0 w.6.1))
+              (subst (λ (s : Shape). Does S u c (Apply2 op (Pointer (size_of u.types (type_in w.4.0.0))) s) (Takes S u c (Put (Pointer (size_of u.types (type_in w.4.0.0))) ∷ k)) (Out S u c (Put (Pointer (size_of u.types (type_in w.4.0.0))) ∷ k)) (arithmetic ∷ pointing ∷ naming ∷ ks)) (sym (int_shape u (type_of d) w.6.0 w.6.1))
               (steps_move op w.7, refl, refl, (pointing, tt, (tt, (x, low, g))))),
         ))
     node_takes t (step kind a) x k ks w h b g =

@@ -13,7 +13,7 @@ use Rattle.c65_meaning.specs.Why.{Why, By, Unfit}
 use Rattle.c65_meaning.specs.Store.{Cell, Piece, Block, Store, Value, Whole, Null, Place, Opaque, NoValue, Shape, Number, Field, Pointer, Area}
 use Rattle.c65_meaning.specs.Operators.{is_post}
 use Rattle.c65_meaning.specs.Fits.{IsTarget}
-use Rattle.c65_meaning.specs.Items.{Item, Push, Name, Follow, Move, Fetch, Keep, Change, Apply1, Apply2, Both, Either, Truth, Choose, Drop, Put, Peek, Bump, PutUnder, Carry, Invoke, Loop, Skip, Init, CarryInto, Wipe, Begin, End, Branch, Test, Pass, Enter, Next, Back, Check, Redo, Select, EndSwitch, Jump, LeaveLoop, GoOn, Give, GiveNothing}
+use Rattle.c65_meaning.specs.Items.{Item, Push, Name, Follow, Move, Fetch, Keep, Change, Apply1, Apply2, Both, Either, Truth, Choose, Drop, Put, Peek, Bump, PutUnder, Carry, Invoke, Loop, Skip, Init, CarryInto, Wipe, Begin, End, Branch, Test, Pass, Enter, Next, Back, Check, Redo, Select, EndSwitch, Jump, LeaveLoop, GoOn, Give, GiveNothing, Leave}
 use Rattle.c65_meaning.specs.State.{Scene, State, Undefined, Running}
 use Rattle.c65_sound.specs.Laws.{HasBlock, AreThere}
 use Rattle.c65_sound.specs.Statements.{IsScoped, AreScoped, entering, IsReady}
@@ -24,6 +24,11 @@ pub data Kind : Type 0 where
   pointing : Kind
   naming : Kind
   free : Kind
+
+-- how a loop or switch, or a loop's body, is left
+pub data Exit : Type 0 where
+  breaking : Exit
+  continuing : Exit
 
 abbrev pub kind_in : Shape → Kind
 kind_in (Number t) = arithmetic
@@ -191,29 +196,29 @@ module _ (u : UnitTy) (c : Scene) where
   HasTest (present e) = ⊤
 
   -- what an item of a statement does; where a run of one statement stops, nothing is asked
-  abbrev pub Acts : Item → (List Kind → Type 0) → List Kind → Type 0
-  Acts Skip f ks = f ks
-  Acts (Init i o s) f (x ∷ ks) = HasBlock u c i × f ks
-  Acts (CarryInto i o done size) f (naming ∷ ks) = HasBlock u c i × f ks
-  Acts (Wipe i done size) f ks = HasBlock u c i × f ks
-  Acts (Begin n objects body) f ks = IsBlock objects body × f ks
-  Acts (End objects) f ks = f ks
-  Acts (Branch m a n b) f (x ∷ ks) = IsWork a × IsWork b × f ks
-  Acts (Test l) f (x ∷ ks) = IsLoop l × f ks
-  Acts (Pass l) f ks = IsLoop l × f ks
-  Acts (Enter l) f ks = IsLoop l × HasTest l.test × f ks
-  Acts (Next l) f ks = IsLoop l × f ks
-  Acts (Back l) f (x ∷ ks) = IsLoop l × f ks
-  Acts (Check l) f ks = IsLoop l × HasTest l.test × f ks
-  Acts (Redo l) f (x ∷ ks) = IsLoop l × HasTest l.test × f ks
-  Acts (Select left n body) f ks = ⊤
-  Acts EndSwitch f ks = f ks
-  Acts (Jump l n) f ks = ⊤
-  Acts LeaveLoop f ks = ⊤
-  Acts GoOn f ks = ⊤
-  Acts Give f ks = ⊤
-  Acts GiveNothing f ks = ⊤
-  Acts _ f ks = ⊥
+  abbrev pub Acts : Item → (List Kind → Type 0) → (Exit → List Kind → Type 0) → List Kind → Type 0
+  Acts Skip f q ks = f ks
+  Acts (Init i o s) f q (x ∷ ks) = HasBlock u c i × f ks
+  Acts (CarryInto i o done size) f q (naming ∷ ks) = HasBlock u c i × f ks
+  Acts (Wipe i done size) f q ks = HasBlock u c i × f ks
+  Acts (Begin n objects body) f q ks = IsBlock objects body × f ks × ((y : Exit) → q y ks)
+  Acts (End objects) f q ks = f ks
+  Acts (Branch m a n b) f q (x ∷ ks) = IsWork a × IsWork b × f ks × ((y : Exit) → q y ks)
+  Acts (Test l) f q (x ∷ ks) = IsLoop l × f ks
+  Acts (Pass l) f q ks = IsLoop l × f ks
+  Acts (Enter l) f q ks = IsLoop l × HasTest l.test × f ks
+  Acts (Next l) f q ks = IsLoop l × f ks
+  Acts (Back l) f q (x ∷ ks) = IsLoop l × f ks
+  Acts (Check l) f q ks = IsLoop l × HasTest l.test × f ks
+  Acts (Redo l) f q (x ∷ ks) = IsLoop l × HasTest l.test × f ks
+  Acts (Select left n body) f q ks = ⊤
+  Acts EndSwitch f q ks = f ks
+  Acts (Jump l n) f q ks = ⊤
+  Acts LeaveLoop f q ks = q breaking ks
+  Acts GoOn f q ks = q continuing ks
+  Acts Give f q ks = ⊤
+  Acts GiveNothing f q ks = ⊤
+  Acts _ f q ks = ⊥
 
   -- a scene of the same call
   pub record IsScene (d : Scene) : Type 0 where
@@ -222,32 +227,45 @@ module _ (u : UnitTy) (c : Scene) where
 
 -- the work of an expression, or where S holds of statements too
 module _ (S : Type 0) (u : UnitTy) (c : Scene) where
-  abbrev pub Does : Item → (List Kind → Type 0) → List Kind → Type 0
-  Does (Push v) f ks = (x : Kind) × Suits (D u c) x v × f (x ∷ ks)
-  Does (Name i) f ks = HasBlock u c i × Gives naming f ks
-  Does Follow f (pointing ∷ ks) = Gives naming f ks
-  Does (Move o) f (naming ∷ ks) = Gives naming f ks
-  Does (Fetch s) f (naming ∷ ks) = IsScalarShape s × Gives (kind_in s) f ks
-  Does Keep f (naming ∷ ks) = Gives pointing f ks
-  Does (Change to) f (x ∷ ks) = IsTarget to × Gives (kind_in to) f ks
-  Does (Apply1 op s) f (x ∷ ks) = Operates op s x × Gives arithmetic f ks
-  Does (Apply2 op l r) f (y ∷ x ∷ ks) = Combines op l r × (y ≡ kind_in r) × (x ≡ kind_in l) × Gives (joined l r) f ks
-  Does (Both b) f (x ∷ ks) = IsPart u c b × Gives arithmetic f ks
-  Does (Either b) f (x ∷ ks) = IsPart u c b × Gives arithmetic f ks
-  Does Truth f (x ∷ ks) = Gives arithmetic f ks
-  Does (Choose a b) f (x ∷ ks) = (y : Kind) × IsArmOf u c y a × IsArmOf u c y b × f (y ∷ ks)
-  Does Drop f (x ∷ ks) = f ks
-  Does (Put s) f (y ∷ naming ∷ ks) = IsScalarShape s × Gives (kind_in s) f ks
-  Does (Peek s to) f (naming ∷ ks) = IsScalarShape s × Becomes s to × f (kind_in to ∷ naming ∷ ks)
-  Does (Bump kind s) f (y ∷ naming ∷ ks) = IsScalarShape s × (y ≡ kind_in s) × (x : Kind) × Below (kind_in s) x × f (kind_in s ∷ naming ∷ with_kind (is_post kind) x ks)
-  Does (PutUnder s) f (y ∷ naming ∷ ks) = f ks
-  Does (Carry done size) f (naming ∷ naming ∷ ks) = Gives naming f ks
-  Does (Invoke callee types) f ks = ⊤
-  Does i f ks = S × Acts u c i f ks
+  abbrev pub Does : Item → (List Kind → Type 0) → (Exit → List Kind → Type 0) → List Kind → Type 0
+  Does (Push v) f q ks = (x : Kind) × Suits (D u c) x v × f (x ∷ ks)
+  Does (Name i) f q ks = HasBlock u c i × Gives naming f ks
+  Does Follow f q (pointing ∷ ks) = Gives naming f ks
+  Does (Move o) f q (naming ∷ ks) = Gives naming f ks
+  Does (Fetch s) f q (naming ∷ ks) = IsScalarShape s × Gives (kind_in s) f ks
+  Does Keep f q (naming ∷ ks) = Gives pointing f ks
+  Does (Change to) f q (x ∷ ks) = IsTarget to × Gives (kind_in to) f ks
+  Does (Apply1 op s) f q (x ∷ ks) = Operates op s x × Gives arithmetic f ks
+  Does (Apply2 op l r) f q (y ∷ x ∷ ks) = Combines op l r × (y ≡ kind_in r) × (x ≡ kind_in l) × Gives (joined l r) f ks
+  Does (Both b) f q (x ∷ ks) = IsPart u c b × Gives arithmetic f ks
+  Does (Either b) f q (x ∷ ks) = IsPart u c b × Gives arithmetic f ks
+  Does Truth f q (x ∷ ks) = Gives arithmetic f ks
+  Does (Choose a b) f q (x ∷ ks) = (y : Kind) × IsArmOf u c y a × IsArmOf u c y b × f (y ∷ ks)
+  Does Drop f q (x ∷ ks) = f ks
+  Does (Put s) f q (y ∷ naming ∷ ks) = IsScalarShape s × Gives (kind_in s) f ks
+  Does (Peek s to) f q (naming ∷ ks) = IsScalarShape s × Becomes s to × f (kind_in to ∷ naming ∷ ks)
+  Does (Bump kind s) f q (y ∷ naming ∷ ks) = IsScalarShape s × (y ≡ kind_in s) × (x : Kind) × Below (kind_in s) x × f (kind_in s ∷ naming ∷ with_kind (is_post kind) x ks)
+  Does (PutUnder s) f q (y ∷ naming ∷ ks) = f ks
+  Does (Carry done size) f q (naming ∷ naming ∷ ks) = Gives naming f ks
+  Does (Invoke callee types) f q ks = ⊤
+  Does i f q ks = S × Acts u c i f q ks
 
-  abbrev pub Takes : List Item → List Kind → Type 0
-  Takes [] ks = ⊤
-  Takes (i ∷ k) ks = Does i (Takes k) ks
+  abbrev mutual
+    pub Takes : List Item → List Kind → Type 0
+    Takes [] ks = ⊤
+    Takes (i ∷ k) ks = Does i (Takes k) (Out k) ks
+
+    -- behind the innermost loop or switch that is open, or at the end of the innermost loop's body
+    pub Out : List Item → Exit → List Kind → Type 0
+    Out [] y ks = ⊤
+    Out (Next l ∷ k) breaking ks = Takes k ks
+    Out (Next l ∷ k) continuing ks = Does (Next l) (Takes k) (Out k) ks
+    Out (Check l ∷ k) breaking ks = Takes k ks
+    Out (Check l ∷ k) continuing ks = Does (Check l) (Takes k) (Out k) ks
+    Out (EndSwitch ∷ k) breaking ks = Takes k ks
+    Out (EndSwitch ∷ k) continuing ks = Out k continuing ks
+    Out (Leave ∷ k) y ks = ⊤
+    Out (_ ∷ k) y ks = Out k y ks
 
   pub record IsRunning (work : List Item) (vs : List Value) (d : Scene) : Type 0 where
     pub kinds : List Kind

@@ -1,24 +1,25 @@
 -- A step of the work of a statement goes on, or is undefined by a numbered action.
 use Rattle.std.proofs.Common.{◌≡◌, ℕ, zero, suc, ◌+◌, Bool, true, false, List, [], ◌∷◌, Option, Some, None, refl, sym, ap, ◌∙◌, subst}
-use Rattle.std.specs.Prelude.{Result, Ok, Err, ⊤, nat_lt, if◌then◌else◌}
+use Rattle.std.specs.Prelude.{is_none, Result, Ok, Err, ⊤, nat_lt, if◌then◌else◌}
 use Rattle.c65_csem.specs.Trees.{MaybeTyped, absent, present, Stmts}
 use Rattle.c65_meaning.specs.Program.{ProgramTy}
 use Rattle.c65_meaning.specs.Why.{Why, By, Unfit}
 use Rattle.c65_meaning.specs.Store.{Block, Store, Value, Whole, Null, Place, Opaque, NoValue, put_cell, byte, end_in}
 use Rattle.c65_meaning.specs.Operators.{truth_of}
 use Rattle.c65_meaning.specs.Shapes.{object_in, lives_in_frame, object_block}
-use Rattle.c65_meaning.specs.Items.{Item, Push, Name, Follow, Move, Fetch, Keep, Change, Apply1, Apply2, Both, Either, Truth, Choose, Drop, Put, Peek, Bump, PutUnder, Carry, Invoke, Loop, Skip, Init, CarryInto, Wipe, Begin, End, Branch, Test, Pass, Enter, Next, Back, Check, Redo, Select, EndSwitch, Jump, LeaveLoop, GoOn, Give, GiveNothing, plan, head_of, plan_stmt}
+use Rattle.c65_meaning.specs.Items.{Item, Push, Name, Follow, Move, Fetch, Keep, Change, Apply1, Apply2, Both, Either, Truth, Choose, Drop, Put, Peek, Bump, PutUnder, Carry, Invoke, Loop, Skip, Init, CarryInto, Wipe, Begin, End, Branch, Test, Pass, Enter, Next, Back, Check, Redo, Select, EndSwitch, Jump, LeaveLoop, GoOn, Give, GiveNothing, Leave, plan, head_of, plan_stmt}
+use Rattle.c65_meaning.specs.After.{Left, ending, up_to_break, up_to_continue}
 use Rattle.c65_meaning.specs.State.{Frame, Scene, State, Undefined, Deep, Ended, Running, turned, block_in}
-use Rattle.c65_meaning.specs.Step.{place_in, begin_objects, end_named, end_objects, put, carried_byte, carry_into_step, at_offset, cleared, wipe_step, place_in_object, after_body, last_test, perform, step}
+use Rattle.c65_meaning.specs.Step.{place_in, begin_objects, end_named, end_objects, put, carried_byte, carry_into_step, at_offset, cleared, wipe_step, place_in_object, after_body, last_test, left_for, perform, step}
 use Rattle.c65_sound.specs.Laws.{HasBlock, IsFit}
 use Rattle.c65_sound.specs.Statements.{HasFrame, entering, leaves, pauses, steps_within, StatementsFit}
-use Rattle.c65_sound.proofs.Stacks.{Kind, naming, Sound, Suits, AreSuited, StoreFits, D, IsBlock, IsMaybePart, IsLoop, HasTest, Does, Takes, IsScene, IsGood}
+use Rattle.c65_sound.proofs.Stacks.{Kind, Exit, breaking, continuing, naming, Sound, Suits, AreSuited, StoreFits, D, IsBlock, IsMaybePart, IsLoop, HasTest, Does, Takes, Out, IsScene, IsGood}
 use Rattle.c65_sound.proofs.Values.{truth_sound}
 use Rattle.c65_sound.proofs.Stores.{block_set, put_sound as cell_sound}
 use Rattle.c65_sound.proofs.Steps.{good_if, runs, with_one, decides, goes_in, stored_sound, put_sound, byte_sound, performs}
 use Rattle.c65_sound.proofs.Expressions.{first_store, closed}
 use Rattle.c65_sound.proofs.Scopes.{Grows, grows_on, ready_stays, begun}
-use Rattle.c65_sound.proofs.Statements.{cell_on, suited_on, takes_on, part_takes, head_takes, stmt_takes, stmts_take, work_takes}
+use Rattle.c65_sound.proofs.Statements.{cell_on, suited_on, takes_on, out_on, part_takes, head_takes, stmt_takes, stmts_take, work_takes}
 
 abbrev begins : Item → Bool
 begins (Begin n objects body) = true
@@ -92,12 +93,54 @@ module _ (p : ProgramTy) (c : Scene) where
   tests l absent k ks vs d h g w q t a i = absurd g
   tests l (present e) k ks vs d h g w q t a i = goes (plan p.unit e (Redo l ∷ k)) ks vs d (part_takes p.unit c e (Redo l ∷ k) ks h (tt, (w, q, t))) a i
 
-  body_takes : (l : Loop) (k : List Item) (ks : List Kind) → IsLoop p.unit c l → Works k ks → Works (plan_stmt p.unit l.at l.body k) ks
-  body_takes l k ks h t = work_takes p.unit c l.at l.body k ks h.body t
+  body_takes : (l : Loop) (k : List Item) (ks : List Kind) → IsLoop p.unit c l → Works k ks → ((y : Exit) → Out ⊤ p.unit c k y ks) → Works (plan_stmt p.unit l.at l.body k) ks
+  body_takes l k ks h t q = work_takes p.unit c l.at l.body k ks h.body t q
+
+  next_out : (l : Loop) (k : List Item) (ks : List Kind) → Works (Next l ∷ k) ks → (y : Exit) → Out ⊤ p.unit c (Next l ∷ k) y ks
+  next_out l k ks t breaking = t.1.1
+  next_out l k ks t continuing = t
+
+  check_out : (l : Loop) (k : List Item) (ks : List Kind) → Works (Check l ∷ k) ks → (y : Exit) → Out ⊤ p.unit c (Check l ∷ k) y ks
+  check_out l k ks t breaking = t.1.2
+  check_out l k ks t continuing = t
+
+  -- ---- loops and switches are left
+
+  abbrev work_left : Option Left → List Item
+  work_left None = []
+  work_left (Some r) = r.work
+
+  left_with : (k : List Item) (ks : List Kind) (r : Left) → Some (record { objects = []; work = k }) ≡ Some r → Works k ks → Works r.work ks
+  left_with k ks r e t = let same : k ≡ r.work = ap work_left e in subst (λ (w : List Item). Works w ks) same t
+
+  with_ends : (objects : List ℕ) (m : Option Left) (ks : List Kind) → ((r : Left) → m ≡ Some r → Works r.work ks) → (r : Left) → ending objects m ≡ Some r → Works r.work ks
+  with_ends objects None ks f r e = absurd (cc)
+  with_ends objects (Some q) ks f r e = let same : q.work ≡ r.work = ap work_left e in subst (λ (w : List Item). Works w ks) same (f q refl)
+
+  breaks : (k : List Item) (ks : List Kind) → Out ⊤ p.unit c k breaking ks → (r : Left) → up_to_break k ≡ Some r → Works r.work ks
+  breaks [] ks h r e = absurd (cc)
+  breaks (Next l ∷ k) ks h r e = left_with k ks r e h
+  breaks (Check l ∷ k) ks h r e = left_with k ks r e h
+  breaks (EndSwitch ∷ k) ks h r e = left_with k ks r e h
+  breaks (Leave ∷ k) ks h r e = absurd (cc)
+  breaks (End objects ∷ k) ks h r e = with_ends objects (up_to_break k) ks (breaks k ks h) r e
+  breaks (_ ∷ k) ks h r e = breaks k ks h r e
+
+  continues : (k : List Item) (ks : List Kind) → Out ⊤ p.unit c k continuing ks → (r : Left) → up_to_continue k ≡ Some r → Works r.work ks
+  continues [] ks h r e = absurd (cc)
+  continues (Next l ∷ k) ks h r e = left_with (Next l ∷ k) ks r e h
+  continues (Check l ∷ k) ks h r e = left_with (Check l ∷ k) ks r e h
+  continues (Leave ∷ k) ks h r e = absurd (cc)
+  continues (End objects ∷ k) ks h r e = with_ends objects (up_to_continue k) ks (continues k ks h) r e
+  continues (_ ∷ k) ks h r e = continues k ks h r e
+
+  leaves_for : (m : Option Left) (ks : List Kind) (vs : List Value) (d : Scene) → is_none m ≡ false → ((r : Left) → m ≡ Some r → Works r.work ks) → AreSuited E ks vs → Here d → Good (left_for vs d m)
+  leaves_for None ks vs d n f a i = absurd (cc)
+  leaves_for (Some r) ks vs d n f a i = goes r.work ks vs (end_objects r.objects d) (f r refl) a (ends r.objects d i)
 
   -- ---- one item that begins no block
 
-  acts : (j : Item) (k : List Item) (ks : List Kind) (vs : List Value) (d : Scene) → leaves j ≡ false → begins j ≡ false → Does ⊤ p.unit c j (Takes ⊤ p.unit c k) ks → AreSuited E ks vs → Here d → Good (perform p j k vs d)
+  acts : (j : Item) (k : List Item) (ks : List Kind) (vs : List Value) (d : Scene) → leaves j k ≡ false → begins j ≡ false → Does ⊤ p.unit c j (Takes ⊤ p.unit c k) (Out ⊤ p.unit c k) ks → AreSuited E ks vs → Here d → Good (perform p j k vs d)
   acts Skip k ks vs d n o t a i = goes k ks vs d t.1 a i
   acts (Init m q f) k (x ∷ ks) vs d n o t a i = with_one ⊤ p c x ks vs _ a (λ v r s b. goes_in ⊤ p c (put true f d (place_in_object p.unit m q d) v) k ks r t.1.1 b (put_sound ⊤ p c true f d x (place_in_object p.unit m q d) v i (place_suits m q d t.1.0 i) s))
   acts (CarryInto m q done size) k (naming ∷ ks) vs d n o t a i = with_one ⊤ p c naming ks vs _ a (λ v r s b. good_if ⊤ p c (nat_lt done size) (carry_into_step m q done size v k r (carried_byte true done size d v (place_in_object p.unit m q d))) (Running k r d) (carries_into m q done size v k ks r (carried_byte true done size d v (place_in_object p.unit m q d)) t.1.0 s t.1.1 b (byte_sound ⊤ p c true done size d v (place_in_object p.unit m q d) i s (place_suits m q d t.1.0 i))) (goes k ks r d t.1.1 b i))
@@ -105,18 +148,18 @@ module _ (p : ProgramTy) (c : Scene) where
   acts (Begin m objects body) k ks vs d n o t a i = absurd (cc)
   acts (End objects) k ks vs d n o t a i = goes k ks vs (end_objects objects d) t.1 a (ends objects d i)
   acts (Branch m e q f) k (x ∷ ks) vs d n o t a i = with_one ⊤ p c x ks vs _ a (λ v r s b. decides ⊤ p c (truth_of d.store v) (Running (plan_stmt p.unit m e k) r d) (Running (plan_stmt p.unit q f k) r d) (truth_sound E d.store v)
-      (goes (plan_stmt p.unit m e k) ks r d (work_takes p.unit c m e k ks t.1.0 t.1.2) b i)
-      (goes (plan_stmt p.unit q f k) ks r d (work_takes p.unit c q f k ks t.1.1 t.1.2) b i))
+      (goes (plan_stmt p.unit m e k) ks r d (work_takes p.unit c m e k ks t.1.0 t.1.2 t.1.3) b i)
+      (goes (plan_stmt p.unit q f k) ks r d (work_takes p.unit c q f k ks t.1.1 t.1.2 t.1.3) b i))
   acts (Test l) k (x ∷ ks) vs d n o t a i = with_one ⊤ p c x ks vs _ a (λ v r s b. decides ⊤ p c (truth_of d.store v) (Running (plan_stmt p.unit l.at l.body (Next l ∷ k)) r d) (Running k r d) (truth_sound E d.store v)
-      (goes (plan_stmt p.unit l.at l.body (Next l ∷ k)) ks r d (body_takes l (Next l ∷ k) ks t.1.0 t) b i)
+      (goes (plan_stmt p.unit l.at l.body (Next l ∷ k)) ks r d (body_takes l (Next l ∷ k) ks t.1.0 t (next_out l k ks t)) b i)
       (goes k ks r d t.1.1 b i))
-  acts (Pass l) k ks vs d n o t a i = goes (plan_stmt p.unit l.at l.body (Next l ∷ k)) ks vs d (body_takes l (Next l ∷ k) ks t.1.0 t) a i
-  acts (Enter l) k ks vs d n o t a i = goes (plan_stmt p.unit l.at l.body (Check l ∷ k)) ks vs d (body_takes l (Check l ∷ k) ks t.1.0 t) a i
+  acts (Pass l) k ks vs d n o t a i = goes (plan_stmt p.unit l.at l.body (Next l ∷ k)) ks vs d (body_takes l (Next l ∷ k) ks t.1.0 t (next_out l k ks t)) a i
+  acts (Enter l) k ks vs d n o t a i = goes (plan_stmt p.unit l.at l.body (Check l ∷ k)) ks vs d (body_takes l (Check l ∷ k) ks t.1.0 t (check_out l k ks t)) a i
   acts (Next l) k ks vs d n o t a i = body_ends l l.next k ks vs d t.1.0.next t.1.0 t.1.1 a i
   acts (Back l) k (x ∷ ks) vs d n o t a i = with_one ⊤ p c x ks vs _ a (λ v r s b. goes (head_of p.unit l k) ks r (turned d) (head_takes p.unit c l k ks t.1.0 t.1.1) b (turns d i))
   acts (Check l) k ks vs d n o t a i = tests l l.test k ks vs d t.1.0.test t.1.1 t.1.0 t.1.1 t.1.2 a i
   acts (Redo l) k (x ∷ ks) vs d n o t a i = with_one ⊤ p c x ks vs _ a (λ v r s b. decides ⊤ p c (truth_of d.store v) (Running (plan_stmt p.unit l.at l.body (Check l ∷ k)) r (turned d)) (Running k r d) (truth_sound E d.store v)
-      (goes (plan_stmt p.unit l.at l.body (Check l ∷ k)) ks r (turned d) (body_takes l (Check l ∷ k) ks t.1.0 t) b (turns d i))
+      (goes (plan_stmt p.unit l.at l.body (Check l ∷ k)) ks r (turned d) (body_takes l (Check l ∷ k) ks t.1.0 t (check_out l k ks t)) b (turns d i))
       (goes k ks r d t.1.2 b i))
   acts EndSwitch k ks vs d n o t a i = goes k ks vs d t.1 a i
   acts (Push v) k ks vs d n o t a i = performs ⊤ p c (Push v) k ks vs d refl t a i
@@ -141,8 +184,8 @@ module _ (p : ProgramTy) (c : Scene) where
   acts (Invoke callee types) k ks vs d n o t a i = absurd (cc)
   acts (Select left m body) k ks vs d n o t a i = absurd (cc)
   acts (Jump l m) k ks vs d n o t a i = absurd (cc)
-  acts LeaveLoop k ks vs d n o t a i = absurd (cc)
-  acts GoOn k ks vs d n o t a i = absurd (cc)
+  acts LeaveLoop k ks vs d n o t a i = leaves_for (up_to_break k) ks vs d n (breaks k ks t.1) a i
+  acts GoOn k ks vs d n o t a i = leaves_for (up_to_continue k) ks vs d n (continues k ks t.1) a i
   acts Give k ks vs d n o t a i = absurd (cc)
   acts GiveNothing k ks vs d n o t a i = absurd (cc)
   acts _ k ks vs d n o t a i = absurd t.1
@@ -163,20 +206,20 @@ module _ (p : ProgramTy) where
   fits_here : (c d : Scene) (g : Grows p.unit c d) → StoreFits (D p.unit c) d.store → StoreFits (D p.unit d) d.store
   fits_here c d g h = record { there = λ b m. m; all = λ b x e q. cell_on p.unit c d g (x.cells q) (h.all b x e q) }
 
-  blocks_begin : (c : Scene) (n : ℕ) (objects : List ℕ) (body : Stmts) (k : List Item) (ks : List Kind) (vs : List Value) (d : Scene) → IsBlock p.unit c objects body → Takes ⊤ p.unit c k ks → AreSuited (D p.unit c) ks vs → IsScene p.unit c d → IsGoodSome p (perform p (Begin n objects body) k vs d)
-  blocks_begin c n objects body k ks vs d h t a i =
+  blocks_begin : (c : Scene) (n : ℕ) (objects : List ℕ) (body : Stmts) (k : List Item) (ks : List Kind) (vs : List Value) (d : Scene) → IsBlock p.unit c objects body → Takes ⊤ p.unit c k ks → ((y : Exit) → Out ⊤ p.unit c k y ks) → AreSuited (D p.unit c) ks vs → IsScene p.unit c d → IsGoodSome p (perform p (Begin n objects body) k vs d)
+  blocks_begin c n objects body k ks vs d h t q a i =
       let e : Scene = begin_objects p.unit objects d in
       let g = moves_here p c d i in
       let on = begun p.unit objects h.scope d h.automatic (ready_stays p.unit c d g h.scope h.ready) (fits_here c d g i.store) in
       let all = grows_on p.unit c d e g on.grows in
       let later : Takes ⊤ p.unit e k ks = takes_on p.unit c e all k ks t in
-      (e, record { kinds = ks; takes = stmts_take p.unit e (entering objects h.scope) on.ready h.context n body (End objects ∷ k) ks h.typed h.scoped (tt, later); suited = suited_on p.unit c e all ks vs a; scene = stands_here e on.store })
+      (e, record { kinds = ks; takes = stmts_take p.unit e (entering objects h.scope) on.ready h.context n body (End objects ∷ k) ks h.typed h.scoped (tt, later) (λ y. out_on p.unit c e all k y ks (q y)); suited = suited_on p.unit c e all ks vs a; scene = stands_here e on.store })
 
-  does_step : (c : Scene) (j : Item) (k : List Item) (ks : List Kind) (vs : List Value) (d : Scene) → leaves j ≡ false → Does ⊤ p.unit c j (Takes ⊤ p.unit c k) ks → AreSuited (D p.unit c) ks vs → IsScene p.unit c d → IsGoodSome p (perform p j k vs d)
+  does_step : (c : Scene) (j : Item) (k : List Item) (ks : List Kind) (vs : List Value) (d : Scene) → leaves j k ≡ false → Does ⊤ p.unit c j (Takes ⊤ p.unit c k) (Out ⊤ p.unit c k) ks → AreSuited (D p.unit c) ks vs → IsScene p.unit c d → IsGoodSome p (perform p j k vs d)
   does_step c j k ks vs d f t a i = tested (begins j) refl
     where
-      beginning : (l : Item) → begins l ≡ true → Does ⊤ p.unit c l (Takes ⊤ p.unit c k) ks → IsGoodSome p (perform p l k vs d)
-      beginning (Begin n objects body) e h = blocks_begin c n objects body k ks vs d h.1.0 h.1.1 a i
+      beginning : (l : Item) → begins l ≡ true → Does ⊤ p.unit c l (Takes ⊤ p.unit c k) (Out ⊤ p.unit c k) ks → IsGoodSome p (perform p l k vs d)
+      beginning (Begin n objects body) e h = blocks_begin c n objects body k ks vs d h.1.0 h.1.1 h.1.2 a i
       beginning _ e h = absurd (cc)
 
       tested : (b : Bool) → begins j ≡ b → IsGoodSome p (perform p j k vs d)
@@ -207,4 +250,4 @@ module _ (p : ProgramTy) where
   fit (Running work vs d) h = closed p h.0 d.store h.1.scene.store
 
 pub statements_fit : StatementsFit
-statements_fit p x scope s at n values c w h r k = fit p (steps_within p n (Running (plan_stmt p.unit at s []) values c)) (goes_well p n (Running (plan_stmt p.unit at s []) values c) (c, record { kinds = []; takes = stmt_takes p.unit c scope r x at s [] [] w h tt; suited = tt; scene = record { frames = refl; store = first_store p c k } }))
+statements_fit p x scope s at n values c w h r k = fit p (steps_within p n (Running (plan_stmt p.unit at s []) values c)) (goes_well p n (Running (plan_stmt p.unit at s []) values c) (c, record { kinds = []; takes = stmt_takes p.unit c scope r x at s [] [] w h tt (λ y. tt); suited = tt; scene = record { frames = refl; store = first_store p c k } }))

@@ -11,7 +11,7 @@ use Rattle.c65_meaning.specs.Shapes.{object_in, lives_in_frame, object_block}
 use Rattle.c65_meaning.specs.Items.{Item, Push, Name, Follow, Move, Fetch, Keep, Change, Apply1, Apply2, Both, Either, Truth, Choose, Drop, Put, Peek, Bump, PutUnder, Carry, Invoke, Busy, Skip, Init, CarryInto, Wipe, Begin, End, Branch, Test, Pass, Enter, Next, Back, Check, Redo, Select, EndSwitch, Jump, LeaveLoop, GoOn, Give, GiveNothing, Leave, plan}
 use Rattle.c65_meaning.specs.State.{Frame, Scene, State, Running, with_store, block_in}
 use Rattle.c65_meaning.specs.Step.{one, two, go_on, with_scene, decided, stored, place_in, object_place, loaded, put, assigned, partly_overlap, carried, carried_byte, carry_step, copy_step, under, perform}
-use Rattle.c65_sound.proofs.Stacks.{Kind, arithmetic, pointing, naming, free, kind_in, kind_of, Below, IsScalarShape, joined, with_kind, Sound, Gives, Suits, AreSuited, StoreFits, D, Does, Takes, IsScene, IsGood}
+use Rattle.c65_sound.proofs.Stacks.{Kind, arithmetic, pointing, naming, free, kind_in, kind_of, Below, IsScalarShape, joined, with_kind, Sound, Gives, Suits, AreSuited, StoreFits, D, Does, Takes, Out, IsScene, IsGood}
 use Rattle.c65_sound.proofs.Values.{if_sound, bind_sound, IsEither, stands, raise, place_points, truth_sound, named_sound, place_moved, converted_sound, becomes_sound, binary_sound, unary_sound, bumped_sound}
 use Rattle.c65_sound.proofs.Stores.{read_sound, write_sound, carry_sound}
 use Rattle.c65_sound.proofs.Plans.{below_refl, takes}
@@ -153,7 +153,7 @@ module _ (S : Type 0) (p : ProgramTy) (c : Scene) where
   abbrev named_in : ℕ → List Frame → Result Value Why
   named_in n fs = if lives_in_frame (object_in p.unit n) then place_in (block_in fs n) else Ok (Place (object_block p.unit n) 0)
 
-  pub performs : (j : Item) (k : List Item) (ks : List Kind) (vs : List Value) (d : Scene) → IsTrue (is_of_expression j) → Does S p.unit c j (Takes S p.unit c k) ks → AreSuited E ks vs → Here d → Good (perform p j k vs d)
+  pub performs : (j : Item) (k : List Item) (ks : List Kind) (vs : List Value) (d : Scene) → IsTrue (is_of_expression j) → Does S p.unit c j (Takes S p.unit c k) (Out S p.unit c k) ks → AreSuited E ks vs → Here d → Good (perform p j k vs d)
   performs (Push v) k ks vs d n t a i = runs k (t.0 ∷ ks) (v ∷ vs) d t.2 (t.1, a) i
   performs (Name m) k ks vs d n t a i = goes naming (object_place p.unit m d) k ks vs d (subst (λ (r : Result Value Why). Sound (Suits E naming) r) (sym (ap (named_in m) i.frames ∙ t.0.1)) t.0.2) t.1 a i
   performs Follow k (pointing ∷ ks) vs d n t a i = with_one pointing ks vs _ a (λ v r s b. goes naming (named_by d.store v) k ks r d (named_sound E d.store v s) t b i)

@@ -1,12 +1,12 @@
 -- Names in their scope (C90 6.1.2.1, 6.1.2.4), and the run of one statement up to its next call or jump.
-use Rattle.std.specs.Prelude.{ℕ, zero, suc, Bool, true, false, List, [], ◌∷◌, IsSome, IsTrue, slice_get, ⊤, if◌then◌else◌}
+use Rattle.std.specs.Prelude.{ℕ, zero, suc, Bool, true, false, List, [], ◌∷◌, IsSome, IsTrue, is_none, slice_get, ⊤, if◌then◌else◌}
 use Rattle.c65_csem.specs.Trees.{Typed, node, Node, constant, null, literal, object, func, deref, member, load, address, decay, convert, unary, binary, both, either, choice, comma, assign, assign_op, assign_step, step, copy, call, Nodes, none, some, Stmt, empty, eval, set_part, clear, block, if_stmt, while, do_while, for_loop, switch, case, default, label, goto, break, continue, return, Stmts, no_stmts, and_stmts, MaybeTyped, absent, present, UnitTy}
 use Rattle.c65_csem.specs.Statements.{Context, IsStmt}
 use Rattle.c65_meaning.specs.Program.{ProgramTy}
 use Rattle.c65_meaning.specs.Store.{Value}
 use Rattle.c65_meaning.specs.Shapes.{object_in, lives_in_frame, literal_block}
 use Rattle.c65_meaning.specs.Items.{Item, Invoke, Select, Jump, LeaveLoop, GoOn, Give, GiveNothing, plan_stmt}
-use Rattle.c65_meaning.specs.After.{is_among}
+use Rattle.c65_meaning.specs.After.{up_to_break, up_to_continue, is_among}
 use Rattle.c65_meaning.specs.State.{Frame, Scene, State, Running}
 use Rattle.c65_meaning.specs.Step as one
 use Rattle.c65_sound.specs.Laws.{IsClosed, HasBlock, IsFit}
@@ -99,20 +99,20 @@ module _ (u : UnitTy) where
 
 -- ---- up to the end of the work, or the next call or jump
 
--- a call, or a jump: to a case label, to a label, out of a loop or switch, to the end of a loop's body, out of the call
-abbrev pub leaves : Item → Bool
-leaves (Invoke callee args) = true
-leaves (Select left n body) = true
-leaves (Jump l n) = true
-leaves LeaveLoop = true
-leaves GoOn = true
-leaves Give = true
-leaves GiveNothing = true
-leaves _ = false
+-- a call, or a jump: to a case label, to a label, out of the call, and where there is no loop or switch to leave or go on with
+abbrev pub leaves : Item → List Item → Bool
+leaves (Invoke callee args) k = true
+leaves (Select left n body) k = true
+leaves (Jump l n) k = true
+leaves LeaveLoop k = is_none (up_to_break k)
+leaves GoOn k = is_none (up_to_continue k)
+leaves Give k = true
+leaves GiveNothing k = true
+leaves _ k = false
 
 abbrev pub pauses : State → Bool
 pauses (Running [] vs c) = true
-pauses (Running (i ∷ k) vs c) = leaves i
+pauses (Running (i ∷ k) vs c) = leaves i k
 pauses _ = false
 
 module _ (p : ProgramTy) where
