@@ -6,4 +6,5 @@ pub mod Scopes
 pub mod Steps
 pub mod Expressions
 pub mod Statements
+pub mod Landings
 pub mod StatementSteps

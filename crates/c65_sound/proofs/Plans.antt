@@ -39,7 +39,7 @@ from_same x y z e b = subst (λ (k : Kind). Below k z) (sym e) b
 value_kind : (a : Typed) → is_place a ≡ false → kind_of a ≡ kind_at (type_in (type_of a))
 value_kind a h = ap (λ (b : Bool). kind_if b (type_in (type_of a))) h
 
-below_value : (a : Typed) (t : QTy) → is_place a ≡ false → type_of a ≡ t → Below (kind_of a) (kind_at (type_in t))
+pub below_value : (a : Typed) (t : QTy) → is_place a ≡ false → type_of a ≡ t → Below (kind_of a) (kind_at (type_in t))
 below_value a t h e = below_same (kind_of a) (kind_at (type_in t)) (value_kind a h ∙ ap (λ (q : QTy). kind_at (type_in q)) e)
 
 place_kind : (a : Typed) → IsTrue (is_place a) → kind_of a ≡ naming

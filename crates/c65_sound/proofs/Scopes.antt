@@ -1,6 +1,6 @@
 -- What stands where objects are in scope, and what stays when more blocks begin.
-use Rattle.std.proofs.Common.{◌≡◌, ℕ, suc, Bool, true, false, List, [], ◌∷◌, Option, Some, None, refl, sym, ap, ◌∙◌, subst, arith}
-use Rattle.std.specs.Prelude.{◌==◌, Result, Ok, IsSome, IsTrue, All, if◌then◌else◌, slice_get}
+use Rattle.std.proofs.Common.{◌≡◌, ◌++◌, ℕ, suc, Bool, true, false, List, [], ◌∷◌, Option, Some, None, refl, sym, ap, ◌∙◌, subst, arith}
+use Rattle.std.specs.Prelude.{⊤, ◌==◌, Result, Ok, IsSome, IsTrue, All, if◌then◌else◌, slice_get}
 use Rattle.c65_csem.specs.Trees.{Typed, node, Node, constant, null, literal, object, func, deref, member, load, address, decay, convert, unary, binary, both, either, choice, comma, assign, assign_op, assign_step, step, copy, call, Nodes, none, some, UnitTy}
 use Rattle.c65_ctype.specs.Trees.{QTy}
 use Rattle.c65_csem.specs.Typed.{IsTyped, IsNode, AreTyped}
@@ -205,8 +205,20 @@ first_of P i rest h = h 0 i (omega arith)
 rest_of : (P : ℕ → Type 0) (i : ℕ) (rest : List ℕ) → All P (i ∷ rest) → All P rest
 rest_of P i rest h k d l = h (suc k) d (omega (arith, l))
 
-pub begun : (u : UnitTy) (objects scope : List ℕ) (d : Scene) → All (NamesAutomatic u) objects → IsReady u scope d → StoreFits (D u d) d.store → IsBegun u (entering objects scope) d (begin_objects u objects d)
+abbrev pub AreAutomatic : UnitTy → List ℕ → Type 0
+AreAutomatic u [] = ⊤
+AreAutomatic u (i ∷ rest) = NamesAutomatic u i × AreAutomatic u rest
+
+pub automatic_of : (u : UnitTy) (objects : List ℕ) → All (NamesAutomatic u) objects → AreAutomatic u objects
+automatic_of u [] a = tt
+automatic_of u (i ∷ rest) a = (first_of (NamesAutomatic u) i rest a, automatic_of u rest (rest_of (NamesAutomatic u) i rest a))
+
+pub automatic_joined : (u : UnitTy) (xs ys : List ℕ) → AreAutomatic u xs → AreAutomatic u ys → AreAutomatic u (xs ++ ys)
+automatic_joined u [] ys a b = b
+automatic_joined u (i ∷ xs) ys a b = (a.0, automatic_joined u xs ys a.1 b)
+
+pub begun : (u : UnitTy) (objects scope : List ℕ) (d : Scene) → AreAutomatic u objects → IsReady u scope d → StoreFits (D u d) d.store → IsBegun u (entering objects scope) d (begin_objects u objects d)
 begun u [] scope d a r h = record { grows = grows_same u d; ready = r; store = h }
 begun u (i ∷ rest) scope d a r h =
-    let on = begun u rest (i ∷ scope) (begin_object u i d) (rest_of (NamesAutomatic u) i rest a) (ready_after u i d scope (first_of (NamesAutomatic u) i rest a) r) (store_after u i d h) in
+    let on = begun u rest (i ∷ scope) (begin_object u i d) a.1 (ready_after u i d scope a.0 r) (store_after u i d h) in
     record { grows = grows_on u d (begin_object u i d) (begin_objects u rest (begin_object u i d)) (grows u i d) on.grows; ready = on.ready; store = on.store }

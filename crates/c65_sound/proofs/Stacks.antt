@@ -211,7 +211,7 @@ module _ (u : UnitTy) (c : Scene) where
   Acts (Back l) f q (x ∷ ks) = IsLoop l × f ks
   Acts (Check l) f q ks = IsLoop l × HasTest l.test × f ks
   Acts (Redo l) f q (x ∷ ks) = IsLoop l × HasTest l.test × f ks
-  Acts (Select left n body) f q ks = ⊤
+  Acts (Select left n body) f q (arithmetic ∷ ks) = IsWork body × f ks × ((y : Exit) → q y ks)
   Acts EndSwitch f q ks = f ks
   Acts (Jump l n) f q ks = ⊤
   Acts LeaveLoop f q ks = q breaking ks

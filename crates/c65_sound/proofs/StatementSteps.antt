@@ -1,28 +1,30 @@
 -- A step of the work of a statement goes on, or is undefined by a numbered action.
 use Rattle.std.proofs.Common.{◌≡◌, ℕ, zero, suc, ◌+◌, Bool, true, false, List, [], ◌∷◌, Option, Some, None, refl, sym, ap, ◌∙◌, subst}
 use Rattle.std.specs.Prelude.{is_none, Result, Ok, Err, ⊤, nat_lt, if◌then◌else◌}
-use Rattle.c65_csem.specs.Trees.{MaybeTyped, absent, present, Stmts}
+use Rattle.c65_csem.specs.Trees.{MaybeTyped, absent, present, Stmt, Stmts}
 use Rattle.c65_meaning.specs.Program.{ProgramTy}
 use Rattle.c65_meaning.specs.Why.{Why, By, Unfit}
 use Rattle.c65_meaning.specs.Store.{Block, Store, Value, Whole, Null, Place, Opaque, NoValue, put_cell, byte, end_in}
 use Rattle.c65_meaning.specs.Operators.{truth_of}
 use Rattle.c65_meaning.specs.Shapes.{object_in, lives_in_frame, object_block}
 use Rattle.c65_meaning.specs.Items.{Item, Push, Name, Follow, Move, Fetch, Keep, Change, Apply1, Apply2, Both, Either, Truth, Choose, Drop, Put, Peek, Bump, PutUnder, Carry, Invoke, Loop, Skip, Init, CarryInto, Wipe, Begin, End, Branch, Test, Pass, Enter, Next, Back, Check, Redo, Select, EndSwitch, Jump, LeaveLoop, GoOn, Give, GiveNothing, Leave, plan, head_of, plan_stmt}
-use Rattle.c65_meaning.specs.After.{Left, ending, up_to_break, up_to_continue}
+use Rattle.c65_meaning.specs.After.{Sought, ToCase, ToDefault, Landing, or_else, after, Left, ending, up_to_break, up_to_continue}
 use Rattle.c65_meaning.specs.State.{Frame, Scene, State, Undefined, Deep, Ended, Running, turned, block_in}
-use Rattle.c65_meaning.specs.Step.{place_in, begin_objects, end_named, end_objects, put, carried_byte, carry_into_step, at_offset, cleared, wipe_step, place_in_object, after_body, last_test, left_for, perform, step}
+use Rattle.c65_meaning.specs.Step.{place_in, begin_objects, end_named, end_objects, put, carried_byte, carry_into_step, at_offset, cleared, wipe_step, place_in_object, after_body, last_test, left_for, switched, chosen_case, perform, step}
 use Rattle.c65_sound.specs.Laws.{HasBlock, IsFit}
-use Rattle.c65_sound.specs.Statements.{HasFrame, entering, leaves, pauses, steps_within, StatementsFit}
-use Rattle.c65_sound.proofs.Stacks.{Kind, Exit, breaking, continuing, naming, Sound, Suits, AreSuited, StoreFits, D, IsBlock, IsMaybePart, IsLoop, HasTest, Does, Takes, Out, IsScene, IsGood}
+use Rattle.c65_sound.specs.Statements.{IsReady, HasFrame, entering, leaves, pauses, steps_within, StatementsFit}
+use Rattle.c65_sound.proofs.Stacks.{Kind, arithmetic, IsWork, Exit, breaking, continuing, naming, Sound, Suits, AreSuited, StoreFits, D, IsBlock, IsMaybePart, IsLoop, HasTest, Does, Takes, Out, IsScene, IsGood}
 use Rattle.c65_sound.proofs.Values.{truth_sound}
 use Rattle.c65_sound.proofs.Stores.{block_set, put_sound as cell_sound}
 use Rattle.c65_sound.proofs.Steps.{good_if, runs, with_one, decides, goes_in, stored_sound, put_sound, byte_sound, performs}
 use Rattle.c65_sound.proofs.Expressions.{first_store, closed}
-use Rattle.c65_sound.proofs.Scopes.{Grows, grows_on, ready_stays, begun}
+use Rattle.c65_sound.proofs.Scopes.{automatic_of, Grows, grows_on, ready_stays, begun}
+use Rattle.c65_sound.proofs.Landings.{Each, either, AreNamed, names, Lands, switch_out, lands}
 use Rattle.c65_sound.proofs.Statements.{cell_on, suited_on, takes_on, out_on, part_takes, head_takes, stmt_takes, stmts_take, work_takes}
 
 abbrev begins : Item → Bool
 begins (Begin n objects body) = true
+begins (Select left n body) = true
 begins _ = false
 
 module _ (p : ProgramTy) (c : Scene) where
@@ -210,21 +212,52 @@ module _ (p : ProgramTy) where
   blocks_begin c n objects body k ks vs d h t q a i =
       let e : Scene = begin_objects p.unit objects d in
       let g = moves_here p c d i in
-      let on = begun p.unit objects h.scope d h.automatic (ready_stays p.unit c d g h.scope h.ready) (fits_here c d g i.store) in
+      let on = begun p.unit objects h.scope d (automatic_of p.unit objects h.automatic) (ready_stays p.unit c d g h.scope h.ready) (fits_here c d g i.store) in
       let all = grows_on p.unit c d e g on.grows in
       let later : Takes ⊤ p.unit e k ks = takes_on p.unit c e all k ks t in
       (e, record { kinds = ks; takes = stmts_take p.unit e (entering objects h.scope) on.ready h.context n body (End objects ∷ k) ks h.typed h.scoped (tt, later) (λ y. out_on p.unit c e all k y ks (q y)); suited = suited_on p.unit c e all ks vs a; scene = stands_here e on.store })
 
+  -- ---- a switch lands, or goes on behind it
+
+  switch_lands : (c : Scene) (scope : List ℕ) (k : List Item) (ks : List Kind) (vs : List Value) (d : Scene) (m : Option Landing) → IsReady p.unit scope c → Takes ⊤ p.unit c k ks → Each (AreNamed p.unit) m → ((e : Scene) → Grows p.unit c e → Each (Lands p.unit ToDefault e ks scope) m) → AreSuited (D p.unit c) ks vs → IsScene p.unit c d → IsGoodSome p (switched p.unit k vs d m)
+  switch_lands c scope k ks vs d None r t n f a i = (c, runs ⊤ p c k ks vs d t a i)
+  switch_lands c scope k ks vs d (Some to) r t n f a i =
+      let e : Scene = begin_objects p.unit to.objects d in
+      let g = moves_here p c d i in
+      let on = begun p.unit to.objects scope d n (ready_stays p.unit c d g scope r) (fits_here c d g i.store) in
+      let all = grows_on p.unit c d e g on.grows in
+      (e, record { kinds = ks; takes = f e all on.ready; suited = suited_on p.unit c e all ks vs a; scene = stands_here e on.store })
+
+  case_chosen : (c : Scene) (n : ℕ) (body : Stmt) (v : Value) (k : List Item) (ks : List Kind) (vs : List Value) (d : Scene) → Suits (D p.unit c) arithmetic v → IsWork p.unit c body → Takes ⊤ p.unit c k ks → ((y : Exit) → Out ⊤ p.unit c k y ks) → AreSuited (D p.unit c) ks vs → IsScene p.unit c d → IsGoodSome p (chosen_case p.unit n body k vs d v)
+  case_chosen c n body (Whole z) k ks vs d s h t q a i = switch_lands c h.scope k ks vs d (or_else (after p.unit (ToCase z) n body (EndSwitch ∷ k)) (after p.unit ToDefault n body (EndSwitch ∷ k))) h.ready t
+      (either (AreNamed p.unit) (after p.unit (ToCase z) n body (EndSwitch ∷ k)) (after p.unit ToDefault n body (EndSwitch ∷ k)) (names p.unit (ToCase z) h.context n body (EndSwitch ∷ k) h.typed) (names p.unit ToDefault h.context n body (EndSwitch ∷ k) h.typed))
+      (λ e g. either (Lands p.unit ToDefault e ks h.scope) (after p.unit (ToCase z) n body (EndSwitch ∷ k)) (after p.unit ToDefault n body (EndSwitch ∷ k)) (landing (ToCase z) e g) (landing ToDefault e g))
+      a i
+    where
+      landing : (what : Sought) (e : Scene) → Grows p.unit c e → Each (Lands p.unit what e ks h.scope) (after p.unit what n body (EndSwitch ∷ k))
+      landing what e g = lands p.unit what e ks h.context h.scope n body (EndSwitch ∷ k) h.typed h.scoped (λ r. (tt, takes_on p.unit c e g k ks t)) (λ r. switch_out p.unit what e ks k (takes_on p.unit c e g k ks t) (λ y. out_on p.unit c e g k y ks (q y)))
+  case_chosen c n body Opaque k ks vs d s h t q a i = (c, tt)
+  case_chosen c n body NoValue k ks vs d s h t q a i = (c, tt)
+  case_chosen c n body Null k ks vs d s h t q a i = absurd s
+  case_chosen c n body (Place b o) k ks vs d s h t q a i = absurd s
+
+  selects : (c : Scene) (left n : ℕ) (body : Stmt) (k : List Item) (ks : List Kind) (vs : List Value) (d : Scene) → IsWork p.unit c body → Takes ⊤ p.unit c k ks → ((y : Exit) → Out ⊤ p.unit c k y ks) → AreSuited (D p.unit c) (arithmetic ∷ ks) vs → IsScene p.unit c d → IsGoodSome p (perform p (Select left n body) k vs d)
+  selects c (suc left) n body k ks vs d h t q a i = (c, runs ⊤ p c (Select left n body ∷ k) (arithmetic ∷ ks) vs d (tt, (h, t, q)) a i)
+  selects c zero n body k ks [] d h t q a i = absurd a
+  selects c zero n body k ks (v ∷ vs) d h t q a i = case_chosen c n body v k ks vs d a.0 h t q a.1 i
+
+  beginning : (c : Scene) (j : Item) (k : List Item) (ks : List Kind) (vs : List Value) (d : Scene) → begins j ≡ true → Does ⊤ p.unit c j (Takes ⊤ p.unit c k) (Out ⊤ p.unit c k) ks → AreSuited (D p.unit c) ks vs → IsScene p.unit c d → IsGoodSome p (perform p j k vs d)
+  beginning c (Begin n objects body) k ks vs d e h a i = blocks_begin c n objects body k ks vs d h.1.0 h.1.1 h.1.2 a i
+  beginning c (Select left n body) k (arithmetic ∷ ks) vs d e h a i = selects c left n body k ks vs d h.1.0 h.1.1 h.1.2 a i
+  beginning c (Select left n body) k _ vs d e h a i = absurd h.1
+  beginning c _ k ks vs d e h a i = absurd (cc)
+
   does_step : (c : Scene) (j : Item) (k : List Item) (ks : List Kind) (vs : List Value) (d : Scene) → leaves j k ≡ false → Does ⊤ p.unit c j (Takes ⊤ p.unit c k) (Out ⊤ p.unit c k) ks → AreSuited (D p.unit c) ks vs → IsScene p.unit c d → IsGoodSome p (perform p j k vs d)
   does_step c j k ks vs d f t a i = tested (begins j) refl
     where
-      beginning : (l : Item) → begins l ≡ true → Does ⊤ p.unit c l (Takes ⊤ p.unit c k) (Out ⊤ p.unit c k) ks → IsGoodSome p (perform p l k vs d)
-      beginning (Begin n objects body) e h = blocks_begin c n objects body k ks vs d h.1.0 h.1.1 h.1.2 a i
-      beginning _ e h = absurd (cc)
-
       tested : (b : Bool) → begins j ≡ b → IsGoodSome p (perform p j k vs d)
       tested false e = (c, acts p c j k ks vs d f e t a i)
-      tested true e = beginning j e t
+      tested true e = beginning c j k ks vs d e t a i
 
   steps_well : (s : State) → pauses s ≡ false → IsGoodSome p s → IsGoodSome p (step p s)
   steps_well (Undefined (By action)) e h = (h.0, tt)

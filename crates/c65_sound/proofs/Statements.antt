@@ -3,10 +3,10 @@ use Rattle.std.proofs.Common.{◌≡◌, ℕ, Bool, true, false, suc, ◌+◌, L
 use Rattle.std.specs.Prelude.{IsTrue, ⊤}
 use Rattle.c65_ctype.specs.Trees.{Ty, QTy, int, pointer}
 use Rattle.c65_csem.specs.Trees.{Typed, node, Node, constant, null, literal, object, func, deref, member, load, address, decay, convert, unary, binary, both, either, choice, comma, assign, assign_op, assign_step, step, copy, call, Nodes, none, some, MaybeTyped, absent, present, Stmt, empty, eval, set_part, clear, block, if_stmt, while, do_while, for_loop, switch, case, default, label, goto, break, continue, return, Stmts, no_stmts, and_stmts, UnitTy}
-use Rattle.c65_csem.specs.Places.{is_scalar, is_place}
+use Rattle.c65_csem.specs.Places.{plain, is_scalar, is_place}
 use Rattle.c65_csem.specs.Typed.{IsTyped}
 use Rattle.c65_csem.specs.Statements as st
-use Rattle.c65_csem.specs.Statements.{Context, looping, switching, IsInitial, IsMaybe, IsMaybeCondition, IsStmt, AreStmts}
+use Rattle.c65_csem.specs.Statements.{Context, looping, switching, switching, IsInitial, IsMaybe, IsMaybeCondition, IsStmt, AreStmts}
 use Rattle.c65_meaning.specs.Store.{Cell, Piece, Bits, Clouded, Value, Whole, Null, Place, Opaque, NoValue, Shape, Number, Field, Pointer, Area}
 use Rattle.c65_meaning.specs.Shapes.{bare_type, object_in, shape_of, place_shape}
 use Rattle.c65_meaning.specs.Sites.{count, cases_of}
@@ -16,7 +16,7 @@ use Rattle.c65_meaning.specs.Operators.{is_post}
 use Rattle.c65_sound.specs.Laws.{HasBlock}
 use Rattle.c65_sound.specs.Statements.{IsScopedIn, IsScopedMaybe, IsScoped, AreScoped, IsReady}
 use Rattle.c65_sound.proofs.Stacks.{Kind, Exit, breaking, continuing, arithmetic, pointing, naming, free, kind_in, kind_of, joined, with_kind, Gives, Stands, Suits, AreSuited, CellFits, D, IsPart, IsWork, IsBlock, IsMaybePart, IsLoop, Does, Takes, Out}
-use Rattle.c65_sound.proofs.Plans.{below_refl, tag_kind, takes}
+use Rattle.c65_sound.proofs.Plans.{below_refl, below_value, tag_kind, takes}
 use Rattle.c65_sound.proofs.Scopes.{is_some_in, there, Grows, stays, ready_stays}
 
 -- ---- more blocks
@@ -106,7 +106,7 @@ module _ (u : UnitTy) (c e : Scene) (g : Grows u c e) where
     does_on (Back l) (x ∷ ks) h = (tt, (loop_on l h.1.0, m ks h.1.1))
     does_on (Check l) ks h = (tt, (loop_on l h.1.0, h.1.1, m ks h.1.2))
     does_on (Redo l) (x ∷ ks) h = (tt, (loop_on l h.1.0, h.1.1, m ks h.1.2))
-    does_on (Select left n body) ks h = (tt, tt)
+    does_on (Select left n body) (arithmetic ∷ ks) h = (tt, (work_on body h.1.0, m ks h.1.1, λ y. v y ks (h.1.2 y)))
     does_on EndSwitch ks h = (tt, m ks h.1)
     does_on (Jump l n) ks h = (tt, tt)
     does_on LeaveLoop ks h = (tt, v breaking ks h.1)
@@ -209,7 +209,7 @@ module _ (u : UnitTy) (c : Scene) (y : Exit) (ks : List Kind) where
     stmt_leads n (return absent) k h = h
     stmt_leads n (return (present e)) k h = leads e (Give ∷ k) h
 
-    stmts_lead : (n : ℕ) (ss : Stmts) (k : List Item) → Leads k → Leads (plan_stmts u n ss k)
+    pub stmts_lead : (n : ℕ) (ss : Stmts) (k : List Item) → Leads k → Leads (plan_stmts u n ss k)
     stmts_lead n no_stmts k h = h
     stmts_lead n (and_stmts a rest) k h = stmt_leads n a _ (stmts_lead (n + count a) rest k h)
 
@@ -264,18 +264,18 @@ module _ (u : UnitTy) (c : Scene) where
   first_takes (present e) k ks h t = part_takes e (Drop ∷ k) ks h t
 
   module _ (scope : List ℕ) (r : IsReady u scope c) where
-    part : (e : Typed) → IsTyped u e → IsScopedIn u scope e → IsPart u c e
+    pub part : (e : Typed) → IsTyped u e → IsScopedIn u scope e → IsPart u c e
     part e w h = record { typed = w; there = there u c scope r e w h }
 
-    maybe : (m : MaybeTyped) → IsMaybe u m → IsScopedMaybe u scope m → IsMaybePart u c m
+    pub maybe : (m : MaybeTyped) → IsMaybe u m → IsScopedMaybe u scope m → IsMaybePart u c m
     maybe absent w h = tt
     maybe (present e) w h = part e w h
 
-    condition : (m : MaybeTyped) → IsMaybeCondition u m → IsScopedMaybe u scope m → IsMaybePart u c m
+    pub condition : (m : MaybeTyped) → IsMaybeCondition u m → IsScopedMaybe u scope m → IsMaybePart u c m
     condition absent w h = tt
     condition (present e) w h = part e w.0 h
 
-    work : (x : Context) (s : Stmt) → IsStmt u x s → IsScoped u scope s → IsWork u c s
+    pub work : (x : Context) (s : Stmt) → IsStmt u x s → IsScoped u scope s → IsWork u c s
     work x s w h = record { scope = scope; context = x; typed = w; scoped = h; ready = r }
 
     mutual
@@ -295,7 +295,7 @@ module _ (u : UnitTy) (c : Scene) where
       stmt_takes x n (for_loop i d m a) k ks w h t q =
           let loop : IsLoop u c (test_first d m (suc n) a) = record { body = work (looping x) a w.3 h.3; test = condition d w.1 h.1; next = maybe m w.2 h.2 } in
           first_takes i (head_of u (test_first d m (suc n) a) k) ks (maybe i w.0 h.0) (head_takes (test_first d m (suc n) a) k ks loop t)
-      stmt_takes x n (switch e a) k ks w h t q = part_takes e (Select (cases_of a) (suc n) a ∷ k) ks (part e w.1.typed h.0) (tt, tt)
+      stmt_takes x n (switch e a) k ks w h t q = takes ⊤ u c e arithmetic (Select (cases_of a) (suc n) a ∷ k) ks w.1.typed (there u c scope r e w.1.typed h.0) (below_value e (plain (int w.0)) w.1.value w.1.number) (tt, (work (switching w.0 x) a w.2 h.1, t, q))
       stmt_takes x n (case v a) k ks w h t q = stmt_takes x (suc n) a k ks w.1 h t q
       stmt_takes x n (default a) k ks w h t q = stmt_takes x (suc n) a k ks w.1 h t q
       stmt_takes x n (label l a) k ks w h t q = stmt_takes x (suc n) a k ks w h t q

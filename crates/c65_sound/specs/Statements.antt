@@ -5,7 +5,7 @@ use Rattle.c65_csem.specs.Statements.{Context, IsStmt}
 use Rattle.c65_meaning.specs.Program.{ProgramTy}
 use Rattle.c65_meaning.specs.Store.{Value}
 use Rattle.c65_meaning.specs.Shapes.{object_in, lives_in_frame, literal_block}
-use Rattle.c65_meaning.specs.Items.{Item, Invoke, Select, Jump, LeaveLoop, GoOn, Give, GiveNothing, plan_stmt}
+use Rattle.c65_meaning.specs.Items.{Item, Invoke, Jump, LeaveLoop, GoOn, Give, GiveNothing, plan_stmt}
 use Rattle.c65_meaning.specs.After.{up_to_break, up_to_continue, is_among}
 use Rattle.c65_meaning.specs.State.{Frame, Scene, State, Running}
 use Rattle.c65_meaning.specs.Step as one
@@ -99,10 +99,9 @@ module _ (u : UnitTy) where
 
 -- ---- up to the end of the work, or the next call or jump
 
--- a call, or a jump: to a case label, to a label, out of the call, and where there is no loop or switch to leave or go on with
+-- a call, or a jump: to a label, out of the call, and where there is no loop or switch to leave or go on with
 abbrev pub leaves : Item → List Item → Bool
 leaves (Invoke callee args) k = true
-leaves (Select left n body) k = true
 leaves (Jump l n) k = true
 leaves LeaveLoop k = is_none (up_to_break k)
 leaves GoOn k = is_none (up_to_continue k)
