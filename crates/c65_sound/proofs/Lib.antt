@@ -8,3 +8,4 @@ pub mod Expressions
 pub mod Statements
 pub mod Landings
 pub mod StatementSteps
+pub mod Library

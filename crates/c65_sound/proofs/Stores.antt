@@ -90,10 +90,10 @@ module _ (D : ℕ → Type 0) where
   either_fits true x y h g = h
   either_fits false x y h g = g
 
-  set_fits : (cells : ℕ → Cell) (o n : ℕ) (new : ℕ → Cell) → CellsFit D cells → CellsFit D new → CellsFit D (set_cells cells o n new)
+  pub set_fits : (cells : ℕ → Cell) (o n : ℕ) (new : ℕ → Cell) → CellsFit D cells → CellsFit D new → CellsFit D (set_cells cells o n new)
   set_fits cells o n new h g q = either_fits (nat_lt q o) (cells q) (if nat_lt (q - o) n then new (q - o) else cells q) (h q) (either_fits (nat_lt (q - o) n) (new (q - o)) (cells q) (g (q - o)) (h q))
 
-  writable_sound : (first : Bool) (x : Block) → BlockFits x → Sound BlockFits (writable first x)
+  pub writable_sound : (first : Bool) (x : Block) → BlockFits x → Sound BlockFits (writable first x)
   writable_sound true x h = h
   writable_sound false x h = if_sound BlockFits x.sealed (Err (By ReadOnly)) (Ok x) tt h
 

@@ -1,5 +1,6 @@
 // Laws of the meaning of well typed trees, each the contract of a function that does nothing.
 ghost use Rattle.c65_sound.specs.Laws.{ExpressionsFit};
+ghost use Rattle.c65_sound.specs.Library.{LibraryFits};
 ghost use Rattle.c65_sound.specs.Statements.{StatementsFit};
 
 /// Where each object that a well typed expression names has a block, and memory names only blocks that there are, the run of the
@@ -12,4 +13,10 @@ pub fn expressions_fit()
 /// of the statement, up to its end or its next call or jump, never comes to trees or values that do not fit.
 pub fn statements_fit()
     ensures { StatementsFit }
+{}
+
+/// On arguments of the types that a function of the library asks for, where memory names only blocks that there are, a call of it goes well
+/// and leaves memory so, or is undefined by a numbered action.
+pub fn library_fits()
+    ensures { LibraryFits }
 {}
