@@ -9,3 +9,4 @@ pub mod Statements
 pub mod Landings
 pub mod StatementSteps
 pub mod Library
+pub mod Programs

@@ -1,6 +1,7 @@
 // Laws of the meaning of well typed trees, each the contract of a function that does nothing.
 ghost use Rattle.c65_sound.specs.Laws.{ExpressionsFit};
 ghost use Rattle.c65_sound.specs.Library.{LibraryFits};
+ghost use Rattle.c65_sound.specs.Programs.{InitialStoreFits};
 ghost use Rattle.c65_sound.specs.Statements.{StatementsFit};
 
 /// Where each object that a well typed expression names has a block, and memory names only blocks that there are, the run of the
@@ -19,4 +20,10 @@ pub fn statements_fit()
 /// and leaves memory so, or is undefined by a numbered action.
 pub fn library_fits()
     ensures { LibraryFits }
+{}
+
+/// Before `main` each function, literal and object of the whole run has a block; and memory names only blocks that there are, where no
+/// initial value points to an automatic object.
+pub fn initial_store_fits()
+    ensures { InitialStoreFits }
 {}

@@ -4,4 +4,4 @@
 
 mod laws;
 
-pub use laws::{expressions_fit, library_fits, statements_fit};
+pub use laws::{expressions_fit, initial_store_fits, library_fits, statements_fit};
