@@ -1,0 +1,10 @@
+pub mod Bodies
+pub mod Causes
+pub mod Declarations
+pub mod Functions
+pub mod Initials
+pub mod Labels
+pub mod Parameters
+pub mod Statements
+pub mod Units
+pub mod Values

@@ -1,0 +1,197 @@
+// Statements (C90 6.6).
+ghost use Rattle.std.specs.Prelude.{◌≡◌, map};
+ghost use Rattle.c65_base.specs.Answers.{Gives};
+ghost use Rattle.c65_ctype.specs.Trees.{type_in};
+ghost use Rattle.c65_ctype.specs.Views.{qty_of};
+ghost use Rattle.c65_csem.specs.Views.{typed_of, stmt_of};
+ghost use Rattle.c65_scope.specs.Scopes.{scope_of};
+ghost use Rattle.c65_tree.specs.Trees.{no_stmts};
+ghost use Rattle.c65_tree.specs.View as v;
+ghost use Rattle.c65_init.specs.Bodies.{body_of};
+ghost use Rattle.c65_init.specs.Statements.{kind_in, head_of, case_in, head_in, switched_on, statement_of, block_in};
+
+use crate::body::{
+    Body, case_value, close_loop, close_switch, default_label, label_number, named_label,
+    open_loop, open_switch, within_any, within_loop,
+};
+use crate::declare::block_locals;
+use crate::values::{folded, given, maybe_test, maybe_unused, test, unused};
+use c65_base::{Pos, Refusal};
+use c65_convert::switch_value;
+use c65_csem::{TExpr, TStmt};
+use c65_ctype::CType;
+use c65_elab::{elab_expr, value_at};
+use c65_ints::IntType;
+use c65_scope::Scope;
+use c65_tree::{Decl, Expr, Stmt, StmtKind};
+use std::alloc::Global;
+
+/// What stands between the parentheses of a `for`.
+#[derive(Drop)]
+pub struct Head {
+    pub first: Option<TExpr>,
+    pub until: Option<TExpr>,
+    pub next: Option<TExpr>,
+}
+
+fn kind_of(e: &TExpr) -> IntType
+    ensures { result ≡ kind_in (type_in (qty_of e.now.ty)) }
+{
+    match &e.ty.ty {
+        CType::Int(kind) => *kind,
+        CType::Void
+        | CType::Pointer(_)
+        | CType::Array(_, _)
+        | CType::Struct(_)
+        | CType::Function(_) => IntType::Int,
+    }
+}
+
+/// The value of a case label, which is entered into its switch.
+#[tactic(auto, using(crate::proofs::Places::place_at))]
+fn case_label(
+    alloc: Global,
+    scope: &mut Scope,
+    body: &mut Body,
+    e: &Expr,
+    pos: Pos,
+) -> Result<i64, Refusal>
+    ensures { Gives (λ z. ((z, body_of body.new), scope_of scope.new)) result (case_in (v.expr_of e.now) pos (body_of body.old) (scope_of scope.old)) }
+{
+    let typed = elab_expr(alloc, scope, e)?;
+    let known = value_at(&typed, e.pos)?;
+    case_value(body, known, pos)
+}
+
+fn for_head(
+    alloc: Global,
+    scope: &mut Scope,
+    first: &Option<Expr>,
+    until: &Option<Expr>,
+    next: &Option<Expr>,
+    pos: Pos,
+) -> Result<Head, Refusal>
+    ensures { Gives (λ x. (head_of x, scope_of scope.new)) result (head_in (v.maybe v.expr_of first.now) (v.maybe v.expr_of until.now) (v.maybe v.expr_of next.now) pos (scope_of scope.old)) }
+{
+    let first = maybe_unused(alloc, scope, first)?;
+    let until = maybe_test(alloc, scope, until, pos)?;
+    let next = maybe_unused(alloc, scope, next)?;
+    Ok(Head { first, until, next })
+}
+
+/// The value on which a switch depends.
+fn switched_on(alloc: Global, scope: &mut Scope, e: &Expr, pos: Pos) -> Result<TExpr, Refusal>
+    ensures { Gives (λ x. (typed_of x, scope_of scope.new)) result (switched_on (v.expr_of e.now) pos (scope_of scope.old)) }
+{
+    let typed = elab_expr(alloc, scope, e)?;
+    Ok(folded(switch_value(alloc, scope.types(), pos, typed)?))
+}
+
+/// A statement.
+#[cycle(statement)]
+pub fn statement(
+    alloc: Global,
+    scope: &mut Scope,
+    body: &mut Body,
+    stmt: &Stmt,
+) -> Result<TStmt, Refusal>
+    ensures { Gives (λ x. ((stmt_of x, body_of body.new), scope_of scope.new)) result (statement_of (v.stmt_of stmt.now) (body_of body.old) (scope_of scope.old)) }
+{
+    let pos = stmt.pos;
+    match &stmt.kind {
+        StmtKind::Label(name, inner) => {
+            let number = label_number(body, *name, pos)?;
+            let inner = statement(alloc, scope, body, inner)?;
+            Ok(TStmt::Label(number, Box::new(alloc, inner)?))
+        }
+        StmtKind::Case(e, inner) => {
+            let known = case_label(alloc, scope, body, e, pos)?;
+            let inner = statement(alloc, scope, body, inner)?;
+            Ok(TStmt::Case(known, Box::new(alloc, inner)?))
+        }
+        StmtKind::Default(inner) => {
+            default_label(body, pos)?;
+            let inner = statement(alloc, scope, body, inner)?;
+            Ok(TStmt::Default(Box::new(alloc, inner)?))
+        }
+        StmtKind::Block(decls, stmts) => {
+            scope.open()?;
+            let made = block(alloc, scope, body, stmts, decls)?;
+            scope.close();
+            Ok(made)
+        }
+        StmtKind::Eval(None) => Ok(TStmt::Empty),
+        StmtKind::Eval(Some(e)) => Ok(TStmt::Eval(unused(alloc, scope, e)?)),
+        StmtKind::If(e, a, None) => {
+            let e = test(alloc, scope, e, pos)?;
+            let a = statement(alloc, scope, body, a)?;
+            let a = Box::new(alloc, a)?;
+            Ok(TStmt::If(e, a, Box::new(alloc, TStmt::Empty)?))
+        }
+        StmtKind::If(e, a, Some(b)) => {
+            let e = test(alloc, scope, e, pos)?;
+            let a = statement(alloc, scope, body, a)?;
+            let b = statement(alloc, scope, body, b)?;
+            let a = Box::new(alloc, a)?;
+            Ok(TStmt::If(e, a, Box::new(alloc, b)?))
+        }
+        StmtKind::Switch(e, inner) => {
+            let e = switched_on(alloc, scope, e, pos)?;
+            open_switch(alloc, body, kind_of(&e))?;
+            let inner = statement(alloc, scope, body, inner)?;
+            close_switch(body);
+            Ok(TStmt::Switch(e, Box::new(alloc, inner)?))
+        }
+        StmtKind::While(e, inner) => {
+            let e = test(alloc, scope, e, pos)?;
+            open_loop(body);
+            let inner = statement(alloc, scope, body, inner)?;
+            close_loop(body);
+            Ok(TStmt::While(e, Box::new(alloc, inner)?))
+        }
+        StmtKind::DoWhile(inner, e) => {
+            open_loop(body);
+            let inner = statement(alloc, scope, body, inner)?;
+            close_loop(body);
+            let e = test(alloc, scope, e, pos)?;
+            Ok(TStmt::DoWhile(Box::new(alloc, inner)?, e))
+        }
+        StmtKind::For(first, until, next, inner) => {
+            let head = for_head(alloc, scope, first, until, next, pos)?;
+            open_loop(body);
+            let inner = statement(alloc, scope, body, inner)?;
+            close_loop(body);
+            let Head { first, until, next } = head;
+            Ok(TStmt::For(first, until, next, Box::new(alloc, inner)?))
+        }
+        StmtKind::Goto(name) => Ok(TStmt::Goto(named_label(body, *name, pos)?)),
+        StmtKind::Continue => {
+            within_loop(body, pos)?;
+            Ok(TStmt::Continue)
+        }
+        StmtKind::Break => {
+            within_any(body, pos)?;
+            Ok(TStmt::Break)
+        }
+        StmtKind::Return(e) => Ok(TStmt::Return(given(alloc, scope, &body.gives.ty, e, pos)?)),
+    }
+}
+
+/// What stands in a block: declarations, and then statements.
+#[cycle(statement)]
+pub fn block(
+    alloc: Global,
+    scope: &mut Scope,
+    body: &mut Body,
+    stmts: &[Stmt],
+    decls: &[Decl],
+) -> Result<TStmt, Refusal>
+    ensures { Gives (λ x. ((stmt_of x, body_of body.new), scope_of scope.new)) result (block_in (map v.decl_of decls.now) (v.stmts_from no_stmts stmts.now) (body_of body.old) (scope_of scope.old)) }
+{
+    let mut locals = block_locals(alloc, scope, decls)?;
+    for stmt in stmts {
+        let typed = statement(alloc, scope, body, stmt)?;
+        locals.stmts.push(typed)?;
+    }
+    Ok(TStmt::block(locals.objects, locals.stmts))
+}
