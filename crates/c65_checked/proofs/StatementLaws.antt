@@ -8,14 +8,14 @@ use Rattle.c65_ctype.specs.Trees.{Ty, void, int, pointer, array, tag, function, 
 use Rattle.c65_ctype.specs.Sizes.{size_of, qualified_size_of, size_in}
 use Rattle.c65_ctype.specs.Tables.{layout_at}
 use Rattle.c65_csem.specs.Trees.{Typed, type_of, MaybeTyped, absent, present, Stmt, empty, eval, set_part, clear, block, if_stmt, while, do_while, for_loop, switch, case, default, label, goto, break, continue, return, Stmts, no_stmts, and_stmts, ObjectTy, UnitTy}
-use Rattle.c65_csem.specs.Places.{is_place, is_promoted, is_scalar, is_tag, is_automatic}
+use Rattle.c65_csem.specs.Places.{is_place, is_promoted, is_scalar, is_tag, is_automatic, are_alike}
 use Rattle.c65_csem.specs.Typed.{IsTyped, IsValue, HasInt}
 use Rattle.c65_csem.specs.Statements.{Context, looping, switching, IsStmt, AreStmts, IsAutomatic, NamesAutomatic, IsInitial, IsSet, IsMaybe, IsCondition, IsMaybeCondition, IsSwitch, IsCase, CanBreak, IsReturn, IsDistinct, cases_of, defaults_of}
 use Rattle.c65_checked.specs.Kinds as kinds
 use Rattle.c65_checked.specs.Expressions as exprs
 use Rattle.c65_checked.specs.Statements as b
 use Rattle.c65_checked.proofs.Tells.{Tells, like, tells_itself, tells_not, tells_unit, tells_never, tells_found, tells_all, both, three, four, either}
-use Rattle.c65_checked.proofs.TypeLaws.{tells_same, is_int_of, int_of_is}
+use Rattle.c65_checked.proofs.TypeLaws.{is_int_of, int_of_is}
 use Rattle.c65_checked.proofs.ExpressionLaws.{tells_typed, tells_value, holds_in}
 use Rattle.c65_checked.proofs.ListLaws.{tells_number, tells_distinct_values}
 
@@ -117,7 +117,7 @@ module _ {S : Type 0} where
 
   tells_return : (u : UnitTy) (c : Context) (e : MaybeTyped) → Tells S (b.is_return u c.gives e) (IsReturn u c e)
   tells_return u c absent = tells_unit
-  tells_return u c (present e) = three (tells_typed u e) (tells_value e) (tells_same (type_of e) c.gives)
+  tells_return u c (present e) = three (tells_typed u e) (tells_value e) (tells_itself (are_alike (type_of e) c.gives))
 
   tells_le : (m n : ℕ) → Tells S (nat_le m n) (m ≤ n)
   tells_le m n = record { yes = λ h. leb-true m n h; only = λ s w. le-leb m n w }

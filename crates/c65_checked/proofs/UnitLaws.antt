@@ -15,7 +15,7 @@ use Rattle.c65_csem.specs.declared.items.Target.{Target}
 use Rattle.c65_csem.specs.declared.items.Target.TheVariants as targets
 use Rattle.c65_csem.specs.declared.items.Library.{Library}
 use Rattle.c65_csem.specs.Trees.{Stmt, ObjectTy, FuncTy, UnitTy}
-use Rattle.c65_csem.specs.Places.{is_scalar, is_sized_in, plain_of, is_automatic}
+use Rattle.c65_csem.specs.Places.{is_scalar, is_sized_in, plain_of, is_automatic, are_alike}
 use Rattle.c65_csem.specs.Typed.{IsResult, result_of}
 use Rattle.c65_csem.specs.Statements.{IsStmt, IsDistinct, IsAutomatic, labels_of}
 use Rattle.c65_csem.specs.Units.{NamesTarget, IsCell, IsInit, may_have_init, HasRoomFor, HasSize, IsObject, IsParam, AreParams, MatchParams, context_of, IsBody, HasBody, IsFunc, IsUnit, IsWhole, is_defined, IsDefined, IsLinked, IsProgram}
@@ -24,7 +24,7 @@ use Rattle.c65_checked.specs.Statements.{measured_in, are_distinct, is_stmt}
 use Rattle.c65_checked.specs.Units as b
 use Rattle.c65_checked.specs.Units.{IsMeasured, IsMeasuredUnit}
 use Rattle.c65_checked.proofs.Tells.{Tells, like, tells_itself, tells_unit, tells_never, tells_found, tells_all, tells_if, from_decides, both, three, four}
-use Rattle.c65_checked.proofs.TypeLaws.{tells_ty, tells_result}
+use Rattle.c65_checked.proofs.TypeLaws.{tells_result}
 use Rattle.c65_checked.proofs.ListLaws.{tells_distinct}
 use Rattle.c65_checked.proofs.StatementLaws.{AreMeasured, measured_is, tells_stmt}
 
@@ -155,11 +155,8 @@ module _ {S : Type 0} where
   tells_params : (u : UnitTy) (is : List ℕ) → Tells S (b.are_params u is) (All (IsParam u) is)
   tells_params u is = tells_all (b.are_params u) (λ i. b.param_by (slice_get u.objects i)) (IsParam u) refl (λ i is. refl) (λ i. tells_param u i) is
 
-  plain_same : (t q : QTy) → Tells S (kinds.same_ty (type_in t) (type_in q)) (plain_of t ≡ plain_of q)
-  plain_same (qual t c v) (qual q d w) = like (tells_ty t q) (λ h. ap (λ (x : Ty). qual x false false) h) (λ h. cc)
-
-  tells_type_of : (u : UnitTy) (i : ℕ) (q : QTy) → Tells S (b.has_type_of (slice_get u.objects i) q) ((o : ObjectTy) × (slice_get u.objects i ≡ Some o) × (plain_of o.ty ≡ plain_of q))
-  tells_type_of u i q = tells_found (λ o. b.has_type_of o q) (λ o. plain_of o.ty ≡ plain_of q) refl (λ o. plain_same o.ty q) (slice_get u.objects i)
+  tells_type_of : (u : UnitTy) (i : ℕ) (q : QTy) → Tells S (b.has_type_of (slice_get u.objects i) q) ((o : ObjectTy) × (slice_get u.objects i ≡ Some o) × IsTrue (are_alike o.ty q))
+  tells_type_of u i q = tells_found (λ o. b.has_type_of o q) (λ o. IsTrue (are_alike o.ty q)) refl (λ o. tells_itself (are_alike o.ty q)) (slice_get u.objects i)
 
   tells_match : (u : UnitTy) (qs : QTys) (is : List ℕ) → Tells S (b.params_match u qs is) (AreParams u qs is)
   tells_match u end [] = tells_unit

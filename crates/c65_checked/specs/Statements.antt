@@ -6,9 +6,9 @@ use Rattle.c65_ctype.specs.Trees.{Ty, void, int, pointer, array, tag, function, 
 use Rattle.c65_ctype.specs.Sizes.{bytes_of, size_in}
 use Rattle.c65_ctype.specs.Tables.{layout_at}
 use Rattle.c65_csem.specs.Trees.{Typed, type_of, MaybeTyped, absent, present, Stmt, empty, eval, set_part, clear, block, if_stmt, while, do_while, for_loop, switch, case, default, label, goto, break, continue, return, Stmts, no_stmts, and_stmts, ObjectTy, UnitTy}
-use Rattle.c65_csem.specs.Places.{is_place, is_tag, is_automatic}
+use Rattle.c65_csem.specs.Places.{is_place, is_tag, is_automatic, are_alike}
 use Rattle.c65_csem.specs.Statements.{Context, looping, switching, cases_of, defaults_of}
-use Rattle.c65_checked.specs.Kinds.{same, int_of, promotes}
+use Rattle.c65_checked.specs.Kinds.{int_of, promotes}
 use Rattle.c65_checked.specs.Expressions.{is_typed, is_value, holds}
 
 abbrev pub has_number : List ℕ → ℕ → Bool
@@ -94,7 +94,7 @@ is_maybe_condition u (present e) = is_condition u e
 
 abbrev pub is_return : UnitTy → QTy → MaybeTyped → Bool
 is_return u t absent = true
-is_return u t (present e) = is_typed u e && is_value e && same (type_of e) t
+is_return u t (present e) = is_typed u e && is_value e && are_alike (type_of e) t
 
 abbrev pub is_selector : UnitTy → Typed → Bool
 is_selector u e = is_typed u e && not (is_place e) && promotes (int_of (type_of e))

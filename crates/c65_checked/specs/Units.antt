@@ -9,11 +9,11 @@ use Rattle.c65_csem.specs.declared.items.Target.{Target}
 use Rattle.c65_csem.specs.declared.items.Target.TheVariants as targets
 use Rattle.c65_csem.specs.declared.items.Library.{Library}
 use Rattle.c65_csem.specs.Trees.{Stmt, ObjectTy, FuncTy, UnitTy}
-use Rattle.c65_csem.specs.Places.{is_scalar, is_sized_in, plain_of, is_automatic}
+use Rattle.c65_csem.specs.Places.{is_scalar, is_sized_in, plain_of, is_automatic, are_alike}
 use Rattle.c65_csem.specs.Typed.{result_of}
 use Rattle.c65_csem.specs.Statements.{labels_of}
 use Rattle.c65_csem.specs.Units.{context_of, may_have_init, is_defined}
-use Rattle.c65_checked.specs.Kinds.{same_ty, is_result}
+use Rattle.c65_checked.specs.Kinds.{is_result}
 use Rattle.c65_checked.specs.Statements.{are_distinct, measured_in, is_stmt}
 
 abbrev pub names_target : UnitTy → Target → Bool
@@ -58,9 +58,9 @@ are_params u (i ∷ is) = if param_by (slice_get u.objects i) then are_params u 
 
 abbrev pub has_type_of : Option ObjectTy → QTy → Bool
 has_type_of None q = false
-has_type_of (Some o) q = same_ty (type_in o.ty) (type_in q)
+has_type_of (Some o) q = are_alike o.ty q
 
--- each parameter has the type that the prototype gives it
+-- each parameter has the type that the prototype gives it, down to pointers
 abbrev pub params_match : UnitTy → QTys → List ℕ → Bool
 params_match u end [] = true
 params_match u end (i ∷ is) = false

@@ -13,7 +13,7 @@ use crate::labels::are_cases;
 use crate::lists::has_number;
 use crate::nodes::{holds, is_value, object};
 use crate::sizes::{flat_bytes, is_inside, measured};
-use crate::types::{int_of, is_plain_of, is_promoted_int};
+use crate::types::{are_alike, int_of, is_promoted_int};
 use c65_csem::{Class, Parts, TExpr, TObject, TStmt, is_tag};
 use c65_ctype::{QType, Types};
 use c65_ints::IntType;
@@ -112,7 +112,7 @@ fn is_return(parts: &Parts, gives: &QType, e: &Option<TExpr>) -> bool
     ensures { result ≡ Statements.is_return (unit_of parts.now) (Places.plain_of (qty_of gives.now)) (maybe_of e.now) }
 {
     match e {
-        Some(e) => is_typed(parts, e) && is_value(e) && is_plain_of(&e.ty, gives),
+        Some(e) => is_typed(parts, e) && is_value(e) && are_alike(&e.ty, gives),
         None => true,
     }
 }

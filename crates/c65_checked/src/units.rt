@@ -11,10 +11,9 @@ ghost use Rattle.c65_checked.specs.Units.{IsMeasuredUnit};
 use crate::labels::add_labels;
 use crate::lists::are_distinct;
 use crate::nodes::{func, object};
-use crate::same::same_plain;
 use crate::sizes::measured;
 use crate::stmts::{Around, is_automatic, is_stmt};
-use crate::types::is_void;
+use crate::types::{are_alike, is_void};
 use c65_csem::{
     Cell, Class, Parts, TFunc, TObject, TProgram, TStmt, TUnit, Target, is_scalar, is_sized,
 };
@@ -132,7 +131,7 @@ fn has_type_of(object: Option<&TObject>, q: &QType) -> bool
     ensures { result ≡ Units.has_type_of (option_map object_of (option_copied object.entry)) (qty_of q.now) }
 {
     match object {
-        Some(object) => same_plain(&object.ty.ty, &q.ty),
+        Some(object) => are_alike(&object.ty, q),
         None => false,
     }
 }

@@ -10,7 +10,7 @@ use Rattle.c65_csem.specs.declared.items.Target.{Target}
 use Rattle.c65_csem.specs.declared.items.Target.TheVariants as targets
 use Rattle.c65_csem.specs.declared.items.Library.{Library}
 use Rattle.c65_csem.specs.Trees.{Stmt, ObjectTy, FuncTy, UnitTy}
-use Rattle.c65_csem.specs.Places.{is_scalar, is_sized_in, plain_of}
+use Rattle.c65_csem.specs.Places.{is_scalar, is_sized_in, plain_of, are_alike}
 use Rattle.c65_csem.specs.Typed.{IsResult, result_of}
 use Rattle.c65_csem.specs.Statements.{Context, IsStmt, IsDistinct, labels_of, IsAutomatic}
 
@@ -56,12 +56,13 @@ pub record IsParam (u : UnitTy) (i : ℕ) : Type 0 where
   pub automatic : IsAutomatic u i object
   pub scalar : IsTrue (is_scalar (type_in object.ty))
 
--- each parameter has the type that the prototype gives it
+-- Each parameter has the type that the prototype gives it, down to pointers: a later declaration may have
+-- completed what they point to (C90 6.5.4.3, 6.1.2.6).
 abbrev pub AreParams : UnitTy → QTys → List ℕ → Type 0
 AreParams u end [] = Unit {0}
 AreParams u end (i ∷ is) = ⊥
 AreParams u (more q qs) [] = ⊥
-AreParams u (more q qs) (i ∷ is) = (o : ObjectTy) × (slice_get u.objects i ≡ Some o) × (plain_of o.ty ≡ plain_of q) × AreParams u qs is
+AreParams u (more q qs) (i ∷ is) = (o : ObjectTy) × (slice_get u.objects i ≡ Some o) × IsTrue (are_alike o.ty q) × AreParams u qs is
 
 abbrev pub MatchParams : UnitTy → Fn → List ℕ → Type 0
 MatchParams u (fn q unknown variadic cdecl) is = Unit {0}
