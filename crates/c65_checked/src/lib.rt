@@ -14,4 +14,4 @@ mod stmts;
 mod types;
 mod units;
 
-pub use units::{is_program, is_unit, program_from, unit_from};
+pub use units::{is_program, is_unit, program_from, prototype_matches, unit_from};

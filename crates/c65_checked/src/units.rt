@@ -150,7 +150,9 @@ fn params_match(parts: &Parts, types: &[QType], params: &[u32]) -> bool
     types.len() == params.len()
 }
 
-fn prototype_matches(parts: &Parts, function: &FnType, params: &[u32]) -> bool
+/// Whether parameters, by the numbers of their objects, have the types that a function's prototype
+/// gives them, down to pointers; so they have where there is no prototype. It takes no memory.
+pub fn prototype_matches(parts: &Parts, function: &FnType, params: &[u32]) -> bool
     ensures { result ≡ Units.prototype_matches (unit_of parts.now) (fn_of function.now) params.now }
 {
     match &function.params {
