@@ -10,3 +10,4 @@ pub mod Landings
 pub mod StatementSteps
 pub mod Library
 pub mod Programs
+pub mod Calls

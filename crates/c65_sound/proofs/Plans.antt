@@ -1,31 +1,35 @@
 -- The work of a well typed expression finds the values that it takes, and gives one of its kind.
-use Rattle.std.proofs.Common.{◌≡◌, ℕ, Bool, true, false, List, ◌∷◌, Some, None, Option, IsTrue, refl, sym, ap, ◌∙◌, subst}
+use Rattle.std.proofs.Common.{◌≡◌, ℕ, ℤ, pos, negsuc, neg_ℤ, ◌/◌, ◌≤ℤ◌, Bool, true, false, if◌then◌else◌, List, ◌∷◌, Some, None, Option, IsTrue, refl, sym, ap, ◌∙◌, subst, arith}
+use Rattle.std.specs.Prelude.{⊤}
+use Rattle.std.proofs.lemmas.Int.{ints}
 use Rattle.c65_base.specs.declared.operators.UnaryOp.{UnaryOp}
 use Rattle.c65_base.specs.declared.operators.UnaryOp.TheVariants.{Neg, BitNot, Not}
 use Rattle.c65_base.specs.declared.operators.BinaryOp.{BinaryOp}
 use Rattle.c65_base.specs.declared.operators.BinaryOp.TheVariants.{Mul, Div, Rem, Add, Sub, Shl, Shr, Lt, Gt, Le, Ge, Eq, Ne, BitAnd, BitXor, BitOr}
 use Rattle.c65_ints.specs.declared.types.IntType.{IntType}
 use Rattle.c65_ints.specs.declared.types.IntType.TheVariants.{Int}
-use Rattle.c65_ctype.specs.Trees.{Ty, void, int, pointer, array, tag, function, QTy, qual, type_in}
+use Rattle.c65_ints.specs.Ranges.{is_signed_of, modulus_of, InRange}
+use Rattle.c65_ctype.specs.Trees.{Ty, void, int, pointer, array, tag, function, QTy, qual, type_in, Fn, fn, unknown, known, QTys, end, more}
 use Rattle.c65_ctype.specs.Sizes.{size_of}
 use Rattle.c65_csem.specs.Trees.{Typed, node, Node, constant, null, literal, object, func, deref, member, load, address, decay, convert, unary, binary, both, either, choice, comma, assign, assign_op, assign_step, step, copy, call, Nodes, none, some, type_of, UnitTy}
 use Rattle.c65_csem.specs.Places.{is_place, plain, plain_of, qualified, is_scalar, is_tag, member_at}
 use Rattle.c65_csem.specs.Typed as ty
-use Rattle.c65_csem.specs.Typed.{HasInt, IsInt, AreAlike, AreShifted, AreCompared, AreAdded, AreSubtracted, Operands, Operand, Computes, Steps, Converts, scalar, to_void, decayed, IsMember, IsArm, IsTyped, IsNode, AreTyped}
+use Rattle.c65_csem.specs.Typed.{HasInt, IsInt, AreAlike, AreShifted, AreCompared, AreAdded, AreSubtracted, Operands, Operand, Computes, Steps, Converts, scalar, to_void, decayed, IsMember, IsArm, ArePassed, AreGiven, FitsFn, IsResult, IsTyped, IsNode, AreTyped}
 use Rattle.c65_meaning.specs.Store.{Whole, Null, Place, Shape, Number, Field, Pointer, Area}
 use Rattle.c65_meaning.specs.Shapes.{bare_type, types_of, shape_of, place_shape, offset_of, field_shape, member_shape, literal_block}
 use Rattle.c65_meaning.specs.Operators.{is_post}
-use Rattle.c65_meaning.specs.Fits.{IsTarget}
+use Rattle.c65_meaning.specs.Fits.{IsTarget, compares, calculated_shape}
+use Rattle.c65_meaning.specs.Calls.{passed_by, passed_to}
 use Rattle.c65_meaning.specs.Items.{Item, Follow, Move, Fetch, Keep, Change, Apply1, Apply2, Both, Either, Choose, Drop, Put, Peek, Bump, Carry, Invoke, put_step, plan, plan_node, plan_all}
 use Rattle.c65_meaning.specs.State.{Scene}
 use Rattle.c65_sound.specs.Laws.{AreThere, AreThereIn, AreAllThere}
-use Rattle.c65_sound.proofs.Stacks.{Kind, arithmetic, pointing, naming, free, kind_in, kind_at, kind_if, kind_of, Below, IsScalarShape, Operates, is_move, is_add, meets, Combines, joined, Becomes, with_kind, Suits, D, Does, Takes, Out}
+use Rattle.c65_sound.proofs.Stacks.{Kind, arithmetic, pointing, naming, free, kind_in, kind_at, kind_if, kind_of, Below, IsScalarShape, Operates, is_move, is_add, meets, Combines, joined, turned_kind, Becomes, with_kind, IsOfSign, Suits, Setting, IsCallee, pushed, D, Does, Takes, Out}
 use Rattle.c65_sound.proofs.Values.{raise}
 
 -- ---- kinds of trees
 
 pub below_refl : (x : Kind) → Below x x
-below_refl arithmetic = tt
+below_refl (arithmetic s) = refl
 below_refl pointing = tt
 below_refl naming = tt
 below_refl free = tt
@@ -36,7 +40,7 @@ below_same x y e = subst (Below x) e (below_refl x)
 from_same : (x y z : Kind) → x ≡ y → Below y z → Below x z
 from_same x y z e b = subst (λ (k : Kind). Below k z) (sym e) b
 
-value_kind : (a : Typed) → is_place a ≡ false → kind_of a ≡ kind_at (type_in (type_of a))
+pub value_kind : (a : Typed) → is_place a ≡ false → kind_of a ≡ kind_at (type_in (type_of a))
 value_kind a h = ap (λ (b : Bool). kind_if b (type_in (type_of a))) h
 
 pub below_value : (a : Typed) (t : QTy) → is_place a ≡ false → type_of a ≡ t → Below (kind_of a) (kind_at (type_in t))
@@ -79,7 +83,7 @@ arm_below t a x (ty.nothing e f) b = all_below (kind_of a) x (subst (λ (q : QTy
   where
     all_below : (y x : Kind) → Below free x → Below y x
     all_below y free b = tt
-    all_below y arithmetic b = absurd b
+    all_below y (arithmetic s) b = absurd b
     all_below y pointing b = absurd b
     all_below y naming b = absurd b
 
@@ -184,11 +188,11 @@ module _ (u : UnitTy) where
     kind : Kind
     below : Below (kind_of a) kind
     operates : Operates op (lies (type_of a)) kind
-    result : kind_at (type_in t) ≡ arithmetic
+    result : kind_at (type_in t) ≡ turned_kind op (lies (type_of a))
 
   applied : (op : UnaryOp) (t : QTy) (a : Typed) → is_place a ≡ false → Operand op t (type_of a) → Applied op t a
-  applied Neg t a h o = record { kind = arithmetic; below = below_value a (plain (int o.0.0)) h o.0.1; operates = subst (λ (q : QTy). Operates Neg (lies q) arithmetic) (sym o.0.1) tt; result = ap (λ (q : QTy). kind_at (type_in q)) (o.1 ∙ o.0.1) }
-  applied BitNot t a h o = record { kind = arithmetic; below = below_value a (plain (int o.0.0)) h o.0.1; operates = subst (λ (q : QTy). Operates BitNot (lies q) arithmetic) (sym o.0.1) tt; result = ap (λ (q : QTy). kind_at (type_in q)) (o.1 ∙ o.0.1) }
+  applied Neg t a h o = record { kind = arithmetic (is_signed_of o.0.0); below = below_value a (plain (int o.0.0)) h o.0.1; operates = subst (λ (q : QTy). Operates Neg (lies q) (arithmetic (is_signed_of o.0.0))) (sym o.0.1) tt; result = subst (λ (q : QTy). kind_at (type_in t) ≡ kind_in (lies q)) (sym o.0.1) (ap (λ (q : QTy). kind_at (type_in q)) (o.1 ∙ o.0.1)) }
+  applied BitNot t a h o = record { kind = arithmetic (is_signed_of o.0.0); below = below_value a (plain (int o.0.0)) h o.0.1; operates = subst (λ (q : QTy). Operates BitNot (lies q) (arithmetic (is_signed_of o.0.0))) (sym o.0.1) tt; result = subst (λ (q : QTy). kind_at (type_in t) ≡ kind_in (lies q)) (sym o.0.1) (ap (λ (q : QTy). kind_at (type_in q)) (o.1 ∙ o.0.1)) }
   applied Not t a h o = record { kind = kind_of a; below = below_refl (kind_of a); operates = tt; result = ap (λ (q : QTy). kind_at (type_in q)) o.0 }
   applied _ t a h o = absurd o
 
@@ -196,19 +200,22 @@ module _ (u : UnitTy) where
     combines : Combines op (lies a) (lies b)
     left : kind_at (type_in a) ≡ kind_in (lies a)
     right : kind_at (type_in b) ≡ kind_in (lies b)
-    result : joined (lies a) (lies b) ≡ kind_at (type_in t)
+    result : joined op (lies a) (lies b) ≡ kind_at (type_in t)
 
   joins_as : (op : BinaryOp) (t a b q r s : QTy) → t ≡ q → a ≡ r → b ≡ s → Joins op q r s → Joins op t a b
   joins_as op t a b q r s e f g j = subst (λ (x : QTy). Joins op x a b) (sym e) (subst (λ (x : QTy). Joins op q x b) (sym f) (subst (λ (x : QTy). Joins op q r x) (sym g) j))
 
-  numbers : (op : BinaryOp) (t a b : QTy) (k i j : IntType) → HasInt t k → HasInt a i → HasInt b j → Joins op t a b
-  numbers op t a b k i j e f g = joins_as op t a b (plain (int k)) (plain (int i)) (plain (int j)) e f g (record { combines = tt; left = refl; right = refl; result = refl })
+  numbers : (op : BinaryOp) (t a b : QTy) (k i j : IntType) → calculated_shape (compares op) i ≡ Number k → HasInt t k → HasInt a i → HasInt b j → Joins op t a b
+  numbers op t a b k i j r e f g = joins_as op t a b (plain (int k)) (plain (int i)) (plain (int j)) e f g (record { combines = tt; left = refl; right = refl; result = ap kind_in r })
 
-  alike : (op : BinaryOp) (t a b : QTy) → AreAlike t a b → Joins op t a b
-  alike op t a b h = numbers op t a b h.kind h.kind h.kind h.result h.left h.right
+  computed : (op : BinaryOp) (i : IntType) → compares op ≡ false → calculated_shape (compares op) i ≡ Number i
+  computed op i e = ap (λ (b : Bool). calculated_shape b i) e
 
-  shifted : (op : BinaryOp) (t a b : QTy) → AreShifted t a b → Joins op t a b
-  shifted op t a b h = numbers op t a b h.left.0 h.left.0 h.right.0 (h.result ∙ h.left.1) h.left.1 h.right.1
+  alike : (op : BinaryOp) (t a b : QTy) → compares op ≡ false → AreAlike t a b → Joins op t a b
+  alike op t a b n h = numbers op t a b h.kind h.kind h.kind (computed op h.kind n) h.result h.left h.right
+
+  shifted : (op : BinaryOp) (t a b : QTy) → compares op ≡ false → AreShifted t a b → Joins op t a b
+  shifted op t a b n h = numbers op t a b h.left.0 h.left.0 h.right.0 (computed op h.left.0 n) (h.result ∙ h.left.1) h.left.1 h.right.1
 
   moved_first : (op : BinaryOp) (t a b q : QTy) (k : IntType) → IsTrue (is_move op) → a ≡ plain (pointer q) → HasInt b k → t ≡ a → Joins op t a b
   moved_first op t a b q k m e f g = joins_as op t a b (plain (pointer q)) (plain (pointer q)) (plain (int k)) (g ∙ e) e f (record { combines = m; left = refl; right = refl; result = refl })
@@ -216,48 +223,91 @@ module _ (u : UnitTy) where
   moved_last : (op : BinaryOp) (t a b q : QTy) (k : IntType) → IsTrue (is_add op) → HasInt a k → b ≡ plain (pointer q) → t ≡ b → Joins op t a b
   moved_last op t a b q k m e f g = joins_as op t a b (plain (pointer q)) (plain (int k)) (plain (pointer q)) (g ∙ f) e f (record { combines = m; left = refl; right = refl; result = refl })
 
-  two_pointers : (op : BinaryOp) (t a b q r : QTy) (k : IntType) → IsTrue (meets op) → HasInt t k → a ≡ plain (pointer q) → b ≡ plain (pointer r) → Joins op t a b
-  two_pointers op t a b q r k m e f g = joins_as op t a b (plain (int k)) (plain (pointer q)) (plain (pointer r)) e f g (record { combines = m; left = refl; right = refl; result = refl })
+  two_pointers : (op : BinaryOp) (t a b q r : QTy) → IsTrue (meets op) → HasInt t Int → a ≡ plain (pointer q) → b ≡ plain (pointer r) → Joins op t a b
+  two_pointers op t a b q r m e f g = joins_as op t a b (plain (int Int)) (plain (pointer q)) (plain (pointer r)) e f g (record { combines = m; left = refl; right = refl; result = refl })
 
-  compared : (op : BinaryOp) (t a b : QTy) → IsTrue (meets op) → AreCompared t a b → Joins op t a b
-  compared op t a b m (ty.AreCompared.numbers k h e f g) = numbers op t a b Int k k e f g
-  compared op t a b m (ty.AreCompared.pointers e f g) = two_pointers op t a b f.0 g.0 Int m e f.1 g.1
+  compared : (op : BinaryOp) (t a b : QTy) → IsTrue (meets op) → compares op ≡ true → AreCompared t a b → Joins op t a b
+  compared op t a b m n (ty.AreCompared.numbers k h e f g) = numbers op t a b Int k k (ap (λ (w : Bool). calculated_shape w k) n) e f g
+  compared op t a b m n (ty.AreCompared.pointers e f g) = two_pointers op t a b f.0 g.0 m e f.1 g.1
 
   added : (t a b : QTy) → AreAdded u t a b → Joins Add t a b
-  added t a b (ty.AreAdded.numbers h) = alike Add t a b h
+  added t a b (ty.AreAdded.numbers h) = alike Add t a b refl h
   added t a b (ty.AreAdded.pointer_first h i e) = moved_first Add t a b h.0.0 i.0 refl h.0.1 i.1 e
   added t a b (ty.AreAdded.pointer_last i h e) = moved_last Add t a b h.0.0 i.0 refl i.1 h.0.1 e
 
   subtracted : (t a b : QTy) → AreSubtracted u t a b → Joins Sub t a b
-  subtracted t a b (ty.AreSubtracted.numbers h) = alike Sub t a b h
+  subtracted t a b (ty.AreSubtracted.numbers h) = alike Sub t a b refl h
   subtracted t a b (ty.AreSubtracted.pointer_first h i e) = moved_first Sub t a b h.0.0 i.0 refl h.0.1 i.1 e
-  subtracted t a b (ty.AreSubtracted.pointers h g e) = two_pointers Sub t a b h.0.0 g.0.0 Int refl e h.0.1 g.0.1
+  subtracted t a b (ty.AreSubtracted.pointers h g e) = two_pointers Sub t a b h.0.0 g.0.0 refl e h.0.1 g.0.1
 
   joins : (op : BinaryOp) (t a b : QTy) → Operands u op t a b → Joins op t a b
-  joins Mul t a b h = alike Mul t a b h
-  joins Div t a b h = alike Div t a b h
-  joins Rem t a b h = alike Rem t a b h
+  joins Mul t a b h = alike Mul t a b refl h
+  joins Div t a b h = alike Div t a b refl h
+  joins Rem t a b h = alike Rem t a b refl h
   joins Add t a b h = added t a b h
   joins Sub t a b h = subtracted t a b h
-  joins Shl t a b h = shifted Shl t a b h
-  joins Shr t a b h = shifted Shr t a b h
-  joins Lt t a b h = compared Lt t a b refl h
-  joins Gt t a b h = compared Gt t a b refl h
-  joins Le t a b h = compared Le t a b refl h
-  joins Ge t a b h = compared Ge t a b refl h
-  joins Eq t a b h = compared Eq t a b refl h
-  joins Ne t a b h = compared Ne t a b refl h
-  joins BitAnd t a b h = alike BitAnd t a b h
-  joins BitXor t a b h = alike BitXor t a b h
-  joins BitOr t a b h = alike BitOr t a b h
+  joins Shl t a b h = shifted Shl t a b refl h
+  joins Shr t a b h = shifted Shr t a b refl h
+  joins Lt t a b h = compared Lt t a b refl refl h
+  joins Gt t a b h = compared Gt t a b refl refl h
+  joins Le t a b h = compared Le t a b refl refl h
+  joins Ge t a b h = compared Ge t a b refl refl h
+  joins Eq t a b h = compared Eq t a b refl refl h
+  joins Ne t a b h = compared Ne t a b refl refl h
+  joins BitAnd t a b h = alike BitAnd t a b refl h
+  joins BitXor t a b h = alike BitXor t a b refl h
+  joins BitOr t a b h = alike BitOr t a b refl h
 
-  int_below : (t : QTy) (k : IntType) (x : Kind) → HasInt t k → Below (kind_at (type_in t)) x → Below arithmetic x
+  int_below : (t : QTy) (k : IntType) (x : Kind) → HasInt t k → Below (kind_at (type_in t)) x → Below (arithmetic (is_signed_of k)) x
   int_below t k x e b = subst (λ (q : QTy). Below (kind_at (type_in q)) x) e b
+
+-- ---- numbers and calls
+
+in_sign : (k : IntType) (z : ℤ) → InRange k z → IsOfSign (is_signed_of k) z
+in_sign k z r = tested (is_signed_of k) z r.low
+  where
+    tested : (s : Bool) (y : ℤ) → (if s then neg_ℤ (pos (modulus_of k / 2)) else pos 0) ≤ℤ y → IsOfSign s y
+    tested true y h = tt
+    tested false (pos n) h = tt
+    tested false (negsuc n) h = absurd (omega (arith, ints, h))
+
+-- arguments that are no places
+abbrev AreValues : Nodes → Type 0
+AreValues none = ⊤
+AreValues (some e es) = (is_place e ≡ false) × AreValues es
+
+passed_values : (es : Nodes) → ArePassed es → AreValues es
+passed_values none h = tt
+passed_values (some e es) h = (h.1, passed_values es h.2)
+
+given_values : (qs : QTys) (v : Bool) (es : Nodes) → AreGiven qs v es → AreValues es
+given_values end v none h = tt
+given_values end true (some e es) h = passed_values (some e es) h
+given_values end false (some e es) h = absurd h
+given_values (more q qs) v none h = absurd h
+given_values (more q qs) v (some e es) h = (h.1.1, given_values qs v es h.2)
+
+fn_values : (f : Fn) (es : Nodes) → FitsFn f es → AreValues es
+fn_values (fn q unknown v cdecl) es h = passed_values es h
+fn_values (fn q (known qs) v cdecl) es h = given_values qs v es h
+
+-- what a call passes by its own prototype has the types of the arguments
+passed_same : (qs : QTys) (v : Bool) (es : Nodes) → AreGiven qs v es → passed_by qs (types_of es) ≡ types_of es
+passed_same end v es h = refl
+passed_same (more q qs) v none h = absurd h
+passed_same (more q qs) v (some e es) h = same (type_in q) (bare_type e) (passed_by qs (types_of es)) (types_of es) (sym (plain_type q) ∙ sym (ap type_in h.0)) (passed_same qs v es h.2)
+  where
+    same : (t s : Ty) (ts ss : List Ty) → t ≡ s → ts ≡ ss → t ∷ ts ≡ s ∷ ss
+    same t s ts ss e f = subst (λ (x : Ty). t ∷ ts ≡ x ∷ ss) e (ap (λ (xs : List Ty). t ∷ xs) f)
+
+passed_to_same : (f : Fn) (es : Nodes) → FitsFn f es → passed_to (Some f) (types_of es) ≡ types_of es
+passed_to_same (fn q unknown v cdecl) es h = refl
+passed_to_same (fn q (known qs) v cdecl) es h = passed_same qs v es h
 
 -- ---- the work
 
-module _ (S : Type 0) (u : UnitTy) (c : Scene) where
-  put_takes : (t : Bool) (s : Shape) (x : Kind) (k : List Item) (ks : List Kind) → IsScalarShape s → Below (kind_in s) x → Takes S u c k (x ∷ ks) → Takes S u c (put_step t s ∷ k) (kind_in s ∷ naming ∷ with_kind t x ks)
+module _ (m : Setting) (u : UnitTy) (c : Scene) where
+  put_takes : (t : Bool) (s : Shape) (x : Kind) (k : List Item) (ks : List Kind) → IsScalarShape s → Below (kind_in s) x → Takes m u c k (x ∷ ks) → Takes m u c (put_step t s ∷ k) (kind_in s ∷ naming ∷ with_kind t x ks)
   put_takes true s x k ks i b g = g
   put_takes false s x k ks i b g = (i, (x, b, g))
 
@@ -268,17 +318,17 @@ module _ (S : Type 0) (u : UnitTy) (c : Scene) where
   shape a = shape_of u.types (bare_type a)
 
   mutual
-    pub takes : (e : Typed) (x : Kind) (k : List Item) (ks : List Kind) → IsTyped u e → AreThere u c e → Below (kind_of e) x → Takes S u c k (x ∷ ks) → Takes S u c (plan u e k) ks
+    pub takes : (e : Typed) (x : Kind) (k : List Item) (ks : List Kind) → IsTyped u e → AreThere u c e → Below (kind_of e) x → Takes m u c k (x ∷ ks) → Takes m u c (plan u e k) ks
     takes (node t n) x k ks w h b g = node_takes t n x k ks w h b g
 
-    node_takes : (t : QTy) (n : Node) (x : Kind) (k : List Item) (ks : List Kind) → IsNode u t n → AreThereIn u c n → Below (kind_of (node t n)) x → Takes S u c k (x ∷ ks) → Takes S u c (plan_node u t n k) ks
-    node_takes t (constant z) x k ks w h b g = (x, raise (D u c) (kind_at (type_in t)) x (Whole z) b (subst (λ (q : QTy). Suits (D u c) (kind_at (type_in q)) (Whole z)) (sym w.1) tt), g)
+    node_takes : (t : QTy) (n : Node) (x : Kind) (k : List Item) (ks : List Kind) → IsNode u t n → AreThereIn u c n → Below (kind_of (node t n)) x → Takes m u c k (x ∷ ks) → Takes m u c (plan_node u t n k) ks
+    node_takes t (constant z) x k ks w h b g = (x, raise (D u c) (kind_at (type_in t)) x (Whole z) b (subst (λ (q : QTy). Suits (D u c) (kind_at (type_in q)) (Whole z)) (sym w.1) (in_sign w.0 z w.2)), g)
     node_takes t null x k ks w h b g = (x, raise (D u c) (kind_at (type_in t)) x Null b (subst (λ (q : QTy). Suits (D u c) (kind_at (type_in q)) Null) (sym w.1) tt), g)
     node_takes t (literal l) x k ks w h b g = (x, raise (D u c) naming x (Place (literal_block u l) 0) b h, g)
     node_takes t (object i) x k ks w h b g = (h, (x, b, g))
     node_takes t (func f) x k ks w h b g = (x, raise (D u c) naming x (Place f 0) b h, g)
     node_takes t (deref a) x k ks w h b g = takes a pointing (Follow ∷ k) ks w.0 h (below_value a (plain (pointer t)) w.1 w.2) (x, b, g)
-    node_takes t (member a m) x k ks w h b g = takes a naming (Move (offset_of (member_at u.types (bare_type a) m)) ∷ k) ks w.0 h (below_tag a (member_tag u t (type_of a) m w.1)) (x, b, g)
+    node_takes t (member a n) x k ks w h b g = takes a naming (Move (offset_of (member_at u.types (bare_type a) n)) ∷ k) ks w.0 h (below_tag a (member_tag u t (type_of a) n w.1)) (x, b, g)
     node_takes t (load a) x k ks w h b g = takes a naming (Fetch (at a) ∷ k) ks w.0 h (below_place a w.1.0) (scalar_place u a w.0 w.1.1, (x, held u t a x w.0 w.1.1 w.2 b, g))
     node_takes t (address a) x k ks w h b g = takes a naming (Keep ∷ k) ks w.0 h (below_place a w.1.place) (x, subst (λ (q : QTy). Below (kind_at (type_in q)) x) w.2 b, g)
     node_takes t (decay a) x k ks w h b g = takes a naming (Keep ∷ k) ks w.0 h (below_place a w.1) (x, subst (λ (y : Kind). Below y x) (decayed_kind (type_of a) t w.2) b, g)
@@ -289,7 +339,7 @@ module _ (S : Type 0) (u : UnitTy) (c : Scene) where
     node_takes t (binary op a d) x k ks w h b g =
         let j = joins u op t (type_of a) (type_of d) w.4 in
         takes a (kind_at (bare_type a)) (plan u d (Apply2 op (shape a) (shape d) ∷ k)) ks w.0 h.0 (below_value a (type_of a) w.2 refl)
-        (takes d (kind_at (bare_type d)) (Apply2 op (shape a) (shape d) ∷ k) (kind_at (bare_type a) ∷ ks) w.1 h.1 (below_value d (type_of d) w.3 refl) (j.combines, j.right, j.left, (x, from_same (joined (shape a) (shape d)) (kind_at (type_in t)) x j.result b, g)))
+        (takes d (kind_at (bare_type d)) (Apply2 op (shape a) (shape d) ∷ k) (kind_at (bare_type a) ∷ ks) w.1 h.1 (below_value d (type_of d) w.3 refl) (j.combines, j.right, j.left, (x, from_same (joined op (shape a) (shape d)) (kind_at (type_in t)) x j.result b, g)))
     node_takes t (both a d) x k ks w h b g = takes a (kind_of a) (Both d ∷ k) ks w.0 h.0 (below_refl (kind_of a)) (record { typed = w.1; there = h.1 }, (x, int_below u t Int x w.2 b, g))
     node_takes t (either a d) x k ks w h b g = takes a (kind_of a) (Either d ∷ k) ks w.0 h.0 (below_refl (kind_of a)) (record { typed = w.1; there = h.1 }, (x, int_below u t Int x w.2 b, g))
     node_takes t (choice i a d) x k ks w h b g = takes i (kind_of i) (Choose a d ∷ k) ks w.0 h.0 (below_refl (kind_of i)) (x, (record { typed = w.1; there = h.1 }, arm_below t a x w.4 b), (record { typed = w.2; there = h.2 }, arm_below t d x w.5 b), g)
@@ -302,19 +352,19 @@ module _ (S : Type 0) (u : UnitTy) (c : Scene) where
         takes a naming (Peek (at a) (Number ct) ∷ plan u d (Apply2 op (Number ct) (shape d) ∷ Put (at a) ∷ k)) ks w.0 h.0 (below_place a w.2.0) (
           scalar_place u a w.0 w.2.1,
           tt,
-          takes d arithmetic (Apply2 op (Number ct) (shape d) ∷ Put (at a) ∷ k) (arithmetic ∷ naming ∷ ks) w.1 h.1 (below_value d (plain (int i.0)) w.5 i.1)
-              (subst (λ (s : Shape). Does S u c (Apply2 op (Number ct) s) (Takes S u c (Put (at a) ∷ k)) (Out S u c (Put (at a) ∷ k)) (arithmetic ∷ arithmetic ∷ naming ∷ ks)) (sym (int_shape u (type_of d) i.0 i.1))
-              (tt, refl, refl, (arithmetic, tt, (scalar_place u a w.0 w.2.1, (x, held u t a x w.0 w.2.1 w.4 b, g))))),
+          takes d (kind_at (int i.0)) (Apply2 op (Number ct) (shape d) ∷ Put (at a) ∷ k) (kind_in (Number ct) ∷ naming ∷ ks) w.1 h.1 (below_value d (plain (int i.0)) w.5 i.1)
+              (subst (λ (s : Shape). Does m u c (Apply2 op (Number ct) s) (Put (at a) ∷ k) (Takes m u c (Put (at a) ∷ k)) (Out m u c (Put (at a) ∷ k)) (kind_at (int i.0) ∷ kind_in (Number ct) ∷ naming ∷ ks)) (sym (int_shape u (type_of d) i.0 i.1))
+              (tt, refl, refl, (joined op (Number ct) (Number i.0), below_refl (joined op (Number ct) (Number i.0)), (scalar_place u a w.0 w.2.1, (x, held u t a x w.0 w.2.1 w.4 b, g))))),
         )
     node_takes t (assign_step op a d) x k ks w h b g =
         let is : type_in (type_of a) ≡ pointer w.4.0.0 = same_type t (type_of a) w.3 ∙ ap type_in w.4.0.1 in
         let low : Below pointing x = subst (λ (q : QTy). Below (kind_at (type_in q)) x) w.4.0.1 b in
         takes a naming (Peek (shape a) (shape a) ∷ plan u d (Apply2 op (shape a) (shape d) ∷ Put (shape a) ∷ k)) ks w.0 h.0 (below_place a w.2.0)
-        (subst (λ (y : Ty). Takes S u c (Peek (shape_of u.types y) (shape_of u.types y) ∷ plan u d (Apply2 op (shape_of u.types y) (shape d) ∷ Put (shape_of u.types y) ∷ k)) (naming ∷ ks)) (sym is) (
+        (subst (λ (y : Ty). Takes m u c (Peek (shape_of u.types y) (shape_of u.types y) ∷ plan u d (Apply2 op (shape_of u.types y) (shape d) ∷ Put (shape_of u.types y) ∷ k)) (naming ∷ ks)) (sym is) (
           tt,
           tt,
-          takes d arithmetic (Apply2 op (Pointer (size_of u.types (type_in w.4.0.0))) (shape d) ∷ Put (Pointer (size_of u.types (type_in w.4.0.0))) ∷ k) (pointing ∷ naming ∷ ks) w.1 h.1 (below_value d (plain (int w.6.0)) w.5 w.6.1)
-              (subst (λ (s : Shape). Does S u c (Apply2 op (Pointer (size_of u.types (type_in w.4.0.0))) s) (Takes S u c (Put (Pointer (size_of u.types (type_in w.4.0.0))) ∷ k)) (Out S u c (Put (Pointer (size_of u.types (type_in w.4.0.0))) ∷ k)) (arithmetic ∷ pointing ∷ naming ∷ ks)) (sym (int_shape u (type_of d) w.6.0 w.6.1))
+          takes d (kind_at (int w.6.0)) (Apply2 op (Pointer (size_of u.types (type_in w.4.0.0))) (shape d) ∷ Put (Pointer (size_of u.types (type_in w.4.0.0))) ∷ k) (pointing ∷ naming ∷ ks) w.1 h.1 (below_value d (plain (int w.6.0)) w.5 w.6.1)
+              (subst (λ (s : Shape). Does m u c (Apply2 op (Pointer (size_of u.types (type_in w.4.0.0))) s) (Put (Pointer (size_of u.types (type_in w.4.0.0))) ∷ k) (Takes m u c (Put (Pointer (size_of u.types (type_in w.4.0.0))) ∷ k)) (Out m u c (Put (Pointer (size_of u.types (type_in w.4.0.0))) ∷ k)) (kind_at (int w.6.0) ∷ pointing ∷ naming ∷ ks)) (sym (int_shape u (type_of d) w.6.0 w.6.1))
               (steps_move op w.7, refl, refl, (pointing, tt, (tt, (x, low, g))))),
         ))
     node_takes t (step kind a) x k ks w h b g =
@@ -327,8 +377,10 @@ module _ (S : Type 0) (u : UnitTy) (c : Scene) where
         takes a naming (plan u d (Carry 0 (size_of u.types (bare_type a)) ∷ k)) ks w.0 h.0 (below_place a w.2)
         (takes d naming (Carry 0 (size_of u.types (bare_type a)) ∷ k) (naming ∷ ks) w.1 h.1 (below_tag d tagged) (x, subst (λ (y : Kind). Below y x) (tag_kind false (type_in t) w.3) b, g))
     node_takes t (call f es) x k ks w h b g =
-        takes f (kind_of f) (plan_all u es (Invoke (bare_type f) (types_of es) ∷ k)) ks w.0 h.0 (below_refl (kind_of f)) (all_take es (Invoke (bare_type f) (types_of es) ∷ k) (kind_of f ∷ ks) w.3 h.1 (λ js. tt))
+        takes f pointing (plan_all u es (Invoke (bare_type f) (types_of es) ∷ k)) ks w.0 h.0 (below_value f (plain (pointer (plain (function w.2.callee)))) w.1 w.2.named)
+        (all_take es (Invoke (bare_type f) (types_of es) ∷ k) (pointing ∷ ks) w.3 (fn_values w.2.callee es w.2.given) h.1
+        (record { type = w.2.callee; named = ap type_in w.2.named; passed = passed_to_same w.2.callee es w.2.given; result = subst IsResult w.2.result w.2.scalar }, ks, refl, (x, subst (λ (q : QTy). Below (kind_at (type_in q)) x) w.2.result b, g)))
 
-    all_take : (es : Nodes) (k : List Item) (ks : List Kind) → AreTyped u es → AreAllThere u c es → ((js : List Kind) → Takes S u c k js) → Takes S u c (plan_all u es k) ks
-    all_take none k ks w h f = f ks
-    all_take (some e rest) k ks w h f = takes e (kind_of e) (plan_all u rest k) ks w.0 h.0 (below_refl (kind_of e)) (all_take rest k (kind_of e ∷ ks) w.1 h.1 f)
+    all_take : (es : Nodes) (k : List Item) (ks : List Kind) → AreTyped u es → AreValues es → AreAllThere u c es → Takes m u c k (pushed (types_of es) ks) → Takes m u c (plan_all u es k) ks
+    all_take none k ks w v h g = g
+    all_take (some e rest) k ks w v h g = takes e (kind_at (bare_type e)) (plan_all u rest k) ks w.0 h.0 (below_value e (type_of e) v.0 refl) (all_take rest k (kind_at (bare_type e) ∷ ks) w.1 v.1 h.1 g)

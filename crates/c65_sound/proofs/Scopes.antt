@@ -10,7 +10,7 @@ use Rattle.c65_meaning.specs.Store.{Block, Value, Place, Cell, Piece, Bits, Clou
 use Rattle.c65_meaning.specs.Shapes.{literal_block, object_in, object_size, object_sealed, lives_in_frame, object_block}
 use Rattle.c65_meaning.specs.After.{is_among}
 use Rattle.c65_meaning.specs.State.{Frame, Scene, block_in, name_object}
-use Rattle.c65_meaning.specs.Step.{place_in, object_place, begin_object, begin_objects}
+use Rattle.c65_meaning.specs.Step.{place_in, object_place, begin_object, begin_objects, func_in, frames_below}
 use Rattle.c65_sound.specs.Laws.{HasBlock, AreThere, AreThereIn, AreAllThere}
 use Rattle.c65_sound.specs.Statements.{HasFrame, IsInScope, IsScopedIn, IsScopedNode, AreScopedIn, IsReady, entering}
 use Rattle.c65_sound.proofs.Stacks.{CellFits, CellsFit, StoreFits, D}
@@ -60,6 +60,8 @@ pub record Grows (u : UnitTy) (c e : Scene) : Type 0 where
   pub blocks : (b : ℕ) → D u c b → D u e b
   pub objects : (i : ℕ) → HasBlock u c i → HasBlock u e i
   pub active : HasFrame c.frames → HasFrame e.frames
+  pub func : func_in e.frames ≡ func_in c.frames
+  pub below : frames_below e.frames ≡ frames_below c.frames
 
 module _ (u : UnitTy) (c e : Scene) (g : Grows u c e) where
   mutual
@@ -99,10 +101,10 @@ module _ (u : UnitTy) (c e : Scene) (g : Grows u c e) where
   ready_stays s r = record { active = g.active r.active; objects = λ i m h. g.objects i (r.objects i m h); literals = λ l m. g.blocks (literal_block u l) (r.literals l m); funcs = λ f m. g.blocks f (r.funcs f m) }
 
 pub grows_same : (u : UnitTy) (c : Scene) → Grows u c c
-grows_same u c = record { blocks = λ b h. h; objects = λ i h. h; active = λ h. h }
+grows_same u c = record { blocks = λ b h. h; objects = λ i h. h; active = λ h. h; func = refl; below = refl }
 
 pub grows_on : (u : UnitTy) (c d e : Scene) → Grows u c d → Grows u d e → Grows u c e
-grows_on u c d e g h = record { blocks = λ b i. h.blocks b (g.blocks b i); objects = λ j i. h.objects j (g.objects j i); active = λ i. h.active (g.active i) }
+grows_on u c d e g h = record { blocks = λ b i. h.blocks b (g.blocks b i); objects = λ j i. h.objects j (g.objects j i); active = λ i. h.active (g.active i); func = h.func ∙ g.func; below = h.below ∙ g.below }
 
 -- ---- an object begins
 
@@ -121,7 +123,7 @@ module _ (u : UnitTy) (i : ℕ) (d : Scene) where
   is_new true e m = refl
   is_new false e m = absurd (cc)
 
-  block_new : IsSome (after.store d.next)
+  pub block_new : IsSome (after.store d.next)
   block_new = is_new (d.next == d.next) (grind arith) (d.store d.next)
 
   -- where an object has its block
@@ -155,8 +157,16 @@ module _ (u : UnitTy) (i : ℕ) (d : Scene) where
   frame_stays [] h = absurd h
   frame_stays (f ∷ rest) h = tt
 
-  grows : Grows u d after
-  grows = record { blocks = λ b h. in_either (b == d.next) (d.store b) h; objects = keeps; active = frame_stays d.frames }
+  same_func : (fs : List Frame) → func_in (name_object fs i d.next) ≡ func_in fs
+  same_func [] = refl
+  same_func (f ∷ rest) = refl
+
+  same_below : (fs : List Frame) → frames_below (name_object fs i d.next) ≡ frames_below fs
+  same_below [] = refl
+  same_below (f ∷ rest) = refl
+
+  pub grows : Grows u d after
+  grows = record { blocks = λ b h. in_either (b == d.next) (d.store b) h; objects = keeps; active = frame_stays d.frames; func = same_func d.frames; below = same_below d.frames }
 
   newest : (t : Bool) → t ≡ true → (m : Option ℕ) → In after (placed true (if t then Some d.next else m) i)
   newest true e m = record { block = d.next; named = refl; stands = block_new }
@@ -177,7 +187,7 @@ module _ (u : UnitTy) (i : ℕ) (d : Scene) where
       tested true e f = let same : i ≡ j = grind arith in subst (λ (k : ℕ). HasBlock u after k) same (own n r.active)
       tested false e f = keeps j (r.objects j m f)
 
-  ready_after : (s : List ℕ) → NamesAutomatic u i → IsReady u s d → IsReady u (i ∷ s) after
+  pub ready_after : (s : List ℕ) → NamesAutomatic u i → IsReady u s d → IsReady u (i ∷ s) after
   ready_after s n r = record { active = frame_stays d.frames r.active; objects = in_scope s n r; literals = λ l m. grows.blocks (literal_block u l) (r.literals l m); funcs = λ f m. grows.blocks f (r.funcs f m) }
 
   cell_stays : (x : Cell) → CellFits (D u d) x → CellFits (D u after) x
@@ -185,7 +195,7 @@ module _ (u : UnitTy) (i : ℕ) (d : Scene) where
   cell_stays (Bits known value) h = tt
   cell_stays Clouded h = tt
 
-  store_after : StoreFits (D u d) d.store → StoreFits (D u after) after.store
+  pub store_after : StoreFits (D u d) d.store → StoreFits (D u after) after.store
   store_after h = record { there = λ b m. m; all = λ b y e. all (b == d.next) (d.store b) y (h.all b y) e }
     where
       all : (t : Bool) (m : Option Block) (y : Block) → (m ≡ Some y → CellsFit (D u d) y.cells) → (if t then Some fresh else m) ≡ Some y → CellsFit (D u after) y.cells

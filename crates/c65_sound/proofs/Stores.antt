@@ -7,7 +7,7 @@ use Rattle.c65_meaning.specs.declared.action.Action.TheVariants.{OutsideObject, 
 use Rattle.c65_meaning.specs.Why.{By}
 use Rattle.c65_meaning.specs.Store.{Cell, Bits, Piece, Clouded, Block, Store, Value, Whole, Null, Place, Opaque, NoValue, Shape, Number, Field, Pointer, Area, size_in, set_block, set_cells, Gathered, Lacking, Hidden, Found, gather, gathered, gathered_field, moved_down, mask_of, as_number, as_pointer, are_of_one, read_pair, read_cells, reached, reached_to_write, read, cell_of, with_bits, cloud_over, field_cell, new_cells, with_value, writable, write, with_cell, put_cell, carry}
 use Rattle.c65_sound.proofs.Stacks.{arithmetic, pointing, kind_in, IsScalarShape, Sound, Stands, Suits, CellFits, CellsFit, StoreFits}
-use Rattle.c65_sound.proofs.Values.{if_sound, bind_sound}
+use Rattle.c65_sound.proofs.Values.{if_sound, bind_sound, placed_of}
 
 module _ (D : ℕ → Type 0) where
   abbrev pub BlockFits : Block → Type 0
@@ -15,10 +15,10 @@ module _ (D : ℕ → Type 0) where
 
   -- ---- reading
 
-  number_sound : (sign : Bool) (width : ℕ) (g : Gathered) → Sound (Suits D arithmetic) (as_number sign width g)
+  number_sound : (sign : Bool) (width : ℕ) (g : Gathered) → Sound (Suits D (arithmetic sign)) (as_number sign width g)
   number_sound sign width Lacking = tt
   number_sound sign width Hidden = tt
-  number_sound sign width (Found n) = tt
+  number_sound sign width (Found n) = placed_of sign (2 ^ width) n
 
   pointer_sound : (g : Gathered) → Sound (Suits D pointing) (as_pointer g)
   pointer_sound Lacking = tt
