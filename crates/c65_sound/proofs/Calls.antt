@@ -1,15 +1,14 @@
 -- A run inside calls: the work of the active call, and below it the calls that wait for their callees.
-use Rattle.std.specs.Prelude.{◌≡◌, ℕ, true, List, [], ◌∷◌, Some, slice_get}
+use Rattle.std.specs.Prelude.{◌≡◌, true, List, [], ◌∷◌, Some, slice_get}
 use Rattle.c65_csem.specs.Trees.{UnitTy}
 use Rattle.c65_csem.specs.Units.{IsBody}
-use Rattle.c65_meaning.specs.Program.{ProgramTy}
-use Rattle.c65_meaning.specs.Why.{By, Unfit}
+use Rattle.c65_meaning.specs.Why.{Unfit}
 use Rattle.c65_meaning.specs.Store.{Value}
 use Rattle.c65_meaning.specs.Items.{Item}
-use Rattle.c65_meaning.specs.State.{Frame, Scene, State, Undefined, Deep, Ended, Running}
+use Rattle.c65_meaning.specs.State.{Frame, Scene, State, Undefined, Running}
 use Rattle.c65_meaning.specs.Step.{func_in, frames_below}
 use Rattle.c65_sound.specs.Statements.{IsScoped, IsReady, entering}
-use Rattle.c65_sound.proofs.Stacks.{Kind, arithmetic, kind_given, Gives, Call, inside, Takes, IsRunning}
+use Rattle.c65_sound.proofs.Stacks.{arithmetic, kind_given, Gives, Call, inside, Takes, IsRunning}
 
 -- the scene in which these calls are active
 abbrev pub with_frames : Scene → List Frame → Scene

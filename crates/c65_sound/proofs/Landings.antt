@@ -10,7 +10,7 @@ use Rattle.c65_meaning.specs.After.{Sought, ToLabel, ToCase, ToDefault, Landing,
 use Rattle.c65_meaning.specs.State.{Scene}
 use Rattle.c65_sound.specs.Statements.{entering, IsScoped, AreScoped, IsReady}
 use Rattle.c65_meaning.specs.Shapes.{object_in}
-use Rattle.c65_sound.proofs.Stacks.{Kind, Exit, breaking, continuing, returning, Setting, HasStatements, IsContext, HaveBlocks, Leads, IsLoop, Takes, Out}
+use Rattle.c65_sound.proofs.Stacks.{Kind, breaking, continuing, returning, Setting, HasStatements, IsContext, HaveBlocks, Leads, IsLoop, Takes, Out}
 use Rattle.c65_sound.proofs.Scopes.{is_some_in, AreAutomatic, automatic_of, automatic_joined}
 use Rattle.c65_sound.proofs.Statements.{loop_context, switch_context, while_loop, do_loop, for_loop_of, stmt_takes, stmts_take, stmts_lead}
 

@@ -23,7 +23,7 @@ use Rattle.c65_meaning.specs.Calls.{passed_by, passed_to}
 use Rattle.c65_meaning.specs.Items.{Item, Follow, Move, Fetch, Keep, Change, Apply1, Apply2, Both, Either, Choose, Drop, Put, Peek, Bump, Carry, Invoke, put_step, plan, plan_node, plan_all}
 use Rattle.c65_meaning.specs.State.{Scene}
 use Rattle.c65_sound.specs.Laws.{AreThere, AreThereIn, AreAllThere}
-use Rattle.c65_sound.proofs.Stacks.{Kind, arithmetic, pointing, naming, free, kind_in, kind_at, kind_if, kind_of, Below, IsScalarShape, Operates, is_move, is_add, meets, Combines, joined, turned_kind, Becomes, with_kind, IsOfSign, Suits, Setting, IsCallee, pushed, D, Does, Takes, Out}
+use Rattle.c65_sound.proofs.Stacks.{Kind, arithmetic, pointing, naming, free, kind_in, kind_at, kind_if, kind_of, Below, IsScalarShape, Operates, is_move, is_add, meets, Combines, joined, turned_kind, Becomes, with_kind, IsOfSign, Suits, Setting, pushed, D, Does, Takes, Out}
 use Rattle.c65_sound.proofs.Values.{raise}
 
 -- ---- kinds of trees
