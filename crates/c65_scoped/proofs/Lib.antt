@@ -1,0 +1,5 @@
+pub mod CodeLaws
+pub mod KindLaws
+pub mod ProgramLaws
+pub mod ScopeLaws
+pub mod Tells

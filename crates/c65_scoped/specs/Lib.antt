@@ -1,0 +1,6 @@
+pub mod Initial
+pub mod Kinds
+pub mod Library
+pub mod Programs
+pub mod Scopes
+pub mod Tests
