@@ -11,7 +11,7 @@ use Rattle.c65_csem.specs.declared.items.Target.{Target}
 use Rattle.c65_csem.specs.declared.items.Target.TheVariants as T
 use Rattle.c65_csem.specs.Places.{is_automatic}
 use Rattle.c65_csem.specs.Trees.{ObjectTy, FuncTy, UnitTy}
-use Rattle.c65_scoped.specs.Scopes.{object_in, lives_in_frame}
+use Rattle.c65_meaning.specs.Shapes.{object_in, lives_in_frame}
 use Rattle.c65_scoped.specs.Initial.{IsOfWholeRun, PointsToWholeRun, HasStaticPointers, first_pieces, second_pieces, HasPairs, IsPaired}
 use Rattle.c65_scoped.specs.Library.{IsTypedAs, HasLibraryType}
 use Rattle.c65_scoped.specs.Programs.{is_int, is_pointer, has_type, TakesArguments, Starts, IsScopedProgram}

@@ -4,7 +4,9 @@ use Rattle.std.specs.Prelude.{IsTrue, All, ◌==◌, if◌then◌else◌}
 use Rattle.std.proofs.lemmas.Bool.{eqb-true, eqb-false}
 use Rattle.std.proofs.lemmas.Option.{slice_get_within}
 use Rattle.c65_csem.specs.Trees.{Typed, node, Node, constant, null, literal, object, func, deref, member, load, address, decay, convert, unary, binary, both, either, choice, comma, assign, assign_op, assign_step, step, copy, call, Nodes, none, some, Stmt, empty, eval, set_part, clear, block, if_stmt, while, do_while, for_loop, switch, case, default, label, goto, break, continue, return, Stmts, no_stmts, and_stmts, MaybeTyped, absent, present, ObjectTy, FuncTy, UnitTy}
-use Rattle.c65_scoped.specs.Scopes.{object_in, lives_in_frame, is_among, entering, IsInScope, IsScopedIn, IsScopedNode, AreScopedIn, IsScopedMaybe, IsScoped, AreScoped, IsScopedBody, HasScopedBody}
+use Rattle.c65_meaning.specs.Shapes.{object_in, lives_in_frame}
+use Rattle.c65_meaning.specs.After.{is_among}
+use Rattle.c65_scoped.specs.Scopes.{entering, IsInScope, IsScopedIn, IsScopedNode, AreScopedIn, IsScopedMaybe, IsScoped, AreScoped, IsScopedBody, HasScopedBody}
 use Rattle.c65_scoped.specs.Tests as b
 use Rattle.c65_scoped.proofs.Tells.{Tells, like, tells_unit, tells_if, tells_all}
 use Rattle.c65_scoped.proofs.Tells as t

@@ -5,7 +5,7 @@ use Rattle.c65_csem.specs.declared.items.Cell.TheVariants.{Byte, Piece}
 use Rattle.c65_csem.specs.declared.items.Target.{Target}
 use Rattle.c65_csem.specs.declared.items.Target.TheVariants as T
 use Rattle.c65_csem.specs.Trees.{ObjectTy, UnitTy}
-use Rattle.c65_scoped.specs.Scopes.{object_in, lives_in_frame}
+use Rattle.c65_meaning.specs.Shapes.{object_in, lives_in_frame}
 
 -- an object of the whole run, a literal or a function
 abbrev pub IsOfWholeRun : UnitTy → Target → Type 0

@@ -3,7 +3,8 @@ use Rattle.std.specs.Prelude.{◌≡◌, ℕ, Bool, true, false, List, [], ◌�
 use Rattle.c65_ints.specs.declared.types.IntType.TheVariants.{Int}
 use Rattle.c65_ctype.specs.Trees.{Ty, int, pointer, type_in}
 use Rattle.c65_csem.specs.Trees.{ObjectTy, FuncTy, UnitTy}
-use Rattle.c65_scoped.specs.Scopes.{object_in, HasScopedBody}
+use Rattle.c65_meaning.specs.Shapes.{object_in}
+use Rattle.c65_scoped.specs.Scopes.{HasScopedBody}
 use Rattle.c65_scoped.specs.Initial.{HasStaticPointers, IsPaired}
 use Rattle.c65_scoped.specs.Library.{HasLibraryType}
 

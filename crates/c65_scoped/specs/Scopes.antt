@@ -1,18 +1,8 @@
 -- Names in their scope (C90 6.1.2.1, 6.1.2.4).
-use Rattle.std.specs.Prelude.{ℕ, List, [], ◌∷◌, Bool, false, true, Option, Some, None, IsTrue, ⊤, slice_get, ◌==◌, if◌then◌else◌}
-use Rattle.c65_csem.specs.Places.{is_automatic}
-use Rattle.c65_csem.specs.Trees.{Typed, node, Node, constant, null, literal, object, func, deref, member, load, address, decay, convert, unary, binary, both, either, choice, comma, assign, assign_op, assign_step, step, copy, call, Nodes, none, some, Stmt, empty, eval, set_part, clear, block, if_stmt, while, do_while, for_loop, switch, case, default, label, goto, break, continue, return, Stmts, no_stmts, and_stmts, MaybeTyped, absent, present, ObjectTy, FuncTy, UnitTy}
-
-abbrev pub lives_in_frame : Option ObjectTy → Bool
-lives_in_frame None = false
-lives_in_frame (Some x) = is_automatic x.class
-
-abbrev pub object_in : UnitTy → ℕ → Option ObjectTy
-object_in u i = slice_get u.objects i
-
-abbrev pub is_among : List ℕ → ℕ → Bool
-is_among [] i = false
-is_among (j ∷ rest) i = if j == i then true else is_among rest i
+use Rattle.std.specs.Prelude.{ℕ, List, [], ◌∷◌, Option, Some, None, IsTrue, ⊤}
+use Rattle.c65_csem.specs.Trees.{Typed, node, Node, constant, null, literal, object, func, deref, member, load, address, decay, convert, unary, binary, both, either, choice, comma, assign, assign_op, assign_step, step, copy, call, Nodes, none, some, Stmt, empty, eval, set_part, clear, block, if_stmt, while, do_while, for_loop, switch, case, default, label, goto, break, continue, return, Stmts, no_stmts, and_stmts, MaybeTyped, absent, present, FuncTy, UnitTy}
+use Rattle.c65_meaning.specs.Shapes.{object_in, lives_in_frame}
+use Rattle.c65_meaning.specs.After.{is_among}
 
 -- the objects of a block come into scope one after another
 abbrev pub entering : List ℕ → List ℕ → List ℕ

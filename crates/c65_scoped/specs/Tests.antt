@@ -11,7 +11,7 @@ use Rattle.c65_csem.specs.Trees.{Typed, node, Node, constant, null, literal, obj
 use Rattle.c65_scoped.specs.Initial.{first_pieces, second_pieces}
 use Rattle.c65_scoped.specs.Kinds.{is_typed_as}
 use Rattle.c65_scoped.specs.Programs.{is_int, is_pointer, has_type}
-use Rattle.c65_scoped.specs.Scopes.{object_in, lives_in_frame}
+use Rattle.c65_meaning.specs.Shapes.{object_in, lives_in_frame}
 
 abbrev pub mark_in : Option Bool → Bool
 mark_in None = false

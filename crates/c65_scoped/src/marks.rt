@@ -2,7 +2,7 @@
 ghost use Rattle.std.specs.Prelude.{◌≡◌, IfOk, OnOk, replicate, false, true, option_map, option_copied, slice_get, slice_set};
 ghost use Rattle.c65_csem.specs.Places;
 ghost use Rattle.c65_csem.specs.Views.{object_of, unit_of};
-ghost use Rattle.c65_scoped.specs.Scopes;
+ghost use Rattle.c65_meaning.specs.Shapes;
 ghost use Rattle.c65_scoped.specs.Tests;
 
 use c65_csem::{Class, Parts, TObject};
@@ -25,7 +25,7 @@ pub fn is_automatic(class: Class) -> bool
 
 /// Whether an object lives no longer than a call.
 pub fn lives_in_frame(object: Option<&TObject>) -> bool
-    ensures { result ≡ Scopes.lives_in_frame (option_map object_of (option_copied object.entry)) }
+    ensures { result ≡ Shapes.lives_in_frame (option_map object_of (option_copied object.entry)) }
 {
     match object {
         Some(object) => is_automatic(object.class),
