@@ -1,5 +1,5 @@
 -- The trees of the code, and the marks of what is in scope, level by level, as the tests go through them.
-use Rattle.std.proofs.Common.{◌≡◌, ℕ, zero, suc, List, [], ◌∷◌, ◌++◌, refl, sym, ap, ◌∙◌, Bool, true, false, not, ◌&&◌, Global, Box, Option, Some, None, slice_get, slice_set}
+use Rattle.std.proofs.Common.{◌≡◌, ℕ, zero, suc, List, [], ◌∷◌, ◌++◌, refl, sym, ap, ◌∙◌, Bool, true, false, ◌&&◌, Global, Box, slice_set}
 use Rattle.std.specs.Global.{Vec}
 use Rattle.c65_csem.specs.Trees.{UnitTy}
 use Rattle.c65_csem.specs.declared.expr.TExpr.{TExpr}

@@ -1,5 +1,5 @@
 -- What the tests on the types of the library's functions tell.
-use Rattle.std.proofs.Common.{◌≡◌, ℕ, zero, suc, List, [], ◌∷◌, length, map, refl, sym, ap, ◌∙◌, arith, Some, None, Bool, true, false, not, ◌&&◌, Option, slice_get}
+use Rattle.std.proofs.Common.{◌≡◌, ℕ, zero, suc, List, [], ◌∷◌, length, map, refl, sym, ap, ◌∙◌, arith, Some, None, Bool, true, false, ◌&&◌, Option, slice_get}
 use Rattle.std.specs.Prelude.{◌==◌}
 use Rattle.std.specs.Global.{Vec}
 use Rattle.std.proofs.lemmas.Bool.Decides.{Decides-eqb}
@@ -8,7 +8,7 @@ use Rattle.c65_ints.specs.declared.types.IntType.TheVariants.{SChar, UChar, Shor
 use Rattle.c65_ctype.specs.declared.types.QType.{QType}
 use Rattle.c65_ctype.specs.declared.types.FnType.{FnType, out-FnType}
 use Rattle.c65_ctype.specs.Compatible.{number_of, same_int, same_bool}
-use Rattle.c65_ctype.specs.Trees.{Ty, void, int, pointer, array, tag, function, QTy, qual, type_in, Fn, fn, Params, unknown, known, QTys, end, more}
+use Rattle.c65_ctype.specs.Trees.{Ty, void, int, pointer, array, tag, function, QTy, qual, type_in, Fn, fn, unknown, known, QTys, end, more}
 use Rattle.c65_ctype.specs.Views.{qty_of, fn_of, qtys_of, params_in}
 use Rattle.c65_ctype.proofs.ViewLaws.{fn_view}
 use Rattle.c65_csem.specs.declared.items.Library.{Library}

@@ -1,6 +1,6 @@
 -- What the tests of initial values, of types and of whole programs tell.
-use Rattle.std.proofs.Common.{◌≡◌, ℕ, zero, suc, ◌<◌, ◌≤◌, List, [], ◌∷◌, length, get_or, refl, sym, ap, ◌∙◌, arith, Some, None, Bool, true, false, not, ◌&&◌, ◌⊎◌, inl, inr, Option, slice_get, nat_le, subst}
-use Rattle.std.specs.Prelude.{⊤, IsSome, IsTrue, All, nat_lt, if◌then◌else◌}
+use Rattle.std.proofs.Common.{◌≡◌, ℕ, zero, suc, ◌<◌, ◌≤◌, List, [], ◌∷◌, length, get_or, refl, ap, ◌∙◌, arith, Some, None, false, ◌⊎◌, inl, inr, Option, slice_get, nat_le}
+use Rattle.std.specs.Prelude.{IsSome, IsTrue, All, nat_lt}
 use Rattle.std.proofs.lemmas.Bool.{le-leb, leb-true}
 use Rattle.std.proofs.lemmas.Bool.Decides.{Decides-eqb, Decides-ltb}
 use Rattle.c65_ctype.specs.Trees.{Fn}
@@ -12,7 +12,7 @@ use Rattle.c65_csem.specs.declared.items.Target.TheVariants as T
 use Rattle.c65_csem.specs.Places.{is_automatic}
 use Rattle.c65_csem.specs.Trees.{ObjectTy, FuncTy, UnitTy}
 use Rattle.c65_meaning.specs.Shapes.{object_in, lives_in_frame}
-use Rattle.c65_scoped.specs.Initial.{IsOfWholeRun, PointsToWholeRun, HasStaticPointers, first_pieces, second_pieces, HasPairs, IsPaired}
+use Rattle.c65_scoped.specs.Initial.{IsOfWholeRun, PointsToWholeRun, HasStaticPointers, first_pieces, second_pieces, IsWhole, BeginsWhole}
 use Rattle.c65_scoped.specs.Library.{IsTypedAs, HasLibraryType}
 use Rattle.c65_scoped.specs.Programs.{is_int, is_pointer, has_type, TakesArguments, Starts, IsScopedProgram}
 use Rattle.c65_scoped.specs.Tests as b
@@ -61,19 +61,19 @@ module _ (u : UnitTy) where
   only_these : (xs ys : List Cell) → Some xs ≡ Some ys → xs ≡ ys
   only_these xs ys h = cc
 
-  tells_init : (o : Option (List Cell)) → Tells (b.is_whole u o) (PointsIn o × HasPairs o)
+  tells_init : (o : Option (List Cell)) → Tells (b.is_whole u o) (PointsIn o × IsWhole o)
   tells_init None = record { yes = λ h. ((λ cells n x e f. cc), tt); only = λ w. refl }
-  tells_init (Some xs) = like (both (tells_cells xs) (tells_le (first_pieces xs) (second_pieces xs)))
-      (λ h. ((λ cells n x e f. h.0 n x (ap (λ (ys : List Cell). slice_get ys n) (only_these xs cells e) ∙ f)), h.1))
-      (λ h. ((λ n x f. h.0 xs n x refl f), h.1))
+  tells_init (Some xs) = like (three (tells_cells xs) (tells_le (length xs) 65535) (tells_le (first_pieces xs) (second_pieces xs)))
+      (λ h. ((λ cells n x e f. h.0 n x (ap (λ (ys : List Cell). slice_get ys n) (only_these xs cells e) ∙ f)), (h.1, h.2)))
+      (λ h. ((λ n x f. h.0 xs n x refl f), h.1.0, h.1.1))
 
-  tells_begin : (os : List ObjectTy) → Tells (b.begin_well u os) (AtEach (λ o. PointsIn o.init × HasPairs o.init) os)
-  tells_begin os = tells_each (b.begin_well u) (b.begins_well u) (λ o. PointsIn o.init × HasPairs o.init) refl (λ o os. refl) (λ o. tells_init o.init) os
+  tells_begin : (os : List ObjectTy) → Tells (b.begin_well u os) (AtEach (λ o. PointsIn o.init × IsWhole o.init) os)
+  tells_begin os = tells_each (b.begin_well u) (b.begins_well u) (λ o. PointsIn o.init × IsWhole o.init) refl (λ o os. refl) (λ o. tells_init o.init) os
 
-  tells_initial : Tells (b.begin_well u u.objects) (HasStaticPointers u × All IsPaired u.objects)
+  tells_initial : Tells (b.begin_well u u.objects) (HasStaticPointers u × All BeginsWhole u.objects)
   tells_initial = like (tells_begin u.objects)
-      (λ h. ((λ i n o cells x e f g. (h i o e).0 cells n x f g), all_each IsPaired u.objects (λ i o e. (h i o e).1)))
-      (λ h i o e. ((λ cells n x f g. h.0 i n o cells x e f g), each_all IsPaired u.objects h.1 i o e))
+      (λ h. ((λ i n o cells x e f g. (h i o e).0 cells n x f g), all_each BeginsWhole u.objects (λ i o e. (h i o e).1)))
+      (λ h i o e. ((λ cells n x f g. h.0 i n o cells x e f g), each_all BeginsWhole u.objects h.1 i o e))
 
 -- ---- types
 
@@ -116,5 +116,5 @@ module _ (u : UnitTy) where
 
   pub tells_program : (main : ℕ) → Tells (b.is_scoped_program u main) (IsScopedProgram u main)
   tells_program main = like (tells_if (three (tells_initial u) (tells_library u.funcs) (tells_starts (slice_get u.funcs main))) (tells_bodies u))
-      (λ w. record { bodies = w.1; pointers = w.0.0.0; pieces = w.0.0.1; library = w.0.1; start = w.0.2 })
-      (λ w. (((w.pointers, w.pieces), w.library, w.start), w.bodies))
+      (λ w. record { bodies = w.1; pointers = w.0.0.0; values = w.0.0.1; library = w.0.1; start = w.0.2 })
+      (λ w. (((w.pointers, w.values), w.library, w.start), w.bodies))

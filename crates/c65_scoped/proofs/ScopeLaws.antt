@@ -1,5 +1,5 @@
 -- What the tests of scopes tell, where the marks are those of a scope.
-use Rattle.std.proofs.Common.{◌≡◌, ℕ, zero, suc, ◌<◌, List, [], ◌∷◌, length, replicate, refl, sym, ap, ◌∙◌, arith, Some, None, Bool, true, false, not, ◌||◌, Option, slice_get, slice_set, subst}
+use Rattle.std.proofs.Common.{◌≡◌, ℕ, zero, suc, ◌<◌, List, [], ◌∷◌, length, replicate, refl, sym, ap, ◌∙◌, arith, Some, None, Bool, true, false, not, ◌||◌, Option, slice_set, subst}
 use Rattle.std.specs.Prelude.{IsTrue, All, ◌==◌, if◌then◌else◌}
 use Rattle.std.proofs.lemmas.Bool.{eqb-true, eqb-false}
 use Rattle.std.proofs.lemmas.Option.{slice_get_within}

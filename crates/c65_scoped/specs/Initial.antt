@@ -1,5 +1,5 @@
 -- Initial values (C90 6.1.2.4, 6.5.7).
-use Rattle.std.specs.Prelude.{◌≡◌, ℕ, ◌+◌, ◌≤◌, ◌==◌, false, List, [], ◌∷◌, Option, Some, None, IsSome, slice_get, ⊤, if◌then◌else◌}
+use Rattle.std.specs.Prelude.{◌≡◌, ℕ, ◌+◌, ◌≤◌, ◌==◌, false, List, [], ◌∷◌, length, Option, Some, None, IsSome, slice_get, ⊤, if◌then◌else◌}
 use Rattle.c65_csem.specs.declared.items.Cell.{Cell}
 use Rattle.c65_csem.specs.declared.items.Cell.TheVariants.{Byte, Piece}
 use Rattle.c65_csem.specs.declared.items.Target.{Target}
@@ -32,10 +32,10 @@ second_pieces [] = 0
 second_pieces (Byte b ∷ cells) = second_pieces cells
 second_pieces (Piece target offset part ∷ cells) = (if part == 0 then 0 else 1) + second_pieces cells
 
--- of each pointer in an initial value both pieces are there
-abbrev pub HasPairs : Option (List Cell) → Type 0
-HasPairs None = ⊤
-HasPairs (Some cells) = first_pieces cells ≤ second_pieces cells
+-- an initial value has at most 65,535 bytes, and both pieces of each of its pointers
+abbrev pub IsWhole : Option (List Cell) → Type 0
+IsWhole None = ⊤
+IsWhole (Some cells) = (length cells ≤ 65535) × (first_pieces cells ≤ second_pieces cells)
 
-abbrev pub IsPaired : ObjectTy → Type 0
-IsPaired o = HasPairs o.init
+abbrev pub BeginsWhole : ObjectTy → Type 0
+BeginsWhole o = IsWhole o.init

@@ -1,11 +1,11 @@
 -- Programs whose names are in scope, whose initial values are whole, and whose `main` and library have their types.
-use Rattle.std.specs.Prelude.{◌≡◌, ℕ, Bool, true, false, List, [], ◌∷◌, Option, Some, None, IsTrue, All, ⊤, slice_get}
+use Rattle.std.specs.Prelude.{ℕ, Bool, true, false, List, [], ◌∷◌, Option, Some, None, IsTrue, All, ⊤, slice_get}
 use Rattle.c65_ints.specs.declared.types.IntType.TheVariants.{Int}
 use Rattle.c65_ctype.specs.Trees.{Ty, int, pointer, type_in}
 use Rattle.c65_csem.specs.Trees.{ObjectTy, FuncTy, UnitTy}
 use Rattle.c65_meaning.specs.Shapes.{object_in}
 use Rattle.c65_scoped.specs.Scopes.{HasScopedBody}
-use Rattle.c65_scoped.specs.Initial.{HasStaticPointers, IsPaired}
+use Rattle.c65_scoped.specs.Initial.{HasStaticPointers, BeginsWhole}
 use Rattle.c65_scoped.specs.Library.{HasLibraryType}
 
 abbrev pub is_int : Ty → Bool
@@ -33,6 +33,6 @@ Starts u (Some f) = TakesArguments u f.params
 pub record IsScopedProgram (u : UnitTy) (main : ℕ) : Type 0 where
   pub bodies : All (HasScopedBody u) u.funcs
   pub pointers : HasStaticPointers u
-  pub pieces : All IsPaired u.objects
+  pub values : All BeginsWhole u.objects
   pub library : All HasLibraryType u.funcs
   pub start : Starts u (slice_get u.funcs main)

@@ -144,7 +144,7 @@ module _ (u : UnitTy) where
 
   abbrev pub is_whole : Option (List Cell) → Bool
   is_whole None = true
-  is_whole (Some cells) = point_to_whole_run cells && nat_le (first_pieces cells) (second_pieces cells)
+  is_whole (Some cells) = point_to_whole_run cells && nat_le (length cells) 65535 && nat_le (first_pieces cells) (second_pieces cells)
 
   abbrev pub begins_well : ObjectTy → Bool
   begins_well o = is_whole o.init

@@ -94,7 +94,9 @@ fn begins_well(parts: &Parts, object: &TObject) -> bool
 {
     match &object.init {
         Some(cells) => {
-            point_to_whole_run(parts, cells) && first_pieces(cells) <= second_pieces(cells)
+            point_to_whole_run(parts, cells)
+                && cells.len() <= 65_535
+                && first_pieces(cells) <= second_pieces(cells)
         }
         None => true,
     }
