@@ -7,7 +7,8 @@ use Rattle.c65_meaning.specs.Store.{Value}
 use Rattle.c65_meaning.specs.Items.{Item}
 use Rattle.c65_meaning.specs.State.{Frame, Scene, State, Undefined, Running}
 use Rattle.c65_meaning.specs.Step.{func_in, frames_below}
-use Rattle.c65_sound.specs.Statements.{IsScoped, IsReady, entering}
+use Rattle.c65_scoped.specs.Scopes.{IsScoped, entering}
+use Rattle.c65_sound.specs.Statements.{IsReady}
 use Rattle.c65_sound.proofs.Stacks.{arithmetic, kind_given, Gives, Call, inside, Takes, IsRunning}
 
 -- the scene in which these calls are active

@@ -8,7 +8,8 @@ use Rattle.c65_meaning.specs.Sites.{count}
 use Rattle.c65_meaning.specs.Items.{Item, End, Next, Check, EndSwitch, Loop, test_first, test_last, plan_stmt, plan_stmts}
 use Rattle.c65_meaning.specs.After.{Sought, ToLabel, ToCase, ToDefault, Landing, within, or_else, for_label, found, is_case, is_default, is_label, after, after_all, is_among}
 use Rattle.c65_meaning.specs.State.{Scene}
-use Rattle.c65_sound.specs.Statements.{entering, IsScoped, AreScoped, IsReady}
+use Rattle.c65_scoped.specs.Scopes.{entering, IsScoped, AreScoped}
+use Rattle.c65_sound.specs.Statements.{IsReady}
 use Rattle.c65_meaning.specs.Shapes.{object_in}
 use Rattle.c65_sound.proofs.Stacks.{Kind, breaking, continuing, returning, Setting, HasStatements, IsContext, HaveBlocks, Leads, IsLoop, Takes, Out}
 use Rattle.c65_sound.proofs.Scopes.{is_some_in, AreAutomatic, automatic_of, automatic_joined}
@@ -20,7 +21,7 @@ entering_joined : (a b scope : List ℕ) → entering (a ++ b) scope ≡ enterin
 entering_joined [] b scope = refl
 entering_joined (i ∷ a) b scope = entering_joined a b (i ∷ scope)
 
-among_more : (i : ℕ) (objects scope : List ℕ) → IsTrue (is_among scope i) → IsTrue (is_among (entering objects scope) i)
+pub among_more : (i : ℕ) (objects scope : List ℕ) → IsTrue (is_among scope i) → IsTrue (is_among (entering objects scope) i)
 among_more i [] scope h = h
 among_more i (j ∷ rest) scope h = among_more i rest (j ∷ scope) (one (j == i))
   where
@@ -28,7 +29,7 @@ among_more i (j ∷ rest) scope h = among_more i rest (j ∷ scope) (one (j == i
     one true = refl
     one false = h
 
-among_first : (i : ℕ) (scope : List ℕ) → IsTrue (is_among (i ∷ scope) i)
+pub among_first : (i : ℕ) (scope : List ℕ) → IsTrue (is_among (i ∷ scope) i)
 among_first i scope = one (i == i) (grind arith)
   where
     one : (t : Bool) → t ≡ true → IsTrue (if t then true else is_among scope i)

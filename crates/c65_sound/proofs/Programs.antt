@@ -10,7 +10,8 @@ use Rattle.c65_meaning.specs.Store.{Block, function_block}
 use Rattle.c65_meaning.specs.Shapes.{object_in, lives_in_frame, literal_block, object_block}
 use Rattle.c65_meaning.specs.Start.{bytes_at, literal_in, initial_cell, cells_of, static_block, target_block, initial_store}
 use Rattle.c65_sound.specs.Laws.{IsClosed}
-use Rattle.c65_sound.specs.Programs.{IsOfWholeRun, PointsToWholeRun, HasStaticPointers, InitialStoreFits}
+use Rattle.c65_scoped.specs.Initial.{IsOfWholeRun, PointsToWholeRun, HasStaticPointers}
+use Rattle.c65_sound.specs.Programs.{InitialStoreFits}
 use Rattle.c65_sound.proofs.Stacks.{CellFits, CellsFit}
 
 below : {A : Type 0} (xs : List A) (n : ℕ) → IsSome (slice_get xs n) → n < length xs

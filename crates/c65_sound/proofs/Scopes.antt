@@ -12,7 +12,8 @@ use Rattle.c65_meaning.specs.After.{is_among}
 use Rattle.c65_meaning.specs.State.{Frame, Scene, block_in, name_object}
 use Rattle.c65_meaning.specs.Step.{place_in, object_place, begin_object, begin_objects, func_in, frames_below}
 use Rattle.c65_sound.specs.Laws.{HasBlock, AreThere, AreThereIn, AreAllThere}
-use Rattle.c65_sound.specs.Statements.{HasFrame, IsInScope, IsScopedIn, IsScopedNode, AreScopedIn, IsReady, entering}
+use Rattle.c65_scoped.specs.Scopes.{IsInScope, IsScopedIn, IsScopedNode, AreScopedIn, entering}
+use Rattle.c65_sound.specs.Statements.{HasFrame, IsReady}
 use Rattle.c65_sound.proofs.Stacks.{CellFits, CellsFit, StoreFits, D}
 
 pub is_some_in : {A : Type 0} (m : Option A) (x : A) → m ≡ Some x → IsSome m

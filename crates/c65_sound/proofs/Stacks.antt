@@ -21,7 +21,8 @@ use Rattle.c65_meaning.specs.Items.{Item, Push, Name, Follow, Move, Fetch, Keep,
 use Rattle.c65_meaning.specs.State.{Scene, State, Undefined, Running}
 use Rattle.c65_sound.specs.Laws.{HasBlock, AreThere}
 use Rattle.c65_sound.specs.Library.{AreArguments}
-use Rattle.c65_sound.specs.Statements.{IsScoped, AreScoped, entering, IsReady}
+use Rattle.c65_scoped.specs.Scopes.{IsScoped, AreScoped, entering}
+use Rattle.c65_sound.specs.Statements.{IsReady}
 
 -- a number of a signed type or of an unsigned one, a pointer, a place, and any value
 pub data Kind : Type 0 where

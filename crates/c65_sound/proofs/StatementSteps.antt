@@ -13,7 +13,8 @@ use Rattle.c65_meaning.specs.After.{Sought, ToCase, ToDefault, Landing, or_else,
 use Rattle.c65_meaning.specs.State.{Frame, Scene, State, Undefined, Deep, Ended, Running, turned, block_in}
 use Rattle.c65_meaning.specs.Step.{place_in, begin_objects, end_named, end_objects, put, carried_byte, carry_into_step, at_offset, cleared, wipe_step, place_in_object, after_body, last_test, left_for, switched, chosen_case, func_in, frames_below, perform, step}
 use Rattle.c65_sound.specs.Laws.{HasBlock, IsFit}
-use Rattle.c65_sound.specs.Statements.{IsReady, HasFrame, entering, leaves, pauses, steps_within, StatementsFit}
+use Rattle.c65_scoped.specs.Scopes.{entering}
+use Rattle.c65_sound.specs.Statements.{IsReady, HasFrame, leaves, pauses, steps_within, StatementsFit}
 use Rattle.c65_sound.proofs.Stacks.{Kind, arithmetic, breaking, continuing, returning, naming, Sound, Suits, AreSuited, StoreFits, Setting, statement, HasStatements, D, IsWork, IsBlock, IsMaybePart, IsLoop, HasTest, Leads, Does, Takes, Out, IsScene, IsGood}
 use Rattle.c65_sound.proofs.Values.{truth_sound}
 use Rattle.c65_sound.proofs.Stores.{block_set, put_sound as cell_sound}

@@ -22,7 +22,8 @@ use Rattle.c65_meaning.specs.State.{Scene}
 use Rattle.c65_meaning.specs.Operators.{is_post}
 use Rattle.c65_sound.specs.Laws.{HasBlock}
 use Rattle.c65_sound.specs.Library.{IsPointing, AreArguments}
-use Rattle.c65_sound.specs.Statements.{IsScopedIn, IsScopedMaybe, IsScoped, AreScoped, IsReady}
+use Rattle.c65_scoped.specs.Scopes.{IsScopedIn, IsScopedMaybe, IsScoped, AreScoped}
+use Rattle.c65_sound.specs.Statements.{IsReady}
 use Rattle.c65_sound.proofs.Stacks.{Kind, Exit, breaking, continuing, returning, arithmetic, pointing, naming, free, kind_in, kind_at, kind_of, kind_given, kind_from, Below, joined, turned_kind, with_kind, Gives, Stands, Suits, AreSuited, CellFits, Setting, expression, statement, inside, HasStatements, IsContext, HasLabel, IsReturned, D, IsPart, IsMaybePart, HaveBlocks, Leads, IsWork, IsBlock, IsLoop, Does, Takes, Out}
 use Rattle.c65_sound.proofs.Plans.{below_refl, below_value, value_kind, tag_kind, takes}
 use Rattle.c65_sound.proofs.Scopes.{is_some_in, there, Grows, stays, ready_stays}

@@ -1,27 +1,10 @@
 -- The first store of a program (C90 6.1.2.4, 6.5.7).
-use Rattle.std.specs.Prelude.{◌≡◌, ℕ, false, List, Some, IsSome, slice_get, ⊤}
-use Rattle.c65_csem.specs.declared.items.Cell.{Cell}
-use Rattle.c65_csem.specs.declared.items.Cell.TheVariants.{Byte, Piece}
-use Rattle.c65_csem.specs.declared.items.Target.{Target}
-use Rattle.c65_csem.specs.declared.items.Target.TheVariants as T
-use Rattle.c65_csem.specs.Trees.{ObjectTy, UnitTy}
+use Rattle.std.specs.Prelude.{◌≡◌, ℕ, false, IsSome, slice_get}
+use Rattle.c65_csem.specs.Trees.{UnitTy}
 use Rattle.c65_meaning.specs.Shapes.{object_in, lives_in_frame, literal_block, object_block}
 use Rattle.c65_meaning.specs.Start.{initial_store}
+use Rattle.c65_scoped.specs.Initial.{HasStaticPointers}
 use Rattle.c65_sound.specs.Laws.{IsClosed}
-
--- an object of the whole run, a literal or a function
-abbrev pub IsOfWholeRun : UnitTy → Target → Type 0
-IsOfWholeRun u (T.Object i) = IsSome (object_in u i) × (lives_in_frame (object_in u i) ≡ false)
-IsOfWholeRun u (T.Literal l) = IsSome (slice_get u.literals l)
-IsOfWholeRun u (T.Func f) = IsSome (slice_get u.funcs f)
-
-abbrev pub PointsToWholeRun : UnitTy → Cell → Type 0
-PointsToWholeRun u (Byte b) = ⊤
-PointsToWholeRun u (Piece target offset part) = IsOfWholeRun u target
-
--- no initial value points to an automatic object
-abbrev pub HasStaticPointers : UnitTy → Type 0
-HasStaticPointers u = (i n : ℕ) (o : ObjectTy) (cells : List Cell) (x : Cell) → slice_get u.objects i ≡ Some o → o.init ≡ Some cells → slice_get cells n ≡ Some x → PointsToWholeRun u x
 
 pub record HasBlocks (u : UnitTy) : Type 0 where
   pub funcs : (f : ℕ) → IsSome (slice_get u.funcs f) → IsSome (initial_store u f)
