@@ -42,3 +42,8 @@ abbrev pub IsWell : UnitTy → State → Type 0
 IsWell u (Undefined Unfit) = ⊥
 IsWell u (Running work vs d) = IsInside u work vs d
 IsWell u _ = Unit {0}
+
+-- the calls of a scene
+pub record IsAt (u : UnitTy) (c : Scene) (call : Call) : Type 0 where
+  pub active : IsCall u c c.frames call
+  pub waiting : AreWaiting u c (frames_below c.frames) call

@@ -11,3 +11,8 @@ pub mod StatementSteps
 pub mod Library
 pub mod Programs
 pub mod Calls
+pub mod Returns
+pub mod LibraryCalls
+pub mod Arguments
+pub mod Entering
+pub mod Invoking

@@ -1,5 +1,5 @@
 -- The functions of the library on arguments of their types.
-use Rattle.std.proofs.Common.{◌≡◌, ℕ, zero, suc, ◌+◌, ◌-◌, ℤ, pos, negsuc, false, List, [], ◌∷◌, Option, Some, None, refl, subst}
+use Rattle.std.proofs.Common.{◌≡◌, ℕ, zero, suc, ◌+◌, ◌-◌, ℤ, pos, negsuc, false, List, [], ◌∷◌, true, Option, Some, None, refl, subst}
 use Rattle.std.specs.Prelude.{◌==◌, Result, Ok, Err, IsSome, ⊤, min, length, nat_le, if◌then◌else◌}
 use Rattle.c65_ints.specs.Ranges.{residue}
 use Rattle.c65_csem.specs.declared.items.Library.{Library}
@@ -11,8 +11,8 @@ use Rattle.c65_meaning.specs.Library.{Effect, got, area, overlap, filled, copied
 use Rattle.c65_meaning.specs.State.{Scene}
 use Rattle.c65_sound.specs.Laws.{IsClosed}
 use Rattle.c65_sound.specs.Library.{IsNumber, IsCount, IsPointing, AreArguments, IsOfBlock, IsSoundCall, LibraryFits}
-use Rattle.c65_sound.proofs.Stacks.{Sound, Stands, CellFits, CellsFit, StoreFits}
-use Rattle.c65_sound.proofs.Values.{if_sound, bind_sound}
+use Rattle.c65_sound.proofs.Stacks.{Kind, arithmetic, pointing, free, kind_from, Sound, Stands, Suits, CellFits, CellsFit, StoreFits}
+use Rattle.c65_sound.proofs.Values.{if_sound, bind_sound, stands}
 use Rattle.c65_sound.proofs.Stores.{BlockFits, writable_sound, set_fits, block_set}
 
 -- nothing more is asked than that it went well
@@ -23,23 +23,24 @@ module _ (c : Scene) where
   abbrev E : ℕ → Type 0
   E b = IsSome (c.store b)
 
-  abbrev Fine : Effect → Type 0
-  Fine e = StoreFits E e.store × Stands E e.result
+  -- memory stays closed, and the result is of its kind
+  abbrev pub Fine : Kind → Effect → Type 0
+  Fine x e = StoreFits E e.store × Suits E x e.result
 
-  number : (v : Value) (f : ℤ → Result Effect Why) → IsNumber v → ((z : ℤ) → Sound Fine (f z)) → Sound Fine (number_in v f)
-  number (Whole z) f h g = g z
-  number Opaque f h g = tt
-  number NoValue f h g = tt
-  number Null f h g = absurd h
-  number (Place b o) f h g = absurd h
+  number : (x : Kind) (v : Value) (f : ℤ → Result Effect Why) → IsNumber v → ((z : ℤ) → Sound (Fine x) (f z)) → Sound (Fine x) (number_in v f)
+  number x (Whole z) f h g = g z
+  number x Opaque f h g = tt
+  number x NoValue f h g = tt
+  number x Null f h g = absurd h
+  number x (Place b o) f h g = absurd h
 
-  counts : (v : Value) (f : ℕ → Result Effect Why) → IsCount v → ((n : ℕ) → Sound Fine (f n)) → Sound Fine (count_in v f)
-  counts (Whole (pos n)) f h g = g n
-  counts (Whole (negsuc n)) f h g = absurd h
-  counts Opaque f h g = tt
-  counts NoValue f h g = tt
-  counts Null f h g = absurd h
-  counts (Place b o) f h g = absurd h
+  counts : (x : Kind) (v : Value) (f : ℕ → Result Effect Why) → IsCount v → ((n : ℕ) → Sound (Fine x) (f n)) → Sound (Fine x) (count_in v f)
+  counts x (Whole (pos n)) f h g = g n
+  counts x (Whole (negsuc n)) f h g = absurd h
+  counts x Opaque f h g = tt
+  counts x NoValue f h g = tt
+  counts x Null f h g = absurd h
+  counts x (Place b o) f h g = absurd h
 
   -- ---- areas
 
@@ -122,27 +123,27 @@ module _ (c : Scene) where
 
     -- ---- the functions
 
-    got_fine : (input : List ℕ) → Fine (got c input)
+    got_fine : (input : List ℕ) → Fine (arithmetic true) (got c input)
     got_fine [] = (fits, tt)
     got_fine (b ∷ rest) = (fits, tt)
 
-    place_stands : (v : Value) → IsPointing c.store v → Stands E v
-    place_stands (Place b o) h = h
-    place_stands Null h = tt
-    place_stands Opaque h = tt
-    place_stands NoValue h = tt
-    place_stands (Whole z) h = tt
+    place_suits : (v : Value) → IsPointing c.store v → Suits E pointing v
+    place_suits (Place b o) h = h
+    place_suits Null h = tt
+    place_suits Opaque h = tt
+    place_suits NoValue h = tt
+    place_suits (Whole z) h = absurd h
 
-    fine : (f : Library) (args : List Value) → AreArguments c.store f args → Sound Fine (effect_of c f args)
-    fine Putchar (v ∷ []) h = number v _ h (λ z. (fits, tt))
+    pub fine : (f : Library) (args : List Value) → AreArguments c.store f args → Sound (Fine (kind_from f)) (effect_of c f args)
+    fine Putchar (v ∷ []) h = number (arithmetic true) v _ h (λ z. (fits, tt))
     fine Getchar [] h = got_fine c.input
-    fine Puts (v ∷ []) h = bind_sound (Any (List ℕ)) Fine (text_at c.store v) _ (texts v h) (λ text g. (fits, tt))
-    fine Exit (v ∷ []) h = number v _ h (λ z. (fits, tt))
-    fine Memcpy (to ∷ from ∷ n ∷ []) h = counts n _ h.2 (λ m. bind_sound (StoreFits E) Fine (copied_area c.store to from m) _ (copies to from m h.0 h.1) (λ s g. (g, place_stands to h.0)))
-    fine Memset (to ∷ v ∷ n ∷ []) h = number v _ h.1 (λ z. counts n _ h.2 (λ m. bind_sound (StoreFits E) Fine (filled_area c.store to m (residue 256 z)) _ (sets to m (residue 256 z) h.0) (λ s g. (g, place_stands to h.0))))
-    fine Strcmp (v ∷ w ∷ []) h = bind_sound (Any Compared) Fine (compared_texts c.store v w) _ (compare_texts v w h.0 h.1) (λ d g. (fits, tt))
-    fine Strcpy (to ∷ from ∷ []) h = bind_sound (Any (List ℕ)) Fine (text_at c.store from) _ (texts from h.1) (λ text g. bind_sound (StoreFits E) Fine (copied_area c.store to from (suc (length text))) _ (copies to from (suc (length text)) h.0 h.1) (λ s i. (i, place_stands to h.0)))
-    fine Strlen (v ∷ []) h = bind_sound (Any (List ℕ)) Fine (text_at c.store v) _ (texts v h) (λ text g. (fits, tt))
+    fine Puts (v ∷ []) h = bind_sound (Any (List ℕ)) (Fine (arithmetic true)) (text_at c.store v) _ (texts v h) (λ text g. (fits, tt))
+    fine Exit (v ∷ []) h = number free v _ h (λ z. (fits, tt))
+    fine Memcpy (to ∷ from ∷ n ∷ []) h = counts pointing n _ h.2 (λ m. bind_sound (StoreFits E) (Fine pointing) (copied_area c.store to from m) _ (copies to from m h.0 h.1) (λ s g. (g, place_suits to h.0)))
+    fine Memset (to ∷ v ∷ n ∷ []) h = number pointing v _ h.1 (λ z. counts pointing n _ h.2 (λ m. bind_sound (StoreFits E) (Fine pointing) (filled_area c.store to m (residue 256 z)) _ (sets to m (residue 256 z) h.0) (λ s g. (g, place_suits to h.0))))
+    fine Strcmp (v ∷ w ∷ []) h = bind_sound (Any Compared) (Fine (arithmetic true)) (compared_texts c.store v w) _ (compare_texts v w h.0 h.1) (λ d g. (fits, tt))
+    fine Strcpy (to ∷ from ∷ []) h = bind_sound (Any (List ℕ)) (Fine pointing) (text_at c.store from) _ (texts from h.1) (λ text g. bind_sound (StoreFits E) (Fine pointing) (copied_area c.store to from (suc (length text))) _ (copies to from (suc (length text)) h.0 h.1) (λ s i. (i, place_suits to h.0)))
+    fine Strlen (v ∷ []) h = bind_sound (Any (List ℕ)) (Fine (arithmetic false)) (text_at c.store v) _ (texts v h) (λ text g. (fits, tt))
     fine _ _ h = absurd h
 
   -- ---- the law
@@ -165,10 +166,10 @@ module _ (c : Scene) where
   of_block s Opaque h g = tt
   of_block s NoValue h g = tt
 
-  sound : (r : Result Effect Why) → Sound Fine r → IsSoundCall c.store r
-  sound (Ok e) h = (closed_after e.store h.0, h.0.there, of_block e.store e.result h.0 h.1)
-  sound (Err (By action)) h = tt
-  sound (Err Unfit) h = absurd h
+  sound : (x : Kind) (r : Result Effect Why) → Sound (Fine x) r → IsSoundCall c.store r
+  sound x (Ok e) h = (closed_after e.store h.0, h.0.there, of_block e.store e.result h.0 (stands E x e.result h.1))
+  sound x (Err (By action)) h = tt
+  sound x (Err Unfit) h = absurd h
 
 pub library_fits : LibraryFits
-library_fits f args c h i = sound c (effect_of c f args) (fine c (fits_at_first c i) f args h)
+library_fits f args c h i = sound c (kind_from f) (effect_of c f args) (fine c (fits_at_first c i) f args h)

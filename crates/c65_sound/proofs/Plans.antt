@@ -60,7 +60,7 @@ tag_kind false _ h = absurd (cc)
 below_tag : (a : Typed) → IsTrue (is_tag (type_in (type_of a))) → Below (kind_of a) naming
 below_tag a h = below_same (kind_of a) naming (tag_kind (is_place a) (type_in (type_of a)) h)
 
-plain_type : (q : QTy) → type_in (plain_of q) ≡ type_in q
+pub plain_type : (q : QTy) → type_in (plain_of q) ≡ type_in q
 plain_type (qual t c v) = refl
 
 same_type : (t q : QTy) → t ≡ plain_of q → type_in q ≡ type_in t

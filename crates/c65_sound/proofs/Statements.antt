@@ -31,14 +31,14 @@ use Rattle.c65_sound.proofs.Scopes.{is_some_in, there, Grows, stays, ready_stays
 -- ---- more blocks
 
 module _ (m : Setting) (u : UnitTy) (c e : Scene) (g : Grows u c e) where
-  stands_on : (v : Value) → Stands (D u c) v → Stands (D u e) v
+  pub stands_on : (v : Value) → Stands (D u c) v → Stands (D u e) v
   stands_on (Place b o) h = g.blocks b h
   stands_on (Whole z) h = tt
   stands_on Null h = tt
   stands_on Opaque h = tt
   stands_on NoValue h = tt
 
-  suits_on : (x : Kind) (v : Value) → Suits (D u c) x v → Suits (D u e) x v
+  pub suits_on : (x : Kind) (v : Value) → Suits (D u c) x v → Suits (D u e) x v
   suits_on free v h = stands_on v h
   suits_on (arithmetic s) (Whole z) h = h
   suits_on (arithmetic s) Opaque h = tt
