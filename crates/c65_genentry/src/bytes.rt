@@ -1,6 +1,7 @@
 // Blocks of bytes that are cleared or copied.
-ghost use Rattle.std.specs.Prelude.{◌≡◌, OnOk, IfErr};
+ghost use Rattle.std.specs.Prelude.{◌≡◌, OnOk, OnErr, IfErr};
 ghost use Rattle.c65_base.specs.declared.refusal.Refusal.TheVariants.{OutOfMemory};
+ghost use Rattle.c65_genwide.specs.Lines.{Keeps};
 ghost use Rattle.c65_genentry.specs.Words.{with_code};
 ghost use Rattle.c65_genentry.specs.Bytes.{page_code, rest_code, rest_labels, pages_code, block_code, block_labels, clear_code, copy_code};
 
@@ -18,6 +19,7 @@ use c65_mach::Op::{Bne, Cpy, Inc, Iny, Lda, Ldy, Sta};
 fn put_page(each: &[Line], after: &[Line], draft: &mut Draft) -> Result<(), Refusal>
     ensures lines { OnOk result (draft.new ≡ with_code 1 (page_code each.now after.now draft.old.labels) draft.old) }
     ensures refused { IfErr result (λ e. e ≡ OutOfMemory) }
+    ensures kept { OnErr result (Keeps draft.old draft.new) }
 {
     let head = fresh(draft)?;
     label(draft, head)?;
@@ -33,6 +35,7 @@ fn put_page(each: &[Line], after: &[Line], draft: &mut Draft) -> Result<(), Refu
 fn put_pages(each: &[Line], after: &[Line], count: u16, draft: &mut Draft) -> Result<(), Refusal>
     ensures lines { OnOk result (draft.new ≡ with_code count (pages_code each.now after.now count draft.old.labels) draft.old) }
     ensures refused { IfErr result (λ e. e ≡ OutOfMemory) }
+    ensures kept { OnErr result (Keeps draft.old draft.new) }
 {
     for _round in 0..count {
         put_page(each, after, draft)?;
@@ -44,6 +47,7 @@ fn put_pages(each: &[Line], after: &[Line], count: u16, draft: &mut Draft) -> Re
 fn put_rest(each: &[Line], bytes: u8, draft: &mut Draft) -> Result<(), Refusal>
     ensures lines { OnOk result (draft.new ≡ with_code (rest_labels bytes) (rest_code each.now bytes draft.old.labels) draft.old) }
     ensures refused { IfErr result (λ e. e ≡ OutOfMemory) }
+    ensures kept { OnErr result (Keeps draft.old draft.new) }
 {
     if bytes == 0 {
         return put(draft, &[]);
@@ -64,6 +68,7 @@ fn put_rest(each: &[Line], bytes: u8, draft: &mut Draft) -> Result<(), Refusal>
 fn put_block(each: &[Line], after: &[Line], bytes: u16, draft: &mut Draft) -> Result<(), Refusal>
     ensures lines { OnOk result (draft.new ≡ with_code (block_labels bytes) (block_code each.now after.now bytes draft.old.labels) draft.old) }
     ensures refused { IfErr result (λ e. e ≡ OutOfMemory) }
+    ensures kept { OnErr result (Keeps draft.old draft.new) }
 {
     put_pages(each, after, bytes / 256, draft)?;
     put_rest(each, (bytes % 256) as u8, draft)
@@ -73,6 +78,7 @@ fn put_block(each: &[Line], after: &[Line], bytes: u16, draft: &mut Draft) -> Re
 pub fn clear_bytes(bytes: u16, draft: &mut Draft) -> Result<(), Refusal>
     ensures lines { OnOk result (draft.new ≡ with_code (block_labels bytes) (clear_code bytes draft.old.labels) draft.old) }
     ensures refused { IfErr result (λ e. e ≡ OutOfMemory) }
+    ensures kept { OnErr result (Keeps draft.old draft.new) }
 {
     put(
         draft,
@@ -90,6 +96,7 @@ pub fn clear_bytes(bytes: u16, draft: &mut Draft) -> Result<(), Refusal>
 pub fn copy_bytes(bytes: u16, draft: &mut Draft) -> Result<(), Refusal>
     ensures lines { OnOk result (draft.new ≡ with_code (block_labels bytes) (copy_code bytes draft.old.labels) draft.old) }
     ensures refused { IfErr result (λ e. e ≡ OutOfMemory) }
+    ensures kept { OnErr result (Keeps draft.old draft.new) }
 {
     put(draft, &[Do(Ldy, Immediate, Byte(0))])?;
     put_block(

@@ -1,7 +1,7 @@
 // The choice of a case (C90 6.6.4.2).
-ghost use Rattle.std.specs.Prelude.{◌≡◌, ◌≤◌, OnOk, length, IfErr};
+ghost use Rattle.std.specs.Prelude.{◌≡◌, ◌≤◌, OnOk, OnErr, length, IfErr};
 ghost use Rattle.c65_base.specs.declared.refusal.Refusal.TheVariants.{OutOfMemory};
-ghost use Rattle.c65_genwide.specs.Lines.{with_lines};
+ghost use Rattle.c65_genwide.specs.Lines.{with_lines, Keeps};
 ghost use Rattle.c65_genentry.specs.Words.{with_code};
 ghost use Rattle.c65_genentry.specs.Choice.{bits_of, byte_of, word_test, long_test, test_code, case_code, choice_code};
 
@@ -33,6 +33,7 @@ fn byte_of(bits: u32, unit: u32) -> u8
 fn put_word_test(bits: u32, other: u32, case: u32, draft: &mut Draft) -> Result<(), Refusal>
     ensures lines { OnOk result (draft.new ≡ with_lines draft.old (word_test bits other case)) }
     ensures refused { IfErr result (λ e. e ≡ OutOfMemory) }
+    ensures kept { OnErr result (Keeps draft.old draft.new) }
 {
     put(
         draft,
@@ -48,6 +49,7 @@ fn put_word_test(bits: u32, other: u32, case: u32, draft: &mut Draft) -> Result<
 fn put_long_test(bits: u32, other: u32, case: u32, draft: &mut Draft) -> Result<(), Refusal>
     ensures lines { OnOk result (draft.new ≡ with_lines draft.old (long_test bits other case)) }
     ensures refused { IfErr result (λ e. e ≡ OutOfMemory) }
+    ensures kept { OnErr result (Keeps draft.old draft.new) }
 {
     put(
         draft,
@@ -73,6 +75,7 @@ fn put_test(
 ) -> Result<(), Refusal>
     ensures lines { OnOk result (draft.new ≡ with_lines draft.old (test_code width bits other case)) }
     ensures refused { IfErr result (λ e. e ≡ OutOfMemory) }
+    ensures kept { OnErr result (Keeps draft.old draft.new) }
 {
     match width {
         Width::Ax => put_word_test(bits, other, case, draft),
@@ -84,6 +87,7 @@ fn put_test(
 fn put_case(width: Width, value: i64, case: u32, draft: &mut Draft) -> Result<(), Refusal>
     ensures lines { OnOk result (draft.new ≡ with_code 1 (case_code width value case draft.old.labels) draft.old) }
     ensures refused { IfErr result (λ e. e ≡ OutOfMemory) }
+    ensures kept { OnErr result (Keeps draft.old draft.new) }
 {
     let other = fresh(draft)?;
     put_test(width, bits_of(value), other, case, draft)?;
@@ -93,9 +97,11 @@ fn put_case(width: Width, value: i64, case: u32, draft: &mut Draft) -> Result<()
 
 /// Goes to the case with the value that the primary register has. The label of the first case is
 /// given, and the others follow it.
+#[tactic(auto, using(c65_genwide::proofs::Kept::kept_same, crate::proofs::Kept::kept_code, crate::proofs::Kept::kept_on))]
 pub fn choose(width: Width, first: u32, values: &[i64], draft: &mut Draft) -> Result<(), Refusal>
     ensures lines { OnOk result (draft.new ≡ with_code (length values.now) (choice_code width first draft.old.labels values.now) draft.old) }
     ensures refused { IfErr result (λ e. e ≡ OutOfMemory) }
+    ensures kept { OnErr result (Keeps draft.old draft.new) }
 {
     let mut case = first;
     for value in values {

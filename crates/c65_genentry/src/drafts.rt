@@ -1,8 +1,8 @@
 // Labels.
-ghost use Rattle.std.specs.Prelude.{◌≡◌, ◌+◌, ◌∷◌, [], IfOk, OnOk, IfErr};
+ghost use Rattle.std.specs.Prelude.{◌≡◌, ◌+◌, ◌∷◌, [], IfOk, OnOk, OnErr, IfErr};
 ghost use Rattle.c65_base.specs.declared.refusal.Refusal.TheVariants.{OutOfMemory};
 ghost use Rattle.c65_code.specs.declared.line.Line.TheVariants.{Label};
-ghost use Rattle.c65_genwide.specs.Lines.{with_lines};
+ghost use Rattle.c65_genwide.specs.Lines.{with_lines, Keeps};
 ghost use Rattle.c65_genentry.specs.Drafts.{with_labels};
 
 use c65_base::Refusal;
@@ -10,10 +10,12 @@ use c65_code::{Draft, Line};
 use c65_genwide::put;
 
 /// A label that was not given before. Where there are 2^31 already, that is want of memory.
+#[tactic(auto, using(c65_genwide::proofs::Kept::kept_same))]
 pub fn fresh(draft: &mut Draft) -> Result<u32, Refusal>
     ensures value { IfOk result (λ l. l ≡ draft.old.labels) }
     ensures given { OnOk result (draft.new ≡ with_labels 1 draft.old) }
     ensures refused { IfErr result (λ e. e ≡ OutOfMemory) }
+    ensures kept { OnErr result (Keeps draft.old draft.new) }
 {
     if draft.labels() >= 0x8000_0000 {
         return Err(Refusal::OutOfMemory);
@@ -26,6 +28,7 @@ pub fn reserve(draft: &mut Draft, count: usize) -> Result<u32, Refusal>
     ensures value { IfOk result (λ l. l ≡ draft.old.labels) }
     ensures given { OnOk result (draft.new ≡ with_labels count draft.old) }
     ensures refused { IfErr result (λ e. e ≡ OutOfMemory) }
+    ensures kept { OnErr result (Keeps draft.old draft.new) }
 {
     let first = draft.labels();
     for _round in 0..count {
@@ -38,6 +41,7 @@ pub fn reserve(draft: &mut Draft, count: usize) -> Result<u32, Refusal>
 pub fn label(draft: &mut Draft, label: u32) -> Result<(), Refusal>
     ensures lines { OnOk result (draft.new ≡ with_lines draft.old (Label label ∷ [])) }
     ensures refused { IfErr result (λ e. e ≡ OutOfMemory) }
+    ensures kept { OnErr result (Keeps draft.old draft.new) }
 {
     put(draft, &[Line::Label(label)])
 }

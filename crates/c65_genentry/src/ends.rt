@@ -1,7 +1,7 @@
 // The end of a function (MACHINE.md, "Calls").
-ghost use Rattle.std.specs.Prelude.{◌≡◌, OnOk, IfErr};
+ghost use Rattle.std.specs.Prelude.{◌≡◌, OnOk, OnErr, IfErr};
 ghost use Rattle.c65_base.specs.declared.refusal.Refusal.TheVariants.{OutOfMemory};
-ghost use Rattle.c65_genwide.specs.Lines.{with_lines};
+ghost use Rattle.c65_genwide.specs.Lines.{with_lines, Keeps};
 ghost use Rattle.c65_genentry.specs.Ends.{restored_code, plain_end, variadic_end, end_code};
 
 use crate::places::{SP, TMP1};
@@ -19,6 +19,7 @@ use c65_mach::Op::{Lda, Ldy, Pha, Pla, Rts, Sta, Tay};
 fn put_restored(bank: u8, draft: &mut Draft) -> Result<(), Refusal>
     ensures lines { OnOk result (draft.new ≡ with_lines draft.old (restored_code bank)) }
     ensures refused { IfErr result (λ e. e ≡ OutOfMemory) }
+    ensures kept { OnErr result (Keeps draft.old draft.new) }
 {
     if bank > 0 {
         run(draft, Routine::RestRegs)
@@ -30,6 +31,7 @@ fn put_restored(bank: u8, draft: &mut Draft) -> Result<(), Refusal>
 fn put_plain(soft: u16, bank: u8, stacked: u16, draft: &mut Draft) -> Result<(), Refusal>
     ensures lines { OnOk result (draft.new ≡ with_lines draft.old (plain_end soft bank stacked)) }
     ensures refused { IfErr result (λ e. e ≡ OutOfMemory) }
+    ensures kept { OnErr result (Keeps draft.old draft.new) }
 {
     raise(soft, draft)?;
     put_restored(bank, draft)?;
@@ -41,6 +43,7 @@ fn put_plain(soft: u16, bank: u8, stacked: u16, draft: &mut Draft) -> Result<(),
 fn put_variadic(soft: u16, bank: u8, draft: &mut Draft) -> Result<(), Refusal>
     ensures lines { OnOk result (draft.new ≡ with_lines draft.old (variadic_end soft bank)) }
     ensures refused { IfErr result (λ e. e ≡ OutOfMemory) }
+    ensures kept { OnErr result (Keeps draft.old draft.new) }
 {
     put(
         draft,
@@ -72,6 +75,7 @@ fn put_variadic(soft: u16, bank: u8, draft: &mut Draft) -> Result<(), Refusal>
 pub fn put_end(frame: &Frame, draft: &mut Draft) -> Result<(), Refusal>
     ensures lines { OnOk result (draft.new ≡ with_lines draft.old (end_code frame.now)) }
     ensures refused { IfErr result (λ e. e ≡ OutOfMemory) }
+    ensures kept { OnErr result (Keeps draft.old draft.new) }
 {
     if frame.is_variadic() {
         put_variadic(frame.soft(), frame.bank(), draft)

@@ -1,7 +1,7 @@
 // The entry of a function (MACHINE.md, "Calls").
-ghost use Rattle.std.specs.Prelude.{◌≡◌, ◌<◌, OnOk, IfErr};
+ghost use Rattle.std.specs.Prelude.{◌≡◌, ◌<◌, OnOk, OnErr, IfErr};
 ghost use Rattle.c65_base.specs.declared.refusal.Refusal.TheVariants.{OutOfMemory};
-ghost use Rattle.c65_genwide.specs.Lines.{with_lines};
+ghost use Rattle.c65_genwide.specs.Lines.{with_lines, Keeps};
 ghost use Rattle.c65_genentry.specs.Entry.{push_of, pushed_code, counted_code, saved_code, kept_code, bank_store, near_load, far_load, load_code, moved_code, all_moved, taken_bytes, count_code, entry_code};
 
 use crate::places::{REGBANK, SP};
@@ -32,6 +32,7 @@ fn push_of(bytes: u32) -> Routine
 fn put_pushed(last: Arrival, draft: &mut Draft) -> Result<(), Refusal>
     ensures lines { OnOk result (draft.new ≡ with_lines draft.old (pushed_code last)) }
     ensures refused { IfErr result (λ e. e ≡ OutOfMemory) }
+    ensures kept { OnErr result (Keeps draft.old draft.new) }
 {
     match last {
         Arrival::Pushed(bytes) => run(draft, push_of(bytes)),
@@ -42,6 +43,7 @@ fn put_pushed(last: Arrival, draft: &mut Draft) -> Result<(), Refusal>
 fn store_bank(bank: u8, bytes: u8, draft: &mut Draft) -> Result<(), Refusal>
     ensures lines { OnOk result (draft.new ≡ with_lines draft.old (bank_store bank bytes)) }
     ensures refused { IfErr result (λ e. e ≡ OutOfMemory) }
+    ensures kept { OnErr result (Keeps draft.old draft.new) }
 {
     let byte = REGBANK.wrapping_add(bank);
     if bytes < 2 {
@@ -61,6 +63,7 @@ fn store_bank(bank: u8, bytes: u8, draft: &mut Draft) -> Result<(), Refusal>
 fn put_kept(last: Arrival, draft: &mut Draft) -> Result<(), Refusal>
     ensures lines { OnOk result (draft.new ≡ with_lines draft.old (kept_code last)) }
     ensures refused { IfErr result (λ e. e ≡ OutOfMemory) }
+    ensures kept { OnErr result (Keeps draft.old draft.new) }
 {
     match last {
         Arrival::Kept(bank, bytes) => store_bank(bank, bytes, draft),
@@ -72,6 +75,7 @@ fn put_kept(last: Arrival, draft: &mut Draft) -> Result<(), Refusal>
 fn put_saved(bank: u8, draft: &mut Draft) -> Result<(), Refusal>
     ensures lines { OnOk result (draft.new ≡ with_lines draft.old (saved_code bank)) }
     ensures refused { IfErr result (λ e. e ≡ OutOfMemory) }
+    ensures kept { OnErr result (Keeps draft.old draft.new) }
 {
     if bank > 0 {
         run(draft, Routine::SaveRegs)
@@ -84,6 +88,7 @@ fn put_saved(bank: u8, draft: &mut Draft) -> Result<(), Refusal>
 fn put_counted(variadic: bool, draft: &mut Draft) -> Result<(), Refusal>
     ensures lines { OnOk result (draft.new ≡ with_lines draft.old (counted_code variadic)) }
     ensures refused { IfErr result (λ e. e ≡ OutOfMemory) }
+    ensures kept { OnErr result (Keeps draft.old draft.new) }
 {
     if variadic {
         put(draft, &[Do(Tya, Implied, Nothing)])
@@ -96,6 +101,7 @@ fn put_counted(variadic: bool, draft: &mut Draft) -> Result<(), Refusal>
 fn put_count(variadic: bool, draft: &mut Draft) -> Result<(), Refusal>
     ensures lines { OnOk result (draft.new ≡ with_lines draft.old (count_code variadic)) }
     ensures refused { IfErr result (λ e. e ≡ OutOfMemory) }
+    ensures kept { OnErr result (Keeps draft.old draft.new) }
 {
     if variadic {
         run(draft, Routine::PushA)
@@ -108,6 +114,7 @@ fn load_near(at: u8, bytes: u8, draft: &mut Draft) -> Result<(), Refusal>
     requires { at < 255 }
     ensures lines { OnOk result (draft.new ≡ with_lines draft.old (near_load at bytes)) }
     ensures refused { IfErr result (λ e. e ≡ OutOfMemory) }
+    ensures kept { OnErr result (Keeps draft.old draft.new) }
 {
     if bytes < 2 {
         put(
@@ -123,6 +130,7 @@ fn load_near(at: u8, bytes: u8, draft: &mut Draft) -> Result<(), Refusal>
 fn load_far(at: u16, bytes: u8, draft: &mut Draft) -> Result<(), Refusal>
     ensures lines { OnOk result (draft.new ≡ with_lines draft.old (far_load at bytes)) }
     ensures refused { IfErr result (λ e. e ≡ OutOfMemory) }
+    ensures kept { OnErr result (Keeps draft.old draft.new) }
 {
     put(
         draft,
@@ -147,6 +155,7 @@ fn load_far(at: u16, bytes: u8, draft: &mut Draft) -> Result<(), Refusal>
 fn load_at(at: u16, bytes: u8, draft: &mut Draft) -> Result<(), Refusal>
     ensures lines { OnOk result (draft.new ≡ with_lines draft.old (load_code at bytes)) }
     ensures refused { IfErr result (λ e. e ≡ OutOfMemory) }
+    ensures kept { OnErr result (Keeps draft.old draft.new) }
 {
     if at < 255 {
         load_near(at as u8, bytes, draft)
@@ -159,14 +168,17 @@ fn load_at(at: u16, bytes: u8, draft: &mut Draft) -> Result<(), Refusal>
 fn put_moved(moved: Moved, draft: &mut Draft) -> Result<(), Refusal>
     ensures lines { OnOk result (draft.new ≡ with_lines draft.old (moved_code moved)) }
     ensures refused { IfErr result (λ e. e ≡ OutOfMemory) }
+    ensures kept { OnErr result (Keeps draft.old draft.new) }
 {
     load_at(moved.from, moved.bytes, draft)?;
     store_bank(moved.bank, moved.bytes, draft)
 }
 
+#[tactic(auto, using(c65_genwide::proofs::Kept::kept_same, crate::proofs::Kept::kept_lines, crate::proofs::Kept::kept_on))]
 fn put_all_moved(all: &[Moved], draft: &mut Draft) -> Result<(), Refusal>
     ensures lines { OnOk result (draft.new ≡ with_lines draft.old (all_moved all.now)) }
     ensures refused { IfErr result (λ e. e ≡ OutOfMemory) }
+    ensures kept { OnErr result (Keeps draft.old draft.new) }
 {
     for moved in all {
         put_moved(*moved, draft)?;
@@ -189,6 +201,7 @@ fn taken_bytes(variadic: bool, soft: u16) -> u16
 pub fn put_entry(frame: &Frame, draft: &mut Draft) -> Result<(), Refusal>
     ensures lines { OnOk result (draft.new ≡ with_lines draft.old (entry_code frame.now)) }
     ensures refused { IfErr result (λ e. e ≡ OutOfMemory) }
+    ensures kept { OnErr result (Keeps draft.old draft.new) }
 {
     put_pushed(frame.last(), draft)?;
     put_counted(frame.is_variadic(), draft)?;

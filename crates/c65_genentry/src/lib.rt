@@ -1,6 +1,6 @@
 //! Lines that functions and statements need beside their expressions: entry and end of a function,
 //! blocks of bytes that are cleared or copied, and the choice of a case.
-#![tactic(auto)]
+#![tactic(auto, using(c65_genwide::proofs::Kept::kept_then, c65_genwide::proofs::Kept::kept_last, crate::proofs::Kept::code_then, crate::proofs::Kept::labels_then, crate::proofs::Kept::code_last))]
 
 mod bytes;
 mod choice;

@@ -1,7 +1,7 @@
 // Pointers in the zero page, and what is stored through them.
-ghost use Rattle.std.specs.Prelude.{◌≡◌, ◌<◌, OnOk, IfErr};
+ghost use Rattle.std.specs.Prelude.{◌≡◌, ◌<◌, OnOk, OnErr, IfErr};
 ghost use Rattle.c65_base.specs.declared.refusal.Refusal.TheVariants.{OutOfMemory};
-ghost use Rattle.c65_genwide.specs.Lines.{with_lines};
+ghost use Rattle.c65_genwide.specs.Lines.{with_lines, Keeps};
 ghost use Rattle.c65_genentry.specs.Pointers.{near_code, symbol_code, second_byte, upper_bytes, third_bytes, further_bytes, far_store, clear_code};
 
 use crate::places::{PTR1, REGBANK, SP, SREG, TMP1, TMP2};
@@ -18,6 +18,7 @@ pub fn point_near(pointer: u8, at: u16, draft: &mut Draft) -> Result<(), Refusal
     requires { pointer < 255 }
     ensures lines { OnOk result (draft.new ≡ with_lines draft.old (near_code pointer at)) }
     ensures refused { IfErr result (λ e. e ≡ OutOfMemory) }
+    ensures kept { OnErr result (Keeps draft.old draft.new) }
 {
     put(
         draft,
@@ -38,6 +39,7 @@ pub fn point_symbol(pointer: u8, sym: Sym, at: u16, draft: &mut Draft) -> Result
     requires { pointer < 255 }
     ensures lines { OnOk result (draft.new ≡ with_lines draft.old (symbol_code pointer sym at)) }
     ensures refused { IfErr result (λ e. e ≡ OutOfMemory) }
+    ensures kept { OnErr result (Keeps draft.old draft.new) }
 {
     put(
         draft,
@@ -53,6 +55,7 @@ pub fn point_symbol(pointer: u8, sym: Sym, at: u16, draft: &mut Draft) -> Result
 fn store_second(draft: &mut Draft) -> Result<(), Refusal>
     ensures lines { OnOk result (draft.new ≡ with_lines draft.old second_byte) }
     ensures refused { IfErr result (λ e. e ≡ OutOfMemory) }
+    ensures kept { OnErr result (Keeps draft.old draft.new) }
 {
     put(
         draft,
@@ -67,6 +70,7 @@ fn store_second(draft: &mut Draft) -> Result<(), Refusal>
 fn store_upper(draft: &mut Draft) -> Result<(), Refusal>
     ensures lines { OnOk result (draft.new ≡ with_lines draft.old upper_bytes) }
     ensures refused { IfErr result (λ e. e ≡ OutOfMemory) }
+    ensures kept { OnErr result (Keeps draft.old draft.new) }
 {
     put(
         draft,
@@ -84,6 +88,7 @@ fn store_upper(draft: &mut Draft) -> Result<(), Refusal>
 fn store_third(bytes: u32, draft: &mut Draft) -> Result<(), Refusal>
     ensures lines { OnOk result (draft.new ≡ with_lines draft.old (third_bytes bytes)) }
     ensures refused { IfErr result (λ e. e ≡ OutOfMemory) }
+    ensures kept { OnErr result (Keeps draft.old draft.new) }
 {
     if bytes < 3 {
         put(draft, &[])
@@ -96,6 +101,7 @@ fn store_third(bytes: u32, draft: &mut Draft) -> Result<(), Refusal>
 fn store_further(bytes: u32, draft: &mut Draft) -> Result<(), Refusal>
     ensures lines { OnOk result (draft.new ≡ with_lines draft.old (further_bytes bytes)) }
     ensures refused { IfErr result (λ e. e ≡ OutOfMemory) }
+    ensures kept { OnErr result (Keeps draft.old draft.new) }
 {
     if bytes < 2 {
         put(draft, &[])
@@ -111,6 +117,7 @@ fn store_further(bytes: u32, draft: &mut Draft) -> Result<(), Refusal>
 pub fn store_far(at: u16, bytes: u32, draft: &mut Draft) -> Result<(), Refusal>
     ensures lines { OnOk result (draft.new ≡ with_lines draft.old (far_store at bytes)) }
     ensures refused { IfErr result (λ e. e ≡ OutOfMemory) }
+    ensures kept { OnErr result (Keeps draft.old draft.new) }
 {
     put(
         draft,
@@ -133,6 +140,7 @@ pub fn store_far(at: u16, bytes: u32, draft: &mut Draft) -> Result<(), Refusal>
 pub fn clear_bank(bank: u8, bytes: u32, draft: &mut Draft) -> Result<(), Refusal>
     ensures lines { OnOk result (draft.new ≡ with_lines draft.old (clear_code bank bytes)) }
     ensures refused { IfErr result (λ e. e ≡ OutOfMemory) }
+    ensures kept { OnErr result (Keeps draft.old draft.new) }
 {
     let byte = REGBANK.wrapping_add(bank);
     put(

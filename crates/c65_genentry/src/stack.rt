@@ -1,8 +1,8 @@
 // The software stack's pointer raised and lowered.
-ghost use Rattle.std.specs.Prelude.{◌≡◌, OnOk, IfErr};
+ghost use Rattle.std.specs.Prelude.{◌≡◌, OnOk, OnErr, IfErr};
 ghost use Rattle.c65_base.specs.declared.refusal.Refusal.TheVariants.{OutOfMemory};
 ghost use Rattle.c65_mach.specs.declared.rows.Op.TheVariants.{Ldy};
-ghost use Rattle.c65_genwide.specs.Lines.{value, with_lines};
+ghost use Rattle.c65_genwide.specs.Lines.{value, with_lines, Keeps};
 ghost use Rattle.c65_genentry.specs.Stack.{count_of, small_raise, small_lower, raise_code, lower_code};
 
 use c65_base::Refusal;
@@ -37,6 +37,7 @@ fn count_of(bytes: u8) -> Option<Count>
 fn small_raise(bytes: u8, draft: &mut Draft) -> Result<(), Refusal>
     ensures lines { OnOk result (draft.new ≡ with_lines draft.old (small_raise bytes)) }
     ensures refused { IfErr result (λ e. e ≡ OutOfMemory) }
+    ensures kept { OnErr result (Keeps draft.old draft.new) }
 {
     if bytes == 0 {
         return put(draft, &[]);
@@ -53,6 +54,7 @@ fn small_raise(bytes: u8, draft: &mut Draft) -> Result<(), Refusal>
 fn small_lower(bytes: u8, draft: &mut Draft) -> Result<(), Refusal>
     ensures lines { OnOk result (draft.new ≡ with_lines draft.old (small_lower bytes)) }
     ensures refused { IfErr result (λ e. e ≡ OutOfMemory) }
+    ensures kept { OnErr result (Keeps draft.old draft.new) }
 {
     if bytes == 0 {
         return put(draft, &[]);
@@ -71,6 +73,7 @@ fn small_lower(bytes: u8, draft: &mut Draft) -> Result<(), Refusal>
 pub fn raise(bytes: u16, draft: &mut Draft) -> Result<(), Refusal>
     ensures lines { OnOk result (draft.new ≡ with_lines draft.old (raise_code bytes)) }
     ensures refused { IfErr result (λ e. e ≡ OutOfMemory) }
+    ensures kept { OnErr result (Keeps draft.old draft.new) }
 {
     for _round in 0..bytes / 255 {
         small_raise(255, draft)?;
@@ -83,6 +86,7 @@ pub fn raise(bytes: u16, draft: &mut Draft) -> Result<(), Refusal>
 pub fn lower(bytes: u16, draft: &mut Draft) -> Result<(), Refusal>
     ensures lines { OnOk result (draft.new ≡ with_lines draft.old (lower_code bytes)) }
     ensures refused { IfErr result (λ e. e ≡ OutOfMemory) }
+    ensures kept { OnErr result (Keeps draft.old draft.new) }
 {
     for _round in 0..bytes / 255 {
         small_lower(255, draft)?;

@@ -1,0 +1,12 @@
+use Rattle.c65_genwide.proofs.Kept.{kept_then, kept_last}
+use Rattle.c65_genentry.proofs.Kept.{labels_then, labels_last, refused_then}
+use Rattle.c65_genentry.proofs.bytes.put_rest.Goals as goal
+
+pub returns-in_err-label-clause-kept : goal.returns-in_err-label-clause-kept
+returns-in_err-label-clause-kept c = refused_then c.from_residual-in_err-label.result (labels_then _ _ _ 1 c.in_ok-head.ensures.given c.in_err-label.ensures.kept)
+
+pub returns-in_err-put-clause-kept : goal.returns-in_err-put-clause-kept
+returns-in_err-put-clause-kept c = refused_then c.from_residual-in_err-put.result (labels_then _ _ _ 1 c.in_ok-head.ensures.given (kept_then _ _ _ _ c.in_ok-label.ensures.lines c.in_err-put.ensures.kept))
+
+pub returns-clause-kept : goal.returns-clause-kept
+returns-clause-kept c = labels_last _ _ _ _ 1 c.in_ok-head.ensures.given (kept_last _ _ _ _ _ c.in_ok-label.ensures.lines (kept_last _ _ _ _ _ c.in_ok-put.ensures.lines c.put-3.ensures.kept))
