@@ -97,16 +97,16 @@ fn put_case(width: Width, value: i64, case: u32, draft: &mut Draft) -> Result<()
 
 /// Goes to the case with the value that the primary register has. The label of the first case is
 /// given, and the others follow it.
-#[tactic(auto, using(c65_genwide::proofs::Kept::kept_same, crate::proofs::Kept::kept_code, crate::proofs::Kept::kept_on))]
 pub fn choose(width: Width, first: u32, values: &[i64], draft: &mut Draft) -> Result<(), Refusal>
     ensures lines { OnOk result (draft.new ≡ with_code (length values.now) (choice_code width first draft.old.labels values.now) draft.old) }
     ensures refused { IfErr result (λ e. e ≡ OutOfMemory) }
     ensures kept { OnErr result (Keeps draft.old draft.new) }
 {
-    let mut case = first;
-    for value in values {
-        put_case(width, *value, case, draft)?;
-        case = case.wrapping_add(1);
+    match values {
+        [] => put(draft, &[]),
+        [value, rest @ ..] => {
+            put_case(width, *value, first, draft)?;
+            choose(width, first.wrapping_add(1), rest, draft)
+        }
     }
-    Ok(())
 }
