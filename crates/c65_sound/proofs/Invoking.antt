@@ -23,13 +23,13 @@ use Rattle.c65_meaning.specs.Costs.{argument_bytes, soft_cost}
 use Rattle.c65_meaning.specs.Calls.{passed_to, fit_definition, agree, accepts}
 use Rattle.c65_meaning.specs.Library.{effect_of}
 use Rattle.c65_meaning.specs.State.{Frame, Scene, State, Undefined, Deep, Running, turned, block_in}
-use Rattle.c65_meaning.specs.Step.{one, place_in, are_values, is_deep, unless_deep, new_frame, with_params, entered, called, unless_refused, accepted, call_of, invoked, func_in, frames_below, perform}
+use Rattle.c65_meaning.specs.Step.{one, place_in, are_values, is_deep, unless_deep, new_frame, with_params, entered, called, unless_refused, accepted, call_of, invoked, served, func_in, frames_below, perform}
 use Rattle.c65_scoped.specs.Scopes.{IsInScope, IsScoped, IsScopedBody, HasScopedBody, entering}
 use Rattle.c65_scoped.specs.Library.{type_of, IsTypedAs, HasLibraryType}
 use Rattle.c65_scoped.specs.Programs.{IsScopedProgram}
 use Rattle.c65_sound.specs.Laws.{HasBlock}
 use Rattle.c65_sound.specs.Statements.{HasFrame, IsReady}
-use Rattle.c65_sound.proofs.Stacks.{Kind, pointing, kind_at, kind_given, kind_from, Gives, Sound, Suits, AreSuited, StoreFits, Call, inside, IsCallee, pushed, Exit, breaking, continuing, returning, Allows, D, Takes, Out, IsScene}
+use Rattle.c65_sound.proofs.Stacks.{Kind, pointing, kind_at, kind_given, kind_from, Below, Gives, Sound, Stands, Suits, AreSuited, StoreFits, Call, inside, IsCallee, pushed, Exit, breaking, continuing, returning, Allows, D, Takes, Out, IsScene}
 use Rattle.c65_sound.proofs.Values.{stands}
 use Rattle.c65_sound.proofs.Scopes.{Grows, ready_stays, IsBegun}
 use Rattle.c65_sound.proofs.Statements.{suits_on, suited_on, takes_on, stmt_takes}
@@ -139,3 +139,96 @@ module _ (p : ProgramTy) (w : IsProgram p.unit p.main) (s : IsScopedProgram p.un
     enough_of : (t : Fn) (is : List ℕ) (ts : List Ty) (vs : List Value) → MatchParams p.unit t is → fit_definition p.unit ts is t ≡ true → AllSuited E ts vs → Enough E is vs
     enough_of (fn q unknown variadic cdecl) is ts vs m f a = objects_enough E p.unit ts is vs f a
     enough_of (fn q (known ps) variadic cdecl) is ts vs m f a = fit_enough E p.unit ts variadic ps is vs f m a
+
+    -- what a step of the call finds: the values that wait below its arguments, and the work behind it
+    module _ (k : List Item) (ks : List Kind) (vs : List Value) (d : Scene) (i : IsScene p.unit c d) (suited : AreSuited E ks vs) (args : List Value) (types : List Ty) (given : AllSuited E types args) where
+      moved : Grows p.unit c d
+      moved = moves_here (inside call) tt p c d i
+
+      enters : (f : ℕ) (g : FuncTy) (body : Stmt) (cost : ℕ) → slice_get p.unit.funcs f ≡ Some g → g.body ≡ Some body → Enough E g.params args → Gives (kind_given g.ty) (Takes (inside call) p.unit c k) ks → IsWell p.unit (entered p.unit f g body cost args k vs (turned d))
+      enters f g body cost m j o t =
+          let first : Scene = new_frame p.unit f cost (turned d) in
+          let same : Grows p.unit (with_frames c first.frames) (with_frames first first.frames) = grown_with p c first first.frames moved.blocks in
+          let scope = at.active.ready in
+          body_enters f g body k ks vs first (with_params p.unit g.params args first) m j refl
+          (params_begin p g.params args [] first (automatic_params p.unit g.params (body_typed f g body m j).params) (ready_outside p (entering call.func.params []) (with_frames c c.frames) first _ _ refl moved.blocks scope) (fits_here (inside call) tt p c d moved i.store) (stand_on first types args moved.blocks given) (enough_on first g.params args o))
+          (λ e n. (suited_on (inside call) p.unit (with_frames c e.frames) (with_frames e e.frames) (grown_with p c e e.frames (λ b h. n.blocks b (moved.blocks b h))) ks vs suited,
+              subst (λ (fs : List Frame). AreWaiting p.unit e fs (record { func = g; code = body; base = ks; behind = k })) (sym i.frames)
+              (waits e (record { func = g; code = body; base = ks; behind = k }) (λ b h. n.blocks b (moved.blocks b h)) c.frames at.active at.waiting (t.0, t.1, takes_on (inside call) p.unit c (with_frames c c.frames) own k (t.0 ∷ ks) t.2))))
+        where
+          stand_on : (e : Scene) (ts : List Ty) (ws : List Value) → ((b : ℕ) → E b → D p.unit e b) → AllSuited E ts ws → AllStand (D p.unit e) ws
+          stand_on e ts ws g h = raise_all ws (all_stand ts ws h)
+            where
+              raise_one : (v : Value) → Stands E v → Stands (D p.unit e) v
+              raise_one (Place b o) h = g b h
+              raise_one (Whole z) h = tt
+              raise_one Null h = tt
+              raise_one Opaque h = tt
+              raise_one NoValue h = tt
+
+              raise_all : (ws : List Value) → AllStand E ws → AllStand (D p.unit e) ws
+              raise_all [] h = tt
+              raise_all (v ∷ ws) h = (raise_one v h.0, raise_all ws h.1)
+
+          enough_on : (e : Scene) (os : List ℕ) (ws : List Value) → Enough E os ws → Enough (D p.unit e) os ws
+          enough_on e [] ws h = tt
+          enough_on e (j ∷ os) [] h = absurd h
+          enough_on e (j ∷ os) (v ∷ ws) h = enough_on e os ws h
+
+      serves : (l : Library) (g : FuncTy) → g.ty ≡ type_of l → fit_definition p.unit types g.params g.ty ≡ true → Gives (kind_given g.ty) (Takes (inside call) p.unit c k) ks → IsWell p.unit (served l args k vs d (effect_of d l args))
+      serves l g e f t =
+          let there = all_suited_on d moved types args given in
+          let fits : fit_definition p.unit types g.params (type_of l) ≡ true = subst (λ (y : Fn). fit_definition p.unit types g.params y ≡ true) e f in
+          served_well p d call (at_later p c d call moved at) (fits_here (inside call) tt p c d moved i.store) l args (library_arguments d.store p.unit.types types l args fits there) k ks vs
+          (t.0, subst (λ (y : Kind). Below y t.0) (ap kind_given e ∙ library_kind l) t.1, takes_on (inside call) p.unit c d moved k (t.0 ∷ ks) t.2)
+          (suited_on (inside call) p.unit c d moved ks vs suited)
+        where
+          library_kind : (m : Library) → kind_given (type_of m) ≡ kind_from m
+          library_kind the.Putchar = refl
+          library_kind the.Getchar = refl
+          library_kind the.Puts = refl
+          library_kind the.Exit = refl
+          library_kind the.Memcpy = refl
+          library_kind the.Memset = refl
+          library_kind the.Strcmp = refl
+          library_kind the.Strcpy = refl
+          library_kind the.Strlen = refl
+
+      calls : (f : ℕ) (g : FuncTy) (body : Option Stmt) (library : Option Library) → slice_get p.unit.funcs f ≡ Some g → g.body ≡ body → g.library ≡ library → fit_definition p.unit types g.params g.ty ≡ true → Gives (kind_given g.ty) (Takes (inside call) p.unit c k) ks → IsWell p.unit (called p.unit f types args g body library k vs d)
+      calls f g (Some body) library m j l o t = enters f g body (soft_cost p.unit (argument_bytes p.unit types) body) m j (enough_of g.ty g.params types args (body_typed f g body m j).prototype o given) t
+      calls f g None (Some x) m j l o t = serves x g (subst (λ (y : Option Library). IsTypedAs y g.ty) l (all_at HasLibraryType p.unit.funcs f g s.library m)) o t
+      calls f g None None m j l o t = absurd (subst (λ (y : Option Library). IsWhole None y) l (subst (λ (x : Option Stmt). IsWhole x g.library) j (all_at IsLinked p.unit.funcs f g w.funcs m)))
+
+      unless_refused_well : (callee : Ty) (g : FuncTy) (t q : Bool) (x : State) → accepts p.unit callee types g ≡ q → (accepts p.unit callee types g ≡ true → IsWell p.unit x) → IsWell p.unit (unless_refused p.unit (if t then (if q then None else Some (By CalleeType)) else Some (By NoResult)) x)
+      unless_refused_well callee g true true x e h = h e
+      unless_refused_well callee g true false x e h = tt
+      unless_refused_well callee g false q x e h = tt
+
+      module _ (callee : Ty) (h : IsCallee callee types) (t : Gives (kind_given h.type) (Takes (inside call) p.unit c k) ks) where
+        accepted_well : (f : ℕ) (o : Option FuncTy) → slice_get p.unit.funcs f ≡ o → IsWell p.unit (accepted p.unit callee f types args o k vs d)
+        accepted_well f None m = tt
+        accepted_well f (Some g) m = unless_refused_well callee g (are_values args) (accepts p.unit callee types g) (called p.unit f types args g g.body g.library k vs d) refl (λ a. fits a)
+          where
+            fits : accepts p.unit callee types g ≡ true → IsWell p.unit (called p.unit f types args g g.body g.library k vs d)
+            fits a =
+                let same : accepts p.unit (pointer (plain (function h.type))) types g ≡ true = subst (λ (y : Ty). accepts p.unit y types g ≡ true) h.named a in
+                let parts = and_parts (are_compatible p.unit.types (plain (function h.type)) (plain (function g.ty))) (fit_definition p.unit (passed_to (Some h.type) types) g.params g.ty) same in
+                let fit = subst (λ (ts : List Ty). fit_definition p.unit ts g.params g.ty ≡ true) h.passed parts.1 in
+                calls f g g.body g.library m refl refl fit (t.0, subst (λ (y : Kind). Below y t.0) (callee_kind p.unit.types h.type g.ty parts.0) t.1, t.2)
+
+        pub call_well : (f : Value) → Suits E pointing f → IsWell p.unit (call_of p.unit callee types args f k vs d)
+        call_well (Place f zero) a = accepted_well f (slice_get p.unit.funcs f) refl
+        call_well (Place f (suc o)) a = tt
+        call_well Null a = tt
+        call_well Opaque a = tt
+        call_well NoValue a = tt
+        call_well (Whole z) a = absurd a
+
+    pub invoke_well : (callee : Ty) (types : List Ty) (k : List Item) (ks : List Kind) (vs : List Value) (d : Scene) → Takes (inside call) p.unit c (Invoke callee types ∷ k) ks → IsScene p.unit c d → AreSuited E ks vs → IsWell p.unit (perform p (Invoke callee types) k vs d)
+    invoke_well callee types k ks vs d t i a =
+        let r = are_taken E types (pointing ∷ t.1) vs (subst (λ (js : List Kind). AreSuited E js vs) t.2 a) in
+        subst (λ (o : Option (List Value × List Value)). IsWell p.unit (invoked p.unit callee types k o d)) (sym r.is) (with_callee r.args r.rest r.suited r.below)
+      where
+        with_callee : (args rest : List Value) → AllSuited E types args → AreSuited E (pointing ∷ t.1) rest → IsWell p.unit (invoked p.unit callee types k (Some (args, rest)) d)
+        with_callee args [] g b = absurd b
+        with_callee args (f ∷ rest) g b = call_well k t.1 rest d i b.1 args types g callee t.0 t.3 f b.0
