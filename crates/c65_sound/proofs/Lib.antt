@@ -16,3 +16,4 @@ pub mod LibraryCalls
 pub mod Arguments
 pub mod Entering
 pub mod Invoking
+pub mod Whole
