@@ -3,7 +3,7 @@ use Rattle.std.proofs.Common.{◌≡◌, ℕ, zero, suc, ◌<◌, ◌≤◌, Lis
 use Rattle.std.specs.Prelude.{IsSome, IsTrue, All, nat_lt}
 use Rattle.std.proofs.lemmas.Bool.{le-leb, leb-true}
 use Rattle.std.proofs.lemmas.Bool.Decides.{Decides-eqb, Decides-ltb}
-use Rattle.c65_ctype.specs.Trees.{Fn}
+use Rattle.c65_ctype.specs.Trees.{type_in, Fn}
 use Rattle.c65_csem.specs.declared.items.Cell.{Cell}
 use Rattle.c65_csem.specs.declared.items.Cell.TheVariants.{Byte, Piece}
 use Rattle.c65_csem.specs.declared.items.Library.{Library}
@@ -11,6 +11,7 @@ use Rattle.c65_csem.specs.declared.items.Target.{Target}
 use Rattle.c65_csem.specs.declared.items.Target.TheVariants as T
 use Rattle.c65_csem.specs.Places.{is_automatic}
 use Rattle.c65_csem.specs.Trees.{ObjectTy, FuncTy, UnitTy}
+use Rattle.c65_csem.specs.Typed.{result_of}
 use Rattle.c65_meaning.specs.Shapes.{object_in, lives_in_frame}
 use Rattle.c65_scoped.specs.Initial.{IsOfWholeRun, PointsToWholeRun, HasStaticPointers, first_pieces, second_pieces, IsWhole, BeginsWhole}
 use Rattle.c65_scoped.specs.Library.{IsTypedAs, HasLibraryType}
@@ -110,7 +111,7 @@ module _ (u : UnitTy) where
 
   tells_starts : (f : Option FuncTy) → Tells (b.starts u f) (Starts u f)
   tells_starts None = tells_never
-  tells_starts (Some f) = tells_takes f.params
+  tells_starts (Some f) = both (tells_takes f.params) (tells_itself (is_int (type_in (result_of f.ty))))
 
   -- ---- whole programs
 

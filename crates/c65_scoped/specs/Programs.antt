@@ -3,6 +3,7 @@ use Rattle.std.specs.Prelude.{ℕ, Bool, true, false, List, [], ◌∷◌, Optio
 use Rattle.c65_ints.specs.declared.types.IntType.TheVariants.{Int}
 use Rattle.c65_ctype.specs.Trees.{Ty, int, pointer, type_in}
 use Rattle.c65_csem.specs.Trees.{ObjectTy, FuncTy, UnitTy}
+use Rattle.c65_csem.specs.Typed.{result_of}
 use Rattle.c65_meaning.specs.Shapes.{object_in}
 use Rattle.c65_scoped.specs.Scopes.{HasScopedBody}
 use Rattle.c65_scoped.specs.Initial.{HasStaticPointers, BeginsWhole}
@@ -26,9 +27,10 @@ TakesArguments u [] = ⊤
 TakesArguments u (i ∷ j ∷ []) = IsTrue (has_type is_int (object_in u i)) × IsTrue (has_type is_pointer (object_in u j))
 TakesArguments u _ = ⊥
 
+-- and gives an int
 abbrev pub Starts : UnitTy → Option FuncTy → Type 0
 Starts u None = ⊥
-Starts u (Some f) = TakesArguments u f.params
+Starts u (Some f) = TakesArguments u f.params × IsTrue (is_int (type_in (result_of f.ty)))
 
 pub record IsScopedProgram (u : UnitTy) (main : ℕ) : Type 0 where
   pub bodies : All (HasScopedBody u) u.funcs

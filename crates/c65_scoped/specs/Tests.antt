@@ -1,6 +1,6 @@
 -- Tests of scopes, where each object is marked that is in scope, of initial values and of types.
 use Rattle.std.specs.Prelude.{ℕ, List, [], ◌∷◌, Bool, true, false, not, ◌||◌, ◌&&◌, Option, Some, None, slice_get, slice_set, get_or, length, replicate, nat_lt, nat_le, ◌==◌, if◌then◌else◌}
-use Rattle.c65_ctype.specs.Trees.{Fn}
+use Rattle.c65_ctype.specs.Trees.{type_in, Fn}
 use Rattle.c65_csem.specs.declared.items.Cell.{Cell}
 use Rattle.c65_csem.specs.declared.items.Cell.TheVariants.{Byte, Piece}
 use Rattle.c65_csem.specs.declared.items.Library.{Library}
@@ -8,6 +8,7 @@ use Rattle.c65_csem.specs.declared.items.Target.{Target}
 use Rattle.c65_csem.specs.declared.items.Target.TheVariants as T
 use Rattle.c65_csem.specs.Places.{is_automatic}
 use Rattle.c65_csem.specs.Trees.{Typed, node, Node, constant, null, literal, object, func, deref, member, load, address, decay, convert, unary, binary, both, either, choice, comma, assign, assign_op, assign_step, step, copy, call, Nodes, none, some, Stmt, empty, eval, set_part, clear, block, if_stmt, while, do_while, for_loop, switch, case, default, label, goto, break, continue, return, Stmts, no_stmts, and_stmts, MaybeTyped, absent, present, ObjectTy, FuncTy, UnitTy}
+use Rattle.c65_csem.specs.Typed.{result_of}
 use Rattle.c65_scoped.specs.Initial.{first_pieces, second_pieces}
 use Rattle.c65_scoped.specs.Kinds.{is_typed_as}
 use Rattle.c65_scoped.specs.Programs.{is_int, is_pointer, has_type}
@@ -175,7 +176,7 @@ module _ (u : UnitTy) where
 
   abbrev pub starts : Option FuncTy → Bool
   starts None = false
-  starts (Some f) = takes_arguments f.params
+  starts (Some f) = takes_arguments f.params && is_int (type_in (result_of f.ty))
 
   abbrev pub is_scoped_program : ℕ → Bool
   is_scoped_program main = if begin_well u u.objects && have_library_types u.funcs && starts (slice_get u.funcs main) then are_scoped_bodies u else false

@@ -1,6 +1,7 @@
 // Whether a program is scoped.
 ghost use Rattle.std.specs.Prelude.{◌≡◌, ◌↔◌, option_map, option_copied, slice_get, IfOk, IsTrue};
-ghost use Rattle.c65_ctype.specs.Views.{ty_of};
+ghost use Rattle.c65_ctype.specs.Trees.{type_in};
+ghost use Rattle.c65_ctype.specs.Views.{ty_of, qty_of};
 ghost use Rattle.c65_csem.specs.Views.{object_of, func_of, unit_of};
 ghost use Rattle.c65_scoped.specs.Programs;
 ghost use Rattle.c65_scoped.specs.Programs.{IsScopedProgram};
@@ -11,7 +12,7 @@ use crate::initial::begin_well;
 use crate::library::{have_library_types, is_number};
 use crate::marks::object;
 use c65_csem::{Parts, TFunc, TObject, TProgram};
-use c65_ctype::CType;
+use c65_ctype::{CType, QType};
 use c65_ints::IntType;
 use std::alloc::{AllocError, Global};
 
@@ -64,11 +65,17 @@ fn takes_arguments(parts: &Parts, params: &[u32]) -> bool
     params.is_empty() || params.len() == 2 && has_words(parts, params[0], params[1])
 }
 
+fn gives_int(q: &QType) -> bool
+    ensures { result ≡ Programs.is_int (type_in (qty_of q.now)) }
+{
+    is_int(&q.ty)
+}
+
 fn starts_in(parts: &Parts, func: Option<&TFunc>) -> bool
     ensures { result ≡ Tests.starts (unit_of parts.now) (option_map func_of (option_copied func.entry)) }
 {
     match func {
-        Some(func) => takes_arguments(parts, &func.params),
+        Some(func) => takes_arguments(parts, &func.params) && gives_int(&func.ty.result),
         None => false,
     }
 }
