@@ -1,0 +1,11 @@
+pub mod Local
+pub mod Seq
+pub mod Ends
+pub mod Runs
+pub mod Inits
+pub mod Decls
+pub mod Words
+pub mod Opens
+pub mod Stmts
+pub mod Units
+pub mod Whole

@@ -1,0 +1,179 @@
+-- What the machine reads depends on no token behind the one at which it ends.
+use Rattle.std.proofs.Common.{◌≡◌, ℕ, ◌≤◌, List, [], ◌∷◌, ◌++◌, Bool, true, false, refl, ap, subst, inl, inr, arith}
+use Rattle.std.specs.Prelude.{Ok, if◌then◌else◌, nat_eq, Option, None, Some}
+use Rattle.c65_base.specs.Answers.{◌>>=◌}
+use Rattle.c65_base.specs.declared.refusal.Pos.{Pos}
+use Rattle.c65_scan.specs.declared.token.Token.{Token}
+use Rattle.c65_tree.specs.Trees as t
+use Rattle.c65_tree.specs.Depth.{specifiers_depth}
+use Rattle.c65_measured.specs.declared.operator.Prefix.{Prefix}
+use Rattle.c65_measured.specs.declared.sign.Sign.{Sign}
+use Rattle.c65_measured.specs.declared.sign.Sign.TheVariants as signs
+use Rattle.c65_measured.specs.Signs.{sign_of, prefix_of}
+use Rattle.c65_measured.specs.Listings.{Listed, nothing_listed}
+use Rattle.c65_scopes.specs.Scopes.{Blocks, is_type_in}
+use Rattle.c65_parse.specs.declared.frame.Change.{Change}
+use Rattle.c65_parse.specs.declared.frame.Sort.{Sort}
+use Rattle.c65_parse.specs.declared.frame.Sort.TheVariants as sorts
+use Rattle.c65_parse.specs.Frames.{Frame, in_operation, in_prefix, Held, operand, opened, sizeof_word, have_expr, have_declarator, specifiers, declarator, Done, done_expr, done_specifiers, done_declarator, Next, go, stop, deep, fail}
+use Rattle.c65_parse.specs.Expressions.{goes, within, has_room, begin_by, begin_with, leaf_of, names_type, operand_step}
+use Rattle.c65_parse.specs.Declarators.{takes_name, without_name, declarator_step}
+use Rattle.c65_parse.specs.Machine.{run, step, changed}
+use Rattle.c65_parse.specs.Reading.{token_at, as_expr, as_specifiers, as_declarator, expr_read, listed_read, specifiers_read, declarator_read, type_behind, type_read}
+use Rattle.c65_decl.specs.Here.{unexpected}
+use Rattle.c65_complete.proofs.Runs.{then_run}
+use Rattle.c65_derived.proofs.Got.{EndsIn}
+use Rattle.c65_faultlaw.proofs.Local.{Is, Local, fault_of, done, fails, local_if, shifted}
+use Rattle.c65_faultlaw.proofs.Seq.{seq}
+use Rattle.c65_faultlaw.proofs.Ends.{NoGo, end_stops}
+
+-- how many tokens are taken at least: one where the first is taken
+abbrev pub Allows : ℕ → ℕ → Next → Type 0
+Allows c m (go fs held change) = (c ≤ 1) × (m ≤ 1)
+Allows c m (stop d) = m ≤ 0
+Allows c m deep = Unit {0}
+Allows c m fail = c ≤ 0
+
+abbrev MachineLocal : ℕ → ℕ → ℕ → Blocks → List Frame → Held → List Token → Type 0
+MachineLocal c m least scope fs held ts = (unit us : List Token) → Local c m 0 (λ unit us ys. run least scope fs held ys) unit us ts
+
+more_left : (least : ℕ) (scope : Blocks) (fs gs : List Frame) (held next : Held) (change : Change) (tok : Token) (ts : List Token) → EndsIn (tok ∷ ts) → step least scope fs held tok ≡ go gs next change → EndsIn ts
+more_left least scope fs gs held next change tok [] ends e = absurd (subst NoGo e (end_stops least scope fs held tok ends))
+more_left least scope fs gs held next change tok (u ∷ ts) ends e = ends
+
+step_local : (c m least : ℕ) (scope : Blocks) (fs : List Frame) (held : Held) (tok : Token) (ts : List Token) (n : Next) → step least scope fs held tok ≡ n → Allows c m n
+    → ((gs : List Frame) (next : Held) (change : Change) → step least scope fs held tok ≡ go gs next change → MachineLocal 0 0 least (changed change scope) gs next ts)
+    → Is c m 0 (λ unit us ys. run least scope fs held ys) (tok ∷ ts) (then_run least scope tok ts n)
+step_local c m least scope fs held tok ts (go gs next change) e a f =
+    let low = a.0 in
+    let less = a.1 in
+    shifted 0 c 0 m 0 0 tok (λ unit us ys. run least (changed change scope) gs next ys) (λ unit us ys. run least scope fs held ys) ts (run least (changed change scope) gs next ts) (omega (arith, low)) (omega (arith, less)) (omega arith)
+    (λ unit us before u more. ap (then_run least scope tok (before ++ u ∷ more)) e) (f gs next change e [] [])
+step_local c m least scope fs held tok ts (stop d) e a f = record { before = []; next = tok; others = ts; tokens_are = refl; rest_is = refl; some = a; again = λ unit us more fit room. ap (then_run least scope tok more) e }
+step_local c m least scope fs held tok ts deep e a f = record { before = []; next = tok; others = ts; tokens_are = refl; fault_is = inr refl; late = inr refl; again = λ unit us more fit room. ap (then_run least scope tok more) e }
+step_local c m least scope fs held tok ts fail e a f = record { before = []; next = tok; others = ts; tokens_are = refl; fault_is = fault_of tok; late = inl a; again = λ unit us more fit room. ap (then_run least scope tok more) e }
+
+any_allowed : (n : Next) → Allows 0 0 n
+any_allowed (go fs held change) = (omega arith, omega arith)
+any_allowed (stop d) = omega arith
+any_allowed deep = tt
+any_allowed fail = omega arith
+
+run_any : (least : ℕ) (ts : List Token) (scope : Blocks) (fs : List Frame) (held : Held) → EndsIn ts → MachineLocal 0 0 least scope fs held ts
+run_any least [] scope fs held ends unit us = absurd ends
+run_any least (tok ∷ ts) scope fs held ends unit us = step_local 0 0 least scope fs held tok ts (step least scope fs held tok) refl (any_allowed (step least scope fs held tok))
+    (λ gs next change e. run_any least ts (changed change scope) gs next (more_left least scope fs gs held next change tok ts ends e))
+
+-- where the first token is known to be taken, or to be no end
+pub run_local : (c m least : ℕ) (ts : List Token) (scope : Blocks) (fs : List Frame) (held : Held) (unit us : List Token) → EndsIn ts → Allows c m (step least scope fs held (token_at ts 0)) → Local c m 0 (λ unit us ys. run least scope fs held ys) unit us ts
+run_local c m least [] scope fs held unit us ends a = absurd ends
+run_local c m least (tok ∷ []) scope fs held unit us ends a = step_local c m least scope fs held tok [] (step least scope fs held tok) refl a
+    (λ gs next change e. run_any least [] (changed change scope) gs next (more_left least scope fs gs held next change tok [] ends e))
+run_local c m least (tok ∷ u ∷ ts) scope fs held unit us ends a = step_local c m least scope fs held tok (u ∷ ts) (step least scope fs held tok) refl a
+    (λ gs next change e. run_any least (u ∷ ts) (changed change scope) gs next (more_left least scope fs gs held next change tok (u ∷ ts) ends e))
+
+-- a tree of the sort that was asked for
+expr_done : (d : Done) (scope : Blocks) (unit us ts : List Token) → EndsIn ts → Local 0 0 0 (λ unit us ys. as_expr (d, ys, scope)) unit us ts
+expr_done (done_expr e) scope unit us ts ends = done 0 0 e scope unit us ts ends
+expr_done (done_specifiers q) scope unit us ts ends = fails 0 0 unit us ts ends
+expr_done (done_declarator d) scope unit us ts ends = fails 0 0 unit us ts ends
+
+listed_done : (d : Done) (scope : Blocks) (unit us ts : List Token) → EndsIn ts → Local 0 0 0 (λ unit us ys. as_specifiers (d, ys, scope)) unit us ts
+listed_done (done_expr e) scope unit us ts ends = fails 0 0 unit us ts ends
+listed_done (done_specifiers q) scope unit us ts ends = done 0 0 q scope unit us ts ends
+listed_done (done_declarator d) scope unit us ts ends = fails 0 0 unit us ts ends
+
+declarator_done : (d : Done) (scope : Blocks) (unit us ts : List Token) → EndsIn ts → Local 0 0 0 (λ unit us ys. as_declarator (d, ys, scope)) unit us ts
+declarator_done (done_expr e) scope unit us ts ends = fails 0 0 unit us ts ends
+declarator_done (done_specifiers q) scope unit us ts ends = fails 0 0 unit us ts ends
+declarator_done (done_declarator d) scope unit us ts ends = done 0 0 d scope unit us ts ends
+
+-- what never ends before a token
+abbrev NoStop : Next → Type 0
+NoStop (go fs held change) = Unit {0}
+NoStop (stop d) = ⊥
+NoStop deep = Unit {0}
+NoStop fail = Unit {0}
+
+no_stop : (n : Next) → NoStop n → Allows 0 1 n
+no_stop (go fs held change) h = (omega arith, omega arith)
+no_stop (stop d) h = absurd h
+no_stop deep h = tt
+no_stop fail h = omega arith
+
+within_no_stop : (b : Bool) (n : Next) → NoStop n → NoStop (within b n)
+within_no_stop true n h = h
+within_no_stop false n h = tt
+
+begun_no_stop : (fs : List Frame) (l : Pos) (sign : Sign) (p : Option Prefix) → NoStop (begin_by fs l sign p)
+begun_no_stop fs l sign (Some p) = within_no_stop (has_room fs 2) (goes (in_operation (in_prefix l p) ∷ fs) operand) tt
+begun_no_stop fs l signs.Sizeof None = within_no_stop (has_room fs 2) (goes fs (sizeof_word l)) tt
+begun_no_stop fs l signs.Open None = within_no_stop (has_room fs 2) (goes fs (opened l)) tt
+begun_no_stop fs l _ None = tt
+
+leaf_no_stop : (fs : List Frame) (l : Pos) (sign : Sign) (o : Option t.ExprTree) → NoStop (begin_with fs l sign o)
+leaf_no_stop fs l sign (Some e) = within_no_stop (has_room fs 1) (goes fs (have_expr e)) tt
+leaf_no_stop fs l sign None = begun_no_stop fs l sign (prefix_of sign)
+
+operand_no_stop : (least : ℕ) (scope : Blocks) (tok : Token) → NoStop (step least scope [] operand tok)
+unfolding step operand_step
+operand_no_stop least scope tok = leaf_no_stop [] tok.pos (sign_of (is_type_in scope) tok) (leaf_of tok (names_type (sign_of (is_type_in scope) tok)))
+
+-- an expression
+pub expr_by : (c least : ℕ) (scope : Blocks) (unit us ts : List Token) → c ≤ 1 → EndsIn ts → Allows c 1 (step least scope [] operand (token_at ts 0)) → Local c 1 0 (λ unit us ys. expr_read least scope ys) unit us ts
+expr_by c least scope unit us ts low ends a = seq c 0 1 0 1 0 0 (λ unit us ys. run least scope [] operand ys) (λ unit us. as_expr) unit us ts (omega arith) (omega (arith, low)) (omega arith) ends (run_local c 1 least ts scope [] operand unit us ends a)
+    (λ d inner rest left short. expr_done d inner unit us rest left)
+
+pub expr_local : (least : ℕ) (scope : Blocks) (unit us ts : List Token) → EndsIn ts → Local 0 1 0 (λ unit us ys. expr_read least scope ys) unit us ts
+expr_local least scope unit us ts ends = expr_by 0 least scope unit us ts (omega arith) ends (no_stop _ (operand_no_stop least scope (token_at ts 0)))
+
+-- specifiers
+listed_by : (c m : ℕ) (takes_storage : Bool) (scope : Blocks) (unit us ts : List Token) → c ≤ m → EndsIn ts → Allows c m (step 0 scope [] (specifiers (nothing_listed takes_storage)) (token_at ts 0)) → Local c m 0 (λ unit us ys. listed_read takes_storage scope ys) unit us ts
+listed_by c m takes_storage scope unit us ts low ends a = seq c 0 m 0 m 0 0 (λ unit us ys. run 0 scope [] (specifiers (nothing_listed takes_storage)) ys) (λ unit us. as_specifiers) unit us ts (omega arith) (omega (arith, low)) (omega arith) ends (run_local c m 0 ts scope [] (specifiers (nothing_listed takes_storage)) unit us ends a)
+    (λ d inner rest left short. listed_done d inner unit us rest left)
+
+pub specifiers_by : (c m : ℕ) (scope : Blocks) (unit us ts : List Token) → c ≤ m → EndsIn ts → Allows c m (step 0 scope [] (specifiers (nothing_listed true)) (token_at ts 0)) → Local c m 0 (λ unit us ys. specifiers_read scope ys) unit us ts
+specifiers_by c m scope unit us ts low ends a = seq c 0 m 0 m 0 0 (λ unit us ys. listed_read true scope ys) (λ unit us q. Ok (q.0.tree, q.1, q.2)) unit us ts (omega arith) (omega (arith, low)) (omega arith) ends (listed_by c m true scope unit us ts low ends a)
+    (λ q inner rest left short. done 0 0 q.tree inner unit us rest left)
+
+pub specifiers_local : (scope : Blocks) (unit us ts : List Token) → EndsIn ts → Local 0 0 0 (λ unit us ys. specifiers_read scope ys) unit us ts
+specifiers_local scope unit us ts ends = specifiers_by 0 0 scope unit us ts (omega arith) ends (any_allowed _)
+
+-- declarators
+declarator_by : (m : ℕ) (sort : Sort) (scope : Blocks) (unit us ts : List Token) → EndsIn ts → Allows 0 m (step 0 scope [] (declarator sort) (token_at ts 0)) → Local 0 m 0 (λ unit us ys. declarator_read sort scope ys) unit us ts
+declarator_by m sort scope unit us ts ends a = seq 0 0 m 0 m 0 0 (λ unit us ys. run 0 scope [] (declarator sort) ys) (λ unit us. as_declarator) unit us ts (omega arith) (omega arith) (omega arith) ends (run_local 0 m 0 ts scope [] (declarator sort) unit us ends a)
+    (λ d inner rest left short. declarator_done d inner unit us rest left)
+
+pub declarator_local : (sort : Sort) (scope : Blocks) (unit us ts : List Token) → EndsIn ts → Local 0 0 0 (λ unit us ys. declarator_read sort scope ys) unit us ts
+declarator_local sort scope unit us ts ends = declarator_by 0 sort scope unit us ts ends (any_allowed _)
+
+if_no_stop : (b : Bool) (n m : Next) → NoStop n → NoStop m → NoStop (if b then n else m)
+if_no_stop true n m h k = h
+if_no_stop false n m h k = k
+
+named_no_stop : (typed : Bool) (l : Pos) (sign : Sign) → NoStop (declarator_step (sorts.Named typed) [] l sign)
+unfolding declarator_step without_name
+named_no_stop typed l signs.Star = tt
+named_no_stop typed l (signs.Calling cdecl) = tt
+named_no_stop typed l signs.Open = tt
+named_no_stop typed l (signs.Name n is_type) = if_no_stop (takes_name (sorts.Named typed) is_type) (goes [] (have_declarator (t.named l n))) fail tt tt
+named_no_stop typed l _ = tt
+
+named_step : (typed : Bool) (scope : Blocks) (tok : Token) → NoStop (step 0 scope [] (declarator (sorts.Named typed)) tok)
+unfolding step
+named_step typed scope tok = named_no_stop typed tok.pos (sign_of (is_type_in scope) tok)
+
+-- a declarator with a name
+pub named_local : (typed : Bool) (scope : Blocks) (unit us ts : List Token) → EndsIn ts → Local 0 1 0 (λ unit us ys. declarator_read (sorts.Named typed) scope ys) unit us ts
+named_local typed scope unit us ts ends = declarator_by 1 (sorts.Named typed) scope unit us ts ends (no_stop _ (named_step typed scope (token_at ts 0)))
+
+-- a type name
+behind_local : (q : Listed) (scope : Blocks) (unit us ts : List Token) → EndsIn ts → Local 0 0 0 (λ unit us ys. type_behind q scope ys) unit us ts
+behind_local q scope unit us ts ends = local_if 0 0 0 (nat_eq (specifiers_depth q.tree) 0) (λ unit us ys. unexpected ys) (λ unit us ys. declarator_read sorts.Abstract scope ys >>= (λ d. Ok (t.type_name q.tree d.0, d.1, d.2))) unit us ts
+    (λ e. fails 0 0 unit us ts ends)
+    (λ e. seq 0 0 0 0 0 0 0 (λ unit us ys. declarator_read sorts.Abstract scope ys) (λ unit us d. Ok (t.type_name q.tree d.0, d.1, d.2)) unit us ts (omega arith) (omega arith) (omega arith) ends (declarator_local sorts.Abstract scope unit us ts ends)
+    (λ d inner rest left short. done 0 0 (t.type_name q.tree d) inner unit us rest left))
+
+pub type_local : (scope : Blocks) (unit us ts : List Token) → EndsIn ts → Local 0 0 0 (λ unit us ys. type_read scope ys) unit us ts
+type_local scope unit us ts ends = seq 0 0 0 0 0 0 0 (λ unit us ys. listed_read false scope ys) (λ unit us q. type_behind q.0 q.2 q.1) unit us ts (omega arith) (omega arith) (omega arith) ends (listed_by 0 0 false scope unit us ts (omega arith) ends (any_allowed _))
+    (λ q inner rest left short. behind_local q inner unit us rest left)
