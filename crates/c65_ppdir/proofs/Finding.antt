@@ -9,8 +9,9 @@ use Rattle.c65_io.specs.declared.outside.FileFault.TheVariants as faults
 use Rattle.c65_ppdir.specs.declared.files.Found.{Found}
 use Rattle.c65_ppdir.specs.declared.files.Found.TheVariants as kinds
 use Rattle.c65_ppdir.specs.declared.include.Header.{Header}
+use Rattle.c65_ppdir.specs.Relations.{IsFree}
 use Rattle.c65_ppdir.specs.Search.{paths_of}
-use Rattle.c65_ppdir.specs.Finding.{TellsNothing, Begins, BeginsAt, or_next, first_held, IsFile, IsFirst, IsThere, IsNotMissing, IsSought, Seeks}
+use Rattle.c65_ppdir.specs.Finding.{TellsNothing, Begins, BeginsAt, or_next, first_held, IsFile, IsFirst, IsThere, IsSought, Seeks}
 
 begins_there : (o : Option (List ℕ)) (into : List ℕ) (n : ℕ) → ReadsFrom o 0 into (Ok n) → Begins o (take n into)
 begins_there None into n h = absurd h
@@ -69,7 +70,7 @@ pub found_is_there : (c d : Contents) (including : List ℕ) (folders : List (Li
 found_is_there c d including folders header found same h =
     subst (λ (k : Contents). IsThere k found) (sym same) (sought_is_there c (paths_of including folders header.is_quoted header.name) header.name found h)
 
--- another refusal than Missing
-pub not_missing_seeks : (c : Contents) (including : List ℕ) (folders : List (List ℕ)) (header : Header) (e : Refusal) → IsNotMissing e → Seeks c including folders header (Err e)
-not_missing_seeks c including folders header (refusals.Missing path) h = absurd h
-not_missing_seeks c including folders header _ h = tt
+-- a refusal that may come in the place of each answer
+pub free_seeks : (c : Contents) (including : List ℕ) (folders : List (List ℕ)) (header : Header) (e : Refusal) → IsFree e → Seeks c including folders header (Err e)
+free_seeks c including folders header (refusals.Missing path) h = absurd h
+free_seeks c including folders header _ h = h

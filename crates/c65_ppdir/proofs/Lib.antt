@@ -10,3 +10,8 @@ pub mod Relations
 pub mod Reading
 pub mod Acting
 pub mod Standing
+pub mod Commands
+pub mod Openings
+pub mod Placeless
+pub mod Units
+pub mod Wholes

@@ -18,6 +18,14 @@ pub included_misses : (A B : Type 0) (c d : Contents) (including : List ℕ) (fo
 included_misses A B c d including folders header e same h =
     of_name A B c including folders header e (subst (λ (k : Contents). Includes {T = A} k including folders header (Err e)) same h)
 
+same_name : (A B : Type 0) (c : Contents) (folders : List (List ℕ)) (e : Refusal) → Misses {T = A} c folders (Err e) → Misses {T = B} c folders (Err e)
+same_name A B c folders (refusals.Missing name) h = h
+same_name A B c folders _ h = tt
+
+-- the same of another call, in files that hold the same
+pub still_misses : (A B : Type 0) (c d : Contents) (folders : List (List ℕ)) (e : Refusal) → d ≡ c → Misses {T = A} d folders (Err e) → Misses {T = B} c folders (Err e)
+still_misses A B c d folders e same h = same_name A B c folders e (subst (λ (k : Contents). Misses {T = A} k folders (Err e)) same h)
+
 of_any : (A B : Type 0) (c : Contents) (folders : List (List ℕ)) (path : List ℕ) (e : Refusal) → MissesInUnit {T = A} c folders path (Err e) → MissesInUnit {T = B} c folders path (Err e)
 of_any A B c folders path (refusals.Missing name) h = h
 of_any A B c folders path _ h = tt

@@ -1,5 +1,5 @@
 -- Answers one behind another.
-use Rattle.std.proofs.Common.{◌≡◌, Bool, true, false, Result, Ok, Err, inl, inr, sym, subst}
+use Rattle.std.proofs.Common.{◌≡◌, ◌⊎◌, Bool, true, false, Result, Ok, Err, inl, inr, sym, subst}
 use Rattle.c65_base.specs.declared.refusal.Refusal.{Refusal}
 use Rattle.c65_base.specs.declared.refusal.Refusal.TheVariants as refusals
 use Rattle.c65_base.specs.Answers.{Fault, Gives}
@@ -45,6 +45,16 @@ pub onward : {X A : Type 0} (view : X → A) (P Q : Answers A) (r : Result X Ref
 onward view P Q (Ok x) f h = f (Ok (view x)) h
 onward view P Q (Err e) f (inl h) = inl h
 onward view P Q (Err e) f (inr h) = inr (f (Err e) h)
+
+-- the first answer may be that of another definition
+pub then_onward : {A B : Type 0} (P Q : Answers A) (f : A → Answers B) → ((z : Result A Refusal) → P z → Q z) → (z : Result B Refusal) → (P then f) z → (Q then f) z
+then_onward P Q f g (Ok b) (a, p, q) = (a, g (Ok a) p, q)
+then_onward P Q f g (Err e) (inl p) = inl (g (Err e) p)
+then_onward P Q f g (Err e) (inr (a, p, q)) = inr (a, g (Ok a) p, q)
+
+pub onward_err : {A B : Type 0} (e : Refusal) (P : Answers A) (Q : Answers B) → (P (Err e) → Q (Err e)) → IsFree e ⊎ P (Err e) → IsFree e ⊎ Q (Err e)
+onward_err e P Q f (inl h) = inl h
+onward_err e P Q f (inr h) = inr (f h)
 
 -- a choice by a test
 pub tested : {X A : Type 0} (view : X → A) (b : Bool) (P Q : Answers A) (r : Result X Refusal) → b ≡ true → Comes view P r → Comes view (by_test b P Q) r

@@ -8,6 +8,7 @@ use Rattle.c65_ppdir.specs.declared.files.Found.TheVariants as kinds
 use Rattle.c65_ppdir.specs.declared.headers.BuiltIn.{BuiltIn}
 use Rattle.c65_ppdir.specs.declared.include.Header.{Header}
 use Rattle.c65_ppdir.specs.Headers.{built_in_of}
+use Rattle.c65_ppdir.specs.Relations.{IsFree}
 use Rattle.c65_ppdir.specs.Search.{is_rooted, paths_of}
 
 abbrev pub TellsNothing : Contents → Type 0
@@ -63,27 +64,23 @@ IsFirst (Some held) paths path front = IsFile (first_held held paths) path front
 abbrev pub header_of : List ℕ → Option BuiltIn
 header_of name = if is_rooted name then None else built_in_of name
 
-abbrev pub IsNotMissing : Refusal → Type 0
-IsNotMissing (refusals.Missing path) = ⊥
-IsNotMissing _ = ⊤
-
 -- The answer of a read from a file's start on: its first bytes, or none where it is absent.
 abbrev pub Opens : {V : Type 0} → (V → List ℕ) → Contents → List ℕ → Result (Option V) Refusal → Type 0
 Opens view contents path (Ok None) = IsAbsent contents path
 Opens view contents path (Ok (Some front)) = BeginsAt contents path (view front)
-Opens view contents path (Err refusal) = IsNotMissing refusal
+Opens view contents path (Err refusal) = IsFree refusal
 
 -- The answer of a read to the end of a file that was there. It may be missing by its name where files tell nothing.
 abbrev pub Completes : {V : Type 0} → (V → List ℕ) → Contents → List ℕ → List ℕ → Result V Refusal → Type 0
 Completes view contents path name (Ok text) = IsReadAt contents path (view text)
 Completes view contents path name (Err (refusals.Missing missing)) = (missing ≡ name) × TellsNothing contents
-Completes view contents path name (Err refusal) = ⊤
+Completes view contents path name (Err refusal) = IsFree refusal
 
 -- the answer of a look under each path in turn
 abbrev pub Finds : {V : Type 0} → (V → List ℕ × List ℕ) → Contents → List (List ℕ) → Result (Option V) Refusal → Type 0
 Finds view contents paths (Ok None) = first_found contents paths ≡ None
 Finds view contents paths (Ok (Some file)) = IsFirst contents paths (view file).0 (view file).1
-Finds view contents paths (Err refusal) = IsNotMissing refusal
+Finds view contents paths (Err refusal) = IsFree refusal
 
 -- a file is there, or a header is built in
 abbrev pub IsThere : Contents → Found → Type 0
@@ -103,13 +100,13 @@ IsNowhere contents paths name = (first_found contents paths ≡ None) × (header
 abbrev pub Seeks : Contents → List ℕ → List (List ℕ) → Header → Result Found Refusal → Type 0
 Seeks contents including folders header (Ok found) = IsSought contents (paths_of including folders header.is_quoted header.name) header.name found
 Seeks contents including folders header (Err (refusals.Missing name)) = (name ≡ header.name) × IsNowhere contents (paths_of including folders header.is_quoted header.name) header.name
-Seeks contents including folders header (Err refusal) = ⊤
+Seeks contents including folders header (Err refusal) = IsFree refusal
 
 -- The answer of a read of the unit's own file.
 abbrev pub ReadsMain : {V : Type 0} → (V → List ℕ) → Contents → List ℕ → Result V Refusal → Type 0
 ReadsMain view contents path (Ok text) = IsReadAt contents path (view text)
 ReadsMain view contents path (Err (refusals.Missing name)) = (name ≡ path) × IsAbsent contents path
-ReadsMain view contents path (Err refusal) = ⊤
+ReadsMain view contents path (Err refusal) = IsFree refusal
 
 abbrev pub HasName : Found → List ℕ → Type 0
 HasName (kinds.File path front missing) name = name ≡ missing

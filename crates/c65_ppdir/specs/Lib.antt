@@ -25,3 +25,5 @@ pub mod Gathering
 pub mod Progress
 pub mod LineActions
 pub mod Standing
+pub mod CommandLine
+pub mod Units

@@ -1,9 +1,12 @@
 // The entry of the crate: a file and all that it includes.
-ghost use Rattle.std.specs.Prelude.{◌≡◌, IfErr};
+ghost use Rattle.std.specs.Prelude.{◌≡◌, [], Some, IfErr, IfOk};
 ghost use Rattle.c65_ppdir.specs.Causes.{Stops, StopsReading, StopsUnit, StopsCommand};
 ghost use Rattle.c65_ppdir.specs.Counts.{FaultCause, MissCause, Relocates, Serves, outside};
 ghost use Rattle.c65_ppdir.specs.Finding;
 ghost use Rattle.c65_ppdir.specs.Finding.{IsThere, Enters, Includes, Misses, MissesInUnit};
+ghost use Rattle.c65_ppdir.specs.Relations.{Comes};
+ghost use Rattle.c65_ppdir.specs.Units;
+ghost use Rattle.c65_ppdir.specs.Units.{Held, Source, IsFor, ComesAt, Steps, around, reached, unit_of};
 
 use crate::command::{Define, define_all};
 use crate::files::{Found, complete, read_main, seek};
@@ -24,10 +27,15 @@ fn open(
     path: Text,
     text: Vec<u8>,
 ) -> Result<(), Refusal>
-    ensures { IfErr result Stops }
+    ensures stops { IfErr result Stops }
+    ensures exact { Comes (λ _. reached unit.new names.new paths.new.items) (Units.opening_file path text.items (reached unit.old names.old paths.old.items)) result }
+    ensures signed { unit.new.included.is_char_signed ≡ unit.old.included.is_char_signed }
 {
     let number = paths.len() as u64;
-    unit.open(names, path.as_slice(), text, number)?;
+    match unit.open(names, path.as_slice(), text, number) {
+        Ok(()) => {}
+        Err(refusal) => return Err(refusal),
+    }
     paths.push(path)?;
     Ok(())
 }
@@ -40,7 +48,9 @@ fn open_built_in(
     paths: &mut Vec<Text>,
     header: BuiltIn,
 ) -> Result<(), Refusal>
-    ensures { IfErr result Stops }
+    ensures stops { IfErr result Stops }
+    ensures exact { Comes (λ _. reached unit.new names.new paths.new.items) (Units.entering unit.old.included.is_char_signed (Source.built_in header) (reached unit.old names.old paths.old.items)) result }
+    ensures signed { unit.new.included.is_char_signed ≡ unit.old.included.is_char_signed }
 {
     let path = Text::copy_of(alloc, header.path())?;
     let text = unit.built_in(header)?;
@@ -61,6 +71,8 @@ fn enter<F: Files>(
     ensures serves { Serves folders.now (outside (F.contents files.old) (F.write_faults files.old) (F.faults files.old) (F.misses files.old))
         (outside (F.contents files.new) (F.write_faults files.new) (F.faults files.new) (F.misses files.new)) result }
     ensures enters { Enters (F.contents files.old) found result }
+    ensures exact { (held : Held) (source : Source) → F.contents files.old ≡ Some held → IsFor held found source → Comes (λ _. reached unit.new names.new paths.new.items) (Units.with_room unit.old.included.is_char_signed source (reached unit.old names.old paths.old.items)) result }
+    ensures signed { unit.new.included.is_char_signed ≡ unit.old.included.is_char_signed }
 {
     if !unit.has_room() {
         return Err(Refusal::TooLarge {
@@ -103,9 +115,39 @@ fn include<F: Files>(
     ensures serves { Serves folders.now (outside (F.contents files.old) (F.write_faults files.old) (F.faults files.old) (F.misses files.old))
         (outside (F.contents files.new) (F.write_faults files.new) (F.faults files.new) (F.misses files.new)) result }
     ensures includes { Includes (F.contents files.old) (Finding.path_at paths.old.items number) folders.now header result }
+    ensures exact { (held : Held) → F.contents files.old ≡ Some held → Comes (λ _. reached unit.new names.new paths.new.items) (Units.including (around held folders.now unit.old.included.is_char_signed) header number (reached unit.old names.old paths.old.items)) result }
+    ensures signed { unit.new.included.is_char_signed ≡ unit.old.included.is_char_signed }
 {
     match seek(alloc, files, folders, path_at(paths, number), header) {
         Ok(found) => enter(alloc, files, folders, unit, names, paths, found),
+        Err(refusal) => Err(refusal),
+    }
+}
+
+/// Reads a line of a unit, and opens what it includes. Whether the unit goes on.
+fn read_line<F: Files>(
+    alloc: Global,
+    files: &mut F,
+    folders: &[Text],
+    unit: &mut Unit,
+    names: &mut Names,
+    paths: &mut Vec<Text>,
+) -> Result<bool, Refusal>
+    ensures serves { Serves folders.now (outside (F.contents files.old) (F.write_faults files.old) (F.faults files.old) (F.misses files.old))
+        (outside (F.contents files.new) (F.write_faults files.new) (F.faults files.new) (F.misses files.new)) result }
+    ensures misses { Misses (F.contents files.old) folders.now result }
+    ensures exact { (held : Held) → F.contents files.old ≡ Some held → Steps (around held folders.now unit.old.included.is_char_signed) (reached unit.old names.old paths.old.items) (reached unit.new names.new paths.new.items) result }
+    ensures signed { unit.new.included.is_char_signed ≡ unit.old.included.is_char_signed }
+{
+    match unit.advance(names) {
+        Ok(Event::Line) => Ok(true),
+        Ok(Event::Include(header, number)) => {
+            match include(alloc, files, folders, unit, names, paths, header, number) {
+                Ok(()) => Ok(true),
+                Err(refusal) => Err(refusal),
+            }
+        }
+        Ok(Event::End) => Ok(false),
         Err(refusal) => Err(refusal),
     }
 }
@@ -122,20 +164,16 @@ fn read_lines<F: Files>(
     ensures serves { Serves folders.now (outside (F.contents files.old) (F.write_faults files.old) (F.faults files.old) (F.misses files.old))
         (outside (F.contents files.new) (F.write_faults files.new) (F.faults files.new) (F.misses files.new)) result }
     ensures misses { Misses (F.contents files.old) folders.now result }
+    ensures exact { (held : Held) → F.contents files.old ≡ Some held → ComesAt paths.new.items (λ tokens. (unit_of tokens paths.new.items, names.new)) (Units.rest (around held folders.now unit.included.is_char_signed) (reached unit names.old paths.old.items)) result }
 {
     let mut unit = unit;
     for _ in 0..u64::MAX {
-        match unit.advance(names) {
-            Ok(Event::Line) => {}
-            Ok(Event::Include(header, number)) => {
-                match include(
-                    alloc, files, folders, &mut unit, names, paths, header, number,
-                ) {
-                    Ok(()) => {}
-                    Err(refusal) => return Err(refusal),
+        match read_line(alloc, files, folders, &mut unit, names, paths) {
+            Ok(is_more) => {
+                if !is_more {
+                    return Ok(unit.into_tokens());
                 }
             }
-            Ok(Event::End) => return Ok(unit.into_tokens()),
             Err(refusal) => return Err(refusal),
         }
     }
@@ -152,7 +190,9 @@ fn begin(
     path: &Text,
     text: Vec<u8>,
 ) -> Result<Unit, Refusal>
-    ensures { IfErr result Stops }
+    ensures stops { IfErr result Stops }
+    ensures exact { Comes (λ u. reached u names.new paths.new.items) (Units.first_reached paths.old.items macros path.now text.items names.old) result }
+    ensures signed { IfOk result (λ u. u.included.is_char_signed ≡ options.now.signed_chars) }
 {
     let unit = match Unit::begin(alloc, options, macros, names, path.as_slice(), text) {
         Ok(unit) => unit,
@@ -176,6 +216,7 @@ fn read_unit<F: Files>(
     ensures serves { Serves folders.now (outside (F.contents files.old) (F.write_faults files.old) (F.faults files.old) (F.misses files.old))
         (outside (F.contents files.new) (F.write_faults files.new) (F.faults files.new) (F.misses files.new)) result }
     ensures misses { MissesInUnit (F.contents files.old) folders.now path.now result }
+    ensures exact { (held : Held) → F.contents files.old ≡ Some held → paths.old.items ≡ [] → ComesAt paths.new.items (λ tokens. (unit_of tokens paths.new.items, names.new)) (Units.unit_read (around held folders.now options.now.signed_chars) path.now macros names.old) result }
 {
     let text = match read_main(alloc, files, folders, path) {
         Ok(text) => text,
@@ -188,7 +229,9 @@ fn read_unit<F: Files>(
 }
 
 /// The path of a number in a unit's list.
-fn path_of(alloc: Global, paths: Vec<Text>, number: u64) -> Text {
+fn path_of(alloc: Global, paths: Vec<Text>, number: u64) -> Text
+    ensures { result ≡ Finding.path_at paths.items number }
+{
     let mut paths = paths;
     if number < paths.len() as u64 {
         paths.swap_remove(number as usize)
@@ -202,6 +245,7 @@ fn located(alloc: Global, refusal: Refusal, paths: Vec<Text>) -> Refusal
     requires { StopsReading refusal }
     ensures refused { StopsUnit result }
     ensures same { Relocates refusal result }
+    ensures exact { result ≡ Units.located paths.items refusal }
 {
     match refusal {
         Refusal::At { code, pos } => Refusal::Source {
@@ -230,6 +274,7 @@ pub fn preprocess<F: Files>(
     ensures read { FaultCause (F.faults files.old) (F.faults files.new) result }
     ensures missing { MissCause folders.now (F.misses files.old) (F.misses files.new) result }
     ensures sought { MissesInUnit (F.contents files.old) folders.now path.now result }
+    ensures exact { (held : Held) → F.contents files.old ≡ Some held → Comes (λ unit. (unit, names.new)) (Units.preprocessed held options.now defines.now folders.now path.now names.old) result }
     ensures same { F.contents files.new ≡ F.contents files.old }
     ensures writes { F.write_faults files.new ≡ F.write_faults files.old }
 {
@@ -256,7 +301,8 @@ fn begin_macros(
     defines: &[Define],
     names: &mut Names,
 ) -> Result<Macros, Refusal>
-    ensures { IfErr result StopsCommand }
+    ensures stops { IfErr result StopsCommand }
+    ensures exact { Comes (λ m. (m, names.new)) (Units.macros options.now defines.now names.old) result }
 {
     let mut macros = match Macros::new(alloc, options, names) {
         Ok(macros) => macros,
