@@ -17,3 +17,5 @@ pub mod Arguments
 pub mod Entering
 pub mod Invoking
 pub mod Whole
+pub mod Jumps
+pub mod Mains
