@@ -1,8 +1,12 @@
 // From files to the code of their program.
-ghost use Rattle.std.specs.Prelude.{◌≡◌, IfErr, length};
+ghost use Rattle.std.specs.Prelude.{◌≡◌, [], map, Some, IfErr, IfOk, length};
+ghost use Rattle.c65_csem.specs.Views.{unit_of};
 ghost use Rattle.c65_ppdir.specs.Counts.{FaultCause, MissCause};
+ghost use Rattle.c65_ppdir.specs.Relations.{Comes};
+ghost use Rattle.c65_ppdir.specs.Units.{Held};
 ghost use Rattle.c65_chain.specs.Refused.{StopsChain, StopsLater, UnitsLimit};
 ghost use Rattle.c65_chain.specs.Compiled.{Compiles, outside};
+ghost use Rattle.c65_chain.specs.Front.{IsMade, command, files_typed, linked, compiled};
 
 use crate::refused::joined;
 use crate::unit::typed_unit;
@@ -13,6 +17,7 @@ use c65_genstmt::gen_program;
 use c65_io::Files;
 use c65_join::join;
 use c65_ppdir::Define;
+use c65_scoped::is_scoped;
 use std::alloc::Global;
 
 /// The typed parts of the units, in the order of their files.
@@ -26,8 +31,9 @@ fn typed_units<F: Files>(
     paths: &[Text],
     names: &mut Names,
 ) -> Result<Vec<TUnit>, Refusal>
-    ensures { Compiles folders.now (outside (F.contents files.old) (F.write_faults files.old) (F.faults files.old) (F.misses files.old))
+    ensures compiles { Compiles folders.now (outside (F.contents files.old) (F.write_faults files.old) (F.faults files.old) (F.misses files.old))
         (outside (F.contents files.new) (F.write_faults files.new) (F.faults files.new) (F.misses files.new)) result }
+    ensures exact { (held : Held) → F.contents files.old ≡ Some held → Comes (λ units. (map unit_of units.items, names.new)) (files_typed (command held options.now defines.now folders.now) paths.now [] names.old) result }
 {
     let mut units = Vec::new(alloc);
     for path in paths {
@@ -42,16 +48,23 @@ fn typed_units<F: Files>(
     Ok(units)
 }
 
-/// The code of the program that units are.
+/// The code of the program that units are. Its names are in scope, as in all that typing makes: where
+/// the test of this fails, want of memory stands.
 fn code_of(
     alloc: Global,
     options: &Options,
     units: Vec<TUnit>,
     names: &Names,
-) -> Result<Code, Refusal> {
+) -> Result<Code, Refusal>
+    ensures exact { Comes (λ c. c) (linked options.now (map unit_of units.items) names.now) result }
+    ensures made { IfOk result (IsMade options.now) }
+{
     let program = match join(alloc, units, names) {
         Ok(program) => program,
         Err(refusal) => return Err(refusal),
+    };
+    let Ok(true) = is_scoped(alloc, &program) else {
+        return Err(Refusal::OutOfMemory);
     };
     gen_program(alloc, &program, names, options)
 }
@@ -76,6 +89,8 @@ pub fn compile<F: Files>(
     ensures missing { MissCause folders.now (F.misses files.old) (F.misses files.new) result }
     ensures same { F.contents files.new ≡ F.contents files.old }
     ensures writes { F.write_faults files.new ≡ F.write_faults files.old }
+    ensures made { IfOk result (IsMade options.now) }
+    ensures exact { (held : Held) → F.contents files.old ≡ Some held → Comes (λ c. c) (compiled (command held options.now defines.now folders.now) paths.now) result }
 {
     if paths.len() > 64 {
         return Err(Refusal::TooLarge {

@@ -1,5 +1,8 @@
 // Refusals of the stages behind the preprocessor.
-ghost use Rattle.std.specs.Prelude.{◌≡◌};
+ghost use Rattle.std.specs.Prelude.{◌≡◌, ◌⊎◌};
+ghost use Rattle.c65_base.specs.declared.refusal.Refusal.TheVariants as refusals;
+ghost use Rattle.c65_ppdir.specs.Finding.{path_at};
+ghost use Rattle.c65_chain.specs.Front.{Located, Passed};
 ghost use Rattle.c65_chain.specs.Refused;
 ghost use Rattle.c65_chain.specs.Refused.{StopsLater};
 
@@ -8,7 +11,9 @@ use c65_lex::Paths;
 use std::alloc::Global;
 
 /// The path of a number in a unit's list.
-fn path_of(alloc: Global, paths: Paths, number: u64) -> Text {
+fn path_of(alloc: Global, paths: Paths, number: u64) -> Text
+    ensures { result ≡ path_at paths number }
+{
     let mut paths = paths.into_vec();
     if number < paths.len() as u64 {
         paths.swap_remove(number as usize)
@@ -29,7 +34,8 @@ fn is_of_command(limit: Size) -> bool
 
 /// A limit that is exceeded. Those of the command line are none of a stage.
 fn large(limit: Size, value: u64) -> Refusal
-    ensures { StopsLater result }
+    ensures stops { StopsLater result }
+    ensures exact { (result ≡ refusals.TooLarge limit value) ⊎ (result ≡ refusals.OutOfMemory) }
 {
     if is_of_command(limit) || value <= limit.number() {
         return Refusal::OutOfMemory;
@@ -39,7 +45,8 @@ fn large(limit: Size, value: u64) -> Refusal
 
 /// A refusal of a unit's stage, with its file's path in the place of its number.
 pub fn located(alloc: Global, refusal: Refusal, paths: Paths) -> Refusal
-    ensures { StopsLater result }
+    ensures stops { StopsLater result }
+    ensures exact { Located paths refusal result }
 {
     match refusal {
         Refusal::At { code, pos } => Refusal::Source {
@@ -54,7 +61,8 @@ pub fn located(alloc: Global, refusal: Refusal, paths: Paths) -> Refusal
 
 /// A refusal of a stage that sees all units.
 pub fn joined(refusal: Refusal) -> Refusal
-    ensures { StopsLater result }
+    ensures stops { StopsLater result }
+    ensures exact { Passed refusal result }
 {
     match refusal {
         Refusal::Link { kind, name } => Refusal::Link { kind, name },

@@ -11,9 +11,10 @@ use Rattle.c65_ppdir.specs.Counts.{FaultCause, MissCause as HeaderCause}
 use Rattle.c65_sim.specs.Runs.{WriteCause}
 use Rattle.c65_chain.specs.Refused.{StopsChain, UnitsLimit}
 use Rattle.c65_words.specs.Commands.{Spelled}
-use Rattle.c65_driver.specs.Compiled.{LinkedBy, IsLinked, Compiles, output_of, wrote, wrote_not, WritesBytes, WriteServes, WritesImage}
+use Rattle.c65_driver.specs.Compiled.{LinkedBy, IsLinked, Compiles, output_of, wrote, wrote_not, IsOfSources, WritesBytes, WriteServes, WritesImage}
 use Rattle.c65_driver.specs.Outside.{FilesSide, Outside}
 use Rattle.c65_driver.specs.Tool.{BuildServes, Builds, BuildsAlone}
+use Rattle.c65_driver.proofs.FrontLaws.{sources_stop, sources_go, sources_free}
 use Rattle.c65_driver.proofs.GoLaws.{units_of, headers_of, linked_stop}
 
 pub stop_served : (r : Refusal) → StopsChain r → BuildServes (Err r)
@@ -28,9 +29,9 @@ no_write : (n n' : ℕ) (r : Refusal) → StopsChain r → n' ≡ n → WriteCau
 no_write n n' WriteFault stops same = absurd stops
 no_write n n' r stops same = same
 
-stopped : (command : Spelled) (old new : FilesSide) (code : Option Code) (r : Refusal) → Compiles command.folders command.files old new code (Err r)
+stopped : (command : Spelled) (old new : FilesSide) (code : Option Code) (r : Refusal) → Compiles command.folders command.files old new code (Err r) → IsOfSources {T = Image} command old.contents code (Err r)
     → Builds command old new code None (Err r)
-stopped command old new code r stops = record {
+stopped command old new code r stops sources = record {
   served = stop_served r stops.refused;
   units = units_of Image ℕ (length command.files) r stops.units;
   read = faults_of old.faults new.faults r stops.read;
@@ -39,12 +40,13 @@ stopped command old new code r stops = record {
   contents = stops.same;
   from_text = stops.from_text;
   from_code = linked_stop code r stops.from_code;
+  from_files = sources_stop command old.contents code r sources;
 }
 
 pub builds_stop : (command : Spelled) (old new : FilesSide) (code : Option Code) (image : Option Image) (r : Refusal) → image ≡ None
-    → Compiles command.folders command.files old new code (Err r) → Builds command old new code image (Err r)
-builds_stop command old new code image r none stops =
-    subst (λ (made : Option Image). Builds command old new code made (Err r)) (sym none) (stopped command old new code r stops)
+    → Compiles command.folders command.files old new code (Err r) → IsOfSources {T = Image} command old.contents code (Err r) → Builds command old new code image (Err r)
+builds_stop command old new code image r none stops sources =
+    subst (λ (made : Option Image). Builds command old new code made (Err r)) (sym none) (stopped command old new code r stops sources)
 
 pub wrote_served : (r : Result ℕ Refusal) → WriteServes r → BuildServes r
 wrote_served (Ok s) served = served
@@ -75,9 +77,9 @@ linked_wrote None image r by = absurd by
 linked_wrote (Some code) image r by = by
 
 pub builds_wrote : (command : Spelled) (old mid new : FilesSide) (code : Option Code) (image : Image) (path : List ℕ) (r : Result ℕ Refusal)
-    → path ≡ output_of command.out → Compiles command.folders command.files old mid code (Ok image) → WritesImage path (bytes_of image) mid new r
+    → path ≡ output_of command.out → Compiles command.folders command.files old mid code (Ok image) → IsOfSources command old.contents code (Ok image) → WritesImage path (bytes_of image) mid new r
     → Builds command old new code (Some image) r
-builds_wrote command old mid new code image path r is made wrote = record {
+builds_wrote command old mid new code image path r is made sources wrote = record {
   served = wrote_served r wrote.served;
   units = wrote_units (length command.files) r made.units wrote.served;
   read = wrote_faults old.faults new.faults r (wrote.faults ∙ made.read) wrote.served;
@@ -87,6 +89,7 @@ builds_wrote command old mid new code image path r is made wrote = record {
       (subst (λ (p : List ℕ). WritesBytes p (bytes_of image) mid.contents new.contents r) is wrote.contents);
   from_text = made.from_text;
   from_code = linked_wrote code image r made.from_code;
+  from_files = sources_go command old.contents code image r sources;
 }
 
 pub wrote_all : (old new : Contents) (path bytes : List ℕ) (u : Unit) → WritesFile {E = Failed} old new path bytes (Ok u) → WritesFile old new path bytes wrote
@@ -113,6 +116,7 @@ builds_free command old = record {
     contents = refl;
     from_text = tt;
     from_code = tt;
+    from_files = sources_free command old.files.contents;
   };
   left = refl;
   input_faults = refl;

@@ -12,10 +12,11 @@ use Rattle.c65_sim.specs.Runs.{ReadCause, WriteCause}
 use Rattle.c65_chain.specs.Refused.{StopsChain, UnitsLimit}
 use Rattle.c65_words.specs.Commands.{Spelled}
 use Rattle.c65_driver.specs.Causes.{ReadCauses}
-use Rattle.c65_driver.specs.Compiled.{LinkedBy, IsLinked, Compiles}
+use Rattle.c65_driver.specs.Compiled.{LinkedBy, IsLinked, Compiles, IsOfSources}
 use Rattle.c65_driver.specs.Outside.{FilesSide, Outside}
 use Rattle.c65_driver.specs.Setups.{Setup, setup_of, ImageRuns, StopsBefore}
 use Rattle.c65_driver.specs.Tool.{GoServes, Goes}
+use Rattle.c65_driver.proofs.FrontLaws.{sources_stop, sources_go, sources_free}
 
 -- Before there is an image.
 
@@ -59,9 +60,9 @@ linked_stop None r by = tt
 linked_stop (Some code) r by = by
 
 stopped : (command : Spelled) (old new : FilesSide) (l w : Option (List ℕ)) (i o : ℕ) (code : Option Code) (r : Refusal)
-    → Compiles command.folders command.files old new code (Err r)
+    → Compiles command.folders command.files old new code (Err r) → IsOfSources {T = Image} command old.contents code (Err r)
     → Goes command (record { files = old; left = l; input_faults = i; written = w; out_faults = o }) (record { files = new; left = l; input_faults = i; written = w; out_faults = o }) code None (Err r)
-stopped command old new l w i o code r stops = record {
+stopped command old new l w i o code r stops sources = record {
   served = chain_served r stops.refused;
   units = units_of Image ℕ (length command.files) r stops.units;
   read = fault_reads old.faults new.faults i r stops.read;
@@ -72,14 +73,15 @@ stopped command old new l w i o code r stops = record {
   made = (stops_before r stops.refused, (refl, refl));
   from_text = stops.from_text;
   from_code = linked_stop code r stops.from_code;
+  from_files = sources_stop command old.contents code r sources;
 }
 
 pub goes_stop : (command : Spelled) (old new : FilesSide) (l w : Option (List ℕ)) (i o : ℕ) (code : Option Code) (image : Option Image) (r : Refusal)
-    → image ≡ None → Compiles command.folders command.files old new code (Err r)
+    → image ≡ None → Compiles command.folders command.files old new code (Err r) → IsOfSources {T = Image} command old.contents code (Err r)
     → Goes command (record { files = old; left = l; input_faults = i; written = w; out_faults = o }) (record { files = new; left = l; input_faults = i; written = w; out_faults = o }) code image (Err r)
-goes_stop command old new l w i o code image r none stops =
+goes_stop command old new l w i o code image r none stops sources =
     subst (λ (made : Option Image). Goes command (record { files = old; left = l; input_faults = i; written = w; out_faults = o }) (record { files = new; left = l; input_faults = i; written = w; out_faults = o }) code made (Err r))
-    (sym none) (stopped command old new l w i o code r stops)
+    (sym none) (stopped command old new l w i o code r stops sources)
 
 -- want of memory
 pub goes_free : (command : Spelled) (old : Outside) → Goes command old old None None (Err OutOfMemory)
@@ -94,6 +96,7 @@ goes_free command old = record {
   made = (tt, (refl, refl));
   from_text = tt;
   from_code = tt;
+  from_files = sources_free command old.files.contents;
 }
 
 pub goes_none : (command : Spelled) (old : Outside) (code : Option Code) (image : Option Image) → code ≡ None → image ≡ None
@@ -139,10 +142,10 @@ linked_run None image r by = absurd by
 linked_run (Some code) image r by = by
 
 pub goes_run : (command : Spelled) (plan : Setup) (old new : FilesSide) (l l' w w' : Option (List ℕ)) (i i' o o' : ℕ) (code : Option Code) (image : Image) (r : Result ℕ Refusal)
-    → plan ≡ setup_of true command → Compiles command.folders command.files old new code (Ok image)
+    → plan ≡ setup_of true command → Compiles command.folders command.files old new code (Ok image) → IsOfSources command old.contents code (Ok image)
     → ImageRuns plan image l l' w w' r → ReadCause i i' r → WriteCause o o' r
     → Goes command (record { files = old; left = l; input_faults = i; written = w; out_faults = o }) (record { files = new; left = l'; input_faults = i'; written = w'; out_faults = o' }) code (Some image) r
-goes_run command plan old new l l' w w' i i' o o' code image r is made runs read write = record {
+goes_run command plan old new l l' w w' i i' o o' code image r is made sources runs read write = record {
   served = run_served plan image l l' w w' r runs;
   units = run_units (length command.files) plan image l l' w w' r made.units runs;
   read = causes_after old.faults new.faults i i' r made.read read;
@@ -153,4 +156,5 @@ goes_run command plan old new l l' w w' i i' o o' code image r is made runs read
   made = subst (λ (s : Setup). ImageRuns s image l l' w w' r) is runs;
   from_text = made.from_text;
   from_code = linked_run code image r made.from_code;
+  from_files = sources_go command old.contents code image r sources;
 }

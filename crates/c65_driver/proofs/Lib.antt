@@ -2,6 +2,7 @@ pub mod PartLaws
 pub mod TextLaws
 pub mod AnswerLaws
 pub mod RunLaws
+pub mod FrontLaws
 pub mod GoLaws
 pub mod LinkLaws
 pub mod BuildLaws

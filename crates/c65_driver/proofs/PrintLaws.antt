@@ -10,9 +10,10 @@ use Rattle.c65_mach.specs.declared.image.Image.{Image}
 use Rattle.c65_sim.specs.Runs.{WriteCause}
 use Rattle.c65_words.specs.Commands.{Spelled}
 use Rattle.c65_driver.specs.Assembly.{IsTextOf, AppendsBytes, TextTo, WritesText, Unwritten, MadeText}
-use Rattle.c65_driver.specs.Compiled.{ReadsAs, IsRead, Compiles, WritesBytes, WriteServes, WritesImage}
+use Rattle.c65_driver.specs.Compiled.{ReadsAs, IsRead, Compiles, IsOfSources, WritesBytes, WriteServes, WritesImage}
 use Rattle.c65_driver.specs.Outside.{FilesSide, TextSide, Outside}
 use Rattle.c65_driver.specs.Tool.{Texts, TextsAlone}
+use Rattle.c65_driver.proofs.FrontLaws.{sources_stop, sources_go, sources_free}
 use Rattle.c65_driver.proofs.GoLaws.{units_of, headers_of, linked_stop}
 use Rattle.c65_driver.proofs.BuildLaws.{stop_served, faults_of, wrote_served, wrote_units, wrote_faults, wrote_headers, linked_wrote}
 
@@ -22,9 +23,9 @@ unwritten : (out : Option (List ℕ)) (code : Option Code) (old new : TextSide) 
 unwritten out None old new answer still = still
 unwritten out (Some code) old new answer still = still
 
-stopped : (command : Spelled) (old new : FilesSide) (w : Option (List ℕ)) (o : ℕ) (code : Option Code) (r : Refusal) → Compiles command.folders command.files old new code (Err r)
+stopped : (command : Spelled) (old new : FilesSide) (w : Option (List ℕ)) (o : ℕ) (code : Option Code) (r : Refusal) → Compiles command.folders command.files old new code (Err r) → IsOfSources {T = Image} command old.contents code (Err r)
     → Texts command (record { files = old; written = w; out_faults = o }) (record { files = new; written = w; out_faults = o }) code None (Err r)
-stopped command old new w o code r stops = record {
+stopped command old new w o code r stops sources = record {
   served = stop_served r stops.refused;
   units = units_of Image ℕ (length command.files) r stops.units;
   read = faults_of old.faults new.faults r stops.read;
@@ -33,14 +34,15 @@ stopped command old new w o code r stops = record {
       (record { contents = stops.same; writes = stops.written; written = refl; out_faults = refl });
   from_text = stops.from_text;
   from_code = linked_stop code r stops.from_code;
+  from_files = sources_stop command old.contents code r sources;
 }
 
 pub texts_stop : (command : Spelled) (old new : FilesSide) (w : Option (List ℕ)) (o : ℕ) (code : Option Code) (image : Option Image) (r : Refusal) → image ≡ None
-    → Compiles command.folders command.files old new code (Err r)
+    → Compiles command.folders command.files old new code (Err r) → IsOfSources {T = Image} command old.contents code (Err r)
     → Texts command (record { files = old; written = w; out_faults = o }) (record { files = new; written = w; out_faults = o }) code image (Err r)
-texts_stop command old new w o code image r none stops =
+texts_stop command old new w o code image r none stops sources =
     subst (λ (made : Option Image). Texts command (record { files = old; written = w; out_faults = o }) (record { files = new; written = w; out_faults = o }) code made (Err r))
-    (sym none) (stopped command old new w o code r stops)
+    (sym none) (stopped command old new w o code r stops sources)
 
 -- want of memory
 pub texts_free : (command : Spelled) (old : Outside) → TextsAlone command old old None None (Err OutOfMemory)
@@ -53,6 +55,7 @@ texts_free command old = record {
     text = record { contents = refl; writes = refl; written = refl; out_faults = refl };
     from_text = tt;
     from_code = tt;
+    from_files = sources_free command old.files.contents;
   };
   left = refl;
   input_faults = refl;
@@ -83,9 +86,9 @@ made out None image bytes old new r is to = absurd is
 made out (Some code) image bytes old new r is to = subst (λ (bs : List ℕ). TextTo out bs old new r) is to
 
 pub texts_wrote : (command : Spelled) (old mid : FilesSide) (new : TextSide) (w : Option (List ℕ)) (o : ℕ) (code : Option Code) (image : Image) (bytes : List ℕ) (r : Result ℕ Refusal)
-    → Compiles command.folders command.files old mid code (Ok image) → IsTextOf code bytes → WritesText command.out bytes (record { files = mid; written = w; out_faults = o }) new r
+    → Compiles command.folders command.files old mid code (Ok image) → IsOfSources command old.contents code (Ok image) → IsTextOf code bytes → WritesText command.out bytes (record { files = mid; written = w; out_faults = o }) new r
     → Texts command (record { files = old; written = w; out_faults = o }) new code (Some image) r
-texts_wrote command old mid new w o code image bytes r compiles is wrote = record {
+texts_wrote command old mid new w o code image bytes r compiles sources is wrote = record {
   served = wrote_served r wrote.served;
   units = wrote_units (length command.files) r compiles.units wrote.served;
   read = wrote_faults old.faults new.files.faults r (wrote.faults ∙ compiles.read) wrote.served;
@@ -94,6 +97,7 @@ texts_wrote command old mid new w o code image bytes r compiles is wrote = recor
       (to_from command.out bytes old mid new w o r compiles.same compiles.written wrote.to);
   from_text = compiles.from_text;
   from_code = linked_wrote code image r compiles.from_code;
+  from_files = sources_go command old.contents code image r sources;
 }
 
 kept : (out : Option (List ℕ)) (bytes : List ℕ) (old new : FilesSide) (w : Option (List ℕ)) (o : ℕ) → new.contents ≡ old.contents → new.writes ≡ old.writes
@@ -107,9 +111,9 @@ kept_made out None image old new w o same writes = record { contents = same; wri
 kept_made out (Some code) image old new w o same writes = kept out (text_of code) old new w o same writes
 
 -- no memory for the text
-pub texts_short : (command : Spelled) (old new : FilesSide) (w : Option (List ℕ)) (o : ℕ) (code : Option Code) (image : Image) → Compiles command.folders command.files old new code (Ok image)
+pub texts_short : (command : Spelled) (old new : FilesSide) (w : Option (List ℕ)) (o : ℕ) (code : Option Code) (image : Image) → Compiles command.folders command.files old new code (Ok image) → IsOfSources command old.contents code (Ok image)
     → Texts command (record { files = old; written = w; out_faults = o }) (record { files = new; written = w; out_faults = o }) code (Some image) (Err OutOfMemory)
-texts_short command old new w o code image compiles = record {
+texts_short command old new w o code image compiles sources = record {
   served = tt;
   units = tt;
   read = compiles.read;
@@ -117,6 +121,7 @@ texts_short command old new w o code image compiles = record {
   text = kept_made command.out code image old new w o compiles.same compiles.written;
   from_text = compiles.from_text;
   from_code = linked_wrote code image (Err OutOfMemory) compiles.from_code;
+  from_files = sources_go command old.contents code image (Err OutOfMemory) sources;
 }
 
 -- what a text reads as is what its own text reads as

@@ -1,5 +1,5 @@
 -- What compiling and linking a command's files gives, and what writing the image does.
-use Rattle.std.specs.Prelude.{◌≡◌, ℕ, List, length, codes, Option, Some, None, Result, Ok, Err, IfErr, ⊤}
+use Rattle.std.specs.Prelude.{◌≡◌, ◌⊎◌, ℕ, List, length, map, codes, Option, Some, None, Result, Ok, Err, IfErr, ⊤}
 use Rattle.c65_base.specs.declared.refusal.Refusal.{Refusal}
 use Rattle.c65_base.specs.declared.refusal.Refusal.TheVariants.{OutOfMemory, WriteFault}
 use Rattle.c65_asm.specs.Text.{text_of}
@@ -10,9 +10,15 @@ use Rattle.c65_io.specs.Contents.{Contents, WritesFile}
 use Rattle.c65_mach.specs.declared.image.Image.{Image}
 use Rattle.c65_mach.specs.Images.{bytes_of}
 use Rattle.c65_link.specs.Linked.{linked, Fails}
+use Rattle.c65_ppdir.specs.declared.command.Define.{Define}
 use Rattle.c65_ppdir.specs.Counts.{FaultCause, MissCause}
+use Rattle.c65_ppdir.specs.Relations.{Answers, IsFree}
+use Rattle.c65_ppdir.specs.Units.{Held}
 use Rattle.c65_sim.specs.Runs.{WriteCause}
+use Rattle.c65_chain.specs.Front.{command, compiled}
 use Rattle.c65_chain.specs.Refused.{StopsChain, UnitsLimit}
+use Rattle.c65_words.specs.Commands.{Spelled}
+use Rattle.c65_words.specs.declared.command.Definition.{Definition}
 use Rattle.c65_driver.specs.Outside.{FilesSide}
 
 -- the image is the linker's of the code, or the linker refused the code, or there is no code
@@ -50,6 +56,24 @@ pub record Compiles (folders files : List (List ℕ)) (old new : FilesSide) (cod
   pub units : UnitsLimit (length files) answer
   pub from_text : IsRead code
   pub from_code : LinkedBy code answer
+
+-- a definition as the preprocessor takes it
+abbrev pub define_of : Definition → Define
+define_of d = record { name = d.name; body = d.body }
+
+-- the code of a command's files, where it is told what each path holds, or their first refusal
+abbrev pub front : Held → Spelled → Answers Code
+front held c = compiled (command held c.options (map define_of c.defines) c.folders) c.files
+
+-- a code is what the assembly text of the front's code reads as; without one the refusal is the front's
+abbrev pub IsOfFront : {T : Type 0} → Answers Code → Option Code → Result T Refusal → Type 0
+IsOfFront P None (Ok x) = ⊥
+IsOfFront P None (Err e) = IsFree e ⊎ P (Err e)
+IsOfFront P (Some code) answer = (c : Code) × P (Ok c) × ReadsAs (text_of c) code
+
+-- of files that tell nothing, nothing is said
+abbrev pub IsOfSources : {T : Type 0} → Spelled → Contents → Option Code → Result T Refusal → Type 0
+IsOfSources {T} c contents code answer = (held : Held) → contents ≡ Some held → IsOfFront {T} (front held c) code answer
 
 -- the path of `-o`, or `a.out`
 abbrev pub output_of : Option (List ℕ) → List ℕ

@@ -18,7 +18,7 @@ use Rattle.c65_words.specs.declared.command.CommandKind.TheVariants as kinds
 use Rattle.c65_chain.specs.Refused.{StopsChain, UnitsLimit}
 use Rattle.c65_driver.specs.Assembly.{MadeText}
 use Rattle.c65_driver.specs.Causes.{ReadCauses, MissCause}
-use Rattle.c65_driver.specs.Compiled.{IsRead, IsLinked, output_of, BuildsFile}
+use Rattle.c65_driver.specs.Compiled.{IsRead, IsLinked, IsOfSources, output_of, BuildsFile}
 use Rattle.c65_driver.specs.Outside.{FilesSide, TextSide, Outside, text_part}
 use Rattle.c65_driver.specs.Setups.{setup_of, MadeRuns}
 use Rattle.c65_driver.specs.Told.{ToldRun, MadeOf, first_of}
@@ -69,6 +69,7 @@ pub record Goes (command : Spelled) (old new : Outside) (code : Option Code) (im
   pub made : MadeRuns (setup_of true command) image old.left new.left old.written new.written answer
   pub from_text : IsRead code
   pub from_code : IsLinked code image answer
+  pub from_files : IsOfSources command old.files.contents code answer
 
 -- `build`: the image is linked from the code that was compiled, as its text reads, and its bytes are written to one path
 pub record Builds (command : Spelled) (old new : FilesSide) (code : Option Code) (image : Option Image) (answer : Result ℕ Refusal) : Type 0 where
@@ -80,6 +81,7 @@ pub record Builds (command : Spelled) (old new : FilesSide) (code : Option Code)
   pub contents : BuildsFile (output_of command.out) image old.contents new.contents answer
   pub from_text : IsRead code
   pub from_code : IsLinked code image answer
+  pub from_files : IsOfSources command old.contents code answer
 
 -- input and output are as they were
 pub record BuildsAlone (command : Spelled) (old new : Outside) (code : Option Code) (image : Option Image) (answer : Result ℕ Refusal) : Type 0 where
@@ -98,6 +100,7 @@ pub record Texts (command : Spelled) (old new : TextSide) (code : Option Code) (
   pub text : MadeText command.out code image old new answer
   pub from_text : IsRead code
   pub from_code : IsLinked code image answer
+  pub from_files : IsOfSources command old.files.contents code answer
 
 -- the input is as it was
 pub record TextsAlone (command : Spelled) (old new : Outside) (code : Option Code) (image : Option Image) (answer : Result ℕ Refusal) : Type 0 where

@@ -1,7 +1,7 @@
 // From a command's files to their image, and the image's file.
-ghost use Rattle.std.specs.Prelude.{◌≡◌};
+ghost use Rattle.std.specs.Prelude.{◌≡◌, map, IfOk};
 ghost use Rattle.c65_mach.specs.Images.{bytes_of};
-ghost use Rattle.c65_driver.specs.Compiled.{Compiles, WritesImage, output_of};
+ghost use Rattle.c65_driver.specs.Compiled.{Compiles, IsOfSources, WritesImage, define_of, output_of};
 ghost use Rattle.c65_driver.specs.Outside.{files_side};
 
 use crate::assembly::read_back;
@@ -15,7 +15,9 @@ use c65_words::{Command, Definition};
 use std::alloc::{AllocError, Global};
 
 /// Definitions as the preprocessor takes them.
-fn defines(alloc: Global, definitions: &[Definition]) -> Result<Vec<Define>, AllocError> {
+fn defines(alloc: Global, definitions: &[Definition]) -> Result<Vec<Define>, AllocError>
+    ensures { IfOk result (λ list. list.items ≡ map define_of definitions.now) }
+{
     let mut defines = Vec::new(alloc);
     for definition in definitions {
         let name = definition.name.copy(alloc)?;
@@ -23,6 +25,12 @@ fn defines(alloc: Global, definitions: &[Definition]) -> Result<Vec<Define>, All
         defines.push(Define { name, body })?;
     }
     Ok(defines)
+}
+
+fn definitions(command: &Command) -> &[Definition]
+    ensures { result.now ≡ command.now.defines }
+{
+    &command.defines
 }
 
 fn folders(command: &Command) -> &[Text]
@@ -50,9 +58,10 @@ pub fn make_image<F: Files>(
         (files_side (F.contents files.old) (F.faults files.old) (F.write_faults files.old) (F.misses files.old))
         (files_side (F.contents files.new) (F.faults files.new) (F.write_faults files.new) (F.misses files.new))
         made.new.code result }
+    ensures sources { IsOfSources command.now (F.contents files.old) made.new.code result }
     ensures kept { made.new.image ≡ made.old.image }
 {
-    let defines = match defines(alloc, &command.defines) {
+    let defines = match defines(alloc, definitions(command)) {
         Ok(defines) => defines,
         Err(_) => return Err(Refusal::OutOfMemory),
     };

@@ -1,7 +1,9 @@
-use Rattle.std.proofs.Common.{Some, Err}
+use Rattle.std.proofs.Common.{Some, Err, map, ap, ◌∙◌}
 use Rattle.c65_base.specs.declared.refusal.Refusal.TheVariants.{OutOfMemory}
+use Rattle.c65_driver.specs.Compiled.{define_of}
 use Rattle.c65_driver.specs.Outside.{files_side}
 use Rattle.c65_driver.proofs.LinkLaws.{compiles_linked, compiles_not, compiles_free, compiles_as}
+use Rattle.c65_driver.proofs.FrontLaws.{sources_short, sources_not, sources_read}
 use Rattle.c65_driver.proofs.compiled.make_image.Goals as goal
 
 pub returns-in-Err-clause-compiled : goal.returns-in-Err-clause-compiled
@@ -39,3 +41,19 @@ returns-clause-compiled g c =
     compiles_as c.folders.result.now c.args.command.now.folders c.paths.result.now c.args.command.now.files old new (Some c.in-Ok-read_back.code) c.link-linked.result
     c.folders.ensures c.paths.ensures
     (compiles_linked c.folders.result.now c.paths.result.now old new c.in-Ok-read_back.code c.link-linked.result made.same made.writes made.read made.missing made.units c.in-Ok-read_back.ensures.again c.link-linked.ensures)
+
+pub returns-in-Err-clause-sources : goal.returns-in-Err-clause-sources
+returns-in-Err-clause-sources g c = sources_short c.args.command.now (g.F.Files.contents c.args.files.now) c.args.made.now.code c.requires
+
+pub returns-in-Err-compile-clause-sources : goal.returns-in-Err-compile-clause-sources
+returns-in-Err-compile-clause-sources g c =
+    sources_not c.args.command.now (g.F.Files.contents c.args.files.now) c.args.made.now.code c.in-Ok.defines.items c.folders.result.now c.paths.result.now c.in-Err-compile.refusal
+    c.requires (c.in-Ok.ensures ∙ ap (map define_of) c.definitions.ensures) c.folders.ensures c.paths.ensures c.in-Err-compile.ensures.exact
+
+pub returns-in-Err-read_back-clause-sources : goal.returns-in-Err-read_back-clause-sources
+returns-in-Err-read_back-clause-sources g c = sources_short c.args.command.now (g.F.Files.contents c.args.files.now) c.args.made.now.code c.requires
+
+pub returns-clause-sources : goal.returns-clause-sources
+returns-clause-sources g c =
+    sources_read c.args.command.now (g.F.Files.contents c.args.files.now) c.in-Ok-compile.code c.in-Ok-read_back.code c.in-Ok.defines.items c.folders.result.now c.paths.result.now c.link-linked.result
+    (c.in-Ok.ensures ∙ ap (map define_of) c.definitions.ensures) c.folders.ensures c.paths.ensures c.in-Ok-compile.ensures.exact c.in-Ok-read_back.ensures.read

@@ -9,7 +9,7 @@ returns-in-Err g c =
     (files_side (g.F.Files.contents c.args.files.now) (g.F.Files.faults c.args.files.now) (g.F.Files.write_faults c.args.files.now) (g.F.Files.misses c.args.files.now))
     (files_side (g.F.Files.contents c.make_image.new.files) (g.F.Files.faults c.make_image.new.files) (g.F.Files.write_faults c.make_image.new.files) (g.F.Files.misses c.make_image.new.files))
     c.make_image.new.made.code c.make_image.new.made.image c.in-Err.refusal
-    (c.in-Err.ensures.kept ∙ c.requires.image) c.in-Err.ensures.compiled
+    (c.in-Err.ensures.kept ∙ c.requires.image) c.in-Err.ensures.compiled c.in-Err.ensures.sources
 
 pub returns : goal.returns
 returns g c =
@@ -18,4 +18,4 @@ returns g c =
     (files_side (g.F.Files.contents c.make_image.new.files) (g.F.Files.faults c.make_image.new.files) (g.F.Files.write_faults c.make_image.new.files) (g.F.Files.misses c.make_image.new.files))
     (files_side (g.F.Files.contents c.write_image-answer.new.files) (g.F.Files.faults c.write_image-answer.new.files) (g.F.Files.write_faults c.write_image-answer.new.files) (g.F.Files.misses c.write_image-answer.new.files))
     c.make_image.new.made.code c.in-Ok.image c.output.result.now c.write_image-answer.result
-    c.output.ensures c.in-Ok.ensures.compiled c.write_image-answer.ensures
+    c.output.ensures c.in-Ok.ensures.compiled c.in-Ok.ensures.sources c.write_image-answer.ensures

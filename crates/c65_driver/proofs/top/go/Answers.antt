@@ -17,7 +17,7 @@ returns-in-Err-make_image g c =
     (files_side (g.F.Files.contents c.make_image.new.files) (g.F.Files.faults c.make_image.new.files) (g.F.Files.write_faults c.make_image.new.files) (g.F.Files.misses c.make_image.new.files))
     (g.I.Source.left c.args.input.now) (g.O.Sink.written c.args.out.now) (g.I.Source.faults c.args.input.now) (g.O.Sink.faults c.args.out.now)
     c.make_image.new.made.code c.make_image.new.made.image c.in-Err-make_image.refusal
-    (c.in-Err-make_image.ensures.kept ∙ c.requires.image) c.in-Err-make_image.ensures.compiled
+    (c.in-Err-make_image.ensures.kept ∙ c.requires.image) c.in-Err-make_image.ensures.compiled c.in-Err-make_image.ensures.sources
 
 pub returns : goal.returns
 returns g c =
@@ -27,4 +27,4 @@ returns g c =
     (g.I.Source.left c.args.input.now) (g.I.Source.left c.run-answer.new.input) (g.O.Sink.written c.args.out.now) (g.O.Sink.written c.run-answer.new.out)
     (g.I.Source.faults c.args.input.now) (g.I.Source.faults c.run-answer.new.input) (g.O.Sink.faults c.args.out.now) (g.O.Sink.faults c.run-answer.new.out)
     c.make_image.new.made.code c.in-Ok-make_image.image c.run-answer.result
-    c.in-Ok.ensures.ok c.in-Ok-make_image.ensures.compiled c.run-answer.ensures.run c.run-answer.ensures.read c.run-answer.ensures.write
+    c.in-Ok.ensures.ok c.in-Ok-make_image.ensures.compiled c.in-Ok-make_image.ensures.sources c.run-answer.ensures.run c.run-answer.ensures.read c.run-answer.ensures.write

@@ -1,0 +1,60 @@
+-- What the code of a command's files is, before and after later stages.
+use Rattle.std.proofs.Common.{◌≡◌, ◌⊎◌, ℕ, inl, inr, List, map, Option, Some, None, Result, Ok, Err, sym, subst}
+use Rattle.c65_base.specs.declared.refusal.Refusal.{Refusal}
+use Rattle.c65_base.specs.declared.refusal.Refusal.TheVariants.{OutOfMemory}
+use Rattle.c65_asm.specs.Text.{text_of}
+use Rattle.c65_code.specs.declared.code.Code.{Code}
+use Rattle.c65_io.specs.Contents.{Contents}
+use Rattle.c65_mach.specs.declared.image.Image.{Image}
+use Rattle.c65_ppdir.specs.declared.command.Define.{Define}
+use Rattle.c65_ppdir.specs.Relations.{Answers, IsFree}
+use Rattle.c65_ppdir.specs.Units.{Held}
+use Rattle.c65_chain.specs.Front.{command, compiled}
+use Rattle.c65_words.specs.Commands.{Spelled}
+use Rattle.c65_driver.specs.Compiled.{ReadsAs, define_of, front, IsOfFront, IsOfSources}
+
+same_refusal : {A B : Type 0} (P : Answers Code) (code : Option Code) (r : Refusal) → IsOfFront {T = A} P code (Err r) → IsOfFront {T = B} P code (Err r)
+same_refusal P None r made = made
+same_refusal P (Some c) r made = made
+
+goes_on : {A B : Type 0} (P : Answers Code) (code : Option Code) (a : A) (r : Result B Refusal) → IsOfFront P code (Ok a) → IsOfFront P code r
+goes_on P None a r made = absurd made
+goes_on P (Some c) a r made = made
+
+-- the refusal of a stage is the command's
+pub sources_stop : {A B : Type 0} (command : Spelled) (contents : Contents) (code : Option Code) (r : Refusal) → IsOfSources {T = A} command contents code (Err r) → IsOfSources {T = B} command contents code (Err r)
+sources_stop command contents code r made held told = same_refusal _ code r (made held told)
+
+-- whatever comes behind the code
+pub sources_go : {A B : Type 0} (command : Spelled) (contents : Contents) (code : Option Code) (a : A) (r : Result B Refusal) → IsOfSources command contents code (Ok a) → IsOfSources command contents code r
+sources_go command contents code a r made held told = goes_on _ code a r (made held told)
+
+-- want of memory
+pub sources_free : {T : Type 0} (command : Spelled) (contents : Contents) → IsOfSources {T} command contents None (Err OutOfMemory)
+sources_free command contents held told = inl tt
+
+pub sources_short : (command : Spelled) (contents : Contents) (code : Option Code) → code ≡ None → IsOfSources {T = Image} command contents code (Err OutOfMemory)
+sources_short command contents code none = subst (λ (made : Option Code). IsOfSources {T = Image} command contents made (Err OutOfMemory)) (sym none) (sources_free command contents)
+
+-- the parts of a command, as they were given to the front
+from_parts : (c : Spelled) (held : Held) (ds : List Define) (folders files : List (List ℕ)) (z : Result Code Refusal) → ds ≡ map define_of c.defines → folders ≡ c.folders → files ≡ c.files
+    → compiled (command held c.options ds folders) files z → front held c z
+from_parts c held ds folders files z defines is of given =
+    subst (λ (xs : List Define). compiled (command held c.options xs c.folders) c.files z) defines
+    (subst (λ (xs : List (List ℕ)). compiled (command held c.options ds xs) c.files z) is
+    (subst (λ (xs : List (List ℕ)). compiled (command held c.options ds folders) xs z) of given))
+
+-- no code
+pub sources_not : (c : Spelled) (contents : Contents) (code : Option Code) (ds : List Define) (folders files : List (List ℕ)) (r : Refusal) → code ≡ None → ds ≡ map define_of c.defines → folders ≡ c.folders → files ≡ c.files
+    → ((held : Held) → contents ≡ Some held → IsFree r ⊎ compiled (command held c.options ds folders) files (Err r)) → IsOfSources {T = Image} c contents code (Err r)
+sources_not c contents code ds folders files r none defines is of given =
+    subst (λ (made : Option Code). IsOfSources {T = Image} c contents made (Err r)) (sym none) (λ held told. stopped held (given held told))
+  where
+    stopped : (held : Held) → IsFree r ⊎ compiled (command held c.options ds folders) files (Err r) → IsFree r ⊎ front held c (Err r)
+    stopped held (inl free) = inl free
+    stopped held (inr stops) = inr (from_parts c held ds folders files (Err r) defines is of stops)
+
+-- a code, as its text reads
+pub sources_read : {T : Type 0} (c : Spelled) (contents : Contents) (code read : Code) (ds : List Define) (folders files : List (List ℕ)) (r : Result T Refusal) → ds ≡ map define_of c.defines → folders ≡ c.folders → files ≡ c.files
+    → ((held : Held) → contents ≡ Some held → compiled (command held c.options ds folders) files (Ok code)) → ReadsAs (text_of code) read → IsOfSources c contents (Some read) r
+sources_read c contents code read ds folders files r defines is of given reads held told = (code, from_parts c held ds folders files (Ok code) defines is of (given held told), reads)
