@@ -19,7 +19,8 @@ use Rattle.c65_frame.specs.Symbols.{numbers_of, object_symbol, literal_symbol}
 use Rattle.c65_frame.specs.Sizes.{bytes_or}
 use Rattle.c65_gendata.specs.Cells.{symbol_of, offset_of, with_cells, is_zero, literal_cells}
 use Rattle.c65_gendata.specs.Data.{is_const, filled, blank, valued, initialised, object_datum, is_lasting, with_object, with_objects, with_literals, data_of}
-use Rattle.c65_genbulk.specs.Data.{lasting_bytes, objects_bytes, literals_bytes, data_bytes, datums_size, first_pieces, second_pieces, IsFilled, AreFilled}
+use Rattle.c65_scoped.specs.Initial.{first_pieces, second_pieces}
+use Rattle.c65_genbulk.specs.Data.{lasting_bytes, objects_bytes, literals_bytes, data_bytes, datums_size, IsFilled, AreFilled}
 
 -- ---- cells
 

@@ -6,3 +6,4 @@ pub mod Data
 pub mod Layouts
 pub mod Bulks
 pub mod First
+pub mod Scoped

@@ -1,9 +1,8 @@
 -- The bytes of the data of a program: its objects that live as long as it, and its literals.
-use Rattle.std.specs.Prelude.{ℕ, ◌+◌, ◌≤◌, ◌==◌, if◌then◌else◌, Option, None, Some, List, [], ◌∷◌, length, map}
+use Rattle.std.specs.Prelude.{ℕ, ◌+◌, ◌≤◌, if◌then◌else◌, Option, None, Some, List, [], ◌∷◌, length, map}
 use Rattle.c65_ctype.specs.Trees.{type_in, TypesTy}
 use Rattle.c65_ctype.specs.Views.{types_of}
 use Rattle.c65_csem.specs.declared.items.Cell.{Cell}
-use Rattle.c65_csem.specs.declared.items.Cell.TheVariants.{Byte, Piece}
 use Rattle.c65_csem.specs.declared.items.Parts.{Parts}
 use Rattle.c65_csem.specs.Trees.{ObjectTy}
 use Rattle.c65_csem.specs.Views.{object_of}
@@ -11,6 +10,7 @@ use Rattle.c65_code.specs.declared.code.Datum.{Datum}
 use Rattle.c65_code.specs.Placement.{size_of_datum}
 use Rattle.c65_frame.specs.Sizes.{bytes_or}
 use Rattle.c65_gendata.specs.Data.{is_lasting}
+use Rattle.c65_scoped.specs.Initial.{first_pieces, second_pieces}
 
 -- ---- the bytes of data
 
@@ -36,17 +36,6 @@ datums_size [] = 0
 datums_size (datum ∷ datums) = size_of_datum datum + datums_size datums
 
 -- ---- first bytes of objects
-
--- the first pieces of pointers, and their second ones
-abbrev pub first_pieces : List Cell → ℕ
-first_pieces [] = 0
-first_pieces (Byte b ∷ cells) = first_pieces cells
-first_pieces (Piece target offset part ∷ cells) = (if part == 0 then 1 else 0) + first_pieces cells
-
-abbrev pub second_pieces : List Cell → ℕ
-second_pieces [] = 0
-second_pieces (Byte b ∷ cells) = second_pieces cells
-second_pieces (Piece target offset part ∷ cells) = (if part == 0 then 0 else 1) + second_pieces cells
 
 -- the first bytes of an object are no more than it has, and each pointer among them has both its pieces
 abbrev pub IsFilled : ℕ → Option (List Cell) → Type 0

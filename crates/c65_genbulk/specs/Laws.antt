@@ -14,6 +14,7 @@ use Rattle.c65_genlaws.specs.Bulk.{statement_nodes, functions_nodes}
 use Rattle.c65_genstmt.specs.Functions.{no_lines, with_function}
 use Rattle.c65_genstmt.specs.Programs.{program_of}
 use Rattle.c65_link.specs.Linked.{large, linked}
+use Rattle.c65_scoped.specs.Programs.{IsScopedProgram}
 use Rattle.c65_genbulk.specs.Sets.{SetsOwn, BodiesSetOwn}
 use Rattle.c65_genbulk.specs.Data.{datums_size, AreFilled}
 use Rattle.c65_genbulk.specs.Bulk.{bulk_of}
@@ -51,3 +52,7 @@ abbrev pub LargeImagesAreWithinTheirBulk : Type 0
 LargeImagesAreWithinTheirBulk = (parts : Parts) (main : ℕ) (names : List (List ℕ)) (honoured : Bool) (code : Code) (size : ℕ)
     → IsNumbered parts → IsUnit (unit_of parts) → BodiesSetOwn parts.funcs.items → AreFilled (types_of parts.types) (map object_of parts.objects.items)
     → program_of parts main names honoured ≡ Ok code → linked code ≡ Err (large size) → size ≤ bulk_of parts
+
+-- what the bodies of a scoped program set belongs to their functions, and its initial values fill their objects
+abbrev pub ScopedProgramsSetOwnObjects : Type 0
+ScopedProgramsSetOwnObjects = (parts : Parts) (main : ℕ) → IsUnit (unit_of parts) → IsScopedProgram (unit_of parts) main → BodiesSetOwn parts.funcs.items × AreFilled (types_of parts.types) (map object_of parts.objects.items)

@@ -1,7 +1,7 @@
 // Laws of frames and of the bytes of whole programs, each the contract of a function that does nothing.
 ghost use Rattle.c65_genbulk.specs.Own.{OwnObjectsHaveHomes};
 ghost use Rattle.c65_genbulk.specs.First.{TheFirstLargeFrameIsRefused, FramesAreRefusedAboveTheirLimit};
-ghost use Rattle.c65_genbulk.specs.Laws.{TypedFunctionsAreSmall, TypedProgramsAreSmall, ProgramsAreWithinTheirBulk, ImagesAreWithinTheirBulk, LargeImagesAreWithinTheirBulk};
+ghost use Rattle.c65_genbulk.specs.Laws.{TypedFunctionsAreSmall, TypedProgramsAreSmall, ProgramsAreWithinTheirBulk, ImagesAreWithinTheirBulk, LargeImagesAreWithinTheirBulk, ScopedProgramsSetOwnObjects};
 
 /// The objects that have a home in a function's frame are its parameters and those of its body's blocks, and no others.
 pub fn own_objects_have_homes()
@@ -43,4 +43,10 @@ pub fn the_first_large_frame_is_refused()
 /// A function is refused for its frame only where its parameters and automatic objects have more than 1,024 bytes.
 pub fn frames_are_refused_above_their_limit()
     ensures { FramesAreRefusedAboveTheirLimit }
+{}
+
+/// In a scoped program each body sets and clears only objects of its own function, and each initial value has no more
+/// bytes than its object, with both pieces of each pointer: the premises of the laws above.
+pub fn scoped_programs_set_own_objects()
+    ensures { ScopedProgramsSetOwnObjects }
 {}
