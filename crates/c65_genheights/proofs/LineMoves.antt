@@ -177,7 +177,7 @@ first_place (Label k ∷ a) b l i e = by (λ i e. first_place a b l i e) i (k ==
     by later zero false h e = let same : k ≡ l = cc in let yes : (k == l) ≡ true = eq-eqb k l same in absurd cc
     by later (suc i) false h e = let rest : First a b l = later i e in record { at = rw h rest.at; low = rw h (omega (arith, rest.low)) }
 
-below_length : (a : List Line) (j : ℕ) (line : Line) → slice_get a j ≡ Some line → suc j ≤ length a
+pub below_length : (a : List Line) (j : ℕ) (line : Line) → slice_get a j ≡ Some line → suc j ≤ length a
 below_length [] j line e = absurd cc
 below_length (x ∷ a) zero line e = omega arith
 below_length (x ∷ a) (suc j) line e = omega (arith, below_length a j line e)

@@ -57,7 +57,7 @@ effect_frames Branches op mode w t = refl
 effect_frames Registers op mode w t = refl
 effect_frames Moving op mode w t = refl
 
-row_frames : (o : Option Row) (t u : State) → MeetsRow o t u → u.frames ≡ t.frames
+pub row_frames : (o : Option Row) (t u : State) → MeetsRow o t u → u.frames ≡ t.frames
 row_frames None t u m = absurd m
 row_frames (Some row) t u m = m.frames
 
@@ -78,14 +78,14 @@ own_frames s Stray p q t u own h = absurd own
 
 -- ---- one step of a way
 
-record Step (c : Laid) (j : ℕ) (t : State) (k : ℕ) (u : State) : Type 0 where
-  sp : sp_of u + bytes_before c k ≡ sp_of t + bytes_before c j
-  frames : u.frames ≡ t.frames
+pub record Step (c : Laid) (j : ℕ) (t : State) (k : ℕ) (u : State) : Type 0 where
+  pub sp : sp_of u + bytes_before c k ≡ sp_of t + bytes_before c j
+  pub frames : u.frames ≡ t.frames
 
-same_line : (n g i k : ℕ) → ◌≡◌ {A = Place} (g, n + i) (g, n + k) → i ≡ k
+pub same_line : (n g i k : ℕ) → ◌≡◌ {A = Place} (g, n + i) (g, n + k) → i ≡ k
 same_line n g i k e = let lines : n + i ≡ n + k = ap (λ (p : Place). p.1) e in omega (arith, lines)
 
-move_step : (s : Setting) (c : Laid) (j k : ℕ) (t u : State) (line : Line) → IsLaid s c → slice_get c.middle j ≡ Some line → IsOwn (form_of line) → IsSteady s line t → Moves s line (place_in c j) t (place_in c k) u → Step c j t k u
+pub move_step : (s : Setting) (c : Laid) (j k : ℕ) (t u : State) (line : Line) → IsLaid s c → slice_get c.middle j ≡ Some line → IsOwn (form_of line) → IsSteady s line t → Moves s line (place_in c j) t (place_in c k) u → Step c j t k u
 move_step s c j k t u line laid at own steady move =
     let n : ℕ = length (entry_code c.frame) in
     let goes : Goes c.number n c.middle c.first j t (place_in c k) u = moves_keep_heights s c.number j (entry_code c.frame) c.middle (end_code c.frame) c.first line (place_in c k) t u laid.lines (no_labels (entry_code c.frame) (entry_flat c.frame).plain) (no_labels (end_code c.frame) (end_flat c.frame).plain) laid.level at own steady move in
@@ -101,7 +101,7 @@ same_tail : (f g : Frame) (fs gs : List Frame) → f ∷ fs ≡ g ∷ gs → fs 
 unfolding tail_of
 same_tail f g fs gs e = ap tail_of e
 
-call_step : (s : Setting) (c d : Laid) (j k : ℕ) (reads gives : RegSet) (p q r : Place) (a t u v x : State) → IsLaid s c → IsLaid s d → suc j ≤ length c.middle
+pub call_step : (s : Setting) (c d : Laid) (j k : ℕ) (reads gives : RegSet) (p q r : Place) (a t u v x : State) → IsLaid s c → IsLaid s d → suc j ≤ length c.middle
     → bytes_before c j + pushed_bytes d.frame.last ≡ bytes_before c (suc j) + passed_bytes d.frame t
     → Enters s d.number reads gives (place_in c j) a q t → Passes s (entry_code d.frame) q t p u
     → sp_of v ≡ sp_of u → v.frames ≡ u.frames → parameter_bytes d.frame v ≡ parameter_bytes d.frame u

@@ -3,7 +3,7 @@ ghost use Rattle.c65_genheights.specs.Calls.{EntriesLowerSp, EndsRaiseSp, EndsUn
 ghost use Rattle.c65_genheights.specs.Heights.{ExpressionsAreLevel, FunctionsAreLevel};
 ghost use Rattle.c65_genheights.specs.Bank.{FunctionsLeaveRegbank, MovesLeaveRegbank};
 ghost use Rattle.c65_genheights.specs.Walks.{WalksKeepHeights};
-ghost use Rattle.c65_genheights.specs.Parameters.{CallsPassTheirParameters};
+ghost use Rattle.c65_genheights.specs.Parameters.{CallsPassWhatIsTaken, CallsPassTheirParameters};
 ghost use Rattle.c65_genheights.specs.Going.{MovesKeepHeights, FunctionsKeepHeights, CallsKeepHeights};
 
 /// A function's entry lowers sp by the bytes that its frame says, and puts regbank away as it found it.
@@ -39,6 +39,12 @@ pub fn moves_keep_heights()
 /// So it is in each function: between its entry and its end sp is the frame's, lower by the bytes that wait.
 pub fn functions_keep_heights()
     ensures { FunctionsKeepHeights }
+{}
+
+/// A call whose arguments are of the types that the function's parameters are passed as passes as many bytes on the software stack as
+/// the end of the function takes away there.
+pub fn calls_pass_what_is_taken()
+    ensures { CallsPassWhatIsTaken }
 {}
 
 /// A call with a prototype passes as many bytes on the software stack as the end of the function takes away there.
