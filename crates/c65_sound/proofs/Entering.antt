@@ -1,11 +1,10 @@
 -- A function is entered: each parameter begins with its argument.
-use Rattle.std.proofs.Common.{◌≡◌, ℕ, suc, true, List, [], ◌∷◌, Option, Some, None, refl, subst}
-use Rattle.std.specs.Prelude.{Ok, All, ⊤, IsTrue, ◌<◌}
+use Rattle.std.proofs.Common.{ℕ, true, List, [], ◌∷◌}
+use Rattle.std.specs.Prelude.{All, ⊤}
 use Rattle.c65_csem.specs.Trees.{UnitTy}
-use Rattle.c65_csem.specs.Statements.{NamesAutomatic}
 use Rattle.c65_csem.specs.Units.{IsParam}
 use Rattle.c65_meaning.specs.Program.{ProgramTy}
-use Rattle.c65_meaning.specs.Store.{Value, Whole, Null, Place, Opaque, NoValue}
+use Rattle.c65_meaning.specs.Store.{Value, Place}
 use Rattle.c65_meaning.specs.Shapes.{object_in, object_shape}
 use Rattle.c65_meaning.specs.State.{Scene}
 use Rattle.c65_meaning.specs.Step.{begin_object, put, with_params}
@@ -43,9 +42,9 @@ module _ (p : ProgramTy) where
       bind_sound (IsScene p.unit e) (IsBegun p.unit (entering (i ∷ objects) scope) d) (put true (object_shape p.unit.types (object_in p.unit i)) e (Place d.next 0) v) (with_params p.unit objects args)
       (put_sound statement p e true (object_shape p.unit.types (object_in p.unit i)) e free (Place d.next 0) v (stands_here statement tt p e (store_after p.unit i d h)) (block_new p.unit i d) (stands_on statement p.unit d e g v a.0))
       (λ f s. let m : Grows p.unit e f = moves_here statement tt p e f s in
-          let all : Grows p.unit d f = grows_on p.unit d e f g m in
-          map_sound (IsBegun p.unit (entering objects (i ∷ scope)) f) (IsBegun p.unit (entering (i ∷ objects) scope) d) (with_params p.unit objects args f) (λ x b. later (entering objects (i ∷ scope)) d f x all b)
-          (params_begin objects args (i ∷ scope) f n.1 (ready_stays p.unit e f m (i ∷ scope) (ready_after p.unit i d scope n.0 r)) (fits_here statement tt p e f m s.store) (all_stand_on d f all args a.1) (still_enough d f objects args o)))
+      let all : Grows p.unit d f = grows_on p.unit d e f g m in
+      map_sound (IsBegun p.unit (entering objects (i ∷ scope)) f) (IsBegun p.unit (entering (i ∷ objects) scope) d) (with_params p.unit objects args f) (λ x b. later (entering objects (i ∷ scope)) d f x all b)
+      (params_begin objects args (i ∷ scope) f n.1 (ready_stays p.unit e f m (i ∷ scope) (ready_after p.unit i d scope n.0 r)) (fits_here statement tt p e f m s.store) (all_stand_on d f all args a.1) (still_enough d f objects args o)))
     where
       still_enough : (c e : Scene) (os : List ℕ) (vs : List Value) → Enough (D p.unit c) os vs → Enough (D p.unit e) os vs
       still_enough c e [] vs h = tt

@@ -1,6 +1,6 @@
 -- A call: the callee is there, takes its arguments, and its body begins; or the library serves it.
 use Rattle.std.proofs.Common.{◌≡◌, ℕ, zero, suc, Bool, true, false, List, [], ◌∷◌, Option, Some, None, refl, sym, ap, ◌∙◌, subst, if◌then◌else◌}
-use Rattle.std.specs.Prelude.{Result, Ok, Err, All, IsSome, IsTrue, slice_get, ◌&&◌}
+use Rattle.std.specs.Prelude.{Result, Ok, Err, All, IsSome, IsTrue, slice_get}
 use Rattle.std.proofs.lemmas.Bool.{and_parts}
 use Rattle.std.proofs.lemmas.Option.{get_or_from_slice_get, slice_get_within}
 use Rattle.std.proofs.lemmas.List.Elements.{All-get_or}
@@ -20,16 +20,16 @@ use Rattle.c65_meaning.specs.Store.{Value, Whole, Null, Place, Opaque, NoValue}
 use Rattle.c65_meaning.specs.Shapes.{object_in, lives_in_frame, literal_block, object_block}
 use Rattle.c65_meaning.specs.Items.{Item, Invoke, Leave, plan_stmt}
 use Rattle.c65_meaning.specs.Costs.{argument_bytes, soft_cost}
-use Rattle.c65_meaning.specs.Calls.{passed_to, fit_definition, agree, accepts}
+use Rattle.c65_meaning.specs.Calls.{passed_to, fit_definition, accepts}
 use Rattle.c65_meaning.specs.Library.{effect_of}
-use Rattle.c65_meaning.specs.State.{Frame, Scene, State, Undefined, Deep, Running, turned, block_in}
-use Rattle.c65_meaning.specs.Step.{one, place_in, are_values, is_deep, unless_deep, new_frame, with_params, entered, called, unless_refused, accepted, call_of, invoked, served, func_in, frames_below, perform}
+use Rattle.c65_meaning.specs.State.{Frame, Scene, State, Deep, Running, turned, block_in}
+use Rattle.c65_meaning.specs.Step.{place_in, are_values, is_deep, unless_deep, new_frame, with_params, entered, called, unless_refused, accepted, call_of, invoked, served, func_in, frames_below, perform}
 use Rattle.c65_scoped.specs.Scopes.{IsInScope, IsScoped, IsScopedBody, HasScopedBody, entering}
 use Rattle.c65_scoped.specs.Library.{type_of, IsTypedAs, HasLibraryType}
 use Rattle.c65_scoped.specs.Programs.{IsScopedProgram}
 use Rattle.c65_sound.specs.Laws.{HasBlock}
 use Rattle.c65_sound.specs.Statements.{HasFrame, IsReady}
-use Rattle.c65_sound.proofs.Stacks.{Kind, pointing, kind_at, kind_given, kind_from, Below, Gives, Sound, Stands, Suits, AreSuited, StoreFits, Call, inside, IsCallee, pushed, Exit, breaking, continuing, returning, Allows, D, Takes, Out, IsScene}
+use Rattle.c65_sound.proofs.Stacks.{Kind, pointing, kind_at, kind_given, kind_from, Below, Gives, Sound, Stands, Suits, AreSuited, Call, inside, IsCallee, Exit, breaking, continuing, returning, Allows, D, Takes, Out, IsScene}
 use Rattle.c65_sound.proofs.Values.{stands}
 use Rattle.c65_sound.proofs.Scopes.{Grows, ready_stays, IsBegun}
 use Rattle.c65_sound.proofs.Statements.{suits_on, suited_on, takes_on, stmt_takes}
@@ -152,9 +152,11 @@ module _ (p : ProgramTy) (w : IsProgram p.unit p.main) (s : IsScopedProgram p.un
           let scope = at.active.ready in
           body_enters f g body k ks vs first (with_params p.unit g.params args first) m j refl
           (params_begin p g.params args [] first (automatic_params p.unit g.params (body_typed f g body m j).params) (ready_outside p (entering call.func.params []) (with_frames c c.frames) first _ _ refl moved.blocks scope) (fits_here (inside call) tt p c d moved i.store) (stand_on first types args moved.blocks given) (enough_on first g.params args o))
-          (λ e n. (suited_on (inside call) p.unit (with_frames c e.frames) (with_frames e e.frames) (grown_with p c e e.frames (λ b h. n.blocks b (moved.blocks b h))) ks vs suited,
-              subst (λ (fs : List Frame). AreWaiting p.unit e fs (record { func = g; code = body; base = ks; behind = k })) (sym i.frames)
-              (waits e (record { func = g; code = body; base = ks; behind = k }) (λ b h. n.blocks b (moved.blocks b h)) c.frames at.active at.waiting (t.0, t.1, takes_on (inside call) p.unit c (with_frames c c.frames) own k (t.0 ∷ ks) t.2))))
+          (λ e n. (
+            suited_on (inside call) p.unit (with_frames c e.frames) (with_frames e e.frames) (grown_with p c e e.frames (λ b h. n.blocks b (moved.blocks b h))) ks vs suited,
+            subst (λ (fs : List Frame). AreWaiting p.unit e fs (record { func = g; code = body; base = ks; behind = k })) (sym i.frames)
+                (waits e (record { func = g; code = body; base = ks; behind = k }) (λ b h. n.blocks b (moved.blocks b h)) c.frames at.active at.waiting (t.0, t.1, takes_on (inside call) p.unit c (with_frames c c.frames) own k (t.0 ∷ ks) t.2)),
+          ))
         where
           stand_on : (e : Scene) (ts : List Ty) (ws : List Value) → ((b : ℕ) → E b → D p.unit e b) → AllSuited E ts ws → AllStand (D p.unit e) ws
           stand_on e ts ws g h = raise_all ws (all_stand ts ws h)

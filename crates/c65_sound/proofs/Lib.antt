@@ -19,3 +19,4 @@ pub mod Invoking
 pub mod Whole
 pub mod Jumps
 pub mod Mains
+pub mod Start

@@ -23,12 +23,12 @@ use Rattle.c65_sound.proofs.Returns.{at_later}
 module _ (p : ProgramTy) (d : Scene) (call : Call) (at : IsAt p.unit d call) (store : StoreFits (D p.unit d) d.store) (l : Library) (args : List Value) (arguments : AreArguments d.store l args) (k : List Item) (ks : List Kind) (vs : List Value) (gives : Gives (kind_from l) (Takes (inside call) p.unit d k) ks) (suited : AreSuited (D p.unit d) ks vs) where
   ended_well : (e : Effect) → Fine d (kind_from l) e → (status : Option ℕ) → IsWell p.unit (ended_or k vs d e status)
   ended_well e h None = record {
-      scene = d;
-      call = call;
-      active = at.active;
-      running = record { kinds = gives.0 ∷ ks; takes = gives.2; suited = (raise (D p.unit d) (kind_from l) gives.0 e.result gives.1 h.1, suited); scene = record { frames = refl; store = h.0 } };
-      waiting = at.waiting;
-    }
+    scene = d;
+    call = call;
+    active = at.active;
+    running = record { kinds = gives.0 ∷ ks; takes = gives.2; suited = (raise (D p.unit d) (kind_from l) gives.0 e.result gives.1 h.1, suited); scene = record { frames = refl; store = h.0 } };
+    waiting = at.waiting;
+  }
   ended_well e h (Some status) = tt
 
   finished_well : (r : Result Effect Why) → Sound (Fine d (kind_from l)) r → IsWell p.unit (finished k vs d r)
@@ -39,12 +39,12 @@ module _ (p : ProgramTy) (d : Scene) (call : Call) (at : IsAt p.unit d call) (st
   pub library_well : (n : ℕ) → IsWell p.unit (library_call n l args k vs d)
   library_well zero = finished_well (effect_of d l args) (fine d store l args arguments)
   library_well (suc n) = record {
-      scene = d;
-      call = call;
-      active = at.active;
-      running = record { kinds = ks; takes = (tt, arguments, gives); suited = suited; scene = record { frames = refl; store = store } };
-      waiting = at.waiting;
-    }
+    scene = d;
+    call = call;
+    active = at.active;
+    running = record { kinds = ks; takes = (tt, arguments, gives); suited = suited; scene = record { frames = refl; store = store } };
+    waiting = at.waiting;
+  }
 
   served_by : (r : Result Effect Why) → Sound (Fine d (kind_from l)) r → IsWell p.unit (served l args k vs d r)
   served_by (Ok e) h = library_well e.bytes

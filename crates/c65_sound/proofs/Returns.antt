@@ -1,26 +1,26 @@
 -- The end of a call: the call that waits for it goes on with what it gives.
-use Rattle.std.proofs.Common.{◌≡◌, ◌++◌, ℕ, pos, Bool, true, false, List, [], ◌∷◌, Option, Some, None, refl, sym, ap, ◌∙◌, subst, if◌then◌else◌}
+use Rattle.std.proofs.Common.{◌≡◌, ◌++◌, ℕ, pos, Bool, true, false, List, [], ◌∷◌, Option, Some, refl, sym, ap, ◌∙◌, subst, if◌then◌else◌}
 use Rattle.std.specs.Prelude.{◌==◌, slice_get}
 use Rattle.std.proofs.lemmas.Bool.{eqb-true}
-use Rattle.c65_ctype.specs.Trees.{Ty, void, int, pointer, QTy, qual, type_in}
+use Rattle.c65_ctype.specs.Trees.{Ty, int, pointer, QTy, type_in}
 use Rattle.c65_csem.specs.Trees.{FuncTy}
-use Rattle.c65_csem.specs.Places.{plain, plain_of, is_scalar}
+use Rattle.c65_csem.specs.Places.{plain_of, is_scalar}
 use Rattle.c65_csem.specs.Typed as ty
 use Rattle.c65_csem.specs.Typed.{IsResult, result_of}
 use Rattle.c65_meaning.specs.Program.{ProgramTy}
 use Rattle.c65_meaning.specs.declared.action.Action.TheVariants.{NoResult}
 use Rattle.c65_meaning.specs.Why.{By, Unfit}
 use Rattle.c65_meaning.specs.Store.{Value, Whole, Null, Place, Opaque, NoValue}
-use Rattle.c65_meaning.specs.Items.{Item, Push, Name, Follow, Move, Fetch, Keep, Change, Apply1, Apply2, Both, Either, Truth, Choose, Drop, Put, Peek, Bump, PutUnder, Carry, Invoke, Busy, Skip, Init, CarryInto, Wipe, Begin, End, Branch, Test, Pass, Enter, Next, Back, Check, Redo, Select, EndSwitch, Jump, LeaveLoop, GoOn, Give, GiveNothing, Leave}
+use Rattle.c65_meaning.specs.Items.{Item, End, Give, GiveNothing, Leave}
 use Rattle.c65_meaning.specs.After.{Left, ending, up_to_call}
 use Rattle.c65_meaning.specs.State.{Frame, Scene, State, Undefined, Deep, Ended, Running}
 use Rattle.c65_meaning.specs.Step.{is_value, end_objects, status_of, back_in, params_of, func_in, frames_below, without_frame, left_call, returned, at_the_end, perform}
-use Rattle.c65_sound.proofs.Stacks.{Kind, arithmetic, pointing, naming, free, kind_at, kind_given, Below, Gives, Suits, AreSuited, Call, inside, HaveBlocks, D, Exit, returning, Takes, Out, IsScene, IsGood}
-use Rattle.c65_sound.proofs.Values.{raise, zero_of}
+use Rattle.c65_sound.proofs.Stacks.{Kind, arithmetic, kind_at, kind_given, Suits, AreSuited, Call, inside, HaveBlocks, D, returning, Takes, Out, IsScene, IsGood}
+use Rattle.c65_sound.proofs.Values.{raise}
 use Rattle.c65_sound.proofs.Scopes.{Grows, ready_stays}
-use Rattle.c65_sound.proofs.Statements.{takes_on, suited_on}
+use Rattle.c65_sound.proofs.Statements.{takes_on}
 use Rattle.c65_sound.proofs.StatementSteps.{ends}
-use Rattle.c65_sound.proofs.Calls.{with_frames, IsCall, AreWaiting, IsInside, IsWell, IsAt}
+use Rattle.c65_sound.proofs.Calls.{with_frames, IsCall, AreWaiting, IsWell, IsAt}
 
 -- ---- later scenes
 
@@ -37,9 +37,9 @@ waiting_on p c e g (f ∷ fs) call h = (h.0, call_on p c e (f ∷ fs) (f ∷ fs)
 
 pub at_later : (p : ProgramTy) (c e : Scene) (call : Call) → Grows p.unit c e → IsAt p.unit c call → IsAt p.unit e call
 at_later p c e call g h = record {
-    active = call_on p c e c.frames e.frames call (record { blocks = g.blocks; objects = g.objects; active = g.active; func = g.func; below = g.below }) h.active;
-    waiting = subst (λ (fs : List Frame). AreWaiting p.unit e fs call) (sym g.below) (waiting_on p c e g.blocks (frames_below c.frames) call h.waiting);
-  }
+  active = call_on p c e c.frames e.frames call (record { blocks = g.blocks; objects = g.objects; active = g.active; func = g.func; below = g.below }) h.active;
+  waiting = subst (λ (fs : List Frame). AreWaiting p.unit e fs call) (sym g.below) (waiting_on p c e g.blocks (frames_below c.frames) call h.waiting);
+}
 
 -- what is good in a later scene of the same calls
 pub well_from : (p : ProgramTy) (c e : Scene) (call : Call) (s : State) → IsAt p.unit c call → Grows p.unit c e → IsGood (inside call) p.unit e s → IsWell p.unit s

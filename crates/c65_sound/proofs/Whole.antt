@@ -1,20 +1,20 @@
 -- A step of a whole program keeps what pending work finds.
-use Rattle.std.proofs.Common.{◌≡◌, ℕ, Bool, true, false, List, [], ◌∷◌, Option, Some, None, refl, sym, ap, ◌∙◌, subst, arith}
+use Rattle.std.proofs.Common.{◌≡◌, ℕ, true, false, List, [], ◌∷◌, Option, Some, None, refl}
 use Rattle.std.specs.Prelude.{is_none, slice_get}
 use Rattle.c65_csem.specs.Trees.{FuncTy}
 use Rattle.c65_csem.specs.Units.{IsProgram}
 use Rattle.c65_meaning.specs.Program.{ProgramTy}
 use Rattle.c65_meaning.specs.Why.{By, Unfit}
 use Rattle.c65_meaning.specs.Store.{Value}
-use Rattle.c65_meaning.specs.Items.{Item, Push, Name, Follow, Move, Fetch, Keep, Change, Apply1, Apply2, Both, Either, Truth, Choose, Drop, Put, Peek, Bump, PutUnder, Carry, Invoke, Busy, Skip, Init, CarryInto, Wipe, Begin, End, Branch, Test, Pass, Enter, Next, Back, Check, Redo, Select, EndSwitch, Jump, LeaveLoop, GoOn, Give, GiveNothing, Leave}
+use Rattle.c65_meaning.specs.Items.{Item, Invoke, Busy, End, Next, Check, EndSwitch, Jump, LeaveLoop, GoOn, Give, GiveNothing, Leave}
 use Rattle.c65_meaning.specs.After.{Left, ending, up_to_break, up_to_continue}
 use Rattle.c65_meaning.specs.State.{Scene, State, Undefined, Deep, Ended, Running}
 use Rattle.c65_meaning.specs.Step.{perform, step}
 use Rattle.c65_scoped.specs.Programs.{IsScopedProgram}
 use Rattle.c65_sound.specs.Statements.{leaves}
-use Rattle.c65_sound.proofs.Stacks.{Kind, arithmetic, kind_given, AreSuited, Call, inside, Exit, breaking, continuing, D, Does, Takes, Out, IsScene}
+use Rattle.c65_sound.proofs.Stacks.{Kind, arithmetic, kind_given, AreSuited, Call, inside, breaking, continuing, D, Does, Takes, Out, IsScene}
 use Rattle.c65_sound.proofs.StatementSteps.{is_of_call, does_step}
-use Rattle.c65_sound.proofs.Calls.{IsInside, IsWell, IsAt}
+use Rattle.c65_sound.proofs.Calls.{IsWell, IsAt}
 use Rattle.c65_sound.proofs.Returns.{well_from, give_well, give_nothing_well, leave_well}
 use Rattle.c65_sound.proofs.LibraryCalls.{busy_well}
 use Rattle.c65_sound.proofs.Invoking.{invoke_well}

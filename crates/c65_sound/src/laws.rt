@@ -2,6 +2,7 @@
 ghost use Rattle.c65_sound.specs.Laws.{ExpressionsFit};
 ghost use Rattle.c65_sound.specs.Library.{LibraryFits};
 ghost use Rattle.c65_sound.specs.Programs.{InitialStoreFits};
+ghost use Rattle.c65_sound.specs.Runs.{ProgramsFit};
 ghost use Rattle.c65_sound.specs.Statements.{StatementsFit};
 
 /// Where each object that a well typed expression names has a block, and memory names only blocks that there are, the run of the
@@ -26,4 +27,10 @@ pub fn library_fits()
 /// initial value points to an automatic object.
 pub fn initial_store_fits()
     ensures { InitialStoreFits }
+{}
+
+/// The run of a well typed program whose names are in scope, and whose `main` and library functions have their types, never comes to trees
+/// or values that do not fit, where no statement has a label.
+pub fn programs_fit()
+    ensures { ProgramsFit }
 {}
