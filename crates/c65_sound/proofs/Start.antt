@@ -1,6 +1,8 @@
 -- The call of `main` begins well, and so every state of the run is.
 use Rattle.std.proofs.Common.{◌≡◌, ℕ, zero, suc, ◌+◌, ◌/◌, ◌%◌, ◌<◌, Bool, true, false, List, [], ◌∷◌, ◌++◌, length, Option, Some, None, refl, sym, ap, ◌∙◌, subst, arith, if◌then◌else◌}
 use Rattle.std.specs.Prelude.{◌==◌, Ok, IsSome, IsTrue, Contains, slice_get, nat_lt}
+use Rattle.c65_ints.specs.declared.types.IntType.TheVariants.{Int}
+use Rattle.c65_ctype.specs.Trees.{Ty, int, type_in}
 use Rattle.c65_csem.specs.Trees.{Stmt, FuncTy, UnitTy}
 use Rattle.c65_csem.specs.Typed.{result_of}
 use Rattle.c65_csem.specs.Units.{IsProgram}
@@ -15,12 +17,12 @@ use Rattle.c65_meaning.specs.Step.{place_in, new_frame, with_params, func_in, bo
 use Rattle.c65_meaning.specs.Start.{bytes_at, text_block, argv_cells, argv_block, with_texts, initial_store, objects_inside, with_arguments, first_store, first_scene, main_values, started, started_by, start}
 use Rattle.c65_meaning.specs.Sem.{state_at}
 use Rattle.c65_scoped.specs.Scopes.{IsInScope}
-use Rattle.c65_scoped.specs.Programs.{TakesArguments, Starts, IsScopedProgram}
+use Rattle.c65_scoped.specs.Programs.{is_int, TakesArguments, Starts, IsScopedProgram}
 use Rattle.c65_sound.specs.Laws.{IsClosed, HasBlock, IsFit}
 use Rattle.c65_sound.specs.Statements.{IsReady}
 use Rattle.c65_sound.specs.Programs.{HasBlocks}
-use Rattle.c65_sound.specs.Runs.{MainGivesInt, HasNoLabels, ProgramsFit}
-use Rattle.c65_sound.proofs.Stacks.{kind_at, CellFits, CellsFit, StoreFits, D}
+use Rattle.c65_sound.specs.Runs.{HasNoLabels, ProgramsFit}
+use Rattle.c65_sound.proofs.Stacks.{arithmetic, kind_at, CellFits, CellsFit, StoreFits, D}
 use Rattle.c65_sound.proofs.Programs.{initial_store_fits}
 use Rattle.c65_sound.proofs.Plans.{plain_type}
 use Rattle.c65_sound.proofs.Arguments.{Enough}
@@ -161,7 +163,7 @@ module _ (p : ProgramTy) (args : List (List ℕ)) (input : List ℕ) (w : IsProg
   main_found None i h = absurd h
   main_found (Some g) i h =
       let same : Some w.start ≡ Some g = sym w.main_is ∙ i in
-      main_starts g g.body i refl (subst (λ (o : Option FuncTy). IsSome (body_of o)) same w.has_body) h
+      main_starts g g.body i refl (subst (λ (o : Option FuncTy). IsSome (body_of o)) same w.has_body) h.0
 
   start_well : IsWell p.unit (start p args input)
   start_well = well_if p (objects_inside p.unit p.unit.objects) (started_by p.unit p.main args input (slice_get p.unit.funcs p.main)) (Undefined (By OffsetOutside)) (main_found (slice_get p.unit.funcs p.main) refl s.start) tt
@@ -183,8 +185,12 @@ fit p Deep h = tt
 fit p (Ended out status turns) h = tt
 fit p (Running work vs d) h = closed p h.scene d.store h.running.scene.store
 
-main_number : (p : ProgramTy) → MainGivesInt p → MainGivesNumber p
-main_number p h g e = ap kind_at (plain_type (result_of g.ty) ∙ h g e)
+int_kind : (t : Ty) → IsTrue (is_int t) → kind_at t ≡ arithmetic true
+int_kind (int Int) h = refl
+int_kind _ h = absurd (cc)
+
+main_number : (p : ProgramTy) → IsScopedProgram p.unit p.main → MainGivesNumber p
+main_number p s g e = ap kind_at (plain_type (result_of g.ty)) ∙ int_kind (type_in (result_of g.ty)) (subst (Starts p.unit) e s.start).1
 
 no_jumps : (p : ProgramTy) → HasNoLabels p.unit → JumpsWell p
 no_jumps p h c call at l n k ks vs d t i a = absurd (none (subst (λ (ls : List ℕ). Contains ls l) (h (func_in c.frames) call.func call.code at.active.func at.active.body) t.1.0))
@@ -193,4 +199,4 @@ no_jumps p h c call at l n k ks vs d t i a = absurd (none (subst (λ (ls : List 
     none q = let few : q.0 < 0 = q.1 in omega (arith, few)
 
 pub programs_fit : ProgramsFit
-programs_fit p args input n w s m h = fit p (state_at p args input n) (state_well p args input w s (main_number p m) (no_jumps p h) n)
+programs_fit p args input n w s h = fit p (state_at p args input n) (state_well p args input w s (main_number p s) (no_jumps p h) n)

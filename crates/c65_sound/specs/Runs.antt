@@ -1,19 +1,12 @@
 -- The run of a whole program never comes to trees or values that do not fit one another (C90 5.1.2.2.1, 6.3.2.2, 6.6.6, 7.1.7).
 use Rattle.std.specs.Prelude.{◌≡◌, ℕ, List, [], Some, slice_get}
-use Rattle.c65_ints.specs.declared.types.IntType.TheVariants.{Int}
-use Rattle.c65_ctype.specs.Trees.{int, type_in}
 use Rattle.c65_csem.specs.Trees.{Stmt, FuncTy, UnitTy}
-use Rattle.c65_csem.specs.Typed.{result_of}
 use Rattle.c65_csem.specs.Statements.{labels_of}
 use Rattle.c65_csem.specs.Units.{IsProgram}
 use Rattle.c65_meaning.specs.Program.{ProgramTy}
 use Rattle.c65_meaning.specs.Sem.{state_at}
 use Rattle.c65_scoped.specs.Programs.{IsScopedProgram}
 use Rattle.c65_sound.specs.Laws.{IsFit}
-
--- `main` gives an int
-abbrev pub MainGivesInt : ProgramTy → Type 0
-MainGivesInt p = (f : FuncTy) → slice_get p.unit.funcs p.main ≡ Some f → type_in (result_of f.ty) ≡ int Int
 
 -- no statement has a label, so that none jumps to one
 abbrev pub HasNoLabels : UnitTy → Type 0
@@ -23,5 +16,5 @@ HasNoLabels u = (f : ℕ) (g : FuncTy) (body : Stmt) → slice_get u.funcs f ≡
 -- defined, ended, too deep or undefined by a numbered action; and in a running state memory names only blocks that there are.
 abbrev pub ProgramsFit : Type 0
 ProgramsFit = (p : ProgramTy) (args : List (List ℕ)) (input : List ℕ) (n : ℕ)
-    → IsProgram p.unit p.main → IsScopedProgram p.unit p.main → MainGivesInt p → HasNoLabels p.unit
+    → IsProgram p.unit p.main → IsScopedProgram p.unit p.main → HasNoLabels p.unit
     → IsFit (state_at p args input n)
