@@ -1,10 +1,7 @@
 -- The call of `main` begins well, and so every state of the run is.
 use Rattle.std.proofs.Common.{◌≡◌, ℕ, zero, suc, ◌+◌, ◌/◌, ◌%◌, ◌<◌, Bool, true, false, List, [], ◌∷◌, ◌++◌, length, Option, Some, None, refl, sym, ap, ◌∙◌, subst, arith, if◌then◌else◌}
-use Rattle.std.specs.Prelude.{◌==◌, Ok, IsSome, IsTrue, Contains, slice_get, nat_lt}
-use Rattle.c65_ints.specs.declared.types.IntType.TheVariants.{Int}
-use Rattle.c65_ctype.specs.Trees.{Ty, int, type_in}
+use Rattle.std.specs.Prelude.{◌==◌, Ok, IsSome, IsTrue, slice_get, nat_lt}
 use Rattle.c65_csem.specs.Trees.{Stmt, FuncTy, UnitTy}
-use Rattle.c65_csem.specs.Typed.{result_of}
 use Rattle.c65_csem.specs.Units.{IsProgram}
 use Rattle.c65_meaning.specs.Program.{ProgramTy}
 use Rattle.c65_meaning.specs.declared.action.Action.TheVariants.{OffsetOutside}
@@ -13,23 +10,24 @@ use Rattle.c65_meaning.specs.Store.{Cell, Bits, Piece, Clouded, byte, Block, Sto
 use Rattle.c65_meaning.specs.Shapes.{object_in, lives_in_frame, literal_block, object_block, first_block}
 use Rattle.c65_meaning.specs.Costs.{bytes_of_objects, soft_cost, arguments_bytes}
 use Rattle.c65_meaning.specs.State.{Scene, State, Undefined, Deep, Ended, Running}
-use Rattle.c65_meaning.specs.Step.{place_in, new_frame, with_params, func_in, body_of, step, steps}
+use Rattle.c65_meaning.specs.Step.{place_in, new_frame, with_params, body_of, step, steps}
 use Rattle.c65_meaning.specs.Start.{bytes_at, text_block, argv_cells, argv_block, with_texts, initial_store, objects_inside, with_arguments, first_store, first_scene, main_values, started, started_by, start}
 use Rattle.c65_meaning.specs.Sem.{state_at}
 use Rattle.c65_scoped.specs.Scopes.{IsInScope}
-use Rattle.c65_scoped.specs.Programs.{is_int, TakesArguments, Starts, IsScopedProgram}
+use Rattle.c65_scoped.specs.Programs.{TakesArguments, Starts, IsScopedProgram}
 use Rattle.c65_sound.specs.Laws.{IsClosed, HasBlock, IsFit}
 use Rattle.c65_sound.specs.Statements.{IsReady}
 use Rattle.c65_sound.specs.Programs.{HasBlocks}
-use Rattle.c65_sound.specs.Runs.{HasNoLabels, ProgramsFit}
-use Rattle.c65_sound.proofs.Stacks.{arithmetic, kind_at, CellFits, CellsFit, StoreFits, D}
+use Rattle.c65_sound.specs.Runs.{ProgramsFit}
+use Rattle.c65_sound.proofs.Stacks.{CellFits, CellsFit, StoreFits, D}
 use Rattle.c65_sound.proofs.Programs.{initial_store_fits}
-use Rattle.c65_sound.proofs.Plans.{plain_type}
 use Rattle.c65_sound.proofs.Arguments.{Enough}
 use Rattle.c65_sound.proofs.Entering.{AllStand, automatic_params, params_begin}
 use Rattle.c65_sound.proofs.Calls.{IsWell}
 use Rattle.c65_sound.proofs.Invoking.{well_if, body_typed, body_enters}
-use Rattle.c65_sound.proofs.Whole.{JumpsWell, MainGivesNumber, step_well}
+use Rattle.c65_sound.proofs.Jumps.{jumps_well}
+use Rattle.c65_sound.proofs.Mains.{main_gives_number}
+use Rattle.c65_sound.proofs.Whole.{MainGivesNumber, step_well}
 use Rattle.c65_sound.proofs.Expressions.{closed}
 
 -- ---- the first store
@@ -114,7 +112,10 @@ module _ (u : UnitTy) (args : List (List ℕ)) where
 
 -- ---- the call of `main`
 
-module _ (p : ProgramTy) (args : List (List ℕ)) (input : List ℕ) (w : IsProgram p.unit p.main) (s : IsScopedProgram p.unit p.main) (main : MainGivesNumber p) where
+module _ (p : ProgramTy) (args : List (List ℕ)) (input : List ℕ) (w : IsProgram p.unit p.main) (s : IsScopedProgram p.unit p.main) where
+  main : MainGivesNumber p
+  main = main_gives_number p s
+
   abbrev There : List ℕ → ℕ → Type 0
   There params b = IsSome (first_store p.unit params args b)
 
@@ -168,13 +169,12 @@ module _ (p : ProgramTy) (args : List (List ℕ)) (input : List ℕ) (w : IsProg
   start_well : IsWell p.unit (start p args input)
   start_well = well_if p (objects_inside p.unit p.unit.objects) (started_by p.unit p.main args input (slice_get p.unit.funcs p.main)) (Undefined (By OffsetOutside)) (main_found (slice_get p.unit.funcs p.main) refl s.start) tt
 
-  module _ (jumps : JumpsWell p) where
-    steps_well : (n : ℕ) (x : State) → IsWell p.unit x → IsWell p.unit (steps p n x)
-    steps_well zero x h = h
-    steps_well (suc n) x h = steps_well n (step p x) (step_well p w s main jumps x h)
+  steps_well : (n : ℕ) (x : State) → IsWell p.unit x → IsWell p.unit (steps p n x)
+  steps_well zero x h = h
+  steps_well (suc n) x h = steps_well n (step p x) (step_well p w s main (jumps_well p) x h)
 
-    pub state_well : (n : ℕ) → IsWell p.unit (state_at p args input n)
-    state_well n = steps_well n (start p args input) start_well
+  pub state_well : (n : ℕ) → IsWell p.unit (state_at p args input n)
+  state_well n = steps_well n (start p args input) start_well
 
 -- ---- the law
 
@@ -185,18 +185,5 @@ fit p Deep h = tt
 fit p (Ended out status turns) h = tt
 fit p (Running work vs d) h = closed p h.scene d.store h.running.scene.store
 
-int_kind : (t : Ty) → IsTrue (is_int t) → kind_at t ≡ arithmetic true
-int_kind (int Int) h = refl
-int_kind _ h = absurd (cc)
-
-main_number : (p : ProgramTy) → IsScopedProgram p.unit p.main → MainGivesNumber p
-main_number p s g e = ap kind_at (plain_type (result_of g.ty)) ∙ int_kind (type_in (result_of g.ty)) (subst (Starts p.unit) e s.start).1
-
-no_jumps : (p : ProgramTy) → HasNoLabels p.unit → JumpsWell p
-no_jumps p h c call at l n k ks vs d t i a = absurd (none (subst (λ (ls : List ℕ). Contains ls l) (h (func_in c.frames) call.func call.code at.active.func at.active.body) t.1.0))
-  where
-    none : Contains [] l → ⊥
-    none q = let few : q.0 < 0 = q.1 in omega (arith, few)
-
 pub programs_fit : ProgramsFit
-programs_fit p args input n w s h = fit p (state_at p args input n) (state_well p args input w s (main_number p s) (no_jumps p h) n)
+programs_fit p args input n w s = fit p (state_at p args input n) (state_well p args input w s n)

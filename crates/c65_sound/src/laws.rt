@@ -30,7 +30,7 @@ pub fn initial_store_fits()
 {}
 
 /// The run of a well typed program whose names are in scope, and whose `main` and library functions have their types, never comes to trees
-/// or values that do not fit, where no statement has a label.
+/// or values that do not fit.
 pub fn programs_fit()
     ensures { ProgramsFit }
 {}
