@@ -1,0 +1,12 @@
+pub mod Agreement
+pub mod Begun
+pub mod Blocks
+pub mod BodyLaws
+pub mod Filling
+pub mod LabelLaws
+pub mod Lists
+pub mod OldLaws
+pub mod PartLaws
+pub mod Places
+pub mod Valued
+pub mod Walking

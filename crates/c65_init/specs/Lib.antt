@@ -1,1 +1,12 @@
+pub mod Agreeing
+pub mod Bodies
 pub mod Causes
+pub mod Declarations
+pub mod Functions
+pub mod Initials
+pub mod Labels
+pub mod Parameters
+pub mod Settled
+pub mod Statements
+pub mod Units
+pub mod Values

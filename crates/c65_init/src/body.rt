@@ -4,6 +4,8 @@ ghost use Rattle.c65_base.specs.declared.code.Code.TheVariants.{CaseTwice, Loose
 ghost use Rattle.c65_base.specs.declared.refusal.Refusal.TheVariants.{At};
 ghost use Rattle.c65_ints.specs.Ranges.{wrap_of};
 ghost use Rattle.c65_checked.specs.Statements.{same_value, has_value};
+ghost use Rattle.c65_base.specs.Answers.{Gives};
+ghost use Rattle.c65_init.specs.Bodies.{switch_of, body_of, label_met, label_named, value_added, default_added, case_met, default_met, in_switch, behind_switch, in_loop, behind_loop, may_continue, may_break};
 ghost use Rattle.c65_init.specs.Causes.{IsLabelFault, IsCaseFault};
 
 use crate::labels::{first_number, number_of};
@@ -51,6 +53,7 @@ fn has_value(values: &[i64], value: i64) -> bool
 
 /// One more value of a switch. Refuses `CaseTwice`, and `Cases` where it has 1,024.
 fn add_value(switch: &mut Switch, known: i64, pos: Pos) -> Result<i64, Refusal>
+    ensures exact { Gives (λ z. (z, switch_of switch.new)) result (value_added (switch_of switch.old) (wrap_of switch.old.kind known) pos) }
     ensures few { OnOk result (length switch.new.values.items ≤ 1024) }
     ensures added { OnOk result (switch.new.values.items ≡ switch.old.values.items ++ wrap_of switch.old.kind known ∷ []) }
     ensures once { OnOk result (has_value switch.old.values.items (wrap_of switch.old.kind known) ≡ false) }
@@ -72,7 +75,8 @@ fn add_value(switch: &mut Switch, known: i64, pos: Pos) -> Result<i64, Refusal>
 }
 
 fn add_default(switch: &mut Switch, pos: Pos) -> Result<(), Refusal>
-    ensures { IfErr result (λ e. e ≡ At CaseTwice pos) }
+    ensures exact { Gives (λ x. switch_of switch.new) result (default_added (switch_of switch.old) pos) }
+    ensures refused { IfErr result (λ e. e ≡ At CaseTwice pos) }
 {
     if switch.has_default {
         return Err(fault(Code::CaseTwice, pos));
@@ -83,8 +87,10 @@ fn add_default(switch: &mut Switch, pos: Pos) -> Result<(), Refusal>
 
 /// The value of a case label, converted to the type of its switch. Refuses `LooseStatement` outside
 /// a switch.
+#[tactic(auto, using(crate::proofs::BodyLaws::last_switch, crate::proofs::BodyLaws::no_switch, crate::proofs::BodyLaws::last_set))]
 pub fn case_value(body: &mut Body, known: i64, pos: Pos) -> Result<i64, Refusal>
-    ensures { IfErr result (IsCaseFault pos) }
+    ensures exact { Gives (λ z. (z, body_of body.new)) result (case_met (body_of body.old) known pos) }
+    ensures refused { IfErr result (IsCaseFault pos) }
 {
     match body.switches.last_mut() {
         Some(switch) => add_value(switch, known, pos),
@@ -93,8 +99,10 @@ pub fn case_value(body: &mut Body, known: i64, pos: Pos) -> Result<i64, Refusal>
 }
 
 /// A default label. Refuses `LooseStatement` outside a switch.
+#[tactic(auto, using(crate::proofs::BodyLaws::last_switch, crate::proofs::BodyLaws::no_switch, crate::proofs::BodyLaws::last_set))]
 pub fn default_label(body: &mut Body, pos: Pos) -> Result<(), Refusal>
-    ensures { IfErr result (IsCaseFault pos) }
+    ensures exact { Gives (λ x. body_of body.new) result (default_met (body_of body.old) pos) }
+    ensures refused { IfErr result (IsCaseFault pos) }
 {
     match body.switches.last_mut() {
         Some(switch) => add_default(switch, pos),
@@ -104,6 +112,7 @@ pub fn default_label(body: &mut Body, pos: Pos) -> Result<(), Refusal>
 
 /// The number of a label, which is met now.
 pub fn label_number(body: &mut Body, name: Name, pos: Pos) -> Result<u32, Refusal>
+    ensures exact { Gives (λ n. (n, body_of body.new)) result (label_met (body_of body.old) name pos) }
     ensures first { IfOk result (λ n. body.old.met ≤ n) }
     ensures refused { IfErr result (IsLabelFault pos) }
 {
@@ -114,6 +123,7 @@ pub fn label_number(body: &mut Body, name: Name, pos: Pos) -> Result<u32, Refusa
 
 /// The number of a label that a goto names. Refuses `LabelUnknown`.
 pub fn named_label(body: &Body, name: Name, pos: Pos) -> Result<u32, Refusal>
+    ensures exact { Gives (λ n. n) result (label_named (body_of body.now) name pos) }
     ensures known { IfOk result (λ n. n < length body.now.labels.items) }
     ensures refused { IfErr result (IsLabelFault pos) }
 {
@@ -125,6 +135,7 @@ pub fn named_label(body: &Body, name: Name, pos: Pos) -> Result<u32, Refusal>
 
 /// Refuses `LooseStatement` for a continue outside a loop.
 pub fn within_loop(body: &Body, pos: Pos) -> Result<(), Refusal>
+    ensures exact { Gives (λ x. tt) result (may_continue (body_of body.now) pos) }
     ensures inside { IfOk result (λ x. 0 < body.now.loops) }
     ensures refused { IfErr result (λ e. e ≡ At LooseStatement pos) }
 {
@@ -137,7 +148,8 @@ pub fn within_loop(body: &Body, pos: Pos) -> Result<(), Refusal>
 
 /// Refuses `LooseStatement` for a break outside a loop and a switch.
 pub fn within_any(body: &Body, pos: Pos) -> Result<(), Refusal>
-    ensures { IfErr result (λ e. e ≡ At LooseStatement pos) }
+    ensures exact { Gives (λ x. tt) result (may_break (body_of body.now) pos) }
+    ensures refused { IfErr result (λ e. e ≡ At LooseStatement pos) }
 {
     if body.loops > 0 || !body.switches.is_empty() {
         Ok(())
@@ -146,16 +158,22 @@ pub fn within_any(body: &Body, pos: Pos) -> Result<(), Refusal>
     }
 }
 
-pub fn open_loop(body: &mut Body) {
+pub fn open_loop(body: &mut Body)
+    ensures { body_of body.new ≡ in_loop (body_of body.old) }
+{
     body.loops = body.loops.saturating_add(1);
 }
 
-pub fn close_loop(body: &mut Body) {
+pub fn close_loop(body: &mut Body)
+    ensures { body_of body.new ≡ behind_loop (body_of body.old) }
+{
     body.loops = body.loops.saturating_sub(1);
 }
 
 /// Begins a switch over values of this type.
-pub fn open_switch(alloc: Global, body: &mut Body, kind: IntType) -> Result<(), AllocError> {
+pub fn open_switch(alloc: Global, body: &mut Body, kind: IntType) -> Result<(), AllocError>
+    ensures { OnOk result (body_of body.new ≡ in_switch (body_of body.old) kind) }
+{
     body.switches.push(Switch {
         kind,
         values: Vec::new(alloc),
@@ -164,6 +182,8 @@ pub fn open_switch(alloc: Global, body: &mut Body, kind: IntType) -> Result<(), 
     Ok(())
 }
 
-pub fn close_switch(body: &mut Body) {
+pub fn close_switch(body: &mut Body)
+    ensures { body_of body.new ≡ behind_switch (body_of body.old) }
+{
     body.switches.pop();
 }

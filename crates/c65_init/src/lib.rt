@@ -2,6 +2,7 @@
 //! statements, and function definitions (C90 6.5.7, 6.6, 6.7).
 #![tactic(auto)]
 
+mod agree;
 mod body;
 mod declare;
 mod function;
@@ -9,6 +10,7 @@ mod initial;
 mod labels;
 mod old_style;
 mod params;
+mod settle;
 mod stmt;
 mod unit;
 mod values;

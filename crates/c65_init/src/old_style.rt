@@ -1,11 +1,20 @@
 // The declarations of the parameters of an old-style definition (C90 6.7.1).
+ghost use Rattle.std.specs.Prelude.{◌≡◌, IfOk, Some, map};
+ghost use Rattle.c65_base.specs.Answers.{Gives};
+ghost use Rattle.c65_ctype.specs.Views.{ty_of, qty_of, types_of};
+ghost use Rattle.c65_csem.specs.Places;
+ghost use Rattle.c65_scope.specs.Scopes.{scope_of};
+ghost use Rattle.c65_tree.specs.View.{declarator_of, init_declarator_of, decl_of, init_of, maybe};
+ghost use Rattle.c65_init.specs.Parameters.{old_of, not_declared, adjusted, may_be_parameter, register_given, old_from, entered_at, entered, old_declarator, no_init, old_one, old_declarators, old_declaration, old_declarations};
+
+use crate::declare::is_empty;
 use c65_base::{Code, Name, Pos, Refusal};
 use c65_cells::fault;
 use c65_csem::pointer_to;
 use c65_ctype::{CType, QType, Types};
 use c65_elab::{elab_declarator, elab_specifiers, name_place};
 use c65_scope::Scope;
-use c65_tree::{Decl, Declarator, Storage};
+use c65_tree::{Decl, Declarator, InitDeclarator, Initialiser, Storage};
 use std::alloc::{AllocError, Global};
 
 /// A parameter of an old-style definition: its name, its type once it is declared, and whether it
@@ -19,7 +28,9 @@ pub struct Old {
 }
 
 /// Parameters by their names, not declared yet.
-pub fn no_types(alloc: Global, names: &[(Name, Pos)]) -> Result<Vec<Old>, AllocError> {
+pub fn no_types(alloc: Global, names: &[(Name, Pos)]) -> Result<Vec<Old>, AllocError>
+    ensures { IfOk result (λ v. map old_of v.items ≡ map not_declared names.now) }
+{
     let mut list = Vec::new(alloc);
     for (name, pos) in names {
         list.push(Old {
@@ -32,7 +43,9 @@ pub fn no_types(alloc: Global, names: &[(Name, Pos)]) -> Result<Vec<Old>, AllocE
     Ok(list)
 }
 
-fn plain(ty: CType) -> QType {
+fn plain(ty: CType) -> QType
+    ensures { qty_of result ≡ Places.plain (ty_of ty) }
+{
     QType {
         ty,
         is_const: false,
@@ -41,7 +54,9 @@ fn plain(ty: CType) -> QType {
 }
 
 /// The type of a parameter: an array is a pointer to its elements, and a function a pointer to it.
-fn adjusted(alloc: Global, ty: QType) -> Result<QType, AllocError> {
+fn adjusted(alloc: Global, ty: QType) -> Result<QType, AllocError>
+    ensures { IfOk result (λ x. qty_of x ≡ adjusted (qty_of ty)) }
+{
     let QType {
         ty: of,
         is_const,
@@ -50,8 +65,23 @@ fn adjusted(alloc: Global, ty: QType) -> Result<QType, AllocError> {
     match of {
         CType::Array(element, _) => pointer_to(alloc, Box::into_inner(element)),
         CType::Function(function) => pointer_to(alloc, plain(CType::Function(function))),
-        other => Ok(QType {
-            ty: other,
+        CType::Void => Ok(QType {
+            ty: CType::Void,
+            is_const,
+            is_volatile,
+        }),
+        CType::Int(kind) => Ok(QType {
+            ty: CType::Int(kind),
+            is_const,
+            is_volatile,
+        }),
+        CType::Pointer(target) => Ok(QType {
+            ty: CType::Pointer(target),
+            is_const,
+            is_volatile,
+        }),
+        CType::Struct(tag) => Ok(QType {
+            ty: CType::Struct(tag),
             is_const,
             is_volatile,
         }),
@@ -59,28 +89,46 @@ fn adjusted(alloc: Global, ty: QType) -> Result<QType, AllocError> {
 }
 
 /// Refuses a parameter that is a structure or union, and one without a size.
-fn as_parameter(types: &Types, ty: &CType, pos: Pos) -> Result<(), Refusal> {
+fn as_parameter(types: &Types, ty: &CType, pos: Pos) -> Result<(), Refusal>
+    ensures { Gives (λ x. tt) result (may_be_parameter (types_of types.now) (ty_of ty.now) pos) }
+{
     match ty {
         CType::Struct(_) => Err(fault(Code::StructValue, pos)),
-        _ => {
-            types.size(ty, pos)?;
-            Ok(())
-        }
+        CType::Void | CType::Int(_) | CType::Pointer(_) | CType::Array(_, _) | CType::Function(_) =>
+            {
+                types.size(ty, pos)?;
+                Ok(())
+            }
     }
 }
 
 /// The place of a name among parameters.
-fn place_of(list: &[Old], name: Name) -> Option<usize> {
-    for at in 0..list.len() {
-        if list[at].name.0 == name.0 {
+fn place_of(list: &[Old], name: Name) -> Option<usize>
+    ensures { result ≡ old_from (map old_of list.now) name 0 }
+{
+    let mut at: usize = 0;
+    for old in list {
+        if old.name.0 == name.0 {
             return Some(at);
         }
+        at += 1;
     }
     None
 }
 
-/// Enters the type of a parameter. Refuses `Redeclared` where it has one.
-fn enter(old: &mut Old, ty: QType, is_register: bool, pos: Pos) -> Result<(), Refusal> {
+/// Enters the type of a parameter at a place. Refuses `Redeclared` where it has one.
+fn enter_at(
+    list: &mut Vec<Old>,
+    at: usize,
+    ty: QType,
+    is_register: bool,
+    pos: Pos,
+) -> Result<(), Refusal>
+    ensures { Gives (λ x. map old_of list.new.items) result (entered_at (map old_of list.old.items) (qty_of ty) is_register pos (Some at)) }
+{
+    let Some(old) = list.get_mut(at) else {
+        return Err(fault(Code::ParameterList, pos));
+    };
     if old.ty.is_some() {
         return Err(fault(Code::Redeclared, pos));
     }
@@ -96,24 +144,27 @@ fn enter_old(
     ty: QType,
     is_register: bool,
     pos: Pos,
-) -> Result<(), Refusal> {
+) -> Result<(), Refusal>
+    ensures { Gives (λ x. map old_of list.new.items) result (entered (map old_of list.old.items) name (qty_of ty) is_register pos) }
+{
     let Some(name) = name else {
         return Err(fault(Code::ParameterList, pos));
     };
-    let Some(at) = place_of(list, name) else {
-        return Err(fault(Code::ParameterList, pos));
-    };
-    match list.get_mut(at) {
-        Some(old) => enter(old, ty, is_register, pos),
+    match place_of(list, name) {
+        Some(at) => enter_at(list, at, ty, is_register, pos),
         None => Err(fault(Code::ParameterList, pos)),
     }
 }
 
-fn is_register(storage: Option<Storage>, pos: Pos) -> Result<bool, Refusal> {
+fn is_register(storage: Option<Storage>, pos: Pos) -> Result<bool, Refusal>
+    ensures { Gives (λ b. b) result (register_given storage pos) }
+{
     match storage {
         None => Ok(false),
         Some(Storage::Register) => Ok(true),
-        Some(_) => Err(fault(Code::StorageClass, pos)),
+        Some(Storage::Typedef | Storage::Extern | Storage::Static | Storage::Auto) => {
+            Err(fault(Code::StorageClass, pos))
+        }
     }
 }
 
@@ -125,7 +176,9 @@ fn old_declarator(
     storage: Option<Storage>,
     base: &QType,
     item: &Declarator,
-) -> Result<(), Refusal> {
+) -> Result<(), Refusal>
+    ensures { Gives (λ x. (map old_of list.new.items, scope_of scope.new)) result (old_declarator storage (qty_of base.now) (declarator_of item.now) (map old_of list.old.items) (scope_of scope.old)) }
+{
     let pos = name_place(item);
     let (name, ty) = elab_declarator(alloc, scope, base, item)?;
     let is_register = is_register(storage, pos)?;
@@ -134,20 +187,74 @@ fn old_declarator(
     enter_old(list, name, ty, is_register, pos)
 }
 
+/// No initialiser stands behind a declarator.
+#[tactic(auto, using(crate::proofs::Places::init_place_at))]
+fn without_init(init: &Option<Initialiser>) -> Result<(), Refusal>
+    ensures { Gives (λ x. tt) result (no_init (maybe init_of init.now)) }
+{
+    match init {
+        Some(init) => Err(fault(Code::Initialiser, init.pos)),
+        None => Ok(()),
+    }
+}
+
+/// One declarator, without an initialiser.
+fn old_one(
+    alloc: Global,
+    scope: &mut Scope,
+    list: &mut Vec<Old>,
+    storage: Option<Storage>,
+    base: &QType,
+    item: &InitDeclarator,
+) -> Result<(), Refusal>
+    ensures { Gives (λ x. (map old_of list.new.items, scope_of scope.new)) result (old_one storage (qty_of base.now) (init_declarator_of item.now) (map old_of list.old.items) (scope_of scope.old)) }
+{
+    old_declarator(alloc, scope, list, storage, base, &item.declarator)?;
+    without_init(&item.init)
+}
+
+/// The declarators of a declaration, in their order.
+fn old_declarators(
+    alloc: Global,
+    scope: &mut Scope,
+    list: &mut Vec<Old>,
+    storage: Option<Storage>,
+    base: &QType,
+    items: &[InitDeclarator],
+) -> Result<(), Refusal>
+    ensures { Gives (λ x. (map old_of list.new.items, scope_of scope.new)) result (old_declarators storage (qty_of base.now) (map init_declarator_of items.now) (map old_of list.old.items) (scope_of scope.old)) }
+{
+    for item in items {
+        old_one(alloc, scope, list, storage, base, item)?;
+    }
+    Ok(())
+}
+
 /// Enters what a declaration of an old-style definition declares.
-pub fn old_declaration(
+fn old_declaration(
     alloc: Global,
     scope: &mut Scope,
     list: &mut Vec<Old>,
     item: &Decl,
-) -> Result<(), Refusal> {
-    let alone = item.declarators.is_empty();
+) -> Result<(), Refusal>
+    ensures { Gives (λ x. (map old_of list.new.items, scope_of scope.new)) result (old_declaration (decl_of item.now) (map old_of list.old.items) (scope_of scope.old)) }
+{
+    let alone = is_empty(&item.declarators);
     let (storage, base) = elab_specifiers(alloc, scope, &item.specifiers, alone)?;
-    for one in &item.declarators {
-        old_declarator(alloc, scope, list, storage, &base, &one.declarator)?;
-        if let Some(init) = &one.init {
-            return Err(fault(Code::Initialiser, init.pos));
-        }
+    old_declarators(alloc, scope, list, storage, &base, &item.declarators)
+}
+
+/// Enters what the declarations of an old-style definition declare, in their order.
+pub fn old_declarations(
+    alloc: Global,
+    scope: &mut Scope,
+    list: &mut Vec<Old>,
+    items: &[Decl],
+) -> Result<(), Refusal>
+    ensures { Gives (λ x. (map old_of list.new.items, scope_of scope.new)) result (old_declarations (map decl_of items.now) (map old_of list.old.items) (scope_of scope.old)) }
+{
+    for item in items {
+        old_declaration(alloc, scope, list, item)?;
     }
     Ok(())
 }

@@ -1,5 +1,13 @@
 // The parameters of a function definition (C90 6.7.1).
-use crate::old_style::{Old, no_types, old_declaration};
+ghost use Rattle.std.specs.Prelude.{◌≡◌, [], map};
+ghost use Rattle.c65_base.specs.Answers.{Gives};
+ghost use Rattle.c65_ctype.specs.Views.{qty_of};
+ghost use Rattle.c65_scope.specs.Scopes.{scope_of};
+ghost use Rattle.c65_tree.specs.View.{decl_of};
+ghost use Rattle.c65_declare.specs.Declarators.{formal_of, formals_of};
+ghost use Rattle.c65_init.specs.Parameters.{old_of, storage_if, parameter_declared, formal_named, formals_declared, type_or_int, olds_declared, from_names, no_declarations, parameters_of};
+
+use crate::old_style::{Old, no_types, old_declarations};
 use c65_base::{Code, Name, Pos, Refusal};
 use c65_cells::fault;
 use c65_csem::int_type;
@@ -10,7 +18,9 @@ use c65_scope::Scope;
 use c65_tree::{Decl, Storage};
 use std::alloc::Global;
 
-fn storage_of(is_register: bool) -> Option<Storage> {
+fn storage_of(is_register: bool) -> Option<Storage>
+    ensures { result ≡ storage_if is_register }
+{
     if is_register {
         Some(Storage::Register)
     } else {
@@ -25,7 +35,9 @@ fn parameter(
     ty: QType,
     is_register: bool,
     pos: Pos,
-) -> Result<u32, Refusal> {
+) -> Result<u32, Refusal>
+    ensures { Gives (λ n. (n, scope_of scope.new)) result (parameter_declared name (qty_of ty) is_register pos (scope_of scope.old)) }
+{
     match scope.declare(name, ty, storage_of(is_register), pos)? {
         Entity::Object(number) => Ok(number),
         Entity::Func(_) | Entity::Typedef => Err(fault(Code::ParameterList, pos)),
@@ -33,7 +45,9 @@ fn parameter(
 }
 
 /// Declares a parameter of a prototype, which needs a name.
-fn formal_parameter(scope: &mut Scope, formal: Formal) -> Result<u32, Refusal> {
+fn formal_parameter(scope: &mut Scope, formal: Formal) -> Result<u32, Refusal>
+    ensures { Gives (λ n. (n, scope_of scope.new)) result (formal_named (formal_of formal) formal.name (scope_of scope.old)) }
+{
     match formal.name {
         Some(name) => parameter(scope, name, formal.ty, formal.is_register, formal.pos),
         None => Err(fault(Code::ParameterList, formal.pos)),
@@ -45,7 +59,9 @@ fn from_prototype(
     alloc: Global,
     scope: &mut Scope,
     formals: Vec<Formal>,
-) -> Result<Vec<u32>, Refusal> {
+) -> Result<Vec<u32>, Refusal>
+    ensures { Gives (λ v. (v.items, scope_of scope.new)) result (formals_declared (map formal_of formals.items) [] (scope_of scope.old)) }
+{
     let mut objects = Vec::new(alloc);
     for formal in formals {
         let object = formal_parameter(scope, formal)?;
@@ -55,7 +71,9 @@ fn from_prototype(
 }
 
 /// Declares a parameter of an old-style definition, which is an int where it was not declared.
-fn old_parameter(scope: &mut Scope, old: Old) -> Result<u32, Refusal> {
+fn old_parameter(scope: &mut Scope, old: Old) -> Result<u32, Refusal>
+    ensures { Gives (λ n. (n, scope_of scope.new)) result (parameter_declared old.name (type_or_int (old_of old).ty) old.is_register old.pos (scope_of scope.old)) }
+{
     let Old {
         name,
         ty,
@@ -74,11 +92,18 @@ fn from_names(
     scope: &mut Scope,
     names: Vec<(Name, Pos)>,
     declarations: &[Decl],
-) -> Result<Vec<u32>, Refusal> {
+) -> Result<Vec<u32>, Refusal>
+    ensures { Gives (λ v. (v.items, scope_of scope.new)) result (from_names names.items (map decl_of declarations.now) (scope_of scope.old)) }
+{
     let mut list = no_types(alloc, names.as_slice())?;
-    for item in declarations {
-        old_declaration(alloc, scope, &mut list, item)?;
-    }
+    old_declarations(alloc, scope, &mut list, declarations)?;
+    old_parameters(alloc, scope, list)
+}
+
+/// Declares the parameters of an old-style definition, whose types are known.
+fn old_parameters(alloc: Global, scope: &mut Scope, list: Vec<Old>) -> Result<Vec<u32>, Refusal>
+    ensures { Gives (λ v. (v.items, scope_of scope.new)) result (olds_declared (map old_of list.items) [] (scope_of scope.old)) }
+{
     let mut objects = Vec::new(alloc);
     for old in list {
         let object = old_parameter(scope, old)?;
@@ -88,10 +113,12 @@ fn from_names(
 }
 
 /// A prototype with declarations behind it is refused.
-fn without_declarations(declarations: &[Decl]) -> Result<(), Refusal> {
-    match declarations.first() {
-        Some(first) => Err(fault(Code::ParameterList, first.specifiers.pos)),
-        None => Ok(()),
+fn without_declarations(declarations: &[Decl]) -> Result<(), Refusal>
+    ensures { Gives (λ x. tt) result (no_declarations (map decl_of declarations.now)) }
+{
+    match declarations {
+        [first, ..] => Err(fault(Code::ParameterList, first.specifiers.pos)),
+        [] => Ok(()),
     }
 }
 
@@ -101,7 +128,9 @@ pub fn parameters(
     scope: &mut Scope,
     formals: Formals,
     declarations: &[Decl],
-) -> Result<Vec<u32>, Refusal> {
+) -> Result<Vec<u32>, Refusal>
+    ensures { Gives (λ v. (v.items, scope_of scope.new)) result (parameters_of (formals_of formals) (map decl_of declarations.now) (scope_of scope.old)) }
+{
     match formals {
         Formals::Names(names) => from_names(alloc, scope, names, declarations),
         Formals::Types(formals, _) => {

@@ -1,9 +1,20 @@
 // Statements (C90 6.6).
+ghost use Rattle.std.specs.Prelude.{◌≡◌, map};
+ghost use Rattle.c65_base.specs.Answers.{Gives};
+ghost use Rattle.c65_ctype.specs.Trees.{type_in};
+ghost use Rattle.c65_ctype.specs.Views.{qty_of};
+ghost use Rattle.c65_csem.specs.Views.{typed_of, stmt_of};
+ghost use Rattle.c65_scope.specs.Scopes.{scope_of};
+ghost use Rattle.c65_tree.specs.Trees.{no_stmts};
+ghost use Rattle.c65_tree.specs.View as v;
+ghost use Rattle.c65_init.specs.Bodies.{body_of};
+ghost use Rattle.c65_init.specs.Statements.{kind_in, head_of, case_in, head_in, switched_on, statement_of, block_in};
+
 use crate::body::{
     Body, case_value, close_loop, close_switch, default_label, label_number, named_label,
     open_loop, open_switch, within_any, within_loop,
 };
-use crate::declare::{Locals, declaration};
+use crate::declare::block_locals;
 use crate::values::{folded, given, maybe_test, maybe_unused, test, unused};
 use c65_base::{Pos, Refusal};
 use c65_convert::switch_value;
@@ -15,61 +26,41 @@ use c65_scope::Scope;
 use c65_tree::{Decl, Expr, Stmt, StmtKind};
 use std::alloc::Global;
 
-/// What stands before a statement: a label by its number, or a label of a switch.
-#[derive(Clone, Copy)]
-enum Mark {
-    Label(u32),
-    Case(i64),
-    Default,
-}
-
-/// What a loop tests before its body.
+/// What stands between the parentheses of a `for`.
 #[derive(Drop)]
-enum Head {
-    While(TExpr),
-    For(Option<TExpr>, Option<TExpr>, Option<TExpr>),
+pub struct Head {
+    pub first: Option<TExpr>,
+    pub until: Option<TExpr>,
+    pub next: Option<TExpr>,
 }
 
-fn kind_of(e: &TExpr) -> IntType {
+fn kind_of(e: &TExpr) -> IntType
+    ensures { result ≡ kind_in (type_in (qty_of e.now.ty)) }
+{
     match &e.ty.ty {
         CType::Int(kind) => *kind,
-        _ => IntType::Int,
+        CType::Void
+        | CType::Pointer(_)
+        | CType::Array(_, _)
+        | CType::Struct(_)
+        | CType::Function(_) => IntType::Int,
     }
 }
 
-fn with_mark(mark: Mark, stmt: Box<TStmt>) -> TStmt {
-    match mark {
-        Mark::Label(number) => TStmt::Label(number, stmt),
-        Mark::Case(value) => TStmt::Case(value, stmt),
-        Mark::Default => TStmt::Default(stmt),
-    }
-}
-
-fn with_head(head: Head, stmt: Box<TStmt>) -> TStmt {
-    match head {
-        Head::While(e) => TStmt::While(e, stmt),
-        Head::For(first, until, next) => TStmt::For(first, until, next, stmt),
-    }
-}
-
-fn with_else(alloc: Global, e: TExpr, a: TStmt, b: TStmt) -> Result<TStmt, Refusal> {
-    let a = Box::new(alloc, a)?;
-    let b = Box::new(alloc, b)?;
-    Ok(TStmt::If(e, a, b))
-}
-
-/// A case label.
-fn case_mark(
+/// The value of a case label, which is entered into its switch.
+#[tactic(auto, using(crate::proofs::Places::place_at))]
+fn case_label(
     alloc: Global,
     scope: &mut Scope,
     body: &mut Body,
     e: &Expr,
     pos: Pos,
-) -> Result<Mark, Refusal> {
+) -> Result<i64, Refusal>
+    ensures { Gives (λ z. ((z, body_of body.new), scope_of scope.new)) result (case_in (v.expr_of e.now) pos (body_of body.old) (scope_of scope.old)) }
+{
     let typed = elab_expr(alloc, scope, e)?;
     let known = value_at(&typed, e.pos)?;
-    let known = case_value(body, known, pos)?;
-    Ok(Mark::Case(known))
+    case_value(body, known, pos)
 }
 
 fn for_head(
@@ -79,29 +70,21 @@ fn for_head(
     until: &Option<Expr>,
     next: &Option<Expr>,
     pos: Pos,
-) -> Result<Head, Refusal> {
+) -> Result<Head, Refusal>
+    ensures { Gives (λ x. (head_of x, scope_of scope.new)) result (head_in (v.maybe v.expr_of first.now) (v.maybe v.expr_of until.now) (v.maybe v.expr_of next.now) pos (scope_of scope.old)) }
+{
     let first = maybe_unused(alloc, scope, first)?;
     let until = maybe_test(alloc, scope, until, pos)?;
     let next = maybe_unused(alloc, scope, next)?;
-    Ok(Head::For(first, until, next))
+    Ok(Head { first, until, next })
 }
 
-/// An expression statement, or the empty one.
-fn evaluated(alloc: Global, scope: &mut Scope, e: &Option<Expr>) -> Result<TStmt, Refusal> {
-    match e {
-        None => Ok(TStmt::Empty),
-        Some(e) => Ok(TStmt::Eval(unused(alloc, scope, e)?)),
-    }
-}
-
-fn continued(body: &Body, pos: Pos) -> Result<TStmt, Refusal> {
-    within_loop(body, pos)?;
-    Ok(TStmt::Continue)
-}
-
-fn broken(body: &Body, pos: Pos) -> Result<TStmt, Refusal> {
-    within_any(body, pos)?;
-    Ok(TStmt::Break)
+/// The value on which a switch depends.
+fn switched_on(alloc: Global, scope: &mut Scope, e: &Expr, pos: Pos) -> Result<TExpr, Refusal>
+    ensures { Gives (λ x. (typed_of x, scope_of scope.new)) result (switched_on (v.expr_of e.now) pos (scope_of scope.old)) }
+{
+    let typed = elab_expr(alloc, scope, e)?;
+    Ok(folded(switch_value(alloc, scope.types(), pos, typed)?))
 }
 
 /// A statement.
@@ -111,20 +94,25 @@ pub fn statement(
     scope: &mut Scope,
     body: &mut Body,
     stmt: &Stmt,
-) -> Result<TStmt, Refusal> {
+) -> Result<TStmt, Refusal>
+    ensures { Gives (λ x. ((stmt_of x, body_of body.new), scope_of scope.new)) result (statement_of (v.stmt_of stmt.now) (body_of body.old) (scope_of scope.old)) }
+{
     let pos = stmt.pos;
     match &stmt.kind {
         StmtKind::Label(name, inner) => {
-            let mark = Mark::Label(label_number(body, *name, pos)?);
-            marked(alloc, scope, body, inner, mark)
+            let number = label_number(body, *name, pos)?;
+            let inner = statement(alloc, scope, body, inner)?;
+            Ok(TStmt::Label(number, Box::new(alloc, inner)?))
         }
         StmtKind::Case(e, inner) => {
-            let mark = case_mark(alloc, scope, body, e, pos)?;
-            marked(alloc, scope, body, inner, mark)
+            let known = case_label(alloc, scope, body, e, pos)?;
+            let inner = statement(alloc, scope, body, inner)?;
+            Ok(TStmt::Case(known, Box::new(alloc, inner)?))
         }
         StmtKind::Default(inner) => {
             default_label(body, pos)?;
-            marked(alloc, scope, body, inner, Mark::Default)
+            let inner = statement(alloc, scope, body, inner)?;
+            Ok(TStmt::Default(Box::new(alloc, inner)?))
         }
         StmtKind::Block(decls, stmts) => {
             scope.open()?;
@@ -132,104 +120,65 @@ pub fn statement(
             scope.close();
             Ok(made)
         }
-        StmtKind::Eval(e) => evaluated(alloc, scope, e),
-        StmtKind::If(e, a, None) => {
+        StmtKind::Eval(e) => match e {
+            None => Ok(TStmt::Empty),
+            Some(e) => Ok(TStmt::Eval(unused(alloc, scope, e)?)),
+        },
+        StmtKind::If(e, a, b) => {
             let e = test(alloc, scope, e, pos)?;
             let a = statement(alloc, scope, body, a)?;
-            with_else(alloc, e, a, TStmt::Empty)
+            match b {
+                None => {
+                    let a = Box::new(alloc, a)?;
+                    Ok(TStmt::If(e, a, Box::new(alloc, TStmt::Empty)?))
+                }
+                Some(b) => {
+                    let b = statement(alloc, scope, body, b)?;
+                    let a = Box::new(alloc, a)?;
+                    Ok(TStmt::If(e, a, Box::new(alloc, b)?))
+                }
+            }
         }
-        StmtKind::If(e, a, Some(b)) => {
-            let e = test(alloc, scope, e, pos)?;
-            let a = statement(alloc, scope, body, a)?;
-            let b = statement(alloc, scope, body, b)?;
-            with_else(alloc, e, a, b)
+        StmtKind::Switch(e, inner) => {
+            let e = switched_on(alloc, scope, e, pos)?;
+            open_switch(alloc, body, kind_of(&e))?;
+            let inner = statement(alloc, scope, body, inner)?;
+            close_switch(body);
+            Ok(TStmt::Switch(e, Box::new(alloc, inner)?))
         }
-        StmtKind::Switch(e, inner) => switch(alloc, scope, body, inner, e, pos),
         StmtKind::While(e, inner) => {
-            let head = Head::While(test(alloc, scope, e, pos)?);
-            looped(alloc, scope, body, inner, head)
+            let e = test(alloc, scope, e, pos)?;
+            open_loop(body);
+            let inner = statement(alloc, scope, body, inner)?;
+            close_loop(body);
+            Ok(TStmt::While(e, Box::new(alloc, inner)?))
         }
-        StmtKind::DoWhile(inner, e) => do_loop(alloc, scope, body, inner, e, pos),
+        StmtKind::DoWhile(inner, e) => {
+            open_loop(body);
+            let inner = statement(alloc, scope, body, inner)?;
+            close_loop(body);
+            let e = test(alloc, scope, e, pos)?;
+            Ok(TStmt::DoWhile(Box::new(alloc, inner)?, e))
+        }
         StmtKind::For(first, until, next, inner) => {
             let head = for_head(alloc, scope, first, until, next, pos)?;
-            looped(alloc, scope, body, inner, head)
+            open_loop(body);
+            let inner = statement(alloc, scope, body, inner)?;
+            close_loop(body);
+            let Head { first, until, next } = head;
+            Ok(TStmt::For(first, until, next, Box::new(alloc, inner)?))
         }
         StmtKind::Goto(name) => Ok(TStmt::Goto(named_label(body, *name, pos)?)),
-        StmtKind::Continue => continued(body, pos),
-        StmtKind::Break => broken(body, pos),
+        StmtKind::Continue => {
+            within_loop(body, pos)?;
+            Ok(TStmt::Continue)
+        }
+        StmtKind::Break => {
+            within_any(body, pos)?;
+            Ok(TStmt::Break)
+        }
         StmtKind::Return(e) => Ok(TStmt::Return(given(alloc, scope, &body.gives.ty, e, pos)?)),
     }
-}
-
-/// A statement with a label.
-#[cycle(statement)]
-fn marked(
-    alloc: Global,
-    scope: &mut Scope,
-    body: &mut Body,
-    stmt: &Stmt,
-    mark: Mark,
-) -> Result<TStmt, Refusal> {
-    let inner = statement(alloc, scope, body, stmt)?;
-    Ok(with_mark(mark, Box::new(alloc, inner)?))
-}
-
-/// The body of a loop.
-#[cycle(statement)]
-fn repeated(
-    alloc: Global,
-    scope: &mut Scope,
-    body: &mut Body,
-    stmt: &Stmt,
-) -> Result<Box<TStmt>, Refusal> {
-    open_loop(body);
-    let inner = statement(alloc, scope, body, stmt)?;
-    close_loop(body);
-    Ok(Box::new(alloc, inner)?)
-}
-
-#[cycle(statement)]
-fn looped(
-    alloc: Global,
-    scope: &mut Scope,
-    body: &mut Body,
-    stmt: &Stmt,
-    head: Head,
-) -> Result<TStmt, Refusal> {
-    let inner = repeated(alloc, scope, body, stmt)?;
-    Ok(with_head(head, inner))
-}
-
-#[cycle(statement)]
-fn do_loop(
-    alloc: Global,
-    scope: &mut Scope,
-    body: &mut Body,
-    stmt: &Stmt,
-    e: &Expr,
-    pos: Pos,
-) -> Result<TStmt, Refusal> {
-    let inner = repeated(alloc, scope, body, stmt)?;
-    let e = test(alloc, scope, e, pos)?;
-    Ok(TStmt::DoWhile(inner, e))
-}
-
-/// A switch.
-#[cycle(statement)]
-fn switch(
-    alloc: Global,
-    scope: &mut Scope,
-    body: &mut Body,
-    stmt: &Stmt,
-    e: &Expr,
-    pos: Pos,
-) -> Result<TStmt, Refusal> {
-    let typed = elab_expr(alloc, scope, e)?;
-    let e = folded(switch_value(alloc, scope.types(), pos, typed)?);
-    open_switch(alloc, body, kind_of(&e))?;
-    let inner = statement(alloc, scope, body, stmt)?;
-    close_switch(body);
-    Ok(TStmt::Switch(e, Box::new(alloc, inner)?))
 }
 
 /// What stands in a block: declarations, and then statements.
@@ -240,11 +189,10 @@ pub fn block(
     body: &mut Body,
     stmts: &[Stmt],
     decls: &[Decl],
-) -> Result<TStmt, Refusal> {
-    let mut locals = Locals::none(alloc);
-    for decl in decls {
-        declaration(alloc, scope, &mut locals, decl)?;
-    }
+) -> Result<TStmt, Refusal>
+    ensures { Gives (λ x. ((stmt_of x, body_of body.new), scope_of scope.new)) result (block_in (map v.decl_of decls.now) (v.stmts_from no_stmts stmts.now) (body_of body.old) (scope_of scope.old)) }
+{
+    let mut locals = block_locals(alloc, scope, decls)?;
     for stmt in stmts {
         let typed = statement(alloc, scope, body, stmt)?;
         locals.stmts.push(typed)?;

@@ -1,10 +1,16 @@
 // Units (C90 6.7).
-ghost use Rattle.std.specs.Prelude.{IfOk};
+ghost use Rattle.std.specs.Prelude.{◌≡◌, IfOk, length, map, slice_get};
+ghost use Rattle.c65_base.specs.Answers.{Gives};
+ghost use Rattle.c65_ctype.specs.Views.{ty_of};
 ghost use Rattle.c65_csem.specs.Units.{IsUnit};
 ghost use Rattle.c65_csem.specs.Views.{unit_of};
+ghost use Rattle.c65_scope.specs.Scopes.{scope_of};
+ghost use Rattle.c65_tree.specs.View as v;
+ghost use Rattle.c65_init.specs.Units.{item_in, items_in, is_open_type, is_open_class, is_open_array, array_completed, arrays_completed, unit_in};
 
 use crate::declare::{Locals, declaration};
 use crate::function::definition;
+use crate::settle::settle_functions;
 use c65_base::{Options, Refusal};
 use c65_checked::unit_from;
 use c65_csem::{Class, TUnit};
@@ -14,7 +20,9 @@ use c65_tree::{Item, Unit};
 use std::alloc::Global;
 
 /// An external declaration.
-fn external(alloc: Global, scope: &mut Scope, item: &Item) -> Result<(), Refusal> {
+fn external(alloc: Global, scope: &mut Scope, item: &Item) -> Result<(), Refusal>
+    ensures { Gives (λ x. scope_of scope.new) result (item_in (v.item_of item.now) (scope_of scope.old)) }
+{
     match item {
         Item::Decl(decl) => {
             let mut locals = Locals::none(alloc);
@@ -24,39 +32,88 @@ fn external(alloc: Global, scope: &mut Scope, item: &Item) -> Result<(), Refusal
     }
 }
 
+/// External declarations in their order.
+fn externals(alloc: Global, scope: &mut Scope, items: &[Item]) -> Result<(), Refusal>
+    ensures { Gives (λ x. scope_of scope.new) result (items_in (map v.item_of items.now) (scope_of scope.old)) }
+{
+    for item in items {
+        external(alloc, scope, item)?;
+    }
+    Ok(())
+}
+
+/// Whether an array whose number of elements is not known is defined by this class.
+fn is_open_class(class: Class) -> bool
+    ensures { result ≡ is_open_class class }
+{
+    match class {
+        Class::Tentative | Class::Static => true,
+        Class::External | Class::Declared | Class::Auto | Class::Register => false,
+    }
+}
+
+/// Whether a type is an array whose number of elements is not known.
+fn is_open_type(ty: &CType) -> bool
+    ensures { result ≡ is_open_type (ty_of ty.now) }
+{
+    match ty {
+        CType::Array(_, None) => true,
+        CType::Array(_, Some(_))
+        | CType::Void
+        | CType::Int(_)
+        | CType::Pointer(_)
+        | CType::Struct(_)
+        | CType::Function(_) => false,
+    }
+}
+
 /// Whether an object is an array that is defined without a number of elements.
-fn is_open(scope: &Scope, number: u32) -> bool {
+fn is_open(scope: &Scope, number: u32) -> bool
+    ensures { result ≡ is_open_array (slice_get (scope_of scope.now).unit.objects number) }
+{
     match scope.object(number) {
-        Some(object) => match (&object.ty.ty, object.class) {
-            (CType::Array(_, None), Class::Tentative | Class::Static) => true,
-            _ => false,
-        },
+        Some(object) => is_open_type(&object.ty.ty) && is_open_class(object.class),
         None => false,
     }
 }
 
-/// An array that is defined without a number of elements has one (C90 6.7.2).
-fn complete_arrays(scope: &mut Scope) {
-    let count = scope.parts().objects.len();
-    let mut number: u32 = 0;
-    for _ in 0..count {
-        if is_open(scope, number) {
-            scope.complete(number, 1);
-        }
-        number = number.saturating_add(1);
+/// An array that is defined without a number of elements has one.
+fn complete_array(scope: &mut Scope, number: u32)
+    ensures { scope_of scope.new ≡ array_completed (scope_of scope.old) number }
+{
+    if is_open(scope, number) {
+        scope.complete(number, 1);
     }
+}
+
+/// Arrays that are defined without a number of elements have one (C90 6.7.2).
+#[tactic(auto, using(crate::proofs::Lists::arrays_next, crate::proofs::Lists::arrays_done))]
+fn complete_arrays(scope: &mut Scope)
+    ensures { scope_of scope.new ≡ arrays_completed (scope_of scope.old) }
+{
+    for turn in 0..object_count(scope) {
+        complete_array(scope, turn.min(0xffff_ffff) as u32);
+    }
+}
+
+/// How many objects were declared.
+#[tactic(auto, using(crate::proofs::PartLaws::objects_many))]
+fn object_count(scope: &Scope) -> usize
+    ensures { result ≡ length (scope_of scope.now).unit.objects }
+{
+    scope.parts().objects.len()
 }
 
 /// The typed parts of a unit. Refuses its first fault in source order, with codes 301 and 303 to
 /// 334, and `Object`, `Members`, `Cases` and `ArgumentBytes`.
 pub fn elab_unit(alloc: Global, unit: &Unit, options: &Options) -> Result<TUnit, Refusal>
-    ensures { IfOk result (λ u. IsUnit (unit_of u)) }
+    ensures exact { Gives (λ u. unit_of u) result (unit_in (v.unit_of unit.now) options.now.signed_chars) }
+    ensures typed { IfOk result (λ u. IsUnit (unit_of u)) }
 {
     let mut scope = Scope::new(alloc, options)?;
-    for item in &unit.items {
-        external(alloc, &mut scope, item)?;
-    }
+    externals(alloc, &mut scope, &unit.items)?;
     complete_arrays(&mut scope);
+    settle_functions(alloc, &mut scope)?;
     match unit_from(alloc, scope.into_parts())? {
         Some(unit) => Ok(unit),
         None => Err(Refusal::OutOfMemory),

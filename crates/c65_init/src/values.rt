@@ -1,4 +1,17 @@
 // Expressions as statements and initialisers need them: converted, and folded.
+ghost use Rattle.std.specs.Prelude.{◌≡◌};
+ghost use Rattle.c65_base.specs.Answers.{Gives};
+ghost use Rattle.c65_ctype.specs.Views.{ty_of};
+ghost use Rattle.c65_convert.specs.Changes.{assigned_of};
+ghost use Rattle.c65_csem.specs.Views.{typed_of, maybe_of};
+ghost use Rattle.c65_fold.specs.Folded.{folded};
+ghost use Rattle.c65_scope.specs.Scopes.{scope_of};
+ghost use Rattle.c65_tree.specs.View.{expr_of, maybe};
+ghost use Rattle.c65_cells.specs.Parts.{part_of};
+ghost use Rattle.c65_cells.specs.Sinks.{sink_of};
+ghost use Rattle.c65_init.specs.Initials.{leaf_of, whole_set};
+ghost use Rattle.c65_init.specs.Values.{value_for, unused_of, maybe_unused, test_of, maybe_test, is_void, given_by, given_of};
+
 use c65_base::{Code, Pos, Refusal};
 use c65_cells::{Part, Sink, fault, set, store_number, store_pointer};
 use c65_convert::{assigned, condition, value};
@@ -10,10 +23,25 @@ use c65_scope::Scope;
 use c65_tree::Expr;
 use std::alloc::Global;
 
-pub fn folded(e: TExpr) -> TExpr {
+pub fn folded(e: TExpr) -> TExpr
+    ensures { typed_of result ≡ folded (typed_of e) }
+{
     let mut e = e;
     fold(&mut e);
     e
+}
+
+/// A value as by assignment to a type.
+fn converted(
+    alloc: Global,
+    scope: &Scope,
+    ty: &CType,
+    typed: TExpr,
+    pos: Pos,
+) -> Result<TExpr, Refusal>
+    ensures { Gives (λ x. typed_of x) result (assigned_of (scope_of scope.now).unit.types pos (ty_of ty.now) (typed_of typed)) }
+{
+    assigned(alloc, scope.types(), pos, ty, typed)
 }
 
 /// The value of an expression as by assignment to a type.
@@ -23,9 +51,12 @@ pub fn value_for(
     ty: &CType,
     e: &Expr,
     pos: Pos,
-) -> Result<TExpr, Refusal> {
+) -> Result<TExpr, Refusal>
+    ensures { Gives (λ x. (typed_of x, scope_of scope.new)) result (value_for (ty_of ty.now) (expr_of e.now) pos (scope_of scope.old)) }
+{
     let typed = elab_expr(alloc, scope, e)?;
-    assigned(alloc, scope.types(), pos, ty, typed)
+    let value = converted(alloc, scope, ty, typed, pos)?;
+    Ok(value)
 }
 
 /// Stores a value into an automatic object that it begins as a whole.
@@ -36,7 +67,9 @@ pub fn set_whole(
     ty: &CType,
     e: &Expr,
     pos: Pos,
-) -> Result<(), Refusal> {
+) -> Result<(), Refusal>
+    ensures { Gives (λ x. (sink_of sink.new, scope_of scope.new)) result (whole_set (ty_of ty.now) (expr_of e.now) pos (sink_of sink.old, scope_of scope.old)) }
+{
     let value = value_for(alloc, scope, ty, e, pos)?;
     set(sink, 0, value)
 }
@@ -49,19 +82,27 @@ pub fn leaf(
     part: &Part,
     e: &Expr,
     pos: Pos,
-) -> Result<(), Refusal> {
+) -> Result<(), Refusal>
+    ensures { Gives (λ x. (sink_of sink.new, scope_of scope.new)) result (leaf_of (part_of part.now) (expr_of e.now) pos (sink_of sink.old, scope_of scope.old)) }
+{
     let value = value_for(alloc, scope, &part.ty.ty, e, pos)?;
     match &part.ty.ty {
         CType::Int(kind) => {
             let known = value_at(&value, pos)?;
             store_number(sink, part.offset, *kind, part.bits, value, known)
         }
-        _ => store_pointer(scope.parts(), sink, part.offset, value, pos),
+        CType::Void
+        | CType::Pointer(_)
+        | CType::Array(_, _)
+        | CType::Struct(_)
+        | CType::Function(_) => store_pointer(scope.parts(), sink, part.offset, value, pos),
     }
 }
 
 /// An expression whose value is not used.
-pub fn unused(alloc: Global, scope: &mut Scope, e: &Expr) -> Result<TExpr, Refusal> {
+pub fn unused(alloc: Global, scope: &mut Scope, e: &Expr) -> Result<TExpr, Refusal>
+    ensures { Gives (λ x. (typed_of x, scope_of scope.new)) result (unused_of (expr_of e.now) (scope_of scope.old)) }
+{
     let typed = elab_expr(alloc, scope, e)?;
     Ok(folded(value(alloc, typed)?))
 }
@@ -70,7 +111,9 @@ pub fn maybe_unused(
     alloc: Global,
     scope: &mut Scope,
     e: &Option<Expr>,
-) -> Result<Option<TExpr>, Refusal> {
+) -> Result<Option<TExpr>, Refusal>
+    ensures { Gives (λ x. (maybe_of x, scope_of scope.new)) result (maybe_unused (maybe expr_of e.now) (scope_of scope.old)) }
+{
     match e {
         Some(e) => Ok(Some(unused(alloc, scope, e)?)),
         None => Ok(None),
@@ -78,7 +121,9 @@ pub fn maybe_unused(
 }
 
 /// A condition of a statement.
-pub fn test(alloc: Global, scope: &mut Scope, e: &Expr, pos: Pos) -> Result<TExpr, Refusal> {
+pub fn test(alloc: Global, scope: &mut Scope, e: &Expr, pos: Pos) -> Result<TExpr, Refusal>
+    ensures { Gives (λ x. (typed_of x, scope_of scope.new)) result (test_of (expr_of e.now) pos (scope_of scope.old)) }
+{
     let typed = elab_expr(alloc, scope, e)?;
     Ok(folded(condition(alloc, pos, typed)?))
 }
@@ -88,10 +133,25 @@ pub fn maybe_test(
     scope: &mut Scope,
     e: &Option<Expr>,
     pos: Pos,
-) -> Result<Option<TExpr>, Refusal> {
+) -> Result<Option<TExpr>, Refusal>
+    ensures { Gives (λ x. (maybe_of x, scope_of scope.new)) result (maybe_test (maybe expr_of e.now) pos (scope_of scope.old)) }
+{
     match e {
         Some(e) => Ok(Some(test(alloc, scope, e, pos)?)),
         None => Ok(None),
+    }
+}
+
+fn is_void(ty: &CType) -> bool
+    ensures { result ≡ is_void (ty_of ty.now) }
+{
+    match ty {
+        CType::Void => true,
+        CType::Int(_)
+        | CType::Pointer(_)
+        | CType::Array(_, _)
+        | CType::Struct(_)
+        | CType::Function(_) => false,
     }
 }
 
@@ -102,15 +162,15 @@ fn given_value(
     gives: &CType,
     e: &Expr,
     pos: Pos,
-) -> Result<TExpr, Refusal> {
+) -> Result<TExpr, Refusal>
+    ensures { Gives (λ x. (typed_of x, scope_of scope.new)) result (given_by (ty_of gives.now) (expr_of e.now) pos (scope_of scope.old)) }
+{
     let typed = elab_expr(alloc, scope, e)?;
-    match gives {
-        CType::Void => Err(fault(Code::ReturnValue, pos)),
-        _ => {
-            let typed = assigned(alloc, scope.types(), pos, gives, typed)?;
-            Ok(folded(typed))
-        }
+    if is_void(gives) {
+        return Err(fault(Code::ReturnValue, pos));
     }
+    let value = converted(alloc, scope, gives, typed, pos)?;
+    Ok(folded(value))
 }
 
 /// The value that a function gives, if it gives one.
@@ -120,7 +180,9 @@ pub fn given(
     gives: &CType,
     e: &Option<Expr>,
     pos: Pos,
-) -> Result<Option<TExpr>, Refusal> {
+) -> Result<Option<TExpr>, Refusal>
+    ensures { Gives (λ x. (maybe_of x, scope_of scope.new)) result (given_of (ty_of gives.now) (maybe expr_of e.now) pos (scope_of scope.old)) }
+{
     match e {
         Some(e) => Ok(Some(given_value(alloc, scope, gives, e, pos)?)),
         None => Ok(None),

@@ -1,0 +1,10 @@
+use Rattle.std.proofs.Common.{◌≡◌, drop}
+use Rattle.c65_ctype.specs.Views.{qty_of}
+use Rattle.c65_scope.specs.Scopes.{scope_of}
+use Rattle.c65_init.specs.Declarations.{locals_of}
+use Rattle.c65_init.proofs.Lists.{begun_walk}
+use Rattle.c65_init.proofs.declare.all_declared.Given as goal
+
+-- what is left gives what the whole gives
+abbrev pub invariant-loop-item : goal.invariant-loop-item
+invariant-loop-item l = begun_walk l.storage (qty_of l.base) (drop l.item-index l.items) (locals_of l.locals, scope_of l.scope) ≡ begun_walk l.storage (qty_of l.base) l.items (locals_of l.fn.locals, scope_of l.fn.scope)

@@ -1,0 +1,19 @@
+use Rattle.std.proofs.Common.{rules}
+use Rattle.std.proofs.lemmas.Grind.{common_steps}
+use Rattle.std.proofs.Common.{arith}
+use Rattle.c65_scope.specs.Scopes.{scope_of}
+use Rattle.c65_init.specs.Declarations.{locals_of}
+use Rattle.c65_init.proofs.Lists.{decls_walk, decls_step, decls_steps}
+use Rattle.c65_init.proofs.Walking.{kept, stopped, ended}
+use Rattle.c65_init.proofs.declare.declarations.Goals as goal
+
+pub loop-item-preserved : goal.loop-item-preserved
+loop-item-preserved c = kept decls_walk decls_step decls_steps c.args.items.now c.loop-item.item-index c.item-item.result (locals_of c.loop-item.locals, scope_of c.loop-item.scope) (locals_of c.declaration.new.locals, scope_of c.declaration.new.scope) (decls_walk c.args.items.now (locals_of c.args.locals.now, scope_of c.args.scope.now)) c.loop-item-test.true c.item-item.is c.in_ok-declaration.ensures c.loop-item.invariant
+
+pub returns-in_err-declaration : goal.returns-in_err-declaration
+returns-in_err-declaration c =
+    let fault = stopped decls_walk decls_step decls_steps c.in_err-declaration.field-0.0 c.args.items.now c.loop-item.item-index c.item-item.result (locals_of c.loop-item.locals, scope_of c.loop-item.scope) (decls_walk c.args.items.now (locals_of c.args.locals.now, scope_of c.args.scope.now)) c.loop-item-test.true c.item-item.is c.in_err-declaration.ensures c.loop-item.invariant in
+    first_of (search (rules, fault), grind (arith, common_steps, fault))
+
+pub returns : goal.returns
+returns c = ended decls_walk decls_step decls_steps c.args.items.now c.loop-item.item-index (locals_of c.loop-item.locals, scope_of c.loop-item.scope) (decls_walk c.args.items.now (locals_of c.args.locals.now, scope_of c.args.scope.now)) c.loop-item-test.false c.loop-item.invariant

@@ -1,0 +1,52 @@
+-- Units (C90 6.7): the typed parts as a function of the tree.
+use Rattle.std.specs.Prelude.{ℕ, zero, suc, ◌+◌, min, List, [], ◌∷◌, length, Bool, true, false, ◌&&◌, Option, Some, None, slice_get, Result, Ok, if◌then◌else◌}
+use Rattle.c65_base.specs.Answers.{Fault, ◌>>=◌}
+use Rattle.c65_ctype.specs.Trees.{Ty, array, type_in}
+use Rattle.c65_csem.specs.declared.items.Class.{Class}
+use Rattle.c65_csem.specs.declared.items.Class.TheVariants.{Tentative, Static}
+use Rattle.c65_csem.specs.Trees.{ObjectTy, UnitTy}
+use Rattle.c65_scope.specs.Scopes.{ScopeTy, nothing}
+use Rattle.c65_scope.specs.Parts.{completed}
+use Rattle.c65_tree.specs.Trees.{ItemTree, declaration, definition, UnitTree}
+use Rattle.c65_init.specs.Declarations.{no_locals, declaration_of}
+use Rattle.c65_init.specs.Functions.{definition_of}
+use Rattle.c65_init.specs.Settled.{functions_settled}
+
+abbrev pub item_in : ItemTree → ScopeTy → Result ScopeTy Fault
+item_in (declaration d) s = declaration_of d no_locals s >>= (λ x. Ok x.1)
+item_in (definition f) s = definition_of f s
+
+abbrev pub items_in : List ItemTree → ScopeTy → Result ScopeTy Fault
+items_in [] s = Ok s
+items_in (i ∷ is) s = item_in i s >>= items_in is
+
+-- an array that is defined without a number of elements has one (C90 6.7.2)
+abbrev pub is_open_type : Ty → Bool
+is_open_type (array q None) = true
+is_open_type _ = false
+
+abbrev pub is_open_class : Class → Bool
+is_open_class Tentative = true
+is_open_class Static = true
+is_open_class _ = false
+
+abbrev pub is_open_array : Option ObjectTy → Bool
+is_open_array None = false
+is_open_array (Some o) = is_open_type (type_in o.ty) && is_open_class o.class
+
+abbrev pub array_completed : ScopeTy → ℕ → ScopeTy
+array_completed s n = if is_open_array (slice_get s.unit.objects n) then completed s n 1 else s
+
+-- so many objects from one on
+abbrev pub arrays_from : ℕ → ℕ → ScopeTy → ScopeTy
+arrays_from zero n s = s
+arrays_from (suc turns) n s = arrays_from turns (n + 1) (array_completed s (min n 4294967295))
+
+abbrev pub arrays_completed : ScopeTy → ScopeTy
+arrays_completed s = arrays_from (length s.unit.objects) 0 s
+
+abbrev pub unit_in : UnitTree → Bool → Result UnitTy Fault
+unit_in t signed_chars = do
+  s ← nothing signed_chars
+  u ← items_in t.items s
+  Ok (functions_settled (arrays_completed u)).unit
