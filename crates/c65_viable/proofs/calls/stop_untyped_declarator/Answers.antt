@@ -1,0 +1,9 @@
+use Rattle.std.specs.Prelude.{false}
+use Rattle.c65_parse.specs.declared.frame.Sort.TheVariants as sorts
+use Rattle.c65_parse.specs.Reading.{rest_of, blocks_of, declarator_read}
+use Rattle.c65_viable.proofs.Scopes.{few_types, stopped}
+use Rattle.c65_viable.proofs.Whole.{declarators_stop}
+use Rattle.c65_viable.proofs.calls.stop_untyped_declarator.Goals as goal
+
+pub returns : goal.returns
+returns c = λ l. stopped _ c.parse_untyped_declarator.result (declarator_read (sorts.Named false) (blocks_of c.args.parser.now) (rest_of c.args.parser.now)) _ _ _ c.parse_untyped_declarator.ensures (λ fault e. declarators_stop (sorts.Named false) _ _ l (rest_of c.args.parser.now) fault (few_types c.args.parser.now.scope) c.requires e)
