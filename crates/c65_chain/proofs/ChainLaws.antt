@@ -1,5 +1,5 @@
 -- Causes of refusals, stage after stage.
-use Rattle.std.proofs.Common.{◌≡◌, ℕ, ◌≤◌, ◌<◌, ◌⊎◌, inl, inr, min, true, false, List, Result, Ok, Err, refl, sym, subst, ◌∙◌, arith}
+use Rattle.std.proofs.Common.{◌≡◌, ℕ, ◌≤◌, ◌⊎◌, inl, inr, true, false, List, Result, Ok, Err, refl, subst, ◌∙◌, arith}
 use Rattle.c65_base.specs.declared.refusal.Refusal.{Refusal}
 use Rattle.c65_base.specs.declared.refusal.Refusal.TheVariants.{OutOfMemory, Missing, ReadFault, Source, TooLarge, Link}
 use Rattle.c65_base.specs.declared.refusal.Size.{Size}
@@ -62,6 +62,16 @@ compiles_of folders old new r before = record {
   read = before.read;
   missing = before.missing;
   refused = before.refused;
+}
+
+-- the same of another value
+pub compiles_ok : {A B : Type 0} (folders : List (List ℕ)) (old new : Outside) (a : A) (b : B) → Compiles folders old new (Ok a) → Compiles folders old new (Ok b)
+compiles_ok folders old new a b before = record {
+  same = before.same;
+  written = before.written;
+  read = before.read;
+  missing = before.missing;
+  refused = tt;
 }
 
 -- a refusal of a later stage

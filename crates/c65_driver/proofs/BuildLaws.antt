@@ -40,7 +40,7 @@ stopped command old new code r stops sources = record {
   contents = stops.same;
   from_text = stops.from_text;
   from_code = linked_stop code r stops.from_code;
-  from_files = sources_stop command old.contents code r sources;
+  from_files = sources_stop Image ℕ command old.contents code r sources;
 }
 
 pub builds_stop : (command : Spelled) (old new : FilesSide) (code : Option Code) (image : Option Image) (r : Refusal) → image ≡ None
@@ -89,7 +89,7 @@ builds_wrote command old mid new code image path r is made sources wrote = recor
       (subst (λ (p : List ℕ). WritesBytes p (bytes_of image) mid.contents new.contents r) is wrote.contents);
   from_text = made.from_text;
   from_code = linked_wrote code image r made.from_code;
-  from_files = sources_go command old.contents code image r sources;
+  from_files = sources_go Image ℕ command old.contents code image r sources;
 }
 
 pub wrote_all : (old new : Contents) (path bytes : List ℕ) (u : Unit) → WritesFile {E = Failed} old new path bytes (Ok u) → WritesFile old new path bytes wrote
@@ -116,7 +116,7 @@ builds_free command old = record {
     contents = refl;
     from_text = tt;
     from_code = tt;
-    from_files = sources_free command old.files.contents;
+    from_files = sources_free ℕ command old.files.contents;
   };
   left = refl;
   input_faults = refl;

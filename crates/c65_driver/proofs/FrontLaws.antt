@@ -13,28 +13,28 @@ use Rattle.c65_chain.specs.Front.{command, compiled}
 use Rattle.c65_words.specs.Commands.{Spelled}
 use Rattle.c65_driver.specs.Compiled.{ReadsAs, define_of, front, IsOfFront, IsOfSources}
 
-same_refusal : {A B : Type 0} (P : Answers Code) (code : Option Code) (r : Refusal) → IsOfFront {T = A} P code (Err r) → IsOfFront {T = B} P code (Err r)
-same_refusal P None r made = made
-same_refusal P (Some c) r made = made
+same_refusal : (A B : Type 0) (P : Answers Code) (code : Option Code) (r : Refusal) → IsOfFront {T = A} P code (Err r) → IsOfFront {T = B} P code (Err r)
+same_refusal A B P None r made = made
+same_refusal A B P (Some c) r made = made
 
-goes_on : {A B : Type 0} (P : Answers Code) (code : Option Code) (a : A) (r : Result B Refusal) → IsOfFront P code (Ok a) → IsOfFront P code r
-goes_on P None a r made = absurd made
-goes_on P (Some c) a r made = made
+onward : (A B : Type 0) (P : Answers Code) (code : Option Code) (a : A) (r : Result B Refusal) → IsOfFront {T = A} P code (Ok a) → IsOfFront {T = B} P code r
+onward A B P None a r made = absurd made
+onward A B P (Some c) a r made = made
 
 -- the refusal of a stage is the command's
-pub sources_stop : {A B : Type 0} (command : Spelled) (contents : Contents) (code : Option Code) (r : Refusal) → IsOfSources {T = A} command contents code (Err r) → IsOfSources {T = B} command contents code (Err r)
-sources_stop command contents code r made held told = same_refusal _ code r (made held told)
+pub sources_stop : (A B : Type 0) (c : Spelled) (contents : Contents) (code : Option Code) (r : Refusal) → IsOfSources {T = A} c contents code (Err r) → IsOfSources {T = B} c contents code (Err r)
+sources_stop A B c contents code r made held told = same_refusal A B (front held c) code r (made held told)
 
 -- whatever comes behind the code
-pub sources_go : {A B : Type 0} (command : Spelled) (contents : Contents) (code : Option Code) (a : A) (r : Result B Refusal) → IsOfSources command contents code (Ok a) → IsOfSources command contents code r
-sources_go command contents code a r made held told = goes_on _ code a r (made held told)
+pub sources_go : (A B : Type 0) (c : Spelled) (contents : Contents) (code : Option Code) (a : A) (r : Result B Refusal) → IsOfSources {T = A} c contents code (Ok a) → IsOfSources {T = B} c contents code r
+sources_go A B c contents code a r made held told = onward A B (front held c) code a r (made held told)
 
 -- want of memory
-pub sources_free : {T : Type 0} (command : Spelled) (contents : Contents) → IsOfSources {T} command contents None (Err OutOfMemory)
-sources_free command contents held told = inl tt
+pub sources_free : (T : Type 0) (c : Spelled) (contents : Contents) → IsOfSources {T = T} c contents None (Err OutOfMemory)
+sources_free T c contents held told = inl tt
 
-pub sources_short : (command : Spelled) (contents : Contents) (code : Option Code) → code ≡ None → IsOfSources {T = Image} command contents code (Err OutOfMemory)
-sources_short command contents code none = subst (λ (made : Option Code). IsOfSources {T = Image} command contents made (Err OutOfMemory)) (sym none) (sources_free command contents)
+pub sources_short : (c : Spelled) (contents : Contents) (code : Option Code) → code ≡ None → IsOfSources {T = Image} c contents code (Err OutOfMemory)
+sources_short c contents code none = subst (λ (made : Option Code). IsOfSources {T = Image} c contents made (Err OutOfMemory)) (sym none) (sources_free Image c contents)
 
 -- the parts of a command, as they were given to the front
 from_parts : (c : Spelled) (held : Held) (ds : List Define) (folders files : List (List ℕ)) (z : Result Code Refusal) → ds ≡ map define_of c.defines → folders ≡ c.folders → files ≡ c.files
@@ -55,6 +55,6 @@ sources_not c contents code ds folders files r none defines is of given =
     stopped held (inr stops) = inr (from_parts c held ds folders files (Err r) defines is of stops)
 
 -- a code, as its text reads
-pub sources_read : {T : Type 0} (c : Spelled) (contents : Contents) (code read : Code) (ds : List Define) (folders files : List (List ℕ)) (r : Result T Refusal) → ds ≡ map define_of c.defines → folders ≡ c.folders → files ≡ c.files
+pub sources_read : (c : Spelled) (contents : Contents) (code read : Code) (ds : List Define) (folders files : List (List ℕ)) (r : Result Image Refusal) → ds ≡ map define_of c.defines → folders ≡ c.folders → files ≡ c.files
     → ((held : Held) → contents ≡ Some held → compiled (command held c.options ds folders) files (Ok code)) → ReadsAs (text_of code) read → IsOfSources c contents (Some read) r
 sources_read c contents code read ds folders files r defines is of given reads held told = (code, from_parts c held ds folders files (Ok code) defines is of (given held told), reads)

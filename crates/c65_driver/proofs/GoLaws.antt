@@ -73,7 +73,7 @@ stopped command old new l w i o code r stops sources = record {
   made = (stops_before r stops.refused, (refl, refl));
   from_text = stops.from_text;
   from_code = linked_stop code r stops.from_code;
-  from_files = sources_stop command old.contents code r sources;
+  from_files = sources_stop Image ℕ command old.contents code r sources;
 }
 
 pub goes_stop : (command : Spelled) (old new : FilesSide) (l w : Option (List ℕ)) (i o : ℕ) (code : Option Code) (image : Option Image) (r : Refusal)
@@ -96,7 +96,7 @@ goes_free command old = record {
   made = (tt, (refl, refl));
   from_text = tt;
   from_code = tt;
-  from_files = sources_free command old.files.contents;
+  from_files = sources_free ℕ command old.files.contents;
 }
 
 pub goes_none : (command : Spelled) (old : Outside) (code : Option Code) (image : Option Image) → code ≡ None → image ≡ None
@@ -156,5 +156,5 @@ goes_run command plan old new l l' w w' i i' o o' code image r is made sources r
   made = subst (λ (s : Setup). ImageRuns s image l l' w w' r) is runs;
   from_text = made.from_text;
   from_code = linked_run code image r made.from_code;
-  from_files = sources_go command old.contents code image r sources;
+  from_files = sources_go Image ℕ command old.contents code image r sources;
 }

@@ -34,7 +34,7 @@ stopped command old new w o code r stops sources = record {
       (record { contents = stops.same; writes = stops.written; written = refl; out_faults = refl });
   from_text = stops.from_text;
   from_code = linked_stop code r stops.from_code;
-  from_files = sources_stop command old.contents code r sources;
+  from_files = sources_stop Image ℕ command old.contents code r sources;
 }
 
 pub texts_stop : (command : Spelled) (old new : FilesSide) (w : Option (List ℕ)) (o : ℕ) (code : Option Code) (image : Option Image) (r : Refusal) → image ≡ None
@@ -55,7 +55,7 @@ texts_free command old = record {
     text = record { contents = refl; writes = refl; written = refl; out_faults = refl };
     from_text = tt;
     from_code = tt;
-    from_files = sources_free command old.files.contents;
+    from_files = sources_free ℕ command old.files.contents;
   };
   left = refl;
   input_faults = refl;
@@ -97,7 +97,7 @@ texts_wrote command old mid new w o code image bytes r compiles sources is wrote
       (to_from command.out bytes old mid new w o r compiles.same compiles.written wrote.to);
   from_text = compiles.from_text;
   from_code = linked_wrote code image r compiles.from_code;
-  from_files = sources_go command old.contents code image r sources;
+  from_files = sources_go Image ℕ command old.contents code image r sources;
 }
 
 kept : (out : Option (List ℕ)) (bytes : List ℕ) (old new : FilesSide) (w : Option (List ℕ)) (o : ℕ) → new.contents ≡ old.contents → new.writes ≡ old.writes
@@ -121,7 +121,7 @@ texts_short command old new w o code image compiles sources = record {
   text = kept_made command.out code image old new w o compiles.same compiles.written;
   from_text = compiles.from_text;
   from_code = linked_wrote code image (Err OutOfMemory) compiles.from_code;
-  from_files = sources_go command old.contents code image (Err OutOfMemory) sources;
+  from_files = sources_go Image ℕ command old.contents code image (Err OutOfMemory) sources;
 }
 
 -- what a text reads as is what its own text reads as

@@ -73,7 +73,7 @@ IsOfFront P (Some code) answer = (c : Code) × P (Ok c) × ReadsAs (text_of c) c
 
 -- of files that tell nothing, nothing is said
 abbrev pub IsOfSources : {T : Type 0} → Spelled → Contents → Option Code → Result T Refusal → Type 0
-IsOfSources {T} c contents code answer = (held : Held) → contents ≡ Some held → IsOfFront {T} (front held c) code answer
+IsOfSources {T} c contents code answer = (held : Held) → contents ≡ Some held → IsOfFront {T = T} (front held c) code answer
 
 -- the path of `-o`, or `a.out`
 abbrev pub output_of : Option (List ℕ) → List ℕ

@@ -14,15 +14,23 @@ use c65_mach::Image;
 use c65_words::{Command, Definition};
 use std::alloc::{AllocError, Global};
 
+/// A definition as the preprocessor takes it.
+fn define(alloc: Global, definition: &Definition) -> Result<Define, AllocError>
+    ensures { IfOk result (λ define. define ≡ define_of definition.now) }
+{
+    let name = definition.name.copy(alloc)?;
+    let body = definition.body.copy(alloc)?;
+    Ok(Define { name, body })
+}
+
 /// Definitions as the preprocessor takes them.
 fn defines(alloc: Global, definitions: &[Definition]) -> Result<Vec<Define>, AllocError>
     ensures { IfOk result (λ list. list.items ≡ map define_of definitions.now) }
 {
     let mut defines = Vec::new(alloc);
     for definition in definitions {
-        let name = definition.name.copy(alloc)?;
-        let body = definition.body.copy(alloc)?;
-        defines.push(Define { name, body })?;
+        let define = define(alloc, definition)?;
+        defines.push(define)?;
     }
     Ok(defines)
 }
