@@ -6,7 +6,7 @@ ghost use Rattle.c65_driver.specs.Outside.{files_side};
 
 use crate::assembly::read_back;
 use crate::outcome::Made;
-use c65_base::{Refusal, Text};
+use c65_base::{Options, Refusal, Text};
 use c65_chain::{Define, compile};
 use c65_io::{Failed, Files};
 use c65_link::link;
@@ -33,6 +33,12 @@ fn defines(alloc: Global, definitions: &[Definition]) -> Result<Vec<Define>, All
         defines.push(define)?;
     }
     Ok(defines)
+}
+
+fn options(command: &Command) -> &Options
+    ensures { result.now ≡ command.now.options }
+{
+    &command.options
 }
 
 fn definitions(command: &Command) -> &[Definition]
@@ -76,7 +82,7 @@ pub fn make_image<F: Files>(
     let code = match compile(
         alloc,
         files,
-        &command.options,
+        options(command),
         &defines,
         folders(command),
         paths(command),

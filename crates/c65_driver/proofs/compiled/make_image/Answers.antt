@@ -47,13 +47,13 @@ returns-in-Err-clause-sources g c = sources_short c.args.command.now (g.F.Files.
 
 pub returns-in-Err-compile-clause-sources : goal.returns-in-Err-compile-clause-sources
 returns-in-Err-compile-clause-sources g c =
-    sources_not c.args.command.now (g.F.Files.contents c.args.files.now) c.args.made.now.code c.in-Ok.defines.items c.folders.result.now c.paths.result.now c.in-Err-compile.refusal
-    c.requires (c.in-Ok.ensures ∙ ap (map define_of) c.definitions.ensures) c.folders.ensures c.paths.ensures c.in-Err-compile.ensures.exact
+    sources_not c.args.command.now (g.F.Files.contents c.args.files.now) c.args.made.now.code c.options.result.now c.deref.result.now c.folders.result.now c.paths.result.now c.in-Err-compile.refusal
+    c.requires c.options.ensures (c.deref.ensures.value ∙ (c.in-Ok.ensures ∙ ap (map define_of) c.definitions.ensures)) c.folders.ensures c.paths.ensures c.in-Err-compile.ensures.exact
 
 pub returns-in-Err-read_back-clause-sources : goal.returns-in-Err-read_back-clause-sources
 returns-in-Err-read_back-clause-sources g c = sources_short c.args.command.now (g.F.Files.contents c.args.files.now) c.args.made.now.code c.requires
 
 pub returns-clause-sources : goal.returns-clause-sources
 returns-clause-sources g c =
-    sources_read c.args.command.now (g.F.Files.contents c.args.files.now) c.in-Ok-compile.code c.in-Ok-read_back.code c.in-Ok.defines.items c.folders.result.now c.paths.result.now c.link-linked.result
-    (c.in-Ok.ensures ∙ ap (map define_of) c.definitions.ensures) c.folders.ensures c.paths.ensures c.in-Ok-compile.ensures.exact c.in-Ok-read_back.ensures.read
+    sources_read c.args.command.now (g.F.Files.contents c.args.files.now) c.in-Ok-compile.code c.in-Ok-read_back.code c.options.result.now c.deref.result.now c.folders.result.now c.paths.result.now c.link-linked.result
+    c.options.ensures (c.deref.ensures.value ∙ (c.in-Ok.ensures ∙ ap (map define_of) c.definitions.ensures)) c.folders.ensures c.paths.ensures c.in-Ok-compile.ensures.exact c.in-Ok-read_back.ensures.read
