@@ -1,0 +1,5 @@
+pub mod Sites
+pub mod Lines
+pub mod Found
+pub mod Agreement
+pub mod Travels

@@ -1,0 +1,24 @@
+// Laws of calls, each the contract of a function that does nothing.
+ghost use Rattle.c65_gencalls.specs.Found.{ExpressionsCallInOrder, LinesAreOfCalls};
+ghost use Rattle.c65_gencalls.specs.Agreement.{PrototypesAgree};
+ghost use Rattle.c65_gencalls.specs.Travels.{TravelsKeepHeights};
+
+/// The lines of an expression that call functions are those of its calls, in their order.
+pub fn expressions_call_in_order()
+    ensures { ExpressionsCallInOrder }
+{}
+
+/// Each line of a well typed function that calls is that of one of the body's typed calls, and takes away what this call passes.
+pub fn lines_are_of_calls()
+    ensures { LinesAreOfCalls }
+{}
+
+/// A well typed call by a type with a prototype agrees with each function that has the same type, down to pointers.
+pub fn prototypes_agree()
+    ensures { PrototypesAgree }
+{}
+
+/// On a way through the functions of a well typed program, with all calls on it, sp and what waits have the same sum at each line.
+pub fn travels_keep_heights()
+    ensures { TravelsKeepHeights }
+{}
