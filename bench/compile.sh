@@ -3,7 +3,8 @@
 # Usage, at the top of the repository: bench/compile.sh
 #   1. a program of 255 functions: compiled, linked and started
 #   2. sources of 1 KB to 1 MB: declarations alone, and functions up to what fits an image, in nanoseconds a byte
-#   3. the least of some bounds of memory within which 1 MiB of source compiles
+#   3. a unit of 100,000 declarations of 50,000 names
+#   4. the least of some bounds of memory within which 1 MiB of source compiles
 set -eu
 c65=${C65:-./c65}
 folder=$(mktemp -d)
@@ -33,6 +34,13 @@ declarations() {
         }
         print "int main(void) { return 0; }"
     }'
+}
+
+# Two headers that each declare the same 50,000 objects, and a unit of both.
+twice_declared() {
+    awk 'BEGIN { for (i = 0; i < 50000; i++) printf "extern int a%d;\n", i }' > "$1/first.h"
+    cp "$1/first.h" "$1/second.h"
+    printf '#include "first.h"\n#include "second.h"\nint main(void) { return 0; }\n' > "$1/many.c"
 }
 
 # The least processor milliseconds of five runs of a command.
@@ -69,6 +77,10 @@ for count in 8 32 128 512; do
     "$c65" build -o "$folder/made" "$folder/made.c" 2> "$folder/line" || status=$?
     report "$count functions (status $status)" "$(wc -c < "$folder/made.c")" "$(milliseconds "$c65" build -o "$folder/made" "$folder/made.c")"
 done
+
+twice_declared "$folder"
+"$c65" build -o "$folder/made" "$folder/many.c" || { echo "100,000 declarations are refused" >&2; exit 1; }
+report "100,000 declarations" "$(cat "$folder"/first.h "$folder"/second.h "$folder/many.c" | wc -c)" "$(milliseconds "$c65" build -o "$folder/made" "$folder/many.c")"
 
 declarations 1048400 > "$folder/made.c"
 for bound in 50 75 100 125 150 175 200 250 300 400; do
