@@ -5,3 +5,4 @@ pub mod SiteLaws
 pub mod FoundLaws
 pub mod AgreementLaws
 pub mod TravelLaws
+pub mod ProgramLaws

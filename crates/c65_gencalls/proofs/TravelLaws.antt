@@ -46,7 +46,7 @@ use Rattle.c65_gencalls.proofs.AgreementLaws.{parts_are, agreed_bytes, library_b
 
 -- ---- functions of the program
 
-func_in : (u : UnitTy) (i : ℕ) (g : FuncTy) → All (IsFunc u) u.funcs → slice_get u.funcs i ≡ Some g → IsFunc u g
+pub func_in : (u : UnitTy) (i : ℕ) (g : FuncTy) → All (IsFunc u) u.funcs → slice_get u.funcs i ≡ Some g → IsFunc u g
 func_in u i g h e = subst (λ (x : FuncTy). IsFunc u x) (get_or_from_slice_get u.funcs i g g e) (All-get_or (IsFunc u) u.funcs i g (slice_get_within u.funcs i g e) h)
 
 body_of : (s : Setting) (p : Program) (c : Compiled) → IsSound p → IsCompiled s p c → IsBody (unit_of p.parts) c.func c.body
@@ -95,7 +95,7 @@ reach_enters s (Call (callees.Pointer reads gives)) n p q t u h = record { reads
 
 -- ---- the function that a call names
 
-map_length : {A B : Type 0} (f : A → B) (xs : List A) → length (map f xs) ≡ length xs
+pub map_length : {A B : Type 0} (f : A → B) (xs : List A) → length (map f xs) ≡ length xs
 map_length f [] = refl
 map_length f (x ∷ xs) = ap suc (map_length f xs)
 
@@ -104,7 +104,7 @@ named_there u (node t (decay (node v (func k)))) i h e = let same : k ≡ i = cc
 named_there u (node t (decay (node v _))) i h e = absurd cc
 named_there u (node t _) i h e = absurd cc
 
-same_number : (a b n i j : ℕ) → a + b + n ≤ 2 ^ 32 → i < n → j < n → (a + b + i) % 2 ^ 32 ≡ (a + b + j) % 2 ^ 32 → i ≡ j
+pub same_number : (a b n i j : ℕ) → a + b + n ≤ 2 ^ 32 → i < n → j < n → (a + b + i) % 2 ^ 32 ≡ (a + b + j) % 2 ^ 32 → i ≡ j
 same_number a b n i j few p q e = omega (arith, few, p, q, e)
 
 same_function : (p : Program) (i j : ℕ) (g h : FuncTy) → IsSound p → slice_get (unit_of p.parts).funcs i ≡ Some g → slice_get (unit_of p.parts).funcs j ≡ Some h

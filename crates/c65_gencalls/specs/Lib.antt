@@ -3,3 +3,4 @@ pub mod Lines
 pub mod Found
 pub mod Agreement
 pub mod Travels
+pub mod Programs

@@ -2,6 +2,7 @@
 ghost use Rattle.c65_gencalls.specs.Found.{ExpressionsCallInOrder, LinesAreOfCalls};
 ghost use Rattle.c65_gencalls.specs.Agreement.{PrototypesAgree};
 ghost use Rattle.c65_gencalls.specs.Travels.{TravelsKeepHeights};
+ghost use Rattle.c65_gencalls.specs.Programs.{ProgramsAreCompiled};
 
 /// The lines of an expression that call functions are those of its calls, in their order.
 pub fn expressions_call_in_order()
@@ -21,4 +22,9 @@ pub fn prototypes_agree()
 /// On a way through the functions of a well typed program, with all calls on it, sp and what waits have the same sum at each line.
 pub fn travels_keep_heights()
     ensures { TravelsKeepHeights }
+{}
+
+/// The machine that is set to the code of a well typed program has the lines of each function that has a body.
+pub fn programs_are_compiled()
+    ensures { ProgramsAreCompiled }
 {}

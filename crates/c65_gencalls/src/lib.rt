@@ -4,5 +4,6 @@
 mod laws;
 
 pub use laws::{
-    expressions_call_in_order, lines_are_of_calls, prototypes_agree, travels_keep_heights,
+    expressions_call_in_order, lines_are_of_calls, programs_are_compiled, prototypes_agree,
+    travels_keep_heights,
 };
