@@ -1,5 +1,5 @@
 -- The functions of a program's code stand where their symbols say.
-use Rattle.std.proofs.Common.{◌≡◌, ℕ, zero, suc, ◌+◌, ◌^◌, ◌<◌, ◌≤◌, ◌==◌, Bool, true, false, Option, None, Some, List, [], ◌∷◌, ◌++◌, length, slice_get, refl, sym, ap, subst, ◌∙◌, arith}
+use Rattle.std.proofs.Common.{◌≡◌, ℕ, zero, suc, ◌+◌, ◌<◌, ◌==◌, Bool, Option, None, Some, List, [], ◌∷◌, ◌++◌, length, slice_get, refl, sym, ap, subst, ◌∙◌, arith}
 use Rattle.std.specs.Prelude.{Result, Ok, Err, option_map, if◌then◌else◌}
 use Rattle.std.proofs.lemmas.Bool.{eq-eqb, ne_eqb}
 use Rattle.std.proofs.lemmas.Option.{slice_get-map, slice_get_within}
@@ -7,10 +7,9 @@ use Rattle.c65_base.specs.Answers.{Fault, ◌>>=◌}
 use Rattle.c65_csem.specs.declared.items.Parts.{Parts}
 use Rattle.c65_csem.specs.declared.items.TFunc.{TFunc}
 use Rattle.c65_csem.specs.Trees.{Stmt, FuncTy}
-use Rattle.c65_csem.specs.Units.{HasBody, IsBody, IsFunc}
+use Rattle.c65_csem.specs.Units.{HasBody, IsBody}
 use Rattle.c65_csem.specs.Views.{func_of, unit_of}
 use Rattle.c65_code.specs.declared.code.Code.{Code}
-use Rattle.c65_code.specs.declared.line.Line.{Line}
 use Rattle.c65_code.specs.declared.line.Sym.{Sym}
 use Rattle.c65_code.specs.Placement as placement
 use Rattle.c65_code.specs.Segments.{Segment}
@@ -19,9 +18,9 @@ use Rattle.c65_frame.specs.Symbols.{numbers_of, function_symbol}
 use Rattle.c65_genstmt.specs.Functions.{gives_of, no_lines, with_function, segment_of, function_of}
 use Rattle.c65_genstmt.specs.Programs.{one_more, function_added, functions_from, functions_of, code_of}
 use Rattle.c65_genheights.proofs.FunctionLevels.{functions_are_level}
-use Rattle.c65_gencalls.specs.Travels.{Program, Compiled, IsCompiled}
+use Rattle.c65_gencalls.specs.Travels.{Program, Compiled}
 use Rattle.c65_gencalls.specs.Programs.{ProgramsAreCompiled}
-use Rattle.c65_gencalls.proofs.TravelLaws.{func_in, map_length, same_number}
+use Rattle.c65_gencalls.proofs.TravelLaws.{func_in, same_number}
 
 abbrev Placed : Type 0
 Placed = List (Sym × Segment)
