@@ -11,7 +11,7 @@ use Rattle.c65_scan.specs.declared.token.Token.{Token}
 use Rattle.c65_scan.specs.declared.token.TokenKind.{TokenKind}
 use Rattle.c65_scan.specs.declared.token.TokenKind.TheVariants as kinds
 use Rattle.c65_tree.specs.Trees as t
-use Rattle.c65_tree.specs.Depth.{expr_depth}
+use Rattle.c65_tree.specs.Depth.{expr_depth, specifiers_depth}
 use Rattle.c65_measured.specs.declared.operator.Infix.{Infix}
 use Rattle.c65_measured.specs.declared.operator.Infix.TheVariants as infixes
 use Rattle.c65_measured.specs.declared.operator.Prefix.{Prefix}
@@ -38,12 +38,19 @@ use Rattle.c65_complete.proofs.Runs.{then_run}
 use Rattle.c65_complete.proofs.Steps.{level_high}
 use Rattle.c65_viable.proofs.Places.{Place, of_expr, of_specifiers, of_declarator, Same, Takes, place_of}
 
+-- no specifiers are none
+abbrev pub Some : Done → Type 0
+Some (done_expr e) = Unit {0}
+Some (done_specifiers q) = 1 ≤ specifiers_depth q.tree
+Some (done_declarator d) = Unit {0}
+
 -- tokens with which what was read so far is a whole tree before an end
 pub record Completes (top : Place) (l : Pos) (least : ℕ) (scope : Blocks) (fs : List Frame) (held : Held) : Type 0 where
   pub more : List Token
   pub tree : Done
   pub behind : Blocks
   pub sort : Same top (place_of tree)
+  pub some : Some tree
   pub are : run least scope fs held (more ++ token kinds.End l ∷ []) ≡ Ok (tree, token kinds.End l ∷ [], behind)
 
 -- a token that ends a tree
@@ -67,10 +74,10 @@ pub record Closes (top : Place) (l : Pos) (least : ℕ) (scope : Blocks) (fs : L
 
 -- with a token before them
 pub preceded : (top : Place) (l : Pos) (least : ℕ) (scope : Blocks) (fs gs : List Frame) (held next : Held) (change : Change) (tok : Token) → step least scope fs held tok ≡ go gs next change → Completes top l least (changed change scope) gs next → Completes top l least scope fs held
-preceded top l least scope fs gs held next change tok e c = record { more = tok ∷ c.more; tree = c.tree; behind = c.behind; sort = c.sort; are = ap (then_run least scope tok (c.more ++ token kinds.End l ∷ [])) e ∙ c.are }
+preceded top l least scope fs gs held next change tok e c = record { more = tok ∷ c.more; tree = c.tree; behind = c.behind; sort = c.sort; some = c.some; are = ap (then_run least scope tok (c.more ++ token kinds.End l ∷ [])) e ∙ c.are }
 
 closed_by : (top : Place) (l : Pos) (least : ℕ) (scope : Blocks) (fs gs : List Frame) (held next : Held) (change : Change) (k : TokenKind) → Closer k → step least scope fs held (token k l) ≡ go gs next change → Completes top l least (changed change scope) gs next → Closes top l least scope fs held
-closed_by top l least scope fs gs held next change k h e c = record { completes = record { more = token k l ∷ c.more; tree = c.tree; behind = c.behind; sort = c.sort; are = ap (then_run least scope (token k l) (c.more ++ token kinds.End l ∷ [])) e ∙ c.are }; begins = (h, refl) }
+closed_by top l least scope fs gs held next change k h e c = record { completes = record { more = token k l ∷ c.more; tree = c.tree; behind = c.behind; sort = c.sort; some = c.some; are = ap (then_run least scope (token k l) (c.more ++ token kinds.End l ∷ [])) e ∙ c.are }; begins = (h, refl) }
 
 -- every place of an operation is above an operation with a comma
 prefix_high : (p : Prefix) → 1 ≤ right_of_prefix p
@@ -118,7 +125,7 @@ run_same least scope fs gs held next l [] h f = ap (then_run least scope (token 
 run_same least scope fs gs held next l (tok ∷ ts) h f = ap (then_run least scope tok (ts ++ token kinds.End l ∷ [])) (subst (λ p. step least scope fs held (token tok.kind p) ≡ step least scope gs next (token tok.kind p)) (sym h.1) (f tok.kind h.0))
 
 pub closes_same : (top : Place) (l : Pos) (least : ℕ) (scope : Blocks) (fs gs : List Frame) (held next : Held) → ((k : TokenKind) → Closer k → step least scope fs held (token k l) ≡ step least scope gs next (token k l)) → Closes top l least scope gs next → Closes top l least scope fs held
-closes_same top l least scope fs gs held next f c = record { completes = record { more = c.completes.more; tree = c.completes.tree; behind = c.completes.behind; sort = c.completes.sort; are = run_same least scope fs gs held next l c.completes.more c.begins f ∙ c.completes.are }; begins = c.begins }
+closes_same top l least scope fs gs held next f c = record { completes = record { more = c.completes.more; tree = c.completes.tree; behind = c.completes.behind; sort = c.completes.sort; some = c.completes.some; are = run_same least scope fs gs held next l c.completes.more c.begins f ∙ c.completes.are }; begins = c.begins }
 
 operation_closes : (top : Place) (l : Pos) (least : ℕ) (scope : Blocks) (fs : List Frame) (e : t.ExprTree) (o : Operation) → Closes top l least scope fs (have_expr (plug o e)) → Closes top l least scope (in_operation o ∷ fs) (have_expr e)
 operation_closes top l least scope fs e o c = closes_same top l least scope (in_operation o ∷ fs) fs (have_expr e) (have_expr (plug o e)) (λ k h. operation_same least scope e o fs k l h) c
@@ -148,6 +155,14 @@ pub record All (top : Place) (l : Pos) (least : ℕ) (fs : List Frame) : Type 0 
   pub declared : (scope : Blocks) (d : t.DeclaratorTree) → Takes top of_declarator fs → Closes top l least scope fs (have_declarator d)
   pub listed : (scope : Blocks) (q : Listing) → Takes top of_specifiers fs → Completes top l least scope fs (specifiers q)
 
+-- one more type specifier
+abbrev pub int_token : Pos → Token
+int_token l = token (kinds.Keyword keywords.Int) l
+
+pub int_step : (least : ℕ) (scope : Blocks) (fs : List Frame) (q : Listing) (l : Pos) → step least scope fs (specifiers q) (int_token l) ≡ goes fs (specifiers (with_word q l words.Int))
+unfolding step specifiers_step
+int_step least scope fs q l = refl
+
 -- where nothing is open
 expr_whole : (least : ℕ) (scope : Blocks) (e : t.ExprTree) (l : Pos) → step least scope [] (have_expr e) (token kinds.End l) ≡ stop (done_expr e)
 unfolding step close
@@ -163,9 +178,9 @@ listing_whole least scope q l = refl
 
 nothing_open : (top : Place) (l : Pos) (least : ℕ) → All top l least []
 nothing_open top l least = record {
-  expr = λ scope e h. record { completes = record { more = []; tree = done_expr e; behind = scope; sort = h; are = ap (then_run least scope (token kinds.End l) []) (expr_whole least scope e l) }; begins = tt };
-  declared = λ scope d h. record { completes = record { more = []; tree = done_declarator d; behind = scope; sort = h; are = ap (then_run least scope (token kinds.End l) []) (declarator_whole least scope d l) }; begins = tt };
-  listed = λ scope q h. record { more = []; tree = done_specifiers (ended q l); behind = scope; sort = h; are = ap (then_run least scope (token kinds.End l) []) (listing_whole least scope q l) };
+  expr = λ scope e h. record { completes = record { more = []; tree = done_expr e; behind = scope; sort = h; some = tt; are = ap (then_run least scope (token kinds.End l) []) (expr_whole least scope e l) }; begins = tt };
+  declared = λ scope d h. record { completes = record { more = []; tree = done_declarator d; behind = scope; sort = h; some = tt; are = ap (then_run least scope (token kinds.End l) []) (declarator_whole least scope d l) }; begins = tt };
+  listed = λ scope q h. record { more = int_token l ∷ []; tree = done_specifiers (ended (with_word q l words.Int) l); behind = scope; sort = h; some = omega arith; are = ap (then_run least scope (int_token l) (token kinds.End l ∷ [])) (int_step least scope [] q l) ∙ ap (then_run least scope (token kinds.End l) []) (listing_whole least scope (with_word q l words.Int) l) };
 }
 
 -- the brace behind members
@@ -267,14 +282,7 @@ declarator_closes top l least (in_param part q) fs all scope d h = closed_by top
 declarator_closes top l least (in_member part k) fs all scope d h = members_close top l least fs all scope (have_declarator d) (in_member part k ∷ fs) (with_member part k (t.a_declarator d) t.no_expr) (member_close least scope part k d fs l) h.2
 declarator_closes top l least f fs all scope d h = absurd h.0
 
--- specifiers in each construct: one more type specifier, and an end
-abbrev pub int_token : Pos → Token
-int_token l = token (kinds.Keyword keywords.Int) l
-
-pub int_step : (least : ℕ) (scope : Blocks) (fs : List Frame) (q : Listing) (l : Pos) → step least scope fs (specifiers q) (int_token l) ≡ goes fs (specifiers (with_word q l words.Int))
-unfolding step specifiers_step
-int_step least scope fs q l = refl
-
+-- specifiers in each construct, and an end
 type_ends : (least : ℕ) (scope : Blocks) (k : Pos) (purpose : TypeUse) (q : Listing) (fs : List Frame) (l : Pos) → step least scope (in_type k purpose ∷ fs) (specifiers (with_word q l words.Int)) (token (kinds.Punct puncts.CloseParen) l) ≡ with_type k purpose (t.type_name (ended (with_word q l words.Int) l).tree (t.nameless l)) fs
 unfolding step specifiers_step end_specifiers end_listed declarator_step without_name declarator_end close_declarator
 type_ends least scope k purpose q fs l = refl

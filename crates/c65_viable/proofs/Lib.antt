@@ -4,3 +4,4 @@ pub mod Completing
 pub mod Stopping
 pub mod Whole
 pub mod Scopes
+pub mod Types

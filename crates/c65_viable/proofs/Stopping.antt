@@ -20,6 +20,7 @@ use Rattle.c65_faultlaw.proofs.Local.{fault_of}
 use Rattle.c65_faultlaw.proofs.Ends.{NoGo, end_stops}
 use Rattle.c65_viable.specs.Viable.{FewTypes}
 use Rattle.c65_viable.proofs.Places.{Place, Same, Stands, Keeps, place_of, step_keeps}
+use Rattle.c65_viable.proofs.Closings.{Some}
 use Rattle.c65_viable.proofs.Completing.{complete}
 
 -- blocks have few types still
@@ -48,15 +49,48 @@ pub record Stopped (top : Place) (l : Pos) (least : ℕ) (scope : Blocks) (fs : 
   pub tree : Done
   pub behind : Blocks
   pub sort : Same top (place_of tree)
+  pub some : Some tree
+  pub are : run least scope fs held (before ++ (more ++ token kinds.End l ∷ [])) ≡ Ok (tree, token kinds.End l ∷ [], behind)
+
+-- the tokens of a tree that has ended, and others with which they are one before an end
+pub record Rested (top : Place) (l : Pos) (least : ℕ) (scope : Blocks) (fs : List Frame) (held : Held) (ts : List Token) (done : Done) (rest : List Token) (later : Blocks) : Type 0 where
+  pub before : List Token
+  pub next : Token
+  pub others : List Token
+  pub tokens_are : ts ≡ before ++ next ∷ others
+  pub rest_is : rest ≡ next ∷ others
+  pub kind : Same top (place_of done)
+  pub few : FewTypes later
+  pub again : (more : List Token) → run least scope fs held (before ++ next ∷ more) ≡ Ok (done, next ∷ more, later)
+  pub more : List Token
+  pub tree : Done
+  pub behind : Blocks
+  pub sort : Same top (place_of tree)
+  pub some : Some tree
   pub are : run least scope fs held (before ++ (more ++ token kinds.End l ∷ [])) ≡ Ok (tree, token kinds.End l ∷ [], behind)
 
 abbrev pub Outcome : Place → Pos → ℕ → Blocks → List Frame → Held → List Token → Reading → Type 0
-Outcome top l least scope fs held ts (Ok (tree, rest, behind)) = Same top (place_of tree)
+Outcome top l least scope fs held ts (Ok (tree, rest, behind)) = Rested top l least scope fs held ts tree rest behind
 Outcome top l least scope fs held ts (Err e) = Stopped top l least scope fs held ts e
 
 -- a token before
 stepped : (top : Place) (l : Pos) (least : ℕ) (scope : Blocks) (fs gs : List Frame) (held next : Held) (change : Change) (tok : Token) (ts : List Token) (r : Reading) → step least scope fs held tok ≡ go gs next change → Outcome top l least (changed change scope) gs next ts r → Outcome top l least scope fs held (tok ∷ ts) r
-stepped top l least scope fs gs held next change tok ts (Ok (tree, rest, behind)) e h = h
+stepped top l least scope fs gs held next change tok ts (Ok (tree, rest, behind)) e h = record {
+  before = tok ∷ h.before;
+  next = h.next;
+  others = h.others;
+  tokens_are = ap (λ xs. tok ∷ xs) h.tokens_are;
+  rest_is = h.rest_is;
+  kind = h.kind;
+  few = h.few;
+  again = λ more. ap (then_run least scope tok (h.before ++ h.next ∷ more)) e ∙ h.again more;
+  more = h.more;
+  tree = h.tree;
+  behind = h.behind;
+  sort = h.sort;
+  some = h.some;
+  are = ap (then_run least scope tok (h.before ++ (h.more ++ token kinds.End l ∷ []))) e ∙ h.are;
+}
 stepped top l least scope fs gs held next change tok ts (Err x) e h = record {
   before = tok ∷ h.before;
   next = h.next;
@@ -68,6 +102,7 @@ stepped top l least scope fs gs held next change tok ts (Err x) e h = record {
   tree = h.tree;
   behind = h.behind;
   sort = h.sort;
+  some = h.some;
   are = ap (then_run least scope tok (h.before ++ (h.more ++ token kinds.End l ∷ []))) e ∙ h.are;
 }
 
@@ -79,9 +114,9 @@ step_outcome : (top : Place) (l : Pos) (least : ℕ) (scope : Blocks) (fs : List
     → ((gs : List Frame) (next : Held) (change : Change) → Stands top gs next → EndsIn ts → Outcome top l least (changed change scope) gs next ts (run least (changed change scope) gs next ts))
     → Outcome top l least scope fs held (tok ∷ ts) (then_run least scope tok ts n)
 step_outcome top l least scope fs held tok ts (go gs next change) e k few h ends f = stepped top l least scope fs gs held next change tok ts (run least (changed change scope) gs next ts) e (f gs next change k (more_left least scope fs gs held next change tok ts ends e))
-step_outcome top l least scope fs held tok ts (stop d) e k few h ends f = k
-step_outcome top l least scope fs held tok ts deep e k few h ends f = let c = complete top l least scope fs held few h in record { before = []; next = tok; others = ts; tokens_are = refl; fault_is = inr refl; again = λ more. ap (then_run least scope tok more) e; more = c.more; tree = c.tree; behind = c.behind; sort = c.sort; are = c.are }
-step_outcome top l least scope fs held tok ts fail e k few h ends f = let c = complete top l least scope fs held few h in record { before = []; next = tok; others = ts; tokens_are = refl; fault_is = fault_of tok; again = λ more. ap (then_run least scope tok more) e; more = c.more; tree = c.tree; behind = c.behind; sort = c.sort; are = c.are }
+step_outcome top l least scope fs held tok ts (stop d) e k few h ends f = let c = complete top l least scope fs held few h in record { before = []; next = tok; others = ts; tokens_are = refl; rest_is = refl; kind = k; few = few; again = λ more. ap (then_run least scope tok more) e; more = c.more; tree = c.tree; behind = c.behind; sort = c.sort; some = c.some; are = c.are }
+step_outcome top l least scope fs held tok ts deep e k few h ends f = let c = complete top l least scope fs held few h in record { before = []; next = tok; others = ts; tokens_are = refl; fault_is = inr refl; again = λ more. ap (then_run least scope tok more) e; more = c.more; tree = c.tree; behind = c.behind; sort = c.sort; some = c.some; are = c.are }
+step_outcome top l least scope fs held tok ts fail e k few h ends f = let c = complete top l least scope fs held few h in record { before = []; next = tok; others = ts; tokens_are = refl; fault_is = fault_of tok; again = λ more. ap (then_run least scope tok more) e; more = c.more; tree = c.tree; behind = c.behind; sort = c.sort; some = c.some; are = c.are }
 
 pub outcome : (top : Place) (l : Pos) (least : ℕ) (ts : List Token) (scope : Blocks) (fs : List Frame) (held : Held) → FewTypes scope → Stands top fs held → EndsIn ts → Outcome top l least scope fs held ts (run least scope fs held ts)
 outcome top l least [] scope fs held few h ends = absurd ends

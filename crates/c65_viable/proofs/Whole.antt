@@ -43,22 +43,22 @@ last_behind (y ∷ []) x = refl
 last_behind (y ∷ z ∷ xs) x = ap (λ ts. y ∷ ts) (last_behind (z ∷ xs) x)
 
 -- what stands before the same last token
-same_front : (xs ys front others : List Token) (x next : Token) → xs ++ (ys ++ x ∷ []) ≡ front ++ next ∷ others → x ∷ [] ≡ next ∷ others → front ≡ xs ++ ys
+pub same_front : (xs ys front others : List Token) (x next : Token) → xs ++ (ys ++ x ∷ []) ≡ front ++ next ∷ others → x ∷ [] ≡ next ∷ others → front ≡ xs ++ ys
 same_front xs ys front others x next are rest = sym (last_behind front x) ∙ (ap but_last (ap (λ ts. front ++ ts) rest ∙ (sym are ∙ sym (append_assoc xs ys (x ∷ [])))) ∙ last_behind (xs ++ ys) x)
 
-abbrev head_or : Token → List Token → Token
+abbrev pub head_or : Token → List Token → Token
 head_or d [] = d
 head_or d (x ∷ xs) = x
 
-err_not : {A : Type 0} (a : A) (e : Fault) → Ok a ≡ Err e → ⊥
+pub err_not : {A : Type 0} (a : A) (e : Fault) → Ok a ≡ Err e → ⊥
 err_not a e h = cc
 
-abbrev err_or : {B : Type 0} → Fault → Result B Fault → Fault
+abbrev pub err_or : {B : Type 0} → Fault → Result B Fault → Fault
 err_or d (Ok b) = d
 err_or d (Err e) = e
 
 -- the tokens before an end that were read as a tree
-continues : {Tree : Type 0} (phrase : Pos → Tree → Phrase) (behind : Tree → Scope) (outer : Blocks) (depth : Tree → ℕ) (l : Pos) (before more : List Token) (tree : Tree) (later : Blocks)
+pub continues : {Tree : Type 0} (phrase : Pos → Tree → Phrase) (behind : Tree → Scope) (outer : Blocks) (depth : Tree → ℕ) (l : Pos) (before more : List Token) (tree : Tree) (later : Blocks)
     → IsRead phrase behind outer (before ++ (more ++ token kinds.End l ∷ [])) tree (token kinds.End l ∷ []) later → depth tree ≤ 256 → Continues (phrase l) depth 256 before
 continues phrase behind outer depth l before more tree later h within =
     let last : Token = token kinds.End l in
@@ -67,7 +67,7 @@ continues phrase behind outer depth l before more tree later h within =
     record { tree = tree; more = more; derives = subst (λ p. phrase p tree (before ++ more)) place (subst (phrase h.next.pos tree) front h.derives); within = within }
 
 -- where each tree has a token behind it with which it is read
-none : {A Tree : Type 0} (read : List Token → Result A Fault) (phrase : Tree → Phrase) (depth : Tree → ℕ) (fault : Fault) (before : List Token) (next : Token) → ((more : List Token) → read (before ++ next ∷ more) ≡ Err fault)
+pub none : {A Tree : Type 0} (read : List Token → Result A Fault) (phrase : Tree → Phrase) (depth : Tree → ℕ) (fault : Fault) (before : List Token) (next : Token) → ((more : List Token) → read (before ++ next ∷ more) ≡ Err fault)
     → ((ts : List Token) (tree : Tree) → phrase tree ts → depth tree ≤ 256 → (behind : List Token) × (a : A) × (read (ts ++ behind) ≡ Ok a)) → Continues phrase depth 256 (before ++ next ∷ []) → ⊥
 none read phrase depth fault before next again takes k =
     let it = takes ((before ++ next ∷ []) ++ k.more) k.tree k.derives k.within in
@@ -76,8 +76,8 @@ none read phrase depth fault before next again takes k =
 -- expressions
 expr_stopped : (least : ℕ) (scope : Blocks) (l : Pos) (ts : List Token) (fault : Fault) (r : Reading) → Outcome of_expr l least scope [] operand ts r → (r >>= as_expr) ≡ Err fault → Stopped of_expr l least scope [] operand ts fault
 expr_stopped least scope l ts fault (Ok (done_expr e, rest, behind)) h k = absurd (err_not (e, rest, behind) fault k)
-expr_stopped least scope l ts fault (Ok (done_specifiers q, rest, behind)) h k = absurd h
-expr_stopped least scope l ts fault (Ok (done_declarator d, rest, behind)) h k = absurd h
+expr_stopped least scope l ts fault (Ok (done_specifiers q, rest, behind)) h k = absurd h.kind
+expr_stopped least scope l ts fault (Ok (done_declarator d, rest, behind)) h k = absurd h.kind
 expr_stopped least scope l ts fault (Err e) h k = subst (Stopped of_expr l least scope [] operand ts) (ap (err_or e) k) h
 
 an_expr : (d : Done) → Same of_expr (place_of d) → (e : t.ExprTree) × (d ≡ done_expr e)
@@ -108,12 +108,12 @@ abbrev tree_alone : Listed × List Token × Blocks → Answer t.SpecifiersTree
 tree_alone q = Ok (q.0.tree, q.1, q.2)
 
 specifiers_stopped : (scope : Blocks) (l : Pos) (ts : List Token) (fault : Fault) (r : Reading) → Outcome of_specifiers l 0 scope [] (specifiers (nothing_listed true)) ts r → ((r >>= as_specifiers) >>= tree_alone) ≡ Err fault → Stopped of_specifiers l 0 scope [] (specifiers (nothing_listed true)) ts fault
-specifiers_stopped scope l ts fault (Ok (done_expr e, rest, behind)) h k = absurd h
+specifiers_stopped scope l ts fault (Ok (done_expr e, rest, behind)) h k = absurd h.kind
 specifiers_stopped scope l ts fault (Ok (done_specifiers q, rest, behind)) h k = absurd (err_not (q.tree, rest, behind) fault k)
-specifiers_stopped scope l ts fault (Ok (done_declarator d, rest, behind)) h k = absurd h
+specifiers_stopped scope l ts fault (Ok (done_declarator d, rest, behind)) h k = absurd h.kind
 specifiers_stopped scope l ts fault (Err e) h k = subst (Stopped of_specifiers l 0 scope [] (specifiers (nothing_listed true)) ts) (ap (err_or e) k) h
 
-some_specifiers : (d : Done) → Same of_specifiers (place_of d) → (q : Listed) × (d ≡ done_specifiers q)
+pub some_specifiers : (d : Done) → Same of_specifiers (place_of d) → (q : Listed) × (d ≡ done_specifiers q)
 some_specifiers (done_expr e) h = absurd h
 some_specifiers (done_specifiers q) h = (q, refl)
 some_specifiers (done_declarator d) h = absurd h
@@ -137,13 +137,13 @@ specifiers_stop sc outer l tokens fault few ends e =
     }
 
 -- declarators
-declarator_stopped : (sort : Sort) (scope : Blocks) (l : Pos) (ts : List Token) (fault : Fault) (r : Reading) → Outcome of_declarator l 0 scope [] (declarator sort) ts r → (r >>= as_declarator) ≡ Err fault → Stopped of_declarator l 0 scope [] (declarator sort) ts fault
-declarator_stopped sort scope l ts fault (Ok (done_expr e, rest, behind)) h k = absurd h
-declarator_stopped sort scope l ts fault (Ok (done_specifiers q, rest, behind)) h k = absurd h
+pub declarator_stopped : (sort : Sort) (scope : Blocks) (l : Pos) (ts : List Token) (fault : Fault) (r : Reading) → Outcome of_declarator l 0 scope [] (declarator sort) ts r → (r >>= as_declarator) ≡ Err fault → Stopped of_declarator l 0 scope [] (declarator sort) ts fault
+declarator_stopped sort scope l ts fault (Ok (done_expr e, rest, behind)) h k = absurd h.kind
+declarator_stopped sort scope l ts fault (Ok (done_specifiers q, rest, behind)) h k = absurd h.kind
 declarator_stopped sort scope l ts fault (Ok (done_declarator d, rest, behind)) h k = absurd (err_not (d, rest, behind) fault k)
 declarator_stopped sort scope l ts fault (Err e) h k = subst (Stopped of_declarator l 0 scope [] (declarator sort) ts) (ap (err_or e) k) h
 
-a_declarator : (d : Done) → Same of_declarator (place_of d) → (e : t.DeclaratorTree) × (d ≡ done_declarator e)
+pub a_declarator : (d : Done) → Same of_declarator (place_of d) → (e : t.DeclaratorTree) × (d ≡ done_declarator e)
 a_declarator (done_expr e) h = absurd h
 a_declarator (done_specifiers q) h = absurd h
 a_declarator (done_declarator d) h = (d, refl)

@@ -5,7 +5,7 @@ use Rattle.c65_base.specs.declared.refusal.Pos.{Pos}
 use Rattle.c65_base.specs.declared.refusal.Refusal.{Refusal}
 use Rattle.c65_base.specs.declared.refusal.Refusal.TheVariants as refusals
 use Rattle.c65_scan.specs.declared.token.Token.{Token}
-use Rattle.c65_tree.specs.Depth.{expr_depth, specifiers_depth, declarator_depth}
+use Rattle.c65_tree.specs.Depth.{expr_depth, specifiers_depth, declarator_depth, type_depth}
 use Rattle.c65_parse.specs.declared.state.Parser.{Parser}
 use Rattle.c65_parse.specs.Reading.{rest_of, blocks_of}
 use Rattle.c65_grammar.specs.Phrases.{Phrase, given}
@@ -33,3 +33,7 @@ StopsSpecifiers before result = (l : Pos) → Stops (head_specifiers (innermost 
 -- a declarator with a name; the flag says that a type specifier stands before it
 abbrev pub StopsDeclarator : {X : Type 0} → Bool → Parser → Result X Refusal → Type 0
 StopsDeclarator typed before result = (l : Pos) → Stops (g.declarator (g.named typed) (innermost (blocks_of before)) l) declarator_depth (rest_of before) result
+
+-- a type name
+abbrev pub StopsType : {X : Type 0} → Parser → Result X Refusal → Type 0
+StopsType before result = (l : Pos) → Stops (g.type_name (innermost (blocks_of before)) l) type_depth (rest_of before) result

@@ -4,10 +4,10 @@ use Rattle.c65_base.specs.Answers.{Fault}
 use Rattle.c65_base.specs.declared.names.Name.{Name}
 use Rattle.c65_base.specs.declared.refusal.Pos.{Pos}
 use Rattle.c65_scan.specs.declared.token.Token.{Token}
-use Rattle.c65_tree.specs.Depth.{expr_depth, specifiers_depth, declarator_depth}
+use Rattle.c65_tree.specs.Depth.{expr_depth, specifiers_depth, declarator_depth, type_depth}
 use Rattle.c65_scopes.specs.Scopes.{Blocks}
 use Rattle.c65_parse.specs.declared.frame.Sort.{Sort}
-use Rattle.c65_parse.specs.Reading.{expr_read, specifiers_read, declarator_read}
+use Rattle.c65_parse.specs.Reading.{expr_read, specifiers_read, declarator_read, type_read}
 use Rattle.c65_grammar.specs.Phrases.{Phrase, given}
 use Rattle.c65_grammar.specs.Parts.{level}
 use Rattle.c65_grammar.specs.Scopes.{Scope}
@@ -48,3 +48,8 @@ SpecifiersStop = (sc : Scope) (outer : Blocks) (l : Pos) (tokens : List Token) (
 abbrev pub DeclaratorsStop : Type 0
 DeclaratorsStop = (sort : Sort) (sc : Scope) (outer : Blocks) (l : Pos) (tokens : List Token) (fault : Fault) → FewTypes (sc ∷ outer) → EndsOnce tokens → declarator_read sort (sc ∷ outer) tokens ≡ Err fault
     → StopsAt (g.declarator (sort_of sort) sc l) declarator_depth tokens fault
+
+-- C90 6.5.5
+abbrev pub TypesStop : Type 0
+TypesStop = (sc : Scope) (outer : Blocks) (l : Pos) (tokens : List Token) (fault : Fault) → FewTypes (sc ∷ outer) → EndsOnce tokens → type_read (sc ∷ outer) tokens ≡ Err fault
+    → StopsAt (g.type_name sc l) type_depth tokens fault

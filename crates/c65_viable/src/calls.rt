@@ -2,14 +2,14 @@
 ghost use Rattle.std.specs.Prelude.{true, false};
 ghost use Rattle.c65_parse.specs.Reading.{rest_of};
 ghost use Rattle.c65_derived.specs.Units.{EndsOnce};
-ghost use Rattle.c65_viable.specs.Calls.{StopsExpr, StopsSpecifiers, StopsDeclarator};
+ghost use Rattle.c65_viable.specs.Calls.{StopsExpr, StopsSpecifiers, StopsDeclarator, StopsType};
 
 use c65_base::Refusal;
 use c65_parse::{
     Parser, parse_assignment, parse_constant, parse_declarator, parse_expr, parse_specifiers,
-    parse_untyped_declarator,
+    parse_type_name, parse_untyped_declarator,
 };
-use c65_tree::{Declarator, Expr, Specifiers};
+use c65_tree::{Declarator, Expr, Specifiers, TypeName};
 
 /// The expression that stands here (C90 6.3.17).
 pub fn stop_expression(parser: &mut Parser) -> Result<Expr, Refusal>
@@ -57,4 +57,12 @@ pub fn stop_untyped_declarator(parser: &mut Parser) -> Result<Declarator, Refusa
     ensures { StopsDeclarator false parser.old result }
 {
     parse_untyped_declarator(parser)
+}
+
+/// The type name that stands here before its parenthesis (C90 6.5.5).
+pub fn stop_type_name(parser: &mut Parser) -> Result<TypeName, Refusal>
+    requires { EndsOnce (rest_of parser.old) }
+    ensures { StopsType parser.old result }
+{
+    parse_type_name(parser)
 }

@@ -1,5 +1,5 @@
 // That a fault stands at the first token with which no tree within the limit of depth goes on.
-ghost use Rattle.c65_viable.specs.Viable.{ExprsStop, SpecifiersStop, DeclaratorsStop};
+ghost use Rattle.c65_viable.specs.Viable.{ExprsStop, SpecifiersStop, DeclaratorsStop, TypesStop};
 
 /// An expression (C90 6.3), an assignment expression or a constant expression.
 pub fn expressions_stop()
@@ -14,4 +14,9 @@ pub fn specifiers_stop()
 /// A declarator (C90 6.5.4) of any sort.
 pub fn declarators_stop()
     ensures { DeclaratorsStop }
+{}
+
+/// A type name (C90 6.5.5).
+pub fn types_stop()
+    ensures { TypesStop }
 {}
