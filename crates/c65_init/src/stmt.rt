@@ -5,6 +5,7 @@ ghost use Rattle.c65_ctype.specs.Trees.{type_in};
 ghost use Rattle.c65_ctype.specs.Views.{qty_of};
 ghost use Rattle.c65_csem.specs.Views.{typed_of, stmt_of};
 ghost use Rattle.c65_scope.specs.Scopes.{scope_of};
+ghost use Rattle.c65_tree.specs.Trees as t;
 ghost use Rattle.c65_tree.specs.Trees.{no_stmts};
 ghost use Rattle.c65_tree.specs.View as v;
 ghost use Rattle.c65_init.specs.Bodies.{body_of};
@@ -16,7 +17,7 @@ use crate::body::{
 };
 use crate::declare::block_locals;
 use crate::values::{folded, given, maybe_test, maybe_unused, test, unused};
-use c65_base::{Pos, Refusal};
+use c65_base::{Name, Pos, Refusal};
 use c65_convert::switch_value;
 use c65_csem::{TExpr, TStmt};
 use c65_ctype::CType;
@@ -99,21 +100,9 @@ pub fn statement(
 {
     let pos = stmt.pos;
     match &stmt.kind {
-        StmtKind::Label(name, inner) => {
-            let number = label_number(body, *name, pos)?;
-            let inner = statement(alloc, scope, body, inner)?;
-            Ok(TStmt::Label(number, Box::new(alloc, inner)?))
-        }
-        StmtKind::Case(e, inner) => {
-            let known = case_label(alloc, scope, body, e, pos)?;
-            let inner = statement(alloc, scope, body, inner)?;
-            Ok(TStmt::Case(known, Box::new(alloc, inner)?))
-        }
-        StmtKind::Default(inner) => {
-            default_label(body, pos)?;
-            let inner = statement(alloc, scope, body, inner)?;
-            Ok(TStmt::Default(Box::new(alloc, inner)?))
-        }
+        StmtKind::Label(name, inner) => labelled(alloc, scope, body, inner, *name, pos),
+        StmtKind::Case(e, inner) => case(alloc, scope, body, inner, e, pos),
+        StmtKind::Default(inner) => default(alloc, scope, body, inner, pos),
         StmtKind::Block(decls, stmts) => {
             scope.open()?;
             let made = block(alloc, scope, body, stmts, decls)?;
@@ -139,34 +128,11 @@ pub fn statement(
                 }
             }
         }
-        StmtKind::Switch(e, inner) => {
-            let e = switched_on(alloc, scope, e, pos)?;
-            open_switch(alloc, body, kind_of(&e))?;
-            let inner = statement(alloc, scope, body, inner)?;
-            close_switch(body);
-            Ok(TStmt::Switch(e, Box::new(alloc, inner)?))
-        }
-        StmtKind::While(e, inner) => {
-            let e = test(alloc, scope, e, pos)?;
-            open_loop(body);
-            let inner = statement(alloc, scope, body, inner)?;
-            close_loop(body);
-            Ok(TStmt::While(e, Box::new(alloc, inner)?))
-        }
-        StmtKind::DoWhile(inner, e) => {
-            open_loop(body);
-            let inner = statement(alloc, scope, body, inner)?;
-            close_loop(body);
-            let e = test(alloc, scope, e, pos)?;
-            Ok(TStmt::DoWhile(Box::new(alloc, inner)?, e))
-        }
+        StmtKind::Switch(e, inner) => switch(alloc, scope, body, inner, e, pos),
+        StmtKind::While(e, inner) => while_loop(alloc, scope, body, inner, e, pos),
+        StmtKind::DoWhile(inner, e) => do_loop(alloc, scope, body, inner, e, pos),
         StmtKind::For(first, until, next, inner) => {
-            let head = for_head(alloc, scope, first, until, next, pos)?;
-            open_loop(body);
-            let inner = statement(alloc, scope, body, inner)?;
-            close_loop(body);
-            let Head { first, until, next } = head;
-            Ok(TStmt::For(first, until, next, Box::new(alloc, inner)?))
+            for_loop(alloc, scope, body, inner, first, until, next, pos)
         }
         StmtKind::Goto(name) => Ok(TStmt::Goto(named_label(body, *name, pos)?)),
         StmtKind::Continue => {
@@ -179,6 +145,135 @@ pub fn statement(
         }
         StmtKind::Return(e) => Ok(TStmt::Return(given(alloc, scope, &body.gives.ty, e, pos)?)),
     }
+}
+
+/// A statement with a label.
+#[cycle(statement)]
+fn labelled(
+    alloc: Global,
+    scope: &mut Scope,
+    body: &mut Body,
+    stmt: &Stmt,
+    name: Name,
+    pos: Pos,
+) -> Result<TStmt, Refusal>
+    ensures { Gives (λ x. ((stmt_of x, body_of body.new), scope_of scope.new)) result (statement_of (t.label pos name (v.stmt_of stmt.now)) (body_of body.old) (scope_of scope.old)) }
+{
+    let number = label_number(body, name, pos)?;
+    let inner = statement(alloc, scope, body, stmt)?;
+    Ok(TStmt::Label(number, Box::new(alloc, inner)?))
+}
+
+/// A statement with a case label.
+#[cycle(statement)]
+fn case(
+    alloc: Global,
+    scope: &mut Scope,
+    body: &mut Body,
+    stmt: &Stmt,
+    e: &Expr,
+    pos: Pos,
+) -> Result<TStmt, Refusal>
+    ensures { Gives (λ x. ((stmt_of x, body_of body.new), scope_of scope.new)) result (statement_of (t.case pos (v.expr_of e.now) (v.stmt_of stmt.now)) (body_of body.old) (scope_of scope.old)) }
+{
+    let known = case_label(alloc, scope, body, e, pos)?;
+    let inner = statement(alloc, scope, body, stmt)?;
+    Ok(TStmt::Case(known, Box::new(alloc, inner)?))
+}
+
+/// A statement with a default label.
+#[cycle(statement)]
+fn default(
+    alloc: Global,
+    scope: &mut Scope,
+    body: &mut Body,
+    stmt: &Stmt,
+    pos: Pos,
+) -> Result<TStmt, Refusal>
+    ensures { Gives (λ x. ((stmt_of x, body_of body.new), scope_of scope.new)) result (statement_of (t.default pos (v.stmt_of stmt.now)) (body_of body.old) (scope_of scope.old)) }
+{
+    default_label(body, pos)?;
+    let inner = statement(alloc, scope, body, stmt)?;
+    Ok(TStmt::Default(Box::new(alloc, inner)?))
+}
+
+/// A switch.
+#[cycle(statement)]
+fn switch(
+    alloc: Global,
+    scope: &mut Scope,
+    body: &mut Body,
+    stmt: &Stmt,
+    e: &Expr,
+    pos: Pos,
+) -> Result<TStmt, Refusal>
+    ensures { Gives (λ x. ((stmt_of x, body_of body.new), scope_of scope.new)) result (statement_of (t.switch pos (v.expr_of e.now) (v.stmt_of stmt.now)) (body_of body.old) (scope_of scope.old)) }
+{
+    let e = switched_on(alloc, scope, e, pos)?;
+    open_switch(alloc, body, kind_of(&e))?;
+    let inner = statement(alloc, scope, body, stmt)?;
+    close_switch(body);
+    Ok(TStmt::Switch(e, Box::new(alloc, inner)?))
+}
+
+/// A loop that tests first.
+#[cycle(statement)]
+fn while_loop(
+    alloc: Global,
+    scope: &mut Scope,
+    body: &mut Body,
+    stmt: &Stmt,
+    e: &Expr,
+    pos: Pos,
+) -> Result<TStmt, Refusal>
+    ensures { Gives (λ x. ((stmt_of x, body_of body.new), scope_of scope.new)) result (statement_of (t.while pos (v.expr_of e.now) (v.stmt_of stmt.now)) (body_of body.old) (scope_of scope.old)) }
+{
+    let e = test(alloc, scope, e, pos)?;
+    open_loop(body);
+    let inner = statement(alloc, scope, body, stmt)?;
+    close_loop(body);
+    Ok(TStmt::While(e, Box::new(alloc, inner)?))
+}
+
+/// A loop that tests last.
+#[cycle(statement)]
+fn do_loop(
+    alloc: Global,
+    scope: &mut Scope,
+    body: &mut Body,
+    stmt: &Stmt,
+    e: &Expr,
+    pos: Pos,
+) -> Result<TStmt, Refusal>
+    ensures { Gives (λ x. ((stmt_of x, body_of body.new), scope_of scope.new)) result (statement_of (t.do_while pos (v.stmt_of stmt.now) (v.expr_of e.now)) (body_of body.old) (scope_of scope.old)) }
+{
+    open_loop(body);
+    let inner = statement(alloc, scope, body, stmt)?;
+    close_loop(body);
+    let e = test(alloc, scope, e, pos)?;
+    Ok(TStmt::DoWhile(Box::new(alloc, inner)?, e))
+}
+
+/// A loop with a head of three parts.
+#[cycle(statement)]
+fn for_loop(
+    alloc: Global,
+    scope: &mut Scope,
+    body: &mut Body,
+    stmt: &Stmt,
+    first: &Option<Expr>,
+    until: &Option<Expr>,
+    next: &Option<Expr>,
+    pos: Pos,
+) -> Result<TStmt, Refusal>
+    ensures { Gives (λ x. ((stmt_of x, body_of body.new), scope_of scope.new)) result (statement_of (t.for pos (v.maybe v.expr_of first.now) (v.maybe v.expr_of until.now) (v.maybe v.expr_of next.now) (v.stmt_of stmt.now)) (body_of body.old) (scope_of scope.old)) }
+{
+    let head = for_head(alloc, scope, first, until, next, pos)?;
+    open_loop(body);
+    let inner = statement(alloc, scope, body, stmt)?;
+    close_loop(body);
+    let Head { first, until, next } = head;
+    Ok(TStmt::For(first, until, next, Box::new(alloc, inner)?))
 }
 
 /// What stands in a block: declarations, and then statements.
