@@ -1,5 +1,5 @@
 -- The type of an integer constant holds its value.
-use Rattle.std.proofs.Common.{◌≡◌, ℕ, ℤ, pos, ◌≤ℤ◌, Bool, true, false, int_le, find, if◌then◌else◌, List, [], ◌∷◌, Option, Some, None, Result, Ok, Err, refl, arith}
+use Rattle.std.proofs.Common.{◌≡◌, ℕ, pos, ◌≤ℤ◌, Bool, true, false, int_le, find, if◌then◌else◌, List, [], ◌∷◌, Option, Some, None, Result, Ok, Err, refl, arith}
 use Rattle.std.proofs.lemmas.Int.{ints}
 use Rattle.std.proofs.lemmas.Bool.Decides.{nat_tests}
 use Rattle.c65_base.specs.declared.code.Code.{Code}
@@ -9,7 +9,7 @@ use Rattle.c65_ints.specs.declared.types.IntType.TheVariants.{SChar, UChar, Shor
 use Rattle.c65_ints.specs.Ranges.{InRange, least_of, greatest_of}
 use Rattle.c65_scan.specs.declared.number.Base.{Base}
 use Rattle.c65_scan.specs.declared.number.Suffix.{Suffix}
-use Rattle.c65_scan.specs.Numbers.{row_of, type_of, typed, base_of, digits_of, integer_of, is_float, no_integer, number_in, number_of}
+use Rattle.c65_scan.specs.Numbers.{row_of, type_of, typed, base_of, digits_of, integer_of, is_float, no_integer, number_of}
 
 not_below : (t : IntType) (v : ℕ) → least_of t ≤ℤ pos v
 not_below SChar v = omega (arith, ints)

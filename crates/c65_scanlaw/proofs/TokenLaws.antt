@@ -1,5 +1,5 @@
 -- Each scanned token has a value in the range of its type, and so have the trees that are derived from them.
-use Rattle.std.proofs.Common.{◌≡◌, ℕ, zero, suc, ◌<◌, pos, Bool, true, false, nat_le, if◌then◌else◌, List, [], ◌∷◌, ◌++◌, map, length, slice_get, unwrap_or, Option, Some, None, Result, Ok, Err, refl, subst, arith}
+use Rattle.std.proofs.Common.{◌≡◌, ℕ, zero, suc, ◌<◌, pos, Bool, true, false, nat_le, if◌then◌else◌, List, [], ◌∷◌, ◌++◌, map, length, slice_get, unwrap_or, Option, Some, None, Result, Ok, Err, subst, arith}
 use Rattle.std.proofs.lemmas.Int.{ints}
 use Rattle.c65_base.specs.declared.code.Code.{Code}
 use Rattle.c65_base.specs.declared.code.Code.TheVariants.{Wide}
