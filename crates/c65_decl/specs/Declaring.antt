@@ -1,5 +1,5 @@
 -- What declarators and parameters declare (C90 6.1.2.1).
-use Rattle.std.specs.Prelude.{List, [], ◌∷◌, Bool, false, Option, Some, None, Ok}
+use Rattle.std.specs.Prelude.{ℕ, List, [], ◌∷◌, Bool, false, Option, Some, None, Ok}
 use Rattle.c65_base.specs.Answers.{◌>>=◌}
 use Rattle.c65_base.specs.declared.names.Name.{Name}
 use Rattle.c65_scan.specs.declared.token.Token.{Token}
@@ -21,9 +21,9 @@ declared_maybe None is_type scope = scope
 declared_maybe (Some n) is_type scope = with_declared n is_type scope
 
 -- a declarator, and its name declared behind it
-abbrev pub named_read : Naming → Blocks → List Token → Answer t.DeclaratorTree
-named_read naming scope ts = do
-  d ← declarator_read (Named naming.has_type) scope ts
+abbrev pub named_read : (limit : ℕ) → Naming → Blocks → List Token → Answer t.DeclaratorTree
+named_read limit naming scope ts = do
+  d ← declarator_read limit (Named naming.has_type) scope ts
   Ok (d.0, d.1, declared_maybe (declared_name d.0) naming.makes_types d.2)
 
 -- names that are no types, one after another

@@ -1,5 +1,5 @@
 -- Declarations (C90 6.5): the tree, the tokens behind it and the scope there.
-use Rattle.std.specs.Prelude.{List, [], ◌∷◌, ◌++◌, map, Option, Ok, if◌then◌else◌}
+use Rattle.std.specs.Prelude.{ℕ, List, [], ◌∷◌, ◌++◌, map, Option, Ok, if◌then◌else◌}
 use Rattle.c65_base.specs.Answers.{◌>>=◌}
 use Rattle.c65_scan.specs.declared.token.Token.{Token}
 use Rattle.c65_tree.specs.declared.stmt.Decl.{Decl}
@@ -39,61 +39,61 @@ last_declarator ds scope ts = do
   a ← expected marks.Semicolon scope ts
   Ok (all_declared ds, a.0, a.1)
 
-abbrev pub next_declarator : Naming → List InitDeclaratorTree → Blocks → List Token → Answer Progress
-next_declarator naming ds scope ts = do
-  e ← named_read naming scope ts
+abbrev pub next_declarator : (limit : ℕ) → Naming → List InitDeclaratorTree → Blocks → List Token → Answer Progress
+next_declarator limit naming ds scope ts = do
+  e ← named_read limit naming scope ts
   Ok (more_declared ds e.0, e.1, e.2)
 
-abbrev pub behind_declarator : Naming → List InitDeclaratorTree → Blocks → List Token → Answer Progress
-behind_declarator naming ds scope ts = if is_here marks.Comma ts then next_declarator naming ds scope (after_token ts) else last_declarator ds scope ts
+abbrev pub behind_declarator : (limit : ℕ) → Naming → List InitDeclaratorTree → Blocks → List Token → Answer Progress
+behind_declarator limit naming ds scope ts = if is_here marks.Comma ts then next_declarator limit naming ds scope (after_token ts) else last_declarator ds scope ts
 
 -- a declarator's initialiser, if it has one, and the next declarator behind a comma
-abbrev pub declarators_step : List Token → Naming → List InitDeclaratorTree → DeclaratorTree → Blocks → List Token → Answer Progress
-declarators_step unit naming ds e scope ts = do
-  i ← optional_init_read unit scope ts
-  behind_declarator naming (with_declarator ds e i.0) i.2 i.1
+abbrev pub declarators_step : (limit : ℕ) → List Token → Naming → List InitDeclaratorTree → DeclaratorTree → Blocks → List Token → Answer Progress
+declarators_step limit unit naming ds e scope ts = do
+  i ← optional_init_read limit unit scope ts
+  behind_declarator limit naming (with_declarator ds e i.0) i.2 i.1
 
 abbrev pub declarators_next : (List InitDeclaratorTree → DeclaratorTree → Blocks → List Token → Answer (List InitDeclaratorTree)) → Progress × List Token × Blocks → Answer (List InitDeclaratorTree)
 declarators_next go (all_declared ds, ts, scope) = Ok (ds, ts, scope)
 declarators_next go (more_declared ds e, ts, scope) = go ds e scope ts
 
-abbrev pub declarators_run : List Token → Naming → List Token → List InitDeclaratorTree → DeclaratorTree → Blocks → List Token → Answer (List InitDeclaratorTree)
-declarators_run unit naming [] ds e scope ts = unexpected ts
-declarators_run unit naming (u ∷ us) ds e scope ts = declarators_step unit naming ds e scope ts >>= declarators_next (declarators_run unit naming us)
+abbrev pub declarators_run : (limit : ℕ) → List Token → Naming → List Token → List InitDeclaratorTree → DeclaratorTree → Blocks → List Token → Answer (List InitDeclaratorTree)
+declarators_run limit unit naming [] ds e scope ts = unexpected ts
+declarators_run limit unit naming (u ∷ us) ds e scope ts = declarators_step limit unit naming ds e scope ts >>= declarators_next (declarators_run limit unit naming us)
 
-abbrev pub declarators_read : List Token → Naming → DeclaratorTree → Blocks → List Token → Answer (List InitDeclaratorTree)
-declarators_read unit naming first scope ts = declarators_run unit naming unit [] first scope ts
+abbrev pub declarators_read : (limit : ℕ) → List Token → Naming → DeclaratorTree → Blocks → List Token → Answer (List InitDeclaratorTree)
+declarators_read limit unit naming first scope ts = declarators_run limit unit naming unit [] first scope ts
 
 -- with these specifiers and this first declarator
-abbrev pub declaration_from : List Token → SpecifiersTree → DeclaratorTree → Blocks → List Token → Answer DeclTree
-declaration_from unit q first scope ts = do
-  ds ← declarators_read unit (naming_of q) first scope ts
+abbrev pub declaration_from : (limit : ℕ) → List Token → SpecifiersTree → DeclaratorTree → Blocks → List Token → Answer DeclTree
+declaration_from limit unit q first scope ts = do
+  ds ← declarators_read limit unit (naming_of q) first scope ts
   Ok (record { specifiers = q; declarators = ds.0 }, ds.1, ds.2)
 
 -- without declarators, at the semicolon
 abbrev pub empty_declaration : SpecifiersTree → Blocks → List Token → DeclTree × List Token × Blocks
 empty_declaration q scope ts = (record { specifiers = q; declarators = [] }, after_token ts, scope)
 
-abbrev pub declarators_begun : List Token → SpecifiersTree → Blocks → List Token → Answer DeclTree
-declarators_begun unit q scope ts = do
-  e ← named_read (naming_of q) scope ts
-  declaration_from unit q e.0 e.2 e.1
+abbrev pub declarators_begun : (limit : ℕ) → List Token → SpecifiersTree → Blocks → List Token → Answer DeclTree
+declarators_begun limit unit q scope ts = do
+  e ← named_read limit (naming_of q) scope ts
+  declaration_from limit unit q e.0 e.2 e.1
 
-abbrev pub behind_specifiers : List Token → SpecifiersTree → Blocks → List Token → Answer DeclTree
-behind_specifiers unit q scope ts = if is_here marks.Semicolon ts then Ok (empty_declaration q scope ts) else declarators_begun unit q scope ts
+abbrev pub behind_specifiers : (limit : ℕ) → List Token → SpecifiersTree → Blocks → List Token → Answer DeclTree
+behind_specifiers limit unit q scope ts = if is_here marks.Semicolon ts then Ok (empty_declaration q scope ts) else declarators_begun limit unit q scope ts
 
-abbrev pub declaration_read : List Token → Blocks → List Token → Answer DeclTree
-declaration_read unit scope ts = do
-  q ← specifiers_read scope ts
-  behind_specifiers unit q.0 q.2 q.1
+abbrev pub declaration_read : (limit : ℕ) → List Token → Blocks → List Token → Answer DeclTree
+declaration_read limit unit scope ts = do
+  q ← specifiers_read limit scope ts
+  behind_specifiers limit unit q.0 q.2 q.1
 
 abbrev pub with_decl : List DeclTree → DeclTree → List DeclTree
 with_decl ds e = ds ++ e ∷ []
 
 -- declarations as long as specifiers stand here
-abbrev pub declarations_run : List Token → List Token → List DeclTree → Blocks → List Token → Answer (List DeclTree)
-declarations_run unit [] ds scope ts = unexpected ts
-declarations_run unit (u ∷ us) ds scope ts = if begins_specifiers scope ts then (declaration_read unit scope ts >>= λ e. declarations_run unit us (with_decl ds e.0) e.2 e.1) else Ok (ds, ts, scope)
+abbrev pub declarations_run : (limit : ℕ) → List Token → List Token → List DeclTree → Blocks → List Token → Answer (List DeclTree)
+declarations_run limit unit [] ds scope ts = unexpected ts
+declarations_run limit unit (u ∷ us) ds scope ts = if begins_specifiers scope ts then (declaration_read limit unit scope ts >>= λ e. declarations_run limit unit us (with_decl ds e.0) e.2 e.1) else Ok (ds, ts, scope)
 
-abbrev pub declarations_read : List Token → Blocks → List Token → Answer (List DeclTree)
-declarations_read unit scope ts = declarations_run unit unit [] scope ts
+abbrev pub declarations_read : (limit : ℕ) → List Token → Blocks → List Token → Answer (List DeclTree)
+declarations_read limit unit scope ts = declarations_run limit unit unit [] scope ts

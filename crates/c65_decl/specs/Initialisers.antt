@@ -1,23 +1,19 @@
 -- Initialisers (C90 6.5.7), by a stack of the lists that are open.
-use Rattle.std.specs.Prelude.{ℕ, ◌-◌, nat_le, List, [], ◌∷◌, length, Bool, true, false, ◌&&◌, Option, Some, None, Ok, Err, if◌then◌else◌}
+use Rattle.std.specs.Prelude.{ℕ, ◌+◌, ◌-◌, nat_le, List, [], ◌∷◌, length, Bool, true, false, Option, Some, None, Ok, Err, if◌then◌else◌}
 use Rattle.c65_base.specs.Answers.{large, ◌>>=◌}
 use Rattle.c65_base.specs.declared.refusal.Pos.{Pos}
 use Rattle.c65_base.specs.declared.refusal.Size.TheVariants.{Depth}
 use Rattle.c65_scan.specs.declared.token.Token.{Token}
 use Rattle.c65_tree.specs.Trees.{ExprTree, InitTree, value, list}
-use Rattle.c65_tree.specs.Depth.{expr_depth}
 use Rattle.c65_scopes.specs.Scopes.{Blocks}
 use Rattle.c65_parse.specs.Reading.{Answer, after_token, expr_read}
 use Rattle.c65_stmts.specs.declared.sign.Mark.TheVariants as marks
 use Rattle.c65_stmts.specs.Lists.{OpenList, Listed, listed_whole, listed_open, with_initialiser, empty_list}
 use Rattle.c65_decl.specs.Here.{is_here, pos_here, unexpected, expected}
 
-abbrev pub kept_within : ℕ → ExprTree × List Token × Blocks → Answer ExprTree
-kept_within around e = if nat_le around 256 && nat_le (expr_depth e.0) (256 - around) then Ok e else Err (large Depth 257)
-
 -- an assignment expression in so many lists
-abbrev pub element_read : ℕ → Blocks → List Token → Answer ExprTree
-element_read around scope ts = expr_read 1 scope ts >>= kept_within around
+abbrev pub element_read : (limit : ℕ) → ℕ → Blocks → List Token → Answer ExprTree
+element_read limit around scope ts = expr_read (limit - around) 1 scope ts
 
 abbrev pub brace_passed : Blocks → List Token → Answer Bool
 brace_passed scope ts = do
@@ -41,24 +37,24 @@ lists_closed [] i scope ts = Ok (listed_whole i, ts, scope)
 lists_closed (l ∷ ls) i scope ts = list_end scope ts >>= lists_next (lists_closed ls) (with_initialiser l i) ls
 
 -- a list needs an initialiser in it, which is one level deeper
-abbrev pub list_begun : List OpenList → Blocks → List Token → Answer Listed
-list_begun ls scope ts = if nat_le (length ls) 254 then Ok (listed_open (empty_list (pos_here ts) ∷ ls), after_token ts, scope) else Err (large Depth 257)
+abbrev pub list_begun : (limit : ℕ) → List OpenList → Blocks → List Token → Answer Listed
+list_begun limit ls scope ts = if nat_le (length ls + 2) limit then Ok (listed_open (empty_list (pos_here ts) ∷ ls), after_token ts, scope) else Err (large Depth 257)
 
-abbrev pub initialiser_step : List OpenList → Blocks → List Token → Answer Listed
-initialiser_step ls scope ts = if is_here marks.OpenBrace ts then list_begun ls scope ts else (element_read (length ls) scope ts >>= λ e. lists_closed ls (value (pos_here ts) e.0) e.2 e.1)
+abbrev pub initialiser_step : (limit : ℕ) → List OpenList → Blocks → List Token → Answer Listed
+initialiser_step limit ls scope ts = if is_here marks.OpenBrace ts then list_begun limit ls scope ts else (element_read limit (length ls) scope ts >>= λ e. lists_closed ls (value (pos_here ts) e.0) e.2 e.1)
 
 abbrev pub initialiser_next : (List OpenList → Blocks → List Token → Answer InitTree) → Listed × List Token × Blocks → Answer InitTree
 initialiser_next go (listed_whole i, ts, scope) = Ok (i, ts, scope)
 initialiser_next go (listed_open ls, ts, scope) = go ls scope ts
 
 -- one step for each of some tokens
-abbrev pub initialiser_run : List Token → List OpenList → Blocks → List Token → Answer InitTree
-initialiser_run [] ls scope ts = unexpected ts
-initialiser_run (u ∷ us) ls scope ts = initialiser_step ls scope ts >>= initialiser_next (initialiser_run us)
+abbrev pub initialiser_run : (limit : ℕ) → List Token → List OpenList → Blocks → List Token → Answer InitTree
+initialiser_run limit [] ls scope ts = unexpected ts
+initialiser_run limit (u ∷ us) ls scope ts = initialiser_step limit ls scope ts >>= initialiser_next (initialiser_run limit us)
 
 -- a reading has no more steps than the unit has tokens
-abbrev pub initialiser_read : List Token → Blocks → List Token → Answer InitTree
-initialiser_read unit scope ts = initialiser_run unit [] scope ts
+abbrev pub initialiser_read : (limit : ℕ) → List Token → Blocks → List Token → Answer InitTree
+initialiser_read limit unit scope ts = initialiser_run limit unit [] scope ts
 
-abbrev pub optional_init_read : List Token → Blocks → List Token → Answer (Option InitTree)
-optional_init_read unit scope ts = if is_here marks.Equal ts then (initialiser_read unit scope (after_token ts) >>= λ i. Ok (Some i.0, i.1, i.2)) else Ok (None, ts, scope)
+abbrev pub optional_init_read : (limit : ℕ) → List Token → Blocks → List Token → Answer (Option InitTree)
+optional_init_read limit unit scope ts = if is_here marks.Equal ts then (initialiser_read limit unit scope (after_token ts) >>= λ i. Ok (Some i.0, i.1, i.2)) else Ok (None, ts, scope)

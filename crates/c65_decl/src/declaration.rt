@@ -45,7 +45,7 @@ fn step(
     declarators: Vec<InitDeclarator>,
     declarator: Declarator,
 ) -> Result<Declared, Refusal>
-    ensures { Gives (λ r. (declared_of r, rest_of parser.new, blocks_of parser.new)) result (Decls.declarators_step unit.now naming (Decls.declarators_of declarators.items) (declarator_of declarator) (blocks_of parser.old) (rest_of parser.old)) }
+    ensures { Gives (λ r. (declared_of r, rest_of parser.new, blocks_of parser.new)) result (Decls.declarators_step 256 unit.now naming (Decls.declarators_of declarators.items) (declarator_of declarator) (blocks_of parser.old) (rest_of parser.old)) }
 {
     let init = optional_init(alloc, parser, unit)?;
     let declarators = with_declarator(declarators, declarator, init)?;
@@ -66,7 +66,7 @@ fn declarators(
     naming: Naming,
     first: Declarator,
 ) -> Result<Vec<InitDeclarator>, Refusal>
-    ensures { Gives (λ r. (Decls.declarators_of r.items, rest_of parser.new, blocks_of parser.new)) result (Decls.declarators_read unit.now naming (declarator_of first) (blocks_of parser.old) (rest_of parser.old)) }
+    ensures { Gives (λ r. (Decls.declarators_of r.items, rest_of parser.new, blocks_of parser.new)) result (Decls.declarators_read 256 unit.now naming (declarator_of first) (blocks_of parser.old) (rest_of parser.old)) }
 {
     let mut before = Vec::new(alloc);
     let mut declarator = first;
@@ -91,7 +91,7 @@ pub fn declaration_from(
     specifiers: Specifiers,
     first: Declarator,
 ) -> Result<Decl, Refusal>
-    ensures { Gives (λ d. (decl_of d, rest_of parser.new, blocks_of parser.new)) result (Decls.declaration_from unit.now (specifiers_of specifiers) (declarator_of first) (blocks_of parser.old) (rest_of parser.old)) }
+    ensures { Gives (λ d. (decl_of d, rest_of parser.new, blocks_of parser.new)) result (Decls.declaration_from 256 unit.now (specifiers_of specifiers) (declarator_of first) (blocks_of parser.old) (rest_of parser.old)) }
 {
     let naming = naming_of(&specifiers);
     let declarators = declarators(alloc, parser, unit, naming, first)?;
@@ -114,7 +114,7 @@ pub fn empty_declaration(alloc: Global, parser: &mut Parser, specifiers: Specifi
 
 /// The declaration that stands here.
 pub fn declaration(alloc: Global, parser: &mut Parser, unit: &[Token]) -> Result<Decl, Refusal>
-    ensures { Gives (λ d. (decl_of d, rest_of parser.new, blocks_of parser.new)) result (Decls.declaration_read unit.now (blocks_of parser.old) (rest_of parser.old)) }
+    ensures { Gives (λ d. (decl_of d, rest_of parser.new, blocks_of parser.new)) result (Decls.declaration_read 256 unit.now (blocks_of parser.old) (rest_of parser.old)) }
 {
     let specifiers = parse_specifiers(parser)?;
     if is_here(parser, Mark::Semicolon) {
@@ -138,7 +138,7 @@ pub fn declarations(
     parser: &mut Parser,
     unit: &[Token],
 ) -> Result<Vec<Decl>, Refusal>
-    ensures { Gives (λ r. (decls_of r.items, rest_of parser.new, blocks_of parser.new)) result (Decls.declarations_read unit.now (blocks_of parser.old) (rest_of parser.old)) }
+    ensures { Gives (λ r. (decls_of r.items, rest_of parser.new, blocks_of parser.new)) result (Decls.declarations_read 256 unit.now (blocks_of parser.old) (rest_of parser.old)) }
 {
     let mut decls = Vec::new(alloc);
     for _step in unit {

@@ -13,7 +13,7 @@ use c65_tree::Expr;
 
 /// An expression in parentheses.
 pub fn test(parser: &mut Parser) -> Result<Expr, Refusal>
-    ensures { Gives (λ e. (expr_of e, rest_of parser.new, blocks_of parser.new)) result (test_read (blocks_of parser.old) (rest_of parser.old)) }
+    ensures { Gives (λ e. (expr_of e, rest_of parser.new, blocks_of parser.new)) result (test_read 256 (blocks_of parser.old) (rest_of parser.old)) }
 {
     expect(parser, Mark::OpenParen)?;
     let e = parse_expr(parser)?;
@@ -23,7 +23,7 @@ pub fn test(parser: &mut Parser) -> Result<Expr, Refusal>
 
 /// A constant expression and a colon (C90 6.6.1).
 pub fn case_value(parser: &mut Parser) -> Result<Expr, Refusal>
-    ensures { Gives (λ e. (expr_of e, rest_of parser.new, blocks_of parser.new)) result (case_read (blocks_of parser.old) (rest_of parser.old)) }
+    ensures { Gives (λ e. (expr_of e, rest_of parser.new, blocks_of parser.new)) result (case_read 256 (blocks_of parser.old) (rest_of parser.old)) }
 {
     let e = parse_constant(parser)?;
     expect(parser, Mark::Colon)?;
@@ -32,7 +32,7 @@ pub fn case_value(parser: &mut Parser) -> Result<Expr, Refusal>
 
 /// An expression or nothing, and the token that ends it.
 pub fn optional_expr(parser: &mut Parser, end: Mark) -> Result<Option<Expr>, Refusal>
-    ensures { Gives (λ e. (maybe expr_of e, rest_of parser.new, blocks_of parser.new)) result (optional_read end (blocks_of parser.old) (rest_of parser.old)) }
+    ensures { Gives (λ e. (maybe expr_of e, rest_of parser.new, blocks_of parser.new)) result (optional_read 256 end (blocks_of parser.old) (rest_of parser.old)) }
 {
     if is_here(parser, end) {
         parser.take();

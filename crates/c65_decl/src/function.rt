@@ -105,7 +105,7 @@ pub fn read_function(
     specifiers: Specifiers,
     declarator: Declarator,
 ) -> Result<Function, Refusal>
-    ensures { Gives (λ f. (function_of f, rest_of parser.new, blocks_of parser.new)) result (Units.function_read unit.now (specifiers_of specifiers) (declarator_of declarator) (blocks_of parser.old) (rest_of parser.old)) }
+    ensures { Gives (λ f. (function_of f, rest_of parser.new, blocks_of parser.new)) result (Units.function_read 256 unit.now (specifiers_of specifiers) (declarator_of declarator) (blocks_of parser.old) (rest_of parser.old)) }
 {
     parser.open()?;
     declare_params(alloc, parser, &declarator)?;

@@ -8,22 +8,18 @@ ghost use Rattle.c65_decl.specs.Initialisers;
 
 use crate::here::{expect, is_here, pos_here, too_deep};
 use c65_base::Refusal;
-use c65_parse::{Parser, parse_assignment};
+use c65_parse::{Parser, parse_assignment_within};
 use c65_scan::Token;
 use c65_stmts::{InitList, Listed, Mark, enter_list, with_initialiser};
-use c65_tree::{Expr, Initialiser, is_within};
+use c65_tree::{Expr, Initialiser};
 use std::alloc::Global;
 
 /// An expression in so many lists; the count of depth goes on from these.
 fn element(parser: &mut Parser, around: usize) -> Result<Expr, Refusal>
-    ensures { Gives (λ e. (expr_of e, rest_of parser.new, blocks_of parser.new)) result (Initialisers.element_read around (blocks_of parser.old) (rest_of parser.old)) }
+    ensures { Gives (λ e. (expr_of e, rest_of parser.new, blocks_of parser.new)) result (Initialisers.element_read 256 around (blocks_of parser.old) (rest_of parser.old)) }
 {
-    let e = parse_assignment(parser)?;
-    if around <= 256 && is_within(&e, (256 - around) as u16) {
-        Ok(e)
-    } else {
-        Err(too_deep())
-    }
+    let room = 256usize.saturating_sub(around);
+    parse_assignment_within(parser, room as u16)
 }
 
 /// Whether a list ends behind an initialiser. It passes over a comma, and over the brace.
@@ -63,7 +59,7 @@ fn close_lists(
 
 /// Begins a list, which needs an initialiser in it.
 fn open_list(alloc: Global, parser: &mut Parser, lists: Vec<InitList>) -> Result<Listed, Refusal>
-    ensures { Gives (λ r. (listed_of r, rest_of parser.new, blocks_of parser.new)) result (Initialisers.list_begun (lists_of lists.items) (blocks_of parser.old) (rest_of parser.old)) }
+    ensures { Gives (λ r. (listed_of r, rest_of parser.new, blocks_of parser.new)) result (Initialisers.list_begun 256 (lists_of lists.items) (blocks_of parser.old) (rest_of parser.old)) }
 {
     if lists.len() > 254 {
         return Err(too_deep());
@@ -76,7 +72,7 @@ fn open_list(alloc: Global, parser: &mut Parser, lists: Vec<InitList>) -> Result
 }
 
 fn step(alloc: Global, parser: &mut Parser, lists: Vec<InitList>) -> Result<Listed, Refusal>
-    ensures { Gives (λ r. (listed_of r, rest_of parser.new, blocks_of parser.new)) result (Initialisers.initialiser_step (lists_of lists.items) (blocks_of parser.old) (rest_of parser.old)) }
+    ensures { Gives (λ r. (listed_of r, rest_of parser.new, blocks_of parser.new)) result (Initialisers.initialiser_step 256 (lists_of lists.items) (blocks_of parser.old) (rest_of parser.old)) }
 {
     if is_here(parser, Mark::OpenBrace) {
         return open_list(alloc, parser, lists);
@@ -92,7 +88,7 @@ pub fn initialiser(
     parser: &mut Parser,
     unit: &[Token],
 ) -> Result<Initialiser, Refusal>
-    ensures { Gives (λ i. (init_of i, rest_of parser.new, blocks_of parser.new)) result (Initialisers.initialiser_read unit.now (blocks_of parser.old) (rest_of parser.old)) }
+    ensures { Gives (λ i. (init_of i, rest_of parser.new, blocks_of parser.new)) result (Initialisers.initialiser_read 256 unit.now (blocks_of parser.old) (rest_of parser.old)) }
 {
     let mut lists = Vec::new(alloc);
     for _step in unit {
@@ -111,7 +107,7 @@ pub fn optional_init(
     parser: &mut Parser,
     unit: &[Token],
 ) -> Result<Option<Initialiser>, Refusal>
-    ensures { Gives (λ i. (maybe init_of i, rest_of parser.new, blocks_of parser.new)) result (Initialisers.optional_init_read unit.now (blocks_of parser.old) (rest_of parser.old)) }
+    ensures { Gives (λ i. (maybe init_of i, rest_of parser.new, blocks_of parser.new)) result (Initialisers.optional_init_read 256 unit.now (blocks_of parser.old) (rest_of parser.old)) }
 {
     if !is_here(parser, Mark::Equal) {
         return Ok(None);

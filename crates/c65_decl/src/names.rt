@@ -42,7 +42,7 @@ pub fn declare_maybe(parser: &mut Parser, name: Option<Name>, is_type: bool) -> 
 
 /// The declarator that stands here, behind a type specifier or not.
 fn bare_declarator(parser: &mut Parser, has_type: bool) -> Result<Declarator, Refusal>
-    ensures { Gives (λ d. (declarator_of d, rest_of parser.new, blocks_of parser.new)) result (declarator_read (Named has_type) (blocks_of parser.old) (rest_of parser.old)) }
+    ensures { Gives (λ d. (declarator_of d, rest_of parser.new, blocks_of parser.new)) result (declarator_read 256 (Named has_type) (blocks_of parser.old) (rest_of parser.old)) }
 {
     if has_type {
         parse_declarator(parser)
@@ -54,7 +54,7 @@ fn bare_declarator(parser: &mut Parser, has_type: bool) -> Result<Declarator, Re
 /// The declarator that stands here. Its name is declared behind it.
 #[tactic(auto, using(crate::proofs::Memory::memory_fails))]
 pub fn named_declarator(parser: &mut Parser, naming: Naming) -> Result<Declarator, Refusal>
-    ensures { Gives (λ d. (declarator_of d, rest_of parser.new, blocks_of parser.new)) result (Declaring.named_read naming (blocks_of parser.old) (rest_of parser.old)) }
+    ensures { Gives (λ d. (declarator_of d, rest_of parser.new, blocks_of parser.new)) result (Declaring.named_read 256 naming (blocks_of parser.old) (rest_of parser.old)) }
 {
     let declarator = bare_declarator(parser, naming.has_type)?;
     declare_maybe(parser, declared_name(&declarator), naming.makes_types)?;

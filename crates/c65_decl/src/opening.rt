@@ -31,7 +31,7 @@ fn begin_label(parser: &mut Parser, pos: Pos) -> Result<Begun, Refusal>
 
 /// Behind `case`.
 fn begin_case(parser: &mut Parser, pos: Pos) -> Result<Begun, Refusal>
-    ensures { Gives (λ b. (begun_of b, rest_of parser.new, blocks_of parser.new)) result (Openings.case_begun pos (blocks_of parser.old) (rest_of parser.old)) }
+    ensures { Gives (λ b. (begun_of b, rest_of parser.new, blocks_of parser.new)) result (Openings.case_begun 256 pos (blocks_of parser.old) (rest_of parser.old)) }
 {
     let e = case_value(parser)?;
     Ok(Begun::Open(Frame::Head(Head::Case(pos, e))))
@@ -47,7 +47,7 @@ fn begin_default(parser: &mut Parser, pos: Pos) -> Result<Begun, Refusal>
 
 /// Behind `if` (C90 6.6.4.1).
 fn begin_if(parser: &mut Parser, pos: Pos) -> Result<Begun, Refusal>
-    ensures { Gives (λ b. (begun_of b, rest_of parser.new, blocks_of parser.new)) result (Openings.if_begun pos (blocks_of parser.old) (rest_of parser.old)) }
+    ensures { Gives (λ b. (begun_of b, rest_of parser.new, blocks_of parser.new)) result (Openings.if_begun 256 pos (blocks_of parser.old) (rest_of parser.old)) }
 {
     let e = test(parser)?;
     Ok(Begun::Open(Frame::Then(pos, e)))
@@ -55,7 +55,7 @@ fn begin_if(parser: &mut Parser, pos: Pos) -> Result<Begun, Refusal>
 
 /// Behind `switch` (C90 6.6.4.2).
 fn begin_switch(parser: &mut Parser, pos: Pos) -> Result<Begun, Refusal>
-    ensures { Gives (λ b. (begun_of b, rest_of parser.new, blocks_of parser.new)) result (Openings.switch_begun pos (blocks_of parser.old) (rest_of parser.old)) }
+    ensures { Gives (λ b. (begun_of b, rest_of parser.new, blocks_of parser.new)) result (Openings.switch_begun 256 pos (blocks_of parser.old) (rest_of parser.old)) }
 {
     let e = test(parser)?;
     Ok(Begun::Open(Frame::Head(Head::Switch(pos, e))))
@@ -63,7 +63,7 @@ fn begin_switch(parser: &mut Parser, pos: Pos) -> Result<Begun, Refusal>
 
 /// Behind `while` (C90 6.6.5.1).
 fn begin_while(parser: &mut Parser, pos: Pos) -> Result<Begun, Refusal>
-    ensures { Gives (λ b. (begun_of b, rest_of parser.new, blocks_of parser.new)) result (Openings.while_begun pos (blocks_of parser.old) (rest_of parser.old)) }
+    ensures { Gives (λ b. (begun_of b, rest_of parser.new, blocks_of parser.new)) result (Openings.while_begun 256 pos (blocks_of parser.old) (rest_of parser.old)) }
 {
     let e = test(parser)?;
     Ok(Begun::Open(Frame::Head(Head::While(pos, e))))
@@ -71,7 +71,7 @@ fn begin_while(parser: &mut Parser, pos: Pos) -> Result<Begun, Refusal>
 
 /// Behind `for` (C90 6.6.5.3).
 fn begin_for(parser: &mut Parser, pos: Pos) -> Result<Begun, Refusal>
-    ensures { Gives (λ b. (begun_of b, rest_of parser.new, blocks_of parser.new)) result (Openings.for_begun pos (blocks_of parser.old) (rest_of parser.old)) }
+    ensures { Gives (λ b. (begun_of b, rest_of parser.new, blocks_of parser.new)) result (Openings.for_begun 256 pos (blocks_of parser.old) (rest_of parser.old)) }
 {
     expect(parser, Mark::OpenParen)?;
     let first = optional_expr(parser, Mark::Semicolon)?;
@@ -107,7 +107,7 @@ fn begin_break(parser: &mut Parser, pos: Pos) -> Result<Begun, Refusal>
 
 /// Behind `return` (C90 6.6.6.4).
 fn begin_return(parser: &mut Parser, pos: Pos) -> Result<Begun, Refusal>
-    ensures { Gives (λ b. (begun_of b, rest_of parser.new, blocks_of parser.new)) result (Openings.return_begun pos (blocks_of parser.old) (rest_of parser.old)) }
+    ensures { Gives (λ b. (begun_of b, rest_of parser.new, blocks_of parser.new)) result (Openings.return_begun 256 pos (blocks_of parser.old) (rest_of parser.old)) }
 {
     let value = optional_expr(parser, Mark::Semicolon)?;
     Ok(Begun::Whole(Stmt::give_back(pos, value)))
@@ -115,7 +115,7 @@ fn begin_return(parser: &mut Parser, pos: Pos) -> Result<Begun, Refusal>
 
 /// An expression statement, or the empty one (C90 6.6.3).
 fn begin_eval(parser: &mut Parser, pos: Pos) -> Result<Begun, Refusal>
-    ensures { Gives (λ b. (begun_of b, rest_of parser.new, blocks_of parser.new)) result (Openings.eval_begun pos (blocks_of parser.old) (rest_of parser.old)) }
+    ensures { Gives (λ b. (begun_of b, rest_of parser.new, blocks_of parser.new)) result (Openings.eval_begun 256 pos (blocks_of parser.old) (rest_of parser.old)) }
 {
     let e = optional_expr(parser, Mark::Semicolon)?;
     Ok(Begun::Whole(Stmt::eval(pos, e)))
@@ -133,7 +133,7 @@ fn begin_block(alloc: Global, parser: &mut Parser, pos: Pos) -> Result<Begun, Re
 
 /// Behind the word or the brace that begins a statement.
 fn begin_behind(alloc: Global, parser: &mut Parser, word: Word, pos: Pos) -> Result<Begun, Refusal>
-    ensures { Gives (λ b. (begun_of b, rest_of parser.new, blocks_of parser.new)) result (Openings.begun_behind word pos (blocks_of parser.old) (rest_of parser.old)) }
+    ensures { Gives (λ b. (begun_of b, rest_of parser.new, blocks_of parser.new)) result (Openings.begun_behind 256 word pos (blocks_of parser.old) (rest_of parser.old)) }
 {
     match word {
         Word::Case => begin_case(parser, pos),
@@ -158,7 +158,7 @@ fn begin_word(
     word: Option<Word>,
     pos: Pos,
 ) -> Result<Begun, Refusal>
-    ensures { Gives (λ b. (begun_of b, rest_of parser.new, blocks_of parser.new)) result (Openings.word_begun word pos (blocks_of parser.old) (rest_of parser.old)) }
+    ensures { Gives (λ b. (begun_of b, rest_of parser.new, blocks_of parser.new)) result (Openings.word_begun 256 word pos (blocks_of parser.old) (rest_of parser.old)) }
 {
     match word {
         Some(word) => {
@@ -176,7 +176,7 @@ fn begin_statement(
     sign: Sign,
     label: bool,
 ) -> Result<Begun, Refusal>
-    ensures { Gives (λ b. (begun_of b, rest_of parser.new, blocks_of parser.new)) result (Openings.statement_begun sign label (blocks_of parser.old) (rest_of parser.old)) }
+    ensures { Gives (λ b. (begun_of b, rest_of parser.new, blocks_of parser.new)) result (Openings.statement_begun 256 sign label (blocks_of parser.old) (rest_of parser.old)) }
 {
     let pos = pos_here(parser);
     if label {
@@ -198,7 +198,7 @@ fn close(parser: &mut Parser) -> Begun
 }
 
 fn begin_declaration(alloc: Global, parser: &mut Parser, unit: &[Token]) -> Result<Begun, Refusal>
-    ensures { Gives (λ b. (begun_of b, rest_of parser.new, blocks_of parser.new)) result (Openings.declaration_begun unit.now (blocks_of parser.old) (rest_of parser.old)) }
+    ensures { Gives (λ b. (begun_of b, rest_of parser.new, blocks_of parser.new)) result (Openings.declaration_begun 256 unit.now (blocks_of parser.old) (rest_of parser.old)) }
 {
     let decl = declaration(alloc, parser, unit)?;
     Ok(Begun::Decl(decl))
@@ -211,7 +211,7 @@ pub fn begin(
     unit: &[Token],
     place: Place,
 ) -> Result<Begun, Refusal>
-    ensures { Gives (λ b. (begun_of b, rest_of parser.new, blocks_of parser.new)) result (Openings.begun_at unit.now place (blocks_of parser.old) (rest_of parser.old)) }
+    ensures { Gives (λ b. (begun_of b, rest_of parser.new, blocks_of parser.new)) result (Openings.begun_at 256 unit.now place (blocks_of parser.old) (rest_of parser.old)) }
 {
     let sign = sign_here(parser);
     let is_type = is_type_here(parser);
@@ -223,7 +223,8 @@ pub fn begin(
     if place.takes_declarations && starts_declaration(sign, is_type, colon) {
         return begin_declaration(alloc, parser, unit);
     }
-    if place.around > 256usize.saturating_sub(least_depth(sign, label)) {
+    let least = least_depth(sign, label);
+    if least > 256 || place.around > 256 - least {
         return Err(too_deep());
     }
     begin_statement(alloc, parser, sign, label)

@@ -28,7 +28,7 @@ fn item_from(
     declarator: Declarator,
     may_declare: bool,
 ) -> Result<Item, Refusal>
-    ensures { Gives (λ i. (item_of i, rest_of parser.new, blocks_of parser.new)) result (Units.item_from unit.now (specifiers_of specifiers) (declarator_of declarator) may_declare (blocks_of parser.old) (rest_of parser.old)) }
+    ensures { Gives (λ i. (item_of i, rest_of parser.new, blocks_of parser.new)) result (Units.item_from 256 unit.now (specifiers_of specifiers) (declarator_of declarator) may_declare (blocks_of parser.old) (rest_of parser.old)) }
 {
     if may_declare && goes_on(sign_here(parser)) {
         let decl = declaration_from(alloc, parser, unit, specifiers, declarator)?;
@@ -40,7 +40,7 @@ fn item_from(
 
 /// The declaration or the definition that stands here.
 fn read_item(alloc: Global, parser: &mut Parser, unit: &[Token]) -> Result<Item, Refusal>
-    ensures { Gives (λ i. (item_of i, rest_of parser.new, blocks_of parser.new)) result (Units.item_read unit.now (blocks_of parser.old) (rest_of parser.old)) }
+    ensures { Gives (λ i. (item_of i, rest_of parser.new, blocks_of parser.new)) result (Units.item_read 256 unit.now (blocks_of parser.old) (rest_of parser.old)) }
 {
     let specifiers = parse_specifiers(parser)?;
     let has_specifiers = !is_empty(&specifiers);
@@ -61,7 +61,7 @@ fn with_item(items: Vec<Item>, item: Item) -> Result<Vec<Item>, AllocError>
 
 /// The items from here to the end, one at least.
 fn all_items(alloc: Global, parser: &mut Parser, unit: &[Token]) -> Result<Vec<Item>, Refusal>
-    ensures { Gives (λ r. items_of r.items) result (Units.items_read unit.now (blocks_of parser.old) (rest_of parser.old)) }
+    ensures { Gives (λ r. items_of r.items) result (Units.items_read 256 unit.now (blocks_of parser.old) (rest_of parser.old)) }
 {
     let mut items = Vec::new(alloc);
     for _step in unit {
@@ -79,7 +79,7 @@ fn all_items(alloc: Global, parser: &mut Parser, unit: &[Token]) -> Result<Vec<I
 /// It refuses the first token with which no unit goes on: `Assembly` at `asm` and `__asm__`, `Syntax`
 /// elsewhere; and `TooLarge` of `Depth` where only a deeper unit goes on.
 pub fn parse_unit(alloc: Global, tokens: &[Token]) -> Result<Unit, Refusal>
-    ensures { Gives unit_of result (Units.unit_read tokens.now) }
+    ensures { Gives unit_of result (Units.unit_read 256 tokens.now) }
 {
     if tokens.is_empty() {
         return Err(Refusal::At {

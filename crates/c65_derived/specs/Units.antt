@@ -4,7 +4,7 @@ use Rattle.c65_scan.specs.declared.token.Token.{Token}
 use Rattle.c65_scan.specs.declared.token.TokenKind.TheVariants as kinds
 use Rattle.c65_tree.specs.Trees as t
 use Rattle.c65_decl.specs.Units.{unit_read}
-use Rattle.c65_grammar.specs.Readings.{units, IsUnit}
+use Rattle.c65_grammar.specs.Readings.{units, IsUnitWithin}
 
 -- the last token is the unit's end, and no other one is
 abbrev pub EndsOnce : List Token → Type 0
@@ -18,4 +18,4 @@ UnitsAreDerived = (tokens : List Token) (unit : t.UnitTree) → EndsOnce tokens 
 
 -- and within the limit of depth
 abbrev pub UnitsAreUnits : Type 0
-UnitsAreUnits = (tokens : List Token) (unit : t.UnitTree) → EndsOnce tokens → unit_read tokens ≡ Ok unit → IsUnit tokens unit
+UnitsAreUnits = (tokens : List Token) (unit : t.UnitTree) → EndsOnce tokens → unit_read tokens ≡ Ok unit → IsUnitWithin 256 tokens unit

@@ -61,9 +61,12 @@ code_of _ = Syntax
 abbrev pub units : t.UnitTree → Phrase
 units = translation_unit no_types
 
-pub record IsUnit (tokens : List Token) (unit : t.UnitTree) : Type 0 where
+pub record IsUnitWithin (limit : ℕ) (tokens : List Token) (unit : t.UnitTree) : Type 0 where
   pub derives : units unit tokens
-  pub within : unit_depth unit ≤ 256
+  pub within : unit_depth unit ≤ limit
+
+abbrev pub IsUnit : List Token → t.UnitTree → Type 0
+IsUnit = IsUnitWithin 256
 
 abbrev pub IsNoUnit : List Token → Token → Type 0
 IsNoUnit = IsRefused units unit_depth 256

@@ -13,10 +13,11 @@ use std::alloc::{AllocError, Global};
 
 impl MeasuredDeclarator {
     /// Whether a node over this declarator, with so many constructs open round it, keeps the limit.
-    pub fn fits(&self, around: usize) -> bool
-        ensures { result ≡ nat_le (declarator_depth (declarator_of self.now.declarator) + (around + 1)) 256 }
+    pub fn fits(&self, around: usize, limit: u16) -> bool
+        ensures { result ≡ nat_le (declarator_depth (declarator_of self.now.declarator) + (around + 1)) limit }
     {
-        around <= 255 && self.depth as usize <= 255 - around
+        let limit = limit as usize;
+        around < limit && (self.depth as usize) < limit - around
     }
 
     pub fn nameless(pos: Pos) -> MeasuredDeclarator

@@ -35,10 +35,11 @@ impl MeasuredExprs {
 
 impl MeasuredExpr {
     /// Whether a node over this expression, with so many constructs open round it, keeps the limit.
-    pub fn fits(&self, around: usize) -> bool
-        ensures { result ≡ nat_le (expr_depth (expr_of self.now.expr) + (around + 1)) 256 }
+    pub fn fits(&self, around: usize, limit: u16) -> bool
+        ensures { result ≡ nat_le (expr_depth (expr_of self.now.expr) + (around + 1)) limit }
     {
-        around <= 255 && self.depth as usize <= 255 - around
+        let limit = limit as usize;
+        around < limit && (self.depth as usize) < limit - around
     }
 
     pub fn level(&self) -> u32

@@ -97,22 +97,22 @@ close_declarator d (in_member part first ∷ fs) sign = close_member_declarator 
 close_declarator d (f ∷ fs) sign = fail
 
 -- behind a direct declarator
-unfoldable pub declarator_end : DeclaratorTree → List Frame → Pos → Sign → Next
-declarator_end d fs l signs.OpenBracket = within (nat_le (declarator_depth d + (length fs + 1)) 256) (goes fs (opened_bound l d))
-declarator_end d fs l signs.Open = within (nat_le (declarator_depth d + (length fs + 1)) 256) (goes fs (opened_params l d))
-declarator_end d fs l sign = let r = reduce_declarator d fs in close_declarator r.0 r.1 sign
+unfoldable pub declarator_end : (limit : ℕ) → DeclaratorTree → List Frame → Pos → Sign → Next
+declarator_end limit d fs l signs.OpenBracket = within (nat_le (declarator_depth d + (length fs + 1)) limit) (goes fs (opened_bound l d))
+declarator_end limit d fs l signs.Open = within (nat_le (declarator_depth d + (length fs + 1)) limit) (goes fs (opened_params l d))
+declarator_end limit d fs l sign = let r = reduce_declarator d fs in close_declarator r.0 r.1 sign
 
-unfoldable pub without_name : Bool → List Frame → Pos → Sign → Next
-without_name true fs l sign = declarator_end (Trees.nameless l) fs l sign
-without_name false fs l sign = fail
+unfoldable pub without_name : (limit : ℕ) → Bool → List Frame → Pos → Sign → Next
+without_name limit true fs l sign = declarator_end limit (Trees.nameless l) fs l sign
+without_name limit false fs l sign = fail
 
 abbrev pub open_group : Sort → List Frame → Pos → Next
 open_group sort fs l = if is_optional sort then goes fs (opened_declarator l sort) else goes (in_group l ∷ fs) (declarator sort)
 
 -- a declarator is needed
-unfoldable pub declarator_step : Sort → List Frame → Pos → Sign → Next
-declarator_step sort fs l signs.Star = within (has_room fs 2) (goes fs (qualifiers l false false sort))
-declarator_step sort fs l (signs.Calling cdecl) = within (has_room fs 2) (goes (in_derived l (derivations.Calling cdecl) ∷ fs) (declarator sort))
-declarator_step sort fs l signs.Open = within (has_room fs 2) (open_group sort fs l)
-declarator_step sort fs l (signs.Name n is_type) = if takes_name sort is_type then goes fs (have_declarator (Trees.named l n)) else without_name (is_optional sort) fs l (signs.Name n is_type)
-declarator_step sort fs l sign = without_name (is_optional sort) fs l sign
+unfoldable pub declarator_step : (limit : ℕ) → Sort → List Frame → Pos → Sign → Next
+declarator_step limit sort fs l signs.Star = within (has_room limit fs 2) (goes fs (qualifiers l false false sort))
+declarator_step limit sort fs l (signs.Calling cdecl) = within (has_room limit fs 2) (goes (in_derived l (derivations.Calling cdecl) ∷ fs) (declarator sort))
+declarator_step limit sort fs l signs.Open = within (has_room limit fs 2) (open_group sort fs l)
+declarator_step limit sort fs l (signs.Name n is_type) = if takes_name sort is_type then goes fs (have_declarator (Trees.named l n)) else without_name limit (is_optional sort) fs l (signs.Name n is_type)
+declarator_step limit sort fs l sign = without_name limit (is_optional sort) fs l sign

@@ -30,8 +30,8 @@ within true n = n
 within false n = deep
 
 -- whether a tree of this depth has room in what is open
-abbrev pub has_room : List Frame → ℕ → Bool
-has_room fs depth = nat_le (depth + length fs) 256
+abbrev pub has_room : (limit : ℕ) → List Frame → ℕ → Bool
+has_room limit fs depth = nat_le (depth + length fs) limit
 
 -- the token as a whole expression (C90 6.3.1)
 abbrev pub leaf_of_kind : Pos → TokenKind → Bool → Option ExprTree
@@ -50,19 +50,19 @@ abbrev pub names_type : Sign → Bool
 names_type (signs.Name n is_type) = is_type
 names_type _ = false
 
-abbrev pub begin_by : List Frame → Pos → Sign → Option Prefix → Next
-begin_by fs l sign (Some p) = within (has_room fs 2) (goes (in_operation (in_prefix l p) ∷ fs) operand)
-begin_by fs l signs.Sizeof None = within (has_room fs 2) (goes fs (sizeof_word l))
-begin_by fs l signs.Open None = within (has_room fs 2) (goes fs (opened l))
-begin_by fs l sign None = fail
+abbrev pub begin_by : (limit : ℕ) → List Frame → Pos → Sign → Option Prefix → Next
+begin_by limit fs l sign (Some p) = within (has_room limit fs 2) (goes (in_operation (in_prefix l p) ∷ fs) operand)
+begin_by limit fs l signs.Sizeof None = within (has_room limit fs 2) (goes fs (sizeof_word l))
+begin_by limit fs l signs.Open None = within (has_room limit fs 2) (goes fs (opened l))
+begin_by limit fs l sign None = fail
 
-abbrev pub begin_with : List Frame → Pos → Sign → Option ExprTree → Next
-begin_with fs l sign (Some e) = within (has_room fs 1) (goes fs (have_expr e))
-begin_with fs l sign None = begin_by fs l sign (prefix_of sign)
+abbrev pub begin_with : (limit : ℕ) → List Frame → Pos → Sign → Option ExprTree → Next
+begin_with limit fs l sign (Some e) = within (has_room limit fs 1) (goes fs (have_expr e))
+begin_with limit fs l sign None = begin_by limit fs l sign (prefix_of sign)
 
 -- an operand is needed
-unfoldable pub operand_step : List Frame → Token → Sign → Next
-operand_step fs token sign = begin_with fs token.pos sign (leaf_of token (names_type sign))
+unfoldable pub operand_step : (limit : ℕ) → List Frame → Token → Sign → Next
+operand_step limit fs token sign = begin_with limit fs token.pos sign (leaf_of token (names_type sign))
 
 -- the least level that the place takes
 abbrev pub hole_of : Operation → ℕ
@@ -177,9 +177,9 @@ close e (in_width part first d ∷ fs) sign = close_member (with_member part fir
 close e (in_value part n l ∷ fs) sign = close_enumerator (with_enumerator part n l (an_expr e)) n fs sign
 close e (f ∷ fs) sign = fail
 
-abbrev pub extend : ℕ → ExprTree → List Frame → Pos → Sign → Next
-extend least e fs l sign = if goes_on least e fs sign then within (nat_le (expr_depth e + (length fs + 1)) 256) (extend_by (infix_of sign) e fs l sign) else close e fs sign
+abbrev pub extend : (limit : ℕ) → ℕ → ExprTree → List Frame → Pos → Sign → Next
+extend limit least e fs l sign = if goes_on least e fs sign then within (nat_le (expr_depth e + (length fs + 1)) limit) (extend_by (infix_of sign) e fs l sign) else close e fs sign
 
 -- behind an expression
-unfoldable pub expr_step : ℕ → ExprTree → List Frame → Pos → Sign → Next
-expr_step least e fs l sign = let r = reduce (rank_of sign) e fs in extend least r.0 r.1 l sign
+unfoldable pub expr_step : (limit : ℕ) → ℕ → ExprTree → List Frame → Pos → Sign → Next
+expr_step limit least e fs l sign = let r = reduce (rank_of sign) e fs in extend limit least r.0 r.1 l sign

@@ -58,24 +58,24 @@ as_declarator (done_specifiers q, rest, scope) = Err (fault_at (token_at rest 0)
 as_declarator (done_declarator d, rest, scope) = Ok (d, rest, scope)
 
 -- an expression of at least this level (C90 6.3)
-abbrev pub expr_read : ℕ → Blocks → List Token → Answer ExprTree
-expr_read least scope tokens = run least scope [] operand tokens >>= as_expr
+abbrev pub expr_read : (limit : ℕ) → ℕ → Blocks → List Token → Answer ExprTree
+expr_read limit least scope tokens = run limit least scope [] operand tokens >>= as_expr
 
-abbrev pub listed_read : Bool → Blocks → List Token → Answer Listed
-listed_read takes_storage scope tokens = run 0 scope [] (specifiers (nothing_listed takes_storage)) tokens >>= as_specifiers
+abbrev pub listed_read : (limit : ℕ) → Bool → Blocks → List Token → Answer Listed
+listed_read limit takes_storage scope tokens = run limit 0 scope [] (specifiers (nothing_listed takes_storage)) tokens >>= as_specifiers
 
 -- declaration specifiers (C90 6.5)
-abbrev pub specifiers_read : Blocks → List Token → Answer SpecifiersTree
-specifiers_read scope tokens = listed_read true scope tokens >>= (λ q. Ok (q.0.tree, q.1, q.2))
+abbrev pub specifiers_read : (limit : ℕ) → Blocks → List Token → Answer SpecifiersTree
+specifiers_read limit scope tokens = listed_read limit true scope tokens >>= (λ q. Ok (q.0.tree, q.1, q.2))
 
 -- a declarator of this sort (C90 6.5.4, 6.5.5)
-abbrev pub declarator_read : Sort → Blocks → List Token → Answer DeclaratorTree
-declarator_read sort scope tokens = run 0 scope [] (declarator sort) tokens >>= as_declarator
+abbrev pub declarator_read : (limit : ℕ) → Sort → Blocks → List Token → Answer DeclaratorTree
+declarator_read limit sort scope tokens = run limit 0 scope [] (declarator sort) tokens >>= as_declarator
 
 -- a type name whose specifiers were read
-abbrev pub type_behind : Listed → Blocks → List Token → Answer TypeTree
-type_behind q scope tokens = if nat_eq (specifiers_depth q.tree) 0 then Err (fault_at (token_at tokens 0)) else (declarator_read sorts.Abstract scope tokens >>= (λ d. Ok (type_name q.tree d.0, d.1, d.2)))
+abbrev pub type_behind : (limit : ℕ) → Listed → Blocks → List Token → Answer TypeTree
+type_behind limit q scope tokens = if nat_eq (specifiers_depth q.tree) 0 then Err (fault_at (token_at tokens 0)) else (declarator_read limit sorts.Abstract scope tokens >>= (λ d. Ok (type_name q.tree d.0, d.1, d.2)))
 
 -- a type name (C90 6.5.5)
-abbrev pub type_read : Blocks → List Token → Answer TypeTree
-type_read scope tokens = listed_read false scope tokens >>= (λ q. type_behind q.0 q.2 q.1)
+abbrev pub type_read : (limit : ℕ) → Blocks → List Token → Answer TypeTree
+type_read limit scope tokens = listed_read limit false scope tokens >>= (λ q. type_behind limit q.0 q.2 q.1)

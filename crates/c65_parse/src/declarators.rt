@@ -204,14 +204,14 @@ fn close(
 #[tactic(auto, unfolding(crate::specs::Declarators::declarator_end))]
 pub fn after_declarator(
     alloc: Global,
-    frames: Vec<Frame>,
+    limit: u16, frames: Vec<Frame>,
     d: MeasuredDeclarator,
     pos: Pos,
     sign: Sign,
 ) -> Result<Step, AllocError>
-    ensures { IfOk result (λ n. next_of n ≡ declarator_end (declarator_of d.declarator) (stack_of frames.items) pos sign) }
+    ensures { IfOk result (λ n. next_of n ≡ declarator_end limit (declarator_of d.declarator) (stack_of frames.items) pos sign) }
 {
-    let fits = d.fits(frames.len());
+    let fits = d.fits(frames.len(), limit);
     match sign {
         Sign::OpenBracket => {
             if fits {
@@ -238,15 +238,15 @@ pub fn after_declarator(
 #[tactic(auto, unfolding(crate::specs::Declarators::without_name))]
 fn unnamed(
     alloc: Global,
-    frames: Vec<Frame>,
+    limit: u16, frames: Vec<Frame>,
     is_optional: bool,
     pos: Pos,
     sign: Sign,
 ) -> Result<Step, AllocError>
-    ensures { IfOk result (λ n. next_of n ≡ without_name is_optional (stack_of frames.items) pos sign) }
+    ensures { IfOk result (λ n. next_of n ≡ without_name limit is_optional (stack_of frames.items) pos sign) }
 {
     if is_optional {
-        after_declarator(alloc, frames, MeasuredDeclarator::nameless(pos), pos, sign)
+        after_declarator(alloc, limit, frames, MeasuredDeclarator::nameless(pos), pos, sign)
     } else {
         Ok(Step::Fail)
     }
@@ -266,14 +266,14 @@ fn group(frames: Vec<Frame>, sort: Sort, pos: Pos) -> Result<Step, AllocError>
 #[tactic(auto, unfolding(crate::specs::Declarators::declarator_step))]
 pub fn declarator(
     alloc: Global,
-    frames: Vec<Frame>,
+    limit: u16, frames: Vec<Frame>,
     sort: Sort,
     pos: Pos,
     sign: Sign,
 ) -> Result<Step, AllocError>
-    ensures { IfOk result (λ n. next_of n ≡ declarator_step sort (stack_of frames.items) pos sign) }
+    ensures { IfOk result (λ n. next_of n ≡ declarator_step limit sort (stack_of frames.items) pos sign) }
 {
-    let fits = has_room(&frames, 2);
+    let fits = has_room(limit, &frames, 2);
     match sign {
         Sign::Star | Sign::Calling(_) | Sign::Open if !fits => Ok(Step::Deep),
         Sign::Star => Ok(go(frames, Held::Qualifiers(pos, false, false, sort))),
@@ -286,6 +286,6 @@ pub fn declarator(
             let d = MeasuredDeclarator::named(pos, name);
             Ok(go(frames, Held::Declared(d)))
         }
-        _ => unnamed(alloc, frames, sort.is_optional(), pos, sign),
+        _ => unnamed(alloc, limit, frames, sort.is_optional(), pos, sign),
     }
 }

@@ -35,11 +35,11 @@ pub fn enter(frames: Vec<Frame>, frame: Frame, held: Held) -> Result<Step, Alloc
 }
 
 /// Whether a tree of this depth has room in what is open.
-pub fn has_room(frames: &[Frame], depth: usize) -> bool
-    requires { depth ≤ 256 }
-    ensures { result ≡ Expressions.has_room (stack_of frames.now) depth }
+pub fn has_room(limit: u16, frames: &[Frame], depth: usize) -> bool
+    ensures { result ≡ Expressions.has_room limit (stack_of frames.now) depth }
 {
-    frames.len() <= 256 - depth
+    let limit = limit as usize;
+    depth <= limit && frames.len() <= limit - depth
 }
 
 fn is_type_name(sign: Sign) -> bool
@@ -69,10 +69,10 @@ fn leaf(alloc: Global, token: &Token, is_type: bool) -> Result<Option<MeasuredEx
     }
 }
 
-fn begin(frames: Vec<Frame>, pos: Pos, sign: Sign) -> Result<Step, AllocError>
-    ensures { IfOk result (λ n. next_of n ≡ begin_by (stack_of frames.items) pos sign (prefix_of sign)) }
+fn begin(limit: u16, frames: Vec<Frame>, pos: Pos, sign: Sign) -> Result<Step, AllocError>
+    ensures { IfOk result (λ n. next_of n ≡ begin_by limit (stack_of frames.items) pos sign (prefix_of sign)) }
 {
-    let fits = has_room(&frames, 2);
+    let fits = has_room(limit, &frames, 2);
     if let Some(op) = sign.before() {
         if !fits {
             return Ok(Step::Deep);
@@ -92,21 +92,21 @@ fn begin(frames: Vec<Frame>, pos: Pos, sign: Sign) -> Result<Step, AllocError>
 #[tactic(auto, unfolding(crate::specs::Expressions::operand_step))]
 pub fn operand(
     alloc: Global,
-    frames: Vec<Frame>,
+    limit: u16, frames: Vec<Frame>,
     token: &Token,
     sign: Sign,
 ) -> Result<Step, AllocError>
-    ensures { IfOk result (λ n. next_of n ≡ operand_step (stack_of frames.items) token.now sign) }
+    ensures { IfOk result (λ n. next_of n ≡ operand_step limit (stack_of frames.items) token.now sign) }
 {
     match leaf(alloc, token, is_type_name(sign))? {
         Some(e) => {
-            if has_room(&frames, 1) {
+            if has_room(limit, &frames, 1) {
                 Ok(go(frames, Held::Expr(e)))
             } else {
                 Ok(Step::Deep)
             }
         }
-        None => begin(frames, token.pos, sign),
+        None => begin(limit, frames, token.pos, sign),
     }
 }
 
@@ -433,19 +433,19 @@ fn close(alloc: Global, frames: Vec<Frame>, e: MeasuredExpr, sign: Sign) -> Resu
 pub fn after_expr(
     alloc: Global,
     least: u32,
-    frames: Vec<Frame>,
+    limit: u16, frames: Vec<Frame>,
     e: MeasuredExpr,
     pos: Pos,
     sign: Sign,
 ) -> Result<Step, AllocError>
-    ensures { IfOk result (λ n. next_of n ≡ expr_step least (expr_of e.expr) (stack_of frames.items) pos sign) }
+    ensures { IfOk result (λ n. next_of n ≡ expr_step limit least (expr_of e.expr) (stack_of frames.items) pos sign) }
 {
     let mut frames = frames;
     let e = reduce(alloc, sign.rank(), e, &mut frames)?;
     if e.level() < sign.left() || sign.rank() < hole(&frames, least) {
         return close(alloc, frames, e, sign);
     }
-    if !e.fits(frames.len()) {
+    if !e.fits(frames.len(), limit) {
         return Ok(Step::Deep);
     }
     extend(alloc, frames, e, pos, sign)

@@ -64,11 +64,12 @@ fn apply(scope: &mut Scope, change: Change) -> Result<(), AllocError>
 fn read(
     alloc: Global,
     scope: &mut Scope,
+    limit: u16,
     least: u32,
     held: Held,
     tokens: &[Token],
 ) -> Result<(Done, usize), Refusal>
-    ensures answer { Gives (λ r. (done_of r.0, drop r.1 tokens.now, scope_of scope.new)) result (run least (scope_of scope.old) [] (held_of held) tokens.now) }
+    ensures answer { Gives (λ r. (done_of r.0, drop r.1 tokens.now, scope_of scope.new)) result (run limit least (scope_of scope.old) [] (held_of held) tokens.now) }
     ensures inside { IfOk result (λ r. r.1 < length tokens.now) }
 {
     let mut reading = Open {
@@ -76,7 +77,7 @@ fn read(
         held,
     };
     for (i, token) in tokens.iter().enumerate() {
-        let step = take(alloc, scope, least, reading, token)?;
+        let step = take(alloc, scope, limit, least, reading, token)?;
         match step {
             Step::Go(next, change) => {
                 apply(scope, change)?;
@@ -169,11 +170,11 @@ impl<'a> Parser<'a> {
     }
 
     /// The tree that stands here. The parser then stands behind it.
-    fn read(&mut self, least: u32, held: Held) -> Result<Done, Refusal>
-        ensures { Gives (λ done. (done_of done, rest_of self.new, blocks_of self.new)) result (run least (blocks_of self.old) [] (held_of held) (rest_of self.old)) }
+    fn read(&mut self, limit: u16, least: u32, held: Held) -> Result<Done, Refusal>
+        ensures { Gives (λ done. (done_of done, rest_of self.new, blocks_of self.new)) result (run limit least (blocks_of self.old) [] (held_of held) (rest_of self.old)) }
     {
         let rest = &self.tokens[self.at..];
-        match read(self.alloc, &mut self.scope, least, held, rest) {
+        match read(self.alloc, &mut self.scope, limit, least, held, rest) {
             Ok((done, length)) => {
                 self.at += length;
                 Ok(done)
@@ -215,29 +216,29 @@ impl<'a> Parser<'a> {
         }
     }
 
-    fn read_expr(&mut self, least: u32) -> Result<MeasuredExpr, Refusal>
-        ensures { Gives (λ e. (expr_of e.expr, rest_of self.new, blocks_of self.new)) result (expr_read least (blocks_of self.old) (rest_of self.old)) }
+    fn read_expr(&mut self, limit: u16, least: u32) -> Result<MeasuredExpr, Refusal>
+        ensures { Gives (λ e. (expr_of e.expr, rest_of self.new, blocks_of self.new)) result (expr_read limit least (blocks_of self.old) (rest_of self.old)) }
     {
-        match self.read(least, Held::Operand) {
+        match self.read(limit, least, Held::Operand) {
             Ok(done) => self.expr_from(done),
             Err(refusal) => Err(refusal),
         }
     }
 
     fn read_specifiers(&mut self, takes_storage: bool) -> Result<MeasuredSpecifiers, Refusal>
-        ensures { Gives (λ q. (listed_of q, rest_of self.new, blocks_of self.new)) result (listed_read takes_storage (blocks_of self.old) (rest_of self.old)) }
+        ensures { Gives (λ q. (listed_of q, rest_of self.new, blocks_of self.new)) result (listed_read 256 takes_storage (blocks_of self.old) (rest_of self.old)) }
     {
         let listing = Listing::new(self.alloc, takes_storage);
-        match self.read(0, Held::Specifiers(listing)) {
+        match self.read(256, 0, Held::Specifiers(listing)) {
             Ok(done) => self.specifiers_from(done),
             Err(refusal) => Err(refusal),
         }
     }
 
     fn read_declarator(&mut self, sort: Sort) -> Result<MeasuredDeclarator, Refusal>
-        ensures { Gives (λ d. (declarator_of d.declarator, rest_of self.new, blocks_of self.new)) result (declarator_read sort (blocks_of self.old) (rest_of self.old)) }
+        ensures { Gives (λ d. (declarator_of d.declarator, rest_of self.new, blocks_of self.new)) result (declarator_read 256 sort (blocks_of self.old) (rest_of self.old)) }
     {
-        match self.read(0, Held::Declarator(sort)) {
+        match self.read(256, 0, Held::Declarator(sort)) {
             Ok(done) => self.declarator_from(done),
             Err(refusal) => Err(refusal),
         }
@@ -250,9 +251,9 @@ impl<'a> Parser<'a> {
 /// and `__asm__` and `Syntax` elsewhere, and `TooLarge` of `Depth` at the first token with which only a
 /// deeper tree goes on.
 pub fn parse_expr(parser: &mut Parser) -> Result<Expr, Refusal>
-    ensures { Gives (λ e. (expr_of e, rest_of parser.new, blocks_of parser.new)) result (expr_read 0 (blocks_of parser.old) (rest_of parser.old)) }
+    ensures { Gives (λ e. (expr_of e, rest_of parser.new, blocks_of parser.new)) result (expr_read 256 0 (blocks_of parser.old) (rest_of parser.old)) }
 {
-    match parser.read_expr(0) {
+    match parser.read_expr(256, 0) {
         Ok(e) => Ok(e.expr),
         Err(refusal) => Err(refusal),
     }
@@ -260,9 +261,19 @@ pub fn parse_expr(parser: &mut Parser) -> Result<Expr, Refusal>
 
 /// The assignment expression that stands here (C90 6.3.16), as an initialiser is.
 pub fn parse_assignment(parser: &mut Parser) -> Result<Expr, Refusal>
-    ensures { Gives (λ e. (expr_of e, rest_of parser.new, blocks_of parser.new)) result (expr_read 1 (blocks_of parser.old) (rest_of parser.old)) }
+    ensures { Gives (λ e. (expr_of e, rest_of parser.new, blocks_of parser.new)) result (expr_read 256 1 (blocks_of parser.old) (rest_of parser.old)) }
 {
-    match parser.read_expr(1) {
+    match parser.read_expr(256, 1) {
+        Ok(e) => Ok(e.expr),
+        Err(refusal) => Err(refusal),
+    }
+}
+
+/// The same in so many open constructs that trees of this depth have room in them.
+pub fn parse_assignment_within(parser: &mut Parser, limit: u16) -> Result<Expr, Refusal>
+    ensures { Gives (λ e. (expr_of e, rest_of parser.new, blocks_of parser.new)) result (expr_read limit 1 (blocks_of parser.old) (rest_of parser.old)) }
+{
+    match parser.read_expr(limit, 1) {
         Ok(e) => Ok(e.expr),
         Err(refusal) => Err(refusal),
     }
@@ -270,9 +281,9 @@ pub fn parse_assignment(parser: &mut Parser) -> Result<Expr, Refusal>
 
 /// The constant expression that stands here (C90 6.4), as behind `case`.
 pub fn parse_constant(parser: &mut Parser) -> Result<Expr, Refusal>
-    ensures { Gives (λ e. (expr_of e, rest_of parser.new, blocks_of parser.new)) result (expr_read 2 (blocks_of parser.old) (rest_of parser.old)) }
+    ensures { Gives (λ e. (expr_of e, rest_of parser.new, blocks_of parser.new)) result (expr_read 256 2 (blocks_of parser.old) (rest_of parser.old)) }
 {
-    match parser.read_expr(2) {
+    match parser.read_expr(256, 2) {
         Ok(e) => Ok(e.expr),
         Err(refusal) => Err(refusal),
     }
@@ -280,7 +291,7 @@ pub fn parse_constant(parser: &mut Parser) -> Result<Expr, Refusal>
 
 /// The declaration specifiers that stand here (C90 6.5), or none.
 pub fn parse_specifiers(parser: &mut Parser) -> Result<Specifiers, Refusal>
-    ensures { Gives (λ q. (specifiers_of q, rest_of parser.new, blocks_of parser.new)) result (specifiers_read (blocks_of parser.old) (rest_of parser.old)) }
+    ensures { Gives (λ q. (specifiers_of q, rest_of parser.new, blocks_of parser.new)) result (specifiers_read 256 (blocks_of parser.old) (rest_of parser.old)) }
 {
     match parser.read_specifiers(true) {
         Ok(specifiers) => Ok(specifiers.specifiers),
@@ -290,7 +301,7 @@ pub fn parse_specifiers(parser: &mut Parser) -> Result<Specifiers, Refusal>
 
 /// The declarator that stands here (C90 6.5.4). Its name is not declared.
 pub fn parse_declarator(parser: &mut Parser) -> Result<Declarator, Refusal>
-    ensures { Gives (λ d. (declarator_of d, rest_of parser.new, blocks_of parser.new)) result (declarator_read (Sort.Named true) (blocks_of parser.old) (rest_of parser.old)) }
+    ensures { Gives (λ d. (declarator_of d, rest_of parser.new, blocks_of parser.new)) result (declarator_read 256 (Sort.Named true) (blocks_of parser.old) (rest_of parser.old)) }
 {
     match parser.read_declarator(Sort::Named(true)) {
         Ok(declarator) => Ok(declarator.declarator),
@@ -300,7 +311,7 @@ pub fn parse_declarator(parser: &mut Parser) -> Result<Declarator, Refusal>
 
 /// The declarator that stands here behind specifiers without a type specifier: its name is no type's.
 pub fn parse_untyped_declarator(parser: &mut Parser) -> Result<Declarator, Refusal>
-    ensures { Gives (λ d. (declarator_of d, rest_of parser.new, blocks_of parser.new)) result (declarator_read (Sort.Named false) (blocks_of parser.old) (rest_of parser.old)) }
+    ensures { Gives (λ d. (declarator_of d, rest_of parser.new, blocks_of parser.new)) result (declarator_read 256 (Sort.Named false) (blocks_of parser.old) (rest_of parser.old)) }
 {
     match parser.read_declarator(Sort::Named(false)) {
         Ok(declarator) => Ok(declarator.declarator),
@@ -310,7 +321,7 @@ pub fn parse_untyped_declarator(parser: &mut Parser) -> Result<Declarator, Refus
 
 /// The type name whose specifiers were read.
 fn type_behind(parser: &mut Parser, specifiers: MeasuredSpecifiers) -> Result<TypeName, Refusal>
-    ensures { Gives (λ t. (type_of t, rest_of parser.new, blocks_of parser.new)) result (Reading.type_behind (listed_of specifiers) (blocks_of parser.old) (rest_of parser.old)) }
+    ensures { Gives (λ t. (type_of t, rest_of parser.new, blocks_of parser.new)) result (Reading.type_behind 256 (listed_of specifiers) (blocks_of parser.old) (rest_of parser.old)) }
 {
     if specifiers.is_empty() {
         return Err(parser.unexpected());
@@ -323,7 +334,7 @@ fn type_behind(parser: &mut Parser, specifiers: MeasuredSpecifiers) -> Result<Ty
 
 /// The type name that stands here (C90 6.5.5).
 pub fn parse_type_name(parser: &mut Parser) -> Result<TypeName, Refusal>
-    ensures { Gives (λ t. (type_of t, rest_of parser.new, blocks_of parser.new)) result (type_read (blocks_of parser.old) (rest_of parser.old)) }
+    ensures { Gives (λ t. (type_of t, rest_of parser.new, blocks_of parser.new)) result (type_read 256 (blocks_of parser.old) (rest_of parser.old)) }
 {
     match parser.read_specifiers(false) {
         Ok(specifiers) => type_behind(parser, specifiers),

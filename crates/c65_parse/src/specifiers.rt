@@ -22,12 +22,12 @@ use std::alloc::{AllocError, Global};
 #[tactic(auto, unfolding(crate::specs::Specifiers::member_step))]
 pub fn member(
     alloc: Global,
-    frames: Vec<Frame>,
+    limit: u16, frames: Vec<Frame>,
     part: MembersPart,
     pos: Pos,
     sign: Sign,
 ) -> Result<Step, AllocError>
-    ensures { IfOk result (λ n. next_of n ≡ member_step (members_part_of part) (stack_of frames.items) pos sign) }
+    ensures { IfOk result (λ n. next_of n ≡ member_step limit (members_part_of part) (stack_of frames.items) pos sign) }
 {
     let mut frames = frames;
     match sign {
@@ -35,7 +35,7 @@ pub fn member(
         _ => {
             let sort = Sort::Member(part.specifiers.has_type);
             frames.push(Frame::Member(part, pos))?;
-            declarator(alloc, frames, sort, pos, sign)
+            declarator(alloc, limit, frames, sort, pos, sign)
         }
     }
 }
@@ -44,23 +44,23 @@ pub fn member(
 #[tactic(auto, unfolding(crate::specs::Specifiers::end_listed))]
 fn after_specifiers(
     alloc: Global,
-    frames: Vec<Frame>,
+    limit: u16, frames: Vec<Frame>,
     specifiers: MeasuredSpecifiers,
     pos: Pos,
     sign: Sign,
 ) -> Result<Step, AllocError>
-    ensures { IfOk result (λ n. next_of n ≡ end_listed (listed_of specifiers) (stack_of frames.items) pos sign) }
+    ensures { IfOk result (λ n. next_of n ≡ end_listed limit (listed_of specifiers) (stack_of frames.items) pos sign) }
 {
     let mut frames = frames;
     match frames.pop() {
         Some(Frame::Type(at, purpose)) => {
             frames.push(Frame::TypeDeclarator(at, purpose, specifiers))?;
-            declarator(alloc, frames, Sort::Abstract, pos, sign)
+            declarator(alloc, limit, frames, Sort::Abstract, pos, sign)
         }
         Some(Frame::Params(part)) => {
             let sort = Sort::Param(specifiers.has_type);
             frames.push(Frame::Param(part, specifiers))?;
-            declarator(alloc, frames, sort, pos, sign)
+            declarator(alloc, limit, frames, sort, pos, sign)
         }
         Some(Frame::Members(body)) => {
             let part = MembersPart {
@@ -68,7 +68,7 @@ fn after_specifiers(
                 specifiers,
                 members: MemberList::new(alloc),
             };
-            member(alloc, frames, part, pos, sign)
+            member(alloc, limit, frames, part, pos, sign)
         }
         Some(Frame::Operation(_)) => Ok(Step::Fail),
         Some(Frame::Paren(_)) => Ok(Step::Fail),
@@ -90,12 +90,12 @@ fn after_specifiers(
 #[tactic(auto, unfolding(crate::specs::Specifiers::end_specifiers))]
 fn end_specifiers(
     alloc: Global,
-    frames: Vec<Frame>,
+    limit: u16, frames: Vec<Frame>,
     listing: Listing,
     pos: Pos,
     sign: Sign,
 ) -> Result<Step, AllocError>
-    ensures { IfOk result (λ n. next_of n ≡ Specifiers.end_specifiers (listing_of listing) (stack_of frames.items) pos sign) }
+    ensures { IfOk result (λ n. next_of n ≡ Specifiers.end_specifiers limit (listing_of listing) (stack_of frames.items) pos sign) }
 {
     let is_empty = listing.first.is_none();
     let specifiers = listing.end(pos);
@@ -105,19 +105,19 @@ fn end_specifiers(
     if is_empty {
         return Ok(Step::Fail);
     }
-    after_specifiers(alloc, frames, specifiers, pos, sign)
+    after_specifiers(alloc, limit, frames, specifiers, pos, sign)
 }
 
 /// Among specifiers.
 #[tactic(auto, unfolding(crate::specs::Specifiers::specifiers_step))]
 pub fn specifiers(
     alloc: Global,
-    frames: Vec<Frame>,
+    limit: u16, frames: Vec<Frame>,
     listing: Listing,
     pos: Pos,
     sign: Sign,
 ) -> Result<Step, AllocError>
-    ensures { IfOk result (λ n. next_of n ≡ specifiers_step (listing_of listing) (stack_of frames.items) pos sign) }
+    ensures { IfOk result (λ n. next_of n ≡ specifiers_step limit (listing_of listing) (stack_of frames.items) pos sign) }
 {
     match sign {
         Sign::Word(word) => {
@@ -140,7 +140,7 @@ pub fn specifiers(
             let listing = listing.with_typedef_name(pos, name)?;
             Ok(go(frames, Held::Specifiers(listing)))
         }
-        _ => end_specifiers(alloc, frames, listing, pos, sign),
+        _ => end_specifiers(alloc, limit, frames, listing, pos, sign),
     }
 }
 
@@ -196,17 +196,17 @@ impl Body {
 #[tactic(auto, unfolding(crate::specs::Specifiers::open_body))]
 fn braced(
     alloc: Global,
-    frames: Vec<Frame>,
+    limit: u16, frames: Vec<Frame>,
     part: TagPart,
     tag: Option<Name>,
 ) -> Result<Step, AllocError>
-    ensures { IfOk result (λ n. next_of n ≡ open_body (tag_part_of part) tag (stack_of frames.items)) }
+    ensures { IfOk result (λ n. next_of n ≡ open_body limit (tag_part_of part) tag (stack_of frames.items)) }
 {
     if matches!(part.word, TagWord::Enum) {
         let part = part.into_enum(alloc, tag);
         return Ok(go(frames, Held::Enumerator(part)));
     }
-    if !has_room(&frames, 2) {
+    if !has_room(limit, &frames, 2) {
         return Ok(Step::Deep);
     }
     let body = part.into_body(alloc, tag);
@@ -216,12 +216,12 @@ fn braced(
 
 /// Behind a structure's, a union's or an enumeration's word.
 #[tactic(auto, unfolding(crate::specs::Specifiers::tag_step))]
-pub fn tag(alloc: Global, frames: Vec<Frame>, part: TagPart, sign: Sign) -> Result<Step, AllocError>
-    ensures { IfOk result (λ n. next_of n ≡ tag_step (tag_part_of part) (stack_of frames.items) sign) }
+pub fn tag(alloc: Global, limit: u16, frames: Vec<Frame>, part: TagPart, sign: Sign) -> Result<Step, AllocError>
+    ensures { IfOk result (λ n. next_of n ≡ tag_step limit (tag_part_of part) (stack_of frames.items) sign) }
 {
     match sign {
         Sign::Name(name, _) => Ok(go(frames, Held::TagName(part, name))),
-        Sign::OpenBrace => braced(alloc, frames, part, None),
+        Sign::OpenBrace => braced(alloc, limit, frames, part, None),
         _ => Ok(Step::Fail),
     }
 }
@@ -230,19 +230,19 @@ pub fn tag(alloc: Global, frames: Vec<Frame>, part: TagPart, sign: Sign) -> Resu
 #[tactic(auto, unfolding(crate::specs::Specifiers::tag_name_step))]
 pub fn tag_name(
     alloc: Global,
-    frames: Vec<Frame>,
+    limit: u16, frames: Vec<Frame>,
     part: TagPart,
     name: Name,
     pos: Pos,
     sign: Sign,
 ) -> Result<Step, AllocError>
-    ensures { IfOk result (λ n. next_of n ≡ tag_name_step (tag_part_of part) name (stack_of frames.items) pos sign) }
+    ensures { IfOk result (λ n. next_of n ≡ tag_name_step limit (tag_part_of part) name (stack_of frames.items) pos sign) }
 {
     match sign {
-        Sign::OpenBrace => braced(alloc, frames, part, Some(name)),
+        Sign::OpenBrace => braced(alloc, limit, frames, part, Some(name)),
         _ => {
             let listing = part.end(name)?;
-            specifiers(alloc, frames, listing, pos, sign)
+            specifiers(alloc, limit, frames, listing, pos, sign)
         }
     }
 }
@@ -251,12 +251,12 @@ pub fn tag_name(
 #[tactic(auto, unfolding(crate::specs::Specifiers::more_members_step))]
 pub fn more_members(
     alloc: Global,
-    frames: Vec<Frame>,
+    limit: u16, frames: Vec<Frame>,
     body: Body,
     pos: Pos,
     sign: Sign,
 ) -> Result<Step, AllocError>
-    ensures { IfOk result (λ n. next_of n ≡ more_members_step (body_of body) (stack_of frames.items) pos sign) }
+    ensures { IfOk result (λ n. next_of n ≡ more_members_step limit (body_of body) (stack_of frames.items) pos sign) }
 {
     let mut frames = frames;
     match sign {
@@ -267,7 +267,7 @@ pub fn more_members(
         _ => {
             frames.push(Frame::Members(body))?;
             let listing = Listing::new(alloc, false);
-            specifiers(alloc, frames, listing, pos, sign)
+            specifiers(alloc, limit, frames, listing, pos, sign)
         }
     }
 }
@@ -286,17 +286,17 @@ pub fn enumerator(frames: Vec<Frame>, part: EnumPart, pos: Pos, sign: Sign) -> S
 /// Behind an enumerator's name.
 #[tactic(auto, unfolding(crate::specs::Specifiers::enumerator_name_step))]
 pub fn enumerator_name(
-    frames: Vec<Frame>,
+    limit: u16, frames: Vec<Frame>,
     part: EnumPart,
     name: Name,
     pos: Pos,
     sign: Sign,
 ) -> Result<Step, AllocError>
-    ensures { IfOk result (λ n. next_of n ≡ enumerator_name_step (enum_part_of part) name pos (stack_of frames.items) sign) }
+    ensures { IfOk result (λ n. next_of n ≡ enumerator_name_step limit (enum_part_of part) name pos (stack_of frames.items) sign) }
 {
     match sign {
         Sign::Infix(Infix::Assign(None)) => {
-            if has_room(&frames, 2) {
+            if has_room(limit, &frames, 2) {
                 enter(frames, Frame::Value(part, name, pos), Held::Operand)
             } else {
                 Ok(Step::Deep)

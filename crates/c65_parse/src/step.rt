@@ -28,35 +28,35 @@ use std::alloc::{AllocError, Global};
 #[tactic(auto, unfolding(crate::specs::Machine::opened_step))]
 fn opened(
     alloc: Global,
-    frames: Vec<Frame>,
+    limit: u16, frames: Vec<Frame>,
     pos: Pos,
     token: &Token,
     sign: Sign,
 ) -> Result<Step, AllocError>
-    ensures { IfOk result (λ n. next_of n ≡ opened_step pos (stack_of frames.items) token.now sign) }
+    ensures { IfOk result (λ n. next_of n ≡ opened_step limit pos (stack_of frames.items) token.now sign) }
 {
     let mut frames = frames;
     if !sign.begins_type() {
         frames.push(Frame::Paren(pos))?;
-        return operand(alloc, frames, token, sign);
+        return operand(alloc, limit, frames, token, sign);
     }
     if hole(&frames, 0) > 13 {
         return Ok(Step::Fail);
     }
     frames.push(Frame::Type(pos, TypeUse::Cast))?;
-    specifiers(alloc, frames, Listing::new(alloc, false), token.pos, sign)
+    specifiers(alloc, limit, frames, Listing::new(alloc, false), token.pos, sign)
 }
 
 /// Behind `sizeof`.
 #[tactic(auto, unfolding(crate::specs::Machine::sizeof_step))]
 fn sizeof_word(
     alloc: Global,
-    frames: Vec<Frame>,
+    limit: u16, frames: Vec<Frame>,
     pos: Pos,
     token: &Token,
     sign: Sign,
 ) -> Result<Step, AllocError>
-    ensures { IfOk result (λ n. next_of n ≡ sizeof_step pos (stack_of frames.items) token.now sign) }
+    ensures { IfOk result (λ n. next_of n ≡ sizeof_step limit pos (stack_of frames.items) token.now sign) }
 {
     let mut frames = frames;
     match sign {
@@ -64,7 +64,7 @@ fn sizeof_word(
         _ => {
             let operation = Operation::Prefix(pos, Prefix::Sizeof);
             frames.push(Frame::Operation(operation))?;
-            operand(alloc, frames, token, sign)
+            operand(alloc, limit, frames, token, sign)
         }
     }
 }
@@ -73,36 +73,36 @@ fn sizeof_word(
 #[tactic(auto, unfolding(crate::specs::Machine::sizeof_opened_step))]
 fn sizeof_opened(
     alloc: Global,
-    frames: Vec<Frame>,
+    limit: u16, frames: Vec<Frame>,
     pos: Pos,
     paren: Pos,
     token: &Token,
     sign: Sign,
 ) -> Result<Step, AllocError>
-    ensures { IfOk result (λ n. next_of n ≡ sizeof_opened_step pos paren (stack_of frames.items) token.now sign) }
+    ensures { IfOk result (λ n. next_of n ≡ sizeof_opened_step limit pos paren (stack_of frames.items) token.now sign) }
 {
     let mut frames = frames;
     if sign.begins_type() {
         frames.push(Frame::Type(pos, TypeUse::Sizeof))?;
-        return specifiers(alloc, frames, Listing::new(alloc, false), token.pos, sign);
+        return specifiers(alloc, limit, frames, Listing::new(alloc, false), token.pos, sign);
     }
     let operation = Operation::Prefix(pos, Prefix::Sizeof);
     frames.push(Frame::Operation(operation))?;
     frames.push(Frame::Paren(paren))?;
-    operand(alloc, frames, token, sign)
+    operand(alloc, limit, frames, token, sign)
 }
 
 /// Behind the parenthesis of a call.
 #[tactic(auto, unfolding(crate::specs::Machine::called_step))]
 fn called(
     alloc: Global,
-    frames: Vec<Frame>,
+    limit: u16, frames: Vec<Frame>,
     pos: Pos,
     f: MeasuredExpr,
     token: &Token,
     sign: Sign,
 ) -> Result<Step, AllocError>
-    ensures { IfOk result (λ n. next_of n ≡ called_step pos (expr_of f.expr) (stack_of frames.items) token.now sign) }
+    ensures { IfOk result (λ n. next_of n ≡ called_step limit pos (expr_of f.expr) (stack_of frames.items) token.now sign) }
 {
     let mut frames = frames;
     let arguments = MeasuredExprs::new(alloc);
@@ -113,7 +113,7 @@ fn called(
         }
         _ => {
             frames.push(Frame::Call(pos, f, arguments))?;
-            operand(alloc, frames, token, sign)
+            operand(alloc, limit, frames, token, sign)
         }
     }
 }
@@ -151,13 +151,13 @@ struct Star {
 #[tactic(auto, unfolding(crate::specs::Machine::qualifiers_step))]
 fn qualifiers(
     alloc: Global,
-    frames: Vec<Frame>,
+    limit: u16, frames: Vec<Frame>,
     star: Star,
     sort: Sort,
     pos: Pos,
     sign: Sign,
 ) -> Result<Step, AllocError>
-    ensures { IfOk result (λ n. next_of n ≡ qualifiers_step star.pos star.constant star.volatile sort (stack_of frames.items) pos sign) }
+    ensures { IfOk result (λ n. next_of n ≡ qualifiers_step limit star.pos star.constant star.volatile sort (stack_of frames.items) pos sign) }
 {
     let mut frames = frames;
     match sign {
@@ -172,7 +172,7 @@ fn qualifiers(
         _ => {
             let how = Derivation::Pointer(star.constant, star.volatile);
             frames.push(Frame::Derived(star.pos, how))?;
-            declarator(alloc, frames, sort, pos, sign)
+            declarator(alloc, limit, frames, sort, pos, sign)
         }
     }
 }
@@ -193,13 +193,13 @@ fn with_block(step: Step) -> Step
 #[tactic(auto, unfolding(crate::specs::Machine::params_step))]
 fn params(
     alloc: Global,
-    frames: Vec<Frame>,
+    limit: u16, frames: Vec<Frame>,
     at: Pos,
     d: MeasuredDeclarator,
     pos: Pos,
     sign: Sign,
 ) -> Result<Step, AllocError>
-    ensures { IfOk result (λ n. next_of n ≡ params_step at (declarator_of d.declarator) (stack_of frames.items) pos sign) }
+    ensures { IfOk result (λ n. next_of n ≡ params_step limit at (declarator_of d.declarator) (stack_of frames.items) pos sign) }
 {
     let mut frames = frames;
     let part = ParamsPart {
@@ -208,7 +208,7 @@ fn params(
         params: ParamList::new(alloc),
     };
     frames.push(Frame::Params(part))?;
-    let step = specifiers(alloc, frames, Listing::new(alloc, true), pos, sign)?;
+    let step = specifiers(alloc, limit, frames, Listing::new(alloc, true), pos, sign)?;
     Ok(with_block(step))
 }
 
@@ -216,13 +216,13 @@ fn params(
 #[tactic(auto, unfolding(crate::specs::Machine::opened_declarator_step))]
 fn opened_declarator(
     alloc: Global,
-    frames: Vec<Frame>,
+    limit: u16, frames: Vec<Frame>,
     at: Pos,
     sort: Sort,
     pos: Pos,
     sign: Sign,
 ) -> Result<Step, AllocError>
-    ensures { IfOk result (λ n. next_of n ≡ opened_declarator_step at sort (stack_of frames.items) pos sign) }
+    ensures { IfOk result (λ n. next_of n ≡ opened_declarator_step limit at sort (stack_of frames.items) pos sign) }
 {
     let mut frames = frames;
     if matches!(sign, Sign::Close) {
@@ -233,7 +233,7 @@ fn opened_declarator(
     if sign.begins_specifiers() {
         return params(
             alloc,
-            frames,
+            limit, frames,
             at,
             MeasuredDeclarator::nameless(at),
             pos,
@@ -241,20 +241,20 @@ fn opened_declarator(
         );
     }
     frames.push(Frame::Group(at))?;
-    declarator(alloc, frames, sort, pos, sign)
+    declarator(alloc, limit, frames, sort, pos, sign)
 }
 
 /// Behind the bracket of a bound.
 #[tactic(auto, unfolding(crate::specs::Machine::opened_bound_step))]
 fn opened_bound(
     alloc: Global,
-    frames: Vec<Frame>,
+    limit: u16, frames: Vec<Frame>,
     at: Pos,
     d: MeasuredDeclarator,
     token: &Token,
     sign: Sign,
 ) -> Result<Step, AllocError>
-    ensures { IfOk result (λ n. next_of n ≡ opened_bound_step at (declarator_of d.declarator) (stack_of frames.items) token.now sign) }
+    ensures { IfOk result (λ n. next_of n ≡ opened_bound_step limit at (declarator_of d.declarator) (stack_of frames.items) token.now sign) }
 {
     let mut frames = frames;
     match sign {
@@ -264,7 +264,7 @@ fn opened_bound(
         }
         _ => {
             frames.push(Frame::Bound(at, d))?;
-            operand(alloc, frames, token, sign)
+            operand(alloc, limit, frames, token, sign)
         }
     }
 }
@@ -292,13 +292,13 @@ fn first_name(
 #[tactic(auto, unfolding(crate::specs::Machine::opened_params_step))]
 fn opened_params(
     alloc: Global,
-    frames: Vec<Frame>,
+    limit: u16, frames: Vec<Frame>,
     at: Pos,
     d: MeasuredDeclarator,
     pos: Pos,
     sign: Sign,
 ) -> Result<Step, AllocError>
-    ensures { IfOk result (λ n. next_of n ≡ opened_params_step at (declarator_of d.declarator) (stack_of frames.items) pos sign) }
+    ensures { IfOk result (λ n. next_of n ≡ opened_params_step limit at (declarator_of d.declarator) (stack_of frames.items) pos sign) }
 {
     match sign {
         Sign::Close => {
@@ -314,7 +314,7 @@ fn opened_params(
         }
         _ => {
             if sign.begins_specifiers() {
-                params(alloc, frames, at, d, pos, sign)
+                params(alloc, limit, frames, at, d, pos, sign)
             } else {
                 Ok(Step::Fail)
             }
@@ -326,19 +326,19 @@ fn opened_params(
 #[tactic(auto, unfolding(crate::specs::Machine::more_params_step))]
 fn more_params(
     alloc: Global,
-    frames: Vec<Frame>,
+    limit: u16, frames: Vec<Frame>,
     part: ParamsPart,
     pos: Pos,
     sign: Sign,
 ) -> Result<Step, AllocError>
-    ensures { IfOk result (λ n. next_of n ≡ more_params_step (params_part_of part) (stack_of frames.items) pos sign) }
+    ensures { IfOk result (λ n. next_of n ≡ more_params_step limit (params_part_of part) (stack_of frames.items) pos sign) }
 {
     let mut frames = frames;
     match sign {
         Sign::Ellipsis => Ok(go(frames, Held::Ellipsis(part))),
         _ => {
             frames.push(Frame::Params(part))?;
-            specifiers(alloc, frames, Listing::new(alloc, true), pos, sign)
+            specifiers(alloc, limit, frames, Listing::new(alloc, true), pos, sign)
         }
     }
 }
@@ -404,46 +404,47 @@ fn names_end(
 pub fn take(
     alloc: Global,
     scope: &Scope,
+    limit: u16,
     least: u32,
     reading: Open,
     token: &Token,
 ) -> Result<Step, AllocError>
-    ensures { IfOk result (λ n. next_of n ≡ Machine.step least (scope_of scope.now) (stack_of reading.frames.items) (held_of reading.held) token.now) }
+    ensures { IfOk result (λ n. next_of n ≡ Machine.step limit least (scope_of scope.now) (stack_of reading.frames.items) (held_of reading.held) token.now) }
 {
     let sign = Sign::of(scope, token);
     let pos = token.pos;
     let frames = reading.frames;
     match reading.held {
-        Held::Operand => operand(alloc, frames, token, sign),
-        Held::Opened(at) => opened(alloc, frames, at, token, sign),
-        Held::Sizeof(at) => sizeof_word(alloc, frames, at, token, sign),
-        Held::SizeofOpened(at, paren) => sizeof_opened(alloc, frames, at, paren, token, sign),
-        Held::Called(at, f) => called(alloc, frames, at, f, token, sign),
+        Held::Operand => operand(alloc, limit, frames, token, sign),
+        Held::Opened(at) => opened(alloc, limit, frames, at, token, sign),
+        Held::Sizeof(at) => sizeof_word(alloc, limit, frames, at, token, sign),
+        Held::SizeofOpened(at, paren) => sizeof_opened(alloc, limit, frames, at, paren, token, sign),
+        Held::Called(at, f) => called(alloc, limit, frames, at, f, token, sign),
         Held::Dotted(at, arrow, e) => dotted(alloc, frames, at, arrow, e, sign),
-        Held::Expr(e) => after_expr(alloc, least, frames, e, pos, sign),
-        Held::Specifiers(listing) => specifiers(alloc, frames, listing, pos, sign),
-        Held::Tag(part) => tag(alloc, frames, part, sign),
-        Held::TagName(part, name) => tag_name(alloc, frames, part, name, pos, sign),
-        Held::MoreMembers(body) => more_members(alloc, frames, body, pos, sign),
-        Held::Member(part) => member(alloc, frames, part, pos, sign),
+        Held::Expr(e) => after_expr(alloc, limit, least, frames, e, pos, sign),
+        Held::Specifiers(listing) => specifiers(alloc, limit, frames, listing, pos, sign),
+        Held::Tag(part) => tag(alloc, limit, frames, part, sign),
+        Held::TagName(part, name) => tag_name(alloc, limit, frames, part, name, pos, sign),
+        Held::MoreMembers(body) => more_members(alloc, limit, frames, body, pos, sign),
+        Held::Member(part) => member(alloc, limit, frames, part, pos, sign),
         Held::Enumerator(part) => Ok(enumerator(frames, part, pos, sign)),
-        Held::EnumeratorName(part, name, at) => enumerator_name(frames, part, name, at, sign),
-        Held::Declarator(sort) => declarator(alloc, frames, sort, pos, sign),
+        Held::EnumeratorName(part, name, at) => enumerator_name(limit, frames, part, name, at, sign),
+        Held::Declarator(sort) => declarator(alloc, limit, frames, sort, pos, sign),
         Held::Qualifiers(at, constant, volatile, sort) => {
             let star = Star {
                 pos: at,
                 constant,
                 volatile,
             };
-            qualifiers(alloc, frames, star, sort, pos, sign)
+            qualifiers(alloc, limit, frames, star, sort, pos, sign)
         }
         Held::OpenedDeclarator(at, sort) => {
-            opened_declarator(alloc, frames, at, sort, pos, sign)
+            opened_declarator(alloc, limit, frames, at, sort, pos, sign)
         }
-        Held::Declared(d) => after_declarator(alloc, frames, d, pos, sign),
-        Held::OpenedBound(at, d) => opened_bound(alloc, frames, at, d, token, sign),
-        Held::OpenedParams(at, d) => opened_params(alloc, frames, at, d, pos, sign),
-        Held::MoreParams(part) => more_params(alloc, frames, part, pos, sign),
+        Held::Declared(d) => after_declarator(alloc, limit, frames, d, pos, sign),
+        Held::OpenedBound(at, d) => opened_bound(alloc, limit, frames, at, d, token, sign),
+        Held::OpenedParams(at, d) => opened_params(alloc, limit, frames, at, d, pos, sign),
+        Held::MoreParams(part) => more_params(alloc, limit, frames, part, pos, sign),
         Held::Ellipsis(part) => ellipsis(alloc, frames, part, sign),
         Held::Names(part) => names(frames, part, pos, sign),
         Held::NamesEnd(part) => names_end(alloc, frames, part, sign),

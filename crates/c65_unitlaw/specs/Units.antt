@@ -12,7 +12,7 @@ use Rattle.c65_decl.specs.Statements.{statement_read}
 use Rattle.c65_decl.specs.Units.{unit_read}
 use Rattle.c65_grammar.specs.Scopes.{Scope, after_stmt}
 use Rattle.c65_grammar.specs.Statements.{is_closed, statement}
-use Rattle.c65_grammar.specs.Readings.{IsUnit}
+use Rattle.c65_grammar.specs.Readings.{IsUnitWithin}
 
 -- C90 6.6: an `else` goes on with a statement that ends in an `if` without one
 abbrev pub StatementsAreRead : Type 0
@@ -22,11 +22,11 @@ StatementsAreRead = (unit : List Token) (sc : Scope) (outer : Blocks) (tree : t.
 
 -- C90 6.7
 abbrev pub UnitsAreRead : Type 0
-UnitsAreRead = (tokens : List Token) (unit : t.UnitTree) → IsUnit tokens unit → unit_read tokens ≡ Ok unit
+UnitsAreRead = (tokens : List Token) (unit : t.UnitTree) → IsUnitWithin 256 tokens unit → unit_read tokens ≡ Ok unit
 
 abbrev pub UnitsAreOne : Type 0
-UnitsAreOne = (tokens : List Token) (unit other : t.UnitTree) → IsUnit tokens unit → IsUnit tokens other → unit ≡ other
+UnitsAreOne = (tokens : List Token) (unit other : t.UnitTree) → IsUnitWithin 256 tokens unit → IsUnitWithin 256 tokens other → unit ≡ other
 
 -- where the tokens are those of a unit within the limit, the answer is that unit, unless memory ran out
 abbrev pub AcceptsUnit : {X : Type 0} → List Token → (X → t.UnitTree) → Result X Refusal → Type 0
-AcceptsUnit tokens view result = (unit : t.UnitTree) → IsUnit tokens unit → Gives view result (Ok unit)
+AcceptsUnit tokens view result = (unit : t.UnitTree) → IsUnitWithin 256 tokens unit → Gives view result (Ok unit)

@@ -15,10 +15,10 @@ loop-step-preserved c =
     let after = c.read_item.new.parser in
     let before = items_of l.items.items in
     let more = with_item before (item_of c.in_ok-item.item) in
-    let t : items_next (items_run unit (drop (l._step-index + 1) unit)) more (blocks_of after) (rest_of after) ≡ items_read unit (blocks_of c.args.parser.now) (rest_of c.args.parser.now) =
-    turn (λ us. items_run unit us before (blocks_of l.parser) (rest_of l.parser)) (item_read unit (blocks_of l.parser) (rest_of l.parser)) (λ us i. items_next (items_run unit us) (with_item before i.0) i.2 i.1) unit l._step-index _ _ (λ u rest. refl) c.loop-step-test.true l.invariant c.in_ok-item.ensures in
-    ap (λ (is : List ItemTree). items_run unit (drop (l._step-index + 1) unit) is (blocks_of after) (rest_of after)) c.in_ok-items.ensures
-    ∙ sym (ap (λ (b : Bool). if b then Ok more else items_run unit (drop (l._step-index + 1) unit) more (blocks_of after) (rest_of after)) (sym c.is_here.ensures ∙ c.if-is_here.false)) ∙ t
+    let t : items_next (items_run 256 unit (drop (l._step-index + 1) unit)) more (blocks_of after) (rest_of after) ≡ items_read 256 unit (blocks_of c.args.parser.now) (rest_of c.args.parser.now) =
+    turn (λ us. items_run 256 unit us before (blocks_of l.parser) (rest_of l.parser)) (item_read 256 unit (blocks_of l.parser) (rest_of l.parser)) (λ us i. items_next (items_run 256 unit us) (with_item before i.0) i.2 i.1) unit l._step-index _ _ (λ u rest. refl) c.loop-step-test.true l.invariant c.in_ok-item.ensures in
+    ap (λ (is : List ItemTree). items_run 256 unit (drop (l._step-index + 1) unit) is (blocks_of after) (rest_of after)) c.in_ok-items.ensures
+    ∙ sym (ap (λ (b : Bool). if b then Ok more else items_run 256 unit (drop (l._step-index + 1) unit) more (blocks_of after) (rest_of after)) (sym c.is_here.ensures ∙ c.if-is_here.false)) ∙ t
 
 pub returns-in_err-item : goal.returns-in_err-item
 returns-in_err-item c =
@@ -26,4 +26,4 @@ returns-in_err-item c =
     let unit = c.args.unit.now in
     let before = items_of l.items.items in
     let p = err_from_is_err_and c.from_residual.result c.from_residual.ensures.1 in
-    rw (p.1, p.2) (refused (λ us. items_run unit us before (blocks_of l.parser) (rest_of l.parser)) (item_read unit (blocks_of l.parser) (rest_of l.parser)) (λ us i. items_next (items_run unit us) (with_item before i.0) i.2 i.1) unit l._step-index _ _ (λ u rest. refl) c.loop-step-test.true l.invariant c.in_err-item.ensures)
+    rw (p.1, p.2) (refused (λ us. items_run 256 unit us before (blocks_of l.parser) (rest_of l.parser)) (item_read 256 unit (blocks_of l.parser) (rest_of l.parser)) (λ us i. items_next (items_run 256 unit us) (with_item before i.0) i.2 i.1) unit l._step-index _ _ (λ u rest. refl) c.loop-step-test.true l.invariant c.in_err-item.ensures)

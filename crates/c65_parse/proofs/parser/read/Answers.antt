@@ -11,29 +11,29 @@ use Rattle.c65_parse.proofs.parser.read.Goals as goal
 
 pub returns-in-Stop : goal.returns-in-Stop
 returns-in-Stop c =
-    let whole : Reading = run c.args.least (scope_of c.args.scope.now) [] (held_of c.args.held) c.args.tokens.now in
+    let whole : Reading = run c.args.limit c.args.least (scope_of c.args.scope.now) [] (held_of c.args.held) c.args.tokens.now in
     record {
-      answer = turn_item c.args.least (scope_of c.loop-i.scope) c.args.tokens.now c.loop-i.i c.index-tokens-i.result (stack_of c.loop-i.reading.frames.items) (held_of c.loop-i.reading.held) whole _ _ c.index-tokens-i.is c.in-Stop.is c.loop-i-test.true c.loop-i.invariant c.in_ok-step.ensures;
+      answer = turn_item c.args.limit c.args.least (scope_of c.loop-i.scope) c.args.tokens.now c.loop-i.i c.index-tokens-i.result (stack_of c.loop-i.reading.frames.items) (held_of c.loop-i.reading.held) whole _ _ c.index-tokens-i.is c.in-Stop.is c.loop-i-test.true c.loop-i.invariant c.in_ok-step.ensures;
       inside = c.loop-i-test.true;
     }
 
 pub returns-in-Fail-clause-answer : goal.returns-in-Fail-clause-answer
 returns-in-Fail-clause-answer c =
-    let whole : Reading = run c.args.least (scope_of c.args.scope.now) [] (held_of c.args.held) c.args.tokens.now in
-    subst (λ (e : Refusal). Fails e whole) (sym c.fault.ensures) (turn_item c.args.least (scope_of c.loop-i.scope) c.args.tokens.now c.loop-i.i c.index-tokens-i.result (stack_of c.loop-i.reading.frames.items) (held_of c.loop-i.reading.held) whole _ _ c.index-tokens-i.is c.in-Fail.is c.loop-i-test.true c.loop-i.invariant c.in_ok-step.ensures)
+    let whole : Reading = run c.args.limit c.args.least (scope_of c.args.scope.now) [] (held_of c.args.held) c.args.tokens.now in
+    subst (λ (e : Refusal). Fails e whole) (sym c.fault.ensures) (turn_item c.args.limit c.args.least (scope_of c.loop-i.scope) c.args.tokens.now c.loop-i.i c.index-tokens-i.result (stack_of c.loop-i.reading.frames.items) (held_of c.loop-i.reading.held) whole _ _ c.index-tokens-i.is c.in-Fail.is c.loop-i-test.true c.loop-i.invariant c.in_ok-step.ensures)
 
 pub returns-in-Deep-clause-answer : goal.returns-in-Deep-clause-answer
 returns-in-Deep-clause-answer c =
-    let whole : Reading = run c.args.least (scope_of c.args.scope.now) [] (held_of c.args.held) c.args.tokens.now in
-    subst (λ (e : Refusal). Fails e whole) (sym c.too_deep.ensures) (turn_item c.args.least (scope_of c.loop-i.scope) c.args.tokens.now c.loop-i.i c.index-tokens-i.result (stack_of c.loop-i.reading.frames.items) (held_of c.loop-i.reading.held) whole _ _ c.index-tokens-i.is c.in-Deep.is c.loop-i-test.true c.loop-i.invariant c.in_ok-step.ensures)
+    let whole : Reading = run c.args.limit c.args.least (scope_of c.args.scope.now) [] (held_of c.args.held) c.args.tokens.now in
+    subst (λ (e : Refusal). Fails e whole) (sym c.too_deep.ensures) (turn_item c.args.limit c.args.least (scope_of c.loop-i.scope) c.args.tokens.now c.loop-i.i c.index-tokens-i.result (stack_of c.loop-i.reading.frames.items) (held_of c.loop-i.reading.held) whole _ _ c.index-tokens-i.is c.in-Deep.is c.loop-i-test.true c.loop-i.invariant c.in_ok-step.ensures)
 
 pub loop-i-preserved : goal.loop-i-preserved
 loop-i-preserved c =
-    let whole : Reading = run c.args.least (scope_of c.args.scope.now) [] (held_of c.args.held) c.args.tokens.now in
-    ap (λ (scope : Blocks). run c.args.least scope (stack_of c.in-Go.next.frames.items) (held_of c.in-Go.next.held) (drop (c.loop-i.i + 1) c.args.tokens.now)) c.in_ok-apply-in-Go.ensures
-    ∙ turn_item c.args.least (scope_of c.loop-i.scope) c.args.tokens.now c.loop-i.i c.index-tokens-i.result (stack_of c.loop-i.reading.frames.items) (held_of c.loop-i.reading.held) whole _ _ c.index-tokens-i.is c.in-Go.is c.loop-i-test.true c.loop-i.invariant c.in_ok-step.ensures
+    let whole : Reading = run c.args.limit c.args.least (scope_of c.args.scope.now) [] (held_of c.args.held) c.args.tokens.now in
+    ap (λ (scope : Blocks). run c.args.limit c.args.least scope (stack_of c.in-Go.next.frames.items) (held_of c.in-Go.next.held) (drop (c.loop-i.i + 1) c.args.tokens.now)) c.in_ok-apply-in-Go.ensures
+    ∙ turn_item c.args.limit c.args.least (scope_of c.loop-i.scope) c.args.tokens.now c.loop-i.i c.index-tokens-i.result (stack_of c.loop-i.reading.frames.items) (held_of c.loop-i.reading.held) whole _ _ c.index-tokens-i.is c.in-Go.is c.loop-i-test.true c.loop-i.invariant c.in_ok-step.ensures
 
 pub returns-clause-answer : goal.returns-clause-answer
 returns-clause-answer c =
-    let whole : Reading = run c.args.least (scope_of c.args.scope.now) [] (held_of c.args.held) c.args.tokens.now in
-    ran_out c.args.least (scope_of c.loop-i.scope) c.args.tokens.now c.loop-i.i (stack_of c.loop-i.reading.frames.items) (held_of c.loop-i.reading.held) whole c.loop-i-test.false c.loop-i.invariant
+    let whole : Reading = run c.args.limit c.args.least (scope_of c.args.scope.now) [] (held_of c.args.held) c.args.tokens.now in
+    ran_out c.args.limit c.args.least (scope_of c.loop-i.scope) c.args.tokens.now c.loop-i.i (stack_of c.loop-i.reading.frames.items) (held_of c.loop-i.reading.held) whole c.loop-i-test.false c.loop-i.invariant

@@ -8,4 +8,4 @@ use Rattle.c65_parse.proofs.specifiers.member.Goals as goal
 
 pub returns-in_ok-push-in_default : goal.returns-in_ok-push-in_default
 returns-in_ok-push-in_default c = subst (λ (next : Next). IfOk c.declarator.result (λ n. next_of n ≡ next))
-    (ap (λ (fs : List Frame). declarator_step (sorts.Member c.args.part.specifiers.has_type) fs c.args.pos c.args.sign) (innermost _ _ _ c.in_ok-push-in_default.ensures.items) ∙ sym (member_begins _ _ _ _ c.in_default.not-Colon)) c.declarator.ensures
+    (ap (λ (fs : List Frame). declarator_step c.args.limit (sorts.Member c.args.part.specifiers.has_type) fs c.args.pos c.args.sign) (innermost _ _ _ c.in_ok-push-in_default.ensures.items) ∙ sym (member_begins _ _ _ _ _ c.in_default.not-Colon)) c.declarator.ensures
