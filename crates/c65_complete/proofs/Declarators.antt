@@ -61,58 +61,58 @@ takes_is (sorts.Member false) false = refl
 takes_is sorts.Abstract b = refl
 
 -- where the name lacks
-lacking : (b : Bool) (fs : List Frame) (l : Pos) (s : Sign) → b ≡ true → without_name b fs l s ≡ declarator_end (t.nameless l) fs l s
+lacking : (limit : ℕ) (b : Bool) (fs : List Frame) (l : Pos) (s : Sign) → b ≡ true → without_name limit b fs l s ≡ declarator_end limit (t.nameless l) fs l s
 unfolding without_name
-lacking true fs l s h = refl
-lacking false fs l s h = absurd cc
+lacking limit true fs l s h = refl
+lacking limit false fs l s h = absurd cc
 
-bare_step : (sort : Sort) (fs : List Frame) (l : Pos) (s : Sign) → is_optional sort ≡ true → BareSign s → declarator_step sort fs l s ≡ declarator_end (t.nameless l) fs l s
+bare_step : (limit : ℕ) (sort : Sort) (fs : List Frame) (l : Pos) (s : Sign) → is_optional sort ≡ true → BareSign s → declarator_step limit sort fs l s ≡ declarator_end limit (t.nameless l) fs l s
 unfolding declarator_step
-bare_step sort fs l (signs.Name n is_type) e h = absurd h
-bare_step sort fs l (signs.Calling cdecl) e h = absurd h
-bare_step sort fs l signs.Star e h = absurd h
-bare_step sort fs l signs.Open e h = absurd h
-bare_step sort fs l s e h = lacking (is_optional sort) fs l s e
+bare_step limit sort fs l (signs.Name n is_type) e h = absurd h
+bare_step limit sort fs l (signs.Calling cdecl) e h = absurd h
+bare_step limit sort fs l signs.Star e h = absurd h
+bare_step limit sort fs l signs.Open e h = absurd h
+bare_step limit sort fs l s e h = lacking limit (is_optional sort) fs l s e
 
-bare_token : (sort : Sort) (fs : List Frame) (l : Pos) (sc : Scope) (tok : Token) → is_optional sort ≡ true → (tok.pos ≡ l) × Bare tok.kind → declarator_step sort fs tok.pos (sign_of_kind sc tok.kind) ≡ declarator_end (t.nameless l) fs tok.pos (sign_of_kind sc tok.kind)
-bare_token sort fs l sc tok e h = bare_step sort fs tok.pos (sign_of_kind sc tok.kind) e (bare_sign sc tok.kind h.1) ∙ ap (λ k. declarator_end (t.nameless k) fs tok.pos (sign_of_kind sc tok.kind)) h.0
+bare_token : (limit : ℕ) (sort : Sort) (fs : List Frame) (l : Pos) (sc : Scope) (tok : Token) → is_optional sort ≡ true → (tok.pos ≡ l) × Bare tok.kind → declarator_step limit sort fs tok.pos (sign_of_kind sc tok.kind) ≡ declarator_end limit (t.nameless l) fs tok.pos (sign_of_kind sc tok.kind)
+bare_token limit sort fs l sc tok e h = bare_step limit sort fs tok.pos (sign_of_kind sc tok.kind) e (bare_sign sc tok.kind h.1) ∙ ap (λ k. declarator_end limit (t.nameless k) fs tok.pos (sign_of_kind sc tok.kind)) h.0
 
-pub reads_nameless : (l : Pos) → ReadsDeclarator (t.nameless l)
-reads_nameless l least sc outer sort fs m xs rest p r f = subst (λ ts. run least (sc ∷ outer) fs (declarator sort) (ts ++ rest) ≡ run least (sc ∷ outer) fs (have_declarator (t.nameless l)) rest) (sym p.1)
-    (same least sc outer fs fs (declarator sort) (have_declarator (t.nameless l)) rest (first_map (Halts (t.nameless l)) _ rest (λ tok h. bare_token sort fs l sc tok (sym (optional_is sort) ∙ p.0.0) h) f))
+pub reads_nameless : (limit : ℕ) (l : Pos) → ReadsDeclarator limit (t.nameless l)
+reads_nameless limit l least sc outer sort fs m xs rest p r f = subst (λ ts. run limit least (sc ∷ outer) fs (declarator sort) (ts ++ rest) ≡ run limit least (sc ∷ outer) fs (have_declarator (t.nameless l)) rest) (sym p.1)
+    (same limit least sc outer fs fs (declarator sort) (have_declarator (t.nameless l)) rest (first_map (Halts (t.nameless l)) _ rest (λ tok h. bare_token limit sort fs l sc tok (sym (optional_is sort) ∙ p.0.0) h) f))
 
-named_goes : (sort : Sort) (fs : List Frame) (l : Pos) (n : Name) (b : Bool) → g.takes_name (sort_of sort) b ≡ true → declarator_step sort fs l (signs.Name n b) ≡ goes fs (have_declarator (t.named l n))
+named_goes : (limit : ℕ) (sort : Sort) (fs : List Frame) (l : Pos) (n : Name) (b : Bool) → g.takes_name (sort_of sort) b ≡ true → declarator_step limit sort fs l (signs.Name n b) ≡ goes fs (have_declarator (t.named l n))
 unfolding declarator_step
-named_goes sort fs l n b h = ap (λ x. if x then goes fs (have_declarator (t.named l n)) else without_name (is_optional sort) fs l (signs.Name n b)) (takes_is sort b ∙ h)
+named_goes limit sort fs l n b h = ap (λ x. if x then goes fs (have_declarator (t.named l n)) else without_name limit (is_optional sort) fs l (signs.Name n b)) (takes_is sort b ∙ h)
 
-pub reads_named : (l : Pos) (n : Name) → ReadsDeclarator (t.named l n)
-reads_named l n least sc outer sort fs m xs rest p r f = single (Leads least sc outer fs (declarator sort) (run least (sc ∷ outer) fs (have_declarator (t.named l n)) rest)) l (kinds.Name n) xs rest p.1
-    (steps least sc outer fs (declarator sort) (token (kinds.Name n) l) rest fs (have_declarator (t.named l n)) (named_goes sort fs l n (sc n) p.0))
+pub reads_named : (limit : ℕ) (l : Pos) (n : Name) → ReadsDeclarator limit (t.named l n)
+reads_named limit l n least sc outer sort fs m xs rest p r f = single (Leads limit least sc outer fs (declarator sort) (run limit least (sc ∷ outer) fs (have_declarator (t.named l n)) rest)) l (kinds.Name n) xs rest p.1
+    (steps limit least sc outer fs (declarator sort) (token (kinds.Name n) l) rest fs (have_declarator (t.named l n)) (named_goes limit sort fs l n (sc n) p.0))
 
 -- what stands before a declarator, behind it
-absorbed : (l : Pos) (how : Derivation) (d : t.DeclaratorTree) (fs : List Frame) (k : Pos) (s : Sign) → NoSuffixSign s → declarator_end d (in_derived l how ∷ fs) k s ≡ declarator_end (derived l how d) fs k s
+absorbed : (limit : ℕ) (l : Pos) (how : Derivation) (d : t.DeclaratorTree) (fs : List Frame) (k : Pos) (s : Sign) → NoSuffixSign s → declarator_end limit d (in_derived l how ∷ fs) k s ≡ declarator_end limit (derived l how d) fs k s
 unfolding declarator_end
-absorbed l how d fs k signs.OpenBracket h = absurd h
-absorbed l how d fs k signs.Open h = absurd h
-absorbed l how d fs k _ h = refl
+absorbed limit l how d fs k signs.OpenBracket h = absurd h
+absorbed limit l how d fs k signs.Open h = absurd h
+absorbed limit l how d fs k _ h = refl
 
-absorbs : (least : ℕ) (sc : Scope) (outer : Blocks) (l : Pos) (how : Derivation) (d : t.DeclaratorTree) (fs : List Frame) (ts : List Token) → First (λ tok. NoSuffix tok.kind) ts
-    → run least (sc ∷ outer) (in_derived l how ∷ fs) (have_declarator d) ts ≡ run least (sc ∷ outer) fs (have_declarator (derived l how d)) ts
-absorbs least sc outer l how d fs ts f = same least sc outer (in_derived l how ∷ fs) fs (have_declarator d) (have_declarator (derived l how d)) ts (first_map (λ tok. NoSuffix tok.kind) _ ts (λ tok h. absorbed l how d fs tok.pos (sign_of_kind sc tok.kind) (suffix_sign sc tok.kind h)) f)
+absorbs : (limit : ℕ) (least : ℕ) (sc : Scope) (outer : Blocks) (l : Pos) (how : Derivation) (d : t.DeclaratorTree) (fs : List Frame) (ts : List Token) → First (λ tok. NoSuffix tok.kind) ts
+    → run limit least (sc ∷ outer) (in_derived l how ∷ fs) (have_declarator d) ts ≡ run limit least (sc ∷ outer) fs (have_declarator (derived l how d)) ts
+absorbs limit least sc outer l how d fs ts f = same limit least sc outer (in_derived l how ∷ fs) fs (have_declarator d) (have_declarator (derived l how d)) ts (first_map (λ tok. NoSuffix tok.kind) _ ts (λ tok h. absorbed limit l how d fs tok.pos (sign_of_kind sc tok.kind) (suffix_sign sc tok.kind h)) f)
 
-calling_goes : (sort : Sort) (fs : List Frame) (l : Pos) (cdecl : Bool) → 2 + length fs ≤ 256 → declarator_step sort fs l (sign_of_keyword (calling_keyword cdecl)) ≡ goes (in_derived l (derivations.Calling cdecl) ∷ fs) (declarator sort)
+calling_goes : (limit : ℕ) (sort : Sort) (fs : List Frame) (l : Pos) (cdecl : Bool) → 2 + length fs ≤ limit → declarator_step limit sort fs l (sign_of_keyword (calling_keyword cdecl)) ≡ goes (in_derived l (derivations.Calling cdecl) ∷ fs) (declarator sort)
 unfolding declarator_step
-calling_goes sort fs l true r = roomy (2 + length fs) (goes (in_derived l (derivations.Calling true) ∷ fs) (declarator sort)) r
-calling_goes sort fs l false r = roomy (2 + length fs) (goes (in_derived l (derivations.Calling false) ∷ fs) (declarator sort)) r
+calling_goes limit sort fs l true r = roomy limit (2 + length fs) (goes (in_derived l (derivations.Calling true) ∷ fs) (declarator sort)) r
+calling_goes limit sort fs l false r = roomy limit (2 + length fs) (goes (in_derived l (derivations.Calling false) ∷ fs) (declarator sort)) r
 
-pub reads_calling : (l : Pos) (cdecl : Bool) (d : t.DeclaratorTree) → ReadsDeclarator d → ReadsDeclarator (t.calling l cdecl d)
-reads_calling l cdecl d rd least sc outer sort fs m xs rest p r f =
+pub reads_calling : (limit : ℕ) (l : Pos) (cdecl : Bool) (d : t.DeclaratorTree) → ReadsDeclarator limit d → ReadsDeclarator limit (t.calling l cdecl d)
+reads_calling limit l cdecl d rd least sc outer sort fs m xs rest p r f =
     let deep = declarator_deep d in
     let how = derivations.Calling cdecl in
-    before (Leads least sc outer fs (declarator sort) (run least (after_declarator sc d ∷ outer) fs (have_declarator (t.calling l cdecl d)) rest)) l (kinds.Keyword (calling_keyword cdecl)) xs rest p (λ ys pd.
-    steps least sc outer fs (declarator sort) (token (kinds.Keyword (calling_keyword cdecl)) l) (ys ++ rest) (in_derived l how ∷ fs) (declarator sort) (calling_goes sort fs l cdecl (omega (arith, deep, r)))
+    before (Leads limit least sc outer fs (declarator sort) (run limit least (after_declarator sc d ∷ outer) fs (have_declarator (t.calling l cdecl d)) rest)) l (kinds.Keyword (calling_keyword cdecl)) xs rest p (λ ys pd.
+    steps limit least sc outer fs (declarator sort) (token (kinds.Keyword (calling_keyword cdecl)) l) (ys ++ rest) (in_derived l how ∷ fs) (declarator sort) (calling_goes limit sort fs l cdecl (omega (arith, deep, r)))
     ∙ (rd least sc outer sort (in_derived l how ∷ fs) m ys rest pd (omega (arith, r)) (first_map (Halts (t.calling l cdecl d)) (Halts d) rest (λ tok h. h.1) f)
-    ∙ absorbs least (after_declarator sc d) outer l how d fs rest (first_map (Halts (t.calling l cdecl d)) (λ tok. NoSuffix tok.kind) rest (λ tok h. h.0) f)))
+    ∙ absorbs limit least (after_declarator sc d) outer l how d fs rest (first_map (Halts (t.calling l cdecl d)) (λ tok. NoSuffix tok.kind) rest (λ tok h. h.0) f)))
 
 -- the qualifiers behind a star
 abbrev Qualified : TokenKind → Bool → Bool → Bool → Bool → List Token → Type 0
@@ -122,29 +122,29 @@ Qualified k a b c v qs = elim k as (λ _. Type 0) [
   | _ ↦ ⊥
 ]
 
-qualifier_read : (least : ℕ) (sc : Scope) (outer : Blocks) (l : Pos) (sort : Sort) (fs : List Frame) (a b c v : Bool) (k : TokenKind) (m : Pos) (qs rest : List Token) → Qualified k a b c v qs
-    → ((x y : Bool) → spell.qualifiers_from x y c v qs → run least (sc ∷ outer) fs (qualifiers l x y sort) (qs ++ rest) ≡ run least (sc ∷ outer) fs (qualifiers l c v sort) rest)
-    → run least (sc ∷ outer) fs (qualifiers l a b sort) (token k m ∷ (qs ++ rest)) ≡ run least (sc ∷ outer) fs (qualifiers l c v sort) rest
+qualifier_read : (limit : ℕ) (least : ℕ) (sc : Scope) (outer : Blocks) (l : Pos) (sort : Sort) (fs : List Frame) (a b c v : Bool) (k : TokenKind) (m : Pos) (qs rest : List Token) → Qualified k a b c v qs
+    → ((x y : Bool) → spell.qualifiers_from x y c v qs → run limit least (sc ∷ outer) fs (qualifiers l x y sort) (qs ++ rest) ≡ run limit least (sc ∷ outer) fs (qualifiers l c v sort) rest)
+    → run limit least (sc ∷ outer) fs (qualifiers l a b sort) (token k m ∷ (qs ++ rest)) ≡ run limit least (sc ∷ outer) fs (qualifiers l c v sort) rest
 unfolding qualifiers_step
-qualifier_read least sc outer l sort fs a b c v (kinds.Keyword keywords.Const) m qs rest p more = steps least sc outer fs (qualifiers l a b sort) (token (kinds.Keyword keywords.Const) m) (qs ++ rest) fs (qualifiers l true b sort) refl ∙ more true b p
-qualifier_read least sc outer l sort fs a b c v (kinds.Keyword keywords.Volatile) m qs rest p more = steps least sc outer fs (qualifiers l a b sort) (token (kinds.Keyword keywords.Volatile) m) (qs ++ rest) fs (qualifiers l a true sort) refl ∙ more a true p
-qualifier_read least sc outer l sort fs a b c v (kinds.Keyword _) m qs rest p more = absurd p
-qualifier_read least sc outer l sort fs a b c v (kinds.Name n) m qs rest p more = absurd p
-qualifier_read least sc outer l sort fs a b c v (kinds.Number ty n) m qs rest p more = absurd p
-qualifier_read least sc outer l sort fs a b c v (kinds.Text bs) m qs rest p more = absurd p
-qualifier_read least sc outer l sort fs a b c v (kinds.Punct k) m qs rest p more = absurd p
-qualifier_read least sc outer l sort fs a b c v kinds.End m qs rest p more = absurd p
+qualifier_read limit least sc outer l sort fs a b c v (kinds.Keyword keywords.Const) m qs rest p more = steps limit least sc outer fs (qualifiers l a b sort) (token (kinds.Keyword keywords.Const) m) (qs ++ rest) fs (qualifiers l true b sort) refl ∙ more true b p
+qualifier_read limit least sc outer l sort fs a b c v (kinds.Keyword keywords.Volatile) m qs rest p more = steps limit least sc outer fs (qualifiers l a b sort) (token (kinds.Keyword keywords.Volatile) m) (qs ++ rest) fs (qualifiers l a true sort) refl ∙ more a true p
+qualifier_read limit least sc outer l sort fs a b c v (kinds.Keyword _) m qs rest p more = absurd p
+qualifier_read limit least sc outer l sort fs a b c v (kinds.Name n) m qs rest p more = absurd p
+qualifier_read limit least sc outer l sort fs a b c v (kinds.Number ty n) m qs rest p more = absurd p
+qualifier_read limit least sc outer l sort fs a b c v (kinds.Text bs) m qs rest p more = absurd p
+qualifier_read limit least sc outer l sort fs a b c v (kinds.Punct k) m qs rest p more = absurd p
+qualifier_read limit least sc outer l sort fs a b c v kinds.End m qs rest p more = absurd p
 
-qualifiers_read : (least : ℕ) (sc : Scope) (outer : Blocks) (l : Pos) (sort : Sort) (fs : List Frame) (c v : Bool) (qs rest : List Token) (a b : Bool) → spell.qualifiers_from a b c v qs
-    → run least (sc ∷ outer) fs (qualifiers l a b sort) (qs ++ rest) ≡ run least (sc ∷ outer) fs (qualifiers l c v sort) rest
-qualifiers_read least sc outer l sort fs c v [] rest a b p = ap (λ x. run least (sc ∷ outer) fs (qualifiers l x b sort) rest) p.0 ∙ ap (λ x. run least (sc ∷ outer) fs (qualifiers l c x sort) rest) p.1
-qualifiers_read least sc outer l sort fs c v (q ∷ qs) rest a b p = qualifier_read least sc outer l sort fs a b c v q.kind q.pos qs rest p (qualifiers_read least sc outer l sort fs c v qs rest)
+qualifiers_read : (limit : ℕ) (least : ℕ) (sc : Scope) (outer : Blocks) (l : Pos) (sort : Sort) (fs : List Frame) (c v : Bool) (qs rest : List Token) (a b : Bool) → spell.qualifiers_from a b c v qs
+    → run limit least (sc ∷ outer) fs (qualifiers l a b sort) (qs ++ rest) ≡ run limit least (sc ∷ outer) fs (qualifiers l c v sort) rest
+qualifiers_read limit least sc outer l sort fs c v [] rest a b p = ap (λ x. run limit least (sc ∷ outer) fs (qualifiers l x b sort) rest) p.0 ∙ ap (λ x. run limit least (sc ∷ outer) fs (qualifiers l c x sort) rest) p.1
+qualifiers_read limit least sc outer l sort fs c v (q ∷ qs) rest a b p = qualifier_read limit least sc outer l sort fs a b c v q.kind q.pos qs rest p (qualifiers_read limit least sc outer l sort fs c v qs rest)
 
-qualified : (l : Pos) (c v : Bool) (sort : Sort) (fs : List Frame) (k : Pos) (s : Sign) → NoQualifier s → qualifiers_step l c v sort fs k s ≡ declarator_step sort (in_derived l (derivations.Pointer c v) ∷ fs) k s
+qualified : (limit : ℕ) (l : Pos) (c v : Bool) (sort : Sort) (fs : List Frame) (k : Pos) (s : Sign) → NoQualifier s → qualifiers_step limit l c v sort fs k s ≡ declarator_step limit sort (in_derived l (derivations.Pointer c v) ∷ fs) k s
 unfolding qualifiers_step
-qualified l c v sort fs k (signs.Word words.Const) h = absurd h
-qualified l c v sort fs k (signs.Word words.Volatile) h = absurd h
-qualified l c v sort fs k _ h = refl
+qualified limit l c v sort fs k (signs.Word words.Const) h = absurd h
+qualified limit l c v sort fs k (signs.Word words.Volatile) h = absurd h
+qualified limit l c v sort fs k _ h = refl
 
 bare_first : (sc : Scope) (d : t.DeclaratorTree) (ts : List Token) → is_nameless d ≡ true → First (Halts d) ts → First (λ tok. NoQualifier (sign_of_kind sc tok.kind)) ts
 bare_first sc (t.nameless l) ts e f = first_map (Halts (t.nameless l)) _ ts (λ tok h. bare_unqualified (sign_of_kind sc tok.kind) (bare_sign sc tok.kind h.1)) f
@@ -155,26 +155,26 @@ bare_first sc (t.pointer l c v d) ts e f = absurd cc
 bare_first sc (t.array l d n) ts e f = absurd cc
 bare_first sc (t.function l d ps) ts e f = absurd cc
 
-behind_qualifiers : (least : ℕ) (sc : Scope) (outer : Blocks) (l : Pos) (c v : Bool) (sort : Sort) (fs : List Frame) (d : t.DeclaratorTree) (m : Pos) (xs rest : List Token) → g.declarator (sort_of sort) sc m d xs → First (Halts d) rest
-    → run least (sc ∷ outer) fs (qualifiers l c v sort) (xs ++ rest) ≡ run least (sc ∷ outer) (in_derived l (derivations.Pointer c v) ∷ fs) (declarator sort) (xs ++ rest)
-behind_qualifiers least sc outer l c v sort fs d m xs rest p f = same least sc outer fs (in_derived l (derivations.Pointer c v) ∷ fs) (qualifiers l c v sort) (declarator sort) (xs ++ rest)
-    (first_map (λ tok. NoQualifier (sign_of_kind sc tok.kind)) _ (xs ++ rest) (λ tok h. qualified l c v sort fs tok.pos (sign_of_kind sc tok.kind) h)
+behind_qualifiers : (limit : ℕ) (least : ℕ) (sc : Scope) (outer : Blocks) (l : Pos) (c v : Bool) (sort : Sort) (fs : List Frame) (d : t.DeclaratorTree) (m : Pos) (xs rest : List Token) → g.declarator (sort_of sort) sc m d xs → First (Halts d) rest
+    → run limit least (sc ∷ outer) fs (qualifiers l c v sort) (xs ++ rest) ≡ run limit least (sc ∷ outer) (in_derived l (derivations.Pointer c v) ∷ fs) (declarator sort) (xs ++ rest)
+behind_qualifiers limit least sc outer l c v sort fs d m xs rest p f = same limit least sc outer fs (in_derived l (derivations.Pointer c v) ∷ fs) (qualifiers l c v sort) (declarator sort) (xs ++ rest)
+    (first_map (λ tok. NoQualifier (sign_of_kind sc tok.kind)) _ (xs ++ rest) (λ tok h. qualified limit l c v sort fs tok.pos (sign_of_kind sc tok.kind) h)
     (declarator_first (λ tok. NoQualifier (sign_of_kind sc tok.kind)) d (sort_of sort) sc m xs rest p (λ tok h. declares_unqualified (sort_of sort) sc d tok.kind h.0) (λ e. bare_first sc d rest e f)))
 
-pub reads_pointer : (l : Pos) (c v : Bool) (d : t.DeclaratorTree) → ReadsDeclarator d → ReadsDeclarator (t.pointer l c v d)
+pub reads_pointer : (limit : ℕ) (l : Pos) (c v : Bool) (d : t.DeclaratorTree) → ReadsDeclarator limit d → ReadsDeclarator limit (t.pointer l c v d)
 unfolding declarator_step
-reads_pointer l c v d rd least sc outer sort fs m xs rest p r f =
+reads_pointer limit l c v d rd least sc outer sort fs m xs rest p r f =
     let deep = declarator_deep d in
     let how = derivations.Pointer c v in
-    let end = run least (after_declarator sc d ∷ outer) fs (have_declarator (t.pointer l c v d)) rest in
+    let end = run limit least (after_declarator sc d ∷ outer) fs (have_declarator (t.pointer l c v d)) rest in
     let inner = first_map (Halts (t.pointer l c v d)) (Halts d) rest (λ tok h. h.1) f in
-    before (Leads least sc outer fs (declarator sort) end) l (kinds.Punct puncts.Star) xs rest p (λ us pu.
-    steps least sc outer fs (declarator sort) (token (kinds.Punct puncts.Star) l) (us ++ rest) fs (qualifiers l false false sort) (roomy (2 + length fs) (goes fs (qualifiers l false false sort)) (omega (arith, deep, r)))
-    ∙ split (Leads least sc outer fs (qualifiers l false false sort) end) us rest pu (λ qs ys pq pd.
-    qualifiers_read least sc outer l sort fs c v qs (ys ++ rest) false false pq
-    ∙ (behind_qualifiers least sc outer l c v sort fs d m ys rest pd inner
+    before (Leads limit least sc outer fs (declarator sort) end) l (kinds.Punct puncts.Star) xs rest p (λ us pu.
+    steps limit least sc outer fs (declarator sort) (token (kinds.Punct puncts.Star) l) (us ++ rest) fs (qualifiers l false false sort) (roomy limit (2 + length fs) (goes fs (qualifiers l false false sort)) (omega (arith, deep, r)))
+    ∙ split (Leads limit least sc outer fs (qualifiers l false false sort) end) us rest pu (λ qs ys pq pd.
+    qualifiers_read limit least sc outer l sort fs c v qs (ys ++ rest) false false pq
+    ∙ (behind_qualifiers limit least sc outer l c v sort fs d m ys rest pd inner
     ∙ (rd least sc outer sort (in_derived l how ∷ fs) m ys rest pd (omega (arith, r)) inner
-    ∙ absorbs least (after_declarator sc d) outer l how d fs rest (first_map (Halts (t.pointer l c v d)) (λ tok. NoSuffix tok.kind) rest (λ tok h. h.0) f)))))
+    ∙ absorbs limit least (after_declarator sc d) outer l how d fs rest (first_map (Halts (t.pointer l c v d)) (λ tok. NoSuffix tok.kind) rest (λ tok h. h.0) f)))))
 
 -- a group where the name may lack
 plain : (b : Bool) → (if b then false else true) ≡ true → b ≡ false
@@ -191,36 +191,36 @@ name_plain s sc d n lack h bare first =
 name_groups : (s : g.Sort) (sc : Scope) (d : t.DeclaratorTree) (n : Name) → g.may_lack s ≡ true → g.groups s sc d ≡ true → is_nameless d ≡ false → first_name d ≡ Some n → sc n ≡ false
 name_groups s sc d n lack h bare first = plain (sc n) (name_plain s sc d n lack h bare first)
 
-group_kind : (l : Pos) (sort : Sort) (fs : List Frame) (m : Pos) (sc : Scope) (d : t.DeclaratorTree) (k : TokenKind) → g.may_lack (sort_of sort) ≡ true → g.groups (sort_of sort) sc d ≡ true → is_nameless d ≡ false → DeclaratorKind (sort_of sort) sc d k
-    → opened_declarator_step l sort fs m (sign_of_kind sc k) ≡ declarator_step sort (in_group l ∷ fs) m (sign_of_kind sc k)
+group_kind : (limit : ℕ) (l : Pos) (sort : Sort) (fs : List Frame) (m : Pos) (sc : Scope) (d : t.DeclaratorTree) (k : TokenKind) → g.may_lack (sort_of sort) ≡ true → g.groups (sort_of sort) sc d ≡ true → is_nameless d ≡ false → DeclaratorKind (sort_of sort) sc d k
+    → opened_declarator_step limit l sort fs m (sign_of_kind sc k) ≡ declarator_step limit sort (in_group l ∷ fs) m (sign_of_kind sc k)
 unfolding opened_declarator_step
-group_kind l sort fs m sc d (kinds.Name n) lack h bare p = ap (λ b. if b then params_step l (t.nameless l) fs m (signs.Name n (sc n)) else declarator_step sort (in_group l ∷ fs) m (signs.Name n (sc n))) (name_groups (sort_of sort) sc d n lack h bare p.1)
-group_kind l sort fs m sc d (kinds.Keyword keywords.FastCall) lack h bare p = refl
-group_kind l sort fs m sc d (kinds.Keyword keywords.CDecl) lack h bare p = refl
-group_kind l sort fs m sc d (kinds.Keyword _) lack h bare p = absurd p
-group_kind l sort fs m sc d (kinds.Punct puncts.Star) lack h bare p = refl
-group_kind l sort fs m sc d (kinds.Punct puncts.OpenParen) lack h bare p = refl
-group_kind l sort fs m sc d (kinds.Punct puncts.OpenBracket) lack h bare p = refl
-group_kind l sort fs m sc d (kinds.Punct _) lack h bare p = absurd p
-group_kind l sort fs m sc d (kinds.Number ty n) lack h bare p = absurd p
-group_kind l sort fs m sc d (kinds.Text bs) lack h bare p = absurd p
-group_kind l sort fs m sc d kinds.End lack h bare p = absurd p
+group_kind limit l sort fs m sc d (kinds.Name n) lack h bare p = ap (λ b. if b then params_step limit l (t.nameless l) fs m (signs.Name n (sc n)) else declarator_step limit sort (in_group l ∷ fs) m (signs.Name n (sc n))) (name_groups (sort_of sort) sc d n lack h bare p.1)
+group_kind limit l sort fs m sc d (kinds.Keyword keywords.FastCall) lack h bare p = refl
+group_kind limit l sort fs m sc d (kinds.Keyword keywords.CDecl) lack h bare p = refl
+group_kind limit l sort fs m sc d (kinds.Keyword _) lack h bare p = absurd p
+group_kind limit l sort fs m sc d (kinds.Punct puncts.Star) lack h bare p = refl
+group_kind limit l sort fs m sc d (kinds.Punct puncts.OpenParen) lack h bare p = refl
+group_kind limit l sort fs m sc d (kinds.Punct puncts.OpenBracket) lack h bare p = refl
+group_kind limit l sort fs m sc d (kinds.Punct _) lack h bare p = absurd p
+group_kind limit l sort fs m sc d (kinds.Number ty n) lack h bare p = absurd p
+group_kind limit l sort fs m sc d (kinds.Text bs) lack h bare p = absurd p
+group_kind limit l sort fs m sc d kinds.End lack h bare p = absurd p
 
-group_open : (sort : Sort) (fs : List Frame) (l : Pos) (b : Bool) → is_optional sort ≡ b → 2 + length fs ≤ 256 → declarator_step sort fs l signs.Open ≡ (if b then goes fs (opened_declarator l sort) else goes (in_group l ∷ fs) (declarator sort))
+group_open : (limit : ℕ) (sort : Sort) (fs : List Frame) (l : Pos) (b : Bool) → is_optional sort ≡ b → 2 + length fs ≤ limit → declarator_step limit sort fs l signs.Open ≡ (if b then goes fs (opened_declarator l sort) else goes (in_group l ∷ fs) (declarator sort))
 unfolding declarator_step
-group_open sort fs l b e r = roomy (2 + length fs) (open_group sort fs l) r ∙ ap (λ x. if x then goes fs (opened_declarator l sort) else goes (in_group l ∷ fs) (declarator sort)) e
+group_open limit sort fs l b e r = roomy limit (2 + length fs) (open_group sort fs l) r ∙ ap (λ x. if x then goes fs (opened_declarator l sort) else goes (in_group l ∷ fs) (declarator sort)) e
 
-group_begins : (least : ℕ) (sc : Scope) (outer : Blocks) (l : Pos) (sort : Sort) (fs : List Frame) (d : t.DeclaratorTree) (m : Pos) (xs rest : List Token) (b : Bool) → is_optional sort ≡ b → g.groups (sort_of sort) sc d ≡ true → is_nameless d ≡ false → g.declarator (sort_of sort) sc m d xs → 2 + length fs ≤ 256
-    → run least (sc ∷ outer) fs (declarator sort) (token (kinds.Punct puncts.OpenParen) l ∷ (xs ++ rest)) ≡ run least (sc ∷ outer) (in_group l ∷ fs) (declarator sort) (xs ++ rest)
-group_begins least sc outer l sort fs d m xs rest false e h bare p r = steps least sc outer fs (declarator sort) (token (kinds.Punct puncts.OpenParen) l) (xs ++ rest) (in_group l ∷ fs) (declarator sort) (group_open sort fs l false e r)
-group_begins least sc outer l sort fs d m xs rest true e h bare p r =
-    steps least sc outer fs (declarator sort) (token (kinds.Punct puncts.OpenParen) l) (xs ++ rest) fs (opened_declarator l sort) (group_open sort fs l true e r)
-    ∙ same least sc outer fs (in_group l ∷ fs) (opened_declarator l sort) (declarator sort) (xs ++ rest)
-    (first_map (Declares (sort_of sort) sc d) _ (xs ++ rest) (λ tok k. group_kind l sort fs tok.pos sc d tok.kind (optional_is sort ∙ e) h bare k.0) (opens_first (Declares (sort_of sort) sc d) xs rest (begins_declarator d (sort_of sort) sc m xs bare p)))
+group_begins : (limit : ℕ) (least : ℕ) (sc : Scope) (outer : Blocks) (l : Pos) (sort : Sort) (fs : List Frame) (d : t.DeclaratorTree) (m : Pos) (xs rest : List Token) (b : Bool) → is_optional sort ≡ b → g.groups (sort_of sort) sc d ≡ true → is_nameless d ≡ false → g.declarator (sort_of sort) sc m d xs → 2 + length fs ≤ limit
+    → run limit least (sc ∷ outer) fs (declarator sort) (token (kinds.Punct puncts.OpenParen) l ∷ (xs ++ rest)) ≡ run limit least (sc ∷ outer) (in_group l ∷ fs) (declarator sort) (xs ++ rest)
+group_begins limit least sc outer l sort fs d m xs rest false e h bare p r = steps limit least sc outer fs (declarator sort) (token (kinds.Punct puncts.OpenParen) l) (xs ++ rest) (in_group l ∷ fs) (declarator sort) (group_open limit sort fs l false e r)
+group_begins limit least sc outer l sort fs d m xs rest true e h bare p r =
+    steps limit least sc outer fs (declarator sort) (token (kinds.Punct puncts.OpenParen) l) (xs ++ rest) fs (opened_declarator l sort) (group_open limit sort fs l true e r)
+    ∙ same limit least sc outer fs (in_group l ∷ fs) (opened_declarator l sort) (declarator sort) (xs ++ rest)
+    (first_map (Declares (sort_of sort) sc d) _ (xs ++ rest) (λ tok k. group_kind limit l sort fs tok.pos sc d tok.kind (optional_is sort ∙ e) h bare k.0) (opens_first (Declares (sort_of sort) sc d) xs rest (begins_declarator d (sort_of sort) sc m xs bare p)))
 
-group_closes : (l : Pos) (d : t.DeclaratorTree) (fs : List Frame) (k : Pos) → declarator_end d (in_group l ∷ fs) k signs.Close ≡ goes fs (have_declarator (t.grouped l d))
+group_closes : (limit : ℕ) (l : Pos) (d : t.DeclaratorTree) (fs : List Frame) (k : Pos) → declarator_end limit d (in_group l ∷ fs) k signs.Close ≡ goes fs (have_declarator (t.grouped l d))
 unfolding declarator_end close_declarator
-group_closes l d fs k = refl
+group_closes limit l d fs k = refl
 
 groups_named : (s : g.Sort) (sc : Scope) (d : t.DeclaratorTree) → g.groups s sc d ≡ true → is_nameless d ≡ false
 groups_named s sc (t.nameless l) h = absurd cc
@@ -231,47 +231,47 @@ groups_named s sc (t.pointer l c v d) h = refl
 groups_named s sc (t.array l d n) h = refl
 groups_named s sc (t.function l d ps) h = refl
 
-pub reads_grouped : (l : Pos) (d : t.DeclaratorTree) → ReadsDeclarator d → ReadsDeclarator (t.grouped l d)
-reads_grouped l d rd least sc outer sort fs m xs rest p r f =
+pub reads_grouped : (limit : ℕ) (l : Pos) (d : t.DeclaratorTree) → ReadsDeclarator limit d → ReadsDeclarator limit (t.grouped l d)
+reads_grouped limit l d rd least sc outer sort fs m xs rest p r f =
     let deep = declarator_deep d in
-    let end = run least (after_declarator sc d ∷ outer) fs (have_declarator (t.grouped l d)) rest in
-    before (Leads least sc outer fs (declarator sort) end) l (kinds.Punct puncts.OpenParen) xs rest p.1 (λ us pu.
-    behind (λ ts. run least (sc ∷ outer) fs (declarator sort) (token (kinds.Punct puncts.OpenParen) l ∷ ts) ≡ end) pu.0 (kinds.Punct puncts.CloseParen) us rest pu.1 (λ ys pd.
+    let end = run limit least (after_declarator sc d ∷ outer) fs (have_declarator (t.grouped l d)) rest in
+    before (Leads limit least sc outer fs (declarator sort) end) l (kinds.Punct puncts.OpenParen) xs rest p.1 (λ us pu.
+    behind (λ ts. run limit least (sc ∷ outer) fs (declarator sort) (token (kinds.Punct puncts.OpenParen) l ∷ ts) ≡ end) pu.0 (kinds.Punct puncts.CloseParen) us rest pu.1 (λ ys pd.
     let tok : Token = token (kinds.Punct puncts.CloseParen) pu.0 in
-    group_begins least sc outer l sort fs d pu.0 ys (tok ∷ rest) (is_optional sort) refl p.0 (groups_named (sort_of sort) sc d p.0) pd (omega (arith, deep, r))
+    group_begins limit least sc outer l sort fs d pu.0 ys (tok ∷ rest) (is_optional sort) refl p.0 (groups_named (sort_of sort) sc d p.0) pd (omega (arith, deep, r))
     ∙ (rd least sc outer sort (in_group l ∷ fs) pu.0 ys (tok ∷ rest) pd (omega (arith, r)) (halts_bare d (sort_of sort) sc pu.0 ys tok pd refl tt tt)
-    ∙ steps least (after_declarator sc d) outer (in_group l ∷ fs) (have_declarator d) tok rest fs (have_declarator (t.grouped l d)) (group_closes l d fs pu.0))))
+    ∙ steps limit least (after_declarator sc d) outer (in_group l ∷ fs) (have_declarator d) tok rest fs (have_declarator (t.grouped l d)) (group_closes limit l d fs pu.0))))
 
 -- a bound
-bracket_goes : (d : t.DeclaratorTree) (fs : List Frame) (l : Pos) → declarator_depth d + (length fs + 1) ≤ 256 → declarator_end d fs l signs.OpenBracket ≡ goes fs (opened_bound l d)
+bracket_goes : (limit : ℕ) (d : t.DeclaratorTree) (fs : List Frame) (l : Pos) → declarator_depth d + (length fs + 1) ≤ limit → declarator_end limit d fs l signs.OpenBracket ≡ goes fs (opened_bound l d)
 unfolding declarator_end
-bracket_goes d fs l r = roomy (declarator_depth d + (length fs + 1)) (goes fs (opened_bound l d)) r
+bracket_goes limit d fs l r = roomy limit (declarator_depth d + (length fs + 1)) (goes fs (opened_bound l d)) r
 
-bound_read : (l : Pos) (d : t.DeclaratorTree) (n : t.MaybeExpr) → ReadsMaybe n → (least : ℕ) (sc : Scope) (outer : Blocks) (fs : List Frame) (k : Pos) (us rest : List Token) → g.optional_constant sc (λ ts. ts ≡ []) n us → declarator_depth (t.array l d n) + length fs ≤ 256
-    → run least (sc ∷ outer) fs (opened_bound l d) (us ++ (token (kinds.Punct puncts.CloseBracket) k ∷ rest)) ≡ run least (after_maybe sc n ∷ outer) fs (have_declarator (t.array l d n)) rest
+bound_read : (limit : ℕ) (l : Pos) (d : t.DeclaratorTree) (n : t.MaybeExpr) → ReadsMaybe limit n → (least : ℕ) (sc : Scope) (outer : Blocks) (fs : List Frame) (k : Pos) (us rest : List Token) → g.optional_constant sc (λ ts. ts ≡ []) n us → declarator_depth (t.array l d n) + length fs ≤ limit
+    → run limit least (sc ∷ outer) fs (opened_bound l d) (us ++ (token (kinds.Punct puncts.CloseBracket) k ∷ rest)) ≡ run limit least (after_maybe sc n ∷ outer) fs (have_declarator (t.array l d n)) rest
 unfolding opened_bound_step close
-bound_read l d t.no_expr rn least sc outer fs k us rest p r = subst (λ ts. run least (sc ∷ outer) fs (opened_bound l d) (ts ++ (token (kinds.Punct puncts.CloseBracket) k ∷ rest)) ≡ run least (sc ∷ outer) fs (have_declarator (t.array l d t.no_expr)) rest) (sym p)
-    (steps least sc outer fs (opened_bound l d) (token (kinds.Punct puncts.CloseBracket) k) rest fs (have_declarator (t.array l d t.no_expr)) refl)
-bound_read l d (t.an_expr e) rn least sc outer fs k us rest p r =
+bound_read limit l d t.no_expr rn least sc outer fs k us rest p r = subst (λ ts. run limit least (sc ∷ outer) fs (opened_bound l d) (ts ++ (token (kinds.Punct puncts.CloseBracket) k ∷ rest)) ≡ run limit least (sc ∷ outer) fs (have_declarator (t.array l d t.no_expr)) rest) (sym p)
+    (steps limit least sc outer fs (opened_bound l d) (token (kinds.Punct puncts.CloseBracket) k) rest fs (have_declarator (t.array l d t.no_expr)) refl)
+bound_read limit l d (t.an_expr e) rn least sc outer fs k us rest p r =
     let tail = token (kinds.Punct puncts.CloseBracket) k ∷ rest in
-    let end = run least (after sc e ∷ outer) fs (have_declarator (t.array l d (t.an_expr e))) rest in
+    let end = run limit least (after sc e ∷ outer) fs (have_declarator (t.array l d (t.an_expr e))) rest in
     let same_level = level_is e in
-    split (Leads least sc outer fs (opened_bound l d) end) us tail p (λ vs ys a pe. subst (λ ts. Leads least sc outer fs (opened_bound l d) end (ts ++ (ys ++ tail))) (sym a)
+    split (Leads limit least sc outer fs (opened_bound l d) end) us tail p (λ vs ys a pe. subst (λ ts. Leads limit least sc outer fs (opened_bound l d) end (ts ++ (ys ++ tail))) (sym a)
     (let high = pe.0 in
-    behind_bound least sc outer l d fs ys tail (begins_expr e sc ys pe.1)
-    ∙ encloses e rn least sc outer (in_bound l d) fs ys puncts.CloseBracket k rest fs (have_declarator (t.array l d (t.an_expr e))) _ pe.1 (omega (arith, high, same_level)) (omega (arith, r)) refl refl (inl refl) refl))
+    behind_bound limit least sc outer l d fs ys tail (begins_expr e sc ys pe.1)
+    ∙ encloses limit e rn least sc outer (in_bound l d) fs ys puncts.CloseBracket k rest fs (have_declarator (t.array l d (t.an_expr e))) _ pe.1 (omega (arith, high, same_level)) (omega (arith, r)) refl refl (inl refl) refl))
 
-pub reads_array : (l : Pos) (d : t.DeclaratorTree) (n : t.MaybeExpr) → ReadsDeclarator d → ReadsMaybe n → ReadsDeclarator (t.array l d n)
-reads_array l d n rd rn least sc outer sort fs m xs rest p r f =
+pub reads_array : (limit : ℕ) (l : Pos) (d : t.DeclaratorTree) (n : t.MaybeExpr) → ReadsDeclarator limit d → ReadsMaybe limit n → ReadsDeclarator limit (t.array l d n)
+reads_array limit l d n rd rn least sc outer sort fs m xs rest p r f =
     let sc1 = after_declarator sc d in
     let tok : Token = token (kinds.Punct puncts.OpenBracket) l in
-    let end = run least (after_maybe sc1 n ∷ outer) fs (have_declarator (t.array l d n)) rest in
-    between (Leads least sc outer fs (declarator sort) end) l (kinds.Punct puncts.OpenBracket) xs rest p (λ ys us pd pu.
+    let end = run limit least (after_maybe sc1 n ∷ outer) fs (have_declarator (t.array l d n)) rest in
+    between (Leads limit least sc outer fs (declarator sort) end) l (kinds.Punct puncts.OpenBracket) xs rest p (λ ys us pd pu.
     rd least sc outer sort fs l ys (tok ∷ (us ++ rest)) pd.1 (omega (arith, r)) (halts_direct d (sort_of sort) sc l ys tok pd.0 pd.1 refl tt)
-    ∙ (steps least sc1 outer fs (have_declarator d) tok (us ++ rest) fs (opened_bound l d) (bracket_goes d fs l (omega (arith, r)))
-    ∙ behind_some (Leads least sc1 outer fs (opened_bound l d) end) (kinds.Punct puncts.CloseBracket) us rest pu (λ k vs pv. bound_read l d n rn least sc1 outer fs k vs rest pv r)))
+    ∙ (steps limit least sc1 outer fs (have_declarator d) tok (us ++ rest) fs (opened_bound l d) (bracket_goes limit d fs l (omega (arith, r)))
+    ∙ behind_some (Leads limit least sc1 outer fs (opened_bound l d) end) (kinds.Punct puncts.CloseBracket) us rest pu (λ k vs pv. bound_read limit l d n rn least sc1 outer fs k vs rest pv r)))
 
 -- parameters
-pub paren_goes : (d : t.DeclaratorTree) (fs : List Frame) (l : Pos) → declarator_depth d + (length fs + 1) ≤ 256 → declarator_end d fs l signs.Open ≡ goes fs (opened_params l d)
+pub paren_goes : (limit : ℕ) (d : t.DeclaratorTree) (fs : List Frame) (l : Pos) → declarator_depth d + (length fs + 1) ≤ limit → declarator_end limit d fs l signs.Open ≡ goes fs (opened_params l d)
 unfolding declarator_end
-paren_goes d fs l r = roomy (declarator_depth d + (length fs + 1)) (goes fs (opened_params l d)) r
+paren_goes limit d fs l r = roomy limit (declarator_depth d + (length fs + 1)) (goes fs (opened_params l d)) r

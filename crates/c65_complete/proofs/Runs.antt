@@ -16,19 +16,19 @@ use Rattle.c65_parse.specs.Machine.{Reading, run, step, step_by, changed, fault_
 use Rattle.c65_grammar.specs.Phrases.{Phrase, ◌▸◌, token, one, some}
 use Rattle.c65_grammar.specs.Scopes.{Scope}
 
-abbrev pub then_run : ℕ → Blocks → Token → List Token → Next → Reading
-then_run least scope tok tokens n = elim n as (λ _. Reading) [ go gs next change ↦ run least (changed change scope) gs next tokens | stop done ↦ Ok (done, tok ∷ tokens, scope) | deep ↦ Err (large Depth 257) | fail ↦ Err (fault_at tok) ]
+abbrev pub then_run : (limit : ℕ) → ℕ → Blocks → Token → List Token → Next → Reading
+then_run limit least scope tok tokens n = elim n as (λ _. Reading) [ go gs next change ↦ run limit least (changed change scope) gs next tokens | stop done ↦ Ok (done, tok ∷ tokens, scope) | deep ↦ Err (large Depth 257) | fail ↦ Err (fault_at tok) ]
 
 -- one token
-pub takes : (least : ℕ) (sc : Scope) (outer : Blocks) (fs : List Frame) (held : Held) (tok : Token) (ts : List Token) (gs : List Frame) (next : Held) (change : Change)
-    → step_by least fs held tok (sign_of_kind sc tok.kind) ≡ go gs next change → run least (sc ∷ outer) fs held (tok ∷ ts) ≡ run least (changed change (sc ∷ outer)) gs next ts
+pub takes : (limit : ℕ) (least : ℕ) (sc : Scope) (outer : Blocks) (fs : List Frame) (held : Held) (tok : Token) (ts : List Token) (gs : List Frame) (next : Held) (change : Change)
+    → step_by limit least fs held tok (sign_of_kind sc tok.kind) ≡ go gs next change → run limit least (sc ∷ outer) fs held (tok ∷ ts) ≡ run limit least (changed change (sc ∷ outer)) gs next ts
 unfolding step
-takes least sc outer fs held tok ts gs next change h = ap (then_run least (sc ∷ outer) tok ts) h
+takes limit least sc outer fs held tok ts gs next change h = ap (then_run limit least (sc ∷ outer) tok ts) h
 
 -- a token that leaves the scope as it is
-pub steps : (least : ℕ) (sc : Scope) (outer : Blocks) (fs : List Frame) (held : Held) (tok : Token) (ts : List Token) (gs : List Frame) (next : Held)
-    → step_by least fs held tok (sign_of_kind sc tok.kind) ≡ goes gs next → run least (sc ∷ outer) fs held (tok ∷ ts) ≡ run least (sc ∷ outer) gs next ts
-steps least sc outer fs held tok ts gs next h = takes least sc outer fs held tok ts gs next changes.Nothing h
+pub steps : (limit : ℕ) (least : ℕ) (sc : Scope) (outer : Blocks) (fs : List Frame) (held : Held) (tok : Token) (ts : List Token) (gs : List Frame) (next : Held)
+    → step_by limit least fs held tok (sign_of_kind sc tok.kind) ≡ goes gs next → run limit least (sc ∷ outer) fs held (tok ∷ ts) ≡ run limit least (sc ∷ outer) gs next ts
+steps limit least sc outer fs held tok ts gs next h = takes limit least sc outer fs held tok ts gs next changes.Nothing h
 
 -- the first token, if there is one
 abbrev pub First : (Token → Type 0) → List Token → Type 0
@@ -36,11 +36,11 @@ First P [] = Unit {0}
 First P (tok ∷ ts) = P tok
 
 -- where the first token does the same in two states
-pub same : (least : ℕ) (sc : Scope) (outer : Blocks) (fs gs : List Frame) (held next : Held) (ts : List Token)
-    → First (λ tok. step_by least fs held tok (sign_of_kind sc tok.kind) ≡ step_by least gs next tok (sign_of_kind sc tok.kind)) ts → run least (sc ∷ outer) fs held ts ≡ run least (sc ∷ outer) gs next ts
+pub same : (limit : ℕ) (least : ℕ) (sc : Scope) (outer : Blocks) (fs gs : List Frame) (held next : Held) (ts : List Token)
+    → First (λ tok. step_by limit least fs held tok (sign_of_kind sc tok.kind) ≡ step_by limit least gs next tok (sign_of_kind sc tok.kind)) ts → run limit least (sc ∷ outer) fs held ts ≡ run limit least (sc ∷ outer) gs next ts
 unfolding step
-same least sc outer fs gs held next [] h = refl
-same least sc outer fs gs held next (tok ∷ ts) h = ap (then_run least (sc ∷ outer) tok ts) h
+same limit least sc outer fs gs held next [] h = refl
+same limit least sc outer fs gs held next (tok ∷ ts) h = ap (then_run limit least (sc ∷ outer) tok ts) h
 
 pub first_map : (P Q : Token → Type 0) (ts : List Token) → ((tok : Token) → P tok → Q tok) → First P ts → First Q ts
 first_map P Q [] f h = tt
@@ -54,8 +54,8 @@ pub single : (R : List Token → Type 0) (l : Pos) (k : TokenKind) (xs rest : Li
 single R l k xs rest p h = subst (λ ts. R (ts ++ rest)) (sym p) h
 
 -- what the tokens lead to
-abbrev pub Leads : ℕ → Scope → Blocks → List Frame → Held → Reading → List Token → Type 0
-Leads least sc outer fs held d ts = run least (sc ∷ outer) fs held ts ≡ d
+abbrev pub Leads : (limit : ℕ) → ℕ → Scope → Blocks → List Frame → Held → Reading → List Token → Type 0
+Leads limit least sc outer fs held d ts = run limit least (sc ∷ outer) fs held ts ≡ d
 
 -- a token, and what is behind it
 pub before : {B : Phrase} (R : List Token → Type 0) (l : Pos) (k : TokenKind) (xs rest : List Token) → (one l k ▸ B) xs → ((zs : List Token) → B zs → R (token k l ∷ (zs ++ rest))) → R (xs ++ rest)

@@ -25,18 +25,18 @@ use Rattle.c65_complete.specs.Tokens.{rank}
 use Rattle.c65_complete.proofs.Edges.{Follows}
 use Rattle.c65_complete.proofs.Runs.{First, same}
 
-pub roomy : (a : ℕ) (n : Next) → a ≤ 256 → within (nat_le a 256) n ≡ n
-roomy a n h = ap (λ b. within b n) (le-leb a 256 h)
+pub roomy : (limit : ℕ) (a : ℕ) (n : Next) → a ≤ limit → within (nat_le a limit) n ≡ n
+roomy limit a n h = ap (λ b. within b n) (le-leb a limit h)
 
 -- a whole operand
-pub leaf_goes : (fs : List Frame) (tok : Token) (sign : Sign) (e : t.ExprTree) → leaf_of tok (names_type sign) ≡ Some e → 1 + length fs ≤ 256 → operand_step fs tok sign ≡ goes fs (have_expr e)
+pub leaf_goes : (limit : ℕ) (fs : List Frame) (tok : Token) (sign : Sign) (e : t.ExprTree) → leaf_of tok (names_type sign) ≡ Some e → 1 + length fs ≤ limit → operand_step limit fs tok sign ≡ goes fs (have_expr e)
 unfolding operand_step
-leaf_goes fs tok sign e h r = ap (begin_with fs tok.pos sign) h ∙ roomy (1 + length fs) (goes fs (have_expr e)) r
+leaf_goes limit fs tok sign e h r = ap (begin_with limit fs tok.pos sign) h ∙ roomy limit (1 + length fs) (goes fs (have_expr e)) r
 
 -- an operator before its operand
-pub prefix_goes : (fs : List Frame) (tok : Token) (sign : Sign) (p : Prefix) → leaf_of tok (names_type sign) ≡ None → prefix_of sign ≡ Some p → 2 + length fs ≤ 256 → operand_step fs tok sign ≡ goes (in_operation (in_prefix tok.pos p) ∷ fs) operand
+pub prefix_goes : (limit : ℕ) (fs : List Frame) (tok : Token) (sign : Sign) (p : Prefix) → leaf_of tok (names_type sign) ≡ None → prefix_of sign ≡ Some p → 2 + length fs ≤ limit → operand_step limit fs tok sign ≡ goes (in_operation (in_prefix tok.pos p) ∷ fs) operand
 unfolding operand_step
-prefix_goes fs tok sign p h k r = ap (begin_with fs tok.pos sign) h ∙ (ap (begin_by fs tok.pos sign) k ∙ roomy (2 + length fs) (goes (in_operation (in_prefix tok.pos p) ∷ fs) operand) r)
+prefix_goes limit fs tok sign p h k r = ap (begin_with limit fs tok.pos sign) h ∙ (ap (begin_by limit fs tok.pos sign) k ∙ roomy limit (2 + length fs) (goes (in_operation (in_prefix tok.pos p) ∷ fs) operand) r)
 
 binary_high : (op : BinaryOp) → level_of_binary op ≤ 12
 binary_high ops.Mul = omega arith
@@ -109,15 +109,15 @@ stays rank least e [] h = refl
 stays rank least e (in_operation o ∷ fs) h = ap (λ b. if b then reduce rank (plug o e) fs else (e, in_operation o ∷ fs)) (le-ltb rank (hole_of o) h)
 stays rank least e (_ ∷ fs) h = refl
 
-extended : (least : ℕ) (e : t.ExprTree) (fs : List Frame) (l : Pos) (sign : Sign) → hole least fs ≤ rank_of sign → left_of sign ≤ level_of e → expr_depth e + (length fs + 1) ≤ 256 → extend least e fs l sign ≡ extend_by (infix_of sign) e fs l sign
-extended least e fs l sign a b c = ap (λ x. if (if x then nat_le (hole least fs) (rank_of sign) else false) then within (nat_le (expr_depth e + (length fs + 1)) 256) (extend_by (infix_of sign) e fs l sign) else close e fs sign) (le-leb (left_of sign) (level_of e) b)
-    ∙ (ap (λ x. if x then within (nat_le (expr_depth e + (length fs + 1)) 256) (extend_by (infix_of sign) e fs l sign) else close e fs sign) (le-leb (hole least fs) (rank_of sign) a)
-    ∙ roomy (expr_depth e + (length fs + 1)) (extend_by (infix_of sign) e fs l sign) c)
+extended : (limit : ℕ) (least : ℕ) (e : t.ExprTree) (fs : List Frame) (l : Pos) (sign : Sign) → hole least fs ≤ rank_of sign → left_of sign ≤ level_of e → expr_depth e + (length fs + 1) ≤ limit → extend limit least e fs l sign ≡ extend_by (infix_of sign) e fs l sign
+extended limit least e fs l sign a b c = ap (λ x. if (if x then nat_le (hole least fs) (rank_of sign) else false) then within (nat_le (expr_depth e + (length fs + 1)) limit) (extend_by (infix_of sign) e fs l sign) else close e fs sign) (le-leb (left_of sign) (level_of e) b)
+    ∙ (ap (λ x. if x then within (nat_le (expr_depth e + (length fs + 1)) limit) (extend_by (infix_of sign) e fs l sign) else close e fs sign) (le-leb (hole least fs) (rank_of sign) a)
+    ∙ roomy limit (expr_depth e + (length fs + 1)) (extend_by (infix_of sign) e fs l sign) c)
 
 -- an operator goes on with the expression
-pub extends : (least : ℕ) (e : t.ExprTree) (fs : List Frame) (l : Pos) (sign : Sign) → hole least fs ≤ rank_of sign → left_of sign ≤ level_of e → expr_depth e + (length fs + 1) ≤ 256 → expr_step least e fs l sign ≡ extend_by (infix_of sign) e fs l sign
+pub extends : (limit : ℕ) (least : ℕ) (e : t.ExprTree) (fs : List Frame) (l : Pos) (sign : Sign) → hole least fs ≤ rank_of sign → left_of sign ≤ level_of e → expr_depth e + (length fs + 1) ≤ limit → expr_step limit least e fs l sign ≡ extend_by (infix_of sign) e fs l sign
 unfolding expr_step
-extends least e fs l sign a b c = ap (λ (r : t.ExprTree × List Frame). extend least r.0 r.1 l sign) (stays (rank_of sign) least e fs a) ∙ extended least e fs l sign a b c
+extends limit least e fs l sign a b c = ap (λ (r : t.ExprTree × List Frame). extend limit least r.0 r.1 l sign) (stays (rank_of sign) least e fs a) ∙ extended limit least e fs l sign a b c
 
 pub no_operator : (least : ℕ) (e : t.ExprTree) (fs : List Frame) (sign : Sign) → left_of sign ≡ 16 → goes_on least e fs sign ≡ false
 no_operator least e fs sign h = ap (λ x. if x then nat_le (hole least fs) (rank_of sign) else false) (lt-leb (left_of sign) (level_of e) (let k = level_high e in omega (arith, h, k)))
@@ -130,10 +130,10 @@ pub low_operator : (least : ℕ) (e : t.ExprTree) (fs : List Frame) (sign : Sign
 low_operator least e fs sign h = either_way (nat_le (left_of sign) (level_of e)) (nat_le (hole least fs) (rank_of sign)) (lt-leb (hole least fs) (rank_of sign) h)
 
 -- the expression is whole in its place
-pub closes : (least : ℕ) (e : t.ExprTree) (f : Frame) (fs : List Frame) (l : Pos) (sign : Sign) → ends (rank_of sign) f ≡ false → goes_on least e (f ∷ fs) sign ≡ false → expr_step least e (f ∷ fs) l sign ≡ close e (f ∷ fs) sign
+pub closes : (limit : ℕ) (least : ℕ) (e : t.ExprTree) (f : Frame) (fs : List Frame) (l : Pos) (sign : Sign) → ends (rank_of sign) f ≡ false → goes_on least e (f ∷ fs) sign ≡ false → expr_step limit least e (f ∷ fs) l sign ≡ close e (f ∷ fs) sign
 unfolding expr_step
-closes least e f fs l sign a b = ap (λ x. let r : t.ExprTree × List Frame = if x then reduce (rank_of sign) (plug_frame f e) fs else (e, f ∷ fs) in extend least r.0 r.1 l sign) a
-    ∙ ap (λ x. if x then within (nat_le (expr_depth e + (length (f ∷ fs) + 1)) 256) (extend_by (infix_of sign) e (f ∷ fs) l sign) else close e (f ∷ fs) sign) b
+closes limit least e f fs l sign a b = ap (λ x. let r : t.ExprTree × List Frame = if x then reduce (rank_of sign) (plug_frame f e) fs else (e, f ∷ fs) in extend limit least r.0 r.1 l sign) a
+    ∙ ap (λ x. if x then within (nat_le (expr_depth e + (length (f ∷ fs) + 1)) limit) (extend_by (infix_of sign) e (f ∷ fs) l sign) else close e (f ∷ fs) sign) b
 
 pub rank_same : (sc : Scope) (k : TokenKind) → rank_of (sign_of_kind sc k) ≡ rank k
 rank_same sc (kinds.Keyword k) = refl
@@ -143,20 +143,20 @@ rank_same sc (kinds.Text bs) = refl
 rank_same sc (kinds.Punct p) = refl
 rank_same sc kinds.End = refl
 
-absorbed : (least : ℕ) (o : Operation) (e : t.ExprTree) (fs : List Frame) (l : Pos) (sign : Sign) → rank_of sign < hole_of o → expr_step least e (in_operation o ∷ fs) l sign ≡ expr_step least (plug o e) fs l sign
+absorbed : (limit : ℕ) (least : ℕ) (o : Operation) (e : t.ExprTree) (fs : List Frame) (l : Pos) (sign : Sign) → rank_of sign < hole_of o → expr_step limit least e (in_operation o ∷ fs) l sign ≡ expr_step limit least (plug o e) fs l sign
 unfolding expr_step
-absorbed least o e fs l sign h = ap (λ x. let r : t.ExprTree × List Frame = if x then reduce (rank_of sign) (plug o e) fs else (e, in_operation o ∷ fs) in extend least r.0 r.1 l sign) (lt-ltb (rank_of sign) (hole_of o) h)
+absorbed limit least o e fs l sign h = ap (λ x. let r : t.ExprTree × List Frame = if x then reduce (rank_of sign) (plug o e) fs else (e, in_operation o ∷ fs) in extend limit least r.0 r.1 l sign) (lt-ltb (rank_of sign) (hole_of o) h)
 
-ends_operation : (least : ℕ) (sc : Scope) (o : Operation) (e : t.ExprTree) (fs : List Frame) (n : ℕ) (tok : Token) → rank tok.kind ≤ n → n < hole_of o
-    → expr_step least e (in_operation o ∷ fs) tok.pos (sign_of_kind sc tok.kind) ≡ expr_step least (plug o e) fs tok.pos (sign_of_kind sc tok.kind)
-ends_operation least sc o e fs n tok f h = absorbed least o e fs tok.pos (sign_of_kind sc tok.kind) (let s = rank_same sc tok.kind in omega (arith, f, h, s))
+ends_operation : (limit : ℕ) (least : ℕ) (sc : Scope) (o : Operation) (e : t.ExprTree) (fs : List Frame) (n : ℕ) (tok : Token) → rank tok.kind ≤ n → n < hole_of o
+    → expr_step limit least e (in_operation o ∷ fs) tok.pos (sign_of_kind sc tok.kind) ≡ expr_step limit least (plug o e) fs tok.pos (sign_of_kind sc tok.kind)
+ends_operation limit least sc o e fs n tok f h = absorbed limit least o e fs tok.pos (sign_of_kind sc tok.kind) (let s = rank_same sc tok.kind in omega (arith, f, h, s))
 
-first_ends : (least : ℕ) (sc : Scope) (o : Operation) (e : t.ExprTree) (fs : List Frame) (n : ℕ) (ts : List Token) → Follows n ts → n < hole_of o
-    → First (λ tok. expr_step least e (in_operation o ∷ fs) tok.pos (sign_of_kind sc tok.kind) ≡ expr_step least (plug o e) fs tok.pos (sign_of_kind sc tok.kind)) ts
-first_ends least sc o e fs n [] f h = tt
-first_ends least sc o e fs n (tok ∷ ts) f h = ends_operation least sc o e fs n tok f h
+first_ends : (limit : ℕ) (least : ℕ) (sc : Scope) (o : Operation) (e : t.ExprTree) (fs : List Frame) (n : ℕ) (ts : List Token) → Follows n ts → n < hole_of o
+    → First (λ tok. expr_step limit least e (in_operation o ∷ fs) tok.pos (sign_of_kind sc tok.kind) ≡ expr_step limit least (plug o e) fs tok.pos (sign_of_kind sc tok.kind)) ts
+first_ends limit least sc o e fs n [] f h = tt
+first_ends limit least sc o e fs n (tok ∷ ts) f h = ends_operation limit least sc o e fs n tok f h
 
 -- an operation ends before an operator that makes less than its last operand has to be
-pub absorbs : (least : ℕ) (sc : Scope) (outer : Blocks) (o : Operation) (e : t.ExprTree) (fs : List Frame) (n : ℕ) (ts : List Token) → Follows n ts → n < hole_of o
-    → run least (sc ∷ outer) (in_operation o ∷ fs) (have_expr e) ts ≡ run least (sc ∷ outer) fs (have_expr (plug o e)) ts
-absorbs least sc outer o e fs n ts f h = same least sc outer (in_operation o ∷ fs) fs (have_expr e) (have_expr (plug o e)) ts (first_ends least sc o e fs n ts f h)
+pub absorbs : (limit : ℕ) (least : ℕ) (sc : Scope) (outer : Blocks) (o : Operation) (e : t.ExprTree) (fs : List Frame) (n : ℕ) (ts : List Token) → Follows n ts → n < hole_of o
+    → run limit least (sc ∷ outer) (in_operation o ∷ fs) (have_expr e) ts ≡ run limit least (sc ∷ outer) fs (have_expr (plug o e)) ts
+absorbs limit least sc outer o e fs n ts f h = same limit least sc outer (in_operation o ∷ fs) fs (have_expr e) (have_expr (plug o e)) ts (first_ends limit least sc o e fs n ts f h)

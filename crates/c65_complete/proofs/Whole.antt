@@ -10,89 +10,89 @@ use Rattle.c65_complete.proofs.Declarators.{reads_nameless, reads_named, reads_g
 use Rattle.c65_complete.proofs.Params.{reads_type, reads_params, reads_function}
 
 mutual
-  pub reads_expr : (e : t.ExprTree) → ReadsExpr e
-  reads_expr (t.name l n) = reads_name l n
-  reads_expr (t.number l ty n) = reads_number l ty n
-  reads_expr (t.text l bs) = reads_text l bs
-  reads_expr (t.paren l e) = reads_paren l e (reads_expr e)
-  reads_expr (t.index l a i) = reads_index l a i (reads_expr a) (reads_expr i)
-  reads_expr (t.call l f es) = reads_call l f es (reads_expr f) (reads_exprs es)
-  reads_expr (t.member l e arrow n) = reads_member l e arrow n (reads_expr e)
-  reads_expr (t.step l how e) = reads_step l how e (reads_expr e)
-  reads_expr (t.unary l op e) = reads_unary l op e (reads_expr e)
-  reads_expr (t.sizeof_expr l e) = reads_sizeof l e (reads_expr e)
-  reads_expr (t.sizeof_type l ty) = reads_sizeof_type l ty (reads_types ty)
-  reads_expr (t.cast l ty e) = reads_cast l ty e (reads_types ty) (reads_expr e)
-  reads_expr (t.binary l op a b) = reads_binary l op a b (reads_expr a) (reads_expr b)
-  reads_expr (t.and_also l a b) = reads_and l a b (reads_expr a) (reads_expr b)
-  reads_expr (t.or_else l a b) = reads_or l a b (reads_expr a) (reads_expr b)
-  reads_expr (t.conditional l c a b) = reads_conditional l c a b (reads_expr c) (reads_expr a) (reads_expr b)
-  reads_expr (t.assign l op a b) = reads_assign l op a b (reads_expr a) (reads_expr b)
-  reads_expr (t.comma l a b) = reads_comma l a b (reads_expr a) (reads_expr b)
+  pub reads_expr : (limit : ℕ) (e : t.ExprTree) → ReadsExpr limit e
+  reads_expr limit (t.name l n) = reads_name limit l n
+  reads_expr limit (t.number l ty n) = reads_number limit l ty n
+  reads_expr limit (t.text l bs) = reads_text limit l bs
+  reads_expr limit (t.paren l e) = reads_paren limit l e (reads_expr limit e)
+  reads_expr limit (t.index l a i) = reads_index limit l a i (reads_expr limit a) (reads_expr limit i)
+  reads_expr limit (t.call l f es) = reads_call limit l f es (reads_expr limit f) (reads_exprs limit es)
+  reads_expr limit (t.member l e arrow n) = reads_member limit l e arrow n (reads_expr limit e)
+  reads_expr limit (t.step l how e) = reads_step limit l how e (reads_expr limit e)
+  reads_expr limit (t.unary l op e) = reads_unary limit l op e (reads_expr limit e)
+  reads_expr limit (t.sizeof_expr l e) = reads_sizeof limit l e (reads_expr limit e)
+  reads_expr limit (t.sizeof_type l ty) = reads_sizeof_type limit l ty (reads_types limit ty)
+  reads_expr limit (t.cast l ty e) = reads_cast limit l ty e (reads_types limit ty) (reads_expr limit e)
+  reads_expr limit (t.binary l op a b) = reads_binary limit l op a b (reads_expr limit a) (reads_expr limit b)
+  reads_expr limit (t.and_also l a b) = reads_and limit l a b (reads_expr limit a) (reads_expr limit b)
+  reads_expr limit (t.or_else l a b) = reads_or limit l a b (reads_expr limit a) (reads_expr limit b)
+  reads_expr limit (t.conditional l c a b) = reads_conditional limit l c a b (reads_expr limit c) (reads_expr limit a) (reads_expr limit b)
+  reads_expr limit (t.assign l op a b) = reads_assign limit l op a b (reads_expr limit a) (reads_expr limit b)
+  reads_expr limit (t.comma l a b) = reads_comma limit l a b (reads_expr limit a) (reads_expr limit b)
 
-  pub reads_exprs : (es : t.ExprList) → ReadsExprs es
-  reads_exprs t.no_exprs = tt
-  reads_exprs (t.and_expr es e) = reads_arguments es e (reads_exprs es) (reads_expr e)
+  pub reads_exprs : (limit : ℕ) (es : t.ExprList) → ReadsExprs limit es
+  reads_exprs limit t.no_exprs = tt
+  reads_exprs limit (t.and_expr es e) = reads_arguments limit es e (reads_exprs limit es) (reads_expr limit e)
 
-  pub reads_maybe : (v : t.MaybeExpr) → ReadsMaybe v
-  reads_maybe t.no_expr = tt
-  reads_maybe (t.an_expr e) = reads_expr e
+  pub reads_maybe : (limit : ℕ) (v : t.MaybeExpr) → ReadsMaybe limit v
+  reads_maybe limit t.no_expr = tt
+  reads_maybe limit (t.an_expr e) = reads_expr limit e
 
-  pub reads_types : (ty : t.TypeTree) → ReadsType ty
-  reads_types (t.type_name q d) = reads_type q d (reads_specifiers q) (reads_declarator d)
+  pub reads_types : (limit : ℕ) (ty : t.TypeTree) → ReadsType limit ty
+  reads_types limit (t.type_name q d) = reads_type limit q d (reads_specifiers limit q) (reads_declarator limit d)
 
-  pub reads_specifiers : (q : t.SpecifiersTree) → ReadsSpecifiers q
-  reads_specifiers (t.specifiers l qs) = reads_specifier_list qs
+  pub reads_specifiers : (limit : ℕ) (q : t.SpecifiersTree) → ReadsSpecifiers limit q
+  reads_specifiers limit (t.specifiers l qs) = reads_specifier_list limit qs
 
-  pub reads_specifier_list : (qs : t.SpecifierList) → ReadsList qs
-  reads_specifier_list t.no_specifiers = reads_nothing
-  reads_specifier_list (t.and_specifier qs q) = reads_list qs q (reads_specifier_list qs) (reads_specifier q)
+  pub reads_specifier_list : (limit : ℕ) (qs : t.SpecifierList) → ReadsList limit qs
+  reads_specifier_list limit t.no_specifiers = reads_nothing limit
+  reads_specifier_list limit (t.and_specifier qs q) = reads_list limit qs q (reads_specifier_list limit qs) (reads_specifier limit q)
 
-  pub reads_specifier : (q : t.SpecifierTree) → ReadsSpecifier q
-  reads_specifier (t.storage l c) = reads_storage l c
-  reads_specifier (t.word l w) = reads_word l w
-  reads_specifier (t.typedef_name l n) = reads_typedef_name l n
-  reads_specifier (t.tagged l union name ms) = reads_tagged l union name ms (reads_in_members ms)
-  reads_specifier (t.enum l name es) = reads_enum l name es (reads_in_enumerators es)
+  pub reads_specifier : (limit : ℕ) (q : t.SpecifierTree) → ReadsSpecifier limit q
+  reads_specifier limit (t.storage l c) = reads_storage limit l c
+  reads_specifier limit (t.word l w) = reads_word limit l w
+  reads_specifier limit (t.typedef_name l n) = reads_typedef_name limit l n
+  reads_specifier limit (t.tagged l union name ms) = reads_tagged limit l union name ms (reads_in_members limit ms)
+  reads_specifier limit (t.enum l name es) = reads_enum limit l name es (reads_in_enumerators limit es)
 
-  pub reads_in_members : (ms : t.MaybeMembers) → ReadsMembers_in ms
-  reads_in_members t.no_members = tt
-  reads_in_members (t.the_members ds) = reads_member_decls ds
+  pub reads_in_members : (limit : ℕ) (ms : t.MaybeMembers) → ReadsMembers_in limit ms
+  reads_in_members limit t.no_members = tt
+  reads_in_members limit (t.the_members ds) = reads_member_decls limit ds
 
-  pub reads_member_decls : (ds : t.MemberDeclList) → ReadsDecls ds
-  reads_member_decls t.no_member_decls = tt
-  reads_member_decls (t.and_member_decl ds q ms) = reads_decls ds q ms (reads_member_decls ds) (reads_specifiers q) (reads_member_list ms)
+  pub reads_member_decls : (limit : ℕ) (ds : t.MemberDeclList) → ReadsDecls limit ds
+  reads_member_decls limit t.no_member_decls = tt
+  reads_member_decls limit (t.and_member_decl ds q ms) = reads_decls limit ds q ms (reads_member_decls limit ds) (reads_specifiers limit q) (reads_member_list limit ms)
 
-  pub reads_member_list : (ms : t.MemberList) → ReadsMembers ms
-  reads_member_list t.no_more_members = tt
-  reads_member_list (t.and_member ms l d w) = reads_members ms l d w (reads_member_list ms) (reads_maybe_declarator d) (reads_maybe w)
+  pub reads_member_list : (limit : ℕ) (ms : t.MemberList) → ReadsMembers limit ms
+  reads_member_list limit t.no_more_members = tt
+  reads_member_list limit (t.and_member ms l d w) = reads_members limit ms l d w (reads_member_list limit ms) (reads_maybe_declarator limit d) (reads_maybe limit w)
 
-  pub reads_in_enumerators : (es : t.MaybeEnumerators) → ReadsEnumerators_in es
-  reads_in_enumerators t.no_enumerators = tt
-  reads_in_enumerators (t.the_enumerators es) = reads_enumerator_list es
+  pub reads_in_enumerators : (limit : ℕ) (es : t.MaybeEnumerators) → ReadsEnumerators_in limit es
+  reads_in_enumerators limit t.no_enumerators = tt
+  reads_in_enumerators limit (t.the_enumerators es) = reads_enumerator_list limit es
 
-  pub reads_enumerator_list : (es : t.EnumeratorList) → ReadsEnumerators es
-  reads_enumerator_list t.no_more_enumerators = tt
-  reads_enumerator_list (t.and_enumerator es l n v) = reads_enumerators es l n v (reads_enumerator_list es) (reads_maybe v)
+  pub reads_enumerator_list : (limit : ℕ) (es : t.EnumeratorList) → ReadsEnumerators limit es
+  reads_enumerator_list limit t.no_more_enumerators = tt
+  reads_enumerator_list limit (t.and_enumerator es l n v) = reads_enumerators limit es l n v (reads_enumerator_list limit es) (reads_maybe limit v)
 
-  pub reads_declarator : (d : t.DeclaratorTree) → ReadsDeclarator d
-  reads_declarator (t.nameless l) = reads_nameless l
-  reads_declarator (t.named l n) = reads_named l n
-  reads_declarator (t.grouped l d) = reads_grouped l d (reads_declarator d)
-  reads_declarator (t.calling l cdecl d) = reads_calling l cdecl d (reads_declarator d)
-  reads_declarator (t.pointer l c v d) = reads_pointer l c v d (reads_declarator d)
-  reads_declarator (t.array l d n) = reads_array l d n (reads_declarator d) (reads_maybe n)
-  reads_declarator (t.function l d ps) = reads_function l d ps (reads_declarator d) (reads_params_tree ps)
+  pub reads_declarator : (limit : ℕ) (d : t.DeclaratorTree) → ReadsDeclarator limit d
+  reads_declarator limit (t.nameless l) = reads_nameless limit l
+  reads_declarator limit (t.named l n) = reads_named limit l n
+  reads_declarator limit (t.grouped l d) = reads_grouped limit l d (reads_declarator limit d)
+  reads_declarator limit (t.calling l cdecl d) = reads_calling limit l cdecl d (reads_declarator limit d)
+  reads_declarator limit (t.pointer l c v d) = reads_pointer limit l c v d (reads_declarator limit d)
+  reads_declarator limit (t.array l d n) = reads_array limit l d n (reads_declarator limit d) (reads_maybe limit n)
+  reads_declarator limit (t.function l d ps) = reads_function limit l d ps (reads_declarator limit d) (reads_params_tree limit ps)
 
-  pub reads_maybe_declarator : (d : t.MaybeDeclarator) → ReadsMaybeDeclarator d
-  reads_maybe_declarator t.no_declarator = tt
-  reads_maybe_declarator (t.a_declarator d) = reads_declarator d
+  pub reads_maybe_declarator : (limit : ℕ) (d : t.MaybeDeclarator) → ReadsMaybeDeclarator limit d
+  reads_maybe_declarator limit t.no_declarator = tt
+  reads_maybe_declarator limit (t.a_declarator d) = reads_declarator limit d
 
-  pub reads_params_tree : (ps : t.ParamsTree) → ReadsParamsTree ps
-  reads_params_tree t.no_params = tt
-  reads_params_tree (t.param_names ns) = tt
-  reads_params_tree (t.param_types ps more) = reads_param_list ps
+  pub reads_params_tree : (limit : ℕ) (ps : t.ParamsTree) → ReadsParamsTree limit ps
+  reads_params_tree limit t.no_params = tt
+  reads_params_tree limit (t.param_names ns) = tt
+  reads_params_tree limit (t.param_types ps more) = reads_param_list limit ps
 
-  pub reads_param_list : (ps : t.ParamList) → ReadsParams ps
-  reads_param_list t.no_more_params = tt
-  reads_param_list (t.and_param ps q d) = reads_params ps q d (reads_param_list ps) (reads_specifiers q) (reads_declarator d)
+  pub reads_param_list : (limit : ℕ) (ps : t.ParamList) → ReadsParams limit ps
+  reads_param_list limit t.no_more_params = tt
+  reads_param_list limit (t.and_param ps q d) = reads_params limit ps q d (reads_param_list limit ps) (reads_specifiers limit q) (reads_declarator limit d)

@@ -30,21 +30,21 @@ round_it (block ∷ blocks) = blocks
 
 -- where such a tree stands before a token that ends it, the answer is the tree, with the tokens and the scope behind
 -- it, unless memory ran out
-abbrev pub Accepts : {X Tree : Type 0} → (Scope → Pos → Tree → Phrase) → (Tree → ℕ) → (Scope → Tree → Token → Type 0) → (Scope → Tree → Scope) → Parser → Parser → (X → Tree) → Result X Refusal → Type 0
-Accepts {X} {Tree} phrase depth ends behind before later view result = (tree : Tree) (front : List Token) (next : Token) (others : List Token)
-    → rest_of before ≡ front ++ next ∷ others → phrase (innermost (blocks_of before)) next.pos tree front → depth tree ≤ 256 → ends (innermost (blocks_of before)) tree next
+abbrev pub Accepts : (limit : ℕ) → {X Tree : Type 0} → (Scope → Pos → Tree → Phrase) → (Tree → ℕ) → (Scope → Tree → Token → Type 0) → (Scope → Tree → Scope) → Parser → Parser → (X → Tree) → Result X Refusal → Type 0
+Accepts limit {X} {Tree} phrase depth ends behind before later view result = (tree : Tree) (front : List Token) (next : Token) (others : List Token)
+    → rest_of before ≡ front ++ next ∷ others → phrase (innermost (blocks_of before)) next.pos tree front → depth tree ≤ limit → ends (innermost (blocks_of before)) tree next
     → Gives {Y = Tree × List Token × Blocks} (λ x. (view x, rest_of later, blocks_of later)) result (Ok (tree, next ∷ others, behind (innermost (blocks_of before)) tree ∷ round_it (blocks_of before)))
 
 -- an expression of at least this level
-abbrev pub AcceptsExpr : {X : Type 0} → ℕ → Parser → Parser → (X → t.ExprTree) → Result X Refusal → Type 0
-AcceptsExpr least = Accepts (λ sc l e. given (least ≤ level e) (g.expr sc e)) expr_depth (λ sc e next. EndsExpr least next.kind) after
+abbrev pub AcceptsExpr : (limit : ℕ) → {X : Type 0} → ℕ → Parser → Parser → (X → t.ExprTree) → Result X Refusal → Type 0
+AcceptsExpr limit least = Accepts limit (λ sc l e. given (least ≤ level e) (g.expr sc e)) expr_depth (λ sc e next. EndsExpr least next.kind) after
 
-abbrev pub AcceptsSpecifiers : {X : Type 0} → Parser → Parser → (X → t.SpecifiersTree) → Result X Refusal → Type 0
-AcceptsSpecifiers = Accepts head_specifiers specifiers_depth (λ sc q next. EndsSpecifiers (has_type q) (after_specifiers sc q) next.kind) after_specifiers
+abbrev pub AcceptsSpecifiers : (limit : ℕ) → {X : Type 0} → Parser → Parser → (X → t.SpecifiersTree) → Result X Refusal → Type 0
+AcceptsSpecifiers limit = Accepts limit head_specifiers specifiers_depth (λ sc q next. EndsSpecifiers (has_type q) (after_specifiers sc q) next.kind) after_specifiers
 
 -- a declarator with a name; the flag says that a type specifier stands before it
-abbrev pub AcceptsDeclarator : {X : Type 0} → Bool → Parser → Parser → (X → t.DeclaratorTree) → Result X Refusal → Type 0
-AcceptsDeclarator typed = Accepts (g.declarator (g.named typed)) declarator_depth (λ sc d next. NoSuffix next.kind) after_declarator
+abbrev pub AcceptsDeclarator : (limit : ℕ) → {X : Type 0} → Bool → Parser → Parser → (X → t.DeclaratorTree) → Result X Refusal → Type 0
+AcceptsDeclarator limit typed = Accepts limit (g.declarator (g.named typed)) declarator_depth (λ sc d next. NoSuffix next.kind) after_declarator
 
-abbrev pub AcceptsType : {X : Type 0} → Parser → Parser → (X → t.TypeTree) → Result X Refusal → Type 0
-AcceptsType = Accepts g.type_name type_depth (λ sc ty next. next.kind ≡ kinds.Punct puncts.CloseParen) after_type
+abbrev pub AcceptsType : (limit : ℕ) → {X : Type 0} → Parser → Parser → (X → t.TypeTree) → Result X Refusal → Type 0
+AcceptsType limit = Accepts limit g.type_name type_depth (λ sc ty next. next.kind ≡ kinds.Punct puncts.CloseParen) after_type

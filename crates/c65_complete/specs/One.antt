@@ -8,21 +8,21 @@ use Rattle.c65_grammar.specs.Scopes.{Scope}
 use Rattle.c65_grammar.specs.Expressions as g
 use Rattle.c65_grammar.specs.Statements.{head_specifiers}
 
-abbrev pub HasOne : {Tree : Type 0} → (Tree → Phrase) → (Tree → ℕ) → Type 0
-HasOne {Tree} phrase depth = (ts : List Token) (tree other : Tree) → phrase tree ts → phrase other ts → depth tree ≤ 256 → depth other ≤ 256 → tree ≡ other
+abbrev pub HasOne : (limit : ℕ) → {Tree : Type 0} → (Tree → Phrase) → (Tree → ℕ) → Type 0
+HasOne limit {Tree} phrase depth = (ts : List Token) (tree other : Tree) → phrase tree ts → phrase other ts → depth tree ≤ limit → depth other ≤ limit → tree ≡ other
 
 -- C90 6.3
 abbrev pub ExprsAreOne : Type 0
-ExprsAreOne = (sc : Scope) → HasOne (g.expr sc) expr_depth
+ExprsAreOne = (limit : ℕ) (sc : Scope) → HasOne limit (g.expr sc) expr_depth
 
 -- C90 6.5
 abbrev pub SpecifiersAreOne : Type 0
-SpecifiersAreOne = (sc : Scope) (behind : Pos) → HasOne (head_specifiers sc behind) specifiers_depth
+SpecifiersAreOne = (limit : ℕ) (sc : Scope) (behind : Pos) → HasOne limit (head_specifiers sc behind) specifiers_depth
 
 -- C90 6.5.4, 6.5.5
 abbrev pub DeclaratorsAreOne : Type 0
-DeclaratorsAreOne = (sort : g.Sort) (sc : Scope) (behind : Pos) → HasOne (g.declarator sort sc behind) declarator_depth
+DeclaratorsAreOne = (limit : ℕ) (sort : g.Sort) (sc : Scope) (behind : Pos) → HasOne limit (g.declarator sort sc behind) declarator_depth
 
 -- C90 6.5.5
 abbrev pub TypesAreOne : Type 0
-TypesAreOne = (sc : Scope) (behind : Pos) → HasOne (g.type_name sc behind) type_depth
+TypesAreOne = (limit : ℕ) (sc : Scope) (behind : Pos) → HasOne limit (g.type_name sc behind) type_depth

@@ -24,9 +24,9 @@ EndsExpr least k = (left_of (sign_of_kind no_types k) ≡ 16) ⊎ (rank k < leas
 
 -- an expression of at least this level: 0 any, 1 an assignment expression, 2 a constant expression (C90 6.3, 6.4)
 abbrev pub ExprsAreRead : Type 0
-ExprsAreRead = (least : ℕ) (sc : Scope) (outer : Blocks) (tree : t.ExprTree) (front : List Token) (next : Token) (others : List Token)
-    → g.expr sc tree front → least ≤ level tree → expr_depth tree ≤ 256 → least ≤ 13 → EndsExpr least next.kind
-    → expr_read least (sc ∷ outer) (front ++ next ∷ others) ≡ Ok (tree, next ∷ others, after sc tree ∷ outer)
+ExprsAreRead = (limit : ℕ) (least : ℕ) (sc : Scope) (outer : Blocks) (tree : t.ExprTree) (front : List Token) (next : Token) (others : List Token)
+    → g.expr sc tree front → least ≤ level tree → expr_depth tree ≤ limit → least ≤ 13 → EndsExpr least next.kind
+    → expr_read limit least (sc ∷ outer) (front ++ next ∷ others) ≡ Ok (tree, next ∷ others, after sc tree ∷ outer)
 
 -- the token is no specifier where this scope stands, a type specifier before it or none, and no brace of members
 -- (C90 6.5)
@@ -38,9 +38,9 @@ EndsSpecifiers typed sc _ = Unit {0}
 
 -- C90 6.5; where none stand, their place is that of the token behind
 abbrev pub SpecifiersAreRead : Type 0
-SpecifiersAreRead = (sc : Scope) (outer : Blocks) (tree : t.SpecifiersTree) (front : List Token) (next : Token) (others : List Token)
-    → head_specifiers sc next.pos tree front → specifiers_depth tree ≤ 256 → EndsSpecifiers (has_type tree) (after_specifiers sc tree) next.kind
-    → specifiers_read (sc ∷ outer) (front ++ next ∷ others) ≡ Ok (tree, next ∷ others, after_specifiers sc tree ∷ outer)
+SpecifiersAreRead = (limit : ℕ) (sc : Scope) (outer : Blocks) (tree : t.SpecifiersTree) (front : List Token) (next : Token) (others : List Token)
+    → head_specifiers sc next.pos tree front → specifiers_depth tree ≤ limit → EndsSpecifiers (has_type tree) (after_specifiers sc tree) next.kind
+    → specifiers_read limit (sc ∷ outer) (front ++ next ∷ others) ≡ Ok (tree, next ∷ others, after_specifiers sc tree ∷ outer)
 
 -- where the name may lack, the place of the token behind counts
 abbrev pub EndsDeclarator : Bool → Pos → Token → Type 0
@@ -49,12 +49,12 @@ EndsDeclarator false l next = NoSuffix next.kind
 
 -- C90 6.5.4, 6.5.5
 abbrev pub DeclaratorsAreRead : Type 0
-DeclaratorsAreRead = (sort : Sort) (sc : Scope) (outer : Blocks) (l : Pos) (tree : t.DeclaratorTree) (front : List Token) (next : Token) (others : List Token)
-    → g.declarator (sort_of sort) sc l tree front → declarator_depth tree ≤ 256 → EndsDeclarator (g.may_lack (sort_of sort)) l next
-    → declarator_read sort (sc ∷ outer) (front ++ next ∷ others) ≡ Ok (tree, next ∷ others, after_declarator sc tree ∷ outer)
+DeclaratorsAreRead = (limit : ℕ) (sort : Sort) (sc : Scope) (outer : Blocks) (l : Pos) (tree : t.DeclaratorTree) (front : List Token) (next : Token) (others : List Token)
+    → g.declarator (sort_of sort) sc l tree front → declarator_depth tree ≤ limit → EndsDeclarator (g.may_lack (sort_of sort)) l next
+    → declarator_read limit sort (sc ∷ outer) (front ++ next ∷ others) ≡ Ok (tree, next ∷ others, after_declarator sc tree ∷ outer)
 
 -- C90 6.5.5: a type name stands in parentheses
 abbrev pub TypesAreRead : Type 0
-TypesAreRead = (sc : Scope) (outer : Blocks) (tree : t.TypeTree) (front : List Token) (next : Token) (others : List Token)
-    → g.type_name sc next.pos tree front → type_depth tree ≤ 256 → next.kind ≡ kinds.Punct puncts.CloseParen
-    → type_read (sc ∷ outer) (front ++ next ∷ others) ≡ Ok (tree, next ∷ others, after_type sc tree ∷ outer)
+TypesAreRead = (limit : ℕ) (sc : Scope) (outer : Blocks) (tree : t.TypeTree) (front : List Token) (next : Token) (others : List Token)
+    → g.type_name sc next.pos tree front → type_depth tree ≤ limit → next.kind ≡ kinds.Punct puncts.CloseParen
+    → type_read limit (sc ∷ outer) (front ++ next ∷ others) ≡ Ok (tree, next ∷ others, after_type sc tree ∷ outer)

@@ -1,5 +1,5 @@
 -- Declarations where specifiers begin.
-use Rattle.std.proofs.Common.{◌≡◌, List, [], ◌∷◌, ◌++◌, Bool, true, false, refl, sym, ap, ◌∙◌, subst, append_assoc, arith}
+use Rattle.std.proofs.Common.{◌≡◌, ℕ, List, [], ◌∷◌, ◌++◌, Bool, true, false, refl, sym, ap, ◌∙◌, subst, append_assoc, arith}
 use Rattle.std.specs.Prelude.{Ok, Err, ◌||◌}
 use Rattle.c65_base.specs.Answers.{◌>>=◌}
 use Rattle.c65_base.specs.declared.refusal.Pos.{Pos}
@@ -42,17 +42,17 @@ use Rattle.c65_derived.proofs.Parts.{named_got}
 use Rattle.c65_derived.proofs.Inits.{at_nothing, nil_behind}
 use Rattle.c65_derived.proofs.Decls.{from_got}
 
-first_goes : (l : Pos) (sign : Sign) → signs.begins_specifiers sign ≡ true → IsGo (specifiers_step (nothing_listed true) [] l sign)
+first_goes : (limit : ℕ) (l : Pos) (sign : Sign) → signs.begins_specifiers sign ≡ true → IsGo (specifiers_step limit (nothing_listed true) [] l sign)
 unfolding specifiers_step
-first_goes l (measured.Word w) e = tt
-first_goes l (measured.Storage c) e = tt
-first_goes l (measured.Tag w) e = tt
-first_goes l (measured.Name n true) e = tt
-first_goes l _ e = absurd cc
+first_goes limit l (measured.Word w) e = tt
+first_goes limit l (measured.Storage c) e = tt
+first_goes limit l (measured.Tag w) e = tt
+first_goes limit l (measured.Name n true) e = tt
+first_goes limit l _ e = absurd cc
 
-step_goes : (sc : Scope) (outer : Blocks) (tok : Token) → signs.begins_specifiers (signs.sign_of sc tok) ≡ true → IsGo (step 0 (sc ∷ outer) [] (specifiers (nothing_listed true)) tok)
+step_goes : (limit : ℕ) (sc : Scope) (outer : Blocks) (tok : Token) → signs.begins_specifiers (signs.sign_of sc tok) ≡ true → IsGo (step limit 0 (sc ∷ outer) [] (specifiers (nothing_listed true)) tok)
 unfolding step
-step_goes sc outer tok e = first_goes tok.pos (signs.sign_of sc tok) e
+step_goes limit sc outer tok e = first_goes limit tok.pos (signs.sign_of sc tok) e
 
 some_left : (sc : Scope) (l : Pos) (q : t.SpecifiersTree) (tok : Token) (more : List Token) → some_or_none sc true l q (tok ∷ more) → g.specifiers sc true q (tok ∷ more)
 some_left sc l (t.specifiers k t.no_specifiers) tok more h = absurd (cons_nil tok more h.1)
@@ -71,8 +71,8 @@ some_answered sc outer tok ts (Ok (done_specifiers q, rest, scope)) ends h = rec
 some_answered sc outer tok ts (Ok (done_declarator d, rest, scope)) ends h = tt
 
 -- where a specifier begins, some are read
-some_got : (sc : Scope) (outer : Blocks) (tok : Token) (ts : List Token) → signs.begins_specifiers (signs.sign_of sc tok) ≡ true → EndsIn (tok ∷ ts) → Got (g.specifiers sc true) (λ q. after_specifiers sc q ∷ outer) (tok ∷ ts) (specifiers_read (sc ∷ outer) (tok ∷ ts))
-some_got sc outer tok ts e ends = some_answered sc outer tok ts _ ends (run_taken (at_specifiers true sc outer) tok ts [] (specifiers (nothing_listed true)) (sc ∷ outer) (record { scope_is = refl; stand = omega arith; fits = refl; reads = listing_begun (at_specifiers true sc outer) [] sc true [] refl }) (step_goes sc outer tok e))
+some_got : (limit : ℕ) (sc : Scope) (outer : Blocks) (tok : Token) (ts : List Token) → signs.begins_specifiers (signs.sign_of sc tok) ≡ true → EndsIn (tok ∷ ts) → Got (g.specifiers sc true) (λ q. after_specifiers sc q ∷ outer) (tok ∷ ts) (specifiers_read limit (sc ∷ outer) (tok ∷ ts))
+some_got limit sc outer tok ts e ends = some_answered sc outer tok ts _ ends (run_taken limit (at_specifiers true sc outer) tok ts [] (specifiers (nothing_listed true)) (sc ∷ outer) (record { scope_is = refl; stand = omega arith; fits = refl; reads = listing_begun (at_specifiers true sc outer) [] sc true [] refl }) (step_goes limit sc outer tok e))
 
 keyword_begins : (sc : Scope) (k : Keyword) → is_specifier (sign_of_keyword k) ≡ true → signs.begins_specifiers (signs.sign_of_keyword k) ≡ true
 keyword_begins sc keywords.Auto e = refl
@@ -130,24 +130,24 @@ begins_kind sc outer (kinds.Punct p) e = absurd (no_punct sc outer p e)
 begins_kind sc outer kinds.End e = absurd cc
 
 -- specifiers where one begins
-pub specifiers_there : (sc : Scope) (outer : Blocks) (ts : List Token) → begins_specifiers (sc ∷ outer) ts ≡ true → EndsIn ts → Got (g.specifiers sc true) (λ q. after_specifiers sc q ∷ outer) ts (specifiers_read (sc ∷ outer) ts)
-specifiers_there sc outer [] e ends = absurd ends
-specifiers_there sc outer (tok ∷ []) e ends = some_got sc outer tok [] (begins_kind sc outer tok.kind e) ends
-specifiers_there sc outer (tok ∷ u ∷ ts) e ends = some_got sc outer tok (u ∷ ts) (begins_kind sc outer tok.kind e) ends
+pub specifiers_there : (limit : ℕ) (sc : Scope) (outer : Blocks) (ts : List Token) → begins_specifiers (sc ∷ outer) ts ≡ true → EndsIn ts → Got (g.specifiers sc true) (λ q. after_specifiers sc q ∷ outer) ts (specifiers_read limit (sc ∷ outer) ts)
+specifiers_there limit sc outer [] e ends = absurd ends
+specifiers_there limit sc outer (tok ∷ []) e ends = some_got limit sc outer tok [] (begins_kind sc outer tok.kind e) ends
+specifiers_there limit sc outer (tok ∷ u ∷ ts) e ends = some_got limit sc outer tok (u ∷ ts) (begins_kind sc outer tok.kind e) ends
 
-begun_got : (unit : List Token) (q : t.SpecifiersTree) (sc : Scope) (outer : Blocks) (ts zs : List Token) → g.specifiers sc true q zs → EndsIn ts → Got (λ d ys. declaration sc d (zs ++ ys)) (λ d. after_decl sc d ∷ outer) ts (declarators_begun unit q (after_specifiers sc q ∷ outer) ts)
-begun_got unit q sc outer ts zs p ends = seq _ _ _ _ ts (named_read (naming_of q) (after_specifiers sc q ∷ outer) ts) _ (named_got q (after_specifiers sc q) outer ts ends)
-    (λ e xs rest are h left. from_got unit q sc outer e rest zs xs p h left)
+begun_got : (limit : ℕ) (unit : List Token) (q : t.SpecifiersTree) (sc : Scope) (outer : Blocks) (ts zs : List Token) → g.specifiers sc true q zs → EndsIn ts → Got (λ d ys. declaration sc d (zs ++ ys)) (λ d. after_decl sc d ∷ outer) ts (declarators_begun limit unit q (after_specifiers sc q ∷ outer) ts)
+begun_got limit unit q sc outer ts zs p ends = seq _ _ _ _ ts (named_read limit (naming_of q) (after_specifiers sc q ∷ outer) ts) _ (named_got limit q (after_specifiers sc q) outer ts ends)
+    (λ e xs rest are h left. from_got limit unit q sc outer e rest zs xs p h left)
 
 -- without declarators
 pub empty_got : (q : t.SpecifiersTree) (sc : Scope) (outer : Blocks) (ts zs : List Token) → is_here marks.Semicolon ts ≡ true → g.specifiers sc true q zs → EndsIn ts → Got (λ d ys. declaration sc d (zs ++ ys)) (λ d. after_decl sc d ∷ outer) ts (Ok (empty_declaration q (after_specifiers sc q ∷ outer) ts))
 empty_got q sc outer ts zs e p ends = let first = first_of_mark marks.Semicolon ts refl e ends in past _ _ ts first (λ r. Ok (record { specifiers = q; declarators = [] }, r, after_specifiers sc q ∷ outer)) (record { front = []; tokens_are = refl; ends = first.ends; derives = (zs, first.tok ∷ [], refl, p, ([], first.tok ∷ [], refl, refl, is_mark_of marks.Semicolon ts first e)); scope_is = refl })
 
-pub declaration_got : (unit : List Token) (sc : Scope) (outer : Blocks) (ts : List Token) → begins_specifiers (sc ∷ outer) ts ≡ true → EndsIn ts → Got (declaration sc) (λ d. after_decl sc d ∷ outer) ts (declaration_read unit (sc ∷ outer) ts)
-declaration_got unit sc outer ts e ends = seq _ _ _ _ ts (specifiers_read (sc ∷ outer) ts) _ (specifiers_there sc outer ts e ends)
+pub declaration_got : (limit : ℕ) (unit : List Token) (sc : Scope) (outer : Blocks) (ts : List Token) → begins_specifiers (sc ∷ outer) ts ≡ true → EndsIn ts → Got (declaration sc) (λ d. after_decl sc d ∷ outer) ts (declaration_read limit unit (sc ∷ outer) ts)
+declaration_got limit unit sc outer ts e ends = seq _ _ _ _ ts (specifiers_read limit (sc ∷ outer) ts) _ (specifiers_there limit sc outer ts e ends)
     (λ q zs rest are p left. got_if _ _ rest (is_here marks.Semicolon rest) _ _
     (λ f. empty_got q sc outer rest zs f p left)
-    (λ f. begun_got unit q sc outer rest zs p left))
+    (λ f. begun_got limit unit q sc outer rest zs p left))
 
 pub one_more : (sc : Scope) (ds : List t.DeclTree) (d : t.DeclTree) (xs : List Token) → (declarations sc ds ▸ declaration (after_decls sc ds) d) xs → declarations sc (ds ++ d ∷ []) xs
 one_more sc [] d xs p = behind_nothing (at_nothing (declaration sc d) xs p)
@@ -157,16 +157,16 @@ pub behind_more : (sc : Scope) (ds : List t.DeclTree) (d : t.DeclTree) → after
 behind_more sc [] d = refl
 behind_more sc (e ∷ ds) d = behind_more (after_decl sc e) ds d
 
-run_got : (unit : List Token) (sc : Scope) (outer : Blocks) (us : List Token) (ds : List t.DeclTree) (ts xs : List Token) → declarations sc ds xs → EndsIn ts → Got (λ es ys. declarations sc es (xs ++ ys)) (λ es. after_decls sc es ∷ outer) ts (declarations_run unit us ds (after_decls sc ds ∷ outer) ts)
-run_got unit sc outer [] ds ts xs p ends = tt
-run_got unit sc outer (u ∷ us) ds ts xs p ends = got_if _ _ ts (begins_specifiers (after_decls sc ds ∷ outer) ts) _ (Ok (ds, ts, after_decls sc ds ∷ outer))
-    (λ e. seq _ _ _ _ ts (declaration_read unit (after_decls sc ds ∷ outer) ts) _ (declaration_got unit (after_decls sc ds) outer ts e ends)
-    (λ d ys rest are h left. subst (λ b. Got (λ es zs. declarations sc es (xs ++ (ys ++ zs))) (λ es. after_decls sc es ∷ outer) rest (declarations_run unit us (with_decl ds d) (b ∷ outer) rest)) (sym (behind_more sc ds d))
-    (weaken _ _ _ _ rest _ (run_got unit sc outer us (with_decl ds d) rest (xs ++ ys) (one_more sc ds d (xs ++ ys) (both _ _ p h)) left) (λ es zs m. subst (declarations sc es) (append_assoc xs ys zs) m) (λ es. refl))))
+run_got : (limit : ℕ) (unit : List Token) (sc : Scope) (outer : Blocks) (us : List Token) (ds : List t.DeclTree) (ts xs : List Token) → declarations sc ds xs → EndsIn ts → Got (λ es ys. declarations sc es (xs ++ ys)) (λ es. after_decls sc es ∷ outer) ts (declarations_run limit unit us ds (after_decls sc ds ∷ outer) ts)
+run_got limit unit sc outer [] ds ts xs p ends = tt
+run_got limit unit sc outer (u ∷ us) ds ts xs p ends = got_if _ _ ts (begins_specifiers (after_decls sc ds ∷ outer) ts) _ (Ok (ds, ts, after_decls sc ds ∷ outer))
+    (λ e. seq _ _ _ _ ts (declaration_read limit unit (after_decls sc ds ∷ outer) ts) _ (declaration_got limit unit (after_decls sc ds) outer ts e ends)
+    (λ d ys rest are h left. subst (λ b. Got (λ es zs. declarations sc es (xs ++ (ys ++ zs))) (λ es. after_decls sc es ∷ outer) rest (declarations_run limit unit us (with_decl ds d) (b ∷ outer) rest)) (sym (behind_more sc ds d))
+    (weaken _ _ _ _ rest _ (run_got limit unit sc outer us (with_decl ds d) rest (xs ++ ys) (one_more sc ds d (xs ++ ys) (both _ _ p h)) left) (λ es zs m. subst (declarations sc es) (append_assoc xs ys zs) m) (λ es. refl))))
     (λ e. record { front = []; tokens_are = refl; ends = ends; derives = nil_behind (declarations sc ds) xs p; scope_is = refl })
 
-pub declarations_got : (unit : List Token) (sc : Scope) (outer : Blocks) (ts : List Token) → EndsIn ts → Got (declarations sc) (λ es. after_decls sc es ∷ outer) ts (declarations_read unit (sc ∷ outer) ts)
-declarations_got unit sc outer ts ends = run_got unit sc outer unit [] ts [] refl ends
+pub declarations_got : (limit : ℕ) (unit : List Token) (sc : Scope) (outer : Blocks) (ts : List Token) → EndsIn ts → Got (declarations sc) (λ es. after_decls sc es ∷ outer) ts (declarations_read limit unit (sc ∷ outer) ts)
+declarations_got limit unit sc outer ts ends = run_got limit unit sc outer unit [] ts [] refl ends
 
 -- what begins a declaration begins specifiers
 pub starts_is : (sign : stmts_sign.Sign) (is_type colon : Bool) → starts_declaration sign is_type colon ≡ true → (is_specifier sign || is_type) ≡ true

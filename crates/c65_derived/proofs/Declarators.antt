@@ -1,5 +1,5 @@
 -- Where a declarator is begun, and behind it.
-use Rattle.std.proofs.Common.{◌≡◌, List, [], ◌∷◌, Bool, true, false, refl, sym, ap, ◌∙◌, subst, arith}
+use Rattle.std.proofs.Common.{◌≡◌, ℕ, List, [], ◌∷◌, Bool, true, false, refl, sym, ap, ◌∙◌, subst, arith}
 use Rattle.std.proofs.lemmas.List.{append-nil}
 use Rattle.std.specs.Prelude.{Option, None, Some, if◌then◌else◌}
 use Rattle.c65_base.specs.declared.names.Name.{Name}
@@ -216,11 +216,11 @@ close_good w d (in_member part first ∷ fs) front tok scope sc sign s h = membe
 close_good w d (f ∷ fs) front tok scope sc sign s h = tt
 
 -- behind what needs no parentheses before a suffix
-pub end_good : (w : Start) (d : t.DeclaratorTree) (fs : List Frame) (front : List Token) (tok : Token) (scope : Blocks) (sc : Scope) (sign : Sign) → Says sc sign tok.kind → is_direct d ≡ true → Whole w fs d sign tok.pos scope front → Good w front tok scope (declarator_end d fs tok.pos sign)
+pub end_good : (limit : ℕ) (w : Start) (d : t.DeclaratorTree) (fs : List Frame) (front : List Token) (tok : Token) (scope : Blocks) (sc : Scope) (sign : Sign) → Says sc sign tok.kind → is_direct d ≡ true → Whole w fs d sign tok.pos scope front → Good w front tok scope (declarator_end limit d fs tok.pos sign)
 unfolding declarator_end
-end_good w d fs front tok scope sc signs.OpenBracket s direct h = good_within w front tok scope _ (goes fs (opened_bound tok.pos d)) (record { scope_is = h.scope_is; stand = h.stand; fits = h.suits; reads = attach _ _ (map_right (λ xs p. (direct, p)) h.reads) (is_one tok _ s) })
-end_good w d fs front tok scope sc signs.Open s direct h = good_within w front tok scope _ (goes fs (opened_params tok.pos d)) (record { scope_is = h.scope_is; stand = h.stand; fits = h.suits; reads = attach _ _ (map_right (λ xs p. (direct, p)) h.reads) (is_one tok _ s) })
-end_good w d fs front tok scope sc sign s direct h = close_good w (reduce_declarator d fs).0 (reduce_declarator d fs).1 front tok scope sc sign s (reduce_whole w d fs sign tok.pos scope front h)
+end_good limit w d fs front tok scope sc signs.OpenBracket s direct h = good_within w front tok scope _ (goes fs (opened_bound tok.pos d)) (record { scope_is = h.scope_is; stand = h.stand; fits = h.suits; reads = attach _ _ (map_right (λ xs p. (direct, p)) h.reads) (is_one tok _ s) })
+end_good limit w d fs front tok scope sc signs.Open s direct h = good_within w front tok scope _ (goes fs (opened_params tok.pos d)) (record { scope_is = h.scope_is; stand = h.stand; fits = h.suits; reads = attach _ _ (map_right (λ xs p. (direct, p)) h.reads) (is_one tok _ s) })
+end_good limit w d fs front tok scope sc sign s direct h = close_good w (reduce_declarator d fs).0 (reduce_declarator d fs).1 front tok scope sc sign s (reduce_whole w d fs sign tok.pos scope front h)
 
 lack_is : (sort : Sort) → may_lack (sort_of sort) ≡ is_optional sort
 lack_is (sorts.Named typed) = refl
@@ -231,16 +231,16 @@ lack_is sorts.Abstract = refl
 pub lack_at : (w : Start) (fs : List Frame) (sort : Sort) (b : Bool) → sort_of sort ≡ sort_at w fs → is_optional sort ≡ b → may_lack (sort_at w fs) ≡ b
 lack_at w fs sort b e h = ap may_lack (sym e) ∙ (lack_is sort ∙ h)
 
-nameless_good : (w : Start) (fs : List Frame) (sort : Sort) (front : List Token) (tok : Token) (scope : Blocks) (sign : Sign) (b : Bool) → is_optional sort ≡ b → Says (scope_at w fs) sign tok.kind → Needs w fs sort sign tok.pos scope front → Good w front tok scope (without_name b fs tok.pos sign)
+nameless_good : (limit : ℕ) (w : Start) (fs : List Frame) (sort : Sort) (front : List Token) (tok : Token) (scope : Blocks) (sign : Sign) (b : Bool) → is_optional sort ≡ b → Says (scope_at w fs) sign tok.kind → Needs w fs sort sign tok.pos scope front → Good w front tok scope (without_name limit b fs tok.pos sign)
 unfolding without_name
-nameless_good w fs sort front tok scope sign true e s h = end_good w (t.nameless tok.pos) fs front tok scope (scope_at w fs) sign s refl (record {
+nameless_good limit w fs sort front tok scope sign true e s h = end_good limit w (t.nameless tok.pos) fs front tok scope (scope_at w fs) sign s refl (record {
   scope_is = h.scope_is;
   stand = h.stand;
   suits = h.suits None tt;
   closes = closes_bare fs sign (t.nameless tok.pos) (h.bare e);
   reads = (front, [], sym (append-nil front), h.reads, ((lack_at w fs sort true h.sort_is e, refl), refl));
 })
-nameless_good w fs sort front tok scope sign false e s h = tt
+nameless_good limit w fs sort front tok scope sign false e s h = tt
 
 takes_is : (sort : Sort) (is_type : Bool) → takes_name (sort_of sort) is_type ≡ machine.takes_name sort is_type
 takes_is (sorts.Named true) true = refl
@@ -269,12 +269,12 @@ open_group_good w fs sort front tok scope s h = good_if w front tok scope (is_op
     (λ e. record { scope_is = h.scope_is; stand = h.stand; fits = (h.sort_is, h.suits None tt, e); reads = both _ _ h.reads (is_one tok _ s) })
     (λ e. record { scope_is = h.scope_is; stand = (h.suits None tt, h.stand); fits = (h.sort_is, (λ l n. lacks_always (sort_at w fs) (scope_at w fs) n (lack_at w fs sort false h.sort_is e)), (λ f. absurd (true_false (sym f ∙ e)))); reads = both _ _ h.reads (is_one tok _ s) })
 
-pub declarator_good : (w : Start) (fs : List Frame) (sort : Sort) (front : List Token) (tok : Token) (scope : Blocks) (sign : Sign) → Says (scope_at w fs) sign tok.kind → Needs w fs sort sign tok.pos scope front → Good w front tok scope (declarator_step sort fs tok.pos sign)
+pub declarator_good : (limit : ℕ) (w : Start) (fs : List Frame) (sort : Sort) (front : List Token) (tok : Token) (scope : Blocks) (sign : Sign) → Says (scope_at w fs) sign tok.kind → Needs w fs sort sign tok.pos scope front → Good w front tok scope (declarator_step limit sort fs tok.pos sign)
 unfolding declarator_step
-declarator_good w fs sort front tok scope signs.Star s h = good_within w front tok scope _ (goes fs (qualifiers tok.pos false false sort)) (record { scope_is = h.scope_is; stand = h.stand; fits = (h.sort_is, h.suits None tt); reads = both _ _ h.reads (tok ∷ [], [], refl, is_one tok _ s, (refl, refl)) })
-declarator_good w fs sort front tok scope (signs.Calling cdecl) s h = good_within w front tok scope _ (goes (in_derived tok.pos (derivations.Calling cdecl) ∷ fs) (declarator sort)) (record { scope_is = h.scope_is; stand = (h.suits None tt, h.stand); fits = (h.sort_is, (λ l n. tt), (λ e. tt)); reads = both _ _ h.reads (is_one tok _ s) })
-declarator_good w fs sort front tok scope signs.Open s h = good_within w front tok scope _ _ (open_group_good w fs sort front tok scope s h)
-declarator_good w fs sort front tok scope (signs.Name n is_type) s h = good_if w front tok scope (machine.takes_name sort is_type) (goes fs (have_declarator (t.named tok.pos n))) _
+declarator_good limit w fs sort front tok scope signs.Star s h = good_within w front tok scope _ (goes fs (qualifiers tok.pos false false sort)) (record { scope_is = h.scope_is; stand = h.stand; fits = (h.sort_is, h.suits None tt); reads = both _ _ h.reads (tok ∷ [], [], refl, is_one tok _ s, (refl, refl)) })
+declarator_good limit w fs sort front tok scope (signs.Calling cdecl) s h = good_within w front tok scope _ (goes (in_derived tok.pos (derivations.Calling cdecl) ∷ fs) (declarator sort)) (record { scope_is = h.scope_is; stand = (h.suits None tt, h.stand); fits = (h.sort_is, (λ l n. tt), (λ e. tt)); reads = both _ _ h.reads (is_one tok _ s) })
+declarator_good limit w fs sort front tok scope signs.Open s h = good_within w front tok scope _ _ (open_group_good w fs sort front tok scope s h)
+declarator_good limit w fs sort front tok scope (signs.Name n is_type) s h = good_if w front tok scope (machine.takes_name sort is_type) (goes fs (have_declarator (t.named tok.pos n))) _
     (λ e. record { scope_is = h.scope_is; stand = h.stand; fits = (h.suits (Some n) refl, refl, refl); reads = both _ _ h.reads (λ l. (takes_at w fs sort is_type (scope_at w fs n) h.sort_is s.1 e, is_one tok _ s.0)) })
-    (λ e. nameless_good w fs sort front tok scope (signs.Name n is_type) (is_optional sort) refl s h)
-declarator_good w fs sort front tok scope sign s h = nameless_good w fs sort front tok scope sign (is_optional sort) refl s h
+    (λ e. nameless_good limit w fs sort front tok scope (signs.Name n is_type) (is_optional sort) refl s h)
+declarator_good limit w fs sort front tok scope sign s h = nameless_good limit w fs sort front tok scope sign (is_optional sort) refl s h

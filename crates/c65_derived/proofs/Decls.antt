@@ -1,5 +1,5 @@
 -- Declarations.
-use Rattle.std.proofs.Common.{◌≡◌, List, [], ◌∷◌, ◌++◌, Bool, true, false, refl, sym, subst, append_assoc}
+use Rattle.std.proofs.Common.{◌≡◌, ℕ, List, [], ◌∷◌, ◌++◌, Bool, true, false, refl, sym, subst, append_assoc}
 use Rattle.std.proofs.lemmas.List.{append-nil}
 use Rattle.std.specs.Prelude.{Option}
 use Rattle.c65_scan.specs.declared.token.Punct.TheVariants as puncts
@@ -61,39 +61,39 @@ abbrev progress_behind : t.SpecifiersTree → Scope → Blocks → Progress → 
 progress_behind q sc outer (all_declared ds) = after_declarators (is_typedef q) sc ds ∷ outer
 progress_behind q sc outer (more_declared ds e) = declared (is_typedef q) (after_declarators (is_typedef q) sc ds) e ∷ outer
 
-next_got : (q : t.SpecifiersTree) (sc : Scope) (outer : Blocks) (ds : List t.InitDeclaratorTree) (tok : Token) (ts xs : List Token) → still_first true ds ≡ false → init_declarators true q sc ds xs → some_mark puncts.Comma (tok ∷ []) → EndsIn ts
-    → Got (λ r ys. progress_front q sc r (xs ++ (tok ∷ ys))) (progress_behind q sc outer) ts (next_declarator (naming_of q) ds (after_declarators (is_typedef q) sc ds ∷ outer) ts)
-next_got q sc outer ds tok ts xs e h m ends = mapped (more_declared ds) _ _ _ _ ts (named_read (naming_of q) (after_declarators (is_typedef q) sc ds ∷ outer) ts) (named_got q (after_declarators (is_typedef q) sc ds) outer ts ends)
+next_got : (limit : ℕ) (q : t.SpecifiersTree) (sc : Scope) (outer : Blocks) (ds : List t.InitDeclaratorTree) (tok : Token) (ts xs : List Token) → still_first true ds ≡ false → init_declarators true q sc ds xs → some_mark puncts.Comma (tok ∷ []) → EndsIn ts
+    → Got (λ r ys. progress_front q sc r (xs ++ (tok ∷ ys))) (progress_behind q sc outer) ts (next_declarator limit (naming_of q) ds (after_declarators (is_typedef q) sc ds ∷ outer) ts)
+next_got limit q sc outer ds tok ts xs e h m ends = mapped (more_declared ds) _ _ _ _ ts (named_read limit (naming_of q) (after_declarators (is_typedef q) sc ds ∷ outer) ts) (named_got limit q (after_declarators (is_typedef q) sc ds) outer ts ends)
     (λ d ys p. (xs, tok ∷ ys, refl, h, (tok ∷ [], ys, refl, comma_after _ tok e m, p)))
     (λ d. refl)
 
-behind_got : (q : t.SpecifiersTree) (sc : Scope) (outer : Blocks) (ds : List t.InitDeclaratorTree) (ts xs : List Token) → still_first true ds ≡ false → init_declarators true q sc ds xs → EndsIn ts
-    → Got (λ r ys. progress_front q sc r (xs ++ ys)) (progress_behind q sc outer) ts (behind_declarator (naming_of q) ds (after_declarators (is_typedef q) sc ds ∷ outer) ts)
-behind_got q sc outer ds ts xs e h ends = got_if _ _ ts (is_here marks.Comma ts) _ _
-    (λ c. let first = first_of_mark marks.Comma ts refl c ends in past _ _ ts first (λ r. next_declarator (naming_of q) ds (after_declarators (is_typedef q) sc ds ∷ outer) r) (next_got q sc outer ds first.tok first.rest xs e h (is_mark_of marks.Comma ts first c) first.ends))
+behind_got : (limit : ℕ) (q : t.SpecifiersTree) (sc : Scope) (outer : Blocks) (ds : List t.InitDeclaratorTree) (ts xs : List Token) → still_first true ds ≡ false → init_declarators true q sc ds xs → EndsIn ts
+    → Got (λ r ys. progress_front q sc r (xs ++ ys)) (progress_behind q sc outer) ts (behind_declarator limit (naming_of q) ds (after_declarators (is_typedef q) sc ds ∷ outer) ts)
+behind_got limit q sc outer ds ts xs e h ends = got_if _ _ ts (is_here marks.Comma ts) _ _
+    (λ c. let first = first_of_mark marks.Comma ts refl c ends in past _ _ ts first (λ r. next_declarator limit (naming_of q) ds (after_declarators (is_typedef q) sc ds ∷ outer) r) (next_got limit q sc outer ds first.tok first.rest xs e h (is_mark_of marks.Comma ts first c) first.ends))
     (λ c. seq_mark marks.Semicolon (λ r ys. progress_front q sc r (xs ++ ys)) (progress_behind q sc outer) (after_declarators (is_typedef q) sc ds ∷ outer) ts _ refl ends (λ tok rest m left. record { front = []; tokens_are = refl; ends = left; derives = (xs, tok ∷ [], refl, h, m); scope_is = refl }))
 
-step_got : (unit : List Token) (q : t.SpecifiersTree) (sc : Scope) (outer : Blocks) (ds : List t.InitDeclaratorTree) (e : t.DeclaratorTree) (ts xs : List Token) → progress_front q sc (more_declared ds e) xs → EndsIn ts
-    → Got (λ r ys. progress_front q sc r (xs ++ ys)) (progress_behind q sc outer) ts (declarators_step unit (naming_of q) ds e (declared (is_typedef q) (after_declarators (is_typedef q) sc ds) e ∷ outer) ts)
-step_got unit q sc outer ds e ts xs h ends = seq _ _ _ _ ts (optional_init_read unit (declared (is_typedef q) (after_declarators (is_typedef q) sc ds) e ∷ outer) ts) _ (optional_init_got unit (declared (is_typedef q) (after_declarators (is_typedef q) sc ds) e) outer ts ends)
-    (λ i ys rest are p left. subst (λ b. Got (λ r zs. progress_front q sc r (xs ++ (ys ++ zs))) (progress_behind q sc outer) rest (behind_declarator (naming_of q) (with_declarator ds e i) (b ∷ outer) rest)) (sym (behind_more (is_typedef q) ds sc e i))
-    (weaken _ _ _ _ rest _ (behind_got q sc outer (with_declarator ds e i) rest (xs ++ ys) (behind_one true ds _) (one_more q ds true sc e i (xs ++ ys) (map_right (λ zs r. regroup r) (attach _ _ h p))) left) (λ r zs k. subst (progress_front q sc r) (append_assoc xs ys zs) k) (λ r. refl)))
+step_got : (limit : ℕ) (unit : List Token) (q : t.SpecifiersTree) (sc : Scope) (outer : Blocks) (ds : List t.InitDeclaratorTree) (e : t.DeclaratorTree) (ts xs : List Token) → progress_front q sc (more_declared ds e) xs → EndsIn ts
+    → Got (λ r ys. progress_front q sc r (xs ++ ys)) (progress_behind q sc outer) ts (declarators_step limit unit (naming_of q) ds e (declared (is_typedef q) (after_declarators (is_typedef q) sc ds) e ∷ outer) ts)
+step_got limit unit q sc outer ds e ts xs h ends = seq _ _ _ _ ts (optional_init_read limit unit (declared (is_typedef q) (after_declarators (is_typedef q) sc ds) e ∷ outer) ts) _ (optional_init_got limit unit (declared (is_typedef q) (after_declarators (is_typedef q) sc ds) e) outer ts ends)
+    (λ i ys rest are p left. subst (λ b. Got (λ r zs. progress_front q sc r (xs ++ (ys ++ zs))) (progress_behind q sc outer) rest (behind_declarator limit (naming_of q) (with_declarator ds e i) (b ∷ outer) rest)) (sym (behind_more (is_typedef q) ds sc e i))
+    (weaken _ _ _ _ rest _ (behind_got limit q sc outer (with_declarator ds e i) rest (xs ++ ys) (behind_one true ds _) (one_more q ds true sc e i (xs ++ ys) (map_right (λ zs r. regroup r) (attach _ _ h p))) left) (λ r zs k. subst (progress_front q sc r) (append_assoc xs ys zs) k) (λ r. refl)))
 
-run_next : (unit : List Token) (q : t.SpecifiersTree) (sc : Scope) (outer : Blocks) (us xs ys rest : List Token) (r : Progress) → progress_front q sc r (xs ++ ys) → EndsIn rest
-    → ((ds : List t.InitDeclaratorTree) (e : t.DeclaratorTree) (ts zs : List Token) → progress_front q sc (more_declared ds e) zs → EndsIn ts → Got (λ fs vs. (init_declarators true q sc fs ▸ some_mark puncts.Semicolon) (zs ++ vs)) (λ fs. after_declarators (is_typedef q) sc fs ∷ outer) ts (declarators_run unit (naming_of q) us ds e (declared (is_typedef q) (after_declarators (is_typedef q) sc ds) e ∷ outer) ts))
-    → Got (λ fs zs. (init_declarators true q sc fs ▸ some_mark puncts.Semicolon) (xs ++ (ys ++ zs))) (λ fs. after_declarators (is_typedef q) sc fs ∷ outer) rest (declarators_next (declarators_run unit (naming_of q) us) (r, rest, progress_behind q sc outer r))
-run_next unit q sc outer us xs ys rest (all_declared ds) h left k = record { front = []; tokens_are = refl; ends = left; derives = subst (λ v. (init_declarators true q sc ds ▸ some_mark puncts.Semicolon) (xs ++ v)) (sym (append-nil ys)) h; scope_is = refl }
-run_next unit q sc outer us xs ys rest (more_declared ds e) h left k = weaken _ _ _ _ rest _ (k ds e rest (xs ++ ys) h left) (λ fs zs m. subst (init_declarators true q sc fs ▸ some_mark puncts.Semicolon) (append_assoc xs ys zs) m) (λ fs. refl)
+run_next : (limit : ℕ) (unit : List Token) (q : t.SpecifiersTree) (sc : Scope) (outer : Blocks) (us xs ys rest : List Token) (r : Progress) → progress_front q sc r (xs ++ ys) → EndsIn rest
+    → ((ds : List t.InitDeclaratorTree) (e : t.DeclaratorTree) (ts zs : List Token) → progress_front q sc (more_declared ds e) zs → EndsIn ts → Got (λ fs vs. (init_declarators true q sc fs ▸ some_mark puncts.Semicolon) (zs ++ vs)) (λ fs. after_declarators (is_typedef q) sc fs ∷ outer) ts (declarators_run limit unit (naming_of q) us ds e (declared (is_typedef q) (after_declarators (is_typedef q) sc ds) e ∷ outer) ts))
+    → Got (λ fs zs. (init_declarators true q sc fs ▸ some_mark puncts.Semicolon) (xs ++ (ys ++ zs))) (λ fs. after_declarators (is_typedef q) sc fs ∷ outer) rest (declarators_next (declarators_run limit unit (naming_of q) us) (r, rest, progress_behind q sc outer r))
+run_next limit unit q sc outer us xs ys rest (all_declared ds) h left k = record { front = []; tokens_are = refl; ends = left; derives = subst (λ v. (init_declarators true q sc ds ▸ some_mark puncts.Semicolon) (xs ++ v)) (sym (append-nil ys)) h; scope_is = refl }
+run_next limit unit q sc outer us xs ys rest (more_declared ds e) h left k = weaken _ _ _ _ rest _ (k ds e rest (xs ++ ys) h left) (λ fs zs m. subst (init_declarators true q sc fs ▸ some_mark puncts.Semicolon) (append_assoc xs ys zs) m) (λ fs. refl)
 
-run_got : (unit : List Token) (q : t.SpecifiersTree) (sc : Scope) (outer : Blocks) (us : List Token) (ds : List t.InitDeclaratorTree) (e : t.DeclaratorTree) (ts xs : List Token) → progress_front q sc (more_declared ds e) xs → EndsIn ts
-    → Got (λ fs ys. (init_declarators true q sc fs ▸ some_mark puncts.Semicolon) (xs ++ ys)) (λ fs. after_declarators (is_typedef q) sc fs ∷ outer) ts (declarators_run unit (naming_of q) us ds e (declared (is_typedef q) (after_declarators (is_typedef q) sc ds) e ∷ outer) ts)
-run_got unit q sc outer [] ds e ts xs h ends = tt
-run_got unit q sc outer (u ∷ us) ds e ts xs h ends = seq (λ r ys. progress_front q sc r (xs ++ ys)) (progress_behind q sc outer) (λ fs ys. (init_declarators true q sc fs ▸ some_mark puncts.Semicolon) (xs ++ ys)) (λ fs. after_declarators (is_typedef q) sc fs ∷ outer) ts (declarators_step unit (naming_of q) ds e (declared (is_typedef q) (after_declarators (is_typedef q) sc ds) e ∷ outer) ts) (declarators_next (declarators_run unit (naming_of q) us)) (step_got unit q sc outer ds e ts xs h ends)
-    (λ r ys rest are p left. run_next unit q sc outer us xs ys rest r p left (λ gs d vs zs. run_got unit q sc outer us gs d vs zs))
+run_got : (limit : ℕ) (unit : List Token) (q : t.SpecifiersTree) (sc : Scope) (outer : Blocks) (us : List Token) (ds : List t.InitDeclaratorTree) (e : t.DeclaratorTree) (ts xs : List Token) → progress_front q sc (more_declared ds e) xs → EndsIn ts
+    → Got (λ fs ys. (init_declarators true q sc fs ▸ some_mark puncts.Semicolon) (xs ++ ys)) (λ fs. after_declarators (is_typedef q) sc fs ∷ outer) ts (declarators_run limit unit (naming_of q) us ds e (declared (is_typedef q) (after_declarators (is_typedef q) sc ds) e ∷ outer) ts)
+run_got limit unit q sc outer [] ds e ts xs h ends = tt
+run_got limit unit q sc outer (u ∷ us) ds e ts xs h ends = seq (λ r ys. progress_front q sc r (xs ++ ys)) (progress_behind q sc outer) (λ fs ys. (init_declarators true q sc fs ▸ some_mark puncts.Semicolon) (xs ++ ys)) (λ fs. after_declarators (is_typedef q) sc fs ∷ outer) ts (declarators_step limit unit (naming_of q) ds e (declared (is_typedef q) (after_declarators (is_typedef q) sc ds) e ∷ outer) ts) (declarators_next (declarators_run limit unit (naming_of q) us)) (step_got limit unit q sc outer ds e ts xs h ends)
+    (λ r ys rest are p left. run_next limit unit q sc outer us xs ys rest r p left (λ gs d vs zs. run_got limit unit q sc outer us gs d vs zs))
 
 -- behind specifiers and a first declarator
-pub from_got : (unit : List Token) (q : t.SpecifiersTree) (sc : Scope) (outer : Blocks) (e : t.DeclaratorTree) (ts zs xs : List Token) → g.specifiers sc true q zs → g.declarator (g.named (has_type q)) (after_specifiers sc q) (declarator_start e) e xs → EndsIn ts
-    → Got (λ d ys. declaration sc d (zs ++ (xs ++ ys))) (λ d. after_decl sc d ∷ outer) ts (declaration_from unit q e (declared (is_typedef q) (after_specifiers sc q) e ∷ outer) ts)
-from_got unit q sc outer e ts zs xs p h ends = mapped (λ ds. record { specifiers = q; declarators = ds }) _ _ _ _ ts (declarators_read unit (naming_of q) e (declared (is_typedef q) (after_specifiers sc q) e ∷ outer) ts) (run_got unit q (after_specifiers sc q) outer unit [] e ts xs ([], xs, refl, refl, ([], xs, refl, refl, h)) ends)
+pub from_got : (limit : ℕ) (unit : List Token) (q : t.SpecifiersTree) (sc : Scope) (outer : Blocks) (e : t.DeclaratorTree) (ts zs xs : List Token) → g.specifiers sc true q zs → g.declarator (g.named (has_type q)) (after_specifiers sc q) (declarator_start e) e xs → EndsIn ts
+    → Got (λ d ys. declaration sc d (zs ++ (xs ++ ys))) (λ d. after_decl sc d ∷ outer) ts (declaration_from limit unit q e (declared (is_typedef q) (after_specifiers sc q) e ∷ outer) ts)
+from_got limit unit q sc outer e ts zs xs p h ends = mapped (λ ds. record { specifiers = q; declarators = ds }) _ _ _ _ ts (declarators_read limit unit (naming_of q) e (declared (is_typedef q) (after_specifiers sc q) e ∷ outer) ts) (run_got limit unit q (after_specifiers sc q) outer unit [] e ts xs ([], xs, refl, refl, ([], xs, refl, refl, h)) ends)
     (λ ds ys m. (zs, xs ++ ys, refl, p, m))
     (λ ds. refl)

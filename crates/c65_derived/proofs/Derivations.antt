@@ -45,8 +45,8 @@ expr_answered least sc outer tokens (Ok (done_specifiers q, rest, scope)) h = tt
 expr_answered least sc outer tokens (Ok (done_declarator d, rest, scope)) h = tt
 
 pub exprs_are_derived : ExprsAreDerived
-exprs_are_derived least sc outer tokens tree rest scope low e =
-    answered _ _ outer tokens (expr_read least (sc ∷ outer) tokens) tree rest scope (expr_answered least sc outer tokens _ (run_good (at_expr least sc outer) tokens [] operand (sc ∷ outer) [] (record { scope_is = refl; stand = low; fits = tt; reads = refl }))) e
+exprs_are_derived limit least sc outer tokens tree rest scope low e =
+    answered _ _ outer tokens (expr_read limit least (sc ∷ outer) tokens) tree rest scope (expr_answered least sc outer tokens _ (run_good limit (at_expr least sc outer) tokens [] operand (sc ∷ outer) [] (record { scope_is = refl; stand = low; fits = tt; reads = refl }))) e
 
 -- where specifiers are to be read
 abbrev pub at_specifiers : Bool → Scope → Blocks → Start
@@ -58,8 +58,8 @@ listed_answered storage sc outer tokens (Ok (done_expr e, rest, scope)) h = tt
 listed_answered storage sc outer tokens (Ok (done_specifiers q, rest, scope)) h = record { front = h.0; next = h.1; others = h.2; rest_is = h.3; tokens_are = h.4; derives = h.5.1; scope_is = h.5.0 }
 listed_answered storage sc outer tokens (Ok (done_declarator d, rest, scope)) h = tt
 
-listed_derived : (storage : Bool) (sc : Scope) (outer : Blocks) (tokens : List Token) → Answered (λ l q. some_or_none sc storage l q.tree) (λ q. after_specifiers sc q.tree) outer tokens (listed_read storage (sc ∷ outer) tokens)
-listed_derived storage sc outer tokens = listed_answered storage sc outer tokens _ (run_good (at_specifiers storage sc outer) tokens [] (specifiers (nothing_listed storage)) (sc ∷ outer) [] (record { scope_is = refl; stand = omega arith; fits = refl; reads = listing_begun (at_specifiers storage sc outer) [] sc storage [] refl }))
+listed_derived : (limit : ℕ) (storage : Bool) (sc : Scope) (outer : Blocks) (tokens : List Token) → Answered (λ l q. some_or_none sc storage l q.tree) (λ q. after_specifiers sc q.tree) outer tokens (listed_read limit storage (sc ∷ outer) tokens)
+listed_derived limit storage sc outer tokens = listed_answered storage sc outer tokens _ (run_good limit (at_specifiers storage sc outer) tokens [] (specifiers (nothing_listed storage)) (sc ∷ outer) [] (record { scope_is = refl; stand = omega arith; fits = refl; reads = listing_begun (at_specifiers storage sc outer) [] sc storage [] refl }))
 
 head_is : (sc : Scope) (l : Pos) (q : t.SpecifiersTree) (ts : List Token) → some_or_none sc true l q ts → head_specifiers sc l q ts
 head_is sc l (t.specifiers k t.no_specifiers) ts h = h
@@ -70,7 +70,7 @@ specifiers_answered sc outer tokens (Err e) h = tt
 specifiers_answered sc outer tokens (Ok (q, rest, scope)) h = record { front = h.front; next = h.next; others = h.others; rest_is = h.rest_is; tokens_are = h.tokens_are; derives = head_is sc h.next.pos q.tree h.front h.derives; scope_is = h.scope_is }
 
 pub specifiers_are_derived : SpecifiersAreDerived
-specifiers_are_derived sc outer tokens tree rest scope e = answered _ _ outer tokens (specifiers_read (sc ∷ outer) tokens) tree rest scope (specifiers_answered sc outer tokens _ (listed_derived true sc outer tokens)) e
+specifiers_are_derived limit sc outer tokens tree rest scope e = answered _ _ outer tokens (specifiers_read limit (sc ∷ outer) tokens) tree rest scope (specifiers_answered sc outer tokens _ (listed_derived limit true sc outer tokens)) e
 
 -- where a declarator is to be read
 abbrev at_declarator : Sort → Scope → Blocks → Start
@@ -82,11 +82,11 @@ declarator_answered sort sc outer tokens (Ok (done_expr e, rest, scope)) h = tt
 declarator_answered sort sc outer tokens (Ok (done_specifiers q, rest, scope)) h = tt
 declarator_answered sort sc outer tokens (Ok (done_declarator d, rest, scope)) h = record { front = h.0; next = h.1; others = h.2; rest_is = h.3; tokens_are = h.4; derives = h.5.1; scope_is = h.5.0 }
 
-declarator_derived : (sort : Sort) (sc : Scope) (outer : Blocks) (tokens : List Token) → Answered (g.declarator (sort_of sort) sc) (after_declarator sc) outer tokens (declarator_read sort (sc ∷ outer) tokens)
-declarator_derived sort sc outer tokens = declarator_answered sort sc outer tokens _ (run_good (at_declarator sort sc outer) tokens [] (declarator sort) (sc ∷ outer) [] (record { scope_is = refl; stand = omega arith; fits = (refl, (λ l n. tt), (λ e. tt)); reads = refl }))
+declarator_derived : (limit : ℕ) (sort : Sort) (sc : Scope) (outer : Blocks) (tokens : List Token) → Answered (g.declarator (sort_of sort) sc) (after_declarator sc) outer tokens (declarator_read limit sort (sc ∷ outer) tokens)
+declarator_derived limit sort sc outer tokens = declarator_answered sort sc outer tokens _ (run_good limit (at_declarator sort sc outer) tokens [] (declarator sort) (sc ∷ outer) [] (record { scope_is = refl; stand = omega arith; fits = (refl, (λ l n. tt), (λ e. tt)); reads = refl }))
 
 pub declarators_are_derived : DeclaratorsAreDerived
-declarators_are_derived sort sc outer tokens tree rest scope e = answered _ _ outer tokens (declarator_read sort (sc ∷ outer) tokens) tree rest scope (declarator_derived sort sc outer tokens) e
+declarators_are_derived limit sort sc outer tokens tree rest scope e = answered _ _ outer tokens (declarator_read limit sort (sc ∷ outer) tokens) tree rest scope (declarator_derived limit sort sc outer tokens) e
 
 some_there : (sc : Scope) (l : Pos) (q : t.SpecifiersTree) (ts : List Token) → nat_eq (specifiers_depth q) 0 ≡ false → some_or_none sc false l q ts → g.specifiers sc false q ts
 some_there sc l (t.specifiers k t.no_specifiers) ts e h = absurd (true_false (e))
@@ -105,13 +105,13 @@ abstract_answered sc outer front tokens rest q (Ok (d, left, scope)) are is h = 
   scope_is = h.scope_is;
 }
 
-behind_answered : (sc : Scope) (outer : Blocks) (tokens : List Token) (q : Listed) (rest : List Token) (scope : Blocks) (b : Bool) → nat_eq (specifiers_depth q.tree) 0 ≡ b → IsRead (λ l p. some_or_none sc false l p.tree) (λ p. after_specifiers sc p.tree) outer tokens q rest scope → Answered (g.type_name sc) (after_type sc) outer tokens (if b then Err (fault_at (token_at rest 0)) else (declarator_read sorts.Abstract scope rest >>= (λ d. Ok (t.type_name q.tree d.0, d.1, d.2))))
-behind_answered sc outer tokens q rest scope true e h = tt
-behind_answered sc outer tokens q rest scope false e h = subst (λ s. Answered (g.type_name sc) (after_type sc) outer tokens (declarator_read sorts.Abstract s rest >>= (λ d. Ok (t.type_name q.tree d.0, d.1, d.2)))) (sym h.scope_is) (abstract_answered sc outer h.front tokens rest q (declarator_read sorts.Abstract (after_specifiers sc q.tree ∷ outer) rest) h.tokens_are (some_there sc h.next.pos q.tree h.front e h.derives) (declarator_derived sorts.Abstract (after_specifiers sc q.tree) outer rest))
+behind_answered : (limit : ℕ) (sc : Scope) (outer : Blocks) (tokens : List Token) (q : Listed) (rest : List Token) (scope : Blocks) (b : Bool) → nat_eq (specifiers_depth q.tree) 0 ≡ b → IsRead (λ l p. some_or_none sc false l p.tree) (λ p. after_specifiers sc p.tree) outer tokens q rest scope → Answered (g.type_name sc) (after_type sc) outer tokens (if b then Err (fault_at (token_at rest 0)) else (declarator_read limit sorts.Abstract scope rest >>= (λ d. Ok (t.type_name q.tree d.0, d.1, d.2))))
+behind_answered limit sc outer tokens q rest scope true e h = tt
+behind_answered limit sc outer tokens q rest scope false e h = subst (λ s. Answered (g.type_name sc) (after_type sc) outer tokens (declarator_read limit sorts.Abstract s rest >>= (λ d. Ok (t.type_name q.tree d.0, d.1, d.2)))) (sym h.scope_is) (abstract_answered sc outer h.front tokens rest q (declarator_read limit sorts.Abstract (after_specifiers sc q.tree ∷ outer) rest) h.tokens_are (some_there sc h.next.pos q.tree h.front e h.derives) (declarator_derived limit sorts.Abstract (after_specifiers sc q.tree) outer rest))
 
-type_answered : (sc : Scope) (outer : Blocks) (tokens : List Token) (r : Answer Listed) → Answered (λ l q. some_or_none sc false l q.tree) (λ q. after_specifiers sc q.tree) outer tokens r → Answered (g.type_name sc) (after_type sc) outer tokens (r >>= (λ q. type_behind q.0 q.2 q.1))
-type_answered sc outer tokens (Err e) h = tt
-type_answered sc outer tokens (Ok (q, rest, scope)) h = behind_answered sc outer tokens q rest scope (nat_eq (specifiers_depth q.tree) 0) refl h
+type_answered : (limit : ℕ) (sc : Scope) (outer : Blocks) (tokens : List Token) (r : Answer Listed) → Answered (λ l q. some_or_none sc false l q.tree) (λ q. after_specifiers sc q.tree) outer tokens r → Answered (g.type_name sc) (after_type sc) outer tokens (r >>= (λ q. type_behind limit q.0 q.2 q.1))
+type_answered limit sc outer tokens (Err e) h = tt
+type_answered limit sc outer tokens (Ok (q, rest, scope)) h = behind_answered limit sc outer tokens q rest scope (nat_eq (specifiers_depth q.tree) 0) refl h
 
 pub types_are_derived : TypesAreDerived
-types_are_derived sc outer tokens tree rest scope e = answered _ _ outer tokens (type_read (sc ∷ outer) tokens) tree rest scope (type_answered sc outer tokens _ (listed_derived false sc outer tokens)) e
+types_are_derived limit sc outer tokens tree rest scope e = answered _ _ outer tokens (type_read limit (sc ∷ outer) tokens) tree rest scope (type_answered limit sc outer tokens _ (listed_derived limit false sc outer tokens)) e

@@ -191,11 +191,11 @@ both_true : (a b : Bool) → (if a then b else false) ≡ true → (a ≡ true) 
 both_true true b e = (refl, e)
 both_true false b e = absurd cc
 
-extend_good : (w : Start) (e : t.ExprTree) (fs : List Frame) (front : List Token) (tok : Token) (scope : Blocks) (sc : Scope) (sign : Sign) → Says sc sign tok.kind → Holds w fs (have_expr e) scope front → Good w front tok scope (extend w.least e fs tok.pos sign)
-extend_good w e fs front tok scope sc sign s h = good_if w front tok scope (goes_on w.least e fs sign) _ _
+extend_good : (limit : ℕ) (w : Start) (e : t.ExprTree) (fs : List Frame) (front : List Token) (tok : Token) (scope : Blocks) (sc : Scope) (sign : Sign) → Says sc sign tok.kind → Holds w fs (have_expr e) scope front → Good w front tok scope (extend limit w.least e fs tok.pos sign)
+extend_good limit w e fs front tok scope sc sign s h = good_if w front tok scope (goes_on w.least e fs sign) _ _
     (λ q. let two = both_true (nat_le (left_of sign) (level_of e)) (nat_le (hole w.least fs) (rank_of sign)) q in good_within w front tok scope _ _ (extend_by_good w e fs front tok scope sc sign (leb-true _ _ two.0) (leb-true _ _ two.1) s h))
     (λ q. close_good w e fs front tok scope sc sign s h)
 
-pub expr_good : (w : Start) (e : t.ExprTree) (fs : List Frame) (front : List Token) (tok : Token) (scope : Blocks) (sc : Scope) (sign : Sign) → Says sc sign tok.kind → Holds w fs (have_expr e) scope front → Good w front tok scope (expr_step w.least e fs tok.pos sign)
+pub expr_good : (limit : ℕ) (w : Start) (e : t.ExprTree) (fs : List Frame) (front : List Token) (tok : Token) (scope : Blocks) (sc : Scope) (sign : Sign) → Says sc sign tok.kind → Holds w fs (have_expr e) scope front → Good w front tok scope (expr_step limit w.least e fs tok.pos sign)
 unfolding expr_step
-expr_good w e fs front tok scope sc sign s h = extend_good w (reduce (rank_of sign) e fs).0 (reduce (rank_of sign) e fs).1 front tok scope sc sign s (reduce_holds w (rank_of sign) e fs scope front h)
+expr_good limit w e fs front tok scope sc sign s h = extend_good limit w (reduce (rank_of sign) e fs).0 (reduce (rank_of sign) e fs).1 front tok scope sc sign s (reduce_holds w (rank_of sign) e fs scope front h)

@@ -87,8 +87,8 @@ closed_got sc outer [] i ts xs p ends = record { front = []; tokens_are = refl; 
 closed_got sc outer (l ∷ ls) i ts xs p ends = seq end_front (λ b. inits_scope sc (with_initialiser l i ∷ ls) ∷ outer) (λ r ys. state_front sc r (xs ++ ys)) (state_behind sc outer) ts (list_end (inits_scope sc (with_initialiser l i ∷ ls) ∷ outer) ts) (lists_next (lists_closed ls) (with_initialiser l i) ls) (end_got (inits_scope sc (with_initialiser l i ∷ ls) ∷ outer) ts ends)
     (λ b ys rest are q left. next_got sc outer l ls i xs p (λ j us zs. closed_got sc outer ls j us zs) b ys rest q left)
 
-begun_got : (sc : Scope) (outer : Blocks) (ls : List OpenList) (ts xs : List Token) → is_here marks.OpenBrace ts ≡ true → lists_front sc ls xs → EndsIn ts → Got (λ r ys. state_front sc r (xs ++ ys)) (state_behind sc outer) ts (list_begun ls (inits_scope sc ls ∷ outer) ts)
-begun_got sc outer ls ts xs e p ends = got_if _ _ ts (nat_le (length ls) 254) _ (Err (large Depth 257))
+begun_got : (limit : ℕ) (sc : Scope) (outer : Blocks) (ls : List OpenList) (ts xs : List Token) → is_here marks.OpenBrace ts ≡ true → lists_front sc ls xs → EndsIn ts → Got (λ r ys. state_front sc r (xs ++ ys)) (state_behind sc outer) ts (list_begun limit ls (inits_scope sc ls ∷ outer) ts)
+begun_got limit sc outer ls ts xs e p ends = got_if _ _ ts (nat_le (length ls) 254) _ (Err (large Depth 257))
     (λ f. let first = first_of_mark marks.OpenBrace ts refl e ends in past _ _ ts first (λ r. Ok (listed_open (empty_list (pos_here ts) ∷ ls), r, inits_scope sc ls ∷ outer)) (record {
       front = [];
       tokens_are = refl;
@@ -98,9 +98,9 @@ begun_got sc outer ls ts xs e p ends = got_if _ _ ts (nat_le (length ls) 254) _ 
     }))
     (λ f. tt)
 
-element_got : (around : ℕ) (sc : Scope) (outer : Blocks) (ts : List Token) → EndsIn ts → Got (λ e. given (1 ≤ level e) (g.expr sc e)) (λ e. after sc e ∷ outer) ts (element_read around (sc ∷ outer) ts)
-element_got around sc outer ts ends = seq _ _ _ _ ts (expr_read 1 (sc ∷ outer) ts) (kept_within around) (expr_got 1 sc outer ts (omega arith) ends)
-    (λ e xs rest are p left. got_if _ _ rest (nat_le around 256 && nat_le (expr_depth e) (256 - around)) (Ok (e, rest, after sc e ∷ outer)) (Err (large Depth 257))
+element_got : (limit : ℕ) (around : ℕ) (sc : Scope) (outer : Blocks) (ts : List Token) → EndsIn ts → Got (λ e. given (1 ≤ level e) (g.expr sc e)) (λ e. after sc e ∷ outer) ts (element_read limit around (sc ∷ outer) ts)
+element_got limit around sc outer ts ends = seq _ _ _ _ ts (expr_read limit 1 (sc ∷ outer) ts) (kept_within around) (expr_got limit 1 sc outer ts (omega arith) ends)
+    (λ e xs rest are p left. got_if _ _ rest (nat_le around limit && nat_le (expr_depth e) (limit - around)) (Ok (e, rest, after sc e ∷ outer)) (Err (large Depth 257))
     (λ f. record { front = []; tokens_are = refl; ends = left; derives = nil_behind (given (1 ≤ level e) (g.expr sc e)) xs p; scope_is = refl })
     (λ f. tt))
 
@@ -108,27 +108,27 @@ element_got around sc outer ts ends = seq _ _ _ _ ts (expr_read 1 (sc ∷ outer)
 element_is : (sc : Scope) (e : t.ExprTree) (ts xs rest : List Token) → ts ≡ xs ++ rest → given (1 ≤ level e) (g.expr sc e) xs → initialiser sc (t.value (pos_here ts) e) xs
 element_is sc e ts xs rest are p = ((sym (begins_here (start e) xs rest (expr_begins sc e xs p.1)) ∙ sym (ap (λ ys. (token_at ys 0).pos) are), p.0), p.1)
 
-step_got : (sc : Scope) (outer : Blocks) (ls : List OpenList) (ts xs : List Token) → lists_front sc ls xs → EndsIn ts → Got (λ r ys. state_front sc r (xs ++ ys)) (state_behind sc outer) ts (initialiser_step ls (inits_scope sc ls ∷ outer) ts)
-step_got sc outer ls ts xs p ends = got_if _ _ ts (is_here marks.OpenBrace ts) _ _
-    (λ e. begun_got sc outer ls ts xs e p ends)
-    (λ e. seq _ _ _ _ ts (element_read (length ls) (inits_scope sc ls ∷ outer) ts) _ (element_got (length ls) (inits_scope sc ls) outer ts ends)
+step_got : (limit : ℕ) (sc : Scope) (outer : Blocks) (ls : List OpenList) (ts xs : List Token) → lists_front sc ls xs → EndsIn ts → Got (λ r ys. state_front sc r (xs ++ ys)) (state_behind sc outer) ts (initialiser_step limit ls (inits_scope sc ls ∷ outer) ts)
+step_got limit sc outer ls ts xs p ends = got_if _ _ ts (is_here marks.OpenBrace ts) _ _
+    (λ e. begun_got limit sc outer ls ts xs e p ends)
+    (λ e. seq _ _ _ _ ts (element_read limit (length ls) (inits_scope sc ls ∷ outer) ts) _ (element_got limit (length ls) (inits_scope sc ls) outer ts ends)
     (λ v ys rest are q left. weaken _ _ _ _ rest _ (closed_got sc outer ls (t.value (pos_here ts) v) rest (xs ++ ys) (both _ _ p (element_is (inits_scope sc ls) v ts ys rest are q)) left) (λ r zs h. subst (state_front sc r) (append_assoc xs ys zs) h) (λ r. refl)))
 
-run_next : (sc : Scope) (outer : Blocks) (xs ys rest : List Token) (us : List Token) (r : Listed) → state_front sc r (xs ++ ys) → EndsIn rest
-    → ((ls : List OpenList) (ts zs : List Token) → lists_front sc ls zs → EndsIn ts → Got (λ i vs. initialiser sc i (zs ++ vs)) (λ i. after_init sc i ∷ outer) ts (initialiser_run us ls (inits_scope sc ls ∷ outer) ts))
-    → Got (λ i zs. initialiser sc i (xs ++ (ys ++ zs))) (λ i. after_init sc i ∷ outer) rest (initialiser_next (initialiser_run us) (r, rest, state_behind sc outer r))
-run_next sc outer xs ys rest us (listed_whole i) h left k = record { front = []; tokens_are = refl; ends = left; derives = subst (λ v. initialiser sc i (xs ++ v)) (sym (append-nil ys)) h; scope_is = refl }
-run_next sc outer xs ys rest us (listed_open ls) h left k = weaken _ _ _ _ rest _ (k ls rest (xs ++ ys) h left) (λ i zs m. subst (initialiser sc i) (append_assoc xs ys zs) m) (λ i. refl)
+run_next : (limit : ℕ) (sc : Scope) (outer : Blocks) (xs ys rest : List Token) (us : List Token) (r : Listed) → state_front sc r (xs ++ ys) → EndsIn rest
+    → ((ls : List OpenList) (ts zs : List Token) → lists_front sc ls zs → EndsIn ts → Got (λ i vs. initialiser sc i (zs ++ vs)) (λ i. after_init sc i ∷ outer) ts (initialiser_run limit us ls (inits_scope sc ls ∷ outer) ts))
+    → Got (λ i zs. initialiser sc i (xs ++ (ys ++ zs))) (λ i. after_init sc i ∷ outer) rest (initialiser_next (initialiser_run limit us) (r, rest, state_behind sc outer r))
+run_next limit sc outer xs ys rest us (listed_whole i) h left k = record { front = []; tokens_are = refl; ends = left; derives = subst (λ v. initialiser sc i (xs ++ v)) (sym (append-nil ys)) h; scope_is = refl }
+run_next limit sc outer xs ys rest us (listed_open ls) h left k = weaken _ _ _ _ rest _ (k ls rest (xs ++ ys) h left) (λ i zs m. subst (initialiser sc i) (append_assoc xs ys zs) m) (λ i. refl)
 
-run_got : (sc : Scope) (outer : Blocks) (us : List Token) (ls : List OpenList) (ts xs : List Token) → lists_front sc ls xs → EndsIn ts → Got (λ i ys. initialiser sc i (xs ++ ys)) (λ i. after_init sc i ∷ outer) ts (initialiser_run us ls (inits_scope sc ls ∷ outer) ts)
-run_got sc outer [] ls ts xs p ends = tt
-run_got sc outer (u ∷ us) ls ts xs p ends = seq (λ r ys. state_front sc r (xs ++ ys)) (state_behind sc outer) (λ i ys. initialiser sc i (xs ++ ys)) (λ i. after_init sc i ∷ outer) ts (initialiser_step ls (inits_scope sc ls ∷ outer) ts) (initialiser_next (initialiser_run us)) (step_got sc outer ls ts xs p ends)
-    (λ r ys rest are h left. run_next sc outer xs ys rest us r h left (λ ms vs zs. run_got sc outer us ms vs zs))
+run_got : (limit : ℕ) (sc : Scope) (outer : Blocks) (us : List Token) (ls : List OpenList) (ts xs : List Token) → lists_front sc ls xs → EndsIn ts → Got (λ i ys. initialiser sc i (xs ++ ys)) (λ i. after_init sc i ∷ outer) ts (initialiser_run limit us ls (inits_scope sc ls ∷ outer) ts)
+run_got limit sc outer [] ls ts xs p ends = tt
+run_got limit sc outer (u ∷ us) ls ts xs p ends = seq (λ r ys. state_front sc r (xs ++ ys)) (state_behind sc outer) (λ i ys. initialiser sc i (xs ++ ys)) (λ i. after_init sc i ∷ outer) ts (initialiser_step limit ls (inits_scope sc ls ∷ outer) ts) (initialiser_next (initialiser_run limit us)) (step_got limit sc outer ls ts xs p ends)
+    (λ r ys rest are h left. run_next limit sc outer xs ys rest us r h left (λ ms vs zs. run_got limit sc outer us ms vs zs))
 
-pub initialiser_got : (unit : List Token) (sc : Scope) (outer : Blocks) (ts : List Token) → EndsIn ts → Got (initialiser sc) (λ i. after_init sc i ∷ outer) ts (initialiser_read unit (sc ∷ outer) ts)
-initialiser_got unit sc outer ts ends = run_got sc outer unit [] ts [] refl ends
+pub initialiser_got : (limit : ℕ) (unit : List Token) (sc : Scope) (outer : Blocks) (ts : List Token) → EndsIn ts → Got (initialiser sc) (λ i. after_init sc i ∷ outer) ts (initialiser_read limit unit (sc ∷ outer) ts)
+initialiser_got limit unit sc outer ts ends = run_got limit sc outer unit [] ts [] refl ends
 
-pub optional_init_got : (unit : List Token) (sc : Scope) (outer : Blocks) (ts : List Token) → EndsIn ts → Got (optional_init sc) (λ o. after_maybe_init sc o ∷ outer) ts (optional_init_read unit (sc ∷ outer) ts)
-optional_init_got unit sc outer ts ends = got_if _ _ ts (is_here marks.Equal ts) _ (Ok (None, ts, sc ∷ outer))
-    (λ e. let first = first_of_mark marks.Equal ts refl e ends in past _ _ ts first (λ r. initialiser_read unit (sc ∷ outer) r >>= (λ i. Ok (Some i.0, i.1, i.2))) (mapped Some (initialiser sc) (λ i. after_init sc i ∷ outer) _ _ first.rest (initialiser_read unit (sc ∷ outer) first.rest) (initialiser_got unit sc outer first.rest first.ends) (λ i xs h. (first.tok ∷ [], xs, refl, is_mark_of marks.Equal ts first e, h)) (λ i. refl)))
+pub optional_init_got : (limit : ℕ) (unit : List Token) (sc : Scope) (outer : Blocks) (ts : List Token) → EndsIn ts → Got (optional_init sc) (λ o. after_maybe_init sc o ∷ outer) ts (optional_init_read limit unit (sc ∷ outer) ts)
+optional_init_got limit unit sc outer ts ends = got_if _ _ ts (is_here marks.Equal ts) _ (Ok (None, ts, sc ∷ outer))
+    (λ e. let first = first_of_mark marks.Equal ts refl e ends in past _ _ ts first (λ r. initialiser_read limit unit (sc ∷ outer) r >>= (λ i. Ok (Some i.0, i.1, i.2))) (mapped Some (initialiser sc) (λ i. after_init sc i ∷ outer) _ _ first.rest (initialiser_read limit unit (sc ∷ outer) first.rest) (initialiser_got limit unit sc outer first.rest first.ends) (λ i xs h. (first.tok ∷ [], xs, refl, is_mark_of marks.Equal ts first e, h)) (λ i. refl)))
     (λ e. record { front = []; tokens_are = refl; ends = ends; derives = refl; scope_is = refl })

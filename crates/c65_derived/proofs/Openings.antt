@@ -1,5 +1,5 @@
 -- What begins at a statement's place.
-use Rattle.std.proofs.Common.{◌≡◌, ◌≤◌, List, [], ◌∷◌, ◌++◌, Bool, true, refl, sym, ap, ◌∙◌, subst, append_assoc}
+use Rattle.std.proofs.Common.{◌≡◌, ℕ, ◌≤◌, List, [], ◌∷◌, ◌++◌, Bool, true, refl, sym, ap, ◌∙◌, subst, append_assoc}
 use Rattle.std.proofs.lemmas.List.{append-nil}
 use Rattle.std.specs.Prelude.{Ok, Option, None, Some}
 use Rattle.c65_base.specs.Answers.{◌>>=◌}
@@ -167,31 +167,31 @@ for_built : (b : Scope) (l : Pos) (e f h : Option t.ExprTree) (tok v : Token) (x
 for_built b l e f h tok v xs ys zs p m he hf hh = subst (head_front b (in_for l e f h)) (ap (λ os. tok ∷ v ∷ os) (append_assoc xs ys zs ∙ ap (λ os. xs ++ (ys ++ os)) (sym (append-nil zs)))) (tok ∷ v ∷ (xs ++ ys), zs, refl, (tok ∷ v ∷ xs, ys, refl, (tok ∷ v ∷ [], xs, refl, (tok ∷ [], v ∷ [], refl, p, m), he), hf), hh)
 
 -- what stands behind the word that begins a statement at this place
-behind_got : (b : Scope) (outer : Blocks) (fs : List Frame) (w : Word) (l : Pos) (tok : Token) (ts : List Token) → one l (word_kind w) (tok ∷ []) → EndsIn ts → Got (λ r ys. begun_front b fs r (tok ∷ ys)) (begun_behind_it b outer) ts (begun_behind w l (b ∷ outer) ts)
-behind_got b outer fs words.Case l tok ts p ends = mapped (λ e. begun_open (in_head (in_case l e))) _ _ _ _ ts (case_read (b ∷ outer) ts) (case_got b outer ts ends) (λ e xs h. (tok ∷ [], xs, refl, p, h)) (λ e. refl)
-behind_got b outer fs words.Default l tok ts p ends = seq_mark marks.Colon (λ r ys. begun_front b fs r (tok ∷ ys)) (begun_behind_it b outer) (b ∷ outer) ts _ refl ends (λ v last m none. record { front = []; tokens_are = refl; ends = none; derives = (tok ∷ [], v ∷ [], refl, p, m); scope_is = refl })
-behind_got b outer fs words.If l tok ts p ends = mapped (λ e. begun_open (in_then l e)) _ _ _ _ ts (test_read (b ∷ outer) ts) (test_got b outer ts ends) (λ e xs h. (tok ∷ [], xs, refl, p, h)) (λ e. refl)
-behind_got b outer fs words.Switch l tok ts p ends = mapped (λ e. begun_open (in_head (in_switch l e))) _ _ _ _ ts (test_read (b ∷ outer) ts) (test_got b outer ts ends) (λ e xs h. (tok ∷ [], xs, refl, p, h)) (λ e. refl)
-behind_got b outer fs words.While l tok ts p ends = mapped (λ e. begun_open (in_head (in_while l e))) _ _ _ _ ts (test_read (b ∷ outer) ts) (test_got b outer ts ends) (λ e xs h. (tok ∷ [], xs, refl, p, h)) (λ e. refl)
-behind_got b outer fs words.Do l tok ts p ends = record { front = []; tokens_are = refl; ends = ends; derives = p; scope_is = refl }
-behind_got b outer fs words.For l tok ts p ends = seq_mark marks.OpenParen (λ r ys. begun_front b fs r (tok ∷ ys)) (begun_behind_it b outer) (b ∷ outer) ts _ refl ends
-    (λ v us m left. seq _ _ _ _ us (optional_read marks.Semicolon (b ∷ outer) us) _ (optional_got marks.Semicolon b outer us refl left)
-    (λ e xs vs are he none. seq _ _ _ _ vs (optional_read marks.Semicolon (after_option b e ∷ outer) vs) _ (optional_got marks.Semicolon (after_option b e) outer vs refl none)
-    (λ f ys ws are hf last. seq _ _ _ _ ws (optional_read marks.CloseParen (after_option (after_option b e) f ∷ outer) ws) _ (optional_got marks.CloseParen (after_option (after_option b e) f) outer ws refl last)
+behind_got : (limit : ℕ) (b : Scope) (outer : Blocks) (fs : List Frame) (w : Word) (l : Pos) (tok : Token) (ts : List Token) → one l (word_kind w) (tok ∷ []) → EndsIn ts → Got (λ r ys. begun_front b fs r (tok ∷ ys)) (begun_behind_it b outer) ts (begun_behind limit w l (b ∷ outer) ts)
+behind_got limit b outer fs words.Case l tok ts p ends = mapped (λ e. begun_open (in_head (in_case l e))) _ _ _ _ ts (case_read limit (b ∷ outer) ts) (case_got limit b outer ts ends) (λ e xs h. (tok ∷ [], xs, refl, p, h)) (λ e. refl)
+behind_got limit b outer fs words.Default l tok ts p ends = seq_mark marks.Colon (λ r ys. begun_front b fs r (tok ∷ ys)) (begun_behind_it b outer) (b ∷ outer) ts _ refl ends (λ v last m none. record { front = []; tokens_are = refl; ends = none; derives = (tok ∷ [], v ∷ [], refl, p, m); scope_is = refl })
+behind_got limit b outer fs words.If l tok ts p ends = mapped (λ e. begun_open (in_then l e)) _ _ _ _ ts (test_read limit (b ∷ outer) ts) (test_got limit b outer ts ends) (λ e xs h. (tok ∷ [], xs, refl, p, h)) (λ e. refl)
+behind_got limit b outer fs words.Switch l tok ts p ends = mapped (λ e. begun_open (in_head (in_switch l e))) _ _ _ _ ts (test_read limit (b ∷ outer) ts) (test_got limit b outer ts ends) (λ e xs h. (tok ∷ [], xs, refl, p, h)) (λ e. refl)
+behind_got limit b outer fs words.While l tok ts p ends = mapped (λ e. begun_open (in_head (in_while l e))) _ _ _ _ ts (test_read limit (b ∷ outer) ts) (test_got limit b outer ts ends) (λ e xs h. (tok ∷ [], xs, refl, p, h)) (λ e. refl)
+behind_got limit b outer fs words.Do l tok ts p ends = record { front = []; tokens_are = refl; ends = ends; derives = p; scope_is = refl }
+behind_got limit b outer fs words.For l tok ts p ends = seq_mark marks.OpenParen (λ r ys. begun_front b fs r (tok ∷ ys)) (begun_behind_it b outer) (b ∷ outer) ts _ refl ends
+    (λ v us m left. seq _ _ _ _ us (optional_read limit marks.Semicolon (b ∷ outer) us) _ (optional_got limit marks.Semicolon b outer us refl left)
+    (λ e xs vs are he none. seq _ _ _ _ vs (optional_read limit marks.Semicolon (after_option b e ∷ outer) vs) _ (optional_got limit marks.Semicolon (after_option b e) outer vs refl none)
+    (λ f ys ws are hf last. seq _ _ _ _ ws (optional_read limit marks.CloseParen (after_option (after_option b e) f ∷ outer) ws) _ (optional_got limit marks.CloseParen (after_option (after_option b e) f) outer ws refl last)
     (λ h zs os are hh end. record { front = []; tokens_are = refl; ends = end; derives = for_built b l e f h tok v xs ys zs p m he hf hh; scope_is = refl }))))
-behind_got b outer fs words.Goto l tok ts p ends = seq _ _ _ _ ts (name_read (b ∷ outer) ts) _ (name_got (b ∷ outer) ts ends)
+behind_got limit b outer fs words.Goto l tok ts p ends = seq _ _ _ _ ts (name_read (b ∷ outer) ts) _ (name_got (b ∷ outer) ts ends)
     (λ n xs rest are q left. seq_mark marks.Semicolon (λ r ys. begun_front b fs r (tok ∷ (xs ++ ys))) (begun_behind_it b outer) (b ∷ outer) rest _ refl left (λ v last m none. record { front = []; tokens_are = refl; ends = none; derives = (refl, (tok ∷ [], xs ++ v ∷ [], refl, p, (xs, v ∷ [], refl, (pos_here ts, q), m))); scope_is = refl }))
-behind_got b outer fs words.Continue l tok ts p ends = marked b outer fs tok (begun_whole (t.continue l)) ts refl (λ v m. (refl, (tok ∷ [], v ∷ [], refl, p, m))) ends
-behind_got b outer fs words.Break l tok ts p ends = marked b outer fs tok (begun_whole (t.break l)) ts refl (λ v m. (refl, (tok ∷ [], v ∷ [], refl, p, m))) ends
-behind_got b outer fs words.Return l tok ts p ends = mapped (λ e. begun_whole (t.return l e)) _ _ _ _ ts (optional_read marks.Semicolon (b ∷ outer) ts) (optional_got marks.Semicolon b outer ts refl ends) (λ e xs h. (refl, (tok ∷ [], xs, refl, p, h))) (λ e. refl)
-behind_got b outer fs words.OpenBrace l tok ts p ends = record { front = []; tokens_are = refl; ends = ends; derives = (tok ∷ [], [], refl, (tok ∷ [], [], refl, p, refl), refl); scope_is = refl }
+behind_got limit b outer fs words.Continue l tok ts p ends = marked b outer fs tok (begun_whole (t.continue l)) ts refl (λ v m. (refl, (tok ∷ [], v ∷ [], refl, p, m))) ends
+behind_got limit b outer fs words.Break l tok ts p ends = marked b outer fs tok (begun_whole (t.break l)) ts refl (λ v m. (refl, (tok ∷ [], v ∷ [], refl, p, m))) ends
+behind_got limit b outer fs words.Return l tok ts p ends = mapped (λ e. begun_whole (t.return l e)) _ _ _ _ ts (optional_read limit marks.Semicolon (b ∷ outer) ts) (optional_got limit marks.Semicolon b outer ts refl ends) (λ e xs h. (refl, (tok ∷ [], xs, refl, p, h))) (λ e. refl)
+behind_got limit b outer fs words.OpenBrace l tok ts p ends = record { front = []; tokens_are = refl; ends = ends; derives = (tok ∷ [], [], refl, (tok ∷ [], [], refl, p, refl), refl); scope_is = refl }
 
-word_got : (b : Scope) (outer : Blocks) (fs : List Frame) (o : Option Word) (ts : List Token) → word_of (sign_here ts) ≡ o → EndsIn ts → Got (begun_front b fs) (begun_behind_it b outer) ts (word_begun o (pos_here ts) (b ∷ outer) ts)
-word_got b outer fs None ts e ends = tt
-word_got b outer fs (Some w) ts e ends =
+word_got : (limit : ℕ) (b : Scope) (outer : Blocks) (fs : List Frame) (o : Option Word) (ts : List Token) → word_of (sign_here ts) ≡ o → EndsIn ts → Got (begun_front b fs) (begun_behind_it b outer) ts (word_begun limit o (pos_here ts) (b ∷ outer) ts)
+word_got limit b outer fs None ts e ends = tt
+word_got limit b outer fs (Some w) ts e ends =
     let first = first_of_these ts (no_word_at_end ts w e) ends in
-    past (begun_front b fs) (begun_behind_it b outer) ts first (λ r. begun_behind w (pos_here ts) (b ∷ outer) r)
-    (behind_got b outer fs w (pos_here ts) first.tok first.rest (one_here ts first (word_kind w) (word_told (sign_of first.tok.kind) w first.tok.kind (ap word_of (sym (here_is ts first)) ∙ e) (tells first.tok.kind))) first.ends)
+    past (begun_front b fs) (begun_behind_it b outer) ts first (λ r. begun_behind limit w (pos_here ts) (b ∷ outer) r)
+    (behind_got limit b outer fs w (pos_here ts) first.tok first.rest (one_here ts first (word_kind w) (word_told (sign_of first.tok.kind) w first.tok.kind (ap word_of (sym (here_is ts first)) ∙ e) (tells first.tok.kind))) first.ends)
 
 -- an expression statement begins at its first token
 eval_is : (b : Scope) (o : Option t.ExprTree) (ts xs rest : List Token) → ts ≡ xs ++ rest → (optional_expr b o ▸ some_mark puncts.Semicolon) xs → expression_statement b (pos_here ts) o xs
@@ -203,11 +203,11 @@ eval_is b (Some e) ts xs rest are p =
     let place : pos_here ts ≡ start e = ap (λ ys. (token_at ys 0).pos) (are ∙ (ap (λ ys. ys ++ rest) p.2 ∙ append_assoc p.0 p.1 rest)) ∙ begins_here (start e) p.0 (p.1 ++ rest) (expr_begins b e p.0 p.3) in
     (sym place, p)
 
-eval_got : (b : Scope) (outer : Blocks) (fs : List Frame) (ts : List Token) → EndsIn ts → Got (begun_front b fs) (begun_behind_it b outer) ts (eval_begun (pos_here ts) (b ∷ outer) ts)
-eval_got b outer fs ts ends = seq _ _ _ _ ts (optional_read marks.Semicolon (b ∷ outer) ts) _ (optional_got marks.Semicolon b outer ts refl ends)
+eval_got : (limit : ℕ) (b : Scope) (outer : Blocks) (fs : List Frame) (ts : List Token) → EndsIn ts → Got (begun_front b fs) (begun_behind_it b outer) ts (eval_begun limit (pos_here ts) (b ∷ outer) ts)
+eval_got limit b outer fs ts ends = seq _ _ _ _ ts (optional_read limit marks.Semicolon (b ∷ outer) ts) _ (optional_got limit marks.Semicolon b outer ts refl ends)
     (λ o xs rest are p left. record { front = []; tokens_are = refl; ends = left; derives = nil_behind (begun_front b fs (begun_whole (t.eval (pos_here ts) o))) xs (refl, eval_is b o ts xs rest are p); scope_is = refl })
 
-pub begun_got : (b : Scope) (outer : Blocks) (fs : List Frame) (label : Bool) (ts : List Token) → EndsIn ts → Got (begun_front b fs) (begun_behind_it b outer) ts (statement_begun (sign_here ts) label (b ∷ outer) ts)
-begun_got b outer fs label ts ends = got_if _ _ ts label _ _
+pub begun_got : (limit : ℕ) (b : Scope) (outer : Blocks) (fs : List Frame) (label : Bool) (ts : List Token) → EndsIn ts → Got (begun_front b fs) (begun_behind_it b outer) ts (statement_begun limit (sign_here ts) label (b ∷ outer) ts)
+begun_got limit b outer fs label ts ends = got_if _ _ ts label _ _
     (λ e. label_got b outer fs ts ends)
-    (λ e. got_if _ _ ts (is_evaluated (sign_here ts)) _ _ (λ f. eval_got b outer fs ts ends) (λ f. word_got b outer fs (word_of (sign_here ts)) ts refl ends))
+    (λ e. got_if _ _ ts (is_evaluated (sign_here ts)) _ _ (λ f. eval_got limit b outer fs ts ends) (λ f. word_got limit b outer fs (word_of (sign_here ts)) ts refl ends))

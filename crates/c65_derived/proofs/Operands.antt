@@ -1,5 +1,5 @@
 -- Where an operand is needed.
-use Rattle.std.proofs.Common.{◌≡◌, ◌≤◌, List, [], ◌∷◌, ◌++◌, Bool, true, false, refl, sym, ap, ◌∙◌, subst, arith}
+use Rattle.std.proofs.Common.{◌≡◌, ℕ, ◌≤◌, List, [], ◌∷◌, ◌++◌, Bool, true, false, refl, sym, ap, ◌∙◌, subst, arith}
 use Rattle.std.specs.Prelude.{Option, None, Some, if◌then◌else◌}
 use Rattle.c65_base.specs.declared.names.Name.{Name}
 use Rattle.c65_base.specs.declared.operators.BinaryOp.{BinaryOp}
@@ -130,27 +130,27 @@ leaf_is sc l kinds.End sign s e q = absurd (no_none e q)
 prefixed : (w : Start) (fs : List Frame) (front : List Token) (tok : Token) (scope : Blocks) (p : Prefix) → Holds w fs operand scope front → prefix_mark tok.pos p (tok ∷ []) → Holds w (in_operation (in_prefix tok.pos p) ∷ fs) operand scope (front ++ tok ∷ [])
 prefixed w fs front tok scope p h m = record { scope_is = h.scope_is; stand = (hole_low w fs h.stand, h.stand); fits = tt; reads = both _ _ h.reads m }
 
-prefix_good : (w : Start) (fs : List Frame) (front : List Token) (tok : Token) (scope : Blocks) (p : Prefix) → Holds w fs operand scope front → prefix_mark tok.pos p (tok ∷ []) → Good w front tok scope (within (has_room fs 2) (goes (in_operation (in_prefix tok.pos p) ∷ fs) operand))
-prefix_good w fs front tok scope p h m = good_within w front tok scope (has_room fs 2) (goes (in_operation (in_prefix tok.pos p) ∷ fs) operand) (prefixed w fs front tok scope p h m)
+prefix_good : (limit : ℕ) (w : Start) (fs : List Frame) (front : List Token) (tok : Token) (scope : Blocks) (p : Prefix) → Holds w fs operand scope front → prefix_mark tok.pos p (tok ∷ []) → Good w front tok scope (within (has_room limit fs 2) (goes (in_operation (in_prefix tok.pos p) ∷ fs) operand))
+prefix_good limit w fs front tok scope p h m = good_within w front tok scope (has_room limit fs 2) (goes (in_operation (in_prefix tok.pos p) ∷ fs) operand) (prefixed w fs front tok scope p h m)
 
-begin_by_good : (w : Start) (fs : List Frame) (front : List Token) (tok : Token) (scope : Blocks) (sign : Sign) → Says (scope_at w fs) sign tok.kind → Holds w fs operand scope front → Good w front tok scope (begin_by fs tok.pos sign (prefix_of sign))
-begin_by_good w fs front tok scope signs.Star s h = prefix_good w fs front tok scope (prefixes.Unary unaries.Deref) h (is_one tok _ s)
-begin_by_good w fs front tok scope (signs.Unary op) s h = prefix_good w fs front tok scope (prefixes.Unary op) h (is_one tok _ s)
-begin_by_good w fs front tok scope (signs.Either op between) s h = prefix_good w fs front tok scope (prefixes.Unary op) h (is_one tok _ s.0)
-begin_by_good w fs front tok scope (signs.Step false) s h = prefix_good w fs front tok scope (prefixes.Step steps.PreInc) h (refl, is_one tok _ s)
-begin_by_good w fs front tok scope (signs.Step true) s h = prefix_good w fs front tok scope (prefixes.Step steps.PreDec) h (refl, is_one tok _ s)
-begin_by_good w fs front tok scope signs.Sizeof s h = good_within w front tok scope _ (goes fs (sizeof_word tok.pos)) (record { scope_is = h.scope_is; stand = h.stand; fits = tt; reads = both _ _ h.reads (is_one tok _ s) })
-begin_by_good w fs front tok scope signs.Open s h = good_within w front tok scope _ (goes fs (opened tok.pos)) (record { scope_is = h.scope_is; stand = h.stand; fits = tt; reads = both _ _ h.reads (is_one tok _ s) })
-begin_by_good w fs front tok scope _ s h = tt
+begin_by_good : (limit : ℕ) (w : Start) (fs : List Frame) (front : List Token) (tok : Token) (scope : Blocks) (sign : Sign) → Says (scope_at w fs) sign tok.kind → Holds w fs operand scope front → Good w front tok scope (begin_by limit fs tok.pos sign (prefix_of sign))
+begin_by_good limit w fs front tok scope signs.Star s h = prefix_good limit w fs front tok scope (prefixes.Unary unaries.Deref) h (is_one tok _ s)
+begin_by_good limit w fs front tok scope (signs.Unary op) s h = prefix_good limit w fs front tok scope (prefixes.Unary op) h (is_one tok _ s)
+begin_by_good limit w fs front tok scope (signs.Either op between) s h = prefix_good limit w fs front tok scope (prefixes.Unary op) h (is_one tok _ s.0)
+begin_by_good limit w fs front tok scope (signs.Step false) s h = prefix_good limit w fs front tok scope (prefixes.Step steps.PreInc) h (refl, is_one tok _ s)
+begin_by_good limit w fs front tok scope (signs.Step true) s h = prefix_good limit w fs front tok scope (prefixes.Step steps.PreDec) h (refl, is_one tok _ s)
+begin_by_good limit w fs front tok scope signs.Sizeof s h = good_within w front tok scope _ (goes fs (sizeof_word tok.pos)) (record { scope_is = h.scope_is; stand = h.stand; fits = tt; reads = both _ _ h.reads (is_one tok _ s) })
+begin_by_good limit w fs front tok scope signs.Open s h = good_within w front tok scope _ (goes fs (opened tok.pos)) (record { scope_is = h.scope_is; stand = h.stand; fits = tt; reads = both _ _ h.reads (is_one tok _ s) })
+begin_by_good limit w fs front tok scope _ s h = tt
 
-begin_with_good : (w : Start) (fs : List Frame) (front : List Token) (tok : Token) (scope : Blocks) (sign : Sign) → Says (scope_at w fs) sign tok.kind → Holds w fs operand scope front → (leaf : Option t.ExprTree) → leaf_of_kind tok.pos tok.kind (names_type sign) ≡ leaf → Good w front tok scope (begin_with fs tok.pos sign leaf)
-begin_with_good w fs front tok scope sign s h (Some e) q =
+begin_with_good : (limit : ℕ) (w : Start) (fs : List Frame) (front : List Token) (tok : Token) (scope : Blocks) (sign : Sign) → Says (scope_at w fs) sign tok.kind → Holds w fs operand scope front → (leaf : Option t.ExprTree) → leaf_of_kind tok.pos tok.kind (names_type sign) ≡ leaf → Good w front tok scope (begin_with limit fs tok.pos sign leaf)
+begin_with_good limit w fs front tok scope sign s h (Some e) q =
     let leaf : IsLeaf (scope_at w fs) tok.pos tok.kind e = leaf_is (scope_at w fs) tok.pos tok.kind sign s e q in
     let low = hole_low w fs h.stand in
     let high = leaf.level in
     good_within w front tok scope _ (goes fs (have_expr e)) (record { scope_is = h.scope_is ∙ ap (λ b. b ∷ outer_at w fs) (sym leaf.kept); stand = h.stand; fits = tt; reads = both _ _ h.reads (omega (arith, low, high), leaf.derives) })
-begin_with_good w fs front tok scope sign s h None q = begin_by_good w fs front tok scope sign s h
+begin_with_good limit w fs front tok scope sign s h None q = begin_by_good limit w fs front tok scope sign s h
 
-pub operand_good : (w : Start) (fs : List Frame) (front : List Token) (tok : Token) (scope : Blocks) (sign : Sign) → Says (scope_at w fs) sign tok.kind → Holds w fs operand scope front → Good w front tok scope (operand_step fs tok sign)
+pub operand_good : (limit : ℕ) (w : Start) (fs : List Frame) (front : List Token) (tok : Token) (scope : Blocks) (sign : Sign) → Says (scope_at w fs) sign tok.kind → Holds w fs operand scope front → Good w front tok scope (operand_step limit fs tok sign)
 unfolding operand_step
-operand_good w fs front tok scope sign s h = begin_with_good w fs front tok scope sign s h (leaf_of tok (names_type sign)) refl
+operand_good limit w fs front tok scope sign s h = begin_with_good limit w fs front tok scope sign s h (leaf_of tok (names_type sign)) refl

@@ -1,5 +1,5 @@
 -- Among qualifiers, parameters and names of parameters.
-use Rattle.std.proofs.Common.{◌≡◌, List, [], ◌∷◌, ◌++◌, Bool, true, false, refl, sym, ap, ◌∙◌, subst}
+use Rattle.std.proofs.Common.{◌≡◌, ℕ, List, [], ◌∷◌, ◌++◌, Bool, true, false, refl, sym, ap, ◌∙◌, subst}
 use Rattle.std.proofs.lemmas.List.{append-nil}
 use Rattle.std.specs.Prelude.{Option, None, Some, is_some, if◌then◌else◌}
 use Rattle.c65_base.specs.declared.names.Name.{Name}
@@ -77,27 +77,27 @@ pointer_begun w k c v sort fs front tok scope sign h = record {
   reads = h.reads;
 }
 
-pub qualifiers_good : (w : Start) (k : Pos) (c v : Bool) (sort : Sort) (fs : List Frame) (front : List Token) (tok : Token) (scope : Blocks) (sign : Sign) → Says (scope_at w fs) sign tok.kind → Holds w fs (frames.qualifiers k c v sort) scope front → Good w front tok scope (qualifiers_step k c v sort fs tok.pos sign)
+pub qualifiers_good : (limit : ℕ) (w : Start) (k : Pos) (c v : Bool) (sort : Sort) (fs : List Frame) (front : List Token) (tok : Token) (scope : Blocks) (sign : Sign) → Says (scope_at w fs) sign tok.kind → Holds w fs (frames.qualifiers k c v sort) scope front → Good w front tok scope (qualifiers_step limit k c v sort fs tok.pos sign)
 unfolding qualifiers_step
-qualifiers_good w k c v sort fs front tok scope (signs.Word words.Const) s h = record { scope_is = h.scope_is; stand = h.stand; fits = h.fits; reads = map_right (λ xs p. map_right (λ ys q. more_constant c v tok.pos ys q) (regroup p)) (attach _ _ h.reads (is_one tok _ s)) }
-qualifiers_good w k c v sort fs front tok scope (signs.Word words.Volatile) s h = record { scope_is = h.scope_is; stand = h.stand; fits = h.fits; reads = map_right (λ xs p. map_right (λ ys q. more_volatile c v tok.pos ys q) (regroup p)) (attach _ _ h.reads (is_one tok _ s)) }
-qualifiers_good w k c v sort fs front tok scope sign s h = declarator_good w (in_derived k (derivations.Pointer c v) ∷ fs) sort front tok scope sign s (pointer_begun w k c v sort fs front tok scope sign h)
+qualifiers_good limit w k c v sort fs front tok scope (signs.Word words.Const) s h = record { scope_is = h.scope_is; stand = h.stand; fits = h.fits; reads = map_right (λ xs p. map_right (λ ys q. more_constant c v tok.pos ys q) (regroup p)) (attach _ _ h.reads (is_one tok _ s)) }
+qualifiers_good limit w k c v sort fs front tok scope (signs.Word words.Volatile) s h = record { scope_is = h.scope_is; stand = h.stand; fits = h.fits; reads = map_right (λ xs p. map_right (λ ys q. more_volatile c v tok.pos ys q) (regroup p)) (attach _ _ h.reads (is_one tok _ s)) }
+qualifiers_good limit w k c v sort fs front tok scope sign s h = declarator_good limit w (in_derived k (derivations.Pointer c v) ∷ fs) sort front tok scope sign s (pointer_begun w k c v sort fs front tok scope sign h)
 
 -- the first parameter opens a block
-block_good : (w : Start) (fs : List Frame) (front : List Token) (tok : Token) (scope : Blocks) (sign : Sign) → begins_specifiers sign ≡ true → Good w front tok (blocks.opened scope) (specifiers_step (nothing_listed true) fs tok.pos sign) → Good w front tok scope (in_block (specifiers_step (nothing_listed true) fs tok.pos sign))
+block_good : (limit : ℕ) (w : Start) (fs : List Frame) (front : List Token) (tok : Token) (scope : Blocks) (sign : Sign) → begins_specifiers sign ≡ true → Good w front tok (blocks.opened scope) (specifiers_step limit (nothing_listed true) fs tok.pos sign) → Good w front tok scope (in_block (specifiers_step limit (nothing_listed true) fs tok.pos sign))
 unfolding specifiers_step
-block_good w fs front tok scope (signs.Word wd) e h = h
-block_good w fs front tok scope (signs.Storage c) e h = h
-block_good w fs front tok scope (signs.Tag wd) e h = h
-block_good w fs front tok scope (signs.Name n true) e h = h
-block_good w fs front tok scope _ e h = absurd cc
+block_good limit w fs front tok scope (signs.Word wd) e h = h
+block_good limit w fs front tok scope (signs.Storage c) e h = h
+block_good limit w fs front tok scope (signs.Tag wd) e h = h
+block_good limit w fs front tok scope (signs.Name n true) e h = h
+block_good limit w fs front tok scope _ e h = absurd cc
 
-params_good : (w : Start) (k : Pos) (d : t.DeclaratorTree) (fs : List Frame) (front : List Token) (tok : Token) (scope : Blocks) (sign : Sign) → begins_specifiers sign ≡ true → Says (after_declarator (scope_at w fs) d) sign tok.kind
-    → scope ≡ after_declarator (scope_at w fs) d ∷ outer_at w fs → Stand w fs → SuitsTree w fs d → (fronts w fs ▸ suffix_front (sort_at w fs) (scope_at w fs) k d) front → Good w front tok scope (params_step k d fs tok.pos sign)
+params_good : (limit : ℕ) (w : Start) (k : Pos) (d : t.DeclaratorTree) (fs : List Frame) (front : List Token) (tok : Token) (scope : Blocks) (sign : Sign) → begins_specifiers sign ≡ true → Says (after_declarator (scope_at w fs) d) sign tok.kind
+    → scope ≡ after_declarator (scope_at w fs) d ∷ outer_at w fs → Stand w fs → SuitsTree w fs d → (fronts w fs ▸ suffix_front (sort_at w fs) (scope_at w fs) k d) front → Good w front tok scope (params_step limit k d fs tok.pos sign)
 unfolding params_step
-params_good w k d fs front tok scope sign e s scope_is stand suits h =
+params_good limit w k d fs front tok scope sign e s scope_is stand suits h =
     let part : ParamsPart = record { pos = k; declarator = d; params = t.no_more_params } in
-    block_good w (in_params part ∷ fs) front tok scope sign e (specifiers_good w (nothing_listed true) (in_params part ∷ fs) front tok (blocks.opened scope) sign s (record {
+    block_good limit w (in_params part ∷ fs) front tok scope sign e (specifiers_good limit w (nothing_listed true) (in_params part ∷ fs) front tok (blocks.opened scope) sign s (record {
       scope_is = ap blocks.opened scope_is;
       stand = (suits, stand);
       fits = refl;
@@ -133,30 +133,30 @@ group_begun w k sort fs front tok scope sign e bare s h = record {
   reads = h.reads;
 }
 
-group_or_params : (w : Start) (k : Pos) (sort : Sort) (fs : List Frame) (front : List Token) (tok : Token) (scope : Blocks) (sign : Sign) → Bare (in_group k ∷ fs) sign → Says (scope_at w fs) sign tok.kind → Holds w fs (opened_declarator k sort) scope front → Good w front tok scope (if begins_specifiers sign then params_step k (t.nameless k) fs tok.pos sign else declarator_step sort (in_group k ∷ fs) tok.pos sign)
-group_or_params w k sort fs front tok scope sign bare s h = good_if w front tok scope (begins_specifiers sign) _ _
-    (λ e. params_good w k (t.nameless k) fs front tok scope sign e s h.scope_is h.stand h.fits.1 (map_right (λ xs p. nameless_suffix (sort_at w fs) (scope_at w fs) k xs (lack_at w fs sort true h.fits.0 h.fits.2) p) h.reads))
-    (λ e. declarator_good w (in_group k ∷ fs) sort front tok scope sign s (group_begun w k sort fs front tok scope sign e bare s h))
+group_or_params : (limit : ℕ) (w : Start) (k : Pos) (sort : Sort) (fs : List Frame) (front : List Token) (tok : Token) (scope : Blocks) (sign : Sign) → Bare (in_group k ∷ fs) sign → Says (scope_at w fs) sign tok.kind → Holds w fs (opened_declarator k sort) scope front → Good w front tok scope (if begins_specifiers sign then params_step limit k (t.nameless k) fs tok.pos sign else declarator_step limit sort (in_group k ∷ fs) tok.pos sign)
+group_or_params limit w k sort fs front tok scope sign bare s h = good_if w front tok scope (begins_specifiers sign) _ _
+    (λ e. params_good limit w k (t.nameless k) fs front tok scope sign e s h.scope_is h.stand h.fits.1 (map_right (λ xs p. nameless_suffix (sort_at w fs) (scope_at w fs) k xs (lack_at w fs sort true h.fits.0 h.fits.2) p) h.reads))
+    (λ e. declarator_good limit w (in_group k ∷ fs) sort front tok scope sign s (group_begun w k sort fs front tok scope sign e bare s h))
 
-pub opened_declarator_good : (w : Start) (k : Pos) (sort : Sort) (fs : List Frame) (front : List Token) (tok : Token) (scope : Blocks) (sign : Sign) → Says (scope_at w fs) sign tok.kind → Holds w fs (opened_declarator k sort) scope front → Good w front tok scope (opened_declarator_step k sort fs tok.pos sign)
+pub opened_declarator_good : (limit : ℕ) (w : Start) (k : Pos) (sort : Sort) (fs : List Frame) (front : List Token) (tok : Token) (scope : Blocks) (sign : Sign) → Says (scope_at w fs) sign tok.kind → Holds w fs (opened_declarator k sort) scope front → Good w front tok scope (opened_declarator_step limit k sort fs tok.pos sign)
 unfolding opened_declarator_step
-opened_declarator_good w k sort fs front tok scope signs.Close s h = record {
+opened_declarator_good limit w k sort fs front tok scope signs.Close s h = record {
   scope_is = h.scope_is;
   stand = h.stand;
   fits = (h.fits.1, refl, refl);
   reads = map_right (λ xs p l. regroup (map_left (λ ys q. nameless_suffix (sort_at w fs) (scope_at w fs) k ys (lack_at w fs sort true h.fits.0 h.fits.2) q) p)) (attach _ _ h.reads (is_some_one tok _ s));
 }
-opened_declarator_good w k sort fs front tok scope sign s h = group_or_params w k sort fs front tok scope sign tt s h
+opened_declarator_good limit w k sort fs front tok scope sign s h = group_or_params limit w k sort fs front tok scope sign tt s h
 
-pub opened_params_good : (w : Start) (k : Pos) (d : t.DeclaratorTree) (fs : List Frame) (front : List Token) (tok : Token) (scope : Blocks) (sign : Sign) → Says (after_declarator (scope_at w fs) d) sign tok.kind → Holds w fs (opened_params k d) scope front → Good w front tok scope (opened_params_step k d fs tok.pos sign)
+pub opened_params_good : (limit : ℕ) (w : Start) (k : Pos) (d : t.DeclaratorTree) (fs : List Frame) (front : List Token) (tok : Token) (scope : Blocks) (sign : Sign) → Says (after_declarator (scope_at w fs) d) sign tok.kind → Holds w fs (opened_params k d) scope front → Good w front tok scope (opened_params_step limit k d fs tok.pos sign)
 unfolding opened_params_step
-opened_params_good w k d fs front tok scope signs.Close s h = record {
+opened_params_good limit w k d fs front tok scope signs.Close s h = record {
   scope_is = h.scope_is;
   stand = h.stand;
   fits = (h.fits, refl, refl);
   reads = map_right (λ xs p l. regroup p) (attach _ _ h.reads (is_some_one tok _ s));
 }
-opened_params_good w k d fs front tok scope (signs.Name n false) s h = good_if w front tok scope (is_some (Names.declared_name d)) (goes fs (names_end (record { pos = k; declarator = d; names = (n, tok.pos) ∷ [] }))) fail
+opened_params_good limit w k d fs front tok scope (signs.Name n false) s h = good_if w front tok scope (is_some (Names.declared_name d)) (goes fs (names_end (record { pos = k; declarator = d; names = (n, tok.pos) ∷ [] }))) fail
     (λ e. record {
       scope_is = h.scope_is;
       stand = h.stand;
@@ -164,26 +164,26 @@ opened_params_good w k d fs front tok scope (signs.Name n false) s h = good_if w
       reads = attach _ _ h.reads ([], tok ∷ [], refl, refl, (tok ∷ [], [], refl, (s.1, is_one tok _ s.0), refl));
     })
     (λ e. tt)
-opened_params_good w k d fs front tok scope sign s h = good_if w front tok scope (begins_specifiers sign) _ fail
-    (λ e. params_good w k d fs front tok scope sign e s h.scope_is h.stand h.fits h.reads)
+opened_params_good limit w k d fs front tok scope sign s h = good_if w front tok scope (begins_specifiers sign) _ fail
+    (λ e. params_good limit w k d fs front tok scope sign e s h.scope_is h.stand h.fits h.reads)
     (λ e. tt)
 
 -- behind a comma the next parameter is begun
 next_param : (s : g.Sort) (b : Scope) (part : ParamsPart) (ts : List Token) → more_params_front s b part ts → params_front s b part ts
 next_param s b part ts p = map_right (λ xs q. (q.1.0, map_right (λ ys r. subst (λ x. comma_at x q.1.0 ys) (sym q.0) r) q.1.1)) p
 
-more_begun : (w : Start) (part : ParamsPart) (fs : List Frame) (front : List Token) (tok : Token) (scope : Blocks) (sign : Sign) → Says (params_scope (scope_at w fs) part) sign tok.kind → Holds w fs (more_params part) scope front → Good w front tok scope (specifiers_step (nothing_listed true) (in_params part ∷ fs) tok.pos sign)
-more_begun w part fs front tok scope sign s h = specifiers_good w (nothing_listed true) (in_params part ∷ fs) front tok scope sign s (record {
+more_begun : (limit : ℕ) (w : Start) (part : ParamsPart) (fs : List Frame) (front : List Token) (tok : Token) (scope : Blocks) (sign : Sign) → Says (params_scope (scope_at w fs) part) sign tok.kind → Holds w fs (more_params part) scope front → Good w front tok scope (specifiers_step limit (nothing_listed true) (in_params part ∷ fs) tok.pos sign)
+more_begun limit w part fs front tok scope sign s h = specifiers_good limit w (nothing_listed true) (in_params part ∷ fs) front tok scope sign s (record {
   scope_is = h.scope_is;
   stand = (h.fits, h.stand);
   fits = refl;
   reads = listing_begun w (in_params part ∷ fs) (params_scope (scope_at w fs) part) true front (map_right (λ xs p. next_param (sort_at w fs) (scope_at w fs) part xs p) h.reads);
 })
 
-pub more_params_good : (w : Start) (part : ParamsPart) (fs : List Frame) (front : List Token) (tok : Token) (scope : Blocks) (sign : Sign) → Says (params_scope (scope_at w fs) part) sign tok.kind → Holds w fs (more_params part) scope front → Good w front tok scope (more_params_step part fs tok.pos sign)
+pub more_params_good : (limit : ℕ) (w : Start) (part : ParamsPart) (fs : List Frame) (front : List Token) (tok : Token) (scope : Blocks) (sign : Sign) → Says (params_scope (scope_at w fs) part) sign tok.kind → Holds w fs (more_params part) scope front → Good w front tok scope (more_params_step limit part fs tok.pos sign)
 unfolding more_params_step
-more_params_good w part fs front tok scope signs.Ellipsis s h = record { scope_is = h.scope_is; stand = h.stand; fits = h.fits; reads = attach _ _ h.reads (is_some_one tok _ s) }
-more_params_good w part fs front tok scope sign s h = more_begun w part fs front tok scope sign s h
+more_params_good limit w part fs front tok scope signs.Ellipsis s h = record { scope_is = h.scope_is; stand = h.stand; fits = h.fits; reads = attach _ _ h.reads (is_some_one tok _ s) }
+more_params_good limit w part fs front tok scope sign s h = more_begun limit w part fs front tok scope sign s h
 
 pub ellipsis_good : (w : Start) (part : ParamsPart) (fs : List Frame) (front : List Token) (tok : Token) (scope : Blocks) (sc : Scope) (sign : Sign) → Says sc sign tok.kind → Holds w fs (ellipsis part) scope front → Good w front tok scope (ellipsis_step part fs sign)
 unfolding ellipsis_step

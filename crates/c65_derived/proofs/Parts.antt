@@ -51,18 +51,18 @@ by_law phrase there behind outer ts (Ok (a, rest, scope)) ends f k =
       scope_is = h.scope_is;
     }
 
-pub expr_got : (least : ℕ) (sc : Scope) (outer : Blocks) (ts : List Token) → least ≤ 13 → EndsIn ts → Got (λ e. given (least ≤ level e) (g.expr sc e)) (λ e. after sc e ∷ outer) ts (expr_read least (sc ∷ outer) ts)
-expr_got least sc outer ts low ends = by_law _ _ (after sc) outer ts (expr_read least (sc ∷ outer) ts) ends (λ a rest scope e. exprs_are_derived least sc outer ts a rest scope low e) (λ a xs u us are p. p)
+pub expr_got : (limit : ℕ) (least : ℕ) (sc : Scope) (outer : Blocks) (ts : List Token) → least ≤ 13 → EndsIn ts → Got (λ e. given (least ≤ level e) (g.expr sc e)) (λ e. after sc e ∷ outer) ts (expr_read limit least (sc ∷ outer) ts)
+expr_got limit least sc outer ts low ends = by_law _ _ (after sc) outer ts (expr_read limit least (sc ∷ outer) ts) ends (λ a rest scope e. exprs_are_derived limit least sc outer ts a rest scope low e) (λ a xs u us are p. p)
 
 none_here : (sc : Scope) (q : t.SpecifiersTree) (xs : List Token) (u : Token) (us ts : List Token) → ts ≡ xs ++ u ∷ us → head_specifiers sc u.pos q xs → head_specifiers sc (pos_here ts) q xs
 none_here sc (t.specifiers l t.no_specifiers) xs u us ts are p = (p.0 ∙ sym (ap (λ ys. (token_at ys 0).pos) (are ∙ ap (λ ys. ys ++ u ∷ us) p.1) ∙ ap (λ v. v.pos) (first_there u us)), p.1)
 none_here sc (t.specifiers l (t.and_specifier qs q)) xs u us ts are p = p
 
-pub specifiers_got : (sc : Scope) (outer : Blocks) (ts : List Token) → EndsIn ts → Got (head_specifiers sc (pos_here ts)) (λ q. after_specifiers sc q ∷ outer) ts (specifiers_read (sc ∷ outer) ts)
-specifiers_got sc outer ts ends = by_law (head_specifiers sc) (head_specifiers sc (pos_here ts)) (after_specifiers sc) outer ts (specifiers_read (sc ∷ outer) ts) ends (λ a rest scope e. specifiers_are_derived sc outer ts a rest scope e) (λ a xs u us are p. none_here sc a xs u us ts are p)
+pub specifiers_got : (limit : ℕ) (sc : Scope) (outer : Blocks) (ts : List Token) → EndsIn ts → Got (head_specifiers sc (pos_here ts)) (λ q. after_specifiers sc q ∷ outer) ts (specifiers_read limit (sc ∷ outer) ts)
+specifiers_got limit sc outer ts ends = by_law (head_specifiers sc) (head_specifiers sc (pos_here ts)) (after_specifiers sc) outer ts (specifiers_read limit (sc ∷ outer) ts) ends (λ a rest scope e. specifiers_are_derived limit sc outer ts a rest scope e) (λ a xs u us are p. none_here sc a xs u us ts are p)
 
-declarator_got : (typed : Bool) (sc : Scope) (outer : Blocks) (ts : List Token) → EndsIn ts → Got (λ d. g.declarator (g.named typed) sc (declarator_start d) d) (λ d. after_declarator sc d ∷ outer) ts (declarator_read (sorts.Named typed) (sc ∷ outer) ts)
-declarator_got typed sc outer ts ends = by_law (g.declarator (g.named typed) sc) _ (after_declarator sc) outer ts (declarator_read (sorts.Named typed) (sc ∷ outer) ts) ends (λ a rest scope e. declarators_are_derived (sorts.Named typed) sc outer ts a rest scope e) (λ a xs u us are p. any_place (g.named typed) sc a u.pos (declarator_start a) xs refl p)
+declarator_got : (limit : ℕ) (typed : Bool) (sc : Scope) (outer : Blocks) (ts : List Token) → EndsIn ts → Got (λ d. g.declarator (g.named typed) sc (declarator_start d) d) (λ d. after_declarator sc d ∷ outer) ts (declarator_read limit (sorts.Named typed) (sc ∷ outer) ts)
+declarator_got limit typed sc outer ts ends = by_law (g.declarator (g.named typed) sc) _ (after_declarator sc) outer ts (declarator_read limit (sorts.Named typed) (sc ∷ outer) ts) ends (λ a rest scope e. declarators_are_derived limit (sorts.Named typed) sc outer ts a rest scope e) (λ a xs u us are p. any_place (g.named typed) sc a u.pos (declarator_start a) xs refl p)
 
 pub declared_is : (n : Option Name) (is_type : Bool) (sc : Scope) (outer : Blocks) → declared_maybe n is_type (sc ∷ outer) ≡ declare_maybe n is_type sc ∷ outer
 declared_is None is_type sc outer = refl
@@ -73,29 +73,29 @@ named_kept typed types sc outer ts (Err e) h = tt
 named_kept typed types sc outer ts (Ok (d, rest, scope)) h = record { front = h.front; tokens_are = h.tokens_are; ends = h.ends; derives = h.derives; scope_is = ap (declared_maybe (declared_name d) types) h.scope_is ∙ declared_is (declared_name d) types (after_declarator sc d) outer }
 
 -- a declarator with a name, which is declared behind it
-pub named_got : (q : t.SpecifiersTree) (sc : Scope) (outer : Blocks) (ts : List Token) → EndsIn ts → Got (λ d. g.declarator (g.named (has_type q)) sc (declarator_start d) d) (λ d. declared (is_typedef q) sc d ∷ outer) ts (named_read (naming_of q) (sc ∷ outer) ts)
-named_got q sc outer ts ends = named_kept (has_type q) (is_typedef q) sc outer ts (declarator_read (sorts.Named (has_type q)) (sc ∷ outer) ts) (declarator_got (has_type q) sc outer ts ends)
+pub named_got : (limit : ℕ) (q : t.SpecifiersTree) (sc : Scope) (outer : Blocks) (ts : List Token) → EndsIn ts → Got (λ d. g.declarator (g.named (has_type q)) sc (declarator_start d) d) (λ d. declared (is_typedef q) sc d ∷ outer) ts (named_read limit (naming_of q) (sc ∷ outer) ts)
+named_got limit q sc outer ts ends = named_kept (has_type q) (is_typedef q) sc outer ts (declarator_read limit (sorts.Named (has_type q)) (sc ∷ outer) ts) (declarator_got limit (has_type q) sc outer ts ends)
 
 -- an expression and a mark
-ended_by : (least : ℕ) (mark : Mark) (sc : Scope) (outer : Blocks) (ts : List Token) → least ≤ 13 → is_mark mark signs.End ≡ false → EndsIn ts → Got (λ e. given (least ≤ level e) (g.expr sc e) ▸ mark_phrase mark) (λ e. after sc e ∷ outer) ts (expr_read least (sc ∷ outer) ts >>= (λ e. expected mark e.2 e.1 >>= (λ b. Ok (e.0, b.0, b.1))))
-ended_by least mark sc outer ts low not ends = seq _ _ _ _ ts (expr_read least (sc ∷ outer) ts) _ (expr_got least sc outer ts low ends)
+ended_by : (limit : ℕ) (least : ℕ) (mark : Mark) (sc : Scope) (outer : Blocks) (ts : List Token) → least ≤ 13 → is_mark mark signs.End ≡ false → EndsIn ts → Got (λ e. given (least ≤ level e) (g.expr sc e) ▸ mark_phrase mark) (λ e. after sc e ∷ outer) ts (expr_read limit least (sc ∷ outer) ts >>= (λ e. expected mark e.2 e.1 >>= (λ b. Ok (e.0, b.0, b.1))))
+ended_by limit least mark sc outer ts low not ends = seq _ _ _ _ ts (expr_read limit least (sc ∷ outer) ts) _ (expr_got limit least sc outer ts low ends)
     (λ e xs rest are p left. seq_mark mark (λ f ys. (given (least ≤ level f) (g.expr sc f) ▸ mark_phrase mark) (xs ++ ys)) (λ f. after sc f ∷ outer) (after sc e ∷ outer) rest (λ b. Ok (e, b.0, b.1)) not left
     (λ tok behind m last. record { front = []; tokens_are = refl; ends = last; derives = (xs, tok ∷ [], refl, p, m); scope_is = refl }))
 
-pub case_got : (sc : Scope) (outer : Blocks) (ts : List Token) → EndsIn ts → Got (λ e. given (2 ≤ level e) (g.expr sc e) ▸ some_mark puncts.Colon) (λ e. after sc e ∷ outer) ts (case_read (sc ∷ outer) ts)
-case_got sc outer ts ends = ended_by 2 marks.Colon sc outer ts (omega arith) refl ends
+pub case_got : (limit : ℕ) (sc : Scope) (outer : Blocks) (ts : List Token) → EndsIn ts → Got (λ e. given (2 ≤ level e) (g.expr sc e) ▸ some_mark puncts.Colon) (λ e. after sc e ∷ outer) ts (case_read limit (sc ∷ outer) ts)
+case_got limit sc outer ts ends = ended_by limit 2 marks.Colon sc outer ts (omega arith) refl ends
 
-pub test_got : (sc : Scope) (outer : Blocks) (ts : List Token) → EndsIn ts → Got (test sc) (λ e. after sc e ∷ outer) ts (test_read (sc ∷ outer) ts)
-test_got sc outer ts ends = seq_mark marks.OpenParen (test sc) (λ e. after sc e ∷ outer) (sc ∷ outer) ts _ refl ends
-    (λ tok rest m left. weaken _ _ _ _ rest _ (ended_by 0 marks.CloseParen sc outer rest (omega arith) refl left) (λ e xs p. (tok ∷ [], xs, refl, m, (p.0, p.1, p.2, p.3.1, p.4))) (λ e. refl))
+pub test_got : (limit : ℕ) (sc : Scope) (outer : Blocks) (ts : List Token) → EndsIn ts → Got (test sc) (λ e. after sc e ∷ outer) ts (test_read limit (sc ∷ outer) ts)
+test_got limit sc outer ts ends = seq_mark marks.OpenParen (test sc) (λ e. after sc e ∷ outer) (sc ∷ outer) ts _ refl ends
+    (λ tok rest m left. weaken _ _ _ _ rest _ (ended_by limit 0 marks.CloseParen sc outer rest (omega arith) refl left) (λ e xs p. (tok ∷ [], xs, refl, m, (p.0, p.1, p.2, p.3.1, p.4))) (λ e. refl))
 
-ended_got : (mark : Mark) (sc : Scope) (outer : Blocks) (ts : List Token) → is_mark mark signs.End ≡ false → EndsIn ts → Got (λ o. optional_expr sc o ▸ mark_phrase mark) (λ o. after_option sc o ∷ outer) ts (ended_read mark (sc ∷ outer) ts)
-ended_got mark sc outer ts not ends = seq _ _ _ _ ts (expr_read 0 (sc ∷ outer) ts) _ (expr_got 0 sc outer ts (omega arith) ends)
+ended_got : (limit : ℕ) (mark : Mark) (sc : Scope) (outer : Blocks) (ts : List Token) → is_mark mark signs.End ≡ false → EndsIn ts → Got (λ o. optional_expr sc o ▸ mark_phrase mark) (λ o. after_option sc o ∷ outer) ts (ended_read limit mark (sc ∷ outer) ts)
+ended_got limit mark sc outer ts not ends = seq _ _ _ _ ts (expr_read limit 0 (sc ∷ outer) ts) _ (expr_got limit 0 sc outer ts (omega arith) ends)
     (λ e xs rest are p left. seq_mark mark (λ o ys. (optional_expr sc o ▸ mark_phrase mark) (xs ++ ys)) (λ o. after_option sc o ∷ outer) (after sc e ∷ outer) rest (λ b. Ok (Some e, b.0, b.1)) not left
     (λ tok behind m last. record { front = []; tokens_are = refl; ends = last; derives = (xs, tok ∷ [], refl, p.1, m); scope_is = refl }))
 
 -- an expression or nothing, and a mark
-pub optional_got : (mark : Mark) (sc : Scope) (outer : Blocks) (ts : List Token) → is_mark mark signs.End ≡ false → EndsIn ts → Got (λ o. optional_expr sc o ▸ mark_phrase mark) (λ o. after_option sc o ∷ outer) ts (optional_read mark (sc ∷ outer) ts)
-optional_got mark sc outer ts not ends = got_if _ _ ts (is_here mark ts) _ _
+pub optional_got : (limit : ℕ) (mark : Mark) (sc : Scope) (outer : Blocks) (ts : List Token) → is_mark mark signs.End ≡ false → EndsIn ts → Got (λ o. optional_expr sc o ▸ mark_phrase mark) (λ o. after_option sc o ∷ outer) ts (optional_read limit mark (sc ∷ outer) ts)
+optional_got limit mark sc outer ts not ends = got_if _ _ ts (is_here mark ts) _ _
     (λ e. let first = first_of_mark mark ts not e ends in past _ _ ts first (λ r. Ok (None, r, sc ∷ outer)) (record { front = []; tokens_are = refl; ends = first.ends; derives = ([], first.tok ∷ [], refl, refl, is_mark_of mark ts first e); scope_is = refl }))
-    (λ e. ended_got mark sc outer ts not ends)
+    (λ e. ended_got limit mark sc outer ts not ends)

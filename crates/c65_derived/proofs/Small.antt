@@ -54,200 +54,200 @@ mark_within : {A B : Type 0} (f : A → B) (P : A → Type 0) (Q : B → Type 0)
 mark_within f P Q mark (Ok (a, rest, scope)) h k = then_any Q (expected mark scope rest) (λ b. Ok (f a, b.0, b.1)) (λ b. k a h)
 mark_within f P Q mark (Err e) h k = tt
 
-abbrev SmallExpr : t.ExprTree → Type 0
-SmallExpr e = expr_depth e ≤ 256
+abbrev SmallExpr : (limit : ℕ) → t.ExprTree → Type 0
+SmallExpr limit e = expr_depth e ≤ limit
 
-abbrev SmallOption : Option t.ExprTree → Type 0
-SmallOption o = of_option expr_depth o ≤ 256
+abbrev SmallOption : (limit : ℕ) → Option t.ExprTree → Type 0
+SmallOption limit o = of_option expr_depth o ≤ limit
 
-test_within : (scope : Blocks) (ts : List Token) → Within SmallExpr (test_read scope ts)
-test_within scope ts = then_any SmallExpr (expected marks.OpenParen scope ts) _ (λ a. mark_within (λ e. e) SmallExpr SmallExpr marks.CloseParen (expr_read 0 a.1 a.0) (expr_within 0 a.1 a.0) (λ e h. h))
+test_within : (limit : ℕ) (scope : Blocks) (ts : List Token) → Within (SmallExpr limit) (test_read limit scope ts)
+test_within limit scope ts = then_any (SmallExpr limit) (expected marks.OpenParen scope ts) _ (λ a. mark_within (λ e. e) (SmallExpr limit) (SmallExpr limit) marks.CloseParen (expr_read limit 0 a.1 a.0) (expr_within limit 0 a.1 a.0) (λ e h. h))
 
-case_within : (scope : Blocks) (ts : List Token) → Within SmallExpr (case_read scope ts)
-case_within scope ts = mark_within (λ e. e) SmallExpr SmallExpr marks.Colon (expr_read 2 scope ts) (expr_within 2 scope ts) (λ e h. h)
+case_within : (limit : ℕ) (scope : Blocks) (ts : List Token) → Within (SmallExpr limit) (case_read limit scope ts)
+case_within limit scope ts = mark_within (λ e. e) (SmallExpr limit) (SmallExpr limit) marks.Colon (expr_read limit 2 scope ts) (expr_within limit 2 scope ts) (λ e h. h)
 
-optional_within : (mark : Mark) (scope : Blocks) (ts : List Token) → Within SmallOption (optional_read mark scope ts)
-optional_within mark scope ts = within_if SmallOption (is_here mark ts) (Ok (None, after_token ts, scope)) (ended_read mark scope ts) (λ e. omega arith) (λ e. mark_within Some SmallExpr SmallOption mark (expr_read 0 scope ts) (expr_within 0 scope ts) (λ e h. h))
+optional_within : (limit : ℕ) (mark : Mark) (scope : Blocks) (ts : List Token) → Within (SmallOption limit) (optional_read limit mark scope ts)
+optional_within limit mark scope ts = within_if (SmallOption limit) (is_here mark ts) (Ok (None, after_token ts, scope)) (ended_read limit mark scope ts) (λ e. omega arith) (λ e. mark_within Some (SmallExpr limit) (SmallOption limit) mark (expr_read limit 0 scope ts) (expr_within limit 0 scope ts) (λ e h. h))
 
-named_within : (naming : Naming) (scope : Blocks) (ts : List Token) → Within (λ d. declarator_depth d ≤ 256) (named_read naming scope ts)
-named_within naming scope ts = then_within _ _ (declarator_read (sorts.Named naming.has_type) scope ts) _ (declarator_within (sorts.Named naming.has_type) scope ts) (λ d rest behind h. h)
+named_within : (limit : ℕ) (naming : Naming) (scope : Blocks) (ts : List Token) → Within (λ d. declarator_depth d ≤ limit) (named_read limit naming scope ts)
+named_within limit naming scope ts = then_within _ _ (declarator_read limit (sorts.Named naming.has_type) scope ts) _ (declarator_within limit (sorts.Named naming.has_type) scope ts) (λ d rest behind h. h)
 
 -- initialisers
-abbrev ListsFit : List OpenList → Type 0
-ListsFit [] = Unit {0}
-ListsFit (l ∷ ls) = (inits_depth l.inits + suc (length ls) ≤ 256) × ListsFit ls
+abbrev ListsFit : (limit : ℕ) → List OpenList → Type 0
+ListsFit limit [] = Unit {0}
+ListsFit limit (l ∷ ls) = (inits_depth l.inits + suc (length ls) ≤ limit) × ListsFit limit ls
 
-abbrev ListedFits : Listed → Type 0
-ListedFits (listed_whole i) = init_depth i ≤ 256
-ListedFits (listed_open ls) = ListsFit ls
+abbrev ListedFits : (limit : ℕ) → Listed → Type 0
+ListedFits limit (listed_whole i) = init_depth i ≤ limit
+ListedFits limit (listed_open ls) = ListsFit limit ls
 
-next_list : (l : OpenList) (ls : List OpenList) (go : t.InitTree → Blocks → List Token → Answer Listed) → inits_depth l.inits + suc (length ls) ≤ 256 → ListsFit ls → ((i : t.InitTree) (scope : Blocks) (ts : List Token) → init_depth i + length ls ≤ 256 → Within ListedFits (go i scope ts)) → (b : Bool) (ts : List Token) (scope : Blocks) → Within ListedFits (lists_next go l ls (b, ts, scope))
-next_list l ls go h j k true ts scope = k (t.list l.place l.inits) scope ts (omega (arith, h))
-next_list l ls go h j k false ts scope = (h, j)
+next_list : (limit : ℕ) (l : OpenList) (ls : List OpenList) (go : t.InitTree → Blocks → List Token → Answer Listed) → inits_depth l.inits + suc (length ls) ≤ limit → ListsFit limit ls → ((i : t.InitTree) (scope : Blocks) (ts : List Token) → init_depth i + length ls ≤ limit → Within (ListedFits limit) (go i scope ts)) → (b : Bool) (ts : List Token) (scope : Blocks) → Within (ListedFits limit) (lists_next go l ls (b, ts, scope))
+next_list limit l ls go h j k true ts scope = k (t.list l.place l.inits) scope ts (omega (arith, h))
+next_list limit l ls go h j k false ts scope = (h, j)
 
-lists_within : (ls : List OpenList) (i : t.InitTree) (scope : Blocks) (ts : List Token) → ListsFit ls → init_depth i + length ls ≤ 256 → Within ListedFits (lists_closed ls i scope ts)
-lists_within [] i scope ts h k = omega (arith, k)
-lists_within (l ∷ ls) i scope ts h k = then_any ListedFits (list_end scope ts) (lists_next (lists_closed ls) (with_initialiser l i) ls) (λ b. next_list (with_initialiser l i) ls (lists_closed ls) (let j = h.0 in omega (arith, j, k)) h.1 (λ v inner us m. lists_within ls v inner us h.1 m) b.0 b.1 b.2)
+lists_within : (limit : ℕ) (ls : List OpenList) (i : t.InitTree) (scope : Blocks) (ts : List Token) → ListsFit limit ls → init_depth i + length ls ≤ limit → Within (ListedFits limit) (lists_closed ls i scope ts)
+lists_within limit [] i scope ts h k = omega (arith, k)
+lists_within limit (l ∷ ls) i scope ts h k = then_any (ListedFits limit) (list_end scope ts) (lists_next (lists_closed ls) (with_initialiser l i) ls) (λ b. next_list limit (with_initialiser l i) ls (lists_closed ls) (let j = h.0 in omega (arith, j, k)) h.1 (λ v inner us m. lists_within limit ls v inner us h.1 m) b.0 b.1 b.2)
 
-kept_small : (around : ℕ) (a depth : ℕ) → nat_le around 256 ≡ true → nat_le depth (256 - around) ≡ true → depth + around ≤ 256
-kept_small around a depth h k = let p = leb-true around 256 h in let q = leb-true depth (256 - around) k in omega (arith, p, q)
+kept_small : (limit : ℕ) (around : ℕ) (a depth : ℕ) → nat_le around limit ≡ true → nat_le depth (limit - around) ≡ true → depth + around ≤ limit
+kept_small limit around a depth h k = let p = leb-true around limit h in let q = leb-true depth (limit - around) k in omega (arith, p, q)
 
-element_within : (around : ℕ) (scope : Blocks) (ts : List Token) → Within (λ e. expr_depth e + around ≤ 256) (element_read around scope ts)
-element_within around scope ts = then_within SmallExpr _ (expr_read 1 scope ts) (kept_within around) (expr_within 1 scope ts) (λ e rest behind h. within_if (λ v. expr_depth v + around ≤ 256) (nat_le around 256 && nat_le (expr_depth e) (256 - around)) (Ok (e, rest, behind)) (Err (large Depth 257)) (λ q. let two = both_true (nat_le around 256) (nat_le (expr_depth e) (256 - around)) q in kept_small around 0 (expr_depth e) two.0 two.1) (λ q. tt))
+element_within : (limit : ℕ) (around : ℕ) (scope : Blocks) (ts : List Token) → Within (λ e. expr_depth e + around ≤ limit) (element_read limit around scope ts)
+element_within limit around scope ts = then_within (SmallExpr limit) _ (expr_read limit 1 scope ts) (kept_within around) (expr_within limit 1 scope ts) (λ e rest behind h. within_if (λ v. expr_depth v + around ≤ limit) (nat_le around limit && nat_le (expr_depth e) (limit - around)) (Ok (e, rest, behind)) (Err (large Depth 257)) (λ q. let two = both_true (nat_le around limit) (nat_le (expr_depth e) (limit - around)) q in kept_small limit around 0 (expr_depth e) two.0 two.1) (λ q. tt))
 
-init_step_within : (ls : List OpenList) (scope : Blocks) (ts : List Token) → ListsFit ls → Within ListedFits (initialiser_step ls scope ts)
-init_step_within ls scope ts h = within_if ListedFits (is_here marks.OpenBrace ts) (list_begun ls scope ts) (element_read (length ls) scope ts >>= (λ e. lists_closed ls (t.value (pos_here ts) e.0) e.2 e.1))
-    (λ e. within_if ListedFits (nat_le (length ls) 254) (Ok (listed_open (empty_list (pos_here ts) ∷ ls), after_token ts, scope)) (Err (large Depth 257)) (λ q. let p = leb-true (length ls) 254 q in (omega (arith, p), h)) (λ q. tt))
-    (λ e. then_within (λ v. expr_depth v + length ls ≤ 256) ListedFits (element_read (length ls) scope ts) _ (element_within (length ls) scope ts) (λ v rest behind k. lists_within ls (t.value (pos_here ts) v) behind rest h k))
+init_step_within : (limit : ℕ) (ls : List OpenList) (scope : Blocks) (ts : List Token) → ListsFit limit ls → Within (ListedFits limit) (initialiser_step limit ls scope ts)
+init_step_within limit ls scope ts h = within_if (ListedFits limit) (is_here marks.OpenBrace ts) (list_begun limit ls scope ts) (element_read limit (length ls) scope ts >>= (λ e. lists_closed ls (t.value (pos_here ts) e.0) e.2 e.1))
+    (λ e. within_if (ListedFits limit) (nat_le (length ls) 254) (Ok (listed_open (empty_list (pos_here ts) ∷ ls), after_token ts, scope)) (Err (large Depth 257)) (λ q. let p = leb-true (length ls) 254 q in (omega (arith, p), h)) (λ q. tt))
+    (λ e. then_within (λ v. expr_depth v + length ls ≤ limit) (ListedFits limit) (element_read limit (length ls) scope ts) _ (element_within limit (length ls) scope ts) (λ v rest behind k. lists_within limit ls (t.value (pos_here ts) v) behind rest h k))
 
-init_next : (us : List Token) (r : Listed) (ts : List Token) (scope : Blocks) → ListedFits r → ((ls : List OpenList) (scope : Blocks) (ts : List Token) → ListsFit ls → Within (λ i. init_depth i ≤ 256) (initialiser_run us ls scope ts)) → Within (λ i. init_depth i ≤ 256) (initialiser_next (initialiser_run us) (r, ts, scope))
-init_next us (listed_whole i) ts scope h k = h
-init_next us (listed_open ls) ts scope h k = k ls scope ts h
+init_next : (limit : ℕ) (us : List Token) (r : Listed) (ts : List Token) (scope : Blocks) → ListedFits limit r → ((ls : List OpenList) (scope : Blocks) (ts : List Token) → ListsFit limit ls → Within (λ i. init_depth i ≤ limit) (initialiser_run limit us ls scope ts)) → Within (λ i. init_depth i ≤ limit) (initialiser_next (initialiser_run limit us) (r, ts, scope))
+init_next limit us (listed_whole i) ts scope h k = h
+init_next limit us (listed_open ls) ts scope h k = k ls scope ts h
 
-init_run : (us : List Token) (ls : List OpenList) (scope : Blocks) (ts : List Token) → ListsFit ls → Within (λ i. init_depth i ≤ 256) (initialiser_run us ls scope ts)
-init_run [] ls scope ts h = tt
-init_run (u ∷ us) ls scope ts h = then_within ListedFits _ (initialiser_step ls scope ts) (initialiser_next (initialiser_run us)) (init_step_within ls scope ts h) (λ r rest behind k. init_next us r rest behind k (λ ms inner vs q. init_run us ms inner vs q))
+init_run : (limit : ℕ) (us : List Token) (ls : List OpenList) (scope : Blocks) (ts : List Token) → ListsFit limit ls → Within (λ i. init_depth i ≤ limit) (initialiser_run limit us ls scope ts)
+init_run limit [] ls scope ts h = tt
+init_run limit (u ∷ us) ls scope ts h = then_within (ListedFits limit) _ (initialiser_step limit ls scope ts) (initialiser_next (initialiser_run limit us)) (init_step_within limit ls scope ts h) (λ r rest behind k. init_next limit us r rest behind k (λ ms inner vs q. init_run limit us ms inner vs q))
 
-optional_init_within : (unit : List Token) (scope : Blocks) (ts : List Token) → Within (λ o. of_option init_depth o ≤ 256) (optional_init_read unit scope ts)
-optional_init_within unit scope ts = within_if _ (is_here marks.Equal ts) (initialiser_read unit scope (after_token ts) >>= (λ i. Ok (Some i.0, i.1, i.2))) (Ok (None, ts, scope)) (λ e. map_within Some (λ i. init_depth i ≤ 256) (λ o. of_option init_depth o ≤ 256) (initialiser_read unit scope (after_token ts)) (init_run unit [] scope (after_token ts) tt) (λ i h. h)) (λ e. omega arith)
+optional_init_within : (limit : ℕ) (unit : List Token) (scope : Blocks) (ts : List Token) → Within (λ o. of_option init_depth o ≤ limit) (optional_init_read limit unit scope ts)
+optional_init_within limit unit scope ts = within_if _ (is_here marks.Equal ts) (initialiser_read limit unit scope (after_token ts) >>= (λ i. Ok (Some i.0, i.1, i.2))) (Ok (None, ts, scope)) (λ e. map_within Some (λ i. init_depth i ≤ limit) (λ o. of_option init_depth o ≤ limit) (initialiser_read limit unit scope (after_token ts)) (init_run limit unit [] scope (after_token ts) tt) (λ i h. h)) (λ e. omega arith)
 
 -- declarations
-one_deeper : {A : Type 0} (f : A → ℕ) (xs : List A) (x : A) → deepest f xs ≤ 256 → f x ≤ 256 → deepest f (xs ++ x ∷ []) ≤ 256
-one_deeper f [] x h k = omega (arith, k)
-one_deeper f (y ∷ xs) x h k = let rest = one_deeper f xs x (omega (arith, h)) k in omega (arith, h, rest)
+one_deeper : (limit : ℕ) → {A : Type 0} (f : A → ℕ) (xs : List A) (x : A) → deepest f xs ≤ limit → f x ≤ limit → deepest f (xs ++ x ∷ []) ≤ limit
+one_deeper limit f [] x h k = omega (arith, k)
+one_deeper limit f (y ∷ xs) x h k = let rest = one_deeper limit f xs x (omega (arith, h)) k in omega (arith, h, rest)
 
-abbrev SmallDeclarators : List t.InitDeclaratorTree → Type 0
-SmallDeclarators ds = deepest init_declarator_depth ds ≤ 256
+abbrev SmallDeclarators : (limit : ℕ) → List t.InitDeclaratorTree → Type 0
+SmallDeclarators limit ds = deepest init_declarator_depth ds ≤ limit
 
-abbrev SmallProgress : Progress → Type 0
-SmallProgress (all_declared ds) = SmallDeclarators ds
-SmallProgress (more_declared ds e) = SmallDeclarators ds × (declarator_depth e ≤ 256)
+abbrev SmallProgress : (limit : ℕ) → Progress → Type 0
+SmallProgress limit (all_declared ds) = SmallDeclarators limit ds
+SmallProgress limit (more_declared ds e) = SmallDeclarators limit ds × (declarator_depth e ≤ limit)
 
-behind_within : (naming : Naming) (ds : List t.InitDeclaratorTree) (scope : Blocks) (ts : List Token) → SmallDeclarators ds → Within SmallProgress (behind_declarator naming ds scope ts)
-behind_within naming ds scope ts h = within_if SmallProgress (is_here marks.Comma ts) (next_declarator naming ds scope (after_token ts)) (last_declarator ds scope ts)
-    (λ e. map_within (more_declared ds) (λ d. declarator_depth d ≤ 256) SmallProgress (named_read naming scope (after_token ts)) (named_within naming scope (after_token ts)) (λ d k. (h, k)))
-    (λ e. then_any SmallProgress (expected marks.Semicolon scope ts) (λ a. Ok (all_declared ds, a.0, a.1)) (λ a. h))
+behind_within : (limit : ℕ) (naming : Naming) (ds : List t.InitDeclaratorTree) (scope : Blocks) (ts : List Token) → SmallDeclarators limit ds → Within (SmallProgress limit) (behind_declarator limit naming ds scope ts)
+behind_within limit naming ds scope ts h = within_if (SmallProgress limit) (is_here marks.Comma ts) (next_declarator limit naming ds scope (after_token ts)) (last_declarator ds scope ts)
+    (λ e. map_within (more_declared ds) (λ d. declarator_depth d ≤ limit) (SmallProgress limit) (named_read limit naming scope (after_token ts)) (named_within limit naming scope (after_token ts)) (λ d k. (h, k)))
+    (λ e. then_any (SmallProgress limit) (expected marks.Semicolon scope ts) (λ a. Ok (all_declared ds, a.0, a.1)) (λ a. h))
 
-declarators_step_within : (unit : List Token) (naming : Naming) (ds : List t.InitDeclaratorTree) (e : t.DeclaratorTree) (scope : Blocks) (ts : List Token) → SmallDeclarators ds → declarator_depth e ≤ 256 → Within SmallProgress (declarators_step unit naming ds e scope ts)
-declarators_step_within unit naming ds e scope ts h k = then_within (λ o. of_option init_depth o ≤ 256) SmallProgress (optional_init_read unit scope ts) (λ i. behind_declarator naming (with_declarator ds e i.0) i.2 i.1) (optional_init_within unit scope ts)
-    (λ i rest behind j. behind_within naming (with_declarator ds e i) behind rest (one_deeper init_declarator_depth ds (record { declarator = e; init = i }) h (omega (arith, k, j))))
+declarators_step_within : (limit : ℕ) (unit : List Token) (naming : Naming) (ds : List t.InitDeclaratorTree) (e : t.DeclaratorTree) (scope : Blocks) (ts : List Token) → SmallDeclarators limit ds → declarator_depth e ≤ limit → Within (SmallProgress limit) (declarators_step limit unit naming ds e scope ts)
+declarators_step_within limit unit naming ds e scope ts h k = then_within (λ o. of_option init_depth o ≤ limit) (SmallProgress limit) (optional_init_read limit unit scope ts) (λ i. behind_declarator limit naming (with_declarator ds e i.0) i.2 i.1) (optional_init_within limit unit scope ts)
+    (λ i rest behind j. behind_within limit naming (with_declarator ds e i) behind rest (one_deeper limit init_declarator_depth ds (record { declarator = e; init = i }) h (omega (arith, k, j))))
 
-declarators_next_within : (unit : List Token) (naming : Naming) (us : List Token) (r : Progress) (ts : List Token) (scope : Blocks) → SmallProgress r → ((ds : List t.InitDeclaratorTree) (e : t.DeclaratorTree) (scope : Blocks) (ts : List Token) → SmallDeclarators ds → declarator_depth e ≤ 256 → Within SmallDeclarators (declarators_run unit naming us ds e scope ts)) → Within SmallDeclarators (declarators_next (declarators_run unit naming us) (r, ts, scope))
-declarators_next_within unit naming us (all_declared ds) ts scope h k = h
-declarators_next_within unit naming us (more_declared ds e) ts scope h k = k ds e scope ts h.0 h.1
+declarators_next_within : (limit : ℕ) (unit : List Token) (naming : Naming) (us : List Token) (r : Progress) (ts : List Token) (scope : Blocks) → SmallProgress limit r → ((ds : List t.InitDeclaratorTree) (e : t.DeclaratorTree) (scope : Blocks) (ts : List Token) → SmallDeclarators limit ds → declarator_depth e ≤ limit → Within (SmallDeclarators limit) (declarators_run limit unit naming us ds e scope ts)) → Within (SmallDeclarators limit) (declarators_next (declarators_run limit unit naming us) (r, ts, scope))
+declarators_next_within limit unit naming us (all_declared ds) ts scope h k = h
+declarators_next_within limit unit naming us (more_declared ds e) ts scope h k = k ds e scope ts h.0 h.1
 
-declarators_within : (unit : List Token) (naming : Naming) (us : List Token) (ds : List t.InitDeclaratorTree) (e : t.DeclaratorTree) (scope : Blocks) (ts : List Token) → SmallDeclarators ds → declarator_depth e ≤ 256 → Within SmallDeclarators (declarators_run unit naming us ds e scope ts)
-declarators_within unit naming [] ds e scope ts h k = tt
-declarators_within unit naming (u ∷ us) ds e scope ts h k = then_within SmallProgress SmallDeclarators (declarators_step unit naming ds e scope ts) (declarators_next (declarators_run unit naming us)) (declarators_step_within unit naming ds e scope ts h k) (λ r rest behind j. declarators_next_within unit naming us r rest behind j (λ es d inner vs p q. declarators_within unit naming us es d inner vs p q))
+declarators_within : (limit : ℕ) (unit : List Token) (naming : Naming) (us : List Token) (ds : List t.InitDeclaratorTree) (e : t.DeclaratorTree) (scope : Blocks) (ts : List Token) → SmallDeclarators limit ds → declarator_depth e ≤ limit → Within (SmallDeclarators limit) (declarators_run limit unit naming us ds e scope ts)
+declarators_within limit unit naming [] ds e scope ts h k = tt
+declarators_within limit unit naming (u ∷ us) ds e scope ts h k = then_within (SmallProgress limit) (SmallDeclarators limit) (declarators_step limit unit naming ds e scope ts) (declarators_next (declarators_run limit unit naming us)) (declarators_step_within limit unit naming ds e scope ts h k) (λ r rest behind j. declarators_next_within limit unit naming us r rest behind j (λ es d inner vs p q. declarators_within limit unit naming us es d inner vs p q))
 
-abbrev SmallDecl : t.DeclTree → Type 0
-SmallDecl d = decl_depth d ≤ 256
+abbrev SmallDecl : (limit : ℕ) → t.DeclTree → Type 0
+SmallDecl limit d = decl_depth d ≤ limit
 
-from_within : (unit : List Token) (q : t.SpecifiersTree) (e : t.DeclaratorTree) (scope : Blocks) (ts : List Token) → specifiers_depth q ≤ 256 → declarator_depth e ≤ 256 → Within SmallDecl (declaration_from unit q e scope ts)
-from_within unit q e scope ts h k = map_within (λ ds. record { specifiers = q; declarators = ds }) SmallDeclarators SmallDecl (declarators_read unit (naming_of q) e scope ts) (declarators_within unit (naming_of q) unit [] e scope ts (omega arith) k) (λ ds j. omega (arith, h, j))
+from_within : (limit : ℕ) (unit : List Token) (q : t.SpecifiersTree) (e : t.DeclaratorTree) (scope : Blocks) (ts : List Token) → specifiers_depth q ≤ limit → declarator_depth e ≤ limit → Within (SmallDecl limit) (declaration_from limit unit q e scope ts)
+from_within limit unit q e scope ts h k = map_within (λ ds. record { specifiers = q; declarators = ds }) (SmallDeclarators limit) (SmallDecl limit) (declarators_read limit unit (naming_of q) e scope ts) (declarators_within limit unit (naming_of q) unit [] e scope ts (omega arith) k) (λ ds j. omega (arith, h, j))
 
-declaration_within : (unit : List Token) (scope : Blocks) (ts : List Token) → Within SmallDecl (declaration_read unit scope ts)
-declaration_within unit scope ts = then_within (λ q. specifiers_depth q ≤ 256) SmallDecl (specifiers_read scope ts) _ (specifiers_within scope ts)
-    (λ q rest behind h. within_if SmallDecl (is_here marks.Semicolon rest) (Ok (empty_declaration q behind rest)) (declarators_begun unit q behind rest) (λ e. omega (arith, h))
-    (λ e. then_within (λ d. declarator_depth d ≤ 256) SmallDecl (named_read (naming_of q) behind rest) _ (named_within (naming_of q) behind rest) (λ d left inner k. from_within unit q d inner left h k)))
+declaration_within : (limit : ℕ) (unit : List Token) (scope : Blocks) (ts : List Token) → Within (SmallDecl limit) (declaration_read limit unit scope ts)
+declaration_within limit unit scope ts = then_within (λ q. specifiers_depth q ≤ limit) (SmallDecl limit) (specifiers_read limit scope ts) _ (specifiers_within limit scope ts)
+    (λ q rest behind h. within_if (SmallDecl limit) (is_here marks.Semicolon rest) (Ok (empty_declaration q behind rest)) (declarators_begun limit unit q behind rest) (λ e. omega (arith, h))
+    (λ e. then_within (λ d. declarator_depth d ≤ limit) (SmallDecl limit) (named_read limit (naming_of q) behind rest) _ (named_within limit (naming_of q) behind rest) (λ d left inner k. from_within limit unit q d inner left h k)))
 
-abbrev SmallDecls : List t.DeclTree → Type 0
-SmallDecls ds = deepest decl_depth ds ≤ 256
+abbrev SmallDecls : (limit : ℕ) → List t.DeclTree → Type 0
+SmallDecls limit ds = deepest decl_depth ds ≤ limit
 
-declarations_within : (unit : List Token) (us : List Token) (ds : List t.DeclTree) (scope : Blocks) (ts : List Token) → SmallDecls ds → Within SmallDecls (declarations_run unit us ds scope ts)
-declarations_within unit [] ds scope ts h = tt
-declarations_within unit (u ∷ us) ds scope ts h = within_if SmallDecls (begins_specifiers scope ts) (declaration_read unit scope ts >>= (λ e. declarations_run unit us (with_decl ds e.0) e.2 e.1)) (Ok (ds, ts, scope))
-    (λ e. then_within SmallDecl SmallDecls (declaration_read unit scope ts) _ (declaration_within unit scope ts) (λ d rest behind k. declarations_within unit us (with_decl ds d) behind rest (one_deeper decl_depth ds d h k)))
+declarations_within : (limit : ℕ) (unit : List Token) (us : List Token) (ds : List t.DeclTree) (scope : Blocks) (ts : List Token) → SmallDecls limit ds → Within (SmallDecls limit) (declarations_run limit unit us ds scope ts)
+declarations_within limit unit [] ds scope ts h = tt
+declarations_within limit unit (u ∷ us) ds scope ts h = within_if (SmallDecls limit) (begins_specifiers scope ts) (declaration_read limit unit scope ts >>= (λ e. declarations_run limit unit us (with_decl ds e.0) e.2 e.1)) (Ok (ds, ts, scope))
+    (λ e. then_within (SmallDecl limit) (SmallDecls limit) (declaration_read limit unit scope ts) _ (declaration_within limit unit scope ts) (λ d rest behind k. declarations_within limit unit us (with_decl ds d) behind rest (one_deeper limit decl_depth ds d h k)))
     (λ e. h)
 
 -- statements
-abbrev HeadFits : ℕ → Head → Type 0
-HeadFits n (in_label l m) = Unit {0}
-HeadFits n (in_case l e) = SmallExpr e
-HeadFits n (in_default l) = Unit {0}
-HeadFits n (in_else l e r) = SmallExpr e × (stmt_depth r + suc n ≤ 256) × (inner_depth r ≤ 256)
-HeadFits n (in_switch l e) = SmallExpr e
-HeadFits n (in_while l e) = SmallExpr e
-HeadFits n (in_for l e f g) = SmallOption e × SmallOption f × SmallOption g
+abbrev HeadFits : (limit : ℕ) → ℕ → Head → Type 0
+HeadFits limit n (in_label l m) = Unit {0}
+HeadFits limit n (in_case l e) = SmallExpr limit e
+HeadFits limit n (in_default l) = Unit {0}
+HeadFits limit n (in_else l e r) = SmallExpr limit e × (stmt_depth r + suc n ≤ limit) × (inner_depth r ≤ limit)
+HeadFits limit n (in_switch l e) = SmallExpr limit e
+HeadFits limit n (in_while l e) = SmallExpr limit e
+HeadFits limit n (in_for l e f g) = SmallOption limit e × SmallOption limit f × SmallOption limit g
 
-abbrev FrameFits : ℕ → Frame → Type 0
-FrameFits n (in_head h) = HeadFits n h
-FrameFits n (in_block l ds ss) = SmallDecls ds × (stmts_depth ss + suc n ≤ 256) × (inners_depth ss ≤ 256)
-FrameFits n (in_then l e) = SmallExpr e
-FrameFits n (in_do l) = Unit {0}
+abbrev FrameFits : (limit : ℕ) → ℕ → Frame → Type 0
+FrameFits limit n (in_head h) = HeadFits limit n h
+FrameFits limit n (in_block l ds ss) = SmallDecls limit ds × (stmts_depth ss + suc n ≤ limit) × (inners_depth ss ≤ limit)
+FrameFits limit n (in_then l e) = SmallExpr limit e
+FrameFits limit n (in_do l) = Unit {0}
 
-abbrev FramesFit : List Frame → Type 0
-FramesFit [] = Unit {0}
-FramesFit (f ∷ fs) = FrameFits (length fs) f × FramesFit fs
+abbrev FramesFit : (limit : ℕ) → List Frame → Type 0
+FramesFit limit [] = Unit {0}
+FramesFit limit (f ∷ fs) = FrameFits limit (length fs) f × FramesFit limit fs
 
 -- a statement in so many frames
-abbrev StmtFits : ℕ → t.StmtTree → Type 0
-StmtFits n s = (stmt_depth s + n ≤ 256) × (inner_depth s ≤ 256)
+abbrev StmtFits : (limit : ℕ) → ℕ → t.StmtTree → Type 0
+StmtFits limit n s = (stmt_depth s + n ≤ limit) × (inner_depth s ≤ limit)
 
-abbrev ReachedFits : Reached → Type 0
-ReachedFits (reached_end s) = StmtFits 0 s
-ReachedFits (reached_need fs) = FramesFit fs
+abbrev ReachedFits : (limit : ℕ) → Reached → Type 0
+ReachedFits limit (reached_end s) = StmtFits limit 0 s
+ReachedFits limit (reached_need fs) = FramesFit limit fs
 
-head_small : (n : ℕ) (h : Head) (s : t.StmtTree) → HeadFits n h → StmtFits (suc n) s → StmtFits n (completed h s)
-head_small n (in_label l m) s h k = (let a = k.0 in omega (arith, a), k.1)
-head_small n (in_case l e) s h k = (let a = k.0 in omega (arith, a), let b = k.1 in omega (arith, h, b))
-head_small n (in_default l) s h k = (let a = k.0 in omega (arith, a), k.1)
-head_small n (in_else l e r) s h k = (let a = k.0 in let b = h.1 in omega (arith, a, b), let a = k.1 in let b = h.2 in let c = h.0 in omega (arith, a, b, c))
-head_small n (in_switch l e) s h k = (let a = k.0 in omega (arith, a), let b = k.1 in omega (arith, h, b))
-head_small n (in_while l e) s h k = (let a = k.0 in omega (arith, a), let b = k.1 in omega (arith, h, b))
-head_small n (in_for l e f g) s h k = (let a = k.0 in omega (arith, a), let b = k.1 in let c = h.0 in let d = h.1 in let i = h.2 in omega (arith, b, c, d, i))
+head_small : (limit : ℕ) (n : ℕ) (h : Head) (s : t.StmtTree) → HeadFits limit n h → StmtFits limit (suc n) s → StmtFits limit n (completed h s)
+head_small limit n (in_label l m) s h k = (let a = k.0 in omega (arith, a), k.1)
+head_small limit n (in_case l e) s h k = (let a = k.0 in omega (arith, a), let b = k.1 in omega (arith, h, b))
+head_small limit n (in_default l) s h k = (let a = k.0 in omega (arith, a), k.1)
+head_small limit n (in_else l e r) s h k = (let a = k.0 in let b = h.1 in omega (arith, a, b), let a = k.1 in let b = h.2 in let c = h.0 in omega (arith, a, b, c))
+head_small limit n (in_switch l e) s h k = (let a = k.0 in omega (arith, a), let b = k.1 in omega (arith, h, b))
+head_small limit n (in_while l e) s h k = (let a = k.0 in omega (arith, a), let b = k.1 in omega (arith, h, b))
+head_small limit n (in_for l e f g) s h k = (let a = k.0 in omega (arith, a), let b = k.1 in let c = h.0 in let d = h.1 in let i = h.2 in omega (arith, b, c, d, i))
 
-abbrev WholeFits : ℕ → Plugged → Type 0
-WholeFits n (plugged_whole s) = StmtFits n s
-WholeFits n (plugged_open f) = ⊥
+abbrev WholeFits : (limit : ℕ) → ℕ → Plugged → Type 0
+WholeFits limit n (plugged_whole s) = StmtFits limit n s
+WholeFits limit n (plugged_open f) = ⊥
 
-do_small : (n : ℕ) (l : Pos) (s : t.StmtTree) (e : t.ExprTree) → StmtFits (suc n) s → SmallExpr e → StmtFits n (t.do_while l s e)
-do_small n l s e h k = (let a = h.0 in omega (arith, a), let b = h.1 in omega (arith, b, k))
+do_small : (limit : ℕ) (n : ℕ) (l : Pos) (s : t.StmtTree) (e : t.ExprTree) → StmtFits limit (suc n) s → SmallExpr limit e → StmtFits limit n (t.do_while l s e)
+do_small limit n l s e h k = (let a = h.0 in omega (arith, a), let b = h.1 in omega (arith, b, k))
 
-do_within : (n : ℕ) (l : Pos) (s : t.StmtTree) (scope : Blocks) (ts : List Token) → StmtFits (suc n) s → Within (WholeFits n) (do_plugged l s scope ts)
-do_within n l s scope ts h = then_any (WholeFits n) (expected marks.While scope ts) _ (λ a. mark_within (λ e. plugged_whole (t.do_while l s e)) SmallExpr (WholeFits n) marks.Semicolon (test_read a.1 a.0) (test_within a.1 a.0) (λ e k. do_small n l s e h k))
+do_within : (limit : ℕ) (n : ℕ) (l : Pos) (s : t.StmtTree) (scope : Blocks) (ts : List Token) → StmtFits limit (suc n) s → Within (WholeFits limit n) (do_plugged limit l s scope ts)
+do_within limit n l s scope ts h = then_any (WholeFits limit n) (expected marks.While scope ts) _ (λ a. mark_within (λ e. plugged_whole (t.do_while l s e)) (SmallExpr limit) (WholeFits limit n) marks.Semicolon (test_read limit a.1 a.0) (test_within limit a.1 a.0) (λ e k. do_small limit n l s e h k))
 
-then_small : (fs : List Frame) (l : Pos) (e : t.ExprTree) (s : t.StmtTree) (scope : Blocks) (ts : List Token) (b : Bool) → FramesFit fs → SmallExpr e → StmtFits (suc (length fs)) s → ((r : t.StmtTree) → StmtFits (length fs) r → Within ReachedFits (all_plugged fs r scope ts))
-    → Within ReachedFits ((if b then Ok (plugged_open (in_head (in_else l e s)), after_token ts, scope) else Ok (plugged_whole (t.if_stmt l e s t.no_stmt), ts, scope)) >>= plugged_next (all_plugged fs) fs)
-then_small fs l e s scope ts true h j k f = ((j, k.0, k.1), h)
-then_small fs l e s scope ts false h j k f = f (t.if_stmt l e s t.no_stmt) (let a = k.0 in omega (arith, a), let b = k.1 in omega (arith, j, b))
+then_small : (limit : ℕ) (fs : List Frame) (l : Pos) (e : t.ExprTree) (s : t.StmtTree) (scope : Blocks) (ts : List Token) (b : Bool) → FramesFit limit fs → SmallExpr limit e → StmtFits limit (suc (length fs)) s → ((r : t.StmtTree) → StmtFits limit (length fs) r → Within (ReachedFits limit) (all_plugged limit fs r scope ts))
+    → Within (ReachedFits limit) ((if b then Ok (plugged_open (in_head (in_else l e s)), after_token ts, scope) else Ok (plugged_whole (t.if_stmt l e s t.no_stmt), ts, scope)) >>= plugged_next (all_plugged limit fs) fs)
+then_small limit fs l e s scope ts true h j k f = ((j, k.0, k.1), h)
+then_small limit fs l e s scope ts false h j k f = f (t.if_stmt l e s t.no_stmt) (let a = k.0 in omega (arith, a), let b = k.1 in omega (arith, j, b))
 
-whole_next : (fs : List Frame) (r : Plugged) (ts : List Token) (scope : Blocks) → WholeFits (length fs) r → ((s : t.StmtTree) (scope : Blocks) (ts : List Token) → StmtFits (length fs) s → Within ReachedFits (all_plugged fs s scope ts)) → Within ReachedFits (plugged_next (all_plugged fs) fs (r, ts, scope))
-whole_next fs (plugged_whole s) ts scope h k = k s scope ts h
-whole_next fs (plugged_open f) ts scope h k = absurd h
+whole_next : (limit : ℕ) (fs : List Frame) (r : Plugged) (ts : List Token) (scope : Blocks) → WholeFits limit (length fs) r → ((s : t.StmtTree) (scope : Blocks) (ts : List Token) → StmtFits limit (length fs) s → Within (ReachedFits limit) (all_plugged limit fs s scope ts)) → Within (ReachedFits limit) (plugged_next (all_plugged limit fs) fs (r, ts, scope))
+whole_next limit fs (plugged_whole s) ts scope h k = k s scope ts h
+whole_next limit fs (plugged_open f) ts scope h k = absurd h
 
-all_within : (fs : List Frame) (s : t.StmtTree) (scope : Blocks) (ts : List Token) → FramesFit fs → StmtFits (length fs) s → Within ReachedFits (all_plugged fs s scope ts)
-all_within [] s scope ts h k = k
-all_within (in_head g ∷ fs) s scope ts h k = all_within fs (completed g s) scope ts h.1 (head_small (length fs) g s h.0 k)
-all_within (in_block l ds ss ∷ fs) s scope ts h k = ((h.0.0, let a = h.0.1 in let b = k.0 in omega (arith, a, b), let a = h.0.2 in let b = k.1 in omega (arith, a, b)), h.1)
-all_within (in_then l e ∷ fs) s scope ts h k = then_small fs l e s scope ts (is_here marks.Else ts) h.1 h.0 k (λ r q. all_within fs r scope ts h.1 q)
-all_within (in_do l ∷ fs) s scope ts h k = then_within (WholeFits (length fs)) ReachedFits (do_plugged l s scope ts) (plugged_next (all_plugged fs) fs) (do_within (length fs) l s scope ts k) (λ r rest behind q. whole_next fs r rest behind q (λ v inner us m. all_within fs v inner us h.1 m))
+all_within : (limit : ℕ) (fs : List Frame) (s : t.StmtTree) (scope : Blocks) (ts : List Token) → FramesFit limit fs → StmtFits limit (length fs) s → Within (ReachedFits limit) (all_plugged limit fs s scope ts)
+all_within limit [] s scope ts h k = k
+all_within limit (in_head g ∷ fs) s scope ts h k = all_within limit fs (completed g s) scope ts h.1 (head_small limit (length fs) g s h.0 k)
+all_within limit (in_block l ds ss ∷ fs) s scope ts h k = ((h.0.0, let a = h.0.1 in let b = k.0 in omega (arith, a, b), let a = h.0.2 in let b = k.1 in omega (arith, a, b)), h.1)
+all_within limit (in_then l e ∷ fs) s scope ts h k = then_small limit fs l e s scope ts (is_here marks.Else ts) h.1 h.0 k (λ r q. all_within limit fs r scope ts h.1 q)
+all_within limit (in_do l ∷ fs) s scope ts h k = then_within (WholeFits limit (length fs)) (ReachedFits limit) (do_plugged limit l s scope ts) (plugged_next (all_plugged limit fs) fs) (do_within limit (length fs) l s scope ts k) (λ r rest behind q. whole_next limit fs r rest behind q (λ v inner us m. all_within limit fs v inner us h.1 m))
 
-abbrev BegunFits : List Frame → Begun → Type 0
-BegunFits fs (begun_open f) = FrameFits (length fs) f
-BegunFits fs (begun_decl d) = SmallDecl d
-BegunFits fs (begun_whole s) = StmtFits (length fs) s
-BegunFits fs begun_close = Unit {0}
+abbrev BegunFits : (limit : ℕ) → List Frame → Begun → Type 0
+BegunFits limit fs (begun_open f) = FrameFits limit (length fs) f
+BegunFits limit fs (begun_decl d) = SmallDecl limit d
+BegunFits limit fs (begun_whole s) = StmtFits limit (length fs) s
+BegunFits limit fs begun_close = Unit {0}
 
-simple_small : (n : ℕ) (s : t.StmtTree) (d : ℕ) → stmt_depth s ≡ 1 → inner_depth s ≡ d → d ≤ 256 → 1 + n ≤ 256 → StmtFits n s
-simple_small n s d e f h k = (omega (arith, e, k), omega (arith, f, h))
+simple_small : (limit : ℕ) (n : ℕ) (s : t.StmtTree) (d : ℕ) → stmt_depth s ≡ 1 → inner_depth s ≡ d → d ≤ limit → 1 + n ≤ limit → StmtFits limit n s
+simple_small limit n s d e f h k = (omega (arith, e, k), omega (arith, f, h))
 
-behind_word : (fs : List Frame) (w : Word) (l : Pos) (scope : Blocks) (ts : List Token) → 1 + length fs ≤ 256 → Within (BegunFits fs) (begun_behind w l scope ts)
-behind_word fs words.Case l scope ts h = map_within (λ e. begun_open (in_head (in_case l e))) SmallExpr (BegunFits fs) (case_read scope ts) (case_within scope ts) (λ e k. k)
-behind_word fs words.Default l scope ts h = then_any (BegunFits fs) (expected marks.Colon scope ts) _ (λ a. tt)
-behind_word fs words.If l scope ts h = map_within (λ e. begun_open (in_then l e)) SmallExpr (BegunFits fs) (test_read scope ts) (test_within scope ts) (λ e k. k)
-behind_word fs words.Switch l scope ts h = map_within (λ e. begun_open (in_head (in_switch l e))) SmallExpr (BegunFits fs) (test_read scope ts) (test_within scope ts) (λ e k. k)
-behind_word fs words.While l scope ts h = map_within (λ e. begun_open (in_head (in_while l e))) SmallExpr (BegunFits fs) (test_read scope ts) (test_within scope ts) (λ e k. k)
-behind_word fs words.Do l scope ts h = tt
-behind_word fs words.For l scope ts h = then_any (BegunFits fs) (expected marks.OpenParen scope ts) _ (λ a.
-    then_within SmallOption (BegunFits fs) (optional_read marks.Semicolon a.1 a.0) _ (optional_within marks.Semicolon a.1 a.0) (λ e us b j.
-    then_within SmallOption (BegunFits fs) (optional_read marks.Semicolon b us) _ (optional_within marks.Semicolon b us) (λ f vs c k.
-    then_within SmallOption (BegunFits fs) (optional_read marks.CloseParen c vs) _ (optional_within marks.CloseParen c vs) (λ g ws d i. (j, k, i)))))
-behind_word fs words.Goto l scope ts h = then_any (BegunFits fs) (name_read scope ts) _ (λ n. then_any (BegunFits fs) (expected marks.Semicolon n.2 n.1) _ (λ a. simple_small (length fs) (t.goto l n.0) 0 refl refl (omega arith) h))
-behind_word fs words.Continue l scope ts h = then_any (BegunFits fs) (expected marks.Semicolon scope ts) _ (λ a. simple_small (length fs) (t.continue l) 0 refl refl (omega arith) h)
-behind_word fs words.Break l scope ts h = then_any (BegunFits fs) (expected marks.Semicolon scope ts) _ (λ a. simple_small (length fs) (t.break l) 0 refl refl (omega arith) h)
-behind_word fs words.Return l scope ts h = map_within (λ e. begun_whole (t.return l e)) SmallOption (BegunFits fs) (optional_read marks.Semicolon scope ts) (optional_within marks.Semicolon scope ts) (λ e k. simple_small (length fs) (t.return l e) (of_option expr_depth e) refl refl k h)
-behind_word fs words.OpenBrace l scope ts h = (omega arith, omega (arith, h), omega arith)
+behind_word : (limit : ℕ) (fs : List Frame) (w : Word) (l : Pos) (scope : Blocks) (ts : List Token) → 1 + length fs ≤ limit → Within (BegunFits limit fs) (begun_behind limit w l scope ts)
+behind_word limit fs words.Case l scope ts h = map_within (λ e. begun_open (in_head (in_case l e))) (SmallExpr limit) (BegunFits limit fs) (case_read limit scope ts) (case_within limit scope ts) (λ e k. k)
+behind_word limit fs words.Default l scope ts h = then_any (BegunFits limit fs) (expected marks.Colon scope ts) _ (λ a. tt)
+behind_word limit fs words.If l scope ts h = map_within (λ e. begun_open (in_then l e)) (SmallExpr limit) (BegunFits limit fs) (test_read limit scope ts) (test_within limit scope ts) (λ e k. k)
+behind_word limit fs words.Switch l scope ts h = map_within (λ e. begun_open (in_head (in_switch l e))) (SmallExpr limit) (BegunFits limit fs) (test_read limit scope ts) (test_within limit scope ts) (λ e k. k)
+behind_word limit fs words.While l scope ts h = map_within (λ e. begun_open (in_head (in_while l e))) (SmallExpr limit) (BegunFits limit fs) (test_read limit scope ts) (test_within limit scope ts) (λ e k. k)
+behind_word limit fs words.Do l scope ts h = tt
+behind_word limit fs words.For l scope ts h = then_any (BegunFits limit fs) (expected marks.OpenParen scope ts) _ (λ a.
+    then_within (SmallOption limit) (BegunFits limit fs) (optional_read limit marks.Semicolon a.1 a.0) _ (optional_within limit marks.Semicolon a.1 a.0) (λ e us b j.
+    then_within (SmallOption limit) (BegunFits limit fs) (optional_read limit marks.Semicolon b us) _ (optional_within limit marks.Semicolon b us) (λ f vs c k.
+    then_within (SmallOption limit) (BegunFits limit fs) (optional_read limit marks.CloseParen c vs) _ (optional_within limit marks.CloseParen c vs) (λ g ws d i. (j, k, i)))))
+behind_word limit fs words.Goto l scope ts h = then_any (BegunFits limit fs) (name_read scope ts) _ (λ n. then_any (BegunFits limit fs) (expected marks.Semicolon n.2 n.1) _ (λ a. simple_small limit (length fs) (t.goto l n.0) 0 refl refl (omega arith) h))
+behind_word limit fs words.Continue l scope ts h = then_any (BegunFits limit fs) (expected marks.Semicolon scope ts) _ (λ a. simple_small limit (length fs) (t.continue l) 0 refl refl (omega arith) h)
+behind_word limit fs words.Break l scope ts h = then_any (BegunFits limit fs) (expected marks.Semicolon scope ts) _ (λ a. simple_small limit (length fs) (t.break l) 0 refl refl (omega arith) h)
+behind_word limit fs words.Return l scope ts h = map_within (λ e. begun_whole (t.return l e)) (SmallOption limit) (BegunFits limit fs) (optional_read limit marks.Semicolon scope ts) (optional_within limit marks.Semicolon scope ts) (λ e k. simple_small limit (length fs) (t.return l e) (of_option expr_depth e) refl refl k h)
+behind_word limit fs words.OpenBrace l scope ts h = (omega arith, omega (arith, h), omega arith)
 
 least_evaluated : (sign : Sign) → is_evaluated sign ≡ true → 1 ≤ least_depth sign false
 least_evaluated (signs.Name n) e = omega arith
@@ -271,109 +271,109 @@ least_word signs.Return w e = omega arith
 least_word signs.OpenBrace w e = omega arith
 least_word _ w e = absurd cc
 
-word_within : (fs : List Frame) (sign : Sign) (o : Option Word) (l : Pos) (scope : Blocks) (ts : List Token) → word_of sign ≡ o → length fs ≤ 256 - least_depth sign false → Within (BegunFits fs) (word_begun o l scope ts)
-word_within fs sign None l scope ts e h = tt
-word_within fs sign (Some w) l scope ts e h = behind_word fs w l scope (after_token ts) (let least = least_word sign w e in omega (arith, least, h))
+word_within : (limit : ℕ) (fs : List Frame) (sign : Sign) (o : Option Word) (l : Pos) (scope : Blocks) (ts : List Token) → word_of sign ≡ o → length fs ≤ limit - least_depth sign false → Within (BegunFits limit fs) (word_begun limit o l scope ts)
+word_within limit fs sign None l scope ts e h = tt
+word_within limit fs sign (Some w) l scope ts e h = behind_word limit fs w l scope (after_token ts) (let least = least_word sign w e in omega (arith, least, h))
 
-unlabelled_within : (fs : List Frame) (sign : Sign) (scope : Blocks) (ts : List Token) → length fs ≤ 256 - least_depth sign false → Within (BegunFits fs) (unlabelled_begun sign scope ts)
-unlabelled_within fs sign scope ts h = within_if (BegunFits fs) (is_evaluated sign) _ _
-    (λ e. map_within (λ o. begun_whole (t.eval (pos_here ts) o)) SmallOption (BegunFits fs) (optional_read marks.Semicolon scope ts) (optional_within marks.Semicolon scope ts) (λ o k. simple_small (length fs) (t.eval (pos_here ts) o) (of_option expr_depth o) refl refl k (let least = least_evaluated sign e in omega (arith, least, h))))
-    (λ e. word_within fs sign (word_of sign) (pos_here ts) scope ts refl h)
+unlabelled_within : (limit : ℕ) (fs : List Frame) (sign : Sign) (scope : Blocks) (ts : List Token) → length fs ≤ limit - least_depth sign false → Within (BegunFits limit fs) (unlabelled_begun limit sign scope ts)
+unlabelled_within limit fs sign scope ts h = within_if (BegunFits limit fs) (is_evaluated sign) _ _
+    (λ e. map_within (λ o. begun_whole (t.eval (pos_here ts) o)) (SmallOption limit) (BegunFits limit fs) (optional_read limit marks.Semicolon scope ts) (optional_within limit marks.Semicolon scope ts) (λ o k. simple_small limit (length fs) (t.eval (pos_here ts) o) (of_option expr_depth o) refl refl k (let least = least_evaluated sign e in omega (arith, least, h))))
+    (λ e. word_within limit fs sign (word_of sign) (pos_here ts) scope ts refl h)
 
-statement_begun_within : (fs : List Frame) (sign : Sign) (label : Bool) (scope : Blocks) (ts : List Token) → length fs ≤ 256 - least_depth sign label → Within (BegunFits fs) (statement_begun sign label scope ts)
-statement_begun_within fs sign true scope ts h = then_any (BegunFits fs) (name_read scope ts) _ (λ n. then_any (BegunFits fs) (expected marks.Colon n.2 n.1) _ (λ a. tt))
-statement_begun_within fs sign false scope ts h = unlabelled_within fs sign scope ts h
+statement_begun_within : (limit : ℕ) (fs : List Frame) (sign : Sign) (label : Bool) (scope : Blocks) (ts : List Token) → length fs ≤ limit - least_depth sign label → Within (BegunFits limit fs) (statement_begun limit sign label scope ts)
+statement_begun_within limit fs sign true scope ts h = then_any (BegunFits limit fs) (name_read scope ts) _ (λ n. then_any (BegunFits limit fs) (expected marks.Colon n.2 n.1) _ (λ a. tt))
+statement_begun_within limit fs sign false scope ts h = unlabelled_within limit fs sign scope ts h
 
 around_is : (fs : List Frame) → (place_in fs).around ≡ length fs
 around_is [] = refl
 around_is (f ∷ fs) = refl
 
-begun_at_within : (unit : List Token) (fs : List Frame) (scope : Blocks) (ts : List Token) → Within (BegunFits fs) (begun_at unit (place_in fs) scope ts)
-begun_at_within unit fs scope ts = within_if (BegunFits fs) ((place_in fs).in_block && is_mark marks.CloseBrace (sign_here ts)) (Ok (closed_here scope ts)) _ (λ e. tt)
-    (λ e. within_if (BegunFits fs) ((place_in fs).takes_declarations && starts_declaration (sign_here ts) (is_type_here scope ts) (colon_follows ts)) _ _
-    (λ f. map_within begun_decl SmallDecl (BegunFits fs) (declaration_read unit scope ts) (declaration_within unit scope ts) (λ d k. k))
-    (λ f. within_if (BegunFits fs) (nat_le (place_in fs).around (256 - least_depth (sign_here ts) (is_label (sign_here ts) (is_type_here scope ts) (colon_follows ts)))) _ (Err (large Depth 257))
-    (λ q. statement_begun_within fs (sign_here ts) (is_label (sign_here ts) (is_type_here scope ts) (colon_follows ts)) scope ts (subst (λ n. n ≤ 256 - least_depth (sign_here ts) (is_label (sign_here ts) (is_type_here scope ts) (colon_follows ts))) (around_is fs) (leb-true _ _ q)))
+begun_at_within : (limit : ℕ) (unit : List Token) (fs : List Frame) (scope : Blocks) (ts : List Token) → Within (BegunFits limit fs) (begun_at limit unit (place_in fs) scope ts)
+begun_at_within limit unit fs scope ts = within_if (BegunFits limit fs) ((place_in fs).in_block && is_mark marks.CloseBrace (sign_here ts)) (Ok (closed_here scope ts)) _ (λ e. tt)
+    (λ e. within_if (BegunFits limit fs) ((place_in fs).takes_declarations && starts_declaration (sign_here ts) (is_type_here scope ts) (colon_follows ts)) _ _
+    (λ f. map_within begun_decl (SmallDecl limit) (BegunFits limit fs) (declaration_read limit unit scope ts) (declaration_within limit unit scope ts) (λ d k. k))
+    (λ f. within_if (BegunFits limit fs) (nat_le (place_in fs).around (limit - least_depth (sign_here ts) (is_label (sign_here ts) (is_type_here scope ts) (colon_follows ts)))) _ (Err (large Depth 257))
+    (λ q. statement_begun_within limit fs (sign_here ts) (is_label (sign_here ts) (is_type_here scope ts) (colon_follows ts)) scope ts (subst (λ n. n ≤ limit - least_depth (sign_here ts) (is_label (sign_here ts) (is_type_here scope ts) (colon_follows ts))) (around_is fs) (leb-true _ _ q)))
     (λ q. tt)))
 
-declared_small : (fs : List Frame) (d : t.DeclTree) → FramesFit fs → SmallDecl d → FramesFit (with_declaration fs d)
-declared_small [] d h k = tt
-declared_small (in_head g ∷ fs) d h k = h
-declared_small (in_block l ds ss ∷ fs) d h k = ((one_deeper decl_depth ds d h.0.0 k, h.0.1, h.0.2), h.1)
-declared_small (in_then l e ∷ fs) d h k = h
-declared_small (in_do l ∷ fs) d h k = h
+declared_small : (limit : ℕ) (fs : List Frame) (d : t.DeclTree) → FramesFit limit fs → SmallDecl limit d → FramesFit limit (with_declaration fs d)
+declared_small limit [] d h k = tt
+declared_small limit (in_head g ∷ fs) d h k = h
+declared_small limit (in_block l ds ss ∷ fs) d h k = ((one_deeper limit decl_depth ds d h.0.0 k, h.0.1, h.0.2), h.1)
+declared_small limit (in_then l e ∷ fs) d h k = h
+declared_small limit (in_do l ∷ fs) d h k = h
 
-closed_within : (fs : List Frame) (scope : Blocks) (ts : List Token) → FramesFit fs → Within ReachedFits (block_closed fs scope ts)
-closed_within [] scope ts h = tt
-closed_within (in_head g ∷ fs) scope ts h = tt
-closed_within (in_block l ds ss ∷ fs) scope ts h = all_within fs (t.block l ds ss) scope ts h.1 (let a = h.0.1 in omega (arith, a), let a = h.0.0 in let b = h.0.2 in omega (arith, a, b))
-closed_within (in_then l e ∷ fs) scope ts h = tt
-closed_within (in_do l ∷ fs) scope ts h = tt
+closed_within : (limit : ℕ) (fs : List Frame) (scope : Blocks) (ts : List Token) → FramesFit limit fs → Within (ReachedFits limit) (block_closed limit fs scope ts)
+closed_within limit [] scope ts h = tt
+closed_within limit (in_head g ∷ fs) scope ts h = tt
+closed_within limit (in_block l ds ss ∷ fs) scope ts h = all_within limit fs (t.block l ds ss) scope ts h.1 (let a = h.0.1 in omega (arith, a), let a = h.0.0 in let b = h.0.2 in omega (arith, a, b))
+closed_within limit (in_then l e ∷ fs) scope ts h = tt
+closed_within limit (in_do l ∷ fs) scope ts h = tt
 
-behind_begun_within : (fs : List Frame) (r : Begun) (ts : List Token) (scope : Blocks) → FramesFit fs → BegunFits fs r → Within ReachedFits (behind_begun fs (r, ts, scope))
-behind_begun_within fs (begun_open f) ts scope h k = (k, h)
-behind_begun_within fs (begun_decl d) ts scope h k = declared_small fs d h k
-behind_begun_within fs (begun_whole s) ts scope h k = all_within fs s scope ts h k
-behind_begun_within fs begun_close ts scope h k = closed_within fs scope ts h
+behind_begun_within : (limit : ℕ) (fs : List Frame) (r : Begun) (ts : List Token) (scope : Blocks) → FramesFit limit fs → BegunFits limit fs r → Within (ReachedFits limit) (behind_begun limit fs (r, ts, scope))
+behind_begun_within limit fs (begun_open f) ts scope h k = (k, h)
+behind_begun_within limit fs (begun_decl d) ts scope h k = declared_small limit fs d h k
+behind_begun_within limit fs (begun_whole s) ts scope h k = all_within limit fs s scope ts h k
+behind_begun_within limit fs begun_close ts scope h k = closed_within limit fs scope ts h
 
-statement_next_within : (unit us : List Token) (r : Reached) (ts : List Token) (scope : Blocks) → ReachedFits r → ((fs : List Frame) (scope : Blocks) (ts : List Token) → FramesFit fs → Within (StmtFits 0) (statement_run unit us fs scope ts)) → Within (StmtFits 0) (statement_next (statement_run unit us) (r, ts, scope))
-statement_next_within unit us (reached_end s) ts scope h k = h
-statement_next_within unit us (reached_need fs) ts scope h k = k fs scope ts h
+statement_next_within : (limit : ℕ) (unit us : List Token) (r : Reached) (ts : List Token) (scope : Blocks) → ReachedFits limit r → ((fs : List Frame) (scope : Blocks) (ts : List Token) → FramesFit limit fs → Within (StmtFits limit 0) (statement_run limit unit us fs scope ts)) → Within (StmtFits limit 0) (statement_next (statement_run limit unit us) (r, ts, scope))
+statement_next_within limit unit us (reached_end s) ts scope h k = h
+statement_next_within limit unit us (reached_need fs) ts scope h k = k fs scope ts h
 
-statement_within : (unit us : List Token) (fs : List Frame) (scope : Blocks) (ts : List Token) → FramesFit fs → Within (StmtFits 0) (statement_run unit us fs scope ts)
-statement_within unit [] fs scope ts h = tt
-statement_within unit (u ∷ us) fs scope ts h = then_within ReachedFits (StmtFits 0) (statement_step unit fs scope ts) (statement_next (statement_run unit us))
-    (then_within (BegunFits fs) ReachedFits (begun_at unit (place_in fs) scope ts) (behind_begun fs) (begun_at_within unit fs scope ts) (λ r rest behind k. behind_begun_within fs r rest behind h k))
-    (λ r rest behind k. statement_next_within unit us r rest behind k (λ gs inner vs q. statement_within unit us gs inner vs q))
+statement_within : (limit : ℕ) (unit us : List Token) (fs : List Frame) (scope : Blocks) (ts : List Token) → FramesFit limit fs → Within (StmtFits limit 0) (statement_run limit unit us fs scope ts)
+statement_within limit unit [] fs scope ts h = tt
+statement_within limit unit (u ∷ us) fs scope ts h = then_within (ReachedFits limit) (StmtFits limit 0) (statement_step limit unit fs scope ts) (statement_next (statement_run limit unit us))
+    (then_within (BegunFits limit fs) (ReachedFits limit) (begun_at limit unit (place_in fs) scope ts) (behind_begun limit fs) (begun_at_within limit unit fs scope ts) (λ r rest behind k. behind_begun_within limit fs r rest behind h k))
+    (λ r rest behind k. statement_next_within limit unit us r rest behind k (λ gs inner vs q. statement_within limit unit us gs inner vs q))
 
 -- units
-abbrev SmallItem : t.ItemTree → Type 0
-SmallItem i = item_depth i ≤ 256
+abbrev SmallItem : (limit : ℕ) → t.ItemTree → Type 0
+SmallItem limit i = item_depth i ≤ limit
 
-body_within : (unit : List Token) (q : t.SpecifiersTree) (d : t.DeclaratorTree) (ds : List t.DeclTree) (scope : Blocks) (ts : List Token) → specifiers_depth q ≤ 256 → declarator_depth d ≤ 256 → SmallDecls ds → Within (λ f. function_depth f ≤ 256) (body_needed unit q d ds scope ts)
-body_within unit q d ds scope ts h j k = within_if (λ f. function_depth f ≤ 256) (is_here marks.OpenBrace ts) _ (unexpected ts)
-    (λ e. then_within (StmtFits 0) (λ f. function_depth f ≤ 256) (statement_read unit scope ts) _ (statement_within unit unit [] scope ts tt) (λ s rest behind m. let a = m.0 in let b = m.1 in omega (arith, h, j, k, a, b)))
+body_within : (limit : ℕ) (unit : List Token) (q : t.SpecifiersTree) (d : t.DeclaratorTree) (ds : List t.DeclTree) (scope : Blocks) (ts : List Token) → specifiers_depth q ≤ limit → declarator_depth d ≤ limit → SmallDecls limit ds → Within (λ f. function_depth f ≤ limit) (body_needed limit unit q d ds scope ts)
+body_within limit unit q d ds scope ts h j k = within_if (λ f. function_depth f ≤ limit) (is_here marks.OpenBrace ts) _ (unexpected ts)
+    (λ e. then_within (StmtFits limit 0) (λ f. function_depth f ≤ limit) (statement_read limit unit scope ts) _ (statement_within limit unit unit [] scope ts tt) (λ s rest behind m. let a = m.0 in let b = m.1 in omega (arith, h, j, k, a, b)))
     (λ e. tt)
 
-function_within : (unit : List Token) (q : t.SpecifiersTree) (d : t.DeclaratorTree) (scope : Blocks) (ts : List Token) → specifiers_depth q ≤ 256 → declarator_depth d ≤ 256 → Within (λ f. function_depth f ≤ 256) (function_read unit q d scope ts)
-function_within unit q d scope ts h j = then_within SmallDecls (λ f. function_depth f ≤ 256) (declarations_read unit (in_function d (opened scope)) ts) _ (declarations_within unit unit [] (in_function d (opened scope)) ts (omega arith)) (λ ds rest behind k. body_within unit q d ds behind rest h j k)
+function_within : (limit : ℕ) (unit : List Token) (q : t.SpecifiersTree) (d : t.DeclaratorTree) (scope : Blocks) (ts : List Token) → specifiers_depth q ≤ limit → declarator_depth d ≤ limit → Within (λ f. function_depth f ≤ limit) (function_read limit unit q d scope ts)
+function_within limit unit q d scope ts h j = then_within (SmallDecls limit) (λ f. function_depth f ≤ limit) (declarations_read limit unit (in_function d (opened scope)) ts) _ (declarations_within limit unit unit [] (in_function d (opened scope)) ts (omega arith)) (λ ds rest behind k. body_within limit unit q d ds behind rest h j k)
 
-declared_item_within : (unit : List Token) (q : t.SpecifiersTree) (scope : Blocks) (ts : List Token) → specifiers_depth q ≤ 256 → Within SmallItem (declared_item unit q scope ts)
-declared_item_within unit q scope ts h = then_within (λ d. declarator_depth d ≤ 256) SmallItem (named_read (naming_of q) scope ts) _ (named_within (naming_of q) scope ts)
-    (λ d rest behind j. within_if SmallItem (not (is_empty q) && goes_on (sign_here rest)) _ _
-    (λ e. map_within t.declaration SmallDecl SmallItem (declaration_from unit q d behind rest) (from_within unit q d behind rest h j) (λ v k. k))
-    (λ e. map_within t.definition (λ f. function_depth f ≤ 256) SmallItem (function_read unit q d behind rest) (function_within unit q d behind rest h j) (λ v k. k)))
+declared_item_within : (limit : ℕ) (unit : List Token) (q : t.SpecifiersTree) (scope : Blocks) (ts : List Token) → specifiers_depth q ≤ limit → Within (SmallItem limit) (declared_item limit unit q scope ts)
+declared_item_within limit unit q scope ts h = then_within (λ d. declarator_depth d ≤ limit) (SmallItem limit) (named_read limit (naming_of q) scope ts) _ (named_within limit (naming_of q) scope ts)
+    (λ d rest behind j. within_if (SmallItem limit) (not (is_empty q) && goes_on (sign_here rest)) _ _
+    (λ e. map_within t.declaration (SmallDecl limit) (SmallItem limit) (declaration_from limit unit q d behind rest) (from_within limit unit q d behind rest h j) (λ v k. k))
+    (λ e. map_within t.definition (λ f. function_depth f ≤ limit) (SmallItem limit) (function_read limit unit q d behind rest) (function_within limit unit q d behind rest h j) (λ v k. k)))
 
-item_within : (unit : List Token) (scope : Blocks) (ts : List Token) → Within SmallItem (item_read unit scope ts)
-item_within unit scope ts = then_within (λ q. specifiers_depth q ≤ 256) SmallItem (specifiers_read scope ts) _ (specifiers_within scope ts)
-    (λ q rest behind h. within_if SmallItem (not (is_empty q) && is_here marks.Semicolon rest) (Ok (t.declaration (record { specifiers = q; declarators = [] }), after_token rest, behind)) _ (λ e. omega (arith, h)) (λ e. declared_item_within unit q behind rest h))
+item_within : (limit : ℕ) (unit : List Token) (scope : Blocks) (ts : List Token) → Within (SmallItem limit) (item_read limit unit scope ts)
+item_within limit unit scope ts = then_within (λ q. specifiers_depth q ≤ limit) (SmallItem limit) (specifiers_read limit scope ts) _ (specifiers_within limit scope ts)
+    (λ q rest behind h. within_if (SmallItem limit) (not (is_empty q) && is_here marks.Semicolon rest) (Ok (t.declaration (record { specifiers = q; declarators = [] }), after_token rest, behind)) _ (λ e. omega (arith, h)) (λ e. declared_item_within limit unit q behind rest h))
 
-abbrev SmallItems : Result (List t.ItemTree) Fault → Type 0
-SmallItems (Ok is) = deepest item_depth is ≤ 256
-SmallItems (Err e) = Unit {0}
+abbrev SmallItems : (limit : ℕ) → Result (List t.ItemTree) Fault → Type 0
+SmallItems limit (Ok is) = deepest item_depth is ≤ limit
+SmallItems limit (Err e) = Unit {0}
 
-items_if : (b : Bool) (r q : Result (List t.ItemTree) Fault) → SmallItems r → SmallItems q → SmallItems (if b then r else q)
-items_if true r q h k = h
-items_if false r q h k = k
+items_if : (limit : ℕ) (b : Bool) (r q : Result (List t.ItemTree) Fault) → SmallItems limit r → SmallItems limit q → SmallItems limit (if b then r else q)
+items_if limit true r q h k = h
+items_if limit false r q h k = k
 
-items_step : (unit us : List Token) (is : List t.ItemTree) (r : Answer t.ItemTree) → deepest item_depth is ≤ 256 → Within SmallItem r → ((js : List t.ItemTree) (scope : Blocks) (ts : List Token) → deepest item_depth js ≤ 256 → SmallItems (items_run unit us js scope ts)) → SmallItems (r >>= (λ i. items_next (items_run unit us) (with_item is i.0) i.2 i.1))
-items_step unit us is (Ok (i, rest, scope)) h k f = let more = one_deeper item_depth is i h k in items_if (is_here marks.End rest) (Ok (with_item is i)) (items_run unit us (with_item is i) scope rest) more (f (with_item is i) scope rest more)
-items_step unit us is (Err e) h k f = tt
+items_step : (limit : ℕ) (unit us : List Token) (is : List t.ItemTree) (r : Answer t.ItemTree) → deepest item_depth is ≤ limit → Within (SmallItem limit) r → ((js : List t.ItemTree) (scope : Blocks) (ts : List Token) → deepest item_depth js ≤ limit → SmallItems limit (items_run limit unit us js scope ts)) → SmallItems limit (r >>= (λ i. items_next (items_run limit unit us) (with_item is i.0) i.2 i.1))
+items_step limit unit us is (Ok (i, rest, scope)) h k f = let more = one_deeper limit item_depth is i h k in items_if limit (is_here marks.End rest) (Ok (with_item is i)) (items_run limit unit us (with_item is i) scope rest) more (f (with_item is i) scope rest more)
+items_step limit unit us is (Err e) h k f = tt
 
-items_within : (unit us : List Token) (is : List t.ItemTree) (scope : Blocks) (ts : List Token) → deepest item_depth is ≤ 256 → SmallItems (items_run unit us is scope ts)
-items_within unit [] is scope ts h = tt
-items_within unit (u ∷ us) is scope ts h = items_step unit us is (item_read unit scope ts) h (item_within unit scope ts) (λ js inner vs k. items_within unit us js inner vs k)
+items_within : (limit : ℕ) (unit us : List Token) (is : List t.ItemTree) (scope : Blocks) (ts : List Token) → deepest item_depth is ≤ limit → SmallItems limit (items_run limit unit us is scope ts)
+items_within limit unit [] is scope ts h = tt
+items_within limit unit (u ∷ us) is scope ts h = items_step limit unit us is (item_read limit unit scope ts) h (item_within limit unit scope ts) (λ js inner vs k. items_within limit unit us js inner vs k)
 
-unit_small : (r : Result (List t.ItemTree) Fault) (unit : t.UnitTree) → SmallItems r → (r >>= (λ is. Ok (record { items = is }))) ≡ Ok unit → unit_depth unit ≤ 256
-unit_small (Ok is) unit h e = subst (λ u. unit_depth u ≤ 256) (ok_is (record { items = is }) unit e) h
-unit_small (Err e) unit h f = absurd cc
+unit_small : (limit : ℕ) (r : Result (List t.ItemTree) Fault) (unit : t.UnitTree) → SmallItems limit r → (r >>= (λ is. Ok (record { items = is }))) ≡ Ok unit → unit_depth unit ≤ limit
+unit_small limit (Ok is) unit h e = subst (λ u. unit_depth u ≤ limit) (ok_is (record { items = is }) unit e) h
+unit_small limit (Err e) unit h f = absurd cc
 
-some_small : (ts : List Token) (unit : t.UnitTree) (b : Bool) → SmallItems (items_read ts (no_types ∷ []) ts) → (if b then Err nothing_there else whole_unit ts) ≡ Ok unit → unit_depth unit ≤ 256
-some_small ts unit true h e = absurd cc
-some_small ts unit false h e = unit_small (items_read ts (no_types ∷ []) ts) unit h e
+some_small : (limit : ℕ) (ts : List Token) (unit : t.UnitTree) (b : Bool) → SmallItems limit (items_read limit ts (no_types ∷ []) ts) → (if b then Err nothing_there else whole_unit limit ts) ≡ Ok unit → unit_depth unit ≤ limit
+some_small limit ts unit true h e = absurd cc
+some_small limit ts unit false h e = unit_small limit (items_read limit ts (no_types ∷ []) ts) unit h e
 
 pub units_are_units : UnitsAreUnits
-units_are_units ts unit once same = record {
-  derives = units_are_derived ts unit once same;
-  within = some_small ts unit (nat_eq (length ts) 0) (items_within ts ts [] (no_types ∷ []) ts (omega arith)) same;
+units_are_units limit ts unit once same = record {
+  derives = units_are_derived limit ts unit once same;
+  within = some_small limit ts unit (nat_eq (length ts) 0) (items_within limit ts ts [] (no_types ∷ []) ts (omega arith)) same;
 }

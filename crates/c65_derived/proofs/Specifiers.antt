@@ -1,5 +1,5 @@
 -- Among specifiers, members and enumerators.
-use Rattle.std.proofs.Common.{◌≡◌, List, [], ◌∷◌, ◌++◌, Bool, true, false, refl, sym, ap, ◌∙◌, subst}
+use Rattle.std.proofs.Common.{◌≡◌, ℕ, List, [], ◌∷◌, ◌++◌, Bool, true, false, refl, sym, ap, ◌∙◌, subst}
 use Rattle.std.proofs.lemmas.List.{append-nil}
 use Rattle.std.specs.Prelude.{Option, None, Some, is_some, if◌then◌else◌}
 use Rattle.c65_base.specs.declared.names.Name.{Name}
@@ -56,15 +56,15 @@ pub record ListedRead (w : Start) (fs : List Frame) (q : Listed) (scope : Blocks
   pub stand : Stand w fs
   pub reads : (fronts w fs ▸ listed (scope_at w fs) (storage_at w fs) q) front
 
-pub member_step_good : (w : Start) (part : MembersPart) (fs : List Frame) (front : List Token) (tok : Token) (scope : Blocks) (sign : Sign) → Says (member_scope (scope_at w fs) part) sign tok.kind → Holds w fs (member part) scope front → Good w front tok scope (member_step part fs tok.pos sign)
+pub member_step_good : (limit : ℕ) (w : Start) (part : MembersPart) (fs : List Frame) (front : List Token) (tok : Token) (scope : Blocks) (sign : Sign) → Says (member_scope (scope_at w fs) part) sign tok.kind → Holds w fs (member part) scope front → Good w front tok scope (member_step limit part fs tok.pos sign)
 unfolding member_step
-member_step_good w part fs front tok scope signs.Colon s h = record {
+member_step_good limit w part fs front tok scope signs.Colon s h = record {
   scope_is = h.scope_is;
   stand = (h.fits, h.stand);
   fits = tt;
   reads = attach _ _ h.reads ([], tok ∷ [], refl, (refl, refl), is_one tok _ s);
 }
-member_step_good w part fs front tok scope sign s h = declarator_good w (in_member part tok.pos ∷ fs) (sorts.Member part.specifiers.has_type) front tok scope sign s (record {
+member_step_good limit w part fs front tok scope sign s h = declarator_good limit w (in_member part tok.pos ∷ fs) (sorts.Member part.specifiers.has_type) front tok scope sign s (record {
   scope_is = h.scope_is;
   stand = (h.fits, h.stand);
   sort_is = refl;
@@ -73,9 +73,9 @@ member_step_good w part fs front tok scope sign s h = declarator_good w (in_memb
   reads = h.reads;
 })
 
-end_listed_good : (w : Start) (q : Listed) (fs : List Frame) (front : List Token) (tok : Token) (scope : Blocks) (sign : Sign) → Says (after_specifiers (scope_at w fs) q.tree) sign tok.kind → ListedRead w fs q scope front → Good w front tok scope (end_listed q fs tok.pos sign)
+end_listed_good : (limit : ℕ) (w : Start) (q : Listed) (fs : List Frame) (front : List Token) (tok : Token) (scope : Blocks) (sign : Sign) → Says (after_specifiers (scope_at w fs) q.tree) sign tok.kind → ListedRead w fs q scope front → Good w front tok scope (end_listed limit q fs tok.pos sign)
 unfolding end_listed
-end_listed_good w q (in_type at purpose ∷ fs) front tok scope sign s h = declarator_good w (in_type_declarator at purpose q.tree ∷ fs) sorts.Abstract front tok scope sign s (record {
+end_listed_good limit w q (in_type at purpose ∷ fs) front tok scope sign s h = declarator_good limit w (in_type_declarator at purpose q.tree ∷ fs) sorts.Abstract front tok scope sign s (record {
   scope_is = h.scope_is;
   stand = h.stand;
   sort_is = refl;
@@ -83,7 +83,7 @@ end_listed_good w q (in_type at purpose ∷ fs) front tok scope sign s h = decla
   bare = λ e. tt;
   reads = map_right (λ xs p. map_right (λ ys r. r.1) p) (regroup h.reads);
 })
-end_listed_good w q (in_params part ∷ fs) front tok scope sign s h = declarator_good w (in_param part q ∷ fs) (sorts.Param q.has_type) front tok scope sign s (record {
+end_listed_good limit w q (in_params part ∷ fs) front tok scope sign s h = declarator_good limit w (in_param part q ∷ fs) (sorts.Param q.has_type) front tok scope sign s (record {
   scope_is = h.scope_is;
   stand = h.stand;
   sort_is = refl;
@@ -91,13 +91,13 @@ end_listed_good w q (in_params part ∷ fs) front tok scope sign s h = declarato
   bare = λ e. tt;
   reads = regroup h.reads;
 })
-end_listed_good w q (in_members body ∷ fs) front tok scope sign s h = member_step_good w (record { body = body; specifiers = q; members = t.no_more_members }) fs front tok scope sign s (record {
+end_listed_good limit w q (in_members body ∷ fs) front tok scope sign s h = member_step_good limit w (record { body = body; specifiers = q; members = t.no_more_members }) fs front tok scope sign s (record {
   scope_is = h.scope_is;
   stand = h.stand.1;
   fits = h.stand.0;
   reads = map_right (λ xs p. (xs, [], sym (append-nil xs), p, ([], [], refl, refl, refl))) (regroup h.reads);
 })
-end_listed_good w q _ front tok scope sign s h = tt
+end_listed_good limit w q _ front tok scope sign s h = tt
 
 first_or_twice : (o : Option Pos) (l : Pos) → first_or o (first_or o l) ≡ first_or o l
 first_or_twice None l = refl
@@ -116,50 +116,50 @@ none_or sc storage None l t.no_specifiers ts b e p = (refl, p)
 none_or sc storage (Some first) l t.no_specifiers ts b e p = absurd (true_false (b))
 none_or sc storage first l (t.and_specifier qs q) ts b e p = ((refl, e), p)
 
-end_good : (w : Start) (q : Listing) (fs : List Frame) (front : List Token) (tok : Token) (scope : Blocks) (sign : Sign) → Says (after_list (scope_at w fs) q.items) sign tok.kind → Holds w fs (specifiers q) scope front → Good w front tok scope (end_specifiers q fs tok.pos sign)
+end_good : (limit : ℕ) (w : Start) (q : Listing) (fs : List Frame) (front : List Token) (tok : Token) (scope : Blocks) (sign : Sign) → Says (after_list (scope_at w fs) q.items) sign tok.kind → Holds w fs (specifiers q) scope front → Good w front tok scope (end_specifiers limit q fs tok.pos sign)
 unfolding end_specifiers
-end_good w q [] front tok scope sign s h =
+end_good limit w q [] front tok scope sign s h =
     let p = at_start (listing w.scope q) w front h.reads in
     (h.scope_is, none_or w.scope w.storage q.first tok.pos q.items front p.0.begun (first_is q tok.pos p.0) (subst (λ b. g.specifier_list w.scope b q.items front) h.fits p.1))
-end_good w q (f ∷ fs) front tok scope sign s h = good_if w front tok scope (is_some q.first) _ fail
-    (λ e. end_listed_good w (ended q tok.pos) (f ∷ fs) front tok scope sign s (record {
+end_good limit w q (f ∷ fs) front tok scope sign s h = good_if w front tok scope (is_some q.first) _ fail
+    (λ e. end_listed_good limit w (ended q tok.pos) (f ∷ fs) front tok scope sign s (record {
       scope_is = h.scope_is;
       stand = h.stand;
       reads = map_right (λ xs p. (record { typed = p.0.typed; typedefs = p.0.typedefs }, ((not_empty _ _ e p.0.begun, first_is q tok.pos p.0), subst (λ b. g.specifier_list (scope_at w (f ∷ fs)) b q.items xs) h.fits p.1))) h.reads;
     }))
     (λ e. tt)
 
-pub specifiers_good : (w : Start) (q : Listing) (fs : List Frame) (front : List Token) (tok : Token) (scope : Blocks) (sign : Sign) → Says (after_list (scope_at w fs) q.items) sign tok.kind → Holds w fs (specifiers q) scope front → Good w front tok scope (specifiers_step q fs tok.pos sign)
+pub specifiers_good : (limit : ℕ) (w : Start) (q : Listing) (fs : List Frame) (front : List Token) (tok : Token) (scope : Blocks) (sign : Sign) → Says (after_list (scope_at w fs) q.items) sign tok.kind → Holds w fs (specifiers q) scope front → Good w front tok scope (specifiers_step limit q fs tok.pos sign)
 unfolding specifiers_step
-specifiers_good w q fs front tok scope (signs.Word wd) s h = record {
+specifiers_good limit w q fs front tok scope (signs.Word wd) s h = record {
   scope_is = h.scope_is;
   stand = h.stand;
   fits = h.fits;
   reads = map_right (λ xs p. listed_more (scope_at w fs) q tok.pos _ _ false (one tok.pos (kinds.Keyword (word_keyword _))) xs p refl (type_word_is wd) refl (λ ys r. r)) (attach _ _ h.reads (is_one tok _ s));
 }
-specifiers_good w q fs front tok scope (signs.Storage c) s h = good_if w front tok scope q.takes_storage (goes fs (specifiers (with_storage q tok.pos c))) _
+specifiers_good limit w q fs front tok scope (signs.Storage c) s h = good_if w front tok scope q.takes_storage (goes fs (specifiers (with_storage q tok.pos c))) _
     (λ e. record {
       scope_is = h.scope_is;
       stand = h.stand;
       fits = h.fits;
       reads = map_right (λ xs p. listed_more (scope_at w fs) q tok.pos (t.storage tok.pos c) false _ (one tok.pos (kinds.Keyword (storage_keyword c))) xs p refl refl (typedef_word_is c) (λ ys r. (e, r))) (attach _ _ h.reads (is_one tok _ s));
     })
-    (λ e. end_good w q fs front tok scope (signs.Storage c) s h)
-specifiers_good w q fs front tok scope (signs.Tag wd) s h = record {
+    (λ e. end_good limit w q fs front tok scope (signs.Storage c) s h)
+specifiers_good limit w q fs front tok scope (signs.Tag wd) s h = record {
   scope_is = h.scope_is;
   stand = h.stand;
   fits = h.fits;
   reads = attach _ _ h.reads (is_one tok _ s);
 }
-specifiers_good w q fs front tok scope (signs.Name n true) s h = good_if w front tok scope q.has_type _ (goes fs (specifiers (with_typedef_name q tok.pos n)))
-    (λ e. end_good w q fs front tok scope (signs.Name n true) s h)
+specifiers_good limit w q fs front tok scope (signs.Name n true) s h = good_if w front tok scope q.has_type _ (goes fs (specifiers (with_typedef_name q tok.pos n)))
+    (λ e. end_good limit w q fs front tok scope (signs.Name n true) s h)
     (λ e. record {
       scope_is = h.scope_is;
       stand = h.stand;
       fits = h.fits;
       reads = map_right (λ xs p. listed_more (scope_at w fs) q tok.pos (t.typedef_name tok.pos n) true false (one tok.pos (kinds.Name n)) xs p refl refl refl (λ ys r. ((sym (p.3.0.typed) ∙ e, s.1), r))) (attach _ _ h.reads (is_one tok _ s.0));
     })
-specifiers_good w q fs front tok scope sign s h = end_good w q fs front tok scope sign s h
+specifiers_good limit w q fs front tok scope sign s h = end_good limit w q fs front tok scope sign s h
 
 enum_is : (wd : TagWord) → is_enum wd ≡ true → tag_word wd ≡ keywords.Enum
 enum_is tags.Struct e = absurd cc
@@ -171,11 +171,11 @@ union_is tags.Struct e = refl
 union_is tags.Union e = refl
 union_is tags.Enum e = absurd cc
 
-open_body_good : (w : Start) (part : TagPart) (n : Option Name) (fs : List Frame) (front : List Token) (tok : Token) (scope : Blocks)
+open_body_good : (limit : ℕ) (w : Start) (part : TagPart) (n : Option Name) (fs : List Frame) (front : List Token) (tok : Token) (scope : Blocks)
     → tok.kind ≡ kinds.Punct puncts.OpenBrace → scope ≡ after_list (scope_at w fs) part.outer.items ∷ outer_at w fs → Stand w fs → part.outer.takes_storage ≡ storage_at w fs
-    → (fronts w fs ▸ (tag_front (scope_at w fs) part ▸ optional_name n)) front → Good w front tok scope (open_body part n fs)
+    → (fronts w fs ▸ (tag_front (scope_at w fs) part ▸ optional_name n)) front → Good w front tok scope (open_body limit part n fs)
 unfolding open_body
-open_body_good w part n fs front tok scope s scope_is stand fits h = good_if w front tok scope (is_enum part.word) (goes fs (enumerator (enum_of part n))) _
+open_body_good limit w part n fs front tok scope s scope_is stand fits h = good_if w front tok scope (is_enum part.word) (goes fs (enumerator (enum_of part n))) _
     (λ e. record {
       scope_is = scope_is;
       stand = stand;
@@ -189,11 +189,11 @@ open_body_good w part n fs front tok scope s scope_is stand fits h = good_if w f
       reads = listing_begun w (in_members (body_of part n) ∷ fs) (after_list (scope_at w fs) part.outer.items) false (front ++ tok ∷ []) (map_right (λ xs p. (xs, [], sym (append-nil xs), map_left (λ ys q. map_left (λ zs r. map_right (λ vs u. subst (λ k. word part.pos k vs) (union_is part.word e) u) r) q) p, refl)) (attach _ _ h (is_some_one tok _ s)));
     }))
 
-pub tag_good : (w : Start) (part : TagPart) (fs : List Frame) (front : List Token) (tok : Token) (scope : Blocks) (sc : Scope) (sign : Sign) → Says sc sign tok.kind → Holds w fs (tag part) scope front → Good w front tok scope (tag_step part fs sign)
+pub tag_good : (limit : ℕ) (w : Start) (part : TagPart) (fs : List Frame) (front : List Token) (tok : Token) (scope : Blocks) (sc : Scope) (sign : Sign) → Says sc sign tok.kind → Holds w fs (tag part) scope front → Good w front tok scope (tag_step limit part fs sign)
 unfolding tag_step
-tag_good w part fs front tok scope sc (signs.Name n is_type) s h = record { scope_is = h.scope_is; stand = h.stand; fits = h.fits; reads = attach _ _ h.reads (is_some_one tok _ s.0) }
-tag_good w part fs front tok scope sc signs.OpenBrace s h = open_body_good w part None fs front tok scope s h.scope_is h.stand h.fits (map_right (λ xs p. behind_nothing p) h.reads)
-tag_good w part fs front tok scope sc _ s h = tt
+tag_good limit w part fs front tok scope sc (signs.Name n is_type) s h = record { scope_is = h.scope_is; stand = h.stand; fits = h.fits; reads = attach _ _ h.reads (is_some_one tok _ s.0) }
+tag_good limit w part fs front tok scope sc signs.OpenBrace s h = open_body_good limit w part None fs front tok scope s h.scope_is h.stand h.fits (map_right (λ xs p. behind_nothing p) h.reads)
+tag_good limit w part fs front tok scope sc _ s h = tt
 
 tag_built : (b : Scope) (storage typed : Bool) (l : Pos) (wd : TagWord) (n : Name) (ts : List Token) → (word l (tag_word wd) ▸ some (kinds.Name n)) ts → g.specifier b storage typed (tag_tree l wd n) ts
 tag_built b storage typed l tags.Struct n ts p = map_right (λ xs q. (xs, [], sym (append-nil xs), q, (refl, refl))) p
@@ -220,18 +220,18 @@ tag_after b qs l tags.Struct n = refl
 tag_after b qs l tags.Union n = refl
 tag_after b qs l tags.Enum n = refl
 
-tag_ends : (w : Start) (part : TagPart) (n : Name) (fs : List Frame) (front : List Token) (tok : Token) (scope : Blocks) (sign : Sign) → Says (after_list (scope_at w fs) part.outer.items) sign tok.kind → Holds w fs (tag_name part n) scope front → Good w front tok scope (specifiers_step (with_tag part n) fs tok.pos sign)
-tag_ends w part n fs front tok scope sign s h = specifiers_good w (with_tag part n) fs front tok scope sign (subst (λ b. Says b sign tok.kind) (tag_after (scope_at w fs) part.outer.items part.pos part.word n) s) (record {
+tag_ends : (limit : ℕ) (w : Start) (part : TagPart) (n : Name) (fs : List Frame) (front : List Token) (tok : Token) (scope : Blocks) (sign : Sign) → Says (after_list (scope_at w fs) part.outer.items) sign tok.kind → Holds w fs (tag_name part n) scope front → Good w front tok scope (specifiers_step limit (with_tag part n) fs tok.pos sign)
+tag_ends limit w part n fs front tok scope sign s h = specifiers_good limit w (with_tag part n) fs front tok scope sign (subst (λ b. Says b sign tok.kind) (tag_after (scope_at w fs) part.outer.items part.pos part.word n) s) (record {
   scope_is = h.scope_is ∙ ap (λ b. b ∷ outer_at w fs) (tag_after (scope_at w fs) part.outer.items part.pos part.word n);
   stand = h.stand;
   fits = h.fits;
   reads = map_right (λ xs p. listed_more (scope_at w fs) part.outer part.pos (tag_tree part.pos part.word n) true false (word part.pos (tag_word part.word) ▸ some (kinds.Name n)) xs (regroup p) (tag_place part.pos part.word n) (tag_typed part.pos part.word n) (tag_typedef part.pos part.word n) (λ ys r. tag_built (after_list (scope_at w fs) part.outer.items) part.outer.takes_storage (list_has_type part.outer.items) part.pos part.word n ys r)) h.reads;
 })
 
-pub tag_name_good : (w : Start) (part : TagPart) (n : Name) (fs : List Frame) (front : List Token) (tok : Token) (scope : Blocks) (sign : Sign) → Says (after_list (scope_at w fs) part.outer.items) sign tok.kind → Holds w fs (tag_name part n) scope front → Good w front tok scope (tag_name_step part n fs tok.pos sign)
+pub tag_name_good : (limit : ℕ) (w : Start) (part : TagPart) (n : Name) (fs : List Frame) (front : List Token) (tok : Token) (scope : Blocks) (sign : Sign) → Says (after_list (scope_at w fs) part.outer.items) sign tok.kind → Holds w fs (tag_name part n) scope front → Good w front tok scope (tag_name_step limit part n fs tok.pos sign)
 unfolding tag_name_step
-tag_name_good w part n fs front tok scope signs.OpenBrace s h = open_body_good w part (Some n) fs front tok scope s h.scope_is h.stand h.fits h.reads
-tag_name_good w part n fs front tok scope sign s h = tag_ends w part n fs front tok scope sign s h
+tag_name_good limit w part n fs front tok scope signs.OpenBrace s h = open_body_good limit w part (Some n) fs front tok scope s h.scope_is h.stand h.fits h.reads
+tag_name_good limit w part n fs front tok scope sign s h = tag_ends limit w part n fs front tok scope sign s h
 
 body_built : (b : Scope) (body : Body) (ts : List Token) → is_no_member_decl body.decls ≡ false → (body_front b body ▸ some_mark puncts.CloseBrace) ts → listing b (with_body body) ts
 body_built b body ts some p =
@@ -241,23 +241,23 @@ body_built b body ts some p =
     )
 
 -- one more declaration of members is begun
-next_members : (w : Start) (body : Body) (fs : List Frame) (front : List Token) (tok : Token) (scope : Blocks) (sign : Sign) → Says (body_scope (scope_at w fs) body) sign tok.kind → Holds w fs (more_members body) scope front → Good w front tok scope (specifiers_step (nothing_listed false) (in_members body ∷ fs) tok.pos sign)
-next_members w body fs front tok scope sign s h = specifiers_good w (nothing_listed false) (in_members body ∷ fs) front tok scope sign s (record {
+next_members : (limit : ℕ) (w : Start) (body : Body) (fs : List Frame) (front : List Token) (tok : Token) (scope : Blocks) (sign : Sign) → Says (body_scope (scope_at w fs) body) sign tok.kind → Holds w fs (more_members body) scope front → Good w front tok scope (specifiers_step limit (nothing_listed false) (in_members body ∷ fs) tok.pos sign)
+next_members limit w body fs front tok scope sign s h = specifiers_good limit w (nothing_listed false) (in_members body ∷ fs) front tok scope sign s (record {
   scope_is = h.scope_is;
   stand = (h.fits, h.stand);
   fits = refl;
   reads = listing_begun w (in_members body ∷ fs) (body_scope (scope_at w fs) body) false front (map_right (λ xs p. p.1) h.reads);
 })
 
-pub more_members_good : (w : Start) (body : Body) (fs : List Frame) (front : List Token) (tok : Token) (scope : Blocks) (sign : Sign) → Says (body_scope (scope_at w fs) body) sign tok.kind → Holds w fs (more_members body) scope front → Good w front tok scope (more_members_step body fs tok.pos sign)
+pub more_members_good : (limit : ℕ) (w : Start) (body : Body) (fs : List Frame) (front : List Token) (tok : Token) (scope : Blocks) (sign : Sign) → Says (body_scope (scope_at w fs) body) sign tok.kind → Holds w fs (more_members body) scope front → Good w front tok scope (more_members_step limit body fs tok.pos sign)
 unfolding more_members_step
-more_members_good w body fs front tok scope signs.CloseBrace s h = record {
+more_members_good limit w body fs front tok scope signs.CloseBrace s h = record {
   scope_is = h.scope_is;
   stand = h.stand;
   fits = h.fits;
   reads = map_right (λ xs p. body_built (scope_at w fs) body xs p.3.0 (map_left (λ ys q. q.1) p)) (attach _ _ h.reads (is_some_one tok _ s));
 }
-more_members_good w body fs front tok scope sign s h = next_members w body fs front tok scope sign s h
+more_members_good limit w body fs front tok scope sign s h = next_members limit w body fs front tok scope sign s h
 
 pub enumerator_needed : (w : Start) (part : EnumPart) (fs : List Frame) (front : List Token) (tok : Token) (scope : Blocks) (sc : Scope) (sign : Sign) → Says sc sign tok.kind → Holds w fs (enumerator part) scope front → Good w front tok scope (enumerator_step part fs tok.pos sign)
 unfolding enumerator_step
@@ -273,7 +273,7 @@ no_value_read w part n l fs front scope h = record {
   reads = map_right (λ xs p. map_right (λ ys q. map_right (λ zs r. map_right (λ vs u. behind_nothing u) r) (regroup q)) (regroup p)) h.reads;
 }
 
-pub enumerator_name_good : (w : Start) (part : EnumPart) (n : Name) (l : Pos) (fs : List Frame) (front : List Token) (tok : Token) (scope : Blocks) (sc : Scope) (sign : Sign) → Says sc sign tok.kind → Holds w fs (enumerator_name part n l) scope front → Good w front tok scope (enumerator_name_step part n l fs sign)
+pub enumerator_name_good : (limit : ℕ) (w : Start) (part : EnumPart) (n : Name) (l : Pos) (fs : List Frame) (front : List Token) (tok : Token) (scope : Blocks) (sc : Scope) (sign : Sign) → Says sc sign tok.kind → Holds w fs (enumerator_name part n l) scope front → Good w front tok scope (enumerator_name_step limit part n l fs sign)
 unfolding enumerator_name_step
-enumerator_name_good w part n l fs front tok scope sc (signs.Infix (infixes.Assign None)) s h = good_within w front tok scope _ (goes (in_value part n l ∷ fs) operand) (record { scope_is = h.scope_is; stand = (h.fits, h.stand); fits = tt; reads = attach _ _ h.reads (is_some_one tok _ s) })
-enumerator_name_good w part n l fs front tok scope sc sign s h = enumerator_good w fs (with_enumerator part n l t.no_expr) n front tok scope sc sign s (no_value_read w part n l fs front scope h)
+enumerator_name_good limit w part n l fs front tok scope sc (signs.Infix (infixes.Assign None)) s h = good_within w front tok scope _ (goes (in_value part n l ∷ fs) operand) (record { scope_is = h.scope_is; stand = (h.fits, h.stand); fits = tt; reads = attach _ _ h.reads (is_some_one tok _ s) })
+enumerator_name_good limit w part n l fs front tok scope sc sign s h = enumerator_good w fs (with_enumerator part n l t.no_expr) n front tok scope sc sign s (no_value_read w part n l fs front scope h)

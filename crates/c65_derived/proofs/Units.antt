@@ -1,5 +1,5 @@
 -- Function definitions and units.
-use Rattle.std.proofs.Common.{◌≡◌, List, [], ◌∷◌, ◌++◌, length, Bool, true, false, refl, sym, ap, ◌∙◌, subst, append_assoc}
+use Rattle.std.proofs.Common.{◌≡◌, ℕ, List, [], ◌∷◌, ◌++◌, length, Bool, true, false, refl, sym, ap, ◌∙◌, subst, append_assoc}
 use Rattle.std.proofs.lemmas.List.{append-nil}
 use Rattle.std.specs.Prelude.{Result, Ok, Err, None, Some, if◌then◌else◌, ◌&&◌, not, nat_eq}
 use Rattle.c65_base.specs.Answers.{Fault, ◌>>=◌}
@@ -146,10 +146,10 @@ brace_here ts e ends = let first = first_of_mark marks.OpenBrace ts refl e ends 
 abbrev function_of : t.SpecifiersTree → t.DeclaratorTree → List t.DeclTree → t.StmtTree → t.FunctionTree
 function_of q d ds s = record { specifiers = q; declarator = d; declarations = ds; body = s }
 
-function_built : (unit : List Token) (sc : Scope) (outer : Blocks) (q : t.SpecifiersTree) (d : t.DeclaratorTree) (ds : List t.DeclTree) (zs xs ys rest : List Token) → head_specifiers sc (declarator_start d) q zs → g.declarator (g.named (has_type q)) (after_specifiers sc q) (declarator_start d) d xs → declarations (in_function (declared (is_typedef q) (after_specifiers sc q) d) d) ds ys → EndsIn rest
-    → Got (λ f vs. function sc f (zs ++ (xs ++ (ys ++ vs)))) (λ f. after_head sc f ∷ outer) rest (body_needed unit q d ds (after_decls (in_function (declared (is_typedef q) (after_specifiers sc q) d) d) ds ∷ declared (is_typedef q) (after_specifiers sc q) d ∷ outer) rest)
-function_built unit sc outer q d ds zs xs ys rest p h r ends = got_if _ _ rest (is_here marks.OpenBrace rest) _ (unexpected rest)
-    (λ e. seq _ _ _ _ rest (statement_read unit (after_decls (in_function (declared (is_typedef q) (after_specifiers sc q) d) d) ds ∷ declared (is_typedef q) (after_specifiers sc q) d ∷ outer) rest) _ (statement_got unit (after_decls (in_function (declared (is_typedef q) (after_specifiers sc q) d) d) ds) (declared (is_typedef q) (after_specifiers sc q) d ∷ outer) rest ends)
+function_built : (limit : ℕ) (unit : List Token) (sc : Scope) (outer : Blocks) (q : t.SpecifiersTree) (d : t.DeclaratorTree) (ds : List t.DeclTree) (zs xs ys rest : List Token) → head_specifiers sc (declarator_start d) q zs → g.declarator (g.named (has_type q)) (after_specifiers sc q) (declarator_start d) d xs → declarations (in_function (declared (is_typedef q) (after_specifiers sc q) d) d) ds ys → EndsIn rest
+    → Got (λ f vs. function sc f (zs ++ (xs ++ (ys ++ vs)))) (λ f. after_head sc f ∷ outer) rest (body_needed limit unit q d ds (after_decls (in_function (declared (is_typedef q) (after_specifiers sc q) d) d) ds ∷ declared (is_typedef q) (after_specifiers sc q) d ∷ outer) rest)
+function_built limit unit sc outer q d ds zs xs ys rest p h r ends = got_if _ _ rest (is_here marks.OpenBrace rest) _ (unexpected rest)
+    (λ e. seq _ _ _ _ rest (statement_read limit unit (after_decls (in_function (declared (is_typedef q) (after_specifiers sc q) d) d) ds ∷ declared (is_typedef q) (after_specifiers sc q) d ∷ outer) rest) _ (statement_got limit unit (after_decls (in_function (declared (is_typedef q) (after_specifiers sc q) d) d) ds) (declared (is_typedef q) (after_specifiers sc q) d ∷ outer) rest ends)
     (λ s vs left are m last. record {
       front = [];
       tokens_are = refl;
@@ -159,27 +159,27 @@ function_built unit sc outer q d ds zs xs ys rest p h r ends = got_if _ _ rest (
     }))
     (λ e. tt)
 
-function_got : (unit : List Token) (sc : Scope) (outer : Blocks) (q : t.SpecifiersTree) (d : t.DeclaratorTree) (ts zs xs : List Token) → head_specifiers sc (declarator_start d) q zs → g.declarator (g.named (has_type q)) (after_specifiers sc q) (declarator_start d) d xs → EndsIn ts
-    → Got (λ f ys. function sc f (zs ++ (xs ++ ys))) (λ f. after_head sc f ∷ outer) ts (function_read unit q d (declared (is_typedef q) (after_specifiers sc q) d ∷ outer) ts)
-function_got unit sc outer q d ts zs xs p h ends =
+function_got : (limit : ℕ) (unit : List Token) (sc : Scope) (outer : Blocks) (q : t.SpecifiersTree) (d : t.DeclaratorTree) (ts zs xs : List Token) → head_specifiers sc (declarator_start d) q zs → g.declarator (g.named (has_type q)) (after_specifiers sc q) (declarator_start d) d xs → EndsIn ts
+    → Got (λ f ys. function sc f (zs ++ (xs ++ ys))) (λ f. after_head sc f ∷ outer) ts (function_read limit unit q d (declared (is_typedef q) (after_specifiers sc q) d ∷ outer) ts)
+function_got limit unit sc outer q d ts zs xs p h ends =
     let top = declared (is_typedef q) (after_specifiers sc q) d in
     let inner = in_function top d in
-    subst (λ b. Got (λ f ys. function sc f (zs ++ (xs ++ ys))) (λ f. after_head sc f ∷ outer) ts (declarations_read unit b ts >>= (λ ds. body_needed unit q d ds.0 ds.2 ds.1))) (sym (function_block d top outer))
-    (seq (declarations inner) (λ ds. after_decls inner ds ∷ top ∷ outer) (λ f ys. function sc f (zs ++ (xs ++ ys))) (λ f. after_head sc f ∷ outer) ts (declarations_read unit (inner ∷ top ∷ outer) ts) (λ ds. body_needed unit q d ds.0 ds.2 ds.1) (declarations_got unit inner (top ∷ outer) ts ends)
-    (λ ds ys rest are r left. function_built unit sc outer q d ds zs xs ys rest p h r left))
+    subst (λ b. Got (λ f ys. function sc f (zs ++ (xs ++ ys))) (λ f. after_head sc f ∷ outer) ts (declarations_read limit unit b ts >>= (λ ds. body_needed limit unit q d ds.0 ds.2 ds.1))) (sym (function_block d top outer))
+    (seq (declarations inner) (λ ds. after_decls inner ds ∷ top ∷ outer) (λ f ys. function sc f (zs ++ (xs ++ ys))) (λ f. after_head sc f ∷ outer) ts (declarations_read limit unit (inner ∷ top ∷ outer) ts) (λ ds. body_needed limit unit q d ds.0 ds.2 ds.1) (declarations_got limit unit inner (top ∷ outer) ts ends)
+    (λ ds ys rest are r left. function_built limit unit sc outer q d ds zs xs ys rest p h r left))
 
 -- a declaration or a definition
-declared_got : (unit : List Token) (sc : Scope) (outer : Blocks) (q : t.SpecifiersTree) (ts zs rest : List Token) → ts ≡ zs ++ rest → head_specifiers sc (pos_here ts) q zs → EndsIn rest → Got (λ i ys. item sc i (zs ++ ys)) (λ i. after_item sc i ∷ outer) rest (declared_item unit q (after_specifiers sc q ∷ outer) rest)
-declared_got unit sc outer q ts zs rest are p ends = seq _ _ _ _ rest (named_read (naming_of q) (after_specifiers sc q ∷ outer) rest) _ (named_got q (after_specifiers sc q) outer rest ends)
+declared_got : (limit : ℕ) (unit : List Token) (sc : Scope) (outer : Blocks) (q : t.SpecifiersTree) (ts zs rest : List Token) → ts ≡ zs ++ rest → head_specifiers sc (pos_here ts) q zs → EndsIn rest → Got (λ i ys. item sc i (zs ++ ys)) (λ i. after_item sc i ∷ outer) rest (declared_item limit unit q (after_specifiers sc q ∷ outer) rest)
+declared_got limit unit sc outer q ts zs rest are p ends = seq _ _ _ _ rest (named_read limit (naming_of q) (after_specifiers sc q ∷ outer) rest) _ (named_got limit q (after_specifiers sc q) outer rest ends)
     (λ d xs left also h last. got_if _ _ left (not (is_empty q) && goes_on (sign_here left)) _ _
-    (λ e. mapped t.declaration _ _ _ _ left (declaration_from unit q d (declared (is_typedef q) (after_specifiers sc q) d ∷ outer) left) (from_got unit q sc outer d left zs xs (head_some sc (pos_here ts) q zs (both_true (not (is_empty q)) (goes_on (sign_here left)) e).0 p) h last) (λ v ys m. m) (λ v. refl))
-    (λ e. mapped t.definition _ _ _ _ left (function_read unit q d (declared (is_typedef q) (after_specifiers sc q) d ∷ outer) left) (function_got unit sc outer q d left zs xs (head_before sc q (g.named (has_type q)) (after_specifiers sc q) d ts zs xs left (declarator_start d) refl (are ∙ ap (λ ys. zs ++ ys) also) h p) h last) (λ v ys m. m) (λ v. refl)))
+    (λ e. mapped t.declaration _ _ _ _ left (declaration_from limit unit q d (declared (is_typedef q) (after_specifiers sc q) d ∷ outer) left) (from_got limit unit q sc outer d left zs xs (head_some sc (pos_here ts) q zs (both_true (not (is_empty q)) (goes_on (sign_here left)) e).0 p) h last) (λ v ys m. m) (λ v. refl))
+    (λ e. mapped t.definition _ _ _ _ left (function_read limit unit q d (declared (is_typedef q) (after_specifiers sc q) d ∷ outer) left) (function_got limit unit sc outer q d left zs xs (head_before sc q (g.named (has_type q)) (after_specifiers sc q) d ts zs xs left (declarator_start d) refl (are ∙ ap (λ ys. zs ++ ys) also) h p) h last) (λ v ys m. m) (λ v. refl)))
 
-item_got : (unit : List Token) (sc : Scope) (outer : Blocks) (ts : List Token) → EndsIn ts → Got (item sc) (λ i. after_item sc i ∷ outer) ts (item_read unit (sc ∷ outer) ts)
-item_got unit sc outer ts ends = seq _ _ _ _ ts (specifiers_read (sc ∷ outer) ts) _ (specifiers_got sc outer ts ends)
+item_got : (limit : ℕ) (unit : List Token) (sc : Scope) (outer : Blocks) (ts : List Token) → EndsIn ts → Got (item sc) (λ i. after_item sc i ∷ outer) ts (item_read limit unit (sc ∷ outer) ts)
+item_got limit unit sc outer ts ends = seq _ _ _ _ ts (specifiers_read limit (sc ∷ outer) ts) _ (specifiers_got limit sc outer ts ends)
     (λ q zs rest are p left. got_if _ _ rest (not (is_empty q) && is_here marks.Semicolon rest) _ _
     (λ e. let two = both_true (not (is_empty q)) (is_here marks.Semicolon rest) e in mapped t.declaration (λ d ys. declaration sc d (zs ++ ys)) (λ d. after_decl sc d ∷ outer) _ _ rest (Ok (empty_declaration q (after_specifiers sc q ∷ outer) rest)) (empty_got q sc outer rest zs two.1 (head_some sc (pos_here ts) q zs two.0 p) left) (λ v ys m. m) (λ v. refl))
-    (λ e. declared_got unit sc outer q ts zs rest are p left))
+    (λ e. declared_got limit unit sc outer q ts zs rest are p left))
 
 -- one more item
 one_more : (sc : Scope) (is : List t.ItemTree) (i : t.ItemTree) (xs : List Token) → (items sc is ▸ item (after_items sc is) i) xs → items sc (is ++ i ∷ []) xs
@@ -207,19 +207,19 @@ items_if : (sc : Scope) (xs ts : List Token) (b : Bool) (r q : Result (List t.It
 items_if sc xs ts true r q f h = f refl
 items_if sc xs ts false r q f h = h refl
 
-items_step : (unit : List Token) (sc : Scope) (outer : Blocks) (us : List Token) (is : List t.ItemTree) (ts xs : List Token) (r : Answer t.ItemTree) → items sc is xs → Got (item (after_items sc is)) (λ i. after_item (after_items sc is) i ∷ outer) ts r
-    → ((js : List t.ItemTree) (vs zs : List Token) → items sc js zs → EndsIn vs → OnItems sc zs vs (items_run unit us js (after_items sc js ∷ outer) vs))
-    → OnItems sc xs ts (r >>= (λ i. items_next (items_run unit us) (with_item is i.0) i.2 i.1))
-items_step unit sc outer us is ts xs (Err e) p h k = tt
-items_step unit sc outer us is ts xs (Ok (i, rest, scope)) p h k =
+items_step : (limit : ℕ) (unit : List Token) (sc : Scope) (outer : Blocks) (us : List Token) (is : List t.ItemTree) (ts xs : List Token) (r : Answer t.ItemTree) → items sc is xs → Got (item (after_items sc is)) (λ i. after_item (after_items sc is) i ∷ outer) ts r
+    → ((js : List t.ItemTree) (vs zs : List Token) → items sc js zs → EndsIn vs → OnItems sc zs vs (items_run limit unit us js (after_items sc js ∷ outer) vs))
+    → OnItems sc xs ts (r >>= (λ i. items_next (items_run limit unit us) (with_item is i.0) i.2 i.1))
+items_step limit unit sc outer us is ts xs (Err e) p h k = tt
+items_step limit unit sc outer us is ts xs (Ok (i, rest, scope)) p h k =
     let more = one_more sc is i (xs ++ h.front) (both _ _ p h.derives) in
     items_shift sc xs h.front rest ts _ h.tokens_are (items_if sc (xs ++ h.front) rest (is_here marks.End rest) _ _
     (λ e. ([], rest, refl, subst (some_items sc (is ++ i ∷ [])) (sym (append-nil (xs ++ h.front))) (some_there sc is i (xs ++ h.front) more), h.ends, e))
-    (λ e. subst (λ b. OnItems sc (xs ++ h.front) rest (items_run unit us (with_item is i) b rest)) (sym (h.scope_is ∙ ap (λ b. b ∷ outer) (behind_more sc is i))) (k (with_item is i) rest (xs ++ h.front) more h.ends)))
+    (λ e. subst (λ b. OnItems sc (xs ++ h.front) rest (items_run limit unit us (with_item is i) b rest)) (sym (h.scope_is ∙ ap (λ b. b ∷ outer) (behind_more sc is i))) (k (with_item is i) rest (xs ++ h.front) more h.ends)))
 
-items_got : (unit : List Token) (sc : Scope) (outer : Blocks) (us : List Token) (is : List t.ItemTree) (ts xs : List Token) → items sc is xs → EndsIn ts → OnItems sc xs ts (items_run unit us is (after_items sc is ∷ outer) ts)
-items_got unit sc outer [] is ts xs p ends = tt
-items_got unit sc outer (u ∷ us) is ts xs p ends = items_step unit sc outer us is ts xs (item_read unit (after_items sc is ∷ outer) ts) p (item_got unit (after_items sc is) outer ts ends) (λ js vs zs q left. items_got unit sc outer us js vs zs q left)
+items_got : (limit : ℕ) (unit : List Token) (sc : Scope) (outer : Blocks) (us : List Token) (is : List t.ItemTree) (ts xs : List Token) → items sc is xs → EndsIn ts → OnItems sc xs ts (items_run limit unit us is (after_items sc is ∷ outer) ts)
+items_got limit unit sc outer [] is ts xs p ends = tt
+items_got limit unit sc outer (u ∷ us) is ts xs p ends = items_step limit unit sc outer us is ts xs (item_read limit unit (after_items sc is ∷ outer) ts) p (item_got limit unit (after_items sc is) outer ts ends) (λ js vs zs q left. items_got limit unit sc outer us js vs zs q left)
 
 ends_in : (ts : List Token) → EndsOnce ts → EndsIn ts
 ends_in [] h = h
@@ -255,9 +255,9 @@ unit_answered : (ts : List Token) (r : Result (List t.ItemTree) Fault) (unit : t
 unit_answered ts (Err e) unit once h same = absurd cc
 unit_answered ts (Ok is) unit once h same = subst (λ v. units v ts) (ok_is (record { items = is }) unit same) (h.0, h.1, h.2, h.3, only_end h.1 (rest_once h.0 h.1 h.4 (subst EndsOnce h.2 once)) h.5)
 
-some_tokens : (ts : List Token) (unit : t.UnitTree) (b : Bool) → EndsOnce ts → OnItems no_types [] ts (items_read ts (no_types ∷ []) ts) → (if b then Err nothing_there else whole_unit ts) ≡ Ok unit → units unit ts
-some_tokens ts unit true once h same = absurd cc
-some_tokens ts unit false once h same = unit_answered ts (items_read ts (no_types ∷ []) ts) unit once h same
+some_tokens : (limit : ℕ) (ts : List Token) (unit : t.UnitTree) (b : Bool) → EndsOnce ts → OnItems no_types [] ts (items_read limit ts (no_types ∷ []) ts) → (if b then Err nothing_there else whole_unit limit ts) ≡ Ok unit → units unit ts
+some_tokens limit ts unit true once h same = absurd cc
+some_tokens limit ts unit false once h same = unit_answered ts (items_read limit ts (no_types ∷ []) ts) unit once h same
 
 pub units_are_derived : UnitsAreDerived
-units_are_derived ts unit once same = some_tokens ts unit (nat_eq (length ts) 0) once (items_got ts no_types [] ts [] ts [] refl (ends_in ts once)) same
+units_are_derived limit ts unit once same = some_tokens limit ts unit (nat_eq (length ts) 0) once (items_got limit ts no_types [] ts [] ts [] refl (ends_in ts once)) same

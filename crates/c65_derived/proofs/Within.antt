@@ -31,58 +31,58 @@ within_if P false r q f g = g refl
 answered : {A : Type 0} (P : A → Type 0) (r : Answer A) (a : A) (rest : List Token) (scope : Blocks) → Within P r → r ≡ Ok (a, rest, scope) → P a
 answered P r a rest scope h e = subst (Within P) e h
 
-small_expr : (r : Reading) → SmallRead r → Within (λ e. expr_depth e ≤ 256) (r >>= as_expr)
-small_expr (Ok (done_expr e, rest, scope)) h = h
-small_expr (Ok (done_specifiers q, rest, scope)) h = tt
-small_expr (Ok (done_declarator d, rest, scope)) h = tt
-small_expr (Err e) h = tt
+small_expr : (limit : ℕ) (r : Reading) → SmallRead limit r → Within (λ e. expr_depth e ≤ limit) (r >>= as_expr)
+small_expr limit (Ok (done_expr e, rest, scope)) h = h
+small_expr limit (Ok (done_specifiers q, rest, scope)) h = tt
+small_expr limit (Ok (done_declarator d, rest, scope)) h = tt
+small_expr limit (Err e) h = tt
 
-pub expr_within : (least : ℕ) (scope : Blocks) (ts : List Token) → Within (λ e. expr_depth e ≤ 256) (expr_read least scope ts)
-expr_within least scope ts = small_expr _ (run_small least ts [] operand scope tt tt)
+pub expr_within : (limit : ℕ) (least : ℕ) (scope : Blocks) (ts : List Token) → Within (λ e. expr_depth e ≤ limit) (expr_read limit least scope ts)
+expr_within limit least scope ts = small_expr limit _ (run_small limit least ts [] operand scope tt tt)
 
-small_listed : (r : Reading) → SmallRead r → Within (λ q. specifiers_depth q.tree ≤ 256) (r >>= as_specifiers)
-small_listed (Ok (done_expr e, rest, scope)) h = tt
-small_listed (Ok (done_specifiers q, rest, scope)) h = h
-small_listed (Ok (done_declarator d, rest, scope)) h = tt
-small_listed (Err e) h = tt
+small_listed : (limit : ℕ) (r : Reading) → SmallRead limit r → Within (λ q. specifiers_depth q.tree ≤ limit) (r >>= as_specifiers)
+small_listed limit (Ok (done_expr e, rest, scope)) h = tt
+small_listed limit (Ok (done_specifiers q, rest, scope)) h = h
+small_listed limit (Ok (done_declarator d, rest, scope)) h = tt
+small_listed limit (Err e) h = tt
 
-listed_within : (storage : Bool) (scope : Blocks) (ts : List Token) → Within (λ q. specifiers_depth q.tree ≤ 256) (listed_read storage scope ts)
-listed_within storage scope ts = small_listed _ (run_small 0 ts [] (specifiers (nothing_listed storage)) scope tt (omega arith, omega arith))
+listed_within : (limit : ℕ) (storage : Bool) (scope : Blocks) (ts : List Token) → Within (λ q. specifiers_depth q.tree ≤ limit) (listed_read limit storage scope ts)
+listed_within limit storage scope ts = small_listed limit _ (run_small limit 0 ts [] (specifiers (nothing_listed storage)) scope tt (omega arith, omega arith))
 
-tree_within : (r : Answer Listed) → Within (λ q. specifiers_depth q.tree ≤ 256) r → Within (λ q. specifiers_depth q ≤ 256) (r >>= (λ q. Ok (q.0.tree, q.1, q.2)))
-tree_within (Ok (q, rest, scope)) h = h
-tree_within (Err e) h = tt
+tree_within : (limit : ℕ) (r : Answer Listed) → Within (λ q. specifiers_depth q.tree ≤ limit) r → Within (λ q. specifiers_depth q ≤ limit) (r >>= (λ q. Ok (q.0.tree, q.1, q.2)))
+tree_within limit (Ok (q, rest, scope)) h = h
+tree_within limit (Err e) h = tt
 
-pub specifiers_within : (scope : Blocks) (ts : List Token) → Within (λ q. specifiers_depth q ≤ 256) (specifiers_read scope ts)
-specifiers_within scope ts = tree_within _ (listed_within true scope ts)
+pub specifiers_within : (limit : ℕ) (scope : Blocks) (ts : List Token) → Within (λ q. specifiers_depth q ≤ limit) (specifiers_read limit scope ts)
+specifiers_within limit scope ts = tree_within limit _ (listed_within limit true scope ts)
 
-small_declarator : (r : Reading) → SmallRead r → Within (λ d. declarator_depth d ≤ 256) (r >>= as_declarator)
-small_declarator (Ok (done_expr e, rest, scope)) h = tt
-small_declarator (Ok (done_specifiers q, rest, scope)) h = tt
-small_declarator (Ok (done_declarator d, rest, scope)) h = h
-small_declarator (Err e) h = tt
+small_declarator : (limit : ℕ) (r : Reading) → SmallRead limit r → Within (λ d. declarator_depth d ≤ limit) (r >>= as_declarator)
+small_declarator limit (Ok (done_expr e, rest, scope)) h = tt
+small_declarator limit (Ok (done_specifiers q, rest, scope)) h = tt
+small_declarator limit (Ok (done_declarator d, rest, scope)) h = h
+small_declarator limit (Err e) h = tt
 
-pub declarator_within : (sort : Sort) (scope : Blocks) (ts : List Token) → Within (λ d. declarator_depth d ≤ 256) (declarator_read sort scope ts)
-declarator_within sort scope ts = small_declarator _ (run_small 0 ts [] (declarator sort) scope tt (omega arith))
+pub declarator_within : (limit : ℕ) (sort : Sort) (scope : Blocks) (ts : List Token) → Within (λ d. declarator_depth d ≤ limit) (declarator_read limit sort scope ts)
+declarator_within limit sort scope ts = small_declarator limit _ (run_small limit 0 ts [] (declarator sort) scope tt (omega arith))
 
-both_within : (q : t.SpecifiersTree) (r : Answer t.DeclaratorTree) → specifiers_depth q ≤ 256 → Within (λ d. declarator_depth d ≤ 256) r → Within (λ ty. type_depth ty ≤ 256) (r >>= (λ d. Ok (t.type_name q d.0, d.1, d.2)))
-both_within q (Ok (d, rest, scope)) h k = omega (arith, h, k)
-both_within q (Err e) h k = tt
+both_within : (limit : ℕ) (q : t.SpecifiersTree) (r : Answer t.DeclaratorTree) → specifiers_depth q ≤ limit → Within (λ d. declarator_depth d ≤ limit) r → Within (λ ty. type_depth ty ≤ limit) (r >>= (λ d. Ok (t.type_name q d.0, d.1, d.2)))
+both_within limit q (Ok (d, rest, scope)) h k = omega (arith, h, k)
+both_within limit q (Err e) h k = tt
 
-behind_within : (q : Listed) (scope : Blocks) (ts : List Token) → specifiers_depth q.tree ≤ 256 → Within (λ ty. type_depth ty ≤ 256) (type_behind q scope ts)
-behind_within q scope ts h = within_if (λ ty. type_depth ty ≤ 256) (nat_eq (specifiers_depth q.tree) 0) (Err (fault_at (token_at ts 0))) _ (λ e. tt) (λ e. both_within q.tree _ h (declarator_within sorts.Abstract scope ts))
+behind_within : (limit : ℕ) (q : Listed) (scope : Blocks) (ts : List Token) → specifiers_depth q.tree ≤ limit → Within (λ ty. type_depth ty ≤ limit) (type_behind limit q scope ts)
+behind_within limit q scope ts h = within_if (λ ty. type_depth ty ≤ limit) (nat_eq (specifiers_depth q.tree) 0) (Err (fault_at (token_at ts 0))) _ (λ e. tt) (λ e. both_within limit q.tree _ h (declarator_within limit sorts.Abstract scope ts))
 
-type_within : (scope : Blocks) (ts : List Token) → Within (λ ty. type_depth ty ≤ 256) (type_read scope ts)
-type_within scope ts = then_within _ _ (listed_read false scope ts) _ (listed_within false scope ts) (λ q rest behind h. behind_within q behind rest h)
+type_within : (limit : ℕ) (scope : Blocks) (ts : List Token) → Within (λ ty. type_depth ty ≤ limit) (type_read limit scope ts)
+type_within limit scope ts = then_within _ _ (listed_read limit false scope ts) _ (listed_within limit false scope ts) (λ q rest behind h. behind_within limit q behind rest h)
 
 pub exprs_are_within : ExprsAreWithin
-exprs_are_within least scope ts tree rest behind e = answered _ _ tree rest behind (expr_within least scope ts) e
+exprs_are_within limit least scope ts tree rest behind e = answered _ _ tree rest behind (expr_within limit least scope ts) e
 
 pub specifiers_are_within : SpecifiersAreWithin
-specifiers_are_within scope ts tree rest behind e = answered _ _ tree rest behind (specifiers_within scope ts) e
+specifiers_are_within limit scope ts tree rest behind e = answered _ _ tree rest behind (specifiers_within limit scope ts) e
 
 pub declarators_are_within : DeclaratorsAreWithin
-declarators_are_within sort scope ts tree rest behind e = answered _ _ tree rest behind (declarator_within sort scope ts) e
+declarators_are_within limit sort scope ts tree rest behind e = answered _ _ tree rest behind (declarator_within limit sort scope ts) e
 
 pub types_are_within : TypesAreWithin
-types_are_within scope ts tree rest behind e = answered _ _ tree rest behind (type_within scope ts) e
+types_are_within limit scope ts tree rest behind e = answered _ _ tree rest behind (type_within limit scope ts) e

@@ -32,20 +32,20 @@ sort_of sorts.Abstract = g.abstract
 
 -- an expression of at least this level: 0 any, 1 an assignment expression, 2 a constant expression (C90 6.3, 6.4)
 abbrev pub ExprsAreDerived : Type 0
-ExprsAreDerived = (least : ℕ) (sc : Scope) (outer : Blocks) (tokens : List Token) (tree : t.ExprTree) (rest : List Token) (scope : Blocks) → least ≤ 13
-    → expr_read least (sc ∷ outer) tokens ≡ Ok (tree, rest, scope) → IsRead (λ l e. given (least ≤ level e) (g.expr sc e)) (after sc) outer tokens tree rest scope
+ExprsAreDerived = (limit : ℕ) (least : ℕ) (sc : Scope) (outer : Blocks) (tokens : List Token) (tree : t.ExprTree) (rest : List Token) (scope : Blocks) → least ≤ 13
+    → expr_read limit least (sc ∷ outer) tokens ≡ Ok (tree, rest, scope) → IsRead (λ l e. given (least ≤ level e) (g.expr sc e)) (after sc) outer tokens tree rest scope
 
 -- C90 6.5; where none stand, their place is that of the token behind
 abbrev pub SpecifiersAreDerived : Type 0
-SpecifiersAreDerived = (sc : Scope) (outer : Blocks) (tokens : List Token) (tree : t.SpecifiersTree) (rest : List Token) (scope : Blocks)
-    → specifiers_read (sc ∷ outer) tokens ≡ Ok (tree, rest, scope) → IsRead (head_specifiers sc) (after_specifiers sc) outer tokens tree rest scope
+SpecifiersAreDerived = (limit : ℕ) (sc : Scope) (outer : Blocks) (tokens : List Token) (tree : t.SpecifiersTree) (rest : List Token) (scope : Blocks)
+    → specifiers_read limit (sc ∷ outer) tokens ≡ Ok (tree, rest, scope) → IsRead (head_specifiers sc) (after_specifiers sc) outer tokens tree rest scope
 
 -- C90 6.5.4, 6.5.5
 abbrev pub DeclaratorsAreDerived : Type 0
-DeclaratorsAreDerived = (sort : Sort) (sc : Scope) (outer : Blocks) (tokens : List Token) (tree : t.DeclaratorTree) (rest : List Token) (scope : Blocks)
-    → declarator_read sort (sc ∷ outer) tokens ≡ Ok (tree, rest, scope) → IsRead (g.declarator (sort_of sort) sc) (after_declarator sc) outer tokens tree rest scope
+DeclaratorsAreDerived = (limit : ℕ) (sort : Sort) (sc : Scope) (outer : Blocks) (tokens : List Token) (tree : t.DeclaratorTree) (rest : List Token) (scope : Blocks)
+    → declarator_read limit sort (sc ∷ outer) tokens ≡ Ok (tree, rest, scope) → IsRead (g.declarator (sort_of sort) sc) (after_declarator sc) outer tokens tree rest scope
 
 -- C90 6.5.5
 abbrev pub TypesAreDerived : Type 0
-TypesAreDerived = (sc : Scope) (outer : Blocks) (tokens : List Token) (tree : t.TypeTree) (rest : List Token) (scope : Blocks)
-    → type_read (sc ∷ outer) tokens ≡ Ok (tree, rest, scope) → IsRead (g.type_name sc) (after_type sc) outer tokens tree rest scope
+TypesAreDerived = (limit : ℕ) (sc : Scope) (outer : Blocks) (tokens : List Token) (tree : t.TypeTree) (rest : List Token) (scope : Blocks)
+    → type_read limit (sc ∷ outer) tokens ≡ Ok (tree, rest, scope) → IsRead (g.type_name sc) (after_type sc) outer tokens tree rest scope

@@ -6,17 +6,17 @@ use Rattle.c65_scopes.specs.Scopes.{Blocks}
 use Rattle.c65_parse.specs.declared.frame.Sort.{Sort}
 use Rattle.c65_parse.specs.Reading.{Answer, expr_read, specifiers_read, declarator_read, type_read}
 
-abbrev pub AreWithin : {Tree : Type 0} → (Tree → ℕ) → (Blocks → List Token → Answer Tree) → Type 0
-AreWithin {Tree} depth read = (scope : Blocks) (tokens : List Token) (tree : Tree) (rest : List Token) (behind : Blocks) → read scope tokens ≡ Ok (tree, rest, behind) → depth tree ≤ 256
+abbrev pub AreWithin : (limit : ℕ) → {Tree : Type 0} → (Tree → ℕ) → (Blocks → List Token → Answer Tree) → Type 0
+AreWithin limit {Tree} depth read = (scope : Blocks) (tokens : List Token) (tree : Tree) (rest : List Token) (behind : Blocks) → read scope tokens ≡ Ok (tree, rest, behind) → depth tree ≤ limit
 
 abbrev pub ExprsAreWithin : Type 0
-ExprsAreWithin = (least : ℕ) → AreWithin expr_depth (expr_read least)
+ExprsAreWithin = (limit : ℕ) (least : ℕ) → AreWithin limit expr_depth (expr_read limit least)
 
 abbrev pub SpecifiersAreWithin : Type 0
-SpecifiersAreWithin = AreWithin specifiers_depth specifiers_read
+SpecifiersAreWithin = (limit : ℕ) → AreWithin limit specifiers_depth (specifiers_read limit)
 
 abbrev pub DeclaratorsAreWithin : Type 0
-DeclaratorsAreWithin = (sort : Sort) → AreWithin declarator_depth (declarator_read sort)
+DeclaratorsAreWithin = (limit : ℕ) (sort : Sort) → AreWithin limit declarator_depth (declarator_read limit sort)
 
 abbrev pub TypesAreWithin : Type 0
-TypesAreWithin = AreWithin type_depth type_read
+TypesAreWithin = (limit : ℕ) → AreWithin limit type_depth (type_read limit)

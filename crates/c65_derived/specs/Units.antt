@@ -1,5 +1,5 @@
 -- A unit that was read is one that the grammar derives from the unit's tokens.
-use Rattle.std.specs.Prelude.{◌≡◌, List, [], ◌∷◌, Ok}
+use Rattle.std.specs.Prelude.{◌≡◌, ℕ, List, [], ◌∷◌, Ok}
 use Rattle.c65_scan.specs.declared.token.Token.{Token}
 use Rattle.c65_scan.specs.declared.token.TokenKind.TheVariants as kinds
 use Rattle.c65_tree.specs.Trees as t
@@ -14,8 +14,8 @@ EndsOnce (tok ∷ next ∷ ts) = (tok.kind ≡ kinds.End → ⊥) × EndsOnce (n
 
 -- C90 6.7
 abbrev pub UnitsAreDerived : Type 0
-UnitsAreDerived = (tokens : List Token) (unit : t.UnitTree) → EndsOnce tokens → unit_read tokens ≡ Ok unit → units unit tokens
+UnitsAreDerived = (limit : ℕ) (tokens : List Token) (unit : t.UnitTree) → EndsOnce tokens → unit_read limit tokens ≡ Ok unit → units unit tokens
 
 -- and within the limit of depth
 abbrev pub UnitsAreUnits : Type 0
-UnitsAreUnits = (tokens : List Token) (unit : t.UnitTree) → EndsOnce tokens → unit_read tokens ≡ Ok unit → IsUnitWithin 256 tokens unit
+UnitsAreUnits = (limit : ℕ) (tokens : List Token) (unit : t.UnitTree) → EndsOnce tokens → unit_read limit tokens ≡ Ok unit → IsUnitWithin limit tokens unit

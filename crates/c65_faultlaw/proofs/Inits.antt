@@ -37,40 +37,40 @@ pub past_mark : {A : Type 0} (c m n : ℕ) (mark : Mark) (inner : Reader (Triple
 past_mark c m n mark inner unit us ts up not e ends f = taken_mark c 0 m n mark inner unit us ts (omega arith) up not e ends f
 
 -- in parentheses
-pub test_local : (scope : Blocks) (unit us ts : List Token) → EndsIn ts → Local 0 1 0 (λ unit us ys. test_read scope ys) unit us ts
-test_local scope unit us ts ends = seq_mark 0 1 1 marks.OpenParen scope (λ a. expr_read 0 a.1 a.0 >>= (λ e. expected marks.CloseParen e.2 e.1 >>= (λ b. Ok (e.0, b.0, b.1)))) unit us ts refl (omega arith) ends
-    (λ rest left. seq 0 0 1 0 1 0 0 (λ unit us ys. expr_read 0 scope ys) (λ unit us e. expected marks.CloseParen e.2 e.1 >>= (λ b. Ok (e.0, b.0, b.1))) unit us rest (omega arith) (omega arith) (omega arith) left (expr_local 0 scope unit us rest left)
+pub test_local : (limit : ℕ) (scope : Blocks) (unit us ts : List Token) → EndsIn ts → Local 0 1 0 (λ unit us ys. test_read limit scope ys) unit us ts
+test_local limit scope unit us ts ends = seq_mark 0 1 1 marks.OpenParen scope (λ a. expr_read limit 0 a.1 a.0 >>= (λ e. expected marks.CloseParen e.2 e.1 >>= (λ b. Ok (e.0, b.0, b.1)))) unit us ts refl (omega arith) ends
+    (λ rest left. seq 0 0 1 0 1 0 0 (λ unit us ys. expr_read limit 0 scope ys) (λ unit us e. expected marks.CloseParen e.2 e.1 >>= (λ b. Ok (e.0, b.0, b.1))) unit us rest (omega arith) (omega arith) (omega arith) left (expr_local limit 0 scope unit us rest left)
     (λ e inner more last short. seq_mark 0 0 0 marks.CloseParen inner (λ b. Ok (e, b.0, b.1)) unit us more refl (omega arith) last (λ all none. done 0 0 e inner unit us all none)))
 
-pub case_local : (scope : Blocks) (unit us ts : List Token) → EndsIn ts → Local 0 1 0 (λ unit us ys. case_read scope ys) unit us ts
-case_local scope unit us ts ends = seq 0 0 1 0 1 0 0 (λ unit us ys. expr_read 2 scope ys) (λ unit us e. expected marks.Colon e.2 e.1 >>= (λ b. Ok (e.0, b.0, b.1))) unit us ts (omega arith) (omega arith) (omega arith) ends (expr_local 2 scope unit us ts ends)
+pub case_local : (limit : ℕ) (scope : Blocks) (unit us ts : List Token) → EndsIn ts → Local 0 1 0 (λ unit us ys. case_read limit scope ys) unit us ts
+case_local limit scope unit us ts ends = seq 0 0 1 0 1 0 0 (λ unit us ys. expr_read limit 2 scope ys) (λ unit us e. expected marks.Colon e.2 e.1 >>= (λ b. Ok (e.0, b.0, b.1))) unit us ts (omega arith) (omega arith) (omega arith) ends (expr_local limit 2 scope unit us ts ends)
     (λ e inner more last short. seq_mark 0 0 0 marks.Colon inner (λ b. Ok (e, b.0, b.1)) unit us more refl (omega arith) last (λ all none. done 0 0 e inner unit us all none))
 
-ended_by : (c : ℕ) (mark : Mark) (scope : Blocks) (unit us ts : List Token) → is_mark mark signs.End ≡ false → EndsIn ts → c ≤ 1 → Local c 1 0 (λ unit us ys. expr_read 0 scope ys) unit us ts → Local c 1 0 (λ unit us ys. ended_read mark scope ys) unit us ts
-ended_by c mark scope unit us ts not ends low h = seq c 0 1 0 1 0 0 (λ unit us ys. expr_read 0 scope ys) (λ unit us e. expected mark e.2 e.1 >>= (λ b. Ok (Some e.0, b.0, b.1))) unit us ts (omega arith) (omega (arith, low)) (omega arith) ends h
+ended_by : (limit : ℕ) (c : ℕ) (mark : Mark) (scope : Blocks) (unit us ts : List Token) → is_mark mark signs.End ≡ false → EndsIn ts → c ≤ 1 → Local c 1 0 (λ unit us ys. expr_read limit 0 scope ys) unit us ts → Local c 1 0 (λ unit us ys. ended_read limit mark scope ys) unit us ts
+ended_by limit c mark scope unit us ts not ends low h = seq c 0 1 0 1 0 0 (λ unit us ys. expr_read limit 0 scope ys) (λ unit us e. expected mark e.2 e.1 >>= (λ b. Ok (Some e.0, b.0, b.1))) unit us ts (omega arith) (omega (arith, low)) (omega arith) ends h
     (λ e inner more last short. seq_mark 0 0 0 mark inner (λ b. Ok (Some e, b.0, b.1)) unit us more not (omega arith) last (λ all none. done 0 0 (Some e) inner unit us all none))
 
 -- an expression or nothing, and what ends it; where it is no expression nothing fails
-pub optional_by : (c : ℕ) (mark : Mark) (scope : Blocks) (unit us ts : List Token) → is_mark mark signs.End ≡ false → EndsIn ts → c ≤ 1 → Local c 1 0 (λ unit us ys. expr_read 0 scope ys) unit us ts → (marks_it mark (token_at ts 0) ≡ true → c ≤ 0) → Local c 1 0 (λ unit us ys. optional_read mark scope ys) unit us ts
-optional_by zero mark scope unit us ts not ends low h f = if_first 0 1 0 (marks_it mark) (λ unit us ys. Ok (None, after_token ys, scope)) (λ unit us ys. ended_read mark scope ys) unit us ts
+pub optional_by : (limit : ℕ) (c : ℕ) (mark : Mark) (scope : Blocks) (unit us ts : List Token) → is_mark mark signs.End ≡ false → EndsIn ts → c ≤ 1 → Local c 1 0 (λ unit us ys. expr_read limit 0 scope ys) unit us ts → (marks_it mark (token_at ts 0) ≡ true → c ≤ 0) → Local c 1 0 (λ unit us ys. optional_read limit mark scope ys) unit us ts
+optional_by limit zero mark scope unit us ts not ends low h f = if_first 0 1 0 (marks_it mark) (λ unit us ys. Ok (None, after_token ys, scope)) (λ unit us ys. ended_read limit mark scope ys) unit us ts
     (λ e. past_mark 0 0 1 mark (λ unit us ys. Ok (None, ys, scope)) unit us ts (omega arith) not e ends (λ rest left short. done 0 0 None scope unit us rest left))
-    (λ e. ended_by 0 mark scope unit us ts not ends low h)
-optional_by (suc c) mark scope unit us ts not ends low h f = if_first (suc c) 1 0 (marks_it mark) (λ unit us ys. Ok (None, after_token ys, scope)) (λ unit us ys. ended_read mark scope ys) unit us ts
+    (λ e. ended_by limit 0 mark scope unit us ts not ends low h)
+optional_by limit (suc c) mark scope unit us ts not ends low h f = if_first (suc c) 1 0 (marks_it mark) (λ unit us ys. Ok (None, after_token ys, scope)) (λ unit us ys. ended_read limit mark scope ys) unit us ts
     (λ e. let no = f e in absurd (omega (arith, no)))
-    (λ e. ended_by (suc c) mark scope unit us ts not ends low h)
+    (λ e. ended_by limit (suc c) mark scope unit us ts not ends low h)
 
-pub optional_local : (mark : Mark) (scope : Blocks) (unit us ts : List Token) → is_mark mark signs.End ≡ false → EndsIn ts → Local 0 1 0 (λ unit us ys. optional_read mark scope ys) unit us ts
-optional_local mark scope unit us ts not ends = optional_by 0 mark scope unit us ts not ends (omega arith) (expr_local 0 scope unit us ts ends) (λ e. omega arith)
+pub optional_local : (limit : ℕ) (mark : Mark) (scope : Blocks) (unit us ts : List Token) → is_mark mark signs.End ≡ false → EndsIn ts → Local 0 1 0 (λ unit us ys. optional_read limit mark scope ys) unit us ts
+optional_local limit mark scope unit us ts not ends = optional_by limit 0 mark scope unit us ts not ends (omega arith) (expr_local limit 0 scope unit us ts ends) (λ e. omega arith)
 
 -- an element of a list
-kept_local : (around : ℕ) (e : t.ExprTree) (scope : Blocks) (unit us ts : List Token) → EndsIn ts → Local 0 0 0 (λ unit us ys. kept_within around (e, ys, scope)) unit us ts
-kept_local around e scope unit us ts ends = local_if 0 0 0 (nat_le around 256 && nat_le (expr_depth e) (256 - around)) (λ unit us ys. Ok (e, ys, scope)) (λ unit us ys. Err (large Depth 257)) unit us ts
+kept_local : (limit : ℕ) (around : ℕ) (e : t.ExprTree) (scope : Blocks) (unit us ts : List Token) → EndsIn ts → Local 0 0 0 (λ unit us ys. kept_within around (e, ys, scope)) unit us ts
+kept_local limit around e scope unit us ts ends = local_if 0 0 0 (nat_le around limit && nat_le (expr_depth e) (limit - around)) (λ unit us ys. Ok (e, ys, scope)) (λ unit us ys. Err (large Depth 257)) unit us ts
     (λ h. done 0 0 e scope unit us ts ends)
     (λ h. too_deep 0 0 0 unit us ts ends)
 
-element_local : (around : ℕ) (scope : Blocks) (unit us ts : List Token) → EndsIn ts → Local 0 1 0 (λ unit us ys. element_read around scope ys) unit us ts
-element_local around scope unit us ts ends = seq 0 0 1 0 1 0 0 (λ unit us ys. expr_read 1 scope ys) (λ unit us. kept_within around) unit us ts (omega arith) (omega arith) (omega arith) ends (expr_local 1 scope unit us ts ends)
-    (λ e inner rest left short. kept_local around e inner unit us rest left)
+element_local : (limit : ℕ) (around : ℕ) (scope : Blocks) (unit us ts : List Token) → EndsIn ts → Local 0 1 0 (λ unit us ys. element_read limit around scope ys) unit us ts
+element_local limit around scope unit us ts ends = seq 0 0 1 0 1 0 0 (λ unit us ys. expr_read limit 1 scope ys) (λ unit us. kept_within around) unit us ts (omega arith) (omega arith) (omega arith) ends (expr_local limit 1 scope unit us ts ends)
+    (λ e inner rest left short. kept_local limit around e inner unit us rest left)
 
 -- the end of a list
 brace_local : (scope : Blocks) (unit us ts : List Token) → EndsIn ts → Local 0 1 0 (λ unit us ys. brace_passed scope ys) unit us ts
@@ -100,35 +100,35 @@ begun_local ls scope x unit us ts e ends = local_if 0 1 0 (nat_le (length ls) 25
     (λ h. past_mark 0 0 1 marks.OpenBrace (λ unit us ys. Ok (listed_open (empty_list x.pos ∷ ls), ys, scope)) unit us ts (omega arith) refl e ends (λ rest left short. done 0 0 (listed_open (empty_list x.pos ∷ ls)) scope unit us rest left))
     (λ h. too_deep 0 1 0 unit us ts ends)
 
-init_step : (ls : List OpenList) (scope : Blocks) (unit us ts : List Token) → EndsIn ts → Local 0 1 0 (λ unit us ys. initialiser_step ls scope ys) unit us ts
-init_step ls scope unit us ts ends = by_first 0 1 0 (λ x unit us ys. if marks_it marks.OpenBrace x then (if nat_le (length ls) 254 then Ok (listed_open (empty_list x.pos ∷ ls), after_token ys, scope) else Err (large Depth 257)) else (element_read (length ls) scope ys >>= (λ e. lists_closed ls (t.value x.pos e.0) e.2 e.1))) unit us ts
-    (local_if 0 1 0 (marks_it marks.OpenBrace (token_at ts 0)) (λ unit us ys. if nat_le (length ls) 254 then Ok (listed_open (empty_list (token_at ts 0).pos ∷ ls), after_token ys, scope) else Err (large Depth 257)) (λ unit us ys. element_read (length ls) scope ys >>= (λ e. lists_closed ls (t.value (token_at ts 0).pos e.0) e.2 e.1)) unit us ts
+init_step : (limit : ℕ) (ls : List OpenList) (scope : Blocks) (unit us ts : List Token) → EndsIn ts → Local 0 1 0 (λ unit us ys. initialiser_step limit ls scope ys) unit us ts
+init_step limit ls scope unit us ts ends = by_first 0 1 0 (λ x unit us ys. if marks_it marks.OpenBrace x then (if nat_le (length ls) 254 then Ok (listed_open (empty_list x.pos ∷ ls), after_token ys, scope) else Err (large Depth 257)) else (element_read limit (length ls) scope ys >>= (λ e. lists_closed ls (t.value x.pos e.0) e.2 e.1))) unit us ts
+    (local_if 0 1 0 (marks_it marks.OpenBrace (token_at ts 0)) (λ unit us ys. if nat_le (length ls) 254 then Ok (listed_open (empty_list (token_at ts 0).pos ∷ ls), after_token ys, scope) else Err (large Depth 257)) (λ unit us ys. element_read limit (length ls) scope ys >>= (λ e. lists_closed ls (t.value (token_at ts 0).pos e.0) e.2 e.1)) unit us ts
     (λ e. begun_local ls scope (token_at ts 0) unit us ts e ends)
-    (λ e. seq 0 0 1 0 1 0 0 (λ unit us ys. element_read (length ls) scope ys) (λ unit us e. lists_closed ls (t.value (token_at ts 0).pos e.0) e.2 e.1) unit us ts (omega arith) (omega arith) (omega arith) ends (element_local (length ls) scope unit us ts ends)
+    (λ e. seq 0 0 1 0 1 0 0 (λ unit us ys. element_read limit (length ls) scope ys) (λ unit us e. lists_closed ls (t.value (token_at ts 0).pos e.0) e.2 e.1) unit us ts (omega arith) (omega arith) (omega arith) ends (element_local limit (length ls) scope unit us ts ends)
     (λ v inner rest left short. closed_local ls (t.value (token_at ts 0).pos v) inner unit us rest left)))
 
 -- a step is left where there are tokens
-unrolled : (ls : List OpenList) (scope : Blocks) (unit us ys : List Token) → 0 + 1 ≤ length us → initialiser_run us ls scope ys ≡ (initialiser_step ls scope ys >>= initialiser_next (initialiser_run (tail us)))
-unrolled ls scope unit [] ys h = absurd (omega (arith, h))
-unrolled ls scope unit (u ∷ us) ys h = refl
+unrolled : (limit : ℕ) (ls : List OpenList) (scope : Blocks) (unit us ys : List Token) → 0 + 1 ≤ length us → initialiser_run limit us ls scope ys ≡ (initialiser_step limit ls scope ys >>= initialiser_next (initialiser_run limit (tail us)))
+unrolled limit ls scope unit [] ys h = absurd (omega (arith, h))
+unrolled limit ls scope unit (u ∷ us) ys h = refl
 
-init_next : (r : Listed) (scope : Blocks) (unit : List Token) (u : Token) (us ts : List Token) → EndsIn ts → ((ls : List OpenList) → Local 0 0 0 (λ unit us ys. initialiser_run us ls scope ys) unit us ts) → Local 0 0 1 (λ unit us ys. initialiser_next (initialiser_run (tail us)) (r, ys, scope)) unit (u ∷ us) ts
-init_next (listed_whole i) scope unit u us ts ends f = done 0 1 i scope unit (u ∷ us) ts ends
-init_next (listed_open ls) scope unit u us ts ends f = tailed 0 0 (λ unit us ys. initialiser_run us ls scope ys) unit u us ts (f ls)
+init_next : (limit : ℕ) (r : Listed) (scope : Blocks) (unit : List Token) (u : Token) (us ts : List Token) → EndsIn ts → ((ls : List OpenList) → Local 0 0 0 (λ unit us ys. initialiser_run limit us ls scope ys) unit us ts) → Local 0 0 1 (λ unit us ys. initialiser_next (initialiser_run limit (tail us)) (r, ys, scope)) unit (u ∷ us) ts
+init_next limit (listed_whole i) scope unit u us ts ends f = done 0 1 i scope unit (u ∷ us) ts ends
+init_next limit (listed_open ls) scope unit u us ts ends f = tailed 0 0 (λ unit us ys. initialiser_run limit us ls scope ys) unit u us ts (f ls)
 
-init_run : (us : List Token) (ls : List OpenList) (scope : Blocks) (unit ts : List Token) → EndsIn ts → length ts ≤ length us → Local 0 0 0 (λ unit us ys. initialiser_run us ls scope ys) unit us ts
-init_run us ls scope unit [] ends enough = absurd ends
-init_run [] ls scope unit (t ∷ ts) ends enough = absurd (omega (arith, enough))
-init_run (u ∷ us) ls scope unit (t ∷ ts) ends enough = alike 0 0 0 (λ unit us ys. initialiser_step ls scope ys >>= initialiser_next (initialiser_run (tail us))) (λ unit us ys. initialiser_run us ls scope ys) (t ∷ ts) (initialiser_run (u ∷ us) ls scope (t ∷ ts)) (unrolled ls scope)
-    (seq 0 0 1 0 0 0 1 (λ unit us ys. initialiser_step ls scope ys) (λ unit us. initialiser_next (initialiser_run (tail us))) unit (u ∷ us) (t ∷ ts) (omega arith) (omega arith) (omega arith) ends (init_step ls scope unit (u ∷ us) (t ∷ ts) ends)
-    (λ r inner rest left short. init_next r inner unit u us rest left (λ more. init_run us more inner unit rest left (omega (arith, enough, short)))))
+init_run : (limit : ℕ) (us : List Token) (ls : List OpenList) (scope : Blocks) (unit ts : List Token) → EndsIn ts → length ts ≤ length us → Local 0 0 0 (λ unit us ys. initialiser_run limit us ls scope ys) unit us ts
+init_run limit us ls scope unit [] ends enough = absurd ends
+init_run limit [] ls scope unit (t ∷ ts) ends enough = absurd (omega (arith, enough))
+init_run limit (u ∷ us) ls scope unit (t ∷ ts) ends enough = alike 0 0 0 (λ unit us ys. initialiser_step limit ls scope ys >>= initialiser_next (initialiser_run limit (tail us))) (λ unit us ys. initialiser_run limit us ls scope ys) (t ∷ ts) (initialiser_run limit (u ∷ us) ls scope (t ∷ ts)) (unrolled limit ls scope)
+    (seq 0 0 1 0 0 0 1 (λ unit us ys. initialiser_step limit ls scope ys) (λ unit us. initialiser_next (initialiser_run limit (tail us))) unit (u ∷ us) (t ∷ ts) (omega arith) (omega arith) (omega arith) ends (init_step limit ls scope unit (u ∷ us) (t ∷ ts) ends)
+    (λ r inner rest left short. init_next limit r inner unit u us rest left (λ more. init_run limit us more inner unit rest left (omega (arith, enough, short)))))
 
-pub init_local : (scope : Blocks) (unit us ts : List Token) → EndsIn ts → length ts ≤ length unit → Local 0 0 0 (λ unit us ys. initialiser_read unit scope ys) unit us ts
-init_local scope unit us ts ends fit = all_steps 0 0 (λ unit us ys. initialiser_run us [] scope ys) unit us ts (init_run unit [] scope unit ts ends fit)
+pub init_local : (limit : ℕ) (scope : Blocks) (unit us ts : List Token) → EndsIn ts → length ts ≤ length unit → Local 0 0 0 (λ unit us ys. initialiser_read limit unit scope ys) unit us ts
+init_local limit scope unit us ts ends fit = all_steps 0 0 (λ unit us ys. initialiser_run limit us [] scope ys) unit us ts (init_run limit unit [] scope unit ts ends fit)
 
-pub optional_init_local : (scope : Blocks) (unit us ts : List Token) → EndsIn ts → length ts ≤ length unit → Local 0 0 0 (λ unit us ys. optional_init_read unit scope ys) unit us ts
-optional_init_local scope unit us ts ends fit = if_first 0 0 0 (marks_it marks.Equal) (λ unit us ys. initialiser_read unit scope (after_token ys) >>= (λ i. Ok (Some i.0, i.1, i.2))) (λ unit us ys. Ok (None, ys, scope)) unit us ts
-    (λ e. past_mark 0 0 0 marks.Equal (λ unit us ys. initialiser_read unit scope ys >>= (λ i. Ok (Some i.0, i.1, i.2))) unit us ts (omega arith) refl e ends
-    (λ rest left short. seq 0 0 0 0 0 0 0 (λ unit us ys. initialiser_read unit scope ys) (λ unit us i. Ok (Some i.0, i.1, i.2)) unit us rest (omega arith) (omega arith) (omega arith) left (init_local scope unit us rest left (omega (arith, fit, short)))
+pub optional_init_local : (limit : ℕ) (scope : Blocks) (unit us ts : List Token) → EndsIn ts → length ts ≤ length unit → Local 0 0 0 (λ unit us ys. optional_init_read limit unit scope ys) unit us ts
+optional_init_local limit scope unit us ts ends fit = if_first 0 0 0 (marks_it marks.Equal) (λ unit us ys. initialiser_read limit unit scope (after_token ys) >>= (λ i. Ok (Some i.0, i.1, i.2))) (λ unit us ys. Ok (None, ys, scope)) unit us ts
+    (λ e. past_mark 0 0 0 marks.Equal (λ unit us ys. initialiser_read limit unit scope ys >>= (λ i. Ok (Some i.0, i.1, i.2))) unit us ts (omega arith) refl e ends
+    (λ rest left short. seq 0 0 0 0 0 0 0 (λ unit us ys. initialiser_read limit unit scope ys) (λ unit us i. Ok (Some i.0, i.1, i.2)) unit us rest (omega arith) (omega arith) (omega arith) left (init_local limit scope unit us rest left (omega (arith, fit, short)))
     (λ i inner last none less. done 0 0 (Some i) inner unit us last none)))
     (λ e. done 0 0 None scope unit us ts ends)

@@ -106,51 +106,51 @@ both_true true b h = h
 both_true false b h = absurd (false_true h)
 
 -- an expression, which takes a name that is no type
-operand_by : (c : ℕ) (sign : Sign) (is_type colon : Bool) (scope : Blocks) (unit us ts : List Token) → sign_here ts ≡ sign → names_type scope (name_of sign) ≡ is_type → is_label sign is_type colon ≡ false → Named c sign → EndsIn ts → Local c 1 0 (λ unit us ys. expr_read 0 scope ys) unit us ts
-operand_by zero sign is_type colon scope unit us ts e f l h ends = expr_local 0 scope unit us ts ends
-operand_by (suc zero) (signs.Name n) true colon scope unit us ts e f l h ends = absurd (false_true (sym l))
-operand_by (suc zero) (signs.Name n) false colon scope unit us ts e f l h ends = name_taken scope n unit us ts ends (name_kind (sign_here ts) (token_at ts 0).kind n e (tells (token_at ts 0).kind)) f
-operand_by (suc (suc c)) (signs.Name n) is_type colon scope unit us ts e f l h ends = absurd (omega (arith, h))
-operand_by (suc c) _ is_type colon scope unit us ts e f l h ends = absurd h
+operand_by : (limit : ℕ) (c : ℕ) (sign : Sign) (is_type colon : Bool) (scope : Blocks) (unit us ts : List Token) → sign_here ts ≡ sign → names_type scope (name_of sign) ≡ is_type → is_label sign is_type colon ≡ false → Named c sign → EndsIn ts → Local c 1 0 (λ unit us ys. expr_read limit 0 scope ys) unit us ts
+operand_by limit zero sign is_type colon scope unit us ts e f l h ends = expr_local limit 0 scope unit us ts ends
+operand_by limit (suc zero) (signs.Name n) true colon scope unit us ts e f l h ends = absurd (false_true (sym l))
+operand_by limit (suc zero) (signs.Name n) false colon scope unit us ts e f l h ends = name_taken limit scope n unit us ts ends (name_kind (sign_here ts) (token_at ts 0).kind n e (tells (token_at ts 0).kind)) f
+operand_by limit (suc (suc c)) (signs.Name n) is_type colon scope unit us ts e f l h ends = absurd (omega (arith, h))
+operand_by limit (suc c) _ is_type colon scope unit us ts e f l h ends = absurd h
 
 -- specifiers, which take a name that is a type
-typed_by : (c : ℕ) (sign : Sign) (is_type colon : Bool) (scope : Blocks) (unit us ts : List Token) → sign_here ts ≡ sign → names_type scope (name_of sign) ≡ is_type → starts_declaration sign is_type colon ≡ true → Named c sign → EndsIn ts → Local c c 0 (λ unit us ys. specifiers_read scope ys) unit us ts
-typed_by zero sign is_type colon scope unit us ts e f l h ends = specifiers_local scope unit us ts ends
-typed_by (suc zero) (signs.Name n) true colon scope unit us ts e f l h ends = type_taken scope n unit us ts ends (name_kind (sign_here ts) (token_at ts 0).kind n e (tells (token_at ts 0).kind)) f
-typed_by (suc zero) (signs.Name n) false colon scope unit us ts e f l h ends = absurd (false_true l)
-typed_by (suc (suc c)) (signs.Name n) is_type colon scope unit us ts e f l h ends = absurd (omega (arith, h))
-typed_by (suc c) _ is_type colon scope unit us ts e f l h ends = absurd h
+typed_by : (limit : ℕ) (c : ℕ) (sign : Sign) (is_type colon : Bool) (scope : Blocks) (unit us ts : List Token) → sign_here ts ≡ sign → names_type scope (name_of sign) ≡ is_type → starts_declaration sign is_type colon ≡ true → Named c sign → EndsIn ts → Local c c 0 (λ unit us ys. specifiers_read limit scope ys) unit us ts
+typed_by limit zero sign is_type colon scope unit us ts e f l h ends = specifiers_local limit scope unit us ts ends
+typed_by limit (suc zero) (signs.Name n) true colon scope unit us ts e f l h ends = type_taken limit scope n unit us ts ends (name_kind (sign_here ts) (token_at ts 0).kind n e (tells (token_at ts 0).kind)) f
+typed_by limit (suc zero) (signs.Name n) false colon scope unit us ts e f l h ends = absurd (false_true l)
+typed_by limit (suc (suc c)) (signs.Name n) is_type colon scope unit us ts e f l h ends = absurd (omega (arith, h))
+typed_by limit (suc c) _ is_type colon scope unit us ts e f l h ends = absurd h
 
-word_by : (c : ℕ) (sign : Sign) (x : Token) (scope : Blocks) (unit us ts : List Token) → sign_here ts ≡ sign → c ≤ 0 → EndsIn ts → Local c 1 0 (λ unit us ys. word_begun (word_of sign) x.pos scope ys) unit us ts
-word_by zero sign x scope unit us ts e low ends = word_local (word_of sign) x.pos scope unit us ts (ap word_of e) ends
-word_by (suc c) sign x scope unit us ts e low ends = absurd (omega (arith, low))
+word_by : (limit : ℕ) (c : ℕ) (sign : Sign) (x : Token) (scope : Blocks) (unit us ts : List Token) → sign_here ts ≡ sign → c ≤ 0 → EndsIn ts → Local c 1 0 (λ unit us ys. word_begun limit (word_of sign) x.pos scope ys) unit us ts
+word_by limit zero sign x scope unit us ts e low ends = word_local limit (word_of sign) x.pos scope unit us ts (ap word_of e) ends
+word_by limit (suc c) sign x scope unit us ts e low ends = absurd (omega (arith, low))
 
-statement_by : (c : ℕ) (sign : Sign) (is_type colon : Bool) (scope : Blocks) (unit us ts : List Token) → sign_here ts ≡ sign → names_type scope (name_of sign) ≡ is_type → Named c sign → EndsIn ts → Local c 1 0 (λ unit us ys. statement_begun sign (is_label sign is_type colon) scope ys) unit us ts
-statement_by c sign is_type colon scope unit us ts e f h ends =
+statement_by : (limit : ℕ) (c : ℕ) (sign : Sign) (is_type colon : Bool) (scope : Blocks) (unit us ts : List Token) → sign_here ts ≡ sign → names_type scope (name_of sign) ≡ is_type → Named c sign → EndsIn ts → Local c 1 0 (λ unit us ys. statement_begun limit sign (is_label sign is_type colon) scope ys) unit us ts
+statement_by limit c sign is_type colon scope unit us ts e f h ends =
     let low = named_low c sign h in
-    by_first c 1 0 (λ x unit us ys. if is_label sign is_type colon then label_begun x.pos scope ys else (if is_evaluated sign then eval_begun x.pos scope ys else word_begun (word_of sign) x.pos scope ys)) unit us ts
-    (local_if c 1 0 (is_label sign is_type colon) (λ unit us ys. label_begun (token_at ts 0).pos scope ys) (λ unit us ys. if is_evaluated sign then eval_begun (token_at ts 0).pos scope ys else word_begun (word_of sign) (token_at ts 0).pos scope ys) unit us ts
+    by_first c 1 0 (λ x unit us ys. if is_label sign is_type colon then label_begun x.pos scope ys else (if is_evaluated sign then eval_begun limit x.pos scope ys else word_begun limit (word_of sign) x.pos scope ys)) unit us ts
+    (local_if c 1 0 (is_label sign is_type colon) (λ unit us ys. label_begun (token_at ts 0).pos scope ys) (λ unit us ys. if is_evaluated sign then eval_begun limit (token_at ts 0).pos scope ys else word_begun limit (word_of sign) (token_at ts 0).pos scope ys) unit us ts
     (λ l. label_local c (token_at ts 0).pos scope unit us ts low (λ n. named_none c sign h (ap name_of (sym e) ∙ n)) ends)
-    (λ l. local_if c 1 0 (is_evaluated sign) (λ unit us ys. eval_begun (token_at ts 0).pos scope ys) (λ unit us ys. word_begun (word_of sign) (token_at ts 0).pos scope ys) unit us ts
-    (λ v. eval_local c (token_at ts 0).pos scope unit us ts ends low (operand_by c sign is_type colon scope unit us ts e f l h ends) (λ m. named_mark c sign h (ap (is_mark marks.Semicolon) (sym e) ∙ m)))
-    (λ v. word_by c sign (token_at ts 0) scope unit us ts e (named_evaluated c sign h v) ends)))
+    (λ l. local_if c 1 0 (is_evaluated sign) (λ unit us ys. eval_begun limit (token_at ts 0).pos scope ys) (λ unit us ys. word_begun limit (word_of sign) (token_at ts 0).pos scope ys) unit us ts
+    (λ v. eval_local limit c (token_at ts 0).pos scope unit us ts ends low (operand_by limit c sign is_type colon scope unit us ts e f l h ends) (λ m. named_mark c sign h (ap (is_mark marks.Semicolon) (sym e) ∙ m)))
+    (λ v. word_by limit c sign (token_at ts 0) scope unit us ts e (named_evaluated c sign h v) ends)))
 
-begun_local : (c : ℕ) (place : Place) (sign : Sign) (is_type colon : Bool) (scope : Blocks) (unit us ts : List Token) → sign_here ts ≡ sign → names_type scope (name_of sign) ≡ is_type → Named c sign → EndsIn ts → length ts ≤ length unit → Local c 1 0 (λ unit us ys. begun_by unit place sign is_type colon scope ys) unit us ts
-begun_local c place sign is_type colon scope unit us ts e f h ends fit =
+begun_local : (limit : ℕ) (c : ℕ) (place : Place) (sign : Sign) (is_type colon : Bool) (scope : Blocks) (unit us ts : List Token) → sign_here ts ≡ sign → names_type scope (name_of sign) ≡ is_type → Named c sign → EndsIn ts → length ts ≤ length unit → Local c 1 0 (λ unit us ys. begun_by limit unit place sign is_type colon scope ys) unit us ts
+begun_local limit c place sign is_type colon scope unit us ts e f h ends fit =
     let low = named_low c sign h in
-    local_if c 1 0 (place.in_block && is_mark marks.CloseBrace sign) (λ unit us ys. Ok (closed_here scope ys)) (λ unit us ys. begun_inside unit place sign is_type colon scope ys) unit us ts
+    local_if c 1 0 (place.in_block && is_mark marks.CloseBrace sign) (λ unit us ys. Ok (closed_here scope ys)) (λ unit us ys. begun_inside limit unit place sign is_type colon scope ys) unit us ts
     (λ b. taken_mark c c 0 1 marks.CloseBrace (λ unit us ys. Ok (begun_close, ys, closed scope)) unit us ts (omega arith) (omega arith) refl (ap (is_mark marks.CloseBrace) e ∙ both_true place.in_block (is_mark marks.CloseBrace sign) b) ends (λ rest left short. done c 0 begun_close (closed scope) unit us rest left))
-    (λ b. local_if c 1 0 (place.takes_declarations && starts_declaration sign is_type colon) (λ unit us ys. declaration_begun unit scope ys) (λ unit us ys. begun_within place sign (is_label sign is_type colon) scope ys) unit us ts
-    (λ d. seq c 0 1 0 1 0 0 (λ unit us ys. declaration_read unit scope ys) (λ unit us x. Ok (begun_decl x.0, x.1, x.2)) unit us ts (omega arith) (omega (arith, low)) (omega arith) ends (declaration_by c c scope unit us ts ends fit (omega arith) (typed_by c sign is_type colon scope unit us ts e f (both_true place.takes_declarations (starts_declaration sign is_type colon) d) h ends))
+    (λ b. local_if c 1 0 (place.takes_declarations && starts_declaration sign is_type colon) (λ unit us ys. declaration_begun limit unit scope ys) (λ unit us ys. begun_within limit place sign (is_label sign is_type colon) scope ys) unit us ts
+    (λ d. seq c 0 1 0 1 0 0 (λ unit us ys. declaration_read limit unit scope ys) (λ unit us x. Ok (begun_decl x.0, x.1, x.2)) unit us ts (omega arith) (omega (arith, low)) (omega arith) ends (declaration_by limit c c scope unit us ts ends fit (omega arith) (typed_by limit c sign is_type colon scope unit us ts e f (both_true place.takes_declarations (starts_declaration sign is_type colon) d) h ends))
     (λ x inner rest left short. done 0 0 (begun_decl x) inner unit us rest left))
-    (λ d. local_if c 1 0 (nat_le place.around (256 - least_depth sign (is_label sign is_type colon))) (λ unit us ys. statement_begun sign (is_label sign is_type colon) scope ys) (λ unit us ys. Err (large Depth 257)) unit us ts
-    (λ w. statement_by c sign is_type colon scope unit us ts e f h ends)
+    (λ d. local_if c 1 0 (nat_le place.around (limit - least_depth sign (is_label sign is_type colon))) (λ unit us ys. statement_begun limit sign (is_label sign is_type colon) scope ys) (λ unit us ys. Err (large Depth 257)) unit us ts
+    (λ w. statement_by limit c sign is_type colon scope unit us ts e f h ends)
     (λ w. too_deep c 1 0 unit us ts ends)))
 
 -- only at a name the colon counts
-no_colon : (sign : Sign) (unit : List Token) (place : Place) (is_type colon other : Bool) (scope : Blocks) (ts : List Token) → name_of sign ≡ None → begun_by unit place sign is_type colon scope ts ≡ begun_by unit place sign is_type other scope ts
-no_colon (signs.Name n) unit place is_type colon other scope ts e = absurd (no_none n (sym e))
-no_colon _ unit place is_type colon other scope ts e = refl
+no_colon : (limit : ℕ) (sign : Sign) (unit : List Token) (place : Place) (is_type colon other : Bool) (scope : Blocks) (ts : List Token) → name_of sign ≡ None → begun_by limit unit place sign is_type colon scope ts ≡ begun_by limit unit place sign is_type other scope ts
+no_colon limit (signs.Name n) unit place is_type colon other scope ts e = absurd (no_none n (sym e))
+no_colon limit _ unit place is_type colon other scope ts e = refl
 
 not_end : (sign : Sign) (n : Name) → name_of sign ≡ Some n → sign ≡ signs.End → ⊥
 not_end sign n e h = no_none n (sym (ap name_of h) ∙ e)
@@ -159,15 +159,15 @@ a_name : (sign : Sign) (n : Name) → name_of sign ≡ Some n → Named 1 sign
 a_name (signs.Name m) n e = omega arith
 a_name _ n e = absurd (no_none n e)
 
-place_by : (o : Option Name) (place : Place) (scope : Blocks) (unit us ts : List Token) → name_of (sign_here ts) ≡ o → EndsIn ts → length ts ≤ length unit → Local 0 1 0 (λ unit us ys. begun_by unit place (sign_here ts) (names_type scope (name_of (sign_here ts))) (colon_follows ys) scope ys) unit us ts
-place_by None place scope unit us ts e ends fit =
+place_by : (limit : ℕ) (o : Option Name) (place : Place) (scope : Blocks) (unit us ts : List Token) → name_of (sign_here ts) ≡ o → EndsIn ts → length ts ≤ length unit → Local 0 1 0 (λ unit us ys. begun_by limit unit place (sign_here ts) (names_type scope (name_of (sign_here ts))) (colon_follows ys) scope ys) unit us ts
+place_by limit None place scope unit us ts e ends fit =
     let is_type = names_type scope (name_of (sign_here ts)) in
-    alike 0 1 0 (λ unit us ys. begun_by unit place (sign_here ts) is_type (colon_follows ts) scope ys) (λ unit us ys. begun_by unit place (sign_here ts) is_type (colon_follows ys) scope ys) ts (begun_by unit place (sign_here ts) is_type (colon_follows ts) scope ts) (λ unit us ys some. no_colon (sign_here ts) unit place is_type (colon_follows ys) (colon_follows ts) scope ys e)
-    (begun_local 0 place (sign_here ts) is_type (colon_follows ts) scope unit us ts refl refl tt ends fit)
-place_by (Some n) place scope unit us ts e ends fit =
+    alike 0 1 0 (λ unit us ys. begun_by limit unit place (sign_here ts) is_type (colon_follows ts) scope ys) (λ unit us ys. begun_by limit unit place (sign_here ts) is_type (colon_follows ys) scope ys) ts (begun_by limit unit place (sign_here ts) is_type (colon_follows ts) scope ts) (λ unit us ys some. no_colon limit (sign_here ts) unit place is_type (colon_follows ys) (colon_follows ts) scope ys e)
+    (begun_local limit 0 place (sign_here ts) is_type (colon_follows ts) scope unit us ts refl refl tt ends fit)
+place_by limit (Some n) place scope unit us ts e ends fit =
     let is_type = names_type scope (name_of (sign_here ts)) in
-    by_second (λ b unit us ys. begun_by unit place (sign_here ts) is_type b scope ys) unit us ts (first_of_these ts (not_end (sign_here ts) n e) ends)
-    (begun_local 1 place (sign_here ts) is_type (colon_follows ts) scope unit us ts refl refl (a_name (sign_here ts) n e) ends fit)
+    by_second (λ b unit us ys. begun_by limit unit place (sign_here ts) is_type b scope ys) unit us ts (first_of_these ts (not_end (sign_here ts) n e) ends)
+    (begun_local limit 1 place (sign_here ts) is_type (colon_follows ts) scope unit us ts refl refl (a_name (sign_here ts) n e) ends fit)
 
-pub at_local : (place : Place) (scope : Blocks) (unit us ts : List Token) → EndsIn ts → length ts ≤ length unit → Local 0 1 0 (λ unit us ys. begun_at unit place scope ys) unit us ts
-at_local place scope unit us ts ends fit = by_first 0 1 0 (λ x unit us ys. begun_by unit place (sign_of x.kind) (names_type scope (name_of (sign_of x.kind))) (colon_follows ys) scope ys) unit us ts (place_by (name_of (sign_here ts)) place scope unit us ts refl ends fit)
+pub at_local : (limit : ℕ) (place : Place) (scope : Blocks) (unit us ts : List Token) → EndsIn ts → length ts ≤ length unit → Local 0 1 0 (λ unit us ys. begun_at limit unit place scope ys) unit us ts
+at_local limit place scope unit us ts ends fit = by_first 0 1 0 (λ x unit us ys. begun_by limit unit place (sign_of x.kind) (names_type scope (name_of (sign_of x.kind))) (colon_follows ys) scope ys) unit us ts (place_by limit (name_of (sign_here ts)) place scope unit us ts refl ends fit)

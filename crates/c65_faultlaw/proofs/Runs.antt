@@ -34,24 +34,24 @@ Allows c m (stop d) = m ≤ 0
 Allows c m deep = Unit {0}
 Allows c m fail = c ≤ 0
 
-abbrev MachineLocal : ℕ → ℕ → ℕ → Blocks → List Frame → Held → List Token → Type 0
-MachineLocal c m least scope fs held ts = (unit us : List Token) → Local c m 0 (λ unit us ys. run least scope fs held ys) unit us ts
+abbrev MachineLocal : (limit : ℕ) → ℕ → ℕ → ℕ → Blocks → List Frame → Held → List Token → Type 0
+MachineLocal limit c m least scope fs held ts = (unit us : List Token) → Local c m 0 (λ unit us ys. run limit least scope fs held ys) unit us ts
 
-more_left : (least : ℕ) (scope : Blocks) (fs gs : List Frame) (held next : Held) (change : Change) (tok : Token) (ts : List Token) → EndsIn (tok ∷ ts) → step least scope fs held tok ≡ go gs next change → EndsIn ts
-more_left least scope fs gs held next change tok [] ends e = absurd (subst NoGo e (end_stops least scope fs held tok ends))
-more_left least scope fs gs held next change tok (u ∷ ts) ends e = ends
+more_left : (limit : ℕ) (least : ℕ) (scope : Blocks) (fs gs : List Frame) (held next : Held) (change : Change) (tok : Token) (ts : List Token) → EndsIn (tok ∷ ts) → step limit least scope fs held tok ≡ go gs next change → EndsIn ts
+more_left limit least scope fs gs held next change tok [] ends e = absurd (subst NoGo e (end_stops limit least scope fs held tok ends))
+more_left limit least scope fs gs held next change tok (u ∷ ts) ends e = ends
 
-step_local : (c m least : ℕ) (scope : Blocks) (fs : List Frame) (held : Held) (tok : Token) (ts : List Token) (n : Next) → step least scope fs held tok ≡ n → Allows c m n
-    → ((gs : List Frame) (next : Held) (change : Change) → step least scope fs held tok ≡ go gs next change → MachineLocal 0 0 least (changed change scope) gs next ts)
-    → Is c m 0 (λ unit us ys. run least scope fs held ys) (tok ∷ ts) (then_run least scope tok ts n)
-step_local c m least scope fs held tok ts (go gs next change) e a f =
+step_local : (limit : ℕ) (c m least : ℕ) (scope : Blocks) (fs : List Frame) (held : Held) (tok : Token) (ts : List Token) (n : Next) → step limit least scope fs held tok ≡ n → Allows c m n
+    → ((gs : List Frame) (next : Held) (change : Change) → step limit least scope fs held tok ≡ go gs next change → MachineLocal limit 0 0 least (changed change scope) gs next ts)
+    → Is c m 0 (λ unit us ys. run limit least scope fs held ys) (tok ∷ ts) (then_run limit least scope tok ts n)
+step_local limit c m least scope fs held tok ts (go gs next change) e a f =
     let low = a.0 in
     let less = a.1 in
-    shifted 0 c 0 m 0 0 tok (λ unit us ys. run least (changed change scope) gs next ys) (λ unit us ys. run least scope fs held ys) ts (run least (changed change scope) gs next ts) (omega (arith, low)) (omega (arith, less)) (omega arith)
-    (λ unit us before u more. ap (then_run least scope tok (before ++ u ∷ more)) e) (f gs next change e [] [])
-step_local c m least scope fs held tok ts (stop d) e a f = record { before = []; next = tok; others = ts; tokens_are = refl; rest_is = refl; some = a; again = λ unit us more fit room. ap (then_run least scope tok more) e }
-step_local c m least scope fs held tok ts deep e a f = record { before = []; next = tok; others = ts; tokens_are = refl; fault_is = inr refl; late = inr refl; again = λ unit us more fit room. ap (then_run least scope tok more) e }
-step_local c m least scope fs held tok ts fail e a f = record { before = []; next = tok; others = ts; tokens_are = refl; fault_is = fault_of tok; late = inl a; again = λ unit us more fit room. ap (then_run least scope tok more) e }
+    shifted 0 c 0 m 0 0 tok (λ unit us ys. run limit least (changed change scope) gs next ys) (λ unit us ys. run limit least scope fs held ys) ts (run limit least (changed change scope) gs next ts) (omega (arith, low)) (omega (arith, less)) (omega arith)
+    (λ unit us before u more. ap (then_run limit least scope tok (before ++ u ∷ more)) e) (f gs next change e [] [])
+step_local limit c m least scope fs held tok ts (stop d) e a f = record { before = []; next = tok; others = ts; tokens_are = refl; rest_is = refl; some = a; again = λ unit us more fit room. ap (then_run limit least scope tok more) e }
+step_local limit c m least scope fs held tok ts deep e a f = record { before = []; next = tok; others = ts; tokens_are = refl; fault_is = inr refl; late = inr refl; again = λ unit us more fit room. ap (then_run limit least scope tok more) e }
+step_local limit c m least scope fs held tok ts fail e a f = record { before = []; next = tok; others = ts; tokens_are = refl; fault_is = fault_of tok; late = inl a; again = λ unit us more fit room. ap (then_run limit least scope tok more) e }
 
 any_allowed : (n : Next) → Allows 0 0 n
 any_allowed (go fs held change) = (omega arith, omega arith)
@@ -59,18 +59,18 @@ any_allowed (stop d) = omega arith
 any_allowed deep = tt
 any_allowed fail = omega arith
 
-run_any : (least : ℕ) (ts : List Token) (scope : Blocks) (fs : List Frame) (held : Held) → EndsIn ts → MachineLocal 0 0 least scope fs held ts
-run_any least [] scope fs held ends unit us = absurd ends
-run_any least (tok ∷ ts) scope fs held ends unit us = step_local 0 0 least scope fs held tok ts (step least scope fs held tok) refl (any_allowed (step least scope fs held tok))
-    (λ gs next change e. run_any least ts (changed change scope) gs next (more_left least scope fs gs held next change tok ts ends e))
+run_any : (limit : ℕ) (least : ℕ) (ts : List Token) (scope : Blocks) (fs : List Frame) (held : Held) → EndsIn ts → MachineLocal limit 0 0 least scope fs held ts
+run_any limit least [] scope fs held ends unit us = absurd ends
+run_any limit least (tok ∷ ts) scope fs held ends unit us = step_local limit 0 0 least scope fs held tok ts (step limit least scope fs held tok) refl (any_allowed (step limit least scope fs held tok))
+    (λ gs next change e. run_any limit least ts (changed change scope) gs next (more_left limit least scope fs gs held next change tok ts ends e))
 
 -- where the first token is known to be taken, or to be no end
-pub run_local : (c m least : ℕ) (ts : List Token) (scope : Blocks) (fs : List Frame) (held : Held) (unit us : List Token) → EndsIn ts → Allows c m (step least scope fs held (token_at ts 0)) → Local c m 0 (λ unit us ys. run least scope fs held ys) unit us ts
-run_local c m least [] scope fs held unit us ends a = absurd ends
-run_local c m least (tok ∷ []) scope fs held unit us ends a = step_local c m least scope fs held tok [] (step least scope fs held tok) refl a
-    (λ gs next change e. run_any least [] (changed change scope) gs next (more_left least scope fs gs held next change tok [] ends e))
-run_local c m least (tok ∷ u ∷ ts) scope fs held unit us ends a = step_local c m least scope fs held tok (u ∷ ts) (step least scope fs held tok) refl a
-    (λ gs next change e. run_any least (u ∷ ts) (changed change scope) gs next (more_left least scope fs gs held next change tok (u ∷ ts) ends e))
+pub run_local : (limit : ℕ) (c m least : ℕ) (ts : List Token) (scope : Blocks) (fs : List Frame) (held : Held) (unit us : List Token) → EndsIn ts → Allows c m (step limit least scope fs held (token_at ts 0)) → Local c m 0 (λ unit us ys. run limit least scope fs held ys) unit us ts
+run_local limit c m least [] scope fs held unit us ends a = absurd ends
+run_local limit c m least (tok ∷ []) scope fs held unit us ends a = step_local limit c m least scope fs held tok [] (step limit least scope fs held tok) refl a
+    (λ gs next change e. run_any limit least [] (changed change scope) gs next (more_left limit least scope fs gs held next change tok [] ends e))
+run_local limit c m least (tok ∷ u ∷ ts) scope fs held unit us ends a = step_local limit c m least scope fs held tok (u ∷ ts) (step limit least scope fs held tok) refl a
+    (λ gs next change e. run_any limit least (u ∷ ts) (changed change scope) gs next (more_left limit least scope fs gs held next change tok (u ∷ ts) ends e))
 
 -- a tree of the sort that was asked for
 expr_done : (d : Done) (scope : Blocks) (unit us ts : List Token) → EndsIn ts → Local 0 0 0 (λ unit us ys. as_expr (d, ys, scope)) unit us ts
@@ -105,75 +105,75 @@ within_no_stop : (b : Bool) (n : Next) → NoStop n → NoStop (within b n)
 within_no_stop true n h = h
 within_no_stop false n h = tt
 
-begun_no_stop : (fs : List Frame) (l : Pos) (sign : Sign) (p : Option Prefix) → NoStop (begin_by fs l sign p)
-begun_no_stop fs l sign (Some p) = within_no_stop (has_room fs 2) (goes (in_operation (in_prefix l p) ∷ fs) operand) tt
-begun_no_stop fs l signs.Sizeof None = within_no_stop (has_room fs 2) (goes fs (sizeof_word l)) tt
-begun_no_stop fs l signs.Open None = within_no_stop (has_room fs 2) (goes fs (opened l)) tt
-begun_no_stop fs l _ None = tt
+begun_no_stop : (limit : ℕ) (fs : List Frame) (l : Pos) (sign : Sign) (p : Option Prefix) → NoStop (begin_by limit fs l sign p)
+begun_no_stop limit fs l sign (Some p) = within_no_stop (has_room limit fs 2) (goes (in_operation (in_prefix l p) ∷ fs) operand) tt
+begun_no_stop limit fs l signs.Sizeof None = within_no_stop (has_room limit fs 2) (goes fs (sizeof_word l)) tt
+begun_no_stop limit fs l signs.Open None = within_no_stop (has_room limit fs 2) (goes fs (opened l)) tt
+begun_no_stop limit fs l _ None = tt
 
-leaf_no_stop : (fs : List Frame) (l : Pos) (sign : Sign) (o : Option t.ExprTree) → NoStop (begin_with fs l sign o)
-leaf_no_stop fs l sign (Some e) = within_no_stop (has_room fs 1) (goes fs (have_expr e)) tt
-leaf_no_stop fs l sign None = begun_no_stop fs l sign (prefix_of sign)
+leaf_no_stop : (limit : ℕ) (fs : List Frame) (l : Pos) (sign : Sign) (o : Option t.ExprTree) → NoStop (begin_with limit fs l sign o)
+leaf_no_stop limit fs l sign (Some e) = within_no_stop (has_room limit fs 1) (goes fs (have_expr e)) tt
+leaf_no_stop limit fs l sign None = begun_no_stop limit fs l sign (prefix_of sign)
 
-operand_no_stop : (least : ℕ) (scope : Blocks) (tok : Token) → NoStop (step least scope [] operand tok)
+operand_no_stop : (limit : ℕ) (least : ℕ) (scope : Blocks) (tok : Token) → NoStop (step limit least scope [] operand tok)
 unfolding step operand_step
-operand_no_stop least scope tok = leaf_no_stop [] tok.pos (sign_of (is_type_in scope) tok) (leaf_of tok (names_type (sign_of (is_type_in scope) tok)))
+operand_no_stop limit least scope tok = leaf_no_stop limit [] tok.pos (sign_of (is_type_in scope) tok) (leaf_of tok (names_type (sign_of (is_type_in scope) tok)))
 
 -- an expression
-pub expr_by : (c least : ℕ) (scope : Blocks) (unit us ts : List Token) → c ≤ 1 → EndsIn ts → Allows c 1 (step least scope [] operand (token_at ts 0)) → Local c 1 0 (λ unit us ys. expr_read least scope ys) unit us ts
-expr_by c least scope unit us ts low ends a = seq c 0 1 0 1 0 0 (λ unit us ys. run least scope [] operand ys) (λ unit us. as_expr) unit us ts (omega arith) (omega (arith, low)) (omega arith) ends (run_local c 1 least ts scope [] operand unit us ends a)
+pub expr_by : (limit : ℕ) (c least : ℕ) (scope : Blocks) (unit us ts : List Token) → c ≤ 1 → EndsIn ts → Allows c 1 (step limit least scope [] operand (token_at ts 0)) → Local c 1 0 (λ unit us ys. expr_read limit least scope ys) unit us ts
+expr_by limit c least scope unit us ts low ends a = seq c 0 1 0 1 0 0 (λ unit us ys. run limit least scope [] operand ys) (λ unit us. as_expr) unit us ts (omega arith) (omega (arith, low)) (omega arith) ends (run_local limit c 1 least ts scope [] operand unit us ends a)
     (λ d inner rest left short. expr_done d inner unit us rest left)
 
-pub expr_local : (least : ℕ) (scope : Blocks) (unit us ts : List Token) → EndsIn ts → Local 0 1 0 (λ unit us ys. expr_read least scope ys) unit us ts
-expr_local least scope unit us ts ends = expr_by 0 least scope unit us ts (omega arith) ends (no_stop _ (operand_no_stop least scope (token_at ts 0)))
+pub expr_local : (limit : ℕ) (least : ℕ) (scope : Blocks) (unit us ts : List Token) → EndsIn ts → Local 0 1 0 (λ unit us ys. expr_read limit least scope ys) unit us ts
+expr_local limit least scope unit us ts ends = expr_by limit 0 least scope unit us ts (omega arith) ends (no_stop _ (operand_no_stop limit least scope (token_at ts 0)))
 
 -- specifiers
-listed_by : (c m : ℕ) (takes_storage : Bool) (scope : Blocks) (unit us ts : List Token) → c ≤ m → EndsIn ts → Allows c m (step 0 scope [] (specifiers (nothing_listed takes_storage)) (token_at ts 0)) → Local c m 0 (λ unit us ys. listed_read takes_storage scope ys) unit us ts
-listed_by c m takes_storage scope unit us ts low ends a = seq c 0 m 0 m 0 0 (λ unit us ys. run 0 scope [] (specifiers (nothing_listed takes_storage)) ys) (λ unit us. as_specifiers) unit us ts (omega arith) (omega (arith, low)) (omega arith) ends (run_local c m 0 ts scope [] (specifiers (nothing_listed takes_storage)) unit us ends a)
+listed_by : (limit : ℕ) (c m : ℕ) (takes_storage : Bool) (scope : Blocks) (unit us ts : List Token) → c ≤ m → EndsIn ts → Allows c m (step limit 0 scope [] (specifiers (nothing_listed takes_storage)) (token_at ts 0)) → Local c m 0 (λ unit us ys. listed_read limit takes_storage scope ys) unit us ts
+listed_by limit c m takes_storage scope unit us ts low ends a = seq c 0 m 0 m 0 0 (λ unit us ys. run limit 0 scope [] (specifiers (nothing_listed takes_storage)) ys) (λ unit us. as_specifiers) unit us ts (omega arith) (omega (arith, low)) (omega arith) ends (run_local limit c m 0 ts scope [] (specifiers (nothing_listed takes_storage)) unit us ends a)
     (λ d inner rest left short. listed_done d inner unit us rest left)
 
-pub specifiers_by : (c m : ℕ) (scope : Blocks) (unit us ts : List Token) → c ≤ m → EndsIn ts → Allows c m (step 0 scope [] (specifiers (nothing_listed true)) (token_at ts 0)) → Local c m 0 (λ unit us ys. specifiers_read scope ys) unit us ts
-specifiers_by c m scope unit us ts low ends a = seq c 0 m 0 m 0 0 (λ unit us ys. listed_read true scope ys) (λ unit us q. Ok (q.0.tree, q.1, q.2)) unit us ts (omega arith) (omega (arith, low)) (omega arith) ends (listed_by c m true scope unit us ts low ends a)
+pub specifiers_by : (limit : ℕ) (c m : ℕ) (scope : Blocks) (unit us ts : List Token) → c ≤ m → EndsIn ts → Allows c m (step limit 0 scope [] (specifiers (nothing_listed true)) (token_at ts 0)) → Local c m 0 (λ unit us ys. specifiers_read limit scope ys) unit us ts
+specifiers_by limit c m scope unit us ts low ends a = seq c 0 m 0 m 0 0 (λ unit us ys. listed_read limit true scope ys) (λ unit us q. Ok (q.0.tree, q.1, q.2)) unit us ts (omega arith) (omega (arith, low)) (omega arith) ends (listed_by limit c m true scope unit us ts low ends a)
     (λ q inner rest left short. done 0 0 q.tree inner unit us rest left)
 
-pub specifiers_local : (scope : Blocks) (unit us ts : List Token) → EndsIn ts → Local 0 0 0 (λ unit us ys. specifiers_read scope ys) unit us ts
-specifiers_local scope unit us ts ends = specifiers_by 0 0 scope unit us ts (omega arith) ends (any_allowed _)
+pub specifiers_local : (limit : ℕ) (scope : Blocks) (unit us ts : List Token) → EndsIn ts → Local 0 0 0 (λ unit us ys. specifiers_read limit scope ys) unit us ts
+specifiers_local limit scope unit us ts ends = specifiers_by limit 0 0 scope unit us ts (omega arith) ends (any_allowed _)
 
 -- declarators
-declarator_by : (m : ℕ) (sort : Sort) (scope : Blocks) (unit us ts : List Token) → EndsIn ts → Allows 0 m (step 0 scope [] (declarator sort) (token_at ts 0)) → Local 0 m 0 (λ unit us ys. declarator_read sort scope ys) unit us ts
-declarator_by m sort scope unit us ts ends a = seq 0 0 m 0 m 0 0 (λ unit us ys. run 0 scope [] (declarator sort) ys) (λ unit us. as_declarator) unit us ts (omega arith) (omega arith) (omega arith) ends (run_local 0 m 0 ts scope [] (declarator sort) unit us ends a)
+declarator_by : (limit : ℕ) (m : ℕ) (sort : Sort) (scope : Blocks) (unit us ts : List Token) → EndsIn ts → Allows 0 m (step limit 0 scope [] (declarator sort) (token_at ts 0)) → Local 0 m 0 (λ unit us ys. declarator_read limit sort scope ys) unit us ts
+declarator_by limit m sort scope unit us ts ends a = seq 0 0 m 0 m 0 0 (λ unit us ys. run limit 0 scope [] (declarator sort) ys) (λ unit us. as_declarator) unit us ts (omega arith) (omega arith) (omega arith) ends (run_local limit 0 m 0 ts scope [] (declarator sort) unit us ends a)
     (λ d inner rest left short. declarator_done d inner unit us rest left)
 
-pub declarator_local : (sort : Sort) (scope : Blocks) (unit us ts : List Token) → EndsIn ts → Local 0 0 0 (λ unit us ys. declarator_read sort scope ys) unit us ts
-declarator_local sort scope unit us ts ends = declarator_by 0 sort scope unit us ts ends (any_allowed _)
+pub declarator_local : (limit : ℕ) (sort : Sort) (scope : Blocks) (unit us ts : List Token) → EndsIn ts → Local 0 0 0 (λ unit us ys. declarator_read limit sort scope ys) unit us ts
+declarator_local limit sort scope unit us ts ends = declarator_by limit 0 sort scope unit us ts ends (any_allowed _)
 
 if_no_stop : (b : Bool) (n m : Next) → NoStop n → NoStop m → NoStop (if b then n else m)
 if_no_stop true n m h k = h
 if_no_stop false n m h k = k
 
-named_no_stop : (typed : Bool) (l : Pos) (sign : Sign) → NoStop (declarator_step (sorts.Named typed) [] l sign)
+named_no_stop : (limit : ℕ) (typed : Bool) (l : Pos) (sign : Sign) → NoStop (declarator_step limit (sorts.Named typed) [] l sign)
 unfolding declarator_step without_name
-named_no_stop typed l signs.Star = tt
-named_no_stop typed l (signs.Calling cdecl) = tt
-named_no_stop typed l signs.Open = tt
-named_no_stop typed l (signs.Name n is_type) = if_no_stop (takes_name (sorts.Named typed) is_type) (goes [] (have_declarator (t.named l n))) fail tt tt
-named_no_stop typed l _ = tt
+named_no_stop limit typed l signs.Star = tt
+named_no_stop limit typed l (signs.Calling cdecl) = tt
+named_no_stop limit typed l signs.Open = tt
+named_no_stop limit typed l (signs.Name n is_type) = if_no_stop (takes_name (sorts.Named typed) is_type) (goes [] (have_declarator (t.named l n))) fail tt tt
+named_no_stop limit typed l _ = tt
 
-named_step : (typed : Bool) (scope : Blocks) (tok : Token) → NoStop (step 0 scope [] (declarator (sorts.Named typed)) tok)
+named_step : (limit : ℕ) (typed : Bool) (scope : Blocks) (tok : Token) → NoStop (step limit 0 scope [] (declarator (sorts.Named typed)) tok)
 unfolding step
-named_step typed scope tok = named_no_stop typed tok.pos (sign_of (is_type_in scope) tok)
+named_step limit typed scope tok = named_no_stop limit typed tok.pos (sign_of (is_type_in scope) tok)
 
 -- a declarator with a name
-pub named_local : (typed : Bool) (scope : Blocks) (unit us ts : List Token) → EndsIn ts → Local 0 1 0 (λ unit us ys. declarator_read (sorts.Named typed) scope ys) unit us ts
-named_local typed scope unit us ts ends = declarator_by 1 (sorts.Named typed) scope unit us ts ends (no_stop _ (named_step typed scope (token_at ts 0)))
+pub named_local : (limit : ℕ) (typed : Bool) (scope : Blocks) (unit us ts : List Token) → EndsIn ts → Local 0 1 0 (λ unit us ys. declarator_read limit (sorts.Named typed) scope ys) unit us ts
+named_local limit typed scope unit us ts ends = declarator_by limit 1 (sorts.Named typed) scope unit us ts ends (no_stop _ (named_step limit typed scope (token_at ts 0)))
 
 -- a type name
-behind_local : (q : Listed) (scope : Blocks) (unit us ts : List Token) → EndsIn ts → Local 0 0 0 (λ unit us ys. type_behind q scope ys) unit us ts
-behind_local q scope unit us ts ends = local_if 0 0 0 (nat_eq (specifiers_depth q.tree) 0) (λ unit us ys. unexpected ys) (λ unit us ys. declarator_read sorts.Abstract scope ys >>= (λ d. Ok (t.type_name q.tree d.0, d.1, d.2))) unit us ts
+behind_local : (limit : ℕ) (q : Listed) (scope : Blocks) (unit us ts : List Token) → EndsIn ts → Local 0 0 0 (λ unit us ys. type_behind limit q scope ys) unit us ts
+behind_local limit q scope unit us ts ends = local_if 0 0 0 (nat_eq (specifiers_depth q.tree) 0) (λ unit us ys. unexpected ys) (λ unit us ys. declarator_read limit sorts.Abstract scope ys >>= (λ d. Ok (t.type_name q.tree d.0, d.1, d.2))) unit us ts
     (λ e. fails 0 0 unit us ts ends)
-    (λ e. seq 0 0 0 0 0 0 0 (λ unit us ys. declarator_read sorts.Abstract scope ys) (λ unit us d. Ok (t.type_name q.tree d.0, d.1, d.2)) unit us ts (omega arith) (omega arith) (omega arith) ends (declarator_local sorts.Abstract scope unit us ts ends)
+    (λ e. seq 0 0 0 0 0 0 0 (λ unit us ys. declarator_read limit sorts.Abstract scope ys) (λ unit us d. Ok (t.type_name q.tree d.0, d.1, d.2)) unit us ts (omega arith) (omega arith) (omega arith) ends (declarator_local limit sorts.Abstract scope unit us ts ends)
     (λ d inner rest left short. done 0 0 (t.type_name q.tree d) inner unit us rest left))
 
-pub type_local : (scope : Blocks) (unit us ts : List Token) → EndsIn ts → Local 0 0 0 (λ unit us ys. type_read scope ys) unit us ts
-type_local scope unit us ts ends = seq 0 0 0 0 0 0 0 (λ unit us ys. listed_read false scope ys) (λ unit us q. type_behind q.0 q.2 q.1) unit us ts (omega arith) (omega arith) (omega arith) ends (listed_by 0 0 false scope unit us ts (omega arith) ends (any_allowed _))
-    (λ q inner rest left short. behind_local q inner unit us rest left)
+pub type_local : (limit : ℕ) (scope : Blocks) (unit us ts : List Token) → EndsIn ts → Local 0 0 0 (λ unit us ys. type_read limit scope ys) unit us ts
+type_local limit scope unit us ts ends = seq 0 0 0 0 0 0 0 (λ unit us ys. listed_read limit false scope ys) (λ unit us q. type_behind limit q.0 q.2 q.1) unit us ts (omega arith) (omega arith) (omega arith) ends (listed_by limit 0 0 false scope unit us ts (omega arith) ends (any_allowed _))
+    (λ q inner rest left short. behind_local limit q inner unit us rest left)

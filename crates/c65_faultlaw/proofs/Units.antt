@@ -27,39 +27,39 @@ use Rattle.c65_faultlaw.proofs.Inits.{marks_it, past_mark}
 use Rattle.c65_faultlaw.proofs.Decls.{named_read_local, from_local, declarations_local}
 use Rattle.c65_faultlaw.proofs.Stmts.{statement_local}
 
-body_local : (q : t.SpecifiersTree) (d : t.DeclaratorTree) (ds : List t.DeclTree) (scope : Blocks) (unit us ts : List Token) → EndsIn ts → length ts ≤ length unit → Local 0 0 0 (λ unit us ys. body_needed unit q d ds scope ys) unit us ts
-body_local q d ds scope unit us ts ends fit = if_first 0 0 0 (marks_it marks.OpenBrace) (λ unit us ys. body_read unit q d ds scope ys) (λ unit us ys. unexpected ys) unit us ts
-    (λ e. seq 0 0 0 0 0 0 0 (λ unit us ys. statement_read unit scope ys) (λ unit us s. Ok (record { specifiers = q; declarator = d; declarations = ds; body = s.0 }, s.1, closed s.2)) unit us ts (omega arith) (omega arith) (omega arith) ends (statement_local scope unit us ts ends fit)
+body_local : (limit : ℕ) (q : t.SpecifiersTree) (d : t.DeclaratorTree) (ds : List t.DeclTree) (scope : Blocks) (unit us ts : List Token) → EndsIn ts → length ts ≤ length unit → Local 0 0 0 (λ unit us ys. body_needed limit unit q d ds scope ys) unit us ts
+body_local limit q d ds scope unit us ts ends fit = if_first 0 0 0 (marks_it marks.OpenBrace) (λ unit us ys. body_read limit unit q d ds scope ys) (λ unit us ys. unexpected ys) unit us ts
+    (λ e. seq 0 0 0 0 0 0 0 (λ unit us ys. statement_read limit unit scope ys) (λ unit us s. Ok (record { specifiers = q; declarator = d; declarations = ds; body = s.0 }, s.1, closed s.2)) unit us ts (omega arith) (omega arith) (omega arith) ends (statement_local limit scope unit us ts ends fit)
     (λ s inner rest left short. done 0 0 (record { specifiers = q; declarator = d; declarations = ds; body = s }) (closed inner) unit us rest left))
     (λ e. fails 0 0 unit us ts ends)
 
-function_local : (q : t.SpecifiersTree) (d : t.DeclaratorTree) (scope : Blocks) (unit us ts : List Token) → EndsIn ts → length ts ≤ length unit → Local 0 0 0 (λ unit us ys. function_read unit q d scope ys) unit us ts
-function_local q d scope unit us ts ends fit = seq 0 0 0 0 0 0 0 (λ unit us ys. declarations_read unit (in_function d (opened scope)) ys) (λ unit us ds. body_needed unit q d ds.0 ds.2 ds.1) unit us ts (omega arith) (omega arith) (omega arith) ends (declarations_local (in_function d (opened scope)) unit us ts ends fit)
-    (λ ds inner rest left short. body_local q d ds inner unit us rest left (omega (arith, fit, short)))
+function_local : (limit : ℕ) (q : t.SpecifiersTree) (d : t.DeclaratorTree) (scope : Blocks) (unit us ts : List Token) → EndsIn ts → length ts ≤ length unit → Local 0 0 0 (λ unit us ys. function_read limit unit q d scope ys) unit us ts
+function_local limit q d scope unit us ts ends fit = seq 0 0 0 0 0 0 0 (λ unit us ys. declarations_read limit unit (in_function d (opened scope)) ys) (λ unit us ds. body_needed limit unit q d ds.0 ds.2 ds.1) unit us ts (omega arith) (omega arith) (omega arith) ends (declarations_local limit (in_function d (opened scope)) unit us ts ends fit)
+    (λ ds inner rest left short. body_local limit q d ds inner unit us rest left (omega (arith, fit, short)))
 
-from_item_local : (q : t.SpecifiersTree) (d : t.DeclaratorTree) (may_declare : Bool) (scope : Blocks) (unit us ts : List Token) → EndsIn ts → length ts ≤ length unit → Local 0 0 0 (λ unit us ys. item_from unit q d may_declare scope ys) unit us ts
-from_item_local q d may_declare scope unit us ts ends fit = if_first 0 0 0 (λ x. may_declare && goes_on (sign_of x.kind)) (λ unit us ys. declaration_item unit q d scope ys) (λ unit us ys. function_item unit q d scope ys) unit us ts
-    (λ e. seq 0 0 0 0 0 0 0 (λ unit us ys. declaration_from unit q d scope ys) (λ unit us e. Ok (t.declaration e.0, e.1, e.2)) unit us ts (omega arith) (omega arith) (omega arith) ends (from_local q d scope unit us ts ends fit)
+from_item_local : (limit : ℕ) (q : t.SpecifiersTree) (d : t.DeclaratorTree) (may_declare : Bool) (scope : Blocks) (unit us ts : List Token) → EndsIn ts → length ts ≤ length unit → Local 0 0 0 (λ unit us ys. item_from limit unit q d may_declare scope ys) unit us ts
+from_item_local limit q d may_declare scope unit us ts ends fit = if_first 0 0 0 (λ x. may_declare && goes_on (sign_of x.kind)) (λ unit us ys. declaration_item limit unit q d scope ys) (λ unit us ys. function_item limit unit q d scope ys) unit us ts
+    (λ e. seq 0 0 0 0 0 0 0 (λ unit us ys. declaration_from limit unit q d scope ys) (λ unit us e. Ok (t.declaration e.0, e.1, e.2)) unit us ts (omega arith) (omega arith) (omega arith) ends (from_local limit q d scope unit us ts ends fit)
     (λ e inner rest left short. done 0 0 (t.declaration e) inner unit us rest left))
-    (λ e. seq 0 0 0 0 0 0 0 (λ unit us ys. function_read unit q d scope ys) (λ unit us f. Ok (t.definition f.0, f.1, f.2)) unit us ts (omega arith) (omega arith) (omega arith) ends (function_local q d scope unit us ts ends fit)
+    (λ e. seq 0 0 0 0 0 0 0 (λ unit us ys. function_read limit unit q d scope ys) (λ unit us f. Ok (t.definition f.0, f.1, f.2)) unit us ts (omega arith) (omega arith) (omega arith) ends (function_local limit q d scope unit us ts ends fit)
     (λ f inner rest left short. done 0 0 (t.definition f) inner unit us rest left))
 
-declared_local : (q : t.SpecifiersTree) (scope : Blocks) (unit us ts : List Token) → EndsIn ts → length ts ≤ length unit → Local 0 1 0 (λ unit us ys. declared_item unit q scope ys) unit us ts
-declared_local q scope unit us ts ends fit = seq 0 0 1 0 1 0 0 (λ unit us ys. named_read (naming_of q) scope ys) (λ unit us d. item_from unit q d.0 (not (is_empty q)) d.2 d.1) unit us ts (omega arith) (omega arith) (omega arith) ends (named_read_local (naming_of q) scope unit us ts ends)
-    (λ d inner rest left short. from_item_local q d (not (is_empty q)) inner unit us rest left (omega (arith, fit, short)))
+declared_local : (limit : ℕ) (q : t.SpecifiersTree) (scope : Blocks) (unit us ts : List Token) → EndsIn ts → length ts ≤ length unit → Local 0 1 0 (λ unit us ys. declared_item limit unit q scope ys) unit us ts
+declared_local limit q scope unit us ts ends fit = seq 0 0 1 0 1 0 0 (λ unit us ys. named_read limit (naming_of q) scope ys) (λ unit us d. item_from limit unit q d.0 (not (is_empty q)) d.2 d.1) unit us ts (omega arith) (omega arith) (omega arith) ends (named_read_local limit (naming_of q) scope unit us ts ends)
+    (λ d inner rest left short. from_item_local limit q d (not (is_empty q)) inner unit us rest left (omega (arith, fit, short)))
 
 both_true : (a b : Bool) → (a && b) ≡ true → b ≡ true
 both_true true b h = h
 both_true false b h = absurd (false_true h)
 
-specified_local : (q : t.SpecifiersTree) (scope : Blocks) (unit us ts : List Token) → EndsIn ts → length ts ≤ length unit → Local 0 1 0 (λ unit us ys. behind_specifiers unit q scope ys) unit us ts
-specified_local q scope unit us ts ends fit = if_first 0 1 0 (λ x. not (is_empty q) && marks_it marks.Semicolon x) (λ unit us ys. empty_item q scope ys) (λ unit us ys. declared_item unit q scope ys) unit us ts
+specified_local : (limit : ℕ) (q : t.SpecifiersTree) (scope : Blocks) (unit us ts : List Token) → EndsIn ts → length ts ≤ length unit → Local 0 1 0 (λ unit us ys. behind_specifiers limit unit q scope ys) unit us ts
+specified_local limit q scope unit us ts ends fit = if_first 0 1 0 (λ x. not (is_empty q) && marks_it marks.Semicolon x) (λ unit us ys. empty_item q scope ys) (λ unit us ys. declared_item limit unit q scope ys) unit us ts
     (λ e. past_mark 0 0 1 marks.Semicolon (λ unit us ys. Ok (t.declaration (record { specifiers = q; declarators = [] }), ys, scope)) unit us ts (omega arith) refl (both_true (not (is_empty q)) (marks_it marks.Semicolon (token_at ts 0)) e) ends (λ rest left short. done 0 0 (t.declaration (record { specifiers = q; declarators = [] })) scope unit us rest left))
-    (λ e. declared_local q scope unit us ts ends fit)
+    (λ e. declared_local limit q scope unit us ts ends fit)
 
-item_local : (scope : Blocks) (unit us ts : List Token) → EndsIn ts → length ts ≤ length unit → Local 0 1 0 (λ unit us ys. item_read unit scope ys) unit us ts
-item_local scope unit us ts ends fit = seq 0 0 0 1 1 0 0 (λ unit us ys. specifiers_read scope ys) (λ unit us q. behind_specifiers unit q.0 q.2 q.1) unit us ts (omega arith) (omega arith) (omega arith) ends (specifiers_local scope unit us ts ends)
-    (λ q inner rest left short. specified_local q inner unit us rest left (omega (arith, fit, short)))
+item_local : (limit : ℕ) (scope : Blocks) (unit us ts : List Token) → EndsIn ts → length ts ≤ length unit → Local 0 1 0 (λ unit us ys. item_read limit unit scope ys) unit us ts
+item_local limit scope unit us ts ends fit = seq 0 0 0 1 1 0 0 (λ unit us ys. specifiers_read limit scope ys) (λ unit us q. behind_specifiers limit unit q.0 q.2 q.1) unit us ts (omega arith) (omega arith) (omega arith) ends (specifiers_local limit scope unit us ts ends)
+    (λ q inner rest left short. specified_local limit q inner unit us rest left (omega (arith, fit, short)))
 
 abbrev unit_of : List t.ItemTree → t.UnitTree
 unit_of is = record { items = is }
@@ -99,20 +99,20 @@ seq_fails : {A B : Type 0} (m k j : ℕ) (read : Reader (Triple A)) (g : List To
 seq_fails m k j read g unit us ts (Err e) low ends h f = failed_first 0 k read g ts e h
 seq_fails m k j read g unit us ts (Ok (a, rest, scope)) low ends h f = behind_fails m k j read g ts a rest scope (g unit us (a, rest, scope)) low h (f a scope rest (rest_ends m k read ts a rest scope ends h) (rest_short m k read ts a rest scope h))
 
-abbrev after_item : List t.ItemTree → List Token → List Token → Triple t.ItemTree → Result (List t.ItemTree) Fault
-after_item is unit us x = items_next (items_run unit (tail us)) (with_item is x.0) x.2 x.1
+abbrev after_item : (limit : ℕ) → List t.ItemTree → List Token → List Token → Triple t.ItemTree → Result (List t.ItemTree) Fault
+after_item limit is unit us x = items_next (items_run limit unit (tail us)) (with_item is x.0) x.2 x.1
 
-unrolled : (is : List t.ItemTree) (scope : Blocks) (unit us ys : List Token) → 0 + 1 ≤ length us → items_run unit us is scope ys ≡ (item_read unit scope ys >>= after_item is unit us)
-unrolled is scope unit [] ys h = absurd (omega (arith, h))
-unrolled is scope unit (u ∷ us) ys h = refl
+unrolled : (limit : ℕ) (is : List t.ItemTree) (scope : Blocks) (unit us ys : List Token) → 0 + 1 ≤ length us → items_run limit unit us is scope ys ≡ (item_read limit unit scope ys >>= after_item limit is unit us)
+unrolled limit is scope unit [] ys h = absurd (omega (arith, h))
+unrolled limit is scope unit (u ∷ us) ys h = refl
 
-items_fail : (us : List Token) (is : List t.ItemTree) (scope : Blocks) (unit ts : List Token) → EndsIn ts → length ts ≤ length us → length ts ≤ length unit → Fails 0 (λ unit us ys. items_run unit us is scope ys) ts (items_run unit us is scope ts)
-items_fail us is scope unit [] ends enough fit = absurd ends
-items_fail [] is scope unit (t ∷ ts) ends enough fit = absurd (omega (arith, enough))
-items_fail (u ∷ us) is scope unit (t ∷ ts) ends enough fit = fails_alike 0 (λ unit us ys. item_read unit scope ys >>= after_item is unit us) (λ unit us ys. items_run unit us is scope ys) (t ∷ ts) (items_run unit (u ∷ us) is scope (t ∷ ts)) (unrolled is scope)
-    (seq_fails 1 0 1 (λ unit us ys. item_read unit scope ys) (after_item is) unit (u ∷ us) (t ∷ ts) (item_read unit scope (t ∷ ts)) (omega arith) ends (item_local scope unit (u ∷ us) (t ∷ ts) ends fit)
-    (λ i inner rest left short. if_fails 1 (marks_it marks.End) (marks_it marks.End (token_at rest 0)) (with_item is i) (λ unit us ys. items_run unit (tail us) (with_item is i) inner ys) unit (u ∷ us) rest refl
-    (λ e. fails_tailed (λ unit us ys. items_run unit us (with_item is i) inner ys) rest (items_run unit us (with_item is i) inner rest) (items_fail us (with_item is i) inner unit rest left (omega (arith, enough, short)) (omega (arith, fit, short))))))
+items_fail : (limit : ℕ) (us : List Token) (is : List t.ItemTree) (scope : Blocks) (unit ts : List Token) → EndsIn ts → length ts ≤ length us → length ts ≤ length unit → Fails 0 (λ unit us ys. items_run limit unit us is scope ys) ts (items_run limit unit us is scope ts)
+items_fail limit us is scope unit [] ends enough fit = absurd ends
+items_fail limit [] is scope unit (t ∷ ts) ends enough fit = absurd (omega (arith, enough))
+items_fail limit (u ∷ us) is scope unit (t ∷ ts) ends enough fit = fails_alike 0 (λ unit us ys. item_read limit unit scope ys >>= after_item limit is unit us) (λ unit us ys. items_run limit unit us is scope ys) (t ∷ ts) (items_run limit unit (u ∷ us) is scope (t ∷ ts)) (unrolled limit is scope)
+    (seq_fails 1 0 1 (λ unit us ys. item_read limit unit scope ys) (after_item limit is) unit (u ∷ us) (t ∷ ts) (item_read limit unit scope (t ∷ ts)) (omega arith) ends (item_local limit scope unit (u ∷ us) (t ∷ ts) ends fit)
+    (λ i inner rest left short. if_fails 1 (marks_it marks.End) (marks_it marks.End (token_at rest 0)) (with_item is i) (λ unit us ys. items_run limit unit (tail us) (with_item is i) inner ys) unit (u ∷ us) rest refl
+    (λ e. fails_tailed (λ unit us ys. items_run limit unit us (with_item is i) inner ys) rest (items_run limit unit us (with_item is i) inner rest) (items_fail limit us (with_item is i) inner unit rest left (omega (arith, enough, short)) (omega (arith, fit, short))))))
 
 abbrev err_or : {B : Type 0} → Fault → Result B Fault → Fault
 err_or d (Ok b) = d
@@ -123,12 +123,12 @@ fails_with read ts f (Ok x) e h k = absurd cc
 fails_with read ts f (Err x) e h k = subst (Failed 0 0 read ts) (ap (err_or x) k) h
 
 -- a unit has tokens
-some_tokens : (before : List Token) (next : Token) (more : List Token) → unit_read (before ++ next ∷ more) ≡ whole_unit (before ++ next ∷ more)
-some_tokens before next more = ap (λ b. if b then Err nothing_there else whole_unit (before ++ next ∷ more)) (ne_eqb (length (before ++ next ∷ more)) 0 (λ e. let long = length-append before (next ∷ more) in omega (arith, e, long)))
+some_tokens : (limit : ℕ) (before : List Token) (next : Token) (more : List Token) → unit_read limit (before ++ next ∷ more) ≡ whole_unit limit (before ++ next ∷ more)
+some_tokens limit before next more = ap (λ b. if b then Err nothing_there else whole_unit limit (before ++ next ∷ more)) (ne_eqb (length (before ++ next ∷ more)) 0 (λ e. let long = length-append before (next ∷ more) in omega (arith, e, long)))
 
-pub unit_fails : (ts : List Token) (e : Fault) → EndsIn ts → unit_read ts ≡ Err e → Failed 0 0 (λ unit us ys. items_run unit us [] (no_types ∷ []) ys) ts e
-unit_fails [] e ends h = absurd ends
-unit_fails (t ∷ ts) e ends h = fails_with (λ unit us ys. items_run unit us [] (no_types ∷ []) ys) (t ∷ ts) unit_of (items_read (t ∷ ts) (no_types ∷ []) (t ∷ ts)) e (items_fail (t ∷ ts) [] (no_types ∷ []) (t ∷ ts) (t ∷ ts) ends (omega arith) (omega arith)) (sym (some_tokens [] t ts) ∙ h)
+pub unit_fails : (limit : ℕ) (ts : List Token) (e : Fault) → EndsIn ts → unit_read limit ts ≡ Err e → Failed 0 0 (λ unit us ys. items_run limit unit us [] (no_types ∷ []) ys) ts e
+unit_fails limit [] e ends h = absurd ends
+unit_fails limit (t ∷ ts) e ends h = fails_with (λ unit us ys. items_run limit unit us [] (no_types ∷ []) ys) (t ∷ ts) unit_of (items_read limit (t ∷ ts) (no_types ∷ []) (t ∷ ts)) e (items_fail limit (t ∷ ts) [] (no_types ∷ []) (t ∷ ts) (t ∷ ts) ends (omega arith) (omega arith)) (sym (some_tokens limit [] t ts) ∙ h)
 
-pub unit_again : (before : List Token) (next : Token) (more : List Token) (e : Fault) → items_read (before ++ next ∷ more) (no_types ∷ []) (before ++ next ∷ more) ≡ Err e → unit_read (before ++ next ∷ more) ≡ Err e
-unit_again before next more e h = some_tokens before next more ∙ ap (λ r. r >>= (λ is. Ok (unit_of is))) h
+pub unit_again : (limit : ℕ) (before : List Token) (next : Token) (more : List Token) (e : Fault) → items_read limit (before ++ next ∷ more) (no_types ∷ []) (before ++ next ∷ more) ≡ Err e → unit_read limit (before ++ next ∷ more) ≡ Err e
+unit_again limit before next more e h = some_tokens limit before next more ∙ ap (λ r. r >>= (λ is. Ok (unit_of is))) h

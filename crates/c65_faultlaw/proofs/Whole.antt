@@ -47,9 +47,9 @@ err_not : {A : Type 0} (a : A) (e : Fault) → Ok a ≡ Err e → ⊥
 err_not a e h = cc
 
 -- where every tree has some tokens behind it with which it is read, none goes on at a fault
-pub refuses : {A Tree : Type 0} (read : List Token → Result A Fault) (phrase : Tree → Phrase) (depth : Tree → ℕ) (tokens : List Token) (fault : Fault) (before : List Token) (next : Token) (others : List Token) → tokens ≡ before ++ next ∷ others → IsFaultOf next fault → ((more : List Token) → read (before ++ next ∷ more) ≡ Err fault)
-    → ((ts : List Token) (tree : Tree) → phrase tree ts → depth tree ≤ 256 → (behind : List Token) × (a : A) × (read (ts ++ behind) ≡ Ok a)) → Refuses read phrase depth tokens fault
-refuses read phrase depth tokens fault before next others are fault_is again takes = record {
+pub refuses : (limit : ℕ) → {A Tree : Type 0} (read : List Token → Result A Fault) (phrase : Tree → Phrase) (depth : Tree → ℕ) (tokens : List Token) (fault : Fault) (before : List Token) (next : Token) (others : List Token) → tokens ≡ before ++ next ∷ others → IsFaultOf next fault → ((more : List Token) → read (before ++ next ∷ more) ≡ Err fault)
+    → ((ts : List Token) (tree : Tree) → phrase tree ts → depth tree ≤ limit → (behind : List Token) × (a : A) × (read (ts ++ behind) ≡ Ok a)) → Refuses limit read phrase depth tokens fault
+refuses limit read phrase depth tokens fault before next others are fault_is again takes = record {
   before = before;
   next = next;
   others = others;
@@ -69,21 +69,21 @@ failed : {A : Type 0} (read : Reader (Triple A)) (ts : List Token) (m : ℕ) (r 
 failed read ts m (Ok (a, rest, scope)) e h k = absurd cc
 failed read ts m (Err x) e h k = subst (Failed 0 0 read ts) (ap (err_or x) k) h
 
-refused : {A Tree : Type 0} (read : Reader (Triple A)) (phrase : Tree → Phrase) (depth : Tree → ℕ) (tokens : List Token) (fault : Fault) → Failed 0 0 read tokens fault
-    → ((ts : List Token) (tree : Tree) → phrase tree ts → depth tree ≤ 256 → (behind : List Token) × (a : Triple A) × (read (ts ++ behind) (ts ++ behind) (ts ++ behind) ≡ Ok a)) → Refuses (λ ts. read ts ts ts) phrase depth tokens fault
-refused read phrase depth tokens fault f takes = refuses (λ ts. read ts ts ts) phrase depth tokens fault f.before f.next f.others f.tokens_are f.fault_is (λ more. f.again (f.before ++ f.next ∷ more) (f.before ++ f.next ∷ more) more (omega arith) (omega arith)) takes
+refused : (limit : ℕ) → {A Tree : Type 0} (read : Reader (Triple A)) (phrase : Tree → Phrase) (depth : Tree → ℕ) (tokens : List Token) (fault : Fault) → Failed 0 0 read tokens fault
+    → ((ts : List Token) (tree : Tree) → phrase tree ts → depth tree ≤ limit → (behind : List Token) × (a : Triple A) × (read (ts ++ behind) (ts ++ behind) (ts ++ behind) ≡ Ok a)) → Refuses limit (λ ts. read ts ts ts) phrase depth tokens fault
+refused limit read phrase depth tokens fault f takes = refuses limit (λ ts. read ts ts ts) phrase depth tokens fault f.before f.next f.others f.tokens_are f.fault_is (λ more. f.again (f.before ++ f.next ∷ more) (f.before ++ f.next ∷ more) more (omega arith) (omega arith)) takes
 
 pub exprs_are_refused : ExprsAreRefused
-exprs_are_refused least sc outer tokens fault low ends e =
+exprs_are_refused limit least sc outer tokens fault low ends e =
     let end : Token = token kinds.End (record { file = 0; line = 1 }) in
-    refused (λ unit us ys. expr_read least (sc ∷ outer) ys) (λ e. given (least ≤ level e) (g.expr sc e)) expr_depth tokens fault (failed (λ unit us ys. expr_read least (sc ∷ outer) ys) tokens 1 (expr_read least (sc ∷ outer) tokens) fault (expr_local least (sc ∷ outer) [] [] tokens (ends_in tokens ends)) e)
-    (λ ts tree p deep. (end ∷ [], _, exprs_are_read least sc outer tree ts end [] p.1 p.0 deep low (inl refl)))
+    refused limit (λ unit us ys. expr_read limit least (sc ∷ outer) ys) (λ e. given (least ≤ level e) (g.expr sc e)) expr_depth tokens fault (failed (λ unit us ys. expr_read limit least (sc ∷ outer) ys) tokens 1 (expr_read limit least (sc ∷ outer) tokens) fault (expr_local limit least (sc ∷ outer) [] [] tokens (ends_in tokens ends)) e)
+    (λ ts tree p deep. (end ∷ [], _, exprs_are_read limit least sc outer tree ts end [] p.1 p.0 deep low (inl refl)))
 
 pub specifiers_are_refused : SpecifiersAreRefused
-specifiers_are_refused sc outer l tokens fault ends e =
+specifiers_are_refused limit sc outer l tokens fault ends e =
     let end : Token = token kinds.End l in
-    refused (λ unit us ys. specifiers_read (sc ∷ outer) ys) (head_specifiers sc l) specifiers_depth tokens fault (failed (λ unit us ys. specifiers_read (sc ∷ outer) ys) tokens 0 (specifiers_read (sc ∷ outer) tokens) fault (specifiers_local (sc ∷ outer) [] [] tokens (ends_in tokens ends)) e)
-    (λ ts tree p deep. (end ∷ [], _, specifiers_are_read sc outer tree ts end [] p deep tt))
+    refused limit (λ unit us ys. specifiers_read limit (sc ∷ outer) ys) (head_specifiers sc l) specifiers_depth tokens fault (failed (λ unit us ys. specifiers_read limit (sc ∷ outer) ys) tokens 0 (specifiers_read limit (sc ∷ outer) tokens) fault (specifiers_local limit (sc ∷ outer) [] [] tokens (ends_in tokens ends)) e)
+    (λ ts tree p deep. (end ∷ [], _, specifiers_are_read limit sc outer tree ts end [] p deep tt))
 
 ends_there : (sort : Sort) (l : Pos) → EndsDeclarator (g.may_lack (sort_of sort)) l (token kinds.End l)
 ends_there (sorts.Named typed) l = tt
@@ -92,44 +92,44 @@ ends_there (sorts.Member typed) l = tt
 ends_there sorts.Abstract l = (tt, tt, refl)
 
 pub declarators_are_refused : DeclaratorsAreRefused
-declarators_are_refused sort sc outer l tokens fault ends e =
+declarators_are_refused limit sort sc outer l tokens fault ends e =
     let end : Token = token kinds.End l in
-    refused (λ unit us ys. declarator_read sort (sc ∷ outer) ys) (g.declarator (sort_of sort) sc l) declarator_depth tokens fault (failed (λ unit us ys. declarator_read sort (sc ∷ outer) ys) tokens 0 (declarator_read sort (sc ∷ outer) tokens) fault (declarator_local sort (sc ∷ outer) [] [] tokens (ends_in tokens ends)) e)
-    (λ ts tree p deep. (end ∷ [], _, declarators_are_read sort sc outer l tree ts end [] p deep (ends_there sort l)))
+    refused limit (λ unit us ys. declarator_read limit sort (sc ∷ outer) ys) (g.declarator (sort_of sort) sc l) declarator_depth tokens fault (failed (λ unit us ys. declarator_read limit sort (sc ∷ outer) ys) tokens 0 (declarator_read limit sort (sc ∷ outer) tokens) fault (declarator_local limit sort (sc ∷ outer) [] [] tokens (ends_in tokens ends)) e)
+    (λ ts tree p deep. (end ∷ [], _, declarators_are_read limit sort sc outer l tree ts end [] p deep (ends_there sort l)))
 
 pub types_are_refused : TypesAreRefused
-types_are_refused sc outer l tokens fault ends e =
+types_are_refused limit sc outer l tokens fault ends e =
     let close : Token = token (kinds.Punct puncts.CloseParen) l in
-    refused (λ unit us ys. type_read (sc ∷ outer) ys) (g.type_name sc l) type_depth tokens fault (failed (λ unit us ys. type_read (sc ∷ outer) ys) tokens 0 (type_read (sc ∷ outer) tokens) fault (type_local (sc ∷ outer) [] [] tokens (ends_in tokens ends)) e)
-    (λ ts tree p deep. (close ∷ [], _, types_are_read sc outer tree ts close [] p deep refl))
+    refused limit (λ unit us ys. type_read limit (sc ∷ outer) ys) (g.type_name sc l) type_depth tokens fault (failed (λ unit us ys. type_read limit (sc ∷ outer) ys) tokens 0 (type_read limit (sc ∷ outer) tokens) fault (type_local limit (sc ∷ outer) [] [] tokens (ends_in tokens ends)) e)
+    (λ ts tree p deep. (close ∷ [], _, types_are_read limit sc outer tree ts close [] p deep refl))
 
 pub inits_are_refused : InitsAreRefused
-inits_are_refused unit sc outer tokens fault fit ends e =
+inits_are_refused limit unit sc outer tokens fault fit ends e =
     let end : Token = token kinds.End (record { file = 0; line = 1 }) in
-    refused (λ unit us ys. initialiser_read unit (sc ∷ outer) ys) (initialiser sc) init_depth tokens fault (failed (λ unit us ys. initialiser_read unit (sc ∷ outer) ys) tokens 0 (initialiser_read unit (sc ∷ outer) tokens) fault (init_local (sc ∷ outer) unit [] tokens (ends_in tokens ends) fit) e)
-    (λ ts tree p deep. (end ∷ [], _, inits_are_read (ts ++ end ∷ []) sc outer tree ts end [] p deep (omega arith) (inl refl)))
+    refused limit (λ unit us ys. initialiser_read limit unit (sc ∷ outer) ys) (initialiser sc) init_depth tokens fault (failed (λ unit us ys. initialiser_read limit unit (sc ∷ outer) ys) tokens 0 (initialiser_read limit unit (sc ∷ outer) tokens) fault (init_local limit (sc ∷ outer) unit [] tokens (ends_in tokens ends) fit) e)
+    (λ ts tree p deep. (end ∷ [], _, inits_are_read limit (ts ++ end ∷ []) sc outer tree ts end [] p deep (omega arith) (inl refl)))
 
 pub declarations_are_refused : DeclarationsAreRefused
-declarations_are_refused unit sc outer tokens fault fit ends e =
+declarations_are_refused limit unit sc outer tokens fault fit ends e =
     let end : Token = token kinds.End (record { file = 0; line = 1 }) in
-    refused (λ unit us ys. declaration_read unit (sc ∷ outer) ys) (declaration sc) decl_depth tokens fault (failed (λ unit us ys. declaration_read unit (sc ∷ outer) ys) tokens 1 (declaration_read unit (sc ∷ outer) tokens) fault (declaration_local (sc ∷ outer) unit [] tokens (ends_in tokens ends) fit) e)
-    (λ ts tree p deep. (end ∷ [], _, declarations_are_read (ts ++ end ∷ []) sc outer tree ts end [] p deep (omega arith)))
+    refused limit (λ unit us ys. declaration_read limit unit (sc ∷ outer) ys) (declaration sc) decl_depth tokens fault (failed (λ unit us ys. declaration_read limit unit (sc ∷ outer) ys) tokens 1 (declaration_read limit unit (sc ∷ outer) tokens) fault (declaration_local limit (sc ∷ outer) unit [] tokens (ends_in tokens ends) fit) e)
+    (λ ts tree p deep. (end ∷ [], _, declarations_are_read limit (ts ++ end ∷ []) sc outer tree ts end [] p deep (omega arith)))
 
 pub statements_are_refused : StatementsAreRefused
-statements_are_refused unit sc outer tokens fault fit ends e =
+statements_are_refused limit unit sc outer tokens fault fit ends e =
     let end : Token = token kinds.End (record { file = 0; line = 1 }) in
-    refused (λ unit us ys. statement_read unit (sc ∷ outer) ys) (statement sc) (λ s. max (stmt_depth s) (inner_depth s)) tokens fault (failed (λ unit us ys. statement_read unit (sc ∷ outer) ys) tokens 0 (statement_read unit (sc ∷ outer) tokens) fault (statement_local (sc ∷ outer) unit [] tokens (ends_in tokens ends) fit) e)
-    (λ ts tree p deep. (end ∷ [], _, statements_are_read (ts ++ end ∷ []) sc outer tree ts end [] p (omega (arith, deep)) (omega (arith, deep)) (omega arith) (λ h. refl)))
+    refused limit (λ unit us ys. statement_read limit unit (sc ∷ outer) ys) (statement sc) (λ s. max (stmt_depth s) (inner_depth s)) tokens fault (failed (λ unit us ys. statement_read limit unit (sc ∷ outer) ys) tokens 0 (statement_read limit unit (sc ∷ outer) tokens) fault (statement_local limit (sc ∷ outer) unit [] tokens (ends_in tokens ends) fit) e)
+    (λ ts tree p deep. (end ∷ [], _, statements_are_read limit (ts ++ end ∷ []) sc outer tree ts end [] p (omega (arith, deep)) (omega (arith, deep)) (omega arith) (λ h. refl)))
 
 pub units_are_refused : UnitsAreRefused
-units_are_refused tokens fault ends e =
-    let f = unit_fails tokens fault (ends_in tokens ends) e in
-    refuses unit_read units unit_depth tokens fault f.before f.next f.others f.tokens_are f.fault_is (λ more. unit_again f.before f.next more fault (f.again (f.before ++ f.next ∷ more) (f.before ++ f.next ∷ more) more (omega arith) (omega arith)))
-    (λ ts tree p deep. ([], tree, ap unit_read (append-nil ts) ∙ units_are_read ts tree (record { derives = p; within = deep })))
+units_are_refused limit tokens fault ends e =
+    let f = unit_fails limit tokens fault (ends_in tokens ends) e in
+    refuses limit (unit_read limit) units unit_depth tokens fault f.before f.next f.others f.tokens_are f.fault_is (λ more. unit_again limit f.before f.next more fault (f.again (f.before ++ f.next ∷ more) (f.before ++ f.next ∷ more) more (omega arith) (omega arith)))
+    (λ ts tree p deep. ([], tree, ap (unit_read limit) (append-nil ts) ∙ units_are_read limit ts tree (record { derives = p; within = deep })))
 
-pub answered : {X : Type 0} (view : X → t.UnitTree) (r : Result X Refusal) (tokens : List Token) → EndsOnce tokens → Gives view r (unit_read tokens) → RefusesUnit tokens r
-answered view (Ok unit) tokens ends h = tt
-answered view (Err refusals.OutOfMemory) tokens ends h = tt
-answered view (Err (refusals.At code pos)) tokens ends h = units_are_refused tokens (at code pos) ends h
-answered view (Err (refusals.TooLarge size value)) tokens ends h = units_are_refused tokens (large size value) ends h
-answered view (Err _) tokens ends h = absurd h
+pub answered : (limit : ℕ) → {X : Type 0} (view : X → t.UnitTree) (r : Result X Refusal) (tokens : List Token) → EndsOnce tokens → Gives view r (unit_read limit tokens) → RefusesUnit limit tokens r
+answered limit view (Ok unit) tokens ends h = tt
+answered limit view (Err refusals.OutOfMemory) tokens ends h = tt
+answered limit view (Err (refusals.At code pos)) tokens ends h = units_are_refused limit tokens (at code pos) ends h
+answered limit view (Err (refusals.TooLarge size value)) tokens ends h = units_are_refused limit tokens (large size value) ends h
+answered limit view (Err _) tokens ends h = absurd h

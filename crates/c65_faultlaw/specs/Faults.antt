@@ -12,11 +12,11 @@ IsFaultOf next fault = (fault ≡ at (code_of next.kind) next.pos) ⊎ (fault �
 
 -- `next` is the token of the fault: the tokens up to it have no other answer, and no tree within the limit has them in
 -- front
-pub record Refuses {A Tree : Type 0} (read : List Token → Result A Fault) (phrase : Tree → Phrase) (depth : Tree → ℕ) (tokens : List Token) (fault : Fault) : Type 0 where
+pub record Refuses (limit : ℕ) {A Tree : Type 0} (read : List Token → Result A Fault) (phrase : Tree → Phrase) (depth : Tree → ℕ) (tokens : List Token) (fault : Fault) : Type 0 where
   pub before : List Token
   pub next : Token
   pub others : List Token
   pub tokens_are : tokens ≡ before ++ next ∷ others
   pub fault_is : IsFaultOf next fault
   pub again : (more : List Token) → read (before ++ next ∷ more) ≡ Err fault
-  pub none : Continues phrase depth 256 (before ++ next ∷ []) → ⊥
+  pub none : Continues phrase depth limit (before ++ next ∷ []) → ⊥

@@ -26,47 +26,47 @@ use Rattle.c65_faultlaw.specs.Faults.{Refuses}
 
 -- an expression of at least this level: 0 any, 1 an assignment expression, 2 a constant expression (C90 6.3, 6.4)
 abbrev pub ExprsAreRefused : Type 0
-ExprsAreRefused = (least : ℕ) (sc : Scope) (outer : Blocks) (tokens : List Token) (fault : Fault) → least ≤ 13 → EndsOnce tokens → expr_read least (sc ∷ outer) tokens ≡ Err fault
-    → Refuses (expr_read least (sc ∷ outer)) (λ e. given (least ≤ level e) (g.expr sc e)) expr_depth tokens fault
+ExprsAreRefused = (limit : ℕ) (least : ℕ) (sc : Scope) (outer : Blocks) (tokens : List Token) (fault : Fault) → least ≤ 13 → EndsOnce tokens → expr_read limit least (sc ∷ outer) tokens ≡ Err fault
+    → Refuses limit (expr_read limit least (sc ∷ outer)) (λ e. given (least ≤ level e) (g.expr sc e)) expr_depth tokens fault
 
 -- C90 6.5, before a token at any place
 abbrev pub SpecifiersAreRefused : Type 0
-SpecifiersAreRefused = (sc : Scope) (outer : Blocks) (l : Pos) (tokens : List Token) (fault : Fault) → EndsOnce tokens → specifiers_read (sc ∷ outer) tokens ≡ Err fault
-    → Refuses (specifiers_read (sc ∷ outer)) (head_specifiers sc l) specifiers_depth tokens fault
+SpecifiersAreRefused = (limit : ℕ) (sc : Scope) (outer : Blocks) (l : Pos) (tokens : List Token) (fault : Fault) → EndsOnce tokens → specifiers_read limit (sc ∷ outer) tokens ≡ Err fault
+    → Refuses limit (specifiers_read limit (sc ∷ outer)) (head_specifiers sc l) specifiers_depth tokens fault
 
 -- C90 6.5.4, 6.5.5
 abbrev pub DeclaratorsAreRefused : Type 0
-DeclaratorsAreRefused = (sort : Sort) (sc : Scope) (outer : Blocks) (l : Pos) (tokens : List Token) (fault : Fault) → EndsOnce tokens → declarator_read sort (sc ∷ outer) tokens ≡ Err fault
-    → Refuses (declarator_read sort (sc ∷ outer)) (g.declarator (sort_of sort) sc l) declarator_depth tokens fault
+DeclaratorsAreRefused = (limit : ℕ) (sort : Sort) (sc : Scope) (outer : Blocks) (l : Pos) (tokens : List Token) (fault : Fault) → EndsOnce tokens → declarator_read limit sort (sc ∷ outer) tokens ≡ Err fault
+    → Refuses limit (declarator_read limit sort (sc ∷ outer)) (g.declarator (sort_of sort) sc l) declarator_depth tokens fault
 
 -- C90 6.5.5
 abbrev pub TypesAreRefused : Type 0
-TypesAreRefused = (sc : Scope) (outer : Blocks) (l : Pos) (tokens : List Token) (fault : Fault) → EndsOnce tokens → type_read (sc ∷ outer) tokens ≡ Err fault
-    → Refuses (type_read (sc ∷ outer)) (g.type_name sc l) type_depth tokens fault
+TypesAreRefused = (limit : ℕ) (sc : Scope) (outer : Blocks) (l : Pos) (tokens : List Token) (fault : Fault) → EndsOnce tokens → type_read limit (sc ∷ outer) tokens ≡ Err fault
+    → Refuses limit (type_read limit (sc ∷ outer)) (g.type_name sc l) type_depth tokens fault
 
 -- C90 6.5.7
 abbrev pub InitsAreRefused : Type 0
-InitsAreRefused = (unit : List Token) (sc : Scope) (outer : Blocks) (tokens : List Token) (fault : Fault) → length tokens ≤ length unit → EndsOnce tokens → initialiser_read unit (sc ∷ outer) tokens ≡ Err fault
-    → Refuses (λ ts. initialiser_read ts (sc ∷ outer) ts) (initialiser sc) init_depth tokens fault
+InitsAreRefused = (limit : ℕ) (unit : List Token) (sc : Scope) (outer : Blocks) (tokens : List Token) (fault : Fault) → length tokens ≤ length unit → EndsOnce tokens → initialiser_read limit unit (sc ∷ outer) tokens ≡ Err fault
+    → Refuses limit (λ ts. initialiser_read limit ts (sc ∷ outer) ts) (initialiser sc) init_depth tokens fault
 
 -- C90 6.5
 abbrev pub DeclarationsAreRefused : Type 0
-DeclarationsAreRefused = (unit : List Token) (sc : Scope) (outer : Blocks) (tokens : List Token) (fault : Fault) → length tokens ≤ length unit → EndsOnce tokens → declaration_read unit (sc ∷ outer) tokens ≡ Err fault
-    → Refuses (λ ts. declaration_read ts (sc ∷ outer) ts) (declaration sc) decl_depth tokens fault
+DeclarationsAreRefused = (limit : ℕ) (unit : List Token) (sc : Scope) (outer : Blocks) (tokens : List Token) (fault : Fault) → length tokens ≤ length unit → EndsOnce tokens → declaration_read limit unit (sc ∷ outer) tokens ≡ Err fault
+    → Refuses limit (λ ts. declaration_read limit ts (sc ∷ outer) ts) (declaration sc) decl_depth tokens fault
 
 -- C90 6.6
 abbrev pub StatementsAreRefused : Type 0
-StatementsAreRefused = (unit : List Token) (sc : Scope) (outer : Blocks) (tokens : List Token) (fault : Fault) → length tokens ≤ length unit → EndsOnce tokens → statement_read unit (sc ∷ outer) tokens ≡ Err fault
-    → Refuses (λ ts. statement_read ts (sc ∷ outer) ts) (statement sc) (λ s. max (stmt_depth s) (inner_depth s)) tokens fault
+StatementsAreRefused = (limit : ℕ) (unit : List Token) (sc : Scope) (outer : Blocks) (tokens : List Token) (fault : Fault) → length tokens ≤ length unit → EndsOnce tokens → statement_read limit unit (sc ∷ outer) tokens ≡ Err fault
+    → Refuses limit (λ ts. statement_read limit ts (sc ∷ outer) ts) (statement sc) (λ s. max (stmt_depth s) (inner_depth s)) tokens fault
 
 -- C90 6.7
 abbrev pub UnitsAreRefused : Type 0
-UnitsAreRefused = (tokens : List Token) (fault : Fault) → EndsOnce tokens → unit_read tokens ≡ Err fault → Refuses unit_read units unit_depth tokens fault
+UnitsAreRefused = (limit : ℕ) (tokens : List Token) (fault : Fault) → EndsOnce tokens → unit_read limit tokens ≡ Err fault → Refuses limit (unit_read limit) units unit_depth tokens fault
 
 -- what a call of the parser answers where it has no unit: such a fault, or want of memory
-abbrev pub RefusesUnit : {X : Type 0} → List Token → Result X Refusal → Type 0
-RefusesUnit tokens (Ok unit) = Unit {0}
-RefusesUnit tokens (Err refusals.OutOfMemory) = Unit {0}
-RefusesUnit tokens (Err (refusals.At code pos)) = Refuses unit_read units unit_depth tokens (at code pos)
-RefusesUnit tokens (Err (refusals.TooLarge size value)) = Refuses unit_read units unit_depth tokens (large size value)
-RefusesUnit tokens (Err _) = ⊥
+abbrev pub RefusesUnit : (limit : ℕ) → {X : Type 0} → List Token → Result X Refusal → Type 0
+RefusesUnit limit tokens (Ok unit) = Unit {0}
+RefusesUnit limit tokens (Err refusals.OutOfMemory) = Unit {0}
+RefusesUnit limit tokens (Err (refusals.At code pos)) = Refuses limit (unit_read limit) units unit_depth tokens (at code pos)
+RefusesUnit limit tokens (Err (refusals.TooLarge size value)) = Refuses limit (unit_read limit) units unit_depth tokens (large size value)
+RefusesUnit limit tokens (Err _) = ⊥

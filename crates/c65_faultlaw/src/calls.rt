@@ -12,7 +12,7 @@ use std::alloc::Global;
 /// only `End`.
 pub fn refuse_unit(alloc: Global, tokens: &[Token]) -> Result<Unit, Refusal>
     requires { EndsOnce tokens.now }
-    ensures { RefusesUnit tokens.now result }
+    ensures { RefusesUnit 256 tokens.now result }
 {
     parse_unit(alloc, tokens)
 }

@@ -1,5 +1,5 @@
 -- Blocks (C90 6.6.2), and every statement.
-use Rattle.std.proofs.Common.{◌≡◌, suc, ◌+◌, ◌≤◌, List, [], ◌∷◌, ◌++◌, length, length-append, append_assoc, Bool, true, false, refl, sym, ap, ◌∙◌, subst, arith}
+use Rattle.std.proofs.Common.{◌≡◌, ℕ, suc, ◌+◌, ◌≤◌, List, [], ◌∷◌, ◌++◌, length, length-append, append_assoc, Bool, true, false, refl, sym, ap, ◌∙◌, subst, arith}
 use Rattle.std.specs.Prelude.{◌&&◌, not, Ok, None, Some}
 use Rattle.c65_base.specs.Answers.{◌>>=◌}
 use Rattle.c65_base.specs.declared.refusal.Pos.{Pos}
@@ -132,46 +132,46 @@ pub decl_long : (d : t.DeclTree) (sc : Scope) (xs : List Token) → declaration 
 decl_long d sc xs p = let some = these_long d.specifiers sc p.0 p.3 in let long = length-append p.0 p.1 in subst (λ ts. 1 ≤ length ts) (sym p.2) (omega (arith, some, long))
 
 -- a declaration begins in a block
-decl_by : (unit : List Token) (l : Pos) (done : List t.DeclTree) (fs : List Frame) (scope : Blocks) (s : Sign) (is_type colon : Bool) (ts : List Token) → is_mark marks.CloseBrace s ≡ false → starts_declaration s is_type colon ≡ true
-    → begun_by unit (place_in (in_block l done t.no_stmts ∷ fs)) s is_type colon scope ts ≡ declaration_begun unit scope ts
-decl_by unit l done fs scope s is_type colon ts h k =
-    unless (is_mark marks.CloseBrace s) (Ok (closed_here scope ts)) (begun_inside unit (place_in (in_block l done t.no_stmts ∷ fs)) s is_type colon scope ts) h
-    ∙ when (starts_declaration s is_type colon) (declaration_begun unit scope ts) (begun_within (place_in (in_block l done t.no_stmts ∷ fs)) s (is_label s is_type colon) scope ts) k
+decl_by : (limit : ℕ) (unit : List Token) (l : Pos) (done : List t.DeclTree) (fs : List Frame) (scope : Blocks) (s : Sign) (is_type colon : Bool) (ts : List Token) → is_mark marks.CloseBrace s ≡ false → starts_declaration s is_type colon ≡ true
+    → begun_by limit unit (place_in (in_block l done t.no_stmts ∷ fs)) s is_type colon scope ts ≡ declaration_begun limit unit scope ts
+decl_by limit unit l done fs scope s is_type colon ts h k =
+    unless (is_mark marks.CloseBrace s) (Ok (closed_here scope ts)) (begun_inside limit unit (place_in (in_block l done t.no_stmts ∷ fs)) s is_type colon scope ts) h
+    ∙ when (starts_declaration s is_type colon) (declaration_begun limit unit scope ts) (begun_within limit (place_in (in_block l done t.no_stmts ∷ fs)) s (is_label s is_type colon) scope ts) k
 
 type_starts : (a b : Bool) → a ≡ true → b ≡ false → (a && not b) ≡ true
 type_starts true false h k = refl
 type_starts true true h k = absurd cc
 type_starts false b h k = absurd cc
 
-decl_kind : (unit : List Token) (l : Pos) (done : List t.DeclTree) (fs : List Frame) (sc : Scope) (outer : Blocks) (k : TokenKind) (m : Pos) (ts : List Token) → DeclKind sc k ts → Left ts
-    → begun_at unit (place_in (in_block l done t.no_stmts ∷ fs)) (sc ∷ outer) (token k m ∷ ts) ≡ declaration_begun unit (sc ∷ outer) (token k m ∷ ts)
-decl_kind unit l done fs sc outer (kinds.Keyword k) m ts h left =
+decl_kind : (limit : ℕ) (unit : List Token) (l : Pos) (done : List t.DeclTree) (fs : List Frame) (sc : Scope) (outer : Blocks) (k : TokenKind) (m : Pos) (ts : List Token) → DeclKind sc k ts → Left ts
+    → begun_at limit unit (place_in (in_block l done t.no_stmts ∷ fs)) (sc ∷ outer) (token k m ∷ ts) ≡ declaration_begun limit unit (sc ∷ outer) (token k m ∷ ts)
+decl_kind limit unit l done fs sc outer (kinds.Keyword k) m ts h left =
     let all = token (kinds.Keyword k) m ∷ ts in
-    ap (λ x. begun_by unit (place_in (in_block l done t.no_stmts ∷ fs)) x (is_type_here (sc ∷ outer) all) (colon_follows all) (sc ∷ outer) all) (ap (λ x. sign_of x.kind) (here_is (token (kinds.Keyword k) m) ts) ∙ h)
-    ∙ decl_by unit l done fs (sc ∷ outer) signs.Specifier (is_type_here (sc ∷ outer) all) (colon_follows all) all refl refl
-decl_kind unit l done fs sc outer (kinds.Name n) m ts h left =
+    ap (λ x. begun_by limit unit (place_in (in_block l done t.no_stmts ∷ fs)) x (is_type_here (sc ∷ outer) all) (colon_follows all) (sc ∷ outer) all) (ap (λ x. sign_of x.kind) (here_is (token (kinds.Keyword k) m) ts) ∙ h)
+    ∙ decl_by limit unit l done fs (sc ∷ outer) signs.Specifier (is_type_here (sc ∷ outer) all) (colon_follows all) all refl refl
+decl_kind limit unit l done fs sc outer (kinds.Name n) m ts h left =
     let tok : Token = token (kinds.Name n) m in
     let all = tok ∷ ts in
-    ap (λ x. begun_by unit (place_in (in_block l done t.no_stmts ∷ fs)) (sign_of x.kind) (is_type_here (sc ∷ outer) all) (colon_follows all) (sc ∷ outer) all) (here_is tok ts)
-    ∙ decl_by unit l done fs (sc ∷ outer) (signs.Name n) (is_type_here (sc ∷ outer) all) (colon_follows all) all refl (type_starts (is_type_here (sc ∷ outer) all) (colon_follows all) (type_here (sc ∷ outer) tok ts ∙ h.0) (follows_by tok ts left h.1))
-decl_kind unit l done fs sc outer (kinds.Number ty n) m ts h left = absurd h
-decl_kind unit l done fs sc outer (kinds.Text bs) m ts h left = absurd h
-decl_kind unit l done fs sc outer (kinds.Punct p) m ts h left = absurd h
-decl_kind unit l done fs sc outer kinds.End m ts h left = absurd h
+    ap (λ x. begun_by limit unit (place_in (in_block l done t.no_stmts ∷ fs)) (sign_of x.kind) (is_type_here (sc ∷ outer) all) (colon_follows all) (sc ∷ outer) all) (here_is tok ts)
+    ∙ decl_by limit unit l done fs (sc ∷ outer) (signs.Name n) (is_type_here (sc ∷ outer) all) (colon_follows all) all refl (type_starts (is_type_here (sc ∷ outer) all) (colon_follows all) (type_here (sc ∷ outer) tok ts ∙ h.0) (follows_by tok ts left h.1))
+decl_kind limit unit l done fs sc outer (kinds.Number ty n) m ts h left = absurd h
+decl_kind limit unit l done fs sc outer (kinds.Text bs) m ts h left = absurd h
+decl_kind limit unit l done fs sc outer (kinds.Punct p) m ts h left = absurd h
+decl_kind limit unit l done fs sc outer kinds.End m ts h left = absurd h
 
 last_left : (tok : Token) (ts : List Token) → 2 ≤ length (tok ∷ ts) → Left ts
 last_left tok [] h = absurd (omega (arith, h))
 last_left tok (u ∷ ts) h = tt
 
-decl_step : (unit : List Token) (l : Pos) (done : List t.DeclTree) (fs : List Frame) (sc : Scope) (outer : Blocks) (ts : List Token) → Declaring sc ts → 2 ≤ length ts → begun_at unit (place_in (in_block l done t.no_stmts ∷ fs)) (sc ∷ outer) ts ≡ declaration_begun unit (sc ∷ outer) ts
-decl_step unit l done fs sc outer [] h k = absurd h
-decl_step unit l done fs sc outer (tok ∷ ts) h k = decl_kind unit l done fs sc outer tok.kind tok.pos ts h (last_left tok ts k)
+decl_step : (limit : ℕ) (unit : List Token) (l : Pos) (done : List t.DeclTree) (fs : List Frame) (sc : Scope) (outer : Blocks) (ts : List Token) → Declaring sc ts → 2 ≤ length ts → begun_at limit unit (place_in (in_block l done t.no_stmts ∷ fs)) (sc ∷ outer) ts ≡ declaration_begun limit unit (sc ∷ outer) ts
+decl_step limit unit l done fs sc outer [] h k = absurd h
+decl_step limit unit l done fs sc outer (tok ∷ ts) h k = decl_kind limit unit l done fs sc outer tok.kind tok.pos ts h (last_left tok ts k)
 
 -- the declarations of a block
-record DeclsRun (unit us : List Token) (l : Pos) (fs : List Frame) (done ds : List t.DeclTree) (sc : Scope) (outer : Blocks) (ts rest : List Token) : Type 0 where
+record DeclsRun (limit : ℕ) (unit us : List Token) (l : Pos) (fs : List Frame) (done ds : List t.DeclTree) (sc : Scope) (outer : Blocks) (ts rest : List Token) : Type 0 where
   pub us_left : List Token
   pub enough : length rest ≤ length us_left
-  pub are : statement_run unit us (in_block l done t.no_stmts ∷ fs) (sc ∷ outer) ts ≡ statement_run unit us_left (in_block l (done ++ ds) t.no_stmts ∷ fs) (after_decls sc ds ∷ outer) rest
+  pub are : statement_run limit unit us (in_block l done t.no_stmts ∷ fs) (sc ∷ outer) ts ≡ statement_run limit unit us_left (in_block l (done ++ ds) t.no_stmts ∷ fs) (after_decls sc ds ∷ outer) rest
 
 pub nothing_more : (ds : List t.DeclTree) → ds ≡ ds ++ []
 nothing_more [] = refl
@@ -181,23 +181,23 @@ pub left_long : (ts : List Token) → Left ts → 1 ≤ length ts
 left_long [] h = absurd h
 left_long (tok ∷ ts) h = omega arith
 
-block_decls : (ds : List t.DeclTree) (unit us : List Token) (l : Pos) (fs : List Frame) (done : List t.DeclTree) (sc : Scope) (outer : Blocks) (xs rest : List Token) → declarations sc ds xs → deepest decl_depth ds ≤ 256 → length (xs ++ rest) ≤ length us → length (xs ++ rest) ≤ length unit → Left rest → DeclsRun unit us l fs done ds sc outer (xs ++ rest) rest
-block_decls [] unit us l fs done sc outer xs rest p deep enough room left = subst (λ ts. length (ts ++ rest) ≤ length us → DeclsRun unit us l fs done [] sc outer (ts ++ rest) rest) (sym p) (λ short. record { us_left = us; enough = short; are = ap (λ x. statement_run unit us (in_block l x t.no_stmts ∷ fs) (sc ∷ outer) rest) (nothing_more done) }) enough
-block_decls (d ∷ ds) unit us l fs done sc outer xs rest p deep enough room left =
-    split (λ ts. length ts ≤ length us → length ts ≤ length unit → DeclsRun unit us l fs done (d ∷ ds) sc outer ts rest) xs rest p (λ ys zs py pz short small.
+block_decls : (limit : ℕ) (ds : List t.DeclTree) (unit us : List Token) (l : Pos) (fs : List Frame) (done : List t.DeclTree) (sc : Scope) (outer : Blocks) (xs rest : List Token) → declarations sc ds xs → deepest decl_depth ds ≤ limit → length (xs ++ rest) ≤ length us → length (xs ++ rest) ≤ length unit → Left rest → DeclsRun limit unit us l fs done ds sc outer (xs ++ rest) rest
+block_decls limit [] unit us l fs done sc outer xs rest p deep enough room left = subst (λ ts. length (ts ++ rest) ≤ length us → DeclsRun limit unit us l fs done [] sc outer (ts ++ rest) rest) (sym p) (λ short. record { us_left = us; enough = short; are = ap (λ x. statement_run limit unit us (in_block l x t.no_stmts ∷ fs) (sc ∷ outer) rest) (nothing_more done) }) enough
+block_decls limit (d ∷ ds) unit us l fs done sc outer xs rest p deep enough room left =
+    split (λ ts. length ts ≤ length us → length ts ≤ length unit → DeclsRun limit unit us l fs done (d ∷ ds) sc outer ts rest) xs rest p (λ ys zs py pz short small.
     let some = decl_long d sc ys py in
     let more = left_long (zs ++ rest) (left_more zs rest left) in
     let long = length-append ys (zs ++ rest) in
     let fuel : Fueled us (length (zs ++ rest)) = fueled us (length (zs ++ rest)) (omega (arith, short, long, some)) in
-    let run : DeclsRun unit fuel.others l fs (done ++ d ∷ []) ds (after_decl sc d) outer (zs ++ rest) rest = block_decls ds unit fuel.others l fs (done ++ d ∷ []) (after_decl sc d) outer zs rest pz (omega (arith, deep)) fuel.enough (omega (arith, small, long)) left in
+    let run : DeclsRun limit unit fuel.others l fs (done ++ d ∷ []) ds (after_decl sc d) outer (zs ++ rest) rest = block_decls limit ds unit fuel.others l fs (done ++ d ∷ []) (after_decl sc d) outer zs rest pz (omega (arith, deep)) fuel.enough (omega (arith, small, long)) left in
     record {
       us_left = run.us_left;
       enough = run.enough;
-      are = subst (λ x. statement_run unit x (in_block l done t.no_stmts ∷ fs) (sc ∷ outer) (ys ++ (zs ++ rest)) ≡ statement_run unit run.us_left (in_block l (done ++ d ∷ ds) t.no_stmts ∷ fs) (after_decls (after_decl sc d) ds ∷ outer) rest) (sym fuel.are)
-          (ap (λ x. (x >>= behind_begun (in_block l done t.no_stmts ∷ fs)) >>= statement_next (statement_run unit fuel.others))
-          (decl_step unit l done fs sc outer (ys ++ (zs ++ rest)) (decl_start d sc ys (zs ++ rest) py) (omega (arith, some, more, long))
-          ∙ next (declaration_read unit (sc ∷ outer) (ys ++ (zs ++ rest))) (d, zs ++ rest, after_decl sc d ∷ outer) (λ x. Ok (begun_decl x.0, x.1, x.2)) (Ok (begun_decl d, zs ++ rest, after_decl sc d ∷ outer)) (declaration_is unit d sc outer ys (zs ++ rest) py (omega (arith, deep)) small (left_more zs rest left)) refl)
-          ∙ (run.are ∙ ap (λ x. statement_run unit run.us_left (in_block l x t.no_stmts ∷ fs) (after_decls (after_decl sc d) ds ∷ outer) rest) (append_assoc done (d ∷ []) ds)));
+      are = subst (λ x. statement_run limit unit x (in_block l done t.no_stmts ∷ fs) (sc ∷ outer) (ys ++ (zs ++ rest)) ≡ statement_run limit unit run.us_left (in_block l (done ++ d ∷ ds) t.no_stmts ∷ fs) (after_decls (after_decl sc d) ds ∷ outer) rest) (sym fuel.are)
+          (ap (λ x. (x >>= behind_begun limit (in_block l done t.no_stmts ∷ fs)) >>= statement_next (statement_run limit unit fuel.others))
+          (decl_step limit unit l done fs sc outer (ys ++ (zs ++ rest)) (decl_start d sc ys (zs ++ rest) py) (omega (arith, some, more, long))
+          ∙ next (declaration_read limit unit (sc ∷ outer) (ys ++ (zs ++ rest))) (d, zs ++ rest, after_decl sc d ∷ outer) (λ x. Ok (begun_decl x.0, x.1, x.2)) (Ok (begun_decl d, zs ++ rest, after_decl sc d ∷ outer)) (declaration_is limit unit d sc outer ys (zs ++ rest) py (omega (arith, deep)) small (left_more zs rest left)) refl)
+          ∙ (run.are ∙ ap (λ x. statement_run limit unit run.us_left (in_block l x t.no_stmts ∷ fs) (after_decls (after_decl sc d) ds ∷ outer) rest) (append_assoc done (d ∷ []) ds)));
     }) enough room
 
 -- no statement begins with `else`
@@ -219,82 +219,82 @@ begins_stmt (t.break l) sc xs p = opens_mark NoElse l (kinds.Keyword keywords.Br
 begins_stmt (t.return l e) sc xs p = opens_mark NoElse l (kinds.Keyword keywords.Return) xs p.0 p.1 p.2 p.3 refl
 
 -- the statements of a block
-pub record StmtsRun (unit us : List Token) (l : Pos) (fs : List Frame) (ds : List t.DeclTree) (ss : t.StmtList) (sc : Scope) (outer : Blocks) (ts rest : List Token) : Type 0 where
+pub record StmtsRun (limit : ℕ) (unit us : List Token) (l : Pos) (fs : List Frame) (ds : List t.DeclTree) (ss : t.StmtList) (sc : Scope) (outer : Blocks) (ts rest : List Token) : Type 0 where
   pub us_left : List Token
   pub enough : length rest ≤ length us_left
-  pub are : statement_run unit us (in_block l ds t.no_stmts ∷ fs) (sc ∷ outer) ts ≡ statement_run unit us_left (in_block l ds ss ∷ fs) (after_stmts sc ss ∷ outer) rest
+  pub are : statement_run limit unit us (in_block l ds t.no_stmts ∷ fs) (sc ∷ outer) ts ≡ statement_run limit unit us_left (in_block l ds ss ∷ fs) (after_stmts sc ss ∷ outer) rest
 
-abbrev pub ReadsStmts : t.StmtList → Type 0
-ReadsStmts ss = (unit us : List Token) (l : Pos) (fs : List Frame) (ds : List t.DeclTree) (sc : Scope) (outer : Blocks) (xs rest : List Token) → statements sc ss xs → stmts_depth ss + suc (length fs) ≤ 256 → inners_depth ss ≤ 256 → length (xs ++ rest) ≤ length us → length (xs ++ rest) ≤ length unit → Left rest → First NoElse rest → StmtsRun unit us l fs ds ss sc outer (xs ++ rest) rest
+abbrev pub ReadsStmts : (limit : ℕ) → t.StmtList → Type 0
+ReadsStmts limit ss = (unit us : List Token) (l : Pos) (fs : List Frame) (ds : List t.DeclTree) (sc : Scope) (outer : Blocks) (xs rest : List Token) → statements sc ss xs → stmts_depth ss + suc (length fs) ≤ limit → inners_depth ss ≤ limit → length (xs ++ rest) ≤ length us → length (xs ++ rest) ≤ length unit → Left rest → First NoElse rest → StmtsRun limit unit us l fs ds ss sc outer (xs ++ rest) rest
 
-no_stmts_read : ReadsStmts t.no_stmts
-no_stmts_read unit us l fs ds sc outer xs rest p deep inner enough room left safe = subst (λ ts. length (ts ++ rest) ≤ length us → StmtsRun unit us l fs ds t.no_stmts sc outer (ts ++ rest) rest) (sym p) (λ short. record { us_left = us; enough = short; are = refl }) enough
+no_stmts_read : (limit : ℕ) → ReadsStmts limit t.no_stmts
+no_stmts_read limit unit us l fs ds sc outer xs rest p deep inner enough room left safe = subst (λ ts. length (ts ++ rest) ≤ length us → StmtsRun limit unit us l fs ds t.no_stmts sc outer (ts ++ rest) rest) (sym p) (λ short. record { us_left = us; enough = short; are = refl }) enough
 
-one_more_read : (ss : t.StmtList) (s : t.StmtTree) → ReadsStmts ss → ReadsStmt s → ReadsStmts (t.and_stmt ss s)
-one_more_read ss s rss rs unit us l fs ds sc outer xs rest p deep inner enough room left safe =
-    split (λ ts. length ts ≤ length us → length ts ≤ length unit → StmtsRun unit us l fs ds (t.and_stmt ss s) sc outer ts rest) xs rest p (λ ys zs py pz short small.
+one_more_read : (limit : ℕ) (ss : t.StmtList) (s : t.StmtTree) → ReadsStmts limit ss → ReadsStmt limit s → ReadsStmts limit (t.and_stmt ss s)
+one_more_read limit ss s rss rs unit us l fs ds sc outer xs rest p deep inner enough room left safe =
+    split (λ ts. length ts ≤ length us → length ts ≤ length unit → StmtsRun limit unit us l fs ds (t.and_stmt ss s) sc outer ts rest) xs rest p (λ ys zs py pz short small.
     let sc1 = after_stmts sc ss in
     let long = length-append ys (zs ++ rest) in
-    let first : StmtsRun unit us l fs ds ss sc outer (ys ++ (zs ++ rest)) (zs ++ rest) = rss unit us l fs ds sc outer ys (zs ++ rest) py (omega (arith, deep)) (omega (arith, inner)) short small (left_more zs rest left) (opens_first NoElse zs rest (begins_stmt s sc1 zs pz)) in
-    let run : StmtRun unit first.us_left (in_block l ds ss ∷ fs) sc1 outer s (zs ++ rest) rest = rs unit first.us_left (in_block l ds ss ∷ fs) sc1 outer zs rest pz (omega (arith, deep)) (omega (arith, inner)) first.enough (omega (arith, small, long)) left (λ h. safe) in
+    let first : StmtsRun limit unit us l fs ds ss sc outer (ys ++ (zs ++ rest)) (zs ++ rest) = rss unit us l fs ds sc outer ys (zs ++ rest) py (omega (arith, deep)) (omega (arith, inner)) short small (left_more zs rest left) (opens_first NoElse zs rest (begins_stmt s sc1 zs pz)) in
+    let run : StmtRun limit unit first.us_left (in_block l ds ss ∷ fs) sc1 outer s (zs ++ rest) rest = rs unit first.us_left (in_block l ds ss ∷ fs) sc1 outer zs rest pz (omega (arith, deep)) (omega (arith, inner)) first.enough (omega (arith, small, long)) left (λ h. safe) in
     record { us_left = run.us_left; enough = run.enough; are = first.are ∙ run.are }) enough room
 
 brace_word : IsWord (sign_of (kinds.Punct puncts.OpenBrace)) words.OpenBrace
 brace_word = record { no_close = refl; no_decl = λ a b. refl; no_label = λ a b. refl; no_eval = refl; word = refl }
 
 -- the end of a block
-close_step : (unit : List Token) (l : Pos) (fs : List Frame) (ds : List t.DeclTree) (ss : t.StmtList) (sc sc1 : Scope) (outer : Blocks) (k : Pos) (rest : List Token) → Left rest
-    → begun_at unit (place_in (in_block l ds ss ∷ fs)) (sc1 ∷ sc ∷ outer) (token (kinds.Punct puncts.CloseBrace) k ∷ rest) ≡ Ok (begun_close, rest, sc ∷ outer)
-close_step unit l fs ds ss sc sc1 outer k rest left =
+close_step : (limit : ℕ) (unit : List Token) (l : Pos) (fs : List Frame) (ds : List t.DeclTree) (ss : t.StmtList) (sc sc1 : Scope) (outer : Blocks) (k : Pos) (rest : List Token) → Left rest
+    → begun_at limit unit (place_in (in_block l ds ss ∷ fs)) (sc1 ∷ sc ∷ outer) (token (kinds.Punct puncts.CloseBrace) k ∷ rest) ≡ Ok (begun_close, rest, sc ∷ outer)
+close_step limit unit l fs ds ss sc sc1 outer k rest left =
     let brace : Token = token (kinds.Punct puncts.CloseBrace) k in
     let all = brace ∷ rest in
-    ap (λ x. begun_by unit (place_in (in_block l ds ss ∷ fs)) (sign_of x.kind) (is_type_here (sc1 ∷ sc ∷ outer) all) (colon_follows all) (sc1 ∷ sc ∷ outer) all) (here_is brace rest)
+    ap (λ x. begun_by limit unit (place_in (in_block l ds ss ∷ fs)) (sign_of x.kind) (is_type_here (sc1 ∷ sc ∷ outer) all) (colon_follows all) (sc1 ∷ sc ∷ outer) all) (here_is brace rest)
     ∙ ap (λ x. Ok (begun_close, x, sc ∷ outer)) (passed brace rest left)
 
-pub reads_block : (l : Pos) (ds : List t.DeclTree) (ss : t.StmtList) → ReadsStmts ss → ReadsStmt (t.block l ds ss)
-reads_block l ds ss rss unit us fs sc outer xs rest p deep inner enough room left safe =
+pub reads_block : (limit : ℕ) (l : Pos) (ds : List t.DeclTree) (ss : t.StmtList) → ReadsStmts limit ss → ReadsStmt limit (t.block l ds ss)
+reads_block limit l ds ss rss unit us fs sc outer xs rest p deep inner enough room left safe =
     let open_token : Token = token (kinds.Punct puncts.OpenBrace) l in
     let all = t.block l ds ss in
     let sc1 = after_decls sc ds in
     let sc2 = after_stmts sc1 ss in
-    before (Reaches unit us fs sc outer all rest) l (kinds.Punct puncts.OpenBrace) xs rest p (λ vs pv.
-    split (λ ts. Reaches unit us fs sc outer all rest (open_token ∷ ts)) vs rest pv (λ ys ws py pw.
-    behind_some (λ ts. Reaches unit us fs sc outer all rest (open_token ∷ (ys ++ ts))) (kinds.Punct puncts.CloseBrace) ws rest pw (λ k zs pz short small.
+    before (Reaches limit unit us fs sc outer all rest) l (kinds.Punct puncts.OpenBrace) xs rest p (λ vs pv.
+    split (λ ts. Reaches limit unit us fs sc outer all rest (open_token ∷ ts)) vs rest pv (λ ys ws py pw.
+    behind_some (λ ts. Reaches limit unit us fs sc outer all rest (open_token ∷ (ys ++ ts))) (kinds.Punct puncts.CloseBrace) ws rest pw (λ k zs pz short small.
     let close_token : Token = token (kinds.Punct puncts.CloseBrace) k in
     let tail = zs ++ (close_token ∷ rest) in
     let long = length-append ys tail in
     let fuel : Fueled us (length (ys ++ tail)) = fueled us (length (ys ++ tail)) (omega (arith, short)) in
-    let first : DeclsRun unit fuel.others l fs [] ds sc (sc ∷ outer) (ys ++ tail) tail = block_decls ds unit fuel.others l fs [] sc (sc ∷ outer) ys tail py (omega (arith, inner)) fuel.enough (omega (arith, small)) (left_more zs (close_token ∷ rest) tt) in
-    let second : StmtsRun unit first.us_left l fs ds ss sc1 (sc ∷ outer) tail (close_token ∷ rest) = rss unit first.us_left l fs ds sc1 (sc ∷ outer) zs (close_token ∷ rest) pz (omega (arith, deep)) (omega (arith, inner)) first.enough (omega (arith, small, long)) tt refl in
+    let first : DeclsRun limit unit fuel.others l fs [] ds sc (sc ∷ outer) (ys ++ tail) tail = block_decls limit ds unit fuel.others l fs [] sc (sc ∷ outer) ys tail py (omega (arith, inner)) fuel.enough (omega (arith, small)) (left_more zs (close_token ∷ rest) tt) in
+    let second : StmtsRun limit unit first.us_left l fs ds ss sc1 (sc ∷ outer) tail (close_token ∷ rest) = rss unit first.us_left l fs ds sc1 (sc ∷ outer) zs (close_token ∷ rest) pz (omega (arith, deep)) (omega (arith, inner)) first.enough (omega (arith, small, long)) tt refl in
     let more = second.enough in
     let last : Fueled second.us_left (length rest) = fueled second.us_left (length rest) (omega (arith, more)) in
     record {
       us_left = last.others;
       enough = last.enough;
-      are = subst (λ x. statement_run unit x fs (sc ∷ outer) (open_token ∷ (ys ++ tail)) ≡ (all_plugged fs all (sc ∷ outer) rest >>= statement_next (statement_run unit last.others))) (sym fuel.are)
-          (opened unit fuel.others fs fs (sc ∷ outer) (sc ∷ sc ∷ outer) (open_token ∷ (ys ++ tail)) (ys ++ tail) (in_block l [] t.no_stmts) _ (word_step unit fs (sc ∷ outer) (kinds.Punct puncts.OpenBrace) l (ys ++ tail) words.OpenBrace brace_word (omega (arith, deep)) (left_more ys tail (left_more zs (close_token ∷ rest) tt))) (first.are ∙ second.are) fuel.first
-          ∙ subst (λ x. statement_run unit x (in_block l ds ss ∷ fs) (sc2 ∷ sc ∷ outer) (close_token ∷ rest) ≡ (all_plugged fs all (sc ∷ outer) rest >>= statement_next (statement_run unit last.others))) (sym last.are)
-          (ap (λ x. (x >>= behind_begun (in_block l ds ss ∷ fs)) >>= statement_next (statement_run unit last.others)) (close_step unit l fs ds ss sc sc2 outer k rest left)));
+      are = subst (λ x. statement_run limit unit x fs (sc ∷ outer) (open_token ∷ (ys ++ tail)) ≡ (all_plugged limit fs all (sc ∷ outer) rest >>= statement_next (statement_run limit unit last.others))) (sym fuel.are)
+          (opened limit unit fuel.others fs fs (sc ∷ outer) (sc ∷ sc ∷ outer) (open_token ∷ (ys ++ tail)) (ys ++ tail) (in_block l [] t.no_stmts) _ (word_step limit unit fs (sc ∷ outer) (kinds.Punct puncts.OpenBrace) l (ys ++ tail) words.OpenBrace brace_word (omega (arith, deep)) (left_more ys tail (left_more zs (close_token ∷ rest) tt))) (first.are ∙ second.are) fuel.first
+          ∙ subst (λ x. statement_run limit unit x (in_block l ds ss ∷ fs) (sc2 ∷ sc ∷ outer) (close_token ∷ rest) ≡ (all_plugged limit fs all (sc ∷ outer) rest >>= statement_next (statement_run limit unit last.others))) (sym last.are)
+          (ap (λ x. (x >>= behind_begun limit (in_block l ds ss ∷ fs)) >>= statement_next (statement_run limit unit last.others)) (close_step limit unit l fs ds ss sc sc2 outer k rest left)));
     }))) enough room
 
 mutual
-  pub reads_stmt : (s : t.StmtTree) → ReadsStmt s
-  reads_stmt (t.label l n s) = reads_label l n s (reads_stmt s)
-  reads_stmt (t.case l e s) = reads_case l e s (reads_stmt s)
-  reads_stmt (t.default l s) = reads_default l s (reads_stmt s)
-  reads_stmt (t.block l ds ss) = reads_block l ds ss (reads_stmts ss)
-  reads_stmt (t.eval l e) = reads_eval l e
-  reads_stmt (t.if_stmt l e s t.no_stmt) = reads_if l e s (reads_stmt s)
-  reads_stmt (t.if_stmt l e s (t.a_stmt r)) = reads_if_else l e s r (reads_stmt s) (reads_stmt r)
-  reads_stmt (t.switch l e s) = reads_switch l e s (reads_stmt s)
-  reads_stmt (t.while l e s) = reads_while l e s (reads_stmt s)
-  reads_stmt (t.do_while l s e) = reads_do l s e (reads_stmt s)
-  reads_stmt (t.for l e f g s) = reads_for l e f g s (reads_stmt s)
-  reads_stmt (t.goto l n) = reads_goto l n
-  reads_stmt (t.continue l) = reads_continue l
-  reads_stmt (t.break l) = reads_break l
-  reads_stmt (t.return l e) = reads_return l e
+  pub reads_stmt : (limit : ℕ) (s : t.StmtTree) → ReadsStmt limit s
+  reads_stmt limit (t.label l n s) = reads_label limit l n s (reads_stmt limit s)
+  reads_stmt limit (t.case l e s) = reads_case limit l e s (reads_stmt limit s)
+  reads_stmt limit (t.default l s) = reads_default limit l s (reads_stmt limit s)
+  reads_stmt limit (t.block l ds ss) = reads_block limit l ds ss (reads_stmts limit ss)
+  reads_stmt limit (t.eval l e) = reads_eval limit l e
+  reads_stmt limit (t.if_stmt l e s t.no_stmt) = reads_if limit l e s (reads_stmt limit s)
+  reads_stmt limit (t.if_stmt l e s (t.a_stmt r)) = reads_if_else limit l e s r (reads_stmt limit s) (reads_stmt limit r)
+  reads_stmt limit (t.switch l e s) = reads_switch limit l e s (reads_stmt limit s)
+  reads_stmt limit (t.while l e s) = reads_while limit l e s (reads_stmt limit s)
+  reads_stmt limit (t.do_while l s e) = reads_do limit l s e (reads_stmt limit s)
+  reads_stmt limit (t.for l e f g s) = reads_for limit l e f g s (reads_stmt limit s)
+  reads_stmt limit (t.goto l n) = reads_goto limit l n
+  reads_stmt limit (t.continue l) = reads_continue limit l
+  reads_stmt limit (t.break l) = reads_break limit l
+  reads_stmt limit (t.return l e) = reads_return limit l e
 
-  pub reads_stmts : (ss : t.StmtList) → ReadsStmts ss
-  reads_stmts t.no_stmts = no_stmts_read
-  reads_stmts (t.and_stmt ss s) = one_more_read ss s (reads_stmts ss) (reads_stmt s)
+  pub reads_stmts : (limit : ℕ) (ss : t.StmtList) → ReadsStmts limit ss
+  reads_stmts limit t.no_stmts = no_stmts_read limit
+  reads_stmts limit (t.and_stmt ss s) = one_more_read limit ss s (reads_stmts limit ss) (reads_stmt limit s)

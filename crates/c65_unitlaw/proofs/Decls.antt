@@ -1,5 +1,5 @@
 -- Declarations (C90 6.5).
-use Rattle.std.proofs.Common.{◌≡◌, suc, ◌≤◌, List, [], ◌∷◌, ◌++◌, length, length-append, append_assoc, Bool, true, false, refl, sym, ap, ◌∙◌, subst, inl, inr, arith}
+use Rattle.std.proofs.Common.{◌≡◌, ℕ, suc, ◌≤◌, List, [], ◌∷◌, ◌++◌, length, length-append, append_assoc, Bool, true, false, refl, sym, ap, ◌∙◌, subst, inl, inr, arith}
 use Rattle.std.specs.Prelude.{Ok, Option, None, Some}
 use Rattle.c65_base.specs.declared.names.Name.{Name}
 use Rattle.c65_base.specs.declared.refusal.Pos.{Pos}
@@ -42,12 +42,12 @@ abbrev Plain : Token → Type 0
 Plain tok = NoSuffix tok.kind
 
 -- a declarator, and its name declared behind it
-pub named_is : (q : t.SpecifiersTree) (sc : Scope) (outer : Blocks) (d : t.DeclaratorTree) (xs ts : List Token) → g.declarator (g.named (has_type q)) sc (declarator_start d) d xs → declarator_depth d ≤ 256 → Left ts → First Plain ts
-    → named_read (naming_of q) (sc ∷ outer) (xs ++ ts) ≡ Ok (d, ts, declared (is_typedef q) sc d ∷ outer)
-named_is q sc outer d xs [] p deep left f = absurd left
-named_is q sc outer d xs (r ∷ rs) p deep left f =
-    next (declarator_read (sorts.Named (has_type q)) (sc ∷ outer) (xs ++ r ∷ rs)) (d, r ∷ rs, after_declarator sc d ∷ outer) (λ x. Ok (x.0, x.1, declared_maybe (declared_name x.0) (is_typedef q) x.2)) (Ok (d, r ∷ rs, declared (is_typedef q) sc d ∷ outer))
-    (declarators_are_read (sorts.Named (has_type q)) sc outer (declarator_start d) d xs r rs p deep f)
+pub named_is : (limit : ℕ) (q : t.SpecifiersTree) (sc : Scope) (outer : Blocks) (d : t.DeclaratorTree) (xs ts : List Token) → g.declarator (g.named (has_type q)) sc (declarator_start d) d xs → declarator_depth d ≤ limit → Left ts → First Plain ts
+    → named_read limit (naming_of q) (sc ∷ outer) (xs ++ ts) ≡ Ok (d, ts, declared (is_typedef q) sc d ∷ outer)
+named_is limit q sc outer d xs [] p deep left f = absurd left
+named_is limit q sc outer d xs (r ∷ rs) p deep left f =
+    next (declarator_read limit (sorts.Named (has_type q)) (sc ∷ outer) (xs ++ r ∷ rs)) (d, r ∷ rs, after_declarator sc d ∷ outer) (λ x. Ok (x.0, x.1, declared_maybe (declared_name x.0) (is_typedef q) x.2)) (Ok (d, r ∷ rs, declared (is_typedef q) sc d ∷ outer))
+    (declarators_are_read limit (sorts.Named (has_type q)) sc outer (declarator_start d) d xs r rs p deep f)
     (ap (λ x. Ok (d, r ∷ rs, x)) (declared_by (declared_name d) (is_typedef q) (after_declarator sc d) outer))
 
 -- behind a declarator
@@ -72,54 +72,54 @@ pub behind_first : (i : Option t.InitTree) (ds : List t.InitDeclaratorTree) (q :
 behind_first None ds q inner sc k ws rest p = split (λ ts. First Plain ts) ws (token (kinds.Punct puncts.Semicolon) k ∷ rest) p (λ ys zs a pz. subst (λ ts. First Plain (ts ++ (zs ++ token (kinds.Punct puncts.Semicolon) k ∷ rest))) (sym a) (more_plain ds q sc k zs rest pz))
 behind_first (Some i) ds q inner sc k ws rest p = split (λ ts. First Plain ts) ws (token (kinds.Punct puncts.Semicolon) k ∷ rest) p (λ ys zs py pz. before_some (λ ts. First Plain ts) (kinds.Punct puncts.Equal) ys (zs ++ token (kinds.Punct puncts.Semicolon) k ∷ rest) py (λ l us pu. tt))
 
-optional_of : (unit : List Token) (sc : Scope) (outer : Blocks) (i : Option t.InitTree) (xs ts : List Token) → optional_init sc i xs → OptionFits i → length (xs ++ ts) ≤ length unit → Left ts → First ListsOn ts
-    → optional_init_read unit (sc ∷ outer) (xs ++ ts) ≡ Ok (i, ts, after_maybe_init sc i ∷ outer)
-optional_of unit sc outer i xs [] p deep enough left f = absurd left
-optional_of unit sc outer i xs (r ∷ rs) p deep enough left f = optional_is unit sc outer i xs r rs p deep enough f.0 f.1
+optional_of : (limit : ℕ) (unit : List Token) (sc : Scope) (outer : Blocks) (i : Option t.InitTree) (xs ts : List Token) → optional_init sc i xs → OptionFits limit i → length (xs ++ ts) ≤ length unit → Left ts → First ListsOn ts
+    → optional_init_read limit unit (sc ∷ outer) (xs ++ ts) ≡ Ok (i, ts, after_maybe_init sc i ∷ outer)
+optional_of limit unit sc outer i xs [] p deep enough left f = absurd left
+optional_of limit unit sc outer i xs (r ∷ rs) p deep enough left f = optional_is limit unit sc outer i xs r rs p deep enough f.0 f.1
 
-option_fits : (i : Option t.InitTree) → of_option init_depth i ≤ 256 → OptionFits i
-option_fits None h = tt
-option_fits (Some i) h = h
+option_fits : (limit : ℕ) (i : Option t.InitTree) → of_option init_depth i ≤ limit → OptionFits limit i
+option_fits limit None h = tt
+option_fits limit (Some i) h = h
 
 -- the declarators of a declaration behind one, and the semicolon
-declarators_are : (ds : List t.InitDeclaratorTree) (unit us : List Token) (q : t.SpecifiersTree) (done : List t.InitDeclaratorTree) (e : t.DeclaratorTree) (i : Option t.InitTree) (sc : Scope) (outer : Blocks) (k : Pos) (xs rest : List Token)
-    → (optional_init sc i ▸ init_declarators false q (after_maybe_init sc i) ds) xs → OptionFits i → deepest init_declarator_depth ds ≤ 256 → length (xs ++ token (kinds.Punct puncts.Semicolon) k ∷ rest) ≤ length us → length (xs ++ token (kinds.Punct puncts.Semicolon) k ∷ rest) ≤ length unit → Left rest
-    → declarators_run unit (naming_of q) us done e (sc ∷ outer) (xs ++ token (kinds.Punct puncts.Semicolon) k ∷ rest) ≡ Ok (done ++ record { declarator = e; init = i } ∷ ds, rest, after_declarators (is_typedef q) (after_maybe_init sc i) ds ∷ outer)
-declarators_are ds unit [] q done e i sc outer k xs rest p fit deep enough room left = let long = length-append xs (token (kinds.Punct puncts.Semicolon) k ∷ rest) in absurd (omega (arith, enough, long))
-declarators_are [] unit (u ∷ us) q done e i sc outer k xs rest p fit deep enough room left =
+declarators_are : (limit : ℕ) (ds : List t.InitDeclaratorTree) (unit us : List Token) (q : t.SpecifiersTree) (done : List t.InitDeclaratorTree) (e : t.DeclaratorTree) (i : Option t.InitTree) (sc : Scope) (outer : Blocks) (k : Pos) (xs rest : List Token)
+    → (optional_init sc i ▸ init_declarators false q (after_maybe_init sc i) ds) xs → OptionFits limit i → deepest init_declarator_depth ds ≤ limit → length (xs ++ token (kinds.Punct puncts.Semicolon) k ∷ rest) ≤ length us → length (xs ++ token (kinds.Punct puncts.Semicolon) k ∷ rest) ≤ length unit → Left rest
+    → declarators_run limit unit (naming_of q) us done e (sc ∷ outer) (xs ++ token (kinds.Punct puncts.Semicolon) k ∷ rest) ≡ Ok (done ++ record { declarator = e; init = i } ∷ ds, rest, after_declarators (is_typedef q) (after_maybe_init sc i) ds ∷ outer)
+declarators_are limit ds unit [] q done e i sc outer k xs rest p fit deep enough room left = let long = length-append xs (token (kinds.Punct puncts.Semicolon) k ∷ rest) in absurd (omega (arith, enough, long))
+declarators_are limit [] unit (u ∷ us) q done e i sc outer k xs rest p fit deep enough room left =
     let semi : Token = token (kinds.Punct puncts.Semicolon) k in
     let one : t.InitDeclaratorTree = record { declarator = e; init = i } in
     let all = done ++ one ∷ [] in
     let sc1 = after_maybe_init sc i in
-    split (λ ts. length ts ≤ length unit → declarators_run unit (naming_of q) (u ∷ us) done e (sc ∷ outer) ts ≡ Ok (all, rest, sc1 ∷ outer)) xs (semi ∷ rest) p (λ ys zs py a. subst (λ ws. length (ys ++ (ws ++ semi ∷ rest)) ≤ length unit → declarators_run unit (naming_of q) (u ∷ us) done e (sc ∷ outer) (ys ++ (ws ++ semi ∷ rest)) ≡ Ok (all, rest, sc1 ∷ outer)) (sym a) (λ short.
-    next (declarators_step unit (naming_of q) done e (sc ∷ outer) (ys ++ semi ∷ rest)) (all_declared all, rest, sc1 ∷ outer) (declarators_next (declarators_run unit (naming_of q) us)) (Ok (all, rest, sc1 ∷ outer))
-    (next (optional_init_read unit (sc ∷ outer) (ys ++ semi ∷ rest)) (i, semi ∷ rest, sc1 ∷ outer) (λ x. behind_declarator (naming_of q) (with_declarator done e x.0) x.2 x.1) (Ok (all_declared all, rest, sc1 ∷ outer))
-    (optional_of unit sc outer i ys (semi ∷ rest) py fit short tt (inl refl, refl))
-    (unless (is_here marks.Comma (semi ∷ rest)) (next_declarator (naming_of q) all (sc1 ∷ outer) (after_token (semi ∷ rest))) (last_declarator all (sc1 ∷ outer) (semi ∷ rest)) (is_here_is marks.Comma semi rest)
+    split (λ ts. length ts ≤ length unit → declarators_run limit unit (naming_of q) (u ∷ us) done e (sc ∷ outer) ts ≡ Ok (all, rest, sc1 ∷ outer)) xs (semi ∷ rest) p (λ ys zs py a. subst (λ ws. length (ys ++ (ws ++ semi ∷ rest)) ≤ length unit → declarators_run limit unit (naming_of q) (u ∷ us) done e (sc ∷ outer) (ys ++ (ws ++ semi ∷ rest)) ≡ Ok (all, rest, sc1 ∷ outer)) (sym a) (λ short.
+    next (declarators_step limit unit (naming_of q) done e (sc ∷ outer) (ys ++ semi ∷ rest)) (all_declared all, rest, sc1 ∷ outer) (declarators_next (declarators_run limit unit (naming_of q) us)) (Ok (all, rest, sc1 ∷ outer))
+    (next (optional_init_read limit unit (sc ∷ outer) (ys ++ semi ∷ rest)) (i, semi ∷ rest, sc1 ∷ outer) (λ x. behind_declarator limit (naming_of q) (with_declarator done e x.0) x.2 x.1) (Ok (all_declared all, rest, sc1 ∷ outer))
+    (optional_of limit unit sc outer i ys (semi ∷ rest) py fit short tt (inl refl, refl))
+    (unless (is_here marks.Comma (semi ∷ rest)) (next_declarator limit (naming_of q) all (sc1 ∷ outer) (after_token (semi ∷ rest))) (last_declarator all (sc1 ∷ outer) (semi ∷ rest)) (is_here_is marks.Comma semi rest)
     ∙ next (expected marks.Semicolon (sc1 ∷ outer) (semi ∷ rest)) (rest, sc1 ∷ outer) (λ x. Ok (all_declared all, x.0, x.1)) (Ok (all_declared all, rest, sc1 ∷ outer)) (expected_is marks.Semicolon (sc1 ∷ outer) semi rest refl left) refl))
     refl)) room
-declarators_are (d ∷ ds) unit (u ∷ us) q done e i sc outer k xs rest p fit deep enough room left =
+declarators_are limit (d ∷ ds) unit (u ∷ us) q done e i sc outer k xs rest p fit deep enough room left =
     let semi : Token = token (kinds.Punct puncts.Semicolon) k in
     let one : t.InitDeclaratorTree = record { declarator = e; init = i } in
     let sc1 = after_maybe_init sc i in
     let inner = declared (is_typedef q) sc1 d.declarator in
     let sc2 = after_declarators (is_typedef q) (after_maybe_init inner d.init) ds in
     let end : Answer (List t.InitDeclaratorTree) = Ok (done ++ one ∷ d ∷ ds, rest, sc2 ∷ outer) in
-    split (λ ts. length ts ≤ suc (length us) → length ts ≤ length unit → declarators_run unit (naming_of q) (u ∷ us) done e (sc ∷ outer) ts ≡ end) xs (semi ∷ rest) p (λ ys zs py pz.
-    before_some (λ ts. length (ys ++ ts) ≤ suc (length us) → length (ys ++ ts) ≤ length unit → declarators_run unit (naming_of q) (u ∷ us) done e (sc ∷ outer) (ys ++ ts) ≡ end) (kinds.Punct puncts.Comma) zs (semi ∷ rest) pz (λ j vs pv.
+    split (λ ts. length ts ≤ suc (length us) → length ts ≤ length unit → declarators_run limit unit (naming_of q) (u ∷ us) done e (sc ∷ outer) ts ≡ end) xs (semi ∷ rest) p (λ ys zs py pz.
+    before_some (λ ts. length (ys ++ ts) ≤ suc (length us) → length (ys ++ ts) ≤ length unit → declarators_run limit unit (naming_of q) (u ∷ us) done e (sc ∷ outer) (ys ++ ts) ≡ end) (kinds.Punct puncts.Comma) zs (semi ∷ rest) pz (λ j vs pv.
     let comma : Token = token (kinds.Punct puncts.Comma) j in
-    split (λ ts. length (ys ++ (comma ∷ ts)) ≤ suc (length us) → length (ys ++ (comma ∷ ts)) ≤ length unit → declarators_run unit (naming_of q) (u ∷ us) done e (sc ∷ outer) (ys ++ (comma ∷ ts)) ≡ end) vs (semi ∷ rest) pv (λ ws ns pw pn short small.
+    split (λ ts. length (ys ++ (comma ∷ ts)) ≤ suc (length us) → length (ys ++ (comma ∷ ts)) ≤ length unit → declarators_run limit unit (naming_of q) (u ∷ us) done e (sc ∷ outer) (ys ++ (comma ∷ ts)) ≡ end) vs (semi ∷ rest) pv (λ ws ns pw pn short small.
     let tail = ns ++ semi ∷ rest in
     let long = length-append ys (comma ∷ (ws ++ tail)) in
     let longer = length-append ws tail in
-    next (declarators_step unit (naming_of q) done e (sc ∷ outer) (ys ++ (comma ∷ (ws ++ tail)))) (more_declared (done ++ one ∷ []) d.declarator, tail, inner ∷ outer) (declarators_next (declarators_run unit (naming_of q) us)) end
-    (next (optional_init_read unit (sc ∷ outer) (ys ++ (comma ∷ (ws ++ tail)))) (i, comma ∷ (ws ++ tail), sc1 ∷ outer) (λ x. behind_declarator (naming_of q) (with_declarator done e x.0) x.2 x.1) (Ok (more_declared (done ++ one ∷ []) d.declarator, tail, inner ∷ outer))
-    (optional_of unit sc outer i ys (comma ∷ (ws ++ tail)) py fit small tt (inr (omega arith), refl))
-    (when (is_here marks.Comma (comma ∷ (ws ++ tail))) (next_declarator (naming_of q) (done ++ one ∷ []) (sc1 ∷ outer) (after_token (comma ∷ (ws ++ tail)))) (last_declarator (done ++ one ∷ []) (sc1 ∷ outer) (comma ∷ (ws ++ tail))) (is_here_is marks.Comma comma (ws ++ tail))
-    ∙ (ap (next_declarator (naming_of q) (done ++ one ∷ []) (sc1 ∷ outer)) (passed comma (ws ++ tail) (left_more ws tail (left_more ns (semi ∷ rest) tt)))
-    ∙ next (named_read (naming_of q) (sc1 ∷ outer) (ws ++ tail)) (d.declarator, tail, inner ∷ outer) (λ x. Ok (more_declared (done ++ one ∷ []) x.0, x.1, x.2)) (Ok (more_declared (done ++ one ∷ []) d.declarator, tail, inner ∷ outer))
-    (named_is q sc1 outer d.declarator ws tail pw (omega (arith, deep)) (left_more ns (semi ∷ rest) tt) (behind_first d.init ds q inner (after_maybe_init inner d.init) k ns rest pn)) refl)))
-    (declarators_are ds unit us q (done ++ one ∷ []) d.declarator d.init inner outer k ns rest pn (option_fits d.init (omega (arith, deep))) (omega (arith, deep)) (omega (arith, short, long, longer)) (omega (arith, small, long, longer)) left
+    next (declarators_step limit unit (naming_of q) done e (sc ∷ outer) (ys ++ (comma ∷ (ws ++ tail)))) (more_declared (done ++ one ∷ []) d.declarator, tail, inner ∷ outer) (declarators_next (declarators_run limit unit (naming_of q) us)) end
+    (next (optional_init_read limit unit (sc ∷ outer) (ys ++ (comma ∷ (ws ++ tail)))) (i, comma ∷ (ws ++ tail), sc1 ∷ outer) (λ x. behind_declarator limit (naming_of q) (with_declarator done e x.0) x.2 x.1) (Ok (more_declared (done ++ one ∷ []) d.declarator, tail, inner ∷ outer))
+    (optional_of limit unit sc outer i ys (comma ∷ (ws ++ tail)) py fit small tt (inr (omega arith), refl))
+    (when (is_here marks.Comma (comma ∷ (ws ++ tail))) (next_declarator limit (naming_of q) (done ++ one ∷ []) (sc1 ∷ outer) (after_token (comma ∷ (ws ++ tail)))) (last_declarator (done ++ one ∷ []) (sc1 ∷ outer) (comma ∷ (ws ++ tail))) (is_here_is marks.Comma comma (ws ++ tail))
+    ∙ (ap (next_declarator limit (naming_of q) (done ++ one ∷ []) (sc1 ∷ outer)) (passed comma (ws ++ tail) (left_more ws tail (left_more ns (semi ∷ rest) tt)))
+    ∙ next (named_read limit (naming_of q) (sc1 ∷ outer) (ws ++ tail)) (d.declarator, tail, inner ∷ outer) (λ x. Ok (more_declared (done ++ one ∷ []) x.0, x.1, x.2)) (Ok (more_declared (done ++ one ∷ []) d.declarator, tail, inner ∷ outer))
+    (named_is limit q sc1 outer d.declarator ws tail pw (omega (arith, deep)) (left_more ns (semi ∷ rest) tt) (behind_first d.init ds q inner (after_maybe_init inner d.init) k ns rest pn)) refl)))
+    (declarators_are limit ds unit us q (done ++ one ∷ []) d.declarator d.init inner outer k ns rest pn (option_fits limit d.init (omega (arith, deep))) (omega (arith, deep)) (omega (arith, short, long, longer)) (omega (arith, small, long, longer)) left
     ∙ ap (λ x. Ok (x, rest, sc2 ∷ outer)) (append_assoc done (one ∷ []) (d ∷ ds)))))) enough room
 
 -- with what a declaration's declarators begin
@@ -146,49 +146,49 @@ pub head_is : (q : t.SpecifiersTree) (sc : Scope) (m : Pos) (xs : List Token) �
 head_is (t.specifiers l t.no_specifiers) sc m xs p = absurd (let e = p.0.0 in cc)
 head_is (t.specifiers l (t.and_specifier qs q)) sc m xs p = p
 
-pub specifiers_of : (q : t.SpecifiersTree) (sc : Scope) (outer : Blocks) (xs ts : List Token) → g.specifiers sc true q xs → specifiers_depth q ≤ 256 → Left ts → First (EndsThem q (after_specifiers sc q)) ts → specifiers_read (sc ∷ outer) (xs ++ ts) ≡ Ok (q, ts, after_specifiers sc q ∷ outer)
-specifiers_of q sc outer xs [] p deep left f = absurd left
-specifiers_of q sc outer xs (r ∷ rs) p deep left f = specifiers_are_read sc outer q xs r rs (head_is q sc r.pos xs p) deep f
+pub specifiers_of : (limit : ℕ) (q : t.SpecifiersTree) (sc : Scope) (outer : Blocks) (xs ts : List Token) → g.specifiers sc true q xs → specifiers_depth q ≤ limit → Left ts → First (EndsThem q (after_specifiers sc q)) ts → specifiers_read limit (sc ∷ outer) (xs ++ ts) ≡ Ok (q, ts, after_specifiers sc q ∷ outer)
+specifiers_of limit q sc outer xs [] p deep left f = absurd left
+specifiers_of limit q sc outer xs (r ∷ rs) p deep left f = specifiers_are_read limit sc outer q xs r rs (head_is q sc r.pos xs p) deep f
 
 -- a declaration's declarators, and the semicolon
-pub declarators_behind : (unit : List Token) (q : t.SpecifiersTree) (d : t.InitDeclaratorTree) (ds : List t.InitDeclaratorTree) (sc : Scope) (outer : Blocks) (k : Pos) (ns rest : List Token) → let inner = declared (is_typedef q) sc d.declarator in
-    (optional_init inner d.init ▸ init_declarators false q (after_maybe_init inner d.init) ds) ns → deepest init_declarator_depth (d ∷ ds) ≤ 256 → length (ns ++ token (kinds.Punct puncts.Semicolon) k ∷ rest) ≤ length unit → Left rest
-    → declaration_from unit q d.declarator (declared (is_typedef q) sc d.declarator ∷ outer) (ns ++ token (kinds.Punct puncts.Semicolon) k ∷ rest) ≡ Ok (record { specifiers = q; declarators = d ∷ ds }, rest, after_declarators (is_typedef q) sc (d ∷ ds) ∷ outer)
-declarators_behind unit q d ds sc outer k ns rest p deep enough left =
+pub declarators_behind : (limit : ℕ) (unit : List Token) (q : t.SpecifiersTree) (d : t.InitDeclaratorTree) (ds : List t.InitDeclaratorTree) (sc : Scope) (outer : Blocks) (k : Pos) (ns rest : List Token) → let inner = declared (is_typedef q) sc d.declarator in
+    (optional_init inner d.init ▸ init_declarators false q (after_maybe_init inner d.init) ds) ns → deepest init_declarator_depth (d ∷ ds) ≤ limit → length (ns ++ token (kinds.Punct puncts.Semicolon) k ∷ rest) ≤ length unit → Left rest
+    → declaration_from limit unit q d.declarator (declared (is_typedef q) sc d.declarator ∷ outer) (ns ++ token (kinds.Punct puncts.Semicolon) k ∷ rest) ≡ Ok (record { specifiers = q; declarators = d ∷ ds }, rest, after_declarators (is_typedef q) sc (d ∷ ds) ∷ outer)
+declarators_behind limit unit q d ds sc outer k ns rest p deep enough left =
     let inner = declared (is_typedef q) sc d.declarator in
-    next (declarators_read unit (naming_of q) d.declarator (inner ∷ outer) (ns ++ token (kinds.Punct puncts.Semicolon) k ∷ rest)) (d ∷ ds, rest, after_declarators (is_typedef q) sc (d ∷ ds) ∷ outer) (λ x. Ok (record { specifiers = q; declarators = x.0 }, x.1, x.2)) (Ok (record { specifiers = q; declarators = d ∷ ds }, rest, after_declarators (is_typedef q) sc (d ∷ ds) ∷ outer))
-    (declarators_are ds unit unit q [] d.declarator d.init inner outer k ns rest p (option_fits d.init (omega (arith, deep))) (omega (arith, deep)) enough enough left) refl
+    next (declarators_read limit unit (naming_of q) d.declarator (inner ∷ outer) (ns ++ token (kinds.Punct puncts.Semicolon) k ∷ rest)) (d ∷ ds, rest, after_declarators (is_typedef q) sc (d ∷ ds) ∷ outer) (λ x. Ok (record { specifiers = q; declarators = x.0 }, x.1, x.2)) (Ok (record { specifiers = q; declarators = d ∷ ds }, rest, after_declarators (is_typedef q) sc (d ∷ ds) ∷ outer))
+    (declarators_are limit ds unit unit q [] d.declarator d.init inner outer k ns rest p (option_fits limit d.init (omega (arith, deep))) (omega (arith, deep)) enough enough left) refl
 
-declaration_by : (unit : List Token) (q : t.SpecifiersTree) (ds : List t.InitDeclaratorTree) (sc : Scope) (outer : Blocks) (xs rest : List Token) → (g.specifiers sc true q ▸ init_declarators true q (after_specifiers sc q) ds ▸ some_mark puncts.Semicolon) xs → specifiers_depth q ≤ 256 → deepest init_declarator_depth ds ≤ 256 → length (xs ++ rest) ≤ length unit → Left rest
-    → declaration_read unit (sc ∷ outer) (xs ++ rest) ≡ Ok (record { specifiers = q; declarators = ds }, rest, after_declarators (is_typedef q) (after_specifiers sc q) ds ∷ outer)
-declaration_by unit q [] sc outer xs rest p deep fit enough left =
+declaration_by : (limit : ℕ) (unit : List Token) (q : t.SpecifiersTree) (ds : List t.InitDeclaratorTree) (sc : Scope) (outer : Blocks) (xs rest : List Token) → (g.specifiers sc true q ▸ init_declarators true q (after_specifiers sc q) ds ▸ some_mark puncts.Semicolon) xs → specifiers_depth q ≤ limit → deepest init_declarator_depth ds ≤ limit → length (xs ++ rest) ≤ length unit → Left rest
+    → declaration_read limit unit (sc ∷ outer) (xs ++ rest) ≡ Ok (record { specifiers = q; declarators = ds }, rest, after_declarators (is_typedef q) (after_specifiers sc q) ds ∷ outer)
+declaration_by limit unit q [] sc outer xs rest p deep fit enough left =
     let sc1 = after_specifiers sc q in
     let end : Answer t.DeclTree = Ok (record { specifiers = q; declarators = [] }, rest, sc1 ∷ outer) in
-    split (λ ts. declaration_read unit (sc ∷ outer) ts ≡ end) xs rest p (λ ys us py pu.
-    behind_some (λ ts. declaration_read unit (sc ∷ outer) (ys ++ ts) ≡ end) (kinds.Punct puncts.Semicolon) us rest pu (λ k zs a. subst (λ ts. declaration_read unit (sc ∷ outer) (ys ++ (ts ++ (token (kinds.Punct puncts.Semicolon) k ∷ rest))) ≡ end) (sym a)
+    split (λ ts. declaration_read limit unit (sc ∷ outer) ts ≡ end) xs rest p (λ ys us py pu.
+    behind_some (λ ts. declaration_read limit unit (sc ∷ outer) (ys ++ ts) ≡ end) (kinds.Punct puncts.Semicolon) us rest pu (λ k zs a. subst (λ ts. declaration_read limit unit (sc ∷ outer) (ys ++ (ts ++ (token (kinds.Punct puncts.Semicolon) k ∷ rest))) ≡ end) (sym a)
     (let semi : Token = token (kinds.Punct puncts.Semicolon) k in
-    next (specifiers_read (sc ∷ outer) (ys ++ (semi ∷ rest))) (q, semi ∷ rest, sc1 ∷ outer) (λ x. behind_specifiers unit x.0 x.2 x.1) end (specifiers_of q sc outer ys (semi ∷ rest) py deep tt tt)
-    (when (is_here marks.Semicolon (semi ∷ rest)) (Ok (empty_declaration q (sc1 ∷ outer) (semi ∷ rest))) (declarators_begun unit q (sc1 ∷ outer) (semi ∷ rest)) (is_here_is marks.Semicolon semi rest)
+    next (specifiers_read limit (sc ∷ outer) (ys ++ (semi ∷ rest))) (q, semi ∷ rest, sc1 ∷ outer) (λ x. behind_specifiers limit unit x.0 x.2 x.1) end (specifiers_of limit q sc outer ys (semi ∷ rest) py deep tt tt)
+    (when (is_here marks.Semicolon (semi ∷ rest)) (Ok (empty_declaration q (sc1 ∷ outer) (semi ∷ rest))) (declarators_begun limit unit q (sc1 ∷ outer) (semi ∷ rest)) (is_here_is marks.Semicolon semi rest)
     ∙ ap (λ ts. Ok (record { specifiers = q; declarators = [] }, ts, sc1 ∷ outer)) (passed semi rest left)))))
-declaration_by unit q (d ∷ ds) sc outer xs rest p deep fit enough left =
+declaration_by limit unit q (d ∷ ds) sc outer xs rest p deep fit enough left =
     let sc1 = after_specifiers sc q in
     let inner = declared (is_typedef q) sc1 d.declarator in
     let end : Answer t.DeclTree = Ok (record { specifiers = q; declarators = d ∷ ds }, rest, after_declarators (is_typedef q) sc1 (d ∷ ds) ∷ outer) in
-    split (λ ts. length ts ≤ length unit → declaration_read unit (sc ∷ outer) ts ≡ end) xs rest p (λ ys us py pu.
-    behind_some (λ ts. length (ys ++ ts) ≤ length unit → declaration_read unit (sc ∷ outer) (ys ++ ts) ≡ end) (kinds.Punct puncts.Semicolon) us rest pu (λ k vs pv.
+    split (λ ts. length ts ≤ length unit → declaration_read limit unit (sc ∷ outer) ts ≡ end) xs rest p (λ ys us py pu.
+    behind_some (λ ts. length (ys ++ ts) ≤ length unit → declaration_read limit unit (sc ∷ outer) (ys ++ ts) ≡ end) (kinds.Punct puncts.Semicolon) us rest pu (λ k vs pv.
     let semi : Token = token (kinds.Punct puncts.Semicolon) k in
-    split (λ ts. length (ys ++ ts) ≤ length unit → declaration_read unit (sc ∷ outer) (ys ++ ts) ≡ end) vs (semi ∷ rest) pv (λ ms ws a pw. subst (λ ts. length (ys ++ (ts ++ (ws ++ semi ∷ rest))) ≤ length unit → declaration_read unit (sc ∷ outer) (ys ++ (ts ++ (ws ++ semi ∷ rest))) ≡ end) (sym a)
-    (split (λ ts. length (ys ++ ts) ≤ length unit → declaration_read unit (sc ∷ outer) (ys ++ ts) ≡ end) ws (semi ∷ rest) pw (λ zs ns pz pn short.
+    split (λ ts. length (ys ++ ts) ≤ length unit → declaration_read limit unit (sc ∷ outer) (ys ++ ts) ≡ end) vs (semi ∷ rest) pv (λ ms ws a pw. subst (λ ts. length (ys ++ (ts ++ (ws ++ semi ∷ rest))) ≤ length unit → declaration_read limit unit (sc ∷ outer) (ys ++ (ts ++ (ws ++ semi ∷ rest))) ≡ end) (sym a)
+    (split (λ ts. length (ys ++ ts) ≤ length unit → declaration_read limit unit (sc ∷ outer) (ys ++ ts) ≡ end) ws (semi ∷ rest) pw (λ zs ns pz pn short.
     let tail = ns ++ semi ∷ rest in
     let long = length-append ys (zs ++ tail) in
     let longer = length-append zs tail in
     let o = begins_named (has_type q) sc1 d.declarator zs pz in
-    next (specifiers_read (sc ∷ outer) (ys ++ (zs ++ tail))) (q, zs ++ tail, sc1 ∷ outer) (λ x. behind_specifiers unit x.0 x.2 x.1) end
-    (specifiers_of q sc outer ys (zs ++ tail) py deep (left_more zs tail (left_more ns (semi ∷ rest) tt)) (opens_first (EndsThem q sc1) zs tail (opens_map _ (EndsThem q sc1) zs (λ tok h. h.0) o)))
-    (unless (is_here marks.Semicolon (zs ++ tail)) (Ok (empty_declaration q (sc1 ∷ outer) (zs ++ tail))) (declarators_begun unit q (sc1 ∷ outer) (zs ++ tail)) (opens_here (λ tok. EndsSpecifiers (has_type q) sc1 tok.kind × (is_mark marks.Semicolon (sign_of tok.kind) ≡ false)) zs tail o).1
-    ∙ next (named_read (naming_of q) (sc1 ∷ outer) (zs ++ tail)) (d.declarator, tail, inner ∷ outer) (λ x. declaration_from unit q x.0 x.2 x.1) end
-    (named_is q sc1 outer d.declarator zs tail pz (omega (arith, fit)) (left_more ns (semi ∷ rest) tt) (behind_first d.init ds q inner (after_maybe_init inner d.init) k ns rest pn))
-    (declarators_behind unit q d ds sc1 outer k ns rest pn fit (omega (arith, short, long, longer)) left))))))) enough
+    next (specifiers_read limit (sc ∷ outer) (ys ++ (zs ++ tail))) (q, zs ++ tail, sc1 ∷ outer) (λ x. behind_specifiers limit unit x.0 x.2 x.1) end
+    (specifiers_of limit q sc outer ys (zs ++ tail) py deep (left_more zs tail (left_more ns (semi ∷ rest) tt)) (opens_first (EndsThem q sc1) zs tail (opens_map _ (EndsThem q sc1) zs (λ tok h. h.0) o)))
+    (unless (is_here marks.Semicolon (zs ++ tail)) (Ok (empty_declaration q (sc1 ∷ outer) (zs ++ tail))) (declarators_begun limit unit q (sc1 ∷ outer) (zs ++ tail)) (opens_here (λ tok. EndsSpecifiers (has_type q) sc1 tok.kind × (is_mark marks.Semicolon (sign_of tok.kind) ≡ false)) zs tail o).1
+    ∙ next (named_read limit (naming_of q) (sc1 ∷ outer) (zs ++ tail)) (d.declarator, tail, inner ∷ outer) (λ x. declaration_from limit unit q x.0 x.2 x.1) end
+    (named_is limit q sc1 outer d.declarator zs tail pz (omega (arith, fit)) (left_more ns (semi ∷ rest) tt) (behind_first d.init ds q inner (after_maybe_init inner d.init) k ns rest pn))
+    (declarators_behind limit unit q d ds sc1 outer k ns rest pn fit (omega (arith, short, long, longer)) left))))))) enough
 
-pub declaration_is : (unit : List Token) (d : t.DeclTree) (sc : Scope) (outer : Blocks) (xs rest : List Token) → declaration sc d xs → decl_depth d ≤ 256 → length (xs ++ rest) ≤ length unit → Left rest → declaration_read unit (sc ∷ outer) (xs ++ rest) ≡ Ok (d, rest, after_decl sc d ∷ outer)
-declaration_is unit d sc outer xs rest p deep enough left = declaration_by unit d.specifiers d.declarators sc outer xs rest p (omega (arith, deep)) (omega (arith, deep)) enough left
+pub declaration_is : (limit : ℕ) (unit : List Token) (d : t.DeclTree) (sc : Scope) (outer : Blocks) (xs rest : List Token) → declaration sc d xs → decl_depth d ≤ limit → length (xs ++ rest) ≤ length unit → Left rest → declaration_read limit unit (sc ∷ outer) (xs ++ rest) ≡ Ok (d, rest, after_decl sc d ∷ outer)
+declaration_is limit unit d sc outer xs rest p deep enough left = declaration_by limit unit d.specifiers d.declarators sc outer xs rest p (omega (arith, deep)) (omega (arith, deep)) enough left

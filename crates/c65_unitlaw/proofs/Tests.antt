@@ -35,40 +35,40 @@ use Rattle.c65_complete.proofs.Firsts.{begins_expr}
 use Rattle.c65_complete.proofs.Top.{exprs_are_read}
 use Rattle.c65_unitlaw.proofs.Heres.{Left, left_more, passed, is_here_is, next, when, unless, expected_is, Differs, not_here}
 
-abbrev ended_by : ℕ → Mark → Blocks → List Token → Answer t.ExprTree
-ended_by least mark scope ts = expr_read least scope ts >>= (λ x. expected mark x.2 x.1 >>= (λ y. Ok (x.0, y.0, y.1)))
+abbrev ended_by : (limit : ℕ) → ℕ → Mark → Blocks → List Token → Answer t.ExprTree
+ended_by limit least mark scope ts = expr_read limit least scope ts >>= (λ x. expected mark x.2 x.1 >>= (λ y. Ok (x.0, y.0, y.1)))
 
 -- an expression, and a mark that ends it
-marked : (least : ℕ) (mark : Mark) (p : Punct) (l : Pos) (sc : Scope) (outer : Blocks) (e : t.ExprTree) (xs rest : List Token) → is_mark mark (sign_of_punct p) ≡ true → EndsExpr least (kinds.Punct p) → least ≤ 13 → least ≤ level e → g.expr sc e xs → expr_depth e ≤ 256 → Left rest
-    → ended_by least mark (sc ∷ outer) (xs ++ (token (kinds.Punct p) l ∷ rest)) ≡ Ok (e, rest, after sc e ∷ outer)
-marked least mark p l sc outer e xs rest is ends low high pe deep left =
-    next (expr_read least (sc ∷ outer) (xs ++ (token (kinds.Punct p) l ∷ rest))) (e, token (kinds.Punct p) l ∷ rest, after sc e ∷ outer) (λ x. expected mark x.2 x.1 >>= (λ y. Ok (x.0, y.0, y.1))) (Ok (e, rest, after sc e ∷ outer))
-    (exprs_are_read least sc outer e xs (token (kinds.Punct p) l) rest pe high deep low ends)
+marked : (limit : ℕ) (least : ℕ) (mark : Mark) (p : Punct) (l : Pos) (sc : Scope) (outer : Blocks) (e : t.ExprTree) (xs rest : List Token) → is_mark mark (sign_of_punct p) ≡ true → EndsExpr least (kinds.Punct p) → least ≤ 13 → least ≤ level e → g.expr sc e xs → expr_depth e ≤ limit → Left rest
+    → ended_by limit least mark (sc ∷ outer) (xs ++ (token (kinds.Punct p) l ∷ rest)) ≡ Ok (e, rest, after sc e ∷ outer)
+marked limit least mark p l sc outer e xs rest is ends low high pe deep left =
+    next (expr_read limit least (sc ∷ outer) (xs ++ (token (kinds.Punct p) l ∷ rest))) (e, token (kinds.Punct p) l ∷ rest, after sc e ∷ outer) (λ x. expected mark x.2 x.1 >>= (λ y. Ok (x.0, y.0, y.1))) (Ok (e, rest, after sc e ∷ outer))
+    (exprs_are_read limit least sc outer e xs (token (kinds.Punct p) l) rest pe high deep low ends)
     (next (expected mark (after sc e ∷ outer) (token (kinds.Punct p) l ∷ rest)) (rest, after sc e ∷ outer) (λ y. Ok (e, y.0, y.1)) (Ok (e, rest, after sc e ∷ outer)) (expected_is mark (after sc e ∷ outer) (token (kinds.Punct p) l) rest is left) refl)
 
-pub test_is : (sc : Scope) (outer : Blocks) (e : t.ExprTree) (xs rest : List Token) → test sc e xs → expr_depth e ≤ 256 → Left rest → test_read (sc ∷ outer) (xs ++ rest) ≡ Ok (e, rest, after sc e ∷ outer)
-test_is sc outer e xs rest p deep left =
-    before_some (λ ts. test_read (sc ∷ outer) ts ≡ Ok (e, rest, after sc e ∷ outer)) (kinds.Punct puncts.OpenParen) xs rest p (λ l us pu.
-    behind_some (λ ts. test_read (sc ∷ outer) (token (kinds.Punct puncts.OpenParen) l ∷ ts) ≡ Ok (e, rest, after sc e ∷ outer)) (kinds.Punct puncts.CloseParen) us rest pu (λ k ys pe.
+pub test_is : (limit : ℕ) (sc : Scope) (outer : Blocks) (e : t.ExprTree) (xs rest : List Token) → test sc e xs → expr_depth e ≤ limit → Left rest → test_read limit (sc ∷ outer) (xs ++ rest) ≡ Ok (e, rest, after sc e ∷ outer)
+test_is limit sc outer e xs rest p deep left =
+    before_some (λ ts. test_read limit (sc ∷ outer) ts ≡ Ok (e, rest, after sc e ∷ outer)) (kinds.Punct puncts.OpenParen) xs rest p (λ l us pu.
+    behind_some (λ ts. test_read limit (sc ∷ outer) (token (kinds.Punct puncts.OpenParen) l ∷ ts) ≡ Ok (e, rest, after sc e ∷ outer)) (kinds.Punct puncts.CloseParen) us rest pu (λ k ys pe.
     let tail = ys ++ (token (kinds.Punct puncts.CloseParen) k ∷ rest) in
-    next (expected marks.OpenParen (sc ∷ outer) (token (kinds.Punct puncts.OpenParen) l ∷ tail)) (tail, sc ∷ outer) (λ a. expr_read 0 a.1 a.0 >>= (λ x. expected marks.CloseParen x.2 x.1 >>= (λ y. Ok (x.0, y.0, y.1)))) (Ok (e, rest, after sc e ∷ outer))
+    next (expected marks.OpenParen (sc ∷ outer) (token (kinds.Punct puncts.OpenParen) l ∷ tail)) (tail, sc ∷ outer) (λ a. expr_read limit 0 a.1 a.0 >>= (λ x. expected marks.CloseParen x.2 x.1 >>= (λ y. Ok (x.0, y.0, y.1)))) (Ok (e, rest, after sc e ∷ outer))
     (expected_is marks.OpenParen (sc ∷ outer) (token (kinds.Punct puncts.OpenParen) l) tail refl (left_more ys (token (kinds.Punct puncts.CloseParen) k ∷ rest) tt))
-    (marked 0 marks.CloseParen puncts.CloseParen k sc outer e ys rest refl (inl refl) (omega arith) (omega arith) pe deep left)))
+    (marked limit 0 marks.CloseParen puncts.CloseParen k sc outer e ys rest refl (inl refl) (omega arith) (omega arith) pe deep left)))
 
-pub case_is : (sc : Scope) (outer : Blocks) (e : t.ExprTree) (k : Pos) (ys rest : List Token) → 2 ≤ level e → g.expr sc e ys → expr_depth e ≤ 256 → Left rest → case_read (sc ∷ outer) (ys ++ (token (kinds.Punct puncts.Colon) k ∷ rest)) ≡ Ok (e, rest, after sc e ∷ outer)
-case_is sc outer e k ys rest high pe deep left = marked 2 marks.Colon puncts.Colon k sc outer e ys rest refl (inl refl) (omega arith) high pe deep left
+pub case_is : (limit : ℕ) (sc : Scope) (outer : Blocks) (e : t.ExprTree) (k : Pos) (ys rest : List Token) → 2 ≤ level e → g.expr sc e ys → expr_depth e ≤ limit → Left rest → case_read limit (sc ∷ outer) (ys ++ (token (kinds.Punct puncts.Colon) k ∷ rest)) ≡ Ok (e, rest, after sc e ∷ outer)
+case_is limit sc outer e k ys rest high pe deep left = marked limit 2 marks.Colon puncts.Colon k sc outer e ys rest refl (inl refl) (omega arith) high pe deep left
 
 -- an expression or nothing, and the mark that ends it
-pub maybe_is : (mark : Mark) (p : Punct) (k : Pos) (sc : Scope) (outer : Blocks) (o : Option t.ExprTree) (ys rest : List Token) → Differs mark → is_mark mark (sign_of_punct p) ≡ true → EndsExpr 0 (kinds.Punct p) → optional_expr sc o ys → of_option expr_depth o ≤ 256 → Left rest
-    → optional_read mark (sc ∷ outer) (ys ++ (token (kinds.Punct p) k ∷ rest)) ≡ Ok (o, rest, after_option sc o ∷ outer)
-maybe_is mark p k sc outer None ys rest other is ends py deep left = subst (λ ts. optional_read mark (sc ∷ outer) (ts ++ (token (kinds.Punct p) k ∷ rest)) ≡ Ok (None, rest, sc ∷ outer)) (sym py)
-    (when (is_here mark (token (kinds.Punct p) k ∷ rest)) (Ok (None, after_token (token (kinds.Punct p) k ∷ rest), sc ∷ outer)) (ended_read mark (sc ∷ outer) (token (kinds.Punct p) k ∷ rest)) (is_here_is mark (token (kinds.Punct p) k) rest ∙ is)
+pub maybe_is : (limit : ℕ) (mark : Mark) (p : Punct) (k : Pos) (sc : Scope) (outer : Blocks) (o : Option t.ExprTree) (ys rest : List Token) → Differs mark → is_mark mark (sign_of_punct p) ≡ true → EndsExpr 0 (kinds.Punct p) → optional_expr sc o ys → of_option expr_depth o ≤ limit → Left rest
+    → optional_read limit mark (sc ∷ outer) (ys ++ (token (kinds.Punct p) k ∷ rest)) ≡ Ok (o, rest, after_option sc o ∷ outer)
+maybe_is limit mark p k sc outer None ys rest other is ends py deep left = subst (λ ts. optional_read limit mark (sc ∷ outer) (ts ++ (token (kinds.Punct p) k ∷ rest)) ≡ Ok (None, rest, sc ∷ outer)) (sym py)
+    (when (is_here mark (token (kinds.Punct p) k ∷ rest)) (Ok (None, after_token (token (kinds.Punct p) k ∷ rest), sc ∷ outer)) (ended_read limit mark (sc ∷ outer) (token (kinds.Punct p) k ∷ rest)) (is_here_is mark (token (kinds.Punct p) k) rest ∙ is)
     ∙ ap (λ x. Ok (None, x, sc ∷ outer)) (passed (token (kinds.Punct p) k) rest left))
-maybe_is mark p k sc outer (Some e) ys rest other is ends py deep left =
+maybe_is limit mark p k sc outer (Some e) ys rest other is ends py deep left =
     let tail = token (kinds.Punct p) k ∷ rest in
-    unless (is_here mark (ys ++ tail)) (Ok (None, after_token (ys ++ tail), sc ∷ outer)) (ended_read mark (sc ∷ outer) (ys ++ tail)) (not_here mark sc ys tail other (begins_expr e sc ys py))
-    ∙ next (expr_read 0 (sc ∷ outer) (ys ++ tail)) (e, tail, after sc e ∷ outer) (λ x. expected mark x.2 x.1 >>= (λ y. Ok (Some x.0, y.0, y.1))) (Ok (Some e, rest, after sc e ∷ outer))
-    (exprs_are_read 0 sc outer e ys (token (kinds.Punct p) k) rest py (omega arith) deep (omega arith) ends)
+    unless (is_here mark (ys ++ tail)) (Ok (None, after_token (ys ++ tail), sc ∷ outer)) (ended_read limit mark (sc ∷ outer) (ys ++ tail)) (not_here mark sc ys tail other (begins_expr e sc ys py))
+    ∙ next (expr_read limit 0 (sc ∷ outer) (ys ++ tail)) (e, tail, after sc e ∷ outer) (λ x. expected mark x.2 x.1 >>= (λ y. Ok (Some x.0, y.0, y.1))) (Ok (Some e, rest, after sc e ∷ outer))
+    (exprs_are_read limit 0 sc outer e ys (token (kinds.Punct p) k) rest py (omega arith) deep (omega arith) ends)
     (next (expected mark (after sc e ∷ outer) tail) (rest, after sc e ∷ outer) (λ y. Ok (Some e, y.0, y.1)) (Ok (Some e, rest, after sc e ∷ outer)) (expected_is mark (after sc e ∷ outer) (token (kinds.Punct p) k) rest is left) refl)
 
 -- a token that is no colon

@@ -1,5 +1,5 @@
 -- Function definitions and units (C90 6.7).
-use Rattle.std.proofs.Common.{◌≡◌, suc, ◌+◌, ◌≤◌, List, [], ◌∷◌, ◌++◌, length, length-append, append_assoc, Bool, true, false, refl, sym, ap, ◌∙◌, subst, arith}
+use Rattle.std.proofs.Common.{◌≡◌, ℕ, suc, ◌+◌, ◌≤◌, List, [], ◌∷◌, ◌++◌, length, length-append, append_assoc, Bool, true, false, refl, sym, ap, ◌∙◌, subst, arith}
 use Rattle.std.proofs.lemmas.Bool.{and_right, and_from, ne_eqb}
 use Rattle.std.specs.Prelude.{◌&&◌, ◌||◌, not, nat_eq, Ok, Err, Option, None, Some}
 use Rattle.c65_base.specs.Answers.{◌>>=◌}
@@ -65,22 +65,22 @@ begins_them sc outer [] h = absurd h
 begins_them sc outer (tok ∷ ts) h = begins_kind sc outer tok.kind tok.pos ts h
 
 -- the declarations of old-style parameters
-these_are : (ds : List t.DeclTree) (unit us : List Token) (done : List t.DeclTree) (sc : Scope) (outer : Blocks) (xs rest : List Token) → declarations sc ds xs → deepest decl_depth ds ≤ 256 → length (xs ++ rest) ≤ length us → length (xs ++ rest) ≤ length unit → Left rest → begins_specifiers (after_decls sc ds ∷ outer) rest ≡ false
-    → declarations_run unit us done (sc ∷ outer) (xs ++ rest) ≡ Ok (done ++ ds, rest, after_decls sc ds ∷ outer)
-these_are ds unit [] done sc outer xs rest p deep enough room left stop = let long = length-append xs rest in let some = left_long rest left in absurd (omega (arith, enough, long, some))
-these_are [] unit (u ∷ us) done sc outer xs rest p deep enough room left stop = subst (λ ts. declarations_run unit (u ∷ us) done (sc ∷ outer) (ts ++ rest) ≡ Ok (done ++ [], rest, sc ∷ outer)) (sym p)
-    (unless (begins_specifiers (sc ∷ outer) rest) (declaration_read unit (sc ∷ outer) rest >>= (λ e. declarations_run unit us (with_decl done e.0) e.2 e.1)) (Ok (done, rest, sc ∷ outer)) stop
+these_are : (limit : ℕ) (ds : List t.DeclTree) (unit us : List Token) (done : List t.DeclTree) (sc : Scope) (outer : Blocks) (xs rest : List Token) → declarations sc ds xs → deepest decl_depth ds ≤ limit → length (xs ++ rest) ≤ length us → length (xs ++ rest) ≤ length unit → Left rest → begins_specifiers (after_decls sc ds ∷ outer) rest ≡ false
+    → declarations_run limit unit us done (sc ∷ outer) (xs ++ rest) ≡ Ok (done ++ ds, rest, after_decls sc ds ∷ outer)
+these_are limit ds unit [] done sc outer xs rest p deep enough room left stop = let long = length-append xs rest in let some = left_long rest left in absurd (omega (arith, enough, long, some))
+these_are limit [] unit (u ∷ us) done sc outer xs rest p deep enough room left stop = subst (λ ts. declarations_run limit unit (u ∷ us) done (sc ∷ outer) (ts ++ rest) ≡ Ok (done ++ [], rest, sc ∷ outer)) (sym p)
+    (unless (begins_specifiers (sc ∷ outer) rest) (declaration_read limit unit (sc ∷ outer) rest >>= (λ e. declarations_run limit unit us (with_decl done e.0) e.2 e.1)) (Ok (done, rest, sc ∷ outer)) stop
     ∙ ap (λ x. Ok (x, rest, sc ∷ outer)) (nothing_more done))
-these_are (d ∷ ds) unit (u ∷ us) done sc outer xs rest p deep enough room left stop =
+these_are limit (d ∷ ds) unit (u ∷ us) done sc outer xs rest p deep enough room left stop =
     let sc1 = after_decl sc d in
     let end : Answer (List t.DeclTree) = Ok (done ++ d ∷ ds, rest, after_decls sc1 ds ∷ outer) in
-    split (λ ts. length ts ≤ suc (length us) → length ts ≤ length unit → declarations_run unit (u ∷ us) done (sc ∷ outer) ts ≡ end) xs rest p (λ ys zs py pz short small.
+    split (λ ts. length ts ≤ suc (length us) → length ts ≤ length unit → declarations_run limit unit (u ∷ us) done (sc ∷ outer) ts ≡ end) xs rest p (λ ys zs py pz short small.
     let some = decl_long d sc ys py in
     let long = length-append ys (zs ++ rest) in
-    when (begins_specifiers (sc ∷ outer) (ys ++ (zs ++ rest))) (declaration_read unit (sc ∷ outer) (ys ++ (zs ++ rest)) >>= (λ e. declarations_run unit us (with_decl done e.0) e.2 e.1)) (Ok (done, ys ++ (zs ++ rest), sc ∷ outer)) (begins_them sc outer (ys ++ (zs ++ rest)) (decl_start d sc ys (zs ++ rest) py))
-    ∙ next (declaration_read unit (sc ∷ outer) (ys ++ (zs ++ rest))) (d, zs ++ rest, sc1 ∷ outer) (λ e. declarations_run unit us (with_decl done e.0) e.2 e.1) end
-    (declaration_is unit d sc outer ys (zs ++ rest) py (omega (arith, deep)) small (left_more zs rest left))
-    (these_are ds unit us (done ++ d ∷ []) sc1 outer zs rest pz (omega (arith, deep)) (omega (arith, short, long, some)) (omega (arith, small, long)) left stop
+    when (begins_specifiers (sc ∷ outer) (ys ++ (zs ++ rest))) (declaration_read limit unit (sc ∷ outer) (ys ++ (zs ++ rest)) >>= (λ e. declarations_run limit unit us (with_decl done e.0) e.2 e.1)) (Ok (done, ys ++ (zs ++ rest), sc ∷ outer)) (begins_them sc outer (ys ++ (zs ++ rest)) (decl_start d sc ys (zs ++ rest) py))
+    ∙ next (declaration_read limit unit (sc ∷ outer) (ys ++ (zs ++ rest))) (d, zs ++ rest, sc1 ∷ outer) (λ e. declarations_run limit unit us (with_decl done e.0) e.2 e.1) end
+    (declaration_is limit unit d sc outer ys (zs ++ rest) py (omega (arith, deep)) small (left_more zs rest left))
+    (these_are limit ds unit us (done ++ d ∷ []) sc1 outer zs rest pz (omega (arith, deep)) (omega (arith, short, long, some)) (omega (arith, small, long)) left stop
     ∙ ap (λ x. Ok (x, rest, after_decls sc1 ds ∷ outer)) (append_assoc done (d ∷ []) ds))) enough room
 
 -- a body is a block
@@ -115,22 +115,22 @@ not_both true h k = cc
 not_both false h k = cc
 
 -- behind a function's head
-function_is : (unit : List Token) (q : t.SpecifiersTree) (d : t.DeclaratorTree) (ds : List t.DeclTree) (body : t.StmtTree) (sc : Scope) (outer : Blocks) (ys zs rest : List Token) → declarations (in_function sc d) ds ys → is_block body ≡ true → statement (after_decls (in_function sc d) ds) body zs
-    → deepest decl_depth ds ≤ 256 → stmt_depth body ≤ 256 → inner_depth body ≤ 256 → length (ys ++ (zs ++ rest)) ≤ length unit → Left rest
-    → function_read unit q d (sc ∷ outer) (ys ++ (zs ++ rest)) ≡ Ok (record { specifiers = q; declarator = d; declarations = ds; body = body }, rest, sc ∷ outer)
-function_is unit q d ds body sc outer ys zs rest py block pz deep tall inner room left =
+function_is : (limit : ℕ) (unit : List Token) (q : t.SpecifiersTree) (d : t.DeclaratorTree) (ds : List t.DeclTree) (body : t.StmtTree) (sc : Scope) (outer : Blocks) (ys zs rest : List Token) → declarations (in_function sc d) ds ys → is_block body ≡ true → statement (after_decls (in_function sc d) ds) body zs
+    → deepest decl_depth ds ≤ limit → stmt_depth body ≤ limit → inner_depth body ≤ limit → length (ys ++ (zs ++ rest)) ≤ length unit → Left rest
+    → function_read limit unit q d (sc ∷ outer) (ys ++ (zs ++ rest)) ≡ Ok (record { specifiers = q; declarator = d; declarations = ds; body = body }, rest, sc ∷ outer)
+function_is limit unit q d ds body sc outer ys zs rest py block pz deep tall inner room left =
     let sc1 = in_function sc d in
     let sc2 = after_decls sc1 ds in
     let long = length-append ys (zs ++ rest) in
     let tree : t.FunctionTree = record { specifiers = q; declarator = d; declarations = ds; body = body } in
     let end : Answer t.FunctionTree = Ok (tree, rest, sc ∷ outer) in
     let here : IsBrace (token_at (zs ++ rest) 0) = opens_here IsBrace zs rest (block_opens body sc2 zs block pz) in
-    let run : StmtRun unit unit [] sc2 (sc ∷ outer) body (zs ++ rest) rest = reads_stmt body unit unit [] sc2 (sc ∷ outer) zs rest pz (omega (arith, tall)) inner (omega (arith, room, long)) (omega (arith, room, long)) left (λ h. absurd (not_both (is_closed body) (block_closed body block) h)) in
-    ap (λ x. declarations_read unit x (ys ++ (zs ++ rest)) >>= (λ e. body_needed unit q d e.0 e.2 e.1)) (function_block d sc outer)
-    ∙ next (declarations_read unit (sc1 ∷ sc ∷ outer) (ys ++ (zs ++ rest))) (ds, zs ++ rest, sc2 ∷ sc ∷ outer) (λ e. body_needed unit q d e.0 e.2 e.1) end
-    (these_are ds unit unit [] sc1 (sc ∷ outer) ys (zs ++ rest) py deep room room (left_more zs rest left) (brace_stops (sc2 ∷ sc ∷ outer) (zs ++ rest) here))
-    (when (is_here marks.OpenBrace (zs ++ rest)) (body_read unit q d ds (sc2 ∷ sc ∷ outer) (zs ++ rest)) (unexpected (zs ++ rest)) (ap (λ k. is_mark marks.OpenBrace (sign_of k)) here)
-    ∙ next (statement_read unit (sc2 ∷ sc ∷ outer) (zs ++ rest)) (body, rest, after_stmt sc2 body ∷ sc ∷ outer) (λ s. Ok (record { specifiers = q; declarator = d; declarations = ds; body = s.0 }, s.1, blocks.closed s.2)) end run.are refl)
+    let run : StmtRun limit unit unit [] sc2 (sc ∷ outer) body (zs ++ rest) rest = reads_stmt limit body unit unit [] sc2 (sc ∷ outer) zs rest pz (omega (arith, tall)) inner (omega (arith, room, long)) (omega (arith, room, long)) left (λ h. absurd (not_both (is_closed body) (block_closed body block) h)) in
+    ap (λ x. declarations_read limit unit x (ys ++ (zs ++ rest)) >>= (λ e. body_needed limit unit q d e.0 e.2 e.1)) (function_block d sc outer)
+    ∙ next (declarations_read limit unit (sc1 ∷ sc ∷ outer) (ys ++ (zs ++ rest))) (ds, zs ++ rest, sc2 ∷ sc ∷ outer) (λ e. body_needed limit unit q d e.0 e.2 e.1) end
+    (these_are limit ds unit unit [] sc1 (sc ∷ outer) ys (zs ++ rest) py deep room room (left_more zs rest left) (brace_stops (sc2 ∷ sc ∷ outer) (zs ++ rest) here))
+    (when (is_here marks.OpenBrace (zs ++ rest)) (body_read limit unit q d ds (sc2 ∷ sc ∷ outer) (zs ++ rest)) (unexpected (zs ++ rest)) (ap (λ k. is_mark marks.OpenBrace (sign_of k)) here)
+    ∙ next (statement_read limit unit (sc2 ∷ sc ∷ outer) (zs ++ rest)) (body, rest, after_stmt sc2 body ∷ sc ∷ outer) (λ s. Ok (record { specifiers = q; declarator = d; declarations = ds; body = s.0 }, s.1, blocks.closed s.2)) end run.are refl)
 
 -- what stands behind a function's declarator
 abbrev Bodied : Token → Type 0
@@ -156,42 +156,42 @@ bodied [] body sc ys zs rest py block pz = subst (λ ts. First Bodied (ts ++ (zs
 bodied (d ∷ ds) body sc ys zs rest py block pz = split (First Bodied) ys (zs ++ rest) py (λ us vs pu pv. bodied_these sc (us ++ (vs ++ (zs ++ rest))) (decl_start d sc us (vs ++ (zs ++ rest)) pu))
 
 -- specifiers, or none, before a declarator with a name
-heads : (q : t.SpecifiersTree) (d : t.DeclaratorTree) (sc : Scope) (outer : Blocks) (xs zs tail : List Token) → head_specifiers sc (declarator_start d) q xs → specifiers_depth q ≤ 256 → g.declarator (g.named (has_type q)) (after_specifiers sc q) (declarator_start d) d zs
-    → specifiers_read (sc ∷ outer) (xs ++ (zs ++ tail)) ≡ Ok (q, zs ++ tail, after_specifiers sc q ∷ outer)
-heads q d sc outer xs zs tail p deep pz =
+heads : (limit : ℕ) (q : t.SpecifiersTree) (d : t.DeclaratorTree) (sc : Scope) (outer : Blocks) (xs zs tail : List Token) → head_specifiers sc (declarator_start d) q xs → specifiers_depth q ≤ limit → g.declarator (g.named (has_type q)) (after_specifiers sc q) (declarator_start d) d zs
+    → specifiers_read limit (sc ∷ outer) (xs ++ (zs ++ tail)) ≡ Ok (q, zs ++ tail, after_specifiers sc q ∷ outer)
+heads limit q d sc outer xs zs tail p deep pz =
     let sc1 = after_specifiers sc q in
     let s = g.named (has_type q) in
     let o : Opens (Declares s sc1 d) zs = begins_declarator d s sc1 (declarator_start d) zs (not_nameless d s sc1 (declarator_start d) zs refl pz) pz in
     let ends : EndsSpecifiers (has_type q) sc1 (token_at (zs ++ tail) 0).kind = (opens_here (λ tok. EndsSpecifiers (has_type q) sc1 tok.kind × (is_mark marks.Semicolon (sign_of tok.kind) ≡ false)) zs tail (begins_named (has_type q) sc1 d zs pz)).0 in
-    subst (λ ts. specifiers_read (sc ∷ outer) (xs ++ (ts ++ tail)) ≡ Ok (q, ts ++ tail, sc1 ∷ outer)) (sym o.are)
-    (specifiers_are_read sc outer q xs o.first (o.others ++ tail) (subst (λ l. head_specifiers sc l q xs) (sym o.it.1) p) deep
+    subst (λ ts. specifiers_read limit (sc ∷ outer) (xs ++ (ts ++ tail)) ≡ Ok (q, ts ++ tail, sc1 ∷ outer)) (sym o.are)
+    (specifiers_are_read limit sc outer q xs o.first (o.others ++ tail) (subst (λ l. head_specifiers sc l q xs) (sym o.it.1) p) deep
     (subst (λ tok. EndsSpecifiers (has_type q) sc1 tok.kind) (here_is o.first (o.others ++ tail)) (subst (λ ts. EndsSpecifiers (has_type q) sc1 (token_at (ts ++ tail) 0).kind) o.are ends)))
 
 no_semicolon : (q : t.SpecifiersTree) (d : t.DeclaratorTree) (sc : Scope) (zs tail : List Token) → g.declarator (g.named (has_type q)) sc (declarator_start d) d zs → (not (is_empty q) && is_here marks.Semicolon (zs ++ tail)) ≡ false
 no_semicolon q d sc zs tail pz = and_right (not (is_empty q)) (is_here marks.Semicolon (zs ++ tail)) (opens_here (λ tok. EndsSpecifiers (has_type q) sc tok.kind × (is_mark marks.Semicolon (sign_of tok.kind) ≡ false)) zs tail (begins_named (has_type q) sc d zs pz)).1
 
-definition_is : (unit : List Token) (f : t.FunctionTree) (sc : Scope) (outer : Blocks) (xs rest : List Token) → function sc f xs → function_depth f ≤ 256 → length (xs ++ rest) ≤ length unit → Left rest → item_read unit (sc ∷ outer) (xs ++ rest) ≡ Ok (t.definition f, rest, after_head sc f ∷ outer)
-definition_is unit f sc outer xs rest p deep room left =
+definition_is : (limit : ℕ) (unit : List Token) (f : t.FunctionTree) (sc : Scope) (outer : Blocks) (xs rest : List Token) → function sc f xs → function_depth f ≤ limit → length (xs ++ rest) ≤ length unit → Left rest → item_read limit unit (sc ∷ outer) (xs ++ rest) ≡ Ok (t.definition f, rest, after_head sc f ∷ outer)
+definition_is limit unit f sc outer xs rest p deep room left =
     let q = f.specifiers in
     let d = f.declarator in
     let sc1 = after_specifiers sc q in
     let sch = after_head sc f in
     let end : Answer t.ItemTree = Ok (t.definition f, rest, sch ∷ outer) in
-    split (λ ts. length ts ≤ length unit → item_read unit (sc ∷ outer) ts ≡ end) xs rest p (λ hs us ph pu.
-    split (λ ts. length (hs ++ ts) ≤ length unit → item_read unit (sc ∷ outer) (hs ++ ts) ≡ end) us rest pu (λ ns vs pn pv.
-    split (λ ts. length (hs ++ (ns ++ ts)) ≤ length unit → item_read unit (sc ∷ outer) (hs ++ (ns ++ ts)) ≡ end) vs rest pv (λ ys zs py pz small.
+    split (λ ts. length ts ≤ length unit → item_read limit unit (sc ∷ outer) ts ≡ end) xs rest p (λ hs us ph pu.
+    split (λ ts. length (hs ++ ts) ≤ length unit → item_read limit unit (sc ∷ outer) (hs ++ ts) ≡ end) us rest pu (λ ns vs pn pv.
+    split (λ ts. length (hs ++ (ns ++ ts)) ≤ length unit → item_read limit unit (sc ∷ outer) (hs ++ (ns ++ ts)) ≡ end) vs rest pv (λ ys zs py pz small.
     let tail = ys ++ (zs ++ rest) in
     let long = length-append hs (ns ++ tail) in
     let longer = length-append ns tail in
     let after_it = bodied f.declarations f.body (in_function sch d) ys zs rest py pz.0 pz.1 in
     let some = left_more ys (zs ++ rest) (left_more zs rest left) in
-    next (specifiers_read (sc ∷ outer) (hs ++ (ns ++ tail))) (q, ns ++ tail, sc1 ∷ outer) (λ x. behind_specifiers unit x.0 x.2 x.1) end (heads q d sc outer hs ns tail ph (omega (arith, deep)) pn)
-    (unless (not (is_empty q) && is_here marks.Semicolon (ns ++ tail)) (empty_item q (sc1 ∷ outer) (ns ++ tail)) (declared_item unit q (sc1 ∷ outer) (ns ++ tail)) (no_semicolon q d sc1 ns tail pn)
-    ∙ next (named_read (naming_of q) (sc1 ∷ outer) (ns ++ tail)) (d, tail, sch ∷ outer) (λ x. item_from unit q x.0 (not (is_empty q)) x.2 x.1) end
-    (named_is q sc1 outer d ns tail pn (omega (arith, deep)) some (first_map Bodied (λ tok. NoSuffix tok.kind) tail (λ tok h. h.0) after_it))
-    (unless (not (is_empty q) && goes_on (sign_here tail)) (declaration_item unit q d (sch ∷ outer) tail) (function_item unit q d (sch ∷ outer) tail) (and_right (not (is_empty q)) (goes_on (sign_here tail)) (first_here Bodied tail some after_it).1)
-    ∙ next (function_read unit q d (sch ∷ outer) tail) (f, rest, sch ∷ outer) (λ x. Ok (t.definition x.0, x.1, x.2)) end
-    (function_is unit q d f.declarations f.body sch outer ys zs rest py pz.0 pz.1 (omega (arith, deep)) (omega (arith, deep)) (omega (arith, deep)) (omega (arith, small, long, longer)) left) refl))))) room
+    next (specifiers_read limit (sc ∷ outer) (hs ++ (ns ++ tail))) (q, ns ++ tail, sc1 ∷ outer) (λ x. behind_specifiers limit unit x.0 x.2 x.1) end (heads limit q d sc outer hs ns tail ph (omega (arith, deep)) pn)
+    (unless (not (is_empty q) && is_here marks.Semicolon (ns ++ tail)) (empty_item q (sc1 ∷ outer) (ns ++ tail)) (declared_item limit unit q (sc1 ∷ outer) (ns ++ tail)) (no_semicolon q d sc1 ns tail pn)
+    ∙ next (named_read limit (naming_of q) (sc1 ∷ outer) (ns ++ tail)) (d, tail, sch ∷ outer) (λ x. item_from limit unit q x.0 (not (is_empty q)) x.2 x.1) end
+    (named_is limit q sc1 outer d ns tail pn (omega (arith, deep)) some (first_map Bodied (λ tok. NoSuffix tok.kind) tail (λ tok h. h.0) after_it))
+    (unless (not (is_empty q) && goes_on (sign_here tail)) (declaration_item limit unit q d (sch ∷ outer) tail) (function_item limit unit q d (sch ∷ outer) tail) (and_right (not (is_empty q)) (goes_on (sign_here tail)) (first_here Bodied tail some after_it).1)
+    ∙ next (function_read limit unit q d (sch ∷ outer) tail) (f, rest, sch ∷ outer) (λ x. Ok (t.definition x.0, x.1, x.2)) end
+    (function_is limit unit q d f.declarations f.body sch outer ys zs rest py pz.0 pz.1 (omega (arith, deep)) (omega (arith, deep)) (omega (arith, deep)) (omega (arith, small, long, longer)) left) refl))))) room
 
 -- what stands behind a declarator of a declaration
 abbrev GoesOn : Token → Type 0
@@ -208,41 +208,41 @@ behind_goes (Some i) ds q inner sc k ws rest p = split (λ ts. First GoesOn ts) 
 full : (q : t.SpecifiersTree) (sc : Scope) (xs : List Token) → g.specifiers sc true q xs → not (is_empty q) ≡ true
 full (t.specifiers l qs) sc xs p = ap not p.0.0
 
-item_by : (unit : List Token) (q : t.SpecifiersTree) (ds : List t.InitDeclaratorTree) (sc : Scope) (outer : Blocks) (xs rest : List Token) → (g.specifiers sc true q ▸ init_declarators true q (after_specifiers sc q) ds ▸ some_mark puncts.Semicolon) xs → specifiers_depth q ≤ 256 → deepest init_declarator_depth ds ≤ 256 → length (xs ++ rest) ≤ length unit → Left rest
-    → item_read unit (sc ∷ outer) (xs ++ rest) ≡ Ok (t.declaration (record { specifiers = q; declarators = ds }), rest, after_declarators (is_typedef q) (after_specifiers sc q) ds ∷ outer)
-item_by unit q [] sc outer xs rest p deep fit room left =
+item_by : (limit : ℕ) (unit : List Token) (q : t.SpecifiersTree) (ds : List t.InitDeclaratorTree) (sc : Scope) (outer : Blocks) (xs rest : List Token) → (g.specifiers sc true q ▸ init_declarators true q (after_specifiers sc q) ds ▸ some_mark puncts.Semicolon) xs → specifiers_depth q ≤ limit → deepest init_declarator_depth ds ≤ limit → length (xs ++ rest) ≤ length unit → Left rest
+    → item_read limit unit (sc ∷ outer) (xs ++ rest) ≡ Ok (t.declaration (record { specifiers = q; declarators = ds }), rest, after_declarators (is_typedef q) (after_specifiers sc q) ds ∷ outer)
+item_by limit unit q [] sc outer xs rest p deep fit room left =
     let sc1 = after_specifiers sc q in
     let end : Answer t.ItemTree = Ok (t.declaration (record { specifiers = q; declarators = [] }), rest, sc1 ∷ outer) in
-    split (λ ts. item_read unit (sc ∷ outer) ts ≡ end) xs rest p (λ ys us py pu.
-    behind_some (λ ts. item_read unit (sc ∷ outer) (ys ++ ts) ≡ end) (kinds.Punct puncts.Semicolon) us rest pu (λ k zs a. subst (λ ts. item_read unit (sc ∷ outer) (ys ++ (ts ++ (token (kinds.Punct puncts.Semicolon) k ∷ rest))) ≡ end) (sym a)
+    split (λ ts. item_read limit unit (sc ∷ outer) ts ≡ end) xs rest p (λ ys us py pu.
+    behind_some (λ ts. item_read limit unit (sc ∷ outer) (ys ++ ts) ≡ end) (kinds.Punct puncts.Semicolon) us rest pu (λ k zs a. subst (λ ts. item_read limit unit (sc ∷ outer) (ys ++ (ts ++ (token (kinds.Punct puncts.Semicolon) k ∷ rest))) ≡ end) (sym a)
     (let semi : Token = token (kinds.Punct puncts.Semicolon) k in
-    next (specifiers_read (sc ∷ outer) (ys ++ (semi ∷ rest))) (q, semi ∷ rest, sc1 ∷ outer) (λ x. behind_specifiers unit x.0 x.2 x.1) end (specifiers_of q sc outer ys (semi ∷ rest) py deep tt tt)
-    (when (not (is_empty q) && is_here marks.Semicolon (semi ∷ rest)) (empty_item q (sc1 ∷ outer) (semi ∷ rest)) (declared_item unit q (sc1 ∷ outer) (semi ∷ rest)) (and_from (not (is_empty q)) (is_here marks.Semicolon (semi ∷ rest)) (full q sc ys py) (is_here_is marks.Semicolon semi rest))
+    next (specifiers_read limit (sc ∷ outer) (ys ++ (semi ∷ rest))) (q, semi ∷ rest, sc1 ∷ outer) (λ x. behind_specifiers limit unit x.0 x.2 x.1) end (specifiers_of limit q sc outer ys (semi ∷ rest) py deep tt tt)
+    (when (not (is_empty q) && is_here marks.Semicolon (semi ∷ rest)) (empty_item q (sc1 ∷ outer) (semi ∷ rest)) (declared_item limit unit q (sc1 ∷ outer) (semi ∷ rest)) (and_from (not (is_empty q)) (is_here marks.Semicolon (semi ∷ rest)) (full q sc ys py) (is_here_is marks.Semicolon semi rest))
     ∙ ap (λ ts. Ok (t.declaration (record { specifiers = q; declarators = [] }), ts, sc1 ∷ outer)) (passed semi rest left)))))
-item_by unit q (d ∷ ds) sc outer xs rest p deep fit room left =
+item_by limit unit q (d ∷ ds) sc outer xs rest p deep fit room left =
     let sc1 = after_specifiers sc q in
     let inner = declared (is_typedef q) sc1 d.declarator in
     let end : Answer t.ItemTree = Ok (t.declaration (record { specifiers = q; declarators = d ∷ ds }), rest, after_declarators (is_typedef q) sc1 (d ∷ ds) ∷ outer) in
-    split (λ ts. length ts ≤ length unit → item_read unit (sc ∷ outer) ts ≡ end) xs rest p (λ ys us py pu.
-    behind_some (λ ts. length (ys ++ ts) ≤ length unit → item_read unit (sc ∷ outer) (ys ++ ts) ≡ end) (kinds.Punct puncts.Semicolon) us rest pu (λ k vs pv.
+    split (λ ts. length ts ≤ length unit → item_read limit unit (sc ∷ outer) ts ≡ end) xs rest p (λ ys us py pu.
+    behind_some (λ ts. length (ys ++ ts) ≤ length unit → item_read limit unit (sc ∷ outer) (ys ++ ts) ≡ end) (kinds.Punct puncts.Semicolon) us rest pu (λ k vs pv.
     let semi : Token = token (kinds.Punct puncts.Semicolon) k in
-    split (λ ts. length (ys ++ ts) ≤ length unit → item_read unit (sc ∷ outer) (ys ++ ts) ≡ end) vs (semi ∷ rest) pv (λ ms ws a pw. subst (λ ts. length (ys ++ (ts ++ (ws ++ semi ∷ rest))) ≤ length unit → item_read unit (sc ∷ outer) (ys ++ (ts ++ (ws ++ semi ∷ rest))) ≡ end) (sym a)
-    (split (λ ts. length (ys ++ ts) ≤ length unit → item_read unit (sc ∷ outer) (ys ++ ts) ≡ end) ws (semi ∷ rest) pw (λ zs ns pz pn short.
+    split (λ ts. length (ys ++ ts) ≤ length unit → item_read limit unit (sc ∷ outer) (ys ++ ts) ≡ end) vs (semi ∷ rest) pv (λ ms ws a pw. subst (λ ts. length (ys ++ (ts ++ (ws ++ semi ∷ rest))) ≤ length unit → item_read limit unit (sc ∷ outer) (ys ++ (ts ++ (ws ++ semi ∷ rest))) ≡ end) (sym a)
+    (split (λ ts. length (ys ++ ts) ≤ length unit → item_read limit unit (sc ∷ outer) (ys ++ ts) ≡ end) ws (semi ∷ rest) pw (λ zs ns pz pn short.
     let tail = ns ++ semi ∷ rest in
     let long = length-append ys (zs ++ tail) in
     let longer = length-append zs tail in
     let some = left_more ns (semi ∷ rest) tt in
-    next (specifiers_read (sc ∷ outer) (ys ++ (zs ++ tail))) (q, zs ++ tail, sc1 ∷ outer) (λ x. behind_specifiers unit x.0 x.2 x.1) end (heads q d.declarator sc outer ys zs tail (head_is q sc (declarator_start d.declarator) ys py) deep pz)
-    (unless (not (is_empty q) && is_here marks.Semicolon (zs ++ tail)) (empty_item q (sc1 ∷ outer) (zs ++ tail)) (declared_item unit q (sc1 ∷ outer) (zs ++ tail)) (no_semicolon q d.declarator sc1 zs tail pz)
-    ∙ next (named_read (naming_of q) (sc1 ∷ outer) (zs ++ tail)) (d.declarator, tail, inner ∷ outer) (λ x. item_from unit q x.0 (not (is_empty q)) x.2 x.1) end
-    (named_is q sc1 outer d.declarator zs tail pz (omega (arith, fit)) some (behind_first d.init ds q inner (after_maybe_init inner d.init) k ns rest pn))
-    (when (not (is_empty q) && goes_on (sign_here tail)) (declaration_item unit q d.declarator (inner ∷ outer) tail) (function_item unit q d.declarator (inner ∷ outer) tail) (and_from (not (is_empty q)) (goes_on (sign_here tail)) (full q sc ys py) (first_here GoesOn tail some (behind_goes d.init ds q inner (after_maybe_init inner d.init) k ns rest pn)))
-    ∙ next (declaration_from unit q d.declarator (inner ∷ outer) tail) (record { specifiers = q; declarators = d ∷ ds }, rest, after_declarators (is_typedef q) sc1 (d ∷ ds) ∷ outer) (λ x. Ok (t.declaration x.0, x.1, x.2)) end
-    (declarators_behind unit q d ds sc1 outer k ns rest pn fit (omega (arith, short, long, longer)) left) refl))))))) room
+    next (specifiers_read limit (sc ∷ outer) (ys ++ (zs ++ tail))) (q, zs ++ tail, sc1 ∷ outer) (λ x. behind_specifiers limit unit x.0 x.2 x.1) end (heads limit q d.declarator sc outer ys zs tail (head_is q sc (declarator_start d.declarator) ys py) deep pz)
+    (unless (not (is_empty q) && is_here marks.Semicolon (zs ++ tail)) (empty_item q (sc1 ∷ outer) (zs ++ tail)) (declared_item limit unit q (sc1 ∷ outer) (zs ++ tail)) (no_semicolon q d.declarator sc1 zs tail pz)
+    ∙ next (named_read limit (naming_of q) (sc1 ∷ outer) (zs ++ tail)) (d.declarator, tail, inner ∷ outer) (λ x. item_from limit unit q x.0 (not (is_empty q)) x.2 x.1) end
+    (named_is limit q sc1 outer d.declarator zs tail pz (omega (arith, fit)) some (behind_first d.init ds q inner (after_maybe_init inner d.init) k ns rest pn))
+    (when (not (is_empty q) && goes_on (sign_here tail)) (declaration_item limit unit q d.declarator (inner ∷ outer) tail) (function_item limit unit q d.declarator (inner ∷ outer) tail) (and_from (not (is_empty q)) (goes_on (sign_here tail)) (full q sc ys py) (first_here GoesOn tail some (behind_goes d.init ds q inner (after_maybe_init inner d.init) k ns rest pn)))
+    ∙ next (declaration_from limit unit q d.declarator (inner ∷ outer) tail) (record { specifiers = q; declarators = d ∷ ds }, rest, after_declarators (is_typedef q) sc1 (d ∷ ds) ∷ outer) (λ x. Ok (t.declaration x.0, x.1, x.2)) end
+    (declarators_behind limit unit q d ds sc1 outer k ns rest pn fit (omega (arith, short, long, longer)) left) refl))))))) room
 
-item_is : (unit : List Token) (i : t.ItemTree) (sc : Scope) (outer : Blocks) (xs rest : List Token) → item sc i xs → item_depth i ≤ 256 → length (xs ++ rest) ≤ length unit → Left rest → item_read unit (sc ∷ outer) (xs ++ rest) ≡ Ok (i, rest, after_item sc i ∷ outer)
-item_is unit (t.declaration d) sc outer xs rest p deep room left = item_by unit d.specifiers d.declarators sc outer xs rest p (omega (arith, deep)) (omega (arith, deep)) room left
-item_is unit (t.definition f) sc outer xs rest p deep room left = definition_is unit f sc outer xs rest p deep room left
+item_is : (limit : ℕ) (unit : List Token) (i : t.ItemTree) (sc : Scope) (outer : Blocks) (xs rest : List Token) → item sc i xs → item_depth i ≤ limit → length (xs ++ rest) ≤ length unit → Left rest → item_read limit unit (sc ∷ outer) (xs ++ rest) ≡ Ok (i, rest, after_item sc i ∷ outer)
+item_is limit unit (t.declaration d) sc outer xs rest p deep room left = item_by limit unit d.specifiers d.declarators sc outer xs rest p (omega (arith, deep)) (omega (arith, deep)) room left
+item_is limit unit (t.definition f) sc outer xs rest p deep room left = definition_is limit unit f sc outer xs rest p deep room left
 
 -- no item begins with the end
 abbrev NoEnd : Token → Type 0
@@ -304,36 +304,36 @@ item_some : (i : t.ItemTree) (sc : Scope) (xs : List Token) → item sc i xs →
 item_some i sc xs p h = let some = item_long i sc xs p in omega (arith, some, h)
 
 -- the items of a unit before its end
-items_are : (is : List t.ItemTree) (i : t.ItemTree) (unit us : List Token) (done : List t.ItemTree) (sc : Scope) (outer : Blocks) (l : Pos) (xs : List Token) → items sc (i ∷ is) xs → deepest item_depth (i ∷ is) ≤ 256 → length xs ≤ length us → length (xs ++ (token kinds.End l ∷ [])) ≤ length unit
-    → items_run unit us done (sc ∷ outer) (xs ++ (token kinds.End l ∷ [])) ≡ Ok (done ++ i ∷ is)
-items_are is i unit [] done sc outer l xs p deep enough room = absurd (item_some i sc p.0 p.3 (let long = length-append p.0 p.1 in let e = ap length p.2 in omega (arith, enough, long, e)))
-items_are [] i unit (u ∷ us) done sc outer l xs p deep enough room =
+items_are : (limit : ℕ) (is : List t.ItemTree) (i : t.ItemTree) (unit us : List Token) (done : List t.ItemTree) (sc : Scope) (outer : Blocks) (l : Pos) (xs : List Token) → items sc (i ∷ is) xs → deepest item_depth (i ∷ is) ≤ limit → length xs ≤ length us → length (xs ++ (token kinds.End l ∷ [])) ≤ length unit
+    → items_run limit unit us done (sc ∷ outer) (xs ++ (token kinds.End l ∷ [])) ≡ Ok (done ++ i ∷ is)
+items_are limit is i unit [] done sc outer l xs p deep enough room = absurd (item_some i sc p.0 p.3 (let long = length-append p.0 p.1 in let e = ap length p.2 in omega (arith, enough, long, e)))
+items_are limit [] i unit (u ∷ us) done sc outer l xs p deep enough room =
     let end : Token = token kinds.End l in
-    split (λ ts. length ts ≤ length unit → items_run unit (u ∷ us) done (sc ∷ outer) ts ≡ Ok (done ++ i ∷ [])) xs (end ∷ []) p (λ ys zs py a. subst (λ ts. length (ys ++ (ts ++ (end ∷ []))) ≤ length unit → items_run unit (u ∷ us) done (sc ∷ outer) (ys ++ (ts ++ (end ∷ []))) ≡ Ok (done ++ i ∷ [])) (sym a) (λ small.
-    next (item_read unit (sc ∷ outer) (ys ++ (end ∷ []))) (i, end ∷ [], after_item sc i ∷ outer) (λ x. items_next (items_run unit us) (with_item done x.0) x.2 x.1) (Ok (done ++ i ∷ [])) (item_is unit i sc outer ys (end ∷ []) py (omega (arith, deep)) small tt) refl)) room
-items_are (j ∷ is) i unit (u ∷ us) done sc outer l xs p deep enough room =
+    split (λ ts. length ts ≤ length unit → items_run limit unit (u ∷ us) done (sc ∷ outer) ts ≡ Ok (done ++ i ∷ [])) xs (end ∷ []) p (λ ys zs py a. subst (λ ts. length (ys ++ (ts ++ (end ∷ []))) ≤ length unit → items_run limit unit (u ∷ us) done (sc ∷ outer) (ys ++ (ts ++ (end ∷ []))) ≡ Ok (done ++ i ∷ [])) (sym a) (λ small.
+    next (item_read limit unit (sc ∷ outer) (ys ++ (end ∷ []))) (i, end ∷ [], after_item sc i ∷ outer) (λ x. items_next (items_run limit unit us) (with_item done x.0) x.2 x.1) (Ok (done ++ i ∷ [])) (item_is limit unit i sc outer ys (end ∷ []) py (omega (arith, deep)) small tt) refl)) room
+items_are limit (j ∷ is) i unit (u ∷ us) done sc outer l xs p deep enough room =
     let end : Token = token kinds.End l in
     let sc1 = after_item sc i in
     let all = done ++ i ∷ j ∷ is in
-    split (λ ts. length ts ≤ length xs + 1 → length ts ≤ length unit → items_run unit (u ∷ us) done (sc ∷ outer) ts ≡ Ok all) xs (end ∷ []) p (λ ys zs py pz short small.
+    split (λ ts. length ts ≤ length xs + 1 → length ts ≤ length unit → items_run limit unit (u ∷ us) done (sc ∷ outer) ts ≡ Ok all) xs (end ∷ []) p (λ ys zs py pz short small.
     let long = length-append ys (zs ++ (end ∷ [])) in
     let longer = length-append zs (end ∷ []) in
     let some = item_long i sc ys py in
-    next (item_read unit (sc ∷ outer) (ys ++ (zs ++ (end ∷ [])))) (i, zs ++ (end ∷ []), sc1 ∷ outer) (λ x. items_next (items_run unit us) (with_item done x.0) x.2 x.1) (Ok all) (item_is unit i sc outer ys (zs ++ (end ∷ [])) py (omega (arith, deep)) small (left_more zs (end ∷ []) tt))
-    (unless (is_here marks.End (zs ++ (end ∷ []))) (Ok (done ++ i ∷ [])) (items_run unit us (done ++ i ∷ []) (sc1 ∷ outer) (zs ++ (end ∷ []))) (first_here NoEnd (zs ++ (end ∷ [])) (left_more zs (end ∷ []) tt) (items_first j is sc1 zs (end ∷ []) pz))
-    ∙ (items_are is j unit us (done ++ i ∷ []) sc1 outer l zs pz (omega (arith, deep)) (omega (arith, short, long, longer, some, enough)) (omega (arith, small, long))
+    next (item_read limit unit (sc ∷ outer) (ys ++ (zs ++ (end ∷ [])))) (i, zs ++ (end ∷ []), sc1 ∷ outer) (λ x. items_next (items_run limit unit us) (with_item done x.0) x.2 x.1) (Ok all) (item_is limit unit i sc outer ys (zs ++ (end ∷ [])) py (omega (arith, deep)) small (left_more zs (end ∷ []) tt))
+    (unless (is_here marks.End (zs ++ (end ∷ []))) (Ok (done ++ i ∷ [])) (items_run limit unit us (done ++ i ∷ []) (sc1 ∷ outer) (zs ++ (end ∷ []))) (first_here NoEnd (zs ++ (end ∷ [])) (left_more zs (end ∷ []) tt) (items_first j is sc1 zs (end ∷ []) pz))
+    ∙ (items_are limit is j unit us (done ++ i ∷ []) sc1 outer l zs pz (omega (arith, deep)) (omega (arith, short, long, longer, some, enough)) (omega (arith, small, long))
     ∙ ap (λ x. Ok x) (append_assoc done (i ∷ []) (j ∷ is))))) (let e = length-append xs (end ∷ []) in omega (arith, e)) room
 
-unit_by : (is : List t.ItemTree) (ts : List Token) → (some_items no_types is ▸ some kinds.End) ts → deepest item_depth is ≤ 256 → unit_read ts ≡ Ok (record { items = is })
-unit_by [] ts p deep = absurd (p.3)
-unit_by (i ∷ is) ts p deep =
+unit_by : (limit : ℕ) (is : List t.ItemTree) (ts : List Token) → (some_items no_types is ▸ some kinds.End) ts → deepest item_depth is ≤ limit → unit_read limit ts ≡ Ok (record { items = is })
+unit_by limit [] ts p deep = absurd (p.3)
+unit_by limit (i ∷ is) ts p deep =
     let end : Token = token kinds.End p.4.0 in
     let xs = p.0 in
     let all = xs ++ (end ∷ []) in
     let long = length-append xs (end ∷ []) in
-    subst (λ x. unit_read x ≡ Ok (record { items = i ∷ is })) (sym (p.2 ∙ ap (λ x. xs ++ x) p.4.1))
-    (unless (nat_eq (length all) 0) (Err nothing_there) (whole_unit all) (ne_eqb (length all) 0 (λ e. omega (arith, e, long)))
-    ∙ next (items_read all (no_types ∷ []) all) (i ∷ is) (λ x. Ok (record { items = x })) (Ok (record { items = i ∷ is })) (items_are is i all all [] no_types [] p.4.0 xs p.3 deep (omega (arith, long)) (omega arith)) refl)
+    subst (λ x. unit_read limit x ≡ Ok (record { items = i ∷ is })) (sym (p.2 ∙ ap (λ x. xs ++ x) p.4.1))
+    (unless (nat_eq (length all) 0) (Err nothing_there) (whole_unit limit all) (ne_eqb (length all) 0 (λ e. omega (arith, e, long)))
+    ∙ next (items_read limit all (no_types ∷ []) all) (i ∷ is) (λ x. Ok (record { items = x })) (Ok (record { items = i ∷ is })) (items_are limit is i all all [] no_types [] p.4.0 xs p.3 deep (omega (arith, long)) (omega arith)) refl)
 
-pub unit_is : (ts : List Token) (u : t.UnitTree) → units u ts → unit_depth u ≤ 256 → unit_read ts ≡ Ok u
-unit_is ts u p deep = unit_by u.items ts p deep
+pub unit_is : (limit : ℕ) (ts : List Token) (u : t.UnitTree) → units u ts → unit_depth u ≤ limit → unit_read limit ts ≡ Ok u
+unit_is limit ts u p deep = unit_by limit u.items ts p deep

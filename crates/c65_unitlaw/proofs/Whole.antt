@@ -1,5 +1,5 @@
 -- That what the grammar derives is read, and that tokens have one tree at most.
-use Rattle.std.proofs.Common.{◌≡◌, List, [], ◌∷◌, ◌++◌, refl, sym, ap, ◌∙◌, inl, arith, subst}
+use Rattle.std.proofs.Common.{◌≡◌, ℕ, List, [], ◌∷◌, ◌++◌, refl, sym, ap, ◌∙◌, inl, arith, subst}
 use Rattle.std.specs.Prelude.{Ok, Err, Result}
 use Rattle.c65_scan.specs.declared.token.Token.{Token}
 use Rattle.c65_scan.specs.declared.token.TokenKind.TheVariants as kinds
@@ -30,34 +30,34 @@ unfolding tree_or
 same_tree a b r rest more scope behind e f = ap (tree_or a) (sym e ∙ f)
 
 pub inits_are_read : InitsAreRead
-inits_are_read unit sc outer tree front next others p deep enough ends =
-    let run : InitRun unit [] sc outer tree (front ++ next ∷ others) (next ∷ others) = reads_init tree unit [] sc outer front (next ∷ others) p (omega (arith, deep)) enough tt ends in
+inits_are_read limit unit sc outer tree front next others p deep enough ends =
+    let run : InitRun limit unit [] sc outer tree (front ++ next ∷ others) (next ∷ others) = reads_init limit tree unit [] sc outer front (next ∷ others) p (omega (arith, deep)) enough tt ends in
     run.are
 
 pub declarations_are_read : DeclarationsAreRead
-declarations_are_read unit sc outer tree front next others p deep enough = declaration_is unit tree sc outer front (next ∷ others) p deep enough tt
+declarations_are_read limit unit sc outer tree front next others p deep enough = declaration_is limit unit tree sc outer front (next ∷ others) p deep enough tt
 
 pub inits_are_one : InitsAreOne
-inits_are_one sc ts tree other p q deep low =
+inits_are_one limit sc ts tree other p q deep low =
     let next : Token = token kinds.End (record { file = 0; line = 1 }) in
     let unit = ts ++ next ∷ [] in
-    same_tree tree other (initialiser_read unit (sc ∷ []) (ts ++ next ∷ [])) (next ∷ []) (next ∷ []) (after_init sc tree ∷ []) (after_init sc other ∷ [])
-    (inits_are_read unit sc [] tree ts next [] p deep (omega arith) (inl refl)) (inits_are_read unit sc [] other ts next [] q low (omega arith) (inl refl))
+    same_tree tree other (initialiser_read limit unit (sc ∷ []) (ts ++ next ∷ [])) (next ∷ []) (next ∷ []) (after_init sc tree ∷ []) (after_init sc other ∷ [])
+    (inits_are_read limit unit sc [] tree ts next [] p deep (omega arith) (inl refl)) (inits_are_read limit unit sc [] other ts next [] q low (omega arith) (inl refl))
 
 pub declarations_are_one : DeclarationsAreOne
-declarations_are_one sc ts tree other p q deep low =
+declarations_are_one limit sc ts tree other p q deep low =
     let next : Token = token kinds.End (record { file = 0; line = 1 }) in
     let unit = ts ++ next ∷ [] in
-    same_tree tree other (declaration_read unit (sc ∷ []) (ts ++ next ∷ [])) (next ∷ []) (next ∷ []) (after_decl sc tree ∷ []) (after_decl sc other ∷ [])
-    (declarations_are_read unit sc [] tree ts next [] p deep (omega arith)) (declarations_are_read unit sc [] other ts next [] q low (omega arith))
+    same_tree tree other (declaration_read limit unit (sc ∷ []) (ts ++ next ∷ [])) (next ∷ []) (next ∷ []) (after_decl sc tree ∷ []) (after_decl sc other ∷ [])
+    (declarations_are_read limit unit sc [] tree ts next [] p deep (omega arith)) (declarations_are_read limit unit sc [] other ts next [] q low (omega arith))
 
 pub statements_are_read : StatementsAreRead
-statements_are_read unit sc outer tree front next others p tall inner enough safe =
-    let run : StmtRun unit unit [] sc outer tree (front ++ next ∷ others) (next ∷ others) = reads_stmt tree unit unit [] sc outer front (next ∷ others) p (omega (arith, tall)) inner enough enough tt safe in
+statements_are_read limit unit sc outer tree front next others p tall inner enough safe =
+    let run : StmtRun limit unit unit [] sc outer tree (front ++ next ∷ others) (next ∷ others) = reads_stmt limit tree unit unit [] sc outer front (next ∷ others) p (omega (arith, tall)) inner enough enough tt safe in
     run.are
 
 pub units_are_read : UnitsAreRead
-units_are_read tokens unit h = unit_is tokens unit h.derives h.within
+units_are_read limit tokens unit h = unit_is limit tokens unit h.derives h.within
 
 unit_or : t.UnitTree → Result t.UnitTree Fault → t.UnitTree
 unit_or other (Ok u) = u
@@ -65,7 +65,7 @@ unit_or other (Err e) = other
 
 pub units_are_one : UnitsAreOne
 unfolding unit_or
-units_are_one tokens unit other h k = ap (unit_or unit) (sym (units_are_read tokens unit h) ∙ units_are_read tokens other k)
+units_are_one limit tokens unit other h k = ap (unit_or unit) (sym (units_are_read limit tokens unit h) ∙ units_are_read limit tokens other k)
 
-pub accepted : {X : Type 0} (view : X → t.UnitTree) (r : Result X Refusal) (tokens : List Token) → Gives view r (unit_read tokens) → AcceptsUnit tokens view r
-accepted view r tokens h unit k = subst (Gives view r) (units_are_read tokens unit k) h
+pub accepted : (limit : ℕ) → {X : Type 0} (view : X → t.UnitTree) (r : Result X Refusal) (tokens : List Token) → Gives view r (unit_read limit tokens) → AcceptsUnit limit tokens view r
+accepted limit view r tokens h unit k = subst (Gives view r) (units_are_read limit tokens unit k) h

@@ -1,5 +1,5 @@
 -- How a statement begins (C90 6.6): the word or the brace at its front.
-use Rattle.std.proofs.Common.{◌≡◌, ◌+◌, ◌-◌, ◌≤◌, List, [], ◌∷◌, ◌++◌, length, Bool, true, false, refl, sym, ap, ◌∙◌, subst, arith}
+use Rattle.std.proofs.Common.{◌≡◌, ℕ, ◌+◌, ◌-◌, ◌≤◌, List, [], ◌∷◌, ◌++◌, length, Bool, true, false, refl, sym, ap, ◌∙◌, subst, arith}
 use Rattle.std.proofs.lemmas.Bool.{le-leb, and_right, and_left, or_right}
 use Rattle.std.specs.Prelude.{◌&&◌, ◌||◌, not, nat_le, Ok, Err, Some}
 use Rattle.c65_base.specs.Answers.{large}
@@ -39,15 +39,15 @@ record Starts (s : Sign) (is_type colon label : Bool) : Type 0 where
   pub no_decl : starts_declaration s is_type colon ≡ false
   pub labelled : is_label s is_type colon ≡ label
 
-started : (unit : List Token) (fs : List Frame) (scope : Blocks) (s : Sign) (is_type colon label : Bool) (ts : List Token) → Starts s is_type colon label → least_depth s label + length fs ≤ 256
-    → begun_by unit (place_in fs) s is_type colon scope ts ≡ statement_begun s label scope ts
-started unit fs scope s is_type colon label ts h deep =
+started : (limit : ℕ) (unit : List Token) (fs : List Frame) (scope : Blocks) (s : Sign) (is_type colon label : Bool) (ts : List Token) → Starts s is_type colon label → least_depth s label + length fs ≤ limit
+    → begun_by limit unit (place_in fs) s is_type colon scope ts ≡ statement_begun limit s label scope ts
+started limit unit fs scope s is_type colon label ts h deep =
     let place = place_in fs in
     let around = around_is fs in
-    unless (place.in_block && is_mark marks.CloseBrace s) (Ok (closed_here scope ts)) (begun_inside unit place s is_type colon scope ts) (and_right place.in_block (is_mark marks.CloseBrace s) h.no_close)
-    ∙ (unless (place.takes_declarations && starts_declaration s is_type colon) (declaration_begun unit scope ts) (begun_within place s (is_label s is_type colon) scope ts) (and_right place.takes_declarations (starts_declaration s is_type colon) h.no_decl)
-    ∙ (ap (λ b. begun_within place s b scope ts) h.labelled
-    ∙ when (nat_le place.around (256 - least_depth s label)) (statement_begun s label scope ts) (Err (large Depth 257)) (le-leb place.around (256 - least_depth s label) (omega (arith, deep, around)))))
+    unless (place.in_block && is_mark marks.CloseBrace s) (Ok (closed_here scope ts)) (begun_inside limit unit place s is_type colon scope ts) (and_right place.in_block (is_mark marks.CloseBrace s) h.no_close)
+    ∙ (unless (place.takes_declarations && starts_declaration s is_type colon) (declaration_begun limit unit scope ts) (begun_within limit place s (is_label s is_type colon) scope ts) (and_right place.takes_declarations (starts_declaration s is_type colon) h.no_decl)
+    ∙ (ap (λ b. begun_within limit place s b scope ts) h.labelled
+    ∙ when (nat_le place.around (limit - least_depth s label)) (statement_begun limit s label scope ts) (Err (large Depth 257)) (le-leb place.around (limit - least_depth s label) (omega (arith, deep, around)))))
 
 -- a word or a brace that begins a statement
 pub record IsWord (s : Sign) (w : Word) : Type 0 where
@@ -57,31 +57,31 @@ pub record IsWord (s : Sign) (w : Word) : Type 0 where
   pub no_eval : is_evaluated s ≡ false
   pub word : word_of s ≡ Some w
 
-pub word_step : (unit : List Token) (fs : List Frame) (scope : Blocks) (k : TokenKind) (l : Pos) (ts : List Token) (w : Word) → IsWord (sign_of k) w → least_depth (sign_of k) false + length fs ≤ 256 → Left ts
-    → begun_at unit (place_in fs) scope (token k l ∷ ts) ≡ begun_behind w l scope ts
-word_step unit fs scope k l ts w h deep left =
+pub word_step : (limit : ℕ) (unit : List Token) (fs : List Frame) (scope : Blocks) (k : TokenKind) (l : Pos) (ts : List Token) (w : Word) → IsWord (sign_of k) w → least_depth (sign_of k) false + length fs ≤ limit → Left ts
+    → begun_at limit unit (place_in fs) scope (token k l ∷ ts) ≡ begun_behind limit w l scope ts
+word_step limit unit fs scope k l ts w h deep left =
     let all = token k l ∷ ts in
     let s = sign_of k in
-    ap (λ x. begun_by unit (place_in fs) (sign_of x.kind) (is_type_here scope all) (colon_follows all) scope all) (here_is (token k l) ts)
-    ∙ (started unit fs scope s (is_type_here scope all) (colon_follows all) false all (record { no_close = h.no_close; no_decl = h.no_decl (is_type_here scope all) (colon_follows all); labelled = h.no_label (is_type_here scope all) (colon_follows all) }) deep
-    ∙ (unless (is_evaluated s) (eval_begun (pos_here all) scope all) (word_begun (word_of s) (pos_here all) scope all) h.no_eval
-    ∙ (ap (λ o. word_begun o (pos_here all) scope all) h.word
-    ∙ (ap (λ x. begun_behind w x.pos scope (after_token all)) (here_is (token k l) ts)
-    ∙ ap (λ x. begun_behind w l scope x) (passed (token k l) ts left)))))
+    ap (λ x. begun_by limit unit (place_in fs) (sign_of x.kind) (is_type_here scope all) (colon_follows all) scope all) (here_is (token k l) ts)
+    ∙ (started limit unit fs scope s (is_type_here scope all) (colon_follows all) false all (record { no_close = h.no_close; no_decl = h.no_decl (is_type_here scope all) (colon_follows all); labelled = h.no_label (is_type_here scope all) (colon_follows all) }) deep
+    ∙ (unless (is_evaluated s) (eval_begun limit (pos_here all) scope all) (word_begun limit (word_of s) (pos_here all) scope all) h.no_eval
+    ∙ (ap (λ o. word_begun limit o (pos_here all) scope all) h.word
+    ∙ (ap (λ x. begun_behind limit w x.pos scope (after_token all)) (here_is (token k l) ts)
+    ∙ ap (λ x. begun_behind limit w l scope x) (passed (token k l) ts left)))))
 
 second_is : (a b : Token) (ts : List Token) → token_at (a ∷ b ∷ ts) 1 ≡ b
 second_is a b [] = refl
 second_is a b (c ∷ ts) = refl
 
 -- a label
-pub label_step : (unit : List Token) (fs : List Frame) (scope : Blocks) (n : Name) (l k : Pos) (ts : List Token) → 2 + length fs ≤ 256 → Left ts
-    → begun_at unit (place_in fs) scope (token (kinds.Name n) l ∷ token (kinds.Punct puncts.Colon) k ∷ ts) ≡ Ok (begun_open (in_head (in_label l n)), ts, scope)
-label_step unit fs scope n l k ts deep left =
+pub label_step : (limit : ℕ) (unit : List Token) (fs : List Frame) (scope : Blocks) (n : Name) (l k : Pos) (ts : List Token) → 2 + length fs ≤ limit → Left ts
+    → begun_at limit unit (place_in fs) scope (token (kinds.Name n) l ∷ token (kinds.Punct puncts.Colon) k ∷ ts) ≡ Ok (begun_open (in_head (in_label l n)), ts, scope)
+label_step limit unit fs scope n l k ts deep left =
     let name : Token = token (kinds.Name n) l in
     let colon : Token = token (kinds.Punct puncts.Colon) k in
     let all = name ∷ colon ∷ ts in
     let b : colon_follows all ≡ true = ap (λ x. is_mark marks.Colon (sign_of x.kind)) (second_is name colon ts) in
-    started unit fs scope (signs.Name n) (is_type_here scope all) (colon_follows all) true all (record { no_close = refl; no_decl = and_right (is_type_here scope all) (not (colon_follows all)) (ap not b); labelled = or_right (is_type_here scope all) (colon_follows all) b }) deep
+    started limit unit fs scope (signs.Name n) (is_type_here scope all) (colon_follows all) true all (record { no_close = refl; no_decl = and_right (is_type_here scope all) (not (colon_follows all)) (ap not b); labelled = or_right (is_type_here scope all) (colon_follows all) b }) deep
     ∙ next (expected marks.Colon scope (colon ∷ ts)) (ts, scope) (λ a. Ok (begun_open (in_head (in_label l n)), a.0, a.1)) (Ok (begun_open (in_head (in_label l n)), ts, scope)) (expected_is marks.Colon scope colon ts refl left) refl
 
 pub type_here : (scope : Blocks) (tok : Token) (ts : List Token) → is_type_here scope (tok ∷ ts) ≡ names_type scope (name_of (sign_of tok.kind))
@@ -135,31 +135,31 @@ shallow sc (kinds.Punct _) h = absurd h
 shallow sc kinds.End h = absurd h
 
 -- an expression and its semicolon
-eval_by : (unit : List Token) (fs : List Frame) (sc : Scope) (outer : Blocks) (k : TokenKind) (l : Pos) (ts : List Token) → OperandKind sc k → NamedThen k ts → Left ts → 1 + length fs ≤ 256
-    → begun_at unit (place_in fs) (sc ∷ outer) (token k l ∷ ts) ≡ eval_begun l (sc ∷ outer) (token k l ∷ ts)
-eval_by unit fs sc outer k l ts h c left deep =
+eval_by : (limit : ℕ) (unit : List Token) (fs : List Frame) (sc : Scope) (outer : Blocks) (k : TokenKind) (l : Pos) (ts : List Token) → OperandKind sc k → NamedThen k ts → Left ts → 1 + length fs ≤ limit
+    → begun_at limit unit (place_in fs) (sc ∷ outer) (token k l ∷ ts) ≡ eval_begun limit l (sc ∷ outer) (token k l ∷ ts)
+eval_by limit unit fs sc outer k l ts h c left deep =
     let all = token k l ∷ ts in
     let s = sign_of k in
     let small = shallow sc k h in
     let one = small.0 in
-    ap (λ x. begun_by unit (place_in fs) (sign_of x.kind) (is_type_here (sc ∷ outer) all) (colon_follows all) (sc ∷ outer) all) (here_is (token k l) ts)
-    ∙ (started unit fs (sc ∷ outer) s (is_type_here (sc ∷ outer) all) (colon_follows all) false all (operand_starts sc outer k l ts h c left) (omega (arith, one, deep))
-    ∙ (when (is_evaluated s) (eval_begun (pos_here all) (sc ∷ outer) all) (word_begun (word_of s) (pos_here all) (sc ∷ outer) all) small.1
-    ∙ ap (λ x. eval_begun x.pos (sc ∷ outer) all) (here_is (token k l) ts)))
+    ap (λ x. begun_by limit unit (place_in fs) (sign_of x.kind) (is_type_here (sc ∷ outer) all) (colon_follows all) (sc ∷ outer) all) (here_is (token k l) ts)
+    ∙ (started limit unit fs (sc ∷ outer) s (is_type_here (sc ∷ outer) all) (colon_follows all) false all (operand_starts sc outer k l ts h c left) (omega (arith, one, deep))
+    ∙ (when (is_evaluated s) (eval_begun limit (pos_here all) (sc ∷ outer) all) (word_begun limit (word_of s) (pos_here all) (sc ∷ outer) all) small.1
+    ∙ ap (λ x. eval_begun limit x.pos (sc ∷ outer) all) (here_is (token k l) ts)))
 
-pub eval_step : (unit : List Token) (fs : List Frame) (sc : Scope) (outer : Blocks) (ts rest : List Token) → Opens (Operand sc) ts → Uncoloured (ts ++ rest) → Left rest → 1 + length fs ≤ 256
-    → begun_at unit (place_in fs) (sc ∷ outer) (ts ++ rest) ≡ eval_begun (pos_here (ts ++ rest)) (sc ∷ outer) (ts ++ rest)
-eval_step unit fs sc outer ts rest o c left deep =
+pub eval_step : (limit : ℕ) (unit : List Token) (fs : List Frame) (sc : Scope) (outer : Blocks) (ts rest : List Token) → Opens (Operand sc) ts → Uncoloured (ts ++ rest) → Left rest → 1 + length fs ≤ limit
+    → begun_at limit unit (place_in fs) (sc ∷ outer) (ts ++ rest) ≡ eval_begun limit (pos_here (ts ++ rest)) (sc ∷ outer) (ts ++ rest)
+eval_step limit unit fs sc outer ts rest o c left deep =
     let all = o.first ∷ (o.others ++ rest) in
-    subst (λ x. begun_at unit (place_in fs) (sc ∷ outer) (x ++ rest) ≡ eval_begun (pos_here (x ++ rest)) (sc ∷ outer) (x ++ rest)) (sym o.are)
-    (eval_by unit fs sc outer o.first.kind o.first.pos (o.others ++ rest) o.it (subst (λ x. Uncoloured (x ++ rest)) o.are c) (left_more o.others rest left) deep
-    ∙ ap (λ x. eval_begun x.pos (sc ∷ outer) all) (sym (here_is o.first (o.others ++ rest))))
+    subst (λ x. begun_at limit unit (place_in fs) (sc ∷ outer) (x ++ rest) ≡ eval_begun limit (pos_here (x ++ rest)) (sc ∷ outer) (x ++ rest)) (sym o.are)
+    (eval_by limit unit fs sc outer o.first.kind o.first.pos (o.others ++ rest) o.it (subst (λ x. Uncoloured (x ++ rest)) o.are c) (left_more o.others rest left) deep
+    ∙ ap (λ x. eval_begun limit x.pos (sc ∷ outer) all) (sym (here_is o.first (o.others ++ rest))))
 
 -- a lone semicolon
-pub empty_step : (unit : List Token) (fs : List Frame) (scope : Blocks) (l : Pos) (ts : List Token) → 1 + length fs ≤ 256 → begun_at unit (place_in fs) scope (token (kinds.Punct puncts.Semicolon) l ∷ ts) ≡ eval_begun l scope (token (kinds.Punct puncts.Semicolon) l ∷ ts)
-empty_step unit fs scope l ts deep =
+pub empty_step : (limit : ℕ) (unit : List Token) (fs : List Frame) (scope : Blocks) (l : Pos) (ts : List Token) → 1 + length fs ≤ limit → begun_at limit unit (place_in fs) scope (token (kinds.Punct puncts.Semicolon) l ∷ ts) ≡ eval_begun limit l scope (token (kinds.Punct puncts.Semicolon) l ∷ ts)
+empty_step limit unit fs scope l ts deep =
     let semi : Token = token (kinds.Punct puncts.Semicolon) l in
     let all = semi ∷ ts in
-    ap (λ x. begun_by unit (place_in fs) (sign_of x.kind) (is_type_here scope all) (colon_follows all) scope all) (here_is semi ts)
-    ∙ (started unit fs scope signs.Semicolon (is_type_here scope all) (colon_follows all) false all (record { no_close = refl; no_decl = refl; labelled = refl }) deep
-    ∙ ap (λ x. eval_begun x.pos scope all) (here_is semi ts))
+    ap (λ x. begun_by limit unit (place_in fs) (sign_of x.kind) (is_type_here scope all) (colon_follows all) scope all) (here_is semi ts)
+    ∙ (started limit unit fs scope signs.Semicolon (is_type_here scope all) (colon_follows all) false all (record { no_close = refl; no_decl = refl; labelled = refl }) deep
+    ∙ ap (λ x. eval_begun limit x.pos scope all) (here_is semi ts))

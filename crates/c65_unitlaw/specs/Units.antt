@@ -1,5 +1,5 @@
 -- What the grammar derives as a statement or a unit is what is read of its tokens, and tokens have one at most.
-use Rattle.std.specs.Prelude.{◌≡◌, ◌≤◌, List, ◌∷◌, ◌++◌, length, false, Result, Ok}
+use Rattle.std.specs.Prelude.{◌≡◌, ℕ, ◌≤◌, List, ◌∷◌, ◌++◌, length, false, Result, Ok}
 use Rattle.c65_base.specs.Answers.{Gives}
 use Rattle.c65_base.specs.declared.refusal.Refusal.{Refusal}
 use Rattle.c65_scan.specs.declared.token.Token.{Token}
@@ -16,17 +16,17 @@ use Rattle.c65_grammar.specs.Readings.{IsUnitWithin}
 
 -- C90 6.6: an `else` goes on with a statement that ends in an `if` without one
 abbrev pub StatementsAreRead : Type 0
-StatementsAreRead = (unit : List Token) (sc : Scope) (outer : Blocks) (tree : t.StmtTree) (front : List Token) (next : Token) (others : List Token)
-    → statement sc tree front → stmt_depth tree ≤ 256 → inner_depth tree ≤ 256 → length (front ++ next ∷ others) ≤ length unit → (is_closed tree ≡ false → is_mark marks.Else (sign_of next.kind) ≡ false)
-    → statement_read unit (sc ∷ outer) (front ++ next ∷ others) ≡ Ok (tree, next ∷ others, after_stmt sc tree ∷ outer)
+StatementsAreRead = (limit : ℕ) (unit : List Token) (sc : Scope) (outer : Blocks) (tree : t.StmtTree) (front : List Token) (next : Token) (others : List Token)
+    → statement sc tree front → stmt_depth tree ≤ limit → inner_depth tree ≤ limit → length (front ++ next ∷ others) ≤ length unit → (is_closed tree ≡ false → is_mark marks.Else (sign_of next.kind) ≡ false)
+    → statement_read limit unit (sc ∷ outer) (front ++ next ∷ others) ≡ Ok (tree, next ∷ others, after_stmt sc tree ∷ outer)
 
 -- C90 6.7
 abbrev pub UnitsAreRead : Type 0
-UnitsAreRead = (tokens : List Token) (unit : t.UnitTree) → IsUnitWithin 256 tokens unit → unit_read tokens ≡ Ok unit
+UnitsAreRead = (limit : ℕ) (tokens : List Token) (unit : t.UnitTree) → IsUnitWithin limit tokens unit → unit_read limit tokens ≡ Ok unit
 
 abbrev pub UnitsAreOne : Type 0
-UnitsAreOne = (tokens : List Token) (unit other : t.UnitTree) → IsUnitWithin 256 tokens unit → IsUnitWithin 256 tokens other → unit ≡ other
+UnitsAreOne = (limit : ℕ) (tokens : List Token) (unit other : t.UnitTree) → IsUnitWithin limit tokens unit → IsUnitWithin limit tokens other → unit ≡ other
 
 -- where the tokens are those of a unit within the limit, the answer is that unit, unless memory ran out
-abbrev pub AcceptsUnit : {X : Type 0} → List Token → (X → t.UnitTree) → Result X Refusal → Type 0
-AcceptsUnit tokens view result = (unit : t.UnitTree) → IsUnitWithin 256 tokens unit → Gives view result (Ok unit)
+abbrev pub AcceptsUnit : (limit : ℕ) → {X : Type 0} → List Token → (X → t.UnitTree) → Result X Refusal → Type 0
+AcceptsUnit limit tokens view result = (unit : t.UnitTree) → IsUnitWithin limit tokens unit → Gives view result (Ok unit)

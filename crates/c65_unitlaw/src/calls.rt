@@ -10,7 +10,7 @@ use std::alloc::Global;
 
 /// The unit whose tokens these are (C90 6.7): none that the grammar derives within the limit of depth is refused.
 pub fn read_unit(alloc: Global, tokens: &[Token]) -> Result<Unit, Refusal>
-    ensures { AcceptsUnit tokens.now unit_of result }
+    ensures { AcceptsUnit 256 tokens.now unit_of result }
 {
     parse_unit(alloc, tokens)
 }

@@ -47,9 +47,9 @@ few_types s =
     (kinds_few (stacks_of s.kinds.items) few, outer_few (reverse s.blocks.items) (stacks_of s.kinds.items) few)
 
 -- what a call answers by its mirror
-pub stopped : {X Y Tree : Type 0} (view : X → Y) (r : Result X Refusal) (y : Result Y Fault) (phrase : Tree → Phrase) (depth : Tree → ℕ) (tokens : List Token) → Gives view r y → ((fault : Fault) → y ≡ Err fault → StopsAt phrase depth tokens fault) → Stops phrase depth tokens r
-stopped view (Ok x) y phrase depth tokens h f = tt
-stopped view (Err refusals.OutOfMemory) y phrase depth tokens h f = tt
-stopped view (Err (refusals.At code pos)) y phrase depth tokens h f = f (at code pos) h
-stopped view (Err (refusals.TooLarge size value)) y phrase depth tokens h f = f (large size value) h
-stopped view (Err _) y phrase depth tokens h f = absurd h
+pub stopped : (limit : ℕ) → {X Y Tree : Type 0} (view : X → Y) (r : Result X Refusal) (y : Result Y Fault) (phrase : Tree → Phrase) (depth : Tree → ℕ) (tokens : List Token) → Gives view r y → ((fault : Fault) → y ≡ Err fault → StopsAt limit phrase depth tokens fault) → Stops limit phrase depth tokens r
+stopped limit view (Ok x) y phrase depth tokens h f = tt
+stopped limit view (Err refusals.OutOfMemory) y phrase depth tokens h f = tt
+stopped limit view (Err (refusals.At code pos)) y phrase depth tokens h f = f (at code pos) h
+stopped limit view (Err (refusals.TooLarge size value)) y phrase depth tokens h f = f (large size value) h
+stopped limit view (Err _) y phrase depth tokens h f = absurd h

@@ -58,27 +58,27 @@ err_or d (Ok b) = d
 err_or d (Err e) = e
 
 -- the tokens before an end that were read as a tree
-pub continues : {Tree : Type 0} (phrase : Pos → Tree → Phrase) (behind : Tree → Scope) (outer : Blocks) (depth : Tree → ℕ) (l : Pos) (before more : List Token) (tree : Tree) (later : Blocks)
-    → IsRead phrase behind outer (before ++ (more ++ token kinds.End l ∷ [])) tree (token kinds.End l ∷ []) later → depth tree ≤ 256 → Continues (phrase l) depth 256 before
-continues phrase behind outer depth l before more tree later h within =
+pub continues : (limit : ℕ) → {Tree : Type 0} (phrase : Pos → Tree → Phrase) (behind : Tree → Scope) (outer : Blocks) (depth : Tree → ℕ) (l : Pos) (before more : List Token) (tree : Tree) (later : Blocks)
+    → IsRead phrase behind outer (before ++ (more ++ token kinds.End l ∷ [])) tree (token kinds.End l ∷ []) later → depth tree ≤ limit → Continues (phrase l) depth limit before
+continues limit phrase behind outer depth l before more tree later h within =
     let last : Token = token kinds.End l in
     let front = same_front before more h.front h.others last h.next (h.tokens_are ∙ ap (λ ts. h.front ++ ts) h.rest_is) h.rest_is in
     let place : h.next.pos ≡ l = sym (ap (λ ts. (head_or last ts).pos) h.rest_is) in
     record { tree = tree; more = more; derives = subst (λ p. phrase p tree (before ++ more)) place (subst (phrase h.next.pos tree) front h.derives); within = within }
 
 -- where each tree has a token behind it with which it is read
-pub none : {A Tree : Type 0} (read : List Token → Result A Fault) (phrase : Tree → Phrase) (depth : Tree → ℕ) (fault : Fault) (before : List Token) (next : Token) → ((more : List Token) → read (before ++ next ∷ more) ≡ Err fault)
-    → ((ts : List Token) (tree : Tree) → phrase tree ts → depth tree ≤ 256 → (behind : List Token) × (a : A) × (read (ts ++ behind) ≡ Ok a)) → Continues phrase depth 256 (before ++ next ∷ []) → ⊥
-none read phrase depth fault before next again takes k =
+pub none : (limit : ℕ) → {A Tree : Type 0} (read : List Token → Result A Fault) (phrase : Tree → Phrase) (depth : Tree → ℕ) (fault : Fault) (before : List Token) (next : Token) → ((more : List Token) → read (before ++ next ∷ more) ≡ Err fault)
+    → ((ts : List Token) (tree : Tree) → phrase tree ts → depth tree ≤ limit → (behind : List Token) × (a : A) × (read (ts ++ behind) ≡ Ok a)) → Continues phrase depth limit (before ++ next ∷ []) → ⊥
+none limit read phrase depth fault before next again takes k =
     let it = takes ((before ++ next ∷ []) ++ k.more) k.tree k.derives k.within in
     err_not it.1 fault (sym it.2 ∙ (ap read (append_assoc (before ++ next ∷ []) k.more it.0 ∙ append_assoc before (next ∷ []) (k.more ++ it.0)) ∙ again (k.more ++ it.0)))
 
 -- expressions
-expr_stopped : (least : ℕ) (scope : Blocks) (l : Pos) (ts : List Token) (fault : Fault) (r : Reading) → Outcome of_expr l least scope [] operand ts r → (r >>= as_expr) ≡ Err fault → Stopped of_expr l least scope [] operand ts fault
-expr_stopped least scope l ts fault (Ok (done_expr e, rest, behind)) h k = absurd (err_not (e, rest, behind) fault k)
-expr_stopped least scope l ts fault (Ok (done_specifiers q, rest, behind)) h k = absurd h.kind
-expr_stopped least scope l ts fault (Ok (done_declarator d, rest, behind)) h k = absurd h.kind
-expr_stopped least scope l ts fault (Err e) h k = subst (Stopped of_expr l least scope [] operand ts) (ap (err_or e) k) h
+expr_stopped : (limit : ℕ) (least : ℕ) (scope : Blocks) (l : Pos) (ts : List Token) (fault : Fault) (r : Reading) → Outcome limit of_expr l least scope [] operand ts r → (r >>= as_expr) ≡ Err fault → Stopped limit of_expr l least scope [] operand ts fault
+expr_stopped limit least scope l ts fault (Ok (done_expr e, rest, behind)) h k = absurd (err_not (e, rest, behind) fault k)
+expr_stopped limit least scope l ts fault (Ok (done_specifiers q, rest, behind)) h k = absurd h.kind
+expr_stopped limit least scope l ts fault (Ok (done_declarator d, rest, behind)) h k = absurd h.kind
+expr_stopped limit least scope l ts fault (Err e) h k = subst (Stopped limit of_expr l least scope [] operand ts) (ap (err_or e) k) h
 
 an_expr : (d : Done) → Same of_expr (place_of d) → (e : t.ExprTree) × (d ≡ done_expr e)
 an_expr (done_expr e) h = (e, refl)
@@ -86,32 +86,32 @@ an_expr (done_specifiers q) h = absurd h
 an_expr (done_declarator d) h = absurd h
 
 pub exprs_stop : ExprsStop
-exprs_stop least sc outer tokens fault low few ends e =
+exprs_stop limit least sc outer tokens fault low few ends e =
     let l : Pos = record { file = 0; line = 1 } in
-    let s : Stopped of_expr l least (sc ∷ outer) [] operand tokens fault = expr_stopped least (sc ∷ outer) l tokens fault (run least (sc ∷ outer) [] operand tokens) (outcome of_expr l least tokens (sc ∷ outer) [] operand few (omega arith, tt) (ends_in tokens ends)) e in
+    let s : Stopped limit of_expr l least (sc ∷ outer) [] operand tokens fault = expr_stopped limit least (sc ∷ outer) l tokens fault (run limit least (sc ∷ outer) [] operand tokens) (outcome limit of_expr l least tokens (sc ∷ outer) [] operand few (omega arith, tt) (ends_in tokens ends)) e in
     let it = an_expr s.tree s.sort in
     let all = s.before ++ (s.more ++ token kinds.End l ∷ []) in
-    let read : expr_read least (sc ∷ outer) all ≡ Ok (it.0, token kinds.End l ∷ [], s.behind) = ap (λ r. r >>= as_expr) (s.are ∙ ap (λ d. Ok (d, token kinds.End l ∷ [], s.behind)) it.1) in
+    let read : expr_read limit least (sc ∷ outer) all ≡ Ok (it.0, token kinds.End l ∷ [], s.behind) = ap (λ r. r >>= as_expr) (s.are ∙ ap (λ d. Ok (d, token kinds.End l ∷ [], s.behind)) it.1) in
     record {
       before = s.before;
       next = s.next;
       others = s.others;
       tokens_are = s.tokens_are;
       fault_is = s.fault_is;
-      goes_on = continues (λ l e. given (least ≤ level e) (g.expr sc e)) (after sc) outer expr_depth l s.before s.more it.0 s.behind (exprs_are_derived least sc outer all it.0 (token kinds.End l ∷ []) s.behind low read) (exprs_are_within least (sc ∷ outer) all it.0 (token kinds.End l ∷ []) s.behind read);
-      none = none (expr_read least (sc ∷ outer)) (λ e. given (least ≤ level e) (g.expr sc e)) expr_depth fault s.before s.next (λ more. ap (λ r. r >>= as_expr) (s.again more))
-          (λ ts tree p deep. (token kinds.End l ∷ [], _, exprs_are_read least sc outer tree ts (token kinds.End l) [] p.1 p.0 deep low (inl refl)));
+      goes_on = continues limit (λ l e. given (least ≤ level e) (g.expr sc e)) (after sc) outer expr_depth l s.before s.more it.0 s.behind (exprs_are_derived limit least sc outer all it.0 (token kinds.End l ∷ []) s.behind low read) (exprs_are_within limit least (sc ∷ outer) all it.0 (token kinds.End l ∷ []) s.behind read);
+      none = none limit (expr_read limit least (sc ∷ outer)) (λ e. given (least ≤ level e) (g.expr sc e)) expr_depth fault s.before s.next (λ more. ap (λ r. r >>= as_expr) (s.again more))
+          (λ ts tree p deep. (token kinds.End l ∷ [], _, exprs_are_read limit least sc outer tree ts (token kinds.End l) [] p.1 p.0 deep low (inl refl)));
     }
 
 -- specifiers
 abbrev tree_alone : Listed × List Token × Blocks → Answer t.SpecifiersTree
 tree_alone q = Ok (q.0.tree, q.1, q.2)
 
-specifiers_stopped : (scope : Blocks) (l : Pos) (ts : List Token) (fault : Fault) (r : Reading) → Outcome of_specifiers l 0 scope [] (specifiers (nothing_listed true)) ts r → ((r >>= as_specifiers) >>= tree_alone) ≡ Err fault → Stopped of_specifiers l 0 scope [] (specifiers (nothing_listed true)) ts fault
-specifiers_stopped scope l ts fault (Ok (done_expr e, rest, behind)) h k = absurd h.kind
-specifiers_stopped scope l ts fault (Ok (done_specifiers q, rest, behind)) h k = absurd (err_not (q.tree, rest, behind) fault k)
-specifiers_stopped scope l ts fault (Ok (done_declarator d, rest, behind)) h k = absurd h.kind
-specifiers_stopped scope l ts fault (Err e) h k = subst (Stopped of_specifiers l 0 scope [] (specifiers (nothing_listed true)) ts) (ap (err_or e) k) h
+specifiers_stopped : (limit : ℕ) (scope : Blocks) (l : Pos) (ts : List Token) (fault : Fault) (r : Reading) → Outcome limit of_specifiers l 0 scope [] (specifiers (nothing_listed true)) ts r → ((r >>= as_specifiers) >>= tree_alone) ≡ Err fault → Stopped limit of_specifiers l 0 scope [] (specifiers (nothing_listed true)) ts fault
+specifiers_stopped limit scope l ts fault (Ok (done_expr e, rest, behind)) h k = absurd h.kind
+specifiers_stopped limit scope l ts fault (Ok (done_specifiers q, rest, behind)) h k = absurd (err_not (q.tree, rest, behind) fault k)
+specifiers_stopped limit scope l ts fault (Ok (done_declarator d, rest, behind)) h k = absurd h.kind
+specifiers_stopped limit scope l ts fault (Err e) h k = subst (Stopped limit of_specifiers l 0 scope [] (specifiers (nothing_listed true)) ts) (ap (err_or e) k) h
 
 pub some_specifiers : (d : Done) → Same of_specifiers (place_of d) → (q : Listed) × (d ≡ done_specifiers q)
 some_specifiers (done_expr e) h = absurd h
@@ -119,29 +119,29 @@ some_specifiers (done_specifiers q) h = (q, refl)
 some_specifiers (done_declarator d) h = absurd h
 
 pub specifiers_stop : SpecifiersStop
-specifiers_stop sc outer l tokens fault few ends e =
+specifiers_stop limit sc outer l tokens fault few ends e =
     let held : Held = specifiers (nothing_listed true) in
-    let s : Stopped of_specifiers l 0 (sc ∷ outer) [] held tokens fault = specifiers_stopped (sc ∷ outer) l tokens fault (run 0 (sc ∷ outer) [] held tokens) (outcome of_specifiers l 0 tokens (sc ∷ outer) [] held few tt (ends_in tokens ends)) e in
+    let s : Stopped limit of_specifiers l 0 (sc ∷ outer) [] held tokens fault = specifiers_stopped limit (sc ∷ outer) l tokens fault (run limit 0 (sc ∷ outer) [] held tokens) (outcome limit of_specifiers l 0 tokens (sc ∷ outer) [] held few tt (ends_in tokens ends)) e in
     let it = some_specifiers s.tree s.sort in
     let all = s.before ++ (s.more ++ token kinds.End l ∷ []) in
-    let read : specifiers_read (sc ∷ outer) all ≡ Ok (it.0.tree, token kinds.End l ∷ [], s.behind) = ap (λ r. (r >>= as_specifiers) >>= tree_alone) (s.are ∙ ap (λ d. Ok (d, token kinds.End l ∷ [], s.behind)) it.1) in
+    let read : specifiers_read limit (sc ∷ outer) all ≡ Ok (it.0.tree, token kinds.End l ∷ [], s.behind) = ap (λ r. (r >>= as_specifiers) >>= tree_alone) (s.are ∙ ap (λ d. Ok (d, token kinds.End l ∷ [], s.behind)) it.1) in
     record {
       before = s.before;
       next = s.next;
       others = s.others;
       tokens_are = s.tokens_are;
       fault_is = s.fault_is;
-      goes_on = continues (head_specifiers sc) (after_specifiers sc) outer specifiers_depth l s.before s.more it.0.tree s.behind (specifiers_are_derived sc outer all it.0.tree (token kinds.End l ∷ []) s.behind read) (specifiers_are_within (sc ∷ outer) all it.0.tree (token kinds.End l ∷ []) s.behind read);
-      none = none (specifiers_read (sc ∷ outer)) (head_specifiers sc l) specifiers_depth fault s.before s.next (λ more. ap (λ r. (r >>= as_specifiers) >>= tree_alone) (s.again more))
-          (λ ts tree p deep. (token kinds.End l ∷ [], _, specifiers_are_read sc outer tree ts (token kinds.End l) [] p deep tt));
+      goes_on = continues limit (head_specifiers sc) (after_specifiers sc) outer specifiers_depth l s.before s.more it.0.tree s.behind (specifiers_are_derived limit sc outer all it.0.tree (token kinds.End l ∷ []) s.behind read) (specifiers_are_within limit (sc ∷ outer) all it.0.tree (token kinds.End l ∷ []) s.behind read);
+      none = none limit (specifiers_read limit (sc ∷ outer)) (head_specifiers sc l) specifiers_depth fault s.before s.next (λ more. ap (λ r. (r >>= as_specifiers) >>= tree_alone) (s.again more))
+          (λ ts tree p deep. (token kinds.End l ∷ [], _, specifiers_are_read limit sc outer tree ts (token kinds.End l) [] p deep tt));
     }
 
 -- declarators
-pub declarator_stopped : (sort : Sort) (scope : Blocks) (l : Pos) (ts : List Token) (fault : Fault) (r : Reading) → Outcome of_declarator l 0 scope [] (declarator sort) ts r → (r >>= as_declarator) ≡ Err fault → Stopped of_declarator l 0 scope [] (declarator sort) ts fault
-declarator_stopped sort scope l ts fault (Ok (done_expr e, rest, behind)) h k = absurd h.kind
-declarator_stopped sort scope l ts fault (Ok (done_specifiers q, rest, behind)) h k = absurd h.kind
-declarator_stopped sort scope l ts fault (Ok (done_declarator d, rest, behind)) h k = absurd (err_not (d, rest, behind) fault k)
-declarator_stopped sort scope l ts fault (Err e) h k = subst (Stopped of_declarator l 0 scope [] (declarator sort) ts) (ap (err_or e) k) h
+pub declarator_stopped : (limit : ℕ) (sort : Sort) (scope : Blocks) (l : Pos) (ts : List Token) (fault : Fault) (r : Reading) → Outcome limit of_declarator l 0 scope [] (declarator sort) ts r → (r >>= as_declarator) ≡ Err fault → Stopped limit of_declarator l 0 scope [] (declarator sort) ts fault
+declarator_stopped limit sort scope l ts fault (Ok (done_expr e, rest, behind)) h k = absurd h.kind
+declarator_stopped limit sort scope l ts fault (Ok (done_specifiers q, rest, behind)) h k = absurd h.kind
+declarator_stopped limit sort scope l ts fault (Ok (done_declarator d, rest, behind)) h k = absurd (err_not (d, rest, behind) fault k)
+declarator_stopped limit sort scope l ts fault (Err e) h k = subst (Stopped limit of_declarator l 0 scope [] (declarator sort) ts) (ap (err_or e) k) h
 
 pub a_declarator : (d : Done) → Same of_declarator (place_of d) → (e : t.DeclaratorTree) × (d ≡ done_declarator e)
 a_declarator (done_expr e) h = absurd h
@@ -161,18 +161,18 @@ same_sort (sorts.Member typed) = refl
 same_sort sorts.Abstract = refl
 
 pub declarators_stop : DeclaratorsStop
-declarators_stop sort sc outer l tokens fault few ends e =
-    let s : Stopped of_declarator l 0 (sc ∷ outer) [] (declarator sort) tokens fault = declarator_stopped sort (sc ∷ outer) l tokens fault (run 0 (sc ∷ outer) [] (declarator sort) tokens) (outcome of_declarator l 0 tokens (sc ∷ outer) [] (declarator sort) few tt (ends_in tokens ends)) e in
+declarators_stop limit sort sc outer l tokens fault few ends e =
+    let s : Stopped limit of_declarator l 0 (sc ∷ outer) [] (declarator sort) tokens fault = declarator_stopped limit sort (sc ∷ outer) l tokens fault (run limit 0 (sc ∷ outer) [] (declarator sort) tokens) (outcome limit of_declarator l 0 tokens (sc ∷ outer) [] (declarator sort) few tt (ends_in tokens ends)) e in
     let it = a_declarator s.tree s.sort in
     let all = s.before ++ (s.more ++ token kinds.End l ∷ []) in
-    let read : declarator_read sort (sc ∷ outer) all ≡ Ok (it.0, token kinds.End l ∷ [], s.behind) = ap (λ r. r >>= as_declarator) (s.are ∙ ap (λ d. Ok (d, token kinds.End l ∷ [], s.behind)) it.1) in
+    let read : declarator_read limit sort (sc ∷ outer) all ≡ Ok (it.0, token kinds.End l ∷ [], s.behind) = ap (λ r. r >>= as_declarator) (s.are ∙ ap (λ d. Ok (d, token kinds.End l ∷ [], s.behind)) it.1) in
     record {
       before = s.before;
       next = s.next;
       others = s.others;
       tokens_are = s.tokens_are;
       fault_is = s.fault_is;
-      goes_on = subst (λ x. Continues (g.declarator x sc l) declarator_depth 256 s.before) (same_sort sort) (continues (g.declarator (derived.sort_of sort) sc) (after_declarator sc) outer declarator_depth l s.before s.more it.0 s.behind (declarators_are_derived sort sc outer all it.0 (token kinds.End l ∷ []) s.behind read) (declarators_are_within sort (sc ∷ outer) all it.0 (token kinds.End l ∷ []) s.behind read));
-      none = none (declarator_read sort (sc ∷ outer)) (g.declarator (sort_of sort) sc l) declarator_depth fault s.before s.next (λ more. ap (λ r. r >>= as_declarator) (s.again more))
-          (λ ts tree p deep. (token kinds.End l ∷ [], _, declarators_are_read sort sc outer l tree ts (token kinds.End l) [] p deep (ends_there sort l)));
+      goes_on = subst (λ x. Continues (g.declarator x sc l) declarator_depth limit s.before) (same_sort sort) (continues limit (g.declarator (derived.sort_of sort) sc) (after_declarator sc) outer declarator_depth l s.before s.more it.0 s.behind (declarators_are_derived limit sort sc outer all it.0 (token kinds.End l ∷ []) s.behind read) (declarators_are_within limit sort (sc ∷ outer) all it.0 (token kinds.End l ∷ []) s.behind read));
+      none = none limit (declarator_read limit sort (sc ∷ outer)) (g.declarator (sort_of sort) sc l) declarator_depth fault s.before s.next (λ more. ap (λ r. r >>= as_declarator) (s.again more))
+          (λ ts tree p deep. (token kinds.End l ∷ [], _, declarators_are_read limit sort sc outer l tree ts (token kinds.End l) [] p deep (ends_there sort l)));
     }

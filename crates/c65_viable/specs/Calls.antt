@@ -15,25 +15,25 @@ use Rattle.c65_grammar.specs.Statements.{head_specifiers}
 use Rattle.c65_complete.specs.Calls.{innermost}
 use Rattle.c65_viable.specs.Viable.{StopsAt}
 
-abbrev pub Stops : {X Tree : Type 0} → (Tree → Phrase) → (Tree → ℕ) → List Token → Result X Refusal → Type 0
-Stops phrase depth tokens (Ok x) = Unit {0}
-Stops phrase depth tokens (Err refusals.OutOfMemory) = Unit {0}
-Stops phrase depth tokens (Err (refusals.At code pos)) = StopsAt phrase depth tokens (at code pos)
-Stops phrase depth tokens (Err (refusals.TooLarge size value)) = StopsAt phrase depth tokens (large size value)
-Stops phrase depth tokens (Err _) = ⊥
+abbrev pub Stops : (limit : ℕ) → {X Tree : Type 0} → (Tree → Phrase) → (Tree → ℕ) → List Token → Result X Refusal → Type 0
+Stops limit phrase depth tokens (Ok x) = Unit {0}
+Stops limit phrase depth tokens (Err refusals.OutOfMemory) = Unit {0}
+Stops limit phrase depth tokens (Err (refusals.At code pos)) = StopsAt limit phrase depth tokens (at code pos)
+Stops limit phrase depth tokens (Err (refusals.TooLarge size value)) = StopsAt limit phrase depth tokens (large size value)
+Stops limit phrase depth tokens (Err _) = ⊥
 
 -- an expression of at least this level
-abbrev pub StopsExpr : {X : Type 0} → ℕ → Parser → Result X Refusal → Type 0
-StopsExpr least before = Stops (λ e. given (least ≤ level e) (g.expr (innermost (blocks_of before)) e)) expr_depth (rest_of before)
+abbrev pub StopsExpr : (limit : ℕ) → {X : Type 0} → ℕ → Parser → Result X Refusal → Type 0
+StopsExpr limit least before = Stops limit (λ e. given (least ≤ level e) (g.expr (innermost (blocks_of before)) e)) expr_depth (rest_of before)
 
 -- specifiers before a token at any place
-abbrev pub StopsSpecifiers : {X : Type 0} → Parser → Result X Refusal → Type 0
-StopsSpecifiers before result = (l : Pos) → Stops (head_specifiers (innermost (blocks_of before)) l) specifiers_depth (rest_of before) result
+abbrev pub StopsSpecifiers : (limit : ℕ) → {X : Type 0} → Parser → Result X Refusal → Type 0
+StopsSpecifiers limit before result = (l : Pos) → Stops limit (head_specifiers (innermost (blocks_of before)) l) specifiers_depth (rest_of before) result
 
 -- a declarator with a name; the flag says that a type specifier stands before it
-abbrev pub StopsDeclarator : {X : Type 0} → Bool → Parser → Result X Refusal → Type 0
-StopsDeclarator typed before result = (l : Pos) → Stops (g.declarator (g.named typed) (innermost (blocks_of before)) l) declarator_depth (rest_of before) result
+abbrev pub StopsDeclarator : (limit : ℕ) → {X : Type 0} → Bool → Parser → Result X Refusal → Type 0
+StopsDeclarator limit typed before result = (l : Pos) → Stops limit (g.declarator (g.named typed) (innermost (blocks_of before)) l) declarator_depth (rest_of before) result
 
 -- a type name
-abbrev pub StopsType : {X : Type 0} → Parser → Result X Refusal → Type 0
-StopsType before result = (l : Pos) → Stops (g.type_name (innermost (blocks_of before)) l) type_depth (rest_of before) result
+abbrev pub StopsType : (limit : ℕ) → {X : Type 0} → Parser → Result X Refusal → Type 0
+StopsType limit before result = (l : Pos) → Stops limit (g.type_name (innermost (blocks_of before)) l) type_depth (rest_of before) result

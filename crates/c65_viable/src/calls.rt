@@ -14,7 +14,7 @@ use c65_tree::{Declarator, Expr, Specifiers, TypeName};
 /// The expression that stands here (C90 6.3.17).
 pub fn stop_expression(parser: &mut Parser) -> Result<Expr, Refusal>
     requires { EndsOnce (rest_of parser.old) }
-    ensures { StopsExpr 0 parser.old result }
+    ensures { StopsExpr 256 0 parser.old result }
 {
     parse_expr(parser)
 }
@@ -22,7 +22,7 @@ pub fn stop_expression(parser: &mut Parser) -> Result<Expr, Refusal>
 /// The assignment expression that stands here (C90 6.3.16).
 pub fn stop_assignment(parser: &mut Parser) -> Result<Expr, Refusal>
     requires { EndsOnce (rest_of parser.old) }
-    ensures { StopsExpr 1 parser.old result }
+    ensures { StopsExpr 256 1 parser.old result }
 {
     parse_assignment(parser)
 }
@@ -30,7 +30,7 @@ pub fn stop_assignment(parser: &mut Parser) -> Result<Expr, Refusal>
 /// The constant expression that stands here (C90 6.4).
 pub fn stop_constant(parser: &mut Parser) -> Result<Expr, Refusal>
     requires { EndsOnce (rest_of parser.old) }
-    ensures { StopsExpr 2 parser.old result }
+    ensures { StopsExpr 256 2 parser.old result }
 {
     parse_constant(parser)
 }
@@ -38,7 +38,7 @@ pub fn stop_constant(parser: &mut Parser) -> Result<Expr, Refusal>
 /// The declaration specifiers that stand here (C90 6.5), or none.
 pub fn stop_specifiers(parser: &mut Parser) -> Result<Specifiers, Refusal>
     requires { EndsOnce (rest_of parser.old) }
-    ensures { StopsSpecifiers parser.old result }
+    ensures { StopsSpecifiers 256 parser.old result }
 {
     parse_specifiers(parser)
 }
@@ -46,7 +46,7 @@ pub fn stop_specifiers(parser: &mut Parser) -> Result<Specifiers, Refusal>
 /// The declarator that stands here behind a type specifier (C90 6.5.4).
 pub fn stop_declarator(parser: &mut Parser) -> Result<Declarator, Refusal>
     requires { EndsOnce (rest_of parser.old) }
-    ensures { StopsDeclarator true parser.old result }
+    ensures { StopsDeclarator 256 true parser.old result }
 {
     parse_declarator(parser)
 }
@@ -54,7 +54,7 @@ pub fn stop_declarator(parser: &mut Parser) -> Result<Declarator, Refusal>
 /// The declarator that stands here behind specifiers without a type specifier (C90 6.5.6).
 pub fn stop_untyped_declarator(parser: &mut Parser) -> Result<Declarator, Refusal>
     requires { EndsOnce (rest_of parser.old) }
-    ensures { StopsDeclarator false parser.old result }
+    ensures { StopsDeclarator 256 false parser.old result }
 {
     parse_untyped_declarator(parser)
 }
@@ -62,7 +62,7 @@ pub fn stop_untyped_declarator(parser: &mut Parser) -> Result<Declarator, Refusa
 /// The type name that stands here before its parenthesis (C90 6.5.5).
 pub fn stop_type_name(parser: &mut Parser) -> Result<TypeName, Refusal>
     requires { EndsOnce (rest_of parser.old) }
-    ensures { StopsType parser.old result }
+    ensures { StopsType 256 parser.old result }
 {
     parse_type_name(parser)
 }

@@ -5,4 +5,4 @@ use Rattle.c65_complete.proofs.Top.{exprs_are_read}
 use Rattle.c65_complete.proofs.calls.read_constant.Goals as goal
 
 pub returns : goal.returns
-returns c = λ tree front next others are p deep ends. accepted _ c.parse_constant.result (expr_read 2 _) _ _ _ c.parse_constant.ensures are (exprs_are_read 2 _ _ tree front next others p.1 p.0 deep (omega arith) ends)
+returns c = λ tree front next others are p deep ends. accepted _ c.parse_constant.result (expr_read 256 2 _) _ _ _ c.parse_constant.ensures are (exprs_are_read 256 2 _ _ tree front next others p.1 p.0 deep (omega arith) ends)

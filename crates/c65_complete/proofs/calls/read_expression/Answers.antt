@@ -5,4 +5,4 @@ use Rattle.c65_complete.proofs.Top.{exprs_are_read}
 use Rattle.c65_complete.proofs.calls.read_expression.Goals as goal
 
 pub returns : goal.returns
-returns c = λ tree front next others are p deep ends. accepted _ c.parse_expr.result (expr_read 0 _) _ _ _ c.parse_expr.ensures are (exprs_are_read 0 _ _ tree front next others p.1 p.0 deep (omega arith) ends)
+returns c = λ tree front next others are p deep ends. accepted _ c.parse_expr.result (expr_read 256 0 _) _ _ _ c.parse_expr.ensures are (exprs_are_read 256 0 _ _ tree front next others p.1 p.0 deep (omega arith) ends)

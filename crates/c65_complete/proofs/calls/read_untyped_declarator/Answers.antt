@@ -6,4 +6,4 @@ use Rattle.c65_complete.proofs.Top.{declarators_are_read}
 use Rattle.c65_complete.proofs.calls.read_untyped_declarator.Goals as goal
 
 pub returns : goal.returns
-returns c = λ tree front next others are p deep ends. accepted _ c.parse_untyped_declarator.result (declarator_read (sorts.Named false) _) _ _ _ c.parse_untyped_declarator.ensures are (declarators_are_read (sorts.Named false) _ _ next.pos tree front next others p deep ends)
+returns c = λ tree front next others are p deep ends. accepted _ c.parse_untyped_declarator.result (declarator_read 256 (sorts.Named false) _) _ _ _ c.parse_untyped_declarator.ensures are (declarators_are_read 256 (sorts.Named false) _ _ next.pos tree front next others p deep ends)
