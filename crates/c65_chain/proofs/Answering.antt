@@ -41,18 +41,18 @@ fails_on (refusals.TooLarge limit value) y f h = ap (λ z. z >>= f) h
 fails_on e y f h = absurd h
 
 pub not_scanned : (names : List (List ℕ)) (signed : Bool) (ts : List PpToken) (e : Refusal) → Fails e (tokens_of names ts) → Fails e (typed names signed ts)
-not_scanned names signed ts e h = fails_on e (tokens_of names ts) (λ tokens. unit_read tokens >>= (λ tree. unit_in tree signed)) h
+not_scanned names signed ts e h = fails_on e (tokens_of names ts) (λ tokens. unit_read 256 tokens >>= (λ tree. unit_in tree signed)) h
 
-pub not_parsed : (names : List (List ℕ)) (signed : Bool) (ts : List PpToken) (tokens : List Token) (e : Refusal) → tokens_of names ts ≡ Ok tokens → Fails e (unit_read tokens) → Fails e (typed names signed ts)
+pub not_parsed : (names : List (List ℕ)) (signed : Bool) (ts : List PpToken) (tokens : List Token) (e : Refusal) → tokens_of names ts ≡ Ok tokens → Fails e (unit_read 256 tokens) → Fails e (typed names signed ts)
 not_parsed names signed ts tokens e scanned h =
-    let all : Fails e (unit_read tokens >>= (λ tree. unit_in tree signed)) = fails_on e (unit_read tokens) (λ tree. unit_in tree signed) h in
-    subst (λ (y : Result (List Token) Fault). Fails e (y >>= (λ tokens. unit_read tokens >>= (λ tree. unit_in tree signed)))) (sym scanned) all
+    let all : Fails e (unit_read 256 tokens >>= (λ tree. unit_in tree signed)) = fails_on e (unit_read 256 tokens) (λ tree. unit_in tree signed) h in
+    subst (λ (y : Result (List Token) Fault). Fails e (y >>= (λ tokens. unit_read 256 tokens >>= (λ tree. unit_in tree signed)))) (sym scanned) all
 
 pub is_typed : {X : Type 0} (view : X → UnitTy) (names : List (List ℕ)) (signed : Bool) (ts : List PpToken) (tokens : List Token) (tree : UnitTree) (r : Result X Refusal)
-    → tokens_of names ts ≡ Ok tokens → unit_read tokens ≡ Ok tree → Gives view r (unit_in tree signed) → Gives view r (typed names signed ts)
+    → tokens_of names ts ≡ Ok tokens → unit_read 256 tokens ≡ Ok tree → Gives view r (unit_in tree signed) → Gives view r (typed names signed ts)
 is_typed view names signed ts tokens tree r scanned parsed h =
-    let behind : Gives view r (unit_read tokens >>= (λ tree. unit_in tree signed)) = subst (λ (y : Result UnitTree Fault). Gives view r (y >>= (λ tree. unit_in tree signed))) (sym parsed) h in
-    subst (λ (y : Result (List Token) Fault). Gives view r (y >>= (λ tokens. unit_read tokens >>= (λ tree. unit_in tree signed)))) (sym scanned) behind
+    let behind : Gives view r (unit_read 256 tokens >>= (λ tree. unit_in tree signed)) = subst (λ (y : Result UnitTree Fault). Gives view r (y >>= (λ tree. unit_in tree signed))) (sym parsed) h in
+    subst (λ (y : Result (List Token) Fault). Gives view r (y >>= (λ tokens. unit_read 256 tokens >>= (λ tree. unit_in tree signed)))) (sym scanned) behind
 
 -- a stage's refusal is one of the file, or want of memory
 in_file_stops : {A : Type 0} (paths : List (List ℕ)) (e r : Refusal) (y : Result A Fault) → Fails e y → Located paths e r → IsFree r ⊎ in_file paths y (Err r)

@@ -30,7 +30,7 @@ use Rattle.c65_genstmt.specs.Programs.{program_of}
 abbrev pub typed : List (List ℕ) → Bool → List PpToken → Result UnitTy Fault
 typed names signed_chars ts = do
   tokens ← tokens_of names ts
-  tree ← unit_read tokens
+  tree ← unit_read 256 tokens
   unit_in tree signed_chars
 
 -- a fault has the path of its file in the place of the number

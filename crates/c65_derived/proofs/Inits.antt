@@ -13,7 +13,7 @@ use Rattle.c65_parse.specs.Reading.{token_at, expr_read}
 use Rattle.c65_stmts.specs.declared.sign.Mark.TheVariants as marks
 use Rattle.c65_stmts.specs.Lists.{OpenList, Listed, listed_whole, listed_open, with_initialiser, empty_list}
 use Rattle.c65_decl.specs.Here.{is_here, pos_here}
-use Rattle.c65_decl.specs.Initialisers.{kept_within, element_read, brace_passed, behind_comma, list_end, lists_next, lists_closed, list_begun, initialiser_step, initialiser_next, initialiser_run, initialiser_read, optional_init_read}
+use Rattle.c65_decl.specs.Initialisers.{element_read, brace_passed, behind_comma, list_end, lists_next, lists_closed, list_begun, initialiser_step, initialiser_next, initialiser_run, initialiser_read, optional_init_read}
 use Rattle.c65_grammar.specs.Phrases.{Phrase, ◌▸◌, given, mark, some_mark}
 use Rattle.c65_grammar.specs.Spellings.{comma_unless}
 use Rattle.c65_grammar.specs.Parts.{level, start}
@@ -88,7 +88,7 @@ closed_got sc outer (l ∷ ls) i ts xs p ends = seq end_front (λ b. inits_scope
     (λ b ys rest are q left. next_got sc outer l ls i xs p (λ j us zs. closed_got sc outer ls j us zs) b ys rest q left)
 
 begun_got : (limit : ℕ) (sc : Scope) (outer : Blocks) (ls : List OpenList) (ts xs : List Token) → is_here marks.OpenBrace ts ≡ true → lists_front sc ls xs → EndsIn ts → Got (λ r ys. state_front sc r (xs ++ ys)) (state_behind sc outer) ts (list_begun limit ls (inits_scope sc ls ∷ outer) ts)
-begun_got limit sc outer ls ts xs e p ends = got_if _ _ ts (nat_le (length ls) 254) _ (Err (large Depth 257))
+begun_got limit sc outer ls ts xs e p ends = got_if _ _ ts (nat_le (length ls + 2) limit) _ (Err (large Depth 257))
     (λ f. let first = first_of_mark marks.OpenBrace ts refl e ends in past _ _ ts first (λ r. Ok (listed_open (empty_list (pos_here ts) ∷ ls), r, inits_scope sc ls ∷ outer)) (record {
       front = [];
       tokens_are = refl;
@@ -99,10 +99,7 @@ begun_got limit sc outer ls ts xs e p ends = got_if _ _ ts (nat_le (length ls) 2
     (λ f. tt)
 
 element_got : (limit : ℕ) (around : ℕ) (sc : Scope) (outer : Blocks) (ts : List Token) → EndsIn ts → Got (λ e. given (1 ≤ level e) (g.expr sc e)) (λ e. after sc e ∷ outer) ts (element_read limit around (sc ∷ outer) ts)
-element_got limit around sc outer ts ends = seq _ _ _ _ ts (expr_read limit 1 (sc ∷ outer) ts) (kept_within around) (expr_got limit 1 sc outer ts (omega arith) ends)
-    (λ e xs rest are p left. got_if _ _ rest (nat_le around limit && nat_le (expr_depth e) (limit - around)) (Ok (e, rest, after sc e ∷ outer)) (Err (large Depth 257))
-    (λ f. record { front = []; tokens_are = refl; ends = left; derives = nil_behind (given (1 ≤ level e) (g.expr sc e)) xs p; scope_is = refl })
-    (λ f. tt))
+element_got limit around sc outer ts ends = expr_got (limit - around) 1 sc outer ts (omega arith) ends
 
 -- the element is an initialiser, which begins here
 element_is : (sc : Scope) (e : t.ExprTree) (ts xs rest : List Token) → ts ≡ xs ++ rest → given (1 ≤ level e) (g.expr sc e) xs → initialiser sc (t.value (pos_here ts) e) xs

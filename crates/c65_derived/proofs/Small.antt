@@ -27,7 +27,7 @@ use Rattle.c65_decl.specs.Here.{sign_here, pos_here, is_here, is_type_here, colo
 use Rattle.c65_decl.specs.Words.{word_of, is_evaluated, goes_on}
 use Rattle.c65_decl.specs.Expressions.{test_read, case_read, ended_read, optional_read}
 use Rattle.c65_decl.specs.Declaring.{naming_of, named_read, in_function}
-use Rattle.c65_decl.specs.Initialisers.{kept_within, element_read, list_end, lists_next, lists_closed, list_begun, initialiser_step, initialiser_next, initialiser_run, initialiser_read, optional_init_read}
+use Rattle.c65_decl.specs.Initialisers.{element_read, list_end, lists_next, lists_closed, list_begun, initialiser_step, initialiser_next, initialiser_run, initialiser_read, optional_init_read}
 use Rattle.c65_decl.specs.Decls.{Progress, all_declared, more_declared, with_declarator, next_declarator, last_declarator, behind_declarator, declarators_step, declarators_next, declarators_run, declarators_read, declaration_from, empty_declaration, declarators_begun, declaration_read, with_decl, declarations_run, declarations_read}
 use Rattle.c65_decl.specs.Openings.{begun_behind, word_begun, unlabelled_begun, statement_begun, closed_here, begun_at}
 use Rattle.c65_decl.specs.Statements.{do_plugged, plugged_next, all_plugged, block_closed, behind_begun, statement_step, statement_next, statement_run, statement_read}
@@ -89,15 +89,36 @@ lists_within : (limit : ℕ) (ls : List OpenList) (i : t.InitTree) (scope : Bloc
 lists_within limit [] i scope ts h k = omega (arith, k)
 lists_within limit (l ∷ ls) i scope ts h k = then_any (ListedFits limit) (list_end scope ts) (lists_next (lists_closed ls) (with_initialiser l i) ls) (λ b. next_list limit (with_initialiser l i) ls (lists_closed ls) (let j = h.0 in omega (arith, j, k)) h.1 (λ v inner us m. lists_within limit ls v inner us h.1 m) b.0 b.1 b.2)
 
-kept_small : (limit : ℕ) (around : ℕ) (a depth : ℕ) → nat_le around limit ≡ true → nat_le depth (limit - around) ≡ true → depth + around ≤ limit
-kept_small limit around a depth h k = let p = leb-true around limit h in let q = leb-true depth (limit - around) k in omega (arith, p, q)
+one_deep : (e : t.ExprTree) → 1 ≤ expr_depth e
+one_deep (t.name l n) = omega arith
+one_deep (t.number l ty n) = omega arith
+one_deep (t.text l bs) = omega arith
+one_deep (t.paren l e) = omega arith
+one_deep (t.index l a i) = omega arith
+one_deep (t.call l f es) = omega arith
+one_deep (t.member l e arrow n) = omega arith
+one_deep (t.step l how e) = omega arith
+one_deep (t.unary l op e) = omega arith
+one_deep (t.sizeof_expr l e) = omega arith
+one_deep (t.sizeof_type l ty) = omega arith
+one_deep (t.cast l ty e) = omega arith
+one_deep (t.binary l op a b) = omega arith
+one_deep (t.and_also l a b) = omega arith
+one_deep (t.or_else l a b) = omega arith
+one_deep (t.conditional l c a b) = omega arith
+one_deep (t.assign l op a b) = omega arith
+one_deep (t.comma l a b) = omega arith
+
+room_left : (limit around : ℕ) (r : Answer t.ExprTree) → Within (SmallExpr (limit - around)) r → Within (λ e. expr_depth e + around ≤ limit) r
+room_left limit around (Ok (e, rest, scope)) h = let one = one_deep e in omega (arith, h, one)
+room_left limit around (Err e) h = tt
 
 element_within : (limit : ℕ) (around : ℕ) (scope : Blocks) (ts : List Token) → Within (λ e. expr_depth e + around ≤ limit) (element_read limit around scope ts)
-element_within limit around scope ts = then_within (SmallExpr limit) _ (expr_read limit 1 scope ts) (kept_within around) (expr_within limit 1 scope ts) (λ e rest behind h. within_if (λ v. expr_depth v + around ≤ limit) (nat_le around limit && nat_le (expr_depth e) (limit - around)) (Ok (e, rest, behind)) (Err (large Depth 257)) (λ q. let two = both_true (nat_le around limit) (nat_le (expr_depth e) (limit - around)) q in kept_small limit around 0 (expr_depth e) two.0 two.1) (λ q. tt))
+element_within limit around scope ts = room_left limit around (expr_read (limit - around) 1 scope ts) (expr_within (limit - around) 1 scope ts)
 
 init_step_within : (limit : ℕ) (ls : List OpenList) (scope : Blocks) (ts : List Token) → ListsFit limit ls → Within (ListedFits limit) (initialiser_step limit ls scope ts)
 init_step_within limit ls scope ts h = within_if (ListedFits limit) (is_here marks.OpenBrace ts) (list_begun limit ls scope ts) (element_read limit (length ls) scope ts >>= (λ e. lists_closed ls (t.value (pos_here ts) e.0) e.2 e.1))
-    (λ e. within_if (ListedFits limit) (nat_le (length ls) 254) (Ok (listed_open (empty_list (pos_here ts) ∷ ls), after_token ts, scope)) (Err (large Depth 257)) (λ q. let p = leb-true (length ls) 254 q in (omega (arith, p), h)) (λ q. tt))
+    (λ e. within_if (ListedFits limit) (nat_le (length ls + 2) limit) (Ok (listed_open (empty_list (pos_here ts) ∷ ls), after_token ts, scope)) (Err (large Depth 257)) (λ q. let p = leb-true (length ls + 2) limit q in (omega (arith, p), h)) (λ q. tt))
     (λ e. then_within (λ v. expr_depth v + length ls ≤ limit) (ListedFits limit) (element_read limit (length ls) scope ts) _ (element_within limit (length ls) scope ts) (λ v rest behind k. lists_within limit ls (t.value (pos_here ts) v) behind rest h k))
 
 init_next : (limit : ℕ) (us : List Token) (r : Listed) (ts : List Token) (scope : Blocks) → ListedFits limit r → ((ls : List OpenList) (scope : Blocks) (ts : List Token) → ListsFit limit ls → Within (λ i. init_depth i ≤ limit) (initialiser_run limit us ls scope ts)) → Within (λ i. init_depth i ≤ limit) (initialiser_next (initialiser_run limit us) (r, ts, scope))
@@ -271,16 +292,16 @@ least_word signs.Return w e = omega arith
 least_word signs.OpenBrace w e = omega arith
 least_word _ w e = absurd cc
 
-word_within : (limit : ℕ) (fs : List Frame) (sign : Sign) (o : Option Word) (l : Pos) (scope : Blocks) (ts : List Token) → word_of sign ≡ o → length fs ≤ limit - least_depth sign false → Within (BegunFits limit fs) (word_begun limit o l scope ts)
+word_within : (limit : ℕ) (fs : List Frame) (sign : Sign) (o : Option Word) (l : Pos) (scope : Blocks) (ts : List Token) → word_of sign ≡ o → length fs + least_depth sign false ≤ limit → Within (BegunFits limit fs) (word_begun limit o l scope ts)
 word_within limit fs sign None l scope ts e h = tt
 word_within limit fs sign (Some w) l scope ts e h = behind_word limit fs w l scope (after_token ts) (let least = least_word sign w e in omega (arith, least, h))
 
-unlabelled_within : (limit : ℕ) (fs : List Frame) (sign : Sign) (scope : Blocks) (ts : List Token) → length fs ≤ limit - least_depth sign false → Within (BegunFits limit fs) (unlabelled_begun limit sign scope ts)
+unlabelled_within : (limit : ℕ) (fs : List Frame) (sign : Sign) (scope : Blocks) (ts : List Token) → length fs + least_depth sign false ≤ limit → Within (BegunFits limit fs) (unlabelled_begun limit sign scope ts)
 unlabelled_within limit fs sign scope ts h = within_if (BegunFits limit fs) (is_evaluated sign) _ _
     (λ e. map_within (λ o. begun_whole (t.eval (pos_here ts) o)) (SmallOption limit) (BegunFits limit fs) (optional_read limit marks.Semicolon scope ts) (optional_within limit marks.Semicolon scope ts) (λ o k. simple_small limit (length fs) (t.eval (pos_here ts) o) (of_option expr_depth o) refl refl k (let least = least_evaluated sign e in omega (arith, least, h))))
     (λ e. word_within limit fs sign (word_of sign) (pos_here ts) scope ts refl h)
 
-statement_begun_within : (limit : ℕ) (fs : List Frame) (sign : Sign) (label : Bool) (scope : Blocks) (ts : List Token) → length fs ≤ limit - least_depth sign label → Within (BegunFits limit fs) (statement_begun limit sign label scope ts)
+statement_begun_within : (limit : ℕ) (fs : List Frame) (sign : Sign) (label : Bool) (scope : Blocks) (ts : List Token) → length fs + least_depth sign label ≤ limit → Within (BegunFits limit fs) (statement_begun limit sign label scope ts)
 statement_begun_within limit fs sign true scope ts h = then_any (BegunFits limit fs) (name_read scope ts) _ (λ n. then_any (BegunFits limit fs) (expected marks.Colon n.2 n.1) _ (λ a. tt))
 statement_begun_within limit fs sign false scope ts h = unlabelled_within limit fs sign scope ts h
 
@@ -292,8 +313,8 @@ begun_at_within : (limit : ℕ) (unit : List Token) (fs : List Frame) (scope : B
 begun_at_within limit unit fs scope ts = within_if (BegunFits limit fs) ((place_in fs).in_block && is_mark marks.CloseBrace (sign_here ts)) (Ok (closed_here scope ts)) _ (λ e. tt)
     (λ e. within_if (BegunFits limit fs) ((place_in fs).takes_declarations && starts_declaration (sign_here ts) (is_type_here scope ts) (colon_follows ts)) _ _
     (λ f. map_within begun_decl (SmallDecl limit) (BegunFits limit fs) (declaration_read limit unit scope ts) (declaration_within limit unit scope ts) (λ d k. k))
-    (λ f. within_if (BegunFits limit fs) (nat_le (place_in fs).around (limit - least_depth (sign_here ts) (is_label (sign_here ts) (is_type_here scope ts) (colon_follows ts)))) _ (Err (large Depth 257))
-    (λ q. statement_begun_within limit fs (sign_here ts) (is_label (sign_here ts) (is_type_here scope ts) (colon_follows ts)) scope ts (subst (λ n. n ≤ limit - least_depth (sign_here ts) (is_label (sign_here ts) (is_type_here scope ts) (colon_follows ts))) (around_is fs) (leb-true _ _ q)))
+    (λ f. within_if (BegunFits limit fs) (nat_le ((place_in fs).around + least_depth (sign_here ts) (is_label (sign_here ts) (is_type_here scope ts) (colon_follows ts))) limit) _ (Err (large Depth 257))
+    (λ q. statement_begun_within limit fs (sign_here ts) (is_label (sign_here ts) (is_type_here scope ts) (colon_follows ts)) scope ts (subst (λ n. n + least_depth (sign_here ts) (is_label (sign_here ts) (is_type_here scope ts) (colon_follows ts)) ≤ limit) (around_is fs) (leb-true _ _ q)))
     (λ q. tt)))
 
 declared_small : (limit : ℕ) (fs : List Frame) (d : t.DeclTree) → FramesFit limit fs → SmallDecl limit d → FramesFit limit (with_declaration fs d)

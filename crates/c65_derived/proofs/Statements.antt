@@ -123,7 +123,7 @@ inside_got : (limit : ℕ) (unit : List Token) (b : Scope) (outer : Blocks) (fs 
 inside_got limit unit b outer fs ts ends = got_if _ _ ts ((place_in fs).takes_declarations && starts_declaration (sign_here ts) (is_type_here (b ∷ outer) ts) (colon_follows ts)) _ _
     (λ e. let two = both_true (place_in fs).takes_declarations (starts_declaration (sign_here ts) (is_type_here (b ∷ outer) ts) (colon_follows ts)) e in
     mapped begun_decl _ _ _ _ ts (declaration_read limit unit (b ∷ outer) ts) (declaration_got limit unit b outer ts (starts_is (sign_here ts) (is_type_here (b ∷ outer) ts) (colon_follows ts) two.1) ends) (λ d xs h. (two.0, h)) (λ d. refl))
-    (λ e. got_if _ _ ts (nat_le (place_in fs).around (limit - least_depth (sign_here ts) (is_label (sign_here ts) (is_type_here (b ∷ outer) ts) (colon_follows ts)))) _ (Err (large Depth 257))
+    (λ e. got_if _ _ ts (nat_le ((place_in fs).around + least_depth (sign_here ts) (is_label (sign_here ts) (is_type_here (b ∷ outer) ts) (colon_follows ts))) limit) _ (Err (large Depth 257))
     (λ f. begun_got limit b outer fs (is_label (sign_here ts) (is_type_here (b ∷ outer) ts) (colon_follows ts)) ts ends)
     (λ f. tt))
 

@@ -15,7 +15,7 @@ use Rattle.c65_stmts.specs.Signs.{sign_of, is_mark}
 use Rattle.c65_stmts.specs.Lists.{OpenList, Listed, listed_whole, listed_open, with_initialiser, empty_list}
 use Rattle.c65_decl.specs.Here.{expected}
 use Rattle.c65_decl.specs.Expressions.{test_read, case_read, ended_read, optional_read}
-use Rattle.c65_decl.specs.Initialisers.{kept_within, element_read, brace_passed, behind_comma, list_end, lists_next, lists_closed, initialiser_step, initialiser_next, initialiser_run, initialiser_read, optional_init_read}
+use Rattle.c65_decl.specs.Initialisers.{element_read, brace_passed, behind_comma, list_end, lists_next, lists_closed, initialiser_step, initialiser_next, initialiser_run, initialiser_read, optional_init_read}
 use Rattle.c65_derived.proofs.Got.{EndsIn, first_of_mark}
 use Rattle.c65_faultlaw.proofs.Local.{Reader, Triple, Local, done, too_deep, alike, by_first, local_if, if_first, past}
 use Rattle.c65_faultlaw.proofs.Seq.{seq, seq_mark, tail, tailed, all_steps}
@@ -63,14 +63,8 @@ pub optional_local : (limit : ℕ) (mark : Mark) (scope : Blocks) (unit us ts : 
 optional_local limit mark scope unit us ts not ends = optional_by limit 0 mark scope unit us ts not ends (omega arith) (expr_local limit 0 scope unit us ts ends) (λ e. omega arith)
 
 -- an element of a list
-kept_local : (limit : ℕ) (around : ℕ) (e : t.ExprTree) (scope : Blocks) (unit us ts : List Token) → EndsIn ts → Local 0 0 0 (λ unit us ys. kept_within around (e, ys, scope)) unit us ts
-kept_local limit around e scope unit us ts ends = local_if 0 0 0 (nat_le around limit && nat_le (expr_depth e) (limit - around)) (λ unit us ys. Ok (e, ys, scope)) (λ unit us ys. Err (large Depth 257)) unit us ts
-    (λ h. done 0 0 e scope unit us ts ends)
-    (λ h. too_deep 0 0 0 unit us ts ends)
-
 element_local : (limit : ℕ) (around : ℕ) (scope : Blocks) (unit us ts : List Token) → EndsIn ts → Local 0 1 0 (λ unit us ys. element_read limit around scope ys) unit us ts
-element_local limit around scope unit us ts ends = seq 0 0 1 0 1 0 0 (λ unit us ys. expr_read limit 1 scope ys) (λ unit us. kept_within around) unit us ts (omega arith) (omega arith) (omega arith) ends (expr_local limit 1 scope unit us ts ends)
-    (λ e inner rest left short. kept_local limit around e inner unit us rest left)
+element_local limit around scope unit us ts ends = expr_local (limit - around) 1 scope unit us ts ends
 
 -- the end of a list
 brace_local : (scope : Blocks) (unit us ts : List Token) → EndsIn ts → Local 0 1 0 (λ unit us ys. brace_passed scope ys) unit us ts
@@ -95,15 +89,15 @@ closed_local [] i scope unit us ts ends = done 0 0 (listed_whole i) scope unit u
 closed_local (l ∷ ls) i scope unit us ts ends = seq 0 0 1 0 0 0 0 (λ unit us ys. list_end scope ys) (λ unit us. lists_next (lists_closed ls) (with_initialiser l i) ls) unit us ts (omega arith) (omega arith) (omega arith) ends (end_local scope unit us ts ends)
     (λ b inner rest left short. next_local (with_initialiser l i) ls b inner unit us rest left (λ j. closed_local ls j inner unit us rest left))
 
-begun_local : (ls : List OpenList) (scope : Blocks) (x : Token) (unit us ts : List Token) → marks_it marks.OpenBrace (token_at ts 0) ≡ true → EndsIn ts → Local 0 1 0 (λ unit us ys. if nat_le (length ls) 254 then Ok (listed_open (empty_list x.pos ∷ ls), after_token ys, scope) else Err (large Depth 257)) unit us ts
-begun_local ls scope x unit us ts e ends = local_if 0 1 0 (nat_le (length ls) 254) (λ unit us ys. Ok (listed_open (empty_list x.pos ∷ ls), after_token ys, scope)) (λ unit us ys. Err (large Depth 257)) unit us ts
+begun_local : (limit : ℕ) (ls : List OpenList) (scope : Blocks) (x : Token) (unit us ts : List Token) → marks_it marks.OpenBrace (token_at ts 0) ≡ true → EndsIn ts → Local 0 1 0 (λ unit us ys. if nat_le (length ls + 2) limit then Ok (listed_open (empty_list x.pos ∷ ls), after_token ys, scope) else Err (large Depth 257)) unit us ts
+begun_local limit ls scope x unit us ts e ends = local_if 0 1 0 (nat_le (length ls + 2) limit) (λ unit us ys. Ok (listed_open (empty_list x.pos ∷ ls), after_token ys, scope)) (λ unit us ys. Err (large Depth 257)) unit us ts
     (λ h. past_mark 0 0 1 marks.OpenBrace (λ unit us ys. Ok (listed_open (empty_list x.pos ∷ ls), ys, scope)) unit us ts (omega arith) refl e ends (λ rest left short. done 0 0 (listed_open (empty_list x.pos ∷ ls)) scope unit us rest left))
     (λ h. too_deep 0 1 0 unit us ts ends)
 
 init_step : (limit : ℕ) (ls : List OpenList) (scope : Blocks) (unit us ts : List Token) → EndsIn ts → Local 0 1 0 (λ unit us ys. initialiser_step limit ls scope ys) unit us ts
-init_step limit ls scope unit us ts ends = by_first 0 1 0 (λ x unit us ys. if marks_it marks.OpenBrace x then (if nat_le (length ls) 254 then Ok (listed_open (empty_list x.pos ∷ ls), after_token ys, scope) else Err (large Depth 257)) else (element_read limit (length ls) scope ys >>= (λ e. lists_closed ls (t.value x.pos e.0) e.2 e.1))) unit us ts
-    (local_if 0 1 0 (marks_it marks.OpenBrace (token_at ts 0)) (λ unit us ys. if nat_le (length ls) 254 then Ok (listed_open (empty_list (token_at ts 0).pos ∷ ls), after_token ys, scope) else Err (large Depth 257)) (λ unit us ys. element_read limit (length ls) scope ys >>= (λ e. lists_closed ls (t.value (token_at ts 0).pos e.0) e.2 e.1)) unit us ts
-    (λ e. begun_local ls scope (token_at ts 0) unit us ts e ends)
+init_step limit ls scope unit us ts ends = by_first 0 1 0 (λ x unit us ys. if marks_it marks.OpenBrace x then (if nat_le (length ls + 2) limit then Ok (listed_open (empty_list x.pos ∷ ls), after_token ys, scope) else Err (large Depth 257)) else (element_read limit (length ls) scope ys >>= (λ e. lists_closed ls (t.value x.pos e.0) e.2 e.1))) unit us ts
+    (local_if 0 1 0 (marks_it marks.OpenBrace (token_at ts 0)) (λ unit us ys. if nat_le (length ls + 2) limit then Ok (listed_open (empty_list (token_at ts 0).pos ∷ ls), after_token ys, scope) else Err (large Depth 257)) (λ unit us ys. element_read limit (length ls) scope ys >>= (λ e. lists_closed ls (t.value (token_at ts 0).pos e.0) e.2 e.1)) unit us ts
+    (λ e. begun_local limit ls scope (token_at ts 0) unit us ts e ends)
     (λ e. seq 0 0 1 0 1 0 0 (λ unit us ys. element_read limit (length ls) scope ys) (λ unit us e. lists_closed ls (t.value (token_at ts 0).pos e.0) e.2 e.1) unit us ts (omega arith) (omega arith) (omega arith) ends (element_local limit (length ls) scope unit us ts ends)
     (λ v inner rest left short. closed_local ls (t.value (token_at ts 0).pos v) inner unit us rest left)))
 

@@ -89,12 +89,12 @@ pub fault_of : (next : Token) → IsFaultOf next (fault_at next)
 fault_of next = inl (ap (λ c. at c next.pos) (same_code next.kind))
 
 -- an answer that stands
-pub done : {A : Type 0} (c k : ℕ) (a : A) (scope : Blocks) (unit us ts : List Token) → EndsIn ts → Local c 0 k (λ unit us ys. Ok (a, ys, scope)) unit us ts
+abbrev pub done : {A : Type 0} (c k : ℕ) (a : A) (scope : Blocks) (unit us ts : List Token) → EndsIn ts → Local c 0 k (λ unit us ys. Ok (a, ys, scope)) unit us ts
 done c k a scope unit us [] ends = absurd ends
 done c k a scope unit us (t ∷ ts) ends = record { before = []; next = t; others = ts; tokens_are = refl; rest_is = refl; some = omega arith; again = λ unit us more fit room. refl }
 
 -- the fault of the first token
-pub fails : {A : Type 0} (m k : ℕ) (unit us ts : List Token) → EndsIn ts → Local {A = A} 0 m k (λ unit us ys. unexpected ys) unit us ts
+abbrev pub fails : {A : Type 0} (m k : ℕ) (unit us ts : List Token) → EndsIn ts → Local {A = A} 0 m k (λ unit us ys. unexpected ys) unit us ts
 fails m k unit us [] ends = absurd ends
 fails m k unit us (t ∷ ts) ends = record {
   before = [];
@@ -107,12 +107,12 @@ fails m k unit us (t ∷ ts) ends = record {
 }
 
 -- the limit of depth
-pub too_deep : {A : Type 0} (c m k : ℕ) (unit us ts : List Token) → EndsIn ts → Local {A = A} c m k (λ unit us ys. Err (large Depth 257)) unit us ts
+abbrev pub too_deep : {A : Type 0} (c m k : ℕ) (unit us ts : List Token) → EndsIn ts → Local {A = A} c m k (λ unit us ys. Err (large Depth 257)) unit us ts
 too_deep c m k unit us [] ends = absurd ends
 too_deep c m k unit us (t ∷ ts) ends = record { before = []; next = t; others = ts; tokens_are = refl; fault_is = inr refl; late = inr refl; again = λ unit us more fit room. refl }
 
 -- fewer tokens are demanded
-pub looser : {A : Type 0} (c d m n k : ℕ) (read : Reader (Triple A)) (ts : List Token) (r : Answer A) → d ≤ c → n ≤ m → Is c m k read ts r → Is d n k read ts r
+abbrev pub looser : {A : Type 0} (c d m n k : ℕ) (read : Reader (Triple A)) (ts : List Token) (r : Answer A) → d ≤ c → n ≤ m → Is c m k read ts r → Is d n k read ts r
 looser c d m n k read ts (Ok (a, rest, scope)) low less h = record { before = h.before; next = h.next; others = h.others; tokens_are = h.tokens_are; rest_is = h.rest_is; some = let some = h.some in omega (arith, less, some); again = h.again }
 looser c d m n k read ts (Err e) low less h = record { before = h.before; next = h.next; others = h.others; tokens_are = h.tokens_are; fault_is = h.fault_is; late = later h.late; again = h.again }
   where
@@ -121,12 +121,12 @@ looser c d m n k read ts (Err e) low less h = record { before = h.before; next =
     later (inr x) = inr x
 
 -- a reading that answers the same of the tokens
-pub alike : {A : Type 0} (c m k : ℕ) (read other : Reader (Triple A)) (ts : List Token) (r : Answer A) → ((unit us ys : List Token) → k + 1 ≤ length us → other unit us ys ≡ read unit us ys) → Is c m k read ts r → Is c m k other ts r
+abbrev pub alike : {A : Type 0} (c m k : ℕ) (read other : Reader (Triple A)) (ts : List Token) (r : Answer A) → ((unit us ys : List Token) → k + 1 ≤ length us → other unit us ys ≡ read unit us ys) → Is c m k read ts r → Is c m k other ts r
 alike c m k read other ts (Ok (a, rest, scope)) f h = record { before = h.before; next = h.next; others = h.others; tokens_are = h.tokens_are; rest_is = h.rest_is; some = h.some; again = λ unit us more fit room. f unit us (h.before ++ h.next ∷ more) (let long = length-append h.before (h.next ∷ more) in omega (arith, room, long)) ∙ h.again unit us more fit room }
 alike c m k read other ts (Err e) f h = record { before = h.before; next = h.next; others = h.others; tokens_are = h.tokens_are; fault_is = h.fault_is; late = h.late; again = λ unit us more fit room. f unit us (h.before ++ h.next ∷ more) (let long = length-append h.before (h.next ∷ more) in omega (arith, room, long)) ∙ h.again unit us more fit room }
 
 -- a reading that depends on the first token
-first_by : {A : Type 0} (c m k : ℕ) (read : Token → Reader (Triple A)) (ts : List Token) (r : Answer A) → Is c m k (read (token_at ts 0)) ts r → Is c m k (λ unit us ys. read (token_at ys 0) unit us ys) ts r
+abbrev pub first_by : {A : Type 0} (c m k : ℕ) (read : Token → Reader (Triple A)) (ts : List Token) (r : Answer A) → Is c m k (read (token_at ts 0)) ts r → Is c m k (λ unit us ys. read (token_at ys 0) unit us ys) ts r
 first_by c m k read ts (Ok (a, rest, scope)) h = record { before = h.before; next = h.next; others = h.others; tokens_are = h.tokens_are; rest_is = h.rest_is; some = h.some; again = λ unit us more fit room. ap (λ x. read x unit us (h.before ++ h.next ∷ more)) (sym (ap (λ xs. token_at xs 0) h.tokens_are ∙ front_here h.before h.next h.others more)) ∙ h.again unit us more fit room }
 first_by c m k read ts (Err e) h = record { before = h.before; next = h.next; others = h.others; tokens_are = h.tokens_are; fault_is = h.fault_is; late = h.late; again = λ unit us more fit room. ap (λ x. read x unit us (h.before ++ h.next ∷ more)) (sym (ap (λ xs. token_at xs 0) h.tokens_are ∙ front_here h.before h.next h.others more)) ∙ h.again unit us more fit room }
 
@@ -142,7 +142,7 @@ pub if_first : {A : Type 0} (c m k : ℕ) (test : Token → Bool) (yes_read no_r
 if_first c m k test yes_read no_read unit us ts f g = by_first c m k (λ x unit us ys. if test x then yes_read unit us ys else no_read unit us ys) unit us ts (local_if c m k (test (token_at ts 0)) yes_read no_read unit us ts f g)
 
 -- a token before what is read
-pub shifted : {A : Type 0} (c d m n k j : ℕ) (tok : Token) (inner outer : Reader (Triple A)) (ts : List Token) (r : Answer A) → d ≤ 1 + c → n ≤ 1 + m → j ≤ k + 1
+abbrev pub shifted : {A : Type 0} (c d m n k j : ℕ) (tok : Token) (inner outer : Reader (Triple A)) (ts : List Token) (r : Answer A) → d ≤ 1 + c → n ≤ 1 + m → j ≤ k + 1
     → ((unit us before : List Token) (next : Token) (more : List Token) → outer unit us (tok ∷ (before ++ next ∷ more)) ≡ inner unit us (before ++ next ∷ more))
     → Is c m j inner ts r → Is d n k outer (tok ∷ ts) r
 shifted c d m n k j tok inner outer ts (Ok (a, rest, scope)) low less near f h = record {

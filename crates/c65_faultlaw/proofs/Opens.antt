@@ -143,7 +143,7 @@ begun_local limit c place sign is_type colon scope unit us ts e f h ends fit =
     (λ b. local_if c 1 0 (place.takes_declarations && starts_declaration sign is_type colon) (λ unit us ys. declaration_begun limit unit scope ys) (λ unit us ys. begun_within limit place sign (is_label sign is_type colon) scope ys) unit us ts
     (λ d. seq c 0 1 0 1 0 0 (λ unit us ys. declaration_read limit unit scope ys) (λ unit us x. Ok (begun_decl x.0, x.1, x.2)) unit us ts (omega arith) (omega (arith, low)) (omega arith) ends (declaration_by limit c c scope unit us ts ends fit (omega arith) (typed_by limit c sign is_type colon scope unit us ts e f (both_true place.takes_declarations (starts_declaration sign is_type colon) d) h ends))
     (λ x inner rest left short. done 0 0 (begun_decl x) inner unit us rest left))
-    (λ d. local_if c 1 0 (nat_le place.around (limit - least_depth sign (is_label sign is_type colon))) (λ unit us ys. statement_begun limit sign (is_label sign is_type colon) scope ys) (λ unit us ys. Err (large Depth 257)) unit us ts
+    (λ d. local_if c 1 0 (nat_le (place.around + least_depth sign (is_label sign is_type colon)) limit) (λ unit us ys. statement_begun limit sign (is_label sign is_type colon) scope ys) (λ unit us ys. Err (large Depth 257)) unit us ts
     (λ w. statement_by limit c sign is_type colon scope unit us ts e f h ends)
     (λ w. too_deep c 1 0 unit us ts ends)))
 

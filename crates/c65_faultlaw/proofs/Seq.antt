@@ -32,7 +32,7 @@ then_same m k j read g ts a rest scope w before next others unit us more d low a
     ∙ (ap (λ x. x >>= g unit us) (w.again unit us same.0 (subst (λ xs. length xs ≤ length unit) whole fit) (subst (λ xs. k + length xs ≤ length us) whole room))
     ∙ (ap (λ xs. g unit us (a, xs, scope)) (sym same.1) ∙ h (omega (arith, fit_parts, long)) (omega (arith, room_parts, long, low, some))))
 
-pub joined_fail : {A B : Type 0} (c b m k j : ℕ) (read : Reader (Triple A)) (g : List Token → List Token → Triple A → Result B Fault) (ts : List Token) (a : A) (rest : List Token) (scope : Blocks) (e : Fault) → j ≤ k + m → c ≤ m + b → Went m k read ts a rest scope → Failed b j (λ unit us ys. g unit us (a, ys, scope)) rest e
+abbrev pub joined_fail : {A B : Type 0} (c b m k j : ℕ) (read : Reader (Triple A)) (g : List Token → List Token → Triple A → Result B Fault) (ts : List Token) (a : A) (rest : List Token) (scope : Blocks) (e : Fault) → j ≤ k + m → c ≤ m + b → Went m k read ts a rest scope → Failed b j (λ unit us ys. g unit us (a, ys, scope)) rest e
     → Failed c k (λ unit us ys. read unit us ys >>= g unit us) ts e
 joined_fail c b m k j read g ts a rest scope e low early w f = record {
   before = w.before ++ f.before;
@@ -48,7 +48,7 @@ joined_fail c b m k j read g ts a rest scope e low early w f = record {
     later (inl x) = inl (let some = w.some in let long = length-append w.before f.before in omega (arith, some, long, early, x))
     later (inr x) = inr x
 
-joined : {A B : Type 0} (c b m n o k j : ℕ) (read : Reader (Triple A)) (g : List Token → List Token → Triple A → Answer B) (ts : List Token) (a : A) (rest : List Token) (scope : Blocks) (s : Answer B) → j ≤ k + m → c ≤ m + b → o ≤ m + n → Went m k read ts a rest scope → Is b n j (λ unit us ys. g unit us (a, ys, scope)) rest s
+abbrev pub joined : {A B : Type 0} (c b m n o k j : ℕ) (read : Reader (Triple A)) (g : List Token → List Token → Triple A → Answer B) (ts : List Token) (a : A) (rest : List Token) (scope : Blocks) (s : Answer B) → j ≤ k + m → c ≤ m + b → o ≤ m + n → Went m k read ts a rest scope → Is b n j (λ unit us ys. g unit us (a, ys, scope)) rest s
     → Is c o k (λ unit us ys. read unit us ys >>= g unit us) ts s
 joined c b m n o k j read g ts a rest scope (Err e) low early up w f = joined_fail c b m k j read g ts a rest scope e low early w f
 joined c b m n o k j read g ts a rest scope (Ok (x, left, inner)) low early up w f = record {
@@ -61,7 +61,7 @@ joined c b m n o k j read g ts a rest scope (Ok (x, left, inner)) low early up w
   again = λ unit us more fit room. then_same m k j read g ts a rest scope w f.before f.next f.others unit us more (Ok (x, f.next ∷ more, inner)) low f.tokens_are (λ x y. f.again unit us more x y) fit room;
 }
 
-pub failed_first : {A B : Type 0} (c k : ℕ) (read : Reader A) (g : List Token → List Token → A → Result B Fault) (ts : List Token) (e : Fault) → Failed c k read ts e → Failed c k (λ unit us ys. read unit us ys >>= g unit us) ts e
+abbrev pub failed_first : {A B : Type 0} (c k : ℕ) (read : Reader A) (g : List Token → List Token → A → Result B Fault) (ts : List Token) (e : Fault) → Failed c k read ts e → Failed c k (λ unit us ys. read unit us ys >>= g unit us) ts e
 failed_first c k read g ts e f = record { before = f.before; next = f.next; others = f.others; tokens_are = f.tokens_are; fault_is = f.fault_is; late = f.late; again = λ unit us more fit room. ap (λ x. x >>= g unit us) (f.again unit us more fit room) }
 
 pub rest_ends : {A : Type 0} (m k : ℕ) (read : Reader (Triple A)) (ts : List Token) (a : A) (rest : List Token) (scope : Blocks) → EndsIn ts → Went m k read ts a rest scope → EndsIn rest
@@ -110,7 +110,7 @@ tail [] = []
 tail (x ∷ xs) = xs
 
 -- the steps that are left behind one
-tailed_by : {A : Type 0} (c m : ℕ) (read : Reader (Triple A)) (ts : List Token) (r : Answer A) → Is c m 0 read ts r → Is c m 1 (λ unit us ys. read unit (tail us) ys) ts r
+abbrev pub tailed_by : {A : Type 0} (c m : ℕ) (read : Reader (Triple A)) (ts : List Token) (r : Answer A) → Is c m 0 read ts r → Is c m 1 (λ unit us ys. read unit (tail us) ys) ts r
 tailed_by c m read ts (Ok (a, rest, scope)) h = record { before = h.before; next = h.next; others = h.others; tokens_are = h.tokens_are; rest_is = h.rest_is; some = h.some; again = λ unit us more fit room. h.again unit (tail us) more fit (short us (length (h.before ++ h.next ∷ more)) room) }
   where
     short : (us : List Token) (n : ℕ) → 1 + n ≤ length us → 0 + n ≤ length (tail us)
@@ -126,7 +126,7 @@ pub tailed : {A : Type 0} (c m : ℕ) (read : Reader (Triple A)) (unit : List To
 tailed c m read unit u us ts h = tailed_by c m read ts (read unit us ts) h
 
 -- as many steps as the unit has tokens
-all_by : {A : Type 0} (c m : ℕ) (read : Reader (Triple A)) (ts : List Token) (r : Answer A) → Is c m 0 read ts r → Is c m 0 (λ unit us ys. read unit unit ys) ts r
+abbrev pub all_by : {A : Type 0} (c m : ℕ) (read : Reader (Triple A)) (ts : List Token) (r : Answer A) → Is c m 0 read ts r → Is c m 0 (λ unit us ys. read unit unit ys) ts r
 all_by c m read ts (Ok (a, rest, scope)) h = record { before = h.before; next = h.next; others = h.others; tokens_are = h.tokens_are; rest_is = h.rest_is; some = h.some; again = λ unit us more fit room. h.again unit unit more fit (omega (arith, fit)) }
 all_by c m read ts (Err e) h = record { before = h.before; next = h.next; others = h.others; tokens_are = h.tokens_are; fault_is = h.fault_is; late = h.late; again = λ unit us more fit room. h.again unit unit more fit (omega (arith, fit)) }
 

@@ -17,7 +17,7 @@ use Rattle.c65_stmts.specs.declared.sign.Mark.TheVariants as marks
 use Rattle.c65_stmts.specs.Signs.{sign_of, is_mark}
 use Rattle.c65_stmts.specs.Lists.{OpenList, listed_open, with_initialiser, empty_list}
 use Rattle.c65_decl.specs.Here.{is_here, pos_here, expected}
-use Rattle.c65_decl.specs.Initialisers.{kept_within, element_read, brace_passed, behind_comma, list_end, lists_next, lists_closed, list_begun, initialiser_step, initialiser_next, initialiser_run, initialiser_read, optional_init_read}
+use Rattle.c65_decl.specs.Initialisers.{element_read, brace_passed, behind_comma, list_end, lists_next, lists_closed, list_begun, initialiser_step, initialiser_next, initialiser_run, initialiser_read, optional_init_read}
 use Rattle.c65_grammar.specs.Phrases.{token}
 use Rattle.c65_grammar.specs.Spellings.{comma_unless}
 use Rattle.c65_grammar.specs.Parts.{level, start}
@@ -52,16 +52,12 @@ abbrev pub ReadsInits : (limit : ℕ) → t.InitList → Type 0
 ReadsInits limit t.no_inits = Unit {0}
 ReadsInits limit (t.and_init is i) = (us : List Token) (l : Pos) (ls : List OpenList) (sc : Scope) (outer : Blocks) (xs rest : List Token) → initialisers sc (t.and_init is i) xs → inits_depth (t.and_init is i) + suc (length ls) ≤ limit → length (xs ++ rest) ≤ length us → Left rest → First EndsInit rest → InitsRun limit us l ls sc outer is i (xs ++ rest) rest
 
-kept : (limit : ℕ) (around : ℕ) (e : t.ExprTree) (rest : List Token) (scope : Blocks) → expr_depth e + around ≤ limit → kept_within around (e, rest, scope) ≡ Ok (e, rest, scope)
-kept limit around e rest scope h = ap (λ b. if b && nat_le (expr_depth e) (limit - around) then Ok (e, rest, scope) else Err (large Depth 257)) (le-leb around limit (omega (arith, h)))
-    ∙ ap (λ b. if b then Ok (e, rest, scope) else Err (large Depth 257)) (le-leb (expr_depth e) (limit - around) (omega (arith, h)))
-
 element_step : (limit : ℕ) (ls : List OpenList) (sc : Scope) (outer : Blocks) (l : Pos) (e : t.ExprTree) (xs : List Token) (r : Token) (rs : List Token) → start e ≡ l → 1 ≤ level e → g.expr sc e xs → expr_depth e + length ls ≤ limit → EndsInit r
     → initialiser_step limit ls (sc ∷ outer) (xs ++ r ∷ rs) ≡ lists_closed ls (t.value l e) (after sc e ∷ outer) (r ∷ rs)
 element_step limit ls sc outer l e xs r rs at high p deep f =
     unless (is_here marks.OpenBrace (xs ++ r ∷ rs)) (list_begun limit ls (sc ∷ outer) (xs ++ r ∷ rs)) (element_read limit (length ls) (sc ∷ outer) (xs ++ r ∷ rs) >>= (λ x. lists_closed ls (t.value (pos_here (xs ++ r ∷ rs)) x.0) x.2 x.1)) (not_here marks.OpenBrace sc xs (r ∷ rs) (record { name = λ n. refl; operand = refl; paren = refl }) (begins_expr e sc xs p))
     ∙ (next (element_read limit (length ls) (sc ∷ outer) (xs ++ r ∷ rs)) (e, r ∷ rs, after sc e ∷ outer) (λ x. lists_closed ls (t.value (pos_here (xs ++ r ∷ rs)) x.0) x.2 x.1) (lists_closed ls (t.value (pos_here (xs ++ r ∷ rs)) e) (after sc e ∷ outer) (r ∷ rs))
-    (next (expr_read limit 1 (sc ∷ outer) (xs ++ r ∷ rs)) (e, r ∷ rs, after sc e ∷ outer) (kept_within (length ls)) (Ok (e, r ∷ rs, after sc e ∷ outer)) (exprs_are_read limit 1 sc outer e xs r rs p high (omega (arith, deep)) (omega arith) f) (kept limit (length ls) e (r ∷ rs) (after sc e ∷ outer) deep)) refl
+    (exprs_are_read (limit - length ls) 1 sc outer e xs r rs p high (omega (arith, deep)) (omega arith) f) refl
     ∙ ap (λ k. lists_closed ls (t.value k e) (after sc e ∷ outer) (r ∷ rs)) (opens_here (λ tok. tok.pos ≡ start e) xs (r ∷ rs) (starts_expr e sc xs p) ∙ at))
 
 pub reads_value : (limit : ℕ) (l : Pos) (e : t.ExprTree) → ReadsInit limit (t.value l e)
@@ -110,11 +106,11 @@ comma_more scope j sc xs rest o left =
     comma_passed scope j (xs ++ rest) (left_more xs rest left)
     ∙ unless (is_here marks.CloseBrace (xs ++ rest)) (brace_passed scope (xs ++ rest)) (Ok (false, xs ++ rest, scope)) (opens_here (λ tok. InitKind sc tok.kind) xs rest o)
 
-open_step : (limit : ℕ) (ls : List OpenList) (sc : Scope) (outer : Blocks) (l : Pos) (ts : List Token) → Left ts → length ls ≤ 254 → initialiser_step limit ls (sc ∷ outer) (token (kinds.Punct puncts.OpenBrace) l ∷ ts) ≡ Ok (listed_open (empty_list l ∷ ls), ts, sc ∷ outer)
+open_step : (limit : ℕ) (ls : List OpenList) (sc : Scope) (outer : Blocks) (l : Pos) (ts : List Token) → Left ts → length ls + 2 ≤ limit → initialiser_step limit ls (sc ∷ outer) (token (kinds.Punct puncts.OpenBrace) l ∷ ts) ≡ Ok (listed_open (empty_list l ∷ ls), ts, sc ∷ outer)
 open_step limit ls sc outer l ts left deep =
     let tok : Token = token (kinds.Punct puncts.OpenBrace) l in
     when (is_here marks.OpenBrace (tok ∷ ts)) (list_begun limit ls (sc ∷ outer) (tok ∷ ts)) (element_read limit (length ls) (sc ∷ outer) (tok ∷ ts) >>= (λ x. lists_closed ls (t.value (pos_here (tok ∷ ts)) x.0) x.2 x.1)) (is_here_is marks.OpenBrace tok ts)
-    ∙ (when (nat_le (length ls) 254) (Ok (listed_open (empty_list (pos_here (tok ∷ ts)) ∷ ls), after_token (tok ∷ ts), sc ∷ outer)) (Err (large Depth 257)) (le-leb (length ls) 254 deep)
+    ∙ (when (nat_le (length ls + 2) limit) (Ok (listed_open (empty_list (pos_here (tok ∷ ts)) ∷ ls), after_token (tok ∷ ts), sc ∷ outer)) (Err (large Depth 257)) (le-leb (length ls + 2) limit deep)
     ∙ (ap (λ x. Ok (listed_open (empty_list x.pos ∷ ls), after_token (tok ∷ ts), sc ∷ outer)) (here_is tok ts)
     ∙ ap (λ x. Ok (listed_open (empty_list l ∷ ls), x, sc ∷ outer)) (passed tok ts left)))
 

@@ -47,7 +47,7 @@ started limit unit fs scope s is_type colon label ts h deep =
     unless (place.in_block && is_mark marks.CloseBrace s) (Ok (closed_here scope ts)) (begun_inside limit unit place s is_type colon scope ts) (and_right place.in_block (is_mark marks.CloseBrace s) h.no_close)
     ∙ (unless (place.takes_declarations && starts_declaration s is_type colon) (declaration_begun limit unit scope ts) (begun_within limit place s (is_label s is_type colon) scope ts) (and_right place.takes_declarations (starts_declaration s is_type colon) h.no_decl)
     ∙ (ap (λ b. begun_within limit place s b scope ts) h.labelled
-    ∙ when (nat_le place.around (limit - least_depth s label)) (statement_begun limit s label scope ts) (Err (large Depth 257)) (le-leb place.around (limit - least_depth s label) (omega (arith, deep, around)))))
+    ∙ when (nat_le (place.around + least_depth s label) limit) (statement_begun limit s label scope ts) (Err (large Depth 257)) (le-leb (place.around + least_depth s label) limit (omega (arith, deep, around)))))
 
 -- a word or a brace that begins a statement
 pub record IsWord (s : Sign) (w : Word) : Type 0 where
