@@ -204,7 +204,8 @@ fn close(
 #[tactic(auto, unfolding(crate::specs::Declarators::declarator_end))]
 pub fn after_declarator(
     alloc: Global,
-    limit: u16, frames: Vec<Frame>,
+    limit: u16,
+    frames: Vec<Frame>,
     d: MeasuredDeclarator,
     pos: Pos,
     sign: Sign,
@@ -238,7 +239,8 @@ pub fn after_declarator(
 #[tactic(auto, unfolding(crate::specs::Declarators::without_name))]
 fn unnamed(
     alloc: Global,
-    limit: u16, frames: Vec<Frame>,
+    limit: u16,
+    frames: Vec<Frame>,
     is_optional: bool,
     pos: Pos,
     sign: Sign,
@@ -246,7 +248,14 @@ fn unnamed(
     ensures { IfOk result (λ n. next_of n ≡ without_name limit is_optional (stack_of frames.items) pos sign) }
 {
     if is_optional {
-        after_declarator(alloc, limit, frames, MeasuredDeclarator::nameless(pos), pos, sign)
+        after_declarator(
+            alloc,
+            limit,
+            frames,
+            MeasuredDeclarator::nameless(pos),
+            pos,
+            sign,
+        )
     } else {
         Ok(Step::Fail)
     }
@@ -266,7 +275,8 @@ fn group(frames: Vec<Frame>, sort: Sort, pos: Pos) -> Result<Step, AllocError>
 #[tactic(auto, unfolding(crate::specs::Declarators::declarator_step))]
 pub fn declarator(
     alloc: Global,
-    limit: u16, frames: Vec<Frame>,
+    limit: u16,
+    frames: Vec<Frame>,
     sort: Sort,
     pos: Pos,
     sign: Sign,

@@ -13,7 +13,7 @@ mod state;
 mod step;
 
 pub use parser::{
-    parse_assignment, parse_assignment_within, parse_constant, parse_declarator, parse_expr, parse_specifiers,
-    parse_type_name, parse_untyped_declarator,
+    parse_assignment, parse_assignment_within, parse_constant, parse_declarator, parse_expr,
+    parse_specifiers, parse_type_name, parse_untyped_declarator,
 };
 pub use state::Parser;

@@ -92,7 +92,8 @@ fn begin(limit: u16, frames: Vec<Frame>, pos: Pos, sign: Sign) -> Result<Step, A
 #[tactic(auto, unfolding(crate::specs::Expressions::operand_step))]
 pub fn operand(
     alloc: Global,
-    limit: u16, frames: Vec<Frame>,
+    limit: u16,
+    frames: Vec<Frame>,
     token: &Token,
     sign: Sign,
 ) -> Result<Step, AllocError>
@@ -433,7 +434,8 @@ fn close(alloc: Global, frames: Vec<Frame>, e: MeasuredExpr, sign: Sign) -> Resu
 pub fn after_expr(
     alloc: Global,
     least: u32,
-    limit: u16, frames: Vec<Frame>,
+    limit: u16,
+    frames: Vec<Frame>,
     e: MeasuredExpr,
     pos: Pos,
     sign: Sign,

@@ -22,7 +22,8 @@ use std::alloc::{AllocError, Global};
 #[tactic(auto, unfolding(crate::specs::Specifiers::member_step))]
 pub fn member(
     alloc: Global,
-    limit: u16, frames: Vec<Frame>,
+    limit: u16,
+    frames: Vec<Frame>,
     part: MembersPart,
     pos: Pos,
     sign: Sign,
@@ -44,7 +45,8 @@ pub fn member(
 #[tactic(auto, unfolding(crate::specs::Specifiers::end_listed))]
 fn after_specifiers(
     alloc: Global,
-    limit: u16, frames: Vec<Frame>,
+    limit: u16,
+    frames: Vec<Frame>,
     specifiers: MeasuredSpecifiers,
     pos: Pos,
     sign: Sign,
@@ -90,7 +92,8 @@ fn after_specifiers(
 #[tactic(auto, unfolding(crate::specs::Specifiers::end_specifiers))]
 fn end_specifiers(
     alloc: Global,
-    limit: u16, frames: Vec<Frame>,
+    limit: u16,
+    frames: Vec<Frame>,
     listing: Listing,
     pos: Pos,
     sign: Sign,
@@ -112,7 +115,8 @@ fn end_specifiers(
 #[tactic(auto, unfolding(crate::specs::Specifiers::specifiers_step))]
 pub fn specifiers(
     alloc: Global,
-    limit: u16, frames: Vec<Frame>,
+    limit: u16,
+    frames: Vec<Frame>,
     listing: Listing,
     pos: Pos,
     sign: Sign,
@@ -196,7 +200,8 @@ impl Body {
 #[tactic(auto, unfolding(crate::specs::Specifiers::open_body))]
 fn braced(
     alloc: Global,
-    limit: u16, frames: Vec<Frame>,
+    limit: u16,
+    frames: Vec<Frame>,
     part: TagPart,
     tag: Option<Name>,
 ) -> Result<Step, AllocError>
@@ -216,7 +221,13 @@ fn braced(
 
 /// Behind a structure's, a union's or an enumeration's word.
 #[tactic(auto, unfolding(crate::specs::Specifiers::tag_step))]
-pub fn tag(alloc: Global, limit: u16, frames: Vec<Frame>, part: TagPart, sign: Sign) -> Result<Step, AllocError>
+pub fn tag(
+    alloc: Global,
+    limit: u16,
+    frames: Vec<Frame>,
+    part: TagPart,
+    sign: Sign,
+) -> Result<Step, AllocError>
     ensures { IfOk result (λ n. next_of n ≡ tag_step limit (tag_part_of part) (stack_of frames.items) sign) }
 {
     match sign {
@@ -230,7 +241,8 @@ pub fn tag(alloc: Global, limit: u16, frames: Vec<Frame>, part: TagPart, sign: S
 #[tactic(auto, unfolding(crate::specs::Specifiers::tag_name_step))]
 pub fn tag_name(
     alloc: Global,
-    limit: u16, frames: Vec<Frame>,
+    limit: u16,
+    frames: Vec<Frame>,
     part: TagPart,
     name: Name,
     pos: Pos,
@@ -251,7 +263,8 @@ pub fn tag_name(
 #[tactic(auto, unfolding(crate::specs::Specifiers::more_members_step))]
 pub fn more_members(
     alloc: Global,
-    limit: u16, frames: Vec<Frame>,
+    limit: u16,
+    frames: Vec<Frame>,
     body: Body,
     pos: Pos,
     sign: Sign,
@@ -286,7 +299,8 @@ pub fn enumerator(frames: Vec<Frame>, part: EnumPart, pos: Pos, sign: Sign) -> S
 /// Behind an enumerator's name.
 #[tactic(auto, unfolding(crate::specs::Specifiers::enumerator_name_step))]
 pub fn enumerator_name(
-    limit: u16, frames: Vec<Frame>,
+    limit: u16,
+    frames: Vec<Frame>,
     part: EnumPart,
     name: Name,
     pos: Pos,

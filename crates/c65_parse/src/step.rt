@@ -28,7 +28,8 @@ use std::alloc::{AllocError, Global};
 #[tactic(auto, unfolding(crate::specs::Machine::opened_step))]
 fn opened(
     alloc: Global,
-    limit: u16, frames: Vec<Frame>,
+    limit: u16,
+    frames: Vec<Frame>,
     pos: Pos,
     token: &Token,
     sign: Sign,
@@ -44,14 +45,22 @@ fn opened(
         return Ok(Step::Fail);
     }
     frames.push(Frame::Type(pos, TypeUse::Cast))?;
-    specifiers(alloc, limit, frames, Listing::new(alloc, false), token.pos, sign)
+    specifiers(
+        alloc,
+        limit,
+        frames,
+        Listing::new(alloc, false),
+        token.pos,
+        sign,
+    )
 }
 
 /// Behind `sizeof`.
 #[tactic(auto, unfolding(crate::specs::Machine::sizeof_step))]
 fn sizeof_word(
     alloc: Global,
-    limit: u16, frames: Vec<Frame>,
+    limit: u16,
+    frames: Vec<Frame>,
     pos: Pos,
     token: &Token,
     sign: Sign,
@@ -73,7 +82,8 @@ fn sizeof_word(
 #[tactic(auto, unfolding(crate::specs::Machine::sizeof_opened_step))]
 fn sizeof_opened(
     alloc: Global,
-    limit: u16, frames: Vec<Frame>,
+    limit: u16,
+    frames: Vec<Frame>,
     pos: Pos,
     paren: Pos,
     token: &Token,
@@ -84,7 +94,14 @@ fn sizeof_opened(
     let mut frames = frames;
     if sign.begins_type() {
         frames.push(Frame::Type(pos, TypeUse::Sizeof))?;
-        return specifiers(alloc, limit, frames, Listing::new(alloc, false), token.pos, sign);
+        return specifiers(
+            alloc,
+            limit,
+            frames,
+            Listing::new(alloc, false),
+            token.pos,
+            sign,
+        );
     }
     let operation = Operation::Prefix(pos, Prefix::Sizeof);
     frames.push(Frame::Operation(operation))?;
@@ -96,7 +113,8 @@ fn sizeof_opened(
 #[tactic(auto, unfolding(crate::specs::Machine::called_step))]
 fn called(
     alloc: Global,
-    limit: u16, frames: Vec<Frame>,
+    limit: u16,
+    frames: Vec<Frame>,
     pos: Pos,
     f: MeasuredExpr,
     token: &Token,
@@ -151,7 +169,8 @@ struct Star {
 #[tactic(auto, unfolding(crate::specs::Machine::qualifiers_step))]
 fn qualifiers(
     alloc: Global,
-    limit: u16, frames: Vec<Frame>,
+    limit: u16,
+    frames: Vec<Frame>,
     star: Star,
     sort: Sort,
     pos: Pos,
@@ -193,7 +212,8 @@ fn with_block(step: Step) -> Step
 #[tactic(auto, unfolding(crate::specs::Machine::params_step))]
 fn params(
     alloc: Global,
-    limit: u16, frames: Vec<Frame>,
+    limit: u16,
+    frames: Vec<Frame>,
     at: Pos,
     d: MeasuredDeclarator,
     pos: Pos,
@@ -216,7 +236,8 @@ fn params(
 #[tactic(auto, unfolding(crate::specs::Machine::opened_declarator_step))]
 fn opened_declarator(
     alloc: Global,
-    limit: u16, frames: Vec<Frame>,
+    limit: u16,
+    frames: Vec<Frame>,
     at: Pos,
     sort: Sort,
     pos: Pos,
@@ -233,7 +254,8 @@ fn opened_declarator(
     if sign.begins_specifiers() {
         return params(
             alloc,
-            limit, frames,
+            limit,
+            frames,
             at,
             MeasuredDeclarator::nameless(at),
             pos,
@@ -248,7 +270,8 @@ fn opened_declarator(
 #[tactic(auto, unfolding(crate::specs::Machine::opened_bound_step))]
 fn opened_bound(
     alloc: Global,
-    limit: u16, frames: Vec<Frame>,
+    limit: u16,
+    frames: Vec<Frame>,
     at: Pos,
     d: MeasuredDeclarator,
     token: &Token,
@@ -292,7 +315,8 @@ fn first_name(
 #[tactic(auto, unfolding(crate::specs::Machine::opened_params_step))]
 fn opened_params(
     alloc: Global,
-    limit: u16, frames: Vec<Frame>,
+    limit: u16,
+    frames: Vec<Frame>,
     at: Pos,
     d: MeasuredDeclarator,
     pos: Pos,
@@ -326,7 +350,8 @@ fn opened_params(
 #[tactic(auto, unfolding(crate::specs::Machine::more_params_step))]
 fn more_params(
     alloc: Global,
-    limit: u16, frames: Vec<Frame>,
+    limit: u16,
+    frames: Vec<Frame>,
     part: ParamsPart,
     pos: Pos,
     sign: Sign,
@@ -418,17 +443,21 @@ pub fn take(
         Held::Operand => operand(alloc, limit, frames, token, sign),
         Held::Opened(at) => opened(alloc, limit, frames, at, token, sign),
         Held::Sizeof(at) => sizeof_word(alloc, limit, frames, at, token, sign),
-        Held::SizeofOpened(at, paren) => sizeof_opened(alloc, limit, frames, at, paren, token, sign),
+        Held::SizeofOpened(at, paren) => sizeof_opened(
+            alloc, limit, frames, at, paren, token, sign,
+        ),
         Held::Called(at, f) => called(alloc, limit, frames, at, f, token, sign),
         Held::Dotted(at, arrow, e) => dotted(alloc, frames, at, arrow, e, sign),
-        Held::Expr(e) => after_expr(alloc, limit, least, frames, e, pos, sign),
+        Held::Expr(e) => after_expr(alloc, least, limit, frames, e, pos, sign),
         Held::Specifiers(listing) => specifiers(alloc, limit, frames, listing, pos, sign),
         Held::Tag(part) => tag(alloc, limit, frames, part, sign),
         Held::TagName(part, name) => tag_name(alloc, limit, frames, part, name, pos, sign),
         Held::MoreMembers(body) => more_members(alloc, limit, frames, body, pos, sign),
         Held::Member(part) => member(alloc, limit, frames, part, pos, sign),
         Held::Enumerator(part) => Ok(enumerator(frames, part, pos, sign)),
-        Held::EnumeratorName(part, name, at) => enumerator_name(limit, frames, part, name, at, sign),
+        Held::EnumeratorName(part, name, at) => enumerator_name(
+            limit, frames, part, name, at, sign,
+        ),
         Held::Declarator(sort) => declarator(alloc, limit, frames, sort, pos, sign),
         Held::Qualifiers(at, constant, volatile, sort) => {
             let star = Star {

@@ -1,7 +1,7 @@
 // How deep each thing that nests may nest: 256 levels, and no depth overflows the host's stack.
 use crate::parts::{Part, root};
 use crate::words::{Nest, TOO_DEEP, nested};
-use c65_base::Refusal;
+use c65_base::{Code, Refusal};
 use c65_decl::parse_unit;
 use c65_parse::Parser;
 use c65_scan::Token;
@@ -61,6 +61,30 @@ const UNITS: [(Nest, u32); 3] = [
             before: "int x = { 1 , {",
             open: "(",
             middle: "1",
+            close: ")",
+            behind: "} } ;",
+        },
+        253,
+    ),
+];
+
+// Each with a fault in the middle, and the most levels before which it stands.
+const FAULTS: [(Nest, u32); 2] = [
+    (
+        Nest {
+            before: "f ( ) {",
+            open: "{",
+            middle: ")",
+            close: "}",
+            behind: "}",
+        },
+        255,
+    ),
+    (
+        Nest {
+            before: "int x = { 1 , {",
+            open: "(",
+            middle: "1 1",
             close: ")",
             behind: "} } ;",
         },
@@ -146,6 +170,26 @@ fn units_nest_to_the_limit(rt: HostRuntime) -> Result<(), Fail> {
             let answer = parse_unit(rt.alloc(), &tokens);
             assert!(rt; answer.err() == Some(TOO_DEEP), "{} {times}", nest.before);
         }
+    }
+    Ok(())
+}
+
+#[test]
+fn the_first_of_depth_and_a_fault_is_refused(rt: HostRuntime) -> Result<(), Fail> {
+    for (nest, most) in &FAULTS {
+        let tokens = nested(rt.alloc(), nest, *most)?;
+        let answer = parse_unit(rt.alloc(), &tokens);
+        let is_fault = matches!(
+            answer,
+            Err(Refusal::At {
+                code: Code::Syntax,
+                ..
+            })
+        );
+        assert!(rt; is_fault, "{}", nest.before);
+        let tokens = nested(rt.alloc(), nest, most.saturating_add(1))?;
+        let answer = parse_unit(rt.alloc(), &tokens);
+        assert!(rt; answer.err() == Some(TOO_DEEP), "{}", nest.before);
     }
     Ok(())
 }
