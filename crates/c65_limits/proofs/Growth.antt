@@ -1,0 +1,26 @@
+-- Readings that a greater limit changes only where they are too deep, one after another.
+use Rattle.std.proofs.Common.{ℕ, inl, inr, Bool, true, false, refl, ap, subst}
+use Rattle.std.specs.Prelude.{Result, Ok, Err, if◌then◌else◌}
+use Rattle.c65_base.specs.Answers.{Fault, ◌>>=◌}
+use Rattle.c65_limits.specs.Grows.{Grows, Growing}
+
+-- what does not depend on the limit
+pub same_grows : {A : Type 0} (r : Result A Fault) → Growing (λ limit. r)
+same_grows r limit more fits = inr refl
+
+behind_grows : {A B : Type 0} (r : Result A Fault) (f g : A → Result B Fault) → ((a : A) → Grows (f a) (g a)) → Grows (r >>= f) (r >>= g)
+behind_grows (Ok a) f g k = k a
+behind_grows (Err e) f g k = inr refl
+
+both_grow : {A B : Type 0} (r s : Result A Fault) (f g : A → Result B Fault) → Grows r s → ((a : A) → Grows (f a) (g a)) → Grows (r >>= f) (s >>= g)
+both_grow r s f g (inl low) k = inl (ap (λ x. x >>= f) low)
+both_grow r s f g (inr same) k = subst (λ x. Grows (r >>= f) (x >>= g)) same (behind_grows r f g k)
+
+-- one reading behind another
+pub then_grows : {A B : Type 0} (r : ℕ → Result A Fault) (f : ℕ → A → Result B Fault) → Growing r → ((a : A) → Growing (λ limit. f limit a)) → Growing (λ limit. r limit >>= f limit)
+then_grows r f h k limit more fits = both_grow (r limit) (r more) (f limit) (f more) (h limit more fits) (λ a. k a limit more fits)
+
+-- one reading or another
+pub if_grows : {A : Type 0} (b : Bool) (r s : ℕ → Result A Fault) → Growing r → Growing s → Growing (λ limit. if b then r limit else s limit)
+if_grows true r s h k = h
+if_grows false r s h k = k

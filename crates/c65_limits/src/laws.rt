@@ -1,0 +1,22 @@
+// That a greater limit of depth changes nothing but faults of depth.
+ghost use Rattle.c65_limits.specs.Grows.{ExprsGrow, SpecifiersGrow, DeclaratorsGrow, TypesGrow};
+
+/// An expression (C90 6.3), an assignment expression or a constant expression.
+pub fn expressions_grow()
+    ensures { ExprsGrow }
+{}
+
+/// Declaration specifiers (C90 6.5), or none.
+pub fn specifiers_grow()
+    ensures { SpecifiersGrow }
+{}
+
+/// A declarator (C90 6.5.4) of any sort.
+pub fn declarators_grow()
+    ensures { DeclaratorsGrow }
+{}
+
+/// A type name (C90 6.5.5).
+pub fn types_grow()
+    ensures { TypesGrow }
+{}

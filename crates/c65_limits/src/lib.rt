@@ -1,0 +1,8 @@
+//! What a greater limit of depth changes in what is read: nothing but faults of depth.
+//!
+//! Each law is the contract of a function that does nothing.
+#![tactic(auto)]
+
+mod laws;
+
+pub use laws::{declarators_grow, expressions_grow, specifiers_grow, types_grow};
