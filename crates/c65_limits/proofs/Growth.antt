@@ -1,7 +1,9 @@
 -- Readings that a greater limit changes only where they are too deep, one after another.
-use Rattle.std.proofs.Common.{ℕ, inl, inr, Bool, true, false, refl, ap, subst}
-use Rattle.std.specs.Prelude.{Result, Ok, Err, if◌then◌else◌}
-use Rattle.c65_base.specs.Answers.{Fault, ◌>>=◌}
+use Rattle.std.proofs.Common.{◌≡◌, ℕ, ◌≤◌, inl, inr, Bool, true, false, refl, sym, ap, subst, arith}
+use Rattle.std.proofs.lemmas.Bool.{leb-true, le-leb}
+use Rattle.std.specs.Prelude.{nat_le, Result, Ok, Err, if◌then◌else◌}
+use Rattle.c65_base.specs.Answers.{Fault, large, ◌>>=◌}
+use Rattle.c65_base.specs.declared.refusal.Size.TheVariants.{Depth}
 use Rattle.c65_limits.specs.Grows.{Grows, Growing}
 
 -- what does not depend on the limit
@@ -24,3 +26,11 @@ then_grows r f h k limit more fits = both_grow (r limit) (r more) (f limit) (f m
 pub if_grows : {A : Type 0} (b : Bool) (r s : ℕ → Result A Fault) → Growing r → Growing s → Growing (λ limit. if b then r limit else s limit)
 if_grows true r s h k = h
 if_grows false r s h k = k
+
+fits_grow : {A : Type 0} (need limit more : ℕ) (r s : Result A Fault) → limit ≤ more → Grows r s → (b : Bool) → nat_le need limit ≡ b → Grows (if b then r else Err (large Depth 257)) (if nat_le need more then s else Err (large Depth 257))
+fits_grow need limit more r s fits h true e = subst (λ c. Grows r (if c then s else Err (large Depth 257))) (sym (le-leb need more (let low = leb-true need limit e in omega (arith, low, fits)))) h
+fits_grow need limit more r s fits h false e = inl refl
+
+-- only within limits from some number on
+pub within_grows : {A : Type 0} (need : ℕ) (r : ℕ → Result A Fault) → Growing r → Growing (λ limit. if nat_le need limit then r limit else Err (large Depth 257))
+within_grows need r h limit more fits = fits_grow need limit more (r limit) (r more) fits (h limit more fits) (nat_le need limit) refl

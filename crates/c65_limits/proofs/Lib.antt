@@ -6,3 +6,8 @@ pub mod Steps
 pub mod Runs
 pub mod Growth
 pub mod Readings
+pub mod Inits
+pub mod Decls
+pub mod Openings
+pub mod Statements
+pub mod Units

@@ -1,5 +1,6 @@
 // That a greater limit of depth changes nothing but faults of depth.
 ghost use Rattle.c65_limits.specs.Grows.{ExprsGrow, SpecifiersGrow, DeclaratorsGrow, TypesGrow};
+ghost use Rattle.c65_limits.specs.Units.{InitialisersGrow, DeclarationsGrow, StatementsGrow, UnitsGrow};
 
 /// An expression (C90 6.3), an assignment expression or a constant expression.
 pub fn expressions_grow()
@@ -19,4 +20,24 @@ pub fn declarators_grow()
 /// A type name (C90 6.5.5).
 pub fn types_grow()
     ensures { TypesGrow }
+{}
+
+/// An initialiser (C90 6.5.7).
+pub fn initialisers_grow()
+    ensures { InitialisersGrow }
+{}
+
+/// A declaration (C90 6.5).
+pub fn declarations_grow()
+    ensures { DeclarationsGrow }
+{}
+
+/// A statement (C90 6.6).
+pub fn statements_grow()
+    ensures { StatementsGrow }
+{}
+
+/// A unit (C90 6.7).
+pub fn units_grow()
+    ensures { UnitsGrow }
 {}

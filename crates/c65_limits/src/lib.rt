@@ -5,4 +5,7 @@
 
 mod laws;
 
-pub use laws::{declarators_grow, expressions_grow, specifiers_grow, types_grow};
+pub use laws::{
+    declarations_grow, declarators_grow, expressions_grow, initialisers_grow, specifiers_grow,
+    statements_grow, types_grow, units_grow,
+};
