@@ -1,4 +1,5 @@
 -- Each tree is read.
+use Rattle.std.specs.Prelude.{ℕ}
 use Rattle.c65_tree.specs.Trees as t
 use Rattle.c65_complete.proofs.Readings.{ReadsExpr, ReadsMaybe, ReadsExprs, ReadsType, ReadsList, ReadsSpecifiers, ReadsSpecifier, ReadsDecls, ReadsMembers_in, ReadsMembers, ReadsEnumerators, ReadsEnumerators_in, ReadsDeclarator, ReadsMaybeDeclarator, ReadsParams, ReadsParamsTree}
 use Rattle.c65_complete.proofs.Exprs.{reads_name, reads_number, reads_text, reads_index, reads_member, reads_step, reads_unary, reads_binary, reads_and, reads_or, reads_conditional, reads_assign, reads_comma}

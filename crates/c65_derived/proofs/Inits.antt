@@ -1,15 +1,14 @@
 -- Initialisers.
-use Rattle.std.proofs.Common.{◌≡◌, ℕ, ◌≤◌, List, [], ◌∷◌, ◌++◌, length, Bool, true, false, refl, sym, ap, ◌∙◌, subst, append_assoc, arith}
+use Rattle.std.proofs.Common.{◌≡◌, ℕ, ◌+◌, ◌≤◌, List, [], ◌∷◌, ◌++◌, length, Bool, true, false, refl, sym, ap, ◌∙◌, subst, append_assoc, arith}
 use Rattle.std.proofs.lemmas.List.{append-nil}
-use Rattle.std.specs.Prelude.{Ok, Err, None, Some, nat_le, ◌&&◌, ◌-◌}
+use Rattle.std.specs.Prelude.{Ok, Err, None, Some, nat_le, ◌-◌}
 use Rattle.c65_base.specs.Answers.{large, ◌>>=◌}
 use Rattle.c65_base.specs.declared.refusal.Size.TheVariants.{Depth}
 use Rattle.c65_scan.specs.declared.token.Punct.TheVariants as puncts
 use Rattle.c65_scan.specs.declared.token.Token.{Token}
 use Rattle.c65_tree.specs.Trees as t
-use Rattle.c65_tree.specs.Depth.{expr_depth}
 use Rattle.c65_scopes.specs.Scopes.{Blocks}
-use Rattle.c65_parse.specs.Reading.{token_at, expr_read}
+use Rattle.c65_parse.specs.Reading.{token_at}
 use Rattle.c65_stmts.specs.declared.sign.Mark.TheVariants as marks
 use Rattle.c65_stmts.specs.Lists.{OpenList, Listed, listed_whole, listed_open, with_initialiser, empty_list}
 use Rattle.c65_decl.specs.Here.{is_here, pos_here}

@@ -35,7 +35,6 @@ use Rattle.c65_decl.specs.Units.{body_needed, function_read, declared_item, item
 use Rattle.c65_grammar.specs.Parts.{is_empty}
 use Rattle.c65_grammar.specs.Scopes.{no_types}
 use Rattle.c65_derived.specs.Units.{UnitsAreUnits}
-use Rattle.c65_derived.proofs.Statements.{both_true}
 use Rattle.c65_derived.proofs.Within.{Within, then_within, within_if, expr_within, specifiers_within, declarator_within}
 use Rattle.c65_derived.proofs.Units.{units_are_derived, ok_is}
 
@@ -69,8 +68,8 @@ case_within limit scope ts = mark_within (λ e. e) (SmallExpr limit) (SmallExpr 
 optional_within : (limit : ℕ) (mark : Mark) (scope : Blocks) (ts : List Token) → Within (SmallOption limit) (optional_read limit mark scope ts)
 optional_within limit mark scope ts = within_if (SmallOption limit) (is_here mark ts) (Ok (None, after_token ts, scope)) (ended_read limit mark scope ts) (λ e. omega arith) (λ e. mark_within Some (SmallExpr limit) (SmallOption limit) mark (expr_read limit 0 scope ts) (expr_within limit 0 scope ts) (λ e h. h))
 
-named_within : (limit : ℕ) (naming : Naming) (scope : Blocks) (ts : List Token) → Within (λ d. declarator_depth d ≤ limit) (named_read limit naming scope ts)
-named_within limit naming scope ts = then_within _ _ (declarator_read limit (sorts.Named naming.has_type) scope ts) _ (declarator_within limit (sorts.Named naming.has_type) scope ts) (λ d rest behind h. h)
+named_within : (limit : ℕ) (above : 1 ≤ limit) (naming : Naming) (scope : Blocks) (ts : List Token) → Within (λ d. declarator_depth d ≤ limit) (named_read limit naming scope ts)
+named_within limit above naming scope ts = then_within _ _ (declarator_read limit (sorts.Named naming.has_type) scope ts) _ (declarator_within limit above (sorts.Named naming.has_type) scope ts) (λ d rest behind h. h)
 
 -- initialisers
 abbrev ListsFit : (limit : ℕ) → List OpenList → Type 0
@@ -144,41 +143,41 @@ abbrev SmallProgress : (limit : ℕ) → Progress → Type 0
 SmallProgress limit (all_declared ds) = SmallDeclarators limit ds
 SmallProgress limit (more_declared ds e) = SmallDeclarators limit ds × (declarator_depth e ≤ limit)
 
-behind_within : (limit : ℕ) (naming : Naming) (ds : List t.InitDeclaratorTree) (scope : Blocks) (ts : List Token) → SmallDeclarators limit ds → Within (SmallProgress limit) (behind_declarator limit naming ds scope ts)
-behind_within limit naming ds scope ts h = within_if (SmallProgress limit) (is_here marks.Comma ts) (next_declarator limit naming ds scope (after_token ts)) (last_declarator ds scope ts)
-    (λ e. map_within (more_declared ds) (λ d. declarator_depth d ≤ limit) (SmallProgress limit) (named_read limit naming scope (after_token ts)) (named_within limit naming scope (after_token ts)) (λ d k. (h, k)))
+behind_within : (limit : ℕ) (above : 1 ≤ limit) (naming : Naming) (ds : List t.InitDeclaratorTree) (scope : Blocks) (ts : List Token) → SmallDeclarators limit ds → Within (SmallProgress limit) (behind_declarator limit naming ds scope ts)
+behind_within limit above naming ds scope ts h = within_if (SmallProgress limit) (is_here marks.Comma ts) (next_declarator limit naming ds scope (after_token ts)) (last_declarator ds scope ts)
+    (λ e. map_within (more_declared ds) (λ d. declarator_depth d ≤ limit) (SmallProgress limit) (named_read limit naming scope (after_token ts)) (named_within limit above naming scope (after_token ts)) (λ d k. (h, k)))
     (λ e. then_any (SmallProgress limit) (expected marks.Semicolon scope ts) (λ a. Ok (all_declared ds, a.0, a.1)) (λ a. h))
 
-declarators_step_within : (limit : ℕ) (unit : List Token) (naming : Naming) (ds : List t.InitDeclaratorTree) (e : t.DeclaratorTree) (scope : Blocks) (ts : List Token) → SmallDeclarators limit ds → declarator_depth e ≤ limit → Within (SmallProgress limit) (declarators_step limit unit naming ds e scope ts)
-declarators_step_within limit unit naming ds e scope ts h k = then_within (λ o. of_option init_depth o ≤ limit) (SmallProgress limit) (optional_init_read limit unit scope ts) (λ i. behind_declarator limit naming (with_declarator ds e i.0) i.2 i.1) (optional_init_within limit unit scope ts)
-    (λ i rest behind j. behind_within limit naming (with_declarator ds e i) behind rest (one_deeper limit init_declarator_depth ds (record { declarator = e; init = i }) h (omega (arith, k, j))))
+declarators_step_within : (limit : ℕ) (above : 1 ≤ limit) (unit : List Token) (naming : Naming) (ds : List t.InitDeclaratorTree) (e : t.DeclaratorTree) (scope : Blocks) (ts : List Token) → SmallDeclarators limit ds → declarator_depth e ≤ limit → Within (SmallProgress limit) (declarators_step limit unit naming ds e scope ts)
+declarators_step_within limit above unit naming ds e scope ts h k = then_within (λ o. of_option init_depth o ≤ limit) (SmallProgress limit) (optional_init_read limit unit scope ts) (λ i. behind_declarator limit naming (with_declarator ds e i.0) i.2 i.1) (optional_init_within limit unit scope ts)
+    (λ i rest behind j. behind_within limit above naming (with_declarator ds e i) behind rest (one_deeper limit init_declarator_depth ds (record { declarator = e; init = i }) h (omega (arith, k, j))))
 
 declarators_next_within : (limit : ℕ) (unit : List Token) (naming : Naming) (us : List Token) (r : Progress) (ts : List Token) (scope : Blocks) → SmallProgress limit r → ((ds : List t.InitDeclaratorTree) (e : t.DeclaratorTree) (scope : Blocks) (ts : List Token) → SmallDeclarators limit ds → declarator_depth e ≤ limit → Within (SmallDeclarators limit) (declarators_run limit unit naming us ds e scope ts)) → Within (SmallDeclarators limit) (declarators_next (declarators_run limit unit naming us) (r, ts, scope))
 declarators_next_within limit unit naming us (all_declared ds) ts scope h k = h
 declarators_next_within limit unit naming us (more_declared ds e) ts scope h k = k ds e scope ts h.0 h.1
 
-declarators_within : (limit : ℕ) (unit : List Token) (naming : Naming) (us : List Token) (ds : List t.InitDeclaratorTree) (e : t.DeclaratorTree) (scope : Blocks) (ts : List Token) → SmallDeclarators limit ds → declarator_depth e ≤ limit → Within (SmallDeclarators limit) (declarators_run limit unit naming us ds e scope ts)
-declarators_within limit unit naming [] ds e scope ts h k = tt
-declarators_within limit unit naming (u ∷ us) ds e scope ts h k = then_within (SmallProgress limit) (SmallDeclarators limit) (declarators_step limit unit naming ds e scope ts) (declarators_next (declarators_run limit unit naming us)) (declarators_step_within limit unit naming ds e scope ts h k) (λ r rest behind j. declarators_next_within limit unit naming us r rest behind j (λ es d inner vs p q. declarators_within limit unit naming us es d inner vs p q))
+declarators_within : (limit : ℕ) (above : 1 ≤ limit) (unit : List Token) (naming : Naming) (us : List Token) (ds : List t.InitDeclaratorTree) (e : t.DeclaratorTree) (scope : Blocks) (ts : List Token) → SmallDeclarators limit ds → declarator_depth e ≤ limit → Within (SmallDeclarators limit) (declarators_run limit unit naming us ds e scope ts)
+declarators_within limit above unit naming [] ds e scope ts h k = tt
+declarators_within limit above unit naming (u ∷ us) ds e scope ts h k = then_within (SmallProgress limit) (SmallDeclarators limit) (declarators_step limit unit naming ds e scope ts) (declarators_next (declarators_run limit unit naming us)) (declarators_step_within limit above unit naming ds e scope ts h k) (λ r rest behind j. declarators_next_within limit unit naming us r rest behind j (λ es d inner vs p q. declarators_within limit above unit naming us es d inner vs p q))
 
 abbrev SmallDecl : (limit : ℕ) → t.DeclTree → Type 0
 SmallDecl limit d = decl_depth d ≤ limit
 
-from_within : (limit : ℕ) (unit : List Token) (q : t.SpecifiersTree) (e : t.DeclaratorTree) (scope : Blocks) (ts : List Token) → specifiers_depth q ≤ limit → declarator_depth e ≤ limit → Within (SmallDecl limit) (declaration_from limit unit q e scope ts)
-from_within limit unit q e scope ts h k = map_within (λ ds. record { specifiers = q; declarators = ds }) (SmallDeclarators limit) (SmallDecl limit) (declarators_read limit unit (naming_of q) e scope ts) (declarators_within limit unit (naming_of q) unit [] e scope ts (omega arith) k) (λ ds j. omega (arith, h, j))
+from_within : (limit : ℕ) (above : 1 ≤ limit) (unit : List Token) (q : t.SpecifiersTree) (e : t.DeclaratorTree) (scope : Blocks) (ts : List Token) → specifiers_depth q ≤ limit → declarator_depth e ≤ limit → Within (SmallDecl limit) (declaration_from limit unit q e scope ts)
+from_within limit above unit q e scope ts h k = map_within (λ ds. record { specifiers = q; declarators = ds }) (SmallDeclarators limit) (SmallDecl limit) (declarators_read limit unit (naming_of q) e scope ts) (declarators_within limit above unit (naming_of q) unit [] e scope ts (omega arith) k) (λ ds j. omega (arith, h, j))
 
-declaration_within : (limit : ℕ) (unit : List Token) (scope : Blocks) (ts : List Token) → Within (SmallDecl limit) (declaration_read limit unit scope ts)
-declaration_within limit unit scope ts = then_within (λ q. specifiers_depth q ≤ limit) (SmallDecl limit) (specifiers_read limit scope ts) _ (specifiers_within limit scope ts)
+declaration_within : (limit : ℕ) (above : 1 ≤ limit) (unit : List Token) (scope : Blocks) (ts : List Token) → Within (SmallDecl limit) (declaration_read limit unit scope ts)
+declaration_within limit above unit scope ts = then_within (λ q. specifiers_depth q ≤ limit) (SmallDecl limit) (specifiers_read limit scope ts) _ (specifiers_within limit above scope ts)
     (λ q rest behind h. within_if (SmallDecl limit) (is_here marks.Semicolon rest) (Ok (empty_declaration q behind rest)) (declarators_begun limit unit q behind rest) (λ e. omega (arith, h))
-    (λ e. then_within (λ d. declarator_depth d ≤ limit) (SmallDecl limit) (named_read limit (naming_of q) behind rest) _ (named_within limit (naming_of q) behind rest) (λ d left inner k. from_within limit unit q d inner left h k)))
+    (λ e. then_within (λ d. declarator_depth d ≤ limit) (SmallDecl limit) (named_read limit (naming_of q) behind rest) _ (named_within limit above (naming_of q) behind rest) (λ d left inner k. from_within limit above unit q d inner left h k)))
 
 abbrev SmallDecls : (limit : ℕ) → List t.DeclTree → Type 0
 SmallDecls limit ds = deepest decl_depth ds ≤ limit
 
-declarations_within : (limit : ℕ) (unit : List Token) (us : List Token) (ds : List t.DeclTree) (scope : Blocks) (ts : List Token) → SmallDecls limit ds → Within (SmallDecls limit) (declarations_run limit unit us ds scope ts)
-declarations_within limit unit [] ds scope ts h = tt
-declarations_within limit unit (u ∷ us) ds scope ts h = within_if (SmallDecls limit) (begins_specifiers scope ts) (declaration_read limit unit scope ts >>= (λ e. declarations_run limit unit us (with_decl ds e.0) e.2 e.1)) (Ok (ds, ts, scope))
-    (λ e. then_within (SmallDecl limit) (SmallDecls limit) (declaration_read limit unit scope ts) _ (declaration_within limit unit scope ts) (λ d rest behind k. declarations_within limit unit us (with_decl ds d) behind rest (one_deeper limit decl_depth ds d h k)))
+declarations_within : (limit : ℕ) (above : 1 ≤ limit) (unit : List Token) (us : List Token) (ds : List t.DeclTree) (scope : Blocks) (ts : List Token) → SmallDecls limit ds → Within (SmallDecls limit) (declarations_run limit unit us ds scope ts)
+declarations_within limit above unit [] ds scope ts h = tt
+declarations_within limit above unit (u ∷ us) ds scope ts h = within_if (SmallDecls limit) (begins_specifiers scope ts) (declaration_read limit unit scope ts >>= (λ e. declarations_run limit unit us (with_decl ds e.0) e.2 e.1)) (Ok (ds, ts, scope))
+    (λ e. then_within (SmallDecl limit) (SmallDecls limit) (declaration_read limit unit scope ts) _ (declaration_within limit above unit scope ts) (λ d rest behind k. declarations_within limit above unit us (with_decl ds d) behind rest (one_deeper limit decl_depth ds d h k)))
     (λ e. h)
 
 -- statements
@@ -309,10 +308,10 @@ around_is : (fs : List Frame) → (place_in fs).around ≡ length fs
 around_is [] = refl
 around_is (f ∷ fs) = refl
 
-begun_at_within : (limit : ℕ) (unit : List Token) (fs : List Frame) (scope : Blocks) (ts : List Token) → Within (BegunFits limit fs) (begun_at limit unit (place_in fs) scope ts)
-begun_at_within limit unit fs scope ts = within_if (BegunFits limit fs) ((place_in fs).in_block && is_mark marks.CloseBrace (sign_here ts)) (Ok (closed_here scope ts)) _ (λ e. tt)
+begun_at_within : (limit : ℕ) (above : 1 ≤ limit) (unit : List Token) (fs : List Frame) (scope : Blocks) (ts : List Token) → Within (BegunFits limit fs) (begun_at limit unit (place_in fs) scope ts)
+begun_at_within limit above unit fs scope ts = within_if (BegunFits limit fs) ((place_in fs).in_block && is_mark marks.CloseBrace (sign_here ts)) (Ok (closed_here scope ts)) _ (λ e. tt)
     (λ e. within_if (BegunFits limit fs) ((place_in fs).takes_declarations && starts_declaration (sign_here ts) (is_type_here scope ts) (colon_follows ts)) _ _
-    (λ f. map_within begun_decl (SmallDecl limit) (BegunFits limit fs) (declaration_read limit unit scope ts) (declaration_within limit unit scope ts) (λ d k. k))
+    (λ f. map_within begun_decl (SmallDecl limit) (BegunFits limit fs) (declaration_read limit unit scope ts) (declaration_within limit above unit scope ts) (λ d k. k))
     (λ f. within_if (BegunFits limit fs) (nat_le ((place_in fs).around + least_depth (sign_here ts) (is_label (sign_here ts) (is_type_here scope ts) (colon_follows ts))) limit) _ (Err (large Depth 257))
     (λ q. statement_begun_within limit fs (sign_here ts) (is_label (sign_here ts) (is_type_here scope ts) (colon_follows ts)) scope ts (subst (λ n. n + least_depth (sign_here ts) (is_label (sign_here ts) (is_type_here scope ts) (colon_follows ts)) ≤ limit) (around_is fs) (leb-true _ _ q)))
     (λ q. tt)))
@@ -341,33 +340,33 @@ statement_next_within : (limit : ℕ) (unit us : List Token) (r : Reached) (ts :
 statement_next_within limit unit us (reached_end s) ts scope h k = h
 statement_next_within limit unit us (reached_need fs) ts scope h k = k fs scope ts h
 
-statement_within : (limit : ℕ) (unit us : List Token) (fs : List Frame) (scope : Blocks) (ts : List Token) → FramesFit limit fs → Within (StmtFits limit 0) (statement_run limit unit us fs scope ts)
-statement_within limit unit [] fs scope ts h = tt
-statement_within limit unit (u ∷ us) fs scope ts h = then_within (ReachedFits limit) (StmtFits limit 0) (statement_step limit unit fs scope ts) (statement_next (statement_run limit unit us))
-    (then_within (BegunFits limit fs) (ReachedFits limit) (begun_at limit unit (place_in fs) scope ts) (behind_begun limit fs) (begun_at_within limit unit fs scope ts) (λ r rest behind k. behind_begun_within limit fs r rest behind h k))
-    (λ r rest behind k. statement_next_within limit unit us r rest behind k (λ gs inner vs q. statement_within limit unit us gs inner vs q))
+statement_within : (limit : ℕ) (above : 1 ≤ limit) (unit us : List Token) (fs : List Frame) (scope : Blocks) (ts : List Token) → FramesFit limit fs → Within (StmtFits limit 0) (statement_run limit unit us fs scope ts)
+statement_within limit above unit [] fs scope ts h = tt
+statement_within limit above unit (u ∷ us) fs scope ts h = then_within (ReachedFits limit) (StmtFits limit 0) (statement_step limit unit fs scope ts) (statement_next (statement_run limit unit us))
+    (then_within (BegunFits limit fs) (ReachedFits limit) (begun_at limit unit (place_in fs) scope ts) (behind_begun limit fs) (begun_at_within limit above unit fs scope ts) (λ r rest behind k. behind_begun_within limit fs r rest behind h k))
+    (λ r rest behind k. statement_next_within limit unit us r rest behind k (λ gs inner vs q. statement_within limit above unit us gs inner vs q))
 
 -- units
 abbrev SmallItem : (limit : ℕ) → t.ItemTree → Type 0
 SmallItem limit i = item_depth i ≤ limit
 
-body_within : (limit : ℕ) (unit : List Token) (q : t.SpecifiersTree) (d : t.DeclaratorTree) (ds : List t.DeclTree) (scope : Blocks) (ts : List Token) → specifiers_depth q ≤ limit → declarator_depth d ≤ limit → SmallDecls limit ds → Within (λ f. function_depth f ≤ limit) (body_needed limit unit q d ds scope ts)
-body_within limit unit q d ds scope ts h j k = within_if (λ f. function_depth f ≤ limit) (is_here marks.OpenBrace ts) _ (unexpected ts)
-    (λ e. then_within (StmtFits limit 0) (λ f. function_depth f ≤ limit) (statement_read limit unit scope ts) _ (statement_within limit unit unit [] scope ts tt) (λ s rest behind m. let a = m.0 in let b = m.1 in omega (arith, h, j, k, a, b)))
+body_within : (limit : ℕ) (above : 1 ≤ limit) (unit : List Token) (q : t.SpecifiersTree) (d : t.DeclaratorTree) (ds : List t.DeclTree) (scope : Blocks) (ts : List Token) → specifiers_depth q ≤ limit → declarator_depth d ≤ limit → SmallDecls limit ds → Within (λ f. function_depth f ≤ limit) (body_needed limit unit q d ds scope ts)
+body_within limit above unit q d ds scope ts h j k = within_if (λ f. function_depth f ≤ limit) (is_here marks.OpenBrace ts) _ (unexpected ts)
+    (λ e. then_within (StmtFits limit 0) (λ f. function_depth f ≤ limit) (statement_read limit unit scope ts) _ (statement_within limit above unit unit [] scope ts tt) (λ s rest behind m. let a = m.0 in let b = m.1 in omega (arith, h, j, k, a, b)))
     (λ e. tt)
 
-function_within : (limit : ℕ) (unit : List Token) (q : t.SpecifiersTree) (d : t.DeclaratorTree) (scope : Blocks) (ts : List Token) → specifiers_depth q ≤ limit → declarator_depth d ≤ limit → Within (λ f. function_depth f ≤ limit) (function_read limit unit q d scope ts)
-function_within limit unit q d scope ts h j = then_within (SmallDecls limit) (λ f. function_depth f ≤ limit) (declarations_read limit unit (in_function d (opened scope)) ts) _ (declarations_within limit unit unit [] (in_function d (opened scope)) ts (omega arith)) (λ ds rest behind k. body_within limit unit q d ds behind rest h j k)
+function_within : (limit : ℕ) (above : 1 ≤ limit) (unit : List Token) (q : t.SpecifiersTree) (d : t.DeclaratorTree) (scope : Blocks) (ts : List Token) → specifiers_depth q ≤ limit → declarator_depth d ≤ limit → Within (λ f. function_depth f ≤ limit) (function_read limit unit q d scope ts)
+function_within limit above unit q d scope ts h j = then_within (SmallDecls limit) (λ f. function_depth f ≤ limit) (declarations_read limit unit (in_function d (opened scope)) ts) _ (declarations_within limit above unit unit [] (in_function d (opened scope)) ts (omega arith)) (λ ds rest behind k. body_within limit above unit q d ds behind rest h j k)
 
-declared_item_within : (limit : ℕ) (unit : List Token) (q : t.SpecifiersTree) (scope : Blocks) (ts : List Token) → specifiers_depth q ≤ limit → Within (SmallItem limit) (declared_item limit unit q scope ts)
-declared_item_within limit unit q scope ts h = then_within (λ d. declarator_depth d ≤ limit) (SmallItem limit) (named_read limit (naming_of q) scope ts) _ (named_within limit (naming_of q) scope ts)
+declared_item_within : (limit : ℕ) (above : 1 ≤ limit) (unit : List Token) (q : t.SpecifiersTree) (scope : Blocks) (ts : List Token) → specifiers_depth q ≤ limit → Within (SmallItem limit) (declared_item limit unit q scope ts)
+declared_item_within limit above unit q scope ts h = then_within (λ d. declarator_depth d ≤ limit) (SmallItem limit) (named_read limit (naming_of q) scope ts) _ (named_within limit above (naming_of q) scope ts)
     (λ d rest behind j. within_if (SmallItem limit) (not (is_empty q) && goes_on (sign_here rest)) _ _
-    (λ e. map_within t.declaration (SmallDecl limit) (SmallItem limit) (declaration_from limit unit q d behind rest) (from_within limit unit q d behind rest h j) (λ v k. k))
-    (λ e. map_within t.definition (λ f. function_depth f ≤ limit) (SmallItem limit) (function_read limit unit q d behind rest) (function_within limit unit q d behind rest h j) (λ v k. k)))
+    (λ e. map_within t.declaration (SmallDecl limit) (SmallItem limit) (declaration_from limit unit q d behind rest) (from_within limit above unit q d behind rest h j) (λ v k. k))
+    (λ e. map_within t.definition (λ f. function_depth f ≤ limit) (SmallItem limit) (function_read limit unit q d behind rest) (function_within limit above unit q d behind rest h j) (λ v k. k)))
 
-item_within : (limit : ℕ) (unit : List Token) (scope : Blocks) (ts : List Token) → Within (SmallItem limit) (item_read limit unit scope ts)
-item_within limit unit scope ts = then_within (λ q. specifiers_depth q ≤ limit) (SmallItem limit) (specifiers_read limit scope ts) _ (specifiers_within limit scope ts)
-    (λ q rest behind h. within_if (SmallItem limit) (not (is_empty q) && is_here marks.Semicolon rest) (Ok (t.declaration (record { specifiers = q; declarators = [] }), after_token rest, behind)) _ (λ e. omega (arith, h)) (λ e. declared_item_within limit unit q behind rest h))
+item_within : (limit : ℕ) (above : 1 ≤ limit) (unit : List Token) (scope : Blocks) (ts : List Token) → Within (SmallItem limit) (item_read limit unit scope ts)
+item_within limit above unit scope ts = then_within (λ q. specifiers_depth q ≤ limit) (SmallItem limit) (specifiers_read limit scope ts) _ (specifiers_within limit above scope ts)
+    (λ q rest behind h. within_if (SmallItem limit) (not (is_empty q) && is_here marks.Semicolon rest) (Ok (t.declaration (record { specifiers = q; declarators = [] }), after_token rest, behind)) _ (λ e. omega (arith, h)) (λ e. declared_item_within limit above unit q behind rest h))
 
 abbrev SmallItems : (limit : ℕ) → Result (List t.ItemTree) Fault → Type 0
 SmallItems limit (Ok is) = deepest item_depth is ≤ limit
@@ -381,9 +380,9 @@ items_step : (limit : ℕ) (unit us : List Token) (is : List t.ItemTree) (r : An
 items_step limit unit us is (Ok (i, rest, scope)) h k f = let more = one_deeper limit item_depth is i h k in items_if limit (is_here marks.End rest) (Ok (with_item is i)) (items_run limit unit us (with_item is i) scope rest) more (f (with_item is i) scope rest more)
 items_step limit unit us is (Err e) h k f = tt
 
-items_within : (limit : ℕ) (unit us : List Token) (is : List t.ItemTree) (scope : Blocks) (ts : List Token) → deepest item_depth is ≤ limit → SmallItems limit (items_run limit unit us is scope ts)
-items_within limit unit [] is scope ts h = tt
-items_within limit unit (u ∷ us) is scope ts h = items_step limit unit us is (item_read limit unit scope ts) h (item_within limit unit scope ts) (λ js inner vs k. items_within limit unit us js inner vs k)
+items_within : (limit : ℕ) (above : 1 ≤ limit) (unit us : List Token) (is : List t.ItemTree) (scope : Blocks) (ts : List Token) → deepest item_depth is ≤ limit → SmallItems limit (items_run limit unit us is scope ts)
+items_within limit above unit [] is scope ts h = tt
+items_within limit above unit (u ∷ us) is scope ts h = items_step limit unit us is (item_read limit unit scope ts) h (item_within limit above unit scope ts) (λ js inner vs k. items_within limit above unit us js inner vs k)
 
 unit_small : (limit : ℕ) (r : Result (List t.ItemTree) Fault) (unit : t.UnitTree) → SmallItems limit r → (r >>= (λ is. Ok (record { items = is }))) ≡ Ok unit → unit_depth unit ≤ limit
 unit_small limit (Ok is) unit h e = subst (λ u. unit_depth u ≤ limit) (ok_is (record { items = is }) unit e) h
@@ -394,7 +393,7 @@ some_small limit ts unit true h e = absurd cc
 some_small limit ts unit false h e = unit_small limit (items_read limit ts (no_types ∷ []) ts) unit h e
 
 pub units_are_units : UnitsAreUnits
-units_are_units limit ts unit once same = record {
+units_are_units limit above ts unit once same = record {
   derives = units_are_derived limit ts unit once same;
-  within = some_small limit ts unit (nat_eq (length ts) 0) (items_within limit ts ts [] (no_types ∷ []) ts (omega arith)) same;
+  within = some_small limit ts unit (nat_eq (length ts) 0) (items_within limit above ts ts [] (no_types ∷ []) ts (omega arith)) same;
 }

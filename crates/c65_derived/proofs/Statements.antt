@@ -1,7 +1,7 @@
 -- Statements, by what is open of them.
-use Rattle.std.proofs.Common.{◌≡◌, ℕ, List, [], ◌∷◌, ◌++◌, Bool, true, false, refl, sym, ap, ◌∙◌, subst, append_assoc}
+use Rattle.std.proofs.Common.{◌≡◌, ℕ, ◌+◌, List, [], ◌∷◌, ◌++◌, Bool, true, false, refl, sym, ap, ◌∙◌, subst, append_assoc}
 use Rattle.std.proofs.lemmas.List.{append-nil}
-use Rattle.std.specs.Prelude.{Ok, Err, if◌then◌else◌, nat_le, ◌-◌, ◌&&◌}
+use Rattle.std.specs.Prelude.{Ok, Err, if◌then◌else◌, nat_le, ◌&&◌}
 use Rattle.c65_base.specs.Answers.{large, ◌>>=◌}
 use Rattle.c65_base.specs.declared.refusal.Size.TheVariants.{Depth}
 use Rattle.c65_base.specs.declared.refusal.Pos.{Pos}

@@ -46,15 +46,15 @@ small_listed limit (Ok (done_specifiers q, rest, scope)) h = h
 small_listed limit (Ok (done_declarator d, rest, scope)) h = tt
 small_listed limit (Err e) h = tt
 
-listed_within : (limit : ℕ) (storage : Bool) (scope : Blocks) (ts : List Token) → Within (λ q. specifiers_depth q.tree ≤ limit) (listed_read limit storage scope ts)
-listed_within limit storage scope ts = small_listed limit _ (run_small limit 0 ts [] (specifiers (nothing_listed storage)) scope tt (omega arith, omega arith))
+listed_within : (limit : ℕ) (above : 1 ≤ limit) (storage : Bool) (scope : Blocks) (ts : List Token) → Within (λ q. specifiers_depth q.tree ≤ limit) (listed_read limit storage scope ts)
+listed_within limit above storage scope ts = small_listed limit _ (run_small limit 0 ts [] (specifiers (nothing_listed storage)) scope tt (omega arith, omega arith))
 
 tree_within : (limit : ℕ) (r : Answer Listed) → Within (λ q. specifiers_depth q.tree ≤ limit) r → Within (λ q. specifiers_depth q ≤ limit) (r >>= (λ q. Ok (q.0.tree, q.1, q.2)))
 tree_within limit (Ok (q, rest, scope)) h = h
 tree_within limit (Err e) h = tt
 
-pub specifiers_within : (limit : ℕ) (scope : Blocks) (ts : List Token) → Within (λ q. specifiers_depth q ≤ limit) (specifiers_read limit scope ts)
-specifiers_within limit scope ts = tree_within limit _ (listed_within limit true scope ts)
+pub specifiers_within : (limit : ℕ) (above : 1 ≤ limit) (scope : Blocks) (ts : List Token) → Within (λ q. specifiers_depth q ≤ limit) (specifiers_read limit scope ts)
+specifiers_within limit above scope ts = tree_within limit _ (listed_within limit above true scope ts)
 
 small_declarator : (limit : ℕ) (r : Reading) → SmallRead limit r → Within (λ d. declarator_depth d ≤ limit) (r >>= as_declarator)
 small_declarator limit (Ok (done_expr e, rest, scope)) h = tt
@@ -62,27 +62,27 @@ small_declarator limit (Ok (done_specifiers q, rest, scope)) h = tt
 small_declarator limit (Ok (done_declarator d, rest, scope)) h = h
 small_declarator limit (Err e) h = tt
 
-pub declarator_within : (limit : ℕ) (sort : Sort) (scope : Blocks) (ts : List Token) → Within (λ d. declarator_depth d ≤ limit) (declarator_read limit sort scope ts)
-declarator_within limit sort scope ts = small_declarator limit _ (run_small limit 0 ts [] (declarator sort) scope tt (omega arith))
+pub declarator_within : (limit : ℕ) (above : 1 ≤ limit) (sort : Sort) (scope : Blocks) (ts : List Token) → Within (λ d. declarator_depth d ≤ limit) (declarator_read limit sort scope ts)
+declarator_within limit above sort scope ts = small_declarator limit _ (run_small limit 0 ts [] (declarator sort) scope tt (omega arith))
 
 both_within : (limit : ℕ) (q : t.SpecifiersTree) (r : Answer t.DeclaratorTree) → specifiers_depth q ≤ limit → Within (λ d. declarator_depth d ≤ limit) r → Within (λ ty. type_depth ty ≤ limit) (r >>= (λ d. Ok (t.type_name q d.0, d.1, d.2)))
 both_within limit q (Ok (d, rest, scope)) h k = omega (arith, h, k)
 both_within limit q (Err e) h k = tt
 
-behind_within : (limit : ℕ) (q : Listed) (scope : Blocks) (ts : List Token) → specifiers_depth q.tree ≤ limit → Within (λ ty. type_depth ty ≤ limit) (type_behind limit q scope ts)
-behind_within limit q scope ts h = within_if (λ ty. type_depth ty ≤ limit) (nat_eq (specifiers_depth q.tree) 0) (Err (fault_at (token_at ts 0))) _ (λ e. tt) (λ e. both_within limit q.tree _ h (declarator_within limit sorts.Abstract scope ts))
+behind_within : (limit : ℕ) (above : 1 ≤ limit) (q : Listed) (scope : Blocks) (ts : List Token) → specifiers_depth q.tree ≤ limit → Within (λ ty. type_depth ty ≤ limit) (type_behind limit q scope ts)
+behind_within limit above q scope ts h = within_if (λ ty. type_depth ty ≤ limit) (nat_eq (specifiers_depth q.tree) 0) (Err (fault_at (token_at ts 0))) _ (λ e. tt) (λ e. both_within limit q.tree _ h (declarator_within limit above sorts.Abstract scope ts))
 
-type_within : (limit : ℕ) (scope : Blocks) (ts : List Token) → Within (λ ty. type_depth ty ≤ limit) (type_read limit scope ts)
-type_within limit scope ts = then_within _ _ (listed_read limit false scope ts) _ (listed_within limit false scope ts) (λ q rest behind h. behind_within limit q behind rest h)
+type_within : (limit : ℕ) (above : 1 ≤ limit) (scope : Blocks) (ts : List Token) → Within (λ ty. type_depth ty ≤ limit) (type_read limit scope ts)
+type_within limit above scope ts = then_within _ _ (listed_read limit false scope ts) _ (listed_within limit above false scope ts) (λ q rest behind h. behind_within limit above q behind rest h)
 
 pub exprs_are_within : ExprsAreWithin
 exprs_are_within limit least scope ts tree rest behind e = answered _ _ tree rest behind (expr_within limit least scope ts) e
 
 pub specifiers_are_within : SpecifiersAreWithin
-specifiers_are_within limit scope ts tree rest behind e = answered _ _ tree rest behind (specifiers_within limit scope ts) e
+specifiers_are_within limit above scope ts tree rest behind e = answered _ _ tree rest behind (specifiers_within limit above scope ts) e
 
 pub declarators_are_within : DeclaratorsAreWithin
-declarators_are_within limit sort scope ts tree rest behind e = answered _ _ tree rest behind (declarator_within limit sort scope ts) e
+declarators_are_within limit above sort scope ts tree rest behind e = answered _ _ tree rest behind (declarator_within limit above sort scope ts) e
 
 pub types_are_within : TypesAreWithin
-types_are_within limit scope ts tree rest behind e = answered _ _ tree rest behind (type_within limit scope ts) e
+types_are_within limit above scope ts tree rest behind e = answered _ _ tree rest behind (type_within limit above scope ts) e

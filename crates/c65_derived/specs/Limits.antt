@@ -13,10 +13,10 @@ abbrev pub ExprsAreWithin : Type 0
 ExprsAreWithin = (limit : ℕ) (least : ℕ) → AreWithin limit expr_depth (expr_read limit least)
 
 abbrev pub SpecifiersAreWithin : Type 0
-SpecifiersAreWithin = (limit : ℕ) → AreWithin limit specifiers_depth (specifiers_read limit)
+SpecifiersAreWithin = (limit : ℕ) → 1 ≤ limit → AreWithin limit specifiers_depth (specifiers_read limit)
 
 abbrev pub DeclaratorsAreWithin : Type 0
-DeclaratorsAreWithin = (limit : ℕ) (sort : Sort) → AreWithin limit declarator_depth (declarator_read limit sort)
+DeclaratorsAreWithin = (limit : ℕ) → 1 ≤ limit → (sort : Sort) → AreWithin limit declarator_depth (declarator_read limit sort)
 
 abbrev pub TypesAreWithin : Type 0
-TypesAreWithin = (limit : ℕ) → AreWithin limit type_depth (type_read limit)
+TypesAreWithin = (limit : ℕ) → 1 ≤ limit → AreWithin limit type_depth (type_read limit)

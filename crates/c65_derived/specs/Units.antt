@@ -1,5 +1,5 @@
 -- A unit that was read is one that the grammar derives from the unit's tokens.
-use Rattle.std.specs.Prelude.{◌≡◌, ℕ, List, [], ◌∷◌, Ok}
+use Rattle.std.specs.Prelude.{◌≡◌, ◌≤◌, ℕ, List, [], ◌∷◌, Ok}
 use Rattle.c65_scan.specs.declared.token.Token.{Token}
 use Rattle.c65_scan.specs.declared.token.TokenKind.TheVariants as kinds
 use Rattle.c65_tree.specs.Trees as t
@@ -18,4 +18,4 @@ UnitsAreDerived = (limit : ℕ) (tokens : List Token) (unit : t.UnitTree) → En
 
 -- and within the limit of depth
 abbrev pub UnitsAreUnits : Type 0
-UnitsAreUnits = (limit : ℕ) (tokens : List Token) (unit : t.UnitTree) → EndsOnce tokens → unit_read limit tokens ≡ Ok unit → IsUnitWithin limit tokens unit
+UnitsAreUnits = (limit : ℕ) → 1 ≤ limit → (tokens : List Token) (unit : t.UnitTree) → EndsOnce tokens → unit_read limit tokens ≡ Ok unit → IsUnitWithin limit tokens unit

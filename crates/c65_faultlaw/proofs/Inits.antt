@@ -1,11 +1,10 @@
 -- Initialisers and the expressions of statements.
 use Rattle.std.proofs.Common.{◌≡◌, ℕ, zero, suc, ◌+◌, ◌≤◌, List, [], ◌∷◌, length, Bool, true, false, refl, ap, arith}
-use Rattle.std.specs.Prelude.{Ok, Err, if◌then◌else◌, nat_le, ◌-◌, ◌&&◌, None, Some}
+use Rattle.std.specs.Prelude.{Ok, Err, if◌then◌else◌, nat_le, ◌-◌, None, Some}
 use Rattle.c65_base.specs.Answers.{large, ◌>>=◌}
 use Rattle.c65_base.specs.declared.refusal.Size.TheVariants.{Depth}
 use Rattle.c65_scan.specs.declared.token.Token.{Token}
 use Rattle.c65_tree.specs.Trees as t
-use Rattle.c65_tree.specs.Depth.{expr_depth}
 use Rattle.c65_scopes.specs.Scopes.{Blocks}
 use Rattle.c65_parse.specs.Reading.{token_at, after_token, expr_read}
 use Rattle.c65_stmts.specs.declared.sign.Sign.TheVariants as signs

@@ -1,6 +1,6 @@
 -- What begins at a statement's place (C90 6.6); a name is told from a label by the token behind it.
 use Rattle.std.proofs.Common.{◌≡◌, ℕ, zero, suc, ◌+◌, ◌≤◌, List, [], ◌∷◌, ◌++◌, length, Bool, true, false, refl, sym, ap, ◌∙◌, subst, inl, inr, arith}
-use Rattle.std.specs.Prelude.{◌⊎◌, ◌-◌, nat_le, Ok, Err, if◌then◌else◌, ◌&&◌, Option, None, Some}
+use Rattle.std.specs.Prelude.{◌⊎◌, nat_le, Ok, Err, if◌then◌else◌, ◌&&◌, Option, None, Some}
 use Rattle.c65_base.specs.Answers.{Fault, large}
 use Rattle.c65_base.specs.declared.names.Name.{Name}
 use Rattle.c65_base.specs.declared.refusal.Size.TheVariants.{Depth}

@@ -15,9 +15,10 @@ use Rattle.c65_scopes.specs.Scopes.{Blocks, is_type_in}
 use Rattle.c65_parse.specs.declared.frame.Change.{Change}
 use Rattle.c65_parse.specs.declared.frame.Sort.{Sort}
 use Rattle.c65_parse.specs.declared.frame.Sort.TheVariants as sorts
-use Rattle.c65_parse.specs.Frames.{Frame, in_operation, in_prefix, Held, operand, opened, sizeof_word, have_expr, have_declarator, specifiers, declarator, Done, done_expr, done_specifiers, done_declarator, Next, go, stop, deep, fail}
+use Rattle.c65_parse.specs.declared.frame.Derivation.TheVariants as derivations
+use Rattle.c65_parse.specs.Frames.{Frame, in_operation, in_prefix, in_derived, Held, qualifiers, operand, opened, sizeof_word, have_expr, have_declarator, specifiers, declarator, Done, done_expr, done_specifiers, done_declarator, Next, go, stop, deep, fail}
 use Rattle.c65_parse.specs.Expressions.{goes, within, has_room, begin_by, begin_with, leaf_of, names_type, operand_step}
-use Rattle.c65_parse.specs.Declarators.{takes_name, without_name, declarator_step}
+use Rattle.c65_parse.specs.Declarators.{takes_name, without_name, open_group, declarator_step}
 use Rattle.c65_parse.specs.Machine.{run, step, changed}
 use Rattle.c65_parse.specs.Reading.{token_at, as_expr, as_specifiers, as_declarator, expr_read, listed_read, specifiers_read, declarator_read, type_behind, type_read}
 use Rattle.c65_decl.specs.Here.{unexpected}
@@ -153,9 +154,9 @@ if_no_stop false n m h k = k
 
 named_no_stop : (limit : ℕ) (typed : Bool) (l : Pos) (sign : Sign) → NoStop (declarator_step limit (sorts.Named typed) [] l sign)
 unfolding declarator_step without_name
-named_no_stop limit typed l signs.Star = tt
-named_no_stop limit typed l (signs.Calling cdecl) = tt
-named_no_stop limit typed l signs.Open = tt
+named_no_stop limit typed l signs.Star = within_no_stop (has_room limit [] 2) (goes [] (qualifiers l false false (sorts.Named typed))) tt
+named_no_stop limit typed l (signs.Calling cdecl) = within_no_stop (has_room limit [] 2) (goes (in_derived l (derivations.Calling cdecl) ∷ []) (declarator (sorts.Named typed))) tt
+named_no_stop limit typed l signs.Open = within_no_stop (has_room limit [] 2) (open_group (sorts.Named typed) [] l) tt
 named_no_stop limit typed l (signs.Name n is_type) = if_no_stop (takes_name (sorts.Named typed) is_type) (goes [] (have_declarator (t.named l n))) fail tt tt
 named_no_stop limit typed l _ = tt
 

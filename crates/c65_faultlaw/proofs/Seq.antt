@@ -16,7 +16,7 @@ use Rattle.c65_faultlaw.specs.Faults.{IsFaultOf}
 use Rattle.c65_faultlaw.proofs.Local.{Reader, Triple, Failed, Went, Is, Local, front_same, here_is, fault_of, by_first, past}
 
 -- what the second answers of the tokens that the first leaves
-then_same : {A B : Type 0} (m k j : ℕ) (read : Reader (Triple A)) (g : List Token → List Token → Triple A → Result B Fault) (ts : List Token) (a : A) (rest : List Token) (scope : Blocks) (w : Went m k read ts a rest scope) (before : List Token) (next : Token) (others unit us more : List Token) (d : Result B Fault)
+pub then_same : {A B : Type 0} (m k j : ℕ) (read : Reader (Triple A)) (g : List Token → List Token → Triple A → Result B Fault) (ts : List Token) (a : A) (rest : List Token) (scope : Blocks) (w : Went m k read ts a rest scope) (before : List Token) (next : Token) (others unit us more : List Token) (d : Result B Fault)
     → j ≤ k + m → rest ≡ before ++ next ∷ others
     → (length (before ++ next ∷ more) ≤ length unit → j + length (before ++ next ∷ more) ≤ length us → g unit us (a, before ++ next ∷ more, scope) ≡ d)
     → length ((w.before ++ before) ++ next ∷ more) ≤ length unit → k + length ((w.before ++ before) ++ next ∷ more) ≤ length us

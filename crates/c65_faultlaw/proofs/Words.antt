@@ -10,8 +10,8 @@ use Rattle.c65_tree.specs.Trees as t
 use Rattle.c65_measured.specs.declared.sign.Sign.TheVariants as measured
 use Rattle.c65_measured.specs.Listings.{nothing_listed}
 use Rattle.c65_scopes.specs.Scopes.{Blocks, is_type_in, opened}
-use Rattle.c65_parse.specs.Frames.{operand, specifiers}
-use Rattle.c65_parse.specs.Expressions.{operand_step}
+use Rattle.c65_parse.specs.Frames.{Frame, Held, operand, have_expr, specifiers}
+use Rattle.c65_parse.specs.Expressions.{goes, within, has_room, operand_step}
 use Rattle.c65_parse.specs.Specifiers.{specifiers_step}
 use Rattle.c65_parse.specs.Machine.{step}
 use Rattle.c65_parse.specs.Reading.{token_at, expr_read, specifiers_read}
@@ -100,10 +100,14 @@ type_step : (limit : ℕ) (scope : Blocks) (n : Name) (l : Pos) → is_type_in s
 unfolding step
 type_step limit scope n l e = type_goes limit n l (is_type_in scope n) e
 
+room_allows : (b : Bool) (fs : List Frame) (held : Held) → Allows 1 1 (within b (goes fs held))
+room_allows true fs held = (omega arith, omega arith)
+room_allows false fs held = tt
+
 operand_goes : (limit : ℕ) (n : Name) (l : Pos) (b : Bool) → b ≡ false → Allows 1 1 (operand_step limit [] (record { kind = kinds.Name n; pos = l }) (measured.Name n b))
 unfolding operand_step
 operand_goes limit n l true e = absurd cc
-operand_goes limit n l false e = (omega arith, omega arith)
+operand_goes limit n l false e = room_allows (has_room limit [] 1) [] (have_expr (t.name l n))
 
 name_step : (limit : ℕ) (scope : Blocks) (n : Name) (l : Pos) → is_type_in scope n ≡ false → Allows 1 1 (step limit 0 scope [] operand (record { kind = kinds.Name n; pos = l }))
 unfolding step

@@ -1,7 +1,7 @@
 -- Initialisers (C90 6.5.7), with steps enough for as many tokens as are left.
 use Rattle.std.proofs.Common.{◌≡◌, ℕ, suc, ◌+◌, ◌-◌, ◌<◌, ◌≤◌, List, [], ◌∷◌, ◌++◌, length, length-append, Bool, true, false, refl, sym, ap, ◌∙◌, subst, inl, inr, arith}
 use Rattle.std.proofs.lemmas.Bool.{le-leb}
-use Rattle.std.specs.Prelude.{if◌then◌else◌, ◌&&◌, nat_le, Ok, Err, Option, None, Some}
+use Rattle.std.specs.Prelude.{nat_le, Ok, Err, Option, None, Some}
 use Rattle.c65_base.specs.Answers.{large, ◌>>=◌}
 use Rattle.c65_base.specs.declared.refusal.Pos.{Pos}
 use Rattle.c65_base.specs.declared.refusal.Size.TheVariants.{Depth}
@@ -12,7 +12,7 @@ use Rattle.c65_scan.specs.declared.token.TokenKind.TheVariants as kinds
 use Rattle.c65_tree.specs.Trees as t
 use Rattle.c65_tree.specs.Depth.{expr_depth, init_depth, inits_depth}
 use Rattle.c65_scopes.specs.Scopes.{Blocks}
-use Rattle.c65_parse.specs.Reading.{after_token, expr_read}
+use Rattle.c65_parse.specs.Reading.{after_token}
 use Rattle.c65_stmts.specs.declared.sign.Mark.TheVariants as marks
 use Rattle.c65_stmts.specs.Signs.{sign_of, is_mark}
 use Rattle.c65_stmts.specs.Lists.{OpenList, listed_open, with_initialiser, empty_list}

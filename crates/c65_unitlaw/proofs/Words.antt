@@ -1,5 +1,5 @@
 -- How a statement begins (C90 6.6): the word or the brace at its front.
-use Rattle.std.proofs.Common.{◌≡◌, ℕ, ◌+◌, ◌-◌, ◌≤◌, List, [], ◌∷◌, ◌++◌, length, Bool, true, false, refl, sym, ap, ◌∙◌, subst, arith}
+use Rattle.std.proofs.Common.{◌≡◌, ℕ, ◌+◌, ◌≤◌, List, [], ◌∷◌, ◌++◌, length, Bool, true, false, refl, sym, ap, ◌∙◌, subst, arith}
 use Rattle.std.proofs.lemmas.Bool.{le-leb, and_right, and_left, or_right}
 use Rattle.std.specs.Prelude.{◌&&◌, ◌||◌, not, nat_le, Ok, Err, Some}
 use Rattle.c65_base.specs.Answers.{large}
