@@ -9,14 +9,15 @@ use Rattle.c65_parse.specs.Reading.{Answer}
 use Rattle.c65_decl.specs.Initialisers.{initialiser_read}
 use Rattle.c65_decl.specs.Decls.{declaration_read}
 use Rattle.c65_grammar.specs.Phrases.{token}
-use Rattle.c65_grammar.specs.Scopes.{after_init, after_decl}
+use Rattle.c65_grammar.specs.Scopes.{after_init, after_decl, after_stmt}
 use Rattle.c65_unitlaw.specs.Declared.{InitsAreRead, DeclarationsAreRead, InitsAreOne, DeclarationsAreOne}
 use Rattle.c65_unitlaw.proofs.Inits.{InitRun, reads_init}
 use Rattle.c65_unitlaw.proofs.Decls.{declaration_is}
 use Rattle.c65_unitlaw.proofs.Stmts.{StmtRun}
 use Rattle.c65_unitlaw.proofs.Blocks.{reads_stmt}
 use Rattle.c65_unitlaw.proofs.Units.{unit_is}
-use Rattle.c65_unitlaw.specs.Units.{StatementsAreRead, UnitsAreRead, UnitsAreOne, AcceptsUnit}
+use Rattle.c65_unitlaw.specs.Units.{StatementsAreRead, StatementsAreOne, UnitsAreRead, UnitsAreOne, AcceptsUnit}
+use Rattle.c65_decl.specs.Statements.{statement_read}
 use Rattle.c65_decl.specs.Units.{unit_read}
 use Rattle.c65_base.specs.Answers.{Fault, Gives}
 use Rattle.c65_base.specs.declared.refusal.Refusal.{Refusal}
@@ -55,6 +56,13 @@ pub statements_are_read : StatementsAreRead
 statements_are_read limit unit sc outer tree front next others p tall inner enough safe =
     let run : StmtRun limit unit unit [] sc outer tree (front ++ next ∷ others) (next ∷ others) = reads_stmt limit tree unit unit [] sc outer front (next ∷ others) p (omega (arith, tall)) inner enough enough tt safe in
     run.are
+
+pub statements_are_one : StatementsAreOne
+statements_are_one limit sc ts tree other p q deep low =
+    let next : Token = token kinds.End (record { file = 0; line = 1 }) in
+    let unit = ts ++ next ∷ [] in
+    same_tree tree other (statement_read limit unit (sc ∷ []) (ts ++ next ∷ [])) (next ∷ []) (next ∷ []) (after_stmt sc tree ∷ []) (after_stmt sc other ∷ [])
+    (statements_are_read limit unit sc [] tree ts next [] p (omega (arith, deep)) (omega (arith, deep)) (omega arith) (λ h. refl)) (statements_are_read limit unit sc [] other ts next [] q (omega (arith, low)) (omega (arith, low)) (omega arith) (λ h. refl))
 
 pub units_are_read : UnitsAreRead
 units_are_read limit tokens unit h = unit_is limit tokens unit h.derives h.within

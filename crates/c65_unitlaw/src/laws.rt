@@ -1,7 +1,7 @@
 // That what the grammar derives of declarations, statements and units is read, and that tokens have one such tree at
 // most.
 ghost use Rattle.c65_unitlaw.specs.Declared.{InitsAreRead, DeclarationsAreRead, InitsAreOne, DeclarationsAreOne};
-ghost use Rattle.c65_unitlaw.specs.Units.{StatementsAreRead, UnitsAreRead, UnitsAreOne};
+ghost use Rattle.c65_unitlaw.specs.Units.{StatementsAreRead, StatementsAreOne, UnitsAreRead, UnitsAreOne};
 
 /// An initialiser (C90 6.5.7) within the limit of depth, in no more steps than the unit has tokens.
 pub fn initialisers_are_read()
@@ -17,7 +17,8 @@ pub fn declarations_are_read()
 
 /// A statement (C90 6.6) within the limit of depth, in no more steps than the unit has tokens.
 pub fn statements_are_read()
-    ensures { StatementsAreRead }
+    ensures read { StatementsAreRead }
+    ensures one { StatementsAreOne }
 {}
 
 /// A unit (C90 6.7) within the limit of depth.

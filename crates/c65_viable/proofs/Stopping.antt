@@ -27,7 +27,7 @@ use Rattle.c65_viable.proofs.Completing.{complete}
 declared_few : (name : Name) (is_type : Bool) (block : Name → Bool) → ((least : ℕ) × ((n : Name) → least ≤ n.0 → block n ≡ false)) → (least : ℕ) × ((n : Name) → least ≤ n.0 → with_kind block name is_type n ≡ false)
 declared_few name is_type block few = (few.0 + suc name.0, λ n high. ap (λ b. if b then is_type else block n) (ne_eqb n.0 name.0 (λ e. omega (arith, e, high))) ∙ few.1 n (omega (arith, high)))
 
-few_changed : (change : Change) (scope : Blocks) → FewTypes scope → FewTypes (changed change scope)
+pub few_changed : (change : Change) (scope : Blocks) → FewTypes scope → FewTypes (changed change scope)
 few_changed changes.Nothing scope few = few
 few_changed changes.Open [] few = tt
 few_changed changes.Open (block ∷ blocks) few = (few.0, few)
