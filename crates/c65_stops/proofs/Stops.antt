@@ -1,16 +1,18 @@
 -- Readings with what their tokens are: those before a fault go on, and those of an answer are its own.
-use Rattle.std.proofs.Common.{◌≡◌, ℕ, ◌+◌, ◌≤◌, List, [], ◌∷◌, ◌++◌, length, Bool, true, false, refl, sym, ap, subst, append_assoc, arith}
+use Rattle.std.proofs.Common.{◌≡◌, ℕ, suc, ◌+◌, ◌≤◌, List, [], ◌∷◌, ◌++◌, length, Bool, true, false, refl, sym, ap, ◌∙◌, subst, append_assoc, inl, arith}
 use Rattle.std.specs.Prelude.{Result, Ok, Err, if◌then◌else◌}
 use Rattle.c65_base.specs.Answers.{Fault, large, ◌>>=◌}
 use Rattle.c65_base.specs.declared.refusal.Size.TheVariants.{Depth}
 use Rattle.c65_scan.specs.declared.token.Token.{Token}
 use Rattle.c65_scopes.specs.Scopes.{Blocks}
+use Rattle.c65_parse.specs.Machine.{fault_at}
 use Rattle.c65_parse.specs.Reading.{Answer, token_at, after_token}
 use Rattle.c65_stmts.specs.declared.sign.Sign.TheVariants as signs
 use Rattle.c65_stmts.specs.declared.sign.Mark.{Mark}
 use Rattle.c65_stmts.specs.Signs.{sign_of, is_mark}
-use Rattle.c65_decl.specs.Here.{unexpected, expected}
-use Rattle.c65_derived.proofs.Got.{EndsIn, First, first_of_mark}
+use Rattle.c65_decl.specs.Here.{is_here, unexpected, expected}
+use Rattle.c65_derived.proofs.Got.{EndsIn, First, mark_phrase, first_of_mark, is_mark_of}
+use Rattle.c65_faultlaw.specs.Faults.{IsFaultOf}
 use Rattle.c65_faultlaw.proofs.Local as local
 use Rattle.c65_faultlaw.proofs.Local.{Reader, Triple, Failed, Went}
 use Rattle.c65_faultlaw.proofs.Seq as seqs
@@ -73,6 +75,23 @@ pub stop_alike : {A : Type 0} (limit c m k : ℕ) (goes : Going) (takes : Taking
 stop_alike limit c m k goes takes read other ts (Ok (a, rest, scope)) f h = record { went = local.alike c m k read other ts (Ok (a, rest, scope)) f h.went; taken = h.taken }
 stop_alike limit c m k goes takes read other ts (Err e) f h = record { failed = local.alike c m k read other ts (Err e) f h.failed; goes_on = h.goes_on; deeper = h.deeper }
 
+-- as another says of other limits
+pub lifted : {A : Type 0} (low high c m k : ℕ) (goes others : Going) (takes : Taking A) (read : Reader (Triple A)) (ts : List Token) (r : Answer A) → ((xs : List Token) → goes low xs → others high xs) → ((n : ℕ) (xs : List Token) → low ≤ n → goes n xs → (more : ℕ) × (high ≤ more) × others more xs)
+    → StopIs low c m k goes takes read ts r → StopIs high c m k others takes read ts r
+lifted low high c m k goes others takes read ts (Ok (a, rest, scope)) f g h = record { went = h.went; taken = h.taken }
+lifted low high c m k goes others takes read ts (Err e) f g h = record { failed = h.failed; goes_on = f h.failed.before h.goes_on; deeper = λ x. let d = h.deeper x in g d.0 (h.failed.before ++ h.failed.next ∷ []) d.1 d.2 }
+
+-- behind tokens in two parts
+pub stop_regrouped : {A : Type 0} (limit c m k : ℕ) (goes : Going) (takes : Taking A) (read : Reader (Triple A)) (unit us ts xs ys : List Token) → Stop limit c m k (λ n zs. goes n ((xs ++ ys) ++ zs)) (λ a scope zs. takes a scope ((xs ++ ys) ++ zs)) read unit us ts
+    → Stop limit c m k (λ n zs. goes n (xs ++ (ys ++ zs))) (λ a scope zs. takes a scope (xs ++ (ys ++ zs))) read unit us ts
+stop_regrouped limit c m k goes takes read unit us ts xs ys h = weaker limit c m k (λ n zs. goes n ((xs ++ ys) ++ zs)) (λ n zs. goes n (xs ++ (ys ++ zs))) (λ a scope zs. takes a scope ((xs ++ ys) ++ zs)) (λ a scope zs. takes a scope (xs ++ (ys ++ zs))) read ts (read unit us ts)
+    (λ n zs low g. subst (goes n) (append_assoc xs ys zs) g)
+    (λ a scope zs g. subst (takes a scope) (append_assoc xs ys zs) g) h
+
+-- in a scope that is another
+pub stop_in_scope : {A : Type 0} (limit c m k : ℕ) (goes : Going) (takes : Taking A) (read : Blocks → Reader (Triple A)) (unit us ts : List Token) (scope other : Blocks) → scope ≡ other → Stop limit c m k goes takes (read other) unit us ts → Stop limit c m k goes takes (read scope) unit us ts
+stop_in_scope limit c m k goes takes read unit us ts scope other e h = subst (λ s. Stop limit c m k goes takes (read s) unit us ts) (sym e) h
+
 -- a reading that depends on the first token
 first_by : {A : Type 0} (limit c m k : ℕ) (goes : Going) (takes : Taking A) (read : Token → Reader (Triple A)) (ts : List Token) (r : Answer A) → StopIs limit c m k goes takes (read (token_at ts 0)) ts r → StopIs limit c m k goes takes (λ unit us ys. read (token_at ys 0) unit us ys) ts r
 first_by limit c m k goes takes read ts (Ok (a, rest, scope)) h = record { went = local.first_by c m k read ts (Ok (a, rest, scope)) h.went; taken = h.taken }
@@ -104,6 +123,25 @@ pub stop_past : {A : Type 0} (limit c d m n k j : ℕ) (goes : Going) (takes : T
 stop_past limit c d m n k j goes takes inner unit us ts low less near first h = subst (λ xs. StopIs limit d n k goes takes (λ unit us ys. inner unit us (after_token ys)) xs (inner unit us (after_token ts))) (sym first.tokens_are)
     (subst (λ xs. StopIs limit d n k goes takes (λ unit us ys. inner unit us (after_token ys)) (first.tok ∷ first.rest) (inner unit us xs)) (sym first.behind)
     (shifted limit c d m n k j goes takes first.tok inner (λ unit us ys. inner unit us (after_token ys)) first.rest (inner unit us first.rest) low less near (λ unit us before next more. ap (inner unit us) (local.passed first.tok before next more)) h))
+
+-- where a mark is the first token, it is taken
+pub stop_past_mark : {A : Type 0} (limit c m n : ℕ) (goes : Going) (takes : Taking A) (mark : Mark) (inner : Reader (Triple A)) (unit us ts : List Token) → n ≤ 1 + m → is_mark mark signs.End ≡ false → is_here mark ts ≡ true → EndsIn ts
+    → ((first : First ts) → mark_phrase mark (first.tok ∷ []) → suc (length first.rest) ≤ length ts → Stop limit c m 0 (λ n xs. goes n (first.tok ∷ xs)) (λ a scope xs. takes a scope (first.tok ∷ xs)) inner unit us first.rest)
+    → Stop limit 0 n 0 goes takes (λ unit us ys. inner unit us (after_token ys)) unit us ts
+stop_past_mark limit c m n goes takes mark inner unit us ts up not e ends f =
+    let first = first_of_mark mark ts not e ends in
+    stop_past limit c 0 m n 0 0 goes takes inner unit us ts (omega arith) up (omega arith) first (f first (is_mark_of mark ts first e) (let long = ap length first.tokens_are in omega (arith, long)))
+
+-- the token of a mark
+ends_after : (tok : Token) (ts : List Token) → EndsIn ts → EndsIn (tok ∷ ts)
+ends_after tok [] ends = absurd ends
+ends_after tok (t ∷ ts) ends = ends
+
+pub mark_taken : (mark : Mark) (tok : Token) (rest : List Token) → is_mark mark signs.End ≡ false → is_mark mark (sign_of tok.kind) ≡ true → EndsIn rest → mark_phrase mark (tok ∷ [])
+mark_taken mark tok rest not e ends =
+    let here : is_here mark (tok ∷ rest) ≡ true = ap (λ x. is_mark mark (sign_of x.kind)) (local.here_is tok rest) ∙ e in
+    let first = first_of_mark mark (tok ∷ rest) not here (ends_after tok rest ends) in
+    subst (λ x. mark_phrase mark (x ∷ [])) (sym first.here ∙ local.here_is tok rest) (is_mark_of mark (tok ∷ rest) first here)
 
 -- one reading, and then another
 joined : {A B : Type 0} (limit c b m n o k j : ℕ) (goes : Going) (firsts : Taking A) (takes : Taking B) (read : Reader (Triple A)) (g : List Token → List Token → Triple A → Answer B) (ts : List Token) (a : A) (rest : List Token) (scope : Blocks) (s : Answer B) → j ≤ k + m → c ≤ m + b → o ≤ m + n
@@ -144,10 +182,22 @@ mark_by : {B : Type 0} (limit b n o : ℕ) (goes : Going) (takes : Taking B) (ma
     → ((tok : Token) (rest : List Token) → is_mark mark (sign_of tok.kind) ≡ true → EndsIn rest → Stop limit b n 0 (λ n xs. goes n (tok ∷ xs)) (λ x inner xs. takes x inner (tok ∷ xs)) (λ unit us ys. g (ys, scope)) unit us rest)
     → Stop limit 0 o 0 goes takes (λ unit us ys. (if here then Ok (after_token ys, scope) else unexpected ys) >>= g) unit us ts
 mark_by limit b n o goes takes mark scope g unit us [] here e not up ends start f = absurd ends
-mark_by limit b n o goes takes mark scope g unit us (t ∷ ts) false e not up ends start f = record { failed = seqs.failed_first 0 0 (λ unit us ys. unexpected ys) (λ unit us. g) (t ∷ ts) _ (local.fails o 0 unit us (t ∷ ts) ends); goes_on = start; deeper = λ x. absurd cc }
+mark_by limit b n o goes takes mark scope g unit us (t ∷ ts) false e not up ends start f = record {
+  failed = record {
+    before = [];
+    next = t;
+    others = ts;
+    tokens_are = refl;
+    fault_is = subst (λ x. IsFaultOf t (fault_at x)) (sym (local.here_is t ts)) (local.fault_of t);
+    late = inl (omega arith);
+    again = λ unit us more fit room. ap (λ x. Err (fault_at x)) (local.here_is t more ∙ sym (local.here_is t ts));
+  };
+  goes_on = start;
+  deeper = λ x. absurd cc;
+}
 mark_by limit b n o goes takes mark scope g unit us (t ∷ ts) true e not up ends start f =
     let first = first_of_mark mark (t ∷ ts) not e ends in
-    stop_past limit b 0 n o 0 0 goes takes (λ unit us ys. g (ys, scope)) unit us (t ∷ ts) (omega arith) up (omega arith) first (f first.tok first.rest (ap (λ x. is_mark mark (sign_of x.kind)) (ap (λ xs. token_at xs 0) (sym first.tokens_are) ∙ refl) ∙ e) first.ends)
+    stop_past limit b 0 n o 0 0 goes takes (λ unit us ys. g (ys, scope)) unit us (t ∷ ts) (omega arith) up (omega arith) first (f first.tok first.rest (ap (λ x. is_mark mark (sign_of x.kind)) (sym first.here) ∙ e) first.ends)
 
 pub stop_mark : {B : Type 0} (limit b n o : ℕ) (goes : Going) (takes : Taking B) (mark : Mark) (scope : Blocks) (g : List Token × Blocks → Answer B) (unit us ts : List Token) → is_mark mark signs.End ≡ false → o ≤ 1 + n → EndsIn ts → goes limit []
     → ((tok : Token) (rest : List Token) → is_mark mark (sign_of tok.kind) ≡ true → EndsIn rest → Stop limit b n 0 (λ n xs. goes n (tok ∷ xs)) (λ x inner xs. takes x inner (tok ∷ xs)) (λ unit us ys. g (ys, scope)) unit us rest)
