@@ -1,7 +1,9 @@
 pub mod Places
 pub mod Closings
 pub mod Completing
+pub mod Growing
 pub mod Stopping
+pub mod Halting
 pub mod Whole
 pub mod Scopes
 pub mod Types

@@ -1,8 +1,9 @@
 -- The first token with which no tree within the limit goes on.
 use Rattle.std.specs.Prelude.{◌≡◌, ◌≤◌, ℕ, List, [], ◌∷◌, ◌++◌, false, Err}
-use Rattle.c65_base.specs.Answers.{Fault}
+use Rattle.c65_base.specs.Answers.{Fault, large}
 use Rattle.c65_base.specs.declared.names.Name.{Name}
 use Rattle.c65_base.specs.declared.refusal.Pos.{Pos}
+use Rattle.c65_base.specs.declared.refusal.Size.TheVariants.{Depth}
 use Rattle.c65_scan.specs.declared.token.Token.{Token}
 use Rattle.c65_tree.specs.Depth.{expr_depth, specifiers_depth, declarator_depth, type_depth}
 use Rattle.c65_scopes.specs.Scopes.{Blocks}
@@ -19,7 +20,7 @@ use Rattle.c65_complete.specs.Tokens.{sort_of}
 use Rattle.c65_faultlaw.specs.Faults.{IsFaultOf}
 
 -- `next` is the token of the fault: the tokens before it are the front of a tree within the limit, and with it they are
--- not
+-- not; where the fault is that of depth, they are the front of a deeper one
 pub record StopsAt (limit : ℕ) {Tree : Type 0} (phrase : Tree → Phrase) (depth : Tree → ℕ) (tokens : List Token) (fault : Fault) : Type 0 where
   pub before : List Token
   pub next : Token
@@ -28,6 +29,7 @@ pub record StopsAt (limit : ℕ) {Tree : Type 0} (phrase : Tree → Phrase) (dep
   pub fault_is : IsFaultOf next fault
   pub goes_on : Continues phrase depth limit before
   pub none : Continues phrase depth limit (before ++ next ∷ []) → ⊥
+  pub deeper : fault ≡ large Depth 257 → (more : ℕ) × (limit ≤ more) × Continues phrase depth more (before ++ next ∷ [])
 
 -- in each block no name from some number on is a type's: so there is always a name that can be declared
 abbrev pub FewTypes : Blocks → Type 0
@@ -36,20 +38,20 @@ FewTypes (block ∷ blocks) = ((least : ℕ) × ((n : Name) → least ≤ n.0 �
 
 -- an expression of at least this level: 0 any, 1 an assignment expression, 2 a constant expression (C90 6.3, 6.4)
 abbrev pub ExprsStop : Type 0
-ExprsStop = (limit : ℕ) (least : ℕ) (sc : Scope) (outer : Blocks) (tokens : List Token) (fault : Fault) → least ≤ 13 → FewTypes (sc ∷ outer) → EndsOnce tokens → expr_read limit least (sc ∷ outer) tokens ≡ Err fault
+ExprsStop = (limit : ℕ) (least : ℕ) (sc : Scope) (outer : Blocks) (tokens : List Token) (fault : Fault) → 1 ≤ limit → least ≤ 13 → FewTypes (sc ∷ outer) → EndsOnce tokens → expr_read limit least (sc ∷ outer) tokens ≡ Err fault
     → StopsAt limit (λ e. given (least ≤ level e) (g.expr sc e)) expr_depth tokens fault
 
 -- C90 6.5, before a token at any place
 abbrev pub SpecifiersStop : Type 0
-SpecifiersStop = (limit : ℕ) (sc : Scope) (outer : Blocks) (l : Pos) (tokens : List Token) (fault : Fault) → FewTypes (sc ∷ outer) → EndsOnce tokens → specifiers_read limit (sc ∷ outer) tokens ≡ Err fault
+SpecifiersStop = (limit : ℕ) (sc : Scope) (outer : Blocks) (l : Pos) (tokens : List Token) (fault : Fault) → 1 ≤ limit → FewTypes (sc ∷ outer) → EndsOnce tokens → specifiers_read limit (sc ∷ outer) tokens ≡ Err fault
     → StopsAt limit (head_specifiers sc l) specifiers_depth tokens fault
 
 -- C90 6.5.4, 6.5.5
 abbrev pub DeclaratorsStop : Type 0
-DeclaratorsStop = (limit : ℕ) (sort : Sort) (sc : Scope) (outer : Blocks) (l : Pos) (tokens : List Token) (fault : Fault) → FewTypes (sc ∷ outer) → EndsOnce tokens → declarator_read limit sort (sc ∷ outer) tokens ≡ Err fault
+DeclaratorsStop = (limit : ℕ) (sort : Sort) (sc : Scope) (outer : Blocks) (l : Pos) (tokens : List Token) (fault : Fault) → 1 ≤ limit → FewTypes (sc ∷ outer) → EndsOnce tokens → declarator_read limit sort (sc ∷ outer) tokens ≡ Err fault
     → StopsAt limit (g.declarator (sort_of sort) sc l) declarator_depth tokens fault
 
 -- C90 6.5.5
 abbrev pub TypesStop : Type 0
-TypesStop = (limit : ℕ) (sc : Scope) (outer : Blocks) (l : Pos) (tokens : List Token) (fault : Fault) → FewTypes (sc ∷ outer) → EndsOnce tokens → type_read limit (sc ∷ outer) tokens ≡ Err fault
+TypesStop = (limit : ℕ) (sc : Scope) (outer : Blocks) (l : Pos) (tokens : List Token) (fault : Fault) → 1 ≤ limit → FewTypes (sc ∷ outer) → EndsOnce tokens → type_read limit (sc ∷ outer) tokens ≡ Err fault
     → StopsAt limit (g.type_name sc l) type_depth tokens fault
