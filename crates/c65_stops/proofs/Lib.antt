@@ -1,2 +1,6 @@
 pub mod Stops
 pub mod Pieces
+pub mod Leaves
+pub mod Inits
+pub mod Decls
+pub mod Declarations
