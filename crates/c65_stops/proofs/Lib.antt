@@ -4,3 +4,15 @@ pub mod Leaves
 pub mod Inits
 pub mod Decls
 pub mod Declarations
+pub mod Goings
+pub mod Needs
+pub mod Bodies
+pub mod Few
+pub mod Functions
+pub mod Items
+pub mod Units
+pub mod Whole
+pub mod Never
+pub mod Exact
+pub mod Exactly
+pub mod Knowing

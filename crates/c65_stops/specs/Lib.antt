@@ -1,0 +1,3 @@
+pub mod Laws
+pub mod Exact
+pub mod Calls

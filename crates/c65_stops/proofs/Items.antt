@@ -1,0 +1,154 @@
+-- The items of a unit (C90 6.7).
+use Rattle.std.proofs.Common.{◌≡◌, ℕ, ◌≤◌, List, [], ◌∷◌, ◌++◌, length, Bool, true, false, refl, sym, ap, ◌∙◌, subst, arith}
+use Rattle.std.proofs.lemmas.List.{append-nil}
+use Rattle.std.specs.Prelude.{Ok, None, ◌&&◌, not}
+use Rattle.c65_base.specs.declared.refusal.Pos.{Pos}
+use Rattle.c65_scan.specs.declared.token.Punct.TheVariants as puncts
+use Rattle.c65_scan.specs.declared.token.Token.{Token}
+use Rattle.c65_scan.specs.declared.token.TokenKind.TheVariants as kinds
+use Rattle.c65_tree.specs.Trees as t
+use Rattle.c65_tree.specs.Depth.{specifiers_depth, declarator_depth, decl_depth, function_depth, item_depth}
+use Rattle.c65_scopes.specs.Scopes.{Blocks}
+use Rattle.c65_parse.specs.Reading.{token_at, specifiers_read}
+use Rattle.c65_stmts.specs.declared.sign.Mark.TheVariants as marks
+use Rattle.c65_stmts.specs.Signs.{sign_of}
+use Rattle.c65_decl.specs.Words.{goes_on}
+use Rattle.c65_decl.specs.Here.{pos_here}
+use Rattle.c65_decl.specs.Declaring.{naming_of, named_read}
+use Rattle.c65_decl.specs.Decls.{declaration_from}
+use Rattle.c65_decl.specs.Units.{function_read, declaration_item, function_item, item_from, empty_item, declared_item, behind_specifiers, item_read}
+use Rattle.c65_grammar.specs.Phrases.{Phrase, token}
+use Rattle.c65_grammar.specs.Parts.{declarator_start, has_type, is_typedef, is_empty}
+use Rattle.c65_grammar.specs.Scopes.{Scope, after_specifiers, declared, after_decl, in_function, after_head, after_item}
+use Rattle.c65_grammar.specs.Expressions as g
+use Rattle.c65_grammar.specs.Statements.{declaration, head_specifiers, function, item}
+use Rattle.c65_grammar.specs.Readings.{Continues}
+use Rattle.c65_derived.proofs.Phrases.{false_true}
+use Rattle.c65_derived.proofs.Begins.{begins_here, declarator_begins}
+use Rattle.c65_derived.proofs.Got.{EndsIn, first_of_mark, is_mark_of}
+use Rattle.c65_faultlaw.proofs.Inits.{marks_it}
+use Rattle.c65_viable.specs.Viable.{FewTypes}
+use Rattle.c65_stops.proofs.Stops.{Stop, Going, Taking, stop_done, stop_if_first, stop_past, stop_seq}
+use Rattle.c65_stops.proofs.Pieces.{IsTaken}
+use Rattle.c65_stops.proofs.Leaves.{head_stops, named_phrase, named_read_stops}
+use Rattle.c65_stops.proofs.Declarations.{from_stops}
+use Rattle.c65_stops.proofs.Goings.{goes_behind, stop_mapped}
+use Rattle.c65_stops.proofs.Needs.{StatementsGoOn}
+use Rattle.c65_stops.proofs.Bodies.{empty_block, braces, braces_are}
+use Rattle.c65_stops.proofs.Functions.{top_of, Headed, function_of, FunctionGoes, FunctionTakes, function_stops}
+
+abbrev ItemGoes : Scope → List Token → Going
+ItemGoes sc zs n ys = Continues (item sc) item_depth n (zs ++ ys)
+
+abbrev ItemTakes : ℕ → Scope → Blocks → List Token → Taking t.ItemTree
+ItemTakes limit sc outer zs i scope ys = IsTaken (item sc) (λ i. after_item sc i ∷ outer) item_depth limit i scope (zs ++ ys)
+
+-- the rest of an item is that of a declaration or of a definition
+declaration_goes : (sc : Scope) (n : ℕ) (ys : List Token) → Continues (declaration sc) decl_depth n ys → Continues (item sc) item_depth n ys
+declaration_goes sc n ys k = record { tree = t.declaration k.tree; more = k.more; derives = k.derives; within = k.within }
+
+declaration_taken : (limit : ℕ) (sc : Scope) (outer : Blocks) (d : t.DeclTree) (scope : Blocks) (ys : List Token) → IsTaken (declaration sc) (λ d. after_decl sc d ∷ outer) decl_depth limit d scope ys → IsTaken (item sc) (λ i. after_item sc i ∷ outer) item_depth limit (t.declaration d) scope ys
+declaration_taken limit sc outer d scope ys p = record { derives = p.derives; scope_is = p.scope_is; within = p.within; few = p.few }
+
+definition_goes : (sc : Scope) (n : ℕ) (ys : List Token) → Continues (function sc) function_depth n ys → Continues (item sc) item_depth n ys
+definition_goes sc n ys k = record { tree = t.definition k.tree; more = k.more; derives = k.derives; within = k.within }
+
+definition_taken : (limit : ℕ) (sc : Scope) (outer : Blocks) (f : t.FunctionTree) (scope : Blocks) (ys : List Token) → IsTaken (function sc) (λ f. after_head sc f ∷ outer) function_depth limit f scope ys → IsTaken (item sc) (λ i. after_item sc i ∷ outer) item_depth limit (t.definition f) scope ys
+definition_taken limit sc outer f scope ys p = record { derives = p.derives; scope_is = p.scope_is; within = p.within; few = p.few }
+
+-- specifiers that are not none
+some_head : (sc : Scope) (l : Pos) (q : t.SpecifiersTree) (zs : List Token) → not (is_empty q) ≡ true → head_specifiers sc l q zs → g.specifiers sc true q zs
+some_head sc l (t.specifiers k t.no_specifiers) zs e p = absurd cc
+some_head sc l (t.specifiers k (t.and_specifier qs r)) zs e p = p
+
+-- none have the place of the declarator behind them
+head_before : (sc : Scope) (q : t.SpecifiersTree) (inner : Scope) (typed : Bool) (d : t.DeclaratorTree) (ts zs xs rest : List Token) → ts ≡ zs ++ (xs ++ rest) → g.declarator (g.named typed) inner (declarator_start d) d xs → head_specifiers sc (pos_here ts) q zs → head_specifiers sc (declarator_start d) q zs
+head_before sc (t.specifiers k t.no_specifiers) inner typed d ts zs xs rest are h p = (p.0 ∙ (ap (λ ys. (token_at ys 0).pos) (are ∙ ap (λ ys. ys ++ (xs ++ rest)) p.1) ∙ begins_here (declarator_start d) xs rest (declarator_begins (g.named typed) inner d (declarator_start d) xs refl h)), p.1)
+head_before sc (t.specifiers k (t.and_specifier qs r)) inner typed d ts zs xs rest are h p = p
+
+both_true : (a b : Bool) → (a && b) ≡ true → (a ≡ true) × (b ≡ true)
+both_true true b h = (refl, h)
+both_true false b h = absurd (false_true h)
+
+item_from_stops : StatementsGoOn → (limit : ℕ) (sc : Scope) (outer : Blocks) (q : t.SpecifiersTree) (d : t.DeclaratorTree) (zs xs unit us ts : List Token) → 1 ≤ limit → Headed limit sc q d zs xs → FewTypes (top_of sc q d ∷ outer) → EndsIn ts → length ts ≤ length unit
+    → Stop limit 0 0 0 (λ n ys. ItemGoes sc zs n (xs ++ ys)) (λ i scope ys. ItemTakes limit sc outer zs i scope (xs ++ ys)) (λ unit us ys. item_from limit unit q d (not (is_empty q)) (top_of sc q d ∷ outer) ys) unit us ts
+item_from_stops statements limit sc outer q d zs xs unit us ts one h few ends fit =
+    let goes : Going = λ n ys. ItemGoes sc zs n (xs ++ ys) in
+    let takes : Taking t.ItemTree = λ i scope ys. ItemTakes limit sc outer zs i scope (xs ++ ys) in
+    let scope = top_of sc q d ∷ outer in
+    stop_if_first limit 0 0 0 goes takes (λ x. not (is_empty q) && goes_on (sign_of x.kind)) (λ unit us ys. declaration_item limit unit q d scope ys) (λ unit us ys. function_item limit unit q d scope ys) unit us ts
+    (λ e. stop_mapped limit 0 0 0 t.declaration (λ n ys. Continues (declaration sc) decl_depth n (zs ++ (xs ++ ys))) goes (λ e scope ys. IsTaken (declaration sc) (λ e. after_decl sc e ∷ outer) decl_depth limit e scope (zs ++ (xs ++ ys))) takes (λ unit us ys. declaration_from limit unit q d scope ys) unit us ts ends
+    (from_stops limit q sc outer d unit us ts zs xs one (some_head sc (declarator_start d) q zs (both_true (not (is_empty q)) (goes_on (sign_of (token_at ts 0).kind)) e).0 h.head) h.small h.name h.short few ends fit)
+    (λ n ys high k. declaration_goes sc n (zs ++ (xs ++ ys)) k)
+    (λ e scope ys p. declaration_taken limit sc outer e scope (zs ++ (xs ++ ys)) p))
+    (λ e. stop_mapped limit 0 0 0 t.definition (FunctionGoes sc zs xs) goes (FunctionTakes limit sc outer zs xs) takes (λ unit us ys. function_read limit unit q d scope ys) unit us ts ends
+    (function_stops statements limit sc outer q d zs xs unit us ts one h few ends fit)
+    (λ n ys high k. definition_goes sc n (zs ++ (xs ++ ys)) k)
+    (λ f scope ys p. definition_taken limit sc outer f scope (zs ++ (xs ++ ys)) p))
+
+-- a declarator that was begun, behind specifiers or none: then a semicolon, or an empty body, would follow
+abbrev no_place : Pos
+no_place = record { file = 0; line = 1 }
+
+abbrev semicolon : List Token
+semicolon = token (kinds.Punct puncts.Semicolon) no_place ∷ []
+
+abbrev declared_item_of : t.SpecifiersTree → t.DeclaratorTree → t.ItemTree
+declared_item_of (t.specifiers k t.no_specifiers) d = t.definition (function_of (t.specifiers (declarator_start d) t.no_specifiers) d [] empty_block)
+declared_item_of (t.specifiers k (t.and_specifier qs r)) d = t.declaration (record { specifiers = t.specifiers k (t.and_specifier qs r); declarators = record { declarator = d; init = None } ∷ [] })
+
+abbrev declared_tail : t.SpecifiersTree → List Token
+declared_tail (t.specifiers k t.no_specifiers) = braces
+declared_tail (t.specifiers k (t.and_specifier qs r)) = semicolon
+
+declared_whole : (sc : Scope) (l : Pos) (q : t.SpecifiersTree) (d : t.DeclaratorTree) (n : ℕ) (zs xs : List Token) → 1 ≤ n → head_specifiers sc l q zs → specifiers_depth q ≤ n → g.declarator (g.named (has_type q)) (after_specifiers sc q) (declarator_start d) d xs → declarator_depth d ≤ n
+    → item sc (declared_item_of q d) (zs ++ (xs ++ declared_tail q)) × (item_depth (declared_item_of q d) ≤ n)
+declared_whole sc l (t.specifiers k t.no_specifiers) d n zs xs one p small h short = ((zs, xs ++ braces, refl, (refl, p.1), (xs, braces, refl, h, ([], braces, refl, refl, (refl, braces_are (in_function (declared false sc d) d))))), omega (arith, one, short))
+declared_whole sc l (t.specifiers k (t.and_specifier qs r)) d n zs xs one p small h short = ((zs, xs ++ semicolon, refl, p, (xs, semicolon, refl, ([], xs, refl, refl, (xs, [], sym (append-nil xs), h, ([], [], refl, refl, refl))), (no_place, refl))), omega (arith, small, short))
+
+declared_goes : (sc : Scope) (l : Pos) (q : t.SpecifiersTree) (n : ℕ) (zs ys : List Token) → 1 ≤ n → head_specifiers sc l q zs → specifiers_depth q ≤ n → Continues (named_phrase (has_type q) (after_specifiers sc q)) declarator_depth n ys → ItemGoes sc zs n ys
+declared_goes sc l q n zs ys one p small k = goes_behind (named_phrase (has_type q) (after_specifiers sc q)) (item sc) declarator_depth item_depth n zs ys (declared_item_of q) (λ d. declared_tail q) k (λ d us h short. declared_whole sc l q d n zs us one p small h short)
+
+declared_stops : StatementsGoOn → (limit : ℕ) (sc : Scope) (outer : Blocks) (q : t.SpecifiersTree) (all zs unit us ts : List Token) → 1 ≤ limit → all ≡ zs ++ ts → head_specifiers sc (pos_here all) q zs → specifiers_depth q ≤ limit → FewTypes (after_specifiers sc q ∷ outer) → EndsIn ts → length ts ≤ length unit
+    → Stop limit 0 1 0 (ItemGoes sc zs) (ItemTakes limit sc outer zs) (λ unit us ys. declared_item limit unit q (after_specifiers sc q ∷ outer) ys) unit us ts
+declared_stops statements limit sc outer q all zs unit us ts one are p small few ends fit =
+    let inner = after_specifiers sc q in
+    let named : t.DeclaratorTree → Phrase = named_phrase (has_type q) inner in
+    stop_seq limit 0 0 1 0 1 0 0 (Continues named declarator_depth) (ItemGoes sc zs) (IsTaken named (λ d. declared (is_typedef q) inner d ∷ outer) declarator_depth limit) (ItemTakes limit sc outer zs) (λ unit us ys. named_read limit (naming_of q) (inner ∷ outer) ys) (λ unit us d. item_from limit unit q d.0 (not (is_empty q)) d.2 d.1) unit us ts (omega arith) (omega arith) (omega arith) ends
+    (named_read_stops limit q inner outer unit us ts one few ends)
+    (λ n ys high k. declared_goes sc (pos_here all) q n zs ys (omega (arith, one, high)) p (omega (arith, small, high)) k)
+    (λ d scope xs rest r also left shorter. subst (λ s. Stop limit 0 0 0 (λ n ys. ItemGoes sc zs n (xs ++ ys)) (λ i scope ys. ItemTakes limit sc outer zs i scope (xs ++ ys)) (λ unit us ys. item_from limit unit q d (not (is_empty q)) s ys) unit us rest) (sym r.scope_is)
+    (item_from_stops statements limit sc outer q d zs xs unit us rest one (record { head = head_before sc q inner (has_type q) d all zs xs rest (are ∙ ap (λ ys. zs ++ ys) also) r.derives p; name = r.derives; small = small; short = r.within }) (subst FewTypes r.scope_is r.few) left (omega (arith, fit, shorter))))
+
+-- an empty declaration, at its semicolon
+empty_stops : (limit : ℕ) (sc : Scope) (outer : Blocks) (q : t.SpecifiersTree) (zs unit us ts : List Token) → g.specifiers sc true q zs → specifiers_depth q ≤ limit → FewTypes (after_specifiers sc q ∷ outer) → marks_it marks.Semicolon (token_at ts 0) ≡ true → EndsIn ts
+    → Stop limit 0 1 0 (ItemGoes sc zs) (ItemTakes limit sc outer zs) (λ unit us ys. empty_item q (after_specifiers sc q ∷ outer) ys) unit us ts
+empty_stops limit sc outer q zs unit us ts p small few e ends =
+    let scope = after_specifiers sc q ∷ outer in
+    let tree : t.ItemTree = t.declaration (record { specifiers = q; declarators = [] }) in
+    let first = first_of_mark marks.Semicolon ts refl e ends in
+    stop_past limit 0 0 0 1 0 0 (ItemGoes sc zs) (ItemTakes limit sc outer zs) (λ unit us ys. Ok (tree, ys, scope)) unit us ts (omega arith) (omega arith) (omega arith) first
+    (stop_done limit 0 0 (λ n ys. ItemGoes sc zs n (first.tok ∷ ys)) (λ i scope ys. ItemTakes limit sc outer zs i scope (first.tok ∷ ys)) tree scope unit us first.rest first.ends
+    (record { derives = (zs, first.tok ∷ [], refl, p, ([], first.tok ∷ [], refl, refl, is_mark_of marks.Semicolon ts first e)); scope_is = refl; within = omega (arith, small); few = few }))
+
+-- specifiers that were begun: then a semicolon would follow
+head_goes : (sc : Scope) (n : ℕ) (ys : List Token) → Continues (g.specifiers sc true) specifiers_depth n ys → Continues (item sc) item_depth n ys
+head_goes sc n ys k = goes_behind (g.specifiers sc true) (item sc) specifiers_depth item_depth n [] ys (λ q. t.declaration (record { specifiers = q; declarators = [] })) (λ q. semicolon) k (λ q us p small. ((us, semicolon, refl, p, ([], semicolon, refl, refl, (no_place, refl))), omega (arith, small)))
+
+-- behind specifiers, or none
+specified_stops : StatementsGoOn → (limit : ℕ) (sc : Scope) (outer : Blocks) (q : t.SpecifiersTree) (all zs unit us ts : List Token) → 1 ≤ limit → all ≡ zs ++ ts → head_specifiers sc (pos_here all) q zs → specifiers_depth q ≤ limit → FewTypes (after_specifiers sc q ∷ outer) → EndsIn ts → length ts ≤ length unit
+    → Stop limit 0 1 0 (ItemGoes sc zs) (ItemTakes limit sc outer zs) (λ unit us ys. behind_specifiers limit unit q (after_specifiers sc q ∷ outer) ys) unit us ts
+specified_stops statements limit sc outer q all zs unit us ts one are p small few ends fit =
+    let scope = after_specifiers sc q ∷ outer in
+    stop_if_first limit 0 1 0 (ItemGoes sc zs) (ItemTakes limit sc outer zs) (λ x. not (is_empty q) && marks_it marks.Semicolon x) (λ unit us ys. empty_item q scope ys) (λ unit us ys. declared_item limit unit q scope ys) unit us ts
+    (λ e. let two = both_true (not (is_empty q)) (marks_it marks.Semicolon (token_at ts 0)) e in empty_stops limit sc outer q zs unit us ts (some_head sc (pos_here all) q zs two.0 p) small few two.1 ends)
+    (λ e. declared_stops statements limit sc outer q all zs unit us ts one are p small few ends fit)
+
+pub item_stops : StatementsGoOn → (limit : ℕ) (sc : Scope) (outer : Blocks) (unit us ts : List Token) → 1 ≤ limit → FewTypes (sc ∷ outer) → EndsIn ts → length ts ≤ length unit
+    → Stop limit 0 1 0 (Continues (item sc) item_depth) (IsTaken (item sc) (λ i. after_item sc i ∷ outer) item_depth limit) (λ unit us ys. item_read limit unit (sc ∷ outer) ys) unit us ts
+item_stops statements limit sc outer unit us ts one few ends fit =
+    stop_seq limit 0 0 0 1 1 0 0 (Continues (g.specifiers sc true) specifiers_depth) (ItemGoes sc []) (IsTaken (head_specifiers sc (pos_here ts)) (λ q. after_specifiers sc q ∷ outer) specifiers_depth limit) (ItemTakes limit sc outer []) (λ unit us ys. specifiers_read limit (sc ∷ outer) ys) (λ unit us q. behind_specifiers limit unit q.0 q.2 q.1) unit us ts (omega arith) (omega arith) (omega arith) ends
+    (head_stops limit sc outer unit us ts one few ends)
+    (λ n ys high k. head_goes sc n ys k)
+    (λ q scope zs rest p are left shorter. subst (λ s. Stop limit 0 1 0 (ItemGoes sc zs) (ItemTakes limit sc outer zs) (λ unit us ys. behind_specifiers limit unit q s ys) unit us rest) (sym p.scope_is)
+    (specified_stops statements limit sc outer q ts zs unit us rest one are p.derives p.within (subst FewTypes p.scope_is p.few) left (omega (arith, fit, shorter))))

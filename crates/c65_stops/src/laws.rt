@@ -1,0 +1,12 @@
+// That a fault stands at the first token with which nothing within the limit of depth goes on.
+ghost use Rattle.c65_stops.specs.Laws.{InitsStop, DeclarationsStop};
+
+/// An initialiser (C90 6.5.7).
+pub fn initialisers_stop()
+    ensures { InitsStop }
+{}
+
+/// A declaration (C90 6.5).
+pub fn declarations_stop()
+    ensures { DeclarationsStop }
+{}
