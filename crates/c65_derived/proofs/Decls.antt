@@ -28,11 +28,11 @@ abbrev pub still_first : Bool → List t.InitDeclaratorTree → Bool
 still_first first [] = first
 still_first first (d ∷ ds) = false
 
-never_first : (ds : List t.InitDeclaratorTree) → still_first false ds ≡ false
+pub never_first : (ds : List t.InitDeclaratorTree) → still_first false ds ≡ false
 never_first [] = refl
 never_first (d ∷ ds) = refl
 
-behind_one : (first : Bool) (ds : List t.InitDeclaratorTree) (d : t.InitDeclaratorTree) → still_first first (ds ++ d ∷ []) ≡ false
+pub behind_one : (first : Bool) (ds : List t.InitDeclaratorTree) (d : t.InitDeclaratorTree) → still_first first (ds ++ d ∷ []) ≡ false
 behind_one first [] d = refl
 behind_one first (e ∷ ds) d = refl
 
@@ -43,21 +43,21 @@ regroup3 : {A B C D E : Phrase} {ts : List Token} → ((A ▸ (B ▸ (C ▸ D)))
 regroup3 p = map_right (λ ys r. map_right (λ zs u. regroup u) (regroup r)) (regroup p)
 
 -- one more declarator, with its initialiser
-one_more : (q : t.SpecifiersTree) (ds : List t.InitDeclaratorTree) (first : Bool) (sc : Scope) (e : t.DeclaratorTree) (i : Option t.InitTree) (xs : List Token)
+pub one_more : (q : t.SpecifiersTree) (ds : List t.InitDeclaratorTree) (first : Bool) (sc : Scope) (e : t.DeclaratorTree) (i : Option t.InitTree) (xs : List Token)
     → (init_declarators first q sc ds ▸ (comma_unless (still_first first ds) ▸ (g.declarator (g.named (has_type q)) (after_declarators (is_typedef q) sc ds) (declarator_start e) e ▸ optional_init (declared (is_typedef q) (after_declarators (is_typedef q) sc ds) e) i))) xs
     → init_declarators first q sc (with_declarator ds e i) xs
 one_more q [] first sc e i xs p = map_right (λ ys r. map_right (λ zs u. behind_nothing u) r) (at_nothing _ xs p)
 one_more q (d ∷ ds) first sc e i xs p = map_right (λ ys r. map_right (λ zs u. map_right (λ vs m. one_more q ds false (after_maybe_init (declared (is_typedef q) sc d.declarator) d.init) e i vs (map_right (λ us n. map_left (λ os x. subst (λ b. comma_unless b os) (sym (never_first ds)) x) n) m)) u) r) (regroup3 p)
 
-behind_more : (is_type : Bool) (ds : List t.InitDeclaratorTree) (sc : Scope) (e : t.DeclaratorTree) (i : Option t.InitTree) → after_maybe_init (declared is_type (after_declarators is_type sc ds) e) i ≡ after_declarators is_type sc (with_declarator ds e i)
+pub behind_more : (is_type : Bool) (ds : List t.InitDeclaratorTree) (sc : Scope) (e : t.DeclaratorTree) (i : Option t.InitTree) → after_maybe_init (declared is_type (after_declarators is_type sc ds) e) i ≡ after_declarators is_type sc (with_declarator ds e i)
 behind_more is_type [] sc e i = refl
 behind_more is_type (d ∷ ds) sc e i = behind_more is_type ds (after_maybe_init (declared is_type sc d.declarator) d.init) e i
 
-abbrev progress_front : t.SpecifiersTree → Scope → Progress → Phrase
+abbrev pub progress_front : t.SpecifiersTree → Scope → Progress → Phrase
 progress_front q sc (all_declared ds) = init_declarators true q sc ds ▸ some_mark puncts.Semicolon
 progress_front q sc (more_declared ds e) = init_declarators true q sc ds ▸ next_front (still_first true ds) q (after_declarators (is_typedef q) sc ds) e
 
-abbrev progress_behind : t.SpecifiersTree → Scope → Blocks → Progress → Blocks
+abbrev pub progress_behind : t.SpecifiersTree → Scope → Blocks → Progress → Blocks
 progress_behind q sc outer (all_declared ds) = after_declarators (is_typedef q) sc ds ∷ outer
 progress_behind q sc outer (more_declared ds e) = declared (is_typedef q) (after_declarators (is_typedef q) sc ds) e ∷ outer
 

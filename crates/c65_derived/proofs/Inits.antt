@@ -68,11 +68,11 @@ end_got scope ts ends = got_if _ _ ts (is_here marks.Comma ts) _ _
     (λ e. brace_got _ scope ts ends (λ last n. ([], last ∷ [], refl, (true, refl), n)))
 
 -- one more initialiser in the list
-one_more : (sc : Scope) (l : OpenList) (ls : List OpenList) (i : t.InitTree) (xs : List Token) → (lists_front sc (l ∷ ls) ▸ initialiser (inits_scope sc (l ∷ ls)) i) xs → (lists_front sc ls ▸ (mark l.place puncts.OpenBrace ▸ initialisers (inits_scope sc ls) (t.and_init l.inits i))) xs
+pub one_more : (sc : Scope) (l : OpenList) (ls : List OpenList) (i : t.InitTree) (xs : List Token) → (lists_front sc (l ∷ ls) ▸ initialiser (inits_scope sc (l ∷ ls)) i) xs → (lists_front sc ls ▸ (mark l.place puncts.OpenBrace ▸ initialisers (inits_scope sc ls) (t.and_init l.inits i))) xs
 one_more sc l ls i xs p = map_right (λ ys q. map_right (λ zs r. regroup r) (regroup q)) (regroup p)
 
 -- the list ends
-list_built : (sc : Scope) (l : OpenList) (ls : List OpenList) (i : t.InitTree) (xs : List Token) → ((lists_front sc ls ▸ (mark l.place puncts.OpenBrace ▸ initialisers (inits_scope sc ls) (t.and_init l.inits i))) ▸ (optional_comma ▸ some_mark puncts.CloseBrace)) xs → (lists_front sc ls ▸ initialiser (inits_scope sc ls) (t.list l.place (t.and_init l.inits i))) xs
+pub list_built : (sc : Scope) (l : OpenList) (ls : List OpenList) (i : t.InitTree) (xs : List Token) → ((lists_front sc ls ▸ (mark l.place puncts.OpenBrace ▸ initialisers (inits_scope sc ls) (t.and_init l.inits i))) ▸ (optional_comma ▸ some_mark puncts.CloseBrace)) xs → (lists_front sc ls ▸ initialiser (inits_scope sc ls) (t.list l.place (t.and_init l.inits i))) xs
 list_built sc l ls i xs p = map_right (λ ys q. map_right (λ zs r. map_left (λ vs u. (refl, u)) r) (regroup q)) (regroup p)
 
 next_got : (sc : Scope) (outer : Blocks) (l : OpenList) (ls : List OpenList) (i : t.InitTree) (xs : List Token) → (lists_front sc (l ∷ ls) ▸ initialiser (inits_scope sc (l ∷ ls)) i) xs
@@ -101,7 +101,7 @@ element_got : (limit : ℕ) (around : ℕ) (sc : Scope) (outer : Blocks) (ts : L
 element_got limit around sc outer ts ends = expr_got (limit - around) 1 sc outer ts (omega arith) ends
 
 -- the element is an initialiser, which begins here
-element_is : (sc : Scope) (e : t.ExprTree) (ts xs rest : List Token) → ts ≡ xs ++ rest → given (1 ≤ level e) (g.expr sc e) xs → initialiser sc (t.value (pos_here ts) e) xs
+pub element_is : (sc : Scope) (e : t.ExprTree) (ts xs rest : List Token) → ts ≡ xs ++ rest → given (1 ≤ level e) (g.expr sc e) xs → initialiser sc (t.value (pos_here ts) e) xs
 element_is sc e ts xs rest are p = ((sym (begins_here (start e) xs rest (expr_begins sc e xs p.1)) ∙ sym (ap (λ ys. (token_at ys 0).pos) are), p.0), p.1)
 
 step_got : (limit : ℕ) (sc : Scope) (outer : Blocks) (ls : List OpenList) (ts xs : List Token) → lists_front sc ls xs → EndsIn ts → Got (λ r ys. state_front sc r (xs ++ ys)) (state_behind sc outer) ts (initialiser_step limit ls (inits_scope sc ls ∷ outer) ts)

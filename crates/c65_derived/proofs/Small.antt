@@ -132,7 +132,7 @@ optional_init_within : (limit : ℕ) (unit : List Token) (scope : Blocks) (ts : 
 optional_init_within limit unit scope ts = within_if _ (is_here marks.Equal ts) (initialiser_read limit unit scope (after_token ts) >>= (λ i. Ok (Some i.0, i.1, i.2))) (Ok (None, ts, scope)) (λ e. map_within Some (λ i. init_depth i ≤ limit) (λ o. of_option init_depth o ≤ limit) (initialiser_read limit unit scope (after_token ts)) (init_run limit unit [] scope (after_token ts) tt) (λ i h. h)) (λ e. omega arith)
 
 -- declarations
-one_deeper : (limit : ℕ) → {A : Type 0} (f : A → ℕ) (xs : List A) (x : A) → deepest f xs ≤ limit → f x ≤ limit → deepest f (xs ++ x ∷ []) ≤ limit
+pub one_deeper : (limit : ℕ) → {A : Type 0} (f : A → ℕ) (xs : List A) (x : A) → deepest f xs ≤ limit → f x ≤ limit → deepest f (xs ++ x ∷ []) ≤ limit
 one_deeper limit f [] x h k = omega (arith, k)
 one_deeper limit f (y ∷ xs) x h k = let rest = one_deeper limit f xs x (omega (arith, h)) k in omega (arith, h, rest)
 

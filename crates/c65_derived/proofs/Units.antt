@@ -182,11 +182,11 @@ item_got limit unit sc outer ts ends = seq _ _ _ _ ts (specifiers_read limit (sc
     (λ e. declared_got limit unit sc outer q ts zs rest are p left))
 
 -- one more item
-one_more : (sc : Scope) (is : List t.ItemTree) (i : t.ItemTree) (xs : List Token) → (items sc is ▸ item (after_items sc is) i) xs → items sc (is ++ i ∷ []) xs
+pub one_more : (sc : Scope) (is : List t.ItemTree) (i : t.ItemTree) (xs : List Token) → (items sc is ▸ item (after_items sc is) i) xs → items sc (is ++ i ∷ []) xs
 one_more sc [] i xs p = behind_nothing (at_nothing (item sc i) xs p)
 one_more sc (j ∷ is) i xs p = map_right (λ ys q. one_more (after_item sc j) is i ys q) (regroup p)
 
-behind_more : (sc : Scope) (is : List t.ItemTree) (i : t.ItemTree) → after_item (after_items sc is) i ≡ after_items sc (is ++ i ∷ [])
+pub behind_more : (sc : Scope) (is : List t.ItemTree) (i : t.ItemTree) → after_item (after_items sc is) i ≡ after_items sc (is ++ i ∷ [])
 behind_more sc [] i = refl
 behind_more sc (j ∷ is) i = behind_more (after_item sc j) is i
 

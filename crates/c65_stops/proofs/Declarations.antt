@@ -24,13 +24,15 @@ use Rattle.c65_derived.proofs.Phrases.{both}
 use Rattle.c65_derived.proofs.Got.{EndsIn}
 use Rattle.c65_derived.proofs.Inits.{nil_behind}
 use Rattle.c65_derived.proofs.Declarations.{one_more, behind_more}
+use Rattle.c65_derived.proofs.Decls.{progress_front}
+use Rattle.c65_derived.proofs.Small.{one_deeper}
 use Rattle.c65_faultlaw.proofs.Seq.{tail}
 use Rattle.c65_faultlaw.proofs.Inits.{marks_it}
 use Rattle.c65_viable.specs.Viable.{FewTypes}
 use Rattle.c65_stops.proofs.Pieces.{IsTaken, shorter}
 use Rattle.c65_stops.proofs.Stops.{Going, Taking, Stop, stop_done, stop_alike, stop_regrouped, stop_in_scope, stop_if_first, stop_past_mark, stop_seq, stop_tailed, stop_all_steps}
 use Rattle.c65_stops.proofs.Leaves.{specifiers_stop_here, named_phrase, named_read_stops}
-use Rattle.c65_stops.proofs.Decls.{progress_front, Rest, rest_phrase, Listed, semicolon, is_semicolon, declared_goes, with_init, fits_with, one_deeper, deeper_still, run_stops}
+use Rattle.c65_stops.proofs.Decls.{Rest, rest_phrase, Listed, semicolon, is_semicolon, declared_goes, with_init, fits_with, deeper_still, run_stops}
 
 -- the tokens of specifiers and of what stands behind them
 abbrev Declared : Scope → Going

@@ -26,7 +26,8 @@ use Rattle.c65_derived.proofs.Phrases.{regroup, map_left, map_right, attach, beh
 use Rattle.c65_derived.proofs.Members.{comma_after}
 use Rattle.c65_derived.proofs.Got.{EndsIn}
 use Rattle.c65_derived.proofs.Inits.{at_nothing, nil_behind}
-use Rattle.c65_derived.proofs.Decls.{still_first, next_front}
+use Rattle.c65_derived.proofs.Decls.{still_first, next_front, behind_one, one_more, behind_more, progress_front, progress_behind}
+use Rattle.c65_derived.proofs.Small.{one_deeper}
 use Rattle.c65_faultlaw.proofs.Seq.{tail}
 use Rattle.c65_faultlaw.proofs.Inits.{marks_it}
 use Rattle.c65_viable.specs.Viable.{FewTypes}
@@ -34,41 +35,6 @@ use Rattle.c65_stops.proofs.Pieces.{IsTaken, shorter}
 use Rattle.c65_stops.proofs.Stops.{Going, Taking, Stop, stop_done, stop_alike, stop_regrouped, stop_in_scope, stop_if_first, stop_past_mark, mark_taken, stop_seq, stop_mark, stop_tailed}
 use Rattle.c65_stops.proofs.Leaves.{named_phrase, named_read_stops}
 use Rattle.c65_stops.proofs.Inits.{optional_init_stops}
-
--- a list of declarators and one more
-never_first : (ds : List t.InitDeclaratorTree) → still_first false ds ≡ false
-never_first [] = refl
-never_first (d ∷ ds) = refl
-
-behind_one : (first : Bool) (ds : List t.InitDeclaratorTree) (d : t.InitDeclaratorTree) → still_first first (ds ++ d ∷ []) ≡ false
-behind_one first [] d = refl
-behind_one first (e ∷ ds) d = refl
-
-regroup3 : {A B C D E : Phrase} {ts : List Token} → ((A ▸ (B ▸ (C ▸ D))) ▸ E) ts → (A ▸ (B ▸ (C ▸ (D ▸ E)))) ts
-regroup3 p = map_right (λ ys r. map_right (λ zs u. regroup u) (regroup r)) (regroup p)
-
-one_more : (q : t.SpecifiersTree) (ds : List t.InitDeclaratorTree) (first : Bool) (sc : Scope) (e : t.DeclaratorTree) (i : Option t.InitTree) (xs : List Token)
-    → (init_declarators first q sc ds ▸ (comma_unless (still_first first ds) ▸ (g.declarator (g.named (has_type q)) (after_declarators (is_typedef q) sc ds) (declarator_start e) e ▸ optional_init (declared (is_typedef q) (after_declarators (is_typedef q) sc ds) e) i))) xs
-    → init_declarators first q sc (with_declarator ds e i) xs
-one_more q [] first sc e i xs p = map_right (λ ys r. map_right (λ zs u. behind_nothing u) r) (at_nothing _ xs p)
-one_more q (d ∷ ds) first sc e i xs p = map_right (λ ys r. map_right (λ zs u. map_right (λ vs m. one_more q ds false (after_maybe_init (declared (is_typedef q) sc d.declarator) d.init) e i vs (map_right (λ us n. map_left (λ os x. subst (λ b. comma_unless b os) (sym (never_first ds)) x) n) m)) u) r) (regroup3 p)
-
-behind_more : (is_type : Bool) (ds : List t.InitDeclaratorTree) (sc : Scope) (e : t.DeclaratorTree) (i : Option t.InitTree) → after_maybe_init (declared is_type (after_declarators is_type sc ds) e) i ≡ after_declarators is_type sc (with_declarator ds e i)
-behind_more is_type [] sc e i = refl
-behind_more is_type (d ∷ ds) sc e i = behind_more is_type ds (after_maybe_init (declared is_type sc d.declarator) d.init) e i
-
-pub one_deeper : (limit : ℕ) → {A : Type 0} (f : A → ℕ) (xs : List A) (x : A) → deepest f xs ≤ limit → f x ≤ limit → deepest f (xs ++ x ∷ []) ≤ limit
-one_deeper limit f [] x h k = omega (arith, k)
-one_deeper limit f (y ∷ xs) x h k = let rest = one_deeper limit f xs x (omega (arith, h)) k in omega (arith, h, rest)
-
--- the tokens behind specifiers
-abbrev pub progress_front : t.SpecifiersTree → Scope → Progress → Phrase
-progress_front q sc (all_declared ds) = init_declarators true q sc ds ▸ some_mark puncts.Semicolon
-progress_front q sc (more_declared ds e) = init_declarators true q sc ds ▸ next_front (still_first true ds) q (after_declarators (is_typedef q) sc ds) e
-
-abbrev progress_behind : t.SpecifiersTree → Scope → Blocks → Progress → Blocks
-progress_behind q sc outer (all_declared ds) = after_declarators (is_typedef q) sc ds ∷ outer
-progress_behind q sc outer (more_declared ds e) = declared (is_typedef q) (after_declarators (is_typedef q) sc ds) e ∷ outer
 
 abbrev ProgressFits : (limit : ℕ) → Progress → Type 0
 ProgressFits limit (all_declared ds) = deepest init_declarator_depth ds ≤ limit

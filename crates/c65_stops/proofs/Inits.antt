@@ -27,7 +27,7 @@ use Rattle.c65_grammar.specs.Readings.{Continues}
 use Rattle.c65_derived.proofs.Phrases.{both, regroup, map_left, map_right, attach}
 use Rattle.c65_derived.proofs.Begins.{expr_begins, begins_here}
 use Rattle.c65_derived.proofs.Got.{EndsIn, First, first_of_mark, kind_of_mark, one_here}
-use Rattle.c65_derived.proofs.Inits.{inits_scope, lists_front, state_front, state_behind, at_nothing, nil_behind}
+use Rattle.c65_derived.proofs.Inits.{one_more, list_built, element_is, inits_scope, lists_front, state_front, state_behind, at_nothing, nil_behind}
 use Rattle.c65_complete.proofs.Firsts.{expr_deep}
 use Rattle.c65_faultlaw.proofs.Local.{here_is}
 use Rattle.c65_faultlaw.proofs.Seq.{tail}
@@ -67,14 +67,6 @@ somewhere = record { file = 0; line = 1 }
 
 abbrev close_brace : Token
 close_brace = token (kinds.Punct puncts.CloseBrace) somewhere
-
--- one more initialiser in the list
-one_more : (sc : Scope) (l : OpenList) (ls : List OpenList) (i : t.InitTree) (xs : List Token) → (lists_front sc (l ∷ ls) ▸ initialiser (inits_scope sc (l ∷ ls)) i) xs → (lists_front sc ls ▸ (mark l.place puncts.OpenBrace ▸ initialisers (inits_scope sc ls) (t.and_init l.inits i))) xs
-one_more sc l ls i xs p = map_right (λ ys q. map_right (λ zs r. regroup r) (regroup q)) (regroup p)
-
--- the list ends
-list_built : (sc : Scope) (l : OpenList) (ls : List OpenList) (i : t.InitTree) (xs : List Token) → ((lists_front sc ls ▸ (mark l.place puncts.OpenBrace ▸ initialisers (inits_scope sc ls) (t.and_init l.inits i))) ▸ (optional_comma ▸ some_mark puncts.CloseBrace)) xs → (lists_front sc ls ▸ initialiser (inits_scope sc ls) (t.list l.place (t.and_init l.inits i))) xs
-list_built sc l ls i xs p = map_right (λ ys q. map_right (λ zs r. map_left (λ vs u. (refl, u)) r) (regroup q)) (regroup p)
 
 -- behind an initialiser the lists close
 closed_goes : (n : ℕ) (sc : Scope) (ls : List OpenList) (i : t.InitTree) (xs : List Token) → ListsFit n ls → init_depth i + length ls ≤ n → (lists_front sc ls ▸ initialiser (inits_scope sc ls) i) xs → Whole sc n xs
@@ -178,10 +170,6 @@ element_stops limit around sc outer unit us ts room few ends = lifted (limit - a
     (λ ys k. k)
     (λ n ys low k. (n + around, omega (arith, room, low), subst (λ m. Continues (element sc) expr_depth m ys) (omega arith) k))
     (exprs_stop_here (limit - around) 1 sc outer unit us ts (omega (arith, room)) (omega arith) few ends)
-
--- the element is an initialiser, which begins here
-element_is : (sc : Scope) (e : t.ExprTree) (ts xs rest : List Token) → ts ≡ xs ++ rest → element sc e xs → initialiser sc (t.value (pos_here ts) e) xs
-element_is sc e ts xs rest are p = ((sym (begins_here (start e) xs rest (expr_begins sc e xs p.1)) ∙ sym (ap (λ ys. (token_at ys 0).pos) are), p.0), p.1)
 
 value_stops : (limit : ℕ) (sc : Scope) (outer : Blocks) (ls : List OpenList) (unit us ts xs : List Token) → lists_front sc ls xs → FewTypes (inits_scope sc ls ∷ outer) → ListsFit limit ls → 1 + length ls ≤ limit → EndsIn ts
     → Stop limit 0 1 0 (λ n ys. Whole sc n (xs ++ ys)) (λ r scope ys. IsState limit sc outer r scope (xs ++ ys)) (λ unit us ys. element_read limit (length ls) (inits_scope sc ls ∷ outer) ys >>= (λ e. lists_closed ls (t.value (pos_here ts) e.0) e.2 e.1)) unit us ts
