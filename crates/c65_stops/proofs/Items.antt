@@ -3,9 +3,7 @@ use Rattle.std.proofs.Common.{◌≡◌, ℕ, ◌≤◌, List, [], ◌∷◌, �
 use Rattle.std.proofs.lemmas.List.{append-nil}
 use Rattle.std.specs.Prelude.{Ok, None, ◌&&◌, not}
 use Rattle.c65_base.specs.declared.refusal.Pos.{Pos}
-use Rattle.c65_scan.specs.declared.token.Punct.TheVariants as puncts
 use Rattle.c65_scan.specs.declared.token.Token.{Token}
-use Rattle.c65_scan.specs.declared.token.TokenKind.TheVariants as kinds
 use Rattle.c65_tree.specs.Trees as t
 use Rattle.c65_tree.specs.Depth.{specifiers_depth, declarator_depth, decl_depth, function_depth, item_depth}
 use Rattle.c65_scopes.specs.Scopes.{Blocks}
@@ -15,23 +13,24 @@ use Rattle.c65_stmts.specs.Signs.{sign_of}
 use Rattle.c65_decl.specs.Words.{goes_on}
 use Rattle.c65_decl.specs.Here.{pos_here}
 use Rattle.c65_decl.specs.Declaring.{naming_of, named_read}
-use Rattle.c65_decl.specs.Decls.{declaration_from}
+use Rattle.c65_decl.specs.Decls.{declaration_from, empty_declaration}
 use Rattle.c65_decl.specs.Units.{function_read, declaration_item, function_item, item_from, empty_item, declared_item, behind_specifiers, item_read}
-use Rattle.c65_grammar.specs.Phrases.{Phrase, token}
+use Rattle.c65_grammar.specs.Phrases.{Phrase}
 use Rattle.c65_grammar.specs.Parts.{declarator_start, has_type, is_typedef, is_empty}
 use Rattle.c65_grammar.specs.Scopes.{Scope, after_specifiers, declared, after_decl, in_function, after_head, after_item}
 use Rattle.c65_grammar.specs.Expressions as g
 use Rattle.c65_grammar.specs.Statements.{declaration, head_specifiers, function, item}
 use Rattle.c65_grammar.specs.Readings.{Continues}
-use Rattle.c65_derived.proofs.Phrases.{false_true}
+use Rattle.c65_derived.proofs.Statements.{both_true}
 use Rattle.c65_derived.proofs.Begins.{begins_here, declarator_begins}
-use Rattle.c65_derived.proofs.Got.{EndsIn, first_of_mark, is_mark_of}
+use Rattle.c65_derived.proofs.Got.{EndsIn}
 use Rattle.c65_faultlaw.proofs.Inits.{marks_it}
 use Rattle.c65_viable.specs.Viable.{FewTypes}
-use Rattle.c65_stops.proofs.Stops.{Stop, Going, Taking, stop_done, stop_if_first, stop_past, stop_seq}
+use Rattle.c65_stops.proofs.Stops.{Stop, Going, Taking, stop_if_first, stop_seq}
 use Rattle.c65_stops.proofs.Pieces.{IsTaken}
 use Rattle.c65_stops.proofs.Leaves.{head_stops, named_phrase, named_read_stops}
-use Rattle.c65_stops.proofs.Declarations.{from_stops}
+use Rattle.c65_stops.proofs.Decls.{semicolon, is_semicolon}
+use Rattle.c65_stops.proofs.Declarations.{from_stops, empty_stops}
 use Rattle.c65_stops.proofs.Goings.{goes_behind, stop_mapped}
 use Rattle.c65_stops.proofs.Needs.{StatementsGoOn}
 use Rattle.c65_stops.proofs.Bodies.{empty_block, braces, braces_are}
@@ -66,10 +65,6 @@ head_before : (sc : Scope) (q : t.SpecifiersTree) (inner : Scope) (typed : Bool)
 head_before sc (t.specifiers k t.no_specifiers) inner typed d ts zs xs rest are h p = (p.0 ∙ (ap (λ ys. (token_at ys 0).pos) (are ∙ ap (λ ys. ys ++ (xs ++ rest)) p.1) ∙ begins_here (declarator_start d) xs rest (declarator_begins (g.named typed) inner d (declarator_start d) xs refl h)), p.1)
 head_before sc (t.specifiers k (t.and_specifier qs r)) inner typed d ts zs xs rest are h p = p
 
-both_true : (a b : Bool) → (a && b) ≡ true → (a ≡ true) × (b ≡ true)
-both_true true b h = (refl, h)
-both_true false b h = absurd (false_true h)
-
 item_from_stops : StatementsGoOn → (limit : ℕ) (sc : Scope) (outer : Blocks) (q : t.SpecifiersTree) (d : t.DeclaratorTree) (zs xs unit us ts : List Token) → 1 ≤ limit → Headed limit sc q d zs xs → FewTypes (top_of sc q d ∷ outer) → EndsIn ts → length ts ≤ length unit
     → Stop limit 0 0 0 (λ n ys. ItemGoes sc zs n (xs ++ ys)) (λ i scope ys. ItemTakes limit sc outer zs i scope (xs ++ ys)) (λ unit us ys. item_from limit unit q d (not (is_empty q)) (top_of sc q d ∷ outer) ys) unit us ts
 item_from_stops statements limit sc outer q d zs xs unit us ts one h few ends fit =
@@ -87,24 +82,18 @@ item_from_stops statements limit sc outer q d zs xs unit us ts one h few ends fi
     (λ f scope ys p. definition_taken limit sc outer f scope (zs ++ (xs ++ ys)) p))
 
 -- a declarator that was begun, behind specifiers or none: then a semicolon, or an empty body, would follow
-abbrev no_place : Pos
-no_place = record { file = 0; line = 1 }
-
-abbrev semicolon : List Token
-semicolon = token (kinds.Punct puncts.Semicolon) no_place ∷ []
-
 abbrev declared_item_of : t.SpecifiersTree → t.DeclaratorTree → t.ItemTree
 declared_item_of (t.specifiers k t.no_specifiers) d = t.definition (function_of (t.specifiers (declarator_start d) t.no_specifiers) d [] empty_block)
 declared_item_of (t.specifiers k (t.and_specifier qs r)) d = t.declaration (record { specifiers = t.specifiers k (t.and_specifier qs r); declarators = record { declarator = d; init = None } ∷ [] })
 
 abbrev declared_tail : t.SpecifiersTree → List Token
 declared_tail (t.specifiers k t.no_specifiers) = braces
-declared_tail (t.specifiers k (t.and_specifier qs r)) = semicolon
+declared_tail (t.specifiers k (t.and_specifier qs r)) = semicolon ∷ []
 
 declared_whole : (sc : Scope) (l : Pos) (q : t.SpecifiersTree) (d : t.DeclaratorTree) (n : ℕ) (zs xs : List Token) → 1 ≤ n → head_specifiers sc l q zs → specifiers_depth q ≤ n → g.declarator (g.named (has_type q)) (after_specifiers sc q) (declarator_start d) d xs → declarator_depth d ≤ n
     → item sc (declared_item_of q d) (zs ++ (xs ++ declared_tail q)) × (item_depth (declared_item_of q d) ≤ n)
 declared_whole sc l (t.specifiers k t.no_specifiers) d n zs xs one p small h short = ((zs, xs ++ braces, refl, (refl, p.1), (xs, braces, refl, h, ([], braces, refl, refl, (refl, braces_are (in_function (declared false sc d) d))))), omega (arith, one, short))
-declared_whole sc l (t.specifiers k (t.and_specifier qs r)) d n zs xs one p small h short = ((zs, xs ++ semicolon, refl, p, (xs, semicolon, refl, ([], xs, refl, refl, (xs, [], sym (append-nil xs), h, ([], [], refl, refl, refl))), (no_place, refl))), omega (arith, small, short))
+declared_whole sc l (t.specifiers k (t.and_specifier qs r)) d n zs xs one p small h short = ((zs, xs ++ semicolon ∷ [], refl, p, (xs, semicolon ∷ [], refl, ([], xs, refl, refl, (xs, [], sym (append-nil xs), h, ([], [], refl, refl, refl))), is_semicolon)), omega (arith, small, short))
 
 declared_goes : (sc : Scope) (l : Pos) (q : t.SpecifiersTree) (n : ℕ) (zs ys : List Token) → 1 ≤ n → head_specifiers sc l q zs → specifiers_depth q ≤ n → Continues (named_phrase (has_type q) (after_specifiers sc q)) declarator_depth n ys → ItemGoes sc zs n ys
 declared_goes sc l q n zs ys one p small k = goes_behind (named_phrase (has_type q) (after_specifiers sc q)) (item sc) declarator_depth item_depth n zs ys (declared_item_of q) (λ d. declared_tail q) k (λ d us h short. declared_whole sc l q d n zs us one p small h short)
@@ -120,20 +109,9 @@ declared_stops statements limit sc outer q all zs unit us ts one are p small few
     (λ d scope xs rest r also left shorter. subst (λ s. Stop limit 0 0 0 (λ n ys. ItemGoes sc zs n (xs ++ ys)) (λ i scope ys. ItemTakes limit sc outer zs i scope (xs ++ ys)) (λ unit us ys. item_from limit unit q d (not (is_empty q)) s ys) unit us rest) (sym r.scope_is)
     (item_from_stops statements limit sc outer q d zs xs unit us rest one (record { head = head_before sc q inner (has_type q) d all zs xs rest (are ∙ ap (λ ys. zs ++ ys) also) r.derives p; name = r.derives; small = small; short = r.within }) (subst FewTypes r.scope_is r.few) left (omega (arith, fit, shorter))))
 
--- an empty declaration, at its semicolon
-empty_stops : (limit : ℕ) (sc : Scope) (outer : Blocks) (q : t.SpecifiersTree) (zs unit us ts : List Token) → g.specifiers sc true q zs → specifiers_depth q ≤ limit → FewTypes (after_specifiers sc q ∷ outer) → marks_it marks.Semicolon (token_at ts 0) ≡ true → EndsIn ts
-    → Stop limit 0 1 0 (ItemGoes sc zs) (ItemTakes limit sc outer zs) (λ unit us ys. empty_item q (after_specifiers sc q ∷ outer) ys) unit us ts
-empty_stops limit sc outer q zs unit us ts p small few e ends =
-    let scope = after_specifiers sc q ∷ outer in
-    let tree : t.ItemTree = t.declaration (record { specifiers = q; declarators = [] }) in
-    let first = first_of_mark marks.Semicolon ts refl e ends in
-    stop_past limit 0 0 0 1 0 0 (ItemGoes sc zs) (ItemTakes limit sc outer zs) (λ unit us ys. Ok (tree, ys, scope)) unit us ts (omega arith) (omega arith) (omega arith) first
-    (stop_done limit 0 0 (λ n ys. ItemGoes sc zs n (first.tok ∷ ys)) (λ i scope ys. ItemTakes limit sc outer zs i scope (first.tok ∷ ys)) tree scope unit us first.rest first.ends
-    (record { derives = (zs, first.tok ∷ [], refl, p, ([], first.tok ∷ [], refl, refl, is_mark_of marks.Semicolon ts first e)); scope_is = refl; within = omega (arith, small); few = few }))
-
 -- specifiers that were begun: then a semicolon would follow
 head_goes : (sc : Scope) (n : ℕ) (ys : List Token) → Continues (g.specifiers sc true) specifiers_depth n ys → Continues (item sc) item_depth n ys
-head_goes sc n ys k = goes_behind (g.specifiers sc true) (item sc) specifiers_depth item_depth n [] ys (λ q. t.declaration (record { specifiers = q; declarators = [] })) (λ q. semicolon) k (λ q us p small. ((us, semicolon, refl, p, ([], semicolon, refl, refl, (no_place, refl))), omega (arith, small)))
+head_goes sc n ys k = goes_behind (g.specifiers sc true) (item sc) specifiers_depth item_depth n [] ys (λ q. t.declaration (record { specifiers = q; declarators = [] })) (λ q. semicolon ∷ []) k (λ q us p small. ((us, semicolon ∷ [], refl, p, ([], semicolon ∷ [], refl, refl, is_semicolon)), omega (arith, small)))
 
 -- behind specifiers, or none
 specified_stops : StatementsGoOn → (limit : ℕ) (sc : Scope) (outer : Blocks) (q : t.SpecifiersTree) (all zs unit us ts : List Token) → 1 ≤ limit → all ≡ zs ++ ts → head_specifiers sc (pos_here all) q zs → specifiers_depth q ≤ limit → FewTypes (after_specifiers sc q ∷ outer) → EndsIn ts → length ts ≤ length unit
@@ -141,7 +119,11 @@ specified_stops : StatementsGoOn → (limit : ℕ) (sc : Scope) (outer : Blocks)
 specified_stops statements limit sc outer q all zs unit us ts one are p small few ends fit =
     let scope = after_specifiers sc q ∷ outer in
     stop_if_first limit 0 1 0 (ItemGoes sc zs) (ItemTakes limit sc outer zs) (λ x. not (is_empty q) && marks_it marks.Semicolon x) (λ unit us ys. empty_item q scope ys) (λ unit us ys. declared_item limit unit q scope ys) unit us ts
-    (λ e. let two = both_true (not (is_empty q)) (marks_it marks.Semicolon (token_at ts 0)) e in empty_stops limit sc outer q zs unit us ts (some_head sc (pos_here all) q zs two.0 p) small few two.1 ends)
+    (λ e. let two = both_true (not (is_empty q)) (marks_it marks.Semicolon (token_at ts 0)) e in
+    stop_mapped limit 0 1 0 t.declaration (λ n ys. Continues (declaration sc) decl_depth n (zs ++ ys)) (ItemGoes sc zs) (λ d inner ys. IsTaken (declaration sc) (λ d. after_decl sc d ∷ outer) decl_depth limit d inner (zs ++ ys)) (ItemTakes limit sc outer zs) (λ unit us ys. Ok (empty_declaration q scope ys)) unit us ts ends
+    (empty_stops limit q sc outer unit us ts zs two.1 (some_head sc (pos_here all) q zs two.0 p) small few ends)
+    (λ n ys high k. declaration_goes sc n (zs ++ ys) k)
+    (λ d inner ys k. declaration_taken limit sc outer d inner (zs ++ ys) k))
     (λ e. declared_stops statements limit sc outer q all zs unit us ts one are p small few ends fit)
 
 pub item_stops : StatementsGoOn → (limit : ℕ) (sc : Scope) (outer : Blocks) (unit us ts : List Token) → 1 ≤ limit → FewTypes (sc ∷ outer) → EndsIn ts → length ts ≤ length unit

@@ -29,6 +29,7 @@ use Rattle.c65_faultlaw.proofs.Units as faults
 use Rattle.c65_viable.specs.Viable.{FewTypes}
 use Rattle.c65_stops.proofs.Stops.{Going, Taking, Stuck, StopIs, Stop, stop_done, weaker, stop_alike, stop_if_first, stop_seq, stop_tailed}
 use Rattle.c65_stops.proofs.Pieces.{IsTaken}
+use Rattle.c65_stops.proofs.Decls.{one_deeper}
 use Rattle.c65_stops.proofs.Goings.{goes_behind}
 use Rattle.c65_stops.proofs.Needs.{StatementsGoOn}
 use Rattle.c65_stops.proofs.Items.{item_stops}
@@ -49,14 +50,10 @@ some_there : (sc : Scope) (is : List t.ItemTree) (i : t.ItemTree) (xs : List Tok
 some_there sc [] i xs h = h
 some_there sc (j ∷ is) i xs h = h
 
-one_deeper : (n : ℕ) (is : List t.ItemTree) (i : t.ItemTree) → deepest item_depth is ≤ n → item_depth i ≤ n → deepest item_depth (is ++ i ∷ []) ≤ n
-one_deeper n [] i h k = omega (arith, k)
-one_deeper n (j ∷ is) i h k = let rest = one_deeper n is i (omega (arith, h)) k in omega (arith, h, rest)
-
 -- an item that was begun: then the end would follow
 items_go : (n : ℕ) (is : List t.ItemTree) (xs ys : List Token) → items no_types is xs → deepest item_depth is ≤ n → Continues (item (after_items no_types is)) item_depth n ys → Continues units unit_depth n (xs ++ ys)
 items_go n is xs ys h deep k = goes_behind (item (after_items no_types is)) units item_depth unit_depth n xs ys (λ i. record { items = is ++ i ∷ [] }) (λ i. token kinds.End no_place ∷ []) k
-    (λ i us p small. ((xs ++ us, token kinds.End no_place ∷ [], sym (append_assoc xs us (token kinds.End no_place ∷ [])), some_there no_types is i (xs ++ us) (one_more no_types is i (xs ++ us) (xs, us, refl, h, p)), (no_place, refl)), one_deeper n is i deep small))
+    (λ i us p small. ((xs ++ us, token kinds.End no_place ∷ [], sym (append_assoc xs us (token kinds.End no_place ∷ [])), some_there no_types is i (xs ++ us) (one_more no_types is i (xs ++ us) (xs, us, refl, h, p)), (no_place, refl)), one_deeper n item_depth is i deep small))
 
 -- the items of a unit, with the end that is left behind them
 abbrev items_up : (limit : ℕ) → List Token → List Token → List t.ItemTree → Blocks → List Token → Answer (List t.ItemTree)
@@ -101,7 +98,7 @@ more_stop limit us is i scope xs ys unit u rest h deep p ends f =
     let js = is ++ i ∷ [] in
     let goes : Going = λ n zs. UnitGoes xs n (ys ++ zs) in
     let here : scope ≡ after_items no_types js ∷ [] = p.scope_is ∙ ap (λ b. b ∷ []) (behind_more no_types is i) in
-    let rec = f js (xs ++ ys) (one_more no_types is i (xs ++ ys) (xs, ys, refl, h, p.derives)) (one_deeper limit is i deep p.within) (subst FewTypes here p.few) in
+    let rec = f js (xs ++ ys) (one_more no_types is i (xs ++ ys) (xs, ys, refl, h, p.derives)) (one_deeper limit item_depth is i deep p.within) (subst FewTypes here p.few) in
     stop_if_first limit 0 0 1 goes any_items (marks_it marks.End) (λ unit us zs. Ok (js, zs, scope)) (λ unit us zs. items_up limit unit (tail us) js scope zs) unit (u ∷ us) rest
     (λ e. stop_done limit 0 1 goes any_items js scope unit (u ∷ us) rest ends tt)
     (λ e. subst (λ s. Stop limit 0 0 1 goes any_items (λ unit us zs. items_up limit unit (tail us) js s zs) unit (u ∷ us) rest) (sym here)
