@@ -49,7 +49,7 @@ abbrev pub HasFirst : TokenKind → List Token → Type 0
 HasFirst k [] = ⊥
 HasFirst k (tok ∷ ts) = tok.kind ≡ k
 
-abbrev Brace : List Token → Type 0
+abbrev pub Brace : List Token → Type 0
 Brace = HasFirst (kinds.Punct puncts.OpenBrace)
 
 more_first : (k : TokenKind) (xs ys : List Token) → HasFirst k xs → HasFirst k (xs ++ ys)
@@ -113,7 +113,7 @@ word_first : (B : Phrase) (k : TokenKind) (l : Pos) (ts rest : List Token) → (
 word_first B k l ts rest other p h = not_first k (ts ++ rest) (more_first k ts rest (first_there (one l k) B k ts (one_first l k) p)) other h
 
 -- a statement that begins with a brace is a block
-block_begins : (sc : Scope) (s : t.StmtTree) (ts rest : List Token) → statement sc s ts → Brace (ts ++ rest) → is_block s ≡ true
+pub block_begins : (sc : Scope) (s : t.StmtTree) (ts rest : List Token) → statement sc s ts → Brace (ts ++ rest) → is_block s ≡ true
 block_begins sc (t.label l n s) ts rest p h = absurd (word_first _ (kinds.Name n) l ts rest (λ e. cc) p h)
 block_begins sc (t.case l e s) ts rest p h = absurd (word_first _ (kinds.Keyword keywords.Case) l ts rest (λ e. cc) p h)
 block_begins sc (t.default l s) ts rest p h = absurd (word_first _ (kinds.Keyword keywords.Default) l ts rest (λ e. cc) p h)
@@ -131,19 +131,19 @@ block_begins sc (t.break l) ts rest p h = absurd (word_first _ (kinds.Keyword ke
 block_begins sc (t.return l e) ts rest p h = absurd (word_first _ (kinds.Keyword keywords.Return) l ts rest (λ e. cc) p h)
 
 -- specifiers before a declarator
-head_before : (sc : Scope) (q : t.SpecifiersTree) (s : g.Sort) (inner : Scope) (d : t.DeclaratorTree) (ts zs xs rest : List Token) (l : Pos) → g.may_lack s ≡ false → ts ≡ zs ++ (xs ++ rest) → g.declarator s inner l d xs → head_specifiers sc (pos_here ts) q zs → head_specifiers sc (declarator_start d) q zs
+pub head_before : (sc : Scope) (q : t.SpecifiersTree) (s : g.Sort) (inner : Scope) (d : t.DeclaratorTree) (ts zs xs rest : List Token) (l : Pos) → g.may_lack s ≡ false → ts ≡ zs ++ (xs ++ rest) → g.declarator s inner l d xs → head_specifiers sc (pos_here ts) q zs → head_specifiers sc (declarator_start d) q zs
 head_before sc (t.specifiers k t.no_specifiers) s inner d ts zs xs rest l e are h p = (p.0 ∙ (ap (λ ys. (token_at ys 0).pos) (are ∙ ap (λ ys. ys ++ (xs ++ rest)) p.1) ∙ begins_here (declarator_start d) xs rest (declarator_begins s inner d l xs e h)), p.1)
 head_before sc (t.specifiers k (t.and_specifier qs r)) s inner d ts zs xs rest l e are h p = p
 
 -- specifiers that are not none
-head_some : (sc : Scope) (l : Pos) (q : t.SpecifiersTree) (zs : List Token) → not (is_empty q) ≡ true → head_specifiers sc l q zs → g.specifiers sc true q zs
+pub head_some : (sc : Scope) (l : Pos) (q : t.SpecifiersTree) (zs : List Token) → not (is_empty q) ≡ true → head_specifiers sc l q zs → g.specifiers sc true q zs
 head_some sc l (t.specifiers k t.no_specifiers) zs e p = absurd cc
 head_some sc l (t.specifiers k (t.and_specifier qs r)) zs e p = p
 
-brace_here : (ts : List Token) → is_here marks.OpenBrace ts ≡ true → EndsIn ts → Brace ts
+pub brace_here : (ts : List Token) → is_here marks.OpenBrace ts ≡ true → EndsIn ts → Brace ts
 brace_here ts e ends = let first = first_of_mark marks.OpenBrace ts refl e ends in subst Brace (sym first.tokens_are) (kind_of_mark marks.OpenBrace ts first e)
 
-abbrev function_of : t.SpecifiersTree → t.DeclaratorTree → List t.DeclTree → t.StmtTree → t.FunctionTree
+abbrev pub function_of : t.SpecifiersTree → t.DeclaratorTree → List t.DeclTree → t.StmtTree → t.FunctionTree
 function_of q d ds s = record { specifiers = q; declarator = d; declarations = ds; body = s }
 
 function_built : (limit : ℕ) (unit : List Token) (sc : Scope) (outer : Blocks) (q : t.SpecifiersTree) (d : t.DeclaratorTree) (ds : List t.DeclTree) (zs xs ys rest : List Token) → head_specifiers sc (declarator_start d) q zs → g.declarator (g.named (has_type q)) (after_specifiers sc q) (declarator_start d) d xs → declarations (in_function (declared (is_typedef q) (after_specifiers sc q) d) d) ds ys → EndsIn rest
@@ -190,7 +190,7 @@ pub behind_more : (sc : Scope) (is : List t.ItemTree) (i : t.ItemTree) → after
 behind_more sc [] i = refl
 behind_more sc (j ∷ is) i = behind_more (after_item sc j) is i
 
-some_there : (sc : Scope) (is : List t.ItemTree) (i : t.ItemTree) (xs : List Token) → items sc (is ++ i ∷ []) xs → some_items sc (is ++ i ∷ []) xs
+pub some_there : (sc : Scope) (is : List t.ItemTree) (i : t.ItemTree) (xs : List Token) → items sc (is ++ i ∷ []) xs → some_items sc (is ++ i ∷ []) xs
 some_there sc [] i xs h = h
 some_there sc (j ∷ is) i xs h = h
 
