@@ -16,3 +16,11 @@ pub mod Never
 pub mod Exact
 pub mod Exactly
 pub mod Knowing
+pub mod Onward
+pub mod Tests
+pub mod Placed
+pub mod Words
+pub mod Starts
+pub mod Opens
+pub mod Names
+pub mod Stmts
