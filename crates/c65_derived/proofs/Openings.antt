@@ -115,7 +115,7 @@ word_kind words.OpenBrace = kinds.Punct puncts.OpenBrace
 told : (k : TokenKind) (w v : Word) → Some w ≡ Some v → k ≡ word_kind w → k ≡ word_kind v
 told k w v e h = h ∙ ap word_kind (some_is w v e)
 
-word_told : (sign : Sign) (w : Word) (k : TokenKind) → word_of sign ≡ Some w → Tells sign k → k ≡ word_kind w
+pub word_told : (sign : Sign) (w : Word) (k : TokenKind) → word_of sign ≡ Some w → Tells sign k → k ≡ word_kind w
 word_told signs.Case w k e h = told k words.Case w e h
 word_told signs.Default w k e h = told k words.Default w e h
 word_told signs.If w k e h = told k words.If w e h
@@ -130,14 +130,14 @@ word_told signs.Return w k e h = told k words.Return w e h
 word_told signs.OpenBrace w k e h = told k words.OpenBrace w e h
 word_told _ w k e h = absurd cc
 
-name_told : (sign : Sign) (n : Name) (k : TokenKind) → name_of sign ≡ Some n → Tells sign k → k ≡ kinds.Name n
+pub name_told : (sign : Sign) (n : Name) (k : TokenKind) → name_of sign ≡ Some n → Tells sign k → k ≡ kinds.Name n
 name_told (signs.Name m) n k e h = h ∙ ap kinds.Name (some_is m n e)
 name_told _ n k e h = absurd cc
 
 no_word_at_end : (ts : List Token) (w : Word) → word_of (sign_here ts) ≡ Some w → sign_here ts ≡ signs.End → ⊥
 no_word_at_end ts w e h = no_none w (sym (ap word_of h) ∙ e)
 
-no_name_at_end : (ts : List Token) (n : Name) → name_of (sign_here ts) ≡ Some n → sign_here ts ≡ signs.End → ⊥
+pub no_name_at_end : (ts : List Token) (n : Name) → name_of (sign_here ts) ≡ Some n → sign_here ts ≡ signs.End → ⊥
 no_name_at_end ts n e h = no_none n (sym (ap name_of h) ∙ e)
 
 here_is : (ts : List Token) (first : First ts) → sign_here ts ≡ sign_of first.tok.kind
@@ -194,7 +194,7 @@ word_got limit b outer fs (Some w) ts e ends =
     (behind_got limit b outer fs w (pos_here ts) first.tok first.rest (one_here ts first (word_kind w) (word_told (sign_of first.tok.kind) w first.tok.kind (ap word_of (sym (here_is ts first)) ∙ e) (tells first.tok.kind))) first.ends)
 
 -- an expression statement begins at its first token
-eval_is : (b : Scope) (o : Option t.ExprTree) (ts xs rest : List Token) → ts ≡ xs ++ rest → (optional_expr b o ▸ some_mark puncts.Semicolon) xs → expression_statement b (pos_here ts) o xs
+pub eval_is : (b : Scope) (o : Option t.ExprTree) (ts xs rest : List Token) → ts ≡ xs ++ rest → (optional_expr b o ▸ some_mark puncts.Semicolon) xs → expression_statement b (pos_here ts) o xs
 eval_is b None ts xs rest are p =
     let only : some_mark puncts.Semicolon xs = subst (some_mark puncts.Semicolon) (sym (p.2 ∙ ap (λ ys. ys ++ p.1) p.3)) p.4 in
     let place : pos_here ts ≡ only.0 = ap (λ ys. (token_at ys 0).pos) are ∙ begins_here only.0 xs rest (one_begins only.0 _ xs only.1) in

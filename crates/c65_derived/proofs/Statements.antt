@@ -30,7 +30,7 @@ use Rattle.c65_derived.proofs.Openings.{head_scope, scope_in, outer_in, head_fro
 use Rattle.c65_derived.proofs.Declarations as decls
 use Rattle.c65_derived.proofs.Declarations.{declaration_got, starts_is}
 
-head_built : (b : Scope) (h : Head) (s : t.StmtTree) (xs : List Token) → (head_front b h ▸ statement (head_scope b h) s) xs → statement b (completed h s) xs
+pub head_built : (b : Scope) (h : Head) (s : t.StmtTree) (xs : List Token) → (head_front b h ▸ statement (head_scope b h) s) xs → statement b (completed h s) xs
 head_built b (in_label l n) s xs p = regroup p
 head_built b (in_case l e) s xs p = map_right (λ ys q. regroup q) (regroup p)
 head_built b (in_default l) s xs p = regroup p
@@ -39,7 +39,7 @@ head_built b (in_switch l e) s xs p = regroup p
 head_built b (in_while l e) s xs p = regroup p
 head_built b (in_for l e f h) s xs p = map_right (λ ys q. map_right (λ zs r. map_right (λ us u. map_right (λ vs v. map_right (λ os x. map_right (λ ns y. regroup y) x) (regroup v)) u) (regroup r)) q) (regroup (regroup (regroup (regroup p))))
 
-head_behind : (b : Scope) (h : Head) (s : t.StmtTree) → after_stmt (head_scope b h) s ≡ after_stmt b (completed h s)
+pub head_behind : (b : Scope) (h : Head) (s : t.StmtTree) → after_stmt (head_scope b h) s ≡ after_stmt b (completed h s)
 head_behind b (in_label l n) s = refl
 head_behind b (in_case l e) s = refl
 head_behind b (in_default l) s = refl
@@ -48,7 +48,7 @@ head_behind b (in_switch l e) s = refl
 head_behind b (in_while l e) s = refl
 head_behind b (in_for l e f h) s = refl
 
-head_closed : (h : Head) (s : t.StmtTree) → is_closed s ≡ is_closed (completed h s)
+pub head_closed : (h : Head) (s : t.StmtTree) → is_closed s ≡ is_closed (completed h s)
 head_closed (in_label l n) s = refl
 head_closed (in_case l e) s = refl
 head_closed (in_default l) s = refl
@@ -58,11 +58,11 @@ head_closed (in_while l e) s = refl
 head_closed (in_for l e f h) s = refl
 
 -- where a reading of statements stands
-abbrev reached_front : Scope → Reached → Phrase
+abbrev pub reached_front : Scope → Reached → Phrase
 reached_front sc (reached_end s) = statement sc s
 reached_front sc (reached_need fs) = stmt_fronts sc fs
 
-abbrev reached_behind : Scope → Blocks → Reached → Blocks
+abbrev pub reached_behind : Scope → Blocks → Reached → Blocks
 reached_behind sc outer (reached_end s) = after_stmt sc s ∷ outer
 reached_behind sc outer (reached_need fs) = scope_in sc fs ∷ outer_in sc outer fs
 
@@ -135,7 +135,7 @@ at_got limit unit b outer fs ts ends = got_if _ _ ts ((place_in fs).in_block && 
     (λ e. inside_got limit unit b outer fs ts ends)
 
 -- without the statements, of which there are none
-only_first : {A : Phrase} {ts : List Token} → (A ▸ (λ us. us ≡ [])) ts → A ts
+pub only_first : {A : Phrase} {ts : List Token} → (A ▸ (λ us. us ≡ [])) ts → A ts
 only_first {A} p = subst A (sym (p.2 ∙ (ap (λ us. p.0 ++ us) p.4 ∙ append-nil p.0))) p.3
 
 -- one more declaration in the block

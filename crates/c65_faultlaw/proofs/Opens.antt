@@ -29,12 +29,12 @@ use Rattle.c65_faultlaw.proofs.Decls.{declaration_by}
 use Rattle.c65_faultlaw.proofs.Words.{label_local, word_local, eval_local, type_taken, name_taken}
 
 -- a reading that depends on whether a colon is the second token
-second_same : (before : List Token) (next : Token) (others more : List Token) → 1 ≤ length before → colon_follows (before ++ next ∷ others) ≡ colon_follows (before ++ next ∷ more)
+pub second_same : (before : List Token) (next : Token) (others more : List Token) → 1 ≤ length before → colon_follows (before ++ next ∷ others) ≡ colon_follows (before ++ next ∷ more)
 second_same [] next others more h = absurd (omega (arith, h))
 second_same (b ∷ []) next others more h = ap (λ x. is_mark marks.Colon (sign_of x.kind)) (here_is next others ∙ sym (here_is next more))
 second_same (b ∷ c ∷ before) next others more h = ap (λ x. is_mark marks.Colon (sign_of x.kind)) (here_is c (before ++ next ∷ others) ∙ sym (here_is c (before ++ next ∷ more)))
 
-two_here : (x u : Token) (us more : List Token) → colon_follows (x ∷ u ∷ us) ≡ colon_follows (x ∷ u ∷ more)
+pub two_here : (x u : Token) (us more : List Token) → colon_follows (x ∷ u ∷ us) ≡ colon_follows (x ∷ u ∷ more)
 two_here x u us more = ap (λ x. is_mark marks.Colon (sign_of x.kind)) (here_is u us ∙ sym (here_is u more))
 
 deep_second : {A : Type 0} (read : Bool → Reader (Triple A)) (x : Token) (ts : List Token) (next : Token) (others : List Token) (e : Fault) → EndsIn ts → e ≡ large Depth 257 → x ∷ ts ≡ next ∷ others
@@ -148,7 +148,7 @@ begun_local limit c place sign is_type colon scope unit us ts e f h ends fit =
     (λ w. too_deep c 1 0 unit us ts ends)))
 
 -- only at a name the colon counts
-no_colon : (limit : ℕ) (sign : Sign) (unit : List Token) (place : Place) (is_type colon other : Bool) (scope : Blocks) (ts : List Token) → name_of sign ≡ None → begun_by limit unit place sign is_type colon scope ts ≡ begun_by limit unit place sign is_type other scope ts
+pub no_colon : (limit : ℕ) (sign : Sign) (unit : List Token) (place : Place) (is_type colon other : Bool) (scope : Blocks) (ts : List Token) → name_of sign ≡ None → begun_by limit unit place sign is_type colon scope ts ≡ begun_by limit unit place sign is_type other scope ts
 no_colon limit (signs.Name n) unit place is_type colon other scope ts e = absurd (no_none n (sym e))
 no_colon limit _ unit place is_type colon other scope ts e = refl
 

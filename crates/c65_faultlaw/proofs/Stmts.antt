@@ -62,7 +62,7 @@ step_local : (limit : ℕ) (fs : List Frame) (scope : Blocks) (unit us ts : List
 step_local limit fs scope unit us ts ends fit = seq 0 0 1 0 1 0 0 (λ unit us ys. begun_at limit unit (place_in fs) scope ys) (λ unit us. behind_begun limit fs) unit us ts (omega arith) (omega arith) (omega arith) ends (at_local limit (place_in fs) scope unit us ts ends fit)
     (λ b inner rest left short. behind_local limit fs b inner unit us rest left)
 
-unrolled : (limit : ℕ) (fs : List Frame) (scope : Blocks) (unit us ys : List Token) → 0 + 1 ≤ length us → statement_run limit unit us fs scope ys ≡ (statement_step limit unit fs scope ys >>= statement_next (statement_run limit unit (tail us)))
+pub unrolled : (limit : ℕ) (fs : List Frame) (scope : Blocks) (unit us ys : List Token) → 0 + 1 ≤ length us → statement_run limit unit us fs scope ys ≡ (statement_step limit unit fs scope ys >>= statement_next (statement_run limit unit (tail us)))
 unrolled limit fs scope unit [] ys h = absurd (omega (arith, h))
 unrolled limit fs scope unit (u ∷ us) ys h = refl
 
