@@ -1,5 +1,5 @@
 -- Declarations (C90 6.5).
-use Rattle.std.proofs.Common.{◌≡◌, ℕ, ◌+◌, ◌≤◌, List, [], ◌∷◌, ◌++◌, length, Bool, true, false, refl, sym, ap, ◌∙◌, subst, append_assoc, arith}
+use Rattle.std.proofs.Common.{◌≡◌, ℕ, ◌+◌, ◌≤◌, List, [], ◌∷◌, ◌++◌, length, true, false, refl, sym, ap, ◌∙◌, subst, append_assoc, arith}
 use Rattle.std.proofs.lemmas.List.{append-nil}
 use Rattle.std.specs.Prelude.{Ok, Option, None}
 use Rattle.c65_base.specs.Answers.{◌>>=◌}
@@ -16,17 +16,15 @@ use Rattle.c65_decl.specs.Declaring.{naming_of, named_read}
 use Rattle.c65_decl.specs.Initialisers.{optional_init_read}
 use Rattle.c65_decl.specs.Decls.{Progress, all_declared, more_declared, with_declarator, last_declarator, next_declarator, behind_declarator, declarators_step, declarators_next, declarators_run}
 use Rattle.c65_grammar.specs.Phrases.{Phrase, ◌▸◌, token, some_mark}
-use Rattle.c65_grammar.specs.Spellings.{comma_unless}
-use Rattle.c65_grammar.specs.Parts.{declarator_start, has_type, is_typedef}
+use Rattle.c65_grammar.specs.Parts.{has_type, is_typedef}
 use Rattle.c65_grammar.specs.Scopes.{Scope, after_maybe_init, after_declarators, declared}
-use Rattle.c65_grammar.specs.Expressions as g
 use Rattle.c65_grammar.specs.Statements.{optional_init, init_declarators}
 use Rattle.c65_grammar.specs.Readings.{Continues}
-use Rattle.c65_derived.proofs.Phrases.{regroup, map_left, map_right, attach, behind_nothing}
+use Rattle.c65_derived.proofs.Phrases.{regroup, map_right, attach}
 use Rattle.c65_derived.proofs.Members.{comma_after}
 use Rattle.c65_derived.proofs.Got.{EndsIn}
-use Rattle.c65_derived.proofs.Inits.{at_nothing, nil_behind}
-use Rattle.c65_derived.proofs.Decls.{still_first, next_front, behind_one, one_more, behind_more, progress_front, progress_behind}
+use Rattle.c65_derived.proofs.Inits.{nil_behind}
+use Rattle.c65_derived.proofs.Decls.{still_first, behind_one, one_more, behind_more, progress_front, progress_behind}
 use Rattle.c65_derived.proofs.Small.{one_deeper}
 use Rattle.c65_faultlaw.proofs.Seq.{tail}
 use Rattle.c65_faultlaw.proofs.Inits.{marks_it}

@@ -19,7 +19,6 @@ use Rattle.c65_unitlaw.proofs.Whole.{units_are_read, units_are_one}
 use Rattle.c65_faultlaw.proofs.Whole.{ends_in}
 use Rattle.c65_stops.specs.Exact.{IsOnlyUnit, ReadsUnit}
 use Rattle.c65_stops.proofs.Whole.{units_stop_at}
-use Rattle.c65_stops.proofs.Needs.{StatementsGoOn}
 use Rattle.c65_stops.proofs.Never.{GrowsAlways, Reads, never, no_depth, code_is, depth_is, size_is}
 use Rattle.c65_stops.proofs.Units.{unit_stuck, unit_again}
 
@@ -32,9 +31,9 @@ only_unit tokens unit once e =
     let low = it.within in
     (it, λ other p. units_are_one (max 256 (unit_depth other)) tokens other unit (record { derives = p; within = omega arith }) (record { derives = it.derives; within = omega (arith, low) }))
 
-no_unit : StatementsGoOn → GrowsAlways unit_read → (tokens : List Token) (code : Code) (pos : Pos) → EndsOnce tokens → unit_read 256 tokens ≡ Err (at code pos) → ReadsUnit {X = t.UnitTree} tokens (λ u. u) (Err (refusals.At code pos))
-no_unit statements grows tokens code pos once e =
-    let s = unit_stuck statements 256 tokens (at code pos) (omega arith) (ends_in tokens once) e in
+no_unit : GrowsAlways unit_read → (tokens : List Token) (code : Code) (pos : Pos) → EndsOnce tokens → unit_read 256 tokens ≡ Err (at code pos) → ReadsUnit {X = t.UnitTree} tokens (λ u. u) (Err (refusals.At code pos))
+no_unit grows tokens code pos once e =
+    let s = unit_stuck 256 tokens (at code pos) (omega arith) (ends_in tokens once) e in
     let f = s.failed in
     let is = code_is f.next code pos f.fault_is in (
       f.next,
@@ -49,9 +48,9 @@ no_unit statements grows tokens code pos once e =
       },
     )
 
-deep_unit : StatementsGoOn → (tokens : List Token) (size : Size) (value : ℕ) → EndsOnce tokens → unit_read 256 tokens ≡ Err (large size value) → ReadsUnit {X = t.UnitTree} tokens (λ u. u) (Err (refusals.TooLarge size value))
-deep_unit statements tokens size value once e =
-    let s = units_stop_at statements 256 tokens (large size value) (omega arith) once e in
+deep_unit : (tokens : List Token) (size : Size) (value : ℕ) → EndsOnce tokens → unit_read 256 tokens ≡ Err (large size value) → ReadsUnit {X = t.UnitTree} tokens (λ u. u) (Err (refusals.TooLarge size value))
+deep_unit tokens size value once e =
+    let s = units_stop_at 256 tokens (large size value) (omega arith) once e in
     let deep = depth_is s.next size value s.fault_is in
     let is = size_is size value deep in
     let more = s.deeper deep in (
@@ -69,9 +68,9 @@ deep_unit statements tokens size value once e =
     )
 
 -- what the call answers
-pub reads_unit : StatementsGoOn → GrowsAlways unit_read → {X : Type 0} (view : X → t.UnitTree) (r : Result X Refusal) (tokens : List Token) → EndsOnce tokens → Gives view r (unit_read 256 tokens) → ReadsUnit tokens view r
-reads_unit statements grows view (Ok x) tokens once h = only_unit tokens (view x) once h
-reads_unit statements grows view (Err refusals.OutOfMemory) tokens once h = tt
-reads_unit statements grows view (Err (refusals.At code pos)) tokens once h = no_unit statements grows tokens code pos once h
-reads_unit statements grows view (Err (refusals.TooLarge size value)) tokens once h = deep_unit statements tokens size value once h
-reads_unit statements grows view (Err _) tokens once h = absurd h
+pub reads_unit : GrowsAlways unit_read → {X : Type 0} (view : X → t.UnitTree) (r : Result X Refusal) (tokens : List Token) → EndsOnce tokens → Gives view r (unit_read 256 tokens) → ReadsUnit tokens view r
+reads_unit grows view (Ok x) tokens once h = only_unit tokens (view x) once h
+reads_unit grows view (Err refusals.OutOfMemory) tokens once h = tt
+reads_unit grows view (Err (refusals.At code pos)) tokens once h = no_unit grows tokens code pos once h
+reads_unit grows view (Err (refusals.TooLarge size value)) tokens once h = deep_unit tokens size value once h
+reads_unit grows view (Err _) tokens once h = absurd h

@@ -8,29 +8,29 @@ use Rattle.c65_tree.specs.Trees as t
 use Rattle.c65_tree.specs.Lists.{deepest}
 use Rattle.c65_tree.specs.Depth.{specifiers_depth, declarator_depth, decl_depth, function_depth}
 use Rattle.c65_scopes.specs.Scopes.{Blocks, closed}
-use Rattle.c65_parse.specs.Reading.{token_at}
 use Rattle.c65_stmts.specs.declared.sign.Mark.TheVariants as marks
 use Rattle.c65_decl.specs.Here.{unexpected}
 use Rattle.c65_decl.specs.Decls.{declarations_read}
 use Rattle.c65_decl.specs.Statements.{statement_read}
 use Rattle.c65_decl.specs.Units.{body_read, body_needed, function_read}
+use Rattle.c65_grammar.specs.Phrases.{given}
 use Rattle.c65_grammar.specs.Parts.{declarator_start, has_type, is_typedef}
 use Rattle.c65_grammar.specs.Scopes.{Scope, after_specifiers, declared, after_decls, after_stmt, in_function, after_head}
 use Rattle.c65_grammar.specs.Expressions as g
 use Rattle.c65_grammar.specs.Statements.{declarations, statement, head_specifiers, is_block, function}
 use Rattle.c65_grammar.specs.Readings.{Continues}
-use Rattle.c65_derived.proofs.Phrases.{cons_nil}
-use Rattle.c65_derived.proofs.Got.{EndsIn, first_of_mark, kind_of_mark}
+use Rattle.c65_derived.proofs.Got.{EndsIn}
+use Rattle.c65_derived.proofs.Units.{Brace, block_begins, brace_here, function_of}
 use Rattle.c65_derived.proofs.Enumerated.{function_block}
-use Rattle.c65_faultlaw.proofs.Local.{head_or}
 use Rattle.c65_faultlaw.proofs.Inits.{marks_it}
 use Rattle.c65_viable.specs.Viable.{FewTypes}
-use Rattle.c65_stops.proofs.Stops.{Stop, Going, Taking, stop_done, stop_fails, stop_if_first, stop_seq}
+use Rattle.c65_stops.proofs.Stops.{Stop, Going, Taking, stop_done, stop_fails, stop_if_first}
 use Rattle.c65_stops.proofs.Pieces.{IsTaken, whole_depth}
 use Rattle.c65_stops.proofs.Declarations.{declarations_stop}
-use Rattle.c65_stops.proofs.Goings.{IsFront, stop_fronts}
-use Rattle.c65_stops.proofs.Needs.{StatementsGoOn}
-use Rattle.c65_stops.proofs.Bodies.{Brace, Braced, block_begins, braced_front, empty_block, braces, braces_are, block_goes}
+use Rattle.c65_stops.proofs.Onward.{stop_then}
+use Rattle.c65_stops.proofs.Fronts.{IsFront, stop_fronts}
+use Rattle.c65_stops.proofs.Stmts.{statement_stops}
+use Rattle.c65_stops.proofs.Bodies.{empty_block, braces, braces_are, block_goes}
 use Rattle.c65_stops.proofs.Few.{few_inside}
 
 -- the scope behind a declarator, and that of a function's block
@@ -47,9 +47,6 @@ pub record Headed (limit : ℕ) (sc : Scope) (q : t.SpecifiersTree) (d : t.Decla
   pub small : specifiers_depth q ≤ limit
   pub short : declarator_depth d ≤ limit
 
-abbrev pub function_of : t.SpecifiersTree → t.DeclaratorTree → List t.DeclTree → t.StmtTree → t.FunctionTree
-function_of q d ds s = record { specifiers = q; declarator = d; declarations = ds; body = s }
-
 function_whole : (limit : ℕ) (sc : Scope) (q : t.SpecifiersTree) (d : t.DeclaratorTree) (ds : List t.DeclTree) (s : t.StmtTree) (zs xs vs ws : List Token) → Headed limit sc q d zs xs → declarations (inside_of sc q d) ds vs → is_block s ≡ true → statement (after_decls (inside_of sc q d) ds) s ws
     → function sc (function_of q d ds s) (zs ++ (xs ++ (vs ++ ws)))
 function_whole limit sc q d ds s zs xs vs ws h r b m = (zs, xs ++ (vs ++ ws), refl, h.head, (xs, vs ++ ws, refl, h.name, (vs, ws, refl, r, (b, m))))
@@ -61,37 +58,35 @@ behind_two zs xs ys more = append_assoc zs (xs ++ ys) more ∙ ap (λ us. zs ++ 
 behind_three : (zs xs vs ys more : List Token) → (zs ++ (xs ++ (vs ++ ys))) ++ more ≡ zs ++ (xs ++ (vs ++ (ys ++ more)))
 behind_three zs xs vs ys more = behind_two zs xs (vs ++ ys) more ∙ ap (λ us. zs ++ (xs ++ us)) (append_assoc vs ys more)
 
--- a body that was begun
-body_goes : (limit n : ℕ) (sc : Scope) (q : t.SpecifiersTree) (d : t.DeclaratorTree) (ds : List t.DeclTree) (zs xs vs ts ys : List Token) → 1 ≤ n → limit ≤ n → Headed limit sc q d zs xs → declarations (inside_of sc q d) ds vs → deepest decl_depth ds ≤ limit → Braced ts → IsFront ts ys → Continues (statement (after_decls (inside_of sc q d) ds)) whole_depth n ys
+-- a body that goes on to a block, or that was begun with a brace
+whole_goes : (limit n : ℕ) (sc : Scope) (q : t.SpecifiersTree) (d : t.DeclaratorTree) (ds : List t.DeclTree) (zs xs vs ys : List Token) → limit ≤ n → Headed limit sc q d zs xs → declarations (inside_of sc q d) ds vs → deepest decl_depth ds ≤ limit → Continues (λ s. given (is_block s ≡ true) (statement (after_decls (inside_of sc q d) ds) s)) whole_depth n ys
     → Continues (function sc) function_depth n (zs ++ (xs ++ (vs ++ ys)))
-body_goes limit n sc q d ds zs xs vs ts ys one high h r deep brace front k =
-    let b = block_goes (after_decls (inside_of sc q d) ds) n ts ys one brace front k in
+whole_goes limit n sc q d ds zs xs vs ys high h r deep k =
     let small = h.small in
     let short = h.short in
-    let within = b.within in
+    let within = k.within in
     record {
-      tree = function_of q d ds b.tree;
-      more = b.more;
-      derives = subst (function sc (function_of q d ds b.tree)) (sym (behind_three zs xs vs ys b.more)) (function_whole limit sc q d ds b.tree zs xs vs (ys ++ b.more) h r b.derives.0 b.derives.1);
+      tree = function_of q d ds k.tree;
+      more = k.more;
+      derives = subst (function sc (function_of q d ds k.tree)) (sym (behind_three zs xs vs ys k.more)) (function_whole limit sc q d ds k.tree zs xs vs (ys ++ k.more) h r k.derives.0 k.derives.1);
       within = omega (arith, high, small, short, deep, within);
     }
 
-body_taken : (limit : ℕ) (sc : Scope) (outer : Blocks) (q : t.SpecifiersTree) (d : t.DeclaratorTree) (ds : List t.DeclTree) (s : t.StmtTree) (scope : Blocks) (zs xs vs ws : List Token) → Headed limit sc q d zs xs → declarations (inside_of sc q d) ds vs → deepest decl_depth ds ≤ limit → Braced ws
-    → IsTaken (statement (after_decls (inside_of sc q d) ds)) (λ s. after_stmt (after_decls (inside_of sc q d) ds) s ∷ top_of sc q d ∷ outer) whole_depth limit s scope ws
-    → IsTaken (function sc) (λ f. after_head sc f ∷ outer) function_depth limit (function_of q d ds s) (closed scope) (zs ++ (xs ++ (vs ++ ws)))
-body_taken limit sc outer q d ds s scope zs xs vs ws h r deep brace p =
+body_goes : (limit n : ℕ) (sc : Scope) (q : t.SpecifiersTree) (d : t.DeclaratorTree) (ds : List t.DeclTree) (zs xs vs ts ys : List Token) → 1 ≤ n → limit ≤ n → Headed limit sc q d zs xs → declarations (inside_of sc q d) ds vs → deepest decl_depth ds ≤ limit → Brace ts → IsFront ts ys → Continues (statement (after_decls (inside_of sc q d) ds)) whole_depth n ys
+    → Continues (function sc) function_depth n (zs ++ (xs ++ (vs ++ ys)))
+body_goes limit n sc q d ds zs xs vs ts ys one high h r deep brace front k = whole_goes limit n sc q d ds zs xs vs ys high h r deep (block_goes (after_decls (inside_of sc q d) ds) n ts ys one brace front k)
+
+body_taken : (limit : ℕ) (sc : Scope) (outer : Blocks) (q : t.SpecifiersTree) (d : t.DeclaratorTree) (ds : List t.DeclTree) (s : t.StmtTree) (zs xs vs ws rest : List Token) → Headed limit sc q d zs xs → declarations (inside_of sc q d) ds vs → deepest decl_depth ds ≤ limit → Brace (ws ++ rest) → statement (after_decls (inside_of sc q d) ds) s ws → whole_depth s ≤ limit → FewTypes (top_of sc q d ∷ outer)
+    → IsTaken (function sc) (λ f. after_head sc f ∷ outer) function_depth limit (function_of q d ds s) (top_of sc q d ∷ outer) (zs ++ (xs ++ (vs ++ ws)))
+body_taken limit sc outer q d ds s zs xs vs ws rest h r deep brace p within few =
     let small = h.small in
     let short = h.short in
-    let within = p.within in
     record {
-      derives = function_whole limit sc q d ds s zs xs vs ws h r (block_begins s (after_decls (inside_of sc q d) ds) ws brace p.derives) p.derives;
-      scope_is = ap closed p.scope_is;
+      derives = function_whole limit sc q d ds s zs xs vs ws h r (block_begins (after_decls (inside_of sc q d) ds) s ws rest p brace) p;
+      scope_is = refl;
       within = omega (arith, small, short, deep, within);
-      few = subst FewTypes (sym (ap closed p.scope_is)) (subst FewTypes p.scope_is p.few).1;
+      few = few;
     }
-
-braced_here : (ts : List Token) → marks_it marks.OpenBrace (token_at ts 0) ≡ true → EndsIn ts → Braced ts
-braced_here ts e ends x us are = let first = first_of_mark marks.OpenBrace ts refl e ends in subst Brace (ap (head_or first.tok) (sym first.tokens_are ∙ are)) (kind_of_mark marks.OpenBrace ts first e)
 
 -- what a function's definition has of its tokens behind its head
 abbrev pub FunctionGoes : Scope → List Token → List Token → Going
@@ -100,20 +95,20 @@ FunctionGoes sc zs xs n ys = Continues (function sc) function_depth n (zs ++ (xs
 abbrev pub FunctionTakes : ℕ → Scope → Blocks → List Token → List Token → Taking t.FunctionTree
 FunctionTakes limit sc outer zs xs f scope ys = IsTaken (function sc) (λ f. after_head sc f ∷ outer) function_depth limit f scope (zs ++ (xs ++ ys))
 
-body_stops : StatementsGoOn → (limit : ℕ) (sc : Scope) (outer : Blocks) (q : t.SpecifiersTree) (d : t.DeclaratorTree) (ds : List t.DeclTree) (zs xs vs unit us ts : List Token) → 1 ≤ limit → Headed limit sc q d zs xs → declarations (inside_of sc q d) ds vs → deepest decl_depth ds ≤ limit → FewTypes (after_decls (inside_of sc q d) ds ∷ top_of sc q d ∷ outer) → EndsIn ts → length ts ≤ length unit
+body_stops : (limit : ℕ) (sc : Scope) (outer : Blocks) (q : t.SpecifiersTree) (d : t.DeclaratorTree) (ds : List t.DeclTree) (zs xs vs unit us ts : List Token) → 1 ≤ limit → Headed limit sc q d zs xs → declarations (inside_of sc q d) ds vs → deepest decl_depth ds ≤ limit → FewTypes (after_decls (inside_of sc q d) ds ∷ top_of sc q d ∷ outer) → EndsIn ts → length ts ≤ length unit
     → Stop limit 0 0 0 (λ n ys. FunctionGoes sc zs xs n (vs ++ ys)) (λ f scope ys. FunctionTakes limit sc outer zs xs f scope (vs ++ ys)) (λ unit us ys. body_needed limit unit q d ds (after_decls (inside_of sc q d) ds ∷ top_of sc q d ∷ outer) ys) unit us ts
-body_stops statements limit sc outer q d ds zs xs vs unit us ts one h r deep few ends fit =
+body_stops limit sc outer q d ds zs xs vs unit us ts one h r deep few ends fit =
     let b = after_decls (inside_of sc q d) ds in
     let scope = b ∷ top_of sc q d ∷ outer in
     let goes : Going = λ n ys. FunctionGoes sc zs xs n (vs ++ ys) in
     let takes : Taking t.FunctionTree = λ f scope ys. FunctionTakes limit sc outer zs xs f scope (vs ++ ys) in
     stop_if_first limit 0 0 0 goes takes (marks_it marks.OpenBrace) (λ unit us ys. body_read limit unit q d ds scope ys) (λ unit us ys. unexpected ys) unit us ts
-    (λ e. stop_seq limit 0 0 0 0 0 0 0 (λ n ys. Continues (statement b) whole_depth n ys × IsFront ts ys) goes (IsTaken (statement b) (λ s. after_stmt b s ∷ top_of sc q d ∷ outer) whole_depth limit) takes (λ unit us ys. statement_read limit unit scope ys) (λ unit us s. Ok (function_of q d ds s.0, s.1, closed s.2)) unit us ts (omega arith) (omega arith) (omega arith) ends
-    (stop_fronts limit 0 0 0 (Continues (statement b) whole_depth) (IsTaken (statement b) (λ s. after_stmt b s ∷ top_of sc q d ∷ outer) whole_depth limit) (λ unit us ys. statement_read limit unit scope ys) unit us ts (statements limit b (top_of sc q d ∷ outer) unit us ts one few ends fit))
-    (λ n ys high k. body_goes limit n sc q d ds zs xs vs ts ys (omega (arith, one, high)) high h r deep (braced_here ts e ends) k.1 k.0)
-    (λ s inner ws rest p are left short. stop_done limit 0 0 (λ n ys. goes n (ws ++ ys)) (λ f scope ys. takes f scope (ws ++ ys)) (function_of q d ds s) (closed inner) unit us rest left
-    (subst (takes (function_of q d ds s) (closed inner)) (sym (append-nil ws)) (body_taken limit sc outer q d ds s inner zs xs vs ws h r deep (braced_front ts ws rest (braced_here ts e ends) are) p))))
-    (λ e. stop_fails limit 0 0 goes takes unit us ts ends (body_goes limit limit sc q d ds zs xs vs [] [] one (omega arith) h r deep (λ x us e. absurd (cons_nil x us (sym e))) ([], refl) (record { tree = empty_block; more = braces; derives = braces_are b; within = omega (arith, one) })))
+    (λ e. stop_then limit 0 0 0 0 0 (λ n ys. Continues (statement b) whole_depth n ys × IsFront ts ys) goes (statement b) (λ s. after_stmt b s ∷ top_of sc q d ∷ outer) whole_depth takes (λ unit us ys. statement_read limit unit scope ys) (λ unit us s. Ok (function_of q d ds s.0, s.1, closed s.2)) unit us ts (omega arith) (omega arith) ends
+    (stop_fronts limit 0 0 0 (Continues (statement b) whole_depth) (IsTaken (statement b) (λ s. after_stmt b s ∷ top_of sc q d ∷ outer) whole_depth limit) (λ unit us ys. statement_read limit unit scope ys) unit us ts (statement_stops limit b (top_of sc q d ∷ outer) unit us ts one few ends fit))
+    (λ n ys high k. body_goes limit n sc q d ds zs xs vs ts ys (omega (arith, one, high)) high h r deep (brace_here ts e ends) k.1 k.0)
+    (λ s ws rest p within later are left short. stop_done limit 0 0 (λ n ys. goes n (ws ++ ys)) (λ f scope ys. takes f scope (ws ++ ys)) (function_of q d ds s) (top_of sc q d ∷ outer) unit us rest left
+    (subst (takes (function_of q d ds s) (top_of sc q d ∷ outer)) (sym (append-nil ws)) (body_taken limit sc outer q d ds s zs xs vs ws rest h r deep (subst Brace are (brace_here ts e ends)) p within few.1))))
+    (λ e. stop_fails limit 0 0 goes takes unit us ts ends (whole_goes limit limit sc q d ds zs xs vs [] (omega arith) h r deep (record { tree = empty_block; more = braces; derives = (refl, braces_are b); within = omega (arith, one) })))
 
 -- declarations of old-style parameters that were begun
 list_goes : (limit n : ℕ) (sc : Scope) (q : t.SpecifiersTree) (d : t.DeclaratorTree) (zs xs ys : List Token) → 1 ≤ n → limit ≤ n → Headed limit sc q d zs xs → Continues (declarations (inside_of sc q d)) (deepest decl_depth) n ys → FunctionGoes sc zs xs n ys
@@ -129,15 +124,13 @@ list_goes limit n sc q d zs xs ys one high h k =
     }
 
 -- behind its head
-pub function_stops : StatementsGoOn → (limit : ℕ) (sc : Scope) (outer : Blocks) (q : t.SpecifiersTree) (d : t.DeclaratorTree) (zs xs unit us ts : List Token) → 1 ≤ limit → Headed limit sc q d zs xs → FewTypes (top_of sc q d ∷ outer) → EndsIn ts → length ts ≤ length unit
+pub function_stops : (limit : ℕ) (sc : Scope) (outer : Blocks) (q : t.SpecifiersTree) (d : t.DeclaratorTree) (zs xs unit us ts : List Token) → 1 ≤ limit → Headed limit sc q d zs xs → FewTypes (top_of sc q d ∷ outer) → EndsIn ts → length ts ≤ length unit
     → Stop limit 0 0 0 (FunctionGoes sc zs xs) (FunctionTakes limit sc outer zs xs) (λ unit us ys. function_read limit unit q d (top_of sc q d ∷ outer) ys) unit us ts
-function_stops statements limit sc outer q d zs xs unit us ts one h few ends fit =
+function_stops limit sc outer q d zs xs unit us ts one h few ends fit =
     let top = top_of sc q d in
     let b = inside_of sc q d in
-    let firsts : Taking (List t.DeclTree) = IsTaken (declarations b) (λ ds. after_decls b ds ∷ top ∷ outer) (deepest decl_depth) limit in
     subst (λ s. Stop limit 0 0 0 (FunctionGoes sc zs xs) (FunctionTakes limit sc outer zs xs) (λ unit us ys. declarations_read limit unit s ys >>= (λ ds. body_needed limit unit q d ds.0 ds.2 ds.1)) unit us ts) (sym (function_block d top outer))
-    (stop_seq limit 0 0 0 0 0 0 0 (Continues (declarations b) (deepest decl_depth)) (FunctionGoes sc zs xs) firsts (FunctionTakes limit sc outer zs xs) (λ unit us ys. declarations_read limit unit (b ∷ top ∷ outer) ys) (λ unit us ds. body_needed limit unit q d ds.0 ds.2 ds.1) unit us ts (omega arith) (omega arith) (omega arith) ends
+    (stop_then limit 0 0 0 0 0 (Continues (declarations b) (deepest decl_depth)) (FunctionGoes sc zs xs) (declarations b) (λ ds. after_decls b ds ∷ top ∷ outer) (deepest decl_depth) (FunctionTakes limit sc outer zs xs) (λ unit us ys. declarations_read limit unit (b ∷ top ∷ outer) ys) (λ unit us ds. body_needed limit unit q d ds.0 ds.2 ds.1) unit us ts (omega arith) (omega arith) ends
     (declarations_stop limit b (top ∷ outer) unit us ts one (subst FewTypes (function_block d top outer) (few_inside d (top ∷ outer) few)) ends fit)
     (λ n ys high k. list_goes limit n sc q d zs xs ys (omega (arith, one, high)) high h k)
-    (λ ds inner vs rest p are left shorter. subst (λ s. Stop limit 0 0 0 (λ n ys. FunctionGoes sc zs xs n (vs ++ ys)) (λ f scope ys. FunctionTakes limit sc outer zs xs f scope (vs ++ ys)) (λ unit us ys. body_needed limit unit q d ds s ys) unit us rest) (sym p.scope_is)
-    (body_stops statements limit sc outer q d ds zs xs vs unit us rest one h p.derives p.within (subst FewTypes p.scope_is p.few) left (omega (arith, fit, shorter)))))
+    (λ ds vs rest r deep later are left shorter. body_stops limit sc outer q d ds zs xs vs unit us rest one h r deep later left (omega (arith, fit, shorter))))

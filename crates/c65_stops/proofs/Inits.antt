@@ -22,10 +22,9 @@ use Rattle.c65_grammar.specs.Phrases.{Phrase, ◌▸◌, token, given, mark, som
 use Rattle.c65_grammar.specs.Parts.{level, start}
 use Rattle.c65_grammar.specs.Scopes.{Scope, after, after_init, after_maybe_init}
 use Rattle.c65_grammar.specs.Expressions as g
-use Rattle.c65_grammar.specs.Statements.{optional_comma, initialiser, initialisers, optional_init}
+use Rattle.c65_grammar.specs.Statements.{optional_comma, initialiser, optional_init}
 use Rattle.c65_grammar.specs.Readings.{Continues}
-use Rattle.c65_derived.proofs.Phrases.{both, regroup, map_left, map_right, attach}
-use Rattle.c65_derived.proofs.Begins.{expr_begins, begins_here}
+use Rattle.c65_derived.proofs.Phrases.{both, regroup, map_right, attach}
 use Rattle.c65_derived.proofs.Got.{EndsIn, First, first_of_mark, kind_of_mark, one_here}
 use Rattle.c65_derived.proofs.Inits.{one_more, list_built, element_is, inits_scope, lists_front, state_front, state_behind, at_nothing, nil_behind}
 use Rattle.c65_complete.proofs.Firsts.{expr_deep}

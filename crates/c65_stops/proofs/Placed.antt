@@ -16,12 +16,12 @@ use Rattle.c65_grammar.specs.Phrases.{Phrase, ◌▸◌, word, some_word, some_m
 use Rattle.c65_grammar.specs.Scopes.{Scope, after, after_decls, after_stmt}
 use Rattle.c65_grammar.specs.Statements.{declaration, test, statement}
 use Rattle.c65_grammar.specs.Readings.{Continues}
+use Rattle.c65_derived.proofs.Small.{one_deeper}
 use Rattle.c65_derived.proofs.Phrases.{both, regroup, ungroup, map_right, attach, before_nothing, behind_nothing}
 use Rattle.c65_derived.proofs.Declarations.{one_more}
 use Rattle.c65_derived.proofs.Openings.{head_scope, inside, scope_in, head_front, stmt_front, stmt_fronts}
 use Rattle.c65_viable.proofs.Closings.{zero_tree}
 use Rattle.c65_stops.proofs.Pieces.{whole_depth}
-use Rattle.c65_stops.proofs.Decls.{one_deeper}
 use Rattle.c65_stops.proofs.Onward.{somewhere, mark_token, onward, extended}
 use Rattle.c65_stops.proofs.Tests.{zero_test, zero_tested}
 

@@ -22,6 +22,7 @@ use Rattle.c65_grammar.specs.Phrases.{Phrase, ◌▸◌, given, word, some_word,
 use Rattle.c65_grammar.specs.Scopes.{Scope, after, after_decl, after_stmt}
 use Rattle.c65_grammar.specs.Statements.{declaration, test, is_closed, statement}
 use Rattle.c65_grammar.specs.Readings.{Continues}
+use Rattle.c65_derived.proofs.Small.{one_deeper}
 use Rattle.c65_derived.proofs.Phrases.{both, regroup, map_left, map_right, attach, behind_nothing, true_false}
 use Rattle.c65_derived.proofs.Inits.{at_nothing, nil_behind}
 use Rattle.c65_derived.proofs.Declarations.{one_more, behind_more}
@@ -32,7 +33,6 @@ use Rattle.c65_viable.specs.Viable.{FewTypes}
 use Rattle.c65_viable.proofs.Closings.{zero_tree}
 use Rattle.c65_stops.proofs.Pieces.{IsTaken, whole_depth}
 use Rattle.c65_stops.proofs.Stops.{Going, Taking, Stop, stop_done, stop_alike, stop_by_first, stop_past, stop_seq, stop_mark, stop_tailed, stop_all_steps, stop_regrouped}
-use Rattle.c65_stops.proofs.Decls.{one_deeper}
 use Rattle.c65_stops.proofs.Onward.{somewhere, mark_token, marked, nothing_more, stop_then, extended}
 use Rattle.c65_stops.proofs.Tests.{zero_test, zero_tested, test_stops}
 use Rattle.c65_stops.proofs.Placed.{placed_depth, frames_depth, head_room, head_built, head_within, semicolon, do_end, closes_on, needed_on, only_first, declared_on}

@@ -15,13 +15,13 @@ use Rattle.c65_parse.specs.Reading.{Answer, token_at}
 use Rattle.c65_stmts.specs.declared.sign.Mark.TheVariants as marks
 use Rattle.c65_decl.specs.Here.{unexpected}
 use Rattle.c65_decl.specs.Units.{item_read, with_item, items_next, items_run, whole_unit, unit_read}
-use Rattle.c65_grammar.specs.Phrases.{◌▸◌, token}
-use Rattle.c65_grammar.specs.Scopes.{Scope, no_types, after_item, after_items}
-use Rattle.c65_grammar.specs.Statements.{item, items, some_items}
+use Rattle.c65_grammar.specs.Phrases.{token}
+use Rattle.c65_grammar.specs.Scopes.{no_types, after_item, after_items}
+use Rattle.c65_grammar.specs.Statements.{item, items}
 use Rattle.c65_grammar.specs.Readings.{Continues, units}
-use Rattle.c65_derived.proofs.Phrases.{regroup, map_right, behind_nothing}
 use Rattle.c65_derived.proofs.Got.{EndsIn}
-use Rattle.c65_derived.proofs.Inits.{at_nothing}
+use Rattle.c65_derived.proofs.Small.{one_deeper}
+use Rattle.c65_derived.proofs.Units.{one_more, behind_more, some_there}
 use Rattle.c65_faultlaw.proofs.Local.{Reader, Triple}
 use Rattle.c65_faultlaw.proofs.Seq.{tail}
 use Rattle.c65_faultlaw.proofs.Inits.{marks_it}
@@ -29,31 +29,17 @@ use Rattle.c65_faultlaw.proofs.Units as faults
 use Rattle.c65_viable.specs.Viable.{FewTypes}
 use Rattle.c65_stops.proofs.Stops.{Going, Taking, Stuck, StopIs, Stop, stop_done, weaker, stop_alike, stop_if_first, stop_seq, stop_tailed}
 use Rattle.c65_stops.proofs.Pieces.{IsTaken}
-use Rattle.c65_stops.proofs.Decls.{one_deeper}
-use Rattle.c65_stops.proofs.Goings.{goes_behind}
-use Rattle.c65_stops.proofs.Needs.{StatementsGoOn}
+use Rattle.c65_stops.proofs.Onward.{extended}
 use Rattle.c65_stops.proofs.Items.{item_stops}
 
 abbrev no_place : Pos
 no_place = record { file = 0; line = 1 }
 
--- one more item
-one_more : (sc : Scope) (is : List t.ItemTree) (i : t.ItemTree) (xs : List Token) → (items sc is ▸ item (after_items sc is) i) xs → items sc (is ++ i ∷ []) xs
-one_more sc [] i xs p = behind_nothing (at_nothing (item sc i) xs p)
-one_more sc (j ∷ is) i xs p = map_right (λ ys q. one_more (after_item sc j) is i ys q) (regroup p)
-
-behind_more : (sc : Scope) (is : List t.ItemTree) (i : t.ItemTree) → after_item (after_items sc is) i ≡ after_items sc (is ++ i ∷ [])
-behind_more sc [] i = refl
-behind_more sc (j ∷ is) i = behind_more (after_item sc j) is i
-
-some_there : (sc : Scope) (is : List t.ItemTree) (i : t.ItemTree) (xs : List Token) → items sc (is ++ i ∷ []) xs → some_items sc (is ++ i ∷ []) xs
-some_there sc [] i xs h = h
-some_there sc (j ∷ is) i xs h = h
-
 -- an item that was begun: then the end would follow
 items_go : (n : ℕ) (is : List t.ItemTree) (xs ys : List Token) → items no_types is xs → deepest item_depth is ≤ n → Continues (item (after_items no_types is)) item_depth n ys → Continues units unit_depth n (xs ++ ys)
-items_go n is xs ys h deep k = goes_behind (item (after_items no_types is)) units item_depth unit_depth n xs ys (λ i. record { items = is ++ i ∷ [] }) (λ i. token kinds.End no_place ∷ []) k
-    (λ i us p small. ((xs ++ us, token kinds.End no_place ∷ [], sym (append_assoc xs us (token kinds.End no_place ∷ [])), some_there no_types is i (xs ++ us) (one_more no_types is i (xs ++ us) (xs, us, refl, h, p)), (no_place, refl)), one_deeper n item_depth is i deep small))
+items_go n is xs ys h deep k = extended (item (after_items no_types is)) units item_depth unit_depth n xs (token kinds.End no_place ∷ []) ys (λ i. record { items = is ++ i ∷ [] })
+    (λ i us p. (xs ++ us, token kinds.End no_place ∷ [], sym (append_assoc xs us (token kinds.End no_place ∷ [])), some_there no_types is i (xs ++ us) (one_more no_types is i (xs ++ us) (xs, us, refl, h, p)), (no_place, refl)))
+    (λ i small. one_deeper n item_depth is i deep small) k
 
 -- the items of a unit, with the end that is left behind them
 abbrev items_up : (limit : ℕ) → List Token → List Token → List t.ItemTree → Blocks → List Token → Answer (List t.ItemTree)
@@ -105,19 +91,19 @@ more_stop limit us is i scope xs ys unit u rest h deep p ends f =
     (stop_tailed limit 0 0 goes any_items (λ unit us zs. items_up limit unit us js (after_items no_types js ∷ []) zs) unit u us rest
     (weaker limit 0 0 0 (UnitGoes (xs ++ ys)) goes any_items any_items (λ unit us zs. items_up limit unit us js (after_items no_types js ∷ []) zs) rest (items_up limit unit us js (after_items no_types js ∷ []) rest) (λ n zs high k. subst (Continues units unit_depth n) (append_assoc xs ys zs) k) (λ a inner zs q. tt) rec)))
 
-items_stop : StatementsGoOn → (limit : ℕ) (us : List Token) (is : List t.ItemTree) (xs unit ts : List Token) → 1 ≤ limit → items no_types is xs → deepest item_depth is ≤ limit → FewTypes (after_items no_types is ∷ []) → EndsIn ts → length ts ≤ length us → length ts ≤ length unit
+items_stop : (limit : ℕ) (us : List Token) (is : List t.ItemTree) (xs unit ts : List Token) → 1 ≤ limit → items no_types is xs → deepest item_depth is ≤ limit → FewTypes (after_items no_types is ∷ []) → EndsIn ts → length ts ≤ length us → length ts ≤ length unit
     → Stop limit 0 0 0 (UnitGoes xs) any_items (λ unit us ys. items_up limit unit us is (after_items no_types is ∷ []) ys) unit us ts
-items_stop statements limit us is xs unit [] one h deep few ends enough fit = absurd ends
-items_stop statements limit [] is xs unit (t ∷ ts) one h deep few ends enough fit = absurd (omega (arith, enough))
-items_stop statements limit (u ∷ us) is xs unit (t ∷ ts) one h deep few ends enough fit =
+items_stop limit us is xs unit [] one h deep few ends enough fit = absurd ends
+items_stop limit [] is xs unit (t ∷ ts) one h deep few ends enough fit = absurd (omega (arith, enough))
+items_stop limit (u ∷ us) is xs unit (t ∷ ts) one h deep few ends enough fit =
     let sc = after_items no_types is in
     let scope = sc ∷ [] in
     stop_alike limit 0 0 0 (UnitGoes xs) any_items (λ unit us ys. item_read limit unit scope ys >>= behind_item limit is unit us) (λ unit us ys. items_up limit unit us is scope ys) (t ∷ ts) (items_up limit unit (u ∷ us) is scope (t ∷ ts)) (unrolled limit is scope)
     (stop_seq limit 0 0 1 0 0 0 1 (Continues (item sc) item_depth) (UnitGoes xs) (IsTaken (item sc) (λ i. after_item sc i ∷ []) item_depth limit) any_items (λ unit us ys. item_read limit unit scope ys) (behind_item limit is) unit (u ∷ us) (t ∷ ts) (omega arith) (omega arith) (omega arith) ends
-    (item_stops statements limit sc [] unit (u ∷ us) (t ∷ ts) one few ends fit)
+    (item_stops limit sc [] unit (u ∷ us) (t ∷ ts) one few ends fit)
     (λ n ys high k. items_go n is xs ys h (omega (arith, deep, high)) k)
     (λ i inner ys rest p are left short. more_stop limit us is i inner xs ys unit u rest h deep p left
-    (λ js zs m low many. items_stop statements limit us js zs unit rest one m low many left (omega (arith, enough, short)) (omega (arith, fit, short)))))
+    (λ js zs m low many. items_stop limit us js zs unit rest one m low many left (omega (arith, enough, short)) (omega (arith, fit, short)))))
 
 abbrev unit_of : List t.ItemTree → t.UnitTree
 unit_of is = record { items = is }
@@ -134,12 +120,12 @@ some_tokens : (limit : ℕ) (t : Token) (ts : List Token) → unit_read limit (t
 some_tokens limit t ts = ap (λ b. if b then Err nothing_there else whole_unit limit (t ∷ ts)) (ne_eqb (length (t ∷ ts)) 0 (λ e. omega (arith, e)))
 
 -- the tokens of a unit up to a fault
-pub unit_stuck : StatementsGoOn → (limit : ℕ) (ts : List Token) (e : Fault) → 1 ≤ limit → EndsIn ts → unit_read limit ts ≡ Err e → Stuck limit 0 0 (Continues units unit_depth) (λ unit us ys. items_up limit unit us [] (no_types ∷ []) ys) ts e
-unit_stuck statements limit [] e one ends h = absurd ends
-unit_stuck statements limit (t ∷ ts) e one ends h =
+pub unit_stuck : (limit : ℕ) (ts : List Token) (e : Fault) → 1 ≤ limit → EndsIn ts → unit_read limit ts ≡ Err e → Stuck limit 0 0 (Continues units unit_depth) (λ unit us ys. items_up limit unit us [] (no_types ∷ []) ys) ts e
+unit_stuck limit [] e one ends h = absurd ends
+unit_stuck limit (t ∷ ts) e one ends h =
     let all = t ∷ ts in
     stuck_by limit (λ unit us ys. items_up limit unit us [] (no_types ∷ []) ys) all (items_up limit all all [] (no_types ∷ []) all) e
-    (items_stop statements limit all [] [] all all one refl (omega arith) ((0, λ n low. refl), tt) ends (omega arith) (omega arith))
+    (items_stop limit all [] [] all all one refl (omega arith) ((0, λ n low. refl), tt) ends (omega arith) (omega arith))
     (ap (λ r. r >>= (λ is. Ok (unit_of is))) (sym (same_items limit all all [] (no_types ∷ []) all)) ∙ (sym (some_tokens limit t ts) ∙ h))
 
 -- and what is answered again

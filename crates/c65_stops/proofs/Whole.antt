@@ -26,7 +26,7 @@ use Rattle.c65_stops.proofs.Stops.{Taking, Stuck, StopIs}
 use Rattle.c65_stops.proofs.Pieces.{IsTaken, whole_depth}
 use Rattle.c65_stops.proofs.Inits.{init_stops}
 use Rattle.c65_stops.proofs.Declarations.{declaration_stops}
-use Rattle.c65_stops.proofs.Needs.{StatementsGoOn}
+use Rattle.c65_stops.proofs.Stmts.{statement_stops}
 use Rattle.c65_stops.proofs.Units.{unit_stuck, unit_again}
 
 abbrev err_or : {B : Type 0} → Fault → Result B Fault → Fault
@@ -70,16 +70,16 @@ declarations_stop_at limit unit sc outer tokens fault one fit few ends begins e 
     (stuck limit 1 (declaration sc) decl_depth (IsTaken (declaration sc) (λ d. after_decl sc d ∷ outer) decl_depth limit) read tokens (declaration_read limit unit (sc ∷ outer) tokens) fault (declaration_stops limit sc outer unit [] tokens one few begins (ends_in tokens ends) fit) e)
     (λ ts tree p deep. (end ∷ [], _, declarations_are_read limit (ts ++ end ∷ []) sc outer tree ts end [] p deep (omega arith)))
 
-pub statements_stop_at : StatementsGoOn → StatementsStop
-statements_stop_at statements limit unit sc outer tokens fault one fit few ends e =
+pub statements_stop_at : StatementsStop
+statements_stop_at limit unit sc outer tokens fault one fit few ends e =
     let read : Reader (Triple t.StmtTree) = λ unit us ys. statement_read limit unit (sc ∷ outer) ys in
     stops limit (statement sc) whole_depth read tokens fault
-    (stuck limit 0 (statement sc) whole_depth (IsTaken (statement sc) (λ s. after_stmt sc s ∷ outer) whole_depth limit) read tokens (statement_read limit unit (sc ∷ outer) tokens) fault (statements limit sc outer unit [] tokens one few (ends_in tokens ends) fit) e)
+    (stuck limit 0 (statement sc) whole_depth (IsTaken (statement sc) (λ s. after_stmt sc s ∷ outer) whole_depth limit) read tokens (statement_read limit unit (sc ∷ outer) tokens) fault (statement_stops limit sc outer unit [] tokens one few (ends_in tokens ends) fit) e)
     (λ ts tree p deep. (end ∷ [], _, statements_are_read limit (ts ++ end ∷ []) sc outer tree ts end [] p (omega (arith, deep)) (omega (arith, deep)) (omega arith) (λ h. refl)))
 
-pub units_stop_at : StatementsGoOn → UnitsStop
-units_stop_at statements limit tokens fault one ends e =
-    let s = unit_stuck statements limit tokens fault one (ends_in tokens ends) e in
+pub units_stop_at : UnitsStop
+units_stop_at limit tokens fault one ends e =
+    let s = unit_stuck limit tokens fault one (ends_in tokens ends) e in
     let f = s.failed in
     record {
       before = f.before;

@@ -1,16 +1,37 @@
 // The parser's calls with what the grammar says of all their answers.
 ghost use Rattle.std.specs.Prelude.{true, false};
-ghost use Rattle.c65_tree.specs.View.{expr_of, specifiers_of, declarator_of, type_of};
+ghost use Rattle.c65_tree.specs.View.{expr_of, specifiers_of, declarator_of, type_of, unit_of};
 ghost use Rattle.c65_parse.specs.Reading.{rest_of};
 ghost use Rattle.c65_derived.specs.Units.{EndsOnce};
-ghost use Rattle.c65_stops.specs.Calls.{ReadsExpr, ReadsSpecifiers, ReadsDeclarator, ReadsType};
+ghost use Rattle.c65_stops.specs.Exact.{ReadsUnit};
+ghost use Rattle.c65_stops.specs.Calls.{StopsUnit, ReadsExpr, ReadsSpecifiers, ReadsDeclarator, ReadsType};
 
 use c65_base::Refusal;
+use c65_decl::parse_unit;
 use c65_parse::{
     Parser, parse_assignment, parse_constant, parse_declarator, parse_expr, parse_specifiers,
     parse_type_name, parse_untyped_declarator,
 };
-use c65_tree::{Declarator, Expr, Specifiers, TypeName};
+use c65_scan::Token;
+use c65_tree::{Declarator, Expr, Specifiers, TypeName, Unit};
+use std::alloc::Global;
+
+/// The unit whose tokens these are (C90 6.7), or the fault of the first token with which none goes on; the last token is
+/// the only `End`.
+pub fn stop_unit(alloc: Global, tokens: &[Token]) -> Result<Unit, Refusal>
+    requires { EndsOnce tokens.now }
+    ensures { StopsUnit 256 tokens.now result }
+{
+    parse_unit(alloc, tokens)
+}
+
+/// The only unit whose tokens these are (C90 6.7), or the first token with which none goes on, or that of the limit of
+/// depth.
+pub fn read_exactly(alloc: Global, tokens: &[Token]) -> Result<Unit, Refusal>
+    ensures { EndsOnce tokens.now → ReadsUnit tokens.now unit_of result }
+{
+    parse_unit(alloc, tokens)
+}
 
 /// The expression that stands here (C90 6.3.17).
 pub fn expression_exactly(parser: &mut Parser) -> Result<Expr, Refusal>
