@@ -19,7 +19,6 @@ use Rattle.c65_tree.specs.Depth.{decl_depth}
 use Rattle.c65_scopes.specs.Scopes.{Blocks}
 use Rattle.c65_parse.specs.Reading.{Answer}
 use Rattle.c65_stmts.specs.declared.frame.Place.{Place}
-use Rattle.c65_stmts.specs.declared.sign.Sign.{Sign}
 use Rattle.c65_stmts.specs.declared.sign.Sign.TheVariants as signs
 use Rattle.c65_stmts.specs.declared.sign.Mark.TheVariants as marks
 use Rattle.c65_stmts.specs.Signs.{sign_of_keyword, sign_of_punct, sign_of, is_mark}
@@ -31,27 +30,18 @@ use Rattle.c65_grammar.specs.Phrases.{token}
 use Rattle.c65_grammar.specs.Scopes.{Scope}
 use Rattle.c65_grammar.specs.Statements.{declaration, statement}
 use Rattle.c65_grammar.specs.Readings.{Continues}
-use Rattle.c65_derived.proofs.Phrases.{no_none}
 use Rattle.c65_derived.proofs.Got.{EndsIn}
 use Rattle.c65_complete.proofs.Top.{exprs_are_read}
 use Rattle.c65_unitlaw.proofs.Whole.{declarations_are_read}
 use Rattle.c65_faultlaw.specs.Faults.{IsFaultOf}
 use Rattle.c65_faultlaw.proofs.Local.{Reader, Triple, head_or, here_is}
+use Rattle.c65_faultlaw.proofs.Opens.{second_same, two_here, no_colon}
 use Rattle.c65_viable.specs.Viable.{FewTypes}
 use Rattle.c65_stops.proofs.Stops.{Going, Taking, Stuck, StopIs, Stop, stop_alike, stop_by_first}
 use Rattle.c65_stops.proofs.Onward.{somewhere, mark_token, marked}
 use Rattle.c65_stops.proofs.Placed.{placed_depth, empty, semicolon}
 use Rattle.c65_stops.proofs.Words.{TakesBegun}
 use Rattle.c65_stops.proofs.Opens.{Goes, begun_stops}
-
--- a reading that depends on whether a colon is the second token
-second_same : (before : List Token) (next : Token) (others more : List Token) → 1 ≤ length before → colon_follows (before ++ next ∷ others) ≡ colon_follows (before ++ next ∷ more)
-second_same [] next others more h = absurd (omega (arith, h))
-second_same (b ∷ []) next others more h = ap (λ x. is_mark marks.Colon (sign_of x.kind)) (here_is next others ∙ sym (here_is next more))
-second_same (b ∷ c ∷ before) next others more h = ap (λ x. is_mark marks.Colon (sign_of x.kind)) (here_is c (before ++ next ∷ others) ∙ sym (here_is c (before ++ next ∷ more)))
-
-two_here : (x u : Token) (us more : List Token) → colon_follows (x ∷ u ∷ us) ≡ colon_follows (x ∷ u ∷ more)
-two_here x u us more = ap (λ x. is_mark marks.Colon (sign_of x.kind)) (here_is u us ∙ sym (here_is u more))
 
 -- no fault of the first token by itself
 abbrev NotAtOnce : {A : Type 0} → Reader (Triple A) → Token → Type 0
@@ -219,11 +209,6 @@ either_place : (limit : ℕ) (b : Scope) (outer : Blocks) (place : Place) (goes 
     → Stop limit 0 1 0 goes (TakesBegun limit b outer place) (λ unit us ys. AtName limit place b outer n (colon_follows ys) unit us ys) unit us (name_token n l ∷ u ∷ rest)
 either_place limit b outer place goes n l false u unit us rest g e small h = free_place limit b outer place goes n l (colon_follows (name_token n l ∷ u ∷ rest)) (nat_le (place.around + 1) limit) (nat_le (place.around + 2) limit) u unit us rest g e refl refl refl small h
 either_place limit b outer place goes n l true u unit us rest g e small h = type_place limit b outer place goes n l place.takes_declarations (colon_follows (name_token n l ∷ u ∷ rest)) (nat_le (place.around + 2) limit) u unit us rest g e refl refl refl small h
-
--- only at a name the colon counts
-no_colon : (limit : ℕ) (sign : Sign) (unit : List Token) (place : Place) (is_type colon other : Bool) (scope : Blocks) (ts : List Token) → name_of sign ≡ None → begun_by limit unit place sign is_type colon scope ts ≡ begun_by limit unit place sign is_type other scope ts
-no_colon limit (signs.Name n) unit place is_type colon other scope ts e = absurd (no_none n (sym e))
-no_colon limit _ unit place is_type colon other scope ts e = refl
 
 keyword_unnamed : (k : Keyword) → name_of (sign_of_keyword k) ≡ None
 keyword_unnamed keywords.Sizeof = refl

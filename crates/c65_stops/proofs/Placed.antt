@@ -12,14 +12,16 @@ use Rattle.c65_tree.specs.Lists.{of_option, deepest}
 use Rattle.c65_tree.specs.Depth.{expr_depth, decl_depth, stmt_depth, stmts_depth, inner_depth, inners_depth}
 use Rattle.c65_stmts.specs.declared.sign.Mark.TheVariants as marks
 use Rattle.c65_stmts.specs.Frames.{Head, in_label, in_case, in_default, in_else, in_switch, in_while, in_for, Frame, in_head, in_block, in_then, in_do, place_in, completed}
-use Rattle.c65_grammar.specs.Phrases.{Phrase, ◌▸◌, word, some_word, some_mark}
+use Rattle.c65_grammar.specs.Phrases.{◌▸◌, word, some_word, some_mark}
 use Rattle.c65_grammar.specs.Scopes.{Scope, after, after_decls, after_stmt}
 use Rattle.c65_grammar.specs.Statements.{declaration, test, statement}
 use Rattle.c65_grammar.specs.Readings.{Continues}
 use Rattle.c65_derived.proofs.Small.{one_deeper}
 use Rattle.c65_derived.proofs.Phrases.{both, regroup, ungroup, map_right, attach, before_nothing, behind_nothing}
 use Rattle.c65_derived.proofs.Declarations.{one_more}
-use Rattle.c65_derived.proofs.Openings.{head_scope, inside, scope_in, head_front, stmt_front, stmt_fronts}
+use Rattle.c65_derived.proofs.Openings.{head_scope, inside, scope_in, stmt_front, stmt_fronts}
+use Rattle.c65_derived.proofs.Statements.{head_built, only_first}
+use Rattle.c65_derived.proofs.Small.{one_deeper}
 use Rattle.c65_viable.proofs.Closings.{zero_tree}
 use Rattle.c65_stops.proofs.Pieces.{whole_depth}
 use Rattle.c65_stops.proofs.Onward.{somewhere, mark_token, onward, extended}
@@ -57,16 +59,6 @@ head_room around (in_else l e r) = omega arith
 head_room around (in_switch l e) = omega arith
 head_room around (in_while l e) = omega arith
 head_room around (in_for l e f g) = omega arith
-
--- what is open, and a statement in its place
-pub head_built : (b : Scope) (h : Head) (s : t.StmtTree) (xs : List Token) → (head_front b h ▸ statement (head_scope b h) s) xs → statement b (completed h s) xs
-head_built b (in_label l n) s xs p = regroup p
-head_built b (in_case l e) s xs p = map_right (λ ys q. regroup q) (regroup p)
-head_built b (in_default l) s xs p = regroup p
-head_built b (in_else l e r) s xs p = regroup (regroup (regroup p))
-head_built b (in_switch l e) s xs p = regroup p
-head_built b (in_while l e) s xs p = regroup p
-head_built b (in_for l e f h) s xs p = map_right (λ ys q. map_right (λ zs r. map_right (λ us u. map_right (λ vs v. map_right (λ os x. map_right (λ ns y. regroup y) x) (regroup v)) u) (regroup r)) q) (regroup (regroup (regroup (regroup p))))
 
 pub head_within : (limit around : ℕ) (h : Head) (s : t.StmtTree) → head_depth around h ≤ limit → placed_depth (suc around) s ≤ limit → placed_depth around (completed h s) ≤ limit
 head_within limit around (in_label l n) s fit low = omega (arith, fit, low)
@@ -124,10 +116,6 @@ needed_on n sc (in_head h ∷ fs) xs p fit = empty_needed n sc (in_head h ∷ fs
 needed_on n sc (in_block l ds ss ∷ fs) xs p fit = subst (Continues (statement sc) whole_depth n) (sym p.2) (closes_on n sc fs p.0 p.1 p.3 (omega (arith, fit)) (block_ends n (scope_in sc fs) (length fs) l ds ss p.1 p.4 (omega (arith, fit))))
 needed_on n sc (in_then l e ∷ fs) xs p fit = empty_needed n sc (in_then l e ∷ fs) xs p fit (omega (arith, fit))
 needed_on n sc (in_do l ∷ fs) xs p fit = empty_needed n sc (in_do l ∷ fs) xs p fit (omega (arith, fit))
-
--- without the statements, of which there are none
-pub only_first : {A : Phrase} {ts : List Token} → (A ▸ (λ us. us ≡ [])) ts → A ts
-only_first {A} p = subst A (sym (p.2 ∙ (ap (λ us. p.0 ++ us) p.4 ∙ append-nil p.0))) p.3
 
 declared_whole : (b : Scope) (l : Pos) (ds : List t.DeclTree) (d : t.DeclTree) (us zs : List Token) → stmt_front b (in_block l ds t.no_stmts) us → declaration (after_decls b ds) d zs → statement b (t.block l (ds ++ d ∷ []) t.no_stmts) (us ++ (zs ++ brace ∷ []))
 declared_whole b l ds d us zs p q = subst (statement b (t.block l (ds ++ d ∷ []) t.no_stmts)) (append_assoc us zs (brace ∷ []))

@@ -1,5 +1,5 @@
 -- Statements, by a stack of those that are open: a fault stands at the first token with which none goes on.
-use Rattle.std.proofs.Common.{◌≡◌, ℕ, suc, ◌+◌, ◌≤◌, List, [], ◌∷◌, ◌++◌, length, Bool, true, false, refl, sym, ap, ◌∙◌, subst, append_assoc, arith}
+use Rattle.std.proofs.Common.{◌≡◌, ℕ, suc, ◌≤◌, List, [], ◌∷◌, ◌++◌, length, Bool, true, false, refl, sym, ap, ◌∙◌, subst, append_assoc, arith}
 use Rattle.std.proofs.lemmas.List.{append-nil}
 use Rattle.std.specs.Prelude.{Ok, if◌then◌else◌}
 use Rattle.c65_base.specs.Answers.{◌>>=◌}
@@ -13,7 +13,7 @@ use Rattle.c65_scopes.specs.Scopes.{Blocks, closed}
 use Rattle.c65_parse.specs.Reading.{Answer, after_token}
 use Rattle.c65_stmts.specs.declared.sign.Mark.TheVariants as marks
 use Rattle.c65_stmts.specs.Signs.{sign_of, is_mark}
-use Rattle.c65_stmts.specs.Frames.{Head, in_label, in_case, in_default, in_else, in_switch, in_while, in_for, Frame, in_head, in_block, in_then, in_do, Plugged, plugged_whole, plugged_open, Begun, begun_open, begun_decl, begun_whole, begun_close, Reached, reached_end, reached_need, place_in, completed, with_declaration}
+use Rattle.c65_stmts.specs.Frames.{in_else, Frame, in_head, in_block, in_then, in_do, Plugged, plugged_whole, plugged_open, Begun, begun_open, begun_decl, begun_whole, begun_close, Reached, reached_end, reached_need, place_in, completed, with_declaration}
 use Rattle.c65_decl.specs.Here.{is_here, expected}
 use Rattle.c65_decl.specs.Expressions.{test_read}
 use Rattle.c65_decl.specs.Openings.{begun_at}
@@ -27,27 +27,21 @@ use Rattle.c65_derived.proofs.Phrases.{both, regroup, map_left, map_right, attac
 use Rattle.c65_derived.proofs.Inits.{at_nothing, nil_behind}
 use Rattle.c65_derived.proofs.Declarations.{one_more, behind_more}
 use Rattle.c65_derived.proofs.Got.{EndsIn, first_of_mark, is_mark_of}
-use Rattle.c65_derived.proofs.Openings.{head_scope, scope_in, outer_in, stmt_fronts, begun_behind_it}
+use Rattle.c65_derived.proofs.Openings.{scope_in, outer_in, stmt_fronts, begun_behind_it}
+use Rattle.c65_derived.proofs.Statements.{reached_front, reached_behind, head_built, head_behind, head_closed, only_first}
+use Rattle.c65_derived.proofs.Small.{one_deeper}
 use Rattle.c65_faultlaw.proofs.Seq.{tail}
+use Rattle.c65_faultlaw.proofs.Stmts.{unrolled}
 use Rattle.c65_viable.specs.Viable.{FewTypes}
 use Rattle.c65_viable.proofs.Closings.{zero_tree}
 use Rattle.c65_stops.proofs.Pieces.{IsTaken, whole_depth}
 use Rattle.c65_stops.proofs.Stops.{Going, Taking, Stop, stop_done, stop_alike, stop_by_first, stop_past, stop_seq, stop_mark, stop_tailed, stop_all_steps, stop_regrouped}
 use Rattle.c65_stops.proofs.Onward.{somewhere, mark_token, marked, nothing_more, stop_then, extended}
 use Rattle.c65_stops.proofs.Tests.{zero_test, zero_tested, test_stops}
-use Rattle.c65_stops.proofs.Placed.{placed_depth, frames_depth, head_room, head_built, head_within, semicolon, do_end, closes_on, needed_on, only_first, declared_on}
+use Rattle.c65_stops.proofs.Placed.{placed_depth, frames_depth, head_room, head_within, semicolon, do_end, closes_on, needed_on, declared_on}
 use Rattle.c65_stops.proofs.Words.{begun_phrase, begun_depth}
 use Rattle.c65_stops.proofs.Opens.{Goes}
 use Rattle.c65_stops.proofs.Names.{place_stops}
-
--- where a reading of statements stands
-abbrev reached_front : Scope → Reached → Phrase
-reached_front sc (reached_end s) = statement sc s
-reached_front sc (reached_need fs) = stmt_fronts sc fs
-
-abbrev reached_behind : Scope → Blocks → Reached → Blocks
-reached_behind sc outer (reached_end s) = after_stmt sc s ∷ outer
-reached_behind sc outer (reached_need fs) = scope_in sc fs ∷ outer_in sc outer fs
 
 abbrev reached_depth : Reached → ℕ
 reached_depth (reached_end s) = whole_depth s
@@ -110,24 +104,6 @@ then_stops limit sc outer fs l e s unit us ts xs true here p closes fit low few 
       few = few;
     }))
 then_stops limit sc outer fs l e s unit us ts xs false here p closes fit low few ends k = k (t.if_stmt l e s t.no_stmt) (map_right (λ ys q. map_right (λ zs r. map_right (λ vs u. behind_nothing (tt, u)) r) (regroup q)) (regroup p)) (λ f. absurd (true_false (sym f ∙ here))) (omega (arith, fit, low)) refl
-
-head_behind : (b : Scope) (h : Head) (s : t.StmtTree) → after_stmt (head_scope b h) s ≡ after_stmt b (completed h s)
-head_behind b (in_label l n) s = refl
-head_behind b (in_case l e) s = refl
-head_behind b (in_default l) s = refl
-head_behind b (in_else l e r) s = refl
-head_behind b (in_switch l e) s = refl
-head_behind b (in_while l e) s = refl
-head_behind b (in_for l e f h) s = refl
-
-head_closed : (h : Head) (s : t.StmtTree) → is_closed s ≡ is_closed (completed h s)
-head_closed (in_label l n) s = refl
-head_closed (in_case l e) s = refl
-head_closed (in_default l) s = refl
-head_closed (in_else l e r) s = refl
-head_closed (in_switch l e) s = refl
-head_closed (in_while l e) s = refl
-head_closed (in_for l e f h) s = refl
 
 -- behind a do statement
 do_next : (limit : ℕ) (sc : Scope) (outer : Blocks) (fs : List Frame) (ws ds xs ys : List Token) (r : Plugged) (scope : Blocks) (unit us rest : List Token) → stmt_fronts sc fs ws → xs ≡ ws ++ ds → IsTaken (whole_front (scope_in sc fs)) (whole_behind (scope_in sc fs) (outer_in sc outer fs)) (plugged_depth (length fs)) limit r scope (ds ++ ys) → EndsIn rest
@@ -227,10 +203,6 @@ step_stops limit sc outer fs unit us ts xs p fit few ends long = stop_then limit
 -- the whole run
 abbrev TakesRun : ℕ → Scope → Blocks → List Token → Taking t.StmtTree
 TakesRun limit sc outer xs s scope ys = IsTaken (statement sc) (λ s. after_stmt sc s ∷ outer) whole_depth limit s scope (xs ++ ys)
-
-unrolled : (limit : ℕ) (fs : List Frame) (scope : Blocks) (unit us ys : List Token) → 0 + 1 ≤ length us → statement_run limit unit us fs scope ys ≡ (statement_step limit unit fs scope ys >>= statement_next (statement_run limit unit (tail us)))
-unrolled limit fs scope unit [] ys h = absurd (omega (arith, h))
-unrolled limit fs scope unit (u ∷ us) ys h = refl
 
 more_stops : (limit : ℕ) (sc : Scope) (outer : Blocks) (r : Reached) (scope : Blocks) (unit : List Token) (u : Token) (us ts xs ys : List Token) → TakesOn limit sc outer xs r scope ys → EndsIn ts
     → ((fs : List Frame) (zs : List Token) → stmt_fronts sc fs zs → frames_depth fs ≤ limit → FewTypes (scope_in sc fs ∷ outer_in sc outer fs) → Stop limit 0 0 0 (GoesOn sc zs) (TakesRun limit sc outer zs) (λ unit us vs. statement_run limit unit us fs (scope_in sc fs ∷ outer_in sc outer fs) vs) unit us ts)

@@ -7,13 +7,11 @@ use Rattle.c65_base.specs.declared.refusal.Pos.{Pos}
 use Rattle.c65_scan.specs.declared.token.Keyword.TheVariants as keywords
 use Rattle.c65_scan.specs.declared.token.Punct.TheVariants as puncts
 use Rattle.c65_scan.specs.declared.token.Token.{Token}
-use Rattle.c65_scan.specs.declared.token.TokenKind.{TokenKind}
 use Rattle.c65_scan.specs.declared.token.TokenKind.TheVariants as kinds
 use Rattle.c65_tree.specs.Trees as t
 use Rattle.c65_tree.specs.Lists.{of_option}
 use Rattle.c65_tree.specs.Depth.{expr_depth, decl_depth}
 use Rattle.c65_scopes.specs.Scopes.{Blocks, opened}
-use Rattle.c65_parse.specs.Reading.{token_at}
 use Rattle.c65_stmts.specs.declared.frame.Place.{Place}
 use Rattle.c65_stmts.specs.declared.sign.Sign.{Sign}
 use Rattle.c65_stmts.specs.declared.sign.Sign.TheVariants as signs
@@ -30,12 +28,11 @@ use Rattle.c65_decl.specs.Openings.{label_begun, for_begun, goto_begun, eval_beg
 use Rattle.c65_grammar.specs.Phrases.{Phrase, given, one, token, word, mark, some_mark}
 use Rattle.c65_grammar.specs.Parts.{start}
 use Rattle.c65_grammar.specs.Scopes.{Scope, after, after_option}
-use Rattle.c65_grammar.specs.Statements.{declaration, expression_statement, test, is_closed, statement}
+use Rattle.c65_grammar.specs.Statements.{declaration, test, is_closed, statement}
 use Rattle.c65_grammar.specs.Readings.{Continues}
 use Rattle.c65_derived.proofs.Phrases.{both, attach, behind_nothing, some_is, no_none}
-use Rattle.c65_derived.proofs.Begins.{one_begins, begins_here, expr_begins}
-use Rattle.c65_derived.proofs.Got.{EndsIn, First, first_of_these, Tells, tells, one_here}
-use Rattle.c65_derived.proofs.Openings.{head_front, stmt_front, begun_behind_it, word_kind}
+use Rattle.c65_derived.proofs.Got.{EndsIn, First, first_of_these, tells, one_here}
+use Rattle.c65_derived.proofs.Openings.{head_front, stmt_front, begun_behind_it, word_kind, eval_is, name_told, word_told, no_name_at_end}
 use Rattle.c65_viable.specs.Viable.{FewTypes}
 use Rattle.c65_stops.proofs.Pieces.{IsTaken}
 use Rattle.c65_stops.proofs.Stops.{Going, Taking, Stop, stop_done, stop_fails, stop_by_first, stop_past, stop_mark}
@@ -97,19 +94,9 @@ word_least signs.Return w e = same_depth words.Return w e 1 refl
 word_least signs.OpenBrace w e = same_depth words.OpenBrace w e 1 refl
 word_least _ w e = absurd (no_none w e)
 
-told : (k : TokenKind) (w v : Word) → Some w ≡ Some v → k ≡ word_kind w → k ≡ word_kind v
-told k w v e h = h ∙ ap word_kind (some_is w v e)
-
 -- a name
 abbrev some_name : Name
 some_name = record { 0 = 0 }
-
-name_told : (sign : Sign) (n : Name) (k : TokenKind) → name_of sign ≡ Some n → Tells sign k → k ≡ kinds.Name n
-name_told (signs.Name m) n k e h = h ∙ ap kinds.Name (some_is m n e)
-name_told _ n k e h = absurd (no_none n e)
-
-pub no_name_at_end : (ts : List Token) (n : Name) → name_of (sign_here ts) ≡ Some n → sign_here ts ≡ signs.End → ⊥
-no_name_at_end ts n e h = no_none n (sym (ap name_of h) ∙ e)
 
 abbrev pub NameTaken : ℕ → Blocks → List Token → Taking Name
 NameTaken limit scope ts = IsTaken (λ n. one (pos_here ts) (kinds.Name n)) (λ n. scope) (λ n. 0) limit
@@ -146,16 +133,6 @@ label_stops limit b outer place unit us ts room few ends = stop_then limit 1 0 1
     (λ name xs rest p low more are left short. stop_mark limit 0 0 0 (λ n ys. Places b place n (xs ++ ys)) (λ r scope ys. TakesBegun limit b outer place r scope (xs ++ ys)) marks.Colon (b ∷ outer) (λ a. Ok (begun_open (in_head (in_label (pos_here ts) name)), a.0, a.1)) unit us rest refl (omega arith) left
     (nothing_more (Places b place) limit xs (label_goes limit place.around b (pos_here ts) name xs p room))
     (λ tok last m none. stop_done limit 0 0 (λ n ys. Places b place n (xs ++ (tok ∷ ys))) (λ r scope ys. TakesBegun limit b outer place r scope (xs ++ (tok ∷ ys))) (begun_open (in_head (in_label (pos_here ts) name))) (b ∷ outer) unit us last none (record { derives = both xs (tok ∷ []) p (marked marks.Colon tok m); scope_is = refl; within = room; few = few })))
-
--- an expression statement begins at its first token
-eval_is : (b : Scope) (o : Option t.ExprTree) (ts xs rest : List Token) → ts ≡ xs ++ rest → option_ended marks.Semicolon b o xs → expression_statement b (pos_here ts) o xs
-eval_is b None ts xs rest are p =
-    let only : some_mark puncts.Semicolon xs = subst (some_mark puncts.Semicolon) (sym (p.2 ∙ ap (λ ys. ys ++ p.1) p.3)) p.4 in
-    let place : pos_here ts ≡ only.0 = ap (λ ys. (token_at ys 0).pos) are ∙ begins_here only.0 xs rest (one_begins only.0 (kinds.Punct puncts.Semicolon) xs only.1) in
-    subst (λ l. mark l puncts.Semicolon xs) (sym place) only.1
-eval_is b (Some e) ts xs rest are p =
-    let place : pos_here ts ≡ start e = ap (λ ys. (token_at ys 0).pos) (are ∙ (ap (λ ys. ys ++ rest) p.2 ∙ append_assoc p.0 p.1 rest)) ∙ begins_here (start e) p.0 (p.1 ++ rest) (expr_begins b e p.0 p.3) in
-    (sym place, p)
 
 eval_goes : (n around : ℕ) (b : Scope) (xs more : List Token) (o : Option t.ExprTree) → option_ended marks.Semicolon b o (xs ++ more) → of_option expr_depth o ≤ n → around + 1 ≤ n → Continues (statement b) (placed_depth around) n xs
 eval_goes n around b xs more None p low room = record { tree = t.eval p.4.0 None; more = more; derives = p.2 ∙ (ap (λ ys. ys ++ p.1) p.3 ∙ p.4.1); within = omega (arith, room) }
@@ -298,22 +275,6 @@ behind_stops limit b outer place words.Return l tok unit us ts p room few ends =
     (λ n xs up k. onward (option_ended marks.Semicolon b) (statement b) (of_option expr_depth) (placed_depth place.around) n (tok ∷ []) xs (λ o. t.return l o) (λ o zs q. both (tok ∷ []) zs p q) (λ o low. omega (arith, room, up, low)) k)
     (λ o scope xs rest are took. record { derives = (refl, both (tok ∷ []) xs p took.derives); scope_is = took.scope_is; within = let low = took.within in omega (arith, room, low); few = took.few })
 behind_stops limit b outer place words.OpenBrace l tok unit us ts p room few ends = stop_done limit 0 0 (GoesBehind b place tok) (TakesBehind limit b outer place tok) (begun_open (in_block l [] t.no_stmts)) (opened (b ∷ outer)) unit us ts ends (record { derives = (tok ∷ [], [], refl, (tok ∷ [], [], refl, p, refl), refl); scope_is = refl; within = omega (arith, room); few = (few.0, few) })
-
--- a word
-word_told : (sign : Sign) (w : Word) (k : TokenKind) → word_of sign ≡ Some w → Tells sign k → k ≡ word_kind w
-word_told signs.Case w k e h = told k words.Case w e h
-word_told signs.Default w k e h = told k words.Default w e h
-word_told signs.If w k e h = told k words.If w e h
-word_told signs.Switch w k e h = told k words.Switch w e h
-word_told signs.While w k e h = told k words.While w e h
-word_told signs.Do w k e h = told k words.Do w e h
-word_told signs.For w k e h = told k words.For w e h
-word_told signs.Goto w k e h = told k words.Goto w e h
-word_told signs.Continue w k e h = told k words.Continue w e h
-word_told signs.Break w k e h = told k words.Break w e h
-word_told signs.Return w k e h = told k words.Return w e h
-word_told signs.OpenBrace w k e h = told k words.OpenBrace w e h
-word_told _ w k e h = absurd (no_none w e)
 
 pub word_stops : (limit : ℕ) (b : Scope) (outer : Blocks) (place : Place) (sign : Sign) (w : Word) (unit us ts : List Token) → sign_here ts ≡ sign → word_of sign ≡ Some w → place.around + least_depth sign false ≤ limit → FewTypes (b ∷ outer) → EndsIn ts
     → Stop limit 0 1 0 (Places b place) (TakesBegun limit b outer place) (λ unit us ys. word_begun limit (Some w) (pos_here ts) (b ∷ outer) ys) unit us ts
