@@ -23,3 +23,4 @@ pub mod Never
 pub mod Exact
 pub mod Exactly
 pub mod Knowing
+pub mod Scanned

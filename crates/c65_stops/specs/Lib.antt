@@ -1,3 +1,4 @@
 pub mod Laws
 pub mod Exact
 pub mod Calls
+pub mod Scanned

@@ -1,4 +1,5 @@
 // That a fault stands at the first token with which nothing within the limit of depth goes on.
+ghost use Rattle.c65_stops.specs.Scanned.{ScannedTokensEndOnce, ScannedUnitsAreRead};
 ghost use Rattle.c65_stops.specs.Laws.{InitsStop, DeclarationsStop, StatementsStop, UnitsStop};
 
 /// An initialiser (C90 6.5.7).
@@ -19,4 +20,10 @@ pub fn statements_stop()
 /// A unit (C90 6.7).
 pub fn units_stop()
     ensures { UnitsStop }
+{}
+
+/// The last of scanned tokens is their only `End`; and what the parser answers of them is told by the grammar alone.
+pub fn scanned_units_are_read()
+    ensures ends { ScannedTokensEndOnce }
+    ensures read { ScannedUnitsAreRead }
 {}

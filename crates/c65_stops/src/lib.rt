@@ -13,4 +13,6 @@ pub use calls::{
     assignment_exactly, constant_exactly, declarator_exactly, expression_exactly, read_exactly,
     specifiers_exactly, stop_unit, type_name_exactly, untyped_declarator_exactly,
 };
-pub use laws::{declarations_stop, initialisers_stop, statements_stop, units_stop};
+pub use laws::{
+    declarations_stop, initialisers_stop, scanned_units_are_read, statements_stop, units_stop,
+};
