@@ -13,13 +13,14 @@ use Rattle.c65_tree.specs.Trees as t
 use Rattle.c65_tree.specs.Depth.{unit_depth}
 use Rattle.c65_decl.specs.Units.{unit_read}
 use Rattle.c65_grammar.specs.Readings.{units, IsUnitWithin}
+use Rattle.c65_limits.proofs.Units.{units_grow}
 use Rattle.c65_derived.specs.Units.{EndsOnce}
 use Rattle.c65_derived.proofs.Small.{units_are_units}
 use Rattle.c65_unitlaw.proofs.Whole.{units_are_read, units_are_one}
 use Rattle.c65_faultlaw.proofs.Whole.{ends_in}
 use Rattle.c65_stops.specs.Exact.{IsOnlyUnit, ReadsUnit}
 use Rattle.c65_stops.proofs.Whole.{units_stop_at}
-use Rattle.c65_stops.proofs.Never.{GrowsAlways, Reads, never, no_depth, code_is, depth_is, size_is}
+use Rattle.c65_stops.proofs.Never.{Reads, never, no_depth, code_is, depth_is, size_is}
 use Rattle.c65_stops.proofs.Units.{unit_stuck, unit_again}
 
 reads_units : Reads unit_read units unit_depth
@@ -31,8 +32,8 @@ only_unit tokens unit once e =
     let low = it.within in
     (it, λ other p. units_are_one (max 256 (unit_depth other)) tokens other unit (record { derives = p; within = omega arith }) (record { derives = it.derives; within = omega (arith, low) }))
 
-no_unit : GrowsAlways unit_read → (tokens : List Token) (code : Code) (pos : Pos) → EndsOnce tokens → unit_read 256 tokens ≡ Err (at code pos) → ReadsUnit {X = t.UnitTree} tokens (λ u. u) (Err (refusals.At code pos))
-no_unit grows tokens code pos once e =
+no_unit : (tokens : List Token) (code : Code) (pos : Pos) → EndsOnce tokens → unit_read 256 tokens ≡ Err (at code pos) → ReadsUnit {X = t.UnitTree} tokens (λ u. u) (Err (refusals.At code pos))
+no_unit tokens code pos once e =
     let s = unit_stuck 256 tokens (at code pos) (omega arith) (ends_in tokens once) e in
     let f = s.failed in
     let is = code_is f.next code pos f.fault_is in (
@@ -44,7 +45,7 @@ no_unit grows tokens code pos once e =
         others = f.others;
         tokens_are = f.tokens_are;
         before = s.goes_on;
-        never = never 256 unit_read units unit_depth (at code pos) f.before f.next (no_depth code pos) (λ more. unit_again 256 f.before f.next more (at code pos) (f.again (f.before ++ f.next ∷ more) (f.before ++ f.next ∷ more) more (omega arith) (omega arith))) grows reads_units;
+        never = never 256 unit_read units unit_depth (at code pos) f.before f.next (no_depth code pos) (λ more. unit_again 256 f.before f.next more (at code pos) (f.again (f.before ++ f.next ∷ more) (f.before ++ f.next ∷ more) more (omega arith) (omega arith))) units_grow reads_units;
       },
     )
 
@@ -68,9 +69,9 @@ deep_unit tokens size value once e =
     )
 
 -- what the call answers
-pub reads_unit : GrowsAlways unit_read → {X : Type 0} (view : X → t.UnitTree) (r : Result X Refusal) (tokens : List Token) → EndsOnce tokens → Gives view r (unit_read 256 tokens) → ReadsUnit tokens view r
-reads_unit grows view (Ok x) tokens once h = only_unit tokens (view x) once h
-reads_unit grows view (Err refusals.OutOfMemory) tokens once h = tt
-reads_unit grows view (Err (refusals.At code pos)) tokens once h = no_unit grows tokens code pos once h
-reads_unit grows view (Err (refusals.TooLarge size value)) tokens once h = deep_unit tokens size value once h
-reads_unit grows view (Err _) tokens once h = absurd h
+pub reads_unit : {X : Type 0} (view : X → t.UnitTree) (r : Result X Refusal) (tokens : List Token) → EndsOnce tokens → Gives view r (unit_read 256 tokens) → ReadsUnit tokens view r
+reads_unit view (Ok x) tokens once h = only_unit tokens (view x) once h
+reads_unit view (Err refusals.OutOfMemory) tokens once h = tt
+reads_unit view (Err (refusals.At code pos)) tokens once h = no_unit tokens code pos once h
+reads_unit view (Err (refusals.TooLarge size value)) tokens once h = deep_unit tokens size value once h
+reads_unit view (Err _) tokens once h = absurd h

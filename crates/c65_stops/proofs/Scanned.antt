@@ -23,7 +23,6 @@ use Rattle.c65_scan.specs.Tokens.{word, number, char_value, text_value, punct_va
 use Rattle.c65_tree.specs.Trees as t
 use Rattle.c65_decl.specs.Units.{unit_read}
 use Rattle.c65_derived.specs.Units.{EndsOnce}
-use Rattle.c65_limits.proofs.Units.{units_grow}
 use Rattle.c65_stops.specs.Scanned.{ScannedTokensEndOnce, refused, ScannedUnitsAreRead}
 use Rattle.c65_stops.proofs.Exact.{reads_unit}
 
@@ -112,4 +111,4 @@ gives (Err (at code pos)) = refl
 gives (Err (large size value)) = refl
 
 pub scanned_units_are_read : ScannedUnitsAreRead
-scanned_units_are_read names ts all e = reads_unit units_grow (λ u. u) (refused (unit_read 256 all)) all (scanned_tokens_end_once names ts all e) (gives (unit_read 256 all))
+scanned_units_are_read names ts all e = reads_unit (λ u. u) (refused (unit_read 256 all)) all (scanned_tokens_end_once names ts all e) (gives (unit_read 256 all))
