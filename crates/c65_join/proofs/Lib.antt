@@ -1,4 +1,5 @@
 pub mod CheckLaws
+pub mod DefinitionLaws
 pub mod ItemLaws
 pub mod NameLaws
 pub mod PartsLaws

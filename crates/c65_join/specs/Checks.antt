@@ -13,6 +13,7 @@ use Rattle.c65_join.specs.declared.table.Item.{Item}
 use Rattle.c65_join.specs.declared.table.Item.TheVariants as items
 use Rattle.c65_join.specs.declared.table.Place.{Place}
 use Rattle.c65_join.specs.Answers.{JoinFault, ◌>>=◌, refused_if}
+use Rattle.c65_join.specs.Definitions.{own_prototype}
 use Rattle.c65_join.specs.Items.{ItemsTy}
 use Rattle.c65_join.specs.Known.{library_at, main_named, main_spelling}
 use Rattle.c65_join.specs.Prototypes.{prototype_of, main_alone, main_with_words}
@@ -161,19 +162,27 @@ func_in_unit item (Some u) = func_in item u
 abbrev pub func_at : List ItemsTy → Place → Option FuncTy
 func_at us p = func_in_unit p.item (slice_get us p.unit)
 
-abbrev pub func_defined : List ItemsTy → Option Place → Option FuncTy
-func_defined us None = None
-func_defined us (Some p) = func_at us p
+abbrev pub objects_in : Option ItemsTy → List ObjectTy
+objects_in None = []
+objects_in (Some u) = u.objects
+
+abbrev pub objects_at : List ItemsTy → Place → List ObjectTy
+objects_at us p = objects_in (slice_get us p.unit)
 
 -- where the table has the name of the main function
 abbrev pub main_place : TableTy → Option Name → Option Place
 main_place t None = None
 main_place t (Some n) = definition_in (external_at t n)
 
-abbrev pub main_of : TypesTy → Option FuncTy → Result Name JoinFault
-main_of types None = no_main
-main_of types (Some f) = if is_main types f.ty then Ok f.name else no_main
+-- a main function in the old style has the prototype of its parameters
+abbrev pub main_of : TypesTy → List ObjectTy → Option FuncTy → Result Name JoinFault
+main_of types os None = no_main
+main_of types os (Some f) = if is_main types (own_prototype os f.params f.ty) then Ok f.name else no_main
+
+abbrev pub main_at : List ItemsTy → TypesTy → Option Place → Result Name JoinFault
+main_at us types None = no_main
+main_at us types (Some p) = main_of types (objects_at us p) (func_at us p)
 
 -- the name of the main function, which is defined and has one of its types
 abbrev pub main_in : List (List ℕ) → List ItemsTy → TypesTy → TableTy → Result Name JoinFault
-main_in names us types t = main_of types (func_defined us (main_place t (main_named 0 names)))
+main_in names us types t = main_at us types (main_place t (main_named 0 names))

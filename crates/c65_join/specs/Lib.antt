@@ -1,5 +1,6 @@
 pub mod Answers
 pub mod Checks
+pub mod Definitions
 pub mod Items
 pub mod Joined
 pub mod Known

@@ -13,6 +13,7 @@ ghost use Rattle.c65_join.specs.Prototypes.{prototype_of, main_with_words, main_
 ghost use Rattle.c65_join.specs.Tables.{external_of, table_of};
 ghost use Rattle.c65_join.specs.Uses.{marks_of};
 
+use crate::definition::own_prototype;
 use crate::known::{library_named, name_of_main};
 use crate::library::{function, main_alone, main_with_words, prototype};
 use crate::marks::{Marks, is_marked};
@@ -443,18 +444,51 @@ fn no_main(alloc: Global) -> Refusal
     }
 }
 
-/// The name of the main function, where this is it. Refuses where it is missing or of another type.
-fn main_of(alloc: Global, types: &Types, func: Option<&TFunc>) -> Result<Name, Refusal>
-    ensures { Gives (λ n. n) result (tests.main_of (types_of types.now) (option_map func_of (option_copied func.entry))) }
+/// The objects of a declaration's unit.
+fn objects_at(units: &[Unit], place: Place) -> &[TObject]
+    ensures { map object_of result.now ≡ tests.objects_at (map items_of units.now) place }
 {
-    match func {
-        Some(func) => {
-            if is_main(alloc, types, &func.ty)? {
-                Ok(func.name)
-            } else {
-                Err(no_main(alloc))
-            }
-        }
+    match units.get(place.unit as usize) {
+        Some(unit) => unit.objects.as_slice(),
+        None => &[],
+    }
+}
+
+/// The name of the main function, where this is it. Refuses where it is missing or of another type.
+fn main_of(
+    alloc: Global,
+    types: &Types,
+    objects: &[TObject],
+    func: Option<&TFunc>,
+) -> Result<Name, Refusal>
+    ensures { Gives (λ n. n) result (tests.main_of (types_of types.now) (map object_of objects.now) (option_map func_of (option_copied func.entry))) }
+{
+    let Some(func) = func else {
+        return Err(no_main(alloc));
+    };
+    let ty = own_prototype(alloc, objects, func)?;
+    if is_main(alloc, types, &ty)? {
+        Ok(func.name)
+    } else {
+        Err(no_main(alloc))
+    }
+}
+
+fn main_at(
+    alloc: Global,
+    units: &[Unit],
+    types: &Types,
+    place: Option<Place>,
+) -> Result<Name, Refusal>
+    ensures { Gives (λ n. n) result (tests.main_at (map items_of units.now) (types_of types.now) place) }
+{
+    match place {
+        Some(place) => main_of(
+            alloc,
+            types,
+            objects_at(units, place),
+            func_at(units, place),
+        ),
         None => Err(no_main(alloc)),
     }
 }
@@ -469,9 +503,5 @@ pub fn main_name(
 ) -> Result<Name, Refusal>
     ensures { Gives (λ n. n) result (tests.main_in names.now (map items_of units.now) (types_of types.now) (table_of table.now)) }
 {
-    let func = match main_place(table, names) {
-        Some(place) => func_at(units, place),
-        None => None,
-    };
-    main_of(alloc, types, func)
+    main_at(alloc, units, types, main_place(table, names))
 }

@@ -4,6 +4,7 @@
 
 mod assign;
 mod checks;
+mod definition;
 mod known;
 mod library;
 mod marks;

@@ -56,7 +56,8 @@ pub fn by_spelling(spelling: &[u8]) -> Option<Library>
     library_among(&ALL, spelling)
 }
 
-fn nothing(is_const: bool) -> QType
+/// `void`
+pub fn nothing(is_const: bool) -> QType
     ensures { qty_of result ≡ qual void is_const false }
 {
     QType {

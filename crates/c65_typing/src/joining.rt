@@ -6,7 +6,7 @@ use std::alloc::Global;
 use std::test::Fail;
 
 /// Two units, and what joining them refuses: a kind and a name, or nothing.
-const ROWS: [(&str, &str, Option<(LinkKind, &str)>); 15] = [
+const ROWS: [(&str, &str, Option<(LinkKind, &str)>); 29] = [
     (
         "int v=1;int main(void){return 0;}",
         "int v=1;",
@@ -51,6 +51,65 @@ const ROWS: [(&str, &str, Option<(LinkKind, &str)>); 15] = [
         "long main(void){return 0;}",
         "int w;",
         Some((LinkKind::Main, "main")),
+    ),
+    // a main function in the old style has no parameters, or the two
+    (
+        "int main(a)int a;{return a;}",
+        "int w;",
+        Some((LinkKind::Main, "main")),
+    ),
+    (
+        "int main(a)int a;{return a;}",
+        "int main(void);",
+        Some((LinkKind::Main, "main")),
+    ),
+    (
+        "int main(a,b){return a+b;}",
+        "int w;",
+        Some((LinkKind::Main, "main")),
+    ),
+    (
+        "int main(a,b)char a,**b;{return a+!b;}",
+        "int w;",
+        Some((LinkKind::Main, "main")),
+    ),
+    (
+        "int main(a,b)long a;char **b;{return !a+!b;}",
+        "int w;",
+        Some((LinkKind::Main, "main")),
+    ),
+    (
+        "int main(a,b)int a;char *b;{return a+!b;}",
+        "int w;",
+        Some((LinkKind::Main, "main")),
+    ),
+    (
+        "int main(a,b)int a;const char **b;{return a+!b;}",
+        "int w;",
+        Some((LinkKind::Main, "main")),
+    ),
+    (
+        "int main(a,b,c)int a,c;char **b;{return a+!b+c;}",
+        "int w;",
+        Some((LinkKind::Main, "main")),
+    ),
+    ("int main(){return 0;}", "int w;", None),
+    ("int main(){return 0;}", "int main(void);", None),
+    ("int main(a,b)int a;char **b;{return a+!b;}", "int w;", None),
+    (
+        "int main(a,b)char *b[];{return a+!b;}",
+        "int main(int,char **);",
+        None,
+    ),
+    (
+        "int main(a,b)const int a;unsigned char **b;{return a+!b;}",
+        "int w;",
+        None,
+    ),
+    (
+        "int main(int,char **);int main(a,b)int a;char **b;{return a+!b;}",
+        "int w;",
+        None,
     ),
     // the kinds in their order
     (
