@@ -1,6 +1,6 @@
 -- The types of a prototype and the parameters of a definition, pair by pair.
 use Rattle.std.proofs.Common.{◌≡◌, ℕ, zero, suc, ◌<◌, ◌≤◌, List, [], ◌∷◌, length, drop, refl, sym, ap, ◌∙◌, arith, Some, Bool, true, false, nat_eq, subst, Ok}
-use Rattle.std.specs.Prelude.{Option, Result, if◌then◌else◌}
+use Rattle.std.specs.Prelude.{Option, Result}
 use Rattle.c65_base.specs.declared.refusal.Refusal.{Refusal}
 use Rattle.c65_base.specs.Answers.{Gives}
 use Rattle.std.specs.Global.{Vec}
@@ -8,13 +8,11 @@ use Rattle.std.proofs.lemmas.Bool.{eqb-true, eqb-false}
 use Rattle.std.proofs.lemmas.List.{drop_all}
 use Rattle.c65_ctype.specs.declared.types.QType.{QType}
 use Rattle.c65_ctype.specs.declared.types.FnType.{FnType, out-FnType}
-use Rattle.c65_ctype.specs.Trees.{Fn, fn, end, QTy, TypesTy}
-use Rattle.c65_ctype.specs.Compatible.{are_compatible}
-use Rattle.c65_csem.specs.Places.{plain_of}
+use Rattle.c65_ctype.specs.Trees.{Fn, fn, end}
 use Rattle.c65_ctype.specs.Views.{qty_of, fn_of, qtys_of, params_in}
 use Rattle.c65_ctype.proofs.ViewLaws.{fn_view}
 use Rattle.c65_csem.specs.Trees.{UnitTy}
-use Rattle.c65_init.specs.Agreeing.{passed_as, fits, all_take, agree}
+use Rattle.c65_init.specs.Agreeing.{all_take, agree}
 
 numbers_left : (ys : List ℕ) (i : ℕ) → i < length ys → (n : ℕ) × (ns : List ℕ) × (drop i ys ≡ n ∷ ns)
 numbers_left [] i below = absurd (omega arith)
@@ -41,14 +39,6 @@ agree_by u f types ys ns is list =
     ap (λ (zs : List QType). all_take u (qtys_of zs) ns) list
     ∙ ap (λ (o : Option (Vec QType)). agree u (fn (qty_of (out-FnType f).result) (params_in o) (out-FnType f).variadic (out-FnType f).cdecl) ns) (sym is)
     ∙ ap (λ (w : Fn). agree u w ns) (sym (fn_view f))
-
--- an object that takes a type only as a promoted value
-pub second : (r : Result Bool Refusal) (types : TypesTy) (q own plain passed : QTy) → plain ≡ plain_of own → passed ≡ passed_as own → are_compatible types plain (plain_of q) ≡ false → Gives (λ b. b) r (Ok (are_compatible types passed (plain_of q))) → Gives (λ b. b) r (Ok (fits types q own))
-second r types q own plain passed is promoted other h =
-    let no : are_compatible types (plain_of own) (plain_of q) ≡ false = ap (λ (t : QTy). are_compatible types t (plain_of q)) (sym is) ∙ other in
-    let value : fits types q own ≡ are_compatible types (passed_as own) (plain_of q) = ap (λ (b : Bool). if b then true else are_compatible types (passed_as own) (plain_of q)) no in
-    let all : are_compatible types passed (plain_of q) ≡ fits types q own = ap (λ (t : QTy). are_compatible types t (plain_of q)) promoted ∙ sym value in
-    subst (λ (b : Bool). Gives (λ c. c) r (Ok b)) all h
 
 pub gives_same : (r : Result Bool Refusal) (a b : Bool) → a ≡ b → Gives (λ c. c) r (Ok a) → Gives (λ c. c) r (Ok b)
 gives_same r a b e h = subst (λ (d : Bool). Gives (λ c. c) r (Ok d)) e h

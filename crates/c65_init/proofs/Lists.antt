@@ -1,5 +1,5 @@
 -- The walks of the lists of a unit.
-use Rattle.std.proofs.Common.{◌≡◌, ℕ, suc, ◌+◌, ◌-◌, ◌<◌, ◌≤◌, min, List, [], ◌∷◌, ◌++◌, length, map, false, refl, sym, ap, arith, Ok}
+use Rattle.std.proofs.Common.{◌≡◌, ℕ, suc, ◌+◌, ◌-◌, ◌<◌, ◌≤◌, min, Bool, List, [], ◌∷◌, ◌++◌, length, map, false, refl, sym, ap, arith, Ok}
 use Rattle.std.proofs.lemmas.Bool.Decides.{nat_tests}
 use Rattle.std.specs.Prelude.{Result, Option, ◌==◌}
 use Rattle.c65_base.specs.Answers.{Fault, ◌>>=◌}
@@ -52,14 +52,14 @@ decls_steps = record { first = λ d ds x. refl; none = λ x. refl }
 
 -- ---- old-style parameters
 
-abbrev pub olds_walk : Option Storage → QTy → List InitDeclarator → List OldTy × ScopeTy → Result (List OldTy × ScopeTy) Fault
-olds_walk storage base ds x = old_declarators storage base (map v.init_declarator_of ds) x.0 x.1
+abbrev pub olds_walk : Bool → QTy → List InitDeclarator → List OldTy × ScopeTy → Result (List OldTy × ScopeTy) Fault
+olds_walk register base ds x = old_declarators register base (map v.init_declarator_of ds) x.0 x.1
 
-abbrev pub olds_step : Option Storage → QTy → InitDeclarator → List OldTy × ScopeTy → Result (List OldTy × ScopeTy) Fault
-olds_step storage base d x = old_one storage base (v.init_declarator_of d) x.0 x.1
+abbrev pub olds_step : Bool → QTy → InitDeclarator → List OldTy × ScopeTy → Result (List OldTy × ScopeTy) Fault
+olds_step register base d x = old_one register base (v.init_declarator_of d) x.0 x.1
 
-pub olds_steps : (storage : Option Storage) (base : QTy) → Steps (olds_walk storage base) (olds_step storage base)
-olds_steps storage base = record { first = λ d ds x. refl; none = λ x. refl }
+pub olds_steps : (register : Bool) (base : QTy) → Steps (olds_walk register base) (olds_step register base)
+olds_steps register base = record { first = λ d ds x. refl; none = λ x. refl }
 
 abbrev pub old_decls_walk : List Decl → List OldTy × ScopeTy → Result (List OldTy × ScopeTy) Fault
 old_decls_walk ds x = old_declarations (map v.decl_of ds) x.0 x.1

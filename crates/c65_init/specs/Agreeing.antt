@@ -5,7 +5,7 @@ use Rattle.c65_base.specs.declared.code.Code.TheVariants.{Redeclared}
 use Rattle.c65_base.specs.declared.refusal.Pos.{Pos}
 use Rattle.c65_base.specs.Answers.{Fault, at}
 use Rattle.c65_ctype.specs.Trees.{Ty, int, QTy, qual, Fn, fn, unknown, known, QTys, end, more, TypesTy}
-use Rattle.c65_ctype.specs.Compatible.{are_compatible}
+use Rattle.c65_ctype.specs.Compatible.{are_compatible, stays}
 use Rattle.c65_csem.specs.Places.{plain, plain_of, promoted_of}
 use Rattle.c65_csem.specs.Trees.{ObjectTy, FuncTy, UnitTy}
 
@@ -17,9 +17,14 @@ promoted_ty t = t
 abbrev pub passed_as : QTy → QTy
 passed_as (qual t c v) = plain (promoted_ty t)
 
--- the object of a definition with a prototype has its type itself
+-- Beside a narrow type of a prototype the definition has a prototype too: one without is not compatible with it, and so
+-- was refused before. There the parameter's type is its own.
+abbrev pub taken_as : Bool → QTy → QTy
+taken_as true own = passed_as own
+taken_as false own = plain_of own
+
 abbrev pub fits : TypesTy → QTy → QTy → Bool
-fits types q own = if are_compatible types (plain_of own) (plain_of q) then true else are_compatible types (passed_as own) (plain_of q)
+fits types q own = are_compatible types (taken_as (stays q) own) (plain_of q)
 
 abbrev pub takes : TypesTy → QTy → Option ObjectTy → Bool
 takes types q None = false

@@ -1,6 +1,6 @@
 -- The parameters of a function definition, by a prototype or in the old style (C90 6.7.1).
 use Rattle.std.specs.Prelude.{ℕ, ◌+◌, ◌==◌, List, [], ◌∷◌, ◌++◌, map, set, slice_get, Bool, true, false, Option, Some, None, is_some, option_map, Result, Ok, Err, if◌then◌else◌}
-use Rattle.c65_base.specs.declared.code.Code.TheVariants.{ParameterList, Redeclared, StorageClass, StructValue, Initialiser}
+use Rattle.c65_base.specs.declared.code.Code.TheVariants.{ParameterList, Redeclared, StructValue, Initialiser}
 use Rattle.c65_base.specs.declared.names.Name.{Name}
 use Rattle.c65_base.specs.declared.refusal.Pos.{Pos}
 use Rattle.c65_base.specs.Answers.{Fault, at, ◌>>=◌}
@@ -18,6 +18,7 @@ use Rattle.c65_tree.specs.declared.expr.Storage.TheVariants as storages
 use Rattle.c65_tree.specs.Trees.{SpecifiersTree, specifiers, DeclaratorTree, InitTree, InitDeclaratorTree, DeclTree}
 use Rattle.c65_declare.specs.Calling.{name_place}
 use Rattle.c65_declare.specs.Declarators.{FormalTy, FormalsTy, nothing, names, prototype}
+use Rattle.c65_declare.specs.Prototypes.{param_storage}
 use Rattle.c65_elab.specs.Headings.{declarator_in}
 use Rattle.c65_elab.specs.Typing.{specified}
 use Rattle.c65_cells.specs.Items.{place_of}
@@ -53,11 +54,6 @@ abbrev pub may_be_parameter : TypesTy → Ty → Pos → Result (Unit {0}) Fault
 may_be_parameter types (tag n) p = Err (at StructValue p)
 may_be_parameter types t p = size_at types p t >>= (λ size. Ok tt)
 
-abbrev pub register_given : Option Storage → Pos → Result Bool Fault
-register_given None p = Ok false
-register_given (Some storages.Register) p = Ok true
-register_given (Some _) p = Err (at StorageClass p)
-
 -- the first place of a name among parameters, where the first of these has a place
 abbrev pub old_from : List OldTy → Name → ℕ → Option ℕ
 old_from [] m n = None
@@ -79,10 +75,9 @@ abbrev pub entered : List OldTy → Option Name → QTy → Bool → Pos → Res
 entered os None t register p = Err (at ParameterList p)
 entered os (Some m) t register p = entered_at os t register p (old_from os m 0)
 
-abbrev pub old_declarator : Option Storage → QTy → DeclaratorTree → List OldTy → ScopeTy → Result (List OldTy × ScopeTy) Fault
-old_declarator storage base d os s = do
+abbrev pub old_declarator : Bool → QTy → DeclaratorTree → List OldTy → ScopeTy → Result (List OldTy × ScopeTy) Fault
+old_declarator register base d os s = do
   x ← declarator_in base d s
-  register ← register_given storage (name_place d)
   may ← may_be_parameter x.1.unit.types (type_in (adjusted x.0.1)) (name_place d)
   us ← entered os x.0.0 (adjusted x.0.1) register (name_place d)
   Ok (us, x.1)
@@ -91,22 +86,24 @@ abbrev pub no_init : Option InitTree → Result (Unit {0}) Fault
 no_init None = Ok tt
 no_init (Some i) = Err (at Initialiser (place_of i))
 
-abbrev pub old_one : Option Storage → QTy → InitDeclaratorTree → List OldTy → ScopeTy → Result (List OldTy × ScopeTy) Fault
-old_one storage base d os s = do
-  x ← old_declarator storage base d.declarator os s
+abbrev pub old_one : Bool → QTy → InitDeclaratorTree → List OldTy → ScopeTy → Result (List OldTy × ScopeTy) Fault
+old_one register base d os s = do
+  x ← old_declarator register base d.declarator os s
   none ← no_init d.init
   Ok x
 
-abbrev pub old_declarators : Option Storage → QTy → List InitDeclaratorTree → List OldTy → ScopeTy → Result (List OldTy × ScopeTy) Fault
-old_declarators storage base [] os s = Ok (os, s)
-old_declarators storage base (d ∷ ds) os s = do
-  x ← old_one storage base d os s
-  old_declarators storage base ds x.0 x.1
+abbrev pub old_declarators : Bool → QTy → List InitDeclaratorTree → List OldTy → ScopeTy → Result (List OldTy × ScopeTy) Fault
+old_declarators register base [] os s = Ok (os, s)
+old_declarators register base (d ∷ ds) os s = do
+  x ← old_one register base d os s
+  old_declarators register base ds x.0 x.1
 
+-- no storage class but `register`, with declarators or without
 abbrev pub old_declaration : DeclTree → List OldTy → ScopeTy → Result (List OldTy × ScopeTy) Fault
 old_declaration d os s = do
   b ← specified d.specifiers (is_none_of d.declarators) s
-  old_declarators b.0.0 b.0.1 d.declarators os b.1
+  register ← param_storage b.0.0 d.specifiers
+  old_declarators register b.0.1 d.declarators os b.1
 
 abbrev pub old_declarations : List DeclTree → List OldTy → ScopeTy → Result (List OldTy × ScopeTy) Fault
 old_declarations [] os s = Ok (os, s)

@@ -2,8 +2,7 @@
 ghost use Rattle.std.specs.Prelude.{◌≡◌, IfOk, Ok, option_map, option_copied, slice_get};
 ghost use Rattle.c65_base.specs.Answers.{Gives};
 ghost use Rattle.c65_ctype.specs.Views.{qty_of, qtys_of, fn_of, types_of};
-ghost use Rattle.c65_ctype.specs.Compatible.{are_compatible};
-ghost use Rattle.c65_csem.specs.Places.{plain_of};
+ghost use Rattle.c65_ctype.specs.Compatible.{stays};
 ghost use Rattle.c65_csem.specs.Views.{func_of, object_of, unit_of};
 ghost use Rattle.c65_init.specs.Agreeing;
 
@@ -11,6 +10,7 @@ use c65_base::{Code, Pos, Refusal};
 use c65_cells::fault;
 use c65_csem::{Parts, TFunc, TObject, int_type, promoted, unqualified};
 use c65_ctype::{CType, FnType, QType, Types};
+use c65_ints::IntType;
 use std::alloc::{AllocError, Global};
 
 /// The type in which an argument without a prototype comes to an object of this type.
@@ -23,25 +23,34 @@ fn passed_as(alloc: Global, ty: &QType) -> Result<QType, AllocError>
     }
 }
 
-/// Whether a type is compatible with another one without its qualifiers.
-fn is_like(alloc: Global, types: &Types, own: QType, ty: &QType) -> Result<bool, Refusal>
-    ensures { Gives (λ b. b) result (Ok (are_compatible (types_of types.now) (qty_of own) (plain_of (qty_of ty.now)))) }
+/// Whether an argument of a type comes as it is where there is no prototype.
+fn stays(ty: &QType) -> bool
+    ensures { result ≡ stays (qty_of ty.now) }
 {
-    let ty = unqualified(alloc, ty)?;
-    types.compatible(&own, &ty)
+    match ty.ty {
+        CType::Int(IntType::SChar | IntType::UChar | IntType::Short | IntType::UShort) => false,
+        _ => true,
+    }
 }
 
-/// Whether an object of a type takes what is passed in another one, as it is or as a promoted value.
-#[tactic(auto, using(crate::proofs::Agreement::second))]
+/// The type of a parameter, promoted or as it is.
+fn taken_as(alloc: Global, is_promoted: bool, own: &QType) -> Result<QType, AllocError>
+    ensures { IfOk result (λ q. qty_of q ≡ Agreeing.taken_as is_promoted (qty_of own.now)) }
+{
+    if is_promoted {
+        passed_as(alloc, own)
+    } else {
+        unqualified(alloc, own)
+    }
+}
+
+/// Whether an object of a type takes what a prototype passes in another one.
 fn fits(alloc: Global, types: &Types, ty: &QType, own: &QType) -> Result<bool, Refusal>
     ensures { Gives (λ b. b) result (Ok (Agreeing.fits (types_of types.now) (qty_of ty.now) (qty_of own.now))) }
 {
-    let plain = unqualified(alloc, own)?;
-    if is_like(alloc, types, plain, ty)? {
-        return Ok(true);
-    }
-    let passed = passed_as(alloc, own)?;
-    is_like(alloc, types, passed, ty)
+    let own = taken_as(alloc, stays(ty), own)?;
+    let ty = unqualified(alloc, ty)?;
+    types.compatible(&own, &ty)
 }
 
 fn takes(

@@ -5,16 +5,17 @@ ghost use Rattle.c65_ctype.specs.Views.{ty_of, qty_of, types_of};
 ghost use Rattle.c65_csem.specs.Places;
 ghost use Rattle.c65_scope.specs.Scopes.{scope_of};
 ghost use Rattle.c65_tree.specs.View.{declarator_of, init_declarator_of, decl_of, init_of, maybe};
-ghost use Rattle.c65_init.specs.Parameters.{old_of, not_declared, adjusted, may_be_parameter, register_given, old_from, entered_at, entered, old_declarator, no_init, old_one, old_declarators, old_declaration, old_declarations};
+ghost use Rattle.c65_init.specs.Parameters.{old_of, not_declared, adjusted, may_be_parameter, old_from, entered_at, entered, old_declarator, no_init, old_one, old_declarators, old_declaration, old_declarations};
 
 use crate::declare::is_empty;
 use c65_base::{Code, Name, Pos, Refusal};
 use c65_cells::fault;
 use c65_csem::pointer_to;
 use c65_ctype::{CType, QType, Types};
+use c65_declare::param_storage;
 use c65_elab::{elab_declarator, elab_specifiers, name_place};
 use c65_scope::Scope;
-use c65_tree::{Decl, Declarator, InitDeclarator, Initialiser, Storage};
+use c65_tree::{Decl, Declarator, InitDeclarator, Initialiser};
 use std::alloc::{AllocError, Global};
 
 /// A parameter of an old-style definition: its name, its type once it is declared, and whether it
@@ -156,32 +157,19 @@ fn enter_old(
     }
 }
 
-fn is_register(storage: Option<Storage>, pos: Pos) -> Result<bool, Refusal>
-    ensures { Gives (λ b. b) result (register_given storage pos) }
-{
-    match storage {
-        None => Ok(false),
-        Some(Storage::Register) => Ok(true),
-        Some(Storage::Typedef | Storage::Extern | Storage::Static | Storage::Auto) => {
-            Err(fault(Code::StorageClass, pos))
-        }
-    }
-}
-
 /// One declarator of an old-style definition's declarations.
 fn old_declarator(
     alloc: Global,
     scope: &mut Scope,
     list: &mut Vec<Old>,
-    storage: Option<Storage>,
+    is_register: bool,
     base: &QType,
     item: &Declarator,
 ) -> Result<(), Refusal>
-    ensures { Gives (λ x. (map old_of list.new.items, scope_of scope.new)) result (old_declarator storage (qty_of base.now) (declarator_of item.now) (map old_of list.old.items) (scope_of scope.old)) }
+    ensures { Gives (λ x. (map old_of list.new.items, scope_of scope.new)) result (old_declarator is_register (qty_of base.now) (declarator_of item.now) (map old_of list.old.items) (scope_of scope.old)) }
 {
     let pos = name_place(item);
     let (name, ty) = elab_declarator(alloc, scope, base, item)?;
-    let is_register = is_register(storage, pos)?;
     let ty = adjusted(alloc, ty)?;
     as_parameter(scope.types(), &ty.ty, pos)?;
     enter_old(list, name, ty, is_register, pos)
@@ -203,13 +191,13 @@ fn old_one(
     alloc: Global,
     scope: &mut Scope,
     list: &mut Vec<Old>,
-    storage: Option<Storage>,
+    is_register: bool,
     base: &QType,
     item: &InitDeclarator,
 ) -> Result<(), Refusal>
-    ensures { Gives (λ x. (map old_of list.new.items, scope_of scope.new)) result (old_one storage (qty_of base.now) (init_declarator_of item.now) (map old_of list.old.items) (scope_of scope.old)) }
+    ensures { Gives (λ x. (map old_of list.new.items, scope_of scope.new)) result (old_one is_register (qty_of base.now) (init_declarator_of item.now) (map old_of list.old.items) (scope_of scope.old)) }
 {
-    old_declarator(alloc, scope, list, storage, base, &item.declarator)?;
+    old_declarator(alloc, scope, list, is_register, base, &item.declarator)?;
     without_init(&item.init)
 }
 
@@ -218,19 +206,20 @@ fn old_declarators(
     alloc: Global,
     scope: &mut Scope,
     list: &mut Vec<Old>,
-    storage: Option<Storage>,
+    is_register: bool,
     base: &QType,
     items: &[InitDeclarator],
 ) -> Result<(), Refusal>
-    ensures { Gives (λ x. (map old_of list.new.items, scope_of scope.new)) result (old_declarators storage (qty_of base.now) (map init_declarator_of items.now) (map old_of list.old.items) (scope_of scope.old)) }
+    ensures { Gives (λ x. (map old_of list.new.items, scope_of scope.new)) result (old_declarators is_register (qty_of base.now) (map init_declarator_of items.now) (map old_of list.old.items) (scope_of scope.old)) }
 {
     for item in items {
-        old_one(alloc, scope, list, storage, base, item)?;
+        old_one(alloc, scope, list, is_register, base, item)?;
     }
     Ok(())
 }
 
-/// Enters what a declaration of an old-style definition declares.
+/// Enters what a declaration of an old-style definition declares. Refuses `StorageClass` for one
+/// that is not `register`.
 fn old_declaration(
     alloc: Global,
     scope: &mut Scope,
@@ -241,7 +230,8 @@ fn old_declaration(
 {
     let alone = is_empty(&item.declarators);
     let (storage, base) = elab_specifiers(alloc, scope, &item.specifiers, alone)?;
-    old_declarators(alloc, scope, list, storage, &base, &item.declarators)
+    let is_register = param_storage(storage, &item.specifiers)?;
+    old_declarators(alloc, scope, list, is_register, &base, &item.declarators)
 }
 
 /// Enters what the declarations of an old-style definition declare, in their order.

@@ -1,5 +1,5 @@
 // Functions that are declared once more, with a more complete type or beside a definition in the
-// old style (C90 6.1.2.6, 6.5.4.3, 6.7.1).
+// old style, and what such a definition declares (C90 6.1.2.6, 6.5.4.3, 6.7.1).
 use crate::front::{Answer, compiled};
 use std::test::Fail;
 
@@ -8,7 +8,7 @@ const MAIN: &str = "int main(void){return 0;}";
 const AGAIN: Answer = Answer::Fault(304, 2);
 
 /// Texts, and what becomes of them.
-const ONE: [(&str, Answer); 26] = [
+const ONE: [(&str, Answer); 39] = [
     // what a pointer points to is completed behind the definition
     (
         "int (*f(void))[]{return 0;}\nint (*f(void))[3];",
@@ -61,6 +61,45 @@ const ONE: [(&str, Answer); 26] = [
     ("int h(a)long a;{return a!=0;}\nint h(int);", AGAIN),
     ("int h(a)unsigned short a;{return a;}\nint h(int);", AGAIN),
     ("int h(a)const char *a;{return *a;}\nint h(char *);", AGAIN),
+    (
+        "int h(a)unsigned short a;{return a;}\nint h(unsigned short);",
+        AGAIN,
+    ),
+    (
+        "static int h(char);\nstatic int h(a)char a;{return a;}",
+        AGAIN,
+    ),
+    (
+        "int k(void){int h(char);return h(1);}\nint h(a)char a;{return a;}",
+        AGAIN,
+    ),
+    (
+        "typedef int t(char);t h;\nint h(a)char a;{return a;}",
+        AGAIN,
+    ),
+    ("int h();int h(a)char a;{return a;}\nint h(char);", AGAIN),
+    ("int h(int);int h(a)char a;{return a;}\nint h(char);", AGAIN),
+    ("int h(a)char a;{return a;}int h(int);\nint h(char);", AGAIN),
+    (
+        "int h(char a){return a;}\nint h(a)char a;{return a;}",
+        AGAIN,
+    ),
+    // the type between the two tells less than either
+    (
+        "int g(int (*)[]);int g(p)int (*p)[3];{return 0;}\nint g(int (*)[4]);",
+        AGAIN,
+    ),
+    (
+        "int g(int (*)[]);int g(p)int (*p)[3];{return 0;}\nint g(int (*)[3]);",
+        Answer::Taken,
+    ),
+    // a definition with a prototype has the types themselves
+    (
+        "int h(char);int h(char a){return a;}\nint h(const char);",
+        Answer::Taken,
+    ),
+    ("int h(char a){return a;}\nint h(int);", AGAIN),
+    ("int h(char a){return a;}\nint h();", AGAIN),
     // of another number of parameters
     ("int h(a)int a;{return a;}\nint h(int,int);", AGAIN),
     ("int h(int,int);\nint h(a)int a;{return a;}", AGAIN),
@@ -72,6 +111,21 @@ const ONE: [(&str, Answer); 26] = [
         "int h(a){return a;}int k(void){\nint h(void);return 0;}",
         AGAIN,
     ),
+];
+
+/// Declarations of a definition in the old style, of a parameter a, and what becomes of them.
+const LISTS: [(&str, Answer); 11] = [
+    ("static struct s{int x;};int a;", Answer::Fault(320, 2)),
+    ("int a;\nextern enum{A};", Answer::Fault(320, 3)),
+    ("auto union u{int x;};", Answer::Fault(320, 2)),
+    ("typedef struct s;", Answer::Fault(320, 2)),
+    ("struct s{int x;}\nstatic;int a;", Answer::Fault(320, 3)),
+    ("static int\na;", Answer::Fault(320, 2)),
+    ("extern int;int a;", Answer::Fault(329, 2)),
+    ("struct s{int x;};int a;", Answer::Taken),
+    ("register struct s{int x;};register int a;", Answer::Taken),
+    ("enum{A};", Answer::Taken),
+    ("int register a;", Answer::Taken),
 ];
 
 /// Two units, and what becomes of them.
@@ -107,6 +161,16 @@ const TWO: [(&str, &str, Answer); 5] = [
 fn declarations_agree_with_definitions(rt: HostRuntime) -> Result<(), Fail> {
     for (text, wanted) in ONE {
         let found = compiled(rt.alloc(), text, MAIN)?;
+        assert!(rt; found == wanted, "{text}: {found:?}");
+    }
+    Ok(())
+}
+
+#[test]
+fn parameters_have_no_other_storage_class(rt: HostRuntime) -> Result<(), Fail> {
+    for (list, wanted) in LISTS {
+        let text = format!(in rt.alloc(); "int f(a)\n{list}{{return a;}}")?;
+        let found = compiled(rt.alloc(), &text, MAIN)?;
         assert!(rt; found == wanted, "{text}: {found:?}");
     }
     Ok(())

@@ -8,4 +8,4 @@ use Rattle.c65_init.proofs.old_style.old_declarators.Given as goal
 
 -- what is left gives what the whole gives
 abbrev pub invariant-loop-item : goal.invariant-loop-item
-invariant-loop-item l = olds_walk l.storage (qty_of l.base) (drop l.item-index l.items) (map old_of l.list.items, scope_of l.scope) ≡ olds_walk l.storage (qty_of l.base) l.items (map old_of l.fn.list.items, scope_of l.fn.scope)
+invariant-loop-item l = olds_walk l.is_register (qty_of l.base) (drop l.item-index l.items) (map old_of l.list.items, scope_of l.scope) ≡ olds_walk l.is_register (qty_of l.base) l.items (map old_of l.fn.list.items, scope_of l.fn.scope)
