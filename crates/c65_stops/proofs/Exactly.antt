@@ -58,7 +58,7 @@ whole phrase behind outer depth read tokens tree rest scope k e =
 halted : {Tree : Type 0} (phrase : Pos → Tree → Phrase) (behind : Tree → Scope) (outer : Blocks) (depth : Tree → ℕ) (read : ℕ → List Token → Answer Tree) (tokens : List Token) (l : Pos) (fault : Fault) → Known phrase behind outer depth read tokens → read 256 tokens ≡ Err fault → Halted 256 (phrase l) depth (read 256) tokens fault
 halted phrase behind outer depth read tokens l fault k e = subst (Halts 256 (phrase l) depth (read 256) tokens) e (k.halts l)
 
-refused : {X Tree : Type 0} (phrase : Pos → Tree → Phrase) (behind : Tree → Scope) (outer : Blocks) (depth : Tree → ℕ) (read : ℕ → List Token → Answer Tree) (before later : Parser) (view : X → Tree) (l : Pos) (code : Code) (pos : Pos) → Known phrase behind outer depth read (rest_of before) → read 256 (rest_of before) ≡ Err (at code pos) → ReadsFront phrase depth before later view l (Err (refusals.At code pos))
+refused : {X Tree : Type 0} (phrase : Pos → Tree → Phrase) (behind : Tree → Scope) (outer : Blocks) (depth : Tree → ℕ) (read : ℕ → List Token → Answer Tree) (before later : Parser) (view : X → Tree) (l : Pos) (code : Code) (pos : Pos) → Known phrase behind outer depth read (rest_of before) → read 256 (rest_of before) ≡ Err (at code pos) → ReadsFront phrase behind outer depth before later view l (Err (refusals.At code pos))
 refused phrase behind outer depth read before later view l code pos k e =
     let h = halted phrase behind outer depth read (rest_of before) l (at code pos) k e in
     let is = code_is h.next code pos h.fault_is in (
@@ -74,7 +74,7 @@ refused phrase behind outer depth read before later view l code pos k e =
       },
     )
 
-too_deep : {X Tree : Type 0} (phrase : Pos → Tree → Phrase) (behind : Tree → Scope) (outer : Blocks) (depth : Tree → ℕ) (read : ℕ → List Token → Answer Tree) (before later : Parser) (view : X → Tree) (l : Pos) (size : Size) (value : ℕ) → Known phrase behind outer depth read (rest_of before) → read 256 (rest_of before) ≡ Err (large size value) → ReadsFront phrase depth before later view l (Err (refusals.TooLarge size value))
+too_deep : {X Tree : Type 0} (phrase : Pos → Tree → Phrase) (behind : Tree → Scope) (outer : Blocks) (depth : Tree → ℕ) (read : ℕ → List Token → Answer Tree) (before later : Parser) (view : X → Tree) (l : Pos) (size : Size) (value : ℕ) → Known phrase behind outer depth read (rest_of before) → read 256 (rest_of before) ≡ Err (large size value) → ReadsFront phrase behind outer depth before later view l (Err (refusals.TooLarge size value))
 too_deep phrase behind outer depth read before later view l size value k e =
     let h = halted phrase behind outer depth read (rest_of before) l (large size value) k e in
     let deep = depth_is h.next size value h.fault_is in
@@ -94,8 +94,8 @@ too_deep phrase behind outer depth read before later view l size value k e =
     )
 
 -- what a call answers
-pub reads_front : {X Tree : Type 0} (phrase : Pos → Tree → Phrase) (behind : Tree → Scope) (outer : Blocks) (depth : Tree → ℕ) (read : ℕ → List Token → Answer Tree) (before later : Parser) (view : X → Tree) (l : Pos) (r : Result X Refusal) → Known phrase behind outer depth read (rest_of before) → Gives {Y = Tree × List Token × Blocks} (λ x. (view x, rest_of later, blocks_of later)) r (read 256 (rest_of before)) → ReadsFront phrase depth before later view l r
-reads_front phrase behind outer depth read before later view l (Ok x) k h = whole phrase behind outer depth read (rest_of before) (view x) (rest_of later) (blocks_of later) k h
+pub reads_front : {X Tree : Type 0} (phrase : Pos → Tree → Phrase) (behind : Tree → Scope) (outer : Blocks) (depth : Tree → ℕ) (read : ℕ → List Token → Answer Tree) (before later : Parser) (view : X → Tree) (l : Pos) (r : Result X Refusal) → Known phrase behind outer depth read (rest_of before) → Gives {Y = Tree × List Token × Blocks} (λ x. (view x, rest_of later, blocks_of later)) r (read 256 (rest_of before)) → ReadsFront phrase behind outer depth before later view l r
+reads_front phrase behind outer depth read before later view l (Ok x) k h = (whole phrase behind outer depth read (rest_of before) (view x) (rest_of later) (blocks_of later) k h, (k.derived (view x) (rest_of later) (blocks_of later) h).scope_is)
 reads_front phrase behind outer depth read before later view l (Err refusals.OutOfMemory) k h = tt
 reads_front phrase behind outer depth read before later view l (Err (refusals.At code pos)) k h = refused phrase behind outer depth read before later view l code pos k h
 reads_front phrase behind outer depth read before later view l (Err (refusals.TooLarge size value)) k h = too_deep phrase behind outer depth read before later view l size value k h
