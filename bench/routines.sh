@@ -1,13 +1,13 @@
 #!/usr/bin/env bash
 # Prints what the routines of the runtime take: for each its bytes and its cycles on one state, the call's six and those of
 # RTS counted, and beside them those of cc65's routine of that name, where cc65 is installed.
-# The proved program c65_costs is built first where there is none. cc65's bytes are those that a first call adds to a
+# The proved program c65_bench_runtime is built first where there is none. cc65's bytes are those that a first call adds to a
 # program that has none, less the call's three: 0 where every program has the routine. Its cycles are by sim65.
 set -eu
 
 top=$(CDPATH='' cd -- "$(dirname -- "$0")/.." && pwd -P)
-program=$top/crates/c65_costs/out/c65_costs
-[ -x "$program" ] || (cd "$top/crates/c65_costs" && rt run </dev/null >/dev/null 2>&1)
+program=$top/crates/c65_bench_runtime/out/c65_bench_runtime
+[ -x "$program" ] || (cd "$top/crates/c65_bench_runtime" && rt run </dev/null >/dev/null 2>&1)
 
 folder=$(mktemp -d)
 trap 'rm -rf "$folder"' EXIT

@@ -1,11 +1,11 @@
 #!/bin/sh
 # Times lexing and scanning of a made C file of 1 MiB: comments, names, numbers, strings and punctuators as
-# programs have them. The proved program c65_tokens is built first where there is none.
+# programs have them. The proved program c65_bench_tokens is built first where there is none.
 set -eu
 
 top=$(CDPATH='' cd -- "$(dirname -- "$0")/.." && pwd -P)
-program=$top/crates/c65_tokens/out/c65_tokens
-[ -x "$program" ] || (cd "$top/crates/c65_tokens" && rt run </dev/null >/dev/null 2>&1)
+program=$top/crates/c65_bench_tokens/out/c65_bench_tokens
+[ -x "$program" ] || (cd "$top/crates/c65_bench_tokens" && rt run </dev/null >/dev/null 2>&1)
 
 folder=$(mktemp -d)
 trap 'rm -rf "$folder"' EXIT

@@ -6,7 +6,7 @@ use Rattle.c65_tree.specs.declared.expr.Params.TheVariants as p
 use Rattle.c65_tree.specs.Trees as t
 use Rattle.c65_tree.specs.View as v
 use Rattle.c65_tree.proofs.Views.{types_view, param_view}
-use Rattle.c65_scopes.specs.Scopes.{Blocks}
+use Rattle.c65_parse_names.specs.Scopes.{Blocks}
 use Rattle.c65_decl.specs.Declaring.{with_param_list, with_params, each_param}
 
 param_list_is : (ps : List Param) (xs : t.ParamList) (scope : Blocks) → each_param ps (with_param_list xs scope) ≡ with_param_list (v.params_from xs ps) scope

@@ -8,7 +8,7 @@ use Rattle.c65_tree.specs.declared.expr.Specifiers.{Specifiers, out-Specifiers}
 use Rattle.c65_tree.specs.Trees
 use Rattle.c65_tree.specs.View.{specifier_of, specifiers_of, specifiers_from}
 use Rattle.c65_tree.proofs.Views.{specifiers_view}
-use Rattle.c65_grammar.specs.Parts.{is_typedef, is_typedef_specifier, list_is_typedef, has_type, is_type_specifier, list_has_type, is_empty, is_empty_list}
+use Rattle.c65_parse_grammar.specs.Parts.{is_typedef, is_typedef_specifier, list_is_typedef, has_type, is_type_specifier, list_has_type, is_empty, is_empty_list}
 
 or_false : (a : Bool) → a ≡ (a || false)
 or_false true = refl

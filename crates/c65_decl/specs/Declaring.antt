@@ -6,8 +6,8 @@ use Rattle.c65_scan.specs.declared.token.Token.{Token}
 use Rattle.c65_tree.specs.declared.expr.Param.{Param, out-Param}
 use Rattle.c65_tree.specs.Trees as t
 use Rattle.c65_tree.specs.View.{specifiers_of, declarator_of}
-use Rattle.c65_grammar.specs.Parts.{declared_name, nearest_params, has_type, is_typedef}
-use Rattle.c65_scopes.specs.Scopes.{Blocks, with_declared}
+use Rattle.c65_parse_grammar.specs.Parts.{declared_name, nearest_params, has_type, is_typedef}
+use Rattle.c65_parse_names.specs.Scopes.{Blocks, with_declared}
 use Rattle.c65_parse.specs.declared.frame.Sort.TheVariants.{Named}
 use Rattle.c65_parse.specs.Reading.{Answer, declarator_read}
 use Rattle.c65_decl.specs.declared.names.Naming.{Naming}

@@ -6,9 +6,9 @@ use Rattle.c65_tree.specs.declared.stmt.Decl.{Decl}
 use Rattle.c65_tree.specs.declared.stmt.InitDeclarator.{InitDeclarator}
 use Rattle.c65_tree.specs.Trees.{DeclTree, DeclaratorTree, InitTree, InitDeclaratorTree, SpecifiersTree}
 use Rattle.c65_tree.specs.View.{decl_of, declarator_of, init_declarator_of}
-use Rattle.c65_scopes.specs.Scopes.{Blocks}
+use Rattle.c65_parse_names.specs.Scopes.{Blocks}
 use Rattle.c65_parse.specs.Reading.{Answer, after_token, specifiers_read}
-use Rattle.c65_stmts.specs.declared.sign.Mark.TheVariants as marks
+use Rattle.c65_parse_frames.specs.declared.sign.Mark.TheVariants as marks
 use Rattle.c65_decl.specs.declared.declaration.Declared.{Declared}
 use Rattle.c65_decl.specs.declared.declaration.Declared.TheVariants as d
 use Rattle.c65_decl.specs.declared.names.Naming.{Naming}

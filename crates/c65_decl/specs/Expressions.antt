@@ -3,10 +3,10 @@ use Rattle.std.specs.Prelude.{ℕ, List, Option, Some, None, Ok, if◌then◌els
 use Rattle.c65_base.specs.Answers.{◌>>=◌}
 use Rattle.c65_scan.specs.declared.token.Token.{Token}
 use Rattle.c65_tree.specs.Trees.{ExprTree}
-use Rattle.c65_scopes.specs.Scopes.{Blocks}
+use Rattle.c65_parse_names.specs.Scopes.{Blocks}
 use Rattle.c65_parse.specs.Reading.{Answer, after_token, expr_read}
-use Rattle.c65_stmts.specs.declared.sign.Mark.{Mark}
-use Rattle.c65_stmts.specs.declared.sign.Mark.TheVariants as marks
+use Rattle.c65_parse_frames.specs.declared.sign.Mark.{Mark}
+use Rattle.c65_parse_frames.specs.declared.sign.Mark.TheVariants as marks
 use Rattle.c65_decl.specs.Here.{is_here, expected}
 
 -- in parentheses

@@ -4,13 +4,13 @@ use Rattle.c65_base.specs.Answers.{Fault}
 use Rattle.c65_base.specs.declared.names.Name.{Name}
 use Rattle.c65_base.specs.declared.refusal.Pos.{Pos}
 use Rattle.c65_scan.specs.declared.token.Token.{Token}
-use Rattle.c65_scopes.specs.Scopes.{Blocks, is_type_in}
+use Rattle.c65_parse_names.specs.Scopes.{Blocks, is_type_in}
 use Rattle.c65_parse.specs.Machine.{fault_at}
 use Rattle.c65_parse.specs.Reading.{Answer, token_at, after_token}
-use Rattle.c65_stmts.specs.declared.sign.Sign.{Sign}
-use Rattle.c65_stmts.specs.declared.sign.Mark.{Mark}
-use Rattle.c65_stmts.specs.declared.sign.Mark.TheVariants as marks
-use Rattle.c65_stmts.specs.Signs.{sign_of, is_mark}
+use Rattle.c65_parse_frames.specs.declared.sign.Sign.{Sign}
+use Rattle.c65_parse_frames.specs.declared.sign.Mark.{Mark}
+use Rattle.c65_parse_frames.specs.declared.sign.Mark.TheVariants as marks
+use Rattle.c65_parse_frames.specs.Signs.{sign_of, is_mark}
 use Rattle.c65_decl.specs.Words.{name_of, is_specifier}
 
 abbrev pub sign_here : List Token → Sign

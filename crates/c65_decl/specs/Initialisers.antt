@@ -5,10 +5,10 @@ use Rattle.c65_base.specs.declared.refusal.Pos.{Pos}
 use Rattle.c65_base.specs.declared.refusal.Size.TheVariants.{Depth}
 use Rattle.c65_scan.specs.declared.token.Token.{Token}
 use Rattle.c65_tree.specs.Trees.{ExprTree, InitTree, value, list}
-use Rattle.c65_scopes.specs.Scopes.{Blocks}
+use Rattle.c65_parse_names.specs.Scopes.{Blocks}
 use Rattle.c65_parse.specs.Reading.{Answer, after_token, expr_read}
-use Rattle.c65_stmts.specs.declared.sign.Mark.TheVariants as marks
-use Rattle.c65_stmts.specs.Lists.{OpenList, Listed, listed_whole, listed_open, with_initialiser, empty_list}
+use Rattle.c65_parse_frames.specs.declared.sign.Mark.TheVariants as marks
+use Rattle.c65_parse_frames.specs.Lists.{OpenList, Listed, listed_whole, listed_open, with_initialiser, empty_list}
 use Rattle.c65_decl.specs.Here.{is_here, pos_here, unexpected, expected}
 
 -- an assignment expression in so many lists

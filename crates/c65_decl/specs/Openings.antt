@@ -5,13 +5,13 @@ use Rattle.c65_base.specs.declared.refusal.Pos.{Pos}
 use Rattle.c65_base.specs.declared.refusal.Size.TheVariants.{Depth}
 use Rattle.c65_scan.specs.declared.token.Token.{Token}
 use Rattle.c65_tree.specs.Trees.{no_stmts, goto, continue, break, return, eval}
-use Rattle.c65_scopes.specs.Scopes.{Blocks, opened, closed}
+use Rattle.c65_parse_names.specs.Scopes.{Blocks, opened, closed}
 use Rattle.c65_parse.specs.Reading.{Answer, after_token}
-use Rattle.c65_stmts.specs.declared.sign.Sign.{Sign}
-use Rattle.c65_stmts.specs.declared.sign.Mark.TheVariants as marks
-use Rattle.c65_stmts.specs.declared.frame.Place.{Place}
-use Rattle.c65_stmts.specs.Signs.{is_mark, is_label, starts_declaration, least_depth}
-use Rattle.c65_stmts.specs.Frames.{in_label, in_case, in_default, in_switch, in_while, in_for, in_head, in_block, in_then, in_do, Begun, begun_open, begun_decl, begun_whole, begun_close}
+use Rattle.c65_parse_frames.specs.declared.sign.Sign.{Sign}
+use Rattle.c65_parse_frames.specs.declared.sign.Mark.TheVariants as marks
+use Rattle.c65_parse_frames.specs.declared.frame.Place.{Place}
+use Rattle.c65_parse_frames.specs.Signs.{is_mark, is_label, starts_declaration, least_depth}
+use Rattle.c65_parse_frames.specs.Frames.{in_label, in_case, in_default, in_switch, in_while, in_for, in_head, in_block, in_then, in_do, Begun, begun_open, begun_decl, begun_whole, begun_close}
 use Rattle.c65_decl.specs.declared.words.Word.{Word}
 use Rattle.c65_decl.specs.declared.words.Word.TheVariants as words
 use Rattle.c65_decl.specs.Words.{word_of, is_evaluated}

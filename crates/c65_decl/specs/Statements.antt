@@ -4,10 +4,10 @@ use Rattle.c65_base.specs.Answers.{◌>>=◌}
 use Rattle.c65_base.specs.declared.refusal.Pos.{Pos}
 use Rattle.c65_scan.specs.declared.token.Token.{Token}
 use Rattle.c65_tree.specs.Trees.{ExprTree, StmtTree, no_stmt, if_stmt, do_while}
-use Rattle.c65_scopes.specs.Scopes.{Blocks}
+use Rattle.c65_parse_names.specs.Scopes.{Blocks}
 use Rattle.c65_parse.specs.Reading.{Answer, after_token}
-use Rattle.c65_stmts.specs.declared.sign.Mark.TheVariants as marks
-use Rattle.c65_stmts.specs.Frames.{Frame, in_else, in_head, in_block, in_then, in_do, Plugged, plugged_whole, plugged_open, Begun, begun_open, begun_decl, begun_whole, begun_close, Reached, reached_end, reached_need, place_in, completed, with_statement, with_declaration, block_of}
+use Rattle.c65_parse_frames.specs.declared.sign.Mark.TheVariants as marks
+use Rattle.c65_parse_frames.specs.Frames.{Frame, in_else, in_head, in_block, in_then, in_do, Plugged, plugged_whole, plugged_open, Begun, begun_open, begun_decl, begun_whole, begun_close, Reached, reached_end, reached_need, place_in, completed, with_statement, with_declaration, block_of}
 use Rattle.c65_decl.specs.Here.{is_here, unexpected, expected}
 use Rattle.c65_decl.specs.Expressions.{test_read}
 use Rattle.c65_decl.specs.Openings.{begun_at}

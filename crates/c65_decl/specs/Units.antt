@@ -5,12 +5,12 @@ use Rattle.c65_scan.specs.declared.token.Token.{Token}
 use Rattle.c65_tree.specs.declared.stmt.Item.{Item}
 use Rattle.c65_tree.specs.Trees.{DeclTree, DeclaratorTree, SpecifiersTree, FunctionTree, ItemTree, declaration, definition, UnitTree}
 use Rattle.c65_tree.specs.View.{item_of}
-use Rattle.c65_grammar.specs.Parts.{is_empty}
-use Rattle.c65_scopes.specs.Scopes.{Blocks, opened, closed}
-use Rattle.c65_scopes.specs.Blocks.{no_types}
+use Rattle.c65_parse_grammar.specs.Parts.{is_empty}
+use Rattle.c65_parse_names.specs.Scopes.{Blocks, opened, closed}
+use Rattle.c65_parse_names.specs.Blocks.{no_types}
 use Rattle.c65_parse.specs.Machine.{nothing_there}
 use Rattle.c65_parse.specs.Reading.{Answer, specifiers_read}
-use Rattle.c65_stmts.specs.declared.sign.Mark.TheVariants as marks
+use Rattle.c65_parse_frames.specs.declared.sign.Mark.TheVariants as marks
 use Rattle.c65_decl.specs.Words.{goes_on}
 use Rattle.c65_decl.specs.Here.{sign_here, is_here, unexpected}
 use Rattle.c65_decl.specs.Declaring.{naming_of, named_read, in_function}

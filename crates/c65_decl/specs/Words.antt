@@ -1,8 +1,8 @@
 -- What signs begin, where a statement or the rest of a declaration stands (C90 6.5, 6.6).
 use Rattle.std.specs.Prelude.{Bool, true, false, Option, Some, None}
 use Rattle.c65_base.specs.declared.names.Name.{Name}
-use Rattle.c65_stmts.specs.declared.sign.Sign.{Sign}
-use Rattle.c65_stmts.specs.declared.sign.Sign.TheVariants as signs
+use Rattle.c65_parse_frames.specs.declared.sign.Sign.{Sign}
+use Rattle.c65_parse_frames.specs.declared.sign.Sign.TheVariants as signs
 use Rattle.c65_decl.specs.declared.words.Word.{Word}
 use Rattle.c65_decl.specs.declared.words.Word.TheVariants as words
 

@@ -11,8 +11,8 @@ use crate::initialiser::optional_init;
 use crate::names::{Naming, named_declarator, naming_of};
 use c65_base::Refusal;
 use c65_parse::{Parser, parse_specifiers};
+use c65_parse_frames::Mark;
 use c65_scan::Token;
-use c65_stmts::Mark;
 use c65_tree::{Decl, Declarator, InitDeclarator, Initialiser, Specifiers};
 use std::alloc::{AllocError, Global};
 

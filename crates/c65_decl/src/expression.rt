@@ -8,7 +8,7 @@ ghost use Rattle.c65_decl.specs.Expressions.{test_read, optional_read, case_read
 use crate::here::{expect, is_here};
 use c65_base::Refusal;
 use c65_parse::{Parser, parse_constant, parse_expr};
-use c65_stmts::Mark;
+use c65_parse_frames::Mark;
 use c65_tree::Expr;
 
 /// An expression in parentheses.

@@ -15,8 +15,8 @@ use crate::statement::statement;
 use crate::trees::{declared_name, is_typedef, nearest_params};
 use c65_base::{Name, Refusal};
 use c65_parse::Parser;
+use c65_parse_frames::Mark;
 use c65_scan::Token;
-use c65_stmts::Mark;
 use c65_tree::{Declarator, Function, Param, Params, Specifiers};
 use std::alloc::{AllocError, Global};
 

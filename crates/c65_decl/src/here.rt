@@ -9,7 +9,7 @@ ghost use Rattle.c65_decl.specs.Here;
 use crate::words::{is_specifier, name_of};
 use c65_base::{Name, Pos, Refusal, Size};
 use c65_parse::Parser;
-use c65_stmts::{Mark, Sign, is_mark, sign_of};
+use c65_parse_frames::{Mark, Sign, is_mark, sign_of};
 
 /// What the token is that stands here.
 pub fn sign_here(parser: &Parser) -> Sign

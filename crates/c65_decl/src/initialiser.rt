@@ -3,14 +3,14 @@ ghost use Rattle.std.specs.Prelude.{◌≡◌, ◌≤◌, length};
 ghost use Rattle.c65_base.specs.Answers.{Gives};
 ghost use Rattle.c65_tree.specs.View.{expr_of, init_of, maybe};
 ghost use Rattle.c65_parse.specs.Reading.{rest_of, blocks_of};
-ghost use Rattle.c65_stmts.specs.Views.{lists_of, listed_of};
+ghost use Rattle.c65_parse_frames.specs.Views.{lists_of, listed_of};
 ghost use Rattle.c65_decl.specs.Initialisers;
 
 use crate::here::{expect, is_here, pos_here, too_deep};
 use c65_base::Refusal;
 use c65_parse::{Parser, parse_assignment_within};
+use c65_parse_frames::{InitList, Listed, Mark, enter_list, with_initialiser};
 use c65_scan::Token;
-use c65_stmts::{InitList, Listed, Mark, enter_list, with_initialiser};
 use c65_tree::{Expr, Initialiser};
 use std::alloc::Global;
 

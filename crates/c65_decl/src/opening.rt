@@ -2,7 +2,7 @@
 ghost use Rattle.std.specs.Prelude.{◌≡◌};
 ghost use Rattle.c65_base.specs.Answers.{Gives};
 ghost use Rattle.c65_parse.specs.Reading.{rest_of, blocks_of};
-ghost use Rattle.c65_stmts.specs.Views.{begun_of};
+ghost use Rattle.c65_parse_frames.specs.Views.{begun_of};
 ghost use Rattle.c65_decl.specs.Openings;
 
 use crate::declaration::declaration;
@@ -13,10 +13,10 @@ use crate::here::{
 use crate::words::{Word, is_evaluated, word_of};
 use c65_base::{Pos, Refusal};
 use c65_parse::Parser;
-use c65_scan::Token;
-use c65_stmts::{
+use c65_parse_frames::{
     Begun, Frame, Head, Mark, Place, Sign, is_label, is_mark, least_depth, starts_declaration,
 };
+use c65_scan::Token;
 use c65_tree::Stmt;
 use std::alloc::Global;
 

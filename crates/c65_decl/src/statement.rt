@@ -3,8 +3,8 @@ ghost use Rattle.std.specs.Prelude.{◌≡◌};
 ghost use Rattle.c65_base.specs.Answers.{Gives};
 ghost use Rattle.c65_tree.specs.View.{expr_of, stmt_of};
 ghost use Rattle.c65_parse.specs.Reading.{rest_of, blocks_of};
-ghost use Rattle.c65_stmts.specs.Frames.{option_stmt};
-ghost use Rattle.c65_stmts.specs.Views.{frame_of, stack_of, plugged_of, begun_of, reached_of};
+ghost use Rattle.c65_parse_frames.specs.Frames.{option_stmt};
+ghost use Rattle.c65_parse_frames.specs.Views.{frame_of, stack_of, plugged_of, begun_of, reached_of};
 ghost use Rattle.c65_decl.specs.Statements;
 
 use crate::expression::test;
@@ -12,11 +12,11 @@ use crate::here::{expect, is_here};
 use crate::opening::begin;
 use c65_base::{Pos, Refusal};
 use c65_parse::Parser;
-use c65_scan::Token;
-use c65_stmts::{
+use c65_parse_frames::{
     Begun, Frame, Head, Mark, Plugged, Reached, block_of, complete, enter, place_in,
     with_declaration, with_statement,
 };
+use c65_scan::Token;
 use c65_tree::{Expr, Stmt};
 use std::alloc::Global;
 

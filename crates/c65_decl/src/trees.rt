@@ -2,7 +2,7 @@
 ghost use Rattle.std.specs.Prelude.{◌≡◌, option_map};
 ghost use Rattle.std.specs.List.{list_any};
 ghost use Rattle.c65_tree.specs.View.{declarator_of, params_of, specifier_of, specifiers_of};
-ghost use Rattle.c65_grammar.specs.Parts;
+ghost use Rattle.c65_parse_grammar.specs.Parts;
 
 use c65_base::Name;
 use c65_tree::{Declarator, DeclaratorKind, Params, Specifier, SpecifierKind, Specifiers, Storage};

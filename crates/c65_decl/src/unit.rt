@@ -14,8 +14,8 @@ use crate::trees::is_empty;
 use crate::words::goes_on;
 use c65_base::{Code, Pos, Refusal};
 use c65_parse::{Parser, parse_specifiers};
+use c65_parse_frames::Mark;
 use c65_scan::Token;
-use c65_stmts::Mark;
 use c65_tree::{Declarator, Item, Specifiers, Unit};
 use std::alloc::{AllocError, Global};
 

@@ -3,7 +3,7 @@ ghost use Rattle.std.specs.Prelude.{◌≡◌};
 ghost use Rattle.c65_decl.specs.Words;
 
 use c65_base::Name;
-use c65_stmts::Sign;
+use c65_parse_frames::Sign;
 
 /// The word or the brace that begins a statement.
 #[derive(Clone, Copy)]

@@ -9,8 +9,8 @@ use Rattle.c65_mach.specs.declared.image.Image.{Image}
 use Rattle.c65_mach.specs.Images.{bytes_of}
 use Rattle.c65_ppdir.specs.Counts.{FaultCause, MissCause as HeaderCause}
 use Rattle.c65_sim.specs.Runs.{WriteCause}
-use Rattle.c65_chain.specs.Refused.{StopsChain, UnitsLimit}
-use Rattle.c65_words.specs.Commands.{Spelled}
+use Rattle.c65_driver_chain.specs.Refused.{StopsChain, UnitsLimit}
+use Rattle.c65_driver_words.specs.Commands.{Spelled}
 use Rattle.c65_driver.specs.Compiled.{LinkedBy, IsLinked, Compiles, output_of, wrote, wrote_not, IsOfSources, WritesBytes, WriteServes, WritesImage}
 use Rattle.c65_driver.specs.Outside.{FilesSide, Outside}
 use Rattle.c65_driver.specs.Tool.{BuildServes, Builds, BuildsAlone}

@@ -10,8 +10,8 @@ use Rattle.c65_mach.specs.declared.image.Image.{Image}
 use Rattle.c65_ppdir.specs.declared.command.Define.{Define}
 use Rattle.c65_ppdir.specs.Relations.{Answers, IsFree}
 use Rattle.c65_ppdir.specs.Units.{Held}
-use Rattle.c65_chain.specs.Front.{command, compiled}
-use Rattle.c65_words.specs.Commands.{Spelled}
+use Rattle.c65_driver_chain.specs.Front.{command, compiled}
+use Rattle.c65_driver_words.specs.Commands.{Spelled}
 use Rattle.c65_driver.specs.Compiled.{ReadsAs, define_of, front, IsOfFront, IsOfSources}
 
 same_refusal : (A B : Type 0) (P : Answers Code) (code : Option Code) (r : Refusal) → IsOfFront {T = A} P code (Err r) → IsOfFront {T = B} P code (Err r)

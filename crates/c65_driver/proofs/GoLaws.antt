@@ -9,8 +9,8 @@ use Rattle.c65_code.specs.declared.code.Code.{Code}
 use Rattle.c65_mach.specs.declared.image.Image.{Image}
 use Rattle.c65_ppdir.specs.Counts.{FaultCause, MissCause as HeaderCause}
 use Rattle.c65_sim.specs.Runs.{ReadCause, WriteCause}
-use Rattle.c65_chain.specs.Refused.{StopsChain, UnitsLimit}
-use Rattle.c65_words.specs.Commands.{Spelled}
+use Rattle.c65_driver_chain.specs.Refused.{StopsChain, UnitsLimit}
+use Rattle.c65_driver_words.specs.Commands.{Spelled}
 use Rattle.c65_driver.specs.Causes.{ReadCauses}
 use Rattle.c65_driver.specs.Compiled.{LinkedBy, IsLinked, Compiles, IsOfSources}
 use Rattle.c65_driver.specs.Outside.{FilesSide, Outside}

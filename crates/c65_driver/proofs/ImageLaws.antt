@@ -7,7 +7,7 @@ use Rattle.c65_io.specs.Contents.{Contents}
 use Rattle.c65_mach.specs.declared.image.Image.{Image}
 use Rattle.c65_mach.specs.Images.{Parses}
 use Rattle.c65_sim.specs.Runs.{ReadCause, WriteCause}
-use Rattle.c65_words.specs.Commands.{Spelled}
+use Rattle.c65_driver_words.specs.Commands.{Spelled}
 use Rattle.c65_driver.specs.Causes.{ReadCauses, MissCause}
 use Rattle.c65_driver.specs.Outside.{FilesSide, Outside}
 use Rattle.c65_driver.specs.Setups.{Setup, setup_of, ImageRuns, StopsBefore}

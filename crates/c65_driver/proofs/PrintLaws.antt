@@ -8,7 +8,7 @@ use Rattle.c65_code.specs.declared.code.Code.{Code}
 use Rattle.c65_io.specs.Contents.{Contents}
 use Rattle.c65_mach.specs.declared.image.Image.{Image}
 use Rattle.c65_sim.specs.Runs.{WriteCause}
-use Rattle.c65_words.specs.Commands.{Spelled}
+use Rattle.c65_driver_words.specs.Commands.{Spelled}
 use Rattle.c65_driver.specs.Assembly.{IsTextOf, AppendsBytes, TextTo, WritesText, Unwritten, MadeText}
 use Rattle.c65_driver.specs.Compiled.{ReadsAs, IsRead, Compiles, IsOfSources, WritesBytes, WriteServes, WritesImage}
 use Rattle.c65_driver.specs.Outside.{FilesSide, TextSide, Outside}

@@ -4,10 +4,10 @@ use Rattle.c65_base.specs.declared.refusal.Refusal.{Refusal}
 use Rattle.c65_base.specs.declared.refusal.Refusal.TheVariants.{OutOfMemory, Usage}
 use Rattle.c65_code.specs.declared.code.Code.{Code}
 use Rattle.c65_mach.specs.declared.image.Image.{Image}
-use Rattle.c65_words.specs.Commands.{Spelled}
-use Rattle.c65_words.specs.Words.{Spelling, Is, NoCommand, Spells}
-use Rattle.c65_words.specs.declared.command.CommandKind.{CommandKind}
-use Rattle.c65_words.specs.declared.command.CommandKind.TheVariants as kinds
+use Rattle.c65_driver_words.specs.Commands.{Spelled}
+use Rattle.c65_driver_words.specs.Words.{Spelling, Is, NoCommand, Spells}
+use Rattle.c65_driver_words.specs.declared.command.CommandKind.{CommandKind}
+use Rattle.c65_driver_words.specs.declared.command.CommandKind.TheVariants as kinds
 use Rattle.c65_driver.specs.Outside.{Outside}
 use Rattle.c65_driver.specs.Tool.{Refuses, Serves, Performs}
 use Rattle.c65_driver.proofs.GoLaws.{goes_free}

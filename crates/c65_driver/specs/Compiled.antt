@@ -15,10 +15,10 @@ use Rattle.c65_ppdir.specs.Counts.{FaultCause, MissCause}
 use Rattle.c65_ppdir.specs.Relations.{Answers, IsFree}
 use Rattle.c65_ppdir.specs.Units.{Held}
 use Rattle.c65_sim.specs.Runs.{WriteCause}
-use Rattle.c65_chain.specs.Front.{command, compiled}
-use Rattle.c65_chain.specs.Refused.{StopsChain, UnitsLimit}
-use Rattle.c65_words.specs.Commands.{Spelled}
-use Rattle.c65_words.specs.declared.command.Definition.{Definition}
+use Rattle.c65_driver_chain.specs.Front.{command, compiled}
+use Rattle.c65_driver_chain.specs.Refused.{StopsChain, UnitsLimit}
+use Rattle.c65_driver_words.specs.Commands.{Spelled}
+use Rattle.c65_driver_words.specs.declared.command.Definition.{Definition}
 use Rattle.c65_driver.specs.Outside.{FilesSide}
 
 -- the image is the linker's of the code, or the linker refused the code, or there is no code

@@ -8,8 +8,8 @@ use Rattle.c65_sim.specs.declared.run.Budget.{Budget}
 use Rattle.c65_sim.specs.declared.run.Budget.TheVariants.{Instructions, Cycles}
 use Rattle.c65_sim.specs.View.{RunView, started, arguments_size}
 use Rattle.c65_sim.specs.Runs.{Runs}
-use Rattle.c65_chain.specs.Refused.{StopsChain}
-use Rattle.c65_words.specs.Commands.{Spelled}
+use Rattle.c65_driver_chain.specs.Refused.{StopsChain}
+use Rattle.c65_driver_words.specs.Commands.{Spelled}
 
 -- the rows or cycles, the guard of the hardware stack, and the program's arguments
 pub record Setup : Type 0 where

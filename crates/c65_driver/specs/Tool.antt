@@ -11,11 +11,11 @@ use Rattle.c65_io.specs.Told.{append_told}
 use Rattle.c65_mach.specs.declared.image.Image.{Image}
 use Rattle.c65_ppdir.specs.Counts.{FaultCause, MissCause as HeaderCause}
 use Rattle.c65_sim.specs.Runs.{WriteCause}
-use Rattle.c65_words.specs.Commands.{Spelled}
-use Rattle.c65_words.specs.Words.{Spelling, Is, NoCommand}
-use Rattle.c65_words.specs.declared.command.CommandKind.{CommandKind}
-use Rattle.c65_words.specs.declared.command.CommandKind.TheVariants as kinds
-use Rattle.c65_chain.specs.Refused.{StopsChain, UnitsLimit}
+use Rattle.c65_driver_words.specs.Commands.{Spelled}
+use Rattle.c65_driver_words.specs.Words.{Spelling, Is, NoCommand}
+use Rattle.c65_driver_words.specs.declared.command.CommandKind.{CommandKind}
+use Rattle.c65_driver_words.specs.declared.command.CommandKind.TheVariants as kinds
+use Rattle.c65_driver_chain.specs.Refused.{StopsChain, UnitsLimit}
 use Rattle.c65_driver.specs.Assembly.{MadeText}
 use Rattle.c65_driver.specs.Causes.{ReadCauses, MissCause}
 use Rattle.c65_driver.specs.Compiled.{IsRead, IsLinked, IsOfSources, output_of, BuildsFile}

@@ -11,8 +11,8 @@ use crate::outcome::Made;
 use c65_asm::{print, read};
 use c65_base::{Refusal, Text};
 use c65_code::Code;
+use c65_driver_words::Command;
 use c65_io::{Failed, Files, Sink, write_all};
-use c65_words::Command;
 use std::alloc::Global;
 
 /// What a code's assembly text reads as: the code, with its symbols in the order of the text.

@@ -7,11 +7,11 @@ ghost use Rattle.c65_driver.specs.Outside.{files_side};
 use crate::assembly::read_back;
 use crate::outcome::Made;
 use c65_base::{Options, Refusal, Text};
-use c65_chain::{Define, compile};
+use c65_driver_chain::{Define, compile};
+use c65_driver_words::{Command, Definition};
 use c65_io::{Failed, Files};
 use c65_link::link;
 use c65_mach::Image;
-use c65_words::{Command, Definition};
 use std::alloc::{AllocError, Global};
 
 /// A definition as the preprocessor takes it.

@@ -4,10 +4,10 @@ ghost use Rattle.c65_driver.specs.Setups.{setup_of, budget_of, ImageRuns};
 ghost use Rattle.c65_sim.specs.Runs.{ReadCause, WriteCause};
 
 use c65_base::{Refusal, Text};
+use c65_driver_words::Command;
 use c65_io::{Sink, Source};
 use c65_mach::Image;
 use c65_sim::{Budget, Run};
-use c65_words::Command;
 use std::alloc::Global;
 use std::marker::Model;
 

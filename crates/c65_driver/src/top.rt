@@ -1,6 +1,6 @@
 // The top call.
 ghost use Rattle.std.specs.Prelude.{◌≡◌, map, string_bytes};
-ghost use Rattle.c65_words.specs.Words.{spelling_of};
+ghost use Rattle.c65_driver_words.specs.Words.{spelling_of};
 ghost use Rattle.c65_driver.specs.Tool.{Goes, Builds, Runs, Texts, Serves, Performs, Reports};
 ghost use Rattle.c65_driver.specs.Outside.{files_side, text_side, outside};
 ghost use Rattle.c65_driver.specs.Told.{first_of};
@@ -13,8 +13,8 @@ use crate::outcome::{Made, Outcome};
 use crate::report::write_line;
 use crate::run::Plan;
 use c65_base::Refusal;
+use c65_driver_words::{Command, CommandKind, spell};
 use c65_io::{Files, Sink, Source};
-use c65_words::{Command, CommandKind, spell};
 use std::alloc::Global;
 
 /// Compiles and links the files, and runs their image.

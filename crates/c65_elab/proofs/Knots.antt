@@ -12,15 +12,15 @@ use Rattle.c65_ctype.specs.Trees.{QTy, FieldTy}
 use Rattle.c65_ctype.specs.Views.{qty_of}
 use Rattle.c65_csem.specs.Places.{plain}
 use Rattle.c65_csem.specs.Trees.{Typed, Nodes}
-use Rattle.c65_convert.specs.Calls.{call_of}
-use Rattle.c65_declare.specs.Declarators as d
-use Rattle.c65_declare.specs.Declarators.{FormalTy, FormalsTy}
-use Rattle.c65_declare.specs.Drafts as w
-use Rattle.c65_declare.specs.Drafts.{DraftTy}
-use Rattle.c65_declare.specs.Prototypes.{without_void}
-use Rattle.c65_declare.specs.Tagging.{begun_tag, begun_enumeration}
-use Rattle.c65_scope.specs.Scopes.{ScopeTy, opened, char_of}
-use Rattle.c65_scope.specs.Declaring.{tag_finished}
+use Rattle.c65_elab_convert.specs.Calls.{call_of}
+use Rattle.c65_elab_declare.specs.Declarators as d
+use Rattle.c65_elab_declare.specs.Declarators.{FormalTy, FormalsTy}
+use Rattle.c65_elab_declare.specs.Drafts as w
+use Rattle.c65_elab_declare.specs.Drafts.{DraftTy}
+use Rattle.c65_elab_declare.specs.Prototypes.{without_void}
+use Rattle.c65_elab_declare.specs.Tagging.{begun_tag, begun_enumeration}
+use Rattle.c65_elab_scope.specs.Scopes.{ScopeTy, opened, char_of}
+use Rattle.c65_elab_scope.specs.Declaring.{tag_finished}
 use Rattle.c65_tree.specs.declared.expr.Storage.{Storage}
 use Rattle.c65_tree.specs.declared.expr.Expr.{Expr}
 use Rattle.c65_tree.specs.declared.expr.ExprKind.TheVariants as x

@@ -11,9 +11,9 @@ use Rattle.c65_csem.specs.Trees as n
 use Rattle.c65_csem.specs.Trees.{Nodes}
 use Rattle.c65_csem.specs.Views.{typed_of, nodes_of}
 use Rattle.c65_base.specs.declared.refusal.Pos.{Pos}
-use Rattle.c65_declare.specs.Declarators.{FormalTy, PartTy}
-use Rattle.c65_declare.specs.Drafts.{DraftTy}
-use Rattle.c65_scope.specs.Scopes.{ScopeTy}
+use Rattle.c65_elab_declare.specs.Declarators.{FormalTy, PartTy}
+use Rattle.c65_elab_declare.specs.Drafts.{DraftTy}
+use Rattle.c65_elab_scope.specs.Scopes.{ScopeTy}
 use Rattle.c65_tree.specs.declared.expr.Expr.{Expr}
 use Rattle.c65_tree.specs.declared.expr.Specifier.{Specifier}
 use Rattle.c65_tree.specs.declared.expr.Enumerator.{Enumerator, Enumerator', out-Enumerator}
@@ -28,10 +28,10 @@ use Rattle.c65_tree.specs.Trees as t
 use Rattle.c65_tree.specs.View as v
 use Rattle.c65_tree.proofs.Growing.{exprs_push, specifiers_push, enumerators_push, members_push, member_decls_push, params_push}
 use Rattle.c65_tree.proofs.Views.{member_decl_view, param_view}
-use Rattle.c65_declare.specs.Calling.{name_place}
-use Rattle.c65_declare.specs.Constants.{field_in}
-use Rattle.c65_declare.specs.Prototypes.{param_storage, formal_in, more_bytes}
-use Rattle.c65_declare.specs.Shapes.{shaped}
+use Rattle.c65_elab_declare.specs.Calling.{name_place}
+use Rattle.c65_elab_declare.specs.Constants.{field_in}
+use Rattle.c65_elab_declare.specs.Prototypes.{param_storage, formal_in, more_bytes}
+use Rattle.c65_elab_declare.specs.Shapes.{shaped}
 use Rattle.c65_elab.specs.Typing.{typed, typed_list, value_in, specified, drafted, specifier_in, enumerators_in, enumerator_in, fields_in, fields_with, members_in, member_in, a_member_in, parts_in, prototype_in, parameter_in, beside, and_node, is_one, is_single}
 use Rattle.c65_elab.proofs.Walks.{Goes, next, refused, fails_bind, then_ok, then_fails, regrouped, each_step}
 

@@ -5,8 +5,8 @@ use denote.Hole.Carrier
 use Rattle.c65_base.specs.declared.refusal.Pos.{Pos}
 use Rattle.c65_csem.specs.declared.items.Parts.{Parts}
 use Rattle.c65_csem.specs.Views.{unit_of, object_of}
-use Rattle.c65_declare.specs.declared.parts.Part.{Part}
-use Rattle.c65_declare.specs.Declarators.{part_of}
+use Rattle.c65_elab_declare.specs.declared.parts.Part.{Part}
+use Rattle.c65_elab_declare.specs.Declarators.{part_of}
 use Rattle.c65_tree.specs.declared.expr.ExprKind.{ExprKind}
 use Rattle.c65_tree.specs.declared.expr.ExprKind.TheVariants as x
 use Rattle.c65_tree.specs.declared.expr.DeclaratorKind.{DeclaratorKind}

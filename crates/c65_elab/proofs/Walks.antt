@@ -5,7 +5,7 @@ use Rattle.std.proofs.lemmas.List.{append-nil, take_more, take_all, take-append-
 use Rattle.c65_base.specs.declared.refusal.Refusal.{Refusal}
 use Rattle.c65_base.specs.declared.refusal.Refusal.TheVariants as refusals
 use Rattle.c65_base.specs.Answers.{Fault, Fails, Gives, ◌>>=◌}
-use Rattle.c65_scope.specs.Scopes.{ScopeTy}
+use Rattle.c65_elab_scope.specs.Scopes.{ScopeTy}
 use Rattle.c65_elab.specs.Typing.{beside}
 
 -- where a part fails, the whole does

@@ -4,11 +4,11 @@ use Rattle.c65_base.specs.declared.names.Name.{Name}
 use Rattle.c65_base.specs.declared.refusal.Pos.{Pos}
 use Rattle.c65_base.specs.Answers.{Fault, ◌>>=◌}
 use Rattle.c65_ctype.specs.Trees.{QTy}
-use Rattle.c65_scope.specs.Tables.{closed_table}
-use Rattle.c65_scope.specs.Scopes.{ScopeTy}
-use Rattle.c65_scope.specs.Parts.{fewer_objects}
-use Rattle.c65_declare.specs.Headings.{HeadingTy, heading_from}
-use Rattle.c65_declare.specs.Shapes.{shaped_for}
+use Rattle.c65_elab_scope.specs.Tables.{closed_table}
+use Rattle.c65_elab_scope.specs.Scopes.{ScopeTy}
+use Rattle.c65_elab_scope.specs.Parts.{fewer_objects}
+use Rattle.c65_elab_declare.specs.Headings.{HeadingTy, heading_from}
+use Rattle.c65_elab_declare.specs.Shapes.{shaped_for}
 use Rattle.c65_tree.specs.Trees as t
 use Rattle.c65_elab.specs.Typing.{beside, member_in, parts_in}
 

@@ -2,8 +2,8 @@
 use Rattle.std.specs.Prelude.{ℤ, List, Bool, Result}
 use Rattle.c65_base.specs.Answers.{Fault}
 use Rattle.c65_ctype.specs.Trees.{QTy, FieldTy}
-use Rattle.c65_declare.specs.Declarators.{FormalTy}
-use Rattle.c65_scope.specs.Scopes.{ScopeTy}
+use Rattle.c65_elab_declare.specs.Declarators.{FormalTy}
+use Rattle.c65_elab_scope.specs.Scopes.{ScopeTy}
 use Rattle.c65_tree.specs.Optional.{maybe_expr, maybe_declarator}
 use Rattle.c65_tree.specs.Trees as t
 use Rattle.c65_tree.specs.View as v

@@ -9,13 +9,13 @@ use Rattle.c65_ints.specs.declared.types.IntType.TheVariants.{Int}
 use Rattle.c65_ctype.specs.Trees.{int, array, function, QTy, Fn, fn, unknown}
 use Rattle.c65_csem.specs.Places.{plain}
 use Rattle.c65_csem.specs.Trees.{Typed, node, constant, literal, object, func, ObjectTy, FuncTy}
-use Rattle.c65_scope.specs.declared.meaning.Bound.{Bound}
-use Rattle.c65_scope.specs.declared.meaning.Meaning.{Meaning}
-use Rattle.c65_scope.specs.declared.meaning.Meaning.TheVariants as m
-use Rattle.c65_scope.specs.Tables.{found}
-use Rattle.c65_scope.specs.Scopes.{ScopeTy, char_of}
-use Rattle.c65_scope.specs.Parts.{literal_added}
-use Rattle.c65_scope.specs.Declaring.{func_declared}
+use Rattle.c65_elab_scope.specs.declared.meaning.Bound.{Bound}
+use Rattle.c65_elab_scope.specs.declared.meaning.Meaning.{Meaning}
+use Rattle.c65_elab_scope.specs.declared.meaning.Meaning.TheVariants as m
+use Rattle.c65_elab_scope.specs.Tables.{found}
+use Rattle.c65_elab_scope.specs.Scopes.{ScopeTy, char_of}
+use Rattle.c65_elab_scope.specs.Parts.{literal_added}
+use Rattle.c65_elab_scope.specs.Declaring.{func_declared}
 use Rattle.c65_tree.specs.Trees as t
 
 abbrev pub object_named : ℕ → Pos → Option ObjectTy → Result Typed Fault

@@ -8,9 +8,9 @@ use Rattle.c65_ctype.specs.Trees.{TypesTy}
 use Rattle.c65_csem.specs.declared.items.Class.{Class}
 use Rattle.c65_csem.specs.declared.items.Class.TheVariants.{Register}
 use Rattle.c65_csem.specs.Trees.{Typed, node, object, member, ObjectTy}
-use Rattle.c65_convert.specs.Changes.{assign_of, assign_op_of}
-use Rattle.c65_convert.specs.Unaries.{unary_of}
-use Rattle.c65_scope.specs.Scopes.{ScopeTy}
+use Rattle.c65_elab_convert.specs.Changes.{assign_of, assign_op_of}
+use Rattle.c65_elab_convert.specs.Unaries.{unary_of}
+use Rattle.c65_elab_scope.specs.Scopes.{ScopeTy}
 
 abbrev pub is_register_class : Class → Bool
 is_register_class Register = true

@@ -14,26 +14,26 @@ use Rattle.c65_ctype.specs.Trees.{QTy, FieldTy, type_in}
 use Rattle.c65_csem.specs.Places.{plain}
 use Rattle.c65_csem.specs.Trees as n
 use Rattle.c65_csem.specs.Trees.{Typed, Nodes}
-use Rattle.c65_scope.specs.Scopes.{ScopeTy, opened, closed, char_of}
-use Rattle.c65_scope.specs.Parts.{fewer_objects}
-use Rattle.c65_scope.specs.Declaring.{enumerator_declared, tag_finished}
-use Rattle.c65_declare.specs.Calling.{name_place}
-use Rattle.c65_declare.specs.Constants.{array_count, enumerator_value, field_in}
-use Rattle.c65_declare.specs.Declarators as d
-use Rattle.c65_declare.specs.Declarators.{PartTy, FormalTy, FormalsTy}
-use Rattle.c65_declare.specs.Drafts as w
-use Rattle.c65_declare.specs.Drafts.{DraftTy}
-use Rattle.c65_declare.specs.Prototypes.{param_storage, formal_in, more_bytes, without_void}
-use Rattle.c65_declare.specs.Shapes.{shaped}
-use Rattle.c65_declare.specs.Tagging.{named_tag, begun_tag, named_enumeration, begun_enumeration, is_signed}
-use Rattle.c65_declare.specs.declared.words.Keyword.TheVariants as keywords
-use Rattle.c65_convert.specs.Access as access
-use Rattle.c65_convert.specs.Binaries.{binary_of}
-use Rattle.c65_convert.specs.Calls.{call_of}
-use Rattle.c65_convert.specs.Casts.{cast_of}
-use Rattle.c65_convert.specs.Changes.{step_of}
-use Rattle.c65_convert.specs.Choices.{choice_of}
-use Rattle.c65_convert.specs.Logic.{both_of, either_of, comma_of}
+use Rattle.c65_elab_scope.specs.Scopes.{ScopeTy, opened, closed, char_of}
+use Rattle.c65_elab_scope.specs.Parts.{fewer_objects}
+use Rattle.c65_elab_scope.specs.Declaring.{enumerator_declared, tag_finished}
+use Rattle.c65_elab_declare.specs.Calling.{name_place}
+use Rattle.c65_elab_declare.specs.Constants.{array_count, enumerator_value, field_in}
+use Rattle.c65_elab_declare.specs.Declarators as d
+use Rattle.c65_elab_declare.specs.Declarators.{PartTy, FormalTy, FormalsTy}
+use Rattle.c65_elab_declare.specs.Drafts as w
+use Rattle.c65_elab_declare.specs.Drafts.{DraftTy}
+use Rattle.c65_elab_declare.specs.Prototypes.{param_storage, formal_in, more_bytes, without_void}
+use Rattle.c65_elab_declare.specs.Shapes.{shaped}
+use Rattle.c65_elab_declare.specs.Tagging.{named_tag, begun_tag, named_enumeration, begun_enumeration, is_signed}
+use Rattle.c65_elab_declare.specs.declared.words.Keyword.TheVariants as keywords
+use Rattle.c65_elab_convert.specs.Access as access
+use Rattle.c65_elab_convert.specs.Binaries.{binary_of}
+use Rattle.c65_elab_convert.specs.Calls.{call_of}
+use Rattle.c65_elab_convert.specs.Casts.{cast_of}
+use Rattle.c65_elab_convert.specs.Changes.{step_of}
+use Rattle.c65_elab_convert.specs.Choices.{choice_of}
+use Rattle.c65_elab_convert.specs.Logic.{both_of, either_of, comma_of}
 use Rattle.c65_elab.specs.Constants.{value_at}
 use Rattle.c65_elab.specs.Naming.{named, called_first, typedef_type, literal_typed}
 use Rattle.c65_elab.specs.Operators.{on_place, assigning}

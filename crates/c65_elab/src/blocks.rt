@@ -1,10 +1,10 @@
 // The block of a prototype's parameters (C90 6.1.2.1).
 ghost use Rattle.std.specs.Prelude.{◌≡◌, length};
-ghost use Rattle.c65_scope.specs.Scopes.{scope_of};
+ghost use Rattle.c65_elab_scope.specs.Scopes.{scope_of};
 ghost use Rattle.c65_elab.specs.Headings.{names_ended};
 ghost use Rattle.c65_elab.specs.Typing.{left};
 
-use c65_scope::Scope;
+use c65_elab_scope::Scope;
 
 /// How many objects were declared.
 #[tactic(auto, using(crate::proofs::Parts::objects_many))]

@@ -8,7 +8,7 @@ ghost use Rattle.c65_elab.specs.Places.{place_of};
 
 use c65_base::{Code, Pos, Refusal};
 use c65_csem::TExpr;
-use c65_declare::fault;
+use c65_elab_declare::fault;
 use c65_fold::constant;
 use c65_tree::Expr;
 

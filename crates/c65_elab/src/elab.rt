@@ -3,9 +3,9 @@ ghost use Rattle.std.specs.Prelude.{map};
 ghost use Rattle.c65_base.specs.Answers.{Gives};
 ghost use Rattle.c65_ctype.specs.Views.{qty_of, field_of};
 ghost use Rattle.c65_csem.specs.Views.{typed_of, nodes_of};
-ghost use Rattle.c65_declare.specs.Declarators.{part_of, formal_of, formals_of};
-ghost use Rattle.c65_declare.specs.Drafts.{draft_of};
-ghost use Rattle.c65_scope.specs.Scopes.{scope_of};
+ghost use Rattle.c65_elab_declare.specs.Declarators.{part_of, formal_of, formals_of};
+ghost use Rattle.c65_elab_declare.specs.Drafts.{draft_of};
+ghost use Rattle.c65_elab_scope.specs.Scopes.{scope_of};
 ghost use Rattle.c65_tree.specs.Optional.{maybe_expr, maybe_declarator};
 ghost use Rattle.c65_tree.specs.Trees.{no_exprs, no_specifiers, no_more_enumerators, no_member_decls, no_more_members, no_more_params};
 ghost use Rattle.c65_tree.specs.View.{expr_of, exprs_from, type_of, specifiers_of, specifier_of, specifiers_from, enumerators_from, member_decls_from, members_from, declarator_of, params_of, params_from};
@@ -18,19 +18,19 @@ use crate::lists::{is_first, is_single, is_sole};
 use crate::names::{declare_first, literal, named, typedef_type};
 use crate::operators::{assigning, on_place};
 use c65_base::{Code, Name, Refusal};
-use c65_convert::{
+use c65_csem::{TExpr, TKind, int_type};
+use c65_ctype::{Field, QType};
+use c65_elab_convert::{
     binary, both, call, cast, choice, comma, either, index, member, size_of_expr, size_of_type,
     step,
 };
-use c65_csem::{TExpr, TKind, int_type};
-use c65_ctype::{Field, QType};
-use c65_declare::{
+use c65_elab_declare::{
     Draft, Formal, Formals, Keyword, Part, array_count, begin_enumeration, begun_tag,
     enumerator_value, field, formal, is_signed, more_bytes, name_place, named_enumeration,
     named_tag, param_storage, shaped, tag_type, with_part, without_void,
 };
+use c65_elab_scope::Scope;
 use c65_ints::IntType;
-use c65_scope::Scope;
 use c65_tree::{
     Declarator, DeclaratorKind, Enumerator, Expr, ExprKind, MemberDecl, MemberDeclarator, Param,
     Params, Specifier, SpecifierKind, Specifiers, Storage, TypeName,

@@ -1,8 +1,8 @@
 // Lists of one item, and of none.
 ghost use Rattle.std.specs.Prelude.{◌≡◌, ◌&&◌, ◌==◌, not, length, map};
-ghost use Rattle.c65_declare.specs.Declarators.{part_of};
+ghost use Rattle.c65_elab_declare.specs.Declarators.{part_of};
 
-use c65_declare::Part;
+use c65_elab_declare::Part;
 use c65_tree::{Param, Specifier};
 
 /// Whether no declarator follows, and there is one specifier.

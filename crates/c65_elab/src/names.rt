@@ -7,16 +7,16 @@ ghost use Rattle.c65_ctype.specs.Views.{qty_of};
 ghost use Rattle.c65_csem.specs.Places.{plain};
 ghost use Rattle.c65_csem.specs.Trees.{node, constant};
 ghost use Rattle.c65_csem.specs.Views.{typed_of};
-ghost use Rattle.c65_scope.specs.Scopes.{scope_of};
+ghost use Rattle.c65_elab_scope.specs.Scopes.{scope_of};
 ghost use Rattle.c65_tree.specs.View.{expr_of};
 ghost use Rattle.c65_elab.specs.Naming.{object_named, func_named, named, called_name, called_first, typedef_type, literal_type, literal_typed};
 
 use c65_base::{Code, Name, Pos, Refusal, Text as Bytes};
 use c65_csem::{TExpr, TKind, int_type};
 use c65_ctype::{CType, FnType, QType};
-use c65_declare::fault;
+use c65_elab_declare::fault;
+use c65_elab_scope::{Meaning, Scope};
 use c65_ints::IntType;
-use c65_scope::{Meaning, Scope};
 use c65_tree::{Expr, ExprKind};
 use std::alloc::{AllocError, Global};
 

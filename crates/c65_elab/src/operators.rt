@@ -3,14 +3,14 @@ ghost use Rattle.std.specs.Prelude.{◌≡◌};
 ghost use Rattle.c65_base.specs.Answers.{Gives};
 ghost use Rattle.c65_ctype.specs.Views.{types_of};
 ghost use Rattle.c65_csem.specs.Views.{typed_of};
-ghost use Rattle.c65_scope.specs.Scopes.{scope_of};
+ghost use Rattle.c65_elab_scope.specs.Scopes.{scope_of};
 ghost use Rattle.c65_elab.specs.Operators.{is_register_class, is_register, on_place, assigning};
 
 use c65_base::{BinaryOp, Pos, Refusal, UnaryOp};
-use c65_convert::{assign, assign_op, unary};
 use c65_csem::{Class, TExpr, TKind};
 use c65_ctype::Types;
-use c65_scope::Scope;
+use c65_elab_convert::{assign, assign_op, unary};
+use c65_elab_scope::Scope;
 use std::alloc::Global;
 
 fn is_register_class(class: Class) -> bool

@@ -2,8 +2,8 @@
 ghost use Rattle.c65_base.specs.Answers.{Gives};
 ghost use Rattle.c65_ctype.specs.Views.{qty_of};
 ghost use Rattle.c65_csem.specs.Views.{typed_of};
-ghost use Rattle.c65_declare.specs.Headings.{heading_of};
-ghost use Rattle.c65_scope.specs.Scopes.{scope_of};
+ghost use Rattle.c65_elab_declare.specs.Headings.{heading_of};
+ghost use Rattle.c65_elab_scope.specs.Scopes.{scope_of};
 ghost use Rattle.c65_tree.specs.View.{expr_of, specifiers_of, declarator_of};
 ghost use Rattle.c65_elab.specs.Headings.{declarator_in, headed};
 ghost use Rattle.c65_elab.specs.Typing.{typed, specified};
@@ -13,8 +13,8 @@ use crate::elab::{expression, parts, specifiers};
 use c65_base::{Name, Refusal};
 use c65_csem::TExpr;
 use c65_ctype::QType;
-use c65_declare::{Heading, heading_of, shaped, shaped_for};
-use c65_scope::Scope;
+use c65_elab_declare::{Heading, heading_of, shaped, shaped_for};
+use c65_elab_scope::Scope;
 use c65_tree::{Declarator, Expr, Specifiers, Storage};
 use std::alloc::Global;
 

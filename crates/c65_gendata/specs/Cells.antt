@@ -8,8 +8,8 @@ use Rattle.c65_csem.specs.declared.items.Target.TheVariants as targets
 use Rattle.c65_code.specs.declared.code.DataCell.{DataCell}
 use Rattle.c65_code.specs.declared.code.DataCell.TheVariants.{Byte, Address}
 use Rattle.c65_code.specs.declared.line.Sym.{Sym}
-use Rattle.c65_frame.specs.declared.symbols.Numbers.{Numbers}
-use Rattle.c65_frame.specs.Symbols.{object_symbol, literal_symbol, function_symbol}
+use Rattle.c65_genframe.specs.declared.symbols.Numbers.{Numbers}
+use Rattle.c65_genframe.specs.Symbols.{object_symbol, literal_symbol, function_symbol}
 
 -- what an initial pointer names
 abbrev pub symbol_of : Numbers → Target → Sym

@@ -14,9 +14,9 @@ use Rattle.c65_code.specs.declared.code.DataCell.TheVariants.{Byte}
 use Rattle.c65_code.specs.declared.code.Datum.{Datum}
 use Rattle.c65_code.specs.declared.code.DatumKind.TheVariants.{Data, Const, Zero}
 use Rattle.c65_code.specs.declared.line.Sym.{Sym}
-use Rattle.c65_frame.specs.declared.symbols.Numbers.{Numbers}
-use Rattle.c65_frame.specs.Symbols.{numbers_of, object_symbol, literal_symbol}
-use Rattle.c65_frame.specs.Sizes.{bytes_or}
+use Rattle.c65_genframe.specs.declared.symbols.Numbers.{Numbers}
+use Rattle.c65_genframe.specs.Symbols.{numbers_of, object_symbol, literal_symbol}
+use Rattle.c65_genframe.specs.Sizes.{bytes_or}
 use Rattle.c65_gendata.specs.Cells.{with_cells, is_zero, literal_cells}
 
 abbrev mutual

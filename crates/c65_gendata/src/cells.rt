@@ -7,7 +7,7 @@ ghost use Rattle.c65_gendata.specs.Cells.{symbol_of, offset_of, with_cell, with_
 use c65_base::Text as Bytes;
 use c65_code::{DataCell, Sym};
 use c65_csem::{Cell, Target};
-use c65_frame::Numbers;
+use c65_genframe::Numbers;
 use std::alloc::{AllocError, Global};
 
 /// The symbol that an initial pointer names.

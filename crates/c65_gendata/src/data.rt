@@ -10,7 +10,7 @@ use c65_base::{Refusal, Text as Bytes};
 use c65_code::{DataCell, Datum, DatumKind, Items, Sym};
 use c65_csem::{Class, Parts, TObject, TProgram};
 use c65_ctype::{CType, QType};
-use c65_frame::{Numbers, bytes_or};
+use c65_genframe::{Numbers, bytes_or};
 use std::alloc::{AllocError, Global};
 
 /// Whether an object of the type may not be written: the qualifiers of an array are those of its

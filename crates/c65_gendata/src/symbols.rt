@@ -6,7 +6,7 @@ ghost use Rattle.c65_gendata.specs.Symbols.{known, external, numbered, plain_spe
 use c65_base::{Name, Names, Refusal, Text};
 use c65_code::Symbol;
 use c65_csem::{Class, TFunc, TObject, TProgram};
-use c65_frame::Numbers;
+use c65_genframe::Numbers;
 use itoa::write_digits;
 use std::alloc::{AllocError, Global};
 

@@ -4,10 +4,10 @@ use Rattle.c65_mach.specs.declared.rows.Op.TheVariants.{Adc, Clc, Lda, Ldy, Sta,
 use Rattle.c65_code.specs.declared.line.Line.{Line}
 use Rattle.c65_code.specs.declared.routine.Routine.{Routine}
 use Rattle.c65_code.specs.declared.routine.Routine.TheVariants.{PushA, PushAx, PushEax, LdAxYSp, LdAi, LdAxi, SaveRegs}
-use Rattle.c65_frame.specs.declared.home.Arrival.{Arrival}
-use Rattle.c65_frame.specs.declared.home.Arrival.TheVariants.{Pushed, Kept}
-use Rattle.c65_frame.specs.declared.home.Moved.{Moved}
-use Rattle.c65_frame.specs.Frames.{Framed}
+use Rattle.c65_genframe.specs.declared.home.Arrival.{Arrival}
+use Rattle.c65_genframe.specs.declared.home.Arrival.TheVariants.{Pushed, Kept}
+use Rattle.c65_genframe.specs.declared.home.Moved.{Moved}
+use Rattle.c65_genframe.specs.Frames.{Framed}
 use Rattle.c65_genwide.specs.Lines.{value, call}
 use Rattle.c65_genentry.specs.Words.{sp, regbank, implied, zero_page, by_y}
 use Rattle.c65_genentry.specs.Stack.{lower_code}

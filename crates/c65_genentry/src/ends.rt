@@ -10,7 +10,7 @@ use c65_base::Refusal;
 use c65_code::Line::Do;
 use c65_code::Operand::{Byte, Nothing, Zero};
 use c65_code::{Draft, Routine};
-use c65_frame::Frame;
+use c65_genframe::Frame;
 use c65_genwide::{put, run};
 use c65_mach::Mode::{Immediate, Implied, IndirectY, ZeroPage};
 use c65_mach::Op::{Lda, Ldy, Pha, Pla, Rts, Sta, Tay};

@@ -10,7 +10,7 @@ use c65_base::Refusal;
 use c65_code::Line::Do;
 use c65_code::Operand::{Byte, Nothing, Zero};
 use c65_code::{Draft, Routine};
-use c65_frame::{Arrival, Frame, Moved};
+use c65_genframe::{Arrival, Frame, Moved};
 use c65_genwide::{put, run};
 use c65_mach::Mode::{Immediate, Implied, IndirectY, ZeroPage};
 use c65_mach::Op::{Adc, Clc, Lda, Ldy, Sta, Stx, Tax, Tay, Tya};

@@ -2,7 +2,7 @@
 use Rattle.std.proofs.Common.{◌≡◌, ℕ, Bool, true, false, Option, Some, None, ℤ, refl}
 use Rattle.c65_ctype.specs.Views.{types_of}
 use Rattle.c65_csem.specs.Trees.{Typed, node, constant, null, literal, object, func, deref, member, load, address, decay, convert, unary, binary, both, either, choice, comma, assign, assign_op, assign_step, step, copy, call}
-use Rattle.c65_frame.specs.Frames.{Framed}
+use Rattle.c65_genframe.specs.Frames.{Framed}
 use Rattle.c65_genload.specs.declared.places.Place.{Place}
 use Rattle.c65_genload.specs.declared.places.Place.TheVariants.{Bank, Near, Data, Far}
 use Rattle.c65_genexpr.specs.Types.{bare, offset_at}

@@ -7,7 +7,7 @@ use Rattle.c65_code.specs.declared.line.Line.{Line}
 use Rattle.c65_code.specs.declared.parts.RegSet.{RegSet}
 use Rattle.c65_code.specs.Parts.{no_parts}
 use Rattle.c65_code.specs.Effects.{only_a, only_y, ax, eax}
-use Rattle.c65_frame.specs.Frames.{is_variadic, takes_stack}
+use Rattle.c65_genframe.specs.Frames.{is_variadic, takes_stack}
 use Rattle.c65_genload.specs.declared.places.Extent.{Extent}
 use Rattle.c65_genload.specs.declared.places.Extent.TheVariants.{One, Two, Four}
 use Rattle.c65_genload.specs.Places.{extent_of}

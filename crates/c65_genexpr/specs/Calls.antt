@@ -13,8 +13,8 @@ use Rattle.c65_code.specs.declared.routine.Count.TheVariants.{Two}
 use Rattle.c65_code.specs.declared.routine.LibraryFunction.{LibraryFunction}
 use Rattle.c65_code.specs.declared.routine.LibraryFunction.TheVariants.{PutChar, GetChar, Puts, Exit, MemCpy, MemSet, StrCmp, StrCpy, StrLen}
 use Rattle.c65_code.specs.declared.routine.Routine.TheVariants as routines
-use Rattle.c65_frame.specs.Frames.{Framed}
-use Rattle.c65_frame.specs.Symbols.{numbers_of, function_symbol}
+use Rattle.c65_genframe.specs.Frames.{Framed}
+use Rattle.c65_genframe.specs.Symbols.{numbers_of, function_symbol}
 use Rattle.c65_genwide.specs.Lines.{value, call}
 use Rattle.c65_genwide.specs.Wide.{narrow_code}
 use Rattle.c65_genload.specs.Words.{sp, tmp1, implied, zero_page, by_y}

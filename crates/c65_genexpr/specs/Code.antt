@@ -13,8 +13,8 @@ use Rattle.c65_code.specs.declared.line.Line.{Line}
 use Rattle.c65_code.specs.declared.line.Line.TheVariants.{Label, Do}
 use Rattle.c65_code.specs.declared.routine.Width.TheVariants.{Ax}
 use Rattle.c65_code.specs.Segments.{Drafted}
-use Rattle.c65_frame.specs.Symbols.{numbers_of, literal_symbol, function_symbol}
-use Rattle.c65_frame.specs.Frames.{Framed, type_bytes}
+use Rattle.c65_genframe.specs.Symbols.{numbers_of, literal_symbol, function_symbol}
+use Rattle.c65_genframe.specs.Frames.{Framed, type_bytes}
 use Rattle.c65_genwide.specs.Lines.{value}
 use Rattle.c65_genwide.specs.Wide.{width_of}
 use Rattle.c65_genload.specs.declared.places.Place.{Place}

@@ -14,7 +14,7 @@ use Rattle.c65_code.specs.declared.routine.Width.{Width}
 use Rattle.c65_code.specs.declared.routine.Width.TheVariants.{Ax}
 use Rattle.c65_code.specs.declared.routine.Routine.TheVariants.{Unary}
 use Rattle.c65_code.specs.declared.routine.UnaryRoutine.TheVariants.{Neg, Compl, BNeg}
-use Rattle.c65_frame.specs.Frames.{Framed}
+use Rattle.c65_genframe.specs.Frames.{Framed}
 use Rattle.c65_genwide.specs.Lines.{call}
 use Rattle.c65_genwide.specs.Wide.{width_of, wide_code}
 use Rattle.c65_genload.specs.Numbers.{add_code, scale_code, divide_code}

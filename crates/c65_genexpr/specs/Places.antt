@@ -3,10 +3,10 @@ use Rattle.std.specs.Prelude.{ℕ, ◌+◌, ◌-◌, ◌%◌, ◌==◌, nat_le, 
 use Rattle.c65_ctype.specs.Views.{types_of}
 use Rattle.c65_csem.specs.Trees.{Typed, node, object, member}
 use Rattle.c65_code.specs.declared.line.Line.{Line}
-use Rattle.c65_frame.specs.declared.home.Home.{Home}
-use Rattle.c65_frame.specs.declared.home.Home.TheVariants as homes
-use Rattle.c65_frame.specs.Symbols.{numbers_of, object_symbol}
-use Rattle.c65_frame.specs.Frames.{Framed, home_of, is_raised}
+use Rattle.c65_genframe.specs.declared.home.Home.{Home}
+use Rattle.c65_genframe.specs.declared.home.Home.TheVariants as homes
+use Rattle.c65_genframe.specs.Symbols.{numbers_of, object_symbol}
+use Rattle.c65_genframe.specs.Frames.{Framed, home_of, is_raised}
 use Rattle.c65_genload.specs.declared.places.Place.{Place}
 use Rattle.c65_genload.specs.declared.places.Place.TheVariants.{Bank, Near, Data, Far}
 use Rattle.c65_genload.specs.Addresses.{symbol_code, address_code, raised_code}

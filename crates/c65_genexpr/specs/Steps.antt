@@ -6,7 +6,7 @@ use Rattle.c65_base.specs.declared.operators.StepKind.TheVariants.{PreInc, PreDe
 use Rattle.c65_ints.specs.declared.types.IntType.{IntType}
 use Rattle.c65_ctype.specs.Trees.{Ty}
 use Rattle.c65_code.specs.declared.line.Line.{Line}
-use Rattle.c65_frame.specs.Frames.{Framed}
+use Rattle.c65_genframe.specs.Frames.{Framed}
 use Rattle.c65_genwide.specs.Wide.{width_of}
 use Rattle.c65_genload.specs.declared.places.Place.{Place}
 use Rattle.c65_genload.specs.declared.places.Access.{Access}

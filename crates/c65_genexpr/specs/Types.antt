@@ -5,7 +5,7 @@ use Rattle.c65_ints.specs.declared.types.IntType.TheVariants.{UInt}
 use Rattle.c65_ctype.specs.Trees.{Ty, void, int, pointer, type_in, MemberTy, TypesTy}
 use Rattle.c65_csem.specs.Trees.{Typed, node, member, type_of}
 use Rattle.c65_csem.specs.Places.{member_at}
-use Rattle.c65_frame.specs.Frames.{Framed, type_bytes}
+use Rattle.c65_genframe.specs.Frames.{Framed, type_bytes}
 use Rattle.c65_genload.specs.declared.places.Access.{Access}
 use Rattle.c65_genload.specs.declared.places.Access.TheVariants.{Whole, Part}
 

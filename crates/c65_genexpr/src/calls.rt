@@ -11,7 +11,7 @@ use c65_code::Line::{Call, Do};
 use c65_code::Operand::{Byte, Nothing, Zero};
 use c65_code::{Callee, Count, Draft, LibraryFunction, Routine};
 use c65_csem::{Library, TExpr, TKind};
-use c65_frame::Frame;
+use c65_genframe::Frame;
 use c65_genwide::{narrow, put, run};
 use c65_ints::IntType;
 use c65_mach::Mode::{Immediate, Implied, IndirectY, ZeroPage};

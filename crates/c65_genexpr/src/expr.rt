@@ -22,7 +22,7 @@ use c65_code::Line::{Do, Label};
 use c65_code::Operand::{Byte, To};
 use c65_code::{Draft, Width};
 use c65_csem::{TExpr, TKind};
-use c65_frame::Frame;
+use c65_genframe::Frame;
 use c65_genload::{
     Place, copy, held, hold, load, number, push, put_offset, put_symbol, store, test, waiting,
 };

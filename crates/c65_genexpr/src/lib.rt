@@ -10,5 +10,5 @@ mod shorts;
 mod steps;
 mod types;
 
-pub use c65_frame::{Frame, Home};
+pub use c65_genframe::{Frame, Home};
 pub use expr::gen_expr;

@@ -9,7 +9,7 @@ use crate::types::{kind_of, target_bytes};
 use c65_base::{BinaryOp, Refusal, UnaryOp};
 use c65_code::{Draft, Routine, UnaryRoutine, Width};
 use c65_ctype::CType;
-use c65_frame::Frame;
+use c65_genframe::Frame;
 use c65_genload::{convert, divide, push, scale};
 use c65_genwide::{gen_wide, put, run, width_of};
 use c65_ints::IntType;

@@ -9,7 +9,7 @@ use crate::types::offset_at;
 use c65_base::Refusal;
 use c65_code::Draft;
 use c65_csem::{TExpr, TKind};
-use c65_frame::{Frame, Home};
+use c65_genframe::{Frame, Home};
 use c65_genload::{Place, put_address, put_raised, put_symbol};
 use c65_genwide::put;
 

@@ -11,7 +11,7 @@ use crate::types::target_bytes;
 use c65_base::{BinaryOp, Refusal, StepKind};
 use c65_code::Draft;
 use c65_ctype::CType;
-use c65_frame::Frame;
+use c65_genframe::Frame;
 use c65_genload::{Access, Place, add, convert, hold, in_field, load, push, store, value_type};
 use c65_genwide::{put, width_of};
 use c65_ints::IntType;

@@ -6,7 +6,7 @@ ghost use Rattle.c65_genexpr.specs.Types.{kind_of, result_kind, offset_at, bits_
 
 use c65_csem::{TExpr, TKind, member_at};
 use c65_ctype::{CType, Types};
-use c65_frame::Frame;
+use c65_genframe::Frame;
 use c65_genload::{Access, Field};
 use c65_ints::IntType;
 

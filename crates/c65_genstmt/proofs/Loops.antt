@@ -2,7 +2,7 @@
 use Rattle.std.proofs.Common.{◌≡◌, ℕ, ◌+◌, ap, ◌∙◌}
 use Rattle.c65_csem.specs.Trees.{Typed, Stmt}
 use Rattle.c65_code.specs.Segments.{Drafted}
-use Rattle.c65_frame.specs.Frames.{Framed}
+use Rattle.c65_genframe.specs.Frames.{Framed}
 use Rattle.c65_genstmt.specs.declared.jumps.Ways.{Ways}
 use Rattle.c65_genstmt.specs.Stmts.{ways, with_label, three_given, with_bottom, with_stmt, with_do}
 

@@ -12,9 +12,9 @@ use Rattle.c65_mach.specs.declared.rows.Op.TheVariants.{Lda, Ldx}
 use Rattle.c65_code.specs.declared.line.Line.{Line}
 use Rattle.c65_code.specs.declared.parts.RegSet.{RegSet}
 use Rattle.c65_code.specs.Segments.{Segment, Drafted}
-use Rattle.c65_frame.specs.Frames.{Framed, frame_of}
-use Rattle.c65_frame.specs.Registers.{registers}
-use Rattle.c65_frame.specs.Sizes.{bytes_or}
+use Rattle.c65_genframe.specs.Frames.{Framed, frame_of}
+use Rattle.c65_genframe.specs.Registers.{registers}
+use Rattle.c65_genframe.specs.Sizes.{bytes_or}
 use Rattle.c65_genwide.specs.Lines.{value, with_lines}
 use Rattle.c65_genentry.specs.Drafts.{with_labels}
 use Rattle.c65_genentry.specs.Entry.{entry_code}

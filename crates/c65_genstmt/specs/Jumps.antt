@@ -3,7 +3,7 @@ use Rattle.std.specs.Prelude.{ℕ, ◌+◌, ◌%◌, [], ◌∷◌}
 use Rattle.c65_csem.specs.Trees.{Typed}
 use Rattle.c65_mach.specs.declared.rows.Op.{Op}
 use Rattle.c65_code.specs.Segments.{Drafted}
-use Rattle.c65_frame.specs.Frames.{Framed}
+use Rattle.c65_genframe.specs.Frames.{Framed}
 use Rattle.c65_genwide.specs.Lines.{with_lines}
 use Rattle.c65_genexpr.specs.Code.{grown, expr_code, test_in}
 use Rattle.c65_genexpr.specs.Uses.{uses}

@@ -7,11 +7,11 @@ use Rattle.c65_csem.specs.Places.{is_tag}
 use Rattle.c65_mach.specs.declared.rows.Op.TheVariants.{Sta, Stx}
 use Rattle.c65_code.specs.declared.line.Line.{Line}
 use Rattle.c65_code.specs.Segments.{Drafted}
-use Rattle.c65_frame.specs.declared.home.Home.{Home}
-use Rattle.c65_frame.specs.declared.home.Home.TheVariants as homes
-use Rattle.c65_frame.specs.Frames.{Framed, home_of, type_bytes}
-use Rattle.c65_frame.specs.Sizes.{object_in, bytes_or}
-use Rattle.c65_frame.specs.Symbols.{numbers_of, object_symbol}
+use Rattle.c65_genframe.specs.declared.home.Home.{Home}
+use Rattle.c65_genframe.specs.declared.home.Home.TheVariants as homes
+use Rattle.c65_genframe.specs.Frames.{Framed, home_of, type_bytes}
+use Rattle.c65_genframe.specs.Sizes.{object_in, bytes_or}
+use Rattle.c65_genframe.specs.Symbols.{numbers_of, object_symbol}
 use Rattle.c65_genload.specs.declared.places.Access.{Access}
 use Rattle.c65_genload.specs.declared.places.Access.TheVariants.{Whole}
 use Rattle.c65_genload.specs.declared.places.Place.TheVariants as places

@@ -8,7 +8,7 @@ use Rattle.c65_csem.specs.Views.{func_of}
 use Rattle.c65_code.specs.declared.line.Sym.{Sym}
 use Rattle.c65_code.specs.declared.code.Code.{Code}
 use Rattle.c65_code.specs.Segments.{Segment}
-use Rattle.c65_frame.specs.Symbols.{numbers_of, function_symbol}
+use Rattle.c65_genframe.specs.Symbols.{numbers_of, function_symbol}
 use Rattle.c65_gendata.specs.Data.{data_of}
 use Rattle.c65_gendata.specs.Symbols.{symbols_of}
 use Rattle.c65_genstmt.specs.Functions.{function_of}

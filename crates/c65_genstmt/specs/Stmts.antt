@@ -6,7 +6,7 @@ use Rattle.c65_csem.specs.Statements.{cases_of}
 use Rattle.c65_mach.specs.declared.rows.Op.TheVariants.{Beq, Bne, Jmp}
 use Rattle.c65_code.specs.declared.line.Line.TheVariants.{Label}
 use Rattle.c65_code.specs.Segments.{Drafted}
-use Rattle.c65_frame.specs.Frames.{Framed}
+use Rattle.c65_genframe.specs.Frames.{Framed}
 use Rattle.c65_genwide.specs.Lines.{with_lines}
 use Rattle.c65_genwide.specs.Wide.{width_of}
 use Rattle.c65_genexpr.specs.Types.{kind_in}

@@ -2,15 +2,15 @@
 ghost use Rattle.std.specs.Prelude.{◌≡◌, OnOk, IfErr, Ok};
 ghost use Rattle.c65_base.specs.Answers.{Gives, Fails};
 ghost use Rattle.c65_csem.specs.Views.{func_of};
-ghost use Rattle.c65_frame.specs.Symbols.{numbers_of};
+ghost use Rattle.c65_genframe.specs.Symbols.{numbers_of};
 ghost use Rattle.c65_genstmt.specs.Programs.{takes_arguments, function_added, functions_of, program_of};
 
 use crate::function::segment_of;
 use c65_base::{Names, Options, Refusal};
 use c65_code::{Code, Items, Seg, Sym};
 use c65_csem::{Parts, TFunc, TProgram};
-use c65_frame::Numbers;
 use c65_gendata::{gen_data, gen_symbols};
+use c65_genframe::Numbers;
 use std::alloc::Global;
 
 /// Whether main takes arguments.

@@ -5,7 +5,7 @@ use Rattle.c65_base.specs.declared.refusal.Refusal.{Refusal}
 use Rattle.c65_base.specs.Answers.{Fails}
 use Rattle.c65_ctype.specs.Trees.{QTy}
 use Rattle.c65_csem.specs.declared.items.Class.{Class}
-use Rattle.c65_scope.specs.Scopes.{ScopeTy}
+use Rattle.c65_elab_scope.specs.Scopes.{ScopeTy}
 use Rattle.c65_tree.specs.Trees.{InitTree}
 use Rattle.c65_elab.proofs.Walks.{fails_bind}
 use Rattle.c65_init.specs.Declarations.{LocalsTy, no_values, begun_of}

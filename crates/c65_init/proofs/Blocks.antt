@@ -7,7 +7,7 @@ use Rattle.c65_base.specs.Answers.{Fault, Fails, ◌>>=◌}
 use Rattle.c65_csem.specs.declared.stmt.TStmt.{TStmt}
 use Rattle.c65_csem.specs.Trees as n
 use Rattle.c65_csem.specs.Views.{stmt_of, stmts_of}
-use Rattle.c65_scope.specs.Scopes.{ScopeTy, opened, closed}
+use Rattle.c65_elab_scope.specs.Scopes.{ScopeTy, opened, closed}
 use Rattle.c65_tree.specs.declared.stmt.Decl.{Decl}
 use Rattle.c65_tree.specs.declared.stmt.Stmt.{Stmt}
 use Rattle.c65_tree.specs.declared.stmt.StmtKind.TheVariants as k

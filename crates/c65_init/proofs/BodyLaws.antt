@@ -7,7 +7,7 @@ use Rattle.c65_base.specs.declared.refusal.Refusal.{Refusal}
 use Rattle.c65_base.specs.Answers.{Gives, ◌>>=◌}
 use Rattle.c65_ints.specs.Ranges.{wrap_of}
 use Rattle.c65_csem.specs.Trees.{Typed}
-use Rattle.c65_scope.specs.Scopes.{ScopeTy}
+use Rattle.c65_elab_scope.specs.Scopes.{ScopeTy}
 use Rattle.c65_tree.specs.declared.expr.Expr.{Expr}
 use Rattle.c65_tree.specs.View.{expr_of}
 use Rattle.c65_elab.specs.Constants.{value_at}

@@ -13,10 +13,10 @@ use Rattle.c65_tree.specs.declared.stmt.InitKind.TheVariants as k
 use Rattle.c65_tree.specs.View.{init_of, init_at}
 use Rattle.c65_tree.proofs.Views.{list_view}
 use Rattle.c65_elab.proofs.Walks.{fails_bind, then_ok, then_fails}
-use Rattle.c65_cells.proofs.ItemLaws.{place_is, items_are}
-use Rattle.c65_cells.specs.Cells.{is_below}
-use Rattle.c65_cells.specs.Parts.{PartTy, element_at, next_member}
-use Rattle.c65_cells.specs.Sinks.{next}
+use Rattle.c65_init_cells.proofs.ItemLaws.{place_is, items_are}
+use Rattle.c65_init_cells.specs.Cells.{is_below}
+use Rattle.c65_init_cells.specs.Parts.{PartTy, element_at, next_member}
+use Rattle.c65_init_cells.specs.Sinks.{next}
 use Rattle.c65_init.specs.Initials.{Begun, Filling, elements_of, or_end, members_of, all_taken, list_of, braced_of, from_item, one_of}
 
 chosen : {A : Type 0} (b : Bool) (x y : A) → b ≡ true → (if b then x else y) ≡ x

@@ -5,7 +5,7 @@ use Rattle.std.specs.Prelude.{Result, Option, ◌==◌}
 use Rattle.c65_base.specs.Answers.{Fault, ◌>>=◌}
 use Rattle.c65_ctype.specs.Trees.{QTy}
 use Rattle.c65_csem.specs.Trees.{Stmt}
-use Rattle.c65_scope.specs.Scopes.{ScopeTy}
+use Rattle.c65_elab_scope.specs.Scopes.{ScopeTy}
 use Rattle.c65_tree.specs.declared.expr.Storage.{Storage}
 use Rattle.c65_tree.specs.declared.stmt.InitDeclarator.{InitDeclarator}
 use Rattle.c65_tree.specs.declared.stmt.Decl.{Decl}

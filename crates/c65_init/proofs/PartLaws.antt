@@ -14,7 +14,7 @@ use Rattle.c65_init.specs.Functions.{with_body}
 use Rattle.c65_ctype.specs.Trees.{Fn}
 use Rattle.c65_ctype.specs.declared.types.FnType.{FnType}
 use Rattle.c65_ctype.specs.Views.{fn_of}
-use Rattle.c65_scope.specs.Parts.{with_func}
+use Rattle.c65_elab_scope.specs.Parts.{with_func}
 
 pub object_begun : (os : List TObject) (i : ℕ) (o : TObject) (d class : Class) (cells : Vec Cell Global) → o ≡ get_or os i o → d ≡ defined_as class → map object_of (set os i (record { name = o.name; ty = o.ty; class = d; init = Some cells })) ≡ with_init (map object_of os) i class cells.items
 object_begun [] i o d class cells is so = refl

@@ -10,16 +10,16 @@ use Rattle.c65_ctype.proofs.ViewLaws.{fn_view}
 use Rattle.c65_csem.specs.declared.stmt.TStmt.{TStmt}
 use Rattle.c65_csem.specs.Trees.{and_stmts}
 use Rattle.c65_csem.specs.Views.{stmt_of, stmts_of}
-use Rattle.c65_cells.specs.Items.{place_of as init_place_of}
-use Rattle.c65_cells.proofs.ItemLaws.{place_is as init_place_is}
+use Rattle.c65_init_cells.specs.Items.{place_of as init_place_of}
+use Rattle.c65_init_cells.proofs.ItemLaws.{place_is as init_place_is}
 use Rattle.c65_tree.specs.declared.expr.Expr.{Expr}
 use Rattle.c65_tree.specs.declared.expr.Specifiers.{out-Specifiers}
 use Rattle.c65_tree.specs.declared.stmt.Decl.{Decl}
 use Rattle.c65_tree.specs.declared.stmt.Initialiser.{Initialiser}
 use Rattle.c65_tree.specs.View.{expr_of, decl_of, init_of}
 use Rattle.c65_tree.proofs.Views.{specifiers_view}
-use Rattle.c65_cells.specs.Items.{place_of as item_place_of}
-use Rattle.c65_cells.proofs.ItemLaws.{place_is as item_is}
+use Rattle.c65_init_cells.specs.Items.{place_of as item_place_of}
+use Rattle.c65_init_cells.proofs.ItemLaws.{place_is as item_is}
 use Rattle.c65_elab.specs.Places.{place_of}
 use Rattle.c65_elab.proofs.Parts.{place_is}
 use Rattle.c65_init.specs.Functions.{result_in}

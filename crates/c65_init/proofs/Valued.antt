@@ -7,8 +7,8 @@ use Rattle.c65_base.specs.Answers.{Fault, at, ◌>>=◌}
 use Rattle.c65_ctype.specs.Trees.{Ty, TypesTy}
 use Rattle.c65_csem.specs.Trees.{Typed}
 use Rattle.c65_fold.specs.Folded.{folded}
-use Rattle.c65_convert.specs.Changes.{assigned_of}
-use Rattle.c65_scope.specs.Scopes.{ScopeTy}
+use Rattle.c65_elab_convert.specs.Changes.{assigned_of}
+use Rattle.c65_elab_scope.specs.Scopes.{ScopeTy}
 use Rattle.c65_tree.specs.Trees.{ExprTree}
 use Rattle.c65_elab.specs.Typing.{typed}
 use Rattle.c65_elab.proofs.Walks.{then_ok}

@@ -10,7 +10,7 @@ use Rattle.c65_ints.specs.declared.types.IntType.{IntType}
 use Rattle.c65_ints.specs.Ranges.{wrap_of}
 use Rattle.c65_ctype.specs.Trees.{QTy}
 use Rattle.c65_ctype.specs.Views.{qty_of}
-use Rattle.c65_checked.specs.Statements.{has_value}
+use Rattle.c65_csem_check.specs.Statements.{has_value}
 use Rattle.c65_init.specs.declared.body.Switch.{Switch}
 use Rattle.c65_init.specs.declared.body.Body.{Body}
 

@@ -15,17 +15,17 @@ use Rattle.c65_csem.specs.declared.items.Class.TheVariants as classes
 use Rattle.c65_csem.specs.Places.{is_automatic}
 use Rattle.c65_csem.specs.Trees.{ObjectTy, Stmt, clear}
 use Rattle.c65_csem.specs.Views.{stmt_of}
-use Rattle.c65_scope.specs.declared.meaning.Entity.{Entity}
-use Rattle.c65_scope.specs.declared.meaning.Entity.TheVariants as e
-use Rattle.c65_scope.specs.Scopes.{ScopeTy}
-use Rattle.c65_scope.specs.Parts.{with_objects, completed}
-use Rattle.c65_scope.specs.Declaring.{declared}
-use Rattle.c65_declare.specs.Calling.{name_place}
+use Rattle.c65_elab_scope.specs.declared.meaning.Entity.{Entity}
+use Rattle.c65_elab_scope.specs.declared.meaning.Entity.TheVariants as e
+use Rattle.c65_elab_scope.specs.Scopes.{ScopeTy}
+use Rattle.c65_elab_scope.specs.Parts.{with_objects, completed}
+use Rattle.c65_elab_scope.specs.Declaring.{declared}
+use Rattle.c65_elab_declare.specs.Calling.{name_place}
 use Rattle.c65_elab.specs.Headings.{declarator_in}
 use Rattle.c65_elab.specs.Typing.{specified}
-use Rattle.c65_cells.specs.Cells.{grown}
-use Rattle.c65_cells.specs.Items.{place_of}
-use Rattle.c65_cells.specs.Sinks.{SinkTy, beginning}
+use Rattle.c65_init_cells.specs.Cells.{grown}
+use Rattle.c65_init_cells.specs.Items.{place_of}
+use Rattle.c65_init_cells.specs.Sinks.{SinkTy, beginning}
 use Rattle.c65_init.specs.declared.declare.Locals.{Locals}
 use Rattle.c65_init.specs.Agreeing.{as_defined}
 use Rattle.c65_init.specs.Initials.{initial_of}

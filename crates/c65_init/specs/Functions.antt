@@ -8,15 +8,15 @@ use Rattle.c65_ints.specs.declared.types.IntType.TheVariants.{Int}
 use Rattle.c65_ctype.specs.Trees.{int, QTy, Fn, fn}
 use Rattle.c65_csem.specs.Places.{plain, plain_of}
 use Rattle.c65_csem.specs.Trees.{Stmt, empty, FuncTy}
-use Rattle.c65_scope.specs.declared.meaning.Entity.{Entity}
-use Rattle.c65_scope.specs.declared.meaning.Entity.TheVariants as e
-use Rattle.c65_scope.specs.Scopes.{ScopeTy, opened, closed}
-use Rattle.c65_scope.specs.Parts.{with_funcs}
-use Rattle.c65_scope.specs.Declaring.{declared}
+use Rattle.c65_elab_scope.specs.declared.meaning.Entity.{Entity}
+use Rattle.c65_elab_scope.specs.declared.meaning.Entity.TheVariants as e
+use Rattle.c65_elab_scope.specs.Scopes.{ScopeTy, opened, closed}
+use Rattle.c65_elab_scope.specs.Parts.{with_funcs}
+use Rattle.c65_elab_scope.specs.Declaring.{declared}
 use Rattle.c65_tree.specs.declared.expr.Storage.{Storage}
 use Rattle.c65_tree.specs.Trees.{StmtTree, block, FunctionTree}
-use Rattle.c65_declare.specs.Calling.{name_place}
-use Rattle.c65_declare.specs.Headings.{HeadingTy}
+use Rattle.c65_elab_declare.specs.Calling.{name_place}
+use Rattle.c65_elab_declare.specs.Headings.{HeadingTy}
 use Rattle.c65_elab.specs.Headings.{headed}
 use Rattle.c65_elab.specs.Typing.{specified}
 use Rattle.c65_init.specs.Agreeing.{as_declared}

@@ -7,14 +7,14 @@ use Rattle.c65_base.specs.Answers.{Fault, at, ◌>>=◌}
 use Rattle.c65_ctype.specs.Trees.{Ty, int, pointer, array, tag, QTy, type_in}
 use Rattle.c65_ctype.specs.Sizes.{size_at}
 use Rattle.c65_csem.specs.Trees.{Typed}
-use Rattle.c65_scope.specs.Scopes.{ScopeTy}
+use Rattle.c65_elab_scope.specs.Scopes.{ScopeTy}
 use Rattle.c65_tree.specs.Trees.{ExprTree, InitTree, value, list}
 use Rattle.c65_elab.specs.Constants.{value_at}
-use Rattle.c65_cells.specs.Cells.{is_below}
-use Rattle.c65_cells.specs.Items.{items_of, place_of, first_place}
-use Rattle.c65_cells.specs.Parts.{PartTy, plain_part, element_at, next_member}
-use Rattle.c65_cells.specs.Sinks.{SinkTy, with_set, with_number, with_pointer, next, text_put}
-use Rattle.c65_cells.specs.Values.{scalar_value, text_for, takes_whole}
+use Rattle.c65_init_cells.specs.Cells.{is_below}
+use Rattle.c65_init_cells.specs.Items.{items_of, place_of, first_place}
+use Rattle.c65_init_cells.specs.Parts.{PartTy, plain_part, element_at, next_member}
+use Rattle.c65_init_cells.specs.Sinks.{SinkTy, with_set, with_number, with_pointer, next, text_put}
+use Rattle.c65_init_cells.specs.Values.{scalar_value, text_for, takes_whole}
 use Rattle.c65_init.specs.Values.{value_for}
 
 -- the object so far, and the scope

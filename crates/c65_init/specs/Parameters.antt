@@ -9,19 +9,19 @@ use Rattle.c65_ctype.specs.Trees.{Ty, int, pointer, array, tag, function, QTy, q
 use Rattle.c65_ctype.specs.Sizes.{size_at}
 use Rattle.c65_ctype.specs.Views.{qty_of}
 use Rattle.c65_csem.specs.Places.{plain}
-use Rattle.c65_scope.specs.declared.meaning.Entity.{Entity}
-use Rattle.c65_scope.specs.declared.meaning.Entity.TheVariants as e
-use Rattle.c65_scope.specs.Scopes.{ScopeTy}
-use Rattle.c65_scope.specs.Declaring.{declared}
+use Rattle.c65_elab_scope.specs.declared.meaning.Entity.{Entity}
+use Rattle.c65_elab_scope.specs.declared.meaning.Entity.TheVariants as e
+use Rattle.c65_elab_scope.specs.Scopes.{ScopeTy}
+use Rattle.c65_elab_scope.specs.Declaring.{declared}
 use Rattle.c65_tree.specs.declared.expr.Storage.{Storage}
 use Rattle.c65_tree.specs.declared.expr.Storage.TheVariants as storages
 use Rattle.c65_tree.specs.Trees.{SpecifiersTree, specifiers, DeclaratorTree, InitTree, InitDeclaratorTree, DeclTree}
-use Rattle.c65_declare.specs.Calling.{name_place}
-use Rattle.c65_declare.specs.Declarators.{FormalTy, FormalsTy, nothing, names, prototype}
-use Rattle.c65_declare.specs.Prototypes.{param_storage}
+use Rattle.c65_elab_declare.specs.Calling.{name_place}
+use Rattle.c65_elab_declare.specs.Declarators.{FormalTy, FormalsTy, nothing, names, prototype}
+use Rattle.c65_elab_declare.specs.Prototypes.{param_storage}
 use Rattle.c65_elab.specs.Headings.{declarator_in}
 use Rattle.c65_elab.specs.Typing.{specified}
-use Rattle.c65_cells.specs.Items.{place_of}
+use Rattle.c65_init_cells.specs.Items.{place_of}
 use Rattle.c65_init.specs.declared.old_style.Old.{Old}
 use Rattle.c65_init.specs.Declarations.{is_none_of}
 

@@ -4,9 +4,9 @@
 use Rattle.std.specs.Prelude.{ℕ, zero, suc, ◌+◌, min, length, ◌&&◌, not, false, Option, Some, None, is_some, slice_get, if◌then◌else◌}
 use Rattle.c65_ctype.specs.Trees.{Fn, fn, unknown}
 use Rattle.c65_csem.specs.Trees.{FuncTy, UnitTy}
-use Rattle.c65_checked.specs.Units.{prototype_matches}
-use Rattle.c65_scope.specs.Scopes.{ScopeTy}
-use Rattle.c65_scope.specs.Parts.{func_redeclared}
+use Rattle.c65_csem_check.specs.Units.{prototype_matches}
+use Rattle.c65_elab_scope.specs.Scopes.{ScopeTy}
+use Rattle.c65_elab_scope.specs.Parts.{func_redeclared}
 
 abbrev pub unprototyped : Fn → Fn
 unprototyped (fn t ps variadic cdecl) = fn t unknown false cdecl

@@ -9,8 +9,8 @@ use Rattle.c65_csem.specs.Trees as n
 use Rattle.c65_csem.specs.Trees.{Stmt, Stmts, no_stmts, and_stmts, Typed, MaybeTyped, type_of}
 use Rattle.c65_csem.specs.Views.{maybe_of}
 use Rattle.c65_fold.specs.Folded.{folded}
-use Rattle.c65_convert.specs.Logic.{switch_value_of}
-use Rattle.c65_scope.specs.Scopes.{ScopeTy, opened, closed}
+use Rattle.c65_elab_convert.specs.Logic.{switch_value_of}
+use Rattle.c65_elab_scope.specs.Scopes.{ScopeTy, opened, closed}
 use Rattle.c65_tree.specs.Trees as t
 use Rattle.c65_elab.specs.Constants.{value_at}
 use Rattle.c65_elab.specs.Places.{place_of}

@@ -5,8 +5,8 @@ use Rattle.c65_ctype.specs.Trees.{Ty, array, type_in}
 use Rattle.c65_csem.specs.declared.items.Class.{Class}
 use Rattle.c65_csem.specs.declared.items.Class.TheVariants.{Tentative, Static}
 use Rattle.c65_csem.specs.Trees.{ObjectTy, UnitTy}
-use Rattle.c65_scope.specs.Scopes.{ScopeTy, nothing}
-use Rattle.c65_scope.specs.Parts.{completed}
+use Rattle.c65_elab_scope.specs.Scopes.{ScopeTy, nothing}
+use Rattle.c65_elab_scope.specs.Parts.{completed}
 use Rattle.c65_tree.specs.Trees.{ItemTree, declaration, definition, UnitTree}
 use Rattle.c65_init.specs.Declarations.{no_locals, declaration_of}
 use Rattle.c65_init.specs.Functions.{definition_of}

@@ -7,9 +7,9 @@ ghost use Rattle.c65_csem.specs.Views.{func_of, object_of, unit_of};
 ghost use Rattle.c65_init.specs.Agreeing;
 
 use c65_base::{Code, Pos, Refusal};
-use c65_cells::fault;
 use c65_csem::{Parts, TFunc, TObject, int_type, promoted, unqualified};
 use c65_ctype::{CType, FnType, QType, Types};
+use c65_init_cells::fault;
 use c65_ints::IntType;
 use std::alloc::{AllocError, Global};
 

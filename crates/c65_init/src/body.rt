@@ -3,15 +3,15 @@ ghost use Rattle.std.specs.Prelude.{◌≡◌, ◌≤◌, ◌<◌, ◌++◌, ◌
 ghost use Rattle.c65_base.specs.declared.code.Code.TheVariants.{CaseTwice, LooseStatement};
 ghost use Rattle.c65_base.specs.declared.refusal.Refusal.TheVariants.{At};
 ghost use Rattle.c65_ints.specs.Ranges.{wrap_of};
-ghost use Rattle.c65_checked.specs.Statements.{same_value, has_value};
+ghost use Rattle.c65_csem_check.specs.Statements.{same_value, has_value};
 ghost use Rattle.c65_base.specs.Answers.{Gives};
 ghost use Rattle.c65_init.specs.Bodies.{switch_of, body_of, label_met, label_named, value_added, default_added, case_met, default_met, in_switch, behind_switch, in_loop, behind_loop, may_continue, may_break};
 ghost use Rattle.c65_init.specs.Causes.{IsLabelFault, IsCaseFault};
 
 use crate::labels::{first_number, number_of};
 use c65_base::{Code, Name, Pos, Refusal, Size};
-use c65_cells::fault;
 use c65_ctype::QType;
+use c65_init_cells::fault;
 use c65_ints::{IntType, wrap};
 use std::alloc::{AllocError, Global};
 

@@ -5,20 +5,20 @@ ghost use Rattle.c65_ctype.specs.Views.{ty_of, qty_of};
 ghost use Rattle.c65_csem.specs.Places.{is_automatic};
 ghost use Rattle.c65_csem.specs.Units.{may_have_init};
 ghost use Rattle.c65_csem.specs.Views.{object_of, stmt_of};
-ghost use Rattle.c65_scope.specs.Scopes.{scope_of};
+ghost use Rattle.c65_elab_scope.specs.Scopes.{scope_of};
 ghost use Rattle.c65_tree.specs.View.{init_of, init_declarator_of, decl_of, maybe};
-ghost use Rattle.c65_cells.specs.Cells.{grown};
-ghost use Rattle.c65_cells.specs.Sinks.{sink_of};
+ghost use Rattle.c65_init_cells.specs.Cells.{grown};
+ghost use Rattle.c65_init_cells.specs.Sinks.{sink_of};
 ghost use Rattle.c65_init.specs.Declarations.{locals_of, no_locals, no_values, is_none_of, class_at, is_static, size_needed, uninitialised_of, is_outer, to_begin, counted_by, is_whole, cleared, with_automatic, defined_as, with_init, with_static, begun_of, initialised_of, entity_alone, entity_given, declarator_begun, declarators_begun, declaration_of, declarations_of};
 
 use crate::agree::as_defined;
 use crate::initial::initial;
 use c65_base::{Code, Pos, Refusal};
-use c65_cells::{Sink, begin_automatic, fault, grow};
 use c65_csem::{Cell, Class, TObject, TStmt};
 use c65_ctype::{CType, QType};
 use c65_elab::{Entity, elab_declarator, elab_specifiers, name_place};
-use c65_scope::Scope;
+use c65_elab_scope::Scope;
+use c65_init_cells::{Sink, begin_automatic, fault, grow};
 use c65_tree::{Decl, InitDeclarator, InitKind, Initialiser, Storage};
 use std::alloc::Global;
 

@@ -3,20 +3,20 @@ ghost use Rattle.std.specs.Prelude.{◌≡◌, ◌<◌, ◌-◌, Some, length, m
 ghost use Rattle.c65_base.specs.Answers.{Gives};
 ghost use Rattle.c65_ctype.specs.Trees.{type_in};
 ghost use Rattle.c65_ctype.specs.Views.{ty_of, qty_of};
-ghost use Rattle.c65_scope.specs.Scopes.{scope_of};
+ghost use Rattle.c65_elab_scope.specs.Scopes.{scope_of};
 ghost use Rattle.c65_tree.specs.View.{expr_of, init_of};
-ghost use Rattle.c65_cells.specs.Parts.{part_of};
-ghost use Rattle.c65_cells.specs.Sinks.{sink_of};
+ghost use Rattle.c65_init_cells.specs.Parts.{part_of};
+ghost use Rattle.c65_init_cells.specs.Sinks.{sink_of};
 ghost use Rattle.c65_init.specs.Initials.{scalar_of, elements_of, members_of, parts_of, all_taken, list_of, braced_of, whole_of, from_item, one_of, part_by_part, whole_value, initial_of, deepest};
 
 use crate::values::{leaf, set_whole};
 use c65_base::{Code, Pos, Refusal};
-use c65_cells::{
+use c65_ctype::{CType, QType};
+use c65_elab_scope::Scope;
+use c65_init_cells::{
     Part, Sink, element_part, fault, first_pos, is_below, member_part, put_text, scalar_value,
     takes_whole, text_for, whole,
 };
-use c65_ctype::{CType, QType};
-use c65_scope::Scope;
 use c65_tree::{Expr, InitKind, Initialiser};
 use std::alloc::Global;
 

@@ -8,7 +8,7 @@ ghost use Rattle.c65_init.specs.Causes.{IsLabelFault};
 ghost use Rattle.c65_init.specs.Labels.{labels_of, labels_in};
 
 use c65_base::{Code, Name, Pos, Refusal};
-use c65_cells::fault;
+use c65_init_cells::fault;
 use c65_tree::{Stmt, StmtKind};
 use std::alloc::AllocError;
 

@@ -3,18 +3,18 @@ ghost use Rattle.std.specs.Prelude.{◌≡◌, IfOk, Some, map};
 ghost use Rattle.c65_base.specs.Answers.{Gives};
 ghost use Rattle.c65_ctype.specs.Views.{ty_of, qty_of, types_of};
 ghost use Rattle.c65_csem.specs.Places;
-ghost use Rattle.c65_scope.specs.Scopes.{scope_of};
+ghost use Rattle.c65_elab_scope.specs.Scopes.{scope_of};
 ghost use Rattle.c65_tree.specs.View.{declarator_of, init_declarator_of, decl_of, init_of, maybe};
 ghost use Rattle.c65_init.specs.Parameters.{old_of, not_declared, adjusted, may_be_parameter, old_from, entered_at, entered, old_declarator, no_init, old_one, old_declarators, old_declaration, old_declarations};
 
 use crate::declare::is_empty;
 use c65_base::{Code, Name, Pos, Refusal};
-use c65_cells::fault;
 use c65_csem::pointer_to;
 use c65_ctype::{CType, QType, Types};
-use c65_declare::param_storage;
 use c65_elab::{elab_declarator, elab_specifiers, name_place};
-use c65_scope::Scope;
+use c65_elab_declare::param_storage;
+use c65_elab_scope::Scope;
+use c65_init_cells::fault;
 use c65_tree::{Decl, Declarator, InitDeclarator, Initialiser};
 use std::alloc::{AllocError, Global};
 

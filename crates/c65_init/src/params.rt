@@ -2,19 +2,19 @@
 ghost use Rattle.std.specs.Prelude.{◌≡◌, [], map};
 ghost use Rattle.c65_base.specs.Answers.{Gives};
 ghost use Rattle.c65_ctype.specs.Views.{qty_of};
-ghost use Rattle.c65_scope.specs.Scopes.{scope_of};
+ghost use Rattle.c65_elab_scope.specs.Scopes.{scope_of};
 ghost use Rattle.c65_tree.specs.View.{decl_of};
-ghost use Rattle.c65_declare.specs.Declarators.{formal_of, formals_of};
+ghost use Rattle.c65_elab_declare.specs.Declarators.{formal_of, formals_of};
 ghost use Rattle.c65_init.specs.Parameters.{old_of, storage_if, parameter_declared, formal_named, formals_declared, type_or_int, olds_declared, from_names, no_declarations, parameters_of};
 
 use crate::old_style::{Old, no_types, old_declarations};
 use c65_base::{Code, Name, Pos, Refusal};
-use c65_cells::fault;
 use c65_csem::int_type;
 use c65_ctype::QType;
 use c65_elab::{Entity, Formal, Formals};
+use c65_elab_scope::Scope;
+use c65_init_cells::fault;
 use c65_ints::IntType;
-use c65_scope::Scope;
 use c65_tree::{Decl, Storage};
 use std::alloc::Global;
 

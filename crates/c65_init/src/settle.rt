@@ -3,15 +3,15 @@ ghost use Rattle.std.specs.Prelude.{◌≡◌, IfOk, Ok, length, map, option_map
 ghost use Rattle.c65_base.specs.Answers.{Gives};
 ghost use Rattle.c65_ctype.specs.Views.{fn_of};
 ghost use Rattle.c65_csem.specs.Views.{func_of, unit_of};
-ghost use Rattle.c65_scope.specs.Parts.{with_func};
-ghost use Rattle.c65_scope.specs.Scopes.{scope_of};
+ghost use Rattle.c65_elab_scope.specs.Parts.{with_func};
+ghost use Rattle.c65_elab_scope.specs.Scopes.{scope_of};
 ghost use Rattle.c65_init.specs.Settled.{unprototyped, type_settled, function_settled, functions_settled};
 
 use c65_base::Refusal;
-use c65_checked::prototype_matches;
 use c65_csem::{Parts, TFunc};
+use c65_csem_check::prototype_matches;
 use c65_ctype::FnType;
-use c65_scope::Scope;
+use c65_elab_scope::Scope;
 use std::alloc::{AllocError, Global};
 
 /// A function's type without its prototype.

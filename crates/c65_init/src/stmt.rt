@@ -4,7 +4,7 @@ ghost use Rattle.c65_base.specs.Answers.{Gives};
 ghost use Rattle.c65_ctype.specs.Trees.{type_in};
 ghost use Rattle.c65_ctype.specs.Views.{qty_of};
 ghost use Rattle.c65_csem.specs.Views.{typed_of, stmt_of};
-ghost use Rattle.c65_scope.specs.Scopes.{scope_of};
+ghost use Rattle.c65_elab_scope.specs.Scopes.{scope_of};
 ghost use Rattle.c65_tree.specs.Trees as t;
 ghost use Rattle.c65_tree.specs.Trees.{no_stmts};
 ghost use Rattle.c65_tree.specs.View as v;
@@ -18,12 +18,12 @@ use crate::body::{
 use crate::declare::block_locals;
 use crate::values::{folded, given, maybe_test, maybe_unused, test, unused};
 use c65_base::{Name, Pos, Refusal};
-use c65_convert::switch_value;
 use c65_csem::{TExpr, TStmt};
 use c65_ctype::CType;
 use c65_elab::{elab_expr, value_at};
+use c65_elab_convert::switch_value;
+use c65_elab_scope::Scope;
 use c65_ints::IntType;
-use c65_scope::Scope;
 use c65_tree::{Decl, Expr, Stmt, StmtKind};
 use std::alloc::Global;
 

@@ -4,7 +4,7 @@ ghost use Rattle.c65_base.specs.Answers.{Gives};
 ghost use Rattle.c65_ctype.specs.Views.{ty_of};
 ghost use Rattle.c65_csem.specs.Units.{IsUnit};
 ghost use Rattle.c65_csem.specs.Views.{unit_of};
-ghost use Rattle.c65_scope.specs.Scopes.{scope_of};
+ghost use Rattle.c65_elab_scope.specs.Scopes.{scope_of};
 ghost use Rattle.c65_tree.specs.View as v;
 ghost use Rattle.c65_init.specs.Units.{item_in, items_in, is_open_type, is_open_class, is_open_array, array_completed, arrays_completed, unit_in};
 
@@ -12,10 +12,10 @@ use crate::declare::{Locals, declaration};
 use crate::function::definition;
 use crate::settle::settle_functions;
 use c65_base::{Options, Refusal};
-use c65_checked::unit_from;
 use c65_csem::{Class, TUnit};
+use c65_csem_check::unit_from;
 use c65_ctype::CType;
-use c65_scope::Scope;
+use c65_elab_scope::Scope;
 use c65_tree::{Item, Unit};
 use std::alloc::Global;
 

@@ -2,24 +2,24 @@
 ghost use Rattle.std.specs.Prelude.{◌≡◌};
 ghost use Rattle.c65_base.specs.Answers.{Gives};
 ghost use Rattle.c65_ctype.specs.Views.{ty_of};
-ghost use Rattle.c65_convert.specs.Changes.{assigned_of};
+ghost use Rattle.c65_elab_convert.specs.Changes.{assigned_of};
 ghost use Rattle.c65_csem.specs.Views.{typed_of, maybe_of};
 ghost use Rattle.c65_fold.specs.Folded.{folded};
-ghost use Rattle.c65_scope.specs.Scopes.{scope_of};
+ghost use Rattle.c65_elab_scope.specs.Scopes.{scope_of};
 ghost use Rattle.c65_tree.specs.View.{expr_of, maybe};
-ghost use Rattle.c65_cells.specs.Parts.{part_of};
-ghost use Rattle.c65_cells.specs.Sinks.{sink_of};
+ghost use Rattle.c65_init_cells.specs.Parts.{part_of};
+ghost use Rattle.c65_init_cells.specs.Sinks.{sink_of};
 ghost use Rattle.c65_init.specs.Initials.{leaf_of, whole_set};
 ghost use Rattle.c65_init.specs.Values.{value_for, unused_of, maybe_unused, test_of, maybe_test, is_void, given_by, given_of};
 
 use c65_base::{Code, Pos, Refusal};
-use c65_cells::{Part, Sink, fault, set, store_number, store_pointer};
-use c65_convert::{assigned, condition, value};
 use c65_csem::TExpr;
 use c65_ctype::CType;
 use c65_elab::{elab_expr, value_at};
+use c65_elab_convert::{assigned, condition, value};
+use c65_elab_scope::Scope;
 use c65_fold::fold;
-use c65_scope::Scope;
+use c65_init_cells::{Part, Sink, fault, set, store_number, store_pointer};
 use c65_tree::Expr;
 use std::alloc::Global;
 

@@ -5,9 +5,9 @@ use Rattle.std.proofs.lemmas.List.{reverse-append}
 use Rattle.c65_base.specs.declared.refusal.Pos.{Pos}
 use Rattle.c65_parse.specs.declared.frame.Frame as code
 use Rattle.c65_parse.specs.declared.frame.Sort.TheVariants as sorts
-use Rattle.c65_measured.specs.declared.sign.Sign.{Sign}
-use Rattle.c65_measured.specs.declared.sign.Sign.TheVariants as signs
-use Rattle.c65_measured.specs.Listings.{MembersPart}
+use Rattle.c65_parse_trees.specs.declared.sign.Sign.{Sign}
+use Rattle.c65_parse_trees.specs.declared.sign.Sign.TheVariants as signs
+use Rattle.c65_parse_trees.specs.Listings.{MembersPart}
 use Rattle.c65_parse.specs.Frames.{Frame, in_member}
 use Rattle.c65_parse.specs.Declarators.{declarator_step}
 use Rattle.c65_parse.specs.Specifiers.{member_step}

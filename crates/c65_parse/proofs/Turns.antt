@@ -6,7 +6,7 @@ use Rattle.std.proofs.lemmas.List.{drop_all}
 use Rattle.c65_base.specs.Answers.{large}
 use Rattle.c65_base.specs.declared.refusal.Size.TheVariants.{Depth}
 use Rattle.c65_scan.specs.declared.token.Token.{Token}
-use Rattle.c65_scopes.specs.Scopes.{Blocks}
+use Rattle.c65_parse_names.specs.Scopes.{Blocks}
 use Rattle.c65_parse.specs.Frames.{Frame, Held, Next, go, stop, deep, fail}
 use Rattle.c65_parse.specs.declared.frame.Step.{Step}
 use Rattle.c65_parse.specs.Views.{next_of}

@@ -5,8 +5,8 @@ use Rattle.c65_base.specs.declared.names.Name.{Name}
 use Rattle.c65_tree.specs.Trees
 use Rattle.c65_tree.specs.Trees.{DeclaratorTree, SpecifiersTree, TypeTree, no_expr, a_declarator, type_name, and_param, param_types}
 use Rattle.c65_tree.specs.Depth.{declarator_depth}
-use Rattle.c65_measured.specs.declared.sign.Sign.{Sign}
-use Rattle.c65_measured.specs.declared.sign.Sign.TheVariants as signs
+use Rattle.c65_parse_trees.specs.declared.sign.Sign.{Sign}
+use Rattle.c65_parse_trees.specs.declared.sign.Sign.TheVariants as signs
 use Rattle.c65_parse.specs.declared.frame.Change.{Change}
 use Rattle.c65_parse.specs.declared.frame.Change.TheVariants as changes
 use Rattle.c65_parse.specs.declared.frame.Derivation.{Derivation}
@@ -15,8 +15,8 @@ use Rattle.c65_parse.specs.declared.frame.Sort.{Sort}
 use Rattle.c65_parse.specs.declared.frame.Sort.TheVariants as sorts
 use Rattle.c65_parse.specs.declared.frame.TypeUse.{TypeUse}
 use Rattle.c65_parse.specs.declared.frame.TypeUse.TheVariants as uses
-use Rattle.c65_measured.specs.Names.{declared_name}
-use Rattle.c65_measured.specs.Listings.{Listed, MembersPart, ParamsPart, nothing_listed}
+use Rattle.c65_parse_trees.specs.Names.{declared_name}
+use Rattle.c65_parse_trees.specs.Listings.{Listed, MembersPart, ParamsPart, nothing_listed}
 use Rattle.c65_parse.specs.Frames.{Frame, in_operation, in_cast, in_type_declarator, in_member, in_param, in_group, in_derived, in_width, Held, operand, have_expr, member, more_members, declarator, qualifiers, opened_declarator, have_declarator, opened_bound, opened_params, more_params, Next, go, stop, fail, done_declarator}
 use Rattle.c65_parse.specs.Expressions.{goes, within, has_room, with_member, close_member}
 

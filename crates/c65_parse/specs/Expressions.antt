@@ -10,15 +10,15 @@ use Rattle.c65_scan.specs.declared.token.TokenKind.TheVariants as kinds
 use Rattle.c65_tree.specs.Trees
 use Rattle.c65_tree.specs.Trees.{ExprTree, ExprList, no_exprs, and_expr, DeclaratorTree, MaybeDeclarator, MaybeExpr, an_expr, and_member, and_member_decl, and_enumerator}
 use Rattle.c65_tree.specs.Depth.{expr_depth}
-use Rattle.c65_measured.specs.declared.operator.Infix.{Infix}
-use Rattle.c65_measured.specs.declared.operator.Prefix.{Prefix}
-use Rattle.c65_measured.specs.declared.sign.Sign.{Sign}
-use Rattle.c65_measured.specs.declared.sign.Sign.TheVariants as signs
+use Rattle.c65_parse_trees.specs.declared.operator.Infix.{Infix}
+use Rattle.c65_parse_trees.specs.declared.operator.Prefix.{Prefix}
+use Rattle.c65_parse_trees.specs.declared.sign.Sign.{Sign}
+use Rattle.c65_parse_trees.specs.declared.sign.Sign.TheVariants as signs
 use Rattle.c65_parse.specs.declared.frame.Change.TheVariants as changes
-use Rattle.c65_measured.specs.Levels.{level_of, right_of_infix, right_of_prefix}
-use Rattle.c65_measured.specs.Plugs.{infix_tree, prefix_tree}
-use Rattle.c65_measured.specs.Signs.{left_of, rank_of, infix_of, prefix_of}
-use Rattle.c65_measured.specs.Listings.{MembersPart, Body, EnumPart, with_enum, nothing_listed}
+use Rattle.c65_parse_trees.specs.Levels.{level_of, right_of_infix, right_of_prefix}
+use Rattle.c65_parse_trees.specs.Plugs.{infix_tree, prefix_tree}
+use Rattle.c65_parse_trees.specs.Signs.{left_of, rank_of, infix_of, prefix_of}
+use Rattle.c65_parse_trees.specs.Listings.{MembersPart, Body, EnumPart, with_enum, nothing_listed}
 use Rattle.c65_parse.specs.Frames.{Operation, in_prefix, in_cast, in_right, in_else, Frame, in_operation, in_paren, in_index, in_call, in_then, in_bound, in_width, in_value, Held, operand, opened, sizeof_word, called, dotted, have_expr, specifiers, more_members, member, enumerator, have_declarator, Next, go, stop, deep, fail, done_expr}
 
 abbrev pub goes : List Frame → Held → Next

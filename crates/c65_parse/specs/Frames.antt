@@ -3,13 +3,13 @@ use Rattle.std.specs.Prelude.{List, Bool, Option}
 use Rattle.c65_base.specs.declared.refusal.Pos.{Pos}
 use Rattle.c65_base.specs.declared.names.Name.{Name}
 use Rattle.c65_tree.specs.Trees.{ExprTree, ExprList, TypeTree, DeclaratorTree, MaybeDeclarator, SpecifiersTree}
-use Rattle.c65_measured.specs.declared.operator.Infix.{Infix}
-use Rattle.c65_measured.specs.declared.operator.Prefix.{Prefix}
+use Rattle.c65_parse_trees.specs.declared.operator.Infix.{Infix}
+use Rattle.c65_parse_trees.specs.declared.operator.Prefix.{Prefix}
 use Rattle.c65_parse.specs.declared.frame.Sort.{Sort}
 use Rattle.c65_parse.specs.declared.frame.TypeUse.{TypeUse}
 use Rattle.c65_parse.specs.declared.frame.Derivation.{Derivation}
 use Rattle.c65_parse.specs.declared.frame.Change.{Change}
-use Rattle.c65_measured.specs.Listings.{Listing, Listed, TagPart, Body, MembersPart, EnumPart, ParamsPart, NamesPart}
+use Rattle.c65_parse_trees.specs.Listings.{Listing, Listed, TagPart, Body, MembersPart, EnumPart, ParamsPart, NamesPart}
 
 -- an operation that lacks its last operand
 pub data Operation : Type 0 where

@@ -13,19 +13,19 @@ use Rattle.c65_scan.specs.declared.token.TokenKind.{TokenKind}
 use Rattle.c65_scan.specs.declared.token.TokenKind.TheVariants as kinds
 use Rattle.c65_tree.specs.Trees
 use Rattle.c65_tree.specs.Trees.{ExprTree, no_exprs, DeclaratorTree, no_expr, no_params, no_more_params, param_names}
-use Rattle.c65_measured.specs.declared.sign.Sign.{Sign}
-use Rattle.c65_measured.specs.declared.sign.Sign.TheVariants as signs
-use Rattle.c65_measured.specs.declared.sign.Word.TheVariants as words
-use Rattle.c65_measured.specs.declared.operator.Prefix.TheVariants as prefixes
+use Rattle.c65_parse_trees.specs.declared.sign.Sign.{Sign}
+use Rattle.c65_parse_trees.specs.declared.sign.Sign.TheVariants as signs
+use Rattle.c65_parse_trees.specs.declared.sign.Word.TheVariants as words
+use Rattle.c65_parse_trees.specs.declared.operator.Prefix.TheVariants as prefixes
 use Rattle.c65_parse.specs.declared.frame.Change.{Change}
 use Rattle.c65_parse.specs.declared.frame.Change.TheVariants as changes
 use Rattle.c65_parse.specs.declared.frame.Derivation.TheVariants as derivations
 use Rattle.c65_parse.specs.declared.frame.Sort.{Sort}
 use Rattle.c65_parse.specs.declared.frame.TypeUse.TheVariants as uses
-use Rattle.c65_measured.specs.Names.{declared_name}
-use Rattle.c65_measured.specs.Signs.{sign_of, begins_type, begins_specifiers}
-use Rattle.c65_scopes.specs.Scopes.{Blocks, is_type_in, opened as block_opened, closed, with_declared}
-use Rattle.c65_measured.specs.Listings.{Listing, ParamsPart, NamesPart, nothing_listed}
+use Rattle.c65_parse_trees.specs.Names.{declared_name}
+use Rattle.c65_parse_trees.specs.Signs.{sign_of, begins_type, begins_specifiers}
+use Rattle.c65_parse_names.specs.Scopes.{Blocks, is_type_in, opened as block_opened, closed, with_declared}
+use Rattle.c65_parse_trees.specs.Listings.{Listing, ParamsPart, NamesPart, nothing_listed}
 use Rattle.c65_parse.specs.Frames.{Frame, in_operation, in_prefix, in_paren, in_call, in_bound, in_type, in_params, in_group, in_derived, Held, operand, opened, sizeof_word, sizeof_opened, called, dotted, have_expr, specifiers, tag, tag_name, more_members, member, enumerator, enumerator_name, declarator, qualifiers, opened_declarator, have_declarator, opened_bound, opened_params, more_params, ellipsis, names, names_end, Done, Next, go, stop, deep, fail}
 use Rattle.c65_parse.specs.Expressions.{goes, operand_step, expr_step, hole}
 use Rattle.c65_parse.specs.Declarators.{declarator_step, declarator_end, with_params}

@@ -9,9 +9,9 @@ use Rattle.c65_tree.specs.Depth.{specifiers_depth}
 use Rattle.c65_parse.specs.declared.frame.Sort.{Sort}
 use Rattle.c65_parse.specs.declared.frame.Sort.TheVariants as sorts
 use Rattle.c65_parse.specs.declared.state.Parser.{Parser}
-use Rattle.c65_scopes.specs.Scopes.{Blocks}
-use Rattle.c65_scopes.specs.Blocks.{scope_of}
-use Rattle.c65_measured.specs.Listings.{Listed, nothing_listed}
+use Rattle.c65_parse_names.specs.Scopes.{Blocks}
+use Rattle.c65_parse_names.specs.Blocks.{scope_of}
+use Rattle.c65_parse_trees.specs.Listings.{Listed, nothing_listed}
 use Rattle.c65_parse.specs.Frames.{operand, specifiers, declarator, Done, done_expr, done_specifiers, done_declarator}
 use Rattle.c65_parse.specs.Machine.{Reading, run, fault_at}
 

@@ -3,13 +3,13 @@ use Rattle.std.specs.Prelude.{ℕ, List, [], ◌∷◌, Bool, true, false, if◌
 use Rattle.c65_base.specs.declared.refusal.Pos.{Pos}
 use Rattle.c65_base.specs.declared.names.Name.{Name}
 use Rattle.c65_tree.specs.Trees.{no_more_members, no_member_decls, no_more_enumerators, no_declarator, no_expr}
-use Rattle.c65_measured.specs.declared.operator.Infix.TheVariants as infixes
-use Rattle.c65_measured.specs.declared.sign.Sign.{Sign}
-use Rattle.c65_measured.specs.declared.sign.Sign.TheVariants as signs
-use Rattle.c65_measured.specs.declared.sign.TagWord.{TagWord}
-use Rattle.c65_measured.specs.declared.sign.TagWord.TheVariants as tags
+use Rattle.c65_parse_trees.specs.declared.operator.Infix.TheVariants as infixes
+use Rattle.c65_parse_trees.specs.declared.sign.Sign.{Sign}
+use Rattle.c65_parse_trees.specs.declared.sign.Sign.TheVariants as signs
+use Rattle.c65_parse_trees.specs.declared.sign.TagWord.{TagWord}
+use Rattle.c65_parse_trees.specs.declared.sign.TagWord.TheVariants as tags
 use Rattle.c65_parse.specs.declared.frame.Sort.TheVariants as sorts
-use Rattle.c65_measured.specs.Listings.{Listing, Listed, TagPart, Body, MembersPart, EnumPart, nothing_listed, with_storage, with_word, with_typedef_name, with_tag, with_body, ended}
+use Rattle.c65_parse_trees.specs.Listings.{Listing, Listed, TagPart, Body, MembersPart, EnumPart, nothing_listed, with_storage, with_word, with_typedef_name, with_tag, with_body, ended}
 use Rattle.c65_parse.specs.Frames.{Frame, in_type, in_type_declarator, in_members, in_member, in_params, in_param, in_width, in_value, Held, operand, specifiers, tag, tag_name, member, enumerator, enumerator_name, Next, stop, fail, done_specifiers}
 use Rattle.c65_parse.specs.Expressions.{goes, within, has_room, with_enumerator, close_enumerator}
 use Rattle.c65_parse.specs.Declarators.{declarator_step}

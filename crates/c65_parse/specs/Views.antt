@@ -18,9 +18,9 @@ use Rattle.c65_parse.specs.declared.frame.MembersPart.{MembersPart}
 use Rattle.c65_parse.specs.declared.frame.EnumPart.{EnumPart}
 use Rattle.c65_parse.specs.declared.frame.ParamsPart.{ParamsPart}
 use Rattle.c65_parse.specs.declared.frame.NamesPart.{NamesPart}
-use Rattle.c65_measured.specs.Listings
-use Rattle.c65_measured.specs.Lists.{listing_of, listed_of}
-use Rattle.c65_measured.specs.Optional.{option_declarator}
+use Rattle.c65_parse_trees.specs.Listings
+use Rattle.c65_parse_trees.specs.Lists.{listing_of, listed_of}
+use Rattle.c65_parse_trees.specs.Optional.{option_declarator}
 use Rattle.c65_parse.specs.Frames
 
 abbrev pub operation_of : Operation → Frames.Operation

@@ -1,7 +1,7 @@
 // What a token does where a declarator is begun or goes on (C90 6.5.4, 6.5.5).
 ghost use Rattle.std.specs.Prelude.{◌≡◌, IfOk};
 ghost use Rattle.c65_tree.specs.View.{type_of, declarator_of, specifiers_of};
-ghost use Rattle.c65_measured.specs.Lists.{listed_of};
+ghost use Rattle.c65_parse_trees.specs.Lists.{listed_of};
 ghost use Rattle.c65_parse.specs.Declarators;
 ghost use Rattle.c65_parse.specs.Declarators.{close_group, with_type, open_group, declares, with_param, with_params, close_param, close_member_declarator, close_declarator, declarator_end, without_name, declarator_step};
 ghost use Rattle.c65_parse.specs.Views.{frame_of, stack_of, held_of, next_of, members_part_of, params_part_of};
@@ -12,7 +12,7 @@ use crate::frame::{
 };
 use crate::operands::{after_member, enter, go, has_room};
 use c65_base::{Name, Pos};
-use c65_measured::{MeasuredDeclarator, MeasuredExpr, MeasuredSpecifiers, MeasuredType, Sign};
+use c65_parse_trees::{MeasuredDeclarator, MeasuredExpr, MeasuredSpecifiers, MeasuredType, Sign};
 use std::alloc::{AllocError, Global};
 
 /// The declarator behind its suffixes. What stands before it is taken off.

@@ -6,7 +6,7 @@ ghost use Rattle.c65_parse.specs.Declarators.{takes_name, is_optional, derived, 
 ghost use Rattle.c65_parse.specs.Views.{operation_of, frame_of};
 
 use c65_base::{Name, Pos};
-use c65_measured::{
+use c65_parse_trees::{
     EnumeratorList, Infix, Listing, MeasuredDeclarator, MeasuredExpr, MeasuredExprs,
     MeasuredSpecifiers, MeasuredType, MemberDecls, MemberList, ParamList, Prefix, TagWord,
 };

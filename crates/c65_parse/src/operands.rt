@@ -2,18 +2,18 @@
 ghost use Rattle.std.specs.Prelude.{◌≡◌, ◌≤◌, ◌∷◌, IfOk};
 ghost use Rattle.c65_tree.specs.Trees.{no_exprs, an_expr, no_expr, a_declarator};
 ghost use Rattle.c65_tree.specs.View.{expr_of, declarator_of, exprs_from};
-ghost use Rattle.c65_measured.specs.Optional.{option_declarator};
+ghost use Rattle.c65_parse_trees.specs.Optional.{option_declarator};
 ghost use Rattle.c65_parse.specs.Leaves.{leaf_tree};
-ghost use Rattle.c65_measured.specs.Signs.{prefix_of, infix_of};
-ghost use Rattle.c65_measured.specs.Listings.{with_enum};
-ghost use Rattle.c65_measured.specs.Lists.{listing_of};
+ghost use Rattle.c65_parse_trees.specs.Signs.{prefix_of, infix_of};
+ghost use Rattle.c65_parse_trees.specs.Listings.{with_enum};
+ghost use Rattle.c65_parse_trees.specs.Lists.{listing_of};
 ghost use Rattle.c65_parse.specs.Expressions;
 ghost use Rattle.c65_parse.specs.Expressions.{goes, has_room, leaf_of, names_type, begin_by, operand_step, extend_by, expr_step, close_paren, close_index, close_call, close_then, close_bound, close_member, close_enumerator, with_member, with_decl, with_enumerator};
 ghost use Rattle.c65_parse.specs.Views.{frame_of, stack_of, held_of, next_of, members_part_of, body_of, enum_part_of};
 
 use crate::frame::{Body, Change, Done, EnumPart, Frame, Held, MembersPart, Open, Operation, Step};
 use c65_base::{Name, Pos, StepKind};
-use c65_measured::{Listing, MeasuredDeclarator, MeasuredExpr, MeasuredExprs, Sign};
+use c65_parse_trees::{Listing, MeasuredDeclarator, MeasuredExpr, MeasuredExprs, Sign};
 use c65_scan::{Token, TokenKind};
 use c65_tree::Specifier;
 use std::alloc::{AllocError, Global};

@@ -4,9 +4,9 @@ ghost use Rattle.c65_base.specs.Answers.{Gives};
 ghost use Rattle.c65_base.specs.declared.refusal.Refusal.TheVariants.{At, OutOfMemory, TooLarge};
 ghost use Rattle.c65_base.specs.declared.refusal.Size.TheVariants.{Depth};
 ghost use Rattle.c65_tree.specs.View.{expr_of, type_of, specifiers_of, declarator_of};
-ghost use Rattle.c65_scopes.specs.Scopes.{is_type_in, opened, closed, with_declared};
-ghost use Rattle.c65_scopes.specs.Blocks.{scope_of, no_types};
-ghost use Rattle.c65_measured.specs.Lists.{listed_of};
+ghost use Rattle.c65_parse_names.specs.Scopes.{is_type_in, opened, closed, with_declared};
+ghost use Rattle.c65_parse_names.specs.Blocks.{scope_of, no_types};
+ghost use Rattle.c65_parse_trees.specs.Lists.{listed_of};
 ghost use Rattle.c65_parse.specs.Machine.{changed, fault_code, run};
 ghost use Rattle.c65_parse.specs.Views.{held_of, done_of};
 ghost use Rattle.c65_parse.specs.Reading;
@@ -16,9 +16,11 @@ use crate::frame::{Change, Done, Held, Open, Sort, Step};
 use crate::state::Parser;
 use crate::step::take;
 use c65_base::{Code, Name, Pos, Refusal, Size};
-use c65_measured::{Listing, MeasuredDeclarator, MeasuredExpr, MeasuredSpecifiers, MeasuredType};
+use c65_parse_names::Scope;
+use c65_parse_trees::{
+    Listing, MeasuredDeclarator, MeasuredExpr, MeasuredSpecifiers, MeasuredType,
+};
 use c65_scan::{Keyword, Token, TokenKind};
-use c65_scopes::Scope;
 use c65_tree::{Declarator, Expr, Specifiers, TypeName};
 use std::alloc::{AllocError, Global};
 

@@ -1,9 +1,9 @@
 // What a token does among specifiers, members and enumerators (C90 6.5 to 6.5.3).
 ghost use Rattle.std.specs.Prelude.{◌≡◌, IfOk};
 ghost use Rattle.c65_tree.specs.View.{specifiers_of};
-ghost use Rattle.c65_measured.specs.Listings;
-ghost use Rattle.c65_measured.specs.Listings.{with_tag, with_body};
-ghost use Rattle.c65_measured.specs.Lists.{listing_of, listed_of};
+ghost use Rattle.c65_parse_trees.specs.Listings;
+ghost use Rattle.c65_parse_trees.specs.Listings.{with_tag, with_body};
+ghost use Rattle.c65_parse_trees.specs.Lists.{listing_of, listed_of};
 ghost use Rattle.c65_parse.specs.Specifiers;
 ghost use Rattle.c65_parse.specs.Specifiers.{member_step, end_listed, end_specifiers, specifiers_step, is_enum, is_union_word, enum_of, open_body, tag_step, tag_name_step, more_members_step, enumerator_step, enumerator_name_step};
 ghost use Rattle.c65_parse.specs.Views.{frame_of, stack_of, held_of, next_of, tag_part_of, members_part_of, body_of, enum_part_of};
@@ -12,7 +12,7 @@ use crate::declarators::declarator;
 use crate::frame::{Body, Done, EnumPart, Frame, Held, MembersPart, Sort, Step, TagPart};
 use crate::operands::{after_enumerator, enter, go, has_room};
 use c65_base::{Name, Pos};
-use c65_measured::{
+use c65_parse_trees::{
     EnumeratorList, Infix, Listing, MeasuredSpecifiers, MemberDecls, MemberList, Sign, TagWord,
 };
 use c65_tree::Specifier;

@@ -1,8 +1,8 @@
 // Where a parser stands.
 ghost use Rattle.std.specs.Prelude.{◌<◌, length};
 
+use c65_parse_names::Scope;
 use c65_scan::Token;
-use c65_scopes::Scope;
 use std::alloc::Global;
 
 /// Tokens that are being read, and the names that are types there.

@@ -3,8 +3,8 @@ ghost use Rattle.std.specs.Prelude.{◌≡◌, ◌∷◌, [], IfOk};
 ghost use Rattle.c65_tree.specs.View.{expr_of, declarator_of};
 ghost use Rattle.c65_parse.specs.Machine;
 ghost use Rattle.c65_parse.specs.Machine.{opened_step, sizeof_step, sizeof_opened_step, called_step, dotted_step, qualifiers_step, params_step, opened_declarator_step, opened_bound_step, opened_params_step, more_params_step, ellipsis_step, names_step, names_end_step, in_block};
-ghost use Rattle.c65_scopes.specs.Scopes.{is_type_in};
-ghost use Rattle.c65_scopes.specs.Blocks.{scope_of};
+ghost use Rattle.c65_parse_names.specs.Scopes.{is_type_in};
+ghost use Rattle.c65_parse_names.specs.Blocks.{scope_of};
 ghost use Rattle.c65_parse.specs.Views.{stack_of, held_of, next_of, params_part_of, names_part_of};
 
 use crate::declarators::{after_declarator, declarator};
@@ -16,12 +16,12 @@ use crate::specifiers::{
     enumerator, enumerator_name, member, more_members, specifiers, tag, tag_name,
 };
 use c65_base::{Name, Pos};
-use c65_measured::{
+use c65_parse_names::Scope;
+use c65_parse_trees::{
     Listing, MeasuredDeclarator, MeasuredExpr, MeasuredExprs, MeasuredParams, ParamList, Prefix,
     Sign, Word,
 };
 use c65_scan::Token;
-use c65_scopes::Scope;
 use std::alloc::{AllocError, Global};
 
 /// Behind a parenthesis where an operand is needed.

@@ -1,6 +1,6 @@
 // Two units through the whole compiler, up to their code.
 use c65_base::{LinkKind, Options, Refusal, Size, Text};
-use c65_chain::compile;
+use c65_driver_chain::compile;
 use c65_io::mem_files;
 use std::alloc::Global;
 

@@ -3,7 +3,7 @@ use Rattle.std.specs.Prelude.{Some, OnOk}
 use Rattle.c65_tree.specs.declared.expr.Param.{Param}
 use Rattle.c65_tree.specs.declared.expr.Params.{Params}
 use Rattle.c65_tree.specs.View.{params_of}
-use Rattle.c65_scopes.specs.Scopes.{Blocks}
+use Rattle.c65_parse_names.specs.Scopes.{Blocks}
 use Rattle.c65_parse.specs.Reading.{blocks_of}
 use Rattle.c65_decl.specs.Declaring.{with_params, each_param}
 use Rattle.c65_decl.proofs.Declaring.{params_are}

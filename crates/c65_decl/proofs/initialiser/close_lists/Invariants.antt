@@ -1,7 +1,7 @@
 use Rattle.std.proofs.Common.{◌≡◌, vec_len}
 use Rattle.c65_tree.specs.View.{init_of}
 use Rattle.c65_parse.specs.Reading.{rest_of, blocks_of}
-use Rattle.c65_stmts.specs.Views.{lists_of}
+use Rattle.c65_parse_frames.specs.Views.{lists_of}
 use Rattle.c65_decl.specs.Initialisers.{lists_closed}
 use Rattle.c65_decl.proofs.initialiser.close_lists.Given as goal
 

@@ -1,8 +1,8 @@
 use Rattle.std.proofs.Common.{◌≡◌, Ok, ap, ◌∙◌, refl}
 use Rattle.std.proofs.lemmas.Result.{err_from_is_err_and}
 use Rattle.c65_parse.specs.Reading.{rest_of, blocks_of}
-use Rattle.c65_stmts.specs.declared.list.Listed.{Listed}
-use Rattle.c65_stmts.specs.Views.{lists_of, listed_of}
+use Rattle.c65_parse_frames.specs.declared.list.Listed.{Listed}
+use Rattle.c65_parse_frames.specs.Views.{lists_of, listed_of}
 use Rattle.c65_decl.specs.Initialisers.{initialiser_run, initialiser_next, initialiser_step}
 use Rattle.c65_decl.proofs.Turns.{turn, refused}
 use Rattle.c65_decl.proofs.initialiser.initialiser.Goals as goal

@@ -1,6 +1,6 @@
 use Rattle.std.proofs.Common.{◌≡◌, drop}
 use Rattle.c65_parse.specs.Reading.{rest_of, blocks_of}
-use Rattle.c65_stmts.specs.Views.{lists_of}
+use Rattle.c65_parse_frames.specs.Views.{lists_of}
 use Rattle.c65_decl.specs.Initialisers.{initialiser_run, initialiser_read}
 use Rattle.c65_decl.proofs.initialiser.initialiser.Given as goal
 

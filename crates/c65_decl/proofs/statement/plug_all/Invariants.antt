@@ -1,7 +1,7 @@
 use Rattle.std.proofs.Common.{◌≡◌, vec_len}
 use Rattle.c65_tree.specs.View.{stmt_of}
 use Rattle.c65_parse.specs.Reading.{rest_of, blocks_of}
-use Rattle.c65_stmts.specs.Views.{stack_of}
+use Rattle.c65_parse_frames.specs.Views.{stack_of}
 use Rattle.c65_decl.specs.Statements.{all_plugged}
 use Rattle.c65_decl.proofs.statement.plug_all.Given as goal
 

@@ -1,8 +1,8 @@
 use Rattle.std.proofs.Common.{◌≡◌, Ok, ap, ◌∙◌, refl}
 use Rattle.std.proofs.lemmas.Result.{err_from_is_err_and}
 use Rattle.c65_parse.specs.Reading.{rest_of, blocks_of}
-use Rattle.c65_stmts.specs.declared.frame.Reached.{Reached}
-use Rattle.c65_stmts.specs.Views.{stack_of, reached_of}
+use Rattle.c65_parse_frames.specs.declared.frame.Reached.{Reached}
+use Rattle.c65_parse_frames.specs.Views.{stack_of, reached_of}
 use Rattle.c65_decl.specs.Statements.{statement_run, statement_next, statement_step}
 use Rattle.c65_decl.proofs.Turns.{turn, refused}
 use Rattle.c65_decl.proofs.statement.statement.Goals as goal

@@ -1,6 +1,6 @@
 use Rattle.std.proofs.Common.{◌≡◌, drop}
 use Rattle.c65_parse.specs.Reading.{rest_of, blocks_of}
-use Rattle.c65_stmts.specs.Views.{stack_of}
+use Rattle.c65_parse_frames.specs.Views.{stack_of}
 use Rattle.c65_decl.specs.Statements.{statement_run, statement_read}
 use Rattle.c65_decl.proofs.statement.statement.Given as goal
 

@@ -1,7 +1,7 @@
 use Rattle.std.proofs.Common.{◌≡◌, ap, sym, ◌∙◌}
 use Rattle.std.specs.List.{list_any}
 use Rattle.c65_tree.specs.View.{specifier_of}
-use Rattle.c65_grammar.specs.Parts.{is_type_specifier}
+use Rattle.c65_parse_grammar.specs.Parts.{is_type_specifier}
 use Rattle.c65_decl.proofs.Specifying.{type_among}
 use Rattle.c65_decl.proofs.trees.has_type.Goals as goal
 

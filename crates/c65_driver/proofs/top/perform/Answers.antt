@@ -1,6 +1,6 @@
 use Rattle.std.proofs.Common.{◌∙◌, sym, map, string_bytes, refl}
-use Rattle.c65_words.specs.Words.{spelling_of}
-use Rattle.c65_words.specs.declared.command.CommandKind.TheVariants as kinds
+use Rattle.c65_driver_words.specs.Words.{spelling_of}
+use Rattle.c65_driver_words.specs.declared.command.CommandKind.TheVariants as kinds
 use Rattle.c65_driver.specs.Outside.{outside}
 use Rattle.c65_driver.proofs.ToolLaws.{performs_not, performs_by}
 use Rattle.c65_driver.proofs.top.perform.Goals as goal

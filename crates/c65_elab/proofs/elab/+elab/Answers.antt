@@ -4,9 +4,9 @@ use Rattle.std.proofs.lemmas.Int.{ints}
 use Rattle.std.proofs.lemmas.List.{map_push}
 use Rattle.c65_csem.specs.Views.{typed_of, nodes_of}
 use Rattle.c65_ctype.specs.Views.{qty_of, field_of}
-use Rattle.c65_declare.specs.Declarators.{formal_of}
-use Rattle.c65_declare.specs.Drafts.{draft_of}
-use Rattle.c65_scope.specs.Scopes.{scope_of}
+use Rattle.c65_elab_declare.specs.Declarators.{formal_of}
+use Rattle.c65_elab_declare.specs.Drafts.{draft_of}
+use Rattle.c65_elab_scope.specs.Scopes.{scope_of}
 use Rattle.c65_elab.proofs.Listing.{args_walk, args_next, args_refused, drafts_walk, drafts_next, drafts_refused, enums_walk, enums_next, enums_refused, fields_walk, fields_next, fields_refused, members_walk, members_next, members_refused, params_walk, params_next, params_refused, params_many}
 use Rattle.c65_base.specs.declared.refusal.Pos.{Pos}
 use Rattle.c65_base.specs.Answers.{Fails}

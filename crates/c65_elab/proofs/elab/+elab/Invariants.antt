@@ -1,9 +1,9 @@
 use Rattle.std.proofs.Common.{◌≡◌, ◌≤◌, take, map, Ok}
 use Rattle.c65_csem.specs.Views.{nodes_of}
 use Rattle.c65_ctype.specs.Views.{qty_of, field_of}
-use Rattle.c65_declare.specs.Declarators.{formal_of}
-use Rattle.c65_declare.specs.Drafts.{draft_of}
-use Rattle.c65_scope.specs.Scopes.{scope_of}
+use Rattle.c65_elab_declare.specs.Declarators.{formal_of}
+use Rattle.c65_elab_declare.specs.Drafts.{draft_of}
+use Rattle.c65_elab_scope.specs.Scopes.{scope_of}
 use Rattle.c65_elab.proofs.Listing.{args_walk, drafts_walk, enums_walk, fields_walk, members_walk, params_walk}
 use Rattle.c65_elab.proofs.elab.+elab.Given as goal
 

@@ -1,5 +1,5 @@
 use Rattle.std.proofs.Common.{◌≡◌, drop}
-use Rattle.c65_checked.specs.Statements.{has_value}
+use Rattle.c65_csem_check.specs.Statements.{has_value}
 use Rattle.c65_init.proofs.body.has_value.Given as goal
 
 abbrev pub invariant-loop-other : goal.invariant-loop-other

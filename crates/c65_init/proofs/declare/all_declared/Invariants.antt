@@ -1,6 +1,6 @@
 use Rattle.std.proofs.Common.{◌≡◌, drop}
 use Rattle.c65_ctype.specs.Views.{qty_of}
-use Rattle.c65_scope.specs.Scopes.{scope_of}
+use Rattle.c65_elab_scope.specs.Scopes.{scope_of}
 use Rattle.c65_init.specs.Declarations.{locals_of}
 use Rattle.c65_init.proofs.Lists.{begun_walk}
 use Rattle.c65_init.proofs.declare.all_declared.Given as goal

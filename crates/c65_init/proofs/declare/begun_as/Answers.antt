@@ -2,9 +2,9 @@ use Rattle.std.proofs.Common.{subst, rules, arith}
 use Rattle.std.proofs.lemmas.Grind.{common_steps}
 use Rattle.c65_base.specs.Answers.{Fails}
 use Rattle.c65_ctype.specs.Views.{qty_of}
-use Rattle.c65_scope.specs.Scopes.{scope_of}
+use Rattle.c65_elab_scope.specs.Scopes.{scope_of}
 use Rattle.c65_tree.specs.View.{init_of}
-use Rattle.c65_cells.specs.Sinks.{SinkTy}
+use Rattle.c65_init_cells.specs.Sinks.{SinkTy}
 use Rattle.c65_init.specs.Declarations.{locals_of}
 use Rattle.c65_init.specs.Initials.{initial_of}
 use Rattle.c65_init.proofs.Begun.{begun_refused}

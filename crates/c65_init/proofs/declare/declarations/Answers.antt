@@ -1,7 +1,7 @@
 use Rattle.std.proofs.Common.{rules}
 use Rattle.std.proofs.lemmas.Grind.{common_steps}
 use Rattle.std.proofs.Common.{arith}
-use Rattle.c65_scope.specs.Scopes.{scope_of}
+use Rattle.c65_elab_scope.specs.Scopes.{scope_of}
 use Rattle.c65_init.specs.Declarations.{locals_of}
 use Rattle.c65_init.proofs.Lists.{decls_walk, decls_step, decls_steps}
 use Rattle.c65_init.proofs.Walking.{kept, stopped, ended}

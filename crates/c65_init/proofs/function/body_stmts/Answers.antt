@@ -1,6 +1,6 @@
 use Rattle.std.proofs.Common.{◌∙◌, ap, rules, arith}
 use Rattle.std.proofs.lemmas.Grind.{common_steps}
-use Rattle.c65_scope.specs.Scopes.{scope_of}
+use Rattle.c65_elab_scope.specs.Scopes.{scope_of}
 use Rattle.c65_tree.specs.declared.stmt.StmtKind.{StmtKind}
 use Rattle.c65_tree.specs.View.{stmt_at}
 use Rattle.c65_init.specs.Bodies.{body_of}

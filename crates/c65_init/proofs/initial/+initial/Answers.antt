@@ -2,12 +2,12 @@ use Rattle.std.proofs.Common.{◌≡◌, ◌∙◌, List, length, map, ap, optio
 use Rattle.std.proofs.lemmas.Grind.{common_steps}
 use Rattle.c65_base.specs.Answers.{Fails}
 use Rattle.c65_ctype.specs.Views.{qty_of, types_of}
-use Rattle.c65_scope.specs.Scopes.{scope_of}
+use Rattle.c65_elab_scope.specs.Scopes.{scope_of}
 use Rattle.c65_tree.specs.declared.stmt.InitKind.{InitKind}
 use Rattle.c65_tree.specs.declared.stmt.Initialiser.{Initialiser}
 use Rattle.c65_tree.specs.View.{init_of, init_at}
-use Rattle.c65_cells.specs.Parts.{part_of, pair_of, next_member}
-use Rattle.c65_cells.specs.Sinks.{sink_of}
+use Rattle.c65_init_cells.specs.Parts.{part_of, pair_of, next_member}
+use Rattle.c65_init_cells.specs.Sinks.{sink_of}
 use Rattle.c65_init.specs.Initials.{list_of, braced_of, one_of}
 use Rattle.c65_init.proofs.Filling.{element_next, element_unmade, element_refused, elements_done, member_next, member_refused, members_done, braced_list}
 use Rattle.c65_init.proofs.initial.+initial.Goals as goal

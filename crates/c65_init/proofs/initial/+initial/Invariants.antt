@@ -1,8 +1,8 @@
 use Rattle.std.proofs.Common.{◌≡◌, ◌+◌, ◌*◌, ◌-◌, length, map}
 use Rattle.c65_ctype.specs.Views.{qty_of}
-use Rattle.c65_scope.specs.Scopes.{scope_of}
+use Rattle.c65_elab_scope.specs.Scopes.{scope_of}
 use Rattle.c65_tree.specs.View.{init_of}
-use Rattle.c65_cells.specs.Sinks.{sink_of}
+use Rattle.c65_init_cells.specs.Sinks.{sink_of}
 use Rattle.c65_init.specs.Initials.{elements_of, members_of, one_of}
 use Rattle.c65_init.proofs.initial.+initial.Given as goal
 

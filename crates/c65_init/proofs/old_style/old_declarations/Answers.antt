@@ -2,7 +2,7 @@ use Rattle.std.proofs.Common.{rules}
 use Rattle.std.proofs.lemmas.Grind.{common_steps}
 use Rattle.std.proofs.Common.{arith}
 use Rattle.std.proofs.Common.{map}
-use Rattle.c65_scope.specs.Scopes.{scope_of}
+use Rattle.c65_elab_scope.specs.Scopes.{scope_of}
 use Rattle.c65_init.specs.Parameters.{old_of}
 use Rattle.c65_init.proofs.Lists.{old_decls_walk, old_decls_step, old_decls_steps}
 use Rattle.c65_init.proofs.Walking.{kept, stopped, ended}

@@ -1,6 +1,6 @@
 use Rattle.std.proofs.Common.{◌≡◌, drop}
 use Rattle.std.proofs.Common.{map}
-use Rattle.c65_scope.specs.Scopes.{scope_of}
+use Rattle.c65_elab_scope.specs.Scopes.{scope_of}
 use Rattle.c65_init.specs.Parameters.{old_of}
 use Rattle.c65_init.proofs.Lists.{old_decls_walk}
 use Rattle.c65_init.proofs.old_style.old_declarations.Given as goal

@@ -3,7 +3,7 @@ use Rattle.std.proofs.lemmas.Grind.{common_steps}
 use Rattle.std.proofs.Common.{arith}
 use Rattle.c65_ctype.specs.Views.{qty_of}
 use Rattle.std.proofs.Common.{map}
-use Rattle.c65_scope.specs.Scopes.{scope_of}
+use Rattle.c65_elab_scope.specs.Scopes.{scope_of}
 use Rattle.c65_init.specs.Parameters.{old_of}
 use Rattle.c65_init.proofs.Lists.{olds_walk, olds_step, olds_steps}
 use Rattle.c65_init.proofs.Walking.{kept, stopped, ended}

@@ -1,7 +1,7 @@
 use Rattle.std.proofs.Common.{◌≡◌, drop}
 use Rattle.c65_ctype.specs.Views.{qty_of}
 use Rattle.std.proofs.Common.{map}
-use Rattle.c65_scope.specs.Scopes.{scope_of}
+use Rattle.c65_elab_scope.specs.Scopes.{scope_of}
 use Rattle.c65_init.specs.Parameters.{old_of}
 use Rattle.c65_init.proofs.Lists.{olds_walk}
 use Rattle.c65_init.proofs.old_style.old_declarators.Given as goal

@@ -1,6 +1,6 @@
 use Rattle.std.proofs.Common.{◌≡◌, [], map}
-use Rattle.c65_scope.specs.Scopes.{scope_of}
-use Rattle.c65_declare.specs.Declarators.{formal_of}
+use Rattle.c65_elab_scope.specs.Scopes.{scope_of}
+use Rattle.c65_elab_declare.specs.Declarators.{formal_of}
 use Rattle.c65_init.specs.Parameters.{formals_declared}
 use Rattle.c65_init.proofs.params.from_prototype.Given as goal
 

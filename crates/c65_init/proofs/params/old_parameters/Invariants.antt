@@ -1,5 +1,5 @@
 use Rattle.std.proofs.Common.{◌≡◌, [], map}
-use Rattle.c65_scope.specs.Scopes.{scope_of}
+use Rattle.c65_elab_scope.specs.Scopes.{scope_of}
 use Rattle.c65_init.specs.Parameters.{old_of, olds_declared}
 use Rattle.c65_init.proofs.params.old_parameters.Given as goal
 

@@ -3,7 +3,7 @@ use Rattle.std.proofs.lemmas.Grind.{common_steps}
 use Rattle.std.proofs.lemmas.List.{map_push}
 use Rattle.c65_base.specs.Answers.{Fails}
 use Rattle.c65_csem.specs.Views.{stmt_of}
-use Rattle.c65_scope.specs.Scopes.{scope_of}
+use Rattle.c65_elab_scope.specs.Scopes.{scope_of}
 use Rattle.c65_tree.specs.declared.stmt.StmtKind.{StmtKind}
 use Rattle.c65_tree.specs.View.{decl_of, stmt_at}
 use Rattle.c65_elab.proofs.Walks.{whole, fails_bind}

@@ -1,6 +1,6 @@
 use Rattle.std.proofs.Common.{◌≡◌, map, take, Ok}
 use Rattle.c65_csem.specs.Views.{stmt_of}
-use Rattle.c65_scope.specs.Scopes.{scope_of}
+use Rattle.c65_elab_scope.specs.Scopes.{scope_of}
 use Rattle.c65_init.specs.Bodies.{body_of}
 use Rattle.c65_init.proofs.Lists.{stmts_walk}
 use Rattle.c65_init.proofs.stmt.+statement.Given as goal

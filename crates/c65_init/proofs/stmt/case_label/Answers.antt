@@ -2,7 +2,7 @@ use Rattle.std.proofs.Common.{ℤ, rules, subst, w64, arith}
 use Rattle.std.proofs.lemmas.Int.{to_z-of_z, ints}
 use Rattle.c65_base.specs.Answers.{Gives}
 use Rattle.c65_csem.specs.Views.{typed_of}
-use Rattle.c65_scope.specs.Scopes.{scope_of}
+use Rattle.c65_elab_scope.specs.Scopes.{scope_of}
 use Rattle.c65_init.specs.Bodies.{body_of, case_met}
 use Rattle.c65_init.proofs.BodyLaws.{case_labelled}
 use Rattle.c65_init.proofs.stmt.case_label.Goals as goal

@@ -1,7 +1,7 @@
 use Rattle.std.proofs.Common.{rules}
 use Rattle.std.proofs.lemmas.Grind.{common_steps}
 use Rattle.std.proofs.Common.{arith}
-use Rattle.c65_scope.specs.Scopes.{scope_of}
+use Rattle.c65_elab_scope.specs.Scopes.{scope_of}
 use Rattle.c65_init.proofs.Lists.{items_walk, items_step, items_steps}
 use Rattle.c65_init.proofs.Walking.{kept, stopped, ended}
 use Rattle.c65_init.proofs.unit.externals.Goals as goal

@@ -3,7 +3,7 @@ use Rattle.c65_base.specs.Answers.{Gives}
 use Rattle.c65_ctype.specs.declared.types.TagTable.{TagTable}
 use Rattle.c65_ctype.specs.Views.{ty_of, types_of}
 use Rattle.c65_csem.specs.Views.{typed_of}
-use Rattle.c65_convert.specs.Changes.{assigned_of}
+use Rattle.c65_elab_convert.specs.Changes.{assigned_of}
 use Rattle.c65_init.proofs.values.converted.Goals as goal
 
 pub returns : goal.returns

@@ -2,7 +2,7 @@ use Rattle.std.proofs.Common.{◌∙◌, ap, refl, sym, Ok}
 use Rattle.c65_ctype.specs.Views.{ty_of}
 use Rattle.c65_csem.specs.Trees.{Typed}
 use Rattle.c65_csem.specs.Views.{typed_of}
-use Rattle.c65_scope.specs.Scopes.{scope_of}
+use Rattle.c65_elab_scope.specs.Scopes.{scope_of}
 use Rattle.c65_tree.specs.View.{expr_of}
 use Rattle.c65_init.proofs.Valued.{gift_given}
 use Rattle.c65_init.proofs.values.given_value.Goals as goal

@@ -2,7 +2,7 @@ use Rattle.std.proofs.Common.{◌≡◌, IfOk, List, sym, subst}
 use Rattle.c65_tree.specs.View.{expr_of}
 use Rattle.c65_parse.specs.Expressions
 use Rattle.c65_parse.specs.Expressions.{close, close_member, close_enumerator}
-use Rattle.c65_measured.specs.Listings.{MembersPart, EnumPart}
+use Rattle.c65_parse_trees.specs.Listings.{MembersPart, EnumPart}
 use Rattle.c65_parse.specs.Frames.{Frame}
 use Rattle.c65_parse.specs.Views.{next_of, stack_of}
 use Rattle.c65_parse.proofs.Stacks.{innermost_is}

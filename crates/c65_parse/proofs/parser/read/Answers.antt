@@ -1,7 +1,7 @@
 use Rattle.std.proofs.Common.{◌≡◌, List, [], ◌+◌, drop, sym, ap, ◌∙◌, subst}
 use Rattle.c65_scan.specs.declared.token.Token.{Token}
-use Rattle.c65_scopes.specs.Scopes.{Blocks}
-use Rattle.c65_scopes.specs.Blocks.{scope_of}
+use Rattle.c65_parse_names.specs.Scopes.{Blocks}
+use Rattle.c65_parse_names.specs.Blocks.{scope_of}
 use Rattle.c65_base.specs.declared.refusal.Refusal.{Refusal}
 use Rattle.c65_base.specs.Answers.{Fails}
 use Rattle.c65_parse.specs.Machine.{Reading, run}

@@ -1,5 +1,5 @@
 use Rattle.std.proofs.Common.{◌≡◌, drop, []}
-use Rattle.c65_scopes.specs.Blocks.{scope_of}
+use Rattle.c65_parse_names.specs.Blocks.{scope_of}
 use Rattle.c65_parse.specs.Machine.{run}
 use Rattle.c65_parse.specs.Views.{stack_of, held_of}
 use Rattle.c65_parse.proofs.parser.read.Given as goal

@@ -1,7 +1,7 @@
 use Rattle.std.proofs.Common.{◌≡◌, List, [], drop, Ok, ap, ◌∙◌, subst}
 use Rattle.std.proofs.lemmas.List.{drop-drop, take_rest}
 use Rattle.c65_scan.specs.declared.token.Token.{Token}
-use Rattle.c65_scopes.specs.Blocks.{scope_of}
+use Rattle.c65_parse_names.specs.Blocks.{scope_of}
 use Rattle.c65_parse.specs.Machine.{run}
 use Rattle.c65_parse.specs.Views.{done_of, held_of}
 use Rattle.c65_parse.proofs.state.Parser.read.Goals as goal

@@ -1,8 +1,8 @@
 use Rattle.std.proofs.Common.{[], ap, sym, ◌∙◌, subst}
 use Rattle.c65_base.specs.declared.refusal.Refusal.{Refusal}
 use Rattle.c65_base.specs.Answers.{Fails}
-use Rattle.c65_measured.specs.Listings.{Listing, nothing_listed}
-use Rattle.c65_measured.specs.Lists.{listed_of}
+use Rattle.c65_parse_trees.specs.Listings.{Listing, nothing_listed}
+use Rattle.c65_parse_trees.specs.Lists.{listed_of}
 use Rattle.c65_parse.specs.Frames.{specifiers}
 use Rattle.c65_parse.specs.Machine.{run}
 use Rattle.c65_parse.specs.Reading.{rest_of, blocks_of, as_specifiers}

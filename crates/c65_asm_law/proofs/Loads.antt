@@ -1,0 +1,223 @@
+-- The pieces of which the lines of loads, stores and conversions are made.
+use Rattle.std.proofs.Common.{ℕ, ◌+◌, ◌-◌, ◌<◌, ◌^◌, ◌==◌, [], ◌∷◌, ◌++◌, arith, rules}
+use Rattle.std.specs.Prelude.{min}
+use Rattle.c65_base.specs.declared.operators.BinaryOp.{BinaryOp}
+use Rattle.c65_ints.specs.declared.types.IntType.{IntType}
+use Rattle.c65_ints.specs.declared.types.IntType.TheVariants as ints
+use Rattle.c65_ints.specs.Ranges.{is_signed_of}
+use Rattle.c65_code.specs.declared.line.Sym.{Sym}
+use Rattle.c65_code.specs.declared.routine.Routine.TheVariants.{PushAx, LdAi, Tos, Unary}
+use Rattle.c65_code.specs.declared.routine.UnaryRoutine.TheVariants.{Shl1}
+use Rattle.c65_code.specs.declared.routine.TosOp.{TosOp}
+use Rattle.c65_code.specs.declared.routine.TosOp.TheVariants as tos
+use Rattle.c65_code.specs.declared.routine.Width.{Width}
+use Rattle.c65_code.specs.declared.routine.Width.TheVariants.{Ax, Eax}
+use Rattle.c65_genwide.specs.Lines.{call}
+use Rattle.c65_genwide.specs.Wide.{width_of, narrow_code, wide_code, is_comparison}
+use Rattle.c65_genload.specs.declared.places.Extent.{Extent}
+use Rattle.c65_genload.specs.declared.places.Extent.TheVariants.{One, Two, Four}
+use Rattle.c65_genload.specs.declared.places.Field.{Field}
+use Rattle.c65_genload.specs.declared.places.Place.{Place}
+use Rattle.c65_genload.specs.declared.places.Place.TheVariants as places
+use Rattle.c65_genload.specs.declared.places.Access.{Access}
+use Rattle.c65_genload.specs.declared.places.Access.TheVariants.{Whole, Part}
+use Rattle.c65_genload.specs.Places.{byte_more, extent_of}
+use Rattle.c65_genload.specs.Numbers.{number_code, add_word_code, add_by_width, add_code, mask_code, by_code, shift_code, scale_code, divide_code}
+use Rattle.c65_genload.specs.Conversions.{widen_code, convert_code, convert_to, push_code, pass_code, test_code}
+use Rattle.c65_genload.specs.Addresses.{symbol_code, address_code, above_code, raised_code, offset_code}
+use Rattle.c65_genload.specs.Fields.{ones, others, extract_code, aligned_code}
+use Rattle.c65_genload.specs.Loads.{hold_code, bytes_code, load_code}
+use Rattle.c65_genload.specs.Stores.{bytes_store, after_store, under_code, field_store, store_code, copy_code}
+use Rattle.c65_asm_law.proofs.Well.{AllWell, well_append, well_none, well_more, well_if}
+
+-- where a place lies, in numbers of their types
+abbrev pub WellPlace : ℕ → Place → Type 0
+WellPlace n (places.Bank at) = Unit {0}
+WellPlace n (places.Near at) = at < 2 ^ 8
+WellPlace n (places.Data sym at) = (sym.0 < n) × (at < 2 ^ 16)
+WellPlace n places.Far = Unit {0}
+
+-- ---- numbers
+
+pub narrow_well : (n : ℕ) (kind : IntType) → AllWell n (narrow_code kind)
+narrow_well n ints.SChar = record { all = search rules }
+narrow_well n ints.UChar = record { all = search rules }
+narrow_well n ints.Short = well_none n
+narrow_well n ints.UShort = well_none n
+narrow_well n ints.Int = well_none n
+narrow_well n ints.UInt = well_none n
+narrow_well n ints.Long = well_none n
+narrow_well n ints.ULong = well_none n
+
+pub number_well : (n : ℕ) (w : Width) (m : ℕ) → AllWell n (number_code w m)
+number_well n Ax m = record { all = search rules }
+number_well n Eax m = record { all = search rules }
+
+add_word_well : (n m : ℕ) → AllWell n (add_word_code m)
+add_word_well n m = record { all = search rules }
+
+add_width_well : (n : ℕ) (w : Width) (kind : IntType) (m : ℕ) → AllWell n (add_by_width w kind m)
+add_width_well n Ax kind m = well_append n (add_word_code m) (narrow_code kind) (add_word_well n m) (narrow_well n kind)
+add_width_well n Eax kind m = record { all = search rules }
+
+pub add_well : (n : ℕ) (kind : IntType) (m : ℕ) → AllWell n (add_code kind m)
+add_well n kind m = add_width_well n (width_of kind) kind m
+
+mask_well : (n m : ℕ) → AllWell n (mask_code m)
+mask_well n m = record { all = search rules }
+
+by_well : (n : ℕ) (op : TosOp) (m : ℕ) → AllWell n (by_code op m)
+by_well n op m = record { all = search rules }
+
+shift_well : (n : ℕ) (op : TosOp) (m : ℕ) → AllWell n (shift_code op m)
+shift_well n op m = well_if n (m == 0) [] (by_code op m) (well_none n) (by_well n op m)
+
+double_well : (n : ℕ) → AllWell n (call (Unary Shl1 Ax) ∷ [])
+double_well n = record { all = search rules }
+
+pub scale_well : (n m : ℕ) → AllWell n (scale_code m)
+scale_well n m = well_if n (m == 1) [] _ (well_none n) (well_if n (m == 2) (call (Unary Shl1 Ax) ∷ []) (by_code tos.Mul m) (double_well n) (by_well n tos.Mul m))
+
+pub divide_well : (n m : ℕ) → AllWell n (divide_code m)
+divide_well n m = well_if n (m == 1) [] (by_code tos.Div m) (well_none n) (by_well n tos.Div m)
+
+-- ---- addresses
+
+pub symbol_well : (n : ℕ) (s : Sym) (at : ℕ) → s.0 < n → at < 2 ^ 16 → AllWell n (symbol_code s at)
+symbol_well n s at known few = record { all = ((tt, (known, few)), ((tt, (known, few)), tt)) }
+
+pub address_well : (n at : ℕ) → at < 2 ^ 16 → AllWell n (address_code at)
+address_well n at few = record { all = search (rules, few) }
+
+above_well : (n : ℕ) → AllWell n above_code
+above_well n = record { all = search rules }
+
+pub raised_well : (n counter at : ℕ) → counter < 2 ^ 16 → AllWell n (raised_code counter at)
+raised_well n counter at few =
+    let one : AllWell n (call LdAi ∷ []) = record { all = search rules } in
+    well_append n (address_code counter) (call LdAi ∷ (above_code ++ add_code ints.UInt at)) (address_well n counter few) (well_append n (call LdAi ∷ []) (above_code ++ add_code ints.UInt at) one (well_append n above_code (add_code ints.UInt at) (above_well n) (add_well n ints.UInt at)))
+
+pub offset_well : (n m : ℕ) → AllWell n (offset_code m)
+offset_well n m = well_if n (m == 0) [] (add_code ints.UInt m) (well_none n) (add_well n ints.UInt m)
+
+-- ---- conversions
+
+widen_well : (n : ℕ) (kind : IntType) → AllWell n (widen_code kind)
+widen_well n ints.SChar = record { all = search rules }
+widen_well n ints.UChar = record { all = search rules }
+widen_well n ints.Short = record { all = search rules }
+widen_well n ints.UShort = record { all = search rules }
+widen_well n ints.Int = record { all = search rules }
+widen_well n ints.UInt = record { all = search rules }
+widen_well n ints.Long = well_none n
+widen_well n ints.ULong = well_none n
+
+to_well : (n : ℕ) (w : Width) (from to : IntType) → AllWell n (convert_to w from to)
+to_well n Ax from to = narrow_well n to
+to_well n Eax from to = widen_well n from
+
+pub convert_well : (n : ℕ) (from to : IntType) → AllWell n (convert_code from to)
+convert_well n from to = to_well n (width_of to) from to
+
+pub push_well : (n : ℕ) (w : Width) → AllWell n (push_code w)
+push_well n Ax = record { all = search rules }
+push_well n Eax = record { all = search rules }
+
+pub pass_well : (n : ℕ) (kind : IntType) → AllWell n (pass_code kind)
+pass_well n ints.SChar = record { all = search rules }
+pass_well n ints.UChar = record { all = search rules }
+pass_well n ints.Short = record { all = search rules }
+pass_well n ints.UShort = record { all = search rules }
+pass_well n ints.Int = record { all = search rules }
+pass_well n ints.UInt = record { all = search rules }
+pass_well n ints.Long = record { all = search rules }
+pass_well n ints.ULong = record { all = search rules }
+
+pub test_well : (n : ℕ) (w : Width) → AllWell n (test_code w)
+test_well n Ax = record { all = search rules }
+test_well n Eax = record { all = search rules }
+
+-- ---- loads
+
+pub hold_well : (n : ℕ) (place : Place) → AllWell n (hold_code place)
+hold_well n (places.Bank at) = well_none n
+hold_well n (places.Near at) = well_none n
+hold_well n (places.Data s at) = well_none n
+hold_well n places.Far = record { all = search rules }
+
+bytes_well : (n : ℕ) (place : Place) (e : Extent) → WellPlace n place → AllWell n (bytes_code place e)
+bytes_well n (places.Bank at) One h = record { all = search rules }
+bytes_well n (places.Bank at) Two h = record { all = search rules }
+bytes_well n (places.Bank at) Four h = record { all = search rules }
+bytes_well n (places.Near at) One h = record { all = search (rules, h) }
+bytes_well n (places.Near at) Two h = record { all = search rules }
+bytes_well n (places.Near at) Four h = record { all = search rules }
+bytes_well n (places.Data s at) One h = record { all = search (rules, h) }
+bytes_well n (places.Data s at) Two h = record { all = search (rules, h) }
+bytes_well n (places.Data s at) Four h = record { all = search (rules, h) }
+bytes_well n places.Far One h = record { all = search rules }
+bytes_well n places.Far Two h = record { all = search rules }
+bytes_well n places.Far Four h = record { all = search rules }
+
+pub extract_well : (n : ℕ) (g : Field) → AllWell n (extract_code g)
+extract_well n g =
+    well_if n (is_signed_of g.kind) (shift_code tos.Shl (16 - min (g.low + g.width) 16) ++ shift_code tos.Asr (16 - min g.width 16)) (shift_code tos.Shr g.low ++ mask_code (ones g.width))
+    (well_append n _ _ (shift_well n tos.Shl (16 - min (g.low + g.width) 16)) (shift_well n tos.Asr (16 - min g.width 16)))
+    (well_append n _ _ (shift_well n tos.Shr g.low) (mask_well n (ones g.width)))
+
+pub load_well : (n : ℕ) (place : Place) (access : Access) → WellPlace n place → AllWell n (load_code place access)
+load_well n place (Whole kind) h = well_append n (bytes_code place (extent_of kind)) (narrow_code kind) (bytes_well n place (extent_of kind) h) (narrow_well n kind)
+load_well n place (Part field) h = well_append n (bytes_code place Two) (extract_code field) (bytes_well n place Two h) (extract_well n field)
+
+-- ---- stores
+
+bytes_store_well : (n : ℕ) (place : Place) (e : Extent) → WellPlace n place → AllWell n (bytes_store place e)
+bytes_store_well n (places.Bank at) One h = record { all = search rules }
+bytes_store_well n (places.Bank at) Two h = record { all = search rules }
+bytes_store_well n (places.Bank at) Four h = record { all = search rules }
+bytes_store_well n (places.Near at) One h = record { all = search (rules, h) }
+bytes_store_well n (places.Near at) Two h = record { all = search (rules, h) }
+bytes_store_well n (places.Near at) Four h = record { all = search (rules, h) }
+bytes_store_well n (places.Data s at) One h = record { all = search (rules, h) }
+bytes_store_well n (places.Data s at) Two h = record { all = search (rules, h) }
+bytes_store_well n (places.Data s at) Four h = record { all = search (rules, h) }
+bytes_store_well n places.Far One h = record { all = search rules }
+bytes_store_well n places.Far Two h = record { all = search rules }
+bytes_store_well n places.Far Four h = record { all = search rules }
+
+after_store_well : (n : ℕ) (place : Place) (kind : IntType) → AllWell n (after_store place kind)
+after_store_well n (places.Bank at) kind = well_none n
+after_store_well n (places.Near at) kind = well_none n
+after_store_well n (places.Data s at) kind = well_none n
+after_store_well n places.Far kind = narrow_well n kind
+
+under_well : (n : ℕ) (place : Place) → WellPlace n place → AllWell n (under_code place)
+under_well n (places.Bank at) h = bytes_well n (places.Bank at) Two h
+under_well n (places.Near at) h = bytes_well n (places.Near (byte_more at 2)) Two (omega arith)
+under_well n (places.Data s at) h = bytes_well n (places.Data s at) Two h
+under_well n places.Far h = record { all = search rules }
+
+aligned_well : (n : ℕ) (g : Field) → AllWell n (aligned_code g)
+aligned_well n g = well_append n _ _ (mask_well n (ones g.width)) (shift_well n tos.Shl g.low)
+
+field_store_well : (n : ℕ) (place : Place) (g : Field) → WellPlace n place → AllWell n (field_store place g)
+field_store_well n place g h =
+    let push : AllWell n (call PushAx ∷ []) = record { all = search rules } in
+    let join : AllWell n (call (Tos tos.Or Ax) ∷ []) = record { all = search rules } in
+    let last : AllWell n (bytes_store place Two ++ extract_code g) = well_append n (bytes_store place Two) (extract_code g) (bytes_store_well n place Two h) (extract_well n g) in
+    let joined : AllWell n (call (Tos tos.Or Ax) ∷ (bytes_store place Two ++ extract_code g)) = well_append n (call (Tos tos.Or Ax) ∷ []) (bytes_store place Two ++ extract_code g) join last in
+    let masked : AllWell n (mask_code (others g) ++ (call (Tos tos.Or Ax) ∷ (bytes_store place Two ++ extract_code g))) = well_append n (mask_code (others g)) _ (mask_well n (others g)) joined in
+    let under : AllWell n (under_code place ++ (mask_code (others g) ++ (call (Tos tos.Or Ax) ∷ (bytes_store place Two ++ extract_code g)))) = well_append n (under_code place) _ (under_well n place h) masked in
+    well_append n (aligned_code g) _ (aligned_well n g) (well_append n (call PushAx ∷ []) _ push under)
+
+pub store_well : (n : ℕ) (place : Place) (access : Access) → WellPlace n place → AllWell n (store_code place access)
+store_well n place (Whole kind) h = well_append n (bytes_store place (extent_of kind)) (after_store place kind) (bytes_store_well n place (extent_of kind) h) (after_store_well n place kind)
+store_well n place (Part field) h = field_store_well n place field h
+
+pub copy_well : (n m : ℕ) → AllWell n (copy_code m)
+copy_well n m = record { all = search rules }
+
+-- ---- operators
+
+pub wide_well : (n : ℕ) (op : BinaryOp) (kind : IntType) → AllWell n (wide_code op kind)
+wide_well n op kind = well_more n _ _ tt (well_if n (is_comparison op) [] (narrow_code kind) (well_none n) (narrow_well n kind))

@@ -1,7 +1,0 @@
-use Rattle.std.proofs.Common.{◌≡◌, ◌≤◌, drop, length, map, nat_le}
-use Rattle.c65_csem.specs.Views.{typed_of, nodes_of, object_of, func_of, unit_of}
-use Rattle.c65_checked.specs.Expressions as b
-use Rattle.c65_checked.proofs.calls.are_few.Given as goal
-
-abbrev pub invariant-loop-argument : goal.invariant-loop-argument
-invariant-loop-argument l = nat_le (b.argument_bytes (nodes_of (drop l.argument-index l.arguments))) l.left ≡ b.are_few (nodes_of l.arguments)

@@ -1,7 +1,0 @@
-use Rattle.std.proofs.Common.{◌≡◌, ◌≤◌, drop, length, map, nat_le}
-use Rattle.c65_csem.specs.Views.{typed_of, nodes_of, object_of, func_of, unit_of}
-use Rattle.c65_checked.specs.Expressions as b
-use Rattle.c65_checked.proofs.calls.are_passed.Given as goal
-
-abbrev pub invariant-loop-argument : goal.invariant-loop-argument
-invariant-loop-argument l = b.are_passed (nodes_of (drop l.argument-index l.arguments)) ≡ b.are_passed (nodes_of l.arguments)

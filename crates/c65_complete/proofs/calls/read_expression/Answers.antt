@@ -1,8 +1,0 @@
-use Rattle.std.proofs.Common.{arith}
-use Rattle.c65_parse.specs.Reading.{expr_read}
-use Rattle.c65_complete.proofs.Accepted.{accepted}
-use Rattle.c65_complete.proofs.Top.{exprs_are_read}
-use Rattle.c65_complete.proofs.calls.read_expression.Goals as goal
-
-pub returns : goal.returns
-returns c = λ tree front next others are p deep ends. accepted _ c.parse_expr.result (expr_read 256 0 _) _ _ _ c.parse_expr.ensures are (exprs_are_read 256 0 _ _ tree front next others p.1 p.0 deep (omega arith) ends)

@@ -1,5 +1,0 @@
-use Rattle.c65_complete.proofs.Top.{declarators_are_read}
-use Rattle.c65_complete.proofs.laws.declarators_are_read.Goals as goal
-
-pub returns : goal.returns
-returns c = declarators_are_read

@@ -1,5 +1,0 @@
-use Rattle.c65_complete.proofs.Top.{exprs_are_read}
-use Rattle.c65_complete.proofs.laws.expressions_are_read.Goals as goal
-
-pub returns : goal.returns
-returns c = exprs_are_read

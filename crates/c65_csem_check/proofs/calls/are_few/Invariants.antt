@@ -1,0 +1,7 @@
+use Rattle.std.proofs.Common.{◌≡◌, ◌≤◌, drop, length, map, nat_le}
+use Rattle.c65_csem.specs.Views.{typed_of, nodes_of, object_of, func_of, unit_of}
+use Rattle.c65_csem_check.specs.Expressions as b
+use Rattle.c65_csem_check.proofs.calls.are_few.Given as goal
+
+abbrev pub invariant-loop-argument : goal.invariant-loop-argument
+invariant-loop-argument l = nat_le (b.argument_bytes (nodes_of (drop l.argument-index l.arguments))) l.left ≡ b.are_few (nodes_of l.arguments)

@@ -1,0 +1,7 @@
+use Rattle.std.proofs.Common.{◌≡◌, ◌≤◌, ◌+◌, ◌++◌, min, drop, length, map, nat_le}
+use Rattle.c65_csem.specs.Views.{typed_of, nodes_of, stmts_of, unit_of}
+use Rattle.c65_csem.specs.Statements
+use Rattle.c65_csem_check.proofs.labels.+cases.Given as goal
+
+abbrev pub invariant-add_cases_in-loop-stmt : goal.invariant-add_cases_in-loop-stmt
+invariant-add_cases_in-loop-stmt l = l.cases.items ++ Statements.cases_in (stmts_of (drop l.stmt-index l.stmts)) ≡ l.fn.cases.items ++ Statements.cases_in (stmts_of l.stmts)

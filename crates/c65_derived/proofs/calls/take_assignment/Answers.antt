@@ -1,7 +1,0 @@
-use Rattle.std.proofs.Common.{arith}
-use Rattle.c65_derived.proofs.Answered.{if_gives}
-use Rattle.c65_derived.proofs.Derivations.{exprs_are_derived}
-use Rattle.c65_derived.proofs.calls.take_assignment.Goals as goal
-
-pub returns : goal.returns
-returns c = if_gives _ _ c.parse_assignment.result _ c.parse_assignment.ensures (λ e same. exprs_are_derived 256 1 _ _ _ _ _ _ (omega arith) same)

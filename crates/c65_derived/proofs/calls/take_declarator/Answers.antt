@@ -1,8 +1,0 @@
-use Rattle.std.proofs.Common.{true}
-use Rattle.c65_parse.specs.declared.frame.Sort.TheVariants.{Named}
-use Rattle.c65_derived.proofs.Answered.{if_gives}
-use Rattle.c65_derived.proofs.Derivations.{declarators_are_derived}
-use Rattle.c65_derived.proofs.calls.take_declarator.Goals as goal
-
-pub returns : goal.returns
-returns c = if_gives _ _ c.parse_declarator.result _ c.parse_declarator.ensures (λ d same. declarators_are_derived 256 (Named true) _ _ _ _ _ _ same)

@@ -1,5 +1,0 @@
-use Rattle.c65_derived.proofs.Derivations.{exprs_are_derived}
-use Rattle.c65_derived.proofs.laws.expressions_are_derived.Goals as goal
-
-pub returns : goal.returns
-returns c = exprs_are_derived

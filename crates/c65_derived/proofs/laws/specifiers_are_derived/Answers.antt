@@ -1,5 +1,0 @@
-use Rattle.c65_derived.proofs.Derivations.{specifiers_are_derived}
-use Rattle.c65_derived.proofs.laws.specifiers_are_derived.Goals as goal
-
-pub returns : goal.returns
-returns c = specifiers_are_derived

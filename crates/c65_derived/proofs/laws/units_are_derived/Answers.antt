@@ -1,9 +1,0 @@
-use Rattle.c65_derived.proofs.Units.{units_are_derived}
-use Rattle.c65_derived.proofs.Small.{units_are_units}
-use Rattle.c65_derived.proofs.laws.units_are_derived.Goals as goal
-
-pub returns-clause-derived : goal.returns-clause-derived
-returns-clause-derived c = units_are_derived
-
-pub returns-clause-within : goal.returns-clause-within
-returns-clause-within c = units_are_units

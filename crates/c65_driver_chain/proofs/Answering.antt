@@ -1,0 +1,148 @@
+-- What files are together, stage after stage.
+use Rattle.std.proofs.lemmas.Bool.{le-ltb}
+use Rattle.std.proofs.lemmas.List.{map-append}
+use Rattle.std.proofs.Common.{◌≡◌, ◌≤◌, ◌↔◌, ◌∙◌, map, IfOk, IsTrue, ℕ, ◌⊎◌, inl, inr, Bool, true, List, [], ◌∷◌, ◌++◌, length, nat_lt, Result, Ok, Err, refl, sym, ap, subst}
+use Rattle.c65_base.specs.declared.options.Options.{Options}
+use Rattle.c65_base.specs.declared.refusal.Refusal.{Refusal}
+use Rattle.c65_base.specs.declared.refusal.Refusal.TheVariants as refusals
+use Rattle.c65_base.specs.declared.refusal.Size.TheVariants as sizes
+use Rattle.c65_base.specs.Answers.{Fault, Fails, Gives, ◌>>=◌}
+use Rattle.c65_lex.specs.declared.token.PpToken.{PpToken}
+use Rattle.c65_lex.specs.declared.token.PpUnit.{PpUnit}
+use Rattle.c65_scan.specs.declared.token.Token.{Token}
+use Rattle.c65_scan.specs.Tokens.{tokens_of}
+use Rattle.c65_decl.specs.Units.{unit_read}
+use Rattle.c65_tree.specs.Trees.{UnitTree}
+use Rattle.c65_csem.specs.declared.items.Parts.{Parts}
+use Rattle.c65_csem.specs.Trees.{UnitTy}
+use Rattle.c65_csem.specs.Units.{IsProgram}
+use Rattle.c65_csem.specs.Views.{unit_of}
+use Rattle.c65_init.specs.Units.{unit_in}
+use Rattle.c65_init_join.specs.Answers as joins
+use Rattle.c65_init_join.specs.Joined.{joined}
+use Rattle.c65_csem_names.specs.Programs.{IsScopedProgram}
+use Rattle.c65_code.specs.declared.code.Code.{Code}
+use Rattle.c65_genstmt.specs.Programs.{program_of}
+use Rattle.c65_ppdir.specs.Relations.{Answers, just, by_test, ◌then◌, IsFree, Comes}
+use Rattle.c65_ppdir.specs.Units.{preprocessed}
+use Rattle.c65_ppdir.proofs.Relations.{goes, goes_on, stops_first}
+use Rattle.c65_driver_chain.specs.Front.{typed, in_file, Command, file_typed, files_typed, joining, generated, linked, compiled, IsMade, Located, Passed}
+
+-- the first answer is a refusal
+stops : {A B : Type 0} (P : Answers A) (f : A → Answers B) (e : Refusal) → IsFree e ⊎ P (Err e) → IsFree e ⊎ (P then f) (Err e)
+stops {A} {B} P f e h = stops_first {X = A} {Y = B} (λ x. x) (λ x. x) P f e h
+
+-- ---- one file
+
+fails_on : {A B : Type 0} (e : Refusal) (y : Result A Fault) (f : A → Result B Fault) → Fails e y → Fails e (y >>= f)
+fails_on refusals.OutOfMemory y f h = tt
+fails_on (refusals.At code p) y f h = ap (λ z. z >>= f) h
+fails_on (refusals.TooLarge limit value) y f h = ap (λ z. z >>= f) h
+fails_on e y f h = absurd h
+
+pub not_scanned : (names : List (List ℕ)) (signed : Bool) (ts : List PpToken) (e : Refusal) → Fails e (tokens_of names ts) → Fails e (typed names signed ts)
+not_scanned names signed ts e h = fails_on e (tokens_of names ts) (λ tokens. unit_read 256 tokens >>= (λ tree. unit_in tree signed)) h
+
+pub not_parsed : (names : List (List ℕ)) (signed : Bool) (ts : List PpToken) (tokens : List Token) (e : Refusal) → tokens_of names ts ≡ Ok tokens → Fails e (unit_read 256 tokens) → Fails e (typed names signed ts)
+not_parsed names signed ts tokens e scanned h =
+    let all : Fails e (unit_read 256 tokens >>= (λ tree. unit_in tree signed)) = fails_on e (unit_read 256 tokens) (λ tree. unit_in tree signed) h in
+    subst (λ (y : Result (List Token) Fault). Fails e (y >>= (λ tokens. unit_read 256 tokens >>= (λ tree. unit_in tree signed)))) (sym scanned) all
+
+pub is_typed : {X : Type 0} (view : X → UnitTy) (names : List (List ℕ)) (signed : Bool) (ts : List PpToken) (tokens : List Token) (tree : UnitTree) (r : Result X Refusal)
+    → tokens_of names ts ≡ Ok tokens → unit_read 256 tokens ≡ Ok tree → Gives view r (unit_in tree signed) → Gives view r (typed names signed ts)
+is_typed view names signed ts tokens tree r scanned parsed h =
+    let behind : Gives view r (unit_read 256 tokens >>= (λ tree. unit_in tree signed)) = subst (λ (y : Result UnitTree Fault). Gives view r (y >>= (λ tree. unit_in tree signed))) (sym parsed) h in
+    subst (λ (y : Result (List Token) Fault). Gives view r (y >>= (λ tokens. unit_read 256 tokens >>= (λ tree. unit_in tree signed)))) (sym scanned) behind
+
+-- a stage's refusal is one of the file, or want of memory
+in_file_stops : {A : Type 0} (paths : List (List ℕ)) (e r : Refusal) (y : Result A Fault) → Fails e y → Located paths e r → IsFree r ⊎ in_file paths y (Err r)
+in_file_stops {A} paths (refusals.At code p) r y h located = inr (subst (λ (x : Result A Fault). in_file paths x (Err r)) (sym h) (ap Err located))
+in_file_stops {A} paths (refusals.TooLarge limit value) r y h (inl same) = inr (subst (λ (x : Result A Fault). in_file paths x (Err r)) (sym h) (ap Err same))
+in_file_stops {A} paths (refusals.TooLarge limit value) r y h (inr memory) = inl (subst IsFree (sym memory) tt)
+in_file_stops {A} paths refusals.OutOfMemory r y h located = inl (subst IsFree (sym located) tt)
+in_file_stops {A} paths e r y h located = absurd h
+
+in_file_goes : {A : Type 0} (paths : List (List ℕ)) (y : Result A Fault) (a : A) → y ≡ Ok a → in_file paths y (Ok a)
+in_file_goes {A} paths y a h = subst (λ (x : Result A Fault). in_file paths x (Ok a)) (sym h) refl
+
+pub file_stops : (c : Command) (path : List ℕ) (names : List (List ℕ)) (e : Refusal) → IsFree e ⊎ preprocessed c.held c.options c.defines c.folders path names (Err e) → IsFree e ⊎ file_typed c path names (Err e)
+file_stops c path names e h = stops (preprocessed c.held c.options c.defines c.folders path names) (λ x. in_file x.0.files (typed x.1 c.options.signed_chars x.0.tokens) then λ t. just (Ok (t, x.1))) e h
+
+pub file_refused : (c : Command) (path : List ℕ) (names known : List (List ℕ)) (u : PpUnit) (e r : Refusal) → preprocessed c.held c.options c.defines c.folders path names (Ok (u, known)) → Fails e (typed known c.options.signed_chars u.tokens) → Located u.files e r → IsFree r ⊎ file_typed c path names (Err r)
+file_refused c path names known u e r before h located =
+    let here = in_file_stops u.files e r (typed known c.options.signed_chars u.tokens) h located in
+    goes_on {X = UnitTy × List (List ℕ)} (λ x. x) (preprocessed c.held c.options c.defines c.folders path names) (λ x. in_file x.0.files (typed x.1 c.options.signed_chars x.0.tokens) then λ t. just (Ok (t, x.1))) (u, known) (Err r) before
+    (stops (in_file u.files (typed known c.options.signed_chars u.tokens)) (λ t. just (Ok (t, known))) r here)
+
+pub file_comes : (c : Command) (path : List ℕ) (names known : List (List ℕ)) (u : PpUnit) (t : UnitTy) → preprocessed c.held c.options c.defines c.folders path names (Ok (u, known)) → typed known c.options.signed_chars u.tokens ≡ Ok t → file_typed c path names (Ok (t, known))
+file_comes c path names known u t before h = ((u, known), before, (t, in_file_goes u.files (typed known c.options.signed_chars u.tokens) t h, refl))
+
+-- ---- all files
+
+pub files_stop : (c : Command) (path : List ℕ) (paths all : List (List ℕ)) (done : List UnitTy) (names : List (List ℕ)) (e : Refusal) → all ≡ path ∷ paths → IsFree e ⊎ file_typed c path names (Err e) → IsFree e ⊎ files_typed c all done names (Err e)
+files_stop c path paths all done names e is h = subst (λ (l : List (List ℕ)). IsFree e ⊎ files_typed c l done names (Err e)) (sym is) (stops (file_typed c path names) (λ x. files_typed c paths (done ++ x.0 ∷ []) x.1) e h)
+
+pub files_go : (c : Command) (path : List ℕ) (paths all : List (List ℕ)) (done : List UnitTy) (names known : List (List ℕ)) (t : UnitTy) (z : Result (List UnitTy × List (List ℕ)) Refusal)
+    → all ≡ path ∷ paths → file_typed c path names (Ok (t, known)) → files_typed c paths (done ++ t ∷ []) known z → files_typed c all done names z
+files_go c path paths all done names known t z is h rest = subst (λ (l : List (List ℕ)). files_typed c l done names z) (sym is) (goes (file_typed c path names) (λ x. files_typed c paths (done ++ x.0 ∷ []) x.1) (t, known) z h rest)
+
+pub one_unit_more : (units : List Parts) (unit : Parts) (more : List Parts) → more ≡ units ++ unit ∷ [] → map unit_of more ≡ map unit_of units ++ unit_of unit ∷ []
+one_unit_more units unit more h = ap (map unit_of) h ∙ map-append unit_of units (unit ∷ [])
+
+-- ---- the program
+
+joining_goes : {A : Type 0} (y : Result A joins.JoinFault) (a : A) → y ≡ Ok a → joining y (Ok a)
+joining_goes {A} y a h = subst (λ (x : Result A joins.JoinFault). joining x (Ok a)) (sym h) refl
+
+joining_stops : {A : Type 0} (y : Result A joins.JoinFault) (e : Refusal) → joins.Fails e y → IsFree e ⊎ joining y (Err e)
+joining_stops {A} y refusals.OutOfMemory h = inl tt
+joining_stops {A} y (refusals.Link kind name) h = inr (subst (λ (x : Result A joins.JoinFault). joining x (Err (refusals.Link kind name))) (sym h) refl)
+joining_stops {A} y e h = absurd h
+
+pub not_joined : (o : Options) (units : List UnitTy) (names : List (List ℕ)) (e : Refusal) → joins.Fails e (joined names units) → IsFree e ⊎ linked o units names (Err e)
+not_joined o units names e h = stops (joining (joined names units)) (generated o names) e (joining_stops (joined names units) e h)
+
+generated_comes : (o : Options) (names : List (List ℕ)) (parts : Parts) (main : ℕ) (r : Result Code Refusal) → Gives (λ c. c) r (program_of parts main names o.register_vars) → Comes (λ c. c) (generated o names (unit_of parts, main)) r
+generated_comes o names parts main (Ok code) h = (parts, refl, h)
+generated_comes o names parts main (Err e) h = inr (parts, refl, h)
+
+pub linked_comes : (o : Options) (units : List UnitTy) (names : List (List ℕ)) (parts : Parts) (main : ℕ) (r : Result Code Refusal) → joined names units ≡ Ok (unit_of parts, main) → Gives (λ c. c) r (program_of parts main names o.register_vars) → Comes (λ c. c) (linked o units names) r
+linked_comes o units names parts main r joined_is h = goes_on (λ c. c) (joining (joined names units)) (generated o names) (unit_of parts, main) r (joining_goes (joined names units) (unit_of parts, main) joined_is) (generated_comes o names parts main r h)
+
+-- the code is of a well typed program whose names are in scope
+pub is_made : (o : Options) (names : List (List ℕ)) (parts : Parts) (main : ℕ) (r : Result Code Refusal) → IsProgram (unit_of parts) main → IsScopedProgram (unit_of parts) main → Gives (λ c. c) r (program_of parts main names o.register_vars) → IfOk r (IsMade o)
+is_made o names parts main (Ok code) well scoped h = record { parts = parts; main = main; names = names; well_typed = well; scoped = scoped; generated = h }
+is_made o names parts main (Err e) well scoped h = tt
+
+pub tested_so : {E P : Type 0} (r : Result Bool E) (so : Bool) → r ≡ Ok so → so ≡ true → IfOk r (λ (b : Bool). IsTrue b ↔ P) → P
+tested_so {E} {P} r so is true_is both =
+    let met : IsTrue so ↔ P = subst (λ (x : Result Bool E). IfOk x (λ (b : Bool). IsTrue b ↔ P)) is both in
+    met.0 true_is
+
+-- a refusal of joining or generating, seen from outside
+pub passes : {A : Type 0} (P : Answers A) (e r : Refusal) → IsFree e ⊎ P (Err e) → Passed e r → IsFree r ⊎ P (Err r)
+passes P (refusals.Link kind name) r h same = subst (λ (x : Refusal). IsFree x ⊎ P (Err x)) (sym same) h
+passes P (refusals.TooLarge limit value) r h (inl same) = subst (λ (x : Refusal). IsFree x ⊎ P (Err x)) (sym same) h
+passes P (refusals.TooLarge limit value) r h (inr memory) = inl (subst IsFree (sym memory) tt)
+passes P e r h memory = inl (subst IsFree (sym memory) tt)
+
+-- ---- the whole
+
+pub too_many : (c : Command) (paths : List (List ℕ)) → nat_lt 64 (length paths) ≡ true → compiled c paths (Err (refusals.TooLarge sizes.Units (length paths)))
+too_many c paths h = subst (λ (b : Bool). by_test b (just (Err (refusals.TooLarge sizes.Units (length paths)))) (files_typed c paths [] [] then λ x. linked c.options x.0 x.1) (Err (refusals.TooLarge sizes.Units (length paths)))) (sym h) refl
+
+few : (c : Command) (paths : List (List ℕ)) (z : Result Code Refusal) → length paths ≤ 64 → (files_typed c paths [] [] then λ x. linked c.options x.0 x.1) z → compiled c paths z
+few c paths z h = subst (λ (b : Bool). (files_typed c paths [] [] then λ x. linked c.options x.0 x.1) z → by_test b (just (Err (refusals.TooLarge sizes.Units (length paths)))) (files_typed c paths [] [] then λ x. linked c.options x.0 x.1) z) (sym (le-ltb 64 (length paths) h)) (λ x. x)
+
+few_err : (c : Command) (paths : List (List ℕ)) (e : Refusal) → length paths ≤ 64 → IsFree e ⊎ (files_typed c paths [] [] then λ x. linked c.options x.0 x.1) (Err e) → IsFree e ⊎ compiled c paths (Err e)
+few_err c paths e h (inl free) = inl free
+few_err c paths e h (inr stops) = inr (few c paths (Err e) h stops)
+
+pub not_typed : (c : Command) (paths : List (List ℕ)) (e : Refusal) → length paths ≤ 64 → IsFree e ⊎ files_typed c paths [] [] (Err e) → IsFree e ⊎ compiled c paths (Err e)
+not_typed c paths e h stopped = few_err c paths e h (stops (files_typed c paths [] []) (λ x. linked c.options x.0 x.1) e stopped)
+
+pub not_linked : (c : Command) (paths : List (List ℕ)) (units : List UnitTy) (names : List (List ℕ)) (e r : Refusal) → length paths ≤ 64 → files_typed c paths [] [] (Ok (units, names)) → IsFree e ⊎ linked c.options units names (Err e) → Passed e r → IsFree r ⊎ compiled c paths (Err r)
+not_linked c paths units names e r h before stopped passed = few_err c paths r h (goes_on {X = Code} (λ x. x) (files_typed c paths [] []) (λ x. linked c.options x.0 x.1) (units, names) (Err r) before (passes (linked c.options units names) e r stopped passed))
+
+pub is_compiled : (c : Command) (paths : List (List ℕ)) (units : List UnitTy) (names : List (List ℕ)) (code : Code) → length paths ≤ 64 → files_typed c paths [] [] (Ok (units, names)) → linked c.options units names (Ok code) → compiled c paths (Ok code)
+is_compiled c paths units names code h before is = few c paths (Ok code) h ((units, names), before, is)

@@ -1,0 +1,100 @@
+-- What told files are together: the code of their program, or the first refusal in the order of the stages
+-- (C90 5.1.1.2, phases 1 to 8).
+use Rattle.std.specs.Prelude.{◌≡◌, ◌⊎◌, ℕ, Bool, List, [], ◌∷◌, ◌++◌, length, nat_lt, Result, Ok, Err}
+use Rattle.c65_base.specs.declared.options.Options.{Options}
+use Rattle.c65_base.specs.declared.refusal.Refusal.{Refusal}
+use Rattle.c65_base.specs.declared.refusal.Refusal.TheVariants as refusals
+use Rattle.c65_base.specs.declared.refusal.Size.TheVariants as sizes
+use Rattle.c65_base.specs.Answers.{Fault, at, large, ◌>>=◌}
+use Rattle.c65_lex.specs.declared.token.PpToken.{PpToken}
+use Rattle.c65_ppdir.specs.declared.command.Define.{Define}
+use Rattle.c65_ppdir.specs.Finding.{path_at}
+use Rattle.c65_ppdir.specs.Relations.{Answers, just, of, by_test, ◌then◌}
+use Rattle.c65_ppdir.specs.Units.{Held, preprocessed}
+use Rattle.c65_scan.specs.Tokens.{tokens_of}
+use Rattle.c65_decl.specs.Units.{unit_read}
+use Rattle.c65_csem.specs.declared.items.Parts.{Parts}
+use Rattle.c65_csem.specs.Trees.{UnitTy}
+use Rattle.c65_csem.specs.Units.{IsProgram}
+use Rattle.c65_csem.specs.Views.{unit_of}
+use Rattle.c65_init.specs.Units.{unit_in}
+use Rattle.c65_init_join.specs.Answers.{JoinFault}
+use Rattle.c65_init_join.specs.Joined.{joined}
+use Rattle.c65_csem_names.specs.Programs.{IsScopedProgram}
+use Rattle.c65_code.specs.declared.code.Code.{Code}
+use Rattle.c65_genstmt.specs.Programs.{program_of}
+
+-- ---- one file
+
+-- the typed parts of a unit's tokens, whose spellings are in this table
+abbrev pub typed : List (List ℕ) → Bool → List PpToken → Result UnitTy Fault
+typed names signed_chars ts = do
+  tokens ← tokens_of names ts
+  tree ← unit_read 256 tokens
+  unit_in tree signed_chars
+
+-- a fault has the path of its file in the place of the number
+abbrev pub in_file : {A : Type 0} → List (List ℕ) → Result A Fault → Answers A
+in_file paths (Ok x) = just (Ok x)
+in_file paths (Err (at code p)) = just (Err (refusals.Source code (path_at paths p.file) p.line))
+in_file paths (Err (large limit value)) = just (Err (refusals.TooLarge limit value))
+
+-- what stays the same for all files: what each path holds, the options, the definitions, and the folders of headers
+pub record Command : Type 0 where
+  pub held : Held
+  pub options : Options
+  pub defines : List Define
+  pub folders : List (List ℕ)
+
+abbrev pub command : Held → Options → List Define → List (List ℕ) → Command
+command held options defines folders = record { held = held; options = options; defines = defines; folders = folders }
+
+-- the typed parts of a file, and the spellings that are known behind it
+abbrev pub file_typed : Command → List ℕ → List (List ℕ) → Answers (UnitTy × List (List ℕ))
+file_typed c path names = preprocessed c.held c.options c.defines c.folders path names then λ x. in_file x.0.files (typed x.1 c.options.signed_chars x.0.tokens) then λ u. just (Ok (u, x.1))
+
+-- ---- all files
+
+-- behind these parts, those of more files, each in its turn
+abbrev pub files_typed : Command → List (List ℕ) → List UnitTy → List (List ℕ) → Answers (List UnitTy × List (List ℕ))
+files_typed c [] done names = just (Ok (done, names))
+files_typed c (path ∷ paths) done names = file_typed c path names then λ x. files_typed c paths (done ++ x.0 ∷ []) x.1
+
+-- a fault of joining, at a name
+abbrev pub joining : {A : Type 0} → Result A JoinFault → Answers A
+joining (Ok x) = just (Ok x)
+joining (Err f) = just (Err (refusals.Link f.kind f.name))
+
+-- the code of a program that is made of such parts
+abbrev pub generated : Options → List (List ℕ) → UnitTy × ℕ → Answers Code
+generated o names p z = (parts : Parts) × (unit_of parts ≡ p.0) × of (program_of parts p.1 names o.register_vars) z
+
+abbrev pub linked : Options → List UnitTy → List (List ℕ) → Answers Code
+linked o units names = joining (joined names units) then generated o names
+
+-- at most 64 files are compiled
+abbrev pub compiled : Command → List (List ℕ) → Answers Code
+compiled c paths = by_test (nat_lt 64 (length paths)) (just (Err (refusals.TooLarge sizes.Units (length paths)))) (files_typed c paths [] [] then λ x. linked c.options x.0 x.1)
+
+-- what each code is made of: a well typed program whose names are in scope
+pub record IsMade (o : Options) (code : Code) : Type 0 where
+  pub parts : Parts
+  pub main : ℕ
+  pub names : List (List ℕ)
+  pub well_typed : IsProgram (unit_of parts) main
+  pub scoped : IsScopedProgram (unit_of parts) main
+  pub generated : program_of parts main names o.register_vars ≡ Ok code
+
+-- ---- refusals of one stage, seen from outside
+
+-- with the path of a file
+abbrev pub Located : List (List ℕ) → Refusal → Refusal → Type 0
+Located paths (refusals.At code p) r = r ≡ refusals.Source code (path_at paths p.file) p.line
+Located paths (refusals.TooLarge limit value) r = (r ≡ refusals.TooLarge limit value) ⊎ (r ≡ refusals.OutOfMemory)
+Located paths e r = r ≡ refusals.OutOfMemory
+
+-- of a stage that sees all files
+abbrev pub Passed : Refusal → Refusal → Type 0
+Passed (refusals.Link kind name) r = r ≡ refusals.Link kind name
+Passed (refusals.TooLarge limit value) r = (r ≡ refusals.TooLarge limit value) ⊎ (r ≡ refusals.OutOfMemory)
+Passed e r = r ≡ refusals.OutOfMemory

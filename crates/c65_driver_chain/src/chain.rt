@@ -1,0 +1,110 @@
+// From files to the code of their program.
+ghost use Rattle.std.specs.Prelude.{◌≡◌, [], map, Some, IfErr, IfOk, length};
+ghost use Rattle.c65_csem.specs.Views.{unit_of};
+ghost use Rattle.c65_ppdir.specs.Counts.{FaultCause, MissCause};
+ghost use Rattle.c65_ppdir.specs.Relations.{Comes};
+ghost use Rattle.c65_ppdir.specs.Units.{Held};
+ghost use Rattle.c65_driver_chain.specs.Refused.{StopsChain, StopsLater, UnitsLimit};
+ghost use Rattle.c65_driver_chain.specs.Compiled.{Compiles, outside};
+ghost use Rattle.c65_driver_chain.specs.Front.{IsMade, command, files_typed, linked, compiled};
+
+use crate::refused::joined;
+use crate::unit::typed_unit;
+use c65_base::{Names, Options, Refusal, Size, Text};
+use c65_code::Code;
+use c65_csem::TUnit;
+use c65_csem_names::is_scoped;
+use c65_genstmt::gen_program;
+use c65_init_join::join;
+use c65_io::Files;
+use c65_ppdir::Define;
+use std::alloc::Global;
+
+/// The typed parts of the units, in the order of their files.
+#[tactic(auto, using(crate::proofs::ChainLaws::compiles_then, crate::proofs::ChainLaws::compiles_of))]
+fn typed_units<F: Files>(
+    alloc: Global,
+    files: &mut F,
+    options: &Options,
+    defines: &[Define],
+    folders: &[Text],
+    paths: &[Text],
+    names: &mut Names,
+) -> Result<Vec<TUnit>, Refusal>
+    ensures compiles { Compiles folders.now (outside (F.contents files.old) (F.write_faults files.old) (F.faults files.old) (F.misses files.old))
+        (outside (F.contents files.new) (F.write_faults files.new) (F.faults files.new) (F.misses files.new)) result }
+    ensures exact { (held : Held) → F.contents files.old ≡ Some held → Comes (λ units. (map unit_of units.items, names.new)) (files_typed (command held options.now defines.now folders.now) paths.now [] names.old) result }
+{
+    let mut units = Vec::new(alloc);
+    for path in paths {
+        let unit = match typed_unit(alloc, files, options, defines, folders, path, names) {
+            Ok(unit) => unit,
+            Err(refusal) => return Err(refusal),
+        };
+        let Ok(()) = units.push(unit) else {
+            return Err(Refusal::OutOfMemory);
+        };
+    }
+    Ok(units)
+}
+
+/// The code of the program that units are. Its names are in scope, as in all that typing makes: where
+/// the test of this fails, want of memory stands.
+fn code_of(
+    alloc: Global,
+    options: &Options,
+    units: Vec<TUnit>,
+    names: &Names,
+) -> Result<Code, Refusal>
+    ensures exact { Comes (λ c. c) (linked options.now (map unit_of units.items) names.now) result }
+    ensures made { IfOk result (IsMade options.now) }
+{
+    let program = match join(alloc, units, names) {
+        Ok(program) => program,
+        Err(refusal) => return Err(refusal),
+    };
+    let Ok(true) = is_scoped(alloc, &program) else {
+        return Err(Refusal::OutOfMemory);
+    };
+    gen_program(alloc, &program, names, options)
+}
+
+/// The code of the program that files are. The definitions stand before each file's first line; headers are sought in the
+/// folders.
+///
+/// More than 64 files are refused at once. Each file is then done in its order: preprocessing, scanning, parsing and typing,
+/// each to its end or its first fault. Then come joining and generation.
+#[tactic(auto, using(crate::proofs::ChainLaws::units_stop, crate::proofs::ChainLaws::units_few, crate::proofs::ChainLaws::later_stops, crate::proofs::ChainLaws::fault_later, crate::proofs::ChainLaws::miss_later))]
+pub fn compile<F: Files>(
+    alloc: Global,
+    files: &mut F,
+    options: &Options,
+    defines: &[Define],
+    folders: &[Text],
+    paths: &[Text],
+) -> Result<Code, Refusal>
+    ensures refused { IfErr result StopsChain }
+    ensures units { UnitsLimit (length paths.now) result }
+    ensures read { FaultCause (F.faults files.old) (F.faults files.new) result }
+    ensures missing { MissCause folders.now (F.misses files.old) (F.misses files.new) result }
+    ensures same { F.contents files.new ≡ F.contents files.old }
+    ensures writes { F.write_faults files.new ≡ F.write_faults files.old }
+    ensures made { IfOk result (IsMade options.now) }
+    ensures exact { (held : Held) → F.contents files.old ≡ Some held → Comes (λ c. c) (compiled (command held options.now defines.now folders.now) paths.now) result }
+{
+    if paths.len() > 64 {
+        return Err(Refusal::TooLarge {
+            limit: Size::Units,
+            value: paths.len() as u64,
+        });
+    }
+    let mut names = Names::new(alloc);
+    let units = match typed_units(alloc, files, options, defines, folders, paths, &mut names) {
+        Ok(units) => units,
+        Err(refusal) => return Err(refusal),
+    };
+    match code_of(alloc, options, units, &names) {
+        Ok(code) => Ok(code),
+        Err(refusal) => Err(joined(refusal)),
+    }
+}

@@ -1,0 +1,207 @@
+-- The words of the command line: `go` and `build` and `text` with options and files, `run` with options and an image, and
+-- behind `--` the arguments of `go` and `run`.
+use Rattle.std.specs.Prelude.{◌≡◌, ⊤, ℕ, ◌+◌, List, [], ◌∷◌, ◌++◌, Bool, true, false, not, ◌&&◌, if◌then◌else◌, ◌==◌, codes, bytes_eq, is_some, Option, Some, None, Result, Ok, Err}
+use Rattle.std.specs.List.{list_any}
+use Rattle.c65_base.specs.declared.options.Options.{Options}
+use Rattle.c65_base.specs.declared.options.Cpu.TheVariants.{Nmos}
+use Rattle.c65_base.specs.declared.refusal.Refusal.{Refusal}
+use Rattle.c65_base.specs.declared.refusal.Refusal.TheVariants as refusals
+use Rattle.c65_driver_words.specs.declared.command.Definition.{Definition}
+use Rattle.c65_driver_words.specs.declared.command.CommandKind.{CommandKind}
+use Rattle.c65_driver_words.specs.declared.command.CommandKind.TheVariants as kinds
+use Rattle.c65_driver_words.specs.declared.value.Value.{Value}
+use Rattle.c65_driver_words.specs.declared.value.Value.TheVariants as values
+use Rattle.c65_driver_words.specs.declared.value.Flag.{Flag}
+use Rattle.c65_driver_words.specs.declared.value.Flag.TheVariants as flags
+use Rattle.c65_driver_words.specs.Commands.{Spelled}
+use Rattle.c65_driver_words.specs.Values.{is_file, cycles_in, behind, define_in}
+
+-- what the words so far have told, and the option whose value is the next word
+pub record Told : Type 0 where
+  pub kind : CommandKind
+  pub options : Options
+  pub defines : List Definition
+  pub folders : List (List ℕ)
+  pub files : List (List ℕ)
+  pub out : Option (List ℕ)
+  pub cycles : Option ℕ
+  pub has_target : Bool
+  pub has_processor : Bool
+  pub waits : Option Value
+
+abbrev pub no_options : Options
+no_options = record { optimise = false; inline_more = false; register_vars = false; known_functions = false; signed_chars = false; static_locals = false; check_stack = false; cpu = Nmos }
+
+abbrev pub nothing_told : CommandKind → Told
+nothing_told kind = record { kind = kind; options = no_options; defines = []; folders = []; files = []; out = None; cycles = None; has_target = false; has_processor = false; waits = None }
+
+-- which command takes which option
+abbrev pub compiles : CommandKind → Bool
+compiles kinds.Run = false
+compiles _ = true
+
+abbrev pub runs : CommandKind → Bool
+runs kinds.Go = true
+runs kinds.Run = true
+runs _ = false
+
+abbrev pub writes : CommandKind → Bool
+writes kinds.Build = true
+writes kinds.Text = true
+writes _ = false
+
+-- whether an option with a value may stand now: four of them stand at most once
+abbrev pub may_stand : Told → Value → Bool
+may_stand told values.Define = compiles told.kind
+may_stand told values.Folder = compiles told.kind
+may_stand told values.Target = compiles told.kind && not told.has_target
+may_stand told values.Processor = compiles told.kind && not told.has_processor
+may_stand told values.Out = writes told.kind && not (is_some told.out)
+may_stand told values.Cycles = runs told.kind && not (is_some told.cycles)
+
+abbrev pub with_define : Told → Option Definition → Option Told
+with_define told None = None
+with_define told (Some define) = Some (record told { defines = told.defines ++ define ∷ []; waits = None })
+
+abbrev pub with_cycles : Told → Option ℕ → Option Told
+with_cycles told None = None
+with_cycles told (Some cycles) = Some (record told { cycles = Some cycles; waits = None })
+
+-- the value of an option
+abbrev pub with_value : Value → Told → List ℕ → Option Told
+with_value values.Define told text = with_define told (define_in text)
+with_value values.Folder told text = if is_file text then Some (record told { folders = told.folders ++ text ∷ []; waits = None }) else None
+with_value values.Target told text = if bytes_eq text (codes "sim6502") then Some (record told { has_target = true; waits = None }) else None
+with_value values.Processor told text = if bytes_eq text (codes "6502") then Some (record told { has_processor = true; waits = None }) else None
+with_value values.Out told text = if is_file text then Some (record told { out = Some text; waits = None }) else None
+with_value values.Cycles told text = with_cycles told (cycles_in text)
+
+abbrev pub with_flag : Flag → Told → Option Told
+with_flag flags.RegisterVars told = if compiles told.kind then Some (record told { options = record told.options { register_vars = true } }) else None
+with_flag flags.SignedChars told = if compiles told.kind then Some (record told { options = record told.options { signed_chars = true } }) else None
+
+-- the words that are an option by themselves
+abbrev pub flag_in : List ℕ → Option Flag
+flag_in word =
+    if bytes_eq word (codes "-r") then Some flags.RegisterVars else
+    if bytes_eq word (codes "--register-vars") then Some flags.RegisterVars else
+    if bytes_eq word (codes "-j") then Some flags.SignedChars else
+    if bytes_eq word (codes "--signed-chars") then Some flags.SignedChars else None
+
+-- the options whose value is the next word
+abbrev pub value_in : List ℕ → Option Value
+value_in word =
+    if bytes_eq word (codes "-D") then Some values.Define else
+    if bytes_eq word (codes "-I") then Some values.Folder else
+    if bytes_eq word (codes "-t") then Some values.Target else
+    if bytes_eq word (codes "--cpu") then Some values.Processor else
+    if bytes_eq word (codes "-o") then Some values.Out else
+    if bytes_eq word (codes "-x") then Some values.Cycles else None
+
+-- one image, or any number of files
+abbrev pub has_place : CommandKind → List (List ℕ) → Bool
+has_place kinds.Run (file ∷ files) = false
+has_place _ files = true
+
+abbrev pub with_file : Told → List ℕ → Option Told
+with_file told word = if is_file word && has_place told.kind told.files then Some (record told { files = told.files ++ word ∷ [] }) else None
+
+-- an option with its value in one word
+abbrev pub with_joined : Value → Told → List ℕ → Option Told
+with_joined value told text = if may_stand told value then with_value value told text else None
+
+abbrev pub told_processor : Told → List ℕ → Option (List ℕ) → Option Told
+told_processor told word (Some text) = with_joined values.Processor told text
+told_processor told word None = with_file told word
+
+abbrev pub told_folder : Told → List ℕ → Option (List ℕ) → Option Told
+told_folder told word (Some text) = with_joined values.Folder told text
+told_folder told word None = told_processor told word (behind (codes "--cpu=") word)
+
+abbrev pub told_define : Told → List ℕ → Option (List ℕ) → Option Told
+told_define told word (Some text) = with_joined values.Define told text
+told_define told word None = told_folder told word (behind (codes "-I") word)
+
+abbrev pub told_joined : Told → List ℕ → Option Told
+told_joined told word = told_define told word (behind (codes "-D") word)
+
+-- an option whose value is the next word
+abbrev pub with_option : Value → Told → Option Told
+with_option value told = if may_stand told value then Some (record told { waits = Some value }) else None
+
+abbrev pub told_value : Told → List ℕ → Option Value → Option Told
+told_value told word (Some value) = with_option value told
+told_value told word None = told_joined told word
+
+abbrev pub told_flag : Told → List ℕ → Option Flag → Option Told
+told_flag told word (Some flag) = with_flag flag told
+told_flag told word None = told_value told word (value_in word)
+
+abbrev pub told_by : Option Value → Told → List ℕ → Option Told
+told_by (Some value) told word = with_value value told word
+told_by None told word = told_flag told word (flag_in word)
+
+-- one word more, if the words go on so
+abbrev pub told_more : Told → List ℕ → Option Told
+told_more told word = told_by told.waits told word
+
+-- a command, or the number of the first word at which no command continues, counted from 0
+pub data Spelling : Type 0 where
+  Is : (command : Spelled) → Spelling
+  NoCommand : (word : ℕ) → Spelling
+
+abbrev pub has_files : List (List ℕ) → Bool
+has_files [] = false
+has_files (file ∷ files) = true
+
+-- whether the words may end here, or `--` may follow
+abbrev pub is_whole : Told → Bool
+is_whole told = not (is_some told.waits) && has_files told.files
+
+abbrev pub takes_args : Told → Bool
+takes_args told = is_whole told && runs told.kind
+
+abbrev pub command_by : Told → List (List ℕ) → Spelled
+command_by told args = record { kind = told.kind; options = told.options; defines = told.defines; folders = told.folders; files = told.files; args = args; out = told.out; cycles = told.cycles }
+
+abbrev pub ended_at : ℕ → Told → Spelling
+ended_at at told = if is_whole told then Is (command_by told []) else NoCommand at
+
+-- behind `--`: any words that hold no zero byte
+abbrev pub args_from : ℕ → Told → List (List ℕ) → List (List ℕ) → Spelling
+args_from at told args [] = Is (command_by told args)
+args_from at told args (word ∷ words) =
+    if list_any (λ byte. byte == 0) word then NoCommand at else args_from (at + 1) told (args ++ word ∷ []) words
+
+abbrev pub given_at : ℕ → Told → List (List ℕ) → Spelling
+given_at at told words = if takes_args told then args_from (at + 1) told [] words else NoCommand at
+
+-- the words from this number on
+abbrev pub words_from : ℕ → Told → List (List ℕ) → Spelling
+words_from at told [] = ended_at at told
+words_from at told (word ∷ words) =
+    if bytes_eq word (codes "--") && not (is_some told.waits)
+    then given_at at told words
+    else elim (told_more told word) [ None ↦ NoCommand at | Some more ↦ words_from (at + 1) more words ]
+
+abbrev pub kind_in : List ℕ → Option CommandKind
+kind_in word =
+    if bytes_eq word (codes "go") then Some kinds.Go else
+    if bytes_eq word (codes "build") then Some kinds.Build else
+    if bytes_eq word (codes "run") then Some kinds.Run else
+    if bytes_eq word (codes "text") then Some kinds.Text else None
+
+abbrev pub spelling_by : Option CommandKind → List (List ℕ) → Spelling
+spelling_by None words = NoCommand 0
+spelling_by (Some kind) words = words_from 1 (nothing_told kind) words
+
+abbrev pub spelling_of : List (List ℕ) → Spelling
+spelling_of [] = NoCommand 0
+spelling_of (word ∷ words) = spelling_by (kind_in word) words
+
+-- the command that is spelled, or the word at which none continues; memory may be wanting
+abbrev pub Spells : Spelling → Result Spelled Refusal → Type 0
+Spells spelling (Ok command) = spelling ≡ Is command
+Spells spelling (Err refusals.OutOfMemory) = ⊤
+Spells spelling (Err (refusals.Usage word)) = spelling ≡ NoCommand word
+Spells spelling (Err refusal) = ⊥

@@ -1,0 +1,50 @@
+// Commands.
+use c65_base::{Options, Text};
+use std::marker::Model;
+
+/// What a command does.
+#[derive(Clone, Copy, Debug, PartialEq, Eq)]
+pub enum CommandKind {
+    /// Compiles, links and runs files.
+    Go,
+    /// Writes the image of files.
+    Build,
+    /// Runs an image.
+    Run,
+    /// Writes the assembly text of files.
+    Text,
+}
+
+/// A definition on the command line: a macro's name and its replacement list, as text without a line feed.
+#[derive(Debug, Drop)]
+pub struct Definition {
+    pub name: Text,
+    pub body: Text,
+}
+
+/// A command with its options. Definitions, folders, files and arguments stand in the order of the words.
+#[derive(Debug, Drop)]
+pub struct Command {
+    pub kind: CommandKind,
+    pub options: Options,
+    /// `-D`
+    pub defines: Vec<Definition>,
+    /// `-I`
+    pub folders: Vec<Text>,
+    /// The files, or the image alone.
+    pub files: Vec<Text>,
+    /// The words behind `--`.
+    pub args: Vec<Text>,
+    /// `-o`
+    pub out: Option<Text>,
+    /// `-x`
+    pub cycles: Option<u32>,
+}
+
+impl Model for Command {
+    ghost use Rattle.c65_driver_words.specs.Commands.{Spelled};
+
+    ghost Value = { Spelled };
+
+    ghost view = { λ c. record { kind = c.kind; options = c.options; defines = c.defines.items; folders = c.folders.items; files = c.files.items; args = c.args.items; out = c.out; cycles = c.cycles } };
+}

@@ -1,0 +1,5 @@
+use Rattle.c65_elab_law.proofs.GrowthLaws.{stays}
+use Rattle.c65_elab_law.proofs.laws.trees_stay_typed.Goals as goal
+
+pub returns : goal.returns
+returns c = λ u v e g w. stays u v g e w

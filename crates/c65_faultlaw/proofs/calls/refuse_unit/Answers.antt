@@ -1,5 +1,0 @@
-use Rattle.c65_faultlaw.proofs.Whole.{answered}
-use Rattle.c65_faultlaw.proofs.calls.refuse_unit.Goals as goal
-
-pub returns : goal.returns
-returns c = answered 256 _ c.parse_unit.result _ c.requires c.parse_unit.ensures

@@ -1,5 +1,0 @@
-use Rattle.c65_faultlaw.proofs.Whole.{declarators_are_refused}
-use Rattle.c65_faultlaw.proofs.laws.declarators_are_refused.Goals as goal
-
-pub returns : goal.returns
-returns c = declarators_are_refused

@@ -1,5 +1,0 @@
-use Rattle.c65_faultlaw.proofs.Whole.{statements_are_refused}
-use Rattle.c65_faultlaw.proofs.laws.statements_are_refused.Goals as goal
-
-pub returns : goal.returns
-returns c = statements_are_refused

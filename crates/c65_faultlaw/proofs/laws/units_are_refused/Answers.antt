@@ -1,5 +1,0 @@
-use Rattle.c65_faultlaw.proofs.Whole.{units_are_refused}
-use Rattle.c65_faultlaw.proofs.laws.units_are_refused.Goals as goal
-
-pub returns : goal.returns
-returns c = units_are_refused

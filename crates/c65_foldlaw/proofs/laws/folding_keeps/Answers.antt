@@ -1,5 +1,0 @@
-use Rattle.c65_foldlaw.proofs.Runs.{folding_keeps as the_law}
-use Rattle.c65_foldlaw.proofs.laws.folding_keeps.Goals as goal
-
-pub returns : goal.returns
-returns c = the_law

@@ -1,5 +1,0 @@
-use Rattle.std.proofs.Common.{refl}
-use Rattle.c65_foldlaw.proofs.samples.a_jump_leaves_its_block.Goals as goal
-
-pub returns : goal.returns
-returns c = record { running = tt; ending = refl }

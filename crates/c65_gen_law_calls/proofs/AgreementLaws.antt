@@ -1,0 +1,258 @@
+-- A call that agrees with its function passes as many bytes as the function takes away.
+use Rattle.std.proofs.Common.{◌≡◌, ℕ, ◌+◌, ◌-◌, not, Bool, true, false, Option, None, Some, List, [], ◌∷◌, length, slice_get, refl, sym, ap, subst, ◌∙◌, arith}
+use Rattle.std.specs.Prelude.{nat_lt, if◌then◌else◌, Ok}
+use Rattle.std.proofs.lemmas.Bool.{eq-eqb}
+use Rattle.c65_base.specs.declared.refusal.Size.TheVariants as sizes
+use Rattle.c65_base.specs.Answers.{large}
+use Rattle.c65_ints.specs.declared.types.IntType.{IntType}
+use Rattle.c65_ints.specs.declared.types.IntType.TheVariants.{Int, UInt}
+use Rattle.c65_ctype.specs.Trees.{Ty, void, int, pointer, array, tag, function, QTy, qual, type_in, QTys, end, more, Fn, fn, unknown, known}
+use Rattle.c65_ctype.specs.Compatible.{number_of, same_int}
+use Rattle.c65_csem.specs.declared.items.Parts.{Parts}
+use Rattle.c65_csem.specs.declared.items.Library.{Library}
+use Rattle.c65_csem.specs.declared.items.Library.TheVariants as library
+use Rattle.c65_csem.specs.Trees.{type_of, Nodes, none, some, Stmt, UnitTy, FuncTy}
+use Rattle.c65_csem.specs.Places.{is_scalar, plain, are_alike, alike}
+use Rattle.c65_csem.specs.Typed.{AreGiven, FitsFn, IsCall}
+use Rattle.c65_csem.specs.Units.{AreParams, MatchParams, IsBody}
+use Rattle.c65_csem.specs.Views.{unit_of}
+use Rattle.c65_code.specs.LineState.{State, sp_of}
+use Rattle.c65_code.specs.declared.routine.LibraryFunction.{LibraryFunction}
+use Rattle.c65_code.specs.declared.routine.LibraryFunction.TheVariants.{PutChar, GetChar, Puts, Exit, MemCpy, MemSet, StrCmp, StrCpy, StrLen}
+use Rattle.c65_code.specs.declared.routine.Routine.TheVariants as routines
+use Rattle.c65_code.specs.Rows.{Row, row_by, read_row, costing, row_of}
+use Rattle.c65_code.specs.Moves.{MeetsRow}
+use Rattle.c65_genframe.specs.declared.home.Arrival.{Arrival}
+use Rattle.c65_genframe.specs.Marks.{lowest}
+use Rattle.c65_genframe.specs.Objects.{locals_of}
+use Rattle.c65_genframe.specs.Frames.{Framed, is_variadic, takes_stack, has_prototype, register_param, arrival, passed_bytes, placed_in, settled, frame_of}
+use Rattle.c65_genload.specs.Conversions.{size_of}
+use Rattle.c65_genexpr.specs.Types.{kind_of, kind_in, bare}
+use Rattle.c65_genexpr.specs.Arguments.{is_fast, is_counted}
+use Rattle.c65_genexpr.specs.Calls.{routine_of}
+use Rattle.c65_gen_law_lines.specs.Stack.{bytes_in, passed}
+use Rattle.c65_gen_law_lines.proofs.FrameLaws.{answered}
+use Rattle.c65_gen_law_stack.specs.Calls as entering
+use Rattle.c65_gen_law_stack.specs.Calls.{pushed_bytes}
+use Rattle.c65_gen_law_stack.specs.Parameters.{AreTaken}
+use Rattle.c65_gen_law_stack.proofs.ParameterLaws.{same_kind, alike_in, plain_type, calls_pass_what_is_taken}
+use Rattle.c65_gen_law_calls.specs.Sites.{Site, bytes_of}
+use Rattle.c65_gen_law_calls.specs.Agreement.{Takes, Agrees, library_types, AreOf, LibraryAgrees, alike_types, AreAlike, PrototypesAgree}
+
+-- ---- types that are alike
+
+same_self : (k : IntType) → same_int k k ≡ true
+same_self k = eq-eqb (number_of k) (number_of k) refl
+
+same_through : (i j k : IntType) → same_int i j ≡ true → same_int k j ≡ true → same_int i k ≡ true
+same_through i j k p q =
+    let e : i ≡ k = same_kind i j p ∙ sym (same_kind k j q) in
+    ap (λ (x : IntType). same_int i x) (sym e) ∙ same_self i
+
+int_through : (t : Ty) (j k : IntType) → alike t (int j) ≡ true → same_int k j ≡ true → alike t (int k) ≡ true
+int_through (int i) j k p q = same_through i j k p q
+int_through void j k p q = absurd cc
+int_through (pointer a) j k p q = absurd cc
+int_through (array a n) j k p q = absurd cc
+int_through (tag n) j k p q = absurd cc
+int_through (function f) j k p q = absurd cc
+
+pointer_through : (t : Ty) (a b : QTy) → alike t (pointer a) ≡ true → alike t (pointer b) ≡ true
+pointer_through (pointer c) a b p = refl
+pointer_through void a b p = absurd cc
+pointer_through (int i) a b p = absurd cc
+pointer_through (array c n) a b p = absurd cc
+pointer_through (tag n) a b p = absurd cc
+pointer_through (function f) a b p = absurd cc
+
+alike_through : (t r x : Ty) → alike t r ≡ true → alike x r ≡ true → is_scalar x ≡ true → alike t x ≡ true
+alike_through t (int j) (int k) p q s = int_through t j k p q
+alike_through t void (int k) p q s = absurd cc
+alike_through t (pointer a) (int k) p q s = absurd cc
+alike_through t (array a n) (int k) p q s = absurd cc
+alike_through t (tag n) (int k) p q s = absurd cc
+alike_through t (function f) (int k) p q s = absurd cc
+alike_through t (pointer a) (pointer b) p q s = pointer_through t a b p
+alike_through t (int j) (pointer b) p q s = absurd cc
+alike_through t void (pointer b) p q s = absurd cc
+alike_through t (array a n) (pointer b) p q s = absurd cc
+alike_through t (tag n) (pointer b) p q s = absurd cc
+alike_through t (function f) (pointer b) p q s = absurd cc
+alike_through t r void p q s = absurd cc
+alike_through t r (array a n) p q s = absurd cc
+alike_through t r (tag n) p q s = absurd cc
+alike_through t r (function f) p q s = absurd cc
+
+-- ---- prototypes
+
+both_types : (b : Bool) (ps qs : QTys) → (if b then alike_types ps qs else false) ≡ true → (b ≡ true) × (alike_types ps qs ≡ true)
+both_types true ps qs h = (refl, h)
+both_types false ps qs h = absurd cc
+
+given_taken : (u : UnitTy) (ps qs : QTys) (es : Nodes) (is : List ℕ) → AreGiven ps false es → alike_types ps qs ≡ true → AreParams u qs is → AreTaken u true es is
+given_taken u end end none [] h a p = tt
+given_taken u end end none (i ∷ is) h a p = absurd p
+given_taken u end end (some e es) is h a p = absurd h
+given_taken u end (more q qs) es is h a p = absurd cc
+given_taken u (more r rs) end es is h a p = absurd cc
+given_taken u (more r rs) (more q qs) none is h a p = absurd h
+given_taken u (more r rs) (more q qs) (some e es) [] h a p = absurd p
+given_taken u (more r rs) (more q qs) (some e es) (i ∷ is) h a p =
+    let both = both_types (are_alike r q) rs qs a in
+    let type : type_in r ≡ bare e = sym (plain_type r) ∙ ap type_in (sym h.0) in
+    let site : alike (bare e) (type_in q) ≡ true = ap (λ (t : Ty). alike t (type_in q)) (sym type) ∙ (sym (alike_in r q) ∙ both.0) in
+    let own : alike (type_in p.0.ty) (type_in q) ≡ true = sym (alike_in p.0.ty q) ∙ p.2 in
+    (p.0, p.1, h.1.0.0, alike_through (type_in p.0.ty) (type_in q) (bare e) own site h.1.0.0, given_taken u rs qs es is h.2 both.1 p.3)
+
+agree : (u : UnitTy) (g : FuncTy) (body : Stmt) (s : Site) (t w : Fn) → g.ty ≡ w → IsBody u g body → FitsFn t s.args → bare s.callee ≡ pointer (plain (function t)) → AreAlike t w → Agrees u s g
+agree u g body s (fn q (known ps) false c) (fn r (known qs) false d) e well fits is like =
+    let variadic : is_variadic g.ty ≡ false = ap is_variadic e in
+    let prototype : has_prototype g.ty ≡ true = ap has_prototype e in
+    let params : AreParams u qs g.params = subst (λ (x : Fn). MatchParams u x g.params) e well.prototype in
+    let taken : AreTaken u true s.args g.params = given_taken u ps qs s.args g.params fits like.0 params in
+    record {
+      fast = ap is_fast is ∙ (ap not like.1 ∙ ap (λ (x : Fn). not (takes_stack x)) (sym e));
+      counted = ap is_counted is ∙ sym variadic;
+      taken = subst (λ (b : Bool). Takes b u g s.args) (sym variadic) (subst (λ (b : Bool). AreTaken u b s.args g.params) (sym prototype) taken);
+    }
+agree u g body s (fn q (known ps) false c) (fn r (known qs) true d) e well fits is like = absurd like
+agree u g body s (fn q (known ps) false c) (fn r unknown v d) e well fits is like = absurd like
+agree u g body s (fn q (known ps) true c) w e well fits is like = absurd like
+agree u g body s (fn q unknown v c) w e well fits is like = absurd like
+
+abbrev called_type : Fn → Ty → Fn
+called_type f (pointer (qual (function g) c v)) = g
+called_type f _ = f
+
+pub prototypes_agree : PrototypesAgree
+prototypes_agree u g body s t well site is like =
+    let call : IsCall u s.type (type_of s.callee) s.args = site.2 in
+    let own : bare s.callee ≡ pointer (plain (function call.callee)) = ap type_in call.named in
+    let same : call.callee ≡ t = ap (called_type t) (sym own ∙ is) in
+    agree u g body s t g.ty refl well (subst (λ (x : Fn). FitsFn x s.args) same call.given) is like
+
+-- ---- what a function takes away
+
+framed_is : (parts : Parts) (honoured : Bool) (g : FuncTy) (f : Framed) → frame_of parts honoured g ≡ Ok f → settled parts g (lowest (locals_of g) g.params) (passed_bytes parts g) (placed_in parts honoured g) ≡ f
+framed_is parts honoured g f framed =
+    let p = placed_in parts honoured g in
+    (answered (nat_lt 1024 p.total) (large sizes.Frame p.total) (settled parts g (lowest (locals_of g) g.params) (passed_bytes parts g) p) f framed).1
+
+pub parts_are : (parts : Parts) (honoured : Bool) (g : FuncTy) (f : Framed) → frame_of parts honoured g ≡ Ok f → f.parts ≡ parts
+parts_are parts honoured g f framed = sym (ap (λ (z : Framed). z.parts) (framed_is parts honoured g f framed))
+
+variadic_is : (parts : Parts) (honoured : Bool) (g : FuncTy) (f : Framed) → frame_of parts honoured g ≡ Ok f → f.variadic ≡ is_variadic g.ty
+variadic_is parts honoured g f framed = sym (ap (λ (z : Framed). z.variadic) (framed_is parts honoured g f framed))
+
+-- a variadic function has no parameter in registers
+stacks_all : (t : Fn) → is_variadic t ≡ true → takes_stack t ≡ true
+stacks_all (fn q ps true c) h = refl
+stacks_all (fn q ps false c) h = absurd cc
+
+nothing_pushed : (parts : Parts) (honoured : Bool) (g : FuncTy) (f : Framed) → frame_of parts honoured g ≡ Ok f → is_variadic g.ty ≡ true → pushed_bytes f.last ≡ 0
+nothing_pushed parts honoured g f framed v =
+    let last : Option ℕ → Arrival = λ o. arrival parts (has_prototype g.ty) (lowest (locals_of g) g.params) (placed_in parts honoured g).homes o in
+    let here : pushed_bytes (last (register_param g)) ≡ pushed_bytes f.last = ap (λ (z : Framed). pushed_bytes z.last) (framed_is parts honoured g f framed) in
+    let none : register_param g ≡ None = ap (λ (b : Bool). if b then None else slice_get g.params (length g.params - 1)) (stacks_all g.ty v) in
+    sym here ∙ ap (λ (o : Option ℕ). pushed_bytes (last o)) none
+
+passes_by : (b : Bool) (parts : Parts) (honoured : Bool) (g : FuncTy) (f : Framed) (s : Site) (t : State) → is_variadic g.ty ≡ b → frame_of parts honoured g ≡ Ok f → Agrees (unit_of parts) s g
+    → (f.variadic ≡ true → t.regs.y ≡ bytes_in (bytes_of s)) → bytes_in (bytes_of s) + pushed_bytes f.last ≡ entering.passed_bytes f t
+passes_by true parts honoured g f s t v framed agrees counted =
+    let variadic : f.variadic ≡ true = variadic_is parts honoured g f framed ∙ v in
+    let given : t.regs.y ≡ bytes_in (bytes_of s) = counted variadic in
+    let passed_is : entering.passed_bytes f t ≡ t.regs.y = ap (λ (b : Bool). if b then t.regs.y else f.stacked) variadic in
+    omega (arith, given, passed_is, nothing_pushed parts honoured g f framed v)
+passes_by false parts honoured g f s t v framed agrees counted =
+    let variadic : f.variadic ≡ false = variadic_is parts honoured g f framed ∙ v in
+    let taken : AreTaken (unit_of parts) (has_prototype g.ty) s.args g.params = subst (λ (b : Bool). Takes b (unit_of parts) g s.args) v agrees.taken in
+    let fast : bytes_in (bytes_of s) ≡ bytes_in (passed (not (takes_stack g.ty)) s.args) = ap (λ (b : Bool). bytes_in (passed b s.args)) agrees.fast in
+    let passed_is : entering.passed_bytes f t ≡ f.stacked = ap (λ (b : Bool). if b then t.regs.y else f.stacked) variadic in
+    omega (arith, fast, passed_is, calls_pass_what_is_taken parts honoured g f s.args framed taken)
+
+pub agreed_bytes : (parts : Parts) (honoured : Bool) (g : FuncTy) (f : Framed) (s : Site) (t : State) → frame_of parts honoured g ≡ Ok f → Agrees (unit_of parts) s g
+    → (f.variadic ≡ true → t.regs.y ≡ bytes_in (bytes_of s)) → bytes_in (bytes_of s) + pushed_bytes f.last ≡ entering.passed_bytes f t
+agreed_bytes parts honoured g f s t framed agrees counted = passes_by (is_variadic g.ty) parts honoured g f s t refl framed agrees counted
+
+-- ---- functions of the library
+
+abbrev pub library_bytes : LibraryFunction → ℕ
+library_bytes MemCpy = 4
+library_bytes MemSet = 4
+library_bytes StrCmp = 2
+library_bytes StrCpy = 2
+library_bytes _ = 0
+
+pointer_size : (q : QTy) (x : Ty) → alike (pointer q) x ≡ true → size_of (kind_of x) ≡ 2
+pointer_size q (pointer r) h = refl
+pointer_size q void h = absurd cc
+pointer_size q (int k) h = absurd cc
+pointer_size q (array r n) h = absurd cc
+pointer_size q (tag n) h = absurd cc
+pointer_size q (function f) h = absurd cc
+
+int_size : (x : Ty) → alike (int Int) x ≡ true → size_of (kind_of x) ≡ 2
+int_size (int k) h = sym (ap size_of (same_kind Int k h))
+int_size void h = absurd cc
+int_size (pointer q) h = absurd cc
+int_size (array r n) h = absurd cc
+int_size (tag n) h = absurd cc
+int_size (function f) h = absurd cc
+
+-- none, one, two or three arguments
+no_arg : (es : Nodes) → AreOf es [] → bytes_in (passed true es) ≡ 0
+no_arg none h = refl
+no_arg (some e es) h = absurd h
+
+one_arg : (t : Ty) (es : Nodes) → AreOf es (t ∷ []) → bytes_in (passed true es) ≡ 0
+one_arg t none h = absurd h
+one_arg t (some e none) h = refl
+one_arg t (some e (some g es)) h = absurd h.1
+
+two_args : (q : QTy) (t : Ty) (es : Nodes) → AreOf es (pointer q ∷ t ∷ []) → bytes_in (passed true es) ≡ 2
+two_args q t none h = absurd h
+two_args q t (some e none) h = absurd h.1
+two_args q t (some e (some g none)) h = let size : size_of (kind_in e) ≡ 2 = pointer_size q (bare e) h.0 in omega (arith, size)
+two_args q t (some e (some g (some i es))) h = absurd h.1.1
+
+sizes_sum : (t : Ty) → ((x : Ty) → alike t x ≡ true → size_of (kind_of x) ≡ 2) → (q : QTy) (z : Ty) (es : Nodes) → AreOf es (pointer q ∷ t ∷ z ∷ []) → bytes_in (passed true es) ≡ 4
+sizes_sum t size q z none h = absurd h
+sizes_sum t size q z (some e none) h = absurd h.1
+sizes_sum t size q z (some e (some g none)) h = absurd h.1.1
+sizes_sum t size q z (some e (some g (some i none))) h =
+    let first : size_of (kind_in e) ≡ 2 = pointer_size q (bare e) h.0 in
+    let second : size_of (kind_in g) ≡ 2 = size (bare g) h.1.0 in
+    omega (arith, first, second)
+sizes_sum t size q z (some e (some g (some i (some j es)))) h = absurd h.1.1.1
+
+library_passes : (l : Library) (es : Nodes) → AreOf es (library_types l) → bytes_in (passed true es) ≡ library_bytes (routine_of l)
+library_passes library.Putchar es h = one_arg (int Int) es h
+library_passes library.Getchar es h = no_arg es h
+library_passes library.Puts es h = one_arg (pointer (plain void)) es h
+library_passes library.Exit es h = one_arg (int Int) es h
+library_passes library.Memcpy es h = sizes_sum (pointer (plain void)) (pointer_size (plain void)) (plain void) (int UInt) es h
+library_passes library.Memset es h = sizes_sum (int Int) int_size (plain void) (int UInt) es h
+library_passes library.Strcmp es h = two_args (plain void) (pointer (plain void)) es h
+library_passes library.Strcpy es h = two_args (plain void) (pointer (plain void)) es h
+library_passes library.Strlen es h = one_arg (pointer (plain void)) es h
+
+pub agreed_library : (s : Site) (l : Library) → LibraryAgrees s l → bytes_in (bytes_of s) ≡ library_bytes (routine_of l)
+agreed_library s l agrees = ap (λ (b : Bool). bytes_in (passed b s.args)) agrees.fast ∙ library_passes l s.args agrees.taken
+
+read_sp : (input : List ℕ) (t : State) (row : Row) → (read_row input t row).sp ≡ row.sp
+read_sp [] t row = refl
+read_sp (v ∷ input) t row = refl
+
+row_sp : (row : Row) (t u : State) → MeetsRow (Some row) t u → sp_of u ≡ row.sp
+row_sp row t u m = m.sp
+
+pub library_sp : (l : LibraryFunction) (t u : State) → MeetsRow (row_of (routines.Library l) t) t u → sp_of u ≡ sp_of t + library_bytes l
+library_sp PutChar t u m = let same : sp_of u ≡ sp_of t = row_sp _ t u m in omega (arith, same)
+library_sp GetChar t u m = let same : sp_of u ≡ sp_of t = row_sp _ t u m ∙ read_sp t.input t (costing 256 (row_by (routines.Library GetChar) t)) in omega (arith, same)
+library_sp Puts t u m = let same : sp_of u ≡ sp_of t = row_sp _ t u m in omega (arith, same)
+library_sp Exit t u m = let same : sp_of u ≡ sp_of t = row_sp _ t u m in omega (arith, same)
+library_sp MemCpy t u m = row_sp _ t u m
+library_sp MemSet t u m = row_sp _ t u m
+library_sp StrCmp t u m = row_sp _ t u m
+library_sp StrCpy t u m = row_sp _ t u m
+library_sp StrLen t u m = let same : sp_of u ≡ sp_of t = row_sp _ t u m in omega (arith, same)

@@ -1,0 +1,188 @@
+-- The calls of a body: what each takes away, and that each is well typed.
+use Rattle.std.proofs.Common.{◌≡◌, ℕ, zero, suc, Option, None, Some, List, [], ◌∷◌, ◌++◌, slice_get, refl, sym, ap, subst, ◌∙◌}
+use Rattle.c65_ctype.specs.Trees.{QTy}
+use Rattle.c65_csem.specs.Trees.{Typed, node, Node, constant, null, literal, object, func, deref, member, load, address, decay, convert, unary, binary, both, either, choice, comma, assign, assign_op, assign_step, step, copy, call, Nodes, none, some, MaybeTyped, absent, present, Stmt, empty, eval, set_part, clear, block, if_stmt, while, do_while, for_loop, switch, case, default, label, goto, break, continue, return, Stmts, no_stmts, and_stmts, UnitTy}
+use Rattle.c65_csem.specs.Typed.{IsTyped, IsNode, AreTyped}
+use Rattle.c65_csem.specs.Statements.{Context, looping, switching, IsStmt, AreStmts, IsMaybe, IsMaybeCondition, IsReturn}
+use Rattle.c65_genexpr.specs.Types.{bare}
+use Rattle.c65_genexpr.specs.Arguments.{is_fast}
+use Rattle.c65_genexpr.specs.Calls.{named}
+use Rattle.c65_gen_law_lines.specs.Stack.{passed, calls_of, node_calls, args_calls, maybe_calls, statement_calls, statements_calls}
+use Rattle.c65_gen_law_lines.specs.Stack as stack
+use Rattle.c65_gen_law_calls.specs.Sites.{Site, site_by, IsSite, bytes_of, unless_named, sites_of, node_sites, args_sites, maybe_sites, statement_sites, statements_sites}
+
+-- ---- what they take away
+
+abbrev pub all_bytes : List Site → List (List ℕ)
+all_bytes [] = []
+all_bytes (s ∷ ss) = bytes_of s ∷ all_bytes ss
+
+bytes_append : (ss ts : List Site) → all_bytes (ss ++ ts) ≡ all_bytes ss ++ all_bytes ts
+bytes_append [] ts = refl
+bytes_append (s ∷ ss) ts = ap (λ (x : List (List ℕ)). bytes_of s ∷ x) (bytes_append ss ts)
+
+two : (xs ys : List (List ℕ)) (ss ts : List Site) → xs ≡ all_bytes ss → ys ≡ all_bytes ts → xs ++ ys ≡ all_bytes (ss ++ ts)
+two xs ys ss ts p q = ap (λ (x : List (List ℕ)). x ++ ys) p ∙ (ap (λ (y : List (List ℕ)). all_bytes ss ++ y) q ∙ sym (bytes_append ss ts))
+
+unnamed : (n : Option ℕ) (xs : List (List ℕ)) (ss : List Site) → xs ≡ all_bytes ss → stack.unless_named n xs ≡ all_bytes (unless_named n ss)
+unnamed None xs ss p = p
+unnamed (Some i) xs ss p = refl
+
+mutual
+  calls_are : (e : Typed) → calls_of e ≡ all_bytes (sites_of e)
+  calls_are (node t n) = node_calls_are t n
+
+  node_calls_are : (t : QTy) (n : Node) → node_calls n ≡ all_bytes (node_sites t n)
+  node_calls_are t (constant z) = refl
+  node_calls_are t null = refl
+  node_calls_are t (literal n) = refl
+  node_calls_are t (object i) = refl
+  node_calls_are t (func i) = refl
+  node_calls_are t (deref e) = calls_are e
+  node_calls_are t (member e m) = calls_are e
+  node_calls_are t (load e) = calls_are e
+  node_calls_are t (address e) = calls_are e
+  node_calls_are t (decay e) = calls_are e
+  node_calls_are t (convert e) = calls_are e
+  node_calls_are t (unary op e) = calls_are e
+  node_calls_are t (binary op a b) = two (calls_of a) (calls_of b) (sites_of a) (sites_of b) (calls_are a) (calls_are b)
+  node_calls_are t (both a b) = two (calls_of a) (calls_of b) (sites_of a) (sites_of b) (calls_are a) (calls_are b)
+  node_calls_are t (either a b) = two (calls_of a) (calls_of b) (sites_of a) (sites_of b) (calls_are a) (calls_are b)
+  node_calls_are t (choice c a b) = two (calls_of c) (calls_of a ++ calls_of b) (sites_of c) (sites_of a ++ sites_of b) (calls_are c) (two (calls_of a) (calls_of b) (sites_of a) (sites_of b) (calls_are a) (calls_are b))
+  node_calls_are t (comma a b) = two (calls_of a) (calls_of b) (sites_of a) (sites_of b) (calls_are a) (calls_are b)
+  node_calls_are t (assign a b) = two (calls_of a) (calls_of b) (sites_of a) (sites_of b) (calls_are a) (calls_are b)
+  node_calls_are t (assign_op op k a b) = two (calls_of a) (calls_of b) (sites_of a) (sites_of b) (calls_are a) (calls_are b)
+  node_calls_are t (assign_step op a b) = two (calls_of a) (calls_of b) (sites_of a) (sites_of b) (calls_are a) (calls_are b)
+  node_calls_are t (step how e) = calls_are e
+  node_calls_are t (copy a b) = two (calls_of a) (calls_of b) (sites_of a) (sites_of b) (calls_are a) (calls_are b)
+  node_calls_are t (call g es) =
+      two (stack.unless_named (named g) (calls_of g)) (args_calls es ++ passed (is_fast (bare g)) es ∷ []) (unless_named (named g) (sites_of g)) (args_sites es ++ site_by t g es ∷ []) (unnamed (named g) (calls_of g) (sites_of g) (calls_are g))
+      (two (args_calls es) (passed (is_fast (bare g)) es ∷ []) (args_sites es) (site_by t g es ∷ []) (args_calls_are es) refl)
+
+  args_calls_are : (es : Nodes) → args_calls es ≡ all_bytes (args_sites es)
+  args_calls_are none = refl
+  args_calls_are (some e es) = two (calls_of e) (args_calls es) (sites_of e) (args_sites es) (calls_are e) (args_calls_are es)
+
+maybe_calls_are : (e : MaybeTyped) → maybe_calls e ≡ all_bytes (maybe_sites e)
+maybe_calls_are absent = refl
+maybe_calls_are (present e) = calls_are e
+
+mutual
+  pub statement_calls_are : (s : Stmt) → statement_calls s ≡ all_bytes (statement_sites s)
+  statement_calls_are empty = refl
+  statement_calls_are (eval e) = calls_are e
+  statement_calls_are (set_part i o e) = calls_are e
+  statement_calls_are (clear i) = refl
+  statement_calls_are (block os ss) = statements_calls_are ss
+  statement_calls_are (if_stmt e a b) = two (calls_of e) (statement_calls a ++ statement_calls b) (sites_of e) (statement_sites a ++ statement_sites b) (calls_are e) (two (statement_calls a) (statement_calls b) (statement_sites a) (statement_sites b) (statement_calls_are a) (statement_calls_are b))
+  statement_calls_are (while e a) = two (calls_of e) (statement_calls a) (sites_of e) (statement_sites a) (calls_are e) (statement_calls_are a)
+  statement_calls_are (do_while a e) = two (statement_calls a) (calls_of e) (statement_sites a) (sites_of e) (statement_calls_are a) (calls_are e)
+  statement_calls_are (for_loop i c n a) =
+      two (maybe_calls i) (maybe_calls c ++ (statement_calls a ++ maybe_calls n)) (maybe_sites i) (maybe_sites c ++ (statement_sites a ++ maybe_sites n)) (maybe_calls_are i)
+      (two (maybe_calls c) (statement_calls a ++ maybe_calls n) (maybe_sites c) (statement_sites a ++ maybe_sites n) (maybe_calls_are c)
+      (two (statement_calls a) (maybe_calls n) (statement_sites a) (maybe_sites n) (statement_calls_are a) (maybe_calls_are n)))
+  statement_calls_are (switch e a) = two (calls_of e) (statement_calls a) (sites_of e) (statement_sites a) (calls_are e) (statement_calls_are a)
+  statement_calls_are (case z a) = statement_calls_are a
+  statement_calls_are (default a) = statement_calls_are a
+  statement_calls_are (label n a) = statement_calls_are a
+  statement_calls_are (goto n) = refl
+  statement_calls_are break = refl
+  statement_calls_are continue = refl
+  statement_calls_are (return e) = maybe_calls_are e
+
+  statements_calls_are : (ss : Stmts) → statements_calls ss ≡ all_bytes (statements_sites ss)
+  statements_calls_are no_stmts = refl
+  statements_calls_are (and_stmts a ss) = two (statement_calls a) (statements_calls ss) (statement_sites a) (statements_sites ss) (statement_calls_are a) (statements_calls_are ss)
+
+-- ---- their types
+
+abbrev pub AreSites : UnitTy → List Site → Type 0
+AreSites u [] = Unit {0}
+AreSites u (s ∷ ss) = IsSite u s × AreSites u ss
+
+sites_append : (u : UnitTy) (ss ts : List Site) → AreSites u ss → AreSites u ts → AreSites u (ss ++ ts)
+sites_append u [] ts p q = q
+sites_append u (s ∷ ss) ts p q = (p.0, sites_append u ss ts p.1 q)
+
+pub site_in : (u : UnitTy) (ss : List Site) (k : ℕ) (s : Site) → AreSites u ss → slice_get ss k ≡ Some s → IsSite u s
+site_in u [] k s p e = absurd cc
+site_in u (r ∷ ss) zero s p e = let same : r ≡ s = cc in subst (λ (x : Site). IsSite u x) same p.0
+site_in u (r ∷ ss) (suc k) s p e = site_in u ss k s p.1 e
+
+unnamed_sites : (u : UnitTy) (n : Option ℕ) (ss : List Site) → AreSites u ss → AreSites u (unless_named n ss)
+unnamed_sites u None ss p = p
+unnamed_sites u (Some i) ss p = tt
+
+mutual
+  expr_sites : (u : UnitTy) (e : Typed) → IsTyped u e → AreSites u (sites_of e)
+  expr_sites u (node t n) h = typed_sites u t n h
+
+  typed_sites : (u : UnitTy) (t : QTy) (n : Node) → IsNode u t n → AreSites u (node_sites t n)
+  typed_sites u t (constant z) h = tt
+  typed_sites u t null h = tt
+  typed_sites u t (literal n) h = tt
+  typed_sites u t (object i) h = tt
+  typed_sites u t (func i) h = tt
+  typed_sites u t (deref e) h = expr_sites u e h.0
+  typed_sites u t (member e m) h = expr_sites u e h.0
+  typed_sites u t (load e) h = expr_sites u e h.0
+  typed_sites u t (address e) h = expr_sites u e h.0
+  typed_sites u t (decay e) h = expr_sites u e h.0
+  typed_sites u t (convert e) h = expr_sites u e h.0
+  typed_sites u t (unary op e) h = expr_sites u e h.0
+  typed_sites u t (binary op a b) h = sites_append u (sites_of a) (sites_of b) (expr_sites u a h.0) (expr_sites u b h.1)
+  typed_sites u t (both a b) h = sites_append u (sites_of a) (sites_of b) (expr_sites u a h.0) (expr_sites u b h.1)
+  typed_sites u t (either a b) h = sites_append u (sites_of a) (sites_of b) (expr_sites u a h.0) (expr_sites u b h.1)
+  typed_sites u t (choice c a b) h = sites_append u (sites_of c) (sites_of a ++ sites_of b) (expr_sites u c h.0) (sites_append u (sites_of a) (sites_of b) (expr_sites u a h.1) (expr_sites u b h.2))
+  typed_sites u t (comma a b) h = sites_append u (sites_of a) (sites_of b) (expr_sites u a h.0) (expr_sites u b h.1)
+  typed_sites u t (assign a b) h = sites_append u (sites_of a) (sites_of b) (expr_sites u a h.0) (expr_sites u b h.1)
+  typed_sites u t (assign_op op k a b) h = sites_append u (sites_of a) (sites_of b) (expr_sites u a h.0) (expr_sites u b h.1)
+  typed_sites u t (assign_step op a b) h = sites_append u (sites_of a) (sites_of b) (expr_sites u a h.0) (expr_sites u b h.1)
+  typed_sites u t (step how e) h = expr_sites u e h.0
+  typed_sites u t (copy a b) h = sites_append u (sites_of a) (sites_of b) (expr_sites u a h.0) (expr_sites u b h.1)
+  typed_sites u t (call g es) h =
+      sites_append u (unless_named (named g) (sites_of g)) (args_sites es ++ site_by t g es ∷ []) (unnamed_sites u (named g) (sites_of g) (expr_sites u g h.0))
+      (sites_append u (args_sites es) (site_by t g es ∷ []) (argument_sites u es h.3) (h, tt))
+
+  argument_sites : (u : UnitTy) (es : Nodes) → AreTyped u es → AreSites u (args_sites es)
+  argument_sites u none h = tt
+  argument_sites u (some e es) h = sites_append u (sites_of e) (args_sites es) (expr_sites u e h.0) (argument_sites u es h.1)
+
+some_sites : (u : UnitTy) (e : MaybeTyped) → IsMaybe u e → AreSites u (maybe_sites e)
+some_sites u absent h = tt
+some_sites u (present e) h = expr_sites u e h
+
+condition_sites : (u : UnitTy) (e : MaybeTyped) → IsMaybeCondition u e → AreSites u (maybe_sites e)
+condition_sites u absent h = tt
+condition_sites u (present e) h = expr_sites u e h.0
+
+return_sites : (u : UnitTy) (c : Context) (e : MaybeTyped) → IsReturn u c e → AreSites u (maybe_sites e)
+return_sites u c absent h = tt
+return_sites u c (present e) h = expr_sites u e h.0
+
+mutual
+  pub stmt_sites : (u : UnitTy) (c : Context) (s : Stmt) → IsStmt u c s → AreSites u (statement_sites s)
+  stmt_sites u c empty h = tt
+  stmt_sites u c (eval e) h = expr_sites u e h
+  stmt_sites u c (set_part i o e) h = expr_sites u e h.typed
+  stmt_sites u c (clear i) h = tt
+  stmt_sites u c (block os ss) h = stmts_sites u c ss h.1
+  stmt_sites u c (if_stmt e a b) h = sites_append u (sites_of e) (statement_sites a ++ statement_sites b) (expr_sites u e h.0.0) (sites_append u (statement_sites a) (statement_sites b) (stmt_sites u c a h.1) (stmt_sites u c b h.2))
+  stmt_sites u c (while e a) h = sites_append u (sites_of e) (statement_sites a) (expr_sites u e h.0.0) (stmt_sites u (looping c) a h.1)
+  stmt_sites u c (do_while a e) h = sites_append u (statement_sites a) (sites_of e) (stmt_sites u (looping c) a h.0) (expr_sites u e h.1.0)
+  stmt_sites u c (for_loop i t n a) h =
+      sites_append u (maybe_sites i) (maybe_sites t ++ (statement_sites a ++ maybe_sites n)) (some_sites u i h.0)
+      (sites_append u (maybe_sites t) (statement_sites a ++ maybe_sites n) (condition_sites u t h.1)
+      (sites_append u (statement_sites a) (maybe_sites n) (stmt_sites u (looping c) a h.3) (some_sites u n h.2)))
+  stmt_sites u c (switch e a) h = sites_append u (sites_of e) (statement_sites a) (expr_sites u e h.1.typed) (stmt_sites u (switching h.0 c) a h.2)
+  stmt_sites u c (case z a) h = stmt_sites u c a h.1
+  stmt_sites u c (default a) h = stmt_sites u c a h.1
+  stmt_sites u c (label n a) h = stmt_sites u c a h
+  stmt_sites u c (goto n) h = tt
+  stmt_sites u c break h = tt
+  stmt_sites u c continue h = tt
+  stmt_sites u c (return e) h = return_sites u c e h
+
+  stmts_sites : (u : UnitTy) (c : Context) (ss : Stmts) → AreStmts u c ss → AreSites u (statements_sites ss)
+  stmts_sites u c no_stmts h = tt
+  stmts_sites u c (and_stmts a ss) h = sites_append u (statement_sites a) (statements_sites ss) (stmt_sites u c a h.0) (stmts_sites u c ss h.1)

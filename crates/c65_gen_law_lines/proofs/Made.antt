@@ -1,0 +1,215 @@
+-- Lines made of pieces: their labels, their targets, their forms and their size.
+use Rattle.std.proofs.Common.{◌≡◌, ℕ, ◌+◌, ◌<◌, ◌≤◌, ◌==◌, ◌⊎◌, inl, inr, Bool, true, false, not, List, [], ◌∷◌, ◌++◌, refl, sym, ◌∙◌, ap, subst, arith}
+use Rattle.std.specs.Prelude.{if◌then◌else◌, nat_le, nat_lt}
+use Rattle.std.specs.List.{list_all}
+use Rattle.std.proofs.lemmas.Bool.{and_parts, and_from, and_left, and_right, le-leb, lt-leb, lt-ltb, le-ltb, leb-true, ltb-true, eq-eqb, ne_eqb, cases_lt, cases_order}
+use Rattle.std.proofs.lemmas.List.Folds.{list_all-append}
+use Rattle.c65_mach.specs.declared.rows.Op.{Op}
+use Rattle.c65_mach.specs.declared.rows.Mode.{Mode}
+use Rattle.c65_code.specs.declared.line.Operand.{Operand}
+use Rattle.c65_code.specs.declared.line.Operand.TheVariants.{Nothing, Byte, Low, High, Zero, At, To}
+use Rattle.c65_code.specs.declared.line.Line.{Line}
+use Rattle.c65_code.specs.declared.line.Line.TheVariants.{Label, Do, Call}
+use Rattle.c65_code.specs.Segments.{is_to, is_fit, target_of, targets_of}
+use Rattle.c65_code.specs.Weights.{lines_size}
+use Rattle.c65_gen_law_lines.specs.Labels.{times, is_within, among}
+
+-- ---- labels and targets
+
+-- neither a label nor with a target
+abbrev pub is_plain : Line → Bool
+is_plain (Label l) = false
+is_plain (Do op mode operand) = not (is_to operand)
+is_plain (Call callee) = true
+
+pub times-append : (l : ℕ) (a b : List Line) → times l (a ++ b) ≡ times l a + times l b
+times-append l [] b = omega arith
+times-append l (Label k ∷ a) b = omega (arith, times-append l a b)
+times-append l (Do op mode operand ∷ a) b = times-append l a b
+times-append l (Call callee ∷ a) b = times-append l a b
+
+pub size-append : (a b : List Line) → lines_size (a ++ b) ≡ lines_size a + lines_size b
+size-append [] b = omega arith
+size-append (line ∷ a) b = omega (arith, size-append a b)
+
+append_assoc : (xs ys zs : List ℕ) → (xs ++ ys) ++ zs ≡ xs ++ (ys ++ zs)
+append_assoc [] ys zs = refl
+append_assoc (x ∷ xs) ys zs = ap (λ l. x ∷ l) (append_assoc xs ys zs)
+
+pub targets-append : (a b : List Line) → targets_of (a ++ b) ≡ targets_of a ++ targets_of b
+targets-append [] b = refl
+targets-append (line ∷ a) b = ap (λ l. target_of line ++ l) (targets-append a b) ∙ sym (append_assoc (target_of line) (targets_of a) (targets_of b))
+
+pub plain_times : (l : ℕ) (a : List Line) → list_all is_plain a ≡ true → times l a ≡ 0
+plain_times l [] h = refl
+plain_times l (Label k ∷ a) h = absurd cc
+plain_times l (Do op mode operand ∷ a) h = plain_times l a (and_parts (not (is_to operand)) (list_all is_plain a) h).1
+plain_times l (Call callee ∷ a) h = plain_times l a h
+
+no_target : (op : Op) (mode : Mode) (operand : Operand) → not (is_to operand) ≡ true → target_of (Do op mode operand) ≡ []
+no_target op mode Nothing h = refl
+no_target op mode (Byte v) h = refl
+no_target op mode (Low s o) h = refl
+no_target op mode (High s o) h = refl
+no_target op mode (Zero i) h = refl
+no_target op mode (At s o) h = refl
+no_target op mode (To l) h = absurd cc
+
+pub plain_targets : (a : List Line) → list_all is_plain a ≡ true → targets_of a ≡ []
+plain_targets [] h = refl
+plain_targets (Label k ∷ a) h = absurd cc
+plain_targets (Do op mode operand ∷ a) h =
+    let parts = and_parts (not (is_to operand)) (list_all is_plain a) h in
+    ap (λ l. l ++ targets_of a) (no_target op mode operand parts.0) ∙ plain_targets a parts.1
+plain_targets (Call callee ∷ a) h = plain_targets a h
+
+-- ---- labels of a range
+
+pub within : (lo n l : ℕ) → lo ≤ l → l < lo + n → is_within lo n l ≡ true
+within lo n l low high = and_from (nat_le lo l) (nat_lt l (lo + n)) (le-leb lo l low) (lt-ltb l (lo + n) high)
+
+pub among_inside : (lo n l : ℕ) → is_within lo n l ≡ true → among lo n l ≡ 1
+among_inside lo n l h = ap (λ b. if b then 1 else 0) h
+
+pub among_low : (lo n l : ℕ) → l < lo → among lo n l ≡ 0
+among_low lo n l low = ap (λ b. if b then 1 else 0) (and_left (nat_le lo l) (nat_lt l (lo + n)) (lt-leb lo l low))
+
+pub among_high : (lo n l : ℕ) → lo + n ≤ l → among lo n l ≡ 0
+among_high lo n l high = ap (λ b. if b then 1 else 0) (and_right (nat_le lo l) (nat_lt l (lo + n)) (le-ltb l (lo + n) high))
+
+pub among_in : (lo n l : ℕ) → lo ≤ l → l < lo + n → among lo n l ≡ 1
+among_in lo n l low high = among_inside lo n l (within lo n l low high)
+
+pub among_split : (lo m n l : ℕ) → among lo (m + n) l ≡ among lo m l + among (lo + m) n l
+among_split lo m n l = first (cases_lt l lo) (cases_lt l (lo + m)) (cases_lt l (lo + m + n))
+  where
+    first : (l < lo) ⊎ (lo ≤ l) → (l < lo + m) ⊎ (lo + m ≤ l) → (l < lo + m + n) ⊎ (lo + m + n ≤ l) → among lo (m + n) l ≡ among lo m l + among (lo + m) n l
+    first (inl a) b c = omega (arith, among_low lo (m + n) l a, among_low lo m l a, among_low (lo + m) n l (omega (arith, a)))
+    first (inr a) (inl b) c = omega (arith, among_in lo (m + n) l a (omega (arith, b)), among_in lo m l a b, among_low (lo + m) n l b)
+    first (inr a) (inr b) (inl c) = omega (arith, among_in lo (m + n) l a (omega (arith, c)), among_high lo m l b, among_in (lo + m) n l b c)
+    first (inr a) (inr b) (inr c) = omega (arith, among_high lo (m + n) l (omega (arith, c)), among_high lo m l b, among_high (lo + m) n l c)
+
+pub among_none : (lo l : ℕ) → among lo 0 l ≡ 0
+among_none lo l = go (cases_lt l lo)
+  where
+    go : (l < lo) ⊎ (lo ≤ l) → among lo 0 l ≡ 0
+    go (inl a) = among_low lo 0 l a
+    go (inr a) = among_high lo 0 l (omega (arith, a))
+
+pub among_one : (lo l : ℕ) → among lo 1 l ≡ (if lo == l then 1 else 0)
+among_one lo l = go (cases_order lo l)
+  where
+    go : (lo ≡ l) ⊎ ((lo < l) ⊎ (l < lo)) → among lo 1 l ≡ (if lo == l then 1 else 0)
+    go (inl e) = among_in lo 1 l (omega (arith, e)) (omega (arith, e)) ∙ sym (ap (λ b. if b then 1 else 0) (eq-eqb lo l e))
+    go (inr (inl a)) = among_high lo 1 l (omega (arith, a)) ∙ sym (ap (λ b. if b then 1 else 0) (ne_eqb lo l (λ e. omega (arith, a, e))))
+    go (inr (inr a)) = among_low lo 1 l a ∙ sym (ap (λ b. if b then 1 else 0) (ne_eqb lo l (λ e. omega (arith, a, e))))
+
+pub within_wider : (lo n to m l : ℕ) → to ≤ lo → lo + n ≤ to + m → is_within lo n l ≡ true → is_within to m l ≡ true
+within_wider lo n to m l low high h =
+    let parts = and_parts (nat_le lo l) (nat_lt l (lo + n)) h in
+    within to m l (omega (arith, leb-true lo l parts.0)) (omega (arith, ltb-true l (lo + n) parts.1))
+
+all_wider : (lo n to m : ℕ) (ls : List ℕ) → to ≤ lo → lo + n ≤ to + m → list_all (is_within lo n) ls ≡ true → list_all (is_within to m) ls ≡ true
+all_wider lo n to m [] low high h = refl
+all_wider lo n to m (l ∷ ls) low high h =
+    let parts = and_parts (is_within lo n l) (list_all (is_within lo n) ls) h in
+    and_from (is_within to m l) (list_all (is_within to m) ls) (within_wider lo n to m l low high parts.0) (all_wider lo n to m ls low high parts.1)
+
+-- where branches and jumps lead
+pub record Leads (lo n : ℕ) (a : List Line) : Type 0 where
+  pub all : list_all (is_within lo n) (targets_of a) ≡ true
+
+pub leads_wider : (lo n to m : ℕ) (a : List Line) → to ≤ lo → lo + n ≤ to + m → Leads lo n a → Leads to m a
+leads_wider lo n to m a low high h = record { all = all_wider lo n to m (targets_of a) low high h.all }
+
+pub leads_append : (lo n : ℕ) (a b : List Line) → Leads lo n a → Leads lo n b → Leads lo n (a ++ b)
+leads_append lo n a b ha hb = record {
+  all =
+      ap (list_all (is_within lo n)) (targets-append a b)
+      ∙ (list_all-append (is_within lo n) (targets_of a) (targets_of b)
+      ∙ and_from (list_all (is_within lo n) (targets_of a)) (list_all (is_within lo n) (targets_of b)) ha.all hb.all);
+}
+
+pub leads_plain : (lo n : ℕ) (a : List Line) → list_all is_plain a ≡ true → Leads lo n a
+leads_plain lo n a h = record { all = ap (list_all (is_within lo n)) (plain_targets a h) }
+
+pub leads_to : (lo n l : ℕ) (op : Op) (mode : Mode) (a : List Line) → lo ≤ l → l < lo + n → Leads lo n a → Leads lo n (Do op mode (To l) ∷ a)
+leads_to lo n l op mode a low high h = record { all = and_from (is_within lo n l) (list_all (is_within lo n) (targets_of a)) (within lo n l low high) h.all }
+
+-- ---- pieces
+
+-- at most so many bytes, with no label and no target
+pub record Piece (k : ℕ) (lines : List Line) : Type 0 where
+  pub plain : list_all is_plain lines ≡ true
+  pub fit : list_all is_fit lines ≡ true
+  pub size : lines_size lines ≤ k
+
+-- the labels from lo on, so many
+pub record Made (lo n k : ℕ) (lines : List Line) : Type 0 where
+  pub once : (l : ℕ) → times l lines ≡ among lo n l
+  pub leads : Leads lo n lines
+  pub fit : list_all is_fit lines ≡ true
+  pub size : lines_size lines ≤ k
+
+pub all_append : (p : Line → Bool) (a b : List Line) → list_all p a ≡ true → list_all p b ≡ true → list_all p (a ++ b) ≡ true
+all_append p a b ha hb = list_all-append p a b ∙ and_from (list_all p a) (list_all p b) ha hb
+
+pub piece_append : (j k : ℕ) (a b : List Line) → Piece j a → Piece k b → Piece (j + k) (a ++ b)
+piece_append j k a b pa pb = record {
+  plain = all_append is_plain a b pa.plain pb.plain;
+  fit = all_append is_fit a b pa.fit pb.fit;
+  size = omega (arith, size-append a b, pa.size, pb.size);
+}
+
+pub piece_wider : (j k : ℕ) (a : List Line) → Piece j a → j ≤ k → Piece k a
+piece_wider j k a p le = record { plain = p.plain; fit = p.fit; size = omega (arith, p.size, le) }
+
+pub piece_if : (k : ℕ) (b : Bool) (x y : List Line) → Piece k x → Piece k y → Piece k (if b then x else y)
+piece_if k true x y px py = px
+piece_if k false x y px py = py
+
+pub piece_none : (k : ℕ) → Piece k []
+piece_none k = record { plain = refl; fit = refl; size = omega arith }
+
+-- ---- lines made of lines
+
+pub made_piece : (lo k : ℕ) (a : List Line) → Piece k a → Made lo 0 k a
+made_piece lo k a p = record {
+  once = λ l. plain_times l a p.plain ∙ sym (among_none lo l);
+  leads = leads_plain lo 0 a p.plain;
+  fit = p.fit;
+  size = p.size;
+}
+
+pub made_append : (lo m n j k : ℕ) (a b : List Line) → Made lo m j a → Made (lo + m) n k b → Made lo (m + n) (j + k) (a ++ b)
+made_append lo m n j k a b ma mb = record {
+  once = λ l. omega (arith, times-append l a b, ma.once l, mb.once l, among_split lo m n l);
+  leads = leads_append lo (m + n) a b (leads_wider lo m lo (m + n) a (omega arith) (omega arith) ma.leads) (leads_wider (lo + m) n lo (m + n) b (omega arith) (omega arith) mb.leads);
+  fit = all_append is_fit a b ma.fit mb.fit;
+  size = omega (arith, size-append a b, ma.size, mb.size);
+}
+
+pub made_behind : (lo n j k : ℕ) (a p : List Line) → Made lo n j a → Piece k p → Made lo n (j + k) (a ++ p)
+made_behind lo n j k a p ma pp = record {
+  once = λ l. omega (arith, times-append l a p, ma.once l, plain_times l p pp.plain);
+  leads = leads_append lo n a p ma.leads (leads_plain lo n p pp.plain);
+  fit = all_append is_fit a p ma.fit pp.fit;
+  size = omega (arith, size-append a p, ma.size, pp.size);
+}
+
+pub made_before : (lo n j k : ℕ) (p a : List Line) → Piece j p → Made lo n k a → Made lo n (j + k) (p ++ a)
+made_before lo n j k p a pp ma = record {
+  once = λ l. omega (arith, times-append l p a, ma.once l, plain_times l p pp.plain);
+  leads = leads_append lo n p a (leads_plain lo n p pp.plain) ma.leads;
+  fit = all_append is_fit p a pp.fit ma.fit;
+  size = omega (arith, size-append p a, ma.size, pp.size);
+}
+
+pub made_wider : (lo n j k : ℕ) (a : List Line) → Made lo n j a → j ≤ k → Made lo n k a
+made_wider lo n j k a m le = record { once = m.once; leads = m.leads; fit = m.fit; size = omega (arith, m.size, le) }
+
+pub made_as : (lo n m k : ℕ) (a : List Line) → n ≡ m → Made lo n k a → Made lo m k a
+made_as lo n m k a e made = subst (λ (x : ℕ). Made lo x k a) e made
+
+pub made_none : (lo k : ℕ) → Made lo 0 k []
+made_none lo k = made_piece lo k [] (piece_none k)

@@ -1,0 +1,358 @@
+-- The pieces of which lines are made: each with its greatest size.
+use Rattle.std.proofs.Common.{ℕ, ◌+◌, ◌-◌, ◌%◌, ◌≤◌, ◌==◌, Bool, true, false, Option, None, Some, List, [], ◌∷◌, ◌++◌, refl, arith}
+use Rattle.std.specs.Prelude.{min}
+use Rattle.c65_base.specs.declared.operators.UnaryOp.{UnaryOp}
+use Rattle.c65_base.specs.declared.operators.UnaryOp.TheVariants as unary
+use Rattle.c65_base.specs.declared.operators.BinaryOp.{BinaryOp}
+use Rattle.c65_base.specs.declared.operators.BinaryOp.TheVariants as ops
+use Rattle.c65_base.specs.declared.operators.StepKind.{StepKind}
+use Rattle.c65_ints.specs.declared.types.IntType.{IntType}
+use Rattle.c65_ints.specs.declared.types.IntType.TheVariants as ints
+use Rattle.c65_ints.specs.Ranges.{is_signed_of}
+use Rattle.c65_ctype.specs.Trees.{Ty, void, int, pointer, array, tag, function}
+use Rattle.c65_csem.specs.declared.items.Library.{Library}
+use Rattle.c65_code.specs.declared.line.Sym.{Sym}
+use Rattle.c65_code.specs.declared.line.Line.{Line}
+use Rattle.c65_code.specs.declared.line.Line.TheVariants.{Call}
+use Rattle.c65_code.specs.declared.line.Callee.TheVariants.{Function, Pointer}
+use Rattle.c65_code.specs.declared.routine.Count.TheVariants.{Two as two_bytes}
+use Rattle.c65_code.specs.declared.routine.Routine.TheVariants.{PushAx, LdAi, Tos, Unary, IncSp, Library as library_routine}
+use Rattle.c65_code.specs.declared.routine.UnaryRoutine.TheVariants.{Shl1}
+use Rattle.c65_code.specs.declared.routine.TosOp.{TosOp}
+use Rattle.c65_code.specs.declared.routine.TosOp.TheVariants as tos
+use Rattle.c65_code.specs.declared.routine.Width.{Width}
+use Rattle.c65_code.specs.declared.routine.Width.TheVariants.{Ax, Eax}
+use Rattle.c65_genframe.specs.declared.home.Home.{Home}
+use Rattle.c65_genframe.specs.declared.home.Home.TheVariants as homes
+use Rattle.c65_genframe.specs.Frames.{Framed, home_of, is_raised}
+use Rattle.c65_genframe.specs.Symbols.{numbers_of, object_symbol, function_symbol}
+use Rattle.c65_genwide.specs.Lines.{call}
+use Rattle.c65_genwide.specs.Wide.{width_of, narrow_code, wide_code, tos_of, is_comparison}
+use Rattle.c65_genload.specs.declared.places.Extent.{Extent}
+use Rattle.c65_genload.specs.declared.places.Extent.TheVariants.{One, Two, Four}
+use Rattle.c65_genload.specs.declared.places.Field.{Field}
+use Rattle.c65_genload.specs.declared.places.Place.{Place}
+use Rattle.c65_genload.specs.declared.places.Place.TheVariants as places
+use Rattle.c65_genload.specs.declared.places.Access.{Access}
+use Rattle.c65_genload.specs.declared.places.Access.TheVariants.{Whole, Part}
+use Rattle.c65_genload.specs.Places.{type_in, byte_more, extent_of}
+use Rattle.c65_genload.specs.Numbers.{number_code, add_word_code, add_by_width, add_code, mask_code, by_code, shift_code, scale_code, divide_code}
+use Rattle.c65_genload.specs.Conversions.{widen_code, convert_code, convert_to, push_code, pass_code, test_code}
+use Rattle.c65_genload.specs.Addresses.{symbol_code, address_code, above_code, raised_code, offset_code}
+use Rattle.c65_genload.specs.Fields.{ones, others, extract_code, aligned_code}
+use Rattle.c65_genload.specs.Loads.{hold_code, bytes_code, load_code}
+use Rattle.c65_genload.specs.Stores.{bytes_store, after_store, under_code, field_store, store_code, copy_code}
+use Rattle.c65_genexpr.specs.declared.operands.Operands.{Operands}
+use Rattle.c65_genexpr.specs.declared.operands.Operands.TheVariants.{Numbers, PointerFirst, PointerLast, Pointers}
+use Rattle.c65_genexpr.specs.declared.arguments.Passed.{Passed}
+use Rattle.c65_genexpr.specs.Places.{more, soft_code, code_at, object_code}
+use Rattle.c65_genexpr.specs.Operands.{computes, between_code, difference_code, behind_code, unary_code, conversion_code, negative, scaled, short_code}
+use Rattle.c65_genexpr.specs.Steps.{is_post, back_code, after_code, step_code, open_code, close_code}
+use Rattle.c65_genexpr.specs.Arguments.{reads_of, registers_of, argument_code}
+use Rattle.c65_genexpr.specs.Calls.{routine_of, count_code, fetch_code, result_code, library_at, named_by, named_code, pointer_code}
+use Rattle.c65_gen_law_lines.proofs.Made.{Piece, piece_append, piece_wider, piece_if, piece_none}
+
+pub narrow_piece : (kind : IntType) → Piece 3 (narrow_code kind)
+narrow_piece ints.SChar = record { plain = refl; fit = refl; size = omega arith }
+narrow_piece ints.UChar = record { plain = refl; fit = refl; size = omega arith }
+narrow_piece ints.Short = piece_none 3
+narrow_piece ints.UShort = piece_none 3
+narrow_piece ints.Int = piece_none 3
+narrow_piece ints.UInt = piece_none 3
+narrow_piece ints.Long = piece_none 3
+narrow_piece ints.ULong = piece_none 3
+
+pub number_piece : (w : Width) (n : ℕ) → Piece 12 (number_code w n)
+number_piece Ax n = record { plain = refl; fit = refl; size = omega arith }
+number_piece Eax n = record { plain = refl; fit = refl; size = omega arith }
+
+add_word_piece : (n : ℕ) → Piece 9 (add_word_code n)
+add_word_piece n = record { plain = refl; fit = refl; size = omega arith }
+
+add_width_piece : (w : Width) (kind : IntType) (n : ℕ) → Piece 21 (add_by_width w kind n)
+add_width_piece Ax kind n = piece_wider 12 21 (add_word_code n ++ narrow_code kind) (piece_append 9 3 (add_word_code n) (narrow_code kind) (add_word_piece n) (narrow_piece kind)) (omega arith)
+add_width_piece Eax kind n = record { plain = refl; fit = refl; size = omega arith }
+
+pub add_piece : (kind : IntType) (n : ℕ) → Piece 21 (add_code kind n)
+add_piece kind n = add_width_piece (width_of kind) kind n
+
+mask_piece : (n : ℕ) → Piece 8 (mask_code n)
+mask_piece n = record { plain = refl; fit = refl; size = omega arith }
+
+by_piece : (op : TosOp) (n : ℕ) → Piece 10 (by_code op n)
+by_piece op n = record { plain = refl; fit = refl; size = omega arith }
+
+shift_piece : (op : TosOp) (n : ℕ) → Piece 10 (shift_code op n)
+shift_piece op n = piece_if 10 (n == 0) [] (by_code op n) (piece_none 10) (by_piece op n)
+
+double_piece : Piece 13 (call (Unary Shl1 Ax) ∷ [])
+double_piece = record { plain = refl; fit = refl; size = omega arith }
+
+pub scale_piece : (n : ℕ) → Piece 13 (scale_code n)
+scale_piece n = piece_if 13 (n == 1) [] _ (piece_none 13) (piece_if 13 (n == 2) (call (Unary Shl1 Ax) ∷ []) (by_code tos.Mul n) double_piece (piece_wider 10 13 (by_code tos.Mul n) (by_piece tos.Mul n) (omega arith)))
+
+divide_piece : (n : ℕ) → Piece 10 (divide_code n)
+divide_piece n = piece_if 10 (n == 1) [] (by_code tos.Div n) (piece_none 10) (by_piece tos.Div n)
+
+pub symbol_piece : (s : Sym) (at : ℕ) → Piece 4 (symbol_code s at)
+symbol_piece s at = record { plain = refl; fit = refl; size = omega arith }
+
+address_piece : (at : ℕ) → Piece 12 (address_code at)
+address_piece at = record { plain = refl; fit = refl; size = omega arith }
+
+above_piece : Piece 10 above_code
+above_piece = record { plain = refl; fit = refl; size = omega arith }
+
+raised_piece : (counter at : ℕ) → Piece 46 (raised_code counter at)
+raised_piece counter at =
+    let rest : Piece 31 (above_code ++ add_code ints.UInt at) = piece_append 10 21 above_code (add_code ints.UInt at) above_piece (add_piece ints.UInt at) in
+    let one : Piece 3 (call LdAi ∷ []) = record { plain = refl; fit = refl; size = omega arith } in
+    piece_append 12 34 (address_code counter) (call LdAi ∷ (above_code ++ add_code ints.UInt at)) (address_piece counter) (piece_append 3 31 (call LdAi ∷ []) (above_code ++ add_code ints.UInt at) one rest)
+
+pub offset_piece : (n : ℕ) → Piece 9 (offset_code n)
+offset_piece n = piece_if 9 (n == 0) [] (add_code ints.UInt n) (piece_none 9) (record { plain = refl; fit = refl; size = omega arith })
+
+soft_piece : (raised : Bool) (pushed at stacked : ℕ) → Piece 46 (soft_code raised pushed at stacked)
+soft_piece true pushed at stacked = raised_piece pushed ((at + 65536 - stacked) % 65536)
+soft_piece false pushed at stacked = piece_wider 12 46 (address_code at) (address_piece at) (omega arith)
+
+home_piece : (f : Framed) (pushed i : ℕ) (home : Option Home) → Piece 46 (code_at f pushed i home)
+home_piece f pushed i None = piece_wider 4 46 _ (symbol_piece (object_symbol (numbers_of f.parts) i) 0) (omega arith)
+home_piece f pushed i (Some (homes.Bank b)) = piece_none 46
+home_piece f pushed i (Some (homes.Soft d)) = soft_piece (is_raised f i) pushed (more d pushed) f.stacked
+
+pub object_piece : (f : Framed) (pushed i : ℕ) → Piece 46 (object_code f pushed i)
+object_piece f pushed i = home_piece f pushed i (home_of f i)
+
+-- ---- conversions
+
+widen_piece : (kind : IntType) → Piece 3 (widen_code kind)
+widen_piece ints.SChar = record { plain = refl; fit = refl; size = omega arith }
+widen_piece ints.UChar = record { plain = refl; fit = refl; size = omega arith }
+widen_piece ints.Short = record { plain = refl; fit = refl; size = omega arith }
+widen_piece ints.UShort = record { plain = refl; fit = refl; size = omega arith }
+widen_piece ints.Int = record { plain = refl; fit = refl; size = omega arith }
+widen_piece ints.UInt = record { plain = refl; fit = refl; size = omega arith }
+widen_piece ints.Long = piece_none 3
+widen_piece ints.ULong = piece_none 3
+
+to_piece : (w : Width) (from to : IntType) → Piece 3 (convert_to w from to)
+to_piece Ax from to = narrow_piece to
+to_piece Eax from to = widen_piece from
+
+pub convert_piece : (from to : IntType) → Piece 3 (convert_code from to)
+convert_piece from to = to_piece (width_of to) from to
+
+pub conversion_piece : (t : Ty) (from : IntType) → Piece 3 (conversion_code t from)
+conversion_piece void from = piece_none 3
+conversion_piece (int k) from = convert_piece from k
+conversion_piece (pointer q) from = convert_piece from ints.UInt
+conversion_piece (array q n) from = convert_piece from ints.UInt
+conversion_piece (tag n) from = convert_piece from ints.UInt
+conversion_piece (function g) from = convert_piece from ints.UInt
+
+pub push_piece : (w : Width) → Piece 3 (push_code w)
+push_piece Ax = record { plain = refl; fit = refl; size = omega arith }
+push_piece Eax = record { plain = refl; fit = refl; size = omega arith }
+
+pass_piece : (kind : IntType) → Piece 3 (pass_code kind)
+pass_piece ints.SChar = record { plain = refl; fit = refl; size = omega arith }
+pass_piece ints.UChar = record { plain = refl; fit = refl; size = omega arith }
+pass_piece ints.Short = record { plain = refl; fit = refl; size = omega arith }
+pass_piece ints.UShort = record { plain = refl; fit = refl; size = omega arith }
+pass_piece ints.Int = record { plain = refl; fit = refl; size = omega arith }
+pass_piece ints.UInt = record { plain = refl; fit = refl; size = omega arith }
+pass_piece ints.Long = record { plain = refl; fit = refl; size = omega arith }
+pass_piece ints.ULong = record { plain = refl; fit = refl; size = omega arith }
+
+pub argument_piece : (kept : Bool) (kind : IntType) → Piece 3 (argument_code kept kind)
+argument_piece kept kind = piece_if 3 kept [] (pass_code kind) (piece_none 3) (pass_piece kind)
+
+pub test_piece : (w : Width) → Piece 8 (test_code w)
+test_piece Ax = record { plain = refl; fit = refl; size = omega arith }
+test_piece Eax = record { plain = refl; fit = refl; size = omega arith }
+
+-- ---- loads and stores
+
+pub hold_piece : (place : Place) → Piece 3 (hold_code place)
+hold_piece (places.Bank b) = piece_none 3
+hold_piece (places.Near at) = piece_none 3
+hold_piece (places.Data s at) = piece_none 3
+hold_piece places.Far = record { plain = refl; fit = refl; size = omega arith }
+
+bytes_piece : (place : Place) (e : Extent) → Piece 16 (bytes_code place e)
+bytes_piece (places.Bank b) One = record { plain = refl; fit = refl; size = omega arith }
+bytes_piece (places.Bank b) Two = record { plain = refl; fit = refl; size = omega arith }
+bytes_piece (places.Bank b) Four = record { plain = refl; fit = refl; size = omega arith }
+bytes_piece (places.Near at) One = record { plain = refl; fit = refl; size = omega arith }
+bytes_piece (places.Near at) Two = record { plain = refl; fit = refl; size = omega arith }
+bytes_piece (places.Near at) Four = record { plain = refl; fit = refl; size = omega arith }
+bytes_piece (places.Data s at) One = record { plain = refl; fit = refl; size = omega arith }
+bytes_piece (places.Data s at) Two = record { plain = refl; fit = refl; size = omega arith }
+bytes_piece (places.Data s at) Four = record { plain = refl; fit = refl; size = omega arith }
+bytes_piece places.Far One = record { plain = refl; fit = refl; size = omega arith }
+bytes_piece places.Far Two = record { plain = refl; fit = refl; size = omega arith }
+bytes_piece places.Far Four = record { plain = refl; fit = refl; size = omega arith }
+
+extract_piece : (g : Field) → Piece 20 (extract_code g)
+extract_piece g =
+    piece_if 20 (is_signed_of g.kind) (shift_code tos.Shl (16 - min (g.low + g.width) 16) ++ shift_code tos.Asr (16 - min g.width 16)) (shift_code tos.Shr g.low ++ mask_code (ones g.width))
+    (piece_append 10 10 _ _ (shift_piece tos.Shl (16 - min (g.low + g.width) 16)) (shift_piece tos.Asr (16 - min g.width 16)))
+    (piece_wider 18 20 _ (piece_append 10 8 _ _ (shift_piece tos.Shr g.low) (mask_piece (ones g.width))) (omega arith))
+
+-- a number by what is kept: a whole object, or a bit-field
+abbrev pub by_access : ℕ → ℕ → Access → ℕ
+by_access whole part (Whole kind) = whole
+by_access whole part (Part field) = part
+
+pub load_piece : (place : Place) (access : Access) → Piece (by_access 19 36 access) (load_code place access)
+load_piece place (Whole kind) = piece_append 16 3 _ _ (bytes_piece place (extent_of kind)) (narrow_piece kind)
+load_piece place (Part field) = piece_append 16 20 _ _ (bytes_piece place Two) (extract_piece field)
+
+bytes_store_piece : (place : Place) (e : Extent) → Piece 16 (bytes_store place e)
+bytes_store_piece (places.Bank b) One = record { plain = refl; fit = refl; size = omega arith }
+bytes_store_piece (places.Bank b) Two = record { plain = refl; fit = refl; size = omega arith }
+bytes_store_piece (places.Bank b) Four = record { plain = refl; fit = refl; size = omega arith }
+bytes_store_piece (places.Near at) One = record { plain = refl; fit = refl; size = omega arith }
+bytes_store_piece (places.Near at) Two = record { plain = refl; fit = refl; size = omega arith }
+bytes_store_piece (places.Near at) Four = record { plain = refl; fit = refl; size = omega arith }
+bytes_store_piece (places.Data s at) One = record { plain = refl; fit = refl; size = omega arith }
+bytes_store_piece (places.Data s at) Two = record { plain = refl; fit = refl; size = omega arith }
+bytes_store_piece (places.Data s at) Four = record { plain = refl; fit = refl; size = omega arith }
+bytes_store_piece places.Far One = record { plain = refl; fit = refl; size = omega arith }
+bytes_store_piece places.Far Two = record { plain = refl; fit = refl; size = omega arith }
+bytes_store_piece places.Far Four = record { plain = refl; fit = refl; size = omega arith }
+
+after_store_piece : (place : Place) (kind : IntType) → Piece 3 (after_store place kind)
+after_store_piece (places.Bank b) kind = piece_none 3
+after_store_piece (places.Near at) kind = piece_none 3
+after_store_piece (places.Data s at) kind = piece_none 3
+after_store_piece places.Far kind = narrow_piece kind
+
+under_piece : (place : Place) → Piece 18 (under_code place)
+under_piece (places.Bank b) = piece_wider 16 18 _ (bytes_piece (places.Bank b) Two) (omega arith)
+under_piece (places.Near at) = piece_wider 16 18 _ (bytes_piece (places.Near (byte_more at 2)) Two) (omega arith)
+under_piece (places.Data s at) = piece_wider 16 18 _ (bytes_piece (places.Data s at) Two) (omega arith)
+under_piece places.Far = record { plain = refl; fit = refl; size = omega arith }
+
+aligned_piece : (g : Field) → Piece 18 (aligned_code g)
+aligned_piece g = piece_append 8 10 _ _ (mask_piece (ones g.width)) (shift_piece tos.Shl g.low)
+
+one_call : (k : ℕ) (line : Line) (rest : List Line) → Piece 3 (line ∷ []) → Piece k rest → Piece (3 + k) (line ∷ rest)
+one_call k line rest p q = piece_append 3 k (line ∷ []) rest p q
+
+field_store_piece : (place : Place) (g : Field) → Piece 86 (field_store place g)
+field_store_piece place g =
+    let push : Piece 3 (call PushAx ∷ []) = record { plain = refl; fit = refl; size = omega arith } in
+    let join : Piece 3 (call (Tos tos.Or Ax) ∷ []) = record { plain = refl; fit = refl; size = omega arith } in
+    let last : Piece 36 (bytes_store place Two ++ extract_code g) = piece_append 16 20 (bytes_store place Two) (extract_code g) (bytes_store_piece place Two) (extract_piece g) in
+    let joined : Piece 39 (call (Tos tos.Or Ax) ∷ (bytes_store place Two ++ extract_code g)) = one_call 36 (call (Tos tos.Or Ax)) (bytes_store place Two ++ extract_code g) join last in
+    let masked : Piece 47 (mask_code (others g) ++ (call (Tos tos.Or Ax) ∷ (bytes_store place Two ++ extract_code g))) = piece_append 8 39 (mask_code (others g)) (call (Tos tos.Or Ax) ∷ (bytes_store place Two ++ extract_code g)) (mask_piece (others g)) joined in
+    let under : Piece 65 (under_code place ++ (mask_code (others g) ++ (call (Tos tos.Or Ax) ∷ (bytes_store place Two ++ extract_code g)))) = piece_append 18 47 (under_code place) _ (under_piece place) masked in
+    piece_append 18 68 (aligned_code g) _ (aligned_piece g) (one_call 65 (call PushAx) _ push under)
+
+pub store_piece : (place : Place) (access : Access) → Piece (by_access 19 86 access) (store_code place access)
+store_piece place (Whole kind) = piece_append 16 3 _ _ (bytes_store_piece place (extent_of kind)) (after_store_piece place kind)
+store_piece place (Part field) = field_store_piece place field
+
+pub copy_piece : (n : ℕ) → Piece 13 (copy_code n)
+copy_piece n = record { plain = refl; fit = refl; size = omega arith }
+
+-- ---- operators
+
+pub unary_piece : (op : UnaryOp) (w : Width) → Piece 13 (unary_code op w)
+unary_piece unary.Neg Ax = record { plain = refl; fit = refl; size = omega arith }
+unary_piece unary.Neg Eax = record { plain = refl; fit = refl; size = omega arith }
+unary_piece unary.BitNot Ax = record { plain = refl; fit = refl; size = omega arith }
+unary_piece unary.BitNot Eax = record { plain = refl; fit = refl; size = omega arith }
+unary_piece unary.Not w = record { plain = refl; fit = refl; size = omega arith }
+unary_piece _ w = piece_none 13
+
+wide_piece : (op : BinaryOp) (kind : IntType) → Piece 6 (wide_code op kind)
+wide_piece op kind =
+    let one : Piece 3 (call (Tos (tos_of op (is_signed_of kind)) (width_of kind)) ∷ []) = record { plain = refl; fit = refl; size = omega arith } in
+    one_call 3 (call (Tos (tos_of op (is_signed_of kind)) (width_of kind))) _ one (piece_if 3 (is_comparison op) [] (narrow_code kind) (piece_none 3) (narrow_piece kind))
+
+pub between_piece : (operands : Operands) → Piece 16 (between_code operands)
+between_piece (Numbers kind) = piece_wider 3 16 _ (push_piece (width_of kind)) (omega arith)
+between_piece (PointerFirst size) = piece_wider 3 16 _ (push_piece Ax) (omega arith)
+between_piece (PointerLast size) = piece_append 13 3 _ _ (scale_piece size) (push_piece Ax)
+between_piece (Pointers size) = piece_wider 3 16 _ (push_piece Ax) (omega arith)
+
+difference_piece : (op : BinaryOp) (size : ℕ) → Piece 10 (difference_code op size)
+difference_piece ops.Sub size = divide_piece size
+difference_piece _ size = piece_none 10
+
+pub behind_piece : (op : BinaryOp) (operands : Operands) (right : IntType) → Piece 19 (behind_code op operands right)
+behind_piece op (Numbers kind) right = piece_wider 9 19 _ (piece_append 3 6 _ _ (convert_piece right kind) (wide_piece op kind)) (omega arith)
+behind_piece op (PointerFirst size) right = piece_append 13 6 _ _ (scale_piece size) (wide_piece op ints.UInt)
+behind_piece op (PointerLast size) right = piece_wider 6 19 _ (wide_piece op ints.UInt) (omega arith)
+behind_piece op (Pointers size) right = piece_wider 16 19 _ (piece_append 6 10 _ _ (wide_piece op ints.UInt) (difference_piece op size)) (omega arith)
+
+pub short_piece : (op : BinaryOp) (operands : Operands) (n : ℕ) → Piece 21 (short_code op operands n)
+short_piece ops.Sub operands n = add_piece (computes operands) (negative (scaled operands n))
+short_piece ops.Add operands n = add_piece (computes operands) (scaled operands n)
+short_piece _ operands n = add_piece (computes operands) (scaled operands n)
+
+-- ---- assignments
+
+back_piece : (access : Access) (n : ℕ) → Piece (by_access 21 41 access) (back_code access n)
+back_piece (Whole kind) n = add_piece kind (negative n)
+back_piece (Part field) n = piece_append 21 20 _ _ (add_piece field.kind (negative n)) (extract_piece (record field { low = 0 }))
+
+after_piece : (how : StepKind) (access : Access) (n : ℕ) → Piece (by_access 21 41 access) (after_code how access n)
+after_piece how access n = piece_if _ (is_post how) (back_code access n) [] (back_piece access n) (piece_none _)
+
+step_sizes : (access : Access) → 3 + (by_access 19 36 access + (21 + (by_access 19 86 access + by_access 21 41 access))) ≤ by_access 83 187 access
+step_sizes (Whole kind) = omega arith
+step_sizes (Part field) = omega arith
+
+pub step_piece : (how : StepKind) (place : Place) (access : Access) (n : ℕ) → Piece (by_access 83 187 access) (step_code how place access n)
+step_piece how place access n =
+    piece_wider _ _ _ (piece_append 3 _ _ _ (hold_piece place) (piece_append _ _ _ _ (load_piece place access) (piece_append 21 _ _ _ (add_piece (type_in access) n) (piece_append _ _ _ _ (store_piece place access) (after_piece how access n))))) (step_sizes access)
+
+open_sizes : (access : Access) → 3 + (by_access 19 36 access + (3 + 3)) ≤ by_access 28 45 access
+open_sizes (Whole kind) = omega arith
+open_sizes (Part field) = omega arith
+
+pub open_piece : (place : Place) (access : Access) (kind : IntType) → Piece (by_access 28 45 access) (open_code place access kind)
+open_piece place access kind =
+    piece_wider _ _ _ (piece_append 3 _ _ _ (hold_piece place) (piece_append _ _ _ _ (load_piece place access) (piece_append 3 3 _ _ (convert_piece (type_in access) kind) (push_piece (width_of kind))))) (open_sizes access)
+
+close_sizes : (access : Access) → 19 + (3 + by_access 19 86 access) ≤ by_access 41 108 access
+close_sizes (Whole kind) = omega arith
+close_sizes (Part field) = omega arith
+
+pub close_piece : (op : BinaryOp) (operands : Operands) (right : IntType) (place : Place) (access : Access) → Piece (by_access 41 108 access) (close_code op operands right place access)
+close_piece op operands right place access =
+    piece_wider _ _ _ (piece_append 19 _ _ _ (behind_piece op operands right) (piece_append 3 _ _ _ (convert_piece (computes operands) (type_in access)) (store_piece place access))) (close_sizes access)
+
+-- ---- calls
+
+count_piece : (counted : Bool) (p : Passed) → Piece 2 (count_code counted p)
+count_piece true p = record { plain = refl; fit = refl; size = omega arith }
+count_piece false p = piece_none 2
+
+result_piece : (kind : Option IntType) → Piece 3 (result_code kind)
+result_piece None = piece_none 3
+result_piece (Some kind) = narrow_piece kind
+
+named_by_piece : (f : Framed) (i : ℕ) (l : Option Library) (counted : Bool) (p : Passed) (kind : Option IntType) → Piece 63 (named_by f i l counted p kind)
+named_by_piece f i (Some l) counted p kind =
+    let one : Piece 60 (call (library_routine (routine_of l)) ∷ []) = record { plain = refl; fit = refl; size = omega arith } in
+    piece_append 60 3 (call (library_routine (routine_of l)) ∷ []) _ one (result_piece kind)
+named_by_piece f i None counted p kind =
+    let one : Piece 3 (Call (Function (function_symbol (numbers_of f.parts) i) (reads_of counted p) (registers_of kind)) ∷ []) = record { plain = refl; fit = refl; size = omega arith } in
+    piece_wider 8 63 _ (piece_append 2 6 (count_code counted p) _ (count_piece counted p) (one_call 3 (Call (Function (function_symbol (numbers_of f.parts) i) (reads_of counted p) (registers_of kind))) _ one (result_piece kind))) (omega arith)
+
+pub named_piece : (f : Framed) (i : ℕ) (counted : Bool) (p : Passed) (kind : Option IntType) → Piece 63 (named_code f i counted p kind)
+named_piece f i counted p kind = named_by_piece f i (library_at f i) counted p kind
+
+fetch_piece : (p : Passed) → Piece 15 (fetch_code p)
+fetch_piece p = record { plain = refl; fit = refl; size = omega arith }
+
+pub pointer_piece : (counted : Bool) (p : Passed) (kind : Option IntType) → Piece 26 (pointer_code counted p kind)
+pointer_piece counted p kind =
+    let one : Piece 3 (Call (Pointer (reads_of counted p) (registers_of kind)) ∷ []) = record { plain = refl; fit = refl; size = omega arith } in
+    let two : Piece 3 (call (IncSp two_bytes) ∷ []) = record { plain = refl; fit = refl; size = omega arith } in
+    piece_append 15 11 (fetch_code p) _ (fetch_piece p) (piece_append 2 9 (count_code counted p) _ (count_piece counted p) (one_call 6 (Call (Pointer (reads_of counted p) (registers_of kind))) _ one (one_call 3 (call (IncSp two_bytes)) _ two (result_piece kind))))

@@ -1,0 +1,314 @@
+-- What each piece of lines does to the values that wait.
+use Rattle.std.proofs.Common.{◌≡◌, ℕ, ◌+◌, ◌-◌, ◌%◌, ◌==◌, Bool, true, false, Option, None, Some, List, [], ◌∷◌, ◌++◌, refl, ◌∙◌, ap}
+use Rattle.std.specs.Prelude.{if◌then◌else◌, min}
+use Rattle.c65_base.specs.declared.operators.UnaryOp.{UnaryOp}
+use Rattle.c65_base.specs.declared.operators.UnaryOp.TheVariants as unary
+use Rattle.c65_base.specs.declared.operators.BinaryOp.{BinaryOp}
+use Rattle.c65_base.specs.declared.operators.BinaryOp.TheVariants as ops
+use Rattle.c65_base.specs.declared.operators.StepKind.{StepKind}
+use Rattle.c65_ints.specs.declared.types.IntType.{IntType}
+use Rattle.c65_ints.specs.declared.types.IntType.TheVariants as ints
+use Rattle.c65_ints.specs.Ranges.{is_signed_of}
+use Rattle.c65_ctype.specs.Trees.{Ty, void, int, pointer, array, tag, function}
+use Rattle.c65_code.specs.declared.line.Line.{Line}
+use Rattle.c65_code.specs.declared.routine.Routine.TheVariants.{PushAx, LdAi, Tos, Unary}
+use Rattle.c65_code.specs.declared.routine.UnaryRoutine.TheVariants.{Shl1}
+use Rattle.c65_code.specs.declared.routine.TosOp.{TosOp}
+use Rattle.c65_code.specs.declared.routine.TosOp.TheVariants as tos
+use Rattle.c65_code.specs.declared.routine.Width.{Width}
+use Rattle.c65_code.specs.declared.routine.Width.TheVariants.{Ax, Eax}
+use Rattle.c65_genframe.specs.declared.home.Home.{Home}
+use Rattle.c65_genframe.specs.declared.home.Home.TheVariants as homes
+use Rattle.c65_genframe.specs.Frames.{Framed, home_of, is_raised}
+use Rattle.c65_genwide.specs.Lines.{call}
+use Rattle.c65_genwide.specs.Wide.{width_of, narrow_code, wide_code, tos_of, is_comparison}
+use Rattle.c65_genload.specs.declared.places.Extent.{Extent}
+use Rattle.c65_genload.specs.declared.places.Extent.TheVariants.{One, Two, Four}
+use Rattle.c65_genload.specs.declared.places.Field.{Field}
+use Rattle.c65_genload.specs.declared.places.Place.{Place}
+use Rattle.c65_genload.specs.declared.places.Place.TheVariants as places
+use Rattle.c65_genload.specs.declared.places.Access.{Access}
+use Rattle.c65_genload.specs.declared.places.Access.TheVariants.{Whole, Part}
+use Rattle.c65_genload.specs.Places.{type_in, byte_more, extent_of}
+use Rattle.c65_genload.specs.Numbers.{number_code, add_word_code, add_by_width, add_code, mask_code, by_code, shift_code, scale_code, divide_code}
+use Rattle.c65_genload.specs.Conversions.{widen_code, convert_code, convert_to, push_code, pass_code, test_code, waiting, size_of}
+use Rattle.c65_genload.specs.Addresses.{address_code, above_code, offset_code}
+use Rattle.c65_genload.specs.Fields.{ones, others, extract_code}
+use Rattle.c65_genload.specs.Loads.{hold_code, bytes_code, load_code}
+use Rattle.c65_genload.specs.Stores.{bytes_store, after_store, under_code, field_store, store_code, copy_code}
+use Rattle.c65_genexpr.specs.declared.operands.Operands.{Operands}
+use Rattle.c65_genexpr.specs.declared.operands.Operands.TheVariants.{Numbers, PointerFirst, PointerLast, Pointers}
+use Rattle.c65_genexpr.specs.Places.{more, soft_code, code_at, object_code}
+use Rattle.c65_genexpr.specs.Operands.{computes, between_code, difference_code, behind_code, unary_code, conversion_code, negative, scaled, short_code}
+use Rattle.c65_genexpr.specs.Steps.{is_post, back_code, after_code, step_code, open_code, close_code}
+use Rattle.c65_genexpr.specs.Arguments.{argument_code}
+use Rattle.c65_gen_law_lines.specs.Stack.{Waiting, waiting_by, behind, waits, argument_bytes}
+
+pub waits_append : (a b : List Line) (w : Option Waiting) → waits w (a ++ b) ≡ waits (waits w a) b
+waits_append [] b w = refl
+waits_append (line ∷ a) b w = waits_append a b (behind line w)
+
+-- lines lead from some values that wait to others, and call nothing
+pub record Leaves (v : List ℕ) (a : List Line) (u : List ℕ) : Type 0 where
+  pub to : (calls : List (List ℕ)) → waits (Some (waiting_by v calls)) a ≡ Some (waiting_by u calls)
+
+pub leaves_then : {v u t : List ℕ} {a b : List Line} → Leaves v a u → Leaves u b t → Leaves v (a ++ b) t
+leaves_then {v = v} {a = a} {b = b} p q = record { to = λ calls. waits_append a b (Some (waiting_by v calls)) ∙ (ap (λ w. waits w b) (p.to calls) ∙ q.to calls) }
+
+pub leaves_none : {v : List ℕ} → Leaves v [] v
+leaves_none = record { to = λ calls. refl }
+
+pub leaves_if : {v u : List ℕ} (b : Bool) {x y : List Line} → Leaves v x u → Leaves v y u → Leaves v (if b then x else y) u
+leaves_if true p q = p
+leaves_if false p q = q
+
+-- lines that leave what waits
+abbrev pub Still : List Line → Type 0
+Still a = (v : List ℕ) → Leaves v a v
+
+pub narrow_still : (kind : IntType) → Still (narrow_code kind)
+narrow_still ints.SChar v = record { to = λ calls. refl }
+narrow_still ints.UChar v = record { to = λ calls. refl }
+narrow_still ints.Short v = leaves_none
+narrow_still ints.UShort v = leaves_none
+narrow_still ints.Int v = leaves_none
+narrow_still ints.UInt v = leaves_none
+narrow_still ints.Long v = leaves_none
+narrow_still ints.ULong v = leaves_none
+
+pub number_still : (w : Width) (n : ℕ) → Still (number_code w n)
+number_still Ax n v = record { to = λ calls. refl }
+number_still Eax n v = record { to = λ calls. refl }
+
+add_width_still : (w : Width) (kind : IntType) (n : ℕ) → Still (add_by_width w kind n)
+add_width_still Ax kind n v = leaves_then {a = add_word_code n} (record { to = λ calls. refl }) (narrow_still kind v)
+add_width_still Eax kind n v = record { to = λ calls. refl }
+
+add_still : (kind : IntType) (n : ℕ) → Still (add_code kind n)
+add_still kind n v = add_width_still (width_of kind) kind n v
+
+mask_still : (n : ℕ) → Still (mask_code n)
+mask_still n v = record { to = λ calls. refl }
+
+by_still : (op : TosOp) (n : ℕ) → Still (by_code op n)
+by_still op n v = record { to = λ calls. refl }
+
+shift_still : (op : TosOp) (n : ℕ) → Still (shift_code op n)
+shift_still op n v = leaves_if (n == 0) leaves_none (by_still op n v)
+
+double_still : Still (call (Unary Shl1 Ax) ∷ [])
+double_still v = record { to = λ calls. refl }
+
+scale_still : (n : ℕ) → Still (scale_code n)
+scale_still n v = leaves_if (n == 1) leaves_none (leaves_if (n == 2) (double_still v) (by_still tos.Mul n v))
+
+divide_still : (n : ℕ) → Still (divide_code n)
+divide_still n v = leaves_if (n == 1) leaves_none (by_still tos.Div n v)
+
+above_still : (n : ℕ) → Still (call LdAi ∷ (above_code ++ add_code ints.UInt n))
+above_still n v = record { to = λ calls. refl }
+
+soft_still : (raised : Bool) (pushed at stacked : ℕ) → Still (soft_code raised pushed at stacked)
+soft_still true pushed at stacked v = leaves_then {a = address_code pushed} (record { to = λ calls. refl }) (above_still ((at + 65536 - stacked) % 65536) v)
+soft_still false pushed at stacked v = record { to = λ calls. refl }
+
+home_still : (f : Framed) (pushed i : ℕ) (home : Option Home) → Still (code_at f pushed i home)
+home_still f pushed i None v = record { to = λ calls. refl }
+home_still f pushed i (Some (homes.Bank b)) v = leaves_none
+home_still f pushed i (Some (homes.Soft d)) v = soft_still (is_raised f i) pushed (more d pushed) f.stacked v
+
+pub object_still : (f : Framed) (pushed i : ℕ) → Still (object_code f pushed i)
+object_still f pushed i v = home_still f pushed i (home_of f i) v
+
+one_still : (n : ℕ) → Still (add_code ints.UInt n)
+one_still n v = record { to = λ calls. refl }
+
+pub offset_still : (n : ℕ) → Still (offset_code n)
+offset_still n v = leaves_if (n == 0) leaves_none (one_still n v)
+
+widen_still : (kind : IntType) → Still (widen_code kind)
+widen_still ints.SChar v = record { to = λ calls. refl }
+widen_still ints.UChar v = record { to = λ calls. refl }
+widen_still ints.Short v = record { to = λ calls. refl }
+widen_still ints.UShort v = record { to = λ calls. refl }
+widen_still ints.Int v = record { to = λ calls. refl }
+widen_still ints.UInt v = record { to = λ calls. refl }
+widen_still ints.Long v = leaves_none
+widen_still ints.ULong v = leaves_none
+
+to_still : (w : Width) (from to : IntType) → Still (convert_to w from to)
+to_still Ax from to v = narrow_still to v
+to_still Eax from to v = widen_still from v
+
+convert_still : (from to : IntType) → Still (convert_code from to)
+convert_still from to v = to_still (width_of to) from to v
+
+pub conversion_still : (t : Ty) (from : IntType) → Still (conversion_code t from)
+conversion_still void from v = leaves_none
+conversion_still (int k) from v = convert_still from k v
+conversion_still (pointer q) from v = convert_still from ints.UInt v
+conversion_still (array q n) from v = convert_still from ints.UInt v
+conversion_still (tag n) from v = convert_still from ints.UInt v
+conversion_still (function g) from v = convert_still from ints.UInt v
+
+pub push_leaves : (w : Width) (v : List ℕ) → Leaves v (push_code w) (waiting w ∷ v)
+push_leaves Ax v = record { to = λ calls. refl }
+push_leaves Eax v = record { to = λ calls. refl }
+
+pass_leaves : (kind : IntType) (v : List ℕ) → Leaves v (pass_code kind) (size_of kind ∷ v)
+pass_leaves ints.SChar v = record { to = λ calls. refl }
+pass_leaves ints.UChar v = record { to = λ calls. refl }
+pass_leaves ints.Short v = record { to = λ calls. refl }
+pass_leaves ints.UShort v = record { to = λ calls. refl }
+pass_leaves ints.Int v = record { to = λ calls. refl }
+pass_leaves ints.UInt v = record { to = λ calls. refl }
+pass_leaves ints.Long v = record { to = λ calls. refl }
+pass_leaves ints.ULong v = record { to = λ calls. refl }
+
+pub argument_leaves : (kept : Bool) (kind : IntType) (v : List ℕ) → Leaves v (argument_code kept kind) (argument_bytes kept kind ++ v)
+argument_leaves true kind v = leaves_none
+argument_leaves false kind v = pass_leaves kind v
+
+pub test_still : (w : Width) → Still (test_code w)
+test_still Ax v = record { to = λ calls. refl }
+test_still Eax v = record { to = λ calls. refl }
+
+-- ---- loads and stores
+
+-- the address of a place that is anywhere waits
+abbrev pub holding : Place → List ℕ → List ℕ
+holding places.Far v = 2 ∷ v
+holding _ v = v
+
+pub hold_leaves : (place : Place) (v : List ℕ) → Leaves v (hold_code place) (holding place v)
+hold_leaves (places.Bank b) v = leaves_none
+hold_leaves (places.Near at) v = leaves_none
+hold_leaves (places.Data s at) v = leaves_none
+hold_leaves places.Far v = record { to = λ calls. refl }
+
+bytes_still : (place : Place) (e : Extent) → Still (bytes_code place e)
+bytes_still (places.Bank b) One v = record { to = λ calls. refl }
+bytes_still (places.Bank b) Two v = record { to = λ calls. refl }
+bytes_still (places.Bank b) Four v = record { to = λ calls. refl }
+bytes_still (places.Near at) One v = record { to = λ calls. refl }
+bytes_still (places.Near at) Two v = record { to = λ calls. refl }
+bytes_still (places.Near at) Four v = record { to = λ calls. refl }
+bytes_still (places.Data s at) One v = record { to = λ calls. refl }
+bytes_still (places.Data s at) Two v = record { to = λ calls. refl }
+bytes_still (places.Data s at) Four v = record { to = λ calls. refl }
+bytes_still places.Far One v = record { to = λ calls. refl }
+bytes_still places.Far Two v = record { to = λ calls. refl }
+bytes_still places.Far Four v = record { to = λ calls. refl }
+
+extract_still : (g : Field) → Still (extract_code g)
+extract_still g v =
+    leaves_if (is_signed_of g.kind) (leaves_then (shift_still tos.Shl (16 - min (g.low + g.width) 16) v) (shift_still tos.Asr (16 - min g.width 16) v)) (leaves_then (shift_still tos.Shr g.low v) (mask_still (ones g.width) v))
+
+pub load_still : (place : Place) (access : Access) → Still (load_code place access)
+load_still place (Whole kind) v = leaves_then (bytes_still place (extent_of kind) v) (narrow_still kind v)
+load_still place (Part field) v = leaves_then (bytes_still place Two v) (extract_still field v)
+
+store_leaves : (place : Place) (e : Extent) (v : List ℕ) → Leaves (holding place v) (bytes_store place e) v
+store_leaves (places.Bank b) One v = record { to = λ calls. refl }
+store_leaves (places.Bank b) Two v = record { to = λ calls. refl }
+store_leaves (places.Bank b) Four v = record { to = λ calls. refl }
+store_leaves (places.Near at) One v = record { to = λ calls. refl }
+store_leaves (places.Near at) Two v = record { to = λ calls. refl }
+store_leaves (places.Near at) Four v = record { to = λ calls. refl }
+store_leaves (places.Data s at) One v = record { to = λ calls. refl }
+store_leaves (places.Data s at) Two v = record { to = λ calls. refl }
+store_leaves (places.Data s at) Four v = record { to = λ calls. refl }
+store_leaves places.Far One v = record { to = λ calls. refl }
+store_leaves places.Far Two v = record { to = λ calls. refl }
+store_leaves places.Far Four v = record { to = λ calls. refl }
+
+after_store_still : (place : Place) (kind : IntType) → Still (after_store place kind)
+after_store_still (places.Bank b) kind v = leaves_none
+after_store_still (places.Near at) kind v = leaves_none
+after_store_still (places.Data s at) kind v = leaves_none
+after_store_still places.Far kind v = narrow_still kind v
+
+under_still : (place : Place) → Still (under_code place)
+under_still (places.Bank b) v = bytes_still (places.Bank b) Two v
+under_still (places.Near at) v = bytes_still (places.Near (byte_more at 2)) Two v
+under_still (places.Data s at) v = bytes_still (places.Data s at) Two v
+under_still places.Far v = record { to = λ calls. refl }
+
+push_one : (v : List ℕ) → Leaves v (call PushAx ∷ []) (2 ∷ v)
+push_one v = record { to = λ calls. refl }
+
+join_one : (v : List ℕ) → Leaves (2 ∷ v) (call (Tos tos.Or Ax) ∷ []) v
+join_one v = record { to = λ calls. refl }
+
+field_leaves : (place : Place) (g : Field) (v : List ℕ) → Leaves (holding place v) (field_store place g) v
+field_leaves place g v =
+    let h : List ℕ = holding place v in
+    leaves_then (leaves_then (mask_still (ones g.width) h) (shift_still tos.Shl g.low h))
+    (leaves_then (push_one h) (leaves_then (under_still place (2 ∷ h)) (leaves_then (mask_still (others g) (2 ∷ h)) (leaves_then (join_one h) (leaves_then (store_leaves place Two v) (extract_still g v))))))
+
+pub stored_leaves : (place : Place) (access : Access) (v : List ℕ) → Leaves (holding place v) (store_code place access) v
+stored_leaves place (Whole kind) v = leaves_then (store_leaves place (extent_of kind) v) (after_store_still place kind v)
+stored_leaves place (Part field) v = field_leaves place field v
+
+pub copy_leaves : (n : ℕ) (v : List ℕ) → Leaves (2 ∷ v) (copy_code n) v
+copy_leaves n v = record { to = λ calls. refl }
+
+-- ---- operators
+
+pub unary_still : (op : UnaryOp) (w : Width) → Still (unary_code op w)
+unary_still unary.Neg w v = record { to = λ calls. refl }
+unary_still unary.BitNot w v = record { to = λ calls. refl }
+unary_still unary.Not w v = record { to = λ calls. refl }
+unary_still _ w v = leaves_none
+
+tos_leaves : (op : TosOp) (w : Width) (v : List ℕ) → Leaves (waiting w ∷ v) (call (Tos op w) ∷ []) v
+tos_leaves op Ax v = record { to = λ calls. refl }
+tos_leaves op Eax v = record { to = λ calls. refl }
+
+wide_leaves : (op : BinaryOp) (kind : IntType) (v : List ℕ) → Leaves (waiting (width_of kind) ∷ v) (wide_code op kind) v
+wide_leaves op kind v = leaves_then (tos_leaves (tos_of op (is_signed_of kind)) (width_of kind) v) (leaves_if (is_comparison op) leaves_none (narrow_still kind v))
+
+pub between_leaves : (operands : Operands) (v : List ℕ) → Leaves v (between_code operands) (waiting (width_of (computes operands)) ∷ v)
+between_leaves (Numbers kind) v = push_leaves (width_of kind) v
+between_leaves (PointerFirst size) v = push_leaves Ax v
+between_leaves (PointerLast size) v = leaves_then (scale_still size v) (push_leaves Ax v)
+between_leaves (Pointers size) v = push_leaves Ax v
+
+difference_still : (op : BinaryOp) (size : ℕ) → Still (difference_code op size)
+difference_still ops.Sub size v = divide_still size v
+difference_still _ size v = leaves_none
+
+pub behind_leaves : (op : BinaryOp) (operands : Operands) (right : IntType) (v : List ℕ) → Leaves (waiting (width_of (computes operands)) ∷ v) (behind_code op operands right) v
+behind_leaves op (Numbers kind) right v = leaves_then (convert_still right kind (waiting (width_of kind) ∷ v)) (wide_leaves op kind v)
+behind_leaves op (PointerFirst size) right v = leaves_then (scale_still size (2 ∷ v)) (wide_leaves op ints.UInt v)
+behind_leaves op (PointerLast size) right v = wide_leaves op ints.UInt v
+behind_leaves op (Pointers size) right v = leaves_then (wide_leaves op ints.UInt v) (difference_still op size v)
+
+pub short_still : (op : BinaryOp) (operands : Operands) (n : ℕ) → Still (short_code op operands n)
+short_still ops.Sub operands n v = add_still (computes operands) (negative (scaled operands n)) v
+short_still ops.Add operands n v = add_still (computes operands) (scaled operands n) v
+short_still _ operands n v = add_still (computes operands) (scaled operands n) v
+
+-- ---- assignments
+
+back_still : (access : Access) (n : ℕ) → Still (back_code access n)
+back_still (Whole kind) n v = add_still kind (negative n) v
+back_still (Part field) n v = leaves_then (add_still field.kind (negative n) v) (extract_still (record field { low = 0 }) v)
+
+after_still : (how : StepKind) (access : Access) (n : ℕ) → Still (after_code how access n)
+after_still how access n v = leaves_if (is_post how) (back_still access n v) leaves_none
+
+pub step_still : (how : StepKind) (place : Place) (access : Access) (n : ℕ) → Still (step_code how place access n)
+step_still how place access n v =
+    let h : List ℕ = holding place v in
+    leaves_then (hold_leaves place v) (leaves_then (load_still place access h) (leaves_then (add_still (type_in access) n h) (leaves_then (stored_leaves place access v) (after_still how access n v))))
+
+pub open_leaves : (place : Place) (access : Access) (kind : IntType) (v : List ℕ) → Leaves v (open_code place access kind) (waiting (width_of kind) ∷ holding place v)
+open_leaves place access kind v =
+    let h : List ℕ = holding place v in
+    leaves_then (hold_leaves place v) (leaves_then (load_still place access h) (leaves_then (convert_still (type_in access) kind h) (push_leaves (width_of kind) h)))
+
+pub close_leaves : (op : BinaryOp) (operands : Operands) (right : IntType) (place : Place) (access : Access) (v : List ℕ) → Leaves (waiting (width_of (computes operands)) ∷ holding place v) (close_code op operands right place access) v
+close_leaves op operands right place access v =
+    let h : List ℕ = holding place v in
+    leaves_then (behind_leaves op operands right h) (leaves_then (convert_still (computes operands) (type_in access) h) (stored_leaves place access v))

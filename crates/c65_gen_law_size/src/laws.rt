@@ -1,0 +1,52 @@
+// Laws of frames and of the bytes of whole programs, each the contract of a function that does nothing.
+ghost use Rattle.c65_gen_law_size.specs.Own.{OwnObjectsHaveHomes};
+ghost use Rattle.c65_gen_law_size.specs.First.{TheFirstLargeFrameIsRefused, FramesAreRefusedAboveTheirLimit};
+ghost use Rattle.c65_gen_law_size.specs.Laws.{TypedFunctionsAreSmall, TypedProgramsAreSmall, ProgramsAreWithinTheirBulk, ImagesAreWithinTheirBulk, LargeImagesAreWithinTheirBulk, ScopedProgramsSetOwnObjects};
+
+/// The objects that have a home in a function's frame are its parameters and those of its body's blocks, and no others.
+pub fn own_objects_have_homes()
+    ensures { OwnObjectsHaveHomes }
+{}
+
+/// A well typed function that sets only objects of its own has at most 128 bytes for itself, each parameter and each node
+/// of its body.
+pub fn typed_functions_are_small()
+    ensures { TypedFunctionsAreSmall }
+{}
+
+/// The extent of the code of a well typed program is at most that of all its functions that have a body.
+pub fn typed_programs_are_small()
+    ensures { TypedProgramsAreSmall }
+{}
+
+/// Its code's extent, its data and 8,192 bytes of the runtime are together at most its bulk.
+pub fn programs_are_within_their_bulk()
+    ensures { ProgramsAreWithinTheirBulk }
+{}
+
+/// The file of its image is at most its bulk.
+pub fn images_are_within_their_bulk()
+    ensures { ImagesAreWithinTheirBulk }
+{}
+
+/// Where the linker refuses it as too large, its bytes, zeros among them, are at most its bulk: a program whose bulk is
+/// within the limit of an image is never refused so.
+pub fn large_images_are_within_their_bulk()
+    ensures { LargeImagesAreWithinTheirBulk }
+{}
+
+/// A program is refused for its first function with a body that has no frame, and for no other.
+pub fn the_first_large_frame_is_refused()
+    ensures { TheFirstLargeFrameIsRefused }
+{}
+
+/// A function is refused for its frame only where its parameters and automatic objects have more than 1,024 bytes.
+pub fn frames_are_refused_above_their_limit()
+    ensures { FramesAreRefusedAboveTheirLimit }
+{}
+
+/// In a scoped program each body sets and clears only objects of its own function, and each initial value has no more
+/// bytes than its object, with both pieces of each pointer: the premises of the laws above.
+pub fn scoped_programs_set_own_objects()
+    ensures { ScopedProgramsSetOwnObjects }
+{}

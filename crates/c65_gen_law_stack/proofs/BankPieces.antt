@@ -1,0 +1,324 @@
+-- The pieces of which lines are made write nothing of regbank, but for stores to a place in regbank.
+use Rattle.std.proofs.Common.{◌≡◌, ℕ, ◌+◌, ◌-◌, ◌%◌, ◌==◌, Bool, true, false, Option, None, Some, List, [], ◌∷◌, ◌++◌, refl, ◌∙◌}
+use Rattle.std.specs.Prelude.{min, if◌then◌else◌}
+use Rattle.std.specs.List.{list_all}
+use Rattle.std.proofs.lemmas.Bool.{and_from}
+use Rattle.std.proofs.lemmas.List.Folds.{list_all-append}
+use Rattle.c65_base.specs.declared.operators.UnaryOp.{UnaryOp}
+use Rattle.c65_base.specs.declared.operators.UnaryOp.TheVariants as unary
+use Rattle.c65_base.specs.declared.operators.BinaryOp.{BinaryOp}
+use Rattle.c65_base.specs.declared.operators.BinaryOp.TheVariants as ops
+use Rattle.c65_base.specs.declared.operators.StepKind.{StepKind}
+use Rattle.c65_ints.specs.declared.types.IntType.{IntType}
+use Rattle.c65_ints.specs.declared.types.IntType.TheVariants as ints
+use Rattle.c65_ints.specs.Ranges.{is_signed_of}
+use Rattle.c65_ctype.specs.Trees.{Ty, void, int, pointer, array, tag, function}
+use Rattle.c65_csem.specs.declared.items.Library.{Library}
+use Rattle.c65_code.specs.declared.line.Sym.{Sym}
+use Rattle.c65_code.specs.declared.line.Line.{Line}
+use Rattle.c65_code.specs.declared.line.Line.TheVariants.{Call}
+use Rattle.c65_code.specs.declared.line.Callee.TheVariants.{Function, Pointer}
+use Rattle.c65_code.specs.declared.routine.Count.TheVariants.{Two as two_bytes}
+use Rattle.c65_code.specs.declared.routine.Routine.TheVariants.{PushAx, LdAi, Tos, Unary, IncSp, Library as library_routine}
+use Rattle.c65_code.specs.declared.routine.UnaryRoutine.TheVariants.{Shl1}
+use Rattle.c65_code.specs.declared.routine.TosOp.{TosOp}
+use Rattle.c65_code.specs.declared.routine.TosOp.TheVariants as tos
+use Rattle.c65_code.specs.declared.routine.Width.{Width}
+use Rattle.c65_code.specs.declared.routine.Width.TheVariants.{Ax, Eax}
+use Rattle.c65_genframe.specs.declared.home.Home.{Home}
+use Rattle.c65_genframe.specs.declared.home.Home.TheVariants as homes
+use Rattle.c65_genframe.specs.Frames.{Framed, home_of, is_raised}
+use Rattle.c65_genframe.specs.Symbols.{numbers_of, object_symbol, function_symbol}
+use Rattle.c65_genwide.specs.Lines.{call}
+use Rattle.c65_genwide.specs.Wide.{width_of, narrow_code, wide_code, tos_of, is_comparison}
+use Rattle.c65_genload.specs.declared.places.Extent.{Extent}
+use Rattle.c65_genload.specs.declared.places.Extent.TheVariants.{One, Two, Four}
+use Rattle.c65_genload.specs.declared.places.Field.{Field}
+use Rattle.c65_genload.specs.declared.places.Place.{Place}
+use Rattle.c65_genload.specs.declared.places.Place.TheVariants as places
+use Rattle.c65_genload.specs.declared.places.Access.{Access}
+use Rattle.c65_genload.specs.declared.places.Access.TheVariants.{Whole, Part}
+use Rattle.c65_genload.specs.Places.{type_in, byte_more, extent_of}
+use Rattle.c65_genload.specs.Numbers.{number_code, add_word_code, add_by_width, add_code, mask_code, by_code, shift_code, scale_code, divide_code}
+use Rattle.c65_genload.specs.Conversions.{widen_code, convert_code, convert_to, push_code, pass_code, test_code}
+use Rattle.c65_genload.specs.Addresses.{symbol_code, address_code, above_code, raised_code, offset_code}
+use Rattle.c65_genload.specs.Fields.{ones, others, extract_code}
+use Rattle.c65_genload.specs.Loads.{hold_code, bytes_code, load_code}
+use Rattle.c65_genload.specs.Stores.{bytes_store, after_store, under_code, field_store, store_code, copy_code}
+use Rattle.c65_genexpr.specs.declared.operands.Operands.{Operands}
+use Rattle.c65_genexpr.specs.declared.operands.Operands.TheVariants.{Numbers, PointerFirst, PointerLast, Pointers}
+use Rattle.c65_genexpr.specs.declared.arguments.Passed.{Passed}
+use Rattle.c65_genexpr.specs.Places.{more, soft_code, code_at, object_code}
+use Rattle.c65_genexpr.specs.Operands.{computes, between_code, difference_code, behind_code, unary_code, conversion_code, negative, scaled, short_code}
+use Rattle.c65_genexpr.specs.Steps.{is_post, back_code, step_code, open_code, close_code}
+use Rattle.c65_genexpr.specs.Arguments.{reads_of, registers_of, argument_code}
+use Rattle.c65_genexpr.specs.Calls.{routine_of, count_code, fetch_code, result_code, library_at, named_by, named_code, pointer_code}
+use Rattle.c65_gen_law_stack.specs.Bank.{leaves_bank}
+
+-- lines that write nothing of regbank
+pub record Clear (lines : List Line) : Type 0 where
+  pub all : list_all leaves_bank lines ≡ true
+
+pub clear_then : {a b : List Line} → Clear a → Clear b → Clear (a ++ b)
+clear_then {a = a} {b = b} p q = record { all = list_all-append leaves_bank a b ∙ and_from (list_all leaves_bank a) (list_all leaves_bank b) p.all q.all }
+
+pub clear_if : (b : Bool) {x y : List Line} → Clear x → Clear y → Clear (if b then x else y)
+clear_if true p q = p
+clear_if false p q = q
+
+pub clear_none : Clear []
+clear_none = record { all = refl }
+
+-- a place that is not in regbank
+abbrev pub IsOff : Place → Type 0
+IsOff (places.Bank b) = ⊥
+IsOff _ = Unit {0}
+
+pub narrow_clear : (kind : IntType) → Clear (narrow_code kind)
+narrow_clear ints.SChar = record { all = refl }
+narrow_clear ints.UChar = record { all = refl }
+narrow_clear ints.Short = clear_none
+narrow_clear ints.UShort = clear_none
+narrow_clear ints.Int = clear_none
+narrow_clear ints.UInt = clear_none
+narrow_clear ints.Long = clear_none
+narrow_clear ints.ULong = clear_none
+
+pub number_clear : (w : Width) (n : ℕ) → Clear (number_code w n)
+number_clear Ax n = record { all = refl }
+number_clear Eax n = record { all = refl }
+
+add_width_clear : (w : Width) (kind : IntType) (n : ℕ) → Clear (add_by_width w kind n)
+add_width_clear Ax kind n = let one : Clear (add_word_code n) = record { all = refl } in clear_then one (narrow_clear kind)
+add_width_clear Eax kind n = record { all = refl }
+
+pub add_clear : (kind : IntType) (n : ℕ) → Clear (add_code kind n)
+add_clear kind n = add_width_clear (width_of kind) kind n
+
+mask_clear : (n : ℕ) → Clear (mask_code n)
+mask_clear n = record { all = refl }
+
+by_clear : (op : TosOp) (n : ℕ) → Clear (by_code op n)
+by_clear op n = record { all = refl }
+
+shift_clear : (op : TosOp) (n : ℕ) → Clear (shift_code op n)
+shift_clear op n = clear_if (n == 0) clear_none (by_clear op n)
+
+pub scale_clear : (n : ℕ) → Clear (scale_code n)
+scale_clear n = let one : Clear (call (Unary Shl1 Ax) ∷ []) = record { all = refl } in clear_if (n == 1) clear_none (clear_if (n == 2) one (by_clear tos.Mul n))
+
+divide_clear : (n : ℕ) → Clear (divide_code n)
+divide_clear n = clear_if (n == 1) clear_none (by_clear tos.Div n)
+
+pub symbol_clear : (s : Sym) (at : ℕ) → Clear (symbol_code s at)
+symbol_clear s at = record { all = refl }
+
+address_clear : (at : ℕ) → Clear (address_code at)
+address_clear at = record { all = refl }
+
+raised_clear : (counter at : ℕ) → Clear (raised_code counter at)
+raised_clear counter at = let one : Clear (call LdAi ∷ []) = record { all = refl } in let above : Clear above_code = record { all = refl } in clear_then (address_clear counter) (clear_then one (clear_then above (add_clear ints.UInt at)))
+
+pub offset_clear : (n : ℕ) → Clear (offset_code n)
+offset_clear n = clear_if (n == 0) clear_none (add_clear ints.UInt n)
+
+soft_clear : (raised : Bool) (pushed at stacked : ℕ) → Clear (soft_code raised pushed at stacked)
+soft_clear true pushed at stacked = raised_clear pushed ((at + 65536 - stacked) % 65536)
+soft_clear false pushed at stacked = address_clear at
+
+home_clear : (f : Framed) (pushed i : ℕ) (home : Option Home) → Clear (code_at f pushed i home)
+home_clear f pushed i None = symbol_clear (object_symbol (numbers_of f.parts) i) 0
+home_clear f pushed i (Some (homes.Bank b)) = clear_none
+home_clear f pushed i (Some (homes.Soft d)) = soft_clear (is_raised f i) pushed (more d pushed) f.stacked
+
+pub object_clear : (f : Framed) (pushed i : ℕ) → Clear (object_code f pushed i)
+object_clear f pushed i = home_clear f pushed i (home_of f i)
+
+-- ---- conversions
+
+widen_clear : (kind : IntType) → Clear (widen_code kind)
+widen_clear ints.SChar = record { all = refl }
+widen_clear ints.UChar = record { all = refl }
+widen_clear ints.Short = record { all = refl }
+widen_clear ints.UShort = record { all = refl }
+widen_clear ints.Int = record { all = refl }
+widen_clear ints.UInt = record { all = refl }
+widen_clear ints.Long = clear_none
+widen_clear ints.ULong = clear_none
+
+to_clear : (w : Width) (from to : IntType) → Clear (convert_to w from to)
+to_clear Ax from to = narrow_clear to
+to_clear Eax from to = widen_clear from
+
+pub convert_clear : (from to : IntType) → Clear (convert_code from to)
+convert_clear from to = to_clear (width_of to) from to
+
+pub conversion_clear : (t : Ty) (from : IntType) → Clear (conversion_code t from)
+conversion_clear void from = clear_none
+conversion_clear (int k) from = convert_clear from k
+conversion_clear (pointer q) from = convert_clear from ints.UInt
+conversion_clear (array q n) from = convert_clear from ints.UInt
+conversion_clear (tag n) from = convert_clear from ints.UInt
+conversion_clear (function g) from = convert_clear from ints.UInt
+
+pub push_clear : (w : Width) → Clear (push_code w)
+push_clear Ax = record { all = refl }
+push_clear Eax = record { all = refl }
+
+pass_clear : (kind : IntType) → Clear (pass_code kind)
+pass_clear ints.SChar = record { all = refl }
+pass_clear ints.UChar = record { all = refl }
+pass_clear ints.Short = record { all = refl }
+pass_clear ints.UShort = record { all = refl }
+pass_clear ints.Int = record { all = refl }
+pass_clear ints.UInt = record { all = refl }
+pass_clear ints.Long = record { all = refl }
+pass_clear ints.ULong = record { all = refl }
+
+pub argument_clear : (kept : Bool) (kind : IntType) → Clear (argument_code kept kind)
+argument_clear kept kind = clear_if kept clear_none (pass_clear kind)
+
+pub test_clear : (w : Width) → Clear (test_code w)
+test_clear Ax = record { all = refl }
+test_clear Eax = record { all = refl }
+
+-- ---- loads and stores
+
+pub hold_clear : (place : Place) → Clear (hold_code place)
+hold_clear (places.Bank b) = clear_none
+hold_clear (places.Near at) = clear_none
+hold_clear (places.Data s at) = clear_none
+hold_clear places.Far = record { all = refl }
+
+bytes_clear : (place : Place) (e : Extent) → Clear (bytes_code place e)
+bytes_clear (places.Bank b) One = record { all = refl }
+bytes_clear (places.Bank b) Two = record { all = refl }
+bytes_clear (places.Bank b) Four = record { all = refl }
+bytes_clear (places.Near at) One = record { all = refl }
+bytes_clear (places.Near at) Two = record { all = refl }
+bytes_clear (places.Near at) Four = record { all = refl }
+bytes_clear (places.Data s at) One = record { all = refl }
+bytes_clear (places.Data s at) Two = record { all = refl }
+bytes_clear (places.Data s at) Four = record { all = refl }
+bytes_clear places.Far One = record { all = refl }
+bytes_clear places.Far Two = record { all = refl }
+bytes_clear places.Far Four = record { all = refl }
+
+extract_clear : (g : Field) → Clear (extract_code g)
+extract_clear g = clear_if (is_signed_of g.kind) (clear_then (shift_clear tos.Shl (16 - min (g.low + g.width) 16)) (shift_clear tos.Asr (16 - min g.width 16))) (clear_then (shift_clear tos.Shr g.low) (mask_clear (ones g.width)))
+
+pub load_clear : (place : Place) (access : Access) → Clear (load_code place access)
+load_clear place (Whole kind) = clear_then (bytes_clear place (extent_of kind)) (narrow_clear kind)
+load_clear place (Part field) = clear_then (bytes_clear place Two) (extract_clear field)
+
+bytes_store_clear : (place : Place) (e : Extent) → IsOff place → Clear (bytes_store place e)
+bytes_store_clear (places.Bank b) e off = absurd off
+bytes_store_clear (places.Near at) One off = record { all = refl }
+bytes_store_clear (places.Near at) Two off = record { all = refl }
+bytes_store_clear (places.Near at) Four off = record { all = refl }
+bytes_store_clear (places.Data s at) One off = record { all = refl }
+bytes_store_clear (places.Data s at) Two off = record { all = refl }
+bytes_store_clear (places.Data s at) Four off = record { all = refl }
+bytes_store_clear places.Far One off = record { all = refl }
+bytes_store_clear places.Far Two off = record { all = refl }
+bytes_store_clear places.Far Four off = record { all = refl }
+
+after_store_clear : (place : Place) (kind : IntType) → Clear (after_store place kind)
+after_store_clear (places.Bank b) kind = clear_none
+after_store_clear (places.Near at) kind = clear_none
+after_store_clear (places.Data s at) kind = clear_none
+after_store_clear places.Far kind = narrow_clear kind
+
+under_clear : (place : Place) → Clear (under_code place)
+under_clear (places.Bank b) = bytes_clear (places.Bank b) Two
+under_clear (places.Near at) = bytes_clear (places.Near (byte_more at 2)) Two
+under_clear (places.Data s at) = bytes_clear (places.Data s at) Two
+under_clear places.Far = record { all = refl }
+
+field_store_clear : (place : Place) (g : Field) → IsOff place → Clear (field_store place g)
+field_store_clear place g off =
+    let push : Clear (call PushAx ∷ []) = record { all = refl } in
+    let join : Clear (call (Tos tos.Or Ax) ∷ []) = record { all = refl } in
+    clear_then (clear_then (mask_clear (ones g.width)) (shift_clear tos.Shl g.low)) (clear_then push (clear_then (under_clear place) (clear_then (mask_clear (others g)) (clear_then join (clear_then (bytes_store_clear place Two off) (extract_clear g))))))
+
+pub store_clear : (place : Place) (access : Access) → IsOff place → Clear (store_code place access)
+store_clear place (Whole kind) off = clear_then (bytes_store_clear place (extent_of kind) off) (after_store_clear place kind)
+store_clear place (Part field) off = field_store_clear place field off
+
+pub copy_clear : (n : ℕ) → Clear (copy_code n)
+copy_clear n = record { all = refl }
+
+-- ---- operators
+
+pub unary_clear : (op : UnaryOp) (w : Width) → Clear (unary_code op w)
+unary_clear unary.Neg Ax = record { all = refl }
+unary_clear unary.Neg Eax = record { all = refl }
+unary_clear unary.BitNot Ax = record { all = refl }
+unary_clear unary.BitNot Eax = record { all = refl }
+unary_clear unary.Not w = record { all = refl }
+unary_clear _ w = clear_none
+
+wide_clear : (op : BinaryOp) (kind : IntType) → Clear (wide_code op kind)
+wide_clear op kind = let one : Clear (call (Tos (tos_of op (is_signed_of kind)) (width_of kind)) ∷ []) = record { all = refl } in clear_then one (clear_if (is_comparison op) clear_none (narrow_clear kind))
+
+pub between_clear : (operands : Operands) → Clear (between_code operands)
+between_clear (Numbers kind) = push_clear (width_of kind)
+between_clear (PointerFirst size) = push_clear Ax
+between_clear (PointerLast size) = clear_then (scale_clear size) (push_clear Ax)
+between_clear (Pointers size) = push_clear Ax
+
+difference_clear : (op : BinaryOp) (size : ℕ) → Clear (difference_code op size)
+difference_clear ops.Sub size = divide_clear size
+difference_clear _ size = clear_none
+
+pub behind_clear : (op : BinaryOp) (operands : Operands) (right : IntType) → Clear (behind_code op operands right)
+behind_clear op (Numbers kind) right = clear_then (convert_clear right kind) (wide_clear op kind)
+behind_clear op (PointerFirst size) right = clear_then (scale_clear size) (wide_clear op ints.UInt)
+behind_clear op (PointerLast size) right = wide_clear op ints.UInt
+behind_clear op (Pointers size) right = clear_then (wide_clear op ints.UInt) (difference_clear op size)
+
+pub short_clear : (op : BinaryOp) (operands : Operands) (n : ℕ) → Clear (short_code op operands n)
+short_clear ops.Sub operands n = add_clear (computes operands) (negative (scaled operands n))
+short_clear ops.Add operands n = add_clear (computes operands) (scaled operands n)
+short_clear _ operands n = add_clear (computes operands) (scaled operands n)
+
+-- ---- assignments
+
+back_clear : (access : Access) (n : ℕ) → Clear (back_code access n)
+back_clear (Whole kind) n = add_clear kind (negative n)
+back_clear (Part field) n = clear_then (add_clear field.kind (negative n)) (extract_clear (record field { low = 0 }))
+
+pub step_clear : (how : StepKind) (place : Place) (access : Access) (n : ℕ) → IsOff place → Clear (step_code how place access n)
+step_clear how place access n off = clear_then (hold_clear place) (clear_then (load_clear place access) (clear_then (add_clear (type_in access) n) (clear_then (store_clear place access off) (clear_if (is_post how) (back_clear access n) clear_none))))
+
+pub open_clear : (place : Place) (access : Access) (kind : IntType) → Clear (open_code place access kind)
+open_clear place access kind = clear_then (hold_clear place) (clear_then (load_clear place access) (clear_then (convert_clear (type_in access) kind) (push_clear (width_of kind))))
+
+pub close_clear : (op : BinaryOp) (operands : Operands) (right : IntType) (place : Place) (access : Access) → IsOff place → Clear (close_code op operands right place access)
+close_clear op operands right place access off = clear_then (behind_clear op operands right) (clear_then (convert_clear (computes operands) (type_in access)) (store_clear place access off))
+
+-- ---- calls
+
+count_clear : (counted : Bool) (p : Passed) → Clear (count_code counted p)
+count_clear true p = record { all = refl }
+count_clear false p = clear_none
+
+result_clear : (kind : Option IntType) → Clear (result_code kind)
+result_clear None = clear_none
+result_clear (Some kind) = narrow_clear kind
+
+named_by_clear : (f : Framed) (i : ℕ) (l : Option Library) (counted : Bool) (p : Passed) (kind : Option IntType) → Clear (named_by f i l counted p kind)
+named_by_clear f i (Some l) counted p kind = let one : Clear (call (library_routine (routine_of l)) ∷ []) = record { all = refl } in clear_then one (result_clear kind)
+named_by_clear f i None counted p kind =
+    let one : Clear (Call (Function (function_symbol (numbers_of f.parts) i) (reads_of counted p) (registers_of kind)) ∷ []) = record { all = refl } in
+    clear_then (count_clear counted p) (clear_then one (result_clear kind))
+
+pub named_clear : (f : Framed) (i : ℕ) (counted : Bool) (p : Passed) (kind : Option IntType) → Clear (named_code f i counted p kind)
+named_clear f i counted p kind = named_by_clear f i (library_at f i) counted p kind
+
+pub pointer_clear : (counted : Bool) (p : Passed) (kind : Option IntType) → Clear (pointer_code counted p kind)
+pointer_clear counted p kind =
+    let one : Clear (Call (Pointer (reads_of counted p) (registers_of kind)) ∷ []) = record { all = refl } in
+    let two : Clear (call (IncSp two_bytes) ∷ []) = record { all = refl } in
+    let fetch : Clear (fetch_code p) = record { all = refl } in
+    clear_then fetch (clear_then (count_clear counted p) (clear_then one (clear_then two (result_clear kind))))

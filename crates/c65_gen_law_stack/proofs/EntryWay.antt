@@ -1,0 +1,346 @@
+-- The entry of a function.
+use Rattle.std.proofs.Common.{◌≡◌, ℕ, zero, suc, ◌+◌, ◌*◌, ◌/◌, ◌%◌, ◌==◌, ◌≤◌, inl, inr, Bool, true, false, Option, None, Some, List, [], ◌∷◌, ◌++◌, refl, sym, ap, subst, ◌∙◌, arith}
+use Rattle.std.specs.Prelude.{if◌then◌else◌, nat_lt, IsTrue}
+use Rattle.std.proofs.lemmas.Bool.{eqb-true}
+use Rattle.c65_mach.specs.State.{Regs}
+use Rattle.c65_mach.specs.declared.rows.Op.TheVariants.{Adc, Clc, Ldy, Lda, Sta, Stx, Tax, Tay, Tya}
+use Rattle.c65_code.specs.declared.routine.Count.{Count}
+use Rattle.c65_code.specs.declared.routine.Count.TheVariants.{One, Two, Three, Four, Five, Six, Seven, Eight}
+use Rattle.c65_code.specs.declared.routine.Routine.TheVariants.{PushA, PushAx, PushEax, LdAxYSp, LdAi, LdAxi, SaveRegs, SubYSp, DecSp}
+use Rattle.c65_code.specs.declared.line.Line.{Line}
+use Rattle.c65_code.specs.Texts.{bytes_at}
+use Rattle.c65_code.specs.LineState.{Bytes, write, Place, State, sp_of}
+use Rattle.c65_code.specs.Placement.{Setting}
+use Rattle.c65_code.specs.Rows.{number_of, bank_of}
+use Rattle.c65_code.specs.Moves.{Moves}
+use Rattle.c65_genframe.specs.declared.home.Arrival.{Arrival}
+use Rattle.c65_genframe.specs.declared.home.Arrival.TheVariants.{Passed, Pushed, Kept}
+use Rattle.c65_genframe.specs.declared.home.Moved.{Moved}
+use Rattle.c65_genframe.specs.Frames.{Framed, saved_bytes}
+use Rattle.c65_genwide.specs.Lines.{value, call}
+use Rattle.c65_genentry.specs.Words.{sp, regbank, implied, zero_page, by_y}
+use Rattle.c65_genentry.specs.Stack.{count_of, lower_by, small_lower, repeated, lower_code}
+use Rattle.c65_genentry.specs.Entry.{pushed_code, bank_store, kept_code, saved_code, counted_code, count_code, near_load, far_load, load_code, moved_code, all_moved, taken_bytes, entry_code}
+use Rattle.c65_gen_law_stack.specs.Passing.{Passes}
+use Rattle.c65_gen_law_stack.specs.Calls.{pushed_bytes, entry_bytes, IsEntered}
+use Rattle.c65_gen_law_stack.proofs.Steps.{write_other, bytes_same, Sinks, Quiet, sinks_same, sinks_then, quiet_same, quiet_then, pushes_a, pushes_ax, pushes_eax, saves, lowers, lowers_y}
+use Rattle.c65_gen_law_stack.proofs.Ways.{halves, single, simple_way}
+
+-- ---- the last parameter
+
+push_way : (b c : Bool) (s : Setting) (p q : Place) (t u : State) → Passes s (call (if b then PushA else (if c then PushAx else PushEax)) ∷ []) p t q u → Quiet (if b then 1 else (if c then 2 else 4)) t u
+push_way true c s p q t u h = let one = single s (call PushA) p q t u h in (pushes_a s p q t u one.0.calm one.1).1
+push_way false true s p q t u h = let one = single s (call PushAx) p q t u h in pushes_ax s p q t u one.0.calm one.1
+push_way false false s p q t u h = let one = single s (call PushEax) p q t u h in pushes_eax s p q t u one.0.calm one.1
+
+same_quiet : (t u : State) → u ≡ t → Quiet 0 t u
+same_quiet t u e = subst (λ (x : State). Quiet 0 t x) (sym e) (quiet_same t)
+
+same_sinks : (t u : State) → u ≡ t → Sinks 0 t u
+same_sinks t u e = subst (λ (x : State). Sinks 0 t x) (sym e) (sinks_same t)
+
+pushed_way : (a : Arrival) (s : Setting) (p q : Place) (t u : State) → Passes s (pushed_code a) p t q u → Quiet (pushed_bytes a) t u
+pushed_way (Pushed bytes) s p q t u h = push_way (nat_lt bytes 2) (nat_lt bytes 3) s p q t u h
+pushed_way Passed s p q t u h = same_quiet t u h.1
+pushed_way (Kept bank bytes) s p q t u h = same_quiet t u h.1
+
+-- ---- lines that change registers alone
+
+record Registers (t u : State) : Type 0 where
+  sinks : Sinks 0 t u
+  bank : bank_of u ≡ bank_of t
+
+registers_only : (t u : State) (r : Regs) → u ≡ record t { regs = r } → Registers t u
+registers_only t u r e = subst (λ (x : State). Registers t x) (sym e) (record { sinks = record { sp = omega arith; mem = λ b h. refl; pushed = refl; frames = refl }; bank = refl })
+
+counted_way : (variadic : Bool) (s : Setting) (p q : Place) (t u : State) → Passes s (counted_code variadic) p t q u → Registers t u × (IsTrue variadic → u.regs.a ≡ t.regs.y)
+counted_way true s p q t u h =
+    let e = simple_way s (counted_code true) p q t u refl h in
+    (registers_only t u _ e, λ v. ap (λ (x : State). x.regs.a) e)
+counted_way false s p q t u h = (record { sinks = same_sinks t u h.1; bank = ap bank_of h.1 }, λ v. absurd cc)
+
+-- ---- regbank is saved
+
+saved_way : (bank : ℕ) (b : Bool) (s : Setting) (p q : Place) (t u : State) → nat_lt 0 bank ≡ b → Passes s (saved_code bank) p t q u → Quiet (saved_bytes bank) t u × (b ≡ true → bytes_at 6 (sp_of u) u.mem ≡ bank_of t)
+saved_way bank b s p q t u e h = by (nat_lt 0 bank) e h
+  where
+    by : (c : Bool) → c ≡ b → Passes s (if c then call SaveRegs ∷ [] else []) p t q u → Quiet (if c then 6 else 0) t u × (b ≡ true → bytes_at 6 (sp_of u) u.mem ≡ bank_of t)
+    by true e h =
+        let one = single s (call SaveRegs) p q t u h in
+        let both = saves s p q t u one.0.calm one.1 in
+        (both.1, λ yes. both.0.there)
+    by false e h = (same_quiet t u h.1, λ yes. absurd cc)
+
+-- ---- stores to regbank
+
+store_sinks : (t u : State) (i v : ℕ) → 2 ≤ i → u ≡ record t { zp = write t.zp i v } → Sinks 0 t u
+store_sinks t u i v h e =
+    let low : write t.zp i v 0 ≡ t.zp 0 = write_other t.zp i v 0 (λ z. omega (arith, z, h)) in
+    let high : write t.zp i v 1 ≡ t.zp 1 = write_other t.zp i v 1 (λ z. omega (arith, z, h)) in
+    subst (λ (x : State). Sinks 0 t x) (sym e) (record { sp = omega (arith, low, high); mem = λ b h. refl; pushed = refl; frames = refl })
+
+sta_way : (s : Setting) (i : ℕ) (p q : Place) (t u : State) → Passes s (zero_page Sta i ∷ []) p t q u → Sinks 0 t u
+sta_way s i p q t u h =
+    let one = single s (zero_page Sta i) p q t u h in
+    store_sinks t u i t.regs.a (one.0.within.1 tt) one.1.goes.1
+
+stx_way : (s : Setting) (i : ℕ) (p q : Place) (t u : State) → Passes s (zero_page Stx i ∷ []) p t q u → Sinks 0 t u
+stx_way s i p q t u h =
+    let one = single s (zero_page Stx i) p q t u h in
+    store_sinks t u i t.regs.x (one.0.within.1 tt) one.1.goes.1
+
+bank_way : (s : Setting) (bank bytes : ℕ) (p q : Place) (t u : State) → Passes s (bank_store bank bytes) p t q u → Sinks 0 t u
+bank_way s bank bytes p q t u h = by (nat_lt bytes 2) h
+  where
+    by : (b : Bool) → Passes s (if b then zero_page Sta ((regbank + bank) % 256) ∷ [] else zero_page Sta ((regbank + bank) % 256) ∷ zero_page Stx (((regbank + bank) % 256 + 1) % 256) ∷ []) p t q u → Sinks 0 t u
+    by true h = sta_way s ((regbank + bank) % 256) p q t u h
+    by false h =
+        let two = halves s (zero_page Sta ((regbank + bank) % 256) ∷ []) (zero_page Stx (((regbank + bank) % 256 + 1) % 256) ∷ []) p q t u h in
+        sinks_then (sta_way s ((regbank + bank) % 256) p two.0 t two.1 two.2) (stx_way s (((regbank + bank) % 256 + 1) % 256) two.0 q two.1 u two.3)
+
+kept_way : (a : Arrival) (s : Setting) (p q : Place) (t u : State) → Passes s (kept_code a) p t q u → Sinks 0 t u
+kept_way (Kept bank bytes) s p q t u h = bank_way s bank bytes p q t u h
+kept_way Passed s p q t u h = same_sinks t u h.1
+kept_way (Pushed bytes) s p q t u h = same_sinks t u h.1
+
+-- ---- sp is lowered
+
+number_in : Option Count → ℕ
+number_in None = 0
+number_in (Some c) = number_of c
+
+pub counted_of : (n : ℕ) (c : Count) → count_of n ≡ Some c → number_of c ≡ n
+unfolding number_in
+counted_of zero c h = absurd cc
+counted_of (suc zero) c h = sym (ap number_in h)
+counted_of (suc (suc zero)) c h = sym (ap number_in h)
+counted_of (suc (suc (suc zero))) c h = sym (ap number_in h)
+counted_of (suc (suc (suc (suc zero)))) c h = sym (ap number_in h)
+counted_of (suc (suc (suc (suc (suc zero))))) c h = sym (ap number_in h)
+counted_of (suc (suc (suc (suc (suc (suc zero)))))) c h = sym (ap number_in h)
+counted_of (suc (suc (suc (suc (suc (suc (suc zero))))))) c h = sym (ap number_in h)
+counted_of (suc (suc (suc (suc (suc (suc (suc (suc zero)))))))) c h = sym (ap number_in h)
+counted_of (suc (suc (suc (suc (suc (suc (suc (suc (suc n))))))))) c h = absurd cc
+
+few : (c : Count) → number_of c ≤ 8
+few One = omega arith
+few Two = omega arith
+few Three = omega arith
+few Four = omega arith
+few Five = omega arith
+few Six = omega arith
+few Seven = omega arith
+few Eight = omega arith
+
+quiet_as : {m n : ℕ} {t u : State} → m ≡ n → Quiet m t u → Quiet n t u
+quiet_as {t = t} {u = u} e p = subst (λ (k : ℕ). Quiet k t u) e p
+
+registers_quiet : (t u : State) (n : ℕ) → Registers t u → u.regs.a ≡ t.regs.a → Quiet 0 t u
+registers_quiet t u n r a = record { sinks = r.sinks; a = a; bank = r.bank }
+
+lower_by_way : (n : ℕ) (c : Option Count) (s : Setting) (p q : Place) (t u : State) → count_of n ≡ c → Passes s (lower_by n c) p t q u → Quiet n t u
+lower_by_way n (Some c) s p q t u e h =
+    let one = single s (call (DecSp c)) p q t u h in
+    quiet_as (counted_of n c e) (lowers c s p q t u (omega (arith, one.0.calm.low, few c)) one.1)
+lower_by_way n None s p q t u e h =
+    let two = halves s (value Ldy n ∷ []) (call SubYSp ∷ []) p q t u h in
+    let v : State = two.1 in
+    let set = simple_way s (value Ldy n ∷ []) p two.0 t v refl two.2 in
+    let one = single s (call SubYSp) two.0 q v u two.3 in
+    let y : v.regs.y ≡ n = ap (λ (x : State). x.regs.y) set in
+    let low : Quiet v.regs.y v u = lowers_y s two.0 q v u (omega (arith, one.0.calm.low, one.0.calm.bytes.y)) one.1 in
+    let first : Quiet 0 t v = record { sinks = (registers_only t v _ set).sinks; a = ap (λ (x : State). x.regs.a) set; bank = (registers_only t v _ set).bank } in
+    quiet_as (omega (arith, y)) (quiet_then first low)
+
+small_way : (n : ℕ) (s : Setting) (p q : Place) (t u : State) → Passes s (small_lower n) p t q u → Quiet n t u
+small_way n s p q t u h = by (n == 0) refl h
+  where
+    by : (b : Bool) → (n == 0) ≡ b → Passes s (if b then [] else lower_by n (count_of n)) p t q u → Quiet n t u
+    by true e h = quiet_as (sym (eqb-true n 0 e)) (same_quiet t u h.1)
+    by false e h = lower_by_way n (count_of n) s p q t u refl h
+
+repeated_way : (n k : ℕ) (s : Setting) (p q : Place) (t u : State) → Passes s (repeated n (small_lower k)) p t q u → Quiet (n * k) t u
+repeated_way zero k s p q t u h = quiet_as (omega arith) (same_quiet t u h.1)
+repeated_way (suc n) k s p q t u h =
+    let two = halves s (repeated n (small_lower k)) (small_lower k) p q t u h in
+    quiet_as (omega arith) (quiet_then (repeated_way n k s p two.0 t two.1 two.2) (small_way k s two.0 q two.1 u two.3))
+
+lower_way : (n : ℕ) (s : Setting) (p q : Place) (t u : State) → Passes s (lower_code n) p t q u → Quiet n t u
+lower_way n s p q t u h =
+    let two = halves s (repeated (n / 255) (small_lower 255)) (small_lower (n % 255)) p q t u h in
+    quiet_as (omega arith) (quiet_then (repeated_way (n / 255) 255 s p two.0 t two.1 two.2) (small_way (n % 255) s two.0 q two.1 u two.3))
+
+-- ---- the number of bytes that a variadic call pushed
+
+record Counts (variadic : Bool) (t u : State) : Type 0 where
+  quiet : Quiet (if variadic then 1 else 0) t u
+  there : IsTrue variadic → u.mem (sp_of u) ≡ t.regs.a
+
+first_byte : (m : Bytes) (at v : ℕ) → bytes_at 1 at m ≡ v ∷ [] → m at ≡ v
+first_byte m at v e = cc
+
+count_way : (variadic : Bool) (s : Setting) (p q : Place) (t u : State) → Passes s (count_code variadic) p t q u → Counts variadic t u
+count_way true s p q t u h =
+    let one = single s (call PushA) p q t u h in
+    let both = pushes_a s p q t u one.0.calm one.1 in
+    record { quiet = both.1; there = λ v. first_byte u.mem (sp_of u) t.regs.a both.0.there }
+count_way false s p q t u h = record { quiet = same_quiet t u h.1; there = λ v. absurd cc }
+
+-- ---- parameters that move to regbank
+
+ldaxysp_way : (s : Setting) (p q : Place) (t u : State) → Moves s (call LdAxYSp) p t q u → Sinks 0 t u
+ldaxysp_way s p q t u m = let meets = m.goes.1 in record { sp = omega (arith, meets.sp); mem = λ b h. meets.mem b (inr (inl h)); pushed = meets.pushed; frames = meets.frames }
+
+ldai_way : (s : Setting) (p q : Place) (t u : State) → Moves s (call LdAi) p t q u → Sinks 0 t u
+ldai_way s p q t u m = let meets = m.goes.1 in record { sp = omega (arith, meets.sp); mem = λ b h. meets.mem b (inr (inl h)); pushed = meets.pushed; frames = meets.frames }
+
+ldaxi_way : (s : Setting) (p q : Place) (t u : State) → Moves s (call LdAxi) p t q u → Sinks 0 t u
+ldaxi_way s p q t u m = let meets = m.goes.1 in record { sp = omega (arith, meets.sp); mem = λ b h. meets.mem b (inr (inl h)); pushed = meets.pushed; frames = meets.frames }
+
+near_way : (b : Bool) (at : ℕ) (s : Setting) (p q : Place) (t u : State) → Passes s (if b then value Ldy at ∷ by_y Lda sp ∷ [] else value Ldy (at + 1) ∷ call LdAxYSp ∷ []) p t q u → Sinks 0 t u
+near_way true at s p q t u h = (registers_only t u _ (simple_way s (value Ldy at ∷ by_y Lda sp ∷ []) p q t u refl h)).sinks
+near_way false at s p q t u h =
+    let two = halves s (value Ldy (at + 1) ∷ []) (call LdAxYSp ∷ []) p q t u h in
+    let one = single s (call LdAxYSp) two.0 q two.1 u two.3 in
+    sinks_then (registers_only t two.1 _ (simple_way s (value Ldy (at + 1) ∷ []) p two.0 t two.1 refl two.2)).sinks (ldaxysp_way s two.0 q two.1 u one.1)
+
+-- the address so far above sp
+abbrev address_code : ℕ → List Line
+address_code at = implied Clc ∷ zero_page Lda sp ∷ value Adc (at % 256) ∷ implied Tay ∷ zero_page Lda (sp + 1) ∷ value Adc (at / 256) ∷ implied Tax ∷ implied Tya ∷ []
+
+load_last_way : (b : Bool) (s : Setting) (p q : Place) (t u : State) → Passes s (if b then call LdAi ∷ [] else call LdAxi ∷ []) p t q u → Sinks 0 t u
+load_last_way true s p q t u h = let one = single s (call LdAi) p q t u h in ldai_way s p q t u one.1
+load_last_way false s p q t u h = let one = single s (call LdAxi) p q t u h in ldaxi_way s p q t u one.1
+
+far_way : (at bytes : ℕ) (s : Setting) (p q : Place) (t u : State) → Passes s (far_load at bytes) p t q u → Sinks 0 t u
+far_way at bytes s p q t u h =
+    let two = halves s (address_code at) (if nat_lt bytes 2 then call LdAi ∷ [] else call LdAxi ∷ []) p q t u h in
+    sinks_then (registers_only t two.1 _ (simple_way s (address_code at) p two.0 t two.1 refl two.2)).sinks (load_last_way (nat_lt bytes 2) s two.0 q two.1 u two.3)
+
+load_way : (b : Bool) (at bytes : ℕ) (s : Setting) (p q : Place) (t u : State) → Passes s (if b then near_load at bytes else far_load at bytes) p t q u → Sinks 0 t u
+load_way true at bytes s p q t u h = near_way (nat_lt bytes 2) at s p q t u h
+load_way false at bytes s p q t u h = far_way at bytes s p q t u h
+
+moved_way : (ms : List Moved) (s : Setting) (p q : Place) (t u : State) → Passes s (all_moved ms) p t q u → Sinks 0 t u
+moved_way [] s p q t u h = same_sinks t u h.1
+moved_way (m ∷ ms) s p q t u h =
+    let rest = halves s (moved_code m) (all_moved ms) p q t u h in
+    let two = halves s (load_code m.from m.bytes) (bank_store m.bank m.bytes) p rest.0 t rest.1 rest.2 in
+    sinks_then (sinks_then (load_way (nat_lt m.from 255) m.from m.bytes s p two.0 t two.1 two.2) (bank_way s m.bank m.bytes two.0 rest.0 two.1 rest.1 two.3)) (moved_way ms s rest.0 q rest.1 u rest.3)
+
+-- ---- the whole entry
+
+-- what a frame keeps of what its entry does
+pub record IsOrderly (f : Framed) : Type 0 where
+  -- the parameters of a variadic function are all on the stack
+  pub passed : IsTrue f.variadic → f.last ≡ Passed
+  pub counted : IsTrue f.variadic → 1 ≤ f.soft
+  -- where nothing is taken of regbank, no parameter goes there
+  pub unkept : nat_lt 0 f.bank ≡ false → (kept_code f.last ≡ []) × (f.moved ≡ [])
+
+taken_sum : (variadic : Bool) (soft : ℕ) → (IsTrue variadic → 1 ≤ soft) → taken_bytes variadic soft + (if variadic then 1 else 0) ≡ soft
+taken_sum true soft h = omega (arith, h refl)
+taken_sum false soft h = omega arith
+
+-- lines that are none
+no_way : (s : Setting) (lines : List Line) (p q : Place) (t u : State) → lines ≡ [] → Passes s lines p t q u → u ≡ t
+no_way s [] p q t u e h = h.1
+no_way s (line ∷ lines) p q t u e h = absurd cc
+
+moved_none : (s : Setting) (ms : List Moved) (p q : Place) (t u : State) → ms ≡ [] → Passes s (all_moved ms) p t q u → u ≡ t
+moved_none s [] p q t u e h = h.1
+moved_none s (m ∷ ms) p q t u e h = absurd cc
+
+no_push : (a : Arrival) (s : Setting) (p q : Place) (t u : State) → a ≡ Passed → Passes s (pushed_code a) p t q u → u ≡ t
+no_push Passed s p q t u e h = h.1
+no_push (Pushed bytes) s p q t u e h = absurd cc
+no_push (Kept bank bytes) s p q t u e h = absurd cc
+
+no_keep : (a : Arrival) (s : Setting) (p q : Place) (t u : State) → a ≡ Passed → Passes s (kept_code a) p t q u → u ≡ t
+no_keep Passed s p q t u e h = h.1
+no_keep (Pushed bytes) s p q t u e h = absurd cc
+no_keep (Kept bank bytes) s p q t u e h = absurd cc
+
+-- the states between the pieces of an entry
+record Entry (f : Framed) (t0 t1 t2 t3 t4 t5 t6 t7 : State) : Type 0 where
+  push : Quiet (pushed_bytes f.last) t0 t1
+  count : Registers t1 t2
+  counted : IsTrue f.variadic → t2.regs.a ≡ t1.regs.y
+  save : Quiet (saved_bytes f.bank) t2 t3
+  saved : nat_lt 0 f.bank ≡ true → bytes_at 6 (sp_of t3) t3.mem ≡ bank_of t2
+  keep : Sinks 0 t3 t4
+  lower : Quiet (taken_bytes f.variadic f.soft) t4 t5
+  counts : Counts f.variadic t5 t6
+  move : Sinks 0 t6 t7
+  -- nothing in between
+  unpushed : IsTrue f.variadic → t1 ≡ t0
+  unkept : IsTrue f.variadic → t4 ≡ t3
+  unstored : nat_lt 0 f.bank ≡ false → t4 ≡ t3
+  unmoved : nat_lt 0 f.bank ≡ false → t7 ≡ t6
+
+below_all : (f : Framed) {t0 t1 t2 t3 t4 t5 t6 t7 : State} → IsOrderly f → Entry f t0 t1 t2 t3 t4 t5 t6 t7 → Sinks (entry_bytes f) t0 t7
+below_all f {t0 = t0} {t7 = t7} o e =
+    let sum : pushed_bytes f.last + (0 + (saved_bytes f.bank + (0 + (taken_bytes f.variadic f.soft + ((if f.variadic then 1 else 0) + 0))))) ≡ entry_bytes f = omega (arith, taken_sum f.variadic f.soft o.counted) in
+    subst (λ (n : ℕ). Sinks n t0 t7) sum (sinks_then e.push.sinks (sinks_then e.count.sinks (sinks_then e.save.sinks (sinks_then e.keep (sinks_then e.lower.sinks (sinks_then e.counts.quiet.sinks e.move))))))
+
+-- from where regbank is saved on
+below_saved : (f : Framed) {t0 t1 t2 t3 t4 t5 t6 t7 : State} → IsOrderly f → Entry f t0 t1 t2 t3 t4 t5 t6 t7 → Sinks f.soft t3 t7
+below_saved f {t3 = t3} {t7 = t7} o e =
+    let sum : 0 + (taken_bytes f.variadic f.soft + ((if f.variadic then 1 else 0) + 0)) ≡ f.soft = omega (arith, taken_sum f.variadic f.soft o.counted) in
+    subst (λ (n : ℕ). Sinks n t3 t7) sum (sinks_then e.keep (sinks_then e.lower.sinks (sinks_then e.counts.quiet.sinks e.move)))
+
+entry_bank : (f : Framed) (b : Bool) {t0 t1 t2 t3 t4 t5 t6 t7 : State} → nat_lt 0 f.bank ≡ b → IsOrderly f → Entry f t0 t1 t2 t3 t4 t5 t6 t7
+    → (if b then bytes_at 6 (sp_of t7 + f.soft) t7.mem else bank_of t7) ≡ bank_of t0
+entry_bank f true {t0 = t0} {t2 = t2} {t3 = t3} {t7 = t7} h o e =
+    let below : Sinks f.soft t3 t7 = below_saved f o e in
+    let there : bytes_at 6 (sp_of t7 + f.soft) t7.mem ≡ bytes_at 6 (sp_of t3) t7.mem = ap (λ (n : ℕ). bytes_at 6 n t7.mem) below.sp in
+    there ∙ (bytes_same 6 (sp_of t3) t3.mem t7.mem below.mem ∙ (e.saved h ∙ (e.count.bank ∙ e.push.bank)))
+entry_bank f false {t3 = t3} {t4 = t4} {t6 = t6} {t7 = t7} h o e =
+    ap bank_of (e.unmoved h) ∙ (e.counts.quiet.bank ∙ (e.lower.bank ∙ (ap bank_of (e.unstored h) ∙ (e.save.bank ∙ (e.count.bank ∙ e.push.bank)))))
+
+entry_count : (f : Framed) (v : Bool) {t0 t1 t2 t3 t4 t5 t6 t7 : State} → f.variadic ≡ v → Entry f t0 t1 t2 t3 t4 t5 t6 t7
+    → (if v then t7.mem (sp_of t7) else f.stacked) ≡ (if v then t0.regs.y else f.stacked)
+entry_count f true {t0 = t0} {t1 = t1} {t3 = t3} {t4 = t4} {t5 = t5} {t6 = t6} {t7 = t7} h e =
+    let same : sp_of t7 ≡ sp_of t6 = omega (arith, e.move.sp) in
+    let there : t7.mem (sp_of t7) ≡ t6.mem (sp_of t6) = ap (λ (b : ℕ). t7.mem b) same ∙ e.move.mem (sp_of t6) (omega arith) in
+    there ∙ (e.counts.there h ∙ (e.lower.a ∙ (ap (λ (x : State). x.regs.a) (e.unkept h) ∙ (e.save.a ∙ (e.counted h ∙ ap (λ (x : State). x.regs.y) (e.unpushed h))))))
+entry_count f false h e = refl
+
+entered_by : (f : Framed) {t0 t1 t2 t3 t4 t5 t6 t7 : State} → IsOrderly f → Entry f t0 t1 t2 t3 t4 t5 t6 t7 → IsEntered f t0 t7
+entered_by f {t0 = t0} {t7 = t7} o e =
+    let all : Sinks (entry_bytes f) t0 t7 = below_all f o e in
+    record {
+      sp = all.sp;
+      bank = entry_bank f (nat_lt 0 f.bank) refl o e;
+      parameters = entry_count f f.variadic refl e;
+      above = all.mem;
+      pushed = all.pushed;
+      frames = all.frames;
+    }
+
+pub entered : (f : Framed) (s : Setting) (p q : Place) (t u : State) → IsOrderly f → Passes s (entry_code f) p t q u → IsEntered f t u
+entered f s p q t u o h =
+    let h1 = halves s (pushed_code f.last) (counted_code f.variadic ++ (saved_code f.bank ++ (kept_code f.last ++ (lower_code (taken_bytes f.variadic f.soft) ++ (count_code f.variadic ++ all_moved f.moved))))) p q t u h in
+    let h2 = halves s (counted_code f.variadic) (saved_code f.bank ++ (kept_code f.last ++ (lower_code (taken_bytes f.variadic f.soft) ++ (count_code f.variadic ++ all_moved f.moved)))) h1.0 q h1.1 u h1.3 in
+    let h3 = halves s (saved_code f.bank) (kept_code f.last ++ (lower_code (taken_bytes f.variadic f.soft) ++ (count_code f.variadic ++ all_moved f.moved))) h2.0 q h2.1 u h2.3 in
+    let h4 = halves s (kept_code f.last) (lower_code (taken_bytes f.variadic f.soft) ++ (count_code f.variadic ++ all_moved f.moved)) h3.0 q h3.1 u h3.3 in
+    let h5 = halves s (lower_code (taken_bytes f.variadic f.soft)) (count_code f.variadic ++ all_moved f.moved) h4.0 q h4.1 u h4.3 in
+    let h6 = halves s (count_code f.variadic) (all_moved f.moved) h5.0 q h5.1 u h5.3 in
+    let second = counted_way f.variadic s h1.0 h2.0 h1.1 h2.1 h2.2 in
+    let third = saved_way f.bank (nat_lt 0 f.bank) s h2.0 h3.0 h2.1 h3.1 refl h3.2 in
+    let e : Entry f t h1.1 h2.1 h3.1 h4.1 h5.1 h6.1 u = record {
+      push = pushed_way f.last s p h1.0 t h1.1 h1.2;
+      count = second.0;
+      counted = second.1;
+      save = third.0;
+      saved = third.1;
+      keep = kept_way f.last s h3.0 h4.0 h3.1 h4.1 h4.2;
+      lower = lower_way (taken_bytes f.variadic f.soft) s h4.0 h5.0 h4.1 h5.1 h5.2;
+      counts = count_way f.variadic s h5.0 h6.0 h5.1 h6.1 h6.2;
+      move = moved_way f.moved s h6.0 q h6.1 u h6.3;
+      unpushed = λ v. no_push f.last s p h1.0 t h1.1 (o.passed v) h1.2;
+      unkept = λ v. no_keep f.last s h3.0 h4.0 h3.1 h4.1 (o.passed v) h4.2;
+      unstored = λ b. no_way s (kept_code f.last) h3.0 h4.0 h3.1 h4.1 (o.unkept b).0 h4.2;
+      unmoved = λ b. moved_none s f.moved h6.0 q h6.1 u (o.unkept b).1 h6.3;
+    } in
+    entered_by f o e

@@ -1,5 +1,0 @@
-use Rattle.c65_genbulk.proofs.Bulks.{large_images_are_within_their_bulk}
-use Rattle.c65_genbulk.proofs.laws.large_images_are_within_their_bulk.Goals as goal
-
-pub returns : goal.returns
-returns c = large_images_are_within_their_bulk

@@ -1,5 +1,0 @@
-use Rattle.c65_genbulk.proofs.Owned.{own_objects_have_homes}
-use Rattle.c65_genbulk.proofs.laws.own_objects_have_homes.Goals as goal
-
-pub returns : goal.returns
-returns c = own_objects_have_homes

@@ -1,5 +1,0 @@
-use Rattle.c65_gencalls.proofs.ProgramLaws.{programs_are_compiled}
-use Rattle.c65_gencalls.proofs.laws.programs_are_compiled.Goals as goal
-
-pub returns : goal.returns
-returns c = programs_are_compiled

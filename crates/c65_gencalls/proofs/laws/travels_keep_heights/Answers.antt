@@ -1,5 +1,0 @@
-use Rattle.c65_gencalls.proofs.TravelLaws.{travels_keep_heights}
-use Rattle.c65_gencalls.proofs.laws.travels_keep_heights.Goals as goal
-
-pub returns : goal.returns
-returns c = travels_keep_heights

@@ -1,5 +1,0 @@
-use Rattle.c65_genheights.proofs.ParameterLaws.{calls_pass_their_parameters}
-use Rattle.c65_genheights.proofs.laws.calls_pass_their_parameters.Goals as goal
-
-pub returns : goal.returns
-returns c = calls_pass_their_parameters

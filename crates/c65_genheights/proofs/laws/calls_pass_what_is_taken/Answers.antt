@@ -1,5 +1,0 @@
-use Rattle.c65_genheights.proofs.ParameterLaws.{calls_pass_what_is_taken}
-use Rattle.c65_genheights.proofs.laws.calls_pass_what_is_taken.Goals as goal
-
-pub returns : goal.returns
-returns c = calls_pass_what_is_taken

@@ -1,5 +1,0 @@
-use Rattle.c65_genheights.proofs.CallWay.{entries_lower_sp}
-use Rattle.c65_genheights.proofs.laws.entries_lower_sp.Goals as goal
-
-pub returns : goal.returns
-returns c = entries_lower_sp

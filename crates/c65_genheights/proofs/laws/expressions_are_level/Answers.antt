@@ -1,5 +1,0 @@
-use Rattle.c65_genheights.proofs.FunctionLevels.{expressions_are_level}
-use Rattle.c65_genheights.proofs.laws.expressions_are_level.Goals as goal
-
-pub returns : goal.returns
-returns c = expressions_are_level

@@ -1,5 +1,0 @@
-use Rattle.c65_genheights.proofs.FunctionLevels.{functions_are_level}
-use Rattle.c65_genheights.proofs.laws.functions_are_level.Goals as goal
-
-pub returns : goal.returns
-returns c = functions_are_level

@@ -1,5 +1,0 @@
-use Rattle.c65_genheights.proofs.LineMoves.{functions_keep_heights}
-use Rattle.c65_genheights.proofs.laws.functions_keep_heights.Goals as goal
-
-pub returns : goal.returns
-returns c = functions_keep_heights

@@ -1,5 +1,0 @@
-use Rattle.c65_genheights.proofs.LineMoves.{moves_keep_heights}
-use Rattle.c65_genheights.proofs.laws.moves_keep_heights.Goals as goal
-
-pub returns : goal.returns
-returns c = moves_keep_heights

@@ -1,5 +1,0 @@
-use Rattle.c65_genheights.proofs.BankMoves.{moves_leave_regbank}
-use Rattle.c65_genheights.proofs.laws.moves_leave_regbank.Goals as goal
-
-pub returns : goal.returns
-returns c = moves_leave_regbank

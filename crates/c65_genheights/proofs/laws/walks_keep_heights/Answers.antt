@@ -1,5 +1,0 @@
-use Rattle.c65_genheights.proofs.WalkLaws.{walks_keep_heights}
-use Rattle.c65_genheights.proofs.laws.walks_keep_heights.Goals as goal
-
-pub returns : goal.returns
-returns c = walks_keep_heights

@@ -1,5 +1,0 @@
-use Rattle.c65_genlaws.proofs.FunctionLaws.{functions_are_segments}
-use Rattle.c65_genlaws.proofs.laws.functions_are_segments.Goals as goal
-
-pub returns : goal.returns
-returns c = functions_are_segments

@@ -1,5 +1,0 @@
-use Rattle.c65_genlaws.proofs.SizeLaws.{functions_are_small}
-use Rattle.c65_genlaws.proofs.laws.functions_are_small.Goals as goal
-
-pub returns : goal.returns
-returns c = functions_are_small

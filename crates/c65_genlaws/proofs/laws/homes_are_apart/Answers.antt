@@ -1,5 +1,0 @@
-use Rattle.c65_genlaws.proofs.HomeLaws.{homes_are_apart}
-use Rattle.c65_genlaws.proofs.laws.homes_are_apart.Goals as goal
-
-pub returns : goal.returns
-returns c = homes_are_apart

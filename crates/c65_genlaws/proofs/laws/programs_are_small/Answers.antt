@@ -1,5 +1,0 @@
-use Rattle.c65_genlaws.proofs.ProgramLaws.{programs_are_small}
-use Rattle.c65_genlaws.proofs.laws.programs_are_small.Goals as goal
-
-pub returns : goal.returns
-returns c = programs_are_small

@@ -1,5 +1,0 @@
-use Rattle.c65_genlaws.proofs.StackStmts.{statements_keep_the_stack}
-use Rattle.c65_genlaws.proofs.laws.statements_keep_the_stack.Goals as goal
-
-pub returns : goal.returns
-returns c = statements_keep_the_stack

@@ -1,5 +1,0 @@
-use Rattle.c65_linklaw.proofs.Extents.{images_are_bounded}
-use Rattle.c65_linklaw.proofs.laws.images_are_bounded.Goals as goal
-
-pub returns : goal.returns
-returns c = images_are_bounded

@@ -1,5 +1,0 @@
-use Rattle.c65_linklaw.proofs.Lines.{lines_are_coded}
-use Rattle.c65_linklaw.proofs.laws.lines_are_coded.Goals as goal
-
-pub returns : goal.returns
-returns c = lines_are_coded

@@ -1,5 +1,0 @@
-use Rattle.c65_linklaw.proofs.Extents.{sizes_are_lengths}
-use Rattle.c65_linklaw.proofs.laws.sizes_are_lengths.Goals as goal
-
-pub returns : goal.returns
-returns c = sizes_are_lengths

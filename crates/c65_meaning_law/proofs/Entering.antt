@@ -1,0 +1,52 @@
+-- A function is entered: each parameter begins with its argument.
+use Rattle.std.proofs.Common.{ℕ, true, List, [], ◌∷◌}
+use Rattle.std.specs.Prelude.{All, ⊤}
+use Rattle.c65_csem.specs.Trees.{UnitTy}
+use Rattle.c65_csem.specs.Units.{IsParam}
+use Rattle.c65_meaning.specs.Program.{ProgramTy}
+use Rattle.c65_meaning.specs.Store.{Value, Place}
+use Rattle.c65_meaning.specs.Shapes.{object_in, object_shape}
+use Rattle.c65_meaning.specs.State.{Scene}
+use Rattle.c65_meaning.specs.Step.{begin_object, put, with_params}
+use Rattle.c65_csem_names.specs.Scopes.{entering}
+use Rattle.c65_meaning_law.specs.Statements.{IsReady}
+use Rattle.c65_meaning_law.proofs.Stacks.{free, Sound, Stands, StoreFits, statement, D, IsScene}
+use Rattle.c65_meaning_law.proofs.Values.{bind_sound, map_sound}
+use Rattle.c65_meaning_law.proofs.Steps.{put_sound}
+use Rattle.c65_meaning_law.proofs.Scopes.{Grows, grows_same, grows_on, grows, block_new, ready_after, store_after, ready_stays, AreAutomatic, automatic_of, IsBegun}
+use Rattle.c65_meaning_law.proofs.Statements.{stands_on}
+use Rattle.c65_meaning_law.proofs.StatementSteps.{moves_here, stands_here, fits_here}
+use Rattle.c65_meaning_law.proofs.Arguments.{Enough}
+
+abbrev pub AllStand : (ℕ → Type 0) → List Value → Type 0
+AllStand D [] = ⊤
+AllStand D (v ∷ vs) = Stands D v × AllStand D vs
+
+pub automatic_params : (u : UnitTy) (params : List ℕ) → All (IsParam u) params → AreAutomatic u params
+automatic_params u params h = automatic_of u params (λ k d l. let q = h k d l in (q.object, q.automatic))
+
+module _ (p : ProgramTy) where
+  all_stand_on : (c e : Scene) → Grows p.unit c e → (vs : List Value) → AllStand (D p.unit c) vs → AllStand (D p.unit e) vs
+  all_stand_on c e g [] h = tt
+  all_stand_on c e g (v ∷ vs) h = (stands_on statement p.unit c e g v h.0, all_stand_on c e g vs h.1)
+
+  later : (scope : List ℕ) (d e f : Scene) → Grows p.unit d e → IsBegun p.unit scope e f → IsBegun p.unit scope d f
+  later scope d e f g h = record { grows = grows_on p.unit d e f g h.grows; ready = h.ready; store = h.store }
+
+  pub params_begin : (objects : List ℕ) (args : List Value) (scope : List ℕ) (d : Scene) → AreAutomatic p.unit objects → IsReady p.unit scope d → StoreFits (D p.unit d) d.store → AllStand (D p.unit d) args → Enough (D p.unit d) objects args → Sound (IsBegun p.unit (entering objects scope) d) (with_params p.unit objects args d)
+  params_begin [] args scope d n r h a o = record { grows = grows_same p.unit d; ready = r; store = h }
+  params_begin (i ∷ objects) [] scope d n r h a o = absurd o
+  params_begin (i ∷ objects) (v ∷ args) scope d n r h a o =
+      let e : Scene = begin_object p.unit i d in
+      let g : Grows p.unit d e = grows p.unit i d in
+      bind_sound (IsScene p.unit e) (IsBegun p.unit (entering (i ∷ objects) scope) d) (put true (object_shape p.unit.types (object_in p.unit i)) e (Place d.next 0) v) (with_params p.unit objects args)
+      (put_sound statement p e true (object_shape p.unit.types (object_in p.unit i)) e free (Place d.next 0) v (stands_here statement tt p e (store_after p.unit i d h)) (block_new p.unit i d) (stands_on statement p.unit d e g v a.0))
+      (λ f s. let m : Grows p.unit e f = moves_here statement tt p e f s in
+      let all : Grows p.unit d f = grows_on p.unit d e f g m in
+      map_sound (IsBegun p.unit (entering objects (i ∷ scope)) f) (IsBegun p.unit (entering (i ∷ objects) scope) d) (with_params p.unit objects args f) (λ x b. later (entering objects (i ∷ scope)) d f x all b)
+      (params_begin objects args (i ∷ scope) f n.1 (ready_stays p.unit e f m (i ∷ scope) (ready_after p.unit i d scope n.0 r)) (fits_here statement tt p e f m s.store) (all_stand_on d f all args a.1) (still_enough d f objects args o)))
+    where
+      still_enough : (c e : Scene) (os : List ℕ) (vs : List Value) → Enough (D p.unit c) os vs → Enough (D p.unit e) os vs
+      still_enough c e [] vs h = tt
+      still_enough c e (j ∷ os) [] h = absurd h
+      still_enough c e (j ∷ os) (w ∷ vs) h = still_enough c e os vs h

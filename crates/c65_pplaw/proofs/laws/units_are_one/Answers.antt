@@ -1,5 +1,0 @@
-use Rattle.c65_pplaw.proofs.Units.{units_are_one as the_law}
-use Rattle.c65_pplaw.proofs.laws.units_are_one.Goals as goal
-
-pub returns : goal.returns
-returns c = the_law

@@ -1,5 +1,0 @@
-use Rattle.c65_scanlaw.proofs.TokenLaws.{tokens_ranged}
-use Rattle.c65_scanlaw.proofs.laws.scanned_tokens_are_ranged.Goals as goal
-
-pub returns : goal.returns
-returns c = tokens_ranged

@@ -1,7 +1,0 @@
-use Rattle.std.proofs.Common.{◌≡◌, drop, map}
-use Rattle.c65_csem.specs.Views.{object_of, unit_of}
-use Rattle.c65_scoped.specs.Tests
-use Rattle.c65_scoped.proofs.initial.begin_well.Given as goal
-
-abbrev pub invariant-loop-object : goal.invariant-loop-object
-invariant-loop-object l = Tests.begin_well (unit_of l.parts) (map object_of (drop l.object-index l.object-items)) ≡ Tests.begin_well (unit_of l.parts) (unit_of l.parts).objects

@@ -1,7 +1,0 @@
-use Rattle.std.proofs.Common.{◌≡◌, drop}
-use Rattle.c65_csem.specs.Views.{stmts_of, unit_of}
-use Rattle.c65_scoped.specs.Tests
-use Rattle.c65_scoped.proofs.stmts.+stmts.Given as goal
-
-abbrev pub invariant-are_scoped-loop-stmt : goal.invariant-are_scoped-loop-stmt
-invariant-are_scoped-loop-stmt l = (Tests.are_scoped (unit_of l.parts) l.marks.items (stmts_of (drop l.stmt-index l.stmts)) ≡ Tests.are_scoped (unit_of l.parts) l.fn.marks.items (stmts_of l.stmts)) × (l.marks.items ≡ l.fn.marks.items)

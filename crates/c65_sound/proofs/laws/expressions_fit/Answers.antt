@@ -1,5 +1,0 @@
-use Rattle.c65_sound.proofs.Expressions.{expressions_fit as the_law}
-use Rattle.c65_sound.proofs.laws.expressions_fit.Goals as goal
-
-pub returns : goal.returns
-returns c = the_law

@@ -1,5 +1,0 @@
-use Rattle.c65_sound.proofs.Library.{library_fits as the_law}
-use Rattle.c65_sound.proofs.laws.library_fits.Goals as goal
-
-pub returns : goal.returns
-returns c = the_law

@@ -1,5 +1,0 @@
-use Rattle.c65_sound.proofs.Start.{programs_fit as the_law}
-use Rattle.c65_sound.proofs.laws.programs_fit.Goals as goal
-
-pub returns : goal.returns
-returns c = the_law

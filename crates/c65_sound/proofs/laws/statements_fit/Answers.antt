@@ -1,5 +1,0 @@
-use Rattle.c65_sound.proofs.StatementSteps.{statements_fit as the_law}
-use Rattle.c65_sound.proofs.laws.statements_fit.Goals as goal
-
-pub returns : goal.returns
-returns c = the_law

@@ -1,9 +1,0 @@
-use Rattle.c65_tree.specs.View.{specifiers_of}
-use Rattle.c65_parse.specs.Reading.{rest_of}
-use Rattle.c65_viable.proofs.Scopes.{few_types}
-use Rattle.c65_stops.proofs.Exactly.{reads_front}
-use Rattle.c65_stops.proofs.Knowing.{known_specifiers}
-use Rattle.c65_stops.proofs.calls.specifiers_exactly.Goals as goal
-
-pub returns : goal.returns
-returns c = λ once l. reads_front _ _ _ _ _ c.args.parser.now c.parse_specifiers.new.parser specifiers_of l c.parse_specifiers.result (known_specifiers _ _ (rest_of c.args.parser.now) (few_types c.args.parser.now.scope) once) c.parse_specifiers.ensures

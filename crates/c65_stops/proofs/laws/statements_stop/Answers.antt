@@ -1,5 +1,0 @@
-use Rattle.c65_stops.proofs.Whole.{statements_stop_at}
-use Rattle.c65_stops.proofs.laws.statements_stop.Goals as goal
-
-pub returns : goal.returns
-returns c = statements_stop_at

@@ -1,5 +1,0 @@
-use Rattle.c65_stops.proofs.Whole.{units_stop_at}
-use Rattle.c65_stops.proofs.laws.units_stop.Goals as goal
-
-pub returns : goal.returns
-returns c = units_stop_at

@@ -1,5 +1,0 @@
-use Rattle.c65_typedlaw.proofs.GrowthLaws.{stays}
-use Rattle.c65_typedlaw.proofs.laws.trees_stay_typed.Goals as goal
-
-pub returns : goal.returns
-returns c = λ u v e g w. stays u v g e w

@@ -1,5 +1,0 @@
-use Rattle.c65_unitlaw.proofs.Whole.{accepted}
-use Rattle.c65_unitlaw.proofs.calls.read_unit.Goals as goal
-
-pub returns : goal.returns
-returns c = accepted 256 _ c.parse_unit.result _ c.parse_unit.ensures

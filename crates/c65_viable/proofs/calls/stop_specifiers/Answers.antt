@@ -1,8 +1,0 @@
-use Rattle.std.proofs.Common.{arith}
-use Rattle.c65_parse.specs.Reading.{rest_of, blocks_of, specifiers_read}
-use Rattle.c65_viable.proofs.Scopes.{few_types, stopped}
-use Rattle.c65_viable.proofs.Whole.{specifiers_stop}
-use Rattle.c65_viable.proofs.calls.stop_specifiers.Goals as goal
-
-pub returns : goal.returns
-returns c = λ l. stopped 256 _ c.parse_specifiers.result (specifiers_read 256 (blocks_of c.args.parser.now) (rest_of c.args.parser.now)) _ _ _ c.parse_specifiers.ensures (λ fault e. specifiers_stop 256 _ _ l (rest_of c.args.parser.now) fault (omega arith) (few_types c.args.parser.now.scope) c.requires e)

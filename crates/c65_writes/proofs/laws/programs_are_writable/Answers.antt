@@ -1,5 +1,0 @@
-use Rattle.c65_writes.proofs.Programs.{programs_are_writable}
-use Rattle.c65_writes.proofs.laws.programs_are_writable.Goals as goal
-
-pub returns : goal.returns
-returns c = programs_are_writable

@@ -1,5 +1,0 @@
-use Rattle.c65_writes.proofs.Programs.{programs_read_back}
-use Rattle.c65_writes.proofs.laws.programs_read_back.Goals as goal
-
-pub returns : goal.returns
-returns c = programs_read_back
