@@ -3,6 +3,7 @@ use Rattle.std.specs.Prelude.{◌≡◌, ◌+◌, ◌<◌, ℕ, List, [], ◌∷
 use Rattle.c65_base.specs.declared.refusal.Refusal.{Refusal}
 use Rattle.c65_base.specs.declared.refusal.Refusal.TheVariants.{OutOfMemory, TooLarge}
 use Rattle.c65_base.specs.declared.refusal.Size.TheVariants.{Names}
+use Rattle.c65_base.specs.Limits.{limit_of}
 
 -- the number of a spelling
 abbrev pub name_of : List (List ℕ) → List ℕ → Option ℕ
@@ -23,6 +24,6 @@ Lacks names spelling = name_of names spelling ≡ None
 
 -- Why a spelling gets no number: it is lacking, and the table is full, or there was no memory for a new one.
 abbrev pub RefusesName : List (List ℕ) → List ℕ → Refusal → Type 0
-RefusesName names spelling (TooLarge limit value) = (limit ≡ Names) × (value ≡ 65536) × Lacks names spelling × (length names ≡ 65535)
-RefusesName names spelling OutOfMemory = Lacks names spelling × (length names < 65535)
+RefusesName names spelling (TooLarge limit value) = (limit ≡ Names) × (value ≡ limit_of Names + 1) × Lacks names spelling × (length names ≡ limit_of Names)
+RefusesName names spelling OutOfMemory = Lacks names spelling × (length names < limit_of Names)
 RefusesName names spelling _ = ⊥

@@ -1,6 +1,8 @@
 // Names for spellings: equal names for equal spellings, and for no others.
 ghost use Rattle.std.specs.Prelude.{◌≡◌, ◌==◌, ◌≤◌, ◌<◌, ℕ, List, [], map, length, Some, slice_get, IfOk, IfErr, OnOk, OnErr, option_map};
+ghost use Rattle.c65_base.specs.Limits.{limit_of};
 ghost use Rattle.c65_base.specs.Names.{name_of, with_spelling, IsDistinct, Lacks, RefusesName};
+ghost use Rattle.c65_base.specs.declared.refusal.Size.TheVariants as sizes;
 
 use crate::refusal::{Refusal, Size};
 use indexmap::IndexSet;
@@ -20,13 +22,15 @@ pub struct Names {
 
 impl Model for Names {
     ghost use Rattle.std.specs.Prelude.{◌≤◌, ℕ, List, map, length};
+    ghost use Rattle.c65_base.specs.Limits.{limit_of};
     ghost use Rattle.c65_base.specs.Names.{IsDistinct};
+    ghost use Rattle.c65_base.specs.declared.refusal.Size.TheVariants as sizes;
 
     ghost Value = { List (List ℕ) };
 
     ghost view = { λ n. map (λ v. v.items) n.spellings.keys };
 
-    ghost invariant = { λ n. (length n.spellings.keys ≤ 65535) × IsDistinct (map (λ v. v.items) n.spellings.keys) };
+    ghost invariant = { λ n. (length n.spellings.keys ≤ limit_of sizes.Names) × IsDistinct (map (λ v. v.items) n.spellings.keys) };
 }
 
 impl Names {
@@ -43,7 +47,7 @@ impl Names {
     /// How many names the table gave.
     pub fn len(&self) -> usize
         ensures len { result ≡ length self.now }
-        ensures few { length self.now ≤ 65535 }
+        ensures few { length self.now ≤ limit_of sizes.Names }
         ensures distinct { IsDistinct self.now }
     {
         self.spellings.len()
@@ -60,17 +64,18 @@ impl Names {
         ensures name { IfOk result (λ n. name_of self.new spelling.now ≡ Some n.0) }
         ensures known { IfOk result (λ n. slice_get self.new n.0 ≡ Some spelling.now) }
         ensures table { OnOk result (self.new ≡ with_spelling self.old spelling.now) }
-        ensures room { OnOk result (Lacks self.old spelling.now → length self.old < 65535) }
+        ensures room { OnOk result (Lacks self.old spelling.now → length self.old < limit_of sizes.Names) }
         ensures refused { IfErr result (λ refusal. RefusesName self.old spelling.now refusal) }
         ensures kept { OnErr result (self.new ≡ self.old) }
     {
         if let Some(at) = self.spellings.get_index_of(spelling) {
             return Ok(Name(at as u32));
         }
-        if self.spellings.len() == 65_535 {
+        let count = self.spellings.len() as u64;
+        if count == Size::Names.number() {
             return Err(Refusal::TooLarge {
                 limit: Size::Names,
-                value: 65_536,
+                value: count + 1,
             });
         }
         let owned = Vec::from_slice(self.alloc, spelling)?;

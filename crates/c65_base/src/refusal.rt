@@ -1,6 +1,6 @@
 // The one refusal type of the workspace.
 ghost use Rattle.std.specs.Prelude.{◌≡◌};
-ghost use Rattle.c65_base.specs.declared.refusal.Refusal.TheVariants.{OutOfMemory};
+ghost use Rattle.c65_base.specs.declared.refusal.Refusal.TheVariants.{OutOfMemory, At};
 ghost use Rattle.c65_base.specs.Status.{status_of};
 ghost use Rattle.c65_base.specs.Lines.{kind_name, size_name};
 ghost use Rattle.c65_base.specs.Limits.{limit_of};
@@ -129,6 +129,13 @@ impl<T: Drop> From<AllocFailed<T>> for Refusal {
 }
 
 impl Refusal {
+    /// A fault of a source text at a place.
+    pub fn fault(code: Code, pos: Pos) -> Refusal
+        ensures { result ≡ At code pos }
+    {
+        Refusal::At { code, pos }
+    }
+
     /// The status with which the program ends.
     pub fn status(&self) -> u8
         ensures { result ≡ status_of self.now }

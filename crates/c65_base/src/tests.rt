@@ -11,6 +11,11 @@ fn line_of(alloc: Global, refusal: &Refusal) -> Result<Vec<u8>, AllocError> {
     Ok(bytes)
 }
 
+fn is_told(alloc: Global, refusal: &Refusal, status: u8, line: &str) -> Result<bool, AllocError> {
+    let bytes = line_of(alloc, refusal)?;
+    Ok(bytes.as_slice() == line.as_bytes() && refusal.status() == status)
+}
+
 #[test]
 fn refusals_without_text_have_their_lines_and_statuses(rt: HostRuntime) -> Result<(), Fail> {
     let pos = Pos { file: 3, line: 7 };
@@ -57,9 +62,7 @@ fn refusals_without_text_have_their_lines_and_statuses(rt: HostRuntime) -> Resul
         ),
     ];
     for (refusal, status, line) in &rows {
-        let bytes = line_of(rt.alloc(), refusal)?;
-        assert_eq!(rt; bytes.as_slice(), line.as_bytes());
-        assert_eq!(rt; refusal.status(), *status, "at {line}");
+        assert!(rt; is_told(rt.alloc(), refusal, *status, line)?);
     }
     Ok(())
 }
@@ -91,11 +94,13 @@ fn refusals_with_text_have_their_lines_and_statuses(rt: HostRuntime) -> Result<(
         ),
     ];
     for (refusal, status, line) in &rows {
-        let bytes = line_of(alloc, refusal)?;
-        assert_eq!(rt; bytes.as_slice(), line.as_bytes());
-        assert_eq!(rt; refusal.status(), *status, "at {line}");
+        assert!(rt; is_told(alloc, refusal, *status, line)?);
     }
     Ok(())
+}
+
+fn is_named(code: Code, number: u16, name: &str) -> bool {
+    code.number() == number && code.name() == name.as_bytes()
 }
 
 #[test]
@@ -110,11 +115,10 @@ fn faults_have_their_numbers_and_names(rt: HostRuntime) {
         (Code::AssemblyText, 401, "AssemblyText"),
     ];
     for (code, number, name) in rows {
-        assert_eq!(rt; code.number(), number, "at {name}");
-        assert_eq!(rt; code.name(), name.as_bytes());
+        assert!(rt; is_named(code, number, name));
     }
-    assert_eq!(rt; Size::Image.number(), 62_960);
-    assert_eq!(rt; LinkKind::Main.name(), b"Main".as_slice());
+    assert!(rt; Size::Image.number() == 62_960);
+    assert!(rt; LinkKind::Main.name() == b"Main".as_slice());
     assert!(rt; !Options::none().optimise);
 }
 
@@ -123,9 +127,9 @@ fn texts_are_their_bytes(rt: HostRuntime) -> Result<(), Fail> {
     let text = Text::copy_of(rt.alloc(), b"a.c")?;
     let same = text.copy(rt.alloc())?;
     assert!(rt; text == same);
-    assert_eq!(rt; text.len(), 3);
+    assert!(rt; text.len() == 3);
     assert!(rt; !text.is_empty());
-    assert_eq!(rt; same.into_vec().as_slice(), b"a.c".as_slice());
+    assert!(rt; same.into_vec().as_slice() == b"a.c".as_slice());
     Ok(())
 }
 
@@ -139,10 +143,9 @@ fn equal_spellings_have_one_name(rt: HostRuntime) -> Result<(), Fail> {
     assert!(rt; names.is_empty());
     for (spelling, number) in [("main", 0), ("x", 1), ("main", 0), ("", 2), ("x", 1)] {
         let name = names.intern(spelling.as_bytes())?;
-        assert_eq!(rt; name.0, number, "at {spelling}");
-        assert!(rt; is_spelled(&names, name, spelling.as_bytes()));
+        assert!(rt; name.0 == number && is_spelled(&names, name, spelling.as_bytes()));
     }
-    assert_eq!(rt; names.len(), 3);
+    assert!(rt; names.len() == 3);
     assert!(rt; names.spelling(Name(3)).is_none());
     Ok(())
 }

@@ -23,13 +23,13 @@ pub returns-in-Some-clause-room : goal.returns-in-Some-clause-room
 returns-in-Some-clause-room c = λ l.
     let e : None ≡ Some c.in-Some.at = sym l ∙ returns-in-Some-clause-name c in absurd cc
 
-pub returns-then-len-eq65535-clause-refused : goal.returns-then-len-eq65535-clause-refused
-returns-then-len-eq65535-clause-refused c =
+pub returns-then-count-number-clause-refused : goal.returns-then-count-number-clause-refused
+returns-then-count-number-clause-refused c =
     let ks = c.self.inside.spellings.keys in
     let none : list_any (test c.args.spelling.now) ks ≡ false = sym c.in_default.ensures.found in
-    let n : length ks ≡ 65535 = sym c.len.ensures.len ∙ c.if-len-eq65535.true in
+    let n : length ks ≡ 65535 = sym c.len-count.ensures.len ∙ c.if-count-number.true ∙ c.number.ensures in
     let l : Lacks c.args.self.now c.args.spelling.now = subst (λ (ns : List (List ℕ)). Lacks ns c.args.spelling.now) c.self.view_is (lacks ks c.args.spelling.now none) in
-    (refl, refl, l, ap (λ (ns : List (List ℕ)). length ns) (sym c.self.view_is) ∙ texts_length ks ∙ n)
+    (refl, ap (λ (k : ℕ). k + 1) (c.if-count-number.true ∙ c.number.ensures), l, ap (λ (ns : List (List ℕ)). length ns) (sym c.self.view_is) ∙ texts_length ks ∙ n)
 
 pub returns-in_err-owned-clause-refused : goal.returns-in_err-owned-clause-refused
 returns-in_err-owned-clause-refused c =
@@ -38,7 +38,7 @@ returns-in_err-owned-clause-refused c =
     let none : list_any (test c.args.spelling.now) ks ≡ false = sym c.in_default.ensures.found in
     let l : Lacks c.args.self.now c.args.spelling.now = subst (λ (ns : List (List ℕ)). Lacks ns c.args.spelling.now) c.self.view_is (lacks ks c.args.spelling.now none) in
     let n : length c.args.self.now ≡ length ks = ap (λ (ns : List (List ℕ)). length ns) (sym c.self.view_is) ∙ texts_length ks in
-    rw (p.1, p.2) (l, omega (arith, n, c.self.invariant.0, c.len.ensures.len, c.if-len-eq65535.false))
+    rw (p.1, p.2) (l, omega (arith, n, c.self.invariant.0, c.len-count.ensures.len, c.number.ensures, c.if-count-number.false))
 
 pub returns-in_err-at-clause-refused : goal.returns-in_err-at-clause-refused
 returns-in_err-at-clause-refused c =
@@ -47,7 +47,7 @@ returns-in_err-at-clause-refused c =
     let none : list_any (test c.args.spelling.now) ks ≡ false = sym c.in_default.ensures.found in
     let l : Lacks c.args.self.now c.args.spelling.now = subst (λ (ns : List (List ℕ)). Lacks ns c.args.spelling.now) c.self.view_is (lacks ks c.args.spelling.now none) in
     let n : length c.args.self.now ≡ length ks = ap (λ (ns : List (List ℕ)). length ns) (sym c.self.view_is) ∙ texts_length ks in
-    rw (p.1, p.2) (l, omega (arith, n, c.self.invariant.0, c.len.ensures.len, c.if-len-eq65535.false))
+    rw (p.1, p.2) (l, omega (arith, n, c.self.invariant.0, c.len-count.ensures.len, c.number.ensures, c.if-count-number.false))
 
 pub returns-clause-known : goal.returns-clause-known
 returns-clause-known c =
@@ -62,8 +62,8 @@ invariant_of-self-2 c =
     let d : IsDistinct (texts ks ++ c.args.spelling.now ∷ []) = distinct_more (texts ks) c.args.spelling.now c.self.invariant.1 (lacks ks c.args.spelling.now none) in
     let m : length (texts ks ++ c.args.spelling.now ∷ []) ≡ length ks + 1 = length-append (texts ks) (c.args.spelling.now ∷ []) ∙ omega (arith, texts_length ks) in
     let n : length c.insert_full.new.self.keys ≡ length ks + 1 = sym (texts_length c.insert_full.new.self.keys) ∙ ap (λ (ns : List (List ℕ)). length ns) e ∙ m in
-    let o : length ks ≡ c.len.result = sym c.len.ensures.len in
-    let p : length c.insert_full.new.self.keys ≤ 65535 = omega (arith, c.self.invariant.0, n, o, c.if-len-eq65535.false) in
+    let o : length ks ≡ c.len-count.result = sym c.len-count.ensures.len in
+    let p : length c.insert_full.new.self.keys ≤ 65535 = omega (arith, c.self.invariant.0, n, o, c.number.ensures, c.if-count-number.false) in
     (p, subst IsDistinct (sym e) d)
 
 pub returns-clause-name : goal.returns-clause-name
