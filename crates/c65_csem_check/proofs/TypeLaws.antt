@@ -5,7 +5,8 @@ use Rattle.std.proofs.lemmas.Bool.Decides.{Decides-eqb}
 use Rattle.c65_ints.specs.declared.types.IntType.{IntType}
 use Rattle.c65_ints.specs.declared.types.IntType.TheVariants.{SChar, UChar, Short, UShort, Int, UInt, Long, ULong}
 use Rattle.c65_ctype.specs.Trees.{Ty, void, int, pointer, array, tag, function, QTy, qual, type_in, Fn, fn, Params, unknown, known, QTys, end, more, TypesTy}
-use Rattle.c65_ctype.specs.Compatible.{number_of, same_int, same_bool}
+use Rattle.c65_ints.specs.Ranges.{number_of}
+use Rattle.c65_ctype.specs.Compatible.{same_int, same_bool}
 use Rattle.c65_csem.specs.Places.{plain, plain_of, qualified, is_promoted, is_scalar, moves}
 use Rattle.c65_csem.specs.Typed.{HasInt, IsInt, IsPromoted, IsPointer, IsScalar, IsMoved, IsStepped, IsResult, Passes, IsLiteral, decayed}
 use Rattle.c65_csem.specs.Trees.{UnitTy}

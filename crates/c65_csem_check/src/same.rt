@@ -1,31 +1,16 @@
 // Whether two types are the same.
 ghost use Rattle.std.specs.Prelude.{◌≡◌};
-ghost use Rattle.c65_ctype.specs.Compatible.{number_of, same_int, same_bool};
+ghost use Rattle.c65_ctype.specs.Compatible.{same_int, same_bool};
 ghost use Rattle.c65_ctype.specs.Views.{ty_of, qty_of, fn_of};
 ghost use Rattle.c65_csem_check.specs.Kinds.{equal_count, same, same_ty, same_fn};
 
 use c65_ctype::{CType, FnType, QType};
 use c65_ints::IntType;
 
-fn number(kind: IntType) -> u8
-    ensures { result ≡ number_of kind }
-{
-    match kind {
-        IntType::SChar => 0,
-        IntType::UChar => 1,
-        IntType::Short => 2,
-        IntType::UShort => 3,
-        IntType::Int => 4,
-        IntType::UInt => 5,
-        IntType::Long => 6,
-        IntType::ULong => 7,
-    }
-}
-
 pub fn same_kind(a: IntType, b: IntType) -> bool
     ensures { result ≡ same_int a b }
 {
-    number(a) == number(b)
+    a.number() == b.number()
 }
 
 pub fn same_bit(a: bool, b: bool) -> bool

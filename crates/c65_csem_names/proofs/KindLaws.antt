@@ -7,7 +7,8 @@ use Rattle.c65_ints.specs.declared.types.IntType.{IntType}
 use Rattle.c65_ints.specs.declared.types.IntType.TheVariants.{SChar, UChar, Short, UShort, Int, UInt, Long, ULong}
 use Rattle.c65_ctype.specs.declared.types.QType.{QType}
 use Rattle.c65_ctype.specs.declared.types.FnType.{FnType, out-FnType}
-use Rattle.c65_ctype.specs.Compatible.{number_of, same_int, same_bool}
+use Rattle.c65_ints.specs.Ranges.{number_of}
+use Rattle.c65_ctype.specs.Compatible.{same_int, same_bool}
 use Rattle.c65_ctype.specs.Trees.{Ty, void, int, pointer, array, tag, function, QTy, qual, type_in, Fn, fn, unknown, known, QTys, end, more}
 use Rattle.c65_ctype.specs.Views.{qty_of, fn_of, qtys_of, params_in}
 use Rattle.c65_ctype.proofs.ViewLaws.{fn_view}

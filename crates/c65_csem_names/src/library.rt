@@ -1,6 +1,6 @@
 // Whether a function of the library has its type (C90 7.7, 7.9, 7.10, 7.11).
 ghost use Rattle.std.specs.Prelude.{◌≡◌, ◌&&◌, map, option_map, option_copied, slice_get};
-ghost use Rattle.c65_ctype.specs.Compatible.{number_of, same_int, same_bool};
+ghost use Rattle.c65_ctype.specs.Compatible.{same_int, same_bool};
 ghost use Rattle.c65_ctype.specs.Views.{ty_of, qty_of, fn_of};
 ghost use Rattle.c65_csem.specs.Views.{func_of, unit_of};
 ghost use Rattle.c65_csem_names.specs.Kinds;
@@ -18,21 +18,6 @@ pub enum Kind {
     Number(IntType),
     Chars(bool),
     Bytes(bool),
-}
-
-fn number(kind: IntType) -> u8
-    ensures { result ≡ number_of kind }
-{
-    match kind {
-        IntType::SChar => 0,
-        IntType::UChar => 1,
-        IntType::Short => 2,
-        IntType::UShort => 3,
-        IntType::Int => 4,
-        IntType::UInt => 5,
-        IntType::Long => 6,
-        IntType::ULong => 7,
-    }
 }
 
 fn same_bit(a: bool, b: bool) -> bool
@@ -61,7 +46,7 @@ pub fn is_number(ty: &CType, kind: IntType) -> bool
     ensures { result ≡ Kinds.is_number kind (ty_of ty.now) }
 {
     match ty {
-        CType::Int(other) => number(*other) == number(kind),
+        CType::Int(other) => other.number() == kind.number(),
         _ => false,
     }
 }

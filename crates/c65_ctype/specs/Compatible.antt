@@ -7,18 +7,9 @@
 use Rattle.std.specs.Prelude.{◌≡◌, ℕ, zero, suc, ◌^◌, List, [], ◌∷◌, ◌++◌, Bool, true, false, not, ◌&&◌, ◌==◌, Option, Some, None, option_and_then, slice_get, if◌then◌else◌}
 use Rattle.c65_base.specs.declared.names.Name.{Name}
 use Rattle.c65_ints.specs.declared.types.IntType.{IntType}
-use Rattle.c65_ints.specs.declared.types.IntType.TheVariants.{SChar, UChar, Short, UShort, Int, UInt, Long, ULong}
+use Rattle.c65_ints.specs.declared.types.IntType.TheVariants.{SChar, UChar, Short, UShort}
+use Rattle.c65_ints.specs.Ranges.{number_of}
 use Rattle.c65_ctype.specs.Trees.{Ty, void, int, pointer, array, tag, function, QTy, qual, Fn, fn, Params, unknown, known, QTys, end, more, MemberTy, LayoutTy, TagTy, TypesTy}
-
-abbrev pub number_of : IntType → ℕ
-number_of SChar = 0
-number_of UChar = 1
-number_of Short = 2
-number_of UShort = 3
-number_of Int = 4
-number_of UInt = 5
-number_of Long = 6
-number_of ULong = 7
 
 abbrev pub same_int : IntType → IntType → Bool
 same_int s t = number_of s == number_of t

@@ -1,7 +1,7 @@
 // Two types side by side: they differ, or they meet in some pairs of tags (C90 6.1.2.6).
 ghost use Rattle.std.specs.Prelude.{◌≡◌, IfOk, Option, Some, None};
 ghost use Rattle.c65_ctype.specs.Views.{ty_of, qty_of, fn_of, params_in, qtys_of, member_of};
-ghost use Rattle.c65_ctype.specs.Compatible.{number_of, same_count, stays_promoted, all_stay, meet, qualified_meet, functions_meet, lists_meet, same_name, same_width, one_meets, met};
+ghost use Rattle.c65_ctype.specs.Compatible.{same_count, stays_promoted, all_stay, meet, qualified_meet, functions_meet, lists_meet, same_name, same_width, one_meets, met};
 
 use crate::types::{CType, FnType, Member, QType};
 use c65_base::Name;
@@ -10,21 +10,6 @@ use std::alloc::AllocError;
 
 /// The tags that two types have at equal places.
 pub type Pairs = Vec<(u32, u32)>;
-
-fn number(ty: IntType) -> u8
-    ensures { result ≡ number_of ty }
-{
-    match ty {
-        IntType::SChar => 0,
-        IntType::UChar => 1,
-        IntType::Short => 2,
-        IntType::UShort => 3,
-        IntType::Int => 4,
-        IntType::UInt => 5,
-        IntType::Long => 6,
-        IntType::ULong => 7,
-    }
-}
 
 fn same_count(a: Option<u32>, b: Option<u32>) -> bool
     ensures { result ≡ same_count a b }
@@ -74,7 +59,7 @@ fn meet(a: &CType, b: &CType, pairs: &mut Pairs) -> Result<bool, AllocError>
 {
     match (a, b) {
         (CType::Void, CType::Void) => Ok(true),
-        (CType::Int(a), CType::Int(b)) => Ok(number(*a) == number(*b)),
+        (CType::Int(a), CType::Int(b)) => Ok(a.number() == b.number()),
         (CType::Pointer(a), CType::Pointer(b)) => qualified_meet(a, b, pairs),
         (CType::Array(a, m), CType::Array(b, n)) => {
             if same_count(*m, *n) {

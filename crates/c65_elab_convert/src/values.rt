@@ -1,7 +1,7 @@
 // The value of an expression, promotions, and conversions to a type (C90 6.2).
 ghost use Rattle.std.specs.Prelude.{◌≡◌, IfOk, option_map};
 ghost use Rattle.c65_ctype.specs.Views.{ty_of, qty_of, types_of};
-ghost use Rattle.c65_ctype.specs.Compatible.{number_of, same_int};
+ghost use Rattle.c65_ctype.specs.Compatible.{same_int};
 ghost use Rattle.c65_csem.specs.Typed as typing;
 ghost use Rattle.c65_csem.specs.Views.{typed_of};
 ghost use Rattle.c65_elab_convert.specs.Values as values;
@@ -79,25 +79,10 @@ pub fn value(alloc: Global, e: TExpr) -> Result<TExpr, AllocError>
     }
 }
 
-fn number(kind: IntType) -> u8
-    ensures { result ≡ number_of kind }
-{
-    match kind {
-        IntType::SChar => 0,
-        IntType::UChar => 1,
-        IntType::Short => 2,
-        IntType::UShort => 3,
-        IntType::Int => 4,
-        IntType::UInt => 5,
-        IntType::Long => 6,
-        IntType::ULong => 7,
-    }
-}
-
 pub(crate) fn is_kind(a: IntType, b: IntType) -> bool
     ensures { result ≡ same_int a b }
 {
-    number(a) == number(b)
+    a.number() == b.number()
 }
 
 /// Whether an expression names a bit-field whose values int holds.

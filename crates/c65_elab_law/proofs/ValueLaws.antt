@@ -9,7 +9,8 @@ use Rattle.c65_base.specs.declared.operators.UnaryOp.TheVariants as ones
 use Rattle.c65_base.specs.declared.operators.BinaryOp.{BinaryOp}
 use Rattle.c65_base.specs.declared.operators.BinaryOp.TheVariants as ops
 use Rattle.c65_ctype.specs.Trees.{Ty, void, int, pointer, array, tag, function, QTy, qual, type_in, TypesTy}
-use Rattle.c65_ctype.specs.Compatible.{number_of, same_int, same_bool}
+use Rattle.c65_ints.specs.Ranges.{number_of}
+use Rattle.c65_ctype.specs.Compatible.{same_int, same_bool}
 use Rattle.c65_csem.specs.Trees as n
 use Rattle.c65_csem.specs.Trees.{Typed, node, Node, type_of, UnitTy}
 use Rattle.c65_csem.specs.Places.{is_place, is_scalar, is_tag, is_void, plain, plain_of, promoted_of, is_promoted}

@@ -7,7 +7,8 @@ use Rattle.c65_base.specs.Answers.{large}
 use Rattle.c65_ints.specs.declared.types.IntType.{IntType}
 use Rattle.c65_ints.specs.declared.types.IntType.TheVariants.{Int, UInt}
 use Rattle.c65_ctype.specs.Trees.{Ty, void, int, pointer, array, tag, function, QTy, qual, type_in, QTys, end, more, Fn, fn, unknown, known}
-use Rattle.c65_ctype.specs.Compatible.{number_of, same_int}
+use Rattle.c65_ints.specs.Ranges.{number_of}
+use Rattle.c65_ctype.specs.Compatible.{same_int}
 use Rattle.c65_csem.specs.declared.items.Parts.{Parts}
 use Rattle.c65_csem.specs.declared.items.Library.{Library}
 use Rattle.c65_csem.specs.declared.items.Library.TheVariants as library

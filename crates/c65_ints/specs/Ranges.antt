@@ -35,6 +35,17 @@ least_of t = if is_signed_of t then neg_ℤ (pos (modulus_of t / 2)) else pos 0
 abbrev pub greatest_of : IntType → ℤ
 greatest_of t = if is_signed_of t then pos (modulus_of t / 2 - 1) else pos (modulus_of t - 1)
 
+-- the place of a type among the eight, by which two are told apart
+abbrev pub number_of : IntType → ℕ
+number_of SChar = 0
+number_of UChar = 1
+number_of Short = 2
+number_of UShort = 3
+number_of Int = 4
+number_of UInt = 5
+number_of Long = 6
+number_of ULong = 7
+
 pub record InRange (t : IntType) (z : ℤ) : Type 0 where
   pub low : least_of t ≤ℤ z
   pub high : z ≤ℤ greatest_of t

@@ -1,4 +1,6 @@
 // Values at the edges of the eight types, by arithmetic on whole numbers.
+ghost use Rattle.c65_ints.specs.Ranges.{InRange};
+
 use super::*;
 use IntType::{Int, Long, SChar, Short, UChar, UInt, ULong, UShort};
 
@@ -15,29 +17,31 @@ fn types_have_their_ranges(rt: HostRuntime) {
         (ULong, 4, 0, 4_294_967_295),
     ];
     for (ty, size, least, greatest) in rows {
-        assert_eq!(rt; ty.size(), size, "size of {ty:?}");
-        assert_eq!(rt; ty.width(), 8 * size, "width of {ty:?}");
-        assert_eq!(rt; ty.is_signed(), least < 0, "sign of {ty:?}");
-        assert_eq!(rt;
-            ty.modulus(),
-            greatest.saturating_sub(least).saturating_add(1),
-            "modulus of {ty:?}"
-        );
-        assert_eq!(rt; ty.least(), least, "least of {ty:?}");
-        assert_eq!(rt; ty.greatest(), greatest, "greatest of {ty:?}");
-        assert!(rt;
-            ty.holds(least) && !ty.holds(least.saturating_sub(1)),
-            "least of {ty:?}"
-        );
-        assert!(rt;
-            ty.holds(greatest) && !ty.holds(greatest.saturating_add(1)),
-            "greatest of {ty:?}"
-        );
-        assert_eq!(rt; wrap(ty, greatest.saturating_add(1)), least, "above {ty:?}");
-        assert_eq!(rt; wrap(ty, least.saturating_sub(1)), greatest, "below {ty:?}");
+        assert!(rt; has_range(ty, size, least, greatest), "range of {ty:?}");
+        assert!(rt; wraps_at_ends(ty, least, greatest), "ends of {ty:?}");
     }
     assert_eq!(rt; wrap(ULong, -1), 4_294_967_295);
     assert_eq!(rt; wrap(SChar, i64::MIN + 200), -56);
+}
+
+fn has_range(ty: IntType, size: u32, least: i64, greatest: i64) -> bool {
+    ty.size() == size
+        && ty.width() == 8 * size
+        && ty.is_signed() == (least < 0)
+        && ty.modulus() == greatest.saturating_sub(least).saturating_add(1)
+        && ty.least() == least
+        && ty.greatest() == greatest
+}
+
+fn wraps_at_ends(ty: IntType, least: i64, greatest: i64) -> bool {
+    let above = greatest.saturating_add(1);
+    let below = least.saturating_sub(1);
+    ty.holds(least)
+        && !ty.holds(below)
+        && ty.holds(greatest)
+        && !ty.holds(above)
+        && wrap(ty, above) == least
+        && wrap(ty, below) == greatest
 }
 
 #[test]
@@ -54,11 +58,24 @@ fn sums_wrap(rt: HostRuntime) {
     ];
     for (ty, a, b, sum, difference, product) in rows {
         assert!(rt; ty.holds(a) && ty.holds(b), "{ty:?} {a} {b}");
-        assert_eq!(rt; add(ty, a, b), sum, "{ty:?} {a} + {b}");
-        assert_eq!(rt; sub(ty, a, b), difference, "{ty:?} {a} - {b}");
-        assert_eq!(rt; mul(ty, a, b), product, "{ty:?} {a} * {b}");
-        assert_eq!(rt; convert(ty, SChar, a), wrap(SChar, a), "{ty:?} {a}");
+        let made = results(ty, a, b);
+        assert!(rt;
+            made == (sum, difference, product, wrap(SChar, a)),
+            "{ty:?} {a} {b}"
+        );
     }
+}
+
+fn results(ty: IntType, a: i64, b: i64) -> (i64, i64, i64, i64)
+    requires a { InRange ty a }
+    requires b { InRange ty b }
+{
+    (
+        add(ty, a, b),
+        sub(ty, a, b),
+        mul(ty, a, b),
+        convert(ty, SChar, a),
+    )
 }
 
 #[test]
@@ -77,8 +94,8 @@ fn quotients_are_cut(rt: HostRuntime) {
     ];
     for (ty, a, b, quotient, remainder) in rows {
         assert!(rt; ty.holds(a) && ty.holds(b), "{ty:?} {a} {b}");
-        assert_eq!(rt; div(ty, a, b), quotient, "{ty:?} {a} / {b}");
-        assert_eq!(rt; rem(ty, a, b), remainder, "{ty:?} {a} % {b}");
+        let made = div(ty, a, b) == quotient && rem(ty, a, b) == remainder;
+        assert!(rt; made, "{ty:?} {a} / {b}");
     }
 }
 
@@ -99,7 +116,7 @@ fn shifts_move_bits(rt: HostRuntime) {
     ];
     for (ty, a, count, left, right) in rows {
         assert!(rt; ty.holds(a), "{ty:?} {a}");
-        assert_eq!(rt; shl(ty, a, count), left, "{ty:?} {a} << {count}");
-        assert_eq!(rt; shr(ty, a, count), right, "{ty:?} {a} >> {count}");
+        let made = shl(ty, a, count) == left && shr(ty, a, count) == right;
+        assert!(rt; made, "{ty:?} {a} shifted by {count}");
     }
 }

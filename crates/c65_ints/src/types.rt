@@ -1,6 +1,6 @@
 // The eight integer types and their ranges (C90 6.1.2.5).
 ghost use Rattle.std.specs.Prelude.{◌≡◌, ◌*◌, ◌<◌, ◌↔◌, pos, IsTrue};
-ghost use Rattle.c65_ints.specs.Ranges.{width_of, is_signed_of, modulus_of, least_of, greatest_of, InRange};
+ghost use Rattle.c65_ints.specs.Ranges.{width_of, is_signed_of, modulus_of, least_of, greatest_of, number_of, InRange};
 
 /// An integer type. Plain char is one of the two character types.
 #[derive(Clone, Copy, Debug, PartialEq, Eq)]
@@ -81,6 +81,22 @@ impl IntType {
             IntType::UShort | IntType::UInt => 65_535,
             IntType::Long => 2_147_483_647,
             IntType::ULong => 4_294_967_295,
+        }
+    }
+
+    /// The type's place among the eight, from 0: two types are the same where their places are.
+    pub fn number(self) -> u8
+        ensures { result ≡ number_of self }
+    {
+        match self {
+            IntType::SChar => 0,
+            IntType::UChar => 1,
+            IntType::Short => 2,
+            IntType::UShort => 3,
+            IntType::Int => 4,
+            IntType::UInt => 5,
+            IntType::Long => 6,
+            IntType::ULong => 7,
         }
     }
 
