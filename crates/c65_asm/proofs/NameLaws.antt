@@ -11,11 +11,12 @@ use Rattle.c65_code.specs.declared.routine.TosOp.{TosOp}
 use Rattle.c65_code.specs.declared.routine.TosOp.TheVariants as tos
 use Rattle.c65_code.specs.declared.routine.UnaryRoutine.{UnaryRoutine}
 use Rattle.c65_code.specs.declared.routine.UnaryRoutine.TheVariants.{Neg, Compl, Shl1, Shr1, Asr1, BNeg}
-use Rattle.c65_code.specs.declared.routine.LibraryFunction.{LibraryFunction}
-use Rattle.c65_code.specs.declared.routine.LibraryFunction.TheVariants.{PutChar, GetChar, Puts, Exit, MemCpy, MemSet, StrCmp, StrCpy, StrLen}
+use Rattle.c65_base.specs.declared.library.Library.{Library}
+use Rattle.c65_base.specs.declared.library.Library.TheVariants.{Putchar, Getchar, Puts, Exit, Memcpy, Memset, Strcmp, Strcpy, Strlen}
 use Rattle.c65_code.specs.declared.routine.Routine.{Routine}
 use Rattle.c65_code.specs.declared.routine.Routine.TheVariants as routines
-use Rattle.c65_code.specs.Names.{name_of, raise_name_of, lower_name_of, word_name_of, long_name_of, unary_name_of, library_name_of}
+use Rattle.c65_base.specs.Library.{library_name}
+use Rattle.c65_code.specs.Names.{name_of, raise_name_of, lower_name_of, word_name_of, long_name_of, unary_name_of}
 use Rattle.c65_code.specs.Segments.{is_barred}
 use Rattle.c65_asm.specs.Text.{mnemonic_of}
 use Rattle.c65_asm.specs.Rows.{op_named, is_jsr}
@@ -226,16 +227,16 @@ unary_word Asr1 Eax = refl
 unary_word BNeg Ax = refl
 unary_word BNeg Eax = refl
 
-library_word : (x : LibraryFunction) → is_word (library_name_of x) ≡ true
-library_word PutChar = refl
-library_word GetChar = refl
+library_word : (x : Library) → is_word (library_name x) ≡ true
+library_word Putchar = refl
+library_word Getchar = refl
 library_word Puts = refl
 library_word Exit = refl
-library_word MemCpy = refl
-library_word MemSet = refl
-library_word StrCmp = refl
-library_word StrCpy = refl
-library_word StrLen = refl
+library_word Memcpy = refl
+library_word Memset = refl
+library_word Strcmp = refl
+library_word Strcpy = refl
+library_word Strlen = refl
 
 pub routine_word : (r : Routine) → is_word (name_of r) ≡ true
 routine_word routines.PushA = refl

@@ -12,7 +12,7 @@ use Rattle.c65_ints.specs.declared.types.IntType.{IntType}
 use Rattle.c65_ints.specs.declared.types.IntType.TheVariants as ints
 use Rattle.c65_ctype.specs.Trees.{Ty, void, int, pointer, array, tag, function}
 use Rattle.c65_ctype.specs.Views.{types_of}
-use Rattle.c65_csem.specs.declared.items.Library.{Library}
+use Rattle.c65_base.specs.declared.library.Library.{Library}
 use Rattle.c65_csem.specs.Trees.{Typed, node, object, member, UnitTy}
 use Rattle.c65_csem.specs.Typed.{IsTyped}
 use Rattle.c65_code.specs.declared.routine.Width.{Width}

@@ -9,8 +9,8 @@ use Rattle.c65_code.specs.declared.routine.TosOp.{TosOp}
 use Rattle.c65_code.specs.declared.routine.TosOp.TheVariants as tos
 use Rattle.c65_code.specs.declared.routine.UnaryRoutine.{UnaryRoutine}
 use Rattle.c65_code.specs.declared.routine.UnaryRoutine.TheVariants.{Neg, Compl, Shl1, Shr1, Asr1, BNeg}
-use Rattle.c65_code.specs.declared.routine.LibraryFunction.{LibraryFunction}
-use Rattle.c65_code.specs.declared.routine.LibraryFunction.TheVariants.{PutChar, GetChar, Puts, Exit, MemCpy, MemSet, StrCmp, StrCpy, StrLen}
+use Rattle.c65_base.specs.declared.library.Library.{Library}
+use Rattle.c65_base.specs.declared.library.Library.TheVariants.{Putchar, Getchar, Puts, Exit, Memcpy, Memset, Strcmp, Strcpy, Strlen}
 use Rattle.c65_code.specs.declared.routine.Routine.{Routine}
 use Rattle.c65_code.specs.declared.routine.Routine.TheVariants as routines
 use Rattle.c65_code.specs.Names.{name_of, found_in, or_else, routine_named, stack_routines, word_operators, long_operators, other_routines, outside_routines}
@@ -99,16 +99,16 @@ own_unary Asr1 Eax = refl
 own_unary BNeg Ax = refl
 own_unary BNeg Eax = refl
 
-own_library : (x : LibraryFunction) → routine_named (name_of (routines.Library x)) ≡ Some (routines.Library x)
-own_library PutChar = refl
-own_library GetChar = refl
+own_library : (x : Library) → routine_named (name_of (routines.Library x)) ≡ Some (routines.Library x)
+own_library Putchar = refl
+own_library Getchar = refl
 own_library Puts = refl
 own_library Exit = refl
-own_library MemCpy = refl
-own_library MemSet = refl
-own_library StrCmp = refl
-own_library StrCpy = refl
-own_library StrLen = refl
+own_library Memcpy = refl
+own_library Memset = refl
+own_library Strcmp = refl
+own_library Strcpy = refl
+own_library Strlen = refl
 
 pub own_name : (r : Routine) → routine_named (name_of r) ≡ Some r
 own_name routines.PushA = refl

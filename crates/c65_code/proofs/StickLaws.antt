@@ -11,7 +11,7 @@ use Rattle.c65_mach.specs.Step.{bit, signed, apply, stored, changed, Kind, Reads
 use Rattle.c65_code.specs.declared.parts.Part.{Part}
 use Rattle.c65_code.specs.declared.parts.Part.TheVariants as parts
 use Rattle.c65_code.specs.declared.parts.RegSet.{RegSet}
-use Rattle.c65_code.specs.declared.routine.LibraryFunction.{LibraryFunction}
+use Rattle.c65_base.specs.declared.library.Library.{Library}
 use Rattle.c65_code.specs.LineState.{Place, Bytes, write, State, Frame, Same, IsBytes}
 use Rattle.c65_code.specs.Placement.{Setting, word_of}
 use Rattle.c65_code.specs.Forms.{Form, Mark, Plain, Branch, Jump, Far, Push, Pull, Depth, Return, Run, Enter, Through, Stray, form_of}
@@ -181,7 +181,7 @@ same_part parts.C t pushed frames = refl
 keeps_itself : (parts : RegSet) (t : State) (pushed : List ℕ) (frames : List Frame) → Keeps parts t (record t { pushed = pushed; frames = frames })
 keeps_itself parts t pushed frames = record { part = λ p h. same_part p t pushed frames; high = λ i h. refl; mem = refl; input = refl; output = refl; ended = refl }
 
-entering : (s : Setting) (f : ℕ) (reads gives : RegSet) (p : Place) (t : State) (o : Option LibraryFunction) → o ≡ None → IsBytes t → (q : Place) × (u : State) × Calls s o f reads gives p t q u × IsBytes u
+entering : (s : Setting) (f : ℕ) (reads gives : RegSet) (p : Place) (t : State) (o : Option Library) → o ≡ None → IsBytes t → (q : Place) × (u : State) × Calls s o f reads gives p t q u × IsBytes u
 entering s f reads gives p t (Some library) own bytes = absurd (let e : Some library ≡ None = own in cc)
 entering s f reads gives p t None own bytes =
     let frame : Frame = record { back = (p.0, settle (s.lines p.0) (suc p.1)); pushed = t.pushed; gives = gives } in

@@ -8,8 +8,8 @@ use Rattle.c65_code.specs.declared.routine.TosOp.{TosOp}
 use Rattle.c65_code.specs.declared.routine.TosOp.TheVariants as tos
 use Rattle.c65_code.specs.declared.routine.UnaryRoutine.{UnaryRoutine}
 use Rattle.c65_code.specs.declared.routine.UnaryRoutine.TheVariants.{Neg, Compl, Shl1, Shr1, Asr1, BNeg}
-use Rattle.c65_code.specs.declared.routine.LibraryFunction.{LibraryFunction}
-use Rattle.c65_code.specs.declared.routine.LibraryFunction.TheVariants.{PutChar, GetChar, Puts, Exit, MemCpy, MemSet, StrCmp, StrCpy, StrLen}
+use Rattle.c65_base.specs.declared.library.Library.{Library}
+use Rattle.c65_base.specs.declared.library.Library.TheVariants.{Putchar, Getchar, Puts, Exit, Memcpy, Memset, Strcmp, Strcpy, Strlen}
 use Rattle.c65_code.specs.declared.routine.Routine.{Routine}
 use Rattle.c65_code.specs.declared.routine.Routine.TheVariants as routines
 use Rattle.c65_code.specs.Parts.{has_part, union_of}
@@ -78,16 +78,16 @@ read_costs : (input : List ℕ) (t : State) (row : Row) → (read_row input t ro
 read_costs [] t row = refl
 read_costs (v ∷ input) t row = refl
 
-library_costs : (f : LibraryFunction) (t : State) → 1 ≤ row_cost (row_of (routines.Library f) t)
-library_costs PutChar t = lit≤ tt
-library_costs GetChar t = subst (λ n. 1 ≤ n) (sym (read_costs t.input t (costing 256 (row_by (routines.Library GetChar) t)))) (lit≤ tt)
+library_costs : (f : Library) (t : State) → 1 ≤ row_cost (row_of (routines.Library f) t)
+library_costs Putchar t = lit≤ tt
+library_costs Getchar t = subst (λ n. 1 ≤ n) (sym (read_costs t.input t (costing 256 (row_by (routines.Library Getchar) t)))) (lit≤ tt)
 library_costs Puts t = omega arith
 library_costs Exit t = lit≤ tt
-library_costs MemCpy t = omega arith
-library_costs MemSet t = omega arith
-library_costs StrCmp t = omega arith
-library_costs StrCpy t = omega arith
-library_costs StrLen t = omega arith
+library_costs Memcpy t = omega arith
+library_costs Memset t = omega arith
+library_costs Strcmp t = omega arith
+library_costs Strcpy t = omega arith
+library_costs Strlen t = omega arith
 
 pub row_costs : (r : Routine) (t : State) → 1 ≤ row_cost (row_of r t)
 row_costs routines.PushA t = lit≤ tt
@@ -134,7 +134,7 @@ row_costs (routines.Tos op width) t = tos_row_costs op width t
 row_costs (routines.Unary op width) t = unary_costs op width t
 row_costs (routines.Library f) t = library_costs f t
 
-call_weighs : (o : Option LibraryFunction) (t : State) → 1 ≤ call_weight o t
+call_weighs : (o : Option Library) (t : State) → 1 ≤ call_weight o t
 call_weighs None t = lit≤ tt
 call_weighs (Some f) t = omega (arith, library_costs f t)
 

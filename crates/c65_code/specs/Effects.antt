@@ -4,8 +4,8 @@ use Rattle.c65_code.specs.declared.parts.Part.TheVariants.{A, X, Y, N, V, Z, C}
 use Rattle.c65_code.specs.declared.parts.RegSet.{RegSet}
 use Rattle.c65_code.specs.declared.routine.Width.{Width}
 use Rattle.c65_code.specs.declared.routine.Width.TheVariants.{Ax, Eax}
-use Rattle.c65_code.specs.declared.routine.LibraryFunction.{LibraryFunction}
-use Rattle.c65_code.specs.declared.routine.LibraryFunction.TheVariants.{GetChar, MemCpy, MemSet, StrCmp, StrCpy}
+use Rattle.c65_base.specs.declared.library.Library.{Library}
+use Rattle.c65_base.specs.declared.library.Library.TheVariants.{Getchar, Memcpy, Memset, Strcmp, Strcpy}
 use Rattle.c65_code.specs.declared.routine.Routine.{Routine}
 use Rattle.c65_code.specs.declared.routine.Routine.TheVariants as routines
 use Rattle.c65_code.specs.Parts.{no_parts, all_parts, zero_bytes, union_of, minus_of, set_of}
@@ -64,19 +64,19 @@ large = union_of (union_of small eax) scratch_bytes
 abbrev pub kept_at_calls : RegSet
 kept_at_calls = union_of sp_bytes bank_bytes
 
-abbrev pub library_reads : LibraryFunction → RegSet
-library_reads GetChar = no_parts
-library_reads MemCpy = union_of ax sp_bytes
-library_reads MemSet = union_of ax sp_bytes
-library_reads StrCmp = union_of ax sp_bytes
-library_reads StrCpy = union_of ax sp_bytes
+abbrev pub library_reads : Library → RegSet
+library_reads Getchar = no_parts
+library_reads Memcpy = union_of ax sp_bytes
+library_reads Memset = union_of ax sp_bytes
+library_reads Strcmp = union_of ax sp_bytes
+library_reads Strcpy = union_of ax sp_bytes
 library_reads _ = ax
 
-abbrev pub library_sets : LibraryFunction → RegSet
-library_sets MemCpy = union_of large sp_bytes
-library_sets MemSet = union_of large sp_bytes
-library_sets StrCmp = union_of large sp_bytes
-library_sets StrCpy = union_of large sp_bytes
+abbrev pub library_sets : Library → RegSet
+library_sets Memcpy = union_of large sp_bytes
+library_sets Memset = union_of large sp_bytes
+library_sets Strcmp = union_of large sp_bytes
+library_sets Strcpy = union_of large sp_bytes
 library_sets _ = large
 
 abbrev pub routine_reads : Routine → RegSet

@@ -9,8 +9,8 @@ use Rattle.c65_mach.specs.Step.{after, signed, with_a, with_x, apply, stored, ch
 use Rattle.c65_code.specs.declared.parts.Part.{Part}
 use Rattle.c65_code.specs.declared.parts.Part.TheVariants.{A}
 use Rattle.c65_code.specs.declared.parts.RegSet.{RegSet}
-use Rattle.c65_code.specs.declared.routine.Routine.TheVariants.{Library}
-use Rattle.c65_code.specs.declared.routine.LibraryFunction.{LibraryFunction}
+use Rattle.c65_code.specs.declared.routine.Routine.TheVariants as routines
+use Rattle.c65_base.specs.declared.library.Library.{Library}
 use Rattle.c65_code.specs.declared.line.Line.{Line}
 use Rattle.c65_code.specs.declared.line.Line.TheVariants.{Label}
 use Rattle.c65_code.specs.Parts.{has_part, union_of, minus_of}
@@ -127,9 +127,9 @@ abbrev pub IsCallee : Setting → State → ℕ → Type 0
 IsCallee s t f = IsTrue (s.is_function f) × (s.place.address f ≡ zero_word t 14)
 
 -- a call of a function; one of the library that has no body is a routine
-abbrev pub Calls : Setting → Option LibraryFunction → ℕ → RegSet → RegSet → Place → State → Place → State → Type 0
+abbrev pub Calls : Setting → Option Library → ℕ → RegSet → RegSet → Place → State → Place → State → Type 0
 Calls s None f reads gives p t q u = Enters s f reads gives p t q u
-Calls s (Some library) f reads gives p t q u = (q ≡ (p.0, settle (s.lines p.0) (suc p.1))) × MeetsRow (row_of (Library library) t) t u
+Calls s (Some library) f reads gives p t q u = (q ≡ (p.0, settle (s.lines p.0) (suc p.1))) × MeetsRow (row_of (routines.Library library) t) t u
 
 abbrev pub Goes : Setting → Form → Place → State → Place → State → Type 0
 Goes s Mark p t q u = ⊥

@@ -8,8 +8,8 @@ use Rattle.c65_code.specs.declared.routine.TosOp.{TosOp}
 use Rattle.c65_code.specs.declared.routine.TosOp.TheVariants as tos
 use Rattle.c65_code.specs.declared.routine.UnaryRoutine.{UnaryRoutine}
 use Rattle.c65_code.specs.declared.routine.UnaryRoutine.TheVariants.{Neg, Compl, Shl1, Shr1, Asr1, BNeg}
-use Rattle.c65_code.specs.declared.routine.LibraryFunction.{LibraryFunction}
-use Rattle.c65_code.specs.declared.routine.LibraryFunction.TheVariants.{PutChar, GetChar, Puts, Exit, MemCpy, MemSet, StrCmp, StrCpy, StrLen}
+use Rattle.c65_base.specs.Library.{library_name}
+use Rattle.c65_base.specs.declared.library.Library.TheVariants.{Putchar, Getchar, Puts, Exit, Memcpy, Memset, Strcmp, Strcpy, Strlen}
 use Rattle.c65_code.specs.declared.routine.Routine.{Routine}
 use Rattle.c65_code.specs.declared.routine.Routine.TheVariants as routines
 
@@ -97,17 +97,6 @@ unary_name_of Asr1 Eax = codes "asreax1"
 unary_name_of BNeg Ax = codes "bnegax"
 unary_name_of BNeg Eax = codes "bnegeax"
 
-abbrev pub library_name_of : LibraryFunction → List ℕ
-library_name_of PutChar = codes "putchar"
-library_name_of GetChar = codes "getchar"
-library_name_of Puts = codes "puts"
-library_name_of Exit = codes "exit"
-library_name_of MemCpy = codes "memcpy"
-library_name_of MemSet = codes "memset"
-library_name_of StrCmp = codes "strcmp"
-library_name_of StrCpy = codes "strcpy"
-library_name_of StrLen = codes "strlen"
-
 abbrev pub name_of : Routine → List ℕ
 name_of routines.PushA = codes "pusha"
 name_of routines.PushAx = codes "pushax"
@@ -146,7 +135,7 @@ name_of routines.RestRegs = codes "restregs"
 name_of routines.CallPtr4 = codes "callptr4"
 name_of routines.Start = codes "start"
 name_of routines.StartArgs = codes "startargs"
-name_of (routines.Library function) = library_name_of function
+name_of (routines.Library function) = library_name function
 name_of routines.HookOpen = codes "hookopen"
 name_of routines.HookClose = codes "hookclose"
 name_of routines.HookRead = codes "hookread"
@@ -167,7 +156,7 @@ abbrev pub other_routines : List Routine
 other_routines = routines.LdAi ∷ routines.LdAxi ∷ routines.LdEaxi ∷ routines.StATos ∷ routines.StAxTos ∷ routines.StEaxTos ∷ routines.CopyTos ∷ routines.Unary Neg Ax ∷ routines.Unary Neg Eax ∷ routines.Unary Compl Ax ∷ routines.Unary Compl Eax ∷ routines.Unary Shl1 Ax ∷ routines.Unary Shl1 Eax ∷ routines.Unary Shr1 Ax ∷ routines.Unary Shr1 Eax ∷ routines.Unary Asr1 Ax ∷ routines.Unary Asr1 Eax ∷ routines.Unary BNeg Ax ∷ routines.Unary BNeg Eax ∷ routines.SignA ∷ routines.LongAx ∷ routines.ULongAx ∷ routines.SaveRegs ∷ routines.RestRegs ∷ routines.CallPtr4 ∷ routines.Start ∷ routines.StartArgs ∷ []
 
 abbrev pub outside_routines : List Routine
-outside_routines = routines.Library PutChar ∷ routines.Library GetChar ∷ routines.Library Puts ∷ routines.Library Exit ∷ routines.Library MemCpy ∷ routines.Library MemSet ∷ routines.Library StrCmp ∷ routines.Library StrCpy ∷ routines.Library StrLen ∷ routines.HookOpen ∷ routines.HookClose ∷ routines.HookRead ∷ routines.HookWrite ∷ routines.HookArgs ∷ routines.HookExit ∷ []
+outside_routines = routines.Library Putchar ∷ routines.Library Getchar ∷ routines.Library Puts ∷ routines.Library Exit ∷ routines.Library Memcpy ∷ routines.Library Memset ∷ routines.Library Strcmp ∷ routines.Library Strcpy ∷ routines.Library Strlen ∷ routines.HookOpen ∷ routines.HookClose ∷ routines.HookRead ∷ routines.HookWrite ∷ routines.HookArgs ∷ routines.HookExit ∷ []
 
 -- the first of these routines that has the name
 abbrev pub found_in : List Routine → List ℕ → Option Routine

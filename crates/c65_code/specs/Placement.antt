@@ -5,8 +5,7 @@ use Rattle.c65_code.specs.declared.line.Sym.{Sym}
 use Rattle.c65_code.specs.declared.line.Operand.{Operand}
 use Rattle.c65_code.specs.declared.line.Operand.TheVariants as operands
 use Rattle.c65_code.specs.declared.line.Line.{Line}
-use Rattle.c65_code.specs.declared.routine.LibraryFunction.{LibraryFunction}
-use Rattle.c65_code.specs.declared.routine.LibraryFunction.TheVariants.{PutChar, GetChar, Puts, Exit, MemCpy, MemSet, StrCmp, StrCpy, StrLen}
+use Rattle.c65_base.specs.declared.library.Library.{Library}
 use Rattle.c65_code.specs.declared.code.Code.{Code}
 use Rattle.c65_code.specs.declared.code.Symbol.{Symbol}
 use Rattle.c65_code.specs.declared.code.Datum.{Datum}
@@ -14,7 +13,7 @@ use Rattle.c65_code.specs.declared.code.DatumKind.TheVariants.{Const}
 use Rattle.c65_code.specs.declared.code.DataCell.{DataCell}
 use Rattle.c65_code.specs.declared.code.DataCell.TheVariants.{Byte, Address}
 use Rattle.c65_code.specs.Parts.{no_parts}
-use Rattle.c65_code.specs.Names.{library_name_of}
+use Rattle.c65_base.specs.Library.{library_name, library_functions}
 use Rattle.c65_code.specs.Segments.{Segment}
 
 -- program space begins at $0200, and the software stack at $F7F0
@@ -53,7 +52,7 @@ pub record Setting : Type 0 where
   pub lines : ℕ → List Line
   pub gives : ℕ → RegSet
   pub is_function : ℕ → Bool
-  pub library : ℕ → Option LibraryFunction
+  pub library : ℕ → Option Library
   pub place : Placement
 
 abbrev pub segment_of : List (Sym × Segment) → ℕ → Segment
@@ -64,15 +63,12 @@ abbrev pub is_nothing : List Line → Bool
 is_nothing [] = true
 is_nothing (line ∷ lines) = false
 
-abbrev pub library_functions : List LibraryFunction
-library_functions = PutChar ∷ GetChar ∷ Puts ∷ Exit ∷ MemCpy ∷ MemSet ∷ StrCmp ∷ StrCpy ∷ StrLen ∷ []
-
 -- the library function of an external name: an underscore and its name
-abbrev pub library_named : List LibraryFunction → List ℕ → Option LibraryFunction
+abbrev pub library_named : List Library → List ℕ → Option Library
 library_named [] spelling = None
-library_named (f ∷ fs) spelling = if bytes_eq (codes "_" ++ library_name_of f) spelling then Some f else library_named fs spelling
+library_named (f ∷ fs) spelling = if bytes_eq (codes "_" ++ library_name f) spelling then Some f else library_named fs spelling
 
-abbrev pub library_of : Option Symbol → Option LibraryFunction
+abbrev pub library_of : Option Symbol → Option Library
 library_of None = None
 library_of (Some symbol) = library_named library_functions symbol.spelling
 

@@ -4,7 +4,7 @@ use Rattle.std.specs.Prelude.{◌≡◌, ℕ, suc, ◌+◌, ◌-◌, ◌*◌, �
 use Rattle.c65_code.specs.declared.routine.Routine.{Routine}
 use Rattle.c65_code.specs.declared.routine.Routine.TheVariants as routines
 use Rattle.c65_code.specs.declared.routine.Width.TheVariants.{Ax}
-use Rattle.c65_code.specs.declared.routine.LibraryFunction.{LibraryFunction}
+use Rattle.c65_base.specs.declared.library.Library.{Library}
 use Rattle.c65_code.specs.declared.line.Line.{Line}
 use Rattle.c65_code.specs.Parts.{no_parts}
 use Rattle.c65_code.specs.Texts.{bytes_at, range_of, listed}
@@ -20,7 +20,7 @@ pub record RawSetting : Type 0 where
   pub lines : ℕ → List Line
   pub routine : Routine → ℕ
   pub is_function : ℕ → Bool
-  pub library : ℕ → Option LibraryFunction
+  pub library : ℕ → Option Library
   pub place : Placement
   pub args : List (List ℕ)
 
@@ -74,7 +74,7 @@ abbrev pub called : Place → State → State
 called back t = record t { pushed = []; frames = record { back = back; pushed = t.pushed; gives = no_parts } ∷ t.frames }
 
 -- a function's number, or that of the routine that stands for it
-abbrev pub target_of : RawSetting → Option LibraryFunction → ℕ → ℕ
+abbrev pub target_of : RawSetting → Option Library → ℕ → ℕ
 target_of s None f = f
 target_of s (Some library) f = s.routine (routines.Library library)
 

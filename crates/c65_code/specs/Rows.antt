@@ -10,8 +10,8 @@ use Rattle.c65_code.specs.declared.routine.Width.TheVariants.{Ax, Eax}
 use Rattle.c65_code.specs.declared.routine.TosOp.{TosOp}
 use Rattle.c65_code.specs.declared.routine.TosOp.TheVariants as tos
 use Rattle.c65_code.specs.declared.routine.UnaryRoutine.{UnaryRoutine}
-use Rattle.c65_code.specs.declared.routine.LibraryFunction.{LibraryFunction}
-use Rattle.c65_code.specs.declared.routine.LibraryFunction.TheVariants.{PutChar, GetChar, Puts, Exit, MemCpy, MemSet, StrCmp, StrCpy, StrLen}
+use Rattle.c65_base.specs.declared.library.Library.{Library}
+use Rattle.c65_base.specs.declared.library.Library.TheVariants.{Putchar, Getchar, Puts, Exit, Memcpy, Memset, Strcmp, Strcpy, Strlen}
 use Rattle.c65_code.specs.declared.routine.Routine.{Routine}
 use Rattle.c65_code.specs.declared.routine.Routine.TheVariants as routines
 use Rattle.c65_code.specs.Parts.{has_part}
@@ -219,16 +219,16 @@ compare_row a b t row =
     by_bytes (giving Ax (difference (t.mem (a + same)) (t.mem (b + same))) (record row { far = range_of (same + 1) a ++ range_of (same + 1) b }))
 
 -- the functions of the library (C90 7.9.7, 7.10.4, 7.11): the last argument is in AX, the others are popped
-abbrev pub library_row : LibraryFunction → State → Row → Row
-library_row PutChar t row = record (giving Ax t.regs.a row) { out = t.regs.a ∷ [] }
-library_row GetChar t row = read_row t.input t row
+abbrev pub library_row : Library → State → Row → Row
+library_row Putchar t row = record (giving Ax t.regs.a row) { out = t.regs.a ∷ [] }
+library_row Getchar t row = read_row t.input t row
 library_row Puts t row = let count = text_length (ax_of t) t.mem in by_bytes (giving Ax 0 (record row { out = bytes_at count (ax_of t) t.mem ++ 10 ∷ []; far = range_of (count + 1) (ax_of t) }))
 library_row Exit t row = record row { ends = Some t.regs.a }
-library_row MemCpy t row = copy_row (routines.Library MemCpy) (ax_of t) (word_at t.mem (sp_of t + 2)) (word_at t.mem (sp_of t)) 4 t
-library_row MemSet t row = let to = word_at t.mem (sp_of t + 2) in by_bytes (giving Ax to (record (popping 4 t row) { writes = filled (ax_of t) to (t.mem (sp_of t)); far = range_of (ax_of t) to }))
-library_row StrCmp t row = compare_row (word_at t.mem (sp_of t)) (ax_of t) t (popping 2 t row)
-library_row StrCpy t row = copy_row (routines.Library StrCpy) (text_length (ax_of t) t.mem + 1) (word_at t.mem (sp_of t)) (ax_of t) 2 t
-library_row StrLen t row = let count = text_length (ax_of t) t.mem in by_bytes (giving Ax count (far_reading (count + 1) (ax_of t) row))
+library_row Memcpy t row = copy_row (routines.Library Memcpy) (ax_of t) (word_at t.mem (sp_of t + 2)) (word_at t.mem (sp_of t)) 4 t
+library_row Memset t row = let to = word_at t.mem (sp_of t + 2) in by_bytes (giving Ax to (record (popping 4 t row) { writes = filled (ax_of t) to (t.mem (sp_of t)); far = range_of (ax_of t) to }))
+library_row Strcmp t row = compare_row (word_at t.mem (sp_of t)) (ax_of t) t (popping 2 t row)
+library_row Strcpy t row = copy_row (routines.Library Strcpy) (text_length (ax_of t) t.mem + 1) (word_at t.mem (sp_of t)) (ax_of t) 2 t
+library_row Strlen t row = let count = text_length (ax_of t) t.mem in by_bytes (giving Ax count (far_reading (count + 1) (ax_of t) row))
 
 -- the bytes of regbank
 abbrev pub bank_of : State → List ℕ

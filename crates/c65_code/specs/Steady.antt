@@ -1,8 +1,8 @@
 -- What a run keeps that stays within the stacks and the data (docs/MEANING.md, "Steady runs").
 use Rattle.std.specs.Prelude.{◌≡◌, ℕ, ◌+◌, ◌<◌, ◌≤◌, ◌⊎◌, IsTrue, All, List, [], ◌∷◌, Option, Some, None, max, min}
 use Rattle.c65_mach.specs.Step.{Kind, Stores, Changes, kind_of}
-use Rattle.c65_code.specs.declared.routine.LibraryFunction.{LibraryFunction}
-use Rattle.c65_code.specs.declared.routine.Routine.TheVariants.{Library}
+use Rattle.c65_base.specs.declared.library.Library.{Library}
+use Rattle.c65_code.specs.declared.routine.Routine.TheVariants as routines
 use Rattle.c65_code.specs.declared.line.Line.{Line}
 use Rattle.c65_code.specs.LineState.{State, sp_of, s_of, IsBytes}
 use Rattle.c65_code.specs.Placement.{Placement, Setting, word_of, stack_start, stack_end}
@@ -54,9 +54,9 @@ HasLines [] = ⊥
 HasLines (l ∷ lines) = Unit {0}
 
 -- a call goes to a function with lines, or to a routine that has room
-abbrev pub IsCallable : Setting → Option LibraryFunction → ℕ → State → Type 0
+abbrev pub IsCallable : Setting → Option Library → ℕ → State → Type 0
 IsCallable s None f t = HasLines (s.lines f)
-IsCallable s (Some library) f t = RowHasRoom s.place (row_of (Library library) t) t
+IsCallable s (Some library) f t = RowHasRoom s.place (row_of (routines.Library library) t) t
 
 -- what this line needs
 abbrev pub IsWithin : Setting → Form → State → Type 0

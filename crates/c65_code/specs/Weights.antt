@@ -7,7 +7,7 @@ use Rattle.c65_code.specs.declared.routine.Routine.{Routine}
 use Rattle.c65_code.specs.declared.routine.Routine.TheVariants as routines
 use Rattle.c65_code.specs.declared.routine.UnaryRoutine.TheVariants.{Neg, Compl, Shl1, Shr1, Asr1}
 use Rattle.c65_code.specs.declared.routine.Width.TheVariants.{Ax}
-use Rattle.c65_code.specs.declared.routine.LibraryFunction.{LibraryFunction}
+use Rattle.c65_base.specs.declared.library.Library.{Library}
 use Rattle.c65_code.specs.declared.line.Callee.{Callee}
 use Rattle.c65_code.specs.declared.line.Callee.TheVariants as callees
 use Rattle.c65_code.specs.declared.line.Line.{Line}
@@ -26,7 +26,7 @@ row_cost None = 1
 row_cost (Some row) = row.cost
 
 -- a call of a function weighs 8, and that of a routine under a function's name 8 more than the routine
-abbrev pub call_weight : Option LibraryFunction → State → ℕ
+abbrev pub call_weight : Option Library → State → ℕ
 call_weight None t = 8
 call_weight (Some library) t = 8 + row_cost (row_of (routines.Library library) t)
 

@@ -4,7 +4,8 @@ ghost use Rattle.c65_code.specs.Effects.{sp_bytes, ax, eax, primary, small, larg
 ghost use Rattle.c65_code.specs.Parts.{IsPart, set_of};
 
 use crate::parts::{Part, RegSet};
-use crate::routine::{LibraryFunction, Routine, Width};
+use crate::routine::{Routine, Width};
+use c65_base::Library;
 
 // The software stack's pointer.
 fn sp() -> RegSet
@@ -63,35 +64,23 @@ pub fn kept_at_calls() -> RegSet
     sp().union(RegSet::zero_bytes(20, 26))
 }
 
-fn library_reads_of(function: LibraryFunction) -> RegSet
+fn library_reads_of(function: Library) -> RegSet
     ensures { result ≡ library_reads function }
 {
     match function {
-        LibraryFunction::GetChar => RegSet::empty(),
-        LibraryFunction::MemCpy
-        | LibraryFunction::MemSet
-        | LibraryFunction::StrCmp
-        | LibraryFunction::StrCpy => word().union(sp()),
-        LibraryFunction::PutChar
-        | LibraryFunction::Puts
-        | LibraryFunction::Exit
-        | LibraryFunction::StrLen => word(),
+        Library::Getchar => RegSet::empty(),
+        Library::Memcpy | Library::Memset | Library::Strcmp | Library::Strcpy => word().union(sp()),
+        Library::Putchar | Library::Puts | Library::Exit | Library::Strlen => word(),
     }
 }
 
-fn library_sets_of(function: LibraryFunction) -> RegSet
+fn library_sets_of(function: Library) -> RegSet
     ensures { result ≡ library_sets function }
 {
     match function {
-        LibraryFunction::MemCpy
-        | LibraryFunction::MemSet
-        | LibraryFunction::StrCmp
-        | LibraryFunction::StrCpy => most().union(sp()),
-        LibraryFunction::PutChar
-        | LibraryFunction::GetChar
-        | LibraryFunction::Puts
-        | LibraryFunction::Exit
-        | LibraryFunction::StrLen => most(),
+        Library::Memcpy | Library::Memset | Library::Strcmp | Library::Strcpy => most().union(sp()),
+        Library::Putchar | Library::Getchar | Library::Puts | Library::Exit | Library::Strlen =>
+            most(),
     }
 }
 

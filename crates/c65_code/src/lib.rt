@@ -23,5 +23,5 @@ pub use laws::{
 };
 pub use line::{Callee, Line, Operand, Sym};
 pub use parts::{Part, RegSet};
-pub use routine::{Count, LibraryFunction, Routine, TosOp, UnaryRoutine, Width};
+pub use routine::{Count, Routine, TosOp, UnaryRoutine, Width};
 pub use segment::{Draft, Seg};

@@ -1,6 +1,8 @@
 // The routines of the runtime, and their names in assembly text (MACHINE.md, "Routines").
 ghost use Rattle.std.specs.Prelude.{◌≡◌, find, bytes_eq, IfSome};
-ghost use Rattle.c65_code.specs.Names.{name_of, word_name_of, long_name_of, unary_name_of, library_name_of, found_in, routine_named};
+ghost use Rattle.c65_code.specs.Names.{name_of, word_name_of, long_name_of, unary_name_of, found_in, routine_named};
+
+use c65_base::Library;
 
 /// How many bytes `incsp` and `decsp` move the software stack's pointer.
 #[derive(Clone, Copy, Debug, PartialEq, Eq)]
@@ -59,20 +61,6 @@ pub enum UnaryRoutine {
     Shr1,
     Asr1,
     BNeg,
-}
-
-/// The functions of C's library that are routines.
-#[derive(Clone, Copy, Debug, PartialEq, Eq)]
-pub enum LibraryFunction {
-    PutChar,
-    GetChar,
-    Puts,
-    Exit,
-    MemCpy,
-    MemSet,
-    StrCmp,
-    StrCpy,
-    StrLen,
 }
 
 /// A routine of the runtime. AX is A with X as high byte; EAX has sreg above it. TOS is the value at sp, which the routine pops.
@@ -148,7 +136,7 @@ pub enum Routine {
     /// The same with the program's arguments.
     StartArgs,
     /// A function of C's library.
-    Library(LibraryFunction),
+    Library(Library),
     /// The hooks of the simulator (MACHINE.md, "Runs").
     HookOpen,
     HookClose,
@@ -277,15 +265,15 @@ const OTHERS: [Routine; 27] = [
 ];
 
 const OUTSIDE: [Routine; 15] = [
-    Routine::Library(LibraryFunction::PutChar),
-    Routine::Library(LibraryFunction::GetChar),
-    Routine::Library(LibraryFunction::Puts),
-    Routine::Library(LibraryFunction::Exit),
-    Routine::Library(LibraryFunction::MemCpy),
-    Routine::Library(LibraryFunction::MemSet),
-    Routine::Library(LibraryFunction::StrCmp),
-    Routine::Library(LibraryFunction::StrCpy),
-    Routine::Library(LibraryFunction::StrLen),
+    Routine::Library(Library::Putchar),
+    Routine::Library(Library::Getchar),
+    Routine::Library(Library::Puts),
+    Routine::Library(Library::Exit),
+    Routine::Library(Library::Memcpy),
+    Routine::Library(Library::Memset),
+    Routine::Library(Library::Strcmp),
+    Routine::Library(Library::Strcpy),
+    Routine::Library(Library::Strlen),
     Routine::HookOpen,
     Routine::HookClose,
     Routine::HookRead,
@@ -337,7 +325,7 @@ impl Routine {
             Routine::CallPtr4 => b"callptr4",
             Routine::Start => b"start",
             Routine::StartArgs => b"startargs",
-            Routine::Library(function) => library_name(function),
+            Routine::Library(function) => function.name(),
             Routine::HookOpen => b"hookopen",
             Routine::HookClose => b"hookclose",
             Routine::HookRead => b"hookread",
@@ -462,22 +450,6 @@ fn unary_name(op: UnaryRoutine, width: Width) -> &'static [u8]
         (UnaryRoutine::Asr1, Width::Eax) => b"asreax1",
         (UnaryRoutine::BNeg, Width::Ax) => b"bnegax",
         (UnaryRoutine::BNeg, Width::Eax) => b"bnegeax",
-    }
-}
-
-fn library_name(function: LibraryFunction) -> &'static [u8]
-    ensures { result.now ≡ library_name_of function }
-{
-    match function {
-        LibraryFunction::PutChar => b"putchar",
-        LibraryFunction::GetChar => b"getchar",
-        LibraryFunction::Puts => b"puts",
-        LibraryFunction::Exit => b"exit",
-        LibraryFunction::MemCpy => b"memcpy",
-        LibraryFunction::MemSet => b"memset",
-        LibraryFunction::StrCmp => b"strcmp",
-        LibraryFunction::StrCpy => b"strcpy",
-        LibraryFunction::StrLen => b"strlen",
     }
 }
 

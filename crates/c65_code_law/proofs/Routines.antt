@@ -11,8 +11,8 @@ use Rattle.c65_code.specs.declared.routine.TosOp.{TosOp}
 use Rattle.c65_code.specs.declared.routine.TosOp.TheVariants as tos
 use Rattle.c65_code.specs.declared.routine.UnaryRoutine.{UnaryRoutine}
 use Rattle.c65_code.specs.declared.routine.UnaryRoutine.TheVariants.{Neg, Compl, Shl1, Shr1, Asr1, BNeg}
-use Rattle.c65_code.specs.declared.routine.LibraryFunction.{LibraryFunction}
-use Rattle.c65_code.specs.declared.routine.LibraryFunction.TheVariants.{PutChar, GetChar, Puts, Exit, MemCpy, MemSet, StrCmp, StrCpy, StrLen}
+use Rattle.c65_base.specs.declared.library.Library.{Library}
+use Rattle.c65_base.specs.declared.library.Library.TheVariants.{Putchar, Getchar, Puts, Exit, Memcpy, Memset, Strcmp, Strcpy, Strlen}
 use Rattle.c65_code.specs.declared.routine.Routine.{Routine}
 use Rattle.c65_code.specs.declared.routine.Routine.TheVariants as routines
 use Rattle.c65_code.specs.Parts.{has_part}
@@ -166,20 +166,20 @@ module _ (t : State) (bytes : IsBytes t) (high : sp_of t ≤ 65520) where
 
   -- ---- the library
 
-  read_met : (input : List ℕ) → IsMet (read_row input t (costing 256 (row_by (routines.Library GetChar) t))) t
+  read_met : (input : List ℕ) → IsMet (read_row input t (costing 256 (row_by (routines.Library Getchar) t))) t
   read_met [] = plain_met _ t bytes (record { a = low 65535 t.regs.a; x = upper 65535 t.regs.x; sp = same_sp _; sreg = tt; writes = tt; pointers = refl; bank = refl })
   read_met (v ∷ input) = plain_met _ t bytes (record { a = low v t.regs.a; x = upper v t.regs.x; sp = same_sp _; sreg = tt; writes = tt; pointers = refl; bank = refl })
 
-  library_met : (f : LibraryFunction) → IsMet (library_row f t (costing 256 (row_by (routines.Library f) t))) t
-  library_met PutChar = plain_met _ t bytes (record { a = low _ t.regs.a; x = upper _ t.regs.x; sp = same_sp _; sreg = tt; writes = tt; pointers = refl; bank = refl })
-  library_met GetChar = read_met t.input
+  library_met : (f : Library) → IsMet (library_row f t (costing 256 (row_by (routines.Library f) t))) t
+  library_met Putchar = plain_met _ t bytes (record { a = low _ t.regs.a; x = upper _ t.regs.x; sp = same_sp _; sreg = tt; writes = tt; pointers = refl; bank = refl })
+  library_met Getchar = read_met t.input
   library_met Puts = plain_met _ t bytes (record { a = low 0 t.regs.a; x = upper 0 t.regs.x; sp = same_sp _; sreg = tt; writes = tt; pointers = refl; bank = refl })
   library_met Exit = plain_met _ t bytes (record { a = tt; x = tt; sp = same_sp _; sreg = tt; writes = tt; pointers = refl; bank = refl })
-  library_met MemCpy = plain_met _ t bytes (record { a = low _ t.regs.a; x = upper _ t.regs.x; sp = word _ 0 _ refl refl (omega arith); sreg = tt; writes = copied_small _ _ _ t.mem bytes.mem; pointers = refl; bank = refl })
-  library_met MemSet = plain_met _ t bytes (record { a = low _ t.regs.a; x = upper _ t.regs.x; sp = word _ 0 _ refl refl (omega arith); sreg = tt; writes = filled_small _ _ _ (bytes.mem (sp_of t)); pointers = refl; bank = refl })
-  library_met StrCmp = plain_met _ t bytes (record { a = low _ t.regs.a; x = upper _ t.regs.x; sp = word _ 0 _ refl refl (omega arith); sreg = tt; writes = tt; pointers = refl; bank = refl })
-  library_met StrCpy = plain_met _ t bytes (record { a = low _ t.regs.a; x = upper _ t.regs.x; sp = word _ 0 _ refl refl (omega arith); sreg = tt; writes = copied_small _ _ _ t.mem bytes.mem; pointers = refl; bank = refl })
-  library_met StrLen = plain_met _ t bytes (record { a = low _ t.regs.a; x = upper _ t.regs.x; sp = same_sp _; sreg = tt; writes = tt; pointers = refl; bank = refl })
+  library_met Memcpy = plain_met _ t bytes (record { a = low _ t.regs.a; x = upper _ t.regs.x; sp = word _ 0 _ refl refl (omega arith); sreg = tt; writes = copied_small _ _ _ t.mem bytes.mem; pointers = refl; bank = refl })
+  library_met Memset = plain_met _ t bytes (record { a = low _ t.regs.a; x = upper _ t.regs.x; sp = word _ 0 _ refl refl (omega arith); sreg = tt; writes = filled_small _ _ _ (bytes.mem (sp_of t)); pointers = refl; bank = refl })
+  library_met Strcmp = plain_met _ t bytes (record { a = low _ t.regs.a; x = upper _ t.regs.x; sp = word _ 0 _ refl refl (omega arith); sreg = tt; writes = tt; pointers = refl; bank = refl })
+  library_met Strcpy = plain_met _ t bytes (record { a = low _ t.regs.a; x = upper _ t.regs.x; sp = word _ 0 _ refl refl (omega arith); sreg = tt; writes = copied_small _ _ _ t.mem bytes.mem; pointers = refl; bank = refl })
+  library_met Strlen = plain_met _ t bytes (record { a = low _ t.regs.a; x = upper _ t.regs.x; sp = same_sp _; sreg = tt; writes = tt; pointers = refl; bank = refl })
 
   -- ---- ptr1 and ptr2, and regbank
 

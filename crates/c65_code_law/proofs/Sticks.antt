@@ -1,9 +1,9 @@
 -- A steady run goes on at every line.
 use Rattle.std.proofs.Common.{◌≡◌, ℕ, suc, Option, Some, None, refl, sym, subst, arith}
 use Rattle.c65_code.specs.declared.parts.RegSet.{RegSet}
-use Rattle.c65_code.specs.declared.routine.LibraryFunction.{LibraryFunction}
+use Rattle.c65_base.specs.declared.library.Library.{Library}
 use Rattle.c65_code.specs.declared.routine.Routine.{Routine}
-use Rattle.c65_code.specs.declared.routine.Routine.TheVariants.{Library}
+use Rattle.c65_code.specs.declared.routine.Routine.TheVariants as routines
 use Rattle.c65_code.specs.declared.line.Callee.TheVariants.{Function}
 use Rattle.c65_code.specs.declared.line.Line.{Line}
 use Rattle.c65_code.specs.declared.line.Line.TheVariants.{Call}
@@ -30,14 +30,14 @@ module _ (s : Setting) (p : Place) (t : State) (running : t.ended ≡ None) (cal
   met_at r = row_met t calm.bytes calm.high r
 
   -- a call of a function with lines, or of one of the library
-  call_goes : (f : ℕ) (reads gives : RegSet) (o : Option LibraryFunction) → s.library f ≡ o → IsCallable s o f t → (q : Place) × (u : State) × Calls s o f reads gives p t q u × IsBytes u
+  call_goes : (f : ℕ) (reads gives : RegSet) (o : Option Library) → s.library f ≡ o → IsCallable s o f t → (q : Place) × (u : State) × Calls s o f reads gives p t q u × IsBytes u
   call_goes f reads gives (Some library) e h =
-      let m = routine_goes s.place (row_of (Library library) t) t h (met_at (Library library)) in
+      let m = routine_goes s.place (row_of (routines.Library library) t) t h (met_at (routines.Library library)) in
       ((p.0, settle (s.lines p.0) (suc p.1)), m.0, (refl, m.1), m.2)
   call_goes f reads gives None e h =
-      let callable : IsCallable s (s.library f) f t = subst (λ (o : Option LibraryFunction). IsCallable s o f t) (sym e) h in
+      let callable : IsCallable s (s.library f) f t = subst (λ (o : Option Library). IsCallable s o f t) (sym e) h in
       let gone = own_never_stick s (Call (Function (record { 0 = f }) reads gives)) p t e (omega arith) (record { calm = calm; within = callable }) running in
-      (gone.0, gone.1, subst (λ (o : Option LibraryFunction). Calls s o f reads gives p t gone.0 gone.1) e gone.2.goes, gone.2.bytes)
+      (gone.0, gone.1, subst (λ (o : Option Library). Calls s o f reads gives p t gone.0 gone.1) e gone.2.goes, gone.2.bytes)
 
   through : (f : ℕ) (reads gives : RegSet) → IsCallee s t f → IsCallable s (s.library f) f t → (q : Place) × (u : State) × Goes s (Through reads gives) p t q u × IsBytes u
   through f reads gives callee h =

@@ -8,7 +8,7 @@ use Rattle.c65_ints.specs.declared.types.IntType.{IntType}
 use Rattle.c65_ctype.specs.Trees.{QTy, Fn, TypesTy}
 use Rattle.c65_csem.specs.declared.items.Class.{Class}
 use Rattle.c65_csem.specs.declared.items.Cell.{Cell}
-use Rattle.c65_csem.specs.declared.items.Library.{Library}
+use Rattle.c65_base.specs.declared.library.Library.{Library}
 
 mutual
   -- an expression and its type

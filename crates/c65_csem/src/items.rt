@@ -1,6 +1,6 @@
 // Objects, functions and literals of a unit.
 use crate::stmt::TStmt;
-use c65_base::{Name, Text as Bytes};
+use c65_base::{Library, Name, Text as Bytes};
 use c65_ctype::{FnType, QType, Types};
 
 /// How an object is defined, and how long it lives (C90 6.1.2.4, 6.5.1, 6.7.2).
@@ -39,20 +39,6 @@ pub struct TObject {
     pub ty: QType,
     pub class: Class,
     pub init: Option<Vec<Cell>>,
-}
-
-/// A function of the library.
-#[derive(Clone, Copy, Debug, PartialEq, Eq)]
-pub enum Library {
-    Putchar,
-    Getchar,
-    Puts,
-    Exit,
-    Memcpy,
-    Memset,
-    Strcmp,
-    Strcpy,
-    Strlen,
 }
 
 /// A function. Its parameters are automatic objects.

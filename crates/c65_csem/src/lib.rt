@@ -10,7 +10,7 @@ mod stmt;
 mod unit;
 
 pub use expr::{TExpr, TKind};
-pub use items::{Cell, Class, Library, Parts, TFunc, TObject, Target};
+pub use items::{Cell, Class, Parts, TFunc, TObject, Target};
 pub use kinds::{
     int_type, is_scalar, is_sized, is_tag, member_at, pointer_to, promoted, unqualified,
 };

@@ -7,7 +7,7 @@ use Rattle.c65_csem.specs.declared.items.Cell.{Cell}
 use Rattle.c65_csem.specs.declared.items.Cell.TheVariants.{Byte, Piece}
 use Rattle.c65_csem.specs.declared.items.Target.{Target}
 use Rattle.c65_csem.specs.declared.items.Target.TheVariants as targets
-use Rattle.c65_csem.specs.declared.items.Library.{Library}
+use Rattle.c65_base.specs.declared.library.Library.{Library}
 use Rattle.c65_csem.specs.Trees.{Stmt, ObjectTy, FuncTy, UnitTy}
 use Rattle.c65_csem.specs.Places.{is_scalar, is_sized_in, plain_of, is_automatic, are_alike}
 use Rattle.c65_csem.specs.Typed.{result_of}

@@ -12,8 +12,8 @@ use Rattle.c65_ctype.specs.Compatible.{same_int, same_bool}
 use Rattle.c65_ctype.specs.Trees.{Ty, void, int, pointer, array, tag, function, QTy, qual, type_in, Fn, fn, unknown, known, QTys, end, more}
 use Rattle.c65_ctype.specs.Views.{qty_of, fn_of, qtys_of, params_in}
 use Rattle.c65_ctype.proofs.ViewLaws.{fn_view}
-use Rattle.c65_csem.specs.declared.items.Library.{Library}
-use Rattle.c65_csem.specs.declared.items.Library.TheVariants as the
+use Rattle.c65_base.specs.declared.library.Library.{Library}
+use Rattle.c65_base.specs.declared.library.Library.TheVariants as the
 use Rattle.c65_csem_names.specs.declared.library.Kind.{Kind}
 use Rattle.c65_csem_names.specs.declared.library.Kind.TheVariants.{Nothing, Number, Chars, Bytes}
 use Rattle.c65_csem_names.specs.Library.{result_of, params_of, type_of}

@@ -4,8 +4,8 @@ use Rattle.c65_ints.specs.declared.types.IntType.{IntType}
 use Rattle.c65_ints.specs.declared.types.IntType.TheVariants.{Int, UInt, UChar}
 use Rattle.c65_ctype.specs.Compatible.{same_int, same_bool}
 use Rattle.c65_ctype.specs.Trees.{Ty, void, int, pointer, QTy, qual, type_in, Fn, fn, Params, unknown, known, QTys, end, more}
-use Rattle.c65_csem.specs.declared.items.Library.{Library}
-use Rattle.c65_csem.specs.declared.items.Library.TheVariants as the
+use Rattle.c65_base.specs.declared.library.Library.{Library}
+use Rattle.c65_base.specs.declared.library.Library.TheVariants as the
 use Rattle.c65_csem_names.specs.declared.library.Kind.{Kind}
 use Rattle.c65_csem_names.specs.declared.library.Kind.TheVariants.{Nothing, Number, Chars, Bytes}
 

@@ -3,8 +3,8 @@ use Rattle.std.specs.Prelude.{◌≡◌, Bool, true, false, Option, Some, None, 
 use Rattle.c65_ints.specs.declared.types.IntType.{IntType}
 use Rattle.c65_ints.specs.declared.types.IntType.TheVariants.{Int, UInt, UChar}
 use Rattle.c65_ctype.specs.Trees.{Ty, void, int, pointer, QTy, qual, Fn, fn, known, QTys, end, more}
-use Rattle.c65_csem.specs.declared.items.Library.{Library}
-use Rattle.c65_csem.specs.declared.items.Library.TheVariants as the
+use Rattle.c65_base.specs.declared.library.Library.{Library}
+use Rattle.c65_base.specs.declared.library.Library.TheVariants as the
 use Rattle.c65_csem.specs.Trees.{FuncTy}
 
 abbrev pub number : IntType → QTy

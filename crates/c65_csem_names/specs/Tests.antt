@@ -3,7 +3,7 @@ use Rattle.std.specs.Prelude.{ℕ, List, [], ◌∷◌, Bool, true, false, not, 
 use Rattle.c65_ctype.specs.Trees.{type_in, Fn}
 use Rattle.c65_csem.specs.declared.items.Cell.{Cell}
 use Rattle.c65_csem.specs.declared.items.Cell.TheVariants.{Byte, Piece}
-use Rattle.c65_csem.specs.declared.items.Library.{Library}
+use Rattle.c65_base.specs.declared.library.Library.{Library}
 use Rattle.c65_csem.specs.declared.items.Target.{Target}
 use Rattle.c65_csem.specs.declared.items.Target.TheVariants as T
 use Rattle.c65_csem.specs.Places.{is_automatic}

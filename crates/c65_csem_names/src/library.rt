@@ -6,7 +6,8 @@ ghost use Rattle.c65_csem.specs.Views.{func_of, unit_of};
 ghost use Rattle.c65_csem_names.specs.Kinds;
 ghost use Rattle.c65_csem_names.specs.Tests;
 
-use c65_csem::{Library, Parts, TFunc};
+use c65_base::Library;
+use c65_csem::{Parts, TFunc};
 use c65_ctype::{CType, FnType, QType};
 use c65_ints::IntType;
 

@@ -2,8 +2,8 @@
 use Rattle.std.proofs.Common.{◌≡◌, ℕ, zero, suc, ◌≤◌, List, [], ◌∷◌, Option, Some, None, true, option_map, slice_get, refl, sym, ap, ◌∙◌, subst}
 use Rattle.std.specs.Prelude.{⊤, Result, Ok, Err, nat_le}
 use Rattle.c65_ctype.specs.Trees.{Ty}
-use Rattle.c65_csem.specs.declared.items.Library.{Library}
-use Rattle.c65_csem.specs.declared.items.Library.TheVariants.{Putchar, Getchar, Puts, Exit, Memcpy, Memset, Strcmp, Strcpy, Strlen}
+use Rattle.c65_base.specs.declared.library.Library.{Library}
+use Rattle.c65_base.specs.declared.library.Library.TheVariants.{Putchar, Getchar, Puts, Exit, Memcpy, Memset, Strcmp, Strcpy, Strlen}
 use Rattle.c65_csem.specs.Trees.{Stmt, FuncTy, UnitTy}
 use Rattle.c65_meaning.specs.Why.{Why}
 use Rattle.c65_meaning.specs.Store.{Value, Whole, Null, Place, Opaque, NoValue}

@@ -10,16 +10,15 @@ use Rattle.c65_ctype.specs.Trees.{Ty, void, int, pointer, array, tag, function, 
 use Rattle.c65_ints.specs.Ranges.{number_of}
 use Rattle.c65_ctype.specs.Compatible.{same_int}
 use Rattle.c65_csem.specs.declared.items.Parts.{Parts}
-use Rattle.c65_csem.specs.declared.items.Library.{Library}
-use Rattle.c65_csem.specs.declared.items.Library.TheVariants as library
+use Rattle.c65_base.specs.declared.library.Library.{Library}
+use Rattle.c65_base.specs.declared.library.Library.TheVariants as library
 use Rattle.c65_csem.specs.Trees.{type_of, Nodes, none, some, Stmt, UnitTy, FuncTy}
 use Rattle.c65_csem.specs.Places.{is_scalar, plain, are_alike, alike}
 use Rattle.c65_csem.specs.Typed.{AreGiven, FitsFn, IsCall}
 use Rattle.c65_csem.specs.Units.{AreParams, MatchParams, IsBody}
 use Rattle.c65_csem.specs.Views.{unit_of}
 use Rattle.c65_code.specs.LineState.{State, sp_of}
-use Rattle.c65_code.specs.declared.routine.LibraryFunction.{LibraryFunction}
-use Rattle.c65_code.specs.declared.routine.LibraryFunction.TheVariants.{PutChar, GetChar, Puts, Exit, MemCpy, MemSet, StrCmp, StrCpy, StrLen}
+use Rattle.c65_base.specs.declared.library.Library.TheVariants.{Putchar, Getchar, Puts, Exit, Memcpy, Memset, Strcmp, Strcpy, Strlen}
 use Rattle.c65_code.specs.declared.routine.Routine.TheVariants as routines
 use Rattle.c65_code.specs.Rows.{Row, row_by, read_row, costing, row_of}
 use Rattle.c65_code.specs.Moves.{MeetsRow}
@@ -30,7 +29,6 @@ use Rattle.c65_genframe.specs.Frames.{Framed, is_variadic, takes_stack, has_prot
 use Rattle.c65_genload.specs.Conversions.{size_of}
 use Rattle.c65_genexpr.specs.Types.{kind_of, kind_in, bare}
 use Rattle.c65_genexpr.specs.Arguments.{is_fast, is_counted}
-use Rattle.c65_genexpr.specs.Calls.{routine_of}
 use Rattle.c65_gen_law_lines.specs.Stack.{bytes_in, passed}
 use Rattle.c65_gen_law_lines.proofs.FrameLaws.{answered}
 use Rattle.c65_gen_law_stack.specs.Calls as entering
@@ -177,11 +175,11 @@ agreed_bytes parts honoured g f s t framed agrees counted = passes_by (is_variad
 
 -- ---- functions of the library
 
-abbrev pub library_bytes : LibraryFunction → ℕ
-library_bytes MemCpy = 4
-library_bytes MemSet = 4
-library_bytes StrCmp = 2
-library_bytes StrCpy = 2
+abbrev pub library_bytes : Library → ℕ
+library_bytes Memcpy = 4
+library_bytes Memset = 4
+library_bytes Strcmp = 2
+library_bytes Strcpy = 2
 library_bytes _ = 0
 
 pointer_size : (q : QTy) (x : Ty) → alike (pointer q) x ≡ true → size_of (kind_of x) ≡ 2
@@ -226,7 +224,7 @@ sizes_sum t size q z (some e (some g (some i none))) h =
     omega (arith, first, second)
 sizes_sum t size q z (some e (some g (some i (some j es)))) h = absurd h.1.1.1
 
-library_passes : (l : Library) (es : Nodes) → AreOf es (library_types l) → bytes_in (passed true es) ≡ library_bytes (routine_of l)
+library_passes : (l : Library) (es : Nodes) → AreOf es (library_types l) → bytes_in (passed true es) ≡ library_bytes l
 library_passes library.Putchar es h = one_arg (int Int) es h
 library_passes library.Getchar es h = no_arg es h
 library_passes library.Puts es h = one_arg (pointer (plain void)) es h
@@ -237,7 +235,7 @@ library_passes library.Strcmp es h = two_args (plain void) (pointer (plain void)
 library_passes library.Strcpy es h = two_args (plain void) (pointer (plain void)) es h
 library_passes library.Strlen es h = one_arg (pointer (plain void)) es h
 
-pub agreed_library : (s : Site) (l : Library) → LibraryAgrees s l → bytes_in (bytes_of s) ≡ library_bytes (routine_of l)
+pub agreed_library : (s : Site) (l : Library) → LibraryAgrees s l → bytes_in (bytes_of s) ≡ library_bytes l
 agreed_library s l agrees = ap (λ (b : Bool). bytes_in (passed b s.args)) agrees.fast ∙ library_passes l s.args agrees.taken
 
 read_sp : (input : List ℕ) (t : State) (row : Row) → (read_row input t row).sp ≡ row.sp
@@ -247,13 +245,13 @@ read_sp (v ∷ input) t row = refl
 row_sp : (row : Row) (t u : State) → MeetsRow (Some row) t u → sp_of u ≡ row.sp
 row_sp row t u m = m.sp
 
-pub library_sp : (l : LibraryFunction) (t u : State) → MeetsRow (row_of (routines.Library l) t) t u → sp_of u ≡ sp_of t + library_bytes l
-library_sp PutChar t u m = let same : sp_of u ≡ sp_of t = row_sp _ t u m in omega (arith, same)
-library_sp GetChar t u m = let same : sp_of u ≡ sp_of t = row_sp _ t u m ∙ read_sp t.input t (costing 256 (row_by (routines.Library GetChar) t)) in omega (arith, same)
+pub library_sp : (l : Library) (t u : State) → MeetsRow (row_of (routines.Library l) t) t u → sp_of u ≡ sp_of t + library_bytes l
+library_sp Putchar t u m = let same : sp_of u ≡ sp_of t = row_sp _ t u m in omega (arith, same)
+library_sp Getchar t u m = let same : sp_of u ≡ sp_of t = row_sp _ t u m ∙ read_sp t.input t (costing 256 (row_by (routines.Library Getchar) t)) in omega (arith, same)
 library_sp Puts t u m = let same : sp_of u ≡ sp_of t = row_sp _ t u m in omega (arith, same)
 library_sp Exit t u m = let same : sp_of u ≡ sp_of t = row_sp _ t u m in omega (arith, same)
-library_sp MemCpy t u m = row_sp _ t u m
-library_sp MemSet t u m = row_sp _ t u m
-library_sp StrCmp t u m = row_sp _ t u m
-library_sp StrCpy t u m = row_sp _ t u m
-library_sp StrLen t u m = let same : sp_of u ≡ sp_of t = row_sp _ t u m in omega (arith, same)
+library_sp Memcpy t u m = row_sp _ t u m
+library_sp Memset t u m = row_sp _ t u m
+library_sp Strcmp t u m = row_sp _ t u m
+library_sp Strcpy t u m = row_sp _ t u m
+library_sp Strlen t u m = let same : sp_of u ≡ sp_of t = row_sp _ t u m in omega (arith, same)

@@ -3,7 +3,7 @@ use Rattle.std.proofs.Common.{◌≡◌, ℕ, suc, ◌+◌, ◌%◌, ◌^◌, �
 use Rattle.std.specs.Prelude.{All, option_map}
 use Rattle.std.proofs.lemmas.List.Elements.{All-get_or}
 use Rattle.std.proofs.lemmas.Option.{slice_get-map, slice_get_within, get_or_from_slice_get}
-use Rattle.c65_csem.specs.declared.items.Library.{Library}
+use Rattle.c65_base.specs.declared.library.Library.{Library}
 use Rattle.c65_csem.specs.declared.items.Parts.{Parts}
 use Rattle.c65_csem.specs.declared.items.TFunc.{TFunc}
 use Rattle.c65_csem.specs.Trees.{Typed, node, decay, func, Stmt, UnitTy, FuncTy}
@@ -14,7 +14,6 @@ use Rattle.c65_code.specs.declared.line.Callee.TheVariants as callees
 use Rattle.c65_code.specs.declared.line.Line.{Line}
 use Rattle.c65_code.specs.declared.line.Line.TheVariants.{Label, Do, Call}
 use Rattle.c65_code.specs.declared.parts.RegSet.{RegSet}
-use Rattle.c65_code.specs.declared.routine.LibraryFunction.{LibraryFunction}
 use Rattle.c65_code.specs.declared.routine.Routine.TheVariants as routines
 use Rattle.c65_code.specs.Parts.{union_of}
 use Rattle.c65_code.specs.Effects.{ptr4_bytes}
@@ -24,7 +23,7 @@ use Rattle.c65_code.specs.Rows.{row_of}
 use Rattle.c65_code.specs.Moves.{settle, Enters}
 use Rattle.c65_genframe.specs.Frames.{Framed}
 use Rattle.c65_genframe.specs.Symbols.{numbers_of, function_symbol}
-use Rattle.c65_genexpr.specs.Calls.{named, library_in, library_at, routine_of}
+use Rattle.c65_genexpr.specs.Calls.{named, library_in, library_at}
 use Rattle.c65_genentry.specs.Entry.{entry_code}
 use Rattle.c65_genentry.specs.Ends.{end_code}
 use Rattle.c65_genstmt.specs.Functions.{gives_of}
@@ -77,7 +76,7 @@ reach_calls s (Call (callees.Routine r)) n p q t u h = absurd h
 reach_calls s (Call (callees.Function g reads gives)) n p q t u h = refl
 reach_calls s (Call (callees.Pointer reads gives)) n p q t u h = refl
 
-run_calls : (line : Line) (l : LibraryFunction) → RunsLibrary line l → is_calling line ≡ true
+run_calls : (line : Line) (l : Library) → RunsLibrary line l → is_calling line ≡ true
 run_calls line l (inl e) = ap is_calling e
 run_calls line l (inr e) = ap is_calling e.2
 
@@ -156,23 +155,23 @@ agrees_at s p c d j line (Some i) a q t u made sound first second is reach asked
     agrees_by (unit_of p.parts) made.site d.func d.func.library d.func.body d.body none second.has_body agrees
 
 -- and one of a function of the library
-abbrev library_in_line : Line → Option LibraryFunction
+abbrev library_in_line : Line → Option Library
 library_in_line (Call (callees.Routine (routines.Library l))) = Some l
 library_in_line _ = None
 
-named_runs : (f : Framed) (i : ℕ) (o : Option Library) (site : Site) (l : LibraryFunction) → RunsLibrary (named_line f i o site) l → (k : Library) × (o ≡ Some k) × (routine_of k ≡ l)
+named_runs : (f : Framed) (i : ℕ) (o : Option Library) (site : Site) (l : Library) → RunsLibrary (named_line f i o site) l → (k : Library) × (o ≡ Some k) × (k ≡ l)
 named_runs f i None site l (inl e) = absurd (let z : None ≡ Some l = ap library_in_line e in cc)
 named_runs f i None site l (inr e) = absurd (let z = e.2 in cc)
-named_runs f i (Some k) site l (inl e) = (k, refl, let z : Some (routine_of k) ≡ Some l = ap library_in_line e in cc)
+named_runs f i (Some k) site l (inl e) = (k, refl, let z : Some k ≡ Some l = ap library_in_line e in cc)
 named_runs f i (Some k) site l (inr e) = absurd (let z = e.2 in cc)
 
 library_at_line : (s : Setting) (p : Program) (c : Compiled) (j : ℕ) (line : Line) (l : Library) (n : Option ℕ) (made : IsMade (unit_of p.parts) c.frame c.body c.middle j line) → IsSound p → IsCompiled s p c
-    → named made.site.callee ≡ n → RunsLibrary line (routine_of l) → Through n (LibraryAgrees made.site l) → bytes_in (bytes_of made.site) ≡ library_bytes (routine_of l)
+    → named made.site.callee ≡ n → RunsLibrary line l → Through n (LibraryAgrees made.site l) → bytes_in (bytes_of made.site) ≡ library_bytes l
 library_at_line s p c j line l None made sound first is runs asked = agreed_library made.site l asked
 library_at_line s p c j line l (Some i) made sound first is runs asked =
     let there = named_there (unit_of p.parts) made.site.callee i made.typed.0 is in
     let same : line ≡ named_line c.frame i (library_at c.frame i) made.site = made.calls ∙ ap (λ (o : Option ℕ). line_by c.frame o made.site) is in
-    let own = named_runs c.frame i (library_at c.frame i) made.site (routine_of l) (subst (λ (x : Line). RunsLibrary x (routine_of l)) same runs) in
+    let own = named_runs c.frame i (library_at c.frame i) made.site l (subst (λ (x : Line). RunsLibrary x l) same runs) in
     let agrees : AgreesWith (unit_of p.parts) made.site there.0 there.0.library there.0.body = sound.names c.index (length (callings (take j c.middle))) i c.func there.0 c.body made.site first.found first.has_body made.found is there.1 in
     let kept : LibraryAgrees made.site own.0 = library_by (unit_of p.parts) made.site there.0 there.0.library there.0.body own.0 (sym (library_is s p c i there.0 first there.1) ∙ own.1) agrees in
     agreed_library made.site own.0 kept ∙ ap library_bytes own.2
@@ -180,10 +179,10 @@ library_at_line s p c j line l (Some i) made sound first is runs asked =
 -- ---- one step of a way
 
 library_step : (s : Setting) (p : Program) (c : Compiled) (j k : ℕ) (t u : State) (line : Line) (l : Library) → IsSound p → IsCompiled s p c → slice_get c.middle j ≡ Some line
-    → Runs s line (routine_of l) (place_in (laid p c) j) t (place_in (laid p c) k) u → ((site : Site) → site_at c.body c.middle j ≡ Some site → Through (named site.callee) (LibraryAgrees site l)) → Step (laid p c) j t k u
+    → Runs s line l (place_in (laid p c) j) t (place_in (laid p c) k) u → ((site : Site) → site_at c.body c.middle j ≡ Some site → Through (named site.callee) (LibraryAgrees site l)) → Step (laid p c) j t k u
 library_step s p c j k t u line l sound first here runs asked =
-    let made : IsMade (unit_of p.parts) c.frame c.body c.middle j line = site_of s p c j line sound first here (run_calls line (routine_of l) runs.called) in
-    let bytes : bytes_in (bytes_of made.site) ≡ library_bytes (routine_of l) = library_at_line s p c j line l (named made.site.callee) made sound first refl runs.called (asked made.site made.found) in
+    let made : IsMade (unit_of p.parts) c.frame c.body c.middle j line = site_of s p c j line sound first here (run_calls line l runs.called) in
+    let bytes : bytes_in (bytes_of made.site) ≡ library_bytes l = library_at_line s p c j line l (named made.site.callee) made sound first refl runs.called (asked made.site made.found) in
     let laid_there : IsLaid s (laid p c) = laid_of s p c sound first in
     let n : ℕ = length (entry_code c.frame) in
     let g : ℕ = (laid p c).number in
@@ -192,7 +191,7 @@ library_step s p c j k t u line l sound first here runs asked =
     let place : k ≡ arrives.at = same_line n g k arrives.at arrives.to in
     let after : bytes_before (laid p c) k ≡ bytes_before (laid p c) (suc j) = ap (bytes_before (laid p c)) place ∙ ap sum_in arrives.height in
     let takes : bytes_before (laid p c) j ≡ bytes_before (laid p c) (suc j) + bytes_in (bytes_of made.site) = made.takes in
-    record { sp = omega (arith, library_sp (routine_of l) t u runs.row, bytes, after, takes); frames = row_frames (row_of (routines.Library (routine_of l)) t) t u runs.row }
+    record { sp = omega (arith, library_sp l t u runs.row, bytes, after, takes); frames = row_frames (row_of (routines.Library l) t) t u runs.row }
 
 -- ---- ways
 

@@ -2,8 +2,8 @@
 use Rattle.std.specs.Prelude.{◌≡◌, ℕ, not, Bool, true, false, Option, None, Some, IsTrue, List, [], ◌∷◌, slice_get, if◌then◌else◌}
 use Rattle.c65_ints.specs.declared.types.IntType.TheVariants.{Int, UInt}
 use Rattle.c65_ctype.specs.Trees.{Ty, void, int, pointer, function, Fn, fn, known, QTys, end, more}
-use Rattle.c65_csem.specs.declared.items.Library.{Library}
-use Rattle.c65_csem.specs.declared.items.Library.TheVariants as library
+use Rattle.c65_base.specs.declared.library.Library.{Library}
+use Rattle.c65_base.specs.declared.library.Library.TheVariants as library
 use Rattle.c65_csem.specs.Trees.{Nodes, none, some, Stmt, UnitTy, FuncTy}
 use Rattle.c65_csem.specs.Places.{plain, are_alike, alike}
 use Rattle.c65_csem.specs.Units.{IsBody}

@@ -1,7 +1,7 @@
 -- The lines that call functions, and those of a typed call (docs/MACHINE.md, "Calls").
 use Rattle.std.specs.Prelude.{ℕ, if◌then◌else◌, Bool, true, false, Option, Some, None, List, [], ◌∷◌, length, take, slice_get}
 use Rattle.c65_ctype.specs.Trees.{type_in}
-use Rattle.c65_csem.specs.declared.items.Library.{Library}
+use Rattle.c65_base.specs.declared.library.Library.{Library}
 use Rattle.c65_csem.specs.Trees.{Stmt}
 use Rattle.c65_code.specs.declared.parts.RegSet.{RegSet}
 use Rattle.c65_code.specs.declared.line.Callee.{Callee}
@@ -14,7 +14,7 @@ use Rattle.c65_genframe.specs.Symbols.{numbers_of, function_symbol}
 use Rattle.c65_genframe.specs.Frames.{Framed}
 use Rattle.c65_genexpr.specs.Types.{result_kind, bare}
 use Rattle.c65_genexpr.specs.Arguments.{is_fast, is_counted, passed_of, reads_of, registers_of}
-use Rattle.c65_genexpr.specs.Calls.{named, routine_of, library_at}
+use Rattle.c65_genexpr.specs.Calls.{named, library_at}
 use Rattle.c65_gen_law_calls.specs.Sites.{Site, statement_sites}
 
 abbrev pub is_library : Routine → Bool
@@ -42,7 +42,7 @@ abbrev pub gives_by : Site → RegSet
 gives_by s = registers_of (result_kind (type_in s.type))
 
 abbrev pub named_line : Framed → ℕ → Option Library → Site → Line
-named_line f i (Some l) s = Call (callees.Routine (routines.Library (routine_of l)))
+named_line f i (Some l) s = Call (callees.Routine (routines.Library l))
 named_line f i None s = Call (callees.Function (function_symbol (numbers_of f.parts) i) (reads_by s) (gives_by s))
 
 abbrev pub line_by : Framed → Option ℕ → Site → Line

@@ -1,7 +1,7 @@
 -- Ways through the functions of a compiled program, with all calls on them (docs/MACHINE.md, "Calls").
 use Rattle.std.specs.Prelude.{◌≡◌, ℕ, suc, ◌+◌, ◌^◌, ◌≤◌, ◌==◌, ◌⊎◌, Bool, true, Option, None, Some, Ok, List, ◌++◌, length, slice_get}
 use Rattle.c65_csem.specs.declared.items.Parts.{Parts}
-use Rattle.c65_csem.specs.declared.items.Library.{Library}
+use Rattle.c65_base.specs.declared.library.Library.{Library}
 use Rattle.c65_csem.specs.Trees.{Stmt, FuncTy}
 use Rattle.c65_csem.specs.Units.{IsUnit}
 use Rattle.c65_csem.specs.Views.{unit_of}
@@ -10,7 +10,6 @@ use Rattle.c65_code.specs.declared.line.Callee.{Callee}
 use Rattle.c65_code.specs.declared.line.Callee.TheVariants as callees
 use Rattle.c65_code.specs.declared.line.Line.{Line}
 use Rattle.c65_code.specs.declared.line.Line.TheVariants.{Call}
-use Rattle.c65_code.specs.declared.routine.LibraryFunction.{LibraryFunction}
 use Rattle.c65_code.specs.declared.routine.Routine.TheVariants as routines
 use Rattle.c65_code.specs.Parts.{union_of}
 use Rattle.c65_code.specs.Effects.{ptr4_bytes}
@@ -22,7 +21,7 @@ use Rattle.c65_code.specs.Moves.{settle, MeetsRow, IsCallee, Enters, Moves}
 use Rattle.c65_code.specs.Steady.{IsSteady}
 use Rattle.c65_genframe.specs.Frames.{Framed, frame_of}
 use Rattle.c65_genframe.specs.Symbols.{numbers_of, function_symbol}
-use Rattle.c65_genexpr.specs.Calls.{named, routine_of}
+use Rattle.c65_genexpr.specs.Calls.{named}
 use Rattle.c65_genentry.specs.Entry.{entry_code}
 use Rattle.c65_genentry.specs.Ends.{end_code}
 use Rattle.c65_genstmt.specs.Functions.{gives_of, no_lines, with_function}
@@ -81,10 +80,10 @@ Reaches s (Call callee) n p t q u = CallsOne s callee n p t q u
 Reaches s _ n p t q u = ⊥
 
 -- the line calls a function of the library, by its routine or through a pointer, and the machine stands behind it
-abbrev pub RunsLibrary : Line → LibraryFunction → Type 0
+abbrev pub RunsLibrary : Line → Library → Type 0
 RunsLibrary line l = (line ≡ Call (callees.Routine (routines.Library l))) ⊎ ((reads : RegSet) × (gives : RegSet) × (line ≡ Call (callees.Pointer reads gives)))
 
-pub record Runs (s : Setting) (line : Line) (l : LibraryFunction) (p : Place) (t : State) (q : Place) (u : State) : Type 0 where
+pub record Runs (s : Setting) (line : Line) (l : Library) (p : Place) (t : State) (q : Place) (u : State) : Type 0 where
   pub called : RunsLibrary line l
   pub to : q ≡ (p.0, settle (s.lines p.0) (suc p.1))
   pub row : MeetsRow (row_of (routines.Library l) t) t u
@@ -103,7 +102,7 @@ pub data Travels (s : Setting) (p : Program) : Compiled → ℕ → State → �
   moves : {c : Compiled} {j k m : ℕ} {t u v : State} (line : Line) → slice_get c.middle j ≡ Some line → IsOwn (form_of line) → IsSteady s line t
       → Moves s line (place_in (laid p c) j) t (place_in (laid p c) k) u → Travels s p c k u m v → Travels s p c j t m v
   library : {c : Compiled} {j k m : ℕ} {t u v : State} (line : Line) (l : Library) → slice_get c.middle j ≡ Some line
-      → Runs s line (routine_of l) (place_in (laid p c) j) t (place_in (laid p c) k) u
+      → Runs s line l (place_in (laid p c) j) t (place_in (laid p c) k) u
       → ((site : Site) → site_at c.body c.middle j ≡ Some site → Through (named site.callee) (LibraryAgrees site l))
       → Travels s p c k u m v → Travels s p c j t m v
   calls : {c d : Compiled} {j k m from to : ℕ} {a u v x y : State} (q : Place) (t : State) (line : Line) → IsCompiled s p d → slice_get c.middle j ≡ Some line

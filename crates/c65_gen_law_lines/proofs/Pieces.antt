@@ -10,7 +10,7 @@ use Rattle.c65_ints.specs.declared.types.IntType.{IntType}
 use Rattle.c65_ints.specs.declared.types.IntType.TheVariants as ints
 use Rattle.c65_ints.specs.Ranges.{is_signed_of}
 use Rattle.c65_ctype.specs.Trees.{Ty, void, int, pointer, array, tag, function}
-use Rattle.c65_csem.specs.declared.items.Library.{Library}
+use Rattle.c65_base.specs.declared.library.Library.{Library}
 use Rattle.c65_code.specs.declared.line.Sym.{Sym}
 use Rattle.c65_code.specs.declared.line.Line.{Line}
 use Rattle.c65_code.specs.declared.line.Line.TheVariants.{Call}
@@ -49,7 +49,7 @@ use Rattle.c65_genexpr.specs.Places.{more, soft_code, code_at, object_code}
 use Rattle.c65_genexpr.specs.Operands.{computes, between_code, difference_code, behind_code, unary_code, conversion_code, negative, scaled, short_code}
 use Rattle.c65_genexpr.specs.Steps.{is_post, back_code, after_code, step_code, open_code, close_code}
 use Rattle.c65_genexpr.specs.Arguments.{reads_of, registers_of, argument_code}
-use Rattle.c65_genexpr.specs.Calls.{routine_of, count_code, fetch_code, result_code, library_at, named_by, named_code, pointer_code}
+use Rattle.c65_genexpr.specs.Calls.{count_code, fetch_code, result_code, library_at, named_by, named_code, pointer_code}
 use Rattle.c65_gen_law_lines.proofs.Made.{Piece, piece_append, piece_wider, piece_if, piece_none}
 
 pub narrow_piece : (kind : IntType) → Piece 3 (narrow_code kind)
@@ -339,8 +339,8 @@ result_piece (Some kind) = narrow_piece kind
 
 named_by_piece : (f : Framed) (i : ℕ) (l : Option Library) (counted : Bool) (p : Passed) (kind : Option IntType) → Piece 63 (named_by f i l counted p kind)
 named_by_piece f i (Some l) counted p kind =
-    let one : Piece 60 (call (library_routine (routine_of l)) ∷ []) = record { plain = refl; fit = refl; size = omega arith } in
-    piece_append 60 3 (call (library_routine (routine_of l)) ∷ []) _ one (result_piece kind)
+    let one : Piece 60 (call (library_routine l) ∷ []) = record { plain = refl; fit = refl; size = omega arith } in
+    piece_append 60 3 (call (library_routine l) ∷ []) _ one (result_piece kind)
 named_by_piece f i None counted p kind =
     let one : Piece 3 (Call (Function (function_symbol (numbers_of f.parts) i) (reads_of counted p) (registers_of kind)) ∷ []) = record { plain = refl; fit = refl; size = omega arith } in
     piece_wider 8 63 _ (piece_append 2 6 (count_code counted p) _ (count_piece counted p) (one_call 3 (Call (Function (function_symbol (numbers_of f.parts) i) (reads_of counted p) (registers_of kind))) _ one (result_piece kind))) (omega arith)

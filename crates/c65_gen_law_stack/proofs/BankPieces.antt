@@ -13,7 +13,7 @@ use Rattle.c65_ints.specs.declared.types.IntType.{IntType}
 use Rattle.c65_ints.specs.declared.types.IntType.TheVariants as ints
 use Rattle.c65_ints.specs.Ranges.{is_signed_of}
 use Rattle.c65_ctype.specs.Trees.{Ty, void, int, pointer, array, tag, function}
-use Rattle.c65_csem.specs.declared.items.Library.{Library}
+use Rattle.c65_base.specs.declared.library.Library.{Library}
 use Rattle.c65_code.specs.declared.line.Sym.{Sym}
 use Rattle.c65_code.specs.declared.line.Line.{Line}
 use Rattle.c65_code.specs.declared.line.Line.TheVariants.{Call}
@@ -52,7 +52,7 @@ use Rattle.c65_genexpr.specs.Places.{more, soft_code, code_at, object_code}
 use Rattle.c65_genexpr.specs.Operands.{computes, between_code, difference_code, behind_code, unary_code, conversion_code, negative, scaled, short_code}
 use Rattle.c65_genexpr.specs.Steps.{is_post, back_code, step_code, open_code, close_code}
 use Rattle.c65_genexpr.specs.Arguments.{reads_of, registers_of, argument_code}
-use Rattle.c65_genexpr.specs.Calls.{routine_of, count_code, fetch_code, result_code, library_at, named_by, named_code, pointer_code}
+use Rattle.c65_genexpr.specs.Calls.{count_code, fetch_code, result_code, library_at, named_by, named_code, pointer_code}
 use Rattle.c65_gen_law_stack.specs.Bank.{leaves_bank}
 
 -- lines that write nothing of regbank
@@ -308,7 +308,7 @@ result_clear None = clear_none
 result_clear (Some kind) = narrow_clear kind
 
 named_by_clear : (f : Framed) (i : ℕ) (l : Option Library) (counted : Bool) (p : Passed) (kind : Option IntType) → Clear (named_by f i l counted p kind)
-named_by_clear f i (Some l) counted p kind = let one : Clear (call (library_routine (routine_of l)) ∷ []) = record { all = refl } in clear_then one (result_clear kind)
+named_by_clear f i (Some l) counted p kind = let one : Clear (call (library_routine l) ∷ []) = record { all = refl } in clear_then one (result_clear kind)
 named_by_clear f i None counted p kind =
     let one : Clear (Call (Function (function_symbol (numbers_of f.parts) i) (reads_of counted p) (registers_of kind)) ∷ []) = record { all = refl } in
     clear_then (count_clear counted p) (clear_then one (result_clear kind))

@@ -1,8 +1,8 @@
 -- The call behind its arguments (C90 6.3.2.2; docs/MACHINE.md, "Calls").
 use Rattle.std.specs.Prelude.{ℕ, ◌+◌, Bool, if◌then◌else◌, Option, Some, None, slice_get, List, [], ◌∷◌, ◌++◌}
 use Rattle.c65_ints.specs.declared.types.IntType.{IntType}
-use Rattle.c65_csem.specs.declared.items.Library.{Library}
-use Rattle.c65_csem.specs.declared.items.Library.TheVariants as library
+use Rattle.c65_base.specs.declared.library.Library.{Library}
+use Rattle.c65_base.specs.declared.library.Library.TheVariants as library
 use Rattle.c65_csem.specs.declared.items.TFunc.{TFunc}
 use Rattle.c65_csem.specs.Trees.{Typed, node, decay, func}
 use Rattle.c65_mach.specs.declared.rows.Op.TheVariants.{Iny, Lda, Ldy, Sta}
@@ -10,8 +10,7 @@ use Rattle.c65_code.specs.declared.line.Callee.TheVariants.{Function, Pointer}
 use Rattle.c65_code.specs.declared.line.Line.{Line}
 use Rattle.c65_code.specs.declared.line.Line.TheVariants.{Call}
 use Rattle.c65_code.specs.declared.routine.Count.TheVariants.{Two}
-use Rattle.c65_code.specs.declared.routine.LibraryFunction.{LibraryFunction}
-use Rattle.c65_code.specs.declared.routine.LibraryFunction.TheVariants.{PutChar, GetChar, Puts, Exit, MemCpy, MemSet, StrCmp, StrCpy, StrLen}
+use Rattle.c65_base.specs.declared.library.Library.TheVariants.{Putchar, Getchar, Puts, Exit, Memcpy, Memset, Strcmp, Strcpy, Strlen}
 use Rattle.c65_code.specs.declared.routine.Routine.TheVariants as routines
 use Rattle.c65_genframe.specs.Frames.{Framed}
 use Rattle.c65_genframe.specs.Symbols.{numbers_of, function_symbol}
@@ -40,17 +39,6 @@ library_in (Some f) = f.library
 abbrev pub library_at : Framed → ℕ → Option Library
 library_at f i = library_in (slice_get f.parts.funcs.items i)
 
-abbrev pub routine_of : Library → LibraryFunction
-routine_of library.Putchar = PutChar
-routine_of library.Getchar = GetChar
-routine_of library.Puts = Puts
-routine_of library.Exit = Exit
-routine_of library.Memcpy = MemCpy
-routine_of library.Memset = MemSet
-routine_of library.Strcmp = StrCmp
-routine_of library.Strcpy = StrCpy
-routine_of library.Strlen = StrLen
-
 -- the number of bytes that were passed
 abbrev pub count_code : Bool → Passed → List Line
 count_code counted p = if counted then value Ldy p.stacked ∷ [] else []
@@ -66,7 +54,7 @@ result_code (Some kind) = narrow_code kind
 
 -- a function of the library is its routine
 abbrev pub named_by : Framed → ℕ → Option Library → Bool → Passed → Option IntType → List Line
-named_by f i (Some l) counted p kind = call (routines.Library (routine_of l)) ∷ result_code kind
+named_by f i (Some l) counted p kind = call (routines.Library l) ∷ result_code kind
 named_by f i None counted p kind = count_code counted p ++ (Call (Function (function_symbol (numbers_of f.parts) i) (reads_of counted p) (registers_of kind)) ∷ result_code kind)
 
 abbrev pub named_code : Framed → ℕ → Bool → Passed → Option IntType → List Line

@@ -3,14 +3,14 @@ ghost use Rattle.std.specs.Prelude.{◌≡◌, OnOk, OnErr, IfErr};
 ghost use Rattle.c65_base.specs.declared.refusal.Refusal.TheVariants.{OutOfMemory};
 ghost use Rattle.c65_csem.specs.Views.{typed_of};
 ghost use Rattle.c65_genwide.specs.Lines.{with_lines, Keeps};
-ghost use Rattle.c65_genexpr.specs.Calls.{named, library_at, routine_of, fetch_code, count_code, named_code, pointer_code, result_code};
+ghost use Rattle.c65_genexpr.specs.Calls.{named, library_at, fetch_code, count_code, named_code, pointer_code, result_code};
 
 use crate::arguments::{Passed, reads_of, registers_of};
-use c65_base::Refusal;
+use c65_base::{Library, Refusal};
 use c65_code::Line::{Call, Do};
 use c65_code::Operand::{Byte, Nothing, Zero};
-use c65_code::{Callee, Count, Draft, LibraryFunction, Routine};
-use c65_csem::{Library, TExpr, TKind};
+use c65_code::{Callee, Count, Draft, Routine};
+use c65_csem::{TExpr, TKind};
 use c65_genframe::Frame;
 use c65_genwide::{narrow, put, run};
 use c65_ints::IntType;
@@ -42,22 +42,6 @@ fn library_at(frame: &Frame<'_>, function: u32) -> Option<Library>
     match frame.parts().funcs.get(function as usize) {
         Some(found) => found.library,
         None => None,
-    }
-}
-
-fn routine_of(library: Library) -> LibraryFunction
-    ensures { result ≡ routine_of library }
-{
-    match library {
-        Library::Putchar => LibraryFunction::PutChar,
-        Library::Getchar => LibraryFunction::GetChar,
-        Library::Puts => LibraryFunction::Puts,
-        Library::Exit => LibraryFunction::Exit,
-        Library::Memcpy => LibraryFunction::MemCpy,
-        Library::Memset => LibraryFunction::MemSet,
-        Library::Strcmp => LibraryFunction::StrCmp,
-        Library::Strcpy => LibraryFunction::StrCpy,
-        Library::Strlen => LibraryFunction::StrLen,
     }
 }
 
@@ -122,7 +106,7 @@ pub fn put_named(
 {
     match library_at(frame, function) {
         Some(library) => {
-            run(draft, Routine::Library(routine_of(library)))?;
+            run(draft, Routine::Library(library))?;
             put_result(result_kind, draft)
         }
         None => {

@@ -5,7 +5,7 @@ use Rattle.c65_ctype.specs.declared.types.QType.{QType}
 use Rattle.c65_ctype.specs.Trees.{QTy, TypesTy}
 use Rattle.c65_ctype.specs.Raised.{appended}
 use Rattle.c65_ctype.specs.Views.{qty_of}
-use Rattle.c65_csem.specs.declared.items.Library.{Library}
+use Rattle.c65_base.specs.declared.library.Library.{Library}
 use Rattle.c65_csem.specs.declared.items.Parts.{Parts}
 use Rattle.c65_csem.specs.Views.{unit_of}
 use Rattle.c65_init_join.specs.declared.unit.Unit.{Unit as UnitParts}

@@ -7,7 +7,7 @@ use Rattle.c65_ctype.specs.Trees.{function, QTy, qual, Fn, fn, Params, unknown, 
 use Rattle.c65_ctype.specs.Compatible.{are_compatible}
 use Rattle.c65_csem.specs.declared.items.Class.{Class}
 use Rattle.c65_csem.specs.declared.items.Class.TheVariants.{Declared}
-use Rattle.c65_csem.specs.declared.items.Library.{Library}
+use Rattle.c65_base.specs.declared.library.Library.{Library}
 use Rattle.c65_csem.specs.Trees.{ObjectTy, FuncTy}
 use Rattle.c65_init_join.specs.declared.table.Item.{Item}
 use Rattle.c65_init_join.specs.declared.table.Item.TheVariants as items

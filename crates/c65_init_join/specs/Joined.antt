@@ -10,7 +10,7 @@ use Rattle.c65_csem.specs.declared.items.Class.{Class}
 use Rattle.c65_csem.specs.declared.items.Class.TheVariants as c
 use Rattle.c65_csem.specs.declared.items.Cell.{Cell}
 use Rattle.c65_csem.specs.declared.items.Cell.TheVariants.{Byte}
-use Rattle.c65_csem.specs.declared.items.Library.{Library}
+use Rattle.c65_base.specs.declared.library.Library.{Library}
 use Rattle.c65_csem.specs.Trees.{Stmt, ObjectTy, FuncTy, UnitTy}
 use Rattle.c65_init_join.specs.Answers.{JoinFault, ◌>>=◌, none_is}
 use Rattle.c65_init_join.specs.Checks.{is_twice_at, differs_at, unit_defined, main_in}

@@ -2,8 +2,8 @@
 -- 7.11).
 use Rattle.std.specs.Prelude.{ℕ, ◌+◌, List, [], ◌∷◌, Bool, false, Option, Some, None, find, codes, bytes_eq, slice_get, if◌then◌else◌}
 use Rattle.c65_base.specs.declared.names.Name.{Name}
-use Rattle.c65_csem.specs.declared.items.Library.{Library}
-use Rattle.c65_csem.specs.declared.items.Library.TheVariants as the
+use Rattle.c65_base.specs.declared.library.Library.{Library}
+use Rattle.c65_base.specs.declared.library.Library.TheVariants as the
 
 abbrev pub spelling_of : Library → List ℕ
 spelling_of the.Putchar = codes "putchar"

@@ -4,8 +4,8 @@ use Rattle.std.specs.Prelude.{true, false}
 use Rattle.c65_ints.specs.declared.types.IntType.{IntType}
 use Rattle.c65_ints.specs.declared.types.IntType.TheVariants.{Int, UInt}
 use Rattle.c65_ctype.specs.Trees.{void, int, pointer, QTy, qual, Fn, fn, known, QTys, end, more}
-use Rattle.c65_csem.specs.declared.items.Library.{Library}
-use Rattle.c65_csem.specs.declared.items.Library.TheVariants as the
+use Rattle.c65_base.specs.declared.library.Library.{Library}
+use Rattle.c65_base.specs.declared.library.Library.TheVariants as the
 
 abbrev pub nothing : QTy
 nothing = qual void false false

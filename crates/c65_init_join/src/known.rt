@@ -3,8 +3,7 @@ ghost use Rattle.std.specs.Prelude.{◌≡◌};
 ghost use Rattle.c65_init_join.specs.Known.{library_at, is_main_at, main_named};
 
 use crate::library::by_spelling;
-use c65_base::{Name, Names};
-use c65_csem::Library;
+use c65_base::{Library, Name, Names};
 
 /// The function of the library that a name is.
 pub fn library_named(names: &Names, name: Name) -> Option<Library>

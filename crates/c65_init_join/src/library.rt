@@ -5,7 +5,8 @@ ghost use Rattle.c65_ctype.specs.Views.{qty_of, qtys_of, fn_of};
 ghost use Rattle.c65_init_join.specs.Known;
 ghost use Rattle.c65_init_join.specs.Prototypes as prototypes;
 
-use c65_csem::{Library, int_type, pointer_to};
+use c65_base::Library;
+use c65_csem::{int_type, pointer_to};
 use c65_ctype::{CType, FnType, QType};
 use c65_ints::IntType;
 use std::alloc::{AllocError, Global};

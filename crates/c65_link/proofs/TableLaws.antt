@@ -20,8 +20,8 @@ use Rattle.c65_code.specs.declared.routine.TosOp.{TosOp}
 use Rattle.c65_code.specs.declared.routine.TosOp.TheVariants as tos
 use Rattle.c65_code.specs.declared.routine.UnaryRoutine.{UnaryRoutine}
 use Rattle.c65_code.specs.declared.routine.UnaryRoutine.TheVariants.{Neg, Compl, Shl1, Shr1, Asr1, BNeg}
-use Rattle.c65_code.specs.declared.routine.LibraryFunction.{LibraryFunction}
-use Rattle.c65_code.specs.declared.routine.LibraryFunction.TheVariants.{PutChar, GetChar, Puts, Exit, MemCpy, MemSet, StrCmp, StrCpy, StrLen}
+use Rattle.c65_base.specs.declared.library.Library.{Library}
+use Rattle.c65_base.specs.declared.library.Library.TheVariants.{Putchar, Getchar, Puts, Exit, Memcpy, Memset, Strcmp, Strcpy, Strlen}
 use Rattle.c65_code.specs.Segments.{has_row}
 use Rattle.c65_link.specs.Opcodes.{opcode_of, opposite_of}
 use Rattle.c65_link.specs.Runtime.{number_of, has_lines}
@@ -92,16 +92,16 @@ lowers_are_ordered Six = refl
 lowers_are_ordered Seven = refl
 lowers_are_ordered Eight = refl
 
-functions_are_ordered : (x : LibraryFunction) → slice_get order (number_of (routines.Library x)) ≡ Some (routines.Library x)
+functions_are_ordered : (x : Library) → slice_get order (number_of (routines.Library x)) ≡ Some (routines.Library x)
 functions_are_ordered Puts = refl
-functions_are_ordered GetChar = refl
+functions_are_ordered Getchar = refl
 functions_are_ordered Exit = refl
-functions_are_ordered MemCpy = refl
-functions_are_ordered MemSet = refl
-functions_are_ordered StrCmp = refl
-functions_are_ordered StrCpy = refl
-functions_are_ordered PutChar = refl
-functions_are_ordered StrLen = refl
+functions_are_ordered Memcpy = refl
+functions_are_ordered Memset = refl
+functions_are_ordered Strcmp = refl
+functions_are_ordered Strcpy = refl
+functions_are_ordered Putchar = refl
+functions_are_ordered Strlen = refl
 
 word_operators_are_ordered : (x : TosOp) → slice_get order (number_of (routines.Tos x Ax)) ≡ Some (routines.Tos x Ax)
 word_operators_are_ordered tos.Add = refl

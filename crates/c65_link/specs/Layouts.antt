@@ -12,7 +12,7 @@ use Rattle.c65_code.specs.declared.code.DataCell.{DataCell}
 use Rattle.c65_code.specs.Segments.{Segment}
 use Rattle.c65_code.specs.Placement.{program_start, cell_size}
 use Rattle.c65_link.specs.declared.symbols.Target.{Target}
-use Rattle.c65_link.specs.declared.symbols.Target.TheVariants.{Nowhere, Own, Library}
+use Rattle.c65_link.specs.declared.symbols.Target.TheVariants.{Nowhere, Own, Runtime}
 use Rattle.c65_link.specs.Bodies.{plus, Body, body_of}
 use Rattle.c65_link.specs.Runtime.{number_of, routine_lines}
 
@@ -55,7 +55,7 @@ with_routines layout (r ∷ rs) = with_routines (with_routine layout r) rs
 
 -- the symbol of a library function without a body has the routine's address
 abbrev pub with_target : Layout → ℕ → Target → Layout
-with_target layout i (Library f) = with_symbol_at layout i (slice_index layout.routines (number_of (routines.Library f)))
+with_target layout i (Runtime f) = with_symbol_at layout i (slice_index layout.routines (number_of (routines.Library f)))
 with_target layout i _ = layout
 
 abbrev pub with_targets : Layout → ℕ → List Target → Layout

@@ -12,8 +12,8 @@ use Rattle.c65_code.specs.declared.routine.TosOp.{TosOp}
 use Rattle.c65_code.specs.declared.routine.TosOp.TheVariants as tos
 use Rattle.c65_code.specs.declared.routine.UnaryRoutine.{UnaryRoutine}
 use Rattle.c65_code.specs.declared.routine.UnaryRoutine.TheVariants.{Neg, Compl, Shl1, Shr1, Asr1, BNeg}
-use Rattle.c65_code.specs.declared.routine.LibraryFunction.{LibraryFunction}
-use Rattle.c65_code.specs.declared.routine.LibraryFunction.TheVariants.{PutChar, GetChar, Puts, Exit, MemCpy, MemSet, StrCmp, StrCpy, StrLen}
+use Rattle.c65_base.specs.declared.library.Library.{Library}
+use Rattle.c65_base.specs.declared.library.Library.TheVariants.{Putchar, Getchar, Puts, Exit, Memcpy, Memset, Strcmp, Strcpy, Strlen}
 use Rattle.c65_code.specs.declared.routine.Routine.{Routine}
 use Rattle.c65_code.specs.declared.routine.Routine.TheVariants as routines
 use Rattle.c65_rtl.specs.Routines.{is_narrow, lines_of}
@@ -30,16 +30,16 @@ count_number Six = 5
 count_number Seven = 6
 count_number Eight = 7
 
-abbrev pub library_number : LibraryFunction → ℕ
+abbrev pub library_number : Library → ℕ
 library_number Puts = 0
-library_number GetChar = 1
+library_number Getchar = 1
 library_number Exit = 2
-library_number MemCpy = 3
-library_number MemSet = 4
-library_number StrCmp = 5
-library_number StrCpy = 6
-library_number PutChar = 7
-library_number StrLen = 8
+library_number Memcpy = 3
+library_number Memset = 4
+library_number Strcmp = 5
+library_number Strcpy = 6
+library_number Putchar = 7
+library_number Strlen = 8
 
 abbrev pub operator_number : TosOp → ℕ
 operator_number tos.Add = 0

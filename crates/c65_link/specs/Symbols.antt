@@ -1,6 +1,6 @@
 -- What stands for each symbol, the first used symbol without a body, and the routines that a code uses.
 use Rattle.std.specs.Prelude.{ℕ, ◌+◌, Bool, true, false, if◌then◌else◌, List, [], ◌∷◌, Option, Some, None, slice_get, slice_set, codes, bytes_eq}
-use Rattle.c65_code.specs.declared.routine.LibraryFunction.{LibraryFunction}
+use Rattle.c65_base.specs.declared.library.Library.{Library}
 use Rattle.c65_code.specs.declared.routine.Routine.{Routine}
 use Rattle.c65_code.specs.declared.routine.Routine.TheVariants as routines
 use Rattle.c65_code.specs.declared.line.Sym.{Sym}
@@ -16,14 +16,15 @@ use Rattle.c65_code.specs.declared.code.Datum.{Datum}
 use Rattle.c65_code.specs.declared.code.DataCell.{DataCell}
 use Rattle.c65_code.specs.declared.code.DataCell.TheVariants.{Byte, Address}
 use Rattle.c65_code.specs.Segments.{Segment}
-use Rattle.c65_code.specs.Placement.{library_named, library_functions}
+use Rattle.c65_base.specs.Library.{library_functions}
+use Rattle.c65_code.specs.Placement.{library_named}
 use Rattle.c65_link.specs.declared.symbols.Target.{Target}
-use Rattle.c65_link.specs.declared.symbols.Target.TheVariants.{Nowhere, Own, Library}
+use Rattle.c65_link.specs.declared.symbols.Target.TheVariants.{Nowhere, Own, Runtime}
 use Rattle.c65_link.specs.Runtime.{Marks, marked, with_call}
 
-abbrev pub target_by : Option LibraryFunction → Target
+abbrev pub target_by : Option Library → Target
 target_by None = Nowhere
-target_by (Some f) = Library f
+target_by (Some f) = Runtime f
 
 -- what a symbol stands for where it has no body: the library's function of its name
 abbrev pub named_target : Symbol → Target
@@ -67,7 +68,7 @@ cell_symbol (Address sym offset) = Some sym
 
 abbrev pub is_nowhere : Option Target → Bool
 is_nowhere (Some Own) = false
-is_nowhere (Some (Library f)) = false
+is_nowhere (Some (Runtime f)) = false
 is_nowhere _ = true
 
 abbrev pub missing : List Target → Option Sym → Option Sym
@@ -121,7 +122,7 @@ missing_of code targets = if is_main_missing targets (main_in code.symbols 0) th
 -- the routines that a code uses directly, those that stand for symbols included
 
 abbrev pub with_target : Marks → Option Target → Marks
-with_target marks (Some (Library f)) = marked marks (routines.Library f)
+with_target marks (Some (Runtime f)) = marked marks (routines.Library f)
 with_target marks _ = marks
 
 abbrev pub with_symbol : List Target → Marks → Option Sym → Marks

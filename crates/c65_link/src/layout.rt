@@ -149,7 +149,7 @@ impl Layout {
     fn put_target(&mut self, at: usize, target: Target)
         ensures { self.new ≡ with_target self.old at target }
     {
-        if let Target::Library(function) = target {
+        if let Target::Runtime(function) = target {
             let address = self.routines[number(Routine::Library(function))];
             self.put_symbol(at, address);
         }

@@ -11,7 +11,7 @@ fn is_missing_at(targets: &[Target], at: usize) -> bool
     ensures { result ≡ is_nowhere (slice_get targets.now at) }
 {
     match targets.get(at) {
-        Some(Target::Own | Target::Library(_)) => false,
+        Some(Target::Own | Target::Runtime(_)) => false,
         Some(Target::Nowhere) | None => true,
     }
 }

@@ -2,7 +2,8 @@
 ghost use Rattle.std.specs.Prelude.{◌≡◌, ◌<◌};
 ghost use Rattle.c65_link.specs.Runtime.{count_number, library_number, operator_number, unary_number, number_of};
 
-use c65_code::{Count, LibraryFunction, Routine, TosOp, UnaryRoutine, Width};
+use c65_base::Library;
+use c65_code::{Count, Routine, TosOp, UnaryRoutine, Width};
 
 /// How many routines there are.
 pub const COUNT: usize = 121;
@@ -10,15 +11,15 @@ pub const COUNT: usize = 121;
 pub const ENTRIES: [Routine; 2] = [Routine::Start, Routine::StartArgs];
 
 pub const LIBRARY: [Routine; 9] = [
-    Routine::Library(LibraryFunction::Puts),
-    Routine::Library(LibraryFunction::GetChar),
-    Routine::Library(LibraryFunction::Exit),
-    Routine::Library(LibraryFunction::MemCpy),
-    Routine::Library(LibraryFunction::MemSet),
-    Routine::Library(LibraryFunction::StrCmp),
-    Routine::Library(LibraryFunction::StrCpy),
-    Routine::Library(LibraryFunction::PutChar),
-    Routine::Library(LibraryFunction::StrLen),
+    Routine::Library(Library::Puts),
+    Routine::Library(Library::Getchar),
+    Routine::Library(Library::Exit),
+    Routine::Library(Library::Memcpy),
+    Routine::Library(Library::Memset),
+    Routine::Library(Library::Strcmp),
+    Routine::Library(Library::Strcpy),
+    Routine::Library(Library::Putchar),
+    Routine::Library(Library::Strlen),
 ];
 
 pub const STACK: [Routine; 33] = [
@@ -159,20 +160,20 @@ fn by_count(count: Count) -> usize
     }
 }
 
-fn by_function(function: LibraryFunction) -> usize
+fn by_function(function: Library) -> usize
     ensures value { result ≡ library_number function }
     ensures small { result < 9 }
 {
     match function {
-        LibraryFunction::Puts => 0,
-        LibraryFunction::GetChar => 1,
-        LibraryFunction::Exit => 2,
-        LibraryFunction::MemCpy => 3,
-        LibraryFunction::MemSet => 4,
-        LibraryFunction::StrCmp => 5,
-        LibraryFunction::StrCpy => 6,
-        LibraryFunction::PutChar => 7,
-        LibraryFunction::StrLen => 8,
+        Library::Puts => 0,
+        Library::Getchar => 1,
+        Library::Exit => 2,
+        Library::Memcpy => 3,
+        Library::Memset => 4,
+        Library::Strcmp => 5,
+        Library::Strcpy => 6,
+        Library::Putchar => 7,
+        Library::Strlen => 8,
     }
 }
 

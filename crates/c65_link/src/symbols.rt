@@ -1,12 +1,11 @@
 // What stands for each symbol of a code.
 ghost use Rattle.std.specs.Prelude.{◌≡◌, OnOk, IfOk, ◌+◌, ◌++◌, codes, bytes_eq, slice_get, slice_set};
-ghost use Rattle.c65_code.specs.Names.{library_name_of};
-ghost use Rattle.c65_code.specs.Placement.{library_named, library_functions};
+ghost use Rattle.c65_base.specs.Library.{library_name, library_functions};
+ghost use Rattle.c65_code.specs.Placement.{library_named};
 ghost use Rattle.c65_link.specs.Symbols.{named_target, named_targets, with_functions, with_datums, targets_of, operand_symbol, callee_symbol, line_symbol, cell_symbol, main_in};
 
-use c65_code::{
-    Callee, Code, DataCell, Datum, LibraryFunction, Line, Operand, Routine, Seg, Sym, Symbol,
-};
+use c65_base::Library;
+use c65_code::{Callee, Code, DataCell, Datum, Line, Operand, Seg, Sym, Symbol};
 use std::alloc::{AllocError, Global};
 
 /// What stands for a symbol.
@@ -16,33 +15,33 @@ pub enum Target {
     Nowhere,
     /// A function or a datum of the code.
     Own,
-    /// A routine.
-    Library(LibraryFunction),
+    /// The runtime's routine.
+    Runtime(Library),
 }
 
-const FUNCTIONS: [LibraryFunction; 9] = [
-    LibraryFunction::PutChar,
-    LibraryFunction::GetChar,
-    LibraryFunction::Puts,
-    LibraryFunction::Exit,
-    LibraryFunction::MemCpy,
-    LibraryFunction::MemSet,
-    LibraryFunction::StrCmp,
-    LibraryFunction::StrCpy,
-    LibraryFunction::StrLen,
+const FUNCTIONS: [Library; 9] = [
+    Library::Putchar,
+    Library::Getchar,
+    Library::Puts,
+    Library::Exit,
+    Library::Memcpy,
+    Library::Memset,
+    Library::Strcmp,
+    Library::Strcpy,
+    Library::Strlen,
 ];
 
 // Whether it is an underscore and the function's name.
-fn is_named(spelling: &[u8], function: LibraryFunction) -> bool
-    ensures { result ≡ bytes_eq (codes "_" ++ library_name_of function) spelling.now }
+fn is_named(spelling: &[u8], function: Library) -> bool
+    ensures { result ≡ bytes_eq (codes "_" ++ library_name function) spelling.now }
 {
     let Some((first, rest)) = spelling.split_first() else {
         return false;
     };
-    *first == b'_' && Routine::Library(function).name() == rest
+    *first == b'_' && function.name() == rest
 }
 
-fn among(functions: &[LibraryFunction], spelling: &[u8]) -> Option<LibraryFunction>
+fn among(functions: &[Library], spelling: &[u8]) -> Option<Library>
     ensures { result ≡ library_named functions.now spelling.now }
 {
     for function in functions {
@@ -53,7 +52,7 @@ fn among(functions: &[LibraryFunction], spelling: &[u8]) -> Option<LibraryFuncti
     None
 }
 
-fn library(spelling: &[u8]) -> Option<LibraryFunction>
+fn library(spelling: &[u8]) -> Option<Library>
     ensures { result ≡ library_named library_functions spelling.now }
 {
     among(&FUNCTIONS, spelling)
@@ -63,7 +62,7 @@ fn named(symbol: &Symbol) -> Target
     ensures { result ≡ named_target symbol.now }
 {
     match library(symbol.spelling.as_slice()) {
-        Some(function) => Target::Library(function),
+        Some(function) => Target::Runtime(function),
         None => Target::Nowhere,
     }
 }

@@ -129,7 +129,7 @@ impl Chosen {
         ensures { self.new ≡ record self.old { marks = with_symbol targets.now self.old.marks used } }
     {
         if let Some(sym) = used {
-            if let Some(Target::Library(function)) = targets.get(sym.0 as usize) {
+            if let Some(Target::Runtime(function)) = targets.get(sym.0 as usize) {
                 self.mark(Routine::Library(*function));
             }
         }

@@ -3,7 +3,7 @@ use Rattle.std.proofs.Common.{◌≡◌, ◌≢◌, ℕ, zero, suc, ◌+◌, ◌
 use Rattle.std.proofs.lemmas.Bool.{and_parts, or_parts, eqb-false}
 use Rattle.std.proofs.lemmas.List.{get_or-set_same, get_or-set_other, length-set, length-replicate}
 use Rattle.std.proofs.Math.ListN.{get_or}
-use Rattle.c65_code.specs.declared.routine.LibraryFunction.{LibraryFunction}
+use Rattle.c65_base.specs.declared.library.Library.{Library}
 use Rattle.c65_code.specs.declared.routine.Routine.{Routine}
 use Rattle.c65_code.specs.declared.line.Sym.{Sym}
 use Rattle.c65_code.specs.declared.code.Symbol.{Symbol}
@@ -12,7 +12,7 @@ use Rattle.c65_code.specs.declared.code.DatumKind.{DatumKind}
 use Rattle.c65_code.specs.declared.code.DatumKind.TheVariants.{Data, Const, Zero}
 use Rattle.c65_code.specs.Segments.{Segment, is_among, is_distinct}
 use Rattle.c65_link.specs.declared.symbols.Target.{Target}
-use Rattle.c65_link.specs.declared.symbols.Target.TheVariants.{Nowhere, Own, Library}
+use Rattle.c65_link.specs.declared.symbols.Target.TheVariants.{Nowhere, Own, Runtime}
 use Rattle.c65_link.specs.Layouts.{Layout, empty_layout, with_function, with_functions, with_routine, with_routines, with_lines, with_target, with_targets, with_data, with_zeros, with_all_data, with_all_zeros}
 use Rattle.c65_link.specs.Runtime.{routine_lines}
 use Rattle.c65_link.specs.Symbols.{named_targets, targets_of}
@@ -110,7 +110,7 @@ named_length : (symbols : List Symbol) → length (named_targets symbols) ≡ le
 named_length [] = refl
 named_length (s ∷ symbols) = omega (arith, named_length symbols)
 
-library_owned : {P : Type 0} (l : LibraryFunction) → Library l ≡ Own → P
+library_owned : {P : Type 0} (l : Library) → Runtime l ≡ Own → P
 library_owned l h = absurd cc
 
 shifted : (t : Target) (targets : List Target) (i n : ℕ) → i + 1 ≤ n → get_or (t ∷ targets) (n - i) Nowhere ≡ Own → get_or targets (n - (i + 1)) Nowhere ≡ Own
@@ -128,9 +128,9 @@ targets_keep : (targets : List Target) (i n : ℕ) (layout : Layout) → (i ≤ 
 targets_keep [] i n layout h = refl
 targets_keep (Nowhere ∷ targets) i n layout h = targets_keep targets (i + 1) n layout (λ low. shifted Nowhere targets i n low (h (omega (arith, low))))
 targets_keep (Own ∷ targets) i n layout h = targets_keep targets (i + 1) n layout (λ low. shifted Own targets i n low (h (omega (arith, low))))
-targets_keep (Library l ∷ targets) i n layout h =
-    let other : n ≢ i = λ same. library_owned l (first_owned (Library l) targets i n same (h (omega (arith, same)))) in
-    targets_keep targets (i + 1) n (with_target layout i (Library l)) (λ low. shifted (Library l) targets i n low (h (omega (arith, low)))) ∙ get_or-set_other layout.symbols i n _ 0 other
+targets_keep (Runtime l ∷ targets) i n layout h =
+    let other : n ≢ i = λ same. library_owned l (first_owned (Runtime l) targets i n same (h (omega (arith, same)))) in
+    targets_keep targets (i + 1) n (with_target layout i (Runtime l)) (λ low. shifted (Runtime l) targets i n low (h (omega (arith, low)))) ∙ get_or-set_other layout.symbols i n _ 0 other
 
 -- the k-th function's symbol
 

@@ -3,8 +3,8 @@ use Rattle.std.proofs.Common.{arith, ◌≡◌, ℕ, zero, suc, ◌*◌, refl, s
 use Rattle.std.specs.Prelude.{Result, Ok, Err, Option, Some, None, ⊤, slice_get}
 use Rattle.c65_ints.specs.Ranges.{residue}
 use Rattle.c65_ctype.specs.Trees.{Ty}
-use Rattle.c65_csem.specs.declared.items.Library.{Library}
-use Rattle.c65_csem.specs.declared.items.Library.TheVariants.{Putchar, Getchar, Puts, Exit, Memcpy, Memset, Strcmp, Strcpy, Strlen}
+use Rattle.c65_base.specs.declared.library.Library.{Library}
+use Rattle.c65_base.specs.declared.library.Library.TheVariants.{Putchar, Getchar, Puts, Exit, Memcpy, Memset, Strcmp, Strcpy, Strlen}
 use Rattle.c65_csem.specs.Trees.{Stmt, FuncTy, UnitTy}
 use Rattle.c65_meaning.specs.Why.{Why, ◌>>=◌}
 use Rattle.c65_meaning.specs.Store.{write, Value, Whole, Null, Place, Opaque, NoValue, Shape, Store}

@@ -4,7 +4,7 @@ use Rattle.c65_base.specs.declared.operators.BinaryOp.{BinaryOp}
 use Rattle.c65_base.specs.declared.operators.StepKind.{StepKind}
 use Rattle.c65_ints.specs.declared.types.IntType.TheVariants as I
 use Rattle.c65_ctype.specs.Trees.{int, pointer, array, tag, function, QTy, Fn, fn, known, QTys, end, more, MemberTy, TypesTy}
-use Rattle.c65_csem.specs.declared.items.Library.{Library}
+use Rattle.c65_base.specs.declared.library.Library.{Library}
 use Rattle.c65_csem.specs.declared.items.Class.TheVariants.{Static, Auto}
 use Rattle.c65_csem.specs.Trees.{Typed, node, constant, object, func, deref, member, load, address, decay, convert, binary, assign, step, call, Nodes, none, some, Stmt, set_part, block, return, Stmts, no_stmts, and_stmts, present, type_of, ObjectTy, FuncTy}
 use Rattle.c65_meaning.specs.Program.{ProgramTy}

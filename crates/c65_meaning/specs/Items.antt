@@ -8,7 +8,7 @@ use Rattle.c65_base.specs.declared.operators.BinaryOp.{BinaryOp}
 use Rattle.c65_base.specs.declared.operators.StepKind.{StepKind}
 use Rattle.c65_ctype.specs.Trees.{Ty, QTy, type_in}
 use Rattle.c65_ctype.specs.Sizes.{size_of}
-use Rattle.c65_csem.specs.declared.items.Library.{Library}
+use Rattle.c65_base.specs.declared.library.Library.{Library}
 use Rattle.c65_csem.specs.Trees.{Typed, node, Node, constant, null, literal, object, func, deref, member, load, address, decay, convert, unary, binary, both, either, choice, comma, assign, assign_op, assign_step, step, copy, call, Nodes, none, some, Stmt, empty, eval, set_part, clear, block, if_stmt, while, do_while, for_loop, switch, case, default, label, goto, break, continue, return, Stmts, no_stmts, and_stmts, MaybeTyped, absent, present, UnitTy}
 use Rattle.c65_meaning.specs.Store.{Value, Whole, Null, Place, Shape, Number, Area}
 use Rattle.c65_meaning.specs.Operators.{is_post}

@@ -1,8 +1,8 @@
 -- The functions of the library (C90 7.9.7, 7.10.4, 7.11), or why a call of one has no meaning.
 use Rattle.std.specs.Prelude.{ℕ, zero, suc, ◌+◌, ◌-◌, ◌*◌, ◌==◌, ◌&&◌, Bool, false, ℤ, pos, negsuc, ◌-ℤ◌, List, [], ◌∷◌, ◌++◌, Result, Ok, Err, Option, Some, None, length, min, nat_lt, if◌then◌else◌}
 use Rattle.c65_ints.specs.Ranges.{residue}
-use Rattle.c65_csem.specs.declared.items.Library.{Library}
-use Rattle.c65_csem.specs.declared.items.Library.TheVariants.{Putchar, Getchar, Puts, Exit, Memcpy, Memset, Strcmp, Strcpy, Strlen}
+use Rattle.c65_base.specs.declared.library.Library.{Library}
+use Rattle.c65_base.specs.declared.library.Library.TheVariants.{Putchar, Getchar, Puts, Exit, Memcpy, Memset, Strcmp, Strcpy, Strlen}
 use Rattle.c65_meaning.specs.declared.action.Action.TheVariants.{UnsetBit, UnknownValue, LibraryArgument}
 use Rattle.c65_meaning.specs.Why.{Why, By, Unfit, ◌>>=◌}
 use Rattle.c65_meaning.specs.Store.{Cell, Bits, Piece, Clouded, byte, Block, Store, Value, Whole, Null, Place, NoValue, set_block, set_cells, reached_or, writable}

@@ -3,7 +3,7 @@ use Rattle.std.specs.Prelude.{ℕ, pos, [], ◌∷◌}
 use Rattle.c65_base.specs.declared.operators.BinaryOp.TheVariants.{Add, Mul, Lt, Shr}
 use Rattle.c65_base.specs.declared.operators.StepKind.TheVariants.{PreInc, PostInc}
 use Rattle.c65_ints.specs.declared.types.IntType.TheVariants as I
-use Rattle.c65_csem.specs.declared.items.Library.TheVariants as L
+use Rattle.c65_base.specs.declared.library.Library.TheVariants as L
 use Rattle.c65_csem.specs.Trees.{Typed, node, literal, assign_op, copy, Stmt, eval, while, for_loop, switch, case, default, label, goto, break, if_stmt, empty, present}
 use Rattle.c65_meaning.specs.Program.{ProgramTy}
 use Rattle.c65_meaning.specs.Building.{integer, unsigned, character, structure, pointer_to, array_of, takes, byte_member, bit_field, one_structure, no_types, number, below_zero, place, value_of, value, at, first_of, as_type, member_of, with, beside, store, change, call_as, scope, give, initial, local, static, defined, provided, main_of, program_with, program_of}

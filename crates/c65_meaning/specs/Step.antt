@@ -2,7 +2,7 @@
 use Rattle.std.specs.Prelude.{ℕ, zero, suc, ◌+◌, ◌==◌, ◌&&◌, ◌||◌, not, Bool, true, false, pos, List, [], ◌∷◌, Result, Ok, Err, Option, Some, None, slice_get, nat_lt, nat_le, if◌then◌else◌}
 use Rattle.c65_ints.specs.Ranges.{residue}
 use Rattle.c65_ctype.specs.Trees.{Ty}
-use Rattle.c65_csem.specs.declared.items.Library.{Library}
+use Rattle.c65_base.specs.declared.library.Library.{Library}
 use Rattle.c65_csem.specs.Trees.{MaybeTyped, absent, present, Stmt, FuncTy, UnitTy}
 use Rattle.c65_meaning.specs.Program.{ProgramTy}
 use Rattle.c65_meaning.specs.declared.action.Action.TheVariants.{OutsideObject, CalleeType, NoResult, PartialOverlap}

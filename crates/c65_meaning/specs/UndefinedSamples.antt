@@ -1,7 +1,7 @@
 -- Small programs that come to an undefined action, and one that calls too deep.
 use Rattle.std.specs.Prelude.{ℕ, [], ◌∷◌}
 use Rattle.c65_base.specs.declared.operators.BinaryOp.TheVariants.{Add, Div, Shl, Lt, Eq}
-use Rattle.c65_csem.specs.declared.items.Library.TheVariants as L
+use Rattle.c65_base.specs.declared.library.Library.TheVariants as L
 use Rattle.c65_csem.specs.Trees.{Typed, node, null, literal, copy, eval, label, goto, return, absent}
 use Rattle.c65_meaning.specs.Program.{ProgramTy}
 use Rattle.c65_meaning.specs.Building.{integer, unsigned, character, structure, pointer_to, array_of, takes, byte_member, one_structure, no_types, number, place, value_of, address_of, value, at, first_of, as_type, with, beside, store, call_as, scope, give, initial, local, defined, provided, main_of, program_with, program_of}

@@ -4,8 +4,8 @@ use Rattle.std.specs.Prelude.{IsSome, option_and_then, ◌&&◌, ◌^◌, ⊤}
 use Rattle.std.proofs.lemmas.Bool.{and_parts}
 use Rattle.c65_ctype.specs.Trees.{Ty, void, int, pointer, array, tag, function, QTy, qual, type_in, Fn, fn, QTys, end, more, TypesTy}
 use Rattle.c65_ctype.specs.Compatible.{Pairs, same_int, same_bool, meet, qualified_meet, functions_meet, params_meet, each_in, agrees, are_compatible}
-use Rattle.c65_csem.specs.declared.items.Library.{Library}
-use Rattle.c65_csem.specs.declared.items.Library.TheVariants as the
+use Rattle.c65_base.specs.declared.library.Library.{Library}
+use Rattle.c65_base.specs.declared.library.Library.TheVariants as the
 use Rattle.c65_csem.specs.Trees.{UnitTy}
 use Rattle.c65_csem.specs.Places.{plain}
 use Rattle.c65_csem.specs.Units.{AreParams}

@@ -2,8 +2,8 @@
 use Rattle.std.proofs.Common.{◌≡◌, ℕ, zero, suc, ◌+◌, ◌-◌, ℤ, pos, negsuc, false, List, [], ◌∷◌, true, Option, Some, None, refl, subst}
 use Rattle.std.specs.Prelude.{◌==◌, Result, Ok, Err, IsSome, ⊤, min, length, nat_le, if◌then◌else◌}
 use Rattle.c65_ints.specs.Ranges.{residue}
-use Rattle.c65_csem.specs.declared.items.Library.{Library}
-use Rattle.c65_csem.specs.declared.items.Library.TheVariants.{Putchar, Getchar, Puts, Exit, Memcpy, Memset, Strcmp, Strcpy, Strlen}
+use Rattle.c65_base.specs.declared.library.Library.{Library}
+use Rattle.c65_base.specs.declared.library.Library.TheVariants.{Putchar, Getchar, Puts, Exit, Memcpy, Memset, Strcmp, Strcpy, Strlen}
 use Rattle.c65_meaning.specs.declared.action.Action.TheVariants.{UnsetBit, EndedObject, LibraryArgument}
 use Rattle.c65_meaning.specs.Why.{Why, By, Unfit, ◌>>=◌}
 use Rattle.c65_meaning.specs.Store.{Cell, Piece, Bits, Clouded, byte, Block, Store, Value, Whole, Null, Place, Opaque, NoValue, set_block, set_cells, reached_or, writable}

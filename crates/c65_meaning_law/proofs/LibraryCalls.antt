@@ -1,7 +1,7 @@
 -- A call of the library on arguments of its types goes on with a result of its type, or ends the run.
 use Rattle.std.proofs.Common.{ℕ, zero, suc, List, ◌∷◌, refl}
 use Rattle.std.specs.Prelude.{Result, Ok, Err, Option, Some, None}
-use Rattle.c65_csem.specs.declared.items.Library.{Library}
+use Rattle.c65_base.specs.declared.library.Library.{Library}
 use Rattle.c65_meaning.specs.Program.{ProgramTy}
 use Rattle.c65_meaning.specs.Why.{Why, By, Unfit}
 use Rattle.c65_meaning.specs.Store.{Value}

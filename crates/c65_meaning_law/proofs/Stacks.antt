@@ -6,8 +6,8 @@ use Rattle.c65_base.specs.declared.operators.BinaryOp.{BinaryOp}
 use Rattle.c65_base.specs.declared.operators.BinaryOp.TheVariants.{Add, Sub, Lt, Gt, Le, Ge, Eq, Ne}
 use Rattle.c65_ints.specs.Ranges.{is_signed_of}
 use Rattle.c65_ctype.specs.Trees.{Ty, void, int, pointer, array, tag, function, type_in, Fn}
-use Rattle.c65_csem.specs.declared.items.Library.{Library}
-use Rattle.c65_csem.specs.declared.items.Library.TheVariants as the
+use Rattle.c65_base.specs.declared.library.Library.{Library}
+use Rattle.c65_base.specs.declared.library.Library.TheVariants as the
 use Rattle.c65_csem.specs.Trees.{Typed, type_of, MaybeTyped, absent, present, Stmt, Stmts, FuncTy, UnitTy}
 use Rattle.c65_csem.specs.Places.{is_place, plain, plain_of}
 use Rattle.c65_csem.specs.Typed.{IsTyped, IsResult, result_of}

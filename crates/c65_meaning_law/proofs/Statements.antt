@@ -7,8 +7,8 @@ use Rattle.c65_ints.specs.declared.types.IntType.TheVariants.{SChar, UChar, Shor
 use Rattle.c65_ints.specs.Ranges.{is_signed_of, number_of}
 use Rattle.c65_ctype.specs.Trees.{Ty, void, int, pointer, array, tag, function, QTy, qual, type_in}
 use Rattle.c65_ctype.specs.Compatible.{same_int}
-use Rattle.c65_csem.specs.declared.items.Library.{Library}
-use Rattle.c65_csem.specs.declared.items.Library.TheVariants as the
+use Rattle.c65_base.specs.declared.library.Library.{Library}
+use Rattle.c65_base.specs.declared.library.Library.TheVariants as the
 use Rattle.c65_csem.specs.Trees.{Typed, node, Node, constant, null, literal, object, func, deref, member, load, address, decay, convert, unary, binary, both, either, choice, comma, assign, assign_op, assign_step, step, copy, call, Nodes, none, some, MaybeTyped, absent, present, Stmt, empty, eval, set_part, clear, block, if_stmt, while, do_while, for_loop, switch, case, default, label, goto, break, continue, return, Stmts, no_stmts, and_stmts, type_of, UnitTy}
 use Rattle.c65_csem.specs.Places.{plain, is_scalar, is_place, are_alike, alike}
 use Rattle.c65_csem.specs.Typed.{IsTyped, IsValue}

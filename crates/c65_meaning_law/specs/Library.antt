@@ -1,7 +1,7 @@
 -- The functions of the library on arguments of their types (C90 7.9.7, 7.10.4, 7.11).
 use Rattle.std.specs.Prelude.{ℕ, pos, List, [], ◌∷◌, Result, Ok, Err, IsSome, ⊤}
-use Rattle.c65_csem.specs.declared.items.Library.{Library}
-use Rattle.c65_csem.specs.declared.items.Library.TheVariants.{Putchar, Getchar, Puts, Exit, Memcpy, Memset, Strcmp, Strcpy, Strlen}
+use Rattle.c65_base.specs.declared.library.Library.{Library}
+use Rattle.c65_base.specs.declared.library.Library.TheVariants.{Putchar, Getchar, Puts, Exit, Memcpy, Memset, Strcmp, Strcpy, Strlen}
 use Rattle.c65_meaning.specs.Why.{Why, By, Unfit}
 use Rattle.c65_meaning.specs.Store.{Store, Value, Whole, Place, Opaque, NoValue}
 use Rattle.c65_meaning.specs.Library.{Effect, effect_of}

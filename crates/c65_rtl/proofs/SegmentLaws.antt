@@ -7,8 +7,8 @@ use Rattle.c65_code.specs.declared.routine.TosOp.{TosOp}
 use Rattle.c65_code.specs.declared.routine.TosOp.TheVariants as tos
 use Rattle.c65_code.specs.declared.routine.UnaryRoutine.{UnaryRoutine}
 use Rattle.c65_code.specs.declared.routine.UnaryRoutine.TheVariants.{Neg, Compl, Shl1, Shr1, Asr1, BNeg}
-use Rattle.c65_code.specs.declared.routine.LibraryFunction.{LibraryFunction}
-use Rattle.c65_code.specs.declared.routine.LibraryFunction.TheVariants.{PutChar, GetChar, Puts, Exit, MemCpy, MemSet, StrCmp, StrCpy, StrLen}
+use Rattle.c65_base.specs.declared.library.Library.{Library}
+use Rattle.c65_base.specs.declared.library.Library.TheVariants.{Putchar, Getchar, Puts, Exit, Memcpy, Memset, Strcmp, Strcpy, Strlen}
 use Rattle.c65_code.specs.declared.routine.Count.{Count}
 use Rattle.c65_code.specs.declared.routine.Count.TheVariants.{One, Two, Three, Four, Five, Six, Seven, Eight}
 use Rattle.c65_code.specs.declared.routine.Width.{Width}
@@ -103,16 +103,16 @@ lowered Six = record { fit = refl; labels = refl; targets = refl; closed = refl 
 lowered Seven = record { fit = refl; labels = refl; targets = refl; closed = refl }
 lowered Eight = record { fit = refl; labels = refl; targets = refl; closed = refl }
 
-of_library : (function : LibraryFunction) → IsSegment (lines_of (routines.Library function))
-of_library PutChar = record { fit = refl; labels = refl; targets = refl; closed = refl }
-of_library GetChar = record { fit = refl; labels = refl; targets = refl; closed = refl }
+of_library : (function : Library) → IsSegment (lines_of (routines.Library function))
+of_library Putchar = record { fit = refl; labels = refl; targets = refl; closed = refl }
+of_library Getchar = record { fit = refl; labels = refl; targets = refl; closed = refl }
 of_library Puts = record { fit = refl; labels = refl; targets = refl; closed = refl }
 of_library Exit = record { fit = refl; labels = refl; targets = refl; closed = refl }
-of_library MemCpy = record { fit = refl; labels = refl; targets = refl; closed = refl }
-of_library MemSet = record { fit = refl; labels = refl; targets = refl; closed = refl }
-of_library StrCmp = record { fit = refl; labels = refl; targets = refl; closed = refl }
-of_library StrCpy = record { fit = refl; labels = refl; targets = refl; closed = refl }
-of_library StrLen = record { fit = refl; labels = refl; targets = refl; closed = refl }
+of_library Memcpy = record { fit = refl; labels = refl; targets = refl; closed = refl }
+of_library Memset = record { fit = refl; labels = refl; targets = refl; closed = refl }
+of_library Strcmp = record { fit = refl; labels = refl; targets = refl; closed = refl }
+of_library Strcpy = record { fit = refl; labels = refl; targets = refl; closed = refl }
+of_library Strlen = record { fit = refl; labels = refl; targets = refl; closed = refl }
 
 pub segment_of : (which : Routine) → IsTrue (is_narrow which) → IsSegment (lines_of which)
 segment_of routines.PushA h = record { fit = refl; labels = refl; targets = refl; closed = refl }

@@ -6,8 +6,8 @@ use Rattle.c65_code.specs.declared.line.Line.TheVariants.{Label, Call}
 use Rattle.c65_rtl.specs.Assembly.{sp, ptr1, ptr2, ptr3, implied, value, zero_page, by_y, branch, call}
 use Rattle.c65_code.specs.declared.routine.Routine.{Routine}
 use Rattle.c65_code.specs.declared.routine.Routine.TheVariants as routines
-use Rattle.c65_code.specs.declared.routine.LibraryFunction.{LibraryFunction}
-use Rattle.c65_code.specs.declared.routine.LibraryFunction.TheVariants.{PutChar, GetChar, Puts, Exit, MemCpy, MemSet, StrCmp, StrCpy, StrLen}
+use Rattle.c65_base.specs.declared.library.Library.{Library}
+use Rattle.c65_base.specs.declared.library.Library.TheVariants.{Putchar, Getchar, Puts, Exit, Memcpy, Memset, Strcmp, Strcpy, Strlen}
 use Rattle.c65_code.specs.declared.line.Callee.TheVariants as callees
 use Rattle.c65_code.specs.Effects.{ax}
 use Rattle.c65_code.specs.declared.routine.Count.TheVariants.{One, Two, Four}
@@ -36,7 +36,7 @@ get_char = call routines.PushA ∷ zero_page Lda sp ∷ zero_page Sta ptr1 ∷ z
 
 -- the string and its length wait on the stack; after them a line feed is written
 abbrev pub put_string : List Line
-put_string = call routines.PushAx ∷ call (routines.Library StrLen) ∷ call routines.PushAx ∷ value Lda 1 ∷ value Ldx 0 ∷ call routines.PushAx ∷ value Ldy 5 ∷ call routines.LdAxYSp ∷ call routines.PushAx ∷ value Ldy 5 ∷ call routines.LdAxYSp ∷ call routines.HookWrite ∷ call (routines.IncSp Four) ∷ value Lda 10 ∷ value Ldx 0 ∷ call (routines.Library PutChar) ∷ value Lda 0 ∷ implied Tax ∷ implied Rts ∷ []
+put_string = call routines.PushAx ∷ call (routines.Library Strlen) ∷ call routines.PushAx ∷ value Lda 1 ∷ value Ldx 0 ∷ call routines.PushAx ∷ value Ldy 5 ∷ call routines.LdAxYSp ∷ call routines.PushAx ∷ value Ldy 5 ∷ call routines.LdAxYSp ∷ call routines.HookWrite ∷ call (routines.IncSp Four) ∷ value Lda 10 ∷ value Ldx 0 ∷ call (routines.Library Putchar) ∷ value Lda 0 ∷ implied Tax ∷ implied Rts ∷ []
 
 -- the source to ptr1, the target to ptr2, the number of bytes to ptr3
 abbrev pub copied : List Line
@@ -71,31 +71,31 @@ start_pieces routines.Start = stack_top ∷ (main_call ∷ []) ∷ end ∷ []
 start_pieces routines.StartArgs = stack_top ∷ arguments ∷ (main_call ∷ []) ∷ end ∷ []
 start_pieces _ = []
 
-abbrev pub outside_pieces : LibraryFunction → List (List Line)
-outside_pieces PutChar = put_char ∷ []
-outside_pieces GetChar = get_char ∷ []
+abbrev pub outside_pieces : Library → List (List Line)
+outside_pieces Putchar = put_char ∷ []
+outside_pieces Getchar = get_char ∷ []
 outside_pieces Puts = put_string ∷ []
 outside_pieces Exit = end ∷ []
 outside_pieces _ = []
 
-abbrev pub memory_pieces : LibraryFunction → List (List Line)
-memory_pieces MemCpy = copied ∷ copy ∷ top_word_pieces 3 Four
-memory_pieces MemSet = fill ∷ top_word_pieces 3 Four
+abbrev pub memory_pieces : Library → List (List Line)
+memory_pieces Memcpy = copied ∷ copy ∷ top_word_pieces 3 Four
+memory_pieces Memset = fill ∷ top_word_pieces 3 Four
 memory_pieces _ = []
 
-abbrev pub string_pieces : LibraryFunction → List (List Line)
-string_pieces StrCmp = other_string ∷ top_to_ptr1 ∷ compare_strings ∷ raise_pieces Two
-string_pieces StrCpy = point ∷ top_to_ptr2 ∷ copy_string ∷ top_word_pieces 1 Two
-string_pieces StrLen = point ∷ string_length ∷ []
+abbrev pub string_pieces : Library → List (List Line)
+string_pieces Strcmp = other_string ∷ top_to_ptr1 ∷ compare_strings ∷ raise_pieces Two
+string_pieces Strcpy = point ∷ top_to_ptr2 ∷ copy_string ∷ top_word_pieces 1 Two
+string_pieces Strlen = point ∷ string_length ∷ []
 string_pieces _ = []
 
-abbrev pub library_pieces : LibraryFunction → List (List Line)
-library_pieces PutChar = outside_pieces PutChar
-library_pieces GetChar = outside_pieces GetChar
+abbrev pub library_pieces : Library → List (List Line)
+library_pieces Putchar = outside_pieces Putchar
+library_pieces Getchar = outside_pieces Getchar
 library_pieces Puts = outside_pieces Puts
 library_pieces Exit = outside_pieces Exit
-library_pieces MemCpy = memory_pieces MemCpy
-library_pieces MemSet = memory_pieces MemSet
-library_pieces StrCmp = string_pieces StrCmp
-library_pieces StrCpy = string_pieces StrCpy
-library_pieces StrLen = string_pieces StrLen
+library_pieces Memcpy = memory_pieces Memcpy
+library_pieces Memset = memory_pieces Memset
+library_pieces Strcmp = string_pieces Strcmp
+library_pieces Strcpy = string_pieces Strcpy
+library_pieces Strlen = string_pieces Strlen

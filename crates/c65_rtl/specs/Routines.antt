@@ -9,8 +9,8 @@ use Rattle.c65_code.specs.declared.routine.TosOp.{TosOp}
 use Rattle.c65_code.specs.declared.routine.TosOp.TheVariants as tos
 use Rattle.c65_code.specs.declared.routine.UnaryRoutine.{UnaryRoutine}
 use Rattle.c65_code.specs.declared.routine.UnaryRoutine.TheVariants.{Neg, Compl, Shl1, Shr1, Asr1, BNeg}
-use Rattle.c65_code.specs.declared.routine.LibraryFunction.{LibraryFunction}
-use Rattle.c65_code.specs.declared.routine.LibraryFunction.TheVariants.{Exit}
+use Rattle.c65_base.specs.declared.library.Library.{Library}
+use Rattle.c65_base.specs.declared.library.Library.TheVariants.{Exit}
 use Rattle.c65_code.specs.declared.routine.Width.{Width}
 use Rattle.c65_code.specs.declared.routine.Width.TheVariants.{Ax, Eax}
 use Rattle.c65_code.specs.Parts.{no_parts, all_parts, union_of, minus_of, set_of}
@@ -136,7 +136,7 @@ unary_result Shl1 width = primary width
 unary_result Shr1 width = primary width
 unary_result Asr1 width = primary width
 
-abbrev pub library_result : LibraryFunction → RegSet
+abbrev pub library_result : Library → RegSet
 library_result Exit = no_parts
 library_result _ = ax
 

@@ -4,7 +4,8 @@ ghost use Rattle.c65_code.specs.Parts.{set_of};
 ghost use Rattle.c65_code.specs.Effects.{ax, eax, primary};
 ghost use Rattle.c65_rtl.specs.Routines.{tos_result, unary_result, library_result, result_of, given_by};
 
-use c65_code::{LibraryFunction, Part, RegSet, Routine, TosOp, UnaryRoutine, Width};
+use c65_base::Library;
+use c65_code::{Part, RegSet, Routine, TosOp, UnaryRoutine, Width};
 
 fn word() -> RegSet
     ensures { result ≡ ax }
@@ -47,11 +48,11 @@ fn unary_result(op: UnaryRoutine, width: Width) -> RegSet
     }
 }
 
-fn library_result(function: LibraryFunction) -> RegSet
+fn library_result(function: Library) -> RegSet
     ensures { result ≡ library_result function }
 {
     match function {
-        LibraryFunction::Exit => RegSet::empty(),
+        Library::Exit => RegSet::empty(),
         _ => word(),
     }
 }

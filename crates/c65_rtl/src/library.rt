@@ -7,10 +7,10 @@ use crate::memory::{copy_bytes, point_ptr1, take_ptr1, take_ptr2};
 use crate::places::{PTR1, PTR2, PTR3, SP};
 use crate::stack::{raise, top_word};
 use crate::writing::{index, put};
-use c65_base::Refusal;
+use c65_base::{Library, Refusal};
 use c65_code::Line::{Call, Do, Label};
 use c65_code::Operand::{Byte, Nothing, To, Zero};
-use c65_code::{Callee, Count, Draft, LibraryFunction, Line, Part, RegSet, Routine, Sym};
+use c65_code::{Callee, Count, Draft, Line, Part, RegSet, Routine, Sym};
 use c65_mach::Mode::{Immediate, Implied, IndirectY, Relative, ZeroPage};
 use c65_mach::Op::{
     Bcs, Beq, Bne, Cmp, Dex, Dey, Inc, Inx, Iny, Lda, Ldx, Ldy, Rts, Sbc, Sec, Sta, Stx, Tax, Tya,
@@ -95,7 +95,7 @@ const GET_CHAR: [Line; 22] = [
 // The string and its length wait on the stack; after them a line feed is written.
 const PUT_STRING: [Line; 19] = [
     Call(Callee::Routine(Routine::PushAx)),
-    Call(Callee::Routine(Routine::Library(LibraryFunction::StrLen))),
+    Call(Callee::Routine(Routine::Library(Library::Strlen))),
     Call(Callee::Routine(Routine::PushAx)),
     Do(Lda, Immediate, Byte(1)),
     Do(Ldx, Immediate, Byte(0)),
@@ -109,7 +109,7 @@ const PUT_STRING: [Line; 19] = [
     Call(Callee::Routine(Routine::IncSp(Count::Four))),
     Do(Lda, Immediate, Byte(10)),
     Do(Ldx, Immediate, Byte(0)),
-    Call(Callee::Routine(Routine::Library(LibraryFunction::PutChar))),
+    Call(Callee::Routine(Routine::Library(Library::Putchar))),
     Do(Lda, Immediate, Byte(0)),
     Do(Tax, Implied, Nothing),
     Do(Rts, Implied, Nothing),
@@ -251,29 +251,29 @@ pub fn start(draft: &mut Draft, which: Routine) -> Result<(), Refusal>
     }
 }
 
-fn outside(draft: &mut Draft, function: LibraryFunction) -> Result<(), Refusal>
+fn outside(draft: &mut Draft, function: Library) -> Result<(), Refusal>
     ensures { OnOk result (draft.new ≡ with_pieces draft.old (outside_pieces function)) }
 {
     match function {
-        LibraryFunction::PutChar => put(draft, &PUT_CHAR),
-        LibraryFunction::GetChar => put(draft, &GET_CHAR),
-        LibraryFunction::Puts => put(draft, &PUT_STRING),
-        LibraryFunction::Exit => put(draft, &END),
+        Library::Putchar => put(draft, &PUT_CHAR),
+        Library::Getchar => put(draft, &GET_CHAR),
+        Library::Puts => put(draft, &PUT_STRING),
+        Library::Exit => put(draft, &END),
         _ => Ok(()),
     }
 }
 
 // The first argument is the result.
-fn memory_function(draft: &mut Draft, function: LibraryFunction) -> Result<(), Refusal>
+fn memory_function(draft: &mut Draft, function: Library) -> Result<(), Refusal>
     ensures { OnOk result (draft.new ≡ with_pieces draft.old (memory_pieces function)) }
 {
     match function {
-        LibraryFunction::MemCpy => {
+        Library::Memcpy => {
             put(draft, &COPIED)?;
             copy_bytes(draft)?;
             top_word(draft, 3, Count::Four)
         }
-        LibraryFunction::MemSet => {
+        Library::Memset => {
             put(draft, &FILL)?;
             top_word(draft, 3, Count::Four)
         }
@@ -281,23 +281,23 @@ fn memory_function(draft: &mut Draft, function: LibraryFunction) -> Result<(), R
     }
 }
 
-fn string_function(draft: &mut Draft, function: LibraryFunction) -> Result<(), Refusal>
+fn string_function(draft: &mut Draft, function: Library) -> Result<(), Refusal>
     ensures { OnOk result (draft.new ≡ with_pieces draft.old (string_pieces function)) }
 {
     match function {
-        LibraryFunction::StrCmp => {
+        Library::Strcmp => {
             put(draft, &OTHER_STRING)?;
             take_ptr1(draft)?;
             put(draft, &COMPARE_STRINGS)?;
             raise(draft, Count::Two)
         }
-        LibraryFunction::StrCpy => {
+        Library::Strcpy => {
             point_ptr1(draft)?;
             take_ptr2(draft)?;
             put(draft, &COPY_STRING)?;
             top_word(draft, 1, Count::Two)
         }
-        LibraryFunction::StrLen => {
+        Library::Strlen => {
             point_ptr1(draft)?;
             put(draft, &STRING_LENGTH)
         }
@@ -305,18 +305,18 @@ fn string_function(draft: &mut Draft, function: LibraryFunction) -> Result<(), R
     }
 }
 
-pub fn library(draft: &mut Draft, function: LibraryFunction) -> Result<(), Refusal>
+pub fn library(draft: &mut Draft, function: Library) -> Result<(), Refusal>
     ensures { OnOk result (draft.new ≡ with_pieces draft.old (library_pieces function)) }
 {
     match function {
-        LibraryFunction::PutChar => outside(draft, function),
-        LibraryFunction::GetChar => outside(draft, function),
-        LibraryFunction::Puts => outside(draft, function),
-        LibraryFunction::Exit => outside(draft, function),
-        LibraryFunction::MemCpy => memory_function(draft, function),
-        LibraryFunction::MemSet => memory_function(draft, function),
-        LibraryFunction::StrCmp => string_function(draft, function),
-        LibraryFunction::StrCpy => string_function(draft, function),
-        LibraryFunction::StrLen => string_function(draft, function),
+        Library::Putchar => outside(draft, function),
+        Library::Getchar => outside(draft, function),
+        Library::Puts => outside(draft, function),
+        Library::Exit => outside(draft, function),
+        Library::Memcpy => memory_function(draft, function),
+        Library::Memset => memory_function(draft, function),
+        Library::Strcmp => string_function(draft, function),
+        Library::Strcpy => string_function(draft, function),
+        Library::Strlen => string_function(draft, function),
     }
 }

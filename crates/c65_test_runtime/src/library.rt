@@ -1,8 +1,8 @@
 // Copies, strings, and whole programs that call the functions of C's library.
 use crate::calls::{Given, Left, call};
 use crate::placing::{FIRST, MAIN, Runtime, placed_runtime, start_of};
-use c65_base::{Cpu, Refusal, Text};
-use c65_code::{LibraryFunction, Routine};
+use c65_base::{Cpu, Library, Refusal, Text};
+use c65_code::Routine;
 use c65_io::{mem_sink, mem_source};
 use c65_mach::Image;
 use c65_sim::{Budget, Run};
@@ -70,7 +70,7 @@ fn copies_and_fills(rt: HostRuntime) -> Result<(), Fail> {
     let mut runtime = placed_runtime(rt.alloc())?;
     for count in LENGTHS {
         put_source(&mut runtime, 700);
-        let copy = Routine::Library(LibraryFunction::MemCpy);
+        let copy = Routine::Library(Library::Memcpy);
         let after = call(&mut runtime, copy, given(count, SOURCE, 0xA000))?;
         check_left(&rt, &after, 0xFA14, 0xA000, count);
         check_bytes(&rt, &runtime, count, false);
@@ -80,7 +80,7 @@ fn copies_and_fills(rt: HostRuntime) -> Result<(), Fail> {
         check_left(&rt, &after, 0xFA12, 0xA000, count);
         check_bytes(&rt, &runtime, count, false);
         put_source(&mut runtime, 700);
-        let fill = Routine::Library(LibraryFunction::MemSet);
+        let fill = Routine::Library(Library::Memset);
         let after = call(&mut runtime, fill, given(count, 0xBB77, 0xA000))?;
         check_left(&rt, &after, 0xFA14, 0xA000, count);
         check_bytes(&rt, &runtime, count, true);
@@ -92,7 +92,7 @@ fn copies_and_fills(rt: HostRuntime) -> Result<(), Fail> {
 fn copies_ascend(rt: HostRuntime) -> Result<(), Fail> {
     let mut runtime = placed_runtime(rt.alloc())?;
     put_source(&mut runtime, 700);
-    let copy = Routine::Library(LibraryFunction::MemCpy);
+    let copy = Routine::Library(Library::Memcpy);
     let after = call(
         &mut runtime,
         copy,
@@ -118,7 +118,7 @@ fn put_string(runtime: &mut Runtime, at: u16, length: u16, last: u8) {
 #[test]
 fn strings(rt: HostRuntime) -> Result<(), Fail> {
     let mut runtime = placed_runtime(rt.alloc())?;
-    let compare = Routine::Library(LibraryFunction::StrCmp);
+    let compare = Routine::Library(Library::Strcmp);
     let rows = [
         (0x62, 0x63, 0xFFFF),
         (0x63, 0x61, 2),
@@ -137,12 +137,12 @@ fn strings(rt: HostRuntime) -> Result<(), Fail> {
         }
         put_string(&mut runtime, SOURCE, length, 0);
         put_source_behind(&mut runtime);
-        let copy = Routine::Library(LibraryFunction::StrCpy);
+        let copy = Routine::Library(Library::Strcpy);
         let after = call(&mut runtime, copy, given(SOURCE, 0xA000, 0))?;
         check_left(&rt, &after, 0xFA12, 0xA000, length);
         assert_eq!(rt; runtime.machine.read(0xA000_u16.wrapping_add(length)), 0);
         assert_eq!(rt; runtime.machine.read(0xA001_u16.wrapping_add(length)), 0xEE);
-        let measure = Routine::Library(LibraryFunction::StrLen);
+        let measure = Routine::Library(Library::Strlen);
         let after = call(&mut runtime, measure, given(0xA000, 0, 0))?;
         check_left(&rt, &after, 0xFA10, length, length);
     }
@@ -158,9 +158,9 @@ fn put_source_behind(runtime: &mut Runtime) {
 // The bytes of main, with the addresses of two routines at two places.
 struct Program {
     code: &'static [u8],
-    first: (u16, LibraryFunction),
-    second: (u16, LibraryFunction),
-    third: (u16, LibraryFunction),
+    first: (u16, Library),
+    second: (u16, Library),
+    third: (u16, Library),
 }
 
 fn image(alloc: Global, start: Routine, program: &Program) -> Result<Image, Refusal> {
@@ -193,9 +193,9 @@ const ECHO: Program = Program {
         0x20, 0, 0, 0xE0, 0xFF, 0xF0, 0x06, 0x20, 0, 0, 0x4C, 0x00, 0x30, 0xA9, 0x1A, 0xA2, 0x30,
         0x20, 0, 0, 0x18, 0x69, 0x2A, 0xA2, 0x00, 0x60, b'h', b'i', 0,
     ],
-    first: (1, LibraryFunction::GetChar),
-    second: (8, LibraryFunction::PutChar),
-    third: (18, LibraryFunction::Puts),
+    first: (1, Library::Getchar),
+    second: (8, Library::Putchar),
+    third: (18, Library::Puts),
 };
 
 // argc and the first byte of argv[1] are added, and the sum is handed to exit.
@@ -204,9 +204,9 @@ const ADD: Program = Program {
         0x85, 0x08, 0x86, 0x09, 0xA0, 0x02, 0xB1, 0x08, 0x85, 0x0A, 0xC8, 0xB1, 0x08, 0x85, 0x0B,
         0xA0, 0x00, 0xB1, 0x0A, 0x18, 0x71, 0x00, 0xA2, 0x00, 0x20, 0, 0, 0x60,
     ],
-    first: (25, LibraryFunction::Exit),
-    second: (25, LibraryFunction::Exit),
-    third: (25, LibraryFunction::Exit),
+    first: (25, Library::Exit),
+    second: (25, Library::Exit),
+    third: (25, Library::Exit),
 };
 
 fn ran(

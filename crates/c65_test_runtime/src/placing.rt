@@ -1,8 +1,6 @@
 // The runtime in memory: the lines of each segment as bytes, one segment behind another.
-use c65_base::Refusal;
-use c65_code::{
-    Callee, Count, LibraryFunction, Line, Operand, Routine, Seg, TosOp, UnaryRoutine, Width,
-};
+use c65_base::{Library, Refusal};
+use c65_code::{Callee, Count, Line, Operand, Routine, Seg, TosOp, UnaryRoutine, Width};
 use c65_mach::{Machine, Mode, Op, decode};
 use c65_rtl::{is_narrow, routine};
 use c65_rtlwide::{is_wide, wide_routine};
@@ -95,16 +93,16 @@ pub const UNARY: [UnaryRoutine; 6] = [
     UnaryRoutine::BNeg,
 ];
 
-const LIBRARY: [LibraryFunction; 9] = [
-    LibraryFunction::PutChar,
-    LibraryFunction::GetChar,
-    LibraryFunction::Puts,
-    LibraryFunction::Exit,
-    LibraryFunction::MemCpy,
-    LibraryFunction::MemSet,
-    LibraryFunction::StrCmp,
-    LibraryFunction::StrCpy,
-    LibraryFunction::StrLen,
+const LIBRARY: [Library; 9] = [
+    Library::Putchar,
+    Library::Getchar,
+    Library::Puts,
+    Library::Exit,
+    Library::Memcpy,
+    Library::Memset,
+    Library::Strcmp,
+    Library::Strcpy,
+    Library::Strlen,
 ];
 
 /// A machine with the whole runtime in memory, and where each routine begins.

@@ -2,7 +2,8 @@
 // and what they are told to write.
 use crate::calls::{Given, call};
 use crate::placing::{OPERATORS, Runtime, UNARY, placed_runtime};
-use c65_code::{LibraryFunction, Routine, Width};
+use c65_base::Library;
+use c65_code::{Routine, Width};
 use c65_mach::Machine;
 use std::process::Abort;
 use std::test::Fail;
@@ -93,22 +94,16 @@ fn copies_leave_other_memory_alone(rt: HostRuntime) -> Result<(), Fail> {
     let rows = [
         (Routine::CopyTos, given(source, target)),
         (
-            Routine::Library(LibraryFunction::MemCpy),
+            Routine::Library(Library::Memcpy),
             given(200, source | target << 16),
         ),
         (
-            Routine::Library(LibraryFunction::MemSet),
+            Routine::Library(Library::Memset),
             given(200, 0xBB77 | target << 16),
         ),
-        (
-            Routine::Library(LibraryFunction::StrCpy),
-            given(source, target),
-        ),
-        (
-            Routine::Library(LibraryFunction::StrCmp),
-            given(source, target),
-        ),
-        (Routine::Library(LibraryFunction::StrLen), given(source, 0)),
+        (Routine::Library(Library::Strcpy), given(source, target)),
+        (Routine::Library(Library::Strcmp), given(source, target)),
+        (Routine::Library(Library::Strlen), given(source, 0)),
     ];
     for (which, row) in rows {
         call(&mut runtime, which, row)?;
