@@ -1,9 +1,9 @@
 // Files in memory, which tell their content and fail at listed calls.
-ghost use Rattle.std.specs.Prelude.{◌≡◌, ◌≤◌, ◌<◌, ◌-◌, ◌↔◌, List, ℕ, [], Some, IfErr, IsErr, IsSome, OnErr, OnOk, Contains, length, take, drop, option_map, bytes_eq};
+ghost use Rattle.std.specs.Prelude.{◌≡◌, ◌≤◌, ◌<◌, ◌-◌, ◌↔◌, ◌⊎◌, List, ℕ, [], Some, IfErr, IsErr, IsSome, OnErr, OnOk, Contains, length, take, drop, option_map, bytes_eq};
 ghost use Rattle.std.specs.List.{position};
 ghost use Rattle.std.specs.Io.{ReadsAtMost};
 ghost use Rattle.c65_base.specs.declared.refusal.Refusal.TheVariants.{OutOfMemory};
-ghost use Rattle.c65_io.specs.Causes.{HasCause};
+ghost use Rattle.c65_io.specs.Causes.{HasCause, Rose};
 ghost use Rattle.c65_io.specs.Contents.{ReadsFile, WritesFile, WritesPath, HasFileCause};
 ghost use Rattle.c65_io.specs.Memory.{next_count};
 ghost use Rattle.c65_io.specs.MemFiles.{MemFilesView, held_by};
@@ -31,6 +31,7 @@ pub struct MemFiles {
     faults: u64,
     write_faults: u64,
     misses: u64,
+    lacks: u64,
 }
 
 impl Model for MemFiles {
@@ -38,12 +39,12 @@ impl Model for MemFiles {
 
     ghost Value = { MemFilesView };
 
-    ghost view = { λ f. record { files = f.files.items; fail = f.fail.items; calls = f.calls; faults = f.faults; write_faults = f.write_faults; misses = f.misses } };
+    ghost view = { λ f. record { files = f.files.items; fail = f.fail.items; calls = f.calls; faults = f.faults; write_faults = f.write_faults; misses = f.misses; lacks = f.lacks } };
 }
 
 /// No files yet, and failures at the listed calls. Reads and writes are counted together, from 1.
 pub fn mem_files(alloc: Global, fail: Vec<u32>) -> MemFiles
-    ensures { result ≡ record { files = []; fail = fail.items; calls = 0; faults = 0; write_faults = 0; misses = 0 } }
+    ensures { result ≡ record { files = []; fail = fail.items; calls = 0; faults = 0; write_faults = 0; misses = 0; lacks = 0 } }
 {
     MemFiles {
         alloc,
@@ -53,6 +54,7 @@ pub fn mem_files(alloc: Global, fail: Vec<u32>) -> MemFiles
         faults: 0,
         write_faults: 0,
         misses: 0,
+        lacks: 0,
     }
 }
 
@@ -179,11 +181,16 @@ impl Files for MemFiles {
         ensures missing { self.new.misses ≡ self.old.misses }
         ensures calls { self.new.calls ≡ next_count self.old.calls }
         ensures fail { self.new.fail ≡ self.old.fail }
-        ensures listed { Contains self.old.fail (next_count self.old.calls) → IsErr result }
+        ensures listed { Contains self.old.fail (next_count self.old.calls) → IsErr result × (self.new.lacks ≡ self.old.lacks) }
+        ensures memory { OnErr result (Contains self.old.fail (next_count self.old.calls) ⊎ Rose self.old.lacks self.new.lacks) }
     {
         self.calls = self.calls.saturating_add(1);
-        let listed = is_listed(&self.fail, self.calls);
-        if listed || replace(self.alloc, &mut self.files, path, bytes).is_err() {
+        if is_listed(&self.fail, self.calls) {
+            self.write_faults = self.write_faults.saturating_add(1);
+            return Err(Failed);
+        }
+        if replace(self.alloc, &mut self.files, path, bytes).is_err() {
+            self.lacks = self.lacks.saturating_add(1);
             self.write_faults = self.write_faults.saturating_add(1);
             return Err(Failed);
         }

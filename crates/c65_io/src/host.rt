@@ -1,6 +1,6 @@
 // Real files and streams. They tell nothing of their content.
 ghost use Rattle.std.specs.Io.{ReadsAtMost};
-ghost use Rattle.std.specs.Prelude.{None, ◌<◌, ◌≤◌};
+ghost use Rattle.std.specs.Prelude.{◌≡◌, None, ◌<◌, ◌≤◌};
 
 use crate::outside::{Failed, FileFault, Files, Sink, Source};
 use std::io::{ErrorKind, Read, Seek, SeekFrom, Write};
@@ -14,7 +14,9 @@ pub struct HostSource<R: Read> {
 }
 
 impl<R: Read> HostSource<R> {
-    pub fn new(reader: R) -> HostSource<R> {
+    pub fn new(reader: R) -> HostSource<R>
+        ensures { result.faults ≡ 0 }
+    {
         HostSource { reader, faults: 0 }
     }
 }
@@ -43,7 +45,9 @@ pub struct HostSink<W: Write> {
 }
 
 impl<W: Write> HostSink<W> {
-    pub fn new(writer: W) -> HostSink<W> {
+    pub fn new(writer: W) -> HostSink<W>
+        ensures { result.faults ≡ 0 }
+    {
         HostSink { writer, faults: 0 }
     }
 }
@@ -74,7 +78,11 @@ pub struct HostFiles<'a, R: rt::Files> {
 }
 
 impl<'a, R: rt::Files> HostFiles<'a, R> {
-    pub fn new(rt: &'a R) -> HostFiles<'a, R> {
+    pub fn new(rt: &'a R) -> HostFiles<'a, R>
+        ensures faults { result.faults ≡ 0 }
+        ensures write_faults { result.write_faults ≡ 0 }
+        ensures misses { result.misses ≡ 0 }
+    {
         HostFiles {
             rt,
             faults: 0,
@@ -89,6 +97,17 @@ fn copy_from<F: Read + Seek>(file: &mut F, at: u32, into: &mut [u8]) -> io::Resu
 {
     file.seek(SeekFrom::Start(u64::from(at)))?;
     file.read(into)
+}
+
+/// Whether an open that failed says that no file has this name: none is there, or the host takes no such name.
+fn is_missing(kind: ErrorKind) -> bool {
+    matches!(
+        kind,
+        ErrorKind::NotFound
+            | ErrorKind::NotADirectory
+            | ErrorKind::InvalidFilename
+            | ErrorKind::InvalidInput
+    )
 }
 
 impl<'a, R: rt::Files> Files for HostFiles<'a, R> {
@@ -114,7 +133,7 @@ impl<'a, R: rt::Files> Files for HostFiles<'a, R> {
                 }
             },
             Err(error) => {
-                if error.kind() == ErrorKind::NotFound || error.kind() == ErrorKind::NotADirectory {
+                if is_missing(error.kind()) {
                     self.misses = self.misses.saturating_add(1);
                     Err(FileFault::Missing)
                 } else {

@@ -6,10 +6,15 @@ use std::fs;
 use std::io::{self, ErrorKind, Read, Write};
 use std::test::Fail;
 
-fn read_two(source: &mut MemSource) -> (Result<usize, Failed>, [u8; 2]) {
+/// Whether a read of two bytes gives this answer and these bytes, and leaves those.
+fn reads(
+    source: &mut MemSource,
+    answer: Result<usize, Failed>,
+    bytes: [u8; 2],
+    left: &[u8],
+) -> bool {
     let mut room = [0; 2];
-    let answer = source.read(&mut room);
-    (answer, room)
+    source.read(&mut room) == answer && room == bytes && source.left() == left
 }
 
 #[test]
@@ -24,10 +29,16 @@ fn a_source_fails_at_the_listed_calls_and_takes_nothing_there(rt: HostRuntime) -
         (Ok(0), [0, 0], ""),
     ];
     for (answer, room, left) in rows {
-        assert_eq!(rt; read_two(&mut source), (answer, room));
-        assert_eq!(rt; source.left(), left.as_bytes());
+        assert!(rt; reads(&mut source, answer, room, left.as_bytes()));
     }
     Ok(())
+}
+
+/// Whether a write of a piece that is not empty gives this answer, and these bytes have then been written.
+fn writes(sink: &mut MemSink, piece: &str, answer: Result<usize, Failed>, written: &str) -> bool {
+    !piece.is_empty()
+        && sink.write(piece.as_bytes()) == answer
+        && sink.written() == written.as_bytes()
 }
 
 #[test]
@@ -39,18 +50,32 @@ fn a_sink_fails_at_the_listed_calls_and_appends_nothing_there(rt: HostRuntime) -
         ("C", Ok(1), "ABC"),
     ];
     for (piece, answer, written) in rows {
-        assert_eq!(rt; sink.write(piece.as_bytes()), answer);
-        assert_eq!(rt; sink.written(), written.as_bytes());
+        assert!(rt; writes(&mut sink, piece, answer, written));
     }
-    assert_eq!(rt; write_all(&mut sink, b"DE"), Ok(()));
-    assert_eq!(rt; sink.written(), b"ABCDE".as_slice());
+    assert!(rt; write_all(&mut sink, b"DE") == Ok(()) && sink.written() == b"ABCDE".as_slice());
     Ok(())
 }
 
-fn read_at(files: &mut MemFiles, path: &str, at: u32) -> (Result<usize, FileFault>, [u8; 2]) {
+/// Whether a read of two bytes of this path gives this answer and these bytes.
+fn reads_at(
+    files: &mut MemFiles,
+    path: &str,
+    at: u32,
+    answer: Result<usize, FileFault>,
+    bytes: [u8; 2],
+) -> bool {
     let mut room = [0; 2];
-    let answer = files.read(path.as_bytes(), at, &mut room);
-    (answer, room)
+    files.read(path.as_bytes(), at, &mut room) == answer && room == bytes
+}
+
+/// Whether the third write of these files fails, and the next two make a file and another.
+fn writes_files(files: &mut MemFiles) -> bool {
+    files.write(b"a.c", b"new") == Err(Failed)
+        && files.write(b"a.c", b"new") == Ok(())
+        && files.write(b"a.out", b"") == Ok(())
+        && files.get(b"a.c") == Some(b"new")
+        && files.get(b"a.out") == Some(b"")
+        && files.get(b"b.h").is_none()
 }
 
 #[test]
@@ -69,14 +94,9 @@ fn files_fail_at_the_listed_calls(rt: HostRuntime) -> Result<(), Fail> {
         ("a.c", 3, Ok(0), [0, 0]),
     ];
     for (path, at, answer, room) in rows {
-        assert_eq!(rt; read_at(&mut files, path, at), (answer, room));
+        assert!(rt; reads_at(&mut files, path, at, answer, room));
     }
-    assert_eq!(rt; files.write(b"a.c", b"new"), Err(Failed));
-    assert_eq!(rt; files.write(b"a.c", b"new"), Ok(()));
-    assert_eq!(rt; files.write(b"a.out", b""), Ok(()));
-    assert!(rt; files.get(b"a.c") == Some(b"new"));
-    assert!(rt; files.get(b"a.out") == Some(b""));
-    assert!(rt; files.get(b"b.h").is_none());
+    assert!(rt; writes_files(&mut files));
     Ok(())
 }
 
@@ -104,19 +124,20 @@ impl Write for Broken {
 fn a_host_source_reads_its_reader(rt: HostRuntime) {
     let mut room = [0; 4];
     let mut source = HostSource::new(b"abc".as_slice());
-    assert_eq!(rt; source.read(&mut room), Ok(3));
-    assert_eq!(rt; source.read(&mut room), Ok(0));
-    assert_eq!(rt; room, [97, 98, 99, 0]);
-    let mut broken = HostSource::new(Broken);
-    assert_eq!(rt; broken.read(&mut room), Err(Failed));
+    assert!(rt; source.read(&mut room) == Ok(3) && room == [97, 98, 99, 0]);
+    assert!(rt; source.read(&mut room) == Ok(0));
+    assert!(rt; HostSource::new(Broken).read(&mut room) == Err(Failed));
 }
 
 #[test]
 fn a_host_sink_writes_its_writer(rt: HostRuntime) {
-    let mut sink = HostSink::new(io::sink());
-    assert_eq!(rt; write_all(&mut sink, b"abc"), Ok(()));
-    let mut full = HostSink::new(Broken);
-    assert_eq!(rt; full.write(b"abc"), Err(Failed));
+    assert!(rt; write_all(&mut HostSink::new(io::sink()), b"abc") == Ok(()));
+    assert!(rt; HostSink::new(Broken).write(b"abc") == Err(Failed));
+}
+
+/// What a read of some bytes answers.
+fn read<F: Files>(files: &mut F, path: &[u8]) -> Result<usize, FileFault> {
+    files.read(path, 0, &mut [0; 4])
 }
 
 #[test]
@@ -124,18 +145,24 @@ fn host_files_hold_what_was_written(rt: HostRuntime) -> Result<(), Fail> {
     let mut room = [0; 4];
     let mut files = HostFiles::new(&rt);
     let path = b"c65_io_trial.bin";
-    assert_eq!(rt; files.write(path, b"abcde"), Ok(()));
-    assert_eq!(rt; files.read(path, 3, &mut room), Ok(2));
-    assert_eq!(rt; room, [100, 101, 0, 0]);
-    assert_eq!(rt; files.read(path, 5, &mut room), Ok(0));
+    assert!(rt; files.write(path, b"abcde") == Ok(()));
+    assert!(rt; files.read(path, 3, &mut room) == Ok(2) && room == [100, 101, 0, 0]);
+    assert!(rt; files.read(path, 5, &mut room) == Ok(0));
     fs::remove_file(&rt, "c65_io_trial.bin")?;
-    assert_eq!(rt; files.read(path, 0, &mut room), Err(FileFault::Missing));
-    assert_eq!(rt;
-        files.read(b"no\xff", 0, &mut room),
-        Err(FileFault::Missing)
-    );
-    assert_eq!(rt; files.read(b".", 0, &mut room), Err(FileFault::Failed));
-    assert_eq!(rt; files.write(b"no\xff", b""), Err(Failed));
-    assert_eq!(rt; files.write(b".", b""), Err(Failed));
+    assert!(rt; read(&mut files, path) == Err(FileFault::Missing));
+    assert!(rt; read(&mut files, b".") == Err(FileFault::Failed));
+    assert!(rt; files.write(b".", b"") == Err(Failed));
     Ok(())
+}
+
+/// No file of a host has a name that is no UTF-8, that has a zero byte, or that is too long, as a path or in a part.
+#[test]
+fn a_name_that_no_file_can_have_is_a_missing_file(rt: HostRuntime) {
+    let mut files = HostFiles::new(&rt);
+    let long = [b'a'; 5000];
+    let names = [b"no\xff".as_slice(), b"a\0b", &long[..300], &long];
+    for name in names {
+        assert!(rt; read(&mut files, name) == Err(FileFault::Missing));
+        assert!(rt; files.write(name, b"") == Err(Failed));
+    }
 }
