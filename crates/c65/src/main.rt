@@ -4,12 +4,14 @@
 use c65_driver::{Made, tool};
 use c65_io::{HostFiles, HostSink, HostSource};
 use std::env;
+use std::io::ErrorKind;
 use std::process::ExitCode;
 
 fn main(rt: HostRuntime) -> ExitCode {
     let alloc = rt.alloc();
     let args = match env::args(&rt) {
         Ok(args) => args,
+        Err(error) if error.kind() == ErrorKind::OutOfMemory => return ExitCode::from(101),
         Err(_) => return ExitCode::from(113),
     };
     let mut words = Vec::new(alloc);

@@ -30,6 +30,7 @@ stopped command old new w o code r stops sources = record {
   units = units_of Image ℕ (length command.files) r stops.units;
   read = faults_of old.faults new.faults r stops.read;
   missing = headers_of Image ℕ command.folders old.misses new.misses r stops.missing;
+  with_image = tt;
   text = unwritten command.out code (record { files = old; written = w; out_faults = o }) (record { files = new; written = w; out_faults = o }) (Err r)
       (record { contents = stops.same; writes = stops.written; written = refl; out_faults = refl });
   from_text = stops.from_text;
@@ -52,6 +53,7 @@ texts_free command old = record {
     units = tt;
     read = refl;
     missing = omega arith;
+    with_image = tt;
     text = record { contents = refl; writes = refl; written = refl; out_faults = refl };
     from_text = tt;
     from_code = tt;
@@ -93,6 +95,7 @@ texts_wrote command old mid new w o code image bytes r compiles sources is wrote
   units = wrote_units (length command.files) r compiles.units wrote.served;
   read = wrote_faults old.faults new.files.faults r (wrote.faults ∙ compiles.read) wrote.served;
   missing = wrote_headers command.folders old.misses new.files.misses r (subst (λ n. old.misses ≤ n) (sym wrote.misses) compiles.missing) wrote.served;
+  with_image = wrote.served;
   text = made command.out code image bytes (record { files = old; written = w; out_faults = o }) new r is
       (to_from command.out bytes old mid new w o r compiles.same compiles.written wrote.to);
   from_text = compiles.from_text;
@@ -118,6 +121,7 @@ texts_short command old new w o code image compiles sources = record {
   units = tt;
   read = compiles.read;
   missing = compiles.missing;
+  with_image = tt;
   text = kept_made command.out code image old new w o compiles.same compiles.written;
   from_text = compiles.from_text;
   from_code = linked_wrote code image (Err OutOfMemory) compiles.from_code;

@@ -98,6 +98,11 @@ WriteServes (Err OutOfMemory) = ⊤
 WriteServes (Err WriteFault) = ⊤
 WriteServes (Err refusal) = ⊥
 
+-- with an image, writing it is all that may still fail
+abbrev pub ServesWith : Option Image → Result ℕ Refusal → Type 0
+ServesWith None answer = ⊤
+ServesWith (Some image) answer = WriteServes answer
+
 pub record WritesImage (path bytes : List ℕ) (old new : FilesSide) (answer : Result ℕ Refusal) : Type 0 where
   pub served : WriteServes answer
   pub contents : WritesBytes path bytes old.contents new.contents answer

@@ -18,7 +18,7 @@ use Rattle.c65_driver_words.specs.declared.command.CommandKind.TheVariants as ki
 use Rattle.c65_driver_chain.specs.Refused.{StopsChain, UnitsLimit}
 use Rattle.c65_driver.specs.Assembly.{MadeText}
 use Rattle.c65_driver.specs.Causes.{ReadCauses, MissCause}
-use Rattle.c65_driver.specs.Compiled.{IsRead, IsLinked, IsOfSources, output_of, BuildsFile}
+use Rattle.c65_driver.specs.Compiled.{IsRead, IsLinked, IsOfSources, ServesWith, output_of, BuildsFile}
 use Rattle.c65_driver.specs.Outside.{FilesSide, TextSide, Outside, text_part}
 use Rattle.c65_driver.specs.Setups.{setup_of, MadeRuns}
 use Rattle.c65_driver.specs.Told.{ToldRun, MadeOf, first_of}
@@ -78,6 +78,7 @@ pub record Builds (command : Spelled) (old new : FilesSide) (code : Option Code)
   pub read : FaultCause old.faults new.faults answer
   pub missing : HeaderCause command.folders old.misses new.misses answer
   pub write : WriteCause old.writes new.writes answer
+  pub with_image : ServesWith image answer
   pub contents : BuildsFile (output_of command.out) image old.contents new.contents answer
   pub from_text : IsRead code
   pub from_code : IsLinked code image answer
@@ -97,6 +98,7 @@ pub record Texts (command : Spelled) (old new : TextSide) (code : Option Code) (
   pub units : UnitsLimit (length command.files) answer
   pub read : FaultCause old.files.faults new.files.faults answer
   pub missing : HeaderCause command.folders old.files.misses new.files.misses answer
+  pub with_image : ServesWith image answer
   pub text : MadeText command.out code image old new answer
   pub from_text : IsRead code
   pub from_code : IsLinked code image answer

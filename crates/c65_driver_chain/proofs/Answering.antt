@@ -15,18 +15,16 @@ use Rattle.c65_decl.specs.Units.{unit_read}
 use Rattle.c65_tree.specs.Trees.{UnitTree}
 use Rattle.c65_csem.specs.declared.items.Parts.{Parts}
 use Rattle.c65_csem.specs.Trees.{UnitTy}
-use Rattle.c65_csem.specs.Units.{IsProgram}
 use Rattle.c65_csem.specs.Views.{unit_of}
 use Rattle.c65_init.specs.Units.{unit_in}
 use Rattle.c65_init_join.specs.Answers as joins
 use Rattle.c65_init_join.specs.Joined.{joined}
-use Rattle.c65_csem_names.specs.Programs.{IsScopedProgram}
 use Rattle.c65_code.specs.declared.code.Code.{Code}
 use Rattle.c65_genstmt.specs.Programs.{program_of}
 use Rattle.c65_ppdir.specs.Relations.{Answers, just, by_test, ◌then◌, IsFree, Comes}
 use Rattle.c65_ppdir.specs.Units.{preprocessed}
 use Rattle.c65_ppdir.proofs.Relations.{goes, goes_on, stops_first}
-use Rattle.c65_driver_chain.specs.Front.{typed, in_file, Command, file_typed, files_typed, joining, generated, linked, compiled, IsMade, Located, Passed}
+use Rattle.c65_driver_chain.specs.Front.{typed, in_file, Command, file_typed, files_typed, joining, IsGood, generated, linked, compiled, Located, Passed}
 
 -- the first answer is a refusal
 stops : {A B : Type 0} (P : Answers A) (f : A → Answers B) (e : Refusal) → IsFree e ⊎ P (Err e) → IsFree e ⊎ (P then f) (Err e)
@@ -102,17 +100,12 @@ joining_stops {A} y e h = absurd h
 pub not_joined : (o : Options) (units : List UnitTy) (names : List (List ℕ)) (e : Refusal) → joins.Fails e (joined names units) → IsFree e ⊎ linked o units names (Err e)
 not_joined o units names e h = stops (joining (joined names units)) (generated o names) e (joining_stops (joined names units) e h)
 
-generated_comes : (o : Options) (names : List (List ℕ)) (parts : Parts) (main : ℕ) (r : Result Code Refusal) → Gives (λ c. c) r (program_of parts main names o.register_vars) → Comes (λ c. c) (generated o names (unit_of parts, main)) r
-generated_comes o names parts main (Ok code) h = (parts, refl, h)
-generated_comes o names parts main (Err e) h = inr (parts, refl, h)
+generated_comes : (o : Options) (names : List (List ℕ)) (parts : Parts) (main : ℕ) (r : Result Code Refusal) → IsGood (unit_of parts) main → Gives (λ c. c) r (program_of parts main names o.register_vars) → Comes (λ c. c) (generated o names (unit_of parts, main)) r
+generated_comes o names parts main (Ok code) good h = (parts, refl, good, h)
+generated_comes o names parts main (Err e) good h = inr (parts, refl, good, h)
 
-pub linked_comes : (o : Options) (units : List UnitTy) (names : List (List ℕ)) (parts : Parts) (main : ℕ) (r : Result Code Refusal) → joined names units ≡ Ok (unit_of parts, main) → Gives (λ c. c) r (program_of parts main names o.register_vars) → Comes (λ c. c) (linked o units names) r
-linked_comes o units names parts main r joined_is h = goes_on (λ c. c) (joining (joined names units)) (generated o names) (unit_of parts, main) r (joining_goes (joined names units) (unit_of parts, main) joined_is) (generated_comes o names parts main r h)
-
--- the code is of a well typed program whose names are in scope
-pub is_made : (o : Options) (names : List (List ℕ)) (parts : Parts) (main : ℕ) (r : Result Code Refusal) → IsProgram (unit_of parts) main → IsScopedProgram (unit_of parts) main → Gives (λ c. c) r (program_of parts main names o.register_vars) → IfOk r (IsMade o)
-is_made o names parts main (Ok code) well scoped h = record { parts = parts; main = main; names = names; well_typed = well; scoped = scoped; generated = h }
-is_made o names parts main (Err e) well scoped h = tt
+pub linked_comes : (o : Options) (units : List UnitTy) (names : List (List ℕ)) (parts : Parts) (main : ℕ) (r : Result Code Refusal) → joined names units ≡ Ok (unit_of parts, main) → IsGood (unit_of parts) main → Gives (λ c. c) r (program_of parts main names o.register_vars) → Comes (λ c. c) (linked o units names) r
+linked_comes o units names parts main r joined_is good h = goes_on (λ c. c) (joining (joined names units)) (generated o names) (unit_of parts, main) r (joining_goes (joined names units) (unit_of parts, main) joined_is) (generated_comes o names parts main r good h)
 
 pub tested_so : {E P : Type 0} (r : Result Bool E) (so : Bool) → r ≡ Ok so → so ≡ true → IfOk r (λ (b : Bool). IsTrue b ↔ P) → P
 tested_so {E} {P} r so is true_is both =

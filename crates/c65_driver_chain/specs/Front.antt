@@ -65,9 +65,14 @@ abbrev pub joining : {A : Type 0} → Result A JoinFault → Answers A
 joining (Ok x) = just (Ok x)
 joining (Err f) = just (Err (refusals.Link f.kind f.name))
 
--- the code of a program that is made of such parts
+-- what each program of the front meets
+pub record IsGood (program : UnitTy) (main : ℕ) : Type 0 where
+  pub well_typed : IsProgram program main
+  pub scoped : IsScopedProgram program main
+
+-- the code of a program that is made of such parts, or the refusal of a frame
 abbrev pub generated : Options → List (List ℕ) → UnitTy × ℕ → Answers Code
-generated o names p z = (parts : Parts) × (unit_of parts ≡ p.0) × of (program_of parts p.1 names o.register_vars) z
+generated o names p z = (parts : Parts) × (unit_of parts ≡ p.0) × IsGood p.0 p.1 × of (program_of parts p.1 names o.register_vars) z
 
 abbrev pub linked : Options → List UnitTy → List (List ℕ) → Answers Code
 linked o units names = joining (joined names units) then generated o names
@@ -75,15 +80,6 @@ linked o units names = joining (joined names units) then generated o names
 -- at most 64 files are compiled
 abbrev pub compiled : Command → List (List ℕ) → Answers Code
 compiled c paths = by_test (nat_lt 64 (length paths)) (just (Err (refusals.TooLarge sizes.Units (length paths)))) (files_typed c paths [] [] then λ x. linked c.options x.0 x.1)
-
--- what each code is made of: a well typed program whose names are in scope
-pub record IsMade (o : Options) (code : Code) : Type 0 where
-  pub parts : Parts
-  pub main : ℕ
-  pub names : List (List ℕ)
-  pub well_typed : IsProgram (unit_of parts) main
-  pub scoped : IsScopedProgram (unit_of parts) main
-  pub generated : program_of parts main names o.register_vars ≡ Ok code
 
 -- ---- refusals of one stage, seen from outside
 

@@ -1,12 +1,12 @@
 // From files to the code of their program.
-ghost use Rattle.std.specs.Prelude.{◌≡◌, [], map, Some, IfErr, IfOk, length};
+ghost use Rattle.std.specs.Prelude.{◌≡◌, [], map, Some, IfErr, length};
 ghost use Rattle.c65_csem.specs.Views.{unit_of};
 ghost use Rattle.c65_ppdir.specs.Counts.{FaultCause, MissCause};
 ghost use Rattle.c65_ppdir.specs.Relations.{Comes};
 ghost use Rattle.c65_ppdir.specs.Units.{Held};
 ghost use Rattle.c65_driver_chain.specs.Refused.{StopsChain, StopsLater, UnitsLimit};
 ghost use Rattle.c65_driver_chain.specs.Compiled.{Compiles, outside};
-ghost use Rattle.c65_driver_chain.specs.Front.{IsMade, command, files_typed, linked, compiled};
+ghost use Rattle.c65_driver_chain.specs.Front.{command, files_typed, linked, compiled};
 
 use crate::refused::joined;
 use crate::unit::typed_unit;
@@ -56,8 +56,7 @@ fn code_of(
     units: Vec<TUnit>,
     names: &Names,
 ) -> Result<Code, Refusal>
-    ensures exact { Comes (λ c. c) (linked options.now (map unit_of units.items) names.now) result }
-    ensures made { IfOk result (IsMade options.now) }
+    ensures { Comes (λ c. c) (linked options.now (map unit_of units.items) names.now) result }
 {
     let program = match join(alloc, units, names) {
         Ok(program) => program,
@@ -89,7 +88,6 @@ pub fn compile<F: Files>(
     ensures missing { MissCause folders.now (F.misses files.old) (F.misses files.new) result }
     ensures same { F.contents files.new ≡ F.contents files.old }
     ensures writes { F.write_faults files.new ≡ F.write_faults files.old }
-    ensures made { IfOk result (IsMade options.now) }
     ensures exact { (held : Held) → F.contents files.old ≡ Some held → Comes (λ c. c) (compiled (command held options.now defines.now folders.now) paths.now) result }
 {
     if paths.len() > 64 {

@@ -50,11 +50,16 @@ pub struct Left {
     pub err: MemSink,
 }
 
+/// The text of a word: `""` is the empty one.
+fn word_text(word: &str) -> &str {
+    if word == "\"\"" { "" } else { word }
+}
+
 /// Does a command.
 pub fn perform(alloc: Global, desk: &mut Desk, text: &str) -> Result<Left, Refusal> {
     let mut words = Vec::new(alloc);
     for word in text.split_whitespace() {
-        words.push(String::from_str(alloc, word)?)?;
+        words.push(String::from_str(alloc, word_text(word))?)?;
     }
     let input = Vec::from_slice(alloc, &desk.input)?;
     let mut input = mem_source(input, Vec::from_slice(alloc, &[desk.fail_in])?);

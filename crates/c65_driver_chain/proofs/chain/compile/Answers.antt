@@ -18,7 +18,7 @@ returns-in-Ok-code_of-clause-exact g c = λ held told.
     let units : List UnitTy = map unit_of c.in-Ok.units.items in
     is_compiled k c.args.paths.now units c.typed_units.new.names c.in-Ok-code_of.code c.if-paths-gt64.false
     (subst (λ (names : List (List ℕ)). files_typed k c.args.paths.now [] names (Ok (units, c.typed_units.new.names))) c.new-names.ensures (c.in-Ok.ensures.exact held told))
-    c.in-Ok-code_of.ensures.exact
+    c.in-Ok-code_of.ensures
 
 pub returns-clause-exact : goal.returns-clause-exact
 returns-clause-exact g c = λ held told.
@@ -26,4 +26,4 @@ returns-clause-exact g c = λ held told.
     let units : List UnitTy = map unit_of c.in-Ok.units.items in
     not_linked k c.args.paths.now units c.typed_units.new.names c.in-Err-code_of.refusal c.joined.result c.if-paths-gt64.false
     (subst (λ (names : List (List ℕ)). files_typed k c.args.paths.now [] names (Ok (units, c.typed_units.new.names))) c.new-names.ensures (c.in-Ok.ensures.exact held told))
-    c.in-Err-code_of.ensures.exact c.joined.ensures.exact
+    c.in-Err-code_of.ensures c.joined.ensures.exact
