@@ -2,6 +2,8 @@
 use Rattle.std.proofs.Common.{◌≡◌, ℕ, zero, suc, ◌+◌, ◌≤◌, List, [], ◌∷◌, ◌++◌, Option, Some, None, arith, sym, ap, ◌∙◌, subst}
 use Rattle.std.proofs.lemmas.List.{map-append}
 use Rattle.std.specs.Prelude.{slice_get, option_and_then, option_map, map}
+use Rattle.c65_base.specs.declared.refusal.Size.TheVariants.{Object}
+use Rattle.c65_base.specs.Limits.{limit_of}
 use Rattle.c65_ctype.specs.Trees.{LayoutTy, TagTy, TypesTy}
 use Rattle.c65_ctype.specs.Tables.{IsLaid, AreTags, IsTable, layout_at}
 use Rattle.c65_ctype.specs.declared.types.Tag.{Tag}
@@ -33,7 +35,7 @@ pub tags_raised : (by m n : ℕ) (ts : List TagTy) → AreTags n ts → AreTags 
 tags_raised by m n [] w = tt
 tags_raised by m n (t ∷ ts) w = (omega (arith, w.0), raised_laid by t.layout w.1, tags_raised by m n ts w.2)
 
-pub tags_laid : (n : ℕ) (ts : List TagTy) (i : ℕ) (l : LayoutTy) → l.size ≤ 65535 → AreTags n ts → AreTags n (with_layout ts i l)
+pub tags_laid : (n : ℕ) (ts : List TagTy) (i : ℕ) (l : LayoutTy) → l.size ≤ limit_of Object → AreTags n ts → AreTags n (with_layout ts i l)
 tags_laid n [] i l h w = tt
 tags_laid n (t ∷ ts) zero l h w = (w.0, h, w.2)
 tags_laid n (t ∷ ts) (suc i) l h w = (w.0, w.1, tags_laid n ts i l h w.2)

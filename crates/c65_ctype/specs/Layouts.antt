@@ -2,11 +2,12 @@
 -- one member come: a bit-field of another type than int, or of a width that does not fit; a name that
 -- an earlier member has; a type without a size; the number of members; the bytes. Last comes that no
 -- member has a name, at the place of the first.
-use Rattle.std.specs.Prelude.{ℕ, List, [], ◌∷◌, ◌++◌, length, Bool, true, false, Option, Some, None, Result, Ok, Err, nat_le, nat_lt, ◌==◌, ◌&&◌, is_some, if◌then◌else◌}
+use Rattle.std.specs.Prelude.{ℕ, ◌+◌, List, [], ◌∷◌, ◌++◌, length, Bool, true, false, Option, Some, None, Result, Ok, Err, nat_le, nat_lt, ◌==◌, ◌&&◌, is_some, if◌then◌else◌}
 use Rattle.c65_base.specs.declared.code.Code.TheVariants.{BitField, MemberTwice}
 use Rattle.c65_base.specs.declared.names.Name.{Name}
 use Rattle.c65_base.specs.declared.refusal.Pos.{Pos}
 use Rattle.c65_base.specs.declared.refusal.Size.TheVariants.{Members}
+use Rattle.c65_base.specs.Limits.{limit_of}
 use Rattle.c65_base.specs.Answers.{Fault, at, large, ◌>>=◌}
 use Rattle.c65_ints.specs.declared.types.IntType.TheVariants as ints
 use Rattle.c65_ctype.specs.declared.place.Spot.{Spot}
@@ -49,7 +50,7 @@ own_size types f None = size_at types f.pos (type_in f.ty)
 own_size types f (Some w) = Ok 2
 
 abbrev pub few : List MemberTy → Result (Unit {0}) Fault
-few ms = if nat_lt (length ms) 1024 then Ok tt else Err (large Members 1025)
+few ms = if nat_lt (length ms) (limit_of Members) then Ok tt else Err (large Members (limit_of Members + 1))
 
 abbrev pub member_at : FieldTy → Spot → MemberTy
 member_at f s = record { name = f.name; ty = f.ty; offset = s.offset; bits = s.bits }

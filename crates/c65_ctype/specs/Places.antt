@@ -3,6 +3,7 @@
 -- bit-field, close the unit.
 use Rattle.std.specs.Prelude.{ℕ, ◌+◌, Bool, Option, Some, None, Result, Ok, Err, nat_le, ◌==◌, max, if◌then◌else◌}
 use Rattle.c65_base.specs.declared.refusal.Size.TheVariants.{Object}
+use Rattle.c65_base.specs.Limits.{limit_of}
 use Rattle.c65_base.specs.Answers.{Fault, large}
 use Rattle.c65_ctype.specs.declared.place.Spot.{Spot}
 use Rattle.c65_ctype.specs.declared.place.BitUnit.{BitUnit}
@@ -10,7 +11,7 @@ use Rattle.c65_ctype.specs.declared.place.Cursor.{Cursor}
 
 -- so many more bytes, unless that is more than a type may have
 abbrev pub room : Cursor → ℕ → Option BitUnit → Spot → Result (Spot × Cursor) Fault
-room p more unit spot = if nat_le (p.end + more) 65535 then Ok (spot, record { end = p.end + more; unit = unit }) else Err (large Object (p.end + more))
+room p more unit spot = if nat_le (p.end + more) (limit_of Object) then Ok (spot, record { end = p.end + more; unit = unit }) else Err (large Object (p.end + more))
 
 -- a bit-field at the lowest bit of a new unit
 abbrev pub new_unit : Cursor → ℕ → Result (Spot × Cursor) Fault

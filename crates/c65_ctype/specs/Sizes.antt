@@ -3,6 +3,7 @@ use Rattle.std.specs.Prelude.{ℕ, ◌*◌, ◌/◌, Option, Some, None, Result,
 use Rattle.c65_base.specs.declared.code.Code.TheVariants.{IncompleteType}
 use Rattle.c65_base.specs.declared.refusal.Pos.{Pos}
 use Rattle.c65_base.specs.declared.refusal.Size.TheVariants.{Object}
+use Rattle.c65_base.specs.Limits.{limit_of}
 use Rattle.c65_base.specs.Answers.{Fault, at, large, ◌>>=◌}
 use Rattle.c65_ints.specs.declared.types.IntType.{IntType}
 use Rattle.c65_ints.specs.Ranges.{width_of}
@@ -13,9 +14,9 @@ use Rattle.c65_ctype.specs.Tables.{layout_at}
 abbrev pub bytes_of : IntType → ℕ
 bytes_of t = width_of t / 8
 
--- no type may have more than 65,535 bytes
+-- no type may have more bytes than an object
 abbrev pub limited : ℕ → Result ℕ Fault
-limited n = if nat_le n 65535 then Ok n else Err (large Object n)
+limited n = if nat_le n (limit_of Object) then Ok n else Err (large Object n)
 
 -- so many elements of this size
 abbrev pub elements : Pos → Option ℕ → ℕ → Result ℕ Fault

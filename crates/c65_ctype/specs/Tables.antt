@@ -1,11 +1,13 @@
 -- Tables of tags: what holds of each of them, and what a tag's number names.
 use Rattle.std.specs.Prelude.{ℕ, ◌<◌, ◌≤◌, List, [], ◌∷◌, Option, Some, None, option_and_then, slice_get}
+use Rattle.c65_base.specs.declared.refusal.Size.TheVariants.{Object}
+use Rattle.c65_base.specs.Limits.{limit_of}
 use Rattle.c65_ctype.specs.Trees.{LayoutTy, TagTy, TypesTy}
 
--- a finished structure or union has at most 65,535 bytes
+-- a finished structure or union has at most as many bytes as an object
 abbrev pub IsLaid : Option LayoutTy → Type 0
 IsLaid None = Unit {0}
-IsLaid (Some l) = l.size ≤ 65535
+IsLaid (Some l) = l.size ≤ limit_of Object
 
 -- each tag comes from one of so many units
 abbrev pub AreTags : ℕ → List TagTy → Type 0

@@ -1,6 +1,8 @@
 // The layout of a structure or union (C90 6.5.2.1).
 ghost use Rattle.std.specs.Prelude.{◌≡◌, ◌≤◌, IfOk, map, option_map};
 ghost use Rattle.c65_base.specs.Answers.{Gives};
+ghost use Rattle.c65_base.specs.Limits.{limit_of};
+ghost use Rattle.c65_base.specs.declared.refusal.Size.TheVariants as sizes;
 ghost use Rattle.c65_ctype.specs.Views.{ty_of, layout_of, member_of, field_of, types_of};
 ghost use Rattle.c65_ctype.specs.Layouts.{is_bit_type, is_bit_width, bits_form, is_named, has_name, fresh, own_size, few, next_member, any_named, unnamed_at, layout_for};
 
@@ -40,10 +42,7 @@ fn bits_form(field: &Field) -> Result<(), Refusal>
             if is_bit_type(&field.ty.ty) && is_bit_width(field.name, width) {
                 Ok(())
             } else {
-                Err(Refusal::At {
-                    code: Code::BitField,
-                    pos: field.pos,
-                })
+                Err(Refusal::fault(Code::BitField, field.pos))
             }
         }
     }
@@ -78,10 +77,7 @@ fn fresh(members: &[Member], pos: Pos, name: Option<Name>) -> Result<(), Refusal
         None => Ok(()),
         Some(name) => {
             if has_name(members, name) {
-                Err(Refusal::At {
-                    code: Code::MemberTwice,
-                    pos,
-                })
+                Err(Refusal::fault(Code::MemberTwice, pos))
             } else {
                 Ok(())
             }
@@ -93,12 +89,12 @@ fn fresh(members: &[Member], pos: Pos, name: Option<Name>) -> Result<(), Refusal
 fn few(members: &[Member]) -> Result<(), Refusal>
     ensures { Gives (λ x. tt) result (few (map member_of members.now)) }
 {
-    if members.len() < 1024 {
+    if (members.len() as u64) < Size::Members.number() {
         Ok(())
     } else {
         Err(Refusal::TooLarge {
             limit: Size::Members,
-            value: 1025,
+            value: Size::Members.number() + 1,
         })
     }
 }
@@ -134,7 +130,7 @@ impl Types {
     /// The bytes of a member's own type.
     fn own_size(&self, field: &Field) -> Result<u32, Refusal>
         ensures exact { Gives (λ n. n) result (own_size (types_of self.now) (field_of field.now) field.now.width) }
-        ensures small { IfOk result (λ n. n ≤ 65535) }
+        ensures small { IfOk result (λ n. n ≤ limit_of sizes.Object) }
     {
         match field.width {
             None => self.size(&field.ty.ty, field.pos),
@@ -150,9 +146,9 @@ impl Types {
         cursor: Cursor,
         field: Field,
     ) -> Result<(Member, Cursor), Refusal>
-        requires { cursor.end ≤ 65535 }
+        requires { cursor.end ≤ limit_of sizes.Object }
         ensures exact { Gives (λ x. (member_of x.0, x.1)) result (next_member (types_of self.now) is_union (map member_of members.now) cursor (field_of field)) }
-        ensures small { IfOk result (λ x. x.1.end ≤ 65535) }
+        ensures small { IfOk result (λ x. x.1.end ≤ limit_of sizes.Object) }
     {
         bits_form(&field)?;
         fresh(members, field.pos, field.name)?;
@@ -171,7 +167,7 @@ impl Types {
     /// The layout of a structure or union of these members.
     pub(crate) fn layout_for(&self, is_union: bool, fields: Vec<Field>) -> Result<Layout, Refusal>
         ensures exact { Gives layout_of result (layout_for (types_of self.now) is_union (map field_of fields.items)) }
-        ensures small { IfOk result (λ l. l.size ≤ 65535) }
+        ensures small { IfOk result (λ l. l.size ≤ limit_of sizes.Object) }
     {
         let unnamed = unnamed_at(&fields);
         let mut cursor = Cursor { end: 0, unit: None };
@@ -182,10 +178,7 @@ impl Types {
             cursor = after;
         }
         match unnamed {
-            Some(pos) => Err(Refusal::At {
-                code: Code::BitField,
-                pos,
-            }),
+            Some(pos) => Err(Refusal::fault(Code::BitField, pos)),
             None => Ok(Layout {
                 is_union,
                 members,

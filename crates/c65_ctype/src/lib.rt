@@ -12,8 +12,6 @@ mod place;
 mod raise;
 mod sizes;
 mod table;
-#[cfg(test)]
-mod tests;
 mod types;
 
 pub use table::Types;

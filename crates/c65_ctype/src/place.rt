@@ -1,6 +1,8 @@
 // Where one member lies (C90 6.5.2.1).
 ghost use Rattle.std.specs.Prelude.{◌≡◌, ◌≤◌, IfOk};
 ghost use Rattle.c65_base.specs.Answers.{Gives};
+ghost use Rattle.c65_base.specs.Limits.{limit_of};
+ghost use Rattle.c65_base.specs.declared.refusal.Size.TheVariants as sizes;
 ghost use Rattle.c65_ctype.specs.Places.{room, new_unit, structure_spot, union_spot, spot_for};
 
 use c65_base::{Refusal, Size};
@@ -34,10 +36,10 @@ fn more_room(
     spot: Spot,
 ) -> Result<(Spot, Cursor), Refusal>
     ensures exact { Gives (λ x. x) result (room cursor more unit spot) }
-    ensures small { IfOk result (λ x. x.1.end ≤ 65535) }
+    ensures small { IfOk result (λ x. x.1.end ≤ limit_of sizes.Object) }
 {
     let total = cursor.end as u64 + more as u64;
-    if total > 65_535 {
+    if total > Size::Object.number() {
         return Err(Refusal::TooLarge {
             limit: Size::Object,
             value: total,
@@ -50,7 +52,7 @@ fn more_room(
 /// The first bit-field of a new unit.
 fn in_new_unit(cursor: Cursor, width: u8) -> Result<(Spot, Cursor), Refusal>
     ensures exact { Gives (λ x. x) result (new_unit cursor width) }
-    ensures small { IfOk result (λ x. x.1.end ≤ 65535) }
+    ensures small { IfOk result (λ x. x.1.end ≤ limit_of sizes.Object) }
 {
     let offset = cursor.end;
     let unit = Some(BitUnit {
@@ -65,7 +67,7 @@ fn in_new_unit(cursor: Cursor, width: u8) -> Result<(Spot, Cursor), Refusal>
 /// does not fit begins the next unit, one of width 0 closes the unit, and so does any other member.
 fn in_structure(cursor: Cursor, size: u32, width: Option<u8>) -> Result<(Spot, Cursor), Refusal>
     ensures exact { Gives (λ x. x) result (structure_spot cursor size width) }
-    ensures small { IfOk result (λ x. x.1.end ≤ 65535) }
+    ensures small { IfOk result (λ x. x.1.end ≤ limit_of sizes.Object) }
 {
     let offset = cursor.end;
     let Some(width) = width else {
@@ -95,10 +97,10 @@ fn in_structure(cursor: Cursor, size: u32, width: Option<u8>) -> Result<(Spot, C
 
 /// A member of a union: at its first byte, or in the lowest bits of its first unit.
 fn in_union(cursor: Cursor, size: u32, width: Option<u8>) -> (Spot, Cursor)
-    requires end { cursor.end ≤ 65535 }
-    requires size { size ≤ 65535 }
+    requires end { cursor.end ≤ limit_of sizes.Object }
+    requires size { size ≤ limit_of sizes.Object }
     ensures exact { result ≡ union_spot cursor size width }
-    ensures small { result.1.end ≤ 65535 }
+    ensures small { result.1.end ≤ limit_of sizes.Object }
 {
     let bits = match width {
         None => None,
@@ -120,10 +122,10 @@ pub fn next_spot(
     size: u32,
     width: Option<u8>,
 ) -> Result<(Spot, Cursor), Refusal>
-    requires end { cursor.end ≤ 65535 }
-    requires size { size ≤ 65535 }
+    requires end { cursor.end ≤ limit_of sizes.Object }
+    requires size { size ≤ limit_of sizes.Object }
     ensures exact { Gives (λ x. x) result (spot_for is_union cursor size width) }
-    ensures small { IfOk result (λ x. x.1.end ≤ 65535) }
+    ensures small { IfOk result (λ x. x.1.end ≤ limit_of sizes.Object) }
 {
     if is_union {
         Ok(in_union(cursor, size, width))

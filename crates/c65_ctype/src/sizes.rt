@@ -1,8 +1,8 @@
 // Sizes of types.
 ghost use Rattle.std.specs.Prelude.{◌≡◌, ◌≤◌, IfOk};
 ghost use Rattle.c65_base.specs.Answers.{Gives};
-ghost use Rattle.c65_base.specs.declared.code.Code.TheVariants.{IncompleteType};
-ghost use Rattle.c65_base.specs.declared.refusal.Refusal.TheVariants.{At};
+ghost use Rattle.c65_base.specs.Limits.{limit_of};
+ghost use Rattle.c65_base.specs.declared.refusal.Size.TheVariants as sizes;
 ghost use Rattle.c65_ctype.specs.Views.{ty_of, types_of};
 ghost use Rattle.c65_ctype.specs.Sizes.{size_at, elements, bytes_of};
 
@@ -23,25 +23,16 @@ fn bytes(ty: IntType) -> u32
     }
 }
 
-fn incomplete(pos: Pos) -> Refusal
-    ensures { result ≡ At IncompleteType pos }
-{
-    Refusal::At {
-        code: Code::IncompleteType,
-        pos,
-    }
-}
-
 /// The bytes of so many elements.
 fn array_size(pos: Pos, count: Option<u32>, size: u32) -> Result<u32, Refusal>
     ensures exact { Gives (λ n. n) result (elements pos count size) }
-    ensures small { IfOk result (λ n. n ≤ 65535) }
+    ensures small { IfOk result (λ n. n ≤ limit_of sizes.Object) }
 {
     let Some(count) = count else {
-        return Err(incomplete(pos));
+        return Err(Refusal::fault(Code::IncompleteType, pos));
     };
     let total = size as u64 * count as u64;
-    if total > 65_535 {
+    if total > Size::Object.number() {
         return Err(Refusal::TooLarge {
             limit: Size::Object,
             value: total,
@@ -56,11 +47,11 @@ impl Types {
     /// 65,535 bytes. It takes no memory.
     pub fn size(&self, ty: &CType, pos: Pos) -> Result<u32, Refusal>
         ensures exact { Gives (λ n. n) result (size_at (types_of self.now) pos (ty_of ty.now)) }
-        ensures small { IfOk result (λ n. n ≤ 65535) }
+        ensures small { IfOk result (λ n. n ≤ limit_of sizes.Object) }
     {
         let _ = &self.table;
         match ty {
-            CType::Void | CType::Function(_) => Err(incomplete(pos)),
+            CType::Void | CType::Function(_) => Err(Refusal::fault(Code::IncompleteType, pos)),
             CType::Int(int) => Ok(bytes(*int)),
             CType::Pointer(_) => Ok(2),
             CType::Array(element, count) => {
@@ -69,7 +60,7 @@ impl Types {
             }
             CType::Struct(tag) => match self.get(*tag) {
                 Some(layout) => Ok(layout.size),
-                None => Err(incomplete(pos)),
+                None => Err(Refusal::fault(Code::IncompleteType, pos)),
             },
         }
     }
