@@ -1,4 +1,5 @@
-// Typed trees of made syntax trees.
+// Typed trees of made syntax trees: the types of operators' results for each pair of integer types (C90 6.2.1, 6.3), names that
+// were not declared, and the scope of a parameter's tag.
 use c65_base::{BinaryOp, Code, Name, Options, Pos, Refusal};
 use c65_csem::{TExpr, int_type};
 use c65_ctype::CType;
@@ -9,9 +10,38 @@ use c65_tree::{
     Specifiers,
 };
 use std::alloc::{AllocError, Global};
-use std::test::Fail;
 
 const HERE: Pos = Pos { file: 0, line: 1 };
+
+const KINDS: [IntType; 8] = [
+    IntType::UChar,
+    IntType::SChar,
+    IntType::Short,
+    IntType::UShort,
+    IntType::Int,
+    IntType::UInt,
+    IntType::Long,
+    IntType::ULong,
+];
+
+const OPERATORS: [BinaryOp; 16] = [
+    BinaryOp::Mul,
+    BinaryOp::Div,
+    BinaryOp::Rem,
+    BinaryOp::Add,
+    BinaryOp::Sub,
+    BinaryOp::Shl,
+    BinaryOp::Shr,
+    BinaryOp::Lt,
+    BinaryOp::Gt,
+    BinaryOp::Le,
+    BinaryOp::Ge,
+    BinaryOp::Eq,
+    BinaryOp::Ne,
+    BinaryOp::BitAnd,
+    BinaryOp::BitXor,
+    BinaryOp::BitOr,
+];
 
 fn scope(alloc: Global) -> Result<Scope, Refusal> {
     Scope::new(alloc, &Options::none())
@@ -19,6 +49,35 @@ fn scope(alloc: Global) -> Result<Scope, Refusal> {
 
 fn one(kind: IntType) -> Expr {
     Expr::number(HERE, kind, 1)
+}
+
+/// The type of an operator's result at constants of two types, if it is an integer type.
+fn result(
+    alloc: Global,
+    op: BinaryOp,
+    a: IntType,
+    b: IntType,
+) -> Result<Option<IntType>, Refusal> {
+    let mut scope = scope(alloc)?;
+    let tree = Expr::binary(alloc, HERE, op, one(a), one(b))?;
+    let typed = elab_expr(alloc, &mut scope, &tree)?;
+    Ok(match typed.ty.ty {
+        CType::Int(kind) => Some(kind),
+        _ => None,
+    })
+}
+
+/// Prints the types of an operator's results at a left operand of this type.
+fn show_results(rt: &HostRuntime, op: BinaryOp, a: IntType) -> Result<(), anyhow::Error> {
+    print!(rt; "{a:?} {op:?}:")?;
+    for b in KINDS {
+        match result(rt.alloc(), op, a, b)? {
+            Some(kind) => print!(rt; " {kind:?}")?,
+            None => print!(rt; " other")?,
+        }
+    }
+    println!(rt; "")?;
+    Ok(())
 }
 
 /// The code of a refusal with a place.
@@ -53,12 +112,6 @@ fn expressions(alloc: Global) -> Result<[bool; 3], Refusal> {
         code(undeclared) == Some(Code::Undeclared),
         code(sized) == Some(Code::Undeclared),
     ])
-}
-
-#[test]
-fn expressions_have_types(rt: HostRuntime) -> Result<(), Fail> {
-    assert!(rt; expressions(rt.alloc())? == [true; 3]);
-    Ok(())
 }
 
 fn int(alloc: Global) -> Result<Specifiers, AllocError> {
@@ -103,8 +156,14 @@ fn tags(alloc: Global) -> Result<[bool; 4], Refusal> {
     Ok([named, undeclared, inside, scope.find_tag(Name(2)).is_none()])
 }
 
-#[test]
-fn tags_of_parameters_are_of_the_body(rt: HostRuntime) -> Result<(), Fail> {
-    assert!(rt; tags(rt.alloc())? == [true; 4]);
+/// Prints the types of operators' results, and what holds of the other trees.
+pub fn show_trees(rt: &HostRuntime) -> Result<(), anyhow::Error> {
+    for op in OPERATORS {
+        for a in KINDS {
+            show_results(rt, op, a)?;
+        }
+    }
+    println!(rt; "expressions {:?}", expressions(rt.alloc())?)?;
+    println!(rt; "tags {:?}", tags(rt.alloc())?)?;
     Ok(())
 }
