@@ -9,9 +9,9 @@ use Rattle.c65_base.specs.declared.options.Cpu.TheVariants.{Nmos}
 use Rattle.c65_base.specs.declared.refusal.Refusal.{Refusal}
 use Rattle.c65_base.specs.declared.refusal.Refusal.TheVariants.{BadImage}
 use Rattle.c65_mach.specs.declared.image.Image.{Image}
-use Rattle.c65_mach.specs.Images.{IsBytes, BreaksAt, Breaks, bytes_of, IsLegal, Spells, fixed, wrong_in, word_in, late_fault, or_else, fault_of, image_of, Parses}
+use Rattle.c65_mach.specs.Images.{IsBytes, BreaksAt, Breaks, bytes_of, cpu_byte, Spells, fixed, wrong_in, cpu_fault, word_in, late_fault, or_else, fault_of, image_of, Parses}
 use Rattle.c65_mach.proofs.Loading.{take-past}
-use Rattle.c65_mach.proofs.Spelling.{spelled, right_start, no_late}
+use Rattle.c65_mach.proofs.Spelling.{spelled, right_start, no_late, cpu_named, cpu_right, small_code}
 
 abbrev zeros : ℕ → List ℕ
 zeros k = replicate k 0
@@ -20,6 +20,12 @@ zero_byte : (k i : ℕ) → get_or (zeros k) i 0 ≡ 0
 zero_byte zero i = refl
 zero_byte (suc k) zero = refl
 zero_byte (suc k) (suc i) = zero_byte k i
+
+-- zeros behind a list are what is read there anyway
+padded : (xs : List ℕ) (k i : ℕ) → get_or (xs ++ zeros k) i 0 ≡ get_or xs i 0
+padded [] k i = zero_byte k i
+padded (x ∷ xs) k zero = refl
+padded (x ∷ xs) k (suc i) = padded xs k i
 
 zero_bytes : (k : ℕ) → IsBytes (zeros k)
 zero_bytes k i = rw (zero_byte k i) (lit< tt)
@@ -100,19 +106,24 @@ late_some bytes o h =
       ]
     ]
 
--- a file that is right at its start and not too long is accepted
-accepted : (file tail : List ℕ) → IsBytes file → file ≡ fixed ++ tail → 12 ≤ length file → length file ≤ 12 + 65536 - word_in file 8 → Spells file (image_of file)
-accepted file tail are starts long short =
+cpu_some : (bytes : List ℕ) (o : ℕ) → cpu_fault bytes ≡ Some o → (o ≡ 6) × (1 < get_or bytes 6 0)
+cpu_some bytes o h =
+    elim (cases_lt 1 (get_or bytes 6 0)) [
+      | inl over ↦ (let there : ◌≡◌ {A = Option ℕ} (Some 6) (Some o) = rw (lt-ltb 1 (get_or bytes 6 0) over) at h in (cc, over))
+      | inr fits ↦ (let there : ◌≡◌ {A = Option ℕ} None (Some o) = rw (le-ltb 1 (get_or bytes 6 0) fits) at h in absurd cc)
+    ]
+
+-- a file that is right at its start, names a processor and is not too long is accepted
+accepted : (file tail : List ℕ) → IsBytes file → file ≡ fixed ++ tail → get_or file 6 0 < 2 → 12 ≤ length file → length file ≤ 12 + 65536 - word_in file 8 → Spells file (image_of file)
+accepted file tail are starts named long short =
     let start : wrong_in fixed file 0 ≡ None = subst (λ (xs : List ℕ). wrong_in fixed xs 0 ≡ None) (sym starts) refl in
-    spelled file are (rw start (no_late file long short))
+    spelled file are (rw (start, cpu_right file named) (no_late file long short))
 
 file_length : (image : Image) → length (bytes_of image) ≡ 12 + length image.payload
 file_length image = omega arith
 
-file_start : (image : Image) (k : ℕ) → IsLegal image → k < 7 → get_or (bytes_of image) k 0 ≡ get_or fixed k 0
-file_start image k legal h =
-    let P : Cpu → Type 0 = λ cpu. get_or (bytes_of (record image { cpu = cpu })) k 0 ≡ get_or fixed k 0 in
-    subst P (sym legal.cpu) (get_or_append_left fixed (image.sp ∷ image.load % 256 ∷ image.load / 256 ∷ image.reset % 256 ∷ image.reset / 256 ∷ image.payload) 0 k h)
+file_start : (image : Image) (k : ℕ) → k < 6 → get_or (bytes_of image) k 0 ≡ get_or fixed k 0
+file_start image k h = get_or_append_left fixed (cpu_byte image.cpu ∷ image.sp ∷ image.load % 256 ∷ image.load / 256 ∷ image.reset % 256 ∷ image.reset / 256 ∷ image.payload) 0 k h
 
 file_load : (image : Image) → word_in (bytes_of image) 8 ≡ image.load
 file_load image = omega arith
@@ -123,29 +134,47 @@ front_byte bytes rest n k h fits = get_or_append_left (take n bytes) rest 0 k (r
 
 wrong_breaks : (bytes : List ℕ) (o : ℕ) → WrongAt fixed bytes o → BreaksAt bytes o
 wrong_breaks bytes o w =
-    let inside : o < 7 = w.inside in
-    let front : take o bytes ≡ take o (bytes_of least) = w.same ∙ sym (take-append-le o fixed (0 ∷ 0 ∷ 0 ∷ 0 ∷ 0 ∷ []) (omega arith)) in
+    let inside : o < 6 = w.inside in
+    let front : take o bytes ≡ take o (bytes_of least) = w.same ∙ sym (take-append-le o fixed (0 ∷ 0 ∷ 0 ∷ 0 ∷ 0 ∷ 0 ∷ []) (omega arith)) in
     let whole : take o bytes ++ drop o (bytes_of least) ≡ bytes_of least = rw front (take-append-drop o (bytes_of least)) in
     record {
       within = w.within;
-      begins = (drop o (bytes_of least), least, bytes_drop o (bytes_of least) least_bytes, (record { cpu = refl; fits = omega arith }, whole));
+      begins = (drop o (bytes_of least), least, bytes_drop o (bytes_of least) least_bytes, (record { fits = omega arith }, whole));
       no_further = λ short (rest, image, are, spells).
           let left : get_or (take (o + 1) bytes ++ rest) o 0 ≡ get_or bytes o 0 = front_byte bytes rest (o + 1) o (omega arith) (omega (arith, short)) in
-          let right : get_or (bytes_of image) o 0 ≡ get_or fixed o 0 = file_start image o spells.0 inside in
+          let right : get_or (bytes_of image) o 0 ≡ get_or fixed o 0 = file_start image o inside in
           w.other short (sym left ∙ ap (λ (xs : List ℕ). get_or xs o 0) spells.1 ∙ right);
       cut = λ ends image spells. (let size : length bytes ≡ length (bytes_of image) = ap length spells.1 in absurd (omega (arith, size, file_length image)));
     }
 
-short_breaks : (bytes : List ℕ) (o : ℕ) → IsBytes bytes → wrong_in fixed bytes 0 ≡ None → length bytes < 12 → o ≡ length bytes → BreaksAt bytes o
-short_breaks bytes o are right short ends =
+cpu_breaks : (bytes : List ℕ) → wrong_in fixed bytes 0 ≡ None → 1 < get_or bytes 6 0 → BreaksAt bytes 6
+cpu_breaks bytes right none =
+    let start : bytes ≡ fixed ++ drop 6 bytes = right_start fixed bytes 0 right in
+    let whole : length bytes ≡ length (fixed ++ drop 6 bytes) = ap length start in
+    let size : length bytes ≡ 6 + length (drop 6 bytes) = omega (arith, whole) in
+    let front : take 6 bytes ≡ fixed = ap (take 6) start in
+    record {
+      within = omega (arith, size);
+      begins = rw front (zeros 6, least, zero_bytes 6, (record { fits = omega arith }, refl));
+      no_further = λ short (rest, image, rest_are, spells).
+          let left : get_or (take 7 bytes ++ rest) 6 0 ≡ get_or bytes 6 0 = front_byte bytes rest 7 6 (omega arith) (omega (arith, short)) in
+          let right : get_or (take 7 bytes ++ rest) 6 0 ≡ cpu_byte image.cpu = ap (λ (xs : List ℕ). get_or xs 6 0) spells.1 in
+          let small = small_code image.cpu in
+          omega (arith, left, right, small, none);
+      cut = λ ends image spells. (let whole : length bytes ≡ length (bytes_of image) = ap length spells.1 in absurd (omega (arith, ends, whole, file_length image)));
+    }
+
+short_breaks : (bytes : List ℕ) (o : ℕ) → IsBytes bytes → wrong_in fixed bytes 0 ≡ None → cpu_fault bytes ≡ None → length bytes < 12 → o ≡ length bytes → BreaksAt bytes o
+short_breaks bytes o are right named short ends =
     let rest : List ℕ = replicate (12 - length bytes) 0 in
     let file : List ℕ = bytes ++ rest in
     let count : length rest ≡ 12 - length bytes = length-replicate {A = ℕ} (12 - length bytes) 0 in
     let size : length file ≡ 12 = length-append bytes rest ∙ omega arith in
     let all : IsBytes file = bytes_append bytes rest are (zero_bytes (12 - length bytes)) in
-    let starts : file ≡ fixed ++ (drop 7 bytes ++ rest) = ap (λ (xs : List ℕ). xs ++ rest) (right_start fixed bytes 0 right) ∙ append_assoc fixed (drop 7 bytes) rest in
+    let starts : file ≡ fixed ++ (drop 6 bytes ++ rest) = ap (λ (xs : List ℕ). xs ++ rest) (right_start fixed bytes 0 right) ∙ append_assoc fixed (drop 6 bytes) rest in
+    let code : get_or file 6 0 < 2 = rw (padded bytes (12 - length bytes) 6) (cpu_named bytes named) in
     let low : word_in file 8 < 65536 = (let a = all 8 in let b = all 9 in omega arith) in
-    let spells : Spells file (image_of file) = accepted file _ all starts (omega arith) (omega arith) in
+    let spells : Spells file (image_of file) = accepted file _ all starts code (omega arith) (omega arith) in
     let whole : take o bytes ≡ bytes = take_all o bytes (omega arith) in
     record {
       within = omega arith;
@@ -154,14 +183,15 @@ short_breaks bytes o are right short ends =
       cut = λ same image spelt. (let long : length bytes ≡ length (bytes_of image) = ap length spelt.1 in absurd (omega (arith, long, file_length image)));
     }
 
-long_breaks : (bytes : List ℕ) (o : ℕ) → IsBytes bytes → wrong_in fixed bytes 0 ≡ None → 12 ≤ length bytes → o ≡ 12 + 65536 - word_in bytes 8 → o < length bytes → BreaksAt bytes o
-long_breaks bytes o are right long is over =
+long_breaks : (bytes : List ℕ) (o : ℕ) → IsBytes bytes → wrong_in fixed bytes 0 ≡ None → cpu_fault bytes ≡ None → 12 ≤ length bytes → o ≡ 12 + 65536 - word_in bytes 8 → o < length bytes → BreaksAt bytes o
+long_breaks bytes o are right named long is over =
     let file : List ℕ = take o bytes in
     let low : word_in bytes 8 < 65536 = (let a = are 8 in let b = are 9 in omega arith) in
     let size : length file ≡ o = length-take-le o bytes (omega arith) in
-    let starts : file ≡ fixed ++ take (o - 7) (drop 7 bytes) = ap (take o) (right_start fixed bytes 0 right) ∙ take-past fixed (drop 7 bytes) o (o - 7) (omega arith) in
+    let starts : file ≡ fixed ++ take (o - 6) (drop 6 bytes) = ap (take o) (right_start fixed bytes 0 right) ∙ take-past fixed (drop 6 bytes) o (o - 6) (omega arith) in
+    let code : get_or file 6 0 < 2 = rw (get_or-take o bytes 6 0 (omega arith)) (cpu_named bytes named) in
     let word : word_in file 8 ≡ word_in bytes 8 = rw (get_or-take o bytes 8 0 (omega arith), get_or-take o bytes 9 0 (omega arith)) refl in
-    let spells : Spells file (image_of file) = accepted file _ (bytes_take o bytes are) starts (omega arith) (omega arith) in
+    let spells : Spells file (image_of file) = accepted file _ (bytes_take o bytes are) starts code (omega arith) (omega arith) in
     record {
       within = omega arith;
       begins = ([], image_of file, zero_bytes 0, rw (append-nil file) spells);
@@ -179,11 +209,14 @@ long_breaks bytes o are right long is over =
 
 breaks_at : (bytes : List ℕ) (o : ℕ) → IsBytes bytes → fault_of bytes ≡ Some o → BreaksAt bytes o
 breaks_at bytes o are h =
-    elim (either (wrong_in fixed bytes 0) (late_fault bytes) o h) [
+    elim (either (wrong_in fixed bytes 0) (or_else (cpu_fault bytes) (late_fault bytes)) o h) [
       | inl wrong ↦ (let place = wrong_place fixed bytes 0 o wrong in let same : place.0 ≡ o = omega (arith, place.1) in subst (λ (k : ℕ). BreaksAt bytes k) same (wrong_breaks bytes place.0 place.2))
-      | inr late ↦ elim (late_some bytes o late.1) [
-        | inl short ↦ short_breaks bytes o are late.0 short.0 short.1
-        | inr long ↦ long_breaks bytes o are late.0 long.0 long.1 long.2
+      | inr later ↦ elim (either (cpu_fault bytes) (late_fault bytes) o later.1) [
+        | inl unnamed ↦ (let code = cpu_some bytes o unnamed in subst (λ (k : ℕ). BreaksAt bytes k) (sym code.0) (cpu_breaks bytes later.0 code.1))
+        | inr late ↦ elim (late_some bytes o late.1) [
+          | inl short ↦ short_breaks bytes o are later.0 late.0 short.0 short.1
+          | inr long ↦ long_breaks bytes o are later.0 late.0 long.0 long.1 long.2
+        ]
       ]
     ]
 

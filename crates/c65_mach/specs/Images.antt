@@ -14,9 +14,8 @@ cpu_byte Cmos = 1
 abbrev pub bytes_of : Image → List ℕ
 bytes_of image = codes "sim65" ++ 2 ∷ cpu_byte image.cpu ∷ image.sp ∷ image.load % 256 ∷ image.load / 256 ∷ image.reset % 256 ∷ image.reset / 256 ∷ image.payload
 
--- an image whose file is accepted: it is for the 6502, and its payload ends at or below $FFFF
+-- an image whose file is accepted: its payload ends at or below $FFFF
 pub record IsLegal (image : Image) : Type 0 where
-  pub cpu : image.cpu ≡ Nmos
   pub fits : image.load + length image.payload ≤ 65536
 
 -- an accepted file, and the image that it spells
@@ -42,9 +41,17 @@ abbrev pub Breaks : List ℕ → Refusal → Type 0
 Breaks bytes (BadImage offset) = BreaksAt bytes offset
 Breaks bytes _ = Unit {0}
 
--- the bytes that each accepted file begins with: `sim65`, the version 2 and the processor 0
+-- the bytes that each accepted file begins with: `sim65` and the version 2
 abbrev pub fixed : List ℕ
-fixed = codes "sim65" ++ 2 ∷ 0 ∷ []
+fixed = codes "sim65" ++ 2 ∷ []
+
+-- the processor that a byte names, where it is 0 or 1
+abbrev pub cpu_of : ℕ → Cpu
+cpu_of byte = if byte == 0 then Nmos else Cmos
+
+-- a byte behind the fixed part that names no processor
+abbrev pub cpu_fault : List ℕ → Option ℕ
+cpu_fault bytes = if nat_lt 1 (slice_index bytes 6) then Some 6 else None
 
 -- the offset of the first byte that is wrong or is not there, counted from here
 abbrev pub wrong_in : List ℕ → List ℕ → ℕ → Option ℕ
@@ -67,11 +74,11 @@ or_else None other = other
 
 -- the first offset that breaks the form
 abbrev pub fault_of : List ℕ → Option ℕ
-fault_of bytes = or_else (wrong_in fixed bytes 0) (late_fault bytes)
+fault_of bytes = or_else (wrong_in fixed bytes 0) (or_else (cpu_fault bytes) (late_fault bytes))
 
 -- what a file without a fault spells
 abbrev pub image_of : List ℕ → Image
-image_of bytes = record { cpu = Nmos; sp = slice_index bytes 7; load = word_in bytes 8; reset = word_in bytes 10; payload = drop 12 bytes }
+image_of bytes = record { cpu = cpu_of (slice_index bytes 6); sp = slice_index bytes 7; load = word_in bytes 8; reset = word_in bytes 10; payload = drop 12 bytes }
 
 -- what reading a file answers: the image that it spells, or its fault
 abbrev pub RefusesFor : Option ℕ → Refusal → Type 0

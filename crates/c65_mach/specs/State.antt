@@ -1,5 +1,7 @@
 -- The machine's state on whole numbers.
 use Rattle.std.specs.Prelude.{ℕ, Bool, false, List, ◌++◌, replicate, take, slice_index, slice_set}
+use Rattle.c65_base.specs.declared.options.Cpu.{Cpu}
+use Rattle.c65_base.specs.declared.options.Cpu.TheVariants.{Nmos}
 use Rattle.c65_mach.specs.declared.image.Image.{Image}
 
 -- the registers and flags that operations read and set
@@ -23,6 +25,7 @@ abbrev pub write : Memory → ℕ → ℕ → Memory
 write m at v = slice_set m at v
 
 pub record State : Type 0 where
+  pub cpu : Cpu
   pub regs : Regs
   pub s : ℕ
   pub d : Bool
@@ -30,9 +33,10 @@ pub record State : Type 0 where
   pub pc : ℕ
   pub mem : Memory
 
--- no registers, flags or memory but S, which is $FF
+-- a 6502 with no registers, flags or memory but S, which is $FF
 abbrev pub zero_state : State
 zero_state = record {
+  cpu = Nmos;
   regs = record { a = 0; x = 0; y = 0; n = false; v = false; z = false; c = false };
   s = 255;
   d = false;
@@ -47,4 +51,4 @@ loaded_memory image = take 65536 (replicate image.load 0 ++ (image.payload ++ re
 
 -- the state from which a run of an image begins
 abbrev pub loaded : Image → State
-loaded image = record zero_state { pc = image.reset; mem = loaded_memory image }
+loaded image = record zero_state { cpu = image.cpu; pc = image.reset; mem = loaded_memory image }

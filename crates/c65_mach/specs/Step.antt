@@ -1,14 +1,17 @@
--- One row of a run, on whole numbers (MCS6500 Programming Manual; decimal mode by this project's own formulas).
+-- One row of a run, on whole numbers (MCS6500 Programming Manual; decimal mode by this project's own formulas). What the 65C02
+-- adds to the 6502 is said beside it.
 use Rattle.std.specs.Prelude.{◌≡◌, ℕ, ◌+◌, ◌-◌, ◌*◌, ◌/◌, ◌%◌, Bool, true, false, Option, Some, None, Result, Ok, Err, if◌then◌else◌, ◌==◌, ◌&&◌, nat_lt, bit_and, bit_or, bit_xor}
+use Rattle.c65_base.specs.declared.options.Cpu.{Cpu}
+use Rattle.c65_base.specs.declared.options.Cpu.TheVariants.{Nmos, Cmos}
 use Rattle.c65_base.specs.declared.refusal.Refusal.{Refusal}
 use Rattle.c65_base.specs.declared.refusal.Refusal.TheVariants.{Illegal}
 use Rattle.c65_mach.specs.declared.rows.Row.{Row}
 use Rattle.c65_mach.specs.declared.rows.Op.{Op}
-use Rattle.c65_mach.specs.declared.rows.Op.TheVariants.{Adc, And, Asl, Bcc, Bcs, Beq, Bit, Bmi, Bne, Bpl, Brk, Bvc, Bvs, Clc, Cld, Cli, Clv, Cmp, Cpx, Cpy, Dec, Dex, Dey, Eor, Inc, Inx, Iny, Jmp, Jsr, Lda, Ldx, Ldy, Lsr, Nop, Ora, Pha, Php, Pla, Plp, Rol, Ror, Rti, Rts, Sbc, Sec, Sed, Sei, Sta, Stx, Sty, Tax, Tay, Tsx, Txa, Txs, Tya}
+use Rattle.c65_mach.specs.declared.rows.Op.TheVariants.{Adc, And, Asl, Bcc, Bcs, Beq, Bit, Bmi, Bne, Bpl, Bra, Brk, Bvc, Bvs, Clc, Cld, Cli, Clv, Cmp, Cpx, Cpy, Dec, Dex, Dey, Eor, Inc, Inx, Iny, Jmp, Jsr, Lda, Ldx, Ldy, Lsr, Nop, Ora, Pha, Php, Phx, Phy, Pla, Plp, Plx, Ply, Rol, Ror, Rti, Rts, Sbc, Sec, Sed, Sei, Sta, Stx, Sty, Stz, Tax, Tay, Trb, Tsb, Tsx, Txa, Txs, Tya}
 use Rattle.c65_mach.specs.declared.rows.Mode.{Mode}
-use Rattle.c65_mach.specs.declared.rows.Mode.TheVariants.{Implied, Accumulator, Immediate, ZeroPage, ZeroPageX, ZeroPageY, Absolute, AbsoluteX, AbsoluteY, IndirectX, IndirectY, Indirect, Relative}
+use Rattle.c65_mach.specs.declared.rows.Mode.TheVariants.{Implied, Accumulator, Immediate, ZeroPage, ZeroPageX, ZeroPageY, Absolute, AbsoluteX, AbsoluteY, IndirectX, IndirectY, Indirect, Relative, ZeroPageIndirect, AbsoluteIndirectX}
 use Rattle.c65_mach.specs.State.{Regs, State, Memory, read, write}
-use Rattle.c65_mach.specs.Table.{row_of}
+use Rattle.c65_mach.specs.Table.{row_for}
 
 -- addresses wrap at 65,536
 abbrev pub after : ℕ → ℕ → ℕ
@@ -35,6 +38,8 @@ size_of IndirectX = 2
 size_of IndirectY = 2
 size_of Indirect = 3
 size_of Relative = 2
+size_of ZeroPageIndirect = 2
+size_of AbsoluteIndirectX = 3
 
 -- an address, and whether an index led it into another page
 abbrev pub Place : Type 0
@@ -46,9 +51,10 @@ direct at = (at, false)
 abbrev pub indexed : ℕ → ℕ → Place
 indexed base index = (after base index, nat_lt 255 (base % 256 + index))
 
--- where the word of an indirect jump has its high byte
-abbrev pub page_next : ℕ → ℕ
-page_next at = 256 * (at / 256) + (at + 1) % 256
+-- where the word of an indirect jump has its high byte: the 6502 stays in the page, and the 65C02 goes on
+abbrev pub jump_next : Cpu → ℕ → ℕ
+jump_next Nmos at = 256 * (at / 256) + (at + 1) % 256
+jump_next Cmos at = after at 1
 
 abbrev pub branched : ℕ → ℕ → ℕ
 branched next offset = after next (if nat_lt offset 128 then offset else 65280 + offset)
@@ -66,8 +72,10 @@ place_of AbsoluteX t = indexed (word_at t.mem (after t.pc 1)) t.regs.x
 place_of AbsoluteY t = indexed (word_at t.mem (after t.pc 1)) t.regs.y
 place_of IndirectX t = direct (zero_word t.mem ((read t.mem (after t.pc 1) + t.regs.x) % 256))
 place_of IndirectY t = indexed (zero_word t.mem (read t.mem (after t.pc 1))) t.regs.y
-place_of Indirect t = let at = word_at t.mem (after t.pc 1) in direct (read t.mem at + 256 * read t.mem (page_next at))
+place_of Indirect t = let at = word_at t.mem (after t.pc 1) in direct (read t.mem at + 256 * read t.mem (jump_next t.cpu at))
 place_of Relative t = let next = after t.pc 2 in let to = branched next (read t.mem (after t.pc 1)) in (to, if next / 256 == to / 256 then false else true)
+place_of ZeroPageIndirect t = direct (zero_word t.mem (read t.mem (after t.pc 1)))
+place_of AbsoluteIndirectX t = direct (word_at t.mem (after (word_at t.mem (after t.pc 1)) t.regs.x))
 
 abbrev pub negative : ℕ → Bool
 negative v = nat_lt 127 v
@@ -156,6 +164,7 @@ apply d _ v r = r
 abbrev pub stored : Op → Regs → ℕ
 stored Stx r = r.x
 stored Sty r = r.y
+stored Stz r = 0
 stored _ r = r.a
 
 -- what an operation makes of its operand, and the carry after it
@@ -177,6 +186,7 @@ is_taken Beq r = r.z
 is_taken Bmi r = r.n
 is_taken Bne r = is_not r.z
 is_taken Bpl r = is_not r.n
+is_taken Bra r = true
 is_taken Bvc r = is_not r.v
 is_taken _ r = r.v
 
@@ -240,6 +250,7 @@ kind_of Bit = Reads
 kind_of Bmi = Branches
 kind_of Bne = Branches
 kind_of Bpl = Branches
+kind_of Bra = Branches
 kind_of Brk = Moves
 kind_of Bvc = Branches
 kind_of Bvs = Branches
@@ -267,8 +278,12 @@ kind_of Nop = Registers
 kind_of Ora = Reads
 kind_of Pha = Moves
 kind_of Php = Moves
+kind_of Phx = Moves
+kind_of Phy = Moves
 kind_of Pla = Moves
 kind_of Plp = Moves
+kind_of Plx = Moves
+kind_of Ply = Moves
 kind_of Rol = Changes
 kind_of Ror = Changes
 kind_of Rti = Moves
@@ -280,33 +295,51 @@ kind_of Sei = Moves
 kind_of Sta = Stores
 kind_of Stx = Stores
 kind_of Sty = Stores
+kind_of Stz = Stores
 kind_of Tax = Registers
 kind_of Tay = Registers
+kind_of Trb = Moves
+kind_of Tsb = Moves
 kind_of Tsx = Moves
 kind_of Txa = Registers
 kind_of Txs = Moves
 kind_of Tya = Registers
 
--- the operations on other parts: pc, the stack, and the flags D and I
+-- TSB and TRB: Z tells whether A and the byte share no bit, and the byte is changed
+abbrev pub marked : ℕ → ℕ → State → State
+marked at to t = record t { regs = record t.regs { z = bit_and t.regs.a (read t.mem at) == 0 }; mem = write t.mem at to }
+
+-- the operations on other parts: pc, the stack, the flags D and I, and bits of memory
 abbrev pub moved : Op → ℕ → State → State
 moved Brk at t = broken t
 moved Jsr at t = called at t
 moved Pha at t = push t.regs.a t
 moved Php at t = push (packed t) t
+moved Phx at t = push t.regs.x t
+moved Phy at t = push t.regs.y t
 moved Pla at t = let u = dropped t in record u { regs = with_a (pulled t) u.regs }
 moved Plp at t = flags_pulled t
+moved Plx at t = let u = dropped t in record u { regs = with_x (pulled t) u.regs }
+moved Ply at t = let u = dropped t in record u { regs = with_y (pulled t) u.regs }
 moved Rti at t = returned 0 (flags_pulled t)
 moved Rts at t = returned 1 t
 moved Cld at t = record t { d = false }
 moved Cli at t = record t { i = false }
 moved Sed at t = record t { d = true }
 moved Sei at t = record t { i = true }
+moved Trb at t = marked at (bit_and (read t.mem at) (255 - t.regs.a)) t
+moved Tsb at t = marked at (bit_or (read t.mem at) t.regs.a) t
 moved Tsx at t = record t { regs = with_x t.s t.regs }
 moved Txs at t = record t { s = t.regs.x }
 moved _ at t = record t { pc = at }
 
+-- what an operation that reads makes of its operand: BIT with a number sets Z alone
+abbrev pub read_by : Op → Mode → Bool → ℕ → Regs → Regs
+read_by Bit Immediate d v r = record r { z = bit_and r.a v == 0 }
+read_by op mode d v r = apply d op v r
+
 abbrev pub act_by : Kind → Op → Mode → ℕ → State → State
-act_by Reads op mode at t = record t { regs = apply t.d op (read t.mem at) t.regs }
+act_by Reads op mode at t = record t { regs = read_by op mode t.d (read t.mem at) t.regs }
 act_by Stores op mode at t = record t { mem = write t.mem at (stored op t.regs) }
 act_by Changes op mode at t = change op mode at t
 act_by Branches op mode at t = branch (is_taken op t.regs) at t
@@ -321,8 +354,10 @@ act op mode at t = act_by (kind_of op) op mode at t
 abbrev pub done : Row → State → State
 done row t = act row.op row.mode (place_of row.mode t).0 (record t { pc = after t.pc (size_of row.mode) })
 
--- one more cycle for another page; a branch that is taken has one more, and one for another page
+-- One more cycle for another page. A branch that is taken has one more, and one for another page; BRA, which is always taken,
+-- has the first in its row.
 abbrev pub more_cycles : Mode → Op → Bool → Bool → Regs → ℕ
+more_cycles Relative Bra page crosses r = bit crosses
 more_cycles Relative op page crosses r = if is_taken op r then 1 + bit crosses else 0
 more_cycles _ op page crosses r = bit (page && crosses)
 
@@ -331,7 +366,7 @@ abbrev pub cycles_of : Row → State → ℕ
 cycles_of row t = row.cycles + more_cycles row.mode row.op row.page (place_of row.mode t).1 t.regs
 
 abbrev pub row_at : State → Option Row
-row_at t = row_of (read t.mem t.pc)
+row_at t = row_for t.cpu (read t.mem t.pc)
 
 abbrev pub step_by : Option Row → State → Option State
 step_by None t = None
@@ -351,4 +386,6 @@ pushes Brk = 3
 pushes Jsr = 2
 pushes Pha = 1
 pushes Php = 1
+pushes Phx = 1
+pushes Phy = 1
 pushes _ = 0

@@ -1,10 +1,13 @@
--- The table of opcodes: one row for each of the 151 (MCS6500 Programming Manual, appendices A and B).
+-- The table of opcodes of the 6502: one row for each of the 151 (MCS6500 Programming Manual, appendices A and B).
+-- The 65C02 has these rows and its own; a row of its own stands before that of the 6502.
 use Rattle.std.specs.Prelude.{ℕ, Option, Some, None, Bool, true, false, if◌then◌else◌, ◌==◌, List, [], ◌∷◌}
+use Rattle.c65_base.specs.declared.options.Cpu.{Cpu}
+use Rattle.c65_base.specs.declared.options.Cpu.TheVariants.{Nmos, Cmos}
 use Rattle.c65_mach.specs.declared.rows.Row.{Row}
 use Rattle.c65_mach.specs.declared.rows.Op.{Op}
-use Rattle.c65_mach.specs.declared.rows.Op.TheVariants.{Adc, And, Asl, Bcc, Bcs, Beq, Bit, Bmi, Bne, Bpl, Brk, Bvc, Bvs, Clc, Cld, Cli, Clv, Cmp, Cpx, Cpy, Dec, Dex, Dey, Eor, Inc, Inx, Iny, Jmp, Jsr, Lda, Ldx, Ldy, Lsr, Nop, Ora, Pha, Php, Pla, Plp, Rol, Ror, Rti, Rts, Sbc, Sec, Sed, Sei, Sta, Stx, Sty, Tax, Tay, Tsx, Txa, Txs, Tya}
+use Rattle.c65_mach.specs.declared.rows.Op.TheVariants.{Adc, And, Asl, Bcc, Bcs, Beq, Bit, Bmi, Bne, Bpl, Bra, Brk, Bvc, Bvs, Clc, Cld, Cli, Clv, Cmp, Cpx, Cpy, Dec, Dex, Dey, Eor, Inc, Inx, Iny, Jmp, Jsr, Lda, Ldx, Ldy, Lsr, Nop, Ora, Pha, Php, Phx, Phy, Pla, Plp, Plx, Ply, Rol, Ror, Rti, Rts, Sbc, Sec, Sed, Sei, Sta, Stx, Sty, Stz, Tax, Tay, Trb, Tsb, Tsx, Txa, Txs, Tya}
 use Rattle.c65_mach.specs.declared.rows.Mode.{Mode}
-use Rattle.c65_mach.specs.declared.rows.Mode.TheVariants.{Implied, Accumulator, Immediate, ZeroPage, ZeroPageX, ZeroPageY, Absolute, AbsoluteX, AbsoluteY, IndirectX, IndirectY, Indirect, Relative}
+use Rattle.c65_mach.specs.declared.rows.Mode.TheVariants.{Implied, Accumulator, Immediate, ZeroPage, ZeroPageX, ZeroPageY, Absolute, AbsoluteX, AbsoluteY, IndirectX, IndirectY, Indirect, Relative, ZeroPageIndirect, AbsoluteIndirectX}
 
 pub record Entry : Type 0 where
   pub byte : ℕ
@@ -174,3 +177,45 @@ found byte (e ∷ es) = if byte == e.byte then Some e.row else found byte es
 
 unfoldable pub row_of : ℕ → Option Row
 row_of byte = found byte table
+
+-- the 65C02's own rows: those that it adds, and `JMP (abs)`, which takes 6 cycles there
+abbrev pub own_rows : List Entry
+own_rows =
+    entry 0x04 Tsb ZeroPage 5 false ∷
+    entry 0x0C Tsb Absolute 6 false ∷
+    entry 0x12 Ora ZeroPageIndirect 5 false ∷
+    entry 0x14 Trb ZeroPage 5 false ∷
+    entry 0x1A Inc Accumulator 2 false ∷
+    entry 0x1C Trb Absolute 6 false ∷
+    entry 0x32 And ZeroPageIndirect 5 false ∷
+    entry 0x34 Bit ZeroPageX 4 false ∷
+    entry 0x3A Dec Accumulator 2 false ∷
+    entry 0x3C Bit AbsoluteX 4 true ∷
+    entry 0x52 Eor ZeroPageIndirect 5 false ∷
+    entry 0x5A Phy Implied 3 false ∷
+    entry 0x64 Stz ZeroPage 3 false ∷
+    entry 0x6C Jmp Indirect 6 false ∷
+    entry 0x72 Adc ZeroPageIndirect 5 false ∷
+    entry 0x74 Stz ZeroPageX 4 false ∷
+    entry 0x7A Ply Implied 4 false ∷
+    entry 0x7C Jmp AbsoluteIndirectX 6 false ∷
+    entry 0x80 Bra Relative 3 true ∷
+    entry 0x89 Bit Immediate 2 false ∷
+    entry 0x92 Sta ZeroPageIndirect 5 false ∷
+    entry 0x9C Stz Absolute 4 false ∷
+    entry 0x9E Stz AbsoluteX 5 false ∷
+    entry 0xB2 Lda ZeroPageIndirect 5 false ∷
+    entry 0xD2 Cmp ZeroPageIndirect 5 false ∷
+    entry 0xDA Phx Implied 3 false ∷
+    entry 0xF2 Sbc ZeroPageIndirect 5 false ∷
+    entry 0xFA Plx Implied 4 false ∷
+    []
+
+abbrev pub or_row : Option Row → Option Row → Option Row
+or_row (Some row) other = Some row
+or_row None other = other
+
+-- the row that a processor has for an opcode
+unfoldable pub row_for : Cpu → ℕ → Option Row
+row_for Nmos byte = row_of byte
+row_for Cmos byte = or_row (found byte own_rows) (row_of byte)

@@ -1,6 +1,6 @@
 // What a run starts from, and its form as a file.
-ghost use Rattle.std.specs.Prelude.{◌≡◌, ◌+◌, ◌<◌, ◌≤◌, length, IfOk, IfErr, IfNone, MatchResult, ◌/◌, ◌%◌, ◌∷◌, []};
-ghost use Rattle.c65_mach.specs.Images.{bytes_of, cpu_byte, word_in, wrong_in, fixed, fault_of, Spells, Breaks, Parses};
+ghost use Rattle.std.specs.Prelude.{◌≡◌, ◌+◌, ◌<◌, ◌≤◌, length, IfOk, IfErr, IfNone, MatchResult, nat_lt, slice_index, ◌/◌, ◌%◌, ◌∷◌, []};
+ghost use Rattle.c65_mach.specs.Images.{bytes_of, cpu_byte, cpu_of, word_in, wrong_in, fixed, fault_of, Spells, Breaks, Parses};
 
 use c65_base::{Cpu, Refusal, Text};
 use std::alloc::Global;
@@ -54,7 +54,7 @@ impl Image {
 
     /// The image that a file spells. A file that spells none is refused as `BadImage`, with the first offset that
     /// breaks the form: a byte that is wrong, the end of a header that is cut off, or the first byte of the payload
-    /// that would pass $FFFF. Files for the 65C02 are not accepted. Any other refusal is for want of memory.
+    /// that would pass $FFFF. Any other refusal is for want of memory.
     pub fn parse(alloc: Global, bytes: &[u8]) -> Result<Image, Refusal>
         ensures found { IfOk result (λ image. Spells bytes.now image) }
         ensures only { (image : Image) → Spells bytes.now image → MatchResult result (λ read. read ≡ image) (λ refusal. refusal ≡ Refusal.OutOfMemory) }
@@ -72,7 +72,7 @@ impl Image {
         }
         let payload = Text::copy_of(alloc, &bytes[HEADER..])?;
         Ok(Image {
-            cpu: Cpu::Nmos,
+            cpu: cpu(bytes[6]),
             sp: bytes[7],
             load: word(bytes, 8),
             reset: word(bytes, 10),
@@ -87,6 +87,15 @@ fn cpu_code(cpu: Cpu) -> u8
     match cpu {
         Cpu::Nmos => 0,
         Cpu::Cmos => 1,
+    }
+}
+
+fn cpu(code: u8) -> Cpu
+    ensures { result ≡ cpu_of code }
+{
+    match code {
+        0 => Cpu::Nmos,
+        _ => Cpu::Cmos,
     }
 }
 
@@ -107,12 +116,19 @@ fn word(bytes: &[u8], at: usize) -> u16
 fn wrong_start(bytes: &[u8]) -> Option<u32>
     ensures { result ≡ wrong_in fixed bytes.now 0 }
 {
-    for (at, want) in b"sim65\x02\x00".iter().enumerate() {
+    for (at, want) in b"sim65\x02".iter().enumerate() {
         if at >= bytes.len() || bytes[at] != *want {
             return Some(at as u32);
         }
     }
     None
+}
+
+// The byte of the processor is there and is neither 0 nor 1.
+fn names_no_cpu(bytes: &[u8]) -> bool
+    ensures { result ≡ nat_lt 1 (slice_index bytes.now 6) }
+{
+    bytes.len() > 6 && bytes[6] > 1
 }
 
 fn first_fault(bytes: &[u8]) -> Option<u32>
@@ -121,6 +137,9 @@ fn first_fault(bytes: &[u8]) -> Option<u32>
 {
     if let Some(at) = wrong_start(bytes) {
         return Some(at);
+    }
+    if names_no_cpu(bytes) {
+        return Some(6);
     }
     if bytes.len() < HEADER {
         return Some(bytes.len() as u32);

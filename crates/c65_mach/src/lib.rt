@@ -11,4 +11,4 @@ mod tests;
 pub use image::Image;
 pub use machine::{Machine, step};
 pub use registers::Regs;
-pub use rows::{Mode, Op, Row, decode};
+pub use rows::{Mode, Op, Row, decode, decode_for};

@@ -11,14 +11,15 @@ mod row;
 
 use crate::image::Image;
 use crate::registers::Regs;
-use c65_base::Refusal;
+use c65_base::{Cpu, Refusal};
 pub use row::step;
 use std::alloc::Global;
 use std::marker::Model;
 
-/// Registers, flags and 65,536 bytes of memory.
+/// A processor of either kind with its registers and flags, and 65,536 bytes of memory.
 #[derive(Drop)]
 pub struct Machine {
+    cpu: Cpu,
     a: u8,
     x: u8,
     y: u8,
@@ -39,7 +40,7 @@ impl Model for Machine {
 
     ghost Value = { State };
 
-    ghost view = { λ m. record { regs = record { a = m.a; x = m.x; y = m.y; n = m.n; v = m.v; z = m.z; c = m.c }; s = m.s; d = m.d; i = m.i; pc = m.pc; mem = m.memory.items } };
+    ghost view = { λ m. record { cpu = m.cpu; regs = record { a = m.a; x = m.x; y = m.y; n = m.n; v = m.v; z = m.z; c = m.c }; s = m.s; d = m.d; i = m.i; pc = m.pc; mem = m.memory.items } };
 
     ghost invariant = { λ m. length m.memory.items ≡ 65536 };
 }
@@ -64,13 +65,14 @@ fn lay(memory: &mut [u8], at: usize, bytes: &[u8])
 }
 
 impl Machine {
-    /// A machine with no memory, registers and flags set but S, which is $FF. It refuses for want of memory alone.
+    /// A 6502 with no memory, registers and flags set but S, which is $FF. It refuses for want of memory alone.
     pub fn new(alloc: Global) -> Result<Machine, Refusal>
         ensures ok { IfOk result (λ machine. machine ≡ zero_state) }
         ensures refused { IfErr result (λ refusal. refusal ≡ Refusal.OutOfMemory) }
     {
         let memory = vec![in alloc; 0; 65536]?;
         Ok(Machine {
+            cpu: Cpu::Nmos,
             a: 0,
             x: 0,
             y: 0,
@@ -86,7 +88,21 @@ impl Machine {
         })
     }
 
-    /// Makes the machine ready to run an image from its beginning, whatever it did before.
+    /// The processor whose rows the machine does.
+    pub fn cpu(&self) -> Cpu
+        ensures { result ≡ self.now.cpu }
+    {
+        self.cpu
+    }
+
+    /// Makes the machine one with this processor, and changes nothing else.
+    pub fn set_cpu(&mut self, cpu: Cpu)
+        ensures { self.new ≡ record self.old { cpu = cpu } }
+    {
+        self.cpu = cpu;
+    }
+
+    /// Makes the machine ready to run an image from its beginning on the image's processor, whatever it did before.
     /// Payload bytes that would pass $FFFF are left out.
     pub fn load(&mut self, image: &Image)
         ensures { self.new ≡ loaded image.now }
@@ -105,6 +121,7 @@ impl Machine {
             usize::from(image.load),
             image.payload.as_slice(),
         );
+        self.cpu = image.cpu;
     }
 
     /// The accumulator.

@@ -1,9 +1,11 @@
-// The table of opcodes (MCS6500 Programming Manual, appendices A and B).
-ghost use Rattle.std.specs.Prelude.{◌≡◌, ◌+◌, ◌<◌, true, false};
-ghost use Rattle.c65_mach.specs.Table.{row_of};
+// The tables of opcodes: the 6502's (MCS6500 Programming Manual, appendices A and B), and the 65C02's own.
+ghost use Rattle.std.specs.Prelude.{◌≡◌, ◌+◌, ◌<◌, true, false, Some};
+ghost use Rattle.c65_mach.specs.Table.{row_of, row_for, own_rows, found};
 ghost use Rattle.c65_mach.specs.Step.{pushes};
 
-/// The 56 operations, by their mnemonics in the MCS6500 Programming Manual.
+use c65_base::Cpu;
+
+/// The 56 operations of the MCS6500 Programming Manual by their mnemonics there, and the 8 that the 65C02 adds.
 #[derive(Clone, Copy, Debug, PartialEq, Eq)]
 pub enum Op {
     Adc,
@@ -16,6 +18,7 @@ pub enum Op {
     Bmi,
     Bne,
     Bpl,
+    Bra,
     Brk,
     Bvc,
     Bvs,
@@ -43,8 +46,12 @@ pub enum Op {
     Ora,
     Pha,
     Php,
+    Phx,
+    Phy,
     Pla,
     Plp,
+    Plx,
+    Ply,
     Rol,
     Ror,
     Rti,
@@ -56,8 +63,11 @@ pub enum Op {
     Sta,
     Stx,
     Sty,
+    Stz,
     Tax,
     Tay,
+    Trb,
+    Tsb,
     Tsx,
     Txa,
     Txs,
@@ -72,7 +82,7 @@ impl Op {
         match self {
             Op::Brk => 3,
             Op::Jsr => 2,
-            Op::Pha | Op::Php => 1,
+            Op::Pha | Op::Php | Op::Phx | Op::Phy => 1,
             _ => 0,
         }
     }
@@ -107,6 +117,10 @@ pub enum Mode {
     Indirect,
     /// To go up to 127 bytes forward or 128 back: `BNE $1234`.
     Relative,
+    /// A byte whose address lies in the zero page: `LDA ($12)`, on the 65C02.
+    ZeroPageIndirect,
+    /// To go to the address that lies X behind an address: `JMP ($1234,X)`, on the 65C02.
+    AbsoluteIndirectX,
 }
 
 /// A row of the table: what the opcode does, where its operand is, and how long it takes.
@@ -526,7 +540,7 @@ fn row_f(low: u8) -> Option<Row>
     }
 }
 
-/// The row of an opcode.
+/// The row of an opcode on the 6502.
 pub fn decode(byte: u8) -> Option<Row>
     ensures { result ≡ row_of byte }
 {
@@ -548,5 +562,56 @@ pub fn decode(byte: u8) -> Option<Row>
         13 => row_d(low),
         14 => row_e(low),
         _ => row_f(low),
+    }
+}
+
+// The 65C02's own row for an opcode.
+fn own_row(byte: u8) -> Option<Row>
+    ensures { result ≡ found byte own_rows }
+{
+    match byte {
+        0x04 => plain(Op::Tsb, Mode::ZeroPage, 5),
+        0x0C => plain(Op::Tsb, Mode::Absolute, 6),
+        0x12 => plain(Op::Ora, Mode::ZeroPageIndirect, 5),
+        0x14 => plain(Op::Trb, Mode::ZeroPage, 5),
+        0x1A => plain(Op::Inc, Mode::Accumulator, 2),
+        0x1C => plain(Op::Trb, Mode::Absolute, 6),
+        0x32 => plain(Op::And, Mode::ZeroPageIndirect, 5),
+        0x34 => plain(Op::Bit, Mode::ZeroPageX, 4),
+        0x3A => plain(Op::Dec, Mode::Accumulator, 2),
+        0x3C => paged(Op::Bit, Mode::AbsoluteX, 4),
+        0x52 => plain(Op::Eor, Mode::ZeroPageIndirect, 5),
+        0x5A => plain(Op::Phy, Mode::Implied, 3),
+        0x64 => plain(Op::Stz, Mode::ZeroPage, 3),
+        0x6C => plain(Op::Jmp, Mode::Indirect, 6),
+        0x72 => plain(Op::Adc, Mode::ZeroPageIndirect, 5),
+        0x74 => plain(Op::Stz, Mode::ZeroPageX, 4),
+        0x7A => plain(Op::Ply, Mode::Implied, 4),
+        0x7C => plain(Op::Jmp, Mode::AbsoluteIndirectX, 6),
+        0x80 => paged(Op::Bra, Mode::Relative, 3),
+        0x89 => plain(Op::Bit, Mode::Immediate, 2),
+        0x92 => plain(Op::Sta, Mode::ZeroPageIndirect, 5),
+        0x9C => plain(Op::Stz, Mode::Absolute, 4),
+        0x9E => plain(Op::Stz, Mode::AbsoluteX, 5),
+        0xB2 => plain(Op::Lda, Mode::ZeroPageIndirect, 5),
+        0xD2 => plain(Op::Cmp, Mode::ZeroPageIndirect, 5),
+        0xDA => plain(Op::Phx, Mode::Implied, 3),
+        0xF2 => plain(Op::Sbc, Mode::ZeroPageIndirect, 5),
+        0xFA => plain(Op::Plx, Mode::Implied, 4),
+        _ => None,
+    }
+}
+
+/// The row of an opcode on either processor. It answers None exactly for a byte that has no row there: the 105 bytes of the
+/// 6502, of which the 65C02 has rows for 27.
+pub fn decode_for(cpu: Cpu, byte: u8) -> Option<Row>
+    ensures { result ≡ row_for cpu byte }
+{
+    match cpu {
+        Cpu::Nmos => decode(byte),
+        Cpu::Cmos => match own_row(byte) {
+            Some(row) => Some(row),
+            None => decode(byte),
+        },
     }
 }

@@ -101,10 +101,10 @@ impl Machine {
         ensures { self.new ≡ record self.old { regs = added self.old.d value self.old.regs } }
     {
         if self.d {
-            let sum = decimal_sum(self.a, value, self.c);
+            let decimal = decimal_sum(self.a, value, self.c);
             self.sum(value);
-            self.a = (sum % 256) as u8;
-            self.c = sum > 255;
+            self.a = (decimal % 256) as u8;
+            self.c = decimal > 255;
         } else {
             self.sum(value);
         }

@@ -1,11 +1,12 @@
-// One row of a run: where the operand is, and what the operation does (MCS6500 Programming Manual, chapters 4 to 9).
-ghost use Rattle.std.specs.Prelude.{◌≡◌, ◌+◌, ◌*◌, ◌/◌, ◌==◌, ◌≤◌, true, false, if◌then◌else◌};
+// One row of a run: where the operand is, and what the operation does (MCS6500 Programming Manual, chapters 4 to 9), with what
+// the 65C02 adds.
+ghost use Rattle.std.specs.Prelude.{◌≡◌, ◌+◌, ◌*◌, ◌/◌, ◌==◌, ◌-◌, ◌≤◌, true, false, if◌then◌else◌};
 ghost use Rattle.c65_mach.specs.State.{read};
-ghost use Rattle.c65_mach.specs.Step.{after, zero_word, size_of, indexed, page_next, branched, place_of, is_taken, more_cycles, change, branch, push, pulled, dropped, push_word, packed, flags_pulled, called, broken, act, row_at, Steps};
+ghost use Rattle.c65_mach.specs.Step.{after, zero_word, size_of, indexed, jump_next, branched, place_of, is_taken, more_cycles, change, branch, push, pulled, dropped, push_word, packed, flags_pulled, called, broken, marked, read_by, act, row_at, Steps};
 
 use super::{Machine, bit};
 use crate::rows::{Mode, Op};
-use c65_base::Refusal;
+use c65_base::{Cpu, Refusal};
 
 impl Machine {
     // A word of the zero page, which stays in that page.
@@ -49,6 +50,7 @@ impl Machine {
             Op::Bmi => self.n,
             Op::Bne => !self.z,
             Op::Bpl => !self.n,
+            Op::Bra => true,
             Op::Bvc => !self.v,
             _ => self.v,
         }
@@ -61,13 +63,11 @@ impl Machine {
         ensures small { result ≤ 2 }
     {
         match mode {
-            Mode::Relative => {
-                if self.is_taken(op) {
-                    1 + bit(crosses)
-                } else {
-                    0
-                }
-            }
+            Mode::Relative => match op {
+                Op::Bra => bit(crosses),
+                _ if self.is_taken(op) => 1 + bit(crosses),
+                _ => 0,
+            },
             _ => bit(page && crosses),
         }
     }
@@ -149,17 +149,25 @@ impl Machine {
             Mode::AbsoluteY => index(self.word(at), self.y),
             Mode::IndirectX => (self.zero_word(self.read(at).wrapping_add(self.x)), false),
             Mode::IndirectY => index(self.zero_word(self.read(at)), self.y),
-            Mode::Indirect => (self.page_word(self.word(at)), false),
+            Mode::Indirect => (self.jump_word(self.word(at)), false),
             Mode::Relative => self.target(self.read(at)),
+            Mode::ZeroPageIndirect => (self.zero_word(self.read(at)), false),
+            Mode::AbsoluteIndirectX => {
+                let pointer = self.word(at).wrapping_add(u16::from(self.x));
+                (self.word(pointer), false)
+            }
         }
     }
 
-    // The word of an indirect jump: its high byte comes from the same page.
+    // The word of an indirect jump: on the 6502 its high byte comes from the same page.
     #[inline(always)]
-    fn page_word(&self, at: u16) -> u16
-        ensures { result ≡ read self.now.mem at + 256 * read self.now.mem (page_next at) }
+    fn jump_word(&self, at: u16) -> u16
+        ensures { result ≡ read self.now.mem at + 256 * read self.now.mem (jump_next self.now.cpu at) }
     {
-        let next = at / 256 * 256 + at.wrapping_add(1) % 256;
+        let next = match self.cpu {
+            Cpu::Nmos => at / 256 * 256 + at.wrapping_add(1) % 256,
+            Cpu::Cmos => at.wrapping_add(1),
+        };
         u16::from_le_bytes([self.read(at), self.read(next)])
     }
 
@@ -196,6 +204,27 @@ impl Machine {
         self.unpack(flags);
     }
 
+    // BIT: a number as operand sets Z alone.
+    #[inline(always)]
+    fn test(&mut self, mode: Mode, value: u8)
+        ensures { self.new ≡ record self.old { regs = read_by Op.Bit mode self.old.d value self.old.regs } }
+    {
+        if let Mode::Immediate = mode {
+            self.z = self.a & value == 0;
+        } else {
+            self.test_bits(value);
+        }
+    }
+
+    // TSB and TRB: Z tells whether A and the byte share no bit, and the byte is changed.
+    #[inline(always)]
+    fn mark(&mut self, at: u16, to: u8)
+        ensures { self.new ≡ marked at to self.old }
+    {
+        self.z = self.a & self.read(at) == 0;
+        self.write(at, to);
+    }
+
     // What an operation does, once pc is at the next instruction.
     #[inline(always)]
     pub(super) fn operate(&mut self, op: Op, mode: Mode, at: u16)
@@ -208,10 +237,11 @@ impl Machine {
             Op::Bcc => self.branch(!self.c, at),
             Op::Bcs => self.branch(self.c, at),
             Op::Beq => self.branch(self.z, at),
-            Op::Bit => self.test_bits(self.read(at)),
+            Op::Bit => self.test(mode, self.read(at)),
             Op::Bmi => self.branch(self.n, at),
             Op::Bne => self.branch(!self.z, at),
             Op::Bpl => self.branch(!self.n, at),
+            Op::Bra => self.branch(true, at),
             Op::Brk => self.break_off(),
             Op::Bvc => self.branch(!self.v, at),
             Op::Bvs => self.branch(self.v, at),
@@ -239,11 +269,21 @@ impl Machine {
             Op::Ora => self.set_a(self.a | self.read(at)),
             Op::Pha => self.push(self.a),
             Op::Php => self.push(self.pack()),
+            Op::Phx => self.push(self.x),
+            Op::Phy => self.push(self.y),
             Op::Pla => {
                 let value = self.pull();
                 self.set_a(value);
             }
             Op::Plp => self.pull_flags(),
+            Op::Plx => {
+                let value = self.pull();
+                self.set_x(value);
+            }
+            Op::Ply => {
+                let value = self.pull();
+                self.set_y(value);
+            }
             Op::Rol => self.change(Op::Rol, mode, at),
             Op::Ror => self.change(Op::Ror, mode, at),
             Op::Rti => {
@@ -258,8 +298,11 @@ impl Machine {
             Op::Sta => self.write(at, self.a),
             Op::Stx => self.write(at, self.x),
             Op::Sty => self.write(at, self.y),
+            Op::Stz => self.write(at, 0),
             Op::Tax => self.set_x(self.a),
             Op::Tay => self.set_y(self.a),
+            Op::Trb => self.mark(at, self.read(at) & (255 - self.a)),
+            Op::Tsb => self.mark(at, self.read(at) | self.a),
             Op::Tsx => self.set_x(self.s),
             Op::Txa => self.set_a(self.x),
             Op::Txs => self.s = self.x,
@@ -298,7 +341,11 @@ pub(super) fn size(mode: Mode) -> u16
 {
     match mode {
         Mode::Implied | Mode::Accumulator => 1,
-        Mode::Absolute | Mode::AbsoluteX | Mode::AbsoluteY | Mode::Indirect => 3,
+        Mode::Absolute
+        | Mode::AbsoluteX
+        | Mode::AbsoluteY
+        | Mode::Indirect
+        | Mode::AbsoluteIndirectX => 3,
         _ => 2,
     }
 }

@@ -19,5 +19,5 @@ returns c =
     let long : length laid ≡ cleared.len = c.lay.auto.memory ∙ c.deref_mut.ensures.len in
     let kept : take cleared.len (laid ++ drop (length laid) cleared.items) ≡ laid =
     take-append-le cleared.len laid (drop (length laid) cleared.items) (omega (arith, long)) ∙ take_all cleared.len laid (omega (arith, long)) in
-    ap (λ (t : State). record t { mem = take cleared.len (laid ++ drop (length laid) cleared.items) }) (c.self.view_is ∙ c.set_regs.ensures)
+    ap (λ (t : State). record t { cpu = image.cpu; mem = take cleared.len (laid ++ drop (length laid) cleared.items) }) (c.self.view_is ∙ c.set_regs.ensures)
     ∙ ap (λ (mem : List ℕ). record (loaded image) { mem = mem }) (kept ∙ memory)
