@@ -176,7 +176,7 @@ called_in text = called_from text (cut_at 44 text)
 -- instructions
 
 abbrev pub operations : List Op
-operations = ops.Adc ∷ ops.And ∷ ops.Asl ∷ ops.Bcc ∷ ops.Bcs ∷ ops.Beq ∷ ops.Bit ∷ ops.Bmi ∷ ops.Bne ∷ ops.Bpl ∷ ops.Brk ∷ ops.Bvc ∷ ops.Bvs ∷ ops.Clc ∷ ops.Cld ∷ ops.Cli ∷ ops.Clv ∷ ops.Cmp ∷ ops.Cpx ∷ ops.Cpy ∷ ops.Dec ∷ ops.Dex ∷ ops.Dey ∷ ops.Eor ∷ ops.Inc ∷ ops.Inx ∷ ops.Iny ∷ ops.Jmp ∷ ops.Jsr ∷ ops.Lda ∷ ops.Ldx ∷ ops.Ldy ∷ ops.Lsr ∷ ops.Nop ∷ ops.Ora ∷ ops.Pha ∷ ops.Php ∷ ops.Pla ∷ ops.Plp ∷ ops.Rol ∷ ops.Ror ∷ ops.Rti ∷ ops.Rts ∷ ops.Sbc ∷ ops.Sec ∷ ops.Sed ∷ ops.Sei ∷ ops.Sta ∷ ops.Stx ∷ ops.Sty ∷ ops.Tax ∷ ops.Tay ∷ ops.Tsx ∷ ops.Txa ∷ ops.Txs ∷ ops.Tya ∷ []
+operations = ops.Adc ∷ ops.And ∷ ops.Asl ∷ ops.Bcc ∷ ops.Bcs ∷ ops.Beq ∷ ops.Bit ∷ ops.Bmi ∷ ops.Bne ∷ ops.Bpl ∷ ops.Bra ∷ ops.Brk ∷ ops.Bvc ∷ ops.Bvs ∷ ops.Clc ∷ ops.Cld ∷ ops.Cli ∷ ops.Clv ∷ ops.Cmp ∷ ops.Cpx ∷ ops.Cpy ∷ ops.Dec ∷ ops.Dex ∷ ops.Dey ∷ ops.Eor ∷ ops.Inc ∷ ops.Inx ∷ ops.Iny ∷ ops.Jmp ∷ ops.Jsr ∷ ops.Lda ∷ ops.Ldx ∷ ops.Ldy ∷ ops.Lsr ∷ ops.Nop ∷ ops.Ora ∷ ops.Pha ∷ ops.Php ∷ ops.Phx ∷ ops.Phy ∷ ops.Pla ∷ ops.Plp ∷ ops.Plx ∷ ops.Ply ∷ ops.Rol ∷ ops.Ror ∷ ops.Rti ∷ ops.Rts ∷ ops.Sbc ∷ ops.Sec ∷ ops.Sed ∷ ops.Sei ∷ ops.Sta ∷ ops.Stx ∷ ops.Sty ∷ ops.Stz ∷ ops.Tax ∷ ops.Tay ∷ ops.Trb ∷ ops.Tsb ∷ ops.Tsx ∷ ops.Txa ∷ ops.Txs ∷ ops.Tya ∷ []
 
 abbrev pub op_among : List Op → List ℕ → Option Op
 op_among among name = find (λ op. bytes_eq (mnemonic_of op) name) among

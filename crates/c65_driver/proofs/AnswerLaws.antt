@@ -5,7 +5,7 @@ use Rattle.std.proofs.lemmas.Bool.{cases_lt, lt-ltb, le-ltb}
 use Rattle.c65_base.specs.declared.refusal.Refusal.{Refusal}
 use Rattle.c65_base.specs.declared.refusal.Refusal.TheVariants.{OutOfMemory, Missing, ReadFault, BadImage}
 use Rattle.c65_mach.specs.declared.image.Image.{Image}
-use Rattle.c65_mach.specs.Images.{Parses, fault_of, late_fault, wrong_in, fixed, word_in, or_else}
+use Rattle.c65_mach.specs.Images.{Parses, fault_of, cpu_fault, late_fault, wrong_in, fixed, word_in, or_else}
 use Rattle.c65_io.specs.Contents.{Contents}
 use Rattle.c65_driver.specs.Text.{ReadsHeld, ReadsText, ReadsSome}
 use Rattle.c65_driver.specs.Told.{HeldImage, ToldImage, SomeImage}
@@ -46,21 +46,26 @@ late_long bytes load is long =
     let past : nat_lt (12 + 65536 - load) (length bytes) ≡ true = lt-ltb (12 + 65536 - load) (length bytes) (omega arith) in
     rw (is, enough, past) refl
 
+cpu-take : (bytes : List ℕ) → cpu_fault (take 65549 bytes) ≡ cpu_fault bytes
+cpu-take bytes = rw (get_or-take 65549 bytes 6 0 (omega arith)) refl
+
 fault-take : (bytes : List ℕ) → 65549 ≤ length bytes → fault_of (take 65549 bytes) ≡ fault_of bytes
 fault-take bytes long =
     let size : length (take 65549 bytes) ≡ 65549 = omega (arith, length-take 65549 bytes) in
-    ap (λ o. or_else o (late_fault (take 65549 bytes))) (wrong-take fixed bytes 65549 0 (omega arith))
-    ∙ ap (or_else (wrong_in fixed bytes 0))
+    ap (λ o. or_else o (or_else (cpu_fault (take 65549 bytes)) (late_fault (take 65549 bytes)))) (wrong-take fixed bytes 65549 0 (omega arith))
+    ∙ ap (λ o. or_else (wrong_in fixed bytes 0) (or_else o (late_fault (take 65549 bytes)))) (cpu-take bytes)
+    ∙ ap (λ o. or_else (wrong_in fixed bytes 0) (or_else (cpu_fault bytes) o))
     (late_long (take 65549 bytes) (word_in bytes 8) (word-take bytes 65549 8 (omega arith)) (omega (arith, size)) ∙ sym (late_long bytes (word_in bytes 8) refl long))
 
-or_some : (o : Option ℕ) (e : ℕ) → or_else o (Some e) ≡ None → ⊥
-or_some None e is = let both : Some e ≡ None = is in cc
-or_some (Some a) e is = let both : Some a ≡ None = is in cc
+or_some : (o p : Option ℕ) (e : ℕ) → or_else o (or_else p (Some e)) ≡ None → ⊥
+or_some None None e is = let both : Some e ≡ None = is in cc
+or_some None (Some a) e is = let both : Some a ≡ None = is in cc
+or_some (Some a) p e is = let both : Some a ≡ None = is in cc
 
 long_faulty : (bytes : List ℕ) → 65549 ≤ length bytes → fault_of bytes ≡ None → ⊥
 long_faulty bytes long none =
-    or_some (wrong_in fixed bytes 0) (12 + 65536 - word_in bytes 8)
-    (sym (ap (or_else (wrong_in fixed bytes 0)) (late_long bytes (word_in bytes 8) refl long)) ∙ none)
+    or_some (wrong_in fixed bytes 0) (cpu_fault bytes) (12 + 65536 - word_in bytes 8)
+    (sym (ap (λ o. or_else (wrong_in fixed bytes 0) (or_else (cpu_fault bytes) o)) (late_long bytes (word_in bytes 8) refl long)) ∙ none)
 
 spelled_by : (bytes : List ℕ) (image : Image) → (length bytes < 65549) ⊎ (65549 ≤ length bytes) → Parses (take 65549 bytes) (Ok image) → Parses bytes (Ok image)
 spelled_by bytes image (inl short) parses = subst (λ (bs : List ℕ). Parses bs (Ok image)) (take_all 65549 bytes (omega arith)) parses

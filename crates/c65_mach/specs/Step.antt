@@ -51,9 +51,9 @@ direct at = (at, false)
 abbrev pub indexed : ℕ → ℕ → Place
 indexed base index = (after base index, nat_lt 255 (base % 256 + index))
 
--- where the word of an indirect jump has its high byte: the 6502 stays in the page, and the 65C02 goes on
+-- where the word of an indirect jump has its high byte: behind its low byte, but the 6502 stays in the page
 abbrev pub jump_next : Cpu → ℕ → ℕ
-jump_next Nmos at = 256 * (at / 256) + (at + 1) % 256
+jump_next Nmos at = if at % 256 == 255 then at - 255 else after at 1
 jump_next Cmos at = after at 1
 
 abbrev pub branched : ℕ → ℕ → ℕ

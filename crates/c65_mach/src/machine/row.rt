@@ -1,6 +1,6 @@
 // One row of a run: where the operand is, and what the operation does (MCS6500 Programming Manual, chapters 4 to 9), with what
 // the 65C02 adds.
-ghost use Rattle.std.specs.Prelude.{◌≡◌, ◌+◌, ◌*◌, ◌/◌, ◌==◌, ◌-◌, ◌≤◌, true, false, if◌then◌else◌};
+ghost use Rattle.std.specs.Prelude.{◌≡◌, ◌+◌, ◌*◌, ◌/◌, ◌==◌, ◌-◌, ◌%◌, ◌≤◌, true, false, if◌then◌else◌};
 ghost use Rattle.c65_mach.specs.State.{read};
 ghost use Rattle.c65_mach.specs.Step.{after, zero_word, size_of, indexed, jump_next, branched, place_of, is_taken, more_cycles, change, branch, push, pulled, dropped, push_word, packed, flags_pulled, called, broken, marked, read_by, act, row_at, Steps};
 
@@ -165,8 +165,8 @@ impl Machine {
         ensures { result ≡ read self.now.mem at + 256 * read self.now.mem (jump_next self.now.cpu at) }
     {
         let next = match self.cpu {
-            Cpu::Nmos => at / 256 * 256 + at.wrapping_add(1) % 256,
-            Cpu::Cmos => at.wrapping_add(1),
+            Cpu::Nmos if at % 256 == 255 => at - 255,
+            Cpu::Nmos | Cpu::Cmos => at.wrapping_add(1),
         };
         u16::from_le_bytes([self.read(at), self.read(next)])
     }
