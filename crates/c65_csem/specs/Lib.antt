@@ -1,3 +1,4 @@
+pub mod Library
 pub mod Places
 pub mod Statements
 pub mod Trees

@@ -6,6 +6,7 @@
 mod expr;
 mod items;
 mod kinds;
+mod library;
 mod stmt;
 mod unit;
 
@@ -14,5 +15,6 @@ pub use items::{Cell, Class, Parts, TFunc, TObject, Target};
 pub use kinds::{
     int_type, is_scalar, is_sized, is_tag, member_at, pointer_to, promoted, unqualified,
 };
+pub use library::{library_named, library_type};
 pub use stmt::TStmt;
 pub use unit::{TProgram, TUnit};
