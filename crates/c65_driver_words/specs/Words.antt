@@ -3,7 +3,8 @@
 use Rattle.std.specs.Prelude.{◌≡◌, ⊤, ℕ, ◌+◌, List, [], ◌∷◌, ◌++◌, Bool, true, false, not, ◌&&◌, if◌then◌else◌, ◌==◌, codes, bytes_eq, is_some, Option, Some, None, Result, Ok, Err}
 use Rattle.std.specs.List.{list_any}
 use Rattle.c65_base.specs.declared.options.Options.{Options}
-use Rattle.c65_base.specs.declared.options.Cpu.TheVariants.{Nmos}
+use Rattle.c65_base.specs.declared.options.Cpu.{Cpu}
+use Rattle.c65_base.specs.declared.options.Cpu.TheVariants.{Nmos, Cmos}
 use Rattle.c65_base.specs.declared.refusal.Refusal.{Refusal}
 use Rattle.c65_base.specs.declared.refusal.Refusal.TheVariants as refusals
 use Rattle.c65_driver_words.specs.declared.command.Definition.{Definition}
@@ -67,12 +68,22 @@ abbrev pub with_cycles : Told → Option ℕ → Option Told
 with_cycles told None = None
 with_cycles told (Some cycles) = Some (record told { cycles = Some cycles; waits = None })
 
+-- the names of the processors
+abbrev pub processor_in : List ℕ → Option Cpu
+processor_in text =
+    if bytes_eq text (codes "6502") then Some Nmos else
+    if bytes_eq text (codes "65c02") then Some Cmos else None
+
+abbrev pub with_processor : Told → Option Cpu → Option Told
+with_processor told None = None
+with_processor told (Some cpu) = Some (record told { options = record told.options { cpu = cpu }; has_processor = true; waits = None })
+
 -- the value of an option
 abbrev pub with_value : Value → Told → List ℕ → Option Told
 with_value values.Define told text = with_define told (define_in text)
 with_value values.Folder told text = if is_file text then Some (record told { folders = told.folders ++ text ∷ []; waits = None }) else None
 with_value values.Target told text = if bytes_eq text (codes "sim6502") then Some (record told { has_target = true; waits = None }) else None
-with_value values.Processor told text = if bytes_eq text (codes "6502") then Some (record told { has_processor = true; waits = None }) else None
+with_value values.Processor told text = with_processor told (processor_in text)
 with_value values.Out told text = if is_file text then Some (record told { out = Some text; waits = None }) else None
 with_value values.Cycles told text = with_cycles told (cycles_in text)
 

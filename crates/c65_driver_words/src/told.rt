@@ -4,8 +4,8 @@ ghost use Rattle.c65_driver_words.specs.Words;
 ghost use Rattle.c65_driver_words.specs.Told.{GoesOn, Tells};
 
 use crate::command::{Command, CommandKind, Definition};
-use crate::value::{Flag, Value, behind, cycles, define, flag_of, is_file, value_of};
-use c65_base::{Options, Text};
+use crate::value::{Flag, Value, behind, cycles, define, flag_of, is_file, processor, value_of};
+use c65_base::{Cpu, Options, Text};
 use std::alloc::{AllocError, Global};
 use std::marker::Model;
 
@@ -172,12 +172,13 @@ impl Told {
         true
     }
 
-    fn take_processor(&mut self, text: &[u8]) -> bool
-        ensures { Tells result self.new (Words.with_value Value.Processor self.old text.now) }
+    fn take_processor(&mut self, cpu: Option<Cpu>) -> bool
+        ensures { Tells result self.new (Words.with_processor self.old cpu) }
     {
-        if text != b"6502".as_slice() {
+        let Some(cpu) = cpu else {
             return false;
-        }
+        };
+        self.options.cpu = cpu;
         self.has_processor = true;
         self.waits = None;
         true
@@ -194,7 +195,7 @@ impl Told {
             }
             Value::Folder => self.take_folder(word.as_bytes()),
             Value::Target => Ok(self.take_target(word)),
-            Value::Processor => Ok(self.take_processor(word.as_bytes())),
+            Value::Processor => Ok(self.take_processor(processor(word.as_bytes()))),
             Value::Out => self.take_out(word.as_bytes()),
             Value::Cycles => Ok(self.take_cycles(cycles(word))),
         }
@@ -268,7 +269,7 @@ impl Told {
     fn take_joined_processor(&mut self, text: &[u8]) -> bool
         ensures { Tells result self.new (Words.with_joined Value.Processor self.old text.now) }
     {
-        self.may_stand(Value::Processor) && self.take_processor(text)
+        self.may_stand(Value::Processor) && self.take_processor(processor(text))
     }
 
     /// A word that is an option with its value, or the name of a file.

@@ -3,11 +3,11 @@ ghost use Rattle.std.specs.Prelude.{◌≡◌, ◌==◌, IsTrue, IfOk, if◌then
 ghost use Rattle.std.specs.List.{list_all, position};
 ghost use Rattle.std.specs.Char.{is_ascii_digit};
 ghost use Rattle.c65_driver_words.specs.Values;
-ghost use Rattle.c65_driver_words.specs.Words.{flag_in, value_in};
+ghost use Rattle.c65_driver_words.specs.Words.{flag_in, value_in, processor_in};
 ghost use Rattle.c65_driver_words.specs.Borrowed.{lent};
 
 use crate::command::Definition;
-use c65_base::Text;
+use c65_base::{Cpu, Text};
 use c65_lex::{PpKind, class_of};
 use std::alloc::{AllocError, Global};
 
@@ -63,6 +63,19 @@ pub fn value_of(word: &str) -> Option<Value>
     }
     if word == "-x" {
         return Some(Value::Cycles);
+    }
+    None
+}
+
+/// The processor that a name is of.
+pub fn processor(text: &[u8]) -> Option<Cpu>
+    ensures { result ≡ processor_in text.now }
+{
+    if text == b"6502".as_slice() {
+        return Some(Cpu::Nmos);
+    }
+    if text == b"65c02".as_slice() {
+        return Some(Cpu::Cmos);
     }
     None
 }
