@@ -61,9 +61,9 @@ read_into sp bytes m =
 abbrev pub not_served : ℕ → State → State
 not_served sp m = hooked refused (popped sp 4 m)
 
--- `write`, whose bytes are those of the buffer before the pops
+-- `write`, whose bytes are those of the buffer once it and the descriptor are popped
 abbrev pub bytes_to_write : ℕ → State → List ℕ
-bytes_to_write sp m = bytes_from m.mem (buffer_of sp m) (ax m)
+bytes_to_write sp m = bytes_from (popped sp 4 m).mem (buffer_of sp m) (ax m)
 
 abbrev pub written : ℕ → State → State
 written sp m = hooked (ax m) (popped sp 4 m)
