@@ -85,7 +85,7 @@ module _ {S : Type 0} where
     tells_ty (function f) (function g) = like (tells_fn f g) (λ h. ap function h) (λ h. cc)
     tells_ty _ _ = record { yes = λ h. cc; only = λ s w. cc }
 
-    tells_fn : (f g : Fn) → Tells S (b.same_fn f g) (f ≡ g)
+    pub tells_fn : (f g : Fn) → Tells S (b.same_fn f g) (f ≡ g)
     tells_fn (fn q xs va cd) (fn r ys vb ce) = like (four (tells_bit va vb) (tells_bit cd ce) (tells_same q r) (tells_params xs ys)) (λ h. let x = h.0 in let y = h.1 in let z = h.2 in let v = h.3 in cc) (λ h. (cc, cc, cc, cc))
 
     tells_params : (xs ys : Params) → Tells S (b.same_params xs ys) (xs ≡ ys)

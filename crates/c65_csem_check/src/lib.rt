@@ -14,4 +14,8 @@ mod stmts;
 mod types;
 mod units;
 
+pub use labels::add_labels;
+pub use lists::{are_distinct, has_number};
+pub use same::same_function;
+pub use sizes::measured;
 pub use units::{is_program, is_unit, program_from, prototype_matches, unit_from};

@@ -1,0 +1,3 @@
+pub mod BodyLaws
+mod CodeLaws
+pub mod PlainLaws
