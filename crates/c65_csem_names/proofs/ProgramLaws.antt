@@ -1,6 +1,6 @@
 -- What the tests of initial values, of types and of whole programs tell.
-use Rattle.std.proofs.Common.{◌≡◌, ℕ, zero, suc, ◌<◌, ◌≤◌, List, [], ◌∷◌, length, get_or, refl, ap, ◌∙◌, arith, Some, None, false, ◌⊎◌, inl, inr, Option, slice_get, nat_le}
-use Rattle.std.specs.Prelude.{IsSome, IsTrue, All, nat_lt}
+use Rattle.std.proofs.Common.{◌≡◌, ℕ, zero, suc, ◌<◌, ◌≤◌, List, [], ◌∷◌, length, get_or, refl, ap, ◌∙◌, arith, Some, None, false, ◌⊎◌, inl, inr, Option, slice_get, nat_le, Bool, true}
+use Rattle.std.specs.Prelude.{IsSome, IsTrue, All, nat_lt, ⊤}
 use Rattle.std.proofs.lemmas.Bool.{le-leb, leb-true}
 use Rattle.std.proofs.lemmas.Bool.Decides.{Decides-eqb, Decides-ltb}
 use Rattle.c65_ctype.specs.Trees.{type_in, Fn}
@@ -9,15 +9,16 @@ use Rattle.c65_csem.specs.declared.items.Cell.TheVariants.{Byte, Piece}
 use Rattle.c65_base.specs.declared.library.Library.{Library}
 use Rattle.c65_csem.specs.declared.items.Target.{Target}
 use Rattle.c65_csem.specs.declared.items.Target.TheVariants as T
+use Rattle.c65_csem.specs.Library.{library_type}
 use Rattle.c65_csem.specs.Places.{is_automatic}
 use Rattle.c65_csem.specs.Trees.{ObjectTy, FuncTy, UnitTy}
 use Rattle.c65_csem.specs.Typed.{result_of}
 use Rattle.c65_meaning.specs.Shapes.{object_in, lives_in_frame}
 use Rattle.c65_csem_names.specs.Initial.{IsOfWholeRun, PointsToWholeRun, HasStaticPointers, first_pieces, second_pieces, IsWhole, BeginsWhole}
-use Rattle.c65_csem_names.specs.Library.{IsTypedAs, HasLibraryType}
+use Rattle.c65_csem_names.specs.Library.{IsTypedAs, HasLibraryType, HaveLibraryTypes}
 use Rattle.c65_csem_names.specs.Programs.{is_int, is_pointer, has_type, TakesArguments, Starts, IsScopedProgram}
 use Rattle.c65_csem_names.specs.Tests as b
-use Rattle.c65_csem_names.proofs.KindLaws.{tells_typed}
+use Rattle.c65_csem_check.proofs.TypeLaws.{tells_fn}
 use Rattle.c65_csem_names.proofs.ScopeLaws.{tells_bodies}
 use Rattle.c65_csem_names.proofs.Tells.{Tells, like, tells_itself, tells_unit, tells_not, tells_never, from_decides, both, three, either, tells_if, tells_all, tells_each, AtEach, all_each, each_all}
 
@@ -78,12 +79,23 @@ module _ (u : UnitTy) where
 
 -- ---- types
 
-tells_typed_if : (l : Option Library) (f : Fn) → Tells (b.is_typed_if l f) (IsTypedAs l f)
-tells_typed_if None f = tells_unit
-tells_typed_if (Some l) f = tells_typed l f
+tells_typed_if : (s : Bool) (l : Option Library) (f : Fn) → Tells (b.is_typed_if s l f) (IsTypedAs s l f)
+tells_typed_if s None f = tells_unit
+tells_typed_if s (Some l) f = let same = tells_fn {S = ⊤} f (library_type s l) in record { yes = λ h. same.yes h; only = λ w. same.only tt w }
 
-tells_library : (fs : List FuncTy) → Tells (b.have_library_types fs) (All HasLibraryType fs)
-tells_library fs = tells_all b.have_library_types b.has_library_type HasLibraryType refl (λ f fs. refl) (λ f. tells_typed_if f.library f.ty) fs
+tells_where : (s : Bool) (fs : List FuncTy) → Tells (b.have_types_where s fs) (All (HasLibraryType s) fs)
+tells_where s fs = tells_all (b.have_types_where s) (b.has_library_type s) (HasLibraryType s) refl (λ f fs. refl) (λ f. tells_typed_if s f.library f.ty) fs
+
+tells_library : (u : UnitTy) → Tells (b.have_library_types u.funcs) (HaveLibraryTypes u)
+tells_library u = like (either (tells_where false u.funcs) (tells_where true u.funcs)) to from
+  where
+    to : All (HasLibraryType false) u.funcs ⊎ All (HasLibraryType true) u.funcs → HaveLibraryTypes u
+    to (inl w) = (false, w)
+    to (inr w) = (true, w)
+
+    from : HaveLibraryTypes u → All (HasLibraryType false) u.funcs ⊎ All (HasLibraryType true) u.funcs
+    from (false, w) = inl w
+    from (true, w) = inr w
 
 -- ---- the start
 
@@ -116,6 +128,6 @@ module _ (u : UnitTy) where
   -- ---- whole programs
 
   pub tells_program : (main : ℕ) → Tells (b.is_scoped_program u main) (IsScopedProgram u main)
-  tells_program main = like (tells_if (three (tells_initial u) (tells_library u.funcs) (tells_starts (slice_get u.funcs main))) (tells_bodies u))
-      (λ w. record { bodies = w.1; pointers = w.0.0.0; values = w.0.0.1; library = w.0.1; start = w.0.2 })
-      (λ w. (((w.pointers, w.values), w.library, w.start), w.bodies))
+  tells_program main = like (tells_if (three (tells_initial u) (tells_starts (slice_get u.funcs main)) (tells_library u)) (tells_bodies u))
+      (λ w. record { bodies = w.1; pointers = w.0.0.0; values = w.0.0.1; start = w.0.1; library = w.0.2 })
+      (λ w. (((w.pointers, w.values), w.start, w.library), w.bodies))

@@ -1,5 +1,4 @@
 pub mod Initial
-pub mod Kinds
 pub mod Library
 pub mod Programs
 pub mod Scopes

@@ -7,7 +7,7 @@ use Rattle.c65_csem.specs.Typed.{result_of}
 use Rattle.c65_meaning.specs.Shapes.{object_in}
 use Rattle.c65_csem_names.specs.Scopes.{HasScopedBody}
 use Rattle.c65_csem_names.specs.Initial.{HasStaticPointers, BeginsWhole}
-use Rattle.c65_csem_names.specs.Library.{HasLibraryType}
+use Rattle.c65_csem_names.specs.Library.{HaveLibraryTypes}
 
 abbrev pub is_int : Ty → Bool
 is_int (int Int) = true
@@ -36,5 +36,5 @@ pub record IsScopedProgram (u : UnitTy) (main : ℕ) : Type 0 where
   pub bodies : All (HasScopedBody u) u.funcs
   pub pointers : HasStaticPointers u
   pub values : All BeginsWhole u.objects
-  pub library : All HasLibraryType u.funcs
+  pub library : HaveLibraryTypes u
   pub start : Starts u (slice_get u.funcs main)

@@ -6,11 +6,12 @@ use Rattle.c65_csem.specs.declared.items.Cell.TheVariants.{Byte, Piece}
 use Rattle.c65_base.specs.declared.library.Library.{Library}
 use Rattle.c65_csem.specs.declared.items.Target.{Target}
 use Rattle.c65_csem.specs.declared.items.Target.TheVariants as T
+use Rattle.c65_csem.specs.Library.{library_type}
 use Rattle.c65_csem.specs.Places.{is_automatic}
 use Rattle.c65_csem.specs.Trees.{Typed, node, Node, constant, null, literal, object, func, deref, member, load, address, decay, convert, unary, binary, both, either, choice, comma, assign, assign_op, assign_step, step, copy, call, Nodes, none, some, Stmt, empty, eval, set_part, clear, block, if_stmt, while, do_while, for_loop, switch, case, default, label, goto, break, continue, return, Stmts, no_stmts, and_stmts, MaybeTyped, absent, present, ObjectTy, FuncTy, UnitTy}
 use Rattle.c65_csem.specs.Typed.{result_of}
+use Rattle.c65_csem_check.specs.Kinds.{same_fn}
 use Rattle.c65_csem_names.specs.Initial.{first_pieces, second_pieces}
-use Rattle.c65_csem_names.specs.Kinds.{is_typed_as}
 use Rattle.c65_csem_names.specs.Programs.{is_int, is_pointer, has_type}
 use Rattle.c65_meaning.specs.Shapes.{object_in, lives_in_frame}
 
@@ -156,16 +157,19 @@ module _ (u : UnitTy) where
 
 -- ---- types
 
-abbrev pub is_typed_if : Option Library → Fn → Bool
-is_typed_if None f = true
-is_typed_if (Some l) f = is_typed_as l f
+abbrev pub is_typed_if : Bool → Option Library → Fn → Bool
+is_typed_if is_signed None f = true
+is_typed_if is_signed (Some l) f = same_fn f (library_type is_signed l)
 
-abbrev pub has_library_type : FuncTy → Bool
-has_library_type f = is_typed_if f.library f.ty
+abbrev pub has_library_type : Bool → FuncTy → Bool
+has_library_type is_signed f = is_typed_if is_signed f.library f.ty
+
+abbrev pub have_types_where : Bool → List FuncTy → Bool
+have_types_where is_signed [] = true
+have_types_where is_signed (f ∷ fs) = if has_library_type is_signed f then have_types_where is_signed fs else false
 
 abbrev pub have_library_types : List FuncTy → Bool
-have_library_types [] = true
-have_library_types (f ∷ fs) = if has_library_type f then have_library_types fs else false
+have_library_types fs = have_types_where false fs || have_types_where true fs
 
 module _ (u : UnitTy) where
   abbrev pub has_words : ℕ → ℕ → Bool
@@ -179,4 +183,4 @@ module _ (u : UnitTy) where
   starts (Some f) = takes_arguments f.params && is_int (type_in (result_of f.ty))
 
   abbrev pub is_scoped_program : ℕ → Bool
-  is_scoped_program main = if begin_well u u.objects && have_library_types u.funcs && starts (slice_get u.funcs main) then are_scoped_bodies u else false
+  is_scoped_program main = if begin_well u u.objects && starts (slice_get u.funcs main) && have_library_types u.funcs then are_scoped_bodies u else false

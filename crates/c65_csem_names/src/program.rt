@@ -9,7 +9,7 @@ ghost use Rattle.c65_csem_names.specs.Tests;
 
 use crate::bodies::are_scoped_bodies;
 use crate::initial::begin_well;
-use crate::library::{have_library_types, is_number};
+use crate::library::have_library_types;
 use crate::marks::object;
 use c65_csem::{Parts, TFunc, TObject, TProgram};
 use c65_ctype::{CType, QType};
@@ -89,7 +89,7 @@ fn starts(parts: &Parts, main: u32) -> bool
 fn is_scoped_by(alloc: Global, parts: &Parts, main: u32) -> Result<bool, AllocError>
     ensures { IfOk result (λ so. so ≡ Tests.is_scoped_program (unit_of parts.now) main) }
 {
-    if !begin_well(parts) || !have_library_types(parts) || !starts(parts, main) {
+    if !begin_well(parts) || !starts(parts, main) || !have_library_types(alloc, parts)? {
         return Ok(false);
     }
     are_scoped_bodies(alloc, parts)
@@ -97,7 +97,7 @@ fn is_scoped_by(alloc: Global, parts: &Parts, main: u32) -> Result<bool, AllocEr
 
 /// Whether each body names only objects in scope, no initial value points to an automatic object or
 /// lacks a piece of a pointer, and `main` and the functions of the library have their types. It takes
-/// memory for a mark of each object.
+/// memory for a mark of each object, and for types of the library.
 pub fn is_scoped(alloc: Global, program: &TProgram) -> Result<bool, AllocError>
     ensures { IfOk result (λ so. IsTrue so ↔ IsScopedProgram (unit_of program.now.0) program.now.1) }
 {

@@ -6,6 +6,7 @@ use Rattle.c65_ctype.specs.Trees.{Ty, void, int, pointer, array, tag, function, 
 use Rattle.c65_ctype.specs.Compatible.{Pairs, same_int, same_bool, meet, qualified_meet, functions_meet, params_meet, each_in, agrees, are_compatible}
 use Rattle.c65_base.specs.declared.library.Library.{Library}
 use Rattle.c65_base.specs.declared.library.Library.TheVariants as the
+use Rattle.c65_csem.specs.Library.{library_params}
 use Rattle.c65_csem.specs.Trees.{UnitTy}
 use Rattle.c65_csem.specs.Places.{plain}
 use Rattle.c65_csem.specs.Units.{AreParams}
@@ -14,7 +15,6 @@ use Rattle.c65_meaning.specs.Calls.{fit, fit_objects, promoted, parameter_type}
 use Rattle.c65_meaning.specs.Shapes.{object_in}
 use Rattle.c65_meaning.specs.Step.{taken}
 use Rattle.c65_meaning_law.specs.Library.{IsNumber, IsCount, IsPointing, AreArguments}
-use Rattle.c65_csem_names.specs.Library.{params_of}
 use Rattle.c65_meaning_law.proofs.Stacks.{Kind, arithmetic, pointing, kind_at, kind_given, Suits, AreSuited, pushed}
 use Rattle.c65_meaning_law.proofs.Plans.{plain_type}
 use Rattle.c65_meaning_law.proofs.Statements.{sign_same}
@@ -163,39 +163,39 @@ module _ (s : Store) where
   points NoValue h = tt
   points (Whole z) h = absurd h
 
-  arguments_by : (l : Library) (vs : List Value) → SuitedBy E (params_of l) vs → AreArguments s l vs
-  arguments_by the.Putchar (v ∷ []) h = is_number v h.0
-  arguments_by the.Getchar [] h = tt
-  arguments_by the.Puts (v ∷ []) h = points v h.0
-  arguments_by the.Exit (v ∷ []) h = is_number v h.0
-  arguments_by the.Memcpy (v ∷ w ∷ n ∷ []) h = (points v h.0, points w h.1.0, is_count n h.1.1.0)
-  arguments_by the.Memset (v ∷ w ∷ n ∷ []) h = (points v h.0, is_number w h.1.0, is_count n h.1.1.0)
-  arguments_by the.Strcmp (v ∷ w ∷ []) h = (points v h.0, points w h.1.0)
-  arguments_by the.Strcpy (v ∷ w ∷ []) h = (points v h.0, points w h.1.0)
-  arguments_by the.Strlen (v ∷ []) h = points v h.0
-  arguments_by the.Putchar [] h = absurd h
-  arguments_by the.Putchar (v ∷ w ∷ vs) h = absurd h.1
-  arguments_by the.Getchar (v ∷ vs) h = absurd h
-  arguments_by the.Puts [] h = absurd h
-  arguments_by the.Puts (v ∷ w ∷ vs) h = absurd h.1
-  arguments_by the.Exit [] h = absurd h
-  arguments_by the.Exit (v ∷ w ∷ vs) h = absurd h.1
-  arguments_by the.Memcpy [] h = absurd h
-  arguments_by the.Memcpy (v ∷ []) h = absurd h.1
-  arguments_by the.Memcpy (v ∷ w ∷ []) h = absurd h.1.1
-  arguments_by the.Memcpy (v ∷ w ∷ n ∷ x ∷ vs) h = absurd h.1.1.1
-  arguments_by the.Memset [] h = absurd h
-  arguments_by the.Memset (v ∷ []) h = absurd h.1
-  arguments_by the.Memset (v ∷ w ∷ []) h = absurd h.1.1
-  arguments_by the.Memset (v ∷ w ∷ n ∷ x ∷ vs) h = absurd h.1.1.1
-  arguments_by the.Strcmp [] h = absurd h
-  arguments_by the.Strcmp (v ∷ []) h = absurd h.1
-  arguments_by the.Strcmp (v ∷ w ∷ x ∷ vs) h = absurd h.1.1
-  arguments_by the.Strcpy [] h = absurd h
-  arguments_by the.Strcpy (v ∷ []) h = absurd h.1
-  arguments_by the.Strcpy (v ∷ w ∷ x ∷ vs) h = absurd h.1.1
-  arguments_by the.Strlen [] h = absurd h
-  arguments_by the.Strlen (v ∷ w ∷ vs) h = absurd h.1
+  arguments_by : (c : Bool) (l : Library) (vs : List Value) → SuitedBy E (library_params c l) vs → AreArguments s l vs
+  arguments_by c the.Putchar (v ∷ []) h = is_number v h.0
+  arguments_by c the.Getchar [] h = tt
+  arguments_by c the.Puts (v ∷ []) h = points v h.0
+  arguments_by c the.Exit (v ∷ []) h = is_number v h.0
+  arguments_by c the.Memcpy (v ∷ w ∷ n ∷ []) h = (points v h.0, points w h.1.0, is_count n h.1.1.0)
+  arguments_by c the.Memset (v ∷ w ∷ n ∷ []) h = (points v h.0, is_number w h.1.0, is_count n h.1.1.0)
+  arguments_by c the.Strcmp (v ∷ w ∷ []) h = (points v h.0, points w h.1.0)
+  arguments_by c the.Strcpy (v ∷ w ∷ []) h = (points v h.0, points w h.1.0)
+  arguments_by c the.Strlen (v ∷ []) h = points v h.0
+  arguments_by c the.Putchar [] h = absurd h
+  arguments_by c the.Putchar (v ∷ w ∷ vs) h = absurd h.1
+  arguments_by c the.Getchar (v ∷ vs) h = absurd h
+  arguments_by c the.Puts [] h = absurd h
+  arguments_by c the.Puts (v ∷ w ∷ vs) h = absurd h.1
+  arguments_by c the.Exit [] h = absurd h
+  arguments_by c the.Exit (v ∷ w ∷ vs) h = absurd h.1
+  arguments_by c the.Memcpy [] h = absurd h
+  arguments_by c the.Memcpy (v ∷ []) h = absurd h.1
+  arguments_by c the.Memcpy (v ∷ w ∷ []) h = absurd h.1.1
+  arguments_by c the.Memcpy (v ∷ w ∷ n ∷ x ∷ vs) h = absurd h.1.1.1
+  arguments_by c the.Memset [] h = absurd h
+  arguments_by c the.Memset (v ∷ []) h = absurd h.1
+  arguments_by c the.Memset (v ∷ w ∷ []) h = absurd h.1.1
+  arguments_by c the.Memset (v ∷ w ∷ n ∷ x ∷ vs) h = absurd h.1.1.1
+  arguments_by c the.Strcmp [] h = absurd h
+  arguments_by c the.Strcmp (v ∷ []) h = absurd h.1
+  arguments_by c the.Strcmp (v ∷ w ∷ x ∷ vs) h = absurd h.1.1
+  arguments_by c the.Strcpy [] h = absurd h
+  arguments_by c the.Strcpy (v ∷ []) h = absurd h.1
+  arguments_by c the.Strcpy (v ∷ w ∷ x ∷ vs) h = absurd h.1.1
+  arguments_by c the.Strlen [] h = absurd h
+  arguments_by c the.Strlen (v ∷ w ∷ vs) h = absurd h.1
 
-  pub library_arguments : (types : TypesTy) (ts : List Ty) (l : Library) (vs : List Value) → fit types ts false (params_of l) ≡ true → AllSuited E ts vs → AreArguments s l vs
-  library_arguments types ts l vs f a = arguments_by l vs (fit_by E types ts (params_of l) vs f a)
+  pub library_arguments : (types : TypesTy) (ts : List Ty) (c : Bool) (l : Library) (vs : List Value) → fit types ts false (library_params c l) ≡ true → AllSuited E ts vs → AreArguments s l vs
+  library_arguments types ts c l vs f a = arguments_by c l vs (fit_by E types ts (library_params c l) vs f a)

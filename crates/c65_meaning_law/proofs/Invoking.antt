@@ -9,6 +9,7 @@ use Rattle.c65_ctype.specs.Compatible.{are_compatible}
 use Rattle.c65_base.specs.declared.library.Library.{Library}
 use Rattle.c65_base.specs.declared.library.Library.TheVariants as the
 use Rattle.c65_csem.specs.Trees.{Stmt, FuncTy}
+use Rattle.c65_csem.specs.Library.{library_type}
 use Rattle.c65_csem.specs.Places.{plain}
 use Rattle.c65_csem.specs.Statements as st
 use Rattle.c65_csem.specs.Statements.{CanBreak}
@@ -25,7 +26,7 @@ use Rattle.c65_meaning.specs.Library.{effect_of}
 use Rattle.c65_meaning.specs.State.{Frame, Scene, State, Deep, Running, turned, block_in}
 use Rattle.c65_meaning.specs.Step.{place_in, are_values, is_deep, unless_deep, new_frame, with_params, entered, called, unless_refused, accepted, call_of, invoked, served, func_in, frames_below, perform}
 use Rattle.c65_csem_names.specs.Scopes.{IsInScope, IsScoped, IsScopedBody, HasScopedBody, entering}
-use Rattle.c65_csem_names.specs.Library.{type_of, IsTypedAs, HasLibraryType}
+use Rattle.c65_csem_names.specs.Library.{IsTypedAs, HasLibraryType}
 use Rattle.c65_csem_names.specs.Programs.{IsScopedProgram}
 use Rattle.c65_meaning_law.specs.Laws.{HasBlock}
 use Rattle.c65_meaning_law.specs.Statements.{HasFrame, IsReady}
@@ -177,28 +178,28 @@ module _ (p : ProgramTy) (w : IsProgram p.unit p.main) (s : IsScopedProgram p.un
           enough_on e (j ∷ os) [] h = absurd h
           enough_on e (j ∷ os) (v ∷ ws) h = enough_on e os ws h
 
-      serves : (l : Library) (g : FuncTy) → g.ty ≡ type_of l → fit_definition p.unit types g.params g.ty ≡ true → Gives (kind_given g.ty) (Takes (inside call) p.unit c k) ks → IsWell p.unit (served l args k vs d (effect_of d l args))
-      serves l g e f t =
+      serves : (char : Bool) (l : Library) (g : FuncTy) → g.ty ≡ library_type char l → fit_definition p.unit types g.params g.ty ≡ true → Gives (kind_given g.ty) (Takes (inside call) p.unit c k) ks → IsWell p.unit (served l args k vs d (effect_of d l args))
+      serves char l g e f t =
           let there = all_suited_on d moved types args given in
-          let fits : fit_definition p.unit types g.params (type_of l) ≡ true = subst (λ (y : Fn). fit_definition p.unit types g.params y ≡ true) e f in
-          served_well p d call (at_later p c d call moved at) (fits_here (inside call) tt p c d moved i.store) l args (library_arguments d.store p.unit.types types l args fits there) k ks vs
-          (t.0, subst (λ (y : Kind). Below y t.0) (ap kind_given e ∙ library_kind l) t.1, takes_on (inside call) p.unit c d moved k (t.0 ∷ ks) t.2)
+          let fits : fit_definition p.unit types g.params (library_type char l) ≡ true = subst (λ (y : Fn). fit_definition p.unit types g.params y ≡ true) e f in
+          served_well p d call (at_later p c d call moved at) (fits_here (inside call) tt p c d moved i.store) l args (library_arguments d.store p.unit.types types char l args fits there) k ks vs
+          (t.0, subst (λ (y : Kind). Below y t.0) (ap kind_given e ∙ library_kind char l) t.1, takes_on (inside call) p.unit c d moved k (t.0 ∷ ks) t.2)
           (suited_on (inside call) p.unit c d moved ks vs suited)
         where
-          library_kind : (m : Library) → kind_given (type_of m) ≡ kind_from m
-          library_kind the.Putchar = refl
-          library_kind the.Getchar = refl
-          library_kind the.Puts = refl
-          library_kind the.Exit = refl
-          library_kind the.Memcpy = refl
-          library_kind the.Memset = refl
-          library_kind the.Strcmp = refl
-          library_kind the.Strcpy = refl
-          library_kind the.Strlen = refl
+          library_kind : (char : Bool) (m : Library) → kind_given (library_type char m) ≡ kind_from m
+          library_kind char the.Putchar = refl
+          library_kind char the.Getchar = refl
+          library_kind char the.Puts = refl
+          library_kind char the.Exit = refl
+          library_kind char the.Memcpy = refl
+          library_kind char the.Memset = refl
+          library_kind char the.Strcmp = refl
+          library_kind char the.Strcpy = refl
+          library_kind char the.Strlen = refl
 
       calls : (f : ℕ) (g : FuncTy) (body : Option Stmt) (library : Option Library) → slice_get p.unit.funcs f ≡ Some g → g.body ≡ body → g.library ≡ library → fit_definition p.unit types g.params g.ty ≡ true → Gives (kind_given g.ty) (Takes (inside call) p.unit c k) ks → IsWell p.unit (called p.unit f types args g body library k vs d)
       calls f g (Some body) library m j l o t = enters f g body (soft_cost p.unit (argument_bytes p.unit types) body) m j (enough_of g.ty g.params types args (body_typed f g body m j).prototype o given) t
-      calls f g None (Some x) m j l o t = serves x g (subst (λ (y : Option Library). IsTypedAs y g.ty) l (all_at HasLibraryType p.unit.funcs f g s.library m)) o t
+      calls f g None (Some x) m j l o t = serves s.library.0 x g (subst (λ (y : Option Library). IsTypedAs s.library.0 y g.ty) l (all_at (HasLibraryType s.library.0) p.unit.funcs f g s.library.1 m)) o t
       calls f g None None m j l o t = absurd (subst (λ (y : Option Library). IsWhole None y) l (subst (λ (x : Option Stmt). IsWhole x g.library) j (all_at IsLinked p.unit.funcs f g w.funcs m)))
 
       unless_refused_well : (callee : Ty) (g : FuncTy) (t q : Bool) (x : State) → accepts p.unit callee types g ≡ q → (accepts p.unit callee types g ≡ true → IsWell p.unit x) → IsWell p.unit (unless_refused p.unit (if t then (if q then None else Some (By CalleeType)) else Some (By NoResult)) x)
