@@ -1,5 +1,7 @@
 // How many expressions and statements a unit has. Each count stands still at its type's end.
 ghost use Rattle.std.specs.Prelude.{◌≡◌, ◌+◌, ◌≤◌, min};
+ghost use Rattle.c65_base.specs.Limits.{limit_of};
+ghost use Rattle.c65_base.specs.declared.refusal.Size.TheVariants.{Depth};
 ghost use Rattle.c65_tree.specs.Lists.{total, of_option};
 ghost use Rattle.c65_tree.specs.Depth.{unit_depth};
 ghost use Rattle.c65_tree.specs.Nodes.{expr_nodes, init_nodes, init_declarator_nodes, decl_nodes, stmt_nodes, function_nodes, item_nodes, unit_nodes};
@@ -13,7 +15,7 @@ use crate::stmt::{
 
 /// The number of expressions and statements of a unit, or the greatest u64 where there are more.
 pub fn nodes(unit: &Unit) -> u64
-    requires { unit_depth (unit_of unit.now) ≤ 256 }
+    requires { unit_depth (unit_of unit.now) ≤ limit_of Depth }
     ensures { result ≡ min (unit_nodes (unit_of unit.now)) 18446744073709551615 }
 {
     items_count(&unit.items)

@@ -1,5 +1,7 @@
 // How deep and how large trees are, in one walk.
 ghost use Rattle.std.specs.Prelude.{◌≡◌, ◌+◌, ◌≤◌, min, max, nat_le};
+ghost use Rattle.c65_base.specs.Limits.{limit_of};
+ghost use Rattle.c65_base.specs.declared.refusal.Size.TheVariants.{Depth};
 ghost use Rattle.c65_tree.specs.Lists.{deepest, total, of_option};
 ghost use Rattle.c65_tree.specs.Depth.{expr_depth, type_depth, specifiers_depth, specifier_depth, declarator_depth, params_depth};
 ghost use Rattle.c65_tree.specs.Nodes.{expr_nodes, type_nodes, specifiers_nodes, specifier_nodes, declarator_nodes, params_nodes};
@@ -48,7 +50,7 @@ impl Extent {
 /// The depth of an expression: a leaf has depth 1, and every other node is one deeper than its
 /// deepest part.
 pub fn depth(expr: &Expr) -> u32
-    requires { expr_depth (expr_of expr.now) ≤ 256 }
+    requires { expr_depth (expr_of expr.now) ≤ limit_of Depth }
     ensures { result ≡ expr_depth (expr_of expr.now) }
 {
     expr_extent(expr).depth

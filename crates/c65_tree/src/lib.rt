@@ -1,6 +1,7 @@
 //! Syntax trees of C90, and how deep and how large they are.
 #![tactic(auto)]
 
+mod boxes;
 mod count;
 mod expr;
 mod extent;
@@ -10,6 +11,7 @@ mod make_expr;
 mod make_stmt;
 mod stmt;
 
+pub use boxes::push_last;
 pub use count::nodes;
 pub use expr::{
     Declarator, DeclaratorKind, Enumerator, Expr, ExprKind, MemberDecl, MemberDeclarator, Param,

@@ -5,11 +5,12 @@ ghost use Rattle.c65_tree.specs.Trees.{MemberDeclList, MemberList, EnumeratorLis
 ghost use Rattle.c65_tree.specs.View.{expr_of, type_of, specifiers_of, specifier_of, declarator_of, params_of, specifiers_from, members_from, member_decls_from, enumerators_from, params_from, with_member_decl, with_member, with_enumerator, with_param};
 ghost use Rattle.c65_tree.specs.Optional.{maybe_expr, maybe_declarator};
 
+use crate::boxes::boxed;
 use crate::expr::{
     Declarator, DeclaratorKind, Enumerator, Expr, MemberDecl, MemberDeclarator, Param, Params,
     Specifier, SpecifierKind, Specifiers, Storage, TypeName,
 };
-use c65_base::{Name, Pos};
+use c65_base::{Name, Pos, boxed_beside, boxed_pair};
 use std::alloc::{AllocError, Global};
 
 impl TypeName {
@@ -131,7 +132,7 @@ impl Declarator {
     pub fn grouped(alloc: Global, pos: Pos, d: Declarator) -> Result<Declarator, AllocError>
         ensures { IfOk result (λ r. declarator_of r ≡ Trees.grouped pos (declarator_of d)) }
     {
-        let kind = DeclaratorKind::Paren(Box::new(alloc, d)?);
+        let kind = DeclaratorKind::Paren(boxed(alloc, d)?);
         Ok(Declarator { pos, kind })
     }
 
@@ -144,7 +145,7 @@ impl Declarator {
     ) -> Result<Declarator, AllocError>
         ensures { IfOk result (λ r. declarator_of r ≡ Trees.calling pos cdecl (declarator_of d)) }
     {
-        let kind = DeclaratorKind::Calling(cdecl, Box::new(alloc, d)?);
+        let kind = DeclaratorKind::Calling(cdecl, boxed(alloc, d)?);
         Ok(Declarator { pos, kind })
     }
 
@@ -158,7 +159,7 @@ impl Declarator {
     ) -> Result<Declarator, AllocError>
         ensures { IfOk result (λ r. declarator_of r ≡ Trees.pointer pos constant volatile (declarator_of d)) }
     {
-        let kind = DeclaratorKind::Pointer(constant, volatile, Box::new(alloc, d)?);
+        let kind = DeclaratorKind::Pointer(constant, volatile, boxed(alloc, d)?);
         Ok(Declarator { pos, kind })
     }
 
@@ -166,7 +167,7 @@ impl Declarator {
     pub fn open_array(alloc: Global, pos: Pos, d: Declarator) -> Result<Declarator, AllocError>
         ensures { IfOk result (λ r. declarator_of r ≡ Trees.array pos (declarator_of d) no_expr) }
     {
-        let kind = DeclaratorKind::Array(Box::new(alloc, d)?, None);
+        let kind = DeclaratorKind::Array(boxed(alloc, d)?, None);
         Ok(Declarator { pos, kind })
     }
 
@@ -178,7 +179,8 @@ impl Declarator {
     ) -> Result<Declarator, AllocError>
         ensures { IfOk result (λ r. declarator_of r ≡ Trees.array pos (declarator_of d) (an_expr (expr_of bound))) }
     {
-        let kind = DeclaratorKind::Array(Box::new(alloc, d)?, Some(Box::new(alloc, bound)?));
+        let (d, bound) = boxed_pair(alloc, d, bound)?;
+        let kind = DeclaratorKind::Array(d, Some(bound));
         Ok(Declarator { pos, kind })
     }
 
@@ -190,7 +192,8 @@ impl Declarator {
     ) -> Result<Declarator, AllocError>
         ensures { IfOk result (λ r. declarator_of r ≡ Trees.function pos (declarator_of d) (params_of params)) }
     {
-        let kind = DeclaratorKind::Function(Box::new(alloc, d)?, params);
+        let (d, params) = boxed_beside(alloc, d, params)?;
+        let kind = DeclaratorKind::Function(d, params);
         Ok(Declarator { pos, kind })
     }
 }

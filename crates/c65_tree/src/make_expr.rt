@@ -4,8 +4,9 @@ ghost use Rattle.c65_tree.specs.Trees;
 ghost use Rattle.c65_tree.specs.Trees.{no_exprs};
 ghost use Rattle.c65_tree.specs.View.{expr_of, type_of, exprs_from};
 
+use crate::boxes::boxed;
 use crate::expr::{Expr, ExprKind, TypeName};
-use c65_base::{BinaryOp, Name, Pos, StepKind, Text as Bytes, UnaryOp};
+use c65_base::{BinaryOp, Name, Pos, StepKind, Text as Bytes, UnaryOp, boxed_beside, boxed_pair};
 use c65_ints::IntType;
 use std::alloc::{AllocError, Global};
 
@@ -34,14 +35,15 @@ impl Expr {
     pub fn paren(alloc: Global, pos: Pos, e: Expr) -> Result<Expr, AllocError>
         ensures { IfOk result (λ r. expr_of r ≡ Trees.paren pos (expr_of e)) }
     {
-        let kind = ExprKind::Paren(Box::new(alloc, e)?);
+        let kind = ExprKind::Paren(boxed(alloc, e)?);
         Ok(Expr { pos, kind })
     }
 
     pub fn index(alloc: Global, pos: Pos, a: Expr, i: Expr) -> Result<Expr, AllocError>
         ensures { IfOk result (λ r. expr_of r ≡ Trees.index pos (expr_of a) (expr_of i)) }
     {
-        let kind = ExprKind::Index(Box::new(alloc, a)?, Box::new(alloc, i)?);
+        let (a, i) = boxed_pair(alloc, a, i)?;
+        let kind = ExprKind::Index(a, i);
         Ok(Expr { pos, kind })
     }
 
@@ -49,7 +51,8 @@ impl Expr {
     pub fn call(alloc: Global, pos: Pos, f: Expr, arguments: Vec<Expr>) -> Result<Expr, AllocError>
         ensures { IfOk result (λ r. expr_of r ≡ Trees.call pos (expr_of f) (exprs_from no_exprs arguments.items)) }
     {
-        let kind = ExprKind::Call(Box::new(alloc, f)?, arguments);
+        let (f, arguments) = boxed_beside(alloc, f, arguments)?;
+        let kind = ExprKind::Call(f, arguments);
         Ok(Expr { pos, kind })
     }
 
@@ -63,42 +66,43 @@ impl Expr {
     ) -> Result<Expr, AllocError>
         ensures { IfOk result (λ r. expr_of r ≡ Trees.member pos (expr_of e) arrow name) }
     {
-        let kind = ExprKind::Member(Box::new(alloc, e)?, arrow, name);
+        let kind = ExprKind::Member(boxed(alloc, e)?, arrow, name);
         Ok(Expr { pos, kind })
     }
 
     pub fn step(alloc: Global, pos: Pos, how: StepKind, e: Expr) -> Result<Expr, AllocError>
         ensures { IfOk result (λ r. expr_of r ≡ Trees.step pos how (expr_of e)) }
     {
-        let kind = ExprKind::Step(how, Box::new(alloc, e)?);
+        let kind = ExprKind::Step(how, boxed(alloc, e)?);
         Ok(Expr { pos, kind })
     }
 
     pub fn unary(alloc: Global, pos: Pos, op: UnaryOp, e: Expr) -> Result<Expr, AllocError>
         ensures { IfOk result (λ r. expr_of r ≡ Trees.unary pos op (expr_of e)) }
     {
-        let kind = ExprKind::Unary(op, Box::new(alloc, e)?);
+        let kind = ExprKind::Unary(op, boxed(alloc, e)?);
         Ok(Expr { pos, kind })
     }
 
     pub fn sizeof_expr(alloc: Global, pos: Pos, e: Expr) -> Result<Expr, AllocError>
         ensures { IfOk result (λ r. expr_of r ≡ Trees.sizeof_expr pos (expr_of e)) }
     {
-        let kind = ExprKind::SizeofExpr(Box::new(alloc, e)?);
+        let kind = ExprKind::SizeofExpr(boxed(alloc, e)?);
         Ok(Expr { pos, kind })
     }
 
     pub fn sizeof_type(alloc: Global, pos: Pos, t: TypeName) -> Result<Expr, AllocError>
         ensures { IfOk result (λ r. expr_of r ≡ Trees.sizeof_type pos (type_of t)) }
     {
-        let kind = ExprKind::SizeofType(Box::new(alloc, t)?);
+        let kind = ExprKind::SizeofType(boxed(alloc, t)?);
         Ok(Expr { pos, kind })
     }
 
     pub fn cast(alloc: Global, pos: Pos, t: TypeName, e: Expr) -> Result<Expr, AllocError>
         ensures { IfOk result (λ r. expr_of r ≡ Trees.cast pos (type_of t) (expr_of e)) }
     {
-        let kind = ExprKind::Cast(Box::new(alloc, t)?, Box::new(alloc, e)?);
+        let (t, e) = boxed_pair(alloc, t, e)?;
+        let kind = ExprKind::Cast(t, e);
         Ok(Expr { pos, kind })
     }
 
@@ -111,7 +115,8 @@ impl Expr {
     ) -> Result<Expr, AllocError>
         ensures { IfOk result (λ r. expr_of r ≡ Trees.binary pos op (expr_of a) (expr_of b)) }
     {
-        let kind = ExprKind::Binary(op, Box::new(alloc, a)?, Box::new(alloc, b)?);
+        let (a, b) = boxed_pair(alloc, a, b)?;
+        let kind = ExprKind::Binary(op, a, b);
         Ok(Expr { pos, kind })
     }
 
@@ -119,7 +124,8 @@ impl Expr {
     pub fn and_also(alloc: Global, pos: Pos, a: Expr, b: Expr) -> Result<Expr, AllocError>
         ensures { IfOk result (λ r. expr_of r ≡ Trees.and_also pos (expr_of a) (expr_of b)) }
     {
-        let kind = ExprKind::And(Box::new(alloc, a)?, Box::new(alloc, b)?);
+        let (a, b) = boxed_pair(alloc, a, b)?;
+        let kind = ExprKind::And(a, b);
         Ok(Expr { pos, kind })
     }
 
@@ -127,7 +133,8 @@ impl Expr {
     pub fn or_else(alloc: Global, pos: Pos, a: Expr, b: Expr) -> Result<Expr, AllocError>
         ensures { IfOk result (λ r. expr_of r ≡ Trees.or_else pos (expr_of a) (expr_of b)) }
     {
-        let kind = ExprKind::Or(Box::new(alloc, a)?, Box::new(alloc, b)?);
+        let (a, b) = boxed_pair(alloc, a, b)?;
+        let kind = ExprKind::Or(a, b);
         Ok(Expr { pos, kind })
     }
 
@@ -141,11 +148,10 @@ impl Expr {
     ) -> Result<Expr, AllocError>
         ensures { IfOk result (λ r. expr_of r ≡ Trees.conditional pos (expr_of c) (expr_of a) (expr_of b)) }
     {
-        let kind = ExprKind::Cond(
-            Box::new(alloc, c)?,
-            Box::new(alloc, a)?,
-            Box::new(alloc, b)?,
-        );
+        let (c, (a, b)) = boxed_beside(alloc, c, (a, b))?;
+        let (a, (b, c)) = boxed_beside(alloc, a, (b, c))?;
+        let (b, (a, c)) = boxed_beside(alloc, b, (a, c))?;
+        let kind = ExprKind::Cond(c, a, b);
         Ok(Expr { pos, kind })
     }
 
@@ -159,7 +165,8 @@ impl Expr {
     ) -> Result<Expr, AllocError>
         ensures { IfOk result (λ r. expr_of r ≡ Trees.assign pos op (expr_of a) (expr_of b)) }
     {
-        let kind = ExprKind::Assign(op, Box::new(alloc, a)?, Box::new(alloc, b)?);
+        let (a, b) = boxed_pair(alloc, a, b)?;
+        let kind = ExprKind::Assign(op, a, b);
         Ok(Expr { pos, kind })
     }
 
@@ -167,7 +174,8 @@ impl Expr {
     pub fn comma(alloc: Global, pos: Pos, a: Expr, b: Expr) -> Result<Expr, AllocError>
         ensures { IfOk result (λ r. expr_of r ≡ Trees.comma pos (expr_of a) (expr_of b)) }
     {
-        let kind = ExprKind::Comma(Box::new(alloc, a)?, Box::new(alloc, b)?);
+        let (a, b) = boxed_pair(alloc, a, b)?;
+        let kind = ExprKind::Comma(a, b);
         Ok(Expr { pos, kind })
     }
 }

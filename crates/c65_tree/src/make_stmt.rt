@@ -4,9 +4,10 @@ ghost use Rattle.c65_tree.specs.Trees;
 ghost use Rattle.c65_tree.specs.Trees.{no_inits, no_stmts, no_stmt, a_stmt};
 ghost use Rattle.c65_tree.specs.View.{expr_of, init_of, decl_of, stmt_of, inits_from, stmts_from, maybe};
 
+use crate::boxes::boxed;
 use crate::expr::Expr;
 use crate::stmt::{Decl, InitKind, Initialiser, Stmt, StmtKind};
-use c65_base::{Name, Pos};
+use c65_base::{Name, Pos, boxed_beside};
 use std::alloc::{AllocError, Global};
 
 impl Initialiser {
@@ -30,21 +31,22 @@ impl Stmt {
     pub fn label(alloc: Global, pos: Pos, name: Name, s: Stmt) -> Result<Stmt, AllocError>
         ensures { IfOk result (λ r. stmt_of r ≡ Trees.label pos name (stmt_of s)) }
     {
-        let kind = StmtKind::Label(name, Box::new(alloc, s)?);
+        let kind = StmtKind::Label(name, boxed(alloc, s)?);
         Ok(Stmt { pos, kind })
     }
 
     pub fn case(alloc: Global, pos: Pos, value: Expr, s: Stmt) -> Result<Stmt, AllocError>
         ensures { IfOk result (λ r. stmt_of r ≡ Trees.case pos (expr_of value) (stmt_of s)) }
     {
-        let kind = StmtKind::Case(value, Box::new(alloc, s)?);
+        let (s, value) = boxed_beside(alloc, s, value)?;
+        let kind = StmtKind::Case(value, s);
         Ok(Stmt { pos, kind })
     }
 
     pub fn default(alloc: Global, pos: Pos, s: Stmt) -> Result<Stmt, AllocError>
         ensures { IfOk result (λ r. stmt_of r ≡ Trees.default pos (stmt_of s)) }
     {
-        let kind = StmtKind::Default(Box::new(alloc, s)?);
+        let kind = StmtKind::Default(boxed(alloc, s)?);
         Ok(Stmt { pos, kind })
     }
 
@@ -68,7 +70,8 @@ impl Stmt {
     pub fn if_then(alloc: Global, pos: Pos, test: Expr, s: Stmt) -> Result<Stmt, AllocError>
         ensures { IfOk result (λ r. stmt_of r ≡ Trees.if_stmt pos (expr_of test) (stmt_of s) no_stmt) }
     {
-        let kind = StmtKind::If(test, Box::new(alloc, s)?, None);
+        let (s, test) = boxed_beside(alloc, s, test)?;
+        let kind = StmtKind::If(test, s, None);
         Ok(Stmt { pos, kind })
     }
 
@@ -81,28 +84,33 @@ impl Stmt {
     ) -> Result<Stmt, AllocError>
         ensures { IfOk result (λ r. stmt_of r ≡ Trees.if_stmt pos (expr_of test) (stmt_of s) (a_stmt (stmt_of other))) }
     {
-        let kind = StmtKind::If(test, Box::new(alloc, s)?, Some(Box::new(alloc, other)?));
+        let (s, (test, other)) = boxed_beside(alloc, s, (test, other))?;
+        let (other, (test, s)) = boxed_beside(alloc, other, (test, s))?;
+        let kind = StmtKind::If(test, s, Some(other));
         Ok(Stmt { pos, kind })
     }
 
     pub fn switch(alloc: Global, pos: Pos, value: Expr, s: Stmt) -> Result<Stmt, AllocError>
         ensures { IfOk result (λ r. stmt_of r ≡ Trees.switch pos (expr_of value) (stmt_of s)) }
     {
-        let kind = StmtKind::Switch(value, Box::new(alloc, s)?);
+        let (s, value) = boxed_beside(alloc, s, value)?;
+        let kind = StmtKind::Switch(value, s);
         Ok(Stmt { pos, kind })
     }
 
     pub fn while_loop(alloc: Global, pos: Pos, test: Expr, s: Stmt) -> Result<Stmt, AllocError>
         ensures { IfOk result (λ r. stmt_of r ≡ Trees.while pos (expr_of test) (stmt_of s)) }
     {
-        let kind = StmtKind::While(test, Box::new(alloc, s)?);
+        let (s, test) = boxed_beside(alloc, s, test)?;
+        let kind = StmtKind::While(test, s);
         Ok(Stmt { pos, kind })
     }
 
     pub fn do_while(alloc: Global, pos: Pos, s: Stmt, test: Expr) -> Result<Stmt, AllocError>
         ensures { IfOk result (λ r. stmt_of r ≡ Trees.do_while pos (stmt_of s) (expr_of test)) }
     {
-        let kind = StmtKind::DoWhile(Box::new(alloc, s)?, test);
+        let (s, test) = boxed_beside(alloc, s, test)?;
+        let kind = StmtKind::DoWhile(s, test);
         Ok(Stmt { pos, kind })
     }
 
@@ -117,7 +125,8 @@ impl Stmt {
     ) -> Result<Stmt, AllocError>
         ensures { IfOk result (λ r. stmt_of r ≡ Trees.for pos (maybe expr_of first) (maybe expr_of test) (maybe expr_of step) (stmt_of s)) }
     {
-        let kind = StmtKind::For(first, test, step, Box::new(alloc, s)?);
+        let (s, (first, test, step)) = boxed_beside(alloc, s, (first, test, step))?;
+        let kind = StmtKind::For(first, test, step, s);
         Ok(Stmt { pos, kind })
     }
 

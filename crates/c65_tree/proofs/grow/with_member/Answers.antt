@@ -1,8 +1,9 @@
 use Rattle.std.proofs.Common.{ap, ◌∙◌}
+use Rattle.std.proofs.lemmas.Result.{IfOk-weaker}
 use Rattle.c65_tree.specs.Trees
 use Rattle.c65_tree.specs.View as v
 use Rattle.c65_tree.proofs.Growing
 use Rattle.c65_tree.proofs.grow.with_member.Goals as goal
 
 pub returns : goal.returns
-returns c = ap (v.members_from Trees.no_more_members) c.in_ok-push.ensures.items ∙ Growing.members_push Trees.no_more_members c.args.list.items c.args.member
+returns c = IfOk-weaker c.with_last.result _ _ (λ x e. ap (v.members_from Trees.no_more_members) e ∙ Growing.members_push Trees.no_more_members c.args.list.items c.args.member) c.with_last.ensures

@@ -1,8 +1,9 @@
 use Rattle.std.proofs.Common.{ap, ◌∙◌}
+use Rattle.std.proofs.lemmas.Result.{IfOk-weaker}
 use Rattle.c65_tree.specs.Trees
 use Rattle.c65_tree.specs.View as v
 use Rattle.c65_tree.proofs.Growing
 use Rattle.c65_tree.proofs.grow.with_param.Goals as goal
 
 pub returns : goal.returns
-returns c = ap (v.params_from Trees.no_more_params) c.in_ok-push.ensures.items ∙ Growing.params_push Trees.no_more_params c.args.list.items c.args.param
+returns c = IfOk-weaker c.with_last.result _ _ (λ x e. ap (v.params_from Trees.no_more_params) e ∙ Growing.params_push Trees.no_more_params c.args.list.items c.args.param) c.with_last.ensures

@@ -1,8 +1,9 @@
 use Rattle.std.proofs.Common.{ap, ◌∙◌}
+use Rattle.std.proofs.lemmas.Result.{IfOk-weaker}
 use Rattle.c65_tree.specs.Trees
 use Rattle.c65_tree.specs.View as v
 use Rattle.c65_tree.proofs.Growing
 use Rattle.c65_tree.proofs.grow.with_specifier.Goals as goal
 
 pub returns : goal.returns
-returns c = ap (v.specifiers_from Trees.no_specifiers) c.in_ok-push.ensures.items ∙ Growing.specifiers_push Trees.no_specifiers c.args.list.items c.args.q
+returns c = IfOk-weaker c.with_last.result _ _ (λ x e. ap (v.specifiers_from Trees.no_specifiers) e ∙ Growing.specifiers_push Trees.no_specifiers c.args.list.items c.args.q) c.with_last.ensures
