@@ -200,9 +200,6 @@ are_same-equal s t h =
     same_at Z a x y n v z c b = z
     same_at C a x y n v z c b = c
 
-pub same_iff : (s t : RegSet) → IsTrue (are_same s t) ↔ (s ≡ t)
-same_iff s t = (are_same-equal s t, λ e. subst (λ u. are_same s u ≡ true) e (are_same-itself s))
-
 pub within_iff : (s t : RegSet) → (minus_of s t ≡ no_parts) ↔ IsWithin s t
 within_iff s t = (
   λ e p h. not_not (has_part t p) (λ out. bad (sym (has_part-minus s t p ∙ (ap (λ b. b && not (has_part t p)) h ∙ ap not out)) ∙ (ap (λ r. has_part r p) e ∙ has_part-empty p))),

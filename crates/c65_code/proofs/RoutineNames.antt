@@ -1,5 +1,5 @@
 -- Each routine is found by its name.
-use Rattle.std.proofs.Common.{◌≡◌, ℕ, Bool, true, false, List, [], ◌∷◌, Option, Some, None, IfSome, bytes_eq, cond, refl, subst}
+use Rattle.std.proofs.Common.{◌≡◌, ℕ, Bool, true, false, List, [], ◌∷◌, Option, Some, None, IfSome, bytes_eq, cond, refl, sym, ◌∙◌, subst}
 use Rattle.std.proofs.lemmas.Slice.Eq.{bytes_eq-Decides}
 use Rattle.c65_code.specs.declared.routine.Count.{Count}
 use Rattle.c65_code.specs.declared.routine.Count.TheVariants.{One, Two, Three, Four, Five, Six, Seven, Eight}
@@ -13,7 +13,8 @@ use Rattle.c65_base.specs.declared.library.Library.{Library}
 use Rattle.c65_base.specs.declared.library.Library.TheVariants.{Putchar, Getchar, Puts, Exit, Memcpy, Memset, Strcmp, Strcpy, Strlen}
 use Rattle.c65_code.specs.declared.routine.Routine.{Routine}
 use Rattle.c65_code.specs.declared.routine.Routine.TheVariants as routines
-use Rattle.c65_code.specs.Names.{name_of, found_in, or_else, routine_named, stack_routines, word_operators, long_operators, other_routines, outside_routines}
+use Rattle.c65_code.specs.Names.{name_of, found_in, routine_named}
+use Rattle.c65_code.specs.declared.routine.TheConstants.Routine.{ALL}
 
 own_raise : (x : Count) → routine_named (name_of (routines.IncSp x)) ≡ Some (routines.IncSp x)
 own_raise One = refl
@@ -173,11 +174,14 @@ unfolding Named
 found_in-named [] name = tt
 found_in-named (r ∷ rs) name = named_if (bytes_eq (name_of r) name) r (found_in rs name) name ((bytes_eq-Decides (name_of r) name).0) (found_in-named rs name)
 
-or_named : (name : List ℕ) (o p : Option Routine) → Named name o → Named name p → Named name (or_else o p)
+pub named_from : (rs : List Routine) (name : List ℕ) (r : Routine) → found_in rs name ≡ Some r → name_of r ≡ name
 unfolding Named
-or_named name (Some r) p h k = h
-or_named name None p h k = k
+named_from rs name r e = subst (λ o. IfSome o (λ r. name_of r ≡ name)) e (found_in-named rs name)
 
 pub routine_named-named : (name : List ℕ) → IfSome (routine_named name) (λ r. name_of r ≡ name)
 unfolding Named
-routine_named-named name = or_named name _ _ (found_in-named stack_routines name) (or_named name _ _ (found_in-named word_operators name) (or_named name _ _ (found_in-named long_operators name) (or_named name _ _ (found_in-named other_routines name) (found_in-named outside_routines name))))
+routine_named-named name = found_in-named ALL name
+
+-- no two routines have one name
+pub same_routine : (r q : Routine) → name_of q ≡ name_of r → Some q ≡ Some r
+same_routine r q e = sym (own_name q) ∙ found_by_name (name_of q) r (sym e)

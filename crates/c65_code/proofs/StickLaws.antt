@@ -73,6 +73,7 @@ applied ops.Beq v r below bytes = bytes
 applied ops.Bmi v r below bytes = bytes
 applied ops.Bne v r below bytes = bytes
 applied ops.Bpl v r below bytes = bytes
+applied ops.Bra v r below bytes = bytes
 applied ops.Brk v r below bytes = bytes
 applied ops.Bvc v r below bytes = bytes
 applied ops.Bvs v r below bytes = bytes
@@ -85,8 +86,12 @@ applied ops.Jsr v r below bytes = bytes
 applied ops.Lsr v r below bytes = bytes
 applied ops.Pha v r below bytes = bytes
 applied ops.Php v r below bytes = bytes
+applied ops.Phx v r below bytes = bytes
+applied ops.Phy v r below bytes = bytes
 applied ops.Pla v r below bytes = bytes
 applied ops.Plp v r below bytes = bytes
+applied ops.Plx v r below bytes = bytes
+applied ops.Ply v r below bytes = bytes
 applied ops.Rol v r below bytes = bytes
 applied ops.Ror v r below bytes = bytes
 applied ops.Rti v r below bytes = bytes
@@ -96,12 +101,16 @@ applied ops.Sei v r below bytes = bytes
 applied ops.Sta v r below bytes = bytes
 applied ops.Stx v r below bytes = bytes
 applied ops.Sty v r below bytes = bytes
+applied ops.Stz v r below bytes = bytes
+applied ops.Trb v r below bytes = bytes
+applied ops.Tsb v r below bytes = bytes
 applied ops.Tsx v r below bytes = bytes
 applied ops.Txs v r below bytes = bytes
 
 stored_byte : (op : Op) (r : Regs) → AreBytes r → stored op r < 256
 stored_byte ops.Stx r bytes = bytes.x
 stored_byte ops.Sty r bytes = bytes.y
+stored_byte ops.Stz r bytes = lit< tt
 stored_byte _ r bytes = bytes.a
 
 rolled : (v : ℕ) (c : Bool) → v < 256 → (2 * v) % 256 + bit c < 256
@@ -155,6 +164,8 @@ change_bytes op modes.IndirectX w t bytes given = moved_bytes op (ref_of modes.I
 change_bytes op modes.IndirectY w t bytes given = moved_bytes op (ref_of modes.IndirectY w t) t bytes given
 change_bytes op modes.Indirect w t bytes given = moved_bytes op (ref_of modes.Indirect w t) t bytes given
 change_bytes op modes.Relative w t bytes given = moved_bytes op (ref_of modes.Relative w t) t bytes given
+change_bytes op modes.ZeroPageIndirect w t bytes given = moved_bytes op (ref_of modes.ZeroPageIndirect w t) t bytes given
+change_bytes op modes.AbsoluteIndirectX w t bytes given = moved_bytes op (ref_of modes.AbsoluteIndirectX w t) t bytes given
 
 effect_bytes : (kind : Kind) (op : Op) (mode : Mode) (w : ℕ) (t : State) → IsBytes t → IsGivenByte (ref_of mode w t) → IsBytes (effect kind op mode w t)
 effect_bytes Reads op mode w t bytes given = with_regs t _ bytes (applied op (value_at (ref_of mode w t) t) t.regs (value_byte (ref_of mode w t) t bytes given) (regs_of t bytes))

@@ -3,7 +3,7 @@ use Rattle.std.specs.Prelude.{ℕ, ◌+◌, ◌%◌, Bool, true, false, if◌the
 use Rattle.c65_mach.specs.declared.rows.Op.{Op}
 use Rattle.c65_mach.specs.declared.rows.Op.TheVariants as ops
 use Rattle.c65_mach.specs.declared.rows.Mode.{Mode}
-use Rattle.c65_mach.specs.declared.rows.Mode.TheVariants.{Accumulator, ZeroPage, ZeroPageX, ZeroPageY, AbsoluteX, AbsoluteY, IndirectX, IndirectY, Indirect}
+use Rattle.c65_mach.specs.declared.rows.Mode.TheVariants.{Accumulator, ZeroPage, ZeroPageX, ZeroPageY, AbsoluteX, AbsoluteY, IndirectX, IndirectY, Indirect, ZeroPageIndirect}
 use Rattle.c65_mach.specs.Step.{Kind, Reads, Stores, Changes, kind_of}
 use Rattle.c65_code.specs.declared.parts.Part.{Part}
 use Rattle.c65_code.specs.declared.parts.Part.TheVariants.{A, X, Y, Zp, N, V, Z, C}
@@ -26,7 +26,7 @@ abbrev pub pointer_at : Operand → RegSet
 pointer_at (Zero i) = union_of (byte_at i) (byte_at ((i + 1) % 256))
 pointer_at _ = no_parts
 
--- the registers and flags that an operation works on (MCS6500 Programming Manual, appendix A)
+-- the registers and flags that an operation works on (MCS6500 Programming Manual, appendix A, and the 65C02's operations)
 abbrev pub register_reads : Op → Mode → List Part
 register_reads ops.Adc m = A ∷ C ∷ []
 register_reads ops.And m = A ∷ []
@@ -44,15 +44,19 @@ register_reads ops.Bvs m = V ∷ []
 register_reads ops.Cmp m = A ∷ []
 register_reads ops.Cpx m = X ∷ []
 register_reads ops.Cpy m = Y ∷ []
+register_reads ops.Dec Accumulator = A ∷ []
 register_reads ops.Dex m = X ∷ []
 register_reads ops.Dey m = Y ∷ []
 register_reads ops.Eor m = A ∷ []
+register_reads ops.Inc Accumulator = A ∷ []
 register_reads ops.Inx m = X ∷ []
 register_reads ops.Iny m = Y ∷ []
 register_reads ops.Lsr Accumulator = A ∷ []
 register_reads ops.Ora m = A ∷ []
 register_reads ops.Pha m = A ∷ []
 register_reads ops.Php m = N ∷ V ∷ Z ∷ C ∷ []
+register_reads ops.Phx m = X ∷ []
+register_reads ops.Phy m = Y ∷ []
 register_reads ops.Rol Accumulator = A ∷ C ∷ []
 register_reads ops.Rol m = C ∷ []
 register_reads ops.Ror Accumulator = A ∷ C ∷ []
@@ -63,6 +67,8 @@ register_reads ops.Stx m = X ∷ []
 register_reads ops.Sty m = Y ∷ []
 register_reads ops.Tax m = A ∷ []
 register_reads ops.Tay m = A ∷ []
+register_reads ops.Trb m = A ∷ []
+register_reads ops.Tsb m = A ∷ []
 register_reads ops.Txa m = X ∷ []
 register_reads ops.Txs m = X ∷ []
 register_reads ops.Tya m = Y ∷ []
@@ -80,10 +86,12 @@ register_sets ops.Clv m = V ∷ []
 register_sets ops.Cmp m = N ∷ Z ∷ C ∷ []
 register_sets ops.Cpx m = N ∷ Z ∷ C ∷ []
 register_sets ops.Cpy m = N ∷ Z ∷ C ∷ []
+register_sets ops.Dec Accumulator = A ∷ N ∷ Z ∷ []
 register_sets ops.Dec m = N ∷ Z ∷ []
 register_sets ops.Dex m = X ∷ N ∷ Z ∷ []
 register_sets ops.Dey m = Y ∷ N ∷ Z ∷ []
 register_sets ops.Eor m = A ∷ N ∷ Z ∷ []
+register_sets ops.Inc Accumulator = A ∷ N ∷ Z ∷ []
 register_sets ops.Inc m = N ∷ Z ∷ []
 register_sets ops.Inx m = X ∷ N ∷ Z ∷ []
 register_sets ops.Iny m = Y ∷ N ∷ Z ∷ []
@@ -95,6 +103,8 @@ register_sets ops.Lsr m = N ∷ Z ∷ C ∷ []
 register_sets ops.Ora m = A ∷ N ∷ Z ∷ []
 register_sets ops.Pla m = A ∷ N ∷ Z ∷ []
 register_sets ops.Plp m = N ∷ V ∷ Z ∷ C ∷ []
+register_sets ops.Plx m = X ∷ N ∷ Z ∷ []
+register_sets ops.Ply m = Y ∷ N ∷ Z ∷ []
 register_sets ops.Rol Accumulator = A ∷ N ∷ Z ∷ C ∷ []
 register_sets ops.Rol m = N ∷ Z ∷ C ∷ []
 register_sets ops.Ror Accumulator = A ∷ N ∷ Z ∷ C ∷ []
@@ -104,6 +114,8 @@ register_sets ops.Sbc m = A ∷ N ∷ V ∷ Z ∷ C ∷ []
 register_sets ops.Sec m = C ∷ []
 register_sets ops.Tax m = X ∷ N ∷ Z ∷ []
 register_sets ops.Tay m = Y ∷ N ∷ Z ∷ []
+register_sets ops.Trb m = Z ∷ []
+register_sets ops.Tsb m = Z ∷ []
 register_sets ops.Tsx m = X ∷ N ∷ Z ∷ []
 register_sets ops.Txa m = A ∷ N ∷ Z ∷ []
 register_sets ops.Tya m = A ∷ N ∷ Z ∷ []
@@ -118,6 +130,7 @@ address_reads AbsoluteY operand = set_of (Y ∷ [])
 address_reads IndirectX operand = union_of (set_of (X ∷ [])) zero_page
 address_reads IndirectY operand = union_of (set_of (Y ∷ [])) (pointer_at operand)
 address_reads Indirect operand = pointer_at operand
+address_reads ZeroPageIndirect operand = pointer_at operand
 address_reads _ operand = no_parts
 
 -- the zero-page bytes that the operand may be

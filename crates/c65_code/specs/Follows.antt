@@ -1,9 +1,9 @@
 -- When one code follows another: whatever all runs of the old one come to, all runs of the new one come to
 -- (docs/MEANING.md, "Following").
-use Rattle.std.specs.Prelude.{◌≡◌, ℕ, ◌+◌, ◌≤◌, ◌==◌, Bool, IsTrue, if◌then◌else◌, List, []}
-use Rattle.c65_code.specs.declared.line.Line.{Line}
+use Rattle.std.specs.Prelude.{◌≡◌, ℕ, ◌+◌, ◌≤◌, Bool, IsTrue, []}
+use Rattle.c65_code.specs.declared.code.Code.{Code}
 use Rattle.c65_code.specs.LineState.{State}
-use Rattle.c65_code.specs.Placement.{Setting}
+use Rattle.c65_code.specs.Placement.{Placement, Setting, setting_of, IsPlacement}
 use Rattle.c65_code.specs.Comes.{Seen, Shown, ComesFrom}
 
 abbrev pub IsBelow : Seen → Seen → Type 0
@@ -18,17 +18,14 @@ abbrev pub through : (ℕ → ℕ → ℕ) → Seen → Seen
 through map seen f p = seen f (map f p)
 
 -- Wherever all runs of the old code come, steadily and within a weight, to what passes a test, all runs of the new code do so
--- too. The same holds of tests on arrivals, where an arrival at a line is one at its image, and the weight may be greater.
-pub record Follows (old new : Setting) (main : ℕ) : Type 0 where
+-- too. The same holds of tests on arrivals, where an arrival at a line is one at its image by the map, and the weight may be
+-- greater by `more`.
+pub record Follows (map : ℕ → ℕ → ℕ) (more : ℕ) (old new : Setting) (main : ℕ) : Type 0 where
   pub by : (test : Shown → Bool) (w : ℕ) (t : State) → t.frames ≡ [] → t.pushed ≡ [] → ComesFrom old main (λ shown seen. test shown) w t → ComesFrom new main (λ shown seen. test shown) w t
-  pub map : ℕ → ℕ → ℕ
-  pub more : ℕ
   pub turns : (test : Shown → Seen → Bool) → Grows test → (w : ℕ) (t : State) → t.frames ≡ [] → t.pushed ≡ [] → ComesFrom old main test w t → ComesFrom new main (λ shown seen. test shown (through map seen)) (w + more) t
 
--- a setting with these lines for one function
-abbrev pub with_lines : Setting → ℕ → List Line → Setting
-with_lines s f lines = record s { lines = λ g. if g == f then lines else s.lines g }
-
--- in every setting the new lines of a function may stand for the old ones
-pub record IsFollowed (old new : List Line) : Type 0 where
-  pub by : (s : Setting) (f main : ℕ) → Follows (with_lines s f old) (with_lines s f new) main
+-- one map and one weight serve at every placement of the old code
+pub record FollowsEverywhere (old new : Code) (main : ℕ) : Type 0 where
+  pub map : ℕ → ℕ → ℕ
+  pub more : ℕ
+  pub at : (place : Placement) → IsPlacement old place → Follows map more (setting_of old place) (setting_of new place) main

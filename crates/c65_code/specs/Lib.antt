@@ -1,5 +1,6 @@
 pub mod Parts
 pub mod Names
+pub mod Numbering
 pub mod Effects
 pub mod Access
 pub mod Segments
@@ -15,10 +16,13 @@ pub mod Weights
 pub mod Steady
 pub mod Comes
 pub mod Runs
+pub mod Named
 pub mod Starts
 pub mod Follows
+pub mod Rewriting
 pub mod RawMachine
 pub mod Examples
 pub mod LineLaws
 pub mod Opcodes
+pub mod Processors
 pub mod Writable

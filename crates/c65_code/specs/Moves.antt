@@ -3,7 +3,7 @@
 use Rattle.std.specs.Prelude.{◌≡◌, ℕ, zero, suc, ◌+◌, ◌%◌, ◌<◌, ◌≤◌, ◌==◌, false, IsTrue, if◌then◌else◌, List, [], ◌∷◌, Option, Some, None}
 use Rattle.c65_mach.specs.declared.rows.Op.{Op}
 use Rattle.c65_mach.specs.declared.rows.Mode.{Mode}
-use Rattle.c65_mach.specs.declared.rows.Mode.TheVariants.{Accumulator, Immediate, ZeroPage, ZeroPageX, ZeroPageY, Absolute, AbsoluteX, AbsoluteY, IndirectX, IndirectY}
+use Rattle.c65_mach.specs.declared.rows.Mode.TheVariants.{Accumulator, Immediate, ZeroPage, ZeroPageX, ZeroPageY, Absolute, AbsoluteX, AbsoluteY, IndirectX, IndirectY, ZeroPageIndirect}
 use Rattle.c65_mach.specs.State.{Regs}
 use Rattle.c65_mach.specs.Step.{after, signed, with_a, with_x, apply, stored, changed, is_taken, Kind, Reads, Stores, Changes, Registers, kind_of}
 use Rattle.c65_code.specs.declared.parts.Part.{Part}
@@ -26,7 +26,7 @@ pub data Ref : Type 0 where
   ZeroAt : (i : ℕ) → Ref
   MemAt : (b : ℕ) → Ref
 
--- where the operand of a mode is, by its number (MCS6500 Programming Manual, chapters 5 and 6)
+-- where the operand of a mode is, by its number (MCS6500 Programming Manual, chapters 5 and 6; the 65C02 has one mode more)
 abbrev pub ref_of : Mode → ℕ → State → Ref
 ref_of Immediate w t = Given w
 ref_of ZeroPage w t = ZeroAt w
@@ -37,6 +37,7 @@ ref_of AbsoluteX w t = MemAt (after w t.regs.x)
 ref_of AbsoluteY w t = MemAt (after w t.regs.y)
 ref_of IndirectX w t = MemAt (zero_word t ((w + t.regs.x) % 256))
 ref_of IndirectY w t = MemAt (after (zero_word t w) t.regs.y)
+ref_of ZeroPageIndirect w t = MemAt (zero_word t w)
 ref_of _ w t = Given 0
 
 abbrev pub value_at : Ref → State → ℕ

@@ -12,6 +12,7 @@ use Rattle.c65_base.specs.Library.{library_name}
 use Rattle.c65_base.specs.declared.library.Library.TheVariants.{Putchar, Getchar, Puts, Exit, Memcpy, Memset, Strcmp, Strcpy, Strlen}
 use Rattle.c65_code.specs.declared.routine.Routine.{Routine}
 use Rattle.c65_code.specs.declared.routine.Routine.TheVariants as routines
+use Rattle.c65_code.specs.declared.routine.TheConstants.Routine.{ALL}
 
 abbrev pub raise_name_of : Count → List ℕ
 raise_name_of One = codes "incsp1"
@@ -143,28 +144,10 @@ name_of routines.HookWrite = codes "hookwrite"
 name_of routines.HookArgs = codes "hookargs"
 name_of routines.HookExit = codes "hookexit"
 
-abbrev pub stack_routines : List Routine
-stack_routines = routines.PushA ∷ routines.PushAx ∷ routines.PushA0 ∷ routines.Push0 ∷ routines.PushEax ∷ routines.PopA ∷ routines.PopAx ∷ routines.PopEax ∷ routines.PopPtrs ∷ routines.IncSp One ∷ routines.IncSp Two ∷ routines.IncSp Three ∷ routines.IncSp Four ∷ routines.IncSp Five ∷ routines.IncSp Six ∷ routines.IncSp Seven ∷ routines.IncSp Eight ∷ routines.DecSp One ∷ routines.DecSp Two ∷ routines.DecSp Three ∷ routines.DecSp Four ∷ routines.DecSp Five ∷ routines.DecSp Six ∷ routines.DecSp Seven ∷ routines.DecSp Eight ∷ routines.AddYSp ∷ routines.SubYSp ∷ routines.LdAxYSp ∷ routines.LdAx0Sp ∷ routines.LdEaxYSp ∷ routines.StAxYSp ∷ routines.StAx0Sp ∷ routines.StEaxYSp ∷ []
-
-abbrev pub word_operators : List Routine
-word_operators = routines.Tos tos.Add Ax ∷ routines.Tos tos.Sub Ax ∷ routines.Tos tos.Mul Ax ∷ routines.Tos tos.And Ax ∷ routines.Tos tos.Or Ax ∷ routines.Tos tos.Xor Ax ∷ routines.Tos tos.Div Ax ∷ routines.Tos tos.Mod Ax ∷ routines.Tos tos.UDiv Ax ∷ routines.Tos tos.UMod Ax ∷ routines.Tos tos.Shl Ax ∷ routines.Tos tos.Shr Ax ∷ routines.Tos tos.Asr Ax ∷ routines.Tos tos.Eq Ax ∷ routines.Tos tos.Ne Ax ∷ routines.Tos tos.Lt Ax ∷ routines.Tos tos.Le Ax ∷ routines.Tos tos.Gt Ax ∷ routines.Tos tos.Ge Ax ∷ routines.Tos tos.ULt Ax ∷ routines.Tos tos.ULe Ax ∷ routines.Tos tos.UGt Ax ∷ routines.Tos tos.UGe Ax ∷ []
-
-abbrev pub long_operators : List Routine
-long_operators = routines.Tos tos.Add Eax ∷ routines.Tos tos.Sub Eax ∷ routines.Tos tos.Mul Eax ∷ routines.Tos tos.And Eax ∷ routines.Tos tos.Or Eax ∷ routines.Tos tos.Xor Eax ∷ routines.Tos tos.Div Eax ∷ routines.Tos tos.Mod Eax ∷ routines.Tos tos.UDiv Eax ∷ routines.Tos tos.UMod Eax ∷ routines.Tos tos.Shl Eax ∷ routines.Tos tos.Shr Eax ∷ routines.Tos tos.Asr Eax ∷ routines.Tos tos.Eq Eax ∷ routines.Tos tos.Ne Eax ∷ routines.Tos tos.Lt Eax ∷ routines.Tos tos.Le Eax ∷ routines.Tos tos.Gt Eax ∷ routines.Tos tos.Ge Eax ∷ routines.Tos tos.ULt Eax ∷ routines.Tos tos.ULe Eax ∷ routines.Tos tos.UGt Eax ∷ routines.Tos tos.UGe Eax ∷ []
-
-abbrev pub other_routines : List Routine
-other_routines = routines.LdAi ∷ routines.LdAxi ∷ routines.LdEaxi ∷ routines.StATos ∷ routines.StAxTos ∷ routines.StEaxTos ∷ routines.CopyTos ∷ routines.Unary Neg Ax ∷ routines.Unary Neg Eax ∷ routines.Unary Compl Ax ∷ routines.Unary Compl Eax ∷ routines.Unary Shl1 Ax ∷ routines.Unary Shl1 Eax ∷ routines.Unary Shr1 Ax ∷ routines.Unary Shr1 Eax ∷ routines.Unary Asr1 Ax ∷ routines.Unary Asr1 Eax ∷ routines.Unary BNeg Ax ∷ routines.Unary BNeg Eax ∷ routines.SignA ∷ routines.LongAx ∷ routines.ULongAx ∷ routines.SaveRegs ∷ routines.RestRegs ∷ routines.CallPtr4 ∷ routines.Start ∷ routines.StartArgs ∷ []
-
-abbrev pub outside_routines : List Routine
-outside_routines = routines.Library Putchar ∷ routines.Library Getchar ∷ routines.Library Puts ∷ routines.Library Exit ∷ routines.Library Memcpy ∷ routines.Library Memset ∷ routines.Library Strcmp ∷ routines.Library Strcpy ∷ routines.Library Strlen ∷ routines.HookOpen ∷ routines.HookClose ∷ routines.HookRead ∷ routines.HookWrite ∷ routines.HookArgs ∷ routines.HookExit ∷ []
-
 -- the first of these routines that has the name
 abbrev pub found_in : List Routine → List ℕ → Option Routine
 found_in routines name = find (λ r. bytes_eq (name_of r) name) routines
 
-abbrev pub or_else : Option Routine → Option Routine → Option Routine
-or_else (Some r) other = Some r
-or_else None other = other
-
+-- the routine that has the name
 abbrev pub routine_named : List ℕ → Option Routine
-routine_named name = or_else (found_in stack_routines name) (or_else (found_in word_operators name) (or_else (found_in long_operators name) (or_else (found_in other_routines name) (found_in outside_routines name))))
+routine_named name = found_in ALL name

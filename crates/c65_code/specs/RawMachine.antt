@@ -109,10 +109,12 @@ RawGoes s form p t q u = (q ≡ (p.0, next (s.lines p.0) form p.1 t.regs)) × Do
 pub record RawMoves (s : RawSetting) (l : Line) (p : Place) (t : State) (q : Place) (u : State) : Type 0 where
   pub running : t.ended ≡ None
   pub goes : RawGoes s (form_of l) p t q u
+  pub bytes : IsBytes u
 
--- a branch that does not reach is two instructions
+-- a branch that does not reach is two instructions, and so are a call of a hook and the hook
 abbrev pub raw_weight : Form → ℕ
 raw_weight (Branch op l) = 2
+raw_weight (Run r) = 2
 raw_weight _ = 1
 
 -- how far down a routine may go: the lowest byte of the software stack, and the least S
@@ -161,7 +163,7 @@ pub data RawComes (s : RawSetting) (bounds : Bounds) (Q : Place → State → Ty
 
 -- what a routine has done: it is back behind its call with its row met, or it has ended the run
 abbrev pub HasDone : Option ℕ → Row → Place → State → Place → State → Type 0
-HasDone None row back t p u = (p ≡ back) × Meets row t u
+HasDone None row back t p u = (p ≡ back) × Meets row t u × IsBytes u
 HasDone (Some status) row back t p u = (u.ended ≡ Some status) × (u.output ≡ t.output ++ row.out)
 
 -- data lie in program space, as in every placement of a code

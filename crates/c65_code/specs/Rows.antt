@@ -17,7 +17,7 @@ use Rattle.c65_code.specs.declared.routine.Routine.TheVariants as routines
 use Rattle.c65_code.specs.Parts.{has_part}
 use Rattle.c65_code.specs.Effects.{routine_sets}
 use Rattle.c65_code.specs.Numbers.{tos_result, result_width, unary_result, unary_width}
-use Rattle.c65_code.specs.Texts.{bytes_at, range_of, filled, listed, copied, text_length, common_length, difference}
+use Rattle.c65_code.specs.Texts.{bytes_at, range_of, filled, listed, copied, text_length, copy_length, common_length, difference}
 use Rattle.c65_code.specs.LineState.{Bytes, write, word_at, State, sp_of, sreg_of, ax_of, eax_of, Same}
 
 -- A row. `None` for a result leaves it open. `near` are the addresses that the routine counts from the sp, `far` those that
@@ -115,9 +115,6 @@ primary_of Eax t = eax_of t
 abbrev pub word_bytes : ℕ → List ℕ
 word_bytes v = low_byte v ∷ high_byte v ∷ []
 
-abbrev pub long_bytes : ℕ → List ℕ
-long_bytes v = word_bytes v ++ word_bytes (upper_word v)
-
 abbrev pub number_of : Count → ℕ
 number_of One = 1
 number_of Two = 2
@@ -132,10 +129,7 @@ number_of Eight = 8
 abbrev pub keeping : State → Row → Row
 keeping t row = record row { a = Some t.regs.a; x = Some t.regs.x; sreg = Some (sreg_of t) }
 
--- a result of 8, 16 or 32 bits
-abbrev pub giving_a : ℕ → Row → Row
-giving_a v row = record row { a = Some v }
-
+-- a result of 16 or 32 bits
 abbrev pub giving : Width → ℕ → Row → Row
 giving Ax v row = record row { a = Some (low_byte v); x = Some (high_byte v) }
 giving Eax v row = record row { a = Some (low_byte v); x = Some (high_byte v); sreg = Some (upper_word v) }
@@ -227,7 +221,7 @@ library_row Exit t row = record row { ends = Some t.regs.a }
 library_row Memcpy t row = copy_row (routines.Library Memcpy) (ax_of t) (word_at t.mem (sp_of t + 2)) (word_at t.mem (sp_of t)) 4 t
 library_row Memset t row = let to = word_at t.mem (sp_of t + 2) in by_bytes (giving Ax to (record (popping 4 t row) { writes = filled (ax_of t) to (t.mem (sp_of t)); far = range_of (ax_of t) to }))
 library_row Strcmp t row = compare_row (word_at t.mem (sp_of t)) (ax_of t) t (popping 2 t row)
-library_row Strcpy t row = copy_row (routines.Library Strcpy) (text_length (ax_of t) t.mem + 1) (word_at t.mem (sp_of t)) (ax_of t) 2 t
+library_row Strcpy t row = let to = word_at t.mem (sp_of t) in copy_row (routines.Library Strcpy) (copy_length to (ax_of t) t.mem + 1) to (ax_of t) 2 t
 library_row Strlen t row = let count = text_length (ax_of t) t.mem in by_bytes (giving Ax count (far_reading (count + 1) (ax_of t) row))
 
 -- the bytes of regbank

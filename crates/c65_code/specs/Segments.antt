@@ -1,10 +1,10 @@
 -- The lines of a function, and what they keep.
-use Rattle.std.specs.Prelude.{ℕ, ◌+◌, ◌&&◌, not, Bool, true, false, IsTrue, List, [], ◌∷◌, ◌++◌, take, drop, nat_eq}
+use Rattle.std.specs.Prelude.{ℕ, ◌+◌, ◌&&◌, ◌||◌, not, Bool, true, false, IsTrue, List, [], ◌∷◌, ◌++◌, take, drop, nat_eq}
 use Rattle.std.specs.List.{list_all, list_any}
 use Rattle.c65_mach.specs.declared.rows.Op.{Op}
 use Rattle.c65_mach.specs.declared.rows.Op.TheVariants as ops
 use Rattle.c65_mach.specs.declared.rows.Mode.{Mode}
-use Rattle.c65_mach.specs.declared.rows.Mode.TheVariants.{Implied, Accumulator, Immediate, ZeroPage, ZeroPageX, ZeroPageY, Absolute, AbsoluteX, AbsoluteY, IndirectX, IndirectY, Indirect, Relative}
+use Rattle.c65_mach.specs.declared.rows.Mode.TheVariants.{Implied, Accumulator, Immediate, ZeroPage, ZeroPageX, ZeroPageY, Absolute, AbsoluteX, AbsoluteY, IndirectX, IndirectY, Indirect, Relative, ZeroPageIndirect, AbsoluteIndirectX}
 use Rattle.c65_code.specs.declared.parts.RegSet.{RegSet}
 use Rattle.c65_code.specs.declared.line.Operand.{Operand}
 use Rattle.c65_code.specs.declared.line.Operand.TheVariants.{Nothing, Byte, Low, High, Zero, At, To}
@@ -93,7 +93,7 @@ is_index_compared ZeroPage = true
 is_index_compared Absolute = true
 is_index_compared _ = false
 
--- BIT
+-- BIT, and STZ of the 65C02
 abbrev pub is_tested : Mode → Bool
 is_tested ZeroPage = true
 is_tested Absolute = true
@@ -120,40 +120,64 @@ abbrev pub is_implied : Mode → Bool
 is_implied Implied = true
 is_implied _ = false
 
--- whether the table has a row of this operation in this mode
+-- operations of the 65C02 alone
+abbrev pub is_added_op : Op → Bool
+is_added_op ops.Bra = true
+is_added_op ops.Phx = true
+is_added_op ops.Phy = true
+is_added_op ops.Plx = true
+is_added_op ops.Ply = true
+is_added_op ops.Stz = true
+is_added_op ops.Trb = true
+is_added_op ops.Tsb = true
+is_added_op _ = false
+
+-- whether the table of the 6502 has a row of this operation in this mode
+abbrev pub is_nmos_row : Op → Mode → Bool
+is_nmos_row ops.Adc mode = is_common mode
+is_nmos_row ops.And mode = is_common mode
+is_nmos_row ops.Cmp mode = is_common mode
+is_nmos_row ops.Eor mode = is_common mode
+is_nmos_row ops.Lda mode = is_common mode
+is_nmos_row ops.Ora mode = is_common mode
+is_nmos_row ops.Sbc mode = is_common mode
+is_nmos_row ops.Sta mode = is_stored mode
+is_nmos_row ops.Asl mode = is_shifted mode
+is_nmos_row ops.Lsr mode = is_shifted mode
+is_nmos_row ops.Rol mode = is_shifted mode
+is_nmos_row ops.Ror mode = is_shifted mode
+is_nmos_row ops.Inc mode = is_counted mode
+is_nmos_row ops.Dec mode = is_counted mode
+is_nmos_row ops.Ldx mode = is_loaded_x mode
+is_nmos_row ops.Ldy mode = is_loaded_y mode
+is_nmos_row ops.Stx mode = is_stored_x mode
+is_nmos_row ops.Sty mode = is_stored_y mode
+is_nmos_row ops.Cpx mode = is_index_compared mode
+is_nmos_row ops.Cpy mode = is_index_compared mode
+is_nmos_row ops.Bit mode = is_tested mode
+is_nmos_row ops.Jmp mode = is_jumped mode
+is_nmos_row ops.Jsr mode = is_called mode
+is_nmos_row ops.Bcc mode = is_branched mode
+is_nmos_row ops.Bcs mode = is_branched mode
+is_nmos_row ops.Beq mode = is_branched mode
+is_nmos_row ops.Bmi mode = is_branched mode
+is_nmos_row ops.Bne mode = is_branched mode
+is_nmos_row ops.Bpl mode = is_branched mode
+is_nmos_row ops.Bvc mode = is_branched mode
+is_nmos_row ops.Bvs mode = is_branched mode
+is_nmos_row op mode = not (is_added_op op) && is_implied mode
+
+-- the rows that the 65C02 adds and a line may have
+abbrev pub is_added_row : Op → Mode → Bool
+is_added_row ops.Stz mode = is_tested mode
+is_added_row ops.Inc Accumulator = true
+is_added_row ops.Dec Accumulator = true
+is_added_row ops.Lda ZeroPageIndirect = true
+is_added_row ops.Sta ZeroPageIndirect = true
+is_added_row _ mode = false
+
 abbrev pub has_row : Op → Mode → Bool
-has_row ops.Adc mode = is_common mode
-has_row ops.And mode = is_common mode
-has_row ops.Cmp mode = is_common mode
-has_row ops.Eor mode = is_common mode
-has_row ops.Lda mode = is_common mode
-has_row ops.Ora mode = is_common mode
-has_row ops.Sbc mode = is_common mode
-has_row ops.Sta mode = is_stored mode
-has_row ops.Asl mode = is_shifted mode
-has_row ops.Lsr mode = is_shifted mode
-has_row ops.Rol mode = is_shifted mode
-has_row ops.Ror mode = is_shifted mode
-has_row ops.Inc mode = is_counted mode
-has_row ops.Dec mode = is_counted mode
-has_row ops.Ldx mode = is_loaded_x mode
-has_row ops.Ldy mode = is_loaded_y mode
-has_row ops.Stx mode = is_stored_x mode
-has_row ops.Sty mode = is_stored_y mode
-has_row ops.Cpx mode = is_index_compared mode
-has_row ops.Cpy mode = is_index_compared mode
-has_row ops.Bit mode = is_tested mode
-has_row ops.Jmp mode = is_jumped mode
-has_row ops.Jsr mode = is_called mode
-has_row ops.Bcc mode = is_branched mode
-has_row ops.Bcs mode = is_branched mode
-has_row ops.Beq mode = is_branched mode
-has_row ops.Bmi mode = is_branched mode
-has_row ops.Bne mode = is_branched mode
-has_row ops.Bpl mode = is_branched mode
-has_row ops.Bvc mode = is_branched mode
-has_row ops.Bvs mode = is_branched mode
-has_row _ mode = is_implied mode
+has_row op mode = is_nmos_row op mode || is_added_row op mode
 
 -- LDX LDY STX STY CPX CPY BIT
 abbrev pub is_index_op : Op → Bool
@@ -222,6 +246,8 @@ takes op IndirectX operand = is_zero operand
 takes op IndirectY operand = is_zero operand
 takes op Indirect operand = is_zero operand
 takes op Relative operand = is_to operand
+takes op ZeroPageIndirect operand = is_zero operand
+takes op AbsoluteIndirectX operand = false
 
 -- a line that may stand in a segment
 abbrev pub is_fit : Line → Bool

@@ -2,8 +2,11 @@
 use Rattle.std.specs.Prelude.{◌≡◌, ℕ, ◌+◌, ◌<◌, ◌≤◌, ◌⊎◌, IsTrue, All, List, [], ◌∷◌, Option, Some, None, max, min}
 use Rattle.c65_mach.specs.Step.{Kind, Stores, Changes, kind_of}
 use Rattle.c65_base.specs.declared.library.Library.{Library}
+use Rattle.c65_code.specs.declared.parts.RegSet.{RegSet}
 use Rattle.c65_code.specs.declared.routine.Routine.TheVariants as routines
 use Rattle.c65_code.specs.declared.line.Line.{Line}
+use Rattle.c65_code.specs.Parts.{union_of, IsWithin as AreAmong}
+use Rattle.c65_code.specs.Effects.{kept_at_calls, library_reads}
 use Rattle.c65_code.specs.LineState.{State, sp_of, s_of, IsBytes}
 use Rattle.c65_code.specs.Placement.{Placement, Setting, word_of, stack_start, stack_end}
 use Rattle.c65_code.specs.Forms.{Form, Plain, Branch, Jump, Push, Depth, Pull, Return, Run, Enter, Through, form_of}
@@ -53,10 +56,10 @@ abbrev pub HasLines : List Line → Type 0
 HasLines [] = ⊥
 HasLines (l ∷ lines) = Unit {0}
 
--- a call goes to a function with lines, or to a routine that has room
-abbrev pub IsCallable : Setting → Option Library → ℕ → State → Type 0
-IsCallable s None f t = HasLines (s.lines f)
-IsCallable s (Some library) f t = RowHasRoom s.place (row_of (routines.Library library) t) t
+-- A call goes to a function with lines, or to a routine of the library that has room and is passed what its row reads.
+abbrev pub IsCallable : Setting → Option Library → ℕ → RegSet → State → Type 0
+IsCallable s None f reads t = HasLines (s.lines f)
+IsCallable s (Some library) f reads t = RowHasRoom s.place (row_of (routines.Library library) t) t × AreAmong (library_reads library) (union_of reads kept_at_calls)
 
 -- what this line needs
 abbrev pub IsWithin : Setting → Form → State → Type 0
@@ -68,8 +71,8 @@ IsWithin s Depth t = Unit {0}
 IsWithin s Pull t = (v : ℕ) × (rest : List ℕ) × (t.pushed ≡ v ∷ rest)
 IsWithin s Return t = t.pushed ≡ []
 IsWithin s (Run r) t = RowHasRoom s.place (row_of r t) t
-IsWithin s (Enter f reads gives) t = IsCallable s (s.library f) f t
-IsWithin s (Through reads gives) t = (f : ℕ) × IsCallee s t f × IsCallable s (s.library f) f t
+IsWithin s (Enter f reads gives) t = IsCallable s (s.library f) f reads t
+IsWithin s (Through reads gives) t = (f : ℕ) × IsCallee s t f × IsCallable s (s.library f) f reads t
 IsWithin s _ t = ⊥
 
 pub record IsSteady (s : Setting) (l : Line) (t : State) : Type 0 where

@@ -27,6 +27,15 @@ abbrev pub copied : ℕ → ℕ → ℕ → Bytes → List (ℕ × ℕ)
 copied zero to from m = []
 copied (suc count) to from m = (to, m from) ∷ copied count (to + 1) (from + 1) (write m to (m from))
 
+-- how many bytes other than zero an ascending copy reads before a zero byte, at most so many
+abbrev pub copy_within : ℕ → ℕ → ℕ → Bytes → ℕ
+copy_within zero to from m = 0
+copy_within (suc fuel) to from m = if m from == 0 then 0 else suc (copy_within fuel (to + 1) (from + 1) (write m to (m from)))
+
+-- a copy that reads no zero within all addresses has their number
+unfoldable pub copy_length : ℕ → ℕ → Bytes → ℕ
+copy_length to from m = copy_within 65536 to from m
+
 -- bytes up to the first zero, at most so many
 abbrev pub length_within : ℕ → ℕ → Bytes → ℕ
 length_within zero at m = 0

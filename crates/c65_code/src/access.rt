@@ -34,15 +34,16 @@ fn registers_read(op: Op, mode: Mode) -> RegSet
     match op {
         Op::Adc | Op::Sbc => RegSet::of(&[Part::A, Part::C]),
         Op::And | Op::Eor | Op::Ora | Op::Cmp | Op::Bit => RegSet::of(&[Part::A]),
-        Op::Sta | Op::Pha | Op::Tax | Op::Tay => RegSet::of(&[Part::A]),
-        Op::Cpx | Op::Dex | Op::Inx | Op::Stx | Op::Txa | Op::Txs => RegSet::of(&[Part::X]),
-        Op::Cpy | Op::Dey | Op::Iny | Op::Sty | Op::Tya => RegSet::of(&[Part::Y]),
+        Op::Sta | Op::Pha | Op::Tax | Op::Tay | Op::Trb | Op::Tsb => RegSet::of(&[Part::A]),
+        Op::Cpx | Op::Dex | Op::Inx | Op::Phx => RegSet::of(&[Part::X]),
+        Op::Stx | Op::Txa | Op::Txs => RegSet::of(&[Part::X]),
+        Op::Cpy | Op::Dey | Op::Iny | Op::Phy | Op::Sty | Op::Tya => RegSet::of(&[Part::Y]),
         Op::Bcc | Op::Bcs => RegSet::of(&[Part::C]),
         Op::Beq | Op::Bne => RegSet::of(&[Part::Z]),
         Op::Bmi | Op::Bpl => RegSet::of(&[Part::N]),
         Op::Bvc | Op::Bvs => RegSet::of(&[Part::V]),
         Op::Brk | Op::Php => RegSet::of(&[Part::N, Part::V, Part::Z, Part::C]),
-        Op::Asl | Op::Lsr => match mode {
+        Op::Asl | Op::Lsr | Op::Inc | Op::Dec => match mode {
             Mode::Accumulator => RegSet::of(&[Part::A]),
             _ => RegSet::empty(),
         },
@@ -61,10 +62,15 @@ fn registers_set(op: Op, mode: Mode) -> RegSet
         Op::Adc | Op::Sbc => RegSet::of(&[Part::A, Part::N, Part::V, Part::Z, Part::C]),
         Op::And | Op::Eor | Op::Ora | Op::Lda => RegSet::of(&[Part::A, Part::N, Part::Z]),
         Op::Pla | Op::Txa | Op::Tya => RegSet::of(&[Part::A, Part::N, Part::Z]),
-        Op::Dex | Op::Inx | Op::Ldx => RegSet::of(&[Part::X, Part::N, Part::Z]),
+        Op::Dex | Op::Inx | Op::Ldx | Op::Plx => RegSet::of(&[Part::X, Part::N, Part::Z]),
         Op::Tax | Op::Tsx => RegSet::of(&[Part::X, Part::N, Part::Z]),
-        Op::Dey | Op::Iny | Op::Ldy | Op::Tay => RegSet::of(&[Part::Y, Part::N, Part::Z]),
-        Op::Dec | Op::Inc => RegSet::of(&[Part::N, Part::Z]),
+        Op::Dey | Op::Iny | Op::Ldy => RegSet::of(&[Part::Y, Part::N, Part::Z]),
+        Op::Ply | Op::Tay => RegSet::of(&[Part::Y, Part::N, Part::Z]),
+        Op::Dec | Op::Inc => match mode {
+            Mode::Accumulator => RegSet::of(&[Part::A, Part::N, Part::Z]),
+            _ => RegSet::of(&[Part::N, Part::Z]),
+        },
+        Op::Trb | Op::Tsb => RegSet::of(&[Part::Z]),
         Op::Cmp | Op::Cpx | Op::Cpy => RegSet::of(&[Part::N, Part::Z, Part::C]),
         Op::Bit => RegSet::of(&[Part::N, Part::V, Part::Z]),
         Op::Clc | Op::Sec => RegSet::of(&[Part::C]),
@@ -86,7 +92,7 @@ fn address_read(mode: Mode, operand: Operand) -> RegSet
         Mode::ZeroPageY | Mode::AbsoluteY => RegSet::of(&[Part::Y]),
         Mode::IndirectX => RegSet::of(&[Part::X]).union(RegSet::zero_bytes(0, 26)),
         Mode::IndirectY => RegSet::of(&[Part::Y]).union(pointer(operand)),
-        Mode::Indirect => pointer(operand),
+        Mode::Indirect | Mode::ZeroPageIndirect => pointer(operand),
         _ => RegSet::empty(),
     }
 }
@@ -127,7 +133,7 @@ fn is_writing(op: Op) -> bool
     ensures { result ≡ is_written (kind_of op) }
 {
     match op {
-        Op::Sta | Op::Stx | Op::Sty => true,
+        Op::Sta | Op::Stx | Op::Sty | Op::Stz => true,
         Op::Asl | Op::Dec | Op::Inc | Op::Lsr | Op::Rol | Op::Ror => true,
         _ => false,
     }

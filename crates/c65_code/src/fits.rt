@@ -1,7 +1,7 @@
 // Which lines may stand in a segment, and whether lines are one.
 ghost use Rattle.std.specs.Prelude.{◌≡◌, ◌↔◌, IsTrue};
 ghost use Rattle.std.specs.List.{list_all};
-ghost use Rattle.c65_code.specs.Segments.{is_common, is_counted, is_index_op, has_row, is_barred, takes, is_fit, labels_of, is_among, is_distinct, targets_of, is_closing, is_closed, IsSegment};
+ghost use Rattle.c65_code.specs.Segments.{is_common, is_counted, is_index_op, is_nmos_row, is_added_row, has_row, is_barred, takes, is_fit, labels_of, is_among, is_distinct, targets_of, is_closing, is_closed, IsSegment};
 
 use crate::line::{Line, Operand};
 use c65_mach::{Mode, Op};
@@ -30,7 +30,7 @@ fn is_counted_mode(mode: Mode) -> bool
 // LDX LDY STX STY CPX CPY BIT
 fn is_index_mode(op: Op, mode: Mode) -> bool
     requires { IsTrue (is_index_op op) }
-    ensures { result ≡ has_row op mode }
+    ensures { result ≡ is_nmos_row op mode }
 {
     match (op, mode) {
         (_, Mode::ZeroPage | Mode::Absolute) => true,
@@ -43,9 +43,9 @@ fn is_index_mode(op: Op, mode: Mode) -> bool
     }
 }
 
-/// Whether the table of opcodes has a row of this operation in this mode.
-pub fn has_opcode(op: Op, mode: Mode) -> bool
-    ensures { result ≡ has_row op mode }
+// The table of the 6502.
+fn is_nmos_row(op: Op, mode: Mode) -> bool
+    ensures { result ≡ is_nmos_row op mode }
 {
     match op {
         Op::Adc | Op::And | Op::Cmp | Op::Eor | Op::Lda | Op::Ora | Op::Sbc => is_common_mode(mode),
@@ -59,8 +59,29 @@ pub fn has_opcode(op: Op, mode: Mode) -> bool
         Op::Jsr => mode == Mode::Absolute,
         Op::Bcc | Op::Bcs | Op::Beq | Op::Bmi => mode == Mode::Relative,
         Op::Bne | Op::Bpl | Op::Bvc | Op::Bvs => mode == Mode::Relative,
+        Op::Bra | Op::Phx | Op::Phy | Op::Plx | Op::Ply => false,
+        Op::Stz | Op::Trb | Op::Tsb => false,
         _ => mode == Mode::Implied,
     }
+}
+
+// What the 65C02 adds and a line may have.
+fn is_added_row(op: Op, mode: Mode) -> bool
+    ensures { result ≡ is_added_row op mode }
+{
+    match (op, mode) {
+        (Op::Stz, Mode::ZeroPage | Mode::Absolute) => true,
+        (Op::Inc | Op::Dec, Mode::Accumulator) => true,
+        (Op::Lda | Op::Sta, Mode::ZeroPageIndirect) => true,
+        _ => false,
+    }
+}
+
+/// Whether a line may have this operation in this mode, on the 6502 or the 65C02.
+pub fn has_opcode(op: Op, mode: Mode) -> bool
+    ensures { result ≡ has_row op mode }
+{
+    is_nmos_row(op, mode) || is_added_row(op, mode)
 }
 
 fn is_barred_op(op: Op) -> bool
@@ -86,6 +107,8 @@ fn is_operand(op: Op, mode: Mode, operand: Operand) -> bool
         }
         Mode::ZeroPage | Mode::ZeroPageX | Mode::ZeroPageY => matches!(operand, Operand::Zero(_)),
         Mode::IndirectX | Mode::IndirectY | Mode::Indirect => matches!(operand, Operand::Zero(_)),
+        Mode::ZeroPageIndirect => matches!(operand, Operand::Zero(_)),
+        Mode::AbsoluteIndirectX => false,
         Mode::AbsoluteX | Mode::AbsoluteY => matches!(operand, Operand::At(_, _)),
         Mode::Relative => matches!(operand, Operand::To(_)),
         Mode::Absolute => match op {

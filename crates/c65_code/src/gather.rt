@@ -1,12 +1,13 @@
 // The string literals of a code.
-ghost use Rattle.std.specs.Prelude.{◌≡◌, IfOk};
+ghost use Rattle.std.specs.Prelude.{◌≡◌, IfOk, IfErr};
+ghost use Rattle.c65_base.specs.declared.refusal.Refusal.TheVariants.{OutOfMemory};
 ghost use Rattle.c65_code.specs.Literals.{bytes_of, is_literal, literals_of};
 
 use crate::code::{Bytes, Code, DataCell, Literals, Symbol};
 use crate::items::Items;
 use crate::line::Sym;
 use c65_base::Refusal;
-use std::alloc::Global;
+use std::alloc::{AllocError, Global};
 
 fn has_literal(symbols: &[Symbol], sym: Sym) -> bool
     ensures { result ≡ is_literal symbols.now sym }
@@ -17,7 +18,7 @@ fn has_literal(symbols: &[Symbol], sym: Sym) -> bool
     }
 }
 
-fn cell_bytes(alloc: Global, cells: &[DataCell]) -> Result<Bytes, Refusal>
+fn cell_bytes(alloc: Global, cells: &[DataCell]) -> Result<Bytes, AllocError>
     ensures { IfOk result (λ bytes. bytes ≡ bytes_of cells.now) }
 {
     let mut bytes = Vec::new(alloc);
@@ -31,7 +32,8 @@ fn cell_bytes(alloc: Global, cells: &[DataCell]) -> Result<Bytes, Refusal>
 
 /// The literals in the order of their data, each with its bytes.
 pub fn literals(alloc: Global, code: &Code) -> Result<Literals, Refusal>
-    ensures { IfOk result (λ literals. literals.items ≡ literals_of code.now.symbols code.now.datums) }
+    ensures items { IfOk result (λ literals. literals.items ≡ literals_of code.now.symbols code.now.datums) }
+    ensures refused { IfErr result (λ refusal. refusal ≡ OutOfMemory) }
 {
     let mut items = Vec::new(alloc);
     for datum in code.datums.as_slice() {

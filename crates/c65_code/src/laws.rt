@@ -1,7 +1,8 @@
 // Laws of the machine on lines, each the contract of a function that does nothing.
 ghost use Rattle.c65_code.specs.Examples.{GivesResult};
-ghost use Rattle.c65_code.specs.Opcodes.{RowsAreTheTables};
-ghost use Rattle.c65_code.specs.LineLaws.{NeverSticks, RunsWeigh, LeavesAOpen, CallsLeaveYOpen};
+ghost use Rattle.c65_code.specs.Numbering.{RoutinesAreNumbered};
+ghost use Rattle.c65_code.specs.Opcodes.{RowsAreTheTables, AddedRowsAreTheTables};
+ghost use Rattle.c65_code.specs.LineLaws.{NeverSticks, RunsWeigh, LeavesAOpen, CallsLeaveYOpen, UpwardCopiesGoOn, RawStatesAreBytes, RoutinesLeaveBytes};
 
 use crate::routine::{TosOp, Width};
 
@@ -33,7 +34,25 @@ pub fn calls_leave_y_open()
     ensures { CallsLeaveYOpen }
 {}
 
-/// An operation has a mode exactly where the table of opcodes has such a row.
+/// A line may have a row of the 6502 exactly where the table of opcodes has it, and of those that the 65C02 adds only rows of
+/// its table.
 pub fn rows_are_the_tables()
-    ensures { RowsAreTheTables }
+    ensures nmos { RowsAreTheTables }
+    ensures added { AddedRowsAreTheTables }
+{}
+
+/// Each routine stands at its number in the table of all.
+pub fn routines_are_numbered()
+    ensures { RoutinesAreNumbered }
+{}
+
+/// `strcpy(p + 1, p)` of a text that is not empty writes over all memory.
+pub fn upward_copies_go_on()
+    ensures { UpwardCopiesGoOn }
+{}
+
+/// On the machine whose calls all enter lines, states after moves, hooks and routines are made of bytes.
+pub fn raw_states_are_bytes()
+    ensures moves { RawStatesAreBytes }
+    ensures routines { RoutinesLeaveBytes }
 {}

@@ -18,8 +18,8 @@ pub use fits::{has_opcode, is_segment};
 pub use gather::literals;
 pub use items::Items;
 pub use laws::{
-    calls_leave_y_open, never_sticks, operator_results, rows_are_the_tables, rows_leave_a_open,
-    runs_weigh,
+    calls_leave_y_open, never_sticks, operator_results, raw_states_are_bytes,
+    routines_are_numbered, rows_are_the_tables, rows_leave_a_open, runs_weigh, upward_copies_go_on,
 };
 pub use line::{Callee, Line, Operand, Sym};
 pub use parts::{Part, RegSet};

@@ -1,8 +1,10 @@
 // The routines of the runtime, and their names in assembly text (MACHINE.md, "Routines").
-ghost use Rattle.std.specs.Prelude.{◌≡◌, find, bytes_eq, IfSome};
-ghost use Rattle.c65_code.specs.Names.{name_of, word_name_of, long_name_of, unary_name_of, found_in, routine_named};
+ghost use Rattle.std.specs.Prelude.{◌≡◌, ◌<◌, ◌≤◌, Some, IfSome};
+ghost use Rattle.c65_code.specs.Names.{name_of, word_name_of, long_name_of, unary_name_of, found_in};
+ghost use Rattle.c65_code.specs.Numbering.{library_number, number_of};
 
 use c65_base::Library;
+use std::ops::Range;
 
 /// How many bytes `incsp` and `decsp` move the software stack's pointer.
 #[derive(Clone, Copy, Debug, PartialEq, Eq)]
@@ -146,143 +148,135 @@ pub enum Routine {
     HookExit,
 }
 
-const STACK: [Routine; 33] = [
-    Routine::PushA,
-    Routine::PushAx,
-    Routine::PushA0,
-    Routine::Push0,
-    Routine::PushEax,
-    Routine::PopA,
-    Routine::PopAx,
-    Routine::PopEax,
-    Routine::PopPtrs,
-    Routine::IncSp(Count::One),
-    Routine::IncSp(Count::Two),
-    Routine::IncSp(Count::Three),
-    Routine::IncSp(Count::Four),
-    Routine::IncSp(Count::Five),
-    Routine::IncSp(Count::Six),
-    Routine::IncSp(Count::Seven),
-    Routine::IncSp(Count::Eight),
-    Routine::DecSp(Count::One),
-    Routine::DecSp(Count::Two),
-    Routine::DecSp(Count::Three),
-    Routine::DecSp(Count::Four),
-    Routine::DecSp(Count::Five),
-    Routine::DecSp(Count::Six),
-    Routine::DecSp(Count::Seven),
-    Routine::DecSp(Count::Eight),
-    Routine::AddYSp,
-    Routine::SubYSp,
-    Routine::LdAxYSp,
-    Routine::LdAx0Sp,
-    Routine::LdEaxYSp,
-    Routine::StAxYSp,
-    Routine::StAx0Sp,
-    Routine::StEaxYSp,
-];
-
-const WORD_OPERATORS: [Routine; 23] = [
-    Routine::Tos(TosOp::Add, Width::Ax),
-    Routine::Tos(TosOp::Sub, Width::Ax),
-    Routine::Tos(TosOp::Mul, Width::Ax),
-    Routine::Tos(TosOp::And, Width::Ax),
-    Routine::Tos(TosOp::Or, Width::Ax),
-    Routine::Tos(TosOp::Xor, Width::Ax),
-    Routine::Tos(TosOp::Div, Width::Ax),
-    Routine::Tos(TosOp::Mod, Width::Ax),
-    Routine::Tos(TosOp::UDiv, Width::Ax),
-    Routine::Tos(TosOp::UMod, Width::Ax),
-    Routine::Tos(TosOp::Shl, Width::Ax),
-    Routine::Tos(TosOp::Shr, Width::Ax),
-    Routine::Tos(TosOp::Asr, Width::Ax),
-    Routine::Tos(TosOp::Eq, Width::Ax),
-    Routine::Tos(TosOp::Ne, Width::Ax),
-    Routine::Tos(TosOp::Lt, Width::Ax),
-    Routine::Tos(TosOp::Le, Width::Ax),
-    Routine::Tos(TosOp::Gt, Width::Ax),
-    Routine::Tos(TosOp::Ge, Width::Ax),
-    Routine::Tos(TosOp::ULt, Width::Ax),
-    Routine::Tos(TosOp::ULe, Width::Ax),
-    Routine::Tos(TosOp::UGt, Width::Ax),
-    Routine::Tos(TosOp::UGe, Width::Ax),
-];
-
-const LONG_OPERATORS: [Routine; 23] = [
-    Routine::Tos(TosOp::Add, Width::Eax),
-    Routine::Tos(TosOp::Sub, Width::Eax),
-    Routine::Tos(TosOp::Mul, Width::Eax),
-    Routine::Tos(TosOp::And, Width::Eax),
-    Routine::Tos(TosOp::Or, Width::Eax),
-    Routine::Tos(TosOp::Xor, Width::Eax),
-    Routine::Tos(TosOp::Div, Width::Eax),
-    Routine::Tos(TosOp::Mod, Width::Eax),
-    Routine::Tos(TosOp::UDiv, Width::Eax),
-    Routine::Tos(TosOp::UMod, Width::Eax),
-    Routine::Tos(TosOp::Shl, Width::Eax),
-    Routine::Tos(TosOp::Shr, Width::Eax),
-    Routine::Tos(TosOp::Asr, Width::Eax),
-    Routine::Tos(TosOp::Eq, Width::Eax),
-    Routine::Tos(TosOp::Ne, Width::Eax),
-    Routine::Tos(TosOp::Lt, Width::Eax),
-    Routine::Tos(TosOp::Le, Width::Eax),
-    Routine::Tos(TosOp::Gt, Width::Eax),
-    Routine::Tos(TosOp::Ge, Width::Eax),
-    Routine::Tos(TosOp::ULt, Width::Eax),
-    Routine::Tos(TosOp::ULe, Width::Eax),
-    Routine::Tos(TosOp::UGt, Width::Eax),
-    Routine::Tos(TosOp::UGe, Width::Eax),
-];
-
-const OTHERS: [Routine; 27] = [
-    Routine::LdAi,
-    Routine::LdAxi,
-    Routine::LdEaxi,
-    Routine::StATos,
-    Routine::StAxTos,
-    Routine::StEaxTos,
-    Routine::CopyTos,
-    Routine::Unary(UnaryRoutine::Neg, Width::Ax),
-    Routine::Unary(UnaryRoutine::Neg, Width::Eax),
-    Routine::Unary(UnaryRoutine::Compl, Width::Ax),
-    Routine::Unary(UnaryRoutine::Compl, Width::Eax),
-    Routine::Unary(UnaryRoutine::Shl1, Width::Ax),
-    Routine::Unary(UnaryRoutine::Shl1, Width::Eax),
-    Routine::Unary(UnaryRoutine::Shr1, Width::Ax),
-    Routine::Unary(UnaryRoutine::Shr1, Width::Eax),
-    Routine::Unary(UnaryRoutine::Asr1, Width::Ax),
-    Routine::Unary(UnaryRoutine::Asr1, Width::Eax),
-    Routine::Unary(UnaryRoutine::BNeg, Width::Ax),
-    Routine::Unary(UnaryRoutine::BNeg, Width::Eax),
-    Routine::SignA,
-    Routine::LongAx,
-    Routine::ULongAx,
-    Routine::SaveRegs,
-    Routine::RestRegs,
-    Routine::CallPtr4,
-    Routine::Start,
-    Routine::StartArgs,
-];
-
-const OUTSIDE: [Routine; 15] = [
-    Routine::Library(Library::Putchar),
-    Routine::Library(Library::Getchar),
-    Routine::Library(Library::Puts),
-    Routine::Library(Library::Exit),
-    Routine::Library(Library::Memcpy),
-    Routine::Library(Library::Memset),
-    Routine::Library(Library::Strcmp),
-    Routine::Library(Library::Strcpy),
-    Routine::Library(Library::Strlen),
-    Routine::HookOpen,
-    Routine::HookClose,
-    Routine::HookRead,
-    Routine::HookWrite,
-    Routine::HookArgs,
-    Routine::HookExit,
-];
-
 impl Routine {
+    /// How many routines there are.
+    pub const COUNT: usize = 121;
+
+    /// All of them. Each stands before those that it calls, and the hooks stand last.
+    pub const ALL: [Routine; Routine::COUNT] = [
+        Routine::Start,
+        Routine::StartArgs,
+        Routine::Library(Library::Puts),
+        Routine::Library(Library::Getchar),
+        Routine::Library(Library::Exit),
+        Routine::Library(Library::Memcpy),
+        Routine::Library(Library::Memset),
+        Routine::Library(Library::Strcmp),
+        Routine::Library(Library::Strcpy),
+        Routine::Library(Library::Putchar),
+        Routine::Library(Library::Strlen),
+        Routine::PushA,
+        Routine::PushAx,
+        Routine::PushA0,
+        Routine::Push0,
+        Routine::PushEax,
+        Routine::PopA,
+        Routine::PopAx,
+        Routine::PopEax,
+        Routine::PopPtrs,
+        Routine::IncSp(Count::One),
+        Routine::IncSp(Count::Two),
+        Routine::IncSp(Count::Three),
+        Routine::IncSp(Count::Four),
+        Routine::IncSp(Count::Five),
+        Routine::IncSp(Count::Six),
+        Routine::IncSp(Count::Seven),
+        Routine::IncSp(Count::Eight),
+        Routine::DecSp(Count::One),
+        Routine::DecSp(Count::Two),
+        Routine::DecSp(Count::Three),
+        Routine::DecSp(Count::Four),
+        Routine::DecSp(Count::Five),
+        Routine::DecSp(Count::Six),
+        Routine::DecSp(Count::Seven),
+        Routine::DecSp(Count::Eight),
+        Routine::AddYSp,
+        Routine::SubYSp,
+        Routine::LdAxYSp,
+        Routine::LdAx0Sp,
+        Routine::LdEaxYSp,
+        Routine::StAxYSp,
+        Routine::StAx0Sp,
+        Routine::StEaxYSp,
+        Routine::LdAi,
+        Routine::LdAxi,
+        Routine::LdEaxi,
+        Routine::StATos,
+        Routine::StAxTos,
+        Routine::StEaxTos,
+        Routine::CopyTos,
+        Routine::Tos(TosOp::Add, Width::Ax),
+        Routine::Tos(TosOp::Sub, Width::Ax),
+        Routine::Tos(TosOp::Mul, Width::Ax),
+        Routine::Tos(TosOp::And, Width::Ax),
+        Routine::Tos(TosOp::Or, Width::Ax),
+        Routine::Tos(TosOp::Xor, Width::Ax),
+        Routine::Tos(TosOp::Div, Width::Ax),
+        Routine::Tos(TosOp::Mod, Width::Ax),
+        Routine::Tos(TosOp::UDiv, Width::Ax),
+        Routine::Tos(TosOp::UMod, Width::Ax),
+        Routine::Tos(TosOp::Shl, Width::Ax),
+        Routine::Tos(TosOp::Shr, Width::Ax),
+        Routine::Tos(TosOp::Asr, Width::Ax),
+        Routine::Tos(TosOp::Eq, Width::Ax),
+        Routine::Tos(TosOp::Ne, Width::Ax),
+        Routine::Tos(TosOp::Lt, Width::Ax),
+        Routine::Tos(TosOp::Le, Width::Ax),
+        Routine::Tos(TosOp::Gt, Width::Ax),
+        Routine::Tos(TosOp::Ge, Width::Ax),
+        Routine::Tos(TosOp::ULt, Width::Ax),
+        Routine::Tos(TosOp::ULe, Width::Ax),
+        Routine::Tos(TosOp::UGt, Width::Ax),
+        Routine::Tos(TosOp::UGe, Width::Ax),
+        Routine::Tos(TosOp::Add, Width::Eax),
+        Routine::Tos(TosOp::Sub, Width::Eax),
+        Routine::Tos(TosOp::Mul, Width::Eax),
+        Routine::Tos(TosOp::And, Width::Eax),
+        Routine::Tos(TosOp::Or, Width::Eax),
+        Routine::Tos(TosOp::Xor, Width::Eax),
+        Routine::Tos(TosOp::Div, Width::Eax),
+        Routine::Tos(TosOp::Mod, Width::Eax),
+        Routine::Tos(TosOp::UDiv, Width::Eax),
+        Routine::Tos(TosOp::UMod, Width::Eax),
+        Routine::Tos(TosOp::Shl, Width::Eax),
+        Routine::Tos(TosOp::Shr, Width::Eax),
+        Routine::Tos(TosOp::Asr, Width::Eax),
+        Routine::Tos(TosOp::Eq, Width::Eax),
+        Routine::Tos(TosOp::Ne, Width::Eax),
+        Routine::Tos(TosOp::Lt, Width::Eax),
+        Routine::Tos(TosOp::Le, Width::Eax),
+        Routine::Tos(TosOp::Gt, Width::Eax),
+        Routine::Tos(TosOp::Ge, Width::Eax),
+        Routine::Tos(TosOp::ULt, Width::Eax),
+        Routine::Tos(TosOp::ULe, Width::Eax),
+        Routine::Tos(TosOp::UGt, Width::Eax),
+        Routine::Tos(TosOp::UGe, Width::Eax),
+        Routine::Unary(UnaryRoutine::Neg, Width::Ax),
+        Routine::Unary(UnaryRoutine::Compl, Width::Ax),
+        Routine::Unary(UnaryRoutine::Shl1, Width::Ax),
+        Routine::Unary(UnaryRoutine::Shr1, Width::Ax),
+        Routine::Unary(UnaryRoutine::Asr1, Width::Ax),
+        Routine::Unary(UnaryRoutine::BNeg, Width::Ax),
+        Routine::Unary(UnaryRoutine::Neg, Width::Eax),
+        Routine::Unary(UnaryRoutine::Compl, Width::Eax),
+        Routine::Unary(UnaryRoutine::Shl1, Width::Eax),
+        Routine::Unary(UnaryRoutine::Shr1, Width::Eax),
+        Routine::Unary(UnaryRoutine::Asr1, Width::Eax),
+        Routine::Unary(UnaryRoutine::BNeg, Width::Eax),
+        Routine::SignA,
+        Routine::LongAx,
+        Routine::ULongAx,
+        Routine::SaveRegs,
+        Routine::RestRegs,
+        Routine::CallPtr4,
+        Routine::HookOpen,
+        Routine::HookClose,
+        Routine::HookRead,
+        Routine::HookWrite,
+        Routine::HookArgs,
+        Routine::HookExit,
+    ];
+
     /// The routine's name in assembly text.
     pub fn name(self) -> &'static [u8]
         ensures { result.now ≡ name_of self }
@@ -340,7 +334,64 @@ impl Routine {
         ensures named { IfSome result (λ r. name_of r ≡ name.now) }
         ensures found { (r : Routine) → name_of r ≡ name.now → result ≡ Some r }
     {
-        find_routine(name)
+        match among(&Routine::ALL[likely_places(name)], name) {
+            Some(routine) => Some(routine),
+            None => among(&Routine::ALL, name),
+        }
+    }
+
+    /// The routine's place in `ALL`.
+    pub fn number(self) -> usize
+        ensures value { result ≡ number_of self }
+        ensures small { result < 121 }
+    {
+        match self {
+            Routine::Start => 0,
+            Routine::StartArgs => 1,
+            Routine::Library(function) => 2 + library_number(function),
+            Routine::PushA => 11,
+            Routine::PushAx => 12,
+            Routine::PushA0 => 13,
+            Routine::Push0 => 14,
+            Routine::PushEax => 15,
+            Routine::PopA => 16,
+            Routine::PopAx => 17,
+            Routine::PopEax => 18,
+            Routine::PopPtrs => 19,
+            Routine::IncSp(count) => 20 + count as usize,
+            Routine::DecSp(count) => 28 + count as usize,
+            Routine::AddYSp => 36,
+            Routine::SubYSp => 37,
+            Routine::LdAxYSp => 38,
+            Routine::LdAx0Sp => 39,
+            Routine::LdEaxYSp => 40,
+            Routine::StAxYSp => 41,
+            Routine::StAx0Sp => 42,
+            Routine::StEaxYSp => 43,
+            Routine::LdAi => 44,
+            Routine::LdAxi => 45,
+            Routine::LdEaxi => 46,
+            Routine::StATos => 47,
+            Routine::StAxTos => 48,
+            Routine::StEaxTos => 49,
+            Routine::CopyTos => 50,
+            Routine::Tos(op, Width::Ax) => 51 + op as usize,
+            Routine::Tos(op, Width::Eax) => 74 + op as usize,
+            Routine::Unary(op, Width::Ax) => 97 + op as usize,
+            Routine::Unary(op, Width::Eax) => 103 + op as usize,
+            Routine::SignA => 109,
+            Routine::LongAx => 110,
+            Routine::ULongAx => 111,
+            Routine::SaveRegs => 112,
+            Routine::RestRegs => 113,
+            Routine::CallPtr4 => 114,
+            Routine::HookOpen => 115,
+            Routine::HookClose => 116,
+            Routine::HookRead => 117,
+            Routine::HookWrite => 118,
+            Routine::HookArgs => 119,
+            Routine::HookExit => 120,
+        }
     }
 }
 
@@ -464,21 +515,36 @@ fn among(routines: &[Routine], name: &[u8]) -> Option<Routine>
     None
 }
 
-// The families are sought one after another.
-fn find_routine(name: &[u8]) -> Option<Routine>
-    ensures { result ≡ routine_named name.now }
+// Where most routines stand whose names begin like this one.
+fn likely_places(name: &[u8]) -> Range<usize>
+    ensures order { result.start ≤ result.end }
+    ensures end { result.end ≤ 121 }
 {
-    if let Some(routine) = among(&STACK, name) {
-        return Some(routine);
+    match name.first() {
+        Some(b'p') => 11..20,
+        Some(b'i') => 20..28,
+        Some(b'd') => 28..36,
+        Some(b'l') => 38..47,
+        Some(b's') => 41..50,
+        Some(b't') => 51..97,
+        Some(b'a' | b'b' | b'c' | b'n') => 97..115,
+        _ => 0..0,
     }
-    if let Some(routine) = among(&WORD_OPERATORS, name) {
-        return Some(routine);
+}
+
+// puts calls putchar and strlen.
+fn library_number(function: Library) -> usize
+    ensures { result ≡ library_number function }
+{
+    match function {
+        Library::Puts => 0,
+        Library::Getchar => 1,
+        Library::Exit => 2,
+        Library::Memcpy => 3,
+        Library::Memset => 4,
+        Library::Strcmp => 5,
+        Library::Strcpy => 6,
+        Library::Putchar => 7,
+        Library::Strlen => 8,
     }
-    if let Some(routine) = among(&LONG_OPERATORS, name) {
-        return Some(routine);
-    }
-    if let Some(routine) = among(&OTHERS, name) {
-        return Some(routine);
-    }
-    among(&OUTSIDE, name)
 }

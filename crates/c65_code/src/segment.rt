@@ -1,11 +1,12 @@
 // The lines of a function: being written, and closed.
-ghost use Rattle.std.specs.Prelude.{◌≡◌, ◌+◌, ◌<◌, ◌≤◌, ◌^◌, ◌∷◌, [], ◌++◌, OnOk, OnErr, IfOk, length, insert};
+ghost use Rattle.std.specs.Prelude.{◌≡◌, ◌+◌, ◌<◌, ◌≤◌, ◌^◌, ◌∷◌, [], ◌++◌, OnOk, OnErr, IfOk, IfErr, length, insert};
+ghost use Rattle.c65_base.specs.declared.refusal.Refusal.TheVariants.{OutOfMemory};
 ghost use Rattle.c65_code.specs.Segments.{IsSegment, replaced};
 
 use crate::line::Line;
 use crate::parts::RegSet;
 use c65_base::Refusal;
-use std::alloc::Global;
+use std::alloc::{AllocError, Global};
 use std::marker::Model;
 
 /// The lines of a function that is being written.
@@ -44,9 +45,18 @@ impl Draft {
     pub fn push(&mut self, line: Line) -> Result<(), Refusal>
         ensures ok { OnOk result (self.new ≡ record self.old { lines = self.old.lines ++ line ∷ [] }) }
         ensures err { OnErr result (self.new ≡ self.old) }
+        ensures refused { IfErr result (λ refusal. refusal ≡ OutOfMemory) }
     {
         self.body.push(line)?;
         Ok(())
+    }
+
+    /// Several lines more. After a refusal the draft is as before.
+    pub fn extend(&mut self, lines: &[Line]) -> Result<(), AllocError>
+        ensures ok { OnOk result (self.new ≡ record self.old { lines = self.old.lines ++ lines.now }) }
+        ensures err { OnErr result (self.new ≡ self.old) }
+    {
+        self.body.extend_from_slice(lines)
     }
 
     /// A label that was not given before.
@@ -130,6 +140,7 @@ impl Seg {
         requires kept { IsSegment (insert self.old.lines at line) }
         ensures ok { OnOk result (self.new ≡ record self.old { lines = insert self.old.lines at line }) }
         ensures err { OnErr result (self.new ≡ self.old) }
+        ensures refused { IfErr result (λ refusal. refusal ≡ OutOfMemory) }
     {
         self.body.insert(at, line)?;
         Ok(())
@@ -141,11 +152,26 @@ impl Seg {
         requires kept { IsSegment (replaced self.old.lines at count lines.now) }
         ensures ok { OnOk result (self.new ≡ record self.old { lines = replaced self.old.lines at count lines.now }) }
         ensures err { OnErr result (self.new ≡ self.old) }
+        ensures refused { IfErr result (λ refusal. refusal ≡ OutOfMemory) }
     {
-        let body = spliced(self.alloc, &self.body, at, count, lines)?;
-        self.body = body;
+        if lines.len() <= count {
+            overwrite(&mut self.body, at, count, lines);
+        } else {
+            self.body = spliced(self.alloc, &self.body, at, count, lines)?;
+        }
         Ok(())
     }
+}
+
+// No more new lines than old ones: they stand in place of those, and what is left of them goes.
+fn overwrite(body: &mut Vec<Line>, at: usize, count: usize, lines: &[Line])
+    requires place { at + count ≤ length body.old.items }
+    requires fewer { length lines.now ≤ count }
+    ensures { body.new.items ≡ replaced body.old.items at count lines.now }
+{
+    let end = at + lines.len();
+    body[at..end].copy_from_slice(lines);
+    body.drain(end..at + count);
 }
 
 fn spliced(
@@ -154,7 +180,7 @@ fn spliced(
     at: usize,
     count: usize,
     new: &[Line],
-) -> Result<Vec<Line>, Refusal>
+) -> Result<Vec<Line>, AllocError>
     requires { at + count ≤ length old.now }
     ensures { IfOk result (λ lines. lines.items ≡ replaced old.now at count new.now) }
 {

@@ -30,18 +30,18 @@ module _ (s : Setting) (p : Place) (t : State) (running : t.ended ≡ None) (cal
   met_at r = row_met t calm.bytes calm.high r
 
   -- a call of a function with lines, or of one of the library
-  call_goes : (f : ℕ) (reads gives : RegSet) (o : Option Library) → s.library f ≡ o → IsCallable s o f t → (q : Place) × (u : State) × Calls s o f reads gives p t q u × IsBytes u
-  call_goes f reads gives (Some library) e h =
-      let m = routine_goes s.place (row_of (routines.Library library) t) t h (met_at (routines.Library library)) in
+  call_goes : (f : ℕ) (passed reads gives : RegSet) (o : Option Library) → s.library f ≡ o → IsCallable s o f passed t → (q : Place) × (u : State) × Calls s o f reads gives p t q u × IsBytes u
+  call_goes f passed reads gives (Some library) e h =
+      let m = routine_goes s.place (row_of (routines.Library library) t) t h.0 (met_at (routines.Library library)) in
       ((p.0, settle (s.lines p.0) (suc p.1)), m.0, (refl, m.1), m.2)
-  call_goes f reads gives None e h =
-      let callable : IsCallable s (s.library f) f t = subst (λ (o : Option Library). IsCallable s o f t) (sym e) h in
+  call_goes f passed reads gives None e h =
+      let callable : IsCallable s (s.library f) f reads t = subst (λ (o : Option Library). IsCallable s o f reads t) (sym e) h in
       let gone = own_never_stick s (Call (Function (record { 0 = f }) reads gives)) p t e (omega arith) (record { calm = calm; within = callable }) running in
       (gone.0, gone.1, subst (λ (o : Option Library). Calls s o f reads gives p t gone.0 gone.1) e gone.2.goes, gone.2.bytes)
 
-  through : (f : ℕ) (reads gives : RegSet) → IsCallee s t f → IsCallable s (s.library f) f t → (q : Place) × (u : State) × Goes s (Through reads gives) p t q u × IsBytes u
+  through : (f : ℕ) (reads gives : RegSet) → IsCallee s t f → IsCallable s (s.library f) f reads t → (q : Place) × (u : State) × Goes s (Through reads gives) p t q u × IsBytes u
   through f reads gives callee h =
-      let gone = call_goes f (union_of reads ptr4_bytes) gives (s.library f) refl h in
+      let gone = call_goes f reads (union_of reads ptr4_bytes) gives (s.library f) refl h in
       (gone.0, gone.1, (f, callee, gone.2), gone.3)
 
   run : (r : Routine) → RowHasRoom s.place (row_of r t) t → (q : Place) × (u : State) × Goes s (Run r) p t q u × IsBytes u
@@ -60,7 +60,7 @@ own s l p t form o running calm e given within =
 
 goes_on : (s : Setting) (l : Line) (p : Place) (t : State) (form : Form) → t.ended ≡ None → IsCalm s t → Going s l form p t
 goes_on s l p t (Run r) running calm e given within = by_form s l p t (Run r) running calm (run s p t running calm r within) e
-goes_on s l p t (Enter f reads gives) running calm e given within = by_form s l p t (Enter f reads gives) running calm (call_goes s p t running calm f reads gives (s.library f) refl within) e
+goes_on s l p t (Enter f reads gives) running calm e given within = by_form s l p t (Enter f reads gives) running calm (call_goes s p t running calm f reads reads gives (s.library f) refl within) e
 goes_on s l p t (Through reads gives) running calm e given within = by_form s l p t (Through reads gives) running calm (through s p t running calm within.0 reads gives within.1 within.2) e
 goes_on s l p t (Plain op mode operand) running calm e given within = own s l p t (Plain op mode operand) tt running calm e given within
 goes_on s l p t (Branch op k) running calm e given within = own s l p t (Branch op k) tt running calm e given within

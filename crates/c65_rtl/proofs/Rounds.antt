@@ -6,7 +6,7 @@ use Rattle.c65_mach.specs.Step.{with_a, is_taken, kind_of}
 use Rattle.c65_code.specs.declared.line.Line.{Line}
 use Rattle.c65_code.specs.declared.line.Line.TheVariants.{Label, Do, Call}
 use Rattle.c65_code.specs.declared.routine.Routine.{Routine}
-use Rattle.c65_code.specs.LineState.{Place, State, Frame}
+use Rattle.c65_code.specs.LineState.{Place, State, Frame, IsBytes}
 use Rattle.c65_code.specs.Placement.{Placement, word_of}
 use Rattle.c65_code.specs.Parts.{no_parts}
 use Rattle.c65_code.specs.Forms.{Form, Mark, Plain, Branch, Jump, Far, Push, Pull, Depth, Return, Run, Enter, Through, Stray, op_form, form_of}
@@ -145,7 +145,7 @@ more_back extra passed (Through reads gives) v = omega arith
 more_back extra passed Stray v = omega arith
 
 module _ (s : RawSetting) (bounds : Bounds) (Q : Place → State → Type 0) (P : State → Type 0) (f : ℕ) (whole : List Line) (frame : Frame) (frames : List Frame) (used : ℕ)
-    (has : s.lines f ≡ whole) (room : bounds.hard + 24 ≤ 253 - used) (ends : (u : State) → P u → Q frame.back (record u { pushed = frame.pushed; frames = frames }))
+    (has : s.lines f ≡ whole) (room : bounds.hard + 24 ≤ 253 - used) (ends : (u : State) → P u → IsBytes (record u { pushed = frame.pushed; frames = frames }) → Q frame.back (record u { pushed = frame.pushed; frames = frames }))
     (B : ℕ → State → Type 0) (extra : ℕ)
     (again : (k : ℕ) (u : State) → IsOwn frame frames used u → B k u → RawComes s bounds Q extra (f, settle whole (labelled whole k)) u) where
   abbrev On : Way → ℕ → ℕ → List ℕ → Type 0
@@ -162,7 +162,7 @@ module _ (s : RawSetting) (bounds : Bounds) (Q : Place → State → Type 0) (P 
       → IsOwn frame frames used t → On rest v (suc p) passed → by_round s.place bounds P B passed form rest None t → RawComes s bounds Q (raw_weight form + back_weight extra passed form v) (f, p) t
   round_line (Branch op k) rest passed l v p t e is own after h =
       on_form s bounds Q l (Branch op k) (if is_among passed k then max extra v else v) (2 + (if is_among passed k then max extra v else v)) (f, p) t e (ap (λ (ls : List Line). slice_get ls p) has ∙ is) own.ended tt (omega arith)
-      (λ q u g. moved_to s bounds Q (if is_among passed k then max extra v else v) q (f, settle whole (if is_taken op t.regs then labelled whole k else suc p)) u t
+      (λ q u g bytes. moved_to s bounds Q (if is_among passed k then max extra v else v) q (f, settle whole (if is_taken op t.regs then labelled whole k else suc p)) u t
       (g.0 ∙ ap (λ (ls : List Line). let q' : Place = (f, settle ls (if is_taken op t.regs then labelled ls k else suc p)) in q') has) g.1
       (branch_back rest passed v p k t own after (is_among passed k) refl (is_taken op t.regs) (h (is_taken op t.regs) refl)))
   round_line (Plain op mode operand) rest passed l v p t e is own after h = by_line s bounds Q P f whole frame frames used has room ends (Plain op mode operand) rest passed l v p t e is refl own after h
@@ -247,7 +247,7 @@ pub record IsLoop (place : Placement) (bounds : Bounds) (P : State → Type 0) (
   pub more : (m n : ℕ) → m ≤ step * n + tail → round_weight m (passed_behind k whole []) (behind k whole) ≤ step * suc n + tail
 
 repeats : (s : RawSetting) (bounds : Bounds) (Q : Place → State → Type 0) (P : State → Type 0) (f : ℕ) (whole : List Line) (frame : Frame) (frames : List Frame) (used : ℕ)
-    (has : s.lines f ≡ whole) (room : bounds.hard + 24 ≤ 253 - used) (ends : (u : State) → P u → Q frame.back (record u { pushed = frame.pushed; frames = frames }))
+    (has : s.lines f ≡ whole) (room : bounds.hard + 24 ≤ 253 - used) (ends : (u : State) → P u → IsBytes (record u { pushed = frame.pushed; frames = frames }) → Q frame.back (record u { pushed = frame.pushed; frames = frames }))
     (label k step tail : ℕ) (Inv : ℕ → State → Type 0) → IsLoop s.place bounds P whole label k step tail Inv
     → (n : ℕ) (t : State) → IsOwn frame frames used t → Inv n t → RawComes s bounds Q (step * n + tail) (f, settle whole (labelled whole label)) t
 repeats s bounds Q P f whole frame frames used has room ends label k step tail Inv loop zero t own inv =
@@ -285,9 +285,9 @@ runs_rounds s r row back t lines has label k step tail most Inv loop grows withi
       comes = moved_to s (reach_of t) (HasDone row.ends row back t) weight (entry_of s (s.routine r)) (s.routine r, settle lines 0) (called back t) (called back t)
           (ap (λ (ls : List Line). let q : Place = (s.routine r, settle ls 0) in q) has) refl
           (subst (λ (e : Option ℕ). RawComes s (reach_of t) (HasDone e row back t) weight (s.routine r, settle lines 0) (called back t)) (sym ends)
-          (rounds s (reach_of t) (HasDone None row back t) (Ends row t) (s.routine r) lines frame t.frames used has room (λ u m. (refl, m)) (Enters label most Inv) (step * most + tail)
+          (rounds s (reach_of t) (HasDone None row back t) (Ends row t) (s.routine r) lines frame t.frames used has room (λ u m bytes. (refl, m, bytes)) (Enters label most Inv) (step * most + tail)
           (λ l u own h. subst (λ (j : ℕ). RawComes s (reach_of t) (HasDone None row back t) (step * most + tail) (s.routine r, settle lines (labelled lines j)) u) (sym h.0)
           (weaken s (reach_of t) (HasDone None row back t) (step * h.1.0 + tail) (step * most + tail) _ u (grows h.1.0 h.1.1)
-          (repeats s (reach_of t) (HasDone None row back t) (Ends row t) (s.routine r) lines frame t.frames used has room (λ u m. (refl, m)) label k step tail Inv loop h.1.0 u own h.1.2)))
+          (repeats s (reach_of t) (HasDone None row back t) (Ends row t) (s.routine r) lines frame t.frames used has room (λ u m bytes. (refl, m, bytes)) label k step tail Inv loop h.1.0 u own h.1.2)))
           lines 0 [] None (called back t) (whole_at lines) tt (record { frames = refl; ended = may.running; used = refl }) h));
     }

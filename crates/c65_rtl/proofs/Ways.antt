@@ -12,7 +12,7 @@ use Rattle.c65_code.specs.declared.line.Callee.{Callee}
 use Rattle.c65_code.specs.declared.line.Line.{Line}
 use Rattle.c65_code.specs.declared.line.Line.TheVariants.{Label, Do, Call}
 use Rattle.c65_code.specs.declared.routine.Routine.{Routine}
-use Rattle.c65_code.specs.LineState.{Place, State, Frame, s_of}
+use Rattle.c65_code.specs.LineState.{Place, State, Frame, s_of, IsBytes}
 use Rattle.c65_code.specs.Placement.{Placement, word_of}
 use Rattle.c65_code.specs.Forms.{Form, Mark, Plain, Branch, Jump, Far, Push, Pull, Depth, Return, Run, Enter, Through, Stray, form_of, op_form}
 use Rattle.c65_code.specs.Rows.{Row, Meets}
@@ -188,16 +188,16 @@ weaken s bounds Q v w p t le (on {v = u} l is running within fits next) = on {v 
 -- the line's form is known
 pub on_form : (s : RawSetting) (bounds : Bounds) (Q : Place → State → Type 0) (l : Line) (form : Form) (v w : ℕ) (p : Place) (t : State)
     → form_of l ≡ form → slice_get (s.lines p.0) p.1 ≡ Some l → t.ended ≡ None → IsRawWithin s bounds form t → raw_weight form + v ≤ w
-    → ((q : Place) (u : State) → RawGoes s form p t q u → RawComes s bounds Q v q u) → RawComes s bounds Q w p t
+    → ((q : Place) (u : State) → RawGoes s form p t q u → IsBytes u → RawComes s bounds Q v q u) → RawComes s bounds Q w p t
 on_form s bounds Q l form v w p t e is running within fits next =
     on {v = v} l is running (subst (λ (f : Form). IsRawWithin s bounds f t) (sym e) within) (subst (λ (f : Form). raw_weight f + v ≤ w) (sym e) fits)
-    (λ q u m. next q u (subst (λ (f : Form). RawGoes s f p t q u) e m.goes))
+    (λ q u m. next q u (subst (λ (f : Form). RawGoes s f p t q u) e m.goes) m.bytes)
 
 pub moved_to : (s : RawSetting) (bounds : Bounds) (Q : Place → State → Type 0) (v : ℕ) (q r : Place) (u w : State) → q ≡ r → u ≡ w → RawComes s bounds Q v r w → RawComes s bounds Q v q u
 moved_to s bounds Q v q r u w same_place same_state c = subst (λ (q : Place). RawComes s bounds Q v q u) (sym same_place) (subst (λ (u : State). RawComes s bounds Q v r u) (sym same_state) c)
 
 module _ (s : RawSetting) (bounds : Bounds) (Q : Place → State → Type 0) (P : State → Type 0) (f : ℕ) (whole : List Line) (frame : Frame) (frames : List Frame) (used : ℕ)
-    (has : s.lines f ≡ whole) (room : bounds.hard + 24 ≤ 253 - used) (ends : (u : State) → P u → Q frame.back (record u { pushed = frame.pushed; frames = frames })) where
+    (has : s.lines f ≡ whole) (room : bounds.hard + 24 ≤ 253 - used) (ends : (u : State) → P u → IsBytes (record u { pushed = frame.pushed; frames = frames }) → Q frame.back (record u { pushed = frame.pushed; frames = frames })) where
   -- what is known of the lines behind a line
   pub record Goes_on (rest : Way) (v p : ℕ) (passed : List ℕ) : Type 0 where
     pub by : (skip : Option ℕ) (u : State) → IsSought passed skip → IsOwn frame frames used u → rest skip u → RawComes s bounds Q v (f, place_at whole p skip) u
@@ -206,9 +206,9 @@ module _ (s : RawSetting) (bounds : Bounds) (Q : Place → State → Type 0) (P 
       → (ps : List ℕ) → t.pushed ≡ ps → returning P ps t → RawComes s bounds Q (1 + v) (f, p) t
   at_return rest l v p t e is own [] none h =
       on_form s bounds Q l Return v (1 + v) (f, p) t e (ap (λ (ls : List Line). slice_get ls p) has ∙ is) own.ended (none, subst HasFrame (sym own.frames) tt) (omega arith)
-      (λ q u g.
+      (λ q u g bytes.
       let r = subst (λ (fs : List Frame). RawReturns fs t q u) own.frames g in
-      here (subst (λ (q : Place). Q q u) (sym r.1) (subst (λ (u : State). Q frame.back u) (sym r.2) (ends t h))))
+      here (subst (λ (q : Place). Q q u) (sym r.1) (subst (λ (u : State). Q frame.back u) (sym r.2) (ends t h (subst IsBytes r.2 bytes)))))
   at_return rest l v p t e is own (b ∷ bs) none h = absurd h
 
   at_pull : (rest : Way) (passed : List ℕ) (l : Line) (v p : ℕ) (t : State) → form_of l ≡ Pull → slice_get whole p ≡ Some l → IsOwn frame frames used t → Goes_on rest v (suc p) passed
@@ -216,7 +216,7 @@ module _ (s : RawSetting) (bounds : Bounds) (Q : Place → State → Type 0) (P 
   at_pull rest passed l v p t e is own after [] none h = absurd h
   at_pull rest passed l v p t e is own after (b ∷ bs) some h =
       on_form s bounds Q l Pull v (1 + v) (f, p) t e (ap (λ (ls : List Line). slice_get ls p) has ∙ is) own.ended (b, bs, some) (omega arith)
-      (λ q u g.
+      (λ q u g bytes.
       let split : b ∷ bs ≡ g.1.0 ∷ g.1.1 = sym some ∙ g.1.2 in
       let head : g.1.0 ≡ b = cc in
       let tail : g.1.1 ≡ bs = cc in
@@ -236,16 +236,16 @@ module _ (s : RawSetting) (bounds : Bounds) (Q : Place → State → Type 0) (P 
       let parts = open_operand s.place bounds (ref_of mode (word_of s.place operand) t) (rest None (effect (kind_of op) op mode (word_of s.place operand) t)) h in
       let to : State = effect (kind_of op) op mode (word_of s.place operand) t in
       on_form s bounds Q l (Plain op mode operand) v (1 + v) (f, p) t e (ap (λ (ls : List Line). slice_get ls p) has ∙ is) own.ended parts.0 (omega arith)
-      (λ q u g. moved_to s bounds Q v q (f, settle whole (suc p)) u to (g.0 ∙ ap (λ (ls : List Line). let q' : Place = (f, settle ls (suc p)) in q') has) g.1
+      (λ q u g bytes. moved_to s bounds Q v q (f, settle whole (suc p)) u to (g.0 ∙ ap (λ (ls : List Line). let q' : Place = (f, settle ls (suc p)) in q') has) g.1
       (after.by None to tt (still_own frame frames used t to (effect_calls (kind_of op) op mode (word_of s.place operand) t) own) parts.1))
   by_line (Branch op k) rest passed l v p t e is onward own after h =
       on_form s bounds Q l (Branch op k) v (2 + v) (f, p) t e (ap (λ (ls : List Line). slice_get ls p) has ∙ is) own.ended tt (omega arith)
-      (λ q u g. moved_to s bounds Q v q (f, settle whole (if is_taken op t.regs then labelled whole k else suc p)) u t
+      (λ q u g bytes. moved_to s bounds Q v q (f, settle whole (if is_taken op t.regs then labelled whole k else suc p)) u t
       (g.0 ∙ ap (λ (ls : List Line). let q' : Place = (f, settle ls (if is_taken op t.regs then labelled ls k else suc p)) in q') has) g.1
       (at_branch rest passed v p k t (not_parts (is_among passed k) onward) own after (is_taken op t.regs) (h (is_taken op t.regs) refl)))
   by_line (Jump k) rest passed l v p t e is onward own after h =
       on_form s bounds Q l (Jump k) v (1 + v) (f, p) t e (ap (λ (ls : List Line). slice_get ls p) has ∙ is) own.ended tt (omega arith)
-      (λ q u g. moved_to s bounds Q v q (f, settle whole (labelled whole k)) u t
+      (λ q u g bytes. moved_to s bounds Q v q (f, settle whole (labelled whole k)) u t
       (g.0 ∙ ap (λ (ls : List Line). let q' : Place = (f, settle ls (labelled ls k)) in q') has) g.1
       (after.by (Some k) t (not_parts (is_among passed k) onward) own h))
   by_line Push rest passed l v p t e is onward own after h =
@@ -255,7 +255,7 @@ module _ (s : RawSetting) (bounds : Bounds) (Q : Place → State → Type 0) (P 
       let deep : bounds.hard + 1 ≤ s_of t = omega arith in
       let to : State = record t { pushed = t.regs.a ∷ t.pushed } in
       on_form s bounds Q l Push v (1 + v) (f, p) t e (ap (λ (ls : List Line). slice_get ls p) has ∙ is) own.ended deep (omega arith)
-      (λ q u g. moved_to s bounds Q v q (f, settle whole (suc p)) u to (g.0 ∙ ap (λ (ls : List Line). let q' : Place = (f, settle ls (suc p)) in q') has) g.1
+      (λ q u g bytes. moved_to s bounds Q v q (f, settle whole (suc p)) u to (g.0 ∙ ap (λ (ls : List Line). let q' : Place = (f, settle ls (suc p)) in q') has) g.1
       (after.by None to tt (still_own frame frames used t to (record { frames = refl; ended = refl }) own) parts.1))
   by_line Pull rest passed l v p t e is onward own after h = at_pull rest passed l v p t e is own after t.pushed refl h
   by_line Return rest passed l v p t e is onward own after h = at_return rest l v p t e is own t.pushed refl h
@@ -340,6 +340,6 @@ runs s r row back t lines has short ends may h =
       comes = moved_to s (reach_of t) (HasDone row.ends row back t) (total_weight lines) (entry_of s (s.routine r)) (s.routine r, settle lines 0) (called back t) (called back t)
           (ap (λ (ls : List Line). let q : Place = (s.routine r, settle ls 0) in q) has) refl
           (subst (λ (e : Option ℕ). RawComes s (reach_of t) (HasDone e row back t) (total_weight lines) (s.routine r, settle lines 0) (called back t)) (sym ends)
-          (through s (reach_of t) (HasDone None row back t) (Ends row t) (s.routine r) lines frame t.frames used has room (λ u m. (refl, m)) lines 0 [] None (called back t) (whole_at lines) short.onward tt
+          (through s (reach_of t) (HasDone None row back t) (Ends row t) (s.routine r) lines frame t.frames used has room (λ u m bytes. (refl, m, bytes)) lines 0 [] None (called back t) (whole_at lines) short.onward tt
           (record { frames = refl; ended = may.running; used = refl }) h));
     }

@@ -15,6 +15,7 @@ use c65_mach::Mode::{Immediate, Implied, IndirectY, Relative, ZeroPage};
 use c65_mach::Op::{
     Bcs, Beq, Bne, Cmp, Dex, Dey, Inc, Inx, Iny, Lda, Ldx, Ldy, Rts, Sbc, Sec, Sta, Stx, Tax, Tya,
 };
+use std::alloc::AllocError;
 
 // sp = $FFF0.
 const STACK_TOP: [Line; 4] = [
@@ -232,7 +233,7 @@ fn call_of_main() -> Line
     Call(Callee::Function(Sym(0), word, word))
 }
 
-pub fn start(draft: &mut Draft, which: Routine) -> Result<(), Refusal>
+pub fn start(draft: &mut Draft, which: Routine) -> Result<(), AllocError>
     ensures { OnOk result (draft.new ≡ with_pieces draft.old (start_pieces which)) }
 {
     match which {
@@ -251,7 +252,7 @@ pub fn start(draft: &mut Draft, which: Routine) -> Result<(), Refusal>
     }
 }
 
-fn outside(draft: &mut Draft, function: Library) -> Result<(), Refusal>
+fn outside(draft: &mut Draft, function: Library) -> Result<(), AllocError>
     ensures { OnOk result (draft.new ≡ with_pieces draft.old (outside_pieces function)) }
 {
     match function {
@@ -264,7 +265,7 @@ fn outside(draft: &mut Draft, function: Library) -> Result<(), Refusal>
 }
 
 // The first argument is the result.
-fn memory_function(draft: &mut Draft, function: Library) -> Result<(), Refusal>
+fn memory_function(draft: &mut Draft, function: Library) -> Result<(), AllocError>
     ensures { OnOk result (draft.new ≡ with_pieces draft.old (memory_pieces function)) }
 {
     match function {
@@ -281,7 +282,7 @@ fn memory_function(draft: &mut Draft, function: Library) -> Result<(), Refusal>
     }
 }
 
-fn string_function(draft: &mut Draft, function: Library) -> Result<(), Refusal>
+fn string_function(draft: &mut Draft, function: Library) -> Result<(), AllocError>
     ensures { OnOk result (draft.new ≡ with_pieces draft.old (string_pieces function)) }
 {
     match function {
@@ -305,7 +306,7 @@ fn string_function(draft: &mut Draft, function: Library) -> Result<(), Refusal>
     }
 }
 
-pub fn library(draft: &mut Draft, function: Library) -> Result<(), Refusal>
+pub fn library(draft: &mut Draft, function: Library) -> Result<(), AllocError>
     ensures { OnOk result (draft.new ≡ with_pieces draft.old (library_pieces function)) }
 {
     match function {

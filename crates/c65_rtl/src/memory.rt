@@ -6,7 +6,6 @@ ghost use Rattle.c65_rtl.specs.Memory.{copy, point, top_to_ptr1, top_to_ptr2, fr
 use crate::places::{PTR1, PTR2, PTR3, PTR4, REGBANK, SP, SREG, TMP1};
 use crate::stack::{raise, top_word};
 use crate::writing::{index, put};
-use c65_base::Refusal;
 use c65_code::Line::{Do, Label};
 use c65_code::Operand::{Byte, Nothing, To, Zero};
 use c65_code::{Count, Draft, Line, Routine};
@@ -15,6 +14,7 @@ use c65_mach::Op::{
     Bcs, Beq, Bne, Dec, Dex, Dey, Inc, Iny, Jmp, Lda, Ldx, Ldy, Pha, Pla, Rts, Sbc, Sec, Sta, Stx,
     Tax, Txa,
 };
+use std::alloc::AllocError;
 
 // AX to ptr1.
 const POINT: [Line; 2] = [
@@ -184,35 +184,35 @@ const RESTORE_BANK: [Line; 20] = [
 const JUMP: [Line; 1] = [Do(Jmp, Indirect, Zero(PTR4))];
 
 /// AX to ptr1.
-pub fn point_ptr1(draft: &mut Draft) -> Result<(), Refusal>
+pub fn point_ptr1(draft: &mut Draft) -> Result<(), AllocError>
     ensures { OnOk result (draft.new ≡ with_pieces draft.old (point ∷ [])) }
 {
     put(draft, &POINT)
 }
 
 /// The word at sp to ptr1, and Y = 0.
-pub fn take_ptr1(draft: &mut Draft) -> Result<(), Refusal>
+pub fn take_ptr1(draft: &mut Draft) -> Result<(), AllocError>
     ensures { OnOk result (draft.new ≡ with_pieces draft.old (top_to_ptr1 ∷ [])) }
 {
     put(draft, &TOP_TO_PTR1)
 }
 
 /// The word at sp to ptr2, and Y = 0.
-pub fn take_ptr2(draft: &mut Draft) -> Result<(), Refusal>
+pub fn take_ptr2(draft: &mut Draft) -> Result<(), AllocError>
     ensures { OnOk result (draft.new ≡ with_pieces draft.old (top_to_ptr2 ∷ [])) }
 {
     put(draft, &TOP_TO_PTR2)
 }
 
 /// Copies ptr3 bytes from ptr1 to ptr2.
-pub fn copy_bytes(draft: &mut Draft) -> Result<(), Refusal>
+pub fn copy_bytes(draft: &mut Draft) -> Result<(), AllocError>
     ensures { OnOk result (draft.new ≡ with_pieces draft.old (copy ∷ [])) }
 {
     put(draft, &COPY)
 }
 
 /// Loads from address AX.
-pub fn load_from(draft: &mut Draft, which: Routine) -> Result<(), Refusal>
+pub fn load_from(draft: &mut Draft, which: Routine) -> Result<(), AllocError>
     ensures { OnOk result (draft.new ≡ with_pieces draft.old (from_pieces which)) }
 {
     match which {
@@ -236,7 +236,7 @@ pub fn load_from(draft: &mut Draft, which: Routine) -> Result<(), Refusal>
 }
 
 /// Stores at address TOS.
-pub fn store_to(draft: &mut Draft, which: Routine) -> Result<(), Refusal>
+pub fn store_to(draft: &mut Draft, which: Routine) -> Result<(), AllocError>
     ensures { OnOk result (draft.new ≡ with_pieces draft.old (to_pieces which)) }
 {
     match which {
@@ -268,7 +268,7 @@ pub fn store_to(draft: &mut Draft, which: Routine) -> Result<(), Refusal>
 }
 
 /// Copies, the register variables, and the jump through ptr4.
-pub fn bank(draft: &mut Draft, which: Routine) -> Result<(), Refusal>
+pub fn bank(draft: &mut Draft, which: Routine) -> Result<(), AllocError>
     ensures { OnOk result (draft.new ≡ with_pieces draft.old (bank_pieces which)) }
 {
     match which {

@@ -7,7 +7,6 @@ use crate::memory::{point_ptr1, take_ptr1, take_ptr2};
 use crate::places::{PTR1, PTR2, PTR3, SP, SREG, TMP1, TMP2};
 use crate::stack::raise;
 use crate::writing::put;
-use c65_base::Refusal;
 use c65_code::Line::{Do, Label};
 use c65_code::Operand::{Byte, Nothing, To, Zero};
 use c65_code::{Count, Draft, Line, TosOp, Width};
@@ -17,6 +16,7 @@ use c65_mach::Op::{
     Adc, Asl, Bcc, Bne, Bpl, Clc, Cmp, Dex, Eor, Inc, Iny, Lda, Ldx, Ldy, Lsr, Ora, Rol, Ror, Sbc,
     Sec, Sta, Stx, Sty, Tax, Txa,
 };
+use std::alloc::AllocError;
 
 // A from tmp1.
 const LOW_BYTE: [Line; 1] = [Do(Lda, ZeroPage, Zero(TMP1))];
@@ -129,7 +129,7 @@ const REMAINDER: [Line; 2] = [
 ];
 
 /// The end of an operator: TOS is dropped.
-pub fn drop_tos(draft: &mut Draft, width: Width) -> Result<(), Refusal>
+pub fn drop_tos(draft: &mut Draft, width: Width) -> Result<(), AllocError>
     ensures { OnOk result (draft.new ≡ with_pieces draft.old (drop_pieces width)) }
 {
     match width {
@@ -139,7 +139,7 @@ pub fn drop_tos(draft: &mut Draft, width: Width) -> Result<(), Refusal>
 }
 
 // ADC, AND, EOR or ORA of the two low bytes.
-fn combine_words(draft: &mut Draft, op: Op) -> Result<(), Refusal>
+fn combine_words(draft: &mut Draft, op: Op) -> Result<(), AllocError>
     ensures { OnOk result (draft.new ≡ with_pieces draft.old (combined op ∷ [])) }
 {
     put(
@@ -157,7 +157,7 @@ fn combine_words(draft: &mut Draft, op: Op) -> Result<(), Refusal>
 }
 
 // The same of the high halves.
-fn combine_on(draft: &mut Draft, op: Op) -> Result<(), Refusal>
+fn combine_on(draft: &mut Draft, op: Op) -> Result<(), AllocError>
     ensures { OnOk result (draft.new ≡ with_pieces draft.old (combined_on op ∷ [])) }
 {
     put(
@@ -175,7 +175,7 @@ fn combine_on(draft: &mut Draft, op: Op) -> Result<(), Refusal>
     )
 }
 
-fn combine(draft: &mut Draft, op: Op, width: Width) -> Result<(), Refusal>
+fn combine(draft: &mut Draft, op: Op, width: Width) -> Result<(), AllocError>
     ensures { OnOk result (draft.new ≡ with_pieces draft.old (combine_pieces op width)) }
 {
     match width {
@@ -193,7 +193,7 @@ fn combine(draft: &mut Draft, op: Op, width: Width) -> Result<(), Refusal>
     }
 }
 
-fn subtract(draft: &mut Draft, width: Width) -> Result<(), Refusal>
+fn subtract(draft: &mut Draft, width: Width) -> Result<(), AllocError>
     ensures { OnOk result (draft.new ≡ with_pieces draft.old (subtract_pieces width)) }
 {
     match width {
@@ -211,7 +211,7 @@ fn subtract(draft: &mut Draft, width: Width) -> Result<(), Refusal>
     }
 }
 
-fn multiply(draft: &mut Draft) -> Result<(), Refusal>
+fn multiply(draft: &mut Draft) -> Result<(), AllocError>
     ensures { OnOk result (draft.new ≡ with_pieces draft.old multiply_pieces) }
 {
     point_ptr1(draft)?;
@@ -220,7 +220,7 @@ fn multiply(draft: &mut Draft) -> Result<(), Refusal>
     raise(draft, Count::Two)
 }
 
-pub fn arithmetic(draft: &mut Draft, op: TosOp, width: Width) -> Result<(), Refusal>
+pub fn arithmetic(draft: &mut Draft, op: TosOp, width: Width) -> Result<(), AllocError>
     ensures { OnOk result (draft.new ≡ with_pieces draft.old (arithmetic_pieces op width)) }
 {
     match op {
@@ -238,7 +238,7 @@ pub fn arithmetic(draft: &mut Draft, op: TosOp, width: Width) -> Result<(), Refu
 }
 
 // A word becomes its negative where the byte of the sign says so.
-fn negate_by(draft: &mut Draft, sign: u8, at: u8, label: u32) -> Result<(), Refusal>
+fn negate_by(draft: &mut Draft, sign: u8, at: u8, label: u32) -> Result<(), AllocError>
     requires { at < 255 }
     ensures { OnOk result (draft.new ≡ with_pieces draft.old (negation sign at label ∷ [])) }
 {
@@ -260,7 +260,7 @@ fn negate_by(draft: &mut Draft, sign: u8, at: u8, label: u32) -> Result<(), Refu
 }
 
 // The quotient to ptr1, the remainder to ptr3.
-fn divide(draft: &mut Draft) -> Result<(), Refusal>
+fn divide(draft: &mut Draft) -> Result<(), AllocError>
     ensures { OnOk result (draft.new ≡ with_pieces draft.old divide_pieces) }
 {
     put(draft, &DIVISOR)?;
@@ -269,7 +269,7 @@ fn divide(draft: &mut Draft) -> Result<(), Refusal>
 }
 
 // The same of the two without their signs, which wait in tmp1 and tmp2.
-fn divide_signed(draft: &mut Draft) -> Result<(), Refusal>
+fn divide_signed(draft: &mut Draft) -> Result<(), AllocError>
     ensures { OnOk result (draft.new ≡ with_pieces draft.old signed_divide_pieces) }
 {
     put(draft, &DIVISOR)?;
@@ -280,7 +280,7 @@ fn divide_signed(draft: &mut Draft) -> Result<(), Refusal>
     put(draft, &DIVIDE)
 }
 
-pub fn division(draft: &mut Draft, op: TosOp) -> Result<(), Refusal>
+pub fn division(draft: &mut Draft, op: TosOp) -> Result<(), AllocError>
     ensures { OnOk result (draft.new ≡ with_pieces draft.old (division_pieces op)) }
 {
     match op {

@@ -6,13 +6,13 @@ ghost use Rattle.c65_rtl.specs.Orders.{decide_pieces, equality_pieces, compared_
 use crate::operators::drop_tos;
 use crate::places::{SP, SREG, TMP1};
 use crate::writing::put;
-use c65_base::Refusal;
 use c65_code::Line::{Do, Label};
 use c65_code::Operand::{Byte, Nothing, To, Zero};
 use c65_code::{Draft, Line, TosOp, Width};
 use c65_mach::Mode::{Immediate, Implied, IndirectY, Relative, ZeroPage};
 use c65_mach::Op;
 use c65_mach::Op::{Bne, Bvc, Eor, Iny, Lda, Ldx, Ldy, Ora, Sbc, Sta, Txa};
+use std::alloc::AllocError;
 
 // Z is set where the words are equal.
 const UNLIKE: [Line; 7] = [
@@ -76,7 +76,7 @@ const TRUTH: [Line; 6] = [
 ];
 
 // AX = 0 where the branch is taken, else 1.
-fn decide(draft: &mut Draft, branch: Op, width: Width) -> Result<(), Refusal>
+fn decide(draft: &mut Draft, branch: Op, width: Width) -> Result<(), AllocError>
     ensures { OnOk result (draft.new ≡ with_pieces draft.old (decide_pieces branch width)) }
 {
     put(draft, &[Do(branch, Relative, To(3))])?;
@@ -84,7 +84,7 @@ fn decide(draft: &mut Draft, branch: Op, width: Width) -> Result<(), Refusal>
     drop_tos(draft, width)
 }
 
-fn equality(draft: &mut Draft, branch: Op, width: Width) -> Result<(), Refusal>
+fn equality(draft: &mut Draft, branch: Op, width: Width) -> Result<(), AllocError>
     ensures { OnOk result (draft.new ≡ with_pieces draft.old (equality_pieces branch width)) }
 {
     match width {
@@ -101,7 +101,7 @@ fn equality(draft: &mut Draft, branch: Op, width: Width) -> Result<(), Refusal>
 }
 
 // The primary register less TOS, and one less after CLC.
-fn compare(draft: &mut Draft, first: Op, width: Width) -> Result<(), Refusal>
+fn compare(draft: &mut Draft, first: Op, width: Width) -> Result<(), AllocError>
     ensures { OnOk result (draft.new ≡ with_pieces draft.old (compared_pieces first width)) }
 {
     put(draft, &[Do(first, Implied, Nothing)])?;
@@ -114,7 +114,7 @@ fn compare(draft: &mut Draft, first: Op, width: Width) -> Result<(), Refusal>
     }
 }
 
-fn signed(draft: &mut Draft, first: Op, branch: Op, width: Width) -> Result<(), Refusal>
+fn signed(draft: &mut Draft, first: Op, branch: Op, width: Width) -> Result<(), AllocError>
     ensures { OnOk result (draft.new ≡ with_pieces draft.old (signed_pieces first branch width)) }
 {
     match width {
@@ -131,7 +131,7 @@ fn signed(draft: &mut Draft, first: Op, branch: Op, width: Width) -> Result<(), 
     }
 }
 
-fn unsigned(draft: &mut Draft, first: Op, branch: Op, width: Width) -> Result<(), Refusal>
+fn unsigned(draft: &mut Draft, first: Op, branch: Op, width: Width) -> Result<(), AllocError>
     ensures { OnOk result (draft.new ≡ with_pieces draft.old (unsigned_pieces first branch width)) }
 {
     match width {
@@ -147,7 +147,7 @@ fn unsigned(draft: &mut Draft, first: Op, branch: Op, width: Width) -> Result<()
 }
 
 /// The branch leads to 0. TOS is below where the primary register less TOS and one more has no borrow.
-pub fn order(draft: &mut Draft, op: TosOp, width: Width) -> Result<(), Refusal>
+pub fn order(draft: &mut Draft, op: TosOp, width: Width) -> Result<(), AllocError>
     ensures { OnOk result (draft.new ≡ with_pieces draft.old (order_pieces op width)) }
 {
     match op {

@@ -1,5 +1,6 @@
 // The routine of each name.
-ghost use Rattle.std.specs.Prelude.{◌≡◌, OnOk, IfOk, IsTrue};
+ghost use Rattle.std.specs.Prelude.{◌≡◌, OnOk, IfOk, IfErr, IsTrue};
+ghost use Rattle.c65_base.specs.declared.refusal.Refusal.TheVariants.{OutOfMemory};
 ghost use Rattle.c65_code.specs.RawMachine.{RawSetting, MeetsRow};
 ghost use Rattle.c65_rtl.specs.Assembly.{with_pieces};
 ghost use Rattle.c65_rtl.specs.Rows.{is_shown};
@@ -16,7 +17,7 @@ use crate::stack::{load, lower, pop, push, raise, store};
 use crate::unary::{long, widening, word};
 use c65_base::Refusal;
 use c65_code::{Draft, Routine, Seg, TosOp, Width};
-use std::alloc::Global;
+use std::alloc::{AllocError, Global};
 
 /// Whether the routine's lines stand here: it is no hook, and not the multiplication or a division of 32 bits.
 pub fn is_narrow(which: Routine) -> bool
@@ -31,7 +32,7 @@ pub fn is_narrow(which: Routine) -> bool
     }
 }
 
-fn tos(draft: &mut Draft, op: TosOp, width: Width) -> Result<(), Refusal>
+fn tos(draft: &mut Draft, op: TosOp, width: Width) -> Result<(), AllocError>
     ensures { OnOk result (draft.new ≡ with_pieces draft.old (tos_pieces op width)) }
 {
     match op {
@@ -46,7 +47,7 @@ fn tos(draft: &mut Draft, op: TosOp, width: Width) -> Result<(), Refusal>
     }
 }
 
-fn on_stack(draft: &mut Draft, which: Routine) -> Result<(), Refusal>
+fn on_stack(draft: &mut Draft, which: Routine) -> Result<(), AllocError>
     ensures { OnOk result (draft.new ≡ with_pieces draft.old (stack_pieces which)) }
 {
     match which {
@@ -62,7 +63,7 @@ fn on_stack(draft: &mut Draft, which: Routine) -> Result<(), Refusal>
     }
 }
 
-fn write(draft: &mut Draft, which: Routine) -> Result<(), Refusal>
+fn write(draft: &mut Draft, which: Routine) -> Result<(), AllocError>
     ensures { OnOk result (draft.new ≡ with_pieces draft.old (pieces_of which)) }
 {
     match which {
@@ -90,6 +91,7 @@ pub fn routine(alloc: Global, which: Routine) -> Result<Seg, Refusal>
     requires { IsTrue (is_narrow which) }
     ensures lines { IfOk result (λ seg. seg.lines ≡ lines_of which) }
     ensures out { IfOk result (λ seg. seg.out ≡ given_by which) }
+    ensures refused { IfErr result (λ refusal. refusal ≡ OutOfMemory) }
     ensures short { IsTrue (is_straight which) → IfOk result (λ seg. IsShort (cost_of which) seg.lines) }
     ensures meets { IsTrue (is_shown which) → IfOk result (λ seg. (s : RawSetting) → s.lines (s.routine which) ≡ seg.lines → MeetsRow s which) }
 {

@@ -6,7 +6,6 @@ ghost use Rattle.c65_rtl.specs.Shifts.{begin_pieces, end_pieces, up_pieces, down
 use crate::operators::drop_tos;
 use crate::places::{SP, SREG, TMP1, TMP2, TMP3};
 use crate::writing::put;
-use c65_base::Refusal;
 use c65_code::Line::{Do, Label};
 use c65_code::Operand::{Byte, Nothing, To, Zero};
 use c65_code::{Draft, Line, TosOp, Width};
@@ -14,6 +13,7 @@ use c65_mach::Mode::{Accumulator, Immediate, Implied, IndirectY, Relative, ZeroP
 use c65_mach::Op::{
     And, Asl, Beq, Bne, Clc, Cmp, Cpx, Dex, Iny, Lda, Ldx, Ldy, Rol, Ror, Sta, Tax,
 };
+use std::alloc::AllocError;
 
 // The count to X, the low byte to tmp1, the high byte to A.
 const SHIFT_WORD: [Line; 7] = [
@@ -91,7 +91,7 @@ const DOWN_LONG: [Line; 4] = [
     Do(Ror, ZeroPage, Zero(TMP1)),
 ];
 
-fn begin(draft: &mut Draft, width: Width) -> Result<(), Refusal>
+fn begin(draft: &mut Draft, width: Width) -> Result<(), AllocError>
     ensures { OnOk result (draft.new ≡ with_pieces draft.old (begin_pieces width)) }
 {
     match width {
@@ -106,7 +106,7 @@ fn begin(draft: &mut Draft, width: Width) -> Result<(), Refusal>
     }
 }
 
-fn end(draft: &mut Draft, width: Width) -> Result<(), Refusal>
+fn end(draft: &mut Draft, width: Width) -> Result<(), AllocError>
     ensures { OnOk result (draft.new ≡ with_pieces draft.old (end_pieces width)) }
 {
     match width {
@@ -123,7 +123,7 @@ fn end(draft: &mut Draft, width: Width) -> Result<(), Refusal>
     }
 }
 
-fn up(draft: &mut Draft, width: Width) -> Result<(), Refusal>
+fn up(draft: &mut Draft, width: Width) -> Result<(), AllocError>
     ensures { OnOk result (draft.new ≡ with_pieces draft.old (up_pieces width)) }
 {
     match width {
@@ -141,7 +141,7 @@ fn up(draft: &mut Draft, width: Width) -> Result<(), Refusal>
 }
 
 // The line before each step sets what comes in from above.
-fn down(draft: &mut Draft, carry: Line, width: Width) -> Result<(), Refusal>
+fn down(draft: &mut Draft, carry: Line, width: Width) -> Result<(), AllocError>
     ensures { OnOk result (draft.new ≡ with_pieces draft.old (down_pieces carry width)) }
 {
     match width {
@@ -160,7 +160,7 @@ fn down(draft: &mut Draft, carry: Line, width: Width) -> Result<(), Refusal>
     }
 }
 
-pub fn shift(draft: &mut Draft, op: TosOp, width: Width) -> Result<(), Refusal>
+pub fn shift(draft: &mut Draft, op: TosOp, width: Width) -> Result<(), AllocError>
     ensures { OnOk result (draft.new ≡ with_pieces draft.old (shift_pieces op width)) }
 {
     match op {

@@ -5,7 +5,6 @@ ghost use Rattle.c65_rtl.specs.Stack.{raise_by_pieces, lower_by_pieces, raise_pi
 
 use crate::places::{PTR1, PTR2, SP, SREG};
 use crate::writing::{index, put};
-use c65_base::Refusal;
 use c65_code::Line::{Do, Label};
 use c65_code::Operand::{Byte, Nothing, To, Zero};
 use c65_code::{Count, Draft, Line, Routine};
@@ -14,6 +13,7 @@ use c65_mach::Op::{
     Adc, Bcc, Bcs, Beq, Bne, Clc, Cpy, Dec, Dey, Eor, Inc, Iny, Lda, Ldx, Ldy, Pha, Pla, Rts, Sbc,
     Sec, Sta, Sty, Tax, Txa, Tya,
 };
+use std::alloc::AllocError;
 
 // Pushes A.
 const PUSH_BYTE: [Line; 8] = [
@@ -220,14 +220,14 @@ const POINTERS: [Line; 12] = [
 // The way back.
 const BACK: [Line; 1] = [Do(Rts, Implied, Nothing)];
 
-fn raise_by(draft: &mut Draft, y: u8) -> Result<(), Refusal>
+fn raise_by(draft: &mut Draft, y: u8) -> Result<(), AllocError>
     ensures { OnOk result (draft.new ≡ with_pieces draft.old (raise_by_pieces y)) }
 {
     put(draft, &[index(y)])?;
     put(draft, &RAISE_BY_Y)
 }
 
-fn lower_by(draft: &mut Draft, y: u8) -> Result<(), Refusal>
+fn lower_by(draft: &mut Draft, y: u8) -> Result<(), AllocError>
     ensures { OnOk result (draft.new ≡ with_pieces draft.old (lower_by_pieces y)) }
 {
     put(draft, &[index(y)])?;
@@ -235,7 +235,7 @@ fn lower_by(draft: &mut Draft, y: u8) -> Result<(), Refusal>
 }
 
 /// Raises sp, keeps A and X, and goes back: the end of every routine that pops.
-pub fn raise(draft: &mut Draft, count: Count) -> Result<(), Refusal>
+pub fn raise(draft: &mut Draft, count: Count) -> Result<(), AllocError>
     ensures { OnOk result (draft.new ≡ with_pieces draft.old (raise_pieces count)) }
 {
     match count {
@@ -250,7 +250,7 @@ pub fn raise(draft: &mut Draft, count: Count) -> Result<(), Refusal>
     }
 }
 
-pub fn lower(draft: &mut Draft, count: Count) -> Result<(), Refusal>
+pub fn lower(draft: &mut Draft, count: Count) -> Result<(), AllocError>
     ensures { OnOk result (draft.new ≡ with_pieces draft.old (lower_pieces count)) }
 {
     match count {
@@ -266,7 +266,7 @@ pub fn lower(draft: &mut Draft, count: Count) -> Result<(), Refusal>
 }
 
 /// AX from the word at sp + Y, and sp raised.
-pub fn top_word(draft: &mut Draft, y: u8, count: Count) -> Result<(), Refusal>
+pub fn top_word(draft: &mut Draft, y: u8, count: Count) -> Result<(), AllocError>
     ensures { OnOk result (draft.new ≡ with_pieces draft.old (top_word_pieces y count)) }
 {
     put(draft, &[index(y)])?;
@@ -274,7 +274,7 @@ pub fn top_word(draft: &mut Draft, y: u8, count: Count) -> Result<(), Refusal>
     raise(draft, count)
 }
 
-pub fn push(draft: &mut Draft, which: Routine) -> Result<(), Refusal>
+pub fn push(draft: &mut Draft, which: Routine) -> Result<(), AllocError>
     ensures { OnOk result (draft.new ≡ with_pieces draft.old (push_pieces which)) }
 {
     match which {
@@ -293,7 +293,7 @@ pub fn push(draft: &mut Draft, which: Routine) -> Result<(), Refusal>
     }
 }
 
-pub fn pop(draft: &mut Draft, which: Routine) -> Result<(), Refusal>
+pub fn pop(draft: &mut Draft, which: Routine) -> Result<(), AllocError>
     ensures { OnOk result (draft.new ≡ with_pieces draft.old (pop_pieces which)) }
 {
     match which {
@@ -318,7 +318,7 @@ pub fn pop(draft: &mut Draft, which: Routine) -> Result<(), Refusal>
     }
 }
 
-pub fn load(draft: &mut Draft, which: Routine) -> Result<(), Refusal>
+pub fn load(draft: &mut Draft, which: Routine) -> Result<(), AllocError>
     ensures { OnOk result (draft.new ≡ with_pieces draft.old (load_pieces which)) }
 {
     match which {
@@ -340,7 +340,7 @@ pub fn load(draft: &mut Draft, which: Routine) -> Result<(), Refusal>
     }
 }
 
-pub fn store(draft: &mut Draft, which: Routine) -> Result<(), Refusal>
+pub fn store(draft: &mut Draft, which: Routine) -> Result<(), AllocError>
     ensures { OnOk result (draft.new ≡ with_pieces draft.old (store_pieces which)) }
 {
     match which {

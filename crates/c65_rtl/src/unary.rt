@@ -5,7 +5,6 @@ ghost use Rattle.c65_rtl.specs.Unary.{word_pieces, long_pieces, widening_pieces}
 
 use crate::places::{SREG, TMP1};
 use crate::writing::put;
-use c65_base::Refusal;
 use c65_code::Line::{Do, Label};
 use c65_code::Operand::{Byte, Nothing, To, Zero};
 use c65_code::{Draft, Line, Routine, UnaryRoutine};
@@ -14,6 +13,7 @@ use c65_mach::Op::{
     Adc, Asl, Bcc, Clc, Cmp, Cpx, Cpy, Dex, Dey, Eor, Lda, Ldx, Ldy, Lsr, Ora, Rol, Ror, Rts, Sta,
     Stx, Sty, Tax, Tay, Txa, Tya,
 };
+use std::alloc::AllocError;
 
 // The complement and one more; the low byte is in Y.
 const MINUS_WORD: [Line; 8] = [
@@ -161,7 +161,7 @@ const ZERO_WORD: [Line; 4] = [
     Do(Rts, Implied, Nothing),
 ];
 
-pub fn word(draft: &mut Draft, op: UnaryRoutine) -> Result<(), Refusal>
+pub fn word(draft: &mut Draft, op: UnaryRoutine) -> Result<(), AllocError>
     ensures { OnOk result (draft.new ≡ with_pieces draft.old (word_pieces op)) }
 {
     match op {
@@ -192,7 +192,7 @@ pub fn word(draft: &mut Draft, op: UnaryRoutine) -> Result<(), Refusal>
     }
 }
 
-pub fn long(draft: &mut Draft, op: UnaryRoutine) -> Result<(), Refusal>
+pub fn long(draft: &mut Draft, op: UnaryRoutine) -> Result<(), AllocError>
     ensures { OnOk result (draft.new ≡ with_pieces draft.old (long_pieces op)) }
 {
     match op {
@@ -227,7 +227,7 @@ pub fn long(draft: &mut Draft, op: UnaryRoutine) -> Result<(), Refusal>
     }
 }
 
-pub fn widening(draft: &mut Draft, which: Routine) -> Result<(), Refusal>
+pub fn widening(draft: &mut Draft, which: Routine) -> Result<(), AllocError>
     ensures { OnOk result (draft.new ≡ with_pieces draft.old (widening_pieces which)) }
 {
     match which {

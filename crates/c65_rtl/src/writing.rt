@@ -3,18 +3,15 @@ ghost use Rattle.std.specs.Prelude.{◌≡◌, OnOk};
 ghost use Rattle.c65_mach.specs.declared.rows.Op.TheVariants.{Ldy};
 ghost use Rattle.c65_rtl.specs.Assembly.{value, with_lines};
 
-use c65_base::Refusal;
 use c65_code::{Draft, Line, Operand};
 use c65_mach::{Mode, Op};
+use std::alloc::AllocError;
 
 /// Puts lines behind those of the draft.
-pub fn put(draft: &mut Draft, lines: &[Line]) -> Result<(), Refusal>
+pub fn put(draft: &mut Draft, lines: &[Line]) -> Result<(), AllocError>
     ensures { OnOk result (draft.new ≡ with_lines draft.old lines.now) }
 {
-    for line in lines {
-        draft.push(*line)?;
-    }
-    Ok(())
+    draft.extend(lines)
 }
 
 /// Y is a number.

@@ -1,5 +1,6 @@
 // The multiplication and the divisions of 32 bits. The divisions share their core.
-ghost use Rattle.std.specs.Prelude.{◌≡◌, ◌∷◌, [], ◌+◌, ◌<◌, OnOk, IfOk, IsTrue};
+ghost use Rattle.std.specs.Prelude.{◌≡◌, ◌∷◌, [], ◌+◌, ◌<◌, OnOk, IfOk, IfErr, IsTrue};
+ghost use Rattle.c65_base.specs.declared.refusal.Refusal.TheVariants.{OutOfMemory};
 ghost use Rattle.c65_rtl.specs.Assembly.{with_pieces};
 ghost use Rattle.c65_rtl.specs.Routines.{given_by};
 ghost use Rattle.c65_rtlwide.specs.Wide.{is_wide, negation, divide_pieces, signed_divide_pieces, multiply_pieces, division_pieces, wide_pieces, lines_of};
@@ -15,7 +16,7 @@ use c65_mach::Op::{
     Sec, Sta, Stx,
 };
 use c65_rtl::{given, put, raise};
-use std::alloc::Global;
+use std::alloc::{AllocError, Global};
 
 // EAX to ptr3 and ptr4, the four bytes at sp to ptr1 and ptr2; Y is 0.
 const TERMS: [Line; 18] = [
@@ -147,7 +148,7 @@ const REMAINDER: [Line; 6] = [
 ];
 
 // Four bytes become their negative where the byte of the sign says so.
-fn negate_by(draft: &mut Draft, sign: u8, at: u8, label: u32) -> Result<(), Refusal>
+fn negate_by(draft: &mut Draft, sign: u8, at: u8, label: u32) -> Result<(), AllocError>
     requires { at < 253 }
     ensures { OnOk result (draft.new ≡ with_pieces draft.old (negation sign at label ∷ [])) }
 {
@@ -174,7 +175,7 @@ fn negate_by(draft: &mut Draft, sign: u8, at: u8, label: u32) -> Result<(), Refu
     )
 }
 
-fn multiply(draft: &mut Draft) -> Result<(), Refusal>
+fn multiply(draft: &mut Draft) -> Result<(), AllocError>
     ensures { OnOk result (draft.new ≡ with_pieces draft.old multiply_pieces) }
 {
     put(draft, &TERMS)?;
@@ -185,7 +186,7 @@ fn multiply(draft: &mut Draft) -> Result<(), Refusal>
 }
 
 // The quotient to ptr1 and ptr2, the remainder to regsave.
-fn divide(draft: &mut Draft) -> Result<(), Refusal>
+fn divide(draft: &mut Draft) -> Result<(), AllocError>
     ensures { OnOk result (draft.new ≡ with_pieces draft.old divide_pieces) }
 {
     put(draft, &TERMS)?;
@@ -194,7 +195,7 @@ fn divide(draft: &mut Draft) -> Result<(), Refusal>
 }
 
 // The same of the two without their signs, which wait in tmp1 and tmp2.
-fn divide_signed(draft: &mut Draft) -> Result<(), Refusal>
+fn divide_signed(draft: &mut Draft) -> Result<(), AllocError>
     ensures { OnOk result (draft.new ≡ with_pieces draft.old signed_divide_pieces) }
 {
     put(draft, &TERMS)?;
@@ -205,7 +206,7 @@ fn divide_signed(draft: &mut Draft) -> Result<(), Refusal>
     put(draft, &DIVIDE)
 }
 
-fn division(draft: &mut Draft, op: TosOp) -> Result<(), Refusal>
+fn division(draft: &mut Draft, op: TosOp) -> Result<(), AllocError>
     ensures { OnOk result (draft.new ≡ with_pieces draft.old (division_pieces op)) }
 {
     match op {
@@ -246,7 +247,7 @@ pub fn is_wide(which: Routine) -> bool
     }
 }
 
-fn write(draft: &mut Draft, which: Routine) -> Result<(), Refusal>
+fn write(draft: &mut Draft, which: Routine) -> Result<(), AllocError>
     ensures { OnOk result (draft.new ≡ with_pieces draft.old (wide_pieces which)) }
 {
     match which {
@@ -263,6 +264,7 @@ pub fn wide_routine(alloc: Global, which: Routine) -> Result<Seg, Refusal>
     requires { IsTrue (is_wide which) }
     ensures lines { IfOk result (λ seg. seg.lines ≡ lines_of which) }
     ensures out { IfOk result (λ seg. seg.out ≡ given_by which) }
+    ensures refused { IfErr result (λ refusal. refusal ≡ OutOfMemory) }
 {
     let mut draft = Draft::new(alloc, given(which));
     write(&mut draft, which)?;
