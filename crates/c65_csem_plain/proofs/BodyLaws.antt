@@ -114,7 +114,7 @@ module _ (types : TypesTy) where
       (λ h. record { bytes = h.0; inside = h.1 })
       (λ w. (w.bytes, w.inside))
 
-  says_bit_field : (size : ℕ) (m : MemberTy) (low width : ℕ) → Says (b.is_bit_field types size m low width) (IsBitField types size m low width)
+  says_bit_field : (size : ℕ) (m : MemberTy) (low width : ℕ) → Says (b.is_bit_field size m low width) (IsBitField size m low width)
   says_bit_field size m low width =
       like (tell.four (tells_itself (is_bit_type (type_in m.ty))) (says_le 1 width) (says_le (low + width) 16) (says_le (m.offset + 2) size))
       (λ h. record { number = h.0; some = h.1; within = h.2; inside = h.3 })

@@ -1,5 +1,5 @@
 -- The trees of the code, level by level, as the tests go through them.
-use Rattle.std.proofs.Common.{◌≡◌, ℕ, List, ◌++◌, sym, ap, ◌∙◌, Bool, ◌&&◌, Global, Box}
+use Rattle.std.proofs.Common.{◌≡◌, ℕ, List, ◌++◌, sym, ap, ◌∙◌, Bool, ◌&&◌, Global, Box, append_assoc}
 use Rattle.std.specs.Global.{Vec}
 use Rattle.c65_ctype.specs.Trees.{Ty, TypesTy}
 use Rattle.c65_csem.specs.Trees.{UnitTy}
@@ -27,8 +27,14 @@ block_stmt u own k os v ys is list =
     ap (λ (zs : List TStmt). Tests.are_plain_stmts u own (stmts_of zs)) list
     ∙ sym (ap (λ (j : TStmt). Tests.is_plain_stmt u own (stmt_of j)) is ∙ ap (Tests.is_plain_stmt u own) (stmt_of_block os v))
 
-pub block_objects : (k : TStmt) (os : Vec ℕ) (v : Vec TStmt) (ns : List ℕ) (ys : List TStmt) → k ≡ s.Block os v → ns ≡ os.items → ys ≡ v.items → (ns ++ objects_in (stmts_of ys)) ≡ objects_of (stmt_of k)
+block_objects : (k : TStmt) (os : Vec ℕ) (v : Vec TStmt) (ns : List ℕ) (ys : List TStmt) → k ≡ s.Block os v → ns ≡ os.items → ys ≡ v.items → (ns ++ objects_in (stmts_of ys)) ≡ objects_of (stmt_of k)
 block_objects k os v ns ys is numbers list =
     ap (λ (ms : List ℕ). ms ++ objects_in (stmts_of ys)) numbers
     ∙ ap (λ (zs : List TStmt). os.items ++ objects_in (stmts_of zs)) list
     ∙ sym (ap (λ (j : TStmt). objects_of (stmt_of j)) is ∙ ap objects_of (stmt_of_block os v))
+
+pub block_added : (before middle : List ℕ) (k : TStmt) (os : Vec ℕ) (v : Vec TStmt) (ns : List ℕ) (ys : List TStmt) → middle ≡ before ++ ns → k ≡ s.Block os v → ns ≡ os.items → ys ≡ v.items → middle ++ objects_in (stmts_of ys) ≡ before ++ objects_of (stmt_of k)
+block_added before middle k os v ns ys added is numbers list =
+    ap (λ (ms : List ℕ). ms ++ objects_in (stmts_of ys)) added
+    ∙ append_assoc before ns (objects_in (stmts_of ys))
+    ∙ ap (λ (ms : List ℕ). before ++ ms) (block_objects k os v ns ys is numbers list)

@@ -29,6 +29,13 @@ abbrev mutual
   objects_in no_stmts = []
   objects_in (and_stmts a ss) = objects_of a ++ objects_in ss
 
+-- a bit-field is an int or unsigned int, and takes some of the 16 bits of a unit of two bytes
+pub record IsBitField (size : ℕ) (m : MemberTy) (low width : ℕ) : Type 0 where
+  pub number : IsTrue (is_bit_type (type_in m.ty))
+  pub some : 1 ≤ width
+  pub within : low + width ≤ 16
+  pub inside : m.offset + 2 ≤ size
+
 module _ (types : TypesTy) where
   -- a type has at least one byte, and no more than an object may have
   pub record HasBytes (t : Ty) : Type 0 where
@@ -44,13 +51,6 @@ module _ (types : TypesTy) where
   HasSteps Add t s = HasStep t × HasStep s
   HasSteps Sub t s = HasStep t × HasStep s
   HasSteps _ t s = ⊤
-
-  -- a bit-field is an int or unsigned int, and takes some of the 16 bits of a unit of two bytes
-  pub record IsBitField (size : ℕ) (m : MemberTy) (low width : ℕ) : Type 0 where
-    pub number : IsTrue (is_bit_type (type_in m.ty))
-    pub some : 1 ≤ width
-    pub within : low + width ≤ 16
-    pub inside : m.offset + 2 ≤ size
 
   -- any other member lies in its structure or union with all its bytes
   pub record IsWholeMember (size : ℕ) (m : MemberTy) : Type 0 where

@@ -34,6 +34,9 @@ abbrev pub ends_within : ℕ → Option ℕ → ℕ → Bool
 ends_within offset None size = false
 ends_within offset (Some n) size = nat_le (offset + n) size
 
+abbrev pub is_bit_field : ℕ → MemberTy → ℕ → ℕ → Bool
+is_bit_field size m low width = is_bit_type (type_in m.ty) && nat_le 1 width && nat_le (low + width) 16 && nat_le (m.offset + 2) size
+
 module _ (types : TypesTy) where
   abbrev pub has_bytes : Ty → Bool
   has_bytes t = is_size (measured types t)
@@ -46,9 +49,6 @@ module _ (types : TypesTy) where
   has_steps Add t s = has_step t && has_step s
   has_steps Sub t s = has_step t && has_step s
   has_steps _ t s = true
-
-  abbrev pub is_bit_field : ℕ → MemberTy → ℕ → ℕ → Bool
-  is_bit_field size m low width = is_bit_type (type_in m.ty) && nat_le 1 width && nat_le (low + width) 16 && nat_le (m.offset + 2) size
 
   abbrev pub is_whole_member : ℕ → MemberTy → Bool
   is_whole_member size m = has_bytes (type_in m.ty) && ends_within m.offset (measured types (type_in m.ty)) size

@@ -1,5 +1,5 @@
 // Whether the names of the library are the library's, and the main function is spelled `main` (C90 5.1.2.2.1, 7.1.3).
-ghost use Rattle.std.specs.Prelude.{◌≡◌, codes, slice_get, option_map};
+ghost use Rattle.std.specs.Prelude.{◌≡◌, codes, slice_get, option_map, option_copied};
 ghost use Rattle.c65_base.specs.Library.{library_name};
 ghost use Rattle.c65_ctype.specs.Views.{fn_of};
 ghost use Rattle.c65_csem.specs.Library.{library_at};
@@ -20,10 +20,10 @@ pub fn is_external(class: Class) -> bool
     }
 }
 
-fn is_spelled(spelling: Option<&[u8]>, wanted: &[u8]) -> bool
-    ensures { result ≡ Tests.is_spelled (option_map (λ s. s.now) spelling) wanted.now }
+fn is_spelled(names: &Names, name: Name, wanted: &[u8]) -> bool
+    ensures { result ≡ Tests.is_spelled (slice_get names.now name.0) wanted.now }
 {
-    match spelling {
+    match names.spelling(name) {
         Some(spelling) => spelling == wanted,
         None => false,
     }
@@ -50,7 +50,7 @@ pub fn is_named(names: &Names, library: Option<Library>, external: bool, name: N
     ensures { result ≡ Tests.is_named names.now library external name }
 {
     match library {
-        Some(library) => external && is_spelled(names.spelling(name), library.name()),
+        Some(library) => external && is_spelled(names, name, library.name()),
         None => is_own_name(names, external, name),
     }
 }
@@ -64,7 +64,7 @@ fn is_usual(ty: &FnType) -> bool
 fn is_main(names: &Names, func: &TFunc) -> bool
     ensures { result ≡ Tests.is_main names.now (func_of func.now) }
 {
-    func.external && is_spelled(names.spelling(func.name), b"main") && is_usual(&func.ty)
+    func.external && is_spelled(names, func.name, b"main") && is_usual(&func.ty)
 }
 
 pub fn starts(names: &Names, func: Option<&TFunc>) -> bool
