@@ -1,17 +1,17 @@
 -- Laws of turns.
-use Rattle.std.proofs.Common.{◌≡◌, inl, inr, ℕ, ◌<◌, ◌≤◌, List, [], ◌++◌, length, take, drop, Bool, true, false, Option, Some, None, Ok, Err, ap, sym, refl, subst, ◌∙◌, arith}
+use Rattle.std.proofs.Common.{◌≡◌, ◌≢◌, inl, inr, ℕ, ◌+◌, ◌%◌, ◌/◌, ◌<◌, set, get_or, ◌≤◌, List, [], ◌++◌, length, take, drop, Bool, true, false, Option, Some, None, Ok, Err, ap, sym, refl, subst, ◌∙◌, arith}
 use Rattle.std.specs.Prelude.{if◌then◌else◌, ◌==◌, ◌&&◌}
 use Rattle.std.proofs.lemmas.Bool.{false≢true, eqb-true, eq-eqb, cases_lt}
 use Rattle.std.proofs.lemmas.Bool.Decides.{eqb_tells}
 use Rattle.c65_sim.specs.Budgets.{is_too_deep}
-use Rattle.std.proofs.lemmas.List.{append-nil, length-take-le, take_at, take_all, drop_all}
+use Rattle.std.proofs.lemmas.List.{set-set, set_comm, set-get_or, append-nil, length-take-le, take_at, take_all, drop_all}
 use Rattle.std.proofs.Math.Seq.{drop-append_seam}
 use Rattle.c65_base.specs.declared.refusal.Refusal.{Refusal}
 use Rattle.c65_io.specs.Told.{append_told, prepend_told}
 use Rattle.c65_io.proofs.ToldLaws.{append_told-nil}
 use Rattle.c65_mach.specs.declared.rows.Row.{Row}
-use Rattle.c65_mach.specs.State.{State}
-use Rattle.c65_mach.specs.Step.{row_at, step, step_by, Steps, cycles_of}
+use Rattle.c65_mach.specs.State.{State, Memory, read, write}
+use Rattle.c65_mach.specs.Step.{after, word_at, row_at, step, step_by, Steps, cycles_of}
 use Rattle.c65_mach.specs.Hooks.{ax, descriptor_of, buffer_of, popped, opened, closed, hooked, read_into, written, not_served, bytes_to_write, given_args, put_bytes}
 use Rattle.c65_mach.specs.Run.{Setting, Moment, Progress, Running, Ended, Stopped, turn, row_done, reads, writes, is_hook, next_cycles, row_cycles}
 use Rattle.c65_sim.specs.View.{ComputerView}
@@ -173,6 +173,25 @@ write_refused sp m m' out pc other becomes = (
       ∙ ap (λ u. Running (moment u input earlier)) (sym becomes))
       (hook_costs m (ap is_hook pc)),
 )
+
+-- two bytes that were changed, and put back
+two_back : (mem : Memory) (a b x y : ℕ) → b ≢ a → write (write (write (write mem a x) b y) a (read mem a)) b (read mem b) ≡ mem
+two_back mem a b x y other =
+    ap (λ (n : Memory). set n b (get_or mem b 0))
+    (set_comm (set mem a x) b a y (get_or mem a 0) other ∙ ap (λ (n : Memory). set n b y) (set-set mem a x (get_or mem a 0) ∙ set-get_or mem a 0))
+    ∙ set-set mem b y (get_or mem b 0)
+    ∙ set-get_or mem b 0
+
+-- the stack's pointer put back where the sink failed
+pub put_back : (sp at low high : ℕ) (m m1 m2 m3 : State) → sp < 256 → at ≡ sp → low ≡ read m.mem at → high ≡ read m.mem (at + 1) → m1 ≡ popped sp 4 m
+    → m2 ≡ record m1 { mem = write m1.mem at low } → m3 ≡ record m2 { mem = write m2.mem (at + 1) high } → m3 ≡ m
+put_back sp at low high m m1 m2 m3 small is l h e1 e2 e3 =
+    let next : after sp 1 ≡ sp + 1 = omega arith in
+    let other : sp + 1 ≢ sp = λ same. omega (arith, same) in
+    let mem : write (write (popped sp 4 m).mem at low) (at + 1) high ≡ m.mem = rw (l, h, is, next) (two_back m.mem sp (sp + 1) _ _ other) in
+    e3
+    ∙ ap (λ (u : State). record u { mem = write u.mem (at + 1) high }) (e2 ∙ ap (λ (u : State). record u { mem = write u.mem at low }) e1)
+    ∙ ap (λ (n : Memory). record m { mem = n }) mem
 
 -- the machine after `read` and after `write`
 pub read_machine : (sp k : ℕ) (bytes : List ℕ) (m m1 m2 m3 : State) → length bytes ≡ k → m1 ≡ popped sp 4 m

@@ -1,5 +1,5 @@
 -- What a call of `run` does: rows of the run's definition, up to its budget.
-use Rattle.std.specs.Prelude.{◌≡◌, ℕ, ◌+◌, ◌-◌, ◌^◌, ◌<◌, ◌≤◌, ◌⊎◌, Bool, true, List, ◌++◌, take, drop, min, Option, Some, None, Result, Ok, Err}
+use Rattle.std.specs.Prelude.{◌≡◌, ℕ, ◌+◌, ◌-◌, ◌^◌, ◌<◌, ◌≤◌, ◌⊎◌, Bool, true, List, ◌++◌, take, drop, min, Option, Some, None, Result, Ok, Err, ⊤}
 use Rattle.c65_base.specs.declared.refusal.Refusal.{Refusal}
 use Rattle.c65_base.specs.declared.refusal.Refusal.TheVariants.{OutOfMemory, ReadFault, WriteFault, TooLarge, HardStack, Limit, Illegal}
 use Rattle.c65_base.specs.declared.refusal.Size.TheVariants.{Arguments}
@@ -13,6 +13,7 @@ use Rattle.c65_sim.specs.declared.stop.Stop.{Stop}
 use Rattle.c65_sim.specs.declared.stop.Stop.TheVariants.{Exit, Limit as AtLimit, HardStack as AtGuard, Illegal as AtIllegal, ReadFault as AtRead, WriteFault as AtWrite}
 use Rattle.c65_sim.specs.View.{RunView, ComputerView, started, arguments_size}
 use Rattle.c65_sim.specs.Budgets.{number_of, spent_after, is_too_deep, start_of, IsFree}
+use Rattle.c65_sim.specs.Differing.{either, differs_in}
 
 -- these bytes, where bytes are told
 abbrev pub retold : Option (List ℕ) → List ℕ → Option (List ℕ)
@@ -92,13 +93,15 @@ answer_of budget pc AtIllegal = Err (Illegal pc)
 answer_of budget pc AtRead = Err ReadFault
 answer_of budget pc AtWrite = Err WriteFault
 
--- The computer went on by so many rows, over such an input, and stopped with this answer.
-pub record Goes (budget : Budget) (guard : Bool) (count : ℕ) (old new : ComputerView) (left left' written written' : Option (List ℕ)) (rows : ℕ) (result : Result ℕ Refusal) : Type 0 where
+-- The computer went on by so many rows, over such an input, and stopped with this answer; whether a jump among them differed
+-- is told.
+pub record Goes (budget : Budget) (guard : Bool) (count : ℕ) (old new : ComputerView) (left left' written written' : Option (List ℕ)) (rows : ℕ) (differed : Bool) (result : Result ℕ Refusal) : Type 0 where
   pub given : List ℕ
   pub now : Moment
   pub told : left ≡ retold left given
   pub came : onward old.setting rows (start_of old.machine given) ≡ Running now
   pub earlier : (k : ℕ) → k < rows → IsFree old.setting budget guard count k (start_of old.machine given)
+  pub differs : differed ≡ differs_in old.setting rows (start_of old.machine given)
   pub machine : new.machine ≡ now.machine
   pub setting : new.setting ≡ old.setting
   pub ends : EndsBy old.setting budget guard count rows (start_of old.machine given) now left left' written written' result
@@ -112,7 +115,7 @@ pub record GoesOn (budget : Budget) (guard : Bool) (old new : RunView) (left lef
   pub told : left ≡ retold left given
   pub came : onward old.setting rows (start_of old.machine given) ≡ Running now
   pub earlier : (k : ℕ) → k < rows → IsFree old.setting budget guard old.count k (start_of old.machine given)
-  pub after : new ≡ record { setting = old.setting; machine = now.machine; count = old.count + count_after rows result; status = ended_by result }
+  pub after : new ≡ record { setting = old.setting; machine = now.machine; count = old.count + count_after rows result; differed = either old.differed (differs_in old.setting rows (start_of old.machine given)); status = ended_by result }
   pub ends : EndsBy old.setting budget guard old.count rows (start_of old.machine given) now left left' written written' result
 
 -- on an ended run the status is answered again, and nothing is touched
@@ -128,6 +131,11 @@ Runs budget guard old new left left' written written' result = RunsFrom old.stat
 abbrev pub ReadCause : {T : Type 0} → ℕ → ℕ → Result T Refusal → Type 0
 ReadCause before now (Err ReadFault) = (before ≤ now) × Rose before now
 ReadCause before now result = now ≡ before
+
+-- where the call ends with a read fault
+abbrev pub IfReadFails : {T : Type 0} → Result T Refusal → Type 0 → Type 0
+IfReadFails (Err ReadFault) fact = fact
+IfReadFails result fact = ⊤
 
 -- the count of a sink's faults, in the same way
 abbrev pub WriteCause : {T : Type 0} → ℕ → ℕ → Result T Refusal → Type 0

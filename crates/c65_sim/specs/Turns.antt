@@ -83,6 +83,17 @@ abbrev pub WriteStops : ℕ → ℕ → Result ℕ Stop → Type 0
 WriteStops before now (Err WriteFault) = (before ≤ now) × Rose before now
 WriteStops before now result = now ≡ before
 
+-- The failed read was the last one: before it nothing had failed, and what was left then is left now.
+pub record StopsAtFault {S : Type 0} (left : S → Option (List ℕ)) (faults : S → ℕ) (old new : S) : Type 0 where
+  pub last : S
+  pub same : left new ≡ left last
+  pub first : faults last ≡ faults old
+
+-- where the turn ends with a read fault
+abbrev pub IfReadStops : Result ℕ Stop → Type 0 → Type 0
+IfReadStops (Err ReadFault) fact = fact
+IfReadStops result fact = ⊤
+
 -- Bytes were read until there were as many or the input ended. Where the source failed, some had been taken.
 abbrev pub Fills : {E : Type 0} → Option (List ℕ) → Option (List ℕ) → List ℕ → Result ℕ E → Type 0
 Fills left left' into (Ok count) =

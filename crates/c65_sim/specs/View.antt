@@ -1,5 +1,5 @@
 -- What contracts see of a run.
-use Rattle.std.specs.Prelude.{ℕ, ◌+◌, ◌*◌, Bool, Option, None, List, length, sum_by}
+use Rattle.std.specs.Prelude.{ℕ, ◌+◌, ◌*◌, Bool, false, Option, None, List, length, sum_by}
 use Rattle.c65_mach.specs.declared.image.Image.{Image}
 use Rattle.c65_mach.specs.State.{State, loaded}
 use Rattle.c65_mach.specs.Run.{Setting, setting_of}
@@ -10,16 +10,18 @@ pub record ComputerView : Type 0 where
   pub machine : State
   pub is_at_end : Bool
 
--- a run: its setting, the machine, the rows done so far, and the status once it has ended
+-- a run: its setting, the machine, the rows done so far, whether one of them was a `JMP (abs)` that the processors do
+-- differently, and the status once it has ended
 pub record RunView : Type 0 where
   pub setting : Setting
   pub machine : State
   pub count : ℕ
+  pub differed : Bool
   pub status : Option ℕ
 
 -- the run of an image before its first row
 abbrev pub started : Image → List (List ℕ) → RunView
-started image args = record { setting = setting_of image args; machine = loaded image; count = 0; status = None }
+started image args = record { setting = setting_of image args; machine = loaded image; count = 0; differed = false; status = None }
 
 -- The bytes that the arguments take on the software stack: each one with a zero byte behind it, and the list of their
 -- addresses, which 0 ends.

@@ -1,5 +1,5 @@
 // The hooks: what a program is given beside its own rows, at addresses $FFF4 to $FFF9.
-ghost use Rattle.std.specs.Prelude.{◌≡◌, ℕ, ◌+◌, ◌*◌, ◌<◌, ◌≤◌, ◌&&◌, Bool, true, false, List, [], length, take, IfOk, IfErr};
+ghost use Rattle.std.specs.Prelude.{◌≡◌, ℕ, ◌+◌, ◌*◌, ◌<◌, ◌≤◌, ◌&&◌, Bool, true, false, List, [], length, take, IfOk, IfErr, OnErr};
 ghost use Rattle.c65_io.specs.Causes.{HasCause};
 ghost use Rattle.c65_io.specs.Told.{append_told};
 ghost use Rattle.c65_mach.specs.Hooks.{ax, popped, opened, closed, not_served, put_bytes, bytes_from, given_args, buffer_of, descriptor_of};
@@ -7,13 +7,14 @@ ghost use Rattle.c65_mach.specs.Run.{is_hook, setting_of};
 ghost use Rattle.c65_mach.specs.State.{loaded};
 ghost use Rattle.c65_mach.specs.Step.{row_at};
 ghost use Rattle.c65_sim.specs.Budgets.{is_too_deep};
-ghost use Rattle.c65_sim.specs.Turns.{EndIsTold, Fills, TakesUpTo, Reads, Writes, Turns, ReadStops, WriteStops};
+ghost use Rattle.c65_sim.specs.Differing.{jumps_at_page_end};
+ghost use Rattle.c65_sim.specs.Turns.{EndIsTold, Fills, TakesUpTo, Reads, Writes, Turns, ReadStops, WriteStops, StopsAtFault, IfReadStops};
 ghost use Rattle.c65_sim.specs.View.{ComputerView, arguments_size};
 
 use crate::stop::Stop;
 use c65_base::{Refusal, Text};
 use c65_io::{Failed, Sink, Source, write_all};
-use c65_mach::{Image, Machine, decode, step};
+use c65_mach::{Image, Machine, decode_for, step};
 use std::alloc::Global;
 use std::marker::Model;
 
@@ -34,6 +35,9 @@ const HOOK_CYCLES: u8 = 6;
 
 /// The greatest count of bytes of one `read` or `write`.
 const ROOM: usize = 65_535;
+
+/// The opcode of `JMP (abs)`.
+const JUMP_INDIRECT: u8 = 0x6C;
 
 /// What a hook answers that refuses: -1.
 const REFUSED: u16 = u16::MAX;
@@ -139,6 +143,7 @@ fn give_args(machine: &mut Machine, sp: u8, args: &[Text])
 fn fill<I: Source>(input: &mut I, into: &mut [u8]) -> Result<usize, Failed>
     ensures bytes { Fills (I.left input.old) (I.left input.new) into.new result }
     ensures cause { HasCause (I.faults input.old) (I.faults input.new) result }
+    ensures last { OnErr result (StopsAtFault I.left I.faults input.old input.new) }
 {
     let mut at = 0;
     while at < into.len() {
@@ -156,6 +161,7 @@ fn take<I: Source>(input: &mut I, is_at_end: &mut bool, into: &mut [u8]) -> Resu
     requires { EndIsTold is_at_end.old (I.left input.old) }
     ensures bytes { TakesUpTo is_at_end.old is_at_end.new (I.left input.old) (I.left input.new) into.new result }
     ensures cause { HasCause (I.faults input.old) (I.faults input.new) result }
+    ensures last { OnErr result (StopsAtFault I.left I.faults input.old input.new) }
 {
     if *is_at_end {
         return Ok(0);
@@ -171,12 +177,24 @@ fn is_hook(pc: u16) -> bool
     OPEN <= pc && pc <= EXIT
 }
 
+/// The next row is `JMP (abs)` whose operand has the low byte $FF.
+#[inline(always)]
+fn jumps_at_page_end(machine: &Machine) -> bool
+    ensures { result ≡ jumps_at_page_end machine.now }
+{
+    let pc = machine.pc();
+    if is_hook(pc) {
+        return false;
+    }
+    machine.read(pc) == JUMP_INDIRECT && machine.word(pc.wrapping_add(1)) % 256 == 255
+}
+
 /// The next row would push a byte while S is 0.
 fn is_too_deep(machine: &Machine) -> bool
     requires { is_hook machine.now.pc ≡ false }
     ensures { result ≡ is_too_deep machine.now }
 {
-    match decode(machine.read(machine.pc())) {
+    match decode_for(machine.cpu(), machine.read(machine.pc())) {
         Some(row) => machine.s() < row.op.pushes(),
         None => false,
     }
@@ -203,6 +221,7 @@ fn read<I: Source>(
     requires told { EndIsTold is_at_end.old (I.left input.old) }
     ensures turn { Reads sp machine.old machine.new is_at_end.old is_at_end.new (I.left input.old) (I.left input.new) result }
     ensures cause { HasCause (I.faults input.old) (I.faults input.new) result }
+    ensures last { OnErr result (StopsAtFault I.left I.faults input.old input.new) }
 {
     if descriptor(machine, sp) != 0 {
         refuse(machine, sp);
@@ -231,9 +250,16 @@ fn write<O: Sink>(machine: &mut Machine, sp: u8, room: &mut [u8], out: &mut O) -
     let from = buffer(machine, sp);
     let count = ax(machine);
     let bytes = &mut room[..usize::from(count)];
-    copy_bytes(machine, from, bytes);
-    write_all(out, bytes)?;
+    let at = u16::from(sp);
+    let low = machine.read(at);
+    let high = machine.read(at + 1);
     pop(machine, sp, 4);
+    copy_bytes(machine, from, bytes);
+    if let Err(failed) = write_all(out, bytes) {
+        machine.write(at, low);
+        machine.write(at + 1, high);
+        return Err(failed);
+    }
     machine.answer_hook(count);
     Ok(())
 }
@@ -286,6 +312,14 @@ impl Computer {
         self.machine.pc()
     }
 
+    /// The next row is a jump that the 65C02 does differently from the 6502.
+    #[inline(always)]
+    pub fn jumps_at_page_end(&self) -> bool
+        ensures { result ≡ jumps_at_page_end self.now.machine }
+    {
+        jumps_at_page_end(&self.machine)
+    }
+
     /// Forgets that the input has ended.
     pub fn reopen(&mut self)
         ensures { self.new ≡ record self.old { is_at_end = false } }
@@ -301,6 +335,7 @@ impl Computer {
         ensures turn { Turns false self.old self.new (I.left input.old) (I.left input.new) (O.written out.old) (O.written out.new) result }
         ensures reads { ReadStops (I.faults input.old) (I.faults input.new) result }
         ensures writes { WriteStops (O.faults out.old) (O.faults out.new) result }
+        ensures last { IfReadStops result (StopsAtFault I.left I.faults input.old input.new) }
     {
         match pc {
             OPEN => open(&mut self.machine, self.sp),
@@ -338,6 +373,7 @@ impl Computer {
         ensures turn { Turns guard self.old self.new (I.left input.old) (I.left input.new) (O.written out.old) (O.written out.new) result }
         ensures reads { ReadStops (I.faults input.old) (I.faults input.new) result }
         ensures writes { WriteStops (O.faults out.old) (O.faults out.new) result }
+        ensures last { IfReadStops result (StopsAtFault I.left I.faults input.old input.new) }
     {
         let pc = self.machine.pc();
         if is_hook(pc) {

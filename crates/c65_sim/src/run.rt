@@ -1,7 +1,9 @@
 // Runs with a budget.
 ghost use Rattle.std.specs.Prelude.{◌≡◌, ℕ, ◌+◌, ◌-◌, ◌^◌, ◌<◌, ◌≤◌, ◌⊎◌, false, min, List, IfOk, IfErr, Result};
 ghost use Rattle.c65_sim.specs.Budgets.{number_of, price_of};
-ghost use Rattle.c65_sim.specs.Runs.{answer_of, Goes, Runs, ReadCause, WriteCause, Starts};
+ghost use Rattle.c65_sim.specs.Differing.{either};
+ghost use Rattle.c65_sim.specs.Runs.{answer_of, Goes, Runs, ReadCause, WriteCause, IfReadFails, Starts};
+ghost use Rattle.c65_sim.specs.Turns.{StopsAtFault};
 ghost use Rattle.c65_sim.specs.View.{RunView, ComputerView, started, arguments_size};
 
 use crate::hooks::Computer;
@@ -44,11 +46,18 @@ impl Budget {
     }
 }
 
-/// The rows that were done, and why no more were.
+/// The rows that were done, whether the processors differ in one of them, and why no more were.
 #[derive(Clone, Copy, Debug)]
 struct Leg {
     rows: u64,
+    differed: bool,
     stop: Stop,
+}
+
+fn either(first: bool, second: bool) -> bool
+    ensures { result ≡ either first second }
+{
+    first || second
 }
 
 /// Does rows until the budget is used up or the computer stops. The run has done `count` rows before.
@@ -61,28 +70,42 @@ fn go_on<I: Source, O: Sink>(
     count: u64,
 ) -> Leg
     requires { computer.old.is_at_end ≡ false }
-    ensures leg { Goes budget guard count computer.old computer.new (I.left input.old) (I.left input.new) (O.written out.old) (O.written out.new) result.rows (answer_of budget computer.new.machine.pc result.stop) }
+    ensures leg { Goes budget guard count computer.old computer.new (I.left input.old) (I.left input.new) (O.written out.old) (O.written out.new) result.rows result.differed (answer_of budget computer.new.machine.pc result.stop) }
     ensures fits { count + result.rows < 2 ^ 64 }
     ensures reads { ReadCause (I.faults input.old) (I.faults input.new) (answer_of budget computer.new.machine.pc result.stop) }
     ensures writes { WriteCause (O.faults out.old) (O.faults out.new) (answer_of budget computer.new.machine.pc result.stop) }
+    ensures last { IfReadFails (answer_of budget computer.new.machine.pc result.stop) (StopsAtFault I.left I.faults input.old input.new) }
 {
     let number = budget.number();
     let most = u64::MAX - count;
     let mut spent: u64 = 0;
+    let mut differed = false;
     for rows in 0..most {
         if spent >= number {
             return Leg {
                 rows,
+                differed,
                 stop: Stop::Limit,
             };
         }
+        let differs = computer.jumps_at_page_end();
         match computer.turn(input, out, guard) {
-            Ok(cycles) => spent = spent.saturating_add(budget.price(cycles)),
-            Err(stop) => return Leg { rows, stop },
+            Ok(cycles) => {
+                spent = spent.saturating_add(budget.price(cycles));
+                differed = either(differed, differs);
+            }
+            Err(stop) => {
+                return Leg {
+                    rows,
+                    differed,
+                    stop,
+                };
+            }
         }
     }
     Leg {
         rows: most,
+        differed,
         stop: Stop::Limit,
     }
 }
@@ -130,6 +153,7 @@ fn copies(alloc: Global, args: &[Text]) -> Result<Vec<Text>, AllocError>
 pub struct Run {
     computer: Computer,
     count: u64,
+    differed: bool,
     status: Option<u8>,
 }
 
@@ -138,11 +162,11 @@ impl Model for Run {
 
     ghost Value = { RunView };
 
-    ghost view = { λ r. record { setting = r.computer.setting; machine = r.computer.machine; count = r.count; status = r.status } };
+    ghost view = { λ r. record { setting = r.computer.setting; machine = r.computer.machine; count = r.count; differed = r.differed; status = r.status } };
 }
 
 impl Run {
-    /// A run of an image with these arguments, before its first row. It takes all the memory that the run needs. Arguments of
+    /// A run of an image on its processor with these arguments, before its first row. It takes all the memory that the run needs. Arguments of
     /// more than 1,024 bytes, with a zero byte behind each and the list of their addresses, are refused.
     pub fn new(alloc: Global, image: &Image, args: &[Text]) -> Result<Run, Refusal>
         ensures { Starts image.now args.now result }
@@ -159,13 +183,15 @@ impl Run {
         Ok(Run {
             computer,
             count: 0,
+            differed: false,
             status: None,
         })
     }
 
     /// Does rows until the program ends, within the budget, and answers the program's status. With the guard on, a row that
     /// would push a byte while S is 0 is refused. It takes no memory. After a refusal the run stands before the next row,
-    /// or before the hook that failed, and a further call goes on from there; what was read or written stays so.
+    /// or before the hook that failed, and a further call goes on from there; what was read or written stays so. After a failed read
+    /// nothing more is read.
     pub fn run<I: Source, O: Sink>(
         &mut self,
         input: &mut I,
@@ -176,12 +202,14 @@ impl Run {
         ensures run { Runs budget guard self.old self.new (I.left input.old) (I.left input.new) (O.written out.old) (O.written out.new) result }
         ensures reads { ReadCause (I.faults input.old) (I.faults input.new) result }
         ensures writes { WriteCause (O.faults out.old) (O.faults out.new) result }
+        ensures last { IfReadFails result (StopsAtFault I.left I.faults input.old input.new) }
     {
         if let Some(status) = self.status {
             return Ok(status);
         }
         self.computer.reopen();
         let leg = go_on(&mut self.computer, input, out, budget, guard, self.count);
+        self.differed = either(self.differed, leg.differed);
         match answer(budget, self.computer.pc(), leg.stop) {
             Ok(status) => {
                 // The exit is a row too.
@@ -201,5 +229,13 @@ impl Run {
         ensures { result ≡ self.now.count }
     {
         self.count
+    }
+
+    /// Whether a `JMP (abs)` whose operand has the low byte $FF was done so far. The 65C02 does such a jump differently from
+    /// the 6502.
+    pub fn differed(&self) -> bool
+        ensures { result ≡ self.now.differed }
+    {
+        self.differed
     }
 }

@@ -47,12 +47,12 @@ impl Slow {
             self.answer(0xFFFF);
             return Ok(());
         }
+        self.pop(4);
         let count = self.ax();
         for offset in 0..count {
             self.output
                 .push(self.memory.byte(buffer.wrapping_add(offset)))?;
         }
-        self.pop(4);
         self.answer(count);
         Ok(())
     }
