@@ -3,6 +3,7 @@ use Rattle.std.specs.Prelude.{ℕ, zero, suc, ◌+◌, Bool, true, false, ◌==�
 use Rattle.c65_base.specs.declared.code.Code.TheVariants.{NotCallable, ArgumentCount, StructValue}
 use Rattle.c65_base.specs.declared.refusal.Pos.{Pos}
 use Rattle.c65_base.specs.declared.refusal.Size.TheVariants.{ArgumentBytes}
+use Rattle.c65_base.specs.Limits.{limit_of}
 use Rattle.c65_base.specs.Answers.{Fault, at, large, ◌>>=◌}
 use Rattle.c65_ctype.specs.Trees.{Ty, pointer, function, QTy, qual, type_in, Fn, fn, Params, unknown, known, QTys, end, more, TypesTy}
 use Rattle.c65_ctype.specs.Sizes.{size_at}
@@ -48,7 +49,7 @@ argument types p (Some q) e = taken_by types p (category_of (type_in q)) q e
 
 -- the bytes of arguments with one more
 abbrev pub counted : TypesTy → Pos → ℕ → Typed → Result ℕ Fault
-counted types p n e = size_at types p (type_in (type_of e)) >>= λ m. if nat_le (n + m) 250 then Ok (n + m) else Err (large ArgumentBytes 251)
+counted types p n e = size_at types p (type_in (type_of e)) >>= λ m. if nat_le (n + m) (limit_of ArgumentBytes) then Ok (n + m) else Err (large ArgumentBytes (limit_of ArgumentBytes + 1))
 
 abbrev pub first_type : QTys → Option QTy
 first_type end = None
@@ -99,12 +100,18 @@ result_by p categories.Other q = Err (at StructValue p)
 abbrev pub result_type : Pos → Fn → Result QTy Fault
 result_type p (fn q ps variadic cdecl) = result_by p (category_of (type_in q)) q
 
+-- the type and the arguments of a call
+abbrev pub parts_for : TypesTy → Pos → Fn → Nodes → Result (QTy × Nodes) Fault
+parts_for types p g es = do
+  t ← result_type p g
+  xs ← arguments_for types p g es
+  Ok (t, xs)
+
 abbrev pub called : TypesTy → Pos → Option Fn → Typed → Nodes → Result Typed Fault
 called types p None f es = Err (at (unfit_operand NotCallable f) p)
 called types p (Some g) f es = do
-  t ← result_type p g
-  xs ← arguments_for types p g es
-  Ok (node t (call f xs))
+  x ← parts_for types p g es
+  Ok (node x.0 (call f x.1))
 
 abbrev pub call_of : TypesTy → Pos → Typed → Nodes → Result Typed Fault
 call_of types p f es = called types p (callee (type_in (type_of (value_of f)))) (value_of f) es

@@ -3,13 +3,15 @@ ghost use Rattle.std.specs.Prelude.{◌≡◌, IfOk, map, option_map, option_cop
 ghost use Rattle.c65_base.specs.Answers.{Gives};
 ghost use Rattle.c65_ctype.specs.Views.{ty_of, qty_of, member_of, layout_of, types_of};
 ghost use Rattle.c65_csem.specs.Places as places;
+ghost use Rattle.c65_csem.specs.Trees.{type_of};
 ghost use Rattle.c65_csem.specs.Views.{typed_of};
 ghost use Rattle.c65_elab_convert.specs.Access as access;
 
 use crate::binaries::binary;
-use crate::classes::{Category, classify, is_bit_field, refused, unfit_operand};
+use crate::classes::{Category, classify, is_bit_field, unfit_operand};
 use crate::unaries::deref;
-use c65_base::{BinaryOp, Code, Name, Pos, Refusal};
+use crate::waiting::beside;
+use c65_base::{BinaryOp, Code, Name, Pos, Refusal, boxed_beside};
 use c65_csem::{TExpr, TKind, int_type};
 use c65_ctype::{CType, Layout, Member, QType, Types};
 use c65_ints::IntType;
@@ -107,20 +109,38 @@ fn member_type(
     Ok(Some((i as u32, ty)))
 }
 
+/// A member of an expression whose type is a structure or union.
+fn member_of_tag(
+    alloc: Global,
+    types: &Types,
+    pos: Pos,
+    e: TExpr,
+    name: Name,
+) -> Result<TExpr, Refusal>
+    ensures { Gives typed_of result (access.member_found pos (typed_of e) (access.member_type (types_of types.now) (type_of (typed_of e)) name)) }
+{
+    let (found, e) = beside(member_type(alloc, types, &e.ty, name), e)?;
+    match found {
+        Some((i, ty)) => {
+            let (e, ty) = boxed_beside(alloc, e, ty)?;
+            let kind = TKind::Member(e, i);
+            Ok(TExpr { ty, kind })
+        }
+        None => {
+            drop(e);
+            Err(Refusal::fault(Code::MemberUnknown, pos))
+        }
+    }
+}
+
 /// A member of a structure or union.
 fn member_in(alloc: Global, types: &Types, pos: Pos, e: TExpr, name: Name) -> Result<TExpr, Refusal>
     ensures { Gives typed_of result (access.member_in (types_of types.now) pos (typed_of e) name) }
 {
     match classify(&e.ty.ty) {
-        Category::Tag => match member_type(alloc, types, &e.ty, name)? {
-            Some((i, ty)) => Ok(TExpr {
-                ty,
-                kind: TKind::Member(Box::new(alloc, e)?, i),
-            }),
-            None => Err(refused(Code::MemberUnknown, pos)),
-        },
+        Category::Tag => member_of_tag(alloc, types, pos, e, name),
         Category::Int(_) | Category::Pointer | Category::Void | Category::Other => {
-            Err(unfit_operand(Code::Operands, pos, &e))
+            Err(unfit_operand(Code::Operands, pos, e))
         }
     }
 }
@@ -164,7 +184,7 @@ pub fn size_of_expr(types: &Types, pos: Pos, e: &TExpr) -> Result<TExpr, Refusal
     ensures { Gives typed_of result (access.size_of_expr (types_of types.now) pos (typed_of e.now)) }
 {
     if is_bit_field(types, e) {
-        return Err(refused(Code::BitField, pos));
+        return Err(Refusal::fault(Code::BitField, pos));
     }
     size_of_type(types, pos, &e.ty.ty)
 }

@@ -9,7 +9,8 @@ use crate::classes::{Category, classify, is_function, unfit_operands};
 use crate::numbers::{Group, group_for, joined, on_numbers};
 use crate::pairs::{Match, match_pair};
 use crate::pointers::{agree, target_size};
-use crate::values::{as_int, as_plain, promotion, value};
+use crate::values::{as_int, as_plain, promotion, values};
+use crate::waiting::beside;
 use c65_base::{BinaryOp, Pos, Refusal};
 use c65_csem::{TExpr, int_type};
 use c65_ctype::{CType, Types};
@@ -28,10 +29,10 @@ pub(crate) fn moved(
 ) -> Result<TExpr, Refusal>
     ensures { Gives typed_of result (binaries.moved (types_of types.now) pos op kind (typed_of a) (typed_of b)) }
 {
-    target_size(types, pos, &a)?;
-    let ty = a.ty.copy(alloc)?;
+    let (_, (a, b)) = beside(target_size(types, pos, &a), (a, b))?;
+    let (ty, (a, b)) = beside(a.ty.copy(alloc), (a, b))?;
     let kind = promotion(types, &b, kind);
-    let b = as_int(alloc, kind, b)?;
+    let (b, (ty, a)) = beside(as_int(alloc, kind, b), (ty, a))?;
     Ok(joined(alloc, op, ty, a, b)?)
 }
 
@@ -46,10 +47,10 @@ fn moved_by(
 ) -> Result<TExpr, Refusal>
     ensures { Gives typed_of result (binaries.moved_by (types_of types.now) pos kind (typed_of a) (typed_of b)) }
 {
-    target_size(types, pos, &b)?;
-    let ty = b.ty.copy(alloc)?;
+    let (_, (a, b)) = beside(target_size(types, pos, &b), (a, b))?;
+    let (ty, (a, b)) = beside(b.ty.copy(alloc), (a, b))?;
     let kind = promotion(types, &a, kind);
-    let a = as_int(alloc, kind, a)?;
+    let (a, (ty, b)) = beside(as_int(alloc, kind, a), (ty, b))?;
     Ok(joined(alloc, BinaryOp::Add, ty, a, b)?)
 }
 
@@ -62,7 +63,7 @@ fn sum(alloc: Global, types: &Types, pos: Pos, a: TExpr, b: TExpr) -> Result<TEx
             moved(alloc, types, pos, BinaryOp::Add, kind, a, b)
         }
         (Category::Int(kind), Category::Pointer) => moved_by(alloc, types, pos, kind, a, b),
-        _ => Err(unfit_operands(pos, &a, &b)),
+        _ => Err(unfit_operands(pos, a, b)),
     }
 }
 
@@ -80,11 +81,12 @@ fn point_alike(alloc: Global, types: &Types, a: &CType, b: &CType) -> Result<boo
 fn apart(alloc: Global, types: &Types, pos: Pos, a: TExpr, b: TExpr) -> Result<TExpr, Refusal>
     ensures { Gives typed_of result (binaries.apart (types_of types.now) pos (typed_of a) (typed_of b)) }
 {
-    if !point_alike(alloc, types, &a.ty.ty, &b.ty.ty)? {
-        return Err(unfit_operands(pos, &a, &b));
+    let (alike, (a, b)) = beside(point_alike(alloc, types, &a.ty.ty, &b.ty.ty), (a, b))?;
+    if !alike {
+        return Err(unfit_operands(pos, a, b));
     }
-    target_size(types, pos, &a)?;
-    target_size(types, pos, &b)?;
+    let (_, (a, b)) = beside(target_size(types, pos, &a), (a, b))?;
+    let (_, (a, b)) = beside(target_size(types, pos, &b), (a, b))?;
     Ok(joined(alloc, BinaryOp::Sub, int_type(IntType::Int), a, b)?)
 }
 
@@ -120,10 +122,11 @@ fn order(
 ) -> Result<TExpr, Refusal>
     ensures { Gives typed_of result (binaries.order (types_of types.now) pos op (typed_of a) (typed_of b)) }
 {
-    if point_alike(alloc, types, &a.ty.ty, &b.ty.ty)? && !points_to_function(&a.ty.ty) {
+    let (alike, (a, b)) = beside(point_alike(alloc, types, &a.ty.ty, &b.ty.ty), (a, b))?;
+    if alike && !points_to_function(&a.ty.ty) {
         Ok(joined(alloc, op, int_type(IntType::Int), a, b)?)
     } else {
-        Err(unfit_operands(pos, &a, &b))
+        Err(unfit_operands(pos, a, b))
     }
 }
 
@@ -138,17 +141,18 @@ fn equality(
 ) -> Result<TExpr, Refusal>
     ensures { Gives typed_of result (binaries.equality (types_of types.now) pos op (typed_of a) (typed_of b)) }
 {
-    match match_pair(alloc, types, &a, &b)? {
+    let (found, (a, b)) = beside(match_pair(alloc, types, &a, &b), (a, b))?;
+    match found {
         Match::Both => Ok(joined(alloc, op, int_type(IntType::Int), a, b)?),
         Match::Left => {
-            let a = as_plain(alloc, &b.ty.ty, a)?;
+            let (a, b) = beside(as_plain(alloc, &b.ty.ty, a), b)?;
             Ok(joined(alloc, op, int_type(IntType::Int), a, b)?)
         }
         Match::Right => {
-            let b = as_plain(alloc, &a.ty.ty, b)?;
+            let (b, a) = beside(as_plain(alloc, &a.ty.ty, b), a)?;
             Ok(joined(alloc, op, int_type(IntType::Int), a, b)?)
         }
-        Match::Neither => Err(unfit_operands(pos, &a, &b)),
+        Match::Neither => Err(unfit_operands(pos, a, b)),
     }
 }
 
@@ -168,7 +172,7 @@ fn on_others(
         Group::Subtract => difference(alloc, types, pos, a, b),
         Group::Order => order(alloc, types, pos, op, a, b),
         Group::Equality => equality(alloc, types, pos, op, a, b),
-        Group::Arithmetic | Group::Shift => Err(unfit_operands(pos, &a, &b)),
+        Group::Arithmetic | Group::Shift => Err(unfit_operands(pos, a, b)),
     }
 }
 
@@ -206,7 +210,6 @@ pub fn binary(
 ) -> Result<TExpr, Refusal>
     ensures { Gives typed_of result (binaries.binary_of (types_of types.now) pos op (typed_of a) (typed_of b)) }
 {
-    let a = value(alloc, a)?;
-    let b = value(alloc, b)?;
+    let (a, b) = values(alloc, a, b)?;
     on_values(alloc, types, pos, op, a, b)
 }

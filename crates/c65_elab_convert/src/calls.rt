@@ -1,6 +1,8 @@
 // Calls (C90 6.3.2.2).
 ghost use Rattle.std.specs.Prelude.{◌≡◌, ◌≤◌, IfOk, length, map, option_map, option_copied, slice_get};
 ghost use Rattle.c65_base.specs.Answers.{Gives};
+ghost use Rattle.c65_base.specs.Limits.{limit_of};
+ghost use Rattle.c65_base.specs.declared.refusal.Size.TheVariants as sizes;
 ghost use Rattle.c65_ctype.specs.Views.{ty_of, qty_of, fn_of, qtys_of, params_in, types_of};
 ghost use Rattle.c65_csem.specs.Views.{typed_of, nodes_of};
 ghost use Rattle.c65_ctype.specs.Trees.{type_in};
@@ -8,8 +10,9 @@ ghost use Rattle.c65_elab_convert.specs.Categories.{category_of};
 ghost use Rattle.c65_elab_convert.specs.Calls as calls;
 
 use crate::changes::assigned;
-use crate::classes::{Category, classify, refused, unfit_operand};
+use crate::classes::{Category, classify, unfit_operand};
 use crate::values::{as_int, promotion, value};
+use crate::waiting::beside;
 use c65_base::{Code, Pos, Refusal, Size};
 use c65_csem::{TExpr, unqualified};
 use c65_ctype::{CType, FnType, QType, Types};
@@ -43,7 +46,7 @@ fn passed(alloc: Global, types: &Types, pos: Pos, e: TExpr) -> Result<TExpr, Ref
         }
         Category::Pointer => Ok(e),
         Category::Tag | Category::Void | Category::Other => {
-            Err(unfit_operand(Code::StructValue, pos, &e))
+            Err(unfit_operand(Code::StructValue, pos, e))
         }
     }
 }
@@ -53,7 +56,10 @@ fn taken(alloc: Global, types: &Types, pos: Pos, q: &QType, e: TExpr) -> Result<
     ensures { Gives typed_of result (calls.taken_by (types_of types.now) pos (category_of (type_in (qty_of q.now))) (qty_of q.now) (typed_of e)) }
 {
     match classify(&q.ty) {
-        Category::Tag => Err(refused(Code::StructValue, pos)),
+        Category::Tag => {
+            drop(e);
+            Err(Refusal::fault(Code::StructValue, pos))
+        }
         Category::Int(_) | Category::Pointer | Category::Void | Category::Other => {
             assigned(alloc, types, pos, &q.ty, e)
         }
@@ -79,17 +85,16 @@ fn argument(
 
 /// The bytes of arguments with one more.
 fn counted(types: &Types, pos: Pos, total: u32, e: &TExpr) -> Result<u32, Refusal>
-    requires { total ≤ 250 }
+    requires { total ≤ limit_of sizes.ArgumentBytes }
     ensures exact { Gives (λ n. n) result (calls.counted (types_of types.now) pos total (typed_of e.now)) }
-    ensures small { IfOk result (λ n. n ≤ 250) }
+    ensures small { IfOk result (λ n. n ≤ limit_of sizes.ArgumentBytes) }
 {
     let size = types.size(&e.ty.ty, pos)?;
     let sum = total + size;
-    if sum > 250 {
-        return Err(Refusal::TooLarge {
-            limit: Size::ArgumentBytes,
-            value: 251,
-        });
+    let limit = Size::ArgumentBytes;
+    if u64::from(sum) > limit.number() {
+        let value = limit.number() + 1;
+        return Err(Refusal::TooLarge { limit, value });
     }
     Ok(sum)
 }
@@ -142,7 +147,8 @@ fn known(
     if is_count(variadic, parameters.len(), arguments.len()) {
         given(alloc, types, pos, parameters, arguments)
     } else {
-        Err(refused(Code::ArgumentCount, pos))
+        drop(arguments);
+        Err(Refusal::fault(Code::ArgumentCount, pos))
     }
 }
 
@@ -170,8 +176,24 @@ fn result_type(alloc: Global, pos: Pos, function: &FnType) -> Result<QType, Refu
         Category::Void | Category::Int(_) | Category::Pointer => {
             Ok(unqualified(alloc, &function.result)?)
         }
-        Category::Tag | Category::Other => Err(refused(Code::StructValue, pos)),
+        Category::Tag | Category::Other => Err(Refusal::fault(Code::StructValue, pos)),
     }
+}
+
+/// The type and the arguments of a call of such a function.
+fn parts_for(
+    alloc: Global,
+    types: &Types,
+    pos: Pos,
+    function: &FnType,
+    arguments: Vec<TExpr>,
+) -> Result<(QType, Vec<TExpr>), Refusal>
+    ensures { Gives (λ x. (qty_of x.0, nodes_of x.1.items)) result (calls.parts_for (types_of types.now) pos (fn_of function.now) (nodes_of arguments.items)) }
+{
+    let (ty, arguments) = beside(result_type(alloc, pos, function), arguments)?;
+    let given = arguments_for(alloc, types, pos, function, arguments);
+    let (given, ty) = beside(given, ty)?;
+    Ok((ty, given))
 }
 
 /// A call (C90 6.3.2.2). Refuses `NotCallable`, `StructValue` for a result or an argument,
@@ -186,11 +208,12 @@ pub fn call(
 ) -> Result<TExpr, Refusal>
     ensures { Gives typed_of result (calls.call_of (types_of types.now) pos (typed_of function) (nodes_of arguments.items)) }
 {
-    let function = value(alloc, function)?;
+    let (function, arguments) = beside(value(alloc, function), arguments)?;
     let Some(callee) = callee(&function.ty.ty) else {
-        return Err(unfit_operand(Code::NotCallable, pos, &function));
+        drop(arguments);
+        return Err(unfit_operand(Code::NotCallable, pos, function));
     };
-    let ty = result_type(alloc, pos, callee)?;
-    let given = arguments_for(alloc, types, pos, callee, arguments)?;
+    let parts = parts_for(alloc, types, pos, callee, arguments);
+    let ((ty, given), function) = beside(parts, function)?;
     Ok(TExpr::call(alloc, ty, function, given)?)
 }

@@ -39,7 +39,7 @@ fn on_value(alloc: Global, types: &Types, pos: Pos, ty: &QType, e: TExpr) -> Res
         (Category::Pointer, Category::Int(_) | Category::Pointer) => {
             Ok(as_plain(alloc, &ty.ty, e)?)
         }
-        _ => Err(unfit_operand(Code::Operands, pos, &e)),
+        _ => Err(unfit_operand(Code::Operands, pos, e)),
     }
 }
 

@@ -5,13 +5,14 @@ ghost use Rattle.c65_ctype.specs.Views.{ty_of, qty_of, types_of};
 ghost use Rattle.c65_csem.specs.Views.{typed_of};
 ghost use Rattle.c65_elab_convert.specs.Changes as changes;
 
-use crate::classes::{Category, classify, refused, unfit_operand, unfit_operands};
+use crate::classes::{Category, classify, unfit_operand, unfit_operands};
 use crate::constness::is_modifiable;
 use crate::numbers::{Group, group_for};
 use crate::pointers::{agree, has_qualifiers, is_null, meet_in_void, target_size};
 use crate::values::{as_int, as_plain, common, place_promotion, promotion, value};
-use c65_base::{BinaryOp, Code, Pos, Refusal, StepKind};
-use c65_csem::{TExpr, TKind, unqualified};
+use crate::waiting::beside;
+use c65_base::{BinaryOp, Code, Pos, Refusal, StepKind, boxed_beside, boxed_pair};
+use c65_csem::{TExpr, TKind, is_tag, unqualified};
 use c65_ctype::{CType, QType, Types};
 use c65_ints::IntType;
 use std::alloc::{AllocError, Global};
@@ -57,10 +58,11 @@ fn assigned_value(
 ) -> Result<TExpr, Refusal>
     ensures { Gives typed_of result (changes.assigned_value (types_of types.now) pos (ty_of ty.now) (typed_of e)) }
 {
-    if takes(alloc, types, ty, &e)? {
+    let (fits, e) = beside(takes(alloc, types, ty, &e), e)?;
+    if fits {
         Ok(as_plain(alloc, ty, e)?)
     } else {
-        Err(unfit_operand(Code::Assignment, pos, &e))
+        Err(unfit_operand(Code::Assignment, pos, e))
     }
 }
 
@@ -84,27 +86,28 @@ pub fn assigned(
 fn put(alloc: Global, a: TExpr, b: TExpr) -> Result<TExpr, AllocError>
     ensures { IfOk result (λ t. typed_of t ≡ changes.put (typed_of a) (typed_of b)) }
 {
-    let ty = unqualified(alloc, &a.ty)?;
-    match &ty.ty {
-        CType::Struct(_) => Ok(TExpr {
-            ty,
-            kind: TKind::Copy(Box::new(alloc, a)?, Box::new(alloc, b)?),
-        }),
-        _ => Ok(TExpr {
-            ty,
-            kind: TKind::Assign(Box::new(alloc, a)?, Box::new(alloc, b)?),
-        }),
-    }
+    let (ty, (a, b)) = beside(unqualified(alloc, &a.ty), (a, b))?;
+    let is_copy = is_tag(&a.ty.ty);
+    let ((a, b), ty) = beside(boxed_pair(alloc, a, b), ty)?;
+    let kind = if is_copy {
+        TKind::Copy(a, b)
+    } else {
+        TKind::Assign(a, b)
+    };
+    Ok(TExpr { ty, kind })
 }
 
 /// `=` (C90 6.3.16.1). Refuses `NotModifiable`, `Assignment` and `VoidValue`.
 pub fn assign(alloc: Global, types: &Types, pos: Pos, a: TExpr, b: TExpr) -> Result<TExpr, Refusal>
     ensures { Gives typed_of result (changes.assign_of (types_of types.now) pos (typed_of a) (typed_of b)) }
 {
-    if !is_modifiable(alloc, types, &a)? {
-        return Err(refused(Code::NotModifiable, pos));
+    let (modifiable, (a, b)) = beside(is_modifiable(alloc, types, &a), (a, b))?;
+    if !modifiable {
+        drop(a);
+        drop(b);
+        return Err(Refusal::fault(Code::NotModifiable, pos));
     }
-    let b = assigned(alloc, types, pos, &a.ty.ty, b)?;
+    let (b, a) = beside(assigned(alloc, types, pos, &a.ty.ty, b), a)?;
     Ok(put(alloc, a, b)?)
 }
 
@@ -119,11 +122,11 @@ fn computed(
 ) -> Result<TExpr, AllocError>
     ensures { IfOk result (λ t. typed_of t ≡ changes.computed op kind right (typed_of a) (typed_of b)) }
 {
-    let b = as_int(alloc, right, b)?;
-    Ok(TExpr {
-        ty: unqualified(alloc, &a.ty)?,
-        kind: TKind::AssignOp(op, kind, Box::new(alloc, a)?, Box::new(alloc, b)?),
-    })
+    let (b, a) = beside(as_int(alloc, right, b), a)?;
+    let (ty, (a, b)) = beside(unqualified(alloc, &a.ty), (a, b))?;
+    let ((a, b), ty) = beside(boxed_pair(alloc, a, b), ty)?;
+    let kind = TKind::AssignOp(op, kind, a, b);
+    Ok(TExpr { ty, kind })
 }
 
 /// A compound assignment to a number whose promoted type is `j`, with one of promoted type `k`.
@@ -144,7 +147,7 @@ fn on_numbers(
         Group::Arithmetic | Group::Add | Group::Subtract => {
             Ok(computed(alloc, op, both, both, a, b)?)
         }
-        Group::Order | Group::Equality => Err(unfit_operands(pos, &a, &b)),
+        Group::Order | Group::Equality => Err(unfit_operands(pos, a, b)),
     }
 }
 
@@ -162,16 +165,16 @@ fn on_pointer(
 {
     match group_for(op) {
         Group::Add | Group::Subtract => {
-            target_size(types, pos, &a)?;
+            let (_, (a, b)) = beside(target_size(types, pos, &a), (a, b))?;
             let kind = promotion(types, &b, kind);
-            let b = as_int(alloc, kind, b)?;
-            Ok(TExpr {
-                ty: unqualified(alloc, &a.ty)?,
-                kind: TKind::AssignStep(op, Box::new(alloc, a)?, Box::new(alloc, b)?),
-            })
+            let (b, a) = beside(as_int(alloc, kind, b), a)?;
+            let (ty, (a, b)) = beside(unqualified(alloc, &a.ty), (a, b))?;
+            let ((a, b), ty) = beside(boxed_pair(alloc, a, b), ty)?;
+            let kind = TKind::AssignStep(op, a, b);
+            Ok(TExpr { ty, kind })
         }
         Group::Arithmetic | Group::Shift | Group::Order | Group::Equality => {
-            Err(unfit_operands(pos, &a, &b))
+            Err(unfit_operands(pos, a, b))
         }
     }
 }
@@ -196,7 +199,7 @@ fn changed(
         (Category::Pointer, Category::Int(kind)) => {
             on_pointer(alloc, types, pos, op, kind, a, b)
         }
-        _ => Err(unfit_operands(pos, &a, &b)),
+        _ => Err(unfit_operands(pos, a, b)),
     }
 }
 
@@ -213,10 +216,13 @@ pub fn assign_op(
 ) -> Result<TExpr, Refusal>
     ensures { Gives typed_of result (changes.assign_op_of (types_of types.now) pos op (typed_of a) (typed_of b)) }
 {
-    if !is_modifiable(alloc, types, &a)? {
-        return Err(refused(Code::NotModifiable, pos));
+    let (modifiable, (a, b)) = beside(is_modifiable(alloc, types, &a), (a, b))?;
+    if !modifiable {
+        drop(a);
+        drop(b);
+        return Err(Refusal::fault(Code::NotModifiable, pos));
     }
-    let b = value(alloc, b)?;
+    let (b, a) = beside(value(alloc, b), a)?;
     changed(alloc, types, pos, op, a, b)
 }
 
@@ -224,10 +230,10 @@ pub fn assign_op(
 fn stepped(alloc: Global, how: StepKind, a: TExpr) -> Result<TExpr, AllocError>
     ensures { IfOk result (λ t. typed_of t ≡ changes.stepped how (typed_of a)) }
 {
-    Ok(TExpr {
-        ty: unqualified(alloc, &a.ty)?,
-        kind: TKind::Step(how, Box::new(alloc, a)?),
-    })
+    let (ty, a) = beside(unqualified(alloc, &a.ty), a)?;
+    let (a, ty) = boxed_beside(alloc, a, ty)?;
+    let kind = TKind::Step(how, a);
+    Ok(TExpr { ty, kind })
 }
 
 /// `++` and `--`, before or behind (C90 6.3.2.4, 6.3.3.1). Refuses `NotModifiable`, `Operands`, and
@@ -242,17 +248,19 @@ pub fn step(
 ) -> Result<TExpr, Refusal>
     ensures { Gives typed_of result (changes.step_of (types_of types.now) pos how (typed_of a)) }
 {
-    if !is_modifiable(alloc, types, &a)? {
-        return Err(refused(Code::NotModifiable, pos));
+    let (modifiable, a) = beside(is_modifiable(alloc, types, &a), a)?;
+    if !modifiable {
+        drop(a);
+        return Err(Refusal::fault(Code::NotModifiable, pos));
     }
     match classify(&a.ty.ty) {
         Category::Int(_) => Ok(stepped(alloc, how, a)?),
         Category::Pointer => {
-            target_size(types, pos, &a)?;
+            let (_, a) = beside(target_size(types, pos, &a), a)?;
             Ok(stepped(alloc, how, a)?)
         }
         Category::Tag | Category::Void | Category::Other => {
-            Err(unfit_operand(Code::Operands, pos, &a))
+            Err(unfit_operand(Code::Operands, pos, a))
         }
     }
 }

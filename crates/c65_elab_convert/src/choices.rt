@@ -8,8 +8,9 @@ ghost use Rattle.c65_elab_convert.specs.Choices as choices;
 use crate::classes::unfit_operands;
 use crate::logic::condition;
 use crate::pointers::{agree, is_null, meet_in_void};
-use crate::values::{as_plain, common, promotion, value};
-use c65_base::{Pos, Refusal};
+use crate::values::{as_plain, common, promotion, values};
+use crate::waiting::beside;
+use c65_base::{Pos, Refusal, boxed_beside, boxed_pair};
 use c65_csem::{TExpr, TKind};
 use c65_ctype::{CType, QType, Types};
 use std::alloc::{AllocError, Global};
@@ -107,19 +108,17 @@ fn chosen_type(
 fn made(alloc: Global, ty: CType, x: TExpr, a: TExpr, b: TExpr) -> Result<TExpr, AllocError>
     ensures { IfOk result (λ t. typed_of t ≡ choices.made (ty_of ty) (typed_of x) (typed_of a) (typed_of b)) }
 {
-    let a = as_plain(alloc, &ty, a)?;
-    let b = as_plain(alloc, &ty, b)?;
+    let (a, (ty, x, b)) = beside(as_plain(alloc, &ty, a), (ty, x, b))?;
+    let (b, (ty, x, a)) = beside(as_plain(alloc, &ty, b), (ty, x, a))?;
+    let (x, (ty, a, b)) = boxed_beside(alloc, x, (ty, a, b))?;
+    let ((a, b), (ty, x)) = beside(boxed_pair(alloc, a, b), (ty, x))?;
     Ok(TExpr {
         ty: QType {
             ty,
             is_const: false,
             is_volatile: false,
         },
-        kind: TKind::Cond(
-            Box::new(alloc, x)?,
-            Box::new(alloc, a)?,
-            Box::new(alloc, b)?,
-        ),
+        kind: TKind::Cond(x, a, b),
     })
 }
 
@@ -135,11 +134,14 @@ pub fn choice(
 ) -> Result<TExpr, Refusal>
     ensures { Gives typed_of result (choices.choice_of (types_of types.now) pos (typed_of x) (typed_of a) (typed_of b)) }
 {
-    let x = condition(alloc, pos, x)?;
-    let a = value(alloc, a)?;
-    let b = value(alloc, b)?;
-    match chosen_type(alloc, types, &a, &b)? {
+    let (x, (a, b)) = beside(condition(alloc, pos, x), (a, b))?;
+    let ((a, b), x) = beside(values(alloc, a, b), x)?;
+    let (ty, (x, a, b)) = beside(chosen_type(alloc, types, &a, &b), (x, a, b))?;
+    match ty {
         Some(ty) => Ok(made(alloc, ty, x, a, b)?),
-        None => Err(unfit_operands(pos, &a, &b)),
+        None => {
+            drop(x);
+            Err(unfit_operands(pos, a, b))
+        }
     }
 }

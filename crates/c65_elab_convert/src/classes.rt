@@ -36,13 +36,6 @@ pub fn classify(ty: &CType) -> Category
     }
 }
 
-/// A fault at a place.
-pub(crate) fn refused(code: Code, pos: Pos) -> Refusal
-    ensures { result ≡ At code pos }
-{
-    Refusal::At { code, pos }
-}
-
 /// The fault of an operand that does not fit: void expressions have one of their own.
 pub(crate) fn unfit(code: Code, category: Category) -> Code
     ensures { result ≡ categories.unfit code category }
@@ -61,20 +54,22 @@ pub(crate) fn unfit_pair(code: Code, a: Category, b: Category) -> Code
 }
 
 /// Two operands that do not fit, at a place.
-pub(crate) fn unfit_operands(pos: Pos, a: &TExpr, b: &TExpr) -> Refusal
-    ensures { result ≡ At (categories.unfit_operands (typed_of a.now) (typed_of b.now)) pos }
+pub(crate) fn unfit_operands(pos: Pos, a: TExpr, b: TExpr) -> Refusal
+    ensures { result ≡ At (categories.unfit_operands (typed_of a) (typed_of b)) pos }
 {
-    refused(
-        unfit_pair(Code::Operands, classify(&a.ty.ty), classify(&b.ty.ty)),
-        pos,
-    )
+    let code = unfit_pair(Code::Operands, classify(&a.ty.ty), classify(&b.ty.ty));
+    drop(a);
+    drop(b);
+    Refusal::fault(code, pos)
 }
 
 /// One operand that does not fit, at a place.
-pub(crate) fn unfit_operand(code: Code, pos: Pos, e: &TExpr) -> Refusal
-    ensures { result ≡ At (categories.unfit_operand code (typed_of e.now)) pos }
+pub(crate) fn unfit_operand(code: Code, pos: Pos, e: TExpr) -> Refusal
+    ensures { result ≡ At (categories.unfit_operand code (typed_of e)) pos }
 {
-    refused(unfit(code, classify(&e.ty.ty)), pos)
+    let code = unfit(code, classify(&e.ty.ty));
+    drop(e);
+    Refusal::fault(code, pos)
 }
 
 pub(crate) fn is_void(ty: &CType) -> bool

@@ -16,6 +16,7 @@ mod pairs;
 mod pointers;
 mod unaries;
 mod values;
+mod waiting;
 
 pub use access::{index, member, size_of_expr, size_of_type};
 pub use binaries::binary;
@@ -29,3 +30,4 @@ pub use logic::{both, comma, condition, either, switch_value};
 pub use pointers::is_null;
 pub use unaries::{address, deref, unary};
 pub use values::{as_int, as_plain, common, place_promotion, promotion, value};
+pub use waiting::beside;

@@ -6,8 +6,9 @@ ghost use Rattle.c65_csem.specs.Views.{typed_of};
 ghost use Rattle.c65_elab_convert.specs.Logic as logic;
 
 use crate::classes::{Category, classify, is_scalar_type, unfit_operand, unfit_operands};
-use crate::values::{as_int, promotion, value};
-use c65_base::{Code, Pos, Refusal};
+use crate::values::{as_int, promotion, value, values};
+use crate::waiting::beside;
+use c65_base::{Code, Pos, Refusal, boxed_pair};
 use c65_csem::{TExpr, TKind, int_type, unqualified};
 use c65_ctype::Types;
 use c65_ints::IntType;
@@ -17,15 +18,14 @@ use std::alloc::{AllocError, Global};
 pub fn both(alloc: Global, pos: Pos, a: TExpr, b: TExpr) -> Result<TExpr, Refusal>
     ensures { Gives typed_of result (logic.both_of pos (typed_of a) (typed_of b)) }
 {
-    let a = value(alloc, a)?;
-    let b = value(alloc, b)?;
+    let (a, b) = values(alloc, a, b)?;
     if is_scalar_type(&a.ty) && is_scalar_type(&b.ty) {
-        Ok(TExpr {
-            ty: int_type(IntType::Int),
-            kind: TKind::And(Box::new(alloc, a)?, Box::new(alloc, b)?),
-        })
+        let (a, b) = boxed_pair(alloc, a, b)?;
+        let ty = int_type(IntType::Int);
+        let kind = TKind::And(a, b);
+        Ok(TExpr { ty, kind })
     } else {
-        Err(unfit_operands(pos, &a, &b))
+        Err(unfit_operands(pos, a, b))
     }
 }
 
@@ -33,15 +33,14 @@ pub fn both(alloc: Global, pos: Pos, a: TExpr, b: TExpr) -> Result<TExpr, Refusa
 pub fn either(alloc: Global, pos: Pos, a: TExpr, b: TExpr) -> Result<TExpr, Refusal>
     ensures { Gives typed_of result (logic.either_of pos (typed_of a) (typed_of b)) }
 {
-    let a = value(alloc, a)?;
-    let b = value(alloc, b)?;
+    let (a, b) = values(alloc, a, b)?;
     if is_scalar_type(&a.ty) && is_scalar_type(&b.ty) {
-        Ok(TExpr {
-            ty: int_type(IntType::Int),
-            kind: TKind::Or(Box::new(alloc, a)?, Box::new(alloc, b)?),
-        })
+        let (a, b) = boxed_pair(alloc, a, b)?;
+        let ty = int_type(IntType::Int);
+        let kind = TKind::Or(a, b);
+        Ok(TExpr { ty, kind })
     } else {
-        Err(unfit_operands(pos, &a, &b))
+        Err(unfit_operands(pos, a, b))
     }
 }
 
@@ -49,12 +48,11 @@ pub fn either(alloc: Global, pos: Pos, a: TExpr, b: TExpr) -> Result<TExpr, Refu
 pub fn comma(alloc: Global, a: TExpr, b: TExpr) -> Result<TExpr, AllocError>
     ensures { IfOk result (λ t. typed_of t ≡ logic.comma_of (typed_of a) (typed_of b)) }
 {
-    let a = value(alloc, a)?;
-    let b = value(alloc, b)?;
-    Ok(TExpr {
-        ty: unqualified(alloc, &b.ty)?,
-        kind: TKind::Comma(Box::new(alloc, a)?, Box::new(alloc, b)?),
-    })
+    let (a, b) = values(alloc, a, b)?;
+    let (ty, (a, b)) = beside(unqualified(alloc, &b.ty), (a, b))?;
+    let ((a, b), ty) = beside(boxed_pair(alloc, a, b), ty)?;
+    let kind = TKind::Comma(a, b);
+    Ok(TExpr { ty, kind })
 }
 
 /// The value on which a choice or a statement depends (C90 6.3.15, 6.6.4.1, 6.6.5). Refuses
@@ -66,7 +64,7 @@ pub fn condition(alloc: Global, pos: Pos, e: TExpr) -> Result<TExpr, Refusal>
     if is_scalar_type(&e.ty) {
         Ok(e)
     } else {
-        Err(unfit_operand(Code::ConditionType, pos, &e))
+        Err(unfit_operand(Code::ConditionType, pos, e))
     }
 }
 
@@ -82,7 +80,7 @@ pub fn switch_value(alloc: Global, types: &Types, pos: Pos, e: TExpr) -> Result<
             Ok(as_int(alloc, kind, e)?)
         }
         Category::Pointer | Category::Tag | Category::Void | Category::Other => {
-            Err(unfit_operand(Code::ConditionType, pos, &e))
+            Err(unfit_operand(Code::ConditionType, pos, e))
         }
     }
 }

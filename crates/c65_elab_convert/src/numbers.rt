@@ -5,7 +5,8 @@ ghost use Rattle.c65_csem.specs.Views.{typed_of};
 ghost use Rattle.c65_elab_convert.specs.Numbers as numbers;
 
 use crate::values::{as_int, common};
-use c65_base::BinaryOp;
+use crate::waiting::beside;
+use c65_base::{BinaryOp, boxed_pair};
 use c65_csem::{TExpr, TKind, int_type};
 use c65_ctype::QType;
 use c65_ints::IntType;
@@ -51,10 +52,9 @@ pub(crate) fn joined(
 ) -> Result<TExpr, AllocError>
     ensures { IfOk result (λ t. typed_of t ≡ numbers.joined op (qty_of ty) (typed_of a) (typed_of b)) }
 {
-    Ok(TExpr {
-        ty,
-        kind: TKind::Binary(op, Box::new(alloc, a)?, Box::new(alloc, b)?),
-    })
+    let ((a, b), ty) = beside(boxed_pair(alloc, a, b), ty)?;
+    let kind = TKind::Binary(op, a, b);
+    Ok(TExpr { ty, kind })
 }
 
 /// An operator on two operands that are converted to these types.
@@ -69,8 +69,8 @@ fn converted(
 ) -> Result<TExpr, AllocError>
     ensures { IfOk result (λ t. typed_of t ≡ numbers.converted op ty j k (typed_of a) (typed_of b)) }
 {
-    let a = as_int(alloc, j, a)?;
-    let b = as_int(alloc, k, b)?;
+    let (a, b) = beside(as_int(alloc, j, a), b)?;
+    let (b, a) = beside(as_int(alloc, k, b), a)?;
     joined(alloc, op, int_type(ty), a, b)
 }
 

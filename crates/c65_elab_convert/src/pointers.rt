@@ -5,7 +5,7 @@ ghost use Rattle.c65_ctype.specs.Views.{ty_of, qty_of, types_of};
 ghost use Rattle.c65_csem.specs.Views.{typed_of};
 ghost use Rattle.c65_elab_convert.specs.Pointers as pointers;
 
-use crate::classes::{is_function, is_void, refused};
+use crate::classes::{is_function, is_void};
 use c65_base::{Code, Pos, Refusal};
 use c65_csem::{TExpr, TKind, unqualified};
 use c65_ctype::{CType, QType, Types};
@@ -84,6 +84,6 @@ pub(crate) fn target_size(types: &Types, pos: Pos, e: &TExpr) -> Result<u32, Ref
 {
     match &e.ty.ty {
         CType::Pointer(target) => types.size(&target.ty, pos),
-        _ => Err(refused(Code::Operands, pos)),
+        _ => Err(Refusal::fault(Code::Operands, pos)),
     }
 }

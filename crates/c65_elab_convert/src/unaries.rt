@@ -5,11 +5,10 @@ ghost use Rattle.c65_ctype.specs.Views.{ty_of, qty_of, types_of};
 ghost use Rattle.c65_csem.specs.Views.{typed_of};
 ghost use Rattle.c65_elab_convert.specs.Unaries as unaries;
 
-use crate::classes::{
-    Category, classify, is_bit_field, is_lvalue, is_void, refused, unfit_operand,
-};
+use crate::classes::{Category, classify, is_bit_field, is_lvalue, is_void, unfit_operand};
 use crate::values::{as_int, promotion, value};
-use c65_base::{Code, Pos, Refusal, UnaryOp};
+use crate::waiting::beside;
+use c65_base::{Code, Pos, Refusal, UnaryOp, boxed_beside};
 use c65_csem::{TExpr, TKind, int_type, pointer_to};
 use c65_ctype::{CType, QType, Types};
 use c65_ints::IntType;
@@ -49,7 +48,7 @@ fn on_value(alloc: Global, types: &Types, pos: Pos, op: UnaryOp, e: TExpr) -> Re
         (UnaryOp::Not, Category::Int(_) | Category::Pointer) => {
             Ok(single(alloc, op, IntType::Int, e)?)
         }
-        _ => Err(unfit_operand(Code::Operands, pos, &e)),
+        _ => Err(unfit_operand(Code::Operands, pos, e)),
     }
 }
 
@@ -67,12 +66,14 @@ fn target(alloc: Global, ty: &CType) -> Result<Option<QType>, AllocError>
 fn pointed(alloc: Global, pos: Pos, e: TExpr) -> Result<TExpr, Refusal>
     ensures { Gives typed_of result (unaries.pointed pos (typed_of e)) }
 {
-    match target(alloc, &e.ty.ty)? {
-        Some(ty) => Ok(TExpr {
-            ty,
-            kind: TKind::Deref(Box::new(alloc, e)?),
-        }),
-        None => Err(unfit_operand(Code::Operands, pos, &e)),
+    let (ty, e) = beside(target(alloc, &e.ty.ty), e)?;
+    match ty {
+        Some(ty) => {
+            let (e, ty) = boxed_beside(alloc, e, ty)?;
+            let kind = TKind::Deref(e);
+            Ok(TExpr { ty, kind })
+        }
+        None => Err(unfit_operand(Code::Operands, pos, e)),
     }
 }
 
@@ -97,11 +98,11 @@ fn has_address(e: &TExpr) -> bool
 fn pointer_from(alloc: Global, e: TExpr) -> Result<TExpr, AllocError>
     ensures { IfOk result (λ t. typed_of t ≡ unaries.pointer_from (typed_of e)) }
 {
-    let ty = e.ty.copy(alloc)?;
-    Ok(TExpr {
-        ty: pointer_to(alloc, ty)?,
-        kind: TKind::Address(Box::new(alloc, e)?),
-    })
+    let (ty, e) = beside(e.ty.copy(alloc), e)?;
+    let (ty, e) = beside(pointer_to(alloc, ty), e)?;
+    let (e, ty) = boxed_beside(alloc, e, ty)?;
+    let kind = TKind::Address(e);
+    Ok(TExpr { ty, kind })
 }
 
 /// The address of an expression (C90 6.3.3.2). `register` says that it names an object of class
@@ -117,13 +118,16 @@ pub fn address(
     ensures { Gives typed_of result (unaries.address_of (types_of types.now) pos register (typed_of e)) }
 {
     if !has_address(&e) {
-        return Err(refused(Code::NotModifiable, pos));
+        drop(e);
+        return Err(Refusal::fault(Code::NotModifiable, pos));
     }
     if is_bit_field(types, &e) {
-        return Err(refused(Code::BitField, pos));
+        drop(e);
+        return Err(Refusal::fault(Code::BitField, pos));
     }
     if register {
-        return Err(refused(Code::RegisterAddress, pos));
+        drop(e);
+        return Err(Refusal::fault(Code::RegisterAddress, pos));
     }
     Ok(pointer_from(alloc, e)?)
 }

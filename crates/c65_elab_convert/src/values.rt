@@ -7,6 +7,8 @@ ghost use Rattle.c65_csem.specs.Views.{typed_of};
 ghost use Rattle.c65_elab_convert.specs.Values as values;
 
 use crate::classes::is_void;
+use crate::waiting::beside;
+use c65_base::boxed_beside;
 use c65_csem::{TExpr, TKind, int_type, is_scalar, member_at, pointer_to, promoted, unqualified};
 use c65_ctype::{CType, QType, Types};
 use c65_ints::IntType;
@@ -27,10 +29,10 @@ fn decayed(alloc: Global, q: &QType) -> Result<Option<QType>, AllocError>
 fn loaded(alloc: Global, e: TExpr) -> Result<TExpr, AllocError>
     ensures { IfOk result (λ t. typed_of t ≡ values.loaded (typed_of e)) }
 {
-    Ok(TExpr {
-        ty: unqualified(alloc, &e.ty)?,
-        kind: TKind::Load(Box::new(alloc, e)?),
-    })
+    let (ty, e) = beside(unqualified(alloc, &e.ty), e)?;
+    let (e, ty) = boxed_beside(alloc, e, ty)?;
+    let kind = TKind::Load(e);
+    Ok(TExpr { ty, kind })
 }
 
 /// An expression whose value is not taken.
@@ -64,11 +66,13 @@ fn value_of_place(alloc: Global, e: TExpr) -> Result<TExpr, AllocError>
 pub fn value(alloc: Global, e: TExpr) -> Result<TExpr, AllocError>
     ensures { IfOk result (λ t. typed_of t ≡ values.value_of (typed_of e)) }
 {
-    match decayed(alloc, &e.ty)? {
-        Some(ty) => Ok(TExpr {
-            ty,
-            kind: TKind::Decay(Box::new(alloc, e)?),
-        }),
+    let (ty, e) = beside(decayed(alloc, &e.ty), e)?;
+    match ty {
+        Some(ty) => {
+            let (e, ty) = boxed_beside(alloc, e, ty)?;
+            let kind = TKind::Decay(e);
+            Ok(TExpr { ty, kind })
+        }
         None => {
             if e.is_place() {
                 value_of_place(alloc, e)
@@ -77,6 +81,16 @@ pub fn value(alloc: Global, e: TExpr) -> Result<TExpr, AllocError>
             }
         }
     }
+}
+
+/// The values of two expressions.
+pub(crate) fn values(alloc: Global, a: TExpr, b: TExpr) -> Result<(TExpr, TExpr), AllocError>
+    ensures a { IfOk result (λ r. typed_of r.0 ≡ values.value_of (typed_of a)) }
+    ensures b { IfOk result (λ r. typed_of r.1 ≡ values.value_of (typed_of b)) }
+{
+    let (a, b) = beside(value(alloc, a), b)?;
+    let (b, a) = beside(value(alloc, b), a)?;
+    Ok((a, b))
 }
 
 pub(crate) fn is_kind(a: IntType, b: IntType) -> bool
@@ -208,13 +222,16 @@ pub fn as_plain(alloc: Global, ty: &CType, e: TExpr) -> Result<TExpr, AllocError
     if equal_plain(ty, &e.ty.ty) {
         Ok(e)
     } else {
+        let (ty, e) = beside(ty.copy(alloc), e)?;
+        let (e, ty) = boxed_beside(alloc, e, ty)?;
+        let kind = TKind::Convert(e);
         Ok(TExpr {
             ty: QType {
-                ty: ty.copy(alloc)?,
+                ty,
                 is_const: false,
                 is_volatile: false,
             },
-            kind: TKind::Convert(Box::new(alloc, e)?),
+            kind,
         })
     }
 }

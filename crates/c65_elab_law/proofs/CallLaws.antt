@@ -14,7 +14,7 @@ use Rattle.c65_csem.specs.Places.{is_scalar, is_tag, plain, plain_of}
 use Rattle.c65_csem.specs.Typed.{IsValue, IsResult, IsCall, Passes, ArePassed, AreGiven, Fits, arguments_size, IsTyped, AreTyped}
 use Rattle.c65_elab_convert.specs.Categories.{category_of}
 use Rattle.c65_elab_convert.specs.Values.{value_of, promotion, as_int_of}
-use Rattle.c65_elab_convert.specs.Calls.{callee_in, callee, passed_by, passed, taken_by, argument, counted, first_type, other_types, given, count_of, count_in, is_count, arguments_by, arguments_for, result_by, result_type, called, call_of}
+use Rattle.c65_elab_convert.specs.Calls.{callee_in, callee, passed_by, passed, taken_by, argument, counted, first_type, other_types, given, count_of, count_in, is_count, arguments_by, arguments_for, result_by, result_type, parts_for, called, call_of}
 use Rattle.c65_elab_law.specs.WellTyped.{IsAssigned, IsOf}
 use Rattle.c65_elab_law.proofs.ValueLaws.{plain_in, value_pointer, as_int_is, promotion_stays}
 use Rattle.c65_elab_law.proofs.OperatorLaws.{bind_ok, ok_is, not_ok, IsTaken, taken, is_number, is_address}
@@ -182,14 +182,16 @@ few_bytes u xs w = omega (arith, w.few)
 called_typed : (u : UnitTy) (p : Pos) (o : Option Fn) (f e : Typed) (es : Nodes) → IsTaken u f → AreTyped u es → callee (type_in (type_of f)) ≡ o → called u.types p o f es ≡ Ok e → IsTyped u e
 called_typed u p None f e es w ws g h = absurd (not_ok _ _ h)
 called_typed u p (Some (fn q ps variadic cdecl)) f e es w ws g h =
-    let (t, ht, h1) = bind_ok (result_type p (fn q ps variadic cdecl)) (λ t. arguments_for u.types p (fn q ps variadic cdecl) es >>= λ xs. Ok (node t (n.call f xs))) e h in
-    let (xs, hx, h2) = bind_ok (arguments_for u.types p (fn q ps variadic cdecl) es) (λ xs. Ok (node t (n.call f xs))) e h1 in
+    let (y, hy, h2) = bind_ok (parts_for u.types p (fn q ps variadic cdecl) es) (λ y. Ok (node y.0 (n.call f y.1))) e h in
+    let (t, ht, h1) = bind_ok (result_type p (fn q ps variadic cdecl)) (λ t. arguments_for u.types p (fn q ps variadic cdecl) es >>= λ xs. Ok (t, xs)) y hy in
+    let (xs, hx, h3) = bind_ok (arguments_for u.types p (fn q ps variadic cdecl) es) (λ xs. Ok (t, xs)) y h1 in
+    let both : (t, xs) ≡ y = ok_is _ _ h3 in
     let r = result_is p q t ht in
     let a = arguments_fit u p ps variadic es xs ws hx in
     let is = callee_is (type_in (type_of f)) (fn q ps variadic cdecl) g in
     let v = is_address f (plain (function (fn q ps variadic cdecl))) w.had is in
     let c : IsCall u t (type_of f) xs = record { callee = fn q ps variadic cdecl; named = value_pointer f (plain (function (fn q ps variadic cdecl))) v is; result = r.0; scalar = r.1; given = a.1; few = few_bytes u xs a.0 } in
-    subst (IsTyped u) (ok_is _ _ h2) (w.typed, v.1, c, a.0.typed)
+    subst (IsTyped u) (ap (λ (z : QTy × Nodes). node z.0 (n.call f z.1)) both ∙ ok_is _ _ h2) (w.typed, v.1, c, a.0.typed)
 
 pub call_typed : (u : UnitTy) (p : Pos) (f e : Typed) (es : Nodes) → IsTyped u f → AreTyped u es → call_of u.types p f es ≡ Ok e → IsTyped u e
 call_typed u p f e es w ws h = called_typed u p (callee (type_in (type_of (value_of f)))) (value_of f) e es (taken u f w) ws refl h
