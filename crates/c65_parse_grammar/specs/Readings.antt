@@ -1,5 +1,7 @@
 -- What a reading of tokens has to be: a tree that has them, or the first token with which no tree goes on.
 use Rattle.std.specs.Prelude.{◌≡◌, ℕ, ◌≤◌, List, [], ◌∷◌, ◌++◌}
+use Rattle.c65_base.specs.Limits.{limit_of}
+use Rattle.c65_base.specs.declared.refusal.Size.TheVariants.{Depth}
 use Rattle.c65_base.specs.declared.code.Code.{Code}
 use Rattle.c65_base.specs.declared.code.Code.TheVariants.{Syntax, Assembly}
 use Rattle.c65_scan.specs.declared.token.Keyword.TheVariants as keywords
@@ -66,10 +68,10 @@ pub record IsUnitWithin (limit : ℕ) (tokens : List Token) (unit : t.UnitTree) 
   pub within : unit_depth unit ≤ limit
 
 abbrev pub IsUnit : List Token → t.UnitTree → Type 0
-IsUnit = IsUnitWithin 256
+IsUnit = IsUnitWithin (limit_of Depth)
 
 abbrev pub IsNoUnit : List Token → Token → Type 0
-IsNoUnit = IsRefused units unit_depth 256
+IsNoUnit = IsRefused units unit_depth (limit_of Depth)
 
 abbrev pub IsTooDeepUnit : List Token → Type 0
-IsTooDeepUnit = IsTooDeep units unit_depth 256
+IsTooDeepUnit = IsTooDeep units unit_depth (limit_of Depth)
