@@ -7,7 +7,7 @@ use Rattle.std.proofs.lemmas.List.{append-nil, map_push}
 use Rattle.c65_mach.specs.declared.rows.Op.{Op}
 use Rattle.c65_mach.specs.declared.rows.Op.TheVariants as ops
 use Rattle.c65_mach.specs.declared.rows.Mode.{Mode}
-use Rattle.c65_mach.specs.declared.rows.Mode.TheVariants.{Implied, Accumulator, Immediate, ZeroPage, ZeroPageX, ZeroPageY, Absolute, AbsoluteX, AbsoluteY, IndirectX, IndirectY, Indirect, Relative}
+use Rattle.c65_mach.specs.declared.rows.Mode.TheVariants.{Implied, Accumulator, Immediate, ZeroPage, ZeroPageX, ZeroPageY, Absolute, AbsoluteX, AbsoluteY, IndirectX, IndirectY, Indirect, Relative, ZeroPageIndirect, AbsoluteIndirectX}
 use Rattle.c65_code.specs.declared.parts.RegSet.{RegSet}
 use Rattle.c65_code.specs.declared.line.Sym.{Sym}
 use Rattle.c65_code.specs.declared.line.Operand.{Operand}
@@ -141,6 +141,8 @@ same_takes symbols names op IndirectX o = kind_zero symbols names o
 same_takes symbols names op IndirectY o = kind_zero symbols names o
 same_takes symbols names op Indirect o = kind_zero symbols names o
 same_takes symbols names op Relative o = kind_to symbols names o
+same_takes symbols names op ZeroPageIndirect o = kind_zero symbols names o
+same_takes symbols names op AbsoluteIndirectX o = refl
 
 same_fit : (symbols : List Symbol) (names : List (List ℕ)) (line : Line) → is_fit (renamed_line symbols names line) ≡ is_fit line
 same_fit symbols names (lines.Label l) = refl

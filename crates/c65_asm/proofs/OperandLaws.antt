@@ -7,7 +7,7 @@ use Rattle.std.proofs.lemmas.List.{append-nil}
 use Rattle.c65_mach.specs.declared.rows.Op.{Op}
 use Rattle.c65_mach.specs.declared.rows.Op.TheVariants as ops
 use Rattle.c65_mach.specs.declared.rows.Mode.{Mode}
-use Rattle.c65_mach.specs.declared.rows.Mode.TheVariants.{Implied, Accumulator, Immediate, ZeroPage, ZeroPageX, ZeroPageY, Absolute, AbsoluteX, AbsoluteY, IndirectX, IndirectY, Indirect, Relative}
+use Rattle.c65_mach.specs.declared.rows.Mode.TheVariants.{Implied, Accumulator, Immediate, ZeroPage, ZeroPageX, ZeroPageY, Absolute, AbsoluteX, AbsoluteY, IndirectX, IndirectY, Indirect, Relative, ZeroPageIndirect, AbsoluteIndirectX}
 use Rattle.c65_code.specs.declared.line.Operand.{Operand}
 use Rattle.c65_code.specs.declared.line.Operand.TheVariants as operands
 use Rattle.c65_code.specs.declared.code.Symbol.{Symbol}
@@ -180,6 +180,7 @@ about Immediate = codes "#"
 about IndirectX = codes "("
 about IndirectY = codes "("
 about Indirect = codes "("
+about ZeroPageIndirect = codes "("
 about _ = []
 
 abbrev pub inner_text : List Symbol → Mode → Operand → List ℕ
@@ -212,3 +213,5 @@ operand_read symbols op IndirectX o r h d w n = in_brackets symbols op IndirectX
 operand_read symbols op IndirectY o r h d w n = in_brackets symbols op IndirectY (codes "),Y") (λ v. refl) (λ v. refl) o h w
 operand_read symbols op Indirect o r h d w n = no_place d
 operand_read symbols op Relative o r h d w n = ap (operand_in op) (append-nil (operand_text symbols o)) ∙ to_label symbols op Relative (branch_mode op r) o h w
+operand_read symbols op ZeroPageIndirect o r h d w n = in_brackets symbols op ZeroPageIndirect (codes ")") (λ v. refl) (λ v. refl) o h w
+operand_read symbols op AbsoluteIndirectX o r h d w n = absurd (false≢true h)

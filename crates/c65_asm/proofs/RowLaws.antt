@@ -6,7 +6,7 @@ use Rattle.std.specs.List.{list_all}
 use Rattle.std.proofs.lemmas.List.{append-nil}
 use Rattle.c65_mach.specs.declared.rows.Op.{Op}
 use Rattle.c65_mach.specs.declared.rows.Mode.{Mode}
-use Rattle.c65_mach.specs.declared.rows.Mode.TheVariants.{Implied, Accumulator, Immediate, ZeroPage, ZeroPageX, ZeroPageY, Absolute, AbsoluteX, AbsoluteY, IndirectX, IndirectY, Indirect, Relative}
+use Rattle.c65_mach.specs.declared.rows.Mode.TheVariants.{Implied, Accumulator, Immediate, ZeroPage, ZeroPageX, ZeroPageY, Absolute, AbsoluteX, AbsoluteY, IndirectX, IndirectY, Indirect, Relative, ZeroPageIndirect, AbsoluteIndirectX}
 use Rattle.c65_code.specs.declared.parts.RegSet.{RegSet}
 use Rattle.c65_code.specs.declared.routine.Routine.{Routine}
 use Rattle.c65_code.specs.declared.line.Operand.{Operand}
@@ -78,6 +78,7 @@ before_lacks Immediate = refl
 before_lacks IndirectX = refl
 before_lacks IndirectY = refl
 before_lacks Indirect = refl
+before_lacks ZeroPageIndirect = refl
 before_lacks _ = refl
 
 behind_lacks : (mode : Mode) → lacks 10 (behind mode) ≡ true
@@ -88,6 +89,7 @@ behind_lacks AbsoluteY = refl
 behind_lacks IndirectX = refl
 behind_lacks IndirectY = refl
 behind_lacks Indirect = refl
+behind_lacks ZeroPageIndirect = refl
 behind_lacks _ = refl
 
 passed_lacks : (reads gives : RegSet) → IsLetters reads → IsLetters gives → lacks 10 (passed_text reads gives) ≡ true
@@ -166,6 +168,7 @@ spaced Immediate n = refl
 spaced IndirectX n = refl
 spaced IndirectY n = refl
 spaced Indirect n = refl
+spaced ZeroPageIndirect n = refl
 spaced _ n = refl
 
 operated : (symbols : List Symbol) (op : Op) (mode : Mode) (o : Operand) → has_row op mode ≡ true → takes op mode o ≡ true → not (is_barred op) ≡ true → IsDirect mode → IsWellOperand symbols o → (mode ≡ Implied → ⊥) → row_in (line_body symbols (lines.Do op mode o)) ≡ Some (named_line symbols (lines.Do op mode o))
@@ -195,6 +198,8 @@ do_read symbols op IndirectX o r t b d w = operated symbols op IndirectX o r t b
 do_read symbols op IndirectY o r t b d w = operated symbols op IndirectY o r t b d w (λ e. cc)
 do_read symbols op Indirect o r t b d w = operated symbols op Indirect o r t b d w (λ e. cc)
 do_read symbols op Relative o r t b d w = operated symbols op Relative o r t b d w (λ e. cc)
+do_read symbols op ZeroPageIndirect o r t b d w = operated symbols op ZeroPageIndirect o r t b d w (λ e. cc)
+do_read symbols op AbsoluteIndirectX o r t b d w = absurd (false≢true t)
 
 pub line_read : (symbols : List Symbol) (line : Line) → IsWellLine symbols line → row_in (line_body symbols line) ≡ Some (named_line symbols line)
 line_read symbols (lines.Label l) w =

@@ -4,7 +4,7 @@ use Rattle.std.proofs.Common.{Bor}
 use Rattle.c65_mach.specs.declared.rows.Op.{Op}
 use Rattle.c65_mach.specs.declared.rows.Op.TheVariants as ops
 use Rattle.c65_mach.specs.declared.rows.Mode.{Mode}
-use Rattle.c65_mach.specs.declared.rows.Mode.TheVariants.{Implied, Accumulator, Immediate, ZeroPage, ZeroPageX, ZeroPageY, Absolute, AbsoluteX, AbsoluteY, IndirectX, IndirectY, Relative}
+use Rattle.c65_mach.specs.declared.rows.Mode.TheVariants.{Implied, Accumulator, Immediate, ZeroPage, ZeroPageX, ZeroPageY, Absolute, AbsoluteX, AbsoluteY, IndirectX, IndirectY, Relative, ZeroPageIndirect}
 use Rattle.c65_code.specs.declared.parts.RegSet.{RegSet}
 use Rattle.c65_code.specs.declared.routine.Routine.{Routine}
 use Rattle.c65_code.specs.declared.code.DatumKind.{DatumKind}
@@ -100,7 +100,7 @@ immediate_in [] = None
 immediate_in (sign ∷ text) = if sign == 60 then option_map low_of (place_in text) else if sign == 62 then option_map high_of (place_in text) else option_map literal_of (byte_in (sign ∷ text))
 
 abbrev pub bracketed : List ℕ → ℕ → Option (Mode × Spelled)
-bracketed text at = if bytes_eq text (codes ",X)") then Some (IndirectX, Zero at) else if bytes_eq text (codes "),Y") then Some (IndirectY, Zero at) else None
+bracketed text at = if bytes_eq text (codes ",X)") then Some (IndirectX, Zero at) else if bytes_eq text (codes "),Y") then Some (IndirectY, Zero at) else if bytes_eq text (codes ")") then Some (ZeroPageIndirect, Zero at) else None
 
 -- behind `(`
 abbrev pub brackets_in : List ℕ → Option (Mode × Spelled)

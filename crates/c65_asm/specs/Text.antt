@@ -4,7 +4,7 @@ use Rattle.c65_base.specs.Lines.{hex_digit}
 use Rattle.c65_mach.specs.declared.rows.Op.{Op}
 use Rattle.c65_mach.specs.declared.rows.Op.TheVariants as ops
 use Rattle.c65_mach.specs.declared.rows.Mode.{Mode}
-use Rattle.c65_mach.specs.declared.rows.Mode.TheVariants.{Implied, Accumulator, Immediate, ZeroPageX, ZeroPageY, AbsoluteX, AbsoluteY, IndirectX, IndirectY, Indirect}
+use Rattle.c65_mach.specs.declared.rows.Mode.TheVariants.{Implied, Accumulator, Immediate, ZeroPageX, ZeroPageY, AbsoluteX, AbsoluteY, IndirectX, IndirectY, Indirect, ZeroPageIndirect}
 use Rattle.c65_code.specs.declared.parts.Part.{Part}
 use Rattle.c65_code.specs.declared.parts.Part.TheVariants.{A, X, Y, Zp}
 use Rattle.c65_code.specs.declared.parts.RegSet.{RegSet}
@@ -120,6 +120,7 @@ before Immediate = codes " #"
 before IndirectX = codes " ("
 before IndirectY = codes " ("
 before Indirect = codes " ("
+before ZeroPageIndirect = codes " ("
 before _ = codes " "
 
 abbrev pub operand_text : List Symbol → Operand → List ℕ
@@ -139,6 +140,7 @@ behind AbsoluteY = codes ",Y"
 behind IndirectX = codes ",X)"
 behind IndirectY = codes "),Y"
 behind Indirect = codes ")"
+behind ZeroPageIndirect = codes ")"
 behind _ = []
 
 abbrev pub letter : RegSet → Part → List ℕ → List ℕ

@@ -65,7 +65,7 @@ fn opening(mode: Mode) -> &'static [u8]
         Mode::Implied => b"",
         Mode::Accumulator => b" A",
         Mode::Immediate => b" #",
-        Mode::IndirectX | Mode::IndirectY | Mode::Indirect => b" (",
+        Mode::IndirectX | Mode::IndirectY | Mode::Indirect | Mode::ZeroPageIndirect => b" (",
         _ => b" ",
     }
 }
@@ -78,7 +78,7 @@ fn closing(mode: Mode) -> &'static [u8]
         Mode::ZeroPageY | Mode::AbsoluteY => b",Y",
         Mode::IndirectX => b",X)",
         Mode::IndirectY => b"),Y",
-        Mode::Indirect => b")",
+        Mode::Indirect | Mode::ZeroPageIndirect => b")",
         _ => b"",
     }
 }

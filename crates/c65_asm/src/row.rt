@@ -104,6 +104,8 @@ fn bracketed(text: &[u8], at: u8) -> Option<(Mode, Value<'_>)>
         Some((Mode::IndirectX, Value::Zero(at)))
     } else if text == b"),Y".as_slice() {
         Some((Mode::IndirectY, Value::Zero(at)))
+    } else if text == b")".as_slice() {
+        Some((Mode::ZeroPageIndirect, Value::Zero(at)))
     } else {
         None
     }

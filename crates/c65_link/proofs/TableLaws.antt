@@ -1,7 +1,8 @@
 -- The tables against what they have to be.
-use Rattle.std.proofs.Common.{◌≡◌, ◌==◌, ℕ, Bool, true, false, not, IsTrue, List, [], ◌∷◌, ◌++◌, Option, Some, cond, refl, sym, ◌∙◌, eqb-true, subst, slice_get}
+use Rattle.std.proofs.Common.{◌≡◌, ◌==◌, ℕ, Bool, true, false, not, IsTrue, List, [], ◌∷◌, ◌++◌, Option, Some, None, cond, refl, sym, ◌∙◌, eqb-true, subst, slice_get}
 use Rattle.std.specs.List.{list_all}
 use Rattle.std.proofs.lemmas.Bool.{and_parts}
+use Rattle.c65_base.specs.declared.options.Cpu.TheVariants.{Nmos, Cmos}
 use Rattle.c65_mach.specs.declared.rows.Op.{Op}
 use Rattle.c65_mach.specs.declared.rows.Op.TheVariants as ops
 use Rattle.c65_mach.specs.declared.rows.Mode.{Mode}
@@ -9,7 +10,7 @@ use Rattle.c65_mach.specs.declared.rows.Mode.TheVariants.{Relative}
 use Rattle.c65_mach.specs.declared.rows.Row.{Row}
 use Rattle.c65_mach.specs.State.{Regs}
 use Rattle.c65_mach.specs.Step.{is_taken, is_not}
-use Rattle.c65_mach.specs.Table.{Entry, table, found, row_of}
+use Rattle.c65_mach.specs.Table.{Entry, table, own_rows, found, or_row, row_of, row_for}
 use Rattle.c65_code.specs.declared.routine.Routine.{Routine}
 use Rattle.c65_code.specs.declared.routine.Routine.TheVariants as routines
 use Rattle.c65_code.specs.declared.routine.Count.{Count}
@@ -46,9 +47,18 @@ found_right byte (entry ∷ es) row all e =
 all_right : list_all is_right table ≡ true
 all_right = refl
 
+own_right : list_all is_right own_rows ≡ true
+own_right = refl
+
+either_right : (byte : ℕ) (own other : Option Row) (row : Row) → ((r : Row) → own ≡ Some r → opcode_of r.op r.mode ≡ byte) → ((r : Row) → other ≡ Some r → opcode_of r.op r.mode ≡ byte)
+    → or_row own other ≡ Some row → opcode_of row.op row.mode ≡ byte
+either_right byte (Some r) other row first second e = first row e
+either_right byte None other row first second e = second row e
+
 pub opcodes_are_the_tables : OpcodesAreTheTables
-unfolding row_of
-opcodes_are_the_tables byte row e = found_right byte table row all_right e
+unfolding row_of row_for
+opcodes_are_the_tables Nmos byte row e = found_right byte table row all_right e
+opcodes_are_the_tables Cmos byte row e = either_right byte (found byte own_rows) (found byte table) row (λ r h. found_right byte own_rows r own_right h) (λ r h. found_right byte table r all_right h) e
 
 twice : (b : Bool) → b ≡ not (is_not b)
 twice true = refl

@@ -1,12 +1,13 @@
 -- What the tables of opcodes, opposite branches and routines have to be.
 use Rattle.std.specs.Prelude.{◌≡◌, ℕ, Bool, true, false, not, IsTrue, nat_lt, List, ◌++◌, Some, slice_get}
 use Rattle.std.specs.List.{list_all}
+use Rattle.c65_base.specs.declared.options.Cpu.{Cpu}
 use Rattle.c65_mach.specs.declared.rows.Op.{Op}
 use Rattle.c65_mach.specs.declared.rows.Mode.TheVariants.{Relative}
 use Rattle.c65_mach.specs.declared.rows.Row.{Row}
 use Rattle.c65_mach.specs.State.{Regs}
 use Rattle.c65_mach.specs.Step.{is_taken}
-use Rattle.c65_mach.specs.Table.{row_of}
+use Rattle.c65_mach.specs.Table.{row_for}
 use Rattle.c65_code.specs.declared.routine.Routine.{Routine}
 use Rattle.c65_code.specs.declared.routine.Routine.TheVariants as routines
 use Rattle.c65_code.specs.declared.line.Callee.{Callee}
@@ -18,9 +19,9 @@ use Rattle.c65_link.specs.declared.routines.TheConstants.{ENTRIES, LIBRARY, STAC
 use Rattle.c65_link.specs.Opcodes.{opcode_of, opposite_of}
 use Rattle.c65_link.specs.Runtime.{number_of, has_lines, routine_lines}
 
--- each row of the table of opcodes has the opcode of its operation and mode
+-- each row of a processor's table of opcodes has the opcode of its operation and mode
 abbrev pub OpcodesAreTheTables : Type 0
-OpcodesAreTheTables = (byte : ℕ) (row : Row) → row_of byte ≡ Some row → opcode_of row.op row.mode ≡ byte
+OpcodesAreTheTables = (cpu : Cpu) (byte : ℕ) (row : Row) → row_for cpu byte ≡ Some row → opcode_of row.op row.mode ≡ byte
 
 -- the opposite of a branch is taken exactly where the branch is not
 abbrev pub OppositesDiffer : Type 0

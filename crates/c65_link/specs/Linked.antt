@@ -1,5 +1,6 @@
 -- The image of a code, or why there is none.
 use Rattle.std.specs.Prelude.{◌≡◌, ℕ, ◌+◌, ◌-◌, Bool, true, false, if◌then◌else◌, nat_lt, List, [], ◌∷◌, ◌++◌, Option, Some, None, Result, Ok, Err, slice_index}
+use Rattle.c65_base.specs.declared.options.Cpu.{Cpu}
 use Rattle.c65_base.specs.declared.options.Cpu.TheVariants.{Nmos}
 use Rattle.c65_base.specs.declared.refusal.LinkKind.{LinkKind}
 use Rattle.c65_base.specs.declared.refusal.LinkKind.TheVariants.{Undefined}
@@ -67,6 +68,14 @@ named_or_placed code targets None = placed code targets (parts_of code targets)
 
 abbrev pub linked : Code → Result Image Fault
 linked code = named_or_placed code (targets_of code) (missing_of code (targets_of code))
+
+-- the same image for this processor
+abbrev pub image_for : Cpu → Result Image Fault → Result Image Fault
+image_for cpu (Ok image) = Ok (record image { cpu = cpu })
+image_for cpu (Err fault) = Err fault
+
+abbrev pub linked_for : Cpu → Code → Result Image Fault
+linked_for cpu code = image_for cpu (linked code)
 
 -- the refusal is the definition's fault, or want of memory
 abbrev pub FailsAs : LinkKind → List ℕ → Result Image Fault → Type 0

@@ -1,9 +1,10 @@
--- The opcode of an operation in a mode: the table of opcodes read the other way (MCS6500 Programming Manual, appendix B).
+-- The opcode of an operation in a mode: the tables of opcodes read the other way (MCS6500 Programming Manual, appendix B), with
+-- what the 65C02 adds.
 use Rattle.std.specs.Prelude.{ℕ, ◌+◌}
 use Rattle.c65_mach.specs.declared.rows.Op.{Op}
 use Rattle.c65_mach.specs.declared.rows.Op.TheVariants as ops
 use Rattle.c65_mach.specs.declared.rows.Mode.{Mode}
-use Rattle.c65_mach.specs.declared.rows.Mode.TheVariants.{Implied, Accumulator, Immediate, ZeroPage, ZeroPageX, ZeroPageY, Absolute, AbsoluteX, AbsoluteY, IndirectX, IndirectY, Indirect, Relative}
+use Rattle.c65_mach.specs.declared.rows.Mode.TheVariants.{Implied, Accumulator, Immediate, ZeroPage, ZeroPageX, ZeroPageY, Absolute, AbsoluteX, AbsoluteY, IndirectX, IndirectY, Indirect, Relative, ZeroPageIndirect, AbsoluteIndirectX}
 
 -- ADC AND CMP EOR LDA ORA SBC STA
 abbrev pub common_column : Mode → ℕ
@@ -15,6 +16,7 @@ common_column AbsoluteX = 0x1D
 common_column AbsoluteY = 0x19
 common_column IndirectX = 0x01
 common_column IndirectY = 0x11
+common_column ZeroPageIndirect = 0x12
 common_column _ = 0
 
 -- ASL LSR ROL ROR INC DEC
@@ -26,7 +28,12 @@ shift_column Absolute = 0x0E
 shift_column AbsoluteX = 0x1E
 shift_column _ = 0
 
--- LDX LDY STX STY CPX CPY BIT
+-- INC DEC: those of A stand in another column
+abbrev pub counting_opcode : ℕ → ℕ → Mode → ℕ
+counting_opcode row in_a Accumulator = in_a
+counting_opcode row in_a mode = row + shift_column mode
+
+-- LDX LDY STX STY CPX CPY BIT TSB TRB
 abbrev pub index_column : Mode → ℕ
 index_column ZeroPage = 0x04
 index_column ZeroPageX = 0x14
@@ -36,9 +43,22 @@ index_column AbsoluteX = 0x1C
 index_column AbsoluteY = 0x1C
 index_column _ = 0
 
+-- BIT
+abbrev pub bit_opcode : Mode → ℕ
+bit_opcode Immediate = 0x89
+bit_opcode mode = 0x20 + index_column mode
+
+-- STZ
+abbrev pub zero_opcode : Mode → ℕ
+zero_opcode ZeroPage = 0x64
+zero_opcode ZeroPageX = 0x74
+zero_opcode Absolute = 0x9C
+zero_opcode _ = 0x9E
+
 -- JMP
 abbrev pub jump_opcode : Mode → ℕ
 jump_opcode Indirect = 0x6C
+jump_opcode AbsoluteIndirectX = 0x7C
 jump_opcode _ = 0x4C
 
 -- the operations with one mode
@@ -77,6 +97,11 @@ single_opcode ops.Iny = 0xC8
 single_opcode ops.Dex = 0xCA
 single_opcode ops.Dey = 0x88
 single_opcode ops.Nop = 0xEA
+single_opcode ops.Bra = 0x80
+single_opcode ops.Phx = 0xDA
+single_opcode ops.Phy = 0x5A
+single_opcode ops.Plx = 0xFA
+single_opcode ops.Ply = 0x7A
 single_opcode _ = 0
 
 abbrev pub opcode_of : Op → Mode → ℕ
@@ -92,9 +117,12 @@ opcode_of ops.Asl mode = shift_column mode
 opcode_of ops.Rol mode = 0x20 + shift_column mode
 opcode_of ops.Lsr mode = 0x40 + shift_column mode
 opcode_of ops.Ror mode = 0x60 + shift_column mode
-opcode_of ops.Dec mode = 0xC0 + shift_column mode
-opcode_of ops.Inc mode = 0xE0 + shift_column mode
-opcode_of ops.Bit mode = 0x20 + index_column mode
+opcode_of ops.Dec mode = counting_opcode 0xC0 0x3A mode
+opcode_of ops.Inc mode = counting_opcode 0xE0 0x1A mode
+opcode_of ops.Bit mode = bit_opcode mode
+opcode_of ops.Tsb mode = index_column mode
+opcode_of ops.Trb mode = 0x10 + index_column mode
+opcode_of ops.Stz mode = zero_opcode mode
 opcode_of ops.Sty mode = 0x80 + index_column mode
 opcode_of ops.Stx mode = 0x82 + index_column mode
 opcode_of ops.Ldy mode = 0xA0 + index_column mode

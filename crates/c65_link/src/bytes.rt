@@ -19,9 +19,11 @@ fn put_instruction(out: &mut Vec<u8>, op: Op, mode: Mode, word: u16) -> Result<(
     out.push(opcode(op, mode))?;
     match mode {
         Mode::Implied | Mode::Accumulator => Ok(()),
-        Mode::Absolute | Mode::AbsoluteX | Mode::AbsoluteY | Mode::Indirect => {
-            out.extend_from_slice(&[low, high])
-        }
+        Mode::Absolute
+        | Mode::AbsoluteX
+        | Mode::AbsoluteY
+        | Mode::Indirect
+        | Mode::AbsoluteIndirectX => { out.extend_from_slice(&[low, high]) }
         _ => {
             out.push(low)?;
             Ok(())

@@ -13,4 +13,4 @@ mod symbols;
 mod uses;
 
 pub use laws::{calls_go_on, opcodes_are_the_tables, opposites_differ, routines_are_ordered};
-pub use linking::link;
+pub use linking::{link, link_for};

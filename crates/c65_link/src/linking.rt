@@ -2,7 +2,7 @@
 ghost use Rattle.std.specs.Prelude.{◌≡◌, IfOk};
 ghost use Rattle.c65_link.specs.Symbols.{targets_of, main_in, missing_of};
 ghost use Rattle.c65_link.specs.Layouts.{layout_of};
-ghost use Rattle.c65_link.specs.Linked.{entry_of, parts_of, main_address, payload_by, payload_of, fitted, placed, linked, Gives};
+ghost use Rattle.c65_link.specs.Linked.{entry_of, parts_of, main_address, payload_by, payload_of, fitted, placed, linked, linked_for, Gives};
 
 use crate::bytes::{Tables, Written, put_data};
 use crate::layout::Layout;
@@ -135,7 +135,7 @@ fn place(alloc: Global, code: &Code, targets: &[Target]) -> Result<Image, Refusa
     fit(alloc, code, &entry, chosen.parts(), &layout)
 }
 
-/// The image of a code: the start, its functions and the routines that are used, then its data, from $0200 on; zero
+/// The image of a code for the 6502: the start, its functions and the routines that are used, then its data, from $0200 on; zero
 /// data follow behind the file. A symbol `_NAME` of a library function without a body is the routine.
 ///
 /// It refuses `Link` with `Undefined` at the first used symbol without a body, where the start uses main, then
@@ -152,4 +152,14 @@ pub fn link(alloc: Global, code: &Code) -> Result<Image, Refusal>
         });
     }
     place(alloc, code, &targets)
+}
+
+/// The image of a code for a processor: that of `link`, which names this processor. It refuses as `link` does. Where the
+/// code's lines have rows that the 65C02 adds, they are rows of an image for the 65C02 alone.
+pub fn link_for(alloc: Global, code: &Code, cpu: Cpu) -> Result<Image, Refusal>
+    ensures { Gives result (linked_for cpu code.now) }
+{
+    let mut image = link(alloc, code)?;
+    image.cpu = cpu;
+    Ok(image)
 }

@@ -1,7 +1,7 @@
 // Opcodes, and branches that are taken where others are not.
-ghost use Rattle.std.specs.Prelude.{◌≡◌, ◌<◌};
+ghost use Rattle.std.specs.Prelude.{◌≡◌, ◌<◌, ◌+◌, ◌≤◌};
 ghost use Rattle.c65_mach.specs.Step.{size_of};
-ghost use Rattle.c65_link.specs.Opcodes.{common_column, shift_column, index_column, jump_opcode, single_opcode, opcode_of, opposite_of};
+ghost use Rattle.c65_link.specs.Opcodes.{common_column, shift_column, counting_opcode, index_column, bit_opcode, zero_opcode, jump_opcode, single_opcode, opcode_of, opposite_of};
 
 use c65_mach::{Mode, Op};
 
@@ -19,6 +19,7 @@ fn common(mode: Mode) -> u8
         Mode::AbsoluteY => 0x19,
         Mode::IndirectX => 0x01,
         Mode::IndirectY => 0x11,
+        Mode::ZeroPageIndirect => 0x12,
         _ => 0,
     }
 }
@@ -38,7 +39,18 @@ fn shift(mode: Mode) -> u8
     }
 }
 
-// LDX LDY STX STY CPX CPY BIT
+// INC DEC: those of A stand in another column.
+fn counting(row: u8, in_a: u8, mode: Mode) -> u8
+    requires { row ≤ 224 }
+    ensures { result ≡ counting_opcode row in_a mode }
+{
+    match mode {
+        Mode::Accumulator => in_a,
+        _ => row + shift(mode),
+    }
+}
+
+// LDX LDY STX STY CPX CPY BIT TSB TRB
 fn index(mode: Mode) -> u8
     ensures value { result ≡ index_column mode }
     ensures small { result < 29 }
@@ -52,16 +64,39 @@ fn index(mode: Mode) -> u8
     }
 }
 
+// BIT
+fn bit(mode: Mode) -> u8
+    ensures { result ≡ bit_opcode mode }
+{
+    match mode {
+        Mode::Immediate => 0x89,
+        _ => 0x20 + index(mode),
+    }
+}
+
+// STZ
+fn zero(mode: Mode) -> u8
+    ensures { result ≡ zero_opcode mode }
+{
+    match mode {
+        Mode::ZeroPage => 0x64,
+        Mode::ZeroPageX => 0x74,
+        Mode::Absolute => 0x9C,
+        _ => 0x9E,
+    }
+}
+
 fn jump(mode: Mode) -> u8
     ensures { result ≡ jump_opcode mode }
 {
     match mode {
         Mode::Indirect => 0x6C,
+        Mode::AbsoluteIndirectX => 0x7C,
         _ => 0x4C,
     }
 }
 
-/// The opcode of an operation in a mode of the table.
+/// The opcode of an operation in a mode of the tables.
 pub fn opcode(op: Op, mode: Mode) -> u8
     ensures { result ≡ opcode_of op mode }
 {
@@ -78,9 +113,12 @@ pub fn opcode(op: Op, mode: Mode) -> u8
         Op::Rol => 0x20 + shift(mode),
         Op::Lsr => 0x40 + shift(mode),
         Op::Ror => 0x60 + shift(mode),
-        Op::Dec => 0xC0 + shift(mode),
-        Op::Inc => 0xE0 + shift(mode),
-        Op::Bit => 0x20 + index(mode),
+        Op::Dec => counting(0xC0, 0x3A, mode),
+        Op::Inc => counting(0xE0, 0x1A, mode),
+        Op::Bit => bit(mode),
+        Op::Tsb => index(mode),
+        Op::Trb => 0x10 + index(mode),
+        Op::Stz => zero(mode),
         Op::Sty => 0x80 + index(mode),
         Op::Stx => 0x82 + index(mode),
         Op::Ldy => 0xA0 + index(mode),
@@ -131,6 +169,11 @@ fn single(op: Op) -> u8
         Op::Dex => 0xCA,
         Op::Dey => 0x88,
         Op::Nop => 0xEA,
+        Op::Bra => 0x80,
+        Op::Phx => 0xDA,
+        Op::Phy => 0x5A,
+        Op::Plx => 0xFA,
+        Op::Ply => 0x7A,
         _ => 0,
     }
 }
@@ -158,7 +201,8 @@ pub fn mode_size(mode: Mode) -> u64
 {
     match mode {
         Mode::Implied | Mode::Accumulator => 1,
-        Mode::Absolute | Mode::AbsoluteX | Mode::AbsoluteY | Mode::Indirect => 3,
+        Mode::Absolute | Mode::AbsoluteX | Mode::AbsoluteY => 3,
+        Mode::Indirect | Mode::AbsoluteIndirectX => 3,
         _ => 2,
     }
 }
