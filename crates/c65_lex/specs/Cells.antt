@@ -1,5 +1,7 @@
 -- The bytes of a text when its lines are joined (C90 5.1.1.2, phases 1 and 2).
 use Rattle.std.specs.Prelude.{ℕ, ◌+◌, min, List, [], ◌∷◌, map, drop, Bool, false, ◌==◌, ◌&&◌, if◌then◌else◌, nat_le, not}
+use Rattle.c65_base.specs.declared.refusal.Size.TheVariants.{Line}
+use Rattle.c65_base.specs.Limits.{limit_of}
 use Rattle.c65_lex.specs.declared.place.Place.{Place}
 use Rattle.c65_lex.specs.declared.place.Reading.{Reading}
 
@@ -29,7 +31,7 @@ abbrev pub line_after : ℕ → ℕ → ℕ
 line_after b n = if b == 10 then next_line n else n
 
 abbrev pub column_after : ℕ → ℕ → ℕ
-column_after b k = if b == 10 then 0 else min (k + 1) 32768
+column_after b k = if b == 10 then 0 else min (k + 1) (limit_of Line + 1)
 
 -- the end of a text ends its last line: a line that lacks its line feed is given one there
 abbrev pub last_line_end : ℕ → ℕ → List Cell
@@ -60,4 +62,4 @@ cell_of r = record { byte = r.byte; line = r.line; column = r.column }
 
 -- a line holds at most 32,767 bytes before its line feed
 abbrev pub is_long : Cell → Bool
-is_long c = not (c.byte == 10) && nat_le 32767 c.column
+is_long c = not (c.byte == 10) && nat_le (limit_of Line) c.column

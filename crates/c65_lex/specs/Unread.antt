@@ -1,8 +1,9 @@
 -- What the lexer answers to what comes next in its text.
-use Rattle.std.specs.Prelude.{◌≡◌, ◌<◌, ◌⊎◌, ℕ, List, length, slice_get, Option, Some, None, Result, Ok, Err, Bool}
+use Rattle.std.specs.Prelude.{◌≡◌, ◌<◌, ◌+◌, ◌⊎◌, ℕ, List, length, slice_get, Option, Some, None, Result, Ok, Err, Bool}
 use Rattle.c65_base.specs.declared.refusal.Refusal.{Refusal}
 use Rattle.c65_base.specs.declared.refusal.Refusal.TheVariants.{OutOfMemory, At, TooLarge}
-use Rattle.c65_base.specs.declared.refusal.Size.TheVariants.{Line}
+use Rattle.c65_base.specs.declared.refusal.Size.TheVariants.{Line, Names}
+use Rattle.c65_base.specs.Limits.{limit_of}
 use Rattle.c65_base.specs.declared.code.Code.TheVariants.{OpenComment}
 use Rattle.c65_base.specs.Names.{name_of, with_spelling, Lacks, RefusesName}
 use Rattle.c65_lex.specs.declared.token.PpKind.{PpKind}
@@ -28,7 +29,7 @@ pub record IsGiven (old : Unread) (names : List (List ℕ)) (kind : PpKind) (spe
   pub line_is : given.pos.line ≡ line
   pub space_is : given.space ≡ space
   pub names_are : after ≡ with_spelling names spelling
-  pub room : Lacks names spelling → length names < 65535
+  pub room : Lacks names spelling → length names < limit_of Names
   pub left : new ≡ record { file = old.file; cells = rest }
 
 -- nothing has changed
@@ -45,7 +46,7 @@ AnswersToken old names kind spelling line space rest (Err refusal) new after = (
 abbrev pub Answers : Unread → List (List ℕ) → Next → Result (Option PpToken) Refusal → Unread → List (List ℕ) → Type 0
 Answers old names ended result' new after = (result' ≡ Ok None) × IsKept old names new after
 Answers old names (open_comment line) result' new after = (result' ≡ Err (At OpenComment (record { file = old.file; line = line }))) × IsKept old names new after
-Answers old names long_line result' new after = ((result' ≡ Err (TooLarge Line 32768)) ⊎ (result' ≡ Err OutOfMemory)) × IsKept old names new after
+Answers old names long_line result' new after = ((result' ≡ Err (TooLarge Line (limit_of Line + 1))) ⊎ (result' ≡ Err OutOfMemory)) × IsKept old names new after
 Answers old names (token kind spelling line space rest) result' new after = AnswersToken old names kind spelling line space rest result' new after
 
 -- the answer to what comes next

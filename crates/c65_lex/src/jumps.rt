@@ -4,7 +4,7 @@ ghost use Rattle.c65_lex.specs.Cells.{ahead};
 ghost use Rattle.c65_lex.specs.Blanks.{past_line, past_comment};
 ghost use Rattle.c65_lex.specs.Jumps.{are_plain};
 
-use crate::place::Place;
+use crate::place::{LONGEST_LINE, Place};
 use memchr::{memchr, memchr2};
 
 /// How many bytes there are before the first line feed.
@@ -33,11 +33,11 @@ fn before_star(rest: &[u8]) -> usize
 pub fn over_line(text: &[u8], from: Place) -> Place
     ensures { past_line (ahead text.now result) ≡ past_line (ahead text.now from) }
 {
-    if from.at >= text.len() || from.column > 32_767 {
+    if from.at >= text.len() || from.column > LONGEST_LINE {
         return from;
     }
     let count = before_line_end(&text[from.at..]);
-    if count < 2 || count > 32_767 - from.column as usize {
+    if count < 2 || count > (LONGEST_LINE - from.column) as usize {
         return from;
     }
     Place {
@@ -51,11 +51,11 @@ pub fn over_line(text: &[u8], from: Place) -> Place
 pub fn over_comment(text: &[u8], from: Place) -> Place
     ensures { past_comment false (ahead text.now result) ≡ past_comment false (ahead text.now from) }
 {
-    if from.at >= text.len() || from.column > 32_767 {
+    if from.at >= text.len() || from.column > LONGEST_LINE {
         return from;
     }
     let count = before_star(&text[from.at..]);
-    if count < 2 || count > 32_767 - from.column as usize {
+    if count < 2 || count > (LONGEST_LINE - from.column) as usize {
         return from;
     }
     Place {

@@ -84,7 +84,7 @@ impl Lexer {
             }),
             Scanned::TooLong => Err(Refusal::TooLarge {
                 limit: Size::Line,
-                value: 32_768,
+                value: Size::Line.number() + 1,
             }),
             Scanned::Token(spelled) => {
                 let Spelled {

@@ -3,6 +3,7 @@
 
 mod blanks;
 mod classes;
+mod define;
 mod jumps;
 mod lengths;
 mod lexer;
@@ -13,6 +14,7 @@ mod spelling;
 mod tests;
 mod token;
 
+pub use define::Define;
 pub use lexer::Lexer;
 pub use spelling::class_of;
 pub use token::{Paths, PpKind, PpToken, PpTokens, PpUnit};

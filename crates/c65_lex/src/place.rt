@@ -3,6 +3,9 @@ ghost use Rattle.std.specs.Prelude.{◌≡◌, ◌≤◌, ◌<◌, ◌+◌, [], 
 ghost use Rattle.c65_lex.specs.Cells.{ahead, cell_of, joint, next_line, is_long};
 ghost use Rattle.c65_lex.specs.Cells;
 
+/// How many bytes a line may have, as the definitions have it of `Size::Line`.
+pub const LONGEST_LINE: u32 = 32_767;
+
 /// A place: a byte of the text, its line, and how many bytes of the joined line stand before it.
 #[derive(Clone, Copy)]
 pub struct Place {
@@ -41,10 +44,10 @@ fn column_after(byte: u8, column: u32) -> u32
 {
     if byte == b'\n' {
         0
-    } else if column < 32768 {
+    } else if column <= LONGEST_LINE {
         column + 1
     } else {
-        32768
+        LONGEST_LINE + 1
     }
 }
 
@@ -163,5 +166,5 @@ pub fn read(text: &[u8], place: Place) -> Option<Reading>
 pub fn is_beyond(reading: Reading) -> bool
     ensures { result ≡ is_long (cell_of reading) }
 {
-    reading.byte != b'\n' && reading.column >= 32767
+    reading.byte != b'\n' && reading.column >= LONGEST_LINE
 }

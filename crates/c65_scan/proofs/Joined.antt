@@ -5,6 +5,7 @@ use Rattle.c65_base.specs.declared.refusal.Pos.{Pos}
 use Rattle.c65_base.specs.declared.refusal.Size.TheVariants.{Literal}
 use Rattle.c65_base.specs.declared.refusal.Refusal.{Refusal}
 use Rattle.c65_base.specs.declared.refusal.Refusal.TheVariants as refusals
+use Rattle.c65_base.specs.Limits.{limit_of}
 use Rattle.c65_base.specs.Answers.{Fault, large, ◌>>=◌, Fails}
 use Rattle.c65_lex.specs.declared.token.PpToken.{PpToken}
 use Rattle.c65_scan.specs.declared.scanner.Scanned.{Scanned}
@@ -32,9 +33,9 @@ gathered : (s : Scanned) (vs : List (Value × Pos)) → run s vs ≡ prefixed s.
 gathered s [] = ap Ok (flushed_before s.tokens (record { kind = tokens.End; pos = s.last } ∷ []) s.waiting)
 gathered s ((values.Skip, p) ∷ vs) = gathered s vs
 gathered s ((values.Fault code, p) ∷ vs) = refl
-gathered s ((values.Piece bytes, p) ∷ vs) = tested (gathered (record s { waiting = Some (literal s.waiting bytes p); last = (literal s.waiting bytes p).pos }) vs) (nat_le (length (literal s.waiting bytes p).bytes) 4095)
+gathered s ((values.Piece bytes, p) ∷ vs) = tested (gathered (record s { waiting = Some (literal s.waiting bytes p); last = (literal s.waiting bytes p).pos }) vs) (nat_le (length (literal s.waiting bytes p).bytes) (limit_of Literal))
   where
-    tested : run (record s { waiting = Some (literal s.waiting bytes p); last = (literal s.waiting bytes p).pos }) vs ≡ prefixed s.tokens (joined (Some (literal s.waiting bytes p)) (literal s.waiting bytes p).pos vs) → (b : Bool) → ((if b then Ok (record s { waiting = Some (literal s.waiting bytes p); last = (literal s.waiting bytes p).pos }) else Err (large Literal 4096)) >>= (λ q. run q vs)) ≡ prefixed s.tokens (if b then joined (Some (literal s.waiting bytes p)) (literal s.waiting bytes p).pos vs else Err (large Literal 4096))
+    tested : run (record s { waiting = Some (literal s.waiting bytes p); last = (literal s.waiting bytes p).pos }) vs ≡ prefixed s.tokens (joined (Some (literal s.waiting bytes p)) (literal s.waiting bytes p).pos vs) → (b : Bool) → ((if b then Ok (record s { waiting = Some (literal s.waiting bytes p); last = (literal s.waiting bytes p).pos }) else Err (large Literal (limit_of Literal + 1))) >>= (λ q. run q vs)) ≡ prefixed s.tokens (if b then joined (Some (literal s.waiting bytes p)) (literal s.waiting bytes p).pos vs else Err (large Literal (limit_of Literal + 1)))
     tested rest true = rest
     tested rest false = refl
 gathered s ((values.Whole kind, p) ∷ vs) = gathered (with_token s kind p) vs ∙ put_before s.tokens s.waiting (record { kind = kind; pos = p }) (joined None p vs)

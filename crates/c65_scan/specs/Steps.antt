@@ -1,8 +1,9 @@
 -- The tokens of a unit, gathered one after another.
-use Rattle.std.specs.Prelude.{nat_le, if◌then◌else◌, List, [], ◌∷◌, ◌++◌, length, Some, None, Result, Ok, Err}
+use Rattle.std.specs.Prelude.{◌+◌, nat_le, if◌then◌else◌, List, [], ◌∷◌, ◌++◌, length, Some, None, Result, Ok, Err}
 use Rattle.c65_base.specs.declared.refusal.Pos.{Pos}
 use Rattle.c65_base.specs.declared.refusal.Size.TheVariants.{Literal}
 use Rattle.c65_base.specs.Answers.{Fault, at, large, ◌>>=◌}
+use Rattle.c65_base.specs.Limits.{limit_of}
 use Rattle.c65_scan.specs.declared.scanner.Scanned.{Scanned}
 use Rattle.c65_scan.specs.declared.scanner.Waiting.{Waiting}
 use Rattle.c65_scan.specs.declared.token.Token.{Token}
@@ -17,7 +18,7 @@ abbrev pub flushed : Scanned → List Token
 flushed s = s.tokens ++ before s.waiting []
 
 abbrev pub waits : Scanned → Waiting → Result Scanned Fault
-waits s w = if nat_le (length w.bytes) 4095 then Ok (record s { waiting = Some w; last = w.pos }) else Err (large Literal 4096)
+waits s w = if nat_le (length w.bytes) (limit_of Literal) then Ok (record s { waiting = Some w; last = w.pos }) else Err (large Literal (limit_of Literal + 1))
 
 abbrev pub with_token : Scanned → TokenKind → Pos → Scanned
 with_token s kind p = record { tokens = flushed s ++ (record { kind = kind; pos = p } ∷ []); waiting = None; last = p }

@@ -1,11 +1,12 @@
 -- The tokens of a unit (C90 6.1): a class and a value for each preprocessing token, then adjacent literals joined.
-use Rattle.std.specs.Prelude.{ℕ, ◌==◌, ◌||◌, nat_le, if◌then◌else◌, List, [], ◌∷◌, ◌++◌, map, length, slice_get, slice_index_or, Option, Some, None, unwrap_or, Result, Ok, Err}
+use Rattle.std.specs.Prelude.{ℕ, ◌+◌, ◌==◌, ◌||◌, nat_le, if◌then◌else◌, List, [], ◌∷◌, ◌++◌, map, length, slice_get, slice_index_or, Option, Some, None, unwrap_or, Result, Ok, Err}
 use Rattle.c65_base.specs.declared.code.Code.{Code}
 use Rattle.c65_base.specs.declared.code.Code.TheVariants.{StrayByte, OpenLiteral, BadEscape, Wide}
 use Rattle.c65_base.specs.declared.names.Name.{Name}
 use Rattle.c65_base.specs.declared.refusal.Pos.{Pos}
 use Rattle.c65_base.specs.declared.refusal.Size.TheVariants.{Literal}
 use Rattle.c65_base.specs.Answers.{Fault, at, large}
+use Rattle.c65_base.specs.Limits.{limit_of}
 use Rattle.c65_ints.specs.declared.types.IntType.{IntType}
 use Rattle.c65_ints.specs.declared.types.IntType.TheVariants.{Int}
 use Rattle.c65_lex.specs.declared.token.PpKind.{PpKind}
@@ -84,7 +85,7 @@ abbrev pub joined : Option Waiting → Pos → List (Value × Pos) → Result (L
 joined w last [] = Ok (before w (record { kind = tokens.End; pos = last } ∷ []))
 joined w last ((values.Skip, p) ∷ vs) = joined w last vs
 joined w last ((values.Fault code, p) ∷ vs) = Err (at code p)
-joined w last ((values.Piece bytes, p) ∷ vs) = if nat_le (length (literal w bytes p).bytes) 4095 then joined (Some (literal w bytes p)) (literal w bytes p).pos vs else Err (large Literal 4096)
+joined w last ((values.Piece bytes, p) ∷ vs) = if nat_le (length (literal w bytes p).bytes) (limit_of Literal) then joined (Some (literal w bytes p)) (literal w bytes p).pos vs else Err (large Literal (limit_of Literal + 1))
 joined w last ((values.Whole kind, p) ∷ vs) = then_token w (record { kind = kind; pos = p }) (joined None p vs)
 
 -- line 1 of the first file

@@ -71,10 +71,10 @@ impl Scanned {
         ensures { Gives (λ _. self.new) result (waits self.old (literal self.old.waiting bytes pos)) }
     {
         let waiting = join(self.waiting.take(), bytes, pos)?;
-        if waiting.bytes.len() > 4_095 {
+        if waiting.bytes.len() as u64 > Size::Literal.number() {
             return Err(Refusal::TooLarge {
                 limit: Size::Literal,
-                value: 4_096,
+                value: Size::Literal.number() + 1,
             });
         }
         self.last = waiting.pos;
