@@ -6,7 +6,7 @@ use Rattle.c65_mach.specs.Step.{Kind, Reads, Stores, Changes, Branches, Register
 use Rattle.c65_mach.specs.declared.rows.Op.{Op}
 use Rattle.c65_mach.specs.declared.rows.Op.TheVariants as ops
 use Rattle.c65_mach.specs.declared.rows.Mode.{Mode}
-use Rattle.c65_mach.specs.declared.rows.Mode.TheVariants.{Implied, Accumulator, Immediate, ZeroPage, ZeroPageX, ZeroPageY, Absolute, AbsoluteX, AbsoluteY, IndirectX, IndirectY, Indirect, Relative}
+use Rattle.c65_mach.specs.declared.rows.Mode.TheVariants.{Implied, Accumulator, Immediate, ZeroPage, ZeroPageX, ZeroPageY, Absolute, AbsoluteX, AbsoluteY, IndirectX, IndirectY, Indirect, Relative, ZeroPageIndirect, AbsoluteIndirectX}
 use Rattle.c65_code.specs.declared.parts.Part.TheVariants.{Zp}
 use Rattle.c65_code.specs.declared.parts.RegSet.{RegSet}
 use Rattle.c65_code.specs.declared.routine.Width.{Width}
@@ -84,6 +84,8 @@ elsewhere place IndirectX operand t h = tt
 elsewhere place IndirectY operand t h = tt
 elsewhere place Indirect operand t h = tt
 elsewhere place Relative operand t h = tt
+elsewhere place ZeroPageIndirect operand t h = tt
+elsewhere place AbsoluteIndirectX operand t h = tt
 
 changed_bank : (op : Op) (r : Ref) (t : State) → IsElsewhere r → bank_of (let to = changed op (value_at r t) t.regs in put r to.0 (record t { regs = record (signed to.0 t.regs) { c = to.1 } })) ≡ bank_of t
 changed_bank op r t ok = let to = changed op (value_at r t) t.regs in put_bank r to.0 (record t { regs = record (signed to.0 t.regs) { c = to.1 } }) ok
@@ -102,6 +104,8 @@ change_bank op IndirectX w t ok = changed_bank op (ref_of IndirectX w t) t ok
 change_bank op IndirectY w t ok = changed_bank op (ref_of IndirectY w t) t ok
 change_bank op Indirect w t ok = changed_bank op (ref_of Indirect w t) t ok
 change_bank op Relative w t ok = changed_bank op (ref_of Relative w t) t ok
+change_bank op ZeroPageIndirect w t ok = changed_bank op (ref_of ZeroPageIndirect w t) t ok
+change_bank op AbsoluteIndirectX w t ok = changed_bank op (ref_of AbsoluteIndirectX w t) t ok
 
 effect_bank : (place : Placement) (kind : Kind) (op : Op) (mode : Mode) (operand : Operand) (t : State) → (not (is_written kind) || lies_outside mode operand) ≡ true → bank_of (effect kind op mode (word_of place operand) t) ≡ bank_of t
 effect_bank place Reads op mode operand t h = refl

@@ -7,7 +7,7 @@ use Rattle.c65_mach.specs.Step.{Kind, Reads, Stores, Changes, Branches, Register
 use Rattle.c65_mach.specs.declared.rows.Op.{Op}
 use Rattle.c65_mach.specs.declared.rows.Op.TheVariants as ops
 use Rattle.c65_mach.specs.declared.rows.Mode.{Mode}
-use Rattle.c65_mach.specs.declared.rows.Mode.TheVariants.{Implied, Accumulator, Immediate, ZeroPage, ZeroPageX, ZeroPageY, Absolute, AbsoluteX, AbsoluteY, IndirectX, IndirectY, Indirect, Relative}
+use Rattle.c65_mach.specs.declared.rows.Mode.TheVariants.{Implied, Accumulator, Immediate, ZeroPage, ZeroPageX, ZeroPageY, Absolute, AbsoluteX, AbsoluteY, IndirectX, IndirectY, Indirect, Relative, ZeroPageIndirect, AbsoluteIndirectX}
 use Rattle.c65_code.specs.declared.routine.Routine.{Routine}
 use Rattle.c65_code.specs.declared.line.Operand.{Operand}
 use Rattle.c65_code.specs.declared.line.Operand.TheVariants.{Nothing, Byte, Low, High, Zero, At, To}
@@ -61,6 +61,8 @@ change_sp place op IndirectX w t ok = changed_sp place op (ref_of IndirectX w t)
 change_sp place op IndirectY w t ok = changed_sp place op (ref_of IndirectY w t) t ok
 change_sp place op Indirect w t ok = changed_sp place op (ref_of Indirect w t) t ok
 change_sp place op Relative w t ok = changed_sp place op (ref_of Relative w t) t ok
+change_sp place op ZeroPageIndirect w t ok = changed_sp place op (ref_of ZeroPageIndirect w t) t ok
+change_sp place op AbsoluteIndirectX w t ok = changed_sp place op (ref_of AbsoluteIndirectX w t) t ok
 
 effect_sp : (place : Placement) (kind : Kind) (op : Op) (mode : Mode) (w : ℕ) (t : State) → IsAllowed place kind (ref_of mode w t) t → sp_of (effect kind op mode w t) ≡ sp_of t
 effect_sp place Reads op mode w t ok = refl

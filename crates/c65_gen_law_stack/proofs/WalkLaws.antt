@@ -3,7 +3,7 @@ use Rattle.std.proofs.Common.{◌≡◌, ℕ, suc, ◌+◌, ◌≤◌, Option, S
 use Rattle.c65_mach.specs.Step.{Kind, Reads, Stores, Changes, Branches, Registers, Moves as Moving, kind_of, changed, stored, signed}
 use Rattle.c65_mach.specs.declared.rows.Op.{Op}
 use Rattle.c65_mach.specs.declared.rows.Mode.{Mode}
-use Rattle.c65_mach.specs.declared.rows.Mode.TheVariants.{Implied, Accumulator, Immediate, ZeroPage, ZeroPageX, ZeroPageY, Absolute, AbsoluteX, AbsoluteY, IndirectX, IndirectY, Indirect, Relative}
+use Rattle.c65_mach.specs.declared.rows.Mode.TheVariants.{Implied, Accumulator, Immediate, ZeroPage, ZeroPageX, ZeroPageY, Absolute, AbsoluteX, AbsoluteY, IndirectX, IndirectY, Indirect, Relative, ZeroPageIndirect, AbsoluteIndirectX}
 use Rattle.c65_code.specs.declared.parts.RegSet.{RegSet}
 use Rattle.c65_code.specs.declared.line.Line.{Line}
 use Rattle.c65_code.specs.LineState.{Place, Frame, State, sp_of}
@@ -48,6 +48,8 @@ change_frames op IndirectX w t = changed_frames op (ref_of IndirectX w t) t
 change_frames op IndirectY w t = changed_frames op (ref_of IndirectY w t) t
 change_frames op Indirect w t = changed_frames op (ref_of Indirect w t) t
 change_frames op Relative w t = changed_frames op (ref_of Relative w t) t
+change_frames op ZeroPageIndirect w t = changed_frames op (ref_of ZeroPageIndirect w t) t
+change_frames op AbsoluteIndirectX w t = changed_frames op (ref_of AbsoluteIndirectX w t) t
 
 effect_frames : (kind : Kind) (op : Op) (mode : Mode) (w : ℕ) (t : State) → (effect kind op mode w t).frames ≡ t.frames
 effect_frames Reads op mode w t = refl
