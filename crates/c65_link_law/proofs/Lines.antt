@@ -5,7 +5,7 @@ use Rattle.std.proofs.lemmas.Bool.{and_parts}
 use Rattle.indexmap.specs.IndexMap.{insert_entry}
 use Rattle.c65_mach.specs.declared.rows.Op.{Op}
 use Rattle.c65_mach.specs.declared.rows.Mode.{Mode}
-use Rattle.c65_mach.specs.declared.rows.Mode.TheVariants.{Implied, Accumulator, Immediate, ZeroPage, ZeroPageX, ZeroPageY, Absolute, AbsoluteX, AbsoluteY, IndirectX, IndirectY, Indirect, Relative}
+use Rattle.c65_mach.specs.declared.rows.Mode.TheVariants.{Implied, Accumulator, Immediate, ZeroPage, ZeroPageX, ZeroPageY, Absolute, AbsoluteX, AbsoluteY, IndirectX, IndirectY, Indirect, Relative, ZeroPageIndirect, AbsoluteIndirectX}
 use Rattle.c65_mach.specs.Step.{size_of, branched}
 use Rattle.c65_code.specs.declared.line.Operand.{Operand}
 use Rattle.c65_code.specs.declared.line.Operand.TheVariants.{Nothing, Byte, Low, High, Zero, At, To}
@@ -263,6 +263,12 @@ do_coded IndirectY operand m spot all labels near size at op lines h stands =
 do_coded Indirect operand m spot all labels near size at op lines h stands =
     let s : Next (left spot near size) at (Do op Indirect operand) lines = next (left spot near size) at (Do op Indirect operand) lines h.size_most h.small in
     plain_coded m spot (spot.base + size) _ op Indirect operand (low_operand spot all labels near size at op Indirect operand lines h) (omega (arith, s.near_is)) stands
+do_coded ZeroPageIndirect operand m spot all labels near size at op lines h stands =
+    let s : Next (left spot near size) at (Do op ZeroPageIndirect operand) lines = next (left spot near size) at (Do op ZeroPageIndirect operand) lines h.size_most h.small in
+    plain_coded m spot (spot.base + size) _ op ZeroPageIndirect operand (low_operand spot all labels near size at op ZeroPageIndirect operand lines h) (omega (arith, s.near_is)) stands
+do_coded AbsoluteIndirectX operand m spot all labels near size at op lines h stands =
+    let s : Next (left spot near size) at (Do op AbsoluteIndirectX operand) lines = next (left spot near size) at (Do op AbsoluteIndirectX operand) lines h.size_most h.small in
+    plain_coded m spot (spot.base + size) _ op AbsoluteIndirectX operand (low_operand spot all labels near size at op AbsoluteIndirectX operand lines h) (omega (arith, s.near_is)) stands
 do_coded Relative (To l) m spot all labels near size at op lines h stands = relative_coded m spot all labels near size at l op lines h stands
 do_coded Relative Nothing m spot all labels near size at op lines h stands = no_branch op Nothing refl (and_parts (is_fit (Do op Relative Nothing)) (list_all is_fit lines) h.fit).0
 do_coded Relative (Byte v) m spot all labels near size at op lines h stands = no_branch op (Byte v) refl (and_parts (is_fit (Do op Relative (Byte v))) (list_all is_fit lines) h.fit).0

@@ -2,7 +2,7 @@
 use Rattle.std.proofs.Common.{◌≡◌, ℕ, ◌+◌, ◌-◌, ◌*◌, ◌≤◌, ◌^◌, ◌%◌, Bool, true, false, List, [], ◌∷◌, length, refl, arith}
 use Rattle.c65_mach.specs.declared.rows.Op.{Op}
 use Rattle.c65_mach.specs.declared.rows.Mode.{Mode}
-use Rattle.c65_mach.specs.declared.rows.Mode.TheVariants.{Implied, Accumulator, Immediate, ZeroPage, ZeroPageX, ZeroPageY, Absolute, AbsoluteX, AbsoluteY, IndirectX, IndirectY, Indirect, Relative}
+use Rattle.c65_mach.specs.declared.rows.Mode.TheVariants.{Implied, Accumulator, Immediate, ZeroPage, ZeroPageX, ZeroPageY, Absolute, AbsoluteX, AbsoluteY, IndirectX, IndirectY, Indirect, Relative, ZeroPageIndirect, AbsoluteIndirectX}
 use Rattle.c65_code.specs.declared.line.Operand.{Operand}
 use Rattle.c65_code.specs.declared.line.Line.{Line}
 use Rattle.c65_code.specs.declared.line.Line.TheVariants.{Label, Do, Call}
@@ -45,6 +45,8 @@ mode_sized far at AbsoluteY operand = same_sized 3 (omega arith)
 mode_sized far at IndirectX operand = same_sized 2 (omega arith)
 mode_sized far at IndirectY operand = same_sized 2 (omega arith)
 mode_sized far at Indirect operand = same_sized 3 (omega arith)
+mode_sized far at ZeroPageIndirect operand = same_sized 2 (omega arith)
+mode_sized far at AbsoluteIndirectX operand = same_sized 3 (omega arith)
 mode_sized far at Relative operand = branch_sized (reaches at (offset_of far (target_of operand)))
 
 pub line_sized : (far : Labels) (at : ℕ) (line : Line) → IsSized (line_size far at line) (far_size line)
@@ -71,6 +73,8 @@ do_length spot at near op AbsoluteY operand = refl
 do_length spot at near op IndirectX operand = refl
 do_length spot at near op IndirectY operand = refl
 do_length spot at near op Indirect operand = refl
+do_length spot at near op ZeroPageIndirect operand = refl
+do_length spot at near op AbsoluteIndirectX operand = refl
 do_length spot at near op Relative operand = branch_length (reaches at (offset_of spot.body.far (target_of operand))) op ((spot.base + near) % 65536) ((spot.base + offset_of spot.body.near (target_of operand)) % 65536)
 
 pub line_length : (spot : Spot) (at near : ℕ) (line : Line) → length (line_bytes spot (record { far = at; near = near }) line) ≡ line_size spot.body.far at line
