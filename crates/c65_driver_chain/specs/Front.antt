@@ -21,6 +21,7 @@ use Rattle.c65_init.specs.Units.{unit_in}
 use Rattle.c65_init_join.specs.Answers.{JoinFault}
 use Rattle.c65_init_join.specs.Joined.{joined}
 use Rattle.c65_csem_names.specs.Programs.{IsScopedProgram}
+use Rattle.c65_csem_plain.specs.Plain.{IsPlain}
 use Rattle.c65_code.specs.declared.code.Code.{Code}
 use Rattle.c65_genstmt.specs.Programs.{program_of}
 
@@ -65,14 +66,15 @@ abbrev pub joining : {A : Type 0} → Result A JoinFault → Answers A
 joining (Ok x) = just (Ok x)
 joining (Err f) = just (Err (refusals.Link f.kind f.name))
 
--- what each program of the front meets
-pub record IsGood (program : UnitTy) (main : ℕ) : Type 0 where
+-- what each program of the front meets, whose names are in this table
+pub record IsGood (names : List (List ℕ)) (program : UnitTy) (main : ℕ) : Type 0 where
   pub well_typed : IsProgram program main
   pub scoped : IsScopedProgram program main
+  pub plain : IsPlain names program main
 
 -- the code of a program that is made of such parts, or the refusal of a frame
 abbrev pub generated : Options → List (List ℕ) → UnitTy × ℕ → Answers Code
-generated o names p z = (parts : Parts) × (unit_of parts ≡ p.0) × IsGood p.0 p.1 × of (program_of parts p.1 names o.register_vars) z
+generated o names p z = (parts : Parts) × (unit_of parts ≡ p.0) × IsGood names p.0 p.1 × of (program_of parts p.1 names o.register_vars) z
 
 abbrev pub linked : Options → List UnitTy → List (List ℕ) → Answers Code
 linked o units names = joining (joined names units) then generated o names

@@ -14,6 +14,7 @@ use c65_base::{Names, Options, Refusal, Size, Text};
 use c65_code::Code;
 use c65_csem::TUnit;
 use c65_csem_names::is_scoped;
+use c65_csem_plain::is_plain;
 use c65_genstmt::gen_program;
 use c65_init_join::join;
 use c65_io::Files;
@@ -48,7 +49,7 @@ fn typed_units<F: Files>(
     Ok(units)
 }
 
-/// The code of the program that units are. Its names are in scope, as in all that typing makes: where
+/// The code of the program that units are. Its names are in scope and it is plain, as is all that typing makes: where
 /// the test of this fails, want of memory stands.
 fn code_of(
     alloc: Global,
@@ -63,6 +64,9 @@ fn code_of(
         Err(refusal) => return Err(refusal),
     };
     let Ok(true) = is_scoped(alloc, &program) else {
+        return Err(Refusal::OutOfMemory);
+    };
+    let Ok(true) = is_plain(alloc, &program, names) else {
         return Err(Refusal::OutOfMemory);
     };
     gen_program(alloc, &program, names, options)
