@@ -1,5 +1,6 @@
 -- What `build` answers.
 use Rattle.std.proofs.Common.{◌≡◌, ℕ, ◌≤◌, List, length, None, Some, Option, Result, Ok, Err, sym, subst, refl, ◌∙◌, arith}
+use Rattle.c65_base.specs.declared.options.Cpu.{Cpu}
 use Rattle.c65_base.specs.declared.refusal.Refusal.{Refusal}
 use Rattle.c65_base.specs.declared.refusal.Refusal.TheVariants.{OutOfMemory, ReadFault, WriteFault}
 use Rattle.c65_code.specs.declared.code.Code.{Code}
@@ -29,7 +30,7 @@ no_write : (n n' : ℕ) (r : Refusal) → StopsChain r → n' ≡ n → WriteCau
 no_write n n' WriteFault stops same = absurd stops
 no_write n n' r stops same = same
 
-stopped : (command : Spelled) (old new : FilesSide) (code : Option Code) (r : Refusal) → Compiles command.folders command.files old new code (Err r) → IsOfSources {T = Image} command old.contents code (Err r)
+stopped : (command : Spelled) (old new : FilesSide) (code : Option Code) (r : Refusal) → Compiles command.options.cpu command.folders command.files old new code (Err r) → IsOfSources {T = Image} command old.contents code (Err r)
     → Builds command old new code None (Err r)
 stopped command old new code r stops sources = record {
   served = stop_served r stops.refused;
@@ -40,12 +41,12 @@ stopped command old new code r stops sources = record {
   with_image = tt;
   contents = stops.same;
   from_text = stops.from_text;
-  from_code = linked_stop code r stops.from_code;
+  from_code = linked_stop command.options.cpu code r stops.from_code;
   from_files = sources_stop Image ℕ command old.contents code r sources;
 }
 
 pub builds_stop : (command : Spelled) (old new : FilesSide) (code : Option Code) (image : Option Image) (r : Refusal) → image ≡ None
-    → Compiles command.folders command.files old new code (Err r) → IsOfSources {T = Image} command old.contents code (Err r) → Builds command old new code image (Err r)
+    → Compiles command.options.cpu command.folders command.files old new code (Err r) → IsOfSources {T = Image} command old.contents code (Err r) → Builds command old new code image (Err r)
 builds_stop command old new code image r none stops sources =
     subst (λ (made : Option Image). Builds command old new code made (Err r)) (sym none) (stopped command old new code r stops sources)
 
@@ -73,12 +74,12 @@ wrote_headers folders m m' (Err OutOfMemory) le served = le
 wrote_headers folders m m' (Err WriteFault) le served = le
 wrote_headers folders m m' (Err r) le served = absurd served
 
-pub linked_wrote : (code : Option Code) (image : Image) (r : Result ℕ Refusal) → LinkedBy code (Ok image) → IsLinked code (Some image) r
-linked_wrote None image r by = absurd by
-linked_wrote (Some code) image r by = by
+pub linked_wrote : (cpu : Cpu) (code : Option Code) (image : Image) (r : Result ℕ Refusal) → LinkedBy cpu code (Ok image) → IsLinked cpu code (Some image) r
+linked_wrote cpu None image r by = absurd by
+linked_wrote cpu (Some code) image r by = by
 
 pub builds_wrote : (command : Spelled) (old mid new : FilesSide) (code : Option Code) (image : Image) (path : List ℕ) (r : Result ℕ Refusal)
-    → path ≡ output_of command.out → Compiles command.folders command.files old mid code (Ok image) → IsOfSources command old.contents code (Ok image) → WritesImage path (bytes_of image) mid new r
+    → path ≡ output_of command.out → Compiles command.options.cpu command.folders command.files old mid code (Ok image) → IsOfSources command old.contents code (Ok image) → WritesImage path (bytes_of image) mid new r
     → Builds command old new code (Some image) r
 builds_wrote command old mid new code image path r is made sources wrote = record {
   served = wrote_served r wrote.served;
@@ -90,7 +91,7 @@ builds_wrote command old mid new code image path r is made sources wrote = recor
   contents = subst (λ (held : Contents). WritesBytes (output_of command.out) (bytes_of image) held new.contents r) made.same
       (subst (λ (p : List ℕ). WritesBytes p (bytes_of image) mid.contents new.contents r) is wrote.contents);
   from_text = made.from_text;
-  from_code = linked_wrote code image r made.from_code;
+  from_code = linked_wrote command.options.cpu code image r made.from_code;
   from_files = sources_go Image ℕ command old.contents code image r sources;
 }
 

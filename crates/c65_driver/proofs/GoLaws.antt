@@ -1,5 +1,6 @@
 -- What `go` answers, before and after the run of its image.
 use Rattle.std.proofs.Common.{◌≡◌, ℕ, ◌≤◌, ◌<◌, inl, inr, List, length, None, Some, Option, Result, Ok, Err, true, sym, subst, refl, arith}
+use Rattle.c65_base.specs.declared.options.Cpu.{Cpu}
 use Rattle.c65_base.specs.declared.refusal.Refusal.{Refusal}
 use Rattle.c65_base.specs.declared.refusal.Refusal.TheVariants.{OutOfMemory, Missing, ReadFault, WriteFault, Source, TooLarge, BadImage, Link, HardStack, Limit, Illegal}
 use Rattle.c65_base.specs.declared.refusal.Size.{Size}
@@ -55,12 +56,12 @@ no_write : (n : ℕ) (r : Refusal) → StopsChain r → WriteCause {T = ℕ} n n
 no_write n WriteFault stops = absurd stops
 no_write n r stops = refl
 
-pub linked_stop : (code : Option Code) (r : Refusal) → LinkedBy code (Err r) → IsLinked code None (Err r)
-linked_stop None r by = tt
-linked_stop (Some code) r by = by
+pub linked_stop : (cpu : Cpu) (code : Option Code) (r : Refusal) → LinkedBy cpu code (Err r) → IsLinked cpu code None (Err r)
+linked_stop cpu None r by = tt
+linked_stop cpu (Some code) r by = by
 
 stopped : (command : Spelled) (old new : FilesSide) (l w : Option (List ℕ)) (i o : ℕ) (code : Option Code) (r : Refusal)
-    → Compiles command.folders command.files old new code (Err r) → IsOfSources {T = Image} command old.contents code (Err r)
+    → Compiles command.options.cpu command.folders command.files old new code (Err r) → IsOfSources {T = Image} command old.contents code (Err r)
     → Goes command (record { files = old; left = l; input_faults = i; written = w; out_faults = o }) (record { files = new; left = l; input_faults = i; written = w; out_faults = o }) code None (Err r)
 stopped command old new l w i o code r stops sources = record {
   served = chain_served r stops.refused;
@@ -72,12 +73,12 @@ stopped command old new l w i o code r stops sources = record {
   file_writes = stops.written;
   made = (stops_before r stops.refused, (refl, refl));
   from_text = stops.from_text;
-  from_code = linked_stop code r stops.from_code;
+  from_code = linked_stop command.options.cpu code r stops.from_code;
   from_files = sources_stop Image ℕ command old.contents code r sources;
 }
 
 pub goes_stop : (command : Spelled) (old new : FilesSide) (l w : Option (List ℕ)) (i o : ℕ) (code : Option Code) (image : Option Image) (r : Refusal)
-    → image ≡ None → Compiles command.folders command.files old new code (Err r) → IsOfSources {T = Image} command old.contents code (Err r)
+    → image ≡ None → Compiles command.options.cpu command.folders command.files old new code (Err r) → IsOfSources {T = Image} command old.contents code (Err r)
     → Goes command (record { files = old; left = l; input_faults = i; written = w; out_faults = o }) (record { files = new; left = l; input_faults = i; written = w; out_faults = o }) code image (Err r)
 goes_stop command old new l w i o code image r none stops sources =
     subst (λ (made : Option Image). Goes command (record { files = old; left = l; input_faults = i; written = w; out_faults = o }) (record { files = new; left = l; input_faults = i; written = w; out_faults = o }) code made (Err r))
@@ -137,12 +138,12 @@ misses_after folders setup image l l' w w' m m' (Err (Missing path)) runs le = a
 misses_after folders setup image l l' w w' m m' (Ok s) runs le = le
 misses_after folders setup image l l' w w' m m' (Err r) runs le = le
 
-linked_run : (code : Option Code) (image : Image) (r : Result ℕ Refusal) → LinkedBy code (Ok image) → IsLinked code (Some image) r
-linked_run None image r by = absurd by
-linked_run (Some code) image r by = by
+linked_run : (cpu : Cpu) (code : Option Code) (image : Image) (r : Result ℕ Refusal) → LinkedBy cpu code (Ok image) → IsLinked cpu code (Some image) r
+linked_run cpu None image r by = absurd by
+linked_run cpu (Some code) image r by = by
 
 pub goes_run : (command : Spelled) (plan : Setup) (old new : FilesSide) (l l' w w' : Option (List ℕ)) (i i' o o' : ℕ) (code : Option Code) (image : Image) (r : Result ℕ Refusal)
-    → plan ≡ setup_of true command → Compiles command.folders command.files old new code (Ok image) → IsOfSources command old.contents code (Ok image)
+    → plan ≡ setup_of true command → Compiles command.options.cpu command.folders command.files old new code (Ok image) → IsOfSources command old.contents code (Ok image)
     → ImageRuns plan image l l' w w' r → ReadCause i i' r → WriteCause o o' r
     → Goes command (record { files = old; left = l; input_faults = i; written = w; out_faults = o }) (record { files = new; left = l'; input_faults = i'; written = w'; out_faults = o' }) code (Some image) r
 goes_run command plan old new l l' w w' i i' o o' code image r is made sources runs read write = record {
@@ -155,6 +156,6 @@ goes_run command plan old new l l' w w' i i' o o' code image r is made sources r
   file_writes = made.written;
   made = subst (λ (s : Setup). ImageRuns s image l l' w w' r) is runs;
   from_text = made.from_text;
-  from_code = linked_run code image r made.from_code;
+  from_code = linked_run command.options.cpu code image r made.from_code;
   from_files = sources_go Image ℕ command old.contents code image r sources;
 }

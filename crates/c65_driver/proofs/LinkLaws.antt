@@ -1,6 +1,8 @@
 -- What compiling and linking the files of a command gives.
 use Rattle.std.proofs.Common.{◌≡◌, ℕ, ◌≤◌, ◌<◌, List, length, None, Some, Option, Result, Ok, Err, Bool, true, false, cond, nat_lt, sym, subst, refl, ◌-◌, arith}
 use Rattle.std.proofs.lemmas.Bool.{ltb-true}
+use Rattle.c65_base.specs.declared.options.Cpu.{Cpu}
+use Rattle.c65_base.specs.declared.refusal.LinkKind.TheVariants.{Undefined}
 use Rattle.c65_base.specs.declared.refusal.Refusal.{Refusal}
 use Rattle.c65_base.specs.declared.refusal.Refusal.TheVariants.{OutOfMemory, Missing, ReadFault, TooLarge, Link}
 use Rattle.c65_base.specs.declared.refusal.Size.TheVariants.{Units, Image as ImageSize}
@@ -10,7 +12,7 @@ use Rattle.c65_code.specs.Placement.{program_start}
 use Rattle.c65_link.specs.declared.symbols.Target.{Target}
 use Rattle.c65_link.specs.Layouts.{layout_of}
 use Rattle.c65_link.specs.Symbols.{targets_of, missing_of}
-use Rattle.c65_link.specs.Linked.{Fault, undefined, large, linked, named_or_placed, entry_of, parts_of, image_of, payload_of, Fails, Gives}
+use Rattle.c65_link.specs.Linked.{Fault, undefined, large, linked, linked_for, image_for, named_or_placed, entry_of, parts_of, image_of, payload_of, Fails, Gives}
 use Rattle.c65_ppdir.specs.Counts.{FaultCause, MissCause as HeaderCause}
 use Rattle.c65_driver_chain.specs.Refused.{StopsChain, UnitsLimit}
 use Rattle.c65_driver.specs.Compiled.{IsRead, Compiles}
@@ -51,9 +53,18 @@ units_link code count OutOfMemory fails few = tt
 units_link code count (TooLarge Units value) fails few = absurd fails
 units_link code count r fails few = few
 
-pub compiles_linked : (folders files : List (List ℕ)) (old new : FilesSide) (code : Code) (r : Result Image Refusal) → new.contents ≡ old.contents → new.writes ≡ old.writes
-    → new.faults ≡ old.faults → old.misses ≤ new.misses → length files ≤ 64 → IsRead (Some code) → Gives r (linked code) → Compiles folders files old new (Some code) r
-compiles_linked folders files old new code (Ok image) same written faults misses few read gives = record {
+-- the linker refuses for each processor alike
+fails_for : (cpu : Cpu) (y : Result Image Fault) (r : Refusal) → Fails r (image_for cpu y) → Fails r y
+fails_for cpu (Err fault) r fails = fails
+fails_for cpu (Ok image) OutOfMemory fails = tt
+fails_for cpu (Ok image) (Link Undefined name) fails = absurd (let both : ◌≡◌ {A = Result Image Fault} (Ok (record image { cpu = cpu })) (Err (undefined name)) = fails in cc)
+fails_for cpu (Ok image) (Link kind name) fails = absurd fails
+fails_for cpu (Ok image) (TooLarge ImageSize value) fails = absurd (let both : ◌≡◌ {A = Result Image Fault} (Ok (record image { cpu = cpu })) (Err (large value)) = fails in cc)
+fails_for cpu (Ok image) r fails = absurd fails
+
+pub compiles_linked : (cpu : Cpu) (folders files : List (List ℕ)) (old new : FilesSide) (code : Code) (r : Result Image Refusal) → new.contents ≡ old.contents → new.writes ≡ old.writes
+    → new.faults ≡ old.faults → old.misses ≤ new.misses → length files ≤ 64 → IsRead (Some code) → Gives r (linked_for cpu code) → Compiles cpu folders files old new (Some code) r
+compiles_linked cpu folders files old new code (Ok image) same written faults misses few read gives = record {
   same = same;
   written = written;
   read = faults;
@@ -63,25 +74,27 @@ compiles_linked folders files old new code (Ok image) same written faults misses
   from_text = read;
   from_code = gives;
 }
-compiles_linked folders files old new code (Err r) same written faults misses few read gives = record {
+compiles_linked cpu folders files old new code (Err r) same written faults misses few read gives =
+  let fails : Fails r (linked code) = fails_for cpu (linked code) r gives in
+  record {
   same = same;
   written = written;
-  read = fault_link code old.faults new.faults r gives faults;
-  missing = header_link code folders old.misses new.misses r gives misses;
-  refused = fails_stops code r gives;
-  units = units_link code (length files) r gives few;
+  read = fault_link code old.faults new.faults r fails faults;
+  missing = header_link code folders old.misses new.misses r fails misses;
+  refused = fails_stops code r fails;
+  units = units_link code (length files) r fails few;
   from_text = read;
-  from_code = gives;
+  from_code = fails;
 }
 
 faults_of : (f f' : ℕ) (r : Refusal) → FaultCause {T = Code} f f' (Err r) → FaultCause {T = Image} f f' (Err r)
 faults_of f f' ReadFault cause = cause
 faults_of f f' r cause = cause
 
-without_code : (folders files : List (List ℕ)) (old new : FilesSide) (r : Refusal) → new.contents ≡ old.contents → new.writes ≡ old.writes
+without_code : (cpu : Cpu) (folders files : List (List ℕ)) (old new : FilesSide) (r : Refusal) → new.contents ≡ old.contents → new.writes ≡ old.writes
     → FaultCause {T = Code} old.faults new.faults (Err r) → HeaderCause {T = Code} folders old.misses new.misses (Err r) → StopsChain r
-    → UnitsLimit {T = Code} (length files) (Err r) → Compiles folders files old new None (Err r)
-without_code folders files old new r same written read missing stops units = record {
+    → UnitsLimit {T = Code} (length files) (Err r) → Compiles cpu folders files old new None (Err r)
+without_code cpu folders files old new r same written read missing stops units = record {
   same = same;
   written = written;
   read = faults_of old.faults new.faults r read;
@@ -93,18 +106,18 @@ without_code folders files old new r same written read missing stops units = rec
 }
 
 -- no code
-pub compiles_not : (folders files : List (List ℕ)) (old new : FilesSide) (code : Option Code) (r : Refusal) → code ≡ None → new.contents ≡ old.contents → new.writes ≡ old.writes
+pub compiles_not : (cpu : Cpu) (folders files : List (List ℕ)) (old new : FilesSide) (code : Option Code) (r : Refusal) → code ≡ None → new.contents ≡ old.contents → new.writes ≡ old.writes
     → FaultCause {T = Code} old.faults new.faults (Err r) → HeaderCause {T = Code} folders old.misses new.misses (Err r) → StopsChain r
-    → UnitsLimit {T = Code} (length files) (Err r) → Compiles folders files old new code (Err r)
-compiles_not folders files old new code r none same written read missing stops units =
-    subst (λ (made : Option Code). Compiles folders files old new made (Err r)) (sym none) (without_code folders files old new r same written read missing stops units)
+    → UnitsLimit {T = Code} (length files) (Err r) → Compiles cpu folders files old new code (Err r)
+compiles_not cpu folders files old new code r none same written read missing stops units =
+    subst (λ (made : Option Code). Compiles cpu folders files old new made (Err r)) (sym none) (without_code cpu folders files old new r same written read missing stops units)
 
 -- want of memory
-pub compiles_free : (folders files : List (List ℕ)) (old : FilesSide) (code : Option Code) → code ≡ None → Compiles folders files old old code (Err OutOfMemory)
-compiles_free folders files old code none = compiles_not folders files old old code OutOfMemory none refl refl refl (omega arith) tt tt
+pub compiles_free : (cpu : Cpu) (folders files : List (List ℕ)) (old : FilesSide) (code : Option Code) → code ≡ None → Compiles cpu folders files old old code (Err OutOfMemory)
+compiles_free cpu folders files old code none = compiles_not cpu folders files old old code OutOfMemory none refl refl refl (omega arith) tt tt
 
 -- the same of equal names
-pub compiles_as : (folders folders' files files' : List (List ℕ)) (old new : FilesSide) (code : Option Code) (r : Result Image Refusal) → folders ≡ folders' → files ≡ files'
-    → Compiles folders files old new code r → Compiles folders' files' old new code r
-compiles_as folders folders' files files' old new code r is of made =
-    subst (λ (xs : List (List ℕ)). Compiles xs files' old new code r) is (subst (λ (xs : List (List ℕ)). Compiles folders xs old new code r) of made)
+pub compiles_as : (cpu cpu' : Cpu) (folders folders' files files' : List (List ℕ)) (old new : FilesSide) (code : Option Code) (r : Result Image Refusal) → cpu ≡ cpu' → folders ≡ folders' → files ≡ files'
+    → Compiles cpu folders files old new code r → Compiles cpu' folders' files' old new code r
+compiles_as cpu cpu' folders folders' files files' old new code r for is of made =
+    subst (λ (xs : List (List ℕ)). Compiles cpu' xs files' old new code r) is (subst (λ (xs : List (List ℕ)). Compiles cpu' folders xs old new code r) of (subst (λ (x : Cpu). Compiles x folders files old new code r) for made))

@@ -23,7 +23,7 @@ unwritten : (out : Option (List ℕ)) (code : Option Code) (old new : TextSide) 
 unwritten out None old new answer still = still
 unwritten out (Some code) old new answer still = still
 
-stopped : (command : Spelled) (old new : FilesSide) (w : Option (List ℕ)) (o : ℕ) (code : Option Code) (r : Refusal) → Compiles command.folders command.files old new code (Err r) → IsOfSources {T = Image} command old.contents code (Err r)
+stopped : (command : Spelled) (old new : FilesSide) (w : Option (List ℕ)) (o : ℕ) (code : Option Code) (r : Refusal) → Compiles command.options.cpu command.folders command.files old new code (Err r) → IsOfSources {T = Image} command old.contents code (Err r)
     → Texts command (record { files = old; written = w; out_faults = o }) (record { files = new; written = w; out_faults = o }) code None (Err r)
 stopped command old new w o code r stops sources = record {
   served = stop_served r stops.refused;
@@ -34,12 +34,12 @@ stopped command old new w o code r stops sources = record {
   text = unwritten command.out code (record { files = old; written = w; out_faults = o }) (record { files = new; written = w; out_faults = o }) (Err r)
       (record { contents = stops.same; writes = stops.written; written = refl; out_faults = refl });
   from_text = stops.from_text;
-  from_code = linked_stop code r stops.from_code;
+  from_code = linked_stop command.options.cpu code r stops.from_code;
   from_files = sources_stop Image ℕ command old.contents code r sources;
 }
 
 pub texts_stop : (command : Spelled) (old new : FilesSide) (w : Option (List ℕ)) (o : ℕ) (code : Option Code) (image : Option Image) (r : Refusal) → image ≡ None
-    → Compiles command.folders command.files old new code (Err r) → IsOfSources {T = Image} command old.contents code (Err r)
+    → Compiles command.options.cpu command.folders command.files old new code (Err r) → IsOfSources {T = Image} command old.contents code (Err r)
     → Texts command (record { files = old; written = w; out_faults = o }) (record { files = new; written = w; out_faults = o }) code image (Err r)
 texts_stop command old new w o code image r none stops sources =
     subst (λ (made : Option Image). Texts command (record { files = old; written = w; out_faults = o }) (record { files = new; written = w; out_faults = o }) code made (Err r))
@@ -88,7 +88,7 @@ made out None image bytes old new r is to = absurd is
 made out (Some code) image bytes old new r is to = subst (λ (bs : List ℕ). TextTo out bs old new r) is to
 
 pub texts_wrote : (command : Spelled) (old mid : FilesSide) (new : TextSide) (w : Option (List ℕ)) (o : ℕ) (code : Option Code) (image : Image) (bytes : List ℕ) (r : Result ℕ Refusal)
-    → Compiles command.folders command.files old mid code (Ok image) → IsOfSources command old.contents code (Ok image) → IsTextOf code bytes → WritesText command.out bytes (record { files = mid; written = w; out_faults = o }) new r
+    → Compiles command.options.cpu command.folders command.files old mid code (Ok image) → IsOfSources command old.contents code (Ok image) → IsTextOf code bytes → WritesText command.out bytes (record { files = mid; written = w; out_faults = o }) new r
     → Texts command (record { files = old; written = w; out_faults = o }) new code (Some image) r
 texts_wrote command old mid new w o code image bytes r compiles sources is wrote = record {
   served = wrote_served r wrote.served;
@@ -99,7 +99,7 @@ texts_wrote command old mid new w o code image bytes r compiles sources is wrote
   text = made command.out code image bytes (record { files = old; written = w; out_faults = o }) new r is
       (to_from command.out bytes old mid new w o r compiles.same compiles.written wrote.to);
   from_text = compiles.from_text;
-  from_code = linked_wrote code image r compiles.from_code;
+  from_code = linked_wrote command.options.cpu code image r compiles.from_code;
   from_files = sources_go Image ℕ command old.contents code image r sources;
 }
 
@@ -114,7 +114,7 @@ kept_made out None image old new w o same writes = record { contents = same; wri
 kept_made out (Some code) image old new w o same writes = kept out (text_of code) old new w o same writes
 
 -- no memory for the text
-pub texts_short : (command : Spelled) (old new : FilesSide) (w : Option (List ℕ)) (o : ℕ) (code : Option Code) (image : Image) → Compiles command.folders command.files old new code (Ok image) → IsOfSources command old.contents code (Ok image)
+pub texts_short : (command : Spelled) (old new : FilesSide) (w : Option (List ℕ)) (o : ℕ) (code : Option Code) (image : Image) → Compiles command.options.cpu command.folders command.files old new code (Ok image) → IsOfSources command old.contents code (Ok image)
     → Texts command (record { files = old; written = w; out_faults = o }) (record { files = new; written = w; out_faults = o }) code (Some image) (Err OutOfMemory)
 texts_short command old new w o code image compiles sources = record {
   served = tt;
@@ -124,7 +124,7 @@ texts_short command old new w o code image compiles sources = record {
   with_image = tt;
   text = kept_made command.out code image old new w o compiles.same compiles.written;
   from_text = compiles.from_text;
-  from_code = linked_wrote code image (Err OutOfMemory) compiles.from_code;
+  from_code = linked_wrote command.options.cpu code image (Err OutOfMemory) compiles.from_code;
   from_files = sources_go Image ℕ command old.contents code image (Err OutOfMemory) sources;
 }
 

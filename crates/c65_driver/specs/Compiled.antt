@@ -1,5 +1,6 @@
 -- What compiling and linking a command's files gives, and what writing the image does.
 use Rattle.std.specs.Prelude.{◌≡◌, ◌⊎◌, ℕ, List, length, map, codes, Option, Some, None, Result, Ok, Err, IfErr, ⊤}
+use Rattle.c65_base.specs.declared.options.Cpu.{Cpu}
 use Rattle.c65_base.specs.declared.refusal.Refusal.{Refusal}
 use Rattle.c65_base.specs.declared.refusal.Refusal.TheVariants.{OutOfMemory, WriteFault}
 use Rattle.c65_asm.specs.Text.{text_of}
@@ -9,7 +10,7 @@ use Rattle.c65_code.specs.declared.code.Code.{Code}
 use Rattle.c65_io.specs.Contents.{Contents, WritesFile}
 use Rattle.c65_mach.specs.declared.image.Image.{Image}
 use Rattle.c65_mach.specs.Images.{bytes_of}
-use Rattle.c65_link.specs.Linked.{linked, Fails}
+use Rattle.c65_link.specs.Linked.{linked, linked_for, Fails}
 use Rattle.c65_ppdir.specs.declared.command.Define.{Define}
 use Rattle.c65_ppdir.specs.Counts.{FaultCause, MissCause}
 use Rattle.c65_ppdir.specs.Relations.{Answers, IsFree}
@@ -21,21 +22,21 @@ use Rattle.c65_driver_words.specs.Commands.{Spelled}
 use Rattle.c65_driver_words.specs.declared.command.Definition.{Definition}
 use Rattle.c65_driver.specs.Outside.{FilesSide}
 
--- the image is the linker's of the code, or the linker refused the code, or there is no code
-abbrev pub LinkedBy : Option Code → Result Image Refusal → Type 0
-LinkedBy None (Ok image) = ⊥
-LinkedBy None (Err refusal) = ⊤
-LinkedBy (Some code) (Ok image) = linked code ≡ Ok image
-LinkedBy (Some code) (Err refusal) = Fails refusal (linked code)
+-- the image is the linker's of the code for a processor, or the linker refused the code, or there is no code
+abbrev pub LinkedBy : Cpu → Option Code → Result Image Refusal → Type 0
+LinkedBy cpu None (Ok image) = ⊥
+LinkedBy cpu None (Err refusal) = ⊤
+LinkedBy cpu (Some code) (Ok image) = linked_for cpu code ≡ Ok image
+LinkedBy cpu (Some code) (Err refusal) = Fails refusal (linked code)
 
 -- the same of what was made and of the command's answer
-abbrev pub IsLinked : Option Code → Option Image → Result ℕ Refusal → Type 0
-IsLinked None None (Ok status) = ⊥
-IsLinked None None (Err refusal) = ⊤
-IsLinked None (Some image) answer = ⊥
-IsLinked (Some code) (Some image) answer = linked code ≡ Ok image
-IsLinked (Some code) None (Ok status) = ⊥
-IsLinked (Some code) None (Err refusal) = Fails refusal (linked code)
+abbrev pub IsLinked : Cpu → Option Code → Option Image → Result ℕ Refusal → Type 0
+IsLinked cpu None None (Ok status) = ⊥
+IsLinked cpu None None (Err refusal) = ⊤
+IsLinked cpu None (Some image) answer = ⊥
+IsLinked cpu (Some code) (Some image) answer = linked_for cpu code ≡ Ok image
+IsLinked cpu (Some code) None (Ok status) = ⊥
+IsLinked cpu (Some code) None (Err refusal) = Fails refusal (linked code)
 
 -- the assembly text reads as this code
 abbrev pub ReadsAs : List ℕ → Code → Type 0
@@ -47,7 +48,7 @@ IsRead None = ⊤
 IsRead (Some code) = ReadsAs (text_of code) code
 
 -- the image of files: the files are as they were, and the counts rise with their cause alone
-pub record Compiles (folders files : List (List ℕ)) (old new : FilesSide) (code : Option Code) (answer : Result Image Refusal) : Type 0 where
+pub record Compiles (cpu : Cpu) (folders files : List (List ℕ)) (old new : FilesSide) (code : Option Code) (answer : Result Image Refusal) : Type 0 where
   pub same : new.contents ≡ old.contents
   pub written : new.writes ≡ old.writes
   pub read : FaultCause old.faults new.faults answer
@@ -55,7 +56,7 @@ pub record Compiles (folders files : List (List ℕ)) (old new : FilesSide) (cod
   pub refused : IfErr answer StopsChain
   pub units : UnitsLimit (length files) answer
   pub from_text : IsRead code
-  pub from_code : LinkedBy code answer
+  pub from_code : LinkedBy cpu code answer
 
 -- a definition as the preprocessor takes it
 abbrev pub define_of : Definition → Define

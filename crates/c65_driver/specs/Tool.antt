@@ -68,7 +68,7 @@ pub record Goes (command : Spelled) (old new : Outside) (code : Option Code) (im
   pub file_writes : new.files.writes ≡ old.files.writes
   pub made : MadeRuns (setup_of true command) image old.left new.left old.written new.written answer
   pub from_text : IsRead code
-  pub from_code : IsLinked code image answer
+  pub from_code : IsLinked command.options.cpu code image answer
   pub from_files : IsOfSources command old.files.contents code answer
 
 -- `build`: the image is linked from the code that was compiled, as its text reads, and its bytes are written to one path
@@ -81,7 +81,7 @@ pub record Builds (command : Spelled) (old new : FilesSide) (code : Option Code)
   pub with_image : ServesWith image answer
   pub contents : BuildsFile (output_of command.out) image old.contents new.contents answer
   pub from_text : IsRead code
-  pub from_code : IsLinked code image answer
+  pub from_code : IsLinked command.options.cpu code image answer
   pub from_files : IsOfSources command old.contents code answer
 
 -- input and output are as they were
@@ -101,7 +101,7 @@ pub record Texts (command : Spelled) (old new : TextSide) (code : Option Code) (
   pub with_image : ServesWith image answer
   pub text : MadeText command.out code image old new answer
   pub from_text : IsRead code
-  pub from_code : IsLinked code image answer
+  pub from_code : IsLinked command.options.cpu code image answer
   pub from_files : IsOfSources command old.files.contents code answer
 
 -- the input is as it was

@@ -6,11 +6,11 @@ ghost use Rattle.c65_driver.specs.Outside.{files_side};
 
 use crate::assembly::read_back;
 use crate::outcome::Made;
-use c65_base::{Options, Refusal, Text};
+use c65_base::{Cpu, Options, Refusal, Text};
 use c65_driver_chain::{Define, compile};
 use c65_driver_words::{Command, Definition};
 use c65_io::{Failed, Files};
-use c65_link::link;
+use c65_link::link_for;
 use c65_mach::Image;
 use std::alloc::{AllocError, Global};
 
@@ -41,6 +41,12 @@ fn options(command: &Command) -> &Options
     &command.options
 }
 
+fn processor(command: &Command) -> Cpu
+    ensures { result ≡ command.now.options.cpu }
+{
+    command.options.cpu
+}
+
 fn definitions(command: &Command) -> &[Definition]
     ensures { result.now ≡ command.now.defines }
 {
@@ -68,7 +74,7 @@ pub fn make_image<F: Files>(
     made: &mut Made,
 ) -> Result<Image, Refusal>
     requires { made.old.code ≡ None }
-    ensures compiled { Compiles command.now.folders command.now.files
+    ensures compiled { Compiles command.now.options.cpu command.now.folders command.now.files
         (files_side (F.contents files.old) (F.faults files.old) (F.write_faults files.old) (F.misses files.old))
         (files_side (F.contents files.new) (F.faults files.new) (F.write_faults files.new) (F.misses files.new))
         made.new.code result }
@@ -94,7 +100,7 @@ pub fn make_image<F: Files>(
         Ok(code) => code,
         Err(_) => return Err(Refusal::OutOfMemory),
     };
-    let linked = link(alloc, &code);
+    let linked = link_for(alloc, &code, processor(command));
     made.code = Some(code);
     linked
 }
