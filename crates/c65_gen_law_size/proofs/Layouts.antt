@@ -23,7 +23,7 @@ use Rattle.c65_code.specs.Weights.{functions_size, extent_of, lines_size, routin
 use Rattle.c65_code.specs.Weights.{line_size as extent_of_line}
 use Rattle.c65_link.specs.declared.symbols.Target.{Target}
 use Rattle.c65_link.specs.declared.symbols.Target.TheVariants as targets
-use Rattle.c65_link.specs.declared.routines.TheConstants.{ENTRIES, LIBRARY, STACK, MEMORY, WORD_OPERATORS, LONG_OPERATORS, UNARY, REST}
+use Rattle.c65_code.specs.declared.routine.TheConstants.Routine.{ALL}
 use Rattle.c65_link.specs.Bodies.{Body, with_line, body_of, far_labels, far_size, line_size, plus}
 use Rattle.c65_link.specs.Bodies.{with_lines as body_with}
 use Rattle.c65_link.specs.Runtime.{Chosen, is_marked, has_lines, with_calls, routine_lines, with_routine, chosen_by, no_marks}
@@ -92,7 +92,7 @@ routines_at layout (r ∷ rs) =
 target_at : (layout : Layout) (i : ℕ) (target : Target) → (with_target layout i target).at ≡ layout.at
 target_at layout i targets.Nowhere = refl
 target_at layout i targets.Own = refl
-target_at layout i (targets.Library f) = refl
+target_at layout i (targets.Runtime f) = refl
 
 targets_at : (layout : Layout) (i : ℕ) (ts : List Target) → (with_targets layout i ts).at ≡ layout.at
 targets_at layout i [] = refl
@@ -142,9 +142,9 @@ both_sizes Zero datum = omega arith
 both_sizes Data datum = omega arith
 both_sizes Const datum = omega arith
 
-all_sizes : (ds : List Datum) → files_size ds + behind_size ds ≤ datums_size ds
-all_sizes [] = omega arith
-all_sizes (d ∷ ds) = omega (arith, all_sizes ds, both_sizes d.kind d)
+routines_size ALLs : (ds : List Datum) → files_size ds + behind_size ds ≤ datums_size ds
+routines_size ALLs [] = omega arith
+routines_size ALLs (d ∷ ds) = omega (arith, routines_size ALLs ds, both_sizes d.kind d)
 
 layout_most : (code : Code) (ts : List Target) (entry : Routine) (parts : List Routine) → (layout_of code ts entry parts).at ≤ program_start + lines_size (routine_lines entry) + extent_of code + routines_size parts + datums_size code.datums
 layout_most code ts entry parts =
@@ -154,7 +154,7 @@ layout_most code ts entry parts =
     let all : Layout = layouts.with_routines coded parts in
     let aimed : Layout = with_targets all 0 ts in
     let filled : Layout = with_all_data aimed code.datums in
-    omega (arith, lines_at empty (routine_lines entry), functions_at begun code.functions, routines_at coded parts, targets_at all 0 ts, all_data_at aimed code.datums, all_zeros_at filled code.datums, all_sizes code.datums)
+    omega (arith, lines_at empty (routine_lines entry), functions_at begun code.functions, routines_at coded parts, targets_at all 0 ts, all_data_at aimed code.datums, all_zeros_at filled code.datums, routines_size ALLs code.datums)
 
 -- ---- routines
 
@@ -173,25 +173,17 @@ chosen_most chosen (r ∷ rs) =
     let here : routines_size (with_routine chosen r).parts ≤ routines_size chosen.parts + lines_size (routine_lines r) = taken_by (is_marked chosen.marks r && has_lines r) chosen r in
     omega (arith, here, chosen_most (with_routine chosen r) rs)
 
-abbrev all_size : ℕ
-all_size = routines_size ENTRIES + routines_size LIBRARY + routines_size STACK + routines_size MEMORY + routines_size WORD_OPERATORS + routines_size LONG_OPERATORS + routines_size UNARY + routines_size REST
+abbrev entries : List Routine
+entries = routines.Start ∷ routines.StartArgs ∷ []
 
-chosen_by_most : (chosen : Chosen) → routines_size (chosen_by chosen).parts ≤ routines_size chosen.parts + all_size
-chosen_by_most chosen =
-    let c1 = chosen_with chosen ENTRIES in
-    let c2 = chosen_with c1 LIBRARY in
-    let c3 = chosen_with c2 STACK in
-    let c4 = chosen_with c3 MEMORY in
-    let c5 = chosen_with c4 WORD_OPERATORS in
-    let c6 = chosen_with c5 LONG_OPERATORS in
-    let c7 = chosen_with c6 UNARY in
-    omega (arith, chosen_most chosen ENTRIES, chosen_most c1 LIBRARY, chosen_most c2 STACK, chosen_most c3 MEMORY, chosen_most c4 WORD_OPERATORS, chosen_most c5 LONG_OPERATORS, chosen_most c6 UNARY, chosen_most c7 REST)
+chosen_by_most : (chosen : Chosen) → routines_size (chosen_by chosen).parts ≤ routines_size chosen.parts + routines_size ALL
+chosen_by_most chosen = chosen_most chosen ALL
 
 -- by computation
-all_are_few : nat_lt (routines_size ENTRIES + all_size) 8193 ≡ true
+all_are_few : nat_lt (routines_size entries + routines_size ALL) 8193 ≡ true
 all_are_few = refl
 
-entry_by : (b : Bool) → lines_size (routine_lines (if b then routines.StartArgs else routines.Start)) ≤ routines_size ENTRIES
+entry_by : (b : Bool) → lines_size (routine_lines (if b then routines.StartArgs else routines.Start)) ≤ routines_size entries
 entry_by true = omega arith
 entry_by false = omega arith
 
@@ -212,8 +204,8 @@ placed_value code None =
     let ts : List Target = targets_of code in
     let parts : List Routine = parts_of code ts in
     let layout : Layout = layout_of code ts (entry_of code) parts in
-    let few : routines_size parts ≤ 0 + all_size = chosen_by_most (record { marks = with_code_uses code ts (with_calls no_marks (routine_lines (entry_of code))); parts = [] }) in
-    let small : routines_size ENTRIES + all_size < 8193 = ltb-true (routines_size ENTRIES + all_size) 8193 all_are_few in
+    let few : routines_size parts ≤ 0 + routines_size ALL = chosen_by_most (record { marks = with_code_uses code ts (with_calls no_marks (routine_lines (entry_of code))); parts = [] }) in
+    let small : routines_size entries + routines_size ALL < 8193 = ltb-true (routines_size entries + routines_size ALL) 8193 all_are_few in
     fitted_value (nat_lt (limit_of limits.Image) (layout.at - program_start)) (layout.at - program_start) (extent_of code + datums_size code.datums + 8192) (payload_of code layout (entry_of code) parts) (omega (arith, layout_most code ts (entry_of code) parts, few, entry_by code.main_args, small))
 
 -- the bytes for which an image is refused

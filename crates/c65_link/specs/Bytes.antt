@@ -22,7 +22,8 @@ use Rattle.c65_code.specs.Segments.{Segment}
 use Rattle.c65_link.specs.declared.bytes.Cursor.{Cursor}
 use Rattle.c65_link.specs.Opcodes.{opcode_of, opposite_of}
 use Rattle.c65_link.specs.Bodies.{plus, Body, body_of, offset_of, reaches, target_of, far_size, line_size}
-use Rattle.c65_link.specs.Runtime.{number_of, routine_lines}
+use Rattle.c65_code.specs.Numbering.{number_of}
+use Rattle.c65_link.specs.Runtime.{routine_lines}
 
 -- low byte first
 abbrev pub word_bytes : ℕ → List ℕ

@@ -15,9 +15,10 @@ use Rattle.c65_code.specs.declared.line.Callee.TheVariants as callees
 use Rattle.c65_code.specs.declared.line.Line.{Line}
 use Rattle.c65_code.specs.declared.line.Line.TheVariants.{Call}
 use Rattle.c65_code.specs.Segments.{has_row}
-use Rattle.c65_link.specs.declared.routines.TheConstants.{ENTRIES, LIBRARY, STACK, MEMORY, WORD_OPERATORS, LONG_OPERATORS, UNARY, REST}
+use Rattle.c65_code.specs.declared.routine.TheConstants.Routine.{ALL}
+use Rattle.c65_code.specs.Numbering.{number_of}
 use Rattle.c65_link.specs.Opcodes.{opcode_of, opposite_of}
-use Rattle.c65_link.specs.Runtime.{number_of, has_lines, routine_lines}
+use Rattle.c65_link.specs.Runtime.{routine_lines}
 
 -- each row of a processor's table of opcodes has the opcode of its operation and mode
 abbrev pub OpcodesAreTheTables : Type 0
@@ -26,14 +27,6 @@ OpcodesAreTheTables = (cpu : Cpu) (byte : ℕ) (row : Row) → row_for cpu byte 
 -- the opposite of a branch is taken exactly where the branch is not
 abbrev pub OppositesDiffer : Type 0
 OppositesDiffer = (op : Op) (r : Regs) → IsTrue (has_row op Relative) → is_taken (opposite_of op) r ≡ not (is_taken op r)
-
--- all routines with lines
-abbrev pub order : List Routine
-order = ENTRIES ++ LIBRARY ++ STACK ++ MEMORY ++ WORD_OPERATORS ++ LONG_OPERATORS ++ UNARY ++ REST
-
--- each routine with lines stands in the order, at its number
-abbrev pub RoutinesAreOrdered : Type 0
-RoutinesAreOrdered = (r : Routine) → IsTrue (has_lines r) → slice_get order (number_of r) ≡ Some r
 
 abbrev pub is_later : Routine → Callee → Bool
 is_later r (callees.Routine q) = nat_lt (number_of r) (number_of q)
@@ -44,6 +37,6 @@ abbrev pub calls_later : Routine → Line → Bool
 calls_later r (Call callee) = is_later r callee
 calls_later r _ = true
 
--- a routine calls only routines that stand behind it in the order
+-- a routine calls only routines that stand behind it in the table of all
 abbrev pub CallsGoOn : Type 0
-CallsGoOn = IsTrue (list_all (λ r. list_all (calls_later r) (routine_lines r)) order)
+CallsGoOn = IsTrue (list_all (λ r. list_all (calls_later r) (routine_lines r)) ALL)

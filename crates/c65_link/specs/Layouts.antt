@@ -14,7 +14,8 @@ use Rattle.c65_code.specs.Placement.{program_start, cell_size}
 use Rattle.c65_link.specs.declared.symbols.Target.{Target}
 use Rattle.c65_link.specs.declared.symbols.Target.TheVariants.{Nowhere, Own, Runtime}
 use Rattle.c65_link.specs.Bodies.{plus, Body, body_of}
-use Rattle.c65_link.specs.Runtime.{number_of, routine_lines}
+use Rattle.c65_code.specs.Numbering.{number_of}
+use Rattle.c65_link.specs.Runtime.{routine_lines}
 
 -- the next free address, and the addresses of symbols and of routines, each by its number
 pub record Layout : Type 0 where

@@ -1,126 +1,15 @@
--- The runtime's routines in an order in which each comes before those that it calls, and which of them a program uses.
+-- Which of the runtime's routines a program uses.
 use Rattle.std.specs.Prelude.{ℕ, ◌+◌, ◌&&◌, ◌||◌, Bool, true, false, if◌then◌else◌, List, [], ◌∷◌, ◌++◌, slice_index_or, slice_set, replicate}
 use Rattle.c65_code.specs.declared.line.Callee.{Callee}
 use Rattle.c65_code.specs.declared.line.Callee.TheVariants as callees
 use Rattle.c65_code.specs.declared.line.Line.{Line}
 use Rattle.c65_code.specs.declared.line.Line.TheVariants.{Call}
-use Rattle.c65_code.specs.declared.routine.Count.{Count}
-use Rattle.c65_code.specs.declared.routine.Count.TheVariants.{One, Two, Three, Four, Five, Six, Seven, Eight}
-use Rattle.c65_code.specs.declared.routine.Width.{Width}
-use Rattle.c65_code.specs.declared.routine.Width.TheVariants.{Ax, Eax}
-use Rattle.c65_code.specs.declared.routine.TosOp.{TosOp}
-use Rattle.c65_code.specs.declared.routine.TosOp.TheVariants as tos
-use Rattle.c65_code.specs.declared.routine.UnaryRoutine.{UnaryRoutine}
-use Rattle.c65_code.specs.declared.routine.UnaryRoutine.TheVariants.{Neg, Compl, Shl1, Shr1, Asr1, BNeg}
-use Rattle.c65_base.specs.declared.library.Library.{Library}
-use Rattle.c65_base.specs.declared.library.Library.TheVariants.{Putchar, Getchar, Puts, Exit, Memcpy, Memset, Strcmp, Strcpy, Strlen}
 use Rattle.c65_code.specs.declared.routine.Routine.{Routine}
 use Rattle.c65_code.specs.declared.routine.Routine.TheVariants as routines
+use Rattle.c65_code.specs.declared.routine.TheConstants.Routine.{ALL}
+use Rattle.c65_code.specs.Numbering.{number_of}
 use Rattle.c65_rtl.specs.Routines.{is_narrow, lines_of}
 use Rattle.c65_rtlwide.specs.Wide.{is_wide, lines_of as wide_lines_of}
-use Rattle.c65_link.specs.declared.routines.TheConstants.{ENTRIES, LIBRARY, STACK, MEMORY, WORD_OPERATORS, LONG_OPERATORS, UNARY, REST}
-
-abbrev pub count_number : Count → ℕ
-count_number One = 0
-count_number Two = 1
-count_number Three = 2
-count_number Four = 3
-count_number Five = 4
-count_number Six = 5
-count_number Seven = 6
-count_number Eight = 7
-
-abbrev pub library_number : Library → ℕ
-library_number Puts = 0
-library_number Getchar = 1
-library_number Exit = 2
-library_number Memcpy = 3
-library_number Memset = 4
-library_number Strcmp = 5
-library_number Strcpy = 6
-library_number Putchar = 7
-library_number Strlen = 8
-
-abbrev pub operator_number : TosOp → ℕ
-operator_number tos.Add = 0
-operator_number tos.Sub = 1
-operator_number tos.Mul = 2
-operator_number tos.And = 3
-operator_number tos.Or = 4
-operator_number tos.Xor = 5
-operator_number tos.Div = 6
-operator_number tos.Mod = 7
-operator_number tos.UDiv = 8
-operator_number tos.UMod = 9
-operator_number tos.Shl = 10
-operator_number tos.Shr = 11
-operator_number tos.Asr = 12
-operator_number tos.Eq = 13
-operator_number tos.Ne = 14
-operator_number tos.Lt = 15
-operator_number tos.Le = 16
-operator_number tos.Gt = 17
-operator_number tos.Ge = 18
-operator_number tos.ULt = 19
-operator_number tos.ULe = 20
-operator_number tos.UGt = 21
-operator_number tos.UGe = 22
-
-abbrev pub unary_number : UnaryRoutine → ℕ
-unary_number Neg = 0
-unary_number Compl = 1
-unary_number Shl1 = 2
-unary_number Shr1 = 3
-unary_number Asr1 = 4
-unary_number BNeg = 5
-
--- its place in that order
-abbrev pub number_of : Routine → ℕ
-number_of routines.Start = 0
-number_of routines.StartArgs = 1
-number_of (routines.Library f) = 2 + library_number f
-number_of routines.PushA = 11
-number_of routines.PushAx = 12
-number_of routines.PushA0 = 13
-number_of routines.Push0 = 14
-number_of routines.PushEax = 15
-number_of routines.PopA = 16
-number_of routines.PopAx = 17
-number_of routines.PopEax = 18
-number_of routines.PopPtrs = 19
-number_of (routines.IncSp count) = 20 + count_number count
-number_of (routines.DecSp count) = 28 + count_number count
-number_of routines.AddYSp = 36
-number_of routines.SubYSp = 37
-number_of routines.LdAxYSp = 38
-number_of routines.LdAx0Sp = 39
-number_of routines.LdEaxYSp = 40
-number_of routines.StAxYSp = 41
-number_of routines.StAx0Sp = 42
-number_of routines.StEaxYSp = 43
-number_of routines.LdAi = 44
-number_of routines.LdAxi = 45
-number_of routines.LdEaxi = 46
-number_of routines.StATos = 47
-number_of routines.StAxTos = 48
-number_of routines.StEaxTos = 49
-number_of routines.CopyTos = 50
-number_of (routines.Tos op Ax) = 51 + operator_number op
-number_of (routines.Tos op Eax) = 74 + operator_number op
-number_of (routines.Unary op Ax) = 97 + unary_number op
-number_of (routines.Unary op Eax) = 103 + unary_number op
-number_of routines.SignA = 109
-number_of routines.LongAx = 110
-number_of routines.ULongAx = 111
-number_of routines.SaveRegs = 112
-number_of routines.RestRegs = 113
-number_of routines.CallPtr4 = 114
-number_of routines.HookOpen = 115
-number_of routines.HookClose = 116
-number_of routines.HookRead = 117
-number_of routines.HookWrite = 118
-number_of routines.HookArgs = 119
-number_of routines.HookExit = 120
 
 -- the hooks have no lines
 abbrev pub has_lines : Routine → Bool
@@ -170,4 +59,4 @@ with_routines chosen (r ∷ rs) = with_routines (with_routine chosen r) rs
 
 -- from the routines that are used directly, all that are used
 abbrev pub chosen_by : Chosen → Chosen
-chosen_by chosen = with_routines (with_routines (with_routines (with_routines (with_routines (with_routines (with_routines (with_routines chosen ENTRIES) LIBRARY) STACK) MEMORY) WORD_OPERATORS) LONG_OPERATORS) UNARY) REST
+chosen_by chosen = with_routines chosen ALL

@@ -5,7 +5,6 @@ ghost use Rattle.c65_link.specs.Bytes.{word_bytes, operand_bytes, instruction, l
 use crate::body::{Body, longest, target};
 use crate::layout::address;
 use crate::opcode::{opcode, opposite};
-use crate::routines::number;
 use crate::uses::Part;
 use c65_code::{Callee, DataCell, Datum, DatumKind, Line, Operand, Routine, Seg, Sym};
 use c65_mach::{Mode, Op};
@@ -130,9 +129,9 @@ impl<'a> Spot<'a> {
         ensures { result ≡ callee_address self.now callee.now }
     {
         match callee {
-            Callee::Routine(which) => lookup(self.routines, number(*which)),
+            Callee::Routine(which) => lookup(self.routines, which.number()),
             Callee::Function(sym, _, _) => lookup(self.symbols, sym.0 as usize),
-            Callee::Pointer(_, _) => lookup(self.routines, number(Routine::CallPtr4)),
+            Callee::Pointer(_, _) => lookup(self.routines, Routine::CallPtr4.number()),
         }
     }
 

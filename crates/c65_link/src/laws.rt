@@ -1,5 +1,5 @@
 // Laws of the tables, each the contract of a function that does nothing.
-ghost use Rattle.c65_link.specs.Laws.{OpcodesAreTheTables, OppositesDiffer, RoutinesAreOrdered, CallsGoOn};
+ghost use Rattle.c65_link.specs.Laws.{OpcodesAreTheTables, OppositesDiffer, CallsGoOn};
 
 /// Each row of the table of opcodes has the opcode of its operation and mode.
 pub fn opcodes_are_the_tables()
@@ -11,12 +11,7 @@ pub fn opposites_differ()
     ensures { OppositesDiffer }
 {}
 
-/// Each routine with lines stands in the order in which routines are taken, at its number.
-pub fn routines_are_ordered()
-    ensures { RoutinesAreOrdered }
-{}
-
-/// A routine calls only routines that stand behind it in that order: those that are taken in one pass are all that are used.
+/// A routine calls only routines that stand behind it in the table of all: those that are taken in one pass are all that are used.
 pub fn calls_go_on()
     ensures { CallsGoOn }
 {}

@@ -1,11 +1,10 @@
 // Where the parts of an image stand.
 ghost use Rattle.std.specs.Prelude.{◌≡◌, ◌%◌, length, slice_index, slice_set, OnOk, IfOk};
 ghost use Rattle.c65_code.specs.Placement.{cell_size};
-ghost use Rattle.c65_link.specs.Runtime.{number_of};
+ghost use Rattle.c65_code.specs.Numbering.{number_of};
 ghost use Rattle.c65_link.specs.Layouts.{empty_layout, with_size, with_symbol_at, with_lines, with_function, with_functions, with_routine, with_routines, with_target, with_targets, cells_end, with_datum, with_data, with_zeros, with_all_data, with_all_zeros, code_layout, layout_of};
 
 use crate::body::Body;
-use crate::routines::{COUNT, number};
 use crate::symbols::Target;
 use crate::uses::Part;
 use c65_code::{Code, DataCell, Datum, DatumKind, Line, Routine, Seg, Sym};
@@ -47,7 +46,7 @@ fn cell_bytes(cell: &DataCell) -> u64
 pub struct Layout {
     at: u64,
     symbols: Vec<u16>,
-    routines: [u16; COUNT],
+    routines: [u16; Routine::COUNT],
 }
 
 impl Model for Layout {
@@ -65,8 +64,8 @@ impl Layout {
     fn new(alloc: Global, count: usize) -> Result<Layout, AllocError>
         ensures { IfOk result (λ layout. layout ≡ empty_layout count) }
     {
-        let mut routines = [0; COUNT];
-        routines[115..].copy_from_slice(&HOOKS);
+        let mut routines = [0; Routine::COUNT];
+        routines[Routine::HookOpen.number()..].copy_from_slice(&HOOKS);
         Ok(Layout {
             at: 512,
             symbols: vec![in alloc; 0; count]?,
@@ -133,7 +132,7 @@ impl Layout {
     fn put_routine(&mut self, alloc: Global, part: &Part) -> Result<(), AllocError>
         ensures { OnOk result (self.new ≡ with_routine self.old part.now) }
     {
-        self.routines[number(part.which())] = address(self.at);
+        self.routines[part.which().number()] = address(self.at);
         self.put_lines(alloc, part.lines())
     }
 
@@ -150,7 +149,7 @@ impl Layout {
         ensures { self.new ≡ with_target self.old at target }
     {
         if let Target::Runtime(function) = target {
-            let address = self.routines[number(Routine::Library(function))];
+            let address = self.routines[Routine::Library(function).number()];
             self.put_symbol(at, address);
         }
     }

@@ -8,9 +8,8 @@ mod layout;
 mod linking;
 mod missing;
 mod opcode;
-mod routines;
 mod symbols;
 mod uses;
 
-pub use laws::{calls_go_on, opcodes_are_the_tables, opposites_differ, routines_are_ordered};
+pub use laws::{calls_go_on, opcodes_are_the_tables, opposites_differ};
 pub use linking::{link, link_for};

@@ -3,9 +3,6 @@ ghost use Rattle.std.specs.Prelude.{◌≡◌, ◌++◌, [], IsTrue, OnOk, IfOk,
 ghost use Rattle.c65_link.specs.Runtime.{has_lines, routine_lines, no_marks, marked, is_marked, with_callee, with_call, with_calls, with_routine, with_routines, chosen_by};
 ghost use Rattle.c65_link.specs.Symbols.{with_target, with_symbol, with_line_uses, with_function_uses, with_cell_uses, with_datum_uses, with_code_uses};
 
-use crate::routines::{
-    COUNT, ENTRIES, LIBRARY, LONG_OPERATORS, MEMORY, REST, STACK, UNARY, WORD_OPERATORS, number,
-};
 use crate::symbols::{Target, in_cell, in_line};
 use c65_code::{Callee, Code, DataCell, Datum, Line, Routine, Seg, Sym};
 use c65_rtl::{is_narrow, routine};
@@ -71,7 +68,7 @@ impl Part {
 /// Which routines are used, and of these the ones that were taken so far.
 #[derive(Drop)]
 pub struct Chosen {
-    marks: [bool; COUNT],
+    marks: [bool; Routine::COUNT],
     parts: Vec<Part>,
 }
 
@@ -92,7 +89,7 @@ impl Chosen {
         ensures parts { result.parts ≡ [] }
     {
         Chosen {
-            marks: [false; COUNT],
+            marks: [false; Routine::COUNT],
             parts: Vec::new(alloc),
         }
     }
@@ -106,13 +103,13 @@ impl Chosen {
     fn mark(&mut self, which: Routine)
         ensures { self.new ≡ record self.old { marks = marked self.old.marks which } }
     {
-        self.marks[number(which)] = true;
+        self.marks[which.number()] = true;
     }
 
     fn is_marked(&self, which: Routine) -> bool
         ensures { result ≡ is_marked self.now.marks which }
     {
-        self.marks[number(which)]
+        self.marks[which.number()]
     }
 
     fn mark_call(&mut self, line: &Line)
@@ -210,13 +207,6 @@ impl Chosen {
     pub fn close(&mut self, alloc: Global) -> Result<(), AllocError>
         ensures { OnOk result (self.new ≡ chosen_by self.old) }
     {
-        self.take_all(alloc, &ENTRIES)?;
-        self.take_all(alloc, &LIBRARY)?;
-        self.take_all(alloc, &STACK)?;
-        self.take_all(alloc, &MEMORY)?;
-        self.take_all(alloc, &WORD_OPERATORS)?;
-        self.take_all(alloc, &LONG_OPERATORS)?;
-        self.take_all(alloc, &UNARY)?;
-        self.take_all(alloc, &REST)
+        self.take_all(alloc, &Routine::ALL)
     }
 }

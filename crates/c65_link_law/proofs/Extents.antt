@@ -21,7 +21,7 @@ use Rattle.c65_code.specs.Placement.{cells_size, program_start}
 use Rattle.c65_code.specs.Weights.{functions_size, extent_of, lines_size, routine_size}
 use Rattle.c65_code.specs.Weights.{line_size as extent_of_line}
 use Rattle.c65_link.specs.declared.symbols.Target.{Target}
-use Rattle.c65_link.specs.declared.routines.TheConstants.{ENTRIES, LIBRARY, STACK, MEMORY, WORD_OPERATORS, LONG_OPERATORS, UNARY, REST}
+use Rattle.c65_code.specs.declared.routine.TheConstants.Routine.{ALL}
 use Rattle.c65_link.specs.Bodies.{Labels, Body, with_line, body_of, far_labels, far_size, line_size, plus}
 use Rattle.c65_link.specs.Bodies.{with_lines as body_with}
 use Rattle.c65_link.specs.Bytes.{Spot, Written, Tables, spot_of, line_bytes, lines_bytes, with_lines, with_functions, with_routines, cells_bytes, datum_bytes, data_bytes}
@@ -109,25 +109,17 @@ chosen_most chosen (r ∷ rs) =
     let rest : routines_size (chosen_with (with_routine chosen r) rs).parts ≤ routines_size (with_routine chosen r).parts + routines_size rs = chosen_most (with_routine chosen r) rs in
     omega (arith, here, rest)
 
-abbrev all_size : ℕ
-all_size = routines_size ENTRIES + routines_size LIBRARY + routines_size STACK + routines_size MEMORY + routines_size WORD_OPERATORS + routines_size LONG_OPERATORS + routines_size UNARY + routines_size REST
+abbrev entries : List Routine
+entries = routines.Start ∷ routines.StartArgs ∷ []
 
-chosen_by_most : (chosen : Chosen) → routines_size (chosen_by chosen).parts ≤ routines_size chosen.parts + all_size
-chosen_by_most chosen =
-    let c1 = chosen_with chosen ENTRIES in
-    let c2 = chosen_with c1 LIBRARY in
-    let c3 = chosen_with c2 STACK in
-    let c4 = chosen_with c3 MEMORY in
-    let c5 = chosen_with c4 WORD_OPERATORS in
-    let c6 = chosen_with c5 LONG_OPERATORS in
-    let c7 = chosen_with c6 UNARY in
-    omega (arith, chosen_most chosen ENTRIES, chosen_most c1 LIBRARY, chosen_most c2 STACK, chosen_most c3 MEMORY, chosen_most c4 WORD_OPERATORS, chosen_most c5 LONG_OPERATORS, chosen_most c6 UNARY, chosen_most c7 REST)
+chosen_by_most : (chosen : Chosen) → routines_size (chosen_by chosen).parts ≤ routines_size chosen.parts + routines_size ALL
+chosen_by_most chosen = chosen_most chosen ALL
 
 -- by computation
-all_are_few : nat_lt (routines_size ENTRIES + all_size) 8193 ≡ true
+all_are_few : nat_lt (routines_size entries + routines_size ALL) 8193 ≡ true
 all_are_few = refl
 
-entry_by : (b : Bool) → lines_size (routine_lines (if b then routines.StartArgs else routines.Start)) ≤ routines_size ENTRIES
+entry_by : (b : Bool) → lines_size (routine_lines (if b then routines.StartArgs else routines.Start)) ≤ routines_size entries
 entry_by true = omega arith
 entry_by false = omega arith
 
@@ -178,9 +170,9 @@ placed_most code None =
     let parts : List Routine = parts_of code targets in
     let layout : Layout = layout_of code targets (entry_of code) parts in
     let file : length (payload_of code layout (entry_of code) parts) ≤ lines_size (routine_lines (entry_of code)) + extent_of code + routines_size parts + data_size code.datums = payload_most code (tables_of layout) (routine_tables code layout) (entry_of code) parts in
-    let few : routines_size parts ≤ 0 + all_size = chosen_by_most (record { marks = with_code_uses code targets (with_calls no_marks (routine_lines (entry_of code))); parts = [] }) in
-    let entry : lines_size (routine_lines (entry_of code)) ≤ routines_size ENTRIES = entry_by code.main_args in
-    let small : routines_size ENTRIES + all_size < 8193 = ltb-true (routines_size ENTRIES + all_size) 8193 all_are_few in
+    let few : routines_size parts ≤ 0 + routines_size ALL = chosen_by_most (record { marks = with_code_uses code targets (with_calls no_marks (routine_lines (entry_of code))); parts = [] }) in
+    let entry : lines_size (routine_lines (entry_of code)) ≤ routines_size entries = entry_by code.main_args in
+    let small : routines_size entries + routines_size ALL < 8193 = ltb-true (routines_size entries + routines_size ALL) 8193 all_are_few in
     fitted_most (nat_lt (limit_of limits.Image) (layout.at - program_start)) (layout.at - program_start) (extent_of code + data_size code.datums + runtime_most) (payload_of code layout (entry_of code) parts) (omega (arith, file, few, entry, small))
 
 pub images_are_bounded : ImagesAreBounded

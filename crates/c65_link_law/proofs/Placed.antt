@@ -13,7 +13,7 @@ use Rattle.c65_code.specs.declared.code.DatumKind.TheVariants.{Data, Const, Zero
 use Rattle.c65_code.specs.Segments.{Segment, IsSegment}
 use Rattle.c65_code.specs.Placement.{program_start}
 use Rattle.c65_link.specs.declared.symbols.Target.{Target}
-use Rattle.c65_link.specs.declared.symbols.Target.TheVariants.{Nowhere, Own, Library}
+use Rattle.c65_link.specs.declared.symbols.Target.TheVariants.{Nowhere, Own, Runtime}
 use Rattle.c65_link.specs.Bodies.{Body, body_of, plus}
 use Rattle.c65_link.specs.Bytes.{Spot, Written, Tables, lines_bytes, with_lines, with_functions, with_routines, data_bytes}
 use Rattle.c65_link.specs.Layouts.{Layout, empty_layout, with_targets, with_data, with_zeros, with_all_data, with_all_zeros, cells_end}
@@ -64,7 +64,7 @@ targets_stay : (targets : List Target) (i : ℕ) (layout : Layout) → (with_tar
 targets_stay [] i layout = refl
 targets_stay (Nowhere ∷ targets) i layout = targets_stay targets (i + 1) _
 targets_stay (Own ∷ targets) i layout = targets_stay targets (i + 1) _
-targets_stay (Library f ∷ targets) i layout = targets_stay targets (i + 1) _
+targets_stay (Runtime f ∷ targets) i layout = targets_stay targets (i + 1) _
 
 one_data : (kind : DatumKind) (layout : Layout) (datum : Datum) → layout.at ≤ 2 ^ 64 - 1 → Grows layout.at (with_data kind layout datum).at
 one_data Data layout datum h = more layout.at (cells_end 0 datum.cells) h

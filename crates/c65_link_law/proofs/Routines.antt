@@ -14,15 +14,15 @@ use Rattle.c65_code.specs.declared.code.DatumKind.TheVariants.{Data, Const, Zero
 use Rattle.c65_code.specs.Segments.{Segment, IsSegment, is_among, is_distinct}
 use Rattle.c65_code.specs.Placement.{program_start}
 use Rattle.c65_link.specs.declared.symbols.Target.{Target}
-use Rattle.c65_link.specs.declared.symbols.Target.TheVariants.{Nowhere, Own, Library}
-use Rattle.c65_link.specs.declared.routines.TheConstants.{ENTRIES, LIBRARY, STACK, MEMORY, WORD_OPERATORS, LONG_OPERATORS, UNARY, REST}
+use Rattle.c65_link.specs.declared.symbols.Target.TheVariants.{Nowhere, Own, Runtime}
+use Rattle.c65_code.specs.declared.routine.TheConstants.Routine.{ALL}
+use Rattle.c65_code.specs.Numbering.{number_of}
 use Rattle.c65_link.specs.Bodies.{body_of, plus}
 use Rattle.c65_link.specs.Bytes.{Written, Tables, with_lines, with_functions, with_routines, data_bytes}
 use Rattle.c65_link.specs.Layouts.{Layout, empty_layout, with_routine, with_target, with_targets, with_data, with_zeros, with_all_data, with_all_zeros}
 use Rattle.c65_link.specs.Layouts.{with_lines as layout_lines, with_functions as layout_functions, with_routines as layout_routines}
-use Rattle.c65_link.specs.Runtime.{Chosen, is_marked, has_lines, with_calls, routine_lines, number_of, with_routine as chosen_routine, with_routines as chosen_with, chosen_by, no_marks}
+use Rattle.c65_link.specs.Runtime.{Chosen, is_marked, has_lines, with_calls, routine_lines, with_routine as chosen_routine, with_routines as chosen_with, chosen_by, no_marks}
 use Rattle.c65_link.specs.Symbols.{targets_of, with_code_uses, missing_of}
-use Rattle.c65_link.specs.Laws.{order}
 use Rattle.c65_link.specs.Linked.{Fault, entry_of, tables_of, routine_tables}
 use Rattle.c65_link_law.specs.Coded.{Memory, Stands, AreCoded, spot_for}
 use Rattle.c65_link_law.specs.Placed.{behind, first_address, layout_in, routines_in, behind_routines, routine_address, RoutinesStand}
@@ -66,22 +66,8 @@ unfolding chosen_with
 taken [] chosen = record { new = []; is = sym (append-nil chosen.parts); sub = none }
 taken (r ∷ rs) chosen = taken_both chosen.parts (chosen_routine chosen r).parts (chosen_with (chosen_routine chosen r) rs).parts (r ∷ []) rs (taken_one (is_marked chosen.marks r && has_lines r) chosen r) (taken rs (chosen_routine chosen r))
 
-taken_all : (chosen : Chosen) → Taken chosen.parts (chosen_by chosen).parts order
-taken_all chosen =
-    let c1 : Chosen = chosen_with chosen ENTRIES in
-    let c2 : Chosen = chosen_with c1 LIBRARY in
-    let c3 : Chosen = chosen_with c2 STACK in
-    let c4 : Chosen = chosen_with c3 MEMORY in
-    let c5 : Chosen = chosen_with c4 WORD_OPERATORS in
-    let c6 : Chosen = chosen_with c5 LONG_OPERATORS in
-    let c7 : Chosen = chosen_with c6 UNARY in
-    let t7 : Taken c6.parts (chosen_with c7 REST).parts (UNARY ++ REST) = taken_both c6.parts c7.parts (chosen_with c7 REST).parts UNARY REST (taken UNARY c6) (taken REST c7) in
-    let t6 : Taken c5.parts (chosen_with c7 REST).parts (LONG_OPERATORS ++ (UNARY ++ REST)) = taken_both c5.parts c6.parts (chosen_with c7 REST).parts LONG_OPERATORS (UNARY ++ REST) (taken LONG_OPERATORS c5) t7 in
-    let t5 = taken_both c4.parts c5.parts (chosen_with c7 REST).parts WORD_OPERATORS (LONG_OPERATORS ++ (UNARY ++ REST)) (taken WORD_OPERATORS c4) t6 in
-    let t4 = taken_both c3.parts c4.parts (chosen_with c7 REST).parts MEMORY (WORD_OPERATORS ++ (LONG_OPERATORS ++ (UNARY ++ REST))) (taken MEMORY c3) t5 in
-    let t3 = taken_both c2.parts c3.parts (chosen_with c7 REST).parts STACK (MEMORY ++ (WORD_OPERATORS ++ (LONG_OPERATORS ++ (UNARY ++ REST)))) (taken STACK c2) t4 in
-    let t2 = taken_both c1.parts c2.parts (chosen_with c7 REST).parts LIBRARY (STACK ++ (MEMORY ++ (WORD_OPERATORS ++ (LONG_OPERATORS ++ (UNARY ++ REST))))) (taken LIBRARY c1) t3 in
-    taken_both chosen.parts c1.parts (chosen_with c7 REST).parts ENTRIES (LIBRARY ++ (STACK ++ (MEMORY ++ (WORD_OPERATORS ++ (LONG_OPERATORS ++ (UNARY ++ REST)))))) (taken ENTRIES chosen) t2
+taken_all : (chosen : Chosen) → Taken chosen.parts (chosen_by chosen).parts ALL
+taken_all chosen = taken ALL chosen
 
 -- Each is taken once
 
@@ -106,7 +92,7 @@ apart_sub _ _ (skip y xs ys s) h = apart_sub xs ys s h.1
 apart_sub _ _ (keep y xs ys s) h = (lacks_sub xs ys (number_of y) s h.0, apart_sub xs ys s h.1)
 
 -- by computation
-order_apart : is_distinct (map number_of order) ≡ true
+order_apart : is_distinct (map number_of ALL) ≡ true
 order_apart = refl
 
 -- every number of a routine lies in the table
@@ -127,7 +113,7 @@ inside_sub _ _ (skip y xs ys s) h = inside_sub xs ys s h.1
 inside_sub _ _ (keep y xs ys s) h = (h.0, inside_sub xs ys s h.1)
 
 -- by computation
-order_inside : list_all (λ r. nat_lt (number_of r) 121) order ≡ true
+order_inside : list_all (λ r. nat_lt (number_of r) 121) ALL ≡ true
 order_inside = refl
 
 -- The routines of a code
@@ -139,11 +125,11 @@ record Each (rs : List Routine) : Type 0 where
 each_of : (code : Code) → Each (routines_in code)
 each_of code =
     let chosen : Chosen = record { marks = with_code_uses code (targets_of code) (with_calls no_marks (routine_lines (entry_of code))); parts = [] } in
-    let t : Taken [] (routines_in code) order = taken_all chosen in
+    let t : Taken [] (routines_in code) ALL = taken_all chosen in
     let is : t.new ≡ routines_in code = sym t.is in
     record {
-      apart = subst (λ (rs : List Routine). Apart rs) is (apart_sub t.new order t.sub (apart order order_apart));
-      inside = subst (λ (rs : List Routine). Inside rs) is (inside_sub t.new order t.sub (inside order order_inside));
+      apart = subst (λ (rs : List Routine). Apart rs) is (apart_sub t.new ALL t.sub (apart ALL order_apart));
+      inside = subst (λ (rs : List Routine). Inside rs) is (inside_sub t.new ALL t.sub (inside ALL order_inside));
     }
 
 -- Their addresses
@@ -175,7 +161,7 @@ targets_keep : (targets : List Target) (i : ℕ) (layout : Layout) → (with_tar
 targets_keep [] i layout = refl
 targets_keep (Nowhere ∷ targets) i layout = targets_keep targets (i + 1) layout
 targets_keep (Own ∷ targets) i layout = targets_keep targets (i + 1) layout
-targets_keep (Library f ∷ targets) i layout = targets_keep targets (i + 1) (with_target layout i (Library f))
+targets_keep (Runtime f ∷ targets) i layout = targets_keep targets (i + 1) (with_target layout i (Runtime f))
 
 one_data_keeps : (kind : DatumKind) (layout : Layout) (datum : Datum) → (with_data kind layout datum).routines ≡ layout.routines
 one_data_keeps Data layout datum = refl

@@ -7,7 +7,8 @@ use Rattle.c65_code.specs.Placement.{program_start}
 use Rattle.c65_code.specs.declared.code.Datum.{Datum}
 use Rattle.c65_code.specs.Segments.{Segment, IsSegment, is_distinct}
 use Rattle.c65_code.specs.declared.routine.Routine.{Routine}
-use Rattle.c65_link.specs.Runtime.{routine_lines, number_of}
+use Rattle.c65_code.specs.Numbering.{number_of}
+use Rattle.c65_link.specs.Runtime.{routine_lines}
 use Rattle.c65_link.specs.Bodies.{body_of, plus}
 use Rattle.c65_link.specs.Symbols.{targets_of}
 use Rattle.c65_link.specs.Layouts.{Layout, layout_of}
