@@ -39,7 +39,7 @@ use Rattle.c65_genload.specs.declared.places.Place.TheVariants as places
 use Rattle.c65_genload.specs.declared.places.Access.{Access}
 use Rattle.c65_genload.specs.declared.places.Access.TheVariants.{Whole, Part}
 use Rattle.c65_genload.specs.Places.{type_in, byte_more, extent_of}
-use Rattle.c65_genload.specs.Numbers.{number_code, add_word_code, add_by_width, add_code, mask_code, by_code, shift_code, scale_code, divide_code}
+use Rattle.c65_genload.specs.Numbers.{number_code, add_word_code, add_by_width, add_code, mask_code, by_code, shift_code, scale_code, is_divisor, divide_code}
 use Rattle.c65_genload.specs.Conversions.{widen_code, convert_code, convert_to, push_code, pass_code, test_code}
 use Rattle.c65_genload.specs.Addresses.{symbol_code, address_code, above_code, raised_code, offset_code}
 use Rattle.c65_genload.specs.Fields.{ones, others, extract_code}
@@ -108,7 +108,7 @@ pub scale_clear : (n : ℕ) → Clear (scale_code n)
 scale_clear n = let one : Clear (call (Unary Shl1 Ax) ∷ []) = record { all = refl } in clear_if (n == 1) clear_none (clear_if (n == 2) one (by_clear tos.Mul n))
 
 divide_clear : (n : ℕ) → Clear (divide_code n)
-divide_clear n = clear_if (n == 1) clear_none (by_clear tos.Div n)
+divide_clear n = clear_if (n == 1) clear_none (clear_if (is_divisor n) (by_clear tos.Div n) (number_clear Ax 0))
 
 pub symbol_clear : (s : Sym) (at : ℕ) → Clear (symbol_code s at)
 symbol_clear s at = record { all = refl }
