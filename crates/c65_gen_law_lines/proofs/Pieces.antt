@@ -49,7 +49,7 @@ use Rattle.c65_genexpr.specs.Places.{more, soft_code, code_at, object_code}
 use Rattle.c65_genexpr.specs.Operands.{computes, between_code, difference_code, behind_code, unary_code, conversion_code, negative, scaled, short_code}
 use Rattle.c65_genexpr.specs.Steps.{is_post, back_code, after_code, step_code, open_code, close_code}
 use Rattle.c65_genexpr.specs.Arguments.{reads_of, registers_of, argument_code}
-use Rattle.c65_genexpr.specs.Calls.{count_code, fetch_code, result_code, library_at, named_by, named_code, pointer_code}
+use Rattle.c65_genexpr.specs.Calls.{count_code, fetch_code, result_code, library_at, named_by, named_code, pointer_code, direct_code, ptr4_code}
 use Rattle.c65_gen_law_lines.proofs.Made.{Piece, piece_append, piece_wider, piece_if, piece_none}
 
 pub narrow_piece : (kind : IntType) → Piece 3 (narrow_code kind)
@@ -353,6 +353,12 @@ named_piece f i counted p kind = named_by_piece f i (library_at f i) counted p k
 
 fetch_piece : (p : Passed) → Piece 15 (fetch_code p)
 fetch_piece p = record { plain = refl; fit = refl; size = omega arith }
+
+pub direct_piece : (counted : Bool) (p : Passed) (kind : Option IntType) → Piece 12 (direct_code counted p kind)
+direct_piece counted p kind =
+    let stored : Piece 4 ptr4_code = record { plain = refl; fit = refl; size = omega arith } in
+    let one : Piece 3 (Call (Pointer (reads_of counted p) (registers_of kind)) ∷ []) = record { plain = refl; fit = refl; size = omega arith } in
+    piece_append 4 8 ptr4_code _ stored (piece_append 2 6 (count_code counted p) _ (count_piece counted p) (one_call 3 (Call (Pointer (reads_of counted p) (registers_of kind))) _ one (result_piece kind)))
 
 pub pointer_piece : (counted : Bool) (p : Passed) (kind : Option IntType) → Piece 26 (pointer_code counted p kind)
 pointer_piece counted p kind =

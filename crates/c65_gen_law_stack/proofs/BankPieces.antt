@@ -52,7 +52,7 @@ use Rattle.c65_genexpr.specs.Places.{more, soft_code, code_at, object_code}
 use Rattle.c65_genexpr.specs.Operands.{computes, between_code, difference_code, behind_code, unary_code, conversion_code, negative, scaled, short_code}
 use Rattle.c65_genexpr.specs.Steps.{is_post, back_code, step_code, open_code, close_code}
 use Rattle.c65_genexpr.specs.Arguments.{reads_of, registers_of, argument_code}
-use Rattle.c65_genexpr.specs.Calls.{count_code, fetch_code, result_code, library_at, named_by, named_code, pointer_code}
+use Rattle.c65_genexpr.specs.Calls.{count_code, fetch_code, result_code, library_at, named_by, named_code, pointer_code, direct_code, ptr4_code}
 use Rattle.c65_gen_law_stack.specs.Bank.{leaves_bank}
 
 -- lines that write nothing of regbank
@@ -315,6 +315,12 @@ named_by_clear f i None counted p kind =
 
 pub named_clear : (f : Framed) (i : ℕ) (counted : Bool) (p : Passed) (kind : Option IntType) → Clear (named_code f i counted p kind)
 named_clear f i counted p kind = named_by_clear f i (library_at f i) counted p kind
+
+pub direct_clear : (counted : Bool) (p : Passed) (kind : Option IntType) → Clear (direct_code counted p kind)
+direct_clear counted p kind =
+    let one : Clear (Call (Pointer (reads_of counted p) (registers_of kind)) ∷ []) = record { all = refl } in
+    let stored : Clear ptr4_code = record { all = refl } in
+    clear_then stored (clear_then (count_clear counted p) (clear_then one (result_clear kind)))
 
 pub pointer_clear : (counted : Bool) (p : Passed) (kind : Option IntType) → Clear (pointer_code counted p kind)
 pointer_clear counted p kind =

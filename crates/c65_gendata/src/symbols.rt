@@ -139,7 +139,11 @@ fn add_functions(
 /// The symbols of a program by their numbers: its objects, then its literals, then its functions.
 /// An external name is spelled `_NAME`, a literal `qN`, and anything else `sN`, N the symbol's
 /// number. Needs the table that gave the program's names. Refuses for want of memory alone.
-pub fn gen_symbols(alloc: Global, program: &TProgram, names: &Names) -> Result<Vec<Symbol>, AllocError>
+pub fn gen_symbols(
+    alloc: Global,
+    program: &TProgram,
+    names: &Names,
+) -> Result<Vec<Symbol>, AllocError>
     ensures symbols { IfOk result (λ v. v.items ≡ symbols_of names.now program.now.0) }
 {
     let parts = program.unit().parts();

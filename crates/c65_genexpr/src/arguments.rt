@@ -1,9 +1,10 @@
 // What a call passes (docs/MACHINE.md, "Calls").
-ghost use Rattle.std.specs.Prelude.{◌≡◌, OnOk, OnErr};
+ghost use Rattle.std.specs.Prelude.{◌≡◌, true, OnOk, OnErr};
 ghost use Rattle.c65_ctype.specs.Views.{ty_of};
+ghost use Rattle.c65_csem.specs.Trees.{none};
 ghost use Rattle.c65_csem.specs.Views.{nodes_of};
 ghost use Rattle.c65_genwide.specs.Lines.{with_lines, Keeps};
-ghost use Rattle.c65_genexpr.specs.Arguments.{is_fast, is_counted, stays, joined, registers_of, reads_of, argument_code, argument_bytes};
+ghost use Rattle.c65_genexpr.specs.Arguments.{is_fast, is_counted, stays, joined, passed_of, registers_of, reads_of, argument_code, argument_bytes};
 
 use c65_code::{Draft, Part, RegSet};
 use c65_csem::TExpr;
@@ -18,6 +19,17 @@ use std::alloc::AllocError;
 pub struct Passed {
     pub stacked: u8,
     pub last: Option<IntType>,
+}
+
+impl Passed {
+    pub fn nothing() -> Passed
+        ensures { result ≡ passed_of true none }
+    {
+        Passed {
+            stacked: 0,
+            last: None,
+        }
+    }
 }
 
 /// Whether a call of a function to which this type points passes its last argument in registers.

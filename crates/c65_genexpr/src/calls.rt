@@ -2,7 +2,7 @@
 ghost use Rattle.std.specs.Prelude.{◌≡◌, OnOk, OnErr};
 ghost use Rattle.c65_csem.specs.Views.{typed_of};
 ghost use Rattle.c65_genwide.specs.Lines.{with_lines, Keeps};
-ghost use Rattle.c65_genexpr.specs.Calls.{named, library_at, fetch_code, count_code, named_code, pointer_code, result_code};
+ghost use Rattle.c65_genexpr.specs.Calls.{named, library_at, fetch_code, count_code, named_code, pointer_code, direct_code, result_code};
 
 use crate::arguments::{Passed, reads_of, registers_of};
 use c65_base::Library;
@@ -14,7 +14,7 @@ use c65_genframe::Frame;
 use c65_genwide::{narrow, put, run};
 use c65_ints::IntType;
 use c65_mach::Mode::{Immediate, Implied, IndirectY, ZeroPage};
-use c65_mach::Op::{Iny, Lda, Ldy, Sta};
+use c65_mach::Op::{Iny, Lda, Ldy, Sta, Stx};
 use std::alloc::AllocError;
 
 const SP: u8 = 0;
@@ -132,5 +132,29 @@ pub fn put_pointer(
     let gives = registers_of(result_kind);
     put(draft, &[Call(Callee::Pointer(reads, gives))])?;
     run(draft, Routine::IncSp(Count::Two))?;
+    put_result(result_kind, draft)
+}
+
+/// A call through the pointer in AX, without arguments: the pointer goes to ptr4 at once.
+pub fn put_direct(
+    counted: bool,
+    passed: Passed,
+    result_kind: Option<IntType>,
+    draft: &mut Draft,
+) -> Result<(), AllocError>
+    ensures lines { OnOk result (draft.new ≡ with_lines draft.old (direct_code counted passed result_kind)) }
+    ensures kept { OnErr result (Keeps draft.old draft.new) }
+{
+    put(
+        draft,
+        &[
+            Do(Sta, ZeroPage, Zero(PTR4)),
+            Do(Stx, ZeroPage, Zero(PTR4 + 1)),
+        ],
+    )?;
+    put_count(counted, passed, draft)?;
+    let reads = reads_of(counted, passed);
+    let gives = registers_of(result_kind);
+    put(draft, &[Call(Callee::Pointer(reads, gives))])?;
     put_result(result_kind, draft)
 }

@@ -9,7 +9,7 @@ ghost use Rattle.c65_genexpr.specs.Uses.{uses, head_uses, args_uses};
 ghost use Rattle.c65_genexpr.specs.Code.{grown, with_label, target_code, expr_code, binary_code, both_code, either_code, choice_code, assign_code, compound_code, call_code, args_code};
 
 use crate::arguments::{Passed, argument_bytes, is_counted, is_fast, joined, put_argument, stays};
-use crate::calls::{named, put_named, put_pointer};
+use crate::calls::{named, put_direct, put_named, put_pointer};
 use crate::operands::{
     Operands, computes, operands_of, put_behind, put_between, put_conversion, put_unary,
 };
@@ -66,7 +66,12 @@ pub fn gen_expr(
 
 /// The same, for callers that only lack memory.
 #[cycle(expression)]
-pub fn put_expr(e: &TExpr, frame: &Frame<'_>, pushed: u16, draft: &mut Draft) -> Result<(), AllocError>
+pub fn put_expr(
+    e: &TExpr,
+    frame: &Frame<'_>,
+    pushed: u16,
+    draft: &mut Draft,
+) -> Result<(), AllocError>
     ensures lines { OnOk result (draft.new ≡ grown draft.old (expr_code frame.now pushed draft.old.labels (typed_of e.now)) (uses (typed_of e.now))) }
     ensures kept { OnErr result (Keeps draft.old draft.new) }
 {
@@ -349,9 +354,14 @@ fn put_call(
         }
         None => {
             put_expr(callee, frame, pushed, draft)?;
-            push(Width::Ax, draft)?;
-            let passed = put_args(args, fast, frame, more(pushed, 2), draft)?;
-            put_pointer(counted, passed, kind, draft)
+            match args {
+                [] => put_direct(counted, Passed::nothing(), kind, draft),
+                [_first, _rest @ ..] => {
+                    push(Width::Ax, draft)?;
+                    let passed = put_args(args, fast, frame, more(pushed, 2), draft)?;
+                    put_pointer(counted, passed, kind, draft)
+                }
+            }
         }
     }
 }
@@ -370,10 +380,7 @@ fn put_args(
     ensures kept { OnErr result (Keeps draft.old draft.new) }
 {
     match args {
-        [] => Ok(Passed {
-            stacked: 0,
-            last: None,
-        }),
+        [] => Ok(Passed::nothing()),
         [first, rest @ ..] => {
             let kept = stays(fast, rest);
             let kind = kind_of(&first.ty.ty);

@@ -10,7 +10,7 @@ use c65_code::{Draft, Routine, UnaryRoutine, Width};
 use c65_ctype::CType;
 use c65_genframe::Frame;
 use c65_genload::{convert, divide, push, scale};
-use c65_genwide::{put_wide, put, run, width_of};
+use c65_genwide::{put, put_wide, run, width_of};
 use c65_ints::IntType;
 use std::alloc::AllocError;
 

@@ -72,7 +72,12 @@ fn scaled(operands: Operands, number: u32) -> u32
     }
 }
 
-fn put_sum(op: BinaryOp, operands: Operands, number: u32, draft: &mut Draft) -> Result<(), AllocError>
+fn put_sum(
+    op: BinaryOp,
+    operands: Operands,
+    number: u32,
+    draft: &mut Draft,
+) -> Result<(), AllocError>
     ensures lines { OnOk result (draft.new ≡ with_lines draft.old (short_code op operands number)) }
     ensures kept { OnErr result (Keeps draft.old draft.new) }
 {

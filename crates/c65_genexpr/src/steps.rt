@@ -56,7 +56,12 @@ fn put_back(access: Access, amount: u32, draft: &mut Draft) -> Result<(), AllocE
     }
 }
 
-fn put_after(how: StepKind, access: Access, amount: u32, draft: &mut Draft) -> Result<(), AllocError>
+fn put_after(
+    how: StepKind,
+    access: Access,
+    amount: u32,
+    draft: &mut Draft,
+) -> Result<(), AllocError>
     ensures lines { OnOk result (draft.new ≡ with_lines draft.old (after_code how access amount)) }
     ensures kept { OnErr result (Keeps draft.old draft.new) }
 {

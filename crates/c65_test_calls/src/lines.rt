@@ -4,8 +4,18 @@ use c65_mach::{Mode, Op};
 use std::alloc::{AllocError, Global};
 
 const NAMES: [&str; 12] = [
-    "pusha", "pushax", "incsp8", "ldeaxysp", "tosaddax", "tosugeeax", "asreax1", "callptr4",
-    "putchar", "hookexit", "pushax0", "PUSHAX",
+    "pusha",
+    "pushax",
+    "incsp8",
+    "ldeaxysp",
+    "tosaddax",
+    "tosugeeax",
+    "asreax1",
+    "callptr4",
+    "putchar",
+    "hookexit",
+    "pushax0",
+    "PUSHAX",
 ];
 
 const LINES: [Line; 11] = [

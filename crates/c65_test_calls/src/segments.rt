@@ -123,7 +123,10 @@ pub fn show_segments(rt: &HostRuntime) -> Result<(), anyhow::Error> {
     let mut draft = Draft::new(rt.alloc(), RegSet::empty());
     let labels = (draft.fresh(), draft.fresh(), draft.labels());
     println!(rt; "labels {labels:?}")?;
-    let opcodes = (has_opcode(Op::Ldx, Mode::ZeroPageY), has_opcode(Op::Ldx, Mode::ZeroPageX));
+    let opcodes = (
+        has_opcode(Op::Ldx, Mode::ZeroPageY),
+        has_opcode(Op::Ldx, Mode::ZeroPageX),
+    );
     println!(rt; "opcodes of ldx by Y and by X {opcodes:?}")?;
     println!(rt; "= literals")?;
     show_literals(rt)
