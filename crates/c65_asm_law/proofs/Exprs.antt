@@ -38,7 +38,7 @@ use Rattle.c65_genexpr.specs.Code.{target_code, behind_open, compound, call_by, 
 use Rattle.c65_asm_law.proofs.Well.{AllWell, well_append, well_none, well_more}
 use Rattle.c65_asm_law.proofs.Loads.{WellPlace, number_well, symbol_well, offset_well, push_well, test_well, hold_well, load_well, store_well, copy_well}
 use Rattle.c65_asm_law.proofs.Known.{Knows}
-use Rattle.c65_asm_law.proofs.Places.{place_well, object_well, conversion_well, unary_well, between_well, behind_well, short_well, step_well, open_well, close_well, named_well, pointer_well, argument_well}
+use Rattle.c65_asm_law.proofs.Places.{place_well, object_well, conversion_well, unary_well, between_well, behind_well, short_well, step_well, open_well, close_well, named_well, direct_well, pointer_well, argument_well}
 
 target_well : (n : ℕ) (p : Place) (code : List Line) → AllWell n code → AllWell n (target_code p code)
 target_well n places.Far code h = h
@@ -105,7 +105,10 @@ compound_well n f pushed op operands a b left right h ha hb =
 
 call_well : (n : ℕ) (f : Framed) (i : Option ℕ) (kind : Option IntType) (g : Typed) (es : Nodes) (callee args above : List Line) → ((k : ℕ) → i ≡ Some k → (function_symbol (numbers_of f.parts) k).0 < n) → (i ≡ None → AllWell n callee) → AllWell n args → (i ≡ None → AllWell n above) → AllWell n (call_by f i kind g es callee args above)
 call_well n f (Some k) kind g es callee args above known hc ha hb = well_append n args _ ha (named_well n f k (is_counted (bare g)) (passed_of (is_fast (bare g)) es) kind (known k refl) (passed_few (is_fast (bare g)) es))
-call_well n f None kind g es callee args above known hc ha hb = well_append n callee _ (hc refl) (well_append n (push_code Ax) _ (push_well n Ax) (well_append n above _ (hb refl) (pointer_well n (is_counted (bare g)) (passed_of (is_fast (bare g)) es) kind (passed_few (is_fast (bare g)) es))))
+call_well n f None kind g none callee args above known hc ha hb = well_append n callee _ (hc refl) (direct_well n (is_counted (bare g)) (passed_of (is_fast (bare g)) none) kind (passed_few (is_fast (bare g)) none))
+call_well n f None kind g (some e rest) callee args above known hc ha hb =
+    let es : Nodes = some e rest in
+    well_append n callee _ (hc refl) (well_append n (push_code Ax) _ (push_well n Ax) (well_append n above _ (hb refl) (pointer_well n (is_counted (bare g)) (passed_of (is_fast (bare g)) es) kind (passed_few (is_fast (bare g)) es))))
 
 -- what a call uses of labels, where its function has no name
 unnamed : (i : Option ℕ) (k : ℕ) → i ≡ None → unless_named i k ≡ k

@@ -22,7 +22,7 @@ use Rattle.c65_genload.specs.declared.places.Place.TheVariants as places
 use Rattle.c65_genload.specs.declared.places.Access.{Access}
 use Rattle.c65_genload.specs.declared.places.Access.TheVariants.{Whole, Part}
 use Rattle.c65_genload.specs.Places.{byte_more, extent_of}
-use Rattle.c65_genload.specs.Numbers.{number_code, add_word_code, add_by_width, add_code, mask_code, by_code, shift_code, scale_code, divide_code}
+use Rattle.c65_genload.specs.Numbers.{number_code, add_word_code, add_by_width, add_code, mask_code, by_code, shift_code, scale_code, is_divisor, divide_code}
 use Rattle.c65_genload.specs.Conversions.{widen_code, convert_code, convert_to, push_code, pass_code, test_code}
 use Rattle.c65_genload.specs.Addresses.{symbol_code, address_code, above_code, raised_code, offset_code}
 use Rattle.c65_genload.specs.Fields.{ones, others, extract_code, aligned_code}
@@ -79,7 +79,7 @@ pub scale_well : (n m : ℕ) → AllWell n (scale_code m)
 scale_well n m = well_if n (m == 1) [] _ (well_none n) (well_if n (m == 2) (call (Unary Shl1 Ax) ∷ []) (by_code tos.Mul m) (double_well n) (by_well n tos.Mul m))
 
 pub divide_well : (n m : ℕ) → AllWell n (divide_code m)
-divide_well n m = well_if n (m == 1) [] (by_code tos.Div m) (well_none n) (by_well n tos.Div m)
+divide_well n m = well_if n (m == 1) [] _ (well_none n) (well_if n (is_divisor m) (by_code tos.Div m) (number_code Ax 0) (by_well n tos.Div m) (number_well n Ax 0))
 
 -- ---- addresses
 

@@ -40,7 +40,7 @@ use Rattle.c65_genexpr.specs.Places.{more, near, soft_place, place_at, moved, pl
 use Rattle.c65_genexpr.specs.Operands.{computes, between_code, difference_code, behind_code, unary_code, conversion_code, negative, scaled, short_code}
 use Rattle.c65_genexpr.specs.Steps.{is_post, back_code, after_code, step_code, open_code, close_code}
 use Rattle.c65_genexpr.specs.Arguments.{registers_in, reads_of, registers_of, argument_code}
-use Rattle.c65_genexpr.specs.Calls.{count_code, fetch_code, result_code, library_at, named_by, named_code, pointer_code}
+use Rattle.c65_genexpr.specs.Calls.{count_code, fetch_code, result_code, library_at, named_by, named_code, pointer_code, direct_code, ptr4_code}
 use Rattle.c65_asm_law.proofs.Well.{AllWell, well_append, well_none, well_more, well_if, letters_none, letters_a, letters_y, letters_ax, letters_eax}
 use Rattle.c65_asm_law.proofs.Known.{Knows}
 use Rattle.c65_asm_law.proofs.Loads.{WellPlace, narrow_well, add_well, scale_well, divide_well, symbol_well, address_well, raised_well, convert_well, push_well, pass_well, hold_well, extract_well, load_well, store_well, wide_well}
@@ -183,6 +183,11 @@ fetch_well n p few = record { all = search (rules, few) }
 
 pub pointer_well : (n : ℕ) (counted : Bool) (p : Passed) (kind : Option IntType) → p.stacked < 2 ^ 8 → AllWell n (pointer_code counted p kind)
 pointer_well n counted p kind few = well_append n (fetch_code p) _ (fetch_well n p few) (well_append n (count_code counted p) _ (count_well n counted p few) (well_more n _ _ (reads_letters counted p, gives_letters kind) (well_more n _ _ tt (result_well n kind))))
+
+pub direct_well : (n : ℕ) (counted : Bool) (p : Passed) (kind : Option IntType) → p.stacked < 2 ^ 8 → AllWell n (direct_code counted p kind)
+direct_well n counted p kind few =
+    let stored : AllWell n ptr4_code = record { all = search rules } in
+    well_append n ptr4_code _ stored (well_append n (count_code counted p) _ (count_well n counted p few) (well_more n _ _ (reads_letters counted p, gives_letters kind) (result_well n kind)))
 
 pub argument_well : (n : ℕ) (kept : Bool) (kind : IntType) → AllWell n (argument_code kept kind)
 argument_well n kept kind = well_if n kept [] _ (well_none n) (pass_well n kind)

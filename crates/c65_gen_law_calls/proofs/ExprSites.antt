@@ -33,7 +33,7 @@ use Rattle.c65_genexpr.specs.Operands.{residue_of, operands_of, computes, is_sho
 use Rattle.c65_genexpr.specs.Steps.{amount_of}
 use Rattle.c65_genexpr.specs.Arguments.{is_fast, is_counted, stays, passed_of}
 use Rattle.c65_genexpr.specs.Arguments as arguments
-use Rattle.c65_genexpr.specs.Calls.{named, library_at, count_code, fetch_code, result_code, named_by, pointer_code}
+use Rattle.c65_genexpr.specs.Calls.{named, library_at, count_code, fetch_code, result_code, named_by, pointer_code, direct_code, ptr4_code}
 use Rattle.c65_genexpr.specs.Uses.{uses}
 use Rattle.c65_genexpr.specs.Code.{target_code, behind_open, compound, call_by, test_in, expr_code, node_code, args_code}
 use Rattle.c65_gen_law_lines.proofs.ExprLaws.{moved_known, no_short}
@@ -103,10 +103,21 @@ pointer_has {f = f} site e =
     let two : Free (Call (Routine (IncSp two_bytes)) ∷ []) = record { none = refl } in
     has_before fetch (has_before (count_free counted p) (has_behind (one_call site (line_by f None site) refl e) (free_append two (result_free (result_kind (type_in site.type))))))
 
-call_has : {f : Framed} {ss ts : List Site} {callee args above : List Line} (n : Option ℕ) (t : QTy) (g : Typed) (es : Nodes) → named g ≡ n → Has f ss callee → Has f ts args → Has f ts above
-    → Has f (unless_named n ss ++ (ts ++ site_by t g es ∷ [])) (call_by f n (result_kind (type_in t)) g es callee args above)
+direct_has : {f : Framed} (site : Site) → line_of f site ≡ line_by f None site
+    → Has f (site ∷ []) (direct_code (is_counted (bare site.callee)) (passed_of (is_fast (bare site.callee)) site.args) (result_kind (type_in site.type)))
+direct_has {f = f} site e =
+    let counted : Bool = is_counted (bare site.callee) in
+    let p : Passed = passed_of (is_fast (bare site.callee)) site.args in
+    let stored : Free ptr4_code = record { none = refl } in
+    has_before stored (has_before (count_free counted p) (has_behind (one_call site (line_by f None site) refl e) (result_free (result_kind (type_in site.type)))))
+
+call_has : {f : Framed} {ss : List Site} {callee args above : List Line} (n : Option ℕ) (t : QTy) (g : Typed) (es : Nodes) → named g ≡ n → Has f ss callee → Has f (args_sites es) args → Has f (args_sites es) above
+    → Has f (unless_named n ss ++ (args_sites es ++ site_by t g es ∷ [])) (call_by f n (result_kind (type_in t)) g es callee args above)
 call_has {f = f} (Some i) t g es e dc da db = has_then da (named_has i (library_at f i) (site_by t g es) (ap (λ (n : Option ℕ). line_by f n (site_by t g es)) e))
-call_has {f = f} None t g es e dc da db = has_then dc (has_before (free_leaves (push_leaves Ax [])) (has_then db (pointer_has (site_by t g es) (ap (λ (n : Option ℕ). line_by f n (site_by t g es)) e))))
+call_has {f = f} None t g none e dc da db = has_then dc (direct_has (site_by t g none) (ap (λ (n : Option ℕ). line_by f n (site_by t g none)) e))
+call_has {f = f} None t g (some a rest) e dc da db =
+    let es : Nodes = some a rest in
+    has_then dc (has_before (free_leaves (push_leaves Ax [])) (has_then db (pointer_has (site_by t g es) (ap (λ (n : Option ℕ). line_by f n (site_by t g es)) e))))
 
 -- ---- the whole tree
 

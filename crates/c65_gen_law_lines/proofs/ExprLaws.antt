@@ -37,7 +37,7 @@ use Rattle.c65_genexpr.specs.Code.{target_code, truth_code, behind_open, compoun
 use Rattle.c65_gen_law_lines.specs.Bulk.{nodes, nodes_in}
 use Rattle.c65_gen_law_lines.specs.Laws.{ExpressionsOwnTheirLabels, ExpressionsAreSmall, ExpressionsAreFit}
 use Rattle.c65_gen_law_lines.proofs.Made.{Leads, leads_wider, leads_append, leads_plain, leads_to, times-append, size-append, plain_times, among_split, among_one, all_append, Piece, Made, made_piece, made_append, made_behind, made_before, made_wider, made_as, made_none}
-use Rattle.c65_gen_law_lines.proofs.Pieces.{by_access, number_piece, symbol_piece, object_piece, offset_piece, load_piece, conversion_piece, unary_piece, between_piece, behind_piece, short_piece, push_piece, test_piece, hold_piece, store_piece, copy_piece, step_piece, open_piece, close_piece, named_piece, pointer_piece, argument_piece}
+use Rattle.c65_gen_law_lines.proofs.Pieces.{by_access, number_piece, symbol_piece, object_piece, offset_piece, load_piece, conversion_piece, unary_piece, between_piece, behind_piece, short_piece, push_piece, test_piece, hold_piece, store_piece, copy_piece, step_piece, open_piece, close_piece, named_piece, pointer_piece, argument_piece, direct_piece}
 
 -- ---- places that are known
 
@@ -201,10 +201,15 @@ compound_made f pushed op operands a b lo m j k left right ma mb =
     (made_behind (lo + uses a) m k (by_access 41 108 access) right (close_code op operands (kind_in b) place access) mb (close_piece op operands (kind_in b) place access))))
     (omega (arith, open_and_close access, access_fits 69 153 (types_of f.parts.types) a (omega arith) (omega arith)))
 
-call_made : (f : Framed) (n : Option ℕ) (kind : Option IntType) (g : Typed) (es : Nodes) (lo u m j k : ℕ) (callee args above : List Line) → Made lo u j callee → Made lo m k args → Made (lo + u) m k above → Made lo (unless_named n u + m) (j + k + 63) (call_by f n kind g es callee args above)
-call_made f (Some i) kind g es lo u m j k callee args above mc ma mb =
+call_made : (f : Framed) (n : Option ℕ) (kind : Option IntType) (g : Typed) (es : Nodes) (lo u j k : ℕ) (callee args above : List Line) → Made lo u j callee → Made lo (args_uses es) k args → Made (lo + u) (args_uses es) k above → Made lo (unless_named n u + args_uses es) (j + k + 63) (call_by f n kind g es callee args above)
+call_made f (Some i) kind g es lo u j k callee args above mc ma mb =
+    let m : ℕ = args_uses es in
     made_as lo m (0 + m) (j + k + 63) _ (omega arith) (made_wider lo m (k + 63) (j + k + 63) _ (made_behind lo m k 63 args _ ma (named_piece f i (is_counted (bare g)) (passed_of (is_fast (bare g)) es) kind)) (omega arith))
-call_made f None kind g es lo u m j k callee args above mc ma mb =
+call_made f None kind g none lo u j k callee args above mc ma mb =
+    made_as lo u (u + 0) (j + k + 63) _ (omega arith) (made_wider lo u (j + 12) (j + k + 63) _ (made_behind lo u j 12 callee _ mc (direct_piece (is_counted (bare g)) (passed_of (is_fast (bare g)) none) kind)) (omega arith))
+call_made f None kind g (some e rest) lo u j k callee args above mc ma mb =
+    let es : Nodes = some e rest in
+    let m : ℕ = args_uses es in
     made_wider lo (u + m) (j + (3 + (k + 26))) (j + k + 63) _ (made_append lo u m j (3 + (k + 26)) callee _ mc (made_before (lo + u) m 3 (k + 26) (push_code Ax) _ (push_piece Ax) (made_behind (lo + u) m k 26 above _ mb (pointer_piece (is_counted (bare g)) (passed_of (is_fast (bare g)) es) kind)))) (omega arith)
 
 -- ---- the whole tree
@@ -258,7 +263,7 @@ mutual
   node_made f pushed lo t (copy a b) =
       made_wider lo (uses a + uses b) (room a + (3 + (room b + 13))) _ _ (made_append lo (uses a) (uses b) (room a) (3 + (room b + 13)) _ _ (expr_made f pushed lo a) (made_before (lo + uses a) (uses b) 3 (room b + 13) _ _ (push_piece Ax) (made_behind (lo + uses a) (uses b) (room b) 13 _ _ (expr_made f (more pushed 2) (lo + uses a) b) (copy_piece (type_bytes f (type_in t)))))) (omega (arith, some_nodes a, some_nodes b))
   node_made f pushed lo t (call g es) =
-      made_wider lo (unless_named (named g) (uses g) + args_uses es) (room g + 128 * nodes_in es + 63) _ _ (call_made f (named g) (result_kind (type_in t)) g es lo (uses g) (args_uses es) (room g) (128 * nodes_in es) _ _ _ (expr_made f pushed lo g) (args_made f pushed lo (is_fast (bare g)) es) (args_made f (more pushed 2) (lo + uses g) (is_fast (bare g)) es)) (omega (arith, some_nodes g))
+      made_wider lo (unless_named (named g) (uses g) + args_uses es) (room g + 128 * nodes_in es + 63) _ _ (call_made f (named g) (result_kind (type_in t)) g es lo (uses g) (room g) (128 * nodes_in es) _ _ _ (expr_made f pushed lo g) (args_made f pushed lo (is_fast (bare g)) es) (args_made f (more pushed 2) (lo + uses g) (is_fast (bare g)) es)) (omega (arith, some_nodes g))
 
   args_made : (f : Framed) (pushed lo : ℕ) (fast : Bool) (es : Nodes) → Made lo (args_uses es) (128 * nodes_in es) (args_code f pushed lo fast es)
   args_made f pushed lo fast none = made_none lo 0

@@ -36,7 +36,7 @@ use Rattle.c65_genload.specs.declared.places.Place.TheVariants as places
 use Rattle.c65_genload.specs.declared.places.Access.{Access}
 use Rattle.c65_genload.specs.declared.places.Access.TheVariants.{Whole, Part}
 use Rattle.c65_genload.specs.Places.{type_in, byte_more, extent_of}
-use Rattle.c65_genload.specs.Numbers.{number_code, add_word_code, add_by_width, add_code, mask_code, by_code, shift_code, scale_code, divide_code}
+use Rattle.c65_genload.specs.Numbers.{number_code, add_word_code, add_by_width, add_code, mask_code, by_code, shift_code, scale_code, is_divisor, divide_code}
 use Rattle.c65_genload.specs.Conversions.{widen_code, convert_code, convert_to, push_code, pass_code, test_code}
 use Rattle.c65_genload.specs.Addresses.{symbol_code, address_code, above_code, raised_code, offset_code}
 use Rattle.c65_genload.specs.Fields.{ones, others, extract_code, aligned_code}
@@ -49,7 +49,7 @@ use Rattle.c65_genexpr.specs.Places.{more, soft_code, code_at, object_code}
 use Rattle.c65_genexpr.specs.Operands.{computes, between_code, difference_code, behind_code, unary_code, conversion_code, negative, scaled, short_code}
 use Rattle.c65_genexpr.specs.Steps.{is_post, back_code, after_code, step_code, open_code, close_code}
 use Rattle.c65_genexpr.specs.Arguments.{reads_of, registers_of, argument_code}
-use Rattle.c65_genexpr.specs.Calls.{count_code, fetch_code, result_code, library_at, named_by, named_code, pointer_code}
+use Rattle.c65_genexpr.specs.Calls.{count_code, fetch_code, result_code, library_at, named_by, named_code, pointer_code, direct_code, ptr4_code}
 use Rattle.c65_gen_law_lines.proofs.Made.{Piece, piece_append, piece_wider, piece_if, piece_none}
 
 pub narrow_piece : (kind : IntType) → Piece 3 (narrow_code kind)
@@ -91,8 +91,11 @@ double_piece = record { plain = refl; fit = refl; size = omega arith }
 pub scale_piece : (n : ℕ) → Piece 13 (scale_code n)
 scale_piece n = piece_if 13 (n == 1) [] _ (piece_none 13) (piece_if 13 (n == 2) (call (Unary Shl1 Ax) ∷ []) (by_code tos.Mul n) double_piece (piece_wider 10 13 (by_code tos.Mul n) (by_piece tos.Mul n) (omega arith)))
 
+zero_piece : Piece 10 (number_code Ax 0)
+zero_piece = record { plain = refl; fit = refl; size = omega arith }
+
 divide_piece : (n : ℕ) → Piece 10 (divide_code n)
-divide_piece n = piece_if 10 (n == 1) [] (by_code tos.Div n) (piece_none 10) (by_piece tos.Div n)
+divide_piece n = piece_if 10 (n == 1) [] _ (piece_none 10) (piece_if 10 (is_divisor n) (by_code tos.Div n) (number_code Ax 0) (by_piece tos.Div n) zero_piece)
 
 pub symbol_piece : (s : Sym) (at : ℕ) → Piece 4 (symbol_code s at)
 symbol_piece s at = record { plain = refl; fit = refl; size = omega arith }
@@ -350,6 +353,12 @@ named_piece f i counted p kind = named_by_piece f i (library_at f i) counted p k
 
 fetch_piece : (p : Passed) → Piece 15 (fetch_code p)
 fetch_piece p = record { plain = refl; fit = refl; size = omega arith }
+
+pub direct_piece : (counted : Bool) (p : Passed) (kind : Option IntType) → Piece 12 (direct_code counted p kind)
+direct_piece counted p kind =
+    let stored : Piece 4 ptr4_code = record { plain = refl; fit = refl; size = omega arith } in
+    let one : Piece 3 (Call (Pointer (reads_of counted p) (registers_of kind)) ∷ []) = record { plain = refl; fit = refl; size = omega arith } in
+    piece_append 4 8 ptr4_code _ stored (piece_append 2 6 (count_code counted p) _ (count_piece counted p) (one_call 3 (Call (Pointer (reads_of counted p) (registers_of kind))) _ one (result_piece kind)))
 
 pub pointer_piece : (counted : Bool) (p : Passed) (kind : Option IntType) → Piece 26 (pointer_code counted p kind)
 pointer_piece counted p kind =

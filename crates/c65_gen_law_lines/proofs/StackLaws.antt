@@ -35,7 +35,7 @@ use Rattle.c65_genexpr.specs.Operands.{residue_of, operands_of, computes, is_sho
 use Rattle.c65_genexpr.specs.Steps.{amount_of}
 use Rattle.c65_genexpr.specs.Arguments.{is_fast, is_counted, stays, passed_of, argument_code, reads_of, registers_of}
 use Rattle.c65_genexpr.specs.Arguments as arguments
-use Rattle.c65_genexpr.specs.Calls.{named, count_code, fetch_code, result_code, library_at, named_by, pointer_code}
+use Rattle.c65_genexpr.specs.Calls.{named, count_code, fetch_code, result_code, library_at, named_by, pointer_code, direct_code, ptr4_code}
 use Rattle.c65_genexpr.specs.Uses.{uses}
 use Rattle.c65_genexpr.specs.Code.{target_code, behind_open, compound, call_by, expr_code, node_code, args_code}
 use Rattle.c65_gen_law_lines.specs.Stack.{bytes_in, Waiting, waiting_by, taken, left, waits, argument_bytes, passed, unless_named, calls_of, node_calls, args_calls}
@@ -140,10 +140,20 @@ pointer_does counted p kind ns v =
     let fetch : Leaves (ns ++ 2 ∷ v) (fetch_code p) (ns ++ 2 ∷ v) = record { to = λ calls. refl } in
     does_before fetch (does_before (count_still counted p (ns ++ 2 ∷ v)) (does_behind one (leaves_then two (result_still kind v))))
 
-call_does : {cs ds : List (List ℕ)} {v : List ℕ} {callee args above : List Line} (f : Framed) (n : Option ℕ) (kind : Option IntType) (g : Typed) (es : Nodes) → Does cs v callee v → Does ds v args (passed (is_fast (bare g)) es ++ v) → Does ds (2 ∷ v) above (passed (is_fast (bare g)) es ++ 2 ∷ v)
-    → Does (unless_named n cs ++ (ds ++ passed (is_fast (bare g)) es ∷ [])) v (call_by f n kind g es callee args above) v
+direct_does : (counted : Bool) (p : Passed) (kind : Option IntType) (v : List ℕ) → Does ([] ∷ []) v (direct_code counted p kind) v
+direct_does counted p kind v =
+    let line : Line = Call (Pointer (reads_of counted p) (registers_of kind)) in
+    let one : Does ([] ∷ []) v (line ∷ []) v = record { to = λ rest. ap (left rest) (taken_all [] v) } in
+    let stored : Leaves v ptr4_code v = record { to = λ calls. refl } in
+    does_before stored (does_before (count_still counted p v) (does_behind one (result_still kind v)))
+
+call_does : {cs : List (List ℕ)} {v : List ℕ} {callee args above : List Line} (f : Framed) (n : Option ℕ) (kind : Option IntType) (g : Typed) (es : Nodes) → Does cs v callee v → Does (args_calls es) v args (passed (is_fast (bare g)) es ++ v) → Does (args_calls es) (2 ∷ v) above (passed (is_fast (bare g)) es ++ 2 ∷ v)
+    → Does (unless_named n cs ++ (args_calls es ++ passed (is_fast (bare g)) es ∷ [])) v (call_by f n kind g es callee args above) v
 call_does {v = v} f (Some i) kind g es dc da db = does_then da (named_does f i (library_at f i) (is_counted (bare g)) (passed_of (is_fast (bare g)) es) kind (passed (is_fast (bare g)) es) v)
-call_does {v = v} f None kind g es dc da db = does_then dc (does_before (push_leaves Ax v) (does_then db (pointer_does (is_counted (bare g)) (passed_of (is_fast (bare g)) es) kind (passed (is_fast (bare g)) es) v)))
+call_does {v = v} f None kind g none dc da db = does_then dc (direct_does (is_counted (bare g)) (passed_of (is_fast (bare g)) none) kind v)
+call_does {v = v} f None kind g (some e es) dc da db =
+    let all : Nodes = some e es in
+    does_then dc (does_before (push_leaves Ax v) (does_then db (pointer_does (is_counted (bare g)) (passed_of (is_fast (bare g)) all) kind (passed (is_fast (bare g)) all) v)))
 
 -- ---- the whole tree
 

@@ -30,7 +30,7 @@ use Rattle.c65_genload.specs.declared.places.Place.TheVariants as places
 use Rattle.c65_genload.specs.declared.places.Access.{Access}
 use Rattle.c65_genload.specs.declared.places.Access.TheVariants.{Whole, Part}
 use Rattle.c65_genload.specs.Places.{type_in, byte_more, extent_of}
-use Rattle.c65_genload.specs.Numbers.{number_code, add_word_code, add_by_width, add_code, mask_code, by_code, shift_code, scale_code, divide_code}
+use Rattle.c65_genload.specs.Numbers.{number_code, add_word_code, add_by_width, add_code, mask_code, by_code, shift_code, scale_code, is_divisor, divide_code}
 use Rattle.c65_genload.specs.Conversions.{widen_code, convert_code, convert_to, push_code, pass_code, test_code, waiting, size_of}
 use Rattle.c65_genload.specs.Addresses.{address_code, above_code, offset_code}
 use Rattle.c65_genload.specs.Fields.{ones, others, extract_code}
@@ -103,7 +103,7 @@ scale_still : (n : ℕ) → Still (scale_code n)
 scale_still n v = leaves_if (n == 1) leaves_none (leaves_if (n == 2) (double_still v) (by_still tos.Mul n v))
 
 divide_still : (n : ℕ) → Still (divide_code n)
-divide_still n v = leaves_if (n == 1) leaves_none (by_still tos.Div n v)
+divide_still n v = leaves_if (n == 1) leaves_none (leaves_if (is_divisor n) (by_still tos.Div n v) (number_still Ax 0 v))
 
 above_still : (n : ℕ) → Still (call LdAi ∷ (above_code ++ add_code ints.UInt n))
 above_still n v = record { to = λ calls. refl }

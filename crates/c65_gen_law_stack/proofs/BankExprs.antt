@@ -34,7 +34,7 @@ use Rattle.c65_genexpr.specs.Calls.{named}
 use Rattle.c65_genexpr.specs.Uses.{uses}
 use Rattle.c65_genexpr.specs.Code.{target_code, behind_open, compound, call_by, truth_code, test_in, expr_code, node_code, args_code}
 use Rattle.c65_gen_law_stack.proofs.FrameOrder.{NotBank}
-use Rattle.c65_gen_law_stack.proofs.BankPieces.{Clear, clear_then, clear_none, IsOff, number_clear, symbol_clear, offset_clear, object_clear, conversion_clear, push_clear, argument_clear, test_clear, hold_clear, load_clear, store_clear, copy_clear, unary_clear, between_clear, behind_clear, short_clear, step_clear, open_clear, close_clear, named_clear, pointer_clear}
+use Rattle.c65_gen_law_stack.proofs.BankPieces.{Clear, clear_then, clear_none, IsOff, number_clear, symbol_clear, offset_clear, object_clear, conversion_clear, push_clear, argument_clear, test_clear, hold_clear, load_clear, store_clear, copy_clear, unary_clear, between_clear, behind_clear, short_clear, step_clear, open_clear, close_clear, named_clear, direct_clear, pointer_clear}
 
 -- no home of a frame is in regbank
 abbrev pub IsBankless : Framed → Type 0
@@ -89,7 +89,8 @@ compound_clear f pushed op operands a b bankless ca cb =
 
 call_clear : {callee args above : List Line} (f : Framed) (n : Option ℕ) (kind : Option IntType) (g : Typed) (es : Nodes) → Clear callee → Clear args → Clear above → Clear (call_by f n kind g es callee args above)
 call_clear f (Some i) kind g es cc ca cb = clear_then ca (named_clear f i (is_counted (bare g)) (passed_of (is_fast (bare g)) es) kind)
-call_clear f None kind g es cc ca cb = clear_then cc (clear_then (push_clear Ax) (clear_then cb (pointer_clear (is_counted (bare g)) (passed_of (is_fast (bare g)) es) kind)))
+call_clear f None kind g none cc ca cb = clear_then cc (direct_clear (is_counted (bare g)) (passed_of (is_fast (bare g)) none) kind)
+call_clear f None kind g (some e es) cc ca cb = clear_then cc (clear_then (push_clear Ax) (clear_then cb (pointer_clear (is_counted (bare g)) (passed_of (is_fast (bare g)) (some e es)) kind)))
 
 beq_clear : (l : ℕ) → Clear (branch Beq l ∷ [])
 beq_clear l = record { all = refl }

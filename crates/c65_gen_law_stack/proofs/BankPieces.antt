@@ -39,7 +39,7 @@ use Rattle.c65_genload.specs.declared.places.Place.TheVariants as places
 use Rattle.c65_genload.specs.declared.places.Access.{Access}
 use Rattle.c65_genload.specs.declared.places.Access.TheVariants.{Whole, Part}
 use Rattle.c65_genload.specs.Places.{type_in, byte_more, extent_of}
-use Rattle.c65_genload.specs.Numbers.{number_code, add_word_code, add_by_width, add_code, mask_code, by_code, shift_code, scale_code, divide_code}
+use Rattle.c65_genload.specs.Numbers.{number_code, add_word_code, add_by_width, add_code, mask_code, by_code, shift_code, scale_code, is_divisor, divide_code}
 use Rattle.c65_genload.specs.Conversions.{widen_code, convert_code, convert_to, push_code, pass_code, test_code}
 use Rattle.c65_genload.specs.Addresses.{symbol_code, address_code, above_code, raised_code, offset_code}
 use Rattle.c65_genload.specs.Fields.{ones, others, extract_code}
@@ -52,7 +52,7 @@ use Rattle.c65_genexpr.specs.Places.{more, soft_code, code_at, object_code}
 use Rattle.c65_genexpr.specs.Operands.{computes, between_code, difference_code, behind_code, unary_code, conversion_code, negative, scaled, short_code}
 use Rattle.c65_genexpr.specs.Steps.{is_post, back_code, step_code, open_code, close_code}
 use Rattle.c65_genexpr.specs.Arguments.{reads_of, registers_of, argument_code}
-use Rattle.c65_genexpr.specs.Calls.{count_code, fetch_code, result_code, library_at, named_by, named_code, pointer_code}
+use Rattle.c65_genexpr.specs.Calls.{count_code, fetch_code, result_code, library_at, named_by, named_code, pointer_code, direct_code, ptr4_code}
 use Rattle.c65_gen_law_stack.specs.Bank.{leaves_bank}
 
 -- lines that write nothing of regbank
@@ -108,7 +108,7 @@ pub scale_clear : (n : ℕ) → Clear (scale_code n)
 scale_clear n = let one : Clear (call (Unary Shl1 Ax) ∷ []) = record { all = refl } in clear_if (n == 1) clear_none (clear_if (n == 2) one (by_clear tos.Mul n))
 
 divide_clear : (n : ℕ) → Clear (divide_code n)
-divide_clear n = clear_if (n == 1) clear_none (by_clear tos.Div n)
+divide_clear n = clear_if (n == 1) clear_none (clear_if (is_divisor n) (by_clear tos.Div n) (number_clear Ax 0))
 
 pub symbol_clear : (s : Sym) (at : ℕ) → Clear (symbol_code s at)
 symbol_clear s at = record { all = refl }
@@ -315,6 +315,12 @@ named_by_clear f i None counted p kind =
 
 pub named_clear : (f : Framed) (i : ℕ) (counted : Bool) (p : Passed) (kind : Option IntType) → Clear (named_code f i counted p kind)
 named_clear f i counted p kind = named_by_clear f i (library_at f i) counted p kind
+
+pub direct_clear : (counted : Bool) (p : Passed) (kind : Option IntType) → Clear (direct_code counted p kind)
+direct_clear counted p kind =
+    let one : Clear (Call (Pointer (reads_of counted p) (registers_of kind)) ∷ []) = record { all = refl } in
+    let stored : Clear ptr4_code = record { all = refl } in
+    clear_then stored (clear_then (count_clear counted p) (clear_then one (result_clear kind)))
 
 pub pointer_clear : (counted : Bool) (p : Passed) (kind : Option IntType) → Clear (pointer_code counted p kind)
 pointer_clear counted p kind =

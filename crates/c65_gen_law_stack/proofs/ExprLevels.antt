@@ -35,13 +35,13 @@ use Rattle.c65_genexpr.specs.Operands.{residue_of, operands_of, computes, is_sho
 use Rattle.c65_genexpr.specs.Steps.{amount_of}
 use Rattle.c65_genexpr.specs.Arguments.{is_fast, is_counted, stays, passed_of, reads_of, registers_of}
 use Rattle.c65_genexpr.specs.Arguments as arguments
-use Rattle.c65_genexpr.specs.Calls.{named, count_code, fetch_code, result_code, library_at, named_by, named_code, pointer_code}
+use Rattle.c65_genexpr.specs.Calls.{named, count_code, fetch_code, result_code, library_at, named_by, named_code, pointer_code, direct_code, ptr4_code}
 use Rattle.c65_genexpr.specs.Uses.{uses}
 use Rattle.c65_genexpr.specs.Code.{target_code, behind_open, compound, call_by, truth_code, test_in, expr_code, node_code, args_code}
 use Rattle.c65_gen_law_lines.specs.Stack.{waiting_by, taken, left, waits, argument_bytes, passed, unless_named, calls_of, node_calls, args_calls}
 use Rattle.c65_gen_law_lines.proofs.Made.{is_plain}
 use Rattle.c65_gen_law_lines.proofs.ExprLaws.{moved_known, no_short}
-use Rattle.c65_gen_law_lines.proofs.Pieces.{number_piece, symbol_piece, offset_piece, object_piece, conversion_piece, push_piece, argument_piece, test_piece, hold_piece, load_piece, store_piece, copy_piece, unary_piece, between_piece, behind_piece, short_piece, step_piece, open_piece, close_piece, named_piece, pointer_piece}
+use Rattle.c65_gen_law_lines.proofs.Pieces.{number_piece, symbol_piece, offset_piece, object_piece, conversion_piece, push_piece, argument_piece, test_piece, hold_piece, load_piece, store_piece, copy_piece, unary_piece, between_piece, behind_piece, short_piece, step_piece, open_piece, close_piece, named_piece, pointer_piece, direct_piece}
 use Rattle.c65_gen_law_lines.proofs.StackPieces.{waits_append, Leaves, leaves_then, leaves_none, Still, narrow_still, number_still, object_still, offset_still, conversion_still, push_leaves, argument_leaves, test_still, holding, hold_leaves, load_still, stored_leaves, copy_leaves, unary_still, between_leaves, behind_leaves, short_still, step_still, open_leaves, close_leaves}
 use Rattle.c65_gen_law_lines.proofs.StackLaws.{nothing_more}
 use Rattle.c65_gen_law_stack.proofs.Levels.{Level, Nowhere, There, level_then, level_end, level_behind, level_plain, level_piece, level_none, level_label, level_leads, Closed, closed_open, closed_then, closed_behind, closed_as}
@@ -124,14 +124,26 @@ pointer_does counted p kind ns v =
     let fetch : Leaves (ns ++ 2 ∷ v) (fetch_code p) (ns ++ 2 ∷ v) = record { to = λ calls. refl } in
     does_before fetch (does_before (count_still counted p (ns ++ 2 ∷ v)) (does_behind one (leaves_then two (result_still kind v))))
 
-call_level : {cs ds : List (List ℕ)} {v : List ℕ} {callee args above : List Line} (f : Framed) (n : Option ℕ) (kind : Option IntType) (g : Typed) (es : Nodes) → Closed cs v callee v → Closed ds v args (passed (is_fast (bare g)) es ++ v)
-    → Closed ds (2 ∷ v) above (passed (is_fast (bare g)) es ++ 2 ∷ v) → Closed (unless_named n cs ++ (ds ++ passed (is_fast (bare g)) es ∷ [])) v (call_by f n kind g es callee args above) v
+direct_does : (counted : Bool) (p : Passed) (kind : Option IntType) (v : List ℕ) → Does ([] ∷ []) v (direct_code counted p kind) v
+direct_does counted p kind v =
+    let line : Line = Call (Pointer (reads_of counted p) (registers_of kind)) in
+    let one : Does ([] ∷ []) v (line ∷ []) v = record { to = λ rest. ap (left rest) (taken_all [] v) } in
+    let stored : Leaves v ptr4_code v = record { to = λ calls. refl } in
+    does_before stored (does_before (count_still counted p v) (does_behind one (result_still kind v)))
+
+call_level : {cs : List (List ℕ)} {v : List ℕ} {callee args above : List Line} (f : Framed) (n : Option ℕ) (kind : Option IntType) (g : Typed) (es : Nodes) → Closed cs v callee v → Closed (args_calls es) v args (passed (is_fast (bare g)) es ++ v)
+    → Closed (args_calls es) (2 ∷ v) above (passed (is_fast (bare g)) es ++ 2 ∷ v) → Closed (unless_named n cs ++ (args_calls es ++ passed (is_fast (bare g)) es ∷ [])) v (call_by f n kind g es callee args above) v
 call_level {v = v} f (Some i) kind g es dc da db =
     let ns : List ℕ = passed (is_fast (bare g)) es in
     let p : Passed = passed_of (is_fast (bare g)) es in
     let does : Does (ns ∷ []) (ns ++ v) (named_code f i (is_counted (bare g)) p kind) v = named_does f i (library_at f i) (is_counted (bare g)) p kind ns v in
     closed_then da (level_plain does.to (named_piece f i (is_counted (bare g)) p kind).plain)
-call_level {v = v} f None kind g es dc da db =
+call_level {v = v} f None kind g none dc da db =
+    let p : Passed = passed_of (is_fast (bare g)) none in
+    let does : Does ([] ∷ []) v (direct_code (is_counted (bare g)) p kind) v = direct_does (is_counted (bare g)) p kind v in
+    closed_then dc (level_plain does.to (direct_piece (is_counted (bare g)) p kind).plain)
+call_level {v = v} f None kind g (some e rest) dc da db =
+    let es : Nodes = some e rest in
     let ns : List ℕ = passed (is_fast (bare g)) es in
     let p : Passed = passed_of (is_fast (bare g)) es in
     let does : Does (ns ∷ []) (ns ++ 2 ∷ v) (pointer_code (is_counted (bare g)) p kind) v = pointer_does (is_counted (bare g)) p kind ns v in

@@ -1,9 +1,8 @@
 // How the symbols of a program are spelled.
-ghost use Rattle.std.specs.Prelude.{◌≡◌, ◌+◌, ◌≤◌, ◌^◌, length, slice_get, IfOk, IfErr, OnOk};
-ghost use Rattle.c65_base.specs.declared.refusal.Refusal.TheVariants.{OutOfMemory};
+ghost use Rattle.std.specs.Prelude.{◌≡◌, ◌+◌, ◌≤◌, ◌^◌, length, slice_get, IfOk, OnOk};
 ghost use Rattle.c65_gendata.specs.Symbols.{known, external, numbered, plain_spelling, plain_symbol, is_external, with_objects, with_literals, with_functions, symbols_of};
 
-use c65_base::{Name, Names, Refusal, Text};
+use c65_base::{Name, Names, Text};
 use c65_code::Symbol;
 use c65_csem::{Class, TFunc, TObject, TProgram};
 use c65_genframe::Numbers;
@@ -140,9 +139,12 @@ fn add_functions(
 /// The symbols of a program by their numbers: its objects, then its literals, then its functions.
 /// An external name is spelled `_NAME`, a literal `qN`, and anything else `sN`, N the symbol's
 /// number. Needs the table that gave the program's names. Refuses for want of memory alone.
-pub fn gen_symbols(alloc: Global, program: &TProgram, names: &Names) -> Result<Vec<Symbol>, Refusal>
+pub fn gen_symbols(
+    alloc: Global,
+    program: &TProgram,
+    names: &Names,
+) -> Result<Vec<Symbol>, AllocError>
     ensures symbols { IfOk result (λ v. v.items ≡ symbols_of names.now program.now.0) }
-    ensures refused { IfErr result (λ e. e ≡ OutOfMemory) }
 {
     let parts = program.unit().parts();
     let _ = Numbers::of(parts)?;

@@ -1,7 +1,6 @@
 -- What a draft keeps, step by step, where labels are given too.
 use Rattle.std.proofs.Common.{◌≡◌, ℕ, ◌+◌, List, ◌++◌, ap, ◌∙◌, append_assoc, add_assoc, refl, Result, Ok, Err}
 use Rattle.std.specs.Result.{OnErr}
-use Rattle.c65_base.specs.declared.refusal.Refusal.{Refusal}
 use Rattle.c65_code.specs.declared.line.Line.{Line}
 use Rattle.c65_code.specs.Segments.{Drafted}
 use Rattle.c65_genwide.specs.Lines.{with_lines, Keeps}
@@ -26,7 +25,7 @@ labels_then d e g n h k =
       is = k.is ∙ ap (λ (x : Drafted). record x { lines = x.lines ++ k.lines; labels = x.labels + k.labels }) h ∙ ap (λ (m : ℕ). record d { lines = d.lines ++ k.lines; labels = m }) (add_assoc d.labels n k.labels);
     }
 
-pub code_last : {A : Type 0} (r : Result A Refusal) (d e g : Drafted) (n : ℕ) (ls : List Line) → e ≡ with_code n ls d → OnErr r (Keeps e g) → OnErr r (Keeps d g)
+pub code_last : {A E : Type 0} (r : Result A E) (d e g : Drafted) (n : ℕ) (ls : List Line) → e ≡ with_code n ls d → OnErr r (Keeps e g) → OnErr r (Keeps d g)
 code_last (Ok u) d e g n ls h k = tt
 code_last (Err f) d e g n ls h k = code_then d e g n ls h k
 
@@ -40,10 +39,10 @@ kept_code d e n ls h = code_then d e e n ls h (kept_same e e refl)
 pub kept_on : (d e g : Drafted) → Keeps d e → Keeps e g → Keeps d g
 kept_on d e g h k = code_then d e g h.labels h.lines h.is k
 
-pub labels_last : {A : Type 0} (r : Result A Refusal) (d e g : Drafted) (n : ℕ) → e ≡ with_labels n d → OnErr r (Keeps e g) → OnErr r (Keeps d g)
+pub labels_last : {A E : Type 0} (r : Result A E) (d e g : Drafted) (n : ℕ) → e ≡ with_labels n d → OnErr r (Keeps e g) → OnErr r (Keeps d g)
 labels_last (Ok u) d e g n h k = tt
 labels_last (Err f) d e g n h k = labels_then d e g n h k
 
-pub refused_then : {A K : Type 0} (r : Result A Refusal) → K → OnErr r K
+pub refused_then : {A E K : Type 0} (r : Result A E) → K → OnErr r K
 refused_then (Ok u) k = tt
 refused_then (Err f) k = k

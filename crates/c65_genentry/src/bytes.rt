@@ -1,24 +1,22 @@
 // Blocks of bytes that are cleared or copied.
-ghost use Rattle.std.specs.Prelude.{◌≡◌, OnOk, OnErr, IfErr};
-ghost use Rattle.c65_base.specs.declared.refusal.Refusal.TheVariants.{OutOfMemory};
+ghost use Rattle.std.specs.Prelude.{◌≡◌, OnOk, OnErr};
 ghost use Rattle.c65_genwide.specs.Lines.{Keeps};
 ghost use Rattle.c65_genentry.specs.Words.{with_code};
 ghost use Rattle.c65_genentry.specs.Bytes.{page_code, rest_code, rest_labels, pages_code, block_code, block_labels, clear_code, copy_code};
 
 use crate::drafts::{fresh, label};
 use crate::places::{PTR1, PTR2};
-use c65_base::Refusal;
 use c65_code::Line::Do;
 use c65_code::Operand::{Byte, Nothing, To, Zero};
 use c65_code::{Draft, Line};
 use c65_genwide::put;
 use c65_mach::Mode::{Immediate, Implied, IndirectY, Relative, ZeroPage};
 use c65_mach::Op::{Bne, Cpy, Inc, Iny, Lda, Ldy, Sta};
+use std::alloc::AllocError;
 
 /// Lines for each of 256 bytes, by Y from 0, and then others once.
-fn put_page(each: &[Line], after: &[Line], draft: &mut Draft) -> Result<(), Refusal>
+fn put_page(each: &[Line], after: &[Line], draft: &mut Draft) -> Result<(), AllocError>
     ensures lines { OnOk result (draft.new ≡ with_code 1 (page_code each.now after.now draft.old.labels) draft.old) }
-    ensures refused { IfErr result (λ e. e ≡ OutOfMemory) }
     ensures kept { OnErr result (Keeps draft.old draft.new) }
 {
     let head = fresh(draft)?;
@@ -32,9 +30,8 @@ fn put_page(each: &[Line], after: &[Line], draft: &mut Draft) -> Result<(), Refu
 }
 
 #[tactic(auto, using(crate::proofs::Repeats::pages_next))]
-fn put_pages(each: &[Line], after: &[Line], count: u16, draft: &mut Draft) -> Result<(), Refusal>
+fn put_pages(each: &[Line], after: &[Line], count: u16, draft: &mut Draft) -> Result<(), AllocError>
     ensures lines { OnOk result (draft.new ≡ with_code count (pages_code each.now after.now count draft.old.labels) draft.old) }
-    ensures refused { IfErr result (λ e. e ≡ OutOfMemory) }
     ensures kept { OnErr result (Keeps draft.old draft.new) }
 {
     for _round in 0..count {
@@ -44,9 +41,8 @@ fn put_pages(each: &[Line], after: &[Line], count: u16, draft: &mut Draft) -> Re
 }
 
 /// Lines for each of so many bytes, by Y from 0.
-fn put_rest(each: &[Line], bytes: u8, draft: &mut Draft) -> Result<(), Refusal>
+fn put_rest(each: &[Line], bytes: u8, draft: &mut Draft) -> Result<(), AllocError>
     ensures lines { OnOk result (draft.new ≡ with_code (rest_labels bytes) (rest_code each.now bytes draft.old.labels) draft.old) }
-    ensures refused { IfErr result (λ e. e ≡ OutOfMemory) }
     ensures kept { OnErr result (Keeps draft.old draft.new) }
 {
     if bytes == 0 {
@@ -65,9 +61,8 @@ fn put_rest(each: &[Line], bytes: u8, draft: &mut Draft) -> Result<(), Refusal>
     )
 }
 
-fn put_block(each: &[Line], after: &[Line], bytes: u16, draft: &mut Draft) -> Result<(), Refusal>
+fn put_block(each: &[Line], after: &[Line], bytes: u16, draft: &mut Draft) -> Result<(), AllocError>
     ensures lines { OnOk result (draft.new ≡ with_code (block_labels bytes) (block_code each.now after.now bytes draft.old.labels) draft.old) }
-    ensures refused { IfErr result (λ e. e ≡ OutOfMemory) }
     ensures kept { OnErr result (Keeps draft.old draft.new) }
 {
     put_pages(each, after, bytes / 256, draft)?;
@@ -75,9 +70,8 @@ fn put_block(each: &[Line], after: &[Line], bytes: u16, draft: &mut Draft) -> Re
 }
 
 /// So many bytes from the address in ptr1 on become zero.
-pub fn clear_bytes(bytes: u16, draft: &mut Draft) -> Result<(), Refusal>
+pub fn clear_bytes(bytes: u16, draft: &mut Draft) -> Result<(), AllocError>
     ensures lines { OnOk result (draft.new ≡ with_code (block_labels bytes) (clear_code bytes draft.old.labels) draft.old) }
-    ensures refused { IfErr result (λ e. e ≡ OutOfMemory) }
     ensures kept { OnErr result (Keeps draft.old draft.new) }
 {
     put(
@@ -93,9 +87,8 @@ pub fn clear_bytes(bytes: u16, draft: &mut Draft) -> Result<(), Refusal>
 }
 
 /// So many bytes from the address in ptr1 on are copied to the address in ptr2, ascending.
-pub fn copy_bytes(bytes: u16, draft: &mut Draft) -> Result<(), Refusal>
+pub fn copy_bytes(bytes: u16, draft: &mut Draft) -> Result<(), AllocError>
     ensures lines { OnOk result (draft.new ≡ with_code (block_labels bytes) (copy_code bytes draft.old.labels) draft.old) }
-    ensures refused { IfErr result (λ e. e ≡ OutOfMemory) }
     ensures kept { OnErr result (Keeps draft.old draft.new) }
 {
     put(draft, &[Do(Ldy, Immediate, Byte(0))])?;

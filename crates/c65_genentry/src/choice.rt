@@ -1,19 +1,18 @@
 // The choice of a case (C90 6.6.4.2).
-ghost use Rattle.std.specs.Prelude.{◌≡◌, ◌≤◌, OnOk, OnErr, length, IfErr};
-ghost use Rattle.c65_base.specs.declared.refusal.Refusal.TheVariants.{OutOfMemory};
+ghost use Rattle.std.specs.Prelude.{◌≡◌, ◌≤◌, OnOk, OnErr, length};
 ghost use Rattle.c65_genwide.specs.Lines.{with_lines, Keeps};
 ghost use Rattle.c65_genentry.specs.Words.{with_code};
 ghost use Rattle.c65_genentry.specs.Choice.{bits_of, byte_of, word_test, long_test, test_code, case_code, choice_code};
 
 use crate::drafts::{fresh, label};
 use crate::places::SREG;
-use c65_base::Refusal;
 use c65_code::Line::Do;
 use c65_code::Operand::{Byte, To, Zero};
 use c65_code::{Draft, Width};
 use c65_genwide::put;
 use c65_mach::Mode::{Immediate, Relative, ZeroPage};
 use c65_mach::Op::{Beq, Bne, Cmp, Cpx, Cpy, Ldy};
+use std::alloc::AllocError;
 
 /// A value in two's complement of 32 bits.
 fn bits_of(value: i64) -> u32
@@ -30,9 +29,8 @@ fn byte_of(bits: u32, unit: u32) -> u8
     (bits / unit % 256) as u8
 }
 
-fn put_word_test(bits: u32, other: u32, case: u32, draft: &mut Draft) -> Result<(), Refusal>
+fn put_word_test(bits: u32, other: u32, case: u32, draft: &mut Draft) -> Result<(), AllocError>
     ensures lines { OnOk result (draft.new ≡ with_lines draft.old (word_test bits other case)) }
-    ensures refused { IfErr result (λ e. e ≡ OutOfMemory) }
     ensures kept { OnErr result (Keeps draft.old draft.new) }
 {
     put(
@@ -46,9 +44,8 @@ fn put_word_test(bits: u32, other: u32, case: u32, draft: &mut Draft) -> Result<
     )
 }
 
-fn put_long_test(bits: u32, other: u32, case: u32, draft: &mut Draft) -> Result<(), Refusal>
+fn put_long_test(bits: u32, other: u32, case: u32, draft: &mut Draft) -> Result<(), AllocError>
     ensures lines { OnOk result (draft.new ≡ with_lines draft.old (long_test bits other case)) }
-    ensures refused { IfErr result (λ e. e ≡ OutOfMemory) }
     ensures kept { OnErr result (Keeps draft.old draft.new) }
 {
     put(
@@ -72,9 +69,8 @@ fn put_test(
     other: u32,
     case: u32,
     draft: &mut Draft,
-) -> Result<(), Refusal>
+) -> Result<(), AllocError>
     ensures lines { OnOk result (draft.new ≡ with_lines draft.old (test_code width bits other case)) }
-    ensures refused { IfErr result (λ e. e ≡ OutOfMemory) }
     ensures kept { OnErr result (Keeps draft.old draft.new) }
 {
     match width {
@@ -84,9 +80,8 @@ fn put_test(
 }
 
 /// Goes to a case where the primary register has its value; the register stays.
-fn put_case(width: Width, value: i64, case: u32, draft: &mut Draft) -> Result<(), Refusal>
+fn put_case(width: Width, value: i64, case: u32, draft: &mut Draft) -> Result<(), AllocError>
     ensures lines { OnOk result (draft.new ≡ with_code 1 (case_code width value case draft.old.labels) draft.old) }
-    ensures refused { IfErr result (λ e. e ≡ OutOfMemory) }
     ensures kept { OnErr result (Keeps draft.old draft.new) }
 {
     let other = fresh(draft)?;
@@ -97,9 +92,8 @@ fn put_case(width: Width, value: i64, case: u32, draft: &mut Draft) -> Result<()
 
 /// Goes to the case with the value that the primary register has. The label of the first case is
 /// given, and the others follow it.
-pub fn choose(width: Width, first: u32, values: &[i64], draft: &mut Draft) -> Result<(), Refusal>
+pub fn choose(width: Width, first: u32, values: &[i64], draft: &mut Draft) -> Result<(), AllocError>
     ensures lines { OnOk result (draft.new ≡ with_code (length values.now) (choice_code width first draft.old.labels values.now) draft.old) }
-    ensures refused { IfErr result (λ e. e ≡ OutOfMemory) }
     ensures kept { OnErr result (Keeps draft.old draft.new) }
 {
     match values {

@@ -1,12 +1,10 @@
 // The end of a function (MACHINE.md, "Calls").
-ghost use Rattle.std.specs.Prelude.{◌≡◌, OnOk, OnErr, IfErr};
-ghost use Rattle.c65_base.specs.declared.refusal.Refusal.TheVariants.{OutOfMemory};
+ghost use Rattle.std.specs.Prelude.{◌≡◌, OnOk, OnErr};
 ghost use Rattle.c65_genwide.specs.Lines.{with_lines, Keeps};
 ghost use Rattle.c65_genentry.specs.Ends.{restored_code, plain_end, variadic_end, end_code};
 
 use crate::places::{SP, TMP1};
 use crate::stack::raise;
-use c65_base::Refusal;
 use c65_code::Line::Do;
 use c65_code::Operand::{Byte, Nothing, Zero};
 use c65_code::{Draft, Routine};
@@ -14,11 +12,11 @@ use c65_genframe::Frame;
 use c65_genwide::{put, run};
 use c65_mach::Mode::{Immediate, Implied, IndirectY, ZeroPage};
 use c65_mach::Op::{Lda, Ldy, Pha, Pla, Rts, Sta, Tay};
+use std::alloc::AllocError;
 
 /// Regbank is as it was where any of it was taken; the primary register stays.
-fn put_restored(bank: u8, draft: &mut Draft) -> Result<(), Refusal>
+fn put_restored(bank: u8, draft: &mut Draft) -> Result<(), AllocError>
     ensures lines { OnOk result (draft.new ≡ with_lines draft.old (restored_code bank)) }
-    ensures refused { IfErr result (λ e. e ≡ OutOfMemory) }
     ensures kept { OnErr result (Keeps draft.old draft.new) }
 {
     if bank > 0 {
@@ -28,9 +26,8 @@ fn put_restored(bank: u8, draft: &mut Draft) -> Result<(), Refusal>
     }
 }
 
-fn put_plain(soft: u16, bank: u8, stacked: u16, draft: &mut Draft) -> Result<(), Refusal>
+fn put_plain(soft: u16, bank: u8, stacked: u16, draft: &mut Draft) -> Result<(), AllocError>
     ensures lines { OnOk result (draft.new ≡ with_lines draft.old (plain_end soft bank stacked)) }
-    ensures refused { IfErr result (λ e. e ≡ OutOfMemory) }
     ensures kept { OnErr result (Keeps draft.old draft.new) }
 {
     raise(soft, draft)?;
@@ -40,9 +37,8 @@ fn put_plain(soft: u16, bank: u8, stacked: u16, draft: &mut Draft) -> Result<(),
 }
 
 /// The number of bytes that the call pushed waits on the hard stack while the rest is removed.
-fn put_variadic(soft: u16, bank: u8, draft: &mut Draft) -> Result<(), Refusal>
+fn put_variadic(soft: u16, bank: u8, draft: &mut Draft) -> Result<(), AllocError>
     ensures lines { OnOk result (draft.new ≡ with_lines draft.old (variadic_end soft bank)) }
-    ensures refused { IfErr result (λ e. e ≡ OutOfMemory) }
     ensures kept { OnErr result (Keeps draft.old draft.new) }
 {
     put(
@@ -72,9 +68,8 @@ fn put_variadic(soft: u16, bank: u8, draft: &mut Draft) -> Result<(), Refusal>
 
 /// Puts the lines at which a function ends: sp is as it was before its parameters were pushed,
 /// regbank is as it was at the call, and the primary register stays.
-pub fn put_end(frame: &Frame, draft: &mut Draft) -> Result<(), Refusal>
+pub fn put_end(frame: &Frame, draft: &mut Draft) -> Result<(), AllocError>
     ensures lines { OnOk result (draft.new ≡ with_lines draft.old (end_code frame.now)) }
-    ensures refused { IfErr result (λ e. e ≡ OutOfMemory) }
     ensures kept { OnErr result (Keeps draft.old draft.new) }
 {
     if frame.is_variadic() {

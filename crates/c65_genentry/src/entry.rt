@@ -1,12 +1,10 @@
 // The entry of a function (MACHINE.md, "Calls").
-ghost use Rattle.std.specs.Prelude.{◌≡◌, ◌<◌, OnOk, OnErr, IfErr};
-ghost use Rattle.c65_base.specs.declared.refusal.Refusal.TheVariants.{OutOfMemory};
+ghost use Rattle.std.specs.Prelude.{◌≡◌, ◌<◌, OnOk, OnErr};
 ghost use Rattle.c65_genwide.specs.Lines.{with_lines, Keeps};
 ghost use Rattle.c65_genentry.specs.Entry.{push_of, pushed_code, counted_code, saved_code, kept_code, bank_store, near_load, far_load, load_code, moved_code, all_moved, taken_bytes, count_code, entry_code};
 
 use crate::places::{REGBANK, SP};
 use crate::stack::lower;
-use c65_base::Refusal;
 use c65_code::Line::Do;
 use c65_code::Operand::{Byte, Nothing, Zero};
 use c65_code::{Draft, Routine};
@@ -14,6 +12,7 @@ use c65_genframe::{Arrival, Frame, Moved};
 use c65_genwide::{put, run};
 use c65_mach::Mode::{Immediate, Implied, IndirectY, ZeroPage};
 use c65_mach::Op::{Adc, Clc, Lda, Ldy, Sta, Stx, Tax, Tay, Tya};
+use std::alloc::AllocError;
 
 /// What pushes a parameter of so many bytes.
 fn push_of(bytes: u32) -> Routine
@@ -29,9 +28,8 @@ fn push_of(bytes: u32) -> Routine
 }
 
 /// The last parameter goes from the registers onto the software stack.
-fn put_pushed(last: Arrival, draft: &mut Draft) -> Result<(), Refusal>
+fn put_pushed(last: Arrival, draft: &mut Draft) -> Result<(), AllocError>
     ensures lines { OnOk result (draft.new ≡ with_lines draft.old (pushed_code last)) }
-    ensures refused { IfErr result (λ e. e ≡ OutOfMemory) }
     ensures kept { OnErr result (Keeps draft.old draft.new) }
 {
     match last {
@@ -40,9 +38,8 @@ fn put_pushed(last: Arrival, draft: &mut Draft) -> Result<(), Refusal>
     }
 }
 
-fn store_bank(bank: u8, bytes: u8, draft: &mut Draft) -> Result<(), Refusal>
+fn store_bank(bank: u8, bytes: u8, draft: &mut Draft) -> Result<(), AllocError>
     ensures lines { OnOk result (draft.new ≡ with_lines draft.old (bank_store bank bytes)) }
-    ensures refused { IfErr result (λ e. e ≡ OutOfMemory) }
     ensures kept { OnErr result (Keeps draft.old draft.new) }
 {
     let byte = REGBANK.wrapping_add(bank);
@@ -60,9 +57,8 @@ fn store_bank(bank: u8, bytes: u8, draft: &mut Draft) -> Result<(), Refusal>
 }
 
 /// The last parameter goes from the registers to regbank.
-fn put_kept(last: Arrival, draft: &mut Draft) -> Result<(), Refusal>
+fn put_kept(last: Arrival, draft: &mut Draft) -> Result<(), AllocError>
     ensures lines { OnOk result (draft.new ≡ with_lines draft.old (kept_code last)) }
-    ensures refused { IfErr result (λ e. e ≡ OutOfMemory) }
     ensures kept { OnErr result (Keeps draft.old draft.new) }
 {
     match last {
@@ -72,9 +68,8 @@ fn put_kept(last: Arrival, draft: &mut Draft) -> Result<(), Refusal>
 }
 
 /// Regbank is saved where any of it is taken; the primary register stays.
-fn put_saved(bank: u8, draft: &mut Draft) -> Result<(), Refusal>
+fn put_saved(bank: u8, draft: &mut Draft) -> Result<(), AllocError>
     ensures lines { OnOk result (draft.new ≡ with_lines draft.old (saved_code bank)) }
-    ensures refused { IfErr result (λ e. e ≡ OutOfMemory) }
     ensures kept { OnErr result (Keeps draft.old draft.new) }
 {
     if bank > 0 {
@@ -85,9 +80,8 @@ fn put_saved(bank: u8, draft: &mut Draft) -> Result<(), Refusal>
 }
 
 /// The number of bytes that the call pushed goes from Y to A.
-fn put_counted(variadic: bool, draft: &mut Draft) -> Result<(), Refusal>
+fn put_counted(variadic: bool, draft: &mut Draft) -> Result<(), AllocError>
     ensures lines { OnOk result (draft.new ≡ with_lines draft.old (counted_code variadic)) }
-    ensures refused { IfErr result (λ e. e ≡ OutOfMemory) }
     ensures kept { OnErr result (Keeps draft.old draft.new) }
 {
     if variadic {
@@ -98,9 +92,8 @@ fn put_counted(variadic: bool, draft: &mut Draft) -> Result<(), Refusal>
 }
 
 /// That number goes from A to the byte at sp.
-fn put_count(variadic: bool, draft: &mut Draft) -> Result<(), Refusal>
+fn put_count(variadic: bool, draft: &mut Draft) -> Result<(), AllocError>
     ensures lines { OnOk result (draft.new ≡ with_lines draft.old (count_code variadic)) }
-    ensures refused { IfErr result (λ e. e ≡ OutOfMemory) }
     ensures kept { OnErr result (Keeps draft.old draft.new) }
 {
     if variadic {
@@ -110,10 +103,9 @@ fn put_count(variadic: bool, draft: &mut Draft) -> Result<(), Refusal>
     }
 }
 
-fn load_near(at: u8, bytes: u8, draft: &mut Draft) -> Result<(), Refusal>
+fn load_near(at: u8, bytes: u8, draft: &mut Draft) -> Result<(), AllocError>
     requires { at < 255 }
     ensures lines { OnOk result (draft.new ≡ with_lines draft.old (near_load at bytes)) }
-    ensures refused { IfErr result (λ e. e ≡ OutOfMemory) }
     ensures kept { OnErr result (Keeps draft.old draft.new) }
 {
     if bytes < 2 {
@@ -127,9 +119,8 @@ fn load_near(at: u8, bytes: u8, draft: &mut Draft) -> Result<(), Refusal>
     }
 }
 
-fn load_far(at: u16, bytes: u8, draft: &mut Draft) -> Result<(), Refusal>
+fn load_far(at: u16, bytes: u8, draft: &mut Draft) -> Result<(), AllocError>
     ensures lines { OnOk result (draft.new ≡ with_lines draft.old (far_load at bytes)) }
-    ensures refused { IfErr result (λ e. e ≡ OutOfMemory) }
     ensures kept { OnErr result (Keeps draft.old draft.new) }
 {
     put(
@@ -152,9 +143,8 @@ fn load_far(at: u16, bytes: u8, draft: &mut Draft) -> Result<(), Refusal>
     }
 }
 
-fn load_at(at: u16, bytes: u8, draft: &mut Draft) -> Result<(), Refusal>
+fn load_at(at: u16, bytes: u8, draft: &mut Draft) -> Result<(), AllocError>
     ensures lines { OnOk result (draft.new ≡ with_lines draft.old (load_code at bytes)) }
-    ensures refused { IfErr result (λ e. e ≡ OutOfMemory) }
     ensures kept { OnErr result (Keeps draft.old draft.new) }
 {
     if at < 255 {
@@ -165,9 +155,8 @@ fn load_at(at: u16, bytes: u8, draft: &mut Draft) -> Result<(), Refusal>
 }
 
 /// A parameter goes from the software stack to regbank.
-fn put_moved(moved: Moved, draft: &mut Draft) -> Result<(), Refusal>
+fn put_moved(moved: Moved, draft: &mut Draft) -> Result<(), AllocError>
     ensures lines { OnOk result (draft.new ≡ with_lines draft.old (moved_code moved)) }
-    ensures refused { IfErr result (λ e. e ≡ OutOfMemory) }
     ensures kept { OnErr result (Keeps draft.old draft.new) }
 {
     load_at(moved.from, moved.bytes, draft)?;
@@ -175,9 +164,8 @@ fn put_moved(moved: Moved, draft: &mut Draft) -> Result<(), Refusal>
 }
 
 #[tactic(auto, using(c65_genwide::proofs::Kept::kept_same, crate::proofs::Kept::kept_lines, crate::proofs::Kept::kept_on))]
-fn put_all_moved(all: &[Moved], draft: &mut Draft) -> Result<(), Refusal>
+fn put_all_moved(all: &[Moved], draft: &mut Draft) -> Result<(), AllocError>
     ensures lines { OnOk result (draft.new ≡ with_lines draft.old (all_moved all.now)) }
-    ensures refused { IfErr result (λ e. e ≡ OutOfMemory) }
     ensures kept { OnErr result (Keeps draft.old draft.new) }
 {
     for moved in all {
@@ -198,9 +186,8 @@ fn taken_bytes(variadic: bool, soft: u16) -> u16
 }
 
 /// Puts the lines at which a function begins. Its objects then have their homes.
-pub fn put_entry(frame: &Frame, draft: &mut Draft) -> Result<(), Refusal>
+pub fn put_entry(frame: &Frame, draft: &mut Draft) -> Result<(), AllocError>
     ensures lines { OnOk result (draft.new ≡ with_lines draft.old (entry_code frame.now)) }
-    ensures refused { IfErr result (λ e. e ≡ OutOfMemory) }
     ensures kept { OnErr result (Keeps draft.old draft.new) }
 {
     put_pushed(frame.last(), draft)?;

@@ -1,23 +1,21 @@
 // Pointers in the zero page, and what is stored through them.
-ghost use Rattle.std.specs.Prelude.{◌≡◌, ◌<◌, OnOk, OnErr, IfErr};
-ghost use Rattle.c65_base.specs.declared.refusal.Refusal.TheVariants.{OutOfMemory};
+ghost use Rattle.std.specs.Prelude.{◌≡◌, ◌<◌, OnOk, OnErr};
 ghost use Rattle.c65_genwide.specs.Lines.{with_lines, Keeps};
 ghost use Rattle.c65_genentry.specs.Pointers.{near_code, symbol_code, second_byte, upper_bytes, third_bytes, further_bytes, far_store, clear_code};
 
 use crate::places::{PTR1, REGBANK, SP, SREG, TMP1, TMP2};
-use c65_base::Refusal;
 use c65_code::Line::Do;
 use c65_code::Operand::{Byte, High, Low, Nothing, Zero};
 use c65_code::{Draft, Sym};
 use c65_genwide::put;
 use c65_mach::Mode::{Immediate, Implied, IndirectY, ZeroPage};
 use c65_mach::Op::{Adc, Clc, Iny, Lda, Ldy, Sta, Stx};
+use std::alloc::AllocError;
 
 /// A pointer in the zero page becomes the address so many bytes above sp. X stays.
-pub fn point_near(pointer: u8, at: u16, draft: &mut Draft) -> Result<(), Refusal>
+pub fn point_near(pointer: u8, at: u16, draft: &mut Draft) -> Result<(), AllocError>
     requires { pointer < 255 }
     ensures lines { OnOk result (draft.new ≡ with_lines draft.old (near_code pointer at)) }
-    ensures refused { IfErr result (λ e. e ≡ OutOfMemory) }
     ensures kept { OnErr result (Keeps draft.old draft.new) }
 {
     put(
@@ -35,10 +33,9 @@ pub fn point_near(pointer: u8, at: u16, draft: &mut Draft) -> Result<(), Refusal
 }
 
 /// A pointer in the zero page becomes the address so far behind a symbol. X stays.
-pub fn point_symbol(pointer: u8, sym: Sym, at: u16, draft: &mut Draft) -> Result<(), Refusal>
+pub fn point_symbol(pointer: u8, sym: Sym, at: u16, draft: &mut Draft) -> Result<(), AllocError>
     requires { pointer < 255 }
     ensures lines { OnOk result (draft.new ≡ with_lines draft.old (symbol_code pointer sym at)) }
-    ensures refused { IfErr result (λ e. e ≡ OutOfMemory) }
     ensures kept { OnErr result (Keeps draft.old draft.new) }
 {
     put(
@@ -52,9 +49,8 @@ pub fn point_symbol(pointer: u8, sym: Sym, at: u16, draft: &mut Draft) -> Result
     )
 }
 
-fn store_second(draft: &mut Draft) -> Result<(), Refusal>
+fn store_second(draft: &mut Draft) -> Result<(), AllocError>
     ensures lines { OnOk result (draft.new ≡ with_lines draft.old second_byte) }
-    ensures refused { IfErr result (λ e. e ≡ OutOfMemory) }
     ensures kept { OnErr result (Keeps draft.old draft.new) }
 {
     put(
@@ -67,9 +63,8 @@ fn store_second(draft: &mut Draft) -> Result<(), Refusal>
     )
 }
 
-fn store_upper(draft: &mut Draft) -> Result<(), Refusal>
+fn store_upper(draft: &mut Draft) -> Result<(), AllocError>
     ensures lines { OnOk result (draft.new ≡ with_lines draft.old upper_bytes) }
-    ensures refused { IfErr result (λ e. e ≡ OutOfMemory) }
     ensures kept { OnErr result (Keeps draft.old draft.new) }
 {
     put(
@@ -85,9 +80,8 @@ fn store_upper(draft: &mut Draft) -> Result<(), Refusal>
     )
 }
 
-fn store_third(bytes: u32, draft: &mut Draft) -> Result<(), Refusal>
+fn store_third(bytes: u32, draft: &mut Draft) -> Result<(), AllocError>
     ensures lines { OnOk result (draft.new ≡ with_lines draft.old (third_bytes bytes)) }
-    ensures refused { IfErr result (λ e. e ≡ OutOfMemory) }
     ensures kept { OnErr result (Keeps draft.old draft.new) }
 {
     if bytes < 3 {
@@ -98,9 +92,8 @@ fn store_third(bytes: u32, draft: &mut Draft) -> Result<(), Refusal>
 }
 
 /// The bytes behind the first one.
-fn store_further(bytes: u32, draft: &mut Draft) -> Result<(), Refusal>
+fn store_further(bytes: u32, draft: &mut Draft) -> Result<(), AllocError>
     ensures lines { OnOk result (draft.new ≡ with_lines draft.old (further_bytes bytes)) }
-    ensures refused { IfErr result (λ e. e ≡ OutOfMemory) }
     ensures kept { OnErr result (Keeps draft.old draft.new) }
 {
     if bytes < 2 {
@@ -114,9 +107,8 @@ fn store_further(bytes: u32, draft: &mut Draft) -> Result<(), Refusal>
 
 /// So many bytes of the primary register, 1, 2 or 4, go to the place so many bytes above sp. The
 /// primary register is open then.
-pub fn store_far(at: u16, bytes: u32, draft: &mut Draft) -> Result<(), Refusal>
+pub fn store_far(at: u16, bytes: u32, draft: &mut Draft) -> Result<(), AllocError>
     ensures lines { OnOk result (draft.new ≡ with_lines draft.old (far_store at bytes)) }
-    ensures refused { IfErr result (λ e. e ≡ OutOfMemory) }
     ensures kept { OnErr result (Keeps draft.old draft.new) }
 {
     put(
@@ -137,9 +129,8 @@ pub fn store_far(at: u16, bytes: u32, draft: &mut Draft) -> Result<(), Refusal>
 }
 
 /// So many bytes of regbank, 1 or 2, become zero.
-pub fn clear_bank(bank: u8, bytes: u32, draft: &mut Draft) -> Result<(), Refusal>
+pub fn clear_bank(bank: u8, bytes: u32, draft: &mut Draft) -> Result<(), AllocError>
     ensures lines { OnOk result (draft.new ≡ with_lines draft.old (clear_code bank bytes)) }
-    ensures refused { IfErr result (λ e. e ≡ OutOfMemory) }
     ensures kept { OnErr result (Keeps draft.old draft.new) }
 {
     let byte = REGBANK.wrapping_add(bank);

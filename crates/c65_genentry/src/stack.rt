@@ -1,14 +1,13 @@
 // The software stack's pointer raised and lowered.
-ghost use Rattle.std.specs.Prelude.{◌≡◌, OnOk, OnErr, IfErr};
-ghost use Rattle.c65_base.specs.declared.refusal.Refusal.TheVariants.{OutOfMemory};
+ghost use Rattle.std.specs.Prelude.{◌≡◌, OnOk, OnErr};
 ghost use Rattle.c65_mach.specs.declared.rows.Op.TheVariants.{Ldy};
 ghost use Rattle.c65_genwide.specs.Lines.{value, with_lines, Keeps};
 ghost use Rattle.c65_genentry.specs.Stack.{count_of, small_raise, small_lower, raise_code, lower_code};
 
-use c65_base::Refusal;
 use c65_code::{Count, Draft, Line, Operand, Routine};
 use c65_genwide::{put, run};
 use c65_mach::{Mode, Op};
+use std::alloc::AllocError;
 
 /// Y is a number.
 fn index(y: u8) -> Line
@@ -34,9 +33,8 @@ fn count_of(bytes: u8) -> Option<Count>
     }
 }
 
-fn small_raise(bytes: u8, draft: &mut Draft) -> Result<(), Refusal>
+fn small_raise(bytes: u8, draft: &mut Draft) -> Result<(), AllocError>
     ensures lines { OnOk result (draft.new ≡ with_lines draft.old (small_raise bytes)) }
-    ensures refused { IfErr result (λ e. e ≡ OutOfMemory) }
     ensures kept { OnErr result (Keeps draft.old draft.new) }
 {
     if bytes == 0 {
@@ -51,9 +49,8 @@ fn small_raise(bytes: u8, draft: &mut Draft) -> Result<(), Refusal>
     }
 }
 
-fn small_lower(bytes: u8, draft: &mut Draft) -> Result<(), Refusal>
+fn small_lower(bytes: u8, draft: &mut Draft) -> Result<(), AllocError>
     ensures lines { OnOk result (draft.new ≡ with_lines draft.old (small_lower bytes)) }
-    ensures refused { IfErr result (λ e. e ≡ OutOfMemory) }
     ensures kept { OnErr result (Keeps draft.old draft.new) }
 {
     if bytes == 0 {
@@ -70,9 +67,8 @@ fn small_lower(bytes: u8, draft: &mut Draft) -> Result<(), Refusal>
 
 /// sp is raised by so many bytes; A, X and sreg stay.
 #[tactic(auto, using(crate::proofs::Repeats::repeated_next))]
-pub fn raise(bytes: u16, draft: &mut Draft) -> Result<(), Refusal>
+pub fn raise(bytes: u16, draft: &mut Draft) -> Result<(), AllocError>
     ensures lines { OnOk result (draft.new ≡ with_lines draft.old (raise_code bytes)) }
-    ensures refused { IfErr result (λ e. e ≡ OutOfMemory) }
     ensures kept { OnErr result (Keeps draft.old draft.new) }
 {
     for _round in 0..bytes / 255 {
@@ -83,9 +79,8 @@ pub fn raise(bytes: u16, draft: &mut Draft) -> Result<(), Refusal>
 
 /// sp is lowered by so many bytes; A, X and sreg stay.
 #[tactic(auto, using(crate::proofs::Repeats::repeated_next))]
-pub fn lower(bytes: u16, draft: &mut Draft) -> Result<(), Refusal>
+pub fn lower(bytes: u16, draft: &mut Draft) -> Result<(), AllocError>
     ensures lines { OnOk result (draft.new ≡ with_lines draft.old (lower_code bytes)) }
-    ensures refused { IfErr result (λ e. e ≡ OutOfMemory) }
     ensures kept { OnErr result (Keeps draft.old draft.new) }
 {
     for _round in 0..bytes / 255 {

@@ -1,7 +1,6 @@
 -- What a draft keeps, step by step, where labels are given too.
 use Rattle.std.proofs.Common.{◌≡◌, ℕ, ◌+◌, List, ◌++◌, ap, ◌∙◌, append_assoc, append-nil, add_assoc, Result, Ok, Err}
 use Rattle.std.specs.Result.{OnErr}
-use Rattle.c65_base.specs.declared.refusal.Refusal.{Refusal}
 use Rattle.c65_code.specs.declared.line.Line.{Line}
 use Rattle.c65_code.specs.Segments.{Drafted}
 use Rattle.c65_genwide.specs.Lines.{Keeps}
@@ -24,14 +23,14 @@ label_then d e g h k =
       is = k.is ∙ ap (λ (x : Drafted). record x { lines = x.lines ++ k.lines; labels = x.labels + k.labels }) h ∙ ap (λ (m : ℕ). record d { lines = d.lines ++ k.lines; labels = m }) (add_assoc d.labels 1 k.labels);
     }
 
-pub grown_last : {A : Type 0} (r : Result A Refusal) (d e g : Drafted) (ls : List Line) (n : ℕ) → e ≡ grown d ls n → OnErr r (Keeps e g) → OnErr r (Keeps d g)
+pub grown_last : {A E : Type 0} (r : Result A E) (d e g : Drafted) (ls : List Line) (n : ℕ) → e ≡ grown d ls n → OnErr r (Keeps e g) → OnErr r (Keeps d g)
 grown_last (Ok u) d e g ls n h k = tt
 grown_last (Err f) d e g ls n h k = grown_then d e g ls n h k
 
-pub label_last : {A : Type 0} (r : Result A Refusal) (d e g : Drafted) → e ≡ with_label d → OnErr r (Keeps e g) → OnErr r (Keeps d g)
+pub label_last : {A E : Type 0} (r : Result A E) (d e g : Drafted) → e ≡ with_label d → OnErr r (Keeps e g) → OnErr r (Keeps d g)
 label_last (Ok u) d e g h k = tt
 label_last (Err f) d e g h k = label_then d e g h k
 
-pub refused_then : {A K : Type 0} (r : Result A Refusal) → K → OnErr r K
+pub refused_then : {A E K : Type 0} (r : Result A E) → K → OnErr r K
 refused_then (Ok u) k = tt
 refused_then (Err f) k = k

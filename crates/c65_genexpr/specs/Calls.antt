@@ -5,7 +5,7 @@ use Rattle.c65_base.specs.declared.library.Library.{Library}
 use Rattle.c65_base.specs.declared.library.Library.TheVariants as library
 use Rattle.c65_csem.specs.declared.items.TFunc.{TFunc}
 use Rattle.c65_csem.specs.Trees.{Typed, node, decay, func}
-use Rattle.c65_mach.specs.declared.rows.Op.TheVariants.{Iny, Lda, Ldy, Sta}
+use Rattle.c65_mach.specs.declared.rows.Op.TheVariants.{Iny, Lda, Ldy, Sta, Stx}
 use Rattle.c65_code.specs.declared.line.Callee.TheVariants.{Function, Pointer}
 use Rattle.c65_code.specs.declared.line.Line.{Line}
 use Rattle.c65_code.specs.declared.line.Line.TheVariants.{Call}
@@ -62,3 +62,11 @@ named_code f i counted p kind = named_by f i (library_at f i) counted p kind
 
 abbrev pub pointer_code : Bool → Passed → Option IntType → List Line
 pointer_code counted p kind = fetch_code p ++ (count_code counted p ++ (Call (Pointer (reads_of counted p) (registers_of kind)) ∷ call (routines.IncSp Two) ∷ result_code kind))
+
+-- AX goes to ptr4
+abbrev pub ptr4_code : List Line
+ptr4_code = zero_page Sta ptr4 ∷ zero_page Stx (ptr4 + 1) ∷ []
+
+-- through the pointer in AX: where there are no arguments, it need not wait
+abbrev pub direct_code : Bool → Passed → Option IntType → List Line
+direct_code counted p kind = ptr4_code ++ (count_code counted p ++ (Call (Pointer (reads_of counted p) (registers_of kind)) ∷ result_code kind))

@@ -33,7 +33,7 @@ use Rattle.c65_genexpr.specs.Places.{more, place_of, object_code}
 use Rattle.c65_genexpr.specs.Operands.{residue_of, operands_of, computes, short_of, binary_by, unary_code, conversion_code}
 use Rattle.c65_genexpr.specs.Steps.{amount_of, step_code, open_code, close_code}
 use Rattle.c65_genexpr.specs.Arguments.{is_fast, is_counted, stays, passed_of, argument_code, argument_bytes}
-use Rattle.c65_genexpr.specs.Calls.{named, named_code, pointer_code}
+use Rattle.c65_genexpr.specs.Calls.{named, named_code, pointer_code, direct_code}
 use Rattle.c65_genexpr.specs.Uses.{uses}
 
 -- the draft with lines behind its own, and so many labels more
@@ -66,10 +66,12 @@ compound f pushed op operands a b left right =
     let access = access_of (types_of f.parts.types) a in
     target_code place left ++ (open_code place access (computes operands) ++ (right ++ close_code op operands (kind_in b) place access))
 
--- a call, from the lines of the called pointer and of the arguments: without a pointer that waits, and above one
+-- a call, from the lines of the called pointer and of the arguments: without a pointer that waits, and above one; below
+-- arguments alone it waits
 abbrev pub call_by : Framed → Option ℕ → Option IntType → Typed → Nodes → List Line → List Line → List Line → List Line
 call_by f (Some i) kind g es callee args above = args ++ named_code f i (is_counted (bare g)) (passed_of (is_fast (bare g)) es) kind
-call_by f None kind g es callee args above = callee ++ (push_code Ax ++ (above ++ pointer_code (is_counted (bare g)) (passed_of (is_fast (bare g)) es) kind))
+call_by f None kind g none callee args above = callee ++ direct_code (is_counted (bare g)) (passed_of (is_fast (bare g)) none) kind
+call_by f None kind g (some e es) callee args above = callee ++ (push_code Ax ++ (above ++ pointer_code (is_counted (bare g)) (passed_of (is_fast (bare g)) (some e es)) kind))
 
 abbrev mutual
   pub expr_code : Framed → ℕ → ℕ → Typed → List Line

@@ -1,24 +1,35 @@
 // What a call passes (docs/MACHINE.md, "Calls").
-ghost use Rattle.std.specs.Prelude.{◌≡◌, OnOk, OnErr, IfErr};
-ghost use Rattle.c65_base.specs.declared.refusal.Refusal.TheVariants.{OutOfMemory};
+ghost use Rattle.std.specs.Prelude.{◌≡◌, true, OnOk, OnErr};
 ghost use Rattle.c65_ctype.specs.Views.{ty_of};
+ghost use Rattle.c65_csem.specs.Trees.{none};
 ghost use Rattle.c65_csem.specs.Views.{nodes_of};
 ghost use Rattle.c65_genwide.specs.Lines.{with_lines, Keeps};
-ghost use Rattle.c65_genexpr.specs.Arguments.{is_fast, is_counted, stays, joined, registers_of, reads_of, argument_code, argument_bytes};
+ghost use Rattle.c65_genexpr.specs.Arguments.{is_fast, is_counted, stays, joined, passed_of, registers_of, reads_of, argument_code, argument_bytes};
 
-use c65_base::Refusal;
 use c65_code::{Draft, Part, RegSet};
 use c65_csem::TExpr;
 use c65_ctype::CType;
 use c65_genload::{Extent, bytes_of, extent_of, pass};
 use c65_genwide::put;
 use c65_ints::IntType;
+use std::alloc::AllocError;
 
 /// What was passed: how many bytes on the software stack, modulo 256, and what in registers.
 #[derive(Clone, Copy, Debug, PartialEq, Eq)]
 pub struct Passed {
     pub stacked: u8,
     pub last: Option<IntType>,
+}
+
+impl Passed {
+    pub fn nothing() -> Passed
+        ensures { result ≡ passed_of true none }
+    {
+        Passed {
+            stacked: 0,
+            last: None,
+        }
+    }
 }
 
 /// Whether a call of a function to which this type points passes its last argument in registers.
@@ -75,9 +86,8 @@ pub fn joined(kept: bool, kind: IntType, passed: Passed) -> Passed
 }
 
 /// An argument stays in registers, or goes onto the software stack.
-pub fn put_argument(kept: bool, kind: IntType, draft: &mut Draft) -> Result<(), Refusal>
+pub fn put_argument(kept: bool, kind: IntType, draft: &mut Draft) -> Result<(), AllocError>
     ensures lines { OnOk result (draft.new ≡ with_lines draft.old (argument_code kept kind)) }
-    ensures refused { IfErr result (λ e. e ≡ OutOfMemory) }
     ensures kept { OnErr result (Keeps draft.old draft.new) }
 {
     if kept {

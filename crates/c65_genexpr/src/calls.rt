@@ -1,12 +1,11 @@
 // The call behind its arguments (C90 6.3.2.2; docs/MACHINE.md, "Calls").
-ghost use Rattle.std.specs.Prelude.{◌≡◌, OnOk, OnErr, IfErr};
-ghost use Rattle.c65_base.specs.declared.refusal.Refusal.TheVariants.{OutOfMemory};
+ghost use Rattle.std.specs.Prelude.{◌≡◌, OnOk, OnErr};
 ghost use Rattle.c65_csem.specs.Views.{typed_of};
 ghost use Rattle.c65_genwide.specs.Lines.{with_lines, Keeps};
-ghost use Rattle.c65_genexpr.specs.Calls.{named, library_at, fetch_code, count_code, named_code, pointer_code, result_code};
+ghost use Rattle.c65_genexpr.specs.Calls.{named, library_at, fetch_code, count_code, named_code, pointer_code, direct_code, result_code};
 
 use crate::arguments::{Passed, reads_of, registers_of};
-use c65_base::{Library, Refusal};
+use c65_base::Library;
 use c65_code::Line::{Call, Do};
 use c65_code::Operand::{Byte, Nothing, Zero};
 use c65_code::{Callee, Count, Draft, Routine};
@@ -15,7 +14,8 @@ use c65_genframe::Frame;
 use c65_genwide::{narrow, put, run};
 use c65_ints::IntType;
 use c65_mach::Mode::{Immediate, Implied, IndirectY, ZeroPage};
-use c65_mach::Op::{Iny, Lda, Ldy, Sta};
+use c65_mach::Op::{Iny, Lda, Ldy, Sta, Stx};
+use std::alloc::AllocError;
 
 const SP: u8 = 0;
 
@@ -46,9 +46,8 @@ fn library_at(frame: &Frame<'_>, function: u32) -> Option<Library>
 }
 
 // The number of bytes that were passed goes to Y.
-fn put_count(counted: bool, passed: Passed, draft: &mut Draft) -> Result<(), Refusal>
+fn put_count(counted: bool, passed: Passed, draft: &mut Draft) -> Result<(), AllocError>
     ensures lines { OnOk result (draft.new ≡ with_lines draft.old (count_code counted passed)) }
-    ensures refused { IfErr result (λ e. e ≡ OutOfMemory) }
     ensures kept { OnErr result (Keeps draft.old draft.new) }
 {
     if counted {
@@ -59,9 +58,8 @@ fn put_count(counted: bool, passed: Passed, draft: &mut Draft) -> Result<(), Ref
 }
 
 // The function's address, which waits below the arguments, goes to ptr4; A, X and sreg stay.
-fn put_fetch(passed: Passed, draft: &mut Draft) -> Result<(), Refusal>
+fn put_fetch(passed: Passed, draft: &mut Draft) -> Result<(), AllocError>
     ensures lines { OnOk result (draft.new ≡ with_lines draft.old (fetch_code passed)) }
-    ensures refused { IfErr result (λ e. e ≡ OutOfMemory) }
     ensures kept { OnErr result (Keeps draft.old draft.new) }
 {
     put(
@@ -80,9 +78,8 @@ fn put_fetch(passed: Passed, draft: &mut Draft) -> Result<(), Refusal>
 }
 
 // A character comes back in A alone.
-fn put_result(result_kind: Option<IntType>, draft: &mut Draft) -> Result<(), Refusal>
+fn put_result(result_kind: Option<IntType>, draft: &mut Draft) -> Result<(), AllocError>
     ensures lines { OnOk result (draft.new ≡ with_lines draft.old (result_code result_kind)) }
-    ensures refused { IfErr result (λ e. e ≡ OutOfMemory) }
     ensures kept { OnErr result (Keeps draft.old draft.new) }
 {
     match result_kind {
@@ -99,9 +96,8 @@ pub fn put_named(
     passed: Passed,
     result_kind: Option<IntType>,
     draft: &mut Draft,
-) -> Result<(), Refusal>
+) -> Result<(), AllocError>
     ensures lines { OnOk result (draft.new ≡ with_lines draft.old (named_code frame.now function counted passed result_kind)) }
-    ensures refused { IfErr result (λ e. e ≡ OutOfMemory) }
     ensures kept { OnErr result (Keeps draft.old draft.new) }
 {
     match library_at(frame, function) {
@@ -126,9 +122,8 @@ pub fn put_pointer(
     passed: Passed,
     result_kind: Option<IntType>,
     draft: &mut Draft,
-) -> Result<(), Refusal>
+) -> Result<(), AllocError>
     ensures lines { OnOk result (draft.new ≡ with_lines draft.old (pointer_code counted passed result_kind)) }
-    ensures refused { IfErr result (λ e. e ≡ OutOfMemory) }
     ensures kept { OnErr result (Keeps draft.old draft.new) }
 {
     put_fetch(passed, draft)?;
@@ -137,5 +132,29 @@ pub fn put_pointer(
     let gives = registers_of(result_kind);
     put(draft, &[Call(Callee::Pointer(reads, gives))])?;
     run(draft, Routine::IncSp(Count::Two))?;
+    put_result(result_kind, draft)
+}
+
+/// A call through the pointer in AX, without arguments: the pointer goes to ptr4 at once.
+pub fn put_direct(
+    counted: bool,
+    passed: Passed,
+    result_kind: Option<IntType>,
+    draft: &mut Draft,
+) -> Result<(), AllocError>
+    ensures lines { OnOk result (draft.new ≡ with_lines draft.old (direct_code counted passed result_kind)) }
+    ensures kept { OnErr result (Keeps draft.old draft.new) }
+{
+    put(
+        draft,
+        &[
+            Do(Sta, ZeroPage, Zero(PTR4)),
+            Do(Stx, ZeroPage, Zero(PTR4 + 1)),
+        ],
+    )?;
+    put_count(counted, passed, draft)?;
+    let reads = reads_of(counted, passed);
+    let gives = registers_of(result_kind);
+    put(draft, &[Call(Callee::Pointer(reads, gives))])?;
     put_result(result_kind, draft)
 }

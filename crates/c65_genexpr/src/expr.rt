@@ -9,7 +9,7 @@ ghost use Rattle.c65_genexpr.specs.Uses.{uses, head_uses, args_uses};
 ghost use Rattle.c65_genexpr.specs.Code.{grown, with_label, target_code, expr_code, binary_code, both_code, either_code, choice_code, assign_code, compound_code, call_code, args_code};
 
 use crate::arguments::{Passed, argument_bytes, is_counted, is_fast, joined, put_argument, stays};
-use crate::calls::{named, put_named, put_pointer};
+use crate::calls::{named, put_direct, put_named, put_pointer};
 use crate::operands::{
     Operands, computes, operands_of, put_behind, put_between, put_conversion, put_unary,
 };
@@ -30,17 +30,17 @@ use c65_genwide::{put, width_of};
 use c65_ints::IntType;
 use c65_mach::Mode::{Absolute, Immediate, Relative};
 use c65_mach::Op::{Beq, Bne, Jmp, Lda, Ldx};
+use std::alloc::AllocError;
 
 /// A label that was not given before; where there is none, want of memory.
 #[tactic(auto, using(c65_genwide::proofs::Kept::kept_same, crate::proofs::Kept::label_then))]
-fn next_label(draft: &mut Draft) -> Result<u32, Refusal>
+fn next_label(draft: &mut Draft) -> Result<u32, AllocError>
     ensures label { IfOk result (λ l. l ≡ draft.old.labels) }
     ensures draft { OnOk result (draft.new ≡ with_label draft.old) }
-    ensures refused { IfErr result (λ e. e ≡ OutOfMemory) }
     ensures kept { OnErr result (Keeps draft.old draft.new) }
 {
     if draft.labels() >= 0x8000_0000 {
-        return Err(Refusal::OutOfMemory);
+        return Err(AllocError);
     }
     Ok(draft.fresh())
 }
@@ -60,13 +60,19 @@ pub fn gen_expr(
     ensures refused { IfErr result (λ e. e ≡ OutOfMemory) }
     ensures kept { OnErr result (Keeps draft.old draft.new) }
 {
-    put_expr(expr, frame, pushed as u16, draft)
+    put_expr(expr, frame, pushed as u16, draft)?;
+    Ok(())
 }
 
+/// The same, for callers that only lack memory.
 #[cycle(expression)]
-fn put_expr(e: &TExpr, frame: &Frame<'_>, pushed: u16, draft: &mut Draft) -> Result<(), Refusal>
+pub fn put_expr(
+    e: &TExpr,
+    frame: &Frame<'_>,
+    pushed: u16,
+    draft: &mut Draft,
+) -> Result<(), AllocError>
     ensures lines { OnOk result (draft.new ≡ grown draft.old (expr_code frame.now pushed draft.old.labels (typed_of e.now)) (uses (typed_of e.now))) }
-    ensures refused { IfErr result (λ e. e ≡ OutOfMemory) }
     ensures kept { OnErr result (Keeps draft.old draft.new) }
 {
     match &e.kind {
@@ -144,11 +150,10 @@ fn skip(
     frame: &Frame<'_>,
     pushed: u16,
     draft: &mut Draft,
-) -> Result<(), Refusal>
+) -> Result<(), AllocError>
     requires at { place ≡ place_of frame.now pushed (typed_of a.now) }
     requires known { IsKnown place }
     ensures lines { OnOk result (draft.new ≡ grown draft.old [] (uses (typed_of a.now))) }
-    ensures refused { IfErr result (λ e. e ≡ OutOfMemory) }
     ensures kept { OnErr result (Keeps draft.old draft.new) }
 {
     put(draft, &[])
@@ -162,10 +167,9 @@ fn put_target(
     frame: &Frame<'_>,
     pushed: u16,
     draft: &mut Draft,
-) -> Result<(), Refusal>
+) -> Result<(), AllocError>
     requires { place ≡ place_of frame.now pushed (typed_of a.now) }
     ensures lines { OnOk result (draft.new ≡ grown draft.old (target_code place (expr_code frame.now pushed draft.old.labels (typed_of a.now))) (uses (typed_of a.now))) }
-    ensures refused { IfErr result (λ e. e ≡ OutOfMemory) }
     ensures kept { OnErr result (Keeps draft.old draft.new) }
 {
     match place {
@@ -182,9 +186,8 @@ fn put_binary(
     frame: &Frame<'_>,
     pushed: u16,
     draft: &mut Draft,
-) -> Result<(), Refusal>
+) -> Result<(), AllocError>
     ensures lines { OnOk result (draft.new ≡ grown draft.old (binary_code frame.now pushed draft.old.labels op (typed_of a.now) (typed_of b.now)) (uses (typed_of a.now) + uses (typed_of b.now))) }
-    ensures refused { IfErr result (λ e. e ≡ OutOfMemory) }
     ensures kept { OnErr result (Keeps draft.old draft.new) }
 {
     let operands = operands_of(frame, &a.ty.ty, &b.ty.ty);
@@ -211,9 +214,8 @@ fn put_both(
     frame: &Frame<'_>,
     pushed: u16,
     draft: &mut Draft,
-) -> Result<(), Refusal>
+) -> Result<(), AllocError>
     ensures lines { OnOk result (draft.new ≡ grown draft.old (both_code frame.now pushed draft.old.labels (typed_of a.now) (typed_of b.now)) (1 + (uses (typed_of a.now) + uses (typed_of b.now)))) }
-    ensures refused { IfErr result (λ e. e ≡ OutOfMemory) }
     ensures kept { OnErr result (Keeps draft.old draft.new) }
 {
     let no = next_label(draft)?;
@@ -241,9 +243,8 @@ fn put_either(
     frame: &Frame<'_>,
     pushed: u16,
     draft: &mut Draft,
-) -> Result<(), Refusal>
+) -> Result<(), AllocError>
     ensures lines { OnOk result (draft.new ≡ grown draft.old (either_code frame.now pushed draft.old.labels (typed_of a.now) (typed_of b.now)) (2 + (uses (typed_of a.now) + uses (typed_of b.now)))) }
-    ensures refused { IfErr result (λ e. e ≡ OutOfMemory) }
     ensures kept { OnErr result (Keeps draft.old draft.new) }
 {
     let yes = next_label(draft)?;
@@ -274,9 +275,8 @@ fn put_choice(
     frame: &Frame<'_>,
     pushed: u16,
     draft: &mut Draft,
-) -> Result<(), Refusal>
+) -> Result<(), AllocError>
     ensures lines { OnOk result (draft.new ≡ grown draft.old (choice_code frame.now pushed draft.old.labels (typed_of c.now) (typed_of a.now) (typed_of b.now)) (2 + (uses (typed_of c.now) + (uses (typed_of a.now) + uses (typed_of b.now))))) }
-    ensures refused { IfErr result (λ e. e ≡ OutOfMemory) }
     ensures kept { OnErr result (Keeps draft.old draft.new) }
 {
     let other = next_label(draft)?;
@@ -298,9 +298,8 @@ fn put_assign(
     frame: &Frame<'_>,
     pushed: u16,
     draft: &mut Draft,
-) -> Result<(), Refusal>
+) -> Result<(), AllocError>
     ensures lines { OnOk result (draft.new ≡ grown draft.old (assign_code frame.now pushed draft.old.labels (typed_of a.now) (typed_of b.now)) (uses (typed_of a.now) + uses (typed_of b.now))) }
-    ensures refused { IfErr result (λ e. e ≡ OutOfMemory) }
     ensures kept { OnErr result (Keeps draft.old draft.new) }
 {
     let place = place_of(frame, pushed, a);
@@ -320,9 +319,8 @@ fn put_compound(
     frame: &Frame<'_>,
     pushed: u16,
     draft: &mut Draft,
-) -> Result<(), Refusal>
+) -> Result<(), AllocError>
     ensures lines { OnOk result (draft.new ≡ grown draft.old (compound_code frame.now pushed draft.old.labels op operands (typed_of a.now) (typed_of b.now)) (uses (typed_of a.now) + uses (typed_of b.now))) }
-    ensures refused { IfErr result (λ e. e ≡ OutOfMemory) }
     ensures kept { OnErr result (Keeps draft.old draft.new) }
 {
     let place = place_of(frame, pushed, a);
@@ -343,9 +341,8 @@ fn put_call(
     frame: &Frame<'_>,
     pushed: u16,
     draft: &mut Draft,
-) -> Result<(), Refusal>
+) -> Result<(), AllocError>
     ensures lines { OnOk result (draft.new ≡ grown draft.old (call_code frame.now pushed draft.old.labels kind (typed_of callee.now) (nodes_of args.now)) (head_uses (typed_of callee.now) + args_uses (nodes_of args.now))) }
-    ensures refused { IfErr result (λ e. e ≡ OutOfMemory) }
     ensures kept { OnErr result (Keeps draft.old draft.new) }
 {
     let fast = is_fast(&callee.ty.ty);
@@ -357,9 +354,14 @@ fn put_call(
         }
         None => {
             put_expr(callee, frame, pushed, draft)?;
-            push(Width::Ax, draft)?;
-            let passed = put_args(args, fast, frame, more(pushed, 2), draft)?;
-            put_pointer(counted, passed, kind, draft)
+            match args {
+                [] => put_direct(counted, Passed::nothing(), kind, draft),
+                [_first, _rest @ ..] => {
+                    push(Width::Ax, draft)?;
+                    let passed = put_args(args, fast, frame, more(pushed, 2), draft)?;
+                    put_pointer(counted, passed, kind, draft)
+                }
+            }
         }
     }
 }
@@ -372,17 +374,13 @@ fn put_args(
     frame: &Frame<'_>,
     pushed: u16,
     draft: &mut Draft,
-) -> Result<Passed, Refusal>
+) -> Result<Passed, AllocError>
     ensures passed { IfOk result (λ p. p ≡ passed_of fast (nodes_of args.now)) }
     ensures lines { OnOk result (draft.new ≡ grown draft.old (args_code frame.now pushed draft.old.labels fast (nodes_of args.now)) (args_uses (nodes_of args.now))) }
-    ensures refused { IfErr result (λ e. e ≡ OutOfMemory) }
     ensures kept { OnErr result (Keeps draft.old draft.new) }
 {
     match args {
-        [] => Ok(Passed {
-            stacked: 0,
-            last: None,
-        }),
+        [] => Ok(Passed::nothing()),
         [first, rest @ ..] => {
             let kept = stays(fast, rest);
             let kind = kind_of(&first.ty.ty);

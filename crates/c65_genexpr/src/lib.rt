@@ -11,4 +11,4 @@ mod steps;
 mod types;
 
 pub use c65_genframe::{Frame, Home};
-pub use expr::gen_expr;
+pub use expr::{gen_expr, put_expr};

@@ -1,18 +1,18 @@
 // Operators between their two operands (C90 6.3.3 to 6.3.12).
-ghost use Rattle.std.specs.Prelude.{◌≡◌, OnOk, OnErr, IfErr};
-ghost use Rattle.c65_base.specs.declared.refusal.Refusal.TheVariants.{OutOfMemory};
+ghost use Rattle.std.specs.Prelude.{◌≡◌, OnOk, OnErr};
 ghost use Rattle.c65_ctype.specs.Views.{ty_of};
 ghost use Rattle.c65_genwide.specs.Lines.{with_lines, Keeps};
 ghost use Rattle.c65_genexpr.specs.Operands.{operands_of, computes, between_code, behind_code, unary_code, conversion_code};
 
 use crate::types::{kind_of, target_bytes};
-use c65_base::{BinaryOp, Refusal, UnaryOp};
+use c65_base::{BinaryOp, UnaryOp};
 use c65_code::{Draft, Routine, UnaryRoutine, Width};
 use c65_ctype::CType;
 use c65_genframe::Frame;
 use c65_genload::{convert, divide, push, scale};
-use c65_genwide::{gen_wide, put, run, width_of};
+use c65_genwide::{put, put_wide, run, width_of};
 use c65_ints::IntType;
+use std::alloc::AllocError;
 
 /// What an operator works on: two numbers of a type, a pointer and a number of elements, a number of
 /// elements and a pointer, or two pointers. Elements have so many bytes.
@@ -48,9 +48,8 @@ pub fn computes(operands: Operands) -> IntType
 }
 
 /// Behind the left operand, which then waits.
-pub fn put_between(operands: Operands, draft: &mut Draft) -> Result<(), Refusal>
+pub fn put_between(operands: Operands, draft: &mut Draft) -> Result<(), AllocError>
     ensures lines { OnOk result (draft.new ≡ with_lines draft.old (between_code operands)) }
-    ensures refused { IfErr result (λ e. e ≡ OutOfMemory) }
     ensures kept { OnErr result (Keeps draft.old draft.new) }
 {
     match operands {
@@ -70,23 +69,22 @@ pub fn put_behind(
     operands: Operands,
     right: IntType,
     draft: &mut Draft,
-) -> Result<(), Refusal>
+) -> Result<(), AllocError>
     ensures lines { OnOk result (draft.new ≡ with_lines draft.old (behind_code op operands right)) }
-    ensures refused { IfErr result (λ e. e ≡ OutOfMemory) }
     ensures kept { OnErr result (Keeps draft.old draft.new) }
 {
     match operands {
         Operands::Numbers(kind) => {
             convert(right, kind, draft)?;
-            gen_wide(op, kind, draft)
+            put_wide(op, kind, draft)
         }
         Operands::PointerFirst(size) => {
             scale(size, draft)?;
-            gen_wide(op, IntType::UInt, draft)
+            put_wide(op, IntType::UInt, draft)
         }
-        Operands::PointerLast(_) => gen_wide(op, IntType::UInt, draft),
+        Operands::PointerLast(_) => put_wide(op, IntType::UInt, draft),
         Operands::Pointers(size) => {
-            gen_wide(op, IntType::UInt, draft)?;
+            put_wide(op, IntType::UInt, draft)?;
             match op {
                 BinaryOp::Sub => divide(size, draft),
                 _ => put(draft, &[]),
@@ -96,9 +94,8 @@ pub fn put_behind(
 }
 
 /// `-`, `~` and `!`.
-pub fn put_unary(op: UnaryOp, width: Width, draft: &mut Draft) -> Result<(), Refusal>
+pub fn put_unary(op: UnaryOp, width: Width, draft: &mut Draft) -> Result<(), AllocError>
     ensures lines { OnOk result (draft.new ≡ with_lines draft.old (unary_code op width)) }
-    ensures refused { IfErr result (λ e. e ≡ OutOfMemory) }
     ensures kept { OnErr result (Keeps draft.old draft.new) }
 {
     match op {
@@ -110,9 +107,8 @@ pub fn put_unary(op: UnaryOp, width: Width, draft: &mut Draft) -> Result<(), Ref
 }
 
 /// A conversion, also to void (C90 6.3.4).
-pub fn put_conversion(to: &CType, from: IntType, draft: &mut Draft) -> Result<(), Refusal>
+pub fn put_conversion(to: &CType, from: IntType, draft: &mut Draft) -> Result<(), AllocError>
     ensures lines { OnOk result (draft.new ≡ with_lines draft.old (conversion_code (ty_of to.now) from)) }
-    ensures refused { IfErr result (λ e. e ≡ OutOfMemory) }
     ensures kept { OnErr result (Keeps draft.old draft.new) }
 {
     match to {

@@ -1,17 +1,16 @@
 // Where the places of an expression lie.
-ghost use Rattle.std.specs.Prelude.{◌≡◌, OnOk, OnErr, IfErr};
-ghost use Rattle.c65_base.specs.declared.refusal.Refusal.TheVariants.{OutOfMemory};
+ghost use Rattle.std.specs.Prelude.{◌≡◌, OnOk, OnErr};
 ghost use Rattle.c65_csem.specs.Views.{typed_of};
 ghost use Rattle.c65_genwide.specs.Lines.{with_lines, Keeps};
 ghost use Rattle.c65_genexpr.specs.Places.{more, near, object_place, moved, place_of, object_code};
 
 use crate::types::offset_at;
-use c65_base::Refusal;
 use c65_code::Draft;
 use c65_csem::{TExpr, TKind};
 use c65_genframe::{Frame, Home};
 use c65_genload::{Place, put_address, put_raised, put_symbol};
 use c65_genwide::put;
+use std::alloc::AllocError;
 
 /// So many bytes more on the software stack; addresses are taken modulo 65,536.
 pub fn more(pushed: u16, bytes: u16) -> u16
@@ -86,9 +85,8 @@ pub fn put_object(
     pushed: u16,
     object: u32,
     draft: &mut Draft,
-) -> Result<(), Refusal>
+) -> Result<(), AllocError>
     ensures lines { OnOk result (draft.new ≡ with_lines draft.old (object_code frame.now pushed object)) }
-    ensures refused { IfErr result (λ e. e ≡ OutOfMemory) }
     ensures kept { OnErr result (Keeps draft.old draft.new) }
 {
     match frame.home(object) {

@@ -1,6 +1,5 @@
 // Operators whose right operand is a constant (C90 6.3.6).
-ghost use Rattle.std.specs.Prelude.{◌≡◌, Some, OnOk, OnErr, IfErr};
-ghost use Rattle.c65_base.specs.declared.refusal.Refusal.TheVariants.{OutOfMemory};
+ghost use Rattle.std.specs.Prelude.{◌≡◌, Some, OnOk, OnErr};
 ghost use Rattle.c65_csem.specs.Views.{typed_of};
 ghost use Rattle.c65_genwide.specs.Lines.{with_lines, Keeps};
 ghost use Rattle.c65_genexpr.specs.Code.{grown};
@@ -8,10 +7,11 @@ ghost use Rattle.c65_genexpr.specs.Uses.{uses};
 ghost use Rattle.c65_genexpr.specs.Operands.{residue_of, negative, constant_in, is_short, short_of, scaled, short_code};
 
 use crate::operands::{Operands, computes};
-use c65_base::{BinaryOp, Refusal};
+use c65_base::BinaryOp;
 use c65_code::Draft;
 use c65_csem::{TExpr, TKind};
 use c65_genload::add;
+use std::alloc::AllocError;
 
 /// A value modulo 2 to the 32.
 pub fn residue_of(value: i64) -> u32
@@ -72,9 +72,13 @@ fn scaled(operands: Operands, number: u32) -> u32
     }
 }
 
-fn put_sum(op: BinaryOp, operands: Operands, number: u32, draft: &mut Draft) -> Result<(), Refusal>
+fn put_sum(
+    op: BinaryOp,
+    operands: Operands,
+    number: u32,
+    draft: &mut Draft,
+) -> Result<(), AllocError>
     ensures lines { OnOk result (draft.new ≡ with_lines draft.old (short_code op operands number)) }
-    ensures refused { IfErr result (λ e. e ≡ OutOfMemory) }
     ensures kept { OnErr result (Keeps draft.old draft.new) }
 {
     let amount = scaled(operands, number);
@@ -92,10 +96,9 @@ pub fn put_short(
     number: u32,
     right: &TExpr,
     draft: &mut Draft,
-) -> Result<(), Refusal>
+) -> Result<(), AllocError>
     requires { short_of op operands (typed_of right.now) ≡ Some number }
     ensures lines { OnOk result (draft.new ≡ grown draft.old (short_code op operands number) (uses (typed_of right.now))) }
-    ensures refused { IfErr result (λ e. e ≡ OutOfMemory) }
     ensures kept { OnErr result (Keeps draft.old draft.new) }
 {
     put_sum(op, operands, number, draft)

@@ -1,6 +1,5 @@
 // Values that are changed where they are kept (C90 6.3.2.4, 6.3.3.1, 6.3.16.2).
-ghost use Rattle.std.specs.Prelude.{◌≡◌, OnOk, OnErr, IfErr};
-ghost use Rattle.c65_base.specs.declared.refusal.Refusal.TheVariants.{OutOfMemory};
+ghost use Rattle.std.specs.Prelude.{◌≡◌, OnOk, OnErr};
 ghost use Rattle.c65_ctype.specs.Views.{ty_of};
 ghost use Rattle.c65_genwide.specs.Lines.{with_lines, Keeps};
 ghost use Rattle.c65_genexpr.specs.Steps.{is_up, is_post, amount_of, back_code, after_code, step_code, open_code, close_code};
@@ -8,13 +7,14 @@ ghost use Rattle.c65_genexpr.specs.Steps.{is_up, is_post, amount_of, back_code, 
 use crate::operands::{Operands, computes, put_behind};
 use crate::shorts::negative;
 use crate::types::target_bytes;
-use c65_base::{BinaryOp, Refusal, StepKind};
+use c65_base::{BinaryOp, StepKind};
 use c65_code::Draft;
 use c65_ctype::CType;
 use c65_genframe::Frame;
 use c65_genload::{Access, Place, add, convert, hold, in_field, load, push, store, value_type};
 use c65_genwide::{put, width_of};
 use c65_ints::IntType;
+use std::alloc::AllocError;
 
 fn is_up(how: StepKind) -> bool
     ensures { result ≡ is_up how }
@@ -43,9 +43,8 @@ pub fn amount_of(frame: &Frame<'_>, how: StepKind, ty: &CType) -> u32
 }
 
 // The value before, from the one behind the step.
-fn put_back(access: Access, amount: u32, draft: &mut Draft) -> Result<(), Refusal>
+fn put_back(access: Access, amount: u32, draft: &mut Draft) -> Result<(), AllocError>
     ensures lines { OnOk result (draft.new ≡ with_lines draft.old (back_code access amount)) }
-    ensures refused { IfErr result (λ e. e ≡ OutOfMemory) }
     ensures kept { OnErr result (Keeps draft.old draft.new) }
 {
     match access {
@@ -57,9 +56,13 @@ fn put_back(access: Access, amount: u32, draft: &mut Draft) -> Result<(), Refusa
     }
 }
 
-fn put_after(how: StepKind, access: Access, amount: u32, draft: &mut Draft) -> Result<(), Refusal>
+fn put_after(
+    how: StepKind,
+    access: Access,
+    amount: u32,
+    draft: &mut Draft,
+) -> Result<(), AllocError>
     ensures lines { OnOk result (draft.new ≡ with_lines draft.old (after_code how access amount)) }
-    ensures refused { IfErr result (λ e. e ≡ OutOfMemory) }
     ensures kept { OnErr result (Keeps draft.old draft.new) }
 {
     if is_post(how) {
@@ -77,9 +80,8 @@ pub fn put_step(
     access: Access,
     amount: u32,
     draft: &mut Draft,
-) -> Result<(), Refusal>
+) -> Result<(), AllocError>
     ensures lines { OnOk result (draft.new ≡ with_lines draft.old (step_code how place access amount)) }
-    ensures refused { IfErr result (λ e. e ≡ OutOfMemory) }
     ensures kept { OnErr result (Keeps draft.old draft.new) }
 {
     hold(place, draft)?;
@@ -96,9 +98,8 @@ pub fn put_open(
     access: Access,
     kind: IntType,
     draft: &mut Draft,
-) -> Result<(), Refusal>
+) -> Result<(), AllocError>
     ensures lines { OnOk result (draft.new ≡ with_lines draft.old (open_code place access kind)) }
-    ensures refused { IfErr result (λ e. e ≡ OutOfMemory) }
     ensures kept { OnErr result (Keeps draft.old draft.new) }
 {
     hold(place, draft)?;
@@ -115,9 +116,8 @@ pub fn put_close(
     place: Place,
     access: Access,
     draft: &mut Draft,
-) -> Result<(), Refusal>
+) -> Result<(), AllocError>
     ensures lines { OnOk result (draft.new ≡ with_lines draft.old (close_code op operands right place access)) }
-    ensures refused { IfErr result (λ e. e ≡ OutOfMemory) }
     ensures kept { OnErr result (Keeps draft.old draft.new) }
 {
     put_behind(op, operands, right, draft)?;

@@ -1,5 +1,5 @@
 -- Numbers that are known: taken, added, multiplied and divided by.
-use Rattle.std.specs.Prelude.{ℕ, ◌+◌, ◌/◌, ◌%◌, ◌==◌, if◌then◌else◌, List, [], ◌∷◌, ◌++◌}
+use Rattle.std.specs.Prelude.{ℕ, Bool, ◌+◌, ◌/◌, ◌%◌, ◌==◌, nat_lt, nat_le, ◌&&◌, if◌then◌else◌, List, [], ◌∷◌, ◌++◌}
 use Rattle.c65_ints.specs.declared.types.IntType.{IntType}
 use Rattle.c65_mach.specs.declared.rows.Op.TheVariants.{Adc, And, Clc, Lda, Ldx, Sta, Tax, Tay, Txa, Tya}
 use Rattle.c65_code.specs.declared.line.Line.{Line}
@@ -56,9 +56,15 @@ by_code op n = call PushAx ∷ (number_code Ax n ++ call (Tos op Ax) ∷ [])
 abbrev pub shift_code : TosOp → ℕ → List Line
 shift_code op n = if n == 0 then [] else by_code op n
 
--- elements to bytes, and bytes to elements
+-- elements to bytes
 abbrev pub scale_code : ℕ → List Line
 scale_code n = if n == 1 then [] else (if n == 2 then call (Unary Shl1 Ax) ∷ [] else by_code tos.Mul n)
 
+-- above 0, and an int
+abbrev pub is_divisor : ℕ → Bool
+is_divisor n = nat_lt 0 n && nat_le n 32767
+
+-- Bytes to elements, signed. No difference is of more than 32,767 bytes, so one of larger elements is 0; elements of more
+-- than 65,535 bytes are told as of none.
 abbrev pub divide_code : ℕ → List Line
-divide_code n = if n == 1 then [] else by_code tos.Div n
+divide_code n = if n == 1 then [] else (if is_divisor n then by_code tos.Div n else number_code Ax 0)

@@ -1,11 +1,9 @@
 // Conversions, and values that are pushed, passed and tested.
-ghost use Rattle.std.specs.Prelude.{◌≡◌, OnOk, OnErr, IfErr};
-ghost use Rattle.c65_base.specs.declared.refusal.Refusal.TheVariants.{OutOfMemory};
+ghost use Rattle.std.specs.Prelude.{◌≡◌, OnOk, OnErr};
 ghost use Rattle.c65_genwide.specs.Lines.{with_lines, Keeps};
 ghost use Rattle.c65_genload.specs.Conversions.{widen_code, convert_code, push_code, pass_code, test_code, size_of, waiting};
 
 use crate::zero_page::{SREG, TMP1};
-use c65_base::Refusal;
 use c65_code::Line::Do;
 use c65_code::Operand::Zero;
 use c65_code::{Draft, Routine, Width};
@@ -13,11 +11,11 @@ use c65_genwide::{narrow, put, run, width_of};
 use c65_ints::IntType;
 use c65_mach::Mode::ZeroPage;
 use c65_mach::Op::{Ora, Stx};
+use std::alloc::AllocError;
 
 /// EAX from a value of this type.
-fn widen(from: IntType, draft: &mut Draft) -> Result<(), Refusal>
+fn widen(from: IntType, draft: &mut Draft) -> Result<(), AllocError>
     ensures lines { OnOk result (draft.new ≡ with_lines draft.old (widen_code from)) }
-    ensures refused { IfErr result (λ e. e ≡ OutOfMemory) }
     ensures kept { OnErr result (Keeps draft.old draft.new) }
 {
     match from {
@@ -28,9 +26,8 @@ fn widen(from: IntType, draft: &mut Draft) -> Result<(), Refusal>
 }
 
 /// A value of one type becomes one of another (C90 6.2.1.2).
-pub fn convert(from: IntType, to: IntType, draft: &mut Draft) -> Result<(), Refusal>
+pub fn convert(from: IntType, to: IntType, draft: &mut Draft) -> Result<(), AllocError>
     ensures lines { OnOk result (draft.new ≡ with_lines draft.old (convert_code from to)) }
-    ensures refused { IfErr result (λ e. e ≡ OutOfMemory) }
     ensures kept { OnErr result (Keeps draft.old draft.new) }
 {
     match width_of(to) {
@@ -61,9 +58,8 @@ pub fn bytes_of(kind: IntType) -> u16
 }
 
 /// The value goes onto the software stack, where it waits.
-pub fn push(width: Width, draft: &mut Draft) -> Result<(), Refusal>
+pub fn push(width: Width, draft: &mut Draft) -> Result<(), AllocError>
     ensures lines { OnOk result (draft.new ≡ with_lines draft.old (push_code width)) }
-    ensures refused { IfErr result (λ e. e ≡ OutOfMemory) }
     ensures kept { OnErr result (Keeps draft.old draft.new) }
 {
     match width {
@@ -73,9 +69,8 @@ pub fn push(width: Width, draft: &mut Draft) -> Result<(), Refusal>
 }
 
 /// The value goes onto the software stack as a parameter, at its own size.
-pub fn pass(kind: IntType, draft: &mut Draft) -> Result<(), Refusal>
+pub fn pass(kind: IntType, draft: &mut Draft) -> Result<(), AllocError>
     ensures lines { OnOk result (draft.new ≡ with_lines draft.old (pass_code kind)) }
-    ensures refused { IfErr result (λ e. e ≡ OutOfMemory) }
     ensures kept { OnErr result (Keeps draft.old draft.new) }
 {
     match kind {
@@ -88,9 +83,8 @@ pub fn pass(kind: IntType, draft: &mut Draft) -> Result<(), Refusal>
 }
 
 /// The flag Z says whether the value is zero, and A is zero then.
-pub fn test(width: Width, draft: &mut Draft) -> Result<(), Refusal>
+pub fn test(width: Width, draft: &mut Draft) -> Result<(), AllocError>
     ensures lines { OnOk result (draft.new ≡ with_lines draft.old (test_code width)) }
-    ensures refused { IfErr result (λ e. e ≡ OutOfMemory) }
     ensures kept { OnErr result (Keeps draft.old draft.new) }
 {
     match width {

@@ -1,13 +1,12 @@
 // Bit-fields in their units of 16 bits (C90 6.5.2.1).
-ghost use Rattle.std.specs.Prelude.{◌≡◌, ◌<◌, OnOk, OnErr, IfErr};
-ghost use Rattle.c65_base.specs.declared.refusal.Refusal.TheVariants.{OutOfMemory};
+ghost use Rattle.std.specs.Prelude.{◌≡◌, ◌<◌, OnOk, OnErr};
 ghost use Rattle.c65_genwide.specs.Lines.{with_lines, Keeps};
 ghost use Rattle.c65_genload.specs.Fields.{ones, others, extract_code, range_code, aligned_code};
 
 use crate::numbers::{mask, shift};
 use crate::places::Field;
-use c65_base::Refusal;
 use c65_code::{Draft, TosOp};
+use std::alloc::AllocError;
 
 // So many ones, at most 16.
 fn ones(width: u8) -> u32
@@ -25,9 +24,8 @@ pub fn others(field: Field) -> u32
 }
 
 /// AX is a unit, and becomes the value of the field in it.
-pub fn extract(field: Field, draft: &mut Draft) -> Result<(), Refusal>
+pub fn extract(field: Field, draft: &mut Draft) -> Result<(), AllocError>
     ensures lines { OnOk result (draft.new ≡ with_lines draft.old (extract_code field)) }
-    ensures refused { IfErr result (λ e. e ≡ OutOfMemory) }
     ensures kept { OnErr result (Keeps draft.old draft.new) }
 {
     if field.kind.is_signed() {
@@ -41,9 +39,8 @@ pub fn extract(field: Field, draft: &mut Draft) -> Result<(), Refusal>
 }
 
 /// AX is brought into the range of a field.
-pub fn in_field(field: Field, draft: &mut Draft) -> Result<(), Refusal>
+pub fn in_field(field: Field, draft: &mut Draft) -> Result<(), AllocError>
     ensures lines { OnOk result (draft.new ≡ with_lines draft.old (range_code field)) }
-    ensures refused { IfErr result (λ e. e ≡ OutOfMemory) }
     ensures kept { OnErr result (Keeps draft.old draft.new) }
 {
     let lowest = Field {
@@ -55,9 +52,8 @@ pub fn in_field(field: Field, draft: &mut Draft) -> Result<(), Refusal>
 }
 
 /// AX is a value, and becomes the unit that has it in the field and zeros beside it.
-pub fn align(field: Field, draft: &mut Draft) -> Result<(), Refusal>
+pub fn align(field: Field, draft: &mut Draft) -> Result<(), AllocError>
     ensures lines { OnOk result (draft.new ≡ with_lines draft.old (aligned_code field)) }
-    ensures refused { IfErr result (λ e. e ≡ OutOfMemory) }
     ensures kept { OnErr result (Keeps draft.old draft.new) }
 {
     mask(ones(field.width), draft)?;

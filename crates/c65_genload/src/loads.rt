@@ -1,24 +1,22 @@
 // Values taken from where they are kept (C90 6.2.2.1).
-ghost use Rattle.std.specs.Prelude.{◌≡◌, OnOk, OnErr, IfErr};
-ghost use Rattle.c65_base.specs.declared.refusal.Refusal.TheVariants.{OutOfMemory};
+ghost use Rattle.std.specs.Prelude.{◌≡◌, OnOk, OnErr};
 ghost use Rattle.c65_genwide.specs.Lines.{with_lines, Keeps};
 ghost use Rattle.c65_genload.specs.Loads.{hold_code, bank_code, near_code, data_code, far_code, bytes_code, load_code};
 
 use crate::fields::extract;
 use crate::places::{Access, Extent, Place, extent_of};
 use crate::zero_page::{REGBANK, SP, SREG};
-use c65_base::Refusal;
 use c65_code::Line::Do;
 use c65_code::Operand::{At, Byte, Zero};
 use c65_code::{Draft, Routine, Sym};
 use c65_genwide::{narrow, put, run};
 use c65_mach::Mode::{Absolute, Immediate, IndirectY, ZeroPage};
 use c65_mach::Op::{Lda, Ldx, Ldy, Sta};
+use std::alloc::AllocError;
 
 /// The address of a place that is anywhere goes onto the software stack, and stays in AX.
-pub fn hold(place: Place, draft: &mut Draft) -> Result<(), Refusal>
+pub fn hold(place: Place, draft: &mut Draft) -> Result<(), AllocError>
     ensures lines { OnOk result (draft.new ≡ with_lines draft.old (hold_code place)) }
-    ensures refused { IfErr result (λ e. e ≡ OutOfMemory) }
     ensures kept { OnErr result (Keeps draft.old draft.new) }
 {
     match place {
@@ -27,9 +25,8 @@ pub fn hold(place: Place, draft: &mut Draft) -> Result<(), Refusal>
     }
 }
 
-fn load_bank(at: u8, extent: Extent, draft: &mut Draft) -> Result<(), Refusal>
+fn load_bank(at: u8, extent: Extent, draft: &mut Draft) -> Result<(), AllocError>
     ensures lines { OnOk result (draft.new ≡ with_lines draft.old (bank_code at extent)) }
-    ensures refused { IfErr result (λ e. e ≡ OutOfMemory) }
     ensures kept { OnErr result (Keeps draft.old draft.new) }
 {
     let byte = REGBANK.wrapping_add(at);
@@ -45,9 +42,8 @@ fn load_bank(at: u8, extent: Extent, draft: &mut Draft) -> Result<(), Refusal>
     }
 }
 
-fn load_near(at: u8, extent: Extent, draft: &mut Draft) -> Result<(), Refusal>
+fn load_near(at: u8, extent: Extent, draft: &mut Draft) -> Result<(), AllocError>
     ensures lines { OnOk result (draft.new ≡ with_lines draft.old (near_code at extent)) }
-    ensures refused { IfErr result (λ e. e ≡ OutOfMemory) }
     ensures kept { OnErr result (Keeps draft.old draft.new) }
 {
     match extent {
@@ -66,9 +62,8 @@ fn load_near(at: u8, extent: Extent, draft: &mut Draft) -> Result<(), Refusal>
     }
 }
 
-fn load_data(sym: Sym, at: u16, extent: Extent, draft: &mut Draft) -> Result<(), Refusal>
+fn load_data(sym: Sym, at: u16, extent: Extent, draft: &mut Draft) -> Result<(), AllocError>
     ensures lines { OnOk result (draft.new ≡ with_lines draft.old (data_code sym at extent)) }
-    ensures refused { IfErr result (λ e. e ≡ OutOfMemory) }
     ensures kept { OnErr result (Keeps draft.old draft.new) }
 {
     match extent {
@@ -94,9 +89,8 @@ fn load_data(sym: Sym, at: u16, extent: Extent, draft: &mut Draft) -> Result<(),
     }
 }
 
-fn load_far(extent: Extent, draft: &mut Draft) -> Result<(), Refusal>
+fn load_far(extent: Extent, draft: &mut Draft) -> Result<(), AllocError>
     ensures lines { OnOk result (draft.new ≡ with_lines draft.old (far_code extent)) }
-    ensures refused { IfErr result (λ e. e ≡ OutOfMemory) }
     ensures kept { OnErr result (Keeps draft.old draft.new) }
 {
     match extent {
@@ -107,9 +101,8 @@ fn load_far(extent: Extent, draft: &mut Draft) -> Result<(), Refusal>
 }
 
 /// The bytes at a place come into A, AX or EAX.
-pub fn load_bytes(place: Place, extent: Extent, draft: &mut Draft) -> Result<(), Refusal>
+pub fn load_bytes(place: Place, extent: Extent, draft: &mut Draft) -> Result<(), AllocError>
     ensures lines { OnOk result (draft.new ≡ with_lines draft.old (bytes_code place extent)) }
-    ensures refused { IfErr result (λ e. e ≡ OutOfMemory) }
     ensures kept { OnErr result (Keeps draft.old draft.new) }
 {
     match place {
@@ -122,9 +115,8 @@ pub fn load_bytes(place: Place, extent: Extent, draft: &mut Draft) -> Result<(),
 
 /// The value that is kept at a place comes into the primary register. The address of a place that is
 /// anywhere is in AX before.
-pub fn load(place: Place, access: Access, draft: &mut Draft) -> Result<(), Refusal>
+pub fn load(place: Place, access: Access, draft: &mut Draft) -> Result<(), AllocError>
     ensures lines { OnOk result (draft.new ≡ with_lines draft.old (load_code place access)) }
-    ensures refused { IfErr result (λ e. e ≡ OutOfMemory) }
     ensures kept { OnErr result (Keeps draft.old draft.new) }
 {
     match access {

@@ -1,11 +1,9 @@
 // Numbers that are known: taken, added, multiplied and divided by.
-ghost use Rattle.std.specs.Prelude.{◌≡◌, OnOk, OnErr, IfErr};
-ghost use Rattle.c65_base.specs.declared.refusal.Refusal.TheVariants.{OutOfMemory};
+ghost use Rattle.std.specs.Prelude.{◌≡◌, OnOk, OnErr};
 ghost use Rattle.c65_genwide.specs.Lines.{with_lines, Keeps};
-ghost use Rattle.c65_genload.specs.Numbers.{first, second, third, fourth, number_code, add_word_code, add_long_code, add_code, mask_code, by_code, shift_code, scale_code, divide_code};
+ghost use Rattle.c65_genload.specs.Numbers.{first, second, third, fourth, number_code, add_word_code, add_long_code, add_code, mask_code, by_code, shift_code, scale_code, is_divisor, divide_code};
 
 use crate::zero_page::SREG;
-use c65_base::Refusal;
 use c65_code::Line::Do;
 use c65_code::Operand::{Byte, Nothing, Zero};
 use c65_code::{Draft, Routine, TosOp, UnaryRoutine, Width};
@@ -13,6 +11,7 @@ use c65_genwide::{narrow, put, run, width_of};
 use c65_ints::IntType;
 use c65_mach::Mode::{Immediate, Implied, ZeroPage};
 use c65_mach::Op::{Adc, And, Clc, Lda, Ldx, Sta, Tax, Tay, Txa, Tya};
+use std::alloc::AllocError;
 
 fn first(number: u32) -> u8
     ensures { result ≡ first number }
@@ -39,9 +38,8 @@ fn fourth(number: u32) -> u8
 }
 
 /// The primary register becomes a number of so many bytes.
-pub fn number(width: Width, number: u32, draft: &mut Draft) -> Result<(), Refusal>
+pub fn number(width: Width, number: u32, draft: &mut Draft) -> Result<(), AllocError>
     ensures lines { OnOk result (draft.new ≡ with_lines draft.old (number_code width number)) }
-    ensures refused { IfErr result (λ e. e ≡ OutOfMemory) }
     ensures kept { OnErr result (Keeps draft.old draft.new) }
 {
     match width {
@@ -66,9 +64,8 @@ pub fn number(width: Width, number: u32, draft: &mut Draft) -> Result<(), Refusa
     }
 }
 
-fn add_word(number: u32, draft: &mut Draft) -> Result<(), Refusal>
+fn add_word(number: u32, draft: &mut Draft) -> Result<(), AllocError>
     ensures lines { OnOk result (draft.new ≡ with_lines draft.old (add_word_code number)) }
-    ensures refused { IfErr result (λ e. e ≡ OutOfMemory) }
     ensures kept { OnErr result (Keeps draft.old draft.new) }
 {
     put(
@@ -85,9 +82,8 @@ fn add_word(number: u32, draft: &mut Draft) -> Result<(), Refusal>
     )
 }
 
-fn add_long(number: u32, draft: &mut Draft) -> Result<(), Refusal>
+fn add_long(number: u32, draft: &mut Draft) -> Result<(), AllocError>
     ensures lines { OnOk result (draft.new ≡ with_lines draft.old (add_long_code number)) }
-    ensures refused { IfErr result (λ e. e ≡ OutOfMemory) }
     ensures kept { OnErr result (Keeps draft.old draft.new) }
 {
     put(
@@ -111,9 +107,8 @@ fn add_long(number: u32, draft: &mut Draft) -> Result<(), Refusal>
 }
 
 /// A number is added to the primary register, and the sum brought back into the type.
-pub fn add(kind: IntType, number: u32, draft: &mut Draft) -> Result<(), Refusal>
+pub fn add(kind: IntType, number: u32, draft: &mut Draft) -> Result<(), AllocError>
     ensures lines { OnOk result (draft.new ≡ with_lines draft.old (add_code kind number)) }
-    ensures refused { IfErr result (λ e. e ≡ OutOfMemory) }
     ensures kept { OnErr result (Keeps draft.old draft.new) }
 {
     match width_of(kind) {
@@ -126,9 +121,8 @@ pub fn add(kind: IntType, number: u32, draft: &mut Draft) -> Result<(), Refusal>
 }
 
 /// The bits of AX that a number has.
-pub fn mask(number: u32, draft: &mut Draft) -> Result<(), Refusal>
+pub fn mask(number: u32, draft: &mut Draft) -> Result<(), AllocError>
     ensures lines { OnOk result (draft.new ≡ with_lines draft.old (mask_code number)) }
-    ensures refused { IfErr result (λ e. e ≡ OutOfMemory) }
     ensures kept { OnErr result (Keeps draft.old draft.new) }
 {
     put(
@@ -145,9 +139,8 @@ pub fn mask(number: u32, draft: &mut Draft) -> Result<(), Refusal>
 }
 
 /// AX and a number, by an operator.
-fn by(op: TosOp, amount: u32, draft: &mut Draft) -> Result<(), Refusal>
+fn by(op: TosOp, amount: u32, draft: &mut Draft) -> Result<(), AllocError>
     ensures lines { OnOk result (draft.new ≡ with_lines draft.old (by_code op amount)) }
-    ensures refused { IfErr result (λ e. e ≡ OutOfMemory) }
     ensures kept { OnErr result (Keeps draft.old draft.new) }
 {
     run(draft, Routine::PushAx)?;
@@ -156,9 +149,8 @@ fn by(op: TosOp, amount: u32, draft: &mut Draft) -> Result<(), Refusal>
 }
 
 /// AX is shifted by so many bits.
-pub fn shift(op: TosOp, count: u32, draft: &mut Draft) -> Result<(), Refusal>
+pub fn shift(op: TosOp, count: u32, draft: &mut Draft) -> Result<(), AllocError>
     ensures lines { OnOk result (draft.new ≡ with_lines draft.old (shift_code op count)) }
-    ensures refused { IfErr result (λ e. e ≡ OutOfMemory) }
     ensures kept { OnErr result (Keeps draft.old draft.new) }
 {
     if count == 0 {
@@ -169,9 +161,8 @@ pub fn shift(op: TosOp, count: u32, draft: &mut Draft) -> Result<(), Refusal>
 }
 
 /// A number of elements of so many bytes becomes a number of bytes (C90 6.3.6).
-pub fn scale(size: u32, draft: &mut Draft) -> Result<(), Refusal>
+pub fn scale(size: u32, draft: &mut Draft) -> Result<(), AllocError>
     ensures lines { OnOk result (draft.new ≡ with_lines draft.old (scale_code size)) }
-    ensures refused { IfErr result (λ e. e ≡ OutOfMemory) }
     ensures kept { OnErr result (Keeps draft.old draft.new) }
 {
     if size == 1 {
@@ -183,15 +174,25 @@ pub fn scale(size: u32, draft: &mut Draft) -> Result<(), Refusal>
     }
 }
 
-/// A number of bytes becomes a number of elements of so many bytes (C90 6.3.6).
-pub fn divide(size: u32, draft: &mut Draft) -> Result<(), Refusal>
+/// Whether a signed division by a number gives what an unsigned one would, of what is at most 32,767.
+fn is_divisor(size: u32) -> bool
+    ensures { result ≡ is_divisor size }
+{
+    0 < size && size <= 32_767
+}
+
+/// A signed number of bytes becomes a number of elements of so many bytes (C90 6.3.6). It is 0 where
+/// an element has more than 32,767 bytes, and where it is told to have none because it has more than
+/// 65,535: no two pointers into one array are as far apart.
+pub fn divide(size: u32, draft: &mut Draft) -> Result<(), AllocError>
     ensures lines { OnOk result (draft.new ≡ with_lines draft.old (divide_code size)) }
-    ensures refused { IfErr result (λ e. e ≡ OutOfMemory) }
     ensures kept { OnErr result (Keeps draft.old draft.new) }
 {
     if size == 1 {
         put(draft, &[])
-    } else {
+    } else if is_divisor(size) {
         by(TosOp::Div, size, draft)
+    } else {
+        number(Width::Ax, 0, draft)
     }
 }

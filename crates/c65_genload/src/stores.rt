@@ -1,6 +1,5 @@
 // Values put where they are kept (C90 6.3.16).
-ghost use Rattle.std.specs.Prelude.{◌≡◌, OnOk, OnErr, IfErr};
-ghost use Rattle.c65_base.specs.declared.refusal.Refusal.TheVariants.{OutOfMemory};
+ghost use Rattle.std.specs.Prelude.{◌≡◌, OnOk, OnErr};
 ghost use Rattle.c65_genwide.specs.Lines.{with_lines, Keeps};
 ghost use Rattle.c65_genload.specs.Stores.{bank_store, near_store, data_store, far_store, bytes_store, after_store, under_code, field_store, store_code, copy_code};
 
@@ -9,7 +8,6 @@ use crate::loads::load_bytes;
 use crate::numbers::mask;
 use crate::places::{Access, Extent, Field, Place, extent_of};
 use crate::zero_page::{PTR3, REGBANK, SP, SREG};
-use c65_base::Refusal;
 use c65_code::Line::Do;
 use c65_code::Operand::{At, Byte, Nothing, Zero};
 use c65_code::{Draft, Routine, Sym, TosOp, Width};
@@ -17,10 +15,10 @@ use c65_genwide::{narrow, put, run};
 use c65_ints::IntType;
 use c65_mach::Mode::{Absolute, Immediate, Implied, IndirectY, ZeroPage};
 use c65_mach::Op::{Lda, Ldy, Sta, Stx, Sty, Tay, Tya};
+use std::alloc::AllocError;
 
-fn store_bank(at: u8, extent: Extent, draft: &mut Draft) -> Result<(), Refusal>
+fn store_bank(at: u8, extent: Extent, draft: &mut Draft) -> Result<(), AllocError>
     ensures lines { OnOk result (draft.new ≡ with_lines draft.old (bank_store at extent)) }
-    ensures refused { IfErr result (λ e. e ≡ OutOfMemory) }
     ensures kept { OnErr result (Keeps draft.old draft.new) }
 {
     let byte = REGBANK.wrapping_add(at);
@@ -36,9 +34,8 @@ fn store_bank(at: u8, extent: Extent, draft: &mut Draft) -> Result<(), Refusal>
     }
 }
 
-fn store_near(at: u8, extent: Extent, draft: &mut Draft) -> Result<(), Refusal>
+fn store_near(at: u8, extent: Extent, draft: &mut Draft) -> Result<(), AllocError>
     ensures lines { OnOk result (draft.new ≡ with_lines draft.old (near_store at extent)) }
-    ensures refused { IfErr result (λ e. e ≡ OutOfMemory) }
     ensures kept { OnErr result (Keeps draft.old draft.new) }
 {
     put(draft, &[Do(Ldy, Immediate, Byte(at))])?;
@@ -49,9 +46,8 @@ fn store_near(at: u8, extent: Extent, draft: &mut Draft) -> Result<(), Refusal>
     }
 }
 
-fn store_data(sym: Sym, at: u16, extent: Extent, draft: &mut Draft) -> Result<(), Refusal>
+fn store_data(sym: Sym, at: u16, extent: Extent, draft: &mut Draft) -> Result<(), AllocError>
     ensures lines { OnOk result (draft.new ≡ with_lines draft.old (data_store sym at extent)) }
-    ensures refused { IfErr result (λ e. e ≡ OutOfMemory) }
     ensures kept { OnErr result (Keeps draft.old draft.new) }
 {
     match extent {
@@ -77,9 +73,8 @@ fn store_data(sym: Sym, at: u16, extent: Extent, draft: &mut Draft) -> Result<()
     }
 }
 
-fn store_far(extent: Extent, draft: &mut Draft) -> Result<(), Refusal>
+fn store_far(extent: Extent, draft: &mut Draft) -> Result<(), AllocError>
     ensures lines { OnOk result (draft.new ≡ with_lines draft.old (far_store extent)) }
-    ensures refused { IfErr result (λ e. e ≡ OutOfMemory) }
     ensures kept { OnErr result (Keeps draft.old draft.new) }
 {
     match extent {
@@ -90,9 +85,8 @@ fn store_far(extent: Extent, draft: &mut Draft) -> Result<(), Refusal>
 }
 
 /// A, AX or EAX goes to a place. An address that waited is popped.
-fn store_bytes(place: Place, extent: Extent, draft: &mut Draft) -> Result<(), Refusal>
+fn store_bytes(place: Place, extent: Extent, draft: &mut Draft) -> Result<(), AllocError>
     ensures lines { OnOk result (draft.new ≡ with_lines draft.old (bytes_store place extent)) }
-    ensures refused { IfErr result (λ e. e ≡ OutOfMemory) }
     ensures kept { OnErr result (Keeps draft.old draft.new) }
 {
     match place {
@@ -104,9 +98,8 @@ fn store_bytes(place: Place, extent: Extent, draft: &mut Draft) -> Result<(), Re
 }
 
 // A store through an address leaves A alone in place of a character.
-fn restore(place: Place, kind: IntType, draft: &mut Draft) -> Result<(), Refusal>
+fn restore(place: Place, kind: IntType, draft: &mut Draft) -> Result<(), AllocError>
     ensures lines { OnOk result (draft.new ≡ with_lines draft.old (after_store place kind)) }
-    ensures refused { IfErr result (λ e. e ≡ OutOfMemory) }
     ensures kept { OnErr result (Keeps draft.old draft.new) }
 {
     match place {
@@ -116,9 +109,8 @@ fn restore(place: Place, kind: IntType, draft: &mut Draft) -> Result<(), Refusal
 }
 
 // The word at a place, above whose address one word more waits.
-fn load_under(place: Place, draft: &mut Draft) -> Result<(), Refusal>
+fn load_under(place: Place, draft: &mut Draft) -> Result<(), AllocError>
     ensures lines { OnOk result (draft.new ≡ with_lines draft.old (under_code place)) }
-    ensures refused { IfErr result (λ e. e ≡ OutOfMemory) }
     ensures kept { OnErr result (Keeps draft.old draft.new) }
 {
     match place {
@@ -133,9 +125,8 @@ fn load_under(place: Place, draft: &mut Draft) -> Result<(), Refusal>
 }
 
 // The other bits of the unit stay.
-fn store_field(place: Place, field: Field, draft: &mut Draft) -> Result<(), Refusal>
+fn store_field(place: Place, field: Field, draft: &mut Draft) -> Result<(), AllocError>
     ensures lines { OnOk result (draft.new ≡ with_lines draft.old (field_store place field)) }
-    ensures refused { IfErr result (λ e. e ≡ OutOfMemory) }
     ensures kept { OnErr result (Keeps draft.old draft.new) }
 {
     align(field, draft)?;
@@ -149,9 +140,8 @@ fn store_field(place: Place, field: Field, draft: &mut Draft) -> Result<(), Refu
 
 /// The primary register goes to a place, and is what the place then holds. An address that waited is
 /// popped.
-pub fn store(place: Place, access: Access, draft: &mut Draft) -> Result<(), Refusal>
+pub fn store(place: Place, access: Access, draft: &mut Draft) -> Result<(), AllocError>
     ensures lines { OnOk result (draft.new ≡ with_lines draft.old (store_code place access)) }
-    ensures refused { IfErr result (λ e. e ≡ OutOfMemory) }
     ensures kept { OnErr result (Keeps draft.old draft.new) }
 {
     match access {
@@ -165,9 +155,8 @@ pub fn store(place: Place, access: Access, draft: &mut Draft) -> Result<(), Refu
 
 /// So many bytes are copied from the address in AX to the one that waits, which AX becomes (C90
 /// 6.3.16.1).
-pub fn copy(size: u32, draft: &mut Draft) -> Result<(), Refusal>
+pub fn copy(size: u32, draft: &mut Draft) -> Result<(), AllocError>
     ensures lines { OnOk result (draft.new ≡ with_lines draft.old (copy_code size)) }
-    ensures refused { IfErr result (λ e. e ≡ OutOfMemory) }
     ensures kept { OnErr result (Keeps draft.old draft.new) }
 {
     put(

@@ -1,6 +1,5 @@
 // Functions (C90 6.7.1; MACHINE.md, "Calls").
-ghost use Rattle.std.specs.Prelude.{◌≡◌, ◌≤◌, ◌^◌, IfOk, IfErr, OnOk};
-ghost use Rattle.c65_base.specs.declared.refusal.Refusal.TheVariants.{OutOfMemory};
+ghost use Rattle.std.specs.Prelude.{◌≡◌, ◌≤◌, ◌^◌, IfOk, OnOk};
 ghost use Rattle.c65_base.specs.Answers.{Gives};
 ghost use Rattle.c65_csem.specs.Views.{func_of};
 ghost use Rattle.c65_genwide.specs.Lines.{with_lines};
@@ -19,7 +18,7 @@ use c65_genframe::{Frame, bytes_or, registers};
 use c65_genwide::put;
 use c65_mach::Mode::Immediate;
 use c65_mach::Op::{Lda, Ldx};
-use std::alloc::Global;
+use std::alloc::{AllocError, Global};
 
 /// What a function gives, by the type of its result.
 fn gives_of(parts: &Parts, function: &TFunc) -> RegSet
@@ -29,7 +28,7 @@ fn gives_of(parts: &Parts, function: &TFunc) -> RegSet
 }
 
 /// Reaching the end of main returns 0 (C90 5.1.2.2.3).
-fn put_zero(is_main: bool, draft: &mut Draft) -> Result<(), Refusal>
+fn put_zero(is_main: bool, draft: &mut Draft) -> Result<(), AllocError>
     ensures { OnOk result (draft.new ≡ with_lines draft.old (main_code is_main)) }
 {
     if is_main {
@@ -57,7 +56,7 @@ fn put_body(
     function: &TFunc,
     frame: &Frame<'_>,
     draft: &mut Draft,
-) -> Result<(), Refusal>
+) -> Result<(), AllocError>
     ensures { OnOk result (draft.new ≡ with_body frame.now (func_of function.now).body draft.old) }
 {
     let ways = Ways {
@@ -79,7 +78,7 @@ fn put_function(
     frame: &Frame<'_>,
     is_main: bool,
     draft: &mut Draft,
-) -> Result<(), Refusal>
+) -> Result<(), AllocError>
     ensures { OnOk result (draft.new ≡ with_function frame.now is_main (func_of function.now).body draft.old) }
 {
     let end = fresh(draft)?;
@@ -92,7 +91,7 @@ fn put_function(
     Ok(())
 }
 
-/// The same as a draft. What stops it is want of memory.
+/// The same as a draft.
 #[tactic(auto, using(crate::proofs::Drafts::draft_is))]
 fn drafted(
     alloc: Global,
@@ -100,27 +99,23 @@ fn drafted(
     function: &TFunc,
     frame: &Frame<'_>,
     is_main: bool,
-) -> Result<Draft, Refusal>
-    ensures lines { IfOk result (λ d. d ≡ with_function frame.now is_main (func_of function.now).body (no_lines (gives_of parts.now (func_of function.now)))) }
-    ensures refused { IfErr result (λ e. e ≡ OutOfMemory) }
+) -> Result<Draft, AllocError>
+    ensures { IfOk result (λ d. d ≡ with_function frame.now is_main (func_of function.now).body (no_lines (gives_of parts.now (func_of function.now)))) }
 {
     let mut draft = Draft::new(alloc, gives_of(parts, function));
-    match put_function(alloc, function, frame, is_main, &mut draft) {
-        Ok(()) => Ok(draft),
-        Err(_) => Err(Refusal::OutOfMemory),
-    }
+    put_function(alloc, function, frame, is_main, &mut draft)?;
+    Ok(draft)
 }
 
 /// A segment of the lines. Where they are none, that is refused as want of memory.
 #[tactic(auto, using(crate::proofs::Drafts::segment_is))]
-fn close(draft: Draft) -> Result<Seg, Refusal>
-    ensures ok { IfOk result (λ s. s ≡ closed draft) }
-    ensures refused { IfErr result (λ e. e ≡ OutOfMemory) }
+fn close(draft: Draft) -> Result<Seg, AllocError>
+    ensures { IfOk result (λ s. s ≡ closed draft) }
 {
     if is_segment(draft.lines()) {
         Ok(draft.close())
     } else {
-        Err(Refusal::OutOfMemory)
+        Err(AllocError)
     }
 }
 
@@ -137,7 +132,7 @@ pub fn segment_of(
 {
     let frame = Frame::of(alloc, parts, function, honoured)?;
     let draft = drafted(alloc, parts, function, &frame, is_main)?;
-    close(draft)
+    Ok(close(draft)?)
 }
 
 /// The lines of a function of the program, by its number. Refuses `Frame` where its parameters and

@@ -8,16 +8,16 @@ ghost use Rattle.c65_genwide.specs.Lines.{with_lines};
 ghost use Rattle.c65_genentry.specs.Words.{jump};
 ghost use Rattle.c65_genstmt.specs.Jumps.{following, with_value, with_condition};
 
-use c65_base::Refusal;
 use c65_code::{Draft, Line, Operand};
 use c65_csem::TExpr;
 use c65_ctype::CType;
-use c65_genexpr::gen_expr;
+use c65_genexpr::put_expr;
 use c65_genframe::Frame;
 use c65_genload::test;
-use c65_genwide::width_of;
+use c65_genwide::{put, width_of};
 use c65_ints::IntType;
 use c65_mach::{Mode, Op};
+use std::alloc::AllocError;
 
 /// Where jumps out of a statement lead, as labels.
 #[derive(Clone, Copy)]
@@ -48,17 +48,20 @@ pub fn kind_of(ty: &CType) -> IntType
 }
 
 /// A jump.
-pub fn put_jump(label: u32, draft: &mut Draft) -> Result<(), Refusal>
+pub fn put_jump(label: u32, draft: &mut Draft) -> Result<(), AllocError>
     ensures { OnOk result (draft.new ≡ with_lines draft.old (jump Jmp label ∷ [])) }
 {
-    draft.push(Line::Do(Op::Jmp, Mode::Absolute, Operand::To(label)))
+    put(
+        draft,
+        &[Line::Do(Op::Jmp, Mode::Absolute, Operand::To(label))],
+    )
 }
 
 /// The lines of an expression where no value waits.
-pub fn put_value(expr: &TExpr, frame: &Frame<'_>, draft: &mut Draft) -> Result<(), Refusal>
+pub fn put_value(expr: &TExpr, frame: &Frame<'_>, draft: &mut Draft) -> Result<(), AllocError>
     ensures { OnOk result (draft.new ≡ with_value frame.now (typed_of expr.now) draft.old) }
 {
-    gen_expr(expr, frame, 0, draft)
+    put_expr(expr, frame, 0, draft)
 }
 
 /// A condition, and a branch where it is zero, or where it is not.
@@ -68,11 +71,10 @@ pub fn put_condition(
     op: Op,
     label: u32,
     draft: &mut Draft,
-) -> Result<(), Refusal>
+) -> Result<(), AllocError>
     ensures { OnOk result (draft.new ≡ with_condition frame.now op label (typed_of expr.now) draft.old) }
 {
     put_value(expr, frame, draft)?;
     test(width_of(kind_of(&expr.ty.ty)), draft)?;
-    draft.push(Line::Do(op, Mode::Relative, Operand::To(label)))?;
-    Ok(())
+    put(draft, &[Line::Do(op, Mode::Relative, Operand::To(label))])
 }

@@ -5,7 +5,6 @@ ghost use Rattle.c65_genwide.specs.Lines.{with_lines};
 ghost use Rattle.c65_genstmt.specs.Objects.{object_bytes, spot_of, point_code, stored_code, with_copied, with_set, with_zeros, with_cleared};
 
 use crate::jumps::{kind_of, put_value};
-use c65_base::Refusal;
 use c65_code::Line::Do;
 use c65_code::Operand::Zero;
 use c65_code::{Draft, Sym};
@@ -16,6 +15,7 @@ use c65_genload::{Access, Place, bytes_of, store};
 use c65_genwide::put;
 use c65_mach::Mode::ZeroPage;
 use c65_mach::Op::{Sta, Stx};
+use std::alloc::AllocError;
 
 const PTR1: u8 = 8;
 
@@ -55,7 +55,7 @@ fn object_bytes(frame: &Frame<'_>, object: u32) -> u32
 }
 
 /// A pointer in the zero page becomes the address of a byte; none of regbank's is asked for.
-fn put_point(pointer: u8, spot: Spot, draft: &mut Draft) -> Result<(), Refusal>
+fn put_point(pointer: u8, spot: Spot, draft: &mut Draft) -> Result<(), AllocError>
     requires { pointer < 255 }
     ensures { OnOk result (draft.new ≡ with_lines draft.old (point_code pointer spot)) }
 {
@@ -67,7 +67,7 @@ fn put_point(pointer: u8, spot: Spot, draft: &mut Draft) -> Result<(), Refusal>
 }
 
 /// The primary register goes to a place.
-fn put_stored(spot: Spot, access: Access, bytes: u16, draft: &mut Draft) -> Result<(), Refusal>
+fn put_stored(spot: Spot, access: Access, bytes: u16, draft: &mut Draft) -> Result<(), AllocError>
     ensures { OnOk result (draft.new ≡ with_lines draft.old (stored_code spot access bytes)) }
 {
     match spot {
@@ -84,7 +84,7 @@ fn put_stored(spot: Spot, access: Access, bytes: u16, draft: &mut Draft) -> Resu
 }
 
 /// So many bytes are copied from the address in AX.
-fn put_copied(spot: Spot, bytes: u32, draft: &mut Draft) -> Result<(), Refusal>
+fn put_copied(spot: Spot, bytes: u32, draft: &mut Draft) -> Result<(), AllocError>
     ensures { OnOk result (draft.new ≡ with_copied spot bytes draft.old) }
 {
     put(
@@ -106,7 +106,7 @@ pub fn put_set(
     offset: u32,
     frame: &Frame<'_>,
     draft: &mut Draft,
-) -> Result<(), Refusal>
+) -> Result<(), AllocError>
     ensures { OnOk result (draft.new ≡ with_set frame.now object offset (typed_of expr.now) draft.old) }
 {
     let spot = spot_of(frame, object, offset);
@@ -121,7 +121,7 @@ pub fn put_set(
 }
 
 /// So many bytes from there on become zero.
-fn put_zeros(spot: Spot, bytes: u32, draft: &mut Draft) -> Result<(), Refusal>
+fn put_zeros(spot: Spot, bytes: u32, draft: &mut Draft) -> Result<(), AllocError>
     ensures { OnOk result (draft.new ≡ with_zeros spot bytes draft.old) }
 {
     match spot {
@@ -140,7 +140,7 @@ fn put_zeros(spot: Spot, bytes: u32, draft: &mut Draft) -> Result<(), Refusal>
 }
 
 /// All bytes of an automatic object become zero.
-pub fn put_clear(object: u32, frame: &Frame<'_>, draft: &mut Draft) -> Result<(), Refusal>
+pub fn put_clear(object: u32, frame: &Frame<'_>, draft: &mut Draft) -> Result<(), AllocError>
     ensures { OnOk result (draft.new ≡ with_cleared frame.now object draft.old) }
 {
     put_zeros(

@@ -7,7 +7,6 @@ ghost use Rattle.c65_genstmt.specs.Stmts.{case_behind, case_behind_all, with_may
 use crate::cases::{add_cases, has_default};
 use crate::jumps::{Ways, following, kind_of, put_condition, put_jump, put_value};
 use crate::objects::{put_clear, put_set};
-use c65_base::Refusal;
 use c65_code::Draft;
 use c65_csem::{TExpr, TStmt};
 use c65_genentry::{choose, fresh, label, reserve};
@@ -16,7 +15,7 @@ use c65_genwide::width_of;
 use c65_mach::Op;
 use std::alloc::{AllocError, Global};
 
-fn put_maybe(expr: &Option<TExpr>, frame: &Frame<'_>, draft: &mut Draft) -> Result<(), Refusal>
+fn put_maybe(expr: &Option<TExpr>, frame: &Frame<'_>, draft: &mut Draft) -> Result<(), AllocError>
     ensures { OnOk result (draft.new ≡ with_maybe frame.now (maybe_of expr.now) draft.old) }
 {
     match expr {
@@ -31,7 +30,7 @@ fn put_test(
     frame: &Frame<'_>,
     end: u32,
     draft: &mut Draft,
-) -> Result<(), Refusal>
+) -> Result<(), AllocError>
     ensures { OnOk result (draft.new ≡ with_test frame.now end (maybe_of test.now) draft.old) }
 {
     match test {
@@ -71,7 +70,7 @@ fn put_choice(
     body: &TStmt,
     frame: &Frame<'_>,
     draft: &mut Draft,
-) -> Result<Exits, Refusal>
+) -> Result<Exits, AllocError>
     ensures lines { OnOk result (draft.new ≡ with_choice frame.now (typed_of value.now) (stmt_of body.now) draft.old) }
     ensures end { IfOk result (λ x. x.end ≡ draft.old.labels) }
     ensures other { IfOk result (λ x. x.other ≡ draft.old.labels + 1) }
@@ -96,7 +95,7 @@ struct Turns {
 }
 
 /// The head of a loop.
-fn open_loop(draft: &mut Draft) -> Result<Turns, Refusal>
+fn open_loop(draft: &mut Draft) -> Result<Turns, AllocError>
     ensures lines { OnOk result (draft.new ≡ with_label draft.old.labels (three_given draft.old)) }
     ensures head { IfOk result (λ t. t.head ≡ draft.old.labels) }
     ensures onward { IfOk result (λ t. t.onward ≡ draft.old.labels + 1) }
@@ -115,7 +114,7 @@ fn close_loop(
     frame: &Frame<'_>,
     turns: Turns,
     draft: &mut Draft,
-) -> Result<(), Refusal>
+) -> Result<(), AllocError>
     ensures { OnOk result (draft.new ≡ with_bottom frame.now turns.head turns.onward turns.end (typed_of test.now) draft.old) }
 {
     label(draft, turns.onward)?;
@@ -133,7 +132,7 @@ pub fn put_stmt(
     ways: Ways,
     case: &mut u32,
     draft: &mut Draft,
-) -> Result<(), Refusal>
+) -> Result<(), AllocError>
     ensures lines { OnOk result (draft.new ≡ with_stmt frame.now ways case.old (stmt_of stmt.now) draft.old) }
     ensures cases { OnOk result (case.new ≡ case_behind case.old (stmt_of stmt.now)) }
 {
@@ -208,7 +207,7 @@ fn put_stmts(
     ways: Ways,
     case: &mut u32,
     draft: &mut Draft,
-) -> Result<(), Refusal>
+) -> Result<(), AllocError>
     ensures lines { OnOk result (draft.new ≡ with_stmts frame.now ways case.old (stmts_of stmts.now) draft.old) }
     ensures cases { OnOk result (case.new ≡ case_behind_all case.old (stmts_of stmts.now)) }
 {
@@ -228,7 +227,7 @@ fn put_if(
     ways: Ways,
     case: &mut u32,
     draft: &mut Draft,
-) -> Result<(), Refusal>
+) -> Result<(), AllocError>
     ensures lines { OnOk result (draft.new ≡ with_if frame.now ways case.old (typed_of test.now) (stmt_of body.now) (stmt_of other.now) draft.old) }
     ensures cases { OnOk result (case.new ≡ case_behind (case_behind case.old (stmt_of body.now)) (stmt_of other.now)) }
 {
@@ -252,7 +251,7 @@ fn put_while(
     ways: Ways,
     case: &mut u32,
     draft: &mut Draft,
-) -> Result<(), Refusal>
+) -> Result<(), AllocError>
     ensures lines { OnOk result (draft.new ≡ with_while frame.now ways case.old (typed_of test.now) (stmt_of body.now) draft.old) }
     ensures cases { OnOk result (case.new ≡ case_behind case.old (stmt_of body.now)) }
 {
@@ -280,7 +279,7 @@ fn put_do(
     ways: Ways,
     case: &mut u32,
     draft: &mut Draft,
-) -> Result<(), Refusal>
+) -> Result<(), AllocError>
     ensures lines { OnOk result (draft.new ≡ with_do frame.now ways case.old (stmt_of body.now) (typed_of test.now) draft.old) }
     ensures cases { OnOk result (case.new ≡ case_behind case.old (stmt_of body.now)) }
 {
@@ -306,7 +305,7 @@ fn put_for(
     ways: Ways,
     case: &mut u32,
     draft: &mut Draft,
-) -> Result<(), Refusal>
+) -> Result<(), AllocError>
     ensures lines { OnOk result (draft.new ≡ with_for frame.now ways case.old (maybe_of test.now) (maybe_of next.now) (stmt_of body.now) draft.old) }
     ensures cases { OnOk result (case.new ≡ case_behind case.old (stmt_of body.now)) }
 {
@@ -336,7 +335,7 @@ fn put_switch(
     frame: &Frame<'_>,
     ways: Ways,
     draft: &mut Draft,
-) -> Result<(), Refusal>
+) -> Result<(), AllocError>
     ensures { OnOk result (draft.new ≡ with_switch frame.now ways (typed_of value.now) (stmt_of body.now) draft.old) }
 {
     let exits = put_choice(alloc, value, body, frame, draft)?;

@@ -1,7 +1,6 @@
 -- What a draft keeps, step by step.
 use Rattle.std.proofs.Common.{◌≡◌, ◌+◌, List, [], ◌++◌, ap, ◌∙◌, append_assoc, append-nil, add-zero, Result, Ok, Err}
 use Rattle.std.specs.Result.{OnErr}
-use Rattle.c65_base.specs.declared.refusal.Refusal.{Refusal}
 use Rattle.c65_code.specs.declared.line.Line.{Line}
 use Rattle.c65_code.specs.Segments.{Drafted}
 use Rattle.c65_genwide.specs.Lines.{with_lines, Keeps}
@@ -18,10 +17,10 @@ kept_then d e g ls h k =
       is = k.is ∙ ap (λ (x : Drafted). record x { lines = x.lines ++ k.lines; labels = x.labels + k.labels }) h ∙ ap (λ (all : List Line). record d { lines = all; labels = d.labels + k.labels }) (append_assoc d.lines ls k.lines);
     }
 
-pub kept_run : {A : Type 0} (r : Result A Refusal) (d e : Drafted) → OnErr r (e ≡ d) → OnErr r (Keeps d e)
+pub kept_run : {A E : Type 0} (r : Result A E) (d e : Drafted) → OnErr r (e ≡ d) → OnErr r (Keeps d e)
 kept_run (Ok u) d e h = tt
 kept_run (Err f) d e h = kept_same d e h
 
-pub kept_last : {A : Type 0} (r : Result A Refusal) (d e g : Drafted) (ls : List Line) → e ≡ with_lines d ls → OnErr r (Keeps e g) → OnErr r (Keeps d g)
+pub kept_last : {A E : Type 0} (r : Result A E) (d e g : Drafted) (ls : List Line) → e ≡ with_lines d ls → OnErr r (Keeps e g) → OnErr r (Keeps d g)
 kept_last (Ok u) d e g ls h k = tt
 kept_last (Err f) d e g ls h k = kept_then d e g ls h k

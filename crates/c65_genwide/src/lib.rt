@@ -5,5 +5,5 @@
 mod wide;
 mod writing;
 
-pub use wide::{gen_wide, narrow, width_of};
+pub use wide::{gen_wide, narrow, put_wide, width_of};
 pub use writing::{put, run};

@@ -9,6 +9,7 @@ use c65_base::{BinaryOp, Refusal};
 use c65_code::{Draft, Line, Operand, Routine, TosOp, Width};
 use c65_ints::IntType;
 use c65_mach::{Mode, Op};
+use std::alloc::AllocError;
 
 /// Whether values of a type stand in A and X, or in A, X and sreg. Those of a character type stand
 /// in A and X too, with their sign or zeros in X.
@@ -62,9 +63,8 @@ fn is_comparison(op: BinaryOp) -> bool
 
 /// Puts the lines that bring AX into the range of a character type; for the other types there are
 /// none (C90 6.2.1.2).
-pub fn narrow(ty: IntType, draft: &mut Draft) -> Result<(), Refusal>
+pub fn narrow(ty: IntType, draft: &mut Draft) -> Result<(), AllocError>
     ensures lines { OnOk result (draft.new ≡ with_lines draft.old (narrow_code ty)) }
-    ensures refused { IfErr result (λ e. e ≡ OutOfMemory) }
     ensures kept { OnErr result (Keeps draft.old draft.new) }
 {
     match ty {
@@ -80,9 +80,8 @@ pub fn narrow(ty: IntType, draft: &mut Draft) -> Result<(), Refusal>
 /// Puts the lines of an operator in a type: the left operand is on the software stack and goes from
 /// there, the right one is in the primary register, which the result takes. Both are of the type's
 /// width, a count of bits to shift by too. A comparison leaves 1 or 0 in AX (C90 6.3.5 to 6.3.12).
-pub fn gen_wide(op: BinaryOp, ty: IntType, draft: &mut Draft) -> Result<(), Refusal>
+pub fn put_wide(op: BinaryOp, ty: IntType, draft: &mut Draft) -> Result<(), AllocError>
     ensures lines { OnOk result (draft.new ≡ with_lines draft.old (wide_code op ty)) }
-    ensures refused { IfErr result (λ e. e ≡ OutOfMemory) }
     ensures kept { OnErr result (Keeps draft.old draft.new) }
 {
     run(
@@ -93,4 +92,14 @@ pub fn gen_wide(op: BinaryOp, ty: IntType, draft: &mut Draft) -> Result<(), Refu
         return Ok(());
     }
     narrow(ty, draft)
+}
+
+/// The same, for callers that tell refusals.
+pub fn gen_wide(op: BinaryOp, ty: IntType, draft: &mut Draft) -> Result<(), Refusal>
+    ensures lines { OnOk result (draft.new ≡ with_lines draft.old (wide_code op ty)) }
+    ensures refused { IfErr result (λ e. e ≡ OutOfMemory) }
+    ensures kept { OnErr result (Keeps draft.old draft.new) }
+{
+    put_wide(op, ty, draft)?;
+    Ok(())
 }

@@ -1,9 +1,9 @@
+// Constants that operators are folded to.
 use c65_base::BinaryOp;
 use c65_csem::{TExpr, TKind, int_type};
 use c65_fold::{constant, fold};
 use c65_ints::IntType;
 use std::alloc::{AllocError, Global};
-use std::test::Fail;
 
 fn number(value: i64) -> TExpr {
     TExpr {
@@ -35,55 +35,59 @@ fn loaded(alloc: Global) -> Result<TExpr, AllocError> {
     })
 }
 
-/// Whether a tree is this constant.
-fn is_number(e: &TExpr, value: i64) -> bool {
+/// The left operand of an operator, where it is a constant.
+fn left_of(e: &TExpr) -> Option<i64> {
     match &e.kind {
-        TKind::Const(z) => *z == value,
-        _ => false,
+        TKind::Binary(_, left, _) => match &left.kind {
+            TKind::Const(value) => Some(*value),
+            _ => None,
+        },
+        _ => None,
     }
 }
 
-/// Whether the left operand of an operator is this constant.
-fn left_is(e: &TExpr, value: i64) -> bool {
-    match &e.kind {
-        TKind::Binary(_, left, _) => is_number(left, value),
-        _ => false,
-    }
-}
-
-#[test]
-fn operators_on_constants(rt: HostRuntime) -> Result<(), Fail> {
-    let rows = [
-        (BinaryOp::Mul, 200, 200, Some(-25_536)),
-        (BinaryOp::Div, -7, 2, Some(-3)),
-        (BinaryOp::Rem, -7, 2, Some(-1)),
-        (BinaryOp::Div, 1, 0, None),
-        (BinaryOp::Add, 32_767, 1, Some(-32_768)),
-        (BinaryOp::Shl, 1, 15, Some(-32_768)),
-        (BinaryOp::Shl, 1, 16, None),
-        (BinaryOp::Shr, -1, 1, Some(-1)),
-        (BinaryOp::Lt, -1, 1, Some(1)),
-        (BinaryOp::BitAnd, -2, 7, Some(6)),
-        (BinaryOp::BitXor, -1, 1, Some(-2)),
-        (BinaryOp::BitOr, -4, 1, Some(-3)),
-    ];
-    for (op, a, b, value) in &rows {
-        let e = binary(rt.alloc(), *op, number(*a), number(*b))?;
-        assert!(rt; constant(&e) == *value);
-    }
-    Ok(())
-}
-
-/// Of `2*3+x` the product is left as a constant; `1/0` stays.
-#[test]
-fn constants_are_folded(rt: HostRuntime) -> Result<(), Fail> {
-    let alloc = rt.alloc();
+/// `2*3+x`, of which the product is left as a constant.
+fn product_and_object(alloc: Global) -> Result<Option<i64>, AllocError> {
     let product = binary(alloc, BinaryOp::Mul, number(2), number(3))?;
     let mut sum = binary(alloc, BinaryOp::Add, product, loaded(alloc)?)?;
     fold(&mut sum);
-    assert!(rt; left_is(&sum, 6));
+    Ok(left_of(&sum))
+}
+
+/// `1/0`, which stays.
+fn quotient_by_zero(alloc: Global) -> Result<Option<i64>, AllocError> {
     let mut quotient = binary(alloc, BinaryOp::Div, number(1), number(0))?;
     fold(&mut quotient);
-    assert!(rt; left_is(&quotient, 1));
+    Ok(left_of(&quotient))
+}
+
+fn folded(alloc: Global, op: BinaryOp, a: i64, b: i64) -> Result<Option<i64>, AllocError> {
+    let e = binary(alloc, op, number(a), number(b))?;
+    Ok(constant(&e))
+}
+
+const ROWS: [(BinaryOp, i64, i64); 12] = [
+    (BinaryOp::Mul, 200, 200),
+    (BinaryOp::Div, -7, 2),
+    (BinaryOp::Rem, -7, 2),
+    (BinaryOp::Div, 1, 0),
+    (BinaryOp::Add, 32_767, 1),
+    (BinaryOp::Shl, 1, 15),
+    (BinaryOp::Shl, 1, 16),
+    (BinaryOp::Shr, -1, 1),
+    (BinaryOp::Lt, -1, 1),
+    (BinaryOp::BitAnd, -2, 7),
+    (BinaryOp::BitXor, -1, 1),
+    (BinaryOp::BitOr, -4, 1),
+];
+
+pub fn show_folding(rt: &HostRuntime) -> Result<(), anyhow::Error> {
+    let alloc = rt.alloc();
+    println!(rt; "= operators on constants of type int")?;
+    for (op, a, b) in ROWS {
+        println!(rt; "{op:?} {a} {b}: {:?}", folded(alloc, op, a, b)?)?;
+    }
+    println!(rt; "left of 2*3+x: {:?}", product_and_object(alloc)?)?;
+    println!(rt; "left of 1/0: {:?}", quotient_by_zero(alloc)?)?;
     Ok(())
 }

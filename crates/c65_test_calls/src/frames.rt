@@ -1,10 +1,10 @@
-use c65_base::{Name, Refusal, Size};
+// Frames of functions made by hand.
+use c65_base::Name;
 use c65_csem::{Class, Parts, TFunc, TObject, TStmt};
 use c65_ctype::{CType, FnType, QType, Types};
-use c65_genframe::{Arrival, Frame, Home, Moved};
+use c65_genframe::{Frame, Home};
 use c65_ints::IntType;
 use std::alloc::{AllocError, Global};
-use std::test::Fail;
 
 fn number(kind: IntType) -> QType {
     QType {
@@ -70,67 +70,45 @@ fn homes(frame: &Frame) -> [Option<Home>; 6] {
     ]
 }
 
-#[test]
-fn registers_are_honoured(rt: HostRuntime) -> Result<(), Fail> {
-    let parts = parts(rt.alloc())?;
-    let function = function(rt.alloc(), false)?;
-    let frame = Frame::of(rt.alloc(), &parts, &function, true)?;
-    let expected = [
-        Some(Home::Soft(12)),
-        Some(Home::Bank(0)),
-        Some(Home::Soft(8)),
-        Some(Home::Soft(0)),
-        Some(Home::Bank(2)),
-        None,
-    ];
-    assert!(rt; homes(&frame) == expected);
-    let moved = Moved {
-        bank: 0,
-        from: 10,
-        bytes: 2,
-    };
-    assert!(rt; frame.moved().first().copied() == Some(moved));
-    assert!(rt; frame.last() == Arrival::Pushed(2));
-    assert!(rt; frame.bank() == 3 && frame.soft() == 2 && frame.stacked() == 5);
+/// Prints where the objects of a function stand, and what its entry does.
+fn show_frame(
+    rt: &HostRuntime,
+    parts: &Parts,
+    function: &TFunc,
+    honoured: bool,
+) -> Result<(), anyhow::Error> {
+    match Frame::of(rt.alloc(), parts, function, honoured) {
+        Ok(frame) => {
+            println!(rt; "{:?}", homes(&frame))?;
+            println!(rt; "moved {:?} last {:?}", frame.moved(), frame.last())?;
+            let sizes = (frame.bank(), frame.soft(), frame.stacked());
+            println!(rt; "bank, soft and stacked {sizes:?}")?;
+            let raised = (frame.is_raised(2), frame.is_raised(4));
+            println!(rt; "raised {raised:?} variadic {}", frame.is_variadic())?;
+        }
+        Err(refusal) => println!(rt; "{refusal}")?,
+    }
     Ok(())
 }
 
-#[test]
-fn a_variadic_call_leaves_its_bytes_at_sp(rt: HostRuntime) -> Result<(), Fail> {
-    let parts = parts(rt.alloc())?;
-    let function = function(rt.alloc(), true)?;
-    let frame = Frame::of(rt.alloc(), &parts, &function, false)?;
-    let expected = [
-        Some(Home::Soft(8)),
-        Some(Home::Soft(6)),
-        Some(Home::Soft(4)),
-        Some(Home::Soft(1)),
-        Some(Home::Soft(3)),
-        None,
-    ];
-    assert!(rt; homes(&frame) == expected);
-    assert!(rt; frame.is_raised(2) && !frame.is_raised(4) && frame.is_variadic());
-    assert!(rt; frame.last() == Arrival::Passed && frame.bank() == 0);
-    Ok(())
+/// The same parts, but that object 3 has 1,019 bytes.
+fn large_parts(alloc: Global) -> Result<Parts, AllocError> {
+    let mut parts = parts(alloc)?;
+    let element = Box::new(alloc, number(IntType::UChar))?;
+    if let Some(object) = parts.objects.get_mut(3) {
+        object.ty = QType {
+            ty: CType::Array(element, Some(1_019)),
+            is_const: false,
+            is_volatile: false,
+        };
+    }
+    Ok(parts)
 }
 
-#[test]
-fn a_frame_has_up_to_1024_bytes(rt: HostRuntime) -> Result<(), Fail> {
-    let mut parts = parts(rt.alloc())?;
-    let function = function(rt.alloc(), false)?;
-    let element = Box::new(rt.alloc(), number(IntType::UChar))?;
-    let bytes = QType {
-        ty: CType::Array(element, Some(1_019)),
-        is_const: false,
-        is_volatile: false,
-    };
-    assert!(rt; parts.objects.len() == 6);
-    parts.objects[3].ty = bytes;
-    let refused = Frame::of(rt.alloc(), &parts, &function, false);
-    let frame = Refusal::TooLarge {
-        limit: Size::Frame,
-        value: 1_025,
-    };
-    assert!(rt; refused.is_err_and(|e| e == frame));
-    Ok(())
+pub fn show_frames(rt: &HostRuntime) -> Result<(), anyhow::Error> {
+    let alloc = rt.alloc();
+    println!(rt; "= frames")?;
+    show_frame(rt, &parts(alloc)?, &function(alloc, false)?, true)?;
+    show_frame(rt, &parts(alloc)?, &function(alloc, true)?, false)?;
+    show_frame(rt, &large_parts(alloc)?, &function(alloc, false)?, false)
 }

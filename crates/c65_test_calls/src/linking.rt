@@ -1,5 +1,5 @@
 // Codes made by hand, and the bytes of their images by the manual.
-use c65_base::{LinkKind, Refusal, Size, Text};
+use c65_base::{Refusal, Text};
 use c65_code::{
     Callee, Code, Datum, DatumKind, Draft, Items, Line, Operand, RegSet, Seg, Sym, Symbol,
     is_segment,
@@ -7,13 +7,24 @@ use c65_code::{
 use c65_link::link;
 use c65_mach::{Mode, Op};
 use std::alloc::Global;
-use std::test::Fail;
 
 const BACK: Line = Line::Do(Op::Rts, Mode::Implied, Operand::Nothing);
 
 // start, which calls main behind it.
 const START: [u8; 15] = [
     0xA9, 0xF0, 0x85, 0, 0xA9, 0xFF, 0x85, 1, 0x20, 0x0F, 2, 0x20, 0xF9, 0xFF, 0x60,
+];
+
+// Bytes between a branch and its label, and whether the label is behind.
+const BRANCHES: [(u8, bool); 8] = [
+    (126, true),
+    (127, true),
+    (128, true),
+    (129, true),
+    (125, false),
+    (126, false),
+    (127, false),
+    (129, false),
 ];
 
 fn put(symbols: &mut Vec<Symbol>, alloc: Global, spelling: &[u8]) -> Result<(), Refusal> {
@@ -78,52 +89,6 @@ fn behind_start(payload: &[u8]) -> &[u8] {
     payload.strip_prefix(&START).unwrap_or(b"")
 }
 
-// A branch reaches from 128 bytes before its end to 127 behind it.
-#[test]
-fn branches(rt: HostRuntime) -> Result<(), Fail> {
-    let forward: [(u8, &[u8]); 4] = [
-        (126, &[0xD0, 126, 0xEA]),
-        (127, &[0xD0, 127, 0xEA]),
-        (128, &[0xF0, 3, 0x4C, 0x94, 2, 0xEA]),
-        (129, &[0xF0, 3, 0x4C, 0x95, 2, 0xEA]),
-    ];
-    for (count, begins) in forward {
-        let bytes = branch_over(rt.alloc(), count, true)?;
-        assert!(rt;
-            behind_start(&bytes).starts_with(begins),
-            "forward over {count}"
-        );
-    }
-    let backward: [(u8, &[u8]); 4] = [
-        (125, &[0xEA, 0xD0, 0x81, 0x60]),
-        (126, &[0xEA, 0xD0, 0x80, 0x60]),
-        (127, &[0xEA, 0xF0, 3, 0x4C, 0x0F, 2, 0x60]),
-        (129, &[0xEA, 0xF0, 3, 0x4C, 0x0F, 2, 0x60]),
-    ];
-    for (count, ends) in backward {
-        let bytes = branch_over(rt.alloc(), count, false)?;
-        assert!(rt; bytes.ends_with(ends), "backward over {count}");
-    }
-    Ok(())
-}
-
-#[test]
-fn undefined_symbols(rt: HostRuntime) -> Result<(), Fail> {
-    let alloc = rt.alloc();
-    let call = Line::Call(Callee::Function(Sym(1), RegSet::empty(), RegSet::empty()));
-    let code = program(alloc, &[call, BACK], b"_f", Vec::new(alloc))?;
-    match link(alloc, &code) {
-        Err(Refusal::Link { kind, name }) => {
-            assert_eq!(rt; kind, LinkKind::Undefined);
-            assert_eq!(rt; name.as_slice(), b"_f".as_slice());
-        }
-        _ => panic!(rt; "linked"),
-    }
-    let unused = program(alloc, &[BACK], b"_f", Vec::new(alloc))?;
-    assert_eq!(rt; payload(alloc, &unused)?.len(), 16);
-    Ok(())
-}
-
 fn zeros(sym: u32, zeros: u32, alloc: Global) -> Datum {
     Datum {
         sym: Sym(sym),
@@ -133,20 +98,51 @@ fn zeros(sym: u32, zeros: u32, alloc: Global) -> Datum {
     }
 }
 
-// The start and main have 16 bytes.
-#[test]
-fn sizes(rt: HostRuntime) -> Result<(), Fail> {
-    let alloc = rt.alloc();
-    let last = Vec::from_array(alloc, [zeros(1, 62_944, alloc)])?;
-    let code = program(alloc, &[BACK], b"s1", last)?;
-    assert_eq!(rt; payload(alloc, &code)?.len(), 16);
-    let more = Vec::from_array(alloc, [zeros(1, 62_945, alloc)])?;
-    let code = program(alloc, &[BACK], b"s1", more)?;
-    match link(alloc, &code) {
-        Err(Refusal::TooLarge { limit, value }) => {
-            assert_eq!(rt; (limit, value), (Size::Image, 62_961));
-        }
-        _ => panic!(rt; "linked"),
+// The first bytes behind the start, and the last ones.
+fn ends_of(bytes: &[u8]) -> (&[u8], &[u8]) {
+    let behind = behind_start(bytes);
+    let first = behind.get(..6).unwrap_or(behind);
+    let last = bytes.len().saturating_sub(6);
+    (first, bytes.get(last..).unwrap_or(bytes))
+}
+
+// A branch reaches from 128 bytes before its end to 127 behind it.
+fn show_branches(rt: &HostRuntime) -> Result<(), anyhow::Error> {
+    println!(rt; "= branches")?;
+    for (count, is_forward) in BRANCHES {
+        let bytes = branch_over(rt.alloc(), count, is_forward)?;
+        let (first, last) = ends_of(&bytes);
+        println!(rt; "over {count} forward {is_forward}: {first:?} {last:?}")?;
     }
     Ok(())
+}
+
+// What is answered for a code: the length of its payload, or the refusal.
+fn show_size(rt: &HostRuntime, code: &Code) -> Result<(), anyhow::Error> {
+    match payload(rt.alloc(), code) {
+        Ok(bytes) => println!(rt; "{} bytes", bytes.len())?,
+        Err(refusal) => println!(rt; "{refusal}")?,
+    }
+    Ok(())
+}
+
+// main with these lines and so many zero bytes.
+fn with_zeros(alloc: Global, lines: &[Line], other: &[u8], count: u32) -> Result<Code, Refusal> {
+    let datums = if count == 0 {
+        Vec::new(alloc)
+    } else {
+        Vec::from_array(alloc, [zeros(1, count, alloc)])?
+    };
+    program(alloc, lines, other, datums)
+}
+
+pub fn show_links(rt: &HostRuntime) -> Result<(), anyhow::Error> {
+    let alloc = rt.alloc();
+    show_branches(rt)?;
+    println!(rt; "= symbols and sizes")?;
+    let call = Line::Call(Callee::Function(Sym(1), RegSet::empty(), RegSet::empty()));
+    show_size(rt, &with_zeros(alloc, &[call, BACK], b"_f", 0)?)?;
+    show_size(rt, &with_zeros(alloc, &[BACK], b"_f", 0)?)?;
+    show_size(rt, &with_zeros(alloc, &[BACK], b"s1", 62_944)?)?;
+    show_size(rt, &with_zeros(alloc, &[BACK], b"s1", 62_945)?)
 }

@@ -1,71 +1,38 @@
-// Operators at each kind of type.
-use c65_base::BinaryOp;
-use c65_code::{Callee, Draft, Line, Operand, RegSet, Routine, TosOp, Width};
+// The lines of operators at each kind of type.
+use c65_base::{BinaryOp, Refusal};
+use c65_code::{Draft, Line, RegSet};
 use c65_genwide::gen_wide;
 use c65_ints::IntType;
-use c65_mach::{Mode, Op};
-use std::test::Fail;
+use std::alloc::Global;
 
-fn tos(op: TosOp, width: Width) -> Line {
-    Line::Call(Callee::Routine(Routine::Tos(op, width)))
+const ROWS: [(BinaryOp, IntType); 8] = [
+    (BinaryOp::Lt, IntType::Int),
+    (BinaryOp::Lt, IntType::UInt),
+    (BinaryOp::Mul, IntType::Long),
+    (BinaryOp::Shr, IntType::Short),
+    (BinaryOp::Rem, IntType::ULong),
+    (BinaryOp::Sub, IntType::UChar),
+    (BinaryOp::BitOr, IntType::SChar),
+    (BinaryOp::Eq, IntType::SChar),
+];
+
+/// The first two lines.
+fn first_lines(
+    alloc: Global,
+    op: BinaryOp,
+    ty: IntType,
+) -> Result<(Option<Line>, Option<Line>), Refusal> {
+    let mut draft = Draft::new(alloc, RegSet::empty());
+    gen_wide(op, ty, &mut draft)?;
+    let lines = draft.lines();
+    Ok((lines.first().copied(), lines.get(1).copied()))
 }
 
-const ZERO_X: Line = Line::Do(Op::Ldx, Mode::Immediate, Operand::Byte(0));
-
-const SIGN: Line = Line::Call(Callee::Routine(Routine::SignA));
-
-#[test]
-fn operators(rt: HostRuntime) -> Result<(), Fail> {
-    let rows = [
-        (BinaryOp::Lt, IntType::Int, tos(TosOp::Lt, Width::Ax), None),
-        (
-            BinaryOp::Lt,
-            IntType::UInt,
-            tos(TosOp::ULt, Width::Ax),
-            None,
-        ),
-        (
-            BinaryOp::Mul,
-            IntType::Long,
-            tos(TosOp::Mul, Width::Eax),
-            None,
-        ),
-        (
-            BinaryOp::Shr,
-            IntType::Short,
-            tos(TosOp::Asr, Width::Ax),
-            None,
-        ),
-        (
-            BinaryOp::Rem,
-            IntType::ULong,
-            tos(TosOp::UMod, Width::Eax),
-            None,
-        ),
-        (
-            BinaryOp::Sub,
-            IntType::UChar,
-            tos(TosOp::Sub, Width::Ax),
-            Some(ZERO_X),
-        ),
-        (
-            BinaryOp::BitOr,
-            IntType::SChar,
-            tos(TosOp::Or, Width::Ax),
-            Some(SIGN),
-        ),
-        (
-            BinaryOp::Eq,
-            IntType::SChar,
-            tos(TosOp::Eq, Width::Ax),
-            None,
-        ),
-    ];
-    for (op, ty, line, last) in &rows {
-        let mut draft = Draft::new(rt.alloc(), RegSet::empty());
-        gen_wide(*op, *ty, &mut draft)?;
-        assert!(rt; draft.lines().first() == Some(line));
-        assert!(rt; draft.lines().get(1).copied() == *last);
+pub fn show_operators(rt: &HostRuntime) -> Result<(), anyhow::Error> {
+    println!(rt; "= operators")?;
+    for (op, ty) in ROWS {
+        let (first, second) = first_lines(rt.alloc(), op, ty)?;
+        println!(rt; "{op:?} {ty:?}: {first:?} {second:?}")?;
     }
     Ok(())
 }

@@ -1,16 +1,25 @@
-use c65_base::Pos;
-use c65_parse_frames::{Frame, Head, enter, place_in};
-use std::test::Fail;
+// Places of statements.
+use c65_base::{Pos, Refusal};
+use c65_parse_frames::{Frame, Head, Place, enter, place_in};
+use std::alloc::Global;
 
-#[test]
-fn declarations_stand_in_a_block_alone(rt: HostRuntime) -> Result<(), Fail> {
+/// In a block, and there behind `default:`.
+fn places(alloc: Global) -> Result<[Place; 2], Refusal> {
     let pos = Pos { file: 0, line: 1 };
-    let alloc = rt.alloc();
     let block = Frame::Block(pos, Vec::new(alloc), Vec::new(alloc));
     let frames = enter(Vec::new(alloc), block)?;
-    assert!(rt; place_in(&frames).takes_declarations);
+    let first = place_in(&frames);
     let frames = enter(frames, Frame::Head(Head::Default(pos)))?;
-    assert!(rt; !place_in(&frames).in_block);
-    assert_eq!(rt; place_in(&frames).around, 2);
+    Ok([first, place_in(&frames)])
+}
+
+pub fn show_places(rt: &HostRuntime) -> Result<(), anyhow::Error> {
+    println!(rt; "= places of statements")?;
+    for place in places(rt.alloc())? {
+        println!(rt;
+            "declarations {} in a block {} around {}",
+            place.takes_declarations, place.in_block, place.around
+        )?;
+    }
     Ok(())
 }

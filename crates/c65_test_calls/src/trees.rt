@@ -18,8 +18,14 @@ fn name() -> Expr {
     Expr::name(AT, Name(7))
 }
 
-fn is_deep(e: &Expr, depth: u16) -> bool {
-    is_within(e, depth) && !is_within(e, depth.saturating_sub(1))
+/// The least depth within which an expression is, if it is within 300.
+fn depth_of(e: &Expr) -> u16 {
+    for depth in 0..300 {
+        if is_within(e, depth) {
+            return depth;
+        }
+    }
+    300
 }
 
 fn int(alloc: Global) -> Result<Specifiers, AllocError> {
@@ -29,25 +35,13 @@ fn int(alloc: Global) -> Result<Specifiers, AllocError> {
     Ok(Specifiers::new(AT, items))
 }
 
-#[test]
-fn a_leaf(rt: HostRuntime) {
-    assert!(rt; is_deep(&one(), 1));
-}
-
-#[test]
-fn an_empty_unit(rt: HostRuntime) {
-    let items = Vec::new(rt.alloc());
-    assert_eq!(rt; nodes(&Unit { items }), 0);
-}
-
-#[test]
-fn each_parenthesis_counts(rt: HostRuntime) -> Result<(), AllocError> {
+/// `((..1..))`, 255 pairs.
+fn parentheses(alloc: Global) -> Result<Expr, AllocError> {
     let mut e = one();
     for _ in 0..255 {
-        e = Expr::paren(rt.alloc(), AT, e)?;
+        e = Expr::paren(alloc, AT, e)?;
     }
-    assert!(rt; is_deep(&e, 256));
-    Ok(())
+    Ok(e)
 }
 
 /// `x(1, x[(1)])`
@@ -59,24 +53,10 @@ fn call(alloc: Global) -> Result<Expr, AllocError> {
     Expr::call(alloc, AT, name(), arguments)
 }
 
-#[test]
-fn a_call(rt: HostRuntime) -> Result<(), AllocError> {
-    let e = call(rt.alloc())?;
-    assert!(rt; is_deep(&e, 4));
-    Ok(())
-}
-
 /// `int [1]`
 fn int_array(alloc: Global) -> Result<TypeName, AllocError> {
     let array = Declarator::array(alloc, AT, Declarator::nameless(AT), one())?;
     Ok(TypeName::new(int(alloc)?, array))
-}
-
-#[test]
-fn a_bound_in_a_type_name(rt: HostRuntime) -> Result<(), AllocError> {
-    let e = Expr::sizeof_type(rt.alloc(), AT, int_array(rt.alloc())?)?;
-    assert!(rt; is_deep(&e, 3));
-    Ok(())
 }
 
 /// `enum { x = 1 + 1, x } (*)()`
@@ -93,9 +73,34 @@ fn enum_pointer(alloc: Global) -> Result<TypeName, AllocError> {
     Ok(TypeName::new(Specifiers::new(AT, specifiers), function))
 }
 
-#[test]
-fn enumerators_and_a_pointer_to_a_function(rt: HostRuntime) -> Result<(), AllocError> {
-    let e = Expr::sizeof_type(rt.alloc(), AT, enum_pointer(rt.alloc())?)?;
-    assert!(rt; is_deep(&e, 5));
+/// The size of `int [1]`.
+fn array_size(alloc: Global) -> Result<Expr, AllocError> {
+    Expr::sizeof_type(alloc, AT, int_array(alloc)?)
+}
+
+/// The size of `enum { x = 1 + 1, x } (*)()`.
+fn pointer_size(alloc: Global) -> Result<Expr, AllocError> {
+    Expr::sizeof_type(alloc, AT, enum_pointer(alloc)?)
+}
+
+/// The depths of these trees.
+fn depths(alloc: Global) -> Result<[u16; 5], AllocError> {
+    let leaf = depth_of(&one());
+    let pairs = depth_of(&parentheses(alloc)?);
+    let call = depth_of(&call(alloc)?);
+    let array = depth_of(&array_size(alloc)?);
+    let pointer = depth_of(&pointer_size(alloc)?);
+    Ok([leaf, pairs, call, array, pointer])
+}
+
+fn empty_nodes(alloc: Global) -> u64 {
+    let items = Vec::new(alloc);
+    nodes(&Unit { items })
+}
+
+pub fn show_depths(rt: &HostRuntime) -> Result<(), anyhow::Error> {
+    println!(rt; "= trees")?;
+    println!(rt; "nodes of an empty unit: {}", empty_nodes(rt.alloc()))?;
+    println!(rt; "depths: {:?}", depths(rt.alloc())?)?;
     Ok(())
 }

@@ -80,17 +80,20 @@ put_both-returns-in_err-test-2-clause-kept t c = refused_then c.from_residual-in
 pub put_both-returns-clause-kept : goal.put_both-returns-clause-kept
 put_both-returns-clause-kept t c = label_last _ _ _ _ c.in_ok-no.ensures.draft (grown_last _ _ _ _ _ _ c.in_ok-put_expr.ensures.lines (kept_last _ _ _ _ _ c.in_ok-test.ensures.lines (kept_last _ _ _ _ _ c.in_ok-put.ensures.lines (grown_last _ _ _ _ _ _ c.in_ok-put_expr-2.ensures.lines (kept_last _ _ _ _ _ c.in_ok-test-2.ensures.lines c.put-2.ensures.kept)))))
 
-pub put_call-returns-in_err-push-in-None-clause-kept : goal.put_call-returns-in_err-push-in-None-clause-kept
-put_call-returns-in_err-push-in-None-clause-kept t c = refused_then c.from_residual-in_err-push-in-None.result (grown_then _ _ _ _ _ c.in_ok-put_expr-in-None.ensures.lines c.in_err-push-in-None.ensures.kept)
+pub put_call-returns-in_err-push-in-len1-up-clause-kept : goal.put_call-returns-in_err-push-in-len1-up-clause-kept
+put_call-returns-in_err-push-in-len1-up-clause-kept t c = refused_then c.from_residual-in_err-push-in-len1-up.result (grown_then _ _ _ _ _ c.in_ok-put_expr-in-None.ensures.lines c.in_err-push-in-len1-up.ensures.kept)
 
-pub put_call-returns-in_err-passed-in-None-clause-kept : goal.put_call-returns-in_err-passed-in-None-clause-kept
-put_call-returns-in_err-passed-in-None-clause-kept t c = refused_then c.from_residual-in_err-passed-in-None.result (grown_then _ _ _ _ _ c.in_ok-put_expr-in-None.ensures.lines (kept_then _ _ _ _ c.in_ok-push-in-None.ensures.lines c.in_err-passed-in-None.ensures.kept))
+pub put_call-returns-in_err-passed-in-len1-up-clause-kept : goal.put_call-returns-in_err-passed-in-len1-up-clause-kept
+put_call-returns-in_err-passed-in-len1-up-clause-kept t c = refused_then c.from_residual-in_err-passed-in-len1-up.result (grown_then _ _ _ _ _ c.in_ok-put_expr-in-None.ensures.lines (kept_then _ _ _ _ c.in_ok-push-in-len1-up.ensures.lines c.in_err-passed-in-len1-up.ensures.kept))
+
+pub put_call-returns-in-empty-clause-kept : goal.put_call-returns-in-empty-clause-kept
+put_call-returns-in-empty-clause-kept t c = grown_last _ _ _ _ _ _ c.in_ok-put_expr-in-None.ensures.lines c.put_direct.ensures.kept
+
+pub put_call-returns-in_ok-passed-in-len1-up-clause-kept : goal.put_call-returns-in_ok-passed-in-len1-up-clause-kept
+put_call-returns-in_ok-passed-in-len1-up-clause-kept t c = grown_last _ _ _ _ _ _ c.in_ok-put_expr-in-None.ensures.lines (kept_last _ _ _ _ _ c.in_ok-push-in-len1-up.ensures.lines (grown_last _ _ _ _ _ _ c.in_ok-passed-in-len1-up.ensures.lines c.put_pointer.ensures.kept))
 
 pub put_call-returns-in_ok-passed-in-Some-clause-kept : goal.put_call-returns-in_ok-passed-in-Some-clause-kept
 put_call-returns-in_ok-passed-in-Some-clause-kept t c = grown_last _ _ _ _ _ _ c.in_ok-passed-in-Some.ensures.lines c.put_named.ensures.kept
-
-pub put_call-returns-in_ok-passed-in-None-clause-kept : goal.put_call-returns-in_ok-passed-in-None-clause-kept
-put_call-returns-in_ok-passed-in-None-clause-kept t c = grown_last _ _ _ _ _ _ c.in_ok-put_expr-in-None.ensures.lines (kept_last _ _ _ _ _ c.in_ok-push-in-None.ensures.lines (grown_last _ _ _ _ _ _ c.in_ok-passed-in-None.ensures.lines c.put_pointer.ensures.kept))
 
 pub put_choice-returns-in_err-end-clause-kept : goal.put_choice-returns-in_err-end-clause-kept
 put_choice-returns-in_err-end-clause-kept t c = refused_then c.from_residual-in_err-end.result (label_then _ _ _ c.in_ok-other.ensures.draft c.in_err-end.ensures.kept)
