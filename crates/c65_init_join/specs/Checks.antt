@@ -2,21 +2,21 @@
 use Rattle.std.specs.Prelude.{ℕ, ◌+◌, List, [], ◌∷◌, ◌++◌, Bool, true, false, not, ◌||◌, ◌&&◌, Option, Some, None, is_some, option_map, slice_get, Result, Ok, Err, if◌then◌else◌}
 use Rattle.c65_base.specs.declared.names.Name.{Name}
 use Rattle.c65_base.specs.declared.refusal.LinkKind.TheVariants as kinds
-use Rattle.c65_ints.specs.declared.types.IntType.TheVariants.{SChar, UChar}
 use Rattle.c65_ctype.specs.Trees.{function, QTy, qual, Fn, fn, Params, unknown, known, QTys, end, more, TypesTy}
 use Rattle.c65_ctype.specs.Compatible.{are_compatible}
 use Rattle.c65_csem.specs.declared.items.Class.{Class}
 use Rattle.c65_csem.specs.declared.items.Class.TheVariants.{Declared}
 use Rattle.c65_base.specs.declared.library.Library.{Library}
+use Rattle.c65_csem.specs.Library.{library_type, library_at}
 use Rattle.c65_csem.specs.Trees.{ObjectTy, FuncTy}
 use Rattle.c65_init_join.specs.declared.table.Item.{Item}
 use Rattle.c65_init_join.specs.declared.table.Item.TheVariants as items
 use Rattle.c65_init_join.specs.declared.table.Place.{Place}
 use Rattle.c65_init_join.specs.Answers.{JoinFault, ◌>>=◌, refused_if}
-use Rattle.c65_init_join.specs.Definitions.{own_prototype}
+use Rattle.c65_init_join.specs.Definitions.{own_prototype, agreeing}
 use Rattle.c65_init_join.specs.Items.{ItemsTy}
-use Rattle.c65_init_join.specs.Known.{library_at, main_named, main_spelling}
-use Rattle.c65_init_join.specs.Prototypes.{prototype_of, main_alone, main_with_words}
+use Rattle.c65_init_join.specs.Known.{main_named, main_spelling}
+use Rattle.c65_init_join.specs.Prototypes.{main_alone, main_with_words}
 use Rattle.c65_init_join.specs.Tables.{ExternalTy, TableTy, external_at, defined_in, defined_at}
 use Rattle.c65_init_join.specs.Uses.{MarksTy, is_marked}
 
@@ -49,7 +49,7 @@ function_type f = qual (function f) false false
 
 abbrev pub item_in : Item → ItemsTy → Option QTy
 item_in (items.Object i) u = option_map (λ o. o.ty) (slice_get u.objects i)
-item_in (items.Func i) u = option_map (λ f. function_type f.ty) (slice_get u.funcs i)
+item_in (items.Func i) u = option_map (λ f. function_type (agreeing u.objects f)) (slice_get u.funcs i)
 
 abbrev pub type_in_unit : Item → Option ItemsTy → Option QTy
 type_in_unit item None = None
@@ -63,9 +63,9 @@ abbrev pub meets_all : TypesTy → QTy → List QTy → Bool
 meets_all types q [] = true
 meets_all types q (r ∷ rs) = if are_compatible types r q then meets_all types q rs else false
 
--- the type of a function of the library, where plain char is either of its types
+-- the type of a function of the library, where plain char is signed or not
 abbrev pub is_of_library : TypesTy → Library → QTy → Bool
-is_of_library types library q = are_compatible types q (function_type (prototype_of library UChar)) || are_compatible types q (function_type (prototype_of library SChar))
+is_of_library types library q = are_compatible types q (function_type (library_type false library)) || are_compatible types q (function_type (library_type true library))
 
 abbrev pub meets_library : TypesTy → Option Library → QTy → Bool
 meets_library types None q = true
@@ -93,6 +93,28 @@ differ_in us types library (Some e) = not (agree types library [] (types_at us e
 
 unfoldable pub differs_at : List (List ℕ) → List ItemsTy → TypesTy → TableTy → Name → Bool
 differs_at names us types t n = differ_in us types (library_at names n.0) (external_at t n)
+
+-- ---- the sign of plain char
+
+-- Plain char is signed where a declaration of a function of the library says so: its type is not the one that the
+-- function has where plain char is unsigned.
+abbrev pub is_signed_by : TypesTy → Option Library → List QTy → Bool
+is_signed_by types None qs = false
+is_signed_by types (Some library) qs = not (meets_all types (function_type (library_type false library)) qs)
+
+abbrev pub signed_in : List ItemsTy → TypesTy → Option Library → Option ExternalTy → Bool
+signed_in us types library None = false
+signed_in us types library (Some e) = is_signed_by types library (types_at us e.places)
+
+unfoldable pub is_signed_at : List (List ℕ) → List ItemsTy → TypesTy → TableTy → Name → Bool
+is_signed_at names us types t n = signed_in us types (library_at names n.0) (external_at t n)
+
+abbrev pub any_is : (Name → Bool) → List Name → Bool
+any_is test [] = false
+any_is test (n ∷ ns) = if test n then true else any_is test ns
+
+abbrev pub has_signed_chars : List (List ℕ) → List ItemsTy → TypesTy → TableTy → Bool
+has_signed_chars names us types t = any_is (is_signed_at names us types t) t.order
 
 -- ---- Undefined
 
@@ -132,9 +154,9 @@ has_words (known qs) = has_some qs
 abbrev pub params_in : Fn → Params
 params_in (fn q ps variadic cdecl) = ps
 
--- int main(int, char **), where plain char is either of its types
+-- int main(int, char **), where plain char is signed or not
 unfoldable pub has_main_words : TypesTy → QTy → Bool
-has_main_words types q = are_compatible types q (function_type (main_with_words UChar)) || are_compatible types q (function_type (main_with_words SChar))
+has_main_words types q = are_compatible types q (function_type (main_with_words false)) || are_compatible types q (function_type (main_with_words true))
 
 abbrev pub is_main_type : TypesTy → Bool → QTy → Bool
 is_main_type types true q = has_main_words types q

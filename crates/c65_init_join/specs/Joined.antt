@@ -2,7 +2,6 @@
 use Rattle.std.specs.Prelude.{ℕ, ◌+◌, List, [], ◌∷◌, ◌++◌, length, map, replicate, Bool, true, false, Option, Some, None, option_map, unwrap_or, Result, Ok}
 use Rattle.c65_base.specs.declared.names.Name.{Name}
 use Rattle.c65_base.specs.declared.refusal.LinkKind.TheVariants.{Twice, TypesDiffer}
-use Rattle.c65_ints.specs.declared.types.IntType.TheVariants.{UChar}
 use Rattle.c65_ctype.specs.Trees.{type_in, Fn, TypesTy}
 use Rattle.c65_ctype.specs.Sizes.{size_of}
 use Rattle.c65_ctype.specs.Tables.{no_tags}
@@ -11,13 +10,12 @@ use Rattle.c65_csem.specs.declared.items.Class.TheVariants as c
 use Rattle.c65_csem.specs.declared.items.Cell.{Cell}
 use Rattle.c65_csem.specs.declared.items.Cell.TheVariants.{Byte}
 use Rattle.c65_base.specs.declared.library.Library.{Library}
+use Rattle.c65_csem.specs.Library.{library_type, library_at}
 use Rattle.c65_csem.specs.Trees.{Stmt, ObjectTy, FuncTy, UnitTy}
 use Rattle.c65_init_join.specs.Answers.{JoinFault, ◌>>=◌, none_is}
-use Rattle.c65_init_join.specs.Checks.{is_twice_at, differs_at, unit_defined, main_in}
+use Rattle.c65_init_join.specs.Checks.{is_twice_at, differs_at, has_signed_chars, unit_defined, main_in}
 use Rattle.c65_init_join.specs.Items.{ItemsTy, all_types, all_items}
-use Rattle.c65_init_join.specs.Known.{library_at}
 use Rattle.c65_init_join.specs.Numbers.{AssignedTy, NumbersTy, no_counts, all_assigned, all_noted, completed}
-use Rattle.c65_init_join.specs.Prototypes.{prototype_of}
 use Rattle.c65_init_join.specs.Renumbered.{object_number, renumbered_stmt, renumbered_cell}
 use Rattle.c65_init_join.specs.Tables.{TableTy, declared_by, unit_used, number_at}
 use Rattle.c65_init_join.specs.Uses.{is_marked, uses_of}
@@ -35,24 +33,24 @@ finished_by types ns o _ = record o { init = option_map (map (renumbered_cell ns
 abbrev pub finished_object : TypesTy → NumbersTy → ObjectTy → ObjectTy
 finished_object types ns o = finished_by types ns o o.class
 
--- a function without a body is of the library, and has its prototype
+-- a function without a body is of the library, and has its prototype; all have that of one sign of plain char
 abbrev pub library_for : Option Stmt → Option Library → Option Library
 library_for None library = library
 library_for (Some body) library = None
 
-abbrev pub type_by : Option Library → Fn → Fn
-type_by None f = f
-type_by (Some library) f = prototype_of library UChar
+abbrev pub type_by : Bool → Option Library → Fn → Fn
+type_by is_signed None f = f
+type_by is_signed (Some library) f = library_type is_signed library
 
 abbrev pub or_library : Option Library → Option Library → Option Library
 or_library None own = own
 or_library (Some library) own = Some library
 
-abbrev pub finished_as : NumbersTy → FuncTy → Option Library → FuncTy
-finished_as ns f library = record f { ty = type_by library f.ty; params = map (object_number ns) f.params; body = option_map (renumbered_stmt ns) f.body; library = or_library library f.library }
+abbrev pub finished_as : Bool → NumbersTy → FuncTy → Option Library → FuncTy
+finished_as is_signed ns f library = record f { ty = type_by is_signed library f.ty; params = map (object_number ns) f.params; body = option_map (renumbered_stmt ns) f.body; library = or_library library f.library }
 
-abbrev pub finished_func : List (List ℕ) → NumbersTy → FuncTy → FuncTy
-finished_func names ns f = finished_as ns f (library_for f.body (library_at names f.name.0))
+abbrev pub finished_func : List (List ℕ) → Bool → NumbersTy → FuncTy → FuncTy
+finished_func names is_signed ns f = finished_as is_signed ns f (library_for f.body (library_at names f.name.0))
 
 abbrev pub one_if : {A : Type 0} → Bool → A → List A
 one_if true x = x ∷ []
@@ -63,26 +61,26 @@ abbrev pub selected : {A : Type 0} → List Bool → ℕ → List A → List A
 selected marks i [] = []
 selected marks i (x ∷ xs) = one_if (is_marked marks i) x ++ selected marks (i + 1) xs
 
-abbrev pub with_items : List (List ℕ) → AssignedTy → NumbersTy → UnitTy → ItemsTy → UnitTy
-with_items names a ns p u =
+abbrev pub with_items : List (List ℕ) → Bool → AssignedTy → NumbersTy → UnitTy → ItemsTy → UnitTy
+with_items names is_signed a ns p u =
     record {
       types = p.types;
       objects = p.objects ++ map (finished_object p.types ns) (selected a.kept_objects 0 u.objects);
       literals = p.literals ++ u.literals;
-      funcs = p.funcs ++ map (finished_func names ns) (selected a.kept_funcs 0 u.funcs);
+      funcs = p.funcs ++ map (finished_func names is_signed ns) (selected a.kept_funcs 0 u.funcs);
     }
 
 -- the items of all units, with the numbers of each
-abbrev pub with_all : List (List ℕ) → TableTy → UnitTy → List ItemsTy → List AssignedTy → UnitTy
-with_all names t p [] ns = p
-with_all names t p (u ∷ us) [] = p
-with_all names t p (u ∷ us) (a ∷ rest) = with_all names t (with_items names a (completed t u a) p u) us rest
+abbrev pub with_all : List (List ℕ) → Bool → TableTy → UnitTy → List ItemsTy → List AssignedTy → UnitTy
+with_all names is_signed t p [] ns = p
+with_all names is_signed t p (u ∷ us) [] = p
+with_all names is_signed t p (u ∷ us) (a ∷ rest) = with_all names is_signed t (with_items names is_signed a (completed t u a) p u) us rest
 
 abbrev pub no_items : TypesTy → UnitTy
 no_items types = record { types = types; objects = []; literals = []; funcs = [] }
 
 abbrev pub parts_by : List (List ℕ) → TypesTy → List ItemsTy → TableTy → TableTy → UnitTy
-parts_by names types us t noted = with_all names noted (no_items types) us (all_assigned names 0 no_counts us t)
+parts_by names types us t noted = with_all names (has_signed_chars names us types t) noted (no_items types) us (all_assigned names 0 no_counts us t)
 
 -- the program, and the number of its main function
 abbrev pub program_by : List (List ℕ) → TypesTy → List ItemsTy → TableTy → Name → UnitTy × ℕ

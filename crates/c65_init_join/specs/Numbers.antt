@@ -1,13 +1,13 @@
 -- Which items stand for their names in the program, and the number that each item of a unit has there.
 use Rattle.std.specs.Prelude.{ℕ, ◌+◌, List, [], ◌∷◌, length, Bool, true, false, ◌&&◌, Option, Some, None, is_some, unwrap_or, slice_get, if◌then◌else◌}
 use Rattle.c65_base.specs.declared.names.Name.{Name}
+use Rattle.c65_csem.specs.Library.{library_at}
 use Rattle.c65_csem.specs.Trees.{ObjectTy, FuncTy}
 use Rattle.c65_init_join.specs.declared.numbers.Numbers.{Numbers}
 use Rattle.c65_init_join.specs.declared.assign.Assigned.{Assigned}
 use Rattle.c65_init_join.specs.declared.assign.Counts.{Counts}
 use Rattle.c65_init_join.specs.declared.table.Place.{Place}
 use Rattle.c65_init_join.specs.Items.{ItemsTy}
-use Rattle.c65_init_join.specs.Known.{library_at}
 use Rattle.c65_init_join.specs.Tables.{ExternalTy, TableTy, external_at, defined_at, is_external, same_place, object_place, func_place, with_number, number_at}
 
 -- ---- which items the program keeps

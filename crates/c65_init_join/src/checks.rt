@@ -1,32 +1,32 @@
 // What a program is refused for, each kind of refusal at its first name.
-ghost use Rattle.std.specs.Prelude.{◌≡◌, ◌&&◌, ◌||◌, IfOk, map, [], option_map, option_copied};
-ghost use Rattle.c65_base.specs.declared.refusal.LinkKind.TheVariants.{Undefined, Twice, TypesDiffer};
+ghost use Rattle.std.specs.Prelude.{◌≡◌, IfOk, map, option_map, option_copied};
+ghost use Rattle.c65_base.specs.declared.refusal.LinkKind.TheVariants.{Undefined, Twice};
 ghost use Rattle.c65_ctype.specs.Compatible.{are_compatible};
-ghost use Rattle.c65_ctype.specs.Views.{qty_of, qtys_of, fn_of, types_of};
+ghost use Rattle.c65_ctype.specs.Views.{qty_of, fn_of, types_of};
 ghost use Rattle.c65_csem.specs.Views.{object_of, func_of};
 ghost use Rattle.c65_init_join.specs.Answers.{Gives, Fails, refused_if, none_is};
 ghost use Rattle.c65_init_join.specs.Checks as tests;
 ghost use Rattle.c65_base.specs.declared.names.Name.{Name};
 ghost use Rattle.c65_init_join.specs.Items.{items_of};
 ghost use Rattle.c65_init_join.specs.Known.{main_named};
-ghost use Rattle.c65_init_join.specs.Prototypes.{prototype_of, main_with_words, main_alone};
+ghost use Rattle.c65_init_join.specs.Prototypes.{main_with_words, main_alone};
 ghost use Rattle.c65_init_join.specs.Tables.{external_of, table_of};
 ghost use Rattle.c65_init_join.specs.Uses.{marks_of};
 
+use crate::agree::{are_compatible, either};
 use crate::definition::own_prototype;
 use crate::known::{library_named, name_of_main};
-use crate::library::{function, main_alone, main_with_words, prototype};
+use crate::library::{function, main_alone, main_with_words};
 use crate::marks::{Marks, is_marked};
 use crate::table::{External, Item, Place, Table};
 use crate::unit::Unit;
 use c65_base::{Library, LinkKind, Name, Names, Refusal, Text};
 use c65_csem::{Class, TFunc, TObject};
 use c65_ctype::{FnType, QType, Types};
-use c65_ints::IntType;
 use std::alloc::{AllocError, Global};
 
 /// A refusal with the spelling of a name, where there is a fault.
-fn refused_if(
+pub fn refused_if(
     alloc: Global,
     names: &Names,
     kind: LinkKind,
@@ -86,194 +86,6 @@ pub fn check_twice(alloc: Global, table: &Table, names: &Names) -> Result<(), Re
     for name in &table.order {
         let is_twice = is_twice_at(table, names, *name);
         refused_if(alloc, names, LinkKind::Twice, is_twice, *name)?;
-    }
-    Ok(())
-}
-
-/// The type of an item.
-fn type_in(alloc: Global, unit: &Unit, item: Item) -> Result<Option<QType>, AllocError>
-    ensures { IfOk result (λ q. option_map qty_of q ≡ tests.item_in item (items_of unit.now)) }
-{
-    match item {
-        Item::Object(number) => match unit.objects.get(number as usize) {
-            Some(object) => Ok(Some(object.ty.copy(alloc)?)),
-            None => Ok(None),
-        },
-        Item::Func(number) => match unit.funcs.get(number as usize) {
-            Some(func) => Ok(Some(function(alloc, &func.ty)?)),
-            None => Ok(None),
-        },
-    }
-}
-
-/// The type of a declaration.
-fn type_at(alloc: Global, units: &[Unit], place: Place) -> Result<Option<QType>, AllocError>
-    ensures { IfOk result (λ q. option_map qty_of q ≡ tests.type_at (map items_of units.now) place) }
-{
-    match units.get(place.unit as usize) {
-        Some(unit) => type_in(alloc, unit, place.item),
-        None => Ok(None),
-    }
-}
-
-fn are_compatible(types: &Types, a: &QType, b: &QType) -> Result<bool, AllocError>
-    ensures { IfOk result (λ so. so ≡ are_compatible (types_of types.now) (qty_of a.now) (qty_of b.now)) }
-{
-    match types.compatible(a, b) {
-        Ok(so) => Ok(so),
-        Err(_) => Err(AllocError),
-    }
-}
-
-fn both(a: bool, b: bool) -> bool
-    ensures { result ≡ (a && b) }
-{
-    a && b
-}
-
-fn either(a: bool, b: bool) -> bool
-    ensures { result ≡ (a || b) }
-{
-    a || b
-}
-
-/// Whether a type is that of a function of the library, where plain char is this type.
-fn is_prototype(
-    alloc: Global,
-    types: &Types,
-    library: Library,
-    char: IntType,
-    ty: &QType,
-) -> Result<bool, AllocError>
-    ensures { IfOk result (λ so. so ≡ are_compatible (types_of types.now) (qty_of ty.now) (tests.function_type (prototype_of library char))) }
-{
-    let prototype = prototype(alloc, library, char)?;
-    let whole = function(alloc, &prototype)?;
-    are_compatible(types, ty, &whole)
-}
-
-/// Whether a type is that of a function of the library, where plain char is either of its types.
-fn is_of_library(
-    alloc: Global,
-    types: &Types,
-    library: Library,
-    ty: &QType,
-) -> Result<bool, AllocError>
-    ensures { IfOk result (λ so. so ≡ tests.is_of_library (types_of types.now) library (qty_of ty.now)) }
-{
-    let unsigned = is_prototype(alloc, types, library, IntType::UChar, ty)?;
-    let signed = is_prototype(alloc, types, library, IntType::SChar, ty)?;
-    Ok(either(unsigned, signed))
-}
-
-fn meets_library(
-    alloc: Global,
-    types: &Types,
-    library: Option<Library>,
-    ty: &QType,
-) -> Result<bool, AllocError>
-    ensures { IfOk result (λ so. so ≡ tests.meets_library (types_of types.now) library (qty_of ty.now)) }
-{
-    match library {
-        Some(library) => is_of_library(alloc, types, library, ty),
-        None => Ok(true),
-    }
-}
-
-/// Whether a type is compatible with each of the earlier ones.
-fn meets_all(types: &Types, ty: &QType, earlier: &[QType]) -> Result<bool, AllocError>
-    ensures { IfOk result (λ so. so ≡ tests.meets_all (types_of types.now) (qty_of ty.now) (map qty_of earlier.now)) }
-{
-    for other in earlier {
-        if !are_compatible(types, other, ty)? {
-            return Ok(false);
-        }
-    }
-    Ok(true)
-}
-
-/// The types of declarations.
-fn types_at(alloc: Global, units: &[Unit], places: &[Place]) -> Result<Vec<QType>, AllocError>
-    ensures { IfOk result (λ v. map qty_of v.items ≡ tests.types_at (map items_of units.now) places.now) }
-{
-    let mut all = Vec::new(alloc);
-    for place in places {
-        if let Some(ty) = type_at(alloc, units, *place)? {
-            all.push(ty)?;
-        }
-    }
-    Ok(all)
-}
-
-/// Whether a type is compatible with the earlier ones, and with the library's prototype.
-fn fits_all(
-    alloc: Global,
-    types: &Types,
-    library: Option<Library>,
-    ty: &QType,
-    earlier: &[QType],
-) -> Result<bool, AllocError>
-    ensures { IfOk result (λ so. so ≡ tests.fits_all (types_of types.now) library (qty_of ty.now) (map qty_of earlier.now)) }
-{
-    let meets = meets_all(types, ty, earlier)?;
-    let of_library = meets_library(alloc, types, library, ty)?;
-    Ok(both(meets, of_library))
-}
-
-/// Whether each type is compatible with those before it, and with the library's prototype.
-#[tactic(auto, using(crate::proofs::TurnLaws::agree_fails))]
-fn agree(
-    alloc: Global,
-    types: &Types,
-    library: Option<Library>,
-    all: &[QType],
-) -> Result<bool, AllocError>
-    ensures { IfOk result (λ so. so ≡ tests.agree (types_of types.now) library [] (map qty_of all.now)) }
-{
-    for (i, ty) in all.iter().enumerate() {
-        let fits = fits_all(alloc, types, library, ty, &all[..i])?;
-        if !fits {
-            return Ok(false);
-        }
-    }
-    Ok(true)
-}
-
-/// Whether the types of a name differ.
-#[tactic(auto, unfolding(crate::specs::Checks::differs_at))]
-fn differs_at(
-    alloc: Global,
-    units: &[Unit],
-    types: &Types,
-    table: &Table,
-    names: &Names,
-    name: Name,
-) -> Result<bool, AllocError>
-    ensures { IfOk result (λ so. so ≡ tests.differs_at names.now (map items_of units.now) (types_of types.now) (table_of table.now) name) }
-{
-    match table.get(name) {
-        Some(external) => {
-            let all = types_at(alloc, units, &external.places)?;
-            let so = agree(alloc, types, library_named(names, name), &all)?;
-            Ok(!so)
-        }
-        None => Ok(false),
-    }
-}
-
-/// Refuses the first name whose types differ.
-pub fn check_types(
-    alloc: Global,
-    units: &[Unit],
-    types: &Types,
-    table: &Table,
-    names: &Names,
-) -> Result<(), Refusal>
-    ensures { Gives (λ x. tt) result (none_is names.now TypesDiffer (tests.differs_at names.now (map items_of units.now) (types_of types.now) (table_of table.now)) (table_of table.now).order) }
-{
-    for name in &table.order {
-        let differs = differs_at(alloc, units, types, table, names, *name)?;
-        refused_if(alloc, names, LinkKind::TypesDiffer, differs, *name)?;
     }
     Ok(())
 }
@@ -354,16 +166,16 @@ fn has_words(ty: &FnType) -> bool
     }
 }
 
-/// Whether a type is that of a main function with arguments, where plain char is this type.
+/// Whether a type is that of a main function with arguments, where plain char is signed or not.
 fn is_main_with_words(
     alloc: Global,
     types: &Types,
-    char: IntType,
+    signed_chars: bool,
     ty: &QType,
 ) -> Result<bool, AllocError>
-    ensures { IfOk result (λ so. so ≡ are_compatible (types_of types.now) (qty_of ty.now) (tests.function_type (main_with_words char))) }
+    ensures { IfOk result (λ so. so ≡ are_compatible (types_of types.now) (qty_of ty.now) (tests.function_type (main_with_words signed_chars))) }
 {
-    let words = main_with_words(alloc, char)?;
+    let words = main_with_words(alloc, signed_chars)?;
     let whole = function(alloc, &words)?;
     are_compatible(types, ty, &whole)
 }
@@ -379,8 +191,8 @@ fn is_main_alone(alloc: Global, types: &Types, ty: &QType) -> Result<bool, Alloc
 fn has_main_words(alloc: Global, types: &Types, ty: &QType) -> Result<bool, AllocError>
     ensures { IfOk result (λ so. so ≡ tests.has_main_words (types_of types.now) (qty_of ty.now)) }
 {
-    let unsigned = is_main_with_words(alloc, types, IntType::UChar, ty)?;
-    let signed = is_main_with_words(alloc, types, IntType::SChar, ty)?;
+    let unsigned = is_main_with_words(alloc, types, false, ty)?;
+    let signed = is_main_with_words(alloc, types, true, ty)?;
     Ok(either(unsigned, signed))
 }
 

@@ -1,8 +1,8 @@
 // The names that joining knows of itself: that of the main function, and those of the library.
 ghost use Rattle.std.specs.Prelude.{◌≡◌};
-ghost use Rattle.c65_init_join.specs.Known.{library_at, is_main_at, main_named};
+ghost use Rattle.c65_csem.specs.Library.{library_at};
+ghost use Rattle.c65_init_join.specs.Known.{is_main_at, main_named};
 
-use crate::library::by_spelling;
 use c65_base::{Library, Name, Names};
 
 /// The function of the library that a name is.
@@ -10,7 +10,7 @@ pub fn library_named(names: &Names, name: Name) -> Option<Library>
     ensures { result ≡ library_at names.now name.0 }
 {
     match names.spelling(name) {
-        Some(spelling) => by_spelling(spelling),
+        Some(spelling) => c65_csem::library_named(spelling),
         None => None,
     }
 }

@@ -2,6 +2,7 @@
 //! become one item, and each number in a tree becomes a number of the program.
 #![tactic(auto)]
 
+mod agree;
 mod assign;
 mod checks;
 mod definition;

@@ -3,28 +3,27 @@ ghost use Rattle.std.specs.Prelude.{◌≡◌, IfOk, OnOk, map, option_map, opti
 ghost use Rattle.c65_ctype.specs.Trees.{type_in};
 ghost use Rattle.c65_ctype.specs.Sizes.{size_of};
 ghost use Rattle.c65_ctype.specs.Views.{qty_of, types_of};
+ghost use Rattle.c65_csem.specs.Library.{library_at};
 ghost use Rattle.c65_csem.specs.Views.{object_of, func_of, unit_of};
 ghost use Rattle.c65_init_join.specs.Answers.{Gives};
 ghost use Rattle.c65_init_join.specs.Items.{items_of};
 ghost use Rattle.c65_init_join.specs.Joined as rules;
-ghost use Rattle.c65_init_join.specs.Known.{library_at};
 ghost use Rattle.c65_init_join.specs.Numbers.{numbers_of, assigned_of};
 ghost use Rattle.c65_init_join.specs.Tables.{table_of};
 
+use crate::agree::{check_types, has_signed_chars};
 use crate::assign::{Assigned, assign_all, complete};
-use crate::checks::{check_defined, check_twice, check_types, main_name};
+use crate::checks::{check_defined, check_twice, main_name};
 use crate::known::library_named;
-use crate::library::prototype;
 use crate::marks::{is_marked, uses_of};
 use crate::numbers::Numbers;
 use crate::renumber::{renumber_cells, renumber_objects, renumber_stmt};
 use crate::table::Table;
 use crate::unit::{Unit, take_apart};
 use c65_base::{Library, Name, Names, Pos, Refusal};
-use c65_csem::{Cell, Class, Parts, TFunc, TObject, TProgram, TUnit};
+use c65_csem::{Cell, Class, Parts, TFunc, TObject, TProgram, TUnit, library_type};
 use c65_csem_check::{program_from, unit_from};
 use c65_ctype::{QType, Types};
-use c65_ints::IntType;
 use std::alloc::{AllocError, Global};
 
 /// Refuses names that are used and defined nowhere, and enters which names are used.
@@ -64,16 +63,16 @@ fn size_of(types: &Types, ty: &QType) -> Result<u32, AllocError>
     Ok(size)
 }
 
-/// An object of the program. One that is defined without an initialiser begins with zero bytes.
-fn finished_object(
+/// An object becomes one of the program. One that is defined without an initialiser begins with zero
+/// bytes.
+fn finish_object(
     alloc: Global,
     types: &Types,
     numbers: &Numbers,
-    object: TObject,
-) -> Result<TObject, AllocError>
-    ensures { IfOk result (λ o. object_of o ≡ rules.finished_object (types_of types.now) (numbers_of numbers.now) (object_of object)) }
+    object: &mut TObject,
+) -> Result<(), AllocError>
+    ensures { OnOk result (object_of object.new ≡ rules.finished_object (types_of types.now) (numbers_of numbers.now) (object_of object.old)) }
 {
-    let mut object = object;
     match object.class {
         Class::Tentative => {
             let size = size_of(types, &object.ty)?;
@@ -87,7 +86,7 @@ fn finished_object(
             }
         }
     }
-    Ok(object)
+    Ok(())
 }
 
 /// The function of the library that a function without a body is.
@@ -101,26 +100,26 @@ fn library_for(names: &Names, func: &TFunc) -> Option<Library>
     }
 }
 
-/// A function of the program. One without a body is of the library.
-fn finished_func(
+/// A function becomes one of the program. One without a body is of the library.
+fn finish_func(
     alloc: Global,
     names: &Names,
+    signed_chars: bool,
     numbers: &Numbers,
-    func: TFunc,
-) -> Result<TFunc, AllocError>
-    ensures { IfOk result (λ f. func_of f ≡ rules.finished_func names.now (numbers_of numbers.now) (func_of func)) }
+    func: &mut TFunc,
+) -> Result<(), AllocError>
+    ensures { OnOk result (func_of func.new ≡ rules.finished_func names.now signed_chars (numbers_of numbers.now) (func_of func.old)) }
 {
-    let library = library_for(names, &func);
-    let mut func = func;
+    let library = library_for(names, func);
     if let Some(body) = &mut func.body {
         renumber_stmt(alloc, numbers, body)?;
     }
     renumber_objects(numbers, &mut func.params)?;
     if let Some(library) = library {
-        func.ty = prototype(alloc, library, IntType::UChar)?;
+        func.ty = library_type(alloc, signed_chars, library)?;
         func.library = Some(library);
     }
-    Ok(func)
+    Ok(())
 }
 
 /// Adds an object, where the program keeps it.
@@ -134,8 +133,9 @@ fn add_object(
 ) -> Result<(), AllocError>
     ensures { OnOk result (map object_of program.new.items ≡ map object_of program.old.items ++ map (rules.finished_object (types_of types.now) (numbers_of numbers.now)) (rules.one_if is_kept (object_of object))) }
 {
+    let mut object = object;
     if is_kept {
-        let object = finished_object(alloc, types, numbers, object)?;
+        finish_object(alloc, types, numbers, &mut object)?;
         program.push(object)?;
     }
     Ok(())
@@ -167,34 +167,54 @@ fn add_objects(
 fn add_func(
     alloc: Global,
     names: &Names,
+    signed_chars: bool,
     program: &mut Vec<TFunc>,
     is_kept: bool,
     numbers: &Numbers,
     func: TFunc,
 ) -> Result<(), AllocError>
-    ensures { OnOk result (map func_of program.new.items ≡ map func_of program.old.items ++ map (rules.finished_func names.now (numbers_of numbers.now)) (rules.one_if is_kept (func_of func))) }
+    ensures { OnOk result (map func_of program.new.items ≡ map func_of program.old.items ++ map (rules.finished_func names.now signed_chars (numbers_of numbers.now)) (rules.one_if is_kept (func_of func))) }
 {
-    if is_kept {
-        let func = finished_func(alloc, names, numbers, func)?;
-        program.push(func)?;
+    let mut func = func;
+    if !is_kept {
+        drop(func);
+        return Ok(());
     }
-    Ok(())
+    match finish_func(alloc, names, signed_chars, numbers, &mut func) {
+        Ok(()) => {
+            program.push(func)?;
+            Ok(())
+        }
+        Err(error) => {
+            drop(func);
+            Err(error)
+        }
+    }
 }
 
 /// Adds the functions that the program keeps.
 fn add_funcs(
     alloc: Global,
     names: &Names,
+    signed_chars: bool,
     program: &mut Vec<TFunc>,
     kept: &[bool],
     numbers: &Numbers,
     funcs: Vec<TFunc>,
 ) -> Result<(), AllocError>
-    ensures { OnOk result (map func_of program.new.items ≡ map func_of program.old.items ++ map (rules.finished_func names.now (numbers_of numbers.now)) (rules.selected kept.now 0 (map func_of funcs.items))) }
+    ensures { OnOk result (map func_of program.new.items ≡ map func_of program.old.items ++ map (rules.finished_func names.now signed_chars (numbers_of numbers.now)) (rules.selected kept.now 0 (map func_of funcs.items))) }
 {
     let mut i: usize = 0;
     for func in funcs {
-        add_func(alloc, names, program, is_marked(kept, i), numbers, func)?;
+        add_func(
+            alloc,
+            names,
+            signed_chars,
+            program,
+            is_marked(kept, i),
+            numbers,
+            func,
+        )?;
         let Some(next) = i.checked_add(1) else {
             return Err(AllocError);
         };
@@ -208,11 +228,12 @@ fn add_unit(
     alloc: Global,
     program: &mut Parts,
     names: &Names,
+    signed_chars: bool,
     assigned: &Assigned,
     numbers: &Numbers,
     unit: Unit,
 ) -> Result<(), AllocError>
-    ensures { OnOk result (unit_of program.new ≡ rules.with_items names.now (assigned_of assigned.now) (numbers_of numbers.now) (unit_of program.old) (items_of unit)) }
+    ensures { OnOk result (unit_of program.new ≡ rules.with_items names.now signed_chars (assigned_of assigned.now) (numbers_of numbers.now) (unit_of program.old) (items_of unit)) }
 {
     let Unit {
         objects,
@@ -231,6 +252,7 @@ fn add_unit(
     add_funcs(
         alloc,
         names,
+        signed_chars,
         &mut program.funcs,
         &assigned.kept_funcs,
         numbers,
@@ -252,11 +274,12 @@ fn put_together(
     alloc: Global,
     types: Types,
     names: &Names,
+    signed_chars: bool,
     table: &Table,
     units: Vec<Unit>,
     all: &[Assigned],
 ) -> Result<Parts, AllocError>
-    ensures { IfOk result (λ p. unit_of p ≡ rules.with_all names.now (table_of table.now) (rules.no_items (types_of types)) (map items_of units.items) (map assigned_of all.now)) }
+    ensures { IfOk result (λ p. unit_of p ≡ rules.with_all names.now signed_chars (table_of table.now) (rules.no_items (types_of types)) (map items_of units.items) (map assigned_of all.now)) }
 {
     let mut program = Parts {
         types,
@@ -270,7 +293,15 @@ fn put_together(
             return Err(AllocError);
         };
         let numbers = complete(alloc, table, &unit, assigned)?;
-        add_unit(alloc, &mut program, names, assigned, &numbers, unit)?;
+        add_unit(
+            alloc,
+            &mut program,
+            names,
+            signed_chars,
+            assigned,
+            &numbers,
+            unit,
+        )?;
         let Some(next) = i.checked_add(1) else {
             return Err(AllocError);
         };
@@ -304,8 +335,9 @@ fn program_of(
     ensures { IfOk result (λ p. (unit_of p.0, p.1) ≡ rules.program_by names.now (types_of types) (map items_of units.items) (table_of table) main) }
 {
     let mut table = table;
+    let signed_chars = has_signed_chars(alloc, &units, &types, &table, names)?;
     let all = assign_all(alloc, &units, &mut table, names)?;
-    let parts = put_together(alloc, types, names, &table, units, &all)?;
+    let parts = put_together(alloc, types, names, signed_chars, &table, units, &all)?;
     match table.number(main) {
         Some(main) => whole(alloc, parts, main),
         None => Err(AllocError),

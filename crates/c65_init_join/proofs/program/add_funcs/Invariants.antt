@@ -9,5 +9,5 @@ invariant-loop-func l = record {
   can_next : (goal.iterator-loop-func).can_next l.func-iterator;
   is_finite : (goal.iterator-loop-func).is_finite l.func-iterator;
   count : l.i ≡ length l.yielded;
-  so_far : map func_of l.program.items ++ map (finished_func l.names (numbers_of l.numbers)) (selected l.kept l.i (map func_of (drop (length l.yielded) l.fn.funcs.items))) ≡ map func_of l.fn.program.items ++ map (finished_func l.names (numbers_of l.numbers)) (selected l.kept 0 (map func_of l.fn.funcs.items));
+  so_far : map func_of l.program.items ++ map (finished_func l.names l.signed_chars (numbers_of l.numbers)) (selected l.kept l.i (map func_of (drop (length l.yielded) l.fn.funcs.items))) ≡ map func_of l.fn.program.items ++ map (finished_func l.names l.signed_chars (numbers_of l.numbers)) (selected l.kept 0 (map func_of l.fn.funcs.items));
 }

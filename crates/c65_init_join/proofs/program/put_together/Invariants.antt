@@ -12,5 +12,5 @@ invariant-loop-unit l = record {
   can_next : (goal.iterator-loop-unit).can_next l.unit-iterator;
   is_finite : (goal.iterator-loop-unit).is_finite l.unit-iterator;
   count : l.i ≡ length l.yielded;
-  so_far : with_all l.names (table_of l.table) (unit_of l.program) (map items_of (drop (length l.yielded) l.fn.units.items)) (drop l.i (map assigned_of l.all)) ≡ with_all l.names (table_of l.table) (no_items (types_of l.fn.types)) (map items_of l.fn.units.items) (map assigned_of l.all);
+  so_far : with_all l.names l.signed_chars (table_of l.table) (unit_of l.program) (map items_of (drop (length l.yielded) l.fn.units.items)) (drop l.i (map assigned_of l.all)) ≡ with_all l.names l.signed_chars (table_of l.table) (no_items (types_of l.fn.types)) (map items_of l.fn.units.items) (map assigned_of l.all);
 }

@@ -5,7 +5,7 @@ use Rattle.c65_init_join.specs.Answers.{none_is}
 use Rattle.c65_init_join.specs.Checks.{differs_at}
 use Rattle.c65_init_join.specs.Items.{items_of}
 use Rattle.c65_init_join.specs.Tables.{table_of}
-use Rattle.c65_init_join.proofs.checks.check_types.Given as goal
+use Rattle.c65_init_join.proofs.agree.check_types.Given as goal
 
 abbrev pub invariant-loop-name : goal.invariant-loop-name
 invariant-loop-name l = none_is l.names TypesDiffer (differs_at l.names (map items_of l.units) (types_of l.types) (table_of l.table)) (drop l.name-index l.name-items) ≡ none_is l.names TypesDiffer (differs_at l.names (map items_of l.units) (types_of l.types) (table_of l.table)) l.name-items

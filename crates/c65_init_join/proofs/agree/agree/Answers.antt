@@ -3,7 +3,7 @@ use Rattle.std.specs.Prelude.{true}
 use Rattle.c65_ctype.specs.Views.{qty_of, types_of}
 use Rattle.c65_init_join.specs.Checks.{fits_all}
 use Rattle.c65_init_join.proofs.TurnLaws.{agree_next}
-use Rattle.c65_init_join.proofs.checks.agree.Goals as goal
+use Rattle.c65_init_join.proofs.agree.agree.Goals as goal
 
 pub loop-i-preserved : goal.loop-i-preserved
 loop-i-preserved c =
