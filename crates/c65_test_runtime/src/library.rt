@@ -7,24 +7,23 @@ use c65_io::{mem_sink, mem_source};
 use c65_mach::Image;
 use c65_sim::{Budget, Run};
 use std::alloc::Global;
-use std::process::Abort;
-use std::test::Fail;
-
-const LENGTHS: [u16; 7] = [0, 1, 2, 255, 256, 257, 600];
 
 const SOURCE: u16 = 0x9000;
+
+const TARGET: u16 = 0xA000;
 
 fn mark(index: u16) -> u8 {
     let [low, high] = index.wrapping_mul(167).wrapping_add(13).to_le_bytes();
     low ^ high
 }
 
-fn put_source(runtime: &mut Runtime, count: u16) {
-    for index in 0..count {
+// 700 marks at the source, and other bytes at the target.
+fn put_source(runtime: &mut Runtime) {
+    for index in 0..700 {
         runtime
             .machine
             .write(SOURCE.wrapping_add(index), mark(index));
-        runtime.machine.write(0xA000_u16.wrapping_add(index), 0xEE);
+        runtime.machine.write(TARGET.wrapping_add(index), 0xEE);
     }
 }
 
@@ -43,66 +42,60 @@ fn given(eax: u16, low: u16, high: u16) -> Given {
     }
 }
 
-fn check_left(rt: &impl Abort, after: &Left, sp: u16, ax: u16, count: u16) {
-    assert_eq!(rt; after.sp, sp);
-    assert_eq!(rt; after.eax % 65_536, u32::from(ax));
-    assert!(rt; after.keeps, "more is changed at a count of {count}");
+// It left this sp and AX, kept the rest, and took few rows for so many bytes.
+fn is_left(after: &Left, sp: u16, ax: u16, count: u16) -> bool {
     let most = u32::from(count).wrapping_mul(128).wrapping_add(256);
-    assert!(rt;
-        after.rows <= most,
-        "{} rows at a count of {count}",
-        after.rows
-    );
+    let gives = after.sp == sp && after.eax % 65_536 == u32::from(ax);
+    gives && after.keeps && after.rows <= most
 }
 
-fn check_bytes(rt: &impl Abort, runtime: &Runtime, count: u16, filled: bool) {
+// So many bytes are marks, or the byte that was filled in, and the next is as before.
+fn has_bytes(runtime: &Runtime, count: u16, filled: bool) -> bool {
     for index in 0..count {
-        let byte = runtime.machine.read(0xA000_u16.wrapping_add(index));
-        let want = if filled { 0x77 } else { mark(index) };
-        assert_eq!(rt; byte, want, "byte {index} of {count}");
+        let byte = runtime.machine.read(TARGET.wrapping_add(index));
+        if byte != (if filled { 0x77 } else { mark(index) }) {
+            return false;
+        }
     }
-    let behind = runtime.machine.read(0xA000_u16.wrapping_add(count));
-    assert_eq!(rt; behind, 0xEE, "behind {count}");
+    runtime.machine.read(TARGET.wrapping_add(count)) == 0xEE
 }
 
-#[test]
-fn copies_and_fills(rt: HostRuntime) -> Result<(), Fail> {
-    let mut runtime = placed_runtime(rt.alloc())?;
-    for count in LENGTHS {
-        put_source(&mut runtime, 700);
-        let copy = Routine::Library(Library::Memcpy);
-        let after = call(&mut runtime, copy, given(count, SOURCE, 0xA000))?;
-        check_left(&rt, &after, 0xFA14, 0xA000, count);
-        check_bytes(&rt, &runtime, count, false);
-        put_source(&mut runtime, 700);
-        runtime.machine.put_word(0x0C, count);
-        let after = call(&mut runtime, Routine::CopyTos, given(SOURCE, 0xA000, 0))?;
-        check_left(&rt, &after, 0xFA12, 0xA000, count);
-        check_bytes(&rt, &runtime, count, false);
-        put_source(&mut runtime, 700);
-        let fill = Routine::Library(Library::Memset);
-        let after = call(&mut runtime, fill, given(count, 0xBB77, 0xA000))?;
-        check_left(&rt, &after, 0xFA14, 0xA000, count);
-        check_bytes(&rt, &runtime, count, true);
-    }
-    Ok(())
-}
-
-#[test]
-fn copies_ascend(rt: HostRuntime) -> Result<(), Fail> {
-    let mut runtime = placed_runtime(rt.alloc())?;
-    put_source(&mut runtime, 700);
+/// Whether memcpy copies so many bytes.
+pub fn copies(runtime: &mut Runtime, count: u16) -> Result<bool, Refusal> {
+    put_source(runtime);
     let copy = Routine::Library(Library::Memcpy);
-    let after = call(
-        &mut runtime,
-        copy,
-        given(600, SOURCE, SOURCE.wrapping_add(1)),
-    )?;
-    check_left(&rt, &after, 0xFA14, SOURCE.wrapping_add(1), 600);
-    for index in 0..=600_u16 {
-        assert_eq!(rt; runtime.machine.read(SOURCE.wrapping_add(index)), mark(0));
+    let after = call(runtime, copy, given(count, SOURCE, TARGET))?;
+    Ok(is_left(&after, 0xFA14, TARGET, count) && has_bytes(runtime, count, false))
+}
+
+/// Whether copytos does.
+pub fn copies_structure(runtime: &mut Runtime, count: u16) -> Result<bool, Refusal> {
+    put_source(runtime);
+    runtime.machine.put_word(0x0C, count);
+    let after = call(runtime, Routine::CopyTos, given(SOURCE, TARGET, 0))?;
+    Ok(is_left(&after, 0xFA12, TARGET, count) && has_bytes(runtime, count, false))
+}
+
+/// Whether memset fills so many bytes with the low byte of its word.
+pub fn fills(runtime: &mut Runtime, count: u16) -> Result<bool, Refusal> {
+    put_source(runtime);
+    let fill = Routine::Library(Library::Memset);
+    let after = call(runtime, fill, given(count, 0xBB77, TARGET))?;
+    Ok(is_left(&after, 0xFA14, TARGET, count) && has_bytes(runtime, count, true))
+}
+
+/// Whether memcpy to the byte behind the source carries the first byte all along, as an ascending copy does.
+pub fn ascends(runtime: &mut Runtime, count: u16) -> Result<bool, Refusal> {
+    put_source(runtime);
+    let copy = Routine::Library(Library::Memcpy);
+    let to = SOURCE.wrapping_add(1);
+    let after = call(runtime, copy, given(count, SOURCE, to))?;
+    for index in 0..=count {
+        if runtime.machine.read(SOURCE.wrapping_add(index)) != mark(0) {
+            return Ok(false);
+        }
     }
-    Ok(())
+    Ok(is_left(&after, 0xFA14, to, count))
 }
 
 fn put_string(runtime: &mut Runtime, at: u16, length: u16, last: u8) {
@@ -115,44 +108,35 @@ fn put_string(runtime: &mut Runtime, at: u16, length: u16, last: u8) {
         .write(at.wrapping_add(length).wrapping_add(1), 0);
 }
 
-#[test]
-fn strings(rt: HostRuntime) -> Result<(), Fail> {
-    let mut runtime = placed_runtime(rt.alloc())?;
+/// Whether strcmp of two strings, alike in so many bytes before these, gives this difference.
+pub fn compares(
+    runtime: &mut Runtime,
+    length: u16,
+    (left, right): (u8, u8),
+    want: u16,
+) -> Result<bool, Refusal> {
+    put_string(runtime, SOURCE, length, left);
+    put_string(runtime, TARGET, length, right);
     let compare = Routine::Library(Library::Strcmp);
-    let rows = [
-        (0x62, 0x63, 0xFFFF),
-        (0x63, 0x61, 2),
-        (0x80, 0x7F, 1),
-        (0xFF, 0x00, 255),
-        (0x00, 0xFF, 0xFF01),
-        (0x63, 0x63, 0),
-        (0x00, 0x00, 0),
-    ];
-    for length in [0, 3, 255, 256, 300] {
-        for (left, right, want) in rows {
-            put_string(&mut runtime, SOURCE, length, left);
-            put_string(&mut runtime, 0xA000, length, right);
-            let after = call(&mut runtime, compare, given(0xA000, SOURCE, 0))?;
-            check_left(&rt, &after, 0xFA12, want, length);
-        }
-        put_string(&mut runtime, SOURCE, length, 0);
-        put_source_behind(&mut runtime);
-        let copy = Routine::Library(Library::Strcpy);
-        let after = call(&mut runtime, copy, given(SOURCE, 0xA000, 0))?;
-        check_left(&rt, &after, 0xFA12, 0xA000, length);
-        assert_eq!(rt; runtime.machine.read(0xA000_u16.wrapping_add(length)), 0);
-        assert_eq!(rt; runtime.machine.read(0xA001_u16.wrapping_add(length)), 0xEE);
-        let measure = Routine::Library(Library::Strlen);
-        let after = call(&mut runtime, measure, given(0xA000, 0, 0))?;
-        check_left(&rt, &after, 0xFA10, length, length);
-    }
-    Ok(())
+    let after = call(runtime, compare, given(TARGET, SOURCE, 0))?;
+    Ok(is_left(&after, 0xFA12, want, length))
 }
 
-fn put_source_behind(runtime: &mut Runtime) {
-    for index in 0..400_u16 {
-        runtime.machine.write(0xA000_u16.wrapping_add(index), 0xEE);
-    }
+/// Whether strcpy copies a string of this length with its zero byte and no more, and strlen measures it.
+pub fn measures(runtime: &mut Runtime, length: u16) -> Result<bool, Refusal> {
+    put_source(runtime);
+    put_string(runtime, SOURCE, length, 0);
+    let copy = Routine::Library(Library::Strcpy);
+    let after = call(runtime, copy, given(SOURCE, TARGET, 0))?;
+    let copied = is_left(&after, 0xFA12, TARGET, length);
+    let ended = runtime.machine.read(TARGET.wrapping_add(length)) == 0;
+    let behind = runtime
+        .machine
+        .read(TARGET.wrapping_add(length).wrapping_add(1))
+        == 0xEE;
+    let measure = Routine::Library(Library::Strlen);
+    let after = call(runtime, measure, given(TARGET, 0, 0))?;
+    Ok(copied && ended && behind && is_left(&after, 0xFA10, length, length))
 }
 
 // The bytes of main, with the addresses of two routines at two places.
@@ -228,12 +212,12 @@ fn ran(
     }
 }
 
-#[test]
-fn programs_over_the_hooks(rt: HostRuntime) -> Result<(), Fail> {
-    let alloc = rt.alloc();
-    let echo = ran(alloc, Routine::Start, &ECHO, b"a\x00\xFFhi\n")?;
-    assert_eq!(rt; echo, Some(42));
-    let add = ran(alloc, Routine::StartArgs, &ADD, b"")?;
-    assert_eq!(rt; add, Some(122));
-    Ok(())
+/// The status of the program that echoes its input, where its output is right.
+pub fn echoes(alloc: Global) -> Result<Option<u8>, Refusal> {
+    ran(alloc, Routine::Start, &ECHO, b"a\x00\xFFhi\n")
+}
+
+/// The status of the program that adds its arguments.
+pub fn adds(alloc: Global) -> Result<Option<u8>, Refusal> {
+    ran(alloc, Routine::StartArgs, &ADD, b"")
 }

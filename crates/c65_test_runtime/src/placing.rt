@@ -1,6 +1,6 @@
 // The runtime in memory: the lines of each segment as bytes, one segment behind another.
-use c65_base::{Library, Refusal};
-use c65_code::{Callee, Count, Line, Operand, Routine, Seg, TosOp, UnaryRoutine, Width};
+use c65_base::Refusal;
+use c65_code::{Callee, Line, Operand, Routine, Seg};
 use c65_mach::{Machine, Mode, Op, decode};
 use c65_rtl::{is_narrow, routine};
 use c65_rtlwide::{is_wide, wide_routine};
@@ -12,99 +12,6 @@ pub const FIRST: u16 = 0x0200;
 /// The address of main, for `start` and `startargs`.
 pub const MAIN: u16 = 0x3000;
 
-const PLAIN: [Routine; 32] = [
-    Routine::PushA,
-    Routine::PushAx,
-    Routine::PushA0,
-    Routine::Push0,
-    Routine::PushEax,
-    Routine::PopA,
-    Routine::PopAx,
-    Routine::PopEax,
-    Routine::PopPtrs,
-    Routine::AddYSp,
-    Routine::SubYSp,
-    Routine::LdAxYSp,
-    Routine::LdAx0Sp,
-    Routine::LdEaxYSp,
-    Routine::StAxYSp,
-    Routine::StAx0Sp,
-    Routine::StEaxYSp,
-    Routine::LdAi,
-    Routine::LdAxi,
-    Routine::LdEaxi,
-    Routine::StATos,
-    Routine::StAxTos,
-    Routine::StEaxTos,
-    Routine::CopyTos,
-    Routine::SignA,
-    Routine::LongAx,
-    Routine::ULongAx,
-    Routine::SaveRegs,
-    Routine::RestRegs,
-    Routine::CallPtr4,
-    Routine::Start,
-    Routine::StartArgs,
-];
-
-pub const COUNTS: [Count; 8] = [
-    Count::One,
-    Count::Two,
-    Count::Three,
-    Count::Four,
-    Count::Five,
-    Count::Six,
-    Count::Seven,
-    Count::Eight,
-];
-
-pub const OPERATORS: [TosOp; 23] = [
-    TosOp::Add,
-    TosOp::Sub,
-    TosOp::Mul,
-    TosOp::And,
-    TosOp::Or,
-    TosOp::Xor,
-    TosOp::Div,
-    TosOp::Mod,
-    TosOp::UDiv,
-    TosOp::UMod,
-    TosOp::Shl,
-    TosOp::Shr,
-    TosOp::Asr,
-    TosOp::Eq,
-    TosOp::Ne,
-    TosOp::Lt,
-    TosOp::Le,
-    TosOp::Gt,
-    TosOp::Ge,
-    TosOp::ULt,
-    TosOp::ULe,
-    TosOp::UGt,
-    TosOp::UGe,
-];
-
-pub const UNARY: [UnaryRoutine; 6] = [
-    UnaryRoutine::Neg,
-    UnaryRoutine::Compl,
-    UnaryRoutine::Shl1,
-    UnaryRoutine::Shr1,
-    UnaryRoutine::Asr1,
-    UnaryRoutine::BNeg,
-];
-
-const LIBRARY: [Library; 9] = [
-    Library::Putchar,
-    Library::Getchar,
-    Library::Puts,
-    Library::Exit,
-    Library::Memcpy,
-    Library::Memset,
-    Library::Strcmp,
-    Library::Strcpy,
-    Library::Strlen,
-];
-
 /// A machine with the whole runtime in memory, and where each routine begins.
 #[derive(Drop)]
 pub struct Runtime {
@@ -112,26 +19,6 @@ pub struct Runtime {
     pub starts: Vec<(Routine, u16)>,
     /// The address behind the last routine.
     pub end: u16,
-}
-
-fn all_routines(alloc: Global) -> Result<Vec<Routine>, Refusal> {
-    let mut routines = Vec::from_slice(alloc, &PLAIN)?;
-    for count in COUNTS {
-        routines.push(Routine::IncSp(count))?;
-        routines.push(Routine::DecSp(count))?;
-    }
-    for op in OPERATORS {
-        routines.push(Routine::Tos(op, Width::Ax))?;
-        routines.push(Routine::Tos(op, Width::Eax))?;
-    }
-    for op in UNARY {
-        routines.push(Routine::Unary(op, Width::Ax))?;
-        routines.push(Routine::Unary(op, Width::Eax))?;
-    }
-    for function in LIBRARY {
-        routines.push(Routine::Library(function))?;
-    }
-    Ok(routines)
 }
 
 fn segment(alloc: Global, which: Routine) -> Result<Option<Seg>, Refusal> {
@@ -257,7 +144,7 @@ fn put_all(
 ) -> Result<(Vec<(Routine, u16)>, u16), Refusal> {
     let mut at = FIRST;
     let mut places = Vec::new(alloc);
-    for which in all_routines(alloc)?.iter() {
+    for which in &Routine::ALL {
         places.push((*which, at))?;
         if let Some(seg) = segment(alloc, *which)? {
             at = put_lines(machine, starts, seg.lines(), at);
