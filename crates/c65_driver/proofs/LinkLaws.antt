@@ -75,17 +75,17 @@ compiles_linked cpu folders files old new code (Ok image) same written faults mi
   from_code = gives;
 }
 compiles_linked cpu folders files old new code (Err r) same written faults misses few read gives =
-  let fails : Fails r (linked code) = fails_for cpu (linked code) r gives in
-  record {
-  same = same;
-  written = written;
-  read = fault_link code old.faults new.faults r fails faults;
-  missing = header_link code folders old.misses new.misses r fails misses;
-  refused = fails_stops code r fails;
-  units = units_link code (length files) r fails few;
-  from_text = read;
-  from_code = fails;
-}
+    let fails : Fails r (linked code) = fails_for cpu (linked code) r gives in
+    record {
+      same = same;
+      written = written;
+      read = fault_link code old.faults new.faults r fails faults;
+      missing = header_link code folders old.misses new.misses r fails misses;
+      refused = fails_stops code r fails;
+      units = units_link code (length files) r fails few;
+      from_text = read;
+      from_code = fails;
+    }
 
 faults_of : (f f' : ℕ) (r : Refusal) → FaultCause {T = Code} f f' (Err r) → FaultCause {T = Image} f f' (Err r)
 faults_of f f' ReadFault cause = cause

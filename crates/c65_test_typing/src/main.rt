@@ -19,6 +19,7 @@ use std::alloc::{AllocError, Global};
 use std::fs;
 
 const FIRST: &str = "a.c";
+
 const SECOND: &str = "b.c";
 
 /// A text with its lines.

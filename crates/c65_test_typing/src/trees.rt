@@ -52,12 +52,7 @@ fn one(kind: IntType) -> Expr {
 }
 
 /// The type of an operator's result at constants of two types, if it is an integer type.
-fn result(
-    alloc: Global,
-    op: BinaryOp,
-    a: IntType,
-    b: IntType,
-) -> Result<Option<IntType>, Refusal> {
+fn result(alloc: Global, op: BinaryOp, a: IntType, b: IntType) -> Result<Option<IntType>, Refusal> {
     let mut scope = scope(alloc)?;
     let tree = Expr::binary(alloc, HERE, op, one(a), one(b))?;
     let typed = elab_expr(alloc, &mut scope, &tree)?;

@@ -41,10 +41,12 @@ returns-in-Err-clause-turn g c =
     ∙ ap (bytes_from (popped c.args.sp 4 m).mem (buffer_of c.args.sp m)) len in
     let back : c.write-in-Err.new.self ≡ m =
     put_back c.args.sp c.from-at.result c.read-low.result c.read-high.result m c.pop.new.machine c.write.new.self c.write-in-Err.new.self
-    (omega arith) c.from-at.ensures c.read-low.ensures c.read-high.ensures c.pop.ensures c.write.ensures c.write-in-Err.ensures in
-    (back, record {
-      count = c.in-Err.ensures.bytes.0;
-      at_hook = c.requires.at;
-      to = sym c.descriptor.ensures ∙ c.if-descriptor-ne1.false;
-      output = c.in-Err.ensures.bytes.1 ∙ ap (λ xs. append_told (g.O.Sink.written c.args.out.now) (take c.in-Err.ensures.bytes.0 xs)) bytes;
-    })
+    (omega arith) c.from-at.ensures c.read-low.ensures c.read-high.ensures c.pop.ensures c.write.ensures c.write-in-Err.ensures in (
+      back,
+      record {
+        count = c.in-Err.ensures.bytes.0;
+        at_hook = c.requires.at;
+        to = sym c.descriptor.ensures ∙ c.if-descriptor-ne1.false;
+        output = c.in-Err.ensures.bytes.1 ∙ ap (λ xs. append_told (g.O.Sink.written c.args.out.now) (take c.in-Err.ensures.bytes.0 xs)) bytes;
+      },
+    )
