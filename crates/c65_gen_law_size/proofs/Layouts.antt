@@ -142,9 +142,9 @@ both_sizes Zero datum = omega arith
 both_sizes Data datum = omega arith
 both_sizes Const datum = omega arith
 
-routines_size ALLs : (ds : List Datum) → files_size ds + behind_size ds ≤ datums_size ds
-routines_size ALLs [] = omega arith
-routines_size ALLs (d ∷ ds) = omega (arith, routines_size ALLs ds, both_sizes d.kind d)
+all_sizes : (ds : List Datum) → files_size ds + behind_size ds ≤ datums_size ds
+all_sizes [] = omega arith
+all_sizes (d ∷ ds) = omega (arith, all_sizes ds, both_sizes d.kind d)
 
 layout_most : (code : Code) (ts : List Target) (entry : Routine) (parts : List Routine) → (layout_of code ts entry parts).at ≤ program_start + lines_size (routine_lines entry) + extent_of code + routines_size parts + datums_size code.datums
 layout_most code ts entry parts =
@@ -154,7 +154,7 @@ layout_most code ts entry parts =
     let all : Layout = layouts.with_routines coded parts in
     let aimed : Layout = with_targets all 0 ts in
     let filled : Layout = with_all_data aimed code.datums in
-    omega (arith, lines_at empty (routine_lines entry), functions_at begun code.functions, routines_at coded parts, targets_at all 0 ts, all_data_at aimed code.datums, all_zeros_at filled code.datums, routines_size ALLs code.datums)
+    omega (arith, lines_at empty (routine_lines entry), functions_at begun code.functions, routines_at coded parts, targets_at all 0 ts, all_data_at aimed code.datums, all_zeros_at filled code.datums, all_sizes code.datums)
 
 -- ---- routines
 
