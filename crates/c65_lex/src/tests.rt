@@ -42,6 +42,11 @@ fn listed(alloc: Global, text: &[u8], header: bool) -> Result<Vec<u8>, Refusal> 
     Ok(list)
 }
 
+/// Whether the tokens of a text are these.
+fn lists(alloc: Global, text: &[u8], header: bool, want: &[u8]) -> Result<bool, Refusal> {
+    Ok(listed(alloc, text, header)?.as_slice() == want)
+}
+
 #[test]
 fn lists_tokens(rt: HostRuntime) -> Result<(), Fail> {
     let rows: [(&[u8], &[u8]); 20] = [
@@ -79,8 +84,7 @@ fn lists_tokens(rt: HostRuntime) -> Result<(), Fail> {
         (b"\n\x0b\x0c\t \n", b"E1:\n| E2:\n|"),
     ];
     for (text, want) in rows {
-        let list = listed(rt.alloc(), text, false)?;
-        assert_eq!(rt; list.as_slice(), want);
+        assert!(rt; lists(rt.alloc(), text, false, want)?);
     }
     Ok(())
 }
@@ -94,49 +98,62 @@ fn lists_header_names(rt: HostRuntime) -> Result<(), Fail> {
         (b"<> \"\" L\"a\"", b"P1:<|P1:>| T1:\"\"| T1:L\"a\"|E1:\n|"),
     ];
     for (text, want) in rows {
-        let list = listed(rt.alloc(), text, true)?;
-        assert_eq!(rt; list.as_slice(), want);
+        assert!(rt; lists(rt.alloc(), text, true, want)?);
     }
     Ok(())
+}
+
+/// Whether the next token is refused for an open comment on this line of the file 7.
+fn is_open(lexer: &mut Lexer, names: &mut Names, line: u32) -> bool {
+    match lexer.next(names, false) {
+        Err(Refusal::At { code, pos }) => {
+            code == Code::OpenComment && pos.file == 7 && pos.line == line
+        }
+        _ => false,
+    }
+}
+
+/// Whether each of two calls behind the tokens before the comment refuses the text so.
+fn stays_open(alloc: Global, text: &[u8], before: u32, line: u32) -> Result<bool, Refusal> {
+    let mut names = Names::new(alloc);
+    let mut lexer = Lexer::new(alloc, Vec::from_slice(alloc, text)?, 7);
+    for _ in 0..before {
+        lexer.next(&mut names, false)?;
+    }
+    Ok(is_open(&mut lexer, &mut names, line) && is_open(&mut lexer, &mut names, line))
 }
 
 #[test]
 fn refuses_an_open_comment_where_it_begins(rt: HostRuntime) -> Result<(), Fail> {
-    let rows: [(&[u8], u32); 3] = [(b"/* a", 1), (b"\n  /* b\n\n", 2), (b"\\\n/*/", 2)];
-    for (text, want) in rows {
-        let alloc = rt.alloc();
-        let mut names = Names::new(alloc);
-        let mut lexer = Lexer::new(alloc, Vec::from_slice(alloc, text)?, 7);
-        for _ in 0..3 {
-            match lexer.next(&mut names, false) {
-                Err(Refusal::At { code, pos }) => {
-                    assert!(rt; code == Code::OpenComment && pos.file == 7 && pos.line == want);
-                }
-                Ok(found) => assert!(rt; found.is_some()),
-                Err(_) => assert!(rt; false),
-            }
-        }
+    let rows: [(&[u8], u32, u32); 3] = [
+        (b"/* a", 0, 1),
+        (b"\n  /* b\n\n", 1, 2),
+        (b"\\\n/*/", 0, 2),
+    ];
+    for (text, before, line) in rows {
+        assert!(rt; stays_open(rt.alloc(), text, before, line)?);
     }
     Ok(())
 }
 
+/// Whether the first token of a line of so many of these bytes is there, or the line is too long.
+fn fits(alloc: Global, byte: u8, count: usize) -> Result<Option<bool>, Refusal> {
+    let mut names = Names::new(alloc);
+    let mut lexer = Lexer::new(alloc, vec![in alloc; byte; count]?, 0);
+    Ok(match lexer.next(&mut names, false) {
+        Ok(_) => Some(true),
+        Err(Refusal::TooLarge { limit, value }) if limit == Size::Line && value == 32_768 => {
+            Some(false)
+        }
+        Err(_) => None,
+    })
+}
+
 #[test]
 fn refuses_a_long_line(rt: HostRuntime) -> Result<(), Fail> {
-    let alloc = rt.alloc();
-    for (byte, count, fits) in [
-        (b' ', 32_767, true),
-        (b' ', 32_768, false),
-        (b'a', 32_767, true),
-        (b'a', 32_768, false),
-    ] {
-        let mut names = Names::new(alloc);
-        let mut lexer = Lexer::new(alloc, vec![in alloc; byte; count]?, 0);
-        let found = lexer.next(&mut names, false);
-        let mut is_long = false;
-        if let Err(Refusal::TooLarge { limit, value }) = &found {
-            is_long = *limit == Size::Line && *value == 32_768;
-        }
-        assert!(rt; found.is_ok() == fits && is_long != fits);
+    for byte in [b' ', b'a'] {
+        assert!(rt; fits(rt.alloc(), byte, 32_767)? == Some(true));
+        assert!(rt; fits(rt.alloc(), byte, 32_768)? == Some(false));
     }
     Ok(())
 }
@@ -157,8 +174,12 @@ fn lexes_many_lines(rt: HostRuntime) -> Result<(), Fail> {
             break;
         }
     }
-    assert_eq!(rt; count, 16_000);
+    assert!(rt; count == 16_000);
     Ok(())
+}
+
+fn class_letter(text: &[u8]) -> u8 {
+    class_of(text).map_or(b'-', letter)
 }
 
 #[test]
@@ -178,11 +199,7 @@ fn classes_of_whole_spellings(rt: HostRuntime) -> Result<(), Fail> {
         (b"<a>", b'-'),
     ];
     for (text, want) in rows {
-        let class = match class_of(text) {
-            Some(kind) => letter(kind),
-            None => b'-',
-        };
-        assert_eq!(rt; class, want);
+        assert!(rt; class_letter(text) == want);
     }
     Ok(())
 }
