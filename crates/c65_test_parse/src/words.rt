@@ -1,5 +1,5 @@
 // Lines of tokens by their words.
-use c65_base::{Code, Name, Pos, Refusal, Size};
+use c65_base::{Name, Pos};
 use c65_ints::IntType;
 use c65_scan::{Keyword, Punct, Token, TokenKind};
 use std::alloc::{AllocError, Global};
@@ -142,37 +142,32 @@ pub fn tokens(alloc: Global, text: &str) -> Result<Vec<Token>, AllocError> {
     Ok(tokens)
 }
 
-/// What nests, and what stands round it.
-#[derive(Clone, Copy)]
-pub struct Nest {
-    pub before: &'static str,
-    pub open: &'static str,
-    pub middle: &'static str,
-    pub close: &'static str,
-    pub behind: &'static str,
-}
-
-/// The nest, so many levels deep.
-pub fn nested(alloc: Global, nest: &Nest, times: u32) -> Result<Vec<Token>, AllocError> {
+/// What nests, so many levels deep: `BEFORE | OPEN | MIDDLE | CLOSE | BEHIND`.
+pub fn nested(alloc: Global, text: &str, times: u32) -> Result<Vec<Token>, AllocError> {
     let mut tokens = Vec::new(alloc);
-    push_words(&mut tokens, &words(alloc, nest.before)?)?;
-    push_times(&mut tokens, &words(alloc, nest.open)?, times)?;
-    push_words(&mut tokens, &words(alloc, nest.middle)?)?;
-    push_times(&mut tokens, &words(alloc, nest.close)?, times)?;
-    push_words(&mut tokens, &words(alloc, nest.behind)?)?;
+    for (place, part) in text.split('|').enumerate() {
+        let count = if place == 1 || place == 3 { times } else { 1 };
+        push_times(&mut tokens, &words(alloc, part)?, count)?;
+    }
     push(&mut tokens, TokenKind::End)?;
     Ok(tokens)
 }
 
-/// The refusal of a line, at a token that is counted from 1.
-pub fn refused(code: Code, line: u32) -> Refusal {
-    Refusal::At {
-        code,
-        pos: Pos { file: 0, line },
+/// The first word, and what stands behind the space after it.
+pub fn first_word(text: &str) -> (&str, &str) {
+    match text.split_once(' ') {
+        Some(parts) => parts,
+        None => (text, ""),
     }
 }
 
-pub const TOO_DEEP: Refusal = Refusal::TooLarge {
-    limit: Size::Depth,
-    value: 257,
-};
+/// A number of decimal digits.
+pub fn number(text: &str) -> u32 {
+    let mut number: u32 = 0;
+    for byte in text.as_bytes() {
+        number = number
+            .saturating_mul(10)
+            .saturating_add(byte.saturating_sub(b'0') as u32);
+    }
+    number
+}
