@@ -5,7 +5,7 @@ ghost use Rattle.c65_parse_frames.specs.Frames;
 ghost use Rattle.c65_parse_frames.specs.Views.{head_of, frame_of, stack_of};
 
 use c65_base::{Name, Pos};
-use c65_tree::{Decl, Expr, Stmt, with_stmt};
+use c65_tree::{Decl, Expr, Stmt, push_last, with_stmt};
 use std::alloc::{AllocError, Global};
 
 /// A statement whose last part is the statement that is read next.
@@ -67,7 +67,7 @@ pub fn enter(frames: Vec<Frame>, frame: Frame) -> Result<Vec<Frame>, AllocError>
     ensures { IfOk result (λ r. stack_of r.items ≡ frame_of frame ∷ stack_of frames.items) }
 {
     let mut frames = frames;
-    frames.push(frame)?;
+    push_last(&mut frames, frame)?;
     Ok(frames)
 }
 
@@ -146,7 +146,7 @@ fn declare_in(frame: Frame, decl: Decl) -> Result<Frame, AllocError>
     match frame {
         Frame::Block(pos, decls, stmts) => {
             let mut decls = decls;
-            decls.push(decl)?;
+            push_last(&mut decls, decl)?;
             Ok(Frame::Block(pos, decls, stmts))
         }
         other => Ok(other),
@@ -160,7 +160,7 @@ pub fn with_declaration(frames: Vec<Frame>, decl: Decl) -> Result<Vec<Frame>, Al
     let mut frames = frames;
     if let Some(frame) = frames.pop() {
         let frame = declare_in(frame, decl)?;
-        frames.push(frame)?;
+        push_last(&mut frames, frame)?;
     }
     Ok(frames)
 }
@@ -171,8 +171,9 @@ pub fn block_of(frame: Frame) -> Option<Stmt>
 {
     match frame {
         Frame::Block(pos, decls, stmts) => Some(Stmt::block(pos, decls, stmts)),
-        Frame::Head(_) => None,
-        Frame::Then(_, _) => None,
-        Frame::Do(_) => None,
+        Frame::Head(_) | Frame::Then(_, _) | Frame::Do(_) => {
+            drop(frame);
+            None
+        }
     }
 }

@@ -5,7 +5,7 @@ ghost use Rattle.c65_parse_frames.specs.Lists;
 ghost use Rattle.c65_parse_frames.specs.Views.{list_of, lists_of};
 
 use c65_base::Pos;
-use c65_tree::{Initialiser, with_init};
+use c65_tree::{Initialiser, push_last, with_init};
 use std::alloc::AllocError;
 
 /// A list whose initialisers are being read. Each is one level of depth.
@@ -27,7 +27,7 @@ pub fn enter_list(lists: Vec<InitList>, list: InitList) -> Result<Vec<InitList>,
     ensures { IfOk result (λ r. lists_of r.items ≡ list_of list ∷ lists_of lists.items) }
 {
     let mut lists = lists;
-    lists.push(list)?;
+    push_last(&mut lists, list)?;
     Ok(lists)
 }
 
