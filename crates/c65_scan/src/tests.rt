@@ -88,7 +88,7 @@ fn integers_have_the_first_type_of_their_row(rt: HostRuntime) -> Result<(), Refu
         (b"1Lu", ULong, 1),
         (b"0x1UL", ULong, 1),
     ];
-    assert_eq!(rt; wrong_constant(rt.alloc(), PpKind::Number, &rows)?, None);
+    assert!(rt; wrong_constant(rt.alloc(), PpKind::Number, &rows)?.is_none());
     Ok(())
 }
 
@@ -116,8 +116,22 @@ fn characters_have_the_values_of_their_escapes(rt: HostRuntime) -> Result<(), Re
         (b"'\\x0041'", Int, 65),
         (b"'\xff'", Int, 255),
     ];
-    assert_eq!(rt; wrong_constant(rt.alloc(), PpKind::Char, &rows)?, None);
+    assert!(rt; wrong_constant(rt.alloc(), PpKind::Char, &rows)?.is_none());
     Ok(())
+}
+
+// The fault of a token on the third line before another fault, and its line.
+fn fault_of(alloc: Global, kind: PpKind, spelling: &[u8]) -> Option<(Code, u32)> {
+    let pieces: [(PpKind, &[u8]); 4] = [
+        (PpKind::Name, b"x"),
+        (PpKind::LineEnd, b""),
+        (kind, spelling),
+        (PpKind::Number, b"08"),
+    ];
+    match scanned(alloc, &pieces) {
+        Err(Refusal::At { code, pos }) => Some((code, pos.line)),
+        _ => None,
+    }
 }
 
 #[test]
@@ -158,20 +172,25 @@ fn faults_come_at_their_token(rt: HostRuntime) {
         (PpKind::Header, b"<a.h>", Code::StrayByte),
     ];
     for (kind, spelling, want) in rows {
-        let pieces: [(PpKind, &[u8]); 4] = [
-            (PpKind::Name, b"x"),
-            (PpKind::LineEnd, b""),
-            (kind, spelling),
-            (PpKind::Number, b"08"),
-        ];
-        match scanned(rt.alloc(), &pieces) {
-            Err(Refusal::At { code, pos }) => {
-                assert_eq!(rt; code, want, "{spelling:?}");
-                assert_eq!(rt; pos.line, 3, "{spelling:?}");
-            }
-            _ => assert!(rt; false, "{spelling:?}"),
-        }
+        assert!(rt; fault_of(rt.alloc(), kind, spelling) == Some((want, 3)));
     }
+}
+
+fn is_end(token: &Token, line: u32) -> bool {
+    matches!(token.kind, TokenKind::End) && token.pos == Pos { file: 0, line }
+}
+
+// Whether these are a literal of three pieces, a punctuator, an empty literal, a keyword and the end.
+fn are_joined(tokens: &[Token]) -> bool {
+    let [text, punct, empty, keyword, end] = tokens else {
+        return false;
+    };
+    text_of(text) == Some(b"aAA2\n".as_slice())
+        && text.pos.line == 1
+        && matches!(punct.kind, TokenKind::Punct(Punct::ShiftRightEqual))
+        && text_of(empty) == Some(b"".as_slice())
+        && matches!(keyword.kind, TokenKind::Keyword(Keyword::While))
+        && is_end(end, 7)
 }
 
 #[test]
@@ -185,29 +204,14 @@ fn adjacent_literals_are_joined(rt: HostRuntime) -> Result<(), Refusal> {
         (PpKind::Text, b"\"\""),
         (PpKind::Name, b"while"),
     ];
-    let tokens = scanned(rt.alloc(), &pieces)?;
-    let [text, punct, empty, keyword, end] = tokens.as_slice() else {
-        assert!(rt; false, "five tokens");
-        return Ok(());
-    };
-    assert_eq!(rt; text_of(text), Some(b"aAA2\n".as_slice()));
-    assert_eq!(rt; text.pos.line, 1);
-    assert!(rt; matches!(punct.kind, TokenKind::Punct(Punct::ShiftRightEqual)));
-    assert_eq!(rt; text_of(empty), Some(b"".as_slice()));
-    assert!(rt; matches!(keyword.kind, TokenKind::Keyword(Keyword::While)));
-    assert!(rt; matches!(end.kind, TokenKind::End));
-    assert_eq!(rt; end.pos.line, 7);
+    assert!(rt; are_joined(scanned(rt.alloc(), &pieces)?.as_slice()));
     Ok(())
 }
 
 #[test]
 fn an_empty_unit_ends_on_line_1(rt: HostRuntime) -> Result<(), Refusal> {
-    let tokens = scanned(rt.alloc(), &[])?.into_vec();
-    assert_eq!(rt; tokens.len(), 1);
-    for token in &tokens {
-        assert!(rt; matches!(token.kind, TokenKind::End));
-        assert_eq!(rt; token.pos, Pos { file: 0, line: 1 });
-    }
+    let tokens = scanned(rt.alloc(), &[])?;
+    assert!(rt; matches!(tokens.as_slice(), [end] if is_end(end, 1)));
     Ok(())
 }
 
@@ -221,19 +225,20 @@ fn a_literal_has_at_most_4095_bytes(rt: HostRuntime) -> Result<(), Refusal> {
         (PpKind::Text, b"\"abcd\""),
         (PpKind::Number, b"1"),
     ];
-    let tokens = scanned(rt.alloc(), &most)?;
-    assert_eq!(rt; tokens.as_slice().len(), 3);
+    assert!(rt; scanned(rt.alloc(), &most)?.as_slice().len() == 3);
     let more: [(PpKind, &[u8]); 3] = [
         (PpKind::Text, &long),
         (PpKind::Text, b"\"abcde\""),
         (PpKind::Number, b"08"),
     ];
-    match scanned(rt.alloc(), &more) {
-        Err(Refusal::TooLarge { limit, value }) => {
-            assert_eq!(rt; limit, Size::Literal);
-            assert_eq!(rt; value, 4_096);
-        }
-        _ => assert!(rt; false, "a literal of 4,096 bytes"),
-    }
+    assert!(rt;
+        matches!(
+            scanned(rt.alloc(), &more),
+            Err(Refusal::TooLarge {
+                limit: Size::Literal,
+                value: 4_096
+            })
+        )
+    );
     Ok(())
 }
