@@ -8,7 +8,7 @@ use Rattle.c65_io.specs.declared.outside.Failed.{Failed}
 use Rattle.c65_io.specs.Contents.{Contents, WritesFile}
 use Rattle.c65_mach.specs.declared.image.Image.{Image}
 use Rattle.c65_mach.specs.Images.{bytes_of}
-use Rattle.c65_ppdir.specs.Counts.{FaultCause, MissCause as HeaderCause}
+use Rattle.c65_ppfile.specs.Counts.{FaultCause, MissCause as HeaderCause}
 use Rattle.c65_sim.specs.Runs.{WriteCause}
 use Rattle.c65_driver_chain.specs.Refused.{StopsChain, UnitsLimit}
 use Rattle.c65_driver_words.specs.Commands.{Spelled}

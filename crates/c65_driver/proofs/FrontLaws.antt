@@ -7,8 +7,8 @@ use Rattle.c65_asm.specs.Text.{text_of}
 use Rattle.c65_code.specs.declared.code.Code.{Code}
 use Rattle.c65_io.specs.Contents.{Contents}
 use Rattle.c65_mach.specs.declared.image.Image.{Image}
-use Rattle.c65_ppdir.specs.declared.command.Define.{Define}
-use Rattle.c65_ppdir.specs.Relations.{Answers, IsFree}
+use Rattle.c65_lex.specs.declared.define.Define.{Define}
+use Rattle.c65_ppline.specs.Relations.{Answers, IsFree}
 use Rattle.c65_ppdir.specs.Units.{Held}
 use Rattle.c65_driver_chain.specs.Front.{command, compiled}
 use Rattle.c65_driver_words.specs.Commands.{Spelled}

@@ -8,7 +8,7 @@ use Rattle.c65_base.specs.declared.refusal.Size.TheVariants.{Units, Arguments}
 use Rattle.c65_base.specs.Limits.{limit_of}
 use Rattle.c65_code.specs.declared.code.Code.{Code}
 use Rattle.c65_mach.specs.declared.image.Image.{Image}
-use Rattle.c65_ppdir.specs.Counts.{FaultCause, MissCause as HeaderCause}
+use Rattle.c65_ppfile.specs.Counts.{FaultCause, MissCause as HeaderCause}
 use Rattle.c65_sim.specs.Runs.{ReadCause, WriteCause}
 use Rattle.c65_driver_chain.specs.Refused.{StopsChain, UnitsLimit}
 use Rattle.c65_driver_words.specs.Commands.{Spelled}

@@ -13,7 +13,7 @@ use Rattle.c65_link.specs.declared.symbols.Target.{Target}
 use Rattle.c65_link.specs.Layouts.{layout_of}
 use Rattle.c65_link.specs.Symbols.{targets_of, missing_of}
 use Rattle.c65_link.specs.Linked.{Fault, undefined, large, linked, linked_for, image_for, named_or_placed, entry_of, parts_of, image_of, payload_of, Fails, Gives}
-use Rattle.c65_ppdir.specs.Counts.{FaultCause, MissCause as HeaderCause}
+use Rattle.c65_ppfile.specs.Counts.{FaultCause, MissCause as HeaderCause}
 use Rattle.c65_driver_chain.specs.Refused.{StopsChain, UnitsLimit}
 use Rattle.c65_driver.specs.Compiled.{IsRead, Compiles}
 use Rattle.c65_driver.specs.Outside.{FilesSide}

@@ -11,15 +11,14 @@ use Rattle.c65_io.specs.Contents.{Contents, WritesFile}
 use Rattle.c65_mach.specs.declared.image.Image.{Image}
 use Rattle.c65_mach.specs.Images.{bytes_of}
 use Rattle.c65_link.specs.Linked.{linked, linked_for, Fails}
-use Rattle.c65_ppdir.specs.declared.command.Define.{Define}
-use Rattle.c65_ppdir.specs.Counts.{FaultCause, MissCause}
-use Rattle.c65_ppdir.specs.Relations.{Answers, IsFree}
+use Rattle.c65_lex.specs.declared.define.Define.{Define}
+use Rattle.c65_ppfile.specs.Counts.{FaultCause, MissCause}
+use Rattle.c65_ppline.specs.Relations.{Answers, IsFree}
 use Rattle.c65_ppdir.specs.Units.{Held}
 use Rattle.c65_sim.specs.Runs.{WriteCause}
 use Rattle.c65_driver_chain.specs.Front.{command, compiled}
 use Rattle.c65_driver_chain.specs.Refused.{StopsChain, UnitsLimit}
 use Rattle.c65_driver_words.specs.Commands.{Spelled}
-use Rattle.c65_driver_words.specs.declared.command.Definition.{Definition}
 use Rattle.c65_driver.specs.Outside.{FilesSide}
 
 -- the image is the linker's of the code for a processor, or the linker refused the code, or there is no code
@@ -59,7 +58,7 @@ pub record Compiles (cpu : Cpu) (folders files : List (List ℕ)) (old new : Fil
   pub from_code : LinkedBy cpu code answer
 
 -- a definition as the preprocessor takes it
-abbrev pub define_of : Definition → Define
+abbrev pub define_of : Define → Define
 define_of d = record { name = d.name; body = d.body }
 
 -- the code of a command's files, where it is told what each path holds, or their first refusal

@@ -9,7 +9,7 @@ use Rattle.c65_code.specs.declared.code.Code.{Code}
 use Rattle.c65_io.specs.Causes.{Rose}
 use Rattle.c65_io.specs.Told.{append_told}
 use Rattle.c65_mach.specs.declared.image.Image.{Image}
-use Rattle.c65_ppdir.specs.Counts.{FaultCause, MissCause as HeaderCause}
+use Rattle.c65_ppfile.specs.Counts.{FaultCause, MissCause as HeaderCause}
 use Rattle.c65_sim.specs.Runs.{WriteCause}
 use Rattle.c65_driver_words.specs.Commands.{Spelled}
 use Rattle.c65_driver_words.specs.Words.{Spelling, Is, NoCommand}

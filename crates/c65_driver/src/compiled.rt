@@ -8,14 +8,14 @@ use crate::assembly::read_back;
 use crate::outcome::Made;
 use c65_base::{Cpu, Options, Refusal, Text};
 use c65_driver_chain::{Define, compile};
-use c65_driver_words::{Command, Definition};
+use c65_driver_words::Command;
 use c65_io::{Failed, Files};
 use c65_link::link_for;
 use c65_mach::Image;
 use std::alloc::{AllocError, Global};
 
 /// A definition as the preprocessor takes it.
-fn define(alloc: Global, definition: &Definition) -> Result<Define, AllocError>
+fn define(alloc: Global, definition: &Define) -> Result<Define, AllocError>
     ensures { IfOk result (λ define. define ≡ define_of definition.now) }
 {
     let name = definition.name.copy(alloc)?;
@@ -24,7 +24,7 @@ fn define(alloc: Global, definition: &Definition) -> Result<Define, AllocError>
 }
 
 /// Definitions as the preprocessor takes them.
-fn defines(alloc: Global, definitions: &[Definition]) -> Result<Vec<Define>, AllocError>
+fn defines(alloc: Global, definitions: &[Define]) -> Result<Vec<Define>, AllocError>
     ensures { IfOk result (λ list. list.items ≡ map define_of definitions.now) }
 {
     let mut defines = Vec::new(alloc);
@@ -47,7 +47,7 @@ fn processor(command: &Command) -> Cpu
     command.options.cpu
 }
 
-fn definitions(command: &Command) -> &[Definition]
+fn definitions(command: &Command) -> &[Define]
     ensures { result.now ≡ command.now.defines }
 {
     &command.defines

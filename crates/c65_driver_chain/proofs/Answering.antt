@@ -21,9 +21,9 @@ use Rattle.c65_init_join.specs.Answers as joins
 use Rattle.c65_init_join.specs.Joined.{joined}
 use Rattle.c65_code.specs.declared.code.Code.{Code}
 use Rattle.c65_genstmt.specs.Programs.{program_of}
-use Rattle.c65_ppdir.specs.Relations.{Answers, just, by_test, ◌then◌, IsFree, Comes}
+use Rattle.c65_ppline.specs.Relations.{Answers, just, by_test, ◌then◌, IsFree, Comes}
 use Rattle.c65_ppdir.specs.Units.{preprocessed}
-use Rattle.c65_ppdir.proofs.Relations.{goes, goes_on, stops_first}
+use Rattle.c65_ppline.proofs.Relations.{goes, goes_on, stops_first}
 use Rattle.c65_driver_chain.specs.Front.{typed, in_file, Command, file_typed, files_typed, joining, IsGood, generated, linked, compiled, Located, Passed}
 
 -- the first answer is a refusal

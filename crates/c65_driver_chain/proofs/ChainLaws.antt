@@ -4,8 +4,8 @@ use Rattle.c65_base.specs.declared.refusal.Refusal.{Refusal}
 use Rattle.c65_base.specs.declared.refusal.Refusal.TheVariants.{OutOfMemory, Missing, ReadFault, Source, TooLarge, Link}
 use Rattle.c65_base.specs.declared.refusal.Size.{Size}
 use Rattle.c65_base.specs.declared.refusal.Size.TheVariants as sizes
-use Rattle.c65_ppdir.specs.Causes.{IsUnitLimit, StopsUnit}
-use Rattle.c65_ppdir.specs.Counts.{FaultCause, MissCause, LooksAtNoFile}
+use Rattle.c65_ppline.specs.Causes.{IsUnitLimit, StopsUnit}
+use Rattle.c65_ppfile.specs.Counts.{FaultCause, MissCause, LooksAtNoFile}
 use Rattle.c65_io.specs.Causes.{Rose}
 use Rattle.c65_driver_chain.specs.Refused.{Exceeds, StopsLater, StopsUnits, StopsChain, UnitsLimit}
 use Rattle.c65_driver_chain.specs.Compiled.{Outside, Compiles}

@@ -2,7 +2,7 @@
 use Rattle.std.specs.Prelude.{◌≡◌, ℕ, List, Result, IfErr}
 use Rattle.c65_base.specs.declared.refusal.Refusal.{Refusal}
 use Rattle.c65_io.specs.Contents.{Contents}
-use Rattle.c65_ppdir.specs.Counts.{FaultCause, MissCause}
+use Rattle.c65_ppfile.specs.Counts.{FaultCause, MissCause}
 use Rattle.c65_driver_chain.specs.Refused.{StopsUnits}
 
 -- the content and the counts before or after

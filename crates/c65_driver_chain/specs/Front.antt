@@ -7,9 +7,9 @@ use Rattle.c65_base.specs.declared.refusal.Refusal.TheVariants as refusals
 use Rattle.c65_base.specs.declared.refusal.Size.TheVariants as sizes
 use Rattle.c65_base.specs.Answers.{Fault, at, large, ◌>>=◌}
 use Rattle.c65_lex.specs.declared.token.PpToken.{PpToken}
-use Rattle.c65_ppdir.specs.declared.command.Define.{Define}
-use Rattle.c65_ppdir.specs.Finding.{path_at}
-use Rattle.c65_ppdir.specs.Relations.{Answers, just, of, by_test, ◌then◌}
+use Rattle.c65_lex.specs.declared.define.Define.{Define}
+use Rattle.c65_ppfile.specs.Finding.{path_at}
+use Rattle.c65_ppline.specs.Relations.{Answers, just, of, by_test, ◌then◌}
 use Rattle.c65_ppdir.specs.Units.{Held, preprocessed}
 use Rattle.c65_scan.specs.Tokens.{tokens_of}
 use Rattle.c65_decl.specs.Units.{unit_read}

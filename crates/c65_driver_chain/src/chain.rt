@@ -1,8 +1,8 @@
 // From files to the code of their program.
 ghost use Rattle.std.specs.Prelude.{◌≡◌, [], map, Some, IfErr, length};
 ghost use Rattle.c65_csem.specs.Views.{unit_of};
-ghost use Rattle.c65_ppdir.specs.Counts.{FaultCause, MissCause};
-ghost use Rattle.c65_ppdir.specs.Relations.{Comes};
+ghost use Rattle.c65_ppfile.specs.Counts.{FaultCause, MissCause};
+ghost use Rattle.c65_ppline.specs.Relations.{Comes};
 ghost use Rattle.c65_ppdir.specs.Units.{Held};
 ghost use Rattle.c65_driver_chain.specs.Refused.{StopsChain, StopsLater, UnitsLimit};
 ghost use Rattle.c65_driver_chain.specs.Compiled.{Compiles, outside};

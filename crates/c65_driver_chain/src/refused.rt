@@ -1,7 +1,7 @@
 // Refusals of the stages behind the preprocessor.
 ghost use Rattle.std.specs.Prelude.{◌≡◌, ◌⊎◌};
 ghost use Rattle.c65_base.specs.declared.refusal.Refusal.TheVariants as refusals;
-ghost use Rattle.c65_ppdir.specs.Finding.{path_at};
+ghost use Rattle.c65_ppfile.specs.Finding.{path_at};
 ghost use Rattle.c65_driver_chain.specs.Front.{Located, Passed};
 ghost use Rattle.c65_driver_chain.specs.Refused;
 ghost use Rattle.c65_driver_chain.specs.Refused.{StopsLater};

@@ -2,7 +2,7 @@
 ghost use Rattle.std.specs.Prelude.{◌≡◌, Some};
 ghost use Rattle.c65_base.specs.Answers.{Gives};
 ghost use Rattle.c65_csem.specs.Views.{unit_of};
-ghost use Rattle.c65_ppdir.specs.Relations.{Comes};
+ghost use Rattle.c65_ppline.specs.Relations.{Comes};
 ghost use Rattle.c65_ppdir.specs.Units.{Held};
 ghost use Rattle.c65_driver_chain.specs.Compiled.{Compiles, outside};
 ghost use Rattle.c65_driver_chain.specs.Front;

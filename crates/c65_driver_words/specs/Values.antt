@@ -6,7 +6,7 @@ use Rattle.std.specs.Str.Parse.{digits_value}
 use Rattle.c65_lex.specs.declared.token.PpKind.{PpKind}
 use Rattle.c65_lex.specs.declared.token.PpKind.TheVariants as kinds
 use Rattle.c65_lex.specs.Spellings.{class_of}
-use Rattle.c65_driver_words.specs.declared.command.Definition.{Definition}
+use Rattle.c65_lex.specs.declared.define.Define.{Define}
 
 -- a name of a file is not empty and does not begin with a dash
 abbrev pub is_file : List ℕ → Bool
@@ -39,13 +39,13 @@ is_name word = is_name_kind (class_of false word)
 abbrev pub has_line_feed : List ℕ → Bool
 has_line_feed text = list_any (λ byte. byte == 10) text
 
-abbrev pub define_by : List ℕ → List ℕ → Option Definition
+abbrev pub define_by : List ℕ → List ℕ → Option Define
 define_by name body = if is_name name && not (has_line_feed body) then Some (record { name = name; body = body }) else None
 
-abbrev pub define_at : List ℕ → Option ℕ → Option Definition
+abbrev pub define_at : List ℕ → Option ℕ → Option Define
 define_at text None = define_by text (49 ∷ [])
 define_at text (Some at) = define_by (take at text) (drop (at + 1) text)
 
 -- `NAME=TEXT`, or `NAME` for `NAME=1`
-abbrev pub define_in : List ℕ → Option Definition
+abbrev pub define_in : List ℕ → Option Define
 define_in text = define_at text (position (λ byte. byte == 61) text)

@@ -7,7 +7,7 @@ use Rattle.c65_base.specs.declared.options.Cpu.{Cpu}
 use Rattle.c65_base.specs.declared.options.Cpu.TheVariants.{Nmos, Cmos}
 use Rattle.c65_base.specs.declared.refusal.Refusal.{Refusal}
 use Rattle.c65_base.specs.declared.refusal.Refusal.TheVariants as refusals
-use Rattle.c65_driver_words.specs.declared.command.Definition.{Definition}
+use Rattle.c65_lex.specs.declared.define.Define.{Define}
 use Rattle.c65_driver_words.specs.declared.command.CommandKind.{CommandKind}
 use Rattle.c65_driver_words.specs.declared.command.CommandKind.TheVariants as kinds
 use Rattle.c65_driver_words.specs.declared.value.Value.{Value}
@@ -21,7 +21,7 @@ use Rattle.c65_driver_words.specs.Values.{is_file, cycles_in, behind, define_in}
 pub record Told : Type 0 where
   pub kind : CommandKind
   pub options : Options
-  pub defines : List Definition
+  pub defines : List Define
   pub folders : List (List ℕ)
   pub files : List (List ℕ)
   pub out : Option (List ℕ)
@@ -60,7 +60,7 @@ may_stand told values.Processor = compiles told.kind && not told.has_processor
 may_stand told values.Out = writes told.kind && not (is_some told.out)
 may_stand told values.Cycles = runs told.kind && not (is_some told.cycles)
 
-abbrev pub with_define : Told → Option Definition → Option Told
+abbrev pub with_define : Told → Option Define → Option Told
 with_define told None = None
 with_define told (Some define) = Some (record told { defines = told.defines ++ define ∷ []; waits = None })
 

@@ -1,5 +1,6 @@
 // Commands.
 use c65_base::{Options, Text};
+use c65_lex::Define;
 use std::marker::Model;
 
 /// What a command does.
@@ -15,20 +16,13 @@ pub enum CommandKind {
     Text,
 }
 
-/// A definition on the command line: a macro's name and its replacement list, as text without a line feed.
-#[derive(Debug, Drop)]
-pub struct Definition {
-    pub name: Text,
-    pub body: Text,
-}
-
 /// A command with its options. Definitions, folders, files and arguments stand in the order of the words.
 #[derive(Debug, Drop)]
 pub struct Command {
     pub kind: CommandKind,
     pub options: Options,
     /// `-D`
-    pub defines: Vec<Definition>,
+    pub defines: Vec<Define>,
     /// `-I`
     pub folders: Vec<Text>,
     /// The files, or the image alone.

@@ -6,5 +6,6 @@ mod spelling;
 mod told;
 mod value;
 
-pub use command::{Command, CommandKind, Definition};
+pub use c65_lex::Define;
+pub use command::{Command, CommandKind};
 pub use spelling::spell;

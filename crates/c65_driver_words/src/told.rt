@@ -3,9 +3,10 @@ ghost use Rattle.std.specs.Prelude.{◌≡◌, is_some};
 ghost use Rattle.c65_driver_words.specs.Words;
 ghost use Rattle.c65_driver_words.specs.Told.{GoesOn, Tells};
 
-use crate::command::{Command, CommandKind, Definition};
+use crate::command::{Command, CommandKind};
 use crate::value::{Flag, Value, behind, cycles, define, flag_of, is_file, processor, value_of};
 use c65_base::{Cpu, Options, Text};
+use c65_lex::Define;
 use std::alloc::{AllocError, Global};
 use std::marker::Model;
 
@@ -14,7 +15,7 @@ use std::marker::Model;
 pub struct Told {
     kind: CommandKind,
     options: Options,
-    defines: Vec<Definition>,
+    defines: Vec<Define>,
     folders: Vec<Text>,
     files: Vec<Text>,
     out: Option<Text>,
@@ -115,7 +116,7 @@ impl Told {
         }
     }
 
-    fn take_define(&mut self, define: Option<Definition>) -> Result<bool, AllocError>
+    fn take_define(&mut self, define: Option<Define>) -> Result<bool, AllocError>
         ensures { GoesOn result self.new (Words.with_define self.old define) }
     {
         let Some(define) = define else {

@@ -6,9 +6,8 @@ ghost use Rattle.c65_driver_words.specs.Values;
 ghost use Rattle.c65_driver_words.specs.Words.{flag_in, value_in, processor_in};
 ghost use Rattle.c65_driver_words.specs.Borrowed.{lent};
 
-use crate::command::Definition;
 use c65_base::{Cpu, Text};
-use c65_lex::{PpKind, class_of};
+use c65_lex::{Define, PpKind, class_of};
 use std::alloc::{AllocError, Global};
 
 /// An option without a value.
@@ -156,7 +155,7 @@ fn has_line_feed(text: &[u8]) -> bool
     text.contains(&b'\n')
 }
 
-fn define_by(alloc: Global, name: &[u8], body: &[u8]) -> Result<Option<Definition>, AllocError>
+fn define_by(alloc: Global, name: &[u8], body: &[u8]) -> Result<Option<Define>, AllocError>
     ensures { IfOk result (λ define. define ≡ Values.define_by name.now body.now) }
 {
     if !is_name(name) || has_line_feed(body) {
@@ -164,7 +163,7 @@ fn define_by(alloc: Global, name: &[u8], body: &[u8]) -> Result<Option<Definitio
     }
     let name = Text::copy_of(alloc, name)?;
     let body = Text::copy_of(alloc, body)?;
-    Ok(Some(Definition { name, body }))
+    Ok(Some(Define { name, body }))
 }
 
 fn equals_sign(text: &[u8]) -> Option<usize>
@@ -174,7 +173,7 @@ fn equals_sign(text: &[u8]) -> Option<usize>
 }
 
 /// The definition that `-D` gives: `NAME=TEXT`, or `NAME` for `NAME=1`.
-pub fn define(alloc: Global, text: &[u8]) -> Result<Option<Definition>, AllocError>
+pub fn define(alloc: Global, text: &[u8]) -> Result<Option<Define>, AllocError>
     ensures { IfOk result (λ define. define ≡ Values.define_in text.now) }
 {
     match equals_sign(text) {

@@ -5,6 +5,7 @@ use Rattle.c65_base.specs.declared.names.Name.{Name}
 use Rattle.c65_base.specs.declared.refusal.Pos.{Pos}
 use Rattle.c65_base.specs.declared.refusal.Size.TheVariants as sizes
 use Rattle.c65_base.specs.Answers.{Fault, large}
+use Rattle.c65_base.specs.Limits.{limit_of}
 use Rattle.c65_base.specs.Names.{name_of}
 use Rattle.c65_lex.specs.declared.token.PpKind.{PpKind}
 use Rattle.c65_lex.specs.declared.token.PpToken.{PpToken}
@@ -66,7 +67,7 @@ spelling names name = unwrap_or (slice_get names name.0) []
 -- a spelling's name: its own, or the next one, unless there are 65,535
 abbrev pub learn_as : List (List ℕ) → List ℕ → Option ℕ → Outcome Name
 learn_as names s (Some n) = done names (record { 0 = n })
-learn_as names s None = if length names == 65535 then faulty (large sizes.Names 65536) else done (names ++ s ∷ []) (record { 0 = length names })
+learn_as names s None = if length names == limit_of sizes.Names then faulty (large sizes.Names (limit_of sizes.Names + 1)) else done (names ++ s ∷ []) (record { 0 = length names })
 
 abbrev pub learn : List (List ℕ) → List ℕ → Outcome Name
 learn names s = learn_as names s (name_of names s)

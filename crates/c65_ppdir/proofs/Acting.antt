@@ -8,26 +8,26 @@ use Rattle.c65_base.specs.declared.refusal.Pos.{Pos}
 use Rattle.c65_base.specs.Answers.{Fault, Gives}
 use Rattle.c65_lex.specs.declared.token.PpToken.{PpToken}
 use Rattle.c65_macro.specs.Table.{Table}
-use Rattle.c65_ppdir.specs.declared.condition.Group.{Group}
-use Rattle.c65_ppdir.specs.declared.directive.Deed.{Deed}
-use Rattle.c65_ppdir.specs.declared.directive.Part.{Part}
-use Rattle.c65_ppdir.specs.declared.line.Line.{Line}
-use Rattle.c65_ppdir.specs.declared.numbering.Given.{Given}
+use Rattle.c65_ppline.specs.declared.condition.Group.{Group}
+use Rattle.c65_ppline.specs.declared.directive.Deed.{Deed}
+use Rattle.c65_ppline.specs.declared.directive.Part.{Part}
+use Rattle.c65_ppline.specs.declared.line.Line.{Line}
+use Rattle.c65_ppline.specs.declared.numbering.Given.{Given}
 use Rattle.c65_ppdir.specs.declared.opened.Opened.{Opened}
 use Rattle.c65_ppdir.specs.declared.opened.Read.{Read}
 use Rattle.c65_ppdir.specs.declared.opened.Unseen.{Unseen}
 use Rattle.c65_ppdir.specs.declared.reader.Turn.{Turn}
 use Rattle.c65_ppdir.specs.declared.reader.Turn.TheVariants as turns
-use Rattle.c65_ppdir.specs.Conditions.{first_open, taken}
-use Rattle.c65_ppdir.specs.DirectiveLines.{head_of, deed_of, part_of}
+use Rattle.c65_ppline.specs.Conditions.{first_open, taken}
+use Rattle.c65_ppline.specs.DirectiveLines.{head_of, deed_of, part_of}
 use Rattle.c65_ppdir.specs.Gathering.{gathering, IsLineRead}
-use Rattle.c65_ppdir.specs.Lines.{ending}
+use Rattle.c65_ppline.specs.Lines.{ending}
 use Rattle.c65_ppdir.specs.LineActions.{as_line, renamed, renumbered, then_line, whole, chosen, active, active_by, inactive, inactive_by, directive, obeyed, passed, passed_by, closed, closed_by, behind_list}
-use Rattle.c65_ppdir.specs.NumberLines.{offset}
+use Rattle.c65_ppline.specs.NumberLines.{offset}
 use Rattle.c65_ppdir.specs.Opening.{IsReadNext, IsSeenNext}
 use Rattle.c65_ppdir.specs.Progress.{Progress, flushed, with_groups, read_next, seen_next, line_read, known_then}
-use Rattle.c65_ppdir.specs.Relations.{Answers, of, just, ◌then◌, Comes}
-use Rattle.c65_ppdir.proofs.Relations.{goes_on, is_free}
+use Rattle.c65_ppline.specs.Relations.{Answers, of, just, ◌then◌, Comes}
+use Rattle.c65_ppline.proofs.Relations.{goes_on, is_free}
 
 abbrev pub behind : Progress → Opened → List (List ℕ) → Progress
 behind p left known = record p { file = left; names = known }

@@ -14,16 +14,16 @@ use Rattle.c65_macro.specs.Answered
 use Rattle.c65_macro.specs.Items.{learn}
 use Rattle.c65_macro.specs.Definitions.{define}
 use Rattle.c65_macro.specs.Table.{Table, is_line_end}
-use Rattle.c65_ppdir.specs.declared.calls.Lexed.{Lexed}
-use Rattle.c65_ppdir.specs.declared.calls.Lexed.TheVariants as lexeds
-use Rattle.c65_ppdir.specs.declared.command.Define.{Define}
-use Rattle.c65_ppdir.specs.declared.line.Cut.{Cut}
+use Rattle.c65_ppline.specs.declared.calls.Lexed.{Lexed}
+use Rattle.c65_ppline.specs.declared.calls.Lexed.TheVariants as lexeds
+use Rattle.c65_lex.specs.declared.define.Define.{Define}
+use Rattle.c65_ppline.specs.declared.line.Cut.{Cut}
 use Rattle.c65_ppdir.specs.CommandLine.{place, body_by, body_from, body_of, is_name_class, plain_macro, with_body, defined, numbered, next_number, by_number, all_defined}
-use Rattle.c65_ppdir.specs.Lexing.{IsLexed, lexing}
-use Rattle.c65_ppdir.specs.Lines.{cut_refusal}
-use Rattle.c65_ppdir.specs.Relations.{Answers, just, by_test, IsFree, Comes}
+use Rattle.c65_ppline.specs.Lexing.{IsLexed, lexing}
+use Rattle.c65_ppline.specs.Lines.{cut_refusal}
+use Rattle.c65_ppline.specs.Relations.{Answers, just, by_test, IsFree, Comes}
 use Rattle.c65_ppdir.specs.Standing.{learned}
-use Rattle.c65_ppdir.proofs.Relations.{goes}
+use Rattle.c65_ppline.proofs.Relations.{goes}
 
 pub class_test : (r : Bool) (kind : Option PpKind) (bytes name : List ℕ) → r ≡ is_name_class kind → kind ≡ class_of false bytes → bytes ≡ name → r ≡ true → is_name_class (class_of false name) ≡ true
 class_test r kind bytes name a b e t = sym (a ∙ ap (λ (k : Option PpKind). is_name_class k) (b ∙ ap (λ (xs : List ℕ). class_of false xs) e)) ∙ t

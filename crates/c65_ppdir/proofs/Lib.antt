@@ -1,12 +1,3 @@
-pub mod Definitions
-pub mod Counts
-pub mod Finding
-pub mod Resolved
-pub mod Answers
-pub mod Parameters
-pub mod Missing
-pub mod Lexing
-pub mod Relations
 pub mod Reading
 pub mod Acting
 pub mod Standing

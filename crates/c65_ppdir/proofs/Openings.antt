@@ -8,8 +8,8 @@ use Rattle.c65_lex.specs.Unread.{unread}
 use Rattle.c65_macro.specs.Table.{Table}
 use Rattle.c65_ppdir.specs.declared.opened.Ending.TheVariants.{Whole}
 use Rattle.c65_ppdir.specs.declared.opened.Opened.{Opened}
-use Rattle.c65_ppdir.specs.Finding.{IsRead}
-use Rattle.c65_ppdir.specs.NumberLines.{own_count}
+use Rattle.c65_ppfile.specs.Finding.{IsRead}
+use Rattle.c65_ppline.specs.NumberLines.{own_count}
 use Rattle.c65_ppdir.specs.Opening.{ending_of, opened}
 use Rattle.c65_ppdir.specs.Standing.{Standing, inner, opening, first_standing}
 

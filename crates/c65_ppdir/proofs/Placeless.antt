@@ -11,13 +11,13 @@ use Rattle.c65_base.specs.Answers.{at, large}
 use Rattle.c65_macro.specs.Items.{Outcome, faulty, done, learn_as}
 use Rattle.c65_base.specs.Names.{name_of}
 use Rattle.c65_macro.specs.Table.{Table}
-use Rattle.c65_ppdir.specs.declared.headers.BuiltIn.{BuiltIn}
-use Rattle.c65_ppdir.specs.declared.include.Header.{Header}
-use Rattle.c65_ppdir.specs.Finding.{first_held, header_of, path_at}
-use Rattle.c65_ppdir.specs.Headers.{path_of, text_behind}
+use Rattle.c65_ppfile.specs.declared.headers.BuiltIn.{BuiltIn}
+use Rattle.c65_ppfile.specs.declared.include.Header.{Header}
+use Rattle.c65_ppfile.specs.Finding.{first_held, header_of, path_at}
+use Rattle.c65_ppfile.specs.Headers.{path_of, text_behind}
 use Rattle.c65_ppdir.specs.Opening.{opened}
-use Rattle.c65_ppdir.specs.Relations.{Answers, just, by_test, ◌then◌, IsFree}
-use Rattle.c65_ppdir.specs.Search.{paths_of}
+use Rattle.c65_ppline.specs.Relations.{Answers, just, by_test, ◌then◌, IsFree}
+use Rattle.c65_ppfile.specs.Search.{paths_of}
 use Rattle.c65_ppdir.specs.Standing.{Standing, inner, learned, literal_of, opening, has_room, first_standing}
 use Rattle.c65_ppdir.specs.Units.{Surroundings, Reached, Source, file, built_in, or_built_in, source_of, with_path, opening_file, with_built_in, entering, with_room, including, located, main_of, begun, first_reached}
 use Rattle.c65_ppdir.proofs.Openings.{first}

@@ -9,24 +9,24 @@ use Rattle.c65_lex.specs.declared.token.PpToken.{PpToken}
 use Rattle.c65_lex.specs.Unread.{Unread, unread}
 use Rattle.c65_macro.specs.Table.{Table}
 use Rattle.c65_ppdir.specs.declared.opened.Opened.{Opened}
-use Rattle.c65_ppdir.specs.declared.condition.Group.{Group}
-use Rattle.c65_ppdir.specs.declared.numbering.Count.{Count}
+use Rattle.c65_ppline.specs.declared.condition.Group.{Group}
+use Rattle.c65_ppline.specs.declared.numbering.Count.{Count}
 use Rattle.c65_ppdir.specs.declared.opened.Ending.{Ending}
-use Rattle.c65_ppdir.specs.declared.line.Cut.{Cut}
+use Rattle.c65_ppline.specs.declared.line.Cut.{Cut}
 use Rattle.c65_ppdir.specs.declared.opened.Read.{Read}
 use Rattle.c65_ppdir.specs.declared.opened.Read.TheVariants as reads
 use Rattle.c65_ppdir.specs.declared.opened.Unseen.{Unseen}
 use Rattle.c65_ppdir.specs.declared.reader.Reader.{Reader}
-use Rattle.c65_ppdir.specs.Expansions.{ReadsExpansion}
+use Rattle.c65_ppline.specs.Expansions.{ReadsExpansion}
 use Rattle.c65_ppdir.specs.Gathering.{Gathering, Gathers, Gathered, IsLineRead, allows_header, used}
-use Rattle.c65_ppdir.specs.Lines.{cut_refusal}
+use Rattle.c65_ppline.specs.Lines.{cut_refusal}
 use Rattle.c65_ppdir.specs.LineActions.{text_by, text_from, text_line}
-use Rattle.c65_ppdir.specs.NumberLines.{own_count}
+use Rattle.c65_ppline.specs.NumberLines.{own_count}
 use Rattle.c65_ppdir.specs.Opening.{ending_where, ending_in, opened, IsReadNext, IsSeenNext, has_more, skipping, skipped, past}
 use Rattle.c65_ppdir.specs.Progress.{Progress, progress, added, flushed, earlier, Settles, settles, read_next}
-use Rattle.c65_ppdir.specs.Relations.{Comes, IsFree}
+use Rattle.c65_ppline.specs.Relations.{Comes, IsFree}
 use Rattle.c65_ppdir.specs.UnitTokens.{with_tokens}
-use Rattle.c65_ppdir.proofs.Relations.{goes, is_free}
+use Rattle.c65_ppline.proofs.Relations.{goes, is_free}
 
 -- one step more of a line that is skipped
 pub skips_on : (start file left : Opened) (u : Unseen) (more : Result Bool Refusal) → ((n : ℕ) (z : Result Opened Refusal) → skipping n file z → skipped start z) → IsSeenNext file u left → more ≡ has_more u

@@ -4,9 +4,9 @@ use Rattle.std.proofs.lemmas.List.{reverse-append}
 use Rattle.c65_base.specs.declared.names.Name.{Name}
 use Rattle.c65_lex.specs.declared.token.PpToken.{PpToken}
 use Rattle.c65_macro.specs.Table.{Table}
-use Rattle.c65_ppdir.specs.declared.headers.BuiltIn.{BuiltIn}
+use Rattle.c65_ppfile.specs.declared.headers.BuiltIn.{BuiltIn}
 use Rattle.c65_ppdir.specs.declared.opened.Opened.{Opened}
-use Rattle.c65_ppdir.specs.NumberLines.{offset}
+use Rattle.c65_ppline.specs.NumberLines.{offset}
 use Rattle.c65_ppdir.specs.Opening.{opened}
 use Rattle.c65_ppdir.specs.Standing.{Standing}
 

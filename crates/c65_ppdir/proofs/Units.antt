@@ -7,19 +7,19 @@ use Rattle.c65_base.specs.declared.refusal.Size.TheVariants as sizes
 use Rattle.c65_io.specs.Contents.{Contents}
 use Rattle.c65_lex.specs.declared.token.PpToken.{PpToken}
 use Rattle.c65_lex.specs.declared.token.PpUnit.{PpUnit}
-use Rattle.c65_ppdir.specs.declared.files.Found.{Found}
-use Rattle.c65_ppdir.specs.declared.files.Found.TheVariants as kinds
-use Rattle.c65_ppdir.specs.declared.headers.BuiltIn.{BuiltIn}
-use Rattle.c65_ppdir.specs.declared.include.Header.{Header}
+use Rattle.c65_ppfile.specs.declared.files.Found.{Found}
+use Rattle.c65_ppfile.specs.declared.files.Found.TheVariants as kinds
+use Rattle.c65_ppfile.specs.declared.headers.BuiltIn.{BuiltIn}
+use Rattle.c65_ppfile.specs.declared.include.Header.{Header}
 use Rattle.c65_ppdir.specs.declared.unit.Event.TheVariants as events
-use Rattle.c65_ppdir.specs.Finding.{or_next, first_held, header_of, path_at, IsFile, IsRead, IsReadAt, IsSought, Seeks}
-use Rattle.c65_ppdir.specs.Relations.{just, IsFree, Comes}
-use Rattle.c65_ppdir.specs.Search.{paths_of}
+use Rattle.c65_ppfile.specs.Finding.{or_next, first_held, header_of, path_at, IsFile, IsRead, IsReadAt, IsSought, Seeks}
+use Rattle.c65_ppline.specs.Relations.{just, IsFree, Comes}
+use Rattle.c65_ppfile.specs.Search.{paths_of}
 use Rattle.c65_ppdir.specs.Standing.{Standing, opening, has_room, advanced}
 use Rattle.c65_ppdir.specs.Units.{Held, Surroundings, Reached, Source, file, built_in, or_built_in, source_of, IsFor, opening_file, entering, with_room, around, including, located, by_path, rest_by, rest_from, rest, unit_of, with_path, Steps}
 use Rattle.c65_ppdir.proofs.Openings.{opening_read}
 use Rattle.c65_ppdir.proofs.Placeless.{is_located, including_placeless}
-use Rattle.c65_ppdir.proofs.Relations.{goes, goes_on, onward, tested, tested_not, then_onward}
+use Rattle.c65_ppline.proofs.Relations.{goes, goes_on, onward, tested, tested_not, then_onward}
 
 false_true : false ≡ true → ⊥
 false_true h = cc

@@ -7,15 +7,15 @@ use Rattle.c65_lex.specs.declared.token.PpUnit.{PpUnit}
 use Rattle.c65_macro.specs.Answered
 use Rattle.c65_macro.specs.Predefined.{initial}
 use Rattle.c65_macro.specs.Table.{Table}
-use Rattle.c65_ppdir.specs.declared.command.Define.{Define}
+use Rattle.c65_lex.specs.declared.define.Define.{Define}
 use Rattle.c65_ppdir.specs.CommandLine.{all_defined}
-use Rattle.c65_ppdir.specs.Finding.{IsRead, IsReadAt}
-use Rattle.c65_ppdir.specs.Relations.{Answers, just, ◌then◌, IsFree}
+use Rattle.c65_ppfile.specs.Finding.{IsRead, IsReadAt}
+use Rattle.c65_ppline.specs.Relations.{Answers, just, ◌then◌, IsFree}
 use Rattle.c65_ppdir.specs.Standing.{Standing, first_standing}
 use Rattle.c65_ppdir.specs.Units.{Held, Surroundings, Reached, around, located, rest, macros, main_of, first_reached, begun, unit_read, preprocessed, with_path, ComesAt}
 use Rattle.c65_ppdir.proofs.Openings.{first_read}
 use Rattle.c65_ppdir.proofs.Placeless.{is_located, free_located, begun_placeless}
-use Rattle.c65_ppdir.proofs.Relations.{goes, then_onward}
+use Rattle.c65_ppline.proofs.Relations.{goes, then_onward}
 use Rattle.c65_ppdir.proofs.Units.{read_there}
 
 main_read : (path : List ℕ) (o : Option (List ℕ)) (text : List ℕ) → IsRead o text → (bytes : List ℕ) × (Ok bytes ≡ main_of path o) × IsRead (Some bytes) text

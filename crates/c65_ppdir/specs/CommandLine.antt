@@ -12,12 +12,12 @@ use Rattle.c65_lex.specs.Unread.{Unread, unread}
 use Rattle.c65_macro.specs.declared.item.Macro.{Macro}
 use Rattle.c65_macro.specs.Definitions.{define}
 use Rattle.c65_macro.specs.Table.{Table, is_name_kind, is_line_end}
-use Rattle.c65_ppdir.specs.declared.calls.Lexed.{Lexed}
-use Rattle.c65_ppdir.specs.declared.calls.Lexed.TheVariants as lexeds
-use Rattle.c65_ppdir.specs.declared.command.Define.{Define}
-use Rattle.c65_ppdir.specs.Lexing.{Lexing, IsLexed}
-use Rattle.c65_ppdir.specs.Lines.{cut_refusal}
-use Rattle.c65_ppdir.specs.Relations.{Answers, of, just, by_test, ◌then◌}
+use Rattle.c65_ppline.specs.declared.calls.Lexed.{Lexed}
+use Rattle.c65_ppline.specs.declared.calls.Lexed.TheVariants as lexeds
+use Rattle.c65_lex.specs.declared.define.Define.{Define}
+use Rattle.c65_ppline.specs.Lexing.{Lexing, IsLexed}
+use Rattle.c65_ppline.specs.Lines.{cut_refusal}
+use Rattle.c65_ppline.specs.Relations.{Answers, of, just, by_test, ◌then◌}
 use Rattle.c65_ppdir.specs.Standing.{learned}
 
 abbrev pub place : Pos

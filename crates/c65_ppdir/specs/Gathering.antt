@@ -2,14 +2,14 @@
 use Rattle.std.specs.Prelude.{◌≡◌, ℕ, zero, suc, ◌-◌, List, [], ◌∷◌, ◌++◌, length, take, Bool, false, Option, Some, None, codes}
 use Rattle.c65_base.specs.declared.refusal.Pos.{Pos}
 use Rattle.c65_lex.specs.declared.token.PpToken.{PpToken}
-use Rattle.c65_ppdir.specs.declared.line.Cut.{Cut}
-use Rattle.c65_ppdir.specs.declared.line.Cut.TheVariants as cuts
-use Rattle.c65_ppdir.specs.declared.line.Line.{Line}
+use Rattle.c65_ppline.specs.declared.line.Cut.{Cut}
+use Rattle.c65_ppline.specs.declared.line.Cut.TheVariants as cuts
+use Rattle.c65_ppline.specs.declared.line.Line.{Line}
 use Rattle.c65_ppdir.specs.declared.opened.Opened.{Opened}
 use Rattle.c65_ppdir.specs.declared.opened.Read.{Read}
 use Rattle.c65_ppdir.specs.declared.opened.Read.TheVariants as reads
 use Rattle.c65_ppdir.specs.Opening.{IsReadNext}
-use Rattle.c65_ppdir.specs.Tokens.{is_word}
+use Rattle.c65_ppline.specs.Tokens.{is_word}
 
 -- a header name may stand behind `include` alone (C90 6.1.7)
 abbrev pub allows_header : List (List ℕ) → List PpToken → Bool

@@ -5,15 +5,15 @@ use Rattle.c65_base.specs.declared.refusal.Pos.{Pos}
 use Rattle.c65_base.specs.declared.refusal.Refusal.{Refusal}
 use Rattle.c65_base.specs.declared.refusal.Refusal.TheVariants as refusals
 use Rattle.c65_lex.specs.declared.token.PpToken.{PpToken}
-use Rattle.c65_ppdir.specs.declared.condition.Group.{Group}
-use Rattle.c65_ppdir.specs.declared.directive.Deed.{Deed}
-use Rattle.c65_ppdir.specs.declared.directive.Deed.TheVariants as deeds
-use Rattle.c65_ppdir.specs.declared.directive.Part.{Part}
-use Rattle.c65_ppdir.specs.declared.directive.Part.TheVariants as parts
-use Rattle.c65_ppdir.specs.declared.directive.Test.{Test}
-use Rattle.c65_ppdir.specs.declared.directive.Test.TheVariants as tests
-use Rattle.c65_ppdir.specs.declared.line.Line.{Line}
-use Rattle.c65_ppdir.specs.declared.numbering.Given.{Given}
+use Rattle.c65_ppline.specs.declared.condition.Group.{Group}
+use Rattle.c65_ppline.specs.declared.directive.Deed.{Deed}
+use Rattle.c65_ppline.specs.declared.directive.Deed.TheVariants as deeds
+use Rattle.c65_ppline.specs.declared.directive.Part.{Part}
+use Rattle.c65_ppline.specs.declared.directive.Part.TheVariants as parts
+use Rattle.c65_ppline.specs.declared.directive.Test.{Test}
+use Rattle.c65_ppline.specs.declared.directive.Test.TheVariants as tests
+use Rattle.c65_ppline.specs.declared.line.Line.{Line}
+use Rattle.c65_ppline.specs.declared.numbering.Given.{Given}
 use Rattle.c65_ppdir.specs.declared.opened.Opened.{Opened}
 use Rattle.c65_ppdir.specs.declared.opened.Read.{Read}
 use Rattle.c65_ppdir.specs.declared.opened.Read.TheVariants as reads
@@ -21,17 +21,19 @@ use Rattle.c65_ppdir.specs.declared.opened.Unseen.{Unseen}
 use Rattle.c65_ppdir.specs.declared.opened.Unseen.TheVariants as unseens
 use Rattle.c65_ppdir.specs.declared.reader.Turn.{Turn}
 use Rattle.c65_ppdir.specs.declared.reader.Turn.TheVariants as turns
-use Rattle.c65_ppdir.specs.ConditionLines.{IsCondition}
-use Rattle.c65_ppdir.specs.Conditions.{begin, alternate, otherwise, end, taken, first_open, is_active}
-use Rattle.c65_ppdir.specs.DirectiveLines.{head_of, deed_of, part_of}
-use Rattle.c65_ppdir.specs.Expansions.{IsIncluded, IsNumbered}
+use Rattle.c65_ppexpr.specs.ConditionLines.{IsCondition}
+use Rattle.c65_ppline.specs.Conditions.{begin, alternate, otherwise, end, taken, first_open, is_active}
+use Rattle.c65_ppline.specs.DirectiveLines.{head_of, deed_of, part_of}
+use Rattle.c65_ppfile.specs.IncludeLines.{IsIncluded}
+use Rattle.c65_ppline.specs.NumberLines.{IsNumbered}
 use Rattle.c65_ppdir.specs.Gathering.{used}
-use Rattle.c65_ppdir.specs.Lines.{ending, cut_refusal, defined, undefined, is_defined, pragma}
-use Rattle.c65_ppdir.specs.NumberLines.{offset}
+use Rattle.c65_ppline.specs.Lines.{ending, cut_refusal}
+use Rattle.c65_ppline.specs.MacroLines.{defined, undefined, is_defined, pragma}
+use Rattle.c65_ppline.specs.NumberLines.{offset}
 use Rattle.c65_ppdir.specs.Opening.{skipped}
 use Rattle.c65_ppdir.specs.Progress.{Progress, with_groups, added, flushed, settles, read_next, seen_next, line_read, known_then}
-use Rattle.c65_ppdir.specs.Relations.{Answers, of, just, by_test, ◌then◌}
-use Rattle.c65_ppdir.specs.Tokens.{is_mark}
+use Rattle.c65_ppline.specs.Relations.{Answers, of, just, by_test, ◌then◌}
+use Rattle.c65_ppline.specs.Tokens.{is_mark}
 
 -- a line that is no directive, from behind its first token on: by so many steps
 abbrev pub text_by : (Progress → Answers Progress) → Read → Progress → Answers Progress

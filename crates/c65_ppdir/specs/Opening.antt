@@ -1,14 +1,16 @@
 -- A file that is open: what is kept of its bytes, and what is read next of it.
 use Rattle.std.specs.Prelude.{◌≡◌, ℕ, zero, suc, List, [], ◌∷◌, length, take, reverse, Bool, true, false, not, ◌==◌, ◌&&◌, ◌||◌, nat_lt, if◌then◌else◌, Result, Ok, Err, codes}
+use Rattle.c65_base.specs.Limits.{limit_of}
 use Rattle.c65_base.specs.declared.names.Name.{Name}
+use Rattle.c65_base.specs.declared.refusal.Size.TheVariants.{File}
 use Rattle.c65_base.specs.declared.refusal.Refusal.{Refusal}
 use Rattle.c65_lex.specs.Cells.{Cell, begins_with}
 use Rattle.c65_lex.specs.Unread.{unread}
 use Rattle.c65_macro.specs.Table.{is_line_end}
-use Rattle.c65_ppdir.specs.declared.calls.Lexed.{Lexed}
-use Rattle.c65_ppdir.specs.declared.calls.Lexed.TheVariants as lexeds
-use Rattle.c65_ppdir.specs.declared.line.Cut.{Cut}
-use Rattle.c65_ppdir.specs.declared.line.Cut.TheVariants as cuts
+use Rattle.c65_ppline.specs.declared.calls.Lexed.{Lexed}
+use Rattle.c65_ppline.specs.declared.calls.Lexed.TheVariants as lexeds
+use Rattle.c65_ppline.specs.declared.line.Cut.{Cut}
+use Rattle.c65_ppline.specs.declared.line.Cut.TheVariants as cuts
 use Rattle.c65_ppdir.specs.declared.opened.Ending.{Ending}
 use Rattle.c65_ppdir.specs.declared.opened.Ending.TheVariants.{Whole, BetweenLines, InLine}
 use Rattle.c65_ppdir.specs.declared.opened.Opened.{Opened}
@@ -16,11 +18,11 @@ use Rattle.c65_ppdir.specs.declared.opened.Read.{Read}
 use Rattle.c65_ppdir.specs.declared.opened.Read.TheVariants as reads
 use Rattle.c65_ppdir.specs.declared.opened.Unseen.{Unseen}
 use Rattle.c65_ppdir.specs.declared.opened.Unseen.TheVariants as unseens
-use Rattle.c65_ppdir.specs.Lexing.{Lexing, IsLexed}
-use Rattle.c65_ppdir.specs.Lines.{cut_refusal}
-use Rattle.c65_ppdir.specs.NumberLines.{own_count}
-use Rattle.c65_ppdir.specs.Relations.{Answers}
-use Rattle.c65_ppdir.specs.Tokens.{is_mark}
+use Rattle.c65_ppline.specs.Lexing.{Lexing, IsLexed}
+use Rattle.c65_ppline.specs.Lines.{cut_refusal}
+use Rattle.c65_ppline.specs.NumberLines.{own_count}
+use Rattle.c65_ppline.specs.Relations.{Answers}
+use Rattle.c65_ppline.specs.Tokens.{is_mark}
 
 -- A line feed joins two lines where a backslash stands before it, or that and a carriage return. The last byte is the first.
 abbrev pub joins : List ℕ → Bool
@@ -37,13 +39,13 @@ ending_of bytes = ending_behind (reverse bytes)
 
 -- as many bytes as a file may have are kept
 abbrev pub ending_where : ℕ → List ℕ → Ending
-ending_where size kept = if nat_lt 1048576 size then ending_of kept else Whole
+ending_where size kept = if nat_lt (limit_of File) size then ending_of kept else Whole
 
 abbrev pub ending_in : List ℕ → Ending
-ending_in bytes = ending_where (length bytes) (take 1048576 bytes)
+ending_in bytes = ending_where (length bytes) (take (limit_of File) bytes)
 
 abbrev pub opened : ℕ → Name → List ℕ → Opened
-opened number literal bytes = record { lexer = unread number (take 1048576 bytes); ending = ending_in bytes; number = number; literal = literal; count = own_count; groups = [] }
+opened number literal bytes = record { lexer = unread number (take (limit_of File) bytes); ending = ending_in bytes; number = number; literal = literal; count = own_count; groups = [] }
 
 abbrev pub is_whole : Ending → Bool
 is_whole Whole = true

@@ -8,15 +8,15 @@ use Rattle.c65_base.specs.declared.refusal.Refusal.TheVariants as refusals
 use Rattle.c65_lex.specs.declared.token.PpToken.{PpToken}
 use Rattle.c65_macro.specs.Expand.{Expands, Refuses}
 use Rattle.c65_macro.specs.Table.{Table}
-use Rattle.c65_ppdir.specs.declared.condition.Group.{Group}
-use Rattle.c65_ppdir.specs.declared.line.Line.{Line}
+use Rattle.c65_ppline.specs.declared.condition.Group.{Group}
+use Rattle.c65_ppline.specs.declared.line.Line.{Line}
 use Rattle.c65_ppdir.specs.declared.opened.Opened.{Opened}
 use Rattle.c65_ppdir.specs.declared.opened.Read.{Read}
 use Rattle.c65_ppdir.specs.declared.opened.Unseen.{Unseen}
 use Rattle.c65_ppdir.specs.declared.reader.Reader.{Reader}
 use Rattle.c65_ppdir.specs.Gathering.{Gathering, IsLineRead}
 use Rattle.c65_ppdir.specs.Opening.{IsReadNext, IsSeenNext}
-use Rattle.c65_ppdir.specs.Relations.{Answers, of, just, ◌then◌}
+use Rattle.c65_ppline.specs.Relations.{Answers, of, just, ◌then◌}
 use Rattle.c65_ppdir.specs.UnitTokens.{with_tokens}
 
 -- the macros, the tokens of the unit, those of the list that is being read, the file, and the spellings

@@ -1,10 +1,12 @@
 -- What reading has come to in a unit, and what the next line of it does.
-use Rattle.std.specs.Prelude.{ℕ, pos, List, [], ◌∷◌, ◌++◌, length, Bool, ◌==◌, ◌||◌, nat_lt, reverse, if◌then◌else◌, Ok}
+use Rattle.std.specs.Prelude.{ℕ, ◌+◌, pos, List, [], ◌∷◌, ◌++◌, length, Bool, ◌==◌, ◌||◌, nat_lt, reverse, if◌then◌else◌, Ok}
+use Rattle.c65_base.specs.Limits.{limit_of}
+use Rattle.c65_base.specs.declared.refusal.Size.TheVariants.{Includes}
 use Rattle.c65_base.specs.declared.names.Name.{Name}
 use Rattle.c65_macro.specs.Answered
 use Rattle.c65_macro.specs.Items.{learn}
 use Rattle.c65_macro.specs.Table.{Table}
-use Rattle.c65_ppdir.specs.declared.headers.BuiltIn.{BuiltIn}
+use Rattle.c65_ppfile.specs.declared.headers.BuiltIn.{BuiltIn}
 use Rattle.c65_ppdir.specs.declared.opened.Opened.{Opened}
 use Rattle.c65_ppdir.specs.declared.reader.Reader.{Reader}
 use Rattle.c65_ppdir.specs.declared.reader.Turn.{Turn}
@@ -12,10 +14,10 @@ use Rattle.c65_ppdir.specs.declared.reader.Turn.TheVariants as turns
 use Rattle.c65_ppdir.specs.declared.unit.Event.{Event}
 use Rattle.c65_ppdir.specs.declared.unit.Event.TheVariants as events
 use Rattle.c65_ppdir.specs.LineActions.{turn}
-use Rattle.c65_ppdir.specs.NumberLines.{offset}
+use Rattle.c65_ppline.specs.NumberLines.{offset}
 use Rattle.c65_ppdir.specs.Opening.{opened}
 use Rattle.c65_ppdir.specs.Progress.{Progress, progress, known_then}
-use Rattle.c65_ppdir.specs.Relations.{Answers, just, ◌then◌}
+use Rattle.c65_ppline.specs.Relations.{Answers, just, ◌then◌}
 
 -- the innermost file; the files that include it, each before the one that includes it; and the headers that were built in
 pub record Standing : Type 0 where
@@ -55,7 +57,7 @@ opening number path bytes s = learned s.here.names (literal_of path) then λ x. 
 
 -- at most 64 files are open
 abbrev pub has_room : Standing → Bool
-has_room s = nat_lt (length s.outer) 63
+has_room s = nat_lt (length s.outer + 1) (limit_of Includes)
 
 -- the innermost file is at its end
 abbrev pub left : Progress → List Opened → List BuiltIn → Event × Standing

@@ -1,6 +1,7 @@
 -- Preprocessing: from files that tell what they hold, options, definitions, folders and a path to the tokens of a unit, or to
 -- its first refusal (C90 5.1.1.2, phases 1 to 4).
-use Rattle.std.specs.Prelude.{◌≡◌, ◌⊎◌, ℕ, zero, suc, List, [], ◌∷◌, ◌++◌, length, Bool, true, false, Option, Some, None, Result, Ok, Err}
+use Rattle.std.specs.Prelude.{◌≡◌, ◌⊎◌, ℕ, ◌+◌, zero, suc, List, [], ◌∷◌, ◌++◌, length, Bool, true, false, Option, Some, None, Result, Ok, Err}
+use Rattle.c65_base.specs.Limits.{limit_of}
 use Rattle.c65_base.specs.declared.options.Options.{Options}
 use Rattle.c65_base.specs.declared.refusal.Refusal.{Refusal}
 use Rattle.c65_base.specs.declared.refusal.Refusal.TheVariants as refusals
@@ -10,19 +11,19 @@ use Rattle.c65_lex.specs.declared.token.PpUnit.{PpUnit}
 use Rattle.c65_macro.specs.Answered
 use Rattle.c65_macro.specs.Predefined.{initial}
 use Rattle.c65_macro.specs.Table.{Table}
-use Rattle.c65_ppdir.specs.declared.command.Define.{Define}
-use Rattle.c65_ppdir.specs.declared.files.Found.{Found}
-use Rattle.c65_ppdir.specs.declared.files.Found.TheVariants as kinds
-use Rattle.c65_ppdir.specs.declared.headers.BuiltIn.{BuiltIn}
-use Rattle.c65_ppdir.specs.declared.include.Header.{Header}
+use Rattle.c65_lex.specs.declared.define.Define.{Define}
+use Rattle.c65_ppfile.specs.declared.files.Found.{Found}
+use Rattle.c65_ppfile.specs.declared.files.Found.TheVariants as kinds
+use Rattle.c65_ppfile.specs.declared.headers.BuiltIn.{BuiltIn}
+use Rattle.c65_ppfile.specs.declared.include.Header.{Header}
 use Rattle.c65_ppdir.specs.declared.unit.Event.{Event}
 use Rattle.c65_ppdir.specs.declared.unit.Event.TheVariants as events
 use Rattle.c65_ppdir.specs.CommandLine.{all_defined}
-use Rattle.c65_ppdir.specs.Finding.{first_held, header_of, path_at}
-use Rattle.c65_ppdir.specs.Headers.{path_of, text_behind, with_header}
+use Rattle.c65_ppfile.specs.Finding.{first_held, header_of, path_at}
+use Rattle.c65_ppfile.specs.Headers.{path_of, text_behind, with_header}
 use Rattle.c65_ppdir.specs.Progress.{known_then}
-use Rattle.c65_ppdir.specs.Relations.{Answers, just, by_test, ◌then◌, IsFree}
-use Rattle.c65_ppdir.specs.Search.{paths_of}
+use Rattle.c65_ppline.specs.Relations.{Answers, just, by_test, ◌then◌, IsFree}
+use Rattle.c65_ppfile.specs.Search.{paths_of}
 use Rattle.c65_ppdir.specs.Standing.{Standing, standing, first_standing, opening, has_room, advanced}
 use Rattle.c65_ppdir.specs.declared.unit.Unit.{Unit as UnitParts}
 
@@ -82,7 +83,7 @@ entering signed (built_in h) r = opening_file (path_of h) (text_behind signed r.
 
 -- at most 64 files are open, which is looked at once the file is found
 abbrev pub with_room : Bool → Source → Reached → Answers Reached
-with_room signed source r = by_test (has_room r.standing) (entering signed source r) (just (Err (refusals.TooLarge sizes.Includes 65)))
+with_room signed source r = by_test (has_room r.standing) (entering signed source r) (just (Err (refusals.TooLarge sizes.Includes (limit_of sizes.Includes + 1))))
 
 -- a header is included in the file of a number
 abbrev pub including : Surroundings → Header → ℕ → Reached → Answers Reached

@@ -3,22 +3,15 @@ ghost use Rattle.std.specs.Prelude.{◌≡◌, ◌⊎◌, IfErr};
 ghost use Rattle.c65_base.specs.Answers.{Gives};
 ghost use Rattle.c65_macro.specs.Definitions;
 ghost use Rattle.c65_macro.specs.Table;
-ghost use Rattle.c65_ppdir.specs.Causes.{Stops, StopsCommand};
+ghost use Rattle.c65_ppline.specs.Causes.{Stops, StopsCommand};
 ghost use Rattle.c65_ppdir.specs.CommandLine;
-ghost use Rattle.c65_ppdir.specs.Relations.{Comes, IsFree};
+ghost use Rattle.c65_ppline.specs.Relations.{Comes, IsFree};
 
-use crate::calls::{Lexed, at, define, intern, next_token};
 use c65_base::{Code, Name, Names, Pos, Refusal, Text};
-use c65_lex::{Lexer, PpKind, PpToken, PpTokens, class_of};
+use c65_lex::{Define, Lexer, PpKind, PpToken, PpTokens, class_of};
 use c65_macro::{Macro, Macros};
+use c65_ppline::{Lexed, define, intern, next_token};
 use std::alloc::Global;
-
-/// A definition on the command line: a macro's name and its replacement list, as text without a line feed.
-#[derive(Debug, Drop)]
-pub struct Define {
-    pub name: Text,
-    pub body: Text,
-}
 
 /// Where faults of definitions stand, by themselves.
 fn place() -> Pos
@@ -46,7 +39,10 @@ fn body_of(alloc: Global, names: &mut Names, text: Vec<u8>) -> Result<Vec<PpToke
     let mut has_ended = false;
     for _ in 0..u64::MAX {
         match next_token(&mut lexer, names, false) {
-            Ok(Lexed::Token(_)) if has_ended => return Err(at(Code::DirectiveForm, place())),
+            Ok(Lexed::Token(_)) if has_ended => return Err(Refusal::fault(
+                Code::DirectiveForm,
+                place(),
+            )),
             Ok(Lexed::Token(token)) if is_line_end(&token) => has_ended = true,
             Ok(Lexed::Token(token)) => tokens.push(token)?,
             Ok(Lexed::End) => return Ok(tokens),
@@ -91,7 +87,7 @@ fn define_one(
     ensures exact { Comes (λ _. (macros.new, names.new)) (CommandLine.defined item.now macros.old names.old) result }
 {
     if !is_name_class(class_of(item.name.as_slice())) {
-        return Err(at(Code::DirectiveForm, place()));
+        return Err(Refusal::fault(Code::DirectiveForm, place()));
     }
     let name = match intern(names, item.name.as_slice()) {
         Ok(name) => name,

@@ -1,22 +1,20 @@
 // The entry of the crate: a file and all that it includes.
 ghost use Rattle.std.specs.Prelude.{◌≡◌, [], Some, IfErr, IfOk};
-ghost use Rattle.c65_ppdir.specs.Causes.{Stops, StopsReading, StopsUnit, StopsCommand};
-ghost use Rattle.c65_ppdir.specs.Counts.{FaultCause, MissCause, Relocates, Serves, outside};
-ghost use Rattle.c65_ppdir.specs.Finding;
-ghost use Rattle.c65_ppdir.specs.Finding.{IsThere, Enters, Includes, Misses, MissesInUnit};
-ghost use Rattle.c65_ppdir.specs.Relations.{Comes};
+ghost use Rattle.c65_ppline.specs.Causes.{Stops, StopsReading, StopsUnit, StopsCommand};
+ghost use Rattle.c65_ppfile.specs.Counts.{FaultCause, MissCause, Relocates, Serves, outside};
+ghost use Rattle.c65_ppfile.specs.Finding;
+ghost use Rattle.c65_ppfile.specs.Finding.{IsThere, Enters, Includes, Misses, MissesInUnit};
+ghost use Rattle.c65_ppline.specs.Relations.{Comes};
 ghost use Rattle.c65_ppdir.specs.Units;
 ghost use Rattle.c65_ppdir.specs.Units.{Held, Source, IsFor, ComesAt, Steps, around, reached, unit_of};
 
-use crate::command::{Define, define_all};
-use crate::files::{Found, complete, read_main, seek};
-use crate::headers::BuiltIn;
-use crate::include::Header;
+use crate::command::define_all;
 use crate::unit::{Event, Unit};
 use c65_base::{Names, Options, Refusal, Size, Text};
 use c65_io::Files;
-use c65_lex::{Paths, PpTokens, PpUnit};
+use c65_lex::{Define, Paths, PpTokens, PpUnit};
 use c65_macro::Macros;
+use c65_ppfile::{BuiltIn, Found, Header, complete, read_main, seek};
 use std::alloc::Global;
 
 /// Opens a file with this path and text, and adds its path to the unit's list.
@@ -77,7 +75,7 @@ fn enter<F: Files>(
     if !unit.has_room() {
         return Err(Refusal::TooLarge {
             limit: Size::Includes,
-            value: 65,
+            value: Size::Includes.number() + 1,
         });
     }
     match found {

@@ -3,23 +3,17 @@ ghost use Rattle.std.specs.Prelude.{◌≡◌, reverse, Some, None, IfErr, IfOk}
 ghost use Rattle.c65_base.specs.declared.refusal.Refusal.TheVariants.{OutOfMemory};
 ghost use Rattle.c65_lex.specs.Cells;
 ghost use Rattle.c65_macro.specs.Table;
-ghost use Rattle.c65_ppdir.specs.Causes.{Stops};
+ghost use Rattle.c65_ppline.specs.Causes.{Stops};
 ghost use Rattle.c65_ppdir.specs.Gathering;
 ghost use Rattle.c65_ppdir.specs.Gathering.{IsLineRead, gathering};
 ghost use Rattle.c65_ppdir.specs.Opening;
 ghost use Rattle.c65_ppdir.specs.Opening.{IsReadNext, IsSeenNext, skipped};
-ghost use Rattle.c65_ppdir.specs.Relations.{Comes};
+ghost use Rattle.c65_ppline.specs.Relations.{Comes};
 
-use crate::calls::{Lexed, is_mark, is_word, next_token};
-use crate::condition::Groups;
-use crate::line::{Cut, Line};
-use crate::numbering::Count;
-use c65_base::{Name, Names, Pos, Refusal};
+use c65_base::{Name, Names, Pos, Refusal, Size};
 use c65_lex::{Lexer, PpKind, PpToken, PpTokens};
+use c65_ppline::{Count, Cut, Groups, Lexed, Line, is_mark, is_word, next_token};
 use std::alloc::Global;
-
-/// How many bytes a file may have.
-pub const MOST: usize = 1_048_576;
 
 /// A file that is open.
 #[derive(Drop)]
@@ -35,7 +29,7 @@ pub struct Opened {
 }
 
 /// Where the bytes that are kept of a file end.
-#[derive(Clone, Copy, Debug, PartialEq, Eq)]
+#[derive(Clone, Copy)]
 enum Ending {
     /// At the file's end.
     Whole,
@@ -101,7 +95,7 @@ fn ending_of(text: &[u8]) -> Ending
 fn ending_where(size: usize, kept: &[u8]) -> Ending
     ensures { result ≡ Opening.ending_where size kept.now }
 {
-    if size > MOST {
+    if size as u64 > Size::File.number() {
         ending_of(kept)
     } else {
         Ending::Whole
@@ -228,7 +222,7 @@ impl Opened {
     {
         let mut text = text;
         let size = text.len();
-        text.truncate(MOST);
+        text.truncate(Size::File.number() as usize);
         let ending = ending_where(size, &text);
         let lexer = Lexer::new(alloc, text, number);
         let count = Count::own();

@@ -2,29 +2,27 @@
 ghost use Rattle.std.specs.Prelude.{◌≡◌, ◌⊎◌, [], if◌then◌else◌, unwrap_or, IfErr, OnOk};
 ghost use Rattle.c65_base.specs.Answers.{Gives};
 ghost use Rattle.c65_base.specs.declared.refusal.Refusal.TheVariants.{OutOfMemory};
-ghost use Rattle.c65_ppdir.specs.Causes.{Stops};
-ghost use Rattle.c65_ppdir.specs.Conditions;
-ghost use Rattle.c65_ppdir.specs.DirectiveLines.{IsDeed};
+ghost use Rattle.c65_ppline.specs.Causes.{Stops};
+ghost use Rattle.c65_ppline.specs.Conditions;
+ghost use Rattle.c65_ppline.specs.DirectiveLines.{IsDeed};
 ghost use Rattle.c65_ppdir.specs.LineActions;
-ghost use Rattle.c65_ppdir.specs.Lines;
-ghost use Rattle.c65_ppdir.specs.NumberLines;
+ghost use Rattle.c65_ppline.specs.MacroLines;
+ghost use Rattle.c65_ppline.specs.NumberLines;
 ghost use Rattle.c65_ppdir.specs.Progress;
 ghost use Rattle.c65_ppdir.specs.Progress.{progress, flushed, Settles};
-ghost use Rattle.c65_ppdir.specs.Relations.{Comes, IsFree};
+ghost use Rattle.c65_ppline.specs.Relations.{Comes, IsFree};
 
-use crate::calls::{at, is_mark, is_word};
-use crate::condition::Groups;
-use crate::controlling::condition_line;
-use crate::define::{define_line, read_only_name, undef_line};
-use crate::directive::{Deed, Part, Test, deed_of, head_of, part_of};
-use crate::include::{Header, include_line};
-use crate::line::Line;
-use crate::numbering::{Count, number_line};
 use crate::opened::{Opened, Read, Unseen};
 use crate::tokens::Output;
 use c65_base::{Code, Name, Names, Pos, Refusal};
 use c65_lex::{PpToken, PpTokens};
 use c65_macro::Macros;
+use c65_ppexpr::condition_line;
+use c65_ppfile::{Header, include_line};
+use c65_ppline::{
+    Count, Deed, Groups, Line, Part, Test, deed_of, define_line, head_of, is_mark, is_word,
+    number_line, part_of, read_only_name, undef_line,
+};
 use std::alloc::Global;
 
 /// What a line asks for.
@@ -216,7 +214,7 @@ impl Reader {
         ensures exact { Comes (λ t. (t, progress self.new file.now names.new)) (LineActions.closed (progress self.old file.now names.old)) result }
     {
         match file.groups.first_open() {
-            Some(pos) => Err(self.settle(names, at(Code::OpenConditional, pos))),
+            Some(pos) => Err(self.settle(names, Refusal::fault(Code::OpenConditional, pos))),
             None => match self.flush(names) {
                 Ok(()) => Ok(Turn::FileEnd),
                 Err(refusal) => Err(refusal),
@@ -260,7 +258,7 @@ impl Reader {
                 Ok(header) => Ok(Turn::Include(header)),
                 Err(refusal) => Err(refusal),
             },
-            Deed::Refused(code, pos) => Err(at(code, pos)),
+            Deed::Refused(code, pos) => Err(Refusal::fault(code, pos)),
             Deed::Nothing => as_line(line.check()),
             Deed::Define => as_line(define_line(self.alloc, &mut self.macros, names, line)),
             Deed::Undef => as_line(undef_line(&mut self.macros, names, line)),
@@ -428,7 +426,7 @@ fn as_line(answer: Result<(), Refusal>) -> Result<Turn, Refusal>
 /// Whether the only name of a line is that of a macro.
 fn is_defined_in(macros: &Macros, line: Line) -> Result<bool, Refusal>
     ensures stops { IfErr result Stops }
-    ensures exact { Gives (λ b. b) result (Lines.is_defined macros.now line) }
+    ensures exact { Gives (λ b. b) result (MacroLines.is_defined macros.now line) }
 {
     match line.answer(read_only_name(line.rest())) {
         Ok(name) => Ok(macros.get(name).is_some()),
@@ -439,11 +437,11 @@ fn is_defined_in(macros: &Macros, line: Line) -> Result<bool, Refusal>
 /// Does a #pragma line: it is passed over, but for one that is refused.
 fn pragma_line(names: &Names, line: Line) -> Result<(), Refusal>
     ensures stops { IfErr result Stops }
-    ensures exact { Gives (λ _. tt) result (Lines.pragma names.now line) }
+    ensures exact { Gives (λ _. tt) result (MacroLines.pragma names.now line) }
 {
     if let Some((first, _)) = line.rest().split_first() {
         if is_word(names, first, b"charmap") {
-            return Err(at(Code::Charmap, line.hash));
+            return Err(Refusal::fault(Code::Charmap, line.hash));
         }
     }
     line.check()

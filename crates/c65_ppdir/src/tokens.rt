@@ -2,23 +2,19 @@
 ghost use Rattle.std.specs.Prelude.{◌≡◌, ◌++◌, ◌∷◌, [], IfErr, OnOk};
 ghost use Rattle.c65_base.specs.Answers.{Gives};
 ghost use Rattle.c65_base.specs.declared.refusal.Refusal.TheVariants.{OutOfMemory};
-ghost use Rattle.c65_ppdir.specs.Causes.{Stops};
-ghost use Rattle.c65_ppdir.specs.Expansions.{ReadsExpansion};
+ghost use Rattle.c65_ppline.specs.Causes.{Stops};
+ghost use Rattle.c65_ppline.specs.Expansions.{ReadsExpansion};
 ghost use Rattle.c65_ppdir.specs.Gathering.{used};
 ghost use Rattle.c65_ppdir.specs.UnitTokens;
 ghost use Rattle.c65_ppdir.specs.UnitTokens.{with_token, with_tokens};
 
-use crate::calls::expand;
-use crate::line::Cut;
 use c65_base::{Names, Refusal, Size};
 use c65_lex::{PpKind, PpToken, PpTokens};
 use c65_macro::Macros;
+use c65_ppline::{Cut, expand};
 use std::alloc::Global;
 use std::marker::Model;
 use std::mem;
-
-/// How many tokens a unit may have, line ends not counted.
-const MOST: u64 = 500_000;
 
 /// The tokens that a list gave, and how many of them are no line ends.
 #[derive(Drop)]
@@ -66,10 +62,10 @@ impl Gathered {
             self.tokens.push(token)?;
             return Ok(());
         }
-        if self.count >= MOST {
+        if self.count >= Size::Tokens.number() {
             return Err(Refusal::TooLarge {
                 limit: Size::Tokens,
-                value: 500_001,
+                value: Size::Tokens.number() + 1,
             });
         }
         self.tokens.push(token)?;

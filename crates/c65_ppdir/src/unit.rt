@@ -1,19 +1,18 @@
 // The lines of a unit: the files that are open, and what the reading of the innermost one asks for.
 ghost use Rattle.std.specs.Prelude.{◌≡◌, ℕ, List, ◌++◌, reverse, IfErr, IfOk, OnOk};
-ghost use Rattle.c65_ppdir.specs.Causes.{Stops};
-ghost use Rattle.c65_ppdir.specs.Headers;
+ghost use Rattle.c65_ppline.specs.Causes.{Stops};
+ghost use Rattle.c65_ppfile.specs.Headers;
 ghost use Rattle.c65_ppdir.specs.Progress.{progress};
-ghost use Rattle.c65_ppdir.specs.Relations.{Comes};
+ghost use Rattle.c65_ppline.specs.Relations.{Comes};
 ghost use Rattle.c65_ppdir.specs.Standing;
 
-use crate::calls::intern;
-use crate::headers::{BuiltIn, Included};
-use crate::include::Header;
 use crate::opened::Opened;
 use crate::reader::{Reader, Turn};
 use c65_base::{Name, Names, Options, Refusal, Size};
 use c65_lex::PpTokens;
 use c65_macro::Macros;
+use c65_ppfile::{BuiltIn, Header, Included};
+use c65_ppline::intern;
 use std::alloc::{AllocError, Global};
 use std::mem;
 
@@ -111,7 +110,7 @@ impl Unit {
     pub fn has_room(&self) -> bool
         ensures { (names : List (List ℕ)) → result ≡ Standing.has_room (Standing.standing self.now.reader self.now.file self.now.outer.items self.now.included.headers.items names) }
     {
-        self.outer.len() < 63
+        (self.outer.len() as u64) + 1 < Size::Includes.number()
     }
 
     /// The text of a built-in header at its inclusion.

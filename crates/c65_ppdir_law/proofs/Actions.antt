@@ -8,32 +8,34 @@ use Rattle.c65_base.specs.Answers.{at}
 use Rattle.c65_lex.specs.declared.token.PpToken.{PpToken}
 use Rattle.c65_macro.specs.Items.{Outcome, unfinished, faulty, done}
 use Rattle.c65_macro.specs.Table.{Table}
-use Rattle.c65_ppdir.specs.declared.condition.Group.{Group}
-use Rattle.c65_ppdir.specs.declared.directive.Deed.{Deed}
-use Rattle.c65_ppdir.specs.declared.directive.Deed.TheVariants as deeds
-use Rattle.c65_ppdir.specs.declared.directive.Part.{Part}
-use Rattle.c65_ppdir.specs.declared.directive.Part.TheVariants as parts
-use Rattle.c65_ppdir.specs.declared.directive.Test.{Test}
-use Rattle.c65_ppdir.specs.declared.directive.Test.TheVariants as tests
-use Rattle.c65_ppdir.specs.declared.line.Cut.{Cut}
-use Rattle.c65_ppdir.specs.declared.line.Line.{Line}
+use Rattle.c65_ppline.specs.declared.condition.Group.{Group}
+use Rattle.c65_ppline.specs.declared.directive.Deed.{Deed}
+use Rattle.c65_ppline.specs.declared.directive.Deed.TheVariants as deeds
+use Rattle.c65_ppline.specs.declared.directive.Part.{Part}
+use Rattle.c65_ppline.specs.declared.directive.Part.TheVariants as parts
+use Rattle.c65_ppline.specs.declared.directive.Test.{Test}
+use Rattle.c65_ppline.specs.declared.directive.Test.TheVariants as tests
+use Rattle.c65_ppline.specs.declared.line.Cut.{Cut}
+use Rattle.c65_ppline.specs.declared.line.Line.{Line}
 use Rattle.c65_ppdir.specs.declared.opened.Read.{Read}
 use Rattle.c65_ppdir.specs.declared.opened.Read.TheVariants as reads
 use Rattle.c65_ppdir.specs.declared.opened.Unseen.{Unseen}
 use Rattle.c65_ppdir.specs.declared.opened.Unseen.TheVariants as unseens
 use Rattle.c65_ppdir.specs.declared.reader.Turn.TheVariants as turns
-use Rattle.c65_ppdir.specs.ConditionLines.{IsHeld, IsConditionOf, IsCondition, holds}
-use Rattle.c65_ppdir.specs.Conditions.{begin, alternate, otherwise, end, first_open, is_active}
-use Rattle.c65_ppdir.specs.DirectiveLines.{head_of, deed_of, part_of}
-use Rattle.c65_ppdir.specs.Expansions.{Form, named, expanded, cut_off, form, IsHeader, IsIncluded, IsNumber, IsNumbered}
-use Rattle.c65_ppdir.specs.IncludeLines.{replaced, plain_line}
+use Rattle.c65_ppexpr.specs.ConditionLines.{IsHeld, IsConditionOf, IsCondition, holds}
+use Rattle.c65_ppline.specs.Conditions.{begin, alternate, otherwise, end, first_open, is_active}
+use Rattle.c65_ppline.specs.DirectiveLines.{head_of, deed_of, part_of}
+use Rattle.c65_ppfile.specs.IncludeLines.{Form, named, expanded, cut_off, form, IsHeader, IsIncluded}
+use Rattle.c65_ppline.specs.NumberLines.{IsNumber, IsNumbered}
+use Rattle.c65_ppfile.specs.IncludeLines.{replaced, plain_line}
 use Rattle.c65_ppdir.specs.LineActions.{whole, chosen, decided, begun_if, begun, parted, renumbered, renumbering, then_line, obeyed, directive, closed_by, behind_list, text, text_line, active_by, active, passed_by, passed, skipped_rest, inactive_by, inactive, turn}
-use Rattle.c65_ppdir.specs.Lines.{ending, cut_fault, cut_refusal, short_fault, on_line, rest, defined, undefined, is_defined, pragma}
-use Rattle.c65_ppdir.specs.NumberLines.{numbers}
+use Rattle.c65_ppline.specs.Lines.{ending, cut_fault, cut_refusal, short_fault, on_line, rest}
+use Rattle.c65_ppline.specs.MacroLines.{defined, undefined, is_defined, pragma}
+use Rattle.c65_ppline.specs.NumberLines.{numbers}
 use Rattle.c65_ppdir.specs.Progress.{Progress, with_groups, added, flushed, read_next, seen_next, line_read, known_then}
-use Rattle.c65_ppdir.specs.Relations.{Answers, of}
-use Rattle.c65_ppdir.specs.Resolved.{anything, resolved}
-use Rattle.c65_ppdir.specs.Tokens.{is_mark}
+use Rattle.c65_ppline.specs.Relations.{Answers, of}
+use Rattle.c65_ppexpr.specs.Resolved.{anything, resolved}
+use Rattle.c65_ppline.specs.Tokens.{is_mark}
 use Rattle.c65_ppdir_law.specs.Once.{IsFinal, HasOne}
 use Rattle.c65_ppdir_law.proofs.Alike.{one_then, one_behind, one_just, one_of, one_test, one_given, one_failing, one_read, no_value, is_error}
 use Rattle.c65_ppdir_law.proofs.Lists.{one_flushed, one_settles, one_text_line, one_skipped_rest}

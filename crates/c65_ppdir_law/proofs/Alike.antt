@@ -9,9 +9,9 @@ use Rattle.c65_macro.specs.Expand.{Expands, Faults, Refuses}
 use Rattle.c65_macro.specs.Items.{Outcome, faulty, done}
 use Rattle.c65_macro.specs.Table.{Table}
 use Rattle.c65_macro.proofs.Fuel.{one_expansion, no_fault, one_fault}
-use Rattle.c65_ppdir.specs.Expansions.{ReadsExpansion}
+use Rattle.c65_ppline.specs.Expansions.{ReadsExpansion}
 use Rattle.c65_ppdir.specs.Progress.{known_then, expansions}
-use Rattle.c65_ppdir.specs.Relations.{Answers, of, just, by_test, ◌then◌, IsFree}
+use Rattle.c65_ppline.specs.Relations.{Answers, of, just, by_test, ◌then◌, IsFree}
 use Rattle.c65_ppdir_law.specs.Once.{IsFinal, AreAlike, HasOne}
 
 pub is_value : {A E : Type 0} (a b : A) → (let x : Result A E = Ok a in x ≡ Ok b) → a ≡ b

@@ -11,12 +11,12 @@ use Rattle.c65_macro.specs.Definitions.{define}
 use Rattle.c65_macro.specs.Items.{learn}
 use Rattle.c65_macro.specs.Predefined.{initial}
 use Rattle.c65_macro.specs.Table.{Table, is_line_end}
-use Rattle.c65_ppdir.specs.declared.calls.Lexed.{Lexed}
-use Rattle.c65_ppdir.specs.declared.calls.Lexed.TheVariants as lexeds
-use Rattle.c65_ppdir.specs.declared.command.Define.{Define}
+use Rattle.c65_ppline.specs.declared.calls.Lexed.{Lexed}
+use Rattle.c65_ppline.specs.declared.calls.Lexed.TheVariants as lexeds
+use Rattle.c65_lex.specs.declared.define.Define.{Define}
 use Rattle.c65_ppdir.specs.CommandLine.{place, body_by, body_from, body_of, is_name_class, plain_macro, with_body, defined, numbered, by_number, next_number, all_defined}
-use Rattle.c65_ppdir.specs.Lexing.{Lexing}
-use Rattle.c65_ppdir.specs.Relations.{Answers, of, just, by_test}
+use Rattle.c65_ppline.specs.Lexing.{Lexing}
+use Rattle.c65_ppline.specs.Relations.{Answers, of, just, by_test}
 use Rattle.c65_ppdir.specs.Standing.{learned}
 use Rattle.c65_ppdir.specs.Units.{macros}
 use Rattle.c65_ppdir_law.specs.Once.{IsFinal, AreAlike, HasOne}

@@ -6,13 +6,13 @@ use Rattle.c65_lex.specs.Next.{Next}
 use Rattle.c65_lex.specs.Unread.{Unread}
 use Rattle.c65_lex.specs.declared.token.PpToken.{PpToken}
 use Rattle.c65_lex.proofs.Unique.{one_next}
-use Rattle.c65_ppdir.specs.declared.line.Line.{Line}
+use Rattle.c65_ppline.specs.declared.line.Line.{Line}
 use Rattle.c65_ppdir.specs.declared.opened.Opened.{Opened}
 use Rattle.c65_ppdir.specs.declared.opened.Read.{Read}
 use Rattle.c65_ppdir.specs.declared.opened.Read.TheVariants as reads
 use Rattle.c65_ppdir.specs.declared.opened.Unseen.{Unseen}
 use Rattle.c65_ppdir.specs.Gathering.{Gathering, Gathers, Gathered, allows_header}
-use Rattle.c65_ppdir.specs.Lexing.{Lexing, lexed, IsLexed}
+use Rattle.c65_ppline.specs.Lexing.{Lexing, lexed, IsLexed}
 use Rattle.c65_ppdir.specs.Opening.{IsReadNext, IsSeenNext, read_of, is_cut_off, unseen, has_more, past, skipping, skipped}
 use Rattle.c65_ppdir.specs.Progress.{Progress, read_next, seen_next, line_read}
 use Rattle.c65_ppdir_law.specs.Once.{HasOne}

@@ -7,9 +7,9 @@ use Rattle.c65_ppdir.specs.declared.opened.Read.{Read}
 use Rattle.c65_ppdir.specs.declared.opened.Read.TheVariants as reads
 use Rattle.c65_ppdir.specs.Gathering.{used}
 use Rattle.c65_ppdir.specs.LineActions.{text_by, text_from, text_line, skipped_rest}
-use Rattle.c65_ppdir.specs.Lines.{cut_refusal}
+use Rattle.c65_ppline.specs.Lines.{cut_refusal}
 use Rattle.c65_ppdir.specs.Progress.{Progress, added, expansions, ended, flushed, earlier, settled, settles, read_next}
-use Rattle.c65_ppdir.specs.Relations.{Answers, of}
+use Rattle.c65_ppline.specs.Relations.{Answers, of}
 use Rattle.c65_ppdir.specs.UnitTokens.{with_tokens}
 use Rattle.c65_ppdir_law.specs.Once.{IsFinal, IsDecided, AreAlike, HasOne}
 use Rattle.c65_ppdir_law.proofs.Alike.{alike_then, one_then, one_behind, one_just, one_of, one_expanded, alike_none, none_alike, is_value, is_error, no_value}

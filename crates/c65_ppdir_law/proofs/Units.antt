@@ -5,15 +5,15 @@ use Rattle.c65_base.specs.declared.refusal.Refusal.TheVariants as refusals
 use Rattle.c65_base.specs.declared.refusal.Size.TheVariants as sizes
 use Rattle.c65_lex.specs.declared.token.PpUnit.{PpUnit}
 use Rattle.c65_macro.specs.Table.{Table}
-use Rattle.c65_ppdir.specs.declared.include.Header.{Header}
+use Rattle.c65_ppfile.specs.declared.include.Header.{Header}
 use Rattle.c65_ppdir.specs.declared.unit.Event.{Event}
 use Rattle.c65_ppdir.specs.declared.unit.Event.TheVariants as events
-use Rattle.c65_ppdir.specs.Finding.{path_at}
-use Rattle.c65_ppdir.specs.Headers.{path_of, text_behind}
+use Rattle.c65_ppfile.specs.Finding.{path_at}
+use Rattle.c65_ppfile.specs.Headers.{path_of, text_behind}
 use Rattle.c65_ppdir.specs.LineActions.{turn}
 use Rattle.c65_ppdir.specs.Opening.{opened}
-use Rattle.c65_ppdir.specs.Relations.{Answers, just, Comes}
-use Rattle.c65_ppdir.specs.Search.{paths_of}
+use Rattle.c65_ppline.specs.Relations.{Answers, just, Comes}
+use Rattle.c65_ppfile.specs.Search.{paths_of}
 use Rattle.c65_ppdir.specs.Standing.{Standing, learned, literal_of, inner, opening, has_room, event_of, advanced, first_standing}
 use Rattle.c65_ppdir.specs.Units.{Surroundings, Reached, Source, file, built_in, source_of, with_path, opening_file, with_built_in, entering, with_room, including, located, by_path, unit_of, rest_by, rest_from, rest, macros, main_of, first_reached, begun, unit_read, around}
 use Rattle.c65_ppdir_law.specs.Once.{IsFinal, IsDecided, AreAlike, HasOne, UnitsAreOne, IsAnswered}

@@ -4,8 +4,8 @@ use Rattle.c65_base.specs.declared.options.Options.{Options}
 use Rattle.c65_base.specs.declared.refusal.Refusal.{Refusal}
 use Rattle.c65_base.specs.declared.refusal.Refusal.TheVariants as refusals
 use Rattle.c65_lex.specs.declared.token.PpUnit.{PpUnit}
-use Rattle.c65_ppdir.specs.declared.command.Define.{Define}
-use Rattle.c65_ppdir.specs.Relations.{Answers, IsFree}
+use Rattle.c65_lex.specs.declared.define.Define.{Define}
+use Rattle.c65_ppline.specs.Relations.{Answers, IsFree}
 use Rattle.c65_ppdir.specs.Units.{Held, preprocessed}
 
 -- want of memory and a read that failed are decided by nothing that is told

@@ -1,7 +1,7 @@
 use Rattle.std.proofs.Common.{◌⊎◌, ℕ, [], List, map, Ok, Err, subst}
 use Rattle.c65_csem.specs.Trees.{UnitTy}
 use Rattle.c65_csem.specs.Views.{unit_of}
-use Rattle.c65_ppdir.specs.Relations.{IsFree}
+use Rattle.c65_ppline.specs.Relations.{IsFree}
 use Rattle.c65_driver_chain.specs.Front.{command, files_typed}
 use Rattle.c65_driver_chain.proofs.Answering.{not_typed, not_linked, is_compiled}
 use Rattle.c65_driver_chain.proofs.chain.compile.Goals as goal

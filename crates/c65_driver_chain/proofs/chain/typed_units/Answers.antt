@@ -2,7 +2,7 @@ use Rattle.std.proofs.Common.{◌≡◌, ℕ, Ok, ◌+◌, ◌∷◌, ◌++◌, 
 use Rattle.c65_csem.specs.Trees.{UnitTy}
 use Rattle.c65_csem.specs.Views.{unit_of}
 use Rattle.c65_init_join.proofs.TurnLaws.{drop_next}
-use Rattle.c65_ppdir.proofs.Relations.{onward_err}
+use Rattle.c65_ppline.proofs.Relations.{onward_err}
 use Rattle.c65_driver_chain.specs.Compiled.{outside}
 use Rattle.c65_driver_chain.specs.Front.{command, files_typed}
 use Rattle.c65_driver_chain.proofs.ChainLaws.{compiles_then, compiles_ok}

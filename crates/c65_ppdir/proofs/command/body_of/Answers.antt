@@ -3,9 +3,9 @@ use Rattle.c65_base.specs.declared.code.Code.TheVariants as faults
 use Rattle.c65_base.specs.declared.refusal.Pos.{Pos}
 use Rattle.c65_base.specs.declared.refusal.Refusal.{Refusal}
 use Rattle.c65_base.specs.declared.refusal.Refusal.TheVariants as refusals
-use Rattle.c65_ppdir.specs.declared.calls.Lexed.TheVariants as lexeds
+use Rattle.c65_ppline.specs.declared.calls.Lexed.TheVariants as lexeds
 use Rattle.c65_ppdir.specs.CommandLine.{place, body_from, body_of}
-use Rattle.c65_ppdir.specs.Lexing.{IsLexed, lexing}
+use Rattle.c65_ppline.specs.Lexing.{IsLexed, lexing}
 use Rattle.c65_ppdir.proofs.Commands.{read_ok, body_on, body_past, body_ends, body_goes, body_done, body_cut}
 use Rattle.c65_ppdir.proofs.command.body_of.Goals as goal
 use Rattle.c65_ppdir.proofs.command.body_of.Goals.{then-is_line_end, in-Ok-Token-3+in_ok-push-in-Ok-Token-3}
@@ -16,7 +16,7 @@ returns-in-Ok-Token-clause-exact c =
     let known = c.next_token.new.names in
     let what = lexeds.Token c.in-Ok-Token.field-0-0 in
     let read = read_ok c.next_token.result c.in-Ok-Token.field-0 what (λ l. IsLexed false c.loop.lexer c.loop.names (lexing l left known)) c.in-Ok-Token.is c.in-Ok-Token.field-0-is c.next_token.ensures.exact in
-    let same : c.at.result ≡ refusals.At faults.DirectiveForm place = c.at.ensures ∙ ap (λ (p : Pos). refusals.At faults.DirectiveForm p) c.place.ensures in
+    let same : c.fault.result ≡ refusals.At faults.DirectiveForm place = c.fault.ensures ∙ ap (λ (p : Pos). refusals.At faults.DirectiveForm p) c.place.ensures in
     inr (subst (λ (e : Refusal). body_of c.args.names.now c.args.text.items (Err e)) (sym same) (body_on c.args.text.items c.loop.lexer left c.args.names.now c.loop.names known c.loop.has_ended c.loop.tokens.items what c.loop.invariant read
     0 (Err (refusals.At faults.DirectiveForm place)) (body_past (λ past ts. body_from 0 past ts left known) c.loop.has_ended c.loop.tokens.items c.in-Ok-Token.field-0-0 known c.if-has_ended.true)))
 

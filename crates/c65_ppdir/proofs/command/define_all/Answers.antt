@@ -1,7 +1,7 @@
 use Rattle.std.proofs.Common.{◌≡◌, ◌∷◌, Err, rules}
 use Rattle.c65_ppdir.specs.CommandLine.{all_defined}
 use Rattle.c65_ppdir.proofs.Commands.{all_stops, all_goes}
-use Rattle.c65_ppdir.proofs.Relations.{onward_err}
+use Rattle.c65_ppline.proofs.Relations.{onward_err}
 use Rattle.c65_ppdir.proofs.command.define_all.Goals as goal
 
 pub returns-in-Err-clause-exact : goal.returns-in-Err-clause-exact

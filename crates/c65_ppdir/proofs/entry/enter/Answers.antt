@@ -1,7 +1,7 @@
-use Rattle.std.proofs.Common.{◌≡◌, refl, sym, subst, rules}
+use Rattle.std.proofs.Common.{◌≡◌, ℕ, ◌+◌, refl, ap, sym, subst, rules}
 use Rattle.c65_base.specs.declared.refusal.Refusal.TheVariants as refusals
 use Rattle.c65_base.specs.declared.refusal.Size.TheVariants as sizes
-use Rattle.c65_ppdir.specs.declared.files.Found.{Found}
+use Rattle.c65_ppfile.specs.declared.files.Found.{Found}
 use Rattle.c65_ppdir.specs.Units.{reached}
 use Rattle.c65_ppdir.proofs.Units.{HasPath, HasHeader, read_there, enters_file, enters_header, enters_none}
 use Rattle.c65_ppdir.proofs.entry.enter.Goals as goal
@@ -10,7 +10,8 @@ pub returns-then-not-has_room-clause-exact : goal.returns-then-not-has_room-clau
 returns-then-not-has_room-clause-exact g c =
     λ held source told is_for.
     let r = reached c.args.unit.now c.args.names.now c.args.paths.now.items in
-    enters_none (λ (x : Unit {0}). r) c.args.unit.now.included.is_char_signed c.has_room.result source r (refusals.TooLarge sizes.Includes 65) (c.has_room.ensures c.args.names.now) c.if-not-has_room.true refl
+    enters_none (λ (x : Unit {0}). r) c.args.unit.now.included.is_char_signed c.has_room.result source r (refusals.TooLarge sizes.Includes (c.number.result + 1)) (c.has_room.ensures c.args.names.now) c.if-not-has_room.true
+    (ap (λ (n : ℕ). refusals.TooLarge sizes.Includes (n + 1)) c.number.ensures)
 
 pub returns-in-Ok-clause-exact : goal.returns-in-Ok-clause-exact
 returns-in-Ok-clause-exact g c =

@@ -1,8 +1,8 @@
 use Rattle.std.proofs.Common.{◌≡◌, ◌∙◌, ℕ, List, Ok, subst, rules}
-use Rattle.c65_ppdir.specs.Finding.{path_at}
-use Rattle.c65_ppdir.specs.Search.{paths_of}
+use Rattle.c65_ppfile.specs.Finding.{path_at}
+use Rattle.c65_ppfile.specs.Search.{paths_of}
 use Rattle.c65_ppdir.specs.Units.{reached, source_of}
-use Rattle.c65_ppdir.proofs.Finding.{found_is_there}
+use Rattle.c65_ppfile.proofs.Finding.{found_is_there}
 use Rattle.c65_ppdir.proofs.Units.{seeks_source, includes_found}
 use Rattle.c65_ppdir.proofs.entry.include.Goals as goal
 

@@ -1,8 +1,8 @@
 use Rattle.c65_lex.specs.declared.token.PpUnit.{PpUnit}
 use Rattle.c65_lex.specs.declared.token.PpToken.{PpToken}
 use Rattle.std.proofs.Common.{List}
-use Rattle.c65_ppdir.proofs.Counts.{relocated}
-use Rattle.c65_ppdir.proofs.Missing.{relocated_misses}
+use Rattle.c65_ppfile.proofs.Counts.{relocated}
+use Rattle.c65_ppfile.proofs.Missing.{relocated_misses}
 use Rattle.c65_ppdir.specs.Units.{unit_of}
 use Rattle.c65_ppdir.proofs.Wholes.{whole_stops}
 use Rattle.c65_ppdir.proofs.entry.preprocess.Goals as goal

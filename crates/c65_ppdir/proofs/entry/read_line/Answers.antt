@@ -1,8 +1,8 @@
 use Rattle.std.proofs.Common.{Bool, refl}
-use Rattle.c65_ppdir.specs.Finding.{path_at}
+use Rattle.c65_ppfile.specs.Finding.{path_at}
 use Rattle.c65_ppdir.specs.Standing.{standing}
 use Rattle.c65_ppdir.specs.Units.{around, reached}
-use Rattle.c65_ppdir.proofs.Missing.{included_misses}
+use Rattle.c65_ppfile.proofs.Missing.{included_misses}
 use Rattle.c65_ppdir.proofs.Units.{line_steps, end_steps, fault_steps, include_steps, missing_steps}
 use Rattle.c65_ppdir.proofs.entry.read_line.Goals as goal
 

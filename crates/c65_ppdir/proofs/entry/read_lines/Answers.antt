@@ -1,7 +1,7 @@
 use Rattle.std.proofs.Common.{◌∙◌, List, Bool, rules}
 use Rattle.c65_lex.specs.declared.token.PpToken.{PpToken}
 use Rattle.c65_ppdir.specs.Units.{reached}
-use Rattle.c65_ppdir.proofs.Missing.{still_misses}
+use Rattle.c65_ppfile.proofs.Missing.{still_misses}
 use Rattle.c65_ppdir.proofs.Units.{loop_on, loop_ends, loop_stops}
 use Rattle.c65_ppdir.proofs.entry.read_lines.Goals as goal
 

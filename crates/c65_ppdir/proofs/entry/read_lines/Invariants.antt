@@ -1,7 +1,7 @@
 use Rattle.std.proofs.Common.{◌≡◌, ℕ, List, Some, Result, Ok}
 use Rattle.c65_base.specs.declared.refusal.Refusal.{Refusal}
 use Rattle.c65_lex.specs.declared.token.PpUnit.{PpUnit}
-use Rattle.c65_ppdir.specs.Counts.{Serves, outside}
+use Rattle.c65_ppfile.specs.Counts.{Serves, outside}
 use Rattle.c65_ppdir.specs.Units.{Held, around, reached, rest_from, rest}
 use Rattle.c65_ppdir.proofs.entry.read_lines.Given as goal
 

@@ -1,5 +1,5 @@
 use Rattle.std.proofs.Common.{◌∙◌, Bool, refl, ap}
-use Rattle.c65_ppdir.specs.Lexing.{lexing}
+use Rattle.c65_ppline.specs.Lexing.{lexing}
 use Rattle.c65_ppdir.specs.Opening.{read_of}
 use Rattle.c65_ppdir.proofs.opened.Opened.read.Goals as goal
 

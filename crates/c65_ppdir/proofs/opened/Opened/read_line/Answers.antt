@@ -1,6 +1,6 @@
 use Rattle.std.proofs.Common.{List, ap, subst}
 use Rattle.c65_lex.specs.declared.token.PpToken.{PpToken}
-use Rattle.c65_ppdir.specs.declared.line.Line.{Line}
+use Rattle.c65_ppline.specs.declared.line.Line.{Line}
 use Rattle.c65_ppdir.specs.declared.opened.Read.TheVariants as reads
 use Rattle.c65_ppdir.specs.Gathering.{gathering, Gathers}
 use Rattle.c65_ppdir.proofs.Reading.{gathers_on, read_here}

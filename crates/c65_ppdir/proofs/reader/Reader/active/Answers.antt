@@ -6,11 +6,11 @@ use Rattle.c65_ppdir.specs.declared.reader.Turn.{Turn}
 use Rattle.c65_ppdir.specs.declared.reader.Turn.TheVariants as turns
 use Rattle.c65_ppdir.specs.LineActions.{behind_list, text}
 use Rattle.c65_ppdir.specs.Progress.{Progress, progress, Settles}
-use Rattle.c65_ppdir.specs.Relations.{IsFree}
-use Rattle.c65_ppdir.specs.Tokens.{is_mark}
+use Rattle.c65_ppline.specs.Relations.{IsFree}
+use Rattle.c65_ppline.specs.Tokens.{is_mark}
 use Rattle.c65_ppdir.proofs.Acting.{active_next}
 use Rattle.c65_ppdir.proofs.Reading.{add_is}
-use Rattle.c65_ppdir.proofs.Relations.{tested, tested_not}
+use Rattle.c65_ppline.proofs.Relations.{tested, tested_not}
 use Rattle.c65_ppdir.proofs.reader.Reader.active.Goals as goal
 
 pub returns-then-is_mark-clause-exact : goal.returns-then-is_mark-clause-exact

@@ -2,7 +2,7 @@ use Rattle.c65_ppdir.specs.declared.reader.Turn.{Turn}
 use Rattle.c65_ppdir.specs.LineActions.{directive}
 use Rattle.c65_ppdir.specs.Progress.{progress, flushed}
 use Rattle.c65_ppdir.proofs.Acting.{behind_list_next}
-use Rattle.c65_ppdir.proofs.Relations.{stops_first}
+use Rattle.c65_ppline.proofs.Relations.{stops_first}
 use Rattle.c65_ppdir.proofs.reader.Reader.behind_list.Goals as goal
 
 pub returns-in-Ok-clause-exact : goal.returns-in-Ok-clause-exact

@@ -3,15 +3,15 @@ use Rattle.c65_base.specs.declared.refusal.Refusal.{Refusal}
 use Rattle.c65_ppdir.specs.declared.reader.Turn.{Turn}
 use Rattle.c65_ppdir.specs.declared.reader.Turn.TheVariants as turns
 use Rattle.c65_ppdir.specs.Progress.{progress, flushed, Settles}
-use Rattle.c65_ppdir.specs.Relations.{IsFree, just}
+use Rattle.c65_ppline.specs.Relations.{IsFree, just}
 use Rattle.c65_ppdir.proofs.Acting.{closing}
-use Rattle.c65_ppdir.proofs.Relations.{stops_first}
+use Rattle.c65_ppline.proofs.Relations.{stops_first}
 use Rattle.c65_ppdir.proofs.reader.Reader.close.Goals as goal
 
 pub returns-in-Some-clause-exact : goal.returns-in-Some-clause-exact
 returns-in-Some-clause-exact c =
     let p = progress c.args.self.now c.args.file.now c.args.names.now in
-    closing (λ (t : Turn). (t, p)) p (Some c.in-Some.pos) (Err c.settle.result) c.in-Some.ensures (subst (λ (f : Refusal). IsFree c.settle.result ⊎ Settles f p c.settle.result) c.at.ensures (c.settle.ensures.exact c.args.file.now))
+    closing (λ (t : Turn). (t, p)) p (Some c.in-Some.pos) (Err c.settle.result) c.in-Some.ensures (subst (λ (f : Refusal). IsFree c.settle.result ⊎ Settles f p c.settle.result) c.fault.ensures (c.settle.ensures.exact c.args.file.now))
 
 pub returns-in-Err-clause-exact : goal.returns-in-Err-clause-exact
 returns-in-Err-clause-exact c =

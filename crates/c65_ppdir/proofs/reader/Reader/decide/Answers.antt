@@ -1,10 +1,10 @@
 use Rattle.std.proofs.Common.{◌≡◌, Ok, subst}
-use Rattle.c65_ppdir.specs.declared.directive.Test.{Test}
-use Rattle.c65_ppdir.specs.declared.directive.Test.TheVariants as tests
-use Rattle.c65_ppdir.specs.ConditionLines.{IsCondition}
+use Rattle.c65_ppline.specs.declared.directive.Test.{Test}
+use Rattle.c65_ppline.specs.declared.directive.Test.TheVariants as tests
+use Rattle.c65_ppexpr.specs.ConditionLines.{IsCondition}
 use Rattle.c65_ppdir.specs.LineActions.{chosen, decided}
 use Rattle.c65_ppdir.specs.Progress.{Progress, progress}
-use Rattle.c65_ppdir.specs.Relations.{just, Comes}
+use Rattle.c65_ppline.specs.Relations.{just, Comes}
 use Rattle.c65_ppdir.proofs.Acting.{known_ok, chosen_answer}
 use Rattle.c65_ppdir.proofs.reader.Reader.decide.Goals as goal
 

@@ -1,8 +1,8 @@
 use Rattle.std.proofs.Common.{◌∙◌, List, ap}
 use Rattle.c65_lex.specs.declared.token.PpToken.{PpToken}
-use Rattle.c65_ppdir.specs.declared.directive.Head.{Head}
+use Rattle.c65_ppline.specs.declared.directive.Head.{Head}
 use Rattle.c65_ppdir.specs.declared.reader.Turn.{Turn}
-use Rattle.c65_ppdir.specs.DirectiveLines.{head_of, deed_of}
+use Rattle.c65_ppline.specs.DirectiveLines.{head_of, deed_of}
 use Rattle.c65_ppdir.specs.Progress.{progress}
 use Rattle.c65_ppdir.proofs.Acting.{directive_next}
 use Rattle.c65_ppdir.proofs.reader.Reader.directive.Goals as goal

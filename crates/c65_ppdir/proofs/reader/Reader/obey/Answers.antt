@@ -1,6 +1,6 @@
 use Rattle.std.proofs.Common.{◌≡◌, Ok, refl, subst}
-use Rattle.c65_ppdir.specs.declared.directive.Deed.{Deed}
-use Rattle.c65_ppdir.specs.declared.directive.Deed.TheVariants as deeds
+use Rattle.c65_ppline.specs.declared.directive.Deed.{Deed}
+use Rattle.c65_ppline.specs.declared.directive.Deed.TheVariants as deeds
 use Rattle.c65_ppdir.specs.declared.reader.Turn.TheVariants as turns
 use Rattle.c65_ppdir.specs.LineActions.{obeyed}
 use Rattle.c65_ppdir.specs.Progress.{progress}

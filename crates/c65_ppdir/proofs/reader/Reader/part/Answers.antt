@@ -1,11 +1,11 @@
 use Rattle.std.proofs.Common.{◌≡◌, subst}
-use Rattle.c65_ppdir.specs.declared.directive.Part.{Part}
-use Rattle.c65_ppdir.specs.declared.directive.Part.TheVariants as parts
-use Rattle.c65_ppdir.specs.Conditions.{begin}
+use Rattle.c65_ppline.specs.declared.directive.Part.{Part}
+use Rattle.c65_ppline.specs.declared.directive.Part.TheVariants as parts
+use Rattle.c65_ppline.specs.Conditions.{begin}
 use Rattle.c65_ppdir.specs.LineActions.{begun, parted}
 use Rattle.c65_ppdir.specs.Progress.{Progress, progress}
-use Rattle.c65_ppdir.specs.Relations.{of, Comes}
-use Rattle.c65_ppdir.proofs.Relations.{goes_on}
+use Rattle.c65_ppline.specs.Relations.{of, Comes}
+use Rattle.c65_ppline.proofs.Relations.{goes_on}
 use Rattle.c65_ppdir.proofs.reader.Reader.part.Goals as goal
 
 pub returns-in-Ok-clause-exact : goal.returns-in-Ok-clause-exact

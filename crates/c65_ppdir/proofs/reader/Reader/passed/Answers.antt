@@ -1,7 +1,7 @@
 use Rattle.std.proofs.Common.{◌∙◌, List, Some, None, ap}
 use Rattle.c65_lex.specs.declared.token.PpToken.{PpToken}
-use Rattle.c65_ppdir.specs.declared.directive.Head.{Head}
-use Rattle.c65_ppdir.specs.DirectiveLines.{head_of, part_of}
+use Rattle.c65_ppline.specs.declared.directive.Head.{Head}
+use Rattle.c65_ppline.specs.DirectiveLines.{head_of, part_of}
 use Rattle.c65_ppdir.specs.Progress.{progress}
 use Rattle.c65_ppdir.proofs.Acting.{passed_next, whole_line}
 use Rattle.c65_ppdir.proofs.reader.Reader.passed.Goals as goal

@@ -1,8 +1,8 @@
 use Rattle.std.proofs.Common.{◌∙◌, sym}
-use Rattle.c65_ppdir.specs.Conditions.{is_active}
+use Rattle.c65_ppline.specs.Conditions.{is_active}
 use Rattle.c65_ppdir.specs.LineActions.{active, inactive}
 use Rattle.c65_ppdir.specs.Progress.{progress}
-use Rattle.c65_ppdir.proofs.Relations.{tested, tested_not}
+use Rattle.c65_ppline.proofs.Relations.{tested, tested_not}
 use Rattle.c65_ppdir.proofs.reader.Reader.turn.Goals as goal
 
 pub returns-then-is_active-clause-exact : goal.returns-then-is_active-clause-exact

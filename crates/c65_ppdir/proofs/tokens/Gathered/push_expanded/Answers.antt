@@ -2,7 +2,7 @@ use Rattle.std.proofs.Common.{List, subst}
 use Rattle.c65_base.specs.Answers.{Gives}
 use Rattle.c65_lex.specs.declared.token.PpToken.{PpToken}
 use Rattle.c65_ppdir.specs.UnitTokens.{with_tokens}
-use Rattle.c65_ppdir.proofs.Answers.{reads_by}
+use Rattle.c65_ppline.proofs.Answers.{reads_by}
 use Rattle.c65_ppdir.proofs.tokens.Gathered.push_expanded.Goals as goal
 
 pub returns-in-Ok-clause-exact : goal.returns-in-Ok-clause-exact

@@ -1,6 +1,6 @@
 use Rattle.std.proofs.Common.{◌∙◌, ◌∷◌, Ok, refl, ap, reverse}
 use Rattle.c65_ppdir.specs.declared.tokens.Output.{Output}
-use Rattle.c65_ppdir.specs.NumberLines.{offset}
+use Rattle.c65_ppline.specs.NumberLines.{offset}
 use Rattle.c65_ppdir.specs.Opening.{opened}
 use Rattle.c65_ppdir.specs.Standing.{Standing}
 use Rattle.c65_ppdir.proofs.Standing.{made_is, pushed, counted}

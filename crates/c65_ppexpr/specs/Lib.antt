@@ -1,0 +1,5 @@
+pub mod Arithmetic
+pub mod Expressions
+pub mod Readings
+pub mod Resolved
+pub mod ConditionLines

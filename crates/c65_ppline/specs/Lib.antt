@@ -1,0 +1,12 @@
+pub mod Causes
+pub mod Relations
+pub mod Tokens
+pub mod Lexing
+pub mod Misfits
+pub mod Lines
+pub mod Expansions
+pub mod Conditions
+pub mod DirectiveLines
+pub mod DefineLines
+pub mod MacroLines
+pub mod NumberLines
