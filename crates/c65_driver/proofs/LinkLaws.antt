@@ -112,10 +112,6 @@ pub compiles_not : (cpu : Cpu) (folders files : List (List ℕ)) (old new : File
 compiles_not cpu folders files old new code r none same written read missing stops units =
     subst (λ (made : Option Code). Compiles cpu folders files old new made (Err r)) (sym none) (without_code cpu folders files old new r same written read missing stops units)
 
--- want of memory
-pub compiles_free : (cpu : Cpu) (folders files : List (List ℕ)) (old : FilesSide) (code : Option Code) → code ≡ None → Compiles cpu folders files old old code (Err OutOfMemory)
-compiles_free cpu folders files old code none = compiles_not cpu folders files old old code OutOfMemory none refl refl refl (omega arith) tt tt
-
 -- the same of equal names
 pub compiles_as : (cpu cpu' : Cpu) (folders folders' files files' : List (List ℕ)) (old new : FilesSide) (code : Option Code) (r : Result Image Refusal) → cpu ≡ cpu' → folders ≡ folders' → files ≡ files'
     → Compiles cpu folders files old new code r → Compiles cpu' folders' files' old new code r

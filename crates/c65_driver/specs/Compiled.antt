@@ -1,5 +1,5 @@
 -- What compiling and linking a command's files gives, and what writing the image does.
-use Rattle.std.specs.Prelude.{◌≡◌, ◌⊎◌, ℕ, List, length, map, codes, Option, Some, None, Result, Ok, Err, IfErr, ⊤}
+use Rattle.std.specs.Prelude.{◌≡◌, ◌⊎◌, ℕ, List, length, codes, Option, Some, None, Result, Ok, Err, IfErr, ⊤}
 use Rattle.c65_base.specs.declared.options.Cpu.{Cpu}
 use Rattle.c65_base.specs.declared.refusal.Refusal.{Refusal}
 use Rattle.c65_base.specs.declared.refusal.Refusal.TheVariants.{OutOfMemory, WriteFault}
@@ -11,7 +11,6 @@ use Rattle.c65_io.specs.Contents.{Contents, WritesFile}
 use Rattle.c65_mach.specs.declared.image.Image.{Image}
 use Rattle.c65_mach.specs.Images.{bytes_of}
 use Rattle.c65_link.specs.Linked.{linked, linked_for, Fails}
-use Rattle.c65_lex.specs.declared.define.Define.{Define}
 use Rattle.c65_ppfile.specs.Counts.{FaultCause, MissCause}
 use Rattle.c65_ppline.specs.Relations.{Answers, IsFree}
 use Rattle.c65_ppdir.specs.Units.{Held}
@@ -57,13 +56,9 @@ pub record Compiles (cpu : Cpu) (folders files : List (List ℕ)) (old new : Fil
   pub from_text : IsRead code
   pub from_code : LinkedBy cpu code answer
 
--- a definition as the preprocessor takes it
-abbrev pub define_of : Define → Define
-define_of d = record { name = d.name; body = d.body }
-
 -- the code of a command's files, where it is told what each path holds, or their first refusal
 abbrev pub front : Held → Spelled → Answers Code
-front held c = compiled (command held c.options (map define_of c.defines) c.folders) c.files
+front held c = compiled (command held c.options c.defines c.folders) c.files
 
 -- a code is what the assembly text of the front's code reads as; without one the refusal is the front's
 abbrev pub IsOfFront : {T : Type 0} → Answers Code → Option Code → Result T Refusal → Type 0

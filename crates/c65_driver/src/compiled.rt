@@ -1,7 +1,7 @@
 // From a command's files to their image, and the image's file.
-ghost use Rattle.std.specs.Prelude.{◌≡◌, map, IfOk};
+ghost use Rattle.std.specs.Prelude.{◌≡◌};
 ghost use Rattle.c65_mach.specs.Images.{bytes_of};
-ghost use Rattle.c65_driver.specs.Compiled.{Compiles, IsOfSources, WritesImage, define_of, output_of};
+ghost use Rattle.c65_driver.specs.Compiled.{Compiles, IsOfSources, WritesImage, output_of};
 ghost use Rattle.c65_driver.specs.Outside.{files_side};
 
 use crate::assembly::read_back;
@@ -12,28 +12,7 @@ use c65_driver_words::Command;
 use c65_io::{Failed, Files};
 use c65_link::link_for;
 use c65_mach::Image;
-use std::alloc::{AllocError, Global};
-
-/// A definition as the preprocessor takes it.
-fn define(alloc: Global, definition: &Define) -> Result<Define, AllocError>
-    ensures { IfOk result (λ define. define ≡ define_of definition.now) }
-{
-    let name = definition.name.copy(alloc)?;
-    let body = definition.body.copy(alloc)?;
-    Ok(Define { name, body })
-}
-
-/// Definitions as the preprocessor takes them.
-fn defines(alloc: Global, definitions: &[Define]) -> Result<Vec<Define>, AllocError>
-    ensures { IfOk result (λ list. list.items ≡ map define_of definitions.now) }
-{
-    let mut defines = Vec::new(alloc);
-    for definition in definitions {
-        let define = define(alloc, definition)?;
-        defines.push(define)?;
-    }
-    Ok(defines)
-}
+use std::alloc::Global;
 
 fn options(command: &Command) -> &Options
     ensures { result.now ≡ command.now.options }
@@ -47,7 +26,7 @@ fn processor(command: &Command) -> Cpu
     command.options.cpu
 }
 
-fn definitions(command: &Command) -> &[Define]
+fn defines(command: &Command) -> &[Define]
     ensures { result.now ≡ command.now.defines }
 {
     &command.defines
@@ -81,15 +60,11 @@ pub fn make_image<F: Files>(
     ensures sources { IsOfSources command.now (F.contents files.old) made.new.code result }
     ensures kept { made.new.image ≡ made.old.image }
 {
-    let defines = match defines(alloc, definitions(command)) {
-        Ok(defines) => defines,
-        Err(_) => return Err(Refusal::OutOfMemory),
-    };
     let code = match compile(
         alloc,
         files,
         options(command),
-        &defines,
+        defines(command),
         folders(command),
         paths(command),
     ) {
