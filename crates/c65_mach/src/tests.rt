@@ -581,11 +581,11 @@ fn is_cut_right(alloc: Global, cpu: u8) -> bool {
 }
 
 // Where a file breaks its form that has this byte at this place.
-fn broken_at(alloc: Global, at: usize, byte: u8) -> Option<u32>
-    requires { at < 14 }
-{
+fn broken_at(alloc: Global, at: usize, byte: u8) -> Option<u32> {
     let mut bytes = FILE;
-    bytes[at] = byte;
+    if let Some(old) = bytes.get_mut(at) {
+        *old = byte;
+    }
     offset(&Image::parse(alloc, &bytes))
 }
 
