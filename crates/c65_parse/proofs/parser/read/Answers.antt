@@ -36,4 +36,4 @@ loop-i-preserved c =
 pub returns-clause-answer : goal.returns-clause-answer
 returns-clause-answer c =
     let whole : Reading = run c.args.limit c.args.least (scope_of c.args.scope.now) [] (held_of c.args.held) c.args.tokens.now in
-    ran_out c.args.limit c.args.least (scope_of c.loop-i.scope) c.args.tokens.now c.loop-i.i (stack_of c.loop-i.reading.frames.items) (held_of c.loop-i.reading.held) whole c.loop-i-test.false c.loop-i.invariant
+    subst (λ (e : Refusal). Fails e whole) (sym c.fault-2.ensures) (ran_out c.args.limit c.args.least (scope_of c.loop-i.scope) c.args.tokens.now c.loop-i.i (stack_of c.loop-i.reading.frames.items) (held_of c.loop-i.reading.held) whole c.loop-i-test.false c.loop-i.invariant)
