@@ -2,4 +2,3 @@ pub mod Walks
 pub mod Listing
 pub mod Parts
 pub mod Knots
-pub mod Headed

@@ -13,7 +13,6 @@ use crate::frame::{
 use crate::operands::{after_member, enter, go, has_room};
 use c65_base::{Name, Pos};
 use c65_parse_trees::{MeasuredDeclarator, MeasuredExpr, MeasuredSpecifiers, MeasuredType, Sign};
-use c65_tree::push_last;
 use std::alloc::{AllocError, Global};
 
 /// The declarator behind its suffixes. What stands before it is taken off.
@@ -27,13 +26,8 @@ fn reduce_declarator(
     let mut d = d;
     while let Some(frame) = frames.pop() {
         if !frame.is_derived() {
-            return match push_last(frames, frame) {
-                Ok(()) => Ok(d),
-                Err(error) => {
-                    drop(d);
-                    Err(error)
-                }
-            };
+            frames.push(frame)?;
+            break;
         }
         d = frame.plug_declarator(alloc, d)?;
     }
@@ -54,7 +48,7 @@ fn after_group(
             let d = MeasuredDeclarator::grouped(alloc, pos, d)?;
             Ok(go(frames, Held::Declared(d)))
         }
-        _ => Ok(Step::fail((frames, d))),
+        _ => Ok(Step::Fail),
     }
 }
 
@@ -97,17 +91,12 @@ impl ParamsPart {
     ) -> Result<ParamsPart, AllocError>
         ensures { IfOk result (λ r. params_part_of r ≡ with_param (params_part_of self) (specifiers_of specifiers.specifiers) (declarator_of declarator.declarator)) }
     {
-        match self.params.with(specifiers, declarator) {
-            Ok(params) => Ok(ParamsPart {
-                pos: self.pos,
-                declarator: self.declarator,
-                params,
-            }),
-            Err(error) => {
-                drop(self.declarator);
-                Err(error)
-            }
-        }
+        let params = self.params.with(specifiers, declarator)?;
+        Ok(ParamsPart {
+            pos: self.pos,
+            declarator: self.declarator,
+            params,
+        })
     }
 
     /// The function declarator at the end of its parameters; the flag says that `...` ends them.
@@ -142,7 +131,7 @@ fn after_param(
             let held = Held::Declared(part.end(alloc, false)?);
             Ok(Step::Go(Open { frames, held }, Change::Close))
         }
-        _ => Ok(Step::fail((frames, part, (specifiers, d)))),
+        _ => Ok(Step::Fail),
     }
 }
 
@@ -177,8 +166,7 @@ fn close(
     ensures { IfOk result (λ n. next_of n ≡ close_declarator (declarator_of d.declarator) (stack_of frames.items) sign) }
 {
     let mut frames = frames;
-    let innermost = frames.pop();
-    match innermost {
+    match frames.pop() {
         None => Ok(Step::Stop(Done::Declarator(d))),
         Some(Frame::Group(pos)) => after_group(alloc, frames, pos, d, sign),
         Some(Frame::TypeDeclarator(pos, purpose, specifiers)) => match sign {
@@ -189,7 +177,7 @@ fn close(
                 purpose,
                 MeasuredType::new(specifiers, d),
             ),
-            _ => Ok(Step::fail((frames, specifiers, d))),
+            _ => Ok(Step::Fail),
         },
         Some(Frame::Param(part, specifiers)) => {
             after_param(alloc, frames, part, specifiers, d, sign)
@@ -197,18 +185,18 @@ fn close(
         Some(Frame::Member(part, first)) => {
             after_member_declarator(frames, part, first, d, sign)
         }
-        Some(Frame::Operation(_))
-        | Some(Frame::Paren(_))
-        | Some(Frame::Index(_, _))
-        | Some(Frame::Call(_, _, _))
-        | Some(Frame::Then(_, _))
-        | Some(Frame::Bound(_, _))
-        | Some(Frame::Width(_, _, _))
-        | Some(Frame::Value(_, _, _))
-        | Some(Frame::Type(_, _))
-        | Some(Frame::Members(_))
-        | Some(Frame::Params(_))
-        | Some(Frame::Derived(_, _)) => Ok(Step::fail((frames, innermost, d))),
+        Some(Frame::Operation(_)) => Ok(Step::Fail),
+        Some(Frame::Paren(_)) => Ok(Step::Fail),
+        Some(Frame::Index(_, _)) => Ok(Step::Fail),
+        Some(Frame::Call(_, _, _)) => Ok(Step::Fail),
+        Some(Frame::Then(_, _)) => Ok(Step::Fail),
+        Some(Frame::Bound(_, _)) => Ok(Step::Fail),
+        Some(Frame::Width(_, _, _)) => Ok(Step::Fail),
+        Some(Frame::Value(_, _, _)) => Ok(Step::Fail),
+        Some(Frame::Type(_, _)) => Ok(Step::Fail),
+        Some(Frame::Members(_)) => Ok(Step::Fail),
+        Some(Frame::Params(_)) => Ok(Step::Fail),
+        Some(Frame::Derived(_, _)) => Ok(Step::Fail),
     }
 }
 
@@ -230,14 +218,14 @@ pub fn after_declarator(
             if fits {
                 Ok(go(frames, Held::OpenedBound(pos, d)))
             } else {
-                Ok(Step::deep((frames, d)))
+                Ok(Step::Deep)
             }
         }
         Sign::Open => {
             if fits {
                 Ok(go(frames, Held::OpenedParams(pos, d)))
             } else {
-                Ok(Step::deep((frames, d)))
+                Ok(Step::Deep)
             }
         }
         _ => {

@@ -9,9 +9,7 @@ ghost use Rattle.c65_parse.specs.Specifiers.{member_step, end_listed, end_specif
 ghost use Rattle.c65_parse.specs.Views.{frame_of, stack_of, held_of, next_of, tag_part_of, members_part_of, body_of, enum_part_of};
 
 use crate::declarators::declarator;
-use crate::frame::{
-    Body, Done, EnumPart, Frame, Held, MembersPart, Sort, Step, TagPart, with_frame,
-};
+use crate::frame::{Body, Done, EnumPart, Frame, Held, MembersPart, Sort, Step, TagPart};
 use crate::operands::{after_enumerator, enter, go, has_room};
 use c65_base::{Name, Pos};
 use c65_parse_trees::{
@@ -32,11 +30,12 @@ pub fn member(
 ) -> Result<Step, AllocError>
     ensures { IfOk result (λ n. next_of n ≡ member_step limit (members_part_of part) (stack_of frames.items) pos sign) }
 {
+    let mut frames = frames;
     match sign {
         Sign::Colon => enter(frames, Frame::Width(part, pos, None), Held::Operand),
         _ => {
             let sort = Sort::Member(part.specifiers.has_type);
-            let frames = with_frame(frames, Frame::Member(part, pos))?;
+            frames.push(Frame::Member(part, pos))?;
             declarator(alloc, limit, frames, sort, pos, sign)
         }
     }
@@ -55,15 +54,14 @@ fn after_specifiers(
     ensures { IfOk result (λ n. next_of n ≡ end_listed limit (listed_of specifiers) (stack_of frames.items) pos sign) }
 {
     let mut frames = frames;
-    let innermost = frames.pop();
-    match innermost {
+    match frames.pop() {
         Some(Frame::Type(at, purpose)) => {
-            let frames = with_frame(frames, Frame::TypeDeclarator(at, purpose, specifiers))?;
+            frames.push(Frame::TypeDeclarator(at, purpose, specifiers))?;
             declarator(alloc, limit, frames, Sort::Abstract, pos, sign)
         }
         Some(Frame::Params(part)) => {
             let sort = Sort::Param(specifiers.has_type);
-            let frames = with_frame(frames, Frame::Param(part, specifiers))?;
+            frames.push(Frame::Param(part, specifiers))?;
             declarator(alloc, limit, frames, sort, pos, sign)
         }
         Some(Frame::Members(body)) => {
@@ -74,20 +72,20 @@ fn after_specifiers(
             };
             member(alloc, limit, frames, part, pos, sign)
         }
-        Some(Frame::Operation(_))
-        | Some(Frame::Paren(_))
-        | Some(Frame::Index(_, _))
-        | Some(Frame::Call(_, _, _))
-        | Some(Frame::Then(_, _))
-        | Some(Frame::Bound(_, _))
-        | Some(Frame::Width(_, _, _))
-        | Some(Frame::Value(_, _, _))
-        | Some(Frame::TypeDeclarator(_, _, _))
-        | Some(Frame::Member(_, _))
-        | Some(Frame::Param(_, _))
-        | Some(Frame::Group(_))
-        | Some(Frame::Derived(_, _)) => Ok(Step::fail((frames, innermost, specifiers))),
-        None => Ok(Step::fail((frames, specifiers))),
+        Some(Frame::Operation(_)) => Ok(Step::Fail),
+        Some(Frame::Paren(_)) => Ok(Step::Fail),
+        Some(Frame::Index(_, _)) => Ok(Step::Fail),
+        Some(Frame::Call(_, _, _)) => Ok(Step::Fail),
+        Some(Frame::Then(_, _)) => Ok(Step::Fail),
+        Some(Frame::Bound(_, _)) => Ok(Step::Fail),
+        Some(Frame::Width(_, _, _)) => Ok(Step::Fail),
+        Some(Frame::Value(_, _, _)) => Ok(Step::Fail),
+        Some(Frame::TypeDeclarator(_, _, _)) => Ok(Step::Fail),
+        Some(Frame::Member(_, _)) => Ok(Step::Fail),
+        Some(Frame::Param(_, _)) => Ok(Step::Fail),
+        Some(Frame::Group(_)) => Ok(Step::Fail),
+        Some(Frame::Derived(_, _)) => Ok(Step::Fail),
+        None => Ok(Step::Fail),
     }
 }
 
@@ -108,7 +106,7 @@ fn end_specifiers(
         return Ok(Step::Stop(Done::Specifiers(specifiers)));
     }
     if is_empty {
-        return Ok(Step::fail((frames, specifiers)));
+        return Ok(Step::Fail);
     }
     after_specifiers(alloc, limit, frames, specifiers, pos, sign)
 }
@@ -214,7 +212,7 @@ fn braced(
         return Ok(go(frames, Held::Enumerator(part)));
     }
     if !has_room(limit, &frames, 2) {
-        return Ok(Step::deep((frames, part)));
+        return Ok(Step::Deep);
     }
     let body = part.into_body(alloc, tag);
     let listing = Listing::new(alloc, false);
@@ -235,7 +233,7 @@ pub fn tag(
     match sign {
         Sign::Name(name, _) => Ok(go(frames, Held::TagName(part, name))),
         Sign::OpenBrace => braced(alloc, limit, frames, part, None),
-        _ => Ok(Step::fail((frames, part))),
+        _ => Ok(Step::Fail),
     }
 }
 
@@ -273,13 +271,14 @@ pub fn more_members(
 ) -> Result<Step, AllocError>
     ensures { IfOk result (λ n. next_of n ≡ more_members_step limit (body_of body) (stack_of frames.items) pos sign) }
 {
+    let mut frames = frames;
     match sign {
         Sign::CloseBrace => {
             let listing = body.end()?;
             Ok(go(frames, Held::Specifiers(listing)))
         }
         _ => {
-            let frames = with_frame(frames, Frame::Members(body))?;
+            frames.push(Frame::Members(body))?;
             let listing = Listing::new(alloc, false);
             specifiers(alloc, limit, frames, listing, pos, sign)
         }
@@ -293,7 +292,7 @@ pub fn enumerator(frames: Vec<Frame>, part: EnumPart, pos: Pos, sign: Sign) -> S
 {
     match sign {
         Sign::Name(name, _) => go(frames, Held::EnumeratorName(part, name, pos)),
-        _ => Step::fail((frames, part)),
+        _ => Step::Fail,
     }
 }
 
@@ -314,7 +313,7 @@ pub fn enumerator_name(
             if has_room(limit, &frames, 2) {
                 enter(frames, Frame::Value(part, name, pos), Held::Operand)
             } else {
-                Ok(Step::deep((frames, part)))
+                Ok(Step::Deep)
             }
         }
         _ => {

@@ -1,5 +1,5 @@
 // One step of a reading for each token.
-ghost use Rattle.std.specs.Prelude.{◌≡◌, ◌++◌, ◌∷◌, [], IfOk};
+ghost use Rattle.std.specs.Prelude.{◌≡◌, ◌∷◌, [], IfOk};
 ghost use Rattle.c65_tree.specs.View.{expr_of, declarator_of};
 ghost use Rattle.c65_parse.specs.Machine;
 ghost use Rattle.c65_parse.specs.Machine.{opened_step, sizeof_step, sizeof_opened_step, called_step, dotted_step, qualifiers_step, params_step, opened_declarator_step, opened_bound_step, opened_params_step, more_params_step, ellipsis_step, names_step, names_end_step, in_block};
@@ -10,7 +10,6 @@ ghost use Rattle.c65_parse.specs.Views.{stack_of, held_of, next_of, params_part_
 use crate::declarators::{after_declarator, declarator};
 use crate::frame::{
     Change, Derivation, Frame, Held, NamesPart, Open, Operation, ParamsPart, Sort, Step, TypeUse,
-    with_frame,
 };
 use crate::operands::{after_expr, go, hole, operand};
 use crate::specifiers::{
@@ -23,7 +22,6 @@ use c65_parse_trees::{
     Sign, Word,
 };
 use c65_scan::Token;
-use c65_tree::push_last;
 use std::alloc::{AllocError, Global};
 
 /// Behind a parenthesis where an operand is needed.
@@ -38,14 +36,15 @@ fn opened(
 ) -> Result<Step, AllocError>
     ensures { IfOk result (λ n. next_of n ≡ opened_step limit pos (stack_of frames.items) token.now sign) }
 {
+    let mut frames = frames;
     if !sign.begins_type() {
-        let frames = with_frame(frames, Frame::Paren(pos))?;
+        frames.push(Frame::Paren(pos))?;
         return operand(alloc, limit, frames, token, sign);
     }
     if hole(&frames, 0) > 13 {
         return Ok(Step::Fail);
     }
-    let frames = with_frame(frames, Frame::Type(pos, TypeUse::Cast))?;
+    frames.push(Frame::Type(pos, TypeUse::Cast))?;
     specifiers(
         alloc,
         limit,
@@ -68,11 +67,12 @@ fn sizeof_word(
 ) -> Result<Step, AllocError>
     ensures { IfOk result (λ n. next_of n ≡ sizeof_step limit pos (stack_of frames.items) token.now sign) }
 {
+    let mut frames = frames;
     match sign {
         Sign::Open => Ok(go(frames, Held::SizeofOpened(pos, token.pos))),
         _ => {
             let operation = Operation::Prefix(pos, Prefix::Sizeof);
-            let frames = with_frame(frames, Frame::Operation(operation))?;
+            frames.push(Frame::Operation(operation))?;
             operand(alloc, limit, frames, token, sign)
         }
     }
@@ -91,8 +91,9 @@ fn sizeof_opened(
 ) -> Result<Step, AllocError>
     ensures { IfOk result (λ n. next_of n ≡ sizeof_opened_step limit pos paren (stack_of frames.items) token.now sign) }
 {
+    let mut frames = frames;
     if sign.begins_type() {
-        let frames = with_frame(frames, Frame::Type(pos, TypeUse::Sizeof))?;
+        frames.push(Frame::Type(pos, TypeUse::Sizeof))?;
         return specifiers(
             alloc,
             limit,
@@ -103,8 +104,8 @@ fn sizeof_opened(
         );
     }
     let operation = Operation::Prefix(pos, Prefix::Sizeof);
-    let frames = with_frame(frames, Frame::Operation(operation))?;
-    let frames = with_frame(frames, Frame::Paren(paren))?;
+    frames.push(Frame::Operation(operation))?;
+    frames.push(Frame::Paren(paren))?;
     operand(alloc, limit, frames, token, sign)
 }
 
@@ -121,6 +122,7 @@ fn called(
 ) -> Result<Step, AllocError>
     ensures { IfOk result (λ n. next_of n ≡ called_step limit pos (expr_of f.expr) (stack_of frames.items) token.now sign) }
 {
+    let mut frames = frames;
     let arguments = MeasuredExprs::new(alloc);
     match sign {
         Sign::Close => {
@@ -128,7 +130,7 @@ fn called(
             Ok(go(frames, Held::Expr(e)))
         }
         _ => {
-            let frames = with_frame(frames, Frame::Call(pos, f, arguments))?;
+            frames.push(Frame::Call(pos, f, arguments))?;
             operand(alloc, limit, frames, token, sign)
         }
     }
@@ -151,7 +153,7 @@ fn dotted(
             let e = MeasuredExpr::member(alloc, pos, e, arrow, name)?;
             Ok(go(frames, Held::Expr(e)))
         }
-        _ => Ok(Step::fail((frames, e))),
+        _ => Ok(Step::Fail),
     }
 }
 
@@ -176,6 +178,7 @@ fn qualifiers(
 ) -> Result<Step, AllocError>
     ensures { IfOk result (λ n. next_of n ≡ qualifiers_step limit star.pos star.constant star.volatile sort (stack_of frames.items) pos sign) }
 {
+    let mut frames = frames;
     match sign {
         Sign::Word(Word::Const) => {
             let held = Held::Qualifiers(star.pos, true, star.volatile, sort);
@@ -187,7 +190,7 @@ fn qualifiers(
         }
         _ => {
             let how = Derivation::Pointer(star.constant, star.volatile);
-            let frames = with_frame(frames, Frame::Derived(star.pos, how))?;
+            frames.push(Frame::Derived(star.pos, how))?;
             declarator(alloc, limit, frames, sort, pos, sign)
         }
     }
@@ -218,12 +221,13 @@ fn params(
 ) -> Result<Step, AllocError>
     ensures { IfOk result (λ n. next_of n ≡ params_step limit at (declarator_of d.declarator) (stack_of frames.items) pos sign) }
 {
+    let mut frames = frames;
     let part = ParamsPart {
         pos: at,
         declarator: d,
         params: ParamList::new(alloc),
     };
-    let frames = with_frame(frames, Frame::Params(part))?;
+    frames.push(Frame::Params(part))?;
     let step = specifiers(alloc, limit, frames, Listing::new(alloc, true), pos, sign)?;
     Ok(with_block(step))
 }
@@ -241,6 +245,7 @@ fn opened_declarator(
 ) -> Result<Step, AllocError>
     ensures { IfOk result (λ n. next_of n ≡ opened_declarator_step limit at sort (stack_of frames.items) pos sign) }
 {
+    let mut frames = frames;
     if matches!(sign, Sign::Close) {
         let nameless = MeasuredDeclarator::nameless(at);
         let d = MeasuredDeclarator::function(alloc, at, nameless, MeasuredParams::empty())?;
@@ -257,7 +262,7 @@ fn opened_declarator(
             sign,
         );
     }
-    let frames = with_frame(frames, Frame::Group(at))?;
+    frames.push(Frame::Group(at))?;
     declarator(alloc, limit, frames, sort, pos, sign)
 }
 
@@ -274,13 +279,14 @@ fn opened_bound(
 ) -> Result<Step, AllocError>
     ensures { IfOk result (λ n. next_of n ≡ opened_bound_step limit at (declarator_of d.declarator) (stack_of frames.items) token.now sign) }
 {
+    let mut frames = frames;
     match sign {
         Sign::CloseBracket => {
             let d = MeasuredDeclarator::open_array(alloc, at, d)?;
             Ok(go(frames, Held::Declared(d)))
         }
         _ => {
-            let frames = with_frame(frames, Frame::Bound(at, d))?;
+            frames.push(Frame::Bound(at, d))?;
             operand(alloc, limit, frames, token, sign)
         }
     }
@@ -297,17 +303,12 @@ fn first_name(
     ensures { IfOk result (λ r. names_part_of r ≡ record { pos = at; declarator = declarator_of d.declarator; names = (name, pos) ∷ [] }) }
 {
     let mut names = Vec::new(alloc);
-    match push_last(&mut names, (name, pos)) {
-        Ok(()) => Ok(NamesPart {
-            pos: at,
-            declarator: d,
-            names,
-        }),
-        Err(error) => {
-            drop(d);
-            Err(error)
-        }
-    }
+    names.push((name, pos))?;
+    Ok(NamesPart {
+        pos: at,
+        declarator: d,
+        names,
+    })
 }
 
 /// Behind the parenthesis of a function declarator.
@@ -330,7 +331,7 @@ fn opened_params(
         }
         Sign::Name(name, false) => {
             if d.name.is_none() {
-                return Ok(Step::fail((frames, d)));
+                return Ok(Step::Fail);
             }
             let part = first_name(alloc, at, d, name, pos)?;
             Ok(go(frames, Held::NamesEnd(part)))
@@ -339,7 +340,7 @@ fn opened_params(
             if sign.begins_specifiers() {
                 params(alloc, limit, frames, at, d, pos, sign)
             } else {
-                Ok(Step::fail((frames, d)))
+                Ok(Step::Fail)
             }
         }
     }
@@ -357,10 +358,11 @@ fn more_params(
 ) -> Result<Step, AllocError>
     ensures { IfOk result (λ n. next_of n ≡ more_params_step limit (params_part_of part) (stack_of frames.items) pos sign) }
 {
+    let mut frames = frames;
     match sign {
         Sign::Ellipsis => Ok(go(frames, Held::Ellipsis(part))),
         _ => {
-            let frames = with_frame(frames, Frame::Params(part))?;
+            frames.push(Frame::Params(part))?;
             specifiers(alloc, limit, frames, Listing::new(alloc, true), pos, sign)
         }
     }
@@ -381,27 +383,7 @@ fn ellipsis(
             let held = Held::Declared(part.end(alloc, true)?);
             Ok(Step::Go(Open { frames, held }, Change::Close))
         }
-        _ => Ok(Step::fail((frames, part))),
-    }
-}
-
-impl NamesPart {
-    /// With one more name.
-    fn with(self, name: Name, pos: Pos) -> Result<NamesPart, AllocError>
-        ensures { IfOk result (λ r. names_part_of r ≡ record { pos = self.pos; declarator = declarator_of self.declarator.declarator; names = self.names.items ++ (name, pos) ∷ [] }) }
-    {
-        let mut names = self.names;
-        match push_last(&mut names, (name, pos)) {
-            Ok(()) => Ok(NamesPart {
-                pos: self.pos,
-                declarator: self.declarator,
-                names,
-            }),
-            Err(error) => {
-                drop(self.declarator);
-                Err(error)
-            }
-        }
+        _ => Ok(Step::Fail),
     }
 }
 
@@ -412,10 +394,11 @@ fn names(frames: Vec<Frame>, part: NamesPart, pos: Pos, sign: Sign) -> Result<St
 {
     match sign {
         Sign::Name(name, false) => {
-            let part = part.with(name, pos)?;
+            let mut part = part;
+            part.names.push((name, pos))?;
             Ok(go(frames, Held::NamesEnd(part)))
         }
-        _ => Ok(Step::fail((frames, part))),
+        _ => Ok(Step::Fail),
     }
 }
 
@@ -436,7 +419,7 @@ fn names_end(
             let d = MeasuredDeclarator::function(alloc, part.pos, part.declarator, params)?;
             Ok(go(frames, Held::Declared(d)))
         }
-        _ => Ok(Step::fail((frames, part))),
+        _ => Ok(Step::Fail),
     }
 }
 
