@@ -1,6 +1,8 @@
 // Declarations (C90 6.5).
 ghost use Rattle.std.specs.Prelude.{◌≡◌, IfOk};
 ghost use Rattle.c65_base.specs.Answers.{Gives};
+ghost use Rattle.c65_base.specs.Limits.{limit_of};
+ghost use Rattle.c65_base.specs.declared.refusal.Size.TheVariants.{Depth};
 ghost use Rattle.c65_tree.specs.View.{decl_of, declarator_of, specifiers_of, init_of, maybe};
 ghost use Rattle.c65_parse.specs.Reading.{rest_of, blocks_of};
 ghost use Rattle.c65_decl.specs.Decls;
@@ -13,7 +15,7 @@ use c65_base::Refusal;
 use c65_parse::{Parser, parse_specifiers};
 use c65_parse_frames::Mark;
 use c65_scan::Token;
-use c65_tree::{Decl, Declarator, InitDeclarator, Initialiser, Specifiers};
+use c65_tree::{Decl, Declarator, InitDeclarator, Initialiser, Specifiers, push_last};
 use std::alloc::{AllocError, Global};
 
 /// Where a reading of a declaration's declarators stands: behind the last, or behind one more
@@ -32,7 +34,7 @@ fn with_declarator(
     ensures { IfOk result (λ r. Decls.declarators_of r.items ≡ Decls.with_declarator (Decls.declarators_of declarators.items) (declarator_of declarator) (maybe init_of init)) }
 {
     let mut declarators = declarators;
-    declarators.push(InitDeclarator { declarator, init })?;
+    push_last(&mut declarators, InitDeclarator { declarator, init })?;
     Ok(declarators)
 }
 
@@ -45,9 +47,15 @@ fn step(
     declarators: Vec<InitDeclarator>,
     declarator: Declarator,
 ) -> Result<Declared, Refusal>
-    ensures { Gives (λ r. (declared_of r, rest_of parser.new, blocks_of parser.new)) result (Decls.declarators_step 256 unit.now naming (Decls.declarators_of declarators.items) (declarator_of declarator) (blocks_of parser.old) (rest_of parser.old)) }
+    ensures { Gives (λ r. (declared_of r, rest_of parser.new, blocks_of parser.new)) result (Decls.declarators_step (limit_of Depth) unit.now naming (Decls.declarators_of declarators.items) (declarator_of declarator) (blocks_of parser.old) (rest_of parser.old)) }
 {
-    let init = optional_init(alloc, parser, unit)?;
+    let init = match optional_init(alloc, parser, unit) {
+        Ok(init) => init,
+        Err(refusal) => {
+            drop(declarator);
+            return Err(refusal);
+        }
+    };
     let declarators = with_declarator(declarators, declarator, init)?;
     if !is_here(parser, Mark::Comma) {
         expect(parser, Mark::Semicolon)?;
@@ -66,7 +74,7 @@ fn declarators(
     naming: Naming,
     first: Declarator,
 ) -> Result<Vec<InitDeclarator>, Refusal>
-    ensures { Gives (λ r. (Decls.declarators_of r.items, rest_of parser.new, blocks_of parser.new)) result (Decls.declarators_read 256 unit.now naming (declarator_of first) (blocks_of parser.old) (rest_of parser.old)) }
+    ensures { Gives (λ r. (Decls.declarators_of r.items, rest_of parser.new, blocks_of parser.new)) result (Decls.declarators_read (limit_of Depth) unit.now naming (declarator_of first) (blocks_of parser.old) (rest_of parser.old)) }
 {
     let mut before = Vec::new(alloc);
     let mut declarator = first;
@@ -80,6 +88,7 @@ fn declarators(
             }
         }
     }
+    drop(declarator);
     Err(parser.unexpected())
 }
 
@@ -91,7 +100,7 @@ pub fn declaration_from(
     specifiers: Specifiers,
     first: Declarator,
 ) -> Result<Decl, Refusal>
-    ensures { Gives (λ d. (decl_of d, rest_of parser.new, blocks_of parser.new)) result (Decls.declaration_from 256 unit.now (specifiers_of specifiers) (declarator_of first) (blocks_of parser.old) (rest_of parser.old)) }
+    ensures { Gives (λ d. (decl_of d, rest_of parser.new, blocks_of parser.new)) result (Decls.declaration_from (limit_of Depth) unit.now (specifiers_of specifiers) (declarator_of first) (blocks_of parser.old) (rest_of parser.old)) }
 {
     let naming = naming_of(&specifiers);
     let declarators = declarators(alloc, parser, unit, naming, first)?;
@@ -114,7 +123,7 @@ pub fn empty_declaration(alloc: Global, parser: &mut Parser, specifiers: Specifi
 
 /// The declaration that stands here.
 pub fn declaration(alloc: Global, parser: &mut Parser, unit: &[Token]) -> Result<Decl, Refusal>
-    ensures { Gives (λ d. (decl_of d, rest_of parser.new, blocks_of parser.new)) result (Decls.declaration_read 256 unit.now (blocks_of parser.old) (rest_of parser.old)) }
+    ensures { Gives (λ d. (decl_of d, rest_of parser.new, blocks_of parser.new)) result (Decls.declaration_read (limit_of Depth) unit.now (blocks_of parser.old) (rest_of parser.old)) }
 {
     let specifiers = parse_specifiers(parser)?;
     if is_here(parser, Mark::Semicolon) {
@@ -128,7 +137,7 @@ fn with_decl(decls: Vec<Decl>, decl: Decl) -> Result<Vec<Decl>, AllocError>
     ensures { IfOk result (λ r. decls_of r.items ≡ Decls.with_decl (decls_of decls.items) (decl_of decl)) }
 {
     let mut decls = decls;
-    decls.push(decl)?;
+    push_last(&mut decls, decl)?;
     Ok(decls)
 }
 
@@ -138,7 +147,7 @@ pub fn declarations(
     parser: &mut Parser,
     unit: &[Token],
 ) -> Result<Vec<Decl>, Refusal>
-    ensures { Gives (λ r. (decls_of r.items, rest_of parser.new, blocks_of parser.new)) result (Decls.declarations_read 256 unit.now (blocks_of parser.old) (rest_of parser.old)) }
+    ensures { Gives (λ r. (decls_of r.items, rest_of parser.new, blocks_of parser.new)) result (Decls.declarations_read (limit_of Depth) unit.now (blocks_of parser.old) (rest_of parser.old)) }
 {
     let mut decls = Vec::new(alloc);
     for _step in unit {

@@ -1,8 +1,11 @@
 // Function definitions (C90 6.7.1).
 ghost use Rattle.std.specs.Prelude.{◌≡◌, OnOk, IfOk, IfErr};
 ghost use Rattle.c65_base.specs.declared.refusal.Refusal.TheVariants.{OutOfMemory};
+ghost use Rattle.c65_base.specs.Limits.{limit_of};
+ghost use Rattle.c65_base.specs.declared.refusal.Size.TheVariants.{Depth};
 ghost use Rattle.c65_base.specs.Answers.{Gives};
 ghost use Rattle.c65_tree.specs.View.{specifiers_of, declarator_of, params_of, function_of};
+ghost use Rattle.c65_parse_names.specs.Scopes.{opened};
 ghost use Rattle.c65_parse.specs.Reading.{rest_of, blocks_of};
 ghost use Rattle.c65_decl.specs.Declaring;
 ghost use Rattle.c65_decl.specs.Units;
@@ -96,6 +99,16 @@ fn declare_params(
     }
 }
 
+/// Begins the block of a function definition and declares its parameters in it.
+fn open_function(alloc: Global, parser: &mut Parser, declarator: &Declarator) -> Result<(), Refusal>
+    ensures scope { OnOk result (blocks_of parser.new ≡ Declaring.in_function (declarator_of declarator.now) (opened (blocks_of parser.old))) }
+    ensures rest { rest_of parser.new ≡ rest_of parser.old }
+    ensures memory { IfErr result (λ e. e ≡ OutOfMemory) }
+{
+    parser.open()?;
+    declare_params(alloc, parser, declarator)
+}
+
 /// The definition with this head, from behind it.
 #[tactic(auto, using(crate::proofs::Memory::memory_fails))]
 pub fn read_function(
@@ -105,20 +118,39 @@ pub fn read_function(
     specifiers: Specifiers,
     declarator: Declarator,
 ) -> Result<Function, Refusal>
-    ensures { Gives (λ f. (function_of f, rest_of parser.new, blocks_of parser.new)) result (Units.function_read 256 unit.now (specifiers_of specifiers) (declarator_of declarator) (blocks_of parser.old) (rest_of parser.old)) }
+    ensures { Gives (λ f. (function_of f, rest_of parser.new, blocks_of parser.new)) result (Units.function_read (limit_of Depth) unit.now (specifiers_of specifiers) (declarator_of declarator) (blocks_of parser.old) (rest_of parser.old)) }
 {
-    parser.open()?;
-    declare_params(alloc, parser, &declarator)?;
-    let declarations = declarations(alloc, parser, unit)?;
+    match open_function(alloc, parser, &declarator) {
+        Ok(()) => {}
+        Err(refusal) => {
+            drop(declarator);
+            return Err(refusal);
+        }
+    }
+    let declarations = match declarations(alloc, parser, unit) {
+        Ok(declarations) => declarations,
+        Err(refusal) => {
+            drop(declarator);
+            return Err(refusal);
+        }
+    };
     if !is_here(parser, Mark::OpenBrace) {
+        drop(declarator);
         return Err(parser.unexpected());
     }
-    let body = statement(alloc, parser, unit)?;
-    parser.close();
-    Ok(Function {
-        specifiers,
-        declarator,
-        declarations,
-        body,
-    })
+    match statement(alloc, parser, unit) {
+        Ok(body) => {
+            parser.close();
+            Ok(Function {
+                specifiers,
+                declarator,
+                declarations,
+                body,
+            })
+        }
+        Err(refusal) => {
+            drop(declarator);
+            Err(refusal)
+        }
+    }
 }

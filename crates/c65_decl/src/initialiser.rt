@@ -1,6 +1,8 @@
 // Initialisers (C90 6.5.7), with a stack of the lists that are open.
 ghost use Rattle.std.specs.Prelude.{◌≡◌, ◌≤◌, length};
 ghost use Rattle.c65_base.specs.Answers.{Gives};
+ghost use Rattle.c65_base.specs.Limits.{limit_of};
+ghost use Rattle.c65_base.specs.declared.refusal.Size.TheVariants.{Depth};
 ghost use Rattle.c65_tree.specs.View.{expr_of, init_of, maybe};
 ghost use Rattle.c65_parse.specs.Reading.{rest_of, blocks_of};
 ghost use Rattle.c65_parse_frames.specs.Views.{lists_of, listed_of};
@@ -8,7 +10,7 @@ ghost use Rattle.c65_decl.specs.Initialisers;
 
 use crate::here::{expect, is_here, pos_here, too_deep};
 use c65_base::Refusal;
-use c65_parse::{Parser, parse_assignment_within};
+use c65_parse::{DEPTH, Parser, parse_assignment_within};
 use c65_parse_frames::{InitList, Listed, Mark, enter_list, with_initialiser};
 use c65_scan::Token;
 use c65_tree::{Expr, Initialiser};
@@ -16,9 +18,9 @@ use std::alloc::Global;
 
 /// An expression in so many lists; the count of depth goes on from these.
 fn element(parser: &mut Parser, around: usize) -> Result<Expr, Refusal>
-    ensures { Gives (λ e. (expr_of e, rest_of parser.new, blocks_of parser.new)) result (Initialisers.element_read 256 around (blocks_of parser.old) (rest_of parser.old)) }
+    ensures { Gives (λ e. (expr_of e, rest_of parser.new, blocks_of parser.new)) result (Initialisers.element_read (limit_of Depth) around (blocks_of parser.old) (rest_of parser.old)) }
 {
-    let room = 256usize.saturating_sub(around);
+    let room = (DEPTH as usize).saturating_sub(around);
     parse_assignment_within(parser, room as u16)
 }
 
@@ -59,9 +61,9 @@ fn close_lists(
 
 /// Begins a list, which needs an initialiser in it.
 fn open_list(alloc: Global, parser: &mut Parser, lists: Vec<InitList>) -> Result<Listed, Refusal>
-    ensures { Gives (λ r. (listed_of r, rest_of parser.new, blocks_of parser.new)) result (Initialisers.list_begun 256 (lists_of lists.items) (blocks_of parser.old) (rest_of parser.old)) }
+    ensures { Gives (λ r. (listed_of r, rest_of parser.new, blocks_of parser.new)) result (Initialisers.list_begun (limit_of Depth) (lists_of lists.items) (blocks_of parser.old) (rest_of parser.old)) }
 {
-    if lists.len() > 254 {
+    if lists.len() > DEPTH as usize - 2 {
         return Err(too_deep());
     }
     let pos = pos_here(parser);
@@ -72,7 +74,7 @@ fn open_list(alloc: Global, parser: &mut Parser, lists: Vec<InitList>) -> Result
 }
 
 fn step(alloc: Global, parser: &mut Parser, lists: Vec<InitList>) -> Result<Listed, Refusal>
-    ensures { Gives (λ r. (listed_of r, rest_of parser.new, blocks_of parser.new)) result (Initialisers.initialiser_step 256 (lists_of lists.items) (blocks_of parser.old) (rest_of parser.old)) }
+    ensures { Gives (λ r. (listed_of r, rest_of parser.new, blocks_of parser.new)) result (Initialisers.initialiser_step (limit_of Depth) (lists_of lists.items) (blocks_of parser.old) (rest_of parser.old)) }
 {
     if is_here(parser, Mark::OpenBrace) {
         return open_list(alloc, parser, lists);
@@ -88,7 +90,7 @@ pub fn initialiser(
     parser: &mut Parser,
     unit: &[Token],
 ) -> Result<Initialiser, Refusal>
-    ensures { Gives (λ i. (init_of i, rest_of parser.new, blocks_of parser.new)) result (Initialisers.initialiser_read 256 unit.now (blocks_of parser.old) (rest_of parser.old)) }
+    ensures { Gives (λ i. (init_of i, rest_of parser.new, blocks_of parser.new)) result (Initialisers.initialiser_read (limit_of Depth) unit.now (blocks_of parser.old) (rest_of parser.old)) }
 {
     let mut lists = Vec::new(alloc);
     for _step in unit {
@@ -107,7 +109,7 @@ pub fn optional_init(
     parser: &mut Parser,
     unit: &[Token],
 ) -> Result<Option<Initialiser>, Refusal>
-    ensures { Gives (λ i. (maybe init_of i, rest_of parser.new, blocks_of parser.new)) result (Initialisers.optional_init_read 256 unit.now (blocks_of parser.old) (rest_of parser.old)) }
+    ensures { Gives (λ i. (maybe init_of i, rest_of parser.new, blocks_of parser.new)) result (Initialisers.optional_init_read (limit_of Depth) unit.now (blocks_of parser.old) (rest_of parser.old)) }
 {
     if !is_here(parser, Mark::Equal) {
         return Ok(None);

@@ -1,6 +1,8 @@
 // What declarators and parameters declare (C90 6.1.2.1).
 ghost use Rattle.std.specs.Prelude.{◌≡◌, OnOk, IfErr};
 ghost use Rattle.c65_base.specs.declared.refusal.Refusal.TheVariants.{OutOfMemory};
+ghost use Rattle.c65_base.specs.Limits.{limit_of};
+ghost use Rattle.c65_base.specs.declared.refusal.Size.TheVariants.{Depth};
 ghost use Rattle.c65_base.specs.Answers.{Gives};
 ghost use Rattle.c65_tree.specs.View.{specifiers_of, declarator_of};
 ghost use Rattle.c65_parse.specs.Reading.{rest_of, blocks_of, declarator_read};
@@ -42,7 +44,7 @@ pub fn declare_maybe(parser: &mut Parser, name: Option<Name>, is_type: bool) -> 
 
 /// The declarator that stands here, behind a type specifier or not.
 fn bare_declarator(parser: &mut Parser, has_type: bool) -> Result<Declarator, Refusal>
-    ensures { Gives (λ d. (declarator_of d, rest_of parser.new, blocks_of parser.new)) result (declarator_read 256 (Named has_type) (blocks_of parser.old) (rest_of parser.old)) }
+    ensures { Gives (λ d. (declarator_of d, rest_of parser.new, blocks_of parser.new)) result (declarator_read (limit_of Depth) (Named has_type) (blocks_of parser.old) (rest_of parser.old)) }
 {
     if has_type {
         parse_declarator(parser)
@@ -54,9 +56,14 @@ fn bare_declarator(parser: &mut Parser, has_type: bool) -> Result<Declarator, Re
 /// The declarator that stands here. Its name is declared behind it.
 #[tactic(auto, using(crate::proofs::Memory::memory_fails))]
 pub fn named_declarator(parser: &mut Parser, naming: Naming) -> Result<Declarator, Refusal>
-    ensures { Gives (λ d. (declarator_of d, rest_of parser.new, blocks_of parser.new)) result (Declaring.named_read 256 naming (blocks_of parser.old) (rest_of parser.old)) }
+    ensures { Gives (λ d. (declarator_of d, rest_of parser.new, blocks_of parser.new)) result (Declaring.named_read (limit_of Depth) naming (blocks_of parser.old) (rest_of parser.old)) }
 {
     let declarator = bare_declarator(parser, naming.has_type)?;
-    declare_maybe(parser, declared_name(&declarator), naming.makes_types)?;
-    Ok(declarator)
+    match declare_maybe(parser, declared_name(&declarator), naming.makes_types) {
+        Ok(()) => Ok(declarator),
+        Err(refusal) => {
+            drop(declarator);
+            Err(refusal)
+        }
+    }
 }

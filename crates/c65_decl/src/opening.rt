@@ -1,6 +1,8 @@
 // What stands at a statement's place (C90 6.6).
 ghost use Rattle.std.specs.Prelude.{◌≡◌};
 ghost use Rattle.c65_base.specs.Answers.{Gives};
+ghost use Rattle.c65_base.specs.Limits.{limit_of};
+ghost use Rattle.c65_base.specs.declared.refusal.Size.TheVariants.{Depth};
 ghost use Rattle.c65_parse.specs.Reading.{rest_of, blocks_of};
 ghost use Rattle.c65_parse_frames.specs.Views.{begun_of};
 ghost use Rattle.c65_decl.specs.Openings;
@@ -12,7 +14,7 @@ use crate::here::{
 };
 use crate::words::{Word, is_evaluated, word_of};
 use c65_base::{Pos, Refusal};
-use c65_parse::Parser;
+use c65_parse::{DEPTH, Parser};
 use c65_parse_frames::{
     Begun, Frame, Head, Mark, Place, Sign, is_label, is_mark, least_depth, starts_declaration,
 };
@@ -31,7 +33,7 @@ fn begin_label(parser: &mut Parser, pos: Pos) -> Result<Begun, Refusal>
 
 /// Behind `case`.
 fn begin_case(parser: &mut Parser, pos: Pos) -> Result<Begun, Refusal>
-    ensures { Gives (λ b. (begun_of b, rest_of parser.new, blocks_of parser.new)) result (Openings.case_begun 256 pos (blocks_of parser.old) (rest_of parser.old)) }
+    ensures { Gives (λ b. (begun_of b, rest_of parser.new, blocks_of parser.new)) result (Openings.case_begun (limit_of Depth) pos (blocks_of parser.old) (rest_of parser.old)) }
 {
     let e = case_value(parser)?;
     Ok(Begun::Open(Frame::Head(Head::Case(pos, e))))
@@ -47,7 +49,7 @@ fn begin_default(parser: &mut Parser, pos: Pos) -> Result<Begun, Refusal>
 
 /// Behind `if` (C90 6.6.4.1).
 fn begin_if(parser: &mut Parser, pos: Pos) -> Result<Begun, Refusal>
-    ensures { Gives (λ b. (begun_of b, rest_of parser.new, blocks_of parser.new)) result (Openings.if_begun 256 pos (blocks_of parser.old) (rest_of parser.old)) }
+    ensures { Gives (λ b. (begun_of b, rest_of parser.new, blocks_of parser.new)) result (Openings.if_begun (limit_of Depth) pos (blocks_of parser.old) (rest_of parser.old)) }
 {
     let e = test(parser)?;
     Ok(Begun::Open(Frame::Then(pos, e)))
@@ -55,7 +57,7 @@ fn begin_if(parser: &mut Parser, pos: Pos) -> Result<Begun, Refusal>
 
 /// Behind `switch` (C90 6.6.4.2).
 fn begin_switch(parser: &mut Parser, pos: Pos) -> Result<Begun, Refusal>
-    ensures { Gives (λ b. (begun_of b, rest_of parser.new, blocks_of parser.new)) result (Openings.switch_begun 256 pos (blocks_of parser.old) (rest_of parser.old)) }
+    ensures { Gives (λ b. (begun_of b, rest_of parser.new, blocks_of parser.new)) result (Openings.switch_begun (limit_of Depth) pos (blocks_of parser.old) (rest_of parser.old)) }
 {
     let e = test(parser)?;
     Ok(Begun::Open(Frame::Head(Head::Switch(pos, e))))
@@ -63,7 +65,7 @@ fn begin_switch(parser: &mut Parser, pos: Pos) -> Result<Begun, Refusal>
 
 /// Behind `while` (C90 6.6.5.1).
 fn begin_while(parser: &mut Parser, pos: Pos) -> Result<Begun, Refusal>
-    ensures { Gives (λ b. (begun_of b, rest_of parser.new, blocks_of parser.new)) result (Openings.while_begun 256 pos (blocks_of parser.old) (rest_of parser.old)) }
+    ensures { Gives (λ b. (begun_of b, rest_of parser.new, blocks_of parser.new)) result (Openings.while_begun (limit_of Depth) pos (blocks_of parser.old) (rest_of parser.old)) }
 {
     let e = test(parser)?;
     Ok(Begun::Open(Frame::Head(Head::While(pos, e))))
@@ -71,13 +73,24 @@ fn begin_while(parser: &mut Parser, pos: Pos) -> Result<Begun, Refusal>
 
 /// Behind `for` (C90 6.6.5.3).
 fn begin_for(parser: &mut Parser, pos: Pos) -> Result<Begun, Refusal>
-    ensures { Gives (λ b. (begun_of b, rest_of parser.new, blocks_of parser.new)) result (Openings.for_begun 256 pos (blocks_of parser.old) (rest_of parser.old)) }
+    ensures { Gives (λ b. (begun_of b, rest_of parser.new, blocks_of parser.new)) result (Openings.for_begun (limit_of Depth) pos (blocks_of parser.old) (rest_of parser.old)) }
 {
     expect(parser, Mark::OpenParen)?;
     let first = optional_expr(parser, Mark::Semicolon)?;
-    let test = optional_expr(parser, Mark::Semicolon)?;
-    let step = optional_expr(parser, Mark::CloseParen)?;
-    Ok(Begun::Open(Frame::Head(Head::For(pos, first, test, step))))
+    let test = match optional_expr(parser, Mark::Semicolon) {
+        Ok(test) => test,
+        Err(refusal) => {
+            drop(first);
+            return Err(refusal);
+        }
+    };
+    match optional_expr(parser, Mark::CloseParen) {
+        Ok(step) => Ok(Begun::Open(Frame::Head(Head::For(pos, first, test, step)))),
+        Err(refusal) => {
+            drop((first, test));
+            Err(refusal)
+        }
+    }
 }
 
 /// Behind `goto` (C90 6.6.6.1).
@@ -107,7 +120,7 @@ fn begin_break(parser: &mut Parser, pos: Pos) -> Result<Begun, Refusal>
 
 /// Behind `return` (C90 6.6.6.4).
 fn begin_return(parser: &mut Parser, pos: Pos) -> Result<Begun, Refusal>
-    ensures { Gives (λ b. (begun_of b, rest_of parser.new, blocks_of parser.new)) result (Openings.return_begun 256 pos (blocks_of parser.old) (rest_of parser.old)) }
+    ensures { Gives (λ b. (begun_of b, rest_of parser.new, blocks_of parser.new)) result (Openings.return_begun (limit_of Depth) pos (blocks_of parser.old) (rest_of parser.old)) }
 {
     let value = optional_expr(parser, Mark::Semicolon)?;
     Ok(Begun::Whole(Stmt::give_back(pos, value)))
@@ -115,7 +128,7 @@ fn begin_return(parser: &mut Parser, pos: Pos) -> Result<Begun, Refusal>
 
 /// An expression statement, or the empty one (C90 6.6.3).
 fn begin_eval(parser: &mut Parser, pos: Pos) -> Result<Begun, Refusal>
-    ensures { Gives (λ b. (begun_of b, rest_of parser.new, blocks_of parser.new)) result (Openings.eval_begun 256 pos (blocks_of parser.old) (rest_of parser.old)) }
+    ensures { Gives (λ b. (begun_of b, rest_of parser.new, blocks_of parser.new)) result (Openings.eval_begun (limit_of Depth) pos (blocks_of parser.old) (rest_of parser.old)) }
 {
     let e = optional_expr(parser, Mark::Semicolon)?;
     Ok(Begun::Whole(Stmt::eval(pos, e)))
@@ -133,7 +146,7 @@ fn begin_block(alloc: Global, parser: &mut Parser, pos: Pos) -> Result<Begun, Re
 
 /// Behind the word or the brace that begins a statement.
 fn begin_behind(alloc: Global, parser: &mut Parser, word: Word, pos: Pos) -> Result<Begun, Refusal>
-    ensures { Gives (λ b. (begun_of b, rest_of parser.new, blocks_of parser.new)) result (Openings.begun_behind 256 word pos (blocks_of parser.old) (rest_of parser.old)) }
+    ensures { Gives (λ b. (begun_of b, rest_of parser.new, blocks_of parser.new)) result (Openings.begun_behind (limit_of Depth) word pos (blocks_of parser.old) (rest_of parser.old)) }
 {
     match word {
         Word::Case => begin_case(parser, pos),
@@ -158,7 +171,7 @@ fn begin_word(
     word: Option<Word>,
     pos: Pos,
 ) -> Result<Begun, Refusal>
-    ensures { Gives (λ b. (begun_of b, rest_of parser.new, blocks_of parser.new)) result (Openings.word_begun 256 word pos (blocks_of parser.old) (rest_of parser.old)) }
+    ensures { Gives (λ b. (begun_of b, rest_of parser.new, blocks_of parser.new)) result (Openings.word_begun (limit_of Depth) word pos (blocks_of parser.old) (rest_of parser.old)) }
 {
     match word {
         Some(word) => {
@@ -176,7 +189,7 @@ fn begin_statement(
     sign: Sign,
     label: bool,
 ) -> Result<Begun, Refusal>
-    ensures { Gives (λ b. (begun_of b, rest_of parser.new, blocks_of parser.new)) result (Openings.statement_begun 256 sign label (blocks_of parser.old) (rest_of parser.old)) }
+    ensures { Gives (λ b. (begun_of b, rest_of parser.new, blocks_of parser.new)) result (Openings.statement_begun (limit_of Depth) sign label (blocks_of parser.old) (rest_of parser.old)) }
 {
     let pos = pos_here(parser);
     if label {
@@ -198,7 +211,7 @@ fn close(parser: &mut Parser) -> Begun
 }
 
 fn begin_declaration(alloc: Global, parser: &mut Parser, unit: &[Token]) -> Result<Begun, Refusal>
-    ensures { Gives (λ b. (begun_of b, rest_of parser.new, blocks_of parser.new)) result (Openings.declaration_begun 256 unit.now (blocks_of parser.old) (rest_of parser.old)) }
+    ensures { Gives (λ b. (begun_of b, rest_of parser.new, blocks_of parser.new)) result (Openings.declaration_begun (limit_of Depth) unit.now (blocks_of parser.old) (rest_of parser.old)) }
 {
     let decl = declaration(alloc, parser, unit)?;
     Ok(Begun::Decl(decl))
@@ -211,7 +224,7 @@ pub fn begin(
     unit: &[Token],
     place: Place,
 ) -> Result<Begun, Refusal>
-    ensures { Gives (λ b. (begun_of b, rest_of parser.new, blocks_of parser.new)) result (Openings.begun_at 256 unit.now place (blocks_of parser.old) (rest_of parser.old)) }
+    ensures { Gives (λ b. (begun_of b, rest_of parser.new, blocks_of parser.new)) result (Openings.begun_at (limit_of Depth) unit.now place (blocks_of parser.old) (rest_of parser.old)) }
 {
     let sign = sign_here(parser);
     let is_type = is_type_here(parser);
@@ -224,7 +237,8 @@ pub fn begin(
         return begin_declaration(alloc, parser, unit);
     }
     let least = least_depth(sign, label);
-    if least > 256 || place.around > 256 - least {
+    let limit = DEPTH as usize;
+    if least > limit || place.around > limit - least {
         return Err(too_deep());
     }
     begin_statement(alloc, parser, sign, label)

@@ -1,6 +1,8 @@
 // Statements (C90 6.6), with a stack of those that are open.
 ghost use Rattle.std.specs.Prelude.{◌≡◌};
 ghost use Rattle.c65_base.specs.Answers.{Gives};
+ghost use Rattle.c65_base.specs.Limits.{limit_of};
+ghost use Rattle.c65_base.specs.declared.refusal.Size.TheVariants.{Depth};
 ghost use Rattle.c65_tree.specs.View.{expr_of, stmt_of};
 ghost use Rattle.c65_parse.specs.Reading.{rest_of, blocks_of};
 ghost use Rattle.c65_parse_frames.specs.Frames.{option_stmt};
@@ -39,17 +41,34 @@ fn plug_then(
 
 /// A `do` behind the statement that it holds (C90 6.6.5.2).
 fn plug_do(alloc: Global, parser: &mut Parser, pos: Pos, stmt: Stmt) -> Result<Plugged, Refusal>
-    ensures { Gives (λ r. (plugged_of r, rest_of parser.new, blocks_of parser.new)) result (Statements.do_plugged 256 pos (stmt_of stmt) (blocks_of parser.old) (rest_of parser.old)) }
+    ensures { Gives (λ r. (plugged_of r, rest_of parser.new, blocks_of parser.new)) result (Statements.do_plugged (limit_of Depth) pos (stmt_of stmt) (blocks_of parser.old) (rest_of parser.old)) }
 {
-    expect(parser, Mark::While)?;
-    let e = test(parser)?;
-    expect(parser, Mark::Semicolon)?;
-    Ok(Plugged::Whole(Stmt::do_while(alloc, pos, stmt, e)?))
+    match expect(parser, Mark::While) {
+        Ok(()) => {}
+        Err(refusal) => {
+            drop(stmt);
+            return Err(refusal);
+        }
+    }
+    let e = match test(parser) {
+        Ok(e) => e,
+        Err(refusal) => {
+            drop(stmt);
+            return Err(refusal);
+        }
+    };
+    match expect(parser, Mark::Semicolon) {
+        Ok(()) => Ok(Plugged::Whole(Stmt::do_while(alloc, pos, stmt, e)?)),
+        Err(refusal) => {
+            drop((stmt, e));
+            Err(refusal)
+        }
+    }
 }
 
 /// The frame with this statement in its place.
 fn plug(alloc: Global, parser: &mut Parser, frame: Frame, stmt: Stmt) -> Result<Plugged, Refusal>
-    ensures { Gives (λ r. (plugged_of r, rest_of parser.new, blocks_of parser.new)) result (Statements.plugged 256 (frame_of frame) (stmt_of stmt) (blocks_of parser.old) (rest_of parser.old)) }
+    ensures { Gives (λ r. (plugged_of r, rest_of parser.new, blocks_of parser.new)) result (Statements.plugged (limit_of Depth) (frame_of frame) (stmt_of stmt) (blocks_of parser.old) (rest_of parser.old)) }
 {
     match frame {
         Frame::Head(head) => Ok(Plugged::Whole(complete(alloc, head, stmt)?)),
@@ -69,7 +88,7 @@ fn plug_all(
     frames: Vec<Frame>,
     last: Stmt,
 ) -> Result<Reached, Refusal>
-    ensures { Gives (λ r. (reached_of r, rest_of parser.new, blocks_of parser.new)) result (Statements.all_plugged 256 (stack_of frames.items) (stmt_of last) (blocks_of parser.old) (rest_of parser.old)) }
+    ensures { Gives (λ r. (reached_of r, rest_of parser.new, blocks_of parser.new)) result (Statements.all_plugged (limit_of Depth) (stack_of frames.items) (stmt_of last) (blocks_of parser.old) (rest_of parser.old)) }
 {
     let mut frames = frames;
     let mut stmt = last;
@@ -90,7 +109,7 @@ fn plug_block(
     frames: Vec<Frame>,
     block: Option<Stmt>,
 ) -> Result<Reached, Refusal>
-    ensures { Gives (λ r. (reached_of r, rest_of parser.new, blocks_of parser.new)) result (Statements.block_plugged 256 (stack_of frames.items) (option_stmt block) (blocks_of parser.old) (rest_of parser.old)) }
+    ensures { Gives (λ r. (reached_of r, rest_of parser.new, blocks_of parser.new)) result (Statements.block_plugged (limit_of Depth) (stack_of frames.items) (option_stmt block) (blocks_of parser.old) (rest_of parser.old)) }
 {
     match block {
         Some(stmt) => plug_all(alloc, parser, frames, stmt),
@@ -101,7 +120,7 @@ fn plug_block(
 /// Ends the innermost block.
 #[tactic(auto, using(crate::proofs::Stacks::frames_innermost, crate::proofs::Stacks::frames_none))]
 fn close_block(alloc: Global, parser: &mut Parser, frames: Vec<Frame>) -> Result<Reached, Refusal>
-    ensures { Gives (λ r. (reached_of r, rest_of parser.new, blocks_of parser.new)) result (Statements.block_closed 256 (stack_of frames.items) (blocks_of parser.old) (rest_of parser.old)) }
+    ensures { Gives (λ r. (reached_of r, rest_of parser.new, blocks_of parser.new)) result (Statements.block_closed (limit_of Depth) (stack_of frames.items) (blocks_of parser.old) (rest_of parser.old)) }
 {
     let mut frames = frames;
     match frames.pop() {
@@ -116,7 +135,7 @@ fn step(
     unit: &[Token],
     frames: Vec<Frame>,
 ) -> Result<Reached, Refusal>
-    ensures { Gives (λ r. (reached_of r, rest_of parser.new, blocks_of parser.new)) result (Statements.statement_step 256 unit.now (stack_of frames.items) (blocks_of parser.old) (rest_of parser.old)) }
+    ensures { Gives (λ r. (reached_of r, rest_of parser.new, blocks_of parser.new)) result (Statements.statement_step (limit_of Depth) unit.now (stack_of frames.items) (blocks_of parser.old) (rest_of parser.old)) }
 {
     let place = place_in(&frames);
     match begin(alloc, parser, unit, place)? {
@@ -129,7 +148,7 @@ fn step(
 
 /// The statement that stands here.
 pub fn statement(alloc: Global, parser: &mut Parser, unit: &[Token]) -> Result<Stmt, Refusal>
-    ensures { Gives (λ s. (stmt_of s, rest_of parser.new, blocks_of parser.new)) result (Statements.statement_read 256 unit.now (blocks_of parser.old) (rest_of parser.old)) }
+    ensures { Gives (λ s. (stmt_of s, rest_of parser.new, blocks_of parser.new)) result (Statements.statement_read (limit_of Depth) unit.now (blocks_of parser.old) (rest_of parser.old)) }
 {
     let mut frames = Vec::new(alloc);
     for _step in unit {

@@ -1,6 +1,8 @@
 -- What told files are together: the code of their program, or the first refusal in the order of the stages
 -- (C90 5.1.1.2, phases 1 to 8).
 use Rattle.std.specs.Prelude.{◌≡◌, ◌⊎◌, ℕ, Bool, List, [], ◌∷◌, ◌++◌, length, nat_lt, Result, Ok, Err}
+use Rattle.c65_base.specs.Limits.{limit_of}
+use Rattle.c65_base.specs.declared.refusal.Size.TheVariants.{Depth}
 use Rattle.c65_base.specs.declared.options.Options.{Options}
 use Rattle.c65_base.specs.declared.refusal.Refusal.{Refusal}
 use Rattle.c65_base.specs.declared.refusal.Refusal.TheVariants as refusals
@@ -31,7 +33,7 @@ use Rattle.c65_genstmt.specs.Programs.{program_of}
 abbrev pub typed : List (List ℕ) → Bool → List PpToken → Result UnitTy Fault
 typed names signed_chars ts = do
   tokens ← tokens_of names ts
-  tree ← unit_read 256 tokens
+  tree ← unit_read (limit_of Depth) tokens
   unit_in tree signed_chars
 
 -- a fault has the path of its file in the place of the number

@@ -11,10 +11,10 @@ ghost use Rattle.c65_driver_chain.specs.Front.{command, file_typed};
 use crate::refused::located;
 use c65_base::{Names, Options, Refusal, Text};
 use c65_csem::TUnit;
-use c65_decl::parse_unit;
 use c65_init::elab_unit;
 use c65_io::Files;
 use c65_lex::PpUnit;
+use c65_parse_law_exact::read_exactly;
 use c65_ppdir::{Define, preprocess};
 use c65_scan::scan;
 use std::alloc::Global;
@@ -27,7 +27,7 @@ fn typed(alloc: Global, options: &Options, unit: &PpUnit, names: &Names) -> Resu
         Ok(tokens) => tokens,
         Err(refusal) => return Err(refusal),
     };
-    let tree = match parse_unit(alloc, tokens.as_slice()) {
+    let tree = match read_exactly(alloc, tokens.as_slice()) {
         Ok(tree) => tree,
         Err(refusal) => return Err(refusal),
     };

@@ -2,3 +2,4 @@ pub mod Walks
 pub mod Listing
 pub mod Parts
 pub mod Knots
+pub mod Headed

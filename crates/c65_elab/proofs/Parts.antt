@@ -1,6 +1,6 @@
 -- The parts of trees, as the code takes them.
-use Rattle.std.proofs.Common.{◌≡◌, List, length, map, refl}
-use Rattle.std.proofs.lemmas.List.{length-map}
+use Rattle.std.proofs.Common.{◌≡◌, ◌∙◌, ℕ, ◌+◌, ◌<◌, List, [], ◌∷◌, ◌++◌, length, map, take, reverse, get_or, refl, sym, ap}
+use Rattle.std.proofs.lemmas.List.{length-map, take_more, reverse-append}
 use denote.Hole.Carrier
 use Rattle.c65_base.specs.declared.refusal.Pos.{Pos}
 use Rattle.c65_csem.specs.declared.items.Parts.{Parts}
@@ -55,3 +55,6 @@ objects_many u = length-map u.objects.items object_of
 
 pub parts_many : (ps : List Part) → length (map part_of ps) ≡ length ps
 parts_many ps = length-map ps part_of
+
+pub latest_first : {A : Type 0} (xs : List A) (k : ℕ) (x : A) → k < length xs → x ≡ get_or xs k x → reverse (take (k + 1) xs) ≡ x ∷ reverse (take k xs)
+latest_first xs k x h is = ap reverse (take_more xs k x h ∙ ap (λ y. take k xs ++ y ∷ []) (sym is)) ∙ reverse-append (take k xs) (x ∷ [])

@@ -10,7 +10,7 @@ mod names;
 mod operators;
 mod public;
 
-pub use c65_elab_declare::{Formal, Formals, Heading, name_place};
+pub use c65_elab_declare::{Enumerator, Formal, Formals, Heading, name_place};
 pub use c65_elab_scope::{Entity, Scope};
 pub use constants::value_at;
 pub use public::{elab_declarator, elab_expr, elab_heading, elab_specifiers};

@@ -8,7 +8,7 @@ ghost use Rattle.c65_tree.specs.View.{expr_of, specifiers_of, declarator_of};
 ghost use Rattle.c65_elab.specs.Headings.{declarator_in, headed};
 ghost use Rattle.c65_elab.specs.Typing.{typed, specified};
 
-use crate::blocks::{end_names, object_count};
+use crate::blocks::{leave_parameters, object_count};
 use crate::elab::{expression, parts, specifiers};
 use c65_base::{Name, Refusal};
 use c65_csem::TExpr;
@@ -46,8 +46,8 @@ pub fn elab_declarator(
 }
 
 /// The name, the type and the parameters of a function that is defined by this declarator (C90
-/// 6.7.1). The names of the parameters are not declared yet; their tags are of the next block that
-/// is opened (C90 6.1.2.1). Refuses as `elab_declarator` does, but for a list of names, and
+/// 6.7.1). The names and the enumeration constants of the parameters are not declared yet; their
+/// tags are of the next block that is opened (C90 6.1.2.1). Refuses as `elab_declarator` does, but for a list of names, and
 /// `TypeForm` where the declarator declares no function.
 pub fn elab_heading(
     alloc: Global,
@@ -60,10 +60,9 @@ pub fn elab_heading(
     let block = scope.block;
     let objects = object_count(scope);
     let (name, list) = parts(alloc, scope, item, true)?;
-    end_names(scope, block);
-    scope.keep_objects(objects);
+    let enumerators = leave_parameters(alloc, scope, block, objects)?;
     let ty = shaped_for(alloc, scope.types(), base, item, &list, true)?;
-    heading_of(name, ty, list, item.pos)
+    heading_of(name, ty, list, enumerators, item.pos)
 }
 
 /// The typed tree of an expression.

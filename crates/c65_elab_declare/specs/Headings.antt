@@ -6,6 +6,7 @@ use Rattle.c65_base.specs.declared.refusal.Pos.{Pos}
 use Rattle.c65_base.specs.Answers.{Fault, at}
 use Rattle.c65_ctype.specs.Trees.{QTy}
 use Rattle.c65_ctype.specs.Views.{qty_of}
+use Rattle.c65_elab_declare.specs.declared.heading.Enumerator.{Enumerator}
 use Rattle.c65_elab_declare.specs.declared.heading.Heading.{Heading}
 use Rattle.c65_elab_declare.specs.Declarators.{FormalsTy, PartTy, calling, formals_of}
 
@@ -13,9 +14,10 @@ pub record HeadingTy : Type 0 where
   pub name : Option Name
   pub ty : QTy
   pub formals : FormalsTy
+  pub enumerators : List Enumerator
 
 abbrev pub heading_of : Heading → HeadingTy
-heading_of h = record { name = h.name; ty = qty_of h.ty; formals = formals_of h.formals }
+heading_of h = record { name = h.name; ty = qty_of h.ty; formals = formals_of h.formals; enumerators = h.enumerators.items }
 
 abbrev pub formals_in : PartTy → Option FormalsTy
 formals_in (calling formals p) = Some formals
@@ -25,10 +27,10 @@ abbrev pub first_formals : List PartTy → Option FormalsTy
 first_formals [] = None
 first_formals (p ∷ ps) = formals_in p
 
-abbrev pub heading_with : Option Name → QTy → Pos → Option FormalsTy → Result HeadingTy Fault
-heading_with name t p None = Err (at TypeForm p)
-heading_with name t p (Some formals) = Ok (record { name = name; ty = t; formals = formals })
+abbrev pub heading_with : Option Name → QTy → List Enumerator → Pos → Option FormalsTy → Result HeadingTy Fault
+heading_with name t es p None = Err (at TypeForm p)
+heading_with name t es p (Some formals) = Ok (record { name = name; ty = t; formals = formals; enumerators = es })
 
 -- the name is next to the function part
-abbrev pub heading_from : Option Name → QTy → List PartTy → Pos → Result HeadingTy Fault
-heading_from name t parts p = heading_with name t p (first_formals parts)
+abbrev pub heading_from : Option Name → QTy → List PartTy → List Enumerator → Pos → Result HeadingTy Fault
+heading_from name t parts es p = heading_with name t es p (first_formals parts)

@@ -9,13 +9,21 @@ use crate::parts::{Formals, Part, fault};
 use c65_base::{Code, Name, Pos, Refusal};
 use c65_ctype::QType;
 
-/// The name of a function that is defined, its type, and its parameters: a list of names where it
-/// has no prototype.
+/// An enumeration constant.
+#[derive(Clone, Copy)]
+pub struct Enumerator {
+    pub name: Name,
+    pub value: i64,
+}
+
+/// The name of a function that is defined, its type, its parameters, which are a list of names where
+/// it has no prototype, and the enumeration constants that its prototype declares.
 #[derive(Drop)]
 pub struct Heading {
     pub name: Option<Name>,
     pub ty: QType,
     pub formals: Formals,
+    pub enumerators: Vec<Enumerator>,
 }
 
 /// The parameters of a part that is a function.
@@ -46,12 +54,18 @@ pub fn heading_of(
     name: Option<Name>,
     ty: QType,
     parts: Vec<Part>,
+    enumerators: Vec<Enumerator>,
     pos: Pos,
 ) -> Result<Heading, Refusal>
-    ensures { Gives heading_of result (heading_from name (qty_of ty) (map part_of parts.items) pos) }
+    ensures { Gives heading_of result (heading_from name (qty_of ty) (map part_of parts.items) enumerators.items pos) }
 {
     match first_formals(parts) {
-        Some(formals) => Ok(Heading { name, ty, formals }),
+        Some(formals) => Ok(Heading {
+            name,
+            ty,
+            formals,
+            enumerators,
+        }),
         None => Err(fault(Code::TypeForm, pos)),
     }
 }

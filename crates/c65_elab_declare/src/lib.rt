@@ -16,7 +16,7 @@ mod words;
 pub use calling::name_place;
 pub use constants::{array_count, enumerator_value, field};
 pub use draft::Draft;
-pub use heading::{Heading, heading_of};
+pub use heading::{Enumerator, Heading, heading_of};
 pub use params::{formal, more_bytes, param_storage, without_void};
 pub use parts::{Formal, Formals, Part, Role, fault, with_part};
 pub use shape::{shaped, shaped_for};

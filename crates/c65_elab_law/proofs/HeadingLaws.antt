@@ -13,7 +13,7 @@ use Rattle.c65_elab_scope.specs.Parts.{counted, with_count, completed, literal_a
 use Rattle.c65_elab_declare.specs.Headings.{HeadingTy, heading_from}
 use Rattle.c65_elab_declare.specs.Shapes.{shaped_for}
 use Rattle.c65_tree.specs.Trees as t
-use Rattle.c65_elab.specs.Headings.{declarator_place, names_ended, parameters_left, headed}
+use Rattle.c65_elab.specs.Headings.{declarator_place, names_ended, parameters_left, enumerators_left, headed}
 use Rattle.c65_elab.specs.Typing.{beside, parts_in}
 use Rattle.c65_elab_law.specs.Growth.{IsLater}
 use Rattle.c65_elab_law.specs.Numbers.{IsRangedDeclarator}
@@ -91,6 +91,6 @@ parameters_left_keep s u k = fewer_keeps s (names_ended u s.block) (keeps_on s u
 
 pub headed_keeps : (base : QTy) (k : t.DeclaratorTree) (s : ScopeTy) (x : HeadingTy × ScopeTy) → IsRangedDeclarator k → IsScope s → headed base k s ≡ Ok x → Keeps s x.1
 headed_keeps base k s x w g h =
-    chain (parts_in k true s) (λ y. shaped_for (parameters_left s y.1).unit.types base k y.0.1 true >>= λ u. beside (parameters_left s y.1) (heading_from y.0.0 u y.0.1 (declarator_place k))) x (Keeps s x.1) (λ y hy h1.
-    chain (shaped_for (parameters_left s y.1).unit.types base k y.0.1 true) (λ u. beside (parameters_left s y.1) (heading_from y.0.0 u y.0.1 (declarator_place k))) x (Keeps s x.1) (λ u hu h2.
-    beside_keeps s (parameters_left s y.1) (heading_from y.0.0 u y.0.1 (declarator_place k)) x (parameters_left_keep s y.1 (parts_in_keeps k w true s y g hy)) h2) h1) h
+    chain (parts_in k true s) (λ y. shaped_for (parameters_left s y.1).unit.types base k y.0.1 true >>= λ u. beside (parameters_left s y.1) (heading_from y.0.0 u y.0.1 (enumerators_left y.1 s.block) (declarator_place k))) x (Keeps s x.1) (λ y hy h1.
+    chain (shaped_for (parameters_left s y.1).unit.types base k y.0.1 true) (λ u. beside (parameters_left s y.1) (heading_from y.0.0 u y.0.1 (enumerators_left y.1 s.block) (declarator_place k))) x (Keeps s x.1) (λ u hu h2.
+    beside_keeps s (parameters_left s y.1) (heading_from y.0.0 u y.0.1 (enumerators_left y.1 s.block) (declarator_place k)) x (parameters_left_keep s y.1 (parts_in_keeps k w true s y g hy)) h2) h1) h

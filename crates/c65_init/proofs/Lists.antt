@@ -2,10 +2,13 @@
 use Rattle.std.proofs.Common.{◌≡◌, ℕ, suc, ◌+◌, ◌-◌, ◌<◌, ◌≤◌, min, Bool, List, [], ◌∷◌, ◌++◌, length, map, false, refl, sym, ap, arith, Ok}
 use Rattle.std.proofs.lemmas.Bool.Decides.{nat_tests}
 use Rattle.std.specs.Prelude.{Result, Option, ◌==◌}
+use Rattle.c65_base.specs.declared.refusal.Pos.{Pos}
 use Rattle.c65_base.specs.Answers.{Fault, ◌>>=◌}
 use Rattle.c65_ctype.specs.Trees.{QTy}
 use Rattle.c65_csem.specs.Trees.{Stmt}
 use Rattle.c65_elab_scope.specs.Scopes.{ScopeTy}
+use Rattle.c65_elab_scope.specs.Declaring.{enumerator_declared}
+use Rattle.c65_elab_declare.specs.declared.heading.Enumerator.{Enumerator}
 use Rattle.c65_tree.specs.declared.expr.Storage.{Storage}
 use Rattle.c65_tree.specs.declared.stmt.InitDeclarator.{InitDeclarator}
 use Rattle.c65_tree.specs.declared.stmt.Decl.{Decl}
@@ -17,6 +20,7 @@ use Rattle.c65_tree.proofs.Growing.{stmts_push}
 use Rattle.c65_elab.proofs.Walks.{Goes}
 use Rattle.c65_init.specs.Bodies.{BodyTy}
 use Rattle.c65_init.specs.Declarations.{LocalsTy, is_none_of, declarator_begun, declarators_begun, declaration_of, declarations_of}
+use Rattle.c65_init.specs.Functions.{enumerators_declared}
 use Rattle.c65_init.specs.Parameters.{OldTy, old_one, old_declarators, old_declaration, old_declarations}
 use Rattle.c65_init.specs.Settled.{function_settled, functions_from}
 use Rattle.c65_init.specs.Statements.{statement_of, statements_of}
@@ -72,14 +76,25 @@ old_decls_steps = record { first = λ d ds x. refl; none = λ x. refl }
 
 -- ---- external declarations
 
-abbrev pub items_walk : List Item → ScopeTy → Result ScopeTy Fault
-items_walk is s = items_in (map v.item_of is) s
+abbrev pub items_walk : List Item → LocalsTy × ScopeTy → Result (LocalsTy × ScopeTy) Fault
+items_walk is x = items_in (map v.item_of is) x.0 x.1
 
-abbrev pub items_step : Item → ScopeTy → Result ScopeTy Fault
-items_step i s = item_in (v.item_of i) s
+abbrev pub items_step : Item → LocalsTy × ScopeTy → Result (LocalsTy × ScopeTy) Fault
+items_step i x = item_in (v.item_of i) x.0 x.1
 
 pub items_steps : Steps items_walk items_step
-items_steps = record { first = λ i is s. refl; none = λ s. refl }
+items_steps = record { first = λ i is x. refl; none = λ x. refl }
+
+-- ---- enumeration constants
+
+abbrev pub enumerators_walk : Pos → List Enumerator → ScopeTy → Result ScopeTy Fault
+enumerators_walk p es s = enumerators_declared es p s
+
+abbrev pub enumerators_step : Pos → Enumerator → ScopeTy → Result ScopeTy Fault
+enumerators_step p e s = enumerator_declared s e.name e.value p
+
+pub enumerators_steps : (p : Pos) → Steps (enumerators_walk p) (enumerators_step p)
+enumerators_steps p = record { first = λ e es s. refl; none = λ s. refl }
 
 -- ---- arrays without a number of elements
 

@@ -26,20 +26,22 @@ use Rattle.c65_elab.specs.Typing.{specified}
 use Rattle.c65_init_cells.specs.Cells.{grown}
 use Rattle.c65_init_cells.specs.Items.{place_of}
 use Rattle.c65_init_cells.specs.Sinks.{SinkTy, beginning}
+use Rattle.c65_init.specs.declared.declare.TentativeObject.{TentativeObject}
 use Rattle.c65_init.specs.declared.declare.Locals.{Locals}
 use Rattle.c65_init.specs.Agreeing.{as_defined}
 use Rattle.c65_init.specs.Initials.{initial_of}
 
--- the automatic objects of a block, and the statements that begin them
+-- the automatic objects of a block, and the statements that begin them; the tentative definitions of a unit
 pub record LocalsTy : Type 0 where
   pub objects : List ℕ
   pub stmts : List Stmt
+  pub tentative : List TentativeObject
 
 abbrev pub locals_of : Locals → LocalsTy
-locals_of k = record { objects = k.objects.items; stmts = map stmt_of k.stmts.items }
+locals_of k = record { objects = k.objects.items; stmts = map stmt_of k.stmts.items; tentative = k.tentative.items }
 
 abbrev pub no_locals : LocalsTy
-no_locals = record { objects = []; stmts = [] }
+no_locals = record { objects = []; stmts = []; tentative = [] }
 
 abbrev pub with_local : LocalsTy → ℕ → LocalsTy
 with_local k n = record k { objects = k.objects ++ n ∷ [] }
@@ -65,8 +67,13 @@ abbrev pub is_static : Class → Bool
 is_static classes.Static = true
 is_static _ = false
 
+-- the size of a tentative definition is asked for at the end of its unit (C90 6.7.2)
+abbrev pub with_tentative : Class → LocalsTy → ℕ → Pos → LocalsTy
+with_tentative classes.Tentative k n p = record k { tentative = k.tentative ++ record { object = n; pos = p } ∷ [] }
+with_tentative _ k n p = k
+
 abbrev pub sized_local : Class → ScopeTy → LocalsTy → ℕ → Pos → Result LocalsTy Fault
-sized_local class s k n p = if is_automatic class then size_needed s n p >>= (λ size. Ok (with_local k n)) else (if is_static class && nat_lt 0 s.block then size_needed s n p >>= (λ size. Ok k) else Ok k)
+sized_local class s k n p = if is_automatic class then size_needed s n p >>= (λ size. Ok (with_local k n)) else (if is_static class && nat_lt 0 s.block then size_needed s n p >>= (λ size. Ok k) else Ok (with_tentative class k n p))
 
 -- an object of a block has a size
 abbrev pub uninitialised_of : ScopeTy → LocalsTy → ℕ → Pos → Result LocalsTy Fault
@@ -106,7 +113,7 @@ cleared true n = []
 cleared false n = clear n ∷ []
 
 abbrev pub with_automatic : LocalsTy → ℕ → Bool → SinkTy → LocalsTy
-with_automatic k n whole sink = record { objects = k.objects ++ n ∷ []; stmts = (k.stmts ++ cleared whole n) ++ beginning sink }
+with_automatic k n whole sink = record k { objects = k.objects ++ n ∷ []; stmts = (k.stmts ++ cleared whole n) ++ beginning sink }
 
 -- the class of an object that is defined with an initialiser (C90 6.7.2)
 abbrev pub defined_as : Class → Class

@@ -12,10 +12,11 @@ use Rattle.c65_elab_scope.specs.declared.meaning.Entity.{Entity}
 use Rattle.c65_elab_scope.specs.declared.meaning.Entity.TheVariants as e
 use Rattle.c65_elab_scope.specs.Scopes.{ScopeTy, opened, closed}
 use Rattle.c65_elab_scope.specs.Parts.{with_funcs}
-use Rattle.c65_elab_scope.specs.Declaring.{declared}
+use Rattle.c65_elab_scope.specs.Declaring.{declared, enumerator_declared}
 use Rattle.c65_tree.specs.declared.expr.Storage.{Storage}
 use Rattle.c65_tree.specs.Trees.{StmtTree, block, FunctionTree}
 use Rattle.c65_elab_declare.specs.Calling.{name_place}
+use Rattle.c65_elab_declare.specs.declared.heading.Enumerator.{Enumerator}
 use Rattle.c65_elab_declare.specs.Headings.{HeadingTy}
 use Rattle.c65_elab.specs.Headings.{headed}
 use Rattle.c65_elab.specs.Typing.{specified}
@@ -67,13 +68,19 @@ with_body (f ∷ fs) (suc n) params body = f ∷ with_body fs n params body
 abbrev pub function_finished : ScopeTy → ℕ → List ℕ → Stmt → ScopeTy
 function_finished s n params body = with_funcs s (with_body s.unit.funcs n params body)
 
+-- the enumeration constants of the parameters are of the function's block too (C90 6.1.2.1)
+abbrev pub enumerators_declared : List Enumerator → Pos → ScopeTy → Result ScopeTy Fault
+enumerators_declared [] p s = Ok s
+enumerators_declared (e ∷ es) p s = enumerator_declared s e.name e.value p >>= enumerators_declared es p
+
 abbrev pub definition_of : FunctionTree → ScopeTy → Result ScopeTy Fault
 definition_of f s = do
   b ← specified f.specifiers false s
   h ← headed b.0.1 f.declarator b.1
   x ← function_declared h.0 b.0.0 (name_place f.declarator) h.1
   u ← opened x.1
-  ps ← parameters_of h.0.formals f.declarations u
+  v ← enumerators_declared h.0.enumerators (name_place f.declarator) u
+  ps ← parameters_of h.0.formals f.declarations v
   same ← as_declared ps.1.unit ps.0 (name_place f.declarator) (slice_get ps.1.unit.funcs x.0)
   y ← body_in f.body (new_body (labels_of f.body) (gives_in (slice_get ps.1.unit.funcs x.0))) ps.1
   Ok (function_finished (closed y.1) x.0 ps.0 y.0.0)

@@ -8,17 +8,20 @@ use Rattle.c65_csem.specs.Trees.{ObjectTy, UnitTy}
 use Rattle.c65_elab_scope.specs.Scopes.{ScopeTy, nothing}
 use Rattle.c65_elab_scope.specs.Parts.{completed}
 use Rattle.c65_tree.specs.Trees.{ItemTree, declaration, definition, UnitTree}
-use Rattle.c65_init.specs.Declarations.{no_locals, declaration_of}
+use Rattle.c65_init.specs.declared.declare.TentativeObject.{TentativeObject}
+use Rattle.c65_init.specs.Declarations.{LocalsTy, no_locals, size_needed, declaration_of}
 use Rattle.c65_init.specs.Functions.{definition_of}
 use Rattle.c65_init.specs.Settled.{functions_settled}
 
-abbrev pub item_in : ItemTree → ScopeTy → Result ScopeTy Fault
-item_in (declaration d) s = declaration_of d no_locals s >>= (λ x. Ok x.1)
-item_in (definition f) s = definition_of f s
+abbrev pub item_in : ItemTree → LocalsTy → ScopeTy → Result (LocalsTy × ScopeTy) Fault
+item_in (declaration d) k s = declaration_of d k s
+item_in (definition f) k s = definition_of f s >>= (λ u. Ok (k, u))
 
-abbrev pub items_in : List ItemTree → ScopeTy → Result ScopeTy Fault
-items_in [] s = Ok s
-items_in (i ∷ is) s = item_in i s >>= items_in is
+abbrev pub items_in : List ItemTree → LocalsTy → ScopeTy → Result (LocalsTy × ScopeTy) Fault
+items_in [] k s = Ok (k, s)
+items_in (i ∷ is) k s = do
+  x ← item_in i k s
+  items_in is x.0 x.1
 
 -- an array that is defined without a number of elements has one (C90 6.7.2)
 abbrev pub is_open_type : Ty → Bool
@@ -45,8 +48,15 @@ arrays_from (suc turns) n s = arrays_from turns (n + 1) (array_completed s (min 
 abbrev pub arrays_completed : ScopeTy → ScopeTy
 arrays_completed s = arrays_from (length s.unit.objects) 0 s
 
+-- At the end of the unit an object that was defined tentatively has a size (C90 6.7.2). The first definition of
+-- which this is not so is refused.
+abbrev pub all_sized : List TentativeObject → ScopeTy → Result (Unit {0}) Fault
+all_sized [] s = Ok tt
+all_sized (t ∷ ts) s = size_needed s t.object t.pos >>= (λ size. all_sized ts s)
+
 abbrev pub unit_in : UnitTree → Bool → Result UnitTy Fault
 unit_in t signed_chars = do
   s ← nothing signed_chars
-  u ← items_in t.items s
-  Ok (functions_settled (arrays_completed u)).unit
+  u ← items_in t.items no_locals s
+  sized ← all_sized u.0.tentative (arrays_completed u.1)
+  Ok (functions_settled (arrays_completed u.1)).unit

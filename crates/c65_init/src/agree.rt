@@ -9,7 +9,6 @@ ghost use Rattle.c65_init.specs.Agreeing;
 use c65_base::{Code, Pos, Refusal};
 use c65_csem::{Parts, TFunc, TObject, int_type, promoted, unqualified};
 use c65_ctype::{CType, FnType, QType, Types};
-use c65_init_cells::fault;
 use c65_ints::IntType;
 use std::alloc::{AllocError, Global};
 
@@ -116,7 +115,7 @@ pub fn as_declared(
     if agrees(alloc, parts, &func.ty, params)? {
         Ok(())
     } else {
-        Err(fault(Code::Redeclared, pos))
+        Err(Refusal::fault(Code::Redeclared, pos))
     }
 }
 

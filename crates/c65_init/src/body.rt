@@ -11,7 +11,6 @@ ghost use Rattle.c65_init.specs.Causes.{IsLabelFault, IsCaseFault};
 use crate::labels::{first_number, number_of};
 use c65_base::{Code, Name, Pos, Refusal, Size};
 use c65_ctype::QType;
-use c65_init_cells::fault;
 use c65_ints::{IntType, wrap};
 use std::alloc::{AllocError, Global};
 
@@ -62,7 +61,7 @@ fn add_value(switch: &mut Switch, known: i64, pos: Pos) -> Result<i64, Refusal>
 {
     let known = wrap(switch.kind, known);
     if has_value(switch.values.as_slice(), known) {
-        return Err(fault(Code::CaseTwice, pos));
+        return Err(Refusal::fault(Code::CaseTwice, pos));
     }
     if switch.values.len() >= 1024 {
         return Err(Refusal::TooLarge {
@@ -79,7 +78,7 @@ fn add_default(switch: &mut Switch, pos: Pos) -> Result<(), Refusal>
     ensures refused { IfErr result (λ e. e ≡ At CaseTwice pos) }
 {
     if switch.has_default {
-        return Err(fault(Code::CaseTwice, pos));
+        return Err(Refusal::fault(Code::CaseTwice, pos));
     }
     switch.has_default = true;
     Ok(())
@@ -94,7 +93,7 @@ pub fn case_value(body: &mut Body, known: i64, pos: Pos) -> Result<i64, Refusal>
 {
     match body.switches.last_mut() {
         Some(switch) => add_value(switch, known, pos),
-        None => Err(fault(Code::LooseStatement, pos)),
+        None => Err(Refusal::fault(Code::LooseStatement, pos)),
     }
 }
 
@@ -106,7 +105,7 @@ pub fn default_label(body: &mut Body, pos: Pos) -> Result<(), Refusal>
 {
     match body.switches.last_mut() {
         Some(switch) => add_default(switch, pos),
-        None => Err(fault(Code::LooseStatement, pos)),
+        None => Err(Refusal::fault(Code::LooseStatement, pos)),
     }
 }
 
@@ -129,7 +128,7 @@ pub fn named_label(body: &Body, name: Name, pos: Pos) -> Result<u32, Refusal>
 {
     match number_of(body.labels.as_slice(), name) {
         Some(number) => Ok(number),
-        None => Err(fault(Code::LabelUnknown, pos)),
+        None => Err(Refusal::fault(Code::LabelUnknown, pos)),
     }
 }
 
@@ -142,7 +141,7 @@ pub fn within_loop(body: &Body, pos: Pos) -> Result<(), Refusal>
     if body.loops > 0 {
         Ok(())
     } else {
-        Err(fault(Code::LooseStatement, pos))
+        Err(Refusal::fault(Code::LooseStatement, pos))
     }
 }
 
@@ -154,7 +153,7 @@ pub fn within_any(body: &Body, pos: Pos) -> Result<(), Refusal>
     if body.loops > 0 || !body.switches.is_empty() {
         Ok(())
     } else {
-        Err(fault(Code::LooseStatement, pos))
+        Err(Refusal::fault(Code::LooseStatement, pos))
     }
 }
 

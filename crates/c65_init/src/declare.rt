@@ -1,5 +1,5 @@
 // Declarations of objects, functions and types, with their initialisers (C90 6.5, 6.7.2).
-ghost use Rattle.std.specs.Prelude.{◌≡◌, ◌++◌, Ok, map, option_map, slice_get, true};
+ghost use Rattle.std.specs.Prelude.{◌≡◌, ◌++◌, Ok, OnOk, map, option_map, slice_get, true};
 ghost use Rattle.c65_base.specs.Answers.{Gives};
 ghost use Rattle.c65_ctype.specs.Views.{ty_of, qty_of};
 ghost use Rattle.c65_csem.specs.Places.{is_automatic};
@@ -9,7 +9,7 @@ ghost use Rattle.c65_elab_scope.specs.Scopes.{scope_of};
 ghost use Rattle.c65_tree.specs.View.{init_of, init_declarator_of, decl_of, maybe};
 ghost use Rattle.c65_init_cells.specs.Cells.{grown};
 ghost use Rattle.c65_init_cells.specs.Sinks.{sink_of};
-ghost use Rattle.c65_init.specs.Declarations.{locals_of, no_locals, no_values, is_none_of, class_at, is_static, size_needed, uninitialised_of, is_outer, to_begin, counted_by, is_whole, cleared, with_automatic, defined_as, with_init, with_static, begun_of, initialised_of, entity_alone, entity_given, declarator_begun, declarators_begun, declaration_of, declarations_of};
+ghost use Rattle.c65_init.specs.Declarations.{locals_of, no_locals, no_values, is_none_of, class_at, is_static, size_needed, with_tentative, uninitialised_of, is_outer, to_begin, counted_by, is_whole, cleared, with_automatic, defined_as, with_init, with_static, begun_of, initialised_of, entity_alone, entity_given, declarator_begun, declarators_begun, declaration_of, declarations_of};
 
 use crate::agree::as_defined;
 use crate::initial::initial;
@@ -18,15 +18,24 @@ use c65_csem::{Cell, Class, TObject, TStmt};
 use c65_ctype::{CType, QType};
 use c65_elab::{Entity, elab_declarator, elab_specifiers, name_place};
 use c65_elab_scope::Scope;
-use c65_init_cells::{Sink, begin_automatic, fault, grow};
+use c65_init_cells::{Sink, begin_automatic, grow};
 use c65_tree::{Decl, InitDeclarator, InitKind, Initialiser, Storage};
-use std::alloc::Global;
+use std::alloc::{AllocError, Global};
 
-/// The automatic objects of a block, and the statements that begin them.
+/// A tentative definition of an object.
+#[derive(Clone, Copy)]
+pub struct TentativeObject {
+    pub object: u32,
+    pub pos: Pos,
+}
+
+/// What declarations leave to do: in a block the automatic objects, and the statements that begin
+/// them; in a unit its tentative definitions, whose size is asked for at its end.
 #[derive(Drop)]
 pub struct Locals {
     pub objects: Vec<u32>,
     pub stmts: Vec<TStmt>,
+    pub tentative: Vec<TentativeObject>,
 }
 
 impl Locals {
@@ -37,6 +46,7 @@ impl Locals {
         Locals {
             objects: Vec::new(alloc),
             stmts: Vec::new(alloc),
+            tentative: Vec::new(alloc),
         }
     }
 }
@@ -118,7 +128,7 @@ fn declared(
     let pos = name_place(&item.declarator);
     let (name, ty) = elab_declarator(alloc, scope, base, &item.declarator)?;
     let Some(name) = name else {
-        return Err(fault(Code::Specifiers, pos));
+        return Err(Refusal::fault(Code::Specifiers, pos));
     };
     let entity = scope.declare(name, ty, storage, pos)?;
     match &item.init {
@@ -142,7 +152,7 @@ fn with_init(
 {
     match entity {
         Entity::Object(number) => begun(alloc, scope, locals, storage, number, init, pos),
-        Entity::Func(_) | Entity::Typedef => Err(fault(Code::Initialiser, init.pos)),
+        Entity::Func(_) | Entity::Typedef => Err(Refusal::fault(Code::Initialiser, init.pos)),
     }
 }
 
@@ -190,13 +200,31 @@ fn class_of(scope: &Scope, number: u32) -> Class
     }
 }
 
-/// The size that an object of a block needs.
-fn needs_size(scope: &Scope, number: u32, pos: Pos) -> Result<u32, Refusal>
+/// The size that an object needs.
+pub fn needs_size(scope: &Scope, number: u32, pos: Pos) -> Result<u32, Refusal>
     ensures { Gives (λ n. n) result (size_needed (scope_of scope.now) number pos) }
 {
     match scope.object(number) {
         Some(object) => scope.types().size(&object.ty.ty, pos),
         None => Err(Refusal::OutOfMemory),
+    }
+}
+
+/// A tentative definition is kept for the end of its unit.
+fn note_tentative(
+    locals: &mut Locals,
+    class: Class,
+    object: u32,
+    pos: Pos,
+) -> Result<(), AllocError>
+    ensures { OnOk result (locals_of locals.new ≡ with_tentative class (locals_of locals.old) object pos) }
+{
+    match class {
+        Class::Tentative => {
+            locals.tentative.push(TentativeObject { object, pos })?;
+            Ok(())
+        }
+        Class::External | Class::Declared | Class::Static | Class::Auto | Class::Register => Ok(()),
     }
 }
 
@@ -214,6 +242,7 @@ fn uninitialised(scope: &Scope, locals: &mut Locals, number: u32, pos: Pos) -> R
         needs_size(scope, number, pos)?;
         return Ok(());
     }
+    note_tentative(locals, class, number, pos)?;
     Ok(())
 }
 
@@ -236,7 +265,7 @@ fn to_begin(alloc: Global, scope: &Scope, number: u32, pos: Pos) -> Result<(Clas
         return Err(Refusal::OutOfMemory);
     };
     if object.init.is_some() {
-        return Err(fault(Code::Redeclared, pos));
+        return Err(Refusal::fault(Code::Redeclared, pos));
     }
     Ok((object.class, object.ty.copy(alloc)?))
 }
@@ -282,7 +311,7 @@ fn begun(
     ensures { Gives (λ x. (locals_of locals.new, scope_of scope.new)) result (initialised_of storage (locals_of locals.old) number (init_of init.now) pos (scope_of scope.old)) }
 {
     if is_outer(storage, scope.block) {
-        return Err(fault(Code::Initialiser, init.pos));
+        return Err(Refusal::fault(Code::Initialiser, init.pos));
     }
     let (class, ty) = to_begin(alloc, scope, number, pos)?;
     begun_as(alloc, scope, locals, number, class, &ty, init, pos)

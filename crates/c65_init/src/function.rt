@@ -8,7 +8,7 @@ ghost use Rattle.c65_tree.specs.View as v;
 ghost use Rattle.c65_elab_declare.specs.Declarators.{formals_of};
 ghost use Rattle.c65_elab_declare.specs.Headings.{heading_of};
 ghost use Rattle.c65_init.specs.Bodies.{body_of, new_body};
-ghost use Rattle.c65_init.specs.Functions.{function_name, function_number, without_body, function_declared, gives_in, body_in, with_body, function_finished, definition_of};
+ghost use Rattle.c65_init.specs.Functions.{function_name, function_number, without_body, function_declared, gives_in, body_in, with_body, function_finished, enumerators_declared, definition_of};
 ghost use Rattle.c65_init.specs.Labels.{labels_of};
 
 use crate::agree::as_declared;
@@ -19,9 +19,8 @@ use crate::stmt::block;
 use c65_base::{Code, Pos, Refusal};
 use c65_csem::{TFunc, TStmt, unqualified};
 use c65_ctype::QType;
-use c65_elab::{Entity, Formals, Heading, elab_heading, elab_specifiers, name_place};
+use c65_elab::{Entity, Enumerator, Formals, Heading, elab_heading, elab_specifiers, name_place};
 use c65_elab_scope::Scope;
-use c65_init_cells::fault;
 use c65_tree::{Function, Stmt, StmtKind, Storage};
 use std::alloc::Global;
 
@@ -44,7 +43,7 @@ fn without_body(scope: &Scope, number: u32, pos: Pos) -> Result<(), Refusal>
         return Ok(());
     };
     if func.body.is_some() {
-        return Err(fault(Code::Redeclared, pos));
+        return Err(Refusal::fault(Code::Redeclared, pos));
     }
     Ok(())
 }
@@ -104,29 +103,45 @@ fn function_number(entity: Entity, pos: Pos) -> Result<u32, Refusal>
 {
     match entity {
         Entity::Func(number) => Ok(number),
-        Entity::Object(_) | Entity::Typedef => Err(fault(Code::TypeForm, pos)),
+        Entity::Object(_) | Entity::Typedef => Err(Refusal::fault(Code::TypeForm, pos)),
     }
 }
 
-/// Declares a function that is defined, and answers its number and its parameters. Refuses
-/// `TypeForm` where it is none, and `Redeclared` where it has a body.
+/// Declares a function that is defined, and answers its number, its parameters and their
+/// enumeration constants. Refuses `TypeForm` where it is none, and `Redeclared` where it has a body.
 fn defined(
     scope: &mut Scope,
     heading: Heading,
     storage: Option<Storage>,
     pos: Pos,
-) -> Result<(u32, Formals), Refusal>
+) -> Result<(u32, Formals, Vec<Enumerator>), Refusal>
     ensures exact { Gives (λ x. (x.0, scope_of scope.new)) result (function_declared (heading_of heading) storage pos (scope_of scope.old)) }
     ensures formals { IfOk result (λ x. formals_of x.1 ≡ (heading_of heading).formals) }
+    ensures enumerators { IfOk result (λ x. x.2.items ≡ (heading_of heading).enumerators) }
 {
-    let Heading { name, ty, formals } = heading;
+    let Heading {
+        name,
+        ty,
+        formals,
+        enumerators,
+    } = heading;
     let Some(name) = name else {
-        return Err(fault(Code::TypeForm, pos));
+        return Err(Refusal::fault(Code::TypeForm, pos));
     };
     let entity = scope.declare(name, ty, storage, pos)?;
     let number = function_number(entity, pos)?;
     without_body(scope, number, pos)?;
-    Ok((number, formals))
+    Ok((number, formals, enumerators))
+}
+
+/// The enumeration constants of the parameters are of the function's block (C90 6.1.2.1).
+fn declare_enumerators(scope: &mut Scope, list: &[Enumerator], pos: Pos) -> Result<(), Refusal>
+    ensures { Gives (λ x. scope_of scope.new) result (enumerators_declared list.now pos (scope_of scope.old)) }
+{
+    for enumerator in list {
+        scope.declare_enumerator(enumerator.name, enumerator.value, pos)?;
+    }
+    Ok(())
 }
 
 /// A function definition.
@@ -136,8 +151,9 @@ pub fn definition(alloc: Global, scope: &mut Scope, item: &Function) -> Result<(
     let pos = name_place(&item.declarator);
     let (storage, base) = elab_specifiers(alloc, scope, &item.specifiers, false)?;
     let heading = elab_heading(alloc, scope, &base, &item.declarator)?;
-    let (number, formals) = defined(scope, heading, storage, pos)?;
+    let (number, formals, enumerators) = defined(scope, heading, storage, pos)?;
     scope.open()?;
+    declare_enumerators(scope, enumerators.as_slice(), pos)?;
     let params = parameters(alloc, scope, formals, item.declarations.as_slice())?;
     as_declared(
         alloc,

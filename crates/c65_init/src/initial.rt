@@ -14,7 +14,7 @@ use c65_base::{Code, Pos, Refusal};
 use c65_ctype::{CType, QType};
 use c65_elab_scope::Scope;
 use c65_init_cells::{
-    Part, Sink, element_part, fault, first_pos, is_below, member_part, put_text, scalar_value,
+    Part, Sink, element_part, first_pos, is_below, member_part, put_text, scalar_value,
     takes_whole, text_for, whole,
 };
 use c65_tree::{Expr, InitKind, Initialiser};
@@ -37,7 +37,7 @@ fn all_taken(items: &[Initialiser], at: usize) -> Result<(), Refusal>
         return Ok(());
     }
     let item = &items[at];
-    Err(fault(Code::Initialiser, item.pos))
+    Err(Refusal::fault(Code::Initialiser, item.pos))
 }
 
 /// A part that is a scalar.
@@ -99,7 +99,7 @@ fn braced(
             let count = listed(alloc, scope, sink, part, items, left)?;
             Ok(count)
         }
-        InitKind::Value(_) => Err(fault(Code::Initialiser, init.pos)),
+        InitKind::Value(_) => Err(Refusal::fault(Code::Initialiser, init.pos)),
     }
 }
 
@@ -260,7 +260,7 @@ fn from_item(
     }
     let (behind, _) = parts(alloc, scope, sink, part, items, at, left)?;
     if behind == at {
-        return Err(fault(Code::Initialiser, item.pos));
+        return Err(Refusal::fault(Code::Initialiser, item.pos));
     }
     Ok(behind)
 }

@@ -8,7 +8,6 @@ ghost use Rattle.c65_init.specs.Causes.{IsLabelFault};
 ghost use Rattle.c65_init.specs.Labels.{labels_of, labels_in};
 
 use c65_base::{Code, Name, Pos, Refusal};
-use c65_init_cells::fault;
 use c65_tree::{Stmt, StmtKind};
 use std::alloc::AllocError;
 
@@ -98,11 +97,11 @@ pub fn first_number(labels: &[Name], met: usize, name: Name, pos: Pos) -> Result
     match number_of(labels, name) {
         Some(number) => {
             if (number as usize) < met {
-                Err(fault(Code::LabelTwice, pos))
+                Err(Refusal::fault(Code::LabelTwice, pos))
             } else {
                 Ok(number)
             }
         }
-        None => Err(fault(Code::LabelUnknown, pos)),
+        None => Err(Refusal::fault(Code::LabelUnknown, pos)),
     }
 }

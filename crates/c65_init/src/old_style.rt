@@ -14,7 +14,6 @@ use c65_ctype::{CType, QType, Types};
 use c65_elab::{elab_declarator, elab_specifiers, name_place};
 use c65_elab_declare::param_storage;
 use c65_elab_scope::Scope;
-use c65_init_cells::fault;
 use c65_tree::{Decl, Declarator, InitDeclarator, Initialiser};
 use std::alloc::{AllocError, Global};
 
@@ -94,7 +93,7 @@ fn as_parameter(types: &Types, ty: &CType, pos: Pos) -> Result<(), Refusal>
     ensures { Gives (λ x. tt) result (may_be_parameter (types_of types.now) (ty_of ty.now) pos) }
 {
     match ty {
-        CType::Struct(_) => Err(fault(Code::StructValue, pos)),
+        CType::Struct(_) => Err(Refusal::fault(Code::StructValue, pos)),
         CType::Void | CType::Int(_) | CType::Pointer(_) | CType::Array(_, _) | CType::Function(_) =>
             {
                 types.size(ty, pos)?;
@@ -128,10 +127,10 @@ fn enter_at(
     ensures { Gives (λ x. map old_of list.new.items) result (entered_at (map old_of list.old.items) (qty_of ty) is_register pos (Some at)) }
 {
     let Some(old) = list.get_mut(at) else {
-        return Err(fault(Code::ParameterList, pos));
+        return Err(Refusal::fault(Code::ParameterList, pos));
     };
     if old.ty.is_some() {
-        return Err(fault(Code::Redeclared, pos));
+        return Err(Refusal::fault(Code::Redeclared, pos));
     }
     old.ty = Some(ty);
     old.is_register = is_register;
@@ -149,11 +148,11 @@ fn enter_old(
     ensures { Gives (λ x. map old_of list.new.items) result (entered (map old_of list.old.items) name (qty_of ty) is_register pos) }
 {
     let Some(name) = name else {
-        return Err(fault(Code::ParameterList, pos));
+        return Err(Refusal::fault(Code::ParameterList, pos));
     };
     match place_of(list, name) {
         Some(at) => enter_at(list, at, ty, is_register, pos),
-        None => Err(fault(Code::ParameterList, pos)),
+        None => Err(Refusal::fault(Code::ParameterList, pos)),
     }
 }
 
@@ -181,7 +180,7 @@ fn without_init(init: &Option<Initialiser>) -> Result<(), Refusal>
     ensures { Gives (λ x. tt) result (no_init (maybe init_of init.now)) }
 {
     match init {
-        Some(init) => Err(fault(Code::Initialiser, init.pos)),
+        Some(init) => Err(Refusal::fault(Code::Initialiser, init.pos)),
         None => Ok(()),
     }
 }

@@ -13,7 +13,6 @@ use c65_csem::int_type;
 use c65_ctype::QType;
 use c65_elab::{Entity, Formal, Formals};
 use c65_elab_scope::Scope;
-use c65_init_cells::fault;
 use c65_ints::IntType;
 use c65_tree::{Decl, Storage};
 use std::alloc::Global;
@@ -40,7 +39,7 @@ fn parameter(
 {
     match scope.declare(name, ty, storage_of(is_register), pos)? {
         Entity::Object(number) => Ok(number),
-        Entity::Func(_) | Entity::Typedef => Err(fault(Code::ParameterList, pos)),
+        Entity::Func(_) | Entity::Typedef => Err(Refusal::fault(Code::ParameterList, pos)),
     }
 }
 
@@ -50,7 +49,7 @@ fn formal_parameter(scope: &mut Scope, formal: Formal) -> Result<u32, Refusal>
 {
     match formal.name {
         Some(name) => parameter(scope, name, formal.ty, formal.is_register, formal.pos),
-        None => Err(fault(Code::ParameterList, formal.pos)),
+        None => Err(Refusal::fault(Code::ParameterList, formal.pos)),
     }
 }
 
@@ -117,7 +116,7 @@ fn without_declarations(declarations: &[Decl]) -> Result<(), Refusal>
     ensures { Gives (λ x. tt) result (no_declarations (map decl_of declarations.now)) }
 {
     match declarations {
-        [first, ..] => Err(fault(Code::ParameterList, first.specifiers.pos)),
+        [first, ..] => Err(Refusal::fault(Code::ParameterList, first.specifiers.pos)),
         [] => Ok(()),
     }
 }

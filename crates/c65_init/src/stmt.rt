@@ -1,8 +1,9 @@
 // Statements (C90 6.6).
-ghost use Rattle.std.specs.Prelude.{◌≡◌, map};
+ghost use Rattle.std.specs.Prelude.{◌≡◌, IfOk, map};
 ghost use Rattle.c65_base.specs.Answers.{Gives};
 ghost use Rattle.c65_ctype.specs.Trees.{type_in};
 ghost use Rattle.c65_ctype.specs.Views.{qty_of};
+ghost use Rattle.c65_csem.specs.Trees as n;
 ghost use Rattle.c65_csem.specs.Views.{typed_of, stmt_of};
 ghost use Rattle.c65_elab_scope.specs.Scopes.{scope_of};
 ghost use Rattle.c65_tree.specs.Trees as t;
@@ -17,7 +18,7 @@ use crate::body::{
 };
 use crate::declare::block_locals;
 use crate::values::{folded, given, maybe_test, maybe_unused, test, unused};
-use c65_base::{Name, Pos, Refusal};
+use c65_base::{Name, Pos, Refusal, boxed_beside, boxed_pair};
 use c65_csem::{TExpr, TStmt};
 use c65_ctype::CType;
 use c65_elab::{elab_expr, value_at};
@@ -25,7 +26,7 @@ use c65_elab_convert::switch_value;
 use c65_elab_scope::Scope;
 use c65_ints::IntType;
 use c65_tree::{Decl, Expr, Stmt, StmtKind};
-use std::alloc::Global;
+use std::alloc::{AllocError, Global};
 
 /// What stands between the parentheses of a `for`.
 #[derive(Drop)]
@@ -75,9 +76,21 @@ fn for_head(
     ensures { Gives (λ x. (head_of x, scope_of scope.new)) result (head_in (v.maybe v.expr_of first.now) (v.maybe v.expr_of until.now) (v.maybe v.expr_of next.now) pos (scope_of scope.old)) }
 {
     let first = maybe_unused(alloc, scope, first)?;
-    let until = maybe_test(alloc, scope, until, pos)?;
-    let next = maybe_unused(alloc, scope, next)?;
-    Ok(Head { first, until, next })
+    let until = match maybe_test(alloc, scope, until, pos) {
+        Ok(until) => until,
+        Err(error) => {
+            drop(first);
+            return Err(error);
+        }
+    };
+    match maybe_unused(alloc, scope, next) {
+        Ok(next) => Ok(Head { first, until, next }),
+        Err(error) => {
+            drop(until);
+            drop(first);
+            Err(error)
+        }
+    }
 }
 
 /// The value on which a switch depends.
@@ -86,6 +99,19 @@ fn switched_on(alloc: Global, scope: &mut Scope, e: &Expr, pos: Pos) -> Result<T
 {
     let typed = elab_expr(alloc, scope, e)?;
     Ok(folded(switch_value(alloc, scope.types(), pos, typed)?))
+}
+
+/// An `if` statement of its parts.
+fn if_stmt(alloc: Global, e: TExpr, inner: TStmt, other: TStmt) -> Result<TStmt, AllocError>
+    ensures { IfOk result (λ x. stmt_of x ≡ n.if_stmt (typed_of e) (stmt_of inner) (stmt_of other)) }
+{
+    match boxed_pair(alloc, inner, other) {
+        Ok((inner, other)) => Ok(TStmt::If(e, inner, other)),
+        Err(error) => {
+            drop(e);
+            Err(error)
+        }
+    }
 }
 
 /// A statement.
@@ -115,17 +141,23 @@ pub fn statement(
         },
         StmtKind::If(e, a, b) => {
             let e = test(alloc, scope, e, pos)?;
-            let a = statement(alloc, scope, body, a)?;
+            let inner = match statement(alloc, scope, body, a) {
+                Ok(inner) => inner,
+                Err(error) => {
+                    drop(e);
+                    return Err(error);
+                }
+            };
             match b {
-                None => {
-                    let a = Box::new(alloc, a)?;
-                    Ok(TStmt::If(e, a, Box::new(alloc, TStmt::Empty)?))
-                }
-                Some(b) => {
-                    let b = statement(alloc, scope, body, b)?;
-                    let a = Box::new(alloc, a)?;
-                    Ok(TStmt::If(e, a, Box::new(alloc, b)?))
-                }
+                None => Ok(if_stmt(alloc, e, inner, TStmt::Empty)?),
+                Some(b) => match statement(alloc, scope, body, b) {
+                    Ok(other) => Ok(if_stmt(alloc, e, inner, other)?),
+                    Err(error) => {
+                        drop(inner);
+                        drop(e);
+                        Err(error)
+                    }
+                },
             }
         }
         StmtKind::Switch(e, inner) => switch(alloc, scope, body, inner, e, pos),
@@ -210,10 +242,21 @@ fn switch(
     ensures { Gives (λ x. ((stmt_of x, body_of body.new), scope_of scope.new)) result (statement_of (t.switch pos (v.expr_of e.now) (v.stmt_of stmt.now)) (body_of body.old) (scope_of scope.old)) }
 {
     let e = switched_on(alloc, scope, e, pos)?;
-    open_switch(alloc, body, kind_of(&e))?;
-    let inner = statement(alloc, scope, body, stmt)?;
-    close_switch(body);
-    Ok(TStmt::Switch(e, Box::new(alloc, inner)?))
+    let Ok(()) = open_switch(alloc, body, kind_of(&e)) else {
+        drop(e);
+        return Err(Refusal::OutOfMemory);
+    };
+    match statement(alloc, scope, body, stmt) {
+        Ok(inner) => {
+            close_switch(body);
+            let (inner, e) = boxed_beside(alloc, inner, e)?;
+            Ok(TStmt::Switch(e, inner))
+        }
+        Err(error) => {
+            drop(e);
+            Err(error)
+        }
+    }
 }
 
 /// A loop that tests first.
@@ -230,9 +273,17 @@ fn while_loop(
 {
     let e = test(alloc, scope, e, pos)?;
     open_loop(body);
-    let inner = statement(alloc, scope, body, stmt)?;
-    close_loop(body);
-    Ok(TStmt::While(e, Box::new(alloc, inner)?))
+    match statement(alloc, scope, body, stmt) {
+        Ok(inner) => {
+            close_loop(body);
+            let (inner, e) = boxed_beside(alloc, inner, e)?;
+            Ok(TStmt::While(e, inner))
+        }
+        Err(error) => {
+            drop(e);
+            Err(error)
+        }
+    }
 }
 
 /// A loop that tests last.
@@ -250,8 +301,16 @@ fn do_loop(
     open_loop(body);
     let inner = statement(alloc, scope, body, stmt)?;
     close_loop(body);
-    let e = test(alloc, scope, e, pos)?;
-    Ok(TStmt::DoWhile(Box::new(alloc, inner)?, e))
+    match test(alloc, scope, e, pos) {
+        Ok(e) => {
+            let (inner, e) = boxed_beside(alloc, inner, e)?;
+            Ok(TStmt::DoWhile(inner, e))
+        }
+        Err(error) => {
+            drop(inner);
+            Err(error)
+        }
+    }
 }
 
 /// A loop with a head of three parts.
@@ -270,10 +329,17 @@ fn for_loop(
 {
     let head = for_head(alloc, scope, first, until, next, pos)?;
     open_loop(body);
-    let inner = statement(alloc, scope, body, stmt)?;
-    close_loop(body);
-    let Head { first, until, next } = head;
-    Ok(TStmt::For(first, until, next, Box::new(alloc, inner)?))
+    match statement(alloc, scope, body, stmt) {
+        Ok(inner) => {
+            close_loop(body);
+            let (inner, head) = boxed_beside(alloc, inner, head)?;
+            Ok(TStmt::For(head.first, head.until, head.next, inner))
+        }
+        Err(error) => {
+            drop(head);
+            Err(error)
+        }
+    }
 }
 
 /// What stands in a block: declarations, and then statements.

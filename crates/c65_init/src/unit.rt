@@ -6,9 +6,10 @@ ghost use Rattle.c65_csem.specs.Units.{IsUnit};
 ghost use Rattle.c65_csem.specs.Views.{unit_of};
 ghost use Rattle.c65_elab_scope.specs.Scopes.{scope_of};
 ghost use Rattle.c65_tree.specs.View as v;
-ghost use Rattle.c65_init.specs.Units.{item_in, items_in, is_open_type, is_open_class, is_open_array, array_completed, arrays_completed, unit_in};
+ghost use Rattle.c65_init.specs.Declarations.{locals_of};
+ghost use Rattle.c65_init.specs.Units.{item_in, items_in, is_open_type, is_open_class, is_open_array, array_completed, arrays_completed, all_sized, unit_in};
 
-use crate::declare::{Locals, declaration};
+use crate::declare::{Locals, TentativeObject, declaration, needs_size};
 use crate::function::definition;
 use crate::settle::settle_functions;
 use c65_base::{Options, Refusal};
@@ -20,24 +21,31 @@ use c65_tree::{Item, Unit};
 use std::alloc::Global;
 
 /// An external declaration.
-fn external(alloc: Global, scope: &mut Scope, item: &Item) -> Result<(), Refusal>
-    ensures { Gives (λ x. scope_of scope.new) result (item_in (v.item_of item.now) (scope_of scope.old)) }
+fn external(
+    alloc: Global,
+    scope: &mut Scope,
+    locals: &mut Locals,
+    item: &Item,
+) -> Result<(), Refusal>
+    ensures { Gives (λ x. (locals_of locals.new, scope_of scope.new)) result (item_in (v.item_of item.now) (locals_of locals.old) (scope_of scope.old)) }
 {
     match item {
-        Item::Decl(decl) => {
-            let mut locals = Locals::none(alloc);
-            declaration(alloc, scope, &mut locals, decl)
-        }
+        Item::Decl(decl) => declaration(alloc, scope, locals, decl),
         Item::Function(function) => definition(alloc, scope, function),
     }
 }
 
 /// External declarations in their order.
-fn externals(alloc: Global, scope: &mut Scope, items: &[Item]) -> Result<(), Refusal>
-    ensures { Gives (λ x. scope_of scope.new) result (items_in (map v.item_of items.now) (scope_of scope.old)) }
+fn externals(
+    alloc: Global,
+    scope: &mut Scope,
+    locals: &mut Locals,
+    items: &[Item],
+) -> Result<(), Refusal>
+    ensures { Gives (λ x. (locals_of locals.new, scope_of scope.new)) result (items_in (map v.item_of items.now) (locals_of locals.old) (scope_of scope.old)) }
 {
     for item in items {
-        external(alloc, scope, item)?;
+        external(alloc, scope, locals, item)?;
     }
     Ok(())
 }
@@ -104,6 +112,16 @@ fn object_count(scope: &Scope) -> usize
     scope.parts().objects.len()
 }
 
+/// Refuses the first tentative definition of an object that has no size.
+fn all_sized(scope: &Scope, definitions: &[TentativeObject]) -> Result<(), Refusal>
+    ensures { Gives (λ x. tt) result (all_sized definitions.now (scope_of scope.now)) }
+{
+    for definition in definitions {
+        needs_size(scope, definition.object, definition.pos)?;
+    }
+    Ok(())
+}
+
 /// The typed parts of a unit. Refuses its first fault in source order, with codes 301 and 303 to
 /// 334, and `Object`, `Members`, `Cases` and `ArgumentBytes`.
 pub fn elab_unit(alloc: Global, unit: &Unit, options: &Options) -> Result<TUnit, Refusal>
@@ -111,8 +129,10 @@ pub fn elab_unit(alloc: Global, unit: &Unit, options: &Options) -> Result<TUnit,
     ensures typed { IfOk result (λ u. IsUnit (unit_of u)) }
 {
     let mut scope = Scope::new(alloc, options)?;
-    externals(alloc, &mut scope, &unit.items)?;
+    let mut locals = Locals::none(alloc);
+    externals(alloc, &mut scope, &mut locals, &unit.items)?;
     complete_arrays(&mut scope);
+    all_sized(&scope, locals.tentative.as_slice())?;
     settle_functions(alloc, &mut scope)?;
     match unit_from(alloc, scope.into_parts())? {
         Some(unit) => Ok(unit),

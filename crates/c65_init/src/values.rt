@@ -19,7 +19,7 @@ use c65_elab::{elab_expr, value_at};
 use c65_elab_convert::{assigned, condition, value};
 use c65_elab_scope::Scope;
 use c65_fold::fold;
-use c65_init_cells::{Part, Sink, fault, set, store_number, store_pointer};
+use c65_init_cells::{Part, Sink, set, store_number, store_pointer};
 use c65_tree::Expr;
 use std::alloc::Global;
 
@@ -87,10 +87,13 @@ pub fn leaf(
 {
     let value = value_for(alloc, scope, &part.ty.ty, e, pos)?;
     match &part.ty.ty {
-        CType::Int(kind) => {
-            let known = value_at(&value, pos)?;
-            store_number(sink, part.offset, *kind, part.bits, value, known)
-        }
+        CType::Int(kind) => match value_at(&value, pos) {
+            Ok(known) => store_number(sink, part.offset, *kind, part.bits, value, known),
+            Err(error) => {
+                drop(value);
+                Err(error)
+            }
+        },
         CType::Void
         | CType::Pointer(_)
         | CType::Array(_, _)
@@ -167,7 +170,8 @@ fn given_value(
 {
     let typed = elab_expr(alloc, scope, e)?;
     if is_void(gives) {
-        return Err(fault(Code::ReturnValue, pos));
+        drop(typed);
+        return Err(Refusal::fault(Code::ReturnValue, pos));
     }
     let value = converted(alloc, scope, gives, typed, pos)?;
     Ok(folded(value))

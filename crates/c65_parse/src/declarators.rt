@@ -13,6 +13,7 @@ use crate::frame::{
 use crate::operands::{after_member, enter, go, has_room};
 use c65_base::{Name, Pos};
 use c65_parse_trees::{MeasuredDeclarator, MeasuredExpr, MeasuredSpecifiers, MeasuredType, Sign};
+use c65_tree::push_last;
 use std::alloc::{AllocError, Global};
 
 /// The declarator behind its suffixes. What stands before it is taken off.
@@ -26,8 +27,13 @@ fn reduce_declarator(
     let mut d = d;
     while let Some(frame) = frames.pop() {
         if !frame.is_derived() {
-            frames.push(frame)?;
-            break;
+            return match push_last(frames, frame) {
+                Ok(()) => Ok(d),
+                Err(error) => {
+                    drop(d);
+                    Err(error)
+                }
+            };
         }
         d = frame.plug_declarator(alloc, d)?;
     }
@@ -48,7 +54,7 @@ fn after_group(
             let d = MeasuredDeclarator::grouped(alloc, pos, d)?;
             Ok(go(frames, Held::Declared(d)))
         }
-        _ => Ok(Step::Fail),
+        _ => Ok(Step::fail((frames, d))),
     }
 }
 
@@ -91,12 +97,17 @@ impl ParamsPart {
     ) -> Result<ParamsPart, AllocError>
         ensures { IfOk result (λ r. params_part_of r ≡ with_param (params_part_of self) (specifiers_of specifiers.specifiers) (declarator_of declarator.declarator)) }
     {
-        let params = self.params.with(specifiers, declarator)?;
-        Ok(ParamsPart {
-            pos: self.pos,
-            declarator: self.declarator,
-            params,
-        })
+        match self.params.with(specifiers, declarator) {
+            Ok(params) => Ok(ParamsPart {
+                pos: self.pos,
+                declarator: self.declarator,
+                params,
+            }),
+            Err(error) => {
+                drop(self.declarator);
+                Err(error)
+            }
+        }
     }
 
     /// The function declarator at the end of its parameters; the flag says that `...` ends them.
@@ -131,7 +142,7 @@ fn after_param(
             let held = Held::Declared(part.end(alloc, false)?);
             Ok(Step::Go(Open { frames, held }, Change::Close))
         }
-        _ => Ok(Step::Fail),
+        _ => Ok(Step::fail((frames, part, (specifiers, d)))),
     }
 }
 
@@ -166,7 +177,8 @@ fn close(
     ensures { IfOk result (λ n. next_of n ≡ close_declarator (declarator_of d.declarator) (stack_of frames.items) sign) }
 {
     let mut frames = frames;
-    match frames.pop() {
+    let innermost = frames.pop();
+    match innermost {
         None => Ok(Step::Stop(Done::Declarator(d))),
         Some(Frame::Group(pos)) => after_group(alloc, frames, pos, d, sign),
         Some(Frame::TypeDeclarator(pos, purpose, specifiers)) => match sign {
@@ -177,7 +189,7 @@ fn close(
                 purpose,
                 MeasuredType::new(specifiers, d),
             ),
-            _ => Ok(Step::Fail),
+            _ => Ok(Step::fail((frames, specifiers, d))),
         },
         Some(Frame::Param(part, specifiers)) => {
             after_param(alloc, frames, part, specifiers, d, sign)
@@ -185,18 +197,18 @@ fn close(
         Some(Frame::Member(part, first)) => {
             after_member_declarator(frames, part, first, d, sign)
         }
-        Some(Frame::Operation(_)) => Ok(Step::Fail),
-        Some(Frame::Paren(_)) => Ok(Step::Fail),
-        Some(Frame::Index(_, _)) => Ok(Step::Fail),
-        Some(Frame::Call(_, _, _)) => Ok(Step::Fail),
-        Some(Frame::Then(_, _)) => Ok(Step::Fail),
-        Some(Frame::Bound(_, _)) => Ok(Step::Fail),
-        Some(Frame::Width(_, _, _)) => Ok(Step::Fail),
-        Some(Frame::Value(_, _, _)) => Ok(Step::Fail),
-        Some(Frame::Type(_, _)) => Ok(Step::Fail),
-        Some(Frame::Members(_)) => Ok(Step::Fail),
-        Some(Frame::Params(_)) => Ok(Step::Fail),
-        Some(Frame::Derived(_, _)) => Ok(Step::Fail),
+        Some(Frame::Operation(_))
+        | Some(Frame::Paren(_))
+        | Some(Frame::Index(_, _))
+        | Some(Frame::Call(_, _, _))
+        | Some(Frame::Then(_, _))
+        | Some(Frame::Bound(_, _))
+        | Some(Frame::Width(_, _, _))
+        | Some(Frame::Value(_, _, _))
+        | Some(Frame::Type(_, _))
+        | Some(Frame::Members(_))
+        | Some(Frame::Params(_))
+        | Some(Frame::Derived(_, _)) => Ok(Step::fail((frames, innermost, d))),
     }
 }
 
@@ -218,14 +230,14 @@ pub fn after_declarator(
             if fits {
                 Ok(go(frames, Held::OpenedBound(pos, d)))
             } else {
-                Ok(Step::Deep)
+                Ok(Step::deep((frames, d)))
             }
         }
         Sign::Open => {
             if fits {
                 Ok(go(frames, Held::OpenedParams(pos, d)))
             } else {
-                Ok(Step::Deep)
+                Ok(Step::deep((frames, d)))
             }
         }
         _ => {

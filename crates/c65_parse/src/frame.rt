@@ -1,15 +1,17 @@
 // What is open while trees are read, and what was read last.
-ghost use Rattle.std.specs.Prelude.{◌≡◌, IfOk};
+ghost use Rattle.std.specs.Prelude.{◌≡◌, ◌∷◌, IfOk};
 ghost use Rattle.c65_tree.specs.View.{expr_of, declarator_of};
 ghost use Rattle.c65_parse.specs.Expressions.{hole_of, hole_of_frame, plug, ends, plug_frame};
 ghost use Rattle.c65_parse.specs.Declarators.{takes_name, is_optional, derived, is_derived, plug_declarator};
-ghost use Rattle.c65_parse.specs.Views.{operation_of, frame_of};
+ghost use Rattle.c65_parse.specs.Frames;
+ghost use Rattle.c65_parse.specs.Views.{operation_of, frame_of, stack_of, next_of};
 
 use c65_base::{Name, Pos};
 use c65_parse_trees::{
     EnumeratorList, Infix, Listing, MeasuredDeclarator, MeasuredExpr, MeasuredExprs,
     MeasuredSpecifiers, MeasuredType, MemberDecls, MemberList, ParamList, Prefix, TagWord,
 };
+use c65_tree::push_last;
 use std::alloc::{AllocError, Global};
 
 /// Where a declarator stands, and so whether its name may lack and which it may be. The flag says
@@ -204,6 +206,33 @@ pub enum Step {
     Fail,
 }
 
+impl Step {
+    /// Nothing goes on; what was read is dropped.
+    pub fn fail<T: Drop>(read: T) -> Step
+        ensures { next_of result ≡ Frames.fail }
+    {
+        drop(read);
+        Step::Fail
+    }
+
+    /// Only a deeper tree goes on; what was read is dropped.
+    pub fn deep<T: Drop>(read: T) -> Step
+        ensures { next_of result ≡ Frames.deep }
+    {
+        drop(read);
+        Step::Deep
+    }
+}
+
+/// What is open with one more construct, the innermost.
+pub fn with_frame(frames: Vec<Frame>, frame: Frame) -> Result<Vec<Frame>, AllocError>
+    ensures { IfOk result (λ r. stack_of r.items ≡ frame_of frame ∷ stack_of frames.items) }
+{
+    let mut frames = frames;
+    push_last(&mut frames, frame)?;
+    Ok(frames)
+}
+
 impl Sort {
     /// Whether a name may stand there that is a type's, or is none.
     pub fn takes_name(self, is_type: bool) -> bool
@@ -296,22 +325,25 @@ impl Frame {
         ensures { IfOk result (λ r. expr_of r.expr ≡ plug_frame (frame_of self) (expr_of e.expr)) }
     {
         match self {
-            Frame::Operation(operation) => Ok(operation.plug(alloc, e)?),
-            Frame::Paren(_) => Ok(e),
-            Frame::Index(_, _) => Ok(e),
-            Frame::Call(_, _, _) => Ok(e),
-            Frame::Then(_, _) => Ok(e),
-            Frame::Bound(_, _) => Ok(e),
-            Frame::Width(_, _, _) => Ok(e),
-            Frame::Value(_, _, _) => Ok(e),
-            Frame::Type(_, _) => Ok(e),
-            Frame::TypeDeclarator(_, _, _) => Ok(e),
-            Frame::Members(_) => Ok(e),
-            Frame::Member(_, _) => Ok(e),
-            Frame::Params(_) => Ok(e),
-            Frame::Param(_, _) => Ok(e),
-            Frame::Group(_) => Ok(e),
-            Frame::Derived(_, _) => Ok(e),
+            Frame::Operation(operation) => operation.plug(alloc, e),
+            Frame::Paren(_)
+            | Frame::Index(_, _)
+            | Frame::Call(_, _, _)
+            | Frame::Then(_, _)
+            | Frame::Bound(_, _)
+            | Frame::Width(_, _, _)
+            | Frame::Value(_, _, _)
+            | Frame::Type(_, _)
+            | Frame::TypeDeclarator(_, _, _)
+            | Frame::Members(_)
+            | Frame::Member(_, _)
+            | Frame::Params(_)
+            | Frame::Param(_, _)
+            | Frame::Group(_)
+            | Frame::Derived(_, _) => {
+                drop(self);
+                Ok(e)
+            }
         }
     }
 
@@ -331,22 +363,25 @@ impl Frame {
         ensures { IfOk result (λ r. declarator_of r.declarator ≡ plug_declarator (frame_of self) (declarator_of d.declarator)) }
     {
         match self {
-            Frame::Derived(pos, how) => Ok(how.plug(alloc, pos, d)?),
-            Frame::Operation(_) => Ok(d),
-            Frame::Paren(_) => Ok(d),
-            Frame::Index(_, _) => Ok(d),
-            Frame::Call(_, _, _) => Ok(d),
-            Frame::Then(_, _) => Ok(d),
-            Frame::Bound(_, _) => Ok(d),
-            Frame::Width(_, _, _) => Ok(d),
-            Frame::Value(_, _, _) => Ok(d),
-            Frame::Type(_, _) => Ok(d),
-            Frame::TypeDeclarator(_, _, _) => Ok(d),
-            Frame::Members(_) => Ok(d),
-            Frame::Member(_, _) => Ok(d),
-            Frame::Params(_) => Ok(d),
-            Frame::Param(_, _) => Ok(d),
-            Frame::Group(_) => Ok(d),
+            Frame::Derived(pos, how) => how.plug(alloc, pos, d),
+            Frame::Operation(_)
+            | Frame::Paren(_)
+            | Frame::Index(_, _)
+            | Frame::Call(_, _, _)
+            | Frame::Then(_, _)
+            | Frame::Bound(_, _)
+            | Frame::Width(_, _, _)
+            | Frame::Value(_, _, _)
+            | Frame::Type(_, _)
+            | Frame::TypeDeclarator(_, _, _)
+            | Frame::Members(_)
+            | Frame::Member(_, _)
+            | Frame::Params(_)
+            | Frame::Param(_, _)
+            | Frame::Group(_) => {
+                drop(self);
+                Ok(d)
+            }
         }
     }
 }

@@ -16,4 +16,4 @@ pub use parser::{
     parse_assignment, parse_assignment_within, parse_constant, parse_declarator, parse_expr,
     parse_specifiers, parse_type_name, parse_untyped_declarator,
 };
-pub use state::Parser;
+pub use state::{DEPTH, Parser};

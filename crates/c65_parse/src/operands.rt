@@ -11,11 +11,13 @@ ghost use Rattle.c65_parse.specs.Expressions;
 ghost use Rattle.c65_parse.specs.Expressions.{goes, has_room, leaf_of, names_type, begin_by, operand_step, extend_by, expr_step, close_paren, close_index, close_call, close_then, close_bound, close_member, close_enumerator, with_member, with_decl, with_enumerator};
 ghost use Rattle.c65_parse.specs.Views.{frame_of, stack_of, held_of, next_of, members_part_of, body_of, enum_part_of};
 
-use crate::frame::{Body, Change, Done, EnumPart, Frame, Held, MembersPart, Open, Operation, Step};
+use crate::frame::{
+    Body, Change, Done, EnumPart, Frame, Held, MembersPart, Open, Operation, Step, with_frame,
+};
 use c65_base::{Name, Pos, StepKind};
 use c65_parse_trees::{Listing, MeasuredDeclarator, MeasuredExpr, MeasuredExprs, Sign};
 use c65_scan::{Token, TokenKind};
-use c65_tree::Specifier;
+use c65_tree::{Specifier, push_last};
 use std::alloc::{AllocError, Global};
 
 /// The reading goes on.
@@ -29,9 +31,13 @@ pub fn go(frames: Vec<Frame>, held: Held) -> Step
 pub fn enter(frames: Vec<Frame>, frame: Frame, held: Held) -> Result<Step, AllocError>
     ensures { IfOk result (λ n. next_of n ≡ goes (frame_of frame ∷ stack_of frames.items) (held_of held)) }
 {
-    let mut frames = frames;
-    frames.push(frame)?;
-    Ok(go(frames, held))
+    match with_frame(frames, frame) {
+        Ok(frames) => Ok(go(frames, held)),
+        Err(error) => {
+            drop(held);
+            Err(error)
+        }
+    }
 }
 
 /// Whether a tree of this depth has room in what is open.
@@ -104,7 +110,7 @@ pub fn operand(
             if has_room(limit, &frames, 1) {
                 Ok(go(frames, Held::Expr(e)))
             } else {
-                Ok(Step::Deep)
+                Ok(Step::deep((frames, e)))
             }
         }
         None => begin(limit, frames, token.pos, sign),
@@ -133,8 +139,13 @@ fn reduce(
     let mut e = e;
     while let Some(frame) = frames.pop() {
         if !frame.ends(rank) {
-            frames.push(frame)?;
-            break;
+            return match push_last(frames, frame) {
+                Ok(()) => Ok(e),
+                Err(error) => {
+                    drop(e);
+                    Err(error)
+                }
+            };
         }
         e = frame.plug(alloc, e)?;
     }
@@ -169,7 +180,7 @@ fn extend(
             Ok(go(frames, Held::Expr(e)))
         }
         Sign::Question => enter(frames, Frame::Then(pos, e), Held::Operand),
-        _ => Ok(Step::Fail),
+        _ => Ok(Step::fail((frames, e))),
     }
 }
 
@@ -187,7 +198,7 @@ fn after_paren(
             let e = MeasuredExpr::paren(alloc, pos, e)?;
             Ok(go(frames, Held::Expr(e)))
         }
-        _ => Ok(Step::Fail),
+        _ => Ok(Step::fail((frames, e))),
     }
 }
 
@@ -206,7 +217,7 @@ fn after_index(
             let e = MeasuredExpr::index(alloc, pos, a, e)?;
             Ok(go(frames, Held::Expr(e)))
         }
-        _ => Ok(Step::Fail),
+        _ => Ok(Step::fail((frames, a, e))),
     }
 }
 
@@ -226,7 +237,7 @@ fn after_argument(
             Ok(go(frames, Held::Expr(e)))
         }
         Sign::Comma => enter(frames, Frame::Call(pos, f, arguments), Held::Operand),
-        _ => Ok(Step::Fail),
+        _ => Ok(Step::fail((frames, f, arguments))),
     }
 }
 
@@ -244,7 +255,7 @@ fn after_then(
             let frame = Frame::Operation(Operation::Else(pos, c, e));
             enter(frames, frame, Held::Operand)
         }
-        _ => Ok(Step::Fail),
+        _ => Ok(Step::fail((frames, c, e))),
     }
 }
 
@@ -263,7 +274,7 @@ fn after_bound(
             let d = MeasuredDeclarator::array(alloc, pos, d, e)?;
             Ok(go(frames, Held::Declared(d)))
         }
-        _ => Ok(Step::Fail),
+        _ => Ok(Step::fail((frames, d, e))),
     }
 }
 
@@ -277,12 +288,17 @@ impl MembersPart {
     ) -> Result<MembersPart, AllocError>
         ensures { IfOk result (λ r. members_part_of r ≡ with_member (members_part_of self) pos (option_declarator declarator) (an_expr (expr_of width.expr))) }
     {
-        let members = self.members.with(pos, declarator, Some(width))?;
-        Ok(MembersPart {
-            body: self.body,
-            specifiers: self.specifiers,
-            members,
-        })
+        match self.members.with(pos, declarator, Some(width)) {
+            Ok(members) => Ok(MembersPart {
+                body: self.body,
+                specifiers: self.specifiers,
+                members,
+            }),
+            Err(error) => {
+                drop((self.body, self.specifiers));
+                Err(error)
+            }
+        }
     }
 
     /// With one more member, which has no width.
@@ -293,12 +309,17 @@ impl MembersPart {
     ) -> Result<MembersPart, AllocError>
         ensures { IfOk result (λ r. members_part_of r ≡ with_member (members_part_of self) pos (a_declarator (declarator_of declarator.declarator)) no_expr) }
     {
-        let members = self.members.with(pos, Some(declarator), None)?;
-        Ok(MembersPart {
-            body: self.body,
-            specifiers: self.specifiers,
-            members,
-        })
+        match self.members.with(pos, Some(declarator), None) {
+            Ok(members) => Ok(MembersPart {
+                body: self.body,
+                specifiers: self.specifiers,
+                members,
+            }),
+            Err(error) => {
+                drop((self.body, self.specifiers));
+                Err(error)
+            }
+        }
     }
 
     /// The body with this declaration.
@@ -306,14 +327,19 @@ impl MembersPart {
         ensures { IfOk result (λ r. body_of r ≡ with_decl (members_part_of self)) }
     {
         let body = self.body;
-        let decls = body.decls.with(self.specifiers, self.members)?;
-        Ok(Body {
-            outer: body.outer,
-            pos: body.pos,
-            is_union: body.is_union,
-            tag: body.tag,
-            decls,
-        })
+        match body.decls.with(self.specifiers, self.members) {
+            Ok(decls) => Ok(Body {
+                outer: body.outer,
+                pos: body.pos,
+                is_union: body.is_union,
+                tag: body.tag,
+                decls,
+            }),
+            Err(error) => {
+                drop(body.outer);
+                Err(error)
+            }
+        }
     }
 }
 
@@ -327,26 +353,36 @@ impl EnumPart {
     ) -> Result<EnumPart, AllocError>
         ensures { IfOk result (λ r. enum_part_of r ≡ with_enumerator (enum_part_of self) name pos (an_expr (expr_of value.expr))) }
     {
-        let enumerators = self.enumerators.with(pos, name, Some(value))?;
-        Ok(EnumPart {
-            outer: self.outer,
-            pos: self.pos,
-            tag: self.tag,
-            enumerators,
-        })
+        match self.enumerators.with(pos, name, Some(value)) {
+            Ok(enumerators) => Ok(EnumPart {
+                outer: self.outer,
+                pos: self.pos,
+                tag: self.tag,
+                enumerators,
+            }),
+            Err(error) => {
+                drop(self.outer);
+                Err(error)
+            }
+        }
     }
 
     /// With one more enumerator, which has no value.
     pub fn with_name(self, name: Name, pos: Pos) -> Result<EnumPart, AllocError>
         ensures { IfOk result (λ r. enum_part_of r ≡ with_enumerator (enum_part_of self) name pos no_expr) }
     {
-        let enumerators = self.enumerators.with(pos, name, None)?;
-        Ok(EnumPart {
-            outer: self.outer,
-            pos: self.pos,
-            tag: self.tag,
-            enumerators,
-        })
+        match self.enumerators.with(pos, name, None) {
+            Ok(enumerators) => Ok(EnumPart {
+                outer: self.outer,
+                pos: self.pos,
+                tag: self.tag,
+                enumerators,
+            }),
+            Err(error) => {
+                drop(self.outer);
+                Err(error)
+            }
+        }
     }
 
     /// The specifiers with this enumeration.
@@ -370,7 +406,7 @@ pub fn after_member(frames: Vec<Frame>, part: MembersPart, sign: Sign) -> Result
             let body = part.end()?;
             Ok(go(frames, Held::MoreMembers(body)))
         }
-        _ => Ok(Step::Fail),
+        _ => Ok(Step::fail((frames, part))),
     }
 }
 
@@ -388,7 +424,7 @@ pub fn after_enumerator(
     let held = match sign {
         Sign::Comma => Held::Enumerator(part),
         Sign::CloseBrace => Held::Specifiers(part.end()?),
-        _ => return Ok(Step::Fail),
+        _ => return Ok(Step::fail((frames, part))),
     };
     Ok(Step::Go(Open { frames, held }, change))
 }
@@ -399,14 +435,18 @@ fn close(alloc: Global, frames: Vec<Frame>, e: MeasuredExpr, sign: Sign) -> Resu
     ensures { IfOk result (λ n. next_of n ≡ Expressions.close (expr_of e.expr) (stack_of frames.items) sign) }
 {
     let mut frames = frames;
-    match frames.pop() {
+    let innermost = frames.pop();
+    match innermost {
         None => Ok(Step::Stop(Done::Expr(e))),
         Some(Frame::Paren(pos)) => after_paren(alloc, frames, pos, e, sign),
         Some(Frame::Index(pos, a)) => after_index(alloc, frames, pos, a, e, sign),
-        Some(Frame::Call(pos, f, arguments)) => {
-            let arguments = arguments.with(e)?;
-            after_argument(alloc, frames, pos, f, arguments, sign)
-        }
+        Some(Frame::Call(pos, f, arguments)) => match arguments.with(e) {
+            Ok(arguments) => after_argument(alloc, frames, pos, f, arguments, sign),
+            Err(error) => {
+                drop(f);
+                Err(error)
+            }
+        },
         Some(Frame::Then(pos, c)) => after_then(frames, pos, c, e, sign),
         Some(Frame::Bound(pos, d)) => after_bound(alloc, frames, pos, d, e, sign),
         Some(Frame::Width(part, first, d)) => {
@@ -417,15 +457,15 @@ fn close(alloc: Global, frames: Vec<Frame>, e: MeasuredExpr, sign: Sign) -> Resu
             let part = part.with_value(name, pos, e)?;
             after_enumerator(frames, part, name, sign)
         }
-        Some(Frame::Operation(_)) => Ok(Step::Fail),
-        Some(Frame::Type(_, _)) => Ok(Step::Fail),
-        Some(Frame::TypeDeclarator(_, _, _)) => Ok(Step::Fail),
-        Some(Frame::Members(_)) => Ok(Step::Fail),
-        Some(Frame::Member(_, _)) => Ok(Step::Fail),
-        Some(Frame::Params(_)) => Ok(Step::Fail),
-        Some(Frame::Param(_, _)) => Ok(Step::Fail),
-        Some(Frame::Group(_)) => Ok(Step::Fail),
-        Some(Frame::Derived(_, _)) => Ok(Step::Fail),
+        Some(Frame::Operation(_))
+        | Some(Frame::Type(_, _))
+        | Some(Frame::TypeDeclarator(_, _, _))
+        | Some(Frame::Members(_))
+        | Some(Frame::Member(_, _))
+        | Some(Frame::Params(_))
+        | Some(Frame::Param(_, _))
+        | Some(Frame::Group(_))
+        | Some(Frame::Derived(_, _)) => Ok(Step::fail((frames, innermost, e))),
     }
 }
 
@@ -448,7 +488,7 @@ pub fn after_expr(
         return close(alloc, frames, e, sign);
     }
     if !e.fits(frames.len(), limit) {
-        return Ok(Step::Deep);
+        return Ok(Step::deep((frames, e)));
     }
     extend(alloc, frames, e, pos, sign)
 }

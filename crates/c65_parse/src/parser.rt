@@ -1,6 +1,7 @@
 // The tokens that are being read, and the trees that stand there.
 ghost use Rattle.std.specs.Prelude.{◌≡◌, ◌<◌, [], ◌∷◌, drop, length, true, false, IfOk, OnOk, IfErr};
 ghost use Rattle.c65_base.specs.Answers.{Gives};
+ghost use Rattle.c65_base.specs.Limits.{limit_of};
 ghost use Rattle.c65_base.specs.declared.refusal.Refusal.TheVariants.{At, OutOfMemory, TooLarge};
 ghost use Rattle.c65_base.specs.declared.refusal.Size.TheVariants.{Depth};
 ghost use Rattle.c65_tree.specs.View.{expr_of, type_of, specifiers_of, declarator_of};
@@ -13,7 +14,7 @@ ghost use Rattle.c65_parse.specs.Reading;
 ghost use Rattle.c65_parse.specs.Reading.{rest_of, blocks_of, token_at, after_token, as_expr, as_specifiers, as_declarator, listed_read, expr_read, specifiers_read, declarator_read, type_read};
 
 use crate::frame::{Change, Done, Held, Open, Sort, Step};
-use crate::state::Parser;
+use crate::state::{DEPTH, Parser};
 use crate::step::take;
 use c65_base::{Code, Name, Pos, Refusal, Size};
 use c65_parse_names::Scope;
@@ -82,18 +83,21 @@ fn read(
         let step = take(alloc, scope, limit, least, reading, token)?;
         match step {
             Step::Go(next, change) => {
-                apply(scope, change)?;
-                reading = next;
+                match apply(scope, change) {
+                    Ok(()) => reading = next,
+                    Err(error) => {
+                        drop(next);
+                        return Err(error.into());
+                    }
+                }
             }
             Step::Stop(done) => return Ok((done, i)),
             Step::Deep => return Err(too_deep()),
             Step::Fail => return Err(fault(token)),
         }
     }
-    Err(Refusal::At {
-        code: Code::Syntax,
-        pos: Pos { file: 0, line: 1 },
-    })
+    drop(reading);
+    Err(Refusal::fault(Code::Syntax, Pos { file: 0, line: 1 }))
 }
 
 impl<'a> Parser<'a> {
@@ -191,8 +195,10 @@ impl<'a> Parser<'a> {
     {
         match done {
             Done::Expr(e) => Ok(e),
-            Done::Specifiers(_) => Err(self.unexpected()),
-            Done::Declarator(_) => Err(self.unexpected()),
+            Done::Specifiers(_) | Done::Declarator(_) => {
+                drop(done);
+                Err(self.unexpected())
+            }
         }
     }
 
@@ -202,8 +208,10 @@ impl<'a> Parser<'a> {
     {
         match done {
             Done::Specifiers(specifiers) => Ok(specifiers),
-            Done::Expr(_) => Err(self.unexpected()),
-            Done::Declarator(_) => Err(self.unexpected()),
+            Done::Expr(_) | Done::Declarator(_) => {
+                drop(done);
+                Err(self.unexpected())
+            }
         }
     }
 
@@ -213,8 +221,10 @@ impl<'a> Parser<'a> {
     {
         match done {
             Done::Declarator(declarator) => Ok(declarator),
-            Done::Expr(_) => Err(self.unexpected()),
-            Done::Specifiers(_) => Err(self.unexpected()),
+            Done::Expr(_) | Done::Specifiers(_) => {
+                drop(done);
+                Err(self.unexpected())
+            }
         }
     }
 
@@ -228,19 +238,19 @@ impl<'a> Parser<'a> {
     }
 
     fn read_specifiers(&mut self, takes_storage: bool) -> Result<MeasuredSpecifiers, Refusal>
-        ensures { Gives (λ q. (listed_of q, rest_of self.new, blocks_of self.new)) result (listed_read 256 takes_storage (blocks_of self.old) (rest_of self.old)) }
+        ensures { Gives (λ q. (listed_of q, rest_of self.new, blocks_of self.new)) result (listed_read (limit_of Depth) takes_storage (blocks_of self.old) (rest_of self.old)) }
     {
         let listing = Listing::new(self.alloc, takes_storage);
-        match self.read(256, 0, Held::Specifiers(listing)) {
+        match self.read(DEPTH, 0, Held::Specifiers(listing)) {
             Ok(done) => self.specifiers_from(done),
             Err(refusal) => Err(refusal),
         }
     }
 
     fn read_declarator(&mut self, sort: Sort) -> Result<MeasuredDeclarator, Refusal>
-        ensures { Gives (λ d. (declarator_of d.declarator, rest_of self.new, blocks_of self.new)) result (declarator_read 256 sort (blocks_of self.old) (rest_of self.old)) }
+        ensures { Gives (λ d. (declarator_of d.declarator, rest_of self.new, blocks_of self.new)) result (declarator_read (limit_of Depth) sort (blocks_of self.old) (rest_of self.old)) }
     {
-        match self.read(256, 0, Held::Declarator(sort)) {
+        match self.read(DEPTH, 0, Held::Declarator(sort)) {
             Ok(done) => self.declarator_from(done),
             Err(refusal) => Err(refusal),
         }
@@ -253,9 +263,9 @@ impl<'a> Parser<'a> {
 /// and `__asm__` and `Syntax` elsewhere, and `TooLarge` of `Depth` at the first token with which only a
 /// deeper tree goes on.
 pub fn parse_expr(parser: &mut Parser) -> Result<Expr, Refusal>
-    ensures { Gives (λ e. (expr_of e, rest_of parser.new, blocks_of parser.new)) result (expr_read 256 0 (blocks_of parser.old) (rest_of parser.old)) }
+    ensures { Gives (λ e. (expr_of e, rest_of parser.new, blocks_of parser.new)) result (expr_read (limit_of Depth) 0 (blocks_of parser.old) (rest_of parser.old)) }
 {
-    match parser.read_expr(256, 0) {
+    match parser.read_expr(DEPTH, 0) {
         Ok(e) => Ok(e.expr),
         Err(refusal) => Err(refusal),
     }
@@ -263,9 +273,9 @@ pub fn parse_expr(parser: &mut Parser) -> Result<Expr, Refusal>
 
 /// The assignment expression that stands here (C90 6.3.16), as an initialiser is.
 pub fn parse_assignment(parser: &mut Parser) -> Result<Expr, Refusal>
-    ensures { Gives (λ e. (expr_of e, rest_of parser.new, blocks_of parser.new)) result (expr_read 256 1 (blocks_of parser.old) (rest_of parser.old)) }
+    ensures { Gives (λ e. (expr_of e, rest_of parser.new, blocks_of parser.new)) result (expr_read (limit_of Depth) 1 (blocks_of parser.old) (rest_of parser.old)) }
 {
-    match parser.read_expr(256, 1) {
+    match parser.read_expr(DEPTH, 1) {
         Ok(e) => Ok(e.expr),
         Err(refusal) => Err(refusal),
     }
@@ -283,9 +293,9 @@ pub fn parse_assignment_within(parser: &mut Parser, limit: u16) -> Result<Expr, 
 
 /// The constant expression that stands here (C90 6.4), as behind `case`.
 pub fn parse_constant(parser: &mut Parser) -> Result<Expr, Refusal>
-    ensures { Gives (λ e. (expr_of e, rest_of parser.new, blocks_of parser.new)) result (expr_read 256 2 (blocks_of parser.old) (rest_of parser.old)) }
+    ensures { Gives (λ e. (expr_of e, rest_of parser.new, blocks_of parser.new)) result (expr_read (limit_of Depth) 2 (blocks_of parser.old) (rest_of parser.old)) }
 {
-    match parser.read_expr(256, 2) {
+    match parser.read_expr(DEPTH, 2) {
         Ok(e) => Ok(e.expr),
         Err(refusal) => Err(refusal),
     }
@@ -293,7 +303,7 @@ pub fn parse_constant(parser: &mut Parser) -> Result<Expr, Refusal>
 
 /// The declaration specifiers that stand here (C90 6.5), or none.
 pub fn parse_specifiers(parser: &mut Parser) -> Result<Specifiers, Refusal>
-    ensures { Gives (λ q. (specifiers_of q, rest_of parser.new, blocks_of parser.new)) result (specifiers_read 256 (blocks_of parser.old) (rest_of parser.old)) }
+    ensures { Gives (λ q. (specifiers_of q, rest_of parser.new, blocks_of parser.new)) result (specifiers_read (limit_of Depth) (blocks_of parser.old) (rest_of parser.old)) }
 {
     match parser.read_specifiers(true) {
         Ok(specifiers) => Ok(specifiers.specifiers),
@@ -303,7 +313,7 @@ pub fn parse_specifiers(parser: &mut Parser) -> Result<Specifiers, Refusal>
 
 /// The declarator that stands here (C90 6.5.4). Its name is not declared.
 pub fn parse_declarator(parser: &mut Parser) -> Result<Declarator, Refusal>
-    ensures { Gives (λ d. (declarator_of d, rest_of parser.new, blocks_of parser.new)) result (declarator_read 256 (Sort.Named true) (blocks_of parser.old) (rest_of parser.old)) }
+    ensures { Gives (λ d. (declarator_of d, rest_of parser.new, blocks_of parser.new)) result (declarator_read (limit_of Depth) (Sort.Named true) (blocks_of parser.old) (rest_of parser.old)) }
 {
     match parser.read_declarator(Sort::Named(true)) {
         Ok(declarator) => Ok(declarator.declarator),
@@ -313,7 +323,7 @@ pub fn parse_declarator(parser: &mut Parser) -> Result<Declarator, Refusal>
 
 /// The declarator that stands here behind specifiers without a type specifier: its name is no type's.
 pub fn parse_untyped_declarator(parser: &mut Parser) -> Result<Declarator, Refusal>
-    ensures { Gives (λ d. (declarator_of d, rest_of parser.new, blocks_of parser.new)) result (declarator_read 256 (Sort.Named false) (blocks_of parser.old) (rest_of parser.old)) }
+    ensures { Gives (λ d. (declarator_of d, rest_of parser.new, blocks_of parser.new)) result (declarator_read (limit_of Depth) (Sort.Named false) (blocks_of parser.old) (rest_of parser.old)) }
 {
     match parser.read_declarator(Sort::Named(false)) {
         Ok(declarator) => Ok(declarator.declarator),
@@ -323,20 +333,24 @@ pub fn parse_untyped_declarator(parser: &mut Parser) -> Result<Declarator, Refus
 
 /// The type name whose specifiers were read.
 fn type_behind(parser: &mut Parser, specifiers: MeasuredSpecifiers) -> Result<TypeName, Refusal>
-    ensures { Gives (λ t. (type_of t, rest_of parser.new, blocks_of parser.new)) result (Reading.type_behind 256 (listed_of specifiers) (blocks_of parser.old) (rest_of parser.old)) }
+    ensures { Gives (λ t. (type_of t, rest_of parser.new, blocks_of parser.new)) result (Reading.type_behind (limit_of Depth) (listed_of specifiers) (blocks_of parser.old) (rest_of parser.old)) }
 {
     if specifiers.is_empty() {
+        drop(specifiers);
         return Err(parser.unexpected());
     }
     match parser.read_declarator(Sort::Abstract) {
         Ok(declarator) => Ok(MeasuredType::new(specifiers, declarator).name),
-        Err(refusal) => Err(refusal),
+        Err(refusal) => {
+            drop(specifiers);
+            Err(refusal)
+        }
     }
 }
 
 /// The type name that stands here (C90 6.5.5).
 pub fn parse_type_name(parser: &mut Parser) -> Result<TypeName, Refusal>
-    ensures { Gives (λ t. (type_of t, rest_of parser.new, blocks_of parser.new)) result (type_read 256 (blocks_of parser.old) (rest_of parser.old)) }
+    ensures { Gives (λ t. (type_of t, rest_of parser.new, blocks_of parser.new)) result (type_read (limit_of Depth) (blocks_of parser.old) (rest_of parser.old)) }
 {
     match parser.read_specifiers(false) {
         Ok(specifiers) => type_behind(parser, specifiers),

@@ -9,7 +9,9 @@ ghost use Rattle.c65_parse.specs.Specifiers.{member_step, end_listed, end_specif
 ghost use Rattle.c65_parse.specs.Views.{frame_of, stack_of, held_of, next_of, tag_part_of, members_part_of, body_of, enum_part_of};
 
 use crate::declarators::declarator;
-use crate::frame::{Body, Done, EnumPart, Frame, Held, MembersPart, Sort, Step, TagPart};
+use crate::frame::{
+    Body, Done, EnumPart, Frame, Held, MembersPart, Sort, Step, TagPart, with_frame,
+};
 use crate::operands::{after_enumerator, enter, go, has_room};
 use c65_base::{Name, Pos};
 use c65_parse_trees::{
@@ -30,12 +32,11 @@ pub fn member(
 ) -> Result<Step, AllocError>
     ensures { IfOk result (λ n. next_of n ≡ member_step limit (members_part_of part) (stack_of frames.items) pos sign) }
 {
-    let mut frames = frames;
     match sign {
         Sign::Colon => enter(frames, Frame::Width(part, pos, None), Held::Operand),
         _ => {
             let sort = Sort::Member(part.specifiers.has_type);
-            frames.push(Frame::Member(part, pos))?;
+            let frames = with_frame(frames, Frame::Member(part, pos))?;
             declarator(alloc, limit, frames, sort, pos, sign)
         }
     }
@@ -54,14 +55,15 @@ fn after_specifiers(
     ensures { IfOk result (λ n. next_of n ≡ end_listed limit (listed_of specifiers) (stack_of frames.items) pos sign) }
 {
     let mut frames = frames;
-    match frames.pop() {
+    let innermost = frames.pop();
+    match innermost {
         Some(Frame::Type(at, purpose)) => {
-            frames.push(Frame::TypeDeclarator(at, purpose, specifiers))?;
+            let frames = with_frame(frames, Frame::TypeDeclarator(at, purpose, specifiers))?;
             declarator(alloc, limit, frames, Sort::Abstract, pos, sign)
         }
         Some(Frame::Params(part)) => {
             let sort = Sort::Param(specifiers.has_type);
-            frames.push(Frame::Param(part, specifiers))?;
+            let frames = with_frame(frames, Frame::Param(part, specifiers))?;
             declarator(alloc, limit, frames, sort, pos, sign)
         }
         Some(Frame::Members(body)) => {
@@ -72,20 +74,20 @@ fn after_specifiers(
             };
             member(alloc, limit, frames, part, pos, sign)
         }
-        Some(Frame::Operation(_)) => Ok(Step::Fail),
-        Some(Frame::Paren(_)) => Ok(Step::Fail),
-        Some(Frame::Index(_, _)) => Ok(Step::Fail),
-        Some(Frame::Call(_, _, _)) => Ok(Step::Fail),
-        Some(Frame::Then(_, _)) => Ok(Step::Fail),
-        Some(Frame::Bound(_, _)) => Ok(Step::Fail),
-        Some(Frame::Width(_, _, _)) => Ok(Step::Fail),
-        Some(Frame::Value(_, _, _)) => Ok(Step::Fail),
-        Some(Frame::TypeDeclarator(_, _, _)) => Ok(Step::Fail),
-        Some(Frame::Member(_, _)) => Ok(Step::Fail),
-        Some(Frame::Param(_, _)) => Ok(Step::Fail),
-        Some(Frame::Group(_)) => Ok(Step::Fail),
-        Some(Frame::Derived(_, _)) => Ok(Step::Fail),
-        None => Ok(Step::Fail),
+        Some(Frame::Operation(_))
+        | Some(Frame::Paren(_))
+        | Some(Frame::Index(_, _))
+        | Some(Frame::Call(_, _, _))
+        | Some(Frame::Then(_, _))
+        | Some(Frame::Bound(_, _))
+        | Some(Frame::Width(_, _, _))
+        | Some(Frame::Value(_, _, _))
+        | Some(Frame::TypeDeclarator(_, _, _))
+        | Some(Frame::Member(_, _))
+        | Some(Frame::Param(_, _))
+        | Some(Frame::Group(_))
+        | Some(Frame::Derived(_, _)) => Ok(Step::fail((frames, innermost, specifiers))),
+        None => Ok(Step::fail((frames, specifiers))),
     }
 }
 
@@ -106,7 +108,7 @@ fn end_specifiers(
         return Ok(Step::Stop(Done::Specifiers(specifiers)));
     }
     if is_empty {
-        return Ok(Step::Fail);
+        return Ok(Step::fail((frames, specifiers)));
     }
     after_specifiers(alloc, limit, frames, specifiers, pos, sign)
 }
@@ -212,7 +214,7 @@ fn braced(
         return Ok(go(frames, Held::Enumerator(part)));
     }
     if !has_room(limit, &frames, 2) {
-        return Ok(Step::Deep);
+        return Ok(Step::deep((frames, part)));
     }
     let body = part.into_body(alloc, tag);
     let listing = Listing::new(alloc, false);
@@ -233,7 +235,7 @@ pub fn tag(
     match sign {
         Sign::Name(name, _) => Ok(go(frames, Held::TagName(part, name))),
         Sign::OpenBrace => braced(alloc, limit, frames, part, None),
-        _ => Ok(Step::Fail),
+        _ => Ok(Step::fail((frames, part))),
     }
 }
 
@@ -271,14 +273,13 @@ pub fn more_members(
 ) -> Result<Step, AllocError>
     ensures { IfOk result (λ n. next_of n ≡ more_members_step limit (body_of body) (stack_of frames.items) pos sign) }
 {
-    let mut frames = frames;
     match sign {
         Sign::CloseBrace => {
             let listing = body.end()?;
             Ok(go(frames, Held::Specifiers(listing)))
         }
         _ => {
-            frames.push(Frame::Members(body))?;
+            let frames = with_frame(frames, Frame::Members(body))?;
             let listing = Listing::new(alloc, false);
             specifiers(alloc, limit, frames, listing, pos, sign)
         }
@@ -292,7 +293,7 @@ pub fn enumerator(frames: Vec<Frame>, part: EnumPart, pos: Pos, sign: Sign) -> S
 {
     match sign {
         Sign::Name(name, _) => go(frames, Held::EnumeratorName(part, name, pos)),
-        _ => Step::Fail,
+        _ => Step::fail((frames, part)),
     }
 }
 
@@ -313,7 +314,7 @@ pub fn enumerator_name(
             if has_room(limit, &frames, 2) {
                 enter(frames, Frame::Value(part, name, pos), Held::Operand)
             } else {
-                Ok(Step::Deep)
+                Ok(Step::deep((frames, part)))
             }
         }
         _ => {

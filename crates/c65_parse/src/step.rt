@@ -1,5 +1,5 @@
 // One step of a reading for each token.
-ghost use Rattle.std.specs.Prelude.{◌≡◌, ◌∷◌, [], IfOk};
+ghost use Rattle.std.specs.Prelude.{◌≡◌, ◌++◌, ◌∷◌, [], IfOk};
 ghost use Rattle.c65_tree.specs.View.{expr_of, declarator_of};
 ghost use Rattle.c65_parse.specs.Machine;
 ghost use Rattle.c65_parse.specs.Machine.{opened_step, sizeof_step, sizeof_opened_step, called_step, dotted_step, qualifiers_step, params_step, opened_declarator_step, opened_bound_step, opened_params_step, more_params_step, ellipsis_step, names_step, names_end_step, in_block};
@@ -10,6 +10,7 @@ ghost use Rattle.c65_parse.specs.Views.{stack_of, held_of, next_of, params_part_
 use crate::declarators::{after_declarator, declarator};
 use crate::frame::{
     Change, Derivation, Frame, Held, NamesPart, Open, Operation, ParamsPart, Sort, Step, TypeUse,
+    with_frame,
 };
 use crate::operands::{after_expr, go, hole, operand};
 use crate::specifiers::{
@@ -22,6 +23,7 @@ use c65_parse_trees::{
     Sign, Word,
 };
 use c65_scan::Token;
+use c65_tree::push_last;
 use std::alloc::{AllocError, Global};
 
 /// Behind a parenthesis where an operand is needed.
@@ -36,15 +38,14 @@ fn opened(
 ) -> Result<Step, AllocError>
     ensures { IfOk result (λ n. next_of n ≡ opened_step limit pos (stack_of frames.items) token.now sign) }
 {
-    let mut frames = frames;
     if !sign.begins_type() {
-        frames.push(Frame::Paren(pos))?;
+        let frames = with_frame(frames, Frame::Paren(pos))?;
         return operand(alloc, limit, frames, token, sign);
     }
     if hole(&frames, 0) > 13 {
         return Ok(Step::Fail);
     }
-    frames.push(Frame::Type(pos, TypeUse::Cast))?;
+    let frames = with_frame(frames, Frame::Type(pos, TypeUse::Cast))?;
     specifiers(
         alloc,
         limit,
@@ -67,12 +68,11 @@ fn sizeof_word(
 ) -> Result<Step, AllocError>
     ensures { IfOk result (λ n. next_of n ≡ sizeof_step limit pos (stack_of frames.items) token.now sign) }
 {
-    let mut frames = frames;
     match sign {
         Sign::Open => Ok(go(frames, Held::SizeofOpened(pos, token.pos))),
         _ => {
             let operation = Operation::Prefix(pos, Prefix::Sizeof);
-            frames.push(Frame::Operation(operation))?;
+            let frames = with_frame(frames, Frame::Operation(operation))?;
             operand(alloc, limit, frames, token, sign)
         }
     }
@@ -91,9 +91,8 @@ fn sizeof_opened(
 ) -> Result<Step, AllocError>
     ensures { IfOk result (λ n. next_of n ≡ sizeof_opened_step limit pos paren (stack_of frames.items) token.now sign) }
 {
-    let mut frames = frames;
     if sign.begins_type() {
-        frames.push(Frame::Type(pos, TypeUse::Sizeof))?;
+        let frames = with_frame(frames, Frame::Type(pos, TypeUse::Sizeof))?;
         return specifiers(
             alloc,
             limit,
@@ -104,8 +103,8 @@ fn sizeof_opened(
         );
     }
     let operation = Operation::Prefix(pos, Prefix::Sizeof);
-    frames.push(Frame::Operation(operation))?;
-    frames.push(Frame::Paren(paren))?;
+    let frames = with_frame(frames, Frame::Operation(operation))?;
+    let frames = with_frame(frames, Frame::Paren(paren))?;
     operand(alloc, limit, frames, token, sign)
 }
 
@@ -122,7 +121,6 @@ fn called(
 ) -> Result<Step, AllocError>
     ensures { IfOk result (λ n. next_of n ≡ called_step limit pos (expr_of f.expr) (stack_of frames.items) token.now sign) }
 {
-    let mut frames = frames;
     let arguments = MeasuredExprs::new(alloc);
     match sign {
         Sign::Close => {
@@ -130,7 +128,7 @@ fn called(
             Ok(go(frames, Held::Expr(e)))
         }
         _ => {
-            frames.push(Frame::Call(pos, f, arguments))?;
+            let frames = with_frame(frames, Frame::Call(pos, f, arguments))?;
             operand(alloc, limit, frames, token, sign)
         }
     }
@@ -153,7 +151,7 @@ fn dotted(
             let e = MeasuredExpr::member(alloc, pos, e, arrow, name)?;
             Ok(go(frames, Held::Expr(e)))
         }
-        _ => Ok(Step::Fail),
+        _ => Ok(Step::fail((frames, e))),
     }
 }
 
@@ -178,7 +176,6 @@ fn qualifiers(
 ) -> Result<Step, AllocError>
     ensures { IfOk result (λ n. next_of n ≡ qualifiers_step limit star.pos star.constant star.volatile sort (stack_of frames.items) pos sign) }
 {
-    let mut frames = frames;
     match sign {
         Sign::Word(Word::Const) => {
             let held = Held::Qualifiers(star.pos, true, star.volatile, sort);
@@ -190,7 +187,7 @@ fn qualifiers(
         }
         _ => {
             let how = Derivation::Pointer(star.constant, star.volatile);
-            frames.push(Frame::Derived(star.pos, how))?;
+            let frames = with_frame(frames, Frame::Derived(star.pos, how))?;
             declarator(alloc, limit, frames, sort, pos, sign)
         }
     }
@@ -221,13 +218,12 @@ fn params(
 ) -> Result<Step, AllocError>
     ensures { IfOk result (λ n. next_of n ≡ params_step limit at (declarator_of d.declarator) (stack_of frames.items) pos sign) }
 {
-    let mut frames = frames;
     let part = ParamsPart {
         pos: at,
         declarator: d,
         params: ParamList::new(alloc),
     };
-    frames.push(Frame::Params(part))?;
+    let frames = with_frame(frames, Frame::Params(part))?;
     let step = specifiers(alloc, limit, frames, Listing::new(alloc, true), pos, sign)?;
     Ok(with_block(step))
 }
@@ -245,7 +241,6 @@ fn opened_declarator(
 ) -> Result<Step, AllocError>
     ensures { IfOk result (λ n. next_of n ≡ opened_declarator_step limit at sort (stack_of frames.items) pos sign) }
 {
-    let mut frames = frames;
     if matches!(sign, Sign::Close) {
         let nameless = MeasuredDeclarator::nameless(at);
         let d = MeasuredDeclarator::function(alloc, at, nameless, MeasuredParams::empty())?;
@@ -262,7 +257,7 @@ fn opened_declarator(
             sign,
         );
     }
-    frames.push(Frame::Group(at))?;
+    let frames = with_frame(frames, Frame::Group(at))?;
     declarator(alloc, limit, frames, sort, pos, sign)
 }
 
@@ -279,14 +274,13 @@ fn opened_bound(
 ) -> Result<Step, AllocError>
     ensures { IfOk result (λ n. next_of n ≡ opened_bound_step limit at (declarator_of d.declarator) (stack_of frames.items) token.now sign) }
 {
-    let mut frames = frames;
     match sign {
         Sign::CloseBracket => {
             let d = MeasuredDeclarator::open_array(alloc, at, d)?;
             Ok(go(frames, Held::Declared(d)))
         }
         _ => {
-            frames.push(Frame::Bound(at, d))?;
+            let frames = with_frame(frames, Frame::Bound(at, d))?;
             operand(alloc, limit, frames, token, sign)
         }
     }
@@ -303,12 +297,17 @@ fn first_name(
     ensures { IfOk result (λ r. names_part_of r ≡ record { pos = at; declarator = declarator_of d.declarator; names = (name, pos) ∷ [] }) }
 {
     let mut names = Vec::new(alloc);
-    names.push((name, pos))?;
-    Ok(NamesPart {
-        pos: at,
-        declarator: d,
-        names,
-    })
+    match push_last(&mut names, (name, pos)) {
+        Ok(()) => Ok(NamesPart {
+            pos: at,
+            declarator: d,
+            names,
+        }),
+        Err(error) => {
+            drop(d);
+            Err(error)
+        }
+    }
 }
 
 /// Behind the parenthesis of a function declarator.
@@ -331,7 +330,7 @@ fn opened_params(
         }
         Sign::Name(name, false) => {
             if d.name.is_none() {
-                return Ok(Step::Fail);
+                return Ok(Step::fail((frames, d)));
             }
             let part = first_name(alloc, at, d, name, pos)?;
             Ok(go(frames, Held::NamesEnd(part)))
@@ -340,7 +339,7 @@ fn opened_params(
             if sign.begins_specifiers() {
                 params(alloc, limit, frames, at, d, pos, sign)
             } else {
-                Ok(Step::Fail)
+                Ok(Step::fail((frames, d)))
             }
         }
     }
@@ -358,11 +357,10 @@ fn more_params(
 ) -> Result<Step, AllocError>
     ensures { IfOk result (λ n. next_of n ≡ more_params_step limit (params_part_of part) (stack_of frames.items) pos sign) }
 {
-    let mut frames = frames;
     match sign {
         Sign::Ellipsis => Ok(go(frames, Held::Ellipsis(part))),
         _ => {
-            frames.push(Frame::Params(part))?;
+            let frames = with_frame(frames, Frame::Params(part))?;
             specifiers(alloc, limit, frames, Listing::new(alloc, true), pos, sign)
         }
     }
@@ -383,7 +381,27 @@ fn ellipsis(
             let held = Held::Declared(part.end(alloc, true)?);
             Ok(Step::Go(Open { frames, held }, Change::Close))
         }
-        _ => Ok(Step::Fail),
+        _ => Ok(Step::fail((frames, part))),
+    }
+}
+
+impl NamesPart {
+    /// With one more name.
+    fn with(self, name: Name, pos: Pos) -> Result<NamesPart, AllocError>
+        ensures { IfOk result (λ r. names_part_of r ≡ record { pos = self.pos; declarator = declarator_of self.declarator.declarator; names = self.names.items ++ (name, pos) ∷ [] }) }
+    {
+        let mut names = self.names;
+        match push_last(&mut names, (name, pos)) {
+            Ok(()) => Ok(NamesPart {
+                pos: self.pos,
+                declarator: self.declarator,
+                names,
+            }),
+            Err(error) => {
+                drop(self.declarator);
+                Err(error)
+            }
+        }
     }
 }
 
@@ -394,11 +412,10 @@ fn names(frames: Vec<Frame>, part: NamesPart, pos: Pos, sign: Sign) -> Result<St
 {
     match sign {
         Sign::Name(name, false) => {
-            let mut part = part;
-            part.names.push((name, pos))?;
+            let part = part.with(name, pos)?;
             Ok(go(frames, Held::NamesEnd(part)))
         }
-        _ => Ok(Step::Fail),
+        _ => Ok(Step::fail((frames, part))),
     }
 }
 
@@ -419,7 +436,7 @@ fn names_end(
             let d = MeasuredDeclarator::function(alloc, part.pos, part.declarator, params)?;
             Ok(go(frames, Held::Declared(d)))
         }
-        _ => Ok(Step::Fail),
+        _ => Ok(Step::fail((frames, part))),
     }
 }
 

@@ -1,6 +1,7 @@
 -- What a call of the parser answers of the tokens at the front, exactly: the tree whose tokens stand there before the
 -- first with which no tree goes on, or the first token with which none does, or that the tree is deeper than the limit.
 use Rattle.std.specs.Prelude.{◌≡◌, ◌≤◌, ℕ, List, ◌∷◌, Bool, Result, Ok, Err}
+use Rattle.c65_base.specs.Limits.{limit_of}
 use Rattle.c65_base.specs.declared.refusal.Pos.{Pos}
 use Rattle.c65_base.specs.declared.refusal.Size.TheVariants.{Depth}
 use Rattle.c65_base.specs.declared.refusal.Refusal.{Refusal}
@@ -28,10 +29,10 @@ StopsUnit limit = Stops limit units unit_depth
 -- from where one parser stands to where the other does, with the scope there, unless memory ran out; a phrase that is
 -- refused may be told by any place behind it
 abbrev pub ReadsFront : {X Tree : Type 0} → (Pos → Tree → Phrase) → (Tree → Scope) → Blocks → (Tree → ℕ) → Parser → Parser → (X → Tree) → Pos → Result X Refusal → Type 0
-ReadsFront phrase behind outer depth before later view l (Ok x) = IsWhole (phrase (pos_here (rest_of later))) depth 256 (rest_of before) (view x) (rest_of later) × (blocks_of later ≡ behind (view x) ∷ outer)
+ReadsFront phrase behind outer depth before later view l (Ok x) = IsWhole (phrase (pos_here (rest_of later))) depth (limit_of Depth) (rest_of before) (view x) (rest_of later) × (blocks_of later ≡ behind (view x) ∷ outer)
 ReadsFront phrase behind outer depth before later view l (Err refusals.OutOfMemory) = Unit {0}
-ReadsFront phrase behind outer depth before later view l (Err (refusals.At code pos)) = (next : Token) × (code ≡ code_of next.kind) × (pos ≡ next.pos) × IsRefused (phrase l) depth 256 (rest_of before) next
-ReadsFront phrase behind outer depth before later view l (Err (refusals.TooLarge size value)) = (size ≡ Depth) × (value ≡ 257) × IsTooDeep (phrase l) depth 256 (rest_of before)
+ReadsFront phrase behind outer depth before later view l (Err (refusals.At code pos)) = (next : Token) × (code ≡ code_of next.kind) × (pos ≡ next.pos) × IsRefused (phrase l) depth (limit_of Depth) (rest_of before) next
+ReadsFront phrase behind outer depth before later view l (Err (refusals.TooLarge size value)) = (size ≡ Depth) × (value ≡ 257) × IsTooDeep (phrase l) depth (limit_of Depth) (rest_of before)
 ReadsFront phrase behind outer depth before later view l (Err _) = ⊥
 
 -- an expression of at least this level

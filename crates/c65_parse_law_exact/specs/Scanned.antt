@@ -1,5 +1,7 @@
 -- What the parser answers of the tokens that the scanner gives: no premise is left.
 use Rattle.std.specs.Prelude.{◌≡◌, ℕ, List, Result, Ok, Err}
+use Rattle.c65_base.specs.Limits.{limit_of}
+use Rattle.c65_base.specs.declared.refusal.Size.TheVariants.{Depth}
 use Rattle.c65_base.specs.Answers.{Fault, at, large}
 use Rattle.c65_base.specs.declared.refusal.Refusal.{Refusal}
 use Rattle.c65_base.specs.declared.refusal.Refusal.TheVariants as refusals
@@ -22,4 +24,4 @@ refused (Err (large size value)) = Err (refusals.TooLarge size value)
 
 -- so the unit that stands for them is the only one, or the refusal stands where no unit goes on, or where only a deeper one does
 abbrev pub ScannedUnitsAreRead : Type 0
-ScannedUnitsAreRead = (names : List (List ℕ)) (ts : List PpToken) (tokens : List Token) → tokens_of names ts ≡ Ok tokens → ReadsUnit tokens (λ u. u) (refused (unit_read 256 tokens))
+ScannedUnitsAreRead = (names : List (List ℕ)) (ts : List PpToken) (tokens : List Token) → tokens_of names ts ≡ Ok tokens → ReadsUnit tokens (λ u. u) (refused (unit_read (limit_of Depth) tokens))

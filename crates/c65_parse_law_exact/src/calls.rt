@@ -1,7 +1,11 @@
 // The parser's calls with what the grammar says of all their answers.
 ghost use Rattle.std.specs.Prelude.{true, false};
+ghost use Rattle.c65_base.specs.Limits.{limit_of};
+ghost use Rattle.c65_base.specs.declared.refusal.Size.TheVariants.{Depth};
 ghost use Rattle.c65_tree.specs.View.{expr_of, specifiers_of, declarator_of, type_of, unit_of};
+ghost use Rattle.c65_base.specs.Answers.{Gives};
 ghost use Rattle.c65_parse.specs.Reading.{rest_of};
+ghost use Rattle.c65_decl.specs.Units.{unit_read};
 ghost use Rattle.c65_parse_law_sound.specs.Units.{EndsOnce};
 ghost use Rattle.c65_parse_law_exact.specs.Exact.{ReadsUnit};
 ghost use Rattle.c65_parse_law_exact.specs.Calls.{StopsUnit, ReadsExpr, ReadsSpecifiers, ReadsDeclarator, ReadsType};
@@ -20,7 +24,7 @@ use std::alloc::Global;
 /// the only `End`.
 pub fn stop_unit(alloc: Global, tokens: &[Token]) -> Result<Unit, Refusal>
     requires { EndsOnce tokens.now }
-    ensures { StopsUnit 256 tokens.now result }
+    ensures { StopsUnit (limit_of Depth) tokens.now result }
 {
     parse_unit(alloc, tokens)
 }
@@ -28,7 +32,8 @@ pub fn stop_unit(alloc: Global, tokens: &[Token]) -> Result<Unit, Refusal>
 /// The only unit whose tokens these are (C90 6.7), or the first token with which none goes on, or that of the limit of
 /// depth.
 pub fn read_exactly(alloc: Global, tokens: &[Token]) -> Result<Unit, Refusal>
-    ensures { EndsOnce tokens.now → ReadsUnit tokens.now unit_of result }
+    ensures grammar { EndsOnce tokens.now → ReadsUnit tokens.now unit_of result }
+    ensures reading { Gives unit_of result (unit_read (limit_of Depth) tokens.now) }
 {
     parse_unit(alloc, tokens)
 }

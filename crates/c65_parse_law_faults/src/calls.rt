@@ -1,5 +1,7 @@
 // The parser's call with what the grammar says of its faults.
 ghost use Rattle.c65_parse_law_sound.specs.Units.{EndsOnce};
+ghost use Rattle.c65_base.specs.Limits.{limit_of};
+ghost use Rattle.c65_base.specs.declared.refusal.Size.TheVariants.{Depth};
 ghost use Rattle.c65_parse_law_faults.specs.Laws.{RefusesUnit};
 
 use c65_base::Refusal;
@@ -12,7 +14,7 @@ use std::alloc::Global;
 /// only `End`.
 pub fn refuse_unit(alloc: Global, tokens: &[Token]) -> Result<Unit, Refusal>
     requires { EndsOnce tokens.now }
-    ensures { RefusesUnit 256 tokens.now result }
+    ensures { RefusesUnit (limit_of Depth) tokens.now result }
 {
     parse_unit(alloc, tokens)
 }

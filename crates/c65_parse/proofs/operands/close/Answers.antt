@@ -12,10 +12,10 @@ pub returns-in_ok-part-in-Some-Width : goal.returns-in_ok-part-in-Some-Width
 unfolding close
 returns-in_ok-part-in-Some-Width c = subst (λ (fs : List Frame). IfOk c.after_member.result (λ n. next_of n ≡ close (expr_of c.args.e.expr) fs c.args.sign))
     (sym (innermost_is _ _ _ _ c.in-Some-Width.ensures.items c.in-Some-Width.field-0-is))
-    (subst (λ (part : MembersPart). IfOk c.after_member.result (λ n. next_of n ≡ close_member part (stack_of c.pop.new.self.items) c.args.sign)) c.in_ok-part-in-Some-Width.ensures c.after_member.ensures)
+    (subst (λ (part : MembersPart). IfOk c.after_member.result (λ n. next_of n ≡ close_member part (stack_of c.pop-innermost.new.self.items) c.args.sign)) c.in_ok-part-in-Some-Width.ensures c.after_member.ensures)
 
 pub returns-in_ok-part-in-Some-Value : goal.returns-in_ok-part-in-Some-Value
 unfolding close
 returns-in_ok-part-in-Some-Value c = subst (λ (fs : List Frame). IfOk c.after_enumerator.result (λ n. next_of n ≡ close (expr_of c.args.e.expr) fs c.args.sign))
     (sym (innermost_is _ _ _ _ c.in-Some-Value.ensures.items c.in-Some-Value.field-0-is))
-    (subst (λ (part : EnumPart). IfOk c.after_enumerator.result (λ n. next_of n ≡ close_enumerator part c.in-Some-Value.name (stack_of c.pop.new.self.items) c.args.sign)) c.in_ok-part-in-Some-Value.ensures c.after_enumerator.ensures)
+    (subst (λ (part : EnumPart). IfOk c.after_enumerator.result (λ n. next_of n ≡ close_enumerator part c.in-Some-Value.name (stack_of c.pop-innermost.new.self.items) c.args.sign)) c.in_ok-part-in-Some-Value.ensures c.after_enumerator.ensures)

@@ -30,10 +30,10 @@ returns-in-Deep-clause-answer c =
 pub loop-i-preserved : goal.loop-i-preserved
 loop-i-preserved c =
     let whole : Reading = run c.args.limit c.args.least (scope_of c.args.scope.now) [] (held_of c.args.held) c.args.tokens.now in
-    ap (λ (scope : Blocks). run c.args.limit c.args.least scope (stack_of c.in-Go.next.frames.items) (held_of c.in-Go.next.held) (drop (c.loop-i.i + 1) c.args.tokens.now)) c.in_ok-apply-in-Go.ensures
+    ap (λ (scope : Blocks). run c.args.limit c.args.least scope (stack_of c.in-Go.next.frames.items) (held_of c.in-Go.next.held) (drop (c.loop-i.i + 1) c.args.tokens.now)) c.in-Ok.ensures
     ∙ turn_item c.args.limit c.args.least (scope_of c.loop-i.scope) c.args.tokens.now c.loop-i.i c.index-tokens-i.result (stack_of c.loop-i.reading.frames.items) (held_of c.loop-i.reading.held) whole _ _ c.index-tokens-i.is c.in-Go.is c.loop-i-test.true c.loop-i.invariant c.in_ok-step.ensures
 
 pub returns-clause-answer : goal.returns-clause-answer
 returns-clause-answer c =
     let whole : Reading = run c.args.limit c.args.least (scope_of c.args.scope.now) [] (held_of c.args.held) c.args.tokens.now in
-    ran_out c.args.limit c.args.least (scope_of c.loop-i.scope) c.args.tokens.now c.loop-i.i (stack_of c.loop-i.reading.frames.items) (held_of c.loop-i.reading.held) whole c.loop-i-test.false c.loop-i.invariant
+    subst (λ (e : Refusal). Fails e whole) (sym c.fault-2.ensures) (ran_out c.args.limit c.args.least (scope_of c.loop-i.scope) c.args.tokens.now c.loop-i.i (stack_of c.loop-i.reading.frames.items) (held_of c.loop-i.reading.held) whole c.loop-i-test.false c.loop-i.invariant)
