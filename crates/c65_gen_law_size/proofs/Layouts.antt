@@ -32,6 +32,7 @@ use Rattle.c65_link.specs.Layouts.{Layout, empty_layout, with_lines, with_functi
 use Rattle.c65_link.specs.Layouts as layouts
 use Rattle.c65_link.specs.Symbols.{targets_of, missing_of, with_code_uses}
 use Rattle.c65_link.specs.Linked.{Fault, undefined, large, entry_of, parts_of, payload_of, image_of, named_or_placed, linked}
+use Rattle.c65_link_law.proofs.Extents.{far_most, routines_size, entries, chosen_by_most, all_are_few, entry_by}
 use Rattle.c65_link_law.proofs.Sizes.{IsSized, line_sized}
 use Rattle.c65_gen_law_size.specs.Data.{datums_size}
 
@@ -39,25 +40,6 @@ plus_le : (a b : ℕ) → plus a b ≤ a + b
 plus_le a b = min-le_left (a + b) 18446744073709551615
 
 -- ---- lines
-
-routine_least : (r : Routine) → 3 ≤ routine_size r
-routine_least routines.LdAxYSp = omega arith
-routine_least routines.LdAx0Sp = omega arith
-routine_least routines.StAxYSp = omega arith
-routine_least (routines.Library f) = omega arith
-routine_least (routines.Unary Neg Ax) = omega arith
-routine_least (routines.Unary Compl Ax) = omega arith
-routine_least (routines.Unary Shl1 Ax) = omega arith
-routine_least (routines.Unary Shr1 Ax) = omega arith
-routine_least (routines.Unary Asr1 Ax) = omega arith
-routine_least _ = omega arith
-
-far_most : (line : Line) → far_size line ≤ extent_of_line line
-far_most (Label l) = omega arith
-far_most (Do op mode operand) = omega arith
-far_most (Call (callees.Routine r)) = routine_least r
-far_most (Call (callees.Function f reads gives)) = omega arith
-far_most (Call (callees.Pointer reads gives)) = omega arith
 
 body_most : (lines : List Line) (body : Body) (at : ℕ) → (body_with body at lines).size ≤ body.size + lines_size lines
 body_most [] body at = omega arith
@@ -78,10 +60,6 @@ functions_at layout [] = omega arith
 functions_at layout (f ∷ fs) =
     let one : (with_function layout f).at ≤ layout.at + lines_size f.1.lines = omega (arith, plus_le layout.at (body_of f.1.lines).size, size_most f.1.lines) in
     omega (arith, functions_at (with_function layout f) fs, one)
-
-abbrev routines_size : List Routine → ℕ
-routines_size [] = 0
-routines_size (r ∷ rs) = lines_size (routine_lines r) + routines_size rs
 
 routines_at : (layout : Layout) (rs : List Routine) → (layouts.with_routines layout rs).at ≤ layout.at + routines_size rs
 routines_at layout [] = omega arith
@@ -155,37 +133,6 @@ layout_most code ts entry parts =
     let aimed : Layout = with_targets all 0 ts in
     let filled : Layout = with_all_data aimed code.datums in
     omega (arith, lines_at empty (routine_lines entry), functions_at begun code.functions, routines_at coded parts, targets_at all 0 ts, all_data_at aimed code.datums, all_zeros_at filled code.datums, all_sizes code.datums)
-
--- ---- routines
-
-sizes_append : (xs ys : List Routine) → routines_size (xs ++ ys) ≡ routines_size xs + routines_size ys
-sizes_append [] ys = omega arith
-sizes_append (x ∷ xs) ys = omega (arith, sizes_append xs ys)
-
-taken_by : (b : Bool) (chosen : Chosen) (r : Routine) → routines_size (if b then record { marks = with_calls chosen.marks (routine_lines r); parts = chosen.parts ++ r ∷ [] } else chosen).parts ≤ routines_size chosen.parts + lines_size (routine_lines r)
-taken_by true chosen r = omega (arith, sizes_append chosen.parts (r ∷ []))
-taken_by false chosen r = omega arith
-
-chosen_most : (chosen : Chosen) (rs : List Routine) → routines_size (chosen_with chosen rs).parts ≤ routines_size chosen.parts + routines_size rs
-unfolding chosen_with
-chosen_most chosen [] = omega arith
-chosen_most chosen (r ∷ rs) =
-    let here : routines_size (with_routine chosen r).parts ≤ routines_size chosen.parts + lines_size (routine_lines r) = taken_by (is_marked chosen.marks r && has_lines r) chosen r in
-    omega (arith, here, chosen_most (with_routine chosen r) rs)
-
-abbrev entries : List Routine
-entries = routines.Start ∷ routines.StartArgs ∷ []
-
-chosen_by_most : (chosen : Chosen) → routines_size (chosen_by chosen).parts ≤ routines_size chosen.parts + routines_size ALL
-chosen_by_most chosen = chosen_most chosen ALL
-
--- by computation
-all_are_few : nat_lt (routines_size entries + routines_size ALL) 8193 ≡ true
-all_are_few = refl
-
-entry_by : (b : Bool) → lines_size (routine_lines (if b then routines.StartArgs else routines.Start)) ≤ routines_size entries
-entry_by true = omega arith
-entry_by false = omega arith
 
 -- ---- refusals
 

@@ -48,7 +48,7 @@ routine_least (routines.Unary Shr1 Ax) = omega arith
 routine_least (routines.Unary Asr1 Ax) = omega arith
 routine_least _ = omega arith
 
-far_most : (line : Line) → far_size line ≤ extent_of_line line
+pub far_most : (line : Line) → far_size line ≤ extent_of_line line
 far_most (Label l) = omega arith
 far_most (Do op mode operand) = omega arith
 far_most (Call (callees.Routine r)) = routine_least r
@@ -81,7 +81,7 @@ code_is_within_its_extent tables written (f ∷ functions) =
 
 -- Routines
 
-abbrev routines_size : List Routine → ℕ
+abbrev pub routines_size : List Routine → ℕ
 routines_size [] = 0
 routines_size (r ∷ rs) = lines_size (routine_lines r) + routines_size rs
 
@@ -109,17 +109,17 @@ chosen_most chosen (r ∷ rs) =
     let rest : routines_size (chosen_with (with_routine chosen r) rs).parts ≤ routines_size (with_routine chosen r).parts + routines_size rs = chosen_most (with_routine chosen r) rs in
     omega (arith, here, rest)
 
-abbrev entries : List Routine
+abbrev pub entries : List Routine
 entries = routines.Start ∷ routines.StartArgs ∷ []
 
-chosen_by_most : (chosen : Chosen) → routines_size (chosen_by chosen).parts ≤ routines_size chosen.parts + routines_size ALL
+pub chosen_by_most : (chosen : Chosen) → routines_size (chosen_by chosen).parts ≤ routines_size chosen.parts + routines_size ALL
 chosen_by_most chosen = chosen_most chosen ALL
 
 -- by computation
-all_are_few : nat_lt (routines_size entries + routines_size ALL) 8193 ≡ true
+pub all_are_few : nat_lt (routines_size entries + routines_size ALL) 8193 ≡ true
 all_are_few = refl
 
-entry_by : (b : Bool) → lines_size (routine_lines (if b then routines.StartArgs else routines.Start)) ≤ routines_size entries
+pub entry_by : (b : Bool) → lines_size (routine_lines (if b then routines.StartArgs else routines.Start)) ≤ routines_size entries
 entry_by true = omega arith
 entry_by false = omega arith
 

@@ -27,7 +27,7 @@ use Rattle.c65_parse_grammar.specs.Readings.{Continues}
 use Rattle.c65_parse_law_sound.proofs.Phrases.{both, regroup, map_right, attach}
 use Rattle.c65_parse_law_sound.proofs.Got.{EndsIn, First, first_of_mark, kind_of_mark, one_here}
 use Rattle.c65_parse_law_sound.proofs.Inits.{one_more, list_built, element_is, inits_scope, lists_front, state_front, state_behind, at_nothing, nil_behind}
-use Rattle.c65_parse_law_trees.proofs.Firsts.{expr_deep}
+use Rattle.c65_parse_law_alike.proofs.Alike.{expr_deep}
 use Rattle.c65_parse_law_faults.proofs.Local.{here_is}
 use Rattle.c65_parse_law_faults.proofs.Seq.{tail}
 use Rattle.c65_parse_law_faults.proofs.Inits.{marks_it}

@@ -28,7 +28,7 @@ use Rattle.c65_parse.specs.Expressions.{goes, within, has_room, names_type, leaf
 use Rattle.c65_parse.specs.Declarators.{is_optional, is_derived, plug_declarator, reduce_declarator, close_group, with_type, close_type, close_param, close_member_declarator, close_declarator, declarator_end, without_name, open_group, declarator_step, takes_name}
 use Rattle.c65_parse.specs.Specifiers.{member_step, end_listed, end_specifiers, specifiers_step, is_enum, body_of, enum_of, open_body, tag_step, tag_name_step, more_members_step, enumerator_step, enumerator_name_step}
 use Rattle.c65_parse.specs.Machine.{opened_step, sizeof_step, sizeof_opened_step, called_step, dotted_step, qualifiers_step, in_block, params_step, opened_declarator_step, opened_bound_step, opened_params_step, more_params_step, ellipsis_step, names_step, names_end_step, step_by, step}
-use Rattle.c65_parse_law_trees.proofs.Firsts.{expr_deep}
+use Rattle.c65_parse_law_alike.proofs.Alike.{expr_deep}
 
 pub data Place : Type 0 where
   of_expr : Place

@@ -31,7 +31,7 @@ use Rattle.c65_parse_grammar.specs.Expressions as g
 use Rattle.c65_parse_grammar.specs.Expressions.{may_lack, takes_name, begins_with_type, groups}
 use Rattle.c65_parse_law_sound.proofs.Phrases.{both, regroup, ungroup, map_left, map_right, attach, is_one, is_some_one, behind_nothing, true_false}
 use Rattle.c65_parse_law_sound.proofs.Says.{Says}
-use Rattle.c65_parse_law_sound.proofs.Alike.{name_is}
+use Rattle.c65_parse_law_alike.proofs.Alike.{name_is}
 use Rattle.c65_parse_law_sound.specs.Derived.{sort_of}
 use Rattle.c65_parse_law_sound.proofs.Places.{Start, member_scope, params_scope, scope_at, outer_at, sort_at, listed, member_front, suffix_front, params_front, type_front, fronts, lacks, Suits, SuitsTree, Stand}
 use Rattle.c65_parse_law_sound.proofs.States.{Good}

@@ -1,6 +1,5 @@
 pub mod Phrases
 pub mod Says
-pub mod Alike
 pub mod Places
 pub mod States
 pub mod Operands

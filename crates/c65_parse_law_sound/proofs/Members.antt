@@ -21,7 +21,7 @@ use Rattle.c65_parse_grammar.specs.Expressions as g
 use Rattle.c65_parse_grammar.specs.Expressions.{is_no_member, is_no_enumerator}
 use Rattle.c65_parse_law_sound.proofs.Phrases.{regroup, map_left, map_right, attach, is_some_one}
 use Rattle.c65_parse_law_sound.proofs.Says.{Says}
-use Rattle.c65_parse_law_sound.proofs.Alike.{either_is}
+use Rattle.c65_parse_law_alike.proofs.Alike.{either_is}
 use Rattle.c65_parse_law_sound.proofs.Places.{Start, body_scope, member_scope, enum_scope, scope_at, outer_at, storage_at, IsListing, listing, listed, body_front, fronts, Stand}
 use Rattle.c65_parse_law_sound.proofs.States.{Good}
 

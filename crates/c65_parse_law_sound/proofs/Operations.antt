@@ -19,7 +19,7 @@ use Rattle.c65_parse_grammar.specs.Parts as parts
 use Rattle.c65_parse_grammar.specs.Scopes.{Scope, after}
 use Rattle.c65_parse_grammar.specs.Expressions as g
 use Rattle.c65_parse_law_sound.proofs.Phrases.{regroup, map_left, map_right, false_true}
-use Rattle.c65_parse_law_sound.proofs.Alike.{binary_level, level_is}
+use Rattle.c65_parse_law_alike.proofs.Alike.{binary_level, level_is}
 use Rattle.c65_parse_law_sound.proofs.Places.{tight, prefix_mark, infix_mark, operation_front, in_operation_scope, rank_of_operation}
 
 -- the level as the grammar has it

@@ -33,7 +33,7 @@ use Rattle.c65_parse_grammar.specs.Expressions as g
 use Rattle.c65_parse_grammar.specs.Expressions.{may_lack, identifiers, identifier_list, comma_at}
 use Rattle.c65_parse_law_sound.proofs.Phrases.{regroup, map_left, map_right, attach, is_one, is_some_one}
 use Rattle.c65_parse_law_sound.proofs.Says.{Says}
-use Rattle.c65_parse_law_sound.proofs.Alike.{name_is}
+use Rattle.c65_parse_law_alike.proofs.Alike.{name_is}
 use Rattle.c65_parse_law_sound.proofs.Places.{Start, params_scope, scope_at, outer_at, sort_at, suffix_front, params_front, more_params_front, fronts, lacks, SuitsTree, Stand}
 use Rattle.c65_parse_law_sound.proofs.States.{Holds, Good}
 use Rattle.c65_parse_law_sound.proofs.Operands.{good_if}

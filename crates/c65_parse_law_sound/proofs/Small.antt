@@ -37,6 +37,7 @@ use Rattle.c65_parse_grammar.specs.Scopes.{no_types}
 use Rattle.c65_parse_law_sound.specs.Units.{UnitsAreUnits}
 use Rattle.c65_parse_law_sound.proofs.Within.{Within, then_within, within_if, expr_within, specifiers_within, declarator_within}
 use Rattle.c65_parse_law_sound.proofs.Units.{units_are_derived, ok_is}
+use Rattle.c65_parse_law_alike.proofs.Alike.{expr_deep}
 
 -- whatever the first reading answers
 then_any : {X B : Type 0} (Q : B → Type 0) (r : Result X Fault) (f : X → Answer B) → ((x : X) → Within Q (f x)) → Within Q (r >>= f)
@@ -88,28 +89,8 @@ lists_within : (limit : ℕ) (ls : List OpenList) (i : t.InitTree) (scope : Bloc
 lists_within limit [] i scope ts h k = omega (arith, k)
 lists_within limit (l ∷ ls) i scope ts h k = then_any (ListedFits limit) (list_end scope ts) (lists_next (lists_closed ls) (with_initialiser l i) ls) (λ b. next_list limit (with_initialiser l i) ls (lists_closed ls) (let j = h.0 in omega (arith, j, k)) h.1 (λ v inner us m. lists_within limit ls v inner us h.1 m) b.0 b.1 b.2)
 
-one_deep : (e : t.ExprTree) → 1 ≤ expr_depth e
-one_deep (t.name l n) = omega arith
-one_deep (t.number l ty n) = omega arith
-one_deep (t.text l bs) = omega arith
-one_deep (t.paren l e) = omega arith
-one_deep (t.index l a i) = omega arith
-one_deep (t.call l f es) = omega arith
-one_deep (t.member l e arrow n) = omega arith
-one_deep (t.step l how e) = omega arith
-one_deep (t.unary l op e) = omega arith
-one_deep (t.sizeof_expr l e) = omega arith
-one_deep (t.sizeof_type l ty) = omega arith
-one_deep (t.cast l ty e) = omega arith
-one_deep (t.binary l op a b) = omega arith
-one_deep (t.and_also l a b) = omega arith
-one_deep (t.or_else l a b) = omega arith
-one_deep (t.conditional l c a b) = omega arith
-one_deep (t.assign l op a b) = omega arith
-one_deep (t.comma l a b) = omega arith
-
 room_left : (limit around : ℕ) (r : Answer t.ExprTree) → Within (SmallExpr (limit - around)) r → Within (λ e. expr_depth e + around ≤ limit) r
-room_left limit around (Ok (e, rest, scope)) h = let one = one_deep e in omega (arith, h, one)
+room_left limit around (Ok (e, rest, scope)) h = let one = expr_deep e in omega (arith, h, one)
 room_left limit around (Err e) h = tt
 
 element_within : (limit : ℕ) (around : ℕ) (scope : Blocks) (ts : List Token) → Within (λ e. expr_depth e + around ≤ limit) (element_read limit around scope ts)

@@ -28,7 +28,7 @@ use Rattle.c65_parse_grammar.specs.Expressions as g
 use Rattle.c65_parse_grammar.specs.Expressions.{is_no_member_decl}
 use Rattle.c65_parse_law_sound.proofs.Phrases.{regroup, map_left, map_right, attach, is_one, is_some_one, behind_nothing, true_false, false_true}
 use Rattle.c65_parse_law_sound.proofs.Says.{Says, tag_word}
-use Rattle.c65_parse_law_sound.proofs.Alike.{type_word_is, typedef_word_is}
+use Rattle.c65_parse_law_alike.proofs.Alike.{type_word_is, typedef_word_is}
 use Rattle.c65_parse_law_sound.proofs.Places.{Start, body_scope, member_scope, scope_at, outer_at, storage_at, IsListing, listing, listed, tag_front, body_front, fronts, Stand}
 use Rattle.c65_parse_law_sound.proofs.States.{some_or_none, Holds, Good}
 use Rattle.c65_parse_law_sound.proofs.Operands.{good_within, good_if}

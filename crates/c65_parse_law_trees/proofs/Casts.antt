@@ -26,7 +26,7 @@ use Rattle.c65_parse_trees.specs.Levels.{level_of}
 use Rattle.c65_parse_grammar.specs.Phrases.{token}
 use Rattle.c65_parse_grammar.specs.Scopes.{Scope, after, after_type}
 use Rattle.c65_parse_grammar.specs.Expressions as g
-use Rattle.c65_parse_law_trees.proofs.Alike.{level_is}
+use Rattle.c65_parse_law_alike.proofs.Alike.{level_is}
 use Rattle.c65_parse_law_trees.proofs.Edges.{edge, lower, edge_above}
 use Rattle.c65_parse_law_trees.proofs.Runs.{steps, same, first_map, split, Leads, before, before_some, behind}
 use Rattle.c65_parse_law_trees.proofs.Steps.{roomy, absorbs}

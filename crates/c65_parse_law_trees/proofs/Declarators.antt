@@ -30,7 +30,7 @@ use Rattle.c65_parse_grammar.specs.Parts.{first_name, is_nameless}
 use Rattle.c65_parse_grammar.specs.Scopes.{Scope, after, after_declarator, after_maybe}
 use Rattle.c65_parse_grammar.specs.Expressions as g
 use Rattle.c65_parse_law_trees.specs.Tokens.{sort_of, NoSuffix, Bare}
-use Rattle.c65_parse_law_trees.proofs.Alike.{level_is}
+use Rattle.c65_parse_law_alike.proofs.Alike.{level_is}
 use Rattle.c65_parse_law_trees.proofs.Runs.{steps, same, First, first_map, split, single, Leads, before, behind, behind_some, between}
 use Rattle.c65_parse_law_trees.proofs.Steps.{roomy}
 use Rattle.c65_parse_law_trees.proofs.Readings.{ReadsMaybe, ReadsDeclarator, Halts}

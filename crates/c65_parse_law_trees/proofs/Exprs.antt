@@ -35,12 +35,11 @@ use Rattle.c65_parse_grammar.specs.Spellings.{binary_punct, assign_punct, unary_
 use Rattle.c65_parse_grammar.specs.Parts as parts
 use Rattle.c65_parse_grammar.specs.Scopes.{Scope, after}
 use Rattle.c65_parse_grammar.specs.Expressions as g
-use Rattle.c65_parse_law_trees.proofs.Alike.{level_is, binary_level}
+use Rattle.c65_parse_law_alike.proofs.Alike.{level_is, binary_level, expr_deep}
 use Rattle.c65_parse_law_trees.proofs.Edges.{edge, Follows, lower, edge_above, edge_same, edge_top}
 use Rattle.c65_parse_law_trees.proofs.Runs.{takes, steps, single, Leads, before, behind, behind_some, between, between_some}
 use Rattle.c65_parse_law_trees.proofs.Steps.{leaf_goes, prefix_goes, binary_between, extends, no_operator, low_operator, closes, absorbs}
 use Rattle.c65_parse_law_trees.proofs.Readings.{ReadsExpr}
-use Rattle.c65_parse_law_trees.proofs.Firsts.{expr_deep}
 
 pub reads_name : (limit : ℕ) (l : Pos) (n : Name) → ReadsExpr limit (t.name l n)
 reads_name limit l n least sc outer fs xs rest p h r f = single (Leads limit least sc outer fs operand (run limit least (sc ∷ outer) fs (have_expr (t.name l n)) rest)) l (kinds.Name n) xs rest p.1

@@ -24,7 +24,7 @@ use Rattle.c65_parse_grammar.specs.Parts.{level, is_empty_list, is_nameless, dec
 use Rattle.c65_parse_grammar.specs.Scopes.{Scope}
 use Rattle.c65_parse_grammar.specs.Expressions as g
 use Rattle.c65_parse_law_trees.proofs.Runs.{First}
-use Rattle.c65_parse_law_trees.proofs.Alike.{low_binary}
+use Rattle.c65_parse_law_alike.proofs.Alike.{low_binary, expr_deep}
 
 pub record Opens (P : Token → Type 0) (xs : List Token) : Type 0 where
   pub first : Token
@@ -99,26 +99,6 @@ begins_expr (t.assign l op a b) sc xs p = opens_more (Operand sc) xs p.0 p.1 p.2
 begins_expr (t.comma l a b) sc xs p = opens_more (Operand sc) xs p.0 p.1 p.2 (begins_expr a sc p.0 p.3)
 
 -- each tree has a node
-pub expr_deep : (e : t.ExprTree) → 1 ≤ expr_depth e
-expr_deep (t.name l n) = omega arith
-expr_deep (t.number l ty n) = omega arith
-expr_deep (t.text l bs) = omega arith
-expr_deep (t.paren l e) = omega arith
-expr_deep (t.index l a i) = omega arith
-expr_deep (t.call l f es) = omega arith
-expr_deep (t.member l e arrow n) = omega arith
-expr_deep (t.step l how e) = omega arith
-expr_deep (t.unary l op e) = omega arith
-expr_deep (t.sizeof_expr l e) = omega arith
-expr_deep (t.sizeof_type l ty) = omega arith
-expr_deep (t.cast l ty e) = omega arith
-expr_deep (t.binary l op a b) = omega arith
-expr_deep (t.and_also l a b) = omega arith
-expr_deep (t.or_else l a b) = omega arith
-expr_deep (t.conditional l c a b) = omega arith
-expr_deep (t.assign l op a b) = omega arith
-expr_deep (t.comma l a b) = omega arith
-
 -- a parenthesis at the start of a unary expression holds an expression, and no type name
 pub record Tight (sc : Scope) (e : t.ExprTree) (xs : List Token) : Type 0 where
   pub first : Token

@@ -1,4 +1,3 @@
-pub mod Alike
 pub mod Edges
 pub mod Runs
 pub mod Steps

@@ -27,11 +27,11 @@ use Rattle.c65_parse_grammar.specs.Parts.{level, has_type, list_has_type, is_emp
 use Rattle.c65_parse_grammar.specs.Scopes.{Scope, declare, after, after_list, after_member_decls, after_member_list, after_enumerator_list, after_declarator, after_maybe, after_maybe_declarator}
 use Rattle.c65_parse_grammar.specs.Expressions as g
 use Rattle.c65_parse_law_trees.specs.Tokens.{NoSuffix}
-use Rattle.c65_parse_law_trees.proofs.Alike.{level_is}
+use Rattle.c65_parse_law_alike.proofs.Alike.{level_is, expr_deep}
 use Rattle.c65_parse_law_trees.proofs.Runs.{takes, steps, same, first_map, split, Leads, before, before_some, behind_some, between_some}
 use Rattle.c65_parse_law_trees.proofs.Steps.{roomy}
 use Rattle.c65_parse_law_trees.proofs.Readings.{ReadsExpr, ReadsMaybe, ReadsList, ReadsSpecifiers, ReadsDecls, ReadsMembers, ReadsEnumerators, ReadsMaybeDeclarator, body, part_of, member_mark, member_held, enum_part, enumerator_mark, enumerator_held, listing_of, NoBrace}
-use Rattle.c65_parse_law_trees.proofs.Firsts.{expr_deep, Opens, opens_first, opens_map, opens_more, opens_mark, append_nothing, Specifies, DeclaratorKind, Declares, begins_list, begins_declarator}
+use Rattle.c65_parse_law_trees.proofs.Firsts.{Opens, opens_first, opens_map, opens_more, opens_mark, append_nothing, Specifies, DeclaratorKind, Declares, begins_list, begins_declarator}
 use Rattle.c65_parse_law_trees.proofs.Specifiers.{Parted, parted_brace, ends_specifiers}
 use Rattle.c65_parse_law_trees.proofs.Exprs.{Quits, encloses}
 use Rattle.c65_parse_law_trees.proofs.Ends.{halts_named, not_nameless}

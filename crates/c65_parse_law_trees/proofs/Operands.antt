@@ -23,12 +23,12 @@ use Rattle.c65_parse.specs.Specifiers.{specifiers_step}
 use Rattle.c65_parse.specs.Machine.{run, opened_step, sizeof_step, sizeof_opened_step, called_step, opened_bound_step}
 use Rattle.c65_parse_grammar.specs.Phrases.{token}
 use Rattle.c65_parse_grammar.specs.Scopes.{Scope, after, after_exprs}
-use Rattle.c65_parse_law_trees.proofs.Alike.{level_is}
+use Rattle.c65_parse_law_alike.proofs.Alike.{level_is, expr_deep}
 use Rattle.c65_parse_law_trees.proofs.Edges.{edge, lower, edge_above, edge_top}
 use Rattle.c65_parse_law_trees.proofs.Runs.{steps, same, first_map, split, Leads, before, behind_some, between, between_some}
 use Rattle.c65_parse_law_trees.proofs.Steps.{roomy, extends, no_operator, low_operator, closes, absorbs}
 use Rattle.c65_parse_law_trees.proofs.Readings.{ReadsExpr, ReadsExprs}
-use Rattle.c65_parse_law_trees.proofs.Firsts.{expr_deep, Opens, opens_first, Operand, OperandKind, OperandSign, operand_sign, no_type, begins_expr, Tight, begins_tight}
+use Rattle.c65_parse_law_trees.proofs.Firsts.{Opens, opens_first, Operand, OperandKind, OperandSign, operand_sign, no_type, begins_expr, Tight, begins_tight}
 use Rattle.c65_parse_law_trees.proofs.Exprs.{encloses}
 
 -- behind a parenthesis

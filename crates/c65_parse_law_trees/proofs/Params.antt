@@ -30,7 +30,7 @@ use Rattle.c65_parse_grammar.specs.Parts.{has_type, is_typedef, list_has_type, i
 use Rattle.c65_parse_grammar.specs.Scopes.{Scope, declare_maybe, after_list, after_specifiers, after_declarator, after_params}
 use Rattle.c65_parse_grammar.specs.Expressions as g
 use Rattle.c65_parse_law_trees.specs.Tokens.{NoSuffix, Bare}
-use Rattle.c65_parse_law_trees.proofs.Alike.{name_is}
+use Rattle.c65_parse_law_alike.proofs.Alike.{name_is}
 use Rattle.c65_parse_law_trees.proofs.Runs.{takes, steps, same, First, first_map, split, single, Leads, before_some, behind, behind_some, between}
 use Rattle.c65_parse_law_trees.proofs.Steps.{roomy}
 use Rattle.c65_parse_law_trees.proofs.Readings.{ReadsSpecifiers, ReadsDeclarator, ReadsParams, ReadsParamsTree, ReadsType, params_part, param_mark, listing_of, listed_of, NoBrace}

@@ -30,7 +30,7 @@ use Rattle.c65_parse_grammar.specs.Spellings.{storage_keyword, word_keyword, tag
 use Rattle.c65_parse_grammar.specs.Parts.{specifier_place, is_type_specifier, is_typedef_specifier, list_has_type, list_is_typedef, first_place, is_empty_list, is_typedef_word}
 use Rattle.c65_parse_grammar.specs.Scopes.{Scope, after_list, after_specifier, after_members, after_enumerators, after_member_decls, after_enumerator_list}
 use Rattle.c65_parse_grammar.specs.Expressions as g
-use Rattle.c65_parse_law_trees.proofs.Alike.{either_is, typedef_word_is}
+use Rattle.c65_parse_law_alike.proofs.Alike.{either_is, typedef_word_is}
 use Rattle.c65_parse_law_trees.proofs.Runs.{steps, same, First, first_map, split, single, Leads, before, before_some, behind_some}
 use Rattle.c65_parse_law_trees.proofs.Steps.{roomy}
 use Rattle.c65_parse_law_trees.proofs.Readings.{first_of, listing_of, listed_of, NoBrace, ReadsList, ReadsSpecifier, ReadsDecls, ReadsMembers_in, ReadsEnumerators, ReadsEnumerators_in, body, enum_part}

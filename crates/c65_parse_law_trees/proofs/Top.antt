@@ -35,7 +35,7 @@ use Rattle.c65_parse_grammar.specs.Expressions as g
 use Rattle.c65_parse_law_trees.specs.Read.{EndsExpr, ExprsAreRead, EndsSpecifiers, SpecifiersAreRead, EndsDeclarator, DeclaratorsAreRead, TypesAreRead}
 use Rattle.c65_parse_law_trees.specs.Tokens.{rank, Bare, NoSuffix, sort_of}
 use Rattle.c65_parse_law_trees.specs.One.{ExprsAreOne, SpecifiersAreOne, DeclaratorsAreOne, TypesAreOne}
-use Rattle.c65_parse_law_trees.proofs.Alike.{level_is}
+use Rattle.c65_parse_law_alike.proofs.Alike.{level_is}
 use Rattle.c65_parse_law_trees.proofs.Edges.{edge, edge_above}
 use Rattle.c65_parse_law_trees.proofs.Runs.{then_run, First}
 use Rattle.c65_parse_law_trees.proofs.Steps.{rank_same, no_operator, low_operator, binary_between}

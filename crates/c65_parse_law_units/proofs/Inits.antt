@@ -26,7 +26,8 @@ use Rattle.c65_parse_grammar.specs.Expressions as g
 use Rattle.c65_parse_grammar.specs.Statements.{initialiser, initialisers, optional_init}
 use Rattle.c65_parse_law_trees.specs.Read.{EndsExpr}
 use Rattle.c65_parse_law_trees.proofs.Runs.{First, split, before, before_some, behind_some, between_some}
-use Rattle.c65_parse_law_trees.proofs.Firsts.{Opens, opens_mark, opens_map, Operand, begins_expr, expr_deep}
+use Rattle.c65_parse_law_alike.proofs.Alike.{expr_deep}
+use Rattle.c65_parse_law_trees.proofs.Firsts.{Opens, opens_mark, opens_map, Operand, begins_expr}
 use Rattle.c65_parse_law_trees.proofs.Top.{exprs_are_read}
 use Rattle.c65_parse_law_units.proofs.Heres.{Left, left_more, here_is, passed, is_here_is, opens_here, next, when, unless, expected_is, no_mark, not_here, starts_expr, opens_long}
 

@@ -7,6 +7,7 @@ use Rattle.c65_base.specs.declared.operators.StepKind.{StepKind}
 use Rattle.c65_base.specs.declared.operators.StepKind.TheVariants as steps
 use Rattle.c65_tree.specs.declared.expr.Storage.{Storage}
 use Rattle.c65_tree.specs.declared.expr.Storage.TheVariants as storages
+use Rattle.c65_tree.specs.Depth.{expr_depth}
 use Rattle.c65_tree.specs.Trees as t
 use Rattle.c65_parse_trees.specs.declared.sign.Word.{Word}
 use Rattle.c65_parse_trees.specs.declared.sign.Word.TheVariants as words
@@ -111,3 +112,24 @@ low_binary ops.Ne = omega arith
 low_binary ops.BitAnd = omega arith
 low_binary ops.BitXor = omega arith
 low_binary ops.BitOr = omega arith
+
+-- no expression has depth 0
+pub expr_deep : (e : t.ExprTree) → 1 ≤ expr_depth e
+expr_deep (t.name l n) = omega arith
+expr_deep (t.number l ty n) = omega arith
+expr_deep (t.text l bs) = omega arith
+expr_deep (t.paren l e) = omega arith
+expr_deep (t.index l a i) = omega arith
+expr_deep (t.call l f es) = omega arith
+expr_deep (t.member l e arrow n) = omega arith
+expr_deep (t.step l how e) = omega arith
+expr_deep (t.unary l op e) = omega arith
+expr_deep (t.sizeof_expr l e) = omega arith
+expr_deep (t.sizeof_type l ty) = omega arith
+expr_deep (t.cast l ty e) = omega arith
+expr_deep (t.binary l op a b) = omega arith
+expr_deep (t.and_also l a b) = omega arith
+expr_deep (t.or_else l a b) = omega arith
+expr_deep (t.conditional l c a b) = omega arith
+expr_deep (t.assign l op a b) = omega arith
+expr_deep (t.comma l a b) = omega arith
