@@ -14,10 +14,11 @@ mod parts;
 mod words;
 
 use crate::parts::{Part, read};
-use crate::words::{first_word, nested, number, tokens};
+use crate::words::{nested, tokens};
 use c65_base::{Code, Refusal, Size};
 use c65_decl::parse_unit;
 use c65_scan::Token;
+use c65_test_words::{first_word, number};
 use c65_tree::{Function, Item, StmtKind};
 use std::fs;
 

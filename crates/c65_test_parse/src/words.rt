@@ -152,22 +152,3 @@ pub fn nested(alloc: Global, text: &str, times: u32) -> Result<Vec<Token>, Alloc
     push(&mut tokens, TokenKind::End)?;
     Ok(tokens)
 }
-
-/// The first word, and what stands behind the space after it.
-pub fn first_word(text: &str) -> (&str, &str) {
-    match text.split_once(' ') {
-        Some(parts) => parts,
-        None => (text, ""),
-    }
-}
-
-/// A number of decimal digits.
-pub fn number(text: &str) -> u32 {
-    let mut number: u32 = 0;
-    for byte in text.as_bytes() {
-        number = number
-            .saturating_mul(10)
-            .saturating_add(byte.saturating_sub(b'0') as u32);
-    }
-    number
-}

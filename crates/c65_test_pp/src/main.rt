@@ -11,12 +11,11 @@
 #![tactic(auto)]
 
 mod desk;
-mod words;
 
 use crate::desk::{Desk, told};
-use crate::words::{first_word, number, unescaped};
 use c65_base::Refusal;
 use c65_io::{HostSink, write_all};
+use c65_test_words::{first_word, number, unescaped};
 use std::alloc::Global;
 use std::fs;
 

@@ -1,4 +1,6 @@
-// The words, numbers and texts of a line.
+//! The words, numbers and texts of a line of a table of tests. A TEXT may have `\n`, `\\` and `\xHH` in it.
+#![tactic(auto)]
+
 use std::alloc::{AllocError, Global};
 
 /// The first word, and what stands behind the space after it.
@@ -69,4 +71,14 @@ pub fn unescaped(alloc: Global, text: &str) -> Result<Vec<u8>, AllocError> {
         }
     }
     Ok(bytes)
+}
+
+/// Whether a text has this part.
+pub fn has_part(text: &[u8], part: &[u8]) -> bool {
+    for at in 0..text.len() {
+        if text[at..].starts_with(part) {
+            return true;
+        }
+    }
+    false
 }
