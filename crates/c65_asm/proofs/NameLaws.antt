@@ -1,5 +1,5 @@
 -- Names of operations and routines are words, and are read as themselves.
-use Rattle.std.proofs.Common.{◌≡◌, not, true, false, Some, refl}
+use Rattle.std.proofs.Common.{◌≡◌, ℕ, List, not, true, false, Some, refl, sym, subst}
 use Rattle.std.proofs.lemmas.Bool.{false≢true}
 use Rattle.c65_mach.specs.declared.rows.Op.{Op}
 use Rattle.c65_mach.specs.declared.rows.Op.TheVariants as ops
@@ -87,6 +87,10 @@ op_read ops.Tsx = refl
 op_read ops.Txa = refl
 op_read ops.Txs = refl
 op_read ops.Tya = refl
+
+-- whatever list the operation of a name was found in
+pub op_given : (op : Op) (name : List ℕ) → mnemonic_of op ≡ name → Some op ≡ op_named name
+op_given op name is = subst (λ (n : List ℕ). Some op ≡ op_named n) is (sym (op_read op))
 
 pub mnemonic_word : (op : Op) → is_word (mnemonic_of op) ≡ true
 mnemonic_word ops.Adc = refl

@@ -1,9 +1,10 @@
 // The names of operations.
-ghost use Rattle.std.specs.Prelude.{◌≡◌};
+ghost use Rattle.std.specs.Prelude.{◌≡◌, ◌≤◌, IfSome};
 ghost use Rattle.c65_asm.specs.Text.{mnemonic_of};
 ghost use Rattle.c65_asm.specs.Rows.{op_among, op_named};
 
 use c65_mach::Op;
+use std::ops::Range;
 
 /// An operation's name in assembly text.
 pub fn mnemonic(op: Op) -> &'static [u8]
@@ -145,7 +146,8 @@ const OPERATIONS: [Op; 64] = [
 ];
 
 fn among(operations: &[Op], name: &[u8]) -> Option<Op>
-    ensures { result ≡ op_among operations.now name.now }
+    ensures first { result ≡ op_among operations.now name.now }
+    ensures named { IfSome result (λ op. mnemonic_of op ≡ name.now) }
 {
     for op in operations {
         if mnemonic(*op) == name {
@@ -155,9 +157,35 @@ fn among(operations: &[Op], name: &[u8]) -> Option<Op>
     None
 }
 
+// Where the operations stand whose names begin like this one.
+fn likely_places(name: &[u8]) -> Range<usize>
+    ensures order { result.start ≤ result.end }
+    ensures end { result.end ≤ 64 }
+{
+    match name.first() {
+        Some(b'A') => 0..3,
+        Some(b'B') => 3..14,
+        Some(b'C') => 14..21,
+        Some(b'D') => 21..24,
+        Some(b'E' | b'I') => 24..28,
+        Some(b'J') => 28..30,
+        Some(b'L') => 30..34,
+        Some(b'N' | b'O') => 34..36,
+        Some(b'P') => 36..44,
+        Some(b'R') => 44..48,
+        Some(b'S') => 48..56,
+        Some(b'T') => 56..64,
+        _ => 0..0,
+    }
+}
+
 /// The operation of a name.
+#[tactic(auto, using(crate::proofs::NameLaws::op_given))]
 pub fn op_of(name: &[u8]) -> Option<Op>
     ensures { result ≡ op_named name.now }
 {
-    among(&OPERATIONS, name)
+    match among(&OPERATIONS[likely_places(name)], name) {
+        Some(op) => Some(op),
+        None => among(&OPERATIONS, name),
+    }
 }

@@ -4,6 +4,7 @@ ghost use Rattle.c65_ctype.specs.Sizes.{bytes_of};
 ghost use Rattle.c65_ctype.specs.Views.{ty_of, types_of};
 ghost use Rattle.c65_csem_check.specs.Statements;
 
+use c65_base::Size;
 use c65_ctype::{CType, Types};
 use c65_ints::IntType;
 
@@ -21,7 +22,7 @@ fn limited_product(count: u32, size: Option<u32>) -> Option<u32>
     ensures { result ≡ Statements.limited_product count size }
 {
     let total = size? as u64 * count as u64;
-    if total > 65_535 {
+    if total > Size::Object.number() {
         None
     } else {
         Some(total as u32)

@@ -5,6 +5,7 @@ ghost use Rattle.c65_csem_names.specs.Initial;
 ghost use Rattle.c65_csem_names.specs.Tests;
 
 use crate::marks::{is_automatic, object};
+use c65_base::Size;
 use c65_csem::{Cell, Parts, TObject, Target};
 
 fn is_lasting(object: Option<&TObject>) -> bool
@@ -95,7 +96,7 @@ fn begins_well(parts: &Parts, object: &TObject) -> bool
     match &object.init {
         Some(cells) => {
             point_to_whole_run(parts, cells)
-                && cells.len() <= 65_535
+                && cells.len() as u64 <= Size::Object.number()
                 && first_pieces(cells) <= second_pieces(cells)
         }
         None => true,

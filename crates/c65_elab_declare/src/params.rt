@@ -163,7 +163,7 @@ pub fn more_bytes(types: &Types, bytes: u32, formal: &Formal) -> Result<u32, Ref
 {
     let size = own_bytes(types, &formal.ty.ty, formal.pos)?;
     let bytes = bytes + size;
-    if bytes > 250 {
+    if u64::from(bytes) > Size::ArgumentBytes.number() {
         return Err(Refusal::TooLarge {
             limit: Size::ArgumentBytes,
             value: 251,

@@ -4,6 +4,7 @@ ghost use Rattle.c65_ctype.specs.Views.{ty_of, types_of};
 ghost use Rattle.c65_ctype.specs.Sizes.{bytes_of};
 ghost use Rattle.c65_genframe.specs.Sizes.{limited, bytes_at, bytes_or, object_bytes, slot_bytes, bank_size, bank_bytes, object_in};
 
+use c65_base::Size;
 use c65_csem::{Class, Parts};
 use c65_ctype::{CType, Types};
 use c65_ints::IntType;
@@ -24,7 +25,7 @@ fn limited(bytes: u64) -> Option<u32>
     ensures exact { result ≡ limited bytes }
     ensures small { IfSome result (λ n. n ≤ 65535) }
 {
-    if bytes > 65_535 {
+    if bytes > Size::Object.number() {
         None
     } else {
         Some(bytes as u32)

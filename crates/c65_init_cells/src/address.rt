@@ -7,7 +7,7 @@ ghost use Rattle.c65_csem.specs.Views.{unit_of, typed_of, node_of};
 ghost use Rattle.c65_init_cells.specs.Addresses.{is_static, target_of, lasts, held, moved, to_member, limited_product, measured, step_of, distance, holds_address, number_in, object_start, place_constant, constant_of};
 
 use crate::sink::bytes_of;
-use c65_base::BinaryOp;
+use c65_base::{BinaryOp, Size};
 use c65_csem::{Class, Parts, TExpr, TKind, Target, member_at};
 use c65_ctype::{CType, QType, Types};
 use c65_ints::IntType;
@@ -93,7 +93,7 @@ fn limited_product(count: u32, size: Option<u32>) -> Option<u32>
     ensures { result ≡ limited_product count size }
 {
     let total = size? as u64 * count as u64;
-    if total > 65_535 {
+    if total > Size::Object.number() {
         None
     } else {
         Some(total as u32)

@@ -102,7 +102,7 @@ fn offset_of(base: u32, size: u32, index: u32) -> Result<u32, Refusal>
     ensures { Gives (λ n. n) result (limited (base + size * index)) }
 {
     let offset = base as u64 + size as u64 * index as u64;
-    if offset > 65_535 {
+    if offset > Size::Object.number() {
         return Err(Refusal::TooLarge {
             limit: Size::Object,
             value: offset,

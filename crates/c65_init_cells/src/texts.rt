@@ -100,7 +100,7 @@ fn elements(count: Option<u32>, length: usize, pos: Pos) -> Result<u32, Refusal>
             Ok(count)
         }
         None => {
-            if length >= 65_535 {
+            if length as u64 >= Size::Object.number() {
                 return Err(Refusal::TooLarge {
                     limit: Size::Object,
                     value: length as u64 + 1,

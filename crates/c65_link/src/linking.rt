@@ -110,7 +110,7 @@ fn fit(
     ensures { Gives result (fitted code.now entry.now parts.now layout.now) }
 {
     let value = layout.at().saturating_sub(512);
-    if value > 62_960 {
+    if value > Size::Image.number() {
         return Err(Refusal::TooLarge {
             limit: Size::Image,
             value,
