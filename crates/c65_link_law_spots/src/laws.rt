@@ -1,0 +1,14 @@
+// Laws, each the contract of a function that does nothing.
+ghost use Rattle.c65_link_law_spots.specs.Laws.{UsesAreChosen, PlacesArePlacements};
+
+/// Each routine that a linked code may come to stands in the image: those that the start, the functions and the data
+/// name, and those that such a routine calls.
+pub fn uses_are_chosen()
+    ensures { UsesAreChosen }
+{}
+
+/// The addresses that the linker gives to the symbols of a code are a placement of it: data lie apart from each other in
+/// program space, and each symbol of a function has an address of its own outside them.
+pub fn places_are_placements()
+    ensures { PlacesArePlacements }
+{}
