@@ -178,7 +178,7 @@ cells_grow (c ∷ cells) size h =
     let rest = cells_grow cells (plus size (cell_size c)) (plus_most size (cell_size c)) in
     omega (arith, here, rest)
 
-cells_exact : (cells : List DataCell) (size : ℕ) → size ≤ 2 ^ 64 - 1 → cells_end size cells ≤ 65535 → cells_end size cells ≡ size + cells_size cells
+pub cells_exact : (cells : List DataCell) (size : ℕ) → size ≤ 2 ^ 64 - 1 → cells_end size cells ≤ 65535 → cells_end size cells ≡ size + cells_size cells
 cells_exact [] size h low = omega arith
 cells_exact (c ∷ cells) size h low =
     let rest : plus size (cell_size c) ≤ cells_end (plus size (cell_size c)) cells = cells_grow cells (plus size (cell_size c)) (plus_most size (cell_size c)) in
@@ -186,7 +186,7 @@ cells_exact (c ∷ cells) size h low =
     let on = cells_exact cells (plus size (cell_size c)) (plus_most size (cell_size c)) low in
     omega (arith, here, on)
 
-no_cells : (cells : List DataCell) → length cells ≡ 0 → cells_size cells ≡ 0
+pub no_cells : (cells : List DataCell) → length cells ≡ 0 → cells_size cells ≡ 0
 no_cells [] h = refl
 no_cells (c ∷ cells) h = absurd (omega (arith, h))
 

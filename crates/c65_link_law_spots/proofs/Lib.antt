@@ -7,3 +7,5 @@ pub mod Targets
 pub mod Laid
 pub mod Spots
 pub mod Places
+pub mod Units
+pub mod Loaded

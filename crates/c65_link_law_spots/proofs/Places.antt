@@ -34,28 +34,28 @@ use Rattle.c65_link_law_spots.proofs.Spots.{named, filled, named_wide, filled_wi
 -- Data
 
 -- a datum lies among the data of the file or among the zeros behind it
-pub data Lies (end data_end : ℕ) (files blanks : List ℕ) (i a size : ℕ) : Type 0 where
-  in_file : a ≡ sums end (take i files) → a + size ≡ sums end (take (suc i) files) → end ≤ a → a + size ≤ data_end → Lies end data_end files blanks i a size
-  behind : a ≡ sums data_end (take i blanks) → a + size ≡ sums data_end (take (suc i) blanks) → data_end ≤ a → a + size ≤ sums data_end blanks → Lies end data_end files blanks i a size
+pub data Lies (end data_end : ℕ) (files blanks : List ℕ) (kind : DatumKind) (i a size : ℕ) : Type 0 where
+  in_file : IsStored kind → a ≡ sums end (take i files) → a + size ≡ sums end (take (suc i) files) → end ≤ a → a + size ≤ data_end → Lies end data_end files blanks kind i a size
+  behind : kind ≡ Zero → a ≡ sums data_end (take i blanks) → a + size ≡ sums data_end (take (suc i) blanks) → data_end ≤ a → a + size ≤ sums data_end blanks → Lies end data_end files blanks kind i a size
 
-lies_apart : (end data_end : ℕ) (files blanks : List ℕ) (i j a c m n b : ℕ) → end ≤ 2 ^ 64 - 1 → data_end ≤ 2 ^ 64 - 1 → Lies end data_end files blanks i a m → Lies end data_end files blanks j c n → a ≤ b → b < a + m → c ≤ b → b < c + n → i ≡ j
-lies_apart end data_end files blanks i j a c m n b h g (in_file is to low high) (in_file is2 to2 low2 high2) from upto from2 upto2 = by (cases_order i j)
+lies_apart : (end data_end : ℕ) (files blanks : List ℕ) (one other : DatumKind) (i j a c m n b : ℕ) → end ≤ 2 ^ 64 - 1 → data_end ≤ 2 ^ 64 - 1 → Lies end data_end files blanks one i a m → Lies end data_end files blanks other j c n → a ≤ b → b < a + m → c ≤ b → b < c + n → i ≡ j
+lies_apart end data_end files blanks one other i j a c m n b h g (in_file k is to low high) (in_file k2 is2 to2 low2 high2) from upto from2 upto2 = by (cases_order i j)
   where
     by : (i ≡ j) ⊎ ((i < j) ⊎ (j < i)) → i ≡ j
     by (inl e) = e
     by (inr (inl l)) = let o = ordered files end (suc i) j h (omega (arith, l)) in absurd (omega (arith, o, to, is2, upto, from2))
     by (inr (inr l)) = let o = ordered files end (suc j) i h (omega (arith, l)) in absurd (omega (arith, o, to2, is, upto2, from))
-lies_apart end data_end files blanks i j a c m n b h g (behind is to low high) (behind is2 to2 low2 high2) from upto from2 upto2 = by (cases_order i j)
+lies_apart end data_end files blanks one other i j a c m n b h g (behind k is to low high) (behind k2 is2 to2 low2 high2) from upto from2 upto2 = by (cases_order i j)
   where
     by : (i ≡ j) ⊎ ((i < j) ⊎ (j < i)) → i ≡ j
     by (inl e) = e
     by (inr (inl l)) = let o = ordered blanks data_end (suc i) j g (omega (arith, l)) in absurd (omega (arith, o, to, is2, upto, from2))
     by (inr (inr l)) = let o = ordered blanks data_end (suc j) i g (omega (arith, l)) in absurd (omega (arith, o, to2, is, upto2, from))
-lies_apart end data_end files blanks i j a c m n b h g (in_file is to low high) (behind is2 to2 low2 high2) from upto from2 upto2 = absurd (omega (arith, high, upto, low2, from2))
-lies_apart end data_end files blanks i j a c m n b h g (behind is to low high) (in_file is2 to2 low2 high2) from upto from2 upto2 = absurd (omega (arith, low, from, high2, upto2))
+lies_apart end data_end files blanks one other i j a c m n b h g (in_file k is to low high) (behind k2 is2 to2 low2 high2) from upto from2 upto2 = absurd (omega (arith, high, upto, low2, from2))
+lies_apart end data_end files blanks one other i j a c m n b h g (behind k is to low high) (in_file k2 is2 to2 low2 high2) from upto from2 upto2 = absurd (omega (arith, low, from, high2, upto2))
 
 abbrev pub LiesIn : Code → ℕ → Datum → Type 0
-LiesIn code i d = Lies (code_end code) (data_end code) (files code) (blanks code) i (address_in code d.sym.0) (size_of_datum d)
+LiesIn code i d = Lies (code_end code) (data_end code) (files code) (blanks code) d.kind i (address_in code d.sym.0) (size_of_datum d)
 
 only_there : (code : Code) (i : ℕ) (d : Datum) → IsSound code → IsDatumOf code i d → Only code.datums d.sym.0 i
 only_there code i d s here j e there same = s.writable.own_datum j i e d there here same
@@ -87,7 +87,7 @@ lies code i d s e here = by (stored_or_zero d.kind)
         let kept : address_in code d.sym.0 ≡ slice_index (filled code).symbols d.sym.0 = all_zeros_leave code.datums (filled code) d.sym.0 (λ j x at k same. zero_stored d.kind stored (ap (λ (y : Datum). y.kind) (sym (same_kind j x at same)) ∙ k)) in
         let moved : sums (named code).at (take i (files code)) ≡ sums (code_end code) (take i (files code)) = ap (λ (n : ℕ). sums n (take i (files code))) named_at in
         let is : address_in code d.sym.0 ≡ sums (code_end code) (take i (files code)) = omega (arith, lead, kept, moved, stop, to, second, last) in
-        in_file is (omega (arith, is, stop, size)) (omega (arith, is, from)) (omega (arith, is, stop, size, to))
+        in_file stored is (omega (arith, is, stop, size)) (omega (arith, is, from)) (omega (arith, is, stop, size, to))
     by (inr blank) =
         let there : slice_get (blanks code) i ≡ Some (blank_size d) = map_there blank_size code.datums i d here in
         let first = e.stored in let second = e.zeros in let last = e.all in
@@ -99,7 +99,7 @@ lies code i d s e here = by (stored_or_zero d.kind)
         let lead : address_in code d.sym.0 ≡ sums (filled code).at (take i (blanks code)) % 65536 = zeros_lead code.datums (filled code) i d here blank (omega (arith, filled_at, second, last)) (omega (arith, inside, wide)) (only_there code i d s here) in
         let moved : sums (filled code).at (take i (blanks code)) ≡ sums (data_end code) (take i (blanks code)) = ap (λ (n : ℕ). sums n (take i (blanks code))) filled_at in
         let is : address_in code d.sym.0 ≡ sums (data_end code) (take i (blanks code)) = omega (arith, lead, moved, stop, to, last) in
-        behind is (omega (arith, is, stop, size)) (omega (arith, is, from)) (omega (arith, is, stop, size, to))
+        behind blank is (omega (arith, is, stop, size)) (omega (arith, is, from)) (omega (arith, is, stop, size, to))
 
 -- between the end of the code and the software stack
 pub record Within (code : Code) (d : Datum) : Type 0 where
@@ -107,13 +107,13 @@ pub record Within (code : Code) (d : Datum) : Type 0 where
   pub to : address_in code d.sym.0 + size_of_datum d ≤ stack_start
 
 pub within : (code : Code) (i : ℕ) (d : Datum) → Ends code → LiesIn code i d → Within code d
-within code i d e (in_file is to low high) = let second = e.zeros in let last = e.all in record { from = low; to = omega (arith, high, second, last) }
-within code i d e (behind is to low high) = let first = e.stored in let last = e.all in record { from = omega (arith, first, low); to = omega (arith, high, last) }
+within code i d e (in_file k is to low high) = let second = e.zeros in let last = e.all in record { from = low; to = omega (arith, high, second, last) }
+within code i d e (behind k is to low high) = let first = e.stored in let last = e.all in record { from = omega (arith, first, low); to = omega (arith, high, last) }
 
 pub datums_apart : (code : Code) (i j b : ℕ) (d x : Datum) → IsSound code → Ends code → IsDatumOf code i d → IsDatumOf code j x → IsIn (place_in code) d b → IsIn (place_in code) x b → i ≡ j
 datums_apart code i j b d x s e here there in_d in_x =
     let first = e.stored in let second = e.zeros in let last = e.all in
-    lies_apart (code_end code) (data_end code) (files code) (blanks code) i j (address_in code d.sym.0) (address_in code x.sym.0) (size_of_datum d) (size_of_datum x) b (omega (arith, first, second, last)) (omega (arith, second, last))
+    lies_apart (code_end code) (data_end code) (files code) (blanks code) d.kind x.kind i j (address_in code d.sym.0) (address_in code x.sym.0) (size_of_datum d) (size_of_datum x) b (omega (arith, first, second, last)) (omega (arith, second, last))
       (lies code i d s e here) (lies code j x s e there) in_d.from in_d.to in_x.from in_x.to
 
 -- Which addresses are data

@@ -1,7 +1,8 @@
 -- What the linker's layout keeps.
-use Rattle.std.specs.Prelude.{◌≡◌, ℕ, IsTrue, Some, Ok, slice_get}
+use Rattle.std.specs.Prelude.{◌≡◌, ℕ, ◌+◌, ◌<◌, ◌≤◌, IsTrue, Some, Ok, slice_get, length}
 use Rattle.c65_base.specs.declared.options.Cpu.{Cpu}
 use Rattle.c65_mach.specs.declared.image.Image.{Image}
+use Rattle.c65_mach.specs.State.{read, loaded_memory}
 use Rattle.c65_code.specs.declared.routine.Routine.{Routine}
 use Rattle.c65_code.specs.declared.routine.Routine.TheVariants as routines
 use Rattle.c65_code.specs.declared.line.Sym.{Sym}
@@ -10,12 +11,16 @@ use Rattle.c65_code.specs.declared.line.Line.TheVariants.{Call}
 use Rattle.c65_code.specs.declared.line.Callee.{Callee}
 use Rattle.c65_code.specs.declared.line.Callee.TheVariants as callees
 use Rattle.c65_code.specs.declared.code.Code.{Code}
-use Rattle.c65_code.specs.Segments.{Segment}
-use Rattle.c65_code.specs.Placement.{IsPlacement}
+use Rattle.c65_code.specs.declared.code.Datum.{Datum}
+use Rattle.c65_code.specs.Segments.{Segment, IsSegment}
+use Rattle.c65_code.specs.Numbering.{number_of}
+use Rattle.c65_code.specs.Placement.{IsPlacement, IsDatumOf, initial_byte, cells_size, size_of_datum, program_start}
+use Rattle.c65_link.specs.Bodies.{body_of}
 use Rattle.c65_link.specs.Runtime.{has_lines, routine_lines}
 use Rattle.c65_link.specs.Linked.{entry_of, linked_for}
+use Rattle.c65_link_law.specs.Coded.{Memory, Stands, AreCoded}
 use Rattle.c65_link_law.specs.Placed.{routines_in}
-use Rattle.c65_link_law_spots.specs.Places.{place_in}
+use Rattle.c65_link_law_spots.specs.Places.{place_in, address_in, code_end, routine_count, lines_in, base_in, spot_in}
 use Rattle.c65_link_law_spots.specs.Sound.{IsSound}
 
 -- the routine stands in the image
@@ -41,3 +46,34 @@ UsesAreChosen = (code : Code) → AreUsesChosen code
 -- The addresses that the linker gives are a placement of the code, whichever processor the image is for.
 abbrev pub PlacesArePlacements : Type 0
 PlacesArePlacements = (code : Code) (cpu : Cpu) (image : Image) → IsSound code → linked_for cpu code ≡ Ok image → IsPlacement code (place_in code)
+
+-- a unit whose lines stand in the image: a function of the code, a routine that is chosen, or the start
+pub data IsUnit (code : Code) (f : ℕ) : Type 0 where
+  function : (k : ℕ) (g : Sym × Segment) → slice_get code.functions k ≡ Some g → g.0.0 ≡ f → IsUnit code f
+  routine : (r : Routine) → IsChosen code r → f ≡ length code.symbols + number_of r → IsUnit code f
+  start : f ≡ length code.symbols + routine_count → IsUnit code f
+
+-- where the unit ends
+abbrev pub end_in : Code → ℕ → ℕ
+end_in code f = base_in code f + (body_of (lines_in code f)).size
+
+-- between the first address of the program and the data
+pub record IsUnitPlaced (code : Code) (m : Memory) (f : ℕ) : Type 0 where
+  pub coded : AreCoded m (spot_in code f) (base_in code f) (lines_in code f) (end_in code f)
+  pub segment : IsSegment (lines_in code f)
+  pub from : program_start ≤ base_in code f
+  pub to : end_in code f ≤ code_end code
+
+-- Where an image's file stands in memory, the lines of each unit stand there as machine code.
+abbrev pub UnitsStand : Type 0
+UnitsStand = (code : Code) (cpu : Cpu) (image : Image) (m : Memory) → IsSound code → linked_for cpu code ≡ Ok image → Stands m program_start image.payload → (f : ℕ) → IsUnit code f → IsUnitPlaced code m f
+
+-- what memory has of the data when a run begins
+pub record AreDataLoaded (code : Code) (image : Image) : Type 0 where
+  pub stored : (i k v : ℕ) (datum : Datum) → IsDatumOf code i datum → initial_byte (place_in code) datum k ≡ Some v → read (loaded_memory image) (address_in code datum.sym.0 + k) ≡ v
+  pub zeros : (i k : ℕ) (datum : Datum) → IsDatumOf code i datum → cells_size datum.cells ≤ k → k < size_of_datum datum → read (loaded_memory image) (address_in code datum.sym.0 + k) ≡ 0
+  pub file : Stands (read (loaded_memory image)) program_start image.payload
+
+-- The data stand at their symbols' addresses, those of zeros too, which are behind the file.
+abbrev pub DataAreLoaded : Type 0
+DataAreLoaded = (code : Code) (cpu : Cpu) (image : Image) → IsSound code → linked_for cpu code ≡ Ok image → AreDataLoaded code image

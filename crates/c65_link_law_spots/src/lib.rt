@@ -3,4 +3,4 @@
 
 mod laws;
 
-pub use laws::{places_are_placements, uses_are_chosen};
+pub use laws::{data_are_loaded, places_are_placements, units_stand, uses_are_chosen};
