@@ -1,20 +1,16 @@
 -- Where the layout puts data.
-use Rattle.std.proofs.Common.{◌≡◌, ◌≢◌, ℕ, zero, suc, ◌+◌, ◌-◌, ◌<◌, ◌≤◌, ◌^◌, ◌%◌, ◌⊎◌, inl, inr, Bool, true, false, List, [], ◌∷◌, map, take, Option, Some, None, Result, Ok, length, slice_get, slice_set, slice_index, refl, ap, sym, ◌∙◌, subst, arith}
-use Rattle.std.proofs.lemmas.List.{get_or-set_same, get_or-set_other, length-set, take-map}
-use Rattle.c65_mach.specs.declared.image.Image.{Image}
-use Rattle.c65_code.specs.declared.line.Sym.{Sym}
-use Rattle.c65_code.specs.declared.code.Code.{Code}
+use Rattle.std.proofs.Common.{◌≡◌, ℕ, zero, suc, ◌+◌, ◌-◌, ◌<◌, ◌≤◌, ◌^◌, ◌%◌, ◌⊎◌, inl, inr, List, [], ◌∷◌, map, take, Some, length, slice_get, slice_index, refl, ap, sym, ◌∙◌, subst, arith}
+use Rattle.std.proofs.lemmas.List.{get_or-set_same, get_or-set_other, length-set}
 use Rattle.c65_code.specs.declared.code.Datum.{Datum}
 use Rattle.c65_code.specs.declared.code.DatumKind.{DatumKind}
 use Rattle.c65_code.specs.declared.code.DatumKind.TheVariants.{Data, Const, Zero}
 use Rattle.c65_code.specs.declared.code.DataCell.{DataCell}
-use Rattle.c65_code.specs.Placement.{cell_size, cells_size, size_of_datum}
+use Rattle.c65_code.specs.Placement.{cell_size, cells_size}
 use Rattle.c65_code.specs.Writable.{IsShaped}
 use Rattle.c65_link.specs.Bodies.{plus}
-use Rattle.c65_link.specs.Layouts.{Layout, with_datum, with_data, with_zeros, with_all_data, with_all_zeros, cells_end}
-use Rattle.c65_link_law.proofs.Sizes.{plus_grows, plus_most, plus_exact}
-use Rattle.c65_link_law.proofs.Placed.{Grows}
-use Rattle.c65_link_law_spots.proofs.Sums.{none_there, same_there, sums, sums_grow, Room, room}
+use Rattle.c65_link.specs.Layouts.{Layout, with_data, with_zeros, with_all_data, with_all_zeros, cells_end}
+use Rattle.c65_link_law.proofs.Sizes.{plus_grows, plus_most}
+use Rattle.c65_link_law_spots.proofs.Sums.{none_there, same_there, sums}
 
 -- how many bytes of the file a datum has, and how many behind it
 

@@ -1,6 +1,5 @@
 -- What memory has when a run of an image begins.
-use Rattle.std.proofs.Common.{◌≡◌, ℕ, zero, suc, ◌+◌, ◌-◌, ◌<◌, ◌≤◌, ◌^◌, ◌%◌, ◌/◌, ◌⊎◌, inl, inr, Bool, true, false, nat_lt, if◌then◌else◌, List, [], ◌∷◌, ◌++◌, map, take, replicate, Option, Some, None, Result, Ok, Err, length, slice_get, slice_index, refl, ap, sym, ◌∙◌, subst, arith}
-use Rattle.std.proofs.Math.ListN.{get_or}
+use Rattle.std.proofs.Common.{◌≡◌, ℕ, zero, suc, ◌+◌, ◌-◌, ◌<◌, ◌≤◌, ◌^◌, ◌⊎◌, inl, inr, Bool, true, false, nat_lt, if◌then◌else◌, List, [], ◌∷◌, ◌++◌, map, take, replicate, Option, Some, None, Result, Ok, Err, length, slice_get, slice_index, refl, ap, sym, ◌∙◌, subst, arith}
 use Rattle.std.proofs.lemmas.Bool.{cases_lt}
 use Rattle.std.proofs.lemmas.List.{length-append, length-replicate, get_or-take, get_or-append_right, get_or_append_left, get_or_past}
 use Rattle.std.proofs.lemmas.Option.{slice_get_within}
@@ -16,28 +15,26 @@ use Rattle.c65_code.specs.declared.code.DatumKind.{DatumKind}
 use Rattle.c65_code.specs.declared.code.DatumKind.TheVariants.{Data, Const, Zero}
 use Rattle.c65_code.specs.declared.code.DataCell.{DataCell}
 use Rattle.c65_code.specs.declared.code.DataCell.TheVariants.{Byte, Address}
-use Rattle.c65_code.specs.Placement.{Placement, cell_bytes, bytes_of_cells, cells_size, size_of_datum, initial_byte, IsDatumOf, program_start}
+use Rattle.c65_code.specs.Placement.{cell_bytes, bytes_of_cells, cells_size, size_of_datum, initial_byte, IsDatumOf, program_start}
 use Rattle.c65_code.specs.Segments.{Segment}
 use Rattle.c65_code.specs.Writable.{IsShaped as IsShapedDatum}
 use Rattle.c65_link.specs.Bodies.{body_of, plus}
 use Rattle.c65_link.specs.Bytes.{Written, Tables, with_lines, with_functions, with_routines, cells_bytes, datum_bytes, data_bytes}
-use Rattle.c65_link.specs.Bytes.{cell_bytes as linked_cell}
 use Rattle.c65_link.specs.Runtime.{routine_lines}
 use Rattle.c65_link.specs.Symbols.{targets_of, missing_of}
-use Rattle.c65_link.specs.Linked.{Fault, large, entry_of, parts_of, image_of, named_or_placed, linked, image_for, linked_for, tables_of, routine_tables}
+use Rattle.c65_link.specs.Linked.{Fault, large, entry_of, image_of, named_or_placed, linked, image_for, linked_for, tables_of, routine_tables}
 use Rattle.c65_link_law.specs.Coded.{Memory, Stands}
 use Rattle.c65_link_law.specs.Placed.{behind, first_address, behind_routines, routines_in, layout_in}
 use Rattle.c65_link_law.proofs.Sizes.{plus_most}
 use Rattle.c65_link_law.proofs.Lines.{stands_split}
-use Rattle.c65_link_law.proofs.Placed.{Grows, more, behind_grows, routines_reach, Given, given, file_of, Fits, one_bytes, one_length}
+use Rattle.c65_link_law.proofs.Placed.{Grows, behind_grows, routines_reach, file_of, Fits, one_bytes, one_length}
 use Rattle.c65_link_law_spots.specs.Places.{address_in, code_end, place_in}
-use Rattle.c65_link_law_spots.specs.Sound.{IsSound}
-use Rattle.c65_link_law_spots.specs.Laws.{AreDataLoaded, DataAreLoaded}
+use Rattle.c65_link_law_spots.specs.Laws.{DataAreLoaded}
 use Rattle.c65_link_law_spots.proofs.Sums.{none_there, same_there, sums, sums_grow}
 use Rattle.c65_link_law_spots.proofs.Targets.{IsMade, made}
 use Rattle.c65_link_law_spots.proofs.Laid.{IsStored, as_data, as_const, stored_size, file_size, cells_exact, no_cells}
-use Rattle.c65_link_law_spots.proofs.Spots.{Ends, ends, files, blanks, data_end, stands_at}
-use Rattle.c65_link_law_spots.proofs.Places.{Lies, in_file, behind as behind_file, LiesIn, lies, cells_length}
+use Rattle.c65_link_law_spots.proofs.Spots.{Ends, ends, files, data_end}
+use Rattle.c65_link_law_spots.proofs.Places.{in_file, behind as behind_file, LiesIn, lies, cells_length}
 
 -- The image's other words
 
@@ -75,24 +72,24 @@ shaped code cpu image h = by (linked code) refl h
 
 -- Memory as it is loaded
 
-zero_anywhere : (n i : ℕ) → get_or (replicate n 0) i 0 ≡ 0
+zero_anywhere : (n i : ℕ) → slice_index (replicate n 0) i ≡ 0
 zero_anywhere zero i = refl
 zero_anywhere (suc n) zero = refl
 zero_anywhere (suc n) (suc i) = zero_anywhere n i
 
-behind_zeros : (n k : ℕ) (bytes : List ℕ) → get_or (bytes ++ replicate n 0) k 0 ≡ get_or bytes k 0
+behind_zeros : (n k : ℕ) (bytes : List ℕ) → slice_index (bytes ++ replicate n 0) k ≡ slice_index bytes k
 behind_zeros n k bytes = by (cases_lt k (length bytes))
   where
-    by : (k < length bytes) ⊎ (length bytes ≤ k) → get_or (bytes ++ replicate n 0) k 0 ≡ get_or bytes k 0
+    by : (k < length bytes) ⊎ (length bytes ≤ k) → slice_index (bytes ++ replicate n 0) k ≡ slice_index bytes k
     by (inl l) = get_or_append_left bytes (replicate n 0) 0 k l
     by (inr past) = get_or-append_right bytes (replicate n 0) (length bytes) k 0 refl past ∙ zero_anywhere n (k - length bytes) ∙ sym (get_or_past bytes k 0 past)
 
-loaded_byte : (n load k : ℕ) (bytes : List ℕ) → load + k < n → get_or (take n (replicate load 0 ++ (bytes ++ replicate n 0))) (load + k) 0 ≡ get_or bytes k 0
+loaded_byte : (n load k : ℕ) (bytes : List ℕ) → load + k < n → slice_index (take n (replicate load 0 ++ (bytes ++ replicate n 0))) (load + k) ≡ slice_index bytes k
 loaded_byte n load k bytes l =
     let back : load + k - load ≡ k = omega arith in
     get_or-take n (replicate load 0 ++ (bytes ++ replicate n 0)) (load + k) 0 l
     ∙ get_or-append_right (replicate load 0) (bytes ++ replicate n 0) load (load + k) 0 (length-replicate load 0) (omega arith)
-    ∙ ap (λ (i : ℕ). get_or (bytes ++ replicate n 0) i 0) back
+    ∙ ap (slice_index (bytes ++ replicate n 0)) back
     ∙ behind_zeros n k bytes
 
 pub read_loaded : (image : Image) (k : ℕ) → image.load ≡ program_start → program_start + k < 65536 → read (loaded_memory image) (program_start + k) ≡ slice_index image.payload k
@@ -278,10 +275,10 @@ data_are_loaded code cpu image s linked_is =
     stored_at i k v d here is (in_file stored address to low high) =
         let third = e.stored in let fourth = e.zeros in let last = e.all in
         let bytes : Stands (read (loaded_memory image)) (sums (code_end code) (take i (files code))) (datum_bytes (layout_in code).symbols d.kind d.cells) =
-            datum_stands code.datums code (read (loaded_memory image)) (code_end code) i d (omega (arith, third, fourth, last)) (omega (arith, fourth, last)) begin here in
+        datum_stands code.datums code (read (loaded_memory image)) (code_end code) i d (omega (arith, third, fourth, last)) (omega (arith, fourth, last)) begin here in
         stands_get (datum_bytes (layout_in code).symbols d.kind d.cells) (read (loaded_memory image)) (address_in code d.sym.0) k v
-          (subst (λ (n : ℕ). Stands (read (loaded_memory image)) n (datum_bytes (layout_in code).symbols d.kind d.cells)) (sym address) bytes)
-          (stored_bytes code d.kind d.cells k v (λ z. zero_cells d.kind d.cells d.zeros z (s.writable.shaped i d here)) is)
+        (subst (λ (n : ℕ). Stands (read (loaded_memory image)) n (datum_bytes (layout_in code).symbols d.kind d.cells)) (sym address) bytes)
+        (stored_bytes code d.kind d.cells k v (λ z. zero_cells d.kind d.cells d.zeros z (s.writable.shaped i d here)) is)
     stored_at i k v d here is (behind_file blank address to low high) =
         let none = zero_cells d.kind d.cells d.zeros blank (s.writable.shaped i d here) in
         let l = slice_get_within (bytes_of_cells (place_in code) d.cells) k v is in

@@ -1,10 +1,8 @@
 -- Symbols whose numbers are met once.
-use Rattle.std.proofs.Common.{◌≡◌, ◌≢◌, ℕ, zero, suc, ◌+◌, ◌-◌, ◌<◌, ◌≤◌, ◌⊎◌, inl, inr, Bool, true, false, not, nat_eq, List, [], ◌∷◌, ◌++◌, map, Option, Some, None, length, slice_get, slice_set, slice_index, refl, ap, sym, ◌∙◌, subst, arith}
+use Rattle.std.proofs.Common.{◌≡◌, ℕ, zero, suc, ◌+◌, ◌<◌, ◌⊎◌, inl, inr, true, false, not, nat_eq, List, [], ◌∷◌, ◌++◌, map, Some, length, slice_get, slice_set, refl, ap, sym, ◌∙◌, arith}
 use Rattle.std.proofs.lemmas.Bool.{cases_eq, ne_eqb, or_from, and_from, not_from_false}
-use Rattle.c65_code.specs.declared.line.Sym.{Sym}
 use Rattle.c65_code.specs.declared.code.Code.{Code}
-use Rattle.c65_code.specs.declared.code.Datum.{Datum}
-use Rattle.c65_code.specs.Segments.{Segment, is_among, is_distinct}
+use Rattle.c65_code.specs.Segments.{is_among, is_distinct}
 use Rattle.c65_code.specs.Writable.{IsWritable}
 use Rattle.c65_link_law.specs.Placed.{function_number, datum_number, numbers_of}
 use Rattle.c65_link_law_spots.proofs.Sums.{none_there, same_there}

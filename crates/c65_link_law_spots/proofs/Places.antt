@@ -1,27 +1,23 @@
 -- The addresses that the linker gives are a placement.
-use Rattle.std.proofs.Common.{◌≡◌, ◌≢◌, ℕ, zero, suc, ◌+◌, ◌-◌, ◌<◌, ◌≤◌, ◌^◌, ◌%◌, ◌/◌, ◌⊎◌, inl, inr, ◌&&◌, Bool, true, false, nat_le, nat_lt, if◌then◌else◌, IsTrue, List, [], ◌∷◌, ◌++◌, codes, map, take, Option, Some, None, Result, Ok, length, slice_get, slice_index, refl, ap, sym, ◌∙◌, subst, arith, ltb-true}
+use Rattle.std.proofs.Common.{◌≡◌, ℕ, zero, suc, ◌+◌, ◌-◌, ◌<◌, ◌≤◌, ◌^◌, ◌%◌, ◌/◌, ◌⊎◌, inl, inr, ◌&&◌, Bool, true, false, nat_le, nat_lt, if◌then◌else◌, List, [], ◌∷◌, ◌++◌, codes, take, Option, Some, None, length, slice_get, slice_index, refl, ap, sym, ◌∙◌, arith, ltb-true}
 use Rattle.std.specs.List.{list_any}
 use Rattle.std.proofs.lemmas.Bool.{cases_order, or_cases, or_left, or_right, and_parts, and_from, false_from_ne_true, both_ways, le-leb, leb-true, lt-ltb}
 use Rattle.std.proofs.lemmas.List.{length-append}
 use Rattle.std.proofs.lemmas.Option.{slice_get_within}
 use Rattle.c65_base.specs.declared.library.Library.{Library}
-use Rattle.c65_base.specs.declared.library.Library.TheVariants.{Putchar, Getchar, Puts, Exit, Memcpy, Memset, Strcmp, Strcpy, Strlen}
 use Rattle.c65_base.specs.Library.{library_name}
-use Rattle.c65_base.specs.declared.options.Cpu.{Cpu}
-use Rattle.c65_mach.specs.declared.image.Image.{Image}
 use Rattle.c65_code.specs.declared.routine.Routine.{Routine}
 use Rattle.c65_code.specs.declared.routine.Routine.TheVariants as routines
 use Rattle.c65_code.specs.declared.line.Sym.{Sym}
 use Rattle.c65_code.specs.declared.code.Code.{Code}
-use Rattle.c65_code.specs.declared.code.Symbol.{Symbol}
 use Rattle.c65_code.specs.declared.code.Datum.{Datum}
 use Rattle.c65_code.specs.declared.code.DatumKind.{DatumKind}
 use Rattle.c65_code.specs.declared.code.DatumKind.TheVariants.{Data, Const, Zero}
 use Rattle.c65_code.specs.declared.code.DataCell.{DataCell}
 use Rattle.c65_code.specs.declared.code.DataCell.TheVariants.{Byte, Address}
-use Rattle.c65_code.specs.Placement.{Placement, located, cell_bytes, bytes_of_cells, cell_size, cells_size, size_of_datum, IsIn, initial_byte, IsDatumOf, IsFunction, IsPlacement, program_start, stack_start}
+use Rattle.c65_code.specs.Placement.{Placement, cell_bytes, bytes_of_cells, cell_size, cells_size, size_of_datum, IsIn, initial_byte, IsDatumOf, IsFunction, program_start, stack_start}
 use Rattle.c65_code.specs.Segments.{Segment}
-use Rattle.c65_link_law.specs.Placed.{address_of, routine_address, routines_in, layout_in, first_address}
+use Rattle.c65_link_law.specs.Placed.{address_of, routines_in}
 use Rattle.c65_link_law_spots.specs.Places.{address_in, code_end, is_in, is_const, constant_at, addresses_in, place_in}
 use Rattle.c65_link_law_spots.specs.Sound.{IsSound}
 use Rattle.c65_link_law_spots.specs.Laws.{PlacesArePlacements}
@@ -29,7 +25,7 @@ use Rattle.c65_link_law_spots.proofs.Sums.{none_there, same_there, sums, Room, r
 use Rattle.c65_link_law_spots.proofs.Numbers.{map_there}
 use Rattle.c65_link_law_spots.proofs.Targets.{IsMade, made}
 use Rattle.c65_link_law_spots.proofs.Laid.{file_size, blank_size, IsStored, stored_or_zero, as_data, as_const, all_zeros_leave, Only, data_lead, zeros_lead, file_size_is, blank_size_is}
-use Rattle.c65_link_law_spots.proofs.Spots.{named, filled, named_wide, filled_wide, files, blanks, data_end, functions_to, Ends, ends, FunctionAt, function_stands, function_once, function_size, RoutineAt, routine_stands, routine_once, segment_full, Stood, own, library, stood}
+use Rattle.c65_link_law_spots.proofs.Spots.{named, filled, named_wide, filled_wide, files, blanks, data_end, Ends, ends, FunctionAt, function_stands, function_once, RoutineAt, routine_stands, routine_once, segment_full, Stood, own, library, stood}
 
 -- Data
 
@@ -114,7 +110,7 @@ pub datums_apart : (code : Code) (i j b : ℕ) (d x : Datum) → IsSound code �
 datums_apart code i j b d x s e here there in_d in_x =
     let first = e.stored in let second = e.zeros in let last = e.all in
     lies_apart (code_end code) (data_end code) (files code) (blanks code) d.kind x.kind i j (address_in code d.sym.0) (address_in code x.sym.0) (size_of_datum d) (size_of_datum x) b (omega (arith, first, second, last)) (omega (arith, second, last))
-      (lies code i d s e here) (lies code j x s e there) in_d.from in_d.to in_x.from in_x.to
+    (lies code i d s e here) (lies code j x s e there) in_d.from in_d.to in_x.from in_x.to
 
 -- Which addresses are data
 
@@ -245,7 +241,7 @@ holds code (x ∷ ds) b = by (is_const x.kind && is_in (address_in code) b x) re
     gap e none zero d here k h =
         let same : x ≡ d = same_there x d here in
         both_ways (is_const x.kind && is_in (address_in code) b x) e
-          (and_from (is_const x.kind) (is_in (address_in code) b x) (const_true x.kind (ap (λ (y : Datum). y.kind) same ∙ k)) (ap (is_in (address_in code) b) same ∙ is_in_from code d b h))
+        (and_from (is_const x.kind) (is_in (address_in code) b x) (const_true x.kind (ap (λ (y : Datum). y.kind) same ∙ k)) (ap (is_in (address_in code) b) same ∙ is_in_from code d b h))
     gap e none (suc i) d here k h = none i d here k h
 
     by : (t : Bool) → (is_const x.kind && is_in (address_in code) b x) ≡ t → Held code ds b → Held code (x ∷ ds) b

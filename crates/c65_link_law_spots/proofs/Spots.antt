@@ -1,11 +1,10 @@
 -- Where each part of a linked code lies.
-use Rattle.std.proofs.Common.{◌≡◌, ◌≢◌, ℕ, zero, suc, ◌+◌, ◌-◌, ◌<◌, ◌≤◌, ◌^◌, ◌%◌, ◌⊎◌, inl, inr, ◌||◌, ◌&&◌, not, Bool, true, false, nat_eq, nat_lt, ◌==◌, if◌then◌else◌, IsTrue, List, [], ◌∷◌, ◌++◌, codes, map, take, Option, Some, None, Result, Ok, length, slice_get, slice_index, refl, ap, sym, ◌∙◌, subst, arith, ltb-true}
-use Rattle.std.proofs.lemmas.Bool.{cases_order, or_cases, and_parts, not-true, eqb-true, eq-eqb, both_ways}
+use Rattle.std.proofs.Common.{◌≡◌, ℕ, zero, suc, ◌+◌, ◌-◌, ◌<◌, ◌≤◌, ◌^◌, ◌%◌, ◌⊎◌, inl, inr, not, Bool, true, false, nat_lt, ◌==◌, if◌then◌else◌, List, [], ◌∷◌, ◌++◌, codes, map, take, Some, None, Result, Ok, length, slice_get, slice_index, refl, ap, sym, ◌∙◌, subst, arith, ltb-true}
+use Rattle.std.proofs.lemmas.Bool.{or_cases, and_parts, not-true, eq-eqb, both_ways}
 use Rattle.std.proofs.lemmas.List.{length-set, length-replicate, take-map}
 use Rattle.std.proofs.lemmas.Option.{slice_get_within}
 use Rattle.c65_base.specs.declared.library.Library.{Library}
 use Rattle.c65_base.specs.Library.{library_name}
-use Rattle.c65_base.specs.declared.options.Cpu.{Cpu}
 use Rattle.c65_mach.specs.declared.image.Image.{Image}
 use Rattle.c65_mach.specs.declared.rows.Mode.{Mode}
 use Rattle.c65_mach.specs.declared.rows.Mode.TheVariants.{Relative}
@@ -18,8 +17,8 @@ use Rattle.c65_code.specs.declared.code.Code.{Code}
 use Rattle.c65_code.specs.declared.code.Symbol.{Symbol}
 use Rattle.c65_code.specs.declared.code.Datum.{Datum}
 use Rattle.c65_code.specs.Numbering.{number_of}
-use Rattle.c65_code.specs.Placement.{program_start, has_datum, IsFunction, size_of_datum}
-use Rattle.c65_code.specs.Segments.{Segment, IsSegment, closed_by, is_closed}
+use Rattle.c65_code.specs.Placement.{program_start, has_datum, IsFunction}
+use Rattle.c65_code.specs.Segments.{Segment, IsSegment, closed_by}
 use Rattle.c65_code.specs.Weights.{mode_size}
 use Rattle.c65_rtl.specs.Routines.{is_narrow, lines_of}
 use Rattle.c65_rtl.proofs.SegmentLaws.{segment_of as narrow_segment}
@@ -28,25 +27,25 @@ use Rattle.c65_rtlwide.proofs.SegmentLaws.{segment_of as wide_segment}
 use Rattle.c65_link.specs.declared.symbols.Target.{Target}
 use Rattle.c65_link.specs.declared.symbols.Target.TheVariants.{Nowhere, Own, Runtime}
 use Rattle.c65_link.specs.Bodies.{Body, with_line, with_lines, body_of, line_size, far_size, far_labels, plus}
-use Rattle.c65_link.specs.Layouts.{Layout, empty_layout, with_targets, with_all_data, with_all_zeros}
+use Rattle.c65_link.specs.Layouts.{Layout, empty_layout, with_targets, with_all_data}
 use Rattle.c65_link.specs.Layouts.{with_lines as layout_lines, with_functions as layout_functions, with_function as layout_function, with_routines as layout_routines}
 use Rattle.c65_link.specs.Runtime.{routine_lines, has_lines}
 use Rattle.c65_link.specs.Symbols.{targets_of, missing_of}
-use Rattle.c65_link.specs.Linked.{Fault, entry_of, linked, linked_for}
+use Rattle.c65_link.specs.Linked.{Fault, entry_of, linked}
 use Rattle.c65_link_law.specs.Coded.{Memory, Stands}
-use Rattle.c65_link_law.specs.Placed.{behind, first_address, address_of, behind_routines, routine_address, routines_in, layout_in, function_number, datum_number}
+use Rattle.c65_link_law.specs.Placed.{behind, first_address, address_of, behind_routines, routine_address, routines_in, layout_in, function_number}
 use Rattle.c65_link_law.proofs.Sizes.{IsSized, line_sized, plus_most, grown}
-use Rattle.c65_link_law.proofs.Placed.{Grows, more, on, behind_grows, functions_behind, functions_end, routines_end, routines_reach, Given, given, file_of}
+use Rattle.c65_link_law.proofs.Placed.{Grows, more, behind_grows, functions_behind, routines_reach, Given, given, file_of}
 use Rattle.c65_link_law.proofs.Symbols.{symbols_are_addresses}
 use Rattle.c65_link_law.proofs.Routines.{routines_are_coded}
 use Rattle.c65_link_law_spots.specs.Places.{address_in, code_end}
 use Rattle.c65_link_law_spots.specs.Sound.{IsSound}
-use Rattle.c65_link_law_spots.proofs.Sums.{none_there, same_there, sums, sums_grow, Room, room, ordered, begins_once}
-use Rattle.c65_link_law_spots.proofs.Chosen.{IsOf, IsWhole}
+use Rattle.c65_link_law_spots.proofs.Sums.{none_there, same_there, sums, sums_grow, Room, room, begins_once}
+use Rattle.c65_link_law_spots.proofs.Chosen.{IsOf}
 use Rattle.c65_link_law_spots.proofs.Uses.{whole_in, not_nowhere_marks}
 use Rattle.c65_link_law_spots.proofs.Numbers.{numbers_once, map_there, Has, has, found, nowhere}
-use Rattle.c65_link_law_spots.proofs.Targets.{IsMade, IsLibrary, library_there, target_there, targets_lead, targets_wide, targets_routines}
-use Rattle.c65_link_law_spots.proofs.Laid.{file_size, blank_size, IsStored, stored_or_zero, as_data, as_const, all_data_at, all_zeros_at, all_data_wide, all_data_routines, all_zeros_routines, all_data_leave, all_zeros_leave, Only, data_lead, zeros_lead, file_size_is, blank_size_is}
+use Rattle.c65_link_law_spots.proofs.Targets.{IsLibrary, library_there, target_there, targets_lead, targets_wide, targets_routines}
+use Rattle.c65_link_law_spots.proofs.Laid.{file_size, blank_size, all_data_at, all_zeros_at, all_data_wide, all_data_routines, all_zeros_routines, all_data_leave, all_zeros_leave}
 
 -- Lines of a segment take at least a byte
 
@@ -226,8 +225,8 @@ function_once code j k f g s e here there same =
     let end : functions_to code ≡ sums (first_address code) (map function_size code.functions) = behind_sums code.functions (first_address code) in
     let first = e.functions in let second = e.routines in let third = e.stored in let fourth = e.zeros in let last = e.all in
     begins_once (map function_size code.functions) (first_address code) j k (function_size f) (function_size g) (omega (arith, first, second, third, fourth, last)) (omega (arith, end, second, third, fourth, last))
-      (map_there function_size code.functions j f here) (map_there function_size code.functions k g there) (segment_full f.1.lines (s.segment j f here)) (segment_full g.1.lines (s.segment k g there))
-      (sym (function_at code j) ∙ same ∙ function_at code k)
+    (map_there function_size code.functions j f here) (map_there function_size code.functions k g there) (segment_full f.1.lines (s.segment j f here)) (segment_full g.1.lines (s.segment k g there))
+    (sym (function_at code j) ∙ same ∙ function_at code k)
 
 -- Routines
 
@@ -256,8 +255,8 @@ routine_once code j k q r e here there same =
     let end : code_end code ≡ sums (functions_to code) (map routine_size (routines_in code)) = routines_sums (routines_in code) (functions_to code) in
     let second = e.routines in let third = e.stored in let fourth = e.zeros in let last = e.all in
     begins_once (map routine_size (routines_in code)) (functions_to code) j k (routine_size q) (routine_size r) (omega (arith, second, third, fourth, last)) (omega (arith, end, third, fourth, last))
-      (map_there routine_size (routines_in code) j q here) (map_there routine_size (routines_in code) k r there) (routine_stands code j q e here).full (routine_stands code k r e there).full
-      (sym (routine_at code j) ∙ same ∙ routine_at code k)
+    (map_there routine_size (routines_in code) j q here) (map_there routine_size (routines_in code) k r there) (routine_stands code j q e here).full (routine_stands code k r e there).full
+    (sym (routine_at code j) ∙ same ∙ routine_at code k)
 
 -- bytes stand where memory has them
 stands_at : (xs : List ℕ) (m : Memory) (at : ℕ) → ((k : ℕ) → m (at + k) ≡ slice_index xs k) → Stands m at xs
@@ -312,8 +311,8 @@ stood_library code image f symbol l linked_is there is no_function none chosen =
     let kept : slice_index (layout_in code).symbols f ≡ slice_index (named code).symbols f = all_zeros_leave code.datums (filled code) f (λ j e h k. none j e h) ∙ all_data_leave code.datums (named code) f none in
     let called : slice_index (layout_in code).routines (number_of (routines.Library l)) ≡ routine_address code chosen.place = routine_called code image chosen.place (routines.Library l) linked_is chosen.there in
     library chosen.place l symbol there is.spelling chosen.there
-      (kept ∙ subst (λ (n : ℕ). slice_index (named code).symbols n ≡ slice_index (coded code).routines (number_of (routines.Library l))) plain lead
-       ∙ ap (λ (xs : List ℕ). slice_index xs (number_of (routines.Library l))) (sym (last_routines code)) ∙ called)
+    (kept ∙ subst (λ (n : ℕ). slice_index (named code).symbols n ≡ slice_index (coded code).routines (number_of (routines.Library l))) plain lead
+    ∙ ap (λ (xs : List ℕ). slice_index xs (number_of (routines.Library l))) (sym (last_routines code)) ∙ called)
 
 pub stood : (code : Code) (image : Image) (f : ℕ) → IsSound code → linked code ≡ Ok image → missing_of code (targets_of code) ≡ None → IsFunction code f → Stood code f
 stood code image f s linked_is missing h =
@@ -326,4 +325,4 @@ stood code image f s linked_is missing h =
     by symbol there none (nowhere no_function) =
         let l = library_there code f symbol there missing (s.named f symbol there) no_function none in
         stood_library code image f symbol l.0 linked_is there l.1 no_function none
-          ((whole_in code).marked (routines.Library l.0) (not_nowhere_marks code f l.0 (target_there code f symbol there no_function none ∙ ap Some l.1.target) (s.named f symbol there) no_function none) (library_lined l.0))
+        ((whole_in code).marked (routines.Library l.0) (not_nowhere_marks code f l.0 (target_there code f symbol there no_function none ∙ ap Some l.1.target) (s.named f symbol there) no_function none) (library_lined l.0))

@@ -1,5 +1,5 @@
 -- Parts one behind another, by their sizes.
-use Rattle.std.proofs.Common.{◌≡◌, ℕ, zero, suc, ◌+◌, ◌-◌, ◌≤◌, ◌<◌, ◌^◌, ◌⊎◌, inl, inr, List, [], ◌∷◌, take, slice_get, Option, Some, None, refl, ap, sym, ◌∙◌, subst, arith}
+use Rattle.std.proofs.Common.{◌≡◌, ℕ, zero, suc, ◌+◌, ◌-◌, ◌≤◌, ◌<◌, ◌^◌, ◌⊎◌, inl, inr, List, [], ◌∷◌, take, slice_get, Option, Some, None, arith}
 use Rattle.std.proofs.lemmas.Bool.{cases_order}
 use Rattle.c65_link.specs.Bodies.{plus}
 use Rattle.c65_link_law.proofs.Sizes.{plus_grows, plus_most}

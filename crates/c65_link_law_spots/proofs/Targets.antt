@@ -1,6 +1,5 @@
 -- What stands for a symbol without a body.
-use Rattle.std.proofs.Common.{◌≡◌, ◌≢◌, ℕ, zero, suc, ◌+◌, ◌<◌, Bool, true, false, cond, if◌then◌else◌, nat_eq, nat_lt, ◌&&◌, not, IsTrue, List, [], ◌∷◌, ◌++◌, codes, bytes_eq, Option, Some, None, Result, Ok, Err, length, slice_get, slice_set, slice_index, refl, ap, sym, ◌∙◌, subst, arith, ltb-true}
-use Rattle.std.proofs.lemmas.Bool.{and_parts, ne_eqb, eq-eqb, not-true}
+use Rattle.std.proofs.Common.{◌≡◌, ℕ, zero, suc, ◌+◌, ◌<◌, Bool, true, false, if◌then◌else◌, List, [], ◌∷◌, ◌++◌, codes, bytes_eq, Option, Some, None, Result, Ok, Err, length, slice_get, slice_set, slice_index, refl, ap, sym, ◌∙◌, subst, arith}
 use Rattle.std.proofs.lemmas.List.{get_or-set_same, get_or-set_other, length-set}
 use Rattle.std.proofs.lemmas.Slice.Eq.{bytes_eq-Decides}
 use Rattle.c65_base.specs.declared.options.Cpu.{Cpu}
@@ -16,14 +15,13 @@ use Rattle.c65_code.specs.declared.code.Datum.{Datum}
 use Rattle.c65_code.specs.declared.code.DataCell.{DataCell}
 use Rattle.c65_code.specs.Segments.{Segment}
 use Rattle.c65_code.specs.Numbering.{number_of}
-use Rattle.c65_code.specs.Placement.{library_named, has_datum, is_function_of, IsFunction}
+use Rattle.c65_code.specs.Placement.{library_named}
 use Rattle.c65_link.specs.declared.symbols.Target.{Target}
 use Rattle.c65_link.specs.declared.symbols.Target.TheVariants.{Nowhere, Own, Runtime}
 use Rattle.c65_link.specs.Layouts.{Layout}
 use Rattle.c65_link.specs.Layouts.{with_target as put_target, with_targets as put_targets}
 use Rattle.c65_link.specs.Symbols.{target_by, named_target, named_targets, with_functions, with_datums, targets_of, line_symbol, cell_symbol, is_nowhere, missing, missing_in_lines, missing_in_functions, missing_in_cells, missing_in_datums, missing_in_code, or_else, name_of, missing_of, is_main_missing, main_in}
-use Rattle.c65_link.specs.Linked.{Fault, undefined, parts_of, placed, named_or_placed, linked, image_for, linked_for}
-use Rattle.c65_link_law.specs.Placed.{function_number, datum_number}
+use Rattle.c65_link.specs.Linked.{Fault, named_or_placed, linked, image_for, linked_for}
 use Rattle.c65_link_law_spots.specs.Sound.{IsNamed, by_function, by_datum, by_line, by_cell}
 use Rattle.c65_link_law_spots.proofs.Sums.{none_there, same_there}
 use Rattle.c65_link_law_spots.proofs.Numbers.{get_other}
@@ -196,7 +194,7 @@ targets_lead (t ∷ targets) layout i zero l h inside =
     let e : i + 0 ≡ i = omega arith in
     let there : slice_index (put_targets (put_target layout i t) (i + 1) targets).symbols i ≡ slice_index (put_target layout i t).symbols i = targets_below targets (put_target layout i t) (i + 1) i (omega arith) in
     let here : slice_index (put_target layout i t).symbols i ≡ slice_index layout.routines (number_of (routines.Library l)) =
-        subst (λ (x : Target). slice_index (put_target layout i x).symbols i ≡ slice_index layout.routines (number_of (routines.Library l))) (sym (same_there t (Runtime l) h)) (get_or-set_same layout.symbols i _ 0 (omega (arith, inside))) in
+    subst (λ (x : Target). slice_index (put_target layout i x).symbols i ≡ slice_index layout.routines (number_of (routines.Library l))) (sym (same_there t (Runtime l) h)) (get_or-set_same layout.symbols i _ 0 (omega (arith, inside))) in
     ap (slice_index (put_targets (put_target layout i t) (i + 1) targets).symbols) e ∙ there ∙ here
 targets_lead (t ∷ targets) layout i (suc n) l h inside =
     let e : i + suc n ≡ i + 1 + n = omega arith in

@@ -1,8 +1,7 @@
 -- Each unit's lines stand in the image.
-use Rattle.std.proofs.Common.{◌≡◌, ◌≢◌, ℕ, zero, suc, ◌+◌, ◌-◌, ◌<◌, ◌≤◌, ◌^◌, ◌%◌, ◌==◌, ◌⊎◌, inl, inr, Bool, true, false, nat_lt, if◌then◌else◌, List, [], ◌∷◌, ◌++◌, take, Option, Some, None, Result, Ok, length, slice_get, slice_index, refl, ap, sym, ◌∙◌, subst, arith}
-use Rattle.std.proofs.lemmas.Bool.{lt-ltb, le-ltb, eq-eqb, ne_eqb, cases_eq}
+use Rattle.std.proofs.Common.{◌≡◌, ℕ, zero, suc, ◌+◌, ◌-◌, ◌≤◌, ◌==◌, Bool, true, false, nat_lt, if◌then◌else◌, List, [], ◌∷◌, ◌++◌, Some, Result, Ok, length, slice_get, slice_index, refl, ap, sym, ◌∙◌, subst, arith}
+use Rattle.std.proofs.lemmas.Bool.{lt-ltb, le-ltb, eq-eqb, ne_eqb}
 use Rattle.c65_mach.specs.declared.image.Image.{Image}
-use Rattle.c65_base.specs.declared.options.Cpu.{Cpu}
 use Rattle.c65_code.specs.declared.routine.Routine.{Routine}
 use Rattle.c65_code.specs.declared.routine.Routine.TheVariants as routines
 use Rattle.c65_code.specs.declared.routine.TheConstants.Routine.{ALL}
@@ -13,25 +12,24 @@ use Rattle.c65_code.specs.declared.line.Line.{Line}
 use Rattle.c65_code.specs.declared.code.Code.{Code}
 use Rattle.c65_code.specs.Placement.{program_start, segment_of}
 use Rattle.c65_code.specs.Segments.{Segment, IsSegment}
-use Rattle.c65_link.specs.Bodies.{body_of, plus}
-use Rattle.c65_link.specs.Bytes.{Spot, Written, Tables, with_lines, with_functions, with_routines, data_bytes}
-use Rattle.c65_link.specs.Runtime.{routine_lines, has_lines}
+use Rattle.c65_link.specs.Bodies.{body_of}
+use Rattle.c65_link.specs.Bytes.{Written, Tables, with_lines, with_functions, with_routines, data_bytes}
+use Rattle.c65_link.specs.Runtime.{routine_lines}
 use Rattle.c65_link.specs.Symbols.{targets_of, missing_of}
-use Rattle.c65_link.specs.Linked.{Fault, entry_of, parts_of, linked, main_address, tables_of, routine_tables}
+use Rattle.c65_link.specs.Linked.{Fault, entry_of, linked, main_address, tables_of, routine_tables}
 use Rattle.c65_link_law.specs.Coded.{Memory, Stands, AreCoded, spot_for}
-use Rattle.c65_link_law.specs.Placed.{address_of, first_address, routine_address, routines_in, layout_in, behind}
+use Rattle.c65_link_law.specs.Placed.{first_address, routine_address, routines_in, layout_in}
 use Rattle.c65_link_law.proofs.Lines.{stands_split}
 use Rattle.c65_link_law.proofs.Placed.{Grows, more, Given, given, file_of, Fits, fits, one_bytes, one_stands, functions_bytes, written_functions, functions_are_coded}
 use Rattle.c65_link_law.proofs.Routines.{routines_are_coded}
-use Rattle.c65_link_law_spots.specs.Places.{address_in, code_end, routine_count, lines_by, runtime_lines, lines_in, runtime_base, base_in, symbols_in, spot_in}
+use Rattle.c65_link_law_spots.specs.Places.{address_in, code_end, routine_count, lines_by, runtime_lines, lines_in, runtime_base, base_in, symbols_in}
 use Rattle.c65_link_law_spots.specs.Sound.{IsSound}
-use Rattle.c65_link_law_spots.specs.Laws.{IsChosen, IsUnit, function, routine, start, end_in, IsUnitPlaced, UnitsStand}
+use Rattle.c65_link_law_spots.specs.Laws.{IsUnit, function, routine, start, IsUnitPlaced, UnitsStand}
 use Rattle.c65_link_law_spots.proofs.Sums.{none_there, same_there}
 use Rattle.c65_link_law_spots.proofs.Marks.{numbered}
-use Rattle.c65_link_law_spots.proofs.Chosen.{IsOf}
 use Rattle.c65_link_law_spots.proofs.Uses.{whole_in}
 use Rattle.c65_link_law_spots.proofs.Targets.{IsMade, made}
-use Rattle.c65_link_law_spots.proofs.Spots.{Ends, ends, FunctionAt, function_stands, function_size, RoutineAt, routine_stands, routine_segment, routine_called, functions_to}
+use Rattle.c65_link_law_spots.proofs.Spots.{Ends, ends, FunctionAt, function_stands, RoutineAt, routine_stands, routine_segment, routine_called}
 
 -- The start
 

@@ -1,5 +1,5 @@
 -- What a code marks.
-use Rattle.std.proofs.Common.{◌≡◌, ℕ, zero, suc, Bool, true, false, IsTrue, List, [], ◌∷◌, Option, Some, None, length, slice_get, refl, ap, sym, ◌∙◌, subst, arith}
+use Rattle.std.proofs.Common.{◌≡◌, ℕ, zero, suc, true, List, [], ◌∷◌, Option, Some, None, length, slice_get, refl, ap, sym, ◌∙◌, subst}
 use Rattle.c65_base.specs.declared.library.Library.{Library}
 use Rattle.c65_code.specs.declared.routine.Routine.{Routine}
 use Rattle.c65_code.specs.declared.routine.Routine.TheVariants as routines
@@ -11,12 +11,12 @@ use Rattle.c65_code.specs.declared.code.DataCell.{DataCell}
 use Rattle.c65_code.specs.Segments.{Segment}
 use Rattle.c65_link.specs.declared.symbols.Target.{Target}
 use Rattle.c65_link.specs.declared.symbols.Target.TheVariants.{Nowhere, Own, Runtime}
-use Rattle.c65_link.specs.Runtime.{Marks, no_marks, is_marked, with_call, with_calls, routine_lines, has_lines}
+use Rattle.c65_link.specs.Runtime.{Marks, no_marks, is_marked, with_call, with_calls, routine_lines}
 use Rattle.c65_link.specs.Symbols.{line_symbol, cell_symbol, targets_of, with_target, with_symbol, with_line_uses, with_function_uses, with_cell_uses, with_datum_uses, with_code_uses}
 use Rattle.c65_link.specs.Linked.{entry_of}
 use Rattle.c65_link_law.specs.Placed.{routines_in}
 use Rattle.c65_link_law_spots.specs.Sound.{IsNamed, by_function, by_datum, by_line, by_cell}
-use Rattle.c65_link_law_spots.specs.Laws.{IsChosen, CallsRoutine, AreUsesChosen, UsesAreChosen}
+use Rattle.c65_link_law_spots.specs.Laws.{IsChosen, CallsRoutine, UsesAreChosen}
 use Rattle.c65_link_law_spots.proofs.Sums.{none_there, same_there}
 use Rattle.c65_link_law_spots.proofs.Marks.{More, no_more, more_on, marks_more, mark_here, call_more, calls_more, call_marks, calls_mark}
 use Rattle.c65_link_law_spots.proofs.Chosen.{IsOf, IsWhole, whole}
@@ -65,7 +65,7 @@ datums_more targets (datum ∷ datums) a wide =
 symbol_marks : (targets : List Target) (a : Marks) (o : Option Sym) (s : Sym) (l : Library) → length a ≡ 121 → o ≡ Some s → slice_get targets s.0 ≡ Some (Runtime l) → is_marked (with_symbol targets a o) (routines.Library l) ≡ true
 symbol_marks targets a o s l wide e there =
     subst (λ (x : Option Sym). is_marked (with_symbol targets a x) (routines.Library l) ≡ true) (sym e)
-      (subst (λ (x : Option Target). is_marked (with_target a x) (routines.Library l) ≡ true) (sym there) (mark_here a (routines.Library l) wide))
+    (subst (λ (x : Option Target). is_marked (with_target a x) (routines.Library l) ≡ true) (sym there) (mark_here a (routines.Library l) wide))
 
 lines_mark : (targets : List Target) (lines : List Line) (a : Marks) (j : ℕ) (line : Line) (s : Sym) (l : Library) → length a ≡ 121 → slice_get lines j ≡ Some line → line_symbol line ≡ Some s → slice_get targets s.0 ≡ Some (Runtime l)
     → is_marked (with_line_uses targets a lines) (routines.Library l) ≡ true
@@ -85,7 +85,7 @@ functions_mark targets (g ∷ fs) a zero j f line s l wide at here e there =
     let same : g ≡ f = same_there g f at in
     let first : More a (with_line_uses targets a g.1.lines) = lines_more targets g.1.lines a wide in
     (functions_more targets fs (with_line_uses targets a g.1.lines) (first.size ∙ wide)).kept (routines.Library l)
-      (lines_mark targets g.1.lines a j line s l wide (subst (λ (x : Sym × Segment). slice_get x.1.lines j ≡ Some line) (sym same) here) e there)
+    (lines_mark targets g.1.lines a j line s l wide (subst (λ (x : Sym × Segment). slice_get x.1.lines j ≡ Some line) (sym same) here) e there)
 functions_mark targets (g ∷ fs) a (suc k) j f line s l wide at here e there = functions_mark targets fs (with_line_uses targets a g.1.lines) k j f line s l ((lines_more targets g.1.lines a wide).size ∙ wide) at here e there
 
 cells_mark : (targets : List Target) (cells : List DataCell) (a : Marks) (j : ℕ) (cell : DataCell) (s : Sym) (l : Library) → length a ≡ 121 → slice_get cells j ≡ Some cell → cell_symbol cell ≡ Some s → slice_get targets s.0 ≡ Some (Runtime l)
@@ -103,7 +103,7 @@ datums_mark targets (d ∷ datums) a zero j datum cell s l wide at here e there 
     let same : d ≡ datum = same_there d datum at in
     let first : More a (with_cell_uses targets a d.cells) = cells_more targets d.cells a wide in
     (datums_more targets datums (with_cell_uses targets a d.cells) (first.size ∙ wide)).kept (routines.Library l)
-      (cells_mark targets d.cells a j cell s l wide (subst (λ (x : Datum). slice_get x.cells j ≡ Some cell) (sym same) here) e there)
+    (cells_mark targets d.cells a j cell s l wide (subst (λ (x : Datum). slice_get x.cells j ≡ Some cell) (sym same) here) e there)
 datums_mark targets (d ∷ datums) a (suc k) j datum cell s l wide at here e there = datums_mark targets datums (with_cell_uses targets a d.cells) k j datum cell s l ((cells_more targets d.cells a wide).size ∙ wide) at here e there
 
 -- a line's calls are marked
@@ -122,7 +122,7 @@ functions_call targets (g ∷ fs) a zero j f line r wide at here calls =
     let same : g ≡ f = same_there g f at in
     let first : More a (with_line_uses targets a g.1.lines) = lines_more targets g.1.lines a wide in
     (functions_more targets fs (with_line_uses targets a g.1.lines) (first.size ∙ wide)).kept r
-      (lines_call targets g.1.lines a j line r wide (subst (λ (x : Sym × Segment). slice_get x.1.lines j ≡ Some line) (sym same) here) calls)
+    (lines_call targets g.1.lines a j line r wide (subst (λ (x : Sym × Segment). slice_get x.1.lines j ≡ Some line) (sym same) here) calls)
 functions_call targets (g ∷ fs) a (suc k) j f line r wide at here calls = functions_call targets fs (with_line_uses targets a g.1.lines) k j f line r ((lines_more targets g.1.lines a wide).size ∙ wide) at here calls
 
 -- The marks of a code
