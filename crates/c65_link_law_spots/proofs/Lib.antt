@@ -1,0 +1,11 @@
+pub mod Sums
+pub mod Marks
+pub mod Chosen
+pub mod Uses
+pub mod Numbers
+pub mod Targets
+pub mod Laid
+pub mod Spots
+pub mod Places
+pub mod Units
+pub mod Loaded
