@@ -119,6 +119,7 @@ row_costs routines.ULongAx t = lit≤ tt
 row_costs routines.SaveRegs t = lit≤ tt
 row_costs routines.RestRegs t = lit≤ tt
 row_costs routines.CallPtr4 t = lit≤ tt
+row_costs routines.StkChk t = lit≤ tt
 row_costs routines.Start t = lit≤ tt
 row_costs routines.StartArgs t = lit≤ tt
 row_costs routines.HookOpen t = lit≤ tt
