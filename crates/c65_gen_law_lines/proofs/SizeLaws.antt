@@ -181,8 +181,8 @@ mutual
 -- ---- functions
 
 pub functions_are_small : FunctionsAreSmall
-functions_are_small parts honoured g body f is_main out framed few =
-    let frame : (f.soft ≤ 1025) × (f.stacked ≤ 1024) × (length f.moved ≤ length g.params) = frames_are_small parts honoured g f framed in
+functions_are_small parts modes g body f is_main out framed few =
+    let frame : (f.soft ≤ 1025) × (f.stacked ≤ 1024) × (length f.moved ≤ length g.params) = frames_are_small parts modes g f framed in
     let d : Drafted = with_labels (room_of body) (with_labels 1 (no_lines out)) in
     let m0 : Drafted = with_lines d (entry_code f) in
     let m1 : Drafted = with_stmt f (ways 0 0 0) 0 body m0 in

@@ -281,10 +281,10 @@ main_clear true = record { all = refl }
 main_clear false = clear_none
 
 pub functions_leave_regbank : FunctionsLeaveRegbank
-functions_leave_regbank parts honoured g body f is_main out framed nothing =
+functions_leave_regbank parts modes g body f is_main out framed nothing =
     let e : nat_lt 0 f.bank ≡ false = ap (nat_lt 0) nothing in
-    let o : IsOrderly f = frames_are_orderly parts honoured g f framed in
-    let b : IsBankless f = frames_without_bank parts honoured g f framed nothing in
+    let o : IsOrderly f = frames_are_orderly parts modes g f framed in
+    let b : IsBankless f = frames_without_bank parts modes g f framed nothing in
     let d : Drafted = with_lines (with_labels (room_of body) (with_labels 1 (no_lines out))) (entry_code f) in
     let all : Clear (with_stmt f (ways 0 0 0) 0 body d).lines = stmt_kept f (ways 0 0 0) 0 body d b (entry_clear f o e) in
     (clear_then (clear_then (clear_then all (main_clear is_main)) (label_clear 0)) (end_clear f e)).all

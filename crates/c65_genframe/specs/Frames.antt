@@ -7,6 +7,7 @@ use Rattle.c65_ctype.specs.Views.{types_of}
 use Rattle.c65_csem.specs.declared.items.Parts.{Parts}
 use Rattle.c65_csem.specs.Trees.{FuncTy}
 use Rattle.c65_csem.specs.Views.{func_of}
+use Rattle.c65_genframe.specs.declared.modes.Modes.{Modes}
 use Rattle.c65_genframe.specs.declared.home.Home.{Home}
 use Rattle.c65_genframe.specs.declared.home.Home.TheVariants.{Bank, Soft}
 use Rattle.c65_genframe.specs.declared.home.Moved.{Moved}
@@ -111,20 +112,20 @@ abbrev pub passed_bytes : Parts → FuncTy → ℕ
 passed_bytes parts f = slots parts (has_prototype f.ty) f.params 0
 
 -- the objects in the order of their numbers
-abbrev pub placed_in : Parts → Bool → FuncTy → Places
-placed_in parts honoured f =
-    placed_all parts honoured (lowest (locals_of f) f.params) (all_marks (locals_of f) f.params) (none_placed (is_variadic f.ty) (passed_bytes parts f))
+abbrev pub placed_in : Parts → Modes → FuncTy → Places
+placed_in parts modes f =
+    placed_all parts modes (lowest (locals_of f) f.params) (all_marks (locals_of f) f.params) (none_placed (is_variadic f.ty) (passed_bytes parts f))
 
-abbrev pub frame_of : Parts → Bool → FuncTy → Result Framed Fault
-frame_of parts honoured f = limited parts f (lowest (locals_of f) f.params) (passed_bytes parts f) (placed_in parts honoured f)
+abbrev pub frame_of : Parts → Modes → FuncTy → Result Framed Fault
+frame_of parts modes f = limited parts f (lowest (locals_of f) f.params) (passed_bytes parts f) (placed_in parts modes f)
 
-abbrev pub frame_in : Parts → Bool → Option FuncTy → Result Framed Fault
-frame_in parts honoured None = Err (large sizes.Frame 0)
-frame_in parts honoured (Some f) = frame_of parts honoured f
+abbrev pub frame_in : Parts → Modes → Option FuncTy → Result Framed Fault
+frame_in parts modes None = Err (large sizes.Frame 0)
+frame_in parts modes (Some f) = frame_of parts modes f
 
 -- the frame of a function, by its number
-abbrev pub frame_at : Parts → Bool → ℕ → Result Framed Fault
-frame_at parts honoured func = frame_in parts honoured (option_map func_of (slice_get parts.funcs.items func))
+abbrev pub frame_at : Parts → Modes → ℕ → Result Framed Fault
+frame_at parts modes func = frame_in parts modes (option_map func_of (slice_get parts.funcs.items func))
 
 -- ---- what a frame tells
 

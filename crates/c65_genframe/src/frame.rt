@@ -4,12 +4,14 @@ ghost use Rattle.c65_base.specs.Answers.{Gives};
 ghost use Rattle.c65_ctype.specs.Views.{ty_of, fn_of, types_of};
 ghost use Rattle.c65_csem.specs.Views.{func_of};
 ghost use Rattle.c65_genframe.specs.Frames.{is_variadic, takes_stack, has_prototype, register_param, home_at, arrival, is_kept, last_bytes, without_last, bytes_without, saved_bytes, settled, frame_of, frame_at, home_of, is_raised, type_bytes};
+ghost use Rattle.c65_genframe.specs.Modes.{modes_of};
 ghost use Rattle.c65_genframe.specs.Symbols.{numbers_of};
 
 use crate::arrive::{Arrived, slots};
 use crate::body::locals_of;
 use crate::home::{Arrival, Home, Moved};
 use crate::mark::{all_marks, lowest};
+use crate::modes::Modes;
 use crate::place::Placed;
 use crate::sizes::{bank_bytes, bytes_or, slot_bytes};
 use crate::symbols::Numbers;
@@ -201,15 +203,15 @@ fn arranged<'a>(
 }
 
 impl<'a> Frame<'a> {
-    /// The frame of a function of a program with these parts; `honoured` says whether `register`
-    /// is. Refuses as `new` does.
+    /// The frame of a function of a program with these parts, by what the options ask for.
+    /// Refuses as `new` does.
     pub fn of(
         alloc: Global,
         parts: &'a Parts,
         function: &TFunc,
-        honoured: bool,
+        modes: Modes,
     ) -> Result<Frame<'a>, Refusal>
-        ensures { Gives (λ f. f) result (frame_of parts.entry.now honoured (func_of function.now)) }
+        ensures { Gives (λ f. f) result (frame_of parts.entry.now modes (func_of function.now)) }
     {
         let numbers = Numbers::of(parts)?;
         let params = function.params.as_slice();
@@ -218,7 +220,7 @@ impl<'a> Frame<'a> {
         let passed = slots(parts, has_prototype(&function.ty), params);
         let marks = all_marks(alloc, &locals, params)?;
         let mut placed = Placed::new(alloc, is_variadic(&function.ty), passed);
-        placed.add_all(parts, honoured, low, &marks)?;
+        placed.add_all(parts, modes, low, &marks)?;
         if placed.total() > 1024 {
             return Err(Refusal::TooLarge {
                 limit: Size::Frame,
@@ -238,11 +240,11 @@ impl<'a> Frame<'a> {
         func: u32,
         options: &Options,
     ) -> Result<Frame<'a>, Refusal>
-        ensures { Gives (λ f. f) result (frame_at program.entry.now.0 options.now.register_vars func) }
+        ensures { Gives (λ f. f) result (frame_at program.entry.now.0 (modes_of options.now) func) }
     {
         let parts = program.unit().parts();
         match parts.funcs.get(func as usize) {
-            Some(function) => Frame::of(alloc, parts, function, options.register_vars),
+            Some(function) => Frame::of(alloc, parts, function, Modes::of(options)),
             None => Err(Refusal::OutOfMemory),
         }
     }

@@ -7,6 +7,7 @@ mod body;
 mod frame;
 mod home;
 mod mark;
+mod modes;
 mod passing;
 mod place;
 mod sizes;
@@ -14,6 +15,7 @@ mod symbols;
 
 pub use frame::Frame;
 pub use home::{Arrival, Home, Moved};
+pub use modes::Modes;
 pub use passing::registers;
 pub use sizes::bytes_or;
 pub use symbols::Numbers;
