@@ -20,7 +20,7 @@ use Rattle.c65_code.specs.Segments.{Segment, Drafted, IsSegment}
 use Rattle.c65_code.specs.Writable.{IsLetters}
 use Rattle.c65_genframe.specs.declared.modes.Modes.{Modes}
 use Rattle.c65_genframe.specs.Symbols.{numbers_of, function_symbol}
-use Rattle.c65_genframe.specs.Frames.{Framed, frame_of, settled, passed_bytes, placed_in}
+use Rattle.c65_genframe.specs.Frames.{Framed, frame_of, check_of, settled, passed_bytes, placed_in}
 use Rattle.c65_genframe.specs.Marks.{lowest}
 use Rattle.c65_genframe.specs.Objects.{locals_of}
 use Rattle.c65_genframe.specs.Places.{Places}
@@ -130,7 +130,7 @@ ended f is_main body out = with_label 0 (with_lines (ran f body out) (main_code 
 frame_parts : (parts : Parts) (modes : Modes) (g : FuncTy) (f : Framed) → frame_of parts modes g ≡ Ok f → f.parts ≡ parts
 frame_parts parts modes g f h =
     let p : Places = placed_in parts modes g in
-    let given : (nat_lt 1024 p.total ≡ false) × (settled parts g (lowest (locals_of g) g.params) (passed_bytes parts g) p ≡ f) = answered (nat_lt 1024 p.total) (large sizes.Frame p.total) (settled parts g (lowest (locals_of g) g.params) (passed_bytes parts g) p) f h in
+    let given : (nat_lt 1024 p.total ≡ false) × (settled parts (check_of parts modes g) g (lowest (locals_of g) g.params) (passed_bytes parts g) p ≡ f) = answered (nat_lt 1024 p.total) (large sizes.Frame p.total) (settled parts (check_of parts modes g) g (lowest (locals_of g) g.params) (passed_bytes parts g) p) f h in
     sym (ap (λ z. z.parts) given.1)
 
 body_well : (n : ℕ) (u : UnitTy) (parts : Parts) (modes : Modes) (g : FuncTy) (body : Stmt) (f : Framed) (is_main : Bool) (out : RegSet) → Knows f u n → IsBody u g body → frame_of parts modes g ≡ Ok f

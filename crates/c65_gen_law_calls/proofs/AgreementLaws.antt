@@ -26,7 +26,7 @@ use Rattle.c65_genframe.specs.declared.modes.Modes.{Modes}
 use Rattle.c65_genframe.specs.declared.home.Arrival.{Arrival}
 use Rattle.c65_genframe.specs.Marks.{lowest}
 use Rattle.c65_genframe.specs.Objects.{locals_of}
-use Rattle.c65_genframe.specs.Frames.{Framed, is_variadic, takes_stack, has_prototype, register_param, arrival, passed_bytes, placed_in, settled, frame_of}
+use Rattle.c65_genframe.specs.Frames.{Framed, is_variadic, takes_stack, has_prototype, register_param, arrival, passed_bytes, placed_in, check_of, settled, frame_of}
 use Rattle.c65_genload.specs.Conversions.{size_of}
 use Rattle.c65_genexpr.specs.Types.{kind_of, kind_in, bare}
 use Rattle.c65_genexpr.specs.Arguments.{is_fast, is_counted}
@@ -133,10 +133,10 @@ prototypes_agree u g body s t well site is like =
 
 -- ---- what a function takes away
 
-framed_is : (parts : Parts) (modes : Modes) (g : FuncTy) (f : Framed) → frame_of parts modes g ≡ Ok f → settled parts g (lowest (locals_of g) g.params) (passed_bytes parts g) (placed_in parts modes g) ≡ f
+framed_is : (parts : Parts) (modes : Modes) (g : FuncTy) (f : Framed) → frame_of parts modes g ≡ Ok f → settled parts (check_of parts modes g) g (lowest (locals_of g) g.params) (passed_bytes parts g) (placed_in parts modes g) ≡ f
 framed_is parts modes g f framed =
     let p = placed_in parts modes g in
-    (answered (nat_lt 1024 p.total) (large sizes.Frame p.total) (settled parts g (lowest (locals_of g) g.params) (passed_bytes parts g) p) f framed).1
+    (answered (nat_lt 1024 p.total) (large sizes.Frame p.total) (settled parts (check_of parts modes g) g (lowest (locals_of g) g.params) (passed_bytes parts g) p) f framed).1
 
 pub parts_are : (parts : Parts) (modes : Modes) (g : FuncTy) (f : Framed) → frame_of parts modes g ≡ Ok f → f.parts ≡ parts
 parts_are parts modes g f framed = sym (ap (λ (z : Framed). z.parts) (framed_is parts modes g f framed))

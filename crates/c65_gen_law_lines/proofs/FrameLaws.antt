@@ -19,7 +19,7 @@ use Rattle.c65_genframe.specs.Arrivals.{Arrivals, arrive, with_slot, arrived}
 use Rattle.c65_genframe.specs.Sizes.{object_in, object_bytes, slot_bytes, bank_bytes}
 use Rattle.c65_genframe.specs.Marks.{lowest, all_marks}
 use Rattle.c65_genframe.specs.Objects.{locals_of}
-use Rattle.c65_genframe.specs.Frames.{has_prototype, is_variadic, register_param, arrival, is_kept, last_bytes, without_last, bytes_without, saved_bytes, first_arrivals, settled, passed_bytes, placed_in}
+use Rattle.c65_genframe.specs.Frames.{has_prototype, is_variadic, register_param, arrival, is_kept, last_bytes, without_last, bytes_without, saved_bytes, first_arrivals, check_of, settled, passed_bytes, placed_in}
 use Rattle.c65_gen_law_lines.specs.Laws.{FramesAreSmall}
 
 -- a sum that is small did not stand still
@@ -106,7 +106,7 @@ frames_are_small parts modes g f h =
     let low : ℕ = lowest (locals_of g) g.params in
     let passed : ℕ = passed_bytes parts g in
     let last : Arrival = arrival parts (has_prototype g.ty) low p.homes (register_param g) in
-    let given : (nat_lt 1024 p.total ≡ false) × (settled parts g low passed p ≡ f) = answered (nat_lt 1024 p.total) (large sizes.Frame p.total) (settled parts g low passed p) f h in
+    let given : (nat_lt 1024 p.total ≡ false) × (settled parts (check_of parts modes g) g low passed p ≡ f) = answered (nat_lt 1024 p.total) (large sizes.Frame p.total) (settled parts (check_of parts modes g) g low passed p) f h in
     let few : p.total ≤ 1024 = ltb-false 1024 p.total given.0 in
     let room : Room (none_placed (is_variadic g.ty) passed) p = all_room parts modes low (all_marks (locals_of g) g.params) (none_placed (is_variadic g.ty) passed) few in
     let soft : p.soft ≡ f.soft = ap (λ z. z.soft) given.1 in

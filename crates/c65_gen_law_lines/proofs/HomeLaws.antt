@@ -21,7 +21,7 @@ use Rattle.c65_genframe.specs.Arrivals.{slots, Arrivals, arrive, with_slot, arri
 use Rattle.c65_genframe.specs.Sizes.{object_in, object_bytes, slot_bytes, bank_size, bank_bytes}
 use Rattle.c65_genframe.specs.Marks.{least, lowest, marked, no_marks, all_marks}
 use Rattle.c65_genframe.specs.Objects.{locals_of}
-use Rattle.c65_genframe.specs.Frames.{Framed, has_prototype, is_variadic, takes_stack, register_param, flat, home_at, arrival_at, arrival, is_kept, last_bytes, without_last, bytes_without, saved_bytes, first_arrivals, settled, passed_bytes, placed_in}
+use Rattle.c65_genframe.specs.Frames.{Framed, has_prototype, is_variadic, takes_stack, register_param, flat, home_at, arrival_at, arrival, is_kept, last_bytes, without_last, bytes_without, saved_bytes, first_arrivals, check_of, settled, passed_bytes, placed_in}
 use Rattle.c65_gen_law_lines.specs.Labels.{among}
 use Rattle.c65_gen_law_lines.specs.Homes.{next, in_bank, in_blocks, in_home, in_params}
 use Rattle.c65_gen_law_lines.specs.Laws.{HomesAreApart}
@@ -438,7 +438,7 @@ homes_are_apart parts modes g f h distinct x =
     let base : ℕ = p.soft + saved_bytes p.bank in
     let a : Arrivals = first_arrivals p (bytes_without kept passed (last_bytes parts prototype r)) in
     let b : Arrivals = arrived parts prototype low base (without_last kept g.params) a in
-    let given : (nat_lt 1024 p.total ≡ false) × (settled parts g low passed p ≡ f) = answered (nat_lt 1024 p.total) (large sizes.Frame p.total) (settled parts g low passed p) f h in
+    let given : (nat_lt 1024 p.total ≡ false) × (settled parts (check_of parts modes g) g low passed p ≡ f) = answered (nat_lt 1024 p.total) (large sizes.Frame p.total) (settled parts (check_of parts modes g) g low passed p) f h in
     let few : p.total ≤ 1024 = ltb-false 1024 p.total given.0 in
     let start : Places = none_placed (is_variadic g.ty) passed in
     let room : Room start p = all_room parts modes low marks start few in

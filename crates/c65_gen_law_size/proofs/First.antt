@@ -14,7 +14,7 @@ use Rattle.c65_genframe.specs.declared.modes.Modes.{Modes}
 use Rattle.c65_genframe.specs.Symbols.{numbers_of, function_symbol}
 use Rattle.c65_genframe.specs.Marks.{lowest}
 use Rattle.c65_genframe.specs.Objects.{locals_of}
-use Rattle.c65_genframe.specs.Frames.{Framed, frame_of, placed_in, passed_bytes, settled}
+use Rattle.c65_genframe.specs.Frames.{Framed, frame_of, placed_in, passed_bytes, check_of, settled}
 use Rattle.c65_genstmt.specs.Functions.{segment_of, function_of}
 use Rattle.c65_genstmt.specs.Programs.{one_more, functions_from, functions_of, code_of}
 use Rattle.c65_gen_law_size.specs.First.{HasFrame, IsFirst, TheFirstLargeFrameIsRefused, FramesAreRefusedAboveTheirLimit}
@@ -149,4 +149,4 @@ limit_passed false total f reason e h = absurd cc
 pub frames_are_refused_above_their_limit : FramesAreRefusedAboveTheirLimit
 frames_are_refused_above_their_limit parts modes g reason h =
     let p = placed_in parts modes g in
-    limit_passed (nat_lt 1024 p.total) p.total (settled parts g (lowest (locals_of g) g.params) (passed_bytes parts g) p) reason refl h
+    limit_passed (nat_lt 1024 p.total) p.total (settled parts (check_of parts modes g) g (lowest (locals_of g) g.params) (passed_bytes parts g) p) reason refl h

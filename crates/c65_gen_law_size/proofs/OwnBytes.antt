@@ -20,7 +20,7 @@ use Rattle.c65_genframe.specs.Arrivals.{slots}
 use Rattle.c65_genframe.specs.Sizes.{object_in, limited, elements, bytes_at, bytes_or, object_bytes, passed_bytes, slot_bytes, bank_bytes}
 use Rattle.c65_genframe.specs.Marks.{lowest, marked, no_marks, all_marks}
 use Rattle.c65_genframe.specs.Objects.{locals_of}
-use Rattle.c65_genframe.specs.Frames.{Framed, has_prototype, is_variadic, frame_of, placed_in, settled}
+use Rattle.c65_genframe.specs.Frames.{Framed, has_prototype, is_variadic, frame_of, placed_in, check_of, settled}
 use Rattle.c65_genframe.specs.Frames as frames
 use Rattle.std.specs.Prelude.{Ok}
 use Rattle.c65_gen_law_size.specs.Own.{is_among, is_own}
@@ -154,7 +154,7 @@ own_small parts modes g f i o h own low is = go (is_among g.params i) refl own
     p = placed_in parts modes g
 
     few : p.total ≤ 1024
-    few = ltb-false 1024 p.total (answered (nat_lt 1024 p.total) (large sizes.Frame p.total) (settled parts g (lowest (locals_of g) g.params) (frames.passed_bytes parts g) p) f h).0
+    few = ltb-false 1024 p.total (answered (nat_lt 1024 p.total) (large sizes.Frame p.total) (settled parts (check_of parts modes g) g (lowest (locals_of g) g.params) (frames.passed_bytes parts g) p) f h).0
 
     room : Room (none_placed (is_variadic g.ty) (frames.passed_bytes parts g)) p
     room = all_room parts modes (lowest (locals_of g) g.params) (all_marks (locals_of g) g.params) (none_placed (is_variadic g.ty) (frames.passed_bytes parts g)) few

@@ -16,7 +16,7 @@ use Rattle.c65_genframe.specs.Arrivals.{Arrivals, arrive, with_slot, arrived}
 use Rattle.c65_genframe.specs.Sizes.{object_in, object_bytes, slot_bytes, bank_bytes}
 use Rattle.c65_genframe.specs.Marks.{lowest, all_marks}
 use Rattle.c65_genframe.specs.Objects.{locals_of}
-use Rattle.c65_genframe.specs.Frames.{Framed, has_prototype, is_variadic, register_param, flat, home_at, arrival, is_kept, last_bytes, without_last, bytes_without, saved_bytes, first_arrivals, settled, passed_bytes, placed_in}
+use Rattle.c65_genframe.specs.Frames.{Framed, has_prototype, is_variadic, register_param, flat, home_at, arrival, is_kept, last_bytes, without_last, bytes_without, saved_bytes, first_arrivals, check_of, settled, passed_bytes, placed_in}
 use Rattle.c65_gen_law_size.specs.Own.{is_among, is_own, has_home, OwnObjectsHaveHomes}
 use Rattle.c65_gen_law_lines.proofs.FrameLaws.{Room, all_room, answered}
 use Rattle.c65_gen_law_size.proofs.Marked.{has_mark, bit, own_bit, none_below, params_span, locals_span, highest}
@@ -106,7 +106,7 @@ own_objects_have_homes parts modes g f i h =
     let base : ℕ = p.soft + saved_bytes p.bank in
     let a : Arrivals = first_arrivals p (bytes_without kept passed (last_bytes parts prototype (register_param g))) in
     let b : Arrivals = arrived parts prototype low base (without_last kept g.params) a in
-    let given : (nat_lt 1024 p.total ≡ false) × (settled parts g low passed p ≡ f) = answered (nat_lt 1024 p.total) (large sizes.Frame p.total) (settled parts g low passed p) f h in
+    let given : (nat_lt 1024 p.total ≡ false) × (settled parts (check_of parts modes g) g low passed p ≡ f) = answered (nat_lt 1024 p.total) (large sizes.Frame p.total) (settled parts (check_of parts modes g) g low passed p) f h in
     let few : p.total ≤ 1024 = ltb-false 1024 p.total given.0 in
     let same : map has_home b.homes ≡ map has_mark (all_marks (locals_of g) g.params) =
     arrived_homes parts prototype low base (without_last kept g.params) a ∙ placed_homes parts modes low (all_marks (locals_of g) g.params) (none_placed (is_variadic g.ty) passed) few in

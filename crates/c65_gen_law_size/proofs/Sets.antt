@@ -16,7 +16,7 @@ use Rattle.c65_csem.specs.Statements.{Context, looping, switching, IsStmt, AreSt
 use Rattle.c65_csem.specs.Units.{IsBody, IsFunc, HasBody, context_of}
 use Rattle.c65_genframe.specs.declared.modes.Modes.{Modes}
 use Rattle.c65_genframe.specs.Sizes.{object_in, bytes_at}
-use Rattle.c65_genframe.specs.Frames.{Framed, frame_of, type_bytes, settled, passed_bytes, placed_in}
+use Rattle.c65_genframe.specs.Frames.{Framed, frame_of, type_bytes, check_of, settled, passed_bytes, placed_in}
 use Rattle.c65_genframe.specs.Marks.{lowest}
 use Rattle.c65_genframe.specs.Objects.{locals_of}
 use Rattle.std.specs.Prelude.{nat_lt}
@@ -43,7 +43,7 @@ number_low parts i o few h = omega (arith, few, slice_get_within (map object_of 
 frame_parts : (parts : Parts) (modes : Modes) (g : FuncTy) (f : Framed) → frame_of parts modes g ≡ Ok f → parts ≡ f.parts
 frame_parts parts modes g f h =
     let p = placed_in parts modes g in
-    ap (λ (z : Framed). z.parts) (answered (nat_lt 1024 p.total) (large sizes.Frame p.total) (settled parts g (lowest (locals_of g) g.params) (passed_bytes parts g) p) f h).1
+    ap (λ (z : Framed). z.parts) (answered (nat_lt 1024 p.total) (large sizes.Frame p.total) (settled parts (check_of parts modes g) g (lowest (locals_of g) g.params) (passed_bytes parts g) p) f h).1
 
 -- where the function stands
 record Place (parts : Parts) (modes : Modes) (g : FuncTy) (f : Framed) : Type 0 where

@@ -20,7 +20,7 @@ use Rattle.c65_genframe.specs.Arrivals.{Arrivals, arrive, with_slot, arrived}
 use Rattle.c65_genframe.specs.Sizes.{object_in, object_bytes, slot_bytes, bank_bytes}
 use Rattle.c65_genframe.specs.Marks.{lowest, all_marks}
 use Rattle.c65_genframe.specs.Objects.{locals_of}
-use Rattle.c65_genframe.specs.Frames.{Framed, has_prototype, is_variadic, takes_stack, register_param, flat, home_at, home_of, arrival_at, arrival, is_kept, last_bytes, without_last, bytes_without, saved_bytes, first_arrivals, settled, passed_bytes, placed_in, frame_of}
+use Rattle.c65_genframe.specs.Frames.{Framed, has_prototype, is_variadic, takes_stack, register_param, flat, home_at, home_of, arrival_at, arrival, is_kept, last_bytes, without_last, bytes_without, saved_bytes, first_arrivals, check_of, settled, passed_bytes, placed_in, frame_of}
 use Rattle.c65_genentry.specs.Entry.{kept_code}
 use Rattle.c65_gen_law_stack.proofs.EntryWay.{IsOrderly}
 
@@ -163,7 +163,7 @@ frames_are_orderly parts modes g f h =
     let passed : ℕ = passed_bytes parts g in
     let prototype : Bool = has_prototype g.ty in
     let last : Arrival = arrival parts prototype low p.homes (register_param g) in
-    let given : (nat_lt 1024 p.total ≡ false) × (settled parts g low passed p ≡ f) = answered (nat_lt 1024 p.total) (large sizes.Frame p.total) (settled parts g low passed p) f h in
+    let given : (nat_lt 1024 p.total ≡ false) × (settled parts (check_of parts modes g) g low passed p ≡ f) = answered (nat_lt 1024 p.total) (large sizes.Frame p.total) (settled parts (check_of parts modes g) g low passed p) f h in
     let grows : Grows (none_placed (is_variadic g.ty) passed) p = all_grow parts modes low (all_marks (locals_of g) g.params) (none_placed (is_variadic g.ty) passed) in
     let arrivals : Arrivals = first_arrivals p (bytes_without (is_kept last) passed (last_bytes parts prototype (register_param g))) in
     let variadic : is_variadic g.ty ≡ f.variadic = ap (λ z. z.variadic) given.1 in
@@ -189,7 +189,7 @@ frames_without_bank parts modes g f h nothing i =
     let passed : ℕ = passed_bytes parts g in
     let prototype : Bool = has_prototype g.ty in
     let last : Arrival = arrival parts prototype low p.homes (register_param g) in
-    let given : (nat_lt 1024 p.total ≡ false) × (settled parts g low passed p ≡ f) = answered (nat_lt 1024 p.total) (large sizes.Frame p.total) (settled parts g low passed p) f h in
+    let given : (nat_lt 1024 p.total ≡ false) × (settled parts (check_of parts modes g) g low passed p ≡ f) = answered (nat_lt 1024 p.total) (large sizes.Frame p.total) (settled parts (check_of parts modes g) g low passed p) f h in
     let grows : Grows (none_placed (is_variadic g.ty) passed) p = all_grow parts modes low (all_marks (locals_of g) g.params) (none_placed (is_variadic g.ty) passed) in
     let arrivals : Arrivals = first_arrivals p (bytes_without (is_kept last) passed (last_bytes parts prototype (register_param g))) in
     let bank : p.bank ≡ f.bank = ap (λ z. z.bank) given.1 in

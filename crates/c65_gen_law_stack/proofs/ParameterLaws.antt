@@ -28,7 +28,7 @@ use Rattle.c65_genframe.specs.Sizes.{object_in, slot_bytes}
 use Rattle.c65_genframe.specs.Sizes as sizing
 use Rattle.c65_genframe.specs.Marks.{lowest, all_marks}
 use Rattle.c65_genframe.specs.Objects.{locals_of}
-use Rattle.c65_genframe.specs.Frames.{has_prototype, is_variadic, takes_stack, register_param, home_at, arrival_at, arrival, is_kept, last_bytes, bytes_without, settled, passed_bytes, placed_in}
+use Rattle.c65_genframe.specs.Frames.{has_prototype, is_variadic, takes_stack, register_param, home_at, arrival_at, arrival, is_kept, last_bytes, bytes_without, check_of, settled, passed_bytes, placed_in}
 use Rattle.c65_genload.specs.Conversions.{size_of}
 use Rattle.c65_genexpr.specs.Types.{kind_of, kind_in, bare}
 use Rattle.c65_genexpr.specs.Arguments.{stays}
@@ -233,7 +233,7 @@ calls_pass_what_is_taken parts modes g f es framed given =
     let low : ℕ = lowest (locals_of g) g.params in
     let passes : ℕ = passed_bytes parts g in
     let last : Arrival = arrival parts prototype low p.homes (register_param g) in
-    let answer = answered (nat_lt 1024 p.total) (large sizes.Frame p.total) (settled parts g low passes p) f framed in
+    let answer = answered (nat_lt 1024 p.total) (large sizes.Frame p.total) (settled parts (check_of parts modes g) g low passes p) f framed in
     let few : p.total ≤ 1024 = ltb-false 1024 p.total answer.0 in
     let room : Room (none_placed (is_variadic g.ty) passes) p = all_room parts modes low (all_marks (locals_of g) g.params) (none_placed (is_variadic g.ty) passes) few in
     let s : Same parts prototype es g.params = same parts prototype es g.params given in

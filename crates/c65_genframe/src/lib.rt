@@ -4,6 +4,7 @@
 
 mod arrive;
 mod body;
+mod check;
 mod frame;
 mod home;
 mod mark;
