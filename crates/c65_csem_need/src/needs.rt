@@ -33,7 +33,9 @@ pub fn need(e: &TExpr) -> u32
         TKind::Call(function, arguments) => {
             let callee: &TExpr = function;
             let given: &[TExpr] = arguments;
-            need(callee).max(need_of_all(given))
+            let a = need(callee);
+            let b = need_of_all(given);
+            a.max(b)
         }
     }
 }
@@ -45,15 +47,18 @@ fn beside(first: u32, second: u32) -> u32
     first.max(second.saturating_add(1))
 }
 
-// The function's address or nothing waits below them, and each argument while the later ones are evaluated.
+// The function's address may wait below the arguments, and each waits while the later ones are evaluated.
 #[cycle(need)]
 fn need_of_all(es: &[TExpr]) -> u32
     ensures { result ≡ min (need_of_all (nodes_of es.now)) 4294967295 }
 {
-    match es {
-        [] => 0,
-        [first, rest @ ..] => need(first).max(need_of_all(rest)).saturating_add(1),
+    let mut most: u32 = 0;
+    let mut waiting: u32 = 0;
+    for e in es {
+        waiting = waiting.saturating_add(1);
+        most = most.max(waiting.saturating_add(need(e)));
     }
+    most
 }
 
 fn need_if(e: &Option<TExpr>) -> u32
@@ -98,8 +103,9 @@ pub fn greatest_need(stmt: &TStmt) -> u32
 fn greatest_need_of_all(stmts: &[TStmt]) -> u32
     ensures { result ≡ min (greatest_need_of_all (stmts_of stmts.now)) 4294967295 }
 {
-    match stmts {
-        [] => 0,
-        [first, rest @ ..] => greatest_need(first).max(greatest_need_of_all(rest)),
+    let mut most: u32 = 0;
+    for stmt in stmts {
+        most = most.max(greatest_need(stmt));
     }
+    most
 }
