@@ -83,9 +83,7 @@ pub fn greatest_need(stmt: &TStmt) -> u32
             let inner: &[TStmt] = stmts;
             greatest_need_of_all(inner)
         }
-        TStmt::If(e, then, other) => {
-            need(e).max(greatest_need(then).max(greatest_need(other)))
-        }
+        TStmt::If(e, then, other) => { need(e).max(greatest_need(then).max(greatest_need(other))) }
         TStmt::While(e, body) | TStmt::Switch(e, body) => need(e).max(greatest_need(body)),
         TStmt::DoWhile(body, e) => greatest_need(body).max(need(e)),
         TStmt::For(first, test, next, body) => {

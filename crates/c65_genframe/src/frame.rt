@@ -245,7 +245,16 @@ impl<'a> Frame<'a> {
             });
         }
         let check = check_of(parts, function, &locals, modes);
-        let frame = arranged(alloc, parts, numbers, function, low, passed as u16, placed, check)?;
+        let frame = arranged(
+            alloc,
+            parts,
+            numbers,
+            function,
+            low,
+            passed as u16,
+            placed,
+            check,
+        )?;
         Ok(frame)
     }
 
