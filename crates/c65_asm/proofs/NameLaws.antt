@@ -294,6 +294,7 @@ routine_word routines.ULongAx = refl
 routine_word routines.SaveRegs = refl
 routine_word routines.RestRegs = refl
 routine_word routines.CallPtr4 = refl
+routine_word routines.StkChk = refl
 routine_word routines.Start = refl
 routine_word routines.StartArgs = refl
 routine_word (routines.Library x) = library_word x

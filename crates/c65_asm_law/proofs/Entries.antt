@@ -17,7 +17,7 @@ use Rattle.c65_genwide.specs.Lines.{value, call}
 use Rattle.c65_genentry.specs.Words.{sp, tmp1, tmp2, ptr1, ptr2, regbank, implied, zero_page, by_y, branch}
 use Rattle.c65_genentry.specs.Stack.{count_of, raise_by, lower_by, small_raise, small_lower, repeated, raise_code, lower_code}
 use Rattle.c65_genentry.specs.Ends.{restored_code, plain_end, variadic_end, end_code}
-use Rattle.c65_genentry.specs.Entry.{pushed_code, bank_store, kept_code, saved_code, counted_code, count_code, near_load, far_load, load_code, moved_code, all_moved, taken_bytes, entry_code}
+use Rattle.c65_genentry.specs.Entry.{pushed_code, bank_store, kept_code, saved_code, counted_code, count_code, near_load, far_load, load_code, moved_code, all_moved, taken_bytes, checked_code, taking_code, entry_code}
 use Rattle.c65_genentry.specs.Pointers as pointers
 use Rattle.c65_genentry.specs.Bytes.{page_code, pages_code, rest_code, rest_labels, block_code, block_labels}
 use Rattle.c65_genentry.specs.Bytes as blocks
@@ -89,11 +89,18 @@ moved_well : (n : ℕ) (ms : List Moved) → Near 2055 ms → AllWell n (all_mov
 moved_well n [] near = well_none n
 moved_well n (m ∷ ms) near = well_append n (moved_code m) (all_moved ms) (well_append n (load_code m.from m.bytes) (bank_store m.bank m.bytes) (load_when n m.from m.bytes (nat_lt m.from 255) refl (omega (arith, near.0))) (bank_store_well n m.bank m.bytes)) (moved_well n ms near.1)
 
-pub entry_well : (n : ℕ) (f : Framed) → Near 2055 f.moved → AllWell n (entry_code f)
-entry_well n f near =
+checked_well : (n : ℕ) (check : Option ℕ) → AllWell n (checked_code check)
+checked_well n None = well_none n
+checked_well n (Some c) = record { all = search rules }
+
+taking_well : (n : ℕ) (f : Framed) → Near 2055 f.moved → AllWell n (taking_code f)
+taking_well n f near =
     let counted : AllWell n (counted_code f.variadic) = well_if n f.variadic (implied Tya ∷ []) [] (record { all = ((tt, tt), tt) }) (well_none n) in
     let count : AllWell n (count_code f.variadic) = well_if n f.variadic (call PushA ∷ []) [] (record { all = (tt, tt) }) (well_none n) in
     well_append n (pushed_code f.last) _ (pushed_well n f.last) (well_append n (counted_code f.variadic) _ counted (well_append n (saved_code f.bank) _ (saved_well n f.bank) (well_append n (kept_code f.last) _ (kept_well n f.last) (well_append n (lower_code (taken_bytes f.variadic f.soft)) _ (lower_well n (taken_bytes f.variadic f.soft)) (well_append n (count_code f.variadic) (all_moved f.moved) count (moved_well n f.moved near))))))
+
+pub entry_well : (n : ℕ) (f : Framed) → Near 2055 f.moved → AllWell n (entry_code f)
+entry_well n f near = well_append n (checked_code f.check) (taking_code f) (checked_well n f.check) (taking_well n f near)
 
 restored_well : (n bank : ℕ) → AllWell n (restored_code bank)
 restored_well n bank = well_if n (nat_lt 0 bank) (call RestRegs ∷ []) [] (record { all = (tt, tt) }) (well_none n)

@@ -18,8 +18,9 @@ use Rattle.c65_code.specs.declared.line.Sym.{Sym}
 use Rattle.c65_code.specs.declared.parts.RegSet.{RegSet}
 use Rattle.c65_code.specs.Segments.{Segment, Drafted, IsSegment}
 use Rattle.c65_code.specs.Writable.{IsLetters}
+use Rattle.c65_genframe.specs.declared.modes.Modes.{Modes}
 use Rattle.c65_genframe.specs.Symbols.{numbers_of, function_symbol}
-use Rattle.c65_genframe.specs.Frames.{Framed, frame_of, settled, passed_bytes, placed_in}
+use Rattle.c65_genframe.specs.Frames.{Framed, frame_of, check_of, settled, passed_bytes, placed_in}
 use Rattle.c65_genframe.specs.Marks.{lowest}
 use Rattle.c65_genframe.specs.Objects.{locals_of}
 use Rattle.c65_genframe.specs.Places.{Places}
@@ -126,17 +127,17 @@ ran f body out = with_stmt f (ways 0 0 0) 0 body (entered f body out)
 abbrev ended : Framed → Bool → Stmt → RegSet → Drafted
 ended f is_main body out = with_label 0 (with_lines (ran f body out) (main_code is_main))
 
-frame_parts : (parts : Parts) (honoured : Bool) (g : FuncTy) (f : Framed) → frame_of parts honoured g ≡ Ok f → f.parts ≡ parts
-frame_parts parts honoured g f h =
-    let p : Places = placed_in parts honoured g in
-    let given : (nat_lt 1024 p.total ≡ false) × (settled parts g (lowest (locals_of g) g.params) (passed_bytes parts g) p ≡ f) = answered (nat_lt 1024 p.total) (large sizes.Frame p.total) (settled parts g (lowest (locals_of g) g.params) (passed_bytes parts g) p) f h in
+frame_parts : (parts : Parts) (modes : Modes) (g : FuncTy) (f : Framed) → frame_of parts modes g ≡ Ok f → f.parts ≡ parts
+frame_parts parts modes g f h =
+    let p : Places = placed_in parts modes g in
+    let given : (nat_lt 1024 p.total ≡ false) × (settled parts (check_of parts modes g) g (lowest (locals_of g) g.params) (passed_bytes parts g) p ≡ f) = answered (nat_lt 1024 p.total) (large sizes.Frame p.total) (settled parts (check_of parts modes g) g (lowest (locals_of g) g.params) (passed_bytes parts g) p) f h in
     sym (ap (λ z. z.parts) given.1)
 
-body_well : (n : ℕ) (u : UnitTy) (parts : Parts) (honoured : Bool) (g : FuncTy) (body : Stmt) (f : Framed) (is_main : Bool) (out : RegSet) → Knows f u n → IsBody u g body → frame_of parts honoured g ≡ Ok f
+body_well : (n : ℕ) (u : UnitTy) (parts : Parts) (modes : Modes) (g : FuncTy) (body : Stmt) (f : Framed) (is_main : Bool) (out : RegSet) → Knows f u n → IsBody u g body → frame_of parts modes g ≡ Ok f
     → (with_function f is_main (Some body) (no_lines out)).labels < 2 ^ 32 → AllWell n (with_function f is_main (Some body) (no_lines out)).lines
-body_well n u parts honoured g body f is_main out knows well framed few =
+body_well n u parts modes g body f is_main out knows well framed few =
     let m1 : Drafted = ran f body out in
-    let h0 : AllWell n (entered f body out).lines = entry_well n f (frames_move parts honoured g f framed) in
+    let h0 : AllWell n (entered f body out).lines = entry_well n f (frames_move parts modes g f framed) in
     let h1 : AllWell n m1.lines = stmt_well n u (context_of g body) f (ways 0 0 0) 0 body (entered f body out) knows well.typed (record { behind = omega arith; onward = omega arith; other = omega arith }) (omega arith) few h0 in
     let h2 : AllWell n (with_lines m1 (main_code is_main)).lines = well_append n m1.lines (main_code is_main) h1 (main_well n is_main) in
     let h3 : AllWell n (ended f is_main body out).lines = well_append n (with_lines m1 (main_code is_main)).lines (Label 0 ∷ []) h2 (record { all = (omega arith, tt) }) in
@@ -159,17 +160,17 @@ answer : {A : Type 0} (x y : A) → ◌≡◌ {A = Result A Fault} (Ok x) (Ok y)
 answer x y h = cc
 
 -- a segment that is made of a body
-segment_well : (n : ℕ) (parts : Parts) (is_main honoured : Bool) (g : FuncTy) (body : Stmt) (s : Segment) (name : Sym) → KnowsBy (numbers_of parts) (unit_of parts) n → g.body ≡ Some body → IsBody (unit_of parts) g body → name.0 < n
-    → ((f : Framed) → frame_of parts honoured g ≡ Ok f → (with_function f is_main g.body (no_lines (gives_of parts g))).labels < 2 ^ 32) → function_of parts is_main honoured g ≡ Ok s → WellFunction n (name, s)
+segment_well : (n : ℕ) (parts : Parts) (is_main : Bool) (modes : Modes) (g : FuncTy) (body : Stmt) (s : Segment) (name : Sym) → KnowsBy (numbers_of parts) (unit_of parts) n → g.body ≡ Some body → IsBody (unit_of parts) g body → name.0 < n
+    → ((f : Framed) → frame_of parts modes g ≡ Ok f → (with_function f is_main g.body (no_lines (gives_of parts g))).labels < 2 ^ 32) → function_of parts is_main modes g ≡ Ok s → WellFunction n (name, s)
 unfolding function_of
-segment_well n parts is_main honoured g body s name knows there well known few h =
-    let made : (f : Framed) × (frame_of parts honoured g ≡ Ok f) × (◌≡◌ {A = Result Segment Fault} (Ok (segment_of parts is_main g f)) (Ok s)) = bound (frame_of parts honoured g) (λ f. Ok (segment_of parts is_main g f)) s h in
+segment_well n parts is_main modes g body s name knows there well known few h =
+    let made : (f : Framed) × (frame_of parts modes g ≡ Ok f) × (◌≡◌ {A = Result Segment Fault} (Ok (segment_of parts is_main g f)) (Ok s)) = bound (frame_of parts modes g) (λ f. Ok (segment_of parts is_main g f)) s h in
     let f : Framed = made.0 in
     let out : RegSet = gives_of parts g in
     let same : segment_of parts is_main g f ≡ s = answer (segment_of parts is_main g f) s made.2 in
     let labels : (with_function f is_main (Some body) (no_lines out)).labels < 2 ^ 32 = subst (λ (b : Option Stmt). (with_function f is_main b (no_lines out)).labels < 2 ^ 32) there (few f made.1) in
-    let knows_here : Knows f (unit_of parts) n = subst (λ (p : Parts). KnowsBy (numbers_of p) (unit_of parts) n) (sym (frame_parts parts honoured g f made.1)) knows in
-    let lines : AllWell n (with_function f is_main (Some body) (no_lines out)).lines = body_well n (unit_of parts) parts honoured g body f is_main out knows_here well made.1 labels in
+    let knows_here : Knows f (unit_of parts) n = subst (λ (p : Parts). KnowsBy (numbers_of p) (unit_of parts) n) (sym (frame_parts parts modes g f made.1)) knows in
+    let lines : AllWell n (with_function f is_main (Some body) (no_lines out)).lines = body_well n (unit_of parts) parts modes g body f is_main out knows_here well made.1 labels in
     let segment : IsSegment (with_function f is_main (Some body) (no_lines out)).lines = functions_are_segments (unit_of parts) g body f is_main out well (omega (arith, labels)) in
     let gives : IsLetters (with_function f is_main (Some body) (no_lines out)).out = subst IsLetters (sym (stmt_out f (ways 0 0 0) 0 body (entered f body out))) (registers_letters (bytes_or (types_of parts.types) (type_in (result_of g.ty)) 0)) in
     let whole : WellFunction n (name, record { lines = (with_function f is_main (Some body) (no_lines out)).lines; out = (with_function f is_main (Some body) (no_lines out)).out }) = record { known = known; gives = gives; lines = lines; segment = segment } in
@@ -188,32 +189,32 @@ pub record AreFunctions (n lo hi : ℕ) (fs : List (Sym × Segment)) : Type 0 wh
 abbrev first : Parts → ℕ
 first parts = length parts.objects.items + length parts.literals.items
 
-one_well : (n : ℕ) (parts : Parts) (is_main honoured : Bool) (i : ℕ) (g : FuncTy) (b : Option Stmt) (fs out : List (Sym × Segment)) → KnowsBy (numbers_of parts) (unit_of parts) n → first parts + suc i ≤ n → n ≤ 2 ^ 32 → g.body ≡ b → HasBody (unit_of parts) g b
-    → ((f : Framed) → frame_of parts honoured g ≡ Ok f → (with_function f is_main g.body (no_lines (gives_of parts g))).labels < 2 ^ 32)
-    → one_more parts is_main honoured (function_symbol (numbers_of parts) i) g b fs ≡ Ok out → AreFunctions n (first parts) (first parts + i) fs → AreFunctions n (first parts) (first parts + suc i) out
-one_well n parts is_main honoured i g None fs out knows room most there has few h all =
+one_well : (n : ℕ) (parts : Parts) (is_main : Bool) (modes : Modes) (i : ℕ) (g : FuncTy) (b : Option Stmt) (fs out : List (Sym × Segment)) → KnowsBy (numbers_of parts) (unit_of parts) n → first parts + suc i ≤ n → n ≤ 2 ^ 32 → g.body ≡ b → HasBody (unit_of parts) g b
+    → ((f : Framed) → frame_of parts modes g ≡ Ok f → (with_function f is_main g.body (no_lines (gives_of parts g))).labels < 2 ^ 32)
+    → one_more parts is_main modes (function_symbol (numbers_of parts) i) g b fs ≡ Ok out → AreFunctions n (first parts) (first parts + i) fs → AreFunctions n (first parts) (first parts + suc i) out
+one_well n parts is_main modes i g None fs out knows room most there has few h all =
     let wider : AreFunctions n (first parts) (first parts + suc i) fs = record { well = all.well; rises = rises_wider key (first parts) (first parts + i) (first parts + suc i) fs (omega arith) all.rises } in
     subst (AreFunctions n (first parts) (first parts + suc i)) (answer fs out h) wider
-one_well n parts is_main honoured i g (Some body) fs out knows room most there has few h all =
+one_well n parts is_main modes i g (Some body) fs out knows room most there has few h all =
     let s : Sym = function_symbol (numbers_of parts) i in
-    let made : (z : Segment) × (function_of parts is_main honoured g ≡ Ok z) × (◌≡◌ {A = Result (List (Sym × Segment)) Fault} (Ok (fs ++ (s, z) ∷ [])) (Ok out)) = bound (function_of parts is_main honoured g) (λ z. Ok (fs ++ (s, z) ∷ [])) out h in
+    let made : (z : Segment) × (function_of parts is_main modes g ≡ Ok z) × (◌≡◌ {A = Result (List (Sym × Segment)) Fault} (Ok (fs ++ (s, z) ∷ [])) (Ok out)) = bound (function_of parts is_main modes g) (λ z. Ok (fs ++ (s, z) ∷ [])) out h in
     let at : s.0 ≡ first parts + i = omega (arith, room, most) in
-    let here : WellFunction n (s, made.0) = segment_well n parts is_main honoured g body made.0 s knows there has (omega (arith, at, room)) few made.1 in
+    let here : WellFunction n (s, made.0) = segment_well n parts is_main modes g body made.0 s knows there has (omega (arith, at, room)) few made.1 in
     let more : AreFunctions n (first parts) (first parts + suc i) (fs ++ (s, made.0) ∷ []) = record {
       well = every_append (WellFunction n) fs ((s, made.0) ∷ []) all.well (here, tt);
       rises = rises_more key (first parts) (first parts + i) (first parts + suc i) fs (s, made.0) all.rises (omega (arith, at)) (omega (arith, at));
     } in
     subst (AreFunctions n (first parts) (first parts + suc i)) (answer (fs ++ (s, made.0) ∷ []) out made.2) more
 
-pub functions_well : (n : ℕ) (parts : Parts) (main : ℕ) (honoured : Bool) (i : ℕ) (gs : List TFunc) (fs out : List (Sym × Segment)) → KnowsBy (numbers_of parts) (unit_of parts) n → first parts + i + length gs ≤ n → n ≤ 2 ^ 32 → Every (λ g. IsFunc (unit_of parts) (func_of g)) gs
-    → ((k : ℕ) (g : TFunc) → slice_get parts.funcs.items k ≡ Some g → UsesFewLabels parts main honoured k (func_of g)) → IsRest parts.funcs.items i gs
-    → functions_from parts main honoured i gs fs ≡ Ok out → AreFunctions n (first parts) (first parts + i) fs → AreFunctions n (first parts) (first parts + i + length gs) out
-functions_well n parts main honoured i [] fs out knows room most typed few rest h all =
+pub functions_well : (n : ℕ) (parts : Parts) (main : ℕ) (modes : Modes) (i : ℕ) (gs : List TFunc) (fs out : List (Sym × Segment)) → KnowsBy (numbers_of parts) (unit_of parts) n → first parts + i + length gs ≤ n → n ≤ 2 ^ 32 → Every (λ g. IsFunc (unit_of parts) (func_of g)) gs
+    → ((k : ℕ) (g : TFunc) → slice_get parts.funcs.items k ≡ Some g → UsesFewLabels parts main modes k (func_of g)) → IsRest parts.funcs.items i gs
+    → functions_from parts main modes i gs fs ≡ Ok out → AreFunctions n (first parts) (first parts + i) fs → AreFunctions n (first parts) (first parts + i + length gs) out
+functions_well n parts main modes i [] fs out knows room most typed few rest h all =
     let wider : AreFunctions n (first parts) (first parts + i + 0) fs = record { well = all.well; rises = rises_wider key (first parts) (first parts + i) (first parts + i + 0) fs (omega arith) all.rises } in
     subst (AreFunctions n (first parts) (first parts + i + 0)) (answer fs out h) wider
-functions_well n parts main honoured i (g ∷ gs) fs out knows room most typed few rest h all =
-    let made : (x : List (Sym × Segment)) × (function_added parts main honoured i (func_of g) fs ≡ Ok x) × (functions_from parts main honoured (suc i) gs x ≡ Ok out) = bound (function_added parts main honoured i (func_of g) fs) (functions_from parts main honoured (suc i) gs) out h in
+functions_well n parts main modes i (g ∷ gs) fs out knows room most typed few rest h all =
+    let made : (x : List (Sym × Segment)) × (function_added parts main modes i (func_of g) fs ≡ Ok x) × (functions_from parts main modes (suc i) gs x ≡ Ok out) = bound (function_added parts main modes i (func_of g) fs) (functions_from parts main modes (suc i) gs) out h in
     let next : List (Sym × Segment) = made.0 in
-    let here : AreFunctions n (first parts) (first parts + suc i) next = one_well n parts (i == main) honoured i (func_of g) (func_of g).body fs next knows (omega (arith, room)) most refl typed.0.body (few i g (rest_first parts.funcs.items i g gs rest)) made.1 all in
-    let rest_well : AreFunctions n (first parts) (first parts + suc i + length gs) out = functions_well n parts main honoured (suc i) gs next out knows (omega (arith, room)) most typed.1 few (rest_next parts.funcs.items i g gs rest) made.2 here in
+    let here : AreFunctions n (first parts) (first parts + suc i) next = one_well n parts (i == main) modes i (func_of g) (func_of g).body fs next knows (omega (arith, room)) most refl typed.0.body (few i g (rest_first parts.funcs.items i g gs rest)) made.1 all in
+    let rest_well : AreFunctions n (first parts) (first parts + suc i + length gs) out = functions_well n parts main modes (suc i) gs next out knows (omega (arith, room)) most typed.1 few (rest_next parts.funcs.items i g gs rest) made.2 here in
     record { well = rest_well.well; rises = rises_wider key (first parts) (first parts + suc i + length gs) (first parts + i + suc (length gs)) out (omega arith) rest_well.rises }

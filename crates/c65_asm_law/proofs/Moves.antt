@@ -7,6 +7,7 @@ use Rattle.c65_base.specs.Answers.{large}
 use Rattle.c65_ctype.specs.Views.{types_of}
 use Rattle.c65_csem.specs.declared.items.Parts.{Parts}
 use Rattle.c65_csem.specs.Trees.{FuncTy}
+use Rattle.c65_genframe.specs.declared.modes.Modes.{Modes}
 use Rattle.c65_genframe.specs.declared.home.Home.{Home}
 use Rattle.c65_genframe.specs.declared.home.Home.TheVariants.{Bank, Soft}
 use Rattle.c65_genframe.specs.declared.home.Arrival.{Arrival}
@@ -16,7 +17,7 @@ use Rattle.c65_genframe.specs.Objects.{locals_of}
 use Rattle.c65_genframe.specs.Places.{Places, none_placed}
 use Rattle.c65_genframe.specs.Sizes.{object_in, slot_bytes, bank_bytes}
 use Rattle.c65_genframe.specs.Arrivals.{Arrivals, arrive, with_slot, arrived}
-use Rattle.c65_genframe.specs.Frames.{Framed, has_prototype, is_variadic, register_param, arrival, is_kept, last_bytes, without_last, bytes_without, saved_bytes, first_arrivals, settled, passed_bytes, placed_in, frame_of}
+use Rattle.c65_genframe.specs.Frames.{Framed, has_prototype, is_variadic, register_param, arrival, is_kept, last_bytes, without_last, bytes_without, saved_bytes, first_arrivals, check_of, settled, passed_bytes, placed_in, frame_of}
 use Rattle.c65_gen_law_lines.proofs.FrameLaws.{Room, all_room, answered}
 use Rattle.c65_asm_law.proofs.Entries.{Near}
 
@@ -57,15 +58,15 @@ saved_few bank true = omega arith
 saved_few bank false = omega arith
 
 -- at most 1,024 bytes of parameters, 1,025 of the frame, and 6 for regbank
-pub frames_move : (parts : Parts) (honoured : Bool) (g : FuncTy) (f : Framed) → frame_of parts honoured g ≡ Ok f → Near 2055 f.moved
-frames_move parts honoured g f h =
-    let p : Places = placed_in parts honoured g in
+pub frames_move : (parts : Parts) (modes : Modes) (g : FuncTy) (f : Framed) → frame_of parts modes g ≡ Ok f → Near 2055 f.moved
+frames_move parts modes g f h =
+    let p : Places = placed_in parts modes g in
     let low : ℕ = lowest (locals_of g) g.params in
     let passed : ℕ = passed_bytes parts g in
     let last : Arrival = arrival parts (has_prototype g.ty) low p.homes (register_param g) in
     let stacked : ℕ = bytes_without (is_kept last) passed (last_bytes parts (has_prototype g.ty) (register_param g)) in
-    let given : (nat_lt 1024 p.total ≡ false) × (settled parts g low passed p ≡ f) = answered (nat_lt 1024 p.total) (large sizes.Frame p.total) (settled parts g low passed p) f h in
+    let given : (nat_lt 1024 p.total ≡ false) × (settled parts (check_of parts modes g) g low passed p ≡ f) = answered (nat_lt 1024 p.total) (large sizes.Frame p.total) (settled parts (check_of parts modes g) g low passed p) f h in
     let few : p.total ≤ 1024 = ltb-false 1024 p.total given.0 in
-    let room : Room (none_placed (is_variadic g.ty) passed) p = all_room parts honoured low (all_marks (locals_of g) g.params) (none_placed (is_variadic g.ty) passed) few in
-    let all : Near 2055 (settled parts g low passed p).moved = arrived_near parts (has_prototype g.ty) low (p.soft + saved_bytes p.bank) 2055 (without_last (is_kept last) g.params) (first_arrivals p stacked) (omega (arith, few, room.few, room.soft, first_few (is_variadic g.ty), saved_few p.bank (nat_lt 0 p.bank), fewer_bytes (is_kept last) passed (last_bytes parts (has_prototype g.ty) (register_param g)))) tt in
+    let room : Room (none_placed (is_variadic g.ty) passed) p = all_room parts modes low (all_marks (locals_of g) g.params) (none_placed (is_variadic g.ty) passed) few in
+    let all : Near 2055 (settled parts (check_of parts modes g) g low passed p).moved = arrived_near parts (has_prototype g.ty) low (p.soft + saved_bytes p.bank) 2055 (without_last (is_kept last) g.params) (first_arrivals p stacked) (omega (arith, few, room.few, room.soft, first_few (is_variadic g.ty), saved_few p.bank (nat_lt 0 p.bank), fewer_bytes (is_kept last) passed (last_bytes parts (has_prototype g.ty) (register_param g)))) tt in
     subst (λ (z : Framed). Near 2055 z.moved) given.1 all

@@ -18,6 +18,7 @@ use Rattle.c65_code.specs.declared.code.DataCell.{DataCell}
 use Rattle.c65_code.specs.declared.code.DataCell.TheVariants.{Byte, Address}
 use Rattle.c65_code.specs.Segments.{Segment}
 use Rattle.c65_code.specs.Writable.{IsWritable, IsLineWritable, IsOperandKnown, IsCellKnown}
+use Rattle.c65_genframe.specs.declared.modes.Modes.{Modes}
 use Rattle.c65_genframe.specs.Symbols.{numbers_of}
 use Rattle.c65_gendata.specs.Symbols.{symbols_of}
 use Rattle.c65_gendata.specs.Data.{data_of}
@@ -105,17 +106,17 @@ bound (Err e) k y h = absurd cc
 answer : {A : Type 0} (x y : A) → ◌≡◌ {A = Result A Fault} (Ok x) (Ok y) → x ≡ y
 answer x y h = cc
 
-made : (parts : Parts) (main : ℕ) (names : List (List ℕ)) (honoured : Bool) (code : Code) → IsPrintable names parts main honoured → program_of parts main names honoured ≡ Ok code → IsMade names parts main code
-made parts main names honoured code named h =
+made : (parts : Parts) (main : ℕ) (names : List (List ℕ)) (modes : Modes) (code : Code) → IsPrintable names parts main modes → program_of parts main names modes ≡ Ok code → IsMade names parts main code
+made parts main names modes code named h =
     let n : ℕ = length (symbols_of names parts) in
     let first : ℕ = length parts.objects.items + length parts.literals.items in
     let count : n ≡ first + length parts.funcs.items = symbols_count names parts in
     let few : n ≤ 2 ^ 32 = omega (arith, count, named.numbers.items) in
     let knows : KnowsBy (numbers_of parts) (unit_of parts) n = knows_parts n parts count in
-    let two : (fs : List (Sym × Segment)) × (functions_of parts main honoured ≡ Ok fs) × (◌≡◌ {A = Result Code Fault} (Ok (code_of parts main names fs)) (Ok code)) = bound (functions_of parts main honoured) (λ fs. Ok (code_of parts main names fs)) code h in
+    let two : (fs : List (Sym × Segment)) × (functions_of parts main modes ≡ Ok fs) × (◌≡◌ {A = Result Code Fault} (Ok (code_of parts main names fs)) (Ok code)) = bound (functions_of parts main modes) (λ fs. Ok (code_of parts main names fs)) code h in
     let none : AreFunctions n first (first + 0) [] = record { well = tt; rises = omega arith } in
     let typed : Every (λ g. IsFunc (unit_of parts) (func_of g)) parts.funcs.items = every_map (IsFunc (unit_of parts)) func_of parts.funcs.items (every_all (IsFunc (unit_of parts)) (map func_of parts.funcs.items) named.unit.funcs) in
-    let functions : AreFunctions n first (first + 0 + length parts.funcs.items) two.0 = functions_well n parts main honoured 0 parts.funcs.items [] two.0 knows (omega (arith, count)) few typed named.numbers.labels (rest_whole parts.funcs.items) two.1 none in
+    let functions : AreFunctions n first (first + 0 + length parts.funcs.items) two.0 = functions_well n parts main modes 0 parts.funcs.items [] two.0 knows (omega (arith, count)) few typed named.numbers.labels (rest_whole parts.funcs.items) two.1 none in
     let end : first + 0 + length parts.funcs.items ≡ n = omega (arith, count) in
     record {
       functions = two.0;
@@ -126,8 +127,8 @@ made parts main names honoured code named h =
 
 -- ---- the laws
 
-writable : (names : List (List ℕ)) (parts : Parts) (main : ℕ) (honoured : Bool) (code : Code) → IsPrintable names parts main honoured → (m : IsMade names parts main code) → IsWritable (code_of parts main names m.functions)
-writable names parts main honoured code named m =
+writable : (names : List (List ℕ)) (parts : Parts) (main : ℕ) (modes : Modes) (code : Code) → IsPrintable names parts main modes → (m : IsMade names parts main code) → IsWritable (code_of parts main names m.functions)
+writable names parts main modes code named m =
     let n : ℕ = length (symbols_of names parts) in
     let first : ℕ = length parts.objects.items + length parts.literals.items in
     let few : n ≤ 2 ^ 32 = omega (arith, symbols_count names parts, named.numbers.items) in
@@ -157,11 +158,11 @@ of_types names parts main code m =
     }
 
 pub programs_are_writable : ProgramsAreWritable
-programs_are_writable parts main names honoured code named h =
-    let m : IsMade names parts main code = made parts main names honoured code named h in
-    (subst IsWritable m.is (writable names parts main honoured code named m), subst IsOfTypes m.is (of_types names parts main code m))
+programs_are_writable parts main names modes code named h =
+    let m : IsMade names parts main code = made parts main names modes code named h in
+    (subst IsWritable m.is (writable names parts main modes code named m), subst IsOfTypes m.is (of_types names parts main code m))
 
 pub programs_read_back : ProgramsReadBack
-programs_read_back parts main names honoured code named h =
-    let both : IsWritable code × IsOfTypes code = programs_are_writable parts main names honoured code named h in
+programs_read_back parts main names modes code named h =
+    let both : IsWritable code × IsOfTypes code = programs_are_writable parts main names modes code named h in
     text_read code both.0 both.1

@@ -147,6 +147,7 @@ own_name routines.ULongAx = refl
 own_name routines.SaveRegs = refl
 own_name routines.RestRegs = refl
 own_name routines.CallPtr4 = refl
+own_name routines.StkChk = refl
 own_name routines.Start = refl
 own_name routines.StartArgs = refl
 own_name (routines.Library x) = own_library x

@@ -144,6 +144,7 @@ routines_are_numbered routines.ULongAx = refl
 routines_are_numbered routines.SaveRegs = refl
 routines_are_numbered routines.RestRegs = refl
 routines_are_numbered routines.CallPtr4 = refl
+routines_are_numbered routines.StkChk = refl
 routines_are_numbered routines.HookOpen = refl
 routines_are_numbered routines.HookClose = refl
 routines_are_numbered routines.HookRead = refl

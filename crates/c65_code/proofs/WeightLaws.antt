@@ -1,5 +1,5 @@
 -- What moves weigh, and what they leave open.
-use Rattle.std.proofs.Common.{◌≡◌, ℕ, zero, suc, ◌≤◌, ◌||◌, true, false, IsTrue, List, [], ◌∷◌, Option, Some, None, refl, sym, ◌∙◌, ap, subst, arith, lit≤}
+use Rattle.std.proofs.Common.{◌≡◌, ℕ, zero, suc, ◌≤◌, ◌||◌, Bool, true, false, IsTrue, List, [], ◌∷◌, Option, Some, None, refl, sym, ◌∙◌, ap, subst, arith, lit≤}
 use Rattle.c65_code.specs.declared.parts.Part.{Part}
 use Rattle.c65_code.specs.declared.parts.Part.TheVariants as parts
 use Rattle.c65_code.specs.declared.routine.Width.{Width}
@@ -18,7 +18,7 @@ use Rattle.c65_code.specs.LineState.{State, sp_of, Same}
 use Rattle.c65_code.specs.Placement.{Setting}
 use Rattle.c65_code.specs.Forms.{Form, Mark, Plain, Branch, Jump, Far, Push, Pull, Depth, Return, Run, Enter, Through, Stray, form_of}
 use Rattle.c65_code.specs.Numbers.{tos_result, result_width}
-use Rattle.c65_code.specs.Rows.{Row, Gives, row_of, row_by, costing, popping, giving_if, number_at, size_of, primary_of, tos_cost, read_row}
+use Rattle.c65_code.specs.Rows.{Row, Gives, row_of, row_by, is_too_deep, check_row, costing, popping, giving_if, number_at, size_of, primary_of, tos_cost, read_row}
 use Rattle.c65_code.specs.Moves.{Enters, Calls}
 use Rattle.c65_code.specs.Weights.{row_cost, call_weight, Weighs}
 use Rattle.c65_code.specs.LineLaws.{RunsWeigh, LeavesAOpen, CallsLeaveYOpen, with_a, with_y}
@@ -89,6 +89,10 @@ library_costs Strcmp t = omega arith
 library_costs Strcpy t = omega arith
 library_costs Strlen t = omega arith
 
+check_costs : (deep : Bool) (t : State) → 1 ≤ (check_row deep (costing 256 (row_by routines.StkChk t))).cost
+check_costs true t = lit≤ tt
+check_costs false t = lit≤ tt
+
 pub row_costs : (r : Routine) (t : State) → 1 ≤ row_cost (row_of r t)
 row_costs routines.PushA t = lit≤ tt
 row_costs routines.PushAx t = lit≤ tt
@@ -119,6 +123,7 @@ row_costs routines.ULongAx t = lit≤ tt
 row_costs routines.SaveRegs t = lit≤ tt
 row_costs routines.RestRegs t = lit≤ tt
 row_costs routines.CallPtr4 t = lit≤ tt
+row_costs routines.StkChk t = check_costs (is_too_deep t) t
 row_costs routines.Start t = lit≤ tt
 row_costs routines.StartArgs t = lit≤ tt
 row_costs routines.HookOpen t = lit≤ tt

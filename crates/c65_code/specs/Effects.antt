@@ -26,6 +26,10 @@ ptr3_bytes = zero_bytes 12 14
 abbrev pub ptr4_bytes : RegSet
 ptr4_bytes = zero_bytes 14 16
 
+-- tmp3 and tmp4
+abbrev pub asked_bytes : RegSet
+asked_bytes = zero_bytes 18 20
+
 -- regsave, ptr1 to ptr4, and tmp1 to tmp4
 abbrev pub scratch_bytes : RegSet
 scratch_bytes = zero_bytes 4 20
@@ -55,6 +59,10 @@ primary Eax = eax
 -- what every routine may change: Y and the flags
 abbrev pub small : RegSet
 small = set_of (Y ∷ N ∷ V ∷ Z ∷ C ∷ [])
+
+-- what the check of the stacks may change where it comes back: the flags and the scratch bytes
+abbrev pub checks : RegSet
+checks = union_of (set_of (N ∷ V ∷ Z ∷ C ∷ [])) scratch_bytes
 
 -- what a routine of the second group may change
 abbrev pub large : RegSet
@@ -115,6 +123,7 @@ routine_reads routines.SaveRegs = union_of (union_of eax sp_bytes) bank_bytes
 routine_reads routines.RestRegs = union_of eax sp_bytes
 -- what the callee reads is not known
 routine_reads routines.CallPtr4 = minus_of all_parts (set_of (N ∷ V ∷ Z ∷ C ∷ []))
+routine_reads routines.StkChk = union_of asked_bytes sp_bytes
 routine_reads routines.Start = no_parts
 routine_reads routines.StartArgs = no_parts
 routine_reads (routines.Library function) = library_reads function
@@ -160,6 +169,7 @@ routine_sets routines.ULongAx = minus_of large ax
 routine_sets routines.SaveRegs = minus_of (union_of large sp_bytes) eax
 routine_sets routines.RestRegs = union_of (minus_of (union_of large sp_bytes) eax) bank_bytes
 routine_sets routines.CallPtr4 = minus_of all_parts kept_at_calls
+routine_sets routines.StkChk = checks
 routine_sets routines.Start = union_of large sp_bytes
 routine_sets routines.StartArgs = union_of large sp_bytes
 routine_sets (routines.Library function) = library_sets function

@@ -134,6 +134,7 @@ name_of routines.ULongAx = codes "ulongax"
 name_of routines.SaveRegs = codes "saveregs"
 name_of routines.RestRegs = codes "restregs"
 name_of routines.CallPtr4 = codes "callptr4"
+name_of routines.StkChk = codes "stkchk"
 name_of routines.Start = codes "start"
 name_of routines.StartArgs = codes "startargs"
 name_of (routines.Library function) = library_name function

@@ -108,12 +108,13 @@ number_of routines.ULongAx = 111
 number_of routines.SaveRegs = 112
 number_of routines.RestRegs = 113
 number_of routines.CallPtr4 = 114
-number_of routines.HookOpen = 115
-number_of routines.HookClose = 116
-number_of routines.HookRead = 117
-number_of routines.HookWrite = 118
-number_of routines.HookArgs = 119
-number_of routines.HookExit = 120
+number_of routines.StkChk = 115
+number_of routines.HookOpen = 116
+number_of routines.HookClose = 117
+number_of routines.HookRead = 118
+number_of routines.HookWrite = 119
+number_of routines.HookArgs = 120
+number_of routines.HookExit = 121
 
 abbrev pub RoutinesAreNumbered : Type 0
 RoutinesAreNumbered = (r : Routine) → slice_get ALL (number_of r) ≡ Some r

@@ -1,6 +1,6 @@
 -- What each routine of the runtime does (docs/MACHINE.md, "Routines"): a row of numbers, computed from the state before,
 -- and one relation that gives every row its meaning.
-use Rattle.std.specs.Prelude.{◌≡◌, ℕ, ◌+◌, ◌-◌, ◌*◌, ◌/◌, ◌%◌, ◌<◌, ◌≤◌, ◌⊎◌, Bool, true, false, if◌then◌else◌, nat_lt, nat_le, List, [], ◌∷◌, ◌++◌, Option, Some, None, length, drop}
+use Rattle.std.specs.Prelude.{◌≡◌, ℕ, ◌+◌, ◌-◌, ◌*◌, ◌/◌, ◌%◌, ◌<◌, ◌≤◌, ◌⊎◌, Bool, true, false, ◌||◌, if◌then◌else◌, nat_lt, nat_le, List, [], ◌∷◌, ◌++◌, Option, Some, None, length, drop}
 use Rattle.c65_code.specs.declared.parts.Part.{Part}
 use Rattle.c65_code.specs.declared.parts.RegSet.{RegSet}
 use Rattle.c65_code.specs.declared.routine.Count.{Count}
@@ -14,11 +14,11 @@ use Rattle.c65_base.specs.declared.library.Library.{Library}
 use Rattle.c65_base.specs.declared.library.Library.TheVariants.{Putchar, Getchar, Puts, Exit, Memcpy, Memset, Strcmp, Strcpy, Strlen}
 use Rattle.c65_code.specs.declared.routine.Routine.{Routine}
 use Rattle.c65_code.specs.declared.routine.Routine.TheVariants as routines
-use Rattle.c65_code.specs.Parts.{has_part}
-use Rattle.c65_code.specs.Effects.{routine_sets}
+use Rattle.c65_code.specs.Parts.{has_part, union_of}
+use Rattle.c65_code.specs.Effects.{only_a, routine_sets}
 use Rattle.c65_code.specs.Numbers.{tos_result, result_width, unary_result, unary_width}
 use Rattle.c65_code.specs.Texts.{bytes_at, range_of, filled, listed, copied, text_length, copy_length, common_length, difference}
-use Rattle.c65_code.specs.LineState.{Bytes, write, word_at, State, sp_of, sreg_of, ax_of, eax_of, Same}
+use Rattle.c65_code.specs.LineState.{Bytes, write, word_at, State, sp_of, s_of, sreg_of, ax_of, eax_of, zero_word, Same}
 
 -- A row. `None` for a result leaves it open. `near` are the addresses that the routine counts from the sp, `far` those that
 -- it takes from elsewhere; of these it reads or writes the bytes. `room` is how far below the sp it may leave other bytes.
@@ -228,6 +228,16 @@ library_row Strlen t row = let count = text_length (ax_of t) t.mem in by_bytes (
 abbrev pub bank_of : State → List ℕ
 bank_of t = bytes_at 6 20 t.zp
 
+-- The check of the stacks at a function's entry. Too little is left of the software stack where sp would fall below $F830 by
+-- the number in tmp3 and tmp4, and of page 1 where S is below 31 before the call.
+abbrev pub is_too_deep : State → Bool
+is_too_deep t = nat_lt (sp_of t) (63536 + zero_word t 18) || nat_lt (s_of t) 31
+
+-- the run ends there with status 240, which is in A
+abbrev pub check_row : Bool → Row → Row
+check_row true row = record row { ends = Some 240; changes = union_of row.changes only_a }
+check_row false row = row
+
 -- The row of a routine at a state. `callptr4`, `start` and `startargs` do not come back to their caller as routines do, and
 -- the hooks are not of the runtime: they have none here.
 abbrev pub row_of : Routine → State → Option Row
@@ -264,5 +274,6 @@ row_of routines.LongAx t = Some (costing 256 (record (row_by routines.LongAx t) 
 row_of routines.ULongAx t = Some (costing 256 (record (row_by routines.ULongAx t) { a = Some t.regs.a; x = Some t.regs.x; sreg = Some 0 }))
 row_of routines.SaveRegs t = Some (costing 256 (push_row routines.SaveRegs (bank_of t) t))
 row_of routines.RestRegs t = Some (costing 256 (record (keeping t (popping 6 t (row_by routines.RestRegs t))) { bank = Some (bytes_at 6 (sp_of t) t.mem) }))
+row_of routines.StkChk t = Some (check_row (is_too_deep t) (costing 256 (row_by routines.StkChk t)))
 row_of (routines.Library f) t = Some (library_row f t (costing 256 (row_by (routines.Library f) t)))
 row_of _ t = None

@@ -1,6 +1,6 @@
 // What the routines read and may change (MACHINE.md, "Routines").
 ghost use Rattle.std.specs.Prelude.{◌≡◌, ◌∷◌, []};
-ghost use Rattle.c65_code.specs.Effects.{sp_bytes, ax, eax, primary, small, large, kept_at_calls, library_reads, library_sets, routine_reads, routine_sets};
+ghost use Rattle.c65_code.specs.Effects.{sp_bytes, ax, eax, primary, small, checks, large, kept_at_calls, library_reads, library_sets, routine_reads, routine_sets};
 ghost use Rattle.c65_code.specs.Parts.{IsPart, set_of};
 
 use crate::parts::{Part, RegSet};
@@ -48,6 +48,13 @@ fn least() -> RegSet
     ensures { result ≡ small }
 {
     RegSet::of(&[Part::Y, Part::N, Part::V, Part::Z, Part::C])
+}
+
+// What the check of the stacks may change where it comes back: the flags, and all of regsave to tmp4.
+fn checking() -> RegSet
+    ensures { result ≡ checks }
+{
+    RegSet::of(&[Part::N, Part::V, Part::Z, Part::C]).union(RegSet::zero_bytes(4, 20))
 }
 
 // What a routine of the second group may change: the primary register, regsave, and all of ptr1 to tmp4 too.
@@ -112,6 +119,7 @@ impl Routine {
                 Part::Z,
                 Part::C,
             ])),
+            Routine::StkChk => RegSet::zero_bytes(18, 20).union(sp()),
             Routine::Start | Routine::StartArgs | Routine::HookClose => RegSet::empty(),
             Routine::Library(function) => library_reads_of(function),
             Routine::HookOpen => only(Part::Y).union(sp()),
@@ -155,6 +163,7 @@ impl Routine {
                     .union(RegSet::zero_bytes(20, 26))
             }
             Routine::CallPtr4 => RegSet::all().minus(kept_at_calls()),
+            Routine::StkChk => checking(),
             Routine::Library(function) => library_sets_of(function),
             Routine::HookOpen | Routine::HookRead => word().union(sp()),
             Routine::HookWrite | Routine::HookArgs => word().union(sp()),

@@ -133,6 +133,8 @@ pub enum Routine {
     RestRegs,
     /// Jumps to the address in ptr4.
     CallPtr4,
+    /// Ends the run with status 240 where less is left of the stacks than tmp3 and tmp4 ask for.
+    StkChk,
     /// Calls main, and ends with its low byte.
     Start,
     /// The same with the program's arguments.
@@ -150,7 +152,7 @@ pub enum Routine {
 
 impl Routine {
     /// How many routines there are.
-    pub const COUNT: usize = 121;
+    pub const COUNT: usize = 122;
 
     /// All of them. Each stands before those that it calls, and the hooks stand last.
     pub const ALL: [Routine; Routine::COUNT] = [
@@ -269,6 +271,7 @@ impl Routine {
         Routine::SaveRegs,
         Routine::RestRegs,
         Routine::CallPtr4,
+        Routine::StkChk,
         Routine::HookOpen,
         Routine::HookClose,
         Routine::HookRead,
@@ -317,6 +320,7 @@ impl Routine {
             Routine::SaveRegs => b"saveregs",
             Routine::RestRegs => b"restregs",
             Routine::CallPtr4 => b"callptr4",
+            Routine::StkChk => b"stkchk",
             Routine::Start => b"start",
             Routine::StartArgs => b"startargs",
             Routine::Library(function) => function.name(),
@@ -343,7 +347,7 @@ impl Routine {
     /// The routine's place in `ALL`.
     pub fn number(self) -> usize
         ensures value { result ≡ number_of self }
-        ensures small { result < 121 }
+        ensures small { result < 122 }
     {
         match self {
             Routine::Start => 0,
@@ -385,12 +389,13 @@ impl Routine {
             Routine::SaveRegs => 112,
             Routine::RestRegs => 113,
             Routine::CallPtr4 => 114,
-            Routine::HookOpen => 115,
-            Routine::HookClose => 116,
-            Routine::HookRead => 117,
-            Routine::HookWrite => 118,
-            Routine::HookArgs => 119,
-            Routine::HookExit => 120,
+            Routine::StkChk => 115,
+            Routine::HookOpen => 116,
+            Routine::HookClose => 117,
+            Routine::HookRead => 118,
+            Routine::HookWrite => 119,
+            Routine::HookArgs => 120,
+            Routine::HookExit => 121,
         }
     }
 }
@@ -518,7 +523,7 @@ fn among(routines: &[Routine], name: &[u8]) -> Option<Routine>
 // Where most routines stand whose names begin like this one.
 fn likely_places(name: &[u8]) -> Range<usize>
     ensures order { result.start ≤ result.end }
-    ensures end { result.end ≤ 121 }
+    ensures end { result.end ≤ 122 }
 {
     match name.first() {
         Some(b'p') => 11..20,

@@ -19,7 +19,7 @@ use Rattle.c65_code.specs.Parts.{has_part}
 use Rattle.c65_code.specs.Numbers.{tos_result, result_width, unary_result, unary_width}
 use Rattle.c65_code.specs.Texts.{bytes_at, listed, filled, copied}
 use Rattle.c65_code.specs.LineState.{Bytes, write, word_at, State, sp_of, sreg_of, ax_of, eax_of, IsBytes}
-use Rattle.c65_code.specs.Rows.{Row, written, row_by, long_at, size_of, number_of, giving, giving_if, popping, costing, tos_cost, read_row, tos_row, unary_row, library_row, row_of}
+use Rattle.c65_code.specs.Rows.{Row, written, row_by, long_at, size_of, number_of, giving, giving_if, popping, costing, tos_cost, read_row, tos_row, unary_row, library_row, is_too_deep, check_row, row_of}
 use Rattle.c65_code_law.proofs.MetRows.{Fits, FitsWord, AreWritten, IsFit, IsMet, met, plain_met}
 use Rattle.c65_code_law.proofs.Results.{IsLong, LongIf, tos_long, unary_long}
 
@@ -228,6 +228,12 @@ module _ (t : State) (bytes : IsBytes t) (high : sp_of t ≤ 65520) where
     apart = λ m i g. apart_listed (bytes_at 6 (sp_of t) t.mem) 20 m i (omega arith);
   })
 
+  -- ---- the check of the stacks
+
+  check_met : (deep : Bool) → IsMet (check_row deep (costing 256 (row_by routines.StkChk t))) t
+  check_met true = plain_met _ t bytes (record { a = tt; x = tt; sp = same_sp _; sreg = tt; writes = tt; pointers = refl; bank = refl })
+  check_met false = plain_met _ t bytes (record { a = tt; x = tt; sp = same_sp _; sreg = tt; writes = tt; pointers = refl; bank = refl })
+
   -- ---- all routines
 
   pub row_met : (r : Routine) → MetIf (row_of r t) t
@@ -272,5 +278,6 @@ module _ (t : State) (bytes : IsBytes t) (high : sp_of t ≤ 65520) where
   row_met routines.ULongAx = plain_met _ t bytes (record { a = old_a _; x = old_x _; sp = same_sp _; sreg = word _ 2 _ refl refl (omega arith); writes = tt; pointers = refl; bank = refl })
   row_met routines.SaveRegs = plain_met _ t bytes (record { a = old_a _; x = old_x _; sp = word _ 0 _ refl refl (omega arith); sreg = same_sreg _; writes = listed_small (bytes_at 6 20 t.zp) 0 (bytes_small 6 20 t.zp bytes.zp); pointers = refl; bank = refl })
   row_met routines.RestRegs = bank_met
+  row_met routines.StkChk = check_met (is_too_deep t)
   row_met (routines.Library f) = library_met f
   row_met _ = tt

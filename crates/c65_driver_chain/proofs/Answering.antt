@@ -20,6 +20,7 @@ use Rattle.c65_init.specs.Units.{unit_in}
 use Rattle.c65_init_join.specs.Answers as joins
 use Rattle.c65_init_join.specs.Joined.{joined}
 use Rattle.c65_code.specs.declared.code.Code.{Code}
+use Rattle.c65_genframe.specs.Modes.{modes_of}
 use Rattle.c65_genstmt.specs.Programs.{program_of}
 use Rattle.c65_ppline.specs.Relations.{Answers, just, by_test, ◌then◌, IsFree, Comes}
 use Rattle.c65_ppdir.specs.Units.{preprocessed}
@@ -100,11 +101,11 @@ joining_stops {A} y e h = absurd h
 pub not_joined : (o : Options) (units : List UnitTy) (names : List (List ℕ)) (e : Refusal) → joins.Fails e (joined names units) → IsFree e ⊎ linked o units names (Err e)
 not_joined o units names e h = stops (joining (joined names units)) (generated o names) e (joining_stops (joined names units) e h)
 
-generated_comes : (o : Options) (names : List (List ℕ)) (parts : Parts) (main : ℕ) (r : Result Code Refusal) → IsGood names (unit_of parts) main → Gives (λ c. c) r (program_of parts main names o.register_vars) → Comes (λ c. c) (generated o names (unit_of parts, main)) r
+generated_comes : (o : Options) (names : List (List ℕ)) (parts : Parts) (main : ℕ) (r : Result Code Refusal) → IsGood names (unit_of parts) main → Gives (λ c. c) r (program_of parts main names (modes_of o)) → Comes (λ c. c) (generated o names (unit_of parts, main)) r
 generated_comes o names parts main (Ok code) good h = (parts, refl, good, h)
 generated_comes o names parts main (Err e) good h = inr (parts, refl, good, h)
 
-pub linked_comes : (o : Options) (units : List UnitTy) (names : List (List ℕ)) (parts : Parts) (main : ℕ) (r : Result Code Refusal) → joined names units ≡ Ok (unit_of parts, main) → IsGood names (unit_of parts) main → Gives (λ c. c) r (program_of parts main names o.register_vars) → Comes (λ c. c) (linked o units names) r
+pub linked_comes : (o : Options) (units : List UnitTy) (names : List (List ℕ)) (parts : Parts) (main : ℕ) (r : Result Code Refusal) → joined names units ≡ Ok (unit_of parts, main) → IsGood names (unit_of parts) main → Gives (λ c. c) r (program_of parts main names (modes_of o)) → Comes (λ c. c) (linked o units names) r
 linked_comes o units names parts main r joined_is good h = goes_on (λ c. c) (joining (joined names units)) (generated o names) (unit_of parts, main) r (joining_goes (joined names units) (unit_of parts, main) joined_is) (generated_comes o names parts main r good h)
 
 pub tested_so : {E P : Type 0} (r : Result Bool E) (so : Bool) → r ≡ Ok so → so ≡ true → IfOk r (λ (b : Bool). IsTrue b ↔ P) → P

@@ -25,6 +25,7 @@ use Rattle.c65_init_join.specs.Joined.{joined}
 use Rattle.c65_csem_names.specs.Programs.{IsScopedProgram}
 use Rattle.c65_csem_plain.specs.Plain.{IsPlain}
 use Rattle.c65_code.specs.declared.code.Code.{Code}
+use Rattle.c65_genframe.specs.Modes.{modes_of}
 use Rattle.c65_genstmt.specs.Programs.{program_of}
 
 -- ---- one file
@@ -76,7 +77,7 @@ pub record IsGood (names : List (List ℕ)) (program : UnitTy) (main : ℕ) : Ty
 
 -- the code of a program that is made of such parts, or the refusal of a frame
 abbrev pub generated : Options → List (List ℕ) → UnitTy × ℕ → Answers Code
-generated o names p z = (parts : Parts) × (unit_of parts ≡ p.0) × IsGood names p.0 p.1 × of (program_of parts p.1 names o.register_vars) z
+generated o names p z = (parts : Parts) × (unit_of parts ≡ p.0) × IsGood names p.0 p.1 × of (program_of parts p.1 names (modes_of o)) z
 
 abbrev pub linked : Options → List UnitTy → List (List ℕ) → Answers Code
 linked o units names = joining (joined names units) then generated o names

@@ -15,6 +15,7 @@ use std::alloc::{AllocError, Global};
 pub enum Flag {
     RegisterVars,
     SignedChars,
+    CheckStack,
 }
 
 /// An option with a value.
@@ -37,6 +38,9 @@ pub fn flag_of(word: &str) -> Option<Flag>
     }
     if word == "-j" || word == "--signed-chars" {
         return Some(Flag::SignedChars);
+    }
+    if word == "--check-stack" {
+        return Some(Flag::CheckStack);
     }
     None
 }

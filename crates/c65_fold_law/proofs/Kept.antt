@@ -9,7 +9,8 @@ use Rattle.c65_fold.specs.Folded.{value_at, by_value, folded, folded_node, folde
 use Rattle.c65_fold.proofs.FoldLaws.{kept_type}
 use Rattle.c65_meaning.specs.Shapes.{bare_type, types_of, shape_of, place_shape, member_shape, object_size, object_in}
 use Rattle.c65_meaning.specs.Sites.{count, count_all, cases_of, all_cases_of}
-use Rattle.c65_meaning.specs.Costs.{need, need_in, need_of_all, need_if, greatest_need, greatest_need_of_all, bytes_of_objects, local_bytes, all_local_bytes, soft_cost}
+use Rattle.c65_csem_need.specs.Needs.{need, need_in, need_of_all, need_if, greatest_need, greatest_need_of_all}
+use Rattle.c65_meaning.specs.Costs.{bytes_of_objects, local_bytes, all_local_bytes, soft_cost}
 use Rattle.c65_fold_law.specs.Programs.{folded_if, folded_stmt, folded_stmts, folded_func, folded_unit}
 
 -- ---- types and shapes

@@ -1,5 +1,5 @@
 -- A run of a folded program goes beside the program's own, in no more steps.
-use Rattle.std.proofs.Common.{◌≡◌, ℕ, zero, suc, ◌+◌, ◌≤◌, ℤ, List, [], ◌∷◌, refl, sym, ap, ◌∙◌, subst, arith}
+use Rattle.std.proofs.Common.{◌≡◌, ℕ, zero, suc, ◌+◌, ◌≤◌, ℤ, false, List, [], ◌∷◌, refl, sym, ap, ◌∙◌, subst, arith}
 use Rattle.c65_csem.specs.Trees.{Typed}
 use Rattle.c65_meaning.specs.Program.{ProgramTy}
 use Rattle.c65_meaning.specs.Why.{Unfit}
@@ -166,11 +166,11 @@ module _ (p : ProgramTy) where
 pub folding_keeps : FoldingKeeps
 folding_keeps p args input n w d =
     let typed = typed_funcs p.unit w.unit in
-    let m = stepped p typed n (meets p typed n) n (omega arith) (start p args input) (start (folded_program p) args input) (starts p typed args input) d in
+    let m = stepped p typed n (meets p typed n) n (omega arith) (start p args input) (start (folded_program p) args input) (starts p typed false args input) d in
     record { moment = m.moment; within = m.few; shows = m.shows }
 
 pub adds_nothing : FoldingAddsNothing
 adds_nothing p args input n w =
     let typed = typed_funcs p.unit w.unit in
-    let c = covers_sim p typed n (covers p typed n) (start p args input) (start (folded_program p) args input) (starts p typed args input) in
+    let c = covers_sim p typed n (covers p typed n) (start p args input) (start (folded_program p) args input) (starts p typed false args input) in
     record { moment = c.moment; later = c.long; shows = c.shows }

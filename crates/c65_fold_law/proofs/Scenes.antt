@@ -1,6 +1,6 @@
 -- States of a run beside those of the folded program's: the same but for pending work, and for active calls that cost less.
 use Rattle.std.proofs.Common.{◌≡◌, ℕ, suc, ◌+◌, ◌≤◌, List, [], ◌∷◌, length, Option, Some, None, Bool, true, false, if◌then◌else◌, refl, sym, ap, ◌∙◌, subst, arith}
-use Rattle.std.specs.Prelude.{⊤, Result, Ok, Err, nat_lt, ◌||◌, ◌&&◌, ◌==◌}
+use Rattle.std.specs.Prelude.{⊤, Result, Ok, Err, nat_lt, not, ◌||◌, ◌&&◌, ◌==◌}
 use Rattle.std.proofs.lemmas.Bool.Decides.{nat_tests}
 use Rattle.c65_csem.specs.Trees.{UnitTy}
 use Rattle.c65_meaning.specs.Why.{Why, ◌>>=◌}
@@ -61,6 +61,10 @@ room_stays s t b h e = grind (arith, nat_tests)
 -- what is not too deep is not too deep where calls cost less
 still_shallow : (fs gs : List Frame) → Cheaper fs gs → is_deep fs ≡ false → is_deep gs ≡ false
 still_shallow fs gs h e = room_stays (soft_sum fs) (soft_sum gs) (nat_lt 224 (hard_sum gs)) (soft_less fs gs h) (ap (λ (n : ℕ). nat_lt 1984 (soft_sum fs) || nat_lt 224 n) (hard_same fs gs h) ∙ e)
+
+still_free : (free : Bool) (fs gs : List Frame) → Cheaper fs gs → (not free && is_deep fs) ≡ false → (not free && is_deep gs) ≡ false
+still_free true fs gs h e = refl
+still_free false fs gs h e = still_shallow fs gs h e
 
 module _ (u : UnitTy) where
   -- ---- states
@@ -255,10 +259,10 @@ module _ (u : UnitTy) where
 
   -- ---- depth
 
-  deep_by : (k l : List Item) (vs : List Value) (d : Scene) (gs : List Frame) (b : Bool) → is_deep d.frames ≡ b → Cheaper d.frames gs → Works u k l → Sim (if b then Deep else Running k vs d) (if is_deep gs then Deep else Running l vs (framed gs d))
+  deep_by : (k l : List Item) (vs : List Value) (d : Scene) (gs : List Frame) (b : Bool) → (not d.free && is_deep d.frames) ≡ b → Cheaper d.frames gs → Works u k l → Sim (if b then Deep else Running k vs d) (if not d.free && is_deep gs then Deep else Running l vs (framed gs d))
   deep_by k l vs d gs true e h w = tt
-  deep_by k l vs d gs false e h w = subst (λ (b : Bool). Sim (Running k vs d) (if b then Deep else Running l vs (framed gs d))) (sym (still_shallow d.frames gs h e)) (runs k l vs d gs w h)
+  deep_by k l vs d gs false e h w = subst (λ (b : Bool). Sim (Running k vs d) (if b then Deep else Running l vs (framed gs d))) (sym (still_free d.free d.frames gs h e)) (runs k l vs d gs w h)
 
   pub unless_deep_sim : (k l : List Item) (vs : List Value) (o r : Result Scene Why) → SceneIf o r → Works u k l → Sim (unless_deep k vs o) (unless_deep l vs r)
   unless_deep_sim k l vs (Err why) r h w = tt
-  unless_deep_sim k l vs (Ok d) r h w = subst (λ (x : Result Scene Why). Sim (unless_deep k vs (Ok d)) (unless_deep l vs x)) (sym h.is) (deep_by k l vs d h.frames (is_deep d.frames) refl h.cheaper w)
+  unless_deep_sim k l vs (Ok d) r h w = subst (λ (x : Result Scene Why). Sim (unless_deep k vs (Ok d)) (unless_deep l vs x)) (sym h.is) (deep_by k l vs d h.frames (not d.free && is_deep d.frames) refl h.cheaper w)

@@ -17,7 +17,7 @@ use Rattle.c65_meaning.specs.Shapes.{object_in, object_size, object_sealed, live
 use Rattle.c65_meaning.specs.Costs.{bytes_of_objects, soft_cost, arguments_bytes}
 use Rattle.c65_meaning.specs.State.{Scene, State, Undefined}
 use Rattle.c65_meaning.specs.Step.{entered}
-use Rattle.c65_meaning.specs.Start.{literal_in, from_zero, with_texts, argv_block, target_block, initial_cell, cells_of, static_block, initial_store, is_inside, are_inside, init_inside, objects_inside, with_arguments, first_store, first_scene, main_values, started, started_by, start}
+use Rattle.c65_meaning.specs.Start.{literal_in, from_zero, with_texts, argv_block, target_block, initial_cell, cells_of, static_block, initial_store, is_inside, are_inside, init_inside, objects_inside, with_arguments, first_store, first_scene, main_values, started, started_by, start_in}
 use Rattle.c65_fold_law.specs.Programs.{folded_stmt, folded_body, folded_func, folded_unit, folded_program}
 use Rattle.c65_fold_law.proofs.Kept.{funcs_same, func_same, cost_less}
 use Rattle.c65_fold_law.proofs.Marks.{Works}
@@ -122,8 +122,8 @@ module _ (u : UnitTy) where
   first_store_same [] args = store_same
   first_store_same (i ∷ params) args = arguments_same args
 
-  scene_same : (params : List ℕ) (args : List (List ℕ)) (input : List ℕ) → first_scene v params args input ≡ first_scene u params args input
-  scene_same params args input = ap (λ (s : Store). record { frames = []; store = s; next = first_block v + suc (length args); input = input; out = []; turns = 0 }) (first_store_same params args) ∙ ap (λ (b : ℕ). record { frames = []; store = first_store u params args; next = b + suc (length args); input = input; out = []; turns = 0 }) first_same
+  scene_same : (free : Bool) (params : List ℕ) (args : List (List ℕ)) (input : List ℕ) → first_scene v free params args input ≡ first_scene u free params args input
+  scene_same free params args input = ap (λ (s : Store). record { frames = []; store = s; next = first_block v + suc (length args); input = input; out = []; turns = 0; free = free }) (first_store_same params args) ∙ ap (λ (b : ℕ). record { frames = []; store = first_store u params args; next = b + suc (length args); input = input; out = []; turns = 0; free = free }) first_same
 
   values_same : (args : List (List ℕ)) (params : List ℕ) → main_values v args params ≡ main_values u args params
   values_same args [] = refl
@@ -142,23 +142,23 @@ module _ (u : UnitTy) where
       sum_less : (a b c n : ℕ) → a ≤ b → b ≡ c → a + n ≤ c + n
       sum_less a b c n h e = omega arith
 
-  started_sim : (f : ℕ) (args : List (List ℕ)) (input : List ℕ) (g : FuncTy) (o : Option Stmt) → TypedBody u o → Sim u (started u f args input g o) (started v f args input (folded_func g) (folded_body o))
-  started_sim f args input g None typed = tt
-  started_sim f args input g (Some body) typed =
-      let c = first_scene u g.params args input in
-      subst (λ (d : Scene). Sim u (started u f args input g (Some body)) (entered v f (folded_func g) (folded_stmt body) (soft_cost v (bytes_of_objects v g.params) (folded_stmt body) + arguments_bytes args) (main_values v args g.params) [] [] d)) (sym (scene_same g.params args input))
-      (subst (λ (vs : List Value). Sim u (started u f args input g (Some body)) (entered v f (folded_func g) (folded_stmt body) (soft_cost v (bytes_of_objects v g.params) (folded_stmt body) + arguments_bytes args) vs [] [] c)) (sym (values_same args g.params))
+  started_sim : (free : Bool) (f : ℕ) (args : List (List ℕ)) (input : List ℕ) (g : FuncTy) (o : Option Stmt) → TypedBody u o → Sim u (started u free f args input g o) (started v free f args input (folded_func g) (folded_body o))
+  started_sim free f args input g None typed = tt
+  started_sim free f args input g (Some body) typed =
+      let c = first_scene u free g.params args input in
+      subst (λ (d : Scene). Sim u (started u free f args input g (Some body)) (entered v f (folded_func g) (folded_stmt body) (soft_cost v (bytes_of_objects v g.params) (folded_stmt body) + arguments_bytes args) (main_values v args g.params) [] [] d)) (sym (scene_same free g.params args input))
+      (subst (λ (vs : List Value). Sim u (started u free f args input g (Some body)) (entered v f (folded_func g) (folded_stmt body) (soft_cost v (bytes_of_objects v g.params) (folded_stmt body) + arguments_bytes args) vs [] [] c)) (sym (values_same args g.params))
       (entered_sim u f g body typed (soft_cost u (bytes_of_objects u g.params) body + arguments_bytes args) (soft_cost v (bytes_of_objects v g.params) (folded_stmt body) + arguments_bytes args) (main_cost g.params body args) (main_values u args g.params) [] [] [] c [] nothing tt))
 
-  started_by_sim : (f : ℕ) (args : List (List ℕ)) (input : List ℕ) (o : Option FuncTy) → TypedFunc u o → Sim u (started_by u f args input o) (started_by v f args input (option_map folded_func o))
-  started_by_sim f args input None typed = tt
-  started_by_sim f args input (Some g) typed = started_sim f args input g g.body typed
+  started_by_sim : (free : Bool) (f : ℕ) (args : List (List ℕ)) (input : List ℕ) (o : Option FuncTy) → TypedFunc u o → Sim u (started_by u free f args input o) (started_by v free f args input (option_map folded_func o))
+  started_by_sim free f args input None typed = tt
+  started_by_sim free f args input (Some g) typed = started_sim free f args input g g.body typed
 
 -- the two starts
-pub starts : (p : ProgramTy) → TypedFuncs p.unit → (args : List (List ℕ)) (input : List ℕ) → Sim p.unit (start p args input) (start (folded_program p) args input)
-starts p typed args input =
+pub starts : (p : ProgramTy) → TypedFuncs p.unit → (free : Bool) (args : List (List ℕ)) (input : List ℕ) → Sim p.unit (start_in free p args input) (start_in free (folded_program p) args input)
+starts p typed free args input =
     let failed : State = Undefined (By OffsetOutside) in
-    let ours : State = started_by p.unit p.main args input (slice_get p.unit.funcs p.main) in
-    subst (λ (b : Bool). Sim p.unit (start p args input) (if b then started_by (folded_unit p.unit) p.main args input (slice_get (map folded_func p.unit.funcs) p.main) else failed)) (sym (objects_same p.unit p.unit.objects))
-    (subst (λ (o : Option FuncTy). Sim p.unit (start p args input) (if objects_inside p.unit p.unit.objects then started_by (folded_unit p.unit) p.main args input o else failed)) (sym (func_same p.unit.funcs p.main))
-    (if_sim p.unit (objects_inside p.unit p.unit.objects) ours failed _ failed (started_by_sim p.unit p.main args input (slice_get p.unit.funcs p.main) (typed p.main)) tt))
+    let ours : State = started_by p.unit free p.main args input (slice_get p.unit.funcs p.main) in
+    subst (λ (b : Bool). Sim p.unit (start_in free p args input) (if b then started_by (folded_unit p.unit) free p.main args input (slice_get (map folded_func p.unit.funcs) p.main) else failed)) (sym (objects_same p.unit p.unit.objects))
+    (subst (λ (o : Option FuncTy). Sim p.unit (start_in free p args input) (if objects_inside p.unit p.unit.objects then started_by (folded_unit p.unit) free p.main args input o else failed)) (sym (func_same p.unit.funcs p.main))
+    (if_sim p.unit (objects_inside p.unit p.unit.objects) ours failed _ failed (started_by_sim p.unit free p.main args input (slice_get p.unit.funcs p.main) (typed p.main)) tt))

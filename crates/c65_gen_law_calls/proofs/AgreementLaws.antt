@@ -22,10 +22,11 @@ use Rattle.c65_base.specs.declared.library.Library.TheVariants.{Putchar, Getchar
 use Rattle.c65_code.specs.declared.routine.Routine.TheVariants as routines
 use Rattle.c65_code.specs.Rows.{Row, row_by, read_row, costing, row_of}
 use Rattle.c65_code.specs.Moves.{MeetsRow}
+use Rattle.c65_genframe.specs.declared.modes.Modes.{Modes}
 use Rattle.c65_genframe.specs.declared.home.Arrival.{Arrival}
 use Rattle.c65_genframe.specs.Marks.{lowest}
 use Rattle.c65_genframe.specs.Objects.{locals_of}
-use Rattle.c65_genframe.specs.Frames.{Framed, is_variadic, takes_stack, has_prototype, register_param, arrival, passed_bytes, placed_in, settled, frame_of}
+use Rattle.c65_genframe.specs.Frames.{Framed, is_variadic, takes_stack, has_prototype, register_param, arrival, passed_bytes, placed_in, check_of, settled, frame_of}
 use Rattle.c65_genload.specs.Conversions.{size_of}
 use Rattle.c65_genexpr.specs.Types.{kind_of, kind_in, bare}
 use Rattle.c65_genexpr.specs.Arguments.{is_fast, is_counted}
@@ -132,46 +133,46 @@ prototypes_agree u g body s t well site is like =
 
 -- ---- what a function takes away
 
-framed_is : (parts : Parts) (honoured : Bool) (g : FuncTy) (f : Framed) → frame_of parts honoured g ≡ Ok f → settled parts g (lowest (locals_of g) g.params) (passed_bytes parts g) (placed_in parts honoured g) ≡ f
-framed_is parts honoured g f framed =
-    let p = placed_in parts honoured g in
-    (answered (nat_lt 1024 p.total) (large sizes.Frame p.total) (settled parts g (lowest (locals_of g) g.params) (passed_bytes parts g) p) f framed).1
+framed_is : (parts : Parts) (modes : Modes) (g : FuncTy) (f : Framed) → frame_of parts modes g ≡ Ok f → settled parts (check_of parts modes g) g (lowest (locals_of g) g.params) (passed_bytes parts g) (placed_in parts modes g) ≡ f
+framed_is parts modes g f framed =
+    let p = placed_in parts modes g in
+    (answered (nat_lt 1024 p.total) (large sizes.Frame p.total) (settled parts (check_of parts modes g) g (lowest (locals_of g) g.params) (passed_bytes parts g) p) f framed).1
 
-pub parts_are : (parts : Parts) (honoured : Bool) (g : FuncTy) (f : Framed) → frame_of parts honoured g ≡ Ok f → f.parts ≡ parts
-parts_are parts honoured g f framed = sym (ap (λ (z : Framed). z.parts) (framed_is parts honoured g f framed))
+pub parts_are : (parts : Parts) (modes : Modes) (g : FuncTy) (f : Framed) → frame_of parts modes g ≡ Ok f → f.parts ≡ parts
+parts_are parts modes g f framed = sym (ap (λ (z : Framed). z.parts) (framed_is parts modes g f framed))
 
-variadic_is : (parts : Parts) (honoured : Bool) (g : FuncTy) (f : Framed) → frame_of parts honoured g ≡ Ok f → f.variadic ≡ is_variadic g.ty
-variadic_is parts honoured g f framed = sym (ap (λ (z : Framed). z.variadic) (framed_is parts honoured g f framed))
+variadic_is : (parts : Parts) (modes : Modes) (g : FuncTy) (f : Framed) → frame_of parts modes g ≡ Ok f → f.variadic ≡ is_variadic g.ty
+variadic_is parts modes g f framed = sym (ap (λ (z : Framed). z.variadic) (framed_is parts modes g f framed))
 
 -- a variadic function has no parameter in registers
 stacks_all : (t : Fn) → is_variadic t ≡ true → takes_stack t ≡ true
 stacks_all (fn q ps true c) h = refl
 stacks_all (fn q ps false c) h = absurd cc
 
-nothing_pushed : (parts : Parts) (honoured : Bool) (g : FuncTy) (f : Framed) → frame_of parts honoured g ≡ Ok f → is_variadic g.ty ≡ true → pushed_bytes f.last ≡ 0
-nothing_pushed parts honoured g f framed v =
-    let last : Option ℕ → Arrival = λ o. arrival parts (has_prototype g.ty) (lowest (locals_of g) g.params) (placed_in parts honoured g).homes o in
-    let here : pushed_bytes (last (register_param g)) ≡ pushed_bytes f.last = ap (λ (z : Framed). pushed_bytes z.last) (framed_is parts honoured g f framed) in
+nothing_pushed : (parts : Parts) (modes : Modes) (g : FuncTy) (f : Framed) → frame_of parts modes g ≡ Ok f → is_variadic g.ty ≡ true → pushed_bytes f.last ≡ 0
+nothing_pushed parts modes g f framed v =
+    let last : Option ℕ → Arrival = λ o. arrival parts (has_prototype g.ty) (lowest (locals_of g) g.params) (placed_in parts modes g).homes o in
+    let here : pushed_bytes (last (register_param g)) ≡ pushed_bytes f.last = ap (λ (z : Framed). pushed_bytes z.last) (framed_is parts modes g f framed) in
     let none : register_param g ≡ None = ap (λ (b : Bool). if b then None else slice_get g.params (length g.params - 1)) (stacks_all g.ty v) in
     sym here ∙ ap (λ (o : Option ℕ). pushed_bytes (last o)) none
 
-passes_by : (b : Bool) (parts : Parts) (honoured : Bool) (g : FuncTy) (f : Framed) (s : Site) (t : State) → is_variadic g.ty ≡ b → frame_of parts honoured g ≡ Ok f → Agrees (unit_of parts) s g
+passes_by : (b : Bool) (parts : Parts) (modes : Modes) (g : FuncTy) (f : Framed) (s : Site) (t : State) → is_variadic g.ty ≡ b → frame_of parts modes g ≡ Ok f → Agrees (unit_of parts) s g
     → (f.variadic ≡ true → t.regs.y ≡ bytes_in (bytes_of s)) → bytes_in (bytes_of s) + pushed_bytes f.last ≡ entering.passed_bytes f t
-passes_by true parts honoured g f s t v framed agrees counted =
-    let variadic : f.variadic ≡ true = variadic_is parts honoured g f framed ∙ v in
+passes_by true parts modes g f s t v framed agrees counted =
+    let variadic : f.variadic ≡ true = variadic_is parts modes g f framed ∙ v in
     let given : t.regs.y ≡ bytes_in (bytes_of s) = counted variadic in
     let passed_is : entering.passed_bytes f t ≡ t.regs.y = ap (λ (b : Bool). if b then t.regs.y else f.stacked) variadic in
-    omega (arith, given, passed_is, nothing_pushed parts honoured g f framed v)
-passes_by false parts honoured g f s t v framed agrees counted =
-    let variadic : f.variadic ≡ false = variadic_is parts honoured g f framed ∙ v in
+    omega (arith, given, passed_is, nothing_pushed parts modes g f framed v)
+passes_by false parts modes g f s t v framed agrees counted =
+    let variadic : f.variadic ≡ false = variadic_is parts modes g f framed ∙ v in
     let taken : AreTaken (unit_of parts) (has_prototype g.ty) s.args g.params = subst (λ (b : Bool). Takes b (unit_of parts) g s.args) v agrees.taken in
     let fast : bytes_in (bytes_of s) ≡ bytes_in (passed (not (takes_stack g.ty)) s.args) = ap (λ (b : Bool). bytes_in (passed b s.args)) agrees.fast in
     let passed_is : entering.passed_bytes f t ≡ f.stacked = ap (λ (b : Bool). if b then t.regs.y else f.stacked) variadic in
-    omega (arith, fast, passed_is, calls_pass_what_is_taken parts honoured g f s.args framed taken)
+    omega (arith, fast, passed_is, calls_pass_what_is_taken parts modes g f s.args framed taken)
 
-pub agreed_bytes : (parts : Parts) (honoured : Bool) (g : FuncTy) (f : Framed) (s : Site) (t : State) → frame_of parts honoured g ≡ Ok f → Agrees (unit_of parts) s g
+pub agreed_bytes : (parts : Parts) (modes : Modes) (g : FuncTy) (f : Framed) (s : Site) (t : State) → frame_of parts modes g ≡ Ok f → Agrees (unit_of parts) s g
     → (f.variadic ≡ true → t.regs.y ≡ bytes_in (bytes_of s)) → bytes_in (bytes_of s) + pushed_bytes f.last ≡ entering.passed_bytes f t
-agreed_bytes parts honoured g f s t framed agrees counted = passes_by (is_variadic g.ty) parts honoured g f s t refl framed agrees counted
+agreed_bytes parts modes g f s t framed agrees counted = passes_by (is_variadic g.ty) parts modes g f s t refl framed agrees counted
 
 -- ---- functions of the library
 

@@ -13,6 +13,7 @@ use Rattle.c65_code.specs.declared.code.Code.{Code}
 use Rattle.c65_code.specs.declared.line.Sym.{Sym}
 use Rattle.c65_code.specs.Placement as placement
 use Rattle.c65_code.specs.Segments.{Segment}
+use Rattle.c65_genframe.specs.declared.modes.Modes.{Modes}
 use Rattle.c65_genframe.specs.Frames.{Framed, frame_of}
 use Rattle.c65_genframe.specs.Symbols.{numbers_of, function_symbol}
 use Rattle.c65_genstmt.specs.Functions.{gives_of, no_lines, with_function, segment_of, function_of}
@@ -59,70 +60,70 @@ no_more [] = refl
 no_more (x ∷ xs) = ap (λ (l : Placed). x ∷ l) (no_more xs)
 
 -- one function more
-record One (parts : Parts) (is_main honoured : Bool) (sy : Sym) (g : FuncTy) (fs x : Placed) : Type 0 where
+record One (parts : Parts) (is_main : Bool) (modes : Modes) (sy : Sym) (g : FuncTy) (fs x : Placed) : Type 0 where
   segment : Segment
-  made : function_of parts is_main honoured g ≡ Ok segment
+  made : function_of parts is_main modes g ≡ Ok segment
   is : fs ++ (sy, segment) ∷ [] ≡ x
 
-one_with : (parts : Parts) (is_main honoured : Bool) (sy : Sym) (g : FuncTy) (b : Option Stmt) (body : Stmt) (fs x : Placed) → b ≡ Some body → one_more parts is_main honoured sy g b fs ≡ Ok x → One parts is_main honoured sy g fs x
-one_with parts is_main honoured sy g None body fs x e h = absurd cc
-one_with parts is_main honoured sy g (Some other) body fs x e h =
-    let made : (s : Segment) × (function_of parts is_main honoured g ≡ Ok s) × (◌≡◌ {A = Result Placed Fault} (Ok (fs ++ (sy, s) ∷ [])) (Ok x)) = bound (function_of parts is_main honoured g) (λ s. Ok (fs ++ (sy, s) ∷ [])) x h in
+one_with : (parts : Parts) (is_main : Bool) (modes : Modes) (sy : Sym) (g : FuncTy) (b : Option Stmt) (body : Stmt) (fs x : Placed) → b ≡ Some body → one_more parts is_main modes sy g b fs ≡ Ok x → One parts is_main modes sy g fs x
+one_with parts is_main modes sy g None body fs x e h = absurd cc
+one_with parts is_main modes sy g (Some other) body fs x e h =
+    let made : (s : Segment) × (function_of parts is_main modes g ≡ Ok s) × (◌≡◌ {A = Result Placed Fault} (Ok (fs ++ (sy, s) ∷ [])) (Ok x)) = bound (function_of parts is_main modes g) (λ s. Ok (fs ++ (sy, s) ∷ [])) x h in
     record { segment = made.0; made = made.1; is = answer (fs ++ (sy, made.0) ∷ []) x made.2 }
 
-one_other : (parts : Parts) (is_main honoured : Bool) (sy : Sym) (g : FuncTy) (b : Option Stmt) (fs x : Placed) (n : ℕ) → one_more parts is_main honoured sy g b fs ≡ Ok x → AllOther n fs → (sy.0 ≡ n → ⊥) → AllOther n x
-one_other parts is_main honoured sy g None fs x n h o k = subst (λ (l : Placed). AllOther n l) (answer fs x h) o
-one_other parts is_main honoured sy g (Some body) fs x n h o k =
-    let made : One parts is_main honoured sy g fs x = one_with parts is_main honoured sy g (Some body) body fs x refl h in
+one_other : (parts : Parts) (is_main : Bool) (modes : Modes) (sy : Sym) (g : FuncTy) (b : Option Stmt) (fs x : Placed) (n : ℕ) → one_more parts is_main modes sy g b fs ≡ Ok x → AllOther n fs → (sy.0 ≡ n → ⊥) → AllOther n x
+one_other parts is_main modes sy g None fs x n h o k = subst (λ (l : Placed). AllOther n l) (answer fs x h) o
+one_other parts is_main modes sy g (Some body) fs x n h o k =
+    let made : One parts is_main modes sy g fs x = one_with parts is_main modes sy g (Some body) body fs x refl h in
     subst (λ (l : Placed). AllOther n l) made.is (other_more n fs (sy, made.segment) o k)
 
-one_keeps : (parts : Parts) (is_main honoured : Bool) (sy : Sym) (g : FuncTy) (b : Option Stmt) (fs x : Placed) → one_more parts is_main honoured sy g b fs ≡ Ok x → (more : Placed) × (x ≡ fs ++ more)
-one_keeps parts is_main honoured sy g None fs x h = ([], sym (answer fs x h) ∙ no_more fs)
-one_keeps parts is_main honoured sy g (Some body) fs x h =
-    let made : One parts is_main honoured sy g fs x = one_with parts is_main honoured sy g (Some body) body fs x refl h in
+one_keeps : (parts : Parts) (is_main : Bool) (modes : Modes) (sy : Sym) (g : FuncTy) (b : Option Stmt) (fs x : Placed) → one_more parts is_main modes sy g b fs ≡ Ok x → (more : Placed) × (x ≡ fs ++ more)
+one_keeps parts is_main modes sy g None fs x h = ([], sym (answer fs x h) ∙ no_more fs)
+one_keeps parts is_main modes sy g (Some body) fs x h =
+    let made : One parts is_main modes sy g fs x = one_with parts is_main modes sy g (Some body) body fs x refl h in
     ((sy, made.segment) ∷ [], sym made.is)
 
 -- later functions stand behind
-later : (parts : Parts) (main : ℕ) (honoured : Bool) (k : ℕ) (gs : List TFunc) (fs out : Placed) → functions_from parts main honoured k gs fs ≡ Ok out → (more : Placed) × (out ≡ fs ++ more)
-later parts main honoured k [] fs out h = ([], sym (answer fs out h) ∙ no_more fs)
-later parts main honoured k (g ∷ gs) fs out h =
-    let step : (x : Placed) × (function_added parts main honoured k (func_of g) fs ≡ Ok x) × (functions_from parts main honoured (suc k) gs x ≡ Ok out) = bound (function_added parts main honoured k (func_of g) fs) (functions_from parts main honoured (suc k) gs) out h in
-    let first = one_keeps parts (k == main) honoured (function_symbol (numbers_of parts) k) (func_of g) (func_of g).body fs step.0 step.1 in
-    let rest = later parts main honoured (suc k) gs step.0 out step.2 in
+later : (parts : Parts) (main : ℕ) (modes : Modes) (k : ℕ) (gs : List TFunc) (fs out : Placed) → functions_from parts main modes k gs fs ≡ Ok out → (more : Placed) × (out ≡ fs ++ more)
+later parts main modes k [] fs out h = ([], sym (answer fs out h) ∙ no_more fs)
+later parts main modes k (g ∷ gs) fs out h =
+    let step : (x : Placed) × (function_added parts main modes k (func_of g) fs ≡ Ok x) × (functions_from parts main modes (suc k) gs x ≡ Ok out) = bound (function_added parts main modes k (func_of g) fs) (functions_from parts main modes (suc k) gs) out h in
+    let first = one_keeps parts (k == main) modes (function_symbol (numbers_of parts) k) (func_of g) (func_of g).body fs step.0 step.1 in
+    let rest = later parts main modes (suc k) gs step.0 out step.2 in
     (first.0 ++ rest.0, rest.1 ∙ (ap (λ (l : Placed). l ++ rest.0) first.1 ∙ append fs first.0 rest.0))
 
-record There (parts : Parts) (main : ℕ) (honoured : Bool) (n : ℕ) (g : FuncTy) (out : Placed) : Type 0 where
+record There (parts : Parts) (main : ℕ) (modes : Modes) (n : ℕ) (g : FuncTy) (out : Placed) : Type 0 where
   segment : Segment
-  made : function_of parts (n == main) honoured g ≡ Ok segment
+  made : function_of parts (n == main) modes g ≡ Ok segment
   found : placement.segment_of out (number parts n) ≡ segment
 
-there : (parts : Parts) (main : ℕ) (honoured : Bool) (k j n : ℕ) (gs : List TFunc) (t : TFunc) (body : Stmt) (fs out : Placed) → k + j ≡ n → slice_get gs j ≡ Some t → (func_of t).body ≡ Some body → functions_from parts main honoured k gs fs ≡ Ok out
-    → AllOther (number parts n) fs → ((m : ℕ) → m < n → number parts m ≡ number parts n → ⊥) → There parts main honoured n (func_of t) out
-there parts main honoured k j n [] t body fs out e here some h others differ = absurd cc
-there parts main honoured k zero n (g ∷ gs) t body fs out e here some h others differ =
-    let step : (x : Placed) × (function_added parts main honoured k (func_of g) fs ≡ Ok x) × (functions_from parts main honoured (suc k) gs x ≡ Ok out) = bound (function_added parts main honoured k (func_of g) fs) (functions_from parts main honoured (suc k) gs) out h in
+there : (parts : Parts) (main : ℕ) (modes : Modes) (k j n : ℕ) (gs : List TFunc) (t : TFunc) (body : Stmt) (fs out : Placed) → k + j ≡ n → slice_get gs j ≡ Some t → (func_of t).body ≡ Some body → functions_from parts main modes k gs fs ≡ Ok out
+    → AllOther (number parts n) fs → ((m : ℕ) → m < n → number parts m ≡ number parts n → ⊥) → There parts main modes n (func_of t) out
+there parts main modes k j n [] t body fs out e here some h others differ = absurd cc
+there parts main modes k zero n (g ∷ gs) t body fs out e here some h others differ =
+    let step : (x : Placed) × (function_added parts main modes k (func_of g) fs ≡ Ok x) × (functions_from parts main modes (suc k) gs x ≡ Ok out) = bound (function_added parts main modes k (func_of g) fs) (functions_from parts main modes (suc k) gs) out h in
     let same : g ≡ t = cc in
     let at : k ≡ n = omega (arith, e) in
-    let own : function_added parts main honoured n (func_of t) fs ≡ Ok step.0 = ap (λ (m : ℕ). function_added parts main honoured m (func_of t) fs) (sym at) ∙ (ap (λ (x : TFunc). function_added parts main honoured k (func_of x) fs) (sym same) ∙ step.1) in
-    let one : One parts (n == main) honoured (function_symbol (numbers_of parts) n) (func_of t) fs step.0 = one_with parts (n == main) honoured (function_symbol (numbers_of parts) n) (func_of t) (func_of t).body body fs step.0 some own in
-    let rest = later parts main honoured (suc k) gs step.0 out step.2 in
+    let own : function_added parts main modes n (func_of t) fs ≡ Ok step.0 = ap (λ (m : ℕ). function_added parts main modes m (func_of t) fs) (sym at) ∙ (ap (λ (x : TFunc). function_added parts main modes k (func_of x) fs) (sym same) ∙ step.1) in
+    let one : One parts (n == main) modes (function_symbol (numbers_of parts) n) (func_of t) fs step.0 = one_with parts (n == main) modes (function_symbol (numbers_of parts) n) (func_of t) (func_of t).body body fs step.0 some own in
+    let rest = later parts main modes (suc k) gs step.0 out step.2 in
     let lists : out ≡ (fs ++ (function_symbol (numbers_of parts) n, one.segment) ∷ []) ++ rest.0 = rest.1 ∙ ap (λ (l : Placed). l ++ rest.0) (sym one.is) in
     record { segment = one.segment; made = one.made; found = ap (λ (l : Placed). placement.segment_of l (number parts n)) lists ∙ found_at (function_symbol (numbers_of parts) n) one.segment fs rest.0 others }
-there parts main honoured k (suc j) n (g ∷ gs) t body fs out e here some h others differ =
-    let step : (x : Placed) × (function_added parts main honoured k (func_of g) fs ≡ Ok x) × (functions_from parts main honoured (suc k) gs x ≡ Ok out) = bound (function_added parts main honoured k (func_of g) fs) (functions_from parts main honoured (suc k) gs) out h in
-    let others_on : AllOther (number parts n) step.0 = one_other parts (k == main) honoured (function_symbol (numbers_of parts) k) (func_of g) (func_of g).body fs step.0 (number parts n) step.1 others (differ k (omega (arith, e))) in
-    there parts main honoured (suc k) j n gs t body step.0 out (omega (arith, e)) here some step.2 others_on differ
+there parts main modes k (suc j) n (g ∷ gs) t body fs out e here some h others differ =
+    let step : (x : Placed) × (function_added parts main modes k (func_of g) fs ≡ Ok x) × (functions_from parts main modes (suc k) gs x ≡ Ok out) = bound (function_added parts main modes k (func_of g) fs) (functions_from parts main modes (suc k) gs) out h in
+    let others_on : AllOther (number parts n) step.0 = one_other parts (k == main) modes (function_symbol (numbers_of parts) k) (func_of g) (func_of g).body fs step.0 (number parts n) step.1 others (differ k (omega (arith, e))) in
+    there parts main modes (suc k) j n gs t body step.0 out (omega (arith, e)) here some step.2 others_on differ
 
 -- the lines of the function
 record Lines (p : Program) (i : ℕ) (g : FuncTy) (body : Stmt) (s : Segment) : Type 0 where
   frame : Framed
-  framed : frame_of p.parts p.honoured g ≡ Ok frame
+  framed : frame_of p.parts p.modes g ≡ Ok frame
   lines : s.lines ≡ (with_function frame (i == p.main) (Some body) (no_lines (gives_of p.parts g))).lines
 
-made_lines : (p : Program) (i : ℕ) (g : FuncTy) (body : Stmt) (s : Segment) → g.body ≡ Some body → function_of p.parts (i == p.main) p.honoured g ≡ Ok s → Lines p i g body s
+made_lines : (p : Program) (i : ℕ) (g : FuncTy) (body : Stmt) (s : Segment) → g.body ≡ Some body → function_of p.parts (i == p.main) p.modes g ≡ Ok s → Lines p i g body s
 unfolding function_of
 made_lines p i g body s some h =
-    let made : (f : Framed) × (frame_of p.parts p.honoured g ≡ Ok f) × (◌≡◌ {A = Result Segment Fault} (Ok (segment_of p.parts (i == p.main) g f)) (Ok s)) = bound (frame_of p.parts p.honoured g) (λ f. Ok (segment_of p.parts (i == p.main) g f)) s h in
+    let made : (f : Framed) × (frame_of p.parts p.modes g ≡ Ok f) × (◌≡◌ {A = Result Segment Fault} (Ok (segment_of p.parts (i == p.main) g f)) (Ok s)) = bound (frame_of p.parts p.modes g) (λ f. Ok (segment_of p.parts (i == p.main) g f)) s h in
     let same : segment_of p.parts (i == p.main) g made.0 ≡ s = answer (segment_of p.parts (i == p.main) g made.0) s made.2 in
     record { frame = made.0; framed = made.1; lines = sym (ap (λ (z : Segment). z.lines) same) ∙ ap (λ (b : Option Stmt). (with_function made.0 (i == p.main) b (no_lines (gives_of p.parts g))).lines) some }
 
@@ -134,14 +135,14 @@ item_of parts i g (Some t) is e =
 
 pub programs_are_compiled : ProgramsAreCompiled
 programs_are_compiled p names code place i g body h unit few found some labels =
-    let made : (fs : Placed) × (functions_of p.parts p.main p.honoured ≡ Ok fs) × (◌≡◌ {A = Result Code Fault} (Ok (code_of p.parts p.main names fs)) (Ok code)) = bound (functions_of p.parts p.main p.honoured) (λ fs. Ok (code_of p.parts p.main names fs)) code h in
+    let made : (fs : Placed) × (functions_of p.parts p.main p.modes ≡ Ok fs) × (◌≡◌ {A = Result Code Fault} (Ok (code_of p.parts p.main names fs)) (Ok code)) = bound (functions_of p.parts p.main p.modes) (λ fs. Ok (code_of p.parts p.main names fs)) code h in
     let same : made.0 ≡ code.functions = ap (λ (c : Code). c.functions) (answer (code_of p.parts p.main names made.0) code made.2) in
     let item = item_of p.parts i g (slice_get p.parts.funcs.items i) refl found in
     let below : i < length p.parts.funcs.items = slice_get_within p.parts.funcs.items i item.0 item.1 in
     let differ : (m : ℕ) → m < i → number p.parts m ≡ number p.parts i → ⊥ = λ m low e. let equal : m ≡ i = same_number (length p.parts.objects.items) (length p.parts.literals.items) (length p.parts.funcs.items) m i few (omega (arith, low, below)) below e in omega (arith, low, equal) in
     let bodied : (func_of item.0).body ≡ Some body = ap (λ (f : FuncTy). f.body) item.2 ∙ some in
-    let at : There p.parts p.main p.honoured i (func_of item.0) made.0 = there p.parts p.main p.honoured 0 i i p.parts.funcs.items item.0 body [] made.0 (omega arith) item.1 bodied made.1 tt differ in
-    let function : function_of p.parts (i == p.main) p.honoured g ≡ Ok at.segment = ap (λ (f : FuncTy). function_of p.parts (i == p.main) p.honoured f) (sym item.2) ∙ at.made in
+    let at : There p.parts p.main p.modes i (func_of item.0) made.0 = there p.parts p.main p.modes 0 i i p.parts.funcs.items item.0 body [] made.0 (omega arith) item.1 bodied made.1 tt differ in
+    let function : function_of p.parts (i == p.main) p.modes g ≡ Ok at.segment = ap (λ (f : FuncTy). function_of p.parts (i == p.main) p.modes f) (sym item.2) ∙ at.made in
     let lines : Lines p i g body at.segment = made_lines p i g body at.segment some function in
     let well : IsBody (unit_of p.parts) g body = subst (λ (b : Option Stmt). HasBody (unit_of p.parts) g b) some (func_in (unit_of p.parts) i g unit.funcs found).body in
     let level = functions_are_level (unit_of p.parts) g body lines.frame (i == p.main) (gives_of p.parts g) well (labels lines.frame lines.framed) in

@@ -56,7 +56,7 @@ body_of s p c sound made =
 laid_of : (s : Setting) (p : Program) (c : Compiled) → IsSound p → IsCompiled s p c → IsLaid s (laid p c)
 laid_of s p c sound made = record {
   parts = p.parts;
-  honoured = p.honoured;
+  modes = p.modes;
   func = c.func;
   framed = made.framed;
   lines = made.lines ∙ made.split;
@@ -122,7 +122,7 @@ library_of parts i h (Some f) is e =
     ap (λ (g : FuncTy). g.library) same
 
 library_is : (s : Setting) (p : Program) (c : Compiled) (i : ℕ) (h : FuncTy) → IsCompiled s p c → slice_get (unit_of p.parts).funcs i ≡ Some h → library_at c.frame i ≡ h.library
-library_is s p c i h made there = ap (λ (x : Parts). library_in (slice_get x.funcs.items i)) (parts_are p.parts p.honoured c.func c.frame made.framed) ∙ library_of p.parts i h (slice_get p.parts.funcs.items i) refl there
+library_is s p c i h made there = ap (λ (x : Parts). library_in (slice_get x.funcs.items i)) (parts_are p.parts p.modes c.func c.frame made.framed) ∙ library_of p.parts i h (slice_get p.parts.funcs.items i) refl there
 
 -- ---- a call of a compiled function agrees with it
 
@@ -147,7 +147,7 @@ agrees_at s p c d j line (Some i) a q t u made sound first second is reach asked
     let there = named_there (unit_of p.parts) made.site.callee i made.typed.0 is in
     let same : line ≡ named_line c.frame i (library_at c.frame i) made.site = made.calls ∙ ap (λ (o : Option ℕ). line_by c.frame o made.site) is in
     let to = named_reach s c.frame i (library_at c.frame i) made.site (laid p d).number a q t u (subst (λ (x : Line). Reaches s x (laid p d).number a t q u) same reach) in
-    let number : (function_symbol (numbers_of p.parts) i).0 ≡ (function_symbol (numbers_of p.parts) d.index).0 = ap (λ (x : Parts). (function_symbol (numbers_of x) i).0) (sym (parts_are p.parts p.honoured c.func c.frame first.framed)) ∙ to.1 in
+    let number : (function_symbol (numbers_of p.parts) i).0 ≡ (function_symbol (numbers_of p.parts) d.index).0 = ap (λ (x : Parts). (function_symbol (numbers_of x) i).0) (sym (parts_are p.parts p.modes c.func c.frame first.framed)) ∙ to.1 in
     let index : i ≡ d.index = same_function p i d.index there.0 d.func sound there.1 second.found number in
     let found : slice_get (unit_of p.parts).funcs i ≡ Some d.func = ap (λ (k : ℕ). slice_get (unit_of p.parts).funcs k) index ∙ second.found in
     let none : d.func.library ≡ None = sym (library_is s p c i d.func first found) ∙ to.0 in
@@ -208,7 +208,7 @@ travel s p c j m t u sound first (library {k = k} {u = v} line l at runs asked r
 travel s p c j m t u sound first (calls {d = d} {k = k} {from = from} {to = to} {u = w} {v = v} {x = x} q b line second at reach asked counted entry body same number end rest) =
     let made : IsMade (unit_of p.parts) c.frame c.body c.middle j line = site_of s p c j line sound first at (reach_calls s line (laid p d).number (place_in (laid p c) j) q t b reach) in
     let agrees : Agrees (unit_of p.parts) made.site d.func = agrees_at s p c d j line (named made.site.callee) (place_in (laid p c) j) q t b made sound first second refl reach (asked made.site made.found) in
-    let bytes : bytes_in (bytes_of made.site) + pushed_bytes d.frame.last ≡ passed_bytes d.frame b = agreed_bytes p.parts p.honoured d.func d.frame made.site b second.framed agrees (counted made.site made.found) in
+    let bytes : bytes_in (bytes_of made.site) + pushed_bytes d.frame.last ≡ passed_bytes d.frame b = agreed_bytes p.parts p.modes d.func d.frame made.site b second.framed agrees (counted made.site made.found) in
     let before : bytes_before (laid p c) j ≡ bytes_before (laid p c) (suc j) + bytes_in (bytes_of made.site) = made.takes in
     let takes : bytes_before (laid p c) j + pushed_bytes d.frame.last ≡ bytes_before (laid p c) (suc j) + passed_bytes d.frame b = omega (arith, bytes, before) in
     let entered : Entered s (laid p d).number (place_in (laid p c) j) t q b = reach_enters s line (laid p d).number (place_in (laid p c) j) q t b reach in

@@ -14,8 +14,8 @@ use Rattle.c65_gen_law_calls.specs.Travels.{Program, Compiled, IsCompiled}
 -- placed, where the symbols have numbers of their own and at most 2^32 labels are given.
 abbrev pub ProgramsAreCompiled : Type 0
 ProgramsAreCompiled = (p : Program) (names : List (List ℕ)) (code : Code) (place : Placement) (i : ℕ) (g : FuncTy) (body : Stmt)
-    → program_of p.parts p.main names p.honoured ≡ Ok code → IsUnit (unit_of p.parts)
+    → program_of p.parts p.main names p.modes ≡ Ok code → IsUnit (unit_of p.parts)
     → length p.parts.objects.items + length p.parts.literals.items + length p.parts.funcs.items ≤ 2 ^ 32
     → slice_get (unit_of p.parts).funcs i ≡ Some g → g.body ≡ Some body
-    → ((f : Framed) → frame_of p.parts p.honoured g ≡ Ok f → (with_function f (i == p.main) (Some body) (no_lines (gives_of p.parts g))).labels ≤ 2 ^ 32)
+    → ((f : Framed) → frame_of p.parts p.modes g ≡ Ok f → (with_function f (i == p.main) (Some body) (no_lines (gives_of p.parts g))).labels ≤ 2 ^ 32)
     → (c : Compiled) × (c.index ≡ i) × (c.func ≡ g) × (c.body ≡ body) × IsCompiled (setting_of code place) p c

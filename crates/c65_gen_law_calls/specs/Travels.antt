@@ -19,6 +19,7 @@ use Rattle.c65_code.specs.Forms.{form_of}
 use Rattle.c65_code.specs.Rows.{row_of}
 use Rattle.c65_code.specs.Moves.{settle, MeetsRow, IsCallee, Enters, Moves}
 use Rattle.c65_code.specs.Steady.{IsSteady}
+use Rattle.c65_genframe.specs.declared.modes.Modes.{Modes}
 use Rattle.c65_genframe.specs.Frames.{Framed, frame_of}
 use Rattle.c65_genframe.specs.Symbols.{numbers_of, function_symbol}
 use Rattle.c65_genexpr.specs.Calls.{named}
@@ -34,11 +35,11 @@ use Rattle.c65_gen_law_calls.specs.Sites.{Site, bytes_of}
 use Rattle.c65_gen_law_calls.specs.Lines.{site_at}
 use Rattle.c65_gen_law_calls.specs.Agreement.{Agrees, LibraryAgrees, NamesAgree}
 
--- a program: its parts, the number of its main function, and whether `register` is honoured
+-- a program: its parts, the number of its main function, and what the options ask of its lines
 pub record Program : Type 0 where
   pub parts : Parts
   pub main : ℕ
-  pub honoured : Bool
+  pub modes : Modes
 
 -- a function of a program that has a body, with its frame, and its lines between its entry and its end
 pub record Compiled : Type 0 where
@@ -58,7 +59,7 @@ all_lines p c = (with_function c.frame (c.index == p.main) (Some c.body) (no_lin
 pub record IsCompiled (s : Setting) (p : Program) (c : Compiled) : Type 0 where
   pub found : slice_get (unit_of p.parts).funcs c.index ≡ Some c.func
   pub has_body : c.func.body ≡ Some c.body
-  pub framed : frame_of p.parts p.honoured c.func ≡ Ok c.frame
+  pub framed : frame_of p.parts p.modes c.func ≡ Ok c.frame
   pub lines : s.lines (laid p c).number ≡ all_lines p c
   pub split : all_lines p c ≡ entry_code c.frame ++ (c.middle ++ end_code c.frame)
   pub few : (with_function c.frame (c.index == p.main) (Some c.body) (no_lines (gives_of p.parts c.func))).labels ≤ 2 ^ 32

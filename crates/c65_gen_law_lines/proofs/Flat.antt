@@ -17,7 +17,7 @@ use Rattle.c65_genwide.specs.Lines.{value, call}
 use Rattle.c65_genentry.specs.Words.{sp, tmp1, tmp2, ptr1, ptr2, regbank, implied, zero_page, by_y, branch}
 use Rattle.c65_genentry.specs.Stack.{count_of, raise_by, lower_by, small_raise, small_lower, repeated, raise_code, lower_code}
 use Rattle.c65_genentry.specs.Ends.{restored_code, plain_end, variadic_end, end_code}
-use Rattle.c65_genentry.specs.Entry.{pushed_code, bank_store, kept_code, saved_code, counted_code, count_code, near_load, far_load, load_code, moved_code, all_moved, taken_bytes, entry_code}
+use Rattle.c65_genentry.specs.Entry.{pushed_code, bank_store, kept_code, saved_code, counted_code, count_code, near_load, far_load, load_code, moved_code, all_moved, taken_bytes, checked_code, taking_code, entry_code}
 use Rattle.c65_genentry.specs.Pointers as pointers
 use Rattle.c65_genentry.specs.Bytes.{page_code, pages_code, rest_code, rest_labels, block_code, block_labels}
 use Rattle.c65_genentry.specs.Bytes as blocks
@@ -134,11 +134,18 @@ moved_flat : (ms : List Moved) → Flat (all_moved ms)
 moved_flat [] = flat_none
 moved_flat (m ∷ ms) = flat_append (moved_code m) (all_moved ms) (flat_append (load_code m.from m.bytes) (bank_store m.bank m.bytes) (load_flat m.from m.bytes) (bank_store_flat m.bank m.bytes)) (moved_flat ms)
 
-pub entry_flat : (f : Framed) → Flat (entry_code f)
-entry_flat f =
+checked_flat : (check : Option ℕ) → Flat (checked_code check)
+checked_flat None = flat_none
+checked_flat (Some c) = record { plain = refl; fit = refl }
+
+taking_flat : (f : Framed) → Flat (taking_code f)
+taking_flat f =
     let counted : Flat (counted_code f.variadic) = flat_if f.variadic (implied Tya ∷ []) [] (record { plain = refl; fit = refl }) flat_none in
     let count : Flat (count_code f.variadic) = flat_if f.variadic (call PushA ∷ []) [] (record { plain = refl; fit = refl }) flat_none in
     flat_append (pushed_code f.last) _ (pushed_flat f.last) (flat_append (counted_code f.variadic) _ counted (flat_append (saved_code f.bank) _ (saved_flat f.bank) (flat_append (kept_code f.last) _ (kept_flat f.last) (flat_append (lower_code (taken_bytes f.variadic f.soft)) _ (lower_flat (taken_bytes f.variadic f.soft)) (flat_append (count_code f.variadic) (all_moved f.moved) count (moved_flat f.moved))))))
+
+pub entry_flat : (f : Framed) → Flat (entry_code f)
+entry_flat f = flat_append (checked_code f.check) (taking_code f) (checked_flat f.check) (taking_flat f)
 
 restored_flat : (bank : ℕ) → Flat (restored_code bank)
 restored_flat bank = flat_if (nat_lt 0 bank) (call RestRegs ∷ []) [] (record { plain = refl; fit = refl }) flat_none

@@ -8,6 +8,7 @@ use Rattle.c65_base.specs.declared.refusal.Size.TheVariants as sizes
 use Rattle.c65_base.specs.Answers.{large}
 use Rattle.c65_csem.specs.declared.items.Parts.{Parts}
 use Rattle.c65_ctype.specs.Views.{types_of}
+use Rattle.c65_genframe.specs.declared.modes.Modes.{Modes}
 use Rattle.c65_genframe.specs.declared.home.Home.{Home}
 use Rattle.c65_genframe.specs.declared.home.Home.TheVariants.{Bank, Soft}
 use Rattle.c65_genframe.specs.declared.home.Arrival.{Arrival}
@@ -18,7 +19,7 @@ use Rattle.c65_genframe.specs.Arrivals.{Arrivals, arrive, with_slot, arrived}
 use Rattle.c65_genframe.specs.Sizes.{object_in, object_bytes, slot_bytes, bank_bytes}
 use Rattle.c65_genframe.specs.Marks.{lowest, all_marks}
 use Rattle.c65_genframe.specs.Objects.{locals_of}
-use Rattle.c65_genframe.specs.Frames.{has_prototype, is_variadic, register_param, arrival, is_kept, last_bytes, without_last, bytes_without, saved_bytes, first_arrivals, settled, passed_bytes, placed_in}
+use Rattle.c65_genframe.specs.Frames.{has_prototype, is_variadic, register_param, arrival, is_kept, last_bytes, without_last, bytes_without, saved_bytes, first_arrivals, check_of, settled, passed_bytes, placed_in}
 use Rattle.c65_gen_law_lines.specs.Laws.{FramesAreSmall}
 
 -- a sum that is small did not stand still
@@ -49,20 +50,20 @@ local_room false false bank bytes total p e same h =
     let sum : total ≡ p.total + bytes = same ∙ min_small (p.total + bytes) (omega (arith, h, same)) in
     record { few = omega (arith, h, sum); soft = omega (arith, sum) }
 
-step_room : (parts : Parts) (honoured : Bool) (i : ℕ) (mark : Mark) (p : Places) → (with_marked parts honoured i mark p).total ≤ 1024 → Room p (with_marked parts honoured i mark p)
-step_room parts honoured i Other p h = record { few = h; soft = omega arith }
-step_room parts honoured i Local p h =
-    let bank : ℕ = bank_bytes honoured (object_in parts i) in
+step_room : (parts : Parts) (modes : Modes) (i : ℕ) (mark : Mark) (p : Places) → (with_marked parts modes i mark p).total ≤ 1024 → Room p (with_marked parts modes i mark p)
+step_room parts modes i Other p h = record { few = h; soft = omega arith }
+step_room parts modes i Local p h =
+    let bank : ℕ = bank_bytes modes.honoured (object_in parts i) in
     let bytes : ℕ = object_bytes (types_of parts.types) (object_in parts i) in
     local_room (nat_lt 1024 (more p.total bytes)) (fits bank p) bank bytes (more p.total bytes) p refl refl h
-step_room parts honoured i Parameter p h = let bank : ℕ = bank_bytes honoured (object_in parts i) in parameter_room (fits bank p) bank p h
+step_room parts modes i Parameter p h = let bank : ℕ = bank_bytes modes.honoured (object_in parts i) in parameter_room (fits bank p) bank p h
 
-pub all_room : (parts : Parts) (honoured : Bool) (i : ℕ) (marks : List Mark) (p : Places) → (placed_all parts honoured i marks p).total ≤ 1024 → Room p (placed_all parts honoured i marks p)
-all_room parts honoured i [] p h = record { few = h; soft = omega arith }
-all_room parts honoured i (mark ∷ marks) p h =
-    let q : Places = with_marked parts honoured i mark p in
-    let rest : Room q (placed_all parts honoured ((i + 1) % 4294967296) marks q) = all_room parts honoured ((i + 1) % 4294967296) marks q h in
-    let first : Room p q = step_room parts honoured i mark p rest.few in
+pub all_room : (parts : Parts) (modes : Modes) (i : ℕ) (marks : List Mark) (p : Places) → (placed_all parts modes i marks p).total ≤ 1024 → Room p (placed_all parts modes i marks p)
+all_room parts modes i [] p h = record { few = h; soft = omega arith }
+all_room parts modes i (mark ∷ marks) p h =
+    let q : Places = with_marked parts modes i mark p in
+    let rest : Room q (placed_all parts modes ((i + 1) % 4294967296) marks q) = all_room parts modes ((i + 1) % 4294967296) marks q h in
+    let first : Room p q = step_room parts modes i mark p rest.few in
     record { few = first.few; soft = omega (arith, first.soft, rest.soft) }
 
 -- ---- parameters that move to regbank
@@ -100,14 +101,14 @@ answered true x y f h = absurd cc
 answered false x y f h = (refl, cc)
 
 pub frames_are_small : FramesAreSmall
-frames_are_small parts honoured g f h =
-    let p : Places = placed_in parts honoured g in
+frames_are_small parts modes g f h =
+    let p : Places = placed_in parts modes g in
     let low : ℕ = lowest (locals_of g) g.params in
     let passed : ℕ = passed_bytes parts g in
     let last : Arrival = arrival parts (has_prototype g.ty) low p.homes (register_param g) in
-    let given : (nat_lt 1024 p.total ≡ false) × (settled parts g low passed p ≡ f) = answered (nat_lt 1024 p.total) (large sizes.Frame p.total) (settled parts g low passed p) f h in
+    let given : (nat_lt 1024 p.total ≡ false) × (settled parts (check_of parts modes g) g low passed p ≡ f) = answered (nat_lt 1024 p.total) (large sizes.Frame p.total) (settled parts (check_of parts modes g) g low passed p) f h in
     let few : p.total ≤ 1024 = ltb-false 1024 p.total given.0 in
-    let room : Room (none_placed (is_variadic g.ty) passed) p = all_room parts honoured low (all_marks (locals_of g) g.params) (none_placed (is_variadic g.ty) passed) few in
+    let room : Room (none_placed (is_variadic g.ty) passed) p = all_room parts modes low (all_marks (locals_of g) g.params) (none_placed (is_variadic g.ty) passed) few in
     let soft : p.soft ≡ f.soft = ap (λ z. z.soft) given.1 in
     let stacked : bytes_without (is_kept last) passed (last_bytes parts (has_prototype g.ty) (register_param g)) ≡ f.stacked = ap (λ z. z.stacked) given.1 in
     let homes : Arrivals = arrived parts (has_prototype g.ty) low (p.soft + saved_bytes p.bank) (without_last (is_kept last) g.params) (first_arrivals p (bytes_without (is_kept last) passed (last_bytes parts (has_prototype g.ty) (register_param g)))) in

@@ -11,6 +11,7 @@ use Rattle.c65_csem.specs.declared.items.Parts.{Parts}
 use Rattle.c65_csem.specs.Trees.{ObjectTy}
 use Rattle.c65_csem.specs.Places.{is_register}
 use Rattle.c65_ctype.specs.Trees.{type_in}
+use Rattle.c65_genframe.specs.declared.modes.Modes.{Modes}
 use Rattle.c65_genframe.specs.declared.home.Home.{Home}
 use Rattle.c65_genframe.specs.declared.home.Home.TheVariants.{Bank, Soft}
 use Rattle.c65_genframe.specs.declared.mark.Mark.{Mark}
@@ -20,7 +21,7 @@ use Rattle.c65_genframe.specs.Arrivals.{slots, Arrivals, arrive, with_slot, arri
 use Rattle.c65_genframe.specs.Sizes.{object_in, object_bytes, slot_bytes, bank_size, bank_bytes}
 use Rattle.c65_genframe.specs.Marks.{least, lowest, marked, no_marks, all_marks}
 use Rattle.c65_genframe.specs.Objects.{locals_of}
-use Rattle.c65_genframe.specs.Frames.{Framed, has_prototype, is_variadic, takes_stack, register_param, flat, home_at, arrival_at, arrival, is_kept, last_bytes, without_last, bytes_without, saved_bytes, first_arrivals, settled, passed_bytes, placed_in}
+use Rattle.c65_genframe.specs.Frames.{Framed, has_prototype, is_variadic, takes_stack, register_param, flat, home_at, arrival_at, arrival, is_kept, last_bytes, without_last, bytes_without, saved_bytes, first_arrivals, check_of, settled, passed_bytes, placed_in}
 use Rattle.c65_gen_law_lines.specs.Labels.{among}
 use Rattle.c65_gen_law_lines.specs.Homes.{next, in_bank, in_blocks, in_home, in_params}
 use Rattle.c65_gen_law_lines.specs.Laws.{HomesAreApart}
@@ -87,13 +88,13 @@ parameter_single false parts x i bank p same h = record { home = Some (Soft 0); 
 fitting : (honoured : Bool) (o : Option ObjectTy) (p : Places) → fits (bank_bytes honoured o) p ≡ true → bank_bytes honoured o ≡ bank_bytes true o
 fitting honoured o p h = given_bytes honoured o (ltb-true 0 (bank_bytes honoured o) (and_parts (nat_lt 0 (bank_bytes honoured o)) (nat_le (p.bank + bank_bytes honoured o) 6) h).0)
 
-single : (parts : Parts) (honoured : Bool) (x i : ℕ) (mark : Mark) (p : Places) → Single parts x i mark p (with_marked parts honoured i mark p)
-single parts honoured x i Other p = record { home = None; homes = refl; bank = omega arith; blocks = omega arith; six = λ le. le }
-single parts honoured x i Local p =
-    let bank : ℕ = bank_bytes honoured (object_in parts i) in
+single : (parts : Parts) (modes : Modes) (x i : ℕ) (mark : Mark) (p : Places) → Single parts x i mark p (with_marked parts modes i mark p)
+single parts modes x i Other p = record { home = None; homes = refl; bank = omega arith; blocks = omega arith; six = λ le. le }
+single parts modes x i Local p =
+    let bank : ℕ = bank_bytes modes.honoured (object_in parts i) in
     let total : ℕ = more p.total (object_bytes (types_of parts.types) (object_in parts i)) in
-    local_single (nat_lt 1024 total) (fits bank p) parts x i bank total p (fitting honoured (object_in parts i) p) refl
-single parts honoured x i Parameter p = parameter_single (fits (bank_bytes honoured (object_in parts i)) p) parts x i (bank_bytes honoured (object_in parts i)) p (fitting honoured (object_in parts i) p) refl
+    local_single (nat_lt 1024 total) (fits bank p) parts x i bank total p (fitting modes.honoured (object_in parts i) p) refl
+single parts modes x i Parameter p = parameter_single (fits (bank_bytes modes.honoured (object_in parts i)) p) parts x i (bank_bytes modes.honoured (object_in parts i)) p (fitting modes.honoured (object_in parts i) p) refl
 
 -- many are placed
 record Tiled (parts : Parts) (x i : ℕ) (marks : List Mark) (p q : Places) : Type 0 where
@@ -119,12 +120,12 @@ nothing_more : (hs : List (Option Home)) → hs ++ [] ≡ hs
 nothing_more [] = refl
 nothing_more (h ∷ hs) = ap (λ l. h ∷ l) (nothing_more hs)
 
-tiled : (parts : Parts) (honoured : Bool) (x i : ℕ) (marks : List Mark) (p : Places) → Tiled parts x i marks p (placed_all parts honoured i marks p)
-tiled parts honoured x i [] p = record { new = []; homes = sym (nothing_more p.homes); bank = omega arith; blocks = omega arith; six = λ le. le }
-tiled parts honoured x i (m ∷ ms) p =
-    let q : Places = with_marked parts honoured i m p in
-    let s : Single parts x i m p q = single parts honoured x i m p in
-    let r : Tiled parts x (next i) ms q (placed_all parts honoured (next i) ms q) = tiled parts honoured x (next i) ms q in
+tiled : (parts : Parts) (modes : Modes) (x i : ℕ) (marks : List Mark) (p : Places) → Tiled parts x i marks p (placed_all parts modes i marks p)
+tiled parts modes x i [] p = record { new = []; homes = sym (nothing_more p.homes); bank = omega arith; blocks = omega arith; six = λ le. le }
+tiled parts modes x i (m ∷ ms) p =
+    let q : Places = with_marked parts modes i m p in
+    let s : Single parts x i m p q = single parts modes x i m p in
+    let r : Tiled parts x (next i) ms q (placed_all parts modes (next i) ms q) = tiled parts modes x (next i) ms q in
     record {
       new = s.home ∷ r.new;
       homes = r.homes ∙ (ap (λ l. l ++ r.new) s.homes ∙ append_assoc p.homes (s.home ∷ []) r.new);
@@ -426,8 +427,8 @@ not_local_kept true ms low ps h = fewer_marks ms low (length ps - 1) ps h
 not_local_kept false ms low ps h = h
 
 pub homes_are_apart : HomesAreApart
-homes_are_apart parts honoured g f h distinct x =
-    let p : Places = placed_in parts honoured g in
+homes_are_apart parts modes g f h distinct x =
+    let p : Places = placed_in parts modes g in
     let low : ℕ = lowest (locals_of g) g.params in
     let prototype : Bool = has_prototype g.ty in
     let passed : ℕ = passed_bytes parts g in
@@ -437,11 +438,11 @@ homes_are_apart parts honoured g f h distinct x =
     let base : ℕ = p.soft + saved_bytes p.bank in
     let a : Arrivals = first_arrivals p (bytes_without kept passed (last_bytes parts prototype r)) in
     let b : Arrivals = arrived parts prototype low base (without_last kept g.params) a in
-    let given : (nat_lt 1024 p.total ≡ false) × (settled parts g low passed p ≡ f) = answered (nat_lt 1024 p.total) (large sizes.Frame p.total) (settled parts g low passed p) f h in
+    let given : (nat_lt 1024 p.total ≡ false) × (settled parts (check_of parts modes g) g low passed p ≡ f) = answered (nat_lt 1024 p.total) (large sizes.Frame p.total) (settled parts (check_of parts modes g) g low passed p) f h in
     let few : p.total ≤ 1024 = ltb-false 1024 p.total given.0 in
     let start : Places = none_placed (is_variadic g.ty) passed in
-    let room : Room start p = all_room parts honoured low marks start few in
-    let tile : Tiled parts x low marks start p = tiled parts honoured x low marks start in
+    let room : Room start p = all_room parts modes low marks start few in
+    let tile : Tiled parts x low marks start p = tiled parts modes x low marks start in
     let stay : Stays parts x low marks a b = all_stay parts prototype x low base marks (without_last kept g.params) a (not_local_kept kept marks low g.params (marks_set low g.params (marked low Local (no_marks (locals_of g) g.params) (locals_of g)))) in
     let above : AreAbove low g.params = least_above (least 4294967295 (locals_of g)) g.params in
     let differ : AllDiffer g.params = all_differ g.params (λ j k m u v. distinct.once j k m u v) in

@@ -18,7 +18,7 @@ use Rattle.c65_genwide.specs.Lines.{value, call}
 use Rattle.c65_genentry.specs.Words.{sp, tmp1, tmp2, ptr1, ptr2, regbank, implied, zero_page, by_y, branch}
 use Rattle.c65_genentry.specs.Stack.{count_of, raise_by, lower_by, small_raise, small_lower, repeated, raise_code, lower_code}
 use Rattle.c65_genentry.specs.Ends.{restored_code, plain_end, variadic_end, end_code}
-use Rattle.c65_genentry.specs.Entry.{pushed_code, bank_store, kept_code, near_load, far_load, load_code, all_moved, taken_bytes, entry_code}
+use Rattle.c65_genentry.specs.Entry.{pushed_code, bank_store, kept_code, near_load, far_load, load_code, all_moved, taken_bytes, checked_code, taking_code, entry_code}
 use Rattle.c65_genentry.specs.Pointers as pointers
 use Rattle.c65_genentry.specs.Bytes.{page_code, pages_code, rest_code, block_code}
 use Rattle.c65_genentry.specs.Bytes as blocks
@@ -124,13 +124,20 @@ taken_few : (variadic : Bool) (soft : ℕ) → soft ≤ 1025 → taken_bytes var
 taken_few true soft le = omega (arith, le)
 taken_few false soft le = le
 
-pub entry_size : (f : Framed) → f.soft ≤ 1025 → Takes (39 + 19 * length f.moved) (entry_code f)
-entry_size f le =
+checked_size : (check : Option ℕ) → Takes 15 (checked_code check)
+checked_size None = takes_wider takes_none (omega arith)
+checked_size (Some c) = record { size = omega arith }
+
+taking_size : (f : Framed) → f.soft ≤ 1025 → Takes (39 + 19 * length f.moved) (taking_code f)
+taking_size f le =
     let tya : Takes 1 (implied Tya ∷ []) = record { size = omega arith } in
     let save : Takes 3 (call SaveRegs ∷ []) = record { size = omega arith } in
     let push : Takes 3 (call PushA ∷ []) = record { size = omega arith } in
     takes_wider (takes_append (pushed_size f.last) (takes_append (takes_if f.variadic tya takes_none) (takes_append (takes_if (nat_lt 0 f.bank) save takes_none) (takes_append (kept_size f.last)
     (takes_append (lower_size (taken_bytes f.variadic f.soft) (taken_few f.variadic f.soft le)) (takes_append (takes_if f.variadic push takes_none) (moved_size f.moved))))))) (omega arith)
+
+pub entry_size : (f : Framed) → f.soft ≤ 1025 → Takes (54 + 19 * length f.moved) (entry_code f)
+entry_size f le = takes_wider (takes_append (checked_size f.check) (taking_size f le)) (omega arith)
 
 restored_size : (bank : ℕ) → Takes 3 (restored_code bank)
 restored_size bank =

@@ -4,6 +4,7 @@ use Rattle.c65_csem.specs.declared.items.Parts.{Parts}
 use Rattle.c65_csem.specs.declared.items.TFunc.{TFunc}
 use Rattle.c65_csem.specs.Views.{func_of}
 use Rattle.c65_csem.specs.Trees.{Typed, node, Node, constant, null, literal, object, func, deref, member, load, address, decay, convert, unary, binary, both, either, choice, comma, assign, assign_op, assign_step, step, copy, call, Nodes, none, some, MaybeTyped, absent, present, Stmt, eval, set_part, clear, block, if_stmt, while, do_while, for_loop, switch, case, default, label, return, Stmts, no_stmts, and_stmts, FuncTy}
+use Rattle.c65_genframe.specs.declared.modes.Modes.{Modes}
 use Rattle.c65_genframe.specs.Frames.{Framed, frame_of, type_bytes}
 use Rattle.c65_genexpr.specs.Types.{bare}
 use Rattle.c65_genstmt.specs.Objects.{object_bytes}
@@ -99,9 +100,9 @@ abbrev pub functions_nodes : List TFunc → ℕ
 functions_nodes [] = 0
 functions_nodes (g ∷ gs) = function_nodes (func_of g) + functions_nodes gs
 
-abbrev pub HasFewSets : Parts → Bool → FuncTy → Type 0
-HasFewSets parts honoured g = (body : Stmt) (f : Framed) → g.body ≡ Some body → frame_of parts honoured g ≡ Ok f → SetsFew f body
+abbrev pub HasFewSets : Parts → Modes → FuncTy → Type 0
+HasFewSets parts modes g = (body : Stmt) (f : Framed) → g.body ≡ Some body → frame_of parts modes g ≡ Ok f → SetsFew f body
 
-abbrev pub HaveFewSets : Parts → Bool → List TFunc → Type 0
-HaveFewSets parts honoured [] = Unit {0}
-HaveFewSets parts honoured (g ∷ gs) = HasFewSets parts honoured (func_of g) × HaveFewSets parts honoured gs
+abbrev pub HaveFewSets : Parts → Modes → List TFunc → Type 0
+HaveFewSets parts modes [] = Unit {0}
+HaveFewSets parts modes (g ∷ gs) = HasFewSets parts modes (func_of g) × HaveFewSets parts modes gs

@@ -9,6 +9,7 @@ use Rattle.c65_code.specs.Weights.{lines_size, extent_of}
 use Rattle.c65_code.specs.declared.code.Code.{Code}
 use Rattle.c65_csem.specs.declared.items.Parts.{Parts}
 use Rattle.c65_csem.specs.Statements.{IsDistinct}
+use Rattle.c65_genframe.specs.declared.modes.Modes.{Modes}
 use Rattle.c65_genframe.specs.Marks.{all_marks}
 use Rattle.c65_genframe.specs.Objects.{locals_of}
 use Rattle.c65_genframe.specs.Frames.{Framed, has_prototype, frame_of}
@@ -59,21 +60,21 @@ CallsAreCounted = (fast : Bool) (es : Nodes) → (passed_of fast es).stacked ≡
 
 -- a frame keeps its limit: at most 1,024 bytes, and one for the number of bytes of a variadic call
 abbrev pub FramesAreSmall : Type 0
-FramesAreSmall = (parts : Parts) (honoured : Bool) (g : FuncTy) (f : Framed) → frame_of parts honoured g ≡ Ok f → (f.soft ≤ 1025) × (f.stacked ≤ 1024) × (length f.moved ≤ length g.params)
+FramesAreSmall = (parts : Parts) (modes : Modes) (g : FuncTy) (f : Framed) → frame_of parts modes g ≡ Ok f → (f.soft ≤ 1025) × (f.stacked ≤ 1024) × (length f.moved ≤ length g.params)
 
 -- a function has at most 128 bytes for itself, each parameter and each node of its body
 abbrev pub FunctionsAreSmall : Type 0
-FunctionsAreSmall = (parts : Parts) (honoured : Bool) (g : FuncTy) (body : Stmt) (f : Framed) (is_main : Bool) (out : RegSet)
-    → frame_of parts honoured g ≡ Ok f → SetsFew f body
+FunctionsAreSmall = (parts : Parts) (modes : Modes) (g : FuncTy) (body : Stmt) (f : Framed) (is_main : Bool) (out : RegSet)
+    → frame_of parts modes g ≡ Ok f → SetsFew f body
     → lines_size (with_function f is_main (Some body) (no_lines out)).lines ≤ 128 * (1 + (length g.params + statement_nodes body))
 
 -- each byte of regbank that a function takes is part of exactly one home and no other byte of any; and no byte above sp is part of two homes
 abbrev pub HomesAreApart : Type 0
-HomesAreApart = (parts : Parts) (honoured : Bool) (g : FuncTy) (f : Framed) → frame_of parts honoured g ≡ Ok f → IsDistinct g.params → (x : ℕ)
+HomesAreApart = (parts : Parts) (modes : Modes) (g : FuncTy) (f : Framed) → frame_of parts modes g ≡ Ok f → IsDistinct g.params → (x : ℕ)
     → (in_bank parts x f.low f.homes ≡ among 0 f.bank x)
     × (in_blocks parts x f.low (all_marks (locals_of g) g.params) f.homes + in_params parts (has_prototype g.ty) x f.low f.homes g.params ≤ 1)
 
 -- the extent of a program's code: at most 128 bytes for each function that has a body, each of its parameters and each node of the body
 abbrev pub ProgramsAreSmall : Type 0
-ProgramsAreSmall = (parts : Parts) (main : ℕ) (names : List (List ℕ)) (honoured : Bool) (code : Code) → HaveFewSets parts honoured parts.funcs.items
-    → program_of parts main names honoured ≡ Ok code → extent_of code ≤ 128 * functions_nodes parts.funcs.items
+ProgramsAreSmall = (parts : Parts) (main : ℕ) (names : List (List ℕ)) (modes : Modes) (code : Code) → HaveFewSets parts modes parts.funcs.items
+    → program_of parts main names modes ≡ Ok code → extent_of code ≤ 128 * functions_nodes parts.funcs.items

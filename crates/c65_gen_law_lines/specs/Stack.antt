@@ -74,6 +74,7 @@ by_routine (routines.Unary op width) w = Some w
 by_routine routines.SignA w = Some w
 by_routine routines.LongAx w = Some w
 by_routine routines.ULongAx w = Some w
+by_routine routines.StkChk w = Some w
 by_routine _ w = None
 
 abbrev pub by_callee : Callee → Waiting → Option Waiting

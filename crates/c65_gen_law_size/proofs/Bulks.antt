@@ -19,18 +19,18 @@ made_data (Ok x) k code ds same h = let is : k x ≡ code = cc in sym (ap (λ (z
 made_data (Err e) k code ds same h = absurd cc
 
 pub programs_are_within_their_bulk : ProgramsAreWithinTheirBulk
-programs_are_within_their_bulk parts main names honoured code few typed own filled h =
-    let datums : code.datums ≡ data_of parts = made_data (functions_of parts main honoured) (code_of parts main names) code (data_of parts) (λ fs. refl) h in
-    omega (arith, typed_programs_are_small parts main names honoured code few typed own h, data_size parts filled, ap datums_size datums)
+programs_are_within_their_bulk parts main names modes code few typed own filled h =
+    let datums : code.datums ≡ data_of parts = made_data (functions_of parts main modes) (code_of parts main names) code (data_of parts) (λ fs. refl) h in
+    omega (arith, typed_programs_are_small parts main names modes code few typed own h, data_size parts filled, ap datums_size datums)
 
 file_data : (datums : List Datum) → files.data_size datums ≤ datums_size datums
 file_data [] = omega arith
 file_data (datum ∷ datums) = omega (arith, file_data datums)
 
 pub images_are_within_their_bulk : ImagesAreWithinTheirBulk
-images_are_within_their_bulk parts main names honoured code image few typed own filled h made =
-    omega (arith, programs_are_within_their_bulk parts main names honoured code few typed own filled h, images_are_bounded code image made, file_data code.datums)
+images_are_within_their_bulk parts main names modes code image few typed own filled h made =
+    omega (arith, programs_are_within_their_bulk parts main names modes code few typed own filled h, images_are_bounded code image made, file_data code.datums)
 
 pub large_images_are_within_their_bulk : LargeImagesAreWithinTheirBulk
-large_images_are_within_their_bulk parts main names honoured code size few typed own filled h refused =
-    omega (arith, programs_are_within_their_bulk parts main names honoured code few typed own filled h, large_most code size refused)
+large_images_are_within_their_bulk parts main names modes code size few typed own filled h refused =
+    omega (arith, programs_are_within_their_bulk parts main names modes code few typed own filled h, large_most code size refused)

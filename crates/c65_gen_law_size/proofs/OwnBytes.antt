@@ -12,6 +12,7 @@ use Rattle.c65_ctype.specs.Sizes.{size_in, size_of}
 use Rattle.c65_ctype.specs.Views.{types_of}
 use Rattle.c65_csem.specs.declared.items.Parts.{Parts}
 use Rattle.c65_csem.specs.Trees.{ObjectTy, FuncTy}
+use Rattle.c65_genframe.specs.declared.modes.Modes.{Modes}
 use Rattle.c65_genframe.specs.declared.mark.Mark.{Mark}
 use Rattle.c65_genframe.specs.declared.mark.Mark.TheVariants.{Other, Local, Parameter}
 use Rattle.c65_genframe.specs.Places.{Places, more, none_placed, fits, with_none, with_banked, with_soft, with_marked, placed_all}
@@ -19,7 +20,7 @@ use Rattle.c65_genframe.specs.Arrivals.{slots}
 use Rattle.c65_genframe.specs.Sizes.{object_in, limited, elements, bytes_at, bytes_or, object_bytes, passed_bytes, slot_bytes, bank_bytes}
 use Rattle.c65_genframe.specs.Marks.{lowest, marked, no_marks, all_marks}
 use Rattle.c65_genframe.specs.Objects.{locals_of}
-use Rattle.c65_genframe.specs.Frames.{Framed, has_prototype, is_variadic, frame_of, placed_in, settled}
+use Rattle.c65_genframe.specs.Frames.{Framed, has_prototype, is_variadic, frame_of, placed_in, check_of, settled}
 use Rattle.c65_genframe.specs.Frames as frames
 use Rattle.std.specs.Prelude.{Ok}
 use Rattle.c65_gen_law_size.specs.Own.{is_among, is_own}
@@ -104,32 +105,32 @@ total_is true fit bank bytes total p = refl
 total_is false true bank bytes total p = refl
 total_is false false bank bytes total p = refl
 
-local_small : (parts : Parts) (honoured : Bool) (first : ℕ) (ms : List Mark) (p : Places) (k i : ℕ) → (placed_all parts honoured first ms p).total ≤ 1024 → slice_get ms k ≡ Some Local → i ≡ first + k → i < 4294967296
+local_small : (parts : Parts) (modes : Modes) (first : ℕ) (ms : List Mark) (p : Places) (k i : ℕ) → (placed_all parts modes first ms p).total ≤ 1024 → slice_get ms k ≡ Some Local → i ≡ first + k → i < 4294967296
     → object_bytes (types_of parts.types) (object_in parts i) ≤ 1024
-local_small parts honoured first [] p k i h e at low = absurd cc
-local_small parts honoured first (m ∷ ms) p zero i h e at low =
+local_small parts modes first [] p k i h e at low = absurd cc
+local_small parts modes first (m ∷ ms) p zero i h e at low =
     let is : m ≡ Local = cc in
-    let q : Places = with_marked parts honoured first m p in
-    let room : Room q (placed_all parts honoured ((first + 1) % 4294967296) ms q) = all_room parts honoured ((first + 1) % 4294967296) ms q h in
+    let q : Places = with_marked parts modes first m p in
+    let room : Room q (placed_all parts modes ((first + 1) % 4294967296) ms q) = all_room parts modes ((first + 1) % 4294967296) ms q h in
     let bytes : ℕ = object_bytes (types_of parts.types) (object_in parts first) in
-    let bank : ℕ = bank_bytes honoured (object_in parts first) in
-    let total : (with_marked parts honoured first Local p).total ≡ more p.total bytes = total_is (nat_lt 1024 (more p.total bytes)) (fits bank p) bank bytes (more p.total bytes) p in
-    let few : (with_marked parts honoured first Local p).total ≤ 1024 = subst (λ (n : Mark). (with_marked parts honoured first n p).total ≤ 1024) is room.few in
+    let bank : ℕ = bank_bytes modes.honoured (object_in parts first) in
+    let total : (with_marked parts modes first Local p).total ≡ more p.total bytes = total_is (nat_lt 1024 (more p.total bytes)) (fits bank p) bank bytes (more p.total bytes) p in
+    let few : (with_marked parts modes first Local p).total ≤ 1024 = subst (λ (n : Mark). (with_marked parts modes first n p).total ≤ 1024) is room.few in
     let sum : more p.total bytes ≤ 1024 = omega (arith, total, few) in
     let mine : bytes ≤ 1024 = omega (arith, sum, min_small (p.total + bytes) sum) in
     let same : first ≡ i = omega (arith, at) in
     subst (λ n. object_bytes (types_of parts.types) (object_in parts n) ≤ 1024) same mine
-local_small parts honoured first (m ∷ ms) p (suc k) i h e at low =
-    local_small parts honoured ((first + 1) % 4294967296) ms (with_marked parts honoured first m p) k i h e (omega (arith, at, low)) low
+local_small parts modes first (m ∷ ms) p (suc k) i h e at low =
+    local_small parts modes ((first + 1) % 4294967296) ms (with_marked parts modes first m p) k i h e (omega (arith, at, low)) low
 
 -- ---- both
 
 object_small : (types : TypesTy) (o : ObjectTy) → object_bytes types (Some o) ≤ 1024 → size_of types (type_in o.ty) ≤ 1024
 object_small types o h = small_type types (type_in o.ty) h
 
-local_case : (parts : Parts) (honoured : Bool) (g : FuncTy) (i : ℕ) (o : ObjectTy) → (placed_in parts honoured g).total ≤ 1024 → is_among g.params i ≡ false → is_among (locals_of g) i ≡ true → i < 4294967296 → object_in parts i ≡ Some o
+local_case : (parts : Parts) (modes : Modes) (g : FuncTy) (i : ℕ) (o : ObjectTy) → (placed_in parts modes g).total ≤ 1024 → is_among g.params i ≡ false → is_among (locals_of g) i ≡ true → i < 4294967296 → object_in parts i ≡ Some o
     → size_of (types_of parts.types) (type_in o.ty) ≤ 1024
-local_case parts honoured g i o few not_param found low is =
+local_case parts modes g i o few not_param found low is =
     let locals : List ℕ = locals_of g in
     let first : ℕ = lowest locals g.params in
     let high : ℕ = highest locals g.params in
@@ -138,7 +139,7 @@ local_case parts honoured g i o few not_param found low is =
     let marked_once : (first ≤ i) × (slice_get (marked first Local ms locals) (i - first) ≡ Some Local) = mark_here first high Local ms locals i (locals_span locals g.params) (omega (arith, room)) found in
     let there : slice_get (all_marks locals g.params) (i - first) ≡ Some Local = mark_kept first high Parameter (marked first Local ms locals) g.params i marked_once.0 (params_span locals g.params) not_param ∙ marked_once.1 in
     let bytes : object_bytes (types_of parts.types) (object_in parts i) ≤ 1024 =
-    local_small parts honoured first (all_marks locals g.params) (none_placed (is_variadic g.ty) (frames.passed_bytes parts g)) (i - first) i few there (omega (arith, marked_once.0)) low in
+    local_small parts modes first (all_marks locals g.params) (none_placed (is_variadic g.ty) (frames.passed_bytes parts g)) (i - first) i few there (omega (arith, marked_once.0)) low in
     object_small (types_of parts.types) o (subst (λ x. object_bytes (types_of parts.types) x ≤ 1024) is bytes)
 
 param_case : (parts : Parts) (g : FuncTy) (i : ℕ) (o : ObjectTy) → frames.passed_bytes parts g ≤ 1024 → is_among g.params i ≡ true → object_in parts i ≡ Some o → size_of (types_of parts.types) (type_in o.ty) ≤ 1024
@@ -146,18 +147,18 @@ param_case parts g i o few found is =
     let slot : slot_bytes (types_of parts.types) (has_prototype g.ty) (object_in parts i) ≤ 1024 = slot_small parts (has_prototype g.ty) g.params 0 i few found in
     small_passed (types_of parts.types) (has_prototype g.ty) (type_in o.ty) (subst (λ x. slot_bytes (types_of parts.types) (has_prototype g.ty) x ≤ 1024) is slot)
 
-pub own_small : (parts : Parts) (honoured : Bool) (g : FuncTy) (f : Framed) (i : ℕ) (o : ObjectTy) → frame_of parts honoured g ≡ Ok f → is_own g i ≡ true → i < 4294967296 → object_in parts i ≡ Some o → size_of (types_of parts.types) (type_in o.ty) ≤ 1024
-own_small parts honoured g f i o h own low is = go (is_among g.params i) refl own
+pub own_small : (parts : Parts) (modes : Modes) (g : FuncTy) (f : Framed) (i : ℕ) (o : ObjectTy) → frame_of parts modes g ≡ Ok f → is_own g i ≡ true → i < 4294967296 → object_in parts i ≡ Some o → size_of (types_of parts.types) (type_in o.ty) ≤ 1024
+own_small parts modes g f i o h own low is = go (is_among g.params i) refl own
   where
     p : Places
-    p = placed_in parts honoured g
+    p = placed_in parts modes g
 
     few : p.total ≤ 1024
-    few = ltb-false 1024 p.total (answered (nat_lt 1024 p.total) (large sizes.Frame p.total) (settled parts g (lowest (locals_of g) g.params) (frames.passed_bytes parts g) p) f h).0
+    few = ltb-false 1024 p.total (answered (nat_lt 1024 p.total) (large sizes.Frame p.total) (settled parts (check_of parts modes g) g (lowest (locals_of g) g.params) (frames.passed_bytes parts g) p) f h).0
 
     room : Room (none_placed (is_variadic g.ty) (frames.passed_bytes parts g)) p
-    room = all_room parts honoured (lowest (locals_of g) g.params) (all_marks (locals_of g) g.params) (none_placed (is_variadic g.ty) (frames.passed_bytes parts g)) few
+    room = all_room parts modes (lowest (locals_of g) g.params) (all_marks (locals_of g) g.params) (none_placed (is_variadic g.ty) (frames.passed_bytes parts g)) few
 
     go : (b : Bool) → is_among g.params i ≡ b → (b || is_among (locals_of g) i) ≡ true → size_of (types_of parts.types) (type_in o.ty) ≤ 1024
     go true found e = param_case parts g i o room.few found is
-    go false not_param e = local_case parts honoured g i o few not_param e low is
+    go false not_param e = local_case parts modes g i o few not_param e low is

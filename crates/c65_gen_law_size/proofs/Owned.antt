@@ -6,6 +6,7 @@ use Rattle.c65_base.specs.declared.refusal.Size.TheVariants as sizes
 use Rattle.c65_base.specs.Answers.{large}
 use Rattle.c65_ctype.specs.Views.{types_of}
 use Rattle.c65_csem.specs.declared.items.Parts.{Parts}
+use Rattle.c65_genframe.specs.declared.modes.Modes.{Modes}
 use Rattle.c65_genframe.specs.declared.home.Home.{Home}
 use Rattle.c65_genframe.specs.declared.home.Home.TheVariants.{Bank, Soft}
 use Rattle.c65_genframe.specs.declared.mark.Mark.{Mark}
@@ -15,7 +16,7 @@ use Rattle.c65_genframe.specs.Arrivals.{Arrivals, arrive, with_slot, arrived}
 use Rattle.c65_genframe.specs.Sizes.{object_in, object_bytes, slot_bytes, bank_bytes}
 use Rattle.c65_genframe.specs.Marks.{lowest, all_marks}
 use Rattle.c65_genframe.specs.Objects.{locals_of}
-use Rattle.c65_genframe.specs.Frames.{Framed, has_prototype, is_variadic, register_param, flat, home_at, arrival, is_kept, last_bytes, without_last, bytes_without, saved_bytes, first_arrivals, settled, passed_bytes, placed_in}
+use Rattle.c65_genframe.specs.Frames.{Framed, has_prototype, is_variadic, register_param, flat, home_at, arrival, is_kept, last_bytes, without_last, bytes_without, saved_bytes, first_arrivals, check_of, settled, passed_bytes, placed_in}
 use Rattle.c65_gen_law_size.specs.Own.{is_among, is_own, has_home, OwnObjectsHaveHomes}
 use Rattle.c65_gen_law_lines.proofs.FrameLaws.{Room, all_room, answered}
 use Rattle.c65_gen_law_size.proofs.Marked.{has_mark, bit, own_bit, none_below, params_span, locals_span, highest}
@@ -37,21 +38,21 @@ parameter_home : (fit : Bool) (bank : ℕ) (p : Places) → map has_home (if fit
 parameter_home true bank p = one_more p.homes (Some (Bank p.bank))
 parameter_home false bank p = one_more p.homes (Some (Soft 0))
 
-marked_home : (parts : Parts) (honoured : Bool) (i : ℕ) (m : Mark) (p : Places) → (with_marked parts honoured i m p).total ≤ 1024 → map has_home (with_marked parts honoured i m p).homes ≡ map has_home p.homes ++ has_mark m ∷ []
-marked_home parts honoured i Other p h = one_more p.homes None
-marked_home parts honoured i Local p h =
-    let bank : ℕ = bank_bytes honoured (object_in parts i) in
+marked_home : (parts : Parts) (modes : Modes) (i : ℕ) (m : Mark) (p : Places) → (with_marked parts modes i m p).total ≤ 1024 → map has_home (with_marked parts modes i m p).homes ≡ map has_home p.homes ++ has_mark m ∷ []
+marked_home parts modes i Other p h = one_more p.homes None
+marked_home parts modes i Local p h =
+    let bank : ℕ = bank_bytes modes.honoured (object_in parts i) in
     let bytes : ℕ = object_bytes (types_of parts.types) (object_in parts i) in
     local_home (nat_lt 1024 (more p.total bytes)) (fits bank p) bank bytes (more p.total bytes) p refl h
-marked_home parts honoured i Parameter p h = parameter_home (fits (bank_bytes honoured (object_in parts i)) p) (bank_bytes honoured (object_in parts i)) p
+marked_home parts modes i Parameter p h = parameter_home (fits (bank_bytes modes.honoured (object_in parts i)) p) (bank_bytes modes.honoured (object_in parts i)) p
 
-placed_homes : (parts : Parts) (honoured : Bool) (i : ℕ) (ms : List Mark) (p : Places) → (placed_all parts honoured i ms p).total ≤ 1024 → map has_home (placed_all parts honoured i ms p).homes ≡ map has_home p.homes ++ map has_mark ms
-placed_homes parts honoured i [] p h = sym (append-nil (map has_home p.homes))
-placed_homes parts honoured i (m ∷ ms) p h =
-    let q : Places = with_marked parts honoured i m p in
-    let rest : map has_home (placed_all parts honoured ((i + 1) % 4294967296) ms q).homes ≡ map has_home q.homes ++ map has_mark ms = placed_homes parts honoured ((i + 1) % 4294967296) ms q h in
-    let room : Room q (placed_all parts honoured ((i + 1) % 4294967296) ms q) = all_room parts honoured ((i + 1) % 4294967296) ms q h in
-    rest ∙ (ap (λ bs. bs ++ map has_mark ms) (marked_home parts honoured i m p room.few) ∙ append_assoc (map has_home p.homes) (has_mark m ∷ []) (map has_mark ms))
+placed_homes : (parts : Parts) (modes : Modes) (i : ℕ) (ms : List Mark) (p : Places) → (placed_all parts modes i ms p).total ≤ 1024 → map has_home (placed_all parts modes i ms p).homes ≡ map has_home p.homes ++ map has_mark ms
+placed_homes parts modes i [] p h = sym (append-nil (map has_home p.homes))
+placed_homes parts modes i (m ∷ ms) p h =
+    let q : Places = with_marked parts modes i m p in
+    let rest : map has_home (placed_all parts modes ((i + 1) % 4294967296) ms q).homes ≡ map has_home q.homes ++ map has_mark ms = placed_homes parts modes ((i + 1) % 4294967296) ms q h in
+    let room : Room q (placed_all parts modes ((i + 1) % 4294967296) ms q) = all_room parts modes ((i + 1) % 4294967296) ms q h in
+    rest ∙ (ap (λ bs. bs ++ map has_mark ms) (marked_home parts modes i m p room.few) ∙ append_assoc (map has_home p.homes) (has_mark m ∷ []) (map has_mark ms))
 
 -- ---- as parameters get their places
 
@@ -96,8 +97,8 @@ found locals params i hs false e same =
     nothing_own (is_among params i) (is_among locals i) (none_below low high i params (params_span locals params) before) (none_below low high i locals (locals_span locals params) before)
 
 pub own_objects_have_homes : OwnObjectsHaveHomes
-own_objects_have_homes parts honoured g f i h =
-    let p : Places = placed_in parts honoured g in
+own_objects_have_homes parts modes g f i h =
+    let p : Places = placed_in parts modes g in
     let low : ℕ = lowest (locals_of g) g.params in
     let passed : ℕ = passed_bytes parts g in
     let prototype : Bool = has_prototype g.ty in
@@ -105,8 +106,8 @@ own_objects_have_homes parts honoured g f i h =
     let base : ℕ = p.soft + saved_bytes p.bank in
     let a : Arrivals = first_arrivals p (bytes_without kept passed (last_bytes parts prototype (register_param g))) in
     let b : Arrivals = arrived parts prototype low base (without_last kept g.params) a in
-    let given : (nat_lt 1024 p.total ≡ false) × (settled parts g low passed p ≡ f) = answered (nat_lt 1024 p.total) (large sizes.Frame p.total) (settled parts g low passed p) f h in
+    let given : (nat_lt 1024 p.total ≡ false) × (settled parts (check_of parts modes g) g low passed p ≡ f) = answered (nat_lt 1024 p.total) (large sizes.Frame p.total) (settled parts (check_of parts modes g) g low passed p) f h in
     let few : p.total ≤ 1024 = ltb-false 1024 p.total given.0 in
     let same : map has_home b.homes ≡ map has_mark (all_marks (locals_of g) g.params) =
-    arrived_homes parts prototype low base (without_last kept g.params) a ∙ placed_homes parts honoured low (all_marks (locals_of g) g.params) (none_placed (is_variadic g.ty) passed) few in
+    arrived_homes parts prototype low base (without_last kept g.params) a ∙ placed_homes parts modes low (all_marks (locals_of g) g.params) (none_placed (is_variadic g.ty) passed) few in
     subst (λ (z : Framed). has_home (home_at z.low z.homes i) ≡ is_own g i) given.1 (found (locals_of g) g.params i b.homes (nat_le low i) refl same)

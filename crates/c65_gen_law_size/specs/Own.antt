@@ -2,6 +2,7 @@
 use Rattle.std.specs.Prelude.{◌≡◌, ℕ, ◌==◌, ◌||◌, Bool, true, false, Option, Some, None, List, [], ◌∷◌, Ok}
 use Rattle.c65_csem.specs.declared.items.Parts.{Parts}
 use Rattle.c65_csem.specs.Trees.{FuncTy}
+use Rattle.c65_genframe.specs.declared.modes.Modes.{Modes}
 use Rattle.c65_genframe.specs.declared.home.Home.{Home}
 use Rattle.c65_genframe.specs.Objects.{locals_of}
 use Rattle.c65_genframe.specs.Frames.{Framed, frame_of, home_of}
@@ -20,4 +21,4 @@ has_home (Some home) = true
 
 -- the objects that have a home are a function's own
 abbrev pub OwnObjectsHaveHomes : Type 0
-OwnObjectsHaveHomes = (parts : Parts) (honoured : Bool) (g : FuncTy) (f : Framed) (i : ℕ) → frame_of parts honoured g ≡ Ok f → has_home (home_of f i) ≡ is_own g i
+OwnObjectsHaveHomes = (parts : Parts) (modes : Modes) (g : FuncTy) (f : Framed) (i : ℕ) → frame_of parts modes g ≡ Ok f → has_home (home_of f i) ≡ is_own g i

@@ -27,7 +27,7 @@ use Rattle.c65_code.specs.Numbers.{tos_result, result_width, unary_result, unary
 use Rattle.c65_code.specs.Texts.{bytes_at}
 use Rattle.c65_code.specs.LineState.{Bytes, write, Place, State, sp_of}
 use Rattle.c65_code.specs.Placement.{Placement, Setting, word_of}
-use Rattle.c65_code.specs.Rows.{Row, Meets, row_of, row_by, giving, giving_if, costing, popping, number_at, primary_of, tos_cost, bank_of}
+use Rattle.c65_code.specs.Rows.{Row, Meets, row_of, row_by, is_too_deep, check_row, giving, giving_if, costing, popping, number_at, primary_of, tos_cost, bank_of}
 use Rattle.c65_code.specs.Rows as rows
 use Rattle.c65_code.specs.Forms.{Form, Mark, Plain, Branch, Jump, Far, Push, Pull, Depth, Return, Run, Enter, Through, Stray, branch_form, jump_form, move_form, op_form, form_of}
 use Rattle.c65_code.specs.Moves.{Ref, Given, ZeroAt, MemAt, ref_of, value_at, put, change, effect, MeetsRow, Goes}
@@ -138,6 +138,10 @@ tos_sets op width t = giving_if_sets (result_width op width) (tos_result op widt
 unary_sets : (op : UnaryRoutine) (width : Width) (t : State) → (rows.unary_row op width t).changes ≡ routine_sets (routines.Unary op width)
 unary_sets op width t = giving_sets (unary_width op width) (unary_result op width (primary_of width t)) (costing 256 (row_by (routines.Unary op width) t))
 
+check_bank : (deep : Bool) (t u : State) → Meets (check_row deep (costing 256 (row_by routines.StkChk t))) t u → bank_of u ≡ bank_of t
+check_bank true t u m = bank_kept _ t u m refl refl refl refl refl refl
+check_bank false t u m = bank_kept _ t u m refl refl refl refl refl refl
+
 routine_bank : (r : Routine) (t u : State) → leaves_bank (Call (callees.Routine r)) ≡ true → IsOwn (Run r) → MeetsRow (row_of r t) t u → bank_of u ≡ bank_of t
 routine_bank routines.RestRegs t u h own m = absurd cc
 routine_bank (routines.Library f) t u h own m = absurd own
@@ -170,6 +174,7 @@ routine_bank routines.CopyTos t u h own m = bank_kept _ t u m refl refl refl ref
 routine_bank routines.SignA t u h own m = bank_kept _ t u m refl refl refl refl refl refl
 routine_bank routines.LongAx t u h own m = bank_kept _ t u m refl refl refl refl refl refl
 routine_bank routines.ULongAx t u h own m = bank_kept _ t u m refl refl refl refl refl refl
+routine_bank routines.StkChk t u h own m = check_bank (is_too_deep t) t u m
 routine_bank routines.SaveRegs t u h own m = bank_kept _ t u m refl refl refl refl refl refl
 routine_bank (routines.IncSp c) t u h own m = bank_kept _ t u m refl refl refl refl refl refl
 routine_bank (routines.DecSp c) t u h own m = bank_kept _ t u m refl refl refl refl refl refl

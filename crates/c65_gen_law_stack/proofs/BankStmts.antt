@@ -32,7 +32,7 @@ use Rattle.c65_genentry.specs.Bytes as blocks
 use Rattle.c65_genentry.specs.Pointers as pointers
 use Rattle.c65_genentry.specs.Choice.{bits_of, test_code, choice_code}
 use Rattle.c65_genentry.specs.Stack.{count_of, raise_by, lower_by, small_raise, small_lower, repeated, raise_code, lower_code}
-use Rattle.c65_genentry.specs.Entry.{pushed_code, kept_code, saved_code, counted_code, count_code, all_moved, taken_bytes, entry_code}
+use Rattle.c65_genentry.specs.Entry.{pushed_code, kept_code, saved_code, counted_code, count_code, all_moved, taken_bytes, checked_code, entry_code}
 use Rattle.c65_genentry.specs.Ends.{restored_code, end_code}
 use Rattle.c65_genstmt.specs.declared.jumps.Ways.{Ways}
 use Rattle.c65_genstmt.specs.declared.objects.Spot.{Spot}
@@ -264,9 +264,13 @@ restored_clear : (b : Bool) → b ≡ false → Clear (if b then call RestRegs �
 restored_clear true e = absurd cc
 restored_clear false e = clear_none
 
+checked_clear : (check : Option ℕ) → Clear (checked_code check)
+checked_clear None = clear_none
+checked_clear (Some c) = record { all = refl }
+
 entry_clear : (f : Framed) → IsOrderly f → nat_lt 0 f.bank ≡ false → Clear (entry_code f)
 entry_clear f o e =
-    clear_then (pushed_clear f.last) (clear_then (counted_clear f.variadic) (clear_then (saved_clear f.bank) (clear_then (nothing_clear (kept_code f.last) (o.unkept e).0) (clear_then (lower_clear (taken_bytes f.variadic f.soft)) (clear_then (count_clear f.variadic) (moved_clear f.moved (o.unkept e).1))))))
+    clear_then (checked_clear f.check) (clear_then (pushed_clear f.last) (clear_then (counted_clear f.variadic) (clear_then (saved_clear f.bank) (clear_then (nothing_clear (kept_code f.last) (o.unkept e).0) (clear_then (lower_clear (taken_bytes f.variadic f.soft)) (clear_then (count_clear f.variadic) (moved_clear f.moved (o.unkept e).1)))))))
 
 end_clear : (f : Framed) → nat_lt 0 f.bank ≡ false → Clear (end_code f)
 end_clear f e =
@@ -281,10 +285,10 @@ main_clear true = record { all = refl }
 main_clear false = clear_none
 
 pub functions_leave_regbank : FunctionsLeaveRegbank
-functions_leave_regbank parts honoured g body f is_main out framed nothing =
+functions_leave_regbank parts modes g body f is_main out framed nothing =
     let e : nat_lt 0 f.bank ≡ false = ap (nat_lt 0) nothing in
-    let o : IsOrderly f = frames_are_orderly parts honoured g f framed in
-    let b : IsBankless f = frames_without_bank parts honoured g f framed nothing in
+    let o : IsOrderly f = frames_are_orderly parts modes g f framed in
+    let b : IsBankless f = frames_without_bank parts modes g f framed nothing in
     let d : Drafted = with_lines (with_labels (room_of body) (with_labels 1 (no_lines out))) (entry_code f) in
     let all : Clear (with_stmt f (ways 0 0 0) 0 body d).lines = stmt_kept f (ways 0 0 0) 0 body d b (entry_clear f o e) in
     (clear_then (clear_then (clear_then all (main_clear is_main)) (label_clear 0)) (end_clear f e)).all

@@ -19,9 +19,9 @@ entered_sp s n reads gives p q a t e =
     omega (arith, low, high)
 
 pub calls_keep_heights : CallsKeepHeights
-calls_keep_heights s g j n reads gives before middle rest w parts honoured called f q r o back a t u v x lines none inside framed takes enters entry holds end =
+calls_keep_heights s g j n reads gives before middle rest w parts modes called f q r o back a t u v x lines none inside framed takes enters entry holds end =
     let frame : Frame = record { back = (g, settle (s.lines g) (suc (length before + j))); pushed = a.pushed; gives = gives } in
-    let done : IsCalled f frame t back x = ends_undo_entries s parts honoured called f frame a.frames q r o back t u v x framed enters.frames entry holds end in
+    let done : IsCalled f frame t back x = ends_undo_entries s parts modes called f frame a.frames q r o back t u v x framed enters.frames entry holds end in
     let place : suc (length before + j) ≡ length before + suc j = omega arith in
     let arrives : Arrives g before middle back (height_at w middle (suc j)) w = settles g (suc j) (s.lines g) before middle rest w back lines none inside (done.to ∙ ap (λ (k : ℕ). (g, settle (s.lines g) k)) place) in
     let sum : waiting_at w middle arrives.at ≡ waiting_at w middle (suc j) = ap sum_in arrives.height in

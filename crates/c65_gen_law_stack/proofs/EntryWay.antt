@@ -6,24 +6,25 @@ use Rattle.c65_mach.specs.State.{Regs}
 use Rattle.c65_mach.specs.declared.rows.Op.TheVariants.{Adc, Clc, Ldy, Lda, Sta, Stx, Tax, Tay, Tya}
 use Rattle.c65_code.specs.declared.routine.Count.{Count}
 use Rattle.c65_code.specs.declared.routine.Count.TheVariants.{One, Two, Three, Four, Five, Six, Seven, Eight}
-use Rattle.c65_code.specs.declared.routine.Routine.TheVariants.{PushA, PushAx, PushEax, LdAxYSp, LdAi, LdAxi, SaveRegs, SubYSp, DecSp}
+use Rattle.c65_code.specs.declared.routine.Routine.TheVariants.{PushA, PushAx, PushEax, LdAxYSp, LdAi, LdAxi, SaveRegs, SubYSp, DecSp, StkChk}
 use Rattle.c65_code.specs.declared.line.Line.{Line}
 use Rattle.c65_code.specs.Texts.{bytes_at}
 use Rattle.c65_code.specs.LineState.{Bytes, write, Place, State, sp_of}
 use Rattle.c65_code.specs.Placement.{Setting}
-use Rattle.c65_code.specs.Rows.{number_of, bank_of}
+use Rattle.c65_code.specs.declared.parts.Part.TheVariants.{Y}
+use Rattle.c65_code.specs.Rows.{Meets, number_of, bank_of, row_by, costing, is_too_deep, check_row}
 use Rattle.c65_code.specs.Moves.{Moves}
 use Rattle.c65_genframe.specs.declared.home.Arrival.{Arrival}
 use Rattle.c65_genframe.specs.declared.home.Arrival.TheVariants.{Passed, Pushed, Kept}
 use Rattle.c65_genframe.specs.declared.home.Moved.{Moved}
 use Rattle.c65_genframe.specs.Frames.{Framed, saved_bytes}
 use Rattle.c65_genwide.specs.Lines.{value, call}
-use Rattle.c65_genentry.specs.Words.{sp, regbank, implied, zero_page, by_y}
+use Rattle.c65_genentry.specs.Words.{sp, tmp2, tmp3, tmp4, regbank, implied, zero_page, by_y}
 use Rattle.c65_genentry.specs.Stack.{count_of, lower_by, small_lower, repeated, lower_code}
-use Rattle.c65_genentry.specs.Entry.{pushed_code, bank_store, kept_code, saved_code, counted_code, count_code, near_load, far_load, load_code, moved_code, all_moved, taken_bytes, entry_code}
+use Rattle.c65_genentry.specs.Entry.{pushed_code, bank_store, kept_code, saved_code, counted_code, count_code, near_load, far_load, load_code, moved_code, all_moved, taken_bytes, checked_code, taking_code, entry_code}
 use Rattle.c65_gen_law_stack.specs.Passing.{Passes}
 use Rattle.c65_gen_law_stack.specs.Calls.{pushed_bytes, entry_bytes, IsEntered}
-use Rattle.c65_gen_law_stack.proofs.Steps.{write_other, bytes_same, Sinks, Quiet, sinks_same, sinks_then, quiet_same, quiet_then, pushes_a, pushes_ax, pushes_eax, saves, lowers, lowers_y}
+use Rattle.c65_gen_law_stack.proofs.Steps.{write_other, bytes_same, Sinks, Quiet, sinks_same, sinks_then, quiet_same, quiet_then, pushes_a, pushes_ax, pushes_eax, saves, lowers, lowers_y, bank_kept}
 use Rattle.c65_gen_law_stack.proofs.Ways.{halves, single, simple_way}
 
 -- ---- the last parameter
@@ -318,8 +319,8 @@ entered_by f {t0 = t0} {t7 = t7} o e =
       frames = all.frames;
     }
 
-pub entered : (f : Framed) (s : Setting) (p q : Place) (t u : State) → IsOrderly f → Passes s (entry_code f) p t q u → IsEntered f t u
-entered f s p q t u o h =
+taken_in : (f : Framed) (s : Setting) (p q : Place) (t u : State) → IsOrderly f → Passes s (taking_code f) p t q u → IsEntered f t u
+taken_in f s p q t u o h =
     let h1 = halves s (pushed_code f.last) (counted_code f.variadic ++ (saved_code f.bank ++ (kept_code f.last ++ (lower_code (taken_bytes f.variadic f.soft) ++ (count_code f.variadic ++ all_moved f.moved))))) p q t u h in
     let h2 = halves s (counted_code f.variadic) (saved_code f.bank ++ (kept_code f.last ++ (lower_code (taken_bytes f.variadic f.soft) ++ (count_code f.variadic ++ all_moved f.moved)))) h1.0 q h1.1 u h1.3 in
     let h3 = halves s (saved_code f.bank) (kept_code f.last ++ (lower_code (taken_bytes f.variadic f.soft) ++ (count_code f.variadic ++ all_moved f.moved))) h2.0 q h2.1 u h2.3 in
@@ -344,3 +345,61 @@ entered f s p q t u o h =
       unmoved = λ b. moved_none s f.moved h6.0 q h6.1 u (o.unkept b).1 h6.3;
     } in
     entered_by f o e
+
+-- ---- the check of the stacks
+
+-- sp, Y, regbank and what lies at sp and above stay
+record Checked (t u : State) : Type 0 where
+  sinks : Sinks 0 t u
+  bank : bank_of u ≡ bank_of t
+  y : u.regs.y ≡ t.regs.y
+
+check_meets : (deep : Bool) (t u : State) → Meets (check_row deep (costing 256 (row_by StkChk t))) t u → Checked t u
+check_meets true t u m = record {
+  sinks = record { sp = omega (arith, m.sp); mem = λ b h. m.mem b (inr (inl h)); pushed = m.pushed; frames = m.frames };
+  bank = bank_kept _ t u m refl refl refl refl refl refl;
+  y = sym (m.kept Y refl);
+}
+check_meets false t u m = record {
+  sinks = record { sp = omega (arith, m.sp); mem = λ b h. m.mem b (inr (inl h)); pushed = m.pushed; frames = m.frames };
+  bank = bank_kept _ t u m refl refl refl refl refl refl;
+  y = sym (m.kept Y refl);
+}
+
+abbrev asked : ℕ → List Line
+asked c = zero_page Sta tmp2 ∷ value Lda (c % 256) ∷ zero_page Sta tmp3 ∷ value Lda (c / 256 % 256) ∷ zero_page Sta tmp4 ∷ zero_page Lda tmp2 ∷ []
+
+asked_way : (c : ℕ) (s : Setting) (p q : Place) (t u : State) → Passes s (asked c) p t q u → Checked t u
+asked_way c s p q t u h =
+    let all = simple_way s (asked c) p q t u refl h in
+    let low : sp_of u ≡ sp_of t = ap sp_of all in
+    record {
+      sinks = record { sp = omega (arith, low); mem = λ b above. ap (λ (x : State). x.mem b) all; pushed = ap (λ (x : State). x.pushed) all; frames = ap (λ (x : State). x.frames) all };
+      bank = ap bank_of all;
+      y = ap (λ (x : State). x.regs.y) all;
+    }
+
+checked_then : {t u v : State} → Checked t u → Checked u v → Checked t v
+checked_then a b = record { sinks = sinks_then a.sinks b.sinks; bank = b.bank ∙ a.bank; y = b.y ∙ a.y }
+
+checked_way : (check : Option ℕ) (s : Setting) (p q : Place) (t u : State) → Passes s (checked_code check) p t q u → Checked t u
+checked_way None s p q t u h = record { sinks = same_sinks t u h.1; bank = ap bank_of h.1; y = ap (λ (x : State). x.regs.y) h.1 }
+checked_way (Some c) s p q t u h =
+    let two = halves s (asked c) (call StkChk ∷ []) p q t u h in
+    let one = single s (call StkChk) two.0 q two.1 u two.3 in
+    checked_then (asked_way c s p two.0 t two.1 two.2) (check_meets (is_too_deep two.1) two.1 u one.1.goes.1)
+
+entered_behind : (f : Framed) (t v u : State) → Checked t v → IsEntered f v u → IsEntered f t u
+entered_behind f t v u c e = record {
+  sp = omega (arith, e.sp, c.sinks.sp);
+  bank = e.bank ∙ c.bank;
+  parameters = e.parameters ∙ ap (λ (y : ℕ). if f.variadic then y else f.stacked) c.y;
+  above = λ b h. e.above b (omega (arith, c.sinks.sp, h)) ∙ c.sinks.mem b h;
+  pushed = e.pushed ∙ c.sinks.pushed;
+  frames = e.frames ∙ c.sinks.frames;
+}
+
+pub entered : (f : Framed) (s : Setting) (p q : Place) (t u : State) → IsOrderly f → Passes s (entry_code f) p t q u → IsEntered f t u
+entered f s p q t u o h =
+    let two = halves s (checked_code f.check) (taking_code f) p q t u h in
+    entered_behind f t two.1 u (checked_way f.check s p two.0 t two.1 two.2) (taken_in f s two.0 q two.1 u o two.3)

@@ -8,6 +8,7 @@ use Rattle.c65_csem.specs.declared.items.Parts.{Parts}
 use Rattle.c65_csem.specs.Trees.{FuncTy}
 use Rattle.c65_ctype.specs.Trees.{Fn, fn}
 use Rattle.c65_ctype.specs.Views.{types_of}
+use Rattle.c65_genframe.specs.declared.modes.Modes.{Modes}
 use Rattle.c65_genframe.specs.declared.home.Home.{Home}
 use Rattle.c65_genframe.specs.declared.home.Home.TheVariants.{Bank, Soft}
 use Rattle.c65_genframe.specs.declared.home.Arrival.{Arrival}
@@ -19,7 +20,7 @@ use Rattle.c65_genframe.specs.Arrivals.{Arrivals, arrive, with_slot, arrived}
 use Rattle.c65_genframe.specs.Sizes.{object_in, object_bytes, slot_bytes, bank_bytes}
 use Rattle.c65_genframe.specs.Marks.{lowest, all_marks}
 use Rattle.c65_genframe.specs.Objects.{locals_of}
-use Rattle.c65_genframe.specs.Frames.{Framed, has_prototype, is_variadic, takes_stack, register_param, flat, home_at, home_of, arrival_at, arrival, is_kept, last_bytes, without_last, bytes_without, saved_bytes, first_arrivals, settled, passed_bytes, placed_in, frame_of}
+use Rattle.c65_genframe.specs.Frames.{Framed, has_prototype, is_variadic, takes_stack, register_param, flat, home_at, home_of, arrival_at, arrival, is_kept, last_bytes, without_last, bytes_without, saved_bytes, first_arrivals, check_of, settled, passed_bytes, placed_in, frame_of}
 use Rattle.c65_genentry.specs.Entry.{kept_code}
 use Rattle.c65_gen_law_stack.proofs.EntryWay.{IsOrderly}
 
@@ -80,20 +81,20 @@ local_grows true fit bank bytes total p e = placed_none total p
 local_grows false true bank bytes total p e = placed_bank bank total p e
 local_grows false false bank bytes total p e = placed_soft bytes total p
 
-marked_grows : (parts : Parts) (honoured : Bool) (i : ℕ) (mark : Mark) (p : Places) → Grows p (with_marked parts honoured i mark p)
-marked_grows parts honoured i Other p = placed_none p.total p
-marked_grows parts honoured i Local p =
-    let bank : ℕ = bank_bytes honoured (object_in parts i) in
+marked_grows : (parts : Parts) (modes : Modes) (i : ℕ) (mark : Mark) (p : Places) → Grows p (with_marked parts modes i mark p)
+marked_grows parts modes i Other p = placed_none p.total p
+marked_grows parts modes i Local p =
+    let bank : ℕ = bank_bytes modes.honoured (object_in parts i) in
     let bytes : ℕ = object_bytes (types_of parts.types) (object_in parts i) in
     local_grows (nat_lt 1024 (more p.total bytes)) (fits bank p) bank bytes (more p.total bytes) p refl
-marked_grows parts honoured i Parameter p = let bank : ℕ = bank_bytes honoured (object_in parts i) in parameter_grows (fits bank p) bank p refl
+marked_grows parts modes i Parameter p = let bank : ℕ = bank_bytes modes.honoured (object_in parts i) in parameter_grows (fits bank p) bank p refl
 
-all_grow : (parts : Parts) (honoured : Bool) (i : ℕ) (marks : List Mark) (p : Places) → Grows p (placed_all parts honoured i marks p)
-all_grow parts honoured i [] p = record { soft = omega arith; bank = omega arith; none = λ z h. h }
-all_grow parts honoured i (mark ∷ marks) p =
-    let q : Places = with_marked parts honoured i mark p in
-    let first : Grows p q = marked_grows parts honoured i mark p in
-    let rest : Grows q (placed_all parts honoured ((i + 1) % 4294967296) marks q) = all_grow parts honoured ((i + 1) % 4294967296) marks q in
+all_grow : (parts : Parts) (modes : Modes) (i : ℕ) (marks : List Mark) (p : Places) → Grows p (placed_all parts modes i marks p)
+all_grow parts modes i [] p = record { soft = omega arith; bank = omega arith; none = λ z h. h }
+all_grow parts modes i (mark ∷ marks) p =
+    let q : Places = with_marked parts modes i mark p in
+    let first : Grows p q = marked_grows parts modes i mark p in
+    let rest : Grows q (placed_all parts modes ((i + 1) % 4294967296) marks q) = all_grow parts modes ((i + 1) % 4294967296) marks q in
     record {
       soft = omega (arith, first.soft, rest.soft);
       bank = omega (arith, first.bank, rest.bank);
@@ -155,15 +156,15 @@ first_counted false h = absurd cc
 none_taken : (n : ℕ) → nat_lt 0 n ≡ false → n ≡ 0
 none_taken n h = omega (arith, ltb-false 0 n h)
 
-pub frames_are_orderly : (parts : Parts) (honoured : Bool) (g : FuncTy) (f : Framed) → frame_of parts honoured g ≡ Ok f → IsOrderly f
-frames_are_orderly parts honoured g f h =
-    let p : Places = placed_in parts honoured g in
+pub frames_are_orderly : (parts : Parts) (modes : Modes) (g : FuncTy) (f : Framed) → frame_of parts modes g ≡ Ok f → IsOrderly f
+frames_are_orderly parts modes g f h =
+    let p : Places = placed_in parts modes g in
     let low : ℕ = lowest (locals_of g) g.params in
     let passed : ℕ = passed_bytes parts g in
     let prototype : Bool = has_prototype g.ty in
     let last : Arrival = arrival parts prototype low p.homes (register_param g) in
-    let given : (nat_lt 1024 p.total ≡ false) × (settled parts g low passed p ≡ f) = answered (nat_lt 1024 p.total) (large sizes.Frame p.total) (settled parts g low passed p) f h in
-    let grows : Grows (none_placed (is_variadic g.ty) passed) p = all_grow parts honoured low (all_marks (locals_of g) g.params) (none_placed (is_variadic g.ty) passed) in
+    let given : (nat_lt 1024 p.total ≡ false) × (settled parts (check_of parts modes g) g low passed p ≡ f) = answered (nat_lt 1024 p.total) (large sizes.Frame p.total) (settled parts (check_of parts modes g) g low passed p) f h in
+    let grows : Grows (none_placed (is_variadic g.ty) passed) p = all_grow parts modes low (all_marks (locals_of g) g.params) (none_placed (is_variadic g.ty) passed) in
     let arrivals : Arrivals = first_arrivals p (bytes_without (is_kept last) passed (last_bytes parts prototype (register_param g))) in
     let variadic : is_variadic g.ty ≡ f.variadic = ap (λ z. z.variadic) given.1 in
     let arrives : last ≡ f.last = ap (λ z. z.last) given.1 in
@@ -181,15 +182,15 @@ frames_are_orderly parts honoured g f h =
     }
 
 -- and no object has a home there
-pub frames_without_bank : (parts : Parts) (honoured : Bool) (g : FuncTy) (f : Framed) → frame_of parts honoured g ≡ Ok f → f.bank ≡ 0 → (i : ℕ) → NotBank (home_of f i)
-frames_without_bank parts honoured g f h nothing i =
-    let p : Places = placed_in parts honoured g in
+pub frames_without_bank : (parts : Parts) (modes : Modes) (g : FuncTy) (f : Framed) → frame_of parts modes g ≡ Ok f → f.bank ≡ 0 → (i : ℕ) → NotBank (home_of f i)
+frames_without_bank parts modes g f h nothing i =
+    let p : Places = placed_in parts modes g in
     let low : ℕ = lowest (locals_of g) g.params in
     let passed : ℕ = passed_bytes parts g in
     let prototype : Bool = has_prototype g.ty in
     let last : Arrival = arrival parts prototype low p.homes (register_param g) in
-    let given : (nat_lt 1024 p.total ≡ false) × (settled parts g low passed p ≡ f) = answered (nat_lt 1024 p.total) (large sizes.Frame p.total) (settled parts g low passed p) f h in
-    let grows : Grows (none_placed (is_variadic g.ty) passed) p = all_grow parts honoured low (all_marks (locals_of g) g.params) (none_placed (is_variadic g.ty) passed) in
+    let given : (nat_lt 1024 p.total ≡ false) × (settled parts (check_of parts modes g) g low passed p ≡ f) = answered (nat_lt 1024 p.total) (large sizes.Frame p.total) (settled parts (check_of parts modes g) g low passed p) f h in
+    let grows : Grows (none_placed (is_variadic g.ty) passed) p = all_grow parts modes low (all_marks (locals_of g) g.params) (none_placed (is_variadic g.ty) passed) in
     let arrivals : Arrivals = first_arrivals p (bytes_without (is_kept last) passed (last_bytes parts prototype (register_param g))) in
     let bank : p.bank ≡ f.bank = ap (λ z. z.bank) given.1 in
     let none : NoBank p.homes = grows.none (bank ∙ nothing) tt in

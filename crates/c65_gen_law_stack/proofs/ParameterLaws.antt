@@ -28,7 +28,7 @@ use Rattle.c65_genframe.specs.Sizes.{object_in, slot_bytes}
 use Rattle.c65_genframe.specs.Sizes as sizing
 use Rattle.c65_genframe.specs.Marks.{lowest, all_marks}
 use Rattle.c65_genframe.specs.Objects.{locals_of}
-use Rattle.c65_genframe.specs.Frames.{has_prototype, is_variadic, takes_stack, register_param, home_at, arrival_at, arrival, is_kept, last_bytes, bytes_without, settled, passed_bytes, placed_in}
+use Rattle.c65_genframe.specs.Frames.{has_prototype, is_variadic, takes_stack, register_param, home_at, arrival_at, arrival, is_kept, last_bytes, bytes_without, check_of, settled, passed_bytes, placed_in}
 use Rattle.c65_genload.specs.Conversions.{size_of}
 use Rattle.c65_genexpr.specs.Types.{kind_of, kind_in, bare}
 use Rattle.c65_genexpr.specs.Arguments.{stays}
@@ -226,16 +226,16 @@ kinds_in parts p true es ps s i e = absurd cc
 kinds_in parts p false es ps s i e = s.kind i (sym (last_get ps) ∙ e)
 
 pub calls_pass_what_is_taken : CallsPassWhatIsTaken
-calls_pass_what_is_taken parts honoured g f es framed given =
+calls_pass_what_is_taken parts modes g f es framed given =
     let prototype : Bool = has_prototype g.ty in
     let cdecl : Bool = takes_stack g.ty in
-    let p : Places = placed_in parts honoured g in
+    let p : Places = placed_in parts modes g in
     let low : ℕ = lowest (locals_of g) g.params in
     let passes : ℕ = passed_bytes parts g in
     let last : Arrival = arrival parts prototype low p.homes (register_param g) in
-    let answer = answered (nat_lt 1024 p.total) (large sizes.Frame p.total) (settled parts g low passes p) f framed in
+    let answer = answered (nat_lt 1024 p.total) (large sizes.Frame p.total) (settled parts (check_of parts modes g) g low passes p) f framed in
     let few : p.total ≤ 1024 = ltb-false 1024 p.total answer.0 in
-    let room : Room (none_placed (is_variadic g.ty) passes) p = all_room parts honoured low (all_marks (locals_of g) g.params) (none_placed (is_variadic g.ty) passes) few in
+    let room : Room (none_placed (is_variadic g.ty) passes) p = all_room parts modes low (all_marks (locals_of g) g.params) (none_placed (is_variadic g.ty) passes) few in
     let s : Same parts prototype es g.params = same parts prototype es g.params given in
     let bytes : ℕ = bytes_in (passed (not cdecl) es) in
     let sum : bytes + last_bytes parts prototype (register_param g) ≡ slot_sum parts prototype g.params = last_in parts prototype cdecl es g.params s in
@@ -265,8 +265,8 @@ given_taken u (more q qs) (some e es) (i ∷ is) h p =
     (p.0, p.1, h.1.0.0, likes, given_taken u qs es is h.2 p.3)
 
 pub calls_pass_their_parameters : CallsPassTheirParameters
-calls_pass_their_parameters parts honoured g body f q qs cdecl es well ty framed given =
+calls_pass_their_parameters parts modes g body f q qs cdecl es well ty framed given =
     let match : AreParams (unit_of parts) qs g.params = subst (λ (t : Fn). MatchParams (unit_of parts) t g.params) ty well.prototype in
     let taken : AreTaken (unit_of parts) (has_prototype g.ty) es g.params = subst (λ (b : Bool). AreTaken (unit_of parts) b es g.params) (sym (ap has_prototype ty)) (given_taken (unit_of parts) qs es g.params given match) in
     let way : takes_stack g.ty ≡ cdecl = ap takes_stack ty in
-    ap (λ (b : Bool). bytes_in (passed (not b) es) + pushed_bytes f.last) (sym way) ∙ calls_pass_what_is_taken parts honoured g f es framed taken
+    ap (λ (b : Bool). bytes_in (passed (not b) es) + pushed_bytes f.last) (sym way) ∙ calls_pass_what_is_taken parts modes g f es framed taken

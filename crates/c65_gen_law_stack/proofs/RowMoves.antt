@@ -11,7 +11,7 @@ use Rattle.c65_code.specs.declared.routine.Routine.{Routine}
 use Rattle.c65_code.specs.declared.routine.Routine.TheVariants as routines
 use Rattle.c65_code.specs.Numbers.{tos_result, result_width, unary_result, unary_width}
 use Rattle.c65_code.specs.LineState.{State, sp_of}
-use Rattle.c65_code.specs.Rows.{Row, row_of, row_by, giving, giving_if, costing, popping, number_at, primary_of, number_of, tos_cost}
+use Rattle.c65_code.specs.Rows.{Row, row_of, row_by, is_too_deep, check_row, giving, giving_if, costing, popping, number_at, primary_of, number_of, tos_cost}
 use Rattle.c65_code.specs.Rows as rows
 use Rattle.c65_code.specs.Moves.{MeetsRow}
 use Rattle.c65_code.specs.Forms.{Run}
@@ -75,6 +75,10 @@ tos_sp op width t u m =
     let row : Row = costing (tos_cost op) (popping (rows.size_of width) t (row_by (routines.Tos op width) t)) in
     m.sp ∙ (giving_if_sp (result_width op width) (tos_result op width (number_at width t.mem (sp_of t)) (primary_of width t)) row ∙ ap (λ (n : ℕ). sp_of t + n) (widths width))
 
+check_sp : (deep : Bool) (row : Row) → (check_row deep row).sp ≡ row.sp
+check_sp true row = refl
+check_sp false row = refl
+
 routine_even : (r : Routine) (w x : Waiting) (t u : State) → IsOwn (Run r) → 8 ≤ sp_of t → by_routine r w ≡ Some x → MeetsRow (row_of r t) t u → Even t u w x
 routine_even routines.PushA w x t u own low e m = pushes 1 w x t u (omega (arith, low)) m.sp e
 routine_even routines.PushAx w x t u own low e m = pushes 2 w x t u (omega (arith, low)) m.sp e
@@ -105,6 +109,7 @@ routine_even (routines.Unary op width) w x t u own low e m = stays w x t u (m.sp
 routine_even routines.SignA w x t u own low e m = stays w x t u m.sp e
 routine_even routines.LongAx w x t u own low e m = stays w x t u m.sp e
 routine_even routines.ULongAx w x t u own low e m = stays w x t u m.sp e
+routine_even routines.StkChk w x t u own low e m = stays w x t u (m.sp ∙ check_sp (is_too_deep t) (costing 256 (row_by routines.StkChk t))) e
 routine_even _ w x t u own low e m = absurd cc
 
 pub routine_moves : (r : Routine) (w x : Waiting) (t u : State) → IsOwn (Run r) → 8 ≤ sp_of t → by_routine r w ≡ Some x → MeetsRow (row_of r t) t u → sp_of u + bytes_in x.values ≡ sp_of t + bytes_in w.values

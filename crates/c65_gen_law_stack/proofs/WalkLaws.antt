@@ -111,7 +111,7 @@ pub call_step : (s : Setting) (c d : Laid) (j k : ℕ) (reads gives : RegSet) (p
 call_step s c d j k reads gives p q r a t u v x laid other inside takes enters entry same stack number end =
     let n : ℕ = length (entry_code c.frame) in
     let frame : Frame = record { back = (c.number, settle (s.lines c.number) (suc (n + j))); pushed = a.pushed; gives = gives } in
-    let first : IsEntered d.frame t u = entries_lower_sp s other.parts other.honoured other.func d.frame q p t u other.framed entry in
+    let first : IsEntered d.frame t u = entries_lower_sp s other.parts other.modes other.func d.frame q p t u other.framed entry in
     let active : v.frames ≡ frame ∷ a.frames = stack ∙ (first.frames ∙ enters.frames) in
     let last : IsLeft s d.frame frame r v (place_in c k) x = ends_raise_sp s d.frame frame a.frames r (place_in c k) v x active end in
     let line : suc (n + j) ≡ n + suc j = omega arith in

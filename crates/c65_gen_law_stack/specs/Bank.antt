@@ -19,6 +19,7 @@ use Rattle.c65_code.specs.Placement.{Setting}
 use Rattle.c65_code.specs.Rows.{bank_of}
 use Rattle.c65_code.specs.Moves.{Moves}
 use Rattle.c65_code.specs.Forms.{form_of}
+use Rattle.c65_genframe.specs.declared.modes.Modes.{Modes}
 use Rattle.c65_genframe.specs.Frames.{frame_of, Framed}
 use Rattle.c65_genstmt.specs.Functions.{no_lines, with_function}
 use Rattle.c65_gen_law_stack.specs.Going.{IsOwn}
@@ -46,8 +47,8 @@ leaves_bank _ = true
 
 -- where a function takes nothing of regbank, and so does not save it, no line of it writes any of it
 abbrev pub FunctionsLeaveRegbank : Type 0
-FunctionsLeaveRegbank = (parts : Parts) (honoured : Bool) (g : FuncTy) (body : Stmt) (f : Framed) (is_main : Bool) (out : RegSet)
-    → frame_of parts honoured g ≡ Ok f → f.bank ≡ 0 → IsTrue (list_all leaves_bank (with_function f is_main (Some body) (no_lines out)).lines)
+FunctionsLeaveRegbank = (parts : Parts) (modes : Modes) (g : FuncTy) (body : Stmt) (f : Framed) (is_main : Bool) (out : RegSet)
+    → frame_of parts modes g ≡ Ok f → f.bank ≡ 0 → IsTrue (list_all leaves_bank (with_function f is_main (Some body) (no_lines out)).lines)
 
 -- and a move by such a line leaves regbank as it was
 abbrev pub MovesLeaveRegbank : Type 0

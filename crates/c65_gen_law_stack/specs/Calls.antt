@@ -6,6 +6,7 @@ use Rattle.c65_code.specs.Texts.{bytes_at}
 use Rattle.c65_code.specs.LineState.{Place, Frame, State, sp_of}
 use Rattle.c65_code.specs.Placement.{Setting}
 use Rattle.c65_code.specs.Rows.{bank_of}
+use Rattle.c65_genframe.specs.declared.modes.Modes.{Modes}
 use Rattle.c65_genframe.specs.declared.home.Arrival.{Arrival}
 use Rattle.c65_genframe.specs.declared.home.Arrival.TheVariants.{Pushed}
 use Rattle.c65_genframe.specs.Frames.{Framed, saved_bytes, frame_of}
@@ -44,8 +45,8 @@ pub record IsEntered (f : Framed) (t u : State) : Type 0 where
   pub frames : u.frames ≡ t.frames
 
 abbrev pub EntriesLowerSp : Type 0
-EntriesLowerSp = (s : Setting) (parts : Parts) (honoured : Bool) (g : FuncTy) (f : Framed) (p q : Place) (t u : State)
-    → frame_of parts honoured g ≡ Ok f → Passes s (entry_code f) p t q u → IsEntered f t u
+EntriesLowerSp = (s : Setting) (parts : Parts) (modes : Modes) (g : FuncTy) (f : Framed) (p q : Place) (t u : State)
+    → frame_of parts modes g ≡ Ok f → Passes s (entry_code f) p t q u → IsEntered f t u
 
 -- from the first line of its end to the line behind the call: what the call and the function both give is kept
 pub record IsLeft (s : Setting) (f : Framed) (frame : Frame) (p : Place) (t : State) (q : Place) (u : State) : Type 0 where
@@ -75,6 +76,6 @@ pub record IsCalled (f : Framed) (frame : Frame) (t : State) (q : Place) (u : St
   pub frames : t.frames ≡ frame ∷ u.frames
 
 abbrev pub EndsUndoEntries : Type 0
-EndsUndoEntries = (s : Setting) (parts : Parts) (honoured : Bool) (g : FuncTy) (f : Framed) (frame : Frame) (frames : List Frame) (p q r o : Place) (t u v w : State)
-    → frame_of parts honoured g ≡ Ok f → t.frames ≡ frame ∷ frames
+EndsUndoEntries = (s : Setting) (parts : Parts) (modes : Modes) (g : FuncTy) (f : Framed) (frame : Frame) (frames : List Frame) (p q r o : Place) (t u v w : State)
+    → frame_of parts modes g ≡ Ok f → t.frames ≡ frame ∷ frames
     → Passes s (entry_code f) p t q u → Holds f u v → Passes s (end_code f) r v o w → IsCalled f frame t o w

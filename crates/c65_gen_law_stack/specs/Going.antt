@@ -12,6 +12,7 @@ use Rattle.c65_code.specs.Placement.{Setting}
 use Rattle.c65_code.specs.Forms.{Form, Run, IsLocal, form_of}
 use Rattle.c65_code.specs.Moves.{Enters, Moves}
 use Rattle.c65_code.specs.Steady.{IsSteady}
+use Rattle.c65_genframe.specs.declared.modes.Modes.{Modes}
 use Rattle.c65_genframe.specs.Frames.{Framed, frame_of}
 use Rattle.c65_genentry.specs.Entry.{entry_code}
 use Rattle.c65_genentry.specs.Ends.{end_code}
@@ -63,8 +64,8 @@ FunctionsKeepHeights = (u : UnitTy) (g : FuncTy) (body : Stmt) (f : Framed) (is_
 -- So does a call of a function, from the calling line to the line behind it, where the call takes away what the function takes, and the
 -- body of the function leaves sp and what its entry put away as they were.
 abbrev pub CallsKeepHeights : Type 0
-CallsKeepHeights = (s : Setting) (g j n : ℕ) (reads gives : RegSet) (before middle rest : List Line) (w : Option Waiting) (parts : Parts) (honoured : Bool) (called : FuncTy) (f : Framed) (q r o back : Place) (a t u v x : State)
+CallsKeepHeights = (s : Setting) (g j n : ℕ) (reads gives : RegSet) (before middle rest : List Line) (w : Option Waiting) (parts : Parts) (modes : Modes) (called : FuncTy) (f : Framed) (q r o back : Place) (a t u v x : State)
     → s.lines g ≡ before ++ (middle ++ rest) → labels_of rest ≡ [] → suc j ≤ length middle
-    → frame_of parts honoured called ≡ Ok f → waiting_at w middle j + pushed_bytes f.last ≡ waiting_at w middle (suc j) + passed_bytes f t
+    → frame_of parts modes called ≡ Ok f → waiting_at w middle j + pushed_bytes f.last ≡ waiting_at w middle (suc j) + passed_bytes f t
     → Enters s n reads gives (g, length before + j) a q t → Passes s (entry_code f) q t r u → Holds f u v → Passes s (end_code f) o v back x
     → Goes g (length before) middle w j a back x

@@ -7,6 +7,7 @@ use Rattle.c65_csem.specs.Places.{is_scalar, promoted_of, alike}
 use Rattle.c65_csem.specs.Typed.{AreGiven}
 use Rattle.c65_csem.specs.Units.{IsBody}
 use Rattle.c65_csem.specs.Views.{unit_of}
+use Rattle.c65_genframe.specs.declared.modes.Modes.{Modes}
 use Rattle.c65_genframe.specs.Frames.{Framed, has_prototype, takes_stack, frame_of}
 use Rattle.c65_genexpr.specs.Types.{bare}
 use Rattle.c65_gen_law_lines.specs.Stack.{bytes_in, passed}
@@ -27,12 +28,12 @@ AreTaken u prototype (some e es) (i ∷ is) = (o : ObjectTy) × (slice_get u.obj
 -- Such arguments have as many bytes on the software stack as the parameters there, but for the one that the entry pushes. Where the
 -- function takes all arguments on the stack, all go there, else the last one does not.
 abbrev pub CallsPassWhatIsTaken : Type 0
-CallsPassWhatIsTaken = (parts : Parts) (honoured : Bool) (g : FuncTy) (f : Framed) (es : Nodes)
-    → frame_of parts honoured g ≡ Ok f → AreTaken (unit_of parts) (has_prototype g.ty) es g.params
+CallsPassWhatIsTaken = (parts : Parts) (modes : Modes) (g : FuncTy) (f : Framed) (es : Nodes)
+    → frame_of parts modes g ≡ Ok f → AreTaken (unit_of parts) (has_prototype g.ty) es g.params
     → bytes_in (passed (not (takes_stack g.ty)) es) + pushed_bytes f.last ≡ f.stacked
 
 -- So it is with the arguments that a prototype allows. With `cdecl` all go on the stack.
 abbrev pub CallsPassTheirParameters : Type 0
-CallsPassTheirParameters = (parts : Parts) (honoured : Bool) (g : FuncTy) (body : Stmt) (f : Framed) (q : QTy) (qs : QTys) (cdecl : Bool) (es : Nodes)
-    → IsBody (unit_of parts) g body → g.ty ≡ fn q (known qs) false cdecl → frame_of parts honoured g ≡ Ok f → AreGiven qs false es
+CallsPassTheirParameters = (parts : Parts) (modes : Modes) (g : FuncTy) (body : Stmt) (f : Framed) (q : QTy) (qs : QTys) (cdecl : Bool) (es : Nodes)
+    → IsBody (unit_of parts) g body → g.ty ≡ fn q (known qs) false cdecl → frame_of parts modes g ≡ Ok f → AreGiven qs false es
     → bytes_in (passed (not cdecl) es) + pushed_bytes f.last ≡ f.stacked

@@ -9,6 +9,7 @@ use Rattle.c65_code.specs.Placement.{Setting}
 use Rattle.c65_code.specs.Forms.{form_of}
 use Rattle.c65_code.specs.Moves.{Enters, Moves}
 use Rattle.c65_code.specs.Steady.{IsSteady}
+use Rattle.c65_genframe.specs.declared.modes.Modes.{Modes}
 use Rattle.c65_genframe.specs.Frames.{Framed, frame_of}
 use Rattle.c65_genentry.specs.Entry.{entry_code}
 use Rattle.c65_genentry.specs.Ends.{end_code}
@@ -33,9 +34,9 @@ place_in c j = (c.number, length (entry_code c.frame) + j)
 
 pub record IsLaid (s : Setting) (c : Laid) : Type 0 where
   pub parts : Parts
-  pub honoured : Bool
+  pub modes : Modes
   pub func : FuncTy
-  pub framed : frame_of parts honoured func ≡ Ok c.frame
+  pub framed : frame_of parts modes func ≡ Ok c.frame
   pub lines : s.lines c.number ≡ entry_code c.frame ++ (c.middle ++ end_code c.frame)
   pub level : AreLevel c.first c.middle
 

@@ -1,15 +1,15 @@
 -- The entry of a function (docs/MACHINE.md, "Calls").
-use Rattle.std.specs.Prelude.{ℕ, ◌+◌, ◌-◌, ◌/◌, ◌%◌, nat_lt, Bool, if◌then◌else◌, List, [], ◌∷◌, ◌++◌}
+use Rattle.std.specs.Prelude.{ℕ, ◌+◌, ◌-◌, ◌/◌, ◌%◌, nat_lt, Bool, if◌then◌else◌, List, [], ◌∷◌, ◌++◌, Option, None, Some}
 use Rattle.c65_mach.specs.declared.rows.Op.TheVariants.{Adc, Clc, Lda, Ldy, Sta, Stx, Tax, Tay, Tya}
 use Rattle.c65_code.specs.declared.line.Line.{Line}
 use Rattle.c65_code.specs.declared.routine.Routine.{Routine}
-use Rattle.c65_code.specs.declared.routine.Routine.TheVariants.{PushA, PushAx, PushEax, LdAxYSp, LdAi, LdAxi, SaveRegs}
+use Rattle.c65_code.specs.declared.routine.Routine.TheVariants.{PushA, PushAx, PushEax, LdAxYSp, LdAi, LdAxi, SaveRegs, StkChk}
 use Rattle.c65_genframe.specs.declared.home.Arrival.{Arrival}
 use Rattle.c65_genframe.specs.declared.home.Arrival.TheVariants.{Pushed, Kept}
 use Rattle.c65_genframe.specs.declared.home.Moved.{Moved}
 use Rattle.c65_genframe.specs.Frames.{Framed}
 use Rattle.c65_genwide.specs.Lines.{value, call}
-use Rattle.c65_genentry.specs.Words.{sp, regbank, implied, zero_page, by_y}
+use Rattle.c65_genentry.specs.Words.{sp, tmp2, tmp3, tmp4, regbank, implied, zero_page, by_y}
 use Rattle.c65_genentry.specs.Stack.{lower_code}
 
 abbrev pub push_of : ℕ → Routine
@@ -59,5 +59,14 @@ all_moved (m ∷ ms) = moved_code m ++ all_moved ms
 abbrev pub taken_bytes : Bool → ℕ → ℕ
 taken_bytes variadic soft = if variadic then soft - 1 else soft
 
+-- Where the stacks are checked, the number of bytes for which the entry asks goes to tmp3 and tmp4; A, X and Y stay.
+abbrev pub checked_code : Option ℕ → List Line
+checked_code None = []
+checked_code (Some c) = zero_page Sta tmp2 ∷ value Lda (c % 256) ∷ zero_page Sta tmp3 ∷ value Lda (c / 256 % 256) ∷ zero_page Sta tmp4 ∷ zero_page Lda tmp2 ∷ call StkChk ∷ []
+
+-- the arriving parameter and the objects come to their homes
+abbrev pub taking_code : Framed → List Line
+taking_code f = pushed_code f.last ++ (counted_code f.variadic ++ (saved_code f.bank ++ (kept_code f.last ++ (lower_code (taken_bytes f.variadic f.soft) ++ (count_code f.variadic ++ all_moved f.moved)))))
+
 abbrev pub entry_code : Framed → List Line
-entry_code f = pushed_code f.last ++ (counted_code f.variadic ++ (saved_code f.bank ++ (kept_code f.last ++ (lower_code (taken_bytes f.variadic f.soft) ++ (count_code f.variadic ++ all_moved f.moved)))))
+entry_code f = checked_code f.check ++ taking_code f

@@ -26,6 +26,12 @@ tmp1 = 16
 abbrev pub tmp2 : ℕ
 tmp2 = 17
 
+abbrev pub tmp3 : ℕ
+tmp3 = 18
+
+abbrev pub tmp4 : ℕ
+tmp4 = 19
+
 abbrev pub regbank : ℕ
 regbank = 20
 

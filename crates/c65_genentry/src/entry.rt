@@ -1,9 +1,9 @@
 // The entry of a function (MACHINE.md, "Calls").
 ghost use Rattle.std.specs.Prelude.{◌≡◌, ◌<◌, OnOk, OnErr};
 ghost use Rattle.c65_genwide.specs.Lines.{with_lines, Keeps};
-ghost use Rattle.c65_genentry.specs.Entry.{push_of, pushed_code, counted_code, saved_code, kept_code, bank_store, near_load, far_load, load_code, moved_code, all_moved, taken_bytes, count_code, entry_code};
+ghost use Rattle.c65_genentry.specs.Entry.{push_of, pushed_code, counted_code, saved_code, kept_code, bank_store, near_load, far_load, load_code, moved_code, all_moved, taken_bytes, count_code, checked_code, taking_code, entry_code};
 
-use crate::places::{REGBANK, SP};
+use crate::places::{REGBANK, SP, TMP2, TMP3, TMP4};
 use crate::stack::lower;
 use c65_code::Line::Do;
 use c65_code::Operand::{Byte, Nothing, Zero};
@@ -185,9 +185,33 @@ fn taken_bytes(variadic: bool, soft: u16) -> u16
     }
 }
 
-/// Puts the lines at which a function begins. Its objects then have their homes.
-pub fn put_entry(frame: &Frame, draft: &mut Draft) -> Result<(), AllocError>
-    ensures lines { OnOk result (draft.new ≡ with_lines draft.old (entry_code frame.now)) }
+/// Both stacks are checked for so many bytes, where they are; A, X and Y stay.
+fn put_checked(check: Option<u16>, draft: &mut Draft) -> Result<(), AllocError>
+    ensures lines { OnOk result (draft.new ≡ with_lines draft.old (checked_code check)) }
+    ensures kept { OnErr result (Keeps draft.old draft.new) }
+{
+    match check {
+        Some(bytes) => {
+            put(
+                draft,
+                &[
+                    Do(Sta, ZeroPage, Zero(TMP2)),
+                    Do(Lda, Immediate, Byte((bytes % 256) as u8)),
+                    Do(Sta, ZeroPage, Zero(TMP3)),
+                    Do(Lda, Immediate, Byte((bytes / 256 % 256) as u8)),
+                    Do(Sta, ZeroPage, Zero(TMP4)),
+                    Do(Lda, ZeroPage, Zero(TMP2)),
+                ],
+            )?;
+            run(draft, Routine::StkChk)
+        }
+        None => put(draft, &[]),
+    }
+}
+
+/// The parameter that arrives in registers, and the objects, come to their homes.
+fn put_taking(frame: &Frame, draft: &mut Draft) -> Result<(), AllocError>
+    ensures lines { OnOk result (draft.new ≡ with_lines draft.old (taking_code frame.now)) }
     ensures kept { OnErr result (Keeps draft.old draft.new) }
 {
     put_pushed(frame.last(), draft)?;
@@ -197,4 +221,13 @@ pub fn put_entry(frame: &Frame, draft: &mut Draft) -> Result<(), AllocError>
     lower(taken_bytes(frame.is_variadic(), frame.soft()), draft)?;
     put_count(frame.is_variadic(), draft)?;
     put_all_moved(frame.moved(), draft)
+}
+
+/// Puts the lines at which a function begins. Its objects then have their homes.
+pub fn put_entry(frame: &Frame, draft: &mut Draft) -> Result<(), AllocError>
+    ensures lines { OnOk result (draft.new ≡ with_lines draft.old (entry_code frame.now)) }
+    ensures kept { OnErr result (Keeps draft.old draft.new) }
+{
+    put_checked(frame.check(), draft)?;
+    put_taking(frame, draft)
 }

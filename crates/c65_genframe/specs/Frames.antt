@@ -1,19 +1,21 @@
 -- Frames: where the objects of a function stand, and what its entry and its end do about them (docs/MACHINE.md, "Calls").
-use Rattle.std.specs.Prelude.{ℕ, ◌+◌, ◌-◌, ◌||◌, ◌&&◌, Bool, true, false, nat_lt, nat_le, if◌then◌else◌, List, [], length, take, Option, None, Some, option_map, slice_get, Result, Ok, Err}
+use Rattle.std.specs.Prelude.{ℕ, ◌+◌, ◌-◌, ◌*◌, min, ◌||◌, ◌&&◌, Bool, true, false, nat_lt, nat_le, if◌then◌else◌, List, [], ◌∷◌, length, take, Option, None, Some, option_map, slice_get, Result, Ok, Err}
 use Rattle.c65_base.specs.declared.refusal.Size.TheVariants as sizes
 use Rattle.c65_base.specs.Answers.{Fault, large}
 use Rattle.c65_ctype.specs.Trees.{Ty, Fn, fn, unknown, known}
 use Rattle.c65_ctype.specs.Views.{types_of}
 use Rattle.c65_csem.specs.declared.items.Parts.{Parts}
-use Rattle.c65_csem.specs.Trees.{FuncTy}
+use Rattle.c65_csem.specs.Trees.{Stmt, FuncTy}
 use Rattle.c65_csem.specs.Views.{func_of}
+use Rattle.c65_csem_need.specs.Needs.{greatest_need}
+use Rattle.c65_genframe.specs.declared.modes.Modes.{Modes}
 use Rattle.c65_genframe.specs.declared.home.Home.{Home}
 use Rattle.c65_genframe.specs.declared.home.Home.TheVariants.{Bank, Soft}
 use Rattle.c65_genframe.specs.declared.home.Moved.{Moved}
 use Rattle.c65_genframe.specs.declared.home.Arrival.{Arrival}
 use Rattle.c65_genframe.specs.declared.home.Arrival.TheVariants.{Passed, Pushed, Kept}
 use Rattle.c65_genframe.specs.Objects.{locals_of}
-use Rattle.c65_genframe.specs.Sizes.{object_in, slot_bytes, bank_bytes, bytes_or}
+use Rattle.c65_genframe.specs.Sizes.{object_in, object_bytes, slot_bytes, bank_bytes, bytes_or}
 use Rattle.c65_genframe.specs.Marks.{lowest, all_marks}
 use Rattle.c65_genframe.specs.Places.{Places, none_placed, placed_all}
 use Rattle.c65_genframe.specs.Arrivals.{slots, Arrivals, arrived}
@@ -22,7 +24,8 @@ use Rattle.c65_genframe.specs.Arrivals.{slots, Arrivals, arrived}
 -- with number low; the parameters that move from the software stack to regbank; whether the byte at sp holds the
 -- number of bytes that the call pushed; how many bytes of regbank are taken, lowest first; how many bytes at sp the
 -- entry takes, beside six for regbank where any of it is taken; how many bytes of parameters stand on the software
--- stack above these; and how many bytes of the last parameter arrive in registers.
+-- stack above these; how many bytes of the last parameter arrive in registers; and for how many bytes of the software
+-- stack the entry asks, where it checks the stacks.
 pub record Framed : Type 0 where
   pub parts : Parts
   pub low : ℕ
@@ -33,6 +36,7 @@ pub record Framed : Type 0 where
   pub soft : ℕ
   pub stacked : ℕ
   pub last : Arrival
+  pub check : Option ℕ
 
 -- ---- functions
 
@@ -60,6 +64,17 @@ flat (Some home) = home
 abbrev pub home_at : ℕ → List (Option Home) → ℕ → Option Home
 home_at low homes i = if nat_le low i then flat (slice_get homes (i - low)) else None
 
+-- ---- the check of the stacks
+
+-- the bytes of objects
+abbrev pub all_bytes : Parts → List ℕ → ℕ
+all_bytes parts [] = 0
+all_bytes parts (i ∷ objects) = object_bytes (types_of parts.types) (object_in parts i) + all_bytes parts objects
+
+abbrev pub waiting_in : Option Stmt → ℕ
+waiting_in None = 0
+waiting_in (Some body) = greatest_need body
+
 -- ---- the frame of a function
 
 -- how a parameter that arrives in registers comes to its home
@@ -80,6 +95,14 @@ abbrev pub last_bytes : Parts → Bool → Option ℕ → ℕ
 last_bytes parts prototype None = 0
 last_bytes parts prototype (Some i) = slot_bytes (types_of parts.types) prototype (object_in parts i)
 
+-- What a call takes of the software stack beside the bytes that its caller pushed, at most 65,535: its objects, six bytes, eight
+-- for each value that waits at once, and the parameter that arrives in registers.
+abbrev pub asked_bytes : Parts → FuncTy → ℕ
+asked_bytes parts f = min (all_bytes parts (locals_of f) + 6 + 8 * waiting_in f.body + last_bytes parts (has_prototype f.ty) (register_param f)) 65535
+
+abbrev pub check_of : Parts → Modes → FuncTy → Option ℕ
+check_of parts modes f = if modes.checked then Some (asked_bytes parts f) else None
+
 abbrev pub without_last : Bool → List ℕ → List ℕ
 without_last false params = params
 without_last true params = take (length params - 1) params
@@ -94,37 +117,37 @@ saved_bytes bank = if nat_lt 0 bank then 6 else 0
 abbrev pub first_arrivals : Places → ℕ → Arrivals
 first_arrivals p stacked = record { homes = p.homes; moved = []; left = stacked }
 
-abbrev pub arranged : Parts → FuncTy → ℕ → ℕ → Places → Arrival → Framed
-arranged parts f low passed p last =
+abbrev pub arranged : Parts → Option ℕ → FuncTy → ℕ → ℕ → Places → Arrival → Framed
+arranged parts check f low passed p last =
     let prototype = has_prototype f.ty in
     let stacked = bytes_without (is_kept last) passed (last_bytes parts prototype (register_param f)) in
     let a = arrived parts prototype low (p.soft + saved_bytes p.bank) (without_last (is_kept last) f.params) (first_arrivals p stacked) in
-    record { parts = parts; low = low; homes = a.homes; moved = a.moved; variadic = is_variadic f.ty; bank = p.bank; soft = p.soft; stacked = stacked; last = last }
+    record { parts = parts; low = low; homes = a.homes; moved = a.moved; variadic = is_variadic f.ty; bank = p.bank; soft = p.soft; stacked = stacked; last = last; check = check }
 
-abbrev pub settled : Parts → FuncTy → ℕ → ℕ → Places → Framed
-settled parts f low passed p = arranged parts f low passed p (arrival parts (has_prototype f.ty) low p.homes (register_param f))
+abbrev pub settled : Parts → Option ℕ → FuncTy → ℕ → ℕ → Places → Framed
+settled parts check f low passed p = arranged parts check f low passed p (arrival parts (has_prototype f.ty) low p.homes (register_param f))
 
-abbrev pub limited : Parts → FuncTy → ℕ → ℕ → Places → Result Framed Fault
-limited parts f low passed p = if nat_lt 1024 p.total then Err (large sizes.Frame p.total) else Ok (settled parts f low passed p)
+abbrev pub limited : Parts → Option ℕ → FuncTy → ℕ → ℕ → Places → Result Framed Fault
+limited parts check f low passed p = if nat_lt 1024 p.total then Err (large sizes.Frame p.total) else Ok (settled parts check f low passed p)
 
 abbrev pub passed_bytes : Parts → FuncTy → ℕ
 passed_bytes parts f = slots parts (has_prototype f.ty) f.params 0
 
 -- the objects in the order of their numbers
-abbrev pub placed_in : Parts → Bool → FuncTy → Places
-placed_in parts honoured f =
-    placed_all parts honoured (lowest (locals_of f) f.params) (all_marks (locals_of f) f.params) (none_placed (is_variadic f.ty) (passed_bytes parts f))
+abbrev pub placed_in : Parts → Modes → FuncTy → Places
+placed_in parts modes f =
+    placed_all parts modes (lowest (locals_of f) f.params) (all_marks (locals_of f) f.params) (none_placed (is_variadic f.ty) (passed_bytes parts f))
 
-abbrev pub frame_of : Parts → Bool → FuncTy → Result Framed Fault
-frame_of parts honoured f = limited parts f (lowest (locals_of f) f.params) (passed_bytes parts f) (placed_in parts honoured f)
+abbrev pub frame_of : Parts → Modes → FuncTy → Result Framed Fault
+frame_of parts modes f = limited parts (check_of parts modes f) f (lowest (locals_of f) f.params) (passed_bytes parts f) (placed_in parts modes f)
 
-abbrev pub frame_in : Parts → Bool → Option FuncTy → Result Framed Fault
-frame_in parts honoured None = Err (large sizes.Frame 0)
-frame_in parts honoured (Some f) = frame_of parts honoured f
+abbrev pub frame_in : Parts → Modes → Option FuncTy → Result Framed Fault
+frame_in parts modes None = Err (large sizes.Frame 0)
+frame_in parts modes (Some f) = frame_of parts modes f
 
 -- the frame of a function, by its number
-abbrev pub frame_at : Parts → Bool → ℕ → Result Framed Fault
-frame_at parts honoured func = frame_in parts honoured (option_map func_of (slice_get parts.funcs.items func))
+abbrev pub frame_at : Parts → Modes → ℕ → Result Framed Fault
+frame_at parts modes func = frame_in parts modes (option_map func_of (slice_get parts.funcs.items func))
 
 -- ---- what a frame tells
 

@@ -1,6 +1,7 @@
 pub mod Arrivals
 pub mod Frames
 pub mod Marks
+pub mod Modes
 pub mod Objects
 pub mod Places
 pub mod Registers

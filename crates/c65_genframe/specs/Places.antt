@@ -2,6 +2,7 @@
 use Rattle.std.specs.Prelude.{ℕ, ◌+◌, ◌%◌, min, ◌&&◌, Bool, nat_lt, nat_le, if◌then◌else◌, List, [], ◌∷◌, ◌++◌, Option, None, Some}
 use Rattle.c65_ctype.specs.Views.{types_of}
 use Rattle.c65_csem.specs.declared.items.Parts.{Parts}
+use Rattle.c65_genframe.specs.declared.modes.Modes.{Modes}
 use Rattle.c65_genframe.specs.declared.home.Home.{Home}
 use Rattle.c65_genframe.specs.declared.home.Home.TheVariants.{Bank, Soft}
 use Rattle.c65_genframe.specs.declared.mark.Mark.{Mark}
@@ -50,12 +51,12 @@ with_later p = record p { homes = p.homes ++ Some (Soft 0) ∷ [] }
 abbrev pub with_parameter : ℕ → Places → Places
 with_parameter bank p = if fits bank p then with_banked bank p.total p else with_later p
 
-abbrev pub with_marked : Parts → Bool → ℕ → Mark → Places → Places
-with_marked parts honoured i Other p = with_none p.total p
-with_marked parts honoured i Local p = with_local (bank_bytes honoured (object_in parts i)) (object_bytes (types_of parts.types) (object_in parts i)) p
-with_marked parts honoured i Parameter p = with_parameter (bank_bytes honoured (object_in parts i)) p
+abbrev pub with_marked : Parts → Modes → ℕ → Mark → Places → Places
+with_marked parts modes i Other p = with_none p.total p
+with_marked parts modes i Local p = with_local (bank_bytes modes.honoured (object_in parts i)) (object_bytes (types_of parts.types) (object_in parts i)) p
+with_marked parts modes i Parameter p = with_parameter (bank_bytes modes.honoured (object_in parts i)) p
 
 -- the object with number i has the first mark
-abbrev pub placed_all : Parts → Bool → ℕ → List Mark → Places → Places
-placed_all parts honoured i [] p = p
-placed_all parts honoured i (mark ∷ marks) p = placed_all parts honoured ((i + 1) % 4294967296) marks (with_marked parts honoured i mark p)
+abbrev pub placed_all : Parts → Modes → ℕ → List Mark → Places → Places
+placed_all parts modes i [] p = p
+placed_all parts modes i (mark ∷ marks) p = placed_all parts modes ((i + 1) % 4294967296) marks (with_marked parts modes i mark p)

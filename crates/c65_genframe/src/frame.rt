@@ -3,13 +3,17 @@ ghost use Rattle.std.specs.Prelude.{◌≡◌, ◌<◌, ◌≤◌, ◌^◌, leng
 ghost use Rattle.c65_base.specs.Answers.{Gives};
 ghost use Rattle.c65_ctype.specs.Views.{ty_of, fn_of, types_of};
 ghost use Rattle.c65_csem.specs.Views.{func_of};
-ghost use Rattle.c65_genframe.specs.Frames.{is_variadic, takes_stack, has_prototype, register_param, home_at, arrival, is_kept, last_bytes, without_last, bytes_without, saved_bytes, settled, frame_of, frame_at, home_of, is_raised, type_bytes};
+ghost use Rattle.c65_genframe.specs.Frames.{is_variadic, takes_stack, has_prototype, register_param, home_at, arrival, is_kept, last_bytes, without_last, bytes_without, saved_bytes, check_of, settled, frame_of, frame_at, home_of, is_raised, type_bytes};
+ghost use Rattle.c65_genframe.specs.Modes.{modes_of};
+ghost use Rattle.c65_genframe.specs.Objects.{locals_of};
 ghost use Rattle.c65_genframe.specs.Symbols.{numbers_of};
 
 use crate::arrive::{Arrived, slots};
 use crate::body::locals_of;
+use crate::check::asked_bytes;
 use crate::home::{Arrival, Home, Moved};
 use crate::mark::{all_marks, lowest};
+use crate::modes::Modes;
 use crate::place::Placed;
 use crate::sizes::{bank_bytes, bytes_or, slot_bytes};
 use crate::symbols::Numbers;
@@ -33,6 +37,7 @@ pub struct Frame<'a> {
     soft: u16,
     stacked: u16,
     last: Arrival,
+    check: Option<u16>,
 }
 
 impl<'a> Model for Frame<'a> {
@@ -51,7 +56,7 @@ impl<'a> Model for Frame<'a> {
 
     ghost coded = { Prim.hlevel (codes, s.the_row.coded, e.the_row.coded, ty.the_row.coded, f.the_row.coded, q.the_row.coded) };
 
-    ghost view = { λ f. record { parts = f.parts.now; low = f.low; homes = f.homes.items; moved = f.moved.items; variadic = f.variadic; bank = f.bank; soft = f.soft; stacked = f.stacked; last = f.last } };
+    ghost view = { λ f. record { parts = f.parts.now; low = f.low; homes = f.homes.items; moved = f.moved.items; variadic = f.variadic; bank = f.bank; soft = f.soft; stacked = f.stacked; last = f.last; check = f.check } };
 
     ghost invariant = { λ f. f.numbers ≡ numbers_of f.parts.now };
 }
@@ -160,6 +165,18 @@ fn saved_bytes(bank: u8) -> u16
     if bank > 0 { 6 } else { 0 }
 }
 
+/// For how many bytes the entry asks, where it checks the stacks.
+fn check_of(parts: &Parts, function: &TFunc, locals: &[u32], modes: Modes) -> Option<u16>
+    requires { locals.now ≡ locals_of (func_of function.now) }
+    ensures { result ≡ check_of parts.now modes (func_of function.now) }
+{
+    if !modes.checked {
+        return None;
+    }
+    let last = last_bytes(parts, has_prototype(&function.ty), register_param(function));
+    Some(asked_bytes(parts, function, locals, last))
+}
+
 /// The frame once each object has its home, but for parameters on the software stack.
 fn arranged<'a>(
     alloc: Global,
@@ -169,10 +186,11 @@ fn arranged<'a>(
     low: u32,
     passed: u16,
     placed: Placed,
+    check: Option<u16>,
 ) -> Result<Frame<'a>, AllocError>
     requires numbers { numbers ≡ numbers_of parts.now }
     requires passed { passed ≤ 1024 }
-    ensures { IfOk result (λ f. f ≡ settled parts.entry.now (func_of function.now) low passed placed) }
+    ensures { IfOk result (λ f. f ≡ settled parts.entry.now check (func_of function.now) low passed placed) }
 {
     let prototype = has_prototype(&function.ty);
     let param = register_param(function);
@@ -197,19 +215,20 @@ fn arranged<'a>(
         soft,
         stacked,
         last,
+        check,
     })
 }
 
 impl<'a> Frame<'a> {
-    /// The frame of a function of a program with these parts; `honoured` says whether `register`
-    /// is. Refuses as `new` does.
+    /// The frame of a function of a program with these parts, by what the options ask for.
+    /// Refuses as `new` does.
     pub fn of(
         alloc: Global,
         parts: &'a Parts,
         function: &TFunc,
-        honoured: bool,
+        modes: Modes,
     ) -> Result<Frame<'a>, Refusal>
-        ensures { Gives (λ f. f) result (frame_of parts.entry.now honoured (func_of function.now)) }
+        ensures { Gives (λ f. f) result (frame_of parts.entry.now modes (func_of function.now)) }
     {
         let numbers = Numbers::of(parts)?;
         let params = function.params.as_slice();
@@ -218,14 +237,24 @@ impl<'a> Frame<'a> {
         let passed = slots(parts, has_prototype(&function.ty), params);
         let marks = all_marks(alloc, &locals, params)?;
         let mut placed = Placed::new(alloc, is_variadic(&function.ty), passed);
-        placed.add_all(parts, honoured, low, &marks)?;
+        placed.add_all(parts, modes, low, &marks)?;
         if placed.total() > 1024 {
             return Err(Refusal::TooLarge {
                 limit: Size::Frame,
                 value: placed.total(),
             });
         }
-        let frame = arranged(alloc, parts, numbers, function, low, passed as u16, placed)?;
+        let check = check_of(parts, function, &locals, modes);
+        let frame = arranged(
+            alloc,
+            parts,
+            numbers,
+            function,
+            low,
+            passed as u16,
+            placed,
+            check,
+        )?;
         Ok(frame)
     }
 
@@ -238,11 +267,11 @@ impl<'a> Frame<'a> {
         func: u32,
         options: &Options,
     ) -> Result<Frame<'a>, Refusal>
-        ensures { Gives (λ f. f) result (frame_at program.entry.now.0 options.now.register_vars func) }
+        ensures { Gives (λ f. f) result (frame_at program.entry.now.0 (modes_of options.now) func) }
     {
         let parts = program.unit().parts();
         match parts.funcs.get(func as usize) {
-            Some(function) => Frame::of(alloc, parts, function, options.register_vars),
+            Some(function) => Frame::of(alloc, parts, function, Modes::of(options)),
             None => Err(Refusal::OutOfMemory),
         }
     }
@@ -317,6 +346,13 @@ impl<'a> Frame<'a> {
         ensures { result ≡ self.now.last }
     {
         self.last
+    }
+
+    /// For how many bytes of the software stack the entry asks; none where it does not check the stacks.
+    pub fn check(&self) -> Option<u16>
+        ensures { result ≡ self.now.check }
+    {
+        self.check
     }
 
     /// The bytes of a type; 0 where it has no size, or more than 65,535 bytes. It takes no memory.

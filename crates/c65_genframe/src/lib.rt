@@ -4,9 +4,11 @@
 
 mod arrive;
 mod body;
+mod check;
 mod frame;
 mod home;
 mod mark;
+mod modes;
 mod passing;
 mod place;
 mod sizes;
@@ -14,6 +16,7 @@ mod symbols;
 
 pub use frame::Frame;
 pub use home::{Arrival, Home, Moved};
+pub use modes::Modes;
 pub use passing::registers;
 pub use sizes::bytes_or;
 pub use symbols::Numbers;

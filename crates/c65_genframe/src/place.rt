@@ -4,6 +4,7 @@ ghost use Rattle.c65_genframe.specs.Places.{more, fits, none_placed, with_none, 
 
 use crate::home::Home;
 use crate::mark::Mark;
+use crate::modes::Modes;
 use crate::sizes::{bank_bytes, object_bytes};
 use c65_csem::Parts;
 use std::alloc::{AllocError, Global};
@@ -156,20 +157,20 @@ impl Placed {
     fn add(
         &mut self,
         parts: &Parts,
-        honoured: bool,
+        modes: Modes,
         object: u32,
         mark: Mark,
     ) -> Result<(), AllocError>
-        ensures same { OnOk result (self.new ≡ with_marked parts.now honoured object mark self.old) }
+        ensures same { OnOk result (self.new ≡ with_marked parts.now modes object mark self.old) }
         ensures grows { OnOk result (self.old.total ≤ self.new.total) }
     {
         match mark {
             Mark::Other => self.add_none(self.total),
             Mark::Local => {
-                let bank = bank_bytes(parts, honoured, object);
+                let bank = bank_bytes(parts, modes.honoured, object);
                 self.add_local(bank, object_bytes(parts, object))
             }
-            Mark::Parameter => self.add_parameter(bank_bytes(parts, honoured, object)),
+            Mark::Parameter => self.add_parameter(bank_bytes(parts, modes.honoured, object)),
         }
     }
 
@@ -177,16 +178,16 @@ impl Placed {
     pub fn add_all(
         &mut self,
         parts: &Parts,
-        honoured: bool,
+        modes: Modes,
         low: u32,
         marks: &[Mark],
     ) -> Result<(), AllocError>
-        ensures same { OnOk result (self.new ≡ placed_all parts.now honoured low marks.now self.old) }
+        ensures same { OnOk result (self.new ≡ placed_all parts.now modes low marks.now self.old) }
         ensures grows { OnOk result (self.old.total ≤ self.new.total) }
     {
         let mut object = low;
         for mark in marks {
-            self.add(parts, honoured, object, *mark)?;
+            self.add(parts, modes, object, *mark)?;
             object = object.wrapping_add(1);
         }
         Ok(())

@@ -12,6 +12,7 @@ use Rattle.c65_mach.specs.declared.rows.Op.TheVariants.{Lda, Ldx}
 use Rattle.c65_code.specs.declared.line.Line.{Line}
 use Rattle.c65_code.specs.declared.parts.RegSet.{RegSet}
 use Rattle.c65_code.specs.Segments.{Segment, Drafted}
+use Rattle.c65_genframe.specs.declared.modes.Modes.{Modes}
 use Rattle.c65_genframe.specs.Frames.{Framed, frame_of}
 use Rattle.c65_genframe.specs.Registers.{registers}
 use Rattle.c65_genframe.specs.Sizes.{bytes_or}
@@ -53,13 +54,13 @@ closed d = record { lines = d.lines; out = d.out }
 abbrev pub segment_of : Parts → Bool → FuncTy → Framed → Segment
 segment_of parts is_main g f = closed (with_function f is_main g.body (no_lines (gives_of parts g)))
 
-unfoldable pub function_of : Parts → Bool → Bool → FuncTy → Result Segment Fault
-function_of parts is_main honoured g = frame_of parts honoured g >>= (λ f. Ok (segment_of parts is_main g f))
+unfoldable pub function_of : Parts → Bool → Modes → FuncTy → Result Segment Fault
+function_of parts is_main modes g = frame_of parts modes g >>= (λ f. Ok (segment_of parts is_main g f))
 
-abbrev pub function_in : Parts → Bool → Bool → Option FuncTy → Result Segment Fault
-function_in parts is_main honoured None = Err (large sizes.Frame 0)
-function_in parts is_main honoured (Some g) = function_of parts is_main honoured g
+abbrev pub function_in : Parts → Bool → Modes → Option FuncTy → Result Segment Fault
+function_in parts is_main modes None = Err (large sizes.Frame 0)
+function_in parts is_main modes (Some g) = function_of parts is_main modes g
 
 -- by its number
-abbrev pub function_at : Parts → ℕ → Bool → ℕ → Result Segment Fault
-function_at parts main honoured func = function_in parts (func == main) honoured (option_map func_of (slice_get parts.funcs.items func))
+abbrev pub function_at : Parts → ℕ → Modes → ℕ → Result Segment Fault
+function_at parts main modes func = function_in parts (func == main) modes (option_map func_of (slice_get parts.funcs.items func))

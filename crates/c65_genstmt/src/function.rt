@@ -2,6 +2,7 @@
 ghost use Rattle.std.specs.Prelude.{◌≡◌, ◌≤◌, ◌^◌, IfOk, OnOk};
 ghost use Rattle.c65_base.specs.Answers.{Gives};
 ghost use Rattle.c65_csem.specs.Views.{func_of};
+ghost use Rattle.c65_genframe.specs.Modes.{modes_of};
 ghost use Rattle.c65_genwide.specs.Lines.{with_lines};
 ghost use Rattle.c65_genstmt.specs.Functions.{body_room, with_body, main_code, with_function, no_lines, closed, gives_of, function_of, function_at};
 
@@ -14,7 +15,7 @@ use c65_code::Operand::Byte;
 use c65_code::{Draft, RegSet, Seg, is_segment};
 use c65_csem::{Parts, TFunc, TProgram};
 use c65_genentry::{fresh, label, put_end, put_entry, reserve};
-use c65_genframe::{Frame, bytes_or, registers};
+use c65_genframe::{Frame, Modes, bytes_or, registers};
 use c65_genwide::put;
 use c65_mach::Mode::Immediate;
 use c65_mach::Op::{Lda, Ldx};
@@ -126,11 +127,11 @@ pub fn segment_of(
     parts: &Parts,
     function: &TFunc,
     is_main: bool,
-    honoured: bool,
+    modes: Modes,
 ) -> Result<Seg, Refusal>
-    ensures { Gives (λ s. s) result (function_of parts.now is_main honoured (func_of function.now)) }
+    ensures { Gives (λ s. s) result (function_of parts.now is_main modes (func_of function.now)) }
 {
-    let frame = Frame::of(alloc, parts, function, honoured)?;
+    let frame = Frame::of(alloc, parts, function, modes)?;
     let draft = drafted(alloc, parts, function, &frame, is_main)?;
     Ok(close(draft)?)
 }
@@ -145,13 +146,13 @@ pub fn gen_function(
     func: u32,
     options: &Options,
 ) -> Result<Seg, Refusal>
-    ensures { Gives (λ s. s) result (function_at program.now.0 program.now.1 options.now.register_vars func) }
+    ensures { Gives (λ s. s) result (function_at program.now.0 program.now.1 (modes_of options.now) func) }
 {
     let parts = program.unit().parts();
     match parts.funcs.get(func as usize) {
         Some(function) => {
             let is_main = func == program.main();
-            segment_of(alloc, parts, function, is_main, options.register_vars)
+            segment_of(alloc, parts, function, is_main, Modes::of(options))
         }
         None => Err(Refusal::OutOfMemory),
     }

@@ -2,6 +2,7 @@
 ghost use Rattle.std.specs.Prelude.{◌≡◌, OnOk, IfErr, Ok};
 ghost use Rattle.c65_base.specs.Answers.{Gives, Fails};
 ghost use Rattle.c65_csem.specs.Views.{func_of};
+ghost use Rattle.c65_genframe.specs.Modes.{modes_of};
 ghost use Rattle.c65_genframe.specs.Symbols.{numbers_of};
 ghost use Rattle.c65_genstmt.specs.Programs.{takes_arguments, function_added, functions_of, program_of};
 
@@ -10,7 +11,7 @@ use c65_base::{Names, Options, Refusal};
 use c65_code::{Code, Items, Seg, Sym};
 use c65_csem::{Parts, TFunc, TProgram};
 use c65_gendata::{gen_data, gen_symbols};
-use c65_genframe::Numbers;
+use c65_genframe::{Modes, Numbers};
 use std::alloc::Global;
 
 /// Whether main takes arguments.
@@ -30,18 +31,18 @@ fn add_function(
     parts: &Parts,
     numbers: Numbers,
     main: u32,
-    honoured: bool,
+    modes: Modes,
     number: u32,
     function: &TFunc,
     into: &mut Vec<(Sym, Seg)>,
 ) -> Result<(), Refusal>
     requires { numbers ≡ numbers_of parts.now }
-    ensures ok { OnOk result (function_added parts.now main honoured number (func_of function.now) into.old.items ≡ Ok into.new.items) }
-    ensures refused { IfErr result (λ e. Fails e (function_added parts.now main honoured number (func_of function.now) into.old.items)) }
+    ensures ok { OnOk result (function_added parts.now main modes number (func_of function.now) into.old.items ≡ Ok into.new.items) }
+    ensures refused { IfErr result (λ e. Fails e (function_added parts.now main modes number (func_of function.now) into.old.items)) }
 {
     match &function.body {
         Some(_) => {
-            let segment = segment_of(alloc, parts, function, number == main, honoured)?;
+            let segment = segment_of(alloc, parts, function, number == main, modes)?;
             into.push((numbers.function(number), segment))?;
             Ok(())
         }
@@ -55,9 +56,9 @@ fn gen_functions(
     alloc: Global,
     parts: &Parts,
     main: u32,
-    honoured: bool,
+    modes: Modes,
 ) -> Result<Vec<(Sym, Seg)>, Refusal>
-    ensures { Gives (λ v. v.items) result (functions_of parts.now main honoured) }
+    ensures { Gives (λ v. v.items) result (functions_of parts.now main modes) }
 {
     let numbers = Numbers::of(parts)?;
     let mut functions = Vec::new(alloc);
@@ -67,7 +68,7 @@ fn gen_functions(
             parts,
             numbers,
             main,
-            honoured,
+            modes,
             number as u32,
             function,
             &mut functions,
@@ -88,10 +89,10 @@ pub fn gen_program(
     names: &Names,
     options: &Options,
 ) -> Result<Code, Refusal>
-    ensures { Gives (λ c. c) result (program_of program.now.0 program.now.1 names.now options.now.register_vars) }
+    ensures { Gives (λ c. c) result (program_of program.now.0 program.now.1 names.now (modes_of options.now)) }
 {
     let parts = program.unit().parts();
-    let functions = gen_functions(alloc, parts, program.main(), options.register_vars)?;
+    let functions = gen_functions(alloc, parts, program.main(), Modes::of(options))?;
     let symbols = gen_symbols(alloc, program, names)?;
     let datums = gen_data(alloc, program)?;
     Ok(Code {

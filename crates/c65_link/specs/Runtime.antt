@@ -23,7 +23,7 @@ abbrev pub Marks : Type 0
 Marks = List Bool
 
 abbrev pub no_marks : Marks
-no_marks = replicate 121 false
+no_marks = replicate 122 false
 
 abbrev pub marked : Marks → Routine → Marks
 marked marks r = slice_set marks (number_of r) true

@@ -80,7 +80,7 @@ impl Model for Chosen {
 
     ghost view = { λ c. record { marks = c.marks; parts = c.parts.items } };
 
-    ghost invariant = { λ c. length c.marks ≡ 121 };
+    ghost invariant = { λ c. length c.marks ≡ 122 };
 }
 
 impl Chosen {

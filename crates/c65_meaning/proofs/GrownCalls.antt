@@ -1,6 +1,6 @@
 -- What calls and the library leave of output, turns and names of blocks.
 use Rattle.std.proofs.Common.{arith, ◌≡◌, ℕ, zero, suc, ◌*◌, refl, sym, length, List, [], ◌∷◌, ◌++◌, append-nil, ℤ, pos, negsuc, Bool, true, ◌∙◌}
-use Rattle.std.specs.Prelude.{Result, Ok, Err, Option, Some, None, ⊤, slice_get}
+use Rattle.std.specs.Prelude.{Result, Ok, Err, Option, Some, None, ⊤, slice_get, not, ◌&&◌}
 use Rattle.c65_ints.specs.Ranges.{residue}
 use Rattle.c65_ctype.specs.Trees.{Ty}
 use Rattle.c65_base.specs.declared.library.Library.{Library}
@@ -163,7 +163,7 @@ params_same u c (i ∷ objects) (v ∷ args) d h = then_same c (with_params u ob
 
 unless_deep_grows : (c : Scene) (k : List Item) (vs : List Value) (o : Result Scene Why) → SameIf (turned c) o → Grown c (unless_deep k vs o)
 unless_deep_grows c k vs (Err why) h = tt
-unless_deep_grows c k vs (Ok d) h = if_grows c (is_deep d.frames) Deep (Running k vs d) tt (turns_on c k vs d h)
+unless_deep_grows c k vs (Ok d) h = if_grows c (not d.free && is_deep d.frames) Deep (Running k vs d) tt (turns_on c k vs d h)
 
 new_frame_same : (u : UnitTy) (f cost : ℕ) (c : Scene) → Same c (new_frame u f cost c)
 new_frame_same u f cost c = record { same_out = refl; same_turns = refl; names = record { later = omega arith; blocks = λ b small. same_later (c.store b) } }

@@ -1,11 +1,11 @@
 -- The meaning of a program: n steps from the call of `main`, and when the run of an image agrees with it.
-use Rattle.std.specs.Prelude.{◌≡◌, ℕ, ◌+◌, ◌*◌, ◌≤◌, List, ⊤}
+use Rattle.std.specs.Prelude.{◌≡◌, ℕ, true, ◌+◌, ◌*◌, ◌≤◌, List, ⊤}
 use Rattle.c65_meaning.specs.Program.{ProgramTy}
 use Rattle.c65_meaning.specs.Why.{Why}
 use Rattle.c65_meaning.specs.Sites.{jumps}
 use Rattle.c65_meaning.specs.State.{State, Undefined, Deep, Ended, Running}
 use Rattle.c65_meaning.specs.Step.{steps}
-use Rattle.c65_meaning.specs.Start.{start}
+use Rattle.c65_meaning.specs.Start.{start_in, start}
 
 abbrev pub state_at : ProgramTy → List (List ℕ) → List ℕ → ℕ → State
 state_at p args input n = steps p n (start p args input)
@@ -26,6 +26,10 @@ outcome_of (Running work values c) = Runs c.out c.turns
 
 abbrev pub sem : ProgramTy → List (List ℕ) → List ℕ → ℕ → Outcome
 sem p args input n = outcome_of (state_at p args input n)
+
+-- the same where no call is too deep, whatever is left of the stacks
+abbrev pub sem_free : ProgramTy → List (List ℕ) → List ℕ → ℕ → Outcome
+sem_free p args input n = outcome_of (steps p n (start_in true p args input))
 
 -- nothing undefined has happened, and no call was too deep
 abbrev pub IsDefined : Outcome → Type 0

@@ -98,22 +98,25 @@ module _ (u : UnitTy) where
   first_store [] args = initial_store
   first_store _ args = with_arguments args
 
-  abbrev pub first_scene : List ℕ → List (List ℕ) → List ℕ → Scene
-  first_scene params args input = record { frames = []; store = first_store params args; next = first_block u + suc (length args); input = input; out = []; turns = 0 }
+  abbrev pub first_scene : Bool → List ℕ → List (List ℕ) → List ℕ → Scene
+  first_scene free params args input = record { frames = []; store = first_store params args; next = first_block u + suc (length args); input = input; out = []; turns = 0; free = free }
 
   -- `main` takes no arguments, or their number and their list
   abbrev pub main_values : List (List ℕ) → List ℕ → List Value
   main_values args [] = []
   main_values args _ = Whole (pos (length args)) ∷ Place (first_block u) 0 ∷ []
 
-  abbrev pub started : ℕ → List (List ℕ) → List ℕ → FuncTy → Option Stmt → State
-  started f args input g None = Undefined Unfit
-  started f args input g (Some body) = entered u f g body (soft_cost u (bytes_of_objects u g.params) body + arguments_bytes args) (main_values args g.params) [] [] (first_scene g.params args input)
+  abbrev pub started : Bool → ℕ → List (List ℕ) → List ℕ → FuncTy → Option Stmt → State
+  started free f args input g None = Undefined Unfit
+  started free f args input g (Some body) = entered u f g body (soft_cost u (bytes_of_objects u g.params) body + arguments_bytes args) (main_values args g.params) [] [] (first_scene free g.params args input)
 
-  abbrev pub started_by : ℕ → List (List ℕ) → List ℕ → Option FuncTy → State
-  started_by f args input None = Undefined Unfit
-  started_by f args input (Some g) = started f args input g g.body
+  abbrev pub started_by : Bool → ℕ → List (List ℕ) → List ℕ → Option FuncTy → State
+  started_by free f args input None = Undefined Unfit
+  started_by free f args input (Some g) = started free f args input g g.body
 
 -- the call of `main`; an initial pointer that points outside its object is undefined from the start
+abbrev pub start_in : Bool → ProgramTy → List (List ℕ) → List ℕ → State
+start_in free p args input = if objects_inside p.unit p.unit.objects then started_by p.unit free p.main args input (slice_get p.unit.funcs p.main) else Undefined (By OffsetOutside)
+
 abbrev pub start : ProgramTy → List (List ℕ) → List ℕ → State
-start p args input = if objects_inside p.unit p.unit.objects then started_by p.unit p.main args input (slice_get p.unit.funcs p.main) else Undefined (By OffsetOutside)
+start p args input = start_in false p args input

@@ -1,5 +1,5 @@
 -- The states of a run.
-use Rattle.std.specs.Prelude.{ℕ, suc, ◌+◌, ◌==◌, List, [], ◌∷◌, Option, Some, None, if◌then◌else◌}
+use Rattle.std.specs.Prelude.{ℕ, suc, Bool, ◌+◌, ◌==◌, List, [], ◌∷◌, Option, Some, None, if◌then◌else◌}
 use Rattle.c65_meaning.specs.Why.{Why}
 use Rattle.c65_meaning.specs.Store.{Store, Value}
 use Rattle.c65_meaning.specs.Items.{Item}
@@ -10,7 +10,8 @@ pub record Frame : Type 0 where
   pub object : ℕ → Option ℕ
   pub cost : ℕ
 
--- all but the pending work and the waiting values; the active call comes first among the frames, and `next` is the next new block
+-- all but the pending work and the waiting values; the active call comes first among the frames, `next` is the next new block,
+-- and where it is `free` no call is too deep
 pub record Scene : Type 0 where
   pub frames : List Frame
   pub store : Store
@@ -18,6 +19,7 @@ pub record Scene : Type 0 where
   pub input : List ℕ
   pub out : List ℕ
   pub turns : ℕ
+  pub free : Bool
 
 pub data State : Type 0 where
   Undefined : (why : Why) → State

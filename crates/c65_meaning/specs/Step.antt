@@ -156,13 +156,13 @@ taken [] args vs = Some (args, vs)
 taken (t ∷ rest) args [] = None
 taken (t ∷ rest) args (v ∷ vs) = taken rest (v ∷ args) vs
 
--- the premise on the stacks
+-- the premise on the stacks, which is not asked in a free run
 abbrev pub is_deep : List Frame → Bool
 is_deep frames = nat_lt 1984 (soft_sum frames) || nat_lt 224 (hard_sum frames)
 
 abbrev pub unless_deep : List Item → List Value → Result Scene Why → State
 unless_deep k vs (Err why) = Undefined why
-unless_deep k vs (Ok c) = if is_deep c.frames then Deep else Running k vs c
+unless_deep k vs (Ok c) = if not c.free && is_deep c.frames then Deep else Running k vs c
 
 abbrev pub ended_or : List Item → List Value → Scene → Effect → Option ℕ → State
 ended_or k vs c e None = Running k (e.result ∷ vs) (record c { store = e.store; input = e.input; out = e.out })

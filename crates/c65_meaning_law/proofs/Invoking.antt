@@ -1,6 +1,6 @@
 -- A call: the callee is there, takes its arguments, and its body begins; or the library serves it.
 use Rattle.std.proofs.Common.{◌≡◌, ℕ, zero, suc, Bool, true, false, List, [], ◌∷◌, Option, Some, None, refl, sym, ap, ◌∙◌, subst, if◌then◌else◌}
-use Rattle.std.specs.Prelude.{Result, Ok, Err, All, IsSome, IsTrue, slice_get}
+use Rattle.std.specs.Prelude.{Result, Ok, Err, All, IsSome, IsTrue, slice_get, not, ◌&&◌}
 use Rattle.std.proofs.lemmas.Bool.{and_parts}
 use Rattle.std.proofs.lemmas.Option.{get_or_from_slice_get, slice_get_within}
 use Rattle.std.proofs.lemmas.List.Elements.{All-get_or}
@@ -108,7 +108,7 @@ module _ (p : ProgramTy) (w : IsProgram p.unit p.main) (s : IsScopedProgram p.un
   pub body_enters : (f : ℕ) (g : FuncTy) (body : Stmt) (k : List Item) (ks : List Kind) (vs : List Value) (d : Scene) (r : Result Scene Why) → slice_get p.unit.funcs f ≡ Some g → g.body ≡ Some body → func_in d.frames ≡ f → Sound (IsBegun p.unit (entering g.params []) d) r → ((e : Scene) → Grows p.unit d e → AreSuited (D p.unit e) ks vs × AreWaiting p.unit e (frames_below d.frames) (record { func = g; code = body; base = ks; behind = k })) → IsWell p.unit (unless_deep (plan_stmt p.unit 0 body (Leave ∷ k)) vs r)
   body_enters f g body k ks vs d (Ok e) i j n b h =
       let more = h e b.grows in
-      well_if p (is_deep e.frames) Deep (Running (plan_stmt p.unit 0 body (Leave ∷ k)) vs e) tt (body_runs f g body k ks vs d e i j n b more.0 more.1)
+      well_if p (not e.free && is_deep e.frames) Deep (Running (plan_stmt p.unit 0 body (Leave ∷ k)) vs e) tt (body_runs f g body k ks vs d e i j n b more.0 more.1)
   body_enters f g body k ks vs d (Err (By action)) i j n b h = tt
   body_enters f g body k ks vs d (Err Unfit) i j n b h = absurd b
 

@@ -11,7 +11,7 @@ use Rattle.c65_meaning.specs.Shapes.{object_in, lives_in_frame, literal_block, o
 use Rattle.c65_meaning.specs.Costs.{bytes_of_objects, soft_cost, arguments_bytes}
 use Rattle.c65_meaning.specs.State.{Scene, State, Undefined, Deep, Ended, Running}
 use Rattle.c65_meaning.specs.Step.{place_in, new_frame, with_params, body_of, step, steps}
-use Rattle.c65_meaning.specs.Start.{bytes_at, text_block, argv_cells, argv_block, with_texts, initial_store, objects_inside, with_arguments, first_store, first_scene, main_values, started, started_by, start}
+use Rattle.c65_meaning.specs.Start.{bytes_at, text_block, argv_cells, argv_block, with_texts, initial_store, objects_inside, with_arguments, first_store, first_scene, main_values, started, started_by, start_in}
 use Rattle.c65_meaning.specs.Sem.{state_at}
 use Rattle.c65_csem_names.specs.Scopes.{IsInScope}
 use Rattle.c65_csem_names.specs.Programs.{TakesArguments, Starts, IsScopedProgram}
@@ -112,7 +112,7 @@ module _ (u : UnitTy) (args : List (List ℕ)) where
 
 -- ---- the call of `main`
 
-module _ (p : ProgramTy) (args : List (List ℕ)) (input : List ℕ) (w : IsProgram p.unit p.main) (s : IsScopedProgram p.unit p.main) where
+module _ (p : ProgramTy) (free : Bool) (args : List (List ℕ)) (input : List ℕ) (w : IsProgram p.unit p.main) (s : IsScopedProgram p.unit p.main) where
   main : MainGivesNumber p
   main = main_gives_number p s
 
@@ -129,52 +129,52 @@ module _ (p : ProgramTy) (args : List (List ℕ)) (input : List ℕ) (w : IsProg
   values_enough (i ∷ j ∷ []) h = tt
   values_enough (i ∷ j ∷ k ∷ params) h = absurd h
 
-  first_ready : (f cost : ℕ) (params : List ℕ) → IsReady p.unit [] (new_frame p.unit f cost (first_scene p.unit params args input))
+  first_ready : (f cost : ℕ) (params : List ℕ) → IsReady p.unit [] (new_frame p.unit f cost (first_scene p.unit free params args input))
   first_ready f cost params = record { active = tt; objects = objects; literals = λ l m. first_some p.unit args params (literal_block p.unit l) (blocks.literals l m); funcs = λ n m. first_some p.unit args params n (blocks.funcs n m) }
     where
       blocks : HasBlocks p.unit
       blocks = (initial_store_fits p.unit).0
 
-      objects : (i : ℕ) → IsSome (object_in p.unit i) → IsInScope p.unit [] i → HasBlock p.unit (new_frame p.unit f cost (first_scene p.unit params args input)) i
+      objects : (i : ℕ) → IsSome (object_in p.unit i) → IsInScope p.unit [] i → HasBlock p.unit (new_frame p.unit f cost (first_scene p.unit free params args input)) i
       objects i m h = one (lives_in_frame (object_in p.unit i)) refl
         where
-          one : (t : Bool) → lives_in_frame (object_in p.unit i) ≡ t → HasBlock p.unit (new_frame p.unit f cost (first_scene p.unit params args input)) i
+          one : (t : Bool) → lives_in_frame (object_in p.unit i) ≡ t → HasBlock p.unit (new_frame p.unit f cost (first_scene p.unit free params args input)) i
           one true e = absurd (no_truth (h e))
             where
               no_truth : IsTrue false → ⊥
               no_truth l = absurd (cc)
           one false e = (object_block p.unit i, ap (λ (t : Bool). if t then place_in None else Ok (Place (object_block p.unit i) 0)) e, first_some p.unit args params (object_block p.unit i) (blocks.objects i m e))
 
-  first_fits : (f cost : ℕ) (params : List ℕ) → StoreFits (D p.unit (new_frame p.unit f cost (first_scene p.unit params args input))) (first_store p.unit params args)
+  first_fits : (f cost : ℕ) (params : List ℕ) → StoreFits (D p.unit (new_frame p.unit f cost (first_scene p.unit free params args input))) (first_store p.unit params args)
   first_fits f cost params = record { there = λ b i. i; all = first_fit p.unit args params ((initial_store_fits p.unit).1 s.pointers) }
 
-  main_enters : (g : FuncTy) (body : Stmt) → slice_get p.unit.funcs p.main ≡ Some g → g.body ≡ Some body → TakesArguments p.unit g.params → IsWell p.unit (started p.unit p.main args input g (Some body))
+  main_enters : (g : FuncTy) (body : Stmt) → slice_get p.unit.funcs p.main ≡ Some g → g.body ≡ Some body → TakesArguments p.unit g.params → IsWell p.unit (started p.unit free p.main args input g (Some body))
   main_enters g body i j t =
       let cost : ℕ = soft_cost p.unit (bytes_of_objects p.unit g.params) body + arguments_bytes args in
-      let d : Scene = new_frame p.unit p.main cost (first_scene p.unit g.params args input) in
+      let d : Scene = new_frame p.unit p.main cost (first_scene p.unit free g.params args input) in
       body_enters p w s p.main g body [] [] [] d (with_params p.unit g.params (main_values p.unit args g.params) d) i j refl
       (params_begin p g.params (main_values p.unit args g.params) [] d (automatic_params p.unit g.params (body_typed p w s p.main g body i j).params) (first_ready p.main cost g.params) (first_fits p.main cost g.params) (values_stand g.params) (values_enough g.params t))
       (λ e n. (tt, (refl, main g i)))
 
-  main_starts : (g : FuncTy) (o : Option Stmt) → slice_get p.unit.funcs p.main ≡ Some g → g.body ≡ o → IsSome o → TakesArguments p.unit g.params → IsWell p.unit (started p.unit p.main args input g o)
+  main_starts : (g : FuncTy) (o : Option Stmt) → slice_get p.unit.funcs p.main ≡ Some g → g.body ≡ o → IsSome o → TakesArguments p.unit g.params → IsWell p.unit (started p.unit free p.main args input g o)
   main_starts g None i j h t = absurd (cc)
   main_starts g (Some body) i j h t = main_enters g body i j t
 
-  main_found : (o : Option FuncTy) → slice_get p.unit.funcs p.main ≡ o → Starts p.unit o → IsWell p.unit (started_by p.unit p.main args input o)
+  main_found : (o : Option FuncTy) → slice_get p.unit.funcs p.main ≡ o → Starts p.unit o → IsWell p.unit (started_by p.unit free p.main args input o)
   main_found None i h = absurd h
   main_found (Some g) i h =
       let same : Some w.start ≡ Some g = sym w.main_is ∙ i in
       main_starts g g.body i refl (subst (λ (o : Option FuncTy). IsSome (body_of o)) same w.has_body) h.0
 
-  start_well : IsWell p.unit (start p args input)
-  start_well = well_if p (objects_inside p.unit p.unit.objects) (started_by p.unit p.main args input (slice_get p.unit.funcs p.main)) (Undefined (By OffsetOutside)) (main_found (slice_get p.unit.funcs p.main) refl s.start) tt
+  start_well : IsWell p.unit (start_in free p args input)
+  start_well = well_if p (objects_inside p.unit p.unit.objects) (started_by p.unit free p.main args input (slice_get p.unit.funcs p.main)) (Undefined (By OffsetOutside)) (main_found (slice_get p.unit.funcs p.main) refl s.start) tt
 
   steps_well : (n : ℕ) (x : State) → IsWell p.unit x → IsWell p.unit (steps p n x)
   steps_well zero x h = h
   steps_well (suc n) x h = steps_well n (step p x) (step_well p w s main (jumps_well p) x h)
 
-  pub state_well : (n : ℕ) → IsWell p.unit (state_at p args input n)
-  state_well n = steps_well n (start p args input) start_well
+  pub state_well : (n : ℕ) → IsWell p.unit (steps p n (start_in free p args input))
+  state_well n = steps_well n (start_in free p args input) start_well
 
 -- ---- the law
 
@@ -186,4 +186,4 @@ fit p (Ended out status turns) h = tt
 fit p (Running work vs d) h = closed p h.scene d.store h.running.scene.store
 
 pub programs_fit : ProgramsFit
-programs_fit p args input n w s = fit p (state_at p args input n) (state_well p args input w s n)
+programs_fit p args input n w s = fit p (state_at p args input n) (state_well p false args input w s n)

@@ -147,6 +147,7 @@ segment_of routines.RestRegs h = record { fit = refl; labels = refl; targets = r
 segment_of routines.CallPtr4 h = record { fit = refl; labels = refl; targets = refl; closed = refl }
 segment_of routines.Start h = record { fit = refl; labels = refl; targets = refl; closed = refl }
 segment_of routines.StartArgs h = record { fit = refl; labels = refl; targets = refl; closed = refl }
+segment_of routines.StkChk h = record { fit = refl; labels = refl; targets = refl; closed = refl }
 segment_of (routines.IncSp count) h = raised count
 segment_of (routines.DecSp count) h = lowered count
 segment_of (routines.Tos op Ax) h = word_operator op

@@ -139,6 +139,7 @@ short_of (routines.Unary op width) h = unary op width
 short_of routines.CopyTos h = absurd (false_true h)
 short_of routines.Start h = absurd (false_true h)
 short_of routines.StartArgs h = absurd (false_true h)
+short_of routines.StkChk h = absurd (false_true h)
 short_of routines.HookOpen h = absurd (false_true h)
 short_of routines.HookClose h = absurd (false_true h)
 short_of routines.HookRead h = absurd (false_true h)

@@ -6,6 +6,7 @@ pub mod Orders
 pub mod Shifts
 pub mod Unary
 pub mod Library
+pub mod Check
 pub mod Routines
 pub mod Short
 pub mod Rows

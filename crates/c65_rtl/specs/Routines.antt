@@ -23,6 +23,7 @@ use Rattle.c65_rtl.specs.Orders.{order_pieces}
 use Rattle.c65_rtl.specs.Shifts.{shift_pieces}
 use Rattle.c65_rtl.specs.Unary.{word_pieces, long_pieces, widening_pieces}
 use Rattle.c65_rtl.specs.Library.{start_pieces, library_pieces}
+use Rattle.c65_rtl.specs.Check.{check_pieces}
 
 -- the hooks are no segments, and the multiplication and the divisions of 32 bits are apart
 abbrev pub is_narrow : Routine → Bool
@@ -105,6 +106,7 @@ pieces_of routines.LongAx = widening_pieces routines.LongAx
 pieces_of routines.ULongAx = widening_pieces routines.ULongAx
 pieces_of routines.Start = start_pieces routines.Start
 pieces_of routines.StartArgs = start_pieces routines.StartArgs
+pieces_of routines.StkChk = check_pieces
 pieces_of (routines.Library function) = library_pieces function
 pieces_of which = stack_pieces which
 

@@ -63,6 +63,7 @@ is_straight (routines.Tos op width) = is_straight_operator op
 is_straight routines.CopyTos = false
 is_straight routines.Start = false
 is_straight routines.StartArgs = false
+is_straight routines.StkChk = false
 is_straight (routines.Library function) = false
 is_straight routines.HookOpen = false
 is_straight routines.HookClose = false

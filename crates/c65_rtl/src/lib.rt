@@ -5,6 +5,7 @@
 //! both stacks.
 #![tactic(auto)]
 
+mod check;
 mod gives;
 mod laws;
 mod library;

@@ -41,7 +41,7 @@ const ARGUMENTS: [Line; 11] = [
 ];
 
 // Ends with status A.
-const END: [Line; 2] = [
+pub const END: [Line; 2] = [
     Call(Callee::Routine(Routine::HookExit)),
     Do(Rts, Implied, Nothing),
 ];

@@ -18,5 +18,7 @@ pub const TMP1: u8 = 16;
 pub const TMP2: u8 = 17;
 
 pub const TMP3: u8 = 18;
+
+pub const TMP4: u8 = 19;
 /// The register variables.
 pub const REGBANK: u8 = 20;

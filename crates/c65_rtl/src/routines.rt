@@ -7,6 +7,7 @@ ghost use Rattle.c65_rtl.specs.Rows.{is_shown};
 ghost use Rattle.c65_rtl.specs.Short.{IsShort, is_straight, cost_of};
 ghost use Rattle.c65_rtl.specs.Routines.{is_narrow, tos_pieces, stack_pieces, pieces_of, lines_of, given_by};
 
+use crate::check::check;
 use crate::gives::given;
 use crate::library::{library, start};
 use crate::memory::{bank, load_from, store_to};
@@ -76,6 +77,7 @@ fn write(draft: &mut Draft, which: Routine) -> Result<(), AllocError>
         Routine::Unary(op, Width::Eax) => long(draft, op),
         Routine::SignA | Routine::LongAx | Routine::ULongAx => widening(draft, which),
         Routine::Start | Routine::StartArgs => start(draft, which),
+        Routine::StkChk => check(draft),
         Routine::Library(function) => library(draft, function),
         _ => on_stack(draft, which),
     }

@@ -2,7 +2,7 @@
 use c65_base::Name;
 use c65_csem::{Class, Parts, TFunc, TObject, TStmt};
 use c65_ctype::{CType, FnType, QType, Types};
-use c65_genframe::{Frame, Home};
+use c65_genframe::{Frame, Home, Modes};
 use c65_ints::IntType;
 use std::alloc::{AllocError, Global};
 
@@ -75,9 +75,9 @@ fn show_frame(
     rt: &HostRuntime,
     parts: &Parts,
     function: &TFunc,
-    honoured: bool,
+    modes: Modes,
 ) -> Result<(), anyhow::Error> {
-    match Frame::of(rt.alloc(), parts, function, honoured) {
+    match Frame::of(rt.alloc(), parts, function, modes) {
         Ok(frame) => {
             println!(rt; "{:?}", homes(&frame))?;
             println!(rt; "moved {:?} last {:?}", frame.moved(), frame.last())?;
@@ -89,6 +89,14 @@ fn show_frame(
         Err(refusal) => println!(rt; "{refusal}")?,
     }
     Ok(())
+}
+
+/// With `register` honoured or not.
+fn honoured(honoured: bool) -> Modes {
+    Modes {
+        honoured,
+        checked: false,
+    }
 }
 
 /// The same parts, but that object 3 has 1,019 bytes.
@@ -108,7 +116,12 @@ fn large_parts(alloc: Global) -> Result<Parts, AllocError> {
 pub fn show_frames(rt: &HostRuntime) -> Result<(), anyhow::Error> {
     let alloc = rt.alloc();
     println!(rt; "= frames")?;
-    show_frame(rt, &parts(alloc)?, &function(alloc, false)?, true)?;
-    show_frame(rt, &parts(alloc)?, &function(alloc, true)?, false)?;
-    show_frame(rt, &large_parts(alloc)?, &function(alloc, false)?, false)
+    show_frame(rt, &parts(alloc)?, &function(alloc, false)?, honoured(true))?;
+    show_frame(rt, &parts(alloc)?, &function(alloc, true)?, honoured(false))?;
+    show_frame(
+        rt,
+        &large_parts(alloc)?,
+        &function(alloc, false)?,
+        honoured(false),
+    )
 }

@@ -10,11 +10,13 @@
 //! - `bank`: regbank to the stack and back
 //! - `copy COUNT`, `ascend COUNT`, `compare LEFT RIGHT WANT`, `string COUNT`: copies and strings of so many bytes
 //! - `alone NAME EAX TOS`: whether the routine leaves all other memory as it was
+//! - `check SP ASKED S`: where the check of the stacks goes for so many bytes, with S before its call
 //! - `programs`: programs that call the library over the hooks
 #![tactic(auto)]
 
 mod arithmetic;
 mod calls;
+mod checks;
 mod library;
 mod operators;
 mod placing;
@@ -22,6 +24,7 @@ mod stack;
 mod whole;
 mod words;
 
+use crate::checks::check;
 use crate::library::{adds, ascends, compares, copies, copies_structure, echoes, fills, measures};
 use crate::operators::{right_numbers, right_pairs};
 use crate::placing::{FIRST, Runtime, placed_runtime};
@@ -92,6 +95,10 @@ fn tell(rt: &HostRuntime, runtime: &mut Runtime, line: &str) -> Result<(), anyho
         "ascend" => println!(rt; "{line}: {}", ascends(runtime, words.word())?)?,
         "compare" => println!(rt; "{line}: {}", compare(runtime, &mut words)?)?,
         "string" => println!(rt; "{line}: {}", measures(runtime, words.word())?)?,
+        "check" => {
+            let (sp, asked, hard) = (words.word(), words.word(), words.byte());
+            println!(rt; "{line}: {:?}", check(runtime, sp, asked, hard)?)?;
+        }
         "fill" => fill(runtime),
         "programs" => println!(rt; "{line}: {:?} {:?}", echoes(rt.alloc())?, adds(rt.alloc())?)?,
         _ => {}
