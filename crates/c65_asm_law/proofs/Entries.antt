@@ -2,7 +2,7 @@
 use Rattle.std.proofs.Common.{◌≡◌, ℕ, zero, suc, ◌+◌, ◌/◌, ◌%◌, ◌<◌, ◌≤◌, ◌^◌, ◌==◌, ℤ, Bool, true, false, Option, None, Some, List, [], ◌∷◌, ◌++◌, length, refl, arith, rules}
 use Rattle.std.specs.Prelude.{if◌then◌else◌, nat_lt}
 use Rattle.std.proofs.lemmas.Bool.{ltb-true}
-use Rattle.c65_mach.specs.declared.rows.Op.TheVariants.{Adc, Clc, Tax, Bne, Cpy, Iny, Inc, Lda, Ldy, Sta, Stx, Pha, Pla, Rts, Tay, Tya}
+use Rattle.c65_mach.specs.declared.rows.Op.TheVariants.{Adc, Clc, Tax, Bne, Cpy, Dex, Iny, Inc, Lda, Ldx, Ldy, Sta, Stx, Pha, Pla, Rts, Tay, Tya}
 use Rattle.c65_code.specs.declared.line.Line.{Line}
 use Rattle.c65_code.specs.declared.line.Line.TheVariants.{Label}
 use Rattle.c65_code.specs.declared.routine.Count.{Count}
@@ -19,7 +19,7 @@ use Rattle.c65_genentry.specs.Stack.{count_of, raise_by, lower_by, small_raise, 
 use Rattle.c65_genentry.specs.Ends.{restored_code, plain_end, variadic_end, end_code}
 use Rattle.c65_genentry.specs.Entry.{pushed_code, bank_store, kept_code, saved_code, counted_code, count_code, near_load, far_load, load_code, moved_code, all_moved, taken_bytes, checked_code, taking_code, entry_code}
 use Rattle.c65_genentry.specs.Pointers as pointers
-use Rattle.c65_genentry.specs.Bytes.{page_code, pages_code, rest_code, rest_labels, block_code, block_labels}
+use Rattle.c65_genentry.specs.Bytes.{pages_code, rest_code, loop_labels, block_code, block_labels}
 use Rattle.c65_genentry.specs.Bytes as blocks
 use Rattle.c65_genentry.specs.Choice.{bits_of, test_code, case_code, choice_code}
 use Rattle.c65_asm_law.proofs.Well.{AllWell, well_append, well_none, well_more, well_if}
@@ -142,14 +142,14 @@ bank_clear_well n bank bytes =
 
 -- ---- blocks of bytes
 
-page_well : (n : ℕ) (each after : List Line) (l : ℕ) → l < 2 ^ 32 → AllWell n each → AllWell n after → AllWell n (page_code each after l)
-page_well n each after l room he ha =
-    let turn : AllWell n (implied Iny ∷ branch Bne l ∷ after) = well_more n _ _ (tt, tt) (well_more n _ _ (tt, room) ha) in
-    well_more n (Label l) _ room (well_append n each _ he turn)
-
-pages_well : (n : ℕ) (each after : List Line) (k l : ℕ) → l + k ≤ 2 ^ 32 → AllWell n each → AllWell n after → AllWell n (pages_code each after k l)
-pages_well n each after zero l room he ha = well_none n
-pages_well n each after (suc k) l room he ha = well_append n (pages_code each after k l) (page_code each after (l + k)) (pages_well n each after k l (omega (arith, room)) he ha) (page_well n each after (l + k) (omega (arith, room)) he ha)
+pages_when : (n : ℕ) (each after : List Line) (pages l : ℕ) (b : Bool) → pages < 2 ^ 8 → l + (if b then 0 else 1) ≤ 2 ^ 32 → AllWell n each → AllWell n after
+    → AllWell n (if b then [] else value Ldx pages ∷ Label l ∷ (each ++ (implied Iny ∷ branch Bne l ∷ (after ++ (implied Dex ∷ branch Bne l ∷ [])))))
+pages_when n each after pages l true few room he ha = well_none n
+pages_when n each after pages l false few room he ha =
+    let below : l < 2 ^ 32 = omega (arith, room) in
+    let last : AllWell n (implied Dex ∷ branch Bne l ∷ []) = record { all = ((tt, tt), ((tt, below), tt)) } in
+    let turn : AllWell n (implied Iny ∷ branch Bne l ∷ (after ++ (implied Dex ∷ branch Bne l ∷ []))) = well_more n _ _ (tt, tt) (well_more n _ _ (tt, below) (well_append n after _ ha last)) in
+    well_more n _ _ (tt, few) (well_more n (Label l) _ below (well_append n each _ he turn))
 
 rest_when : (n : ℕ) (each : List Line) (bytes l : ℕ) (b : Bool) → bytes < 2 ^ 8 → l + (if b then 0 else 1) ≤ 2 ^ 32 → AllWell n each → AllWell n (if b then [] else Label l ∷ (each ++ (implied Iny ∷ value Cpy bytes ∷ branch Bne l ∷ [])))
 rest_when n each bytes l true few room he = well_none n
@@ -157,17 +157,21 @@ rest_when n each bytes l false few room he =
     let below : l < 2 ^ 32 = omega (arith, room) in
     well_more n (Label l) _ below (well_append n each _ he (record { all = ((tt, tt), ((tt, few), ((tt, below), tt))) }))
 
-block_well : (n : ℕ) (each after : List Line) (bytes l : ℕ) → l + block_labels bytes ≤ 2 ^ 32 → AllWell n each → AllWell n after → AllWell n (block_code each after bytes l)
-block_well n each after bytes l room he ha = well_append n (pages_code each after (bytes / 256) l) (rest_code each (bytes % 256) (l + bytes / 256)) (pages_well n each after (bytes / 256) l (omega (arith, room)) he ha) (rest_when n each (bytes % 256) (l + bytes / 256) (bytes % 256 == 0) (omega arith) (omega (arith, room)) he)
+block_well : (n : ℕ) (each after : List Line) (bytes l : ℕ) → bytes < 65536 → l + block_labels bytes ≤ 2 ^ 32 → AllWell n each → AllWell n after → AllWell n (block_code each after bytes l)
+block_well n each after bytes l few room he ha =
+    let second : ℕ = l + loop_labels (bytes / 256) in
+    let pages : AllWell n (pages_code each after (bytes / 256) l) = pages_when n each after (bytes / 256) l (bytes / 256 == 0) (omega (arith, few)) (omega (arith, room)) he ha in
+    let rest : AllWell n (rest_code each (bytes % 256) second) = rest_when n each (bytes % 256) second (bytes % 256 == 0) (omega arith) (omega (arith, room)) he in
+    well_append n (pages_code each after (bytes / 256) l) (rest_code each (bytes % 256) second) pages rest
 
-pub clear_well : (n bytes l : ℕ) → l + block_labels bytes ≤ 2 ^ 32 → AllWell n (blocks.clear_code bytes l)
-clear_well n bytes l room =
-    let block : AllWell n (block_code (by_y Sta ptr1 ∷ []) (zero_page Inc (ptr1 + 1) ∷ []) bytes l) = block_well n (by_y Sta ptr1 ∷ []) (zero_page Inc (ptr1 + 1) ∷ []) bytes l room (record { all = search rules }) (record { all = search rules }) in
+pub clear_well : (n bytes l : ℕ) → bytes < 65536 → l + block_labels bytes ≤ 2 ^ 32 → AllWell n (blocks.clear_code bytes l)
+clear_well n bytes l few room =
+    let block : AllWell n (block_code (by_y Sta ptr1 ∷ []) (zero_page Inc (ptr1 + 1) ∷ []) bytes l) = block_well n (by_y Sta ptr1 ∷ []) (zero_page Inc (ptr1 + 1) ∷ []) bytes l few room (record { all = search rules }) (record { all = search rules }) in
     well_more n _ _ (tt, omega arith) (well_more n _ _ (tt, omega arith) block)
 
-pub copy_well : (n bytes l : ℕ) → l + block_labels bytes ≤ 2 ^ 32 → AllWell n (blocks.copy_code bytes l)
-copy_well n bytes l room =
-    let block : AllWell n (block_code (by_y Lda ptr1 ∷ by_y Sta ptr2 ∷ []) (zero_page Inc (ptr1 + 1) ∷ zero_page Inc (ptr2 + 1) ∷ []) bytes l) = block_well n (by_y Lda ptr1 ∷ by_y Sta ptr2 ∷ []) (zero_page Inc (ptr1 + 1) ∷ zero_page Inc (ptr2 + 1) ∷ []) bytes l room (record { all = search rules }) (record { all = search rules }) in
+pub copy_well : (n bytes l : ℕ) → bytes < 65536 → l + block_labels bytes ≤ 2 ^ 32 → AllWell n (blocks.copy_code bytes l)
+copy_well n bytes l few room =
+    let block : AllWell n (block_code (by_y Lda ptr1 ∷ by_y Sta ptr2 ∷ []) (zero_page Inc (ptr1 + 1) ∷ zero_page Inc (ptr2 + 1) ∷ []) bytes l) = block_well n (by_y Lda ptr1 ∷ by_y Sta ptr2 ∷ []) (zero_page Inc (ptr1 + 1) ∷ zero_page Inc (ptr2 + 1) ∷ []) bytes l few room (record { all = search rules }) (record { all = search rules }) in
     well_more n _ _ (tt, omega arith) block
 
 -- ---- the choice of a case

@@ -85,7 +85,7 @@ copied_well n spot bytes d at few h =
     let b : Drafted = with_lines a (point_code ptr2 spot) in
     let first : AllWell n a.lines = well_append n d.lines _ h (record { all = search rules }) in
     let second : AllWell n b.lines = well_append n a.lines _ first (point_well n ptr2 spot (omega arith) at) in
-    well_append n b.lines _ second (copy_well n (bytes % 65536) d.labels few)
+    well_append n b.lines _ second (copy_well n (bytes % 65536) d.labels (omega arith) few)
 
 kept_well : (n : ℕ) (tagged : Bool) (f : Framed) (spot : Spot) (e : Typed) (d : Drafted) → WellSpot n spot → (with_kept tagged f spot e d).labels ≤ 2 ^ 32 → AllWell n d.lines → AllWell n (with_kept tagged f spot e d).lines
 kept_well n true f spot e d at few h = copied_well n spot (type_bytes f (bare e)) d at few h
@@ -102,13 +102,13 @@ pub set_well : (n : ℕ) (u : UnitTy) (f : Framed) (i offset : ℕ) (e : Typed) 
 set_well n u f i offset e d knows known typed few h =
     kept_well n (is_tag (bare e)) f (spot_of f i offset) e (with_value f e d) (spot_well n f i offset known) few (value_well n u f e d knows typed (omega (arith, few, kept_grows (is_tag (bare e)) f (spot_of f i offset) e (with_value f e d))) h)
 
-cleared_well : (n : ℕ) (pointer : List Line) (bytes : ℕ) (d : Drafted) → AllWell n pointer → d.labels + block_labels bytes ≤ 2 ^ 32 → AllWell n d.lines → AllWell n (with_code (block_labels bytes) (blocks.clear_code bytes d.labels) (with_lines d pointer)).lines
-cleared_well n pointer bytes d p few h = well_append n (with_lines d pointer).lines _ (well_append n d.lines pointer h p) (clear_well n bytes d.labels few)
+cleared_well : (n : ℕ) (pointer : List Line) (bytes : ℕ) (d : Drafted) → AllWell n pointer → bytes < 65536 → d.labels + block_labels bytes ≤ 2 ^ 32 → AllWell n d.lines → AllWell n (with_code (block_labels bytes) (blocks.clear_code bytes d.labels) (with_lines d pointer)).lines
+cleared_well n pointer bytes d p word few h = well_append n (with_lines d pointer).lines _ (well_append n d.lines pointer h p) (clear_well n bytes d.labels word few)
 
 pub zeros_well : (n : ℕ) (spot : Spot) (bytes : ℕ) (d : Drafted) → WellSpot n spot → (with_zeros spot bytes d).labels ≤ 2 ^ 32 → AllWell n d.lines → AllWell n (with_zeros spot bytes d).lines
 zeros_well n (Bank bank) bytes d at few h = well_append n d.lines _ h (bank_clear_well n bank bytes)
-zeros_well n (Soft at) bytes d low few h = cleared_well n (pointers.near_code ptr1 at) (bytes % 65536) d (near_well n ptr1 at (omega arith) low) few h
-zeros_well n (Data sym at) bytes d low few h = cleared_well n (pointers.symbol_code ptr1 sym at) (bytes % 65536) d (point_well n ptr1 (Data sym at) (omega arith) low) few h
+zeros_well n (Soft at) bytes d low few h = cleared_well n (pointers.near_code ptr1 at) (bytes % 65536) d (near_well n ptr1 at (omega arith) low) (omega arith) few h
+zeros_well n (Data sym at) bytes d low few h = cleared_well n (pointers.symbol_code ptr1 sym at) (bytes % 65536) d (point_well n ptr1 (Data sym at) (omega arith) low) (omega arith) few h
 
 pub zeros_grow : (spot : Spot) (bytes : ℕ) (d : Drafted) → d.labels ≤ (with_zeros spot bytes d).labels
 zeros_grow (Bank bank) bytes d = omega arith

@@ -1,11 +1,11 @@
 -- The lines of a statement call as its calls do, in their order.
-use Rattle.std.proofs.Common.{◌≡◌, ℕ, zero, suc, ◌+◌, ◌/◌, ◌%◌, ◌==◌, Bool, true, false, ℤ, List, [], ◌∷◌, ◌++◌, length, refl, sym, ap, ◌∙◌}
+use Rattle.std.proofs.Common.{◌≡◌, ℕ, ◌+◌, ◌/◌, ◌%◌, ◌==◌, Bool, true, false, ℤ, List, [], ◌∷◌, ◌++◌, length, refl, sym, ap, ◌∙◌}
 use Rattle.std.specs.Prelude.{nat_lt, nat_le}
 use Rattle.c65_csem.specs.Trees.{Typed, MaybeTyped, absent, present, Stmt, empty, eval, set_part, clear, block, if_stmt, while, do_while, for_loop, switch, case, default, label, goto, break, continue, return, Stmts, no_stmts, and_stmts}
 use Rattle.c65_csem.specs.Places.{is_tag}
 use Rattle.c65_csem.specs.Statements.{cases_of}
 use Rattle.c65_mach.specs.declared.rows.Op.{Op}
-use Rattle.c65_mach.specs.declared.rows.Op.TheVariants.{Beq, Bne, Jmp, Sta, Stx, Iny, Cpy, Lda, Ldy, Inc}
+use Rattle.c65_mach.specs.declared.rows.Op.TheVariants.{Beq, Bne, Jmp, Sta, Stx, Iny, Cpy, Dex, Lda, Ldx, Ldy, Inc}
 use Rattle.c65_code.specs.declared.line.Line.{Line}
 use Rattle.c65_code.specs.declared.line.Line.TheVariants.{Label}
 use Rattle.c65_code.specs.declared.routine.Width.{Width}
@@ -22,7 +22,7 @@ use Rattle.c65_genexpr.specs.Types.{kind_in, bare}
 use Rattle.c65_genexpr.specs.Code.{expr_code, test_in}
 use Rattle.c65_genentry.specs.Drafts.{with_labels}
 use Rattle.c65_genentry.specs.Words.{ptr1, ptr2, tmp1, tmp2, regbank, implied, zero_page, by_y, branch, jump, with_code}
-use Rattle.c65_genentry.specs.Bytes.{page_code, pages_code, rest_code, block_code, block_labels}
+use Rattle.c65_genentry.specs.Bytes.{pages_code, rest_code, loop_labels, block_code, block_labels}
 use Rattle.c65_genentry.specs.Bytes as blocks
 use Rattle.c65_genentry.specs.Pointers as pointers
 use Rattle.c65_genentry.specs.Choice.{bits_of, test_code, choice_code}
@@ -95,15 +95,12 @@ condition_adds f op to e d =
 
 -- ---- objects
 
-page_free : (each after : List Line) (l : ℕ) → Free each → Free after → Free (page_code each after l)
-page_free each after l fe fa =
-    let first : Free (Label l ∷ []) = record { none = refl } in
-    let turn : Free (implied Iny ∷ branch Bne l ∷ []) = record { none = refl } in
-    free_append first (free_append fe (free_append turn fa))
-
-pages_free : (each after : List Line) (n l : ℕ) → Free each → Free after → Free (pages_code each after n l)
-pages_free each after zero l fe fa = free_none
-pages_free each after (suc n) l fe fa = free_append (pages_free each after n l fe fa) (page_free each after (l + n) fe fa)
+pages_free : (each after : List Line) (pages l : ℕ) → Free each → Free after → Free (pages_code each after pages l)
+pages_free each after pages l fe fa =
+    let first : Free (value Ldx pages ∷ Label l ∷ []) = record { none = refl } in
+    let next : Free (implied Iny ∷ branch Bne l ∷ []) = record { none = refl } in
+    let last : Free (implied Dex ∷ branch Bne l ∷ []) = record { none = refl } in
+    free_if (pages == 0) free_none (free_append first (free_append fe (free_append next (free_append fa last))))
 
 rest_free : (each : List Line) (bytes l : ℕ) → Free each → Free (rest_code each bytes l)
 rest_free each bytes l fe =
@@ -112,7 +109,7 @@ rest_free each bytes l fe =
     free_if (bytes == 0) free_none (free_append first (free_append fe last))
 
 block_free : (each after : List Line) (bytes l : ℕ) → Free each → Free after → Free (block_code each after bytes l)
-block_free each after bytes l fe fa = free_append (pages_free each after (bytes / 256) l fe fa) (rest_free each (bytes % 256) (l + bytes / 256) fe)
+block_free each after bytes l fe fa = free_append (pages_free each after (bytes / 256) l fe fa) (rest_free each (bytes % 256) (l + loop_labels (bytes / 256)) fe)
 
 clear_free : (bytes l : ℕ) → Free (blocks.clear_code bytes l)
 clear_free bytes l =

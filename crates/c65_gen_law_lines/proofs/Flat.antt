@@ -2,7 +2,7 @@
 use Rattle.std.proofs.Common.{◌≡◌, ℕ, zero, suc, ◌+◌, ◌/◌, ◌%◌, ◌==◌, Bool, true, false, Option, None, Some, List, [], ◌∷◌, ◌++◌, refl, sym, ◌∙◌, subst, arith}
 use Rattle.std.specs.Prelude.{if◌then◌else◌, nat_lt, nat_le}
 use Rattle.std.specs.List.{list_all}
-use Rattle.c65_mach.specs.declared.rows.Op.TheVariants.{Adc, Clc, Tax, Bne, Cpy, Iny, Inc, Lda, Ldy, Sta, Stx, Pha, Pla, Rts, Tay, Tya}
+use Rattle.c65_mach.specs.declared.rows.Op.TheVariants.{Adc, Clc, Tax, Bne, Cpy, Dex, Iny, Inc, Lda, Ldx, Ldy, Sta, Stx, Pha, Pla, Rts, Tay, Tya}
 use Rattle.c65_mach.specs.declared.rows.Mode.TheVariants.{Relative}
 use Rattle.c65_code.specs.declared.line.Line.{Line}
 use Rattle.c65_code.specs.declared.line.Line.TheVariants.{Label}
@@ -19,7 +19,7 @@ use Rattle.c65_genentry.specs.Stack.{count_of, raise_by, lower_by, small_raise, 
 use Rattle.c65_genentry.specs.Ends.{restored_code, plain_end, variadic_end, end_code}
 use Rattle.c65_genentry.specs.Entry.{pushed_code, bank_store, kept_code, saved_code, counted_code, count_code, near_load, far_load, load_code, moved_code, all_moved, taken_bytes, checked_code, taking_code, entry_code}
 use Rattle.c65_genentry.specs.Pointers as pointers
-use Rattle.c65_genentry.specs.Bytes.{page_code, pages_code, rest_code, rest_labels, block_code, block_labels}
+use Rattle.c65_genentry.specs.Bytes.{pages_code, rest_code, loop_labels, block_code, block_labels}
 use Rattle.c65_genentry.specs.Bytes as blocks
 use Rattle.c65_genload.specs.declared.places.Access.{Access}
 use Rattle.c65_genload.specs.declared.places.Place.TheVariants as places
@@ -201,21 +201,23 @@ bank_clear_flat bank bytes =
 
 -- ---- blocks of bytes
 
-page_own : (each after : List Line) (l : ℕ) → Flat each → Flat after → Own l 1 (page_code each after l)
-page_own each after l fe fa =
-    let turn : List Line = implied Iny ∷ branch Bne l ∷ after in
-    let back : Leads l 1 (branch Bne l ∷ after) = leads_to l 1 l Bne Relative after (omega arith) (omega arith) (leads_plain l 1 after fa.plain) in
-    let turned : Leads l 1 turn = record { all = back.all } in
+pages_own : (each after : List Line) (n l : ℕ) (b : Bool) → Flat each → Flat after
+    → Own l (if b then 0 else 1) (if b then [] else value Ldx n ∷ Label l ∷ (each ++ (implied Iny ∷ branch Bne l ∷ (after ++ (implied Dex ∷ branch Bne l ∷ [])))))
+pages_own each after n l true fe fa = own_flat l [] flat_none
+pages_own each after n l false fe fa =
+    let last : List Line = implied Dex ∷ branch Bne l ∷ [] in
+    let turn : List Line = implied Iny ∷ branch Bne l ∷ (after ++ last) in
+    let back : Leads l 1 (branch Bne l ∷ []) = leads_to l 1 l Bne Relative [] (omega arith) (omega arith) (record { all = refl }) in
+    let ended : Leads l 1 last = record { all = back.all } in
+    let behind : Leads l 1 (after ++ last) = leads_append l 1 after last (leads_plain l 1 after fa.plain) ended in
+    let again : Leads l 1 (branch Bne l ∷ (after ++ last)) = leads_to l 1 l Bne Relative (after ++ last) (omega arith) (omega arith) behind in
+    let turned : Leads l 1 turn = record { all = again.all } in
     let body : Leads l 1 (each ++ turn) = leads_append l 1 each turn (leads_plain l 1 each fe.plain) turned in
     record {
-      once = λ k. omega (arith, times-append k each turn, plain_times k each fe.plain, plain_times k after fa.plain, among_one l k);
+      once = λ k. omega (arith, times-append k each turn, times-append k after last, plain_times k each fe.plain, plain_times k after fa.plain, among_one l k);
       leads = record { all = body.all };
-      fit = all_append is_fit each turn fe.fit fa.fit;
+      fit = all_append is_fit each turn fe.fit (all_append is_fit after last fa.fit refl);
     }
-
-pages_own : (each after : List Line) (n l : ℕ) → Flat each → Flat after → Own l n (pages_code each after n l)
-pages_own each after zero l fe fa = own_flat l [] flat_none
-pages_own each after (suc n) l fe fa = own_as l (n + 1) (suc n) _ (omega arith) (own_append l n 1 (pages_code each after n l) (page_code each after (l + n)) (pages_own each after n l fe fa) (page_own each after (l + n) fe fa))
 
 rest_own : (each : List Line) (bytes l : ℕ) (b : Bool) → Flat each → Own l (if b then 0 else 1) (if b then [] else Label l ∷ (each ++ (implied Iny ∷ value Cpy bytes ∷ branch Bne l ∷ [])))
 rest_own each bytes l true fe = own_flat l [] flat_none
@@ -231,7 +233,11 @@ rest_own each bytes l false fe =
     }
 
 block_own : (each after : List Line) (bytes l : ℕ) → Flat each → Flat after → Own l (block_labels bytes) (block_code each after bytes l)
-block_own each after bytes l fe fa = own_append l (bytes / 256) (rest_labels (bytes % 256)) (pages_code each after (bytes / 256) l) (rest_code each (bytes % 256) (l + bytes / 256)) (pages_own each after (bytes / 256) l fe fa) (rest_own each (bytes % 256) (l + bytes / 256) (bytes % 256 == 0) fe)
+block_own each after bytes l fe fa =
+    let first : Own l (loop_labels (bytes / 256)) (pages_code each after (bytes / 256) l) = pages_own each after (bytes / 256) l (bytes / 256 == 0) fe fa in
+    let second : Own (l + loop_labels (bytes / 256)) (loop_labels (bytes % 256)) (rest_code each (bytes % 256) (l + loop_labels (bytes / 256))) =
+    rest_own each (bytes % 256) (l + loop_labels (bytes / 256)) (bytes % 256 == 0) fe in
+    own_append l (loop_labels (bytes / 256)) (loop_labels (bytes % 256)) (pages_code each after (bytes / 256) l) (rest_code each (bytes % 256) (l + loop_labels (bytes / 256))) first second
 
 pub clear_own : (bytes l : ℕ) → Own l (block_labels bytes) (blocks.clear_code bytes l)
 clear_own bytes l = own_before l (block_labels bytes) (value Ldy 0 ∷ value Lda 0 ∷ []) _ (record { plain = refl; fit = refl }) (block_own (by_y Sta ptr1 ∷ []) (zero_page Inc (ptr1 + 1) ∷ []) bytes l (record { plain = refl; fit = refl }) (record { plain = refl; fit = refl }))

@@ -33,7 +33,7 @@ use Rattle.c65_genstmt.specs.Objects.{spot_of, object_bytes, point_code, stored_
 use Rattle.c65_genstmt.specs.Stmts.{case_behind, with_label, with_jump, two_given, three_given, with_maybe, with_test, ways, default_way, with_stmt, with_stmts}
 use Rattle.c65_genstmt.specs.Cases.{room_of}
 use Rattle.c65_genstmt.specs.Functions.{main_code, no_lines}
-use Rattle.c65_gen_law_lines.specs.Bulk.{nodes, maybe_nodes, statement_nodes, statements_nodes, SetsFew, AllSetFew}
+use Rattle.c65_gen_law_lines.specs.Bulk.{nodes, maybe_nodes, statement_nodes, statements_nodes}
 use Rattle.c65_gen_law_lines.specs.Laws.{FunctionsAreSmall}
 use Rattle.c65_gen_law_lines.proofs.Made.{size-append}
 use Rattle.c65_gen_law_lines.proofs.Pieces.{test_piece}
@@ -78,24 +78,24 @@ condition_grows f op to e d =
 
 -- ---- objects
 
-copied_grows : (spot : Spot) (bytes : ℕ) (d : Drafted) → bytes ≤ 1024 → Grows 87 d (with_copied spot bytes d)
-copied_grows spot bytes d few =
+copied_grows : (spot : Spot) (bytes : ℕ) (d : Drafted) → Grows 53 d (with_copied spot bytes d)
+copied_grows spot bytes d =
     let a : Drafted = with_lines d (zero_page Sta ptr1 ∷ zero_page Stx (ptr1 + 1) ∷ []) in
     let b : Drafted = with_lines a (point_code ptr2 spot) in
     let first : Grows 4 d a = record { size = omega (arith, size-append d.lines (zero_page Sta ptr1 ∷ zero_page Stx (ptr1 + 1) ∷ [])) } in
-    grows_then first (grows_then (grows_lines 13 a (point_code ptr2 spot) (point_size ptr2 spot)) (grows_code 70 (block_labels (bytes % 65536)) b (blocks.copy_code (bytes % 65536) d.labels) (copy_size (bytes % 65536) d.labels (omega (arith, few)))))
+    grows_then first (grows_then (grows_lines 13 a (point_code ptr2 spot) (point_size ptr2 spot)) (grows_code 36 (block_labels (bytes % 65536)) b (blocks.copy_code (bytes % 65536) d.labels) (copy_size (bytes % 65536) d.labels)))
 
-kept_grows : (tagged : Bool) (f : Framed) (spot : Spot) (e : Typed) (d : Drafted) → type_bytes f (bare e) ≤ 1024 → Grows 87 d (with_kept tagged f spot e d)
-kept_grows true f spot e d few = copied_grows spot (type_bytes f (bare e)) d few
-kept_grows false f spot e d few = grows_wider (grows_lines 38 d (stored_code spot (Whole (kind_in e)) (size_of (kind_in e))) (stored_size spot (kind_in e) (size_of (kind_in e)))) (omega arith)
+kept_grows : (tagged : Bool) (f : Framed) (spot : Spot) (e : Typed) (d : Drafted) → Grows 53 d (with_kept tagged f spot e d)
+kept_grows true f spot e d = copied_grows spot (type_bytes f (bare e)) d
+kept_grows false f spot e d = grows_wider (grows_lines 38 d (stored_code spot (Whole (kind_in e)) (size_of (kind_in e))) (stored_size spot (kind_in e) (size_of (kind_in e)))) (omega arith)
 
-cleared_grows : (j : ℕ) (pointer : List Line) (bytes : ℕ) (d : Drafted) → Takes j pointer → bytes ≤ 1024 → Grows (j + 72) d (with_code (block_labels bytes) (blocks.clear_code bytes d.labels) (with_lines d pointer))
-cleared_grows j pointer bytes d p few = grows_then (grows_lines j d pointer p) (grows_code 72 (block_labels bytes) (with_lines d pointer) (blocks.clear_code bytes d.labels) (clear_size bytes d.labels few))
+cleared_grows : (j : ℕ) (pointer : List Line) (bytes : ℕ) (d : Drafted) → Takes j pointer → Grows (j + 38) d (with_code (block_labels bytes) (blocks.clear_code bytes d.labels) (with_lines d pointer))
+cleared_grows j pointer bytes d p = grows_then (grows_lines j d pointer p) (grows_code 38 (block_labels bytes) (with_lines d pointer) (blocks.clear_code bytes d.labels) (clear_size bytes d.labels))
 
-zeros_grows : (spot : Spot) (bytes : ℕ) (d : Drafted) → bytes ≤ 1024 → Grows 85 d (with_zeros spot bytes d)
-zeros_grows (Bank bank) bytes d few = grows_wider (grows_lines 6 d (pointers.clear_code bank bytes) (bank_clear_size bank bytes)) (omega arith)
-zeros_grows (Soft at) bytes d few = cleared_grows 13 (pointers.near_code ptr1 at) (bytes % 65536) d (point_size ptr1 (Soft at)) (omega (arith, few))
-zeros_grows (Data sym at) bytes d few = cleared_grows 13 (pointers.symbol_code ptr1 sym at) (bytes % 65536) d (point_size ptr1 (Data sym at)) (omega (arith, few))
+zeros_grows : (spot : Spot) (bytes : ℕ) (d : Drafted) → Grows 51 d (with_zeros spot bytes d)
+zeros_grows (Bank bank) bytes d = grows_wider (grows_lines 6 d (pointers.clear_code bank bytes) (bank_clear_size bank bytes)) (omega arith)
+zeros_grows (Soft at) bytes d = cleared_grows 13 (pointers.near_code ptr1 at) (bytes % 65536) d (point_size ptr1 (Soft at))
+zeros_grows (Data sym at) bytes d = cleared_grows 13 (pointers.symbol_code ptr1 sym at) (bytes % 65536) d (point_size ptr1 (Data sym at))
 
 -- ---- statements
 
@@ -115,36 +115,36 @@ record AllWithin (ss : Stmts) (d e : Drafted) : Type 0 where
   size : lines_size e.lines + 32 * length (cases_in ss) ≤ lines_size d.lines + 128 * statements_nodes ss
 
 mutual
-  stmt_small : (f : Framed) (w : Ways) (l : ℕ) (s : Stmt) (d : Drafted) → SetsFew f s → Within s d (with_stmt f w l s d)
-  stmt_small f w l empty d h = record { size = omega arith }
-  stmt_small f w l (eval e) d h = record { size = omega (arith, (value_grows f e d).size) }
-  stmt_small f w l (set_part i o e) d h =
+  stmt_small : (f : Framed) (w : Ways) (l : ℕ) (s : Stmt) (d : Drafted) → Within s d (with_stmt f w l s d)
+  stmt_small f w l empty d = record { size = omega arith }
+  stmt_small f w l (eval e) d = record { size = omega (arith, (value_grows f e d).size) }
+  stmt_small f w l (set_part i o e) d =
       let v : Drafted = with_value f e d in
-      record { size = omega (arith, (value_grows f e d).size, (kept_grows (is_tag (bare e)) f (spot_of f i o) e v h).size) }
-  stmt_small f w l (clear i) d h = record { size = omega (arith, (zeros_grows (spot_of f i 0) (object_bytes f i) d h).size) }
-  stmt_small f w l (block os ss) d h = record { size = omega (arith, (stmts_small f w l ss d h).size) }
-  stmt_small f w l (if_stmt e a b) d h =
+      record { size = omega (arith, (value_grows f e d).size, (kept_grows (is_tag (bare e)) f (spot_of f i o) e v).size) }
+  stmt_small f w l (clear i) d = record { size = omega (arith, (zeros_grows (spot_of f i 0) (object_bytes f i) d).size) }
+  stmt_small f w l (block os ss) d = record { size = omega (arith, (stmts_small f w l ss d).size) }
+  stmt_small f w l (if_stmt e a b) d =
       let m1 : Drafted = with_condition f Beq d.labels e (two_given d) in
       let m2 : Drafted = with_stmt f w l a m1 in
       let m3 : Drafted = with_jump (d.labels + 1) m2 in
       let m4 : Drafted = with_label d.labels m3 in
       let m5 : Drafted = with_stmt f w (case_behind l a) b m4 in
-      record { size = omega (arith, (condition_grows f Beq d.labels e (two_given d)).size, (stmt_small f w l a m1 h.0).size, (jump_grows (d.labels + 1) m2).size, (label_grows d.labels m3).size, (stmt_small f w (case_behind l a) b m4 h.1).size, (label_grows (d.labels + 1) m5).size, length-append (cases_of a) (cases_of b)) }
-  stmt_small f w l (while e a) d h =
+      record { size = omega (arith, (condition_grows f Beq d.labels e (two_given d)).size, (stmt_small f w l a m1).size, (jump_grows (d.labels + 1) m2).size, (label_grows d.labels m3).size, (stmt_small f w (case_behind l a) b m4).size, (label_grows (d.labels + 1) m5).size, length-append (cases_of a) (cases_of b)) }
+  stmt_small f w l (while e a) d =
       let m1 : Drafted = with_label d.labels (two_given d) in
       let m2 : Drafted = with_condition f Beq (d.labels + 1) e m1 in
       let inner : Ways = ways (d.labels + 1) d.labels w.other in
       let m3 : Drafted = with_stmt f inner l a m2 in
       let m4 : Drafted = with_jump d.labels m3 in
-      record { size = omega (arith, (label_grows d.labels (two_given d)).size, (condition_grows f Beq (d.labels + 1) e m1).size, (stmt_small f inner l a m2 h).size, (jump_grows d.labels m3).size, (label_grows (d.labels + 1) m4).size) }
-  stmt_small f w l (do_while a e) d h =
+      record { size = omega (arith, (label_grows d.labels (two_given d)).size, (condition_grows f Beq (d.labels + 1) e m1).size, (stmt_small f inner l a m2).size, (jump_grows d.labels m3).size, (label_grows (d.labels + 1) m4).size) }
+  stmt_small f w l (do_while a e) d =
       let m1 : Drafted = with_label d.labels (three_given d) in
       let inner : Ways = ways (d.labels + 1 + 1) (d.labels + 1) w.other in
       let m2 : Drafted = with_stmt f inner l a m1 in
       let m3 : Drafted = with_label (d.labels + 1) m2 in
       let m4 : Drafted = with_condition f Bne d.labels e m3 in
-      record { size = omega (arith, (label_grows d.labels (three_given d)).size, (stmt_small f inner l a m1 h).size, (label_grows (d.labels + 1) m2).size, (condition_grows f Bne d.labels e m3).size, (label_grows (d.labels + 1 + 1) m4).size) }
-  stmt_small f w l (for_loop i t n a) d h =
+      record { size = omega (arith, (label_grows d.labels (three_given d)).size, (stmt_small f inner l a m1).size, (label_grows (d.labels + 1) m2).size, (condition_grows f Bne d.labels e m3).size, (label_grows (d.labels + 1 + 1) m4).size) }
+  stmt_small f w l (for_loop i t n a) d =
       let g : Drafted = with_maybe f i d in
       let m1 : Drafted = with_label g.labels (three_given g) in
       let m2 : Drafted = with_test f (g.labels + 1 + 1) t m1 in
@@ -153,8 +153,8 @@ mutual
       let m4 : Drafted = with_label (g.labels + 1) m3 in
       let m5 : Drafted = with_maybe f n m4 in
       let m6 : Drafted = with_jump g.labels m5 in
-      record { size = omega (arith, (maybe_grows f i d).size, (label_grows g.labels (three_given g)).size, (test_grows f (g.labels + 1 + 1) t m1).size, (stmt_small f inner l a m2 h).size, (label_grows (g.labels + 1) m3).size, (maybe_grows f n m4).size, (jump_grows g.labels m5).size, (label_grows (g.labels + 1 + 1) m6).size) }
-  stmt_small f w l (switch e a) d h =
+      record { size = omega (arith, (maybe_grows f i d).size, (label_grows g.labels (three_given g)).size, (test_grows f (g.labels + 1 + 1) t m1).size, (stmt_small f inner l a m2).size, (label_grows (g.labels + 1) m3).size, (maybe_grows f n m4).size, (jump_grows g.labels m5).size, (label_grows (g.labels + 1 + 1) m6).size) }
+  stmt_small f w l (switch e a) d =
       let cases : List ℤ = cases_of a in
       let m0 : Drafted = with_labels (length cases) (two_given d) in
       let g : Drafted = with_value f e m0 in
@@ -163,29 +163,29 @@ mutual
       let inner : Ways = ways d.labels w.onward (d.labels + 1) in
       let m3 : Drafted = with_stmt f inner (d.labels + 1 + 1) a m2 in
       let choice : Grows (32 * length cases) g m1 = grows_code (32 * length cases) (length cases) g (choice_code (width_of (kind_in e)) (d.labels + 1 + 1) g.labels cases) (choice_size (width_of (kind_in e)) (d.labels + 1 + 1) g.labels cases) in
-      record { size = omega (arith, (value_grows f e m0).size, choice.size, (jump_grows (default_way a d.labels) m1).size, (stmt_small f inner (d.labels + 1 + 1) a m2 h).size, (label_grows d.labels m3).size) }
-  stmt_small f w l (case z a) d h = record { size = omega (arith, (label_grows l d).size, (stmt_small f w (following l) a (with_label l d) h).size) }
-  stmt_small f w l (default a) d h = record { size = omega (arith, (label_grows w.other d).size, (stmt_small f w l a (with_label w.other d) h).size) }
-  stmt_small f w l (label n a) d h = record { size = omega (arith, (label_grows (following n) d).size, (stmt_small f w l a (with_label (following n) d) h).size) }
-  stmt_small f w l (goto n) d h = record { size = omega (arith, (jump_grows (following n) d).size) }
-  stmt_small f w l break d h = record { size = omega (arith, (jump_grows w.behind d).size) }
-  stmt_small f w l continue d h = record { size = omega (arith, (jump_grows w.onward d).size) }
-  stmt_small f w l (return e) d h = record { size = omega (arith, (maybe_grows f e d).size, (jump_grows 0 (with_maybe f e d)).size) }
+      record { size = omega (arith, (value_grows f e m0).size, choice.size, (jump_grows (default_way a d.labels) m1).size, (stmt_small f inner (d.labels + 1 + 1) a m2).size, (label_grows d.labels m3).size) }
+  stmt_small f w l (case z a) d = record { size = omega (arith, (label_grows l d).size, (stmt_small f w (following l) a (with_label l d)).size) }
+  stmt_small f w l (default a) d = record { size = omega (arith, (label_grows w.other d).size, (stmt_small f w l a (with_label w.other d)).size) }
+  stmt_small f w l (label n a) d = record { size = omega (arith, (label_grows (following n) d).size, (stmt_small f w l a (with_label (following n) d)).size) }
+  stmt_small f w l (goto n) d = record { size = omega (arith, (jump_grows (following n) d).size) }
+  stmt_small f w l break d = record { size = omega (arith, (jump_grows w.behind d).size) }
+  stmt_small f w l continue d = record { size = omega (arith, (jump_grows w.onward d).size) }
+  stmt_small f w l (return e) d = record { size = omega (arith, (maybe_grows f e d).size, (jump_grows 0 (with_maybe f e d)).size) }
 
-  stmts_small : (f : Framed) (w : Ways) (l : ℕ) (ss : Stmts) (d : Drafted) → AllSetFew f ss → AllWithin ss d (with_stmts f w l ss d)
-  stmts_small f w l no_stmts d h = record { size = omega arith }
-  stmts_small f w l (and_stmts a ss) d h =
+  stmts_small : (f : Framed) (w : Ways) (l : ℕ) (ss : Stmts) (d : Drafted) → AllWithin ss d (with_stmts f w l ss d)
+  stmts_small f w l no_stmts d = record { size = omega arith }
+  stmts_small f w l (and_stmts a ss) d =
       let m : Drafted = with_stmt f w l a d in
-      record { size = omega (arith, (stmt_small f w l a d h.0).size, (stmts_small f w (case_behind l a) ss m h.1).size, length-append (cases_of a) (cases_in ss)) }
+      record { size = omega (arith, (stmt_small f w l a d).size, (stmts_small f w (case_behind l a) ss m).size, length-append (cases_of a) (cases_in ss)) }
 
 -- ---- functions
 
 pub functions_are_small : FunctionsAreSmall
-functions_are_small parts modes g body f is_main out framed few =
+functions_are_small parts modes g body f is_main out framed =
     let frame : (f.soft ≤ 1025) × (f.stacked ≤ 1024) × (length f.moved ≤ length g.params) = frames_are_small parts modes g f framed in
     let d : Drafted = with_labels (room_of body) (with_labels 1 (no_lines out)) in
     let m0 : Drafted = with_lines d (entry_code f) in
     let m1 : Drafted = with_stmt f (ways 0 0 0) 0 body m0 in
     let m2 : Drafted = with_lines m1 (main_code is_main) in
     let m3 : Drafted = with_label 0 m2 in
-    omega (arith, (grows_lines (54 + 19 * length f.moved) d (entry_code f) (entry_size f frame.0)).size, (stmt_small f (ways 0 0 0) 0 body m0 few).size, (grows_lines 4 m1 (main_code is_main) (main_size is_main)).size, (label_grows 0 m2).size, (grows_lines 54 m3 (end_code f) (end_size f frame.0 (omega (arith, frame.1)))).size, frame.2)
+    omega (arith, (grows_lines (54 + 19 * length f.moved) d (entry_code f) (entry_size f frame.0)).size, (stmt_small f (ways 0 0 0) 0 body m0).size, (grows_lines 4 m1 (main_code is_main) (main_size is_main)).size, (label_grows 0 m2).size, (grows_lines 54 m3 (end_code f) (end_size f frame.0 (omega (arith, frame.1)))).size, frame.2)

@@ -1,7 +1,7 @@
 -- The bytes of the lines at the entry and the end of functions, and about objects.
 use Rattle.std.proofs.Common.{ℕ, zero, suc, ◌+◌, ◌*◌, ◌/◌, ◌%◌, ◌≤◌, ◌==◌, Bool, true, false, Option, None, Some, ℤ, List, [], ◌∷◌, ◌++◌, length, arith}
 use Rattle.std.specs.Prelude.{if◌then◌else◌, nat_lt, nat_le}
-use Rattle.c65_mach.specs.declared.rows.Op.TheVariants.{Adc, Bne, Clc, Cpy, Iny, Inc, Lda, Ldy, Sta, Stx, Pha, Pla, Rts, Tax, Tay, Tya}
+use Rattle.c65_mach.specs.declared.rows.Op.TheVariants.{Adc, Bne, Clc, Cpy, Dex, Iny, Inc, Lda, Ldx, Ldy, Sta, Stx, Pha, Pla, Rts, Tax, Tay, Tya}
 use Rattle.c65_code.specs.declared.line.Line.{Line}
 use Rattle.c65_code.specs.declared.line.Line.TheVariants.{Label}
 use Rattle.c65_code.specs.declared.routine.Count.{Count}
@@ -20,7 +20,7 @@ use Rattle.c65_genentry.specs.Stack.{count_of, raise_by, lower_by, small_raise, 
 use Rattle.c65_genentry.specs.Ends.{restored_code, plain_end, variadic_end, end_code}
 use Rattle.c65_genentry.specs.Entry.{pushed_code, bank_store, kept_code, near_load, far_load, load_code, all_moved, taken_bytes, checked_code, taking_code, entry_code}
 use Rattle.c65_genentry.specs.Pointers as pointers
-use Rattle.c65_genentry.specs.Bytes.{page_code, pages_code, rest_code, block_code}
+use Rattle.c65_genentry.specs.Bytes.{pages_code, rest_code, loop_labels, block_code}
 use Rattle.c65_genentry.specs.Bytes as blocks
 use Rattle.c65_genentry.specs.Choice.{bits_of, test_code, choice_code}
 use Rattle.c65_genload.specs.declared.places.Access.TheVariants.{Whole}
@@ -195,34 +195,34 @@ bank_clear_size bank bytes =
 
 -- ---- blocks of bytes
 
-page_size : (each after : List Line) (l : ℕ) → Takes 4 each → Takes 4 after → Takes 14 (page_code each after l)
-page_size each after l p q = record { size = omega (arith, size-append each (implied Iny ∷ branch Bne l ∷ after), p.size, q.size) }
-
-pages_size : (each after : List Line) (n l : ℕ) → Takes 4 each → Takes 4 after → Takes (14 * n) (pages_code each after n l)
-pages_size each after zero l p q = record { size = omega arith }
-pages_size each after (suc n) l p q = takes_wider (takes_append (pages_size each after n l p q) (page_size each after (l + n) p q)) (omega arith)
+pages_size : (each after : List Line) (n l : ℕ) → Takes 4 each → Takes 4 after → Takes 22 (pages_code each after n l)
+pages_size each after n l p q =
+    let last : List Line = implied Dex ∷ branch Bne l ∷ [] in
+    let turn : List Line = implied Iny ∷ branch Bne l ∷ (after ++ last) in
+    let some : Takes 22 (value Ldx n ∷ Label l ∷ (each ++ turn)) = record { size = omega (arith, size-append each turn, size-append after last, p.size, q.size) } in
+    takes_if (n == 0) takes_none some
 
 rest_size : (each : List Line) (bytes l : ℕ) → Takes 4 each → Takes 12 (rest_code each bytes l)
 rest_size each bytes l p =
     let some : Takes 12 (Label l ∷ (each ++ (implied Iny ∷ value Cpy bytes ∷ branch Bne l ∷ []))) = record { size = omega (arith, size-append each (implied Iny ∷ value Cpy bytes ∷ branch Bne l ∷ []), p.size) } in
     takes_if (bytes == 0) takes_none some
 
-block_size : (each after : List Line) (bytes l : ℕ) → bytes ≤ 1024 → Takes 4 each → Takes 4 after → Takes 68 (block_code each after bytes l)
-block_size each after bytes l few p q = takes_wider (takes_append (pages_size each after (bytes / 256) l p q) (rest_size each (bytes % 256) (l + bytes / 256) p)) (omega (arith, few))
+block_size : (each after : List Line) (bytes l : ℕ) → Takes 4 each → Takes 4 after → Takes 34 (block_code each after bytes l)
+block_size each after bytes l p q = takes_append (pages_size each after (bytes / 256) l p q) (rest_size each (bytes % 256) (l + loop_labels (bytes / 256)) p)
 
-pub clear_size : (bytes l : ℕ) → bytes ≤ 1024 → Takes 72 (blocks.clear_code bytes l)
-clear_size bytes l few =
+pub clear_size : (bytes l : ℕ) → Takes 38 (blocks.clear_code bytes l)
+clear_size bytes l =
     let first : Takes 4 (value Ldy 0 ∷ value Lda 0 ∷ []) = record { size = omega arith } in
     let each : Takes 4 (by_y Sta ptr1 ∷ []) = record { size = omega arith } in
     let after : Takes 4 (zero_page Inc (ptr1 + 1) ∷ []) = record { size = omega arith } in
-    takes_append first (block_size (by_y Sta ptr1 ∷ []) (zero_page Inc (ptr1 + 1) ∷ []) bytes l few each after)
+    takes_append first (block_size (by_y Sta ptr1 ∷ []) (zero_page Inc (ptr1 + 1) ∷ []) bytes l each after)
 
-pub copy_size : (bytes l : ℕ) → bytes ≤ 1024 → Takes 70 (blocks.copy_code bytes l)
-copy_size bytes l few =
+pub copy_size : (bytes l : ℕ) → Takes 36 (blocks.copy_code bytes l)
+copy_size bytes l =
     let first : Takes 2 (value Ldy 0 ∷ []) = record { size = omega arith } in
     let each : Takes 4 (by_y Lda ptr1 ∷ by_y Sta ptr2 ∷ []) = record { size = omega arith } in
     let after : Takes 4 (zero_page Inc (ptr1 + 1) ∷ zero_page Inc (ptr2 + 1) ∷ []) = record { size = omega arith } in
-    takes_append first (block_size (by_y Lda ptr1 ∷ by_y Sta ptr2 ∷ []) (zero_page Inc (ptr1 + 1) ∷ zero_page Inc (ptr2 + 1) ∷ []) bytes l few each after)
+    takes_append first (block_size (by_y Lda ptr1 ∷ by_y Sta ptr2 ∷ []) (zero_page Inc (ptr1 + 1) ∷ zero_page Inc (ptr2 + 1) ∷ []) bytes l each after)
 
 -- ---- the choice of a case
 

@@ -1,11 +1,11 @@
 -- The lines of statements leave what waits on the software stack.
-use Rattle.std.proofs.Common.{◌≡◌, ℕ, zero, suc, ◌+◌, ◌/◌, ◌%◌, ◌==◌, Bool, true, false, Some, ℤ, List, [], ◌∷◌, ◌++◌, length, refl, sym, ◌∙◌, ap}
+use Rattle.std.proofs.Common.{◌≡◌, ℕ, ◌+◌, ◌/◌, ◌%◌, ◌==◌, Bool, true, false, Some, ℤ, List, [], ◌∷◌, ◌++◌, length, refl, sym, ◌∙◌, ap}
 use Rattle.std.specs.Prelude.{nat_lt, nat_le, Option}
 use Rattle.c65_csem.specs.Trees.{Typed, MaybeTyped, absent, present, Stmt, empty, eval, set_part, clear, block, if_stmt, while, do_while, for_loop, switch, case, default, label, goto, break, continue, return, Stmts, no_stmts, and_stmts}
 use Rattle.c65_csem.specs.Places.{is_tag}
 use Rattle.c65_csem.specs.Statements.{cases_of}
 use Rattle.c65_mach.specs.declared.rows.Op.{Op}
-use Rattle.c65_mach.specs.declared.rows.Op.TheVariants.{Beq, Bne, Jmp, Sta, Stx, Iny, Cpy, Lda, Ldy, Inc}
+use Rattle.c65_mach.specs.declared.rows.Op.TheVariants.{Beq, Bne, Jmp, Sta, Stx, Iny, Cpy, Dex, Lda, Ldx, Ldy, Inc}
 use Rattle.c65_code.specs.declared.line.Line.{Line}
 use Rattle.c65_code.specs.declared.line.Line.TheVariants.{Label}
 use Rattle.c65_code.specs.declared.routine.Width.{Width}
@@ -22,7 +22,7 @@ use Rattle.c65_genexpr.specs.Types.{kind_in, bare}
 use Rattle.c65_genexpr.specs.Code.{expr_code, test_in}
 use Rattle.c65_genentry.specs.Drafts.{with_labels}
 use Rattle.c65_genentry.specs.Words.{ptr1, ptr2, tmp1, tmp2, regbank, implied, zero_page, by_y, branch, jump, with_code}
-use Rattle.c65_genentry.specs.Bytes.{page_code, pages_code, rest_code, block_code, block_labels}
+use Rattle.c65_genentry.specs.Bytes.{pages_code, rest_code, loop_labels, block_code, block_labels}
 use Rattle.c65_genentry.specs.Bytes as blocks
 use Rattle.c65_genentry.specs.Pointers as pointers
 use Rattle.c65_genentry.specs.Choice.{bits_of, test_code, choice_code}
@@ -87,12 +87,12 @@ condition_keeps f op to e d =
 
 -- ---- objects
 
-page_still : (each after : List Line) (l : ℕ) → Still each → Still after → Still (page_code each after l)
-page_still each after l se sa v = leaves_then {a = Label l ∷ []} (record { to = λ calls. refl }) (leaves_then (se v) (leaves_then {a = implied Iny ∷ branch Bne l ∷ []} (record { to = λ calls. refl }) (sa v)))
-
-pages_still : (each after : List Line) (n l : ℕ) → Still each → Still after → Still (pages_code each after n l)
-pages_still each after zero l se sa v = leaves_none
-pages_still each after (suc n) l se sa v = leaves_then (pages_still each after n l se sa v) (page_still each after (l + n) se sa v)
+pages_still : (each after : List Line) (pages l : ℕ) → Still each → Still after → Still (pages_code each after pages l)
+pages_still each after pages l se sa v =
+    let first : Leaves v (value Ldx pages ∷ Label l ∷ []) v = record { to = λ calls. refl } in
+    let next : Leaves v (implied Iny ∷ branch Bne l ∷ []) v = record { to = λ calls. refl } in
+    let last : Leaves v (implied Dex ∷ branch Bne l ∷ []) v = record { to = λ calls. refl } in
+    leaves_if (pages == 0) leaves_none (leaves_then first (leaves_then (se v) (leaves_then next (leaves_then (sa v) last))))
 
 rest_still : (each : List Line) (bytes l : ℕ) → Still each → Still (rest_code each bytes l)
 rest_still each bytes l se v =
@@ -101,7 +101,7 @@ rest_still each bytes l se v =
     leaves_if (bytes == 0) leaves_none (leaves_then first (leaves_then (se v) last))
 
 block_still : (each after : List Line) (bytes l : ℕ) → Still each → Still after → Still (block_code each after bytes l)
-block_still each after bytes l se sa v = leaves_then (pages_still each after (bytes / 256) l se sa v) (rest_still each (bytes % 256) (l + bytes / 256) se v)
+block_still each after bytes l se sa v = leaves_then (pages_still each after (bytes / 256) l se sa v) (rest_still each (bytes % 256) (l + loop_labels (bytes / 256)) se v)
 
 store_one : Still (by_y Sta ptr1 ∷ [])
 store_one v = record { to = λ calls. refl }

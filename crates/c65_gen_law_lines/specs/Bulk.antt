@@ -68,26 +68,6 @@ abbrev mutual
   statements_nodes no_stmts = 0
   statements_nodes (and_stmts a ss) = statement_nodes a + statements_nodes ss
 
-abbrev mutual
-  -- what a statement sets or clears at once has at most 1,024 bytes, as all objects of a function's blocks together
-  pub SetsFew : Framed → Stmt → Type 0
-  SetsFew f (set_part i offset e) = type_bytes f (bare e) ≤ 1024
-  SetsFew f (clear i) = object_bytes f i ≤ 1024
-  SetsFew f (block os ss) = AllSetFew f ss
-  SetsFew f (if_stmt e a b) = SetsFew f a × SetsFew f b
-  SetsFew f (while e a) = SetsFew f a
-  SetsFew f (do_while a e) = SetsFew f a
-  SetsFew f (for_loop i c n a) = SetsFew f a
-  SetsFew f (switch e a) = SetsFew f a
-  SetsFew f (case z a) = SetsFew f a
-  SetsFew f (default a) = SetsFew f a
-  SetsFew f (label n a) = SetsFew f a
-  SetsFew f _ = Unit {0}
-
-  pub AllSetFew : Framed → Stmts → Type 0
-  AllSetFew f no_stmts = Unit {0}
-  AllSetFew f (and_stmts a ss) = SetsFew f a × AllSetFew f ss
-
 -- the nodes of a function that has a body: the function, its parameters and its body's
 abbrev pub body_nodes : FuncTy → Option Stmt → ℕ
 body_nodes g None = 0
@@ -99,10 +79,3 @@ function_nodes g = body_nodes g g.body
 abbrev pub functions_nodes : List TFunc → ℕ
 functions_nodes [] = 0
 functions_nodes (g ∷ gs) = function_nodes (func_of g) + functions_nodes gs
-
-abbrev pub HasFewSets : Parts → Modes → FuncTy → Type 0
-HasFewSets parts modes g = (body : Stmt) (f : Framed) → g.body ≡ Some body → frame_of parts modes g ≡ Ok f → SetsFew f body
-
-abbrev pub HaveFewSets : Parts → Modes → List TFunc → Type 0
-HaveFewSets parts modes [] = Unit {0}
-HaveFewSets parts modes (g ∷ gs) = HasFewSets parts modes (func_of g) × HaveFewSets parts modes gs

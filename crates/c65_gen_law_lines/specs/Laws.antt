@@ -22,7 +22,7 @@ use Rattle.c65_genstmt.specs.Programs.{program_of}
 use Rattle.c65_genstmt.specs.Functions.{no_lines, with_function}
 use Rattle.c65_gen_law_lines.specs.Labels.{among, OwnsLabels}
 use Rattle.c65_gen_law_lines.specs.Homes.{in_bank, in_blocks, in_params}
-use Rattle.c65_gen_law_lines.specs.Bulk.{nodes, statement_nodes, functions_nodes, SetsFew, HaveFewSets}
+use Rattle.c65_gen_law_lines.specs.Bulk.{nodes, statement_nodes, functions_nodes}
 use Rattle.c65_gen_law_lines.specs.Stack.{Waiting, waiting_by, waits, bytes_in, passed, calls_of, statement_calls}
 
 -- the labels from the first free one on, as many as the expression uses
@@ -65,7 +65,7 @@ FramesAreSmall = (parts : Parts) (modes : Modes) (g : FuncTy) (f : Framed) → f
 -- a function has at most 128 bytes for itself, each parameter and each node of its body
 abbrev pub FunctionsAreSmall : Type 0
 FunctionsAreSmall = (parts : Parts) (modes : Modes) (g : FuncTy) (body : Stmt) (f : Framed) (is_main : Bool) (out : RegSet)
-    → frame_of parts modes g ≡ Ok f → SetsFew f body
+    → frame_of parts modes g ≡ Ok f
     → lines_size (with_function f is_main (Some body) (no_lines out)).lines ≤ 128 * (1 + (length g.params + statement_nodes body))
 
 -- each byte of regbank that a function takes is part of exactly one home and no other byte of any; and no byte above sp is part of two homes
@@ -76,5 +76,5 @@ HomesAreApart = (parts : Parts) (modes : Modes) (g : FuncTy) (f : Framed) → fr
 
 -- the extent of a program's code: at most 128 bytes for each function that has a body, each of its parameters and each node of the body
 abbrev pub ProgramsAreSmall : Type 0
-ProgramsAreSmall = (parts : Parts) (main : ℕ) (names : List (List ℕ)) (modes : Modes) (code : Code) → HaveFewSets parts modes parts.funcs.items
+ProgramsAreSmall = (parts : Parts) (main : ℕ) (names : List (List ℕ)) (modes : Modes) (code : Code)
     → program_of parts main names modes ≡ Ok code → extent_of code ≤ 128 * functions_nodes parts.funcs.items

@@ -1,7 +1,6 @@
 pub mod Marked
 pub mod Owned
-pub mod OwnBytes
-pub mod Sets
+pub mod TypeBytes
 pub mod Data
 pub mod Layouts
 pub mod Bulks

@@ -1,5 +1,4 @@
 pub mod Own
-pub mod Sets
 pub mod Data
 pub mod Bulk
 pub mod First

@@ -1,25 +1,14 @@
 // Laws of frames and of the bytes of whole programs, each the contract of a function that does nothing.
 ghost use Rattle.c65_gen_law_size.specs.Own.{OwnObjectsHaveHomes};
 ghost use Rattle.c65_gen_law_size.specs.First.{TheFirstLargeFrameIsRefused, FramesAreRefusedAboveTheirLimit};
-ghost use Rattle.c65_gen_law_size.specs.Laws.{TypedFunctionsAreSmall, TypedProgramsAreSmall, ProgramsAreWithinTheirBulk, ImagesAreWithinTheirBulk, LargeImagesAreWithinTheirBulk, ScopedProgramsSetOwnObjects};
+ghost use Rattle.c65_gen_law_size.specs.Laws.{ProgramsAreWithinTheirBulk, ImagesAreWithinTheirBulk, LargeImagesAreWithinTheirBulk, ScopedProgramsFillTheirObjects};
 
 /// The objects that have a home in a function's frame are its parameters and those of its body's blocks, and no others.
 pub fn own_objects_have_homes()
     ensures { OwnObjectsHaveHomes }
 {}
 
-/// A well typed function that sets only objects of its own has at most 128 bytes for itself, each parameter and each node
-/// of its body.
-pub fn typed_functions_are_small()
-    ensures { TypedFunctionsAreSmall }
-{}
-
-/// The extent of the code of a well typed program is at most that of all its functions that have a body.
-pub fn typed_programs_are_small()
-    ensures { TypedProgramsAreSmall }
-{}
-
-/// Its code's extent, its data and 8,192 bytes of the runtime are together at most its bulk.
+/// A program's code's extent, its data and 8,192 bytes of the runtime are together at most its bulk.
 pub fn programs_are_within_their_bulk()
     ensures { ProgramsAreWithinTheirBulk }
 {}
@@ -45,8 +34,8 @@ pub fn frames_are_refused_above_their_limit()
     ensures { FramesAreRefusedAboveTheirLimit }
 {}
 
-/// In a scoped program each body sets and clears only objects of its own function, and each initial value has no more
-/// bytes than its object, with both pieces of each pointer: the premises of the laws above.
-pub fn scoped_programs_set_own_objects()
-    ensures { ScopedProgramsSetOwnObjects }
+/// In a well typed, scoped program each initial value has no more bytes than its object, with both pieces of each pointer:
+/// the premise of the laws above.
+pub fn scoped_programs_fill_their_objects()
+    ensures { ScopedProgramsFillTheirObjects }
 {}

@@ -6,6 +6,5 @@ mod laws;
 pub use laws::{
     frames_are_refused_above_their_limit, images_are_within_their_bulk,
     large_images_are_within_their_bulk, own_objects_have_homes, programs_are_within_their_bulk,
-    scoped_programs_set_own_objects, the_first_large_frame_is_refused, typed_functions_are_small,
-    typed_programs_are_small,
+    scoped_programs_fill_their_objects, the_first_large_frame_is_refused,
 };

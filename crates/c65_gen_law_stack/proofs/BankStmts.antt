@@ -5,7 +5,7 @@ use Rattle.c65_csem.specs.Trees.{Typed, MaybeTyped, absent, present, Stmt, empty
 use Rattle.c65_csem.specs.Places.{is_tag}
 use Rattle.c65_csem.specs.Statements.{cases_of}
 use Rattle.c65_mach.specs.declared.rows.Op.{Op}
-use Rattle.c65_mach.specs.declared.rows.Op.TheVariants.{Beq, Bne, Jmp, Sta, Stx, Iny, Cpy, Lda, Ldy, Inc, Rts, Pha, Pla, Tay}
+use Rattle.c65_mach.specs.declared.rows.Op.TheVariants.{Beq, Bne, Jmp, Sta, Stx, Iny, Cpy, Dex, Lda, Ldx, Ldy, Inc, Rts, Pha, Pla, Tay}
 use Rattle.c65_code.specs.declared.line.Line.{Line}
 use Rattle.c65_code.specs.declared.routine.Count.{Count}
 use Rattle.c65_code.specs.declared.routine.Width.{Width}
@@ -27,7 +27,7 @@ use Rattle.c65_genload.specs.declared.places.Place.TheVariants as places
 use Rattle.c65_genexpr.specs.Types.{kind_in, bare}
 use Rattle.c65_genentry.specs.Drafts.{with_labels}
 use Rattle.c65_genentry.specs.Words.{sp, ptr1, ptr2, tmp1, tmp2, implied, zero_page, by_y, branch, jump, with_code}
-use Rattle.c65_genentry.specs.Bytes.{page_code, pages_code, rest_code, block_code, block_labels}
+use Rattle.c65_genentry.specs.Bytes.{pages_code, rest_code, loop_labels, block_code, block_labels}
 use Rattle.c65_genentry.specs.Bytes as blocks
 use Rattle.c65_genentry.specs.Pointers as pointers
 use Rattle.c65_genentry.specs.Choice.{bits_of, test_code, choice_code}
@@ -80,18 +80,18 @@ point_clear (Bank b) = clear_none
 point_clear (Soft at) = record { all = refl }
 point_clear (Data s at) = record { all = refl }
 
-page_clear : (each after : List Line) (l : ℕ) → Clear each → Clear after → Clear (page_code each after l)
-page_clear each after l ce ca = let next : Clear (implied Iny ∷ branch Bne l ∷ []) = record { all = refl } in clear_then (label_clear l) (clear_then ce (clear_then next ca))
-
-pages_clear : (each after : List Line) (n l : ℕ) → Clear each → Clear after → Clear (pages_code each after n l)
-pages_clear each after zero l ce ca = clear_none
-pages_clear each after (suc n) l ce ca = clear_then (pages_clear each after n l ce ca) (page_clear each after (l + n) ce ca)
+pages_clear : (each after : List Line) (pages l : ℕ) → Clear each → Clear after → Clear (pages_code each after pages l)
+pages_clear each after pages l ce ca =
+    let count : Clear (value Ldx pages ∷ []) = record { all = refl } in
+    let next : Clear (implied Iny ∷ branch Bne l ∷ []) = record { all = refl } in
+    let last : Clear (implied Dex ∷ branch Bne l ∷ []) = record { all = refl } in
+    clear_if (pages == 0) clear_none (clear_then count (clear_then (label_clear l) (clear_then ce (clear_then next (clear_then ca last)))))
 
 rest_clear : (each : List Line) (bytes l : ℕ) → Clear each → Clear (rest_code each bytes l)
 rest_clear each bytes l ce = let last : Clear (implied Iny ∷ value Cpy bytes ∷ branch Bne l ∷ []) = record { all = refl } in clear_if (bytes == 0) clear_none (clear_then (label_clear l) (clear_then ce last))
 
 block_clear : (each after : List Line) (bytes l : ℕ) → Clear each → Clear after → Clear (block_code each after bytes l)
-block_clear each after bytes l ce ca = clear_then (pages_clear each after (bytes / 256) l ce ca) (rest_clear each (bytes % 256) (l + bytes / 256) ce)
+block_clear each after bytes l ce ca = clear_then (pages_clear each after (bytes / 256) l ce ca) (rest_clear each (bytes % 256) (l + loop_labels (bytes / 256)) ce)
 
 zeros_block : (bytes l : ℕ) → Clear (blocks.clear_code bytes l)
 zeros_block bytes l =

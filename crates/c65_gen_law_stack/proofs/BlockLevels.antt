@@ -1,8 +1,8 @@
 -- The lines about objects and of the choice of a case: their labels, and what waits there.
-use Rattle.std.proofs.Common.{◌≡◌, ℕ, zero, suc, ◌+◌, ◌/◌, ◌%◌, ◌==◌, ◌≤◌, ◌⊎◌, inl, inr, Bool, true, false, ℤ, List, [], ◌∷◌, ◌++◌, length, refl, ap, arith}
+use Rattle.std.proofs.Common.{◌≡◌, ℕ, suc, ◌+◌, ◌/◌, ◌%◌, ◌==◌, ◌≤◌, ◌⊎◌, inl, inr, Bool, true, false, ℤ, List, [], ◌∷◌, ◌++◌, length, refl, ap, arith}
 use Rattle.std.specs.Prelude.{if◌then◌else◌, nat_lt, nat_le}
 use Rattle.std.specs.List.{list_all}
-use Rattle.c65_mach.specs.declared.rows.Op.TheVariants.{Beq, Bne, Sta, Stx, Iny, Cpy, Lda, Ldy, Inc, Cpx, Cmp}
+use Rattle.c65_mach.specs.declared.rows.Op.TheVariants.{Beq, Bne, Sta, Stx, Iny, Cpy, Dex, Lda, Ldx, Ldy, Inc, Cpx, Cmp}
 use Rattle.c65_mach.specs.declared.rows.Mode.TheVariants.{Relative}
 use Rattle.c65_code.specs.declared.line.Line.{Line}
 use Rattle.c65_code.specs.declared.line.Line.TheVariants.{Label}
@@ -12,7 +12,7 @@ use Rattle.c65_genwide.specs.Lines.{value}
 use Rattle.c65_genload.specs.declared.places.Access.{Access}
 use Rattle.c65_genload.specs.declared.places.Place.TheVariants as places
 use Rattle.c65_genentry.specs.Words.{sreg, ptr1, ptr2, tmp1, tmp2, regbank, implied, zero_page, by_y, branch}
-use Rattle.c65_genentry.specs.Bytes.{page_code, pages_code, rest_code, block_code}
+use Rattle.c65_genentry.specs.Bytes.{pages_code, rest_code, loop_labels, block_code}
 use Rattle.c65_genentry.specs.Bytes as blocks
 use Rattle.c65_genentry.specs.Pointers as pointers
 use Rattle.c65_genentry.specs.Choice.{bits_of, byte_of, test_code, case_code, choice_code}
@@ -27,14 +27,17 @@ use Rattle.c65_gen_law_stack.proofs.Levels.{Level, Nowhere, There, level_then, l
 
 -- ---- loops over bytes
 
-page_level : (each after : List Line) (l : ℕ) (v : List ℕ) → Still each → list_all is_plain each ≡ true → Still after → list_all is_plain after ≡ true → Closed [] v (page_code each after l) v
-page_level each after l v se pe sa pa =
-    let next : Level Nowhere (There l v) [] v (implied Iny ∷ []) v = level_piece (record { to = λ calls. refl }) refl in
-    level_end (level_then (level_label l v) (level_then (level_piece (se v) pe) (level_then next (level_then (level_leads Bne Relative l v) (level_piece (sa v) pa))))) (λ k h z. absurd z) (λ k h z. inl (inl z))
-
-pages_level : (each after : List Line) (n l : ℕ) (v : List ℕ) → Still each → list_all is_plain each ≡ true → Still after → list_all is_plain after ≡ true → Closed [] v (pages_code each after n l) v
-pages_level each after zero l v se pe sa pa = level_none
-pages_level each after (suc n) l v se pe sa pa = closed_then (pages_level each after n l v se pe sa pa) (page_level each after (l + n) v se pe sa pa)
+pages_level : (each after : List Line) (pages l : ℕ) (v : List ℕ) → Still each → list_all is_plain each ≡ true → Still after → list_all is_plain after ≡ true → Closed [] v (pages_code each after pages l) v
+pages_level each after pages l v se pe sa pa = by (pages == 0)
+  where
+    by : (b : Bool) → Closed [] v (if b then [] else value Ldx pages ∷ Label l ∷ (each ++ (implied Iny ∷ branch Bne l ∷ (after ++ (implied Dex ∷ branch Bne l ∷ []))))) v
+    by true = level_none
+    by false =
+        let count : Level Nowhere (There l v) [] v (value Ldx pages ∷ []) v = level_piece (record { to = λ calls. refl }) refl in
+        let next : Level Nowhere (There l v) [] v (implied Iny ∷ []) v = level_piece (record { to = λ calls. refl }) refl in
+        let last : Level Nowhere (There l v) [] v (implied Dex ∷ []) v = level_piece (record { to = λ calls. refl }) refl in
+        let back = level_leads Bne Relative l v in
+        level_end (level_then count (level_then (level_label l v) (level_then (level_piece (se v) pe) (level_then next (level_then back (level_then (level_piece (sa v) pa) (level_then last back))))))) (λ k h z. absurd z) (λ k h z. inl (inr (inl z)))
 
 rest_level : (each : List Line) (bytes l : ℕ) (v : List ℕ) → Still each → list_all is_plain each ≡ true → Closed [] v (rest_code each bytes l) v
 rest_level each bytes l v se pe = by (bytes == 0)
@@ -46,7 +49,7 @@ rest_level each bytes l v se pe = by (bytes == 0)
         level_end (level_then (level_label l v) (level_then (level_piece (se v) pe) (level_then next (level_leads Bne Relative l v)))) (λ k h z. absurd z) (λ k h z. inl (inl z))
 
 block_level : (each after : List Line) (bytes l : ℕ) (v : List ℕ) → Still each → list_all is_plain each ≡ true → Still after → list_all is_plain after ≡ true → Closed [] v (block_code each after bytes l) v
-block_level each after bytes l v se pe sa pa = closed_then (pages_level each after (bytes / 256) l v se pe sa pa) (rest_level each (bytes % 256) (l + bytes / 256) v se pe)
+block_level each after bytes l v se pe sa pa = closed_then (pages_level each after (bytes / 256) l v se pe sa pa) (rest_level each (bytes % 256) (l + loop_labels (bytes / 256)) v se pe)
 
 store_one : Still (by_y Sta ptr1 ∷ [])
 store_one v = record { to = λ calls. refl }

@@ -2,7 +2,7 @@
 ghost use Rattle.std.specs.Prelude.{◌≡◌, OnOk, OnErr};
 ghost use Rattle.c65_genwide.specs.Lines.{Keeps};
 ghost use Rattle.c65_genentry.specs.Words.{with_code};
-ghost use Rattle.c65_genentry.specs.Bytes.{page_code, rest_code, rest_labels, pages_code, block_code, block_labels, clear_code, copy_code};
+ghost use Rattle.c65_genentry.specs.Bytes.{rest_code, loop_labels, pages_code, block_code, block_labels, clear_code, copy_code};
 
 use crate::drafts::{fresh, label};
 use crate::places::{PTR1, PTR2};
@@ -11,38 +11,36 @@ use c65_code::Operand::{Byte, Nothing, To, Zero};
 use c65_code::{Draft, Line};
 use c65_genwide::put;
 use c65_mach::Mode::{Immediate, Implied, IndirectY, Relative, ZeroPage};
-use c65_mach::Op::{Bne, Cpy, Inc, Iny, Lda, Ldy, Sta};
+use c65_mach::Op::{Bne, Cpy, Dex, Inc, Iny, Lda, Ldx, Ldy, Sta};
 use std::alloc::AllocError;
 
-/// Lines for each of 256 bytes, by Y from 0, and then others once.
-fn put_page(each: &[Line], after: &[Line], draft: &mut Draft) -> Result<(), AllocError>
-    ensures lines { OnOk result (draft.new ≡ with_code 1 (page_code each.now after.now draft.old.labels) draft.old) }
+/// Lines for each of so many pages of 256 bytes, by Y from 0, and others behind each page. X counts
+/// the pages down.
+fn put_pages(each: &[Line], after: &[Line], pages: u8, draft: &mut Draft) -> Result<(), AllocError>
+    ensures lines { OnOk result (draft.new ≡ with_code (loop_labels pages) (pages_code each.now after.now pages draft.old.labels) draft.old) }
     ensures kept { OnErr result (Keeps draft.old draft.new) }
 {
+    if pages == 0 {
+        return put(draft, &[]);
+    }
     let head = fresh(draft)?;
+    put(draft, &[Do(Ldx, Immediate, Byte(pages))])?;
     label(draft, head)?;
     put(draft, each)?;
     put(
         draft,
         &[Do(Iny, Implied, Nothing), Do(Bne, Relative, To(head))],
     )?;
-    put(draft, after)
-}
-
-#[tactic(auto, using(crate::proofs::Repeats::pages_next))]
-fn put_pages(each: &[Line], after: &[Line], count: u16, draft: &mut Draft) -> Result<(), AllocError>
-    ensures lines { OnOk result (draft.new ≡ with_code count (pages_code each.now after.now count draft.old.labels) draft.old) }
-    ensures kept { OnErr result (Keeps draft.old draft.new) }
-{
-    for _round in 0..count {
-        put_page(each, after, draft)?;
-    }
-    Ok(())
+    put(draft, after)?;
+    put(
+        draft,
+        &[Do(Dex, Implied, Nothing), Do(Bne, Relative, To(head))],
+    )
 }
 
 /// Lines for each of so many bytes, by Y from 0.
 fn put_rest(each: &[Line], bytes: u8, draft: &mut Draft) -> Result<(), AllocError>
-    ensures lines { OnOk result (draft.new ≡ with_code (rest_labels bytes) (rest_code each.now bytes draft.old.labels) draft.old) }
+    ensures lines { OnOk result (draft.new ≡ with_code (loop_labels bytes) (rest_code each.now bytes draft.old.labels) draft.old) }
     ensures kept { OnErr result (Keeps draft.old draft.new) }
 {
     if bytes == 0 {
@@ -65,7 +63,7 @@ fn put_block(each: &[Line], after: &[Line], bytes: u16, draft: &mut Draft) -> Re
     ensures lines { OnOk result (draft.new ≡ with_code (block_labels bytes) (block_code each.now after.now bytes draft.old.labels) draft.old) }
     ensures kept { OnErr result (Keeps draft.old draft.new) }
 {
-    put_pages(each, after, bytes / 256, draft)?;
+    put_pages(each, after, (bytes / 256) as u8, draft)?;
     put_rest(each, (bytes % 256) as u8, draft)
 }
 
