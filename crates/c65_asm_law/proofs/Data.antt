@@ -28,10 +28,11 @@ use Rattle.c65_genframe.specs.declared.symbols.Numbers.{Numbers}
 use Rattle.c65_genframe.specs.Symbols.{numbers_of, object_symbol, literal_symbol}
 use Rattle.c65_genframe.specs.Sizes.{limited, elements, qualified_bytes_at, bytes_or}
 use Rattle.c65_gendata.specs.Cells.{symbol_of, offset_of, with_cell, with_cells, is_zero, literal_cells}
-use Rattle.c65_gendata.specs.Data.{is_const, filled, blank, initialised, object_datum, is_lasting, with_object, with_objects, with_literals, data_of}
+use Rattle.c65_gendata.specs.Data.{is_const, filled, blank, initialised, object_datum, is_placed, with_object, with_objects, with_literals, data_of}
 use Rattle.c65_asm_law.specs.Items.{IsByte, BeginsWhole, IsStored, AreBytes, HasData}
 use Rattle.c65_asm_law.proofs.Lists.{Every, every_append, every_all, Rises, rises_wider, rises_more}
 use Rattle.c65_asm_law.proofs.Known.{KnowsBy}
+use Rattle.c65_csem.specs.Places.{is_fixed}
 
 abbrev pub WellCell : ℕ → DataCell → Type 0
 WellCell n (Byte v) = v < 2 ^ 8
@@ -153,10 +154,15 @@ init_cells : (u : UnitTy) (o : ObjectTy) (init : Option (List Cell)) (cs : List 
 init_cells u o None cs typed is = absurd cc
 init_cells u o (Some ds) cs typed is = let same : ds ≡ cs = cc in subst (λ (z : List Cell). All (IsCell u) z) same typed.1
 
-object_datum_well : (n : ℕ) (numbers : Numbers) (parts : Parts) (o : ObjectTy) (s : Sym) → KnowsBy numbers (unit_of parts) n → s.0 < n → IsObject (unit_of parts) o → IsStored parts o → IsTrue (is_lasting o.class)
-    → WellDatum n (object_datum numbers o s (bytes_or (types_of parts.types) (type_in o.ty) 65536))
-object_datum_well n numbers parts o s knows known typed stored lasts =
+datum_when : (n : ℕ) (numbers : Numbers) (parts : Parts) (o : ObjectTy) (s : Sym) (fixed : Bool) → KnowsBy numbers (unit_of parts) n → s.0 < n → IsObject (unit_of parts) o → IsStored parts o → IsTrue (is_placed o.class)
+    → WellDatum n (if fixed then blank s false (bytes_or (types_of parts.types) (type_in o.ty) 65536) else initialised numbers s (is_const o.ty) (bytes_or (types_of parts.types) (type_in o.ty) 65536) o.init)
+datum_when n numbers parts o s true knows known typed stored lasts = blank_well n s false (bytes_or (types_of parts.types) (type_in o.ty) 65536) known (stored.size lasts) (bytes_few (types_of parts.types) (type_in o.ty))
+datum_when n numbers parts o s false knows known typed stored lasts =
     datum_by n numbers (unit_of parts) s (is_const o.ty) (bytes_or (types_of parts.types) (type_in o.ty) 65536) o.init knows known (stored.size lasts) (bytes_few (types_of parts.types) (type_in o.ty)) (λ cs is. (init_cells (unit_of parts) o o.init cs typed.init is, stored.bytes cs is, stored.whole cs is))
+
+object_datum_well : (n : ℕ) (numbers : Numbers) (parts : Parts) (o : ObjectTy) (s : Sym) → KnowsBy numbers (unit_of parts) n → s.0 < n → IsObject (unit_of parts) o → IsStored parts o → IsTrue (is_placed o.class)
+    → WellDatum n (object_datum numbers o s (bytes_or (types_of parts.types) (type_in o.ty) 65536))
+object_datum_well n numbers parts o s knows known typed stored lasts = datum_when n numbers parts o s (is_fixed o.class) knows known typed stored lasts
 
 abbrev pub key : Datum → ℕ
 key d = d.sym.0
@@ -174,7 +180,11 @@ initialised_key numbers s constant bytes None = blank_key s constant bytes
 initialised_key numbers s constant bytes (Some cs) = valued_key numbers s constant bytes cs (list_all is_zero cs)
 
 object_key : (numbers : Numbers) (o : ObjectTy) (s : Sym) (bytes : ℕ) → key (object_datum numbers o s bytes) ≡ s.0
-object_key numbers o s bytes = initialised_key numbers s (is_const o.ty) bytes o.init
+object_key numbers o s bytes = go (is_fixed o.class)
+  where
+    go : (fixed : Bool) → key (if fixed then blank s false bytes else initialised numbers s (is_const o.ty) bytes o.init) ≡ s.0
+    go true = refl
+    go false = initialised_key numbers s (is_const o.ty) bytes o.init
 
 -- what holds of the data so far
 pub record AreData (n hi : ℕ) (ds : List Datum) : Type 0 where
@@ -187,7 +197,7 @@ more_data n hi to ds d all well low high = record { well = every_append (WellDat
 same_data : (n hi to : ℕ) (ds : List Datum) → AreData n hi ds → hi ≤ to → AreData n to ds
 same_data n hi to ds all le = record { well = all.well; rises = rises_wider key 0 hi to ds le all.rises }
 
-object_when : (n i : ℕ) (parts : Parts) (o : ObjectTy) (ds : List Datum) (b : Bool) → is_lasting o.class ≡ b → KnowsBy (numbers_of parts) (unit_of parts) n → i < n → IsObject (unit_of parts) o → IsStored parts o → AreData n i ds
+object_when : (n i : ℕ) (parts : Parts) (o : ObjectTy) (ds : List Datum) (b : Bool) → is_placed o.class ≡ b → KnowsBy (numbers_of parts) (unit_of parts) n → i < n → IsObject (unit_of parts) o → IsStored parts o → AreData n i ds
     → AreData n (suc i) (if b then ds ++ object_datum (numbers_of parts) o (object_symbol (numbers_of parts) i) (bytes_or (types_of parts.types) (type_in o.ty) 65536) ∷ [] else ds)
 object_when n i parts o ds true lasts knows known typed stored all =
     let d : Datum = object_datum (numbers_of parts) o (object_symbol (numbers_of parts) i) (bytes_or (types_of parts.types) (type_in o.ty) 65536) in
@@ -200,7 +210,7 @@ objects_data : (n i : ℕ) (parts : Parts) (os : List ObjectTy) (ds : List Datum
 objects_data n i parts [] ds knows few typed stored all = same_data n i (i + 0) ds all (omega arith)
 objects_data n i parts (o ∷ os) ds knows few typed stored all =
     let next : List Datum = with_object (types_of parts.types) (numbers_of parts) o (object_symbol (numbers_of parts) i) ds in
-    let here : AreData n (suc i) next = object_when n i parts o ds (is_lasting o.class) refl knows (omega (arith, few)) typed.0 stored.0 all in
+    let here : AreData n (suc i) next = object_when n i parts o ds (is_placed o.class) refl knows (omega (arith, few)) typed.0 stored.0 all in
     let rest : AreData n (suc i + length os) (with_objects (types_of parts.types) (numbers_of parts) (suc i) os next) = objects_data n (suc i) parts os next knows (omega (arith, few)) typed.1 stored.1 here in
     same_data n (suc i + length os) (i + suc (length os)) _ rest (omega arith)
 

@@ -11,7 +11,7 @@ use Rattle.c65_csem.specs.Trees.{ObjectTy}
 use Rattle.c65_csem.specs.Views.{unit_of}
 use Rattle.c65_code.specs.Writable as writable
 use Rattle.c65_genframe.specs.Sizes.{bytes_or}
-use Rattle.c65_gendata.specs.Data.{is_lasting}
+use Rattle.c65_gendata.specs.Data.{is_placed}
 use Rattle.c65_gendata.specs.Symbols.{known, external, is_external}
 
 -- the spelling of a name
@@ -41,9 +41,9 @@ abbrev pub BeginsWhole : List Cell → Type 0
 BeginsWhole (Piece target offset part ∷ cells) = part ≡ 0
 BeginsWhole _ = Unit {0}
 
--- an object that lives as long as the program has a byte, and its first bytes are bytes
+-- an object that has one place for the whole run has a byte, and its first bytes are bytes
 pub record IsStored (parts : Parts) (o : ObjectTy) : Type 0 where
-  pub size : IsTrue (is_lasting o.class) → 1 ≤ bytes_or (unit_of parts).types (type_in o.ty) 65536
+  pub size : IsTrue (is_placed o.class) → 1 ≤ bytes_or (unit_of parts).types (type_in o.ty) 65536
   pub bytes : (cells : List Cell) → o.init ≡ Some cells → All IsByte cells
   pub whole : (cells : List Cell) → o.init ≡ Some cells → BeginsWhole cells
 

@@ -6,7 +6,7 @@ use Rattle.c65_ctype.specs.Trees.{Ty, void, int, pointer, array, tag, function, 
 use Rattle.c65_ctype.specs.Tables.{layout_at}
 use Rattle.c65_ctype.specs.Compatible.{same_int}
 use Rattle.c65_csem.specs.declared.items.Class.{Class}
-use Rattle.c65_csem.specs.declared.items.Class.TheVariants.{Auto, Register}
+use Rattle.c65_csem.specs.declared.items.Class.TheVariants.{Auto, Register, Fixed}
 use Rattle.c65_csem.specs.Trees.{Typed, node, Node, literal, object, func, deref, member, choice, comma, copy, type_of, ObjectTy, UnitTy}
 
 -- an expression that names an object or a function
@@ -98,9 +98,26 @@ abbrev pub is_bit_field : TypesTy → Typed → Bool
 is_bit_field types (node t (member e m)) = is_bits (member_at types (type_in (type_of e)) m)
 is_bit_field types (node t _) = false
 
+-- an object with a home in the frame of its function
+abbrev pub is_framed : Class → Bool
+is_framed Auto = true
+is_framed Register = true
+is_framed _ = false
+
+-- an object of a block that has one place for the whole run
+abbrev pub is_fixed : Class → Bool
+is_fixed Fixed = true
+is_fixed _ = false
+
+abbrev pub is_fixed_object : Option ObjectTy → Bool
+is_fixed_object None = false
+is_fixed_object (Some o) = is_fixed o.class
+
+-- an object of a block or a parameter, which is new at each entry (C90 6.1.2.4)
 abbrev pub is_automatic : Class → Bool
 is_automatic Auto = true
 is_automatic Register = true
+is_automatic Fixed = true
 is_automatic _ = false
 
 abbrev pub is_register : Class → Bool

@@ -5,7 +5,7 @@ use Rattle.c65_ints.specs.Ranges.{InRange}
 use Rattle.c65_ctype.specs.Trees.{QTy, type_in, int}
 use Rattle.c65_ctype.specs.Sizes.{size_of}
 use Rattle.c65_csem.specs.Trees.{Typed, type_of, MaybeTyped, absent, present, Stmt, empty, eval, set_part, clear, block, if_stmt, while, do_while, for_loop, switch, case, default, label, goto, break, continue, return, Stmts, no_stmts, and_stmts, ObjectTy, UnitTy}
-use Rattle.c65_csem.specs.Places.{is_place, is_promoted, is_tag, plain, is_automatic, are_alike}
+use Rattle.c65_csem.specs.Places.{is_place, is_promoted, is_tag, plain, is_framed, is_automatic, are_alike}
 use Rattle.c65_csem.specs.Typed.{IsTyped, IsValue, IsScalar, HasInt}
 
 -- the labels of a statement, in their order
@@ -80,6 +80,10 @@ switching k c = record c { in_switch = Some k }
 -- an automatic object, and its type
 abbrev pub IsAutomatic : UnitTy → ℕ → ObjectTy → Type 0
 IsAutomatic u i o = (slice_get u.objects i ≡ Some o) × IsTrue (is_automatic o.class)
+
+-- an object of the frame, and its type
+abbrev pub IsFramed : UnitTy → ℕ → ObjectTy → Type 0
+IsFramed u i o = (slice_get u.objects i ≡ Some o) × IsTrue (is_framed o.class)
 
 abbrev pub NamesAutomatic : UnitTy → ℕ → Type 0
 NamesAutomatic u i = (o : ObjectTy) × IsAutomatic u i o

@@ -12,7 +12,7 @@ use Rattle.c65_base.specs.declared.library.Library.{Library}
 use Rattle.c65_csem.specs.Trees.{Stmt, ObjectTy, FuncTy, UnitTy}
 use Rattle.c65_csem.specs.Places.{is_scalar, is_sized_in, plain_of, are_alike}
 use Rattle.c65_csem.specs.Typed.{IsResult, result_of}
-use Rattle.c65_csem.specs.Statements.{Context, IsStmt, IsDistinct, labels_of, IsAutomatic}
+use Rattle.c65_csem.specs.Statements.{Context, IsStmt, IsDistinct, labels_of, IsFramed}
 
 -- what an initial pointer names is there
 abbrev pub NamesTarget : UnitTy → Target → Type 0
@@ -50,10 +50,10 @@ pub record IsObject (u : UnitTy) (o : ObjectTy) : Type 0 where
   pub init : IsInit u o o.init
   pub class : HasRoomFor o.class o.init
 
--- a parameter is an automatic object of a scalar type
+-- a parameter is an object of the frame, of a scalar type
 pub record IsParam (u : UnitTy) (i : ℕ) : Type 0 where
   pub object : ObjectTy
-  pub automatic : IsAutomatic u i object
+  pub framed : IsFramed u i object
   pub scalar : IsTrue (is_scalar (type_in object.ty))
 
 -- Each parameter has the type that the prototype gives it, down to pointers: a later declaration may have

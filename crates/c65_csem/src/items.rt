@@ -15,6 +15,8 @@ pub enum Class {
     Static,
     Auto,
     Register,
+    /// An object of a block that has one place for the whole run.
+    Fixed,
 }
 
 /// What an initial pointer names.

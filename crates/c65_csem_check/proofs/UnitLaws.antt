@@ -8,14 +8,14 @@ use Rattle.std.proofs.lemmas.Bool.Decides.{Decides-eqb, Decides-ltb}
 use Rattle.c65_ctype.specs.Trees.{Ty, QTy, qual, type_in, Fn, fn, Params, unknown, known, QTys, end, more}
 use Rattle.c65_ctype.specs.Sizes.{size_of}
 use Rattle.c65_csem.specs.declared.items.Class.{Class}
-use Rattle.c65_csem.specs.declared.items.Class.TheVariants.{External, Tentative, Declared, Static, Auto, Register}
+use Rattle.c65_csem.specs.declared.items.Class.TheVariants.{External, Tentative, Declared, Static, Auto, Register, Fixed}
 use Rattle.c65_csem.specs.declared.items.Cell.{Cell}
 use Rattle.c65_csem.specs.declared.items.Cell.TheVariants.{Byte, Piece}
 use Rattle.c65_csem.specs.declared.items.Target.{Target}
 use Rattle.c65_csem.specs.declared.items.Target.TheVariants as targets
 use Rattle.c65_base.specs.declared.library.Library.{Library}
 use Rattle.c65_csem.specs.Trees.{Stmt, ObjectTy, FuncTy, UnitTy}
-use Rattle.c65_csem.specs.Places.{is_scalar, is_sized_in, plain_of, is_automatic, are_alike}
+use Rattle.c65_csem.specs.Places.{is_scalar, is_sized_in, plain_of, is_framed, is_automatic, are_alike}
 use Rattle.c65_csem.specs.Typed.{IsResult, result_of}
 use Rattle.c65_csem.specs.Statements.{IsStmt, IsDistinct, IsAutomatic, labels_of}
 use Rattle.c65_csem.specs.Units.{NamesTarget, IsCell, IsInit, may_have_init, HasRoomFor, HasSize, IsObject, IsParam, AreParams, MatchParams, context_of, IsBody, HasBody, IsFunc, IsUnit, IsWhole, is_defined, IsDefined, IsLinked, IsProgram}
@@ -70,6 +70,7 @@ sized_by u t Static h w = w
 sized_by u t Tentative h w = w
 sized_by u t Auto h w = w
 sized_by u t Register h w = w
+sized_by u t Fixed h w = w
 sized_by u t Declared h w = cc
 
 sized_automatic : (u : UnitTy) (t : QTy) (c : Class) → is_automatic c ≡ true → HasSize u t c → IsTrue (is_sized_in u.types t)
@@ -78,6 +79,7 @@ sized_automatic u t Static h w = w
 sized_automatic u t Tentative h w = w
 sized_automatic u t Auto h w = w
 sized_automatic u t Register h w = w
+sized_automatic u t Fixed h w = w
 sized_automatic u t Declared h w = cc
 
 measure_found : (o : Option ℕ) (n : ℕ) → IsSome o → ((m : ℕ) → o ≡ Some m → n ≡ m) → o ≡ Some n
@@ -148,9 +150,9 @@ measured_at u (x ∷ os) m w (suc i) o h auto = measured_at u os m.1 w.1 i o h a
 
 module _ {S : Type 0} where
   tells_param : (u : UnitTy) (i : ℕ) → Tells S (b.param_by (slice_get u.objects i)) (IsParam u i)
-  tells_param u i = like (tells_found b.param_by (λ o. IsTrue (is_automatic o.class) × IsTrue (is_scalar (type_in o.ty))) refl (λ o. both (tells_itself (is_automatic o.class)) (tells_itself (is_scalar (type_in o.ty)))) (slice_get u.objects i))
-      (λ w. record { object = w.0; automatic = (w.1, w.2.0); scalar = w.2.1 })
-      (λ w. (w.object, w.automatic.0, (w.automatic.1, w.scalar)))
+  tells_param u i = like (tells_found b.param_by (λ o. IsTrue (is_framed o.class) × IsTrue (is_scalar (type_in o.ty))) refl (λ o. both (tells_itself (is_framed o.class)) (tells_itself (is_scalar (type_in o.ty)))) (slice_get u.objects i))
+      (λ w. record { object = w.0; framed = (w.1, w.2.0); scalar = w.2.1 })
+      (λ w. (w.object, w.framed.0, (w.framed.1, w.scalar)))
 
   tells_params : (u : UnitTy) (is : List ℕ) → Tells S (b.are_params u is) (All (IsParam u) is)
   tells_params u is = tells_all (b.are_params u) (λ i. b.param_by (slice_get u.objects i)) (IsParam u) refl (λ i is. refl) (λ i. tells_param u i) is

@@ -9,7 +9,7 @@ use Rattle.c65_csem.specs.declared.items.Target.{Target}
 use Rattle.c65_csem.specs.declared.items.Target.TheVariants as targets
 use Rattle.c65_base.specs.declared.library.Library.{Library}
 use Rattle.c65_csem.specs.Trees.{Stmt, ObjectTy, FuncTy, UnitTy}
-use Rattle.c65_csem.specs.Places.{is_scalar, is_sized_in, plain_of, is_automatic, are_alike}
+use Rattle.c65_csem.specs.Places.{is_scalar, is_sized_in, plain_of, is_framed, are_alike}
 use Rattle.c65_csem.specs.Typed.{result_of}
 use Rattle.c65_csem.specs.Statements.{labels_of}
 use Rattle.c65_csem.specs.Units.{context_of, may_have_init, is_defined}
@@ -50,7 +50,7 @@ are_objects u (o ∷ os) = if is_object u o then are_objects u os else false
 
 abbrev pub param_by : Option ObjectTy → Bool
 param_by None = false
-param_by (Some o) = is_automatic o.class && is_scalar (type_in o.ty)
+param_by (Some o) = is_framed o.class && is_scalar (type_in o.ty)
 
 abbrev pub are_params : UnitTy → List ℕ → Bool
 are_params u [] = true

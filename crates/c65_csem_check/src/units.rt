@@ -12,7 +12,7 @@ use crate::labels::add_labels;
 use crate::lists::are_distinct;
 use crate::nodes::{func, object};
 use crate::sizes::measured;
-use crate::stmts::{Around, is_automatic, is_stmt};
+use crate::stmts::{Around, is_stmt};
 use crate::types::{are_alike, is_void};
 use c65_csem::{
     Cell, Class, Parts, TFunc, TObject, TProgram, TStmt, TUnit, Target, is_scalar, is_sized,
@@ -107,11 +107,20 @@ fn are_objects(parts: &Parts) -> bool
     true
 }
 
+fn is_framed(class: Class) -> bool
+    ensures { result ≡ Places.is_framed class }
+{
+    match class {
+        Class::Auto | Class::Register => true,
+        _ => false,
+    }
+}
+
 fn param_by(object: Option<&TObject>) -> bool
     ensures { result ≡ Units.param_by (option_map object_of (option_copied object.entry)) }
 {
     match object {
-        Some(object) => is_automatic(object.class) && is_scalar(&object.ty.ty),
+        Some(object) => is_framed(object.class) && is_scalar(&object.ty.ty),
         None => false,
     }
 }

@@ -18,7 +18,7 @@ pub fn is_automatic(class: Class) -> bool
     ensures { result ≡ Places.is_automatic class }
 {
     match class {
-        Class::Auto | Class::Register => true,
+        Class::Auto | Class::Register | Class::Fixed => true,
         _ => false,
     }
 }

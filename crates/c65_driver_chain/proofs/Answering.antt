@@ -39,19 +39,19 @@ fails_on (refusals.At code p) y f h = ap (λ z. z >>= f) h
 fails_on (refusals.TooLarge limit value) y f h = ap (λ z. z >>= f) h
 fails_on e y f h = absurd h
 
-pub not_scanned : (names : List (List ℕ)) (signed : Bool) (ts : List PpToken) (e : Refusal) → Fails e (tokens_of names ts) → Fails e (typed names signed ts)
-not_scanned names signed ts e h = fails_on e (tokens_of names ts) (λ tokens. unit_read 256 tokens >>= (λ tree. unit_in tree signed)) h
+pub not_scanned : (names : List (List ℕ)) (o : Options) (ts : List PpToken) (e : Refusal) → Fails e (tokens_of names ts) → Fails e (typed names o ts)
+not_scanned names o ts e h = fails_on e (tokens_of names ts) (λ tokens. unit_read 256 tokens >>= (λ tree. unit_in tree o)) h
 
-pub not_parsed : (names : List (List ℕ)) (signed : Bool) (ts : List PpToken) (tokens : List Token) (e : Refusal) → tokens_of names ts ≡ Ok tokens → Fails e (unit_read 256 tokens) → Fails e (typed names signed ts)
-not_parsed names signed ts tokens e scanned h =
-    let all : Fails e (unit_read 256 tokens >>= (λ tree. unit_in tree signed)) = fails_on e (unit_read 256 tokens) (λ tree. unit_in tree signed) h in
-    subst (λ (y : Result (List Token) Fault). Fails e (y >>= (λ tokens. unit_read 256 tokens >>= (λ tree. unit_in tree signed)))) (sym scanned) all
+pub not_parsed : (names : List (List ℕ)) (o : Options) (ts : List PpToken) (tokens : List Token) (e : Refusal) → tokens_of names ts ≡ Ok tokens → Fails e (unit_read 256 tokens) → Fails e (typed names o ts)
+not_parsed names o ts tokens e scanned h =
+    let all : Fails e (unit_read 256 tokens >>= (λ tree. unit_in tree o)) = fails_on e (unit_read 256 tokens) (λ tree. unit_in tree o) h in
+    subst (λ (y : Result (List Token) Fault). Fails e (y >>= (λ tokens. unit_read 256 tokens >>= (λ tree. unit_in tree o)))) (sym scanned) all
 
-pub is_typed : {X : Type 0} (view : X → UnitTy) (names : List (List ℕ)) (signed : Bool) (ts : List PpToken) (tokens : List Token) (tree : UnitTree) (r : Result X Refusal)
-    → tokens_of names ts ≡ Ok tokens → unit_read 256 tokens ≡ Ok tree → Gives view r (unit_in tree signed) → Gives view r (typed names signed ts)
-is_typed view names signed ts tokens tree r scanned parsed h =
-    let behind : Gives view r (unit_read 256 tokens >>= (λ tree. unit_in tree signed)) = subst (λ (y : Result UnitTree Fault). Gives view r (y >>= (λ tree. unit_in tree signed))) (sym parsed) h in
-    subst (λ (y : Result (List Token) Fault). Gives view r (y >>= (λ tokens. unit_read 256 tokens >>= (λ tree. unit_in tree signed)))) (sym scanned) behind
+pub is_typed : {X : Type 0} (view : X → UnitTy) (names : List (List ℕ)) (o : Options) (ts : List PpToken) (tokens : List Token) (tree : UnitTree) (r : Result X Refusal)
+    → tokens_of names ts ≡ Ok tokens → unit_read 256 tokens ≡ Ok tree → Gives view r (unit_in tree o) → Gives view r (typed names o ts)
+is_typed view names o ts tokens tree r scanned parsed h =
+    let behind : Gives view r (unit_read 256 tokens >>= (λ tree. unit_in tree o)) = subst (λ (y : Result UnitTree Fault). Gives view r (y >>= (λ tree. unit_in tree o))) (sym parsed) h in
+    subst (λ (y : Result (List Token) Fault). Gives view r (y >>= (λ tokens. unit_read 256 tokens >>= (λ tree. unit_in tree o)))) (sym scanned) behind
 
 -- a stage's refusal is one of the file, or want of memory
 in_file_stops : {A : Type 0} (paths : List (List ℕ)) (e r : Refusal) (y : Result A Fault) → Fails e y → Located paths e r → IsFree r ⊎ in_file paths y (Err r)
@@ -65,16 +65,16 @@ in_file_goes : {A : Type 0} (paths : List (List ℕ)) (y : Result A Fault) (a : 
 in_file_goes {A} paths y a h = subst (λ (x : Result A Fault). in_file paths x (Ok a)) (sym h) refl
 
 pub file_stops : (c : Command) (path : List ℕ) (names : List (List ℕ)) (e : Refusal) → IsFree e ⊎ preprocessed c.held c.options c.defines c.folders path names (Err e) → IsFree e ⊎ file_typed c path names (Err e)
-file_stops c path names e h = stops (preprocessed c.held c.options c.defines c.folders path names) (λ x. in_file x.0.files (typed x.1 c.options.signed_chars x.0.tokens) then λ t. just (Ok (t, x.1))) e h
+file_stops c path names e h = stops (preprocessed c.held c.options c.defines c.folders path names) (λ x. in_file x.0.files (typed x.1 c.options x.0.tokens) then λ t. just (Ok (t, x.1))) e h
 
-pub file_refused : (c : Command) (path : List ℕ) (names known : List (List ℕ)) (u : PpUnit) (e r : Refusal) → preprocessed c.held c.options c.defines c.folders path names (Ok (u, known)) → Fails e (typed known c.options.signed_chars u.tokens) → Located u.files e r → IsFree r ⊎ file_typed c path names (Err r)
+pub file_refused : (c : Command) (path : List ℕ) (names known : List (List ℕ)) (u : PpUnit) (e r : Refusal) → preprocessed c.held c.options c.defines c.folders path names (Ok (u, known)) → Fails e (typed known c.options u.tokens) → Located u.files e r → IsFree r ⊎ file_typed c path names (Err r)
 file_refused c path names known u e r before h located =
-    let here = in_file_stops u.files e r (typed known c.options.signed_chars u.tokens) h located in
-    goes_on {X = UnitTy × List (List ℕ)} (λ x. x) (preprocessed c.held c.options c.defines c.folders path names) (λ x. in_file x.0.files (typed x.1 c.options.signed_chars x.0.tokens) then λ t. just (Ok (t, x.1))) (u, known) (Err r) before
-    (stops (in_file u.files (typed known c.options.signed_chars u.tokens)) (λ t. just (Ok (t, known))) r here)
+    let here = in_file_stops u.files e r (typed known c.options u.tokens) h located in
+    goes_on {X = UnitTy × List (List ℕ)} (λ x. x) (preprocessed c.held c.options c.defines c.folders path names) (λ x. in_file x.0.files (typed x.1 c.options x.0.tokens) then λ t. just (Ok (t, x.1))) (u, known) (Err r) before
+    (stops (in_file u.files (typed known c.options u.tokens)) (λ t. just (Ok (t, known))) r here)
 
-pub file_comes : (c : Command) (path : List ℕ) (names known : List (List ℕ)) (u : PpUnit) (t : UnitTy) → preprocessed c.held c.options c.defines c.folders path names (Ok (u, known)) → typed known c.options.signed_chars u.tokens ≡ Ok t → file_typed c path names (Ok (t, known))
-file_comes c path names known u t before h = ((u, known), before, (t, in_file_goes u.files (typed known c.options.signed_chars u.tokens) t h, refl))
+pub file_comes : (c : Command) (path : List ℕ) (names known : List (List ℕ)) (u : PpUnit) (t : UnitTy) → preprocessed c.held c.options c.defines c.folders path names (Ok (u, known)) → typed known c.options u.tokens ≡ Ok t → file_typed c path names (Ok (t, known))
+file_comes c path names known u t before h = ((u, known), before, (t, in_file_goes u.files (typed known c.options u.tokens) t h, refl))
 
 -- ---- all files
 

@@ -1,6 +1,6 @@
 -- What told files are together: the code of their program, or the first refusal in the order of the stages
 -- (C90 5.1.1.2, phases 1 to 8).
-use Rattle.std.specs.Prelude.{◌≡◌, ◌⊎◌, ℕ, Bool, List, [], ◌∷◌, ◌++◌, length, nat_lt, Result, Ok, Err}
+use Rattle.std.specs.Prelude.{◌≡◌, ◌⊎◌, ℕ, List, [], ◌∷◌, ◌++◌, length, nat_lt, Result, Ok, Err}
 use Rattle.c65_base.specs.Limits.{limit_of}
 use Rattle.c65_base.specs.declared.refusal.Size.TheVariants.{Depth}
 use Rattle.c65_base.specs.declared.options.Options.{Options}
@@ -31,11 +31,11 @@ use Rattle.c65_genstmt.specs.Programs.{program_of}
 -- ---- one file
 
 -- the typed parts of a unit's tokens, whose spellings are in this table
-abbrev pub typed : List (List ℕ) → Bool → List PpToken → Result UnitTy Fault
-typed names signed_chars ts = do
+abbrev pub typed : List (List ℕ) → Options → List PpToken → Result UnitTy Fault
+typed names o ts = do
   tokens ← tokens_of names ts
   tree ← unit_read (limit_of Depth) tokens
-  unit_in tree signed_chars
+  unit_in tree o
 
 -- a fault has the path of its file in the place of the number
 abbrev pub in_file : {A : Type 0} → List (List ℕ) → Result A Fault → Answers A
@@ -55,7 +55,7 @@ command held options defines folders = record { held = held; options = options; 
 
 -- the typed parts of a file, and the spellings that are known behind it
 abbrev pub file_typed : Command → List ℕ → List (List ℕ) → Answers (UnitTy × List (List ℕ))
-file_typed c path names = preprocessed c.held c.options c.defines c.folders path names then λ x. in_file x.0.files (typed x.1 c.options.signed_chars x.0.tokens) then λ u. just (Ok (u, x.1))
+file_typed c path names = preprocessed c.held c.options c.defines c.folders path names then λ x. in_file x.0.files (typed x.1 c.options x.0.tokens) then λ u. just (Ok (u, x.1))
 
 -- ---- all files
 

@@ -21,7 +21,7 @@ use std::alloc::Global;
 
 /// The typed parts of a preprocessed unit, or the first fault of scanning, parsing or typing.
 fn typed(alloc: Global, options: &Options, unit: &PpUnit, names: &Names) -> Result<TUnit, Refusal>
-    ensures { Gives unit_of result (Front.typed names.now options.now.signed_chars unit.now.tokens) }
+    ensures { Gives unit_of result (Front.typed names.now options.now unit.now.tokens) }
 {
     let tokens = match scan(alloc, unit, names) {
         Ok(tokens) => tokens,

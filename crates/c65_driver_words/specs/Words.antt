@@ -90,6 +90,7 @@ with_value values.Cycles told text = with_cycles told (cycles_in text)
 abbrev pub with_flag : Flag → Told → Option Told
 with_flag flags.RegisterVars told = if compiles told.kind then Some (record told { options = record told.options { register_vars = true } }) else None
 with_flag flags.SignedChars told = if compiles told.kind then Some (record told { options = record told.options { signed_chars = true } }) else None
+with_flag flags.StaticLocals told = if compiles told.kind then Some (record told { options = record told.options { static_locals = true } }) else None
 with_flag flags.CheckStack told = if compiles told.kind then Some (record told { options = record told.options { check_stack = true } }) else None
 
 -- the words that are an option by themselves
@@ -99,6 +100,8 @@ flag_in word =
     if bytes_eq word (codes "--register-vars") then Some flags.RegisterVars else
     if bytes_eq word (codes "-j") then Some flags.SignedChars else
     if bytes_eq word (codes "--signed-chars") then Some flags.SignedChars else
+    if bytes_eq word (codes "-Cl") then Some flags.StaticLocals else
+    if bytes_eq word (codes "--static-locals") then Some flags.StaticLocals else
     if bytes_eq word (codes "--check-stack") then Some flags.CheckStack else None
 
 -- the options whose value is the next word

@@ -211,6 +211,7 @@ impl Told {
         match flag {
             Flag::RegisterVars => self.options.register_vars = true,
             Flag::SignedChars => self.options.signed_chars = true,
+            Flag::StaticLocals => self.options.static_locals = true,
             Flag::CheckStack => self.options.check_stack = true,
         }
         true

@@ -15,6 +15,7 @@ use std::alloc::{AllocError, Global};
 pub enum Flag {
     RegisterVars,
     SignedChars,
+    StaticLocals,
     CheckStack,
 }
 
@@ -38,6 +39,9 @@ pub fn flag_of(word: &str) -> Option<Flag>
     }
     if word == "-j" || word == "--signed-chars" {
         return Some(Flag::SignedChars);
+    }
+    if word == "-Cl" || word == "--static-locals" {
+        return Some(Flag::StaticLocals);
     }
     if word == "--check-stack" {
         return Some(Flag::CheckStack);

@@ -176,6 +176,7 @@ placed_by types p t c.Declared k l h = tt
 placed_by types p t c.Static k l h = size_elements types p (type_in t) k h
 placed_by types p t c.Auto k l h = absurd (let x : false ≡ true = l in cc)
 placed_by types p t c.Register k l h = absurd (let x : false ≡ true = l in cc)
+placed_by types p t c.Fixed k l h = absurd (let x : false ≡ true = l in cc)
 
 own_placed : (types : TypesTy) (p : Pos) (t : QTy) (class : Class) (k : ℕ) → needs_size types p (type_in t) ≡ Ok k → HasPlace types t class
 own_placed types p t c.External k h = size_elements types p (type_in t) k h
@@ -184,6 +185,7 @@ own_placed types p t c.Declared k h = tt
 own_placed types p t c.Static k h = size_elements types p (type_in t) k h
 own_placed types p t c.Auto k h = size_elements types p (type_in t) k h
 own_placed types p t c.Register k h = size_elements types p (type_in t) k h
+own_placed types p t c.Fixed k h = size_elements types p (type_in t) k h
 
 own_declared_keeps : (s : ScopeTy) (n : Name) (t : QTy) (class : Class) (p : Pos) (x : Entity × ScopeTy) → IsScope s → own_declared s n t class p ≡ Ok x → Keeps s x.1
 own_declared_keeps s n t class p x w h =
@@ -222,9 +224,11 @@ merged_placed types o t c.Declared c.Declared s l w = tt
 merged_placed types o t c.Declared c.Static s l w = absurd (let x : true ≡ false = s in cc)
 merged_placed types o t c.Declared c.Auto s l w = absurd (let x : false ≡ true = l in cc)
 merged_placed types o t c.Declared c.Register s l w = absurd (let x : false ≡ true = l in cc)
+merged_placed types o t c.Declared c.Fixed s l w = absurd (let x : false ≡ true = l in cc)
 merged_placed types o t c.Static class s l w = composite_elements_in types o t w
 merged_placed types o t c.Auto class s l w = composite_elements_in types o t w
 merged_placed types o t c.Register class s l w = composite_elements_in types o t w
+merged_placed types o t c.Fixed class s l w = composite_elements_in types o t w
 
 merged_register : (old class : Class) → is_linked class ≡ true → is_register (merged old class) ≡ is_register old
 merged_register c.External class l = refl
@@ -235,9 +239,11 @@ merged_register c.Declared c.Declared l = refl
 merged_register c.Declared c.Static l = refl
 merged_register c.Declared c.Auto l = refl
 merged_register c.Declared c.Register l = absurd (let x : false ≡ true = l in cc)
+merged_register c.Declared c.Fixed l = refl
 merged_register c.Static class l = refl
 merged_register c.Auto class l = refl
 merged_register c.Register class l = refl
+merged_register c.Fixed class l = refl
 
 -- an object of a scope is placed
 placed_at : (types : TypesTy) (os : List ObjectTy) (i : ℕ) (o : ObjectTy) → slice_get os i ≡ Some o → ArePlaced types os → HasPlace types o.ty o.class

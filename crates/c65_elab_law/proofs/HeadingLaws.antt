@@ -58,6 +58,7 @@ counted_place types q n c.Declared w = tt
 counted_place types q n c.Static w = counted_elements types q n w
 counted_place types q n c.Auto w = counted_elements types q n w
 counted_place types q n c.Register w = counted_elements types q n w
+counted_place types q n c.Fixed w = counted_elements types q n w
 
 counted_placed : (types : TypesTy) (os : List ObjectTy) (i n : ℕ) → ArePlaced types os → ArePlaced types (with_count os i n)
 counted_placed types [] i n w = tt

@@ -118,6 +118,7 @@ class_agrees (Some o) = of_class o.class
     of_class c.Static = refl
     of_class c.Auto = refl
     of_class c.Register = refl
+    of_class c.Fixed = refl
 
 register_agrees : (s : ScopeTy) (e : Typed) → is_registered s.unit e ≡ is_register s e
 register_agrees s (node q (n.object i)) = class_agrees (slice_get s.unit.objects i)

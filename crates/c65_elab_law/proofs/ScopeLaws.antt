@@ -119,6 +119,7 @@ place_stays u v g t c.Declared w = tt
 place_stays u v g t c.Static w = elements_stay u v g (type_in t) w
 place_stays u v g t c.Auto w = elements_stay u v g (type_in t) w
 place_stays u v g t c.Register w = elements_stay u v g (type_in t) w
+place_stays u v g t c.Fixed w = elements_stay u v g (type_in t) w
 
 pub placed_stay : (u v : UnitTy) → Grows u v → (os : List ObjectTy) → ArePlaced u.types os → ArePlaced v.types os
 placed_stay u v g [] w = tt

@@ -1,25 +1,26 @@
 -- Calls, their ends and the library, beside those of the folded program.
-use Rattle.std.proofs.Common.{◌≡◌, ℕ, zero, suc, ◌≤◌, List, [], ◌∷◌, Option, Some, None, true, option_map, slice_get, refl, sym, ap, ◌∙◌, subst}
-use Rattle.std.specs.Prelude.{⊤, Result, Ok, Err, nat_le}
+use Rattle.std.proofs.Common.{◌≡◌, ℕ, zero, suc, ◌≤◌, List, [], ◌∷◌, Option, Some, None, true, option_map, slice_get, refl, sym, ap, ◌∙◌, subst, Bool, false}
+use Rattle.std.specs.Prelude.{⊤, Result, Ok, Err, nat_le, ◌&&◌, ◌||◌, ◌==◌, if◌then◌else◌}
 use Rattle.c65_ctype.specs.Trees.{Ty}
 use Rattle.c65_base.specs.declared.library.Library.{Library}
 use Rattle.c65_base.specs.declared.library.Library.TheVariants.{Putchar, Getchar, Puts, Exit, Memcpy, Memset, Strcmp, Strcpy, Strlen}
 use Rattle.c65_csem.specs.Trees.{Stmt, FuncTy, UnitTy}
-use Rattle.c65_meaning.specs.Why.{Why}
+use Rattle.c65_meaning.specs.Why.{Why, By}
 use Rattle.c65_meaning.specs.Store.{Value, Whole, Null, Place, Opaque, NoValue}
 use Rattle.c65_meaning.specs.Shapes.{object_in, object_shape}
 use Rattle.c65_meaning.specs.Items.{Item, Busy, Leave}
-use Rattle.c65_meaning.specs.Costs.{argument_bytes, soft_cost}
+use Rattle.c65_meaning.specs.Costs.{argument_bytes, soft_cost, has_fixed}
 use Rattle.c65_meaning.specs.After.{ToLabel, Landing, Left, without}
-use Rattle.c65_meaning.specs.State.{Frame, Scene, State, Running, turned, name_object}
+use Rattle.c65_meaning.specs.State.{Frame, Scene, State, Running, turned, name_object, Undefined}
 use Rattle.c65_meaning.specs.Library.{Effect, effect_of}
-use Rattle.c65_meaning.specs.Step.{begin_object, begin_objects, end_objects, with_params, new_frame, entered, called, allowed, unless_refused, accepted, call_of, invoked, status_of, back_in, behind, params_of, func_in, frames_below, without_frame, left_call, returned, left_for, landed, label_in, body_of, jumped, switched, ended_or, finished, library_call, served}
+use Rattle.c65_meaning.specs.Step.{begin_object, begin_objects, end_objects, with_params, new_frame, entered, called, allowed, unless_refused, accepted, call_of, invoked, status_of, back_in, behind, params_of, func_in, frames_below, without_frame, left_call, returned, left_for, landed, label_in, body_of, jumped, switched, ended_or, finished, library_call, served, is_active, entered_once}
 use Rattle.c65_fold_law.specs.Laws.{Cheaper}
 use Rattle.c65_fold_law.specs.Programs.{folded_stmt, folded_body, folded_func, folded_unit}
-use Rattle.c65_fold_law.proofs.Kept.{func_same, cost_less}
+use Rattle.c65_fold_law.proofs.Kept.{func_same, cost_less, fixed_same}
 use Rattle.c65_fold_law.proofs.Marks.{TypedStmt, Works, item, stmt_works}
 use Rattle.c65_fold_law.proofs.Jumps.{CallIf, LeftIf, LandIf, after_land}
 use Rattle.c65_fold_law.proofs.Scenes.{framed, func_in_same, below_cheaper, Sim, SceneIf, runs, one_sim, bound_scene, put_scene, Now, name_cheaper, begins, ends, goes, turns, unless_deep_sim}
+use Rattle.c65_meaning.specs.declared.action.Action.TheVariants.{FixedAgain}
 
 -- ---- what a body is typed by
 
@@ -166,8 +167,29 @@ module _ (u : UnitTy) where
   entered_sim f g body typed cost less cheaper args k l vs c gs w h =
       unless_deep_sim u _ _ vs _ _ (params_scene g.params args (new_frame u f cost c) (record { func = f; object = λ i. None; cost = less } ∷ gs) (record { func = refl; object = refl; cost = cheaper }, h)) (stmt_works u 0 body typed.0 typed.1 _ _ (item u Leave k l tt w))
 
+  -- the same calls are active
+  active_same : (f : ℕ) (fs gs : List Frame) → Cheaper fs gs → is_active f gs ≡ is_active f fs
+  active_same f [] [] h = refl
+  active_same f [] (b ∷ gs) h = absurd h
+  active_same f (a ∷ fs) [] h = absurd h
+  active_same f (a ∷ fs) (b ∷ gs) h = ap (λ (n : ℕ). (n == f) || is_active f gs) h.0.func ∙ ap (λ (x : Bool). (a.func == f) || x) (active_same f fs gs h.1)
+
+  once_sim : (f : ℕ) (g : FuncTy) (body : Stmt) → TypedStmt u body → (cost less : ℕ) → less ≤ cost → (args : List Value) (k l : List Item) (vs : List Value) (c : Scene) (gs : List Frame) → Works u k l → Cheaper c.frames gs → Sim u (entered_once u f g body cost args k vs c) (entered_once (folded_unit u) f (folded_func g) (folded_stmt body) less args l vs (framed gs c))
+  once_sim f g body typed cost less cheaper args k l vs c gs w h =
+      subst (λ (b : Bool). Sim u (entered_once u f g body cost args k vs c) (if b then Undefined (By FixedAgain) else folded)) (sym same) (go (has_fixed u body && is_active f c.frames))
+    where
+      folded : State
+      folded = entered (folded_unit u) f (folded_func g) (folded_stmt body) less args l vs (framed gs c)
+
+      same : (has_fixed (folded_unit u) (folded_stmt body) && is_active f gs) ≡ (has_fixed u body && is_active f c.frames)
+      same = ap (λ (b : Bool). b && is_active f gs) (fixed_same u body) ∙ ap (λ (b : Bool). has_fixed u body && b) (active_same f c.frames gs h)
+
+      go : (b : Bool) → Sim u (if b then Undefined (By FixedAgain) else entered u f g body cost args k vs c) (if b then Undefined (By FixedAgain) else folded)
+      go true = tt
+      go false = entered_sim f g body typed cost less cheaper args k l vs c gs w h
+
   called_sim : (f : ℕ) (types : List Ty) (args : List Value) (g : FuncTy) (body : Option Stmt) (lib : Option Library) → TypedBody u body → (k l : List Item) (vs : List Value) (c : Scene) (gs : List Frame) → Works u k l → Cheaper c.frames gs → Sim u (called u f types args g body lib k vs c) (called (folded_unit u) f types args (folded_func g) (folded_body body) lib l vs (framed gs c))
-  called_sim f types args g (Some body) lib typed k l vs c gs w h = entered_sim f g body typed (soft_cost u (argument_bytes u types) body) (soft_cost (folded_unit u) (argument_bytes (folded_unit u) types) (folded_stmt body)) (cost_less u (argument_bytes u types) body) args k l vs (turned c) gs w h
+  called_sim f types args g (Some body) lib typed k l vs c gs w h = once_sim f g body typed (soft_cost u (argument_bytes u types) body) (soft_cost (folded_unit u) (argument_bytes (folded_unit u) types) (folded_stmt body)) (cost_less u (argument_bytes u types) body) args k l vs (turned c) gs w h
   called_sim f types args g None (Some lib) typed k l vs c gs w h = served_sim lib args k l vs c gs w h
   called_sim f types args g None None typed k l vs c gs w h = tt
 

@@ -1,16 +1,16 @@
 -- What folding keeps of trees: shapes of places, counts, sizes, and at most the need of waiting values.
-use Rattle.std.proofs.Common.{◌≡◌, ℕ, suc, ◌+◌, ◌≤◌, max, ℤ, List, [], ◌∷◌, length, Option, Some, None, option_and_then, option_map, map, slice_get, refl, sym, ap, ◌∙◌, arith}
+use Rattle.std.proofs.Common.{◌≡◌, ℕ, suc, ◌+◌, ◌≤◌, max, ℤ, List, [], ◌∷◌, length, Option, Some, None, option_and_then, option_map, map, slice_get, refl, sym, ap, ◌∙◌, arith, Bool, ◌||◌}
 use Rattle.std.proofs.lemmas.Option.{slice_get-map}
 use Rattle.c65_ctype.specs.Trees.{QTy, type_in, TypesTy, Ty}
 use Rattle.c65_csem.specs.Trees.{Typed, node, Node, constant, null, literal, object, func, deref, member, load, address, decay, convert, unary, binary, both, either, choice, comma, assign, assign_op, assign_step, step, copy, call, Nodes, none, some, Stmt, empty, eval, set_part, clear, block, if_stmt, while, do_while, for_loop, switch, case, default, label, goto, break, continue, return, Stmts, no_stmts, and_stmts, MaybeTyped, absent, present, FuncTy, UnitTy}
-use Rattle.c65_csem.specs.Places.{member_at}
+use Rattle.c65_csem.specs.Places.{member_at, is_fixed_object}
 use Rattle.c65_fold.specs.Constants.{number_type}
 use Rattle.c65_fold.specs.Folded.{value_at, by_value, folded, folded_node, folded_nodes}
 use Rattle.c65_fold.proofs.FoldLaws.{kept_type}
 use Rattle.c65_meaning.specs.Shapes.{bare_type, types_of, shape_of, place_shape, member_shape, object_size, object_in}
 use Rattle.c65_meaning.specs.Sites.{count, count_all, cases_of, all_cases_of}
 use Rattle.c65_csem_need.specs.Needs.{need, need_in, need_of_all, need_if, greatest_need, greatest_need_of_all}
-use Rattle.c65_meaning.specs.Costs.{bytes_of_objects, local_bytes, all_local_bytes, soft_cost}
+use Rattle.c65_meaning.specs.Costs.{bytes_of_objects, local_bytes, all_local_bytes, soft_cost, framed_size, any_fixed, has_fixed, any_has_fixed}
 use Rattle.c65_fold_law.specs.Programs.{folded_if, folded_stmt, folded_stmts, folded_func, folded_unit}
 
 -- ---- types and shapes
@@ -195,7 +195,7 @@ mutual
 module _ (u : UnitTy) where
   bytes_same : (objects : List ℕ) → bytes_of_objects (folded_unit u) objects ≡ bytes_of_objects u objects
   bytes_same [] = refl
-  bytes_same (i ∷ rest) = ap (λ n. object_size u.types (object_in u i) + n) (bytes_same rest)
+  bytes_same (i ∷ rest) = ap (λ n. framed_size u.types (object_in u i) + n) (bytes_same rest)
 
   mutual
     pub local_same : (s : Stmt) → local_bytes (folded_unit u) (folded_stmt s) ≡ local_bytes u s
@@ -220,6 +220,38 @@ module _ (u : UnitTy) where
     all_local_same : (ss : Stmts) → all_local_bytes (folded_unit u) (folded_stmts ss) ≡ all_local_bytes u ss
     all_local_same no_stmts = refl
     all_local_same (and_stmts s rest) = ap (λ n. n + all_local_bytes (folded_unit u) (folded_stmts rest)) (local_same s) ∙ ap (λ n. local_bytes u s + n) (all_local_same rest)
+
+  -- and it has the same objects
+  any_same : (objects : List ℕ) → any_fixed (folded_unit u) objects ≡ any_fixed u objects
+  any_same [] = refl
+  any_same (i ∷ rest) = ap (λ b. is_fixed_object (object_in u i) || b) (any_same rest)
+
+  or_same : (a b c d : Bool) → a ≡ b → c ≡ d → (a || c) ≡ (b || d)
+  or_same a b c d e h = ap (λ x. x || c) e ∙ ap (λ x. b || x) h
+
+  mutual
+    pub fixed_same : (s : Stmt) → has_fixed (folded_unit u) (folded_stmt s) ≡ has_fixed u s
+    fixed_same empty = refl
+    fixed_same (eval e) = refl
+    fixed_same (set_part i o e) = refl
+    fixed_same (clear i) = refl
+    fixed_same (block objects ss) = or_same (any_fixed (folded_unit u) objects) (any_fixed u objects) (any_has_fixed (folded_unit u) (folded_stmts ss)) (any_has_fixed u ss) (any_same objects) (all_fixed_same ss)
+    fixed_same (if_stmt e a b) = or_same (has_fixed (folded_unit u) (folded_stmt a)) (has_fixed u a) (has_fixed (folded_unit u) (folded_stmt b)) (has_fixed u b) (fixed_same a) (fixed_same b)
+    fixed_same (while e s) = fixed_same s
+    fixed_same (do_while s e) = fixed_same s
+    fixed_same (for_loop i c x s) = fixed_same s
+    fixed_same (switch e s) = fixed_same s
+    fixed_same (case v s) = fixed_same s
+    fixed_same (default s) = fixed_same s
+    fixed_same (label l s) = fixed_same s
+    fixed_same (goto l) = refl
+    fixed_same break = refl
+    fixed_same continue = refl
+    fixed_same (return o) = refl
+
+    all_fixed_same : (ss : Stmts) → any_has_fixed (folded_unit u) (folded_stmts ss) ≡ any_has_fixed u ss
+    all_fixed_same no_stmts = refl
+    all_fixed_same (and_stmts s rest) = or_same (has_fixed (folded_unit u) (folded_stmt s)) (has_fixed u s) (any_has_fixed (folded_unit u) (folded_stmts rest)) (any_has_fixed u rest) (fixed_same s) (all_fixed_same rest)
 
   -- a folded body costs no more
   pub cost_less : (passed : ℕ) (s : Stmt) → soft_cost (folded_unit u) passed (folded_stmt s) ≤ soft_cost u passed s

@@ -14,7 +14,7 @@ use Rattle.c65_meaning.specs.declared.action.Action.TheVariants.{OffsetOutside}
 use Rattle.c65_meaning.specs.Why.{By}
 use Rattle.c65_meaning.specs.Store.{Cell, Piece, Block, Store, Value, Whole, Place, function_block, set_block, size_in_store}
 use Rattle.c65_meaning.specs.Shapes.{object_in, object_size, object_sealed, lives_in_frame, literal_block, object_block, first_block}
-use Rattle.c65_meaning.specs.Costs.{bytes_of_objects, soft_cost, arguments_bytes}
+use Rattle.c65_meaning.specs.Costs.{bytes_of_objects, soft_cost, arguments_bytes, framed_size}
 use Rattle.c65_meaning.specs.State.{Scene, State, Undefined}
 use Rattle.c65_meaning.specs.Step.{entered}
 use Rattle.c65_meaning.specs.Start.{literal_in, from_zero, with_texts, argv_block, target_block, initial_cell, cells_of, static_block, initial_store, is_inside, are_inside, init_inside, objects_inside, with_arguments, first_store, first_scene, main_values, started, started_by, start_in}
@@ -134,7 +134,7 @@ module _ (u : UnitTy) where
 
   bytes_same : (objects : List ℕ) → bytes_of_objects v objects ≡ bytes_of_objects u objects
   bytes_same [] = refl
-  bytes_same (i ∷ rest) = ap (λ (n : ℕ). object_size u.types (object_in u i) + n) (bytes_same rest)
+  bytes_same (i ∷ rest) = ap (λ (n : ℕ). framed_size u.types (object_in u i) + n) (bytes_same rest)
 
   main_cost : (params : List ℕ) (body : Stmt) (args : List (List ℕ)) → soft_cost v (bytes_of_objects v params) (folded_stmt body) + arguments_bytes args ≤ soft_cost u (bytes_of_objects u params) body + arguments_bytes args
   main_cost params body args = let e : bytes_of_objects v params ≡ bytes_of_objects u params = bytes_same params in let h = cost_less u (bytes_of_objects v params) body in sum_less (soft_cost v (bytes_of_objects v params) (folded_stmt body)) (soft_cost u (bytes_of_objects v params) body) (soft_cost u (bytes_of_objects u params) body) (arguments_bytes args) h (ap (λ (n : ℕ). soft_cost u n body) e)

@@ -14,13 +14,14 @@ use Rattle.c65_genframe.specs.declared.home.Home.TheVariants.{Bank, Soft}
 use Rattle.c65_genframe.specs.declared.home.Arrival.{Arrival}
 use Rattle.c65_genframe.specs.declared.mark.Mark.{Mark}
 use Rattle.c65_genframe.specs.declared.mark.Mark.TheVariants.{Other, Local, Parameter}
-use Rattle.c65_genframe.specs.Places.{Places, more, none_placed, fits, with_none, with_banked, with_soft, with_later, with_marked, placed_all}
+use Rattle.c65_genframe.specs.Places.{Places, more, none_placed, fits, with_none, with_banked, with_soft, with_later, with_marked, placed_all, with_local}
 use Rattle.c65_genframe.specs.Arrivals.{Arrivals, arrive, with_slot, arrived}
 use Rattle.c65_genframe.specs.Sizes.{object_in, object_bytes, slot_bytes, bank_bytes}
 use Rattle.c65_genframe.specs.Marks.{lowest, all_marks}
 use Rattle.c65_genframe.specs.Objects.{locals_of}
 use Rattle.c65_genframe.specs.Frames.{has_prototype, is_variadic, register_param, arrival, is_kept, last_bytes, without_last, bytes_without, saved_bytes, first_arrivals, check_of, settled, passed_bytes, placed_in}
 use Rattle.c65_gen_law_lines.specs.Laws.{FramesAreSmall}
+use Rattle.c65_csem.specs.Places.{is_fixed_object}
 
 -- a sum that is small did not stand still
 pub min_small : (a : ℕ) → min a 18446744073709551615 ≤ 1024 → min a 18446744073709551615 ≡ a
@@ -50,12 +51,13 @@ local_room false false bank bytes total p e same h =
     let sum : total ≡ p.total + bytes = same ∙ min_small (p.total + bytes) (omega (arith, h, same)) in
     record { few = omega (arith, h, sum); soft = omega (arith, sum) }
 
+object_room : (fixed : Bool) (bank bytes : ℕ) (p : Places) → (if fixed then with_none p.total p else with_local bank bytes p).total ≤ 1024 → Room p (if fixed then with_none p.total p else with_local bank bytes p)
+object_room true bank bytes p h = record { few = h; soft = omega arith }
+object_room false bank bytes p h = local_room (nat_lt 1024 (more p.total bytes)) (fits bank p) bank bytes (more p.total bytes) p refl refl h
+
 step_room : (parts : Parts) (modes : Modes) (i : ℕ) (mark : Mark) (p : Places) → (with_marked parts modes i mark p).total ≤ 1024 → Room p (with_marked parts modes i mark p)
 step_room parts modes i Other p h = record { few = h; soft = omega arith }
-step_room parts modes i Local p h =
-    let bank : ℕ = bank_bytes modes.honoured (object_in parts i) in
-    let bytes : ℕ = object_bytes (types_of parts.types) (object_in parts i) in
-    local_room (nat_lt 1024 (more p.total bytes)) (fits bank p) bank bytes (more p.total bytes) p refl refl h
+step_room parts modes i Local p h = object_room (is_fixed_object (object_in parts i)) (bank_bytes modes.honoured (object_in parts i)) (object_bytes (types_of parts.types) (object_in parts i)) p h
 step_room parts modes i Parameter p h = let bank : ℕ = bank_bytes modes.honoured (object_in parts i) in parameter_room (fits bank p) bank p h
 
 pub all_room : (parts : Parts) (modes : Modes) (i : ℕ) (marks : List Mark) (p : Places) → (placed_all parts modes i marks p).total ≤ 1024 → Room p (placed_all parts modes i marks p)

@@ -9,14 +9,14 @@ use Rattle.c65_base.specs.Answers.{large}
 use Rattle.c65_ctype.specs.Views.{types_of}
 use Rattle.c65_csem.specs.declared.items.Parts.{Parts}
 use Rattle.c65_csem.specs.Trees.{ObjectTy}
-use Rattle.c65_csem.specs.Places.{is_register}
+use Rattle.c65_csem.specs.Places.{is_register, is_fixed_object}
 use Rattle.c65_ctype.specs.Trees.{type_in}
 use Rattle.c65_genframe.specs.declared.modes.Modes.{Modes}
 use Rattle.c65_genframe.specs.declared.home.Home.{Home}
 use Rattle.c65_genframe.specs.declared.home.Home.TheVariants.{Bank, Soft}
 use Rattle.c65_genframe.specs.declared.mark.Mark.{Mark}
 use Rattle.c65_genframe.specs.declared.mark.Mark.TheVariants.{Other, Local, Parameter}
-use Rattle.c65_genframe.specs.Places.{Places, more, none_placed, fits, with_none, with_banked, with_soft, with_later, with_marked, placed_all}
+use Rattle.c65_genframe.specs.Places.{Places, more, none_placed, fits, with_none, with_banked, with_soft, with_later, with_marked, placed_all, with_local}
 use Rattle.c65_genframe.specs.Arrivals.{slots, Arrivals, arrive, with_slot, arrived}
 use Rattle.c65_genframe.specs.Sizes.{object_in, object_bytes, slot_bytes, bank_size, bank_bytes}
 use Rattle.c65_genframe.specs.Marks.{least, lowest, marked, no_marks, all_marks}
@@ -88,12 +88,17 @@ parameter_single false parts x i bank p same h = record { home = Some (Soft 0); 
 fitting : (honoured : Bool) (o : Option ObjectTy) (p : Places) → fits (bank_bytes honoured o) p ≡ true → bank_bytes honoured o ≡ bank_bytes true o
 fitting honoured o p h = given_bytes honoured o (ltb-true 0 (bank_bytes honoured o) (and_parts (nat_lt 0 (bank_bytes honoured o)) (nat_le (p.bank + bank_bytes honoured o) 6) h).0)
 
-single : (parts : Parts) (modes : Modes) (x i : ℕ) (mark : Mark) (p : Places) → Single parts x i mark p (with_marked parts modes i mark p)
-single parts modes x i Other p = record { home = None; homes = refl; bank = omega arith; blocks = omega arith; six = λ le. le }
-single parts modes x i Local p =
+object_single : (fixed : Bool) (parts : Parts) (modes : Modes) (x i : ℕ) (p : Places)
+    → Single parts x i Local p (if fixed then with_none p.total p else with_local (bank_bytes modes.honoured (object_in parts i)) (object_bytes (types_of parts.types) (object_in parts i)) p)
+object_single true parts modes x i p = record { home = None; homes = refl; bank = omega arith; blocks = omega arith; six = λ le. le }
+object_single false parts modes x i p =
     let bank : ℕ = bank_bytes modes.honoured (object_in parts i) in
     let total : ℕ = more p.total (object_bytes (types_of parts.types) (object_in parts i)) in
     local_single (nat_lt 1024 total) (fits bank p) parts x i bank total p (fitting modes.honoured (object_in parts i) p) refl
+
+single : (parts : Parts) (modes : Modes) (x i : ℕ) (mark : Mark) (p : Places) → Single parts x i mark p (with_marked parts modes i mark p)
+single parts modes x i Other p = record { home = None; homes = refl; bank = omega arith; blocks = omega arith; six = λ le. le }
+single parts modes x i Local p = object_single (is_fixed_object (object_in parts i)) parts modes x i p
 single parts modes x i Parameter p = parameter_single (fits (bank_bytes modes.honoured (object_in parts i)) p) parts x i (bank_bytes modes.honoured (object_in parts i)) p (fitting modes.honoured (object_in parts i) p) refl
 
 -- many are placed

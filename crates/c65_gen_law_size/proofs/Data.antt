@@ -18,9 +18,10 @@ use Rattle.c65_genframe.specs.declared.symbols.Numbers.{Numbers}
 use Rattle.c65_genframe.specs.Symbols.{numbers_of, object_symbol, literal_symbol}
 use Rattle.c65_genframe.specs.Sizes.{bytes_or}
 use Rattle.c65_gendata.specs.Cells.{symbol_of, offset_of, with_cells, is_zero, literal_cells}
-use Rattle.c65_gendata.specs.Data.{is_const, filled, blank, valued, initialised, object_datum, is_lasting, with_object, with_objects, with_literals, data_of}
+use Rattle.c65_gendata.specs.Data.{is_const, filled, blank, valued, initialised, object_datum, is_placed, with_object, with_objects, with_literals, data_of}
 use Rattle.c65_csem_names.specs.Initial.{first_pieces, second_pieces}
-use Rattle.c65_gen_law_size.specs.Data.{lasting_bytes, objects_bytes, literals_bytes, data_bytes, datums_size, IsFilled, AreFilled}
+use Rattle.c65_gen_law_size.specs.Data.{placed_bytes, objects_bytes, literals_bytes, data_bytes, datums_size, IsFilled, AreFilled}
+use Rattle.c65_csem.specs.Places.{is_fixed}
 
 -- ---- cells
 
@@ -66,12 +67,16 @@ datum_size : (n : Numbers) (o : ObjectTy) (s : Sym) (bytes : ℕ) (init : Option
 datum_size n o s bytes None h = omega (arith, blank_size s (is_const o.ty) bytes)
 datum_size n o s bytes (Some cs) h = valued_size n s (is_const o.ty) bytes cs h.0 h.1
 
+placed_size : (fixed : Bool) (n : Numbers) (o : ObjectTy) (s : Sym) (bytes : ℕ) → IsFilled bytes o.init → size_of_datum (if fixed then blank s false bytes else initialised n s (is_const o.ty) bytes o.init) ≤ bytes
+placed_size true n o s bytes h = omega (arith, blank_size s false bytes)
+placed_size false n o s bytes h = datum_size n o s bytes o.init h
+
 datums_sum : (ds es : List Datum) → datums_size (ds ++ es) ≡ datums_size ds + datums_size es
 datums_sum [] es = omega arith
 datums_sum (d ∷ ds) es = omega (arith, datums_sum ds es)
 
-object_size : (types : TypesTy) (n : Numbers) (o : ObjectTy) (s : Sym) (ds : List Datum) → IsFilled (bytes_or types (type_in o.ty) 65536) o.init → datums_size (with_object types n o s ds) ≤ datums_size ds + lasting_bytes types o
-object_size types n o s ds h = go (is_lasting o.class)
+object_size : (types : TypesTy) (n : Numbers) (o : ObjectTy) (s : Sym) (ds : List Datum) → IsFilled (bytes_or types (type_in o.ty) 65536) o.init → datums_size (with_object types n o s ds) ≤ datums_size ds + placed_bytes types o
+object_size types n o s ds h = go (is_placed o.class)
   where
     bytes : ℕ
     bytes = bytes_or types (type_in o.ty) 65536
@@ -80,7 +85,7 @@ object_size types n o s ds h = go (is_lasting o.class)
     datum = object_datum n o s bytes
 
     go : (b : Bool) → datums_size (if b then ds ++ datum ∷ [] else ds) ≤ datums_size ds + (if b then bytes else 0)
-    go true = omega (arith, datums_sum ds (datum ∷ []), datum_size n o s bytes o.init h)
+    go true = omega (arith, datums_sum ds (datum ∷ []), placed_size (is_fixed o.class) n o s bytes h)
     go false = omega arith
 
 objects_size : (types : TypesTy) (n : Numbers) (i : ℕ) (os : List ObjectTy) (ds : List Datum) → AreFilled types os → datums_size (with_objects types n i os ds) ≤ datums_size ds + objects_bytes types os

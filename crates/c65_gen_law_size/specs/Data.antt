@@ -1,4 +1,4 @@
--- The bytes of the data of a program: its objects that live as long as it, and its literals.
+-- The bytes of the data of a program: its objects that have one place for the whole run, and its literals.
 use Rattle.std.specs.Prelude.{ℕ, ◌+◌, ◌≤◌, if◌then◌else◌, Option, None, Some, List, [], ◌∷◌, length, map}
 use Rattle.c65_ctype.specs.Trees.{type_in, TypesTy}
 use Rattle.c65_ctype.specs.Views.{types_of}
@@ -9,18 +9,18 @@ use Rattle.c65_csem.specs.Views.{object_of}
 use Rattle.c65_code.specs.declared.code.Datum.{Datum}
 use Rattle.c65_code.specs.Placement.{size_of_datum}
 use Rattle.c65_genframe.specs.Sizes.{bytes_or}
-use Rattle.c65_gendata.specs.Data.{is_lasting}
+use Rattle.c65_gendata.specs.Data.{is_placed}
 use Rattle.c65_csem_names.specs.Initial.{first_pieces, second_pieces}
 
 -- ---- the bytes of data
 
--- an object that lives as long as the program
-abbrev pub lasting_bytes : TypesTy → ObjectTy → ℕ
-lasting_bytes types o = if is_lasting o.class then bytes_or types (type_in o.ty) 65536 else 0
+-- an object that has one place for the whole run
+abbrev pub placed_bytes : TypesTy → ObjectTy → ℕ
+placed_bytes types o = if is_placed o.class then bytes_or types (type_in o.ty) 65536 else 0
 
 abbrev pub objects_bytes : TypesTy → List ObjectTy → ℕ
 objects_bytes types [] = 0
-objects_bytes types (o ∷ os) = lasting_bytes types o + objects_bytes types os
+objects_bytes types (o ∷ os) = placed_bytes types o + objects_bytes types os
 
 -- a literal and the zero behind it
 abbrev pub literals_bytes : List (List ℕ) → ℕ

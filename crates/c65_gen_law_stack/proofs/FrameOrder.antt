@@ -15,7 +15,7 @@ use Rattle.c65_genframe.specs.declared.home.Arrival.{Arrival}
 use Rattle.c65_genframe.specs.declared.home.Arrival.TheVariants.{Passed}
 use Rattle.c65_genframe.specs.declared.mark.Mark.{Mark}
 use Rattle.c65_genframe.specs.declared.mark.Mark.TheVariants.{Other, Local, Parameter}
-use Rattle.c65_genframe.specs.Places.{Places, more, none_placed, fits, with_none, with_banked, with_soft, with_later, with_marked, placed_all}
+use Rattle.c65_genframe.specs.Places.{Places, more, none_placed, fits, with_none, with_banked, with_soft, with_later, with_marked, placed_all, with_local}
 use Rattle.c65_genframe.specs.Arrivals.{Arrivals, arrive, with_slot, arrived}
 use Rattle.c65_genframe.specs.Sizes.{object_in, object_bytes, slot_bytes, bank_bytes}
 use Rattle.c65_genframe.specs.Marks.{lowest, all_marks}
@@ -23,6 +23,7 @@ use Rattle.c65_genframe.specs.Objects.{locals_of}
 use Rattle.c65_genframe.specs.Frames.{Framed, has_prototype, is_variadic, takes_stack, register_param, flat, home_at, home_of, arrival_at, arrival, is_kept, last_bytes, without_last, bytes_without, saved_bytes, first_arrivals, check_of, settled, passed_bytes, placed_in, frame_of}
 use Rattle.c65_genentry.specs.Entry.{kept_code}
 use Rattle.c65_gen_law_stack.proofs.EntryWay.{IsOrderly}
+use Rattle.c65_csem.specs.Places.{is_fixed_object}
 
 answered : {A E : Type 0} (b : Bool) (x : E) (y f : A) → (if b then Err x else Ok y) ≡ Ok f → (b ≡ false) × (y ≡ f)
 answered true x y f h = absurd cc
@@ -81,12 +82,13 @@ local_grows true fit bank bytes total p e = placed_none total p
 local_grows false true bank bytes total p e = placed_bank bank total p e
 local_grows false false bank bytes total p e = placed_soft bytes total p
 
+object_grows : (fixed : Bool) (bank bytes : ℕ) (p : Places) → Grows p (if fixed then with_none p.total p else with_local bank bytes p)
+object_grows true bank bytes p = placed_none p.total p
+object_grows false bank bytes p = local_grows (nat_lt 1024 (more p.total bytes)) (fits bank p) bank bytes (more p.total bytes) p refl
+
 marked_grows : (parts : Parts) (modes : Modes) (i : ℕ) (mark : Mark) (p : Places) → Grows p (with_marked parts modes i mark p)
 marked_grows parts modes i Other p = placed_none p.total p
-marked_grows parts modes i Local p =
-    let bank : ℕ = bank_bytes modes.honoured (object_in parts i) in
-    let bytes : ℕ = object_bytes (types_of parts.types) (object_in parts i) in
-    local_grows (nat_lt 1024 (more p.total bytes)) (fits bank p) bank bytes (more p.total bytes) p refl
+marked_grows parts modes i Local p = object_grows (is_fixed_object (object_in parts i)) (bank_bytes modes.honoured (object_in parts i)) (object_bytes (types_of parts.types) (object_in parts i)) p
 marked_grows parts modes i Parameter p = let bank : ℕ = bank_bytes modes.honoured (object_in parts i) in parameter_grows (fits bank p) bank p refl
 
 all_grow : (parts : Parts) (modes : Modes) (i : ℕ) (marks : List Mark) (p : Places) → Grows p (placed_all parts modes i marks p)

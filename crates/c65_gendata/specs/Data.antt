@@ -1,5 +1,5 @@
 -- The data of a program.
-use Rattle.std.specs.Prelude.{ℕ, suc, ◌++◌, Bool, true, false, if◌then◌else◌, List, [], ◌∷◌, map, replicate, Option, None, Some}
+use Rattle.std.specs.Prelude.{ℕ, suc, ◌++◌, ◌||◌, Bool, true, false, if◌then◌else◌, List, [], ◌∷◌, map, replicate, Option, None, Some}
 use Rattle.std.specs.List.{list_all}
 use Rattle.c65_ctype.specs.Trees.{Ty, array, QTy, qual, type_in, TypesTy}
 use Rattle.c65_ctype.specs.Views.{types_of}
@@ -8,6 +8,7 @@ use Rattle.c65_csem.specs.declared.items.Class.TheVariants.{External, Tentative,
 use Rattle.c65_csem.specs.declared.items.Cell.{Cell}
 use Rattle.c65_csem.specs.declared.items.Parts.{Parts}
 use Rattle.c65_csem.specs.Trees.{ObjectTy}
+use Rattle.c65_csem.specs.Places.{is_fixed}
 use Rattle.c65_csem.specs.Views.{object_of}
 use Rattle.c65_code.specs.declared.code.DataCell.{DataCell}
 use Rattle.c65_code.specs.declared.code.DataCell.TheVariants.{Byte}
@@ -42,9 +43,10 @@ abbrev pub initialised : Numbers → Sym → Bool → ℕ → Option (List Cell)
 initialised n sym constant bytes None = blank sym constant bytes
 initialised n sym constant bytes (Some cells) = valued n sym constant bytes cells
 
--- an object of so many bytes
+-- An object of so many bytes. One of a block begins as zero bytes that may be written, also where it is const: its initial
+-- value is stored at each entry of its block.
 abbrev pub object_datum : Numbers → ObjectTy → Sym → ℕ → Datum
-object_datum n o sym bytes = initialised n sym (is_const o.ty) bytes o.init
+object_datum n o sym bytes = if is_fixed o.class then blank sym false bytes else initialised n sym (is_const o.ty) bytes o.init
 
 -- an object that is defined and lives as long as the program (C90 6.1.2.4)
 abbrev pub is_lasting : Class → Bool
@@ -53,8 +55,12 @@ is_lasting Tentative = true
 is_lasting Static = true
 is_lasting _ = false
 
+-- an object that has one place for the whole run
+abbrev pub is_placed : Class → Bool
+is_placed c = is_lasting c || is_fixed c
+
 abbrev pub with_object : TypesTy → Numbers → ObjectTy → Sym → List Datum → List Datum
-with_object types n o sym ds = if is_lasting o.class then ds ++ object_datum n o sym (bytes_or types (type_in o.ty) 65536) ∷ [] else ds
+with_object types n o sym ds = if is_placed o.class then ds ++ object_datum n o sym (bytes_or types (type_in o.ty) 65536) ∷ [] else ds
 
 -- the first of these objects has the number i
 abbrev pub with_objects : TypesTy → Numbers → ℕ → List ObjectTy → List Datum → List Datum

@@ -2,8 +2,9 @@
 ghost use Rattle.std.specs.Prelude.{◌≡◌, ◌≤◌, ◌^◌, length, map, IfOk, IfErr, OnOk};
 ghost use Rattle.c65_base.specs.declared.refusal.Refusal.TheVariants.{OutOfMemory};
 ghost use Rattle.c65_ctype.specs.Views.{qty_of, types_of};
+ghost use Rattle.c65_csem.specs.Places.{is_fixed};
 ghost use Rattle.c65_csem.specs.Views.{object_of};
-ghost use Rattle.c65_gendata.specs.Data.{is_const, filled, blank, object_datum, is_lasting, with_object, with_objects, with_literals, data_of};
+ghost use Rattle.c65_gendata.specs.Data.{is_const, filled, blank, object_datum, is_lasting, is_placed, with_object, with_objects, with_literals, data_of};
 
 use crate::cells::{are_zero, cells_of, literal_cells, zero_cells};
 use c65_base::{Refusal, Text as Bytes};
@@ -55,7 +56,17 @@ fn blank(alloc: Global, sym: Sym, constant: bool, bytes: u32) -> Result<Datum, A
     })
 }
 
-/// The data of an object with this initial value.
+/// Whether an object of a block has one place for the whole run.
+fn is_fixed(class: Class) -> bool
+    ensures { result ≡ is_fixed class }
+{
+    match class {
+        Class::Fixed => true,
+        _ => false,
+    }
+}
+
+/// The data of an object. One of a block begins as zero bytes that may be written.
 fn object_datum(
     alloc: Global,
     numbers: Numbers,
@@ -65,6 +76,9 @@ fn object_datum(
 ) -> Result<Datum, AllocError>
     ensures { IfOk result (λ d. d ≡ object_datum numbers (object_of object.now) sym bytes) }
 {
+    if is_fixed(object.class) {
+        return blank(alloc, sym, false, bytes);
+    }
     let constant = is_const(&object.ty);
     match &object.init {
         Some(cells) if !are_zero(cells) => {
@@ -81,11 +95,18 @@ fn is_lasting(class: Class) -> bool
 {
     match class {
         Class::External | Class::Tentative | Class::Static => true,
-        Class::Declared | Class::Auto | Class::Register => false,
+        Class::Declared | Class::Auto | Class::Register | Class::Fixed => false,
     }
 }
 
-/// Adds the data of an object, unless it is automatic or only declared.
+/// Whether an object has one place for the whole run.
+fn is_placed(class: Class) -> bool
+    ensures { result ≡ is_placed class }
+{
+    is_lasting(class) || is_fixed(class)
+}
+
+/// Adds the data of an object, unless it has a home in a frame or is only declared.
 fn add_object(
     alloc: Global,
     parts: &Parts,
@@ -96,7 +117,7 @@ fn add_object(
 ) -> Result<(), AllocError>
     ensures { OnOk result (into.new.items ≡ with_object (types_of parts.now.types) numbers (object_of object.now) sym into.old.items) }
 {
-    if !is_lasting(object.class) {
+    if !is_placed(object.class) {
         return Ok(());
     }
     let bytes = bytes_or(&parts.types, &object.ty.ty, 65_536);
@@ -137,9 +158,10 @@ fn add_literals(
     Ok(())
 }
 
-/// The data of a program: those of its external and static objects, and then those of its string
+/// The data of a program: those of its external and static objects and of those of blocks that have
+/// one place for the whole run, and then those of its string
 /// literals, each in the order of their numbers. An object without an initial value, or with zero
-/// bytes alone, is of kind Zero, unless it is const. Refuses for want of memory alone.
+/// bytes alone, is of kind Zero, unless it is const; one of a block is always so. Refuses for want of memory alone.
 pub fn gen_data(alloc: Global, program: &TProgram) -> Result<Vec<Datum>, Refusal>
     ensures data { IfOk result (λ v. v.items ≡ data_of program.now.0) }
     ensures refused { IfErr result (λ e. e ≡ OutOfMemory) }

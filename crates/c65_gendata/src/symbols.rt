@@ -78,7 +78,7 @@ fn is_external(class: Class) -> bool
 {
     match class {
         Class::External | Class::Tentative | Class::Declared => true,
-        Class::Static | Class::Auto | Class::Register => false,
+        Class::Static | Class::Auto | Class::Register | Class::Fixed => false,
     }
 }
 

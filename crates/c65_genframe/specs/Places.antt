@@ -2,6 +2,7 @@
 use Rattle.std.specs.Prelude.{ℕ, ◌+◌, ◌%◌, min, ◌&&◌, Bool, nat_lt, nat_le, if◌then◌else◌, List, [], ◌∷◌, ◌++◌, Option, None, Some}
 use Rattle.c65_ctype.specs.Views.{types_of}
 use Rattle.c65_csem.specs.declared.items.Parts.{Parts}
+use Rattle.c65_csem.specs.Places.{is_fixed_object}
 use Rattle.c65_genframe.specs.declared.modes.Modes.{Modes}
 use Rattle.c65_genframe.specs.declared.home.Home.{Home}
 use Rattle.c65_genframe.specs.declared.home.Home.TheVariants.{Bank, Soft}
@@ -51,9 +52,15 @@ with_later p = record p { homes = p.homes ++ Some (Soft 0) ∷ [] }
 abbrev pub with_parameter : ℕ → Places → Places
 with_parameter bank p = if fits bank p then with_banked bank p.total p else with_later p
 
+-- an object of a block that has one place for the whole run has no home
+abbrev pub with_object : Parts → Modes → ℕ → Places → Places
+with_object parts modes i p =
+    if is_fixed_object (object_in parts i) then with_none p.total p
+    else with_local (bank_bytes modes.honoured (object_in parts i)) (object_bytes (types_of parts.types) (object_in parts i)) p
+
 abbrev pub with_marked : Parts → Modes → ℕ → Mark → Places → Places
 with_marked parts modes i Other p = with_none p.total p
-with_marked parts modes i Local p = with_local (bank_bytes modes.honoured (object_in parts i)) (object_bytes (types_of parts.types) (object_in parts i)) p
+with_marked parts modes i Local p = with_object parts modes i p
 with_marked parts modes i Parameter p = with_parameter (bank_bytes modes.honoured (object_in parts i)) p
 
 -- the object with number i has the first mark

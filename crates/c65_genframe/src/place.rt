@@ -1,11 +1,11 @@
 // Each object gets its home, in the order of their numbers.
 ghost use Rattle.std.specs.Prelude.{◌≡◌, ◌+◌, ◌≤◌, [], IsTrue, OnOk, IfOk};
-ghost use Rattle.c65_genframe.specs.Places.{more, fits, none_placed, with_none, with_banked, with_soft, with_later, with_local, with_parameter, with_marked, placed_all};
+ghost use Rattle.c65_genframe.specs.Places.{more, fits, none_placed, with_none, with_banked, with_soft, with_later, with_local, with_parameter, with_object, with_marked, placed_all};
 
 use crate::home::Home;
 use crate::mark::Mark;
 use crate::modes::Modes;
-use crate::sizes::{bank_bytes, object_bytes};
+use crate::sizes::{bank_bytes, is_fixed, object_bytes};
 use c65_csem::Parts;
 use std::alloc::{AllocError, Global};
 use std::marker::Model;
@@ -154,6 +154,18 @@ impl Placed {
         }
     }
 
+    /// An object of a block. One that has one place for the whole run has no home.
+    fn add_object(&mut self, parts: &Parts, modes: Modes, object: u32) -> Result<(), AllocError>
+        ensures same { OnOk result (self.new ≡ with_object parts.now modes object self.old) }
+        ensures grows { OnOk result (self.old.total ≤ self.new.total) }
+    {
+        if is_fixed(parts, object) {
+            return self.add_none(self.total);
+        }
+        let bank = bank_bytes(parts, modes.honoured, object);
+        self.add_local(bank, object_bytes(parts, object))
+    }
+
     fn add(
         &mut self,
         parts: &Parts,
@@ -166,10 +178,7 @@ impl Placed {
     {
         match mark {
             Mark::Other => self.add_none(self.total),
-            Mark::Local => {
-                let bank = bank_bytes(parts, modes.honoured, object);
-                self.add_local(bank, object_bytes(parts, object))
-            }
+            Mark::Local => self.add_object(parts, modes, object),
             Mark::Parameter => self.add_parameter(bank_bytes(parts, modes.honoured, object)),
         }
     }

@@ -2,6 +2,7 @@
 ghost use Rattle.std.specs.Prelude.{◌≡◌, ◌≤◌, IfSome};
 ghost use Rattle.c65_ctype.specs.Views.{ty_of, types_of};
 ghost use Rattle.c65_ctype.specs.Sizes.{bytes_of};
+ghost use Rattle.c65_csem.specs.Places.{is_fixed_object};
 ghost use Rattle.c65_genframe.specs.Sizes.{limited, bytes_at, bytes_or, object_bytes, slot_bytes, bank_size, bank_bytes, object_in};
 
 use c65_base::Size;
@@ -102,6 +103,16 @@ fn bank_size(ty: &CType) -> u8
         CType::Int(IntType::Long | IntType::ULong) => 0,
         CType::Int(_) | CType::Pointer(_) => 2,
         CType::Void | CType::Array(_, _) | CType::Struct(_) | CType::Function(_) => 0,
+    }
+}
+
+/// Whether an object of a block has one place for the whole run.
+pub fn is_fixed(parts: &Parts, object: u32) -> bool
+    ensures { result ≡ is_fixed_object (object_in parts.now object) }
+{
+    match parts.objects.get(object as usize) {
+        Some(found) => found.class == Class::Fixed,
+        None => false,
     }
 }
 

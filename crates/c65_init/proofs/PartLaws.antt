@@ -1,5 +1,5 @@
 -- One item of a list of a unit is changed in its place.
-use Rattle.std.proofs.Common.{◌≡◌, ◌∙◌, ℕ, zero, suc, ◌≤◌, List, [], ◌∷◌, length, map, get_or, set, Some, Vec, Global, refl, ap, arith}
+use Rattle.std.proofs.Common.{◌≡◌, ◌∙◌, Bool, ℕ, zero, suc, ◌≤◌, List, [], ◌∷◌, length, map, get_or, set, Some, Vec, Global, refl, ap, arith}
 use Rattle.std.proofs.lemmas.List.{length-map}
 use Rattle.c65_csem.specs.declared.items.Cell.{Cell}
 use Rattle.c65_csem.specs.declared.items.Class.{Class}
@@ -11,6 +11,7 @@ use Rattle.c65_csem.specs.Trees.{ObjectTy, FuncTy}
 use Rattle.c65_csem.specs.Views.{object_of, func_of, stmt_of, unit_of}
 use Rattle.c65_init.specs.Declarations.{defined_as, with_init}
 use Rattle.c65_init.specs.Functions.{with_body}
+use Rattle.c65_init.specs.Fixed.{fixed_class, fixed_at}
 use Rattle.c65_ctype.specs.Trees.{Fn}
 use Rattle.c65_ctype.specs.declared.types.FnType.{FnType}
 use Rattle.c65_ctype.specs.Views.{fn_of}
@@ -53,3 +54,15 @@ pub func_untyped : (fs : List TFunc) (i : ℕ) (g : Fn) → length fs ≤ i → 
 func_untyped [] i g h = refl
 func_untyped (x ∷ fs) zero g h = absurd (omega arith)
 func_untyped (x ∷ fs) (suc i) g h = ap (λ (ys : List FuncTy). func_of x ∷ ys) (func_untyped fs i g (omega arith))
+
+pub object_fixed : (os : List TObject) (i : ℕ) (honoured : Bool) (o : TObject) (d : Class) → o ≡ get_or os i o → d ≡ fixed_class honoured o.class → map object_of (set os i (record { name = o.name; ty = o.ty; class = d; init = o.init })) ≡ fixed_at honoured (map object_of os) i
+object_fixed [] i honoured o d is so = refl
+object_fixed (x ∷ os) zero honoured o d is so =
+    ap (λ (k : Class). object_of (record { name = o.name; ty = o.ty; class = k; init = o.init }) ∷ map object_of os) so
+    ∙ ap (λ (y : TObject). object_of (record { name = y.name; ty = y.ty; class = fixed_class honoured y.class; init = y.init }) ∷ map object_of os) is
+object_fixed (x ∷ os) (suc i) honoured o d is so = ap (λ (ys : List ObjectTy). object_of x ∷ ys) (object_fixed os i honoured o d is so)
+
+pub object_not_fixed : (os : List TObject) (i : ℕ) (honoured : Bool) → length os ≤ i → fixed_at honoured (map object_of os) i ≡ map object_of os
+object_not_fixed [] i honoured h = refl
+object_not_fixed (x ∷ os) zero honoured h = absurd (omega arith)
+object_not_fixed (x ∷ os) (suc i) honoured h = ap (λ (ys : List ObjectTy). object_of x ∷ ys) (object_not_fixed os i honoured (omega arith))

@@ -2,6 +2,7 @@ pub mod Agreeing
 pub mod Bodies
 pub mod Causes
 pub mod Declarations
+pub mod Fixed
 pub mod Functions
 pub mod Initials
 pub mod Labels

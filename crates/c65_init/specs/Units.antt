@@ -1,5 +1,6 @@
 -- Units (C90 6.7): the typed parts as a function of the tree.
 use Rattle.std.specs.Prelude.{ℕ, zero, suc, ◌+◌, min, List, [], ◌∷◌, length, Bool, true, false, ◌&&◌, Option, Some, None, slice_get, Result, Ok, if◌then◌else◌}
+use Rattle.c65_base.specs.declared.options.Options.{Options}
 use Rattle.c65_base.specs.Answers.{Fault, ◌>>=◌}
 use Rattle.c65_ctype.specs.Trees.{Ty, array, type_in}
 use Rattle.c65_csem.specs.declared.items.Class.{Class}
@@ -12,6 +13,7 @@ use Rattle.c65_init.specs.declared.declare.TentativeObject.{TentativeObject}
 use Rattle.c65_init.specs.Declarations.{LocalsTy, no_locals, size_needed, declaration_of}
 use Rattle.c65_init.specs.Functions.{definition_of}
 use Rattle.c65_init.specs.Settled.{functions_settled}
+use Rattle.c65_init.specs.Fixed.{locals_fixed}
 
 abbrev pub item_in : ItemTree → LocalsTy → ScopeTy → Result (LocalsTy × ScopeTy) Fault
 item_in (declaration d) k s = declaration_of d k s
@@ -54,9 +56,9 @@ abbrev pub all_sized : List TentativeObject → ScopeTy → Result (Unit {0}) Fa
 all_sized [] s = Ok tt
 all_sized (t ∷ ts) s = size_needed s t.object t.pos >>= (λ size. all_sized ts s)
 
-abbrev pub unit_in : UnitTree → Bool → Result UnitTy Fault
-unit_in t signed_chars = do
-  s ← nothing signed_chars
+abbrev pub unit_in : UnitTree → Options → Result UnitTy Fault
+unit_in t o = do
+  s ← nothing o.signed_chars
   u ← items_in t.items no_locals s
   sized ← all_sized u.0.tentative (arrays_completed u.1)
-  Ok (functions_settled (arrays_completed u.1)).unit
+  Ok (locals_fixed o (functions_settled (arrays_completed u.1))).unit

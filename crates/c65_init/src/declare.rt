@@ -177,7 +177,7 @@ fn is_automatic(class: Class) -> bool
     ensures { result ≡ is_automatic class }
 {
     match class {
-        Class::Auto | Class::Register => true,
+        Class::Auto | Class::Register | Class::Fixed => true,
         Class::External | Class::Tentative | Class::Declared | Class::Static => false,
     }
 }
@@ -224,7 +224,12 @@ fn note_tentative(
             locals.tentative.push(TentativeObject { object, pos })?;
             Ok(())
         }
-        Class::External | Class::Declared | Class::Static | Class::Auto | Class::Register => Ok(()),
+        Class::External
+        | Class::Declared
+        | Class::Static
+        | Class::Auto
+        | Class::Register
+        | Class::Fixed => Ok(()),
     }
 }
 

@@ -5,6 +5,7 @@
 mod agree;
 mod body;
 mod declare;
+mod fixed;
 mod function;
 mod initial;
 mod labels;

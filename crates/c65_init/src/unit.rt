@@ -10,6 +10,7 @@ ghost use Rattle.c65_init.specs.Declarations.{locals_of};
 ghost use Rattle.c65_init.specs.Units.{item_in, items_in, is_open_type, is_open_class, is_open_array, array_completed, arrays_completed, all_sized, unit_in};
 
 use crate::declare::{Locals, TentativeObject, declaration, needs_size};
+use crate::fixed::fix_locals;
 use crate::function::definition;
 use crate::settle::settle_functions;
 use c65_base::{Options, Refusal};
@@ -56,7 +57,7 @@ fn is_open_class(class: Class) -> bool
 {
     match class {
         Class::Tentative | Class::Static => true,
-        Class::External | Class::Declared | Class::Auto | Class::Register => false,
+        Class::External | Class::Declared | Class::Auto | Class::Register | Class::Fixed => false,
     }
 }
 
@@ -125,7 +126,7 @@ fn all_sized(scope: &Scope, definitions: &[TentativeObject]) -> Result<(), Refus
 /// The typed parts of a unit. Refuses its first fault in source order, with codes 301 and 303 to
 /// 334, and `Object`, `Members`, `Cases` and `ArgumentBytes`.
 pub fn elab_unit(alloc: Global, unit: &Unit, options: &Options) -> Result<TUnit, Refusal>
-    ensures exact { Gives (λ u. unit_of u) result (unit_in (v.unit_of unit.now) options.now.signed_chars) }
+    ensures exact { Gives (λ u. unit_of u) result (unit_in (v.unit_of unit.now) options.now) }
     ensures typed { IfOk result (λ u. IsUnit (unit_of u)) }
 {
     let mut scope = Scope::new(alloc, options)?;
@@ -134,6 +135,7 @@ pub fn elab_unit(alloc: Global, unit: &Unit, options: &Options) -> Result<TUnit,
     complete_arrays(&mut scope);
     all_sized(&scope, locals.tentative.as_slice())?;
     settle_functions(alloc, &mut scope)?;
+    fix_locals(alloc, &mut scope, options)?;
     match unit_from(alloc, scope.into_parts())? {
         Some(unit) => Ok(unit),
         None => Err(Refusal::OutOfMemory),

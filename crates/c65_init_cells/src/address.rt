@@ -25,7 +25,7 @@ fn is_static(parts: &Parts, number: u32) -> bool
 {
     match parts.objects.get(number as usize) {
         Some(object) => match object.class {
-            Class::Auto | Class::Register => false,
+            Class::Auto | Class::Register | Class::Fixed => false,
             Class::External | Class::Tentative | Class::Declared | Class::Static => true,
         },
         None => false,

@@ -111,7 +111,7 @@ pub fn is_external(object: &TObject) -> bool
 {
     match object.class {
         Class::External | Class::Tentative | Class::Declared => true,
-        Class::Static | Class::Auto | Class::Register => false,
+        Class::Static | Class::Auto | Class::Register | Class::Fixed => false,
     }
 }
 

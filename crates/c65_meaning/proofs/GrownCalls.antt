@@ -6,17 +6,18 @@ use Rattle.c65_ctype.specs.Trees.{Ty}
 use Rattle.c65_base.specs.declared.library.Library.{Library}
 use Rattle.c65_base.specs.declared.library.Library.TheVariants.{Putchar, Getchar, Puts, Exit, Memcpy, Memset, Strcmp, Strcpy, Strlen}
 use Rattle.c65_csem.specs.Trees.{Stmt, FuncTy, UnitTy}
-use Rattle.c65_meaning.specs.Why.{Why, ◌>>=◌}
+use Rattle.c65_meaning.specs.Why.{Why, ◌>>=◌, By}
 use Rattle.c65_meaning.specs.Store.{write, Value, Whole, Null, Place, Opaque, NoValue, Shape, Store}
 use Rattle.c65_meaning.specs.Shapes.{object_in, object_shape}
 use Rattle.c65_meaning.specs.Items.{Item, Busy}
-use Rattle.c65_meaning.specs.Costs.{soft_cost, argument_bytes}
-use Rattle.c65_meaning.specs.State.{State, Deep, Running, Scene, Frame, turned}
+use Rattle.c65_meaning.specs.Costs.{soft_cost, argument_bytes, has_fixed}
+use Rattle.c65_meaning.specs.State.{State, Deep, Running, Scene, Frame, turned, Undefined}
 use Rattle.c65_meaning.specs.After.{Left}
 use Rattle.c65_meaning.specs.Library.{Effect, effect_of, arg0, arg1, arg2, arg3, number_in, count_in, got, copied_area, filled_area, text_at, compared_texts, stores}
-use Rattle.c65_meaning.specs.Step.{put, begin_object, status_of, back_in, left_call, frames_below, without_frame, params_of, func_in, returned, behind, end_objects, finished, ended_or, library_call, served, called, accepted, allowed, unless_refused, call_of, invoked, unless_deep, with_params, new_frame, is_deep}
+use Rattle.c65_meaning.specs.Step.{put, begin_object, status_of, back_in, left_call, frames_below, without_frame, params_of, func_in, returned, behind, end_objects, finished, ended_or, library_call, served, called, accepted, allowed, unless_refused, call_of, invoked, unless_deep, with_params, new_frame, is_deep, is_active}
 use Rattle.c65_meaning.proofs.Blocks.{same_later, Keeps, KeepsIf, write_keeps, copied_keeps, filled_area_keeps}
 use Rattle.c65_meaning.proofs.Grown.{Grown, Same, SameIf, itself, same_twice, no_later, more_out, runs, turns_on, same, one_grows, if_grows, stored_same, then_same, begin_keeps, end_same}
+use Rattle.c65_meaning.specs.declared.action.Action.TheVariants.{FixedAgain}
 
 -- ---- ends of calls
 
@@ -169,7 +170,9 @@ new_frame_same : (u : UnitTy) (f cost : ℕ) (c : Scene) → Same c (new_frame u
 new_frame_same u f cost c = record { same_out = refl; same_turns = refl; names = record { later = omega arith; blocks = λ b small. same_later (c.store b) } }
 
 called_grows : (u : UnitTy) (f : ℕ) (types : List Ty) (args : List Value) (g : FuncTy) (body : Option Stmt) (l : Option Library) (k : List Item) (vs : List Value) (c : Scene) → Grown c (called u f types args g body l k vs c)
-called_grows u f types args g (Some body) l k vs c = unless_deep_grows c _ vs (with_params u g.params args (new_frame u f (soft_cost u (argument_bytes u types) body) (turned c))) (params_same u (turned c) g.params args (new_frame u f (soft_cost u (argument_bytes u types) body) (turned c)) (new_frame_same u f (soft_cost u (argument_bytes u types) body) (turned c)))
+called_grows u f types args g (Some body) l k vs c =
+    if_grows c (has_fixed u body && is_active f (turned c).frames) (Undefined (By FixedAgain)) _ tt
+    (unless_deep_grows c _ vs (with_params u g.params args (new_frame u f (soft_cost u (argument_bytes u types) body) (turned c))) (params_same u (turned c) g.params args (new_frame u f (soft_cost u (argument_bytes u types) body) (turned c)) (new_frame_same u f (soft_cost u (argument_bytes u types) body) (turned c))))
 called_grows u f types args g None (Some l) k vs c = served_grows l args k vs c (effect_of c l args)
 called_grows u f types args g None None k vs c = tt
 

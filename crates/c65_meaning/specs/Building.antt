@@ -5,7 +5,7 @@ use Rattle.c65_base.specs.declared.operators.StepKind.{StepKind}
 use Rattle.c65_ints.specs.declared.types.IntType.TheVariants as I
 use Rattle.c65_ctype.specs.Trees.{int, pointer, array, tag, function, QTy, Fn, fn, known, QTys, end, more, MemberTy, TypesTy}
 use Rattle.c65_base.specs.declared.library.Library.{Library}
-use Rattle.c65_csem.specs.declared.items.Class.TheVariants.{Static, Auto}
+use Rattle.c65_csem.specs.declared.items.Class.TheVariants.{Static, Auto, Fixed}
 use Rattle.c65_csem.specs.Trees.{Typed, node, constant, object, func, deref, member, load, address, decay, convert, binary, assign, step, call, Nodes, none, some, Stmt, set_part, block, return, Stmts, no_stmts, and_stmts, present, type_of, ObjectTy, FuncTy}
 use Rattle.c65_meaning.specs.Program.{ProgramTy}
 use Rattle.c65_csem.specs.Places.{plain}
@@ -127,6 +127,10 @@ initial i e = set_part i 0 e
 
 abbrev pub local : QTy → ObjectTy
 local t = record { name = record { 0 = 0 }; ty = t; class = Auto; init = None }
+
+-- an object of a block with one place for the whole run
+abbrev pub fixed : QTy → ObjectTy
+fixed t = record { name = record { 0 = 0 }; ty = t; class = Fixed; init = None }
 
 abbrev pub static : QTy → ObjectTy
 static t = record { name = record { 0 = 0 }; ty = t; class = Static; init = None }

@@ -6,7 +6,7 @@ use Rattle.c65_ints.specs.declared.types.IntType.TheVariants as I
 use Rattle.c65_base.specs.declared.library.Library.TheVariants as L
 use Rattle.c65_csem.specs.Trees.{Typed, node, literal, assign_op, copy, Stmt, eval, while, for_loop, switch, case, default, label, goto, break, if_stmt, empty, present}
 use Rattle.c65_meaning.specs.Program.{ProgramTy}
-use Rattle.c65_meaning.specs.Building.{integer, unsigned, character, structure, pointer_to, array_of, takes, byte_member, bit_field, one_structure, no_types, number, below_zero, place, value_of, value, at, first_of, as_type, member_of, with, beside, store, change, call_as, scope, give, initial, local, static, defined, provided, main_of, program_with, program_of}
+use Rattle.c65_meaning.specs.Building.{integer, unsigned, character, structure, pointer_to, array_of, takes, byte_member, bit_field, one_structure, no_types, number, below_zero, place, value_of, value, at, first_of, as_type, member_of, with, beside, store, change, call_as, scope, give, initial, local, fixed, static, defined, provided, main_of, program_with, program_of}
 
 -- int main(void) { int a = -32767-1; return a < 1; }
 abbrev pub least_below_one : ProgramTy
@@ -58,3 +58,7 @@ text l = first_of character (node (array_of 3 character) (literal l))
 -- int main(void) { return puts("hi") + strcmp("ab", "ad"); }
 abbrev pub library_calls : ProgramTy
 library_calls = program_with no_types ((104 ∷ 105 ∷ []) ∷ (97 ∷ 98 ∷ []) ∷ (97 ∷ 100 ∷ []) ∷ []) (local (pointer_to character) ∷ local (pointer_to character) ∷ []) (main_of (give (with Add (call_as 1 (takes (pointer_to character ∷ []) integer) integer (text 0 ∷ [])) (call_as 2 (takes (pointer_to character ∷ pointer_to character ∷ []) integer) integer (text 1 ∷ text 2 ∷ [])))) ∷ provided (takes (pointer_to character ∷ []) integer) (0 ∷ []) L.Puts ∷ provided (takes (pointer_to character ∷ pointer_to character ∷ []) integer) (0 ∷ 1 ∷ []) L.Strcmp ∷ [])
+
+-- int main(void) { char a[3000]; return 7; }, where `a` has one place for the whole run
+abbrev pub large_object : ProgramTy
+large_object = program_of (fixed (array_of 3000 character) ∷ []) (main_of (scope (0 ∷ []) (give (number 7) ∷ [])) ∷ [])

@@ -5,7 +5,7 @@ use Rattle.c65_ctype.specs.Trees.{Ty}
 use Rattle.c65_base.specs.declared.library.Library.{Library}
 use Rattle.c65_csem.specs.Trees.{MaybeTyped, absent, present, Stmt, FuncTy, UnitTy}
 use Rattle.c65_meaning.specs.Program.{ProgramTy}
-use Rattle.c65_meaning.specs.declared.action.Action.TheVariants.{OutsideObject, CalleeType, NoResult, PartialOverlap}
+use Rattle.c65_meaning.specs.declared.action.Action.TheVariants.{OutsideObject, CalleeType, NoResult, PartialOverlap, FixedAgain}
 use Rattle.c65_meaning.specs.Why.{Why, By, Unfit, ◌>>=◌}
 use Rattle.c65_meaning.specs.Integers.{truth}
 use Rattle.c65_meaning.specs.Store.{Store, Value, Whole, Null, Place, NoValue, Shape, read, write, carry, put_cell, byte, set_block, unset_block, end_block}
@@ -13,7 +13,7 @@ use Rattle.c65_meaning.specs.Operators.{unusable, truth_of, named_by, moved, con
 use Rattle.c65_meaning.specs.Shapes.{object_in, object_size, object_sealed, object_shape, lives_in_frame, object_block}
 use Rattle.c65_meaning.specs.Items.{Item, Loop, Push, Name, Follow, Move, Fetch, Keep, Change, Apply1, Apply2, Both, Either, Truth, Choose, Drop, Put, Peek, Bump, PutUnder, Carry, Invoke, Busy, Skip, Init, CarryInto, Wipe, Begin, End, Branch, Test, Pass, Enter, Next, Back, Check, Redo, Select, EndSwitch, Jump, LeaveLoop, GoOn, Give, GiveNothing, Leave, plan, plan_stmt, plan_stmts, head_of}
 use Rattle.c65_meaning.specs.After.{ToLabel, ToCase, ToDefault, Landing, or_else, after, Left, up_to_call, up_to_break, up_to_continue, without}
-use Rattle.c65_meaning.specs.Costs.{argument_bytes, soft_cost}
+use Rattle.c65_meaning.specs.Costs.{has_fixed, argument_bytes, soft_cost}
 use Rattle.c65_meaning.specs.State.{Frame, Scene, State, Undefined, Deep, Ended, Running, with_store, turned, soft_sum, hard_sum, block_in, name_object}
 use Rattle.c65_meaning.specs.Library.{Effect, effect_of, overlap}
 use Rattle.c65_meaning.specs.Calls.{accepts}
@@ -160,6 +160,11 @@ taken (t ∷ rest) args (v ∷ vs) = taken rest (v ∷ args) vs
 abbrev pub is_deep : List Frame → Bool
 is_deep frames = nat_lt 1984 (soft_sum frames) || nat_lt 224 (hard_sum frames)
 
+-- whether a call of the function is active
+abbrev pub is_active : ℕ → List Frame → Bool
+is_active f [] = false
+is_active f (frame ∷ frames) = frame.func == f || is_active f frames
+
 abbrev pub unless_deep : List Item → List Value → Result Scene Why → State
 unless_deep k vs (Err why) = Undefined why
 unless_deep k vs (Ok c) = if not c.free && is_deep c.frames then Deep else Running k vs c
@@ -195,8 +200,12 @@ module _ (u : UnitTy) where
   abbrev pub entered : ℕ → FuncTy → Stmt → ℕ → List Value → List Item → List Value → Scene → State
   entered f g body cost args k vs c = unless_deep (plan_stmt u 0 body (Leave ∷ k)) vs (with_params g.params args (new_frame f cost c))
 
+  -- a function with an object that has one place for the whole run is entered by one call at a time
+  abbrev pub entered_once : ℕ → FuncTy → Stmt → ℕ → List Value → List Item → List Value → Scene → State
+  entered_once f g body cost args k vs c = if has_fixed u body && is_active f c.frames then Undefined (By FixedAgain) else entered f g body cost args k vs c
+
   abbrev pub called : ℕ → List Ty → List Value → FuncTy → Option Stmt → Option Library → List Item → List Value → Scene → State
-  called f types args g (Some body) library k vs c = entered f g body (soft_cost u (argument_bytes u types) body) args k vs (turned c)
+  called f types args g (Some body) library k vs c = entered_once f g body (soft_cost u (argument_bytes u types) body) args k vs (turned c)
   called f types args g None (Some l) k vs c = served l args k vs c (effect_of c l args)
   called f types args g None None k vs c = Undefined Unfit
 

@@ -4,7 +4,7 @@ use Rattle.c65_base.specs.declared.operators.BinaryOp.TheVariants.{Add, Div, Shl
 use Rattle.c65_base.specs.declared.library.Library.TheVariants as L
 use Rattle.c65_csem.specs.Trees.{Typed, node, null, literal, copy, eval, label, goto, return, absent}
 use Rattle.c65_meaning.specs.Program.{ProgramTy}
-use Rattle.c65_meaning.specs.Building.{integer, unsigned, character, structure, pointer_to, array_of, takes, byte_member, one_structure, no_types, number, place, value_of, address_of, value, at, first_of, as_type, with, beside, store, call_as, scope, give, initial, local, defined, provided, main_of, program_with, program_of}
+use Rattle.c65_meaning.specs.Building.{integer, unsigned, character, structure, pointer_to, array_of, takes, byte_member, one_structure, no_types, number, place, value_of, address_of, value, at, first_of, as_type, with, beside, store, call_as, scope, give, initial, local, fixed, defined, provided, main_of, program_with, program_of}
 
 -- int main(void) { return 1 / 0; }
 abbrev pub by_zero : ProgramTy
@@ -77,3 +77,7 @@ jump_past_initialiser = program_of (local integer ∷ []) (main_of (scope [] (go
 -- int f(void) { char a[1000]; return f(); } int main(void) { return f(); }
 abbrev pub no_end_of_calls : ProgramTy
 no_end_of_calls = program_of (local (array_of 1000 character) ∷ []) (main_of (give (call_as 1 (takes [] integer) integer [])) ∷ defined (takes [] integer) [] (scope (0 ∷ []) (give (call_as 1 (takes [] integer) integer []) ∷ [])) ∷ [])
+
+-- int f(void) { int a; return f(); } int main(void) { return f(); }, where `a` has one place for the whole run
+abbrev pub entered_twice : ProgramTy
+entered_twice = program_of (fixed integer ∷ []) (main_of (give (call_as 1 (takes [] integer) integer [])) ∷ defined (takes [] integer) [] (scope (0 ∷ []) (give (call_as 1 (takes [] integer) integer []) ∷ [])) ∷ [])

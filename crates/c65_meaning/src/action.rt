@@ -31,6 +31,8 @@ pub enum Action {
     LibraryArgument,
     /// Assignment between structures or unions that overlap in part (C90 6.3.16.1).
     PartialOverlap,
+    /// A call of a function that has an object with one place for the whole run, while a call of it is active.
+    FixedAgain,
     /// Use of a pointer to an object whose life has ended (C90 6.1.2.4).
     EndedObject,
 }

@@ -1,7 +1,7 @@
 // Small programs whose meaning is computed: each function answers how its program ends.
 ghost use Rattle.std.specs.Prelude.{[], ◌∷◌};
 ghost use Rattle.c65_meaning.specs.Endings.{EndsAfter};
-ghost use Rattle.c65_meaning.specs.Samples.{least_below_one, counting_loop, arguments_in_order, left_before_call, negative_shifted, bit_fields, structure_copied, switch_in_loop, jumps_both_ways, second_argument, library_calls};
+ghost use Rattle.c65_meaning.specs.Samples.{least_below_one, counting_loop, arguments_in_order, left_before_call, negative_shifted, bit_fields, structure_copied, switch_in_loop, jumps_both_ways, second_argument, library_calls, large_object};
 
 use crate::action::Action;
 use crate::ending::Ending;
@@ -95,4 +95,11 @@ pub fn the_library_writes_and_compares() -> Ending
     ensures { EndsAfter library_calls [] [] 23 (104 ∷ 105 ∷ 10 ∷ []) 0 result }
 {
     Ending::Status(254) // 0 + (98 - 100)
+}
+
+/// `int main(void){char a[3000];return 7;}`, where `a` has one place for the whole run
+pub fn a_large_object_takes_none_of_the_stack() -> Ending
+    ensures { EndsAfter large_object [] [] 2 [] 0 result }
+{
+    Ending::Status(7)
 }

@@ -1,7 +1,7 @@
 // One program for each undefined action, and one that calls too deep.
 ghost use Rattle.std.specs.Prelude.{[], ◌∷◌};
 ghost use Rattle.c65_meaning.specs.Endings.{EndsAfter};
-ghost use Rattle.c65_meaning.specs.UndefinedSamples.{by_zero, shift_by_width, unset_integer, null_followed, element_read, order_across, literal_written, address_added_to, end_met, misfit, missing_result, length_of_null, overlapping_copy, pointer_left, jump_past_initialiser, no_end_of_calls};
+ghost use Rattle.c65_meaning.specs.UndefinedSamples.{by_zero, shift_by_width, unset_integer, null_followed, element_read, order_across, literal_written, address_added_to, end_met, misfit, missing_result, length_of_null, overlapping_copy, pointer_left, jump_past_initialiser, no_end_of_calls, entered_twice};
 
 use crate::action::Action;
 use crate::ending::Ending;
@@ -123,4 +123,11 @@ pub fn calls_without_end() -> Ending
     ensures { EndsAfter no_end_of_calls [] [] 6 [] 0 result }
 {
     Ending::TooDeep
+}
+
+/// `int f(void){int a;return f();} int main(void){return f();}`, where `a` has one place for the whole run
+pub fn a_function_entered_again() -> Ending
+    ensures { EndsAfter entered_twice [] [] 6 [] 0 result }
+{
+    Ending::Undefined(Action::FixedAgain)
 }

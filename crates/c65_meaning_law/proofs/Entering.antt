@@ -1,6 +1,8 @@
 -- A function is entered: each parameter begins with its argument.
-use Rattle.std.proofs.Common.{ℕ, true, List, [], ◌∷◌}
-use Rattle.std.specs.Prelude.{All, ⊤}
+use Rattle.std.proofs.Common.{ℕ, true, List, [], ◌∷◌, false, ◌≡◌, refl}
+use Rattle.std.specs.Prelude.{All, ⊤, IsTrue}
+use Rattle.c65_csem.specs.declared.items.Class.{Class}
+use Rattle.c65_csem.specs.declared.items.Class.TheVariants as classes
 use Rattle.c65_csem.specs.Trees.{UnitTy}
 use Rattle.c65_csem.specs.Units.{IsParam}
 use Rattle.c65_meaning.specs.Program.{ProgramTy}
@@ -17,13 +19,23 @@ use Rattle.c65_meaning_law.proofs.Scopes.{Grows, grows_same, grows_on, grows, bl
 use Rattle.c65_meaning_law.proofs.Statements.{stands_on}
 use Rattle.c65_meaning_law.proofs.StatementSteps.{moves_here, stands_here, fits_here}
 use Rattle.c65_meaning_law.proofs.Arguments.{Enough}
+use Rattle.c65_csem.specs.Places.{is_framed, is_automatic}
 
 abbrev pub AllStand : (ℕ → Type 0) → List Value → Type 0
 AllStand D [] = ⊤
 AllStand D (v ∷ vs) = Stands D v × AllStand D vs
 
+framed_automatic : (c : Class) → IsTrue (is_framed c) → IsTrue (is_automatic c)
+framed_automatic classes.Auto h = refl
+framed_automatic classes.Register h = refl
+framed_automatic classes.External h = absurd (let x : false ≡ true = h in cc)
+framed_automatic classes.Tentative h = absurd (let x : false ≡ true = h in cc)
+framed_automatic classes.Declared h = absurd (let x : false ≡ true = h in cc)
+framed_automatic classes.Static h = absurd (let x : false ≡ true = h in cc)
+framed_automatic classes.Fixed h = absurd (let x : false ≡ true = h in cc)
+
 pub automatic_params : (u : UnitTy) (params : List ℕ) → All (IsParam u) params → AreAutomatic u params
-automatic_params u params h = automatic_of u params (λ k d l. let q = h k d l in (q.object, q.automatic))
+automatic_params u params h = automatic_of u params (λ k d l. let q = h k d l in (q.object, (q.framed.0, framed_automatic q.object.class q.framed.1)))
 
 module _ (p : ProgramTy) where
   all_stand_on : (c e : Scene) → Grows p.unit c e → (vs : List Value) → AllStand (D p.unit c) vs → AllStand (D p.unit e) vs

@@ -15,16 +15,16 @@ use Rattle.c65_csem.specs.Statements as st
 use Rattle.c65_csem.specs.Statements.{CanBreak}
 use Rattle.c65_csem.specs.Units.{IsFunc, HasBody, IsBody, MatchParams, IsLinked, IsWhole, IsProgram, context_of}
 use Rattle.c65_meaning.specs.Program.{ProgramTy}
-use Rattle.c65_meaning.specs.declared.action.Action.TheVariants.{CalleeType, NoResult}
+use Rattle.c65_meaning.specs.declared.action.Action.TheVariants.{CalleeType, NoResult, FixedAgain}
 use Rattle.c65_meaning.specs.Why.{Why, By, Unfit}
 use Rattle.c65_meaning.specs.Store.{Value, Whole, Null, Place, Opaque, NoValue}
 use Rattle.c65_meaning.specs.Shapes.{object_in, lives_in_frame, literal_block, object_block}
 use Rattle.c65_meaning.specs.Items.{Item, Invoke, Leave, plan_stmt}
-use Rattle.c65_meaning.specs.Costs.{argument_bytes, soft_cost}
+use Rattle.c65_meaning.specs.Costs.{argument_bytes, soft_cost, has_fixed}
 use Rattle.c65_meaning.specs.Calls.{passed_to, fit_definition, accepts}
 use Rattle.c65_meaning.specs.Library.{effect_of}
-use Rattle.c65_meaning.specs.State.{Frame, Scene, State, Deep, Running, turned, block_in}
-use Rattle.c65_meaning.specs.Step.{place_in, are_values, is_deep, unless_deep, new_frame, with_params, entered, called, unless_refused, accepted, call_of, invoked, served, func_in, frames_below, perform}
+use Rattle.c65_meaning.specs.State.{Frame, Scene, State, Deep, Running, turned, block_in, Undefined}
+use Rattle.c65_meaning.specs.Step.{place_in, are_values, is_deep, unless_deep, new_frame, with_params, entered, called, unless_refused, accepted, call_of, invoked, served, func_in, frames_below, perform, is_active}
 use Rattle.c65_csem_names.specs.Scopes.{IsInScope, IsScoped, IsScopedBody, HasScopedBody, entering}
 use Rattle.c65_csem_names.specs.Library.{IsTypedAs, HasLibraryType}
 use Rattle.c65_csem_names.specs.Programs.{IsScopedProgram}
@@ -197,8 +197,13 @@ module _ (p : ProgramTy) (w : IsProgram p.unit p.main) (s : IsScopedProgram p.un
           library_kind char the.Strcpy = refl
           library_kind char the.Strlen = refl
 
+      once_well : (again : Bool) (x : State) → IsWell p.unit x → IsWell p.unit (if again then Undefined (By FixedAgain) else x)
+      once_well true x h = tt
+      once_well false x h = h
+
       calls : (f : ℕ) (g : FuncTy) (body : Option Stmt) (library : Option Library) → slice_get p.unit.funcs f ≡ Some g → g.body ≡ body → g.library ≡ library → fit_definition p.unit types g.params g.ty ≡ true → Gives (kind_given g.ty) (Takes (inside call) p.unit c k) ks → IsWell p.unit (called p.unit f types args g body library k vs d)
-      calls f g (Some body) library m j l o t = enters f g body (soft_cost p.unit (argument_bytes p.unit types) body) m j (enough_of g.ty g.params types args (body_typed f g body m j).prototype o given) t
+      calls f g (Some body) library m j l o t =
+          once_well (has_fixed p.unit body && is_active f (turned d).frames) _ (enters f g body (soft_cost p.unit (argument_bytes p.unit types) body) m j (enough_of g.ty g.params types args (body_typed f g body m j).prototype o given) t)
       calls f g None (Some x) m j l o t = serves s.library.0 x g (subst (λ (y : Option Library). IsTypedAs s.library.0 y g.ty) l (all_at (HasLibraryType s.library.0) p.unit.funcs f g s.library.1 m)) o t
       calls f g None None m j l o t = absurd (subst (λ (y : Option Library). IsWhole None y) l (subst (λ (x : Option Stmt). IsWhole x g.library) j (all_at IsLinked p.unit.funcs f g w.funcs m)))
 
