@@ -6,6 +6,7 @@ use Rattle.c65_ctype.specs.Trees.{Ty, Fn, fn, unknown, known}
 use Rattle.c65_ctype.specs.Views.{types_of}
 use Rattle.c65_csem.specs.declared.items.Parts.{Parts}
 use Rattle.c65_csem.specs.Trees.{Stmt, FuncTy}
+use Rattle.c65_csem.specs.Places.{is_fixed_object}
 use Rattle.c65_csem.specs.Views.{func_of}
 use Rattle.c65_csem_need.specs.Needs.{greatest_need}
 use Rattle.c65_genframe.specs.declared.modes.Modes.{Modes}
@@ -66,10 +67,14 @@ home_at low homes i = if nat_le low i then flat (slice_get homes (i - low)) else
 
 -- ---- the check of the stacks
 
+-- the bytes that an object takes of the frame: none where it has one place for the whole run
+abbrev pub framed_bytes : Parts → ℕ → ℕ
+framed_bytes parts i = if is_fixed_object (object_in parts i) then 0 else object_bytes (types_of parts.types) (object_in parts i)
+
 -- the bytes of objects
 abbrev pub all_bytes : Parts → List ℕ → ℕ
 all_bytes parts [] = 0
-all_bytes parts (i ∷ objects) = object_bytes (types_of parts.types) (object_in parts i) + all_bytes parts objects
+all_bytes parts (i ∷ objects) = framed_bytes parts i + all_bytes parts objects
 
 abbrev pub waiting_in : Option Stmt → ℕ
 waiting_in None = 0

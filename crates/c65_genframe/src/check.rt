@@ -2,18 +2,28 @@
 ghost use Rattle.std.specs.Prelude.{◌≡◌, ◌+◌, ◌*◌, min};
 ghost use Rattle.c65_csem.specs.Views.{func_of};
 ghost use Rattle.c65_genframe.specs.Objects.{locals_of};
-ghost use Rattle.c65_genframe.specs.Frames.{all_bytes, waiting_in, asked_bytes, last_bytes, has_prototype, register_param};
+ghost use Rattle.c65_genframe.specs.Frames.{framed_bytes, all_bytes, waiting_in, asked_bytes, last_bytes, has_prototype, register_param};
 
-use crate::sizes::object_bytes;
+use crate::sizes::{is_fixed, object_bytes};
 use c65_csem::{Parts, TFunc};
 use c65_csem_need::greatest_need;
+
+fn framed_bytes(parts: &Parts, object: u32) -> u32
+    ensures { result ≡ framed_bytes parts.now object }
+{
+    if is_fixed(parts, object) {
+        0
+    } else {
+        object_bytes(parts, object)
+    }
+}
 
 fn all_bytes(parts: &Parts, objects: &[u32]) -> u32
     ensures { result ≡ min (all_bytes parts.now objects.now) 4294967295 }
 {
     let mut bytes: u32 = 0;
     for object in objects {
-        bytes = bytes.saturating_add(object_bytes(parts, *object));
+        bytes = bytes.saturating_add(framed_bytes(parts, *object));
     }
     bytes
 }

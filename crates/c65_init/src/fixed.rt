@@ -82,7 +82,7 @@ pub fn fix_locals(alloc: Global, scope: &mut Scope, options: &Options) -> Result
     if !options.static_locals {
         return Ok(());
     }
-    let marks = parameter_marks(alloc, scope.parts())?;
+    let marks = parameter_marks(alloc, &scope.parts)?;
     fix_objects(&mut scope.parts.objects, &marks, options.register_vars);
     Ok(())
 }
