@@ -37,8 +37,8 @@ fn waiting_in(function: &TFunc) -> u32
     }
 }
 
-/// How many bytes of the software stack the entry of a function asks for where it checks the stacks: those of `locals`, its
-/// automatic objects, six, eight for each value that waits at once, and `last`, those of the parameter that arrives in registers.
+/// How many bytes of the software stack the entry of a function asks for where it checks the stacks: those of `locals`, the
+/// objects of its blocks, six, eight for each value that waits at once, and `last`, those of the parameter that arrives in registers.
 /// At most 65,535; it takes no memory.
 pub fn asked_bytes(parts: &Parts, function: &TFunc, locals: &[u32], last: u32) -> u16
     requires locals { locals.now ≡ locals_of (func_of function.now) }
