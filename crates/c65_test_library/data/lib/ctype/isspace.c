@@ -1,0 +1,7 @@
+/* Is it white space? */
+#include <ctype.h>
+
+int isspace(int c)
+{
+    return c == ' ' || (unsigned)c - '\t' < 5;
+}

@@ -1,0 +1,7 @@
+/* The amount of a number. */
+#include <stdlib.h>
+
+long labs(long n)
+{
+    return n < 0 ? -n : n;
+}
