@@ -85,17 +85,26 @@ fn show_frame(
             println!(rt; "bank, soft and stacked {sizes:?}")?;
             let raised = (frame.is_raised(2), frame.is_raised(4));
             println!(rt; "raised {raised:?} variadic {}", frame.is_variadic())?;
+            println!(rt; "check {:?}", frame.check())?;
         }
         Err(refusal) => println!(rt; "{refusal}")?,
     }
     Ok(())
 }
 
-/// With `register` honoured or not.
+/// With `register` honoured or not, and the stacks not checked.
 fn honoured(honoured: bool) -> Modes {
     Modes {
         honoured,
         checked: false,
+    }
+}
+
+/// With the stacks checked, and `register` honoured or not.
+fn checked(honoured: bool) -> Modes {
+    Modes {
+        honoured,
+        checked: true,
     }
 }
 
@@ -118,6 +127,8 @@ pub fn show_frames(rt: &HostRuntime) -> Result<(), anyhow::Error> {
     println!(rt; "= frames")?;
     show_frame(rt, &parts(alloc)?, &function(alloc, false)?, honoured(true))?;
     show_frame(rt, &parts(alloc)?, &function(alloc, true)?, honoured(false))?;
+    show_frame(rt, &parts(alloc)?, &function(alloc, false)?, checked(true))?;
+    show_frame(rt, &parts(alloc)?, &function(alloc, true)?, checked(false))?;
     show_frame(
         rt,
         &large_parts(alloc)?,

@@ -12,6 +12,7 @@ const NAMES: [&str; 12] = [
     "tosugeeax",
     "asreax1",
     "callptr4",
+    "stkchk",
     "putchar",
     "hookexit",
     "pushax0",
