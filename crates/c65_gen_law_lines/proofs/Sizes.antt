@@ -125,7 +125,7 @@ taken_few true soft le = omega (arith, le)
 taken_few false soft le = le
 
 checked_size : (check : Option ℕ) → Takes 15 (checked_code check)
-checked_size None = takes_wider takes_none (omega arith)
+checked_size None = record { size = omega arith }
 checked_size (Some c) = record { size = omega arith }
 
 taking_size : (f : Framed) → f.soft ≤ 1025 → Takes (39 + 19 * length f.moved) (taking_code f)
