@@ -1,5 +1,5 @@
 -- Which modes the operations of each kind have, and what numbers their operands are.
-use Rattle.std.proofs.Common.{◌≡◌, ℕ, ◌+◌, ◌%◌, ◌/◌, ◌<◌, ◌||◌, ◌⊎◌, inl, inr, Bool, true, false, List, slice_index, refl, ap, sym, ◌∙◌, arith}
+use Rattle.std.proofs.Common.{◌≡◌, ℕ, ◌+◌, ◌%◌, ◌/◌, ◌<◌, ◌||◌, ◌⊎◌, inl, inr, Bool, true, false, List, Option, Some, None, slice_index, refl, ap, sym, ◌∙◌, arith}
 use Rattle.std.proofs.lemmas.Bool.{or_cases}
 use Rattle.c65_mach.specs.declared.rows.Op.{Op}
 use Rattle.c65_mach.specs.declared.rows.Op.TheVariants as ops
@@ -13,6 +13,7 @@ use Rattle.c65_code.specs.declared.line.Operand.TheVariants as operands
 use Rattle.c65_code.specs.Placement.{Placement, word_of}
 use Rattle.c65_code.specs.Segments.{is_common, is_stored, is_counted, is_shifted, is_loaded_x, is_loaded_y, is_stored_x, is_stored_y, is_index_compared, is_tested, is_implied, is_nmos_row, is_added_row, has_row, is_address, takes}
 use Rattle.c65_link.specs.Bytes.{Spot}
+use Rattle.c65_link.specs.Symbols.{operand_symbol}
 use Rattle.c65_link_law.specs.Coded.{word_at}
 use Rattle.c65_link_law_follow.specs.Laid.{IsOperandNumber}
 use Rattle.c65_link_law_follow.proofs.Bytes.{HasOperand}
@@ -279,11 +280,11 @@ given op AbsoluteY _ k has t n = absurd cc
 given op _ operand k has t n = absurd has
 
 -- an operand that is no label stands for the number that the code has
-pub operand_word : (place : Placement) (spot : Spot) (operand : Operand) → ((sym : Sym) → slice_index spot.symbols sym.0 ≡ place.address sym.0) → IsNoLabel operand → word_at spot operand ≡ word_of place operand
+pub operand_word : (place : Placement) (spot : Spot) (operand : Operand) → ((sym : Sym) → operand_symbol operand ≡ Some sym → slice_index spot.symbols sym.0 ≡ place.address sym.0) → IsNoLabel operand → word_at spot operand ≡ word_of place operand
 operand_word place spot operands.Nothing symbols plain = refl
 operand_word place spot (operands.Byte v) symbols plain = refl
-operand_word place spot (operands.Low s o) symbols plain = ap (λ (n : ℕ). (n + o) % 65536 % 256) (symbols s)
-operand_word place spot (operands.High s o) symbols plain = ap (λ (n : ℕ). (n + o) % 65536 / 256) (symbols s)
+operand_word place spot (operands.Low s o) symbols plain = ap (λ (n : ℕ). (n + o) % 65536 % 256) (symbols s refl)
+operand_word place spot (operands.High s o) symbols plain = ap (λ (n : ℕ). (n + o) % 65536 / 256) (symbols s refl)
 operand_word place spot (operands.Zero i) symbols plain = refl
-operand_word place spot (operands.At s o) symbols plain = ap (λ (n : ℕ). (n + o) % 65536) (symbols s)
+operand_word place spot (operands.At s o) symbols plain = ap (λ (n : ℕ). (n + o) % 65536) (symbols s refl)
 operand_word place spot (operands.To l) symbols plain = absurd plain

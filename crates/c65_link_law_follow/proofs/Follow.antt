@@ -1,5 +1,5 @@
 -- Each line that stays within its bounds is followed by one row or two.
-use Rattle.std.proofs.Common.{◌≡◌, ◌≢◌, ℕ, suc, ◌+◌, ◌*◌, ◌%◌, ◌/◌, ◌-◌, ◌<◌, ◌≤◌, ◌&&◌, ◌||◌, ◌⊎◌, inl, inr, Bool, true, false, not, if◌then◌else◌, IsTrue, List, [], ◌∷◌, length, Option, Some, None, slice_get, ap, sym, refl, subst, ◌∙◌, arith}
+use Rattle.std.proofs.Common.{◌≡◌, ◌≢◌, ℕ, suc, ◌+◌, ◌*◌, ◌%◌, ◌/◌, ◌-◌, ◌<◌, ◌≤◌, ◌&&◌, ◌||◌, ◌⊎◌, inl, inr, Bool, true, false, not, if◌then◌else◌, IsTrue, List, [], ◌∷◌, length, Option, Some, None, slice_get, slice_index, ap, sym, refl, subst, ◌∙◌, arith}
 use Rattle.std.proofs.lemmas.Bool.{and_parts, or_cases}
 use Rattle.c65_base.specs.declared.options.Cpu.{Cpu}
 use Rattle.c65_base.specs.declared.options.Cpu.TheVariants.{Nmos, Cmos}
@@ -8,7 +8,7 @@ use Rattle.c65_mach.specs.declared.rows.Op.TheVariants as ops
 use Rattle.c65_mach.specs.declared.rows.Mode.{Mode}
 use Rattle.c65_mach.specs.declared.rows.Mode.TheVariants.{Implied, Accumulator, Immediate, ZeroPage, ZeroPageX, ZeroPageY, Absolute, AbsoluteX, AbsoluteY, IndirectX, IndirectY, Indirect, Relative, ZeroPageIndirect, AbsoluteIndirectX}
 use Rattle.c65_mach.specs.State.{Regs, State as Machine}
-use Rattle.c65_mach.specs.Step.{after, size_of, branched, is_taken, Kind, Reads, Stores, Changes, Branches, Registers, Moves, kind_of}
+use Rattle.c65_mach.specs.Step.{after, size_of, branched, is_taken, Kind, Reads, Stores, Changes, Branches, Registers, Moves, kind_of, with_a}
 use Rattle.c65_mach.specs.Run.{Setting, Moment}
 use Rattle.c65_code.specs.declared.routine.Routine.{Routine}
 use Rattle.c65_code.specs.declared.routine.Routine.TheVariants as routines
@@ -29,6 +29,7 @@ use Rattle.c65_code.specs.Moves.{ref_of, effect, labelled, settle, next}
 use Rattle.c65_code.specs.RawMachine.{RawSetting, Bounds, IsRawOpen, HasFrame, IsHookWithin, IsRawWithin, RawGoes, RawRuns, RawEnters, RawReturns, raw_weight, hook_row, called, line_after, entry_of, target_of}
 use Rattle.c65_link.specs.Opcodes.{opcode_of, opposite_of}
 use Rattle.c65_link.specs.Bytes.{Spot, instruction, operand_bytes, word_bytes, callee_address}
+use Rattle.c65_link.specs.Symbols.{operand_symbol}
 use Rattle.c65_link.proofs.TableLaws.{opposites_differ}
 use Rattle.c65_link_law.specs.Coded.{Memory, Stands, label_at, word_at, IsBranch, short, long, IsInstruction, IsCoded}
 use Rattle.c65_link_law_follow.specs.Agree.{Ground, Agrees, Goes, none, more, Arrives}
@@ -67,6 +68,7 @@ record Stood (g : Ground) (s : RawSetting) (f p : ℕ) (spot : Spot) (op : Op) (
   fits : takes op mode operand ≡ true
   number : IsOperandNumber operand
   coded : IsInstruction g.byte spot (g.at (f, p)) (g.at (f, suc p)) op mode operand
+  symbols : (sym : Sym) → operand_symbol operand ≡ Some sym → slice_index spot.symbols sym.0 ≡ g.place.address sym.0
 
 own_by : (cpu : Cpu) (op : Op) (mode : Mode) (operand : Operand) → IsLineOf cpu (Do op mode operand) → cpu ≡ Nmos → not (is_added_row op mode) ≡ true
 own_by Nmos op mode operand h e = h
@@ -82,6 +84,7 @@ stood g s f p op mode operand laid here =
       fits = rest.0;
       number = laid.numbers p (Do op mode operand) here;
       coded = laid.coded p (Do op mode operand) here;
+      symbols = λ sym e. laid.symbols p (Do op mode operand) sym here e;
     }
 
 here_at : (g : Ground) (s : RawSetting) (at to : ℕ) (op : Op) (mode : Mode) → IsGround g s → HasRowOn g.cpu op mode → g.byte at ≡ opcode_of op mode → 512 ≤ at → at + size_of mode ≤ to → to ≤ g.end → Here g at op mode
@@ -106,7 +109,7 @@ given_there : (g : Ground) (s : RawSetting) (bounds : Bounds) (f p : ℕ) (op : 
 given_there g s bounds f p op mode operand t ground laid st k has is_open =
     let c = is_plain mode g.byte laid.spot (g.at (f, p)) (g.at (f, suc p)) op operand (not_relative mode has) st.coded in
     let it : IsGiven mode operand = given op mode operand k has st.fits st.number in
-    let word : word_at laid.spot operand ≡ word_of g.place operand = operand_word g.place laid.spot operand laid.symbols it.plain in
+    let word : word_at laid.spot operand ≡ word_of g.place operand = operand_word g.place laid.spot operand st.symbols it.plain in
     record {
       here = here_at g s (g.at (f, p)) (g.at (f, suc p)) op mode ground st.own c.0.0 (ground.from (f, p)) (same_or_more (g.at (f, p)) (g.at (f, suc p)) (size_of mode) c.1) (ground.to (f, suc p));
       rest = subst (λ (w : ℕ). Stands g.byte (g.at (f, p) + 1) (operand_bytes mode w)) word c.0.1;
@@ -138,26 +141,26 @@ register_line g s setting f p op mode operand t now ground laid st k a =
 
 -- the kinds of plain lines
 data IsPlainKind : Kind → Type 0 where
-  reads : IsPlainKind Reads
-  stores : IsPlainKind Stores
-  changes : IsPlainKind Changes
-  registers : IsPlainKind Registers
+  it_reads : IsPlainKind Reads
+  it_stores : IsPlainKind Stores
+  it_changes : IsPlainKind Changes
+  it_registers : IsPlainKind Registers
 
 plain_line : (g : Ground) (s : RawSetting) (setting : Setting) (bounds : Bounds) (f p : ℕ) (k : Kind) (op : Op) (mode : Mode) (operand : Operand) (t : State) (now : Moment) → IsGround g s → (laid : IsLaid g s f) → stack_start ≤ bounds.soft
     → Stood g s f p laid.spot op mode operand → IsPlainKind k → kind_of op ≡ k → IsRawOpen g.place bounds (ref_of mode (word_of g.place operand) t)
     → Agrees g (g.at (f, p)) t now → Moved g setting (g.at (f, suc p)) (effect k op mode (word_of g.place operand) t) now
-plain_line g s setting bounds f p _ op mode operand t now ground laid soft st reads k is_open a =
+plain_line g s setting bounds f p _ op mode operand t now ground laid soft st it_reads k is_open a =
     let has : HasOperand mode = reads_fit op mode k st.row in
     do_reads g s setting bounds (g.at (f, p)) (g.at (f, suc p)) op mode (word_of g.place operand) t now ground soft a k has (given_there g s bounds f p op mode operand t ground laid st (no_move op Reads k (λ e. absurd cc)) has is_open)
-plain_line g s setting bounds f p _ op mode operand t now ground laid soft st stores k is_open a =
+plain_line g s setting bounds f p _ op mode operand t now ground laid soft st it_stores k is_open a =
     let fits : IsStorable mode = stores_fit op mode k st.row in
     do_stores g s setting bounds (g.at (f, p)) (g.at (f, suc p)) op mode (word_of g.place operand) t now ground soft a k fits (given_there g s bounds f p op mode operand t ground laid st (no_move op Stores k (λ e. absurd cc)) (has_operand mode fits) is_open)
-plain_line g s setting bounds f p _ op mode operand t now ground laid soft st changes k is_open a = by (changes_fit op mode k st.row)
+plain_line g s setting bounds f p _ op mode operand t now ground laid soft st it_changes k is_open a = by (changes_fit op mode k st.row)
   where
     by : (mode ≡ Accumulator) ⊎ IsStorable mode → Moved g setting (g.at (f, suc p)) (effect Changes op mode (word_of g.place operand) t) now
     by (inl is) = accumulator_line g s setting f p op mode operand t now ground laid st k is a
     by (inr fits) = do_changes g s setting bounds (g.at (f, p)) (g.at (f, suc p)) op mode (word_of g.place operand) t now ground soft a k fits (given_there g s bounds f p op mode operand t ground laid st (no_move op Changes k (λ e. absurd cc)) (has_operand mode fits) is_open)
-plain_line g s setting bounds f p _ op mode operand t now ground laid soft st registers k is_open a = register_line g s setting f p op mode operand t now ground laid st k a
+plain_line g s setting bounds f p _ op mode operand t now ground laid soft st it_registers k is_open a = register_line g s setting f p op mode operand t now ground laid st k a
 
 -- its place and state
 plain_goes : (g : Ground) (s : RawSetting) (setting : Setting) (f p : ℕ) (k : Kind) (op : Op) (mode : Mode) (operand : Operand) (t : State) (now : Moment) → IsGround g s → (laid : IsLaid g s f) → kind_of op ≡ k
@@ -343,7 +346,7 @@ pull_line g s setting bounds f p mode operand t now ground laid here within a =
     let st : Stood g s f p laid.spot ops.Pla mode operand = stood g s f p ops.Pla mode operand laid here in
     let h = implied_here g s f p ops.Pla mode operand ground laid st (implied_is mode (plain_row mode st.row)) in
     let m = do_pull g setting (g.at (f, p)) (g.at (f, suc p)) within.0 within.1 t now a h.0 h.1 within.2 in
-    on_next g s setting f p _ now Pull t laid (refl, within.0, within.1, within.2, refl) m
+    on_next g s setting f p (record t { regs = with_a within.0 t.regs; pushed = within.1 }) now Pull t laid (refl, (within.0, within.1, within.2, refl)) m
   where
     plain_row : (mode : Mode) → has_row ops.Pla mode ≡ true → is_implied mode ≡ true
     plain_row Implied e = refl
@@ -439,13 +442,13 @@ do_line : (g : Ground) (s : RawSetting) (setting : Setting) (bounds : Bounds) (f
     → IsCounted g (op_form k op mode operand) → IsRawWithin s bounds (op_form k op mode operand) t → Agrees g (g.at (f, p)) t now
     → Arrives g setting (raw_weight (op_form k op mode operand)) now (RawGoes s (op_form k op mode operand) (f, p) t)
 do_line g s setting bounds f p Reads op mode operand t now ground laid here k soft counted within a =
-    plain_goes g s setting f p Reads op mode operand t now ground laid k (plain_line g s setting bounds f p Reads op mode operand t now ground laid soft (stood g s f p op mode operand laid here) reads k (subst (λ (x : Placement). IsRawOpen x bounds (ref_of mode (word_of x operand) t)) ground.place within) a)
+    plain_goes g s setting f p Reads op mode operand t now ground laid k (plain_line g s setting bounds f p Reads op mode operand t now ground laid soft (stood g s f p op mode operand laid here) it_reads k (subst (λ (x : Placement). IsRawOpen x bounds (ref_of mode (word_of x operand) t)) ground.place within) a)
 do_line g s setting bounds f p Stores op mode operand t now ground laid here k soft counted within a =
-    plain_goes g s setting f p Stores op mode operand t now ground laid k (plain_line g s setting bounds f p Stores op mode operand t now ground laid soft (stood g s f p op mode operand laid here) stores k (subst (λ (x : Placement). IsRawOpen x bounds (ref_of mode (word_of x operand) t)) ground.place within) a)
+    plain_goes g s setting f p Stores op mode operand t now ground laid k (plain_line g s setting bounds f p Stores op mode operand t now ground laid soft (stood g s f p op mode operand laid here) it_stores k (subst (λ (x : Placement). IsRawOpen x bounds (ref_of mode (word_of x operand) t)) ground.place within) a)
 do_line g s setting bounds f p Changes op mode operand t now ground laid here k soft counted within a =
-    plain_goes g s setting f p Changes op mode operand t now ground laid k (plain_line g s setting bounds f p Changes op mode operand t now ground laid soft (stood g s f p op mode operand laid here) changes k (subst (λ (x : Placement). IsRawOpen x bounds (ref_of mode (word_of x operand) t)) ground.place within) a)
+    plain_goes g s setting f p Changes op mode operand t now ground laid k (plain_line g s setting bounds f p Changes op mode operand t now ground laid soft (stood g s f p op mode operand laid here) it_changes k (subst (λ (x : Placement). IsRawOpen x bounds (ref_of mode (word_of x operand) t)) ground.place within) a)
 do_line g s setting bounds f p Registers op mode operand t now ground laid here k soft counted within a =
-    plain_goes g s setting f p Registers op mode operand t now ground laid k (plain_line g s setting bounds f p Registers op mode operand t now ground laid soft (stood g s f p op mode operand laid here) registers k (subst (λ (x : Placement). IsRawOpen x bounds (ref_of mode (word_of x operand) t)) ground.place within) a)
+    plain_goes g s setting f p Registers op mode operand t now ground laid k (plain_line g s setting bounds f p Registers op mode operand t now ground laid soft (stood g s f p op mode operand laid here) it_registers k (subst (λ (x : Placement). IsRawOpen x bounds (ref_of mode (word_of x operand) t)) ground.place within) a)
 do_line g s setting bounds f p Branches op mode operand t now ground laid here k soft counted within a = branches_line g s setting bounds f p op mode operand t now ground laid here k within a
 do_line g s setting bounds f p Moves op mode operand t now ground laid here k soft counted within a = moves_line g s setting bounds f p op mode operand t now ground laid here counted within a
 

@@ -4,3 +4,4 @@ pub mod Fits
 pub mod Local
 pub mod Stack
 pub mod Follow
+pub mod Counting

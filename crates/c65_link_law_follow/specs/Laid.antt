@@ -18,6 +18,7 @@ use Rattle.c65_code.specs.Processors.{is_nmos_line}
 use Rattle.c65_code.specs.Moves.{labelled, settle}
 use Rattle.c65_code.specs.RawMachine.{RawSetting, target_of, entry_of}
 use Rattle.c65_link.specs.Bytes.{Spot, callee_address}
+use Rattle.c65_link.specs.Symbols.{line_symbol}
 use Rattle.c65_link_law.specs.Coded.{label_at, IsCoded}
 use Rattle.c65_link_law_follow.specs.Agree.{Ground}
 
@@ -57,7 +58,7 @@ pub record IsLaid (g : Ground) (s : RawSetting) (f : ℕ) : Type 0 where
   pub coded : (p : ℕ) (l : Line) → slice_get (s.lines f) p ≡ Some l → IsCoded g.byte spot (g.at (f, p)) (g.at (f, suc p)) l
   pub settled : (p : ℕ) → g.at (f, settle (s.lines f) p) ≡ g.at (f, p)
   pub labels : (l : ℕ) → IsTrue (is_among (labels_of (s.lines f)) l) → label_at spot l ≡ g.at (f, labelled (s.lines f) l)
-  pub symbols : (sym : Sym) → slice_index spot.symbols sym.0 ≡ g.place.address sym.0
+  pub symbols : (p : ℕ) (l : Line) (sym : Sym) → slice_get (s.lines f) p ≡ Some l → line_symbol l ≡ Some sym → slice_index spot.symbols sym.0 ≡ g.place.address sym.0
   pub fit : (p : ℕ) (l : Line) → slice_get (s.lines f) p ≡ Some l → IsTrue (is_fit l)
   pub own : (p : ℕ) (l : Line) → slice_get (s.lines f) p ≡ Some l → IsLineOf g.cpu l
   pub numbers : (p : ℕ) (l : Line) → slice_get (s.lines f) p ≡ Some l → IsLineNumber l

@@ -3,4 +3,4 @@
 
 mod laws;
 
-pub use laws::lines_are_followed;
+pub use laws::{counting_is_laid, lines_are_followed};
