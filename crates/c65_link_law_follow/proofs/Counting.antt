@@ -1,5 +1,6 @@
 -- The lines of the example stand in memory.
-use Rattle.std.proofs.Common.{◌≡◌, ℕ, zero, suc, ◌+◌, ◌<◌, ◌≤◌, Bool, true, false, IsTrue, List, [], ◌∷◌, Option, Some, None, slice_get, slice_index, refl, ap, sym, ◌∙◌, subst, arith}
+use Rattle.std.proofs.Common.{◌≡◌, ℕ, zero, suc, ◌+◌, ◌<◌, ◌≤◌, ◌⊎◌, inl, inr, Bool, true, false, nat_eq, IsTrue, List, [], ◌∷◌, Option, Some, None, slice_get, slice_index, refl, ap, sym, ◌∙◌, subst, arith, eqb-true}
+use Rattle.std.proofs.lemmas.Bool.{or_cases}
 use Rattle.c65_base.specs.declared.options.Cpu.{Cpu}
 use Rattle.c65_base.specs.declared.options.Cpu.TheVariants.{Nmos, Cmos}
 use Rattle.c65_mach.specs.declared.rows.Op.TheVariants as ops
@@ -70,9 +71,11 @@ to cpu q = by q.1
     by (suc (suc (suc (suc (suc p))))) = omega arith
 
 label_one : (l : ℕ) → IsTrue (is_among (labels_of counting) l) → l ≡ 1
-label_one zero h = absurd cc
-label_one (suc zero) h = refl
-label_one (suc (suc l)) h = absurd cc
+label_one l h = by (or_cases (nat_eq l 1) false h)
+  where
+    by : (nat_eq l 1 ≡ true) ⊎ (false ≡ true) → l ≡ 1
+    by (inl e) = eqb-true l 1 e
+    by (inr e) = absurd cc
 
 labels : (cpu : Cpu) (l : ℕ) → IsTrue (is_among (labels_of counting) l) → label_at spot l ≡ (counting_ground cpu).at (0, labelled counting l)
 labels cpu l h = subst (λ (k : ℕ). label_at spot k ≡ (counting_ground cpu).at (0, labelled counting k)) (sym (label_one l h)) refl

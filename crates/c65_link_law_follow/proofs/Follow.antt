@@ -260,7 +260,7 @@ long_line g s setting f p op l t now true ground laid e k nmos c after_it rows a
       place = branch_place s f p l true;
       state = t;
       holds = (ap (branch_place s f p l) (sym e), refl);
-      goes = more first.turn_is first.free (more there.turn_is there.free none);
+      goes = more {o = there.next} first.turn_is first.free (more {o = there.next} there.turn_is there.free none);
       agrees = there.agrees;
     }
 
