@@ -170,12 +170,12 @@ located g s bounds at t now op IndirectX w ground soft a h rest small is_open ha
     let v = small refl in let low : w % 256 ≡ w = omega (arith, v) in
     let e : read now.machine.mem (after now.machine.pc 1) ≡ w = byte_is g at t now (w % 256) a h.from h.to h.high rest.0 ∙ low in
     mem_at g s bounds now.machine _ _ ground soft
-      (ap (λ (n : ℕ). zero_word now.machine.mem ((n + now.machine.regs.x) % 256)) e ∙ ap (λ (r : Regs). zero_word now.machine.mem ((w + r.x) % 256)) a.regs ∙ zero_is g at t now ((w + t.regs.x) % 256) a (omega arith)) is_open
+    (ap (λ (n : ℕ). zero_word now.machine.mem ((n + now.machine.regs.x) % 256)) e ∙ ap (λ (r : Regs). zero_word now.machine.mem ((w + r.x) % 256)) a.regs ∙ zero_is g at t now ((w + t.regs.x) % 256) a (omega arith)) is_open
 located g s bounds at t now op IndirectY w ground soft a h rest small is_open has =
     let v = small refl in let low : w % 256 ≡ w = omega (arith, v) in
     let e : read now.machine.mem (after now.machine.pc 1) ≡ w = byte_is g at t now (w % 256) a h.from h.to h.high rest.0 ∙ low in
     mem_at g s bounds now.machine _ _ ground soft
-      (ap (λ (n : ℕ). after (zero_word now.machine.mem n) now.machine.regs.y) e ∙ ap (λ (r : Regs). after (zero_word now.machine.mem w) r.y) a.regs ∙ ap (λ (n : ℕ). after n t.regs.y) (zero_is g at t now w a v)) is_open
+    (ap (λ (n : ℕ). after (zero_word now.machine.mem n) now.machine.regs.y) e ∙ ap (λ (r : Regs). after (zero_word now.machine.mem w) r.y) a.regs ∙ ap (λ (n : ℕ). after n t.regs.y) (zero_is g at t now w a v)) is_open
 located g s bounds at t now op ZeroPageIndirect w ground soft a h rest small is_open has =
     let v = small refl in let low : w % 256 ≡ w = omega (arith, v) in
     let e : read now.machine.mem (after now.machine.pc 1) ≡ w = byte_is g at t now (w % 256) a h.from h.to h.high rest.0 ∙ low in
@@ -220,7 +220,7 @@ last_same (Some to) m n s same h = leads_same m n s to same h
 pub points_same : (g : Ground) (m n : ℕ → ℕ) (fs : List Frame) (s : ℕ) → ((b : ℕ) → 256 + s < b → b < 512 → n b ≡ m b) → Points g.at g.last m s fs → Points g.at g.last n s fs
 points_same g m n [] s same h = last_same g.last m n s same h
 points_same g m n (f ∷ fs) s same h = (
-      leads_same m n s (g.at f.back) same h.0,
-      pushed_same m n f.pushed (s + 2) (λ b l k. same b (omega (arith, l)) k) h.1,
-      points_same g m n fs (s + 2 + length f.pushed) (λ b l k. same b (omega (arith, l)) k) h.2,
-    )
+  leads_same m n s (g.at f.back) same h.0,
+  pushed_same m n f.pushed (s + 2) (λ b l k. same b (omega (arith, l)) k) h.1,
+  points_same g m n fs (s + 2 + length f.pushed) (λ b l k. same b (omega (arith, l)) k) h.2,
+)

@@ -82,29 +82,30 @@ labels cpu l h = subst (λ (k : ℕ). label_at spot k ≡ (counting_ground cpu).
 
 pub counting_is_laid : CountingIsLaid
 counting_is_laid cpu =
-    let g : Ground = counting_ground cpu in
-    (record {
-      from = from cpu;
-      to = to cpu;
-      low = omega arith;
-      high = omega arith;
-      data_from = λ b h. absurd cc;
-      data_to = λ b h. absurd cc;
-      bottom = omega arith;
-      page = omega arith;
-      place = refl;
-      functions = λ f h. absurd cc;
-    },
-    record {
-      spot = spot;
-      coded = each (λ (p : ℕ) (l : Line). IsCoded g.byte spot (g.at (0, p)) (g.at (0, suc p)) l)
-          ((refl, (refl, tt)), refl) (refl, refl) ((refl, tt), refl) (short refl refl refl) ((refl, tt), refl);
-      settled = settled cpu;
-      labels = labels cpu;
-      symbols = λ p l sym here e. refl;
-      fit = each (λ (p : ℕ) (l : Line). IsTrue (is_fit l)) refl refl refl refl refl;
-      own = λ p l here. own_line cpu l (each (λ (p : ℕ) (l : Line). IsTrue (is_nmos_line l)) refl refl refl refl refl p l here);
-      numbers = each (λ (p : ℕ) (l : Line). IsLineNumber l) (omega arith) tt tt tt tt;
-      targets = each (λ (p : ℕ) (l : Line). IsTargetKnown counting l) tt tt tt refl tt;
-      calls = each (λ (p : ℕ) (l : Line). LineLeadsWell g counting_setting spot l) tt tt tt tt tt;
-    })
+    let g : Ground = counting_ground cpu in (
+      record {
+        from = from cpu;
+        to = to cpu;
+        low = omega arith;
+        high = omega arith;
+        data_from = λ b h. absurd cc;
+        data_to = λ b h. absurd cc;
+        bottom = omega arith;
+        page = omega arith;
+        place = refl;
+        functions = λ f h. absurd cc;
+      },
+      record {
+        spot = spot;
+        coded = each (λ (p : ℕ) (l : Line). IsCoded g.byte spot (g.at (0, p)) (g.at (0, suc p)) l)
+            ((refl, (refl, tt)), refl) (refl, refl) ((refl, tt), refl) (short refl refl refl) ((refl, tt), refl);
+        settled = settled cpu;
+        labels = labels cpu;
+        symbols = λ p l sym here e. refl;
+        fit = each (λ (p : ℕ) (l : Line). IsTrue (is_fit l)) refl refl refl refl refl;
+        own = λ p l here. own_line cpu l (each (λ (p : ℕ) (l : Line). IsTrue (is_nmos_line l)) refl refl refl refl refl p l here);
+        numbers = each (λ (p : ℕ) (l : Line). IsLineNumber l) (omega arith) tt tt tt tt;
+        targets = each (λ (p : ℕ) (l : Line). IsTargetKnown counting l) tt tt tt refl tt;
+        calls = each (λ (p : ℕ) (l : Line). LineLeadsWell g counting_setting spot l) tt tt tt tt tt;
+      },
+    )

@@ -129,7 +129,7 @@ accumulator_line g s setting f p op mode operand t now ground laid st k is a =
     let h : Here g (g.at (f, p)) op mode = here_at g s (g.at (f, p)) (g.at (f, suc p)) op mode ground st.own c.0.0 (ground.from (f, p)) (same_or_more (g.at (f, p)) (g.at (f, suc p)) (size_of mode) c.1) (ground.to (f, suc p)) in
     let size : size_of mode ≡ 1 = ap size_of is in let after_it = c.1 in
     subst (λ (d : Mode). Moved g setting (g.at (f, suc p)) (effect Changes op d (word_of g.place operand) t) now) (sym is)
-      (do_accumulator g setting (g.at (f, p)) (g.at (f, suc p)) op (word_of g.place operand) t now a k (subst (λ (d : Mode). Here g (g.at (f, p)) op d) is h) (omega (arith, size, after_it)))
+    (do_accumulator g setting (g.at (f, p)) (g.at (f, suc p)) op (word_of g.place operand) t now a k (subst (λ (d : Mode). Here g (g.at (f, p)) op d) is h) (omega (arith, size, after_it)))
 
 register_line : (g : Ground) (s : RawSetting) (setting : Setting) (f p : ℕ) (op : Op) (mode : Mode) (operand : Operand) (t : State) (now : Moment) → IsGround g s → (laid : IsLaid g s f) → Stood g s f p laid.spot op mode operand → kind_of op ≡ Registers
     → Agrees g (g.at (f, p)) t now → Moved g setting (g.at (f, suc p)) (effect Registers op mode (word_of g.place operand) t) now
@@ -167,8 +167,8 @@ plain_goes : (g : Ground) (s : RawSetting) (setting : Setting) (f p : ℕ) (k : 
     → Moved g setting (g.at (f, suc p)) (effect k op mode (word_of g.place operand) t) now → Arrives g setting 1 now (RawGoes s (Plain op mode operand) (f, p) t)
 plain_goes g s setting f p k op mode operand t now ground laid is m =
     one g setting 1 now (RawGoes s (Plain op mode operand) (f, p) t) (f, settle (s.lines f) (suc p)) (effect k op mode (word_of g.place operand) t) (omega arith)
-      (refl, ap (λ (x : Kind). effect x op mode (word_of g.place operand) t) (sym is) ∙ ap (λ (x : Placement). effect (kind_of op) op mode (word_of x operand) t) (sym ground.place))
-      (moved_to g setting (g.at (f, suc p)) (g.at (f, settle (s.lines f) (suc p))) _ now (sym (laid.settled (suc p))) m)
+    (refl, ap (λ (x : Kind). effect x op mode (word_of g.place operand) t) (sym is) ∙ ap (λ (x : Placement). effect (kind_of op) op mode (word_of x operand) t) (sym ground.place))
+    (moved_to g setting (g.at (f, suc p)) (g.at (f, settle (s.lines f) (suc p))) _ now (sym (laid.settled (suc p))) m)
 
 -- Branches
 
@@ -271,7 +271,7 @@ branch_by g s setting f p op l t now ground laid k rows nmos label (short byte r
     short_line g s setting f p op l t now (is_taken op t.regs) laid refl k h (reach ∙ label) after_it a
 branch_by g s setting f p op l t now ground laid k rows nmos label (long bytes after_it) a =
     long_line g s setting f p op l t now (is_taken op t.regs) ground laid refl k nmos
-      (subst (λ (n : ℕ). Stands g.byte (g.at (f, p)) (opcode_of (opposite_of op) Relative ∷ 3 ∷ opcode_of ops.Jmp Absolute ∷ word_bytes n)) label bytes) after_it rows a
+    (subst (λ (n : ℕ). Stands g.byte (g.at (f, p)) (opcode_of (opposite_of op) Relative ∷ 3 ∷ opcode_of ops.Jmp Absolute ∷ word_bytes n)) label bytes) after_it rows a
 
 branch_line : (g : Ground) (s : RawSetting) (setting : Setting) (f p : ℕ) (op : Op) (mode : Mode) (l : ℕ) (t : State) (now : Moment) → IsGround g s → (laid : IsLaid g s f) → slice_get (s.lines f) p ≡ Some (Do op mode (operands.To l)) → kind_of op ≡ Branches
     → Agrees g (g.at (f, p)) t now → Arrives g setting 2 now (RawGoes s (Branch op l) (f, p) t)
@@ -281,7 +281,7 @@ branch_line g s setting f p op mode l t now ground laid here k a =
     let is : mode ≡ Relative = branches_fit op mode k nmos in
     let coded : IsInstruction g.byte laid.spot (g.at (f, p)) (g.at (f, suc p)) op Relative (operands.To l) = subst (λ (d : Mode). IsInstruction g.byte laid.spot (g.at (f, p)) (g.at (f, suc p)) op d (operands.To l)) is st.coded in
     branch_by g s setting f p op l t now ground laid k (subst (λ (d : Mode). has_row op d ≡ true) is st.row) (subst (λ (d : Mode). is_nmos_row op d ≡ true) is nmos)
-      (laid.labels l (laid.targets p (Do op mode (operands.To l)) here)) coded a
+    (laid.labels l (laid.targets p (Do op mode (operands.To l)) here)) coded a
 
 -- Jumps, pushes, pulls and returns
 
@@ -298,7 +298,7 @@ jump_line g s setting f p l t now ground laid here a =
     let h : Here g (g.at (f, p)) ops.Jmp Absolute = here_at g s (g.at (f, p)) (g.at (f, suc p)) ops.Jmp Absolute ground st.own st.coded.0.0 (ground.from (f, p)) (omega (arith, after_it)) (ground.to (f, suc p)) in
     let to : label_at laid.spot l ≡ g.at (f, settle (s.lines f) (labelled (s.lines f) l)) = label ∙ sym (laid.settled (labelled (s.lines f) l)) in
     one g setting 1 now (RawGoes s (Jump l) (f, p) t) (f, settle (s.lines f) (labelled (s.lines f) l)) t (omega arith) (refl, refl)
-      (jumps g setting (g.at (f, p)) (g.at (f, settle (s.lines f) (labelled (s.lines f) l))) t now a h (subst (λ (n : ℕ). Stands g.byte (g.at (f, p) + 1) (word_bytes n)) to st.coded.0.1))
+    (jumps g setting (g.at (f, p)) (g.at (f, settle (s.lines f) (labelled (s.lines f) l))) t now a h (subst (λ (n : ℕ). Stands g.byte (g.at (f, p) + 1) (word_bytes n)) to st.coded.0.1))
 
 far_line : (g : Ground) (s : RawSetting) (setting : Setting) (bounds : Bounds) (f p : ℕ) (i : ℕ) (t : State) (now : Moment) → IsGround g s → (laid : IsLaid g s f) → slice_get (s.lines f) p ≡ Some (Do ops.Jmp Indirect (operands.Zero i)) → i < 255 → IsRawWithin s bounds (Far i) t → Agrees g (g.at (f, p)) t now
     → Arrives g setting 1 now (RawGoes s (Far i) (f, p) t)
@@ -310,7 +310,7 @@ far_line g s setting bounds f p i t now ground laid here small within a =
     let q : Place = entry_of s (target_of s (s.library callee) callee) in
     let to : g.at q ≡ zero_word t i = sym (ground.functions callee within.2) ∙ ap (λ (x : Placement). x.address callee) (sym ground.place) ∙ within.3 in
     one g setting 1 now (RawGoes s (Far i) (f, p) t) q t (omega arith) (callee, within.2, within.3, refl, refl)
-      (fars g setting (g.at (f, p)) i (g.at q) t now a h st.coded.0.1 small to)
+    (fars g setting (g.at (f, p)) i (g.at q) t now a h st.coded.0.1 small to)
 
 -- S has room for as many bytes as the machine on lines has
 room_for : (g : Ground) (s : RawSetting) (at n bound : ℕ) (t : State) (now : Moment) → IsGround g s → Agrees g at t now → bound + n ≤ s_of t → n ≤ now.machine.s
@@ -334,7 +334,7 @@ push_line g s setting bounds f p mode operand t now ground laid here within a =
     let st : Stood g s f p laid.spot ops.Pha mode operand = stood g s f p ops.Pha mode operand laid here in
     let h = implied_here g s f p ops.Pha mode operand ground laid st (implied_is mode (plain_row mode st.row)) in
     on_next g s setting f p (record t { pushed = t.regs.a ∷ t.pushed }) now Push t laid (refl, refl)
-      (do_push g setting (g.at (f, p)) (g.at (f, suc p)) t now a ground.page h.0 h.1 (room_for g s (g.at (f, p)) 1 bounds.hard t now ground a within))
+    (do_push g setting (g.at (f, p)) (g.at (f, suc p)) t now a ground.page h.0 h.1 (room_for g s (g.at (f, p)) 1 bounds.hard t now ground a within))
   where
     plain_row : (mode : Mode) → has_row ops.Pha mode ≡ true → is_implied mode ≡ true
     plain_row Implied e = refl
@@ -398,7 +398,7 @@ run_line g s setting bounds f p r t now ground laid here no_hook within a =
     let q : Place = entry_of s (s.routine r) in
     let goes : RawGoes s (Run r) (f, p) t q (called (line_after s (f, p)) t) = subst (λ (o : Option Row). RawRuns s o r (f, p) t q (called (line_after s (f, p)) t)) (sym no_hook) (refl, refl) in
     one g setting 2 now (RawGoes s (Run r) (f, p) t) q (called (line_after s (f, p)) t) (omega arith) goes
-      (call_moves g s setting f p (callees.Routine r) q t now ground laid here (laid.calls p (Call (callees.Routine r)) here) (room_for g s (g.at (f, p)) 2 bounds.hard t now ground a le) a)
+    (call_moves g s setting f p (callees.Routine r) q t now ground laid here (laid.calls p (Call (callees.Routine r)) here) (room_for g s (g.at (f, p)) 2 bounds.hard t now ground a le) a)
 
 call_line : (g : Ground) (s : RawSetting) (setting : Setting) (bounds : Bounds) (f p : ℕ) (callee : Callee) (t : State) (now : Moment) → IsGround g s → (laid : IsLaid g s f) → slice_get (s.lines f) p ≡ Some (Call callee) → IsNoHook s (callee_form callee) t → IsRawWithin s bounds (callee_form callee) t → Agrees g (g.at (f, p)) t now
     → Arrives g setting (raw_weight (callee_form callee)) now (RawGoes s (callee_form callee) (f, p) t)
@@ -406,11 +406,11 @@ call_line g s setting bounds f p (callees.Routine r) t now ground laid here no_h
 call_line g s setting bounds f p (callees.Function callee reads gives) t now ground laid here no_hook within a =
     let q : Place = entry_of s (target_of s (s.library callee.0) callee.0) in
     one g setting 1 now (RawGoes s (Enter callee.0 reads gives) (f, p) t) q (called (line_after s (f, p)) t) (omega arith) (refl, refl)
-      (call_moves g s setting f p (callees.Function callee reads gives) q t now ground laid here (laid.calls p (Call (callees.Function callee reads gives)) here) (room_for g s (g.at (f, p)) 2 bounds.hard t now ground a within) a)
+    (call_moves g s setting f p (callees.Function callee reads gives) q t now ground laid here (laid.calls p (Call (callees.Function callee reads gives)) here) (room_for g s (g.at (f, p)) 2 bounds.hard t now ground a within) a)
 call_line g s setting bounds f p (callees.Pointer reads gives) t now ground laid here no_hook within a =
     let q : Place = entry_of s (s.routine routines.CallPtr4) in
     one g setting 1 now (RawGoes s (Through reads gives) (f, p) t) q (called (line_after s (f, p)) t) (omega arith) (refl, refl)
-      (call_moves g s setting f p (callees.Pointer reads gives) q t now ground laid here (laid.calls p (Call (callees.Pointer reads gives)) here) (room_for g s (g.at (f, p)) 2 bounds.hard t now ground a within) a)
+    (call_moves g s setting f p (callees.Pointer reads gives) q t now ground laid here (laid.calls p (Call (callees.Pointer reads gives)) here) (room_for g s (g.at (f, p)) 2 bounds.hard t now ground a within) a)
 
 -- All lines
 

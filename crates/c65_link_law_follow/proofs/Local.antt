@@ -134,12 +134,12 @@ do_reads g s setting bounds at to op mode w t now ground soft a k has o =
     let l : Located g m (ref_of mode w t) place = located g s bounds at t now op mode w ground soft a o.here o.rest o.small o.is_open has in
     let pc : after m.pc (size_of mode) ≡ to = next_pc g at to m (size_of mode) a.pc o.here.to o.here.high o.next in
     let regs : read_by op mode m.d (read m.mem place) m.regs ≡ apply false op (value_at (ref_of mode w t) t) t.regs =
-        read_is op mode m.d (read m.mem place) m.regs o.rows
-        ∙ ap (λ (d : Bool). apply d op (read m.mem place) m.regs) a.d
-        ∙ ap (λ (v : ℕ). apply false op v m.regs) (fetched g at t now (ref_of mode w t) place a l)
-        ∙ ap (λ (r : Regs). apply false op (value_at (ref_of mode w t) t) r) a.regs in
+    read_is op mode m.d (read m.mem place) m.regs o.rows
+    ∙ ap (λ (d : Bool). apply d op (read m.mem place) m.regs) a.d
+    ∙ ap (λ (v : ℕ). apply false op v m.regs) (fetched g at t now (ref_of mode w t) place a l)
+    ∙ ap (λ (r : Regs). apply false op (value_at (ref_of mode w t) t) r) a.regs in
     moved_by g setting at to t (effect Reads op mode w t) now op mode Reads (record m { pc = after m.pc (size_of mode); regs = read_by op mode m.d (read m.mem place) m.regs }) a o.here k (no_push op Reads m k (λ e. absurd cc)) refl
-      (on_regs g at to (after m.pc (size_of mode)) t now (read_by op mode m.d (read m.mem place) m.regs) (apply false op (value_at (ref_of mode w t) t) t.regs) a regs pc)
+    (on_regs g at to (after m.pc (size_of mode)) t now (read_by op mode m.d (read m.mem place) m.regs) (apply false op (value_at (ref_of mode w t) t) t.regs) a regs pc)
 
 pub do_registers : (g : Ground) (setting : Setting) (at to : ℕ) (op : Op) (mode : Mode) (w : ℕ) (t : State) (now : Moment) → Agrees g at t now
     → kind_of op ≡ Registers → Here g at op mode → to ≡ at + size_of mode → Moved g setting to (effect Registers op mode w t) now
@@ -148,7 +148,7 @@ do_registers g setting at to op mode w t now a k here next =
     let pc : after m.pc (size_of mode) ≡ to = next_pc g at to m (size_of mode) a.pc here.to here.high next in
     let regs : apply m.d op 0 m.regs ≡ apply false op 0 t.regs = ap (λ (d : Bool). apply d op 0 m.regs) a.d ∙ ap (λ (r : Regs). apply false op 0 r) a.regs in
     moved_by g setting at to t (effect Registers op mode w t) now op mode Registers (record m { pc = after m.pc (size_of mode); regs = apply m.d op 0 m.regs }) a here k (no_push op Registers m k (λ e. absurd cc)) refl
-      (on_regs g at to (after m.pc (size_of mode)) t now (apply m.d op 0 m.regs) (apply false op 0 t.regs) a regs pc)
+    (on_regs g at to (after m.pc (size_of mode)) t now (apply m.d op 0 m.regs) (apply false op 0 t.regs) a regs pc)
 
 is_memory : (mode : Mode) (w : ℕ) (t : State) → IsStorable mode → IsMemory (ref_of mode w t)
 is_memory ZeroPage w t h = tt
@@ -191,7 +191,7 @@ do_stores g s setting bounds at to op mode w t now ground soft a k fits o =
     let n : Machine = record m1 { mem = write_byte m.mem place (stored op m.regs) } in
     let put_is : Agrees g to (put r (stored op m.regs) t) (record now { machine = n }) = on_put g to t now1 r place (stored op m.regs) a1 (relocated g m m1 r place refl l) (is_memory mode w t fits) in
     moved_by g setting at to t (effect Stores op mode w t) now op mode Stores n a o.here k (no_push op Stores m k (λ e. absurd cc)) refl
-      (subst (λ (v : ℕ). Agrees g to (put r v t) (record now { machine = n })) (ap (stored op) a.regs) put_is)
+    (subst (λ (v : ℕ). Agrees g to (put r v t) (record now { machine = n })) (ap (stored op) a.regs) put_is)
 
 abbrev of_change : Regs → ℕ × Bool → Regs
 of_change r to = record (signed to.0 r) { c = to.1 }
@@ -242,7 +242,7 @@ do_changes g s setting bounds at to op mode w t now ground soft a k fits o =
     let put_is : Agrees g to (put r to_m.0 t1) (record now { machine = n }) = on_put g to t1 now1 r place to_m.0 a1 (relocated g m m1 r place refl l) (is_memory mode w t fits) in
     let same : Agrees g to (put r to_t.0 t1) (record now { machine = n }) = subst (λ (v : ℕ). Agrees g to (put r v t1) (record now { machine = n })) (ap (λ (x : ℕ × Bool). x.0) e) put_is in
     moved_by g setting at to t (effect Changes op mode w t) now op mode Changes n a o.here k (no_push op Changes m k (λ e. absurd cc)) (change_is op mode place (record m { pc = after m.pc (size_of mode) }) fits)
-      (subst (λ (u : State). Agrees g to u (record now { machine = n })) (sym (line_change_is op mode w t fits)) same)
+    (subst (λ (u : State). Agrees g to u (record now { machine = n })) (sym (line_change_is op mode w t fits)) same)
 
 abbrev accumulated : Op → Regs → Regs
 accumulated op r = let to = changed op r.a r in record (with_a to.0 r) { c = to.1 }
@@ -253,4 +253,4 @@ do_accumulator g setting at to op w t now a k here next =
     let m : Machine = now.machine in
     let pc : after m.pc 1 ≡ to = next_pc g at to m 1 a.pc here.to here.high next in
     moved_by g setting at to t (effect Changes op Accumulator w t) now op Accumulator Changes (record m { pc = after m.pc 1; regs = accumulated op m.regs }) a here k (no_push op Changes m k (λ e. absurd cc)) refl
-      (on_regs g at to (after m.pc 1) t now (accumulated op m.regs) (accumulated op t.regs) a (ap (accumulated op) a.regs) pc)
+    (on_regs g at to (after m.pc 1) t now (accumulated op m.regs) (accumulated op t.regs) a (ap (accumulated op) a.regs) pc)

@@ -63,8 +63,8 @@ branch_row g setting at to op t now b a k h e is =
     let none = pushes_none op (λ z. absurd_kind op k z) in
     let taken : is_taken op m.regs ≡ b = ap (is_taken op) a.regs ∙ e in
     moved_by g setting at to t t now op Relative Branches (branch b target (record m { pc = after m.pc 2 })) a h k (omega (arith, none))
-      (ap (λ (x : Bool). branch x target (record m { pc = after m.pc 2 })) taken)
-      (by b target target_is (after m.pc 2) e1 is)
+    (ap (λ (x : Bool). branch x target (record m { pc = after m.pc 2 })) taken)
+    (by b target target_is (after m.pc 2) e1 is)
   where
     absurd_kind : (op : Op) → kind_of op ≡ Branches → kind_of op ≡ Moves → ⊥
     absurd_kind op j z = absurd cc
@@ -127,7 +127,7 @@ do_push g setting at to t now a page h next low =
     let a1 : Agrees g to t now1 = on_pc g at to (after m.pc 1) t now a pc in
     let n : Machine = push m.regs.a (record m { pc = after m.pc 1 }) in
     moved_by g setting at to t (record t { pushed = t.regs.a ∷ t.pushed }) now ops.Pha Implied Moves n a h refl low refl
-      (subst (λ (r : Regs). Agrees g to (record t { pushed = r.a ∷ t.pushed }) (record now { machine = n })) a.regs (on_push g to m.regs.a t now1 a1 page low))
+    (subst (λ (r : Regs). Agrees g to (record t { pushed = r.a ∷ t.pushed }) (record now { machine = n })) a.regs (on_push g to m.regs.a t now1 a1 page low))
 
 -- a call: the address of its own last byte is pushed, high byte first
 pub enters : (g : Ground) (setting : Setting) (at to : ℕ) (back : Place) (t : State) (now : Moment) → Agrees g at t now → g.top ≤ 255 → Here g at ops.Jsr Absolute → Stands g.byte (at + 1) (word_bytes to) → g.at back ≡ at + 3 → 2 ≤ now.machine.s
@@ -162,21 +162,21 @@ enters g setting at to back t now a page h rest point deep =
     let sum = a2.s in
     let frame = frames_bytes (record { back = back; pushed = t.pushed; gives = no_parts }) t.frames in
     moved_by g setting at to t (record t { pushed = []; frames = record { back = back; pushed = t.pushed; gives = no_parts } ∷ t.frames }) now ops.Jsr Absolute Moves n a h refl deep refl
-      (record {
-        cpu = a2.cpu;
-        pc = w;
-        regs = a2.regs;
-        d = a2.d;
-        s = omega (arith, sum, frame);
-        size = a2.size;
-        zp = a2.zp;
-        mem = a2.mem;
-        code = a2.code;
-        pushed = tt;
-        points = subst (λ (k : ℕ). Points g.at g.last (read m2.mem) k (record { back = back; pushed = t.pushed; gives = no_parts } ∷ t.frames)) (sym none) all;
-        input = a2.input;
-        output = a2.output;
-      })
+    (record {
+      cpu = a2.cpu;
+      pc = w;
+      regs = a2.regs;
+      d = a2.d;
+      s = omega (arith, sum, frame);
+      size = a2.size;
+      zp = a2.zp;
+      mem = a2.mem;
+      code = a2.code;
+      pushed = tt;
+      points = subst (λ (k : ℕ). Points g.at g.last (read m2.mem) k (record { back = back; pushed = t.pushed; gives = no_parts } ∷ t.frames)) (sym none) all;
+      input = a2.input;
+      output = a2.output;
+    })
 
 -- a return leads to the point on top
 pub returns : (g : Ground) (setting : Setting) (at : ℕ) (frame : Frame) (frames : List Frame) (t : State) (now : Moment) → Agrees g at t now → g.top ≤ 255 → g.at frame.back ≤ 65535 → Here g at ops.Rts Implied → t.pushed ≡ [] → t.frames ≡ frame ∷ frames
@@ -199,21 +199,21 @@ returns g setting at frame frames t now a page fits h none is =
     let pc : ℕ = after (read m.mem (256 + (m.s + 1) % 256) + 256 * read m.mem (256 + (m.s + 2) % 256)) 1 in
     let pc_is : pc ≡ g.at frame.back = omega (arith, one, two, leads, fits) in
     moved_by g setting at (g.at frame.back) t (record t { pushed = frame.pushed; frames = frames }) now ops.Rts Implied Moves (record m { s = (m.s + 2) % 256; pc = pc }) a h refl (omega arith) refl
-      (record {
-        cpu = a.cpu;
-        pc = pc_is;
-        regs = a.regs;
-        d = a.d;
-        s = omega (arith, e3, s, bytes);
-        size = a.size;
-        zp = a.zp;
-        mem = a.mem;
-        code = a.code;
-        pushed = subst (λ (k : ℕ). Pushed (read m.mem) k frame.pushed) (sym e3) points.1;
-        points = subst (λ (k : ℕ). Points g.at g.last (read m.mem) (k + length frame.pushed) frames) (sym e3) points.2;
-        input = a.input;
-        output = a.output;
-      })
+    (record {
+      cpu = a.cpu;
+      pc = pc_is;
+      regs = a.regs;
+      d = a.d;
+      s = omega (arith, e3, s, bytes);
+      size = a.size;
+      zp = a.zp;
+      mem = a.mem;
+      code = a.code;
+      pushed = subst (λ (k : ℕ). Pushed (read m.mem) k frame.pushed) (sym e3) points.1;
+      points = subst (λ (k : ℕ). Points g.at g.last (read m.mem) (k + length frame.pushed) frames) (sym e3) points.2;
+      input = a.input;
+      output = a.output;
+    })
 
 -- a byte is pulled into A
 pub do_pull : (g : Ground) (setting : Setting) (at to v : ℕ) (rest : List ℕ) (t : State) (now : Moment) → Agrees g at t now → Here g at ops.Pla Implied → to ≡ at + 1 → t.pushed ≡ v ∷ rest
@@ -231,22 +231,22 @@ do_pull g setting at to v rest t now a h next is =
     let regs : with_a (read m.mem (256 + (m.s + 1) % 256)) m.regs ≡ with_a v t.regs = ap (λ (n : ℕ). with_a n m.regs) byte ∙ ap (with_a v) a.regs in
     let up : m.s + length t.pushed ≡ (m.s + 1) % 256 + length rest = omega (arith, e2, long) in
     moved_by g setting at to t (record t { regs = with_a v t.regs; pushed = rest }) now ops.Pla Implied Moves
-      (record m { pc = after m.pc 1; s = (m.s + 1) % 256; regs = with_a (read m.mem (256 + (m.s + 1) % 256)) m.regs }) a h refl (omega arith) refl
-      (record {
-        cpu = a.cpu;
-        pc = pc;
-        regs = regs;
-        d = a.d;
-        s = omega (arith, e2, s, long);
-        size = a.size;
-        zp = a.zp;
-        mem = a.mem;
-        code = a.code;
-        pushed = subst (λ (k : ℕ). Pushed (read m.mem) k rest) (sym e2) stack.2;
-        points = subst (λ (k : ℕ). Points g.at g.last (read m.mem) k t.frames) up a.points;
-        input = a.input;
-        output = a.output;
-      })
+    (record m { pc = after m.pc 1; s = (m.s + 1) % 256; regs = with_a (read m.mem (256 + (m.s + 1) % 256)) m.regs }) a h refl (omega arith) refl
+    (record {
+      cpu = a.cpu;
+      pc = pc;
+      regs = regs;
+      d = a.d;
+      s = omega (arith, e2, s, long);
+      size = a.size;
+      zp = a.zp;
+      mem = a.mem;
+      code = a.code;
+      pushed = subst (λ (k : ℕ). Pushed (read m.mem) k rest) (sym e2) stack.2;
+      points = subst (λ (k : ℕ). Points g.at g.last (read m.mem) k t.frames) up a.points;
+      input = a.input;
+      output = a.output;
+    })
 
 -- S into X
 pub do_depth : (g : Ground) (setting : Setting) (at to : ℕ) (t : State) (now : Moment) → Agrees g at t now → Here g at ops.Tsx Implied → to ≡ at + 1 → g.top ≡ 253 → Moved g setting to (record t { regs = with_x (253 - hard_bytes t) t.regs }) now
@@ -256,4 +256,4 @@ do_depth g setting at to t now a h next top =
     let is : m.s ≡ 253 - hard_bytes t = omega (arith, s, top) in
     let pc : after m.pc 1 ≡ to = next_pc g at to m 1 a.pc h.to h.high next in
     moved_by g setting at to t (record t { regs = with_x (253 - hard_bytes t) t.regs }) now ops.Tsx Implied Moves (record m { pc = after m.pc 1; regs = with_x m.s m.regs }) a h refl (omega arith) refl
-      (on_regs g at to (after m.pc 1) t now (with_x m.s m.regs) (with_x (253 - hard_bytes t) t.regs) a (ap (λ (n : ℕ). with_x n m.regs) is ∙ ap (with_x (253 - hard_bytes t)) a.regs) pc)
+    (on_regs g at to (after m.pc 1) t now (with_x m.s m.regs) (with_x (253 - hard_bytes t) t.regs) a (ap (λ (n : ℕ). with_x n m.regs) is ∙ ap (with_x (253 - hard_bytes t)) a.regs) pc)

@@ -6,7 +6,6 @@ use Rattle.c65_code.specs.LineState.{State, IsBytes}
 use Rattle.c65_code.specs.Placement.{stack_start}
 use Rattle.c65_code.specs.Forms.{Form, Depth, Far, Run, form_of}
 use Rattle.c65_code.specs.RawMachine.{RawSetting, Bounds, RawGoes, IsRawWithin, raw_weight, hook_row}
-
 use Rattle.c65_link_law_follow.specs.Agree.{Ground, Agrees, Arrives}
 use Rattle.c65_link_law_follow.specs.Laid.{IsLaid, IsGround}
 
