@@ -48,6 +48,7 @@ module _ {S : Type 0} where
   tells_size u t Static = tells_itself (is_sized_in u.types t)
   tells_size u t Auto = tells_itself (is_sized_in u.types t)
   tells_size u t Register = tells_itself (is_sized_in u.types t)
+  tells_size u t Fixed = tells_itself (is_sized_in u.types t)
 
 length_is : (n : ℕ) (o : Option ℕ) → b.is_length n o ≡ true → o ≡ Some n
 length_is n None h = cc

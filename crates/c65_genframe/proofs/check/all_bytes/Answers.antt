@@ -1,8 +1,11 @@
-use Rattle.std.proofs.Common.{ℕ, List, arith, ap}
+use Rattle.std.proofs.Common.{◌≡◌, ◌≤◌, ℕ, List, length, drop, ap, arith}
 use Rattle.std.proofs.lemmas.List.{drop_all}
 use Rattle.c65_genframe.specs.Frames.{all_bytes}
 use Rattle.c65_genframe.proofs.check.all_bytes.Goals as goal
 
 pub returns : goal.returns
 returns c =
-    omega (arith, ap (λ (xs : List ℕ). all_bytes c.args.parts.now xs) (drop_all c.loop-object.object-index c.args.objects.now c.loop-object-test.false), c.loop-object.invariant.small, c.loop-object.invariant.so_far)
+    let objects : List ℕ = c.args.objects.now in
+    let all : length objects ≤ c.loop-object.object-index = omega arith in
+    let none : all_bytes c.args.parts.now (drop c.loop-object.object-index objects) ≡ 0 = ap (all_bytes c.args.parts.now) (drop_all c.loop-object.object-index objects all) in
+    omega (arith, none, c.loop-object.invariant.0, c.loop-object.invariant.1)

@@ -1,0 +1,4 @@
+pub mod Agree
+pub mod Laid
+pub mod Laws
+pub mod Example
