@@ -18,4 +18,4 @@ pub returns-in_err-put-4-clause-kept : goal.returns-in_err-put-4-clause-kept
 returns-in_err-put-4-clause-kept c = refused_then c.from_residual-in_err-put-4.result (labels_then _ _ _ 1 c.in_ok-head.ensures.given (kept_then _ _ _ _ c.in_ok-put.ensures.lines (kept_then _ _ _ _ c.in_ok-label.ensures.lines (kept_then _ _ _ _ c.in_ok-put-2.ensures.lines (kept_then _ _ _ _ c.in_ok-put-3.ensures.lines c.in_err-put-4.ensures.kept)))))
 
 pub returns-clause-kept : goal.returns-clause-kept
-returns-clause-kept c = labels_last _ _ _ _ 1 c.in_ok-head.ensures.given (kept_last _ _ _ _ _ c.in_ok-put.ensures.lines (kept_last _ _ _ _ _ c.in_ok-label.ensures.lines (kept_last _ _ _ _ _ c.in_ok-put-2.ensures.lines (kept_last _ _ _ _ _ c.in_ok-put-3.ensures.lines (kept_last _ _ _ _ _ c.in_ok-put-4.ensures.lines c.put-5.ensures.kept)))))
+returns-clause-kept c = labels_last _ _ _ _ 1 c.in_ok-head.ensures.given (kept_last _ _ _ _ _ c.in_ok-put.ensures.lines (kept_last _ _ _ _ _ c.in_ok-label.ensures.lines (kept_last _ _ _ _ _ c.in_ok-put-2.ensures.lines (kept_last _ _ _ _ _ c.in_ok-put-3.ensures.lines (kept_last _ _ _ _ _ c.in_ok-put-4.ensures.lines c.put-6.ensures.kept)))))
