@@ -1,6 +1,6 @@
 -- The generator refuses for the limit Frame alone.
-use Rattle.std.proofs.Common.{◌≡◌, ℕ, suc, Bool, true, false, List, [], ◌∷◌, Option, None, Some, Result, Ok, Err, refl, sym, ap, ◌∙◌}
-use Rattle.std.specs.Prelude.{nat_lt, if◌then◌else◌}
+use Rattle.std.proofs.Common.{◌≡◌, ℕ, suc, Bool, true, false, List, [], ◌∷◌, Option, None, Some, Result, Ok, Err, refl, sym, ◌∙◌}
+use Rattle.std.specs.Prelude.{if◌then◌else◌}
 use Rattle.c65_base.specs.Answers.{Fault, large, ◌>>=◌}
 use Rattle.c65_base.specs.declared.refusal.Size.TheVariants as sizes
 use Rattle.c65_csem.specs.declared.items.Parts.{Parts}
@@ -11,7 +11,7 @@ use Rattle.c65_code.specs.declared.line.Sym.{Sym}
 use Rattle.c65_code.specs.Segments.{Segment}
 use Rattle.c65_genframe.specs.Frames.{Framed, frame_of}
 use Rattle.c65_genstmt.specs.Functions.{function_of}
-use Rattle.c65_genstmt.specs.Programs.{one_more, function_added, functions_from, functions_of, program_of}
+use Rattle.c65_genstmt.specs.Programs.{one_more, function_added, functions_from, functions_of}
 use Rattle.c65_headline.specs.Planned.{OnlyFramesAreRefused}
 
 abbrev IsFrame : Fault → Type 0

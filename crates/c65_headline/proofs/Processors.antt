@@ -1,5 +1,5 @@
 -- A code numbered anew runs on the processors on which the code runs.
-use Rattle.std.proofs.Common.{◌≡◌, ℕ, Bool, List, [], ◌∷◌, map, Option, Some, None, refl, ap, sym, ◌∙◌, subst}
+use Rattle.std.proofs.Common.{◌≡◌, ℕ, List, [], ◌∷◌, map, Option, Some, None, refl, ap, sym, ◌∙◌, subst}
 use Rattle.std.specs.Prelude.{IsTrue, slice_get, ◌&&◌}
 use Rattle.std.specs.List.{list_all}
 use Rattle.std.specs.Prelude.{option_map}
@@ -11,7 +11,7 @@ use Rattle.c65_code.specs.declared.line.Line.TheVariants as lines
 use Rattle.c65_code.specs.declared.line.Sym.{Sym}
 use Rattle.c65_code.specs.declared.code.Code.{Code}
 use Rattle.c65_code.specs.declared.code.Symbol.{Symbol}
-use Rattle.c65_code.specs.Processors.{is_nmos_line, IsNmos, RunsOn}
+use Rattle.c65_code.specs.Processors.{is_nmos_line, RunsOn}
 use Rattle.c65_code.specs.Segments.{Segment}
 use Rattle.c65_asm.specs.Renumbered.{names_of, renamed_line, renamed_function, renumbered}
 

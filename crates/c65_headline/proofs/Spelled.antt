@@ -1,5 +1,5 @@
 -- What the words of a command leave: arguments that are bytes, few cycles, and no rewriting.
-use Rattle.std.proofs.Common.{◌≡◌, ◌∙◌, ℕ, ◌+◌, ◌^◌, ◌<◌, Bool, true, false, not, List, [], ◌∷◌, ◌++◌, Option, Some, None, refl, sym, ap, subst}
+use Rattle.std.proofs.Common.{◌≡◌, ℕ, ◌+◌, ◌^◌, ◌<◌, Bool, true, false, not, List, [], ◌∷◌, ◌++◌, Option, Some, None, refl, subst}
 use Rattle.std.specs.Prelude.{All, IsTrue, ◌&&◌, if◌then◌else◌, ◌==◌, nat_lt, bytes_eq, codes, is_some, take}
 use Rattle.std.specs.List.{list_any}
 use Rattle.std.specs.Str.Parse.{digits_value}
@@ -14,9 +14,9 @@ use Rattle.c65_driver_words.specs.declared.value.Value.{Value}
 use Rattle.c65_driver_words.specs.declared.value.Value.TheVariants as values
 use Rattle.c65_driver_words.specs.Commands.{Spelled}
 use Rattle.c65_driver_words.specs.Values.{is_file, is_digits, cycles_in, behind, define_in}
-use Rattle.c65_driver_words.specs.Words.{Told, nothing_told, compiles, may_stand, with_define, with_cycles, processor_in, with_processor, with_value, with_flag, flag_in, value_in, has_place, with_file, with_joined, told_processor, told_folder, told_define, told_joined, with_option, told_value, told_flag, told_by, told_more, Spelling, Is, NoCommand, is_whole, takes_args, command_by, ended_at, args_from, given_at, words_from, kind_in, spelling_by, spelling_of}
+use Rattle.c65_driver_words.specs.Words.{Told, nothing_told, compiles, may_stand, with_define, with_cycles, processor_in, with_processor, with_value, flag_in, value_in, has_place, with_file, with_joined, told_processor, told_folder, told_define, told_value, told_flag, told_by, told_more, Is, NoCommand, is_whole, takes_args, command_by, args_from, given_at, words_from, kind_in, spelling_by, spelling_of}
 use Rattle.c65_headline.specs.Images.{AreBytes}
-use Rattle.c65_headline.specs.Planned.{IsSpelled, WordsAreSpelled}
+use Rattle.c65_headline.specs.Planned.{WordsAreSpelled}
 use Rattle.c65_headline.proofs.Codes.{both}
 
 -- what the words so far have told

@@ -14,7 +14,6 @@ use Rattle.c65_csem.specs.declared.items.Parts.{Parts}
 use Rattle.c65_csem.specs.Views.{unit_of}
 use Rattle.c65_genstmt.specs.Programs.{program_of}
 use Rattle.c65_init_join.specs.Joined.{joined}
-use Rattle.c65_meaning.specs.Program.{ProgramTy}
 use Rattle.c65_ppline.specs.Relations.{Answers, just, by_test, ◌then◌}
 use Rattle.c65_ppdir.specs.Units.{Held}
 use Rattle.c65_ppdir_law.specs.Once.{UnitsAreOne}

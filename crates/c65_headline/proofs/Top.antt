@@ -1,5 +1,5 @@
 -- The clause of the tool.
-use Rattle.std.proofs.Common.{◌≡◌, ℕ, Bool, true, List, Option, Some, None, Result, Ok, Err, inl, inr, refl, subst}
+use Rattle.std.proofs.Common.{◌≡◌, ℕ, true, List, Option, Some, None, Result, Ok, Err, inl, inr, refl, subst}
 use Rattle.std.specs.Prelude.{All}
 use Rattle.c65_base.specs.declared.options.Cpu.{Cpu}
 use Rattle.c65_base.specs.declared.refusal.Refusal.{Refusal}

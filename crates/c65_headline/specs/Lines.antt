@@ -1,5 +1,5 @@
 -- The codes on the way: the lines of a program show what its meaning shows, and a code that follows another one does so too.
-use Rattle.std.specs.Prelude.{◌≡◌, ℕ, ◌+◌, ◌*◌, ◌<◌, ◌==◌, ◌&&◌, Bool, true, false, nat_le, bytes_eq, List, [], All, Option, Some, None}
+use Rattle.std.specs.Prelude.{◌≡◌, ℕ, ◌+◌, ◌*◌, ◌<◌, ◌==◌, ◌&&◌, Bool, true, false, nat_le, bytes_eq, List, All, Option, Some, None}
 use Rattle.std.specs.List.{list_any}
 use Rattle.c65_base.specs.declared.options.Cpu.{Cpu}
 use Rattle.c65_base.specs.declared.options.Options.{Options}
@@ -12,7 +12,7 @@ use Rattle.c65_code.specs.Placement.{Placement, IsPlacement, setting_of}
 use Rattle.c65_code.specs.Starts.{IsStart}
 use Rattle.c65_code.specs.Comes.{Seen, Shown, ComesFrom}
 use Rattle.c65_code.specs.Processors.{RunsOn}
-use Rattle.c65_code.specs.Follows.{Grows, FollowsEverywhere}
+use Rattle.c65_code.specs.Follows.{FollowsEverywhere}
 use Rattle.c65_code.specs.Writable.{IsWritable}
 use Rattle.c65_asm.specs.Renumbered.{IsOfTypes}
 use Rattle.c65_headline.specs.Placed.{HasSegment}

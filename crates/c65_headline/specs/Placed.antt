@@ -1,5 +1,5 @@
 -- What the run of an image comes to, and the numbers of symbols in the code that a text reads as.
-use Rattle.std.specs.Prelude.{◌≡◌, ◌⊎◌, ℕ, suc, ◌+◌, ◌≤◌, Bool, IsTrue, IsSome, List, Option, Some, None, slice_get}
+use Rattle.std.specs.Prelude.{◌≡◌, ◌⊎◌, ℕ, suc, ◌+◌, ◌≤◌, Bool, IsTrue, IsSome, List, Some, None, slice_get}
 use Rattle.c65_mach.specs.declared.image.Image.{Image}
 use Rattle.c65_mach.specs.Run.{Progress, Running, Ended, Stopped, run_of}
 use Rattle.c65_code.specs.declared.code.Code.{Code}
