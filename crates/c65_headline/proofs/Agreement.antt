@@ -1,0 +1,131 @@
+-- From what a code comes to, to what its image does.
+use Rattle.std.proofs.Common.{◌≡◌, inl, inr, ℕ, suc, ◌+◌, ◌*◌, ◌≤◌, true, false, List, [], ◌∷◌, Option, Some, None, Result, Ok, Err, refl, sym, subst, arith}
+use Rattle.std.specs.Prelude.{IsTrue, nat_le, ◌&&◌, ◌==◌, bytes_eq}
+use Rattle.std.proofs.lemmas.Bool.{leb-true, eqb-true}
+use Rattle.std.proofs.lemmas.Slice.Eq.{bytes_eq-Decides}
+use Rattle.std.proofs.Math.Nat.{mul-le-mul_left}
+use Rattle.c65_base.specs.declared.options.Cpu.{Cpu}
+use Rattle.c65_mach.specs.declared.image.Image.{Image}
+use Rattle.c65_mach.specs.Run.{Progress, Running, Ended, Stopped, run_of}
+use Rattle.c65_meaning.specs.Program.{ProgramTy}
+use Rattle.c65_meaning.specs.Sites.{jumps}
+use Rattle.c65_meaning.specs.Sem.{Outcome, Runs, Ends, HasNone, IsDeep, IsDefined, turns_of, sem, Matches}
+use Rattle.c65_code.specs.declared.code.Code.{Code}
+use Rattle.c65_code.specs.LineState.{Place}
+use Rattle.c65_code.specs.Starts.{IsMain}
+use Rattle.c65_code.specs.Comes.{Seen, Shown}
+use Rattle.c65_code.specs.Processors.{RunsOn}
+use Rattle.c65_code.specs.Writable.{IsWritable}
+use Rattle.c65_asm.specs.Renumbered.{IsOfTypes, renumbered}
+use Rattle.c65_link.specs.Linked.{Fault, linked, image_for, linked_for}
+use Rattle.c65_headline.specs.Images.{Recorded, seen_of, Shows, ImageAgrees}
+use Rattle.c65_headline.specs.Lines.{same_end, has_turned, shows, shows_state, CodeAgrees}
+use Rattle.c65_headline.specs.Placed.{HasSegment, IsClosed, IsShownBy, Reaches, number_in, by_number}
+use Rattle.c65_headline.specs.Planned.{RenumberedIsSound, MainIsNumbered, RenumberedComes, ImagesFollow}
+use Rattle.c65_headline.proofs.Processors.{renumbered_runs}
+use Rattle.c65_headline.proofs.Codes.{both, either, shows_grow, state_shown}
+
+-- ---- one moment
+
+abbrev status_is : Option ℕ → ℕ → Type 0
+status_is None v = ⊥
+status_is (Some w) v = w ≡ v
+
+end_is : (e : Option ℕ) (v : ℕ) → IsTrue (same_end e (Some v)) → status_is e v
+end_is None v h = cc
+end_is (Some w) v h = eqb-true w v h
+
+matched_running : (out : List ℕ) (turns : ℕ) (pr : Progress) (s : Shown) → IsShownBy s pr → IsTrue (shows_state (Runs out turns) s) → Matches (Runs out turns) (seen_of pr)
+matched_running out turns (Running now) s e h =
+    let k : IsTrue (bytes_eq now.output out && true) = subst (λ (x : Shown). IsTrue (bytes_eq x.output out && same_end x.ended None)) e h in
+    sym ((bytes_eq-Decides now.output out).0 ((both (bytes_eq now.output out) true k).0))
+matched_running out turns (Ended now status) s e h =
+    let k : IsTrue (bytes_eq now.output out && false) = subst (λ (x : Shown). IsTrue (bytes_eq x.output out && same_end x.ended None)) e h in
+    absurd (let f : IsTrue false = (both (bytes_eq now.output out) false k).1 in cc)
+matched_running out turns (Stopped now) s e h = absurd e
+
+matched_ended : (out : List ℕ) (status turns : ℕ) (pr : Progress) (s : Shown) → IsShownBy s pr → IsTrue (shows_state (Ends out status turns) s) → Matches (Ends out status turns) (seen_of pr)
+matched_ended out status turns (Running now) s e h =
+    let k : IsTrue (bytes_eq now.output out && false) = subst (λ (x : Shown). IsTrue (bytes_eq x.output out && same_end x.ended (Some status))) e h in
+    absurd (let f : IsTrue false = (both (bytes_eq now.output out) false k).1 in cc)
+matched_ended out status turns (Ended now v) s e h =
+    let k : IsTrue (bytes_eq now.output out && (v == status)) = subst (λ (x : Shown). IsTrue (bytes_eq x.output out && same_end x.ended (Some status))) e h in
+    (sym ((bytes_eq-Decides now.output out).0 ((both (bytes_eq now.output out) (v == status) k).0)), sym (eqb-true v status ((both (bytes_eq now.output out) (v == status) k).1)))
+matched_ended out status turns (Stopped now) s e h = absurd e
+
+pub matched : (o : Outcome) (pr : Progress) (s : Shown) → IsShownBy s pr → IsTrue (shows_state o s) → Matches o (seen_of pr)
+matched (Runs out turns) pr s e h = matched_running out turns pr s e h
+matched (Ends out status turns) pr s e h = matched_ended out status turns pr s e h
+matched (HasNone why) pr s e h = cc
+matched IsDeep pr s e h = cc
+
+-- ---- arrivals are rows
+
+turned_by : (places : List Place) (most turns rows : ℕ) (seen : Seen) → ((f p : ℕ) → seen f p ≤ suc rows) → IsTrue (has_turned places most turns seen) → turns ≤ most * (rows + 1)
+turned_by [] most turns rows seen few h = cc
+turned_by (q ∷ qs) most turns rows seen few h = elim (either (nat_le turns (most * seen q.0 q.1)) (has_turned qs most turns seen) h) [
+  | inl x ↦ let le : turns ≤ most * seen q.0 q.1 = leb-true turns (most * seen q.0 q.1) x in
+      let f : seen q.0 q.1 ≤ suc rows = few q.0 q.1 in
+      let g : seen q.0 q.1 ≤ rows + 1 = omega arith in
+      let up : most * seen q.0 q.1 ≤ most * (rows + 1) = mul-le-mul_left most g in
+      omega arith
+  | inr x ↦ turned_by qs most turns rows seen few x
+]
+
+pub turns_fit : (places : List Place) (most rows : ℕ) (o : Outcome) (s : Shown) (seen : Seen) → ((f p : ℕ) → seen f p ≤ suc rows) → IsTrue (shows places most o s seen) → turns_of o ≤ most * (rows + 1)
+turns_fit places most rows (Runs out turns) s seen few h =
+    let p : IsTrue (bytes_eq s.output out) × IsTrue (same_end s.ended None && has_turned places most turns seen) = both (bytes_eq s.output out) (same_end s.ended None && has_turned places most turns seen) h in
+    turned_by places most turns rows seen few ((both (same_end s.ended None) (has_turned places most turns seen) p.1).1)
+turns_fit places most rows (Ends out status turns) s seen few h =
+    let p : IsTrue (bytes_eq s.output out) × IsTrue (same_end s.ended (Some status) && has_turned places most turns seen) = both (bytes_eq s.output out) (same_end s.ended (Some status) && has_turned places most turns seen) h in
+    turned_by places most turns rows seen few ((both (same_end s.ended (Some status)) (has_turned places most turns seen) p.1).1)
+turns_fit places most rows (HasNone why) s seen few h = cc
+turns_fit places most rows IsDeep s seen few h = cc
+
+-- ---- both moments together
+
+pub shown_twice : (notes : Recorded) (p : ProgramTy) (code : Code) (image : Image) (args : List (List ℕ)) (input : List ℕ) (n more : ℕ) (places : List Place)
+    → IsDefined (sem p args input n)
+    → Reaches notes image args input (λ shown seen. shows_state (sem p args input n) shown) (4000 * (n + 1))
+    → Reaches notes image args input (λ shown seen. shows places (jumps p) (sem p args input n) shown (by_number code seen)) (4000 * (n + 1) + more)
+    → Shows notes p image args input n
+shown_twice notes p code image args input n more places d a b = record {
+  agrees = record {
+    defined = d;
+    early = a.rows;
+    is_early = let w : a.rows ≤ 4000 * (n + 1) + 96 = a.within in omega arith;
+    same_early = matched (sem p args input n) (run_of image args input a.rows) a.shown a.shows a.passes;
+    late = b.rows;
+    is_late = turns_fit places (jumps p) b.rows (sem p args input n) b.shown (by_number code b.seen) (λ f q. b.few (number_in code f) q) b.passes;
+    same_late = matched (sem p args input n) (run_of image args input b.rows) b.shown b.shows (state_shown places (jumps p) (sem p args input n) b.shown (by_number code b.seen) b.passes);
+  };
+  free_early = a.free;
+  free_late = b.free;
+  recorded_early = a.recorded;
+  recorded_late = b.recorded;
+}
+
+-- ---- the image of a code whose lines agree
+
+-- an image for a processor is the linker's, but for its first bytes
+any_image : (cpu : Cpu) (r : Result Image Fault) (image : Image) → image_for cpu r ≡ Ok image → (i : Image) × (r ≡ Ok i)
+any_image cpu (Ok i) image h = (i, refl)
+any_image cpu (Err fault) image h = absurd (let k : (let x : Result Image Fault = Err fault in x ≡ Ok image) = h in cc)
+
+pub image_agrees : (notes : Recorded) → RenumberedIsSound → MainIsNumbered → RenumberedComes → ImagesFollow notes
+    → (cpu : Cpu) (p : ProgramTy) (code : Code) (image : Image) (main : ℕ) → IsWritable code → IsOfTypes code → RunsOn cpu code → IsClosed code → IsMain code main → HasSegment code main
+    → linked_for cpu (renumbered code) ≡ Ok image → CodeAgrees p code main → ImageAgrees notes p image
+image_agrees notes sound numbered comes follow cpu p code image main w ty runs closed is_main there l a args input n bytes given few d =
+    let s = sound code w ty in
+    let r : RunsOn cpu (renumbered code) = renumbered_runs cpu code runs in
+    let m : IsMain (renumbered code) (number_in code main) = numbered code main w is_main there in
+    let i : (i : Image) × (linked (renumbered code) ≡ Ok i) = any_image cpu (linked (renumbered code)) image l in
+    let early : Reaches notes image args input (λ shown seen. shows_state (sem p args input n) shown) (4000 * (n + 1)) =
+    follow cpu (renumbered code) image r s l (number_in code main) m args input (λ shown seen. shows_state (sem p args input n) shown) (4000 * (n + 1)) bytes given few
+    (comes code i.0 main args input (λ shown seen. shows_state (sem p args input n) shown) (4000 * (n + 1)) w ty i.1 closed is_main there (λ shown seen more b h. h)
+    (λ place t pl st. a.early place args input n t pl given st d)) in
+    let late : Reaches notes image args input (λ shown seen. shows a.places (jumps p) (sem p args input n) shown (by_number code seen)) (4000 * (n + 1) + a.more) =
+    follow cpu (renumbered code) image r s l (number_in code main) m args input (λ shown seen. shows a.places (jumps p) (sem p args input n) shown (by_number code seen)) (4000 * (n + 1) + a.more) bytes given few
+    (comes code i.0 main args input (shows a.places (jumps p) (sem p args input n)) (4000 * (n + 1) + a.more) w ty i.1 closed is_main there (shows_grow a.places (jumps p) (sem p args input n))
+    (λ place t pl st. a.late place args input n t pl given st d)) in
+    shown_twice notes p code image args input n a.more a.places d early late

@@ -1,0 +1,15 @@
+pub mod Ways
+pub mod Frames
+pub mod Processors
+pub mod ReadBack
+pub mod Spelled
+pub mod Codes
+pub mod Agreement
+pub mod Ends
+pub mod Never
+pub mod Uniqueness
+pub mod Made
+pub mod Runs
+pub mod Top
+pub mod Today
+pub mod Cycles

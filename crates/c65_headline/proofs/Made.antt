@@ -1,0 +1,250 @@
+-- The code and the image that are made of a program.
+use Rattle.std.proofs.Common.{◌≡◌, ◌⊎◌, ◌∙◌, ℕ, Bool, true, false, List, [], Option, Some, None, Result, Ok, Err, inl, inr, refl, ap, sym, subst}
+use Rattle.std.specs.Prelude.{IsTrue, length, nat_lt, slice_get}
+use Rattle.c65_base.specs.declared.options.Cpu.{Cpu}
+use Rattle.c65_base.specs.declared.options.Cpu.TheVariants.{Nmos, Cmos}
+use Rattle.c65_base.specs.declared.options.Options.{Options}
+use Rattle.c65_base.specs.declared.refusal.Refusal.{Refusal}
+use Rattle.c65_base.specs.declared.refusal.Refusal.TheVariants as refusals
+use Rattle.c65_base.specs.declared.refusal.Size.{Size}
+use Rattle.c65_base.specs.declared.refusal.Size.TheVariants as sizes
+use Rattle.c65_base.specs.declared.refusal.LinkKind.TheVariants as linkkinds
+use Rattle.c65_base.specs.Answers.{at, large, Fails}
+use Rattle.c65_io.specs.Causes.{Rose}
+use Rattle.c65_mach.specs.declared.image.Image.{Image}
+use Rattle.c65_ppline.specs.Relations.{Answers, just, by_test, ◌then◌, IsFree}
+use Rattle.c65_ppdir.specs.Units.{Held}
+use Rattle.c65_ppdir_law.specs.Once.{IsFinal, HasOne, UnitsAreOne}
+use Rattle.c65_csem.specs.Trees.{UnitTy}
+use Rattle.c65_csem.specs.declared.items.Parts.{Parts}
+use Rattle.c65_csem.specs.Views.{unit_of}
+use Rattle.c65_code.specs.declared.code.Code.{Code}
+use Rattle.c65_code.specs.declared.code.Symbol.{Symbol}
+use Rattle.c65_code.specs.declared.code.Datum.{Datum}
+use Rattle.c65_code.specs.Placement.{has_datum}
+use Rattle.c65_code.specs.Processors.{IsNmos, RunsOn}
+use Rattle.c65_code.specs.Starts.{IsMain}
+use Rattle.c65_code.specs.Writable.{IsWritable}
+use Rattle.c65_asm.specs.Renumbered.{IsOfTypes, renumbered}
+use Rattle.c65_asm.specs.Text.{text_of}
+use Rattle.c65_asm.specs.declared.reading.Answer.TheVariants as answers
+use Rattle.c65_link.specs.Linked.{linked, linked_for, undefined, Fails as LinkFails}
+use Rattle.c65_link.specs.Linked as linker
+use Rattle.c65_genstmt.specs.Programs.{program_of}
+use Rattle.c65_init_join.specs.Joined.{joined}
+use Rattle.c65_meaning.specs.Program.{ProgramTy}
+use Rattle.c65_driver_chain.specs.Front.{Command, files_typed, joining, generated, compiled}
+use Rattle.c65_driver_chain.specs.Front as chain
+use Rattle.c65_driver_words.specs.Commands.{Spelled}
+use Rattle.c65_driver.specs.Compiled.{IsLinked, IsOfFront, ReadsAs, front}
+use Rattle.c65_driver.specs.Outside.{Outside}
+use Rattle.c65_headline.specs.Images.{Recorded, ImageAgrees}
+use Rattle.c65_headline.specs.Lines.{OptimisedIf, Optimised}
+use Rattle.c65_headline.specs.Placed.{HasSegment, HasBody, IsClosed}
+use Rattle.c65_headline.specs.Fronts.{command_of, programs, IsFront, IsMadeOf, HasLargeFrame}
+use Rattle.c65_headline.specs.Planned.{Agreeing}
+use Rattle.c65_headline.specs.Headline.{Hinders, IsHindered}
+use Rattle.c65_headline.specs.Laws.{Laws}
+use Rattle.c65_headline.proofs.Frames.{only_frames_are_refused}
+use Rattle.c65_headline.proofs.ReadBack.{codes_read_back}
+use Rattle.c65_headline.proofs.Codes.{two_moments, rewritten_if}
+use Rattle.c65_headline.proofs.Agreement.{image_agrees}
+use Rattle.c65_headline.proofs.Uniqueness.{is_value, no_value, one_files, one_program, one_joining}
+
+-- ---- refusals behind the front
+
+free_or_final : (e : Refusal) → IsFree e ⊎ IsFinal e
+free_or_final refusals.OutOfMemory = inl tt
+free_or_final refusals.ReadFault = inl tt
+free_or_final _ = inr tt
+
+pair_left : {A B E : Type 0} (a c : A) (b d : B) → (let x : Result (A × B) E = Ok (a, b) in x ≡ Ok (c, d)) → a ≡ c
+pair_left {A} {B} {E} a c b d h = let e : (a, b) ≡ (c, d) = is_value {A = A × B} {E = E} (a, b) (c, d) h in ap (λ (x : A × B). x.0) e
+
+pair_right : {A B E : Type 0} (a c : A) (b d : B) → (let x : Result (A × B) E = Ok (a, b) in x ≡ Ok (c, d)) → b ≡ d
+pair_right {A} {B} {E} a c b d h = let e : (a, b) ≡ (c, d) = is_value {A = A × B} {E = E} (a, b) (c, d) h in ap (λ (x : A × B). x.1) e
+
+-- where the front gives a program, what is refused is refused by the generator, or free
+late_by : (b : Bool) (r : Refusal) (P : Answers (List UnitTy × List (List ℕ))) (o : Options) (e : Refusal) (q : UnitTy × ℕ) (names : List (List ℕ)) → HasOne P
+    → by_test {A = (UnitTy × ℕ) × List (List ℕ)} b (just (Err r)) (P then λ x. joining (joined x.1 x.0) then λ p. just (Ok (p, x.1))) (Ok (q, names))
+    → by_test {A = Code} b (just (Err r)) (P then λ x. chain.linked o x.0 x.1) (Err e)
+    → IsFree e ⊎ generated o names q (Err e)
+late_by true r P o e q names one f g = absurd (no_value (q, names) r f)
+late_by false r P o e q names one (x, h, (p, j, k)) (inl g) = elim (free_or_final e) [
+  | inl free ↦ inl free
+  | inr final ↦ absurd (no_value x e (one (Ok x) (Err e) tt final h g))
+]
+late_by false r P o e q names one (x, h, (p, j, k)) (inr (y, i, l)) =
+    let same : y ≡ x = is_value y x (one (Ok y) (Ok x) tt tt i h) in
+    let l2 : (joining (joined x.1 x.0) then generated o x.1) (Err e) = subst (λ (z : List UnitTy × List (List ℕ)). (joining (joined z.1 z.0) then generated o z.1) (Err e)) same l in
+    elim l2 [
+      | inl m ↦ elim (free_or_final e) [
+        | inl free ↦ inl free
+        | inr final ↦ absurd (no_value p e (one_joining (joined x.1 x.0) (Ok p) (Err e) tt final j m))
+      ]
+      | inr m ↦
+          let ps : m.0 ≡ p = is_value m.0 p (one_joining (joined x.1 x.0) (Ok m.0) (Ok p) tt tt m.1 j) in
+          let pq : m.0 ≡ q = ps ∙ sym (pair_left q p names x.1 k) in
+          let ns : x.1 ≡ names = sym (pair_right q p names x.1 k) in
+          inr (subst (λ (z : UnitTy × ℕ). generated o names z (Err e)) pq (subst (λ ns. generated o ns m.0 (Err e)) ns m.2))
+    ]
+
+pub late : UnitsAreOne → (c : Command) (paths : List (List ℕ)) (e : Refusal) (q : UnitTy × ℕ) (names : List (List ℕ)) → programs c paths (Ok (q, names)) → compiled c paths (Err e) → IsFree e ⊎ generated c.options names q (Err e)
+late units c paths e q names f g = late_by (nat_lt 64 (length paths)) (refusals.TooLarge sizes.Units (length paths)) (files_typed c paths [] []) c.options e q names (one_files units c paths [] []) f g
+
+-- ---- why there is no image
+
+-- a read fault has its cause
+abbrev pub CauseOf : Outside → Outside → Refusal → Type 0
+CauseOf old new refusals.ReadFault = Rose old.files.faults new.files.faults ⊎ Rose old.input_faults new.input_faults
+CauseOf old new _ = Unit {0}
+
+free_hinders : (p : ProgramTy) (honoured : Bool) (code : Option Code) (old new : Outside) (e : Refusal) → CauseOf old new e → IsFree e → Hinders p honoured code old new e
+free_hinders p honoured code old new refusals.OutOfMemory c f = tt
+free_hinders p honoured code old new refusals.ReadFault c f = c
+free_hinders p honoured code old new _ c f = absurd f
+
+limit_is : (limit : Size) (value v : ℕ) → large limit value ≡ large sizes.Frame v → limit ≡ sizes.Frame
+limit_is limit value v h = cc
+
+no_place : (code : _) (pos : _) (v : ℕ) → at code pos ≡ large sizes.Frame v → ⊥
+no_place code pos v h = cc
+
+frame_hinders : (p : ProgramTy) (honoured : Bool) (code : Option Code) (old new : Outside) (limit : Size) (value : ℕ) → limit ≡ sizes.Frame → HasLargeFrame p honoured value → Hinders p honoured code old new (refusals.TooLarge limit value)
+frame_hinders p honoured code old new limit value same h = subst (λ (l : Size). Hinders p honoured code old new (refusals.TooLarge l value)) (sym same) h
+
+generated_hinders : (p : ProgramTy) (honoured : Bool) (code : Option Code) (old new : Outside) (e : Refusal) (parts : Parts) (names : List (List ℕ)) → CauseOf old new e
+    → unit_of parts ≡ p.unit → Fails e (program_of parts p.main names honoured) → Hinders p honoured code old new e
+generated_hinders p honoured code old new refusals.OutOfMemory parts names c u f = tt
+generated_hinders p honoured code old new (refusals.At k pos) parts names c u f =
+    let x = only_frames_are_refused parts p.main names honoured (at k pos) f in absurd (no_place k pos x.0 x.1)
+generated_hinders p honoured code old new (refusals.TooLarge limit value) parts names c u f =
+    let x = only_frames_are_refused parts p.main names honoured (large limit value) f in
+    let same : limit ≡ sizes.Frame = limit_is limit value x.0 x.1 in
+    frame_hinders p honoured code old new limit value same (record {
+      parts = parts;
+      names = names;
+      same = u;
+      refused = subst (λ (l : Size). program_of parts p.main names honoured ≡ Err (large l value)) same f;
+    })
+generated_hinders p honoured code old new _ parts names c u f = absurd f
+
+front_hinders : UnitsAreOne → (held : Held) (command : Spelled) (p : ProgramTy) (code : Option Code) (old new : Outside) (e : Refusal) → CauseOf old new e
+    → IsFront held command p → IsFree e ⊎ front held command (Err e) → Hinders p command.options.register_vars code old new e
+front_hinders units held command p code old new e c f (inl free) = free_hinders p command.options.register_vars code old new e c free
+front_hinders units held command p code old new e c f (inr h) = elim (late units (command_of held command) command.files e (p.unit, p.main) f.names f.gives h) [
+  | inl free ↦ free_hinders p command.options.register_vars code old new e c free
+  | inr g ↦ generated_hinders p command.options.register_vars code old new e g.0 f.names c g.1 g.3
+]
+
+-- ---- the code that was made
+
+answer_is : (a b : Code) → answers.Code a ≡ answers.Code b → a ≡ b
+answer_is a b h = cc
+
+writable_if : (asked : Bool) (cpu : Cpu) (old new : Code) → OptimisedIf asked cpu old new → (new ≡ old → IsWritable old × IsOfTypes old) → IsWritable new × IsOfTypes new
+writable_if false cpu old new e w = subst (λ (c : Code). IsWritable c × IsOfTypes c) (sym e) (w e)
+writable_if true cpu old new o w = (o.writable, o.of_types)
+
+runs_if : (asked : Bool) (cpu : Cpu) (old new : Code) → OptimisedIf asked cpu old new → RunsOn cpu old → RunsOn cpu new
+runs_if false cpu old new e r = subst (λ (c : Code). RunsOn cpu c) (sym e) r
+runs_if true cpu old new o r = o.runs r
+
+runs_on : (cpu : Cpu) (code : Code) → IsNmos code → RunsOn cpu code
+runs_on Nmos code n = n
+runs_on Cmos code n = tt
+
+defined_if : (asked : Bool) (cpu : Cpu) (old new : Code) (main : ℕ) → OptimisedIf asked cpu old new → HasSegment old main → HasSegment new main
+defined_if false cpu old new main e h = subst (λ (c : Code). HasSegment c main) (sym e) h
+defined_if true cpu old new main o h = o.defined main h
+
+-- a code with the same symbols and data whose functions have lines where they had lines
+body_in : (cpu : Cpu) (old new : Code) (i : ℕ) (symbol : Symbol) → Optimised cpu old new → HasBody old i symbol → HasBody new i symbol
+body_in cpu old new i symbol o (inl h) = inl (o.defined i h)
+body_in cpu old new i symbol o (inr (inl h)) = inr (inl (subst (λ (d : List Datum). IsTrue (has_datum d i)) (sym o.datums) h))
+body_in cpu old new i symbol o (inr (inr h)) = inr (inr h)
+
+closed_if : (asked : Bool) (cpu : Cpu) (old new : Code) → OptimisedIf asked cpu old new → IsClosed old → IsClosed new
+closed_if false cpu old new e c = subst (λ (x : Code). IsClosed x) (sym e) c
+closed_if true cpu old new o c = λ i symbol there. body_in cpu old new i symbol o (c i symbol (subst (λ (s : List Symbol). slice_get s i ≡ Some symbol) o.symbols there))
+
+main_if : (asked : Bool) (cpu : Cpu) (old new : Code) (main : ℕ) → OptimisedIf asked cpu old new → IsMain old main → IsMain new main
+main_if false cpu old new main e h = subst (λ (c : Code). IsMain c main) (sym e) h
+main_if true cpu old new main o (symbol, there, spelled) = (symbol, subst (λ (s : List Symbol). slice_get s main ≡ Some symbol) (sym o.symbols) there, spelled)
+
+module _ (units : UnitsAreOne) (notes : Recorded) (laws : Laws notes) (held : Held) (command : Spelled) where
+  pub program_in : (code : Code) → IsMadeOf held command code → ProgramTy
+  program_in code m = record { unit = unit_of m.parts; main = m.main }
+
+  is_written : (code : Code) (m : IsMadeOf held command code) → IsWritable m.rewritten × IsOfTypes m.rewritten
+  is_written code m =
+      writable_if command.options.optimise command.options.cpu m.generated m.rewritten m.rewrites
+      (λ same. laws.writable held command m.parts m.main m.names m.generated code m.front m.generates (subst (λ (c : Code). ReadsAs (text_of c) code) same m.reads))
+
+  does_run : (code : Code) (m : IsMadeOf held command code) → RunsOn command.options.cpu m.rewritten
+  does_run code m = runs_if command.options.optimise command.options.cpu m.generated m.rewritten m.rewrites
+      (runs_on command.options.cpu m.generated (laws.rows m.parts m.main m.names command.options.register_vars m.generated m.generates))
+
+  pub is_renumbered : (code : Code) (m : IsMadeOf held command code) → code ≡ renumbered m.rewritten
+  is_renumbered code m = answer_is code (renumbered m.rewritten) (sym m.reads ∙ codes_read_back m.rewritten ((is_written code m).0) ((is_written code m).1))
+
+  pub made_agrees : (code : Code) (m : IsMadeOf held command code) (image : Image) → linked_for command.options.cpu code ≡ Ok image → ImageAgrees notes (program_in code m) image
+  unfolding program_in
+  made_agrees code m image l =
+      let a : Agreeing (record { unit = unit_of m.parts; main = m.main }) m.generated = laws.lines m.parts m.main m.names command.options.register_vars m.generated m.good m.generates in
+      let w = is_written code m in
+      image_agrees notes laws.sound laws.main laws.renumbered laws.images command.options.cpu (record { unit = unit_of m.parts; main = m.main }) m.rewritten image a.main w.0 w.1 (does_run code m) (closed_if command.options.optimise command.options.cpu m.generated m.rewritten m.rewrites a.closed)
+      (main_if command.options.optimise command.options.cpu m.generated m.rewritten a.main m.rewrites a.is_main)
+      (defined_if command.options.optimise command.options.cpu m.generated m.rewritten a.main m.rewrites a.defined)
+      (subst (λ (c : Code). linked_for command.options.cpu c ≡ Ok image) (is_renumbered code m) l)
+      (rewritten_if command.options.optimise command.options.cpu (record { unit = unit_of m.parts; main = m.main }) m.generated m.rewritten a.main m.rewrites (two_moments (record { unit = unit_of m.parts; main = m.main }) m.generated a.main a.agrees))
+
+  program_is : (u v : UnitTy) (a b : ℕ) (names more : List (List ℕ)) → (let x : Result ((UnitTy × ℕ) × List (List ℕ)) Refusal = Ok ((u, a), names) in x ≡ Ok ((v, b), more)) → (let x : ProgramTy = record { unit = u; main = a } in x ≡ record { unit = v; main = b })
+  program_is u v a b names more h = let e : (u, a) ≡ (v, b) = pair_left (u, a) (v, b) names more h in ap (λ (z : UnitTy × ℕ). let x : ProgramTy = record { unit = z.0; main = z.1 } in x) e
+
+  -- it is the program of the front
+  pub same_program : (code : Code) (m : IsMadeOf held command code) (p : ProgramTy) → IsFront held command p → program_in code m ≡ p
+  unfolding program_in
+  same_program code m p f = program_is (unit_of m.parts) p.unit m.main p.main m.names f.names
+      (one_program units (command_of held command) command.files (Ok ((unit_of m.parts, m.main), m.names)) (Ok ((p.unit, p.main), f.names)) tt tt m.front f.gives)
+
+  undefined_never : (code : Code) (m : IsMadeOf held command code) (name : List ℕ) → linked code ≡ Err (undefined name) → ⊥
+  undefined_never code m name l =
+      let a : Agreeing (record { unit = unit_of m.parts; main = m.main }) m.generated = laws.lines m.parts m.main m.names command.options.register_vars m.generated m.good m.generates in
+      let w = is_written code m in
+      laws.whole m.rewritten a.main name w.0 w.1
+      (closed_if command.options.optimise command.options.cpu m.generated m.rewritten m.rewrites a.closed)
+      (main_if command.options.optimise command.options.cpu m.generated m.rewritten a.main m.rewrites a.is_main)
+      (subst (λ (c : Code). linked c ≡ Err (undefined name)) (is_renumbered code m) l)
+
+  linker_hinders : (p : ProgramTy) (code : Code) (m : IsMadeOf held command code) (old new : Outside) (e : Refusal) → LinkFails e (linked code) → Hinders p command.options.register_vars (Some code) old new e
+  linker_hinders p code m old new refusals.OutOfMemory f = tt
+  linker_hinders p code m old new (refusals.Link linkkinds.Undefined name) f = absurd (undefined_never code m name f)
+  linker_hinders p code m old new (refusals.Link _ name) f = absurd f
+  linker_hinders p code m old new (refusals.TooLarge sizes.Image value) f = (code, refl, f)
+  linker_hinders p code m old new (refusals.TooLarge _ value) f = absurd f
+  linker_hinders p code m old new _ f = absurd f
+
+  -- the same for whatever was made
+  abbrev pub CauseIn : Outside → Outside → Result ℕ Refusal → Type 0
+  CauseIn old new (Ok status) = Unit {0}
+  CauseIn old new (Err e) = CauseOf old new e
+
+  pub hindered : (p : ProgramTy) → IsFront held command p → (old new : Outside) (code : Option Code) (image : Option Image) (answer : Result ℕ Refusal) → IsLinked command.options.cpu code image answer → IsOfFront (front held command) code answer
+      → ((c : Code) → code ≡ Some c → IsMadeOf held command c) → CauseIn old new answer → image ≡ None → IsHindered p command.options.register_vars code old new answer
+  hindered p f old new None None (Ok status) l g m c e = absurd l
+  hindered p f old new None None (Err r) l g m c e = front_hinders units held command p None old new r c f g
+  hindered p f old new None (Some i) answer l g m c e = absurd l
+  hindered p f old new (Some k) (Some i) answer l g m c e = absurd (let h : (let x : Option Image = Some i in x ≡ None) = e in cc)
+  hindered p f old new (Some k) None (Ok status) l g m c e = absurd l
+  hindered p f old new (Some k) None (Err r) l g m c e = linker_hinders p k (m k refl) old new r l
+
+  pub agreeing : (p : ProgramTy) → IsFront held command p → (code : Option Code) (image : Option Image) (answer : Result ℕ Refusal) → IsLinked command.options.cpu code image answer
+      → ((c : Code) → code ≡ Some c → IsMadeOf held command c) → (i : Image) → image ≡ Some i → ImageAgrees notes p i
+  agreeing p f None (Some j) answer l m i e = absurd l
+  agreeing p f None None answer l m i e = absurd (let h : (let x : Option Image = None in x ≡ Some i) = e in cc)
+  agreeing p f (Some k) None answer l m i e = absurd (let h : (let x : Option Image = None in x ≡ Some i) = e in cc)
+  agreeing p f (Some k) (Some j) answer l m i e =
+      let made : IsMadeOf held command k = m k refl in
+      let same : j ≡ i = let h : (let x : Option Image = Some j in x ≡ Some i) = e in cc in
+      subst (λ (q : ProgramTy). ImageAgrees notes q i) (same_program k made p f) (made_agrees k made i (l ∙ ap (λ (x : Image). let y : Result Image linker.Fault = Ok x in y) same))

@@ -1,0 +1,104 @@
+-- The clause of the tool as it is today.
+use Rattle.std.proofs.Common.{◌≡◌, ◌∙◌, ℕ, Bool, true, false, List, [], Option, Some, None, Result, Ok, Err, refl, ap, sym, subst}
+use Rattle.std.specs.Prelude.{length, nat_lt}
+use Rattle.c65_base.specs.declared.options.Cpu.{Cpu}
+use Rattle.c65_base.specs.declared.options.Options.{Options}
+use Rattle.c65_base.specs.declared.refusal.Refusal.{Refusal}
+use Rattle.c65_base.specs.declared.refusal.Refusal.TheVariants as refusals
+use Rattle.c65_base.specs.declared.refusal.Size.TheVariants as sizes
+use Rattle.c65_mach.specs.declared.image.Image.{Image}
+use Rattle.c65_code.specs.declared.code.Code.{Code}
+use Rattle.c65_asm.specs.Text.{text_of}
+use Rattle.c65_csem.specs.Trees.{UnitTy}
+use Rattle.c65_csem.specs.declared.items.Parts.{Parts}
+use Rattle.c65_csem.specs.Views.{unit_of}
+use Rattle.c65_genstmt.specs.Programs.{program_of}
+use Rattle.c65_init_join.specs.Joined.{joined}
+use Rattle.c65_ppline.specs.Relations.{Answers, just, by_test, ◌then◌}
+use Rattle.c65_ppdir.specs.Units.{Held}
+use Rattle.c65_ppdir_law.specs.Once.{UnitsAreOne}
+use Rattle.c65_driver_chain.specs.Front.{Command, IsGood, files_typed, joining, generated, compiled}
+use Rattle.c65_driver_chain.specs.Front as chain
+use Rattle.c65_driver_words.specs.Commands.{Spelled}
+use Rattle.c65_driver_words.specs.Words.{Spelling, Is, NoCommand, spelling_of}
+use Rattle.c65_driver_words.specs.declared.command.CommandKind.{CommandKind}
+use Rattle.c65_driver_words.specs.declared.command.CommandKind.TheVariants as kinds
+use Rattle.c65_driver.specs.Compiled.{ReadsAs, IsOfSources, front}
+use Rattle.c65_driver.specs.Outside.{Outside}
+use Rattle.c65_driver.specs.Tool.{Serves, Performs}
+use Rattle.c65_headline.specs.Lines.{OptimisedIf}
+use Rattle.c65_headline.specs.Fronts.{command_of, programs, IsMadeOf}
+use Rattle.c65_headline.specs.Headline.{IsMade}
+use Rattle.c65_headline.specs.Laws.{HeadlineHoldsToday}
+use Rattle.c65_headline.proofs.Spelled.{never_rewritten}
+use Rattle.c65_headline.proofs.Top.{holds}
+use Rattle.c65_headline.proofs.Uniqueness.{no_value}
+
+-- what a code of the front is made of
+record Stems (o : Options) (P : Answers ((UnitTy × ℕ) × List (List ℕ))) (code : Code) : Type 0 where
+  parts : Parts
+  main : ℕ
+  names : List (List ℕ)
+  front : P (Ok ((unit_of parts, main), names))
+  good : IsGood names (unit_of parts) main
+  generates : program_of parts main names o.register_vars ≡ Ok code
+
+stems_by : (b : Bool) (r : Refusal) (P : Answers (List UnitTy × List (List ℕ))) (o : Options) (code : Code)
+    → by_test {A = Code} b (just (Err r)) (P then λ x. chain.linked o x.0 x.1) (Ok code)
+    → Stems o (by_test {A = (UnitTy × ℕ) × List (List ℕ)} b (just (Err r)) (P then λ x. joining (joined x.1 x.0) then λ p. just (Ok (p, x.1)))) code
+stems_by true r P o code g = absurd (no_value code r g)
+stems_by false r P o code (x, h, (p, j, (parts, u, good, g))) =
+    let same : (unit_of parts, p.1) ≡ p = ap (λ (z : UnitTy). let y : UnitTy × ℕ = (z, p.1) in y) u in
+    record {
+      parts = parts;
+      main = p.1;
+      names = x.1;
+      front = (x, h, ((unit_of parts, p.1), subst (λ (z : UnitTy × ℕ). joining (joined x.1 x.0) (Ok z)) (sym same) j, refl));
+      good = subst (λ (z : UnitTy). IsGood x.1 z p.1) (sym u) good;
+      generates = g;
+    }
+
+not_asked : (b : Bool) (cpu : Cpu) (c : Code) → b ≡ false → OptimisedIf b cpu c c
+not_asked true cpu c e = absurd (let h : true ≡ false = e in cc)
+not_asked false cpu c e = refl
+
+made_of : (held : Held) (command : Spelled) (code : Code) → command.options.optimise ≡ false
+    → (c : Code) × front held command (Ok c) × ReadsAs (text_of c) code → IsMadeOf held command code
+made_of held command code off (c, h, r) =
+    let s : Stems command.options (programs (command_of held command) command.files) c =
+    stems_by (nat_lt 64 (length command.files)) (refusals.TooLarge sizes.Units (length command.files)) (files_typed (command_of held command) command.files [] []) command.options c h in
+    record {
+      parts = s.parts;
+      main = s.main;
+      names = s.names;
+      front = s.front;
+      good = s.good;
+      generated = c;
+      generates = s.generates;
+      rewritten = c;
+      rewrites = not_asked command.options.optimise command.options.cpu c off;
+      reads = r;
+    }
+
+from_sources : (command : Spelled) (old : Outside) (code : Option Code) (answer : Result ℕ Refusal) → command.options.optimise ≡ false
+    → IsOfSources command old.files.contents code answer → (held : Held) (c : Code) → old.files.contents ≡ Some held → code ≡ Some c → IsMadeOf held command c
+from_sources command old None answer off s held c told e = absurd (let h : (let x : Option Code = None in x ≡ Some c) = e in cc)
+from_sources command old (Some k) answer off s held c told e =
+    let same : k ≡ c = let h : (let x : Option Code = Some k in x ≡ Some c) = e in cc in
+    subst (λ (x : Code). IsMadeOf held command x) same (made_of held command k off (s held told))
+
+made_by : (kind : CommandKind) (command : Spelled) (old new : Outside) (code : Option Code) (image : Option Image) (answer : Result ℕ Refusal) → command.options.optimise ≡ false
+    → Serves kind command old new code image answer → (held : Held) (c : Code) → old.files.contents ≡ Some held → code ≡ Some c → IsMadeOf held command c
+made_by kinds.Go command old new code image answer off s held c told e = from_sources command old code answer off s.from_files held c told e
+made_by kinds.Build command old new code image answer off s held c told e = from_sources command old code answer off s.builds.from_files held c told e
+made_by kinds.Text command old new code image answer off s held c told e = from_sources command old code answer off s.texts.from_files held c told e
+made_by kinds.Run command old new code image answer off s held c told e = absurd (let h : (let x : Option Code = None in x ≡ Some c) = sym s.no_code ∙ e in cc)
+
+made_today : (spelling : Spelling) (old new : Outside) (code : Option Code) (image : Option Image) (answer : Result ℕ Refusal) → ((command : Spelled) → spelling ≡ Is command → command.options.optimise ≡ false)
+    → Performs spelling old new code image answer → IsMade spelling old code
+made_today (NoCommand word) old new code image answer off s = tt
+made_today (Is command) old new code image answer off s = λ held c told e. made_by command.kind command old new code image answer (off command refl) s held c told e
+
+pub holds_today : UnitsAreOne → HeadlineHoldsToday
+holds_today units notes laws words old new code image answer bytes s =
+    holds units notes laws words old new code image answer bytes s (made_today (spelling_of words) old new code image answer (λ command e. never_rewritten words command bytes e) s)

@@ -1,0 +1,5 @@
+use Rattle.c65_headline.proofs.Top.{holds}
+use Rattle.c65_headline.proofs.laws.headline_holds.Goals as goal
+
+pub returns : goal.returns
+returns c = holds c.units_are_one.ensures

@@ -1,0 +1,5 @@
+use Rattle.c65_headline.proofs.Today.{holds_today}
+use Rattle.c65_headline.proofs.laws.headline_holds_today.Goals as goal
+
+pub returns : goal.returns
+returns c = holds_today c.units_are_one.ensures

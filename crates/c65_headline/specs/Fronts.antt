@@ -1,0 +1,53 @@
+-- The program that told files are, and the code that is made of it.
+use Rattle.std.specs.Prelude.{◌≡◌, ℕ, Bool, List, [], length, nat_lt, Ok, Err}
+use Rattle.c65_base.specs.declared.refusal.Refusal.TheVariants as refusals
+use Rattle.c65_base.specs.declared.refusal.Size.TheVariants as sizes
+use Rattle.c65_base.specs.Answers.{large}
+use Rattle.c65_ppline.specs.Relations.{Answers, just, by_test, ◌then◌}
+use Rattle.c65_ppdir.specs.Units.{Held}
+use Rattle.c65_csem.specs.declared.items.Parts.{Parts}
+use Rattle.c65_csem.specs.Trees.{UnitTy}
+use Rattle.c65_csem.specs.Views.{unit_of}
+use Rattle.c65_init_join.specs.Joined.{joined}
+use Rattle.c65_meaning.specs.Program.{ProgramTy}
+use Rattle.c65_code.specs.declared.code.Code.{Code}
+use Rattle.c65_genstmt.specs.Programs.{program_of}
+use Rattle.c65_asm.specs.Text.{text_of}
+use Rattle.c65_driver_chain.specs.Front.{Command, command, files_typed, joining, IsGood}
+use Rattle.c65_driver_words.specs.Commands.{Spelled}
+use Rattle.c65_driver.specs.Compiled.{ReadsAs}
+use Rattle.c65_headline.specs.Lines.{OptimisedBy}
+
+abbrev pub command_of : Held → Spelled → Command
+command_of held c = command held c.options c.defines c.folders
+
+-- the typed program of files and the spellings known behind it, or the first refusal: `compiled` of c65_driver_chain without its
+-- last stage
+abbrev pub programs : Command → List (List ℕ) → Answers ((UnitTy × ℕ) × List (List ℕ))
+programs c paths = by_test (nat_lt 64 (length paths)) (just (Err (refusals.TooLarge sizes.Units (length paths))))
+    (files_typed c paths [] [] then λ x. joining (joined x.1 x.0) then λ p. just (Ok (p, x.1)))
+
+-- the program is well formed: the front gives it
+pub record IsFront (held : Held) (c : Spelled) (p : ProgramTy) : Type 0 where
+  pub names : List (List ℕ)
+  pub gives : programs (command_of held c) c.files (Ok ((p.unit, p.main), names))
+
+-- the code that was made is what the text of the program's code reads as, rewritten where that is asked for
+pub record IsMadeOf (held : Held) (c : Spelled) (code : Code) : Type 0 where
+  pub parts : Parts
+  pub main : ℕ
+  pub names : List (List ℕ)
+  pub front : programs (command_of held c) c.files (Ok ((unit_of parts, main), names))
+  pub good : IsGood names (unit_of parts) main
+  pub generated : Code
+  pub generates : program_of parts main names c.options.register_vars ≡ Ok generated
+  pub rewritten : Code
+  pub rewrites : OptimisedBy c.options generated rewritten
+  pub reads : ReadsAs (text_of rewritten) code
+
+-- the limit Frame: the generator refuses the program
+pub record HasLargeFrame (p : ProgramTy) (honoured : Bool) (value : ℕ) : Type 0 where
+  pub parts : Parts
+  pub names : List (List ℕ)
+  pub same : unit_of parts ≡ p.unit
+  pub refused : program_of parts p.main names honoured ≡ Err (large sizes.Frame value)

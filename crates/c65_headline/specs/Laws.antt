@@ -1,0 +1,47 @@
+-- The main theorem, from the laws that are left.
+use Rattle.std.specs.Prelude.{ℕ, List, All, Option, Result}
+use Rattle.c65_base.specs.declared.refusal.Refusal.{Refusal}
+use Rattle.c65_mach.specs.declared.image.Image.{Image}
+use Rattle.c65_code.specs.declared.code.Code.{Code}
+use Rattle.c65_driver_words.specs.Words.{spelling_of}
+use Rattle.c65_driver.specs.Outside.{Outside}
+use Rattle.c65_driver.specs.Tool.{Performs}
+use Rattle.c65_headline.specs.Images.{Recorded, AreBytes}
+use Rattle.c65_headline.specs.Planned.{ProgramsAgree, ProgramsAreNmos, FrontsAreWritable, RenumberedIsSound, MainIsNumbered, RenumberedComes, NothingIsUndefined, ImagesFollow, TurnsGoOn}
+use Rattle.c65_headline.specs.Headline.{IsMade, Headline}
+
+-- What is not proved yet. Each field is a law of the crate that it names; docs/LADDER.md has them as a table.
+pub record Laws (notes : Recorded) : Type 0 where
+  -- The lines of a good program's code, at every placement, show what its meaning shows, within 4,000 for each step and the start,
+  -- and with a line reached for each turn; whatever the code names has a body: the simulation, a law above c65_genstmt.
+  pub lines : ProgramsAgree
+  -- The generator makes no line with a row that the 65C02 adds: c65_gen_law_lines.
+  pub rows : ProgramsAreNmos
+  -- The code of a program that the front gives can be written as text, where its text was read: c65_asm_law with c65_init_join, or
+  -- a test where files are compiled.
+  pub writable : FrontsAreWritable
+  -- The code numbered anew can be linked: a law above c65_asm.
+  pub sound : RenumberedIsSound
+  -- Its main function is the code's: the same law.
+  pub main : MainIsNumbered
+  -- What the code comes to at every placement, the code numbered anew comes to at the linker's: the same law.
+  pub renumbered : RenumberedComes
+  -- The linker misses nothing of a code whose symbols have bodies: c65_link_law.
+  pub whole : NothingIsUndefined
+  -- What the lines of a code come to within a weight, its image comes to within as many rows and 96 more, while the stack's guard
+  -- lets it: a law above c65_link.
+  pub images : ImagesFollow notes
+  -- A program that is defined for ever ends, or makes as many turns as one likes: a law above c65_meaning.
+  pub turns : TurnsGoOn
+
+-- From what is left, what the tool's clause says of words, and how the code was made, the main theorem follows.
+abbrev pub HeadlineHolds : Type 0
+HeadlineHolds = (notes : Recorded) → Laws notes
+    → (words : List (List ℕ)) (old new : Outside) (code : Option Code) (image : Option Image) (answer : Result ℕ Refusal) → All AreBytes words
+    → Performs (spelling_of words) old new code image answer → IsMade (spelling_of words) old code → Headline notes (spelling_of words) old new code image answer
+
+-- No word asks for rewriting yet: so the tool's clause alone is enough.
+abbrev pub HeadlineHoldsToday : Type 0
+HeadlineHoldsToday = (notes : Recorded) → Laws notes
+    → (words : List (List ℕ)) (old new : Outside) (code : Option Code) (image : Option Image) (answer : Result ℕ Refusal) → All AreBytes words
+    → Performs (spelling_of words) old new code image answer → Headline notes (spelling_of words) old new code image answer

@@ -1,0 +1,129 @@
+-- What the layers between the front and the simulator owe to the main theorem, each in words and as a type.
+use Rattle.std.specs.Prelude.{◌≡◌, ◌⊎◌, ℕ, ◌*◌, ◌^◌, ◌<◌, ◌≤◌, Bool, true, List, All, Some, Ok, Err, ⊤}
+use Rattle.c65_base.specs.Answers.{Fault, large}
+use Rattle.c65_base.specs.declared.options.Cpu.{Cpu}
+use Rattle.c65_base.specs.declared.refusal.Size.TheVariants as sizes
+use Rattle.c65_mach.specs.declared.image.Image.{Image}
+use Rattle.c65_mach.specs.Run.{Setting, Progress, cycles_after}
+use Rattle.c65_code.specs.declared.code.Code.{Code}
+use Rattle.c65_code.specs.LineState.{State}
+use Rattle.c65_code.specs.Placement.{Placement, IsPlacement, setting_of}
+use Rattle.c65_code.specs.Processors.{IsNmos, RunsOn}
+use Rattle.c65_code.specs.Starts.{IsStart, IsMain}
+use Rattle.c65_code.specs.Comes.{Seen, Shown, ComesFrom}
+use Rattle.c65_code.specs.Follows.{Grows}
+use Rattle.c65_code.specs.Writable.{IsWritable}
+use Rattle.c65_asm.specs.Renumbered.{IsOfTypes, renumbered}
+use Rattle.c65_asm.specs.Read.{read_text}
+use Rattle.c65_asm.specs.Text.{text_of}
+use Rattle.c65_asm.specs.declared.reading.Answer.TheVariants as answers
+use Rattle.c65_csem.specs.declared.items.Parts.{Parts}
+use Rattle.c65_csem.specs.Views.{unit_of}
+use Rattle.c65_genstmt.specs.Programs.{program_of}
+use Rattle.c65_link.specs.Linked.{linked, linked_for, undefined}
+use Rattle.c65_link_law_spots.specs.Places.{place_in}
+use Rattle.c65_link_law_spots.specs.Sound.{IsSound}
+use Rattle.c65_meaning.specs.Program.{ProgramTy}
+use Rattle.c65_meaning.specs.Sem.{Outcome, Ends, IsDefined, turns_of, sem}
+use Rattle.c65_sim.specs.View.{arguments_size}
+use Rattle.c65_ppdir.specs.Units.{Held}
+use Rattle.c65_driver_chain.specs.Front.{IsGood}
+use Rattle.c65_driver_words.specs.Commands.{Spelled}
+use Rattle.c65_driver_words.specs.Words.{spelling_of, Is}
+use Rattle.c65_driver.specs.Compiled.{ReadsAs}
+use Rattle.c65_driver.specs.Setups.{setup_of}
+use Rattle.c65_headline.specs.Fronts.{command_of, programs}
+use Rattle.c65_headline.specs.Images.{Recorded, AreBytes}
+use Rattle.c65_headline.specs.Lines.{LineAgrees}
+use Rattle.c65_headline.specs.Placed.{Reaches, HasSegment, IsClosed, number_in, by_number}
+
+-- ---- words
+
+-- the arguments of a command are bytes, and `-x` names less than 2 ^ 32 cycles
+pub record IsSpelled (command : Spelled) : Type 0 where
+  pub args : All AreBytes (setup_of true command).args
+  pub cycles : (n : ℕ) → command.cycles ≡ Some n → n < 2 ^ 32
+
+abbrev pub WordsAreSpelled : Type 0
+WordsAreSpelled = (words : List (List ℕ)) (command : Spelled) → All AreBytes words → spelling_of words ≡ Is command → IsSpelled command
+
+-- ---- from a program to its code
+
+-- the lines of a program's code show what its meaning shows, and whatever it names has a body
+pub record Agreeing (p : ProgramTy) (code : Code) : Type 0 where
+  pub main : ℕ
+  pub is_main : IsMain code main
+  pub defined : HasSegment code main
+  pub closed : IsClosed code
+  pub agrees : LineAgrees p code main
+
+abbrev pub ProgramsAgree : Type 0
+ProgramsAgree = (parts : Parts) (main : ℕ) (names : List (List ℕ)) (honoured : Bool) (code : Code)
+    → IsGood names (unit_of parts) main → program_of parts main names honoured ≡ Ok code → Agreeing (record { unit = unit_of parts; main = main }) code
+
+-- the generator makes no line with a row that the 65C02 adds
+abbrev pub ProgramsAreNmos : Type 0
+ProgramsAreNmos = (parts : Parts) (main : ℕ) (names : List (List ℕ)) (honoured : Bool) (code : Code) → program_of parts main names honoured ≡ Ok code → IsNmos code
+
+-- the generator refuses for the limit Frame alone
+abbrev pub OnlyFramesAreRefused : Type 0
+OnlyFramesAreRefused = (parts : Parts) (main : ℕ) (names : List (List ℕ)) (honoured : Bool) (fault : Fault) → program_of parts main names honoured ≡ Err fault
+    → (value : ℕ) × (fault ≡ large sizes.Frame value)
+
+-- ---- from a code to the code that its text reads as
+
+-- the code of the front's program can be written as text, where its text was read
+abbrev pub FrontsAreWritable : Type 0
+FrontsAreWritable = (held : Held) (command : Spelled) (parts : Parts) (main : ℕ) (names : List (List ℕ)) (code read : Code)
+    → programs (command_of held command) command.files (Ok ((unit_of parts, main), names)) → program_of parts main names command.options.register_vars ≡ Ok code
+    → ReadsAs (text_of code) read → IsWritable code × IsOfTypes code
+
+-- the text of a code that can be written reads as this code with its symbols numbered anew
+abbrev pub CodesReadBack : Type 0
+CodesReadBack = (code : Code) → IsWritable code → IsOfTypes code → read_text (text_of code) ≡ answers.Code (renumbered code)
+
+-- the linker can take it
+abbrev pub RenumberedIsSound : Type 0
+RenumberedIsSound = (code : Code) → IsWritable code → IsOfTypes code → IsSound (renumbered code)
+
+-- and its main function is the one that has lines
+abbrev pub MainIsNumbered : Type 0
+MainIsNumbered = (code : Code) (main : ℕ) → IsWritable code → IsMain code main → HasSegment code main → IsMain (renumbered code) (number_in code main)
+
+-- It comes to what the code comes to, at the linker's placement. A symbol that its text does not name (the last line that named
+-- it was rewritten) has no address there, so that the code is taken at every placement. `IsClosed` leaves nine such symbols at
+-- most, for which there is room within the entry.
+abbrev pub RenumberedComes : Type 0
+RenumberedComes = (code : Code) (image : Image) (main : ℕ) (args : List (List ℕ)) (input : List ℕ) (test : Shown → Seen → Bool) (w : ℕ)
+    → IsWritable code → IsOfTypes code → linked (renumbered code) ≡ Ok image → IsClosed code → IsMain code main → HasSegment code main → Grows test
+    → ((place : Placement) (t : State) → IsPlacement code place → IsStart code place args input t → ComesFrom (setting_of code place) main test w t)
+    → (t : State) → IsStart (renumbered code) (place_in (renumbered code)) args input t
+    → ComesFrom (setting_of (renumbered code) (place_in (renumbered code))) (number_in code main) (λ shown seen. test shown (by_number code seen)) w t
+
+-- ---- from a code to its image
+
+-- the linker misses nothing of a code whose symbols have bodies
+abbrev pub NothingIsUndefined : Type 0
+NothingIsUndefined = (code : Code) (main : ℕ) (name : List ℕ) → IsWritable code → IsOfTypes code → IsClosed code → IsMain code main → linked (renumbered code) ≡ Err (undefined name) → ⊥
+
+-- where the lines of a code come to something within a weight, its image does so within as many rows and 96 more
+abbrev pub ImagesFollow : Recorded → Type 0
+ImagesFollow notes = (cpu : Cpu) (code : Code) (image : Image) → RunsOn cpu code → IsSound code → linked_for cpu code ≡ Ok image → (main : ℕ) → IsMain code main
+    → (args : List (List ℕ)) (input : List ℕ) (test : Shown → Seen → Bool) (w : ℕ) → All AreBytes args → AreBytes input → arguments_size args ≤ 1024
+    → ((t : State) → IsStart code (place_in code) args input t → ComesFrom (setting_of code (place_in code)) main test w t)
+    → Reaches notes image args input test w
+
+-- a row takes at most 7 cycles
+abbrev pub RowsTakeSeven : Type 0
+RowsTakeSeven = (setting : Setting) (rows : ℕ) (start : Progress) → cycles_after setting rows start ≤ 7 * rows
+
+-- ---- the meaning
+
+abbrev pub HasEnded : Outcome → Type 0
+HasEnded (Ends out status turns) = ⊤
+HasEnded _ = ⊥
+
+-- a run between two turns is finite: a program that is always defined ends, or makes as many turns as one likes
+abbrev pub TurnsGoOn : Type 0
+TurnsGoOn = (p : ProgramTy) (args : List (List ℕ)) (input : List ℕ) → ((n : ℕ) → IsDefined (sem p args input n)) → (least : ℕ)
+    → (n : ℕ) × ((least ≤ turns_of (sem p args input n)) ⊎ HasEnded (sem p args input n))

@@ -1,0 +1,24 @@
+// The main theorem, each form the contract of a function that does nothing.
+ghost use Rattle.c65_headline.specs.Planned.{RowsTakeSeven};
+ghost use Rattle.c65_headline.specs.Laws.{HeadlineHolds, HeadlineHoldsToday};
+
+use c65_ppdir_law::units_are_one;
+
+/// From the laws that are left, the tool's clause and the making of the code, the main theorem follows.
+pub fn headline_holds()
+    ensures { HeadlineHolds }
+{
+    units_are_one();
+}
+
+/// Of the tool without rewriting it follows from the laws that are left and the tool's clause.
+pub fn headline_holds_today()
+    ensures { HeadlineHoldsToday }
+{
+    units_are_one();
+}
+
+/// A row takes at most 7 cycles, on either processor.
+pub fn rows_take_seven()
+    ensures { RowsTakeSeven }
+{}
