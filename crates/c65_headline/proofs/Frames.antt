@@ -9,6 +9,7 @@ use Rattle.c65_csem.specs.Trees.{Stmt, FuncTy}
 use Rattle.c65_csem.specs.Views.{func_of}
 use Rattle.c65_code.specs.declared.line.Sym.{Sym}
 use Rattle.c65_code.specs.Segments.{Segment}
+use Rattle.c65_genframe.specs.declared.modes.Modes.{Modes}
 use Rattle.c65_genframe.specs.Frames.{Framed, frame_of}
 use Rattle.c65_genstmt.specs.Functions.{function_of}
 use Rattle.c65_genstmt.specs.Programs.{one_more, function_added, functions_from, functions_of}
@@ -32,23 +33,23 @@ of_frame : (b : Bool) (value : ℕ) (x : Framed) (fault : Fault) → (if b then 
 of_frame true value x fault h = (value, same_fault {A = Framed} (large sizes.Frame value) fault h)
 of_frame false value x fault h = no_fault x fault h
 
-frame_fault : (parts : Parts) (honoured : Bool) (g : FuncTy) (fault : Fault) → frame_of parts honoured g ≡ Err fault → IsFrame fault
-frame_fault parts honoured g fault h = of_frame _ _ _ fault h
+frame_fault : (parts : Parts) (modes : Modes) (g : FuncTy) (fault : Fault) → frame_of parts modes g ≡ Err fault → IsFrame fault
+frame_fault parts modes g fault h = of_frame _ _ _ fault h
 
-function_fault : (parts : Parts) (is_main honoured : Bool) (g : FuncTy) (fault : Fault) → function_of parts is_main honoured g ≡ Err fault → IsFrame fault
+function_fault : (parts : Parts) (is_main modes : Bool) (g : FuncTy) (fault : Fault) → function_of parts is_main modes g ≡ Err fault → IsFrame fault
 unfolding function_of
-function_fault parts is_main honoured g fault h = of_chain (frame_of parts honoured g) _ fault (λ e k. frame_fault parts honoured g e k) (λ x e k. no_fault _ e k) h
+function_fault parts is_main modes g fault h = of_chain (frame_of parts modes g) _ fault (λ e k. frame_fault parts modes g e k) (λ x e k. no_fault _ e k) h
 
-more_fault : (parts : Parts) (is_main honoured : Bool) (sym : Sym) (g : FuncTy) (body : Option Stmt) (fs : List (Sym × Segment)) (fault : Fault) → one_more parts is_main honoured sym g body fs ≡ Err fault → IsFrame fault
-more_fault parts is_main honoured sym g None fs fault h = no_fault fs fault h
-more_fault parts is_main honoured sym g (Some body) fs fault h = of_chain (function_of parts is_main honoured g) _ fault (λ e k. function_fault parts is_main honoured g e k) (λ x e k. no_fault _ e k) h
+more_fault : (parts : Parts) (is_main modes : Bool) (sym : Sym) (g : FuncTy) (body : Option Stmt) (fs : List (Sym × Segment)) (fault : Fault) → one_more parts is_main modes sym g body fs ≡ Err fault → IsFrame fault
+more_fault parts is_main modes sym g None fs fault h = no_fault fs fault h
+more_fault parts is_main modes sym g (Some body) fs fault h = of_chain (function_of parts is_main modes g) _ fault (λ e k. function_fault parts is_main modes g e k) (λ x e k. no_fault _ e k) h
 
-functions_fault : (parts : Parts) (main : ℕ) (honoured : Bool) (i : ℕ) (gs : List TFunc) (fs : List (Sym × Segment)) (fault : Fault) → functions_from parts main honoured i gs fs ≡ Err fault → IsFrame fault
-functions_fault parts main honoured i [] fs fault h = no_fault fs fault h
-functions_fault parts main honoured i (g ∷ gs) fs fault h =
-    of_chain (function_added parts main honoured i (func_of g) fs) _ fault (λ e k. more_fault parts _ honoured _ (func_of g) (func_of g).body fs e k)
-    (λ more e k. functions_fault parts main honoured (suc i) gs more e k) h
+functions_fault : (parts : Parts) (main : ℕ) (modes : Modes) (i : ℕ) (gs : List TFunc) (fs : List (Sym × Segment)) (fault : Fault) → functions_from parts main modes i gs fs ≡ Err fault → IsFrame fault
+functions_fault parts main modes i [] fs fault h = no_fault fs fault h
+functions_fault parts main modes i (g ∷ gs) fs fault h =
+    of_chain (function_added parts main modes i (func_of g) fs) _ fault (λ e k. more_fault parts _ modes _ (func_of g) (func_of g).body fs e k)
+    (λ more e k. functions_fault parts main modes (suc i) gs more e k) h
 
 pub only_frames_are_refused : OnlyFramesAreRefused
-only_frames_are_refused parts main names honoured fault h =
-    of_chain (functions_of parts main honoured) _ fault (λ e k. functions_fault parts main honoured 0 parts.funcs.items [] e k) (λ fs e k. no_fault _ e k) h
+only_frames_are_refused parts main names modes fault h =
+    of_chain (functions_of parts main modes) _ fault (λ e k. functions_fault parts main modes 0 parts.funcs.items [] e k) (λ fs e k. no_fault _ e k) h

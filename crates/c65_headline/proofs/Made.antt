@@ -30,6 +30,8 @@ use Rattle.c65_asm.specs.Text.{text_of}
 use Rattle.c65_asm.specs.declared.reading.Answer.TheVariants as answers
 use Rattle.c65_link.specs.Linked.{linked, linked_for, undefined, Fails as LinkFails}
 use Rattle.c65_link.specs.Linked as linker
+use Rattle.c65_genframe.specs.declared.modes.Modes.{Modes}
+use Rattle.c65_genframe.specs.Modes.{modes_of}
 use Rattle.c65_genstmt.specs.Programs.{program_of}
 use Rattle.c65_init_join.specs.Joined.{joined}
 use Rattle.c65_meaning.specs.Program.{ProgramTy}
@@ -99,10 +101,10 @@ abbrev pub CauseOf : Outside → Outside → Refusal → Type 0
 CauseOf old new refusals.ReadFault = Rose old.files.faults new.files.faults ⊎ Rose old.input_faults new.input_faults
 CauseOf old new _ = Unit {0}
 
-free_hinders : (p : ProgramTy) (honoured : Bool) (code : Option Code) (old new : Outside) (e : Refusal) → CauseOf old new e → IsFree e → Hinders p honoured code old new e
-free_hinders p honoured code old new refusals.OutOfMemory c f = tt
-free_hinders p honoured code old new refusals.ReadFault c f = c
-free_hinders p honoured code old new _ c f = absurd f
+free_hinders : (p : ProgramTy) (modes : Modes) (code : Option Code) (old new : Outside) (e : Refusal) → CauseOf old new e → IsFree e → Hinders p modes code old new e
+free_hinders p modes code old new refusals.OutOfMemory c f = tt
+free_hinders p modes code old new refusals.ReadFault c f = c
+free_hinders p modes code old new _ c f = absurd f
 
 limit_is : (limit : Size) (value v : ℕ) → large limit value ≡ large sizes.Frame v → limit ≡ sizes.Frame
 limit_is limit value v h = cc
@@ -110,31 +112,31 @@ limit_is limit value v h = cc
 no_place : (code : _) (pos : _) (v : ℕ) → at code pos ≡ large sizes.Frame v → ⊥
 no_place code pos v h = cc
 
-frame_hinders : (p : ProgramTy) (honoured : Bool) (code : Option Code) (old new : Outside) (limit : Size) (value : ℕ) → limit ≡ sizes.Frame → HasLargeFrame p honoured value → Hinders p honoured code old new (refusals.TooLarge limit value)
-frame_hinders p honoured code old new limit value same h = subst (λ (l : Size). Hinders p honoured code old new (refusals.TooLarge l value)) (sym same) h
+frame_hinders : (p : ProgramTy) (modes : Modes) (code : Option Code) (old new : Outside) (limit : Size) (value : ℕ) → limit ≡ sizes.Frame → HasLargeFrame p modes value → Hinders p modes code old new (refusals.TooLarge limit value)
+frame_hinders p modes code old new limit value same h = subst (λ (l : Size). Hinders p modes code old new (refusals.TooLarge l value)) (sym same) h
 
-generated_hinders : (p : ProgramTy) (honoured : Bool) (code : Option Code) (old new : Outside) (e : Refusal) (parts : Parts) (names : List (List ℕ)) → CauseOf old new e
-    → unit_of parts ≡ p.unit → Fails e (program_of parts p.main names honoured) → Hinders p honoured code old new e
-generated_hinders p honoured code old new refusals.OutOfMemory parts names c u f = tt
-generated_hinders p honoured code old new (refusals.At k pos) parts names c u f =
-    let x = only_frames_are_refused parts p.main names honoured (at k pos) f in absurd (no_place k pos x.0 x.1)
-generated_hinders p honoured code old new (refusals.TooLarge limit value) parts names c u f =
-    let x = only_frames_are_refused parts p.main names honoured (large limit value) f in
+generated_hinders : (p : ProgramTy) (modes : Modes) (code : Option Code) (old new : Outside) (e : Refusal) (parts : Parts) (names : List (List ℕ)) → CauseOf old new e
+    → unit_of parts ≡ p.unit → Fails e (program_of parts p.main names modes) → Hinders p modes code old new e
+generated_hinders p modes code old new refusals.OutOfMemory parts names c u f = tt
+generated_hinders p modes code old new (refusals.At k pos) parts names c u f =
+    let x = only_frames_are_refused parts p.main names modes (at k pos) f in absurd (no_place k pos x.0 x.1)
+generated_hinders p modes code old new (refusals.TooLarge limit value) parts names c u f =
+    let x = only_frames_are_refused parts p.main names modes (large limit value) f in
     let same : limit ≡ sizes.Frame = limit_is limit value x.0 x.1 in
-    frame_hinders p honoured code old new limit value same (record {
+    frame_hinders p modes code old new limit value same (record {
       parts = parts;
       names = names;
       same = u;
-      refused = subst (λ (l : Size). program_of parts p.main names honoured ≡ Err (large l value)) same f;
+      refused = subst (λ (l : Size). program_of parts p.main names modes ≡ Err (large l value)) same f;
     })
-generated_hinders p honoured code old new _ parts names c u f = absurd f
+generated_hinders p modes code old new _ parts names c u f = absurd f
 
 front_hinders : UnitsAreOne → (held : Held) (command : Spelled) (p : ProgramTy) (code : Option Code) (old new : Outside) (e : Refusal) → CauseOf old new e
-    → IsFront held command p → IsFree e ⊎ front held command (Err e) → Hinders p command.options.register_vars code old new e
-front_hinders units held command p code old new e c f (inl free) = free_hinders p command.options.register_vars code old new e c free
+    → IsFront held command p → IsFree e ⊎ front held command (Err e) → Hinders p (modes_of command.options) code old new e
+front_hinders units held command p code old new e c f (inl free) = free_hinders p (modes_of command.options) code old new e c free
 front_hinders units held command p code old new e c f (inr h) = elim (late units (command_of held command) command.files e (p.unit, p.main) f.names f.gives h) [
-  | inl free ↦ free_hinders p command.options.register_vars code old new e c free
-  | inr g ↦ generated_hinders p command.options.register_vars code old new e g.0 f.names c g.1 g.3
+  | inl free ↦ free_hinders p (modes_of command.options) code old new e c free
+  | inr g ↦ generated_hinders p (modes_of command.options) code old new e g.0 f.names c g.1 g.3
 ]
 
 -- ---- the code that was made
@@ -183,7 +185,7 @@ module _ (units : UnitsAreOne) (notes : Recorded) (laws : Laws notes) (held : He
 
   does_run : (code : Code) (m : IsMadeOf held command code) → RunsOn command.options.cpu m.rewritten
   does_run code m = runs_if command.options.optimise command.options.cpu m.generated m.rewritten m.rewrites
-      (runs_on command.options.cpu m.generated (laws.rows m.parts m.main m.names command.options.register_vars m.generated m.generates))
+      (runs_on command.options.cpu m.generated (laws.rows m.parts m.main m.names (modes_of command.options) m.generated m.generates))
 
   pub is_renumbered : (code : Code) (m : IsMadeOf held command code) → code ≡ renumbered m.rewritten
   is_renumbered code m = answer_is code (renumbered m.rewritten) (sym m.reads ∙ codes_read_back m.rewritten ((is_written code m).0) ((is_written code m).1))
@@ -191,7 +193,7 @@ module _ (units : UnitsAreOne) (notes : Recorded) (laws : Laws notes) (held : He
   pub made_agrees : (code : Code) (m : IsMadeOf held command code) (image : Image) → linked_for command.options.cpu code ≡ Ok image → ImageAgrees notes (program_in code m) image
   unfolding program_in
   made_agrees code m image l =
-      let a : Agreeing (record { unit = unit_of m.parts; main = m.main }) m.generated = laws.lines m.parts m.main m.names command.options.register_vars m.generated m.good m.generates in
+      let a : Agreeing (record { unit = unit_of m.parts; main = m.main }) m.generated = laws.lines m.parts m.main m.names (modes_of command.options) m.generated m.good m.generates in
       let w = is_written code m in
       image_agrees notes laws.sound laws.main laws.renumbered laws.images command.options.cpu (record { unit = unit_of m.parts; main = m.main }) m.rewritten image a.main w.0 w.1 (does_run code m) (closed_if command.options.optimise command.options.cpu m.generated m.rewritten m.rewrites a.closed)
       (main_if command.options.optimise command.options.cpu m.generated m.rewritten a.main m.rewrites a.is_main)
@@ -210,14 +212,14 @@ module _ (units : UnitsAreOne) (notes : Recorded) (laws : Laws notes) (held : He
 
   undefined_never : (code : Code) (m : IsMadeOf held command code) (name : List ℕ) → linked code ≡ Err (undefined name) → ⊥
   undefined_never code m name l =
-      let a : Agreeing (record { unit = unit_of m.parts; main = m.main }) m.generated = laws.lines m.parts m.main m.names command.options.register_vars m.generated m.good m.generates in
+      let a : Agreeing (record { unit = unit_of m.parts; main = m.main }) m.generated = laws.lines m.parts m.main m.names (modes_of command.options) m.generated m.good m.generates in
       let w = is_written code m in
       laws.whole m.rewritten a.main name w.0 w.1
       (closed_if command.options.optimise command.options.cpu m.generated m.rewritten m.rewrites a.closed)
       (main_if command.options.optimise command.options.cpu m.generated m.rewritten a.main m.rewrites a.is_main)
       (subst (λ (c : Code). linked c ≡ Err (undefined name)) (is_renumbered code m) l)
 
-  linker_hinders : (p : ProgramTy) (code : Code) (m : IsMadeOf held command code) (old new : Outside) (e : Refusal) → LinkFails e (linked code) → Hinders p command.options.register_vars (Some code) old new e
+  linker_hinders : (p : ProgramTy) (code : Code) (m : IsMadeOf held command code) (old new : Outside) (e : Refusal) → LinkFails e (linked code) → Hinders p (modes_of command.options) (Some code) old new e
   linker_hinders p code m old new refusals.OutOfMemory f = tt
   linker_hinders p code m old new (refusals.Link linkkinds.Undefined name) f = absurd (undefined_never code m name f)
   linker_hinders p code m old new (refusals.Link _ name) f = absurd f
@@ -231,7 +233,7 @@ module _ (units : UnitsAreOne) (notes : Recorded) (laws : Laws notes) (held : He
   CauseIn old new (Err e) = CauseOf old new e
 
   pub hindered : (p : ProgramTy) → IsFront held command p → (old new : Outside) (code : Option Code) (image : Option Image) (answer : Result ℕ Refusal) → IsLinked command.options.cpu code image answer → IsOfFront (front held command) code answer
-      → ((c : Code) → code ≡ Some c → IsMadeOf held command c) → CauseIn old new answer → image ≡ None → IsHindered p command.options.register_vars code old new answer
+      → ((c : Code) → code ≡ Some c → IsMadeOf held command c) → CauseIn old new answer → image ≡ None → IsHindered p (modes_of command.options) code old new answer
   hindered p f old new None None (Ok status) l g m c e = absurd l
   hindered p f old new None None (Err r) l g m c e = front_hinders units held command p None old new r c f g
   hindered p f old new None (Some i) answer l g m c e = absurd l

@@ -12,6 +12,7 @@ use Rattle.c65_asm.specs.Text.{text_of}
 use Rattle.c65_csem.specs.Trees.{UnitTy}
 use Rattle.c65_csem.specs.declared.items.Parts.{Parts}
 use Rattle.c65_csem.specs.Views.{unit_of}
+use Rattle.c65_genframe.specs.Modes.{modes_of}
 use Rattle.c65_genstmt.specs.Programs.{program_of}
 use Rattle.c65_init_join.specs.Joined.{joined}
 use Rattle.c65_ppline.specs.Relations.{Answers, just, by_test, ◌then◌}
@@ -41,7 +42,7 @@ record Stems (o : Options) (P : Answers ((UnitTy × ℕ) × List (List ℕ))) (c
   names : List (List ℕ)
   front : P (Ok ((unit_of parts, main), names))
   good : IsGood names (unit_of parts) main
-  generates : program_of parts main names o.register_vars ≡ Ok code
+  generates : program_of parts main names (modes_of o) ≡ Ok code
 
 stems_by : (b : Bool) (r : Refusal) (P : Answers (List UnitTy × List (List ℕ))) (o : Options) (code : Code)
     → by_test {A = Code} b (just (Err r)) (P then λ x. chain.linked o x.0 x.1) (Ok code)

@@ -11,6 +11,8 @@ use Rattle.c65_csem.specs.Views.{unit_of}
 use Rattle.c65_init_join.specs.Joined.{joined}
 use Rattle.c65_meaning.specs.Program.{ProgramTy}
 use Rattle.c65_code.specs.declared.code.Code.{Code}
+use Rattle.c65_genframe.specs.declared.modes.Modes.{Modes}
+use Rattle.c65_genframe.specs.Modes.{modes_of}
 use Rattle.c65_genstmt.specs.Programs.{program_of}
 use Rattle.c65_asm.specs.Text.{text_of}
 use Rattle.c65_driver_chain.specs.Front.{Command, command, files_typed, joining, IsGood}
@@ -40,14 +42,14 @@ pub record IsMadeOf (held : Held) (c : Spelled) (code : Code) : Type 0 where
   pub front : programs (command_of held c) c.files (Ok ((unit_of parts, main), names))
   pub good : IsGood names (unit_of parts) main
   pub generated : Code
-  pub generates : program_of parts main names c.options.register_vars ≡ Ok generated
+  pub generates : program_of parts main names (modes_of c.options) ≡ Ok generated
   pub rewritten : Code
   pub rewrites : OptimisedBy c.options generated rewritten
   pub reads : ReadsAs (text_of rewritten) code
 
 -- the limit Frame: the generator refuses the program
-pub record HasLargeFrame (p : ProgramTy) (honoured : Bool) (value : ℕ) : Type 0 where
+pub record HasLargeFrame (p : ProgramTy) (modes : Modes) (value : ℕ) : Type 0 where
   pub parts : Parts
   pub names : List (List ℕ)
   pub same : unit_of parts ≡ p.unit
-  pub refused : program_of parts p.main names honoured ≡ Err (large sizes.Frame value)
+  pub refused : program_of parts p.main names modes ≡ Err (large sizes.Frame value)

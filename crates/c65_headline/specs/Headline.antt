@@ -1,5 +1,6 @@
 -- The main theorem as a clause of the tool: what it does and answers where told files are a well formed program.
 use Rattle.std.specs.Prelude.{◌≡◌, ◌≢◌, ◌⊎◌, ℕ, ◌+◌, ◌*◌, ◌≤◌, ◌<◌, Bool, true, List, Option, Some, None, Result, Ok, Err, ⊤}
+use Rattle.c65_genframe.specs.Modes.{modes_of}
 use Rattle.c65_base.specs.declared.refusal.Refusal.{Refusal}
 use Rattle.c65_base.specs.declared.refusal.Refusal.TheVariants as refusals
 use Rattle.c65_base.specs.declared.refusal.Size.TheVariants as sizes
@@ -27,15 +28,15 @@ use Rattle.c65_headline.specs.Fronts.{IsFront, HasLargeFrame, IsMadeOf}
 
 -- why there is no image: a limit is exceeded, or memory ran out, or a file could not be read
 abbrev pub Hinders : ProgramTy → Bool → Option Code → Outside → Outside → Refusal → Type 0
-Hinders p honoured code old new refusals.OutOfMemory = ⊤
-Hinders p honoured code old new refusals.ReadFault = Rose old.files.faults new.files.faults ⊎ Rose old.input_faults new.input_faults
-Hinders p honoured code old new (refusals.TooLarge sizes.Frame value) = HasLargeFrame p honoured value
-Hinders p honoured code old new (refusals.TooLarge sizes.Image value) = (c : Code) × (code ≡ Some c) × (linked c ≡ Err (large value))
-Hinders p honoured code old new _ = ⊥
+Hinders p modes code old new refusals.OutOfMemory = ⊤
+Hinders p modes code old new refusals.ReadFault = Rose old.files.faults new.files.faults ⊎ Rose old.input_faults new.input_faults
+Hinders p modes code old new (refusals.TooLarge sizes.Frame value) = HasLargeFrame p modes value
+Hinders p modes code old new (refusals.TooLarge sizes.Image value) = (c : Code) × (code ≡ Some c) × (linked c ≡ Err (large value))
+Hinders p modes code old new _ = ⊥
 
 abbrev pub IsHindered : ProgramTy → Bool → Option Code → Outside → Outside → Result ℕ Refusal → Type 0
-IsHindered p honoured code old new (Ok status) = ⊥
-IsHindered p honoured code old new (Err e) = Hinders p honoured code old new e
+IsHindered p modes code old new (Ok status) = ⊥
+IsHindered p modes code old new (Err e) = Hinders p modes code old new e
 
 -- `build` and `text` with an image answer 0, unless a write failed or memory ran out
 abbrev pub IsWritten : Outside → Outside → Result ℕ Refusal → Type 0
@@ -73,7 +74,7 @@ pub record RunsWell (p : ProgramTy) (setup : Setup) (input : List ℕ) (old new 
 -- ---- the clause
 
 pub record Means (notes : Recorded) (command : Spelled) (p : ProgramTy) (old new : Outside) (code : Option Code) (image : Option Image) (answer : Result ℕ Refusal) : Type 0 where
-  pub builds : image ≡ None → IsHindered p command.options.register_vars code old new answer
+  pub builds : image ≡ None → IsHindered p (modes_of command.options) code old new answer
   pub agrees : (i : Image) → image ≡ Some i → ImageAgrees notes p i
 
 pub record Goes (notes : Recorded) (command : Spelled) (p : ProgramTy) (old new : Outside) (code : Option Code) (image : Option Image) (answer : Result ℕ Refusal) : Type 0 where

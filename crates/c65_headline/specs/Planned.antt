@@ -19,6 +19,8 @@ use Rattle.c65_asm.specs.Text.{text_of}
 use Rattle.c65_asm.specs.declared.reading.Answer.TheVariants as answers
 use Rattle.c65_csem.specs.declared.items.Parts.{Parts}
 use Rattle.c65_csem.specs.Views.{unit_of}
+use Rattle.c65_genframe.specs.declared.modes.Modes.{Modes}
+use Rattle.c65_genframe.specs.Modes.{modes_of}
 use Rattle.c65_genstmt.specs.Programs.{program_of}
 use Rattle.c65_link.specs.Linked.{linked, linked_for, undefined}
 use Rattle.c65_link_law_spots.specs.Places.{place_in}
@@ -58,16 +60,16 @@ pub record Agreeing (p : ProgramTy) (code : Code) : Type 0 where
   pub agrees : LineAgrees p code main
 
 abbrev pub ProgramsAgree : Type 0
-ProgramsAgree = (parts : Parts) (main : ℕ) (names : List (List ℕ)) (honoured : Bool) (code : Code)
-    → IsGood names (unit_of parts) main → program_of parts main names honoured ≡ Ok code → Agreeing (record { unit = unit_of parts; main = main }) code
+ProgramsAgree = (parts : Parts) (main : ℕ) (names : List (List ℕ)) (modes : Modes) (code : Code)
+    → IsGood names (unit_of parts) main → program_of parts main names modes ≡ Ok code → Agreeing (record { unit = unit_of parts; main = main }) code
 
 -- the generator makes no line with a row that the 65C02 adds
 abbrev pub ProgramsAreNmos : Type 0
-ProgramsAreNmos = (parts : Parts) (main : ℕ) (names : List (List ℕ)) (honoured : Bool) (code : Code) → program_of parts main names honoured ≡ Ok code → IsNmos code
+ProgramsAreNmos = (parts : Parts) (main : ℕ) (names : List (List ℕ)) (modes : Modes) (code : Code) → program_of parts main names modes ≡ Ok code → IsNmos code
 
 -- the generator refuses for the limit Frame alone
 abbrev pub OnlyFramesAreRefused : Type 0
-OnlyFramesAreRefused = (parts : Parts) (main : ℕ) (names : List (List ℕ)) (honoured : Bool) (fault : Fault) → program_of parts main names honoured ≡ Err fault
+OnlyFramesAreRefused = (parts : Parts) (main : ℕ) (names : List (List ℕ)) (modes : Modes) (fault : Fault) → program_of parts main names modes ≡ Err fault
     → (value : ℕ) × (fault ≡ large sizes.Frame value)
 
 -- ---- from a code to the code that its text reads as
@@ -75,7 +77,7 @@ OnlyFramesAreRefused = (parts : Parts) (main : ℕ) (names : List (List ℕ)) (h
 -- the code of the front's program can be written as text, where its text was read
 abbrev pub FrontsAreWritable : Type 0
 FrontsAreWritable = (held : Held) (command : Spelled) (parts : Parts) (main : ℕ) (names : List (List ℕ)) (code read : Code)
-    → programs (command_of held command) command.files (Ok ((unit_of parts, main), names)) → program_of parts main names command.options.register_vars ≡ Ok code
+    → programs (command_of held command) command.files (Ok ((unit_of parts, main), names)) → program_of parts main names (modes_of command.options) ≡ Ok code
     → ReadsAs (text_of code) read → IsWritable code × IsOfTypes code
 
 -- the text of a code that can be written reads as this code with its symbols numbered anew
