@@ -3,7 +3,7 @@ use c65_code::{Callee, Count, Line, Operand, Part, RegSet, Routine, TosOp, Width
 use c65_mach::{Mode, Op};
 use std::alloc::{AllocError, Global};
 
-const NAMES: [&str; 12] = [
+const NAMES: [&str; 13] = [
     "pusha",
     "pushax",
     "incsp8",
