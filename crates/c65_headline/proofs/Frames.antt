@@ -36,11 +36,11 @@ of_frame false value x fault h = no_fault x fault h
 frame_fault : (parts : Parts) (modes : Modes) (g : FuncTy) (fault : Fault) → frame_of parts modes g ≡ Err fault → IsFrame fault
 frame_fault parts modes g fault h = of_frame _ _ _ fault h
 
-function_fault : (parts : Parts) (is_main modes : Bool) (g : FuncTy) (fault : Fault) → function_of parts is_main modes g ≡ Err fault → IsFrame fault
+function_fault : (parts : Parts) (is_main : Bool) (modes : Modes) (g : FuncTy) (fault : Fault) → function_of parts is_main modes g ≡ Err fault → IsFrame fault
 unfolding function_of
 function_fault parts is_main modes g fault h = of_chain (frame_of parts modes g) _ fault (λ e k. frame_fault parts modes g e k) (λ x e k. no_fault _ e k) h
 
-more_fault : (parts : Parts) (is_main modes : Bool) (sym : Sym) (g : FuncTy) (body : Option Stmt) (fs : List (Sym × Segment)) (fault : Fault) → one_more parts is_main modes sym g body fs ≡ Err fault → IsFrame fault
+more_fault : (parts : Parts) (is_main : Bool) (modes : Modes) (sym : Sym) (g : FuncTy) (body : Option Stmt) (fs : List (Sym × Segment)) (fault : Fault) → one_more parts is_main modes sym g body fs ≡ Err fault → IsFrame fault
 more_fault parts is_main modes sym g None fs fault h = no_fault fs fault h
 more_fault parts is_main modes sym g (Some body) fs fault h = of_chain (function_of parts is_main modes g) _ fault (λ e k. function_fault parts is_main modes g e k) (λ x e k. no_fault _ e k) h
 

@@ -102,6 +102,8 @@ value_word told more word None bytes i h = define_word told more word (behind (c
 flag_word : (told more : Told) (word : List ℕ) (o : Option Flag) → AreBytes word → IsTold told → told_flag told word o ≡ Some more → IsTold more
 flag_word told more word (Some flags.RegisterVars) bytes i h = at_test (compiles told.kind) _ more (record { files = i.files; cycles = i.cycles; plain = i.plain }) h
 flag_word told more word (Some flags.SignedChars) bytes i h = at_test (compiles told.kind) _ more (record { files = i.files; cycles = i.cycles; plain = i.plain }) h
+flag_word told more word (Some flags.StaticLocals) bytes i h = at_test (compiles told.kind) _ more (record { files = i.files; cycles = i.cycles; plain = i.plain }) h
+flag_word told more word (Some flags.CheckStack) bytes i h = at_test (compiles told.kind) _ more (record { files = i.files; cycles = i.cycles; plain = i.plain }) h
 flag_word told more word None bytes i h = value_word told more word (value_in word) bytes i h
 
 word_told : (told more : Told) (word : List ℕ) (o : Option Value) → AreBytes word → IsTold told → told_by o told word ≡ Some more → IsTold more

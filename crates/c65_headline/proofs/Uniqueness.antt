@@ -54,7 +54,7 @@ one_joining (Err f) = one_just _
 module _ (units : UnitsAreOne) where
   one_file : (c : Command) (path : List ℕ) (names : List (List ℕ)) → HasOne (file_typed c path names)
   one_file c path names = one_then (preprocessed c.held c.options c.defines c.folders path names) _ (units c.held c.options c.defines c.folders path names)
-      (λ x. one_then (in_file x.0.files (typed x.1 c.options.signed_chars x.0.tokens)) _ (one_in_file x.0.files (typed x.1 c.options.signed_chars x.0.tokens)) (λ u. one_just (Ok (u, x.1))))
+      (λ x. one_then (in_file x.0.files (typed x.1 c.options x.0.tokens)) _ (one_in_file x.0.files (typed x.1 c.options x.0.tokens)) (λ u. one_just (Ok (u, x.1))))
 
   pub one_files : (c : Command) (paths : List (List ℕ)) (done : List UnitTy) (names : List (List ℕ)) → HasOne (files_typed c paths done names)
   one_files c [] done names = one_just (Ok (done, names))

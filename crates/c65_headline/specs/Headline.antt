@@ -1,5 +1,6 @@
 -- The main theorem as a clause of the tool: what it does and answers where told files are a well formed program.
 use Rattle.std.specs.Prelude.{◌≡◌, ◌≢◌, ◌⊎◌, ℕ, ◌+◌, ◌*◌, ◌≤◌, ◌<◌, Bool, true, List, Option, Some, None, Result, Ok, Err, ⊤}
+use Rattle.c65_genframe.specs.declared.modes.Modes.{Modes}
 use Rattle.c65_genframe.specs.Modes.{modes_of}
 use Rattle.c65_base.specs.declared.refusal.Refusal.{Refusal}
 use Rattle.c65_base.specs.declared.refusal.Refusal.TheVariants as refusals
@@ -27,14 +28,14 @@ use Rattle.c65_headline.specs.Fronts.{IsFront, HasLargeFrame, IsMadeOf}
 -- ---- it builds
 
 -- why there is no image: a limit is exceeded, or memory ran out, or a file could not be read
-abbrev pub Hinders : ProgramTy → Bool → Option Code → Outside → Outside → Refusal → Type 0
+abbrev pub Hinders : ProgramTy → Modes → Option Code → Outside → Outside → Refusal → Type 0
 Hinders p modes code old new refusals.OutOfMemory = ⊤
 Hinders p modes code old new refusals.ReadFault = Rose old.files.faults new.files.faults ⊎ Rose old.input_faults new.input_faults
 Hinders p modes code old new (refusals.TooLarge sizes.Frame value) = HasLargeFrame p modes value
 Hinders p modes code old new (refusals.TooLarge sizes.Image value) = (c : Code) × (code ≡ Some c) × (linked c ≡ Err (large value))
 Hinders p modes code old new _ = ⊥
 
-abbrev pub IsHindered : ProgramTy → Bool → Option Code → Outside → Outside → Result ℕ Refusal → Type 0
+abbrev pub IsHindered : ProgramTy → Modes → Option Code → Outside → Outside → Result ℕ Refusal → Type 0
 IsHindered p modes code old new (Ok status) = ⊥
 IsHindered p modes code old new (Err e) = Hinders p modes code old new e
 
