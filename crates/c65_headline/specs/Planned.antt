@@ -118,14 +118,3 @@ ImagesFollow notes = (cpu : Cpu) (code : Code) (image : Image) → RunsOn cpu co
 -- a row takes at most 7 cycles
 abbrev pub RowsTakeSeven : Type 0
 RowsTakeSeven = (setting : Setting) (rows : ℕ) (start : Progress) → cycles_after setting rows start ≤ 7 * rows
-
--- ---- the meaning
-
-abbrev pub HasEnded : Outcome → Type 0
-HasEnded (Ends out status turns) = ⊤
-HasEnded _ = ⊥
-
--- a run between two turns is finite: a program that is always defined ends, or makes as many turns as one likes
-abbrev pub TurnsGoOn : Type 0
-TurnsGoOn = (p : ProgramTy) (args : List (List ℕ)) (input : List ℕ) → ((n : ℕ) → IsDefined (sem p args input n)) → (least : ℕ)
-    → (n : ℕ) × ((least ≤ turns_of (sem p args input n)) ⊎ HasEnded (sem p args input n))
