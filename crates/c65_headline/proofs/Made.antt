@@ -38,8 +38,8 @@ use Rattle.c65_meaning.specs.Program.{ProgramTy}
 use Rattle.c65_driver_chain.specs.Front.{Command, files_typed, joining, generated, compiled}
 use Rattle.c65_driver_chain.specs.Front as chain
 use Rattle.c65_driver_words.specs.Commands.{Spelled}
-use Rattle.c65_driver.specs.Compiled.{IsLinked, IsOfFront, ReadsAs, front}
-use Rattle.c65_driver.specs.Outside.{Outside}
+use Rattle.c65_driver_commands.specs.Compiled.{IsLinked, IsOfFront, ReadsAs, front}
+use Rattle.c65_driver_commands.specs.Outside.{Outside}
 use Rattle.c65_headline.specs.Images.{Recorded, ImageAgrees}
 use Rattle.c65_headline.specs.Lines.{OptimisedIf, Optimised}
 use Rattle.c65_headline.specs.Placed.{HasSegment, HasBody, IsClosed}

@@ -25,9 +25,9 @@ use Rattle.c65_driver_words.specs.Commands.{Spelled}
 use Rattle.c65_driver_words.specs.Words.{Spelling, Is, NoCommand, spelling_of}
 use Rattle.c65_driver_words.specs.declared.command.CommandKind.{CommandKind}
 use Rattle.c65_driver_words.specs.declared.command.CommandKind.TheVariants as kinds
-use Rattle.c65_driver.specs.Compiled.{ReadsAs, IsOfSources, front}
-use Rattle.c65_driver.specs.Outside.{Outside}
-use Rattle.c65_driver.specs.Tool.{Serves, Performs}
+use Rattle.c65_driver_commands.specs.Compiled.{ReadsAs, IsOfSources, front}
+use Rattle.c65_driver_commands.specs.Outside.{Outside}
+use Rattle.c65_driver_commands.specs.Commands.{Serves, Performs}
 use Rattle.c65_headline.specs.Lines.{OptimisedIf}
 use Rattle.c65_headline.specs.Fronts.{command_of, programs, IsMadeOf}
 use Rattle.c65_headline.specs.Headline.{IsMade}

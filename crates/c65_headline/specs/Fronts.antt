@@ -17,7 +17,7 @@ use Rattle.c65_genstmt.specs.Programs.{program_of}
 use Rattle.c65_asm.specs.Text.{text_of}
 use Rattle.c65_driver_chain.specs.Front.{Command, command, files_typed, joining, IsGood}
 use Rattle.c65_driver_words.specs.Commands.{Spelled}
-use Rattle.c65_driver.specs.Compiled.{ReadsAs}
+use Rattle.c65_driver_commands.specs.Compiled.{ReadsAs}
 use Rattle.c65_headline.specs.Lines.{OptimisedBy}
 
 abbrev pub command_of : Held → Spelled → Command

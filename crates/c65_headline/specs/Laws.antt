@@ -4,8 +4,8 @@ use Rattle.c65_base.specs.declared.refusal.Refusal.{Refusal}
 use Rattle.c65_mach.specs.declared.image.Image.{Image}
 use Rattle.c65_code.specs.declared.code.Code.{Code}
 use Rattle.c65_driver_words.specs.Words.{spelling_of}
-use Rattle.c65_driver.specs.Outside.{Outside}
-use Rattle.c65_driver.specs.Tool.{Performs}
+use Rattle.c65_driver_commands.specs.Outside.{Outside}
+use Rattle.c65_driver_commands.specs.Commands.{Performs}
 use Rattle.c65_headline.specs.Images.{Recorded, AreBytes}
 use Rattle.c65_headline.specs.Planned.{ProgramsAgree, ProgramsAreNmos, FrontsAreWritable, RenumberedIsSound, MainIsNumbered, RenumberedComes, NothingIsUndefined, ImagesFollow}
 use Rattle.c65_headline.specs.Headline.{IsMade, Headline}

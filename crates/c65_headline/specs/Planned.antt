@@ -32,8 +32,8 @@ use Rattle.c65_ppdir.specs.Units.{Held}
 use Rattle.c65_driver_chain.specs.Front.{IsGood}
 use Rattle.c65_driver_words.specs.Commands.{Spelled}
 use Rattle.c65_driver_words.specs.Words.{spelling_of, Is}
-use Rattle.c65_driver.specs.Compiled.{ReadsAs}
-use Rattle.c65_driver.specs.Setups.{setup_of}
+use Rattle.c65_driver_commands.specs.Compiled.{ReadsAs}
+use Rattle.c65_driver_commands.specs.Setups.{setup_of}
 use Rattle.c65_headline.specs.Fronts.{command_of, programs}
 use Rattle.c65_headline.specs.Images.{Recorded, AreBytes}
 use Rattle.c65_headline.specs.Lines.{LineAgrees}

@@ -1,0 +1,10 @@
+pub mod TextLaws
+pub mod AnswerLaws
+pub mod RunLaws
+pub mod FrontLaws
+pub mod GoLaws
+pub mod LinkLaws
+pub mod BuildLaws
+pub mod PrintLaws
+pub mod ImageLaws
+pub mod CommandLaws

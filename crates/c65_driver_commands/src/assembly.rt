@@ -1,0 +1,78 @@
+// The assembly text on the way to the linker, and where the command `text` writes it.
+ghost use Rattle.std.specs.Prelude.{◌≡◌, Some, IfOk, IfErr};
+ghost use Rattle.c65_asm.specs.Text.{text_of};
+ghost use Rattle.c65_driver_commands.specs.Assembly.{IsTextOf, AppendsBytes, WritesText};
+ghost use Rattle.c65_driver_commands.specs.Compiled.{ReadsAs, IsRead, WriteServes};
+ghost use Rattle.c65_driver_commands.specs.Outside.{text_side};
+ghost use Rattle.c65_sim.specs.Runs.{WriteCause};
+
+use crate::compiled::write_bytes;
+use crate::made::Made;
+use c65_asm::{print, read};
+use c65_base::{Refusal, Text};
+use c65_code::Code;
+use c65_driver_words::Command;
+use c65_io::{Failed, Files, Sink, write_all};
+use std::alloc::Global;
+
+/// What a code's assembly text reads as: the code, with its symbols in the order of the text.
+#[tactic(auto, using(crate::proofs::PrintLaws::read_again))]
+pub fn read_back(alloc: Global, code: &Code) -> Result<Code, Refusal>
+    ensures read { IfOk result (λ read. ReadsAs (text_of code.now) read) }
+    ensures again { IfOk result (λ read. IsRead (Some read)) }
+    ensures refused { IfErr result (λ refusal. refusal ≡ Refusal.OutOfMemory) }
+{
+    let text = match print(alloc, code) {
+        Ok(text) => text,
+        Err(_) => return Err(Refusal::OutOfMemory),
+    };
+    match read(alloc, &text) {
+        Ok(code) => Ok(code),
+        Err(_) => Err(Refusal::OutOfMemory),
+    }
+}
+
+/// The assembly text of the code that was made.
+pub fn made_text(alloc: Global, made: &Made) -> Result<Text, Refusal>
+    ensures ok { IfOk result (IsTextOf made.now.code) }
+    ensures refused { IfErr result (λ refusal. refusal ≡ Refusal.OutOfMemory) }
+{
+    let Some(code) = &made.code else {
+        return Err(Refusal::OutOfMemory);
+    };
+    match print(alloc, code) {
+        Ok(text) => Ok(Text::from_vec(text)),
+        Err(_) => Err(Refusal::OutOfMemory),
+    }
+}
+
+/// Writes bytes to the output.
+fn append_bytes<O: Sink>(out: &mut O, bytes: &[u8]) -> Result<u8, Refusal>
+    ensures served { WriteServes result }
+    ensures written { AppendsBytes bytes.now (O.written out.old) (O.written out.new) result }
+    ensures cause { WriteCause (O.faults out.old) (O.faults out.new) result }
+{
+    match write_all(out, bytes) {
+        Ok(()) => Ok(0),
+        Err(Failed) => Err(Refusal::WriteFault),
+    }
+}
+
+/// Writes a text to the path of `-o`, or to the output.
+#[tactic(auto, using(crate::proofs::PrintLaws::to_path, crate::proofs::PrintLaws::to_output))]
+pub fn write_text<F: Files, O: Sink>(
+    command: &Command,
+    text: &[u8],
+    files: &mut F,
+    out: &mut O,
+) -> Result<u8, Refusal>
+    ensures { WritesText command.now.out text.now
+        (text_side (F.contents files.old) (F.faults files.old) (F.write_faults files.old) (F.misses files.old) (O.written out.old) (O.faults out.old))
+        (text_side (F.contents files.new) (F.faults files.new) (F.write_faults files.new) (F.misses files.new) (O.written out.new) (O.faults out.new))
+        result }
+{
+    match &command.out {
+        Some(path) => write_bytes(files, path.as_slice(), text),
+        None => append_bytes(out, text),
+    }
+}
