@@ -1,9 +1,10 @@
 -- Laws of the table of macros.
-use Rattle.std.proofs.Common.{◌≡◌, List, [], ◌∷◌, ◌++◌, length, Bool, true, false, Option, Some, None, refl, option_map, Ok, Err}
+use Rattle.std.proofs.Common.{◌≡◌, List, [], ◌∷◌, ◌++◌, length, Bool, true, false, Option, Some, None, refl, suc, option_map, Ok, Err}
 use Rattle.std.specs.Prelude.{is_some, ◌==◌, if◌then◌else◌}
 use Rattle.std.proofs.lemmas.Bool.{eqb-true}
 use Rattle.c65_base.specs.declared.refusal.Pos.{Pos}
 use Rattle.c65_base.specs.declared.refusal.Size.TheVariants as sizes
+use Rattle.c65_base.specs.Limits.{limit_of}
 use Rattle.c65_base.specs.Answers.{large}
 use Rattle.c65_macro.specs.declared.item.Macro.{Macro}
 use Rattle.c65_macro.specs.Table.{Table, or_else}
@@ -23,9 +24,9 @@ not_mapped f None h = refl
 not_mapped f (Some x) h = absurd cc
 
 -- a macro of a new name goes last
-pub added-new : (table : Table) (item : Macro) (place : Pos) → (length table.defined ≡ 16384 → ⊥) → added table item place None ≡ Ok (record table { defined = table.defined ++ (item.name, item) ∷ [] })
-added-new table item place h = by (length table.defined == 16384) refl
+pub added-new : (table : Table) (item : Macro) (place : Pos) → (length table.defined ≡ limit_of sizes.Macros → ⊥) → added table item place None ≡ Ok (record table { defined = table.defined ++ (item.name, item) ∷ [] })
+added-new table item place h = by (length table.defined == limit_of sizes.Macros) refl
   where
-    by : (b : Bool) → (length table.defined == 16384) ≡ b → (if b then Err (large sizes.Macros 16385) else Ok (record table { defined = table.defined ++ (item.name, item) ∷ [] })) ≡ Ok (record table { defined = table.defined ++ (item.name, item) ∷ [] })
-    by true e = absurd (h (eqb-true (length table.defined) 16384 e))
+    by : (b : Bool) → (length table.defined == limit_of sizes.Macros) ≡ b → (if b then Err (large sizes.Macros (suc (limit_of sizes.Macros))) else Ok (record table { defined = table.defined ++ (item.name, item) ∷ [] })) ≡ Ok (record table { defined = table.defined ++ (item.name, item) ∷ [] })
+    by true e = absurd (h (eqb-true (length table.defined) (limit_of sizes.Macros) e))
     by false e = refl

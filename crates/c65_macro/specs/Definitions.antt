@@ -1,11 +1,12 @@
 -- Which definitions are taken, and what they change (C90 6.8.3).
-use Rattle.std.specs.Prelude.{ℕ, List, [], ◌∷◌, ◌++◌, length, Bool, true, false, ◌==◌, ◌&&◌, ◌||◌, not, nat_lt, Option, Some, None, option_map, if◌then◌else◌, Result, Ok, Err}
+use Rattle.std.specs.Prelude.{ℕ, suc, List, [], ◌∷◌, ◌++◌, length, Bool, true, false, ◌==◌, ◌&&◌, ◌||◌, not, nat_lt, Option, Some, None, option_map, if◌then◌else◌, Result, Ok, Err}
 use Rattle.std.specs.List.{list_any}
 use Rattle.std.specs.Cmp.Lexicographic.{pointwise}
 use Rattle.c65_base.specs.declared.names.Name.{Name}
 use Rattle.c65_base.specs.declared.refusal.Pos.{Pos}
 use Rattle.c65_base.specs.declared.code.Code.TheVariants as codes
 use Rattle.c65_base.specs.declared.refusal.Size.TheVariants as sizes
+use Rattle.c65_base.specs.Limits.{limit_of}
 use Rattle.c65_base.specs.Answers.{Fault, at, large, ◌>>=◌}
 use Rattle.c65_lex.specs.declared.token.PpToken.{PpToken}
 use Rattle.c65_macro.specs.declared.item.Macro.{Macro}
@@ -87,7 +88,7 @@ known table item = option_map (λ old. same_macro old item) (find item.name tabl
 abbrev pub added : Table → Macro → Pos → Option Bool → Result Table Fault
 added table item place (Some true) = Ok table
 added table item place (Some false) = Err (at codes.MacroRedefined place)
-added table item place None = if length table.defined == 16384 then Err (large sizes.Macros 16385) else Ok (record table { defined = table.defined ++ (item.name, item) ∷ [] })
+added table item place None = if length table.defined == limit_of sizes.Macros then Err (large sizes.Macros (suc (limit_of sizes.Macros))) else Ok (record table { defined = table.defined ++ (item.name, item) ∷ [] })
 
 -- the table once this macro is defined, whose name stands at a place, or the first fault
 abbrev pub define : Table → Macro → Pos → Result Table Fault

@@ -10,6 +10,9 @@ use indexmap::IndexMap;
 use std::alloc::Global;
 use std::marker::Model;
 
+/// The macros that may be defined at once.
+const MACROS: usize = 16_384;
+
 /// The macros that are defined, which contracts see as the lists of their names and definitions.
 #[derive(Drop)]
 pub struct Macros {
@@ -23,13 +26,15 @@ pub struct Macros {
 
 impl Model for Macros {
     ghost use Rattle.std.specs.Prelude.{◌≤◌, length};
+    ghost use Rattle.c65_base.specs.Limits.{limit_of};
+    ghost use Rattle.c65_base.specs.declared.refusal.Size.TheVariants as sizes;
     ghost use Rattle.c65_macro.specs.Table.{Table};
 
     ghost Value = { Table };
 
     ghost view = { λ m. record { predefined = m.predefined.entries; defined = m.defined.entries; words = m.words; file = m.file; offset = m.offset } };
 
-    ghost invariant = { λ m. length m.defined.entries ≤ 16384 };
+    ghost invariant = { λ m. length m.defined.entries ≤ limit_of sizes.Macros };
 }
 
 impl Macros {
@@ -117,10 +122,10 @@ impl Macros {
         ensures refused { IfErr result (λ e. Fails e (Definitions.added self.old item pos None)) }
         ensures kept { OnErr result (self.new ≡ self.old) }
     {
-        if self.defined.len() == 16_384 {
+        if self.defined.len() == MACROS {
             return Err(Refusal::TooLarge {
                 limit: Size::Macros,
-                value: 16_385,
+                value: MACROS as u64 + 1,
             });
         }
         self.defined.insert(item.name, item)?;

@@ -1,11 +1,12 @@
 -- A definition is refused for faults that a unit may have.
-use Rattle.std.proofs.Common.{ℕ, List, [], ◌∷◌, Bool, true, false, Option, Some, None, Result, Ok, Err, subst}
+use Rattle.std.proofs.Common.{ℕ, suc, List, [], ◌∷◌, Bool, true, false, Option, Some, None, Result, Ok, Err, subst}
 use Rattle.std.specs.Prelude.{IfErr, IfSome, if◌then◌else◌, refl, ◌&&◌, ◌==◌, ◌++◌, nat_lt, length}
 use Rattle.c65_base.specs.declared.code.Code.TheVariants as codes
 use Rattle.c65_base.specs.declared.refusal.Size.TheVariants as sizes
 use Rattle.c65_base.specs.declared.refusal.Pos.{Pos}
 use Rattle.c65_base.specs.declared.refusal.Refusal.{Refusal}
 use Rattle.c65_base.specs.declared.refusal.Refusal.TheVariants as refusals
+use Rattle.c65_base.specs.Limits.{limit_of}
 use Rattle.c65_base.specs.Answers.{Fault, at, large, Fails, ◌>>=◌}
 use Rattle.c65_base.specs.declared.names.Name.{Name}
 use Rattle.c65_lex.specs.declared.token.PpToken.{PpToken}
@@ -54,7 +55,7 @@ of_form table item place =
 of_added : (table : Table) (item : Macro) (place : Pos) (o : Option Bool) → IfErr (added table item place o) IsUnitFault
 of_added table item place (Some true) = tt {0}
 of_added table item place (Some false) = tt {0}
-of_added table item place None = either_result (length table.defined == 16384) (Err (large sizes.Macros 16385)) (Ok (record table { defined = table.defined ++ (item.name, item) ∷ [] })) (refl {A = ℕ} {a = 16385}) (tt {0})
+of_added table item place None = either_result (length table.defined == limit_of sizes.Macros) (Err (large sizes.Macros (suc (limit_of sizes.Macros)))) (Ok (record table { defined = table.defined ++ (item.name, item) ∷ [] })) (refl {A = ℕ} {a = suc (limit_of sizes.Macros)}) (tt {0})
 
 of_define : (table : Table) (item : Macro) (place : Pos) → IfErr (define table item place) IsUnitFault
 of_define table item place = then_result (form table item place) _ (of_form table item place) (λ _. of_added table item place (known table item))
