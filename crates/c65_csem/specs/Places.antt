@@ -1,9 +1,10 @@
 -- Kinds of expressions and types, as operators ask for them (C90 6.1.2.5, 6.2.2.1).
-use Rattle.std.specs.Prelude.{◌≡◌, ℕ, ◌*◌, List, length, Bool, true, false, ◌||◌, ◌&&◌, Option, Some, None, option_and_then, slice_get, is_some, ◌==◌}
+use Rattle.std.specs.Prelude.{◌≡◌, ℕ, ◌*◌, List, length, Bool, true, false, ◌||◌, ◌&&◌, Option, Some, None, option_and_then, slice_get, is_some, nat_le, ◌==◌}
 use Rattle.c65_ints.specs.declared.types.IntType.{IntType}
 use Rattle.c65_ints.specs.declared.types.IntType.TheVariants as ints
 use Rattle.c65_ctype.specs.Trees.{Ty, void, int, pointer, array, tag, function, QTy, qual, type_in, MemberTy, LayoutTy, TypesTy}
 use Rattle.c65_ctype.specs.Tables.{layout_at}
+use Rattle.c65_ctype.specs.Sizes.{size_of}
 use Rattle.c65_ctype.specs.Compatible.{same_int}
 use Rattle.c65_csem.specs.declared.items.Class.{Class}
 use Rattle.c65_csem.specs.declared.items.Class.TheVariants.{Auto, Register, Fixed}
@@ -64,6 +65,18 @@ is_tag _ = false
 abbrev pub is_void : Ty → Bool
 is_void void = true
 is_void _ = false
+
+-- a structure or union of at most four bytes, which may be passed and returned (C90 6.3.2.2, 6.6.6.4)
+abbrev pub most_small : ℕ
+most_small = 4
+
+abbrev pub is_small : TypesTy → Ty → Bool
+is_small types (tag n) = nat_le 1 (size_of types (tag n)) && nat_le (size_of types (tag n)) most_small
+is_small types _ = false
+
+-- a type whose values are passed and returned
+abbrev pub is_passed : TypesTy → Ty → Bool
+is_passed types t = is_scalar t || is_small types t
 
 -- a type that has a size
 abbrev mutual

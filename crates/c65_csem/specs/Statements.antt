@@ -6,7 +6,7 @@ use Rattle.c65_ctype.specs.Trees.{QTy, type_in, int}
 use Rattle.c65_ctype.specs.Sizes.{size_of}
 use Rattle.c65_csem.specs.Trees.{Typed, type_of, MaybeTyped, absent, present, Stmt, empty, eval, set_part, clear, block, if_stmt, while, do_while, for_loop, switch, case, default, label, goto, break, continue, return, Stmts, no_stmts, and_stmts, ObjectTy, UnitTy}
 use Rattle.c65_csem.specs.Places.{is_place, is_promoted, is_tag, plain, is_framed, is_automatic, are_alike}
-use Rattle.c65_csem.specs.Typed.{IsTyped, IsValue, IsScalar, HasInt}
+use Rattle.c65_csem.specs.Typed.{IsTyped, IsGiven, IsValue, IsScalar, HasInt}
 
 -- the labels of a statement, in their order
 abbrev mutual
@@ -134,10 +134,11 @@ pub data CanBreak (c : Context) : Type 0 where
   switched : IsSome c.in_switch → CanBreak c
 
 -- A returned value has the type that the function gives, down to a pointer: a later declaration may have
--- completed what it points to (C90 6.6.6.4, 6.1.2.6). A function that gives nothing returns none.
+-- completed what it points to (C90 6.6.6.4, 6.1.2.6); the tags of structures may come from two units, and their sizes
+-- are the same. A function that gives nothing returns none.
 abbrev pub IsReturn : UnitTy → Context → MaybeTyped → Type 0
 IsReturn u c absent = Unit {0}
-IsReturn u c (present e) = IsTyped u e × IsValue e × IsTrue (are_alike (type_of e) c.gives)
+IsReturn u c (present e) = IsGiven u e × IsTrue (are_alike (type_of e) c.gives) × (size_of u.types (type_in (type_of e)) ≡ size_of u.types (type_in c.gives))
 
 abbrev mutual
   pub IsStmt : UnitTy → Context → Stmt → Type 0

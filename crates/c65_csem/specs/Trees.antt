@@ -39,6 +39,9 @@ mutual
     step : StepKind → Typed → Node
     copy : Typed → Typed → Node
     call : Typed → Nodes → Node
+    pack : Typed → Node
+    spill : ℕ → Typed → Node
+    rest : Node
 
   pub data Nodes : Type 0 where
     none : Nodes
@@ -72,9 +75,9 @@ mutual
     no_stmts : Stmts
     and_stmts : Stmt → Stmts → Stmts
 
--- an object: its name, its type, how it is defined, and its first bytes
+-- an object: its name, its type, how it is defined, and its first bytes; one that holds what a call gives has no name
 pub record ObjectTy : Type 0 where
-  pub name : Name
+  pub name : Option Name
   pub ty : QTy
   pub class : Class
   pub init : Option (List Cell)

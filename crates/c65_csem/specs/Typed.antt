@@ -10,8 +10,9 @@ use Rattle.c65_ints.specs.declared.types.IntType.TheVariants.{SChar, UChar, Int}
 use Rattle.c65_ints.specs.Ranges.{InRange}
 use Rattle.c65_ctype.specs.Trees.{Ty, void, int, pointer, array, tag, function, QTy, qual, type_in, Fn, fn, Params, unknown, known, QTys, end, more, TypesTy, MemberTy}
 use Rattle.c65_ctype.specs.Sizes.{size_of}
-use Rattle.c65_csem.specs.Trees.{Typed, node, Node, constant, null, literal, object, func, deref, member, load, address, decay, convert, unary, binary, both, either, choice, comma, assign, assign_op, assign_step, step, copy, call, Nodes, none, some, type_of, ObjectTy, FuncTy, UnitTy}
-use Rattle.c65_csem.specs.Places.{is_place, plain, plain_of, qualified, is_promoted, is_scalar, is_tag, is_void, moves, member_at, is_bit_field, is_registered, are_alike}
+use Rattle.c65_csem.specs.Trees.{Typed, node, Node, constant, null, literal, object, func, deref, member, load, address, decay, convert, unary, binary, both, either, choice, comma, assign, assign_op, assign_step, step, copy, call, pack, spill, rest, Nodes, none, some, type_of, ObjectTy, FuncTy, UnitTy}
+use Rattle.c65_csem.specs.declared.items.Class.TheVariants.{Auto}
+use Rattle.c65_csem.specs.Places.{is_place, plain, plain_of, qualified, is_promoted, is_scalar, is_small, is_tag, is_void, moves, member_at, is_bit_field, is_registered, are_alike}
 
 abbrev pub HasInt : QTy → IntType → Type 0
 HasInt t k = t ≡ plain (int k)
@@ -129,10 +130,15 @@ pub data IsLiteral : QTy → ℕ → Type 0 where
   of_unsigned : {n : ℕ} → IsLiteral (plain (array (plain (int UChar)) (Some (n + 1)))) n
   of_signed : {n : ℕ} → IsLiteral (plain (array (plain (int SChar)) (Some (n + 1)))) n
 
--- what a call passes without a prototype: a promoted number or a pointer
-pub data Passes : QTy → Type 0 where
-  number : {t : QTy} → IsPromoted t → Passes t
-  pointer_value : {t : QTy} → IsPointer t → Passes t
+-- a structure or union of at most four bytes
+abbrev pub IsSmall : UnitTy → QTy → Type 0
+IsSmall u t = IsTrue (is_small u.types (type_in t)) × (t ≡ plain_of t)
+
+-- what a call passes without a prototype: a promoted number, a pointer, or a structure or union
+pub data Passes (u : UnitTy) : QTy → Type 0 where
+  number : {t : QTy} → IsPromoted t → Passes u t
+  pointer_value : {t : QTy} → IsPointer t → Passes u t
+  structure : {t : QTy} → IsSmall u t → Passes u t
 
 -- the bytes of all arguments
 abbrev pub arguments_size : TypesTy → Nodes → ℕ
@@ -164,37 +170,54 @@ pub data IsStepped (u : UnitTy) : QTy → Type 0 where
   moved : {t : QTy} → IsMoved u t → IsStepped u t
 
 -- the arguments behind those of the prototype
-abbrev pub ArePassed : Nodes → Type 0
-ArePassed none = Unit {0}
-ArePassed (some e es) = Passes (type_of e) × (is_place e ≡ false) × ArePassed es
+abbrev pub ArePassed : UnitTy → Nodes → Type 0
+ArePassed u none = Unit {0}
+ArePassed u (some e es) = Passes u (type_of e) × ArePassed u es
 
 -- each argument has the type of its parameter without qualifiers (C90 6.3.2.2)
-abbrev pub AreGiven : QTys → Bool → Nodes → Type 0
-AreGiven end false none = Unit {0}
-AreGiven end false (some e es) = ⊥
-AreGiven end true es = ArePassed es
-AreGiven (more q qs) variadic none = ⊥
-AreGiven (more q qs) variadic (some e es) = (type_of e ≡ plain_of q) × IsValue e × AreGiven qs variadic es
+abbrev pub AreGiven : UnitTy → QTys → Bool → Nodes → Type 0
+AreGiven u end false none = Unit {0}
+AreGiven u end false (some e es) = ⊥
+AreGiven u end true es = ArePassed u es
+AreGiven u (more q qs) variadic none = ⊥
+AreGiven u (more q qs) variadic (some e es) = (type_of e ≡ plain_of q) × AreGiven u qs variadic es
 
-abbrev pub Fits : Params → Bool → Nodes → Type 0
-Fits unknown variadic es = ArePassed es
-Fits (known qs) variadic es = AreGiven qs variadic es
+abbrev pub Fits : UnitTy → Params → Bool → Nodes → Type 0
+Fits u unknown variadic es = ArePassed u es
+Fits u (known qs) variadic es = AreGiven u qs variadic es
 
--- the type of a result: none, or a scalar one
-pub data IsResult : QTy → Type 0 where
-  nothing : IsResult (plain void)
-  scalar : {t : QTy} → IsScalar t → IsResult t
+-- the type of a result: none, a scalar one, or a structure or union of at most four bytes
+pub data IsResult (u : UnitTy) : QTy → Type 0 where
+  nothing : IsResult u (plain void)
+  scalar : {t : QTy} → IsScalar t → IsResult u t
+  structure : {t : QTy} → IsSmall u t → IsResult u t
 
-abbrev pub FitsFn : Fn → Nodes → Type 0
-FitsFn (fn q ps variadic cdecl) es = Fits ps variadic es
+-- the type of a call that stands alone: none, or a scalar one
+pub data IsUsual : QTy → Type 0 where
+  nothing : IsUsual (plain void)
+  scalar : {t : QTy} → IsScalar t → IsUsual t
+
+abbrev pub FitsFn : UnitTy → Fn → Nodes → Type 0
+FitsFn u (fn q ps variadic cdecl) es = Fits u ps variadic es
 
 pub record IsCall (u : UnitTy) (t f : QTy) (es : Nodes) : Type 0 where
   pub callee : Fn
   pub named : f ≡ plain (pointer (plain (function callee)))
   pub result : t ≡ plain_of (result_of callee)
-  pub scalar : IsResult t
-  pub given : FitsFn callee es
+  pub given : FitsFn u callee es
   pub few : arguments_size u.types es ≤ 250
+
+-- the unnamed object that holds what a call gives
+pub record IsSpot (u : UnitTy) (i : ℕ) (t : QTy) : Type 0 where
+  pub object : ObjectTy
+  pub there : slice_get u.objects i ≡ Some object
+  pub unnamed : object.name ≡ None
+  pub class : object.class ≡ Auto
+  pub same : type_in object.ty ≡ type_in t
+
+-- the place behind the further arguments: a pointer to bytes
+abbrev pub rest_type : QTy
+rest_type = plain (pointer (plain (int UChar)))
 
 abbrev mutual
   pub IsTyped : UnitTy → Typed → Type 0
@@ -223,8 +246,21 @@ abbrev mutual
   IsNode u t (assign_step op a b) = IsTyped u a × IsTyped u b × IsScalarPlace a × (t ≡ plain_of (type_of a)) × IsMoved u t × (is_place b ≡ false) × IsInt (type_of b) × Steps op
   IsNode u t (step how a) = IsTyped u a × IsScalarPlace a × (t ≡ plain_of (type_of a)) × IsStepped u t
   IsNode u t (copy a b) = IsTyped u a × IsTyped u b × IsTrue (is_place a) × IsTrue (is_tag (type_in t)) × (t ≡ plain_of (type_of a)) × (t ≡ plain_of (type_of b))
-  IsNode u t (call f es) = IsTyped u f × (is_place f ≡ false) × IsCall u t (type_of f) es × AreTyped u es
+  IsNode u t (call f es) = IsTyped u f × (is_place f ≡ false) × IsCall u t (type_of f) es × IsUsual t × AreTyped u es
+  IsNode u t (pack e) = ⊥
+  IsNode u t (spill i e) = IsCalled u t e × IsSpot u i t
+  IsNode u t rest = t ≡ rest_type
+
+  -- an argument or a returned value: a value, or the bytes of a structure or union, which stand nowhere else
+  pub IsGiven : UnitTy → Typed → Type 0
+  IsGiven u (node t (pack e)) = IsTyped u e × IsSmall u t × (t ≡ plain_of (type_of e))
+  IsGiven u (node t e) = IsNode u t e × IsValue (node t e)
+
+  -- a call that gives a structure or union, which stands only where an object takes it
+  pub IsCalled : UnitTy → QTy → Typed → Type 0
+  IsCalled u t (node s (call f es)) = (s ≡ t) × IsSmall u s × IsTyped u f × (is_place f ≡ false) × IsCall u s (type_of f) es × AreTyped u es
+  IsCalled u t (node s _) = ⊥
 
   pub AreTyped : UnitTy → Nodes → Type 0
   AreTyped u none = Unit {0}
-  AreTyped u (some e es) = IsTyped u e × AreTyped u es
+  AreTyped u (some e es) = IsGiven u e × AreTyped u es

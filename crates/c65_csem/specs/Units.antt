@@ -3,14 +3,14 @@ use Rattle.std.specs.Prelude.{◌≡◌, ℕ, ◌<◌, ◌≤◌, List, [], ◌�
 use Rattle.c65_ctype.specs.Trees.{QTy, type_in, Fn, fn, Params, unknown, known, QTys, end, more, TypesTy}
 use Rattle.c65_ctype.specs.Sizes.{size_of}
 use Rattle.c65_csem.specs.declared.items.Class.{Class}
-use Rattle.c65_csem.specs.declared.items.Class.TheVariants.{External, Tentative, Declared, Static}
+use Rattle.c65_csem.specs.declared.items.Class.TheVariants.{External, Tentative, Declared, Static, Auto}
 use Rattle.c65_csem.specs.declared.items.Cell.{Cell}
 use Rattle.c65_csem.specs.declared.items.Cell.TheVariants.{Byte, Piece}
 use Rattle.c65_csem.specs.declared.items.Target.{Target}
 use Rattle.c65_csem.specs.declared.items.Target.TheVariants as targets
 use Rattle.c65_base.specs.declared.library.Library.{Library}
 use Rattle.c65_csem.specs.Trees.{Stmt, ObjectTy, FuncTy, UnitTy}
-use Rattle.c65_csem.specs.Places.{is_scalar, is_sized_in, plain_of, are_alike}
+use Rattle.c65_csem.specs.Places.{is_passed, is_sized_in, plain_of, are_alike}
 use Rattle.c65_csem.specs.Typed.{IsResult, result_of}
 use Rattle.c65_csem.specs.Statements.{Context, IsStmt, IsDistinct, labels_of, IsFramed}
 
@@ -45,24 +45,27 @@ abbrev pub HasSize : UnitTy → QTy → Class → Type 0
 HasSize u t Declared = Unit {0}
 HasSize u t _ = IsTrue (is_sized_in u.types t)
 
+-- An object without a name holds what a call gives, in the frame.
 pub record IsObject (u : UnitTy) (o : ObjectTy) : Type 0 where
   pub size : HasSize u o.ty o.class
   pub init : IsInit u o o.init
   pub class : HasRoomFor o.class o.init
+  pub unnamed : o.name ≡ None → o.class ≡ Auto
 
--- a parameter is an object of the frame, of a scalar type
+-- a parameter is a named object of the frame, of a scalar type or a structure or union of at most four bytes
 pub record IsParam (u : UnitTy) (i : ℕ) : Type 0 where
   pub object : ObjectTy
   pub framed : IsFramed u i object
-  pub scalar : IsTrue (is_scalar (type_in object.ty))
+  pub passed : IsTrue (is_passed u.types (type_in object.ty))
+  pub named : IsSome object.name
 
--- Each parameter has the type that the prototype gives it, down to pointers: a later declaration may have
--- completed what they point to (C90 6.5.4.3, 6.1.2.6).
+-- Each parameter has the type that the prototype gives it, down to pointers and tags, and its size: a later declaration
+-- may have completed what they point to (C90 6.5.4.3, 6.1.2.6).
 abbrev pub AreParams : UnitTy → QTys → List ℕ → Type 0
 AreParams u end [] = Unit {0}
 AreParams u end (i ∷ is) = ⊥
 AreParams u (more q qs) [] = ⊥
-AreParams u (more q qs) (i ∷ is) = (o : ObjectTy) × (slice_get u.objects i ≡ Some o) × IsTrue (are_alike o.ty q) × AreParams u qs is
+AreParams u (more q qs) (i ∷ is) = (o : ObjectTy) × (slice_get u.objects i ≡ Some o) × IsTrue (are_alike o.ty q) × (size_of u.types (type_in o.ty) ≡ size_of u.types (type_in q)) × AreParams u qs is
 
 abbrev pub MatchParams : UnitTy → Fn → List ℕ → Type 0
 MatchParams u (fn q unknown variadic cdecl) is = Unit {0}
@@ -80,7 +83,7 @@ pub record IsBody (u : UnitTy) (f : FuncTy) (body : Stmt) : Type 0 where
   pub params : All (IsParam u) f.params
   pub prototype : MatchParams u f.ty f.params
   pub distinct_params : IsDistinct f.params
-  pub gives : IsResult (plain_of (result_of f.ty))
+  pub gives : IsResult u (plain_of (result_of f.ty))
   pub labels : IsDistinct (labels_of body)
   pub typed : IsStmt u (context_of f body) body
 

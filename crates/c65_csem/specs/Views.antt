@@ -36,6 +36,9 @@ abbrev mutual
   node_of (x.Step' how p t e) = Trees.step how (Trees.node (qty_of t) (node_of e))
   node_of (x.Copy' p t a q u b) = Trees.copy (Trees.node (qty_of t) (node_of a)) (Trees.node (qty_of u) (node_of b))
   node_of (x.Call' p t f shape es) = Trees.call (Trees.node (qty_of t) (node_of f)) (row_nodes es)
+  node_of (x.Pack' p t e) = Trees.pack (Trees.node (qty_of t) (node_of e))
+  node_of (x.Spill' i p t e) = Trees.spill i (Trees.node (qty_of t) (node_of e))
+  node_of x.Rest = Trees.rest
 
   pub row_nodes : {m : _} → Row_of-TExpr m → Trees.Nodes
   row_nodes end_of-TExpr = Trees.none

@@ -61,6 +61,13 @@ pub enum TKind {
     /// Assignment of a structure or union.
     Copy(Box<TExpr>, Box<TExpr>),
     Call(Box<TExpr>, Vec<TExpr>),
+    /// A structure or union of at most four bytes as the argument of a call or the value of a return: the bytes of
+    /// its place.
+    Pack(Box<TExpr>),
+    /// The structure or union that a call gives, stored in an unnamed object of its function: that object's place.
+    Spill(u32, Box<TExpr>),
+    /// The place behind the further arguments of a call with `...`.
+    Rest,
 }
 
 impl TExpr {

@@ -37,7 +37,8 @@ pub enum Cell {
 
 #[derive(Drop)]
 pub struct TObject {
-    pub name: Name,
+    /// None for an object that holds the structure or union that a call gives.
+    pub name: Option<Name>,
     pub ty: QType,
     pub class: Class,
     pub init: Option<Vec<Cell>>,

@@ -8,6 +8,9 @@ use c65_ctype::{CType, Member, QType, Types};
 use c65_ints::IntType;
 use std::alloc::{AllocError, Global};
 
+/// The bytes of the greatest structure or union that may be passed and returned.
+pub const SMALL: u32 = 4;
+
 /// An integer type without qualifiers.
 pub fn int_type(kind: IntType) -> QType
     ensures { qty_of result ≡ Places.plain (int kind) }
@@ -70,6 +73,19 @@ pub fn is_tag(ty: &CType) -> bool
 {
     match ty {
         CType::Struct(_) => true,
+        _ => false,
+    }
+}
+
+/// Whether a type is a structure or union of at most four bytes, which may be passed and returned.
+pub fn is_small(types: &Types, ty: &CType) -> bool
+    ensures { result ≡ Places.is_small (types_of types.now) (ty_of ty.now) }
+{
+    match ty {
+        CType::Struct(tag) => match types.get(*tag) {
+            Some(layout) => 1 <= layout.size && layout.size <= SMALL,
+            None => false,
+        },
         _ => false,
     }
 }

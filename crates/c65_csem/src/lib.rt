@@ -13,7 +13,8 @@ mod unit;
 pub use expr::{TExpr, TKind};
 pub use items::{Cell, Class, Parts, TFunc, TObject, Target};
 pub use kinds::{
-    int_type, is_scalar, is_sized, is_tag, member_at, pointer_to, promoted, unqualified,
+    SMALL, int_type, is_scalar, is_sized, is_small, is_tag, member_at, pointer_to, promoted,
+    unqualified,
 };
 pub use library::{library_named, library_type};
 pub use stmt::TStmt;

@@ -1,6 +1,6 @@
 -- How many values wait while expressions are evaluated, read off the source alone.
 use Rattle.std.specs.Prelude.{ℕ, ◌+◌, max}
-use Rattle.c65_csem.specs.Trees.{Typed, node, Node, deref, member, load, address, decay, convert, unary, binary, both, either, choice, comma, assign, assign_op, assign_step, step, copy, call, Nodes, none, some, Stmt, eval, set_part, block, if_stmt, while, do_while, for_loop, switch, case, default, label, return, Stmts, no_stmts, and_stmts, MaybeTyped, absent, present}
+use Rattle.c65_csem.specs.Trees.{Typed, node, Node, deref, member, load, address, decay, convert, unary, binary, both, either, choice, comma, assign, assign_op, assign_step, step, copy, call, pack, spill, Nodes, none, some, Stmt, eval, set_part, block, if_stmt, while, do_while, for_loop, switch, case, default, label, return, Stmts, no_stmts, and_stmts, MaybeTyped, absent, present}
 
 abbrev mutual
   -- the greatest number of values that wait while an expression is evaluated
@@ -26,6 +26,8 @@ abbrev mutual
   need_in (step kind a) = need a
   need_in (copy a b) = max (need a) (1 + need b)
   need_in (call f args) = max (need f) (need_of_all args)
+  need_in (pack a) = need a
+  need_in (spill i a) = need a
   need_in _ = 0
 
   -- the greatest of i and the need of argument i together, i from 1

@@ -12,7 +12,7 @@ pub fn need(e: &TExpr) -> u32
 {
     match &e.kind {
         TKind::Const(_) | TKind::Null | TKind::Literal(_) => 0,
-        TKind::Object(_) | TKind::Func(_) => 0,
+        TKind::Object(_) | TKind::Func(_) | TKind::Rest => 0,
         TKind::Deref(a)
         | TKind::Member(a, _)
         | TKind::Load(a)
@@ -20,7 +20,9 @@ pub fn need(e: &TExpr) -> u32
         | TKind::Decay(a)
         | TKind::Convert(a)
         | TKind::Unary(_, a)
-        | TKind::Step(_, a) => need(a),
+        | TKind::Step(_, a)
+        | TKind::Pack(a)
+        | TKind::Spill(_, a) => need(a),
         TKind::Binary(_, a, b)
         | TKind::And(a, b)
         | TKind::Or(a, b)

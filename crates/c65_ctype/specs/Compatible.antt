@@ -95,10 +95,11 @@ members_meet ps [] [] = Some ps
 members_meet ps (a ∷ xs) (b ∷ ys) = option_and_then (λ given. members_meet given xs ys) (one_meets ps a b)
 members_meet ps _ _ = None
 
+-- two finished layouts differ where one is a union alone, where their sizes do, or a member
 abbrev pub layouts_meet : Pairs → Option LayoutTy → Option LayoutTy → Option Pairs
 layouts_meet ps None b = Some ps
 layouts_meet ps (Some a) None = Some ps
-layouts_meet ps (Some a) (Some b) = if same_bool a.is_union b.is_union then members_meet ps a.members b.members else None
+layouts_meet ps (Some a) (Some b) = if same_bool a.is_union b.is_union && a.size == b.size then members_meet ps a.members b.members else None
 
 abbrev pub tags_meet : Pairs → Option TagTy → Option TagTy → Option Pairs
 tags_meet ps (Some a) (Some b) = if a.unit == b.unit then None else layouts_meet ps a.layout b.layout

@@ -36,7 +36,7 @@ fn layouts_meet(
 {
     match (a, b) {
         (Some(a), Some(b)) => {
-            if a.is_union == b.is_union {
+            if a.is_union == b.is_union && a.size == b.size {
                 members_meet(&a.members, &b.members, pairs)
             } else {
                 Ok(false)
