@@ -183,10 +183,10 @@ fn jumps_at_page_end(machine: &Machine) -> bool
     ensures { result ≡ jumps_at_page_end machine.now }
 {
     let pc = machine.pc();
-    if is_hook(pc) {
-        return false;
-    }
-    machine.read(pc) == JUMP_INDIRECT && machine.word(pc.wrapping_add(1)) % 256 == 255
+    // Asked before each row: the byte at pc tells it of nearly all.
+    machine.read(pc) == JUMP_INDIRECT
+        && !is_hook(pc)
+        && machine.word(pc.wrapping_add(1)) % 256 == 255
 }
 
 /// The next row would push a byte while S is 0.

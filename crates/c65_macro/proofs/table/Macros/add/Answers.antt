@@ -17,5 +17,5 @@ returns-clause-ok c =
     let none : find c.args.item.name inside.defined.entries ≡ None = subst (λ t. find c.args.item.name t.defined ≡ None) (sym c.self.view_is) (not_mapped (λ old. same_macro old c.args.item) _ c.requires) in
     let e : c.insert.new.self.entries ≡ inside.defined.entries ++ (c.args.item.name, c.args.item) ∷ [] = c.in_ok-insert.ensures.entries ∙ insert_entry-new _ inside.defined c.args.item.name c.args.item none in
     let n : length inside.defined.entries ≡ c.len.result = sym c.len.ensures.len in
-    let room : length inside.defined.entries ≢ limit_of sizes.Macros = λ (h : length inside.defined.entries ≡ limit_of sizes.Macros). c.if-len-eq16384.false (sym n ∙ h) in
+    let room : length inside.defined.entries ≢ limit_of sizes.Macros = λ (h : length inside.defined.entries ≡ limit_of sizes.Macros). c.if-len-eq-MACROS.false (sym n ∙ h) in
     subst (λ t. added t c.args.item c.args.pos None ≡ Ok (after c.insert.new.self.entries)) c.self.view_is (added-new (the_view inside) c.args.item c.args.pos room ∙ ap (λ es. Ok (after es)) (sym e))
