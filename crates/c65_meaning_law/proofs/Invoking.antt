@@ -164,7 +164,7 @@ module _ (p : ProgramTy) (w : IsProgram p.unit p.main) (s : IsScopedProgram p.un
             where
               cell_raised : (x : Cell) → CellFits E x → CellFits (D p.unit e) x
               cell_raised (Piece i b o) h = g b h
-              cell_raised (Bits known value) h = tt
+              cell_raised (Bits n v) h = tt
               cell_raised Clouded h = tt
 
               raise_one : (v : Value) → Stands E v → Stands (D p.unit e) v

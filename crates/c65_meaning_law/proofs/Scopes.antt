@@ -166,22 +166,22 @@ module _ (u : UnitTy) (i : ℕ) (d : Scene) where
   named_on : (j : ℕ) (t : Bool) (fs : List Frame) → In d (placed t (block_in fs j) j) → In after (placed t (block_in (name_object fs i d.next) j) j)
   named_on j false fs h = old j false (block_in fs j) h
   named_on j true [] h = old j true None h
-  named_on j true (f ∷ rest) h = chosen j (j == i) (f.object j) h
+  named_on j true (f ∷ more) h = chosen j (j == i) (f.object j) h
 
   keeps : (j : ℕ) → HasBlock u d j → HasBlock u after j
   keeps j h = has after j (named_on j (lives_in_frame (object_in u j)) d.frames (record { block = h.0; named = h.1; stands = h.2 }))
 
   frame_stays : (fs : List Frame) → HasFrame fs → HasFrame (name_object fs i d.next)
   frame_stays [] h = absurd h
-  frame_stays (f ∷ rest) h = tt
+  frame_stays (f ∷ more) h = tt
 
   same_func : (fs : List Frame) → func_in (name_object fs i d.next) ≡ func_in fs
   same_func [] = refl
-  same_func (f ∷ rest) = refl
+  same_func (f ∷ more) = refl
 
   same_below : (fs : List Frame) → frames_below (name_object fs i d.next) ≡ frames_below fs
   same_below [] = refl
-  same_below (f ∷ rest) = refl
+  same_below (f ∷ more) = refl
 
   same_rest : (fs : List Frame) → rest_in (name_object fs i d.next) ≡ rest_in fs
   same_rest [] = refl
@@ -196,7 +196,7 @@ module _ (u : UnitTy) (i : ℕ) (d : Scene) where
 
   own_in : (t : Bool) (fs : List Frame) → t ≡ true → HasFrame fs → In after (placed t (block_in (name_object fs i d.next) i) i)
   own_in true [] e h = absurd h
-  own_in true (f ∷ rest) e h = newest (i == i) (grind arith) (f.object i)
+  own_in true (f ∷ more) e h = newest (i == i) (grind arith) (f.object i)
   own_in false fs e h = absurd (cc)
 
   own : NamesAutomatic u i → HasFrame d.frames → HasBlock u after i
@@ -231,19 +231,19 @@ pub record IsBegun (u : UnitTy) (variadic : Bool) (scope : List ℕ) (d e : Scen
   pub ready : IsReady u variadic scope e
   pub store : StoreFits (D u e) e.store
 
-first_of : (P : ℕ → Type 0) (i : ℕ) (rest : List ℕ) → All P (i ∷ rest) → P i
-first_of P i rest h = h 0 i (omega arith)
+first_of : (P : ℕ → Type 0) (i : ℕ) (more : List ℕ) → All P (i ∷ more) → P i
+first_of P i more h = h 0 i (omega arith)
 
-rest_of : (P : ℕ → Type 0) (i : ℕ) (rest : List ℕ) → All P (i ∷ rest) → All P rest
-rest_of P i rest h k d l = h (suc k) d (omega (arith, l))
+rest_of : (P : ℕ → Type 0) (i : ℕ) (more : List ℕ) → All P (i ∷ more) → All P more
+rest_of P i more h k d l = h (suc k) d (omega (arith, l))
 
 abbrev pub AreAutomatic : UnitTy → List ℕ → Type 0
 AreAutomatic u [] = ⊤
-AreAutomatic u (i ∷ rest) = NamesAutomatic u i × AreAutomatic u rest
+AreAutomatic u (i ∷ more) = NamesAutomatic u i × AreAutomatic u more
 
 pub automatic_of : (u : UnitTy) (objects : List ℕ) → All (NamesAutomatic u) objects → AreAutomatic u objects
 automatic_of u [] a = tt
-automatic_of u (i ∷ rest) a = (first_of (NamesAutomatic u) i rest a, automatic_of u rest (rest_of (NamesAutomatic u) i rest a))
+automatic_of u (i ∷ more) a = (first_of (NamesAutomatic u) i more a, automatic_of u more (rest_of (NamesAutomatic u) i more a))
 
 pub automatic_joined : (u : UnitTy) (xs ys : List ℕ) → AreAutomatic u xs → AreAutomatic u ys → AreAutomatic u (xs ++ ys)
 automatic_joined u [] ys a b = b
@@ -251,9 +251,9 @@ automatic_joined u (i ∷ xs) ys a b = (a.0, automatic_joined u xs ys a.1 b)
 
 pub begun : (u : UnitTy) (variadic : Bool) (objects scope : List ℕ) (d : Scene) → AreAutomatic u objects → IsReady u variadic scope d → StoreFits (D u d) d.store → IsBegun u variadic (entering objects scope) d (begin_objects u objects d)
 begun u variadic [] scope d a r h = record { grows = grows_same u d; ready = r; store = h }
-begun u variadic (i ∷ rest) scope d a r h =
-    let on = begun u variadic rest (i ∷ scope) (begin_object u i d) a.1 (ready_after u i d variadic scope a.0 r) (store_after u i d h) in
-    record { grows = grows_on u d (begin_object u i d) (begin_objects u rest (begin_object u i d)) (grows u i d) on.grows; ready = on.ready; store = on.store }
+begun u variadic (i ∷ more) scope d a r h =
+    let on = begun u variadic more (i ∷ scope) (begin_object u i d) a.1 (ready_after u i d variadic scope a.0 r) (store_after u i d h) in
+    record { grows = grows_on u d (begin_object u i d) (begin_objects u more (begin_object u i d)) (grows u i d) on.grows; ready = on.ready; store = on.store }
 
 -- ---- the further arguments begin
 

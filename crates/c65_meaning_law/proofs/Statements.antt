@@ -96,7 +96,7 @@ module _ (m : Setting) (u : UnitTy) (c e : Scene) (g : Grows u c e) where
 
   pub have_on : (objects : List ℕ) → HaveBlocks u c objects → HaveBlocks u e objects
   have_on [] h = tt
-  have_on (i ∷ rest) h = (g.objects i h.0, have_on rest h.1)
+  have_on (i ∷ more) h = (g.objects i h.0, have_on more h.1)
 
   abbrev work_on : (s : Stmt) → IsWork m u c s → IsWork m u e s
   work_on s h = record { variadic = h.variadic; scope = h.scope; context = h.context; placed = h.placed; typed = h.typed; scoped = h.scoped; ready = ready_stays u c e g h.variadic h.scope h.ready }
@@ -265,7 +265,7 @@ module _ (m : Setting) (u : UnitTy) (c : Scene) (y : Exit) (ks : List Kind) wher
 
     pub stmts_lead : (n : ℕ) (ss : Stmts) (k : List Item) → Leaves k → Leaves (plan_stmts u n ss k)
     stmts_lead n no_stmts k h = h
-    stmts_lead n (and_stmts a rest) k h = stmt_leads n a _ (stmts_lead (n + count a) rest k h)
+    stmts_lead n (and_stmts a more) k h = stmt_leads n a _ (stmts_lead (n + count a) more k h)
 
 -- ---- the work of a statement
 
@@ -431,7 +431,7 @@ module _ (m : Setting) (hs : HasStatements m) (u : UnitTy) (c : Scene) where
 
       pub stmts_take : (x : Context) (n : ℕ) (ss : Stmts) (k : List Item) (ks : List Kind) → IsContext m x → AreStmts u x ss → AreScoped u variadic scope ss → Works k ks → Outs x k ks → Works (plan_stmts u n ss k) ks
       stmts_take x n no_stmts k ks p w h t q = t
-      stmts_take x n (and_stmts a rest) k ks p w h t q = stmt_takes x n a (plan_stmts u (n + count a) rest k) ks p w.0 h.0 (stmts_take x (n + count a) rest k ks p w.1 h.1 t q) (λ y l. stmts_lead m u c y ks (n + count a) rest k (q y l))
+      stmts_take x n (and_stmts a more) k ks p w h t q = stmt_takes x n a (plan_stmts u (n + count a) more k) ks p w.0 h.0 (stmts_take x (n + count a) more k ks p w.1 h.1 t q) (λ y l. stmts_lead m u c y ks (n + count a) more k (q y l))
 
   pub work_takes : (n : ℕ) (s : Stmt) (k : List Item) (ks : List Kind) (h : IsWork m u c s) → Works k ks → Outs h.context k ks → Works (plan_stmt u n s k) ks
   work_takes n s k ks h t q = stmt_takes h.variadic h.scope h.ready h.context n s k ks h.placed h.typed h.scoped t q
