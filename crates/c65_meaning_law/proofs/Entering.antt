@@ -95,5 +95,5 @@ module _ (p : ProgramTy) where
   passed_begin g types args d n r h a o =
       subst (λ (v : Bool). Sound (IsBegun p.unit (is_variadic g.ty) (entering g.params []) d) (with_params p.unit g.params args d >>= λ e. Ok (with_rest v (further p.unit g types args) e))) (same_variadic g.ty)
       (passed_on (is_variadic g.ty) (further p.unit g types args) (entering g.params []) d (with_params p.unit g.params args d)
-        (list_fits (D p.unit d) p.unit.types (drop (length g.params) types) (drop (length g.params) args) (stand_behind (D p.unit d) (length g.params) args a))
-        (params_begin g.params args [] d n r h a o))
+      (list_fits (D p.unit d) p.unit.types (drop (length g.params) types) (drop (length g.params) args) (stand_behind (D p.unit d) (length g.params) args a))
+      (params_begin g.params args [] d n r h a o))

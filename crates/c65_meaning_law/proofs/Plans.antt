@@ -1,6 +1,5 @@
 -- The work of a well typed expression finds the values that it takes, and gives one of its kind.
 use Rattle.std.proofs.Common.{◌≡◌, ℕ, ℤ, pos, negsuc, neg_ℤ, ◌/◌, ◌≤ℤ◌, Bool, true, false, if◌then◌else◌, List, ◌∷◌, Some, None, Option, IsTrue, refl, sym, ap, ◌∙◌, subst, arith}
-use Rattle.std.specs.Prelude.{⊤}
 use Rattle.std.proofs.lemmas.Int.{ints}
 use Rattle.c65_base.specs.declared.operators.UnaryOp.{UnaryOp}
 use Rattle.c65_base.specs.declared.operators.UnaryOp.TheVariants.{Neg, BitNot, Not}
@@ -20,10 +19,10 @@ use Rattle.c65_meaning.specs.Shapes.{bare_type, types_of, shape_of, place_shape,
 use Rattle.c65_meaning.specs.Operators.{is_post}
 use Rattle.c65_meaning.specs.Fits.{IsTarget, compares, calculated_shape}
 use Rattle.c65_meaning.specs.Calls.{passed_by, passed_to}
-use Rattle.c65_meaning.specs.Items.{Item, Follow, Move, Fetch, Keep, Change, Apply1, Apply2, Both, Either, Choose, Drop, Put, Peek, Bump, Carry, Gather, Lay, Reach, Invoke, put_step, plan, plan_node, plan_all}
+use Rattle.c65_meaning.specs.Items.{Item, Follow, Move, Fetch, Keep, Change, Apply1, Apply2, Both, Either, Choose, Drop, Put, Peek, Bump, Carry, Gather, Lay, Invoke, put_step, plan, plan_node, plan_all}
 use Rattle.c65_meaning.specs.State.{Scene}
 use Rattle.c65_meaning_law.specs.Laws.{AreThere, AreThereIn, AreAllThere}
-use Rattle.c65_meaning_law.proofs.Stacks.{Kind, arithmetic, pointing, naming, carrying, free, kind_in, kind_at, kind_if, kind_of, kind_passed, kind_given, IsSimple, Below, IsScalarShape, Operates, is_move, is_add, meets, Combines, joined, turned_kind, Becomes, with_kind, IsOfSign, Suits, Setting, pushed, D, Does, Takes, Out}
+use Rattle.c65_meaning_law.proofs.Stacks.{Kind, arithmetic, pointing, naming, carrying, free, kind_in, kind_at, kind_if, kind_of, kind_passed, IsSimple, Below, IsScalarShape, Operates, is_move, is_add, meets, Combines, joined, turned_kind, Becomes, with_kind, IsOfSign, Suits, Setting, pushed, D, Does, Takes, Out}
 use Rattle.c65_meaning_law.proofs.Values.{raise}
 
 -- ---- kinds of trees

@@ -11,7 +11,7 @@ use Rattle.c65_meaning.specs.Shapes.{object_in, lives_in_frame, object_block}
 use Rattle.c65_meaning.specs.Items.{Item, Push, Name, Follow, Move, Fetch, Keep, Change, Apply1, Apply2, Both, Either, Truth, Choose, Drop, Put, Peek, Bump, PutUnder, Carry, Gather, Lay, Reach, Invoke, Busy, Loop, Skip, Init, CarryInto, Wipe, Begin, End, Branch, Test, Pass, Enter, Next, Back, Check, Redo, Select, EndSwitch, Jump, LeaveLoop, GoOn, Give, GiveNothing, Leave, plan, head_of, plan_stmt}
 use Rattle.c65_meaning.specs.After.{Sought, ToCase, ToDefault, Landing, or_else, after, Left, ending, up_to_break, up_to_continue}
 use Rattle.c65_meaning.specs.State.{Frame, Scene, State, Undefined, Deep, Ended, Running, turned, block_in, rest_in}
-use Rattle.c65_meaning.specs.Step.{place_in, begin_objects, end_named, end_objects, put, carried_byte, carry_into_step, at_offset, cleared, wipe_step, place_in_object, after_body, last_test, left_for, switched, chosen_case, func_in, frames_below, perform, step}
+use Rattle.c65_meaning.specs.Step.{place_in, begin_objects, end_named, end_objects, put, carried_byte, carry_into_step, cleared, wipe_step, place_in_object, after_body, last_test, left_for, switched, chosen_case, func_in, frames_below, perform, step}
 use Rattle.c65_meaning_law.specs.Laws.{HasBlock, IsFit}
 use Rattle.c65_csem_names.specs.Scopes.{entering}
 use Rattle.c65_meaning_law.specs.Statements.{IsReady, HasFrame, leaves, pauses, steps_within, StatementsFit}

@@ -11,7 +11,7 @@ use Rattle.c65_base.specs.declared.library.Library.{Library}
 use Rattle.c65_base.specs.declared.library.Library.TheVariants as the
 use Rattle.c65_csem.specs.Trees.{Typed, node, Node, constant, null, literal, object, func, deref, member, load, address, decay, convert, unary, binary, both, either, choice, comma, assign, assign_op, assign_step, step, copy, call, pack, spill, rest, Nodes, none, some, MaybeTyped, absent, present, Stmt, empty, eval, set_part, clear, block, if_stmt, while, do_while, for_loop, switch, case, default, label, goto, break, continue, return, Stmts, no_stmts, and_stmts, type_of, UnitTy}
 use Rattle.c65_csem.specs.Places.{plain, is_scalar, is_place, are_alike, alike}
-use Rattle.c65_csem.specs.Typed.{IsTyped, IsGiven, IsCalled}
+use Rattle.c65_csem.specs.Typed.{IsTyped}
 use Rattle.c65_csem.specs.Statements as st
 use Rattle.c65_csem.specs.Statements.{Context, looping, switching, switching, IsInitial, IsMaybe, IsMaybeCondition, IsStmt, AreStmts}
 use Rattle.c65_meaning.specs.Store.{Cell, Piece, Bits, Clouded, Value, Whole, Null, Place, Opaque, Cells, NoValue, nth_cell, Shape, Number, Field, Pointer, Area}
@@ -25,7 +25,7 @@ use Rattle.c65_meaning_law.specs.Library.{IsPointing, AreArguments}
 use Rattle.c65_csem_names.specs.Scopes.{IsScopedIn, IsScopedMaybe, IsScoped, AreScoped}
 use Rattle.c65_meaning_law.specs.Statements.{IsReady}
 use Rattle.c65_meaning_law.proofs.Stacks.{Kind, Exit, breaking, continuing, returning, arithmetic, pointing, naming, carrying, free, kind_in, kind_at, kind_of, kind_passed, kind_given, kind_from, Below, joined, turned_kind, with_kind, Gives, Stands, Suits, AreSuited, CellFits, Setting, expression, statement, inside, HasStatements, IsContext, HasLabel, IsReturned, D, IsPart, IsMaybePart, HaveBlocks, Leads, IsWork, IsBlock, IsLoop, Does, Takes, Out}
-use Rattle.c65_meaning_law.proofs.Plans.{below_refl, below_value, simple, tag_kind, plain_type, takes, given_takes}
+use Rattle.c65_meaning_law.proofs.Plans.{below_refl, below_value, simple, tag_kind, takes, given_takes}
 use Rattle.c65_meaning_law.proofs.Scopes.{is_some_in, there, given_there, Grows, stays, ready_stays}
 
 -- ---- more blocks

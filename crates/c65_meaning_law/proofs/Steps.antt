@@ -5,13 +5,13 @@ use Rattle.c65_meaning.specs.Program.{ProgramTy}
 use Rattle.c65_meaning.specs.declared.action.Action.TheVariants.{PartialOverlap}
 use Rattle.c65_meaning.specs.Why.{Why, By, Unfit, ◌>>=◌}
 use Rattle.c65_meaning.specs.Integers.{truth}
-use Rattle.c65_meaning.specs.Store.{Store, Value, Whole, Null, Place, Opaque, Cells, NoValue, Shape, write, carry, nth_cell, put_cell, block_size}
+use Rattle.c65_meaning.specs.Store.{Store, Value, Whole, Null, Place, Opaque, Cells, NoValue, Shape, write, carry, nth_cell, put_cell}
 use Rattle.c65_meaning.specs.Operators.{truth_of, named_by, moved, converted, binary, unary, bumped, is_post}
 use Rattle.c65_meaning.specs.Shapes.{object_in, lives_in_frame, object_block}
 use Rattle.c65_meaning.specs.Items.{Item, Push, Name, Follow, Move, Fetch, Keep, Change, Apply1, Apply2, Both, Either, Truth, Choose, Drop, Put, Peek, Bump, PutUnder, Carry, Gather, Lay, Reach, Invoke, Busy, Skip, Init, CarryInto, Wipe, Begin, End, Branch, Test, Pass, Enter, Next, Back, Check, Redo, Select, EndSwitch, Jump, LeaveLoop, GoOn, Give, GiveNothing, Leave, plan}
 use Rattle.c65_meaning.specs.State.{Frame, Scene, State, Running, with_store, block_in, rest_in}
 use Rattle.c65_meaning.specs.Step.{one, two, go_on, with_scene, decided, stored, place_in, object_place, loaded, put, assigned, partly_overlap, carried, carried_byte, carry_step, copy_step, gathered_at, laid, lay_on, lay_step, end_of, rest_place, at_offset, place_in_object, under, perform}
-use Rattle.c65_meaning_law.proofs.Stacks.{Kind, arithmetic, pointing, naming, carrying, free, kind_in, kind_of, Below, IsScalarShape, joined, turned_kind, with_kind, Sound, Gives, Stands, Suits, AreSuited, StoreFits, Setting, D, Does, Takes, Out, IsScene, IsGood}
+use Rattle.c65_meaning_law.proofs.Stacks.{Kind, arithmetic, pointing, naming, carrying, kind_in, kind_of, Below, IsScalarShape, joined, turned_kind, with_kind, Sound, Gives, Stands, Suits, AreSuited, StoreFits, Setting, D, Does, Takes, Out, IsScene, IsGood}
 use Rattle.c65_meaning_law.proofs.Values.{if_sound, bind_sound, IsEither, stands, raise, place_points, truth_sound, named_sound, place_moved, converted_sound, becomes_sound, binary_sound, unary_sound, bumped_sound}
 use Rattle.c65_meaning_law.proofs.Stores.{read_sound, write_sound, carry_sound, packed_sound, put_sound as cell_sound}
 use Rattle.c65_meaning_law.proofs.Plans.{below_refl, simple, takes}
