@@ -44,7 +44,7 @@ is_void void = true
 is_void _ = false
 
 abbrev pub given_as : Ty → Pos → Typed × ScopeTy → Result (Typed × ScopeTy) Fault
-given_as t p x = if is_void t then Err (at ReturnValue p) else (assigned_of x.1.unit.types p t x.0 >>= (λ e. Ok (folded e, x.1)))
+given_as t p x = if is_void t then Err (at ReturnValue p) else (assigned_of x.1.unit.types p t x.0 >>= (λ e. Ok (folded (packed_of e), x.1)))
 
 abbrev pub given_by : Ty → ExprTree → Pos → ScopeTy → Result (Typed × ScopeTy) Fault
 given_by t e p s = typed e s >>= given_as t p

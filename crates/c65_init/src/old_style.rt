@@ -88,12 +88,15 @@ fn adjusted(alloc: Global, ty: QType) -> Result<QType, AllocError>
     }
 }
 
-/// Refuses a parameter that is a structure or union, and one without a size.
+/// Refuses a parameter that is no small structure or union, and one without a size.
 fn as_parameter(types: &Types, ty: &CType, pos: Pos) -> Result<(), Refusal>
     ensures { Gives (λ x. tt) result (may_be_parameter (types_of types.now) (ty_of ty.now) pos) }
 {
     match ty {
-        CType::Struct(_) => Err(Refusal::fault(Code::StructValue, pos)),
+        CType::Struct(_) => {
+            structure_size(types, pos, ty)?;
+            Ok(())
+        }
         CType::Void | CType::Int(_) | CType::Pointer(_) | CType::Array(_, _) | CType::Function(_) =>
             {
                 types.size(ty, pos)?;
