@@ -9,6 +9,7 @@ use Rattle.c65_ctype.specs.Trees.{Ty, int, pointer, array, tag, function, QTy, q
 use Rattle.c65_ctype.specs.Sizes.{size_at}
 use Rattle.c65_ctype.specs.Views.{qty_of}
 use Rattle.c65_csem.specs.Places.{plain}
+use Rattle.c65_elab_convert.specs.Structures.{structure_size}
 use Rattle.c65_elab_scope.specs.declared.meaning.Entity.{Entity}
 use Rattle.c65_elab_scope.specs.declared.meaning.Entity.TheVariants as e
 use Rattle.c65_elab_scope.specs.Scopes.{ScopeTy}

@@ -6,6 +6,7 @@ use Rattle.c65_base.specs.Answers.{Fault, at, ◌>>=◌}
 use Rattle.c65_ctype.specs.Trees.{Ty, void}
 use Rattle.c65_csem.specs.Trees.{Typed, MaybeTyped, absent, present}
 use Rattle.c65_fold.specs.Folded.{folded}
+use Rattle.c65_elab_convert.specs.Structures.{packed_of}
 use Rattle.c65_elab_convert.specs.Values.{value_of}
 use Rattle.c65_elab_convert.specs.Logic.{condition_of}
 use Rattle.c65_elab_convert.specs.Changes.{assigned_of}
