@@ -1,8 +1,8 @@
 -- The arguments of a call, one after another.
-use Rattle.std.proofs.Common.{◌≡◌, ℕ, zero, suc, ◌<◌, List, [], ◌∷◌, length, get_or, Vec, Global, Box, refl, sym, ap, ◌∙◌, arith}
+use Rattle.std.proofs.Common.{◌≡◌, ℕ, suc, ◌<◌, List, [], ◌∷◌, length, get_or, Vec, Global, Box, refl, sym, ap, ◌∙◌, arith}
 use Rattle.c65_csem.specs.declared.expr.TExpr.{TExpr}
 use Rattle.c65_csem.specs.declared.expr.TKind.TheVariants as x
-use Rattle.c65_csem.specs.Trees.{Typed, call, Nodes, none, some}
+use Rattle.c65_csem.specs.Trees.{Typed, call, some}
 use Rattle.c65_csem.specs.Views.{typed_of, node_of, nodes_of}
 use Rattle.c65_csem.proofs.RowLaws.{node_of_call}
 use Rattle.c65_fold.specs.Folded.{folded, folded_node, folded_nodes}

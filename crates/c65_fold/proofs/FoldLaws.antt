@@ -1,19 +1,18 @@
 -- Folding leaves no operator on constants, and keeps types and places.
-use Rattle.std.proofs.Common.{◌≡◌, ℕ, ℤ, Bool, true, false, Option, Some, None, option_and_then, refl, sym, ap, ◌∙◌, ◌+◌}
-use Rattle.c65_ints.specs.declared.types.IntType.{IntType}
+use Rattle.std.proofs.Common.{◌≡◌, ℕ, ℤ, false, Option, Some, None, option_and_then, refl, sym, ap, ◌∙◌, ◌+◌}
 use Rattle.c65_ctype.specs.Sizes.{size_of}
 use Rattle.c65_ctype.specs.Trees.{QTy, type_in, TypesTy}
-use Rattle.c65_csem.specs.Trees.{Typed, node, Node, constant, null, literal, object, func, deref, member, load, address, decay, convert, unary, binary, both, either, choice, comma, assign, assign_op, assign_step, step, copy, call, Nodes, none, some, type_of, UnitTy}
+use Rattle.c65_csem.specs.Trees.{Typed, node, Node, constant, null, literal, object, func, deref, member, load, address, decay, convert, unary, binary, both, either, choice, comma, assign, assign_op, assign_step, step, copy, call, pack, spill, rest, Nodes, none, some, type_of, UnitTy}
 use Rattle.c65_csem.specs.Places.{is_place, is_bits, member_at, is_bit_field, is_registered, is_registered_node}
 use Rattle.c65_csem.specs.Typed.{arguments_size}
 use Rattle.c65_fold.specs.Constants.{number_type}
-use Rattle.c65_fold.specs.Folded.{value_at, by_value, settled, folded, folded_node, folded_nodes, IsFolded, IsFoldedNode, AreFolded}
+use Rattle.c65_fold.specs.Folded.{value_at, by_value, folded, folded_node, folded_nodes, IsFolded, IsFoldedNode, AreFolded}
 
 -- a test that always fails
-abbrev no_value : {A : Type 0} → A → Option ℤ
+abbrev pub no_value : {A : Type 0} → A → Option ℤ
 no_value k = None
 
-never : {A : Type 0} → (o : Option A) → option_and_then no_value o ≡ None
+pub never : {A : Type 0} → (o : Option A) → option_and_then no_value o ≡ None
 never None = refl
 never (Some k) = refl
 
@@ -49,6 +48,9 @@ mutual
   done_node (step how e) = done e
   done_node (copy a b) = (done a, done b)
   done_node (call f es) = (done f, done_nodes es)
+  done_node (pack e) = done e
+  done_node (spill i e) = done e
+  done_node rest = tt
 
   done_nodes : (es : Nodes) → AreFolded (folded_nodes es)
   done_nodes none = tt
@@ -61,7 +63,7 @@ settled_type t n (Some z) = refl
 pub kept_type : (e : Typed) → type_of (folded e) ≡ type_of e
 kept_type (node t e) = settled_type t (folded_node e) (value_at t (folded_node e))
 
-is_some_of : {A : Type 0} → (o : Option A) (z : A) → o ≡ Some z → o ≡ None → ⊥
+pub is_some_of : {A : Type 0} → (o : Option A) (z : A) → o ≡ Some z → o ≡ None → ⊥
 is_some_of None z h k = cc
 is_some_of (Some y) z h k = cc
 
@@ -90,6 +92,9 @@ no_place t (assign_step op a b) z h = refl
 no_place t (step how e) z h = refl
 no_place t (copy a b) z h = refl
 no_place t (call f es) z h = refl
+no_place t (pack e) z h = refl
+no_place t (spill i e) z h = refl
+no_place t rest z h = refl
 
 settled_place : (t : QTy) (n : Node) (o : Option ℤ) → value_at t n ≡ o → is_place (by_value t n o) ≡ is_place (node t n)
 settled_place t n None h = refl
@@ -119,6 +124,9 @@ node_place t (assign_step op a b) = refl
 node_place t (step how e) = refl
 node_place t (copy a b) = refl
 node_place t (call f es) = refl
+node_place t (pack e) = refl
+node_place t (spill i e) = refl
+node_place t rest = refl
 
 pub kept_place : (e : Typed) → is_place (folded e) ≡ is_place e
 kept_place (node t e) = settled_place t (folded_node e) (value_at t (folded_node e)) refl ∙ node_place t e
@@ -148,6 +156,9 @@ no_bits types t (assign_step op a b) z h = refl
 no_bits types t (step how e) z h = refl
 no_bits types t (copy a b) z h = refl
 no_bits types t (call f es) z h = refl
+no_bits types t (pack e) z h = refl
+no_bits types t (spill i e) z h = refl
+no_bits types t rest z h = refl
 
 settled_bits : (types : TypesTy) (t : QTy) (n : Node) (o : Option ℤ) → value_at t n ≡ o → is_bit_field types (by_value t n o) ≡ is_bit_field types (node t n)
 settled_bits types t n None h = refl
@@ -177,6 +188,9 @@ node_bits types t (assign_step op a b) = refl
 node_bits types t (step how e) = refl
 node_bits types t (copy a b) = refl
 node_bits types t (call f es) = refl
+node_bits types t (pack e) = refl
+node_bits types t (spill i e) = refl
+node_bits types t rest = refl
 
 pub kept_bits : (types : TypesTy) (e : Typed) → is_bit_field types (folded e) ≡ is_bit_field types e
 kept_bits types (node t e) = settled_bits types t (folded_node e) (value_at t (folded_node e)) refl ∙ node_bits types t e
@@ -205,6 +219,9 @@ no_register u t (assign_step op a b) z h = refl
 no_register u t (step how e) z h = refl
 no_register u t (copy a b) z h = refl
 no_register u t (call f es) z h = refl
+no_register u t (pack e) z h = refl
+no_register u t (spill i e) z h = refl
+no_register u t rest z h = refl
 
 settled_register : (u : UnitTy) (t : QTy) (n : Node) (o : Option ℤ) → value_at t n ≡ o → is_registered u (by_value t n o) ≡ is_registered_node u n
 settled_register u t n None h = refl
@@ -238,6 +255,9 @@ mutual
   node_register u (step how e) = refl
   node_register u (copy a b) = refl
   node_register u (call f es) = refl
+  node_register u (pack e) = refl
+  node_register u (spill i e) = refl
+  node_register u rest = refl
 
 by_head : (types : TypesTy) (t : QTy) (n : Node) (o : Option ℤ) (es : Nodes) → arguments_size types (some (by_value t n o) es) ≡ size_of types (type_in t) + arguments_size types es
 by_head types t n None es = refl

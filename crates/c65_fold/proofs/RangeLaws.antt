@@ -1,5 +1,5 @@
 -- The value of an operator lies in the range of the operator's type.
-use Rattle.std.proofs.Common.{◌≡◌, ℕ, zero, suc, ◌+◌, ◌-◌, ◌*◌, ◌/◌, ◌%◌, ◌^◌, ◌<◌, ◌≤◌, ℤ, pos, negsuc, ◌≤ℤ◌, ◌-ℤ◌, ◌*ℤ◌, int_rem, int_lt, int_le, Bool, true, false, not, ◌&&◌, Option, Some, None, option_map, option_and_then, refl, sym, ap, ◌∙◌, subst, arith, w64, of_z, to_z, FitsSigned, bit_and, bit_or, bit_xor}
+use Rattle.std.proofs.Common.{◌≡◌, ℕ, zero, suc, ◌^◌, ◌<◌, ℤ, pos, negsuc, ◌*ℤ◌, int_lt, int_le, Bool, true, false, not, ◌&&◌, Option, Some, None, option_map, refl, ◌∙◌, subst, arith, w64, of_z, FitsSigned, bit_and, bit_or, bit_xor}
 use Rattle.std.proofs.lemmas.Int.{ints}
 use Rattle.std.proofs.lemmas.Bool.Decides.{nat_tests}
 use Rattle.c65_base.specs.declared.operators.UnaryOp.{UnaryOp}
@@ -9,7 +9,7 @@ use Rattle.c65_base.specs.declared.operators.BinaryOp.TheVariants as ops
 use Rattle.c65_ints.specs.declared.types.IntType.{IntType}
 use Rattle.c65_ints.specs.declared.types.IntType.TheVariants.{SChar, UChar, Short, UShort, Int, UInt, Long, ULong}
 use Rattle.c65_ints.specs.Ranges.{modulus_of, wrap_of, InRange, residue, placed}
-use Rattle.c65_ints.specs.Results.{cut, unless_zero, quotient_of, remainder_of, count_of, floor_of, shifted_left_of, shifted_right_of}
+use Rattle.c65_ints.specs.Results.{cut, quotient_of, remainder_of, count_of, floor_of}
 use Rattle.c65_ints.proofs.Wraps.{remainder_given, remainder_in_range, floored_in_range}
 use Rattle.c65_fold.specs.Compute.{is_zero, truth, unary_value, computed, binary_value}
 

@@ -6,15 +6,15 @@ use Rattle.c65_base.specs.declared.operators.BinaryOp.{BinaryOp}
 use Rattle.c65_base.specs.declared.operators.BinaryOp.TheVariants as ops
 use Rattle.c65_ints.specs.declared.types.IntType.{IntType}
 use Rattle.c65_ints.specs.Ranges.{InRange, wrap_of}
-use Rattle.c65_ctype.specs.Trees.{Ty, void, int, pointer, array, tag, function, QTy, qual, type_in, Fn, fn, Params, unknown, known, QTys, end, more, TypesTy}
-use Rattle.c65_csem.specs.Trees.{Typed, node, Node, constant, null, literal, object, func, deref, member, load, address, decay, convert, unary, binary, both, either, choice, comma, assign, assign_op, assign_step, step, copy, call, Nodes, none, some, type_of, UnitTy}
-use Rattle.c65_csem.specs.Places.{is_place, plain, plain_of, is_tag, is_scalar, is_bit_field, is_registered}
-use Rattle.c65_csem.specs.Typed.{IsTyped, IsNode, AreTyped, HasInt, IsInt, IsPromoted, IsPointer, IsScalar, IsValue, IsMoved, IsScalarPlace, AreAlike, AreShifted, AreCompared, AreAdded, AreSubtracted, Operands, Operand, Computes, Converts, IsMember, IsAddressed, IsArm, ArePassed, AreGiven, Fits, FitsFn, IsCall, decayed, Passes, arguments_size}
+use Rattle.c65_ctype.specs.Trees.{void, int, pointer, array, tag, function, QTy, qual, type_in, Fn, fn, unknown, known, QTys, end, more}
+use Rattle.c65_csem.specs.Trees.{Typed, node, Node, constant, null, literal, object, func, deref, member, load, address, decay, convert, unary, binary, both, either, choice, comma, assign, assign_op, assign_step, step, copy, call, pack, spill, rest, Nodes, none, some, type_of, UnitTy}
+use Rattle.c65_csem.specs.Places.{is_place, plain, plain_of, is_tag, is_scalar}
+use Rattle.c65_csem.specs.Typed.{IsTyped, IsNode, IsGiven, IsCalled, AreTyped, HasInt, IsInt, IsPointer, IsScalar, IsValue, IsScalarPlace, AreCompared, AreAdded, AreSubtracted, Operands, Operand, Computes, Converts, IsMember, IsAddressed, IsArm, ArePassed, AreGiven, FitsFn, IsCall, decayed, Passes}
 use Rattle.c65_fold.specs.Compute.{is_zero, truth, unary_value, binary_value}
 use Rattle.c65_fold.specs.Constants.{number_type, and_also, or_else}
 use Rattle.c65_fold.specs.Folded
 use Rattle.c65_fold.specs.Folded.{from_both, now_value, value_at, by_value, settled, folded, folded_node, folded_nodes}
-use Rattle.c65_fold.proofs.FoldLaws.{kept_type, kept_place, kept_bits, kept_register, kept_size}
+use Rattle.c65_fold.proofs.FoldLaws.{never, is_some_of, kept_type, kept_place, kept_bits, kept_register, kept_size}
 use Rattle.c65_fold.proofs.RangeLaws.{wrap_in_range, truth_in_range, unary_in_range, binary_in_range, in_range_by, some_is}
 
 -- A node that has a value: its type is an integer type, and the value lies in its range.
@@ -194,30 +194,43 @@ still_addressed u e w = record {
   memory = kept_register u e ∙ w.memory;
 }
 
-still_passed : (es : Nodes) → ArePassed es → ArePassed (folded_nodes es)
-still_passed none w = tt
-still_passed (some e es) w = (by_type Passes e w.0, not_place e w.1, still_passed es w.2)
+still_passed : (u : UnitTy) (es : Nodes) → ArePassed u es → ArePassed u (folded_nodes es)
+still_passed u none w = tt
+still_passed u (some e es) w = (by_type (Passes u) e w.0, still_passed u es w.1)
 
-still_given : (qs : QTys) (variadic : Bool) (es : Nodes) → AreGiven qs variadic es → AreGiven qs variadic (folded_nodes es)
-still_given end false none w = tt
-still_given end false (some e es) w = w
-still_given end true es w = still_passed es w
-still_given (more q qs) variadic none w = w
-still_given (more q qs) variadic (some e es) w = (kept_type e ∙ w.0, still_value e w.1, still_given qs variadic es w.2)
+still_given : (u : UnitTy) (qs : QTys) (variadic : Bool) (es : Nodes) → AreGiven u qs variadic es → AreGiven u qs variadic (folded_nodes es)
+still_given u end false none w = tt
+still_given u end false (some e es) w = w
+still_given u end true es w = still_passed u es w
+still_given u (more q qs) variadic none w = w
+still_given u (more q qs) variadic (some e es) w = (kept_type e ∙ w.0, still_given u qs variadic es w.1)
 
-still_fits : (f : Fn) (es : Nodes) → FitsFn f es → FitsFn f (folded_nodes es)
-still_fits (fn q unknown variadic cdecl) es w = still_passed es w
-still_fits (fn q (known qs) variadic cdecl) es w = still_given qs variadic es w
+still_fits : (u : UnitTy) (f : Fn) (es : Nodes) → FitsFn u f es → FitsFn u f (folded_nodes es)
+still_fits u (fn q unknown variadic cdecl) es w = still_passed u es w
+still_fits u (fn q (known qs) variadic cdecl) es w = still_given u qs variadic es w
 
 still_call : (u : UnitTy) (t f : QTy) (es : Nodes) → IsCall u t f es → IsCall u t f (folded_nodes es)
 still_call u t f es w = record {
   callee = w.callee;
   named = w.named;
   result = w.result;
-  scalar = w.scalar;
-  given = still_fits w.callee es w.given;
+  given = still_fits u w.callee es w.given;
   few = subst (λ (n : ℕ). n ≤ 250) (sym (kept_size u.types es)) w.few;
 }
+
+-- a value is an argument
+as_given : (u : UnitTy) (e : Typed) → IsTyped u e → IsValue e → IsGiven u e
+as_given u (node t (pack e)) w v = absurd w
+as_given u (node t n) w v = (w, v)
+
+-- the bytes of a structure or union are no constant, and neither is a call
+settled_pack : (u : UnitTy) (t : QTy) (e : Typed) (o : Option ℤ) → value_at t (pack e) ≡ o → IsGiven u (node t (pack e)) → IsGiven u (by_value t (pack e) o)
+settled_pack u t e None h w = w
+settled_pack u t e (Some z) h w = absurd (is_some_of _ z h (never (number_type (type_in t))))
+
+settled_call : (u : UnitTy) (t s : QTy) (f : Typed) (es : Nodes) (o : Option ℤ) → value_at s (call f es) ≡ o → IsCalled u t (node s (call f es)) → IsCalled u t (by_value s (call f es) o)
+settled_call u t s f es None h w = w
+settled_call u t s f es (Some z) h w = absurd (is_some_of _ z h (never (number_type (type_in s))))
 
 mutual
   pub typed : (u : UnitTy) (e : Typed) → IsTyped u e → IsTyped u (folded e)
@@ -246,8 +259,19 @@ mutual
   typed_node u t (assign_step op a b) w = (typed u a w.0, typed u b w.1, still_scalar_place a w.2, w.3 ∙ sym (ap plain_of (kept_type a)), w.4, not_place b w.5, by_type IsInt b w.6, w.7)
   typed_node u t (step how a) w = (typed u a w.0, still_scalar_place a w.1, w.2 ∙ sym (ap plain_of (kept_type a)), w.3)
   typed_node u t (copy a b) w = (typed u a w.0, typed u b w.1, still_place a w.2, w.3, w.4 ∙ sym (ap plain_of (kept_type a)), w.5 ∙ sym (ap plain_of (kept_type b)))
-  typed_node u t (call f es) w = (typed u f w.0, not_place f w.1, by_type (λ (q : QTy). IsCall u t q (folded_nodes es)) f (still_call u t (type_of f) es w.2), typed_nodes u es w.3)
+  typed_node u t (call f es) w = (typed u f w.0, not_place f w.1, by_type (λ (q : QTy). IsCall u t q (folded_nodes es)) f (still_call u t (type_of f) es w.2), w.3, typed_nodes u es w.4)
+  typed_node u t (pack e) w = w
+  typed_node u t (spill i e) w = (called u t e w.0, w.1)
+  typed_node u t rest w = w
+
+  pub given : (u : UnitTy) (e : Typed) → IsGiven u e → IsGiven u (folded e)
+  given u (node t (pack e)) w = settled_pack u t (folded e) (value_at t (pack (folded e))) refl (typed u e w.0, w.1, w.2 ∙ sym (ap plain_of (kept_type e)))
+  given u (node t n) w = as_given u (folded (node t n)) (settled_by u t (folded_node n) (value_at t (folded_node n)) refl (typed_node u t n w.0)) (still_value (node t n) w.1)
+
+  called : (u : UnitTy) (t : QTy) (e : Typed) → IsCalled u t e → IsCalled u t (folded e)
+  called u t (node s (call f es)) w = settled_call u t s (folded f) (folded_nodes es) (value_at s (call (folded f) (folded_nodes es))) refl (w.0, w.1, typed u f w.2, not_place f w.3, by_type (λ (q : QTy). IsCall u s q (folded_nodes es)) f (still_call u s (type_of f) es w.4), typed_nodes u es w.5)
+  called u t (node s _) w = absurd w
 
   typed_nodes : (u : UnitTy) (es : Nodes) → AreTyped u es → AreTyped u (folded_nodes es)
   typed_nodes u none w = tt
-  typed_nodes u (some e es) w = (typed u e w.0, typed_nodes u es w.1)
+  typed_nodes u (some e es) w = (given u e w.0, typed_nodes u es w.1)

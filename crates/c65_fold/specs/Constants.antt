@@ -1,9 +1,9 @@
 -- Integer constant expressions (C90 6.4), and their values.
-use Rattle.std.specs.Prelude.{ℕ, ℤ, Bool, true, false, ◌&&◌, Option, Some, None, option_map, option_and_then, is_some, if◌then◌else◌}
+use Rattle.std.specs.Prelude.{ℤ, Bool, true, false, ◌&&◌, Option, Some, None, option_map, option_and_then, is_some, if◌then◌else◌}
 use Rattle.c65_ints.specs.declared.types.IntType.{IntType}
 use Rattle.c65_ints.specs.Ranges.{wrap_of}
-use Rattle.c65_ctype.specs.Trees.{Ty, int, QTy, qual, type_in}
-use Rattle.c65_csem.specs.Trees.{Typed, node, Node, constant, convert, unary, binary, both, either, choice, type_of}
+use Rattle.c65_ctype.specs.Trees.{Ty, int, QTy, type_in}
+use Rattle.c65_csem.specs.Trees.{Typed, node, Node, constant, convert, unary, binary, both, either, choice}
 use Rattle.c65_fold.specs.Compute.{is_zero, truth, unary_value, binary_value}
 
 -- the integer type that a type is

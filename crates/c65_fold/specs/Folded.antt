@@ -1,9 +1,9 @@
 -- Operators on integer constants replaced by their values, from the leaves up (C90 6.4).
-use Rattle.std.specs.Prelude.{◌≡◌, ℕ, ℤ, Option, Some, None, option_map, option_and_then, if◌then◌else◌}
+use Rattle.std.specs.Prelude.{◌≡◌, ℤ, Option, Some, None, option_and_then, if◌then◌else◌}
 use Rattle.c65_ints.specs.declared.types.IntType.{IntType}
 use Rattle.c65_ints.specs.Ranges.{wrap_of}
 use Rattle.c65_ctype.specs.Trees.{QTy, type_in}
-use Rattle.c65_csem.specs.Trees.{Typed, node, Node, constant, null, literal, object, func, deref, member, load, address, decay, convert, unary, binary, both, either, choice, comma, assign, assign_op, assign_step, step, copy, call, Nodes, none, some}
+use Rattle.c65_csem.specs.Trees.{Typed, node, Node, constant, null, literal, object, func, deref, member, load, address, decay, convert, unary, binary, both, either, choice, comma, assign, assign_op, assign_step, step, copy, call, pack, spill, rest, Nodes, none, some}
 use Rattle.c65_fold.specs.Compute.{is_zero, unary_value, binary_value}
 use Rattle.c65_fold.specs.Constants.{number_type, and_also, or_else}
 
@@ -64,6 +64,9 @@ abbrev mutual
   folded_node (step how e) = step how (folded e)
   folded_node (copy a b) = copy (folded a) (folded b)
   folded_node (call f es) = call (folded f) (folded_nodes es)
+  folded_node (pack e) = pack (folded e)
+  folded_node (spill i e) = spill i (folded e)
+  folded_node rest = rest
 
   pub folded_nodes : Nodes → Nodes
   folded_nodes none = none
@@ -93,6 +96,8 @@ abbrev mutual
   IsFoldedNode (step how e) = IsFolded e
   IsFoldedNode (copy a b) = IsFolded a × IsFolded b
   IsFoldedNode (call f es) = IsFolded f × AreFolded es
+  IsFoldedNode (pack e) = IsFolded e
+  IsFoldedNode (spill i e) = IsFolded e
   IsFoldedNode _ = Unit {0}
 
   pub AreFolded : Nodes → Type 0

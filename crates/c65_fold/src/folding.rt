@@ -2,7 +2,7 @@
 ghost use Rattle.std.specs.Prelude.{◌≡◌};
 ghost use Rattle.c65_ctype.specs.Views.{qty_of};
 ghost use Rattle.c65_csem.specs.Trees.{type_of, UnitTy};
-ghost use Rattle.c65_csem.specs.Typed.{IsTyped};
+ghost use Rattle.c65_csem.specs.Typed.{IsTyped, IsGiven};
 ghost use Rattle.c65_csem.specs.Views.{typed_of, node_of};
 ghost use Rattle.c65_fold.specs.Folded.{known, now_value, settled, folded, folded_node, IsFolded};
 
@@ -89,7 +89,12 @@ fn fold_parts(kind: &mut TKind)
     ensures { node_of kind.new ≡ folded_node (node_of kind.old) }
 {
     match kind {
-        TKind::Const(_) | TKind::Null | TKind::Literal(_) | TKind::Object(_) | TKind::Func(_) => {}
+        TKind::Const(_)
+        | TKind::Null
+        | TKind::Literal(_)
+        | TKind::Object(_)
+        | TKind::Func(_)
+        | TKind::Rest => {}
         TKind::Deref(a) => fold_tree(a),
         TKind::Member(a, _) => fold_tree(a),
         TKind::Load(a) => fold_tree(a),
@@ -98,6 +103,8 @@ fn fold_parts(kind: &mut TKind)
         TKind::Convert(a) => fold_tree(a),
         TKind::Unary(_, a) => fold_tree(a),
         TKind::Step(_, a) => fold_tree(a),
+        TKind::Pack(a) => fold_tree(a),
+        TKind::Spill(_, a) => fold_tree(a),
         TKind::Binary(_, a, b) => {
             fold_tree(a);
             fold_tree(b);
@@ -148,12 +155,13 @@ fn fold_parts(kind: &mut TKind)
 /// value is defined by that value, as a constant of the operator's type. A division by zero stays,
 /// and so does a shift by too much. It takes no memory. Whether an expression is an integer
 /// constant expression is to be asked before: folding leaves no comma between constants.
-#[tactic(auto, using(crate::proofs::FoldLaws::done, crate::proofs::FoldLaws::kept_type, crate::proofs::TypedLaws::typed))]
+#[tactic(auto, using(crate::proofs::FoldLaws::done, crate::proofs::FoldLaws::kept_type, crate::proofs::TypedLaws::typed, crate::proofs::TypedLaws::given))]
 pub fn fold(expr: &mut TExpr)
     ensures exact { typed_of expr.new ≡ folded (typed_of expr.old) }
     ensures done { IsFolded (typed_of expr.new) }
     ensures type_kept { type_of (typed_of expr.new) ≡ type_of (typed_of expr.old) }
     ensures well_typed { (u : UnitTy) → IsTyped u (typed_of expr.old) → IsTyped u (typed_of expr.new) }
+    ensures well_given { (u : UnitTy) → IsGiven u (typed_of expr.old) → IsGiven u (typed_of expr.new) }
 {
     fold_tree(expr);
 }
