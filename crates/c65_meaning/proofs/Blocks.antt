@@ -4,7 +4,7 @@ use Rattle.std.specs.Prelude.{Result, Ok, Err, Option, Some, None, ⊤, if◌the
 use Rattle.c65_meaning.specs.declared.action.Action.{Action}
 use Rattle.c65_meaning.specs.declared.action.Action.TheVariants.{OutsideObject, ReadOnly, EndedObject, LibraryArgument}
 use Rattle.c65_meaning.specs.Why.{Why, By, ◌>>=◌}
-use Rattle.c65_meaning.specs.Store.{Cell, Block, Store, Value, Whole, Null, Place, Opaque, NoValue, Shape, byte, size_in, set_block, set_cells, reached_or, reached, writable, with_value, with_cell, write, put_cell, carry, end_in, end_block}
+use Rattle.c65_meaning.specs.Store.{Cell, Block, Store, Value, Whole, Null, Place, Opaque, Cells, NoValue, Shape, byte, size_in, set_block, set_cells, reached_or, reached, writable, with_value, with_cell, write, put_cell, carry, end_in, end_block}
 use Rattle.c65_meaning.specs.Library.{area, filled, overlap, copied_area, filled_area}
 use Rattle.c65_meaning.specs.Laws.{IsLaterBlock, IsLaterIn}
 
@@ -84,10 +84,12 @@ copied_keeps s (Place c p) (Place b o) n = apart_keeps s b o c p n (overlap n b 
 copied_keeps s (Place c p) (Whole z) n = tt
 copied_keeps s (Place c p) Null n = tt
 copied_keeps s (Place c p) Opaque n = tt
+copied_keeps s (Place c p) (Cells xs) n = tt
 copied_keeps s (Place c p) NoValue n = tt
 copied_keeps s (Whole z) from n = tt
 copied_keeps s Null from n = tt
 copied_keeps s Opaque from n = tt
+copied_keeps s (Cells xs) from n = tt
 copied_keeps s NoValue from n = tt
 
 pub filled_area_keeps : (s : Store) (to : Value) (n v : ℕ) → KeepsIf s (filled_area s to n v)
@@ -95,6 +97,7 @@ filled_area_keeps s (Place b o) n v = filled_keeps s b o n (λ i. byte v)
 filled_area_keeps s (Whole z) n v = tt
 filled_area_keeps s Null n v = tt
 filled_area_keeps s Opaque n v = tt
+filled_area_keeps s (Cells xs) n v = tt
 filled_area_keeps s NoValue n v = tt
 
 end_in_keeps : (s : Store) (b : ℕ) (m : Option Block) → s b ≡ m → Keeps s (end_in s b m)

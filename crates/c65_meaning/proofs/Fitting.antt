@@ -13,7 +13,7 @@ use Rattle.c65_meaning.specs.declared.action.Action.{Action}
 use Rattle.c65_meaning.specs.declared.action.Action.TheVariants.{DivisionByZero, ShiftCount, EndedObject, OffsetOutside, PointersApart}
 use Rattle.c65_meaning.specs.Why.{Why, By, ◌>>=◌}
 use Rattle.c65_meaning.specs.Integers.{truth, by_bits}
-use Rattle.c65_meaning.specs.Store.{Store, Value, Whole, Null, Place, Opaque, NoValue, Shape, Number, Field, Pointer, Area, is_live, block_size}
+use Rattle.c65_meaning.specs.Store.{Store, Value, Whole, Null, Place, Opaque, Cells, NoValue, Shape, Number, Field, Pointer, Area, is_live, block_size}
 use Rattle.c65_meaning.specs.Operators.{number, test, number_or, while_live, placed_at, moved, pointer_of, calculated, elements_between, in_one_block, may_meet, apart, in_two_blocks, on_places, both_null, on_pointers, on_pointer_and_number, on_number_and_pointer, truth_of, sign_of}
 use Rattle.c65_meaning.specs.Fits.{Fits, ConversionsFit, compares, calculated_shape, OperatorsFit, UnaryOperatorsFit, StepsFit}
 use Rattle.c65_meaning.proofs.Ranges.{wrap_in, zero_in, quotient_in, remainder_in, left_in, right_in, elements_in}
@@ -86,6 +86,7 @@ moved_fits s size (Place b o) z r e = placed_fits s size b (pos o +ℤ z) r (liv
 moved_fits s size Null z r e = absurd (cc)
 moved_fits s size (Whole y) z r e = absurd (cc)
 moved_fits s size Opaque z r e = absurd (cc)
+moved_fits s size (Cells xs) z r e = absurd (cc)
 moved_fits s size NoValue z r e = absurd (cc)
 
 elements_fit : (size : ℕ) (d : ℤ) (r : Value) → elements_between size d ≡ given r → Fits (Number Int) r
@@ -181,14 +182,17 @@ on_pointers_fit s op size (Place b o) (Place c p) r e = on_places_fit s op size 
 on_pointers_fit s op size (Place b o) Null r e = apart_fits op r (live_ok s b (apart op) r e)
 on_pointers_fit s op size (Place b o) (Whole z) r e = absurd (cc)
 on_pointers_fit s op size (Place b o) Opaque r e = absurd (cc)
+on_pointers_fit s op size (Place b o) (Cells xs) r e = absurd (cc)
 on_pointers_fit s op size (Place b o) NoValue r e = absurd (cc)
 on_pointers_fit s op size Null (Place b o) r e = apart_fits op r (live_ok s b (apart op) r e)
 on_pointers_fit s op size Null Null r e = both_null_fits op r e
 on_pointers_fit s op size Null (Whole z) r e = absurd (cc)
 on_pointers_fit s op size Null Opaque r e = absurd (cc)
+on_pointers_fit s op size Null (Cells xs) r e = absurd (cc)
 on_pointers_fit s op size Null NoValue r e = absurd (cc)
 on_pointers_fit s op size (Whole z) w r e = absurd (cc)
 on_pointers_fit s op size Opaque w r e = absurd (cc)
+on_pointers_fit s op size (Cells xs) w r e = absurd (cc)
 on_pointers_fit s op size NoValue w r e = absurd (cc)
 
 pointer_and_number_fits : (s : Store) (op : BinaryOp) (size : ℕ) (v : Value) (z : ℤ) (r : Value) → on_pointer_and_number s op size v z ≡ given r → Fits (Pointer size) r
@@ -234,15 +238,18 @@ operators_fit s op (Number t) (Number k) (Whole a) (Whole b) r h e = calculated_
 operators_fit s op (Number t) (Number k) (Whole a) Null r h e = absurd (cc)
 operators_fit s op (Number t) (Number k) (Whole a) (Place b o) r h e = absurd (cc)
 operators_fit s op (Number t) (Number k) (Whole a) Opaque r h e = absurd (cc)
+operators_fit s op (Number t) (Number k) (Whole a) (Cells xs) r h e = absurd (cc)
 operators_fit s op (Number t) (Number k) (Whole a) NoValue r h e = absurd (cc)
 operators_fit s op (Number t) (Number k) Null w r h e = absurd (cc)
 operators_fit s op (Number t) (Number k) (Place b o) w r h e = absurd (cc)
 operators_fit s op (Number t) (Number k) Opaque w r h e = absurd (cc)
+operators_fit s op (Number t) (Number k) (Cells xs) w r h e = absurd (cc)
 operators_fit s op (Number t) (Number k) NoValue w r h e = absurd (cc)
 operators_fit s op (Number t) (Pointer size) (Whole a) w r h e = number_and_pointer_fits s op size a w r e
 operators_fit s op (Number t) (Pointer size) Null w r h e = absurd (cc)
 operators_fit s op (Number t) (Pointer size) (Place b o) w r h e = absurd (cc)
 operators_fit s op (Number t) (Pointer size) Opaque w r h e = absurd (cc)
+operators_fit s op (Number t) (Pointer size) (Cells xs) w r h e = absurd (cc)
 operators_fit s op (Number t) (Pointer size) NoValue w r h e = absurd (cc)
 operators_fit s op (Number t) (Field k low width) v w r h e = absurd (cc)
 operators_fit s op (Number t) (Area size) v w r h e = absurd (cc)
@@ -250,6 +257,7 @@ operators_fit s op (Pointer size) (Number k) v (Whole z) r h e = pointer_and_num
 operators_fit s op (Pointer size) (Number k) v Null r h e = absurd (cc)
 operators_fit s op (Pointer size) (Number k) v (Place b o) r h e = absurd (cc)
 operators_fit s op (Pointer size) (Number k) v Opaque r h e = absurd (cc)
+operators_fit s op (Pointer size) (Number k) v (Cells xs) r h e = absurd (cc)
 operators_fit s op (Pointer size) (Number k) v NoValue r h e = absurd (cc)
 operators_fit s op (Pointer size) (Pointer other) v w r h e = on_pointers_fit s op size v w r e
 operators_fit s op (Pointer size) (Field k low width) v w r h e = absurd (cc)
@@ -267,6 +275,7 @@ unary_operators_fit s Neg (Number t) (Whole z) r e = wrap_fits t (neg_ℤ z) r e
 unary_operators_fit s Neg (Number t) Null r e = absurd (cc)
 unary_operators_fit s Neg (Number t) (Place b o) r e = absurd (cc)
 unary_operators_fit s Neg (Number t) Opaque r e = absurd (cc)
+unary_operators_fit s Neg (Number t) (Cells xs) r e = absurd (cc)
 unary_operators_fit s Neg (Number t) NoValue r e = absurd (cc)
 unary_operators_fit s Neg (Field t low width) v r e = absurd (cc)
 unary_operators_fit s Neg (Pointer size) v r e = absurd (cc)
@@ -275,6 +284,7 @@ unary_operators_fit s BitNot (Number t) (Whole z) r e = wrap_fits t (neg_ℤ z -
 unary_operators_fit s BitNot (Number t) Null r e = absurd (cc)
 unary_operators_fit s BitNot (Number t) (Place b o) r e = absurd (cc)
 unary_operators_fit s BitNot (Number t) Opaque r e = absurd (cc)
+unary_operators_fit s BitNot (Number t) (Cells xs) r e = absurd (cc)
 unary_operators_fit s BitNot (Number t) NoValue r e = absurd (cc)
 unary_operators_fit s BitNot (Field t low width) v r e = absurd (cc)
 unary_operators_fit s BitNot (Pointer size) v r e = absurd (cc)
@@ -288,11 +298,13 @@ steps_fit s kind (Number t) (Whole z) r e = wrap_fits t (z +ℤ sign_of kind) r 
 steps_fit s kind (Number t) Null r e = absurd (cc)
 steps_fit s kind (Number t) (Place b o) r e = absurd (cc)
 steps_fit s kind (Number t) Opaque r e = absurd (cc)
+steps_fit s kind (Number t) (Cells xs) r e = absurd (cc)
 steps_fit s kind (Number t) NoValue r e = absurd (cc)
 steps_fit s kind (Field t low width) (Whole z) r e = let same : Whole (wrap_of t (z +ℤ sign_of kind)) ≡ r = cc in subst (Fits (Field t low width)) same (wrap_in t (z +ℤ sign_of kind))
 steps_fit s kind (Field t low width) Null r e = absurd (cc)
 steps_fit s kind (Field t low width) (Place b o) r e = absurd (cc)
 steps_fit s kind (Field t low width) Opaque r e = absurd (cc)
+steps_fit s kind (Field t low width) (Cells xs) r e = absurd (cc)
 steps_fit s kind (Field t low width) NoValue r e = absurd (cc)
 steps_fit s kind (Pointer size) v r e = moved_fits s size v (pos size *ℤ sign_of kind) r e
 steps_fit s kind (Area size) v r e = absurd (cc)
@@ -312,11 +324,13 @@ conversions_fit (Number t) (Whole z) w g e = wrap_fits t z w e
 conversions_fit (Number t) Null w g e = number_fits t (pos 0) w e (zero_in t)
 conversions_fit (Number t) (Place b o) w g e = fits_as (Number t) Opaque w e tt
 conversions_fit (Number t) Opaque w g e = fits_as (Number t) Opaque w e tt
+conversions_fit (Number t) (Cells xs) w g e = absurd (cc)
 conversions_fit (Number t) NoValue w g e = absurd (cc)
 conversions_fit (Pointer size) (Whole z) w g e = fits_as (Pointer size) (pointer_of z) w e (pointer_of_fits size z)
 conversions_fit (Pointer size) Null w g e = fits_as (Pointer size) Null w e tt
 conversions_fit (Pointer size) (Place b o) w g e = fits_as (Pointer size) (Place b o) w e tt
 conversions_fit (Pointer size) Opaque w g e = fits_as (Pointer size) Opaque w e tt
+conversions_fit (Pointer size) (Cells xs) w g e = absurd (cc)
 conversions_fit (Pointer size) NoValue w g e = absurd (cc)
 conversions_fit (Area size) v w g e = fits_as (Area size) NoValue w e tt
 conversions_fit (Field t low width) v w g e = absurd g

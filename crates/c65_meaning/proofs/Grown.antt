@@ -3,10 +3,10 @@ use Rattle.std.proofs.Common.{◌≡◌, ℕ, suc, ◌≤◌, refl, sym, ap, Lis
 use Rattle.std.specs.Prelude.{Result, Ok, Err, Option, Some, None, ⊤, if◌then◌else◌, ◌==◌}
 use Rattle.c65_csem.specs.Trees.{UnitTy}
 use Rattle.c65_meaning.specs.Why.{Why, ◌>>=◌}
-use Rattle.c65_meaning.specs.Store.{Store, Value, Block, end_block, unset_block}
+use Rattle.c65_meaning.specs.Store.{Store, Value, Block, set_block, end_block, unset_block}
 use Rattle.c65_meaning.specs.Shapes.{object_in, object_size, object_sealed}
 use Rattle.c65_meaning.specs.Items.{Item}
-use Rattle.c65_meaning.specs.State.{State, Undefined, Deep, Ended, Running, Scene, block_in, turned, with_store}
+use Rattle.c65_meaning.specs.State.{State, Undefined, Deep, Ended, Running, Frame, Scene, block_in, name_object, turned, with_store}
 use Rattle.c65_meaning.specs.Step.{one, two, go_on, with_scene, decided, stored, begin_objects, begin_object, end_objects, end_named, has_turn}
 use Rattle.c65_meaning.specs.Laws.{IsLater, IsLaterIn, KeepsNames}
 use Rattle.c65_meaning.proofs.Blocks.{same_later, later_twice, Keeps, KeepsIf, end_keeps}
@@ -116,8 +116,12 @@ older : (s : Store) (next b : ℕ) (x : Block) (t : Bool) → (b == next) ≡ t 
 older s next b x true e h = let same : b ≡ next = grind arith in absurd (omega arith)
 older s next b x false e h = same_later (s b)
 
+-- a new block
+pub block_begins : (c : Scene) (x : Block) (fs : List Frame) → Same c (record c { frames = fs; store = set_block c.store c.next x; next = suc c.next })
+block_begins c x fs = record { same_out = refl; same_turns = refl; names = record { later = omega arith; blocks = λ b small. older c.store c.next b x (b == c.next) refl small } }
+
 begin_one : (u : UnitTy) (i : ℕ) (c : Scene) → Same c (begin_object u i c)
-begin_one u i c = record { same_out = refl; same_turns = refl; names = record { later = omega arith; blocks = λ b small. older c.store c.next b (unset_block (object_size u.types (object_in u i)) (object_sealed (object_in u i))) (b == c.next) refl small } }
+begin_one u i c = block_begins c (unset_block (object_size u.types (object_in u i)) (object_sealed (object_in u i))) (name_object c.frames i c.next)
 
 pub begin_keeps : (u : UnitTy) (i : ℕ) (c d : Scene) → Same c d → Same c (begin_object u i d)
 begin_keeps u i c d h = same_twice c d (begin_object u i d) h (begin_one u i d)
@@ -126,7 +130,7 @@ pub begin_same : (u : UnitTy) (objects : List ℕ) (c d : Scene) → Same c d �
 begin_same u [] c d h = h
 begin_same u (i ∷ rest) c d h = begin_same u rest c (begin_object u i d) (begin_keeps u i c d h)
 
-end_one : (o : Option ℕ) (c : Scene) → Same c (end_named o c)
+pub end_one : (o : Option ℕ) (c : Scene) → Same c (end_named o c)
 end_one None c = itself c
 end_one (Some b) c = store_same c (end_block c.store b) (end_keeps c.store b)
 

@@ -7,16 +7,17 @@ use Rattle.c65_base.specs.declared.library.Library.{Library}
 use Rattle.c65_base.specs.declared.library.Library.TheVariants.{Putchar, Getchar, Puts, Exit, Memcpy, Memset, Strcmp, Strcpy, Strlen}
 use Rattle.c65_csem.specs.Trees.{Stmt, FuncTy, UnitTy}
 use Rattle.c65_meaning.specs.Why.{Why, ◌>>=◌, By}
-use Rattle.c65_meaning.specs.Store.{write, Value, Whole, Null, Place, Opaque, NoValue, Shape, Store}
+use Rattle.c65_meaning.specs.Store.{write, Cell, list_block, Value, Whole, Null, Place, Opaque, Cells, NoValue, Shape, Store}
 use Rattle.c65_meaning.specs.Shapes.{object_in, object_shape}
 use Rattle.c65_meaning.specs.Items.{Item, Busy}
 use Rattle.c65_meaning.specs.Costs.{soft_cost, argument_bytes, has_fixed}
-use Rattle.c65_meaning.specs.State.{State, Deep, Running, Scene, Frame, turned, Undefined}
+use Rattle.c65_meaning.specs.State.{State, Deep, Running, Scene, Frame, turned, Undefined, rest_in, name_rest}
 use Rattle.c65_meaning.specs.After.{Left}
 use Rattle.c65_meaning.specs.Library.{Effect, effect_of, arg0, arg1, arg2, arg3, number_in, count_in, got, copied_area, filled_area, text_at, compared_texts, stores}
-use Rattle.c65_meaning.specs.Step.{put, begin_object, status_of, back_in, left_call, frames_below, without_frame, params_of, func_in, returned, behind, end_objects, finished, ended_or, library_call, served, called, accepted, allowed, unless_refused, call_of, invoked, unless_deep, with_params, new_frame, is_deep, is_active}
+use Rattle.c65_meaning.specs.Step.{put, begin_object, status_of, back_in, left_call, frames_below, without_frame, params_of, func_in, returned, behind, end_objects, finished, ended_or, library_call, served, called, accepted, allowed, unless_refused, call_of, invoked, unless_deep, with_params, new_frame, is_deep, is_active, begin_rest, with_rest, further, with_passed, end_arguments}
+use Rattle.c65_meaning.specs.Calls.{is_variadic}
 use Rattle.c65_meaning.proofs.Blocks.{same_later, Keeps, KeepsIf, write_keeps, copied_keeps, filled_area_keeps}
-use Rattle.c65_meaning.proofs.Grown.{Grown, Same, SameIf, itself, same_twice, no_later, more_out, runs, turns_on, same, one_grows, if_grows, stored_same, then_same, begin_keeps, end_same}
+use Rattle.c65_meaning.proofs.Grown.{Grown, Same, SameIf, itself, same_twice, no_later, more_out, runs, turns_on, same, one_grows, if_grows, stored_same, then_same, begin_keeps, block_begins, end_one, end_same}
 use Rattle.c65_meaning.specs.declared.action.Action.TheVariants.{FixedAgain}
 
 -- ---- ends of calls
@@ -26,6 +27,7 @@ status_grows c d (Whole z) h = no_later c.out d.out c.turns d.turns h.same_out h
 status_grows c d Null h = tt
 status_grows c d (Place b o) h = tt
 status_grows c d Opaque h = tt
+status_grows c d (Cells xs) h = tt
 status_grows c d NoValue h = tt
 
 back_in_grows : (c : Scene) (fs : List Frame) (k : List Item) (vs : List Value) (d : Scene) (v : Value) → Same c d → Grown c (back_in fs k vs d v)
@@ -35,8 +37,13 @@ back_in_grows c (f ∷ fs) k vs d v h = runs c k (v ∷ vs) d h
 without_frame_same : (c d : Scene) → Same c d → Same c (without_frame d)
 without_frame_same c d h = record { same_out = h.same_out; same_turns = h.same_turns; names = record { later = h.names.later; blocks = h.names.blocks } }
 
+arguments_end : (u : UnitTy) (c d : Scene) → Same c d → Same c (end_arguments u d)
+arguments_end u c d h =
+    let params : List ℕ = params_of (slice_get u.funcs (func_in d.frames)) in
+    same_twice c (end_objects params d) (end_arguments u d) (end_same params c d h) (end_one (rest_in d.frames) (end_objects params d))
+
 pub left_call_grows : (u : UnitTy) (c : Scene) (v : Value) (k : List Item) (vs : List Value) (d : Scene) → Same c d → Grown c (left_call u v k vs d)
-left_call_grows u c v k vs d h = back_in_grows c (frames_below d.frames) k vs (without_frame (end_objects (params_of (slice_get u.funcs (func_in d.frames))) d)) v (without_frame_same c (end_objects (params_of (slice_get u.funcs (func_in d.frames))) d) (end_same (params_of (slice_get u.funcs (func_in d.frames))) c d h))
+left_call_grows u c v k vs d h = back_in_grows c (frames_below d.frames) k vs (without_frame (end_arguments u d)) v (without_frame_same c (end_arguments u d) (arguments_end u c d h))
 
 pub returned_grows : (u : UnitTy) (v : Value) (vs : List Value) (c : Scene) (o : Option Left) → Grown c (returned u v vs c o)
 returned_grows u v vs c None = tt
@@ -81,6 +88,7 @@ number_grows c (Whole z) f h = h z
 number_grows c Null f h = tt
 number_grows c (Place b o) f h = tt
 number_grows c Opaque f h = tt
+number_grows c (Cells xs) f h = tt
 number_grows c NoValue f h = tt
 
 count_grows : (c : Scene) (v : Value) (f : ℕ → Result Effect Why) → ((n : ℕ) → EffectGrows c (f n)) → EffectGrows c (count_in v f)
@@ -89,6 +97,7 @@ count_grows c (Whole (negsuc n)) f h = tt
 count_grows c Null f h = tt
 count_grows c (Place b o) f h = tt
 count_grows c Opaque f h = tt
+count_grows c (Cells xs) f h = tt
 count_grows c NoValue f h = tt
 
 then_grows : {A : Type 0} (c : Scene) (o : Result A Why) (f : A → Result Effect Why) → ((x : A) → EffectGrows c (f x)) → EffectGrows c (o >>= f)
@@ -148,9 +157,11 @@ put_same first shape c (Place b o) (Whole z) = stored_same c (write first shape 
 put_same first shape c (Place b o) Null = stored_same c (write first shape c.store b o Null) (write_keeps first shape c.store b o Null)
 put_same first shape c (Place b o) (Place d p) = stored_same c (write first shape c.store b o (Place d p)) (write_keeps first shape c.store b o (Place d p))
 put_same first shape c (Place b o) Opaque = stored_same c (write first shape c.store b o Opaque) (write_keeps first shape c.store b o Opaque)
+put_same first shape c (Place b o) (Cells xs) = stored_same c (write first shape c.store b o (Cells xs)) (write_keeps first shape c.store b o (Cells xs))
 put_same first shape c (Whole z) v = tt
 put_same first shape c Null v = tt
 put_same first shape c Opaque v = tt
+put_same first shape c (Cells xs) v = tt
 put_same first shape c NoValue v = tt
 
 shift : (c d : Scene) (o : Result Scene Why) → Same c d → SameIf d o → SameIf c o
@@ -169,10 +180,19 @@ unless_deep_grows c k vs (Ok d) h = if_grows c (not d.free && is_deep d.frames) 
 new_frame_same : (u : UnitTy) (f cost : ℕ) (c : Scene) → Same c (new_frame u f cost c)
 new_frame_same u f cost c = record { same_out = refl; same_turns = refl; names = record { later = omega arith; blocks = λ b small. same_later (c.store b) } }
 
+rest_same : (c : Scene) (variadic : Bool) (xs : List Cell) (d : Scene) → Same c d → Same c (with_rest variadic xs d)
+rest_same c true xs d h = same_twice c d (begin_rest xs d) h (block_begins d (list_block xs) (name_rest d.frames d.next))
+rest_same c false xs d h = h
+
+passed_same : (u : UnitTy) (c : Scene) (variadic : Bool) (xs : List Cell) (o : Result Scene Why) → SameIf c o → SameIf c (o >>= λ d. Ok (with_rest variadic xs d))
+passed_same u c variadic xs (Err why) h = tt
+passed_same u c variadic xs (Ok d) h = rest_same c variadic xs d h
+
 called_grows : (u : UnitTy) (f : ℕ) (types : List Ty) (args : List Value) (g : FuncTy) (body : Option Stmt) (l : Option Library) (k : List Item) (vs : List Value) (c : Scene) → Grown c (called u f types args g body l k vs c)
 called_grows u f types args g (Some body) l k vs c =
+    let first : Scene = new_frame u f (soft_cost u (argument_bytes u types) body) (turned c) in
     if_grows c (has_fixed u body && is_active f (turned c).frames) (Undefined (By FixedAgain)) _ tt
-    (unless_deep_grows c _ vs (with_params u g.params args (new_frame u f (soft_cost u (argument_bytes u types) body) (turned c))) (params_same u (turned c) g.params args (new_frame u f (soft_cost u (argument_bytes u types) body) (turned c)) (new_frame_same u f (soft_cost u (argument_bytes u types) body) (turned c))))
+    (unless_deep_grows c _ vs (with_passed u g types args first) (passed_same u (turned c) (is_variadic g.ty) (further u g types args) (with_params u g.params args first) (params_same u (turned c) g.params args first (new_frame_same u f (soft_cost u (argument_bytes u types) body) (turned c)))))
 called_grows u f types args g None (Some l) k vs c = served_grows l args k vs c (effect_of c l args)
 called_grows u f types args g None None k vs c = tt
 
@@ -190,6 +210,7 @@ call_of_grows u callee types args (Place f (suc o)) k vs c = tt
 call_of_grows u callee types args (Whole z) k vs c = tt
 call_of_grows u callee types args Null k vs c = tt
 call_of_grows u callee types args Opaque k vs c = tt
+call_of_grows u callee types args (Cells xs) k vs c = tt
 call_of_grows u callee types args NoValue k vs c = tt
 
 pub invoked_grows : (u : UnitTy) (callee : Ty) (types : List Ty) (k : List Item) (o : Option (List Value × List Value)) (c : Scene) → Grown c (invoked u callee types k o c)

@@ -4,12 +4,12 @@ use Rattle.std.specs.Prelude.{⊤, Result, Ok, Err, Option, Some, None, if◌the
 use Rattle.c65_csem.specs.Trees.{MaybeTyped, absent, present, Stmt, UnitTy}
 use Rattle.c65_meaning.specs.Program.{ProgramTy}
 use Rattle.c65_meaning.specs.Why.{Why}
-use Rattle.c65_meaning.specs.Store.{carry, put_cell, byte, Value, Whole, Null, Place, Opaque, NoValue, Shape}
+use Rattle.c65_meaning.specs.Store.{carry, put_cell, nth_cell, byte, Value, Whole, Null, Place, Opaque, Cells, NoValue, Shape}
 use Rattle.c65_meaning.specs.Operators.{is_post, truth_of}
-use Rattle.c65_meaning.specs.Items.{Item, Loop, Push, Name, Follow, Move, Fetch, Keep, Change, Apply1, Apply2, Both, Either, Truth, Choose, Drop, Put, Peek, Bump, PutUnder, Carry, Invoke, Busy, Skip, Init, CarryInto, Wipe, Begin, End, Branch, Test, Pass, Enter, Next, Back, Check, Redo, Select, EndSwitch, Jump, LeaveLoop, GoOn, Give, GiveNothing, Leave, head_of, plan, plan_stmt, plan_stmts}
+use Rattle.c65_meaning.specs.Items.{Item, Loop, Push, Name, Follow, Move, Fetch, Keep, Change, Apply1, Apply2, Both, Either, Truth, Choose, Drop, Put, Peek, Bump, PutUnder, Carry, Gather, Lay, Reach, Invoke, Busy, Skip, Init, CarryInto, Wipe, Begin, End, Branch, Test, Pass, Enter, Next, Back, Check, Redo, Select, EndSwitch, Jump, LeaveLoop, GoOn, Give, GiveNothing, Leave, head_of, plan, plan_stmt, plan_stmts}
 use Rattle.c65_meaning.specs.After.{Left, Landing, without, up_to_call, up_to_break, up_to_continue}
 use Rattle.c65_meaning.specs.State.{State, Undefined, Deep, Ended, Running, Scene}
-use Rattle.c65_meaning.specs.Step.{step, steps, perform, begin_objects, end_objects, loaded, put, assigned, partly_overlap, carried, carried_byte, carry_step, copy_step, carry_into_step, set_area_step, cleared, wipe_step, clear_step, left_for, landed, jumped, label_in, body_of, func_in, switched, chosen_case, after_body, last_test, is_value, under, place_in_object, at_the_end, object_place, taken}
+use Rattle.c65_meaning.specs.Step.{step, steps, perform, begin_objects, end_objects, loaded, put, assigned, partly_overlap, carried, carried_byte, carry_step, copy_step, carry_into_step, set_area_step, cleared, wipe_step, clear_step, laid, lay_on, lay_step, rest_place, left_for, landed, jumped, label_in, body_of, func_in, switched, chosen_case, after_body, last_test, is_value, under, place_in_object, at_the_end, object_place, taken}
 use Rattle.c65_meaning.specs.Sem.{outcome_of, state_at}
 use Rattle.c65_meaning.specs.Laws.{IsLater, Shows, Follows, OutputGrows, NamesStay}
 use Rattle.c65_meaning.proofs.Blocks.{carry_keeps, put_cell_keeps}
@@ -30,10 +30,12 @@ carried_same first done c (Place b o) (Place d p) = stored_same c (carry first c
 carried_same first done c (Place b o) (Whole z) = tt
 carried_same first done c (Place b o) Null = tt
 carried_same first done c (Place b o) Opaque = tt
+carried_same first done c (Place b o) (Cells xs) = tt
 carried_same first done c (Place b o) NoValue = tt
 carried_same first done c (Whole z) to = tt
 carried_same first done c Null to = tt
 carried_same first done c Opaque to = tt
+carried_same first done c (Cells xs) to = tt
 carried_same first done c NoValue to = tt
 
 unless_same : (c : Scene) (t : Bool) (why : Why) (o : Result Scene Why) → SameIf c o → SameIf c (if t then Err why else o)
@@ -48,6 +50,7 @@ cleared_same c done (Place b o) = stored_same c (put_cell true c.store b (o + do
 cleared_same c done (Whole z) = tt
 cleared_same c done Null = tt
 cleared_same c done Opaque = tt
+cleared_same c done (Cells xs) = tt
 cleared_same c done NoValue = tt
 
 carry_grows : (c : Scene) (done size : ℕ) (from to : Value) (k : List Item) (vs : List Value) (o : Result Scene Why) → SameIf c o → Grown c (carry_step done size from to k vs o)
@@ -70,6 +73,26 @@ wipe_grows c i done size k vs (Ok d) h = if_grows c (nat_lt (suc done) size) _ _
 
 clear_grows : (i done size : ℕ) (at : Value) (k : List Item) (vs : List Value) (c : Scene) → Grown c (clear_step i done size at k vs c)
 clear_grows i done size at k vs c = if_grows c (nat_lt done size) _ _ (wipe_grows c i done size k vs (cleared c done at) (cleared_same c done at)) (same k vs c)
+
+laid_same : (c : Scene) (done : ℕ) (at v : Value) → SameIf c (laid done c at v)
+laid_same c done (Place b o) (Cells xs) = stored_same c (put_cell true c.store b (o + done) (nth_cell xs done)) (put_cell_keeps true c.store b (o + done) (nth_cell xs done))
+laid_same c done (Place b o) NoValue = tt
+laid_same c done (Place b o) (Whole z) = tt
+laid_same c done (Place b o) Null = tt
+laid_same c done (Place b o) (Place d q) = tt
+laid_same c done (Place b o) Opaque = tt
+laid_same c done (Whole z) v = tt
+laid_same c done Null v = tt
+laid_same c done Opaque v = tt
+laid_same c done (Cells xs) v = tt
+laid_same c done NoValue v = tt
+
+lay_on_grows : (c : Scene) (i done size : ℕ) (v at : Value) (k : List Item) (vs : List Value) (x : Result Scene Why) → SameIf c x → Grown c (lay_on i done size v at k vs x)
+lay_on_grows c i done size v at k vs (Err why) h = tt
+lay_on_grows c i done size v at k vs (Ok d) h = if_grows c (nat_lt (suc done) size) _ _ (runs c (Lay i (suc done) size ∷ k) (v ∷ vs) d h) (runs c k (at ∷ vs) d h)
+
+lay_grows : (i done size : ℕ) (v at : Value) (k : List Item) (vs : List Value) (c : Scene) → Grown c (lay_step i done size v at k vs c)
+lay_grows i done size v at k vs c = if_grows c (nat_lt done size) _ _ (lay_on_grows c i done size v at k vs (laid done c at v) (laid_same c done at v)) (same k (at ∷ vs) c)
 
 -- ---- jumps
 
@@ -94,6 +117,7 @@ case_grows u n body k vs c (Whole z) = switched_grows u k vs c _
 case_grows u n body k vs c Null = tt
 case_grows u n body k vs c (Place b o) = tt
 case_grows u n body k vs c Opaque = tt
+case_grows u n body k vs c (Cells xs) = tt
 case_grows u n body k vs c NoValue = tt
 
 -- ---- loops
@@ -129,6 +153,9 @@ module _ (p : ProgramTy) where
   perform_grows (Bump kind shape) k vs c = two_grow c vs _ (λ v at r. goes_on c _ k (at ∷ under (is_post kind) v r))
   perform_grows (PutUnder shape) k vs c = two_grow c vs _ (λ v at r. with_scene_grows c (put false shape c at v) k r (put_same false shape c at v))
   perform_grows (Carry done size) k vs c = two_grow c vs _ (λ from to r. copy_grows done size from to k r c)
+  perform_grows (Gather size) k vs c = one_grows c vs _ (λ v r. goes_on c _ k r)
+  perform_grows (Lay i done size) k vs c = one_grows c vs _ (λ v r. lay_grows i done size v (place_in_object p.unit i 0 c) k r c)
+  perform_grows Reach k vs c = goes_on c (rest_place c) k vs
   perform_grows (Invoke callee types) k vs c = invoked_grows p.unit callee types k (taken types [] vs) c
   perform_grows (Busy left f args) k vs c = library_grows left f args k vs c
   perform_grows Skip k vs c = same k vs c

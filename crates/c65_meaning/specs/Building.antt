@@ -6,7 +6,7 @@ use Rattle.c65_ints.specs.declared.types.IntType.TheVariants as I
 use Rattle.c65_ctype.specs.Trees.{int, pointer, array, tag, function, QTy, Fn, fn, known, QTys, end, more, MemberTy, TypesTy}
 use Rattle.c65_base.specs.declared.library.Library.{Library}
 use Rattle.c65_csem.specs.declared.items.Class.TheVariants.{Static, Auto, Fixed}
-use Rattle.c65_csem.specs.Trees.{Typed, node, constant, object, func, deref, member, load, address, decay, convert, binary, assign, step, call, Nodes, none, some, Stmt, set_part, block, return, Stmts, no_stmts, and_stmts, present, type_of, ObjectTy, FuncTy}
+use Rattle.c65_csem.specs.Trees.{Typed, node, constant, object, func, deref, member, load, address, decay, convert, binary, assign, step, call, pack, spill, rest, Nodes, none, some, Stmt, set_part, block, return, Stmts, no_stmts, and_stmts, present, type_of, ObjectTy, FuncTy}
 use Rattle.c65_meaning.specs.Program.{ProgramTy}
 use Rattle.c65_csem.specs.Places.{plain}
 
@@ -32,25 +32,38 @@ array_of n t = plain (array t (Some n))
 
 abbrev pub all_types : List QTy → QTys
 all_types [] = end
-all_types (t ∷ rest) = more t (all_types rest)
+all_types (t ∷ ts) = more t (all_types ts)
 
 -- a function with a prototype
 abbrev pub takes : List QTy → QTy → Fn
 takes params result = fn result (known (all_types params)) false false
 
--- a member of one byte, and a bit-field of type unsigned int
+-- and further arguments
+abbrev pub takes_more : List QTy → QTy → Fn
+takes_more params result = fn result (known (all_types params)) true false
+
+-- a member, one of one byte, and a bit-field of type unsigned int, in the first unit or another one
+abbrev pub member_as : QTy → ℕ → MemberTy
+member_as t o = record { name = None; ty = t; offset = o; bits = None }
+
 abbrev pub byte_member : ℕ → MemberTy
-byte_member o = record { name = None; ty = character; offset = o; bits = None }
+byte_member o = member_as character o
+
+abbrev pub bits_at : ℕ → ℕ → ℕ → MemberTy
+bits_at o low width = record { name = None; ty = unsigned; offset = o; bits = Some (low, width) }
 
 abbrev pub bit_field : ℕ → ℕ → MemberTy
-bit_field low width = record { name = None; ty = unsigned; offset = 0; bits = Some (low, width) }
+bit_field low width = bits_at 0 low width
 
 abbrev pub no_types : TypesTy
 no_types = record { tags = []; units = 1 }
 
--- one structure of two bytes
+-- one structure of so many bytes, and of two
+abbrev pub structure_of : ℕ → List MemberTy → TypesTy
+structure_of size members = record { tags = record { unit = 0; is_union = false; layout = Some (record { is_union = false; members = members; size = size }) } ∷ []; units = 1 }
+
 abbrev pub one_structure : List MemberTy → TypesTy
-one_structure members = record { tags = record { unit = 0; is_union = false; layout = Some (record { is_union = false; members = members; size = 2 }) } ∷ []; units = 1 }
+one_structure members = structure_of 2 members
 
 -- ---- expressions
 
@@ -103,16 +116,32 @@ change kind i = node integer (step kind (place integer i))
 
 abbrev pub all_arguments : List Typed → Nodes
 all_arguments [] = none
-all_arguments (e ∷ rest) = some e (all_arguments rest)
+all_arguments (e ∷ es) = some e (all_arguments es)
 
 abbrev pub call_as : ℕ → Fn → QTy → List Typed → Typed
 call_as f t result args = node result (call (node (pointer_to (plain (function t))) (decay (node (plain (function t)) (func f)))) (all_arguments args))
+
+-- a structure as an argument or a returned value
+abbrev pub pack_of : Typed → Typed
+pack_of e = node (type_of e) (pack e)
+
+-- the structure that a call gives, in an unnamed object
+abbrev pub held_in : ℕ → Typed → Typed
+held_in i e = node (type_of e) (spill i e)
+
+-- the place behind the further arguments
+abbrev pub end_of_rest : Typed
+end_of_rest = node (pointer_to character) rest
+
+-- the member of one byte of a structure, as an int
+abbrev pub byte_of : Typed → ℕ → Typed
+byte_of e m = as_type integer (value_of (member_of character e m))
 
 -- ---- statements
 
 abbrev pub all_statements : List Stmt → Stmts
 all_statements [] = no_stmts
-all_statements (s ∷ rest) = and_stmts s (all_statements rest)
+all_statements (s ∷ ss) = and_stmts s (all_statements ss)
 
 abbrev pub scope : List ℕ → List Stmt → Stmt
 scope objects ss = block objects (all_statements ss)
@@ -126,14 +155,18 @@ initial i e = set_part i 0 e
 -- ---- programs
 
 abbrev pub local : QTy → ObjectTy
-local t = record { name = record { 0 = 0 }; ty = t; class = Auto; init = None }
+local t = record { name = Some (record { 0 = 0 }); ty = t; class = Auto; init = None }
+
+-- an object that holds what a call gives
+abbrev pub unnamed : QTy → ObjectTy
+unnamed t = record { name = None; ty = t; class = Auto; init = None }
 
 -- an object of a block with one place for the whole run
 abbrev pub fixed : QTy → ObjectTy
-fixed t = record { name = record { 0 = 0 }; ty = t; class = Fixed; init = None }
+fixed t = record { name = Some (record { 0 = 0 }); ty = t; class = Fixed; init = None }
 
 abbrev pub static : QTy → ObjectTy
-static t = record { name = record { 0 = 0 }; ty = t; class = Static; init = None }
+static t = record { name = Some (record { 0 = 0 }); ty = t; class = Static; init = None }
 
 abbrev pub defined : Fn → List ℕ → Stmt → FuncTy
 defined t params body = record { name = record { 0 = 0 }; ty = t; external = true; params = params; body = Some body; library = None }

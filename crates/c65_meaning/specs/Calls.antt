@@ -17,6 +17,10 @@ function_type (function f) = Some f
 function_type (pointer (qual (function f) c v)) = Some f
 function_type _ = None
 
+-- a function that takes further arguments
+abbrev pub is_variadic : Fn → Bool
+is_variadic (fn result params variadic cdecl) = variadic
+
 -- what a call passes: by its own prototype, and further arguments and those without a prototype as they are
 abbrev pub passed_by : QTys → List Ty → List Ty
 passed_by end args = args

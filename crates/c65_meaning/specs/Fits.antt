@@ -1,6 +1,6 @@
 -- Which values an expression or an object of a shape may have, and that reading, converting and operating give such values
 -- (C90 6.1.2.5, 6.2.1, 6.3).
-use Rattle.std.specs.Prelude.{◌≡◌, ℕ, ◌≤◌, Bool, true, false, Ok, ⊤}
+use Rattle.std.specs.Prelude.{◌≡◌, ℕ, ◌≤◌, Bool, true, false, length, Ok, ⊤}
 use Rattle.c65_base.specs.declared.operators.UnaryOp.{UnaryOp}
 use Rattle.c65_base.specs.declared.operators.UnaryOp.TheVariants.{Not}
 use Rattle.c65_base.specs.declared.operators.BinaryOp.{BinaryOp}
@@ -9,10 +9,11 @@ use Rattle.c65_base.specs.declared.operators.StepKind.{StepKind}
 use Rattle.c65_ints.specs.declared.types.IntType.{IntType}
 use Rattle.c65_ints.specs.declared.types.IntType.TheVariants as I
 use Rattle.c65_ints.specs.Ranges.{InRange, width_of}
-use Rattle.c65_meaning.specs.Store.{Cell, Bits, Piece, Clouded, Store, Value, Whole, Null, Place, Opaque, NoValue, Shape, Number, Field, Pointer, Area, read_cells}
+use Rattle.c65_meaning.specs.Store.{Cell, Bits, Piece, Clouded, Store, Value, Whole, Null, Place, Opaque, Cells, NoValue, Shape, Number, Field, Pointer, Area, read_cells}
 use Rattle.c65_meaning.specs.Operators.{converted, binary, unary, bumped}
 
--- A number lies in the range of its type. The value of an area is the place of a structure or union; void has none.
+-- A number lies in the range of its type. The value of an area is the place of a structure or union, or its cells where it is passed or
+-- returned; void has none.
 abbrev pub Fits : Shape → Value → Type 0
 Fits (Number t) (Whole z) = InRange t z
 Fits (Number t) Opaque = ⊤
@@ -22,6 +23,7 @@ Fits (Pointer size) Null = ⊤
 Fits (Pointer size) (Place b o) = ⊤
 Fits (Pointer size) Opaque = ⊤
 Fits (Area size) (Place b o) = ⊤
+Fits (Area size) (Cells xs) = length xs ≡ size
 Fits (Area size) NoValue = ⊤
 Fits _ _ = ⊥
 

@@ -9,7 +9,7 @@ use Rattle.c65_base.specs.declared.operators.StepKind.{StepKind}
 use Rattle.c65_ctype.specs.Trees.{Ty, QTy, type_in}
 use Rattle.c65_ctype.specs.Sizes.{size_of}
 use Rattle.c65_base.specs.declared.library.Library.{Library}
-use Rattle.c65_csem.specs.Trees.{Typed, node, Node, constant, null, literal, object, func, deref, member, load, address, decay, convert, unary, binary, both, either, choice, comma, assign, assign_op, assign_step, step, copy, call, Nodes, none, some, Stmt, empty, eval, set_part, clear, block, if_stmt, while, do_while, for_loop, switch, case, default, label, goto, break, continue, return, Stmts, no_stmts, and_stmts, MaybeTyped, absent, present, UnitTy}
+use Rattle.c65_csem.specs.Trees.{Typed, node, Node, constant, null, literal, object, func, deref, member, load, address, decay, convert, unary, binary, both, either, choice, comma, assign, assign_op, assign_step, step, copy, call, pack, spill, rest, Nodes, none, some, Stmt, empty, eval, set_part, clear, block, if_stmt, while, do_while, for_loop, switch, case, default, label, goto, break, continue, return, Stmts, no_stmts, and_stmts, MaybeTyped, absent, present, UnitTy}
 use Rattle.c65_meaning.specs.Store.{Value, Whole, Null, Place, Shape, Number, Area}
 use Rattle.c65_meaning.specs.Operators.{is_post}
 use Rattle.c65_meaning.specs.Shapes.{bare_type, types_of, shape_of, place_shape, offset_of, object_size, object_in, literal_block}
@@ -44,6 +44,9 @@ pub data Item : Type 0 where
   Bump : (kind : StepKind) (shape : Shape) → Item
   PutUnder : (shape : Shape) → Item
   Carry : (done size : ℕ) → Item
+  Gather : (size : ℕ) → Item
+  Lay : (i done size : ℕ) → Item
+  Reach : Item
   Invoke : (callee : Ty) (args : List Ty) → Item
   Busy : (left : ℕ) (f : Library) (args : List Value) → Item
   -- statements
@@ -116,11 +119,14 @@ module _ (u : UnitTy) where
     plan_node t (step kind a) k = plan a (Peek (place_shape u.types a) (place_shape u.types a) ∷ Bump kind (place_shape u.types a) ∷ put_step (is_post kind) (place_shape u.types a) ∷ k)
     plan_node t (copy a b) k = plan a (plan b (Carry 0 (size_of u.types (bare_type a)) ∷ k))
     plan_node t (call f args) k = plan f (plan_all args (Invoke (bare_type f) (types_of args) ∷ k))
+    plan_node t (pack a) k = plan a (Gather (size_of u.types (type_in t)) ∷ k)
+    plan_node t (spill i a) k = plan a (Lay i 0 (size_of u.types (type_in t)) ∷ k)
+    plan_node t rest k = Reach ∷ k
 
     -- the work of arguments, from left to right
     pub plan_all : Nodes → List Item → List Item
     plan_all none k = k
-    plan_all (some e rest) k = plan e (plan_all rest k)
+    plan_all (some e es) k = plan e (plan_all es k)
 
   -- an expression whose value is not used, where there is one
   abbrev pub first : MaybeTyped → List Item → List Item
@@ -163,4 +169,4 @@ module _ (u : UnitTy) where
 
     pub plan_stmts : ℕ → Stmts → List Item → List Item
     plan_stmts n no_stmts k = k
-    plan_stmts n (and_stmts s rest) k = plan_stmt n s (plan_stmts (n + count s) rest k)
+    plan_stmts n (and_stmts s ss) k = plan_stmt n s (plan_stmts (n + count s) ss k)

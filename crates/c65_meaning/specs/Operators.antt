@@ -13,7 +13,7 @@ use Rattle.c65_meaning.specs.declared.action.Action.{Action}
 use Rattle.c65_meaning.specs.declared.action.Action.TheVariants.{DivisionByZero, ShiftCount, OutsideObject, PointersApart, OffsetOutside, UnknownValue, EndOfObject, NoResult, EndedObject}
 use Rattle.c65_meaning.specs.Why.{Why, By, Unfit, ◌>>=◌, or_by}
 use Rattle.c65_meaning.specs.Integers.{conjunction_of, disjunction_of, exclusion_of, negated_of, complement_of, truth, same_number}
-use Rattle.c65_meaning.specs.Store.{Store, Value, Whole, Null, Place, Opaque, NoValue, Shape, Number, Field, Pointer, Area, is_live, block_size}
+use Rattle.c65_meaning.specs.Store.{Store, Value, Whole, Null, Place, Opaque, Cells, NoValue, Shape, Number, Field, Pointer, Area, is_live, block_size}
 
 abbrev pub number : ℤ → Result Value Why
 number z = Ok (Whole z)
@@ -82,8 +82,10 @@ converted (Number t) (Whole z) = number (wrap_of t z)
 converted (Number t) Null = number (pos 0)
 converted (Number t) (Place b o) = Ok Opaque
 converted (Number t) Opaque = Ok Opaque
+converted (Number t) (Cells xs) = Err Unfit
 converted (Number t) NoValue = Err (By NoResult)
 converted (Pointer size) (Whole z) = Ok (pointer_of z)
+converted (Pointer size) (Cells xs) = Err Unfit
 converted (Pointer size) NoValue = Err (By NoResult)
 converted (Pointer size) v = Ok v
 converted (Field t low width) NoValue = Err (By NoResult)
@@ -131,8 +133,12 @@ in_one_block _ size o p = Err Unfit
 abbrev pub end_meets : Store → ℕ → ℕ → ℕ → ℕ → Bool
 end_meets s b o c p = o == block_size s b && nat_lt p (block_size s c)
 
+-- only a block of further arguments has no bytes
+abbrev pub is_empty : Store → ℕ → Bool
+is_empty s b = block_size s b == 0
+
 abbrev pub may_meet : Store → ℕ → ℕ → ℕ → ℕ → Bool
-may_meet s b o c p = end_meets s b o c p || end_meets s c p b o
+may_meet s b o c p = end_meets s b o c p || end_meets s c p b o || (is_empty s b || is_empty s c)
 
 -- not in one block: equality alone has a value
 abbrev pub apart : BinaryOp → Result Value Why

@@ -1,6 +1,6 @@
 -- Counts of statements, of case labels, and of the places from which a turn may come: loops, gotos and calls.
 use Rattle.std.specs.Prelude.{ℕ, suc, ◌+◌, List, [], ◌∷◌, Option, Some, None}
-use Rattle.c65_csem.specs.Trees.{Typed, node, Node, deref, member, load, address, decay, convert, unary, binary, both, either, choice, comma, assign, assign_op, assign_step, step, copy, call, Nodes, none, some, Stmt, empty, eval, set_part, clear, block, if_stmt, while, do_while, for_loop, switch, case, default, label, goto, break, continue, return, Stmts, no_stmts, and_stmts, MaybeTyped, absent, present, FuncTy}
+use Rattle.c65_csem.specs.Trees.{Typed, node, Node, deref, member, load, address, decay, convert, unary, binary, both, either, choice, comma, assign, assign_op, assign_step, step, copy, call, pack, spill, Nodes, none, some, Stmt, empty, eval, set_part, clear, block, if_stmt, while, do_while, for_loop, switch, case, default, label, goto, break, continue, return, Stmts, no_stmts, and_stmts, MaybeTyped, absent, present, FuncTy}
 use Rattle.c65_meaning.specs.Program.{ProgramTy}
 
 abbrev mutual
@@ -62,6 +62,8 @@ abbrev mutual
   calls_in (step kind a) = calls a
   calls_in (copy a b) = calls a + calls b
   calls_in (call f args) = suc (calls f + calls_of_all args)
+  calls_in (pack a) = calls a
+  calls_in (spill i a) = calls a
   calls_in _ = 0
 
   pub calls_of_all : Nodes → ℕ

@@ -108,7 +108,7 @@ module _ (u : UnitTy) where
 
   abbrev pub started : Bool → ℕ → List (List ℕ) → List ℕ → FuncTy → Option Stmt → State
   started free f args input g None = Undefined Unfit
-  started free f args input g (Some body) = entered u f g body (soft_cost u (bytes_of_objects u g.params) body + arguments_bytes args) (main_values args g.params) [] [] (first_scene free g.params args input)
+  started free f args input g (Some body) = entered u f g body (soft_cost u (bytes_of_objects u g.params) body + arguments_bytes args) [] (main_values args g.params) [] [] (first_scene free g.params args input)
 
   abbrev pub started_by : Bool → ℕ → List (List ℕ) → List ℕ → Option FuncTy → State
   started_by free f args input None = Undefined Unfit

@@ -4,11 +4,13 @@ use Rattle.c65_meaning.specs.Why.{Why}
 use Rattle.c65_meaning.specs.Store.{Store, Value}
 use Rattle.c65_meaning.specs.Items.{Item}
 
--- an active call: its function, the blocks of its parameters and automatic objects, and its cost on the software stack
+-- an active call: its function, the blocks of its parameters and automatic objects, its cost on the software stack, and the block of its
+-- further arguments, where its function takes any
 pub record Frame : Type 0 where
   pub func : ℕ
   pub object : ℕ → Option ℕ
   pub cost : ℕ
+  pub rest : Option ℕ
 
 -- all but the pending work and the waiting values; the active call comes first among the frames, `next` is the next new block,
 -- and where it is `free` no call is too deep
@@ -52,3 +54,12 @@ with_object f i b = record f { object = λ j. if j == i then Some b else f.objec
 abbrev pub name_object : List Frame → ℕ → ℕ → List Frame
 name_object [] i b = []
 name_object (f ∷ rest) i b = with_object f i b ∷ rest
+
+-- the block of the active call's further arguments
+abbrev pub rest_in : List Frame → Option ℕ
+rest_in [] = None
+rest_in (f ∷ fs) = f.rest
+
+abbrev pub name_rest : List Frame → ℕ → List Frame
+name_rest [] b = []
+name_rest (f ∷ fs) b = record f { rest = Some b } ∷ fs

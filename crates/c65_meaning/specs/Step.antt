@@ -1,22 +1,23 @@
 -- One step of a run: what each item of pending work does (C90 6.1.2.4, 6.3, 6.5.7, 6.6).
-use Rattle.std.specs.Prelude.{ℕ, zero, suc, ◌+◌, ◌==◌, ◌&&◌, ◌||◌, not, Bool, true, false, pos, List, [], ◌∷◌, Result, Ok, Err, Option, Some, None, slice_get, nat_lt, nat_le, if◌then◌else◌}
+use Rattle.std.specs.Prelude.{ℕ, zero, suc, ◌+◌, ◌==◌, ◌&&◌, ◌||◌, not, Bool, true, false, pos, List, [], ◌∷◌, ◌++◌, drop, length, Result, Ok, Err, Option, Some, None, slice_get, nat_lt, nat_le, if◌then◌else◌}
 use Rattle.c65_ints.specs.Ranges.{residue}
-use Rattle.c65_ctype.specs.Trees.{Ty}
+use Rattle.c65_ctype.specs.Trees.{Ty, TypesTy}
+use Rattle.c65_ctype.specs.Sizes.{size_of}
 use Rattle.c65_base.specs.declared.library.Library.{Library}
 use Rattle.c65_csem.specs.Trees.{MaybeTyped, absent, present, Stmt, FuncTy, UnitTy}
 use Rattle.c65_meaning.specs.Program.{ProgramTy}
 use Rattle.c65_meaning.specs.declared.action.Action.TheVariants.{OutsideObject, CalleeType, NoResult, PartialOverlap, FixedAgain}
 use Rattle.c65_meaning.specs.Why.{Why, By, Unfit, ◌>>=◌}
 use Rattle.c65_meaning.specs.Integers.{truth}
-use Rattle.c65_meaning.specs.Store.{Store, Value, Whole, Null, Place, NoValue, Shape, read, write, carry, put_cell, byte, set_block, unset_block, end_block}
+use Rattle.c65_meaning.specs.Store.{Cell, Store, Value, Whole, Null, Place, Cells, NoValue, Shape, read, write, carry, packed, put_cell, nth_cell, cells_of_value, byte, set_block, unset_block, list_block, end_block, block_size}
 use Rattle.c65_meaning.specs.Operators.{unusable, truth_of, named_by, moved, converted, binary, unary, bumped, is_post}
 use Rattle.c65_meaning.specs.Shapes.{object_in, object_size, object_sealed, object_shape, lives_in_frame, object_block}
-use Rattle.c65_meaning.specs.Items.{Item, Loop, Push, Name, Follow, Move, Fetch, Keep, Change, Apply1, Apply2, Both, Either, Truth, Choose, Drop, Put, Peek, Bump, PutUnder, Carry, Invoke, Busy, Skip, Init, CarryInto, Wipe, Begin, End, Branch, Test, Pass, Enter, Next, Back, Check, Redo, Select, EndSwitch, Jump, LeaveLoop, GoOn, Give, GiveNothing, Leave, plan, plan_stmt, plan_stmts, head_of}
+use Rattle.c65_meaning.specs.Items.{Item, Loop, Push, Name, Follow, Move, Fetch, Keep, Change, Apply1, Apply2, Both, Either, Truth, Choose, Drop, Put, Peek, Bump, PutUnder, Carry, Gather, Lay, Reach, Invoke, Busy, Skip, Init, CarryInto, Wipe, Begin, End, Branch, Test, Pass, Enter, Next, Back, Check, Redo, Select, EndSwitch, Jump, LeaveLoop, GoOn, Give, GiveNothing, Leave, plan, plan_stmt, plan_stmts, head_of}
 use Rattle.c65_meaning.specs.After.{ToLabel, ToCase, ToDefault, Landing, or_else, after, Left, up_to_call, up_to_break, up_to_continue, without}
 use Rattle.c65_meaning.specs.Costs.{has_fixed, argument_bytes, soft_cost}
-use Rattle.c65_meaning.specs.State.{Frame, Scene, State, Undefined, Deep, Ended, Running, with_store, turned, soft_sum, hard_sum, block_in, name_object}
+use Rattle.c65_meaning.specs.State.{Frame, Scene, State, Undefined, Deep, Ended, Running, with_store, turned, soft_sum, hard_sum, block_in, name_object, rest_in, name_rest}
 use Rattle.c65_meaning.specs.Library.{Effect, effect_of, overlap}
-use Rattle.c65_meaning.specs.Calls.{accepts}
+use Rattle.c65_meaning.specs.Calls.{is_variadic, accepts}
 
 -- ---- taking values, and going on with what an action gave
 
@@ -144,6 +145,49 @@ wipe_step i done size k vs (Ok c) = if nat_lt (suc done) size then Running (Wipe
 abbrev pub clear_step : ℕ → ℕ → ℕ → Value → List Item → List Value → Scene → State
 clear_step i done size at k vs c = if nat_lt done size then wipe_step i done size k vs (cleared c done at) else Running k vs c
 
+-- ---- structures and unions that are passed and returned (C90 6.3.2.2, 6.6.6.4)
+
+abbrev pub gathered_at : ℕ → Scene → Value → Result Value Why
+gathered_at size c (Place b o) = packed size c.store b o
+gathered_at size c v = Err (unusable v)
+
+-- byte `done` of what a call gave; a missing result is not stored
+abbrev pub laid : ℕ → Scene → Value → Value → Result Scene Why
+laid done c (Place b o) (Cells xs) = stored c (put_cell true c.store b (o + done) (nth_cell xs done))
+laid done c (Place b o) NoValue = Err (By NoResult)
+laid done c at v = Err Unfit
+
+-- the cells wait until the last byte; then the value is the place
+abbrev pub lay_on : ℕ → ℕ → ℕ → Value → Value → List Item → List Value → Result Scene Why → State
+lay_on i done size v at k vs (Err why) = Undefined why
+lay_on i done size v at k vs (Ok c) = if nat_lt (suc done) size then Running (Lay i (suc done) size ∷ k) (v ∷ vs) c else Running k (at ∷ vs) c
+
+abbrev pub lay_step : ℕ → ℕ → ℕ → Value → Value → List Item → List Value → Scene → State
+lay_step i done size v at k vs c = if nat_lt done size then lay_on i done size v at k vs (laid done c at v) else Running k (at ∷ vs) c
+
+-- ---- further arguments (C90 6.7.1, 7.8)
+
+abbrev pub end_of : Store → Option ℕ → Result Value Why
+end_of s None = Err Unfit
+end_of s (Some b) = Ok (Place b (block_size s b))
+
+-- the place at the end of the block of the active call's further arguments
+abbrev pub rest_place : Scene → Result Value Why
+rest_place c = end_of c.store (rest_in c.frames)
+
+-- the cells of arguments of these types: the last one at 0, and the first one up to the end
+abbrev pub rest_list : TypesTy → List Ty → List Value → List Cell
+rest_list types (t ∷ ts) (v ∷ vs) = rest_list types ts vs ++ cells_of_value (size_of types t) v
+rest_list types _ _ = []
+
+-- they are a new block, which may be empty
+abbrev pub begin_rest : List Cell → Scene → Scene
+begin_rest xs c = record c { frames = name_rest c.frames c.next; store = set_block c.store c.next (list_block xs); next = suc c.next }
+
+abbrev pub with_rest : Bool → List Cell → Scene → Scene
+with_rest true xs c = begin_rest xs c
+with_rest false xs c = c
+
 abbrev pub under : Bool → Value → List Value → List Value
 under true v vs = v ∷ vs
 under false v vs = vs
@@ -187,25 +231,33 @@ served f args k vs c (Err why) = Undefined why
 served f args k vs c (Ok e) = library_call e.bytes f args k vs c
 
 module _ (u : UnitTy) where
-  -- each parameter is a new block that holds its argument; further arguments of a variadic function are dropped
+  -- each parameter is a new block that holds its argument
   abbrev pub with_params : List ℕ → List Value → Scene → Result Scene Why
   with_params [] args c = Ok c
   with_params (i ∷ objects) (v ∷ args) c = put true (object_shape u.types (object_in u i)) (begin_object u i c) (Place c.next 0) v >>= with_params objects args
   with_params (i ∷ objects) [] c = Err Unfit
 
   abbrev pub new_frame : ℕ → ℕ → Scene → Scene
-  new_frame f cost c = record c { frames = record { func = f; object = λ i. None; cost = cost } ∷ c.frames }
+  new_frame f cost c = record c { frames = record { func = f; object = λ i. None; cost = cost; rest = None } ∷ c.frames }
+
+  -- the cells of the arguments behind those of the parameters
+  abbrev pub further : FuncTy → List Ty → List Value → List Cell
+  further g types args = rest_list u.types (drop (length g.params) types) (drop (length g.params) args)
+
+  -- the parameters begin, and in a variadic function the further arguments
+  abbrev pub with_passed : FuncTy → List Ty → List Value → Scene → Result Scene Why
+  with_passed g types args c = with_params g.params args c >>= λ d. Ok (with_rest (is_variadic g.ty) (further g types args) d)
 
   -- a call of a function that has a body
-  abbrev pub entered : ℕ → FuncTy → Stmt → ℕ → List Value → List Item → List Value → Scene → State
-  entered f g body cost args k vs c = unless_deep (plan_stmt u 0 body (Leave ∷ k)) vs (with_params g.params args (new_frame f cost c))
+  abbrev pub entered : ℕ → FuncTy → Stmt → ℕ → List Ty → List Value → List Item → List Value → Scene → State
+  entered f g body cost types args k vs c = unless_deep (plan_stmt u 0 body (Leave ∷ k)) vs (with_passed g types args (new_frame f cost c))
 
   -- a function with an object that has one place for the whole run is entered by one call at a time
-  abbrev pub entered_once : ℕ → FuncTy → Stmt → ℕ → List Value → List Item → List Value → Scene → State
-  entered_once f g body cost args k vs c = if has_fixed u body && is_active f c.frames then Undefined (By FixedAgain) else entered f g body cost args k vs c
+  abbrev pub entered_once : ℕ → FuncTy → Stmt → ℕ → List Ty → List Value → List Item → List Value → Scene → State
+  entered_once f g body cost types args k vs c = if has_fixed u body && is_active f c.frames then Undefined (By FixedAgain) else entered f g body cost types args k vs c
 
   abbrev pub called : ℕ → List Ty → List Value → FuncTy → Option Stmt → Option Library → List Item → List Value → Scene → State
-  called f types args g (Some body) library k vs c = entered_once f g body (soft_cost u (argument_bytes u types) body) args k vs (turned c)
+  called f types args g (Some body) library k vs c = entered_once f g body (soft_cost u (argument_bytes u types) body) types args k vs (turned c)
   called f types args g None (Some l) k vs c = served l args k vs c (effect_of c l args)
   called f types args g None None k vs c = Undefined Unfit
 
@@ -277,9 +329,12 @@ left_for vs c None = Undefined Unfit
 left_for vs c (Some r) = Running r.work vs (end_objects r.objects c)
 
 module _ (u : UnitTy) where
-  -- the parameters end with the call
+  -- the parameters and the further arguments end with the call
+  abbrev pub end_arguments : Scene → Scene
+  end_arguments c = end_named (rest_in c.frames) (end_objects (params_of (slice_get u.funcs (func_in c.frames))) c)
+
   abbrev pub left_call : Value → List Item → List Value → Scene → State
-  left_call v k vs c = back_in (frames_below c.frames) k vs (without_frame (end_objects (params_of (slice_get u.funcs (func_in c.frames))) c)) v
+  left_call v k vs c = back_in (frames_below c.frames) k vs (without_frame (end_arguments c)) v
 
   abbrev pub returned : Value → List Value → Scene → Option Left → State
   returned v vs c None = Undefined Unfit
@@ -350,6 +405,9 @@ module _ (p : ProgramTy) where
   perform (Bump kind shape) k vs c = two vs (λ v at r. go_on (bumped c.store kind shape v) k (at ∷ under (is_post kind) v r) c)
   perform (PutUnder shape) k vs c = two vs (λ v at r. with_scene (put false shape c at v) k r)
   perform (Carry done size) k vs c = two vs (λ from to r. copy_step done size from to k r c)
+  perform (Gather size) k vs c = one vs (λ v r. go_on (gathered_at size c v) k r c)
+  perform (Lay i done size) k vs c = one vs (λ v r. lay_step i done size v (place_in_object p.unit i 0 c) k r c)
+  perform Reach k vs c = go_on (rest_place c) k vs c
   perform (Invoke callee types) k vs c = invoked p.unit callee types k (taken types [] vs) c
   perform (Busy left f args) k vs c = library_call left f args k vs c
   perform Skip k vs c = Running k vs c

@@ -1,5 +1,5 @@
 -- The store: blocks by number, without addresses (C90 3.2, 3.14, 6.1.2.4, 6.1.2.6, 6.5.2.1).
-use Rattle.std.specs.Prelude.{ℕ, zero, suc, ◌+◌, ◌-◌, ◌*◌, ◌/◌, ◌%◌, ◌^◌, ◌==◌, ◌&&◌, Bool, true, false, ℤ, Result, Ok, Err, Option, Some, None, nat_lt, nat_le, bit_and, bit_or, if◌then◌else◌}
+use Rattle.std.specs.Prelude.{ℕ, zero, suc, ◌+◌, ◌-◌, ◌*◌, ◌/◌, ◌%◌, ◌^◌, ◌==◌, ◌&&◌, Bool, true, false, ℤ, List, [], ◌∷◌, Result, Ok, Err, Option, Some, None, length, nat_lt, nat_le, bit_and, bit_or, if◌then◌else◌}
 use Rattle.c65_ints.specs.declared.types.IntType.{IntType}
 use Rattle.c65_ints.specs.Ranges.{width_of, is_signed_of, residue, placed}
 use Rattle.c65_ctype.specs.Sizes.{bytes_of}
@@ -33,13 +33,14 @@ pub record Block : Type 0 where
 abbrev pub Store : Type 0
 Store = ℕ → Option Block
 
--- Place is a byte offset in a block. Opaque is what an integer made from a pointer is worth. NoValue is the missing result of a
--- function, and the value of a void expression.
+-- Place is a byte offset in a block. Opaque is what an integer made from a pointer is worth. Cells are those of a structure or union that is
+-- passed or returned. NoValue is the missing result of a function, and the value of a void expression.
 pub data Value : Type 0 where
   Whole : (z : ℤ) → Value
   Null : Value
   Place : (b o : ℕ) → Value
   Opaque : Value
+  Cells : (xs : List Cell) → Value
   NoValue : Value
 
 -- how an object lies in its cells; a bit-field lies in a unit of two bytes
@@ -147,7 +148,22 @@ reached b o n = reached_or OutsideObject b o n
 abbrev pub read : Shape → Store → ℕ → ℕ → Result Value Why
 read f s b o = reached (s b) o (size_in f) >>= λ x. read_cells f x.cells o
 
+-- the n cells from o on
+abbrev pub cells_at : ℕ → (ℕ → Cell) → ℕ → List Cell
+cells_at zero cells o = []
+cells_at (suc n) cells o = cells o ∷ cells_at n cells (suc o)
+
+-- the cells of a structure or union as they are, unset bits and pieces included
+abbrev pub packed : ℕ → Store → ℕ → ℕ → Result Value Why
+packed n s b o = reached (s b) o n >>= λ x. Ok (Cells (cells_at n x.cells o))
+
 -- ---- writing
+
+-- cell i of a list, and an unset one behind its end
+abbrev pub nth_cell : List Cell → ℕ → Cell
+nth_cell [] i = unset
+nth_cell (x ∷ xs) zero = x
+nth_cell (x ∷ xs) (suc i) = nth_cell xs i
 
 -- cell i of a value, low byte first
 abbrev pub cell_of : Value → ℕ → Cell
@@ -155,6 +171,7 @@ cell_of (Whole z) i = byte (byte_at i z)
 cell_of Null i = byte 0
 cell_of (Place b o) i = Piece i b o
 cell_of Opaque i = Clouded
+cell_of (Cells xs) i = nth_cell xs i
 cell_of NoValue i = unset
 
 -- a bit-field's bits within one cell: those in the mask are set, the others stay; of a piece or a clouded cell none stay
@@ -205,10 +222,18 @@ put_cell first s b o c = reached_to_write first (s b) o 1 >>= λ x. Ok (set_bloc
 abbrev pub carry : Bool → Store → ℕ → ℕ → ℕ → ℕ → Result Store Why
 carry first s b o c p = reached (s b) o 1 >>= λ x. put_cell first s c p (x.cells o)
 
+-- the n cells of a value
+abbrev pub cells_of_value : ℕ → Value → List Cell
+cells_of_value n v = cells_at n (cell_of v) 0
+
 -- ---- beginning and end of a block
 
 abbrev pub unset_block : ℕ → Bool → Block
 unset_block size sealed = record { size = size; holds = size; live = true; sealed = sealed; cells = λ i. unset }
+
+-- a block of these cells
+abbrev pub list_block : List Cell → Block
+list_block xs = record { size = length xs; holds = length xs; live = true; sealed = false; cells = nth_cell xs }
 
 abbrev pub function_block : Block
 function_block = record { size = 1; holds = 0; live = true; sealed = true; cells = λ i. unset }

@@ -20,7 +20,8 @@ pub enum Action {
     /// Use of the value of an integer made from a pointer or from some pieces of one, or of a pointer made from a nonzero
     /// integer or from mixed pieces (C90 6.3.4).
     UnknownValue,
-    /// Equality between a pointer to an object's end and a pointer into another object (C90 6.3.9).
+    /// Equality between a pointer to an object's end and a pointer into another object, or between a place in an empty block
+    /// of further arguments and a place in another block (C90 6.3.9).
     EndOfObject,
     /// A call of a function whose type is not compatible with the call (C90 6.3.2.2).
     CalleeType,

@@ -1,7 +1,7 @@
 // Small programs whose meaning is computed: each function answers how its program ends.
 ghost use Rattle.std.specs.Prelude.{[], ◌∷◌};
 ghost use Rattle.c65_meaning.specs.Endings.{EndsAfter};
-ghost use Rattle.c65_meaning.specs.Samples.{least_below_one, counting_loop, arguments_in_order, left_before_call, negative_shifted, bit_fields, structure_copied, switch_in_loop, jumps_both_ways, second_argument, library_calls, large_object};
+ghost use Rattle.c65_meaning.specs.Samples.{least_below_one, counting_loop, arguments_in_order, left_before_call, negative_shifted, bit_fields, structure_copied, switch_in_loop, jumps_both_ways, second_argument, library_calls, large_object, structure_passed, structure_returned, further_read};
 
 use crate::action::Action;
 use crate::ending::Ending;
@@ -102,4 +102,33 @@ pub fn a_large_object_takes_none_of_the_stack() -> Ending
     ensures { EndsAfter large_object [] [] 2 [] 0 result }
 {
     Ending::Status(7)
+}
+
+/// `struct s{char*p;unsigned a:3,b:6;};int f(struct s x){return*x.p+x.b;} int main(void){char c=7;struct s y;y.p=&c;y.b=5;return f(y);}`
+pub fn an_argument_carries_a_pointer() -> Ending
+    ensures { EndsAfter (structure_passed 2) [] [] 33 [] 1 result }
+{
+    Ending::Status(12) // 7 + 5
+}
+
+/// The same with `x.a` in the place of `x.b`
+pub fn an_argument_carries_an_unset_bit() -> Ending
+    ensures { EndsAfter (structure_passed 1) [] [] 29 [] 1 result }
+{
+    Ending::Undefined(Action::UnsetBit) // the three bits of a
+}
+
+/// `struct s{char a,b,c;};struct s mk(char n){struct s r;r.a=1;r.b=n;r.c=40;return r;} int get(struct s x){return x.c-x.a+x.b;}
+/// int main(void){return get(mk(3))+mk(5).b;}`
+pub fn a_call_gives_three_bytes() -> Ending
+    ensures { EndsAfter structure_returned [] [] 84 [] 3 result }
+{
+    Ending::Status(47) // 40 - 1 + 3 + 5
+}
+
+/// `int f(int n,...){unsigned char*p=__va_rest;int a=*(int*)(p-=2);return a-(int)*(long*)(p-=4);} int main(void){return f(0,50,8L);}`
+pub fn further_arguments_are_read() -> Ending
+    ensures { EndsAfter further_read [] [] 31 [] 1 result }
+{
+    Ending::Status(42) // 50 - 8
 }

@@ -1,7 +1,7 @@
 // One program for each undefined action, and one that calls too deep.
 ghost use Rattle.std.specs.Prelude.{[], ◌∷◌};
 ghost use Rattle.c65_meaning.specs.Endings.{EndsAfter};
-ghost use Rattle.c65_meaning.specs.UndefinedSamples.{by_zero, shift_by_width, unset_integer, null_followed, element_read, order_across, literal_written, address_added_to, end_met, misfit, missing_result, length_of_null, overlapping_copy, pointer_left, jump_past_initialiser, no_end_of_calls, entered_twice};
+ghost use Rattle.c65_meaning.specs.UndefinedSamples.{by_zero, shift_by_width, unset_integer, null_followed, element_read, order_across, literal_written, address_added_to, end_met, misfit, missing_result, length_of_null, overlapping_copy, pointer_left, jump_past_initialiser, no_end_of_calls, entered_twice, missing_structure, structure_behind, structure_left, further_passed_over, none_further, further_left};
 
 use crate::action::Action;
 use crate::ending::Ending;
@@ -130,4 +130,46 @@ pub fn a_function_entered_again() -> Ending
     ensures { EndsAfter entered_twice [] [] 6 [] 0 result }
 {
     Ending::Undefined(Action::FixedAgain)
+}
+
+/// `struct s{char a,b;};struct s f(void){return;} int main(void){return f().a;}`
+pub fn a_structure_that_is_missing() -> Ending
+    ensures { EndsAfter missing_structure [] [] 5 [] 0 result }
+{
+    Ending::Undefined(Action::NoResult)
+}
+
+/// `struct s{char a,b;};int f(struct s x){return x.a;} int main(void){struct s y;return f(*(&y+1));}`
+pub fn a_structure_behind_its_object() -> Ending
+    ensures { EndsAfter structure_behind [] [] 8 [] 0 result }
+{
+    Ending::Undefined(Action::OutsideObject)
+}
+
+/// `struct s{char a,b;};int f(struct s x){return x.a;} int main(void){struct s*p;{struct s y;p=&y;goto out;}out:return f(*p);}`
+pub fn a_structure_out_of_its_block() -> Ending
+    ensures { EndsAfter structure_left [] [] 12 [] 0 result }
+{
+    Ending::Undefined(Action::EndedObject)
+}
+
+/// `int f(int n,...){unsigned char*p=__va_rest;p-=2;return *(int*)(p-=2);} int main(void){return f(0,5);}`
+pub fn a_further_argument_behind_the_last() -> Ending
+    ensures { EndsAfter further_passed_over [] [] 17 [] 0 result }
+{
+    Ending::Undefined(Action::OffsetOutside)
+}
+
+/// `int f(int n,...){char x;return __va_rest==&x+1;} int main(void){return f(0);}`
+pub fn no_further_argument_and_another_object() -> Ending
+    ensures { EndsAfter none_further [] [] 10 [] 0 result }
+{
+    Ending::Undefined(Action::EndOfObject)
+}
+
+/// `unsigned char*f(int n,...){return __va_rest;} int main(void){return *(f(0,1)-1);}`
+pub fn a_further_argument_out_of_its_call() -> Ending
+    ensures { EndsAfter further_left [] [] 8 [] 0 result }
+{
+    Ending::Undefined(Action::EndedObject)
 }
