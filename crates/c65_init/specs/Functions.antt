@@ -94,4 +94,4 @@ definition_of f s = do
   ps ← parameters_of h.0.formals f.declarations v
   same ← as_declared ps.1.unit ps.0 (name_place f.declarator) (slice_get ps.1.unit.funcs x.0)
   y ← body_in f.body (new_body (labels_of f.body) (gives_in (slice_get ps.1.unit.funcs x.0))) (without_spills ps.1)
-  Ok (function_finished (closed y.1) x.0 ps.0 (with_unnamed y.1.spills y.0.0))
+  Ok (function_finished (closed (without_spills y.1)) x.0 ps.0 (with_unnamed y.1.spills y.0.0))

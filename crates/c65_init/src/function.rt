@@ -163,11 +163,8 @@ fn is_variadic(ty: &CType) -> bool
 {
     match ty {
         CType::Function(function) => function.variadic,
-        CType::Void
-        | CType::Int(_)
-        | CType::Pointer(_)
-        | CType::Array(_, _)
-        | CType::Struct(_) => false,
+        CType::Void | CType::Int(_) | CType::Pointer(_) | CType::Array(_, _) | CType::Struct(_) =>
+            false,
     }
 }
 
@@ -191,9 +188,10 @@ pub fn definition(alloc: Global, scope: &mut Scope, item: &Function) -> Result<(
         pos,
     )?;
     let mut known = new_body(alloc, scope, number, &item.body)?;
-    scope.drop_spills();
+    drop(scope.take_spills());
     let body = body_stmts(alloc, scope, &mut known, &item.body)?;
-    let body = with_unnamed(scope.spills.as_slice(), body)?;
+    let unnamed = scope.take_spills();
+    let body = with_unnamed(unnamed.as_slice(), body)?;
     scope.close();
     finish(scope, number, params, body);
     Ok(())

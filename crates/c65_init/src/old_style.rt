@@ -12,6 +12,7 @@ use c65_base::{Code, Name, Pos, Refusal};
 use c65_csem::pointer_to;
 use c65_ctype::{CType, QType, Types};
 use c65_elab::{elab_declarator, elab_specifiers, name_place};
+use c65_elab_convert::structure_size;
 use c65_elab_declare::param_storage;
 use c65_elab_scope::Scope;
 use c65_tree::{Decl, Declarator, InitDeclarator, Initialiser};

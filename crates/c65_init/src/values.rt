@@ -174,7 +174,8 @@ fn given_value(
         return Err(Refusal::fault(Code::ReturnValue, pos));
     }
     let value = converted(alloc, scope, gives, typed, pos)?;
-    Ok(folded(packed(alloc, value)?))
+    let passed = packed(alloc, value)?;
+    Ok(folded(passed))
 }
 
 /// The value that a function gives, if it gives one.
