@@ -3,6 +3,8 @@ use Rattle.std.proofs.Common.{◌≡◌, ℕ, ◌≤◌, List, length, None, Som
 use Rattle.c65_base.specs.declared.options.Cpu.{Cpu}
 use Rattle.c65_base.specs.declared.refusal.Refusal.{Refusal}
 use Rattle.c65_base.specs.declared.refusal.Refusal.TheVariants.{OutOfMemory, ReadFault, WriteFault}
+use Rattle.c65_base.specs.declared.refusal.Size.TheVariants.{Units}
+use Rattle.c65_base.specs.Limits.{limit_of}
 use Rattle.c65_code.specs.declared.code.Code.{Code}
 use Rattle.c65_io.specs.declared.outside.Failed.{Failed}
 use Rattle.c65_io.specs.Contents.{Contents, WritesFile}
@@ -56,7 +58,7 @@ wrote_served (Err OutOfMemory) served = tt
 wrote_served (Err WriteFault) served = tt
 wrote_served (Err r) served = absurd served
 
-pub wrote_units : (count : ℕ) (r : Result ℕ Refusal) → count ≤ 64 → WriteServes r → UnitsLimit count r
+pub wrote_units : (count : ℕ) (r : Result ℕ Refusal) → count ≤ limit_of Units → WriteServes r → UnitsLimit count r
 wrote_units count (Ok s) few served = few
 wrote_units count (Err OutOfMemory) few served = tt
 wrote_units count (Err WriteFault) few served = few

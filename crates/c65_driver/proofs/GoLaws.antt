@@ -119,7 +119,7 @@ run_served setup image l l' w w' (Err (Limit count)) runs = tt
 run_served setup image l l' w w' (Err (Illegal pc)) runs = tt
 run_served setup image l l' w w' (Err r) runs = absurd runs.1.1.ends
 
-run_units : (count : ℕ) (setup : Setup) (image : Image) (l l' w w' : Option (List ℕ)) (r : Result ℕ Refusal) → count ≤ 64 → ImageRuns setup image l l' w w' r
+run_units : (count : ℕ) (setup : Setup) (image : Image) (l l' w w' : Option (List ℕ)) (r : Result ℕ Refusal) → count ≤ limit_of Units → ImageRuns setup image l l' w w' r
     → UnitsLimit count r
 run_units count setup image l l' w w' (Err OutOfMemory) few runs = tt
 run_units count setup image l l' w w' (Err (TooLarge Units value)) few runs = let both : Units ≡ Arguments = runs.1 in absurd cc

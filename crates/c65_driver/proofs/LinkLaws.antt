@@ -6,6 +6,7 @@ use Rattle.c65_base.specs.declared.refusal.LinkKind.TheVariants.{Undefined}
 use Rattle.c65_base.specs.declared.refusal.Refusal.{Refusal}
 use Rattle.c65_base.specs.declared.refusal.Refusal.TheVariants.{OutOfMemory, Missing, ReadFault, TooLarge, Link}
 use Rattle.c65_base.specs.declared.refusal.Size.TheVariants.{Units, Image as ImageSize}
+use Rattle.c65_base.specs.Limits.{limit_of}
 use Rattle.c65_code.specs.declared.code.Code.{Code}
 use Rattle.c65_mach.specs.declared.image.Image.{Image}
 use Rattle.c65_code.specs.Placement.{program_start}
@@ -48,7 +49,7 @@ header_link : (code : Code) (folders : List (List ℕ)) (m m' : ℕ) (r : Refusa
 header_link code folders m m' (Missing path) fails le = absurd fails
 header_link code folders m m' r fails le = le
 
-units_link : (code : Code) (count : ℕ) (r : Refusal) → Fails r (linked code) → count ≤ 64 → UnitsLimit {T = Image} count (Err r)
+units_link : (code : Code) (count : ℕ) (r : Refusal) → Fails r (linked code) → count ≤ limit_of Units → UnitsLimit {T = Image} count (Err r)
 units_link code count OutOfMemory fails few = tt
 units_link code count (TooLarge Units value) fails few = absurd fails
 units_link code count r fails few = few
@@ -63,7 +64,7 @@ fails_for cpu (Ok image) (TooLarge ImageSize value) fails = absurd (let both : �
 fails_for cpu (Ok image) r fails = absurd fails
 
 pub compiles_linked : (cpu : Cpu) (folders files : List (List ℕ)) (old new : FilesSide) (code : Code) (r : Result Image Refusal) → new.contents ≡ old.contents → new.writes ≡ old.writes
-    → new.faults ≡ old.faults → old.misses ≤ new.misses → length files ≤ 64 → IsRead (Some code) → Gives r (linked_for cpu code) → Compiles cpu folders files old new (Some code) r
+    → new.faults ≡ old.faults → old.misses ≤ new.misses → length files ≤ limit_of Units → IsRead (Some code) → Gives r (linked_for cpu code) → Compiles cpu folders files old new (Some code) r
 compiles_linked cpu folders files old new code (Ok image) same written faults misses few read gives = record {
   same = same;
   written = written;

@@ -1,11 +1,14 @@
 -- What files are together, stage after stage.
 use Rattle.std.proofs.lemmas.Bool.{le-ltb}
 use Rattle.std.proofs.lemmas.List.{map-append}
-use Rattle.std.proofs.Common.{◌≡◌, ◌≤◌, ◌↔◌, ◌∙◌, map, IfOk, IsTrue, ℕ, ◌⊎◌, inl, inr, Bool, true, List, [], ◌∷◌, ◌++◌, length, nat_lt, Result, Ok, Err, refl, sym, ap, subst}
+use Rattle.std.proofs.Common.{◌≡◌, ◌≤◌, ◌↔◌, ◌∙◌, map, IfOk, IsTrue, ℕ, zero, suc, Some, ◌⊎◌, inl, inr, Bool, true, List, [], ◌∷◌, ◌++◌, length, nat_lt, Result, Ok, Err, refl, sym, ap, subst}
+use Rattle.c65_base.specs.declared.names.Name.{Name}
 use Rattle.c65_base.specs.declared.options.Options.{Options}
 use Rattle.c65_base.specs.declared.refusal.Refusal.{Refusal}
 use Rattle.c65_base.specs.declared.refusal.Refusal.TheVariants as refusals
 use Rattle.c65_base.specs.declared.refusal.Size.TheVariants as sizes
+use Rattle.c65_base.specs.Limits.{limit_of}
+use Rattle.c65_base.specs.Names.{name_of, with_spelling}
 use Rattle.c65_base.specs.Answers.{Fault, Fails, Gives, ◌>>=◌}
 use Rattle.c65_lex.specs.declared.token.PpToken.{PpToken}
 use Rattle.c65_lex.specs.declared.token.PpUnit.{PpUnit}
@@ -25,7 +28,7 @@ use Rattle.c65_genstmt.specs.Programs.{program_of}
 use Rattle.c65_ppline.specs.Relations.{Answers, just, by_test, ◌then◌, IsFree, Comes}
 use Rattle.c65_ppdir.specs.Units.{preprocessed}
 use Rattle.c65_ppline.proofs.Relations.{goes, goes_on, stops_first}
-use Rattle.c65_driver_chain.specs.Front.{typed, in_file, Command, file_typed, files_typed, joining, IsGood, generated, linked, compiled, Located, Passed}
+use Rattle.c65_driver_chain.specs.Front.{typed, in_file, Command, rest_spelling, rest_name, file_typed, files_typed, units_typed, joining, IsGood, generated, linked, compiled, Located, Passed}
 
 -- the first answer is a refusal
 stops : {A B : Type 0} (P : Answers A) (f : A → Answers B) (e : Refusal) → IsFree e ⊎ P (Err e) → IsFree e ⊎ (P then f) (Err e)
@@ -39,19 +42,19 @@ fails_on (refusals.At code p) y f h = ap (λ z. z >>= f) h
 fails_on (refusals.TooLarge limit value) y f h = ap (λ z. z >>= f) h
 fails_on e y f h = absurd h
 
-pub not_scanned : (names : List (List ℕ)) (o : Options) (ts : List PpToken) (e : Refusal) → Fails e (tokens_of names ts) → Fails e (typed names o ts)
-not_scanned names o ts e h = fails_on e (tokens_of names ts) (λ tokens. unit_read 256 tokens >>= (λ tree. unit_in tree o)) h
+pub not_scanned : (names : List (List ℕ)) (o : Options) (rest : Name) (ts : List PpToken) (e : Refusal) → Fails e (tokens_of names ts) → Fails e (typed names o rest ts)
+not_scanned names o rest ts e h = fails_on e (tokens_of names ts) (λ tokens. unit_read (limit_of sizes.Depth) tokens >>= (λ tree. unit_in tree o rest)) h
 
-pub not_parsed : (names : List (List ℕ)) (o : Options) (ts : List PpToken) (tokens : List Token) (e : Refusal) → tokens_of names ts ≡ Ok tokens → Fails e (unit_read 256 tokens) → Fails e (typed names o ts)
-not_parsed names o ts tokens e scanned h =
-    let all : Fails e (unit_read 256 tokens >>= (λ tree. unit_in tree o)) = fails_on e (unit_read 256 tokens) (λ tree. unit_in tree o) h in
-    subst (λ (y : Result (List Token) Fault). Fails e (y >>= (λ tokens. unit_read 256 tokens >>= (λ tree. unit_in tree o)))) (sym scanned) all
+pub not_parsed : (names : List (List ℕ)) (o : Options) (rest : Name) (ts : List PpToken) (tokens : List Token) (e : Refusal) → tokens_of names ts ≡ Ok tokens → Fails e (unit_read (limit_of sizes.Depth) tokens) → Fails e (typed names o rest ts)
+not_parsed names o rest ts tokens e scanned h =
+    let all : Fails e (unit_read (limit_of sizes.Depth) tokens >>= (λ tree. unit_in tree o rest)) = fails_on e (unit_read (limit_of sizes.Depth) tokens) (λ tree. unit_in tree o rest) h in
+    subst (λ (y : Result (List Token) Fault). Fails e (y >>= (λ tokens. unit_read (limit_of sizes.Depth) tokens >>= (λ tree. unit_in tree o rest)))) (sym scanned) all
 
-pub is_typed : {X : Type 0} (view : X → UnitTy) (names : List (List ℕ)) (o : Options) (ts : List PpToken) (tokens : List Token) (tree : UnitTree) (r : Result X Refusal)
-    → tokens_of names ts ≡ Ok tokens → unit_read 256 tokens ≡ Ok tree → Gives view r (unit_in tree o) → Gives view r (typed names o ts)
-is_typed view names o ts tokens tree r scanned parsed h =
-    let behind : Gives view r (unit_read 256 tokens >>= (λ tree. unit_in tree o)) = subst (λ (y : Result UnitTree Fault). Gives view r (y >>= (λ tree. unit_in tree o))) (sym parsed) h in
-    subst (λ (y : Result (List Token) Fault). Gives view r (y >>= (λ tokens. unit_read 256 tokens >>= (λ tree. unit_in tree o)))) (sym scanned) behind
+pub is_typed : {X : Type 0} (view : X → UnitTy) (names : List (List ℕ)) (o : Options) (rest : Name) (ts : List PpToken) (tokens : List Token) (tree : UnitTree) (r : Result X Refusal)
+    → tokens_of names ts ≡ Ok tokens → unit_read (limit_of sizes.Depth) tokens ≡ Ok tree → Gives view r (unit_in tree o rest) → Gives view r (typed names o rest ts)
+is_typed view names o rest ts tokens tree r scanned parsed h =
+    let behind : Gives view r (unit_read (limit_of sizes.Depth) tokens >>= (λ tree. unit_in tree o rest)) = subst (λ (y : Result UnitTree Fault). Gives view r (y >>= (λ tree. unit_in tree o rest))) (sym parsed) h in
+    subst (λ (y : Result (List Token) Fault). Gives view r (y >>= (λ tokens. unit_read (limit_of sizes.Depth) tokens >>= (λ tree. unit_in tree o rest)))) (sym scanned) behind
 
 -- a stage's refusal is one of the file, or want of memory
 in_file_stops : {A : Type 0} (paths : List (List ℕ)) (e r : Refusal) (y : Result A Fault) → Fails e y → Located paths e r → IsFree r ⊎ in_file paths y (Err r)
@@ -64,26 +67,36 @@ in_file_stops {A} paths e r y h located = absurd h
 in_file_goes : {A : Type 0} (paths : List (List ℕ)) (y : Result A Fault) (a : A) → y ≡ Ok a → in_file paths y (Ok a)
 in_file_goes {A} paths y a h = subst (λ (x : Result A Fault). in_file paths x (Ok a)) (sym h) refl
 
-pub file_stops : (c : Command) (path : List ℕ) (names : List (List ℕ)) (e : Refusal) → IsFree e ⊎ preprocessed c.held c.options c.defines c.folders path names (Err e) → IsFree e ⊎ file_typed c path names (Err e)
-file_stops c path names e h = stops (preprocessed c.held c.options c.defines c.folders path names) (λ x. in_file x.0.files (typed x.1 c.options x.0.tokens) then λ t. just (Ok (t, x.1))) e h
+pub file_stops : (c : Command) (rest : Name) (path : List ℕ) (names : List (List ℕ)) (e : Refusal) → IsFree e ⊎ preprocessed c.held c.options c.defines c.folders path names (Err e) → IsFree e ⊎ file_typed c rest path names (Err e)
+file_stops c rest path names e h = stops (preprocessed c.held c.options c.defines c.folders path names) (λ x. in_file x.0.files (typed x.1 c.options rest x.0.tokens) then λ t. just (Ok (t, x.1))) e h
 
-pub file_refused : (c : Command) (path : List ℕ) (names known : List (List ℕ)) (u : PpUnit) (e r : Refusal) → preprocessed c.held c.options c.defines c.folders path names (Ok (u, known)) → Fails e (typed known c.options u.tokens) → Located u.files e r → IsFree r ⊎ file_typed c path names (Err r)
-file_refused c path names known u e r before h located =
-    let here = in_file_stops u.files e r (typed known c.options u.tokens) h located in
-    goes_on {X = UnitTy × List (List ℕ)} (λ x. x) (preprocessed c.held c.options c.defines c.folders path names) (λ x. in_file x.0.files (typed x.1 c.options x.0.tokens) then λ t. just (Ok (t, x.1))) (u, known) (Err r) before
-    (stops (in_file u.files (typed known c.options u.tokens)) (λ t. just (Ok (t, known))) r here)
+pub file_refused : (c : Command) (rest : Name) (path : List ℕ) (names known : List (List ℕ)) (u : PpUnit) (e r : Refusal) → preprocessed c.held c.options c.defines c.folders path names (Ok (u, known)) → Fails e (typed known c.options rest u.tokens) → Located u.files e r → IsFree r ⊎ file_typed c rest path names (Err r)
+file_refused c rest path names known u e r before h located =
+    let here = in_file_stops u.files e r (typed known c.options rest u.tokens) h located in
+    goes_on {X = UnitTy × List (List ℕ)} (λ x. x) (preprocessed c.held c.options c.defines c.folders path names) (λ x. in_file x.0.files (typed x.1 c.options rest x.0.tokens) then λ t. just (Ok (t, x.1))) (u, known) (Err r) before
+    (stops (in_file u.files (typed known c.options rest u.tokens)) (λ t. just (Ok (t, known))) r here)
 
-pub file_comes : (c : Command) (path : List ℕ) (names known : List (List ℕ)) (u : PpUnit) (t : UnitTy) → preprocessed c.held c.options c.defines c.folders path names (Ok (u, known)) → typed known c.options u.tokens ≡ Ok t → file_typed c path names (Ok (t, known))
-file_comes c path names known u t before h = ((u, known), before, (t, in_file_goes u.files (typed known c.options u.tokens) t h, refl))
+pub file_comes : (c : Command) (rest : Name) (path : List ℕ) (names known : List (List ℕ)) (u : PpUnit) (t : UnitTy) → preprocessed c.held c.options c.defines c.folders path names (Ok (u, known)) → typed known c.options rest u.tokens ≡ Ok t → file_typed c rest path names (Ok (t, known))
+file_comes c rest path names known u t before h = ((u, known), before, (t, in_file_goes u.files (typed known c.options rest u.tokens) t h, refl))
 
 -- ---- all files
 
-pub files_stop : (c : Command) (path : List ℕ) (paths all : List (List ℕ)) (done : List UnitTy) (names : List (List ℕ)) (e : Refusal) → all ≡ path ∷ paths → IsFree e ⊎ file_typed c path names (Err e) → IsFree e ⊎ files_typed c all done names (Err e)
-files_stop c path paths all done names e is h = subst (λ (l : List (List ℕ)). IsFree e ⊎ files_typed c l done names (Err e)) (sym is) (stops (file_typed c path names) (λ x. files_typed c paths (done ++ x.0 ∷ []) x.1) e h)
+-- the first spelling that is known has the first name
+pub rest_is : (names : List (List ℕ)) (n : Name) → names ≡ with_spelling [] rest_spelling → name_of names rest_spelling ≡ Some n.0 → n ≡ rest_name
+rest_is names n table known =
+    let first : name_of (with_spelling [] rest_spelling) rest_spelling ≡ Some n.0 = subst (λ (l : List (List ℕ)). name_of l rest_spelling ≡ Some n.0) table known in
+    numbered n first
+  where
+    numbered : (n : Name) → Some 0 ≡ Some n.0 → n ≡ rest_name
+    numbered (record { 0 = zero }) h = refl
+    numbered (record { 0 = suc m }) h = absurd cc
 
-pub files_go : (c : Command) (path : List ℕ) (paths all : List (List ℕ)) (done : List UnitTy) (names known : List (List ℕ)) (t : UnitTy) (z : Result (List UnitTy × List (List ℕ)) Refusal)
-    → all ≡ path ∷ paths → file_typed c path names (Ok (t, known)) → files_typed c paths (done ++ t ∷ []) known z → files_typed c all done names z
-files_go c path paths all done names known t z is h rest = subst (λ (l : List (List ℕ)). files_typed c l done names z) (sym is) (goes (file_typed c path names) (λ x. files_typed c paths (done ++ x.0 ∷ []) x.1) (t, known) z h rest)
+pub files_stop : (c : Command) (rest : Name) (path : List ℕ) (paths all : List (List ℕ)) (done : List UnitTy) (names : List (List ℕ)) (e : Refusal) → all ≡ path ∷ paths → IsFree e ⊎ file_typed c rest path names (Err e) → IsFree e ⊎ files_typed c rest all done names (Err e)
+files_stop c rest path paths all done names e is h = subst (λ (l : List (List ℕ)). IsFree e ⊎ files_typed c rest l done names (Err e)) (sym is) (stops (file_typed c rest path names) (λ x. files_typed c rest paths (done ++ x.0 ∷ []) x.1) e h)
+
+pub files_go : (c : Command) (rest : Name) (path : List ℕ) (paths all : List (List ℕ)) (done : List UnitTy) (names known : List (List ℕ)) (t : UnitTy) (z : Result (List UnitTy × List (List ℕ)) Refusal)
+    → all ≡ path ∷ paths → file_typed c rest path names (Ok (t, known)) → files_typed c rest paths (done ++ t ∷ []) known z → files_typed c rest all done names z
+files_go c rest path paths all done names known t z is h more = subst (λ (l : List (List ℕ)). files_typed c rest l done names z) (sym is) (goes (file_typed c rest path names) (λ x. files_typed c rest paths (done ++ x.0 ∷ []) x.1) (t, known) z h more)
 
 pub one_unit_more : (units : List Parts) (unit : Parts) (more : List Parts) → more ≡ units ++ unit ∷ [] → map unit_of more ≡ map unit_of units ++ unit_of unit ∷ []
 one_unit_more units unit more h = ap (map unit_of) h ∙ map-append unit_of units (unit ∷ [])
@@ -122,21 +135,31 @@ passes P e r h memory = inl (subst IsFree (sym memory) tt)
 
 -- ---- the whole
 
-pub too_many : (c : Command) (paths : List (List ℕ)) → nat_lt 64 (length paths) ≡ true → compiled c paths (Err (refusals.TooLarge sizes.Units (length paths)))
-too_many c paths h = subst (λ (b : Bool). by_test b (just (Err (refusals.TooLarge sizes.Units (length paths)))) (files_typed c paths [] [] then λ x. linked c.options x.0 x.1) (Err (refusals.TooLarge sizes.Units (length paths)))) (sym h) refl
+pub begun_stops : (c : Command) (paths : List (List ℕ)) (n : Name) (names : List (List ℕ)) (e : Refusal) → n ≡ rest_name → names ≡ rest_spelling ∷ [] → IsFree e ⊎ files_typed c n paths [] names (Err e) → IsFree e ⊎ units_typed c paths (Err e)
+begun_stops c paths n names e name known h =
+    subst (λ (m : Name). IsFree e ⊎ files_typed c m paths [] (rest_spelling ∷ []) (Err e)) name
+    (subst (λ (l : List (List ℕ)). IsFree e ⊎ files_typed c n paths [] l (Err e)) known h)
 
-few : (c : Command) (paths : List (List ℕ)) (z : Result Code Refusal) → length paths ≤ 64 → (files_typed c paths [] [] then λ x. linked c.options x.0 x.1) z → compiled c paths z
-few c paths z h = subst (λ (b : Bool). (files_typed c paths [] [] then λ x. linked c.options x.0 x.1) z → by_test b (just (Err (refusals.TooLarge sizes.Units (length paths)))) (files_typed c paths [] [] then λ x. linked c.options x.0 x.1) z) (sym (le-ltb 64 (length paths) h)) (λ x. x)
+pub begun_goes : (c : Command) (paths : List (List ℕ)) (n : Name) (names : List (List ℕ)) (z : List UnitTy × List (List ℕ)) → n ≡ rest_name → names ≡ rest_spelling ∷ [] → files_typed c n paths [] names (Ok z) → units_typed c paths (Ok z)
+begun_goes c paths n names z name known h =
+    subst (λ (m : Name). files_typed c m paths [] (rest_spelling ∷ []) (Ok z)) name
+    (subst (λ (l : List (List ℕ)). files_typed c n paths [] l (Ok z)) known h)
 
-few_err : (c : Command) (paths : List (List ℕ)) (e : Refusal) → length paths ≤ 64 → IsFree e ⊎ (files_typed c paths [] [] then λ x. linked c.options x.0 x.1) (Err e) → IsFree e ⊎ compiled c paths (Err e)
+pub too_many : (c : Command) (paths : List (List ℕ)) → nat_lt (limit_of sizes.Units) (length paths) ≡ true → compiled c paths (Err (refusals.TooLarge sizes.Units (length paths)))
+too_many c paths h = subst (λ (b : Bool). by_test b (just (Err (refusals.TooLarge sizes.Units (length paths)))) (units_typed c paths then λ x. linked c.options x.0 x.1) (Err (refusals.TooLarge sizes.Units (length paths)))) (sym h) refl
+
+few : (c : Command) (paths : List (List ℕ)) (z : Result Code Refusal) → length paths ≤ limit_of sizes.Units → (units_typed c paths then λ x. linked c.options x.0 x.1) z → compiled c paths z
+few c paths z h = subst (λ (b : Bool). (units_typed c paths then λ x. linked c.options x.0 x.1) z → by_test b (just (Err (refusals.TooLarge sizes.Units (length paths)))) (units_typed c paths then λ x. linked c.options x.0 x.1) z) (sym (le-ltb (limit_of sizes.Units) (length paths) h)) (λ x. x)
+
+few_err : (c : Command) (paths : List (List ℕ)) (e : Refusal) → length paths ≤ limit_of sizes.Units → IsFree e ⊎ (units_typed c paths then λ x. linked c.options x.0 x.1) (Err e) → IsFree e ⊎ compiled c paths (Err e)
 few_err c paths e h (inl free) = inl free
 few_err c paths e h (inr stops) = inr (few c paths (Err e) h stops)
 
-pub not_typed : (c : Command) (paths : List (List ℕ)) (e : Refusal) → length paths ≤ 64 → IsFree e ⊎ files_typed c paths [] [] (Err e) → IsFree e ⊎ compiled c paths (Err e)
-not_typed c paths e h stopped = few_err c paths e h (stops (files_typed c paths [] []) (λ x. linked c.options x.0 x.1) e stopped)
+pub not_typed : (c : Command) (paths : List (List ℕ)) (e : Refusal) → length paths ≤ limit_of sizes.Units → IsFree e ⊎ units_typed c paths (Err e) → IsFree e ⊎ compiled c paths (Err e)
+not_typed c paths e h stopped = few_err c paths e h (stops (units_typed c paths) (λ x. linked c.options x.0 x.1) e stopped)
 
-pub not_linked : (c : Command) (paths : List (List ℕ)) (units : List UnitTy) (names : List (List ℕ)) (e r : Refusal) → length paths ≤ 64 → files_typed c paths [] [] (Ok (units, names)) → IsFree e ⊎ linked c.options units names (Err e) → Passed e r → IsFree r ⊎ compiled c paths (Err r)
-not_linked c paths units names e r h before stopped passed = few_err c paths r h (goes_on {X = Code} (λ x. x) (files_typed c paths [] []) (λ x. linked c.options x.0 x.1) (units, names) (Err r) before (passes (linked c.options units names) e r stopped passed))
+pub not_linked : (c : Command) (paths : List (List ℕ)) (units : List UnitTy) (names : List (List ℕ)) (e r : Refusal) → length paths ≤ limit_of sizes.Units → units_typed c paths (Ok (units, names)) → IsFree e ⊎ linked c.options units names (Err e) → Passed e r → IsFree r ⊎ compiled c paths (Err r)
+not_linked c paths units names e r h before stopped passed = few_err c paths r h (goes_on {X = Code} (λ x. x) (units_typed c paths) (λ x. linked c.options x.0 x.1) (units, names) (Err r) before (passes (linked c.options units names) e r stopped passed))
 
-pub is_compiled : (c : Command) (paths : List (List ℕ)) (units : List UnitTy) (names : List (List ℕ)) (code : Code) → length paths ≤ 64 → files_typed c paths [] [] (Ok (units, names)) → linked c.options units names (Ok code) → compiled c paths (Ok code)
+pub is_compiled : (c : Command) (paths : List (List ℕ)) (units : List UnitTy) (names : List (List ℕ)) (code : Code) → length paths ≤ limit_of sizes.Units → units_typed c paths (Ok (units, names)) → linked c.options units names (Ok code) → compiled c paths (Ok code)
 is_compiled c paths units names code h before is = few c paths (Ok code) h ((units, names), before, is)

@@ -4,6 +4,7 @@ use Rattle.c65_base.specs.declared.refusal.Refusal.{Refusal}
 use Rattle.c65_base.specs.declared.refusal.Refusal.TheVariants.{OutOfMemory, Missing, ReadFault, Source, TooLarge, Link}
 use Rattle.c65_base.specs.declared.refusal.Size.{Size}
 use Rattle.c65_base.specs.declared.refusal.Size.TheVariants as sizes
+use Rattle.c65_base.specs.Limits.{limit_of}
 use Rattle.c65_ppline.specs.Causes.{IsUnitLimit, StopsUnit}
 use Rattle.c65_ppfile.specs.Counts.{FaultCause, MissCause, LooksAtNoFile}
 use Rattle.c65_io.specs.Causes.{Rose}
@@ -41,7 +42,7 @@ pub units_stop : (r : Refusal) → StopsUnits r → StopsChain r
 units_stop (TooLarge sizes.Units value) stops = stops.1
 units_stop r stops = stops
 
-pub units_few : (count : ℕ) (r : Refusal) → count ≤ 64 → StopsUnits r → UnitsLimit {T = ℕ} count (Err r)
+pub units_few : (count : ℕ) (r : Refusal) → count ≤ limit_of sizes.Units → StopsUnits r → UnitsLimit {T = ℕ} count (Err r)
 units_few count OutOfMemory few stops = tt
 units_few count (TooLarge sizes.Units value) few stops = absurd (let both : true ≡ false = stops.0 in cc)
 units_few count r few stops = few

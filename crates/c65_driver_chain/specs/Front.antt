@@ -1,8 +1,8 @@
 -- What told files are together: the code of their program, or the first refusal in the order of the stages
 -- (C90 5.1.1.2, phases 1 to 8).
-use Rattle.std.specs.Prelude.{◌≡◌, ◌⊎◌, ℕ, List, [], ◌∷◌, ◌++◌, length, nat_lt, Result, Ok, Err}
+use Rattle.std.specs.Prelude.{◌≡◌, ◌⊎◌, ℕ, List, [], ◌∷◌, ◌++◌, length, nat_lt, codes, Result, Ok, Err}
 use Rattle.c65_base.specs.Limits.{limit_of}
-use Rattle.c65_base.specs.declared.refusal.Size.TheVariants.{Depth}
+use Rattle.c65_base.specs.declared.names.Name.{Name}
 use Rattle.c65_base.specs.declared.options.Options.{Options}
 use Rattle.c65_base.specs.declared.refusal.Refusal.{Refusal}
 use Rattle.c65_base.specs.declared.refusal.Refusal.TheVariants as refusals
@@ -30,12 +30,19 @@ use Rattle.c65_genstmt.specs.Programs.{program_of}
 
 -- ---- one file
 
--- the typed parts of a unit's tokens, whose spellings are in this table
-abbrev pub typed : List (List ℕ) → Options → List PpToken → Result UnitTy Fault
-typed names o ts = do
+-- the spelling that stands for the further arguments of a function, and its name: it is known before all files
+abbrev pub rest_spelling : List ℕ
+rest_spelling = codes "__va_rest"
+
+abbrev pub rest_name : Name
+rest_name = record { 0 = 0 }
+
+-- the typed parts of a unit's tokens, whose spellings are in this table, and in which a name stands for further arguments
+abbrev pub typed : List (List ℕ) → Options → Name → List PpToken → Result UnitTy Fault
+typed names o rest ts = do
   tokens ← tokens_of names ts
-  tree ← unit_read (limit_of Depth) tokens
-  unit_in tree o
+  tree ← unit_read (limit_of sizes.Depth) tokens
+  unit_in tree o rest
 
 -- a fault has the path of its file in the place of the number
 abbrev pub in_file : {A : Type 0} → List (List ℕ) → Result A Fault → Answers A
@@ -54,15 +61,19 @@ abbrev pub command : Held → Options → List Define → List (List ℕ) → Co
 command held options defines folders = record { held = held; options = options; defines = defines; folders = folders }
 
 -- the typed parts of a file, and the spellings that are known behind it
-abbrev pub file_typed : Command → List ℕ → List (List ℕ) → Answers (UnitTy × List (List ℕ))
-file_typed c path names = preprocessed c.held c.options c.defines c.folders path names then λ x. in_file x.0.files (typed x.1 c.options x.0.tokens) then λ u. just (Ok (u, x.1))
+abbrev pub file_typed : Command → Name → List ℕ → List (List ℕ) → Answers (UnitTy × List (List ℕ))
+file_typed c rest path names = preprocessed c.held c.options c.defines c.folders path names then λ x. in_file x.0.files (typed x.1 c.options rest x.0.tokens) then λ u. just (Ok (u, x.1))
 
 -- ---- all files
 
 -- behind these parts, those of more files, each in its turn
-abbrev pub files_typed : Command → List (List ℕ) → List UnitTy → List (List ℕ) → Answers (List UnitTy × List (List ℕ))
-files_typed c [] done names = just (Ok (done, names))
-files_typed c (path ∷ paths) done names = file_typed c path names then λ x. files_typed c paths (done ++ x.0 ∷ []) x.1
+abbrev pub files_typed : Command → Name → List (List ℕ) → List UnitTy → List (List ℕ) → Answers (List UnitTy × List (List ℕ))
+files_typed c rest [] done names = just (Ok (done, names))
+files_typed c rest (path ∷ paths) done names = file_typed c rest path names then λ x. files_typed c rest paths (done ++ x.0 ∷ []) x.1
+
+-- those of all files
+abbrev pub units_typed : Command → List (List ℕ) → Answers (List UnitTy × List (List ℕ))
+units_typed c paths = files_typed c rest_name paths [] (rest_spelling ∷ [])
 
 -- a fault of joining, at a name
 abbrev pub joining : {A : Type 0} → Result A JoinFault → Answers A
@@ -82,9 +93,9 @@ generated o names p z = (parts : Parts) × (unit_of parts ≡ p.0) × IsGood nam
 abbrev pub linked : Options → List UnitTy → List (List ℕ) → Answers Code
 linked o units names = joining (joined names units) then generated o names
 
--- at most 64 files are compiled
+-- no more files are compiled than the limit
 abbrev pub compiled : Command → List (List ℕ) → Answers Code
-compiled c paths = by_test (nat_lt 64 (length paths)) (just (Err (refusals.TooLarge sizes.Units (length paths)))) (files_typed c paths [] [] then λ x. linked c.options x.0 x.1)
+compiled c paths = by_test (nat_lt (limit_of sizes.Units) (length paths)) (just (Err (refusals.TooLarge sizes.Units (length paths)))) (units_typed c paths then λ x. linked c.options x.0 x.1)
 
 -- ---- refusals of one stage, seen from outside
 

@@ -32,11 +32,11 @@ StopsUnits refusal = StopsLater refusal
 
 -- that, or too many files
 abbrev pub StopsChain : Refusal → Type 0
-StopsChain (refusals.TooLarge sizes.Units value) = 64 < value
+StopsChain (refusals.TooLarge sizes.Units value) = limit_of sizes.Units < value
 StopsChain refusal = StopsUnits refusal
 
--- Units exactly where there are more than 64 files; want of memory may come first
+-- Units exactly where there are more files than the limit; want of memory may come first
 abbrev pub UnitsLimit : {T : Type 0} → ℕ → Result T Refusal → Type 0
 UnitsLimit count (Err refusals.OutOfMemory) = ⊤
-UnitsLimit count (Err (refusals.TooLarge sizes.Units value)) = (64 < count) × (value ≡ count)
-UnitsLimit count result = count ≤ 64
+UnitsLimit count (Err (refusals.TooLarge sizes.Units value)) = (limit_of sizes.Units < count) × (value ≡ count)
+UnitsLimit count result = count ≤ limit_of sizes.Units

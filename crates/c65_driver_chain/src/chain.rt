@@ -1,16 +1,16 @@
 // From files to the code of their program.
-ghost use Rattle.std.specs.Prelude.{◌≡◌, [], map, Some, IfErr, length};
+ghost use Rattle.std.specs.Prelude.{◌≡◌, [], ◌∷◌, map, Some, IfOk, IfErr, length};
 ghost use Rattle.c65_csem.specs.Views.{unit_of};
 ghost use Rattle.c65_ppfile.specs.Counts.{FaultCause, MissCause};
 ghost use Rattle.c65_ppline.specs.Relations.{Comes};
 ghost use Rattle.c65_ppdir.specs.Units.{Held};
 ghost use Rattle.c65_driver_chain.specs.Refused.{StopsChain, StopsLater, UnitsLimit};
 ghost use Rattle.c65_driver_chain.specs.Compiled.{Compiles, outside};
-ghost use Rattle.c65_driver_chain.specs.Front.{command, files_typed, linked, compiled};
+ghost use Rattle.c65_driver_chain.specs.Front.{rest_spelling, rest_name, command, files_typed, linked, compiled};
 
 use crate::refused::joined;
 use crate::unit::typed_unit;
-use c65_base::{Names, Options, Refusal, Size, Text};
+use c65_base::{Name, Names, Options, Refusal, Size, Text};
 use c65_code::Code;
 use c65_csem::TUnit;
 use c65_csem_names::is_scoped;
@@ -21,7 +21,21 @@ use c65_io::Files;
 use c65_ppdir::Define;
 use std::alloc::Global;
 
-/// The typed parts of the units, in the order of their files.
+/// The files that may be compiled together.
+const UNITS: usize = 64;
+
+/// The names that are known before all files: the one that stands for further arguments.
+#[tactic(auto, using(crate::proofs::Answering::rest_is))]
+fn first_names(alloc: Global) -> Result<(Name, Names), Refusal>
+    ensures name { IfOk result (λ x. x.0 ≡ rest_name) }
+    ensures names { IfOk result (λ x. x.1 ≡ rest_spelling ∷ []) }
+{
+    let mut names = Names::new(alloc);
+    let rest = names.intern(b"__va_rest")?;
+    Ok((rest, names))
+}
+
+/// The typed parts of the units, in the order of their files; in each `rest` stands for further arguments.
 #[tactic(auto, using(crate::proofs::ChainLaws::compiles_then, crate::proofs::ChainLaws::compiles_of))]
 fn typed_units<F: Files>(
     alloc: Global,
@@ -30,15 +44,16 @@ fn typed_units<F: Files>(
     defines: &[Define],
     folders: &[Text],
     paths: &[Text],
+    rest: Name,
     names: &mut Names,
 ) -> Result<Vec<TUnit>, Refusal>
     ensures compiles { Compiles folders.now (outside (F.contents files.old) (F.write_faults files.old) (F.faults files.old) (F.misses files.old))
         (outside (F.contents files.new) (F.write_faults files.new) (F.faults files.new) (F.misses files.new)) result }
-    ensures exact { (held : Held) → F.contents files.old ≡ Some held → Comes (λ units. (map unit_of units.items, names.new)) (files_typed (command held options.now defines.now folders.now) paths.now [] names.old) result }
+    ensures exact { (held : Held) → F.contents files.old ≡ Some held → Comes (λ units. (map unit_of units.items, names.new)) (files_typed (command held options.now defines.now folders.now) rest paths.now [] names.old) result }
 {
     let mut units = Vec::new(alloc);
     for path in paths {
-        let unit = match typed_unit(alloc, files, options, defines, folders, path, names) {
+        let unit = match typed_unit(alloc, files, options, defines, folders, path, rest, names) {
             Ok(unit) => unit,
             Err(refusal) => return Err(refusal),
         };
@@ -75,7 +90,7 @@ fn code_of(
 /// The code of the program that files are. The definitions stand before each file's first line; headers are sought in the
 /// folders.
 ///
-/// More than 64 files are refused at once. Each file is then done in its order: preprocessing, scanning, parsing and typing,
+/// More files than the limit are refused at once. Each file is then done in its order: preprocessing, scanning, parsing and typing,
 /// each to its end or its first fault. Then come joining and generation.
 #[tactic(auto, using(crate::proofs::ChainLaws::units_stop, crate::proofs::ChainLaws::units_few, crate::proofs::ChainLaws::later_stops, crate::proofs::ChainLaws::fault_later, crate::proofs::ChainLaws::miss_later))]
 pub fn compile<F: Files>(
@@ -94,14 +109,18 @@ pub fn compile<F: Files>(
     ensures writes { F.write_faults files.new ≡ F.write_faults files.old }
     ensures exact { (held : Held) → F.contents files.old ≡ Some held → Comes (λ c. c) (compiled (command held options.now defines.now folders.now) paths.now) result }
 {
-    if paths.len() > 64 {
+    if paths.len() > UNITS {
         return Err(Refusal::TooLarge {
             limit: Size::Units,
             value: paths.len() as u64,
         });
     }
-    let mut names = Names::new(alloc);
-    let units = match typed_units(alloc, files, options, defines, folders, paths, &mut names) {
+    let Ok((rest, mut names)) = first_names(alloc) else {
+        return Err(Refusal::OutOfMemory);
+    };
+    let units = match typed_units(
+        alloc, files, options, defines, folders, paths, rest, &mut names,
+    ) {
         Ok(units) => units,
         Err(refusal) => return Err(refusal),
     };

@@ -9,6 +9,7 @@ use Rattle.c65_base.specs.declared.refusal.Refusal.TheVariants as refusals
 use Rattle.c65_base.specs.declared.refusal.Size.{Size}
 use Rattle.c65_base.specs.declared.refusal.Size.TheVariants as sizes
 use Rattle.c65_base.specs.declared.refusal.LinkKind.TheVariants as linkkinds
+use Rattle.c65_base.specs.Limits.{limit_of}
 use Rattle.c65_base.specs.Answers.{at, large, Fails}
 use Rattle.c65_io.specs.Causes.{Rose}
 use Rattle.c65_mach.specs.declared.image.Image.{Image}
@@ -35,7 +36,7 @@ use Rattle.c65_genframe.specs.Modes.{modes_of}
 use Rattle.c65_genstmt.specs.Programs.{program_of}
 use Rattle.c65_init_join.specs.Joined.{joined}
 use Rattle.c65_meaning.specs.Program.{ProgramTy}
-use Rattle.c65_driver_chain.specs.Front.{Command, files_typed, joining, generated, compiled}
+use Rattle.c65_driver_chain.specs.Front.{Command, units_typed, joining, generated, compiled}
 use Rattle.c65_driver_chain.specs.Front as chain
 use Rattle.c65_driver_words.specs.Commands.{Spelled}
 use Rattle.c65_driver.specs.Compiled.{IsLinked, IsOfFront, ReadsAs, front}
@@ -51,7 +52,7 @@ use Rattle.c65_headline.proofs.Frames.{only_frames_are_refused}
 use Rattle.c65_headline.proofs.ReadBack.{codes_read_back}
 use Rattle.c65_headline.proofs.Codes.{two_moments, rewritten_if}
 use Rattle.c65_headline.proofs.Agreement.{image_agrees}
-use Rattle.c65_headline.proofs.Uniqueness.{is_value, no_value, one_files, one_program, one_joining}
+use Rattle.c65_headline.proofs.Uniqueness.{is_value, no_value, one_units, one_program, one_joining}
 
 -- ---- refusals behind the front
 
@@ -92,7 +93,7 @@ late_by false r P o e q names one (x, h, (p, j, k)) (inr (y, i, l)) =
     ]
 
 pub late : UnitsAreOne → (c : Command) (paths : List (List ℕ)) (e : Refusal) (q : UnitTy × ℕ) (names : List (List ℕ)) → programs c paths (Ok (q, names)) → compiled c paths (Err e) → IsFree e ⊎ generated c.options names q (Err e)
-late units c paths e q names f g = late_by (nat_lt 64 (length paths)) (refusals.TooLarge sizes.Units (length paths)) (files_typed c paths [] []) c.options e q names (one_files units c paths [] []) f g
+late units c paths e q names f g = late_by (nat_lt (limit_of sizes.Units) (length paths)) (refusals.TooLarge sizes.Units (length paths)) (units_typed c paths) c.options e q names (one_units units c paths) f g
 
 -- ---- why there is no image
 

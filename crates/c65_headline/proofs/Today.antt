@@ -6,6 +6,7 @@ use Rattle.c65_base.specs.declared.options.Options.{Options}
 use Rattle.c65_base.specs.declared.refusal.Refusal.{Refusal}
 use Rattle.c65_base.specs.declared.refusal.Refusal.TheVariants as refusals
 use Rattle.c65_base.specs.declared.refusal.Size.TheVariants as sizes
+use Rattle.c65_base.specs.Limits.{limit_of}
 use Rattle.c65_mach.specs.declared.image.Image.{Image}
 use Rattle.c65_code.specs.declared.code.Code.{Code}
 use Rattle.c65_asm.specs.Text.{text_of}
@@ -18,7 +19,7 @@ use Rattle.c65_init_join.specs.Joined.{joined}
 use Rattle.c65_ppline.specs.Relations.{Answers, just, by_test, ◌then◌}
 use Rattle.c65_ppdir.specs.Units.{Held}
 use Rattle.c65_ppdir_law.specs.Once.{UnitsAreOne}
-use Rattle.c65_driver_chain.specs.Front.{Command, IsGood, files_typed, joining, generated, compiled}
+use Rattle.c65_driver_chain.specs.Front.{Command, IsGood, units_typed, joining, generated, compiled}
 use Rattle.c65_driver_chain.specs.Front as chain
 use Rattle.c65_driver_words.specs.Commands.{Spelled}
 use Rattle.c65_driver_words.specs.Words.{Spelling, Is, NoCommand, spelling_of}
@@ -67,7 +68,7 @@ made_of : (held : Held) (command : Spelled) (code : Code) → command.options.op
     → (c : Code) × front held command (Ok c) × ReadsAs (text_of c) code → IsMadeOf held command code
 made_of held command code off (c, h, r) =
     let s : Stems command.options (programs (command_of held command) command.files) c =
-    stems_by (nat_lt 64 (length command.files)) (refusals.TooLarge sizes.Units (length command.files)) (files_typed (command_of held command) command.files [] []) command.options c h in
+    stems_by (nat_lt (limit_of sizes.Units) (length command.files)) (refusals.TooLarge sizes.Units (length command.files)) (units_typed (command_of held command) command.files) command.options c h in
     record {
       parts = s.parts;
       main = s.main;

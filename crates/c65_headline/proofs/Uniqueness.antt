@@ -1,7 +1,10 @@
 -- Told files are one program at most.
 use Rattle.std.proofs.Common.{◌≡◌, ◌∙◌, ℕ, Bool, true, false, List, [], ◌∷◌, ◌++◌, Result, Ok, Err, inl, inr, ap, sym, subst}
 use Rattle.std.specs.Prelude.{length, nat_lt}
+use Rattle.c65_base.specs.declared.names.Name.{Name}
 use Rattle.c65_base.specs.declared.refusal.Refusal.{Refusal}
+use Rattle.c65_base.specs.declared.refusal.Size.TheVariants as sizes
+use Rattle.c65_base.specs.Limits.{limit_of}
 use Rattle.c65_base.specs.Answers.{Fault, at, large}
 use Rattle.c65_ppline.specs.Relations.{Answers, just, by_test, ◌then◌}
 use Rattle.c65_ppdir.specs.Units.{preprocessed}
@@ -9,7 +12,7 @@ use Rattle.c65_ppdir_law.specs.Once.{HasOne, UnitsAreOne}
 use Rattle.c65_csem.specs.Trees.{UnitTy}
 use Rattle.c65_init_join.specs.Answers.{JoinFault}
 use Rattle.c65_init_join.specs.Joined.{joined}
-use Rattle.c65_driver_chain.specs.Front.{Command, in_file, typed, file_typed, files_typed, joining}
+use Rattle.c65_driver_chain.specs.Front.{Command, in_file, typed, file_typed, files_typed, units_typed, rest_name, rest_spelling, joining}
 use Rattle.c65_headline.specs.Fronts.{programs}
 
 pub is_value : {A E : Type 0} (a b : A) → (let x : Result A E = Ok a in x ≡ Ok b) → a ≡ b
@@ -52,14 +55,17 @@ one_joining (Ok x) = one_just (Ok x)
 one_joining (Err f) = one_just _
 
 module _ (units : UnitsAreOne) where
-  one_file : (c : Command) (path : List ℕ) (names : List (List ℕ)) → HasOne (file_typed c path names)
-  one_file c path names = one_then (preprocessed c.held c.options c.defines c.folders path names) _ (units c.held c.options c.defines c.folders path names)
-      (λ x. one_then (in_file x.0.files (typed x.1 c.options x.0.tokens)) _ (one_in_file x.0.files (typed x.1 c.options x.0.tokens)) (λ u. one_just (Ok (u, x.1))))
+  one_file : (c : Command) (rest : Name) (path : List ℕ) (names : List (List ℕ)) → HasOne (file_typed c rest path names)
+  one_file c rest path names = one_then (preprocessed c.held c.options c.defines c.folders path names) _ (units c.held c.options c.defines c.folders path names)
+      (λ x. one_then (in_file x.0.files (typed x.1 c.options rest x.0.tokens)) _ (one_in_file x.0.files (typed x.1 c.options rest x.0.tokens)) (λ u. one_just (Ok (u, x.1))))
 
-  pub one_files : (c : Command) (paths : List (List ℕ)) (done : List UnitTy) (names : List (List ℕ)) → HasOne (files_typed c paths done names)
-  one_files c [] done names = one_just (Ok (done, names))
-  one_files c (path ∷ paths) done names = one_then (file_typed c path names) _ (one_file c path names) (λ x. one_files c paths (done ++ x.0 ∷ []) x.1)
+  one_files : (c : Command) (rest : Name) (paths : List (List ℕ)) (done : List UnitTy) (names : List (List ℕ)) → HasOne (files_typed c rest paths done names)
+  one_files c rest [] done names = one_just (Ok (done, names))
+  one_files c rest (path ∷ paths) done names = one_then (file_typed c rest path names) _ (one_file c rest path names) (λ x. one_files c rest paths (done ++ x.0 ∷ []) x.1)
+
+  pub one_units : (c : Command) (paths : List (List ℕ)) → HasOne (units_typed c paths)
+  one_units c paths = one_files c rest_name paths [] (rest_spelling ∷ [])
 
   pub one_program : (c : Command) (paths : List (List ℕ)) → HasOne (programs c paths)
-  one_program c paths = one_test (nat_lt 64 (length paths)) _ _ (one_just _)
-      (one_then (files_typed c paths [] []) _ (one_files c paths [] []) (λ x. one_then (joining (joined x.1 x.0)) _ (one_joining (joined x.1 x.0)) (λ p. one_just (Ok (p, x.1)))))
+  one_program c paths = one_test (nat_lt (limit_of sizes.Units) (length paths)) _ _ (one_just _)
+      (one_then (units_typed c paths) _ (one_units c paths) (λ x. one_then (joining (joined x.1 x.0)) _ (one_joining (joined x.1 x.0)) (λ p. one_just (Ok (p, x.1)))))

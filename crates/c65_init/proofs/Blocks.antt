@@ -1,5 +1,5 @@
 -- Statements of a block, one by one.
-use Rattle.std.proofs.Common.{◌≡◌, ◌∙◌, ℕ, ◌+◌, ◌<◌, List, [], ◌∷◌, ◌++◌, length, map, take, get_or, Vec, Global, refl, sym, ap, Ok}
+use Rattle.std.proofs.Common.{◌≡◌, ◌∙◌, ℕ, ◌+◌, ◌<◌, List, [], ◌∷◌, ◌++◌, length, map, take, get_or, Vec, Global, false, refl, sym, ap, Ok}
 use Rattle.std.specs.Prelude.{Result}
 use Rattle.c65_base.specs.declared.refusal.Pos.{Pos}
 use Rattle.c65_base.specs.declared.refusal.Refusal.{Refusal}
@@ -7,7 +7,7 @@ use Rattle.c65_base.specs.Answers.{Fault, Fails, ◌>>=◌}
 use Rattle.c65_csem.specs.declared.stmt.TStmt.{TStmt}
 use Rattle.c65_csem.specs.Trees as n
 use Rattle.c65_csem.specs.Views.{stmt_of, stmts_of}
-use Rattle.c65_elab_scope.specs.Scopes.{ScopeTy, opened, closed}
+use Rattle.c65_elab_scope.specs.Scopes.{ScopeTy, variadic_in, opened, closed}
 use Rattle.c65_tree.specs.declared.stmt.Decl.{Decl}
 use Rattle.c65_tree.specs.declared.stmt.Stmt.{Stmt}
 use Rattle.c65_tree.specs.declared.stmt.StmtKind.TheVariants as k
@@ -46,8 +46,8 @@ closes ds ss k u =
     (λ l. regrouped (statements_of ss l.0.stmts k l.1) (begun_in l.0.objects) closing (closed_in l.0.objects) (λ xs. refl)))
 
 -- C90 6.6.2
-pub block_is : (l : Pos) (ds : Vec Decl Global) (bs : Vec Stmt Global) (j : BodyTy) (s : ScopeTy) → statement_of (v.stmt_at l (k.Block ds bs)) j s ≡ (opened s >>= (λ u. block_in (map v.decl_of ds.items) (v.stmts_from t.no_stmts bs.items) j u >>= closing))
-block_is l ds bs j s = ap (λ (b : t.StmtTree). statement_of b j s) (block_view l ds bs) ∙ closes (map v.decl_of ds.items) (v.stmts_from t.no_stmts bs.items) j (record s { block = s.block + 1 })
+pub block_is : (l : Pos) (ds : Vec Decl Global) (bs : Vec Stmt Global) (j : BodyTy) (s : ScopeTy) → statement_of (v.stmt_at l (k.Block ds bs)) j s ≡ (opened false s >>= (λ u. block_in (map v.decl_of ds.items) (v.stmts_from t.no_stmts bs.items) j u >>= closing))
+block_is l ds bs j s = ap (λ (b : t.StmtTree). statement_of b j s) (block_view l ds bs) ∙ closes (map v.decl_of ds.items) (v.stmts_from t.no_stmts bs.items) j (record s { block = s.block + 1; variadic = variadic_in false (s.block + 1) s.variadic })
 
 -- the body of a function (C90 6.7.1)
 pub body_is : (l : Pos) (ds : Vec Decl Global) (bs : Vec Stmt Global) (j : BodyTy) (s : ScopeTy) → body_in (v.stmt_at l (k.Block ds bs)) j s ≡ block_in (map v.decl_of ds.items) (v.stmts_from t.no_stmts bs.items) j s

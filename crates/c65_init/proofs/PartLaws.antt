@@ -55,11 +55,11 @@ func_untyped [] i g h = refl
 func_untyped (x ∷ fs) zero g h = absurd (omega arith)
 func_untyped (x ∷ fs) (suc i) g h = ap (λ (ys : List FuncTy). func_of x ∷ ys) (func_untyped fs i g (omega arith))
 
-pub object_fixed : (os : List TObject) (i : ℕ) (honoured : Bool) (o : TObject) (d : Class) → o ≡ get_or os i o → d ≡ fixed_class honoured o.class → map object_of (set os i (record { name = o.name; ty = o.ty; class = d; init = o.init })) ≡ fixed_at honoured (map object_of os) i
+pub object_fixed : (os : List TObject) (i : ℕ) (honoured : Bool) (o : TObject) (d : Class) → o ≡ get_or os i o → d ≡ fixed_class honoured o.name o.class → map object_of (set os i (record { name = o.name; ty = o.ty; class = d; init = o.init })) ≡ fixed_at honoured (map object_of os) i
 object_fixed [] i honoured o d is so = refl
 object_fixed (x ∷ os) zero honoured o d is so =
     ap (λ (k : Class). object_of (record { name = o.name; ty = o.ty; class = k; init = o.init }) ∷ map object_of os) so
-    ∙ ap (λ (y : TObject). object_of (record { name = y.name; ty = y.ty; class = fixed_class honoured y.class; init = y.init }) ∷ map object_of os) is
+    ∙ ap (λ (y : TObject). object_of (record { name = y.name; ty = y.ty; class = fixed_class honoured y.name y.class; init = y.init }) ∷ map object_of os) is
 object_fixed (x ∷ os) (suc i) honoured o d is so = ap (λ (ys : List ObjectTy). object_of x ∷ ys) (object_fixed os i honoured o d is so)
 
 pub object_not_fixed : (os : List TObject) (i : ℕ) (honoured : Bool) → length os ≤ i → fixed_at honoured (map object_of os) i ≡ map object_of os

@@ -1,6 +1,7 @@
 -- Static locals: each object of a block gets one place for the whole run, except one marked `register` where that is
--- honoured. Parameters keep their places in the frame.
-use Rattle.std.specs.Prelude.{ℕ, zero, suc, List, [], ◌∷◌, length, replicate, slice_set, Bool, true, false, if◌then◌else◌}
+-- honoured. Parameters, and what calls give, keep their places in the frame.
+use Rattle.std.specs.Prelude.{ℕ, zero, suc, List, [], ◌∷◌, length, replicate, slice_set, Bool, true, false, Option, Some, None, if◌then◌else◌}
+use Rattle.c65_base.specs.declared.names.Name.{Name}
 use Rattle.c65_base.specs.declared.options.Options.{Options}
 use Rattle.c65_csem.specs.declared.items.Class.{Class}
 use Rattle.c65_csem.specs.declared.items.Class.TheVariants.{Auto, Register, Fixed}
@@ -22,15 +23,16 @@ parameters_marked marks (f ∷ fs) = parameters_marked (marked marks f.params) f
 abbrev pub parameter_marks : UnitTy → List Bool
 parameter_marks u = parameters_marked (replicate (length u.objects) false) u.funcs
 
--- the class that an object gets that is no parameter
-abbrev pub fixed_class : Bool → Class → Class
-fixed_class honoured Auto = Fixed
-fixed_class honoured Register = if honoured then Register else Fixed
-fixed_class honoured class = class
+-- the class that an object gets that is no parameter; one without a name keeps its own
+abbrev pub fixed_class : Bool → Option Name → Class → Class
+fixed_class honoured None class = class
+fixed_class honoured (Some n) Auto = Fixed
+fixed_class honoured (Some n) Register = if honoured then Register else Fixed
+fixed_class honoured (Some n) class = class
 
 abbrev pub fixed_at : Bool → List ObjectTy → ℕ → List ObjectTy
 fixed_at honoured [] i = []
-fixed_at honoured (o ∷ os) zero = record o { class = fixed_class honoured o.class } ∷ os
+fixed_at honoured (o ∷ os) zero = record o { class = fixed_class honoured o.name o.class } ∷ os
 fixed_at honoured (o ∷ os) (suc i) = o ∷ fixed_at honoured os i
 
 -- the first of these marks is that of the object with number i

@@ -1,6 +1,6 @@
 -- The parameters of a function definition, by a prototype or in the old style (C90 6.7.1).
 use Rattle.std.specs.Prelude.{ℕ, ◌+◌, ◌==◌, List, [], ◌∷◌, ◌++◌, map, set, slice_get, Bool, true, false, Option, Some, None, is_some, option_map, Result, Ok, Err, if◌then◌else◌}
-use Rattle.c65_base.specs.declared.code.Code.TheVariants.{ParameterList, Redeclared, StructValue, Initialiser}
+use Rattle.c65_base.specs.declared.code.Code.TheVariants.{ParameterList, Redeclared, Initialiser}
 use Rattle.c65_base.specs.declared.names.Name.{Name}
 use Rattle.c65_base.specs.declared.refusal.Pos.{Pos}
 use Rattle.c65_base.specs.Answers.{Fault, at, ◌>>=◌}
@@ -9,6 +9,7 @@ use Rattle.c65_ctype.specs.Trees.{Ty, int, pointer, array, tag, function, QTy, q
 use Rattle.c65_ctype.specs.Sizes.{size_at}
 use Rattle.c65_ctype.specs.Views.{qty_of}
 use Rattle.c65_csem.specs.Places.{plain}
+use Rattle.c65_elab_convert.specs.Structures.{structure_size}
 use Rattle.c65_elab_scope.specs.declared.meaning.Entity.{Entity}
 use Rattle.c65_elab_scope.specs.declared.meaning.Entity.TheVariants as e
 use Rattle.c65_elab_scope.specs.Scopes.{ScopeTy}
@@ -49,9 +50,9 @@ adjusted_ty t c v = qual t c v
 abbrev pub adjusted : QTy → QTy
 adjusted (qual t c v) = adjusted_ty t c v
 
--- no parameter is a structure or union, and each has a size
+-- each parameter has a size, and a structure or union is small (C90 6.7.1)
 abbrev pub may_be_parameter : TypesTy → Ty → Pos → Result (Unit {0}) Fault
-may_be_parameter types (tag n) p = Err (at StructValue p)
+may_be_parameter types (tag n) p = structure_size types p (tag n) >>= (λ size. Ok tt)
 may_be_parameter types t p = size_at types p t >>= (λ size. Ok tt)
 
 -- the first place of a name among parameters, where the first of these has a place

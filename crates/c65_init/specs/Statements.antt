@@ -1,5 +1,5 @@
 -- Statements (C90 6.6): one equation for each. Its parts are gone through in the order of the source.
-use Rattle.std.specs.Prelude.{ℤ, List, [], ◌∷◌, ◌++◌, Option, Some, None, Result, Ok}
+use Rattle.std.specs.Prelude.{ℤ, false, List, [], ◌∷◌, ◌++◌, Option, Some, None, Result, Ok}
 use Rattle.c65_base.specs.declared.refusal.Pos.{Pos}
 use Rattle.c65_base.specs.Answers.{Fault, ◌>>=◌}
 use Rattle.c65_ints.specs.declared.types.IntType.{IntType}
@@ -76,7 +76,7 @@ abbrev mutual
     Ok ((n.default x.0.0, x.0.1), x.1)
   -- C90 6.6.2
   statement_of (t.block p ds ss) k s = do
-    u ← opened s
+    u ← opened false s
     l ← declarations_of ds no_locals u
     xs ← statements_of ss l.0.stmts k l.1
     Ok ((n.block l.0.objects (listed xs.0.0), xs.0.1), closed xs.1)

@@ -1,5 +1,6 @@
 -- Units (C90 6.7): the typed parts as a function of the tree.
 use Rattle.std.specs.Prelude.{ℕ, zero, suc, ◌+◌, min, List, [], ◌∷◌, length, Bool, true, false, ◌&&◌, Option, Some, None, slice_get, Result, Ok, if◌then◌else◌}
+use Rattle.c65_base.specs.declared.names.Name.{Name}
 use Rattle.c65_base.specs.declared.options.Options.{Options}
 use Rattle.c65_base.specs.Answers.{Fault, ◌>>=◌}
 use Rattle.c65_ctype.specs.Trees.{Ty, array, type_in}
@@ -56,9 +57,10 @@ abbrev pub all_sized : List TentativeObject → ScopeTy → Result (Unit {0}) Fa
 all_sized [] s = Ok tt
 all_sized (t ∷ ts) s = size_needed s t.object t.pos >>= (λ size. all_sized ts s)
 
-abbrev pub unit_in : UnitTree → Options → Result UnitTy Fault
-unit_in t o = do
-  s ← nothing o.signed_chars
+-- a name stands for further arguments in the bodies of variadic functions
+abbrev pub unit_in : UnitTree → Options → Name → Result UnitTy Fault
+unit_in t o rest = do
+  s ← nothing o.signed_chars rest
   u ← items_in t.items no_locals s
   sized ← all_sized u.0.tentative (arrays_completed u.1)
   Ok (locals_fixed o (functions_settled (arrays_completed u.1))).unit

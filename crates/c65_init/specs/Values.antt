@@ -6,6 +6,7 @@ use Rattle.c65_base.specs.Answers.{Fault, at, ◌>>=◌}
 use Rattle.c65_ctype.specs.Trees.{Ty, void}
 use Rattle.c65_csem.specs.Trees.{Typed, MaybeTyped, absent, present}
 use Rattle.c65_fold.specs.Folded.{folded}
+use Rattle.c65_elab_convert.specs.Structures.{packed_of}
 use Rattle.c65_elab_convert.specs.Values.{value_of}
 use Rattle.c65_elab_convert.specs.Logic.{condition_of}
 use Rattle.c65_elab_convert.specs.Changes.{assigned_of}
@@ -44,7 +45,7 @@ is_void void = true
 is_void _ = false
 
 abbrev pub given_as : Ty → Pos → Typed × ScopeTy → Result (Typed × ScopeTy) Fault
-given_as t p x = if is_void t then Err (at ReturnValue p) else (assigned_of x.1.unit.types p t x.0 >>= (λ e. Ok (folded e, x.1)))
+given_as t p x = if is_void t then Err (at ReturnValue p) else (assigned_of x.1.unit.types p t x.0 >>= (λ e. Ok (folded (packed_of e), x.1)))
 
 abbrev pub given_by : Ty → ExprTree → Pos → ScopeTy → Result (Typed × ScopeTy) Fault
 given_by t e p s = typed e s >>= given_as t p

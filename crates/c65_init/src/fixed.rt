@@ -5,7 +5,7 @@ ghost use Rattle.c65_csem.specs.Views.{object_of, func_of, unit_of};
 ghost use Rattle.c65_elab_scope.specs.Scopes.{scope_of};
 ghost use Rattle.c65_init.specs.Fixed.{marked, parameters_marked, parameter_marks, fixed_class, fixed_at, fixed_from, locals_fixed};
 
-use c65_base::{Options, Refusal};
+use c65_base::{Name, Options, Refusal};
 use c65_csem::{Class, Parts, TFunc, TObject};
 use c65_elab_scope::Scope;
 use std::alloc::{AllocError, Global};
@@ -42,14 +42,17 @@ fn parameter_marks(alloc: Global, parts: &Parts) -> Result<Vec<bool>, AllocError
     Ok(marks)
 }
 
-/// The class that an object gets that is no parameter.
-fn fixed_class(honoured: bool, class: Class) -> Class
-    ensures { result ≡ fixed_class honoured class }
+/// The class that an object gets that is no parameter. One without a name keeps its own.
+fn fixed_class(honoured: bool, name: Option<Name>, class: Class) -> Class
+    ensures { result ≡ fixed_class honoured name class }
 {
-    match class {
-        Class::Auto => Class::Fixed,
-        Class::Register if !honoured => Class::Fixed,
-        _ => class,
+    match name {
+        None => class,
+        Some(_) => match class {
+            Class::Auto => Class::Fixed,
+            Class::Register if !honoured => Class::Fixed,
+            _ => class,
+        },
     }
 }
 
@@ -59,7 +62,7 @@ fn fix(objects: &mut Vec<TObject>, number: usize, honoured: bool)
     ensures { map object_of objects.new.items ≡ fixed_at honoured (map object_of objects.old.items) number }
 {
     if let Some(object) = objects.get_mut(number) {
-        object.class = fixed_class(honoured, object.class);
+        object.class = fixed_class(honoured, object.name, object.class);
     }
 }
 

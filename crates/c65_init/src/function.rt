@@ -1,14 +1,14 @@
 // Function definitions (C90 6.7.1).
-ghost use Rattle.std.specs.Prelude.{◌≡◌, Ok, IfOk, map, slice_get};
+ghost use Rattle.std.specs.Prelude.{◌≡◌, ◌++◌, Ok, IfOk, map, slice_get};
 ghost use Rattle.c65_base.specs.Answers.{Gives};
-ghost use Rattle.c65_ctype.specs.Views.{qty_of};
+ghost use Rattle.c65_ctype.specs.Views.{ty_of, qty_of};
 ghost use Rattle.c65_csem.specs.Views.{stmt_of, func_of};
 ghost use Rattle.c65_elab_scope.specs.Scopes.{scope_of};
 ghost use Rattle.c65_tree.specs.View as v;
 ghost use Rattle.c65_elab_declare.specs.Declarators.{formals_of};
 ghost use Rattle.c65_elab_declare.specs.Headings.{heading_of};
 ghost use Rattle.c65_init.specs.Bodies.{body_of, new_body};
-ghost use Rattle.c65_init.specs.Functions.{function_name, function_number, without_body, function_declared, gives_in, body_in, with_body, function_finished, enumerators_declared, definition_of};
+ghost use Rattle.c65_init.specs.Functions.{function_name, function_number, without_body, function_declared, gives_in, is_variadic, body_in, with_unnamed, with_body, function_finished, enumerators_declared, definition_of};
 ghost use Rattle.c65_init.specs.Labels.{labels_of};
 
 use crate::agree::as_declared;
@@ -18,11 +18,11 @@ use crate::params::parameters;
 use crate::stmt::block;
 use c65_base::{Code, Pos, Refusal};
 use c65_csem::{TFunc, TStmt, unqualified};
-use c65_ctype::QType;
+use c65_ctype::{CType, QType};
 use c65_elab::{Entity, Enumerator, Formals, Heading, elab_heading, elab_specifiers, name_place};
 use c65_elab_scope::Scope;
 use c65_tree::{Function, Stmt, StmtKind, Storage};
-use std::alloc::Global;
+use std::alloc::{AllocError, Global};
 
 /// What a function gives, without qualifiers.
 #[tactic(auto, using(crate::proofs::Places::result_is))]
@@ -76,6 +76,19 @@ fn body_stmts(
     match &stmt.kind {
         StmtKind::Block(decls, stmts) => block(alloc, scope, body, stmts, decls),
         _ => Err(Refusal::OutOfMemory),
+    }
+}
+
+/// The objects without names live in the outermost block too, behind the others.
+fn with_unnamed(unnamed: &[u32], body: TStmt) -> Result<TStmt, AllocError>
+    ensures { IfOk result (λ x. stmt_of x ≡ with_unnamed unnamed.now (stmt_of body)) }
+{
+    match body {
+        TStmt::Block(mut objects, stmts) => {
+            objects.extend_from_slice(unnamed)?;
+            Ok(TStmt::block(objects, stmts))
+        }
+        _ => Ok(body),
     }
 }
 
@@ -144,6 +157,17 @@ fn declare_enumerators(scope: &mut Scope, list: &[Enumerator], pos: Pos) -> Resu
     Ok(())
 }
 
+/// Whether a function takes further arguments.
+fn is_variadic(ty: &CType) -> bool
+    ensures { result ≡ is_variadic (ty_of ty.now) }
+{
+    match ty {
+        CType::Function(function) => function.variadic,
+        CType::Void | CType::Int(_) | CType::Pointer(_) | CType::Array(_, _) | CType::Struct(_) =>
+            false,
+    }
+}
+
 /// A function definition.
 pub fn definition(alloc: Global, scope: &mut Scope, item: &Function) -> Result<(), Refusal>
     ensures { Gives (λ x. scope_of scope.new) result (definition_of (v.function_of item.now) (scope_of scope.old)) }
@@ -151,8 +175,9 @@ pub fn definition(alloc: Global, scope: &mut Scope, item: &Function) -> Result<(
     let pos = name_place(&item.declarator);
     let (storage, base) = elab_specifiers(alloc, scope, &item.specifiers, false)?;
     let heading = elab_heading(alloc, scope, &base, &item.declarator)?;
+    let variadic = is_variadic(&heading.ty.ty);
     let (number, formals, enumerators) = defined(scope, heading, storage, pos)?;
-    scope.open()?;
+    scope.open(variadic)?;
     declare_enumerators(scope, enumerators.as_slice(), pos)?;
     let params = parameters(alloc, scope, formals, item.declarations.as_slice())?;
     as_declared(
@@ -163,7 +188,10 @@ pub fn definition(alloc: Global, scope: &mut Scope, item: &Function) -> Result<(
         pos,
     )?;
     let mut known = new_body(alloc, scope, number, &item.body)?;
+    drop(scope.take_spills());
     let body = body_stmts(alloc, scope, &mut known, &item.body)?;
+    let unnamed = scope.take_spills();
+    let body = with_unnamed(unnamed.as_slice(), body)?;
     scope.close();
     finish(scope, number, params, body);
     Ok(())

@@ -12,6 +12,7 @@ use c65_base::{Code, Name, Pos, Refusal};
 use c65_csem::pointer_to;
 use c65_ctype::{CType, QType, Types};
 use c65_elab::{elab_declarator, elab_specifiers, name_place};
+use c65_elab_convert::structure_size;
 use c65_elab_declare::param_storage;
 use c65_elab_scope::Scope;
 use c65_tree::{Decl, Declarator, InitDeclarator, Initialiser};
@@ -88,12 +89,15 @@ fn adjusted(alloc: Global, ty: QType) -> Result<QType, AllocError>
     }
 }
 
-/// Refuses a parameter that is a structure or union, and one without a size.
+/// Refuses a parameter that is no small structure or union, and one without a size.
 fn as_parameter(types: &Types, ty: &CType, pos: Pos) -> Result<(), Refusal>
     ensures { Gives (λ x. tt) result (may_be_parameter (types_of types.now) (ty_of ty.now) pos) }
 {
     match ty {
-        CType::Struct(_) => Err(Refusal::fault(Code::StructValue, pos)),
+        CType::Struct(_) => {
+            structure_size(types, pos, ty)?;
+            Ok(())
+        }
         CType::Void | CType::Int(_) | CType::Pointer(_) | CType::Array(_, _) | CType::Function(_) =>
             {
                 types.size(ty, pos)?;

@@ -130,7 +130,7 @@ pub fn statement(
         StmtKind::Case(e, inner) => case(alloc, scope, body, inner, e, pos),
         StmtKind::Default(inner) => default(alloc, scope, body, inner, pos),
         StmtKind::Block(decls, stmts) => {
-            scope.open()?;
+            scope.open(false)?;
             let made = block(alloc, scope, body, stmts, decls)?;
             scope.close();
             Ok(made)

@@ -13,7 +13,7 @@ use crate::declare::{Locals, TentativeObject, declaration, needs_size};
 use crate::fixed::fix_locals;
 use crate::function::definition;
 use crate::settle::settle_functions;
-use c65_base::{Options, Refusal};
+use c65_base::{Name, Options, Refusal};
 use c65_csem::{Class, TUnit};
 use c65_csem_check::unit_from;
 use c65_ctype::CType;
@@ -123,13 +123,18 @@ fn all_sized(scope: &Scope, definitions: &[TentativeObject]) -> Result<(), Refus
     Ok(())
 }
 
-/// The typed parts of a unit. Refuses its first fault in source order, with codes 301 and 303 to
+/// The typed parts of a unit, in which `rest` stands for the further arguments of a function. Refuses its first fault in source order, with codes 301 and 303 to
 /// 334, and `Object`, `Members`, `Cases` and `ArgumentBytes`.
-pub fn elab_unit(alloc: Global, unit: &Unit, options: &Options) -> Result<TUnit, Refusal>
-    ensures exact { Gives (λ u. unit_of u) result (unit_in (v.unit_of unit.now) options.now) }
+pub fn elab_unit(
+    alloc: Global,
+    unit: &Unit,
+    options: &Options,
+    rest: Name,
+) -> Result<TUnit, Refusal>
+    ensures exact { Gives (λ u. unit_of u) result (unit_in (v.unit_of unit.now) options.now rest) }
     ensures typed { IfOk result (λ u. IsUnit (unit_of u)) }
 {
-    let mut scope = Scope::new(alloc, options)?;
+    let mut scope = Scope::new(alloc, options, rest)?;
     let mut locals = Locals::none(alloc);
     externals(alloc, &mut scope, &mut locals, &unit.items)?;
     complete_arrays(&mut scope);

@@ -16,7 +16,7 @@ use c65_base::{Code, Pos, Refusal};
 use c65_csem::TExpr;
 use c65_ctype::CType;
 use c65_elab::{elab_expr, value_at};
-use c65_elab_convert::{assigned, condition, value};
+use c65_elab_convert::{assigned, condition, packed, value};
 use c65_elab_scope::Scope;
 use c65_fold::fold;
 use c65_init_cells::{Part, Sink, set, store_number, store_pointer};
@@ -174,7 +174,8 @@ fn given_value(
         return Err(Refusal::fault(Code::ReturnValue, pos));
     }
     let value = converted(alloc, scope, gives, typed, pos)?;
-    Ok(folded(value))
+    let passed = packed(alloc, value)?;
+    Ok(folded(passed))
 }
 
 /// The value that a function gives, if it gives one.

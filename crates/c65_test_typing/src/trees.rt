@@ -44,7 +44,7 @@ const OPERATORS: [BinaryOp; 16] = [
 ];
 
 fn scope(alloc: Global) -> Result<Scope, Refusal> {
-    Scope::new(alloc, &Options::none())
+    Scope::new(alloc, &Options::none(), Name(0))
 }
 
 fn one(kind: IntType) -> Expr {

@@ -15,8 +15,8 @@ returns-in-Err-clause-exact g c = λ held told.
     let done : List UnitTy = map unit_of c.loop-path.units.items in
     let left : List (List ℕ) = drop c.loop-path.path-index c.args.paths.now in
     let here : left ≡ c.path-item.result ∷ drop (c.loop-path.path-index + 1) c.args.paths.now = drop_next c.args.paths.now c.loop-path.path-index c.path-item.result c.loop-path-test.true c.path-item.is in
-    onward_err c.in-Err.refusal (files_typed k left done c.loop-path.names) (files_typed k c.args.paths.now [] c.args.names.now) (c.loop-path.invariant.goes held told (Err c.in-Err.refusal))
-    (files_stop k c.path-item.result (drop (c.loop-path.path-index + 1) c.args.paths.now) left done c.loop-path.names c.in-Err.refusal here (c.in-Err.ensures.exact held (c.loop-path.invariant.compiles.same ∙ told)))
+    onward_err c.in-Err.refusal (files_typed k c.args.rest left done c.loop-path.names) (files_typed k c.args.rest c.args.paths.now [] c.args.names.now) (c.loop-path.invariant.goes held told (Err c.in-Err.refusal))
+    (files_stop k c.args.rest c.path-item.result (drop (c.loop-path.path-index + 1) c.args.paths.now) left done c.loop-path.names c.in-Err.refusal here (c.in-Err.ensures.exact held (c.loop-path.invariant.compiles.same ∙ told)))
 
 pub loop-path-preserved : goal.loop-path-preserved
 loop-path-preserved g c = record {
@@ -32,7 +32,7 @@ loop-path-preserved g c = record {
       let here : left ≡ c.path-item.result ∷ drop (c.loop-path.path-index + 1) c.args.paths.now = drop_next c.args.paths.now c.loop-path.path-index c.path-item.result c.loop-path-test.true c.path-item.is in
       let more : map unit_of c.push.new.self.items ≡ done ++ unit_of c.in-Ok.unit ∷ [] = one_unit_more c.loop-path.units.items c.in-Ok.unit c.push.new.self.items c.in-Ok-push.ensures.items in
       c.loop-path.invariant.goes held told z
-      (files_go k c.path-item.result (drop (c.loop-path.path-index + 1) c.args.paths.now) left done c.loop-path.names c.typed_unit.new.names (unit_of c.in-Ok.unit) z here
+      (files_go k c.args.rest c.path-item.result (drop (c.loop-path.path-index + 1) c.args.paths.now) left done c.loop-path.names c.typed_unit.new.names (unit_of c.in-Ok.unit) z here
       (c.in-Ok.ensures.exact held (c.loop-path.invariant.compiles.same ∙ told))
-      (subst (λ (us : List UnitTy). files_typed k (drop (c.loop-path.path-index + 1) c.args.paths.now) us c.typed_unit.new.names z) more h));
+      (subst (λ (us : List UnitTy). files_typed k c.args.rest (drop (c.loop-path.path-index + 1) c.args.paths.now) us c.typed_unit.new.names z) more h));
 }

@@ -27,10 +27,10 @@ returns-in-Err-typed-clause-compiles g c =
     }
 
 pub returns-in-Err-clause-exact : goal.returns-in-Err-clause-exact
-returns-in-Err-clause-exact g c = λ held told. file_stops (command held c.args.options.now c.args.defines.now c.args.folders.now) c.args.path.now c.args.names.now c.in-Err.refusal (c.in-Err.ensures.exact held told)
+returns-in-Err-clause-exact g c = λ held told. file_stops (command held c.args.options.now c.args.defines.now c.args.folders.now) c.args.rest c.args.path.now c.args.names.now c.in-Err.refusal (c.in-Err.ensures.exact held told)
 
 pub returns-in-Err-typed-clause-exact : goal.returns-in-Err-typed-clause-exact
-returns-in-Err-typed-clause-exact g c = λ held told. file_refused (command held c.args.options.now c.args.defines.now c.args.folders.now) c.args.path.now c.args.names.now c.preprocess.new.names c.in-Ok.unit c.in-Err-typed.refusal c.located.result (c.in-Ok.ensures.exact held told) c.in-Err-typed.ensures c.located.ensures.exact
+returns-in-Err-typed-clause-exact g c = λ held told. file_refused (command held c.args.options.now c.args.defines.now c.args.folders.now) c.args.rest c.args.path.now c.args.names.now c.preprocess.new.names c.in-Ok.unit c.in-Err-typed.refusal c.located.result (c.in-Ok.ensures.exact held told) c.in-Err-typed.ensures c.located.ensures.exact
 
 pub returns-in-Ok-typed-clause-exact : goal.returns-in-Ok-typed-clause-exact
-returns-in-Ok-typed-clause-exact g c = λ held told. file_comes (command held c.args.options.now c.args.defines.now c.args.folders.now) c.args.path.now c.args.names.now c.preprocess.new.names c.in-Ok.unit (unit_of c.in-Ok-typed.parts) (c.in-Ok.ensures.exact held told) c.in-Ok-typed.ensures
+returns-in-Ok-typed-clause-exact g c = λ held told. file_comes (command held c.args.options.now c.args.defines.now c.args.folders.now) c.args.rest c.args.path.now c.args.names.now c.preprocess.new.names c.in-Ok.unit (unit_of c.in-Ok-typed.parts) (c.in-Ok.ensures.exact held told) c.in-Ok-typed.ensures

@@ -31,7 +31,7 @@ put_expr-returns-in-Call-clause-lines t c =
     ∙ ap (λ (g : TExpr). call (typed_of g) (nodes_of c.in-Call.args.items)) (sym c.deref-in-Call.ensures)
     ∙ ap (λ (l : List TExpr). call (typed_of callee) (nodes_of l)) (sym c.deref-in-Call-2.ensures.value)
     in
-    rw (same, ← c.result_kind-kind.ensures) c.put_call.ensures.lines
+    rw (same, ← c.outcome_of-given.ensures) c.put_call.ensures.lines
 
 -- what the draft keeps
 
