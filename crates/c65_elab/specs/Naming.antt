@@ -1,5 +1,5 @@
 -- Names and string literals as expressions (C90 6.3.1).
-use Rattle.std.specs.Prelude.{ℕ, ◌+◌, ℤ, List, length, Bool, true, false, Option, Some, None, slice_get, Result, Ok, Err}
+use Rattle.std.specs.Prelude.{ℕ, ◌+◌, ℤ, List, length, Bool, true, false, ◌&&◌, ◌==◌, Option, Some, None, is_some, slice_get, Result, Ok, Err, if◌then◌else◌}
 use Rattle.c65_base.specs.declared.code.Code.TheVariants.{Undeclared}
 use Rattle.c65_base.specs.declared.names.Name.{Name}
 use Rattle.c65_base.specs.declared.refusal.Pos.{Pos}
@@ -8,7 +8,8 @@ use Rattle.c65_ints.specs.declared.types.IntType.{IntType}
 use Rattle.c65_ints.specs.declared.types.IntType.TheVariants.{Int}
 use Rattle.c65_ctype.specs.Trees.{int, array, function, QTy, Fn, fn, unknown}
 use Rattle.c65_csem.specs.Places.{plain}
-use Rattle.c65_csem.specs.Trees.{Typed, node, constant, literal, object, func, ObjectTy, FuncTy}
+use Rattle.c65_csem.specs.Trees.{Typed, node, constant, literal, object, func, rest, ObjectTy, FuncTy}
+use Rattle.c65_csem.specs.Typed.{rest_type}
 use Rattle.c65_elab_scope.specs.declared.meaning.Bound.{Bound}
 use Rattle.c65_elab_scope.specs.declared.meaning.Meaning.{Meaning}
 use Rattle.c65_elab_scope.specs.declared.meaning.Meaning.TheVariants as m
@@ -33,19 +34,23 @@ meaning_named s p (m.Func i) = func_named i p (slice_get s.unit.funcs i)
 meaning_named s p (m.Enumerator z) = Ok (node (plain (int Int)) (constant z))
 meaning_named s p _ = Err (at Undeclared p)
 
-abbrev pub bound_named : ScopeTy → Pos → Option Bound → Result Typed Fault
-bound_named s p None = Err (at Undeclared p)
-bound_named s p (Some b) = meaning_named s p b.meaning
+-- the name of the place behind the further arguments, in the body of a variadic function
+abbrev pub is_rest : ScopeTy → Name → Bool
+is_rest s n = s.rest.0 == n.0 && is_some s.variadic
+
+abbrev pub bound_named : ScopeTy → Name → Pos → Option Bound → Result Typed Fault
+bound_named s n p None = if is_rest s n then Ok (node rest_type rest) else Err (at Undeclared p)
+bound_named s n p (Some b) = meaning_named s p b.meaning
 
 abbrev pub named : ScopeTy → Name → Pos → Result Typed Fault
-named s n p = bound_named s p (found s.names n)
+named s n p = bound_named s n p (found s.names n)
 
 -- a function of which no more is known than that it gives int (C90 6.3.2.2)
 abbrev pub implicit : Fn
 implicit = fn (plain (int Int)) unknown false false
 
 abbrev pub called_unless : ScopeTy → Name → Pos → Option Bound → Result ScopeTy Fault
-called_unless s n p None = func_declared s n implicit None p >>= (λ x. Ok x.1)
+called_unless s n p None = if is_rest s n then Ok s else func_declared s n implicit None p >>= (λ x. Ok x.1)
 called_unless s n p (Some b) = Ok s
 
 abbrev pub called_name : ScopeTy → Name → Pos → Result ScopeTy Fault

@@ -36,8 +36,8 @@ use Rattle.c65_elab_convert.specs.Choices.{choice_of}
 use Rattle.c65_elab_convert.specs.Logic.{both_of, either_of, comma_of}
 use Rattle.c65_elab.specs.Constants.{value_at}
 use Rattle.c65_elab.specs.Naming.{named, called_first, typedef_type, literal_typed}
-use Rattle.c65_elab.specs.Operators.{on_place, assigning}
-use Rattle.c65_elab.specs.Places.{place_of}
+use Rattle.c65_elab.specs.Operators.{on_place, assigning, spilled}
+use Rattle.c65_elab.specs.Places.{place_of, firsts_of}
 
 -- an answer, and the scope behind it
 abbrev pub beside : {A : Type 0} → ScopeTy → Result A Fault → Result (A × ScopeTy) Fault
@@ -99,7 +99,8 @@ abbrev mutual
     u ← called_first f s
     x ← typed f u
     zs ← typed_list es x.1
-    beside zs.1 (call_of zs.1.unit.types p x.0 zs.0)
+    y ← call_of zs.1.unit.types p (firsts_of es) x.0 zs.0
+    spilled zs.1 y
   typed (t.member p e arrow m) s = do
     x ← typed e s
     beside x.1 (access.member_of_name x.1.unit.types p arrow x.0 m)
@@ -109,9 +110,10 @@ abbrev mutual
   typed (t.unary p op e) s = do
     x ← typed e s
     beside x.1 (on_place x.1 p op x.0)
+  -- the operand is not evaluated, so what its calls give needs no object
   typed (t.sizeof_expr p e) s = do
     x ← typed e s
-    beside x.1 (access.size_of_expr x.1.unit.types p x.0)
+    beside (fewer_objects x.1 (length s.unit.objects)) (access.size_of_expr x.1.unit.types p x.0)
   typed (t.sizeof_type p m) s = do
     x ← type_named m s
     beside x.1 (access.size_of_type x.1.unit.types p (type_in x.0))
@@ -267,7 +269,7 @@ abbrev mutual
   formals_in t.no_params stays s = Ok (d.nothing, s)
   formals_in (t.param_names ms) stays s = Ok (d.names ms, s)
   formals_in (t.param_types ps variadic) stays s = do
-    u ← opened s
+    u ← opened false s
     x ← prototype_in ps (is_single ps && not variadic) u
     Ok (d.prototype (without_void x.0.0) variadic, left stays x.1 (length s.unit.objects))
 

@@ -1,5 +1,5 @@
 -- Elements, members and sizes (C90 6.3.2.1, 6.3.2.3, 6.3.3.4).
-use Rattle.std.specs.Prelude.{ℕ, ◌+◌, pos, List, [], ◌∷◌, Bool, true, false, ◌==◌, Option, Some, None, option_map, option_and_then, slice_get, Result, Ok, Err, if◌then◌else◌}
+use Rattle.std.specs.Prelude.{ℕ, ◌+◌, pos, List, [], ◌∷◌, ◌&&◌, Bool, true, false, ◌==◌, Option, Some, None, option_map, option_and_then, slice_get, Result, Ok, Err, if◌then◌else◌}
 use Rattle.c65_base.specs.declared.code.Code.TheVariants.{BitField, MemberUnknown, Operands}
 use Rattle.c65_base.specs.declared.names.Name.{Name}
 use Rattle.c65_base.specs.declared.refusal.Pos.{Pos}
@@ -13,7 +13,7 @@ use Rattle.c65_csem.specs.Trees.{Typed, node, constant, member, type_of}
 use Rattle.c65_csem.specs.Places.{plain, qualified, is_bit_field}
 use Rattle.c65_elab_convert.specs.declared.classes.Category.{Category}
 use Rattle.c65_elab_convert.specs.declared.classes.Category.TheVariants as categories
-use Rattle.c65_elab_convert.specs.Categories.{category_in, unfit_operand}
+use Rattle.c65_elab_convert.specs.Categories.{category_in, unfit_operand, is_array, is_spilled}
 use Rattle.c65_elab_convert.specs.Unaries.{deref_of}
 use Rattle.c65_elab_convert.specs.Binaries.{binary_of}
 
@@ -52,9 +52,10 @@ member_by c v (Some l) name = found_member c v l.members (find_from 0 l.members 
 abbrev pub member_type : TypesTy → QTy → Name → Option (ℕ × QTy)
 member_type types (qual t c v) name = member_by c v (layout_in types t) name
 
+-- an array within what a call gave would be used by its address, and that object has none
 abbrev pub member_found : Pos → Typed → Option (ℕ × QTy) → Result Typed Fault
 member_found p e None = Err (at MemberUnknown p)
-member_found p e (Some x) = Ok (node x.1 (member e x.0))
+member_found p e (Some x) = if is_spilled e && is_array (type_in x.1) then Err (at Operands p) else Ok (node x.1 (member e x.0))
 
 abbrev pub member_in_by : TypesTy → Pos → Category → Typed → Name → Result Typed Fault
 member_in_by types p categories.Tag e name = member_found p e (member_type types (type_of e) name)

@@ -3,7 +3,7 @@ use Rattle.std.specs.Prelude.{ℕ, Bool, true, false, ◌&&◌, not}
 use Rattle.c65_base.specs.declared.code.Code.{Code}
 use Rattle.c65_base.specs.declared.code.Code.TheVariants.{VoidValue, Operands}
 use Rattle.c65_ctype.specs.Trees.{Ty, void, int, pointer, array, tag, function, QTy, qual, type_in}
-use Rattle.c65_csem.specs.Trees.{Typed, node, Node, literal, object, deref, member, type_of}
+use Rattle.c65_csem.specs.Trees.{Typed, node, Node, literal, object, deref, member, spill, type_of}
 use Rattle.c65_elab_convert.specs.declared.classes.Category.{Category}
 use Rattle.c65_elab_convert.specs.declared.classes.Category.TheVariants as categories
 
@@ -40,6 +40,10 @@ abbrev pub is_function : Ty → Bool
 is_function (function f) = true
 is_function _ = false
 
+abbrev pub is_array : Ty → Bool
+is_array (array q n) = true
+is_array _ = false
+
 abbrev pub is_scalar_category : Category → Bool
 is_scalar_category (categories.Int k) = true
 is_scalar_category categories.Pointer = true
@@ -61,3 +65,13 @@ abbrev mutual
   is_lvalue_node (deref e) = true
   is_lvalue_node (member e m) = is_lvalue e
   is_lvalue_node _ = false
+
+-- what a call gave, or a part of it, which is no object of the program (C90 6.2.2.1)
+abbrev mutual
+  pub is_spilled : Typed → Bool
+  is_spilled (node t e) = is_spilled_node e
+
+  pub is_spilled_node : Node → Bool
+  is_spilled_node (spill i e) = true
+  is_spilled_node (member e m) = is_spilled e
+  is_spilled_node _ = false

@@ -10,5 +10,6 @@ pub mod Logic
 pub mod Numbers
 pub mod Pairs
 pub mod Pointers
+pub mod Structures
 pub mod Unaries
 pub mod Values

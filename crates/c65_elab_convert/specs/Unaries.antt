@@ -12,7 +12,7 @@ use Rattle.c65_csem.specs.Trees.{Typed, node, Node, func, deref, address, unary,
 use Rattle.c65_csem.specs.Places.{plain, is_void, is_bit_field}
 use Rattle.c65_elab_convert.specs.declared.classes.Category.{Category}
 use Rattle.c65_elab_convert.specs.declared.classes.Category.TheVariants as categories
-use Rattle.c65_elab_convert.specs.Categories.{category_in, unfit_operand, is_lvalue}
+use Rattle.c65_elab_convert.specs.Categories.{category_in, unfit_operand, is_lvalue, is_spilled}
 use Rattle.c65_elab_convert.specs.Values.{value_of, promotion, as_int_of}
 
 abbrev pub single : UnaryOp → IntType → Typed → Typed
@@ -55,8 +55,9 @@ has_address (node t e) = is_lvalue (node t e) && not (is_void (type_in t))
 abbrev pub pointer_from : Typed → Typed
 pointer_from e = node (plain (pointer (type_of e))) (address e)
 
+-- what a call gave has no address (C90 6.3.2.2)
 abbrev pub address_of : TypesTy → Pos → Bool → Typed → Result Typed Fault
-address_of types p register e = if has_address e then (if is_bit_field types e then Err (at BitField p) else if register then Err (at RegisterAddress p) else Ok (pointer_from e)) else Err (at NotModifiable p)
+address_of types p register e = if is_spilled e then Err (at Operands p) else if has_address e then (if is_bit_field types e then Err (at BitField p) else if register then Err (at RegisterAddress p) else Ok (pointer_from e)) else Err (at NotModifiable p)
 
 abbrev pub unary_of : TypesTy → Pos → UnaryOp → Bool → Typed → Result Typed Fault
 unary_of types p ones.Deref register e = deref_of p e

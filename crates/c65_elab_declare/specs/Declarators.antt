@@ -1,6 +1,6 @@
 -- The parts of a declarator from its name outward, and the type that they make (C90 6.5.4).
 use Rattle.std.specs.Prelude.{ℕ, List, [], ◌∷◌, ◌++◌, map, Bool, true, false, Option, Some, None, is_some, Result, Ok, Err, nat_lt, if◌then◌else◌}
-use Rattle.c65_base.specs.declared.code.Code.TheVariants.{TypeForm, StructValue, ParameterList}
+use Rattle.c65_base.specs.declared.code.Code.TheVariants.{TypeForm, ParameterList}
 use Rattle.c65_base.specs.declared.names.Name.{Name}
 use Rattle.c65_base.specs.declared.refusal.Pos.{Pos}
 use Rattle.c65_base.specs.declared.refusal.Size.TheVariants.{Depth}
@@ -10,6 +10,7 @@ use Rattle.c65_ctype.specs.Depth.{qty_depth}
 use Rattle.c65_ctype.specs.Sizes.{size_at}
 use Rattle.c65_ctype.specs.Views.{qty_of}
 use Rattle.c65_csem.specs.Places.{plain}
+use Rattle.c65_elab_convert.specs.Structures.{structure_size}
 use Rattle.c65_elab_declare.specs.declared.parts.Formal.{Formal}
 use Rattle.c65_elab_declare.specs.declared.parts.Formals.{Formals}
 use Rattle.c65_elab_declare.specs.declared.parts.Formals.TheVariants as f
@@ -73,12 +74,13 @@ arrayed types t n p = do
   whole ← size_when (is_some n) types p (array t n)
   deep (plain (array t n))
 
--- C90 6.5.4.3: no function gives an array or a function; structures and unions are not given either
-abbrev pub result_form : Ty → Pos → Result (Unit {0}) Fault
-result_form (function g) p = Err (at TypeForm p)
-result_form (array t n) p = Err (at TypeForm p)
-result_form (tag n) p = Err (at StructValue p)
-result_form _ p = Ok tt
+-- C90 6.5.4.3: no function gives an array or a function; a structure or union that it gives has at most four bytes,
+-- and is refused at the function's name
+abbrev pub result_form : TypesTy → Ty → Pos → Pos → Result (Unit {0}) Fault
+result_form types (function g) p name = Err (at TypeForm p)
+result_form types (array t n) p name = Err (at TypeForm p)
+result_form types (tag n) p name = structure_size types name (tag n) >>= λ size. Ok tt
+result_form types _ p name = Ok tt
 
 abbrev pub formal_tys : List FormalTy → QTys
 formal_tys [] = end
@@ -90,21 +92,21 @@ params_in nothing named p = Ok (unknown, false)
 params_in (names ns) named p = if named then Ok (unknown, false) else Err (at ParameterList p)
 params_in (prototype ps variadic) named p = Ok (known (formal_tys ps), variadic)
 
-abbrev pub called : QTy → FormalsTy → Role → Pos → Result QTy Fault
-called t formals role p = do
-  form ← result_form (type_in t) p
+abbrev pub called : TypesTy → QTy → FormalsTy → Role → Pos → Result QTy Fault
+called types t formals role p = do
+  form ← result_form types (type_in t) p role.name
   params ← params_in formals role.named p
   deep (plain (function (fn t params.0 params.1 role.cdecl)))
 
 abbrev pub applied : TypesTy → PartTy → Role → QTy → Result QTy Fault
 applied types (pointing c v) role t = pointed t c v
 applied types (counting n p) role t = arrayed types t n p
-applied types (calling formals p) role t = called t formals role p
+applied types (calling formals p) role t = called types t formals role p
 
 -- the words for the stack and a list of names belong to the first function part
 abbrev pub role_behind : PartTy → Role → Role
-role_behind (calling formals p) role = record { cdecl = false; named = false }
-role_behind _ role = record { cdecl = role.cdecl; named = false }
+role_behind (calling formals p) role = record { cdecl = false; named = false; name = role.name }
+role_behind _ role = record { cdecl = role.cdecl; named = false; name = role.name }
 
 -- the type that the parts make of a type, from the last to the first
 abbrev pub built : TypesTy → QTy → List PartTy → Role → Result QTy Fault

@@ -1,6 +1,6 @@
 -- Parameters of prototypes (C90 6.5.4.3).
 use Rattle.std.specs.Prelude.{ℕ, ◌+◌, List, [], ◌∷◌, Bool, true, false, ◌&&◌, not, is_some, Option, Some, None, nat_lt, Result, Ok, Err, if◌then◌else◌}
-use Rattle.c65_base.specs.declared.code.Code.TheVariants.{StorageClass, StructValue}
+use Rattle.c65_base.specs.declared.code.Code.TheVariants.{StorageClass}
 use Rattle.c65_base.specs.declared.names.Name.{Name}
 use Rattle.c65_base.specs.declared.refusal.Pos.{Pos}
 use Rattle.c65_base.specs.declared.refusal.Size.TheVariants.{ArgumentBytes}
@@ -12,6 +12,7 @@ use Rattle.c65_tree.specs.Trees as t
 use Rattle.c65_tree.specs.View.{specifier_of}
 use Rattle.c65_ctype.specs.Trees.{Ty, void, tag, QTy, qual, type_in, TypesTy}
 use Rattle.c65_ctype.specs.Sizes.{size_at}
+use Rattle.c65_elab_convert.specs.Structures.{structure_size}
 use Rattle.c65_elab_scope.specs.Scopes.{ScopeTy}
 use Rattle.c65_elab_scope.specs.Declaring.{declared}
 use Rattle.c65_elab_declare.specs.Declarators.{FormalTy, adjusted}
@@ -52,9 +53,9 @@ abbrev pub is_nothing : Option Name → QTy → Bool → Bool
 is_nothing name (qual void c v) is_register = not (is_some name) && (not is_register && (not c && not v))
 is_nothing name _ is_register = false
 
--- no structure and no union, and a size
+-- a parameter has a size; a structure or union has at most four bytes
 abbrev pub param_ty : TypesTy → Ty → Pos → Result (Unit {0}) Fault
-param_ty types (tag n) p = Err (at StructValue p)
+param_ty types (tag n) p = structure_size types p (tag n) >>= (λ size. Ok tt)
 param_ty types t p = size_at types p t >>= (λ n. Ok tt)
 
 abbrev pub param_form : Bool → TypesTy → QTy → Pos → Result (Unit {0}) Fault

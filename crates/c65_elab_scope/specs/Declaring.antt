@@ -136,7 +136,7 @@ abbrev pub own_declared : ScopeTy → Name → QTy → Class → Pos → Result 
 own_declared s n t class p = do
   first ← unless (is_some (found_in s.names n s.block)) p
   size ← needs_size s.unit.types p (type_in t)
-  x ← object_added s n t class
+  x ← object_added s (Some n) t class
   Ok (e.Object x.0, name_bound x.1 n (m.Object x.0))
 
 -- a definition stays one, and a tentative one stays so beside a declaration
@@ -156,7 +156,7 @@ object_again s n t class p _ = Err (at Redeclared p)
 
 abbrev pub object_linked : ScopeTy → Name → QTy → Class → Pos → Option Bound → Result (Entity × ScopeTy) Fault
 object_linked s n t class p None = do
-  x ← object_added s n t class
+  x ← object_added s (Some n) t class
   Ok (e.Object x.0, link_bound x.1 n (m.Object x.0))
 object_linked s n t class p (Some b) = object_again s n t class p b.meaning
 
