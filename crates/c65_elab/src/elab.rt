@@ -16,7 +16,8 @@ use crate::blocks::{leave, object_count};
 use crate::constants::{value_at, value_of};
 use crate::lists::{is_first, is_single, is_sole};
 use crate::names::{declare_first, literal, named, typedef_type};
-use crate::operators::{assigning, on_place};
+use crate::operators::{assigning, on_place, spilled};
+use crate::places::firsts;
 use c65_base::{Code, Name, Refusal};
 use c65_csem::{TExpr, TKind, int_type};
 use c65_ctype::{Field, QType};
@@ -57,10 +58,12 @@ pub fn expression(alloc: Global, scope: &mut Scope, expr: &Expr) -> Result<TExpr
             index(alloc, scope.types(), pos, a, b)
         }
         ExprKind::Call(f, arguments) => {
+            let firsts = firsts(alloc, arguments)?;
             declare_first(scope, f)?;
             let f = expression(alloc, scope, f)?;
             let arguments = expressions(alloc, scope, arguments)?;
-            call(alloc, scope.types(), pos, f, arguments)
+            let e = call(alloc, scope.types(), pos, &firsts, f, arguments)?;
+            spilled(alloc, scope, e)
         }
         ExprKind::Member(e, arrow, name) => {
             let e = expression(alloc, scope, e)?;
@@ -75,7 +78,9 @@ pub fn expression(alloc: Global, scope: &mut Scope, expr: &Expr) -> Result<TExpr
             on_place(alloc, scope, pos, *op, e)
         }
         ExprKind::SizeofExpr(e) => {
+            let objects = object_count(scope);
             let e = expression(alloc, scope, e)?;
+            scope.keep_objects(objects);
             size_of_expr(scope.types(), pos, &e)
         }
         ExprKind::SizeofType(name) => {
@@ -422,7 +427,7 @@ fn formals(
         Params::Names(names) => Ok(Formals::Names(Vec::from_slice(alloc, names)?)),
         Params::Types(list, variadic) => {
             let objects = object_count(scope);
-            scope.open()?;
+            scope.open(false)?;
             let sole = is_single(list, *variadic);
             let (formals, _) = prototype(alloc, scope, list, sole)?;
             leave(scope, stays, objects);

@@ -8,6 +8,7 @@ mod elab;
 mod lists;
 mod names;
 mod operators;
+mod places;
 mod public;
 
 pub use c65_elab_declare::{Enumerator, Formal, Formals, Heading, name_place};

@@ -5,14 +5,15 @@ ghost use Rattle.c65_ints.specs.declared.types.IntType.TheVariants.{Int};
 ghost use Rattle.c65_ctype.specs.Trees.{int};
 ghost use Rattle.c65_ctype.specs.Views.{qty_of};
 ghost use Rattle.c65_csem.specs.Places.{plain};
-ghost use Rattle.c65_csem.specs.Trees.{node, constant};
+ghost use Rattle.c65_csem.specs.Trees.{node, constant, rest};
+ghost use Rattle.c65_csem.specs.Typed.{rest_type};
 ghost use Rattle.c65_csem.specs.Views.{typed_of};
 ghost use Rattle.c65_elab_scope.specs.Scopes.{scope_of};
 ghost use Rattle.c65_tree.specs.View.{expr_of};
-ghost use Rattle.c65_elab.specs.Naming.{object_named, func_named, named, called_name, called_first, typedef_type, literal_type, literal_typed};
+ghost use Rattle.c65_elab.specs.Naming.{object_named, func_named, is_rest, named, called_name, called_first, typedef_type, literal_type, literal_typed};
 
 use c65_base::{Code, Name, Pos, Refusal, Text as Bytes};
-use c65_csem::{TExpr, TKind, int_type};
+use c65_csem::{TExpr, TKind, int_type, pointer_to};
 use c65_ctype::{CType, FnType, QType};
 use c65_elab_declare::fault;
 use c65_elab_scope::{Meaning, Scope};
@@ -63,12 +64,36 @@ fn function(alloc: Global, scope: &Scope, number: u32, pos: Pos) -> Result<TExpr
     }
 }
 
+/// Whether a name is that of the place behind the further arguments, in the body of a variadic
+/// function.
+fn is_rest(scope: &Scope, name: Name) -> bool
+    ensures { result ≡ is_rest (scope_of scope.now) name }
+{
+    scope.rest.0 == name.0 && scope.variadic.is_some()
+}
+
+/// The place behind the further arguments, a pointer to bytes.
+fn further(alloc: Global) -> Result<TExpr, AllocError>
+    ensures { IfOk result (λ e. typed_of e ≡ node rest_type rest) }
+{
+    Ok(TExpr {
+        ty: pointer_to(alloc, int_type(IntType::UChar))?,
+        kind: TKind::Rest,
+    })
+}
+
 /// A name as an expression.
 pub fn named(alloc: Global, scope: &Scope, name: Name, pos: Pos) -> Result<TExpr, Refusal>
     ensures { Gives typed_of result (named (scope_of scope.now) name pos) }
 {
     match scope.find(name) {
-        None => Err(fault(Code::Undeclared, pos)),
+        None => {
+            if is_rest(scope, name) {
+                Ok(further(alloc)?)
+            } else {
+                Err(fault(Code::Undeclared, pos))
+            }
+        }
         Some(bound) => match bound.meaning {
             Meaning::Object(i) => object(alloc, scope, i, pos),
             Meaning::Func(i) => function(alloc, scope, i, pos),
@@ -79,11 +104,12 @@ pub fn named(alloc: Global, scope: &Scope, name: Name, pos: Pos) -> Result<TExpr
 }
 
 /// Declares a name that is called and was not declared as a function that gives int and whose
-/// parameters are not known (C90 6.3.2.2).
+/// parameters are not known (C90 6.3.2.2). The name of the place behind the further arguments is
+/// not declared.
 fn declare_called(scope: &mut Scope, name: Name, pos: Pos) -> Result<(), Refusal>
     ensures { Gives (λ x. scope_of scope.new) result (called_name (scope_of scope.old) name pos) }
 {
-    if scope.find(name).is_none() {
+    if scope.find(name).is_none() && !is_rest(scope, name) {
         let ty = FnType::new(int_type(IntType::Int), None, false, false);
         scope.declare_function(name, ty, None, pos)?;
     }

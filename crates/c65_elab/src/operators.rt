@@ -4,12 +4,12 @@ ghost use Rattle.c65_base.specs.Answers.{Gives};
 ghost use Rattle.c65_ctype.specs.Views.{types_of};
 ghost use Rattle.c65_csem.specs.Views.{typed_of};
 ghost use Rattle.c65_elab_scope.specs.Scopes.{scope_of};
-ghost use Rattle.c65_elab.specs.Operators.{is_register_class, is_register, on_place, assigning};
+ghost use Rattle.c65_elab.specs.Operators.{is_register_class, is_register, on_place, assigning, spilled};
 
-use c65_base::{BinaryOp, Pos, Refusal, UnaryOp};
-use c65_csem::{Class, TExpr, TKind};
+use c65_base::{BinaryOp, Pos, Refusal, UnaryOp, boxed_beside};
+use c65_csem::{Class, TExpr, TKind, is_tag};
 use c65_ctype::Types;
-use c65_elab_convert::{assign, assign_op, unary};
+use c65_elab_convert::{assign, assign_op, beside, unary};
 use c65_elab_scope::Scope;
 use std::alloc::Global;
 
@@ -65,4 +65,20 @@ pub fn assigning(
         None => assign(alloc, types, pos, a, b),
         Some(op) => assign_op(alloc, types, pos, op, a, b),
     }
+}
+
+/// What a call gives: a structure or union is stored in an object without a name (C90 6.3.2.2). It
+/// refuses for memory alone.
+pub fn spilled(alloc: Global, scope: &mut Scope, e: TExpr) -> Result<TExpr, Refusal>
+    ensures { Gives (λ x. (typed_of x, scope_of scope.new)) result (spilled (scope_of scope.old) (typed_of e)) }
+{
+    if !is_tag(&e.ty.ty) {
+        return Ok(e);
+    }
+    let (own, e) = beside(e.ty.copy(alloc), e)?;
+    let (ty, e) = beside(e.ty.copy(alloc), e)?;
+    let (number, (ty, e)) = beside(scope.add_spill(own), (ty, e))?;
+    let (e, ty) = boxed_beside(alloc, e, ty)?;
+    let kind = TKind::Spill(number, e);
+    Ok(TExpr { ty, kind })
 }

@@ -1,6 +1,6 @@
 -- Arguments, one after the other.
 use Rattle.std.proofs.Common.{◌≡◌, ℕ, zero, suc, ◌+◌, ◌<◌, ◌≤◌, List, [], ◌∷◌, ◌++◌, length, drop, get_or, refl, sym, ap, ◌∙◌, arith, Ok, Err, Option, Some, None}
-use Rattle.std.specs.Prelude.{Result, Bool, option_map, slice_get}
+use Rattle.std.specs.Prelude.{Result, Bool, option_map, slice_get, unwrap_or}
 use Rattle.c65_base.specs.declared.refusal.Pos.{Pos}
 use Rattle.c65_base.specs.declared.refusal.Refusal.{Refusal}
 use Rattle.c65_base.specs.declared.refusal.Refusal.TheVariants as refusals
@@ -14,7 +14,7 @@ use Rattle.c65_csem.specs.declared.expr.TExpr.{TExpr}
 use Rattle.c65_csem.specs.Trees.{Typed, Nodes, none, some}
 use Rattle.c65_csem.specs.Views.{typed_of, nodes_of}
 use Rattle.c65_elab_convert.specs.Categories.{category_of}
-use Rattle.c65_elab_convert.specs.Calls.{argument, counted, first_type, other_types, given, count_of, count_in, arguments_by, arguments_for, result_by, result_type}
+use Rattle.c65_elab_convert.specs.Calls.{argument, counted, first_type, other_types, first_place, other_places, given, count_of, count_in, arguments_by, arguments_for, result_by, result_type}
 
 -- arguments behind those that are done
 abbrev pub behind : List TExpr → Result Nodes Fault → Result Nodes Fault
@@ -69,34 +69,46 @@ others_are [] (suc i) = refl
 others_are (x ∷ xs) zero = refl
 others_are (x ∷ xs) (suc i) = others_are xs i
 
+pub place_at : (p : Pos) (fs : List Pos) (i : ℕ) → first_place p (drop i fs) ≡ unwrap_or (slice_get fs i) p
+place_at p [] zero = refl
+place_at p [] (suc i) = refl
+place_at p (f ∷ fs) zero = refl
+place_at p (f ∷ fs) (suc i) = place_at p fs i
+
+pub places_are : (fs : List Pos) (i : ℕ) → other_places (drop i fs) ≡ drop (suc i) fs
+places_are [] zero = refl
+places_are [] (suc i) = refl
+places_are (f ∷ fs) zero = refl
+places_are (f ∷ fs) (suc i) = places_are fs i
+
 pub nodes_next : (es : List TExpr) (i : ℕ) (e : TExpr) → i < length es → e ≡ get_or es i e → nodes_of (drop i es) ≡ some (typed_of e) (nodes_of (drop (suc i) es))
 nodes_next [] i e below is = absurd (omega arith)
 nodes_next (x ∷ es) zero e below is = ap (λ (y : TExpr). some (typed_of y) (nodes_of es)) (sym is)
 nodes_next (x ∷ es) (suc i) e below is = nodes_next es i e (omega arith) is
 
 -- the next argument
-pub given_next : (types : TypesTy) (p : Pos) (n m : ℕ) (xs : List QType) (es done : List TExpr) (i : ℕ) (e x : TExpr) (whole : Result Nodes Fault) → i < length es → e ≡ get_or es i e → argument types p (option_map qty_of (slice_get xs i)) (typed_of e) ≡ Ok (typed_of x) → counted types p n (typed_of x) ≡ Ok m → behind done (given types p n (qtys_of (drop i xs)) (nodes_of (drop i es))) ≡ whole → behind (done ++ x ∷ []) (given types p m (qtys_of (drop (suc i) xs)) (nodes_of (drop (suc i) es))) ≡ whole
-given_next types p n m xs es done i e x whole below is made room so_far =
-    let step : given types p n (qtys_of (drop i xs)) (nodes_of (drop i es)) ≡ (given types p m (qtys_of (drop (suc i) xs)) (nodes_of (drop (suc i) es)) >>= λ ys. Ok (some (typed_of x) ys)) = rw (nodes_next es i e below is, first_is xs i, made, room, others_are xs i) refl in
-    behind_push done x (given types p m (qtys_of (drop (suc i) xs)) (nodes_of (drop (suc i) es))) ∙ ap (behind done) (sym step) ∙ so_far
+pub given_next : (types : TypesTy) (p : Pos) (fs : List Pos) (n m : ℕ) (xs : List QType) (es done : List TExpr) (i : ℕ) (e x : TExpr) (whole : Result Nodes Fault) → i < length es → e ≡ get_or es i e → argument types p (first_place p (drop i fs)) (option_map qty_of (slice_get xs i)) (typed_of e) ≡ Ok (typed_of x) → counted types p n (typed_of x) ≡ Ok m → behind done (given types p (drop i fs) n (qtys_of (drop i xs)) (nodes_of (drop i es))) ≡ whole → behind (done ++ x ∷ []) (given types p (drop (suc i) fs) m (qtys_of (drop (suc i) xs)) (nodes_of (drop (suc i) es))) ≡ whole
+given_next types p fs n m xs es done i e x whole below is made room so_far =
+    let step : given types p (drop i fs) n (qtys_of (drop i xs)) (nodes_of (drop i es)) ≡ (given types p (drop (suc i) fs) m (qtys_of (drop (suc i) xs)) (nodes_of (drop (suc i) es)) >>= λ ys. Ok (some (typed_of x) ys)) = rw (nodes_next es i e below is, first_is xs i, made, room, others_are xs i, places_are fs i) refl in
+    behind_push done x (given types p (drop (suc i) fs) m (qtys_of (drop (suc i) xs)) (nodes_of (drop (suc i) es))) ∙ ap (behind done) (sym step) ∙ so_far
 
 -- a fault of the next argument
-pub given_fault : (types : TypesTy) (p : Pos) (n : ℕ) (xs : List QType) (es done : List TExpr) (i : ℕ) (e : TExpr) (whole : Result Nodes Fault) (f : Fault) → i < length es → e ≡ get_or es i e → argument types p (option_map qty_of (slice_get xs i)) (typed_of e) ≡ Err f → behind done (given types p n (qtys_of (drop i xs)) (nodes_of (drop i es))) ≡ whole → whole ≡ Err f
-given_fault types p n xs es done i e whole f below is made so_far =
-    let step : given types p n (qtys_of (drop i xs)) (nodes_of (drop i es)) ≡ Err f = rw (nodes_next es i e below is, first_is xs i, made) refl in
+pub given_fault : (types : TypesTy) (p : Pos) (fs : List Pos) (n : ℕ) (xs : List QType) (es done : List TExpr) (i : ℕ) (e : TExpr) (whole : Result Nodes Fault) (f : Fault) → i < length es → e ≡ get_or es i e → argument types p (first_place p (drop i fs)) (option_map qty_of (slice_get xs i)) (typed_of e) ≡ Err f → behind done (given types p (drop i fs) n (qtys_of (drop i xs)) (nodes_of (drop i es))) ≡ whole → whole ≡ Err f
+given_fault types p fs n xs es done i e whole f below is made so_far =
+    let step : given types p (drop i fs) n (qtys_of (drop i xs)) (nodes_of (drop i es)) ≡ Err f = rw (nodes_next es i e below is, first_is xs i, made) refl in
     sym so_far ∙ ap (behind done) step ∙ behind_err done f
 
-pub given_large : (types : TypesTy) (p : Pos) (n : ℕ) (xs : List QType) (es done : List TExpr) (i : ℕ) (e x : TExpr) (whole : Result Nodes Fault) (f : Fault) → i < length es → e ≡ get_or es i e → argument types p (option_map qty_of (slice_get xs i)) (typed_of e) ≡ Ok (typed_of x) → counted types p n (typed_of x) ≡ Err f → behind done (given types p n (qtys_of (drop i xs)) (nodes_of (drop i es))) ≡ whole → whole ≡ Err f
-given_large types p n xs es done i e x whole f below is made room so_far =
-    let step : given types p n (qtys_of (drop i xs)) (nodes_of (drop i es)) ≡ Err f = rw (nodes_next es i e below is, first_is xs i, made, room) refl in
+pub given_large : (types : TypesTy) (p : Pos) (fs : List Pos) (n : ℕ) (xs : List QType) (es done : List TExpr) (i : ℕ) (e x : TExpr) (whole : Result Nodes Fault) (f : Fault) → i < length es → e ≡ get_or es i e → argument types p (first_place p (drop i fs)) (option_map qty_of (slice_get xs i)) (typed_of e) ≡ Ok (typed_of x) → counted types p n (typed_of x) ≡ Err f → behind done (given types p (drop i fs) n (qtys_of (drop i xs)) (nodes_of (drop i es))) ≡ whole → whole ≡ Err f
+given_large types p fs n xs es done i e x whole f below is made room so_far =
+    let step : given types p (drop i fs) n (qtys_of (drop i xs)) (nodes_of (drop i es)) ≡ Err f = rw (nodes_next es i e below is, first_is xs i, made, room) refl in
     sym so_far ∙ ap (behind done) step ∙ behind_err done f
 
 -- the type of a function, level by level
-pub arguments_view : (types : TypesTy) (p : Pos) (f : FnType) (es : Nodes) → arguments_for types p (fn_of f) es ≡ arguments_by types p (params_in (out-FnType f).params) (out-FnType f).variadic es
-arguments_view types p f es = ap (λ (g : Fn). arguments_for types p g es) (fn_view f)
+pub arguments_view : (types : TypesTy) (p : Pos) (fs : List Pos) (f : FnType) (es : Nodes) → arguments_for types p fs (fn_of f) es ≡ arguments_by types p fs (params_in (out-FnType f).params) (out-FnType f).variadic es
+arguments_view types p fs f es = ap (λ (g : Fn). arguments_for types p fs g es) (fn_view f)
 
-pub result_view : (p : Pos) (f : FnType) → result_type p (fn_of f) ≡ result_by p (category_of (type_in (qty_of (out-FnType f).result))) (qty_of (out-FnType f).result)
-result_view p f = ap (result_type p) (fn_view f)
+pub result_view : (types : TypesTy) (p : Pos) (f : FnType) → result_type types p (fn_of f) ≡ result_by types p (category_of (type_in (qty_of (out-FnType f).result))) (qty_of (out-FnType f).result)
+result_view types p f = ap (result_type types p) (fn_view f)
 
 none_left : (es : List TExpr) (i : ℕ) → i ≡ length es → nodes_of (drop i es) ≡ none
 none_left [] zero all = refl
@@ -105,5 +117,5 @@ none_left (e ∷ es) zero all = absurd (omega (arith, all))
 none_left (e ∷ es) (suc i) all = none_left es i (omega (arith, all))
 
 -- all arguments are done
-pub given_done : (types : TypesTy) (p : Pos) (n : ℕ) (xs : List QType) (es done : List TExpr) (i : ℕ) → i ≡ length es → behind done (given types p n (qtys_of (drop i xs)) (nodes_of (drop i es))) ≡ Ok (nodes_of done)
-given_done types p n xs es done i all = ap (λ (ys : Nodes). behind done (given types p n (qtys_of (drop i xs)) ys)) (none_left es i all) ∙ behind_end done
+pub given_done : (types : TypesTy) (p : Pos) (fs : List Pos) (n : ℕ) (xs : List QType) (es done : List TExpr) (i : ℕ) → i ≡ length es → behind done (given types p (drop i fs) n (qtys_of (drop i xs)) (nodes_of (drop i es))) ≡ Ok (nodes_of done)
+given_done types p fs n xs es done i all = ap (λ (ys : Nodes). behind done (given types p (drop i fs) n (qtys_of (drop i xs)) ys)) (none_left es i all) ∙ behind_end done

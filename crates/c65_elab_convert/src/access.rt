@@ -8,7 +8,7 @@ ghost use Rattle.c65_csem.specs.Views.{typed_of};
 ghost use Rattle.c65_elab_convert.specs.Access as access;
 
 use crate::binaries::binary;
-use crate::classes::{Category, classify, is_bit_field, unfit_operand};
+use crate::classes::{Category, classify, is_array, is_bit_field, is_spilled, unfit_operand};
 use crate::unaries::deref;
 use crate::waiting::beside;
 use c65_base::{BinaryOp, Code, Name, Pos, Refusal, boxed_beside};
@@ -122,6 +122,10 @@ fn member_of_tag(
     let (found, e) = beside(member_type(alloc, types, &e.ty, name), e)?;
     match found {
         Some((i, ty)) => {
+            if is_spilled(&e) && is_array(&ty.ty) {
+                drop(e);
+                return Err(Refusal::fault(Code::Operands, pos));
+            }
             let (e, ty) = boxed_beside(alloc, e, ty)?;
             let kind = TKind::Member(e, i);
             Ok(TExpr { ty, kind })
@@ -146,8 +150,8 @@ fn member_in(alloc: Global, types: &Types, pos: Pos, e: TExpr, name: Name) -> Re
 }
 
 /// `e.name`, or `e->name` with the flag `arrow` (C90 6.3.2.3). A member has the qualifiers of its
-/// structure or union too. Refuses `Operands`, `VoidValue`, and `MemberUnknown`, also where the
-/// structure or union is not complete.
+/// structure or union too. Refuses `Operands`, also for an array within what a call gave, `VoidValue`,
+/// and `MemberUnknown`, also where the structure or union is not complete.
 pub fn member(
     alloc: Global,
     types: &Types,

@@ -1,5 +1,5 @@
 // Calls (C90 6.3.2.2).
-ghost use Rattle.std.specs.Prelude.{◌≡◌, ◌≤◌, IfOk, length, map, option_map, option_copied, slice_get};
+ghost use Rattle.std.specs.Prelude.{◌≡◌, ◌≤◌, IfOk, drop, length, map, option_map, option_copied, slice_get};
 ghost use Rattle.c65_base.specs.Answers.{Gives};
 ghost use Rattle.c65_base.specs.Limits.{limit_of};
 ghost use Rattle.c65_base.specs.declared.refusal.Size.TheVariants as sizes;
@@ -11,6 +11,7 @@ ghost use Rattle.c65_elab_convert.specs.Calls as calls;
 
 use crate::changes::assigned;
 use crate::classes::{Category, classify, unfit_operand};
+use crate::structures::{packed_in, structure_size};
 use crate::values::{as_int, promotion, value};
 use crate::waiting::beside;
 use c65_base::{Code, Pos, Refusal, Size};
@@ -34,9 +35,10 @@ fn callee(ty: &CType) -> Option<&FnType>
     }
 }
 
-/// A value as it is passed without a prototype (C90 6.3.2.2).
-fn passed(alloc: Global, types: &Types, pos: Pos, e: TExpr) -> Result<TExpr, Refusal>
-    ensures { Gives typed_of result (calls.passed (types_of types.now) pos (typed_of e)) }
+/// A value as it is passed without a prototype (C90 6.3.2.2). A structure or union that is too large
+/// is refused where the argument begins.
+fn passed(alloc: Global, types: &Types, pos: Pos, first: Pos, e: TExpr) -> Result<TExpr, Refusal>
+    ensures { Gives typed_of result (calls.passed (types_of types.now) pos first (typed_of e)) }
 {
     let e = value(alloc, e)?;
     match classify(&e.ty.ty) {
@@ -45,20 +47,26 @@ fn passed(alloc: Global, types: &Types, pos: Pos, e: TExpr) -> Result<TExpr, Ref
             Ok(as_int(alloc, kind, e)?)
         }
         Category::Pointer => Ok(e),
-        Category::Tag | Category::Void | Category::Other => {
-            Err(unfit_operand(Code::StructValue, pos, e))
-        }
+        Category::Tag => packed_in(alloc, types, first, e),
+        Category::Void | Category::Other => Err(unfit_operand(Code::Operands, pos, e)),
     }
 }
 
 /// An argument as a parameter of this type takes it.
-fn taken(alloc: Global, types: &Types, pos: Pos, q: &QType, e: TExpr) -> Result<TExpr, Refusal>
-    ensures { Gives typed_of result (calls.taken_by (types_of types.now) pos (category_of (type_in (qty_of q.now))) (qty_of q.now) (typed_of e)) }
+fn taken(
+    alloc: Global,
+    types: &Types,
+    pos: Pos,
+    first: Pos,
+    q: &QType,
+    e: TExpr,
+) -> Result<TExpr, Refusal>
+    ensures { Gives typed_of result (calls.taken_by (types_of types.now) pos first (category_of (type_in (qty_of q.now))) (qty_of q.now) (typed_of e)) }
 {
     match classify(&q.ty) {
         Category::Tag => {
-            drop(e);
-            Err(Refusal::fault(Code::StructValue, pos))
+            let e = assigned(alloc, types, pos, &q.ty, e)?;
+            packed_in(alloc, types, first, e)
         }
         Category::Int(_) | Category::Pointer | Category::Void | Category::Other => {
             assigned(alloc, types, pos, &q.ty, e)
@@ -71,15 +79,27 @@ fn argument(
     alloc: Global,
     types: &Types,
     pos: Pos,
+    first: Pos,
     parameters: &[QType],
     i: usize,
     e: TExpr,
 ) -> Result<TExpr, Refusal>
-    ensures { Gives typed_of result (calls.argument (types_of types.now) pos (option_map qty_of (slice_get parameters.now i)) (typed_of e)) }
+    ensures { Gives typed_of result (calls.argument (types_of types.now) pos first (option_map qty_of (slice_get parameters.now i)) (typed_of e)) }
 {
     match parameters.get(i) {
-        Some(q) => taken(alloc, types, pos, q, e),
-        None => passed(alloc, types, pos, e),
+        Some(q) => taken(alloc, types, pos, first, q, e),
+        None => passed(alloc, types, pos, first, e),
+    }
+}
+
+/// The place where an argument begins, or else that of the call.
+#[tactic(auto, using(crate::proofs::ArgumentLaws::place_at))]
+fn first_place(pos: Pos, firsts: &[Pos], i: usize) -> Pos
+    ensures { result ≡ calls.first_place pos (drop i firsts.now) }
+{
+    match firsts.get(i) {
+        Some(first) => *first,
+        None => pos,
     }
 }
 
@@ -105,16 +125,18 @@ fn given(
     alloc: Global,
     types: &Types,
     pos: Pos,
+    firsts: &[Pos],
     parameters: &[QType],
     arguments: Vec<TExpr>,
 ) -> Result<Vec<TExpr>, Refusal>
-    ensures { Gives (λ v. nodes_of v.items) result (calls.given (types_of types.now) pos 0 (qtys_of parameters.now) (nodes_of arguments.items)) }
+    ensures { Gives (λ v. nodes_of v.items) result (calls.given (types_of types.now) pos firsts.now 0 (qtys_of parameters.now) (nodes_of arguments.items)) }
 {
     let mut total: u32 = 0;
     let mut given = Vec::new(alloc);
     for e in arguments {
         let i = given.len();
-        let e = argument(alloc, types, pos, parameters, i, e)?;
+        let first = first_place(pos, firsts, i);
+        let e = argument(alloc, types, pos, first, parameters, i, e)?;
         total = counted(types, pos, total, &e)?;
         given.push(e)?;
     }
@@ -138,14 +160,15 @@ fn known(
     alloc: Global,
     types: &Types,
     pos: Pos,
+    firsts: &[Pos],
     variadic: bool,
     parameters: &[QType],
     arguments: Vec<TExpr>,
 ) -> Result<Vec<TExpr>, Refusal>
-    ensures { Gives (λ v. nodes_of v.items) result (calls.known_for (types_of types.now) pos variadic (qtys_of parameters.now) (nodes_of arguments.items)) }
+    ensures { Gives (λ v. nodes_of v.items) result (calls.known_for (types_of types.now) pos firsts.now variadic (qtys_of parameters.now) (nodes_of arguments.items)) }
 {
     if is_count(variadic, parameters.len(), arguments.len()) {
-        given(alloc, types, pos, parameters, arguments)
+        given(alloc, types, pos, firsts, parameters, arguments)
     } else {
         drop(arguments);
         Err(Refusal::fault(Code::ArgumentCount, pos))
@@ -157,26 +180,45 @@ fn arguments_for(
     alloc: Global,
     types: &Types,
     pos: Pos,
+    firsts: &[Pos],
     function: &FnType,
     arguments: Vec<TExpr>,
 ) -> Result<Vec<TExpr>, Refusal>
-    ensures { Gives (λ v. nodes_of v.items) result (calls.arguments_for (types_of types.now) pos (fn_of function.now) (nodes_of arguments.items)) }
+    ensures { Gives (λ v. nodes_of v.items) result (calls.arguments_for (types_of types.now) pos firsts.now (fn_of function.now) (nodes_of arguments.items)) }
 {
     match &function.params {
-        None => given(alloc, types, pos, &[], arguments),
-        Some(parameters) => known(alloc, types, pos, function.variadic, parameters, arguments),
+        None => given(alloc, types, pos, firsts, &[], arguments),
+        Some(parameters) => known(
+            alloc,
+            types,
+            pos,
+            firsts,
+            function.variadic,
+            parameters,
+            arguments,
+        ),
     }
 }
 
-/// The type of what a function gives: nothing or a scalar.
-fn result_type(alloc: Global, pos: Pos, function: &FnType) -> Result<QType, Refusal>
-    ensures { Gives qty_of result (calls.result_type pos (fn_of function.now)) }
+/// The type of what a function gives: nothing, a scalar, or a structure or union of at most four
+/// bytes.
+fn result_type(
+    alloc: Global,
+    types: &Types,
+    pos: Pos,
+    function: &FnType,
+) -> Result<QType, Refusal>
+    ensures { Gives qty_of result (calls.result_type (types_of types.now) pos (fn_of function.now)) }
 {
     match classify(&function.result.ty) {
         Category::Void | Category::Int(_) | Category::Pointer => {
             Ok(unqualified(alloc, &function.result)?)
         }
-        Category::Tag | Category::Other => Err(Refusal::fault(Code::StructValue, pos)),
+        Category::Tag => {
+            structure_size(types, pos, &function.result.ty)?;
+            Ok(unqualified(alloc, &function.result)?)
+        }
+        Category::Other => Err(Refusal::fault(Code::Operands, pos)),
     }
 }
 
@@ -185,35 +227,37 @@ fn parts_for(
     alloc: Global,
     types: &Types,
     pos: Pos,
+    firsts: &[Pos],
     function: &FnType,
     arguments: Vec<TExpr>,
 ) -> Result<(QType, Vec<TExpr>), Refusal>
-    ensures { Gives (λ x. (qty_of x.0, nodes_of x.1.items)) result (calls.parts_for (types_of types.now) pos (fn_of function.now) (nodes_of arguments.items)) }
+    ensures { Gives (λ x. (qty_of x.0, nodes_of x.1.items)) result (calls.parts_for (types_of types.now) pos firsts.now (fn_of function.now) (nodes_of arguments.items)) }
 {
-    let (ty, arguments) = beside(result_type(alloc, pos, function), arguments)?;
-    let given = arguments_for(alloc, types, pos, function, arguments);
+    let (ty, arguments) = beside(result_type(alloc, types, pos, function), arguments)?;
+    let given = arguments_for(alloc, types, pos, firsts, function, arguments);
     let (given, ty) = beside(given, ty)?;
     Ok((ty, given))
 }
 
-/// A call (C90 6.3.2.2). Refuses `NotCallable`, `StructValue` for a result or an argument,
-/// `ArgumentCount`, `Assignment`, `VoidValue`, and `ArgumentBytes` where the arguments have more
-/// than 250 bytes.
+/// A call (C90 6.3.2.2), whose arguments begin at these places. Refuses `NotCallable`, `StructSize`
+/// and `IncompleteType` where an argument for which there is no parameter begins, `ArgumentCount`,
+/// `Assignment`, `VoidValue`, and `ArgumentBytes` where the arguments have more than 250 bytes.
 pub fn call(
     alloc: Global,
     types: &Types,
     pos: Pos,
+    firsts: &[Pos],
     function: TExpr,
     arguments: Vec<TExpr>,
 ) -> Result<TExpr, Refusal>
-    ensures { Gives typed_of result (calls.call_of (types_of types.now) pos (typed_of function) (nodes_of arguments.items)) }
+    ensures { Gives typed_of result (calls.call_of (types_of types.now) pos firsts.now (typed_of function) (nodes_of arguments.items)) }
 {
     let (function, arguments) = beside(value(alloc, function), arguments)?;
     let Some(callee) = callee(&function.ty.ty) else {
         drop(arguments);
         return Err(unfit_operand(Code::NotCallable, pos, function));
     };
-    let parts = parts_for(alloc, types, pos, callee, arguments);
+    let parts = parts_for(alloc, types, pos, firsts, callee, arguments);
     let ((ty, given), function) = beside(parts, function)?;
     Ok(TExpr::call(alloc, ty, function, given)?)
 }

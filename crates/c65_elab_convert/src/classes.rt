@@ -90,6 +90,15 @@ pub(crate) fn is_function(ty: &CType) -> bool
     }
 }
 
+pub(crate) fn is_array(ty: &CType) -> bool
+    ensures { result ≡ categories.is_array (ty_of ty.now) }
+{
+    match ty {
+        CType::Array(_, _) => true,
+        _ => false,
+    }
+}
+
 /// Whether a value of this type is an integer or a pointer.
 pub(crate) fn is_scalar_type(q: &QType) -> bool
     ensures { result ≡ categories.is_scalar_type (qty_of q.now) }
@@ -108,6 +117,17 @@ pub fn is_lvalue(e: &TExpr) -> bool
     match &e.kind {
         TKind::Literal(_) | TKind::Object(_) | TKind::Deref(_) => true,
         TKind::Member(object, _) => is_lvalue(object),
+        _ => false,
+    }
+}
+
+/// Whether an expression is what a call gave, or a part of it (C90 6.3.2.2).
+pub fn is_spilled(e: &TExpr) -> bool
+    ensures { result ≡ categories.is_spilled (typed_of e.now) }
+{
+    match &e.kind {
+        TKind::Spill(_, _) => true,
+        TKind::Member(object, _) => is_spilled(object),
         _ => false,
     }
 }

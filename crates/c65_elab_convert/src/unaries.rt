@@ -5,7 +5,7 @@ ghost use Rattle.c65_ctype.specs.Views.{ty_of, qty_of, types_of};
 ghost use Rattle.c65_csem.specs.Views.{typed_of};
 ghost use Rattle.c65_elab_convert.specs.Unaries as unaries;
 
-use crate::classes::{Category, classify, is_bit_field, is_lvalue, is_void, unfit_operand};
+use crate::classes::{Category, classify, is_bit_field, is_lvalue, is_spilled, is_void, unfit_operand};
 use crate::values::{as_int, promotion, value};
 use crate::waiting::beside;
 use c65_base::{Code, Pos, Refusal, UnaryOp, boxed_beside};
@@ -106,8 +106,9 @@ fn pointer_from(alloc: Global, e: TExpr) -> Result<TExpr, AllocError>
 }
 
 /// The address of an expression (C90 6.3.3.2). `register` says that it names an object of class
-/// `register` or a part of one. Refuses `NotModifiable` where the operand is neither an lvalue nor
-/// a function, `BitField` and `RegisterAddress`.
+/// `register` or a part of one. Refuses `Operands` where the operand is what a call gave or a part
+/// of it, `NotModifiable` where it is neither an lvalue nor a function, `BitField` and
+/// `RegisterAddress`.
 pub fn address(
     alloc: Global,
     types: &Types,
@@ -117,6 +118,10 @@ pub fn address(
 ) -> Result<TExpr, Refusal>
     ensures { Gives typed_of result (unaries.address_of (types_of types.now) pos register (typed_of e)) }
 {
+    if is_spilled(&e) {
+        drop(e);
+        return Err(Refusal::fault(Code::Operands, pos));
+    }
     if !has_address(&e) {
         drop(e);
         return Err(Refusal::fault(Code::NotModifiable, pos));

@@ -10,6 +10,7 @@ ghost use Rattle.c65_elab_declare.specs.Prototypes.{storage_at, first_of, storag
 use crate::parts::{Formal, adjusted, fault};
 use c65_base::{Code, Name, Pos, Refusal, Size};
 use c65_ctype::{CType, QType, Types};
+use c65_elab_convert::structure_size;
 use c65_elab_scope::Scope;
 use c65_tree::{Specifier, SpecifierKind, Specifiers, Storage};
 use std::alloc::Global;
@@ -74,7 +75,8 @@ fn is_void_list(sole: bool, name: Option<Name>, ty: &QType, is_register: bool) -
     sole && is_nothing(name, ty, is_register)
 }
 
-/// A parameter is no structure and no union, and has a size, unless the list is `(void)`.
+/// A parameter has a size, and a structure or union has at most four bytes, unless the list is
+/// `(void)`.
 fn param_form(nothing: bool, types: &Types, ty: &QType, pos: Pos) -> Result<(), Refusal>
     ensures { Gives (λ x. tt) result (param_form nothing (types_of types.now) (qty_of ty.now) pos) }
 {
@@ -82,7 +84,10 @@ fn param_form(nothing: bool, types: &Types, ty: &QType, pos: Pos) -> Result<(), 
         return Ok(());
     }
     match &ty.ty {
-        CType::Struct(_) => Err(fault(Code::StructValue, pos)),
+        CType::Struct(_) => {
+            structure_size(types, pos, &ty.ty)?;
+            Ok(())
+        }
         _ => {
             types.size(&ty.ty, pos)?;
             Ok(())

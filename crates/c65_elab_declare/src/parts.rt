@@ -9,6 +9,7 @@ ghost use Rattle.c65_elab_declare.specs.Declarators.{formal_of, formals_of, part
 use c65_base::{Code, Name, Pos, Refusal, Size};
 use c65_csem::pointer_to;
 use c65_ctype::{CType, FnType, QType, Types};
+use c65_elab_convert::structure_size;
 use std::alloc::{AllocError, Global};
 
 /// A parameter: its name, its type after adjustment, and its place.
@@ -164,15 +165,21 @@ pub struct Role {
     pub cdecl: bool,
     /// The first function part may have names alone.
     pub named: bool,
+    /// The place of the declarator's name.
+    pub name: Pos,
 }
 
-/// No function gives a function, an array, a structure or a union.
-fn result_form(ty: &CType, pos: Pos) -> Result<(), Refusal>
-    ensures { Gives (λ x. tt) result (result_form (ty_of ty.now) pos) }
+/// No function gives a function or an array; a structure or union that it gives has at most four
+/// bytes, and is refused at the function's name.
+fn result_form(types: &Types, ty: &CType, pos: Pos, name: Pos) -> Result<(), Refusal>
+    ensures { Gives (λ x. tt) result (result_form (types_of types.now) (ty_of ty.now) pos name) }
 {
     match ty {
         CType::Function(_) | CType::Array(_, _) => Err(fault(Code::TypeForm, pos)),
-        CType::Struct(_) => Err(fault(Code::StructValue, pos)),
+        CType::Struct(_) => {
+            structure_size(types, name, ty)?;
+            Ok(())
+        }
         _ => Ok(()),
     }
 }
@@ -180,14 +187,15 @@ fn result_form(ty: &CType, pos: Pos) -> Result<(), Refusal>
 /// A function that gives a type (C90 6.5.4.3).
 fn function(
     alloc: Global,
+    types: &Types,
     given: QType,
     formals: &Formals,
     role: Role,
     pos: Pos,
 ) -> Result<QType, Refusal>
-    ensures { Gives qty_of result (called (qty_of given) (formals_of formals.now) role pos) }
+    ensures { Gives qty_of result (called (types_of types.now) (qty_of given) (formals_of formals.now) role pos) }
 {
-    result_form(&given.ty, pos)?;
+    result_form(types, &given.ty, pos, role.name)?;
     let (params, variadic) = params_of(alloc, formals, role.named, pos)?;
     let ty = FnType::new(given, params, variadic, role.cdecl);
     within_depth(QType {
@@ -210,7 +218,7 @@ fn applied(
     match part {
         Part::Pointer(is_const, is_volatile) => pointer(alloc, ty, *is_const, *is_volatile),
         Part::Array(count, pos) => array(alloc, types, ty, *count, *pos),
-        Part::Function(formals, pos) => function(alloc, ty, formals, role, *pos),
+        Part::Function(formals, pos) => function(alloc, types, ty, formals, role, *pos),
     }
 }
 
@@ -222,10 +230,12 @@ fn role_behind(part: &Part, role: Role) -> Role
         Part::Function(_, _) => Role {
             cdecl: false,
             named: false,
+            name: role.name,
         },
         _ => Role {
             cdecl: role.cdecl,
             named: false,
+            name: role.name,
         },
     }
 }

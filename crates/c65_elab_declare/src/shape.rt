@@ -6,7 +6,7 @@ ghost use Rattle.c65_tree.specs.View.{declarator_of};
 ghost use Rattle.c65_elab_declare.specs.Declarators.{part_of};
 ghost use Rattle.c65_elab_declare.specs.Shapes.{shaped, shaped_for};
 
-use crate::calling::is_cdecl;
+use crate::calling::{is_cdecl, name_place};
 use crate::parts::{Part, Role, built};
 use c65_base::Refusal;
 use c65_ctype::{QType, Types};
@@ -26,7 +26,8 @@ pub fn shaped_for(
     ensures { Gives qty_of result (shaped_for (types_of types.now) (qty_of base.now) (declarator_of item.now) (map part_of parts.now) named) }
 {
     let cdecl = is_cdecl(item)?;
-    let role = Role { cdecl, named };
+    let name = name_place(item);
+    let role = Role { cdecl, named, name };
     built(alloc, types, base, parts, role)
 }
 

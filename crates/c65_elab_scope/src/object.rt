@@ -171,7 +171,7 @@ impl Scope {
     {
         unless(self.names.find_in(name, self.block).is_some(), pos)?;
         needs_size(&self.parts.types, &ty.ty, pos)?;
-        let number = self.add_object(name, ty, class)?;
+        let number = self.add_object(Some(name), ty, class)?;
         self.bind(name, Meaning::Object(number))?;
         Ok(Entity::Object(number))
     }
@@ -215,7 +215,7 @@ impl Scope {
         match link {
             Some(bound) => self.object_again(name, ty, class, pos, bound.meaning),
             None => {
-                let number = self.add_object(name, ty, class)?;
+                let number = self.add_object(Some(name), ty, class)?;
                 self.bind_link(name, Meaning::Object(number))?;
                 Ok(Entity::Object(number))
             }

@@ -1,10 +1,10 @@
 // The lists of a unit grow, and what was declared before becomes more definite.
-ghost use Rattle.std.specs.Prelude.{◌≡◌, map, take, Ok};
+ghost use Rattle.std.specs.Prelude.{◌≡◌, map, take, filter, nat_lt, Ok};
 ghost use Rattle.c65_base.specs.Answers.{Gives};
 ghost use Rattle.c65_ctype.specs.Views.{ty_of, qty_of, fn_of};
 ghost use Rattle.c65_csem.specs.Views.{object_of, func_of};
 ghost use Rattle.c65_elab_scope.specs.Scopes.{scope_of};
-ghost use Rattle.c65_elab_scope.specs.Parts.{object_added, func_added, typedef_added, literal_added, with_object, with_func, filled, counted_ty, counted, with_count, object_redeclared, func_redeclared, completed, fewer_objects};
+ghost use Rattle.c65_elab_scope.specs.Parts.{object_added, func_added, typedef_added, literal_added, with_object, with_func, filled, counted_ty, counted, with_count, object_redeclared, func_redeclared, completed, fewer_objects, spill_added, without_spills};
 
 use crate::scope::Scope;
 use c65_base::{Name, Refusal, Text as Bytes};
@@ -101,9 +101,21 @@ fn keep_first(objects: &mut Vec<TObject>, count: usize)
     objects.truncate(count);
 }
 
+/// Only the numbers of those objects stay.
+fn keep_spills(spills: &mut Vec<u32>, count: usize)
+    ensures { spills.new.items ≡ filter (λ i. nat_lt i count) spills.old.items }
+{
+    spills.retain(|number| (*number as usize) < count);
+}
+
 impl Scope {
     /// One more object, and its number.
-    pub(crate) fn add_object(&mut self, name: Name, ty: QType, class: Class) -> Result<u32, Refusal>
+    pub(crate) fn add_object(
+        &mut self,
+        name: Option<Name>,
+        ty: QType,
+        class: Class,
+    ) -> Result<u32, Refusal>
         ensures { Gives (λ n. (n, scope_of self.new)) result (object_added (scope_of self.old) name (qty_of ty) class) }
     {
         let number = next_number(self.parts.objects.len())?;
@@ -115,6 +127,24 @@ impl Scope {
         };
         self.parts.objects.push(object)?;
         Ok(number)
+    }
+
+    /// One more object without a name, which holds what a call gives, and its number. It refuses for
+    /// memory alone.
+    pub fn add_spill(&mut self, ty: QType) -> Result<u32, Refusal>
+        ensures { Gives (λ n. (n, scope_of self.new)) result (spill_added (scope_of self.old) (qty_of ty)) }
+    {
+        let number = self.add_object(None, ty, Class::Auto)?;
+        self.spills.push(number)?;
+        Ok(number)
+    }
+
+    /// The objects without a name of a function, which begins or ends. It takes no memory.
+    pub fn take_spills(&mut self) -> Vec<u32>
+        ensures spills { result.items ≡ (scope_of self.old).spills }
+        ensures left { scope_of self.new ≡ without_spills (scope_of self.old) }
+    {
+        mem::replace(&mut self.spills, Vec::new(self.alloc))
     }
 
     /// One more function, and its number.
@@ -179,10 +209,12 @@ impl Scope {
         complete_object(&mut self.parts.objects, object, count);
     }
 
-    /// Forgets the objects from this number on, which were those of a prototype's parameters.
+    /// Forgets the objects from this number on, which were those of a prototype's parameters, or of
+    /// what calls give that are not evaluated.
     pub fn keep_objects(&mut self, count: usize)
         ensures { scope_of self.new ≡ fewer_objects (scope_of self.old) count }
     {
         keep_first(&mut self.parts.objects, count);
+        keep_spills(&mut self.spills, count);
     }
 }

@@ -4,7 +4,7 @@ ghost use Rattle.c65_base.specs.Answers.{Gives};
 ghost use Rattle.c65_ctype.specs.Views.{qty_of, types_of};
 ghost use Rattle.c65_csem.specs.Views.{unit_of};
 ghost use Rattle.c65_elab_scope.specs.Tables.{found, found_in};
-ghost use Rattle.c65_elab_scope.specs.Scopes.{scope_of, nothing, opened, closed, char_of, tag_bound};
+ghost use Rattle.c65_elab_scope.specs.Scopes.{scope_of, nothing, variadic_in, variadic_behind, opened, closed, char_of, tag_bound};
 
 use crate::meaning::{Bound, Meaning};
 use crate::table::Table;
@@ -30,13 +30,52 @@ pub struct Scope {
     pub block: u32,
     /// Plain char is signed.
     pub signed_chars: bool,
+    /// The objects without a name of the function that is gone through, by number.
+    pub spills: Vec<u32>,
+    /// The name of the place behind the further arguments.
+    pub rest: Name,
+    /// The block at which the body of a variadic function began.
+    pub variadic: Option<u32>,
     pub alloc: Global,
 }
 
+/// The block at which the body of a variadic function begins, if it did or does with this block.
+fn variadic_in(begins: bool, block: u32, open: Option<u32>) -> Option<u32>
+    ensures { result ≡ variadic_in begins block open }
+{
+    match open {
+        Some(number) => Some(number),
+        None => {
+            if begins {
+                Some(block)
+            } else {
+                None
+            }
+        }
+    }
+}
+
+/// The same behind the end of this block.
+fn variadic_behind(block: u32, open: Option<u32>) -> Option<u32>
+    ensures { result ≡ variadic_behind block open }
+{
+    match open {
+        None => None,
+        Some(number) => {
+            if number == block {
+                None
+            } else {
+                Some(number)
+            }
+        }
+    }
+}
+
 impl Scope {
-    /// The scope in which a unit begins. It refuses for memory alone.
-    pub fn new(alloc: Global, options: &Options) -> Result<Scope, Refusal>
-        ensures { Gives scope_of result (nothing options.now.signed_chars) }
+    /// The scope in which a unit begins, and the name of the place behind the further arguments. It
+    /// refuses for memory alone.
+    pub fn new(alloc: Global, options: &Options, rest: Name) -> Result<Scope, Refusal>
+        ensures { Gives scope_of result (nothing options.now.signed_chars rest) }
     {
         Ok(Scope {
             parts: Parts {
@@ -51,18 +90,23 @@ impl Scope {
             typedefs: Vec::new(alloc),
             block: 0,
             signed_chars: options.signed_chars,
+            spills: Vec::new(alloc),
+            rest,
+            variadic: None,
             alloc,
         })
     }
 
-    /// Begins a block. It refuses for memory alone.
-    pub fn open(&mut self) -> Result<(), Refusal>
-        ensures { Gives (λ x. scope_of self.new) result (opened (scope_of self.old)) }
+    /// Begins a block; the flag says that it is the body of a variadic function. It refuses for
+    /// memory alone.
+    pub fn open(&mut self, variadic: bool) -> Result<(), Refusal>
+        ensures { Gives (λ x. scope_of self.new) result (opened variadic (scope_of self.old)) }
     {
         if self.block == 0xffff_ffff {
             return Err(Refusal::OutOfMemory);
         }
         self.block += 1;
+        self.variadic = variadic_in(variadic, self.block, self.variadic);
         Ok(())
     }
 
@@ -73,6 +117,7 @@ impl Scope {
         if self.block > 0 {
             self.names.close(self.block);
             self.tags.close(self.block);
+            self.variadic = variadic_behind(self.block, self.variadic);
             self.block -= 1;
         }
     }

@@ -1,5 +1,5 @@
 -- What joining answers beside a definition's value, up to want of memory.
-use Rattle.std.specs.Prelude.{◌≡◌, ℕ, List, [], ◌∷◌, Bool, true, false, unwrap_or, slice_get, Result, Ok, Err}
+use Rattle.std.specs.Prelude.{◌≡◌, ℕ, List, [], ◌∷◌, Bool, true, false, Option, Some, None, unwrap_or, slice_get, Result, Ok, Err}
 use Rattle.c65_base.specs.declared.names.Name.{Name}
 use Rattle.c65_base.specs.declared.refusal.LinkKind.{LinkKind}
 use Rattle.c65_base.specs.declared.refusal.Refusal.{Refusal}
@@ -37,6 +37,11 @@ fault_at names kind n = record { kind = kind; name = spelling_at names n }
 abbrev pub refused_if : List (List ℕ) → LinkKind → Bool → Name → Result (Unit {0}) JoinFault
 refused_if names kind true n = Err (fault_at names kind n)
 refused_if names kind false n = Ok tt
+
+-- an object without a name is nowhere else, so nothing of it can be at fault
+abbrev pub refused_at : List (List ℕ) → LinkKind → Bool → Option Name → Result (Unit {0}) JoinFault
+refused_at names kind b None = Ok tt
+refused_at names kind b (Some n) = refused_if names kind b n
 
 -- the first name for which the test holds is refused
 abbrev pub none_is : List (List ℕ) → LinkKind → (Name → Bool) → List Name → Result (Unit {0}) JoinFault

@@ -12,12 +12,12 @@ use Rattle.c65_csem.specs.Trees.{ObjectTy, FuncTy}
 use Rattle.c65_init_join.specs.declared.table.Item.{Item}
 use Rattle.c65_init_join.specs.declared.table.Item.TheVariants as items
 use Rattle.c65_init_join.specs.declared.table.Place.{Place}
-use Rattle.c65_init_join.specs.Answers.{JoinFault, ◌>>=◌, refused_if}
+use Rattle.c65_init_join.specs.Answers.{JoinFault, ◌>>=◌, refused_if, refused_at}
 use Rattle.c65_init_join.specs.Definitions.{own_prototype, agreeing}
 use Rattle.c65_init_join.specs.Items.{ItemsTy}
 use Rattle.c65_init_join.specs.Known.{main_named, main_spelling}
 use Rattle.c65_init_join.specs.Prototypes.{main_alone, main_with_words}
-use Rattle.c65_init_join.specs.Tables.{ExternalTy, TableTy, external_at, defined_in, defined_at}
+use Rattle.c65_init_join.specs.Tables.{ExternalTy, TableTy, external_at, defined_in, defined_at, place_of}
 use Rattle.c65_init_join.specs.Uses.{MarksTy, is_marked}
 
 -- ---- Twice
@@ -123,7 +123,7 @@ class_defined Declared place = is_some place
 class_defined _ place = true
 
 abbrev pub is_object_defined : TableTy → ObjectTy → Bool
-is_object_defined t o = class_defined o.class (defined_at t o.name)
+is_object_defined t o = class_defined o.class (place_of t o.name)
 
 abbrev pub is_func_defined : List (List ℕ) → TableTy → FuncTy → Bool
 is_func_defined names t f = is_some f.body || f.external && (is_some (library_at names f.name.0) || is_some (defined_at t f.name))
@@ -131,7 +131,7 @@ is_func_defined names t f = is_some f.body || f.external && (is_some (library_at
 -- from number i on
 abbrev pub objects_defined : List (List ℕ) → TableTy → List Bool → ℕ → List ObjectTy → Result (Unit {0}) JoinFault
 objects_defined names t marks i [] = Ok tt
-objects_defined names t marks i (o ∷ os) = refused_if names kinds.Undefined (is_marked marks i && not (is_object_defined t o)) o.name >>= (λ first. objects_defined names t marks (i + 1) os)
+objects_defined names t marks i (o ∷ os) = refused_at names kinds.Undefined (is_marked marks i && not (is_object_defined t o)) o.name >>= (λ first. objects_defined names t marks (i + 1) os)
 
 abbrev pub funcs_defined : List (List ℕ) → TableTy → List Bool → ℕ → List FuncTy → Result (Unit {0}) JoinFault
 funcs_defined names t marks i [] = Ok tt

@@ -8,7 +8,7 @@ use Rattle.c65_init_join.specs.declared.assign.Assigned.{Assigned}
 use Rattle.c65_init_join.specs.declared.assign.Counts.{Counts}
 use Rattle.c65_init_join.specs.declared.table.Place.{Place}
 use Rattle.c65_init_join.specs.Items.{ItemsTy}
-use Rattle.c65_init_join.specs.Tables.{ExternalTy, TableTy, external_at, defined_at, is_external, same_place, object_place, func_place, with_number, number_at}
+use Rattle.c65_init_join.specs.Tables.{ExternalTy, TableTy, external_at, place_of, is_external, same_place, object_place, func_place, with_number, number_of}
 
 -- ---- which items the program keeps
 
@@ -18,7 +18,7 @@ is_at (Some q) p = same_place q p
 
 -- an object without external linkage, or the definition of its name
 abbrev pub is_kept_object : TableTy → Place → ObjectTy → Bool
-is_kept_object t p o = if is_external o.class then is_at (defined_at t o.name) p else true
+is_kept_object t p o = if is_external o.class then is_at (place_of t o.name) p else true
 
 -- of a used function of the library, its first declaration
 abbrev pub is_kept_external : Bool → ExternalTy → Place → Bool
@@ -88,9 +88,13 @@ abbrev pub number_noted : Bool → Option ℕ → TableTy → Name → TableTy
 number_noted true (Some n) t name = with_number t name n
 number_noted _ _ t name = t
 
+abbrev pub number_kept : Bool → Option ℕ → TableTy → Option Name → TableTy
+number_kept b n t None = t
+number_kept b n t (Some name) = number_noted b n t name
+
 abbrev pub objects_noted : List (Option ℕ) → ℕ → List ObjectTy → TableTy → TableTy
 objects_noted ns i [] t = t
-objects_noted ns i (o ∷ os) t = objects_noted ns (i + 1) os (number_noted (is_external o.class) (given_at ns i) t o.name)
+objects_noted ns i (o ∷ os) t = objects_noted ns (i + 1) os (number_kept (is_external o.class) (given_at ns i) t o.name)
 
 abbrev pub funcs_noted : List (Option ℕ) → ℕ → List FuncTy → TableTy → TableTy
 funcs_noted ns i [] t = t
@@ -144,7 +148,7 @@ numbers_of n = record { objects = n.objects.items; funcs = n.funcs.items; litera
 
 abbrev pub completed_objects : TableTy → List (Option ℕ) → ℕ → List ObjectTy → List (Option ℕ)
 completed_objects t ns i [] = []
-completed_objects t ns i (o ∷ os) = (if is_external o.class then number_at t o.name else given_at ns i) ∷ completed_objects t ns (i + 1) os
+completed_objects t ns i (o ∷ os) = (if is_external o.class then number_of t o.name else given_at ns i) ∷ completed_objects t ns (i + 1) os
 
 abbrev pub completed_funcs : TableTy → List (Option ℕ) → ℕ → List FuncTy → List (Option ℕ)
 completed_funcs t ns i [] = []

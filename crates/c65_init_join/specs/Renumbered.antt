@@ -51,6 +51,9 @@ abbrev mutual
   renumbered_node ns (Trees.step how a) = Trees.step how (renumbered ns a)
   renumbered_node ns (Trees.copy a b) = Trees.copy (renumbered ns a) (renumbered ns b)
   renumbered_node ns (Trees.call f es) = Trees.call (renumbered ns f) (renumbered_nodes ns es)
+  renumbered_node ns (Trees.pack a) = Trees.pack (renumbered ns a)
+  renumbered_node ns (Trees.spill i a) = Trees.spill (object_number ns i) (renumbered ns a)
+  renumbered_node ns Trees.rest = Trees.rest
 
   pub renumbered_nodes : NumbersTy → Nodes → Nodes
   renumbered_nodes ns none = none

@@ -64,9 +64,14 @@ object_place unit i = record { unit = unit; item = items.Object i }
 abbrev pub func_place : ℕ → ℕ → Place
 func_place unit i = record { unit = unit; item = items.Func i }
 
+-- what an object without a name holds has no linkage
+abbrev pub declared_as : Place → Defines → Option Name → List DeclarationTy
+declared_as p d None = []
+declared_as p d (Some n) = record { name = n; place = p; defines = d } ∷ []
+
 -- the declaration of an item at a place, where it has external linkage
 abbrev pub object_at : Place → ObjectTy → List DeclarationTy
-object_at p o = if is_external o.class then record { name = o.name; place = p; defines = object_defines o.class } ∷ [] else []
+object_at p o = if is_external o.class then declared_as p (object_defines o.class) o.name else []
 
 abbrev pub func_at : Place → FuncTy → List DeclarationTy
 func_at p f = if f.external then record { name = f.name; place = p; defines = func_defines (is_some f.body) } ∷ [] else []
@@ -143,6 +148,10 @@ defined_in (Some e) = defined e
 abbrev pub defined_at : TableTy → Name → Option Place
 defined_at t n = defined_in (external_at t n)
 
+abbrev pub place_of : TableTy → Option Name → Option Place
+place_of t None = None
+place_of t (Some n) = defined_at t n
+
 abbrev pub same_item : Item → Item → Bool
 same_item (items.Object i) (items.Object j) = i == j
 same_item (items.Func i) (items.Func j) = i == j
@@ -162,9 +171,13 @@ with_use t n = record { externals = changed used t.externals n.0; order = t.orde
 abbrev pub use_if : Bool → TableTy → Name → TableTy
 use_if b t n = if b then with_use t n else t
 
+abbrev pub used_if : Bool → TableTy → Option Name → TableTy
+used_if b t None = t
+used_if b t (Some n) = use_if b t n
+
 abbrev pub objects_used : List Bool → ℕ → List ObjectTy → TableTy → TableTy
 objects_used marks i [] t = t
-objects_used marks i (o ∷ os) t = objects_used marks (i + 1) os (use_if (is_external o.class && is_marked marks i) t o.name)
+objects_used marks i (o ∷ os) t = objects_used marks (i + 1) os (used_if (is_external o.class && is_marked marks i) t o.name)
 
 abbrev pub funcs_used : List Bool → ℕ → List FuncTy → TableTy → TableTy
 funcs_used marks i [] t = t
@@ -188,3 +201,7 @@ number_in (Some e) = e.number
 -- the number of a name's item
 abbrev pub number_at : TableTy → Name → Option ℕ
 number_at t n = number_in (external_at t n)
+
+abbrev pub number_of : TableTy → Option Name → Option ℕ
+number_of t None = None
+number_of t (Some n) = number_at t n

@@ -55,6 +55,9 @@ abbrev mutual
   named_by (Trees.step how a) m = named a m
   named_by (Trees.copy a b) m = named b (named a m)
   named_by (Trees.call f es) m = named_in es (named f m)
+  named_by (Trees.pack a) m = named a m
+  named_by (Trees.spill i a) m = with_object i (named a m)
+  named_by Trees.rest m = m
 
   pub named_in : Nodes → MarksTy → MarksTy
   named_in none m = m

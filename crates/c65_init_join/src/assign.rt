@@ -48,7 +48,7 @@ fn is_kept_object(table: &Table, object: &TObject, place: Place) -> bool
     ensures { result ≡ ns.is_kept_object (table_of table.now) place (object_of object.now) }
 {
     if is_external(object) {
-        is_at(table.defined(object.name), place)
+        is_at(table.place_of(object.name), place)
     } else {
         true
     }
@@ -152,6 +152,15 @@ fn note_number(table: &mut Table, is_external: bool, name: Name, number: Option<
     }
 }
 
+/// The same of what may have no name.
+fn keep_number(table: &mut Table, is_external: bool, name: Option<Name>, number: Option<u32>)
+    ensures { table_of table.new ≡ ns.number_kept is_external number (table_of table.old) name }
+{
+    if let Some(name) = name {
+        note_number(table, is_external, name, number);
+    }
+}
+
 /// The number at a place of a list.
 fn given_at(given: &[Option<u32>], at: usize) -> Option<u32>
     ensures { result ≡ ns.given_at given.now at }
@@ -166,7 +175,7 @@ fn note_objects(table: &mut Table, objects: &[TObject], given: &[Option<u32>])
     ensures { table_of table.new ≡ ns.objects_noted given.now 0 (map object_of objects.now) (table_of table.old) }
 {
     for (i, object) in objects.iter().enumerate() {
-        note_number(table, is_external(object), object.name, given_at(given, i));
+        keep_number(table, is_external(object), object.name, given_at(given, i));
     }
 }
 
@@ -259,7 +268,7 @@ fn complete_objects(
     let mut numbers = Vec::new(alloc);
     for (i, object) in objects.iter().enumerate() {
         let number = if is_external(object) {
-            table.number(object.name)
+            table.number_of(object.name)
         } else {
             given_at(given, i)
         };

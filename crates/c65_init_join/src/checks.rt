@@ -4,7 +4,7 @@ ghost use Rattle.c65_base.specs.declared.refusal.LinkKind.TheVariants.{Undefined
 ghost use Rattle.c65_ctype.specs.Compatible.{are_compatible};
 ghost use Rattle.c65_ctype.specs.Views.{qty_of, fn_of, types_of};
 ghost use Rattle.c65_csem.specs.Views.{object_of, func_of};
-ghost use Rattle.c65_init_join.specs.Answers.{Gives, Fails, refused_if, none_is};
+ghost use Rattle.c65_init_join.specs.Answers.{Gives, Fails, refused_if, refused_at, none_is};
 ghost use Rattle.c65_init_join.specs.Checks as tests;
 ghost use Rattle.c65_base.specs.declared.names.Name.{Name};
 ghost use Rattle.c65_init_join.specs.Items.{items_of};
@@ -44,6 +44,22 @@ pub fn refused_if(
             Err(Refusal::Link { kind, name })
         }
         None => Err(Refusal::OutOfMemory),
+    }
+}
+
+/// The same of what may have no name.
+fn refused_at(
+    alloc: Global,
+    names: &Names,
+    kind: LinkKind,
+    is_fault: bool,
+    name: Option<Name>,
+) -> Result<(), Refusal>
+    ensures { Gives (λ x. tt) result (refused_at names.now kind is_fault name) }
+{
+    match name {
+        Some(name) => refused_if(alloc, names, kind, is_fault, name),
+        None => Ok(()),
     }
 }
 
@@ -94,7 +110,7 @@ fn is_object_defined(table: &Table, object: &TObject) -> bool
     ensures { result ≡ tests.is_object_defined (table_of table.now) (object_of object.now) }
 {
     match object.class {
-        Class::Declared => table.defined(object.name).is_some(),
+        Class::Declared => table.place_of(object.name).is_some(),
         _ => true,
     }
 }
@@ -118,7 +134,7 @@ fn check_objects(
 {
     for (i, object) in objects.iter().enumerate() {
         let is_fault = is_marked(marks, i) && !is_object_defined(table, object);
-        refused_if(alloc, names, LinkKind::Undefined, is_fault, object.name)?;
+        refused_at(alloc, names, LinkKind::Undefined, is_fault, object.name)?;
     }
     Ok(())
 }

@@ -83,7 +83,7 @@ fn mark_kind(marks: &mut Marks, kind: &TKind)
     ensures { marks_of marks.new ≡ named_by (node_of kind.now) (marks_of marks.old) }
 {
     match kind {
-        TKind::Const(_) | TKind::Null | TKind::Literal(_) => {}
+        TKind::Const(_) | TKind::Null | TKind::Literal(_) | TKind::Rest => {}
         TKind::Object(number) => mark(&mut marks.objects, *number),
         TKind::Func(number) => mark(&mut marks.funcs, *number),
         TKind::Deref(a)
@@ -93,7 +93,12 @@ fn mark_kind(marks: &mut Marks, kind: &TKind)
         | TKind::Decay(a)
         | TKind::Convert(a)
         | TKind::Unary(_, a)
-        | TKind::Step(_, a) => mark_expr(marks, a),
+        | TKind::Step(_, a)
+        | TKind::Pack(a) => mark_expr(marks, a),
+        TKind::Spill(number, a) => {
+            mark_expr(marks, a);
+            mark(&mut marks.objects, *number);
+        }
         TKind::Binary(_, a, b)
         | TKind::And(a, b)
         | TKind::Or(a, b)

@@ -23,7 +23,7 @@ fn renumber_kind(alloc: Global, numbers: &Numbers, kind: &mut TKind) -> Result<(
     ensures { OnOk result (node_of kind.new ≡ renumbered_node (numbers_of numbers.now) (node_of kind.old)) }
 {
     match kind {
-        TKind::Const(_) | TKind::Null => Ok(()),
+        TKind::Const(_) | TKind::Null | TKind::Rest => Ok(()),
         TKind::Literal(number) => {
             let found = numbers.literal(*number)?;
             *number = found;
@@ -47,6 +47,12 @@ fn renumber_kind(alloc: Global, numbers: &Numbers, kind: &mut TKind) -> Result<(
         TKind::Convert(a) => renumber_expr(alloc, numbers, a),
         TKind::Unary(_, a) => renumber_expr(alloc, numbers, a),
         TKind::Step(_, a) => renumber_expr(alloc, numbers, a),
+        TKind::Pack(a) => renumber_expr(alloc, numbers, a),
+        TKind::Spill(number, a) => {
+            let found = numbers.object(*number)?;
+            *number = found;
+            renumber_expr(alloc, numbers, a)
+        }
         TKind::Binary(_, a, b) => {
             renumber_expr(alloc, numbers, a)?;
             renumber_expr(alloc, numbers, b)

@@ -191,12 +191,32 @@ impl Table {
         }
     }
 
+    /// The same of what may have no name.
+    pub fn place_of(&self, name: Option<Name>) -> Option<Place>
+        ensures { result ≡ tables.place_of (table_of self.now) name }
+    {
+        match name {
+            Some(name) => self.defined(name),
+            None => None,
+        }
+    }
+
     /// The number of a name's item.
     pub fn number(&self, name: Name) -> Option<u32>
         ensures { result ≡ tables.number_at (table_of self.now) name }
     {
         match self.get(name) {
             Some(external) => external.number,
+            None => None,
+        }
+    }
+
+    /// The same of what may have no name.
+    pub fn number_of(&self, name: Option<Name>) -> Option<u32>
+        ensures { result ≡ tables.number_of (table_of self.now) name }
+    {
+        match name {
+            Some(name) => self.number(name),
             None => None,
         }
     }
@@ -249,7 +269,10 @@ impl Table {
         if !is_external(object) {
             return Ok(());
         }
-        self.enter(object.name, place, object_defines(object.class))
+        match object.name {
+            Some(name) => self.enter(name, place, object_defines(object.class)),
+            None => Ok(()),
+        }
     }
 
     fn enter_func(&mut self, func: &TFunc, place: Place) -> Result<(), AllocError>
@@ -314,14 +337,23 @@ impl Table {
         Ok(table)
     }
 
+    /// Enters whether an object's name is used.
+    fn use_object(&mut self, name: Option<Name>, is_used: bool)
+        ensures { table_of self.new ≡ tables.used_if is_used (table_of self.old) name }
+    {
+        if let Some(name) = name {
+            if is_used {
+                self.use_name(name);
+            }
+        }
+    }
+
     /// Enters which names of objects are used.
     fn use_objects(&mut self, objects: &[TObject], marks: &[bool])
         ensures { table_of self.new ≡ tables.objects_used marks.now 0 (map object_of objects.now) (table_of self.old) }
     {
         for (i, object) in objects.iter().enumerate() {
-            if is_external(object) && is_marked(marks, i) {
-                self.use_name(object.name);
-            }
+            self.use_object(object.name, is_external(object) && is_marked(marks, i));
         }
     }
 

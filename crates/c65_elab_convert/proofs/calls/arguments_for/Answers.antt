@@ -16,7 +16,7 @@ returns-in-Some c =
     let es = nodes_of c.args.arguments.items in
     let variadic = (out-FnType c.args.function.now).variadic in
     let same =
-    ap (λ (xs : List QType). known_for types c.args.pos variadic (qtys_of xs) es) c.deref.ensures.value
-    ∙ ap (λ (o : Option (Vec QType)). arguments_by types c.args.pos (params_in o) variadic es) (sym c.in-Some.is)
-    ∙ sym (arguments_view types c.args.pos c.args.function.now es) in
+    ap (λ (xs : List QType). known_for types c.args.pos c.args.firsts.now variadic (qtys_of xs) es) c.deref.ensures.value
+    ∙ ap (λ (o : Option (Vec QType)). arguments_by types c.args.pos c.args.firsts.now (params_in o) variadic es) (sym c.in-Some.is)
+    ∙ sym (arguments_view types c.args.pos c.args.firsts.now c.args.function.now es) in
     subst (Gives (λ v. nodes_of v.items) c.known.result) same c.known.ensures

@@ -11,5 +11,5 @@ invariant-loop-e l = record {
   is_finite : (goal.iterator-loop-e).is_finite l.e-iterator;
   small : l.total ≤ 250;
   count : length l.given.items ≡ length l.yielded;
-  so_far : behind l.given.items (given (types_of l.types) l.pos l.total (qtys_of (drop (length l.yielded) l.parameters)) (nodes_of (drop (length l.yielded) l.fn.arguments.items))) ≡ given (types_of l.types) l.pos 0 (qtys_of l.parameters) (nodes_of l.fn.arguments.items);
+  so_far : behind l.given.items (given (types_of l.types) l.pos (drop (length l.yielded) l.firsts) l.total (qtys_of (drop (length l.yielded) l.parameters)) (nodes_of (drop (length l.yielded) l.fn.arguments.items))) ≡ given (types_of l.types) l.pos l.firsts 0 (qtys_of l.parameters) (nodes_of l.fn.arguments.items);
 }
