@@ -1,6 +1,6 @@
 -- Elements, members and calls of well typed operands are well typed.
 use Rattle.std.proofs.Common.{◌≡◌, ℕ, Bool, true, false, Option, Some, None, Ok, refl, sym, ap, ◌∙◌, subst, List}
-use Rattle.std.specs.Prelude.{option_map, slice_get}
+use Rattle.std.specs.Prelude.{option_map, slice_get, ◌&&◌}
 use Rattle.c65_base.specs.declared.names.Name.{Name}
 use Rattle.c65_base.specs.declared.refusal.Pos.{Pos}
 use Rattle.c65_base.specs.declared.operators.BinaryOp.TheVariants as ops
@@ -9,7 +9,7 @@ use Rattle.c65_ctype.specs.Tables.{layout_at}
 use Rattle.c65_csem.specs.Trees.{Typed, type_of, UnitTy}
 use Rattle.c65_csem.specs.Places.{qualified}
 use Rattle.c65_csem.specs.Typed.{IsMember, IsTyped}
-use Rattle.c65_elab_convert.specs.Categories.{category_of}
+use Rattle.c65_elab_convert.specs.Categories.{category_of, is_array, is_spilled}
 use Rattle.c65_elab_convert.specs.Access.{index_of, find_from, typed_member, member_type, member_found, member_in_by, member_in, member_of_name}
 use Rattle.c65_elab_convert.specs.Unaries.{deref_of}
 use Rattle.c65_elab_convert.specs.Binaries.{binary_of}
@@ -52,7 +52,11 @@ member_is u (qual (tag i) c v) name x h = tested (layout_at u.types i) refl
 
 member_found_typed : (u : UnitTy) (p : Pos) (e r : Typed) (name : Name) (o : Option (ℕ × QTy)) → IsTyped u e → member_type u.types (type_of e) name ≡ o → member_found p e o ≡ Ok r → IsTyped u r
 member_found_typed u p e r name None w g h = absurd (not_ok _ _ h)
-member_found_typed u p e r name (Some x) w g h = subst (IsTyped u) (ok_is _ _ h) (w, member_is u (type_of e) name x g)
+member_found_typed u p e r name (Some x) w g h = tested (is_spilled e && is_array (type_in x.1)) refl
+  where
+    tested : (b : Bool) → (is_spilled e && is_array (type_in x.1)) ≡ b → IsTyped u r
+    tested true y = absurd (not_ok _ _ (rw y at h))
+    tested false y = subst (IsTyped u) (ok_is _ _ (rw y at h)) (w, member_is u (type_of e) name x g)
 
 member_in_typed : (u : UnitTy) (p : Pos) (e r : Typed) (name : Name) (t : Ty) → IsTyped u e → member_in_by u.types p (category_of t) e name ≡ Ok r → IsTyped u r
 member_in_typed u p e r name void w h = absurd (not_ok _ _ h)

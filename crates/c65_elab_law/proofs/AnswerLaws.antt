@@ -4,10 +4,11 @@ use Rattle.std.specs.Prelude.{Result}
 use Rattle.c65_base.specs.Answers.{Fault, ◌>>=◌}
 use Rattle.c65_csem.specs.Trees as n
 use Rattle.c65_csem.specs.Trees.{Typed, Nodes, UnitTy}
-use Rattle.c65_csem.specs.Typed.{IsTyped, AreTyped}
+use Rattle.c65_csem.specs.Typed.{IsTyped}
 use Rattle.c65_elab_scope.specs.Scopes.{ScopeTy, closed}
 use Rattle.c65_elab.specs.Typing.{beside, and_node, left}
 use Rattle.c65_elab_law.specs.Scoped.{IsScope, Keeps, IsAnswer}
+use Rattle.c65_elab_law.specs.WellTyped.{AreExpressions}
 use Rattle.c65_elab_law.proofs.GrowthLaws.{stays}
 use Rattle.c65_elab_law.proofs.OperatorLaws.{bind_ok, ok_is, not_ok}
 use Rattle.c65_elab_law.proofs.ScopeLaws.{keeps_on, closed_keeps, fewer_keeps}
@@ -65,10 +66,10 @@ Part {A} r = (s : ScopeTy) (x : A × ScopeTy) → IsScope s → r s ≡ Ok x →
 
 -- arguments, from left to right
 pub record AreAnswers (s : ScopeTy) (x : Nodes × ScopeTy) : Type 0 where
-  pub typed : AreTyped x.1.unit x.0
+  pub typed : AreExpressions x.1.unit x.0
   pub kept : Keeps s x.1
 
-pub one_more_typed : (u : UnitTy) (xs : Nodes) (e : Typed) → AreTyped u xs → IsTyped u e → AreTyped u (and_node xs e)
+pub one_more_typed : (u : UnitTy) (xs : Nodes) (e : Typed) → AreExpressions u xs → IsTyped u e → AreExpressions u (and_node xs e)
 one_more_typed u n.none e w v = (v, tt)
 one_more_typed u (n.some x xs) e w v = (w.0, one_more_typed u xs e w.1 v)
 

@@ -1,6 +1,6 @@
 -- Declarations keep what holds of a scope.
-use Rattle.std.proofs.Common.{◌≡◌, ℕ, zero, suc, Bool, true, false, Option, Some, None, Ok, refl, sym, ap, ◌∙◌, subst, List, [], ◌∷◌, ◌++◌, length, ℤ}
-use Rattle.std.specs.Prelude.{◌==◌, slice_get, is_some}
+use Rattle.std.proofs.Common.{◌≡◌, ℕ, zero, suc, arith, if◌then◌else◌, Bool, true, false, Option, Some, None, Ok, refl, sym, ap, ◌∙◌, subst, List, [], ◌∷◌, ◌++◌, length, ℤ}
+use Rattle.std.specs.Prelude.{◌==◌, ◌&&◌, slice_get, is_some}
 use Rattle.c65_base.specs.declared.names.Name.{Name}
 use Rattle.c65_base.specs.declared.refusal.Pos.{Pos}
 use Rattle.c65_base.specs.Answers.{◌>>=◌}
@@ -8,14 +8,14 @@ use Rattle.c65_tree.specs.declared.expr.Storage.{Storage}
 use Rattle.c65_tree.specs.declared.expr.Storage.TheVariants as storages
 use Rattle.c65_ints.specs.declared.types.IntType.TheVariants.{Int}
 use Rattle.c65_ints.specs.Ranges.{InRange}
-use Rattle.c65_ctype.specs.Trees.{Ty, void, int, pointer, array, tag, function, QTy, qual, type_in, Fn, TypesTy}
-use Rattle.c65_ctype.specs.Compatible.{are_compatible, same_bool}
+use Rattle.c65_ctype.specs.Trees.{Ty, void, int, pointer, array, tag, function, QTy, qual, type_in, Fn, TagTy, TypesTy}
+use Rattle.c65_ctype.specs.Compatible.{same_bool, each, each_in, agrees, tags_meet, agree_within, are_compatible}
 use Rattle.c65_ctype.specs.Composite.{joined_tag, composite_of, composite_ty}
-use Rattle.c65_ctype.specs.Tables.{layout_at}
+use Rattle.c65_ctype.specs.Tables.{AreTags, layout_at}
 use Rattle.c65_csem.specs.declared.items.Class.{Class}
 use Rattle.c65_csem.specs.declared.items.Class.TheVariants as c
 use Rattle.c65_csem.specs.Trees.{ObjectTy}
-use Rattle.c65_csem.specs.Places.{is_sized, is_sized_in, are_alike, alike, is_register}
+use Rattle.c65_csem.specs.Places.{is_sized, is_sized_in, are_alike, alike, is_automatic, is_register}
 use Rattle.c65_elab_scope.specs.declared.meaning.Bound.{Bound}
 use Rattle.c65_elab_scope.specs.declared.meaning.Entity.{Entity}
 use Rattle.c65_elab_scope.specs.declared.meaning.Entity.TheVariants as e
@@ -30,7 +30,7 @@ use Rattle.c65_elab_law.specs.Scoped.{has_elements, HasPlace, ArePlaced, IsScope
 use Rattle.c65_elab_law.proofs.GrowthLaws.{same_self, alike_self}
 use Rattle.c65_elab_law.proofs.OperatorLaws.{bind_ok, ok_is, not_ok, has_size}
 use Rattle.c65_elab_law.proofs.ScopeLaws.{keeps_on, name_keeps, link_keeps, renamed, bound_names, object_added_keeps, func_added_keeps, redeclared_keeps, func_redeclared_keeps}
-use Rattle.c65_elab_law.proofs.ValueLaws.{same_flag}
+use Rattle.c65_elab_law.proofs.ValueLaws.{equal_is, same_flag}
 
 -- ---- the composite type of a type and another one
 
@@ -123,6 +123,63 @@ composite_elements types (function f) u h = absurd (let x : false ≡ true = h i
 composite_elements_in : (types : TypesTy) (q r : QTy) → has_elements types (type_in q) ≡ true → has_elements types (type_in (composite_of types q r)) ≡ true
 composite_elements_in types (qual t c v) (qual u d w) h = composite_elements types t u h
 
+-- ---- two compatible tags of one unit are one
+
+tag_unit : (ts : List TagTy) (i : ℕ) (t : TagTy) → AreTags 1 ts → slice_get ts i ≡ Some t → t.unit ≡ 0
+tag_unit [] i t w h = absurd (let x : None ≡ Some t = h in cc)
+tag_unit (x ∷ ts) zero t w h = subst (λ (y : TagTy). y.unit ≡ 0) (let z : x ≡ t = cc in z) (omega (arith, w.0))
+tag_unit (x ∷ ts) (suc i) t w h = tag_unit ts i t w.2 h
+
+none_meet : (n : ℕ) (types : TypesTy) (a b : Option TagTy) → ((t : TagTy) → a ≡ Some t → t.unit ≡ 0) → ((t : TagTy) → b ≡ Some t → t.unit ≡ 0) → each_in (agrees types n) (tags_meet [] a b) ≡ true → ⊥
+none_meet n types None b f g h = absurd (let x : false ≡ true = h in cc)
+none_meet n types (Some a) None f g h = absurd (let x : false ≡ true = h in cc)
+none_meet n types (Some a) (Some b) f g h =
+    let same : (a.unit == b.unit) ≡ true = rw (f a refl, g b refl) refl in
+    absurd (let x : false ≡ true = rw same at h in cc)
+
+tags_same : (types : TypesTy) (n i j : ℕ) → AreTags 1 types.tags → agrees types (suc n) (i, j) ≡ true → i ≡ j
+tags_same types n i j w h = tested (i == j) refl
+  where
+    tested : (b : Bool) → (i == j) ≡ b → i ≡ j
+    tested true x = equal_is i j x
+    tested false x = absurd (none_meet n types (slice_get types.tags i) (slice_get types.tags j) (λ t g. tag_unit types.tags i t w g) (λ t g. tag_unit types.tags j t w g) (rw x at h))
+
+joined_same : (types : TypesTy) (i : ℕ) → joined_tag types i i ≡ i
+joined_same types i = tested (is_some (layout_at types i)) refl
+  where
+    tested : (b : Bool) → is_some (layout_at types i) ≡ b → joined_tag types i i ≡ i
+    tested true x = rw x refl
+    tested false x = rw x refl
+
+within_first : (types : TypesTy) (n : ℕ) (p : ℕ × ℕ) → each (agrees types n) (p ∷ []) ≡ true → agrees types n p ≡ true
+within_first types n p h = tested (agrees types n p) refl
+  where
+    tested : (b : Bool) → agrees types n p ≡ b → agrees types n p ≡ true
+    tested true x = x
+    tested false x = absurd (let y : false ≡ true = rw x at h in cc)
+
+tags_within : (types : TypesTy) (n i j : ℕ) (b : Bool) → AreTags 1 types.tags → each_in (agrees types (suc n)) (if b then Some ((i, j) ∷ []) else None) ≡ true → i ≡ j
+tags_within types n i j true w h = tags_same types n i j w (within_first types (suc n) (i, j) h)
+tags_within types n i j false w h = absurd (let x : false ≡ true = h in cc)
+
+within_tag : (types : TypesTy) (n : ℕ) (q r : QTy) (k : ℕ) → AreTags 1 types.tags → agree_within types (suc n) q r ≡ true → type_in q ≡ tag k → type_in (composite_of types q r) ≡ tag k
+within_tag types n (qual void c v) (qual u d x) k w h g = cc
+within_tag types n (qual (int j) c v) (qual u d x) k w h g = cc
+within_tag types n (qual (pointer q) c v) (qual u d x) k w h g = cc
+within_tag types n (qual (array q m) c v) (qual u d x) k w h g = cc
+within_tag types n (qual (function f) c v) (qual u d x) k w h g = cc
+within_tag types n (qual (tag i) c v) (qual void d x) k w h g = g
+within_tag types n (qual (tag i) c v) (qual (int j) d x) k w h g = g
+within_tag types n (qual (tag i) c v) (qual (pointer q) d x) k w h g = g
+within_tag types n (qual (tag i) c v) (qual (array q m) d x) k w h g = g
+within_tag types n (qual (tag i) c v) (qual (function f) d x) k w h g = g
+within_tag types n (qual (tag i) c v) (qual (tag j) d x) k w h g =
+    let e : i ≡ j = tags_within types n i j (same_bool c d && same_bool v x) w h in
+    subst (λ (m : ℕ). tag (joined_tag types i m) ≡ tag k) e (ap tag (joined_same types i) ∙ g)
+
+composite_tag : (types : TypesTy) (q r : QTy) (k : ℕ) → AreTags 1 types.tags → are_compatible types q r ≡ true → type_in q ≡ tag k → type_in (composite_of types q r) ≡ tag k
+composite_tag types q r k w h g = within_tag types 18446744073709551615 q r k w h g
+
 -- ---- functions
 
 func_again_keeps : (s : ScopeTy) (n : Name) (f : Fn) (shared : Bool) (p : Pos) (a : Meaning) (x : Entity × ScopeTy) → IsScope s → func_again s n f shared p a ≡ Ok x → Keeps s x.1
@@ -189,11 +246,11 @@ own_placed types p t c.Fixed k h = size_elements types p (type_in t) k h
 
 own_declared_keeps : (s : ScopeTy) (n : Name) (t : QTy) (class : Class) (p : Pos) (x : Entity × ScopeTy) → IsScope s → own_declared s n t class p ≡ Ok x → Keeps s x.1
 own_declared_keeps s n t class p x w h =
-    let u = with_objects s (s.unit.objects ++ new_object n t class ∷ []) in
+    let u = with_objects s (s.unit.objects ++ new_object (Some n) t class ∷ []) in
     let i = length s.unit.objects in
     let (first, hf, h1) = bind_ok (unless (is_some (found_in s.names n s.block)) p) (λ first. needs_size s.unit.types p (type_in t) >>= λ size. Ok (e.Object i, name_bound u n (m.Object i))) x h in
     let (k, hk, h2) = bind_ok (needs_size s.unit.types p (type_in t)) (λ size. Ok (e.Object i, name_bound u n (m.Object i))) x h1 in
-    let g = object_added_keeps s n t class w (own_placed s.unit.types p t class k hk) in
+    let g = object_added_keeps s (Some n) t class w (own_placed s.unit.types p t class k hk) in
     subst (λ (y : Entity × ScopeTy). Keeps s y.1) (ok_is _ _ h2) (keeps_on s u (name_bound u n (m.Object i)) g (name_keeps u n (m.Object i) g.scope tt))
 
 -- what a further declaration makes of an object
@@ -201,6 +258,7 @@ record IsAgain (types : TypesTy) (t : QTy) (class : Class) (found : Option Objec
   object : ObjectTy
   is_found : found ≡ Some object
   shares : is_shared object.class ≡ is_shared class
+  agree : are_compatible types object.ty t ≡ true
   ty : x.0 ≡ composite_of types object.ty t
   kind : x.1 ≡ merged object.class class
 
@@ -213,7 +271,7 @@ again_is types t class p (Some o) x h = tested (same_bool (is_shared o.class) (i
     tested true false y z = absurd (not_ok _ _ (rw (y, z) at h))
     tested true true y z =
         let same : ◌≡◌ {A = QTy × Class} (composite_of types o.ty t, merged o.class class) x = ok_is _ _ (rw (y, z) at h) in
-        record { object = o; is_found = refl; shares = same_flag (is_shared o.class) (is_shared class) y; ty = ap (λ (v : QTy × Class). v.0) (sym same); kind = ap (λ (v : QTy × Class). v.1) (sym same) }
+        record { object = o; is_found = refl; shares = same_flag (is_shared o.class) (is_shared class) y; agree = z; ty = ap (λ (v : QTy × Class). v.0) (sym same); kind = ap (λ (v : QTy × Class). v.1) (sym same) }
 
 merged_placed : (types : TypesTy) (o t : QTy) (old class : Class) → is_shared old ≡ is_shared class → is_linked class ≡ true → HasPlace types o old → HasPlace types (composite_of types o t) (merged old class)
 merged_placed types o t c.External class s l w = composite_elements_in types o t w
@@ -245,6 +303,15 @@ merged_register c.Auto class l = refl
 merged_register c.Register class l = refl
 merged_register c.Fixed class l = refl
 
+merged_automatic : (old class : Class) → is_automatic old ≡ true → merged old class ≡ old
+merged_automatic c.External class h = refl
+merged_automatic c.Tentative class h = refl
+merged_automatic c.Declared class h = absurd (let x : false ≡ true = h in cc)
+merged_automatic c.Static class h = refl
+merged_automatic c.Auto class h = refl
+merged_automatic c.Register class h = refl
+merged_automatic c.Fixed class h = refl
+
 -- an object of a scope is placed
 placed_at : (types : TypesTy) (os : List ObjectTy) (i : ℕ) (o : ObjectTy) → slice_get os i ≡ Some o → ArePlaced types os → HasPlace types o.ty o.class
 placed_at types [] i o h w = absurd (let z : None ≡ Some o = h in cc)
@@ -258,7 +325,7 @@ object_again_keeps s n t class p (m.Object i) x w l h =
     let o = b.object in
     let placed : HasPlace s.unit.types (composite_of s.unit.types o.ty t) (merged o.class class) = merged_placed s.unit.types o.ty t o.class class b.shares l (placed_at s.unit.types s.unit.objects i o b.is_found w.objects) in
     let v : HasPlace s.unit.types y.0 y.1 = subst (λ (q : QTy). HasPlace s.unit.types q y.1) (sym b.ty) (subst (HasPlace s.unit.types (composite_of s.unit.types o.ty t)) (sym b.kind) placed) in
-    let later : IsLater o (record { name = o.name; ty = y.0; class = y.1; init = o.init }) = record { alike = subst (λ (q : QTy). are_alike o.ty q ≡ true) (sym b.ty) (composite_alike_in s.unit.types o.ty t); register = ap is_register b.kind ∙ merged_register o.class class l } in
+    let later : IsLater o (record { name = o.name; ty = y.0; class = y.1; init = o.init }) = record { alike = subst (λ (q : QTy). are_alike o.ty q ≡ true) (sym b.ty) (composite_alike_in s.unit.types o.ty t); register = ap is_register b.kind ∙ merged_register o.class class l; tags = λ k g. subst (λ (q : QTy). type_in q ≡ tag k) (sym b.ty) (composite_tag s.unit.types o.ty t k (subst (λ (m : ℕ). AreTags m s.unit.types.tags) w.one_unit w.types.tags) b.agree g); name = refl; automatic = λ a. b.kind ∙ merged_automatic o.class class a } in
     let g = redeclared_keeps s i o y.0 y.1 w b.is_found later v in
     let u = object_redeclared s i y.0 y.1 in
     subst (λ (z : Entity × ScopeTy). Keeps s z.1) (ok_is _ _ r) (keeps_on s u (name_bound u n (m.Object i)) g (name_keeps u n (m.Object i) g.scope tt))
@@ -270,9 +337,9 @@ object_again_keeps s n t class p m.Enumeration x w l h = absurd (not_ok _ _ h)
 
 object_linked_keeps : (s : ScopeTy) (n : Name) (t : QTy) (class : Class) (p : Pos) (b : Option Bound) (x : Entity × ScopeTy) → IsScope s → is_linked class ≡ true → HasPlace s.unit.types t class → object_linked s n t class p b ≡ Ok x → Keeps s x.1
 object_linked_keeps s n t class p None x w l v h =
-    let u = with_objects s (s.unit.objects ++ new_object n t class ∷ []) in
+    let u = with_objects s (s.unit.objects ++ new_object (Some n) t class ∷ []) in
     let i = length s.unit.objects in
-    let g = object_added_keeps s n t class w v in
+    let g = object_added_keeps s (Some n) t class w v in
     subst (λ (y : Entity × ScopeTy). Keeps s y.1) (ok_is _ _ h) (keeps_on s u (link_bound u n (m.Object i)) g (link_keeps u n (m.Object i) g.scope tt))
 object_linked_keeps s n t class p (Some b) x w l v h = object_again_keeps s n t class p b.meaning x w l h
 

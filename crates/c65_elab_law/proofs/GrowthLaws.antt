@@ -1,6 +1,6 @@
 -- What is well typed in a unit stays so in each unit to which it grows.
 use Rattle.std.proofs.Common.{◌≡◌, ℕ, ◌+◌, ◌≤◌, Bool, true, false, Option, Some, None, refl, sym, ap, ◌∙◌, subst}
-use Rattle.std.specs.Prelude.{slice_get, is_some}
+use Rattle.std.specs.Prelude.{slice_get, is_some, nat_le, ◌&&◌}
 use Rattle.c65_base.specs.declared.operators.BinaryOp.{BinaryOp}
 use Rattle.c65_base.specs.declared.operators.BinaryOp.TheVariants as ops
 use Rattle.c65_ints.specs.declared.types.IntType.{IntType}
@@ -8,12 +8,13 @@ use Rattle.c65_ints.specs.declared.types.IntType.TheVariants.{SChar, UChar, Shor
 use Rattle.c65_ctype.specs.Trees.{Ty, void, int, pointer, array, tag, function, QTy, qual, type_in, Fn, fn, unknown, known, QTys, end, more, TypesTy, MemberTy, LayoutTy}
 use Rattle.c65_ctype.specs.Compatible.{same_int}
 use Rattle.c65_ctype.specs.Tables.{layout_at}
-use Rattle.c65_ctype.specs.Sizes.{size_of}
+use Rattle.c65_ctype.specs.Sizes.{size_in, size_of}
 use Rattle.c65_csem.specs.Trees as n
 use Rattle.c65_csem.specs.Trees.{Typed, node, Node, Nodes, none, some, type_of, UnitTy, ObjectTy, FuncTy}
-use Rattle.c65_csem.specs.Places.{is_scalar, is_sized, is_sized_in, moves, member_at, is_bit_field, is_register, has_register, is_registered, are_alike, alike}
-use Rattle.c65_csem.specs.Typed.{IsMoved, IsStepped, AreAdded, AreSubtracted, Operands, Passes, ArePassed, AreGiven, FitsFn, IsCall, IsMember, IsAddressed, arguments_size, IsTyped, IsNode, AreTyped}
+use Rattle.c65_csem.specs.Places.{is_scalar, most_small, is_small, is_sized, is_sized_in, moves, member_at, is_bit_field, is_automatic, is_register, has_register, is_registered, are_alike, alike}
+use Rattle.c65_csem.specs.Typed.{IsMoved, IsStepped, AreAdded, AreSubtracted, Operands, IsSmall, Passes, ArePassed, AreGiven, FitsFn, IsCall, IsSpot, IsMember, IsAddressed, arguments_size, IsTyped, IsNode, IsGiven, IsCalled, AreTyped}
 use Rattle.c65_elab_law.specs.Growth.{IsLater, Grows}
+use Rattle.c65_elab_law.specs.WellTyped.{AreExpressions}
 use Rattle.c65_elab_law.proofs.ValueLaws.{same_kind}
 
 pub same_self : (k : IntType) → same_int k k ≡ true
@@ -106,7 +107,7 @@ mutual
 pub grows_self : (u : UnitTy) → Grows u u
 grows_self u = record {
   types = λ tag l h. h;
-  objects = λ i o h. (o, h, record { alike = alike_self o.ty; register = refl });
+  objects = λ i o h. (o, h, record { alike = alike_self o.ty; register = refl; tags = λ k x. x; name = refl; automatic = λ x. refl });
   literals = λ i bytes h. h;
   funcs = λ i f h. (f, h);
 }
@@ -123,7 +124,7 @@ grows_on u v w g h = record {
     later i o x =
         let y = g.objects i o x in
         let z = h.objects i y.0 y.1 in
-        (z.0, z.1, record { alike = alike_through o.ty y.0.ty z.0.ty y.2.alike z.2.alike; register = z.2.register ∙ y.2.register })
+        (z.0, z.1, record { alike = alike_through o.ty y.0.ty z.0.ty y.2.alike z.2.alike; register = z.2.register ∙ y.2.register; tags = λ k t. z.2.tags k (y.2.tags k t); name = z.2.name ∙ y.2.name; automatic = λ a. z.2.automatic (ap is_automatic (y.2.automatic a) ∙ a) ∙ y.2.automatic a })
 
 -- ---- sizes and members stay
 
@@ -231,7 +232,58 @@ operands_stay u v g ops.BitAnd t a b w = w
 operands_stay u v g ops.BitXor t a b w = w
 operands_stay u v g ops.BitOr t a b w = w
 
--- ---- calls: arguments are scalar, and their bytes depend on no structure
+-- ---- structures and unions of few bytes
+
+-- the number of a tag
+pub small_tag : (types : TypesTy) (t : Ty) → is_small types t ≡ true → (i : ℕ) × (t ≡ tag i)
+small_tag types void h = absurd (let x : false ≡ true = h in cc)
+small_tag types (int k) h = absurd (let x : false ≡ true = h in cc)
+small_tag types (pointer q) h = absurd (let x : false ≡ true = h in cc)
+small_tag types (array q m) h = absurd (let x : false ≡ true = h in cc)
+small_tag types (tag i) h = (i, refl)
+small_tag types (function f) h = absurd (let x : false ≡ true = h in cc)
+
+-- it is finished
+pub small_laid : (types : TypesTy) (i : ℕ) → is_small types (tag i) ≡ true → (l : LayoutTy) × (layout_at types i ≡ Some l)
+small_laid types i h = tested (layout_at types i) refl
+  where
+    tested : (o : Option LayoutTy) → layout_at types i ≡ o → (l : LayoutTy) × (layout_at types i ≡ Some l)
+    tested None x = absurd (let y : false ≡ true = rw x at h in cc)
+    tested (Some l) x = (l, x)
+
+tag_size_stays : (u v : UnitTy) → Grows u v → (i : ℕ) → is_small u.types (tag i) ≡ true → size_of v.types (tag i) ≡ size_of u.types (tag i)
+tag_size_stays u v g i h =
+    let x = small_laid u.types i h in
+    ap size_in (g.types i x.0 x.1) ∙ sym (ap size_in x.1)
+
+small_size_stays : (u v : UnitTy) → Grows u v → (t : Ty) → is_small u.types t ≡ true → size_of v.types t ≡ size_of u.types t
+small_size_stays u v g t h =
+    let x = small_tag u.types t h in
+    subst (λ (z : Ty). size_of v.types z ≡ size_of u.types z) (sym x.1) (tag_size_stays u v g x.0 (subst (λ (z : Ty). is_small u.types z ≡ true) x.1 h))
+
+is_small_stays : (u v : UnitTy) → Grows u v → (t : Ty) → is_small u.types t ≡ true → is_small v.types t ≡ true
+is_small_stays u v g void h = h
+is_small_stays u v g (int k) h = h
+is_small_stays u v g (pointer q) h = h
+is_small_stays u v g (array q m) h = h
+is_small_stays u v g (tag i) h = ap (λ (k : ℕ). nat_le 1 k && nat_le k most_small) (tag_size_stays u v g i h) ∙ h
+is_small_stays u v g (function f) h = h
+
+pub small_stays : (u v : UnitTy) → Grows u v → (t : QTy) → IsSmall u t → IsSmall v t
+small_stays u v g t w = (is_small_stays u v g (type_in t) w.0, w.1)
+
+-- the object that takes what a call gives
+spot_stays : (u v : UnitTy) → Grows u v → (i : ℕ) (t : QTy) → IsSmall u t → IsSpot u i t → IsSpot v i t
+spot_stays u v g i t s w =
+    let x = g.objects i w.object w.there in
+    let k = small_tag u.types (type_in t) s.0 in
+    record { object = x.0; there = x.1; unnamed = x.2.name ∙ w.unnamed; class = x.2.automatic (ap is_automatic w.class) ∙ w.class; same = x.2.tags k.0 (w.same ∙ k.1) ∙ sym k.1 }
+
+pub called_small : (u : UnitTy) (t : QTy) (e : Typed) → IsCalled u t e → IsSmall u t
+called_small u t (node s (n.call f es)) w = subst (IsSmall u) w.0 w.1
+called_small u t (node s _) w = absurd w
+
+-- ---- calls: an argument is scalar, or its bytes are those of a finished structure or union
 
 size_same : (types others : TypesTy) (t : Ty) → is_scalar t ≡ true → size_of others t ≡ size_of types t
 size_same types others void h = refl
@@ -241,30 +293,36 @@ size_same types others (array q m) h = absurd (let x : false ≡ true = h in cc)
 size_same types others (tag m) h = absurd (let x : false ≡ true = h in cc)
 size_same types others (function f) h = refl
 
-passes_scalar : (t : QTy) → Passes t → is_scalar (type_in t) ≡ true
-passes_scalar t (Passes.number w) = ap (λ (q : QTy). is_scalar (type_in q)) w.1
-passes_scalar t (Passes.pointer_value w) = ap (λ (q : QTy). is_scalar (type_in q)) w.1
+given_size : (u v : UnitTy) → Grows u v → (e : Typed) → IsGiven u e → size_of v.types (type_in (type_of e)) ≡ size_of u.types (type_in (type_of e))
+given_size u v g (node t (n.pack e)) w = small_size_stays u v g (type_in t) w.1.0
+given_size u v g (node t x) w = size_same u.types v.types (type_in t) w.1.0.0
 
-one_more : (types others : TypesTy) (e : Typed) (es : Nodes) → is_scalar (type_in (type_of e)) ≡ true → arguments_size others es ≡ arguments_size types es → arguments_size others (some e es) ≡ arguments_size types (some e es)
-one_more types others (node t e) es s h = ap (λ (k : ℕ). k + arguments_size others es) (size_same types others (type_in t) s) ∙ ap (λ (k : ℕ). size_of types (type_in t) + k) h
+arguments_stay : (u v : UnitTy) → Grows u v → (es : Nodes) → AreTyped u es → arguments_size v.types es ≡ arguments_size u.types es
+arguments_stay u v g none w = refl
+arguments_stay u v g (some (node t e) es) w = ap (λ (k : ℕ). k + arguments_size v.types es) (given_size u v g (node t e) w.0) ∙ ap (λ (k : ℕ). size_of u.types (type_in t) + k) (arguments_stay u v g es w.1)
 
-passed_same : (types others : TypesTy) (es : Nodes) → ArePassed es → arguments_size others es ≡ arguments_size types es
-passed_same types others none w = refl
-passed_same types others (some e es) w = one_more types others e es (passes_scalar (type_of e) w.0) (passed_same types others es w.2)
+passes_stays : (u v : UnitTy) → Grows u v → (t : QTy) → Passes u t → Passes v t
+passes_stays u v g t (Passes.number w) = Passes.number w
+passes_stays u v g t (Passes.pointer_value w) = Passes.pointer_value w
+passes_stays u v g t (Passes.structure w) = Passes.structure (small_stays u v g t w)
 
-given_same : (types others : TypesTy) (qs : QTys) (variadic : Bool) (es : Nodes) → AreGiven qs variadic es → arguments_size others es ≡ arguments_size types es
-given_same types others end false none w = refl
-given_same types others end false (some e es) w = absurd w
-given_same types others end true es w = passed_same types others es w
-given_same types others (more q qs) variadic none w = absurd w
-given_same types others (more q qs) variadic (some e es) w = one_more types others e es w.1.0.0 (given_same types others qs variadic es w.2)
+passed_stay : (u v : UnitTy) → Grows u v → (es : Nodes) → ArePassed u es → ArePassed v es
+passed_stay u v g none w = tt
+passed_stay u v g (some e es) w = (passes_stays u v g (type_of e) w.0, passed_stay u v g es w.1)
 
-fits_same : (types others : TypesTy) (f : Fn) (es : Nodes) → FitsFn f es → arguments_size others es ≡ arguments_size types es
-fits_same types others (fn q unknown variadic cdecl) es w = passed_same types others es w
-fits_same types others (fn q (known qs) variadic cdecl) es w = given_same types others qs variadic es w
+given_stay : (u v : UnitTy) → Grows u v → (qs : QTys) (variadic : Bool) (es : Nodes) → AreGiven u qs variadic es → AreGiven v qs variadic es
+given_stay u v g end false none w = w
+given_stay u v g end false (some e es) w = w
+given_stay u v g end true es w = passed_stay u v g es w
+given_stay u v g (more q qs) variadic none w = w
+given_stay u v g (more q qs) variadic (some e es) w = (w.0, given_stay u v g qs variadic es w.1)
 
-call_stays : (u v : UnitTy) → Grows u v → (t f : QTy) (es : Nodes) → IsCall u t f es → IsCall v t f es
-call_stays u v g t f es w = record { callee = w.callee; named = w.named; result = w.result; scalar = w.scalar; given = w.given; few = subst (λ (k : ℕ). k ≤ 250) (sym (fits_same u.types v.types w.callee es w.given)) w.few }
+fits_stay : (u v : UnitTy) → Grows u v → (f : Fn) (es : Nodes) → FitsFn u f es → FitsFn v f es
+fits_stay u v g (fn q unknown variadic cdecl) es w = passed_stay u v g es w
+fits_stay u v g (fn q (known qs) variadic cdecl) es w = given_stay u v g qs variadic es w
+
+call_stays : (u v : UnitTy) → Grows u v → (t f : QTy) (es : Nodes) → AreTyped u es → IsCall u t f es → IsCall v t f es
+call_stays u v g t f es ws w = record { callee = w.callee; named = w.named; result = w.result; given = fits_stay u v g w.callee es w.given; few = subst (λ (k : ℕ). k ≤ 250) (sym (arguments_stay u v g es ws)) w.few }
 
 -- ---- trees
 
@@ -299,8 +357,23 @@ mutual
   node_stays u v g t (n.assign_step op a b) w = (stays u v g a w.0, stays u v g b w.1, w.2, w.3, moved_stays u v g t w.4, w.5, w.6, w.7)
   node_stays u v g t (n.step how a) w = (stays u v g a w.0, w.1, w.2, stepped_stays u v g t w.3)
   node_stays u v g t (n.copy a b) w = (stays u v g a w.0, stays u v g b w.1, w.2, w.3, w.4, w.5)
-  node_stays u v g t (n.call f es) w = (stays u v g f w.0, w.1, call_stays u v g t (type_of f) es w.2, all_stay u v g es w.3)
+  node_stays u v g t (n.call f es) w = (stays u v g f w.0, w.1, call_stays u v g t (type_of f) es w.4 w.2, w.3, all_stay u v g es w.4)
+  node_stays u v g t (n.pack e) w = absurd w
+  node_stays u v g t (n.spill i e) w = (called_stays u v g t e w.0, spot_stays u v g i t (called_small u t e w.0) w.1)
+  node_stays u v g t n.rest w = w
+
+  pub given_stays : (u v : UnitTy) → Grows u v → (e : Typed) → IsGiven u e → IsGiven v e
+  given_stays u v g (node t (n.pack e)) w = (stays u v g e w.0, small_stays u v g t w.1, w.2)
+  given_stays u v g (node t x) w = (node_stays u v g t x w.0, w.1)
+
+  pub called_stays : (u v : UnitTy) → Grows u v → (t : QTy) (e : Typed) → IsCalled u t e → IsCalled v t e
+  called_stays u v g t (node s (n.call f es)) w = (w.0, small_stays u v g s w.1, stays u v g f w.2, w.3, call_stays u v g s (type_of f) es w.5 w.4, all_stay u v g es w.5)
+  called_stays u v g t (node s _) w = absurd w
 
   pub all_stay : (u v : UnitTy) → Grows u v → (es : Nodes) → AreTyped u es → AreTyped v es
   all_stay u v g none w = tt
-  all_stay u v g (some e es) w = (stays u v g e w.0, all_stay u v g es w.1)
+  all_stay u v g (some e es) w = (given_stays u v g e w.0, all_stay u v g es w.1)
+
+pub expressions_stay : (u v : UnitTy) → Grows u v → (es : Nodes) → AreExpressions u es → AreExpressions v es
+expressions_stay u v g none w = tt
+expressions_stay u v g (some e es) w = (stays u v g e w.0, expressions_stay u v g es w.1)

@@ -1,6 +1,7 @@
 -- The beginning of a unit, what completes an object, and headings of functions.
 use Rattle.std.proofs.Common.{◌≡◌, ℕ, zero, suc, ◌≤◌, Bool, true, false, Some, None, Ok, refl, subst, arith, List, [], ◌∷◌}
 use Rattle.std.specs.Prelude.{slice_get, nat_lt}
+use Rattle.c65_base.specs.declared.names.Name.{Name}
 use Rattle.c65_base.specs.Answers.{◌>>=◌}
 use Rattle.c65_ctype.specs.Trees.{void, int, pointer, array, tag, function, QTy, qual, type_in, TypesTy}
 use Rattle.c65_csem.specs.declared.items.Class.{Class}
@@ -24,12 +25,12 @@ use Rattle.c65_elab_law.proofs.ScopeLaws.{keeps_self, keeps_on, renamed, closed_
 use Rattle.c65_elab_law.proofs.AnswerLaws.{beside_keeps, chain}
 use Rattle.c65_elab_law.proofs.TypingLaws.{parts_in_keeps}
 
-pub begins : (signed_chars : Bool) (s : ScopeTy) → nothing signed_chars ≡ Ok s → IsScope s
-begins signed_chars s h = subst IsScope (ok_is _ _ h) (record { types = record { tags = tt; units = let one : 1 ≤ 1 = omega arith in one }; names = record { current = tt; hidden = tt }; objects = tt; funcs = tt })
+pub begins : (signed_chars : Bool) (rest : Name) (s : ScopeTy) → nothing signed_chars rest ≡ Ok s → IsScope s
+begins signed_chars rest s h = subst IsScope (ok_is _ _ h) (record { types = record { tags = tt; units = let one : 1 ≤ 1 = omega arith in one }; one_unit = refl; names = record { current = tt; hidden = tt }; objects = tt; funcs = tt })
 
 pub literal_added_keeps : (s : ScopeTy) (bytes : List ℕ) (x : ℕ × ScopeTy) → IsScope s → literal_added s bytes ≡ Ok x → Keeps s x.1
 literal_added_keeps s bytes x w h = subst (λ (y : ℕ × ScopeTy). Keeps s y.1) (ok_is _ _ h) (record {
-  scope = record { types = w.types; names = w.names; objects = w.objects; funcs = w.funcs };
+  scope = record { types = w.types; one_unit = w.one_unit; names = w.names; objects = w.objects; funcs = w.funcs };
   grown = record { types = λ i l g. g; objects = λ i o g. (o, g, later_self o); literals = λ i bs g. get_more s.unit.literals (bytes ∷ []) i bs g; funcs = λ i f g. (f, g) };
 })
 
@@ -42,6 +43,14 @@ counted_alike (qual (pointer r) c v) n = refl
 counted_alike (qual (array r m) c v) n = alike_self r
 counted_alike (qual (tag i) c v) n = refl
 counted_alike (qual (function f) c v) n = refl
+
+counted_tag : (q : QTy) (n i : ℕ) → type_in q ≡ tag i → type_in (counted q n) ≡ tag i
+counted_tag (qual void c v) n i h = h
+counted_tag (qual (int k) c v) n i h = h
+counted_tag (qual (pointer r) c v) n i h = h
+counted_tag (qual (array r m) c v) n i h = cc
+counted_tag (qual (tag j) c v) n i h = h
+counted_tag (qual (function f) c v) n i h = h
 
 counted_elements : (types : TypesTy) (q : QTy) (n : ℕ) → has_elements types (type_in q) ≡ true → has_elements types (type_in (counted q n)) ≡ true
 counted_elements types (qual void c v) n h = h
@@ -67,14 +76,14 @@ counted_placed types (o ∷ os) (suc i) n w = (w.0, counted_placed types os i n 
 
 counted_later : (os : List ObjectTy) (i n j : ℕ) (o : ObjectTy) → slice_get os j ≡ Some o → (p : ObjectTy) × (slice_get (with_count os i n) j ≡ Some p) × IsLater o p
 counted_later [] i n j o h = absurd (let z : None ≡ Some o = h in cc)
-counted_later (x ∷ os) zero n zero o h = (record x { ty = counted x.ty n }, refl, subst (λ (y : ObjectTy). IsLater y (record x { ty = counted x.ty n })) (let z : x ≡ o = cc in z) (record { alike = counted_alike x.ty n; register = refl }))
+counted_later (x ∷ os) zero n zero o h = (record x { ty = counted x.ty n }, refl, subst (λ (y : ObjectTy). IsLater y (record x { ty = counted x.ty n })) (let z : x ≡ o = cc in z) (record { alike = counted_alike x.ty n; register = refl; tags = counted_tag x.ty n; name = refl; automatic = λ a. refl }))
 counted_later (x ∷ os) zero n (suc j) o h = (o, h, later_self o)
 counted_later (x ∷ os) (suc i) n zero o h = (o, h, later_self o)
 counted_later (x ∷ os) (suc i) n (suc j) o h = counted_later os i n j o h
 
 pub completed_keeps : (s : ScopeTy) (i n : ℕ) → IsScope s → Keeps s (completed s i n)
 completed_keeps s i n w = record {
-  scope = record { types = w.types; names = w.names; objects = counted_placed s.unit.types s.unit.objects i n w.objects; funcs = w.funcs };
+  scope = record { types = w.types; one_unit = w.one_unit; names = w.names; objects = counted_placed s.unit.types s.unit.objects i n w.objects; funcs = w.funcs };
   grown = record { types = λ k l h. h; objects = counted_later s.unit.objects i n; literals = λ k bytes h. h; funcs = λ k f h. (f, h) };
 }
 

@@ -19,7 +19,7 @@ use Rattle.c65_elab_scope.specs.Tables.{found}
 use Rattle.c65_elab_scope.specs.Scopes.{ScopeTy, char_of}
 use Rattle.c65_elab_scope.specs.Declaring.{func_declared}
 use Rattle.c65_tree.specs.Trees as t
-use Rattle.c65_elab.specs.Naming.{object_named, func_named, meaning_named, bound_named, named, implicit, called_unless, called_first, literal_type, literal_typed}
+use Rattle.c65_elab.specs.Naming.{is_rest, object_named, func_named, meaning_named, bound_named, named, implicit, called_unless, called_first, literal_type, literal_typed}
 use Rattle.c65_elab.specs.Operators.{register_object, is_register, on_place, assigning}
 use Rattle.c65_elab_law.specs.Scoped.{IsMeant, IsBound, IsScope, Keeps, IsAnswer}
 use Rattle.c65_elab_law.proofs.GrowthLaws.{alike_self}
@@ -51,16 +51,20 @@ meaning_typed s p (m.Enumerator z) e w h = subst (IsTyped s.unit) (ok_is _ _ h) 
 meaning_typed s p (m.Tag i) e w h = absurd (not_ok _ _ h)
 meaning_typed s p m.Enumeration e w h = absurd (not_ok _ _ h)
 
-bound_typed : (s : ScopeTy) (p : Pos) (b : Option Bound) (e : Typed) → IsBound b → bound_named s p b ≡ Ok e → IsTyped s.unit e
-bound_typed s p None e w h = absurd (not_ok _ _ h)
-bound_typed s p (Some b) e w h = meaning_typed s p b.meaning e w h
+bound_typed : (s : ScopeTy) (n : Name) (p : Pos) (b : Option Bound) (e : Typed) → IsBound b → bound_named s n p b ≡ Ok e → IsTyped s.unit e
+bound_typed s n p None e w h = tested (is_rest s n) refl
+  where
+    tested : (b : Bool) → is_rest s n ≡ b → IsTyped s.unit e
+    tested true x = subst (IsTyped s.unit) (ok_is _ _ (rw x at h)) refl
+    tested false x = absurd (not_ok _ _ (rw x at h))
+bound_typed s n p (Some b) e w h = meaning_typed s p b.meaning e w h
 
 pub named_typed : (s : ScopeTy) (n : Name) (p : Pos) (e : Typed) → IsScope s → named s n p ≡ Ok e → IsTyped s.unit e
-named_typed s n p e w h = bound_typed s p (found s.names n) e (found_bound s.names n w.names) h
+named_typed s n p e w h = bound_typed s n p (found s.names n) e (found_bound s.names n w.names) h
 
 -- ---- literals
 
-get_last : {A : Type 0} (xs : List A) (x : A) → slice_get (xs ++ x ∷ []) (length xs) ≡ Some x
+pub get_last : {A : Type 0} (xs : List A) (x : A) → slice_get (xs ++ x ∷ []) (length xs) ≡ Some x
 get_last [] x = refl
 get_last (y ∷ xs) x = get_last xs x
 
@@ -72,7 +76,7 @@ pub literal_keeps : (s : ScopeTy) (bytes : List ℕ) (x : Typed × ScopeTy) → 
 literal_keeps s bytes x w h = subst (IsAnswer s) (ok_is _ _ h) (record {
   typed = (bytes, get_last s.unit.literals bytes, is_literal s.signed_chars (length bytes));
   kept = record {
-    scope = record { types = w.types; names = w.names; objects = w.objects; funcs = w.funcs };
+    scope = record { types = w.types; one_unit = w.one_unit; names = w.names; objects = w.objects; funcs = w.funcs };
     grown = record { types = λ tag l g. g; objects = λ i o g. (o, g, later_self o); literals = λ i bs g. get_more s.unit.literals (bytes ∷ []) i bs g; funcs = λ i f g. (f, g) };
   };
 })
@@ -80,9 +84,13 @@ literal_keeps s bytes x w h = subst (IsAnswer s) (ok_is _ _ h) (record {
 -- ---- calls of names
 
 called_unless_keeps : (s : ScopeTy) (n : Name) (p : Pos) (b : Option Bound) (u : ScopeTy) → IsScope s → called_unless s n p b ≡ Ok u → Keeps s u
-called_unless_keeps s n p None u w h =
-    let (x, hx, h1) = bind_ok (func_declared s n implicit None p) (λ x. Ok x.1) u h in
-    subst (Keeps s) (ok_is _ _ h1) (func_declared_keeps s n implicit None p x w hx)
+called_unless_keeps s n p None u w h = tested (is_rest s n) refl
+  where
+    tested : (b : Bool) → is_rest s n ≡ b → Keeps s u
+    tested true y = subst (Keeps s) (ok_is _ _ (rw y at h)) (keeps_self s w)
+    tested false y =
+        let (x, hx, h1) = bind_ok (func_declared s n implicit None p) (λ x. Ok x.1) u (rw y at h) in
+        subst (Keeps s) (ok_is _ _ h1) (func_declared_keeps s n implicit None p x w hx)
 called_unless_keeps s n p (Some b) u w h = subst (Keeps s) (ok_is _ _ h) (keeps_self s w)
 
 pub called_first_keeps : (f : t.ExprTree) (s u : ScopeTy) → IsScope s → called_first f s ≡ Ok u → Keeps s u

@@ -1,5 +1,5 @@
 -- What enters names and items into a scope keeps what holds of it.
-use Rattle.std.proofs.Common.{◌≡◌, ℕ, zero, suc, Bool, true, false, Option, Some, None, refl, sym, ◌∙◌, subst, List, [], ◌∷◌, ◌++◌, length, take}
+use Rattle.std.proofs.Common.{◌≡◌, ℕ, zero, suc, Bool, true, false, Option, Some, None, refl, sym, ap, ◌∙◌, subst, List, [], ◌∷◌, ◌++◌, length, take}
 use Rattle.std.specs.Prelude.{◌==◌, slice_get}
 use Rattle.c65_base.specs.declared.names.Name.{Name}
 use Rattle.c65_ctype.specs.Trees.{Ty, void, int, pointer, array, tag, function, QTy, type_in, Fn, TypesTy, LayoutTy}
@@ -61,7 +61,7 @@ closed_table_names block t w = closed_names block t.current t.hidden w.current w
 
 -- a scope with other names, and the same unit
 pub renamed : (s u : ScopeTy) → u.unit ≡ s.unit → IsScope s → AreNames u.names → Keeps s u
-renamed s u same w v = record { scope = record { types = subst (λ (x : UnitTy). IsTable x.types) (sym same) w.types; names = v; objects = subst (λ (x : UnitTy). ArePlaced x.types x.objects) (sym same) w.objects; funcs = subst (λ (x : UnitTy). AreBare x.funcs) (sym same) w.funcs }; grown = subst (λ (x : UnitTy). Grows s.unit x) (sym same) (grows_self s.unit) }
+renamed s u same w v = record { scope = record { types = subst (λ (x : UnitTy). IsTable x.types) (sym same) w.types; one_unit = ap (λ (x : UnitTy). x.types.units) same ∙ w.one_unit; names = v; objects = subst (λ (x : UnitTy). ArePlaced x.types x.objects) (sym same) w.objects; funcs = subst (λ (x : UnitTy). AreBare x.funcs) (sym same) w.funcs }; grown = subst (λ (x : UnitTy). Grows s.unit x) (sym same) (grows_self s.unit) }
 
 pub name_keeps : (s : ScopeTy) (n : Name) (a : Meaning) → IsScope s → IsMeant a → Keeps s (name_bound s n a)
 name_keeps s n a w v = renamed s (name_bound s n a) refl w (bound_names s.names n a s.block w.names v)
@@ -126,24 +126,24 @@ placed_stay u v g [] w = tt
 placed_stay u v g (o ∷ os) w = (place_stays u v g o.ty o.class w.0, placed_stay u v g os w.1)
 
 pub later_self : (o : ObjectTy) → IsLater o o
-later_self o = record { alike = alike_self o.ty; register = refl }
+later_self o = record { alike = alike_self o.ty; register = refl; tags = λ k x. x; name = refl; automatic = λ x. refl }
 
-pub object_added_keeps : (s : ScopeTy) (n : Name) (t : QTy) (class : Class) → IsScope s → HasPlace s.unit.types t class → Keeps s (with_objects s (s.unit.objects ++ new_object n t class ∷ []))
+pub object_added_keeps : (s : ScopeTy) (n : Option Name) (t : QTy) (class : Class) → IsScope s → HasPlace s.unit.types t class → Keeps s (with_objects s (s.unit.objects ++ new_object n t class ∷ []))
 object_added_keeps s n t class w v = record {
-  scope = record { types = w.types; names = w.names; objects = placed_more s.unit.types s.unit.objects (new_object n t class ∷ []) w.objects (v, tt); funcs = w.funcs };
+  scope = record { types = w.types; one_unit = w.one_unit; names = w.names; objects = placed_more s.unit.types s.unit.objects (new_object n t class ∷ []) w.objects (v, tt); funcs = w.funcs };
   grown = record { types = λ tag l h. h; objects = λ i o h. (o, get_more s.unit.objects (new_object n t class ∷ []) i o h, later_self o); literals = λ i bytes h. h; funcs = λ i f h. (f, h) };
 }
 
 pub func_added_keeps : (s : ScopeTy) (n : Name) (f : Fn) (external : Bool) → IsScope s → Keeps s (with_funcs s (s.unit.funcs ++ new_func n f external ∷ []))
 func_added_keeps s n f external w = record {
-  scope = record { types = w.types; names = w.names; objects = w.objects; funcs = bare_more s.unit.funcs (new_func n f external ∷ []) w.funcs (refl, tt) };
+  scope = record { types = w.types; one_unit = w.one_unit; names = w.names; objects = w.objects; funcs = bare_more s.unit.funcs (new_func n f external ∷ []) w.funcs (refl, tt) };
   grown = record { types = λ tag l h. h; objects = λ i o h. (o, h, later_self o); literals = λ i bytes h. h; funcs = λ i g h. (g, get_more s.unit.funcs (new_func n f external ∷ []) i g h) };
 }
 
 -- objects behind some that stay are forgotten
 pub fewer_keeps : (s u : ScopeTy) → Keeps s u → Keeps s (fewer_objects u (length s.unit.objects))
 fewer_keeps s u k = record {
-  scope = record { types = k.scope.types; names = k.scope.names; objects = placed_taken u.unit.types (length s.unit.objects) u.unit.objects k.scope.objects; funcs = k.scope.funcs };
+  scope = record { types = k.scope.types; one_unit = k.scope.one_unit; names = k.scope.names; objects = placed_taken u.unit.types (length s.unit.objects) u.unit.objects k.scope.objects; funcs = k.scope.funcs };
   grown = record { types = k.grown.types; objects = λ i o h. let x = k.grown.objects i o h in (x.0, get_taken s.unit.objects u.unit.objects i o x.0 h x.1, x.2); literals = k.grown.literals; funcs = k.grown.funcs };
 }
 
@@ -162,7 +162,7 @@ changed_placed types (x ∷ os) (suc i) t class f w = (w.0, changed_placed types
 
 pub redeclared_keeps : (s : ScopeTy) (i : ℕ) (o : ObjectTy) (t : QTy) (class : Class) → IsScope s → slice_get s.unit.objects i ≡ Some o → IsLater o (record { name = o.name; ty = t; class = class; init = o.init }) → HasPlace s.unit.types t class → Keeps s (object_redeclared s i t class)
 redeclared_keeps s i o t class w h l v = record {
-  scope = record { types = w.types; names = w.names; objects = changed_placed s.unit.types s.unit.objects i t class (λ p g. v) w.objects; funcs = w.funcs };
+  scope = record { types = w.types; one_unit = w.one_unit; names = w.names; objects = changed_placed s.unit.types s.unit.objects i t class (λ p g. v) w.objects; funcs = w.funcs };
   grown = record { types = λ tag k g. g; objects = changed_later s.unit.objects i t class (λ p g. subst (λ (y : ObjectTy). IsLater y (record { name = y.name; ty = t; class = class; init = y.init })) (same p g) l); literals = λ k bytes g. g; funcs = λ k f g. (f, g) };
 }
   where
@@ -184,13 +184,13 @@ changed_bare (x ∷ fs) (suc i) g w = (w.0, changed_bare fs i g w.1)
 
 pub func_redeclared_keeps : (s : ScopeTy) (i : ℕ) (g : Fn) → IsScope s → Keeps s (func_redeclared s i g)
 func_redeclared_keeps s i g w = record {
-  scope = record { types = w.types; names = w.names; objects = w.objects; funcs = changed_bare s.unit.funcs i g w.funcs };
+  scope = record { types = w.types; one_unit = w.one_unit; names = w.names; objects = w.objects; funcs = changed_bare s.unit.funcs i g w.funcs };
   grown = record { types = λ tag l h. h; objects = λ k o h. (o, h, later_self o); literals = λ k bytes h. h; funcs = changed_func s.unit.funcs i g };
 }
 
 -- ---- tags
 
-pub table_keeps : (s : ScopeTy) (types : TypesTy) → IsScope s → IsTable types → ((tag : ℕ) (l : LayoutTy) → layout_at s.unit.types tag ≡ Some l → layout_at types tag ≡ Some l) → Keeps s (with_types s types)
-table_keeps s types w v stay =
+pub table_keeps : (s : ScopeTy) (types : TypesTy) → IsScope s → IsTable types → types.units ≡ 1 → ((tag : ℕ) (l : LayoutTy) → layout_at s.unit.types tag ≡ Some l → layout_at types tag ≡ Some l) → Keeps s (with_types s types)
+table_keeps s types w v one stay =
     let g : Grows s.unit (with_types s types).unit = record { types = stay; objects = λ i o h. (o, h, later_self o); literals = λ i bytes h. h; funcs = λ i f h. (f, h) } in
-    record { scope = record { types = v; names = w.names; objects = placed_stay s.unit (with_types s types).unit g s.unit.objects w.objects; funcs = w.funcs }; grown = g }
+    record { scope = record { types = v; one_unit = one; names = w.names; objects = placed_stay s.unit (with_types s types).unit g s.unit.objects w.objects; funcs = w.funcs }; grown = g }

@@ -1,5 +1,5 @@
 -- Each construct of a declaration keeps the scope where its parts do.
-use Rattle.std.proofs.Common.{◌≡◌, ℕ, ◌+◌, Bool, true, false, Option, Some, Ok, refl, subst, List, [], ◌∷◌, ◌++◌, length, pos}
+use Rattle.std.proofs.Common.{◌≡◌, ℕ, Bool, true, false, Option, Some, None, Ok, refl, subst, List, [], ◌∷◌, ◌++◌, length, pos}
 use Rattle.std.specs.Prelude.{Result, ◌==◌, ◌&&◌, not, is_some, unwrap_or, ◌+ℤ◌}
 use Rattle.c65_base.specs.declared.names.Name.{Name}
 use Rattle.c65_base.specs.declared.refusal.Pos.{Pos}
@@ -8,10 +8,14 @@ use Rattle.c65_ints.specs.declared.types.IntType.TheVariants as ints
 use Rattle.c65_tree.specs.declared.expr.Storage.{Storage}
 use Rattle.c65_tree.specs.Trees as t
 use Rattle.c65_ctype.specs.Trees as types
-use Rattle.c65_ctype.specs.Trees.{QTy, FieldTy, type_in}
-use Rattle.c65_csem.specs.Places.{plain}
-use Rattle.c65_csem.specs.Trees.{Typed, Nodes}
+use Rattle.c65_ctype.specs.Trees.{Ty, QTy, FieldTy, type_in}
+use Rattle.c65_csem.specs.declared.items.Class.TheVariants as c
+use Rattle.c65_csem.specs.Places.{is_small, is_tag, plain}
+use Rattle.c65_csem.specs.Trees as n
+use Rattle.c65_csem.specs.Trees.{Typed, node, Nodes, type_of}
+use Rattle.c65_csem.specs.Typed.{IsSmall, IsSpot}
 use Rattle.c65_elab_scope.specs.Scopes.{ScopeTy, opened, char_of}
+use Rattle.c65_elab_scope.specs.Parts.{with_objects, new_object, spill_added, without_spills, fewer_objects}
 use Rattle.c65_elab_scope.specs.Declaring.{enumerator_declared, tag_finished}
 use Rattle.c65_elab_declare.specs.Calling.{name_place}
 use Rattle.c65_elab_declare.specs.Constants.{enumerator_value, field_in}
@@ -29,32 +33,65 @@ use Rattle.c65_elab_convert.specs.Choices.{choice_of}
 use Rattle.c65_elab_convert.specs.Logic.{comma_of}
 use Rattle.c65_elab.specs.Constants.{value_at}
 use Rattle.c65_elab.specs.Naming.{called_first, typedef_type}
-use Rattle.c65_elab.specs.Places.{place_of}
+use Rattle.c65_elab.specs.Operators.{spilled}
+use Rattle.c65_elab.specs.Places.{place_of, firsts_of}
 use Rattle.c65_elab.specs.Typing.{beside, and_node, is_one, is_single, counted, with_part, left, typed, typed_list, value_in, type_named, specified, drafted, specifier_in, tagged_in, enum_in, enumerators_in, fields_in, members_in, member_in, parts_in, formals_in, prototype_in}
-use Rattle.c65_elab_law.specs.Scoped.{IsScope, Keeps, IsAnswer}
-use Rattle.c65_elab_law.proofs.GrowthLaws.{stays, all_stay}
-use Rattle.c65_elab_law.proofs.OperatorLaws.{ok_is}
+use Rattle.c65_elab_law.specs.Scoped.{has_elements, IsScope, Keeps, IsAnswer}
+use Rattle.c65_elab_law.specs.WellTyped.{IsCallTree}
+use Rattle.c65_elab_law.proofs.GrowthLaws.{stays, expressions_stay, small_tag, small_laid, called_small, called_stays}
+use Rattle.c65_elab_law.proofs.OperatorLaws.{bind_ok, ok_is}
 use Rattle.c65_elab_law.proofs.UnaryLaws.{cast_typed, comma_typed}
 use Rattle.c65_elab_law.proofs.ChoiceLaws.{choice_typed}
-use Rattle.c65_elab_law.proofs.SizeLaws.{size_typed}
+use Rattle.c65_elab_law.proofs.SizeLaws.{size_typed, size_expr_typed}
 use Rattle.c65_elab_law.proofs.CallLaws.{call_typed}
-use Rattle.c65_elab_law.proofs.ScopeLaws.{keeps_self, keeps_on, renamed}
+use Rattle.c65_elab_law.proofs.ScopeLaws.{keeps_self, keeps_on, renamed, object_added_keeps, fewer_keeps}
 use Rattle.c65_elab_law.proofs.DeclaringLaws.{enumerator_declared_keeps}
 use Rattle.c65_elab_law.proofs.TagLaws.{tag_finished_keeps}
 use Rattle.c65_elab_law.proofs.TaggingLaws.{named_tag_keeps, begun_tag_keeps, begun_enumeration_keeps, enumerator_in_range, formal_in_keeps}
-use Rattle.c65_elab_law.proofs.NamingLaws.{called_first_keeps}
+use Rattle.c65_elab_law.proofs.NamingLaws.{get_last, called_first_keeps}
 use Rattle.c65_elab_law.proofs.AnswerLaws.{beside_keeps, ended, AreAnswers, one_more_typed, left_keeps, chain, keeps_then, given_keeps, Part}
 
 -- ---- expressions
 
+-- what a call gives has an object of its own
+pub spill_keeps : (s : ScopeTy) (q : QTy) (x : ℕ × ScopeTy) → IsScope s → IsSmall s.unit q → spill_added s q ≡ Ok x → Keeps s x.1 × IsSpot x.1.unit x.0 q
+spill_keeps s q x g w h =
+    let u = with_objects s (s.unit.objects ++ new_object None q c.Auto ∷ []) in
+    let v : ScopeTy = record u { spills = s.spills ++ length s.unit.objects ∷ [] } in
+    let k = small_tag s.unit.types (type_in q) w.0 in
+    let l = small_laid s.unit.types k.0 (subst (λ (y : Ty). is_small s.unit.types y ≡ true) k.1 w.0) in
+    let placed : has_elements s.unit.types (type_in q) ≡ true = rw k.1 (rw l.1 refl) in
+    let first = object_added_keeps s None q c.Auto g placed in
+    let second = keeps_on s u v first (renamed u v refl first.scope first.scope.names) in
+    let spot : IsSpot v.unit (length s.unit.objects) q = record { object = new_object None q c.Auto; there = get_last s.unit.objects (new_object None q c.Auto); unnamed = refl; class = refl; same = refl } in
+    subst (λ (y : ℕ × ScopeTy). Keeps s y.1 × IsSpot y.1.unit y.0 q) (ok_is _ _ h) (second, spot)
+
+spilled_keeps : (s u : ScopeTy) (y : Typed) (x : Typed × ScopeTy) → Keeps s u → IsCallTree u.unit y → spilled u y ≡ Ok x → IsAnswer s x
+spilled_keeps s u y x g (IsCallTree.usual k w) h = subst (IsAnswer s) (ok_is _ _ (rw k at h)) (record { typed = w; kept = g })
+spilled_keeps s u y x g (IsCallTree.whole w) h =
+    let small = called_small u.unit (type_of y) y w in
+    let k = small_tag u.unit.types (type_in (type_of y)) small.0 in
+    let is : is_tag (type_in (type_of y)) ≡ true = rw k.1 refl in
+    let (z, hz, r) = bind_ok (spill_added u (type_of y)) (λ z. Ok (node (type_of y) (n.spill z.0 y), z.1)) x (rw is at h) in
+    let a = spill_keeps u (type_of y) z g.scope small hz in
+    subst (IsAnswer s) (ok_is _ _ r) (record { typed = (called_stays u.unit z.1.unit a.0.grown (type_of y) y w, a.1); kept = keeps_on s u z.1 g a.0 })
+
 pub call_keeps : (p : Pos) (f : t.ExprTree) (es : t.ExprList) → ((s : ScopeTy) (x : Typed × ScopeTy) → IsScope s → typed f s ≡ Ok x → IsAnswer s x) → ((s : ScopeTy) (x : Nodes × ScopeTy) → IsScope s → typed_list es s ≡ Ok x → AreAnswers s x) → (s : ScopeTy) (x : Typed × ScopeTy) → IsScope s → typed (t.call p f es) s ≡ Ok x → IsAnswer s x
 call_keeps p f es first others s x g h =
-    chain (called_first f s) (λ u. typed f u >>= λ y. typed_list es y.1 >>= λ zs. beside zs.1 (call_of zs.1.unit.types p y.0 zs.0)) x (IsAnswer s x) (λ u hu h1.
-    chain (typed f u) (λ y. typed_list es y.1 >>= λ zs. beside zs.1 (call_of zs.1.unit.types p y.0 zs.0)) x (IsAnswer s x) (λ y hy h2.
-    chain (typed_list es y.1) (λ zs. beside zs.1 (call_of zs.1.unit.types p y.0 zs.0)) x (IsAnswer s x) (λ zs hz h3. last u (called_first_keeps f s u g hu) y (first u y (called_first_keeps f s u g hu).scope hy) zs (others y.1 zs (first u y (called_first_keeps f s u g hu).scope hy).kept.scope hz) h3) h2) h1) h
+    chain (called_first f s) (λ u. typed f u >>= λ y. typed_list es y.1 >>= λ zs. call_of zs.1.unit.types p (firsts_of es) y.0 zs.0 >>= λ e. spilled zs.1 e) x (IsAnswer s x) (λ u hu h1.
+    chain (typed f u) (λ y. typed_list es y.1 >>= λ zs. call_of zs.1.unit.types p (firsts_of es) y.0 zs.0 >>= λ e. spilled zs.1 e) x (IsAnswer s x) (λ y hy h2.
+    chain (typed_list es y.1) (λ zs. call_of zs.1.unit.types p (firsts_of es) y.0 zs.0 >>= λ e. spilled zs.1 e) x (IsAnswer s x) (λ zs hz h3. last u (called_first_keeps f s u g hu) y (first u y (called_first_keeps f s u g hu).scope hy) zs (others y.1 zs (first u y (called_first_keeps f s u g hu).scope hy).kept.scope hz) h3) h2) h1) h
   where
-    last : (u : ScopeTy) → Keeps s u → (y : Typed × ScopeTy) → IsAnswer u y → (zs : Nodes × ScopeTy) → AreAnswers y.1 zs → beside zs.1 (call_of zs.1.unit.types p y.0 zs.0) ≡ Ok x → IsAnswer s x
-    last u k y a zs b r = ended s zs.1 (call_of zs.1.unit.types p y.0 zs.0) x (keeps_on s y.1 zs.1 (keeps_on s u y.1 k a.kept) b.kept) (λ e i. call_typed zs.1.unit p y.0 e zs.0 (stays y.1.unit zs.1.unit b.kept.grown y.0 a.typed) b.typed i) r
+    last : (u : ScopeTy) → Keeps s u → (y : Typed × ScopeTy) → IsAnswer u y → (zs : Nodes × ScopeTy) → AreAnswers y.1 zs → (call_of zs.1.unit.types p (firsts_of es) y.0 zs.0 >>= λ e. spilled zs.1 e) ≡ Ok x → IsAnswer s x
+    last u k y a zs b r = chain (call_of zs.1.unit.types p (firsts_of es) y.0 zs.0) (λ e. spilled zs.1 e) x (IsAnswer s x) (λ e he h4. spilled_keeps s zs.1 e x (keeps_on s y.1 zs.1 (keeps_on s u y.1 k a.kept) b.kept) (call_typed zs.1.unit p (firsts_of es) y.0 e zs.0 (stays y.1.unit zs.1.unit b.kept.grown y.0 a.typed) b.typed he) h4) r
+
+-- the objects that the operand of a size made are forgotten
+pub size_expr_keeps : (p : Pos) (e : t.ExprTree) → ((s : ScopeTy) (x : Typed × ScopeTy) → IsScope s → typed e s ≡ Ok x → IsAnswer s x) → (s : ScopeTy) (x : Typed × ScopeTy) → IsScope s → typed (t.sizeof_expr p e) s ≡ Ok x → IsAnswer s x
+size_expr_keeps p e part s x g h =
+    chain (typed e s) (λ y. beside (fewer_objects y.1 (length s.unit.objects)) (access.size_of_expr y.1.unit.types p y.0)) x (IsAnswer s x) (λ y hy h1. last y (fewer_keeps s y.1 (part s y g hy).kept) h1) h
+  where
+    last : (y : Typed × ScopeTy) → Keeps s (fewer_objects y.1 (length s.unit.objects)) → beside (fewer_objects y.1 (length s.unit.objects)) (access.size_of_expr y.1.unit.types p y.0) ≡ Ok x → IsAnswer s x
+    last y k r = ended s (fewer_objects y.1 (length s.unit.objects)) (access.size_of_expr y.1.unit.types p y.0) x k (λ q i. size_expr_typed (fewer_objects y.1 (length s.unit.objects)).unit p y.0 q k.scope.types i) r
 
 pub size_type_keeps : (p : Pos) (m : t.TypeTree) → Part (type_named m) → (s : ScopeTy) (x : Typed × ScopeTy) → IsScope s → typed (t.sizeof_type p m) s ≡ Ok x → IsAnswer s x
 size_type_keeps p m part s x g h =
@@ -98,7 +135,7 @@ list_keeps es e first second s x g h =
     chain (typed e ys.1) (λ z. Ok (and_node ys.0 z.0, z.1)) x (AreAnswers s x) (λ z hz h2. last ys z (first s ys g hy) (second ys.1 z (first s ys g hy).kept.scope hz) h2) h1) h
   where
     last : (ys : Nodes × ScopeTy) (z : Typed × ScopeTy) → AreAnswers s ys → IsAnswer ys.1 z → ◌≡◌ {A = Result (Nodes × ScopeTy) Fault} (Ok (and_node ys.0 z.0, z.1)) (Ok x) → AreAnswers s x
-    last ys z i j r = subst (AreAnswers s) (ok_is _ _ r) (record { typed = one_more_typed z.1.unit ys.0 z.0 (all_stay ys.1.unit z.1.unit j.kept.grown ys.0 i.typed) j.typed; kept = keeps_on s ys.1 z.1 i.kept j.kept })
+    last ys z i j r = subst (AreAnswers s) (ok_is _ _ r) (record { typed = one_more_typed z.1.unit ys.0 z.0 (expressions_stay ys.1.unit z.1.unit j.kept.grown ys.0 i.typed) j.typed; kept = keeps_on s ys.1 z.1 i.kept j.kept })
 
 pub value_keeps : (e : t.ExprTree) → ((s : ScopeTy) (x : Typed × ScopeTy) → IsScope s → typed e s ≡ Ok x → IsAnswer s x) → Part (value_in (t.an_expr e))
 value_keeps e part s x g h =
@@ -200,14 +237,18 @@ function_keeps p k ps defines first second s x g h =
     given_keeps s f.1 (with_part y.0 (d.calling f.0 p)) x (keeps_then s y.1 f.1 (first s y g hy) (λ g1. second (defines && (length y.0.1 == 0)) y.1 f g1 hf)) h2) h1) h
 
 -- a block begins
-pub opened_keeps : (s u : ScopeTy) → IsScope s → opened s ≡ Ok u → Keeps s u
-opened_keeps s u g h = subst (Keeps s) (ok_is _ _ h) (renamed s (record s { block = s.block + 1 }) refl g g.names)
+pub opened_keeps : (variadic : Bool) (s u : ScopeTy) → IsScope s → opened variadic s ≡ Ok u → Keeps s u
+opened_keeps variadic s u g h = subst (Keeps s) (ok_is _ _ h) (renamed s _ refl g g.names)
+
+-- a function begins
+pub function_begins : (s : ScopeTy) → IsScope s → Keeps s (without_spills s)
+function_begins s g = renamed s (without_spills s) refl g g.names
 
 pub formals_keep : (ps : t.ParamList) (variadic stay : Bool) → Part (prototype_in ps (is_single ps && not variadic)) → Part (formals_in (t.param_types ps variadic) stay)
 formals_keep ps variadic stay part s x g h =
-    chain (opened s) (λ u. prototype_in ps (is_single ps && not variadic) u >>= λ y. Ok (d.prototype (without_void y.0.0) variadic, left stay y.1 (length s.unit.objects))) x (Keeps s x.1) (λ u hu h1.
+    chain (opened false s) (λ u. prototype_in ps (is_single ps && not variadic) u >>= λ y. Ok (d.prototype (without_void y.0.0) variadic, left stay y.1 (length s.unit.objects))) x (Keeps s x.1) (λ u hu h1.
     chain (prototype_in ps (is_single ps && not variadic) u) (λ y. Ok (d.prototype (without_void y.0.0) variadic, left stay y.1 (length s.unit.objects))) x (Keeps s x.1) (λ y hy h2.
-    given_keeps s (left stay y.1 (length s.unit.objects)) (d.prototype (without_void y.0.0) variadic) x (left_keeps stay s y.1 (keeps_then s u y.1 (opened_keeps s u g hu) (λ g1. part u y g1 hy))) h2) h1) h
+    given_keeps s (left stay y.1 (length s.unit.objects)) (d.prototype (without_void y.0.0) variadic) x (left_keeps stay s y.1 (keeps_then s u y.1 (opened_keeps false s u g hu) (λ g1. part u y g1 hy))) h2) h1) h
 
 -- one parameter behind its specifiers
 abbrev param_behind : (List FormalTy × ℕ) → Option Storage × QTy → t.SpecifiersTree → t.DeclaratorTree → Bool → ScopeTy → Result ((List FormalTy × ℕ) × ScopeTy) Fault

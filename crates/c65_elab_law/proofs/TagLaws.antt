@@ -101,7 +101,7 @@ opened_stays types is_union tag l h = tested (slice_get types.tags tag) refl
     tested (Some t) x = rw (get_more types.tags (record { unit = types.units - 1; is_union = is_union; layout = None } ∷ []) tag t x) (rw x at h)
 
 pub tag_opened_keeps : (s : ScopeTy) (is_union : Bool) (x : ℕ × ScopeTy) → IsScope s → tag_opened s is_union ≡ Ok x → Keeps s x.1
-tag_opened_keeps s is_union x w h = subst (λ (y : ℕ × ScopeTy). Keeps s y.1) (ok_is _ _ h) (table_keeps s (with_tag s.unit.types is_union None) w (opened_table s.unit.types is_union w.types) (opened_stays s.unit.types is_union))
+tag_opened_keeps s is_union x w h = subst (λ (y : ℕ × ScopeTy). Keeps s y.1) (ok_is _ _ h) (table_keeps s (with_tag s.unit.types is_union None) w (opened_table s.unit.types is_union w.types) w.one_unit (opened_stays s.unit.types is_union))
 
 laid_stays : (ts : List TagTy) (i : ℕ) (l : LayoutTy) (j : ℕ) (k : LayoutTy) → is_some (option_and_then (λ (x : TagTy). x.layout) (slice_get ts i)) ≡ false → option_and_then (λ (x : TagTy). x.layout) (slice_get ts j) ≡ Some k → option_and_then (λ (x : TagTy). x.layout) (slice_get (with_layout ts i l) j) ≡ Some k
 laid_stays [] i l j k u h = h
@@ -119,7 +119,7 @@ pub tag_finished_keeps : (s : ScopeTy) (tag : ℕ) (fields : List FieldTy) (p : 
 tag_finished_keeps s tag fields p u w h = tested (is_open (kind_of s.unit.types tag) (is_some (layout_at s.unit.types tag))) refl
   where
     laid_out : (l : LayoutTy) → is_some (layout_at s.unit.types tag) ≡ false → layout_for s.unit.types (unwrap_or (kind_of s.unit.types tag) false) fields ≡ Ok l → Keeps s (with_types s (record s.unit.types { tags = with_layout s.unit.types.tags tag l }))
-    laid_out l lacks hl = table_keeps s (record s.unit.types { tags = with_layout s.unit.types.tags tag l }) w (record { tags = tags_laid s.unit.types.units s.unit.types.tags tag l (layout_small s.unit.types (unwrap_or (kind_of s.unit.types tag) false) fields l w.types hl) w.types.tags; units = w.types.units }) (λ j k g. laid_stays s.unit.types.tags tag l j k lacks g)
+    laid_out l lacks hl = table_keeps s (record s.unit.types { tags = with_layout s.unit.types.tags tag l }) w (record { tags = tags_laid s.unit.types.units s.unit.types.tags tag l (layout_small s.unit.types (unwrap_or (kind_of s.unit.types tag) false) fields l w.types hl) w.types.tags; units = w.types.units }) w.one_unit (λ j k g. laid_stays s.unit.types.tags tag l j k lacks g)
 
     tested : (b : Bool) → is_open (kind_of s.unit.types tag) (is_some (layout_at s.unit.types tag)) ≡ b → Keeps s u
     tested false y = absurd (not_ok _ _ (rw y at h))

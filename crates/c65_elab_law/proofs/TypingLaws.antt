@@ -26,11 +26,10 @@ use Rattle.c65_elab_law.proofs.OperatorLaws.{ok_is, binary_typed}
 use Rattle.c65_elab_law.proofs.UnaryLaws.{both_typed, either_typed}
 use Rattle.c65_elab_law.proofs.ChangeLaws.{step_typed}
 use Rattle.c65_elab_law.proofs.AccessLaws.{index_typed, member_typed}
-use Rattle.c65_elab_law.proofs.SizeLaws.{size_expr_typed}
 use Rattle.c65_elab_law.proofs.ScopeLaws.{keeps_self}
 use Rattle.c65_elab_law.proofs.NamingLaws.{named_typed, literal_keeps, on_place_typed, assigning_typed}
 use Rattle.c65_elab_law.proofs.AnswerLaws.{beside_keeps, ended, one_keeps, two_keeps, AreAnswers, given_keeps}
-use Rattle.c65_elab_law.proofs.StepLaws.{call_keeps, size_type_keeps, cast_keeps, conditional_keeps, comma_keeps, list_keeps, value_keeps, named_keeps, words_keep, word_keeps, typedef_keeps, tag_keeps, members_keep, enum_keeps, enumerators_keep, enumerator_keeps, field_keeps, member_keeps, shape_keeps, pointer_keeps, array_keeps, function_keeps, formals_keep, prototype_keeps}
+use Rattle.c65_elab_law.proofs.StepLaws.{call_keeps, size_expr_keeps, size_type_keeps, cast_keeps, conditional_keeps, comma_keeps, list_keeps, value_keeps, named_keeps, words_keep, word_keeps, typedef_keeps, tag_keeps, members_keep, enum_keeps, enumerators_keep, enumerator_keeps, field_keeps, member_keeps, shape_keeps, pointer_keeps, array_keeps, function_keeps, formals_keep, prototype_keeps}
 
 mutual
   pub typed_keeps : (e : t.ExprTree) → IsRanged e → (s : ScopeTy) (x : Typed × ScopeTy) → IsScope s → typed e s ≡ Ok x → IsAnswer s x
@@ -43,7 +42,7 @@ mutual
   typed_keeps (t.member p e arrow m) w s x g h = one_keeps s (typed e s) (λ u i. access.member_of_name u.unit.types p arrow i m) x (λ y k. typed_keeps e w s y g k) (λ u i r v wi k. member_typed u.unit p arrow i r m wi k) h
   typed_keeps (t.step p how e) w s x g h = one_keeps s (typed e s) (λ u i. step_of u.unit.types p how i) x (λ y k. typed_keeps e w s y g k) (λ u i r v wi k. step_typed u.unit p how i r wi k) h
   typed_keeps (t.unary p op e) w s x g h = one_keeps s (typed e s) (λ u i. on_place u p op i) x (λ y k. typed_keeps e w s y g k) (λ u i r v wi k. on_place_typed u p op i r wi k) h
-  typed_keeps (t.sizeof_expr p e) w s x g h = one_keeps s (typed e s) (λ u i. access.size_of_expr u.unit.types p i) x (λ y k. typed_keeps e w s y g k) (λ u i r v wi k. size_expr_typed u.unit p i r v.types k) h
+  typed_keeps (t.sizeof_expr p e) w s x g h = size_expr_keeps p e (typed_keeps e w) s x g h
   typed_keeps (t.sizeof_type p m) w s x g h = size_type_keeps p m (type_named_keeps m w) s x g h
   typed_keeps (t.cast p m e) w s x g h = cast_keeps p m e (type_named_keeps m w.0) (typed_keeps e w.1) s x g h
   typed_keeps (t.binary p op a b) w s x g h = two_keeps s (typed a s) (λ u. typed b u) (λ u i j. binary_of u.unit.types p op i j) x (λ y k. typed_keeps a w.0 s y g k) (λ u z v k. typed_keeps b w.1 u z v k) (λ u i j e v wi wj k. binary_typed u.unit p op i j e wi wj k) h

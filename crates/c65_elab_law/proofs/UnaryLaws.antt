@@ -11,7 +11,7 @@ use Rattle.c65_csem.specs.Trees as n
 use Rattle.c65_csem.specs.Trees.{Typed, node, Node, type_of, UnitTy}
 use Rattle.c65_csem.specs.Places.{is_place, is_scalar, is_tag, is_void, plain, plain_of, is_bit_field, is_registered}
 use Rattle.c65_csem.specs.Typed.{IsPromoted, IsValue, IsArm, Operand, Converts, IsTyped}
-use Rattle.c65_elab_convert.specs.Categories.{category_of, is_scalar_type, is_scalar_category, is_lvalue}
+use Rattle.c65_elab_convert.specs.Categories.{category_of, is_scalar_type, is_scalar_category, is_lvalue, is_spilled}
 use Rattle.c65_elab_convert.specs.Values.{value_of, is_narrow_value, promotion, as_int_of, voided}
 use Rattle.c65_elab_convert.specs.Unaries as unary
 use Rattle.c65_elab_convert.specs.Casts as casts
@@ -96,6 +96,9 @@ lvalue_is_place t (n.assign_step op a b) h = absurd (let x : false ≡ true = h 
 lvalue_is_place t (n.step how a) h = absurd (let x : false ≡ true = h in cc)
 lvalue_is_place t (n.copy a b) h = absurd (let x : false ≡ true = h in cc)
 lvalue_is_place t (n.call f es) h = absurd (let x : false ≡ true = h in cc)
+lvalue_is_place t (n.pack e) h = absurd (let x : false ≡ true = h in cc)
+lvalue_is_place t (n.spill i e) h = absurd (let x : false ≡ true = h in cc)
+lvalue_is_place t n.rest h = absurd (let x : false ≡ true = h in cc)
 
 address_is_place : (t : QTy) (e : Node) → unary.has_address (node t e) ≡ true → is_place (node t e) ≡ true
 address_is_place t (n.constant z) h = lvalue_is_place t (n.constant z) (and_parts (is_lvalue (node t (n.constant z))) (not (is_void (type_in t))) h).0
@@ -121,15 +124,19 @@ address_is_place t (n.assign_step op a b) h = lvalue_is_place t (n.assign_step o
 address_is_place t (n.step how a) h = lvalue_is_place t (n.step how a) (and_parts (is_lvalue (node t (n.step how a))) (not (is_void (type_in t))) h).0
 address_is_place t (n.copy a b) h = lvalue_is_place t (n.copy a b) (and_parts (is_lvalue (node t (n.copy a b))) (not (is_void (type_in t))) h).0
 address_is_place t (n.call f es) h = lvalue_is_place t (n.call f es) (and_parts (is_lvalue (node t (n.call f es))) (not (is_void (type_in t))) h).0
+address_is_place t (n.pack e) h = lvalue_is_place t (n.pack e) (and_parts (is_lvalue (node t (n.pack e))) (not (is_void (type_in t))) h).0
+address_is_place t (n.spill i e) h = lvalue_is_place t (n.spill i e) (and_parts (is_lvalue (node t (n.spill i e))) (not (is_void (type_in t))) h).0
+address_is_place t n.rest h = lvalue_is_place t n.rest (and_parts (is_lvalue (node t n.rest)) (not (is_void (type_in t))) h).0
 
 pub address_typed : (u : UnitTy) (p : Pos) (register : Bool) (t : QTy) (e : Node) (r : Typed) → IsTyped u (node t e) → is_registered u (node t e) ≡ register → unary.address_of u.types p register (node t e) ≡ Ok r → IsTyped u r
-address_typed u p register t e r w g h = tested (unary.has_address (node t e)) (is_bit_field u.types (node t e)) register refl refl g h
+address_typed u p register t e r w g h = tested (is_spilled (node t e)) (unary.has_address (node t e)) (is_bit_field u.types (node t e)) register refl refl refl g h
   where
-    tested : (a b c : Bool) → unary.has_address (node t e) ≡ a → is_bit_field u.types (node t e) ≡ b → is_registered u (node t e) ≡ c → unary.address_of u.types p c (node t e) ≡ Ok r → IsTyped u r
-    tested false b c x y z h = absurd (not_ok _ _ (rw x at h))
-    tested true true c x y z h = absurd (not_ok _ _ (rw (x, y) at h))
-    tested true false true x y z h = absurd (not_ok _ _ (rw (x, y) at h))
-    tested true false false x y z h = subst (IsTyped u) (ok_is _ _ (rw (x, y) at h)) (w, record { place = address_is_place t e x; whole = y; memory = z }, refl)
+    tested : (s a b c : Bool) → is_spilled (node t e) ≡ s → unary.has_address (node t e) ≡ a → is_bit_field u.types (node t e) ≡ b → is_registered u (node t e) ≡ c → unary.address_of u.types p c (node t e) ≡ Ok r → IsTyped u r
+    tested true a b c s x y z h = absurd (not_ok _ _ (rw s at h))
+    tested false false b c s x y z h = absurd (not_ok _ _ (rw (s, x) at h))
+    tested false true true c s x y z h = absurd (not_ok _ _ (rw (s, x, y) at h))
+    tested false true false true s x y z h = absurd (not_ok _ _ (rw (s, x, y) at h))
+    tested false true false false s x y z h = subst (IsTyped u) (ok_is _ _ (rw (s, x, y) at h)) (w, record { place = address_is_place t e x; whole = y; memory = z }, refl)
 
 pub unary_typed : (u : UnitTy) (p : Pos) (op : UnaryOp) (register : Bool) (e r : Typed) → IsTyped u e → is_registered u e ≡ register → unary.unary_of u.types p op register e ≡ Ok r → IsTyped u r
 unary_typed u p ones.Deref register e r w g h = deref_typed u p e r w h

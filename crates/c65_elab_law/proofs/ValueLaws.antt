@@ -14,7 +14,7 @@ use Rattle.c65_ctype.specs.Compatible.{same_int, same_bool}
 use Rattle.c65_csem.specs.Trees as n
 use Rattle.c65_csem.specs.Trees.{Typed, node, Node, type_of, UnitTy}
 use Rattle.c65_csem.specs.Places.{is_place, is_scalar, is_tag, is_void, plain, plain_of, promoted_of, is_promoted}
-use Rattle.c65_csem.specs.Typed.{HasInt, IsPromoted, IsPointer, IsScalar, IsValue, IsArm, IsResult, AreAlike, AreShifted, AreCompared, AreAdded, AreSubtracted, Operands, Operand, Converts, decayed, IsTyped, IsNode}
+use Rattle.c65_csem.specs.Typed.{HasInt, IsPromoted, IsPointer, IsScalar, IsValue, IsArm, IsUsual, IsSmall, AreAlike, AreShifted, AreCompared, AreAdded, AreSubtracted, Operands, Operand, Converts, decayed, IsTyped, IsNode, IsCalled}
 use Rattle.c65_elab_law.specs.WellTyped.{IsOf}
 use Rattle.c65_elab_convert.specs.Values.{equal_count, equal_types, equal_plain, value_of_place, value_by, value_of, is_narrow, is_narrow_value, promotion, place_promotion, is_either, common_of, as_plain_of, as_int_of}
 
@@ -221,9 +221,22 @@ convert_type : (t : QTy) (e : Typed) → Converts t e → ValueType t
 convert_type t e (Converts.scalar s v) = scalar_type t s
 convert_type t e Converts.to_void = empty refl
 
-result_type : (t : QTy) → IsResult t → ValueType t
-result_type t IsResult.nothing = empty refl
-result_type t (IsResult.scalar s) = scalar_type t s
+usual_type : (t : QTy) → IsUsual t → ValueType t
+usual_type t IsUsual.nothing = empty refl
+usual_type t (IsUsual.scalar s) = scalar_type t s
+
+-- a structure or union that a call gives
+small_type : (u : UnitTy) (t : QTy) → IsSmall u t → ValueType t
+small_type u (qual void c v) (s, p) = absurd (let e : false ≡ true = s in cc)
+small_type u (qual (int k) c v) (s, p) = absurd (let e : false ≡ true = s in cc)
+small_type u (qual (pointer q) c v) (s, p) = absurd (let e : false ≡ true = s in cc)
+small_type u (qual (array q m) c v) (s, p) = absurd (let e : false ≡ true = s in cc)
+small_type u (qual (tag m) c v) (s, p) = tagged m p
+small_type u (qual (function f) c v) (s, p) = absurd (let e : false ≡ true = s in cc)
+
+called_type : (u : UnitTy) (t : QTy) (e : Typed) → IsCalled u t e → ValueType t
+called_type u t (node s (n.call f es)) w = subst ValueType w.0 (small_type u s w.1)
+called_type u t (node s _) w = absurd w
 
 pub value_type : (u : UnitTy) (t : QTy) (e : Node) → IsNode u t e → is_place (node t e) ≡ false → ValueType t
 value_type u t (n.constant z) w p = number w.0 w.1
@@ -248,7 +261,10 @@ value_type u t (n.assign_op op k a b) w p = number w.3.0 w.3.1
 value_type u t (n.assign_step op a b) w p = place_type t (type_of a) w.2.1 w.3
 value_type u t (n.step how a) w p = place_type t (type_of a) w.1.1 w.2
 value_type u t (n.copy a b) w p = tag_type t (type_of a) w.3 w.4
-value_type u t (n.call f es) w p = result_type t w.2.scalar
+value_type u t (n.call f es) w p = usual_type t w.3
+value_type u t (n.pack e) w p = absurd w
+value_type u t (n.spill i e) w p = called_type u t e w.0
+value_type u t n.rest w p = address (plain (int UChar)) w
 
 value_stays : (t : QTy) → ValueType t → decayed t ≡ None
 value_stays t (number k h) = ap decayed h

@@ -8,11 +8,11 @@ use Rattle.c65_tree.specs.declared.expr.Storage.{Storage}
 use Rattle.c65_tree.specs.Trees as t
 use Rattle.c65_ctype.specs.Trees.{QTy, Fn, FieldTy}
 use Rattle.c65_csem.specs.Trees.{Typed, UnitTy}
-use Rattle.c65_csem.specs.Typed.{IsTyped}
+use Rattle.c65_csem.specs.Typed.{IsTyped, IsGiven, IsSmall, IsSpot}
 use Rattle.c65_elab_scope.specs.declared.meaning.Entity.{Entity}
 use Rattle.c65_elab_scope.specs.declared.meaning.Meaning.{Meaning}
 use Rattle.c65_elab_scope.specs.Scopes.{ScopeTy, nothing, opened, closed, tag_bound}
-use Rattle.c65_elab_scope.specs.Parts.{literal_added, completed, fewer_objects}
+use Rattle.c65_elab_scope.specs.Parts.{literal_added, completed, fewer_objects, spill_added, without_spills}
 use Rattle.c65_elab_scope.specs.Declaring.{declared, func_declared, enumerator_declared, tag_opened, tag_finished}
 use Rattle.c65_elab_declare.specs.Headings.{HeadingTy}
 use Rattle.c65_elab.specs.Typing.{typed, type_named, specified}
@@ -21,22 +21,25 @@ use Rattle.c65_elab_law.specs.Growth.{Grows}
 use Rattle.c65_elab_law.specs.Numbers.{IsRanged, IsRangedType, AreRangedSpecifiers, IsRangedDeclarator}
 use Rattle.c65_elab_law.specs.Scoped.{IsScope, Keeps, IsAnswer}
 
--- a tree that was made at some place of a unit is well typed behind it too
-abbrev pub TreesStayTyped : Type 0
-TreesStayTyped = (u v : UnitTy) (e : Typed) → Grows u v → IsTyped u e → IsTyped v e
+-- a tree that was made at some place of a unit is well typed behind it too, and so is an argument or a returned value
+pub record TreesStayTyped : Type 0 where
+  pub trees : (u v : UnitTy) (e : Typed) → Grows u v → IsTyped u e → IsTyped v e
+  pub given : (u v : UnitTy) (e : Typed) → Grows u v → IsGiven u e → IsGiven v e
 
 abbrev pub ScopesBegin : Type 0
-ScopesBegin = (signed_chars : Bool) (s : ScopeTy) → nothing signed_chars ≡ Ok s → IsScope s
+ScopesBegin = (signed_chars : Bool) (rest : Name) (s : ScopeTy) → nothing signed_chars rest ≡ Ok s → IsScope s
 
 -- blocks, names, literals, and structures and unions
 pub record DeclarationsKeepScopes : Type 0 where
-  pub opens : (s u : ScopeTy) → IsScope s → opened s ≡ Ok u → Keeps s u
+  pub opens : (variadic : Bool) (s u : ScopeTy) → IsScope s → opened variadic s ≡ Ok u → Keeps s u
   pub closes : (s : ScopeTy) → IsScope s → Keeps s (closed s)
   pub names : (s : ScopeTy) (n : Name) (ty : QTy) (storage : Option Storage) (p : Pos) (x : Entity × ScopeTy) → IsScope s → declared s n ty storage p ≡ Ok x → Keeps s x.1
   pub functions : (s : ScopeTy) (n : Name) (f : Fn) (storage : Option Storage) (p : Pos) (x : Entity × ScopeTy) → IsScope s → func_declared s n f storage p ≡ Ok x → Keeps s x.1
   pub enumerators : (s : ScopeTy) (n : Name) (z : ℤ) (p : Pos) (u : ScopeTy) → IsScope s → InRange Int z → enumerator_declared s n z p ≡ Ok u → Keeps s u
   pub counts : (s : ScopeTy) (i n : ℕ) → IsScope s → Keeps s (completed s i n)
   pub forgets : (s u : ScopeTy) → Keeps s u → Keeps s (fewer_objects u (length s.unit.objects))
+  pub spills : (s : ScopeTy) (t : QTy) (x : ℕ × ScopeTy) → IsScope s → IsSmall s.unit t → spill_added s t ≡ Ok x → Keeps s x.1 × IsSpot x.1.unit x.0 t
+  pub functions_begin : (s : ScopeTy) → IsScope s → Keeps s (without_spills s)
   pub literals : (s : ScopeTy) (bytes : List ℕ) (x : ℕ × ScopeTy) → IsScope s → literal_added s bytes ≡ Ok x → Keeps s x.1
   pub tags : (s : ScopeTy) (is_union : Bool) (x : ℕ × ScopeTy) → IsScope s → tag_opened s is_union ≡ Ok x → Keeps s x.1
   pub tag_names : (s : ScopeTy) (n : Name) (a : Meaning) (u : ScopeTy) → IsScope s → tag_bound s n a ≡ Ok u → Keeps s u

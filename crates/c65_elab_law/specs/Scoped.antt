@@ -63,8 +63,10 @@ abbrev pub AreBare : List FuncTy → Type 0
 AreBare [] = Unit {0}
 AreBare (f ∷ fs) = IsBare f.body f.params × AreBare fs
 
+-- all tags are of one unit, the one that is gone through
 pub record IsScope (s : ScopeTy) : Type 0 where
   pub types : IsTable s.unit.types
+  pub one_unit : s.unit.types.units ≡ 1
   pub names : AreNames s.names
   pub objects : ArePlaced s.unit.types s.unit.objects
   pub funcs : AreBare s.unit.funcs

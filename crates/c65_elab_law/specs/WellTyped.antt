@@ -1,5 +1,5 @@
 -- What each construct makes of well typed operands is well typed.
-use Rattle.std.specs.Prelude.{◌≡◌, Bool, true, false, Ok}
+use Rattle.std.specs.Prelude.{◌≡◌, List, Bool, true, false, Ok}
 use Rattle.c65_base.specs.declared.names.Name.{Name}
 use Rattle.c65_base.specs.declared.refusal.Pos.{Pos}
 use Rattle.c65_base.specs.declared.operators.UnaryOp.{UnaryOp}
@@ -7,9 +7,9 @@ use Rattle.c65_base.specs.declared.operators.BinaryOp.{BinaryOp}
 use Rattle.c65_base.specs.declared.operators.StepKind.{StepKind}
 use Rattle.c65_ctype.specs.Trees.{Ty, QTy, type_in}
 use Rattle.c65_ctype.specs.Tables.{IsTable}
-use Rattle.c65_csem.specs.Trees.{Typed, Nodes, UnitTy, type_of}
-use Rattle.c65_csem.specs.Places.{is_place, is_scalar, is_tag, plain, is_registered}
-use Rattle.c65_csem.specs.Typed.{IsValue, IsPromoted, IsTyped, AreTyped}
+use Rattle.c65_csem.specs.Trees.{Typed, Nodes, none, some, UnitTy, type_of}
+use Rattle.c65_csem.specs.Places.{is_place, is_scalar, is_tag, is_passed, plain, is_registered}
+use Rattle.c65_csem.specs.Typed.{IsValue, IsPromoted, IsTyped, IsGiven, IsCalled}
 use Rattle.c65_elab_convert.specs.Values.{value_of}
 use Rattle.c65_elab_convert.specs.Unaries.{unary_of}
 use Rattle.c65_elab_convert.specs.Casts.{cast_of}
@@ -19,6 +19,7 @@ use Rattle.c65_elab_convert.specs.Choices.{choice_of}
 use Rattle.c65_elab_convert.specs.Changes.{assigned_of, assign_of, assign_op_of, step_of}
 use Rattle.c65_elab_convert.specs.Access.{index_of, member_of_name, size_of_type, size_of_expr}
 use Rattle.c65_elab_convert.specs.Calls.{call_of}
+use Rattle.c65_elab_convert.specs.Structures.{packed_of}
 
 -- what is well typed, no place, and has this type
 pub record IsOf (u : UnitTy) (t : QTy) (e : Typed) : Type 0 where
@@ -42,6 +43,16 @@ pub record IsSwitch (u : UnitTy) (e : Typed) : Type 0 where
   pub promoted : IsPromoted (type_of e)
   pub value : is_place e ≡ false
 
+-- expressions one after another, before a call takes them for its parameters
+abbrev pub AreExpressions : UnitTy → Nodes → Type 0
+AreExpressions u none = Unit {0}
+AreExpressions u (some e es) = IsTyped u e × AreExpressions u es
+
+-- a call: a value or nothing, or a structure or union that an object has to take
+pub data IsCallTree (u : UnitTy) : Typed → Type 0 where
+  usual : {e : Typed} → is_tag (type_in (type_of e)) ≡ false → IsTyped u e → IsCallTree u e
+  whole : {e : Typed} → IsCalled u (type_of e) e → IsCallTree u e
+
 -- in each unit, with its table of types
 pub record ConstructsAreTyped : Type 0 where
   pub values : (u : UnitTy) (e : Typed) → IsTyped u e → IsTyped u (value_of e)
@@ -62,4 +73,5 @@ pub record ConstructsAreTyped : Type 0 where
   pub members : (u : UnitTy) (p : Pos) (arrow : Bool) (e r : Typed) (name : Name) → IsTyped u e → member_of_name u.types p arrow e name ≡ Ok r → IsTyped u r
   pub sizes : (u : UnitTy) (p : Pos) (t : Ty) (r : Typed) → IsTable u.types → size_of_type u.types p t ≡ Ok r → IsTyped u r
   pub sizes_of : (u : UnitTy) (p : Pos) (e r : Typed) → IsTable u.types → size_of_expr u.types p e ≡ Ok r → IsTyped u r
-  pub calls : (u : UnitTy) (p : Pos) (f r : Typed) (es : Nodes) → IsTyped u f → AreTyped u es → call_of u.types p f es ≡ Ok r → IsTyped u r
+  pub calls : (u : UnitTy) (p : Pos) (firsts : List Pos) (f r : Typed) (es : Nodes) → IsTyped u f → AreExpressions u es → call_of u.types p firsts f es ≡ Ok r → IsCallTree u r
+  pub packed : (u : UnitTy) (t : Ty) (e : Typed) → IsAssigned u t e → is_passed u.types t ≡ true → IsGiven u (packed_of e)

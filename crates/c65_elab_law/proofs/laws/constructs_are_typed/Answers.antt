@@ -5,7 +5,7 @@ use Rattle.c65_elab_law.proofs.ChoiceLaws.{choice_typed}
 use Rattle.c65_elab_law.proofs.ChangeLaws.{assigned_typed, assign_typed, assign_op_typed, step_typed}
 use Rattle.c65_elab_law.proofs.AccessLaws.{index_typed, member_typed}
 use Rattle.c65_elab_law.proofs.SizeLaws.{size_typed, size_expr_typed}
-use Rattle.c65_elab_law.proofs.CallLaws.{call_typed}
+use Rattle.c65_elab_law.proofs.CallLaws.{call_typed, packed_typed}
 use Rattle.c65_elab_law.proofs.laws.constructs_are_typed.Goals as goal
 
 pub returns : goal.returns
@@ -29,4 +29,5 @@ returns c = record {
   sizes = size_typed;
   sizes_of = size_expr_typed;
   calls = call_typed;
+  packed = packed_typed;
 }
