@@ -20,11 +20,13 @@ external names name = 95 ∷ known (slice_get names name.0)
 abbrev pub numbered : ℕ → ℕ → List ℕ
 numbered letter n = letter ∷ decimal n
 
-abbrev pub plain_spelling : List (List ℕ) → Bool → Name → ℕ → List ℕ
-plain_spelling names true name n = external names name
+-- what has no name is never external
+abbrev pub plain_spelling : List (List ℕ) → Bool → Option Name → ℕ → List ℕ
+plain_spelling names true (Some name) n = external names name
+plain_spelling names true None n = numbered 115 n
 plain_spelling names false name n = numbered 115 n
 
-abbrev pub plain_symbol : List (List ℕ) → Bool → Name → ℕ → Symbol
+abbrev pub plain_symbol : List (List ℕ) → Bool → Option Name → ℕ → Symbol
 plain_symbol names external_name name n = record { spelling = plain_spelling names external_name name n; literal = false }
 
 abbrev pub literal_symbol : ℕ → Symbol
@@ -48,7 +50,7 @@ with_literals i (bytes ∷ rest) ss = with_literals (suc i) rest (ss ++ literal_
 
 abbrev pub with_functions : List (List ℕ) → ℕ → List TFunc → List Symbol → List Symbol
 with_functions names i [] ss = ss
-with_functions names i (f ∷ fs) ss = with_functions names (suc i) fs (ss ++ plain_symbol names f.external f.name i ∷ [])
+with_functions names i (f ∷ fs) ss = with_functions names (suc i) fs (ss ++ plain_symbol names f.external (Some f.name) i ∷ [])
 
 abbrev pub symbols_of : List (List ℕ) → Parts → List Symbol
 symbols_of names parts =

@@ -2,22 +2,19 @@
 use Rattle.std.specs.Prelude.{ℕ, ◌+◌, ◌-◌, ◌/◌, ◌%◌, nat_lt, Bool, if◌then◌else◌, List, [], ◌∷◌, ◌++◌, Option, None, Some}
 use Rattle.c65_mach.specs.declared.rows.Op.TheVariants.{Adc, Clc, Lda, Ldy, Sta, Stx, Tax, Tay, Tya}
 use Rattle.c65_code.specs.declared.line.Line.{Line}
-use Rattle.c65_code.specs.declared.routine.Routine.{Routine}
-use Rattle.c65_code.specs.declared.routine.Routine.TheVariants.{PushA, PushAx, PushEax, LdAxYSp, LdAi, LdAxi, SaveRegs, StkChk}
+use Rattle.c65_code.specs.declared.routine.Routine.TheVariants.{PushA, LdAxYSp, LdAi, LdAxi, SaveRegs, StkChk}
 use Rattle.c65_genframe.specs.declared.home.Arrival.{Arrival}
 use Rattle.c65_genframe.specs.declared.home.Arrival.TheVariants.{Pushed, Kept}
 use Rattle.c65_genframe.specs.declared.home.Moved.{Moved}
 use Rattle.c65_genframe.specs.Frames.{Framed}
 use Rattle.c65_genwide.specs.Lines.{value, call}
+use Rattle.c65_genwide.specs.Passing.{pass_bytes}
 use Rattle.c65_genentry.specs.Words.{sp, tmp2, tmp3, tmp4, regbank, implied, zero_page, by_y}
 use Rattle.c65_genentry.specs.Stack.{lower_code}
 
-abbrev pub push_of : ℕ → Routine
-push_of bytes = if nat_lt bytes 2 then PushA else (if nat_lt bytes 3 then PushAx else PushEax)
-
 -- the last parameter goes from the registers onto the software stack
 abbrev pub pushed_code : Arrival → List Line
-pushed_code (Pushed bytes) = call (push_of bytes) ∷ []
+pushed_code (Pushed bytes) = pass_bytes bytes
 pushed_code _ = []
 
 abbrev pub bank_store : ℕ → ℕ → List Line

@@ -1,19 +1,16 @@
 -- What a call passes (docs/MACHINE.md, "Calls").
-use Rattle.std.specs.Prelude.{ℕ, ◌+◌, ◌%◌, not, Bool, true, false, if◌then◌else◌, Option, Some, None, List, []}
-use Rattle.c65_ints.specs.declared.types.IntType.{IntType}
-use Rattle.c65_ctype.specs.Trees.{Ty, pointer, function, qual}
-use Rattle.c65_csem.specs.Trees.{Nodes, none, some}
+use Rattle.std.specs.Prelude.{ℕ, ◌+◌, ◌%◌, max, min, not, Bool, true, false, if◌then◌else◌, List, []}
+use Rattle.c65_ctype.specs.Trees.{Ty, pointer, function, qual, type_in}
+use Rattle.c65_csem.specs.Trees.{Typed, node, pack, Nodes, none, some}
 use Rattle.c65_code.specs.declared.line.Line.{Line}
 use Rattle.c65_code.specs.declared.parts.RegSet.{RegSet}
-use Rattle.c65_code.specs.Parts.{no_parts}
-use Rattle.c65_code.specs.Effects.{only_a, only_y, ax, eax}
-use Rattle.c65_genframe.specs.Frames.{is_variadic, takes_stack}
-use Rattle.c65_genload.specs.declared.places.Extent.{Extent}
-use Rattle.c65_genload.specs.declared.places.Extent.TheVariants.{One, Two, Four}
-use Rattle.c65_genload.specs.Places.{extent_of}
-use Rattle.c65_genload.specs.Conversions.{pass_code, size_of}
+use Rattle.c65_code.specs.Effects.{only_y}
+use Rattle.c65_genframe.specs.Frames.{Framed, is_variadic, takes_stack, type_bytes}
+use Rattle.c65_genframe.specs.Registers.{registers}
+use Rattle.c65_genwide.specs.Passing.{pass_bytes}
+use Rattle.c65_genload.specs.Conversions.{size_of}
 use Rattle.c65_genexpr.specs.declared.arguments.Passed.{Passed}
-use Rattle.c65_genexpr.specs.Types.{kind_in}
+use Rattle.c65_genexpr.specs.Types.{kind_of}
 
 -- whether the last argument is passed in registers, by the type of the called pointer
 abbrev pub is_fast : Ty → Bool
@@ -30,32 +27,34 @@ abbrev pub stays : Bool → Nodes → Bool
 stays fast none = fast
 stays fast (some e es) = false
 
--- one argument more, before those that were passed
-abbrev pub joined : Bool → IntType → Passed → Passed
-joined true kind p = record { stacked = p.stacked; last = Some kind }
-joined false kind p = record { stacked = (size_of kind + p.stacked) % 256; last = p.last }
+-- from 1 to 4
+abbrev pub clamped : ℕ → ℕ
+clamped n = max 1 (min n 4)
 
--- what was passed: the bytes on the software stack, and what stays in registers
-abbrev pub passed_of : Bool → Nodes → Passed
-passed_of fast none = record { stacked = 0; last = None }
-passed_of fast (some e es) = joined (stays fast es) (kind_in e) (passed_of fast es)
+-- the bytes of an argument: those of a structure or union, or of a number
+abbrev pub passed_size : Framed → Typed → ℕ
+passed_size f (node t (pack e)) = clamped (type_bytes f (type_in t))
+passed_size f (node t e) = size_of (kind_of (type_in t))
 
-abbrev pub argument_code : Bool → IntType → List Line
-argument_code kept kind = if kept then [] else pass_code kind
+-- one argument more of so many bytes, before those that were passed
+abbrev pub joined : Bool → ℕ → Passed → Passed
+joined true bytes p = record { stacked = p.stacked; last = bytes }
+joined false bytes p = record { stacked = (bytes + p.stacked) % 256; last = p.last }
 
-abbrev pub argument_bytes : Bool → IntType → ℕ
-argument_bytes kept kind = if kept then 0 else size_of kind
+abbrev pub nothing_passed : Passed
+nothing_passed = record { stacked = 0; last = 0 }
 
-abbrev pub registers_in : Extent → RegSet
-registers_in One = only_a
-registers_in Two = ax
-registers_in Four = eax
+-- what was passed: the bytes on the software stack, and those that stay in registers
+abbrev pub passed_of : Framed → Bool → Nodes → Passed
+passed_of f fast none = nothing_passed
+passed_of f fast (some e es) = joined (stays fast es) (passed_size f e) (passed_of f fast es)
 
--- the registers of a value
-abbrev pub registers_of : Option IntType → RegSet
-registers_of None = no_parts
-registers_of (Some kind) = registers_in (extent_of kind)
+abbrev pub argument_code : Bool → ℕ → List Line
+argument_code kept bytes = if kept then [] else pass_bytes bytes
+
+abbrev pub argument_bytes : Bool → ℕ → ℕ
+argument_bytes kept bytes = if kept then 0 else bytes
 
 -- what a call reads
 abbrev pub reads_of : Bool → Passed → RegSet
-reads_of counted p = if counted then only_y else registers_of p.last
+reads_of counted p = if counted then only_y else registers p.last

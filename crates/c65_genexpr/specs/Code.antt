@@ -1,11 +1,11 @@
 -- The lines of expressions (C90 6.3): pushed bytes of values wait on the software stack, and fresh is the first label that
--- is free. A value stands in AX, or in EAX; of a place, and of a structure or union, the address.
+-- is free. A value stands in AX, or in EAX; of a place, and of a structure or
+-- union, the address. Of one that is passed or returned the bytes stand in A, X and sreg, as many as there are, the first in A.
 use Rattle.std.specs.Prelude.{ℕ, ◌+◌, Bool, Option, Some, None, List, [], ◌∷◌, ◌++◌}
 use Rattle.c65_base.specs.declared.operators.BinaryOp.{BinaryOp}
-use Rattle.c65_ints.specs.declared.types.IntType.{IntType}
 use Rattle.c65_ctype.specs.Trees.{QTy, type_in}
 use Rattle.c65_ctype.specs.Views.{types_of}
-use Rattle.c65_csem.specs.Trees.{Typed, node, Node, constant, null, literal, object, func, deref, member, load, address, decay, convert, unary, binary, both, either, choice, comma, assign, assign_op, assign_step, step, copy, call, Nodes, none, some}
+use Rattle.c65_csem.specs.Trees.{Typed, node, Node, constant, null, literal, object, func, deref, member, load, address, decay, convert, unary, binary, both, either, choice, comma, assign, assign_op, assign_step, step, copy, call, pack, spill, rest, Nodes, none, some}
 use Rattle.c65_mach.specs.declared.rows.Op.TheVariants.{Beq, Bne, Jmp, Lda, Ldx}
 use Rattle.c65_mach.specs.declared.rows.Mode.TheVariants.{Absolute}
 use Rattle.c65_code.specs.declared.line.Operand.TheVariants.{To}
@@ -20,19 +20,21 @@ use Rattle.c65_genwide.specs.Wide.{width_of}
 use Rattle.c65_genload.specs.declared.places.Place.{Place}
 use Rattle.c65_genload.specs.declared.places.Place.TheVariants.{Far}
 use Rattle.c65_genload.specs.Words.{branch}
-use Rattle.c65_genload.specs.Places.{held}
+use Rattle.c65_genload.specs.Places.{held, extent_by}
 use Rattle.c65_genload.specs.Numbers.{number_code}
 use Rattle.c65_genload.specs.Conversions.{push_code, test_code, waiting}
 use Rattle.c65_genload.specs.Addresses.{symbol_code, offset_code}
-use Rattle.c65_genload.specs.Loads.{hold_code, load_code}
+use Rattle.c65_genload.specs.Loads.{hold_code, bytes_code, load_code}
 use Rattle.c65_genload.specs.Stores.{store_code, copy_code}
 use Rattle.c65_genexpr.specs.declared.operands.Operands.{Operands}
 use Rattle.c65_genexpr.specs.declared.operands.Operands.TheVariants.{Numbers, PointerFirst}
-use Rattle.c65_genexpr.specs.Types.{kind_of, result_kind, kind_in, bare, offset_at, access_of, target_bytes}
-use Rattle.c65_genexpr.specs.Places.{more, place_of, object_code}
+use Rattle.c65_genexpr.specs.declared.types.Outcome.{Outcome}
+use Rattle.c65_genexpr.specs.Types.{kind_of, outcome_of, kind_in, bare, offset_at, access_of, target_bytes}
+use Rattle.c65_genexpr.specs.Places.{more, place_of, object_code, rest_code}
+use Rattle.c65_genexpr.specs.Spills.{spill_code}
 use Rattle.c65_genexpr.specs.Operands.{residue_of, operands_of, computes, short_of, binary_by, unary_code, conversion_code}
 use Rattle.c65_genexpr.specs.Steps.{amount_of, step_code, open_code, close_code}
-use Rattle.c65_genexpr.specs.Arguments.{is_fast, is_counted, stays, passed_of, argument_code, argument_bytes}
+use Rattle.c65_genexpr.specs.Arguments.{is_fast, is_counted, stays, passed_size, passed_of, argument_code, argument_bytes}
 use Rattle.c65_genexpr.specs.Calls.{named, named_code, pointer_code, direct_code}
 use Rattle.c65_genexpr.specs.Uses.{uses}
 
@@ -68,10 +70,10 @@ compound f pushed op operands a b left right =
 
 -- a call, from the lines of the called pointer and of the arguments: without a pointer that waits, and above one; below
 -- arguments alone it waits
-abbrev pub call_by : Framed → Option ℕ → Option IntType → Typed → Nodes → List Line → List Line → List Line → List Line
-call_by f (Some i) kind g es callee args above = args ++ named_code f i (is_counted (bare g)) (passed_of (is_fast (bare g)) es) kind
-call_by f None kind g none callee args above = callee ++ direct_code (is_counted (bare g)) (passed_of (is_fast (bare g)) none) kind
-call_by f None kind g (some e es) callee args above = callee ++ (push_code Ax ++ (above ++ pointer_code (is_counted (bare g)) (passed_of (is_fast (bare g)) (some e es)) kind))
+abbrev pub call_by : Framed → Option ℕ → Outcome → Typed → Nodes → List Line → List Line → List Line → List Line
+call_by f (Some i) given g es callee args above = args ++ named_code f i (is_counted (bare g)) (passed_of f (is_fast (bare g)) es) given
+call_by f None given g none callee args above = callee ++ direct_code (is_counted (bare g)) (passed_of f (is_fast (bare g)) none) given
+call_by f None given g (some e es) callee args above = callee ++ (push_code Ax ++ (above ++ pointer_code (is_counted (bare g)) (passed_of f (is_fast (bare g)) (some e es)) given))
 
 abbrev mutual
   pub expr_code : Framed → ℕ → ℕ → Typed → List Line
@@ -112,14 +114,18 @@ abbrev mutual
   node_code f pushed fresh t (copy a b) =
       expr_code f pushed fresh a ++ (push_code Ax ++ (expr_code f (more pushed 2) (fresh + uses a) b ++ copy_code (type_bytes f (type_in t))))
   node_code f pushed fresh t (call g es) =
-      call_by f (named g) (result_kind (type_in t)) g es (expr_code f pushed fresh g) (args_code f pushed fresh (is_fast (bare g)) es) (args_code f (more pushed 2) (fresh + uses g) (is_fast (bare g)) es)
+      call_by f (named g) (outcome_of f (type_in t)) g es (expr_code f pushed fresh g) (args_code f pushed fresh (is_fast (bare g)) es) (args_code f (more pushed 2) (fresh + uses g) (is_fast (bare g)) es)
+  node_code f pushed fresh t (pack e) = target_code (place_of f pushed e) (expr_code f pushed fresh e) ++ bytes_code (place_of f pushed e) (extent_by (type_bytes f (type_in t)))
+  node_code f pushed fresh t (spill i e) = expr_code f pushed fresh e ++ spill_code (object_code f pushed i) (extent_by (type_bytes f (type_in t)))
+  node_code f pushed fresh t rest = rest_code f pushed
 
   -- arguments from left to right
   pub args_code : Framed → ℕ → ℕ → Bool → Nodes → List Line
   args_code f pushed fresh fast none = []
   args_code f pushed fresh fast (some e es) =
       let kept = stays fast es in
-      expr_code f pushed fresh e ++ (argument_code kept (kind_in e) ++ args_code f (more pushed (argument_bytes kept (kind_in e))) (fresh + uses e) fast es)
+      let bytes = passed_size f e in
+      expr_code f pushed fresh e ++ (argument_code kept bytes ++ args_code f (more pushed (argument_bytes kept bytes)) (fresh + uses e) fast es)
 
 -- ---- the same by construct
 
@@ -148,5 +154,5 @@ assign_code f pushed fresh a b =
 abbrev pub compound_code : Framed → ℕ → ℕ → BinaryOp → Operands → Typed → Typed → List Line
 compound_code f pushed fresh op operands a b = compound f pushed op operands a b (expr_code f pushed fresh a) (expr_code f (behind_open f pushed operands a) (fresh + uses a) b)
 
-abbrev pub call_code : Framed → ℕ → ℕ → Option IntType → Typed → Nodes → List Line
-call_code f pushed fresh kind g es = call_by f (named g) kind g es (expr_code f pushed fresh g) (args_code f pushed fresh (is_fast (bare g)) es) (args_code f (more pushed 2) (fresh + uses g) (is_fast (bare g)) es)
+abbrev pub call_code : Framed → ℕ → ℕ → Outcome → Typed → Nodes → List Line
+call_code f pushed fresh given g es = call_by f (named g) given g es (expr_code f pushed fresh g) (args_code f pushed fresh (is_fast (bare g)) es) (args_code f (more pushed 2) (fresh + uses g) (is_fast (bare g)) es)

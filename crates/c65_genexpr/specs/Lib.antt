@@ -3,6 +3,7 @@ pub mod Calls
 pub mod Code
 pub mod Operands
 pub mod Places
+pub mod Spills
 pub mod Steps
 pub mod Types
 pub mod Uses

@@ -6,7 +6,7 @@ use Rattle.c65_code.specs.declared.line.Line.{Line}
 use Rattle.c65_genframe.specs.declared.home.Home.{Home}
 use Rattle.c65_genframe.specs.declared.home.Home.TheVariants as homes
 use Rattle.c65_genframe.specs.Symbols.{numbers_of, object_symbol}
-use Rattle.c65_genframe.specs.Frames.{Framed, home_of, is_raised}
+use Rattle.c65_genframe.specs.Frames.{Framed, home_of, is_raised, saved_bytes}
 use Rattle.c65_genload.specs.declared.places.Place.{Place}
 use Rattle.c65_genload.specs.declared.places.Place.TheVariants.{Bank, Near, Data, Far}
 use Rattle.c65_genload.specs.Addresses.{symbol_code, address_code, raised_code}
@@ -65,3 +65,8 @@ code_at f pushed i (Some (homes.Soft d)) = soft_code (is_raised f i) pushed (mor
 
 abbrev pub object_code : Framed → ℕ → ℕ → List Line
 object_code f pushed i = code_at f pushed i (home_of f i)
+
+-- The address behind the further arguments, the first of which lies highest: they lie above the objects and the saved bytes of
+-- regbank, and all bytes that the call pushed are `stacked` more than they.
+abbrev pub rest_code : Framed → ℕ → List Line
+rest_code f pushed = raised_code pushed ((pushed + f.soft + saved_bytes f.bank + 65536 - f.stacked) % 65536)

@@ -1,23 +1,34 @@
 -- What the generator reads off types.
-use Rattle.std.specs.Prelude.{ℕ, Option, Some, None}
+use Rattle.std.specs.Prelude.{ℕ, Option, None, Some}
 use Rattle.c65_ints.specs.declared.types.IntType.{IntType}
 use Rattle.c65_ints.specs.declared.types.IntType.TheVariants.{UInt}
-use Rattle.c65_ctype.specs.Trees.{Ty, void, int, pointer, type_in, MemberTy, TypesTy}
+use Rattle.c65_ctype.specs.Trees.{Ty, void, int, pointer, tag, type_in, MemberTy, TypesTy}
 use Rattle.c65_csem.specs.Trees.{Typed, node, member, type_of}
 use Rattle.c65_csem.specs.Places.{member_at}
 use Rattle.c65_genframe.specs.Frames.{Framed, type_bytes}
+use Rattle.c65_genload.specs.Conversions.{size_of}
 use Rattle.c65_genload.specs.declared.places.Access.{Access}
 use Rattle.c65_genload.specs.declared.places.Access.TheVariants.{Whole, Part}
+use Rattle.c65_genexpr.specs.declared.types.Outcome.{Outcome}
+use Rattle.c65_genexpr.specs.declared.types.Outcome.TheVariants.{Nothing, Number, Area}
 
 -- the integer type that stands for a scalar one
 abbrev pub kind_of : Ty → IntType
 kind_of (int kind) = kind
 kind_of _ = UInt
 
-abbrev pub result_kind : Ty → Option IntType
-result_kind void = None
-result_kind (int kind) = Some kind
-result_kind _ = Some UInt
+-- what a call gives: nothing, a number, or the bytes of a structure or union
+abbrev pub outcome_of : Framed → Ty → Outcome
+outcome_of f void = Nothing
+outcome_of f (int kind) = Number kind
+outcome_of f (tag n) = Area (type_bytes f (tag n))
+outcome_of f _ = Number UInt
+
+-- and how many bytes
+abbrev pub given_bytes : Outcome → ℕ
+given_bytes Nothing = 0
+given_bytes (Number kind) = size_of kind
+given_bytes (Area bytes) = bytes
 
 -- the type of a tree, without its qualifiers, and the integer type that stands for it
 abbrev pub bare : Typed → Ty

@@ -1,6 +1,6 @@
 -- How many labels the lines of an expression have.
 use Rattle.std.specs.Prelude.{ℕ, ◌+◌, Option, Some, None}
-use Rattle.c65_csem.specs.Trees.{Typed, node, Node, constant, null, literal, object, func, deref, member, load, address, decay, convert, unary, binary, both, either, choice, comma, assign, assign_op, assign_step, step, copy, call, Nodes, none, some}
+use Rattle.c65_csem.specs.Trees.{Typed, node, Node, constant, null, literal, object, func, deref, member, load, address, decay, convert, unary, binary, both, either, choice, comma, assign, assign_op, assign_step, step, copy, call, pack, spill, rest, Nodes, none, some}
 use Rattle.c65_genexpr.specs.Calls.{named}
 
 -- a function that is called by its name takes no lines of its own
@@ -36,6 +36,9 @@ abbrev mutual
   node_uses (step how e) = uses e
   node_uses (copy a b) = uses a + uses b
   node_uses (call f es) = unless_named (named f) (uses f) + args_uses es
+  node_uses (pack e) = uses e
+  node_uses (spill i e) = uses e
+  node_uses rest = 0
 
   pub args_uses : Nodes → ℕ
   args_uses none = 0
@@ -73,6 +76,9 @@ abbrev mutual
   node_count (step how e) = 1 + count e
   node_count (copy a b) = 1 + (count a + count b)
   node_count (call f es) = 1 + (count f + args_count es)
+  node_count (pack e) = 1 + count e
+  node_count (spill i e) = 1 + count e
+  node_count rest = 1
 
   pub args_count : Nodes → ℕ
   args_count none = 1

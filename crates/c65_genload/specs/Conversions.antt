@@ -1,4 +1,4 @@
--- Conversions, and values that are pushed, passed and tested (C90 6.2.1.2, 6.3.2.2).
+-- Conversions, and values that are pushed and tested (C90 6.2.1.2).
 use Rattle.std.specs.Prelude.{ℕ, ◌+◌, List, [], ◌∷◌}
 use Rattle.c65_ints.specs.declared.types.IntType.{IntType}
 use Rattle.c65_ints.specs.declared.types.IntType.TheVariants.{SChar, UChar, Short, UShort, Int, UInt, Long, ULong}
@@ -6,7 +6,7 @@ use Rattle.c65_mach.specs.declared.rows.Op.TheVariants.{Ora, Stx}
 use Rattle.c65_code.specs.declared.line.Line.{Line}
 use Rattle.c65_code.specs.declared.routine.Width.{Width}
 use Rattle.c65_code.specs.declared.routine.Width.TheVariants.{Ax, Eax}
-use Rattle.c65_code.specs.declared.routine.Routine.TheVariants.{PushA, PushAx, PushEax, LongAx, ULongAx}
+use Rattle.c65_code.specs.declared.routine.Routine.TheVariants.{PushAx, PushEax, LongAx, ULongAx}
 use Rattle.c65_genwide.specs.Lines.{call}
 use Rattle.c65_genwide.specs.Wide.{width_of, narrow_code}
 use Rattle.c65_genload.specs.Words.{sreg, tmp1, zero_page}
@@ -49,17 +49,6 @@ size_of ULong = 4
 abbrev pub push_code : Width → List Line
 push_code Ax = call PushAx ∷ []
 push_code Eax = call PushEax ∷ []
-
--- a parameter, at its own size
-abbrev pub pass_code : IntType → List Line
-pass_code SChar = call PushA ∷ []
-pass_code UChar = call PushA ∷ []
-pass_code Short = call PushAx ∷ []
-pass_code UShort = call PushAx ∷ []
-pass_code Int = call PushAx ∷ []
-pass_code UInt = call PushAx ∷ []
-pass_code Long = call PushEax ∷ []
-pass_code ULong = call PushEax ∷ []
 
 -- Z says whether the value is 0; then A is 0
 abbrev pub test_code : Width → List Line

@@ -1,18 +1,18 @@
 -- Values taken from where they are kept (C90 6.2.2.1).
 use Rattle.std.specs.Prelude.{ℕ, ◌+◌, List, [], ◌∷◌, ◌++◌}
-use Rattle.c65_mach.specs.declared.rows.Op.TheVariants.{Lda, Ldx, Ldy, Sta}
+use Rattle.c65_mach.specs.declared.rows.Op.TheVariants.{Dey, Lda, Ldx, Ldy, Sta, Stx, Tax}
 use Rattle.c65_code.specs.declared.line.Sym.{Sym}
 use Rattle.c65_code.specs.declared.line.Line.{Line}
 use Rattle.c65_code.specs.declared.routine.Routine.TheVariants.{PushAx, LdAxYSp, LdEaxYSp, LdAi, LdAxi, LdEaxi}
 use Rattle.c65_genwide.specs.Lines.{value, call}
 use Rattle.c65_genwide.specs.Wide.{narrow_code}
 use Rattle.c65_genload.specs.declared.places.Extent.{Extent}
-use Rattle.c65_genload.specs.declared.places.Extent.TheVariants.{One, Two, Four}
+use Rattle.c65_genload.specs.declared.places.Extent.TheVariants.{One, Two, Three, Four}
 use Rattle.c65_genload.specs.declared.places.Place.{Place}
 use Rattle.c65_genload.specs.declared.places.Place.TheVariants.{Bank, Near, Data, Far}
 use Rattle.c65_genload.specs.declared.places.Access.{Access}
 use Rattle.c65_genload.specs.declared.places.Access.TheVariants.{Whole, Part}
-use Rattle.c65_genload.specs.Words.{sp, sreg, regbank, zero_page, by_y, absolute}
+use Rattle.c65_genload.specs.Words.{sp, sreg, ptr1, regbank, implied, zero_page, by_y, absolute}
 use Rattle.c65_genload.specs.Places.{byte_more, word_more, extent_of}
 use Rattle.c65_genload.specs.Fields.{extract_code}
 
@@ -21,28 +21,33 @@ abbrev pub hold_code : Place → List Line
 hold_code Far = call PushAx ∷ []
 hold_code _ = []
 
+-- of regbank at most two bytes
 abbrev pub bank_code : ℕ → Extent → List Line
 bank_code at One = zero_page Lda (byte_more regbank at) ∷ []
 bank_code at Two = zero_page Lda (byte_more regbank at) ∷ zero_page Ldx (byte_more (byte_more regbank at) 1) ∷ []
+bank_code at Three = zero_page Lda (byte_more regbank at) ∷ zero_page Ldx (byte_more (byte_more regbank at) 1) ∷ []
 bank_code at Four = zero_page Lda (byte_more regbank at) ∷ zero_page Ldx (byte_more (byte_more regbank at) 1) ∷ []
 
 abbrev pub near_code : ℕ → Extent → List Line
 near_code at One = value Ldy at ∷ by_y Lda sp ∷ []
 near_code at Two = value Ldy (byte_more at 1) ∷ call LdAxYSp ∷ []
+near_code at Three = value Ldy (byte_more at 2) ∷ by_y Lda sp ∷ zero_page Sta sreg ∷ implied Dey ∷ call LdAxYSp ∷ []
 near_code at Four = value Ldy (byte_more at 3) ∷ call LdEaxYSp ∷ []
 
 abbrev pub data_code : Sym → ℕ → Extent → List Line
 data_code sym at One = absolute Lda sym at ∷ []
 data_code sym at Two = absolute Lda sym at ∷ absolute Ldx sym (word_more at 1) ∷ []
+data_code sym at Three = absolute Lda sym (word_more at 2) ∷ zero_page Sta sreg ∷ absolute Lda sym at ∷ absolute Ldx sym (word_more at 1) ∷ []
 data_code sym at Four = absolute Lda sym (word_more at 2) ∷ zero_page Sta sreg ∷ absolute Lda sym (word_more at 3) ∷ zero_page Sta (sreg + 1) ∷ absolute Lda sym at ∷ absolute Ldx sym (word_more at 1) ∷ []
 
 -- from the address in AX
 abbrev pub far_code : Extent → List Line
 far_code One = call LdAi ∷ []
 far_code Two = call LdAxi ∷ []
+far_code Three = zero_page Sta ptr1 ∷ zero_page Stx (ptr1 + 1) ∷ value Ldy 2 ∷ by_y Lda ptr1 ∷ zero_page Sta sreg ∷ implied Dey ∷ by_y Lda ptr1 ∷ implied Tax ∷ implied Dey ∷ by_y Lda ptr1 ∷ []
 far_code Four = call LdEaxi ∷ []
 
--- to A, AX or EAX
+-- to A, AX, AX and the low byte of sreg, or EAX
 abbrev pub bytes_code : Place → Extent → List Line
 bytes_code (Bank at) extent = bank_code at extent
 bytes_code (Near at) extent = near_code at extent

@@ -1,9 +1,9 @@
 -- Where objects lie, and what is kept there.
-use Rattle.std.specs.Prelude.{ℕ, ◌+◌, ◌%◌}
+use Rattle.std.specs.Prelude.{ℕ, ◌+◌, ◌%◌, nat_lt, if◌then◌else◌}
 use Rattle.c65_ints.specs.declared.types.IntType.{IntType}
 use Rattle.c65_ints.specs.declared.types.IntType.TheVariants.{SChar, UChar, Short, UShort, Int, UInt, Long, ULong}
 use Rattle.c65_genload.specs.declared.places.Extent.{Extent}
-use Rattle.c65_genload.specs.declared.places.Extent.TheVariants.{One, Two, Four}
+use Rattle.c65_genload.specs.declared.places.Extent.TheVariants.{One, Two, Three, Four}
 use Rattle.c65_genload.specs.declared.places.Place.{Place}
 use Rattle.c65_genload.specs.declared.places.Place.TheVariants.{Far}
 use Rattle.c65_genload.specs.declared.places.Access.{Access}
@@ -35,3 +35,7 @@ extent_of Int = Two
 extent_of UInt = Two
 extent_of Long = Four
 extent_of ULong = Four
+
+-- so many bytes, from 1 to 4
+abbrev pub extent_by : ℕ → Extent
+extent_by bytes = if nat_lt bytes 2 then One else (if nat_lt bytes 3 then Two else (if nat_lt bytes 4 then Three else Four))

@@ -10,7 +10,7 @@ use Rattle.c65_code.specs.declared.routine.Routine.TheVariants.{PushAx, StAxYSp,
 use Rattle.c65_genwide.specs.Lines.{value, call}
 use Rattle.c65_genwide.specs.Wide.{narrow_code}
 use Rattle.c65_genload.specs.declared.places.Extent.{Extent}
-use Rattle.c65_genload.specs.declared.places.Extent.TheVariants.{One, Two, Four}
+use Rattle.c65_genload.specs.declared.places.Extent.TheVariants.{One, Two, Three, Four}
 use Rattle.c65_genload.specs.declared.places.Field.{Field}
 use Rattle.c65_genload.specs.declared.places.Place.{Place}
 use Rattle.c65_genload.specs.declared.places.Place.TheVariants.{Bank, Near, Data, Far}
@@ -22,25 +22,30 @@ use Rattle.c65_genload.specs.Numbers.{first, second, mask_code}
 use Rattle.c65_genload.specs.Fields.{others, extract_code, aligned_code}
 use Rattle.c65_genload.specs.Loads.{bytes_code}
 
+-- a number has no three bytes, and is stored as of two then
 abbrev pub bank_store : ℕ → Extent → List Line
 bank_store at One = zero_page Sta (byte_more regbank at) ∷ []
 bank_store at Two = zero_page Sta (byte_more regbank at) ∷ zero_page Stx (byte_more (byte_more regbank at) 1) ∷ []
+bank_store at Three = zero_page Sta (byte_more regbank at) ∷ zero_page Stx (byte_more (byte_more regbank at) 1) ∷ []
 bank_store at Four = zero_page Sta (byte_more regbank at) ∷ zero_page Stx (byte_more (byte_more regbank at) 1) ∷ []
 
 abbrev pub near_store : ℕ → Extent → List Line
 near_store at One = value Ldy at ∷ by_y Sta sp ∷ []
 near_store at Two = value Ldy at ∷ call StAxYSp ∷ []
+near_store at Three = value Ldy at ∷ call StAxYSp ∷ []
 near_store at Four = value Ldy at ∷ call StEaxYSp ∷ []
 
 abbrev pub data_store : Sym → ℕ → Extent → List Line
 data_store sym at One = absolute Sta sym at ∷ []
 data_store sym at Two = absolute Sta sym at ∷ absolute Stx sym (word_more at 1) ∷ []
+data_store sym at Three = absolute Sta sym at ∷ absolute Stx sym (word_more at 1) ∷ []
 data_store sym at Four = absolute Sta sym at ∷ absolute Stx sym (word_more at 1) ∷ zero_page Ldy sreg ∷ absolute Sty sym (word_more at 2) ∷ zero_page Ldy (sreg + 1) ∷ absolute Sty sym (word_more at 3) ∷ []
 
 -- at the address that waits
 abbrev pub far_store : Extent → List Line
 far_store One = call StATos ∷ []
 far_store Two = call StAxTos ∷ []
+far_store Three = call StAxTos ∷ []
 far_store Four = call StEaxTos ∷ []
 
 -- A, AX or EAX

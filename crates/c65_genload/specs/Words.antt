@@ -13,11 +13,17 @@ sp = 0
 abbrev pub sreg : ℕ
 sreg = 2
 
+abbrev pub ptr1 : ℕ
+ptr1 = 8
+
 abbrev pub ptr3 : ℕ
 ptr3 = 12
 
 abbrev pub tmp1 : ℕ
 tmp1 = 16
+
+abbrev pub tmp2 : ℕ
+tmp2 = 17
 
 abbrev pub regbank : ℕ
 regbank = 20
