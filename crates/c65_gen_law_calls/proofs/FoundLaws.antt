@@ -188,7 +188,7 @@ lines_are_of_calls u g body f is_main out middle well few lines j line here call
     let other : level.0 ≡ middle = same_middle f level.0 middle (sym level.1 ∙ lines) in
     let waits_all : waits (at_first body) middle ≡ Some (waiting_by [] []) = ap (waits (at_first body)) (sym other) ∙ level.2 in
     let all : callings middle ≡ lines_of f (statement_sites body) = ap callings (sym same) ∙ put.has.is in
-    let at : At f (statement_sites body) (at_first body) middle j line = at_line f (statement_sites body) (waiting_by [] (statement_calls body)) (waiting_by [] []) middle j line waits_all (statement_calls_are body) all here calls in
+    let at : At f (statement_sites body) (at_first body) middle j line = at_line f (statement_sites body) (waiting_by [] (statement_calls f body)) (waiting_by [] []) middle j line waits_all (statement_calls_are body) all here calls in
     record {
       site = at.site;
       found = at.found;

@@ -29,10 +29,10 @@ unnamed None xs ss p = p
 unnamed (Some i) xs ss p = refl
 
 mutual
-  calls_are : (e : Typed) → calls_of e ≡ all_bytes (sites_of e)
+  calls_are : (e : Typed) → calls_of f e ≡ all_bytes (sites_of e)
   calls_are (node t n) = node_calls_are t n
 
-  node_calls_are : (t : QTy) (n : Node) → node_calls n ≡ all_bytes (node_sites t n)
+  node_calls_are : (t : QTy) (n : Node) → node_calls f n ≡ all_bytes (node_sites t n)
   node_calls_are t (constant z) = refl
   node_calls_are t null = refl
   node_calls_are t (literal n) = refl
@@ -45,43 +45,43 @@ mutual
   node_calls_are t (decay e) = calls_are e
   node_calls_are t (convert e) = calls_are e
   node_calls_are t (unary op e) = calls_are e
-  node_calls_are t (binary op a b) = two (calls_of a) (calls_of b) (sites_of a) (sites_of b) (calls_are a) (calls_are b)
-  node_calls_are t (both a b) = two (calls_of a) (calls_of b) (sites_of a) (sites_of b) (calls_are a) (calls_are b)
-  node_calls_are t (either a b) = two (calls_of a) (calls_of b) (sites_of a) (sites_of b) (calls_are a) (calls_are b)
-  node_calls_are t (choice c a b) = two (calls_of c) (calls_of a ++ calls_of b) (sites_of c) (sites_of a ++ sites_of b) (calls_are c) (two (calls_of a) (calls_of b) (sites_of a) (sites_of b) (calls_are a) (calls_are b))
-  node_calls_are t (comma a b) = two (calls_of a) (calls_of b) (sites_of a) (sites_of b) (calls_are a) (calls_are b)
-  node_calls_are t (assign a b) = two (calls_of a) (calls_of b) (sites_of a) (sites_of b) (calls_are a) (calls_are b)
-  node_calls_are t (assign_op op k a b) = two (calls_of a) (calls_of b) (sites_of a) (sites_of b) (calls_are a) (calls_are b)
-  node_calls_are t (assign_step op a b) = two (calls_of a) (calls_of b) (sites_of a) (sites_of b) (calls_are a) (calls_are b)
+  node_calls_are t (binary op a b) = two (calls_of f a) (calls_of f b) (sites_of a) (sites_of b) (calls_are a) (calls_are b)
+  node_calls_are t (both a b) = two (calls_of f a) (calls_of f b) (sites_of a) (sites_of b) (calls_are a) (calls_are b)
+  node_calls_are t (either a b) = two (calls_of f a) (calls_of f b) (sites_of a) (sites_of b) (calls_are a) (calls_are b)
+  node_calls_are t (choice c a b) = two (calls_of f c) (calls_of f a ++ calls_of f b) (sites_of c) (sites_of a ++ sites_of b) (calls_are c) (two (calls_of f a) (calls_of f b) (sites_of a) (sites_of b) (calls_are a) (calls_are b))
+  node_calls_are t (comma a b) = two (calls_of f a) (calls_of f b) (sites_of a) (sites_of b) (calls_are a) (calls_are b)
+  node_calls_are t (assign a b) = two (calls_of f a) (calls_of f b) (sites_of a) (sites_of b) (calls_are a) (calls_are b)
+  node_calls_are t (assign_op op k a b) = two (calls_of f a) (calls_of f b) (sites_of a) (sites_of b) (calls_are a) (calls_are b)
+  node_calls_are t (assign_step op a b) = two (calls_of f a) (calls_of f b) (sites_of a) (sites_of b) (calls_are a) (calls_are b)
   node_calls_are t (step how e) = calls_are e
-  node_calls_are t (copy a b) = two (calls_of a) (calls_of b) (sites_of a) (sites_of b) (calls_are a) (calls_are b)
+  node_calls_are t (copy a b) = two (calls_of f a) (calls_of f b) (sites_of a) (sites_of b) (calls_are a) (calls_are b)
   node_calls_are t (call g es) =
-      two (stack.unless_named (named g) (calls_of g)) (args_calls es ++ passed (is_fast (bare g)) es ∷ []) (unless_named (named g) (sites_of g)) (args_sites es ++ site_by t g es ∷ []) (unnamed (named g) (calls_of g) (sites_of g) (calls_are g))
-      (two (args_calls es) (passed (is_fast (bare g)) es ∷ []) (args_sites es) (site_by t g es ∷ []) (args_calls_are es) refl)
+      two (stack.unless_named (named g) (calls_of f g)) (args_calls f es ++ passed f (is_fast (bare g)) es ∷ []) (unless_named (named g) (sites_of g)) (args_sites es ++ site_by t g es ∷ []) (unnamed (named g) (calls_of f g) (sites_of g) (calls_are g))
+      (two (args_calls f es) (passed f (is_fast (bare g)) es ∷ []) (args_sites es) (site_by t g es ∷ []) (args_calls_are es) refl)
 
-  args_calls_are : (es : Nodes) → args_calls es ≡ all_bytes (args_sites es)
+  args_calls_are : (es : Nodes) → args_calls f es ≡ all_bytes (args_sites es)
   args_calls_are none = refl
-  args_calls_are (some e es) = two (calls_of e) (args_calls es) (sites_of e) (args_sites es) (calls_are e) (args_calls_are es)
+  args_calls_are (some e es) = two (calls_of f e) (args_calls f es) (sites_of e) (args_sites es) (calls_are e) (args_calls_are es)
 
-maybe_calls_are : (e : MaybeTyped) → maybe_calls e ≡ all_bytes (maybe_sites e)
+maybe_calls_are : (e : MaybeTyped) → maybe_calls f e ≡ all_bytes (maybe_sites e)
 maybe_calls_are absent = refl
 maybe_calls_are (present e) = calls_are e
 
 mutual
-  pub statement_calls_are : (s : Stmt) → statement_calls s ≡ all_bytes (statement_sites s)
+  pub statement_calls_are : (s : Stmt) → statement_calls f s ≡ all_bytes (statement_sites s)
   statement_calls_are empty = refl
   statement_calls_are (eval e) = calls_are e
   statement_calls_are (set_part i o e) = calls_are e
   statement_calls_are (clear i) = refl
   statement_calls_are (block os ss) = statements_calls_are ss
-  statement_calls_are (if_stmt e a b) = two (calls_of e) (statement_calls a ++ statement_calls b) (sites_of e) (statement_sites a ++ statement_sites b) (calls_are e) (two (statement_calls a) (statement_calls b) (statement_sites a) (statement_sites b) (statement_calls_are a) (statement_calls_are b))
-  statement_calls_are (while e a) = two (calls_of e) (statement_calls a) (sites_of e) (statement_sites a) (calls_are e) (statement_calls_are a)
-  statement_calls_are (do_while a e) = two (statement_calls a) (calls_of e) (statement_sites a) (sites_of e) (statement_calls_are a) (calls_are e)
+  statement_calls_are (if_stmt e a b) = two (calls_of f e) (statement_calls f a ++ statement_calls f b) (sites_of e) (statement_sites a ++ statement_sites b) (calls_are e) (two (statement_calls f a) (statement_calls f b) (statement_sites a) (statement_sites b) (statement_calls_are a) (statement_calls_are b))
+  statement_calls_are (while e a) = two (calls_of f e) (statement_calls f a) (sites_of e) (statement_sites a) (calls_are e) (statement_calls_are a)
+  statement_calls_are (do_while a e) = two (statement_calls f a) (calls_of f e) (statement_sites a) (sites_of e) (statement_calls_are a) (calls_are e)
   statement_calls_are (for_loop i c n a) =
-      two (maybe_calls i) (maybe_calls c ++ (statement_calls a ++ maybe_calls n)) (maybe_sites i) (maybe_sites c ++ (statement_sites a ++ maybe_sites n)) (maybe_calls_are i)
-      (two (maybe_calls c) (statement_calls a ++ maybe_calls n) (maybe_sites c) (statement_sites a ++ maybe_sites n) (maybe_calls_are c)
-      (two (statement_calls a) (maybe_calls n) (statement_sites a) (maybe_sites n) (statement_calls_are a) (maybe_calls_are n)))
-  statement_calls_are (switch e a) = two (calls_of e) (statement_calls a) (sites_of e) (statement_sites a) (calls_are e) (statement_calls_are a)
+      two (maybe_calls f i) (maybe_calls f c ++ (statement_calls f a ++ maybe_calls f n)) (maybe_sites i) (maybe_sites c ++ (statement_sites a ++ maybe_sites n)) (maybe_calls_are i)
+      (two (maybe_calls f c) (statement_calls f a ++ maybe_calls f n) (maybe_sites c) (statement_sites a ++ maybe_sites n) (maybe_calls_are c)
+      (two (statement_calls f a) (maybe_calls f n) (statement_sites a) (maybe_sites n) (statement_calls_are a) (maybe_calls_are n)))
+  statement_calls_are (switch e a) = two (calls_of f e) (statement_calls f a) (sites_of e) (statement_sites a) (calls_are e) (statement_calls_are a)
   statement_calls_are (case z a) = statement_calls_are a
   statement_calls_are (default a) = statement_calls_are a
   statement_calls_are (label n a) = statement_calls_are a
@@ -90,9 +90,9 @@ mutual
   statement_calls_are continue = refl
   statement_calls_are (return e) = maybe_calls_are e
 
-  statements_calls_are : (ss : Stmts) → statements_calls ss ≡ all_bytes (statements_sites ss)
+  statements_calls_are : (ss : Stmts) → statements_calls f ss ≡ all_bytes (statements_sites ss)
   statements_calls_are no_stmts = refl
-  statements_calls_are (and_stmts a ss) = two (statement_calls a) (statements_calls ss) (statement_sites a) (statements_sites ss) (statement_calls_are a) (statements_calls_are ss)
+  statements_calls_are (and_stmts a ss) = two (statement_calls f a) (statements_calls f ss) (statement_sites a) (statements_sites ss) (statement_calls_are a) (statements_calls_are ss)
 
 -- ---- their types
 

@@ -4,7 +4,7 @@ use Rattle.c65_base.specs.declared.operators.BinaryOp.{BinaryOp}
 use Rattle.c65_ints.specs.declared.types.IntType.{IntType}
 use Rattle.c65_ctype.specs.Trees.{QTy, TypesTy, type_in}
 use Rattle.c65_ctype.specs.Views.{types_of}
-use Rattle.c65_csem.specs.Trees.{Typed, node, Node, constant, null, literal, object, func, deref, member, load, address, decay, convert, unary, binary, both, either, choice, comma, assign, assign_op, assign_step, step, copy, call, Nodes, none, some}
+use Rattle.c65_csem.specs.Trees.{Typed, node, Node, constant, null, literal, object, func, deref, member, load, address, decay, convert, unary, binary, both, either, choice, comma, assign, assign_op, assign_step, step, copy, call, pack, spill, rest as further, Nodes, none, some}
 use Rattle.c65_mach.specs.declared.rows.Op.TheVariants.{Beq, Bne, Jmp}
 use Rattle.c65_mach.specs.declared.rows.Mode.TheVariants.{Absolute, Relative}
 use Rattle.c65_code.specs.declared.line.Operand.TheVariants.{To}
@@ -86,20 +86,48 @@ some_nodes (node t (assign_step op a b)) = omega arith
 some_nodes (node t (step how e)) = omega arith
 some_nodes (node t (copy a b)) = omega arith
 some_nodes (node t (call g es)) = omega arith
+some_nodes (node t (pack e)) = omega arith
+some_nodes (node t (spill i e)) = omega arith
+some_nodes (node t further) = omega arith
 
--- a member takes few lines, which leaves room for the lines of a bit-field
+-- A member takes few lines, which leaves room for the lines of a bit-field; and so do the bytes of a structure, which leaves room
+-- to push three of them.
 abbrev slack : Typed → ℕ
 slack (node t (member e m)) = 110
+slack (node t (pack e)) = 13
 slack _ = 0
 
 -- a member has at least two nodes
 slack_fits : (e : Typed) → 3 + slack e ≤ 128 * nodes e
 slack_fits (node t (member e m)) = omega (arith, some_nodes e)
+slack_fits (node t (pack e)) = omega (arith, some_nodes e)
 slack_fits (node t n) = omega (arith, some_nodes (node t n))
 
 -- what is left of 128 bytes a node when an argument is pushed
 abbrev pub room : Typed → ℕ
 room e = 128 * nodes e - (3 + slack e)
+
+passing_few : (n : ℕ) → passing n ≤ 16
+passing_few zero = omega arith
+passing_few (suc zero) = omega arith
+passing_few (suc (suc zero)) = omega arith
+passing_few (suc (suc (suc zero))) = omega arith
+passing_few (suc (suc (suc (suc n)))) = omega arith
+
+passing_number : (kind : IntType) → passing (size_of kind) ≤ 3
+passing_number ints.SChar = omega arith
+passing_number ints.UChar = omega arith
+passing_number ints.Short = omega arith
+passing_number ints.UShort = omega arith
+passing_number ints.Int = omega arith
+passing_number ints.UInt = omega arith
+passing_number ints.Long = omega arith
+passing_number ints.ULong = omega arith
+
+-- only the bytes of a structure may be three
+passing_fits : (f : Framed) (e : Typed) → passing (passed_size f e) ≤ 3 + slack e
+passing_fits f (node t (pack e)) = passing_few (passed_size f (node t (pack e)))
+passing_fits f (node t n) = omega (arith, passing_number (kind_of (type_in t)))
 
 field_fits : (whole part : ℕ) (kind : IntType) (bits : Option (ℕ × ℕ)) → whole ≤ part → by_access whole part (field_or kind bits) ≤ part
 field_fits whole part kind None le = le
@@ -204,13 +232,13 @@ compound_made f pushed op operands a b lo m j k left right ma mb =
 call_made : (f : Framed) (n : Option ℕ) (kind : Option IntType) (g : Typed) (es : Nodes) (lo u j k : ℕ) (callee args above : List Line) → Made lo u j callee → Made lo (args_uses es) k args → Made (lo + u) (args_uses es) k above → Made lo (unless_named n u + args_uses es) (j + k + 63) (call_by f n kind g es callee args above)
 call_made f (Some i) kind g es lo u j k callee args above mc ma mb =
     let m : ℕ = args_uses es in
-    made_as lo m (0 + m) (j + k + 63) _ (omega arith) (made_wider lo m (k + 63) (j + k + 63) _ (made_behind lo m k 63 args _ ma (named_piece f i (is_counted (bare g)) (passed_of (is_fast (bare g)) es) kind)) (omega arith))
+    made_as lo m (0 + m) (j + k + 63) _ (omega arith) (made_wider lo m (k + 63) (j + k + 63) _ (made_behind lo m k 63 args _ ma (named_piece f i (is_counted (bare g)) (passed_of f (is_fast (bare g)) es) kind)) (omega arith))
 call_made f None kind g none lo u j k callee args above mc ma mb =
-    made_as lo u (u + 0) (j + k + 63) _ (omega arith) (made_wider lo u (j + 12) (j + k + 63) _ (made_behind lo u j 12 callee _ mc (direct_piece (is_counted (bare g)) (passed_of (is_fast (bare g)) none) kind)) (omega arith))
-call_made f None kind g (some e rest) lo u j k callee args above mc ma mb =
-    let es : Nodes = some e rest in
+    made_as lo u (u + 0) (j + k + 63) _ (omega arith) (made_wider lo u (j + 12) (j + k + 63) _ (made_behind lo u j 12 callee _ mc (direct_piece (is_counted (bare g)) (passed_of f (is_fast (bare g)) none) kind)) (omega arith))
+call_made f None kind g (some e more_args) lo u j k callee args above mc ma mb =
+    let es : Nodes = some e more_args in
     let m : ℕ = args_uses es in
-    made_wider lo (u + m) (j + (3 + (k + 26))) (j + k + 63) _ (made_append lo u m j (3 + (k + 26)) callee _ mc (made_before (lo + u) m 3 (k + 26) (push_code Ax) _ (push_piece Ax) (made_behind (lo + u) m k 26 above _ mb (pointer_piece (is_counted (bare g)) (passed_of (is_fast (bare g)) es) kind)))) (omega arith)
+    made_wider lo (u + m) (j + (3 + (k + 26))) (j + k + 63) _ (made_append lo u m j (3 + (k + 26)) callee _ mc (made_before (lo + u) m 3 (k + 26) (push_code Ax) _ (push_piece Ax) (made_behind (lo + u) m k 26 above _ mb (pointer_piece (is_counted (bare g)) (passed_of f (is_fast (bare g)) es) kind)))) (omega arith)
 
 -- ---- the whole tree
 
@@ -225,7 +253,7 @@ mutual
   node_made f pushed lo t (constant z) = leaf lo 12 (node t (constant z)) _ (omega arith) refl (number_piece (width_of (kind_of (type_in t))) (residue_of z))
   node_made f pushed lo t null = leaf lo 12 (node t null) _ (omega arith) refl (number_piece Ax 0)
   node_made f pushed lo t (literal n) = leaf lo 4 (node t (literal n)) _ (omega arith) refl (symbol_piece (literal_symbol (numbers_of f.parts) n) 0)
-  node_made f pushed lo t (object i) = leaf lo 46 (node t (object i)) _ (omega arith) refl (object_piece f pushed i)
+  node_made f pushed lo t (object i) = leaf lo 34 (node t (object i)) _ (omega arith) refl (object_piece f pushed i)
   node_made f pushed lo t (func i) = leaf lo 4 (node t (func i)) _ (omega arith) refl (symbol_piece (function_symbol (numbers_of f.parts) i) 0)
   node_made f pushed lo t (deref e) = made_wider lo (uses e) (room e) _ _ (expr_made f pushed lo e) (omega (arith, some_nodes e))
   node_made f pushed lo t (member e m) = made_wider lo (uses e) (room e + 9) _ _ (made_behind lo (uses e) (room e) 9 _ _ (expr_made f pushed lo e) (offset_piece (offset_at (types_of f.parts.types) (bare e) m))) (omega (arith, some_nodes e))
@@ -265,11 +293,19 @@ mutual
   node_made f pushed lo t (call g es) =
       made_wider lo (unless_named (named g) (uses g) + args_uses es) (room g + 128 * nodes_in es + 63) _ _ (call_made f (named g) (result_kind (type_in t)) g es lo (uses g) (room g) (128 * nodes_in es) _ _ _ (expr_made f pushed lo g) (args_made f pushed lo (is_fast (bare g)) es) (args_made f (more pushed 2) (lo + uses g) (is_fast (bare g)) es)) (omega (arith, some_nodes g))
 
+  node_made f pushed lo t (pack e) =
+      let place : Place = place_of f pushed e in
+      made_wider lo (uses e) (room e + 17) _ _ (made_behind lo (uses e) (room e) 17 _ _ (target_made lo (uses e) (room e) place _ (known_uses f pushed e) (expr_made f pushed lo e)) (part_piece place (extent_by (type_bytes f (type_in t))))) (omega (arith, some_nodes e))
+  node_made f pushed lo t (spill i e) =
+      made_wider lo (uses e) (room e + 67) _ _ (made_behind lo (uses e) (room e) 67 _ _ (expr_made f pushed lo e) (spill_piece (object_code f pushed i) (extent_by (type_bytes f (type_in t))) (object_piece f pushed i))) (omega (arith, some_nodes e))
+  node_made f pushed lo t further = leaf lo 34 (node t further) _ (omega arith) refl (raised_piece pushed (rest_offset f pushed))
+
   args_made : (f : Framed) (pushed lo : ℕ) (fast : Bool) (es : Nodes) → Made lo (args_uses es) (128 * nodes_in es) (args_code f pushed lo fast es)
   args_made f pushed lo fast none = made_none lo 0
   args_made f pushed lo fast (some e es) =
       let kept : Bool = stays fast es in
-      made_wider lo (uses e + args_uses es) (room e + (3 + 128 * nodes_in es)) _ _ (made_append lo (uses e) (args_uses es) (room e) (3 + 128 * nodes_in es) _ _ (expr_made f pushed lo e) (made_before (lo + uses e) (args_uses es) 3 (128 * nodes_in es) _ _ (argument_piece kept (kind_in e)) (args_made f (more pushed (argument_bytes kept (kind_in e))) (lo + uses e) fast es))) (omega (arith, some_nodes e, slack_fits e))
+      let size : ℕ = passed_size f e in
+      made_wider lo (uses e + args_uses es) (room e + (passing size + 128 * nodes_in es)) _ _ (made_append lo (uses e) (args_uses es) (room e) (passing size + 128 * nodes_in es) _ _ (expr_made f pushed lo e) (made_before (lo + uses e) (args_uses es) (passing size) (128 * nodes_in es) _ _ (argument_piece kept size) (args_made f (more pushed (argument_bytes kept size)) (lo + uses e) fast es))) (omega (arith, some_nodes e, slack_fits e, passing_fits f e))
 
 pub expressions_own_their_labels : ExpressionsOwnTheirLabels
 expressions_own_their_labels f pushed fresh e =

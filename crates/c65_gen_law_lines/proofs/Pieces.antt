@@ -29,7 +29,7 @@ use Rattle.c65_genframe.specs.Symbols.{numbers_of, object_symbol, function_symbo
 use Rattle.c65_genwide.specs.Lines.{call}
 use Rattle.c65_genwide.specs.Wide.{width_of, narrow_code, wide_code, tos_of, is_comparison}
 use Rattle.c65_genload.specs.declared.places.Extent.{Extent}
-use Rattle.c65_genload.specs.declared.places.Extent.TheVariants.{One, Two, Four}
+use Rattle.c65_genload.specs.declared.places.Extent.TheVariants.{One, Two, Three, Four}
 use Rattle.c65_genload.specs.declared.places.Field.{Field}
 use Rattle.c65_genload.specs.declared.places.Place.{Place}
 use Rattle.c65_genload.specs.declared.places.Place.TheVariants as places
@@ -37,7 +37,7 @@ use Rattle.c65_genload.specs.declared.places.Access.{Access}
 use Rattle.c65_genload.specs.declared.places.Access.TheVariants.{Whole, Part}
 use Rattle.c65_genload.specs.Places.{type_in, byte_more, extent_of}
 use Rattle.c65_genload.specs.Numbers.{number_code, add_word_code, add_by_width, add_code, mask_code, by_code, shift_code, scale_code, is_divisor, divide_code}
-use Rattle.c65_genload.specs.Conversions.{widen_code, convert_code, convert_to, push_code, pass_code, test_code}
+use Rattle.c65_genload.specs.Conversions.{widen_code, convert_code, convert_to, push_code, pass_bytes, test_code}
 use Rattle.c65_genload.specs.Addresses.{symbol_code, address_code, above_code, raised_code, offset_code}
 use Rattle.c65_genload.specs.Fields.{ones, others, extract_code, aligned_code}
 use Rattle.c65_genload.specs.Loads.{hold_code, bytes_code, load_code}
@@ -106,25 +106,26 @@ address_piece at = record { plain = refl; fit = refl; size = omega arith }
 above_piece : Piece 10 above_code
 above_piece = record { plain = refl; fit = refl; size = omega arith }
 
-raised_piece : (counter at : ℕ) → Piece 46 (raised_code counter at)
+pub raised_piece : (counter at : ℕ) → Piece 34 (raised_code counter at)
 raised_piece counter at =
-    let rest : Piece 31 (above_code ++ add_code ints.UInt at) = piece_append 10 21 above_code (add_code ints.UInt at) above_piece (add_piece ints.UInt at) in
+    let added : Piece 9 (add_code ints.UInt at) = record { plain = refl; fit = refl; size = omega arith } in
+    let rest : Piece 19 (above_code ++ add_code ints.UInt at) = piece_append 10 9 above_code (add_code ints.UInt at) above_piece added in
     let one : Piece 3 (call LdAi ∷ []) = record { plain = refl; fit = refl; size = omega arith } in
-    piece_append 12 34 (address_code counter) (call LdAi ∷ (above_code ++ add_code ints.UInt at)) (address_piece counter) (piece_append 3 31 (call LdAi ∷ []) (above_code ++ add_code ints.UInt at) one rest)
+    piece_append 12 22 (address_code counter) (call LdAi ∷ (above_code ++ add_code ints.UInt at)) (address_piece counter) (piece_append 3 19 (call LdAi ∷ []) (above_code ++ add_code ints.UInt at) one rest)
 
 pub offset_piece : (n : ℕ) → Piece 9 (offset_code n)
 offset_piece n = piece_if 9 (n == 0) [] (add_code ints.UInt n) (piece_none 9) (record { plain = refl; fit = refl; size = omega arith })
 
-soft_piece : (raised : Bool) (pushed at stacked : ℕ) → Piece 46 (soft_code raised pushed at stacked)
+soft_piece : (raised : Bool) (pushed at stacked : ℕ) → Piece 34 (soft_code raised pushed at stacked)
 soft_piece true pushed at stacked = raised_piece pushed ((at + 65536 - stacked) % 65536)
-soft_piece false pushed at stacked = piece_wider 12 46 (address_code at) (address_piece at) (omega arith)
+soft_piece false pushed at stacked = piece_wider 12 34 (address_code at) (address_piece at) (omega arith)
 
-home_piece : (f : Framed) (pushed i : ℕ) (home : Option Home) → Piece 46 (code_at f pushed i home)
-home_piece f pushed i None = piece_wider 4 46 _ (symbol_piece (object_symbol (numbers_of f.parts) i) 0) (omega arith)
-home_piece f pushed i (Some (homes.Bank b)) = piece_none 46
+home_piece : (f : Framed) (pushed i : ℕ) (home : Option Home) → Piece 34 (code_at f pushed i home)
+home_piece f pushed i None = piece_wider 4 34 _ (symbol_piece (object_symbol (numbers_of f.parts) i) 0) (omega arith)
+home_piece f pushed i (Some (homes.Bank b)) = piece_none 34
 home_piece f pushed i (Some (homes.Soft d)) = soft_piece (is_raised f i) pushed (more d pushed) f.stacked
 
-pub object_piece : (f : Framed) (pushed i : ℕ) → Piece 46 (object_code f pushed i)
+pub object_piece : (f : Framed) (pushed i : ℕ) → Piece 34 (object_code f pushed i)
 object_piece f pushed i = home_piece f pushed i (home_of f i)
 
 -- ---- conversions
@@ -158,18 +159,20 @@ pub push_piece : (w : Width) → Piece 3 (push_code w)
 push_piece Ax = record { plain = refl; fit = refl; size = omega arith }
 push_piece Eax = record { plain = refl; fit = refl; size = omega arith }
 
-pass_piece : (kind : IntType) → Piece 3 (pass_code kind)
-pass_piece ints.SChar = record { plain = refl; fit = refl; size = omega arith }
-pass_piece ints.UChar = record { plain = refl; fit = refl; size = omega arith }
-pass_piece ints.Short = record { plain = refl; fit = refl; size = omega arith }
-pass_piece ints.UShort = record { plain = refl; fit = refl; size = omega arith }
-pass_piece ints.Int = record { plain = refl; fit = refl; size = omega arith }
-pass_piece ints.UInt = record { plain = refl; fit = refl; size = omega arith }
-pass_piece ints.Long = record { plain = refl; fit = refl; size = omega arith }
-pass_piece ints.ULong = record { plain = refl; fit = refl; size = omega arith }
+-- the lines that push a value of so many bytes: three bytes have no routine
+abbrev pub passing : ℕ → ℕ
+passing (suc (suc (suc zero))) = 16
+passing _ = 3
 
-pub argument_piece : (kept : Bool) (kind : IntType) → Piece 3 (argument_code kept kind)
-argument_piece kept kind = piece_if 3 kept [] (pass_code kind) (piece_none 3) (pass_piece kind)
+pass_piece : (n : ℕ) → Piece (passing n) (pass_bytes n)
+pass_piece zero = record { plain = refl; fit = refl; size = omega arith }
+pass_piece (suc zero) = record { plain = refl; fit = refl; size = omega arith }
+pass_piece (suc (suc zero)) = record { plain = refl; fit = refl; size = omega arith }
+pass_piece (suc (suc (suc zero))) = record { plain = refl; fit = refl; size = omega arith }
+pass_piece (suc (suc (suc (suc n)))) = record { plain = refl; fit = refl; size = omega arith }
+
+pub argument_piece : (kept : Bool) (n : ℕ) → Piece (passing n) (argument_code kept n)
+argument_piece kept n = piece_if (passing n) kept [] (pass_bytes n) (piece_none (passing n)) (pass_piece n)
 
 pub test_piece : (w : Width) → Piece 8 (test_code w)
 test_piece Ax = record { plain = refl; fit = refl; size = omega arith }
@@ -183,19 +186,51 @@ hold_piece (places.Near at) = piece_none 3
 hold_piece (places.Data s at) = piece_none 3
 hold_piece places.Far = record { plain = refl; fit = refl; size = omega arith }
 
-bytes_piece : (place : Place) (e : Extent) → Piece 16 (bytes_code place e)
+-- the lines that take so many bytes: three have no routine
+abbrev pub taking : Extent → ℕ
+taking Three = 17
+taking _ = 16
+
+pub bytes_piece : (place : Place) (e : Extent) → Piece (taking e) (bytes_code place e)
 bytes_piece (places.Bank b) One = record { plain = refl; fit = refl; size = omega arith }
 bytes_piece (places.Bank b) Two = record { plain = refl; fit = refl; size = omega arith }
+bytes_piece (places.Bank b) Three = record { plain = refl; fit = refl; size = omega arith }
 bytes_piece (places.Bank b) Four = record { plain = refl; fit = refl; size = omega arith }
 bytes_piece (places.Near at) One = record { plain = refl; fit = refl; size = omega arith }
 bytes_piece (places.Near at) Two = record { plain = refl; fit = refl; size = omega arith }
+bytes_piece (places.Near at) Three = record { plain = refl; fit = refl; size = omega arith }
 bytes_piece (places.Near at) Four = record { plain = refl; fit = refl; size = omega arith }
 bytes_piece (places.Data s at) One = record { plain = refl; fit = refl; size = omega arith }
 bytes_piece (places.Data s at) Two = record { plain = refl; fit = refl; size = omega arith }
+bytes_piece (places.Data s at) Three = record { plain = refl; fit = refl; size = omega arith }
 bytes_piece (places.Data s at) Four = record { plain = refl; fit = refl; size = omega arith }
 bytes_piece places.Far One = record { plain = refl; fit = refl; size = omega arith }
 bytes_piece places.Far Two = record { plain = refl; fit = refl; size = omega arith }
+bytes_piece places.Far Three = record { plain = refl; fit = refl; size = omega arith }
 bytes_piece places.Far Four = record { plain = refl; fit = refl; size = omega arith }
+
+taking_few : (e : Extent) → taking e ≤ 17
+taking_few One = omega arith
+taking_few Two = omega arith
+taking_few Three = omega arith
+taking_few Four = omega arith
+
+pub part_piece : (place : Place) (e : Extent) → Piece 17 (bytes_code place e)
+part_piece place e = piece_wider (taking e) 17 (bytes_code place e) (bytes_piece place e) (taking_few e)
+
+-- no number has three
+taking_number : (kind : IntType) → taking (extent_of kind) ≤ 16
+taking_number ints.SChar = omega arith
+taking_number ints.UChar = omega arith
+taking_number ints.Short = omega arith
+taking_number ints.UShort = omega arith
+taking_number ints.Int = omega arith
+taking_number ints.UInt = omega arith
+taking_number ints.Long = omega arith
+taking_number ints.ULong = omega arith
+
+number_bytes_piece : (place : Place) (kind : IntType) → Piece 16 (bytes_code place (extent_of kind))
+number_bytes_piece place kind = piece_wider (taking (extent_of kind)) 16 (bytes_code place (extent_of kind)) (bytes_piece place (extent_of kind)) (taking_number kind)
 
 extract_piece : (g : Field) → Piece 20 (extract_code g)
 extract_piece g =
@@ -209,21 +244,25 @@ by_access whole part (Whole kind) = whole
 by_access whole part (Part field) = part
 
 pub load_piece : (place : Place) (access : Access) → Piece (by_access 19 36 access) (load_code place access)
-load_piece place (Whole kind) = piece_append 16 3 _ _ (bytes_piece place (extent_of kind)) (narrow_piece kind)
+load_piece place (Whole kind) = piece_append 16 3 _ _ (number_bytes_piece place kind) (narrow_piece kind)
 load_piece place (Part field) = piece_append 16 20 _ _ (bytes_piece place Two) (extract_piece field)
 
 bytes_store_piece : (place : Place) (e : Extent) → Piece 16 (bytes_store place e)
 bytes_store_piece (places.Bank b) One = record { plain = refl; fit = refl; size = omega arith }
 bytes_store_piece (places.Bank b) Two = record { plain = refl; fit = refl; size = omega arith }
+bytes_store_piece (places.Bank b) Three = record { plain = refl; fit = refl; size = omega arith }
 bytes_store_piece (places.Bank b) Four = record { plain = refl; fit = refl; size = omega arith }
 bytes_store_piece (places.Near at) One = record { plain = refl; fit = refl; size = omega arith }
 bytes_store_piece (places.Near at) Two = record { plain = refl; fit = refl; size = omega arith }
+bytes_store_piece (places.Near at) Three = record { plain = refl; fit = refl; size = omega arith }
 bytes_store_piece (places.Near at) Four = record { plain = refl; fit = refl; size = omega arith }
 bytes_store_piece (places.Data s at) One = record { plain = refl; fit = refl; size = omega arith }
 bytes_store_piece (places.Data s at) Two = record { plain = refl; fit = refl; size = omega arith }
+bytes_store_piece (places.Data s at) Three = record { plain = refl; fit = refl; size = omega arith }
 bytes_store_piece (places.Data s at) Four = record { plain = refl; fit = refl; size = omega arith }
 bytes_store_piece places.Far One = record { plain = refl; fit = refl; size = omega arith }
 bytes_store_piece places.Far Two = record { plain = refl; fit = refl; size = omega arith }
+bytes_store_piece places.Far Three = record { plain = refl; fit = refl; size = omega arith }
 bytes_store_piece places.Far Four = record { plain = refl; fit = refl; size = omega arith }
 
 after_store_piece : (place : Place) (kind : IntType) → Piece 3 (after_store place kind)

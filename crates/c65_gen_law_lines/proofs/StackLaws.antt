@@ -81,7 +81,7 @@ nothing_more (x ∷ xs) = ap (λ l. x ∷ l) (nothing_more xs)
 
 -- ---- places that are known
 
-known_calls : (f : Framed) (pushed : ℕ) (e : Typed) → IsKnown (place_of f pushed e) → calls_of e ≡ []
+known_calls : (f : Framed) (pushed : ℕ) (e : Typed) → IsKnown (place_of f pushed e) → calls_of f e ≡ []
 known_calls f pushed (node t (object i)) h = refl
 known_calls f pushed (node t (member e m)) h = known_calls f pushed e (moved_known (place_of f pushed e) (offset_at (types_of f.parts.types) (bare e) m) h)
 known_calls f pushed (node t _) h = absurd h
@@ -92,7 +92,7 @@ target_does (places.Bank b) h d = does_as (sym (h tt)) does_none
 target_does (places.Near at) h d = does_as (sym (h tt)) does_none
 target_does (places.Data s at) h d = does_as (sym (h tt)) does_none
 
-short_calls : (op : BinaryOp) (operands : Operands) (e : Typed) (n : ℕ) → short_of op operands e ≡ Some n → calls_of e ≡ []
+short_calls : (op : BinaryOp) (operands : Operands) (e : Typed) (n : ℕ) → short_of op operands e ≡ Some n → calls_of f e ≡ []
 short_calls op operands (node t (constant z)) n h = refl
 short_calls op operands (node t _) n h = absurd (no_short (is_short op operands) n h)
 
@@ -147,31 +147,31 @@ direct_does counted p kind v =
     let stored : Leaves v ptr4_code v = record { to = λ calls. refl } in
     does_before stored (does_before (count_still counted p v) (does_behind one (result_still kind v)))
 
-call_does : {cs : List (List ℕ)} {v : List ℕ} {callee args above : List Line} (f : Framed) (n : Option ℕ) (kind : Option IntType) (g : Typed) (es : Nodes) → Does cs v callee v → Does (args_calls es) v args (passed (is_fast (bare g)) es ++ v) → Does (args_calls es) (2 ∷ v) above (passed (is_fast (bare g)) es ++ 2 ∷ v)
-    → Does (unless_named n cs ++ (args_calls es ++ passed (is_fast (bare g)) es ∷ [])) v (call_by f n kind g es callee args above) v
-call_does {v = v} f (Some i) kind g es dc da db = does_then da (named_does f i (library_at f i) (is_counted (bare g)) (passed_of (is_fast (bare g)) es) kind (passed (is_fast (bare g)) es) v)
+call_does : {cs : List (List ℕ)} {v : List ℕ} {callee args above : List Line} (f : Framed) (n : Option ℕ) (kind : Option IntType) (g : Typed) (es : Nodes) → Does cs v callee v → Does (args_calls f es) v args (passed f (is_fast (bare g)) es ++ v) → Does (args_calls f es) (2 ∷ v) above (passed f (is_fast (bare g)) es ++ 2 ∷ v)
+    → Does (unless_named n cs ++ (args_calls f es ++ passed f (is_fast (bare g)) es ∷ [])) v (call_by f n kind g es callee args above) v
+call_does {v = v} f (Some i) kind g es dc da db = does_then da (named_does f i (library_at f i) (is_counted (bare g)) (passed_of (is_fast (bare g)) es) kind (passed f (is_fast (bare g)) es) v)
 call_does {v = v} f None kind g none dc da db = does_then dc (direct_does (is_counted (bare g)) (passed_of (is_fast (bare g)) none) kind v)
 call_does {v = v} f None kind g (some e es) dc da db =
     let all : Nodes = some e es in
-    does_then dc (does_before (push_leaves Ax v) (does_then db (pointer_does (is_counted (bare g)) (passed_of (is_fast (bare g)) all) kind (passed (is_fast (bare g)) all) v)))
+    does_then dc (does_before (push_leaves Ax v) (does_then db (pointer_does (is_counted (bare g)) (passed_of (is_fast (bare g)) all) kind (passed f (is_fast (bare g)) all) v)))
 
 -- ---- the whole tree
 
 does_to : {cs : List (List ℕ)} {v u t : List ℕ} {a : List Line} → u ≡ t → Does cs v a u → Does cs v a t
 does_to {cs = cs} {v = v} {a = a} e p = subst (λ (x : List ℕ). Does cs v a x) e p
 
-compound_does : {ds : List (List ℕ)} {left right : List Line} (f : Framed) (pushed : ℕ) (op : BinaryOp) (operands : Operands) (a b : Typed) (v : List ℕ) → Does (calls_of a) v left v
-    → Does ds (waiting (width_of (computes operands)) ∷ holding (place_of f pushed a) v) right (waiting (width_of (computes operands)) ∷ holding (place_of f pushed a) v) → Does (calls_of a ++ ds) v (compound f pushed op operands a b left right) v
+compound_does : {ds : List (List ℕ)} {left right : List Line} (f : Framed) (pushed : ℕ) (op : BinaryOp) (operands : Operands) (a b : Typed) (v : List ℕ) → Does (calls_of f a) v left v
+    → Does ds (waiting (width_of (computes operands)) ∷ holding (place_of f pushed a) v) right (waiting (width_of (computes operands)) ∷ holding (place_of f pushed a) v) → Does (calls_of f a ++ ds) v (compound f pushed op operands a b left right) v
 compound_does f pushed op operands a b v da db =
     let place : Place = place_of f pushed a in
     let access : Access = access_of (types_of f.parts.types) a in
     does_then (target_does place (known_calls f pushed a) da) (does_before (open_leaves place access (computes operands) v) (does_behind db (close_leaves op operands (kind_in b) place access v)))
 
 mutual
-  expr_does : (f : Framed) (pushed lo : ℕ) (e : Typed) (v : List ℕ) → Does (calls_of e) v (expr_code f pushed lo e) v
+  expr_does : (f : Framed) (pushed lo : ℕ) (e : Typed) (v : List ℕ) → Does (calls_of f e) v (expr_code f pushed lo e) v
   expr_does f pushed lo (node t n) v = node_does f pushed lo t n v
 
-  node_does : (f : Framed) (pushed lo : ℕ) (t : QTy) (n : Node) (v : List ℕ) → Does (node_calls n) v (node_code f pushed lo t n) v
+  node_does : (f : Framed) (pushed lo : ℕ) (t : QTy) (n : Node) (v : List ℕ) → Does (node_calls f n) v (node_code f pushed lo t n) v
   node_does f pushed lo t (constant z) v = does_leaves (number_still (width_of (kind_of (type_in t))) (residue_of z) v)
   node_does f pushed lo t null v = does_leaves (number_still Ax 0 v)
   node_does f pushed lo t (literal n) v = record { to = λ rest. refl }
@@ -214,13 +214,13 @@ mutual
   node_does f pushed lo t (call g es) v =
       call_does f (named g) (result_kind (type_in t)) g es (expr_does f pushed lo g v) (args_does f pushed lo (is_fast (bare g)) es v) (args_does f (more pushed 2) (lo + uses g) (is_fast (bare g)) es (2 ∷ v))
 
-  args_does : (f : Framed) (pushed lo : ℕ) (fast : Bool) (es : Nodes) (v : List ℕ) → Does (args_calls es) v (args_code f pushed lo fast es) (passed fast es ++ v)
+  args_does : (f : Framed) (pushed lo : ℕ) (fast : Bool) (es : Nodes) (v : List ℕ) → Does (args_calls f es) v (args_code f pushed lo fast es) (passed f fast es ++ v)
   args_does f pushed lo fast none v = does_none
   args_does f pushed lo fast (some e es) v =
       let kept : Bool = stays fast es in
       let own : List ℕ = argument_bytes kept (kind_in e) in
-      let rest : Does (args_calls es) (own ++ v) (args_code f (more pushed (arguments.argument_bytes kept (kind_in e))) (lo + uses e) fast es) (passed fast es ++ (own ++ v)) = args_does f (more pushed (arguments.argument_bytes kept (kind_in e))) (lo + uses e) fast es (own ++ v) in
-      does_to (sym (append_assoc (passed fast es) own v)) (does_then (expr_does f pushed lo e v) (does_before (argument_leaves kept (kind_in e) v) rest))
+      let rest : Does (args_calls f es) (own ++ v) (args_code f (more pushed (arguments.argument_bytes kept (kind_in e))) (lo + uses e) fast es) (passed f fast es ++ (own ++ v)) = args_does f (more pushed (arguments.argument_bytes kept (kind_in e))) (lo + uses e) fast es (own ++ v) in
+      does_to (sym (append_assoc (passed f fast es) own v)) (does_then (expr_does f pushed lo e v) (does_before (argument_leaves kept (kind_in e) v) rest))
 
 pub expressions_keep_the_stack : ExpressionsKeepTheStack
 expressions_keep_the_stack f pushed fresh e values calls = (expr_does f pushed fresh e values).to calls
@@ -239,4 +239,4 @@ pub calls_are_counted : CallsAreCounted
 calls_are_counted fast none = refl
 calls_are_counted fast (some e es) =
     let kept : Bool = stays fast es in
-    counted_by kept (kind_in e) (passed_of fast es) (bytes_in (passed fast es)) (calls_are_counted fast es) ∙ ap (λ m. m % 256) (sym (bytes_append (passed fast es) (argument_bytes kept (kind_in e))))
+    counted_by kept (kind_in e) (passed_of fast es) (bytes_in (passed f fast es)) (calls_are_counted fast es) ∙ ap (λ m. m % 256) (sym (bytes_append (passed f fast es) (argument_bytes kept (kind_in e))))

@@ -23,7 +23,7 @@ use Rattle.c65_genframe.specs.Frames.{Framed, home_of, is_raised}
 use Rattle.c65_genwide.specs.Lines.{call}
 use Rattle.c65_genwide.specs.Wide.{width_of, narrow_code, wide_code, tos_of, is_comparison}
 use Rattle.c65_genload.specs.declared.places.Extent.{Extent}
-use Rattle.c65_genload.specs.declared.places.Extent.TheVariants.{One, Two, Four}
+use Rattle.c65_genload.specs.declared.places.Extent.TheVariants.{One, Two, Three, Four}
 use Rattle.c65_genload.specs.declared.places.Field.{Field}
 use Rattle.c65_genload.specs.declared.places.Place.{Place}
 use Rattle.c65_genload.specs.declared.places.Place.TheVariants as places
@@ -31,7 +31,7 @@ use Rattle.c65_genload.specs.declared.places.Access.{Access}
 use Rattle.c65_genload.specs.declared.places.Access.TheVariants.{Whole, Part}
 use Rattle.c65_genload.specs.Places.{type_in, byte_more, extent_of}
 use Rattle.c65_genload.specs.Numbers.{number_code, add_word_code, add_by_width, add_code, mask_code, by_code, shift_code, scale_code, is_divisor, divide_code}
-use Rattle.c65_genload.specs.Conversions.{widen_code, convert_code, convert_to, push_code, pass_code, test_code, waiting, size_of}
+use Rattle.c65_genload.specs.Conversions.{widen_code, convert_code, convert_to, push_code, pass_bytes, test_code, waiting}
 use Rattle.c65_genload.specs.Addresses.{address_code, above_code, offset_code}
 use Rattle.c65_genload.specs.Fields.{ones, others, extract_code}
 use Rattle.c65_genload.specs.Loads.{hold_code, bytes_code, load_code}
@@ -155,19 +155,18 @@ pub push_leaves : (w : Width) (v : List ℕ) → Leaves v (push_code w) (waiting
 push_leaves Ax v = record { to = λ calls. refl }
 push_leaves Eax v = record { to = λ calls. refl }
 
-pass_leaves : (kind : IntType) (v : List ℕ) → Leaves v (pass_code kind) (size_of kind ∷ v)
-pass_leaves ints.SChar v = record { to = λ calls. refl }
-pass_leaves ints.UChar v = record { to = λ calls. refl }
-pass_leaves ints.Short v = record { to = λ calls. refl }
-pass_leaves ints.UShort v = record { to = λ calls. refl }
-pass_leaves ints.Int v = record { to = λ calls. refl }
-pass_leaves ints.UInt v = record { to = λ calls. refl }
-pass_leaves ints.Long v = record { to = λ calls. refl }
-pass_leaves ints.ULong v = record { to = λ calls. refl }
+-- a value of one to four bytes
+pass_leaves : (n : ℕ) (v : List ℕ) → 1 ≤ n → n ≤ 4 → Leaves v (pass_bytes n) (n ∷ v)
+pass_leaves zero v some few = absurd (omega (arith, some))
+pass_leaves (suc zero) v some few = record { to = λ calls. refl }
+pass_leaves (suc (suc zero)) v some few = record { to = λ calls. refl }
+pass_leaves (suc (suc (suc zero))) v some few = record { to = λ calls. refl }
+pass_leaves (suc (suc (suc (suc zero)))) v some few = record { to = λ calls. refl }
+pass_leaves (suc (suc (suc (suc (suc n))))) v some few = absurd (omega (arith, few))
 
-pub argument_leaves : (kept : Bool) (kind : IntType) (v : List ℕ) → Leaves v (argument_code kept kind) (argument_bytes kept kind ++ v)
-argument_leaves true kind v = leaves_none
-argument_leaves false kind v = pass_leaves kind v
+pub argument_leaves : (f : Framed) (kept : Bool) (e : Typed) (v : List ℕ) → Leaves v (argument_code kept (passed_size f e)) (argument_bytes kept (passed_size f e) ++ v)
+argument_leaves f true e v = leaves_none
+argument_leaves f false e v = pass_leaves (passed_size f e) v (passed_some f e) (passed_few f e)
 
 pub test_still : (w : Width) → Still (test_code w)
 test_still Ax v = record { to = λ calls. refl }
@@ -186,18 +185,22 @@ hold_leaves (places.Near at) v = leaves_none
 hold_leaves (places.Data s at) v = leaves_none
 hold_leaves places.Far v = record { to = λ calls. refl }
 
-bytes_still : (place : Place) (e : Extent) → Still (bytes_code place e)
+pub bytes_still : (place : Place) (e : Extent) → Still (bytes_code place e)
 bytes_still (places.Bank b) One v = record { to = λ calls. refl }
 bytes_still (places.Bank b) Two v = record { to = λ calls. refl }
+bytes_still (places.Bank b) Three v = record { to = λ calls. refl }
 bytes_still (places.Bank b) Four v = record { to = λ calls. refl }
 bytes_still (places.Near at) One v = record { to = λ calls. refl }
 bytes_still (places.Near at) Two v = record { to = λ calls. refl }
+bytes_still (places.Near at) Three v = record { to = λ calls. refl }
 bytes_still (places.Near at) Four v = record { to = λ calls. refl }
 bytes_still (places.Data s at) One v = record { to = λ calls. refl }
 bytes_still (places.Data s at) Two v = record { to = λ calls. refl }
+bytes_still (places.Data s at) Three v = record { to = λ calls. refl }
 bytes_still (places.Data s at) Four v = record { to = λ calls. refl }
 bytes_still places.Far One v = record { to = λ calls. refl }
 bytes_still places.Far Two v = record { to = λ calls. refl }
+bytes_still places.Far Three v = record { to = λ calls. refl }
 bytes_still places.Far Four v = record { to = λ calls. refl }
 
 extract_still : (g : Field) → Still (extract_code g)
@@ -211,15 +214,19 @@ load_still place (Part field) v = leaves_then (bytes_still place Two v) (extract
 store_leaves : (place : Place) (e : Extent) (v : List ℕ) → Leaves (holding place v) (bytes_store place e) v
 store_leaves (places.Bank b) One v = record { to = λ calls. refl }
 store_leaves (places.Bank b) Two v = record { to = λ calls. refl }
+store_leaves (places.Bank b) Three v = record { to = λ calls. refl }
 store_leaves (places.Bank b) Four v = record { to = λ calls. refl }
 store_leaves (places.Near at) One v = record { to = λ calls. refl }
 store_leaves (places.Near at) Two v = record { to = λ calls. refl }
+store_leaves (places.Near at) Three v = record { to = λ calls. refl }
 store_leaves (places.Near at) Four v = record { to = λ calls. refl }
 store_leaves (places.Data s at) One v = record { to = λ calls. refl }
 store_leaves (places.Data s at) Two v = record { to = λ calls. refl }
+store_leaves (places.Data s at) Three v = record { to = λ calls. refl }
 store_leaves (places.Data s at) Four v = record { to = λ calls. refl }
 store_leaves places.Far One v = record { to = λ calls. refl }
 store_leaves places.Far Two v = record { to = λ calls. refl }
+store_leaves places.Far Three v = record { to = λ calls. refl }
 store_leaves places.Far Four v = record { to = λ calls. refl }
 
 after_store_still : (place : Place) (kind : IntType) → Still (after_store place kind)

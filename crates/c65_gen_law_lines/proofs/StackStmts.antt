@@ -61,7 +61,7 @@ still_lines d a still = record { keeps = λ start v rest h. waits_append d.lines
 still_code : (n : ℕ) (d : Drafted) (a : List Line) → Still a → Keeps [] d (with_code n a d)
 still_code n d a still = record { keeps = λ start v rest h. waits_append d.lines a start ∙ (ap (λ w. waits w a) h ∙ (still v).to rest) }
 
-value_keeps : (f : Framed) (e : Typed) (d : Drafted) → Keeps (calls_of e) d (with_value f e d)
+value_keeps : (f : Framed) (e : Typed) (d : Drafted) → Keeps (calls_of f e) d (with_value f e d)
 value_keeps f e d = record { keeps = λ start v rest h. waits_append d.lines (expr_code f 0 d.labels e) start ∙ (ap (λ w. waits w (expr_code f 0 d.labels e)) h ∙ expressions_keep_the_stack f 0 d.labels e v rest) }
 
 one_label : (l : ℕ) → Still (Label l ∷ [])
@@ -79,7 +79,7 @@ label_keeps l d = still_lines d (Label l ∷ []) (one_label l)
 jump_keeps : (l : ℕ) (d : Drafted) → Keeps [] d (with_jump l d)
 jump_keeps l d = still_lines d (jump Jmp l ∷ []) (one_jump l)
 
-condition_keeps : (f : Framed) (op : Op) (to : ℕ) (e : Typed) (d : Drafted) → Keeps (calls_of e) d (with_condition f op to e d)
+condition_keeps : (f : Framed) (op : Op) (to : ℕ) (e : Typed) (d : Drafted) → Keeps (calls_of f e) d (with_condition f op to e d)
 condition_keeps f op to e d =
     let v : Drafted = with_value f e d in
     let t : Drafted = with_lines v (test_in e) in
@@ -179,11 +179,11 @@ choice_still w at l (z ∷ zs) v = leaves_then (leaves_then (test_lines w (bits_
 
 -- ---- statements
 
-maybe_keeps : (f : Framed) (e : MaybeTyped) (d : Drafted) → Keeps (maybe_calls e) d (with_maybe f e d)
+maybe_keeps : (f : Framed) (e : MaybeTyped) (d : Drafted) → Keeps (maybe_calls f e) d (with_maybe f e d)
 maybe_keeps f absent d = keeps_same
 maybe_keeps f (present e) d = value_keeps f e d
 
-test_keeps : (f : Framed) (to : ℕ) (e : MaybeTyped) (d : Drafted) → Keeps (maybe_calls e) d (with_test f to e d)
+test_keeps : (f : Framed) (to : ℕ) (e : MaybeTyped) (d : Drafted) → Keeps (maybe_calls f e) d (with_test f to e d)
 test_keeps f to absent d = keeps_same
 test_keeps f to (present e) d = condition_keeps f Beq to e d
 
@@ -192,7 +192,7 @@ given_keeps : {cs : List (List ℕ)} {d e g : Drafted} → d.lines ≡ e.lines �
 given_keeps same p = record { keeps = λ start v rest h. p.keeps start v rest (ap (waits start) (sym same) ∙ h) }
 
 mutual
-  stmt_keeps : (f : Framed) (w : Ways) (l : ℕ) (s : Stmt) (d : Drafted) → Keeps (statement_calls s) d (with_stmt f w l s d)
+  stmt_keeps : (f : Framed) (w : Ways) (l : ℕ) (s : Stmt) (d : Drafted) → Keeps (statement_calls f s) d (with_stmt f w l s d)
   stmt_keeps f w l empty d = keeps_same
   stmt_keeps f w l (eval e) d = value_keeps f e d
   stmt_keeps f w l (set_part i o e) d = keeps_behind (value_keeps f e d) (kept_keeps (is_tag (bare e)) f (spot_of f i o) e (with_value f e d))
@@ -231,7 +231,7 @@ mutual
       let m4 : Drafted = with_label (g.labels + 1) m3 in
       let m5 : Drafted = with_maybe f n m4 in
       let m6 : Drafted = with_jump g.labels m5 in
-      let loop : Keeps (maybe_calls t ++ (statement_calls a ++ maybe_calls n)) g (with_label (g.labels + 1 + 1) m6) =
+      let loop : Keeps (maybe_calls f t ++ (statement_calls f a ++ maybe_calls f n)) g (with_label (g.labels + 1 + 1) m6) =
       given_keeps {e = three_given g} refl (keeps_before (label_keeps g.labels (three_given g)) (keeps_then (test_keeps f (g.labels + 1 + 1) t m1) (keeps_then (stmt_keeps f inner l a m2)
       (keeps_before (label_keeps (g.labels + 1) m3) (keeps_behind (keeps_behind (maybe_keeps f n m4) (jump_keeps g.labels m5)) (label_keeps (g.labels + 1 + 1) m6)))))) in
       keeps_then (maybe_keeps f i d) loop
@@ -253,7 +253,7 @@ mutual
   stmt_keeps f w l continue d = jump_keeps w.onward d
   stmt_keeps f w l (return e) d = keeps_behind (maybe_keeps f e d) (jump_keeps 0 (with_maybe f e d))
 
-  stmts_keep : (f : Framed) (w : Ways) (l : ℕ) (ss : Stmts) (d : Drafted) → Keeps (statements_calls ss) d (with_stmts f w l ss d)
+  stmts_keep : (f : Framed) (w : Ways) (l : ℕ) (ss : Stmts) (d : Drafted) → Keeps (statements_calls f ss) d (with_stmts f w l ss d)
   stmts_keep f w l no_stmts d = keeps_same
   stmts_keep f w l (and_stmts a ss) d = keeps_then (stmt_keeps f w l a d) (stmts_keep f w (case_behind l a) ss (with_stmt f w l a d))
 

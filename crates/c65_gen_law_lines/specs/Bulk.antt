@@ -3,7 +3,7 @@ use Rattle.std.specs.Prelude.{◌≡◌, ℕ, ◌+◌, ◌≤◌, Bool, Option, 
 use Rattle.c65_csem.specs.declared.items.Parts.{Parts}
 use Rattle.c65_csem.specs.declared.items.TFunc.{TFunc}
 use Rattle.c65_csem.specs.Views.{func_of}
-use Rattle.c65_csem.specs.Trees.{Typed, node, Node, constant, null, literal, object, func, deref, member, load, address, decay, convert, unary, binary, both, either, choice, comma, assign, assign_op, assign_step, step, copy, call, Nodes, none, some, MaybeTyped, absent, present, Stmt, eval, set_part, clear, block, if_stmt, while, do_while, for_loop, switch, case, default, label, return, Stmts, no_stmts, and_stmts, FuncTy}
+use Rattle.c65_csem.specs.Trees.{Typed, node, Node, constant, null, literal, object, func, deref, member, load, address, decay, convert, unary, binary, both, either, choice, comma, assign, assign_op, assign_step, step, copy, call, pack, spill, rest, Nodes, none, some, MaybeTyped, absent, present, Stmt, eval, set_part, clear, block, if_stmt, while, do_while, for_loop, switch, case, default, label, return, Stmts, no_stmts, and_stmts, FuncTy}
 use Rattle.c65_genframe.specs.declared.modes.Modes.{Modes}
 use Rattle.c65_genframe.specs.Frames.{Framed, frame_of, type_bytes}
 use Rattle.c65_genexpr.specs.Types.{bare}
@@ -38,6 +38,9 @@ abbrev mutual
   node_nodes (step how e) = 1 + nodes e
   node_nodes (copy a b) = 1 + (nodes a + nodes b)
   node_nodes (call f es) = 1 + (nodes f + nodes_in es)
+  node_nodes (pack e) = 1 + nodes e
+  node_nodes (spill i e) = 1 + nodes e
+  node_nodes rest = 1
 
   pub nodes_in : Nodes → ℕ
   nodes_in none = 0

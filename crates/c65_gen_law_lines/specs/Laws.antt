@@ -47,16 +47,16 @@ FunctionsAreSegments = (u : UnitTy) (g : FuncTy) (body : Stmt) (f : Framed) (is_
 -- and none moves sp otherwise or saves or restores regbank
 abbrev pub ExpressionsKeepTheStack : Type 0
 ExpressionsKeepTheStack = (f : Framed) (pushed fresh : ℕ) (e : Typed) (values : List ℕ) (calls : List (List ℕ))
-    → waits (Some (waiting_by values (calls_of e ++ calls))) (expr_code f pushed fresh e) ≡ Some (waiting_by values calls)
+    → waits (Some (waiting_by values (calls_of f e ++ calls))) (expr_code f pushed fresh e) ≡ Some (waiting_by values calls)
 
 -- and so do the lines of a statement, behind those of any draft
 abbrev pub StatementsKeepTheStack : Type 0
 StatementsKeepTheStack = (f : Framed) (w : Ways) (l : ℕ) (s : Stmt) (d : Drafted) (start : Option Waiting) (values : List ℕ) (calls : List (List ℕ))
-    → waits start d.lines ≡ Some (waiting_by values (statement_calls s ++ calls)) → waits start (with_stmt f w l s d).lines ≡ Some (waiting_by values calls)
+    → waits start d.lines ≡ Some (waiting_by values (statement_calls f s ++ calls)) → waits start (with_stmt f w l s d).lines ≡ Some (waiting_by values calls)
 
 -- the bytes that a call passes on the software stack are those that it counts
 abbrev pub CallsAreCounted : Type 0
-CallsAreCounted = (fast : Bool) (es : Nodes) → (passed_of fast es).stacked ≡ bytes_in (passed fast es) % 256
+CallsAreCounted = (f : Framed) (fast : Bool) (es : Nodes) → (passed_of f fast es).stacked ≡ bytes_in (passed f fast es) % 256
 
 -- a frame keeps its limit: at most 1,024 bytes, and one for the number of bytes of a variadic call
 abbrev pub FramesAreSmall : Type 0

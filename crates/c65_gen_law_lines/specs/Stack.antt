@@ -1,7 +1,6 @@
 -- What waits on the software stack above a function's frame, line by line (docs/MACHINE.md, "Routines" and "Calls").
 use Rattle.std.specs.Prelude.{ℕ, ◌+◌, ◌==◌, if◌then◌else◌, Bool, Option, Some, None, List, [], ◌∷◌, ◌++◌}
-use Rattle.c65_ints.specs.declared.types.IntType.{IntType}
-use Rattle.c65_csem.specs.Trees.{Typed, node, Node, deref, member, load, address, decay, convert, unary, binary, both, either, choice, comma, assign, assign_op, assign_step, step, copy, call, Nodes, none, some, MaybeTyped, absent, present, Stmt, eval, set_part, block, if_stmt, while, do_while, for_loop, switch, case, default, label, return, Stmts, no_stmts, and_stmts}
+use Rattle.c65_csem.specs.Trees.{Typed, node, Node, deref, member, load, address, decay, convert, unary, binary, both, either, choice, comma, assign, assign_op, assign_step, step, copy, call, pack, spill, Nodes, none, some, MaybeTyped, absent, present, Stmt, eval, set_part, block, if_stmt, while, do_while, for_loop, switch, case, default, label, return, Stmts, no_stmts, and_stmts}
 use Rattle.c65_code.specs.declared.line.Callee.{Callee}
 use Rattle.c65_code.specs.declared.line.Callee.TheVariants as callees
 use Rattle.c65_code.specs.declared.line.Line.{Line}
@@ -9,9 +8,10 @@ use Rattle.c65_code.specs.declared.line.Line.TheVariants.{Label, Do, Call}
 use Rattle.c65_code.specs.declared.routine.Routine.{Routine}
 use Rattle.c65_code.specs.declared.routine.Routine.TheVariants as routines
 use Rattle.c65_code.specs.Rows.{number_of}
-use Rattle.c65_genload.specs.Conversions.{waiting, size_of}
-use Rattle.c65_genexpr.specs.Types.{kind_in, bare}
-use Rattle.c65_genexpr.specs.Arguments.{is_fast, stays}
+use Rattle.c65_genframe.specs.Frames.{Framed}
+use Rattle.c65_genload.specs.Conversions.{waiting}
+use Rattle.c65_genexpr.specs.Types.{bare}
+use Rattle.c65_genexpr.specs.Arguments.{is_fast, stays, passed_size}
 use Rattle.c65_genexpr.specs.Calls.{named}
 
 -- the bytes of each value that waits, the last one first; and of the calls to come what each takes away, the last one first
@@ -97,13 +97,13 @@ waits w (line ∷ lines) = waits (behind line w) lines
 
 -- ---- the calls of an expression
 
-abbrev pub argument_bytes : Bool → IntType → List ℕ
-argument_bytes kept kind = if kept then [] else size_of kind ∷ []
+abbrev pub argument_bytes : Bool → ℕ → List ℕ
+argument_bytes kept size = if kept then [] else size ∷ []
 
 -- the arguments that wait when a function is called, the last one first
-abbrev pub passed : Bool → Nodes → List ℕ
-passed fast none = []
-passed fast (some e es) = passed fast es ++ argument_bytes (stays fast es) (kind_in e)
+abbrev pub passed : Framed → Bool → Nodes → List ℕ
+passed f fast none = []
+passed f fast (some e es) = passed f fast es ++ argument_bytes (stays fast es) (passed_size f e)
 
 abbrev pub bytes_in : List ℕ → ℕ
 bytes_in [] = 0
@@ -116,56 +116,58 @@ unless_named None calls = calls
 
 -- what each call of an expression takes away, in the order of their lines
 abbrev mutual
-  pub calls_of : Typed → List (List ℕ)
-  calls_of (node t n) = node_calls n
+  pub calls_of : Framed → Typed → List (List ℕ)
+  calls_of f (node t n) = node_calls f n
 
-  pub node_calls : Node → List (List ℕ)
-  node_calls (deref e) = calls_of e
-  node_calls (member e m) = calls_of e
-  node_calls (load e) = calls_of e
-  node_calls (address e) = calls_of e
-  node_calls (decay e) = calls_of e
-  node_calls (convert e) = calls_of e
-  node_calls (unary op e) = calls_of e
-  node_calls (binary op a b) = calls_of a ++ calls_of b
-  node_calls (both a b) = calls_of a ++ calls_of b
-  node_calls (either a b) = calls_of a ++ calls_of b
-  node_calls (choice c a b) = calls_of c ++ (calls_of a ++ calls_of b)
-  node_calls (comma a b) = calls_of a ++ calls_of b
-  node_calls (assign a b) = calls_of a ++ calls_of b
-  node_calls (assign_op op k a b) = calls_of a ++ calls_of b
-  node_calls (assign_step op a b) = calls_of a ++ calls_of b
-  node_calls (step how e) = calls_of e
-  node_calls (copy a b) = calls_of a ++ calls_of b
-  node_calls (call g es) = unless_named (named g) (calls_of g) ++ (args_calls es ++ passed (is_fast (bare g)) es ∷ [])
-  node_calls _ = []
+  pub node_calls : Framed → Node → List (List ℕ)
+  node_calls f (deref e) = calls_of f e
+  node_calls f (member e m) = calls_of f e
+  node_calls f (load e) = calls_of f e
+  node_calls f (address e) = calls_of f e
+  node_calls f (decay e) = calls_of f e
+  node_calls f (convert e) = calls_of f e
+  node_calls f (unary op e) = calls_of f e
+  node_calls f (binary op a b) = calls_of f a ++ calls_of f b
+  node_calls f (both a b) = calls_of f a ++ calls_of f b
+  node_calls f (either a b) = calls_of f a ++ calls_of f b
+  node_calls f (choice c a b) = calls_of f c ++ (calls_of f a ++ calls_of f b)
+  node_calls f (comma a b) = calls_of f a ++ calls_of f b
+  node_calls f (assign a b) = calls_of f a ++ calls_of f b
+  node_calls f (assign_op op k a b) = calls_of f a ++ calls_of f b
+  node_calls f (assign_step op a b) = calls_of f a ++ calls_of f b
+  node_calls f (step how e) = calls_of f e
+  node_calls f (copy a b) = calls_of f a ++ calls_of f b
+  node_calls f (call g es) = unless_named (named g) (calls_of f g) ++ (args_calls f es ++ passed f (is_fast (bare g)) es ∷ [])
+  node_calls f (pack e) = calls_of f e
+  node_calls f (spill i e) = calls_of f e
+  node_calls f _ = []
 
-  pub args_calls : Nodes → List (List ℕ)
-  args_calls none = []
-  args_calls (some e es) = calls_of e ++ args_calls es
+  pub args_calls : Framed → Nodes → List (List ℕ)
+  args_calls f none = []
+  args_calls f (some e es) = calls_of f e ++ args_calls f es
 
 -- ---- the calls of a statement
 
-abbrev pub maybe_calls : MaybeTyped → List (List ℕ)
-maybe_calls absent = []
-maybe_calls (present e) = calls_of e
+abbrev pub maybe_calls : Framed → MaybeTyped → List (List ℕ)
+maybe_calls f absent = []
+maybe_calls f (present e) = calls_of f e
 
 abbrev mutual
-  pub statement_calls : Stmt → List (List ℕ)
-  statement_calls (eval e) = calls_of e
-  statement_calls (set_part i offset e) = calls_of e
-  statement_calls (block os ss) = statements_calls ss
-  statement_calls (if_stmt e a b) = calls_of e ++ (statement_calls a ++ statement_calls b)
-  statement_calls (while e a) = calls_of e ++ statement_calls a
-  statement_calls (do_while a e) = statement_calls a ++ calls_of e
-  statement_calls (for_loop i c n a) = maybe_calls i ++ (maybe_calls c ++ (statement_calls a ++ maybe_calls n))
-  statement_calls (switch e a) = calls_of e ++ statement_calls a
-  statement_calls (case z a) = statement_calls a
-  statement_calls (default a) = statement_calls a
-  statement_calls (label n a) = statement_calls a
-  statement_calls (return e) = maybe_calls e
-  statement_calls _ = []
+  pub statement_calls : Framed → Stmt → List (List ℕ)
+  statement_calls f (eval e) = calls_of f e
+  statement_calls f (set_part i offset e) = calls_of f e
+  statement_calls f (block os ss) = statements_calls f ss
+  statement_calls f (if_stmt e a b) = calls_of f e ++ (statement_calls f a ++ statement_calls f b)
+  statement_calls f (while e a) = calls_of f e ++ statement_calls f a
+  statement_calls f (do_while a e) = statement_calls f a ++ calls_of f e
+  statement_calls f (for_loop i c n a) = maybe_calls f i ++ (maybe_calls f c ++ (statement_calls f a ++ maybe_calls f n))
+  statement_calls f (switch e a) = calls_of f e ++ statement_calls f a
+  statement_calls f (case z a) = statement_calls f a
+  statement_calls f (default a) = statement_calls f a
+  statement_calls f (label n a) = statement_calls f a
+  statement_calls f (return e) = maybe_calls f e
+  statement_calls f _ = []
 
-  pub statements_calls : Stmts → List (List ℕ)
-  statements_calls no_stmts = []
-  statements_calls (and_stmts a ss) = statement_calls a ++ statements_calls ss
+  pub statements_calls : Framed → Stmts → List (List ℕ)
+  statements_calls f no_stmts = []
+  statements_calls f (and_stmts a ss) = statement_calls f a ++ statements_calls f ss

@@ -55,7 +55,7 @@ before p plain q = closed_then (level_piece p plain) q
 
 -- ---- places that are known
 
-known_calls : (f : Framed) (pushed : ℕ) (e : Typed) → IsKnown (place_of f pushed e) → calls_of e ≡ []
+known_calls : (f : Framed) (pushed : ℕ) (e : Typed) → IsKnown (place_of f pushed e) → calls_of f e ≡ []
 known_calls f pushed (node t (object i)) h = refl
 known_calls f pushed (node t (member e m)) h = known_calls f pushed e (moved_known (place_of f pushed e) (offset_at (types_of f.parts.types) (bare e) m) h)
 known_calls f pushed (node t _) h = absurd h
@@ -66,7 +66,7 @@ target_level (places.Bank b) h d = closed_as (sym (h tt)) level_none
 target_level (places.Near at) h d = closed_as (sym (h tt)) level_none
 target_level (places.Data s at) h d = closed_as (sym (h tt)) level_none
 
-short_calls : (op : BinaryOp) (operands : Operands) (e : Typed) (n : ℕ) → short_of op operands e ≡ Some n → calls_of e ≡ []
+short_calls : (op : BinaryOp) (operands : Operands) (e : Typed) (n : ℕ) → short_of op operands e ≡ Some n → calls_of f e ≡ []
 short_calls op operands (node t (constant z)) n h = refl
 short_calls op operands (node t _) n h = absurd (no_short (is_short op operands) n h)
 
@@ -131,10 +131,10 @@ direct_does counted p kind v =
     let stored : Leaves v ptr4_code v = record { to = λ calls. refl } in
     does_before stored (does_before (count_still counted p v) (does_behind one (result_still kind v)))
 
-call_level : {cs : List (List ℕ)} {v : List ℕ} {callee args above : List Line} (f : Framed) (n : Option ℕ) (kind : Option IntType) (g : Typed) (es : Nodes) → Closed cs v callee v → Closed (args_calls es) v args (passed (is_fast (bare g)) es ++ v)
-    → Closed (args_calls es) (2 ∷ v) above (passed (is_fast (bare g)) es ++ 2 ∷ v) → Closed (unless_named n cs ++ (args_calls es ++ passed (is_fast (bare g)) es ∷ [])) v (call_by f n kind g es callee args above) v
+call_level : {cs : List (List ℕ)} {v : List ℕ} {callee args above : List Line} (f : Framed) (n : Option ℕ) (kind : Option IntType) (g : Typed) (es : Nodes) → Closed cs v callee v → Closed (args_calls f es) v args (passed f (is_fast (bare g)) es ++ v)
+    → Closed (args_calls f es) (2 ∷ v) above (passed f (is_fast (bare g)) es ++ 2 ∷ v) → Closed (unless_named n cs ++ (args_calls f es ++ passed f (is_fast (bare g)) es ∷ [])) v (call_by f n kind g es callee args above) v
 call_level {v = v} f (Some i) kind g es dc da db =
-    let ns : List ℕ = passed (is_fast (bare g)) es in
+    let ns : List ℕ = passed f (is_fast (bare g)) es in
     let p : Passed = passed_of (is_fast (bare g)) es in
     let does : Does (ns ∷ []) (ns ++ v) (named_code f i (is_counted (bare g)) p kind) v = named_does f i (library_at f i) (is_counted (bare g)) p kind ns v in
     closed_then da (level_plain does.to (named_piece f i (is_counted (bare g)) p kind).plain)
@@ -144,7 +144,7 @@ call_level {v = v} f None kind g none dc da db =
     closed_then dc (level_plain does.to (direct_piece (is_counted (bare g)) p kind).plain)
 call_level {v = v} f None kind g (some e rest) dc da db =
     let es : Nodes = some e rest in
-    let ns : List ℕ = passed (is_fast (bare g)) es in
+    let ns : List ℕ = passed f (is_fast (bare g)) es in
     let p : Passed = passed_of (is_fast (bare g)) es in
     let does : Does (ns ∷ []) (ns ++ 2 ∷ v) (pointer_code (is_counted (bare g)) p kind) v = pointer_does (is_counted (bare g)) p kind ns v in
     closed_then dc (before (push_leaves Ax v) (push_piece Ax).plain (closed_then db (level_plain does.to (pointer_piece (is_counted (bare g)) p kind).plain)))
@@ -200,18 +200,18 @@ choice_level {v = v} j k x dc da db =
 closed_to : {cs : List (List ℕ)} {v u t : List ℕ} {a : List Line} → u ≡ t → Closed cs v a u → Closed cs v a t
 closed_to {cs = cs} {v = v} {a = a} e p = subst (λ (x : List ℕ). Closed cs v a x) e p
 
-compound_level : {ds : List (List ℕ)} {left right : List Line} (f : Framed) (pushed : ℕ) (op : BinaryOp) (operands : Operands) (a b : Typed) (v : List ℕ) → Closed (calls_of a) v left v
-    → Closed ds (waiting (width_of (computes operands)) ∷ holding (place_of f pushed a) v) right (waiting (width_of (computes operands)) ∷ holding (place_of f pushed a) v) → Closed (calls_of a ++ ds) v (compound f pushed op operands a b left right) v
+compound_level : {ds : List (List ℕ)} {left right : List Line} (f : Framed) (pushed : ℕ) (op : BinaryOp) (operands : Operands) (a b : Typed) (v : List ℕ) → Closed (calls_of f a) v left v
+    → Closed ds (waiting (width_of (computes operands)) ∷ holding (place_of f pushed a) v) right (waiting (width_of (computes operands)) ∷ holding (place_of f pushed a) v) → Closed (calls_of f a ++ ds) v (compound f pushed op operands a b left right) v
 compound_level f pushed op operands a b v da db =
     let place : Place = place_of f pushed a in
     let access : Access = access_of (types_of f.parts.types) a in
     closed_then (target_level place (known_calls f pushed a) da) (before (open_leaves place access (computes operands) v) (open_piece place access (computes operands)).plain (behind db (close_leaves op operands (kind_in b) place access v) (close_piece op operands (kind_in b) place access).plain))
 
 mutual
-  pub expr_level : (f : Framed) (pushed lo : ℕ) (e : Typed) (v : List ℕ) → Closed (calls_of e) v (expr_code f pushed lo e) v
+  pub expr_level : (f : Framed) (pushed lo : ℕ) (e : Typed) (v : List ℕ) → Closed (calls_of f e) v (expr_code f pushed lo e) v
   expr_level f pushed lo (node t n) v = node_level f pushed lo t n v
 
-  node_level : (f : Framed) (pushed lo : ℕ) (t : QTy) (n : Node) (v : List ℕ) → Closed (node_calls n) v (node_code f pushed lo t n) v
+  node_level : (f : Framed) (pushed lo : ℕ) (t : QTy) (n : Node) (v : List ℕ) → Closed (node_calls f n) v (node_code f pushed lo t n) v
   node_level f pushed lo t (constant z) v = level_piece (number_still (width_of (kind_of (type_in t))) (residue_of z) v) (number_piece (width_of (kind_of (type_in t))) (residue_of z)).plain
   node_level f pushed lo t null v = level_piece (number_still Ax 0 v) (number_piece Ax 0).plain
   node_level f pushed lo t (literal n) v = level_plain (λ rest. refl) (symbol_piece (literal_symbol (numbers_of f.parts) n) 0).plain
@@ -252,10 +252,10 @@ mutual
   node_level f pushed lo t (call g es) v =
       call_level f (named g) (result_kind (type_in t)) g es (expr_level f pushed lo g v) (args_level f pushed lo (is_fast (bare g)) es v) (args_level f (more pushed 2) (lo + uses g) (is_fast (bare g)) es (2 ∷ v))
 
-  args_level : (f : Framed) (pushed lo : ℕ) (fast : Bool) (es : Nodes) (v : List ℕ) → Closed (args_calls es) v (args_code f pushed lo fast es) (passed fast es ++ v)
+  args_level : (f : Framed) (pushed lo : ℕ) (fast : Bool) (es : Nodes) (v : List ℕ) → Closed (args_calls f es) v (args_code f pushed lo fast es) (passed f fast es ++ v)
   args_level f pushed lo fast none v = level_none
   args_level f pushed lo fast (some e es) v =
       let kept : Bool = stays fast es in
       let own : List ℕ = argument_bytes kept (kind_in e) in
-      let rest : Closed (args_calls es) (own ++ v) (args_code f (more pushed (arguments.argument_bytes kept (kind_in e))) (lo + uses e) fast es) (passed fast es ++ (own ++ v)) = args_level f (more pushed (arguments.argument_bytes kept (kind_in e))) (lo + uses e) fast es (own ++ v) in
-      closed_to (sym (append_assoc (passed fast es) own v)) (closed_then (expr_level f pushed lo e v) (before (argument_leaves kept (kind_in e) v) (argument_piece kept (kind_in e)).plain rest))
+      let rest : Closed (args_calls f es) (own ++ v) (args_code f (more pushed (arguments.argument_bytes kept (kind_in e))) (lo + uses e) fast es) (passed f fast es ++ (own ++ v)) = args_level f (more pushed (arguments.argument_bytes kept (kind_in e))) (lo + uses e) fast es (own ++ v) in
+      closed_to (sym (append_assoc (passed f fast es) own v)) (closed_then (expr_level f pushed lo e v) (before (argument_leaves kept (kind_in e) v) (argument_piece kept (kind_in e)).plain rest))

@@ -161,7 +161,7 @@ whole f is_main body out = with_lines (ended f is_main body out) (end_code f)
 abbrev Shut : ℕ → Type 0
 Shut l = ⊥
 
-body_grows : (u : UnitTy) (g : FuncTy) (body : Stmt) (f : Framed) (is_main : Bool) (out : RegSet) → IsBody u g body → Grows (λ l. 0) Shut (statement_calls body) (entered f body out) (ended f is_main body out)
+body_grows : (u : UnitTy) (g : FuncTy) (body : Stmt) (f : Framed) (is_main : Bool) (out : RegSet) → IsBody u g body → Grows (λ l. 0) Shut (statement_calls f body) (entered f body out) (ended f is_main body out)
 body_grows u g body f is_main out well =
     let m : Drafted = with_lines (run f body out) (main_code is_main) in
     let behind : Grows (λ l. 0 + one 0 l) (Exits (ways 0 0 0) (labels_of body)) [] (run f body out) (ended f is_main body out) = grows_then (grows_lines (run f body out) (main_code is_main) (main_still is_main) (main_plain is_main)) (grows_label 0 m) in
@@ -170,7 +170,7 @@ body_grows u g body f is_main out well =
 
 pub functions_are_level : FunctionsAreLevel
 functions_are_level u g body f is_main out well few =
-    let grown : Grows (λ l. 0) Shut (statement_calls body) (entered f body out) (ended f is_main body out) = body_grows u g body f is_main out well in
+    let grown : Grows (λ l. 0) Shut (statement_calls f body) (entered f body out) (ended f is_main body out) = body_grows u g body f is_main out well in
     let middle : List Line = grown.added in
     let lines : (whole f is_main body out).lines ≡ entry_code f ++ (middle ++ end_code f) = ap (λ l. l ++ end_code f) grown.lines ∙ append_lines (entry_code f) middle (end_code f) in
     let distinct : is_distinct (segments.labels_of (whole f is_main body out).lines) ≡ true = (functions_are_segments u g body f is_main out well few).labels in
@@ -178,6 +178,6 @@ functions_are_level u g body f is_main out well few =
     let most : times l (whole f is_main body out).lines ≤ 1 = distinct_times (whole f is_main body out).lines l distinct in
     let same : times l (whole f is_main body out).lines ≡ times l (entry_code f ++ (middle ++ end_code f)) = ap (times l) lines in
     omega (arith, most, same, times-append l (entry_code f) (middle ++ end_code f), times-append l middle (end_code f)) in
-    let calls : statement_calls body ≡ statement_calls body ++ [] = sym (nothing_more (statement_calls body)) in
-    let to = grown.level.to (statement_calls body) [] calls in
-    (middle, lines, to, all_level (Some (waiting_by [] (statement_calls body))) middle (waiting_by [] []) to (λ l h s. elim (grown.level.found (statement_calls body) [] calls l h s) [ inl x ↦ x | inr y ↦ absurd y.0 ]) once)
+    let calls : statement_calls f body ≡ statement_calls f body ++ [] = sym (nothing_more (statement_calls f body)) in
+    let to = grown.level.to (statement_calls f body) [] calls in
+    (middle, lines, to, all_level (Some (waiting_by [] (statement_calls f body))) middle (waiting_by [] []) to (λ l h s. elim (grown.level.found (statement_calls f body) [] calls l h s) [ inl x ↦ x | inr y ↦ absurd y.0 ]) once)

@@ -119,7 +119,7 @@ grows_lines d a still plain = record { added = a; lines = refl; level = closed_l
 grows_code : {X : ℕ → Type 0} (n : ℕ) (d : Drafted) (a : List Line) → Closed [] [] a [] → Grows none X [] d (with_code n a d)
 grows_code n d a closed = record { added = a; lines = refl; level = closed_level closed }
 
-grows_value : {X : ℕ → Type 0} (f : Framed) (e : Typed) (d : Drafted) → Grows none X (calls_of e) d (with_value f e d)
+grows_value : {X : ℕ → Type 0} (f : Framed) (e : Typed) (d : Drafted) → Grows none X (calls_of f e) d (with_value f e d)
 grows_value f e d = record { added = expr_code f 0 d.labels e; lines = refl; level = closed_level (expr_level f 0 d.labels e []) }
 
 same_label : (k l : ℕ) → 1 ≤ one k l → l ≡ k
@@ -145,7 +145,7 @@ grows_branch op k d = record { added = branch op k ∷ []; lines = refl; level =
 none_left : {X : ℕ → Type 0} {m : ℕ → ℕ} {cs : List (List ℕ)} {d e : Drafted} → Grows m X cs d e → Grows none X cs d e
 none_left p = grows_end p (λ l z. absurd (omega (arith, z))) (λ l x. inr x)
 
-grows_condition : (f : Framed) (op : Op) (to : ℕ) (e : Typed) (d : Drafted) → Grows none (To_label to) (calls_of e) d (with_condition f op to e d)
+grows_condition : (f : Framed) (op : Op) (to : ℕ) (e : Typed) (d : Drafted) → Grows none (To_label to) (calls_of f e) d (with_condition f op to e d)
 grows_condition f op to e d =
     let v : Drafted = with_value f e d in
     let t : Drafted = with_lines v (test_in e) in
@@ -178,11 +178,11 @@ grows_choice w at zs d = record { added = choice_code w at d.labels zs; lines = 
 
 -- ---- statements
 
-grows_maybe : {X : ℕ → Type 0} (f : Framed) (e : MaybeTyped) (d : Drafted) → Grows none X (maybe_calls e) d (with_maybe f e d)
+grows_maybe : {X : ℕ → Type 0} (f : Framed) (e : MaybeTyped) (d : Drafted) → Grows none X (maybe_calls f e) d (with_maybe f e d)
 grows_maybe f absent d = grows_same d
 grows_maybe f (present e) d = grows_value f e d
 
-grows_test : (f : Framed) (to : ℕ) (e : MaybeTyped) (d : Drafted) → Grows none (To_label to) (maybe_calls e) d (with_test f to e d)
+grows_test : (f : Framed) (to : ℕ) (e : MaybeTyped) (d : Drafted) → Grows none (To_label to) (maybe_calls f e) d (with_test f to e d)
 grows_test f to absent d = grows_same d
 grows_test f to (present e) d = grows_condition f Beq to e d
 
@@ -269,7 +269,7 @@ turned X j k l (inr (inl e)) = inl e
 turned X j k l (inr (inr x)) = inr (inr x)
 
 mutual
-  pub stmt_grows : (u : UnitTy) (c : Context) (f : Framed) (w : Ways) (l : ℕ) (s : Stmt) (d : Drafted) → IsStmt u c s → Grows (others w.other l s) (Exits w c.labels) (statement_calls s) d (with_stmt f w l s d)
+  pub stmt_grows : (u : UnitTy) (c : Context) (f : Framed) (w : Ways) (l : ℕ) (s : Stmt) (d : Drafted) → IsStmt u c s → Grows (others w.other l s) (Exits w c.labels) (statement_calls f s) d (with_stmt f w l s d)
   stmt_grows u c f w l empty d h = grows_same d
   stmt_grows u c f w l (eval e) d h = grows_value f e d
   stmt_grows u c f w l (set_part i o e) d h = none_left (grows_behind (grows_value f e d) (grows_kept (is_tag (bare e)) f (spot_of f i o) e (with_value f e d)))
@@ -282,10 +282,10 @@ mutual
       let m4 : Drafted = with_label d.labels m3 in
       let m5 : Drafted = with_stmt f w (case_behind l a) b m4 in
       let X : ℕ → Type 0 = Two d.labels (d.labels + 1) (Exits w c.labels) in
-      let test : Grows none X (calls_of e) (two_given d) m1 = grows_open (first_of_two (Exits w c.labels) d.labels (d.labels + 1)) (grows_condition f Beq d.labels e (two_given d)) in
-      let first : Grows (others w.other l a) X (statement_calls a) m1 m2 = grows_open (λ x z. inr (inr z)) (stmt_grows u c f w l a m1 h.1) in
+      let test : Grows none X (calls_of f e) (two_given d) m1 = grows_open (first_of_two (Exits w c.labels) d.labels (d.labels + 1)) (grows_condition f Beq d.labels e (two_given d)) in
+      let first : Grows (others w.other l a) X (statement_calls f a) m1 m2 = grows_open (λ x z. inr (inr z)) (stmt_grows u c f w l a m1 h.1) in
       let over : Grows none X [] m2 m3 = grows_open (second_of_two (Exits w c.labels) d.labels (d.labels + 1)) (grows_jump (d.labels + 1) m2) in
-      let second : Grows (others w.other (case_behind l a) b) X (statement_calls b) m4 m5 = grows_open (λ x z. inr (inr z)) (stmt_grows u c f w (case_behind l a) b m4 h.2) in
+      let second : Grows (others w.other (case_behind l a) b) X (statement_calls f b) m4 m5 = grows_open (λ x z. inr (inr z)) (stmt_grows u c f w (case_behind l a) b m4 h.2) in
       grows_given {e = two_given d} refl (close_two d.labels (d.labels + 1) (omega (arith, one_same d.labels)) (omega (arith, one_same (d.labels + 1))) (λ x z. omega (arith, z))
       (grows_then test (grows_then first (grows_then over (grows_then (grows_label d.labels m3) (grows_behind second (grows_label (d.labels + 1) m5)))))))
   stmt_grows u c f w l (while e a) d h =
@@ -295,8 +295,8 @@ mutual
       let m3 : Drafted = with_stmt f inner l a m2 in
       let m4 : Drafted = with_jump d.labels m3 in
       let X : ℕ → Type 0 = Two d.labels (d.labels + 1) (Exits w c.labels) in
-      let test : Grows none X (calls_of e) m1 m2 = grows_open (second_of_two (Exits w c.labels) d.labels (d.labels + 1)) (grows_condition f Beq (d.labels + 1) e m1) in
-      let body : Grows (others w.other l a) X (statement_calls a) m2 m3 = grows_open (λ x z. turned (Exits w c.labels) d.labels (d.labels + 1) x (through w c.labels (d.labels + 1) d.labels w.other x z)) (stmt_grows u (looping c) f inner l a m2 h.1) in
+      let test : Grows none X (calls_of f e) m1 m2 = grows_open (second_of_two (Exits w c.labels) d.labels (d.labels + 1)) (grows_condition f Beq (d.labels + 1) e m1) in
+      let body : Grows (others w.other l a) X (statement_calls f a) m2 m3 = grows_open (λ x z. turned (Exits w c.labels) d.labels (d.labels + 1) x (through w c.labels (d.labels + 1) d.labels w.other x z)) (stmt_grows u (looping c) f inner l a m2 h.1) in
       let over : Grows none X [] m3 m4 = grows_open (first_of_two (Exits w c.labels) d.labels (d.labels + 1)) (grows_jump d.labels m3) in
       grows_given {e = two_given d} refl (close_two d.labels (d.labels + 1) (omega (arith, one_same d.labels)) (omega (arith, one_same (d.labels + 1))) (λ x z. omega (arith, z))
       (grows_then (grows_label d.labels (two_given d)) (grows_then test (grows_behind (grows_behind body over) (grows_label (d.labels + 1) m4)))))
@@ -307,8 +307,8 @@ mutual
       let m3 : Drafted = with_label (d.labels + 1) m2 in
       let m4 : Drafted = with_condition f Bne d.labels e m3 in
       let X : ℕ → Type 0 = Three d.labels (d.labels + 1) (d.labels + 1 + 1) (Exits w c.labels) in
-      let body : Grows (others w.other l a) X (statement_calls a) m1 m2 = grows_open (λ x z. inr (turned (Exits w c.labels) (d.labels + 1) (d.labels + 1 + 1) x (through w c.labels (d.labels + 1 + 1) (d.labels + 1) w.other x z))) (stmt_grows u (looping c) f inner l a m1 h.0) in
-      let test : Grows none X (calls_of e) m3 m4 = grows_open (λ x z. inl z) (grows_condition f Bne d.labels e m3) in
+      let body : Grows (others w.other l a) X (statement_calls f a) m1 m2 = grows_open (λ x z. inr (turned (Exits w c.labels) (d.labels + 1) (d.labels + 1 + 1) x (through w c.labels (d.labels + 1 + 1) (d.labels + 1) w.other x z))) (stmt_grows u (looping c) f inner l a m1 h.0) in
+      let test : Grows none X (calls_of f e) m3 m4 = grows_open (λ x z. inl z) (grows_condition f Bne d.labels e m3) in
       grows_given {e = three_given d} refl (close_three d.labels (d.labels + 1) (d.labels + 1 + 1) (omega (arith, one_same d.labels)) (omega (arith, one_same (d.labels + 1))) (omega (arith, one_same (d.labels + 1 + 1))) (λ x z. omega (arith, z))
       (grows_then (grows_label d.labels (three_given d)) (grows_then body (grows_then (grows_label (d.labels + 1) m2) (grows_behind test (grows_label (d.labels + 1 + 1) m4))))))
   stmt_grows u c f w l (for_loop i t n a) d h =
@@ -321,10 +321,10 @@ mutual
       let m5 : Drafted = with_maybe f n m4 in
       let m6 : Drafted = with_jump g.labels m5 in
       let X : ℕ → Type 0 = Three g.labels (g.labels + 1) (g.labels + 1 + 1) (Exits w c.labels) in
-      let test : Grows none X (maybe_calls t) m1 m2 = grows_open (λ x z. inr (inr (inl z))) (grows_test f (g.labels + 1 + 1) t m1) in
-      let body : Grows (others w.other l a) X (statement_calls a) m2 m3 = grows_open (λ x z. inr (turned (Exits w c.labels) (g.labels + 1) (g.labels + 1 + 1) x (through w c.labels (g.labels + 1 + 1) (g.labels + 1) w.other x z))) (stmt_grows u (looping c) f inner l a m2 h.3) in
+      let test : Grows none X (maybe_calls f t) m1 m2 = grows_open (λ x z. inr (inr (inl z))) (grows_test f (g.labels + 1 + 1) t m1) in
+      let body : Grows (others w.other l a) X (statement_calls f a) m2 m3 = grows_open (λ x z. inr (turned (Exits w c.labels) (g.labels + 1) (g.labels + 1 + 1) x (through w c.labels (g.labels + 1 + 1) (g.labels + 1) w.other x z))) (stmt_grows u (looping c) f inner l a m2 h.3) in
       let over : Grows none X [] m5 m6 = grows_open (λ x z. inl z) (grows_jump g.labels m5) in
-      let loop : Grows (others w.other l a) (Exits w c.labels) (maybe_calls t ++ (statement_calls a ++ maybe_calls n)) g (with_label (g.labels + 1 + 1) m6) =
+      let loop : Grows (others w.other l a) (Exits w c.labels) (maybe_calls f t ++ (statement_calls f a ++ maybe_calls f n)) g (with_label (g.labels + 1 + 1) m6) =
       grows_given {e = three_given g} refl (close_three g.labels (g.labels + 1) (g.labels + 1 + 1) (omega (arith, one_same g.labels)) (omega (arith, one_same (g.labels + 1))) (omega (arith, one_same (g.labels + 1 + 1))) (λ x z. omega (arith, z))
       (grows_then (grows_label g.labels (three_given g)) (grows_then test (grows_then body (grows_then (grows_label (g.labels + 1) m3) (grows_behind (grows_behind (grows_maybe f n m4) over) (grows_label (g.labels + 1 + 1) m6))))))) in
       grows_end (grows_then (grows_maybe f i d) loop) (λ x z. omega (arith, z)) (λ x z. inr z)
@@ -339,7 +339,7 @@ mutual
       let X : ℕ → Type 0 = Switched d.labels a (Exits w c.labels) in
       let choice : Grows none X [] g m1 = grows_open (λ x z. inr (inr (inl z))) (grows_choice (width_of (kind_in e)) (d.labels + 1 + 1) cases g) in
       let over : Grows none X [] m1 m2 = grows_open (λ x z. default_out a d.labels (Exits w c.labels) x z) (grows_jump (default_way a d.labels) m1) in
-      let body : Grows (others (d.labels + 1) (d.labels + 1 + 1) a) X (statement_calls a) m2 m3 = grows_open (λ x z. body_out a w c.labels d.labels x z) (stmt_grows u (switching h.0 c) f inner (d.labels + 1 + 1) a m2 h.2) in
+      let body : Grows (others (d.labels + 1) (d.labels + 1 + 1) a) X (statement_calls f a) m2 m3 = grows_open (λ x z. body_out a w c.labels d.labels x z) (stmt_grows u (switching h.0 c) f inner (d.labels + 1 + 1) a m2 h.2) in
       grows_given {e = m0} refl (close_switch d.labels a (λ x. omega arith) (grows_then (grows_value f e m0) (grows_then choice (grows_then over (grows_behind body (grows_label d.labels m3))))))
   stmt_grows u c f w l (case z a) d h = grows_then (grows_label l d) (stmt_grows u c f w (following l) a (with_label l d) h.1)
   stmt_grows u c f w l (default a) d h = grows_then (grows_label w.other d) (stmt_grows u c f w l a (with_label w.other d) h.1)
@@ -349,6 +349,6 @@ mutual
   stmt_grows u c f w l continue d h = grows_open (λ x z. to_onward z) (grows_jump w.onward d)
   stmt_grows u c f w l (return e) d h = none_left (grows_behind (grows_maybe f e d) (grows_open (λ x z. to_end z) (grows_jump 0 (with_maybe f e d))))
 
-  pub stmts_grow : (u : UnitTy) (c : Context) (f : Framed) (w : Ways) (l : ℕ) (ss : Stmts) (d : Drafted) → AreStmts u c ss → Grows (others_in w.other l ss) (Exits w c.labels) (statements_calls ss) d (with_stmts f w l ss d)
+  pub stmts_grow : (u : UnitTy) (c : Context) (f : Framed) (w : Ways) (l : ℕ) (ss : Stmts) (d : Drafted) → AreStmts u c ss → Grows (others_in w.other l ss) (Exits w c.labels) (statements_calls f ss) d (with_stmts f w l ss d)
   stmts_grow u c f w l no_stmts d h = grows_same d
   stmts_grow u c f w l (and_stmts a ss) d h = grows_then (stmt_grows u c f w l a d h.0) (stmts_grow u c f w (case_behind l a) ss (with_stmt f w l a d) h.1)

@@ -52,7 +52,7 @@ MovesKeepHeights = (s : Setting) (g j : ℕ) (before middle rest : List Line) (w
     → Goes g (length before) middle w j t q u
 
 abbrev pub at_first : Stmt → Option Waiting
-at_first body = Some (waiting_by [] (statement_calls body))
+at_first body = Some (waiting_by [] (statement_calls f body))
 
 -- and those of a well typed function between its entry and its end, where nothing waits at first and at last
 abbrev pub FunctionsKeepHeights : Type 0

@@ -30,12 +30,12 @@ pub record AreLevel (w : Option Waiting) (lines : List Line) : Type 0 where
 
 -- those of an expression, whatever waits
 abbrev pub ExpressionsAreLevel : Type 0
-ExpressionsAreLevel = (f : Framed) (pushed fresh : ℕ) (e : Typed) (values : List ℕ) (calls : List (List ℕ)) → AreLevel (Some (waiting_by values (calls_of e ++ calls))) (expr_code f pushed fresh e)
+ExpressionsAreLevel = (f : Framed) (pushed fresh : ℕ) (e : Typed) (values : List ℕ) (calls : List (List ℕ)) → AreLevel (Some (waiting_by values (calls_of f e ++ calls))) (expr_code f pushed fresh e)
 
 -- and those of a function between its entry and its end, where nothing waits at first and at last
 abbrev pub FunctionsAreLevel : Type 0
 FunctionsAreLevel = (u : UnitTy) (g : FuncTy) (body : Stmt) (f : Framed) (is_main : Bool) (out : RegSet)
     → IsBody u g body → (with_function f is_main (Some body) (no_lines out)).labels ≤ 2 ^ 32
     → (middle : List Line) × ((with_function f is_main (Some body) (no_lines out)).lines ≡ entry_code f ++ (middle ++ end_code f))
-    × (waits (Some (waiting_by [] (statement_calls body))) middle ≡ Some (waiting_by [] []))
-    × AreLevel (Some (waiting_by [] (statement_calls body))) middle
+    × (waits (Some (waiting_by [] (statement_calls f body))) middle ≡ Some (waiting_by [] []))
+    × AreLevel (Some (waiting_by [] (statement_calls f body))) middle
