@@ -274,6 +274,10 @@ module _ {S : Type 0} where
   tells_call : (u : UnitTy) (t : QTy) (f : Typed) (es : Nodes) → AreTyped u es → Tells S (b.is_call u.types t f es) ((is_place f ≡ false) × IsCall u t (type_of f) es)
   tells_call u t f es typed = both (tells_not (is_place f)) (by_callee u t (type_of f) es (b.callee_of (type_of f)) typed refl)
 
+  -- the parts of a call, whatever it gives
+  parts_by : (u : UnitTy) (t : QTy) (f : Typed) (es : Nodes) → Tells S (b.is_typed u f) (IsTyped u f) → Tells S (b.are_typed u es) (AreTyped u es) → Tells S (b.is_typed u f && b.are_typed u es && b.is_call u.types t f es) (IsTyped u f × AreTyped u es × (is_place f ≡ false) × IsCall u t (type_of f) es)
+  parts_by u t f es callee given = like (behind (both callee given) (λ w. tells_call u t f es w.1)) (λ w. (w.0.0, w.0.1, w.1.0, w.1.1)) (λ w. ((w.0, w.1), (w.2, w.3)))
+
   -- What a call gives.
 
   pub tells_auto : (c : Class) → Tells S (b.is_auto c) (c ≡ classes.Auto)
@@ -355,21 +359,17 @@ module _ {S : Type 0} where
     tells_node u t (assign_step op a c) = like (three (tells_typed u a) (tells_typed u c) (tells_assign_step u op t a c)) (λ w. (w.0, w.1, w.2.0.0.0, w.2.0.0.1, w.2.0.1, w.2.0.2, w.2.0.3, w.2.1)) (λ w. (w.0, w.1, (((w.2, w.3), w.4, w.5, w.6), w.7)))
     tells_node u t (step how a) = like (both (tells_typed u a) (both (tells_load t a) (tells_stepped u t))) (λ w. (w.0, w.1.0.0, w.1.0.1, w.1.1)) (λ w. (w.0, ((w.1, w.2), w.3)))
     tells_node u t (copy a c) = like (three (tells_typed u a) (tells_typed u c) (tells_copy t a c)) (λ w. (w.0, w.1, w.2.0, w.2.1, w.2.2, w.2.3)) (λ w. (w.0, w.1, (w.2, w.3, w.4, w.5)))
-    tells_node u t (call f es) = like (both (tells_usual t) (tells_parts u t f es)) (λ w. (w.1.0, w.1.2, w.1.3, w.0, w.1.1)) (λ w. (w.3, (w.0, w.4, w.1, w.2)))
+    tells_node u t (call f es) = like (both (tells_usual t) (parts_by u t f es (tells_typed u f) (tells_nodes u es))) (λ w. (w.1.0, w.1.2, w.1.3, w.0, w.1.1)) (λ w. (w.3, (w.0, w.4, w.1, w.2)))
     tells_node u t (pack e) = tells_never
     tells_node u t (spill i e) = both (tells_called u t e) (tells_spot u i t)
     tells_node u t rest = tells_same t rest_type
 
-    -- the parts of a call, whatever it gives
-    tells_parts : (u : UnitTy) (t : QTy) (f : Typed) (es : Nodes) → Tells S (b.is_typed u f && b.are_typed u es && b.is_call u.types t f es) (IsTyped u f × AreTyped u es × (is_place f ≡ false) × IsCall u t (type_of f) es)
-    tells_parts u t f es = like (behind (both (tells_typed u f) (tells_nodes u es)) (λ w. tells_call u t f es w.1)) (λ w. (w.0.0, w.0.1, w.1.0, w.1.1)) (λ w. ((w.0, w.1), (w.2, w.3)))
-
     tells_called : (u : UnitTy) (t : QTy) (e : Typed) → Tells S (types.same (type_of e) t && types.is_plain_small u.types (type_of e) && b.is_whole_call u e) (IsCalled u t e)
-    tells_called u t (node s (call f es)) = like (three (tells_same s t) (tells_small u s) (tells_parts u s f es)) (λ w. (w.0, w.1, w.2.0, w.2.2, w.2.3, w.2.1)) (λ w. (w.0, w.1, (w.2, w.5, w.3, w.4)))
+    tells_called u t (node s (call f es)) = like (three (tells_same s t) (tells_small u s) (parts_by u s f es (tells_typed u f) (tells_nodes u es))) (λ w. (w.0, w.1, w.2.0, w.2.2, w.2.3, w.2.1)) (λ w. (w.0, w.1, (w.2, w.5, w.3, w.4)))
     tells_called u t (node s _) = like (three (tells_same s t) (tells_small u s) tells_never) (λ w. absurd w.2) (λ w. absurd w)
 
     pub tells_given : (u : UnitTy) (e : Typed) → Tells S (b.is_given u e) (IsGiven u e)
-    tells_given u (node t (pack e)) = or_never (both (tells_typed u e) (tells_pack u t e))
+    tells_given u (node t (pack e)) = like (or_never (both (tells_typed u e) (tells_pack u t e))) (λ w. (w.0, w.1.0, w.1.1)) (λ w. (w.0, (w.1, w.2)))
     tells_given u (node t e) = both (tells_node u t e) (tells_value (node t e))
 
     tells_nodes : (u : UnitTy) (es : Nodes) → Tells S (b.are_typed u es) (AreTyped u es)
