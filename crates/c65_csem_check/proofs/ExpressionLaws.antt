@@ -19,7 +19,7 @@ use Rattle.c65_csem.specs.Places.{is_place, plain, plain_of, qualified, is_promo
 use Rattle.c65_csem.specs.Typed.{IsTyped, IsNode, IsGiven, IsCalled, AreTyped, HasInt, IsInt, IsPromoted, IsPointer, IsScalar, IsValue, IsMoved, IsScalarPlace, AreAlike, AreShifted, AreCompared, AreAdded, AreSubtracted, Operands, Operand, Computes, Steps, Converts, IsLiteral, Passes, IsMember, IsAddressed, IsArm, IsStepped, ArePassed, AreGiven, Fits, FitsFn, IsSmall, IsUsual, IsCall, IsSpot, arguments_size, result_of, rest_type}
 use Rattle.c65_csem_check.specs.Kinds as types
 use Rattle.c65_csem_check.specs.Expressions as b
-use Rattle.c65_csem_check.proofs.Tells.{Tells, like, tells_itself, tells_not, tells_unit, tells_never, tells_found, some_same, from_decides, both, then, three, four, either}
+use Rattle.c65_csem_check.proofs.Tells.{Tells, like, tells_itself, tells_not, tells_unit, tells_never, tells_found, some_same, from_decides, both, behind, three, four, either}
 use Rattle.c65_csem_check.proofs.TypeLaws.{IsFlat, flat_is, small_flat, tells_same, tells_ty, tells_int_of, tells_by_int, tells_int, tells_promoted, tells_void, tells_pointer, tells_plain_of, tells_scalar, tells_pointer_to, tells_moved, tells_small, tells_usual, tells_passes, tells_stepped, tells_decayed, tells_literal, tells_qualified}
 
 true_of : (b : Bool) → T b → b ≡ true
@@ -274,6 +274,10 @@ module _ {S : Type 0} where
   tells_call : (u : UnitTy) (t : QTy) (f : Typed) (es : Nodes) → AreTyped u es → Tells S (b.is_call u.types t f es) ((is_place f ≡ false) × IsCall u t (type_of f) es)
   tells_call u t f es typed = both (tells_not (is_place f)) (by_callee u t (type_of f) es (b.callee_of (type_of f)) typed refl)
 
+  -- the parts of a call, whatever it gives
+  parts_by : (u : UnitTy) (t : QTy) (f : Typed) (es : Nodes) → Tells S (b.is_typed u f) (IsTyped u f) → Tells S (b.are_typed u es) (AreTyped u es) → Tells S (b.is_typed u f && b.are_typed u es && b.is_call u.types t f es) (IsTyped u f × AreTyped u es × (is_place f ≡ false) × IsCall u t (type_of f) es)
+  parts_by u t f es callee given = like (behind (both callee given) (λ w. tells_call u t f es w.1)) (λ w. (w.0.0, w.0.1, w.1.0, w.1.1)) (λ w. ((w.0, w.1), (w.2, w.3)))
+
   -- What a call gives.
 
   pub tells_auto : (c : Class) → Tells S (b.is_auto c) (c ≡ classes.Auto)
@@ -288,6 +292,13 @@ module _ {S : Type 0} where
   tells_spot u i t = like (tells_found (b.spot_at t) (λ o. (o.name ≡ None) × (o.class ≡ classes.Auto) × (type_in o.ty ≡ type_in t)) refl (λ o. three (tells_none o.name) (tells_auto o.class) (tells_ty (type_in o.ty) (type_in t))) (slice_get u.objects i))
       (λ w. record { object = w.0; there = w.1; unnamed = w.2.0; class = w.2.1; same = w.2.2 })
       (λ w. (w.object, w.there, (w.unnamed, w.class, w.same)))
+
+  or_by : (x : Bool) (P : Type 0) → Tells S x P → Tells S (x || false) P
+  or_by true P w = w
+  or_by false P w = w
+
+  or_never : {x : Bool} {P : Type 0} → Tells S x P → Tells S (x || false) P
+  or_never w = or_by _ _ w
 
   tells_pack : (u : UnitTy) (t : QTy) (e : Typed) → Tells S (b.is_pack u.types t e) (IsSmall u t × (t ≡ plain_of (type_of e)))
   tells_pack u t e = both (tells_small u t) (tells_plain_of t (type_of e))
@@ -348,21 +359,17 @@ module _ {S : Type 0} where
     tells_node u t (assign_step op a c) = like (three (tells_typed u a) (tells_typed u c) (tells_assign_step u op t a c)) (λ w. (w.0, w.1, w.2.0.0.0, w.2.0.0.1, w.2.0.1, w.2.0.2, w.2.0.3, w.2.1)) (λ w. (w.0, w.1, (((w.2, w.3), w.4, w.5, w.6), w.7)))
     tells_node u t (step how a) = like (both (tells_typed u a) (both (tells_load t a) (tells_stepped u t))) (λ w. (w.0, w.1.0.0, w.1.0.1, w.1.1)) (λ w. (w.0, ((w.1, w.2), w.3)))
     tells_node u t (copy a c) = like (three (tells_typed u a) (tells_typed u c) (tells_copy t a c)) (λ w. (w.0, w.1, w.2.0, w.2.1, w.2.2, w.2.3)) (λ w. (w.0, w.1, (w.2, w.3, w.4, w.5)))
-    tells_node u t (call f es) = like (both (tells_usual t) (tells_parts u t f es)) (λ w. (w.1.0, w.1.2, w.1.3, w.0, w.1.1)) (λ w. (w.3, (w.0, w.4, w.1, w.2)))
+    tells_node u t (call f es) = like (both (tells_usual t) (parts_by u t f es (tells_typed u f) (tells_nodes u es))) (λ w. (w.1.0, w.1.2, w.1.3, w.0, w.1.1)) (λ w. (w.3, (w.0, w.4, w.1, w.2)))
     tells_node u t (pack e) = tells_never
     tells_node u t (spill i e) = both (tells_called u t e) (tells_spot u i t)
     tells_node u t rest = tells_same t rest_type
 
-    -- the parts of a call, whatever it gives
-    tells_parts : (u : UnitTy) (t : QTy) (f : Typed) (es : Nodes) → Tells S (b.is_typed u f && b.are_typed u es && b.is_call u.types t f es) (IsTyped u f × AreTyped u es × (is_place f ≡ false) × IsCall u t (type_of f) es)
-    tells_parts u t f es = like (then (both (tells_typed u f) (tells_nodes u es)) (λ w. tells_call u t f es w.1)) (λ w. (w.0.0, w.0.1, w.1.0, w.1.1)) (λ w. ((w.0, w.1), (w.2, w.3)))
-
     tells_called : (u : UnitTy) (t : QTy) (e : Typed) → Tells S (types.same (type_of e) t && types.is_plain_small u.types (type_of e) && b.is_whole_call u e) (IsCalled u t e)
-    tells_called u t (node s (call f es)) = like (three (tells_same s t) (tells_small u s) (tells_parts u s f es)) (λ w. (w.0, w.1, w.2.0, w.2.2, w.2.3, w.2.1)) (λ w. (w.0, w.1, (w.2, w.5, w.3, w.4)))
+    tells_called u t (node s (call f es)) = like (three (tells_same s t) (tells_small u s) (parts_by u s f es (tells_typed u f) (tells_nodes u es))) (λ w. (w.0, w.1, w.2.0, w.2.2, w.2.3, w.2.1)) (λ w. (w.0, w.1, (w.2, w.5, w.3, w.4)))
     tells_called u t (node s _) = like (three (tells_same s t) (tells_small u s) tells_never) (λ w. absurd w.2) (λ w. absurd w)
 
     pub tells_given : (u : UnitTy) (e : Typed) → Tells S (b.is_given u e) (IsGiven u e)
-    tells_given u (node t (pack e)) = both (tells_typed u e) (tells_pack u t e)
+    tells_given u (node t (pack e)) = like (or_never (both (tells_typed u e) (tells_pack u t e))) (λ w. (w.0, w.1.0, w.1.1)) (λ w. (w.0, (w.1, w.2)))
     tells_given u (node t e) = both (tells_node u t e) (tells_value (node t e))
 
     tells_nodes : (u : UnitTy) (es : Nodes) → Tells S (b.are_typed u es) (AreTyped u es)

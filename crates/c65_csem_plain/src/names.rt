@@ -45,7 +45,7 @@ fn is_own_name(names: &Names, external: bool, name: Name) -> bool
     !external || library_at(names, name).is_none()
 }
 
-/// So it is where there is no name.
+/// Whether a name, where there is one and it is external, is none of the library's.
 pub fn has_own_name(names: &Names, external: bool, name: Option<Name>) -> bool
     ensures { result ≡ Tests.has_own_name names.now external name }
 {
