@@ -13,6 +13,9 @@ use std::alloc::{AllocError, Global};
 
 const HERE: Pos = Pos { file: 0, line: 1 };
 
+/// The name of the place behind further arguments, which no tree here has.
+const REST: Name = Name(9);
+
 const KINDS: [IntType; 8] = [
     IntType::UChar,
     IntType::SChar,
@@ -44,7 +47,7 @@ const OPERATORS: [BinaryOp; 16] = [
 ];
 
 fn scope(alloc: Global) -> Result<Scope, Refusal> {
-    Scope::new(alloc, &Options::none())
+    Scope::new(alloc, &Options::none(), REST)
 }
 
 fn one(kind: IntType) -> Expr {
@@ -145,7 +148,7 @@ fn tags(alloc: Global) -> Result<[bool; 4], Refusal> {
     let heading = elab_heading(alloc, &mut scope, &int_type(IntType::Int), &heading(alloc)?)?;
     let named = heading.name.is_some();
     let undeclared = scope.find(Name(4)).is_none();
-    scope.open()?;
+    scope.open(false)?;
     let inside = scope.own_tag(Name(2)).is_some();
     scope.close();
     Ok([named, undeclared, inside, scope.find_tag(Name(2)).is_none()])
