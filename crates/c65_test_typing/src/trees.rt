@@ -13,9 +13,6 @@ use std::alloc::{AllocError, Global};
 
 const HERE: Pos = Pos { file: 0, line: 1 };
 
-/// The name of the place behind further arguments, which no tree here has.
-const REST: Name = Name(9);
-
 const KINDS: [IntType; 8] = [
     IntType::UChar,
     IntType::SChar,
@@ -47,7 +44,7 @@ const OPERATORS: [BinaryOp; 16] = [
 ];
 
 fn scope(alloc: Global) -> Result<Scope, Refusal> {
-    Scope::new(alloc, &Options::none(), REST)
+    Scope::new(alloc, &Options::none(), Name(0))
 }
 
 fn one(kind: IntType) -> Expr {
@@ -148,7 +145,7 @@ fn tags(alloc: Global) -> Result<[bool; 4], Refusal> {
     let heading = elab_heading(alloc, &mut scope, &int_type(IntType::Int), &heading(alloc)?)?;
     let named = heading.name.is_some();
     let undeclared = scope.find(Name(4)).is_none();
-    scope.open(false)?;
+    scope.open()?;
     let inside = scope.own_tag(Name(2)).is_some();
     scope.close();
     Ok([named, undeclared, inside, scope.find_tag(Name(2)).is_none()])
