@@ -40,10 +40,10 @@ pub struct Scope {
 }
 
 /// The block at which the body of a variadic function begins, if it did or does with this block.
-fn variadic_in(begins: bool, block: u32, open: Option<u32>) -> Option<u32>
-    ensures { result ≡ variadic_in begins block open }
+fn variadic_in(begins: bool, block: u32, held: Option<u32>) -> Option<u32>
+    ensures { result ≡ variadic_in begins block held }
 {
-    match open {
+    match held {
         Some(number) => Some(number),
         None => {
             if begins {
@@ -56,10 +56,10 @@ fn variadic_in(begins: bool, block: u32, open: Option<u32>) -> Option<u32>
 }
 
 /// The same behind the end of this block.
-fn variadic_behind(block: u32, open: Option<u32>) -> Option<u32>
-    ensures { result ≡ variadic_behind block open }
+fn variadic_behind(block: u32, held: Option<u32>) -> Option<u32>
+    ensures { result ≡ variadic_behind block held }
 {
-    match open {
+    match held {
         None => None,
         Some(number) => {
             if number == block {
