@@ -10,7 +10,7 @@ use Rattle.c65_ctype.specs.Compatible.{same_bool}
 use Rattle.c65_ctype.specs.Trees.{Fn, fn, QTy, QTys, end, more, TypesTy}
 use Rattle.c65_ctype.specs.Views.{qty_of, fn_of, qtys_of, params_in}
 use Rattle.c65_ctype.proofs.ViewLaws.{fn_view}
-use Rattle.c65_csem.specs.Trees.{Typed, node, Node, Nodes, none, some, UnitTy}
+use Rattle.c65_csem.specs.Trees.{Typed, node, Node, call, Nodes, none, some, UnitTy}
 use Rattle.c65_csem.specs.declared.expr.TExpr.{TExpr}
 use Rattle.c65_csem.specs.declared.expr.TKind.{TKind}
 use Rattle.c65_csem.specs.declared.expr.TKind.TheVariants as x
@@ -118,10 +118,12 @@ call_parts u t k f v g ys is one all =
     ∙ ap (λ (zs : List TExpr). exprs.is_typed u (typed_of f.value) && exprs.are_typed u (nodes_of zs) && exprs.is_call u.types t (typed_of f.value) (nodes_of zs)) all
     ∙ sym (ap (λ (j : TKind). exprs.is_whole_call u (node t (node_of j))) is ∙ ap (λ (n : Node). exprs.is_whole_call u (node t n)) (node_of_call f v))
 
-pub call_node : (u : UnitTy) (t : QTy) (k : TKind) (f : Box TExpr Global) (v : Vec TExpr) → k ≡ x.Call f v → (kinds.is_usual t && exprs.is_whole_call u (node t (node_of k))) ≡ exprs.is_node u t (node_of k)
-call_node u t k f v is =
+pub call_node : (u : UnitTy) (t : QTy) (k : TKind) (f : Box TExpr Global) (v : Vec TExpr) (y : Bool) → k ≡ x.Call f v → y ≡ kinds.is_usual t → y ≡ true → exprs.is_whole_call u (node t (node_of k)) ≡ exprs.is_node u t (node_of k)
+call_node u t k f v y is usual holds =
     let same = ap node_of is ∙ node_of_call f v in
-    ap (λ (n : Node). kinds.is_usual t && exprs.is_whole_call u (node t n)) same ∙ sym (ap (exprs.is_node u t) same)
+    ap (λ (n : Node). exprs.is_whole_call u (node t n)) same
+    ∙ ap (λ (w : Bool). w && exprs.is_whole_call u (node t (call (typed_of f.value) (nodes_of v.items)))) (sym (sym usual ∙ holds))
+    ∙ sym (ap (exprs.is_node u t) same)
 
 pub block_labels : (k : TStmt) (os : Vec ℕ) (v : Vec TStmt) (ys : List TStmt) → k ≡ s.Block os v → ys ≡ v.items → labels_in (stmts_of ys) ≡ labels_of (stmt_of k)
 block_labels k os v ys is list = ap (λ (zs : List TStmt). labels_in (stmts_of zs)) list ∙ sym (ap (λ (j : TStmt). labels_of (stmt_of j)) is ∙ ap labels_of (stmt_of_block os v))

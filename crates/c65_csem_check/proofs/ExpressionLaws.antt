@@ -19,7 +19,7 @@ use Rattle.c65_csem.specs.Places.{is_place, plain, plain_of, qualified, is_promo
 use Rattle.c65_csem.specs.Typed.{IsTyped, IsNode, IsGiven, IsCalled, AreTyped, HasInt, IsInt, IsPromoted, IsPointer, IsScalar, IsValue, IsMoved, IsScalarPlace, AreAlike, AreShifted, AreCompared, AreAdded, AreSubtracted, Operands, Operand, Computes, Steps, Converts, IsLiteral, Passes, IsMember, IsAddressed, IsArm, IsStepped, ArePassed, AreGiven, Fits, FitsFn, IsSmall, IsUsual, IsCall, IsSpot, arguments_size, result_of, rest_type}
 use Rattle.c65_csem_check.specs.Kinds as types
 use Rattle.c65_csem_check.specs.Expressions as b
-use Rattle.c65_csem_check.proofs.Tells.{Tells, like, tells_itself, tells_not, tells_unit, tells_never, tells_found, some_same, from_decides, both, then, three, four, either}
+use Rattle.c65_csem_check.proofs.Tells.{Tells, like, tells_itself, tells_not, tells_unit, tells_never, tells_found, some_same, from_decides, both, behind, three, four, either}
 use Rattle.c65_csem_check.proofs.TypeLaws.{IsFlat, flat_is, small_flat, tells_same, tells_ty, tells_int_of, tells_by_int, tells_int, tells_promoted, tells_void, tells_pointer, tells_plain_of, tells_scalar, tells_pointer_to, tells_moved, tells_small, tells_usual, tells_passes, tells_stepped, tells_decayed, tells_literal, tells_qualified}
 
 true_of : (b : Bool) → T b → b ≡ true
@@ -289,6 +289,13 @@ module _ {S : Type 0} where
       (λ w. record { object = w.0; there = w.1; unnamed = w.2.0; class = w.2.1; same = w.2.2 })
       (λ w. (w.object, w.there, (w.unnamed, w.class, w.same)))
 
+  or_by : (x : Bool) (P : Type 0) → Tells S x P → Tells S (x || false) P
+  or_by true P w = w
+  or_by false P w = w
+
+  or_never : {x : Bool} {P : Type 0} → Tells S x P → Tells S (x || false) P
+  or_never w = or_by _ _ w
+
   tells_pack : (u : UnitTy) (t : QTy) (e : Typed) → Tells S (b.is_pack u.types t e) (IsSmall u t × (t ≡ plain_of (type_of e)))
   tells_pack u t e = both (tells_small u t) (tells_plain_of t (type_of e))
 
@@ -355,14 +362,14 @@ module _ {S : Type 0} where
 
     -- the parts of a call, whatever it gives
     tells_parts : (u : UnitTy) (t : QTy) (f : Typed) (es : Nodes) → Tells S (b.is_typed u f && b.are_typed u es && b.is_call u.types t f es) (IsTyped u f × AreTyped u es × (is_place f ≡ false) × IsCall u t (type_of f) es)
-    tells_parts u t f es = like (then (both (tells_typed u f) (tells_nodes u es)) (λ w. tells_call u t f es w.1)) (λ w. (w.0.0, w.0.1, w.1.0, w.1.1)) (λ w. ((w.0, w.1), (w.2, w.3)))
+    tells_parts u t f es = like (behind (both (tells_typed u f) (tells_nodes u es)) (λ w. tells_call u t f es w.1)) (λ w. (w.0.0, w.0.1, w.1.0, w.1.1)) (λ w. ((w.0, w.1), (w.2, w.3)))
 
     tells_called : (u : UnitTy) (t : QTy) (e : Typed) → Tells S (types.same (type_of e) t && types.is_plain_small u.types (type_of e) && b.is_whole_call u e) (IsCalled u t e)
     tells_called u t (node s (call f es)) = like (three (tells_same s t) (tells_small u s) (tells_parts u s f es)) (λ w. (w.0, w.1, w.2.0, w.2.2, w.2.3, w.2.1)) (λ w. (w.0, w.1, (w.2, w.5, w.3, w.4)))
     tells_called u t (node s _) = like (three (tells_same s t) (tells_small u s) tells_never) (λ w. absurd w.2) (λ w. absurd w)
 
     pub tells_given : (u : UnitTy) (e : Typed) → Tells S (b.is_given u e) (IsGiven u e)
-    tells_given u (node t (pack e)) = both (tells_typed u e) (tells_pack u t e)
+    tells_given u (node t (pack e)) = or_never (both (tells_typed u e) (tells_pack u t e))
     tells_given u (node t e) = both (tells_node u t e) (tells_value (node t e))
 
     tells_nodes : (u : UnitTy) (es : Nodes) → Tells S (b.are_typed u es) (AreTyped u es)

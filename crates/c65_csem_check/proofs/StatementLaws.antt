@@ -14,7 +14,7 @@ use Rattle.c65_csem.specs.Statements.{Context, looping, switching, IsStmt, AreSt
 use Rattle.c65_csem_check.specs.Kinds as kinds
 use Rattle.c65_csem_check.specs.Expressions as exprs
 use Rattle.c65_csem_check.specs.Statements as b
-use Rattle.c65_csem_check.proofs.Tells.{Tells, like, tells_itself, tells_not, tells_unit, tells_never, tells_found, tells_all, both, then, three, four, either}
+use Rattle.c65_csem_check.proofs.Tells.{Tells, like, tells_itself, tells_not, tells_unit, tells_never, tells_found, tells_all, both, behind, three, four, either}
 use Rattle.c65_csem_check.proofs.TypeLaws.{IsFlat, flat_is, is_int_of, int_of_is, tells_same_size}
 use Rattle.c65_csem_check.proofs.ExpressionLaws.{given_flat, tells_typed, tells_given, tells_value, holds_in}
 use Rattle.c65_csem_check.proofs.ListLaws.{tells_number, tells_distinct_values}
@@ -106,7 +106,7 @@ module _ {S : Type 0} where
 
   tells_return : (u : UnitTy) (c : Context) (e : MaybeTyped) → Tells S (b.is_return u c.gives e) (IsReturn u c e)
   tells_return u c absent = tells_unit
-  tells_return u c (present e) = like (then (both (tells_given u e) (tells_itself (are_alike (type_of e) c.gives))) (λ w. tells_same_size u.types (type_of e) c.gives (given_flat u e w.0) w.1))
+  tells_return u c (present e) = like (behind (both (tells_given u e) (tells_itself (are_alike (type_of e) c.gives))) (λ w. tells_same_size u.types (type_of e) c.gives (given_flat u e w.0) w.1))
       (λ w. (w.0.0, w.0.1, w.1))
       (λ w. ((w.0, w.1), w.2))
 

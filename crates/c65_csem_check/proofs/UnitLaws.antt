@@ -24,7 +24,7 @@ use Rattle.c65_csem_check.specs.Expressions.{is_auto}
 use Rattle.c65_csem_check.specs.Statements.{measured_in, are_distinct, is_stmt}
 use Rattle.c65_csem_check.specs.Units as b
 use Rattle.c65_csem_check.specs.Units.{IsMeasured, IsMeasuredUnit}
-use Rattle.c65_csem_check.proofs.Tells.{Tells, like, tells_itself, tells_unit, tells_never, tells_found, tells_all, tells_if, some_same, from_decides, both, then, three}
+use Rattle.c65_csem_check.proofs.Tells.{Tells, like, tells_itself, tells_unit, tells_never, tells_found, tells_all, tells_if, some_same, from_decides, both, behind, three}
 use Rattle.c65_csem_check.proofs.TypeLaws.{IsFlat, tells_result, tells_same_size}
 use Rattle.c65_csem_check.proofs.ExpressionLaws.{tells_auto}
 use Rattle.c65_csem_check.proofs.ListLaws.{tells_distinct}
@@ -158,6 +158,9 @@ measured_at u (x ∷ os) m w (suc i) o h auto = measured_at u os m.1 w.1 i o h a
 
 -- Functions.
 
+abbrev IsOfType : UnitTy → QTy → ObjectTy → Type 0
+IsOfType u q o = IsTrue (are_alike o.ty q) × (size_of u.types (type_in o.ty) ≡ size_of u.types (type_in q))
+
 passed_flat : (types : TypesTy) (t : Ty) → is_passed types t ≡ true → IsFlat t
 passed_flat types (int k) h = inl refl
 passed_flat types (pointer q) h = inl refl
@@ -182,14 +185,11 @@ module _ {S : Type 0} where
   tells_params : (u : UnitTy) (is : List ℕ) → Tells S (b.are_params u is) (All (IsParam u) is)
   tells_params u is = tells_all (b.are_params u) (λ i. b.param_by u.types (slice_get u.objects i)) (IsParam u) refl (λ i is. refl) (λ i. tells_param u i) is
 
-  abbrev IsOfType : UnitTy → QTy → ObjectTy → Type 0
-  IsOfType u q o = IsTrue (are_alike o.ty q) × (size_of u.types (type_in o.ty) ≡ size_of u.types (type_in q))
-
   type_by : (u : UnitTy) (i : ℕ) (q : QTy) (o : Option ObjectTy) → slice_get u.objects i ≡ o → IsParam u i → Tells S (b.has_type_of u.types o q) ((x : ObjectTy) × (o ≡ Some x) × IsOfType u q x)
   type_by u i q None e p = record { yes = λ h. cc; only = λ s w. let f = w.1 in cc }
   type_by u i q (Some x) e p =
       let flat = param_flat u i x e p in
-      like (then (tells_itself (are_alike x.ty q)) (λ h. tells_same_size u.types x.ty q flat h)) (λ w. (x, refl, w)) (λ w. some_same (IsOfType u q) x w.0 w.1 w.2)
+      like (behind (tells_itself (are_alike x.ty q)) (λ h. tells_same_size u.types x.ty q flat h)) (λ w. (x, refl, w)) (λ w. some_same (IsOfType u q) x w.0 w.1 w.2)
 
   tells_type_of : (u : UnitTy) (i : ℕ) (q : QTy) → IsParam u i → Tells S (b.has_type_of u.types (slice_get u.objects i) q) ((o : ObjectTy) × (slice_get u.objects i ≡ Some o) × IsOfType u q o)
   tells_type_of u i q p = type_by u i q (slice_get u.objects i) refl p
@@ -209,7 +209,7 @@ module _ {S : Type 0} where
   tells_empty (n ∷ ns) = record { yes = λ h. cc; only = λ s w. cc }
 
 tells_body : (u : UnitTy) (f : FuncTy) (body : Stmt) → Tells (AreMeasured u) (b.is_body u f body) (IsBody u f body)
-tells_body u f body = like (both (both (three (then (tells_params u f.params) (λ ps. tells_prototype u f.ty f.params ps)) (tells_distinct f.params) (tells_result u (plain_of (result_of f.ty)))) (tells_distinct (labels_of body))) (tells_stmt u (context_of f body) body))
+tells_body u f body = like (both (both (three (behind (tells_params u f.params) (λ ps. tells_prototype u f.ty f.params ps)) (tells_distinct f.params) (tells_result u (plain_of (result_of f.ty)))) (tells_distinct (labels_of body))) (tells_stmt u (context_of f body) body))
     (λ w. record { params = w.0.0.0.0; prototype = w.0.0.0.1; distinct_params = w.0.0.1; gives = w.0.0.2; labels = w.0.1; typed = w.1 })
     (λ w. ((((w.params, w.prototype), w.distinct_params, w.gives), w.labels), w.typed))
 

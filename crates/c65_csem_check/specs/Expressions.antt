@@ -265,11 +265,15 @@ abbrev mutual
   is_whole_call u (node t (call f es)) = is_typed u f && are_typed u es && is_call u.types t f es
   is_whole_call u (node t _) = false
 
-  -- an argument or a returned value
-  pub is_given : UnitTy → Typed → Bool
-  is_given u (node t (pack e)) = is_typed u e && is_pack u.types t e
-  is_given u (node t e) = is_node u t e && is_value (node t e)
+  -- the bytes of a structure or union
+  pub is_packed : UnitTy → Typed → Bool
+  is_packed u (node t (pack e)) = is_typed u e && is_pack u.types t e
+  is_packed u (node t _) = false
 
   pub are_typed : UnitTy → Nodes → Bool
   are_typed u none = true
-  are_typed u (some e es) = is_given u e && are_typed u es
+  are_typed u (some e es) = (is_packed u e || (is_typed u e && is_value e)) && are_typed u es
+
+-- an argument or a returned value
+abbrev pub is_given : UnitTy → Typed → Bool
+is_given u e = is_packed u e || (is_typed u e && is_value e)

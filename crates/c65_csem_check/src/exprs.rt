@@ -88,16 +88,23 @@ fn is_whole_call(parts: &Parts, e: &TExpr) -> bool
     }
 }
 
+#[cycle(typed)]
+fn is_packed(parts: &Parts, e: &TExpr) -> bool
+    ensures { result ≡ Expressions.is_packed (unit_of parts.now) (typed_of e.now) }
+{
+    match &e.kind {
+        TKind::Pack(a) => is_typed(parts, a) && is_pack(&parts.types, &e.ty, a),
+        _ => false,
+    }
+}
+
 /// Whether an expression may be an argument or a returned value: a value, or the bytes of a structure
 /// or union.
 #[cycle(typed)]
 pub fn is_given(parts: &Parts, e: &TExpr) -> bool
     ensures { result ≡ Expressions.is_given (unit_of parts.now) (typed_of e.now) }
 {
-    match &e.kind {
-        TKind::Pack(a) => is_typed(parts, a) && is_pack(&parts.types, &e.ty, a),
-        _ => is_typed(parts, e) && is_value(e),
-    }
+    is_packed(parts, e) || (is_typed(parts, e) && is_value(e))
 }
 
 #[cycle(typed)]
