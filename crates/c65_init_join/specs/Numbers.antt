@@ -8,7 +8,7 @@ use Rattle.c65_init_join.specs.declared.assign.Assigned.{Assigned}
 use Rattle.c65_init_join.specs.declared.assign.Counts.{Counts}
 use Rattle.c65_init_join.specs.declared.table.Place.{Place}
 use Rattle.c65_init_join.specs.Items.{ItemsTy}
-use Rattle.c65_init_join.specs.Tables.{ExternalTy, TableTy, external_at, place_of, is_external, same_place, object_place, func_place, with_number, number_of}
+use Rattle.c65_init_join.specs.Tables.{ExternalTy, TableTy, external_at, place_of, is_external, same_place, object_place, func_place, with_number, number_at, number_of}
 
 -- ---- which items the program keeps
 

@@ -16,7 +16,7 @@ fn number(kind: IntType) -> QType {
 
 fn object(kind: IntType, class: Class) -> TObject {
     TObject {
-        name: Name(0),
+        name: Some(Name(0)),
         ty: number(kind),
         class,
         init: None,
