@@ -6,20 +6,21 @@ use Rattle.c65_base.specs.declared.library.Library.{Library}
 use Rattle.c65_base.specs.declared.library.Library.TheVariants.{Putchar, Getchar, Puts, Exit, Memcpy, Memset, Strcmp, Strcpy, Strlen}
 use Rattle.c65_csem.specs.Trees.{Stmt, FuncTy, UnitTy}
 use Rattle.c65_meaning.specs.Why.{Why, By}
-use Rattle.c65_meaning.specs.Store.{Value, Whole, Null, Place, Opaque, NoValue}
+use Rattle.c65_meaning.specs.Store.{Cell, Value, Whole, Null, Place, Opaque, Cells, NoValue}
 use Rattle.c65_meaning.specs.Shapes.{object_in, object_shape}
 use Rattle.c65_meaning.specs.Items.{Item, Busy, Leave}
 use Rattle.c65_meaning.specs.Costs.{argument_bytes, soft_cost, has_fixed}
 use Rattle.c65_meaning.specs.After.{ToLabel, Landing, Left, without}
-use Rattle.c65_meaning.specs.State.{Frame, Scene, State, Running, turned, name_object, Undefined}
+use Rattle.c65_meaning.specs.State.{Frame, Scene, State, Running, turned, name_object, rest_in, name_rest, Undefined}
 use Rattle.c65_meaning.specs.Library.{Effect, effect_of}
-use Rattle.c65_meaning.specs.Step.{begin_object, begin_objects, end_objects, with_params, new_frame, entered, called, allowed, unless_refused, accepted, call_of, invoked, status_of, back_in, behind, params_of, func_in, frames_below, without_frame, left_call, returned, left_for, landed, label_in, body_of, jumped, switched, ended_or, finished, library_call, served, is_active, entered_once}
+use Rattle.c65_meaning.specs.Step.{begin_object, begin_objects, end_objects, with_params, new_frame, entered, called, allowed, unless_refused, accepted, call_of, invoked, status_of, back_in, behind, params_of, func_in, frames_below, without_frame, left_call, returned, left_for, landed, label_in, body_of, jumped, switched, ended_or, finished, library_call, served, is_active, entered_once, end_named, end_arguments, with_rest, further, with_passed}
+use Rattle.c65_meaning.specs.Calls.{is_variadic}
 use Rattle.c65_fold_law.specs.Laws.{Cheaper}
 use Rattle.c65_fold_law.specs.Programs.{folded_stmt, folded_body, folded_func, folded_unit}
 use Rattle.c65_fold_law.proofs.Kept.{func_same, cost_less, fixed_same}
 use Rattle.c65_fold_law.proofs.Marks.{TypedStmt, Works, item, stmt_works}
 use Rattle.c65_fold_law.proofs.Jumps.{CallIf, LeftIf, LandIf, after_land}
-use Rattle.c65_fold_law.proofs.Scenes.{framed, func_in_same, below_cheaper, Sim, SceneIf, runs, one_sim, bound_scene, put_scene, Now, name_cheaper, begins, ends, goes, turns, unless_deep_sim}
+use Rattle.c65_fold_law.proofs.Scenes.{framed, func_in_same, below_cheaper, Sim, SceneIf, runs, one_sim, bound_scene, put_scene, Now, name_cheaper, rest_same, rest_cheaper, begins, end_at, ends, goes, turns, unless_deep_sim}
 use Rattle.c65_meaning.specs.declared.action.Action.TheVariants.{FixedAgain}
 
 -- ---- what a body is typed by
@@ -58,6 +59,7 @@ module _ (u : UnitTy) where
   status_sim c gs Null = tt
   status_sim c gs (Place b o) = tt
   status_sim c gs Opaque = tt
+  status_sim c gs (Cells xs) = tt
   status_sim c gs NoValue = tt
 
   back_sim : (fs gs : List Frame) (k l : List Item) (vs : List Value) (c : Scene) (hs : List Frame) (v : Value) → Cheaper fs gs → Works u k l → Cheaper c.frames hs → Sim u (back_in fs k vs c v) (back_in gs l vs (framed hs c) v)
@@ -72,11 +74,16 @@ module _ (u : UnitTy) where
   back_at : (fs gs : List Frame) (k l : List Item) (vs : List Value) (d e : Scene) (v : Value) → Cheaper fs gs → Works u k l → Now u d e → Sim u (back_in fs k vs d v) (back_in gs l vs e v)
   back_at fs gs k l vs d e v h w n = subst (λ (x : Scene). Sim u (back_in fs k vs d v) (back_in gs l vs x v)) (sym n.is) (back_sim fs gs k l vs d n.frames v h w n.cheaper)
 
-  left_framed : (v : Value) (k l : List Item) (vs : List Value) (c : Scene) (gs : List Frame) → Works u k l → Cheaper c.frames gs → Sim u (left_call u v k vs c) (left_call (folded_unit u) v l vs (framed gs c))
-  left_framed v k l vs c gs w h =
+  -- the parameters and the further arguments end
+  arguments_end : (c : Scene) (gs : List Frame) → Cheaper c.frames gs → Now u (end_arguments u c) (end_arguments (folded_unit u) (framed gs c))
+  arguments_end c gs h =
       let os = params_of (slice_get u.funcs (func_in c.frames)) in
-      subst (λ (ps : List ℕ). Sim u (left_call u v k vs c) (back_in (frames_below gs) l vs (without_frame (end_objects ps (framed gs c))) v)) (sym (params_same (func_in c.frames) (func_in gs) (func_in_same c.frames gs h)))
-      (back_at (frames_below c.frames) (frames_below gs) k l vs (without_frame (end_objects os c)) (without_frame (end_objects os (framed gs c))) v (below_cheaper c.frames gs h) w (without_frame_now _ _ (ends u os c gs h)))
+      subst (λ (ps : List ℕ). Now u (end_arguments u c) (end_named (rest_in gs) (end_objects ps (framed gs c)))) (sym (params_same (func_in c.frames) (func_in gs) (func_in_same c.frames gs h)))
+      (subst (λ (o : Option ℕ). Now u (end_arguments u c) (end_named o (end_objects os (framed gs c)))) (sym (rest_same c.frames gs h))
+      (end_at u (rest_in c.frames) (end_objects os c) (end_objects os (framed gs c)) (ends u os c gs h)))
+
+  left_framed : (v : Value) (k l : List Item) (vs : List Value) (c : Scene) (gs : List Frame) → Works u k l → Cheaper c.frames gs → Sim u (left_call u v k vs c) (left_call (folded_unit u) v l vs (framed gs c))
+  left_framed v k l vs c gs w h = back_at (frames_below c.frames) (frames_below gs) k l vs (without_frame (end_arguments u c)) (without_frame (end_arguments (folded_unit u) (framed gs c))) v (below_cheaper c.frames gs h) w (without_frame_now _ _ (arguments_end c gs h))
 
   pub left_call_sim : (v : Value) (k l : List Item) (vs : List Value) (d e : Scene) → Works u k l → Now u d e → Sim u (left_call u v k vs d) (left_call (folded_unit u) v l vs e)
   left_call_sim v k l vs d e w n = subst (λ (x : Scene). Sim u (left_call u v k vs d) (left_call (folded_unit u) v l vs x)) (sym n.is) (left_framed v k l vs d n.frames w n.cheaper)
@@ -163,9 +170,16 @@ module _ (u : UnitTy) where
   params_scene (i ∷ objects) (v ∷ args) c gs h =
       bound_scene u _ _ (with_params u objects args) (with_params (folded_unit u) objects args) (put_scene u true (object_shape u.types (object_in u i)) (begin_object u i c) (name_object gs i c.next) (Place c.next 0) v (name_cheaper c.frames gs i c.next h)) (λ d hs g. params_scene objects args d hs g)
 
-  pub entered_sim : (f : ℕ) (g : FuncTy) (body : Stmt) → TypedStmt u body → (cost less : ℕ) → less ≤ cost → (args : List Value) (k l : List Item) (vs : List Value) (c : Scene) (gs : List Frame) → Works u k l → Cheaper c.frames gs → Sim u (entered u f g body cost args k vs c) (entered (folded_unit u) f (folded_func g) (folded_stmt body) less args l vs (framed gs c))
-  entered_sim f g body typed cost less cheaper args k l vs c gs w h =
-      unless_deep_sim u _ _ vs _ _ (params_scene g.params args (new_frame u f cost c) (record { func = f; object = λ i. None; cost = less } ∷ gs) (record { func = refl; object = refl; cost = cheaper }, h)) (stmt_works u 0 body typed.0 typed.1 _ _ (item u Leave k l tt w))
+  rest_scene : (variadic : Bool) (xs : List Cell) (c : Scene) (gs : List Frame) → Cheaper c.frames gs → SceneIf u (Ok (with_rest variadic xs c)) (Ok (with_rest variadic xs (framed gs c)))
+  rest_scene true xs c gs h = record { frames = name_rest gs c.next; cheaper = rest_cheaper c.frames gs c.next h; is = refl }
+  rest_scene false xs c gs h = record { frames = gs; cheaper = h; is = refl }
+
+  passed_scene : (g : FuncTy) (types : List Ty) (args : List Value) (c : Scene) (gs : List Frame) → Cheaper c.frames gs → SceneIf u (with_passed u g types args c) (with_passed (folded_unit u) (folded_func g) types args (framed gs c))
+  passed_scene g types args c gs h = bound_scene u _ _ (λ d. Ok (with_rest (is_variadic g.ty) (further u g types args) d)) (λ d. Ok (with_rest (is_variadic g.ty) (further u g types args) d)) (params_scene g.params args c gs h) (λ d hs i. rest_scene (is_variadic g.ty) (further u g types args) d hs i)
+
+  pub entered_sim : (f : ℕ) (g : FuncTy) (body : Stmt) → TypedStmt u body → (cost less : ℕ) → less ≤ cost → (types : List Ty) (args : List Value) (k l : List Item) (vs : List Value) (c : Scene) (gs : List Frame) → Works u k l → Cheaper c.frames gs → Sim u (entered u f g body cost types args k vs c) (entered (folded_unit u) f (folded_func g) (folded_stmt body) less types args l vs (framed gs c))
+  entered_sim f g body typed cost less cheaper types args k l vs c gs w h =
+      unless_deep_sim u _ _ vs _ _ (passed_scene g types args (new_frame u f cost c) (record { func = f; object = λ i. None; cost = less; rest = None } ∷ gs) (record { func = refl; object = refl; cost = cheaper; rest = refl }, h)) (stmt_works u 0 body typed.0 typed.1 _ _ (item u Leave k l tt w))
 
   -- the same calls are active
   active_same : (f : ℕ) (fs gs : List Frame) → Cheaper fs gs → is_active f gs ≡ is_active f fs
@@ -174,22 +188,22 @@ module _ (u : UnitTy) where
   active_same f (a ∷ fs) [] h = absurd h
   active_same f (a ∷ fs) (b ∷ gs) h = ap (λ (n : ℕ). (n == f) || is_active f gs) h.0.func ∙ ap (λ (x : Bool). (a.func == f) || x) (active_same f fs gs h.1)
 
-  once_sim : (f : ℕ) (g : FuncTy) (body : Stmt) → TypedStmt u body → (cost less : ℕ) → less ≤ cost → (args : List Value) (k l : List Item) (vs : List Value) (c : Scene) (gs : List Frame) → Works u k l → Cheaper c.frames gs → Sim u (entered_once u f g body cost args k vs c) (entered_once (folded_unit u) f (folded_func g) (folded_stmt body) less args l vs (framed gs c))
-  once_sim f g body typed cost less cheaper args k l vs c gs w h =
-      subst (λ (b : Bool). Sim u (entered_once u f g body cost args k vs c) (if b then Undefined (By FixedAgain) else folded)) (sym same) (go (has_fixed u body && is_active f c.frames))
+  once_sim : (f : ℕ) (g : FuncTy) (body : Stmt) → TypedStmt u body → (cost less : ℕ) → less ≤ cost → (types : List Ty) (args : List Value) (k l : List Item) (vs : List Value) (c : Scene) (gs : List Frame) → Works u k l → Cheaper c.frames gs → Sim u (entered_once u f g body cost types args k vs c) (entered_once (folded_unit u) f (folded_func g) (folded_stmt body) less types args l vs (framed gs c))
+  once_sim f g body typed cost less cheaper types args k l vs c gs w h =
+      subst (λ (b : Bool). Sim u (entered_once u f g body cost types args k vs c) (if b then Undefined (By FixedAgain) else folded)) (sym same) (go (has_fixed u body && is_active f c.frames))
     where
       folded : State
-      folded = entered (folded_unit u) f (folded_func g) (folded_stmt body) less args l vs (framed gs c)
+      folded = entered (folded_unit u) f (folded_func g) (folded_stmt body) less types args l vs (framed gs c)
 
       same : (has_fixed (folded_unit u) (folded_stmt body) && is_active f gs) ≡ (has_fixed u body && is_active f c.frames)
       same = ap (λ (b : Bool). b && is_active f gs) (fixed_same u body) ∙ ap (λ (b : Bool). has_fixed u body && b) (active_same f c.frames gs h)
 
-      go : (b : Bool) → Sim u (if b then Undefined (By FixedAgain) else entered u f g body cost args k vs c) (if b then Undefined (By FixedAgain) else folded)
+      go : (b : Bool) → Sim u (if b then Undefined (By FixedAgain) else entered u f g body cost types args k vs c) (if b then Undefined (By FixedAgain) else folded)
       go true = tt
-      go false = entered_sim f g body typed cost less cheaper args k l vs c gs w h
+      go false = entered_sim f g body typed cost less cheaper types args k l vs c gs w h
 
   called_sim : (f : ℕ) (types : List Ty) (args : List Value) (g : FuncTy) (body : Option Stmt) (lib : Option Library) → TypedBody u body → (k l : List Item) (vs : List Value) (c : Scene) (gs : List Frame) → Works u k l → Cheaper c.frames gs → Sim u (called u f types args g body lib k vs c) (called (folded_unit u) f types args (folded_func g) (folded_body body) lib l vs (framed gs c))
-  called_sim f types args g (Some body) lib typed k l vs c gs w h = once_sim f g body typed (soft_cost u (argument_bytes u types) body) (soft_cost (folded_unit u) (argument_bytes (folded_unit u) types) (folded_stmt body)) (cost_less u (argument_bytes u types) body) args k l vs (turned c) gs w h
+  called_sim f types args g (Some body) lib typed k l vs c gs w h = once_sim f g body typed (soft_cost u (argument_bytes u types) body) (soft_cost (folded_unit u) (argument_bytes (folded_unit u) types) (folded_stmt body)) (cost_less u (argument_bytes u types) body) types args k l vs (turned c) gs w h
   called_sim f types args g None (Some lib) typed k l vs c gs w h = served_sim lib args k l vs c gs w h
   called_sim f types args g None None typed k l vs c gs w h = tt
 
@@ -212,6 +226,7 @@ module _ (u : UnitTy) where
   call_sim typed callee types args (Whole z) k l vs c gs w h = tt
   call_sim typed callee types args Null k l vs c gs w h = tt
   call_sim typed callee types args Opaque k l vs c gs w h = tt
+  call_sim typed callee types args (Cells xs) k l vs c gs w h = tt
   call_sim typed callee types args NoValue k l vs c gs w h = tt
 
   pub invoked_sim : TypedFuncs u → (callee : Ty) (types : List Ty) (k l : List Item) (o : Option (List Value × List Value)) (c : Scene) (gs : List Frame) → Works u k l → Cheaper c.frames gs → Sim u (invoked u callee types k o c) (invoked (folded_unit u) callee types l o (framed gs c))

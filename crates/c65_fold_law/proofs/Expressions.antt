@@ -20,7 +20,7 @@ use Rattle.c65_fold_law.proofs.Runs.{last_stays}
 
 no_cheaper : (fs : List Frame) → Cheaper fs fs
 no_cheaper [] = tt
-no_cheaper (f ∷ fs) = (record { func = refl; object = refl; cost = omega arith }, no_cheaper fs)
+no_cheaper (f ∷ fs) = (record { func = refl; object = refl; cost = omega arith; rest = refl }, no_cheaper fs)
 
 module _ (p : ProgramTy) where
   abbrev q : ProgramTy

@@ -1,7 +1,7 @@
 -- What jumps leave and where they go on, in pending work side by side.
 use Rattle.std.proofs.Common.{◌≡◌, ℕ, suc, ◌+◌, List, [], ◌∷◌, Option, Some, None, Bool, true, false, IsTrue, refl, sym, ap, ◌∙◌, subst}
 use Rattle.c65_ctype.specs.Trees.{QTy, type_in}
-use Rattle.c65_csem.specs.Trees.{Typed, node, Node, constant, null, literal, object, func, deref, member, load, address, decay, convert, unary, binary, both, either, choice, comma, assign, assign_op, assign_step, step, copy, call, Nodes, none, some, Stmt, empty, eval, set_part, clear, block, if_stmt, while, do_while, for_loop, switch, case, default, label, goto, break, continue, return, Stmts, no_stmts, and_stmts, absent, present, UnitTy}
+use Rattle.c65_csem.specs.Trees.{Typed, node, Node, constant, null, literal, object, func, deref, member, load, address, decay, convert, unary, binary, both, either, choice, comma, assign, assign_op, assign_step, step, copy, call, pack, spill, rest, Nodes, none, some, Stmt, empty, eval, set_part, clear, block, if_stmt, while, do_while, for_loop, switch, case, default, label, goto, break, continue, return, Stmts, no_stmts, and_stmts, absent, present, UnitTy}
 use Rattle.c65_csem.specs.Statements.{Context, looping, switching, IsStmt, AreStmts}
 use Rattle.c65_meaning.specs.Operators.{is_post}
 use Rattle.c65_csem.specs.Places.{member_at}
@@ -9,7 +9,7 @@ use Rattle.c65_ctype.specs.Sizes.{size_of}
 use Rattle.c65_meaning.specs.Shapes.{bare_type, types_of, shape_of, place_shape, offset_of, literal_block}
 use Rattle.c65_meaning.specs.Store.{Shape, Number, Whole, Null, Place}
 use Rattle.c65_meaning.specs.Sites.{count}
-use Rattle.c65_meaning.specs.Items.{Item, Push, Name, Follow, Move, Fetch, Keep, Change, Apply1, Apply2, Both, Either, Choose, Drop, Put, Peek, Bump, PutUnder, Carry, Invoke, End, Next, Check, EndSwitch, Leave, put_step, test_first, test_last, plan, plan_node, plan_all, plan_stmts}
+use Rattle.c65_meaning.specs.Items.{Item, Push, Name, Follow, Move, Fetch, Keep, Change, Apply1, Apply2, Both, Either, Choose, Drop, Put, Peek, Bump, PutUnder, Carry, Gather, Lay, Reach, Invoke, End, Next, Check, EndSwitch, Leave, put_step, test_first, test_last, plan, plan_node, plan_all, plan_stmts}
 use Rattle.c65_meaning.specs.After.{Sought, ToLabel, ToCase, ToDefault, Landing, or_else, within, is_label, is_case, is_default, for_label, found, after, after_all, Left, ending, up_to_call, up_to_break, up_to_continue}
 use Rattle.c65_fold_law.specs.Programs.{folded_stmt, folded_stmts, folded_unit}
 use Rattle.c65_fold_law.proofs.Kept.{count_same}
@@ -98,6 +98,9 @@ module _ (u : UnitTy) (f : List Item → Option Left) (skips : Skips f) where
         ∙ (skips (Bump kind (at a)) (put_step (is_post kind) (at a) ∷ k) refl ∙ put_skips (is_post kind) (at a) k))
     node_skips t (copy a b) k = plan_skips a (plan u b (Carry 0 (size_of u.types (bare_type a)) ∷ k)) ∙ (plan_skips b (Carry 0 (size_of u.types (bare_type a)) ∷ k) ∙ skips (Carry 0 (size_of u.types (bare_type a))) k refl)
     node_skips t (call g es) k = plan_skips g (plan_all u es (Invoke (bare_type g) (types_of es) ∷ k)) ∙ (all_skips es (Invoke (bare_type g) (types_of es) ∷ k) ∙ skips (Invoke (bare_type g) (types_of es)) k refl)
+    node_skips t (pack a) k = plan_skips a (Gather (size_of u.types (type_in t)) ∷ k) ∙ skips (Gather (size_of u.types (type_in t))) k refl
+    node_skips t (spill i a) k = plan_skips a (Lay i 0 (size_of u.types (type_in t)) ∷ k) ∙ skips (Lay i 0 (size_of u.types (type_in t))) k refl
+    node_skips t rest k = skips Reach k refl
 
     all_skips : (es : Nodes) (k : List Item) → f (plan_all u es k) ≡ f k
     all_skips none k = refl

@@ -2,7 +2,7 @@
 use Rattle.std.proofs.Common.{◌≡◌, ℕ, suc, ◌+◌, ◌≤◌, max, ℤ, List, [], ◌∷◌, length, Option, Some, None, option_and_then, option_map, map, slice_get, refl, sym, ap, ◌∙◌, arith, Bool, ◌||◌}
 use Rattle.std.proofs.lemmas.Option.{slice_get-map}
 use Rattle.c65_ctype.specs.Trees.{QTy, type_in, TypesTy, Ty}
-use Rattle.c65_csem.specs.Trees.{Typed, node, Node, constant, null, literal, object, func, deref, member, load, address, decay, convert, unary, binary, both, either, choice, comma, assign, assign_op, assign_step, step, copy, call, Nodes, none, some, Stmt, empty, eval, set_part, clear, block, if_stmt, while, do_while, for_loop, switch, case, default, label, goto, break, continue, return, Stmts, no_stmts, and_stmts, MaybeTyped, absent, present, FuncTy, UnitTy}
+use Rattle.c65_csem.specs.Trees.{Typed, node, Node, constant, null, literal, object, func, deref, member, load, address, decay, convert, unary, binary, both, either, choice, comma, assign, assign_op, assign_step, step, copy, call, pack, spill, rest, Nodes, none, some, Stmt, empty, eval, set_part, clear, block, if_stmt, while, do_while, for_loop, switch, case, default, label, goto, break, continue, return, Stmts, no_stmts, and_stmts, MaybeTyped, absent, present, FuncTy, UnitTy}
 use Rattle.c65_csem.specs.Places.{member_at, is_fixed_object}
 use Rattle.c65_fold.specs.Constants.{number_type}
 use Rattle.c65_fold.specs.Folded.{value_at, by_value, folded, folded_node, folded_nodes}
@@ -149,6 +149,9 @@ mutual
   node_need (step kind a) = need_less a
   node_need (copy a b) = pair_need (need (folded a)) (need a) (need (folded b)) (need b) (need_less a) (need_less b)
   node_need (call f args) = two_need (need (folded f)) (need f) (need_of_all (folded_nodes args)) (need_of_all args) (need_less f) (nodes_need args)
+  node_need (pack a) = need_less a
+  node_need (spill i a) = need_less a
+  node_need rest = omega arith
   node_need (constant z) = omega arith
   node_need null = omega arith
   node_need (literal l) = omega arith

@@ -4,17 +4,19 @@ use Rattle.std.specs.Prelude.{⊤}
 use Rattle.c65_base.specs.declared.operators.BinaryOp.{BinaryOp}
 use Rattle.c65_ctype.specs.Trees.{QTy, type_in, Ty}
 use Rattle.c65_ctype.specs.Sizes.{size_of}
-use Rattle.c65_csem.specs.Trees.{Typed, node, Node, constant, null, literal, object, func, deref, member, load, address, decay, convert, unary, binary, both, either, choice, comma, assign, assign_op, assign_step, step, copy, call, Nodes, none, some, Stmt, empty, eval, set_part, clear, block, if_stmt, while, do_while, for_loop, switch, case, default, label, goto, break, continue, return, Stmts, no_stmts, and_stmts, MaybeTyped, absent, present, UnitTy}
+use Rattle.c65_csem.specs.Trees.{Typed, node, Node, constant, null, literal, object, func, deref, member, load, address, decay, convert, unary, binary, both, either, choice, comma, assign, assign_op, assign_step, step, copy, call, pack, spill, rest, Nodes, none, some, Stmt, empty, eval, set_part, clear, block, if_stmt, while, do_while, for_loop, switch, case, default, label, goto, break, continue, return, Stmts, no_stmts, and_stmts, MaybeTyped, absent, present, UnitTy}
 use Rattle.c65_csem.specs.Places.{member_at}
-use Rattle.c65_csem.specs.Typed.{IsTyped, IsNode, AreTyped}
+use Rattle.c65_csem.specs.Typed.{IsTyped, IsNode, IsGiven, IsCalled, AreTyped}
 use Rattle.c65_csem.specs.Statements.{Context, looping, switching, IsMaybe, IsMaybeCondition, IsStmt, AreStmts}
 use Rattle.c65_fold.specs.Folded as g
-use Rattle.c65_fold.specs.Folded.{value_at, by_value, folded, folded_node, folded_nodes}
+use Rattle.c65_fold.specs.Constants.{number_type}
+use Rattle.c65_fold.specs.Folded.{value_at, by_value, settled, folded, folded_node, folded_nodes}
+use Rattle.c65_fold.proofs.FoldLaws.{never}
 use Rattle.c65_meaning.specs.Store.{Whole, Null, Place, Shape, Number, Field, Pointer, Area}
 use Rattle.c65_meaning.specs.Operators.{is_post}
 use Rattle.c65_meaning.specs.Shapes.{bare_type, types_of, shape_of, place_shape, offset_of}
 use Rattle.c65_meaning.specs.Sites.{count, cases_of}
-use Rattle.c65_meaning.specs.Items.{Item, Loop, Push, Name, Follow, Move, Fetch, Keep, Change, Apply1, Apply2, Both, Either, Choose, Drop, Put, Peek, Bump, Carry, Invoke, Skip, Wipe, Begin, Branch, Test, Pass, Enter, Next, Back, Check, Redo, Select, Jump, LeaveLoop, GoOn, Give, GiveNothing, put_step, initial_store, test_first, test_last, plan, plan_node, plan_all, first, tested, given, head_of, plan_stmt, plan_stmts}
+use Rattle.c65_meaning.specs.Items.{Item, Loop, Push, Name, Follow, Move, Fetch, Keep, Change, Apply1, Apply2, Both, Either, Choose, Drop, Put, Peek, Bump, Carry, Gather, Lay, Reach, Invoke, Skip, Wipe, Begin, Branch, Test, Pass, Enter, Next, Back, Check, Redo, Select, Jump, LeaveLoop, GoOn, Give, GiveNothing, put_step, initial_store, test_first, test_last, plan, plan_node, plan_all, first, tested, given, head_of, plan_stmt, plan_stmts}
 use Rattle.c65_fold_law.specs.Programs.{folded_if, folded_stmt, folded_stmts, folded_func, folded_unit}
 use Rattle.c65_fold_law.proofs.Kept.{bare_same, place_same, types_same, funcs_same, count_same, cases_same}
 
@@ -143,6 +145,13 @@ module _ (u : UnitTy) where
   by_cases t n None e h k l w x = x
   by_cases t n (Some z) e h k l w x = known_work (node t n) z k l h (ap (λ (v : Option ℤ). g.known (by_value t (folded_node n) v)) e) w
 
+  -- a node that has no value is not replaced
+  unknown : (t : QTy) (n m : Node) (k l : List Item) → value_at t m ≡ None → Works (plan_node u t n k) (plan_node (folded_unit u) t m l) → Works (plan_node u t n k) (plan (folded_unit u) (settled t m) l)
+  unknown t n m k l e w = subst (λ (v : Option ℤ). Works (plan_node u t n k) (plan (folded_unit u) (by_value t m v) l)) (sym e) w
+
+  invoke_works : (f : Typed) (es : Nodes) (k l : List Item) → Works k l → Works (Invoke (bare_type f) (types_of es) ∷ k) (Invoke (bare_type (folded f)) (types_of (folded_nodes es)) ∷ l)
+  invoke_works f es k l w = item_as (Invoke (bare_type f) (types_of es)) _ k l tt (sym (ap (λ (s : Ty). Invoke s (types_of (folded_nodes es))) (bare_same f) ∙ ap (λ (ts : List Ty). Invoke (bare_type f) ts) (types_same es))) w
+
   mutual
     pub plan_works : (e : Typed) → IsTyped u e → (k l : List Item) → Works k l → Works (plan u e k) (plan (folded_unit u) (folded e) l)
     plan_works (node t n) h k l w = by_cases t n (value_at t (folded_node n)) refl h k l w (node_works t n h k l w)
@@ -179,12 +188,24 @@ module _ (u : UnitTy) where
         (item_as (Bump kind (at a)) _ _ _ tt (sym (ap (λ (s : Shape). Bump kind s) (place_same u.types a)))
         (item_as (put_step (is_post kind) (at a)) _ k l (put_typed (is_post kind) (at a)) (put_item (is_post kind) (at a) ∙ sym (ap (λ (s : Shape). put_step (is_post kind) s) (place_same u.types a))) w)))
     node_works t (copy a b) h k l w = plan_works a h.0 _ _ (plan_works b h.1 _ _ (item_as (Carry 0 (size_of u.types (bare_type a))) _ k l tt (sym (ap (λ (s : Ty). Carry 0 (size_of u.types s)) (bare_same a))) w))
-    node_works t (call f es) h k l w =
-        plan_works f h.0 _ _ (nodes_work es h.3 _ _ (item_as (Invoke (bare_type f) (types_of es)) _ k l tt (sym (ap (λ (s : Ty). Invoke s (types_of (folded_nodes es))) (bare_same f) ∙ ap (λ (ts : List Ty). Invoke (bare_type f) ts) (types_same es))) w))
+    node_works t (call f es) h k l w = plan_works f h.0 _ _ (nodes_work es h.4 _ _ (invoke_works f es k l w))
+    node_works t (pack a) h k l w = absurd h
+    node_works t (spill i a) h k l w = called_works t a h.0 _ _ (item (Lay i 0 (size_of u.types (type_in t))) k l tt w)
+    node_works t rest h k l w = item Reach k l tt w
+
+    -- a call that gives a structure or union
+    called_works : (t : QTy) (a : Typed) → IsCalled u t a → (k l : List Item) → Works k l → Works (plan u a k) (plan (folded_unit u) (folded a) l)
+    called_works t (node s (call f es)) h k l w = unknown s (call f es) (call (folded f) (folded_nodes es)) k l (never (number_type (type_in s))) (plan_works f h.2 _ _ (nodes_work es h.5 _ _ (invoke_works f es k l w)))
+    called_works t (node s _) h k l w = absurd h
+
+    -- an argument or a returned value
+    pub passed_works : (e : Typed) → IsGiven u e → (k l : List Item) → Works k l → Works (plan u e k) (plan (folded_unit u) (folded e) l)
+    passed_works (node t (pack a)) h k l w = unknown t (pack a) (pack (folded a)) k l (never (number_type (type_in t))) (plan_works a h.0 _ _ (item (Gather (size_of u.types (type_in t))) k l tt w))
+    passed_works (node t n) h k l w = by_cases t n (value_at t (folded_node n)) refl h.0 k l w (node_works t n h.0 k l w)
 
     nodes_work : (es : Nodes) → AreTyped u es → (k l : List Item) → Works k l → Works (plan_all u es k) (plan_all (folded_unit u) (folded_nodes es) l)
     nodes_work none h k l w = w
-    nodes_work (some e es) h k l w = plan_works e h.0 _ _ (nodes_work es h.1 k l w)
+    nodes_work (some e es) h k l w = passed_works e h.0 _ _ (nodes_work es h.1 k l w)
 
   -- ---- statements
 
@@ -196,9 +217,13 @@ module _ (u : UnitTy) where
   tested_works absent h k l a b w v = v
   tested_works (present e) h k l a b w v = plan_works e h k l w
 
-  given_works : (o : MaybeTyped) → IsMaybe u o → (k l : List Item) → Works k l → Works (given u o k) (given (folded_unit u) (folded_if o) l)
+  abbrev IsPassed : MaybeTyped → Type 0
+  IsPassed absent = ⊤
+  IsPassed (present e) = IsGiven u e
+
+  given_works : (o : MaybeTyped) → IsPassed o → (k l : List Item) → Works k l → Works (given u o k) (given (folded_unit u) (folded_if o) l)
   given_works absent h k l w = item GiveNothing k l tt w
-  given_works (present e) h k l w = plan_works e h _ _ (item Give k l tt w)
+  given_works (present e) h k l w = passed_works e h _ _ (item Give k l tt w)
 
   pub head_works : (lp : Loop) → TypedLoop lp → (k l : List Item) → Works k l → Works (head_of u lp k) (head_of (folded_unit u) (folded_loop lp) l)
   head_works lp h k l w = tested_works lp.test h.test _ _ _ _ (item (Test lp) k l h w) (item (Pass lp) k l h w)
@@ -210,7 +235,7 @@ module _ (u : UnitTy) where
   pub loop_of_for : (n : ℕ) (i t x : MaybeTyped) (s : Stmt) (c : Context) → IsStmt u c (for_loop i t x s) → TypedLoop (test_first t x (suc n) s)
   loop_of_for n i t x s c h = record { test = condition t h.1; next = h.2; body = (looping c, h.3) }
 
-  returned_typed : (c : Context) (o : MaybeTyped) → IsStmt u c (return o) → IsMaybe u o
+  returned_typed : (c : Context) (o : MaybeTyped) → IsStmt u c (return o) → IsPassed o
   returned_typed c absent h = tt
   returned_typed c (present e) h = h.0
 

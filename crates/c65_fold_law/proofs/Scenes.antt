@@ -4,11 +4,11 @@ use Rattle.std.specs.Prelude.{⊤, Result, Ok, Err, nat_lt, not, ◌||◌, ◌&&
 use Rattle.std.proofs.lemmas.Bool.Decides.{nat_tests}
 use Rattle.c65_csem.specs.Trees.{UnitTy}
 use Rattle.c65_meaning.specs.Why.{Why, ◌>>=◌}
-use Rattle.c65_meaning.specs.Store.{Store, Value, Whole, Null, Place, Opaque, NoValue, Shape, write, carry, put_cell, byte}
+use Rattle.c65_meaning.specs.Store.{Store, Value, Whole, Null, Place, Opaque, Cells, NoValue, Shape, write, carry, put_cell, nth_cell, byte}
 use Rattle.c65_meaning.specs.Shapes.{object_in, lives_in_frame, object_block}
-use Rattle.c65_meaning.specs.Items.{Item, Carry, CarryInto, Wipe}
-use Rattle.c65_meaning.specs.State.{Frame, Scene, State, Undefined, Deep, Ended, Running, turned, soft_sum, hard_sum, block_in, name_object}
-use Rattle.c65_meaning.specs.Step.{one, two, go_on, with_scene, decided, stored, place_in, object_place, begin_object, begin_objects, end_named, end_objects, loaded, put, assigned, partly_overlap, carried, carried_byte, carry_step, copy_step, carry_into_step, set_area_step, at_offset, cleared, wipe_step, clear_step, is_deep, unless_deep, func_in, frames_below, place_in_object, has_turn}
+use Rattle.c65_meaning.specs.Items.{Item, Carry, Lay, CarryInto, Wipe}
+use Rattle.c65_meaning.specs.State.{Frame, Scene, State, Undefined, Deep, Ended, Running, turned, soft_sum, hard_sum, block_in, name_object, rest_in, name_rest}
+use Rattle.c65_meaning.specs.Step.{one, two, go_on, with_scene, decided, stored, place_in, object_place, begin_object, begin_objects, end_named, end_objects, loaded, put, assigned, partly_overlap, carried, carried_byte, carry_step, copy_step, carry_into_step, set_area_step, at_offset, cleared, wipe_step, clear_step, gathered_at, laid, lay_on, lay_step, end_of, rest_place, is_deep, unless_deep, func_in, frames_below, place_in_object, has_turn}
 use Rattle.c65_fold_law.specs.Laws.{Cheaper}
 use Rattle.c65_fold_law.specs.Programs.{folded_unit}
 use Rattle.c65_fold_law.proofs.Kept.{funcs_same}
@@ -41,7 +41,19 @@ pub name_cheaper : (fs gs : List Frame) (i b : ℕ) → Cheaper fs gs → Cheape
 name_cheaper [] [] i b h = tt
 name_cheaper [] (g ∷ gs) i b h = absurd h
 name_cheaper (f ∷ fs) [] i b h = absurd h
-name_cheaper (f ∷ fs) (g ∷ gs) i b h = (record { func = h.0.func; object = ap (λ (o : ℕ → Option ℕ). λ (j : ℕ). if j == i then Some b else o j) h.0.object; cost = h.0.cost }, h.1)
+name_cheaper (f ∷ fs) (g ∷ gs) i b h = (record { func = h.0.func; object = ap (λ (o : ℕ → Option ℕ). λ (j : ℕ). if j == i then Some b else o j) h.0.object; cost = h.0.cost; rest = h.0.rest }, h.1)
+
+pub rest_same : (fs gs : List Frame) → Cheaper fs gs → rest_in gs ≡ rest_in fs
+rest_same [] [] h = refl
+rest_same [] (g ∷ gs) h = absurd h
+rest_same (f ∷ fs) [] h = absurd h
+rest_same (f ∷ fs) (g ∷ gs) h = h.0.rest
+
+pub rest_cheaper : (fs gs : List Frame) (b : ℕ) → Cheaper fs gs → Cheaper (name_rest fs b) (name_rest gs b)
+rest_cheaper [] [] b h = tt
+rest_cheaper [] (g ∷ gs) b h = absurd h
+rest_cheaper (f ∷ fs) [] b h = absurd h
+rest_cheaper (f ∷ fs) (g ∷ gs) b h = (record { func = h.0.func; object = h.0.object; cost = h.0.cost; rest = refl }, h.1)
 
 soft_less : (fs gs : List Frame) → Cheaper fs gs → soft_sum gs ≤ soft_sum fs
 soft_less [] [] h = omega arith
@@ -141,6 +153,7 @@ module _ (u : UnitTy) where
   loaded_same shape c gs (Whole z) = refl
   loaded_same shape c gs Null = refl
   loaded_same shape c gs Opaque = refl
+  loaded_same shape c gs (Cells xs) = refl
   loaded_same shape c gs NoValue = refl
 
   pub put_scene : (first : Bool) (shape : Shape) (c : Scene) (gs : List Frame) (at v : Value) → Cheaper c.frames gs → SceneIf (put first shape c at v) (put first shape (framed gs c) at v)
@@ -149,9 +162,11 @@ module _ (u : UnitTy) where
   put_scene first shape c gs (Place b o) Null h = stored_scene (write first shape c.store b o Null) c gs h
   put_scene first shape c gs (Place b o) (Place d p) h = stored_scene (write first shape c.store b o (Place d p)) c gs h
   put_scene first shape c gs (Place b o) Opaque h = stored_scene (write first shape c.store b o Opaque) c gs h
+  put_scene first shape c gs (Place b o) (Cells xs) h = stored_scene (write first shape c.store b o (Cells xs)) c gs h
   put_scene first shape c gs (Whole z) v h = tt
   put_scene first shape c gs Null v h = tt
   put_scene first shape c gs Opaque v h = tt
+  put_scene first shape c gs (Cells xs) v h = tt
   put_scene first shape c gs NoValue v h = tt
 
   pub assigned_sim : (shape : Shape) (at : Value) (k l : List Item) (vs : List Value) (o r : Result Scene Why) → SceneIf o r → Works u k l → Sim (assigned shape at k vs o) (assigned shape at l vs r)
@@ -165,10 +180,12 @@ module _ (u : UnitTy) where
   carried_scene first done c gs (Place b o) (Whole z) h = tt
   carried_scene first done c gs (Place b o) Null h = tt
   carried_scene first done c gs (Place b o) Opaque h = tt
+  carried_scene first done c gs (Place b o) (Cells xs) h = tt
   carried_scene first done c gs (Place b o) NoValue h = tt
   carried_scene first done c gs (Whole z) to h = tt
   carried_scene first done c gs Null to h = tt
   carried_scene first done c gs Opaque to h = tt
+  carried_scene first done c gs (Cells xs) to h = tt
   carried_scene first done c gs NoValue to h = tt
 
   unless_scene : (t : Bool) (why : Why) (o r : Result Scene Why) → SceneIf o r → SceneIf (if t then Err why else o) (if t then Err why else r)
@@ -200,6 +217,7 @@ module _ (u : UnitTy) where
   cleared_scene c gs done (Whole z) h = tt
   cleared_scene c gs done Null h = tt
   cleared_scene c gs done Opaque h = tt
+  cleared_scene c gs done (Cells xs) h = tt
   cleared_scene c gs done NoValue h = tt
 
   wipe_sim : (i done size : ℕ) (k l : List Item) (vs : List Value) (x r : Result Scene Why) → SceneIf x r → Works u k l → Sim (wipe_step i done size k vs x) (wipe_step i done size l vs r)
@@ -211,6 +229,42 @@ module _ (u : UnitTy) where
 
   pub clear_sim : (i done size : ℕ) (at to : Value) (k l : List Item) (vs : List Value) (c : Scene) (gs : List Frame) → to ≡ at → Works u k l → Cheaper c.frames gs → Sim (clear_step i done size at k vs c) (clear_step i done size to l vs (framed gs c))
   clear_sim i done size at to k l vs c gs e w h = subst (λ (x : Value). Sim (clear_step i done size at k vs c) (clear_step i done size x l vs (framed gs c))) (sym e) (clear_same i done size at k l vs c gs w h)
+
+  -- ---- structures and unions that are passed and returned
+
+  pub gathered_same : (size : ℕ) (c : Scene) (gs : List Frame) (v : Value) → gathered_at size (framed gs c) v ≡ gathered_at size c v
+  gathered_same size c gs (Place b o) = refl
+  gathered_same size c gs (Whole z) = refl
+  gathered_same size c gs Null = refl
+  gathered_same size c gs Opaque = refl
+  gathered_same size c gs (Cells xs) = refl
+  gathered_same size c gs NoValue = refl
+
+  laid_scene : (done : ℕ) (c : Scene) (gs : List Frame) (at v : Value) → Cheaper c.frames gs → SceneIf (laid done c at v) (laid done (framed gs c) at v)
+  laid_scene done c gs (Place b o) (Cells xs) h = stored_scene (put_cell true c.store b (o + done) (nth_cell xs done)) c gs h
+  laid_scene done c gs (Place b o) (Whole z) h = tt
+  laid_scene done c gs (Place b o) Null h = tt
+  laid_scene done c gs (Place b o) (Place d p) h = tt
+  laid_scene done c gs (Place b o) Opaque h = tt
+  laid_scene done c gs (Place b o) NoValue h = tt
+  laid_scene done c gs (Whole z) v h = tt
+  laid_scene done c gs Null v h = tt
+  laid_scene done c gs Opaque v h = tt
+  laid_scene done c gs (Cells xs) v h = tt
+  laid_scene done c gs NoValue v h = tt
+
+  lay_on_sim : (i done size : ℕ) (v at : Value) (k l : List Item) (vs : List Value) (x r : Result Scene Why) → SceneIf x r → Works u k l → Sim (lay_on i done size v at k vs x) (lay_on i done size v at l vs r)
+  lay_on_sim i done size v at k l vs (Err why) r h w = tt
+  lay_on_sim i done size v at k l vs (Ok d) r h w = subst (λ (x : Result Scene Why). Sim (lay_on i done size v at k vs (Ok d)) (lay_on i done size v at l vs x)) (sym h.is) (if_sim (nat_lt (suc done) size) _ _ _ _ (runs _ _ (v ∷ vs) d h.frames (item u (Lay i (suc done) size) k l tt w) h.cheaper) (runs k l (at ∷ vs) d h.frames w h.cheaper))
+
+  lay_same : (i done size : ℕ) (v at : Value) (k l : List Item) (vs : List Value) (c : Scene) (gs : List Frame) → Works u k l → Cheaper c.frames gs → Sim (lay_step i done size v at k vs c) (lay_step i done size v at l vs (framed gs c))
+  lay_same i done size v at k l vs c gs w h = if_sim (nat_lt done size) _ _ _ _ (lay_on_sim i done size v at k l vs _ _ (laid_scene done c gs at v h) w) (runs k l (at ∷ vs) c gs w h)
+
+  pub lay_sim : (i done size : ℕ) (v at to : Value) (k l : List Item) (vs : List Value) (c : Scene) (gs : List Frame) → to ≡ at → Works u k l → Cheaper c.frames gs → Sim (lay_step i done size v at k vs c) (lay_step i done size v to l vs (framed gs c))
+  lay_sim i done size v at to k l vs c gs e w h = subst (λ (x : Value). Sim (lay_step i done size v at k vs c) (lay_step i done size v x l vs (framed gs c))) (sym e) (lay_same i done size v at k l vs c gs w h)
+
+  pub rest_place_same : (c : Scene) (gs : List Frame) → Cheaper c.frames gs → rest_place (framed gs c) ≡ rest_place c
+  rest_place_same c gs h = ap (end_of c.store) (rest_same c.frames gs h)
 
   -- ---- objects
 
@@ -241,6 +295,9 @@ module _ (u : UnitTy) where
   end_one : (o : Option ℕ) (c : Scene) (gs : List Frame) → Cheaper c.frames gs → Now (end_named o c) (end_named o (framed gs c))
   end_one None c gs h = record { frames = gs; cheaper = h; is = refl }
   end_one (Some b) c gs h = record { frames = gs; cheaper = h; is = refl }
+
+  pub end_at : (o : Option ℕ) (d e : Scene) → Now d e → Now (end_named o d) (end_named o e)
+  end_at o d e n = subst (λ (x : Scene). Now (end_named o d) (end_named o x)) (sym n.is) (end_one o d n.frames n.cheaper)
 
   pub ends : (objects : List ℕ) (c : Scene) (gs : List Frame) → Cheaper c.frames gs → Now (end_objects objects c) (end_objects objects (framed gs c))
   ends [] c gs h = record { frames = gs; cheaper = h; is = refl }

@@ -146,9 +146,9 @@ module _ (u : UnitTy) where
   started_sim free f args input g None typed = tt
   started_sim free f args input g (Some body) typed =
       let c = first_scene u free g.params args input in
-      subst (λ (d : Scene). Sim u (started u free f args input g (Some body)) (entered v f (folded_func g) (folded_stmt body) (soft_cost v (bytes_of_objects v g.params) (folded_stmt body) + arguments_bytes args) (main_values v args g.params) [] [] d)) (sym (scene_same free g.params args input))
-      (subst (λ (vs : List Value). Sim u (started u free f args input g (Some body)) (entered v f (folded_func g) (folded_stmt body) (soft_cost v (bytes_of_objects v g.params) (folded_stmt body) + arguments_bytes args) vs [] [] c)) (sym (values_same args g.params))
-      (entered_sim u f g body typed (soft_cost u (bytes_of_objects u g.params) body + arguments_bytes args) (soft_cost v (bytes_of_objects v g.params) (folded_stmt body) + arguments_bytes args) (main_cost g.params body args) (main_values u args g.params) [] [] [] c [] nothing tt))
+      subst (λ (d : Scene). Sim u (started u free f args input g (Some body)) (entered v f (folded_func g) (folded_stmt body) (soft_cost v (bytes_of_objects v g.params) (folded_stmt body) + arguments_bytes args) [] (main_values v args g.params) [] [] d)) (sym (scene_same free g.params args input))
+      (subst (λ (vs : List Value). Sim u (started u free f args input g (Some body)) (entered v f (folded_func g) (folded_stmt body) (soft_cost v (bytes_of_objects v g.params) (folded_stmt body) + arguments_bytes args) [] vs [] [] c)) (sym (values_same args g.params))
+      (entered_sim u f g body typed (soft_cost u (bytes_of_objects u g.params) body + arguments_bytes args) (soft_cost v (bytes_of_objects v g.params) (folded_stmt body) + arguments_bytes args) (main_cost g.params body args) [] (main_values u args g.params) [] [] [] c [] nothing tt))
 
   started_by_sim : (free : Bool) (f : ℕ) (args : List (List ℕ)) (input : List ℕ) (o : Option FuncTy) → TypedFunc u o → Sim u (started_by u free f args input o) (started_by v free f args input (option_map folded_func o))
   started_by_sim free f args input None typed = tt

@@ -5,9 +5,9 @@ use Rattle.c65_csem.specs.Trees.{Stmt, MaybeTyped, absent, present, UnitTy}
 use Rattle.c65_csem.specs.Statements.{IsMaybe}
 use Rattle.c65_meaning.specs.Program.{ProgramTy}
 use Rattle.c65_meaning.specs.Why.{Why, ◌>>=◌}
-use Rattle.c65_meaning.specs.Store.{Value, Whole, Null, Place, Opaque, NoValue, Shape}
+use Rattle.c65_meaning.specs.Store.{Value, Whole, Null, Place, Opaque, Cells, NoValue, Shape}
 use Rattle.c65_meaning.specs.Operators.{is_post, truth_of, converted}
-use Rattle.c65_meaning.specs.Items.{Item, Loop, Push, Name, Follow, Move, Fetch, Keep, Change, Apply1, Apply2, Both, Either, Truth, Choose, Drop, Put, Peek, Bump, PutUnder, Carry, Invoke, Busy, Skip, Init, CarryInto, Wipe, Begin, End, Branch, Test, Pass, Enter, Next, Back, Check, Redo, Select, EndSwitch, Jump, LeaveLoop, GoOn, Give, GiveNothing, Leave, plan_stmt}
+use Rattle.c65_meaning.specs.Items.{Item, Loop, Push, Name, Follow, Move, Fetch, Keep, Change, Apply1, Apply2, Both, Either, Truth, Choose, Drop, Put, Peek, Bump, PutUnder, Carry, Gather, Lay, Reach, Invoke, Busy, Skip, Init, CarryInto, Wipe, Begin, End, Branch, Test, Pass, Enter, Next, Back, Check, Redo, Select, EndSwitch, Jump, LeaveLoop, GoOn, Give, GiveNothing, Leave, plan_stmt}
 use Rattle.c65_meaning.specs.After.{ToCase, ToDefault}
 use Rattle.c65_meaning.specs.State.{Frame, Scene, Running, turned}
 use Rattle.c65_meaning.specs.Step.{put, is_value, under, taken, place_in_object, after_body, last_test, chosen_case, at_the_end, perform, left_call}
@@ -15,7 +15,7 @@ use Rattle.c65_fold_law.specs.Laws.{Cheaper}
 use Rattle.c65_fold_law.specs.Programs.{folded_if, folded_stmt, folded_unit, folded_program}
 use Rattle.c65_fold_law.proofs.Marks.{folded_loop, folded_item, TypedStmt, TypedLoop, TypedItem, Works, item, plan_works, head_works, stmt_works, stmts_work}
 use Rattle.c65_fold_law.proofs.Jumps.{call_left, break_left, continue_left, or_else_land, after_land}
-use Rattle.c65_fold_law.proofs.Scenes.{framed, func_in_same, Sim, SceneIf, runs, one_sim, two_sim, go_on_sim, if_sim, decided_sim, with_scene_sim, loaded_same, put_scene, assigned_sim, copy_sim, set_area_sim, clear_sim, object_same, place_in_same, Now, begins, ends, goes}
+use Rattle.c65_fold_law.proofs.Scenes.{framed, func_in_same, Sim, SceneIf, runs, one_sim, two_sim, go_on_sim, if_sim, decided_sim, with_scene_sim, loaded_same, put_scene, assigned_sim, copy_sim, gathered_same, lay_sim, rest_place_same, set_area_sim, clear_sim, object_same, place_in_same, Now, begins, ends, goes}
 use Rattle.c65_fold_law.proofs.Calls.{TypedFuncs, left_call_sim, returned_sim, left_for_sim, jumped_sim, switched_sim, library_sim, invoked_sim}
 
 module _ (u : UnitTy) where
@@ -42,6 +42,7 @@ module _ (u : UnitTy) where
   case_sim n body t k l vs c gs Null w h = tt
   case_sim n body t k l vs c gs (Place b o) w h = tt
   case_sim n body t k l vs c gs Opaque w h = tt
+  case_sim n body t k l vs c gs (Cells xs) w h = tt
   case_sim n body t k l vs c gs NoValue w h = tt
 
 module _ (p : ProgramTy) (typed : TypedFuncs p.unit) where
@@ -71,6 +72,9 @@ module _ (p : ProgramTy) (typed : TypedFuncs p.unit) where
   perform_sim (Bump kind shape) t k l w vs c gs h = two_sim p.unit vs _ _ (λ v at r. go_on_sim p.unit _ _ k l (at ∷ under (is_post kind) v r) c gs refl w h)
   perform_sim (PutUnder shape) t k l w vs c gs h = two_sim p.unit vs _ _ (λ v at r. with_scene_sim p.unit _ _ k l r (put_scene p.unit false shape c gs at v h) w)
   perform_sim (Carry done size) t k l w vs c gs h = two_sim p.unit vs _ _ (λ from to r. copy_sim p.unit done size from to k l r c gs w h)
+  perform_sim (Gather size) t k l w vs c gs h = one_sim p.unit vs _ _ (λ v r. go_on_sim p.unit _ _ k l r c gs (gathered_same p.unit size c gs v) w h)
+  perform_sim (Lay i done size) t k l w vs c gs h = one_sim p.unit vs _ _ (λ v r. lay_sim p.unit i done size v _ _ k l r c gs (place_in_same p.unit i 0 c gs h) w h)
+  perform_sim Reach t k l w vs c gs h = go_on_sim p.unit _ _ k l vs c gs (rest_place_same p.unit c gs h) w h
   perform_sim (Invoke callee types) t k l w vs c gs h = invoked_sim p.unit typed callee types k l (taken types [] vs) c gs w h
   perform_sim (Busy left f args) t k l w vs c gs h = library_sim p.unit left f args k l vs c gs w h
   perform_sim Skip t k l w vs c gs h = runs p.unit k l vs c gs w h

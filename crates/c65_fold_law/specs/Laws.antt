@@ -41,11 +41,12 @@ ConstantsSettle = (p : ProgramTy) (e : Typed) (t : QTy) (z : ℤ)
     → (k : List Item) (values : List Value) (c : Scene)
     → Leads p c (Running (plan p.unit e k) values c) (Running k (Whole z ∷ values) c)
 
--- the same active call, at no greater cost on the software stack
+-- the same active call, with the same blocks, at no greater cost on the software stack
 pub record IsCheaper (f g : Frame) : Type 0 where
   pub func : g.func ≡ f.func
   pub object : g.object ≡ f.object
   pub cost : g.cost ≤ f.cost
+  pub rest : g.rest ≡ f.rest
 
 abbrev pub Cheaper : List Frame → List Frame → Type 0
 Cheaper [] [] = ⊤

@@ -1,5 +1,5 @@
 -- What calls and the library leave of output, turns and names of blocks.
-use Rattle.std.proofs.Common.{arith, ◌≡◌, ℕ, zero, suc, ◌*◌, refl, sym, length, List, [], ◌∷◌, ◌++◌, append-nil, ℤ, pos, negsuc, Bool, true, ◌∙◌}
+use Rattle.std.proofs.Common.{arith, ◌≡◌, ℕ, zero, suc, ◌*◌, refl, sym, length, List, [], ◌∷◌, ◌++◌, append-nil, ℤ, pos, negsuc, Bool, true, false, ◌∙◌}
 use Rattle.std.specs.Prelude.{Result, Ok, Err, Option, Some, None, ⊤, slice_get, not, ◌&&◌}
 use Rattle.c65_ints.specs.Ranges.{residue}
 use Rattle.c65_ctype.specs.Trees.{Ty}

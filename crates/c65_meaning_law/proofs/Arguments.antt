@@ -10,12 +10,12 @@ use Rattle.c65_csem.specs.Library.{library_params}
 use Rattle.c65_csem.specs.Trees.{UnitTy}
 use Rattle.c65_csem.specs.Places.{plain}
 use Rattle.c65_csem.specs.Units.{AreParams}
-use Rattle.c65_meaning.specs.Store.{Store, Value, Whole, Null, Place, Opaque, NoValue}
+use Rattle.c65_meaning.specs.Store.{Store, Value, Whole, Null, Place, Opaque, Cells, NoValue}
 use Rattle.c65_meaning.specs.Calls.{fit, fit_objects, promoted, parameter_type}
 use Rattle.c65_meaning.specs.Shapes.{object_in}
 use Rattle.c65_meaning.specs.Step.{taken}
 use Rattle.c65_meaning_law.specs.Library.{IsNumber, IsCount, IsPointing, AreArguments}
-use Rattle.c65_meaning_law.proofs.Stacks.{Kind, arithmetic, pointing, kind_at, kind_given, Suits, AreSuited, pushed}
+use Rattle.c65_meaning_law.proofs.Stacks.{Kind, arithmetic, pointing, kind_passed, kind_given, Suits, AreSuited, pushed}
 use Rattle.c65_meaning_law.proofs.Plans.{plain_type}
 use Rattle.c65_meaning_law.proofs.Statements.{sign_same}
 
@@ -29,11 +29,11 @@ some_then : {A B : Type 0} (f : A → Option B) (m : Option A) → IsSome (optio
 some_then f None h = h
 some_then f (Some x) h = refl
 
-meet_kind : (ps : Pairs) (t u : Ty) → IsSome (meet ps t u) → kind_at t ≡ kind_at u
+meet_kind : (ps : Pairs) (t u : Ty) → IsSome (meet ps t u) → kind_passed t ≡ kind_passed u
 meet_kind ps void void h = refl
 meet_kind ps (int s) (int t) h = tested (same_int s t) refl h
   where
-    tested : (b : Bool) → same_int s t ≡ b → IsSome (if b then Some ps else None) → kind_at (int s) ≡ kind_at (int t)
+    tested : (b : Bool) → same_int s t ≡ b → IsSome (if b then Some ps else None) → kind_passed (int s) ≡ kind_passed (int t)
     tested true e h = ap arithmetic (sign_same s t e)
     tested false e h = absurd (cc)
 meet_kind ps (pointer q) (pointer r) h = refl
@@ -53,13 +53,13 @@ module _ (types : TypesTy) where
   compatible_meet : (a b : QTy) → are_compatible types a b ≡ true → IsSome (meet [] (type_in a) (type_in b))
   compatible_meet a b h = qualified_some [] a b (each_some (agrees types (2 ^ 64)) (qualified_meet [] a b) h)
 
-  compatible_kind : (t u : Ty) → are_compatible types (plain t) (plain u) ≡ true → kind_at t ≡ kind_at u
+  compatible_kind : (t u : Ty) → are_compatible types (plain t) (plain u) ≡ true → kind_passed t ≡ kind_passed u
   compatible_kind t u h = meet_kind [] t u (compatible_meet (plain t) (plain u) h)
 
   functions_kind : (f g : Fn) → IsSome (functions_meet [] f g) → kind_given f ≡ kind_given g
   functions_kind (fn q xs va cd) (fn r ys vb ce) h =
       let m = some_then (λ given. params_meet given xs va ys vb) (qualified_meet [] q r) (some_if (same_bool cd ce) (option_and_then (λ given. params_meet given xs va ys vb) (qualified_meet [] q r)) h) in
-      ap kind_at (plain_type q) ∙ meet_kind [] (type_in q) (type_in r) (qualified_some [] q r m) ∙ sym (ap kind_at (plain_type r))
+      ap kind_passed (plain_type q) ∙ meet_kind [] (type_in q) (type_in r) (qualified_some [] q r m) ∙ sym (ap kind_passed (plain_type r))
 
   pub callee_kind : (f g : Fn) → are_compatible types (plain (function f)) (plain (function g)) ≡ true → kind_given f ≡ kind_given g
   callee_kind f g h = functions_kind f g (compatible_meet (plain (function f)) (plain (function g)) h)
@@ -69,7 +69,7 @@ module _ (types : TypesTy) where
 module _ (D : ℕ → Type 0) where
   abbrev pub AllSuited : List Ty → List Value → Type 0
   AllSuited [] [] = ⊤
-  AllSuited (t ∷ ts) (v ∷ vs) = Suits D (kind_at t) v × AllSuited ts vs
+  AllSuited (t ∷ ts) (v ∷ vs) = Suits D (kind_passed t) v × AllSuited ts vs
   AllSuited _ _ = ⊥
 
   -- where they are taken from the values that wait
@@ -93,9 +93,9 @@ module _ (D : ℕ → Type 0) where
 
   pub are_taken : (ts : List Ty) (ks : List Kind) (vs : List Value) → AreSuited D (pushed ts ks) vs → AreTaken ts ks vs
   are_taken [] ks vs a = record { args = []; rest = vs; is = refl; suited = tt; below = a }
-  are_taken (t ∷ ts) ks vs a = let h = are_taken ts (kind_at t ∷ ks) vs a in one h h.rest refl h.below
+  are_taken (t ∷ ts) ks vs a = let h = are_taken ts (kind_passed t ∷ ks) vs a in one h h.rest refl h.below
     where
-      one : (h : AreTaken ts (kind_at t ∷ ks) vs) (rest : List Value) → h.rest ≡ rest → AreSuited D (kind_at t ∷ ks) rest → AreTaken (t ∷ ts) ks vs
+      one : (h : AreTaken ts (kind_passed t ∷ ks) vs) (rest : List Value) → h.rest ≡ rest → AreSuited D (kind_passed t ∷ ks) rest → AreTaken (t ∷ ts) ks vs
       one h [] e b = absurd b
       one h (v ∷ rest) e b = record { args = v ∷ h.args; rest = rest; is = last_taken t ts [] vs ∙ ap with_one (h.is ∙ ap (λ (r : List Value). Some (h.args, r)) e); suited = (b.0, h.suited); below = b.1 }
 
@@ -112,7 +112,7 @@ module _ (D : ℕ → Type 0) where
   fit_enough u ts v (more q ps) [] vs f p a = absurd p
   fit_enough u [] v (more q ps) (i ∷ is) vs f p a = absurd (cc)
   fit_enough u (t ∷ ts) v (more q ps) (i ∷ is) [] f p a = absurd a
-  fit_enough u (t ∷ ts) v (more q ps) (i ∷ is) (w ∷ vs) f p a = fit_enough u ts v ps is vs (and_parts (are_compatible u.types (plain t) (plain (type_in q))) (fit u.types ts v ps) f).1 p.3 a.1
+  fit_enough u (t ∷ ts) v (more q ps) (i ∷ is) (w ∷ vs) f p a = fit_enough u ts v ps is vs (and_parts (are_compatible u.types (plain t) (plain (type_in q))) (fit u.types ts v ps) f).1 p.4 a.1
 
   pub objects_enough : (u : UnitTy) (ts : List Ty) (is : List ℕ) (vs : List Value) → fit_objects u ts is ≡ true → AllSuited ts vs → Enough is vs
   objects_enough u ts [] vs f a = tt
@@ -122,7 +122,7 @@ module _ (D : ℕ → Type 0) where
 
   abbrev SuitedBy : QTys → List Value → Type 0
   SuitedBy end [] = ⊤
-  SuitedBy (more q ps) (v ∷ vs) = Suits D (kind_at (type_in q)) v × SuitedBy ps vs
+  SuitedBy (more q ps) (v ∷ vs) = Suits D (kind_passed (type_in q)) v × SuitedBy ps vs
   SuitedBy _ _ = ⊥
 
   fit_by : (types : TypesTy) (ts : List Ty) (ps : QTys) (vs : List Value) → fit types ts false ps ≡ true → AllSuited ts vs → SuitedBy ps vs
@@ -146,6 +146,7 @@ module _ (s : Store) where
   is_number Opaque h = tt
   is_number NoValue h = tt
   is_number Null h = absurd h
+  is_number (Cells xs) h = absurd h
   is_number (Place b o) h = absurd h
 
   is_count : (v : Value) → Suits E (arithmetic false) v → IsCount v
@@ -154,6 +155,7 @@ module _ (s : Store) where
   is_count Opaque h = tt
   is_count NoValue h = tt
   is_count Null h = absurd h
+  is_count (Cells xs) h = absurd h
   is_count (Place b o) h = absurd h
 
   points : (v : Value) → Suits E pointing v → IsPointing s v
@@ -162,6 +164,7 @@ module _ (s : Store) where
   points Opaque h = tt
   points NoValue h = tt
   points (Whole z) h = absurd h
+  points (Cells xs) h = absurd h
 
   arguments_by : (c : Bool) (l : Library) (vs : List Value) → SuitedBy E (library_params c l) vs → AreArguments s l vs
   arguments_by c the.Putchar (v ∷ []) h = is_number v h.0

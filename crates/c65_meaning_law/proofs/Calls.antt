@@ -7,7 +7,7 @@ use Rattle.c65_meaning.specs.Store.{Value}
 use Rattle.c65_meaning.specs.Items.{Item}
 use Rattle.c65_meaning.specs.State.{Frame, Scene, State, Undefined, Running}
 use Rattle.c65_meaning.specs.Step.{func_in, frames_below}
-use Rattle.c65_csem_names.specs.Scopes.{IsScoped, entering}
+use Rattle.c65_csem_names.specs.Scopes.{is_variadic, IsScoped, entering}
 use Rattle.c65_meaning_law.specs.Statements.{IsReady}
 use Rattle.c65_meaning_law.proofs.Stacks.{arithmetic, kind_given, Gives, Call, inside, Takes, IsRunning}
 
@@ -21,8 +21,8 @@ module _ (u : UnitTy) (c : Scene) where
     pub func : slice_get u.funcs (func_in fs) ≡ Some call.func
     pub body : call.func.body ≡ Some call.code
     pub typed : IsBody u call.func call.code
-    pub scoped : IsScoped u (entering call.func.params []) call.code
-    pub ready : IsReady u (entering call.func.params []) (with_frames c fs)
+    pub scoped : IsScoped u (is_variadic call.func.ty) (entering call.func.params []) call.code
+    pub ready : IsReady u (is_variadic call.func.ty) (entering call.func.params []) (with_frames c fs)
 
   -- Below a call wait the calls of the other frames: each goes on behind the end of the one above it with what that one gives. The last one is
   -- of `main`, which gives a number.

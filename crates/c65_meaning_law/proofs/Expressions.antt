@@ -4,7 +4,7 @@ use Rattle.std.specs.Prelude.{IsTrue, if◌then◌else◌}
 use Rattle.c65_meaning.specs.Program.{ProgramTy}
 use Rattle.c65_meaning.specs.Why.{By, Unfit}
 use Rattle.c65_meaning.specs.Store.{Cell, Bits, Piece, Clouded, Block, Store, Value}
-use Rattle.c65_meaning.specs.Items.{Item, Push, Name, Follow, Move, Fetch, Keep, Change, Apply1, Apply2, Both, Either, Truth, Choose, Drop, Put, Peek, Bump, PutUnder, Carry, Invoke, Leave, plan}
+use Rattle.c65_meaning.specs.Items.{Item, Push, Name, Follow, Move, Fetch, Keep, Change, Apply1, Apply2, Both, Either, Truth, Choose, Drop, Put, Peek, Bump, PutUnder, Carry, Gather, Lay, Reach, Invoke, Leave, plan}
 use Rattle.c65_meaning.specs.State.{Scene, State, Undefined, Deep, Ended, Running}
 use Rattle.c65_meaning.specs.Step.{step}
 use Rattle.c65_meaning_law.specs.Laws.{IsClosed, IsFit, stops, steps_here, ExpressionsFit}
@@ -51,6 +51,9 @@ module _ (p : ProgramTy) (c : Scene) where
   of_expression (Bump kind g) f q ks vs k d e t = refl
   of_expression (PutUnder g) f q ks vs k d e t = refl
   of_expression (Carry done size) f q ks vs k d e t = refl
+  of_expression (Gather size) f q ks vs k d e t = refl
+  of_expression (Lay i done size) f q ks vs k d e t = refl
+  of_expression Reach f q ks vs k d e t = refl
   of_expression (Invoke callee types) f q ks vs k d e t = absurd (cc)
   of_expression Leave f q ks vs k d e t = absurd t
   of_expression _ f q ks vs k d e t = absurd t.0

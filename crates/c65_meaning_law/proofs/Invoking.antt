@@ -17,20 +17,20 @@ use Rattle.c65_csem.specs.Units.{IsFunc, HasBody, IsBody, MatchParams, IsLinked,
 use Rattle.c65_meaning.specs.Program.{ProgramTy}
 use Rattle.c65_meaning.specs.declared.action.Action.TheVariants.{CalleeType, NoResult, FixedAgain}
 use Rattle.c65_meaning.specs.Why.{Why, By, Unfit}
-use Rattle.c65_meaning.specs.Store.{Value, Whole, Null, Place, Opaque, NoValue}
+use Rattle.c65_meaning.specs.Store.{Cell, Bits, Piece, Clouded, Value, Whole, Null, Place, Opaque, Cells, NoValue, nth_cell}
 use Rattle.c65_meaning.specs.Shapes.{object_in, lives_in_frame, literal_block, object_block}
 use Rattle.c65_meaning.specs.Items.{Item, Invoke, Leave, plan_stmt}
 use Rattle.c65_meaning.specs.Costs.{argument_bytes, soft_cost, has_fixed}
 use Rattle.c65_meaning.specs.Calls.{passed_to, fit_definition, accepts}
 use Rattle.c65_meaning.specs.Library.{effect_of}
 use Rattle.c65_meaning.specs.State.{Frame, Scene, State, Deep, Running, turned, block_in, Undefined}
-use Rattle.c65_meaning.specs.Step.{place_in, are_values, is_deep, unless_deep, new_frame, with_params, entered, called, unless_refused, accepted, call_of, invoked, served, func_in, frames_below, perform, is_active}
-use Rattle.c65_csem_names.specs.Scopes.{IsInScope, IsScoped, IsScopedBody, HasScopedBody, entering}
+use Rattle.c65_meaning.specs.Step.{place_in, are_values, is_deep, unless_deep, new_frame, with_passed, entered, called, unless_refused, accepted, call_of, invoked, served, func_in, frames_below, perform, is_active}
+use Rattle.c65_csem_names.specs.Scopes.{is_variadic, IsInScope, IsScoped, IsScopedBody, HasScopedBody, entering}
 use Rattle.c65_csem_names.specs.Library.{IsTypedAs, HasLibraryType}
 use Rattle.c65_csem_names.specs.Programs.{IsScopedProgram}
 use Rattle.c65_meaning_law.specs.Laws.{HasBlock}
 use Rattle.c65_meaning_law.specs.Statements.{HasFrame, IsReady}
-use Rattle.c65_meaning_law.proofs.Stacks.{Kind, pointing, kind_at, kind_given, kind_from, Below, Gives, Sound, Stands, Suits, AreSuited, Call, inside, IsCallee, Exit, breaking, continuing, returning, Allows, D, Takes, Out, IsScene}
+use Rattle.c65_meaning_law.proofs.Stacks.{Kind, pointing, kind_passed, kind_given, kind_from, Below, Gives, Sound, Stands, Suits, AreSuited, CellFits, Call, inside, IsCallee, Exit, breaking, continuing, returning, Allows, D, Takes, Out, IsScene}
 use Rattle.c65_meaning_law.proofs.Values.{stands}
 use Rattle.c65_meaning_law.proofs.Scopes.{Grows, ready_stays, IsBegun}
 use Rattle.c65_meaning_law.proofs.Statements.{suits_on, suited_on, takes_on, stmt_takes}
@@ -39,7 +39,7 @@ use Rattle.c65_meaning_law.proofs.Calls.{with_frames, IsCall, AreWaiting, IsWell
 use Rattle.c65_meaning_law.proofs.Returns.{grown_with, call_on, waiting_on, at_later}
 use Rattle.c65_meaning_law.proofs.LibraryCalls.{served_well}
 use Rattle.c65_meaning_law.proofs.Arguments.{callee_kind, AllSuited, are_taken, Enough, fit_enough, objects_enough, library_arguments}
-use Rattle.c65_meaning_law.proofs.Entering.{AllStand, automatic_params, params_begin}
+use Rattle.c65_meaning_law.proofs.Entering.{AllStand, automatic_params, passed_begin}
 
 pub all_at : {A : Type 0} (P : A → Type 0) (xs : List A) (i : ℕ) (x : A) → All P xs → slice_get xs i ≡ Some x → P x
 all_at P xs i x h e = subst P (get_or_from_slice_get xs i x x e) (All-get_or P xs i x (slice_get_within xs i x e) h)
@@ -65,8 +65,8 @@ outside_same p true m n i r h e = absurd (h refl)
 outside_same p false m n i r h e = e
 
 -- with no object in scope, what has a block has one in any call
-pub ready_outside : (p : ProgramTy) (scope : List ℕ) (c d : Scene) (f : Frame) (fs : List Frame) → d.frames ≡ f ∷ fs → ((b : ℕ) → D p.unit c b → D p.unit d b) → IsReady p.unit scope c → IsReady p.unit [] d
-ready_outside p scope c d f fs e g r = record { active = subst HasFrame (sym e) tt; objects = objects; literals = λ l m. g (literal_block p.unit l) (r.literals l m); funcs = λ n m. g n (r.funcs n m) }
+pub ready_outside : (p : ProgramTy) (variadic : Bool) (scope : List ℕ) (c d : Scene) (f : Frame) (fs : List Frame) → d.frames ≡ f ∷ fs → ((b : ℕ) → D p.unit c b → D p.unit d b) → IsReady p.unit variadic scope c → IsReady p.unit false [] d
+ready_outside p variadic scope c d f fs e g r = record { active = subst HasFrame (sym e) tt; objects = objects; literals = λ l m. g (literal_block p.unit l) (r.literals l m); funcs = λ n m. g n (r.funcs n m); rest = λ l. absurd (no_truth l) }
   where
     no_truth : IsTrue false → ⊥
     no_truth l = absurd (cc)
@@ -80,11 +80,11 @@ module _ (p : ProgramTy) (w : IsProgram p.unit p.main) (s : IsScopedProgram p.un
   pub body_typed : (f : ℕ) (g : FuncTy) (body : Stmt) → slice_get p.unit.funcs f ≡ Some g → g.body ≡ Some body → IsBody p.unit g body
   body_typed f g body e b = subst (HasBody p.unit g) b (all_at (IsFunc p.unit) p.unit.funcs f g w.unit.funcs e).body
 
-  pub body_scoped : (f : ℕ) (g : FuncTy) (body : Stmt) → slice_get p.unit.funcs f ≡ Some g → g.body ≡ Some body → IsScoped p.unit (entering g.params []) body
-  body_scoped f g body e b = subst (IsScopedBody p.unit g.params) b (all_at (HasScopedBody p.unit) p.unit.funcs f g s.bodies e)
+  pub body_scoped : (f : ℕ) (g : FuncTy) (body : Stmt) → slice_get p.unit.funcs f ≡ Some g → g.body ≡ Some body → IsScoped p.unit (is_variadic g.ty) (entering g.params []) body
+  body_scoped f g body e b = subst (IsScopedBody p.unit (is_variadic g.ty) g.params) b (all_at (HasScopedBody p.unit) p.unit.funcs f g s.bodies e)
 
   -- the work of a body whose parameters have begun
-  pub body_runs : (f : ℕ) (g : FuncTy) (body : Stmt) (k : List Item) (ks : List Kind) (vs : List Value) (d e : Scene) → slice_get p.unit.funcs f ≡ Some g → g.body ≡ Some body → func_in d.frames ≡ f → IsBegun p.unit (entering g.params []) d e → AreSuited (D p.unit e) ks vs → AreWaiting p.unit e (frames_below d.frames) (record { func = g; code = body; base = ks; behind = k }) → IsWell p.unit (Running (plan_stmt p.unit 0 body (Leave ∷ k)) vs e)
+  pub body_runs : (f : ℕ) (g : FuncTy) (body : Stmt) (k : List Item) (ks : List Kind) (vs : List Value) (d e : Scene) → slice_get p.unit.funcs f ≡ Some g → g.body ≡ Some body → func_in d.frames ≡ f → IsBegun p.unit (is_variadic g.ty) (entering g.params []) d e → AreSuited (D p.unit e) ks vs → AreWaiting p.unit e (frames_below d.frames) (record { func = g; code = body; base = ks; behind = k }) → IsWell p.unit (Running (plan_stmt p.unit 0 body (Leave ∷ k)) vs e)
   body_runs f g body k ks vs d e i j n b a h =
       let call : Call = record { func = g; code = body; base = ks; behind = k } in
       let typed = body_typed f g body i j in
@@ -92,10 +92,10 @@ module _ (p : ProgramTy) (w : IsProgram p.unit p.main) (s : IsScopedProgram p.un
       record {
         scene = e;
         call = call;
-        active = record { func = ap (λ (m : ℕ). slice_get p.unit.funcs m) (b.grows.func ∙ n) ∙ i; body = j; typed = typed; scoped = scoped; ready = ready_stays p.unit e (with_frames e e.frames) (own_frames e) (entering g.params []) b.ready };
+        active = record { func = ap (λ (m : ℕ). slice_get p.unit.funcs m) (b.grows.func ∙ n) ∙ i; body = j; typed = typed; scoped = scoped; ready = ready_stays p.unit e (with_frames e e.frames) (own_frames e) (is_variadic g.ty) (entering g.params []) b.ready };
         running = record {
           kinds = ks;
-          takes = stmt_takes (inside call) tt p.unit e (entering g.params []) b.ready (context_of g body) 0 body (Leave ∷ k) ks (refl, refl) typed.typed scoped (refl, refl) (λ y l. subst (λ (x : Exit). Out (inside call) p.unit e (Leave ∷ k) x ks) (sym (begins_outside g body y l)) (refl, refl));
+          takes = stmt_takes (inside call) tt p.unit e (is_variadic g.ty) (entering g.params []) b.ready (context_of g body) 0 body (Leave ∷ k) ks (refl, refl) typed.typed scoped (refl, refl) (λ y l. subst (λ (x : Exit). Out (inside call) p.unit e (Leave ∷ k) x ks) (sym (begins_outside g body y l)) (refl, refl));
           suited = a;
           scene = stands_here (inside call) tt p e b.store;
         };
@@ -103,9 +103,9 @@ module _ (p : ProgramTy) (w : IsProgram p.unit p.main) (s : IsScopedProgram p.un
       }
     where
       own_frames : (c : Scene) → Grows p.unit c (with_frames c c.frames)
-      own_frames c = record { blocks = λ x y. y; objects = λ x y. y; active = λ x. x; func = refl; below = refl }
+      own_frames c = record { blocks = λ x y. y; objects = λ x y. y; rest = λ y. y; active = λ x. x; func = refl; below = refl }
 
-  pub body_enters : (f : ℕ) (g : FuncTy) (body : Stmt) (k : List Item) (ks : List Kind) (vs : List Value) (d : Scene) (r : Result Scene Why) → slice_get p.unit.funcs f ≡ Some g → g.body ≡ Some body → func_in d.frames ≡ f → Sound (IsBegun p.unit (entering g.params []) d) r → ((e : Scene) → Grows p.unit d e → AreSuited (D p.unit e) ks vs × AreWaiting p.unit e (frames_below d.frames) (record { func = g; code = body; base = ks; behind = k })) → IsWell p.unit (unless_deep (plan_stmt p.unit 0 body (Leave ∷ k)) vs r)
+  pub body_enters : (f : ℕ) (g : FuncTy) (body : Stmt) (k : List Item) (ks : List Kind) (vs : List Value) (d : Scene) (r : Result Scene Why) → slice_get p.unit.funcs f ≡ Some g → g.body ≡ Some body → func_in d.frames ≡ f → Sound (IsBegun p.unit (is_variadic g.ty) (entering g.params []) d) r → ((e : Scene) → Grows p.unit d e → AreSuited (D p.unit e) ks vs × AreWaiting p.unit e (frames_below d.frames) (record { func = g; code = body; base = ks; behind = k })) → IsWell p.unit (unless_deep (plan_stmt p.unit 0 body (Leave ∷ k)) vs r)
   body_enters f g body k ks vs d (Ok e) i j n b h =
       let more = h e b.grows in
       well_if p (not e.free && is_deep e.frames) Deep (Running (plan_stmt p.unit 0 body (Leave ∷ k)) vs e) tt (body_runs f g body k ks vs d e i j n b more.0 more.1)
@@ -123,19 +123,19 @@ module _ (p : ProgramTy) (w : IsProgram p.unit p.main) (s : IsScopedProgram p.un
     waits e new g (f ∷ fs) h a t = (call, call_on p c e (f ∷ fs) (f ∷ fs) call (grown_with p c e (f ∷ fs) g) h, (t.0, t.1, takes_on (inside call) p.unit (with_frames c (f ∷ fs)) (with_frames e (f ∷ fs)) (grown_with p c e (f ∷ fs) g) new.behind (t.0 ∷ new.base) t.2), waiting_on p c e g fs call a)
 
     own : Grows p.unit c (with_frames c c.frames)
-    own = record { blocks = λ x y. y; objects = λ x y. y; active = λ x. x; func = refl; below = refl }
+    own = record { blocks = λ x y. y; objects = λ x y. y; rest = λ y. y; active = λ x. x; func = refl; below = refl }
 
     all_stand : (ts : List Ty) (vs : List Value) → AllSuited E ts vs → AllStand E vs
     all_stand [] [] h = tt
     all_stand [] (v ∷ vs) h = absurd h
     all_stand (t ∷ ts) [] h = absurd h
-    all_stand (t ∷ ts) (v ∷ vs) h = (stands E (kind_at t) v h.0, all_stand ts vs h.1)
+    all_stand (t ∷ ts) (v ∷ vs) h = (stands E (kind_passed t) v h.0, all_stand ts vs h.1)
 
     all_suited_on : (e : Scene) → Grows p.unit c e → (ts : List Ty) (vs : List Value) → AllSuited E ts vs → AllSuited (D p.unit e) ts vs
     all_suited_on e g [] [] h = tt
     all_suited_on e g [] (v ∷ vs) h = absurd h
     all_suited_on e g (t ∷ ts) [] h = absurd h
-    all_suited_on e g (t ∷ ts) (v ∷ vs) h = (suits_on (inside call) p.unit c e g (kind_at t) v h.0, all_suited_on e g ts vs h.1)
+    all_suited_on e g (t ∷ ts) (v ∷ vs) h = (suits_on (inside call) p.unit c e g (kind_passed t) v h.0, all_suited_on e g ts vs h.1)
 
     enough_of : (t : Fn) (is : List ℕ) (ts : List Ty) (vs : List Value) → MatchParams p.unit t is → fit_definition p.unit ts is t ≡ true → AllSuited E ts vs → Enough E is vs
     enough_of (fn q unknown variadic cdecl) is ts vs m f a = objects_enough E p.unit ts is vs f a
@@ -146,13 +146,13 @@ module _ (p : ProgramTy) (w : IsProgram p.unit p.main) (s : IsScopedProgram p.un
       moved : Grows p.unit c d
       moved = moves_here (inside call) tt p c d i
 
-      enters : (f : ℕ) (g : FuncTy) (body : Stmt) (cost : ℕ) → slice_get p.unit.funcs f ≡ Some g → g.body ≡ Some body → Enough E g.params args → Gives (kind_given g.ty) (Takes (inside call) p.unit c k) ks → IsWell p.unit (entered p.unit f g body cost args k vs (turned d))
+      enters : (f : ℕ) (g : FuncTy) (body : Stmt) (cost : ℕ) → slice_get p.unit.funcs f ≡ Some g → g.body ≡ Some body → Enough E g.params args → Gives (kind_given g.ty) (Takes (inside call) p.unit c k) ks → IsWell p.unit (entered p.unit f g body cost types args k vs (turned d))
       enters f g body cost m j o t =
           let first : Scene = new_frame p.unit f cost (turned d) in
           let same : Grows p.unit (with_frames c first.frames) (with_frames first first.frames) = grown_with p c first first.frames moved.blocks in
           let scope = at.active.ready in
-          body_enters f g body k ks vs first (with_params p.unit g.params args first) m j refl
-          (params_begin p g.params args [] first (automatic_params p.unit g.params (body_typed f g body m j).params) (ready_outside p (entering call.func.params []) (with_frames c c.frames) first _ _ refl moved.blocks scope) (fits_here (inside call) tt p c d moved i.store) (stand_on first types args moved.blocks given) (enough_on first g.params args o))
+          body_enters f g body k ks vs first (with_passed p.unit g types args first) m j refl
+          (passed_begin p g types args first (automatic_params p.unit g.params (body_typed f g body m j).params) (ready_outside p (is_variadic call.func.ty) (entering call.func.params []) (with_frames c c.frames) first _ _ refl moved.blocks scope) (fits_here (inside call) tt p c d moved i.store) (stand_on first types args moved.blocks given) (enough_on first g.params args o))
           (λ e n. (
             suited_on (inside call) p.unit (with_frames c e.frames) (with_frames e e.frames) (grown_with p c e e.frames (λ b h. n.blocks b (moved.blocks b h))) ks vs suited,
             subst (λ (fs : List Frame). AreWaiting p.unit e fs (record { func = g; code = body; base = ks; behind = k })) (sym i.frames)
@@ -162,11 +162,17 @@ module _ (p : ProgramTy) (w : IsProgram p.unit p.main) (s : IsScopedProgram p.un
           stand_on : (e : Scene) (ts : List Ty) (ws : List Value) → ((b : ℕ) → E b → D p.unit e b) → AllSuited E ts ws → AllStand (D p.unit e) ws
           stand_on e ts ws g h = raise_all ws (all_stand ts ws h)
             where
+              cell_raised : (x : Cell) → CellFits E x → CellFits (D p.unit e) x
+              cell_raised (Piece i b o) h = g b h
+              cell_raised (Bits n v) h = tt
+              cell_raised Clouded h = tt
+
               raise_one : (v : Value) → Stands E v → Stands (D p.unit e) v
               raise_one (Place b o) h = g b h
               raise_one (Whole z) h = tt
               raise_one Null h = tt
               raise_one Opaque h = tt
+              raise_one (Cells xs) h = λ q. cell_raised (nth_cell xs q) (h q)
               raise_one NoValue h = tt
 
               raise_all : (ws : List Value) → AllStand E ws → AllStand (D p.unit e) ws
@@ -229,6 +235,7 @@ module _ (p : ProgramTy) (w : IsProgram p.unit p.main) (s : IsScopedProgram p.un
         call_well (Place f (suc o)) a = tt
         call_well Null a = tt
         call_well Opaque a = tt
+        call_well (Cells xs) a = absurd a
         call_well NoValue a = tt
         call_well (Whole z) a = absurd a
 

@@ -14,7 +14,7 @@ use Rattle.c65_meaning.specs.Items.{Item, End, Jump, Leave, plan_stmt, plan_stmt
 use Rattle.c65_meaning.specs.After.{ToLabel, Landing, within, or_else, found, after, after_all, Left, is_among, without}
 use Rattle.c65_meaning.specs.State.{Scene}
 use Rattle.c65_meaning.specs.Step.{begin_objects, end_objects, has_turn, body_of, landed, label_in, jumped, func_in, perform}
-use Rattle.c65_csem_names.specs.Scopes.{entering}
+use Rattle.c65_csem_names.specs.Scopes.{is_variadic, entering}
 use Rattle.c65_meaning_law.specs.Laws.{HasBlock}
 use Rattle.c65_meaning_law.specs.Statements.{IsReady}
 use Rattle.c65_meaning_law.proofs.Stacks.{Kind, breaking, continuing, returning, Call, inside, HaveBlocks, D, Leads, Takes, Out, AreSuited, StoreFits, IsScene}
@@ -176,8 +176,8 @@ module _ (u : UnitTy) (c : Scene) where
       go (inr f) g = g f
 
   -- of blocks that are entered, the objects that are around already have blocks, and the others begin
-  ready_landed : (e : Scene) (around to scope : List ℕ) → Grows u c e → HaveBlocks u c around → IsReady u (entering (without to around) scope) e → IsReady u (entering to scope) e
-  ready_landed e around to scope g h r = record { active = r.active; objects = λ i m s. at i m (lives_in_frame (object_in u i)) refl s; literals = r.literals; funcs = r.funcs }
+  ready_landed : (e : Scene) (variadic : Bool) (around to scope : List ℕ) → Grows u c e → HaveBlocks u c around → IsReady u variadic (entering (without to around) scope) e → IsReady u variadic (entering to scope) e
+  ready_landed e variadic around to scope g h r = record { active = r.active; objects = λ i m s. at i m (lives_in_frame (object_in u i)) refl s; literals = r.literals; funcs = r.funcs; rest = r.rest }
     where
       new : (i : ℕ) → IsSome (object_in u i) → is_among (entering (without to around) scope) i ≡ true → HasBlock u e i
       new i m a = r.objects i m (λ l. a)
@@ -200,11 +200,14 @@ module _ (p : ProgramTy) (c : Scene) (call : Call) (active : IsCall p.unit c c.f
   abbrev scope : List ℕ
   scope = entering call.func.params []
 
+  abbrev variadic : Bool
+  variadic = is_variadic call.func.ty
+
   abbrev rest : List Item
   rest = Leave ∷ call.behind
 
-  first_ready : IsReady p.unit scope c
-  first_ready = let r = active.ready in record { active = r.active; objects = r.objects; literals = r.literals; funcs = r.funcs }
+  first_ready : IsReady p.unit variadic scope c
+  first_ready = let r = active.ready in record { active = r.active; objects = r.objects; literals = r.literals; funcs = r.funcs; rest = r.rest }
 
   -- nothing is left at the end of the body but the call itself
   ends_out : (e : Scene) (ks : List Kind) → ks ≡ call.base → Leads (context_of call.func call.code) (Out (inside call) p.unit e rest) ks
@@ -213,23 +216,23 @@ module _ (p : ProgramTy) (c : Scene) (call : Call) (active : IsCall p.unit c c.f
   ends_out e ks b continuing h = absurd (cc)
   ends_out e ks b returning h = (refl, b)
 
-  landing : (l : ℕ) (e : Scene) (ks : List Kind) → ks ≡ call.base → Each (Lands p.unit (inside call) tt (ToLabel l) e ks scope) (after p.unit (ToLabel l) 0 call.code rest)
-  landing l e ks b = lands p.unit (inside call) tt (ToLabel l) e ks (context_of call.func call.code) scope 0 call.code rest (refl, refl) active.typed.typed active.scoped (λ r. (refl, b)) (λ r. ends_out e ks b)
+  landing : (l : ℕ) (e : Scene) (ks : List Kind) → ks ≡ call.base → Each (Lands p.unit (inside call) tt (ToLabel l) e ks variadic scope) (after p.unit (ToLabel l) 0 call.code rest)
+  landing l e ks b = lands p.unit (inside call) tt (ToLabel l) e ks variadic (context_of call.func call.code) scope 0 call.code rest (refl, refl) active.typed.typed active.scoped (λ r. (refl, b)) (λ r. ends_out e ks b)
 
   turns : (t : Bool) (e : Scene) → StoreFits (D p.unit e) e.store → IsScene p.unit e (has_turn t e)
   turns true e h = record { frames = refl; store = h }
   turns false e h = record { frames = refl; store = h }
 
-  lands_well : (l n : ℕ) (around : List ℕ) (ks : List Kind) (vs : List Value) (d : Scene) (o : Option Landing) → ks ≡ call.base → HaveBlocks p.unit c around → AreSuited (D p.unit c) ks vs → IsScene p.unit c d → IsSome o → Each (AreNamed p.unit) o → ((e : Scene) → Each (Lands p.unit (inside call) tt (ToLabel l) e ks scope) o) → IsGoodFrom (inside call) p c (landed p.unit n vs d (record { objects = around; work = rest }) o)
+  lands_well : (l n : ℕ) (around : List ℕ) (ks : List Kind) (vs : List Value) (d : Scene) (o : Option Landing) → ks ≡ call.base → HaveBlocks p.unit c around → AreSuited (D p.unit c) ks vs → IsScene p.unit c d → IsSome o → Each (AreNamed p.unit) o → ((e : Scene) → Each (Lands p.unit (inside call) tt (ToLabel l) e ks variadic scope) o) → IsGoodFrom (inside call) p c (landed p.unit n vs d (record { objects = around; work = rest }) o)
   lands_well l n around ks vs d None b h a i s w f = absurd (cc)
   lands_well l n around ks vs d (Some to) b h a i s w f =
       let ended : Scene = end_objects (without around to.objects) d in
       let j = ends (inside call) tt p c (without around to.objects) d i in
       let e : Scene = begin_objects p.unit (without to.objects around) ended in
       let g = moves_here (inside call) tt p c ended j in
-      let on = begun p.unit (without to.objects around) scope ended (automatic_without p.unit to.objects around w) (ready_stays p.unit c ended g scope first_ready) (fits_here (inside call) tt p c ended g j.store) in
+      let on = begun p.unit variadic (without to.objects around) scope ended (automatic_without p.unit to.objects around w) (ready_stays p.unit c ended g variadic scope first_ready) (fits_here (inside call) tt p c ended g j.store) in
       let all = grows_on p.unit c ended e g on.grows in
-      (e, all, record { kinds = ks; takes = f e (ready_landed p.unit c e around to.objects scope all h on.ready); suited = suited_on (inside call) p.unit c e all ks vs a; scene = turns (nat_le to.at n) e on.store })
+      (e, all, record { kinds = ks; takes = f e (ready_landed p.unit c e variadic around to.objects scope all h on.ready); suited = suited_on (inside call) p.unit c e all ks vs a; scene = turns (nat_le to.at n) e on.store })
 
   pub jump_lands : (l n : ℕ) (k : List Item) (ks : List Kind) (vs : List Value) (d : Scene) → Takes (inside call) p.unit c (Jump l n ∷ k) ks → AreSuited (D p.unit c) ks vs → IsScene p.unit c d → IsGoodFrom (inside call) p c (perform p (Jump l n) k vs d)
   jump_lands l n k ks vs d t a i =

@@ -36,12 +36,12 @@ among_first i scope = one (i == i) (grind arith)
     one true e = refl
     one false e = absurd (cc)
 
-pub outer : (u : UnitTy) (c : Scene) (objects scope : List ℕ) → IsReady u (entering objects scope) c → IsReady u scope c
-outer u c objects scope r = record { active = r.active; objects = λ i m h. r.objects i m (λ l. among_more i objects scope (h l)); literals = r.literals; funcs = r.funcs }
+pub outer : (u : UnitTy) (c : Scene) (variadic : Bool) (objects scope : List ℕ) → IsReady u variadic (entering objects scope) c → IsReady u variadic scope c
+outer u c variadic objects scope r = record { active = r.active; objects = λ i m h. r.objects i m (λ l. among_more i objects scope (h l)); literals = r.literals; funcs = r.funcs; rest = r.rest }
 
-pub have_blocks : (u : UnitTy) (c : Scene) (objects scope : List ℕ) → AreAutomatic u objects → IsReady u (entering objects scope) c → HaveBlocks u c objects
-have_blocks u c [] scope n r = tt
-have_blocks u c (i ∷ rest) scope n r = (r.objects i (is_some_in (object_in u i) n.0.0 n.0.1.0) (λ l. among_more i rest (i ∷ scope) (among_first i scope)), have_blocks u c rest (i ∷ scope) n.1 r)
+pub have_blocks : (u : UnitTy) (c : Scene) (variadic : Bool) (objects scope : List ℕ) → AreAutomatic u objects → IsReady u variadic (entering objects scope) c → HaveBlocks u c objects
+have_blocks u c variadic [] scope n r = tt
+have_blocks u c variadic (i ∷ rest) scope n r = (r.objects i (is_some_in (object_in u i) n.0.0 n.0.1.0) (λ l. among_more i rest (i ∷ scope) (among_first i scope)), have_blocks u c variadic rest (i ∷ scope) n.1 r)
 
 -- ---- landings
 
@@ -89,7 +89,7 @@ module _ (u : UnitTy) where
       all_names x n no_stmts k w = tt
       all_names x n (and_stmts a rest) k w = either AreNamed (after u what n a (plan_stmts u (n + count a) rest k)) (after_all u what (n + count a) rest k) (names x n a _ w.0) (all_names x (n + count a) rest k w.1)
 
-  module _ (m : Setting) (hs : HasStatements m) (what : Sought) (c : Scene) (ks : List Kind) where
+  module _ (m : Setting) (hs : HasStatements m) (what : Sought) (c : Scene) (ks : List Kind) (variadic : Bool) where
     abbrev Works : List Item → Type 0
     Works k = Takes m u c k ks
 
@@ -101,7 +101,7 @@ module _ (u : UnitTy) where
 
     -- the work goes on in a scene in which the blocks round it have begun
     abbrev pub Lands : List ℕ → Landing → Type 0
-    Lands scope r = IsReady u (entering r.objects scope) c → Works r.work
+    Lands scope r = IsReady u variadic (entering r.objects scope) c → Works r.work
 
     next_out : (x : Context) (l : Loop) (k : List Item) → IsLoop m u c l → Works k → Ends k → Outs x (Next l ∷ k)
     next_out x l k h t r breaking a = t
@@ -118,35 +118,35 @@ module _ (u : UnitTy) where
     switch_out x k t q r continuing a = q a
     switch_out x k t q r returning a = r
 
-    pub block_out : (x : Context) (os scope : List ℕ) (k : List Item) → AreAutomatic u os → Outs x k → IsReady u (entering os scope) c → Outs x (End os ∷ k)
+    pub block_out : (x : Context) (os scope : List ℕ) (k : List Item) → AreAutomatic u os → Outs x k → IsReady u variadic (entering os scope) c → Outs x (End os ∷ k)
     block_out x os scope k n q r breaking a = q breaking a
     block_out x os scope k n q r continuing a = q continuing a
-    block_out x os scope k n q r returning a = (have_blocks u c os scope n r, q returning a)
+    block_out x os scope k n q r returning a = (have_blocks u c variadic os scope n r, q returning a)
 
     in_block : (os scope : List ℕ) (r : Landing) → Lands (entering os scope) r → Lands scope (record r { objects = os ++ r.objects })
-    in_block os scope r f h = f (subst (λ (s : List ℕ). IsReady u s c) (entering_joined os r.objects scope) h)
+    in_block os scope r f h = f (subst (λ (s : List ℕ). IsReady u variadic s c) (entering_joined os r.objects scope) h)
 
     mutual
-      pub lands : (x : Context) (scope : List ℕ) (n : ℕ) (s : Stmt) (k : List Item) → IsContext m x → IsStmt u x s → IsScoped u scope s → (IsReady u scope c → Works k) → (IsReady u scope c → Outs x k) → Each (Lands scope) (after u what n s k)
-      lands x scope n (block os ss) k p w h t q = inside_block (Lands scope) (Lands (entering os scope)) os (after_all u what (suc n) ss (End os ∷ k)) (in_block os scope) (all_lands x (entering os scope) (suc n) ss (End os ∷ k) p w.1 h (λ r. (hs, t (outer u c os scope r))) (λ r. block_out x os scope k (automatic_of u os w.0) (q (outer u c os scope r)) r))
+      pub lands : (x : Context) (scope : List ℕ) (n : ℕ) (s : Stmt) (k : List Item) → IsContext m x → IsStmt u x s → IsScoped u variadic scope s → (IsReady u variadic scope c → Works k) → (IsReady u variadic scope c → Outs x k) → Each (Lands scope) (after u what n s k)
+      lands x scope n (block os ss) k p w h t q = inside_block (Lands scope) (Lands (entering os scope)) os (after_all u what (suc n) ss (End os ∷ k)) (in_block os scope) (all_lands x (entering os scope) (suc n) ss (End os ∷ k) p w.1 h (λ r. (hs, t (outer u c variadic os scope r))) (λ r. block_out x os scope k (automatic_of u os w.0) (q (outer u c variadic os scope r)) r))
       lands x scope n (if_stmt e a b) k p w h t q = either (Lands scope) (after u what (suc n) a k) (after u what (suc n + count a) b k) (lands x scope (suc n) a k p w.1 h.1 t q) (lands x scope (suc n + count a) b k p w.2 h.2 t q)
       lands x scope n (while e a) k p w h t q =
-          let loop : IsReady u scope c → IsLoop m u c (test_first (present e) absent (suc n) a) = λ r. while_loop m hs u c scope r x (suc n) e a p w h in
+          let loop : IsReady u variadic scope c → IsLoop m u c (test_first (present e) absent (suc n) a) = λ r. while_loop m hs u c variadic scope r x (suc n) e a p w h in
           lands (looping x) scope (suc n) a (Next (test_first (present e) absent (suc n) a) ∷ k) (loop_context m u x p) w.1 h.1 (λ r. (hs, (loop r, t r, q r returning tt))) (λ r. next_out (looping x) (test_first (present e) absent (suc n) a) k (loop r) (t r) (q r returning tt))
       lands x scope n (do_while a e) k p w h t q =
-          let loop : IsReady u scope c → IsLoop m u c (test_last e (suc n) a) = λ r. do_loop m hs u c scope r x (suc n) a e p w h in
+          let loop : IsReady u variadic scope c → IsLoop m u c (test_last e (suc n) a) = λ r. do_loop m hs u c variadic scope r x (suc n) a e p w h in
           lands (looping x) scope (suc n) a (Check (test_last e (suc n) a) ∷ k) (loop_context m u x p) w.0 h.0 (λ r. (hs, (loop r, t r, q r returning tt, tt))) (λ r. check_out (looping x) (test_last e (suc n) a) k (hs, (loop r, t r, q r returning tt, tt)))
       lands x scope n (for_loop i d o a) k p w h t q =
-          let loop : IsReady u scope c → IsLoop m u c (test_first d o (suc n) a) = λ r. for_loop_of m hs u c scope r x (suc n) i d o a p w h in
+          let loop : IsReady u variadic scope c → IsLoop m u c (test_first d o (suc n) a) = λ r. for_loop_of m hs u c variadic scope r x (suc n) i d o a p w h in
           lands (looping x) scope (suc n) a (Next (test_first d o (suc n) a) ∷ k) (loop_context m u x p) w.3 h.3 (λ r. (hs, (loop r, t r, q r returning tt))) (λ r. next_out (looping x) (test_first d o (suc n) a) k (loop r) (t r) (q r returning tt))
       lands x scope n (switch e a) k p w h t q = counted (Lands scope) what (after u what (suc n) a (EndSwitch ∷ k)) (lands (switching w.0 x) scope (suc n) a (EndSwitch ∷ k) (switch_context m u w.0 x p) w.2 h.1 (λ r. (hs, t r)) (λ r. switch_out (switching w.0 x) k (t r) (λ l. q r continuing l) (q r returning tt)))
-      lands x scope n (case v a) k p w h t q = here_or (Lands scope) (is_case what v) n (plan_stmt u (suc n) a k) (after u what (suc n) a k) (λ r. stmt_takes m hs u c scope r x (suc n) a k ks p w.1 h (t r) (q r)) (lands x scope (suc n) a k p w.1 h t q)
-      lands x scope n (default a) k p w h t q = here_or (Lands scope) (is_default what) n (plan_stmt u (suc n) a k) (after u what (suc n) a k) (λ r. stmt_takes m hs u c scope r x (suc n) a k ks p w.1 h (t r) (q r)) (lands x scope (suc n) a k p w.1 h t q)
-      lands x scope n (label l a) k p w h t q = here_or (Lands scope) (is_label what l) n (plan_stmt u (suc n) a k) (after u what (suc n) a k) (λ r. stmt_takes m hs u c scope r x (suc n) a k ks p w h (t r) (q r)) (lands x scope (suc n) a k p w h t q)
+      lands x scope n (case v a) k p w h t q = here_or (Lands scope) (is_case what v) n (plan_stmt u (suc n) a k) (after u what (suc n) a k) (λ r. stmt_takes m hs u c variadic scope r x (suc n) a k ks p w.1 h (t r) (q r)) (lands x scope (suc n) a k p w.1 h t q)
+      lands x scope n (default a) k p w h t q = here_or (Lands scope) (is_default what) n (plan_stmt u (suc n) a k) (after u what (suc n) a k) (λ r. stmt_takes m hs u c variadic scope r x (suc n) a k ks p w.1 h (t r) (q r)) (lands x scope (suc n) a k p w.1 h t q)
+      lands x scope n (label l a) k p w h t q = here_or (Lands scope) (is_label what l) n (plan_stmt u (suc n) a k) (after u what (suc n) a k) (λ r. stmt_takes m hs u c variadic scope r x (suc n) a k ks p w h (t r) (q r)) (lands x scope (suc n) a k p w h t q)
       lands x scope n _ k p w h t q = tt
 
-      all_lands : (x : Context) (scope : List ℕ) (n : ℕ) (ss : Stmts) (k : List Item) → IsContext m x → AreStmts u x ss → AreScoped u scope ss → (IsReady u scope c → Works k) → (IsReady u scope c → Outs x k) → Each (Lands scope) (after_all u what n ss k)
+      all_lands : (x : Context) (scope : List ℕ) (n : ℕ) (ss : Stmts) (k : List Item) → IsContext m x → AreStmts u x ss → AreScoped u variadic scope ss → (IsReady u variadic scope c → Works k) → (IsReady u variadic scope c → Outs x k) → Each (Lands scope) (after_all u what n ss k)
       all_lands x scope n no_stmts k p w h t q = tt
       all_lands x scope n (and_stmts a rest) k p w h t q = either (Lands scope) (after u what n a (plan_stmts u (n + count a) rest k)) (after_all u what (n + count a) rest k)
-          (lands x scope n a (plan_stmts u (n + count a) rest k) p w.0 h.0 (λ r. stmts_take m hs u c scope r x (n + count a) rest k ks p w.1 h.1 (t r) (q r)) (λ r y l. stmts_lead m u c y ks (n + count a) rest k (q r y l)))
+          (lands x scope n a (plan_stmts u (n + count a) rest k) p w.0 h.0 (λ r. stmts_take m hs u c variadic scope r x (n + count a) rest k ks p w.1 h.1 (t r) (q r)) (λ r y l. stmts_lead m u c y ks (n + count a) rest k (q r y l)))
           (all_lands x scope (n + count a) rest k p w.1 h.1 t q)

@@ -6,7 +6,7 @@ use Rattle.c65_base.specs.declared.library.Library.{Library}
 use Rattle.c65_base.specs.declared.library.Library.TheVariants.{Putchar, Getchar, Puts, Exit, Memcpy, Memset, Strcmp, Strcpy, Strlen}
 use Rattle.c65_meaning.specs.declared.action.Action.TheVariants.{UnsetBit, EndedObject, LibraryArgument}
 use Rattle.c65_meaning.specs.Why.{Why, By, Unfit, ◌>>=◌}
-use Rattle.c65_meaning.specs.Store.{Cell, Piece, Bits, Clouded, byte, Block, Store, Value, Whole, Null, Place, Opaque, NoValue, set_block, set_cells, reached_or, writable}
+use Rattle.c65_meaning.specs.Store.{Cell, Piece, Bits, Clouded, byte, Block, Store, Value, Whole, Null, Place, Opaque, Cells, NoValue, set_block, set_cells, reached_or, writable}
 use Rattle.c65_meaning.specs.Library.{Effect, got, area, overlap, filled, copied_area, filled_area, set_byte, before, text_in, text_at, Compared, one_more, compared_byte, compared_in, compared_texts, number_in, count_in, effect_of}
 use Rattle.c65_meaning.specs.State.{Scene}
 use Rattle.c65_meaning_law.specs.Laws.{IsClosed}
@@ -32,6 +32,7 @@ module _ (c : Scene) where
   number x Opaque f h g = tt
   number x NoValue f h g = tt
   number x Null f h g = absurd h
+  number x (Cells xs) f h g = absurd h
   number x (Place b o) f h g = absurd h
 
   counts : (x : Kind) (v : Value) (f : ℕ → Result Effect Why) → IsCount v → ((n : ℕ) → Sound (Fine x) (f n)) → Sound (Fine x) (count_in v f)
@@ -40,6 +41,7 @@ module _ (c : Scene) where
   counts x Opaque f h g = tt
   counts x NoValue f h g = tt
   counts x Null f h g = absurd h
+  counts x (Cells xs) f h g = absurd h
   counts x (Place b o) f h g = absurd h
 
   -- ---- areas
@@ -64,10 +66,12 @@ module _ (c : Scene) where
     copies (Place e p) Opaque n h g = tt
     copies (Place e p) NoValue n h g = tt
     copies (Place e p) (Whole z) n h g = absurd g
+    copies (Place e p) (Cells xs) n h g = absurd g
     copies Null from n h g = tt
     copies Opaque from n h g = tt
     copies NoValue from n h g = tt
     copies (Whole z) from n h g = absurd h
+    copies (Cells xs) from n h g = absurd h
 
     sets : (to : Value) (n v : ℕ) → IsPointing c.store to → Sound (StoreFits E) (filled_area c.store to n v)
     sets (Place b o) n v h = fills b o n (λ i. byte v) h (λ i. tt)
@@ -75,6 +79,7 @@ module _ (c : Scene) where
     sets Opaque n v h = tt
     sets NoValue n v h = tt
     sets (Whole z) n v h = absurd h
+    sets (Cells xs) n v h = absurd h
 
     -- ---- texts
 
@@ -97,6 +102,7 @@ module _ (c : Scene) where
     texts Opaque h = tt
     texts NoValue h = tt
     texts (Whole z) h = absurd h
+    texts (Cells xs) h = absurd h
 
     -- ---- comparing
 
@@ -116,10 +122,12 @@ module _ (c : Scene) where
     compare_texts (Place b o) Opaque h g = tt
     compare_texts (Place b o) NoValue h g = tt
     compare_texts (Place b o) (Whole z) h g = absurd g
+    compare_texts (Place b o) (Cells xs) h g = absurd g
     compare_texts Null w h g = tt
     compare_texts Opaque w h g = tt
     compare_texts NoValue w h g = tt
     compare_texts (Whole z) w h g = absurd h
+    compare_texts (Cells xs) w h g = absurd h
 
     -- ---- the functions
 
@@ -133,6 +141,7 @@ module _ (c : Scene) where
     place_suits Opaque h = tt
     place_suits NoValue h = tt
     place_suits (Whole z) h = absurd h
+    place_suits (Cells xs) h = absurd h
 
     pub fine : (f : Library) (args : List Value) → AreArguments c.store f args → Sound (Fine (kind_from f)) (effect_of c f args)
     fine Putchar (v ∷ []) h = number (arithmetic true) v _ h (λ z. (fits, tt))
@@ -163,6 +172,7 @@ module _ (c : Scene) where
   of_block s (Place b o) h g = h.there b g
   of_block s (Whole z) h g = tt
   of_block s Null h g = tt
+  of_block s (Cells xs) h g = λ q i b o e. h.there b (subst (CellFits E) e (g q))
   of_block s Opaque h g = tt
   of_block s NoValue h g = tt
 

@@ -8,14 +8,14 @@ use Rattle.c65_csem.specs.Trees.{FuncTy}
 use Rattle.c65_csem.specs.Typed.{result_of}
 use Rattle.c65_meaning.specs.Program.{ProgramTy}
 use Rattle.c65_csem_names.specs.Programs.{is_int, Starts, IsScopedProgram}
-use Rattle.c65_meaning_law.proofs.Stacks.{arithmetic, kind_at}
+use Rattle.c65_meaning_law.proofs.Stacks.{arithmetic, kind_passed}
 use Rattle.c65_meaning_law.proofs.Whole.{MainGivesNumber}
 
-int_kind : (t : Ty) → IsTrue (is_int t) → kind_at t ≡ arithmetic true
+int_kind : (t : Ty) → IsTrue (is_int t) → kind_passed t ≡ arithmetic true
 int_kind (int Int) h = refl
 int_kind _ h = absurd (cc)
 
-plain_kind : (q : QTy) → IsTrue (is_int (type_in q)) → kind_at (type_in (plain_of q)) ≡ arithmetic true
+plain_kind : (q : QTy) → IsTrue (is_int (type_in q)) → kind_passed (type_in (plain_of q)) ≡ arithmetic true
 plain_kind (qual t c v) h = int_kind t h
 
 pub main_gives_number : (p : ProgramTy) → IsScopedProgram p.unit p.main → MainGivesNumber p

@@ -1,6 +1,5 @@
 -- The work of a well typed expression finds the values that it takes, and gives one of its kind.
 use Rattle.std.proofs.Common.{◌≡◌, ℕ, ℤ, pos, negsuc, neg_ℤ, ◌/◌, ◌≤ℤ◌, Bool, true, false, if◌then◌else◌, List, ◌∷◌, Some, None, Option, IsTrue, refl, sym, ap, ◌∙◌, subst, arith}
-use Rattle.std.specs.Prelude.{⊤}
 use Rattle.std.proofs.lemmas.Int.{ints}
 use Rattle.c65_base.specs.declared.operators.UnaryOp.{UnaryOp}
 use Rattle.c65_base.specs.declared.operators.UnaryOp.TheVariants.{Neg, BitNot, Not}
@@ -11,19 +10,19 @@ use Rattle.c65_ints.specs.declared.types.IntType.TheVariants.{Int}
 use Rattle.c65_ints.specs.Ranges.{is_signed_of, modulus_of, InRange}
 use Rattle.c65_ctype.specs.Trees.{Ty, void, int, pointer, array, tag, function, QTy, qual, type_in, Fn, fn, unknown, known, QTys, end, more}
 use Rattle.c65_ctype.specs.Sizes.{size_of}
-use Rattle.c65_csem.specs.Trees.{Typed, node, Node, constant, null, literal, object, func, deref, member, load, address, decay, convert, unary, binary, both, either, choice, comma, assign, assign_op, assign_step, step, copy, call, Nodes, none, some, type_of, UnitTy}
-use Rattle.c65_csem.specs.Places.{is_place, plain, plain_of, qualified, is_scalar, is_tag, member_at}
+use Rattle.c65_csem.specs.Trees.{Typed, node, Node, constant, null, literal, object, func, deref, member, load, address, decay, convert, unary, binary, both, either, choice, comma, assign, assign_op, assign_step, step, copy, call, pack, spill, rest, Nodes, none, some, type_of, UnitTy}
+use Rattle.c65_csem.specs.Places.{is_place, plain, plain_of, qualified, is_scalar, is_small, is_tag, member_at}
 use Rattle.c65_csem.specs.Typed as ty
-use Rattle.c65_csem.specs.Typed.{HasInt, IsInt, AreAlike, AreShifted, AreCompared, AreAdded, AreSubtracted, Operands, Operand, Computes, Steps, Converts, scalar, to_void, decayed, IsMember, IsArm, ArePassed, AreGiven, FitsFn, IsResult, IsTyped, IsNode, AreTyped}
+use Rattle.c65_csem.specs.Typed.{HasInt, IsInt, AreAlike, AreShifted, AreCompared, AreAdded, AreSubtracted, Operands, Operand, Computes, Steps, Converts, scalar, to_void, decayed, IsMember, IsArm, IsSmall, AreGiven, FitsFn, IsUsual, IsCall, IsTyped, IsNode, IsGiven, IsCalled, AreTyped}
 use Rattle.c65_meaning.specs.Store.{Whole, Null, Place, Shape, Number, Field, Pointer, Area}
 use Rattle.c65_meaning.specs.Shapes.{bare_type, types_of, shape_of, place_shape, offset_of, field_shape, member_shape, literal_block}
 use Rattle.c65_meaning.specs.Operators.{is_post}
 use Rattle.c65_meaning.specs.Fits.{IsTarget, compares, calculated_shape}
 use Rattle.c65_meaning.specs.Calls.{passed_by, passed_to}
-use Rattle.c65_meaning.specs.Items.{Item, Follow, Move, Fetch, Keep, Change, Apply1, Apply2, Both, Either, Choose, Drop, Put, Peek, Bump, Carry, Invoke, put_step, plan, plan_node, plan_all}
+use Rattle.c65_meaning.specs.Items.{Item, Follow, Move, Fetch, Keep, Change, Apply1, Apply2, Both, Either, Choose, Drop, Put, Peek, Bump, Carry, Gather, Lay, Invoke, put_step, plan, plan_node, plan_all}
 use Rattle.c65_meaning.specs.State.{Scene}
 use Rattle.c65_meaning_law.specs.Laws.{AreThere, AreThereIn, AreAllThere}
-use Rattle.c65_meaning_law.proofs.Stacks.{Kind, arithmetic, pointing, naming, free, kind_in, kind_at, kind_if, kind_of, Below, IsScalarShape, Operates, is_move, is_add, meets, Combines, joined, turned_kind, Becomes, with_kind, IsOfSign, Suits, Setting, pushed, D, Does, Takes, Out}
+use Rattle.c65_meaning_law.proofs.Stacks.{Kind, arithmetic, pointing, naming, carrying, free, kind_in, kind_at, kind_if, kind_of, kind_passed, IsSimple, Below, IsScalarShape, Operates, is_move, is_add, meets, Combines, joined, turned_kind, Becomes, with_kind, IsOfSign, Suits, Setting, pushed, D, Does, Takes, Out}
 use Rattle.c65_meaning_law.proofs.Values.{raise}
 
 -- ---- kinds of trees
@@ -32,6 +31,7 @@ pub below_refl : (x : Kind) → Below x x
 below_refl (arithmetic s) = refl
 below_refl pointing = tt
 below_refl naming = tt
+below_refl carrying = tt
 below_refl free = tt
 
 below_same : (x y : Kind) → x ≡ y → Below x y
@@ -39,6 +39,22 @@ below_same x y e = subst (Below x) e (below_refl x)
 
 from_same : (x y z : Kind) → x ≡ y → Below y z → Below x z
 from_same x y z e b = subst (λ (k : Kind). Below k z) (sym e) b
+
+simple_at : (t : Ty) → IsSimple (kind_at t)
+simple_at void = tt
+simple_at (int k) = tt
+simple_at (pointer q) = tt
+simple_at (array q n) = tt
+simple_at (tag n) = tt
+simple_at (function f) = tt
+
+simple_if : (b : Bool) (t : Ty) → IsSimple (kind_if b t)
+simple_if true t = tt
+simple_if false t = simple_at t
+
+-- an expression that is not passed or returned is worth no cells
+pub simple : (a : Typed) → IsSimple (kind_of a)
+simple a = simple_if (is_place a) (type_in (type_of a))
 
 pub value_kind : (a : Typed) → is_place a ≡ false → kind_of a ≡ kind_at (type_in (type_of a))
 value_kind a h = ap (λ (b : Bool). kind_if b (type_in (type_of a))) h
@@ -79,13 +95,14 @@ arm_below t a x (ty.value v e) b = from_same (kind_of a) (kind_at (type_in t)) x
 arm_below t a x (ty.place g e) b =
     let tagged : IsTrue (is_tag (type_in (type_of a))) = subst (λ (s : Ty). IsTrue (is_tag s)) (sym (same_type t (type_of a) e)) g in
     from_same (kind_of a) (kind_at (type_in t)) x (tag_kind (is_place a) (type_in (type_of a)) tagged ∙ sym (tag_kind false (type_in t) g)) b
-arm_below t a x (ty.nothing e f) b = all_below (kind_of a) x (subst (λ (q : QTy). Below (kind_at (type_in q)) x) e b)
+arm_below t a x (ty.nothing e f) b = all_below (kind_of a) x (simple a) (subst (λ (q : QTy). Below (kind_at (type_in q)) x) e b)
   where
-    all_below : (y x : Kind) → Below free x → Below y x
-    all_below y free b = tt
-    all_below y (arithmetic s) b = absurd b
-    all_below y pointing b = absurd b
-    all_below y naming b = absurd b
+    all_below : (y x : Kind) → IsSimple y → Below free x → Below y x
+    all_below y free i b = i
+    all_below y (arithmetic s) i b = absurd b
+    all_below y pointing i b = absurd b
+    all_below y naming i b = absurd b
+    all_below y carrying i b = absurd b
 
 becomes_self : (s : Shape) → IsScalarShape s → Becomes s s
 becomes_self (Number t) i = tt
@@ -193,7 +210,7 @@ module _ (u : UnitTy) where
   applied : (op : UnaryOp) (t : QTy) (a : Typed) → is_place a ≡ false → Operand op t (type_of a) → Applied op t a
   applied Neg t a h o = record { kind = arithmetic (is_signed_of o.0.0); below = below_value a (plain (int o.0.0)) h o.0.1; operates = subst (λ (q : QTy). Operates Neg (lies q) (arithmetic (is_signed_of o.0.0))) (sym o.0.1) tt; result = subst (λ (q : QTy). kind_at (type_in t) ≡ kind_in (lies q)) (sym o.0.1) (ap (λ (q : QTy). kind_at (type_in q)) (o.1 ∙ o.0.1)) }
   applied BitNot t a h o = record { kind = arithmetic (is_signed_of o.0.0); below = below_value a (plain (int o.0.0)) h o.0.1; operates = subst (λ (q : QTy). Operates BitNot (lies q) (arithmetic (is_signed_of o.0.0))) (sym o.0.1) tt; result = subst (λ (q : QTy). kind_at (type_in t) ≡ kind_in (lies q)) (sym o.0.1) (ap (λ (q : QTy). kind_at (type_in q)) (o.1 ∙ o.0.1)) }
-  applied Not t a h o = record { kind = kind_of a; below = below_refl (kind_of a); operates = tt; result = ap (λ (q : QTy). kind_at (type_in q)) o.0 }
+  applied Not t a h o = record { kind = kind_of a; below = below_refl (kind_of a); operates = simple a; result = ap (λ (q : QTy). kind_at (type_in q)) o.0 }
   applied _ t a h o = absurd o
 
   record Joins (op : BinaryOp) (t a b : QTy) : Type 0 where
@@ -271,38 +288,46 @@ in_sign k z r = tested (is_signed_of k) z r.low
     tested false (pos n) h = tt
     tested false (negsuc n) h = absurd (omega (arith, ints, h))
 
--- arguments that are no places
-abbrev AreValues : Nodes → Type 0
-AreValues none = ⊤
-AreValues (some e es) = (is_place e ≡ false) × AreValues es
-
-passed_values : (es : Nodes) → ArePassed es → AreValues es
-passed_values none h = tt
-passed_values (some e es) h = (h.1, passed_values es h.2)
-
-given_values : (qs : QTys) (v : Bool) (es : Nodes) → AreGiven qs v es → AreValues es
-given_values end v none h = tt
-given_values end true (some e es) h = passed_values (some e es) h
-given_values end false (some e es) h = absurd h
-given_values (more q qs) v none h = absurd h
-given_values (more q qs) v (some e es) h = (h.1.1, given_values qs v es h.2)
-
-fn_values : (f : Fn) (es : Nodes) → FitsFn f es → AreValues es
-fn_values (fn q unknown v cdecl) es h = passed_values es h
-fn_values (fn q (known qs) v cdecl) es h = given_values qs v es h
-
 -- what a call passes by its own prototype has the types of the arguments
-passed_same : (qs : QTys) (v : Bool) (es : Nodes) → AreGiven qs v es → passed_by qs (types_of es) ≡ types_of es
-passed_same end v es h = refl
-passed_same (more q qs) v none h = absurd h
-passed_same (more q qs) v (some e es) h = same (type_in q) (bare_type e) (passed_by qs (types_of es)) (types_of es) (sym (plain_type q) ∙ sym (ap type_in h.0)) (passed_same qs v es h.2)
+passed_same : (u : UnitTy) (qs : QTys) (v : Bool) (es : Nodes) → AreGiven u qs v es → passed_by qs (types_of es) ≡ types_of es
+passed_same u end v es h = refl
+passed_same u (more q qs) v none h = absurd h
+passed_same u (more q qs) v (some e es) h = same (type_in q) (bare_type e) (passed_by qs (types_of es)) (types_of es) (sym (plain_type q) ∙ sym (ap type_in h.0)) (passed_same u qs v es h.1)
   where
     same : (t s : Ty) (ts ss : List Ty) → t ≡ s → ts ≡ ss → t ∷ ts ≡ s ∷ ss
     same t s ts ss e f = subst (λ (x : Ty). t ∷ ts ≡ x ∷ ss) e (ap (λ (xs : List Ty). t ∷ xs) f)
 
-passed_to_same : (f : Fn) (es : Nodes) → FitsFn f es → passed_to (Some f) (types_of es) ≡ types_of es
-passed_to_same (fn q unknown v cdecl) es h = refl
-passed_to_same (fn q (known qs) v cdecl) es h = passed_same qs v es h
+passed_to_same : (u : UnitTy) (f : Fn) (es : Nodes) → FitsFn u f es → passed_to (Some f) (types_of es) ≡ types_of es
+passed_to_same u (fn q unknown v cdecl) es h = refl
+passed_to_same u (fn q (known qs) v cdecl) es h = passed_same u qs v es h
+
+-- a structure or union is passed and returned as its cells, and a scalar as it is
+small_tag : (u : UnitTy) (t : QTy) → IsSmall u t → IsTrue (is_tag (type_in t))
+small_tag u t h = of_type (type_in t) h.0
+  where
+    of_type : (s : Ty) → IsTrue (is_small u.types s) → IsTrue (is_tag s)
+    of_type (tag n) e = refl
+    of_type _ e = absurd (cc)
+
+tag_passed : (t : Ty) → IsTrue (is_tag t) → kind_passed t ≡ carrying
+tag_passed (tag n) h = refl
+tag_passed _ h = absurd (cc)
+
+pub small_passed : (u : UnitTy) (t : QTy) → IsSmall u t → kind_passed (type_in t) ≡ carrying
+small_passed u t h = tag_passed (type_in t) (small_tag u t h)
+
+pub scalar_passed : (t : Ty) → IsTrue (is_scalar t) → kind_passed t ≡ kind_at t
+scalar_passed (int k) h = refl
+scalar_passed (pointer q) h = refl
+scalar_passed _ h = absurd (cc)
+
+usual_passed : (t : QTy) → IsUsual t → kind_passed (type_in t) ≡ kind_at (type_in t)
+usual_passed t ty.IsUsual.nothing = refl
+usual_passed t (ty.IsUsual.scalar s) = scalar_passed (type_in t) s.0
+
+called_tag : (u : UnitTy) (t : QTy) (a : Typed) → IsCalled u t a → IsTrue (is_tag (type_in t))
+called_tag u t (node s (call f es)) w = subst (λ (q : QTy). IsTrue (is_tag (type_in q))) w.0 (small_tag u s w.1)
+called_tag u t (node s _) w = absurd w
 
 -- ---- the work
 
@@ -316,6 +341,10 @@ module _ (m : Setting) (u : UnitTy) (c : Scene) where
 
   abbrev shape : Typed → Shape
   shape a = shape_of u.types (bare_type a)
+
+  -- a call whose callee and arguments are there
+  invokes : (t : QTy) (f : Typed) (es : Nodes) (x : Kind) (k : List Item) (ks : List Kind) → IsCall u t (type_of f) es → Below (kind_passed (type_in t)) x → Takes m u c k (x ∷ ks) → Takes m u c (Invoke (bare_type f) (types_of es) ∷ k) (pushed (types_of es) (pointing ∷ ks))
+  invokes t f es x k ks w b g = (record { type = w.callee; named = ap type_in w.named; passed = passed_to_same u w.callee es w.given }, ks, refl, (x, subst (λ (q : QTy). Below (kind_passed (type_in q)) x) w.result b, g))
 
   mutual
     pub takes : (e : Typed) (x : Kind) (k : List Item) (ks : List Kind) → IsTyped u e → AreThere u c e → Below (kind_of e) x → Takes m u c k (x ∷ ks) → Takes m u c (plan u e k) ks
@@ -332,7 +361,7 @@ module _ (m : Setting) (u : UnitTy) (c : Scene) where
     node_takes t (load a) x k ks w h b g = takes a naming (Fetch (at a) ∷ k) ks w.0 h (below_place a w.1.0) (scalar_place u a w.0 w.1.1, (x, held u t a x w.0 w.1.1 w.2 b, g))
     node_takes t (address a) x k ks w h b g = takes a naming (Keep ∷ k) ks w.0 h (below_place a w.1.place) (x, subst (λ (q : QTy). Below (kind_at (type_in q)) x) w.2 b, g)
     node_takes t (decay a) x k ks w h b g = takes a naming (Keep ∷ k) ks w.0 h (below_place a w.1) (x, subst (λ (y : Kind). Below y x) (decayed_kind (type_of a) t w.2) b, g)
-    node_takes t (convert a) x k ks w h b g = takes a (kind_of a) (Change (shape_of u.types (type_in t)) ∷ k) ks w.0 h (below_refl (kind_of a)) (target u (type_in t), (x, from_same (kind_in (shape_of u.types (type_in t))) (kind_at (type_in t)) x (convert_same u t a w.1) b, g))
+    node_takes t (convert a) x k ks w h b g = takes a (kind_of a) (Change (shape_of u.types (type_in t)) ∷ k) ks w.0 h (below_refl (kind_of a)) (target u (type_in t), (x, from_same (kind_in (shape_of u.types (type_in t))) (kind_at (type_in t)) x (convert_same u t a w.1) b, g), simple a)
     node_takes t (unary op a) x k ks w h b g =
         let o = applied u op t a w.1 w.2 in
         takes a o.kind (Apply1 op (shape a) ∷ k) ks w.0 h o.below (o.operates, (x, subst (λ (y : Kind). Below y x) o.result b, g))
@@ -340,9 +369,9 @@ module _ (m : Setting) (u : UnitTy) (c : Scene) where
         let j = joins u op t (type_of a) (type_of d) w.4 in
         takes a (kind_at (bare_type a)) (plan u d (Apply2 op (shape a) (shape d) ∷ k)) ks w.0 h.0 (below_value a (type_of a) w.2 refl)
         (takes d (kind_at (bare_type d)) (Apply2 op (shape a) (shape d) ∷ k) (kind_at (bare_type a) ∷ ks) w.1 h.1 (below_value d (type_of d) w.3 refl) (j.combines, j.right, j.left, (x, from_same (joined op (shape a) (shape d)) (kind_at (type_in t)) x j.result b, g)))
-    node_takes t (both a d) x k ks w h b g = takes a (kind_of a) (Both d ∷ k) ks w.0 h.0 (below_refl (kind_of a)) (record { typed = w.1; there = h.1 }, (x, int_below u t Int x w.2 b, g))
-    node_takes t (either a d) x k ks w h b g = takes a (kind_of a) (Either d ∷ k) ks w.0 h.0 (below_refl (kind_of a)) (record { typed = w.1; there = h.1 }, (x, int_below u t Int x w.2 b, g))
-    node_takes t (choice i a d) x k ks w h b g = takes i (kind_of i) (Choose a d ∷ k) ks w.0 h.0 (below_refl (kind_of i)) (x, (record { typed = w.1; there = h.1 }, arm_below t a x w.4 b), (record { typed = w.2; there = h.2 }, arm_below t d x w.5 b), g)
+    node_takes t (both a d) x k ks w h b g = takes a (kind_of a) (Both d ∷ k) ks w.0 h.0 (below_refl (kind_of a)) (record { typed = w.1; there = h.1 }, (x, int_below u t Int x w.2 b, g), simple a)
+    node_takes t (either a d) x k ks w h b g = takes a (kind_of a) (Either d ∷ k) ks w.0 h.0 (below_refl (kind_of a)) (record { typed = w.1; there = h.1 }, (x, int_below u t Int x w.2 b, g), simple a)
+    node_takes t (choice i a d) x k ks w h b g = takes i (kind_of i) (Choose a d ∷ k) ks w.0 h.0 (below_refl (kind_of i)) (x, (record { typed = w.1; there = h.1 }, arm_below t a x w.4 b), (record { typed = w.2; there = h.2 }, arm_below t d x w.5 b), g, simple i)
     node_takes t (comma a d) x k ks w h b g = takes a (kind_of a) (Drop ∷ plan u d k) ks w.0 h.0 (below_refl (kind_of a)) (takes d x k ks w.1 h.1 (arm_below t d x w.2 b) g)
     node_takes t (assign a d) x k ks w h b g =
         takes a naming (plan u d (Put (at a) ∷ k)) ks w.0 h.0 (below_place a w.2.0)
@@ -378,9 +407,29 @@ module _ (m : Setting) (u : UnitTy) (c : Scene) where
         (takes d naming (Carry 0 (size_of u.types (bare_type a)) ∷ k) (naming ∷ ks) w.1 h.1 (below_tag d tagged) (x, subst (λ (y : Kind). Below y x) (tag_kind false (type_in t) w.3) b, g))
     node_takes t (call f es) x k ks w h b g =
         takes f pointing (plan_all u es (Invoke (bare_type f) (types_of es) ∷ k)) ks w.0 h.0 (below_value f (plain (pointer (plain (function w.2.callee)))) w.1 w.2.named)
-        (all_take es (Invoke (bare_type f) (types_of es) ∷ k) (pointing ∷ ks) w.3 (fn_values w.2.callee es w.2.given) h.1
-        (record { type = w.2.callee; named = ap type_in w.2.named; passed = passed_to_same w.2.callee es w.2.given; result = subst IsResult w.2.result w.2.scalar }, ks, refl, (x, subst (λ (q : QTy). Below (kind_at (type_in q)) x) w.2.result b, g)))
+        (all_take es (Invoke (bare_type f) (types_of es) ∷ k) (pointing ∷ ks) w.4 h.1
+        (invokes t f es x k ks w.2 (from_same (kind_passed (type_in t)) (kind_at (type_in t)) x (usual_passed t w.3) b) g))
+    node_takes t (pack a) x k ks w h b g = absurd w
+    node_takes t (spill i a) x k ks w h b g =
+        called_takes t a (Lay i 0 (size_of u.types (type_in t)) ∷ k) ks w.0 h.1 (h.0, (x, subst (λ (y : Kind). Below y x) (tag_kind false (type_in t) (called_tag u t a w.0)) b, g))
+    node_takes t rest x k ks w h b g = (h, (x, subst (λ (q : QTy). Below (kind_at (type_in q)) x) w b, g))
 
-    all_take : (es : Nodes) (k : List Item) (ks : List Kind) → AreTyped u es → AreValues es → AreAllThere u c es → Takes m u c k (pushed (types_of es) ks) → Takes m u c (plan_all u es k) ks
-    all_take none k ks w v h g = g
-    all_take (some e rest) k ks w v h g = takes e (kind_at (bare_type e)) (plan_all u rest k) ks w.0 h.0 (below_value e (type_of e) v.0 refl) (all_take rest k (kind_at (bare_type e) ∷ ks) w.1 v.1 h.1 g)
+    -- a call that gives a structure or union
+    called_takes : (t : QTy) (a : Typed) (k : List Item) (ks : List Kind) → IsCalled u t a → AreThere u c a → Takes m u c k (carrying ∷ ks) → Takes m u c (plan u a k) ks
+    called_takes t (node s (call f es)) k ks w h g =
+        takes f pointing (plan_all u es (Invoke (bare_type f) (types_of es) ∷ k)) ks w.2 h.0 (below_value f (plain (pointer (plain (function w.4.callee)))) w.3 w.4.named)
+        (all_take es (Invoke (bare_type f) (types_of es) ∷ k) (pointing ∷ ks) w.5 h.1
+        (invokes s f es carrying k ks w.4 (below_same (kind_passed (type_in s)) carrying (small_passed u s w.1)) g))
+    called_takes t (node s _) k ks w h g = absurd w
+
+    -- an argument or a returned value
+    pub given_takes : (e : Typed) (k : List Item) (ks : List Kind) → IsGiven u e → AreThere u c e → Takes m u c k (kind_passed (bare_type e) ∷ ks) → Takes m u c (plan u e k) ks
+    given_takes (node t (pack a)) k ks w h g =
+        let tagged : IsTrue (is_tag (type_in (type_of a))) = subst (λ (s : Ty). IsTrue (is_tag s)) (sym (same_type t (type_of a) w.2)) (small_tag u t w.1) in
+        takes a naming (Gather (size_of u.types (type_in t)) ∷ k) ks w.0 h (below_tag a tagged) (kind_passed (type_in t), below_same carrying (kind_passed (type_in t)) (sym (small_passed u t w.1)), g)
+    given_takes (node t n) k ks w h g =
+        node_takes t n (kind_passed (type_in t)) k ks w.0 h (below_same (kind_of (node t n)) (kind_passed (type_in t)) (value_kind (node t n) w.1.1 ∙ sym (scalar_passed (type_in t) w.1.0.0))) g
+
+    all_take : (es : Nodes) (k : List Item) (ks : List Kind) → AreTyped u es → AreAllThere u c es → Takes m u c k (pushed (types_of es) ks) → Takes m u c (plan_all u es k) ks
+    all_take none k ks w h g = g
+    all_take (some e es) k ks w h g = given_takes e (plan_all u es k) ks w.0 h.0 (all_take es k (kind_passed (bare_type e) ∷ ks) w.1 h.1 g)

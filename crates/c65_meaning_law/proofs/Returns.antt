@@ -10,26 +10,27 @@ use Rattle.c65_csem.specs.Typed.{IsResult, result_of}
 use Rattle.c65_meaning.specs.Program.{ProgramTy}
 use Rattle.c65_meaning.specs.declared.action.Action.TheVariants.{NoResult}
 use Rattle.c65_meaning.specs.Why.{By, Unfit}
-use Rattle.c65_meaning.specs.Store.{Value, Whole, Null, Place, Opaque, NoValue}
+use Rattle.c65_meaning.specs.Store.{Value, Whole, Null, Place, Opaque, Cells, NoValue}
 use Rattle.c65_meaning.specs.Items.{Item, End, Give, GiveNothing, Leave}
 use Rattle.c65_meaning.specs.After.{Left, ending, up_to_call}
-use Rattle.c65_meaning.specs.State.{Frame, Scene, State, Undefined, Deep, Ended, Running}
-use Rattle.c65_meaning.specs.Step.{is_value, end_objects, status_of, back_in, params_of, func_in, frames_below, without_frame, left_call, returned, at_the_end, perform}
-use Rattle.c65_meaning_law.proofs.Stacks.{Kind, arithmetic, kind_at, kind_given, Suits, AreSuited, Call, inside, HaveBlocks, D, returning, Takes, Out, IsScene, IsGood}
+use Rattle.c65_meaning.specs.State.{Frame, Scene, State, Undefined, Deep, Ended, Running, rest_in}
+use Rattle.c65_meaning.specs.Step.{is_value, end_objects, end_arguments, status_of, back_in, params_of, func_in, frames_below, without_frame, left_call, returned, at_the_end, perform}
+use Rattle.c65_meaning_law.proofs.Stacks.{Kind, arithmetic, kind_passed, kind_given, Suits, AreSuited, Call, inside, HaveBlocks, D, returning, Takes, Out, IsScene, IsGood}
 use Rattle.c65_meaning_law.proofs.Values.{raise}
 use Rattle.c65_meaning_law.proofs.Scopes.{Grows, ready_stays}
 use Rattle.c65_meaning_law.proofs.Statements.{takes_on}
-use Rattle.c65_meaning_law.proofs.StatementSteps.{ends}
+use Rattle.c65_meaning_law.proofs.StatementSteps.{end_one, ends}
+use Rattle.c65_meaning_law.proofs.Plans.{small_passed}
 use Rattle.c65_meaning_law.proofs.Calls.{with_frames, IsCall, AreWaiting, IsWell, IsAt}
 
 -- ---- later scenes
 
 -- more blocks have begun, and the same calls are active
 pub grown_with : (p : ProgramTy) (c e : Scene) (fs : List Frame) → ((b : ℕ) → D p.unit c b → D p.unit e b) → Grows p.unit (with_frames c fs) (with_frames e fs)
-grown_with p c e fs g = record { blocks = g; objects = λ i h. (h.0, h.1, g h.0 h.2); active = λ h. h; func = refl; below = refl }
+grown_with p c e fs g = record { blocks = g; objects = λ i h. (h.0, h.1, g h.0 h.2); rest = λ h. (h.0, h.1, g h.0 h.2); active = λ h. h; func = refl; below = refl }
 
 pub call_on : (p : ProgramTy) (c e : Scene) (fs gs : List Frame) (call : Call) → Grows p.unit (with_frames c fs) (with_frames e gs) → IsCall p.unit c fs call → IsCall p.unit e gs call
-call_on p c e fs gs call g h = record { func = ap (λ (f : ℕ). slice_get p.unit.funcs f) g.func ∙ h.func; body = h.body; typed = h.typed; scoped = h.scoped; ready = ready_stays p.unit (with_frames c fs) (with_frames e gs) g _ h.ready }
+call_on p c e fs gs call g h = record { func = ap (λ (f : ℕ). slice_get p.unit.funcs f) g.func ∙ h.func; body = h.body; typed = h.typed; scoped = h.scoped; ready = ready_stays p.unit (with_frames c fs) (with_frames e gs) g _ _ h.ready }
 
 pub waiting_on : (p : ProgramTy) (c e : Scene) → ((b : ℕ) → D p.unit c b → D p.unit e b) → (fs : List Frame) (call : Call) → AreWaiting p.unit c fs call → AreWaiting p.unit e fs call
 waiting_on p c e g [] call h = h
@@ -37,7 +38,7 @@ waiting_on p c e g (f ∷ fs) call h = (h.0, call_on p c e (f ∷ fs) (f ∷ fs)
 
 pub at_later : (p : ProgramTy) (c e : Scene) (call : Call) → Grows p.unit c e → IsAt p.unit c call → IsAt p.unit e call
 at_later p c e call g h = record {
-  active = call_on p c e c.frames e.frames call (record { blocks = g.blocks; objects = g.objects; active = g.active; func = g.func; below = g.below }) h.active;
+  active = call_on p c e c.frames e.frames call (record { blocks = g.blocks; objects = g.objects; rest = g.rest; active = g.active; func = g.func; below = g.below }) h.active;
   waiting = subst (λ (fs : List Frame). AreWaiting p.unit e fs call) (sym g.below) (waiting_on p c e g.blocks (frames_below c.frames) call h.waiting);
 }
 
@@ -75,20 +76,22 @@ module _ (p : ProgramTy) (c : Scene) (call : Call) where
 
   -- ---- values that are given
 
-  pub nothing_suits : (D : ℕ → Type 0) (q : QTy) → IsResult q → Suits D (kind_at (type_in q)) NoValue
+  pub nothing_suits : (D : ℕ → Type 0) (q : QTy) → IsResult p.unit q → Suits D (kind_passed (type_in q)) NoValue
   nothing_suits D q ty.IsResult.nothing = tt
   nothing_suits D q (ty.IsResult.scalar s) = of_scalar (type_in q) s.0
     where
-      of_scalar : (t : Ty) → is_scalar t ≡ true → Suits D (kind_at t) NoValue
+      of_scalar : (t : Ty) → is_scalar t ≡ true → Suits D (kind_passed t) NoValue
       of_scalar (int k) h = tt
       of_scalar (pointer q) h = tt
       of_scalar _ h = absurd (cc)
+  nothing_suits D q (ty.IsResult.structure s) = subst (λ (x : Kind). Suits D x NoValue) (sym (small_passed p.unit q s)) tt
 
   status_well : (D : ℕ → Type 0) (d : Scene) (v : Value) → Suits D (arithmetic true) v → IsWell p.unit (status_of d v)
   status_well D d (Whole z) h = tt
   status_well D d Opaque h = tt
   status_well D d NoValue h = tt
   status_well D d Null h = absurd h
+  status_well D d (Cells xs) h = absurd h
   status_well D d (Place b o) h = absurd h
 
   module _ (waiting : AreWaiting p.unit c (frames_below c.frames) call) where
@@ -101,8 +104,8 @@ module _ (p : ProgramTy) (c : Scene) (call : Call) where
 
     pub leaves_call : (v : Value) (vs : List Value) (d : Scene) → IsScene p.unit c d → Suits E (kind_given call.func.ty) v → AreSuited E call.base vs → IsWell p.unit (left_call p.unit v call.behind vs d)
     leaves_call v vs d i s a =
-        let last : Scene = end_objects (params_of (slice_get p.unit.funcs (func_in d.frames))) d in
-        let j = ends (inside call) tt p c (params_of (slice_get p.unit.funcs (func_in d.frames))) d i in
+        let last : Scene = end_arguments p.unit d in
+        let j = end_one (inside call) tt p c (rest_in d.frames) (end_objects (params_of (slice_get p.unit.funcs (func_in d.frames))) d) (ends (inside call) tt p c (params_of (slice_get p.unit.funcs (func_in d.frames))) d i) in
         subst (λ (fs : List Frame). IsWell p.unit (back_in fs call.behind vs (without_frame last) v)) (sym (ap frames_below i.frames))
         (goes_back (frames_below c.frames) v vs (without_frame last) waiting (ap frames_below j.frames) (record { frames = ap frames_below j.frames; store = j.store }) s a)
 

@@ -10,25 +10,26 @@ use Rattle.c65_base.specs.declared.library.Library.{Library}
 use Rattle.c65_base.specs.declared.library.Library.TheVariants as the
 use Rattle.c65_csem.specs.Trees.{Typed, type_of, MaybeTyped, absent, present, Stmt, Stmts, FuncTy, UnitTy}
 use Rattle.c65_csem.specs.Places.{is_place, plain, plain_of}
-use Rattle.c65_csem.specs.Typed.{IsTyped, IsResult, result_of}
+use Rattle.c65_csem.specs.Typed.{IsTyped, result_of}
 use Rattle.c65_csem.specs.Statements.{Context, IsStmt, AreStmts, NamesAutomatic, CanBreak, labels_of}
 use Rattle.c65_meaning.specs.Why.{Why, By, Unfit}
-use Rattle.c65_meaning.specs.Store.{Cell, Piece, Block, Store, Value, Whole, Null, Place, Opaque, NoValue, Shape, Number, Field, Pointer, Area}
+use Rattle.c65_meaning.specs.Store.{Cell, Piece, Block, Store, Value, Whole, Null, Place, Opaque, Cells, NoValue, nth_cell, Shape, Number, Field, Pointer, Area}
 use Rattle.c65_meaning.specs.Operators.{is_post}
 use Rattle.c65_meaning.specs.Fits.{IsTarget, result_shape, unary_shape}
 use Rattle.c65_meaning.specs.Calls.{passed_to}
-use Rattle.c65_meaning.specs.Items.{Item, Push, Name, Follow, Move, Fetch, Keep, Change, Apply1, Apply2, Both, Either, Truth, Choose, Drop, Put, Peek, Bump, PutUnder, Carry, Invoke, Busy, Loop, Skip, Init, CarryInto, Wipe, Begin, End, Branch, Test, Pass, Enter, Next, Back, Check, Redo, Select, EndSwitch, Jump, LeaveLoop, GoOn, Give, GiveNothing, Leave}
+use Rattle.c65_meaning.specs.Items.{Item, Push, Name, Follow, Move, Fetch, Keep, Change, Apply1, Apply2, Both, Either, Truth, Choose, Drop, Put, Peek, Bump, PutUnder, Carry, Gather, Lay, Reach, Invoke, Busy, Loop, Skip, Init, CarryInto, Wipe, Begin, End, Branch, Test, Pass, Enter, Next, Back, Check, Redo, Select, EndSwitch, Jump, LeaveLoop, GoOn, Give, GiveNothing, Leave}
 use Rattle.c65_meaning.specs.State.{Scene, State, Undefined, Running}
-use Rattle.c65_meaning_law.specs.Laws.{HasBlock, AreThere}
+use Rattle.c65_meaning_law.specs.Laws.{HasBlock, HasRest, AreThere}
 use Rattle.c65_meaning_law.specs.Library.{AreArguments}
 use Rattle.c65_csem_names.specs.Scopes.{IsScoped, AreScoped, entering}
 use Rattle.c65_meaning_law.specs.Statements.{IsReady}
 
--- a number of a signed type or of an unsigned one, a pointer, a place, and any value
+-- a number of a signed type or of an unsigned one, a pointer, a place, the cells of a structure or union, and any value but cells
 pub data Kind : Type 0 where
   arithmetic : (signed : Bool) → Kind
   pointing : Kind
   naming : Kind
+  carrying : Kind
   free : Kind
 
 -- how a loop or switch, a loop's body, or a call is left
@@ -64,9 +65,14 @@ kind_if false t = kind_at t
 abbrev pub kind_of : Typed → Kind
 kind_of e = kind_if (is_place e) (type_in (type_of e))
 
+-- of what is passed or returned
+abbrev pub kind_passed : Ty → Kind
+kind_passed (tag n) = carrying
+kind_passed t = kind_at t
+
 -- of what a function gives
 abbrev pub kind_given : Fn → Kind
-kind_given f = kind_at (type_in (plain_of (result_of f)))
+kind_given f = kind_passed (type_in (plain_of (result_of f)))
 
 abbrev pub kind_from : Library → Kind
 kind_from the.Memcpy = pointing
@@ -76,11 +82,17 @@ kind_from the.Exit = free
 kind_from the.Strlen = arithmetic false
 kind_from _ = arithmetic true
 
+-- of values other than cells
+abbrev pub IsSimple : Kind → Type 0
+IsSimple carrying = ⊥
+IsSimple _ = ⊤
+
 abbrev pub Below : Kind → Kind → Type 0
-Below y free = ⊤
+Below y free = IsSimple y
 Below (arithmetic s) (arithmetic t) = s ≡ t
 Below pointing pointing = ⊤
 Below naming naming = ⊤
+Below carrying carrying = ⊤
 Below _ _ = ⊥
 
 abbrev pub IsScalarShape : Shape → Type 0
@@ -91,7 +103,7 @@ IsScalarShape _ = ⊤
 abbrev pub Operates : UnaryOp → Shape → Kind → Type 0
 Operates Neg (Number t) (arithmetic s) = ⊤
 Operates BitNot (Number t) (arithmetic s) = ⊤
-Operates Not s x = ⊤
+Operates Not s x = IsSimple x
 Operates _ s x = ⊥
 
 abbrev pub is_move : BinaryOp → Bool
@@ -154,12 +166,23 @@ IsOfSign false (pos n) = ⊤
 IsOfSign false (negsuc n) = ⊥
 
 module _ (D : ℕ → Type 0) where
+  abbrev pub CellFits : Cell → Type 0
+  CellFits (Piece i b o) = D b
+  CellFits _ = ⊤
+
+  abbrev pub CellsFit : (ℕ → Cell) → Type 0
+  CellsFit cells = (q : ℕ) → CellFits (cells q)
+
   abbrev pub Stands : Value → Type 0
   Stands (Place b o) = D b
+  Stands (Cells xs) = CellsFit (nth_cell xs)
   Stands _ = ⊤
 
   abbrev pub Suits : Kind → Value → Type 0
+  Suits free (Cells xs) = ⊥
   Suits free v = Stands v
+  Suits carrying (Cells xs) = CellsFit (nth_cell xs)
+  Suits carrying NoValue = ⊤
   Suits (arithmetic s) (Whole z) = IsOfSign s z
   Suits (arithmetic s) Opaque = ⊤
   Suits (arithmetic s) NoValue = ⊤
@@ -174,13 +197,6 @@ module _ (D : ℕ → Type 0) where
   AreSuited [] vs = ⊤
   AreSuited (x ∷ ks) [] = ⊥
   AreSuited (x ∷ ks) (v ∷ vs) = Suits x v × AreSuited ks vs
-
-  abbrev pub CellFits : Cell → Type 0
-  CellFits (Piece i b o) = D b
-  CellFits _ = ⊤
-
-  abbrev pub CellsFit : (ℕ → Cell) → Type 0
-  CellsFit cells = (q : ℕ) → CellFits (cells q)
 
   pub record StoreFits (s : Store) : Type 0 where
     pub there : (b : ℕ) → D b → IsSome (s b)
@@ -239,12 +255,11 @@ pub record IsCallee (callee : Ty) (types : List Ty) : Type 0 where
   pub type : Fn
   pub named : callee ≡ pointer (plain (function type))
   pub passed : passed_to (Some type) types ≡ types
-  pub result : IsResult (plain_of (result_of type))
 
 -- arguments of these types wait above
 abbrev pub pushed : List Ty → List Kind → List Kind
 pushed [] ks = ks
-pushed (t ∷ rest) ks = pushed rest (kind_at t ∷ ks)
+pushed (t ∷ rest) ks = pushed rest (kind_passed t ∷ ks)
 
 -- ---- what began in a scene
 
@@ -283,22 +298,24 @@ Leads x q ks = (y : Exit) → Allows x y → q y ks
 module _ (m : Setting) (u : UnitTy) (c : Scene) where
   -- a statement whose names are in scope, and whose scope has blocks
   pub record IsWork (s : Stmt) : Type 0 where
+    pub variadic : Bool
     pub scope : List ℕ
     pub context : Context
     pub placed : IsContext m context
     pub typed : IsStmt u context s
-    pub scoped : IsScoped u scope s
-    pub ready : IsReady u scope c
+    pub scoped : IsScoped u variadic scope s
+    pub ready : IsReady u variadic scope c
 
   -- a block that is to begin: its objects come into scope
   pub record IsBlock (objects : List ℕ) (ss : Stmts) : Type 0 where
+    pub variadic : Bool
     pub scope : List ℕ
     pub context : Context
     pub placed : IsContext m context
     pub automatic : All (NamesAutomatic u) objects
     pub typed : AreStmts u context ss
-    pub scoped : AreScoped u (entering objects scope) ss
-    pub ready : IsReady u scope c
+    pub scoped : AreScoped u variadic (entering objects scope) ss
+    pub ready : IsReady u variadic scope c
 
   pub record IsLoop (l : Loop) : Type 0 where
     pub body : IsWork l.body
@@ -313,14 +330,14 @@ module _ (m : Setting) (u : UnitTy) (c : Scene) where
   Acts (Wipe i done size) f q ks = HasBlock u c i × f ks
   Acts (Begin n objects body) f q ks = (h : IsBlock objects body) × f ks × Leads h.context q ks
   Acts (End objects) f q ks = f ks
-  Acts (Branch at a n b) f q (x ∷ ks) = (g : IsWork a) × (h : IsWork b) × f ks × Leads g.context q ks × Leads h.context q ks
-  Acts (Test l) f q (x ∷ ks) = IsLoop l × f ks × q returning ks
+  Acts (Branch at a n b) f q (x ∷ ks) = (g : IsWork a) × (h : IsWork b) × f ks × Leads g.context q ks × Leads h.context q ks × IsSimple x
+  Acts (Test l) f q (x ∷ ks) = IsLoop l × f ks × q returning ks × IsSimple x
   Acts (Pass l) f q ks = IsLoop l × f ks × q returning ks
   Acts (Enter l) f q ks = IsLoop l × f ks × q returning ks × HasTest l.test
   Acts (Next l) f q ks = IsLoop l × f ks × q returning ks
   Acts (Back l) f q (x ∷ ks) = IsLoop l × f ks × q returning ks
   Acts (Check l) f q ks = IsLoop l × f ks × q returning ks × HasTest l.test
-  Acts (Redo l) f q (x ∷ ks) = IsLoop l × f ks × q returning ks × HasTest l.test
+  Acts (Redo l) f q (x ∷ ks) = IsLoop l × f ks × q returning ks × HasTest l.test × IsSimple x
   Acts (Select left n body) f q (arithmetic s ∷ ks) = (h : IsWork body) × f ks × q returning ks × (IsTrue h.context.in_loop → q continuing ks)
   Acts EndSwitch f q ks = f ks
   Acts (Jump l n) f q ks = HasLabel m l × q returning ks
@@ -337,19 +354,22 @@ module _ (m : Setting) (u : UnitTy) (c : Scene) where
   Does (Move o) k f q (naming ∷ ks) = Gives naming f ks
   Does (Fetch s) k f q (naming ∷ ks) = IsScalarShape s × Gives (kind_in s) f ks
   Does Keep k f q (naming ∷ ks) = Gives pointing f ks
-  Does (Change to) k f q (x ∷ ks) = IsTarget to × Gives (kind_in to) f ks
+  Does (Change to) k f q (x ∷ ks) = IsTarget to × Gives (kind_in to) f ks × IsSimple x
   Does (Apply1 op s) k f q (x ∷ ks) = Operates op s x × Gives (turned_kind op s) f ks
   Does (Apply2 op l r) k f q (y ∷ x ∷ ks) = Combines op l r × (y ≡ kind_in r) × (x ≡ kind_in l) × Gives (joined op l r) f ks
-  Does (Both b) k f q (x ∷ ks) = IsPart u c b × Gives (arithmetic true) f ks
-  Does (Either b) k f q (x ∷ ks) = IsPart u c b × Gives (arithmetic true) f ks
-  Does Truth k f q (x ∷ ks) = Gives (arithmetic true) f ks
-  Does (Choose a b) k f q (x ∷ ks) = (y : Kind) × IsArmOf u c y a × IsArmOf u c y b × f (y ∷ ks)
+  Does (Both b) k f q (x ∷ ks) = IsPart u c b × Gives (arithmetic true) f ks × IsSimple x
+  Does (Either b) k f q (x ∷ ks) = IsPart u c b × Gives (arithmetic true) f ks × IsSimple x
+  Does Truth k f q (x ∷ ks) = Gives (arithmetic true) f ks × IsSimple x
+  Does (Choose a b) k f q (x ∷ ks) = (y : Kind) × IsArmOf u c y a × IsArmOf u c y b × f (y ∷ ks) × IsSimple x
   Does Drop k f q (x ∷ ks) = f ks
   Does (Put s) k f q (y ∷ naming ∷ ks) = IsScalarShape s × Gives (kind_in s) f ks
   Does (Peek s to) k f q (naming ∷ ks) = IsScalarShape s × Becomes s to × f (kind_in to ∷ naming ∷ ks)
   Does (Bump kind s) k f q (y ∷ naming ∷ ks) = IsScalarShape s × (y ≡ kind_in s) × (x : Kind) × Below (kind_in s) x × f (kind_in s ∷ naming ∷ with_kind (is_post kind) x ks)
   Does (PutUnder s) k f q (y ∷ naming ∷ ks) = f ks
   Does (Carry done size) k f q (naming ∷ naming ∷ ks) = Gives naming f ks
+  Does (Gather size) k f q (naming ∷ ks) = Gives carrying f ks
+  Does (Lay i done size) k f q (carrying ∷ ks) = HasBlock u c i × Gives naming f ks
+  Does Reach k f q ks = HasRest c × Gives pointing f ks
   Does (Invoke callee types) k f q ks = (h : IsCallee callee types) × (rest : List Kind) × (ks ≡ pushed types (pointing ∷ rest)) × Gives (kind_given h.type) f rest
   Does (Busy left library args) k f q ks = IsCalled m × AreArguments c.store library args × Gives (kind_from library) f ks
   Does Leave k f q ks = IsAtEnd m returning k ks

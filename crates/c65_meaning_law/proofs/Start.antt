@@ -10,7 +10,7 @@ use Rattle.c65_meaning.specs.Store.{Cell, Bits, Piece, Clouded, byte, Block, Sto
 use Rattle.c65_meaning.specs.Shapes.{object_in, lives_in_frame, literal_block, object_block, first_block}
 use Rattle.c65_meaning.specs.Costs.{bytes_of_objects, soft_cost, arguments_bytes}
 use Rattle.c65_meaning.specs.State.{Scene, State, Undefined, Deep, Ended, Running}
-use Rattle.c65_meaning.specs.Step.{place_in, new_frame, with_params, body_of, step, steps}
+use Rattle.c65_meaning.specs.Step.{place_in, new_frame, with_passed, body_of, step, steps}
 use Rattle.c65_meaning.specs.Start.{bytes_at, text_block, argv_cells, argv_block, with_texts, initial_store, objects_inside, with_arguments, first_store, first_scene, main_values, started, started_by, start_in}
 use Rattle.c65_meaning.specs.Sem.{state_at}
 use Rattle.c65_csem_names.specs.Scopes.{IsInScope}
@@ -22,7 +22,7 @@ use Rattle.c65_meaning_law.specs.Runs.{ProgramsFit}
 use Rattle.c65_meaning_law.proofs.Stacks.{CellFits, CellsFit, StoreFits, D}
 use Rattle.c65_meaning_law.proofs.Programs.{initial_store_fits}
 use Rattle.c65_meaning_law.proofs.Arguments.{Enough}
-use Rattle.c65_meaning_law.proofs.Entering.{AllStand, automatic_params, params_begin}
+use Rattle.c65_meaning_law.proofs.Entering.{AllStand, automatic_params, passed_begin}
 use Rattle.c65_meaning_law.proofs.Calls.{IsWell}
 use Rattle.c65_meaning_law.proofs.Invoking.{well_if, body_typed, body_enters}
 use Rattle.c65_meaning_law.proofs.Jumps.{jumps_well}
@@ -129,8 +129,8 @@ module _ (p : ProgramTy) (free : Bool) (args : List (List ℕ)) (input : List �
   values_enough (i ∷ j ∷ []) h = tt
   values_enough (i ∷ j ∷ k ∷ params) h = absurd h
 
-  first_ready : (f cost : ℕ) (params : List ℕ) → IsReady p.unit [] (new_frame p.unit f cost (first_scene p.unit free params args input))
-  first_ready f cost params = record { active = tt; objects = objects; literals = λ l m. first_some p.unit args params (literal_block p.unit l) (blocks.literals l m); funcs = λ n m. first_some p.unit args params n (blocks.funcs n m) }
+  first_ready : (f cost : ℕ) (params : List ℕ) → IsReady p.unit false [] (new_frame p.unit f cost (first_scene p.unit free params args input))
+  first_ready f cost params = record { active = tt; objects = objects; literals = λ l m. first_some p.unit args params (literal_block p.unit l) (blocks.literals l m); funcs = λ n m. first_some p.unit args params n (blocks.funcs n m); rest = λ l. absurd (let e : false ≡ true = l in cc) }
     where
       blocks : HasBlocks p.unit
       blocks = (initial_store_fits p.unit).0
@@ -152,8 +152,8 @@ module _ (p : ProgramTy) (free : Bool) (args : List (List ℕ)) (input : List �
   main_enters g body i j t =
       let cost : ℕ = soft_cost p.unit (bytes_of_objects p.unit g.params) body + arguments_bytes args in
       let d : Scene = new_frame p.unit p.main cost (first_scene p.unit free g.params args input) in
-      body_enters p w s p.main g body [] [] [] d (with_params p.unit g.params (main_values p.unit args g.params) d) i j refl
-      (params_begin p g.params (main_values p.unit args g.params) [] d (automatic_params p.unit g.params (body_typed p w s p.main g body i j).params) (first_ready p.main cost g.params) (first_fits p.main cost g.params) (values_stand g.params) (values_enough g.params t))
+      body_enters p w s p.main g body [] [] [] d (with_passed p.unit g [] (main_values p.unit args g.params) d) i j refl
+      (passed_begin p g [] (main_values p.unit args g.params) d (automatic_params p.unit g.params (body_typed p w s p.main g body i j).params) (first_ready p.main cost g.params) (first_fits p.main cost g.params) (values_stand g.params) (values_enough g.params t))
       (λ e n. (tt, (refl, main g i)))
 
   main_starts : (g : FuncTy) (o : Option Stmt) → slice_get p.unit.funcs p.main ≡ Some g → g.body ≡ o → IsSome o → TakesArguments p.unit g.params → IsWell p.unit (started p.unit free p.main args input g o)

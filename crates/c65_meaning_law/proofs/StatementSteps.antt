@@ -5,20 +5,21 @@ use Rattle.c65_csem.specs.Trees.{MaybeTyped, absent, present, Stmt, Stmts}
 use Rattle.c65_csem.specs.Statements.{Context}
 use Rattle.c65_meaning.specs.Program.{ProgramTy}
 use Rattle.c65_meaning.specs.Why.{Why, By, Unfit}
-use Rattle.c65_meaning.specs.Store.{Block, Store, Value, Whole, Null, Place, Opaque, NoValue, put_cell, byte, end_in}
+use Rattle.c65_meaning.specs.Store.{Block, Store, Value, Whole, Null, Place, Opaque, Cells, NoValue, put_cell, byte, end_in}
 use Rattle.c65_meaning.specs.Operators.{truth_of}
 use Rattle.c65_meaning.specs.Shapes.{object_in, lives_in_frame, object_block}
-use Rattle.c65_meaning.specs.Items.{Item, Push, Name, Follow, Move, Fetch, Keep, Change, Apply1, Apply2, Both, Either, Truth, Choose, Drop, Put, Peek, Bump, PutUnder, Carry, Invoke, Busy, Loop, Skip, Init, CarryInto, Wipe, Begin, End, Branch, Test, Pass, Enter, Next, Back, Check, Redo, Select, EndSwitch, Jump, LeaveLoop, GoOn, Give, GiveNothing, Leave, plan, head_of, plan_stmt}
+use Rattle.c65_meaning.specs.Items.{Item, Push, Name, Follow, Move, Fetch, Keep, Change, Apply1, Apply2, Both, Either, Truth, Choose, Drop, Put, Peek, Bump, PutUnder, Carry, Gather, Lay, Reach, Invoke, Busy, Loop, Skip, Init, CarryInto, Wipe, Begin, End, Branch, Test, Pass, Enter, Next, Back, Check, Redo, Select, EndSwitch, Jump, LeaveLoop, GoOn, Give, GiveNothing, Leave, plan, head_of, plan_stmt}
 use Rattle.c65_meaning.specs.After.{Sought, ToCase, ToDefault, Landing, or_else, after, Left, ending, up_to_break, up_to_continue}
-use Rattle.c65_meaning.specs.State.{Frame, Scene, State, Undefined, Deep, Ended, Running, turned, block_in}
-use Rattle.c65_meaning.specs.Step.{place_in, begin_objects, end_named, end_objects, put, carried_byte, carry_into_step, at_offset, cleared, wipe_step, place_in_object, after_body, last_test, left_for, switched, chosen_case, func_in, frames_below, perform, step}
+use Rattle.c65_meaning.specs.State.{Frame, Scene, State, Undefined, Deep, Ended, Running, turned, block_in, rest_in}
+use Rattle.c65_meaning.specs.Step.{place_in, begin_objects, end_named, end_objects, put, carried_byte, carry_into_step, cleared, wipe_step, place_in_object, after_body, last_test, left_for, switched, chosen_case, func_in, frames_below, perform, step}
 use Rattle.c65_meaning_law.specs.Laws.{HasBlock, IsFit}
 use Rattle.c65_csem_names.specs.Scopes.{entering}
 use Rattle.c65_meaning_law.specs.Statements.{IsReady, HasFrame, leaves, pauses, steps_within, StatementsFit}
 use Rattle.c65_meaning_law.proofs.Stacks.{Kind, arithmetic, breaking, continuing, returning, naming, Sound, Suits, AreSuited, StoreFits, Setting, statement, HasStatements, D, IsWork, IsBlock, IsMaybePart, IsLoop, HasTest, Leads, Does, Takes, Out, IsScene, IsGood}
 use Rattle.c65_meaning_law.proofs.Values.{truth_sound}
+use Rattle.c65_meaning_law.proofs.Plans.{simple}
 use Rattle.c65_meaning_law.proofs.Stores.{block_set, put_sound as cell_sound}
-use Rattle.c65_meaning_law.proofs.Steps.{good_if, runs, with_one, decides, goes_in, stored_sound, put_sound, byte_sound, performs}
+use Rattle.c65_meaning_law.proofs.Steps.{good_if, runs, with_one, decides, goes_in, stored_sound, put_sound, byte_sound, place_suits, performs}
 use Rattle.c65_meaning_law.proofs.Expressions.{first_store, closed}
 use Rattle.c65_meaning_law.proofs.Scopes.{automatic_of, Grows, grows_same, grows_on, ready_stays, begun}
 use Rattle.c65_meaning_law.proofs.Landings.{Each, either, AreNamed, names, Lands, switch_out, block_out, lands}
@@ -54,9 +55,6 @@ module _ (m : Setting) (hs : HasStatements m) (p : ProgramTy) (c : Scene) where
   abbrev named_in : ℕ → List Frame → Result Value Why
   named_in n fs = if lives_in_frame (object_in p.unit n) then place_in (block_in fs n) else Ok (Place (object_block p.unit n) 0)
 
-  place_suits : (i o : ℕ) (d : Scene) → HasBlock p.unit c i → Here d → Suits E naming (place_in_object p.unit i o d)
-  place_suits i o d h g = subst (λ (r : Result Value Why). Suits E naming (at_offset o r)) (sym (ap (named_in i) g.frames ∙ h.1)) h.2
-
   pub goes : (k : List Item) (ks : List Kind) (vs : List Value) (d : Scene) → Works k ks → AreSuited E ks vs → Here d → Good (Running k vs d)
   goes k ks vs d t a i = runs m p c k ks vs d t a i
 
@@ -74,6 +72,7 @@ module _ (m : Setting) (hs : HasStatements m) (p : ProgramTy) (c : Scene) where
   clears done d (Place b o) i s = stored_sound m p c d (put_cell true d.store b (o + done) (byte 0)) i (cell_sound E true d.store b (o + done) (byte 0) i.store s tt)
   clears done d (Whole z) i s = absurd s
   clears done d Null i s = absurd s
+  clears done d (Cells xs) i s = absurd s
   clears done d Opaque i s = absurd s
   clears done d NoValue i s = absurd s
 
@@ -88,7 +87,7 @@ module _ (m : Setting) (hs : HasStatements m) (p : ProgramTy) (c : Scene) where
   end_fits s b None e h = h
   end_fits s b (Some x) e h = block_set E s b (record x { live = false }) h (h.all b x e)
 
-  end_one : (n : Option ℕ) (d : Scene) → Here d → Here (end_named n d)
+  pub end_one : (n : Option ℕ) (d : Scene) → Here d → Here (end_named n d)
   end_one None d i = i
   end_one (Some b) d i = record { frames = i.frames; store = end_fits d.store b (d.store b) refl i.store }
 
@@ -104,7 +103,7 @@ module _ (m : Setting) (hs : HasStatements m) (p : ProgramTy) (c : Scene) where
 
   tests : (l : Loop) (o : MaybeTyped) (k : List Item) (ks : List Kind) (vs : List Value) (d : Scene) → IsMaybePart p.unit c o → HasTest o → IsLoop m p.unit c l → HasTest l.test → Works k ks → Ends k ks → AreSuited E ks vs → Here d → Good (last_test p.unit l o k vs d)
   tests l absent k ks vs d h g w q t r a i = absurd g
-  tests l (present e) k ks vs d h g w q t r a i = goes (plan p.unit e (Redo l ∷ k)) ks vs d (part_takes m hs p.unit c e (Redo l ∷ k) ks h (hs, (w, t, r, q))) a i
+  tests l (present e) k ks vs d h g w q t r a i = goes (plan p.unit e (Redo l ∷ k)) ks vs d (part_takes m hs p.unit c e (Redo l ∷ k) ks h (hs, (w, t, r, q, simple e))) a i
 
   body_takes : (l : Loop) (k : List Item) (ks : List Kind) (h : IsLoop m p.unit c l) → Works k ks → Leads h.body.context (Out m p.unit c k) ks → Works (plan_stmt p.unit l.at l.body k) ks
   body_takes l k ks h t q = work_takes m hs p.unit c l.at l.body k ks h.body t q
@@ -163,24 +162,24 @@ module _ (m : Setting) (hs : HasStatements m) (p : ProgramTy) (c : Scene) where
 
   acts : (j : Item) (k : List Item) (ks : List Kind) (vs : List Value) (d : Scene) → leaves j k ≡ false → begins j ≡ false → is_of_call j ≡ false → Does m p.unit c j k (Takes m p.unit c k) (Out m p.unit c k) ks → AreSuited E ks vs → Here d → Good (perform p j k vs d)
   acts Skip k ks vs d n o u t a i = goes k ks vs d t.1 a i
-  acts (Init j q f) k (x ∷ ks) vs d n o u t a i = with_one m p c x ks vs _ a (λ v r s b. goes_in m p c (put true f d (place_in_object p.unit j q d) v) k ks r t.1.1 b (put_sound m p c true f d x (place_in_object p.unit j q d) v i (place_suits j q d t.1.0 i) s))
-  acts (CarryInto j q done size) k (naming ∷ ks) vs d n o u t a i = with_one m p c naming ks vs _ a (λ v r s b. good_if m p c (nat_lt done size) (carry_into_step j q done size v k r (carried_byte true done size d v (place_in_object p.unit j q d))) (Running k r d) (carries_into j q done size v k ks r (carried_byte true done size d v (place_in_object p.unit j q d)) t.1.0 s t.1.1 b (byte_sound m p c true done size d v (place_in_object p.unit j q d) i s (place_suits j q d t.1.0 i))) (goes k ks r d t.1.1 b i))
-  acts (Wipe j done size) k ks vs d n o u t a i = good_if m p c (nat_lt done size) (wipe_step j done size k vs (cleared d done (place_in_object p.unit j 0 d))) (Running k vs d) (wipes j done size k ks vs (cleared d done (place_in_object p.unit j 0 d)) t.1.0 t.1.1 a (clears done d (place_in_object p.unit j 0 d) i (place_suits j 0 d t.1.0 i))) (goes k ks vs d t.1.1 a i)
+  acts (Init j q f) k (x ∷ ks) vs d n o u t a i = with_one m p c x ks vs _ a (λ v r s b. goes_in m p c (put true f d (place_in_object p.unit j q d) v) k ks r t.1.1 b (put_sound m p c true f d x (place_in_object p.unit j q d) v i (place_suits m p c j q d t.1.0 i) s))
+  acts (CarryInto j q done size) k (naming ∷ ks) vs d n o u t a i = with_one m p c naming ks vs _ a (λ v r s b. good_if m p c (nat_lt done size) (carry_into_step j q done size v k r (carried_byte true done size d v (place_in_object p.unit j q d))) (Running k r d) (carries_into j q done size v k ks r (carried_byte true done size d v (place_in_object p.unit j q d)) t.1.0 s t.1.1 b (byte_sound m p c true done size d v (place_in_object p.unit j q d) i s (place_suits m p c j q d t.1.0 i))) (goes k ks r d t.1.1 b i))
+  acts (Wipe j done size) k ks vs d n o u t a i = good_if m p c (nat_lt done size) (wipe_step j done size k vs (cleared d done (place_in_object p.unit j 0 d))) (Running k vs d) (wipes j done size k ks vs (cleared d done (place_in_object p.unit j 0 d)) t.1.0 t.1.1 a (clears done d (place_in_object p.unit j 0 d) i (place_suits m p c j 0 d t.1.0 i))) (goes k ks vs d t.1.1 a i)
   acts (Begin at objects body) k ks vs d n o u t a i = absurd (cc)
   acts (End objects) k ks vs d n o u t a i = goes k ks vs (end_objects objects d) t.1 a (ends objects d i)
-  acts (Branch at e q f) k (x ∷ ks) vs d n o u t a i = with_one m p c x ks vs _ a (λ v r s b. decides m p c (truth_of d.store v) (Running (plan_stmt p.unit at e k) r d) (Running (plan_stmt p.unit q f k) r d) (truth_sound E d.store v)
+  acts (Branch at e q f) k (x ∷ ks) vs d n o u t a i = with_one m p c x ks vs _ a (λ v r s b. decides m p c (truth_of d.store v) (Running (plan_stmt p.unit at e k) r d) (Running (plan_stmt p.unit q f k) r d) (truth_sound E d.store x v t.1.5 s)
       (goes (plan_stmt p.unit at e k) ks r d (work_takes m hs p.unit c at e k ks t.1.0 t.1.2 t.1.3) b i)
       (goes (plan_stmt p.unit q f k) ks r d (work_takes m hs p.unit c q f k ks t.1.1 t.1.2 t.1.4) b i))
-  acts (Test l) k (x ∷ ks) vs d n o u t a i = with_one m p c x ks vs _ a (λ v r s b. decides m p c (truth_of d.store v) (Running (plan_stmt p.unit l.at l.body (Next l ∷ k)) r d) (Running k r d) (truth_sound E d.store v)
-      (goes (plan_stmt p.unit l.at l.body (Next l ∷ k)) ks r d (next_body l k ks t) b i)
+  acts (Test l) k (x ∷ ks) vs d n o u t a i = with_one m p c x ks vs _ a (λ v r s b. decides m p c (truth_of d.store v) (Running (plan_stmt p.unit l.at l.body (Next l ∷ k)) r d) (Running k r d) (truth_sound E d.store x v t.1.3 s)
+      (goes (plan_stmt p.unit l.at l.body (Next l ∷ k)) ks r d (next_body l k ks (t.0, (t.1.0, t.1.1, t.1.2))) b i)
       (goes k ks r d t.1.1 b i))
   acts (Pass l) k ks vs d n o u t a i = goes (plan_stmt p.unit l.at l.body (Next l ∷ k)) ks vs d (next_body l k ks t) a i
   acts (Enter l) k ks vs d n o u t a i = goes (plan_stmt p.unit l.at l.body (Check l ∷ k)) ks vs d (check_body l k ks t) a i
   acts (Next l) k ks vs d n o u t a i = body_ends l l.next k ks vs d t.1.0.next t.1.0 t.1.1 t.1.2 a i
   acts (Back l) k (x ∷ ks) vs d n o u t a i = with_one m p c x ks vs _ a (λ v r s b. goes (head_of p.unit l k) ks r (turned d) (head_takes m hs p.unit c l k ks t.1.0 t.1.1 t.1.2) b (turns d i))
   acts (Check l) k ks vs d n o u t a i = tests l l.test k ks vs d t.1.0.test t.1.3 t.1.0 t.1.3 t.1.1 t.1.2 a i
-  acts (Redo l) k (x ∷ ks) vs d n o u t a i = with_one m p c x ks vs _ a (λ v r s b. decides m p c (truth_of d.store v) (Running (plan_stmt p.unit l.at l.body (Check l ∷ k)) r (turned d)) (Running k r d) (truth_sound E d.store v)
-      (goes (plan_stmt p.unit l.at l.body (Check l ∷ k)) ks r (turned d) (check_body l k ks t) b (turns d i))
+  acts (Redo l) k (x ∷ ks) vs d n o u t a i = with_one m p c x ks vs _ a (λ v r s b. decides m p c (truth_of d.store v) (Running (plan_stmt p.unit l.at l.body (Check l ∷ k)) r (turned d)) (Running k r d) (truth_sound E d.store x v t.1.4 s)
+      (goes (plan_stmt p.unit l.at l.body (Check l ∷ k)) ks r (turned d) (check_body l k ks (t.0, (t.1.0, t.1.1, t.1.2, t.1.3))) b (turns d i))
       (goes k ks r d t.1.1 b i))
   acts EndSwitch k ks vs d n o u t a i = goes k ks vs d t.1 a i
   acts (Push v) k ks vs d n o u t a i = performs m p c (Push v) k ks vs d refl t a i
@@ -202,6 +201,9 @@ module _ (m : Setting) (hs : HasStatements m) (p : ProgramTy) (c : Scene) where
   acts (Bump kind f) k ks vs d n o u t a i = performs m p c (Bump kind f) k ks vs d refl t a i
   acts (PutUnder f) k ks vs d n o u t a i = performs m p c (PutUnder f) k ks vs d refl t a i
   acts (Carry done size) k ks vs d n o u t a i = performs m p c (Carry done size) k ks vs d refl t a i
+  acts (Gather size) k ks vs d n o u t a i = performs m p c (Gather size) k ks vs d refl t a i
+  acts (Lay j done size) k ks vs d n o u t a i = performs m p c (Lay j done size) k ks vs d refl t a i
+  acts Reach k ks vs d n o u t a i = performs m p c Reach k ks vs d refl t a i
   acts (Invoke callee types) k ks vs d n o u t a i = absurd (cc)
   acts (Busy left l args) k ks vs d n o u t a i = absurd (cc)
   acts (Select left at body) k ks vs d n o u t a i = absurd (cc)
@@ -216,7 +218,7 @@ module _ (m : Setting) (hs : HasStatements m) (p : ProgramTy) (c : Scene) where
   -- ---- a block begins: what stands is said of the scene in which its objects have blocks
 
   pub moves_here : (d : Scene) → Here d → Grows p.unit c d
-  moves_here d i = record { blocks = i.store.there; objects = λ j h. (h.0, ap (named_in j) i.frames ∙ h.1, i.store.there h.0 h.2); active = λ h. subst HasFrame (sym i.frames) h; func = ap func_in i.frames; below = ap frames_below i.frames }
+  moves_here d i = record { blocks = i.store.there; objects = λ j h. (h.0, ap (named_in j) i.frames ∙ h.1, i.store.there h.0 h.2); rest = λ h. (h.0, ap rest_in i.frames ∙ h.1, i.store.there h.0 h.2); active = λ h. subst HasFrame (sym i.frames) h; func = ap func_in i.frames; below = ap frames_below i.frames }
 
 -- good from a later scene on, in which more has begun
 abbrev pub IsGoodFrom : Setting → ProgramTy → Scene → State → Type 0
@@ -237,33 +239,34 @@ module _ (m : Setting) (hs : HasStatements m) (p : ProgramTy) where
       let e : Scene = begin_objects p.unit objects d in
       let g = moves_here m hs p c d i in
       let n = automatic_of p.unit objects h.automatic in
-      let on = begun p.unit objects h.scope d n (ready_stays p.unit c d g h.scope h.ready) (fits_here c d g i.store) in
+      let on = begun p.unit h.variadic objects h.scope d n (ready_stays p.unit c d g h.variadic h.scope h.ready) (fits_here c d g i.store) in
       let all = grows_on p.unit c d e g on.grows in
       let later : Takes m p.unit e k ks = takes_on m p.unit c e all k ks t in
-      (e, all, record { kinds = ks; takes = stmts_take m hs p.unit e (entering objects h.scope) on.ready h.context at body (End objects ∷ k) ks h.placed h.typed h.scoped (hs, later) (block_out p.unit m hs ToDefault e ks h.context objects h.scope k n (λ y l. out_on m p.unit c e all k y ks (q y l)) on.ready); suited = suited_on m p.unit c e all ks vs a; scene = stands_here e on.store })
+      (e, all, record { kinds = ks; takes = stmts_take m hs p.unit e h.variadic (entering objects h.scope) on.ready h.context at body (End objects ∷ k) ks h.placed h.typed h.scoped (hs, later) (block_out p.unit m hs ToDefault e ks h.variadic h.context objects h.scope k n (λ y l. out_on m p.unit c e all k y ks (q y l)) on.ready); suited = suited_on m p.unit c e all ks vs a; scene = stands_here e on.store })
 
   -- ---- a switch lands, or goes on behind it
 
-  switch_lands : (c : Scene) (scope : List ℕ) (k : List Item) (ks : List Kind) (vs : List Value) (d : Scene) (o : Option Landing) → IsReady p.unit scope c → Takes m p.unit c k ks → Each (AreNamed p.unit) o → ((e : Scene) → Grows p.unit c e → Each (Lands p.unit m hs ToDefault e ks scope) o) → AreSuited (D p.unit c) ks vs → IsScene p.unit c d → IsGoodFrom m p c (switched p.unit k vs d o)
-  switch_lands c scope k ks vs d None r t n f a i = good_here c (Running k vs d) (runs m p c k ks vs d t a i)
-  switch_lands c scope k ks vs d (Some to) r t n f a i =
+  switch_lands : (c : Scene) (variadic : Bool) (scope : List ℕ) (k : List Item) (ks : List Kind) (vs : List Value) (d : Scene) (o : Option Landing) → IsReady p.unit variadic scope c → Takes m p.unit c k ks → Each (AreNamed p.unit) o → ((e : Scene) → Grows p.unit c e → Each (Lands p.unit m hs ToDefault e ks variadic scope) o) → AreSuited (D p.unit c) ks vs → IsScene p.unit c d → IsGoodFrom m p c (switched p.unit k vs d o)
+  switch_lands c variadic scope k ks vs d None r t n f a i = good_here c (Running k vs d) (runs m p c k ks vs d t a i)
+  switch_lands c variadic scope k ks vs d (Some to) r t n f a i =
       let e : Scene = begin_objects p.unit to.objects d in
       let g = moves_here m hs p c d i in
-      let on = begun p.unit to.objects scope d n (ready_stays p.unit c d g scope r) (fits_here c d g i.store) in
+      let on = begun p.unit variadic to.objects scope d n (ready_stays p.unit c d g variadic scope r) (fits_here c d g i.store) in
       let all = grows_on p.unit c d e g on.grows in
       (e, all, record { kinds = ks; takes = f e all on.ready; suited = suited_on m p.unit c e all ks vs a; scene = stands_here e on.store })
 
   case_chosen : (c : Scene) (n : ℕ) (body : Stmt) (s : Bool) (v : Value) (k : List Item) (ks : List Kind) (vs : List Value) (d : Scene) → Suits (D p.unit c) (arithmetic s) v → (h : IsWork m p.unit c body) → Takes m p.unit c k ks → Out m p.unit c k returning ks → (IsTrue h.context.in_loop → Out m p.unit c k continuing ks) → AreSuited (D p.unit c) ks vs → IsScene p.unit c d → IsGoodFrom m p c (chosen_case p.unit n body k vs d v)
-  case_chosen c n body s (Whole z) k ks vs d y h t q l a i = switch_lands c h.scope k ks vs d (or_else (after p.unit (ToCase z) n body (EndSwitch ∷ k)) (after p.unit ToDefault n body (EndSwitch ∷ k))) h.ready t
+  case_chosen c n body s (Whole z) k ks vs d y h t q l a i = switch_lands c h.variadic h.scope k ks vs d (or_else (after p.unit (ToCase z) n body (EndSwitch ∷ k)) (after p.unit ToDefault n body (EndSwitch ∷ k))) h.ready t
       (either (AreNamed p.unit) (after p.unit (ToCase z) n body (EndSwitch ∷ k)) (after p.unit ToDefault n body (EndSwitch ∷ k)) (names p.unit (ToCase z) h.context n body (EndSwitch ∷ k) h.typed) (names p.unit ToDefault h.context n body (EndSwitch ∷ k) h.typed))
-      (λ e g. either (Lands p.unit m hs ToDefault e ks h.scope) (after p.unit (ToCase z) n body (EndSwitch ∷ k)) (after p.unit ToDefault n body (EndSwitch ∷ k)) (landing (ToCase z) e g) (landing ToDefault e g))
+      (λ e g. either (Lands p.unit m hs ToDefault e ks h.variadic h.scope) (after p.unit (ToCase z) n body (EndSwitch ∷ k)) (after p.unit ToDefault n body (EndSwitch ∷ k)) (landing (ToCase z) e g) (landing ToDefault e g))
       a i
     where
-      landing : (what : Sought) (e : Scene) → Grows p.unit c e → Each (Lands p.unit m hs what e ks h.scope) (after p.unit what n body (EndSwitch ∷ k))
-      landing what e g = lands p.unit m hs what e ks h.context h.scope n body (EndSwitch ∷ k) h.placed h.typed h.scoped (λ r. (hs, takes_on m p.unit c e g k ks t)) (λ r. switch_out p.unit m hs what e ks h.context k (takes_on m p.unit c e g k ks t) (λ w. out_on m p.unit c e g k continuing ks (l w)) (out_on m p.unit c e g k returning ks q))
+      landing : (what : Sought) (e : Scene) → Grows p.unit c e → Each (Lands p.unit m hs what e ks h.variadic h.scope) (after p.unit what n body (EndSwitch ∷ k))
+      landing what e g = lands p.unit m hs what e ks h.variadic h.context h.scope n body (EndSwitch ∷ k) h.placed h.typed h.scoped (λ r. (hs, takes_on m p.unit c e g k ks t)) (λ r. switch_out p.unit m hs what e ks h.variadic h.context k (takes_on m p.unit c e g k ks t) (λ w. out_on m p.unit c e g k continuing ks (l w)) (out_on m p.unit c e g k returning ks q))
   case_chosen c n body s Opaque k ks vs d y h t q l a i = (c, grows_same p.unit c, tt)
   case_chosen c n body s NoValue k ks vs d y h t q l a i = (c, grows_same p.unit c, tt)
   case_chosen c n body s Null k ks vs d y h t q l a i = absurd y
+  case_chosen c n body s (Cells xs) k ks vs d y h t q l a i = absurd y
   case_chosen c n body s (Place b o) k ks vs d y h t q l a i = absurd y
 
   selects : (c : Scene) (left n : ℕ) (body : Stmt) (s : Bool) (k : List Item) (ks : List Kind) (vs : List Value) (d : Scene) (h : IsWork m p.unit c body) → Takes m p.unit c k ks → Out m p.unit c k returning ks → (IsTrue h.context.in_loop → Out m p.unit c k continuing ks) → AreSuited (D p.unit c) (arithmetic s ∷ ks) vs → IsScene p.unit c d → IsGoodFrom m p c (perform p (Select left n body) k vs d)
@@ -322,4 +325,4 @@ module _ (p : ProgramTy) where
   fit (Running work vs d) h = closed p h.0 d.store h.1.scene.store
 
 pub statements_fit : StatementsFit
-statements_fit p x scope s at n values c w h r k = fit p (steps_within p n (Running (plan_stmt p.unit at s []) values c)) (goes_well p n (Running (plan_stmt p.unit at s []) values c) (c, record { kinds = []; takes = stmt_takes statement tt p.unit c scope r x at s [] [] tt w h tt (λ y l. tt); suited = tt; scene = record { frames = refl; store = first_store p c k } }))
+statements_fit p x variadic scope s at n values c w h r k = fit p (steps_within p n (Running (plan_stmt p.unit at s []) values c)) (goes_well p n (Running (plan_stmt p.unit at s []) values c) (c, record { kinds = []; takes = stmt_takes statement tt p.unit c variadic scope r x at s [] [] tt w h tt (λ y l. tt); suited = tt; scene = record { frames = refl; store = first_store p c k } }))

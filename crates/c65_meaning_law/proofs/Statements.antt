@@ -9,37 +9,49 @@ use Rattle.c65_ctype.specs.Trees.{Ty, void, int, pointer, array, tag, function, 
 use Rattle.c65_ctype.specs.Compatible.{same_int}
 use Rattle.c65_base.specs.declared.library.Library.{Library}
 use Rattle.c65_base.specs.declared.library.Library.TheVariants as the
-use Rattle.c65_csem.specs.Trees.{Typed, node, Node, constant, null, literal, object, func, deref, member, load, address, decay, convert, unary, binary, both, either, choice, comma, assign, assign_op, assign_step, step, copy, call, Nodes, none, some, MaybeTyped, absent, present, Stmt, empty, eval, set_part, clear, block, if_stmt, while, do_while, for_loop, switch, case, default, label, goto, break, continue, return, Stmts, no_stmts, and_stmts, type_of, UnitTy}
+use Rattle.c65_csem.specs.Trees.{Typed, node, Node, constant, null, literal, object, func, deref, member, load, address, decay, convert, unary, binary, both, either, choice, comma, assign, assign_op, assign_step, step, copy, call, pack, spill, rest, Nodes, none, some, MaybeTyped, absent, present, Stmt, empty, eval, set_part, clear, block, if_stmt, while, do_while, for_loop, switch, case, default, label, goto, break, continue, return, Stmts, no_stmts, and_stmts, type_of, UnitTy}
 use Rattle.c65_csem.specs.Places.{plain, is_scalar, is_place, are_alike, alike}
-use Rattle.c65_csem.specs.Typed.{IsTyped, IsValue}
+use Rattle.c65_csem.specs.Typed.{IsTyped}
 use Rattle.c65_csem.specs.Statements as st
 use Rattle.c65_csem.specs.Statements.{Context, looping, switching, switching, IsInitial, IsMaybe, IsMaybeCondition, IsStmt, AreStmts}
-use Rattle.c65_meaning.specs.Store.{Cell, Piece, Bits, Clouded, Value, Whole, Null, Place, Opaque, NoValue, Shape, Number, Field, Pointer, Area}
+use Rattle.c65_meaning.specs.Store.{Cell, Piece, Bits, Clouded, Value, Whole, Null, Place, Opaque, Cells, NoValue, nth_cell, Shape, Number, Field, Pointer, Area}
 use Rattle.c65_meaning.specs.Shapes.{bare_type, object_in, shape_of, place_shape}
 use Rattle.c65_meaning.specs.Sites.{count, cases_of}
-use Rattle.c65_meaning.specs.Items.{Item, Push, Name, Follow, Move, Fetch, Keep, Change, Apply1, Apply2, Both, Either, Truth, Choose, Drop, Put, Peek, Bump, PutUnder, Carry, Invoke, Busy, Loop, Skip, Init, CarryInto, Wipe, Begin, End, Branch, Test, Pass, Enter, Next, Back, Check, Redo, Select, EndSwitch, Jump, LeaveLoop, GoOn, Give, GiveNothing, Leave, put_step, initial_store, test_first, test_last, plan, plan_node, plan_all, first, tested, head_of, plan_stmt, plan_stmts}
+use Rattle.c65_meaning.specs.Items.{Item, Push, Name, Follow, Move, Fetch, Keep, Change, Apply1, Apply2, Both, Either, Truth, Choose, Drop, Put, Peek, Bump, PutUnder, Carry, Gather, Lay, Reach, Invoke, Busy, Loop, Skip, Init, CarryInto, Wipe, Begin, End, Branch, Test, Pass, Enter, Next, Back, Check, Redo, Select, EndSwitch, Jump, LeaveLoop, GoOn, Give, GiveNothing, Leave, put_step, initial_store, test_first, test_last, plan, plan_node, plan_all, first, tested, head_of, plan_stmt, plan_stmts}
 use Rattle.c65_meaning.specs.State.{Scene}
 use Rattle.c65_meaning.specs.Operators.{is_post}
 use Rattle.c65_meaning_law.specs.Laws.{HasBlock}
 use Rattle.c65_meaning_law.specs.Library.{IsPointing, AreArguments}
 use Rattle.c65_csem_names.specs.Scopes.{IsScopedIn, IsScopedMaybe, IsScoped, AreScoped}
 use Rattle.c65_meaning_law.specs.Statements.{IsReady}
-use Rattle.c65_meaning_law.proofs.Stacks.{Kind, Exit, breaking, continuing, returning, arithmetic, pointing, naming, free, kind_in, kind_at, kind_of, kind_given, kind_from, Below, joined, turned_kind, with_kind, Gives, Stands, Suits, AreSuited, CellFits, Setting, expression, statement, inside, HasStatements, IsContext, HasLabel, IsReturned, D, IsPart, IsMaybePart, HaveBlocks, Leads, IsWork, IsBlock, IsLoop, Does, Takes, Out}
-use Rattle.c65_meaning_law.proofs.Plans.{below_refl, below_value, value_kind, tag_kind, takes}
-use Rattle.c65_meaning_law.proofs.Scopes.{is_some_in, there, Grows, stays, ready_stays}
+use Rattle.c65_meaning_law.proofs.Stacks.{Kind, Exit, breaking, continuing, returning, arithmetic, pointing, naming, carrying, free, kind_in, kind_at, kind_of, kind_passed, kind_given, kind_from, Below, joined, turned_kind, with_kind, Gives, Stands, Suits, AreSuited, CellFits, Setting, expression, statement, inside, HasStatements, IsContext, HasLabel, IsReturned, D, IsPart, IsMaybePart, HaveBlocks, Leads, IsWork, IsBlock, IsLoop, Does, Takes, Out}
+use Rattle.c65_meaning_law.proofs.Plans.{below_refl, below_value, simple, tag_kind, takes, given_takes}
+use Rattle.c65_meaning_law.proofs.Scopes.{is_some_in, there, given_there, Grows, stays, ready_stays}
 
 -- ---- more blocks
 
 module _ (m : Setting) (u : UnitTy) (c e : Scene) (g : Grows u c e) where
+  pub cell_on : (x : Cell) → CellFits (D u c) x → CellFits (D u e) x
+  cell_on (Piece k b o) h = g.blocks b h
+  cell_on (Bits known value) h = tt
+  cell_on Clouded h = tt
+
   pub stands_on : (v : Value) → Stands (D u c) v → Stands (D u e) v
   stands_on (Place b o) h = g.blocks b h
   stands_on (Whole z) h = tt
   stands_on Null h = tt
   stands_on Opaque h = tt
+  stands_on (Cells xs) h = λ q. cell_on (nth_cell xs q) (h q)
   stands_on NoValue h = tt
 
   pub suits_on : (x : Kind) (v : Value) → Suits (D u c) x v → Suits (D u e) x v
-  suits_on free v h = stands_on v h
+  suits_on free (Place b o) h = g.blocks b h
+  suits_on free (Whole z) h = tt
+  suits_on free Null h = tt
+  suits_on free Opaque h = tt
+  suits_on free NoValue h = tt
+  suits_on carrying (Cells xs) h = λ q. cell_on (nth_cell xs q) (h q)
+  suits_on carrying NoValue h = tt
   suits_on (arithmetic s) (Whole z) h = h
   suits_on (arithmetic s) Opaque h = tt
   suits_on (arithmetic s) NoValue h = tt
@@ -50,11 +62,6 @@ module _ (m : Setting) (u : UnitTy) (c e : Scene) (g : Grows u c e) where
   suits_on naming (Place b o) h = g.blocks b h
   suits_on _ v h = absurd h
 
-  pub cell_on : (x : Cell) → CellFits (D u c) x → CellFits (D u e) x
-  cell_on (Piece k b o) h = g.blocks b h
-  cell_on (Bits known value) h = tt
-  cell_on Clouded h = tt
-
   pub suited_on : (ks : List Kind) (vs : List Value) → AreSuited (D u c) ks vs → AreSuited (D u e) ks vs
   suited_on [] vs h = tt
   suited_on (x ∷ ks) [] h = absurd h
@@ -63,6 +70,7 @@ module _ (m : Setting) (u : UnitTy) (c e : Scene) (g : Grows u c e) where
   pointing_on : (v : Value) → IsPointing c.store v → IsPointing e.store v
   pointing_on (Place b o) h = g.blocks b h
   pointing_on (Whole z) h = absurd h
+  pointing_on (Cells xs) h = absurd h
   pointing_on Null h = tt
   pointing_on Opaque h = tt
   pointing_on NoValue h = tt
@@ -88,13 +96,13 @@ module _ (m : Setting) (u : UnitTy) (c e : Scene) (g : Grows u c e) where
 
   pub have_on : (objects : List ℕ) → HaveBlocks u c objects → HaveBlocks u e objects
   have_on [] h = tt
-  have_on (i ∷ rest) h = (g.objects i h.0, have_on rest h.1)
+  have_on (i ∷ more) h = (g.objects i h.0, have_on more h.1)
 
   abbrev work_on : (s : Stmt) → IsWork m u c s → IsWork m u e s
-  work_on s h = record { scope = h.scope; context = h.context; placed = h.placed; typed = h.typed; scoped = h.scoped; ready = ready_stays u c e g h.scope h.ready }
+  work_on s h = record { variadic = h.variadic; scope = h.scope; context = h.context; placed = h.placed; typed = h.typed; scoped = h.scoped; ready = ready_stays u c e g h.variadic h.scope h.ready }
 
   abbrev block_on : (objects : List ℕ) (ss : Stmts) → IsBlock m u c objects ss → IsBlock m u e objects ss
-  block_on objects ss h = record { scope = h.scope; context = h.context; placed = h.placed; automatic = h.automatic; typed = h.typed; scoped = h.scoped; ready = ready_stays u c e g h.scope h.ready }
+  block_on objects ss h = record { variadic = h.variadic; scope = h.scope; context = h.context; placed = h.placed; automatic = h.automatic; typed = h.typed; scoped = h.scoped; ready = ready_stays u c e g h.variadic h.scope h.ready }
 
   loop_on : (l : Loop) → IsLoop m u c l → IsLoop m u e l
   loop_on l h = record { body = work_on l.body h.body; test = maybe_on l.test h.test; next = maybe_on l.next h.next }
@@ -110,19 +118,22 @@ module _ (m : Setting) (u : UnitTy) (c e : Scene) (g : Grows u c e) where
     does_on (Move d) k (naming ∷ ks) h = gives_on naming ks h
     does_on (Fetch s) k (naming ∷ ks) h = (h.0, gives_on (kind_in s) ks h.1)
     does_on Keep k (naming ∷ ks) h = gives_on pointing ks h
-    does_on (Change to) k (x ∷ ks) h = (h.0, gives_on (kind_in to) ks h.1)
+    does_on (Change to) k (x ∷ ks) h = (h.0, gives_on (kind_in to) ks h.1, h.2)
     does_on (Apply1 op s) k (x ∷ ks) h = (h.0, gives_on (turned_kind op s) ks h.1)
     does_on (Apply2 op l r) k (y ∷ x ∷ ks) h = (h.0, h.1, h.2, gives_on (joined op l r) ks h.3)
-    does_on (Both b) k (x ∷ ks) h = (part_on b h.0, gives_on (arithmetic true) ks h.1)
-    does_on (Either b) k (x ∷ ks) h = (part_on b h.0, gives_on (arithmetic true) ks h.1)
-    does_on Truth k (x ∷ ks) h = gives_on (arithmetic true) ks h
-    does_on (Choose a b) k (x ∷ ks) h = (h.0, (part_on a h.1.0, h.1.1), (part_on b h.2.0, h.2.1), n (h.0 ∷ ks) h.3)
+    does_on (Both b) k (x ∷ ks) h = (part_on b h.0, gives_on (arithmetic true) ks h.1, h.2)
+    does_on (Either b) k (x ∷ ks) h = (part_on b h.0, gives_on (arithmetic true) ks h.1, h.2)
+    does_on Truth k (x ∷ ks) h = (gives_on (arithmetic true) ks h.0, h.1)
+    does_on (Choose a b) k (x ∷ ks) h = (h.0, (part_on a h.1.0, h.1.1), (part_on b h.2.0, h.2.1), n (h.0 ∷ ks) h.3, h.4)
     does_on Drop k (x ∷ ks) h = n ks h
     does_on (Put s) k (y ∷ naming ∷ ks) h = (h.0, gives_on (kind_in s) ks h.1)
     does_on (Peek s to) k (naming ∷ ks) h = (h.0, h.1, n (kind_in to ∷ naming ∷ ks) h.2)
     does_on (Bump kind s) k (y ∷ naming ∷ ks) h = (h.0, h.1, h.2, h.3, n (kind_in s ∷ naming ∷ with_kind (is_post kind) h.2 ks) h.4)
     does_on (PutUnder s) k (y ∷ naming ∷ ks) h = n ks h
     does_on (Carry done size) k (naming ∷ naming ∷ ks) h = gives_on naming ks h
+    does_on (Gather size) k (naming ∷ ks) h = gives_on carrying ks h
+    does_on (Lay i done size) k (carrying ∷ ks) h = (g.objects i h.0, gives_on naming ks h.1)
+    does_on Reach k ks h = (g.rest h.0, gives_on pointing ks h.1)
     does_on (Invoke callee types) k ks h = (h.0, h.1, h.2, gives_on (kind_given h.0.type) h.1 h.3)
     does_on (Busy left l args) k ks h = (h.0, arguments_on l args h.1, gives_on (kind_from l) ks h.2)
     does_on Skip k ks h = (h.0, n ks h.1)
@@ -131,14 +142,14 @@ module _ (m : Setting) (u : UnitTy) (c e : Scene) (g : Grows u c e) where
     does_on (Wipe i done size) k ks h = (h.0, (g.objects i h.1.0, n ks h.1.1))
     does_on (Begin at objects body) k ks h = (h.0, (block_on objects body h.1.0, n ks h.1.1, λ y a. v y ks (h.1.2 y a)))
     does_on (End objects) k ks h = (h.0, n ks h.1)
-    does_on (Branch at a d b) k (x ∷ ks) h = (h.0, (work_on a h.1.0, work_on b h.1.1, n ks h.1.2, λ y z. v y ks (h.1.3 y z), λ y z. v y ks (h.1.4 y z)))
-    does_on (Test l) k (x ∷ ks) h = (h.0, (loop_on l h.1.0, n ks h.1.1, v returning ks h.1.2))
+    does_on (Branch at a d b) k (x ∷ ks) h = (h.0, (work_on a h.1.0, work_on b h.1.1, n ks h.1.2, λ y z. v y ks (h.1.3 y z), λ y z. v y ks (h.1.4 y z), h.1.5))
+    does_on (Test l) k (x ∷ ks) h = (h.0, (loop_on l h.1.0, n ks h.1.1, v returning ks h.1.2, h.1.3))
     does_on (Pass l) k ks h = (h.0, (loop_on l h.1.0, n ks h.1.1, v returning ks h.1.2))
     does_on (Enter l) k ks h = (h.0, (loop_on l h.1.0, n ks h.1.1, v returning ks h.1.2, h.1.3))
     does_on (Next l) k ks h = (h.0, (loop_on l h.1.0, n ks h.1.1, v returning ks h.1.2))
     does_on (Back l) k (x ∷ ks) h = (h.0, (loop_on l h.1.0, n ks h.1.1, v returning ks h.1.2))
     does_on (Check l) k ks h = (h.0, (loop_on l h.1.0, n ks h.1.1, v returning ks h.1.2, h.1.3))
-    does_on (Redo l) k (x ∷ ks) h = (h.0, (loop_on l h.1.0, n ks h.1.1, v returning ks h.1.2, h.1.3))
+    does_on (Redo l) k (x ∷ ks) h = (h.0, (loop_on l h.1.0, n ks h.1.1, v returning ks h.1.2, h.1.3, h.1.4))
     does_on (Select left at body) k (arithmetic s ∷ ks) h = (h.0, (work_on body h.1.0, n ks h.1.1, v returning ks h.1.2, λ a. v continuing ks (h.1.3 a)))
     does_on EndSwitch k ks h = (h.0, n ks h.1)
     does_on (Jump l at) k ks h = (h.0, (h.1.0, v returning ks h.1.1))
@@ -215,6 +226,9 @@ module _ (m : Setting) (u : UnitTy) (c : Scene) (y : Exit) (ks : List Kind) wher
     node_leads t (step kind a) k h = leads a _ (put_leads (is_post kind) (place_shape u.types a) k h)
     node_leads t (copy a b) k h = leads a _ (leads b _ h)
     node_leads t (call f es) k h = leads f _ (all_lead es _ h)
+    node_leads t (pack a) k h = leads a _ h
+    node_leads t (spill i a) k h = leads a _ h
+    node_leads t rest k h = h
 
     all_lead : (es : Nodes) (k : List Item) → Leaves k → Leaves (plan_all u es k)
     all_lead none k h = h
@@ -251,7 +265,7 @@ module _ (m : Setting) (u : UnitTy) (c : Scene) (y : Exit) (ks : List Kind) wher
 
     pub stmts_lead : (n : ℕ) (ss : Stmts) (k : List Item) → Leaves k → Leaves (plan_stmts u n ss k)
     stmts_lead n no_stmts k h = h
-    stmts_lead n (and_stmts a rest) k h = stmt_leads n a _ (stmts_lead (n + count a) rest k h)
+    stmts_lead n (and_stmts a more) k h = stmt_leads n a _ (stmts_lead (n + count a) more k h)
 
 -- ---- the work of a statement
 
@@ -295,10 +309,10 @@ signed_by_number ULong = refl
 pub sign_same : (k j : IntType) → IsTrue (same_int k j) → is_signed_of k ≡ is_signed_of j
 sign_same k j h = signed_by_number k ∙ ap signed_at (eqb-true (number_of k) (number_of j) h) ∙ sym (signed_by_number j)
 
-alike_kind : (t q : QTy) → IsTrue (are_alike t q) → kind_at (type_in t) ≡ kind_at (type_in q)
+alike_kind : (t q : QTy) → IsTrue (are_alike t q) → kind_passed (type_in t) ≡ kind_passed (type_in q)
 alike_kind (qual t c v) (qual q d w) h = of_types t q h
   where
-    of_types : (t q : Ty) → IsTrue (alike t q) → kind_at t ≡ kind_at q
+    of_types : (t q : Ty) → IsTrue (alike t q) → kind_passed t ≡ kind_passed q
     of_types void void h = refl
     of_types (int k) (int j) h = ap arithmetic (sign_same k j h)
     of_types (pointer q) (pointer r) h = refl
@@ -308,16 +322,13 @@ alike_kind (qual t c v) (qual q d w) h = of_types t q h
     of_types _ _ h = absurd (cc)
 
 module _ (m : Setting) (u : UnitTy) where
-  returned_kind : (x : Context) (e : Typed) → IsContext m x → IsValue e → IsTrue (are_alike (type_of e) x.gives) → IsReturned m (kind_of e)
-  returned_kind x e p v a = in_setting m p
+  returned_kind : (x : Context) (e : Typed) → IsContext m x → IsTrue (are_alike (type_of e) x.gives) → IsReturned m (kind_passed (bare_type e))
+  returned_kind x e p a = in_setting m p
     where
-      kinds : kind_of e ≡ kind_at (type_in x.gives)
-      kinds = value_kind e v.1 ∙ alike_kind (type_of e) x.gives a
-
-      in_setting : (o : Setting) → IsContext o x → IsReturned o (kind_of e)
+      in_setting : (o : Setting) → IsContext o x → IsReturned o (kind_passed (bare_type e))
       in_setting expression q = tt
       in_setting statement q = tt
-      in_setting (inside f) q = subst (λ (y : Kind). Below (kind_of e) y) (kinds ∙ ap (λ (t : QTy). kind_at (type_in t)) q.1) (below_refl (kind_of e))
+      in_setting (inside f) q = subst (λ (y : Kind). Below (kind_passed (bare_type e)) y) (alike_kind (type_of e) x.gives a ∙ ap (λ (t : QTy). kind_passed (type_in t)) q.1) (below_refl (kind_passed (bare_type e)))
 
   has_label : (x : Context) (l : ℕ) → IsContext m x → Contains x.labels l → HasLabel m l
   has_label x l p h = in_setting m p
@@ -364,7 +375,7 @@ module _ (m : Setting) (hs : HasStatements m) (u : UnitTy) (c : Scene) where
 
   head_on : (o : MaybeTyped) (l : Loop) (k : List Item) (ks : List Kind) → IsMaybePart u c o → IsLoop m u c l → Works k ks → Ends k ks → Works (tested u o (Test l ∷ k) (Pass l ∷ k)) ks
   head_on absent l k ks h w t r = (hs, (w, t, r))
-  head_on (present e) l k ks h w t r = part_takes e (Test l ∷ k) ks h (hs, (w, t, r))
+  head_on (present e) l k ks h w t r = part_takes e (Test l ∷ k) ks h (hs, (w, t, r, simple e))
 
   pub head_takes : (l : Loop) (k : List Item) (ks : List Kind) → IsLoop m u c l → Works k ks → Ends k ks → Works (head_of u l k) ks
   head_takes l k ks h t r = head_on l.test l k ks h.test h t r
@@ -373,42 +384,42 @@ module _ (m : Setting) (hs : HasStatements m) (u : UnitTy) (c : Scene) where
   first_takes absent k ks h t = t
   first_takes (present e) k ks h t = part_takes e (Drop ∷ k) ks h t
 
-  module _ (scope : List ℕ) (r : IsReady u scope c) where
-    pub part : (e : Typed) → IsTyped u e → IsScopedIn u scope e → IsPart u c e
-    part e w h = record { typed = w; there = there u c scope r e w h }
+  module _ (variadic : Bool) (scope : List ℕ) (r : IsReady u variadic scope c) where
+    pub part : (e : Typed) → IsTyped u e → IsScopedIn u variadic scope e → IsPart u c e
+    part e w h = record { typed = w; there = there u c variadic scope r e w h }
 
-    pub maybe : (o : MaybeTyped) → IsMaybe u o → IsScopedMaybe u scope o → IsMaybePart u c o
+    pub maybe : (o : MaybeTyped) → IsMaybe u o → IsScopedMaybe u variadic scope o → IsMaybePart u c o
     maybe absent w h = tt
     maybe (present e) w h = part e w h
 
-    pub condition : (o : MaybeTyped) → IsMaybeCondition u o → IsScopedMaybe u scope o → IsMaybePart u c o
+    pub condition : (o : MaybeTyped) → IsMaybeCondition u o → IsScopedMaybe u variadic scope o → IsMaybePart u c o
     condition absent w h = tt
     condition (present e) w h = part e w.0 h
 
-    abbrev pub work : (x : Context) (s : Stmt) → IsContext m x → IsStmt u x s → IsScoped u scope s → IsWork m u c s
-    work x s p w h = record { scope = scope; context = x; placed = p; typed = w; scoped = h; ready = r }
+    abbrev pub work : (x : Context) (s : Stmt) → IsContext m x → IsStmt u x s → IsScoped u variadic scope s → IsWork m u c s
+    work x s p w h = record { variadic = variadic; scope = scope; context = x; placed = p; typed = w; scoped = h; ready = r }
 
-    pub while_loop : (x : Context) (n : ℕ) (e : Typed) (a : Stmt) → IsContext m x → IsStmt u x (while e a) → IsScoped u scope (while e a) → IsLoop m u c (test_first (present e) absent n a)
+    pub while_loop : (x : Context) (n : ℕ) (e : Typed) (a : Stmt) → IsContext m x → IsStmt u x (while e a) → IsScoped u variadic scope (while e a) → IsLoop m u c (test_first (present e) absent n a)
     while_loop x n e a p w h = record { body = work (looping x) a (loop_context m u x p) w.1 h.1; test = part e w.0.0 h.0; next = tt }
 
-    pub do_loop : (x : Context) (n : ℕ) (a : Stmt) (e : Typed) → IsContext m x → IsStmt u x (do_while a e) → IsScoped u scope (do_while a e) → IsLoop m u c (test_last e n a)
+    pub do_loop : (x : Context) (n : ℕ) (a : Stmt) (e : Typed) → IsContext m x → IsStmt u x (do_while a e) → IsScoped u variadic scope (do_while a e) → IsLoop m u c (test_last e n a)
     do_loop x n a e p w h = record { body = work (looping x) a (loop_context m u x p) w.0 h.0; test = part e w.1.0 h.1; next = tt }
 
-    pub for_loop_of : (x : Context) (n : ℕ) (i d o : MaybeTyped) (a : Stmt) → IsContext m x → IsStmt u x (for_loop i d o a) → IsScoped u scope (for_loop i d o a) → IsLoop m u c (test_first d o n a)
+    pub for_loop_of : (x : Context) (n : ℕ) (i d o : MaybeTyped) (a : Stmt) → IsContext m x → IsStmt u x (for_loop i d o a) → IsScoped u variadic scope (for_loop i d o a) → IsLoop m u c (test_first d o n a)
     for_loop_of x n i d o a p w h = record { body = work (looping x) a (loop_context m u x p) w.3 h.3; test = condition d w.1 h.1; next = maybe o w.2 h.2 }
 
     mutual
-      pub stmt_takes : (x : Context) (n : ℕ) (s : Stmt) (k : List Item) (ks : List Kind) → IsContext m x → IsStmt u x s → IsScoped u scope s → Works k ks → Outs x k ks → Works (plan_stmt u n s k) ks
+      pub stmt_takes : (x : Context) (n : ℕ) (s : Stmt) (k : List Item) (ks : List Kind) → IsContext m x → IsStmt u x s → IsScoped u variadic scope s → Works k ks → Outs x k ks → Works (plan_stmt u n s k) ks
       stmt_takes x n empty k ks p w h t q = (hs, t)
       stmt_takes x n (eval e) k ks p w h t q = part_takes e (Drop ∷ k) ks (part e w h) t
       stmt_takes x n (set_part i o e) k ks p w h t q = part_takes e (initial_store i o (shape_of u.types (bare_type e)) ∷ k) ks (part e w.typed h.1) (initial_takes i o (shape_of u.types (bare_type e)) (kind_of e) k ks (initial_area u e w.initial) (r.objects i (is_some_in (object_in u i) w.object w.automatic.0) h.0) t)
       stmt_takes x n (clear i) k ks p w h t q = (hs, (r.objects i (is_some_in (object_in u i) w.0 w.1.0) h, t))
-      stmt_takes x n (block os ss) k ks p w h t q = (hs, (record { scope = scope; context = x; placed = p; automatic = w.0; typed = w.1; scoped = h; ready = r }, t, q))
-      stmt_takes x n (if_stmt e a b) k ks p w h t q = part_takes e (Branch (suc n) a (suc n + count a) b ∷ k) ks (part e w.0.0 h.0) (hs, (work x a p w.1 h.1, work x b p w.2 h.2, t, q, q))
+      stmt_takes x n (block os ss) k ks p w h t q = (hs, (record { variadic = variadic; scope = scope; context = x; placed = p; automatic = w.0; typed = w.1; scoped = h; ready = r }, t, q))
+      stmt_takes x n (if_stmt e a b) k ks p w h t q = part_takes e (Branch (suc n) a (suc n + count a) b ∷ k) ks (part e w.0.0 h.0) (hs, (work x a p w.1 h.1, work x b p w.2 h.2, t, q, q, simple e))
       stmt_takes x n (while e a) k ks p w h t q = head_takes (test_first (present e) absent (suc n) a) k ks (while_loop x (suc n) e a p w h) t (q returning tt)
       stmt_takes x n (do_while a e) k ks p w h t q = (hs, (do_loop x (suc n) a e p w h, t, q returning tt, tt))
       stmt_takes x n (for_loop i d o a) k ks p w h t q = first_takes i (head_of u (test_first d o (suc n) a) k) ks (maybe i w.0 h.0) (head_takes (test_first d o (suc n) a) k ks (for_loop_of x (suc n) i d o a p w h) t (q returning tt))
-      stmt_takes x n (switch e a) k ks p w h t q = takes m u c e (kind_at (int w.0)) (Select (cases_of a) (suc n) a ∷ k) ks w.1.typed (there u c scope r e w.1.typed h.0) (below_value e (plain (int w.0)) w.1.value w.1.number) (hs, (work (switching w.0 x) a (switch_context m u w.0 x p) w.2 h.1, t, q returning tt, λ l. q continuing l))
+      stmt_takes x n (switch e a) k ks p w h t q = takes m u c e (kind_at (int w.0)) (Select (cases_of a) (suc n) a ∷ k) ks w.1.typed (there u c variadic scope r e w.1.typed h.0) (below_value e (plain (int w.0)) w.1.value w.1.number) (hs, (work (switching w.0 x) a (switch_context m u w.0 x p) w.2 h.1, t, q returning tt, λ l. q continuing l))
       stmt_takes x n (case v a) k ks p w h t q = stmt_takes x (suc n) a k ks p w.1 h t q
       stmt_takes x n (default a) k ks p w h t q = stmt_takes x (suc n) a k ks p w.1 h t q
       stmt_takes x n (label l a) k ks p w h t q = stmt_takes x (suc n) a k ks p w h t q
@@ -416,11 +427,11 @@ module _ (m : Setting) (hs : HasStatements m) (u : UnitTy) (c : Scene) where
       stmt_takes x n break k ks p w h t q = (hs, q breaking w)
       stmt_takes x n continue k ks p w h t q = (hs, q continuing w)
       stmt_takes x n (return absent) k ks p w h t q = (hs, q returning tt)
-      stmt_takes x n (return (present e)) k ks p w h t q = part_takes e (Give ∷ k) ks (part e w.0 h) (hs, (returned_kind m u x e p w.1 w.2, q returning tt))
+      stmt_takes x n (return (present e)) k ks p w h t q = given_takes m u c e (Give ∷ k) ks w.0 (given_there u c variadic scope r e w.0 h) (hs, (returned_kind m u x e p w.1, q returning tt))
 
-      pub stmts_take : (x : Context) (n : ℕ) (ss : Stmts) (k : List Item) (ks : List Kind) → IsContext m x → AreStmts u x ss → AreScoped u scope ss → Works k ks → Outs x k ks → Works (plan_stmts u n ss k) ks
+      pub stmts_take : (x : Context) (n : ℕ) (ss : Stmts) (k : List Item) (ks : List Kind) → IsContext m x → AreStmts u x ss → AreScoped u variadic scope ss → Works k ks → Outs x k ks → Works (plan_stmts u n ss k) ks
       stmts_take x n no_stmts k ks p w h t q = t
-      stmts_take x n (and_stmts a rest) k ks p w h t q = stmt_takes x n a (plan_stmts u (n + count a) rest k) ks p w.0 h.0 (stmts_take x (n + count a) rest k ks p w.1 h.1 t q) (λ y l. stmts_lead m u c y ks (n + count a) rest k (q y l))
+      stmts_take x n (and_stmts a more) k ks p w h t q = stmt_takes x n a (plan_stmts u (n + count a) more k) ks p w.0 h.0 (stmts_take x (n + count a) more k ks p w.1 h.1 t q) (λ y l. stmts_lead m u c y ks (n + count a) more k (q y l))
 
   pub work_takes : (n : ℕ) (s : Stmt) (k : List Item) (ks : List Kind) (h : IsWork m u c s) → Works k ks → Outs h.context k ks → Works (plan_stmt u n s k) ks
-  work_takes n s k ks h t q = stmt_takes h.scope h.ready h.context n s k ks h.placed h.typed h.scoped t q
+  work_takes n s k ks h t q = stmt_takes h.variadic h.scope h.ready h.context n s k ks h.placed h.typed h.scoped t q

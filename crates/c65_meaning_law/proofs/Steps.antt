@@ -5,16 +5,17 @@ use Rattle.c65_meaning.specs.Program.{ProgramTy}
 use Rattle.c65_meaning.specs.declared.action.Action.TheVariants.{PartialOverlap}
 use Rattle.c65_meaning.specs.Why.{Why, By, Unfit, ◌>>=◌}
 use Rattle.c65_meaning.specs.Integers.{truth}
-use Rattle.c65_meaning.specs.Store.{Store, Value, Whole, Null, Place, Opaque, NoValue, Shape, write, carry}
+use Rattle.c65_meaning.specs.Store.{Store, Value, Whole, Null, Place, Opaque, Cells, NoValue, Shape, write, carry, nth_cell, put_cell}
 use Rattle.c65_meaning.specs.Operators.{truth_of, named_by, moved, converted, binary, unary, bumped, is_post}
 use Rattle.c65_meaning.specs.Shapes.{object_in, lives_in_frame, object_block}
-use Rattle.c65_meaning.specs.Items.{Item, Push, Name, Follow, Move, Fetch, Keep, Change, Apply1, Apply2, Both, Either, Truth, Choose, Drop, Put, Peek, Bump, PutUnder, Carry, Invoke, Busy, Skip, Init, CarryInto, Wipe, Begin, End, Branch, Test, Pass, Enter, Next, Back, Check, Redo, Select, EndSwitch, Jump, LeaveLoop, GoOn, Give, GiveNothing, Leave, plan}
-use Rattle.c65_meaning.specs.State.{Frame, Scene, State, Running, with_store, block_in}
-use Rattle.c65_meaning.specs.Step.{one, two, go_on, with_scene, decided, stored, place_in, object_place, loaded, put, assigned, partly_overlap, carried, carried_byte, carry_step, copy_step, under, perform}
-use Rattle.c65_meaning_law.proofs.Stacks.{Kind, arithmetic, pointing, naming, free, kind_in, kind_of, Below, IsScalarShape, joined, turned_kind, with_kind, Sound, Gives, Suits, AreSuited, StoreFits, Setting, D, Does, Takes, Out, IsScene, IsGood}
+use Rattle.c65_meaning.specs.Items.{Item, Push, Name, Follow, Move, Fetch, Keep, Change, Apply1, Apply2, Both, Either, Truth, Choose, Drop, Put, Peek, Bump, PutUnder, Carry, Gather, Lay, Reach, Invoke, Busy, Skip, Init, CarryInto, Wipe, Begin, End, Branch, Test, Pass, Enter, Next, Back, Check, Redo, Select, EndSwitch, Jump, LeaveLoop, GoOn, Give, GiveNothing, Leave, plan}
+use Rattle.c65_meaning.specs.State.{Frame, Scene, State, Running, with_store, block_in, rest_in}
+use Rattle.c65_meaning.specs.Step.{one, two, go_on, with_scene, decided, stored, place_in, object_place, loaded, put, assigned, partly_overlap, carried, carried_byte, carry_step, copy_step, gathered_at, laid, lay_on, lay_step, end_of, rest_place, at_offset, place_in_object, under, perform}
+use Rattle.c65_meaning_law.proofs.Stacks.{Kind, arithmetic, pointing, naming, carrying, kind_in, kind_of, Below, IsScalarShape, joined, turned_kind, with_kind, Sound, Gives, Stands, Suits, AreSuited, StoreFits, Setting, D, Does, Takes, Out, IsScene, IsGood}
 use Rattle.c65_meaning_law.proofs.Values.{if_sound, bind_sound, IsEither, stands, raise, place_points, truth_sound, named_sound, place_moved, converted_sound, becomes_sound, binary_sound, unary_sound, bumped_sound}
-use Rattle.c65_meaning_law.proofs.Stores.{read_sound, write_sound, carry_sound}
-use Rattle.c65_meaning_law.proofs.Plans.{below_refl, takes}
+use Rattle.c65_meaning_law.proofs.Stores.{read_sound, write_sound, carry_sound, packed_sound, put_sound as cell_sound}
+use Rattle.c65_meaning_law.proofs.Plans.{below_refl, simple, takes}
+use Rattle.c65_meaning_law.specs.Laws.{HasBlock, HasRest}
 
 abbrev pub is_of_expression : Item → Bool
 is_of_expression (Push v) = true
@@ -36,6 +37,9 @@ is_of_expression (Peek f to) = true
 is_of_expression (Bump kind f) = true
 is_of_expression (PutUnder f) = true
 is_of_expression (Carry done size) = true
+is_of_expression (Gather size) = true
+is_of_expression (Lay i done size) = true
+is_of_expression Reach = true
 is_of_expression _ = false
 
 module _ (m : Setting) (p : ProgramTy) (c : Scene) where
@@ -93,20 +97,23 @@ module _ (m : Setting) (p : ProgramTy) (c : Scene) where
   loaded_sound f d (Place b o) j i s = read_sound E f d.store b o j i.store s
   loaded_sound f d (Whole z) j i s = absurd s
   loaded_sound f d Null j i s = absurd s
+  loaded_sound f d (Cells xs) j i s = absurd s
   loaded_sound f d Opaque j i s = absurd s
   loaded_sound f d NoValue j i s = absurd s
 
-  put_in : (first : Bool) (f : Shape) (d : Scene) (b o : ℕ) (v : Value) → Here d → E b → Sound (Suits E free) (Ok v) → Sound Here (put first f d (Place b o) v)
+  pub put_in : (first : Bool) (f : Shape) (d : Scene) (b o : ℕ) (v : Value) → Here d → E b → Stands E v → Sound Here (put first f d (Place b o) v)
   put_in first f d b o NoValue i s h = tt
   put_in first f d b o (Whole z) i s h = stored_sound d (write first f d.store b o (Whole z)) i (write_sound E first f d.store b o (Whole z) i.store s h)
   put_in first f d b o Null i s h = stored_sound d (write first f d.store b o Null) i (write_sound E first f d.store b o Null i.store s h)
   put_in first f d b o (Place e q) i s h = stored_sound d (write first f d.store b o (Place e q)) i (write_sound E first f d.store b o (Place e q) i.store s h)
   put_in first f d b o Opaque i s h = stored_sound d (write first f d.store b o Opaque) i (write_sound E first f d.store b o Opaque i.store s h)
+  put_in first f d b o (Cells xs) i s h = stored_sound d (write first f d.store b o (Cells xs)) i (write_sound E first f d.store b o (Cells xs) i.store s h)
 
   pub put_sound : (first : Bool) (f : Shape) (d : Scene) (x : Kind) (at v : Value) → Here d → Suits E naming at → Suits E x v → Sound Here (put first f d at v)
   put_sound first f d x (Place b o) v i s h = put_in first f d b o v i s (stands E x v h)
   put_sound first f d x (Whole z) v i s h = absurd s
   put_sound first f d x Null v i s h = absurd s
+  put_sound first f d x (Cells xs) v i s h = absurd s
   put_sound first f d x Opaque v i s h = absurd s
   put_sound first f d x NoValue v i s h = absurd s
 
@@ -130,10 +137,12 @@ module _ (m : Setting) (p : ProgramTy) (c : Scene) where
   carried_sound first done d (Place b o) (Place e q) i s h = stored_sound d (carry first d.store b (o + done) e (q + done)) i (carry_sound E first d.store b (o + done) e (q + done) i.store s h)
   carried_sound first done d (Place b o) (Whole z) i s h = absurd h
   carried_sound first done d (Place b o) Null i s h = absurd h
+  carried_sound first done d (Place b o) (Cells xs) i s h = absurd h
   carried_sound first done d (Place b o) Opaque i s h = absurd h
   carried_sound first done d (Place b o) NoValue i s h = absurd h
   carried_sound first done d (Whole z) to i s h = absurd s
   carried_sound first done d Null to i s h = absurd s
+  carried_sound first done d (Cells xs) to i s h = absurd s
   carried_sound first done d Opaque to i s h = absurd s
   carried_sound first done d NoValue to i s h = absurd s
 
@@ -148,10 +157,47 @@ module _ (m : Setting) (p : ProgramTy) (c : Scene) where
   copies : (done size : ℕ) (from to : Value) (k : List Item) (ks : List Kind) (vs : List Value) (d : Scene) → Suits E naming from → Suits E naming to → Gives naming (Takes m p.unit c k) ks → AreSuited E ks vs → Here d → Good (copy_step done size from to k vs d)
   copies done size from to k ks vs d s h g a i = good_if (nat_lt done size) (carry_step done size from to k vs (carried_byte false done size d from to)) (Running k (to ∷ vs) d) (carries done size from to k ks vs (carried_byte false done size d from to) s h g a (byte_sound false done size d from to i s h)) (runs_with naming to k ks vs d h g a i)
 
+  -- ---- structures and unions that are passed and returned
+
+  gather_sound : (size : ℕ) (d : Scene) (v : Value) → Here d → Suits E naming v → Sound (Suits E carrying) (gathered_at size d v)
+  gather_sound size d (Place b o) i s = packed_sound E size d.store b o i.store s
+  gather_sound size d (Whole z) i s = absurd s
+  gather_sound size d Null i s = absurd s
+  gather_sound size d Opaque i s = absurd s
+  gather_sound size d (Cells xs) i s = absurd s
+  gather_sound size d NoValue i s = absurd s
+
+  laid_sound : (done : ℕ) (d : Scene) (at v : Value) → Here d → Suits E naming at → Suits E carrying v → Sound Here (laid done d at v)
+  laid_sound done d (Place b o) (Cells xs) i s h = stored_sound d (put_cell true d.store b (o + done) (nth_cell xs done)) i (cell_sound E true d.store b (o + done) (nth_cell xs done) i.store s (h done))
+  laid_sound done d (Place b o) NoValue i s h = tt
+  laid_sound done d (Place b o) (Whole z) i s h = absurd h
+  laid_sound done d (Place b o) Null i s h = absurd h
+  laid_sound done d (Place b o) (Place e q) i s h = absurd h
+  laid_sound done d (Place b o) Opaque i s h = absurd h
+  laid_sound done d (Whole z) v i s h = absurd s
+  laid_sound done d Null v i s h = absurd s
+  laid_sound done d Opaque v i s h = absurd s
+  laid_sound done d (Cells xs) v i s h = absurd s
+  laid_sound done d NoValue v i s h = absurd s
+
+  lays_on : (j done size : ℕ) (v at : Value) (k : List Item) (ks : List Kind) (vs : List Value) (r : Result Scene Why) → HasBlock p.unit c j → Suits E carrying v → Suits E naming at → Gives naming (Takes m p.unit c k) ks → AreSuited E ks vs → Sound Here r → Good (lay_on j done size v at k vs r)
+  lays_on j done size v at k ks vs (Ok d) h s n g a i = good_if (nat_lt (suc done) size) (Running (Lay j (suc done) size ∷ k) (v ∷ vs) d) (Running k (at ∷ vs) d) (runs (Lay j (suc done) size ∷ k) (carrying ∷ ks) (v ∷ vs) d (h, g) (s, a) i) (runs_with naming at k ks vs d n g a i)
+  lays_on j done size v at k ks vs (Err (By action)) h s n g a i = tt
+  lays_on j done size v at k ks vs (Err Unfit) h s n g a i = absurd i
+
+  lays : (j done size : ℕ) (v at : Value) (k : List Item) (ks : List Kind) (vs : List Value) (d : Scene) → HasBlock p.unit c j → Suits E carrying v → Suits E naming at → Gives naming (Takes m p.unit c k) ks → AreSuited E ks vs → Here d → Good (lay_step j done size v at k vs d)
+  lays j done size v at k ks vs d h s n g a i = good_if (nat_lt done size) (lay_on j done size v at k vs (laid done d at v)) (Running k (at ∷ vs) d) (lays_on j done size v at k ks vs (laid done d at v) h s n g a (laid_sound done d at v i n s)) (runs_with naming at k ks vs d n g a i)
+
   -- ---- one item
 
   abbrev named_in : ℕ → List Frame → Result Value Why
   named_in n fs = if lives_in_frame (object_in p.unit n) then place_in (block_in fs n) else Ok (Place (object_block p.unit n) 0)
+
+  pub place_suits : (i o : ℕ) (d : Scene) → HasBlock p.unit c i → Here d → Suits E naming (place_in_object p.unit i o d)
+  place_suits i o d h g = subst (λ (r : Result Value Why). Suits E naming (at_offset o r)) (sym (ap (named_in i) g.frames ∙ h.1)) h.2
+
+  rest_sound : (d : Scene) → HasRest c → Here d → Sound (Suits E pointing) (rest_place d)
+  rest_sound d h i = subst (λ (r : Result Value Why). Sound (Suits E pointing) r) (sym (ap (λ (fs : List Frame). end_of d.store (rest_in fs)) i.frames ∙ ap (end_of d.store) h.1)) h.2
 
   pub performs : (j : Item) (k : List Item) (ks : List Kind) (vs : List Value) (d : Scene) → IsTrue (is_of_expression j) → Does m p.unit c j k (Takes m p.unit c k) (Out m p.unit c k) ks → AreSuited E ks vs → Here d → Good (perform p j k vs d)
   performs (Push v) k ks vs d n t a i = runs k (t.0 ∷ ks) (v ∷ vs) d t.2 (t.1, a) i
@@ -160,17 +206,17 @@ module _ (m : Setting) (p : ProgramTy) (c : Scene) where
   performs (Move o) k (naming ∷ ks) vs d n t a i = with_one naming ks vs _ a (λ v r s b. goes naming (moved d.store v (pos o)) k ks r d (place_moved E d.store v (pos o) s) t b i)
   performs (Fetch f) k (naming ∷ ks) vs d n t a i = with_one naming ks vs _ a (λ v r s b. goes (kind_in f) (loaded f d v) k ks r d (loaded_sound f d v t.0 i s) t.1 b i)
   performs Keep k (naming ∷ ks) vs d n t a i = with_one naming ks vs _ a (λ v r s b. runs_with pointing v k ks r d (place_points E v s) t b i)
-  performs (Change to) k (x ∷ ks) vs d n t a i = with_one x ks vs _ a (λ v r s b. goes (kind_in to) (converted to v) k ks r d (converted_sound E to v t.0 (stands E x v s)) t.1 b i)
+  performs (Change to) k (x ∷ ks) vs d n t a i = with_one x ks vs _ a (λ v r s b. goes (kind_in to) (converted to v) k ks r d (converted_sound E to x v t.0 t.2 s) t.1 b i)
   performs (Apply1 op f) k (x ∷ ks) vs d n t a i = with_one x ks vs _ a (λ v r s b. goes (turned_kind op f) (unary d.store op f v) k ks r d (unary_sound E d.store op f x v t.0 s) t.1 b i)
   performs (Apply2 op f g) k (y ∷ x ∷ ks) vs d n t a i = with_two y x ks vs _ a (λ w v r s h b. goes (joined op f g) (binary d.store op f g v w) k ks r d (binary_sound E d.store op f g v w t.0 (subst (λ (z : Kind). Suits E z v) t.2 h) (subst (λ (z : Kind). Suits E z w) t.1 s)) t.3 b i)
-  performs (Both e) k (x ∷ ks) vs d n t a i = with_one x ks vs _ a (λ v r s b. decides (truth_of d.store v) (Running (plan p.unit e (Truth ∷ k)) r d) (Running k (Whole (pos 0) ∷ r) d) (truth_sound E d.store v)
-      (runs (plan p.unit e (Truth ∷ k)) ks r d (takes m p.unit c e (kind_of e) (Truth ∷ k) ks t.0.typed t.0.there (below_refl (kind_of e)) t.1) b i)
+  performs (Both e) k (x ∷ ks) vs d n t a i = with_one x ks vs _ a (λ v r s b. decides (truth_of d.store v) (Running (plan p.unit e (Truth ∷ k)) r d) (Running k (Whole (pos 0) ∷ r) d) (truth_sound E d.store x v t.2 s)
+      (runs (plan p.unit e (Truth ∷ k)) ks r d (takes m p.unit c e (kind_of e) (Truth ∷ k) ks t.0.typed t.0.there (below_refl (kind_of e)) (t.1, simple e)) b i)
       (runs_with (arithmetic true) (Whole (pos 0)) k ks r d tt t.1 b i))
-  performs (Either e) k (x ∷ ks) vs d n t a i = with_one x ks vs _ a (λ v r s b. decides (truth_of d.store v) (Running k (Whole (pos 1) ∷ r) d) (Running (plan p.unit e (Truth ∷ k)) r d) (truth_sound E d.store v)
+  performs (Either e) k (x ∷ ks) vs d n t a i = with_one x ks vs _ a (λ v r s b. decides (truth_of d.store v) (Running k (Whole (pos 1) ∷ r) d) (Running (plan p.unit e (Truth ∷ k)) r d) (truth_sound E d.store x v t.2 s)
       (runs_with (arithmetic true) (Whole (pos 1)) k ks r d tt t.1 b i)
-      (runs (plan p.unit e (Truth ∷ k)) ks r d (takes m p.unit c e (kind_of e) (Truth ∷ k) ks t.0.typed t.0.there (below_refl (kind_of e)) t.1) b i))
-  performs Truth k (x ∷ ks) vs d n t a i = with_one x ks vs _ a (λ v r s b. goes (arithmetic true) (truth_of d.store v >>= λ q. Ok (Whole (truth q))) k ks r d (bind_sound IsEither (Suits E (arithmetic true)) (truth_of d.store v) (λ q. Ok (Whole (truth q))) (truth_sound E d.store v) (λ q h. tt)) t b i)
-  performs (Choose e f) k (x ∷ ks) vs d n t a i = with_one x ks vs _ a (λ v r s b. decides (truth_of d.store v) (Running (plan p.unit e k) r d) (Running (plan p.unit f k) r d) (truth_sound E d.store v)
+      (runs (plan p.unit e (Truth ∷ k)) ks r d (takes m p.unit c e (kind_of e) (Truth ∷ k) ks t.0.typed t.0.there (below_refl (kind_of e)) (t.1, simple e)) b i))
+  performs Truth k (x ∷ ks) vs d n t a i = with_one x ks vs _ a (λ v r s b. goes (arithmetic true) (truth_of d.store v >>= λ q. Ok (Whole (truth q))) k ks r d (bind_sound IsEither (Suits E (arithmetic true)) (truth_of d.store v) (λ q. Ok (Whole (truth q))) (truth_sound E d.store x v t.1 s) (λ q h. tt)) t.0 b i)
+  performs (Choose e f) k (x ∷ ks) vs d n t a i = with_one x ks vs _ a (λ v r s b. decides (truth_of d.store v) (Running (plan p.unit e k) r d) (Running (plan p.unit f k) r d) (truth_sound E d.store x v t.4 s)
       (runs (plan p.unit e k) ks r d (takes m p.unit c e t.0 k ks t.1.0.typed t.1.0.there t.1.1 t.3) b i)
       (runs (plan p.unit f k) ks r d (takes m p.unit c f t.0 k ks t.2.0.typed t.2.0.there t.2.1 t.3) b i))
   performs Drop k (x ∷ ks) vs d n t a i = with_one x ks vs _ a (λ v r s b. runs k ks r d t b i)
@@ -179,6 +225,9 @@ module _ (m : Setting) (p : ProgramTy) (c : Scene) where
   performs (Bump kind f) k (y ∷ naming ∷ ks) vs d n t a i = with_two y naming ks vs _ a (λ v at r s h b. let suited = subst (λ (z : Kind). Suits E z v) t.1 s in goes (kind_in f) (bumped d.store kind f v) k (naming ∷ with_kind (is_post kind) t.2 ks) (at ∷ under (is_post kind) v r) d (bumped_sound E d.store kind f v t.0 suited) (kind_in f, below_refl (kind_in f), t.4) (h, under_suits (is_post kind) (kind_in f) t.2 v ks r t.3 suited b) i)
   performs (PutUnder f) k (y ∷ naming ∷ ks) vs d n t a i = with_two y naming ks vs _ a (λ v at r s h b. goes_in (put false f d at v) k ks r t b (put_sound false f d y at v i h s))
   performs (Carry done size) k (naming ∷ naming ∷ ks) vs d n t a i = with_two naming naming ks vs _ a (λ from to r s h b. copies done size from to k ks r d s h t b i)
+  performs (Gather size) k (naming ∷ ks) vs d n t a i = with_one naming ks vs _ a (λ v r s b. goes carrying (gathered_at size d v) k ks r d (gather_sound size d v i s) t b i)
+  performs (Lay j done size) k (carrying ∷ ks) vs d n t a i = with_one carrying ks vs _ a (λ v r s b. lays j done size v (place_in_object p.unit j 0 d) k ks r d t.0 s (place_suits j 0 d t.0 i) t.1 b i)
+  performs Reach k ks vs d n t a i = goes pointing (rest_place d) k ks vs d (rest_sound d t.0 i) t.1 a i
   performs (Invoke callee types) k ks vs d n t a i = absurd (cc)
   performs (Busy left f args) k ks vs d n t a i = absurd (cc)
   performs Skip k ks vs d n t a i = absurd (cc)

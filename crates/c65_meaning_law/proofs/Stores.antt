@@ -1,12 +1,12 @@
 -- Memory that names only blocks that there are stays so, and reading it gives values of the shape's kind.
-use Rattle.std.proofs.Common.{◌≡◌, ℕ, zero, suc, ◌+◌, ◌-◌, ◌*◌, ◌/◌, ◌%◌, ◌^◌, Bool, true, false, Option, Some, None, refl, subst}
+use Rattle.std.proofs.Common.{◌≡◌, ℕ, zero, suc, ◌+◌, ◌-◌, ◌*◌, ◌/◌, ◌%◌, ◌^◌, Bool, true, false, List, [], ◌∷◌, ◌++◌, Option, Some, None, refl, subst}
 use Rattle.std.specs.Prelude.{◌==◌, Ok, Err, IsSome, nat_le, nat_lt, if◌then◌else◌}
 use Rattle.c65_ints.specs.Ranges.{width_of, is_signed_of, residue}
 use Rattle.c65_ctype.specs.Sizes.{bytes_of}
 use Rattle.c65_meaning.specs.declared.action.Action.TheVariants.{OutsideObject, ReadOnly, EndedObject}
 use Rattle.c65_meaning.specs.Why.{By}
-use Rattle.c65_meaning.specs.Store.{Cell, Bits, Piece, Clouded, Block, Store, Value, Whole, Null, Place, Opaque, NoValue, Shape, Number, Field, Pointer, Area, size_in, set_block, set_cells, Gathered, Lacking, Hidden, Found, gather, gathered, gathered_field, moved_down, mask_of, as_number, as_pointer, are_of_one, read_pair, read_cells, reached, reached_to_write, read, cell_of, with_bits, cloud_over, field_cell, new_cells, with_value, writable, write, with_cell, put_cell, carry}
-use Rattle.c65_meaning_law.proofs.Stacks.{arithmetic, pointing, kind_in, IsScalarShape, Sound, Stands, Suits, CellFits, CellsFit, StoreFits}
+use Rattle.c65_meaning.specs.Store.{Cell, Bits, Piece, Clouded, Block, Store, Value, Whole, Null, Place, Opaque, Cells, NoValue, Shape, Number, Field, Pointer, Area, size_in, set_block, set_cells, Gathered, Lacking, Hidden, Found, gather, gathered, gathered_field, moved_down, mask_of, as_number, as_pointer, are_of_one, read_pair, read_cells, reached, reached_to_write, read, cells_at, packed, nth_cell, cell_of, with_bits, cloud_over, field_cell, new_cells, with_value, writable, write, with_cell, put_cell, carry}
+use Rattle.c65_meaning_law.proofs.Stacks.{arithmetic, pointing, carrying, kind_in, IsScalarShape, Sound, Stands, Suits, CellFits, CellsFit, StoreFits}
 use Rattle.c65_meaning_law.proofs.Values.{if_sound, bind_sound, placed_of}
 
 module _ (D : ℕ → Type 0) where
@@ -49,6 +49,22 @@ module _ (D : ℕ → Type 0) where
   pub read_sound : (f : Shape) (s : Store) (b o : ℕ) → IsScalarShape f → StoreFits D s → D b → Sound (Suits D (kind_in f)) (read f s b o)
   read_sound f s b o i h d = bind_sound BlockFits (Suits D (kind_in f)) (reached (s b) o (size_in f)) (λ x. read_cells f x.cells o) (reaches s b o (size_in f) h d) (λ x g. cells_sound f x.cells o i g)
 
+  -- ---- cells carried along
+
+  -- the n cells from o on, and two lists of cells
+  pub at_fits : (n : ℕ) (cells : ℕ → Cell) (o : ℕ) → CellsFit D cells → CellsFit D (nth_cell (cells_at n cells o))
+  at_fits zero cells o h q = tt
+  at_fits (suc n) cells o h zero = h o
+  at_fits (suc n) cells o h (suc q) = at_fits n cells (suc o) h q
+
+  pub joined_fit : (xs ys : List Cell) → CellsFit D (nth_cell xs) → CellsFit D (nth_cell ys) → CellsFit D (nth_cell (xs ++ ys))
+  joined_fit [] ys h g q = g q
+  joined_fit (x ∷ xs) ys h g zero = h 0
+  joined_fit (x ∷ xs) ys h g (suc q) = joined_fit xs ys (λ i. h (suc i)) g q
+
+  pub packed_sound : (n : ℕ) (s : Store) (b o : ℕ) → StoreFits D s → D b → Sound (Suits D carrying) (packed n s b o)
+  packed_sound n s b o h d = bind_sound BlockFits (Suits D carrying) (reached (s b) o n) (λ x. Ok (Cells (cells_at n x.cells o))) (reaches s b o n h d) (λ x g. at_fits n x.cells o g)
+
   -- ---- writing
 
   bits_fit : (m bits : ℕ) (x : Cell) → CellFits D x → CellFits D (with_bits m bits x)
@@ -61,7 +77,8 @@ module _ (D : ℕ → Type 0) where
   cloud_fits zero x h = h
   cloud_fits (suc m) x h = tt
 
-  cell_fits : (v : Value) → Stands D v → CellsFit D (cell_of v)
+  pub cell_fits : (v : Value) → Stands D v → CellsFit D (cell_of v)
+  cell_fits (Cells xs) h q = h q
   cell_fits (Whole z) h q = tt
   cell_fits Null h q = tt
   cell_fits (Place b o) h q = h
@@ -77,6 +94,8 @@ module _ (D : ℕ → Type 0) where
   field_fits mask low width (Place b o) x y h g (suc i) = cloud_fits (mask / 256) y g
   field_fits mask low width Opaque x y h g zero = cloud_fits (mask % 256) x h
   field_fits mask low width Opaque x y h g (suc i) = cloud_fits (mask / 256) y g
+  field_fits mask low width (Cells xs) x y h g zero = cloud_fits (mask % 256) x h
+  field_fits mask low width (Cells xs) x y h g (suc i) = cloud_fits (mask / 256) y g
   field_fits mask low width NoValue x y h g zero = cloud_fits (mask % 256) x h
   field_fits mask low width NoValue x y h g (suc i) = cloud_fits (mask / 256) y g
 

@@ -1,5 +1,5 @@
 -- Operators on values of the kinds that they take give values of a kind, or a numbered action.
-use Rattle.std.proofs.Common.{◌≡◌, ℕ, zero, suc, ◌^◌, ℤ, pos, negsuc, ◌+ℤ◌, ◌-ℤ◌, ◌*ℤ◌, int_rem, Bool, true, false, not, Option, Some, None, subst, arith}
+use Rattle.std.proofs.Common.{◌≡◌, ℕ, zero, suc, ◌^◌, ℤ, pos, negsuc, ◌+ℤ◌, ◌-ℤ◌, ◌*ℤ◌, int_rem, Bool, true, false, not, List, Option, Some, None, subst, arith}
 use Rattle.std.specs.Prelude.{◌==◌, Result, Ok, Err, IsTrue, ⊤, nat_le, if◌then◌else◌, unsigned_abs, int_div, neg_ℤ, option_map, bit_and, bit_xor, bit_or}
 use Rattle.std.proofs.lemmas.Int.{ints, quot-rem}
 use lib.IntN.{*ℤ_comm}
@@ -15,10 +15,10 @@ use Rattle.c65_meaning.specs.declared.action.Action.{Action}
 use Rattle.c65_meaning.specs.declared.action.Action.TheVariants.{DivisionByZero, ShiftCount, OffsetOutside, PointersApart, EndedObject}
 use Rattle.c65_meaning.specs.Why.{Why, By, Unfit, ◌>>=◌}
 use Rattle.c65_meaning.specs.Integers.{truth}
-use Rattle.c65_meaning.specs.Store.{Store, Value, Whole, Null, Place, Opaque, NoValue, Shape, Number, Field, Pointer, Area, is_live, block_size}
+use Rattle.c65_meaning.specs.Store.{Cell, Store, Value, Whole, Null, Place, Opaque, Cells, NoValue, Shape, Number, Field, Pointer, Area, is_live, block_size}
 use Rattle.c65_meaning.specs.Fits.{IsTarget, compares, calculated_shape}
 use Rattle.c65_meaning.specs.Operators.{number_or, truth_of, while_live, named_by, placed_at, moved, pointer_of, converted, calculated, elements_between, in_one_block, apart, in_two_blocks, may_meet, on_places, both_null, on_pointers, on_pointer_and_number, on_number_and_pointer, binary, unary, bumped, sign_of}
-use Rattle.c65_meaning_law.proofs.Stacks.{Kind, arithmetic, pointing, naming, free, kind_in, Below, Operates, is_move, is_add, meets, Combines, joined, turned_kind, Becomes, IsScalarShape, Sound, IsOfSign, Stands, Suits}
+use Rattle.c65_meaning_law.proofs.Stacks.{Kind, arithmetic, pointing, naming, carrying, free, kind_in, IsSimple, Below, Operates, is_move, is_add, meets, Combines, joined, turned_kind, Becomes, IsScalarShape, Sound, IsOfSign, Stands, Suits}
 
 pub if_sound : {A : Type 0} (P : A → Type 0) (t : Bool) (r q : Result A Why) → Sound P r → Sound P q → Sound P (if t then r else q)
 if_sound P true r q h g = h
@@ -70,7 +70,6 @@ floor_of_sign false (negsuc n) m h = absurd h
 
 module _ (D : ℕ → Type 0) where
   pub stands : (x : Kind) (v : Value) → Suits D x v → Stands D v
-  stands free v h = h
   stands x (Whole z) h = tt
   stands x Null h = tt
   stands x Opaque h = tt
@@ -78,41 +77,74 @@ module _ (D : ℕ → Type 0) where
   stands (arithmetic s) (Place b o) h = absurd h
   stands pointing (Place b o) h = h
   stands naming (Place b o) h = h
+  stands carrying (Place b o) h = absurd h
+  stands free (Place b o) h = h
+  stands carrying (Cells xs) h = h
+  stands (arithmetic s) (Cells xs) h = absurd h
+  stands pointing (Cells xs) h = absurd h
+  stands naming (Cells xs) h = absurd h
+  stands free (Cells xs) h = absurd h
+
+  no_cells : (x : Kind) (xs : List Cell) → IsSimple x → Suits D x (Cells xs) → ⊥
+  no_cells (arithmetic s) xs i h = absurd h
+  no_cells pointing xs i h = absurd h
+  no_cells naming xs i h = absurd h
+  no_cells carrying xs i h = absurd i
+  no_cells free xs i h = absurd h
+
+  freed : (y : Kind) (v : Value) → IsSimple y → Suits D y v → Suits D free v
+  freed y (Whole z) i h = tt
+  freed y Null i h = tt
+  freed y (Place b o) i h = stands y (Place b o) h
+  freed y Opaque i h = tt
+  freed y (Cells xs) i h = absurd (no_cells y xs i h)
+  freed y NoValue i h = tt
 
   pub raise : (y x : Kind) (v : Value) → Below y x → Suits D y v → Suits D x v
-  raise y free v b h = stands y v h
+  raise y free v b h = freed y v b h
   raise (arithmetic s) (arithmetic t) v b h = subst (λ (w : Bool). Suits D (arithmetic w) v) b h
   raise pointing pointing v b h = h
   raise naming naming v b h = h
+  raise carrying carrying v b h = h
   raise free (arithmetic t) v b h = absurd b
   raise free pointing v b h = absurd b
   raise free naming v b h = absurd b
+  raise free carrying v b h = absurd b
   raise (arithmetic s) pointing v b h = absurd b
   raise (arithmetic s) naming v b h = absurd b
+  raise (arithmetic s) carrying v b h = absurd b
   raise pointing (arithmetic t) v b h = absurd b
   raise pointing naming v b h = absurd b
+  raise pointing carrying v b h = absurd b
   raise naming (arithmetic t) v b h = absurd b
   raise naming pointing v b h = absurd b
+  raise naming carrying v b h = absurd b
+  raise carrying (arithmetic t) v b h = absurd b
+  raise carrying pointing v b h = absurd b
+  raise carrying naming v b h = absurd b
 
   pub place_points : (v : Value) → Suits D naming v → Suits D pointing v
   place_points (Place b o) h = h
   place_points (Whole z) h = absurd h
   place_points Null h = absurd h
+  place_points (Cells xs) h = absurd h
   place_points Opaque h = absurd h
   place_points NoValue h = absurd h
 
-  pub truth_sound : (s : Store) (v : Value) → Sound IsEither (truth_of s v)
-  truth_sound s (Whole (pos zero)) = tt
-  truth_sound s (Whole (pos (suc n))) = tt
-  truth_sound s (Whole (negsuc n)) = tt
-  truth_sound s Null = tt
-  truth_sound s (Place b o) = live_sound IsEither s b (Ok true) tt
-  truth_sound s Opaque = tt
-  truth_sound s NoValue = tt
+  pub truth_sound : (s : Store) (x : Kind) (v : Value) → IsSimple x → Suits D x v → Sound IsEither (truth_of s v)
+  truth_sound s x (Whole (pos zero)) i h = tt
+  truth_sound s x (Whole (pos (suc n))) i h = tt
+  truth_sound s x (Whole (negsuc n)) i h = tt
+  truth_sound s x Null i h = tt
+  truth_sound s x (Place b o) i h = live_sound IsEither s b (Ok true) tt
+  truth_sound s x Opaque i h = tt
+  truth_sound s x (Cells xs) i h = absurd (no_cells x xs i h)
+  truth_sound s x NoValue i h = tt
 
   pub named_sound : (s : Store) (v : Value) → Suits D pointing v → Sound (Suits D naming) (named_by s v)
   named_sound s (Place b o) h = live_sound (Suits D naming) s b (Ok (Place b o)) h
   named_sound s Null h = tt
+  named_sound s (Cells xs) h = absurd h
   named_sound s Opaque h = tt
   named_sound s NoValue h = tt
   named_sound s (Whole z) h = absurd h
@@ -124,6 +156,7 @@ module _ (D : ℕ → Type 0) where
   moved_to_place : (s : Store) (v : Value) (z : ℤ) → Suits D pointing v → Sound (Suits D naming) (moved s v z)
   moved_to_place s (Place b o) z h = live_sound (Suits D naming) s b (placed_at s b (pos o +ℤ z)) (placed_sound s b (pos o +ℤ z) h)
   moved_to_place s Null z h = tt
+  moved_to_place s (Cells xs) z h = absurd h
   moved_to_place s Opaque z h = tt
   moved_to_place s NoValue z h = tt
   moved_to_place s (Whole x) z h = absurd h
@@ -139,30 +172,39 @@ module _ (D : ℕ → Type 0) where
   pointer_suits (pos (suc n)) = tt
   pointer_suits (negsuc n) = tt
 
-  pub converted_sound : (to : Shape) (v : Value) → IsTarget to → Stands D v → Sound (Suits D (kind_in to)) (converted to v)
-  converted_sound (Number t) (Whole z) i h = wrapped t z
-  converted_sound (Number t) Null i h = zero_of (is_signed_of t) 0
-  converted_sound (Number t) (Place b o) i h = tt
-  converted_sound (Number t) Opaque i h = tt
-  converted_sound (Number t) NoValue i h = tt
-  converted_sound (Pointer size) (Whole z) i h = pointer_suits z
-  converted_sound (Pointer size) Null i h = tt
-  converted_sound (Pointer size) (Place b o) i h = h
-  converted_sound (Pointer size) Opaque i h = tt
-  converted_sound (Pointer size) NoValue i h = tt
-  converted_sound (Field t low width) v i h = absurd i
-  converted_sound (Area size) v i h = tt
+  pub converted_sound : (to : Shape) (x : Kind) (v : Value) → IsTarget to → IsSimple x → Suits D x v → Sound (Suits D (kind_in to)) (converted to v)
+  converted_sound (Number t) x (Whole z) i n h = wrapped t z
+  converted_sound (Number t) x Null i n h = zero_of (is_signed_of t) 0
+  converted_sound (Number t) x (Place b o) i n h = tt
+  converted_sound (Number t) x Opaque i n h = tt
+  converted_sound (Number t) x (Cells xs) i n h = absurd (no_cells x xs n h)
+  converted_sound (Number t) x NoValue i n h = tt
+  converted_sound (Pointer size) x (Whole z) i n h = pointer_suits z
+  converted_sound (Pointer size) x Null i n h = tt
+  converted_sound (Pointer size) x (Place b o) i n h = stands x (Place b o) h
+  converted_sound (Pointer size) x Opaque i n h = tt
+  converted_sound (Pointer size) x (Cells xs) i n h = absurd (no_cells x xs n h)
+  converted_sound (Pointer size) x NoValue i n h = tt
+  converted_sound (Field t low width) x v i n h = absurd i
+  converted_sound (Area size) x v i n h = tt
+
+  simple_in : (f : Shape) → IsSimple (kind_in f)
+  simple_in (Number t) = tt
+  simple_in (Field t low width) = tt
+  simple_in (Pointer size) = tt
+  simple_in (Area size) = tt
 
   same_field : (s : Bool) (v : Value) → Suits D (arithmetic s) v → (t : IntType) (low width : ℕ) → Sound (Suits D (arithmetic s)) (converted (Field t low width) v)
   same_field s (Whole z) h t low width = h
   same_field s Opaque h t low width = tt
   same_field s NoValue h t low width = tt
   same_field s Null h t low width = absurd h
+  same_field s (Cells xs) h t low width = absurd h
   same_field s (Place b o) h t low width = absurd h
 
   pub becomes_sound : (f to : Shape) (v : Value) → Becomes f to → Suits D (kind_in f) v → Sound (Suits D (kind_in to)) (converted to v)
-  becomes_sound f (Number t) v b h = converted_sound (Number t) v tt (stands (kind_in f) v h)
-  becomes_sound f (Pointer size) v b h = converted_sound (Pointer size) v tt (stands (kind_in f) v h)
+  becomes_sound f (Number t) v b h = converted_sound (Number t) (kind_in f) v tt (simple_in f) h
+  becomes_sound f (Pointer size) v b h = converted_sound (Pointer size) (kind_in f) v tt (simple_in f) h
   becomes_sound f (Field t low width) v b h = same_field (is_signed_of t) v (subst (λ (x : Kind). Suits D x v) b h) t low width
   becomes_sound f (Area size) v b h = absurd b
 
@@ -266,8 +308,11 @@ module _ (D : ℕ → Type 0) where
   pointers_sound s op size Opaque w m h g = tt
   pointers_sound s op size NoValue w m h g = tt
   pointers_sound s op size (Whole z) w m h g = absurd h
+  pointers_sound s op size (Cells xs) w m h g = absurd h
   pointers_sound s op size (Place b o) (Whole z) m h g = absurd g
+  pointers_sound s op size (Place b o) (Cells xs) m h g = absurd g
   pointers_sound s op size Null (Whole z) m h g = absurd g
+  pointers_sound s op size Null (Cells xs) m h g = absurd g
 
   add_sound : (s : Store) (op : BinaryOp) (size : ℕ) (v : Value) (z : ℤ) → IsTrue (is_move op) → Suits D pointing v → Sound (Suits D pointing) (on_pointer_and_number s op size v z)
   add_sound s Add size v z m h = pointer_moved s v (pos size *ℤ z) h
@@ -285,8 +330,10 @@ module _ (D : ℕ → Type 0) where
   numbers_sound s op t r Opaque w h g = tt
   numbers_sound s op t r NoValue w h g = tt
   numbers_sound s op t r (Whole a) Null h g = absurd g
+  numbers_sound s op t r (Whole a) (Cells xs) h g = absurd g
   numbers_sound s op t r (Whole a) (Place b o) h g = absurd g
   numbers_sound s op t r Null w h g = absurd h
+  numbers_sound s op t r (Cells xs) w h g = absurd h
   numbers_sound s op t r (Place b o) w h g = absurd h
 
   first_sound : (s : Store) (op : BinaryOp) (size : ℕ) (r : IntType) (v w : Value) → IsTrue (is_move op) → Suits D pointing v → Suits D (arithmetic (is_signed_of r)) w → Sound (Suits D pointing) (binary s op (Pointer size) (Number r) v w)
@@ -300,8 +347,11 @@ module _ (D : ℕ → Type 0) where
   first_sound s op size r Opaque NoValue m h g = tt
   first_sound s op size r NoValue NoValue m h g = tt
   first_sound s op size r (Whole z) Opaque m h g = absurd h
+  first_sound s op size r (Cells xs) Opaque m h g = absurd h
   first_sound s op size r (Whole z) NoValue m h g = absurd h
+  first_sound s op size r (Cells xs) NoValue m h g = absurd h
   first_sound s op size r v Null m h g = absurd g
+  first_sound s op size r v (Cells xs) m h g = absurd g
   first_sound s op size r v (Place b o) m h g = absurd g
 
   last_sound : (s : Store) (op : BinaryOp) (size : ℕ) (t : IntType) (v w : Value) → IsTrue (is_add op) → Suits D (arithmetic (is_signed_of t)) v → Suits D pointing w → Sound (Suits D pointing) (binary s op (Number t) (Pointer size) v w)
@@ -309,6 +359,7 @@ module _ (D : ℕ → Type 0) where
   last_sound s op size t Opaque w m h g = tt
   last_sound s op size t NoValue w m h g = tt
   last_sound s op size t Null w m h g = absurd h
+  last_sound s op size t (Cells xs) w m h g = absurd h
   last_sound s op size t (Place b o) w m h g = absurd h
 
   pub binary_sound : (s : Store) (op : BinaryOp) (l r : Shape) (v w : Value) → Combines op l r → Suits D (kind_in l) v → Suits D (kind_in r) w → Sound (Suits D (joined op l r)) (binary s op l r v w)
@@ -323,14 +374,15 @@ module _ (D : ℕ → Type 0) where
   binary_sound s op (Field i low width) r v w m h g = absurd m
   binary_sound s op (Area size) r v w m h g = absurd m
 
-  not_sound : (s : Store) (f : Shape) (v : Value) → Sound (Suits D (arithmetic true)) (unary s Not f v)
-  not_sound s f v = bind_sound IsEither (Suits D (arithmetic true)) (truth_of s v) (λ b. Ok (Whole (truth (not b)))) (truth_sound s v) (λ x h. tt)
+  not_sound : (s : Store) (f : Shape) (x : Kind) (v : Value) → IsSimple x → Suits D x v → Sound (Suits D (arithmetic true)) (unary s Not f v)
+  not_sound s f x v i h = bind_sound IsEither (Suits D (arithmetic true)) (truth_of s v) (λ b. Ok (Whole (truth (not b)))) (truth_sound s x v i h) (λ b g. tt)
 
   neg_sound : (s : Store) (t : IntType) (n : Bool) (v : Value) → Suits D (arithmetic n) v → Sound (Suits D (arithmetic (is_signed_of t))) (unary s Neg (Number t) v)
   neg_sound s t n (Whole z) h = wrapped t (neg_ℤ z)
   neg_sound s t n Opaque h = tt
   neg_sound s t n NoValue h = tt
   neg_sound s t n Null h = absurd h
+  neg_sound s t n (Cells xs) h = absurd h
   neg_sound s t n (Place b o) h = absurd h
 
   bits_sound : (s : Store) (t : IntType) (n : Bool) (v : Value) → Suits D (arithmetic n) v → Sound (Suits D (arithmetic (is_signed_of t))) (unary s BitNot (Number t) v)
@@ -338,12 +390,13 @@ module _ (D : ℕ → Type 0) where
   bits_sound s t n Opaque h = tt
   bits_sound s t n NoValue h = tt
   bits_sound s t n Null h = absurd h
+  bits_sound s t n (Cells xs) h = absurd h
   bits_sound s t n (Place b o) h = absurd h
 
   pub unary_sound : (s : Store) (op : UnaryOp) (f : Shape) (x : Kind) (v : Value) → Operates op f x → Suits D x v → Sound (Suits D (turned_kind op f)) (unary s op f v)
   unary_sound s Neg (Number t) (arithmetic n) v m h = neg_sound s t n v h
   unary_sound s BitNot (Number t) (arithmetic n) v m h = bits_sound s t n v h
-  unary_sound s Not f x v m h = not_sound s f v
+  unary_sound s Not f x v m h = not_sound s f x v m h
   unary_sound s _ f x v m h = absurd m
 
   number_bumped : (s : Store) (kind : StepKind) (t : IntType) (v : Value) → Suits D (arithmetic (is_signed_of t)) v → Sound (Suits D (arithmetic (is_signed_of t))) (bumped s kind (Number t) v)
@@ -351,6 +404,7 @@ module _ (D : ℕ → Type 0) where
   number_bumped s kind t Opaque h = tt
   number_bumped s kind t NoValue h = tt
   number_bumped s kind t Null h = absurd h
+  number_bumped s kind t (Cells xs) h = absurd h
   number_bumped s kind t (Place b o) h = absurd h
 
   field_bumped : (s : Store) (kind : StepKind) (t : IntType) (low width : ℕ) (v : Value) → Suits D (arithmetic (is_signed_of t)) v → Sound (Suits D (arithmetic (is_signed_of t))) (bumped s kind (Field t low width) v)
@@ -358,6 +412,7 @@ module _ (D : ℕ → Type 0) where
   field_bumped s kind t low width Opaque h = tt
   field_bumped s kind t low width NoValue h = tt
   field_bumped s kind t low width Null h = absurd h
+  field_bumped s kind t low width (Cells xs) h = absurd h
   field_bumped s kind t low width (Place b o) h = absurd h
 
   pub bumped_sound : (s : Store) (kind : StepKind) (f : Shape) (v : Value) → IsScalarShape f → Suits D (kind_in f) v → Sound (Suits D (kind_in f)) (bumped s kind f v)

@@ -1,13 +1,13 @@
 -- The run of one expression never comes to trees or values that do not fit one another (C90 6.3).
 use Rattle.std.specs.Prelude.{◌≡◌, ℕ, zero, suc, Bool, true, false, List, [], ◌∷◌, Ok, Some, IsSome, ⊤, if◌then◌else◌}
-use Rattle.c65_csem.specs.Trees.{Typed, node, Node, constant, null, literal, object, func, deref, member, load, address, decay, convert, unary, binary, both, either, choice, comma, assign, assign_op, assign_step, step, copy, call, Nodes, none, some, UnitTy}
+use Rattle.c65_csem.specs.Trees.{Typed, node, Node, constant, null, literal, object, func, deref, member, load, address, decay, convert, unary, binary, both, either, choice, comma, assign, assign_op, assign_step, step, copy, call, pack, spill, rest, Nodes, none, some, UnitTy}
 use Rattle.c65_csem.specs.Typed.{IsTyped}
 use Rattle.c65_meaning.specs.Program.{ProgramTy}
 use Rattle.c65_meaning.specs.Why.{Unfit}
 use Rattle.c65_meaning.specs.Store.{Piece, Block, Store, Value, Place}
 use Rattle.c65_meaning.specs.Shapes.{literal_block}
 use Rattle.c65_meaning.specs.Items.{Invoke, plan}
-use Rattle.c65_meaning.specs.State.{Scene, State, Undefined, Running}
+use Rattle.c65_meaning.specs.State.{Scene, State, Undefined, Running, rest_in}
 use Rattle.c65_meaning.specs.Step.{object_place}
 use Rattle.c65_meaning.specs.Step as one
 
@@ -17,13 +17,17 @@ use Rattle.c65_meaning.specs.Step as one
 abbrev pub IsClosed : Store → Type 0
 IsClosed s = (b : ℕ) (x : Block) (q i d o : ℕ) → s b ≡ Some x → x.cells q ≡ Piece i d o → IsSome (s d)
 
+-- the active call has a block of further arguments
+abbrev pub HasRest : Scene → Type 0
+HasRest c = (b : ℕ) × (rest_in c.frames ≡ Some b) × IsSome (c.store b)
+
 module _ (u : UnitTy) (c : Scene) where
   -- an object has a block: the active call's own, or the one of the whole run
   abbrev pub HasBlock : ℕ → Type 0
   HasBlock i = (b : ℕ) × (object_place u i c ≡ Ok (Place b 0)) × IsSome (c.store b)
 
   abbrev mutual
-    -- each literal, object and function that an expression names has a block
+    -- each literal, object and function that an expression names has a block, and so have the further arguments
     pub AreThere : Typed → Type 0
     AreThere (node t e) = AreThereIn e
 
@@ -51,6 +55,9 @@ module _ (u : UnitTy) (c : Scene) where
     AreThereIn (step kind a) = AreThere a
     AreThereIn (copy a b) = AreThere a × AreThere b
     AreThereIn (call f es) = AreThere f × AreAllThere es
+    AreThereIn (pack a) = AreThere a
+    AreThereIn (spill i a) = HasBlock i × AreThere a
+    AreThereIn rest = HasRest c
 
     pub AreAllThere : Nodes → Type 0
     AreAllThere none = ⊤

@@ -1,9 +1,9 @@
 -- The functions of the library on arguments of their types (C90 7.9.7, 7.10.4, 7.11).
-use Rattle.std.specs.Prelude.{ℕ, pos, List, [], ◌∷◌, Result, Ok, Err, IsSome, ⊤}
+use Rattle.std.specs.Prelude.{◌≡◌, ℕ, pos, List, [], ◌∷◌, Result, Ok, Err, IsSome, ⊤}
 use Rattle.c65_base.specs.declared.library.Library.{Library}
 use Rattle.c65_base.specs.declared.library.Library.TheVariants.{Putchar, Getchar, Puts, Exit, Memcpy, Memset, Strcmp, Strcpy, Strlen}
 use Rattle.c65_meaning.specs.Why.{Why, By, Unfit}
-use Rattle.c65_meaning.specs.Store.{Store, Value, Whole, Place, Opaque, NoValue}
+use Rattle.c65_meaning.specs.Store.{Piece, Store, Value, Whole, Place, Opaque, Cells, NoValue, nth_cell}
 use Rattle.c65_meaning.specs.Library.{Effect, effect_of}
 use Rattle.c65_meaning.specs.State.{Scene}
 use Rattle.c65_meaning_law.specs.Laws.{IsClosed}
@@ -24,6 +24,7 @@ IsCount _ = ⊥
 abbrev pub IsPointing : Store → Value → Type 0
 IsPointing s (Place b o) = IsSome (s b)
 IsPointing s (Whole z) = ⊥
+IsPointing s (Cells xs) = ⊥
 IsPointing s _ = ⊤
 
 -- the arguments that a function's type asks for
@@ -39,9 +40,10 @@ AreArguments s Strcpy (to ∷ from ∷ []) = IsPointing s to × IsPointing s fro
 AreArguments s Strlen (v ∷ []) = IsPointing s v
 AreArguments s _ _ = ⊥
 
--- a place is of a block that there is
+-- a place is of a block that there is, and so is each place in cells
 abbrev pub IsOfBlock : Store → Value → Type 0
 IsOfBlock s (Place b o) = IsSome (s b)
+IsOfBlock s (Cells xs) = (q i b o : ℕ) → nth_cell xs q ≡ Piece i b o → IsSome (s b)
 IsOfBlock s _ = ⊤
 
 -- a call that goes well leaves memory closed and takes no block away, and its result is of a block that there is; what goes wrong is a
