@@ -1,5 +1,5 @@
 -- One item of a list of a unit is changed in its place.
-use Rattle.std.proofs.Common.{◌≡◌, ◌∙◌, Bool, ℕ, zero, suc, ◌≤◌, List, [], ◌∷◌, length, map, get_or, set, Some, Vec, Global, refl, ap, arith}
+use Rattle.std.proofs.Common.{◌≡◌, ◌∙◌, Bool, ℕ, zero, suc, ◌≤◌, List, [], ◌∷◌, ◌++◌, length, map, get_or, set, Some, Vec, Global, refl, sym, ap, arith}
 use Rattle.std.proofs.lemmas.List.{length-map}
 use Rattle.c65_csem.specs.declared.items.Cell.{Cell}
 use Rattle.c65_csem.specs.declared.items.Class.{Class}
@@ -7,10 +7,12 @@ use Rattle.c65_csem.specs.declared.items.Parts.{Parts}
 use Rattle.c65_csem.specs.declared.items.TObject.{TObject}
 use Rattle.c65_csem.specs.declared.items.TFunc.{TFunc}
 use Rattle.c65_csem.specs.declared.stmt.TStmt.{TStmt}
-use Rattle.c65_csem.specs.Trees.{ObjectTy, FuncTy}
-use Rattle.c65_csem.specs.Views.{object_of, func_of, stmt_of, unit_of}
+use Rattle.c65_csem.specs.declared.stmt.TStmt.TheVariants.{Block}
+use Rattle.c65_csem.specs.Trees.{Stmt, block, ObjectTy, FuncTy}
+use Rattle.c65_csem.specs.Views.{object_of, func_of, stmt_of, stmts_of, unit_of}
+use Rattle.c65_csem.proofs.RowLaws.{stmt_of_block}
 use Rattle.c65_init.specs.Declarations.{defined_as, with_init}
-use Rattle.c65_init.specs.Functions.{with_body}
+use Rattle.c65_init.specs.Functions.{with_body, with_unnamed}
 use Rattle.c65_init.specs.Fixed.{fixed_class, fixed_at}
 use Rattle.c65_ctype.specs.Trees.{Fn}
 use Rattle.c65_ctype.specs.declared.types.FnType.{FnType}
@@ -66,3 +68,7 @@ pub object_not_fixed : (os : List TObject) (i : ℕ) (honoured : Bool) → lengt
 object_not_fixed [] i honoured h = refl
 object_not_fixed (x ∷ os) zero honoured h = absurd (omega arith)
 object_not_fixed (x ∷ os) (suc i) honoured h = ap (λ (ys : List ObjectTy). object_of x ∷ ys) (object_not_fixed os i honoured (omega arith))
+
+pub unnamed_behind : (unnamed : List ℕ) (body : TStmt) (os ps : Vec ℕ Global) (ss : Vec TStmt Global) (made : Stmt) → body ≡ Block os ss → ps.items ≡ os.items ++ unnamed → made ≡ block ps.items (stmts_of ss.items) → made ≡ with_unnamed unnamed (stmt_of body)
+unnamed_behind unnamed body os ps ss made is longer h =
+    h ∙ ap (λ (is : List ℕ). block is (stmts_of ss.items)) longer ∙ sym (ap (with_unnamed unnamed) (ap stmt_of is ∙ stmt_of_block os ss))
