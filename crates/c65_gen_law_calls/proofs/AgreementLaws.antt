@@ -1,5 +1,5 @@
 -- A call that agrees with its function passes as many bytes as the function takes away.
-use Rattle.std.proofs.Common.{◌≡◌, ℕ, ◌+◌, ◌-◌, ◌==◌, ◌||◌, ◌&&◌, not, Bool, true, false, Option, None, Some, List, [], ◌∷◌, length, slice_get, refl, sym, ap, subst, ◌∙◌, arith}
+use Rattle.std.proofs.Common.{◌≡◌, ℕ, ◌+◌, ◌-◌, ◌==◌, ◌||◌, not, Bool, true, false, Option, None, Some, List, [], ◌∷◌, length, slice_get, refl, sym, ap, subst, ◌∙◌, arith}
 use Rattle.std.specs.Prelude.{nat_lt, if◌then◌else◌, Ok}
 use Rattle.std.proofs.lemmas.Bool.{eq-eqb, eqb-true, and_parts}
 use Rattle.c65_base.specs.declared.refusal.Size.TheVariants as sizes
@@ -171,7 +171,7 @@ called_type f _ = f
 
 pub prototypes_agree : PrototypesAgree
 prototypes_agree u g body s t well site is like =
-    let call : IsCall u s.type (type_of s.callee) s.args = site.call in
+    let call : IsCall u s.type (type_of s.callee) s.args = site.made in
     let own : bare s.callee ≡ pointer (plain (function call.callee)) = ap type_in call.named in
     let same : call.callee ≡ t = ap (called_type t) (sym own ∙ is) in
     agree u g body s t g.ty refl well (are_arguments u s.args site.args) (subst (λ (x : Fn). FitsFn u x s.args) same call.given) is like

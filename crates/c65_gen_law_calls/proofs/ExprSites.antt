@@ -176,7 +176,6 @@ mutual
       has_then (expr_has f pushed lo a) (has_before (free_leaves (push_leaves Ax [])) (has_behind (expr_has f (more pushed 2) (lo + uses a) b) (free_leaves (copy_leaves (type_bytes f (type_in t)) []))))
   node_has f pushed lo t (call g es) =
       call_has (named g) t g es refl (expr_has f pushed lo g) (args_has f pushed lo (is_fast (bare g)) es) (args_has f (more pushed 2) (lo + uses g) (is_fast (bare g)) es)
-
   node_has f pushed lo t (pack e) = has_behind (target_has (place_of f pushed e) (known_sites f pushed e) (expr_has f pushed lo e)) (free_leaves (bytes_still (place_of f pushed e) (extent_by (type_bytes f (type_in t))) []))
   node_has f pushed lo t (spill i e) = has_behind (expr_has f pushed lo e) (free_leaves (spill_still (object_code f pushed i) (extent_by (type_bytes f (type_in t))) (object_still f pushed i) []))
   node_has f pushed lo t further = has_free (free_leaves (further_still f pushed []))

@@ -60,7 +60,6 @@ mutual
   node_calls_are f t (call g es) =
       two f (stack.unless_named (named g) (calls_of f g)) (args_calls f es ++ passed f (is_fast (bare g)) es ∷ []) (unless_named (named g) (sites_of g)) (args_sites es ++ site_by t g es ∷ []) (unnamed f (named g) (calls_of f g) (sites_of g) (calls_are f g))
       (two f (args_calls f es) (passed f (is_fast (bare g)) es ∷ []) (args_sites es) (site_by t g es ∷ []) (args_calls_are f es) refl)
-
   node_calls_are f t (pack e) = calls_are f e
   node_calls_are f t (spill i e) = calls_are f e
   node_calls_are f t further = refl
@@ -152,7 +151,7 @@ mutual
   typed_sites u t (copy a b) h = sites_append u (sites_of a) (sites_of b) (expr_sites u a h.0) (expr_sites u b h.1)
   typed_sites u t (call g es) h =
       sites_append u (unless_named (named g) (sites_of g)) (args_sites es ++ site_by t g es ∷ []) (unnamed_sites u (named g) (sites_of g) (expr_sites u g h.0))
-      (sites_append u (args_sites es) (site_by t g es ∷ []) (argument_sites u es h.4) (record { callee = h.0; value = h.1; call = h.2; result = usual_result u t h.3; args = h.4 }, tt))
+      (sites_append u (args_sites es) (site_by t g es ∷ []) (argument_sites u es h.4) (record { callee = h.0; value = h.1; made = h.2; result = usual_result u t h.3; args = h.4 }, tt))
   typed_sites u t (pack e) h = absurd h
   typed_sites u t (spill i e) h = called_sites u t e h.0
   typed_sites u t further h = tt
@@ -161,7 +160,7 @@ mutual
   called_sites : (u : UnitTy) (t : QTy) (e : Typed) → IsCalled u t e → AreSites u (sites_of e)
   called_sites u t (node s (call g es)) h =
       sites_append u (unless_named (named g) (sites_of g)) (args_sites es ++ site_by s g es ∷ []) (unnamed_sites u (named g) (sites_of g) (expr_sites u g h.2))
-      (sites_append u (args_sites es) (site_by s g es ∷ []) (argument_sites u es h.5) (record { callee = h.2; value = h.3; call = h.4; result = typing.structure h.1; args = h.5 }, tt))
+      (sites_append u (args_sites es) (site_by s g es ∷ []) (argument_sites u es h.5) (record { callee = h.2; value = h.3; made = h.4; result = typing.structure h.1; args = h.5 }, tt))
   called_sites u t (node s _) h = absurd h
 
   argument_sites : (u : UnitTy) (es : Nodes) → AreTyped u es → AreSites u (args_sites es)

@@ -23,7 +23,7 @@ site_by t g es = record { type = t; callee = g; args = es }
 pub record IsSite (u : UnitTy) (s : Site) : Type 0 where
   pub callee : IsTyped u s.callee
   pub value : is_place s.callee ≡ false
-  pub call : IsCall u s.type (type_of s.callee) s.args
+  pub made : IsCall u s.type (type_of s.callee) s.args
   pub result : IsResult u s.type
   pub args : AreTyped u s.args
 

@@ -217,7 +217,6 @@ mutual
       does_then (expr_does f pushed lo a v) (does_before (push_leaves Ax v) (does_behind (expr_does f (more pushed 2) (lo + uses a) b (2 ∷ v)) (copy_leaves (type_bytes f (type_in t)) v)))
   node_does f pushed lo t (call g es) v =
       call_does f (named g) (outcome_of f (type_in t)) g es (expr_does f pushed lo g v) (args_does f pushed lo (is_fast (bare g)) es v) (args_does f (more pushed 2) (lo + uses g) (is_fast (bare g)) es (2 ∷ v))
-
   node_does f pushed lo t (pack e) v = does_behind (target_does (place_of f pushed e) (known_calls f pushed e) (expr_does f pushed lo e v)) (bytes_still (place_of f pushed e) (extent_by (type_bytes f (type_in t))) v)
   node_does f pushed lo t (spill i e) v = does_behind (expr_does f pushed lo e v) (spill_still (object_code f pushed i) (extent_by (type_bytes f (type_in t))) (object_still f pushed i) v)
   node_does f pushed lo t further v = does_leaves (further_still f pushed v)

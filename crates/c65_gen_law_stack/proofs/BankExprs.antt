@@ -151,7 +151,6 @@ mutual
   node_clear f pushed lo t (copy a b) k = clear_then (expr_clear f pushed lo a k) (clear_then (push_clear Ax) (clear_then (expr_clear f (more pushed 2) (lo + uses a) b k) (copy_clear (type_bytes f (type_in t)))))
   node_clear f pushed lo t (call g es) k =
       call_clear f (named g) (outcome_of f (type_in t)) g es (expr_clear f pushed lo g k) (args_clear f pushed lo (is_fast (bare g)) es k) (args_clear f (more pushed 2) (lo + uses g) (is_fast (bare g)) es k)
-
   node_clear f pushed lo t (pack e) k = clear_then (target_clear (place_of f pushed e) (expr_clear f pushed lo e k)) (bytes_clear (place_of f pushed e) (extent_by (type_bytes f (type_in t))))
   node_clear f pushed lo t (spill i e) k = clear_then (expr_clear f pushed lo e k) (spill_clear (object_code f pushed i) (extent_by (type_bytes f (type_in t))) (object_clear f pushed i))
   node_clear f pushed lo t further k = further_clear f pushed

@@ -256,7 +256,6 @@ mutual
       closed_then (expr_level f pushed lo a v) (before (push_leaves Ax v) (push_piece Ax).plain (behind (expr_level f (more pushed 2) (lo + uses a) b (2 ∷ v)) (copy_leaves (type_bytes f (type_in t)) v) (copy_piece (type_bytes f (type_in t))).plain))
   node_level f pushed lo t (call g es) v =
       call_level f (named g) (outcome_of f (type_in t)) g es (expr_level f pushed lo g v) (args_level f pushed lo (is_fast (bare g)) es v) (args_level f (more pushed 2) (lo + uses g) (is_fast (bare g)) es (2 ∷ v))
-
   node_level f pushed lo t (pack e) v =
       let place : Place = place_of f pushed e in
       let extent : Extent = extent_by (type_bytes f (type_in t)) in

@@ -1,6 +1,6 @@
 -- A call passes as many bytes as the function takes.
 use Rattle.std.proofs.Common.{◌≡◌, ℕ, zero, suc, ◌+◌, ◌-◌, ◌≤◌, ◌&&◌, not, Bool, true, false, Option, None, Some, List, [], ◌∷◌, ◌++◌, length, refl, sym, ap, subst, ◌∙◌, slice_get, arith}
-use Rattle.std.specs.Prelude.{if◌then◌else◌, nat_lt, nat_le, option_and_then, unwrap_or, max, min}
+use Rattle.std.specs.Prelude.{if◌then◌else◌, nat_lt, nat_le, option_and_then, unwrap_or}
 use Rattle.std.proofs.lemmas.Bool.{ltb-false, le-ltb, leb-true, eqb-true, and_parts}
 use Rattle.std.proofs.lemmas.Option.{slice_get-map}
 use Rattle.c65_base.specs.declared.refusal.Size.TheVariants as sizes
@@ -15,7 +15,7 @@ use Rattle.c65_ctype.specs.Sizes as ctype
 use Rattle.c65_ctype.specs.Tables.{layout_at}
 use Rattle.c65_ctype.specs.Views.{types_of}
 use Rattle.c65_csem.specs.declared.items.Parts.{Parts}
-use Rattle.c65_csem.specs.Trees.{Typed, node, pack, type_of, Nodes, none, some, ObjectTy, UnitTy}
+use Rattle.c65_csem.specs.Trees.{Typed, node, pack, Nodes, none, some, ObjectTy, UnitTy}
 use Rattle.c65_csem.specs.Places.{is_scalar, is_small, plain_of, are_alike, alike}
 use Rattle.c65_csem.specs.Typed.{AreGiven}
 use Rattle.c65_csem.specs.Units.{AreParams, MatchParams}
@@ -31,7 +31,7 @@ use Rattle.c65_genframe.specs.Sizes.{object_in, slot_bytes}
 use Rattle.c65_genframe.specs.Sizes as sizing
 use Rattle.c65_genframe.specs.Marks.{lowest, all_marks}
 use Rattle.c65_genframe.specs.Objects.{locals_of}
-use Rattle.c65_genframe.specs.Frames.{Framed, type_bytes, has_prototype, is_variadic, takes_stack, register_param, home_at, arrival_at, arrival, is_kept, last_bytes, bytes_without, check_of, settled, passed_bytes, placed_in}
+use Rattle.c65_genframe.specs.Frames.{Framed, has_prototype, is_variadic, takes_stack, register_param, home_at, arrival_at, arrival, is_kept, last_bytes, bytes_without, check_of, settled, passed_bytes, placed_in}
 use Rattle.c65_genload.specs.Conversions.{size_of}
 use Rattle.c65_genexpr.specs.Types.{kind_of, kind_in, bare}
 use Rattle.c65_genexpr.specs.Arguments.{clamped, stays, passed_size}
@@ -143,7 +143,7 @@ scalar_size f (node t _) h = refl
 
 -- and a structure or union of at most four bytes has its own
 small_limit : (b : Bool) (n other : ℕ) → nat_lt 65535 n ≡ b → n ≤ 4 → unwrap_or (if b then None else Some n) other ≡ n
-small_limit true n other h few = absurd (let low : nat_lt 65535 n ≡ false = le-ltb n 65535 (omega (arith, few)) in cc)
+small_limit true n other h few = absurd (let low : nat_lt 65535 n ≡ false = le-ltb 65535 n (omega (arith, few)) in cc)
 small_limit false n other h few = refl
 
 small_layout : (o : Option LayoutTy) (other : ℕ) → 1 ≤ size_in o → size_in o ≤ 4 → unwrap_or (option_and_then (λ l. sizing.limited l.size) o) other ≡ size_in o
@@ -176,19 +176,20 @@ small_tag types m n some few same = record {
 packed_size : (f : Framed) (q : QTy) (e : Typed) → Small (types_of f.parts.types) (type_in q) → passed_size f (node q (pack e)) ≡ ctype.size_of (types_of f.parts.types) (type_in q)
 packed_size f q e s = ap clamped (s.bytes 0) ∙ clamped_small (ctype.size_of (types_of f.parts.types) (type_in q)) s.some s.few
 
+tag_size : (types : TypesTy) (p : Bool) (m : ℕ) → ctype.size_of types (passed_type p (tag m)) ≡ ctype.size_of types (tag m)
+tag_size types true m = refl
+tag_size types false m = refl
+
+tag_bytes : (types : TypesTy) (p : Bool) (m : ℕ) → sizing.passed_bytes types p (tag m) ≡ sizing.bytes_or types (tag m) 65536
+tag_bytes types true m = refl
+tag_bytes types false m = refl
+
 packed_slot : (types : TypesTy) (p : Bool) (t u : Ty) → is_small types u ≡ true → alike (passed_type p t) u ≡ true → ctype.size_of types (passed_type p t) ≡ ctype.size_of types u → (sizing.passed_bytes types p t ≡ ctype.size_of types u) × Small types u
 packed_slot types p (tag m) (tag n) small same size =
     let bounds = small_bounds (ctype.size_of types (tag n)) small in
-    let own : Small types (tag m) = small_tag types m n bounds.0 bounds.1 (tag_size p) in
-    (tag_bytes p ∙ (own.bytes 65536 ∙ tag_size p), small_tag types n n bounds.0 bounds.1 refl)
-  where
-    tag_size : (p : Bool) → ctype.size_of types (tag m) ≡ ctype.size_of types (tag n)
-    tag_size true = size
-    tag_size false = size
-
-    tag_bytes : (p : Bool) → sizing.passed_bytes types p (tag m) ≡ sizing.bytes_or types (tag m) 65536
-    tag_bytes true = refl
-    tag_bytes false = refl
+    let own_size : ctype.size_of types (tag m) ≡ ctype.size_of types (tag n) = sym (tag_size types p m) ∙ size in
+    let own : Small types (tag m) = small_tag types m n bounds.0 bounds.1 own_size in
+    (tag_bytes types p m ∙ (own.bytes 65536 ∙ own_size), small_tag types n n bounds.0 bounds.1 refl)
 packed_slot types true void (tag n) small same size = absurd cc
 packed_slot types false void (tag n) small same size = absurd cc
 packed_slot types true (int k) (tag n) small same size = absurd cc
