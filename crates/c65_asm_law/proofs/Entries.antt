@@ -23,6 +23,7 @@ use Rattle.c65_genentry.specs.Bytes.{pages_code, rest_code, loop_labels, block_c
 use Rattle.c65_genentry.specs.Bytes as blocks
 use Rattle.c65_genentry.specs.Choice.{bits_of, test_code, case_code, choice_code}
 use Rattle.c65_asm_law.proofs.Well.{AllWell, well_append, well_none, well_more, well_if}
+use Rattle.c65_asm_law.proofs.Loads.{pass_well}
 
 -- ---- the software stack's pointer
 
@@ -54,7 +55,7 @@ lower_well n k = well_append n (repeated (k / 255) (small_lower 255)) (small_low
 
 pushed_well : (n : ℕ) (a : Arrival) → AllWell n (pushed_code a)
 pushed_well n Passed = well_none n
-pushed_well n (Pushed bytes) = record { all = (tt, tt) }
+pushed_well n (Pushed bytes) = pass_well n bytes
 pushed_well n (Kept bank bytes) = well_none n
 
 bank_store_well : (n bank bytes : ℕ) → AllWell n (bank_store bank bytes)

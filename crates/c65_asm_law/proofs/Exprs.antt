@@ -5,8 +5,8 @@ use Rattle.c65_base.specs.declared.operators.BinaryOp.{BinaryOp}
 use Rattle.c65_ints.specs.declared.types.IntType.{IntType}
 use Rattle.c65_ctype.specs.Trees.{QTy, type_in}
 use Rattle.c65_ctype.specs.Views.{types_of}
-use Rattle.c65_csem.specs.Trees.{Typed, node, Node, constant, null, literal, object, func, deref, member, load, address, decay, convert, unary, binary, both, either, choice, comma, assign, assign_op, assign_step, step, copy, call, Nodes, none, some, UnitTy}
-use Rattle.c65_csem.specs.Typed.{IsTyped, IsNode, AreTyped}
+use Rattle.c65_csem.specs.Trees.{Typed, node, Node, constant, null, literal, object, func, deref, member, load, address, decay, convert, unary, binary, both, either, choice, comma, assign, assign_op, assign_step, step, copy, call, pack, spill, rest as further, Nodes, none, some, UnitTy}
+use Rattle.c65_csem.specs.Typed.{IsTyped, IsNode, IsGiven, IsCalled, AreTyped}
 use Rattle.c65_mach.specs.declared.rows.Op.TheVariants.{Beq, Bne, Jmp}
 use Rattle.c65_mach.specs.declared.rows.Mode.TheVariants.{Absolute}
 use Rattle.c65_code.specs.declared.line.Operand.TheVariants.{To}
@@ -20,25 +20,26 @@ use Rattle.c65_genload.specs.declared.places.Place.{Place}
 use Rattle.c65_genload.specs.declared.places.Place.TheVariants as places
 use Rattle.c65_genload.specs.declared.places.Access.{Access}
 use Rattle.c65_genload.specs.Words.{branch}
-use Rattle.c65_genload.specs.Places.{held}
+use Rattle.c65_genload.specs.Places.{held, extent_by}
 use Rattle.c65_genload.specs.Conversions.{push_code, waiting}
 use Rattle.c65_genload.specs.Loads.{hold_code}
 use Rattle.c65_genload.specs.Stores.{store_code}
 use Rattle.c65_genexpr.specs.declared.operands.Operands.{Operands}
 use Rattle.c65_genexpr.specs.declared.operands.Operands.TheVariants.{Numbers, PointerFirst}
 use Rattle.c65_genexpr.specs.declared.arguments.Passed.{Passed}
-use Rattle.c65_genexpr.specs.Types.{kind_of, result_kind, kind_in, bare, offset_at, access_of, target_bytes}
-use Rattle.c65_genexpr.specs.Places.{more, place_of}
+use Rattle.c65_genexpr.specs.declared.types.Outcome.{Outcome}
+use Rattle.c65_genexpr.specs.Types.{kind_of, outcome_of, kind_in, bare, offset_at, access_of, target_bytes}
+use Rattle.c65_genexpr.specs.Places.{more, place_of, object_code}
 use Rattle.c65_genexpr.specs.Operands.{residue_of, operands_of, computes, short_of, between_code, behind_code, short_code, binary_by}
 use Rattle.c65_genexpr.specs.Steps.{amount_of, open_code, close_code}
-use Rattle.c65_genexpr.specs.Arguments.{is_fast, is_counted, stays, joined, passed_of, argument_bytes, argument_code}
+use Rattle.c65_genexpr.specs.Arguments.{is_fast, is_counted, stays, passed_size, joined, passed_of, argument_bytes, argument_code}
 use Rattle.c65_genexpr.specs.Calls.{named_in, named}
 use Rattle.c65_genexpr.specs.Uses.{unless_named, uses, node_uses, args_uses}
 use Rattle.c65_genexpr.specs.Code.{target_code, behind_open, compound, call_by, test_in, truth_code, expr_code, node_code, args_code}
 use Rattle.c65_asm_law.proofs.Well.{AllWell, well_append, well_none, well_more}
-use Rattle.c65_asm_law.proofs.Loads.{WellPlace, number_well, symbol_well, offset_well, push_well, test_well, hold_well, load_well, store_well, copy_well}
+use Rattle.c65_asm_law.proofs.Loads.{WellPlace, bytes_well, number_well, symbol_well, offset_well, push_well, test_well, hold_well, load_well, store_well, copy_well}
 use Rattle.c65_asm_law.proofs.Known.{Knows}
-use Rattle.c65_asm_law.proofs.Places.{place_well, object_well, conversion_well, unary_well, between_well, behind_well, short_well, step_well, open_well, close_well, named_well, direct_well, pointer_well, argument_well}
+use Rattle.c65_asm_law.proofs.Places.{place_well, object_well, further_well, spill_well, conversion_well, unary_well, between_well, behind_well, short_well, step_well, open_well, close_well, named_well, direct_well, pointer_well, argument_well}
 
 target_well : (n : ℕ) (p : Place) (code : List Line) → AllWell n code → AllWell n (target_code p code)
 target_well n places.Far code h = h
@@ -51,13 +52,13 @@ tested n e = test_well n (width_of (kind_in e))
 
 -- ---- the bytes of arguments
 
-joined_few : (kept : Bool) (kind : IntType) (p : Passed) → p.stacked < 2 ^ 8 → (joined kept kind p).stacked < 2 ^ 8
-joined_few true kind p h = h
-joined_few false kind p h = omega arith
+joined_few : (kept : Bool) (size : ℕ) (p : Passed) → p.stacked < 2 ^ 8 → (joined kept size p).stacked < 2 ^ 8
+joined_few true size p h = h
+joined_few false size p h = omega arith
 
-passed_few : (fast : Bool) (es : Nodes) → (passed_of fast es).stacked < 2 ^ 8
-passed_few fast none = omega arith
-passed_few fast (some e es) = joined_few (stays fast es) (kind_in e) (passed_of fast es) (passed_few fast es)
+passed_few : (f : Framed) (fast : Bool) (es : Nodes) → (passed_of f fast es).stacked < 2 ^ 8
+passed_few f fast none = omega arith
+passed_few f fast (some e es) = joined_few (stays fast es) (passed_size f e) (passed_of f fast es) (passed_few f fast es)
 
 -- ---- a function that is called by its name
 
@@ -103,12 +104,12 @@ compound_well n f pushed op operands a b left right h ha hb =
     let access : Access = access_of (types_of f.parts.types) a in
     well_append n (target_code place left) _ (target_well n place left ha) (well_append n (open_code place access (computes operands)) _ (open_well n place access (computes operands) h) (well_append n right (close_code op operands (kind_in b) place access) hb (close_well n op operands (kind_in b) place access h)))
 
-call_well : (n : ℕ) (f : Framed) (i : Option ℕ) (kind : Option IntType) (g : Typed) (es : Nodes) (callee args above : List Line) → ((k : ℕ) → i ≡ Some k → (function_symbol (numbers_of f.parts) k).0 < n) → (i ≡ None → AllWell n callee) → AllWell n args → (i ≡ None → AllWell n above) → AllWell n (call_by f i kind g es callee args above)
-call_well n f (Some k) kind g es callee args above known hc ha hb = well_append n args _ ha (named_well n f k (is_counted (bare g)) (passed_of (is_fast (bare g)) es) kind (known k refl) (passed_few (is_fast (bare g)) es))
-call_well n f None kind g none callee args above known hc ha hb = well_append n callee _ (hc refl) (direct_well n (is_counted (bare g)) (passed_of (is_fast (bare g)) none) kind (passed_few (is_fast (bare g)) none))
-call_well n f None kind g (some e rest) callee args above known hc ha hb =
-    let es : Nodes = some e rest in
-    well_append n callee _ (hc refl) (well_append n (push_code Ax) _ (push_well n Ax) (well_append n above _ (hb refl) (pointer_well n (is_counted (bare g)) (passed_of (is_fast (bare g)) es) kind (passed_few (is_fast (bare g)) es))))
+call_well : (n : ℕ) (f : Framed) (i : Option ℕ) (given : Outcome) (g : Typed) (es : Nodes) (callee args above : List Line) → ((k : ℕ) → i ≡ Some k → (function_symbol (numbers_of f.parts) k).0 < n) → (i ≡ None → AllWell n callee) → AllWell n args → (i ≡ None → AllWell n above) → AllWell n (call_by f i given g es callee args above)
+call_well n f (Some k) given g es callee args above known hc ha hb = well_append n args _ ha (named_well n f k (is_counted (bare g)) (passed_of f (is_fast (bare g)) es) given (known k refl) (passed_few f (is_fast (bare g)) es))
+call_well n f None given g none callee args above known hc ha hb = well_append n callee _ (hc refl) (direct_well n (is_counted (bare g)) (passed_of f (is_fast (bare g)) none) given (passed_few f (is_fast (bare g)) none))
+call_well n f None given g (some e more_args) callee args above known hc ha hb =
+    let es : Nodes = some e more_args in
+    well_append n callee _ (hc refl) (well_append n (push_code Ax) _ (push_well n Ax) (well_append n above _ (hb refl) (pointer_well n (is_counted (bare g)) (passed_of f (is_fast (bare g)) es) given (passed_few f (is_fast (bare g)) es))))
 
 -- what a call uses of labels, where its function has no name
 unnamed : (i : Option ℕ) (k : ℕ) → i ≡ None → unless_named i k ≡ k
@@ -161,14 +162,35 @@ mutual
       well_append n (target_code place (expr_code f pushed lo e)) _ (target_well n place (expr_code f pushed lo e) (expr_well n u f pushed lo e knows h.0 few room)) (step_well n how place (access_of (types_of f.parts.types) e) (amount_of f how (bare e)) (place_well n u f pushed e knows h.0))
   node_well n u f pushed lo t (copy a b) knows h few room =
       well_append n (expr_code f pushed lo a) _ (expr_well n u f pushed lo a knows h.0 few (omega (arith, room))) (well_append n (push_code Ax) _ (push_well n Ax) (well_append n (expr_code f (more pushed 2) (lo + uses a) b) _ (expr_well n u f (more pushed 2) (lo + uses a) b knows h.1 (omega arith) (omega (arith, room))) (copy_well n (type_bytes f (type_in t)))))
-  node_well n u f pushed lo t (call g es) knows h few room =
-      call_well n f (named g) (result_kind (type_in t)) g es _ _ _ (λ k is. callee_known n u f g k knows h.0 is)
-      (λ none_named. expr_well n u f pushed lo g knows h.0 few (omega (arith, room, unnamed (named g) (uses g) none_named)))
-      (args_well n u f pushed lo (is_fast (bare g)) es knows h.3 few (omega (arith, room)))
-      (λ none_named. args_well n u f (more pushed 2) (lo + uses g) (is_fast (bare g)) es knows h.3 (omega arith) (omega (arith, room, unnamed (named g) (uses g) none_named)))
+  node_well n u f pushed lo t (call g es) knows h few room = made_well n u f pushed lo t g es knows h.0 h.4 few room
+  node_well n u f pushed lo t (pack e) knows h few room = absurd h
+  node_well n u f pushed lo t (spill i e) knows h few room =
+      well_append n (expr_code f pushed lo e) _ (called_well n u f pushed lo t e knows h.0 few room) (spill_well n (object_code f pushed i) (extent_by (type_bytes f (type_in t))) (object_well n f pushed i few (knows.objects i (slice_get_within u.objects i h.1.object h.1.there))))
+  node_well n u f pushed lo t further knows h few room = further_well n f pushed few
+
+  -- a call, whatever it gives
+  made_well : (n : ℕ) (u : UnitTy) (f : Framed) (pushed lo : ℕ) (t : QTy) (g : Typed) (es : Nodes) → Knows f u n → IsTyped u g → AreTyped u es → pushed < 2 ^ 16 → lo + (unless_named (named g) (uses g) + args_uses es) ≤ 2 ^ 32 → AllWell n (node_code f pushed lo t (call g es))
+  made_well n u f pushed lo t g es knows typed given few room =
+      call_well n f (named g) (outcome_of f (type_in t)) g es _ _ _ (λ k is. callee_known n u f g k knows typed is)
+      (λ none_named. expr_well n u f pushed lo g knows typed few (omega (arith, room, unnamed (named g) (uses g) none_named)))
+      (args_well n u f pushed lo (is_fast (bare g)) es knows given few (omega (arith, room)))
+      (λ none_named. args_well n u f (more pushed 2) (lo + uses g) (is_fast (bare g)) es knows given (omega arith) (omega (arith, room, unnamed (named g) (uses g) none_named)))
+
+  -- one that gives a structure
+  called_well : (n : ℕ) (u : UnitTy) (f : Framed) (pushed lo : ℕ) (t : QTy) (e : Typed) → Knows f u n → IsCalled u t e → pushed < 2 ^ 16 → lo + uses e ≤ 2 ^ 32 → AllWell n (expr_code f pushed lo e)
+  called_well n u f pushed lo t (node s (call g es)) knows h few room = made_well n u f pushed lo s g es knows h.2 h.5 few room
+  called_well n u f pushed lo t (node s _) knows h few room = absurd h
+
+  -- an argument or a returned value
+  pub given_well : (n : ℕ) (u : UnitTy) (f : Framed) (pushed lo : ℕ) (e : Typed) → Knows f u n → IsGiven u e → pushed < 2 ^ 16 → lo + uses e ≤ 2 ^ 32 → AllWell n (expr_code f pushed lo e)
+  given_well n u f pushed lo (node t (pack e)) knows h few room =
+      let place : Place = place_of f pushed e in
+      well_append n (target_code place (expr_code f pushed lo e)) _ (target_well n place (expr_code f pushed lo e) (expr_well n u f pushed lo e knows h.0 few room)) (bytes_well n place (extent_by (type_bytes f (type_in t))) (place_well n u f pushed e knows h.0))
+  given_well n u f pushed lo (node t e) knows h few room = node_well n u f pushed lo t e knows h.0 few room
 
   args_well : (n : ℕ) (u : UnitTy) (f : Framed) (pushed lo : ℕ) (fast : Bool) (es : Nodes) → Knows f u n → AreTyped u es → pushed < 2 ^ 16 → lo + args_uses es ≤ 2 ^ 32 → AllWell n (args_code f pushed lo fast es)
   args_well n u f pushed lo fast none knows h few room = well_none n
   args_well n u f pushed lo fast (some e es) knows h few room =
       let kept : Bool = stays fast es in
-      well_append n (expr_code f pushed lo e) _ (expr_well n u f pushed lo e knows h.0 few (omega (arith, room))) (well_append n (argument_code kept (kind_in e)) _ (argument_well n kept (kind_in e)) (args_well n u f (more pushed (argument_bytes kept (kind_in e))) (lo + uses e) fast es knows h.1 (omega arith) (omega (arith, room))))
+      let size : ℕ = passed_size f e in
+      well_append n (expr_code f pushed lo e) _ (given_well n u f pushed lo e knows h.0 few (omega (arith, room))) (well_append n (argument_code kept size) _ (argument_well n kept size) (args_well n u f (more pushed (argument_bytes kept size)) (lo + uses e) fast es knows h.1 (omega arith) (omega (arith, room))))

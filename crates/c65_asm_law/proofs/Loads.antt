@@ -1,21 +1,22 @@
 -- The pieces of which the lines of loads, stores and conversions are made.
 use Rattle.std.proofs.Common.{ℕ, ◌+◌, ◌-◌, ◌<◌, ◌^◌, ◌==◌, [], ◌∷◌, ◌++◌, arith, rules}
-use Rattle.std.specs.Prelude.{min}
+use Rattle.std.specs.Prelude.{min, nat_lt, if◌then◌else◌}
 use Rattle.c65_base.specs.declared.operators.BinaryOp.{BinaryOp}
 use Rattle.c65_ints.specs.declared.types.IntType.{IntType}
 use Rattle.c65_ints.specs.declared.types.IntType.TheVariants as ints
 use Rattle.c65_ints.specs.Ranges.{is_signed_of}
 use Rattle.c65_code.specs.declared.line.Sym.{Sym}
-use Rattle.c65_code.specs.declared.routine.Routine.TheVariants.{PushAx, LdAi, Tos, Unary}
+use Rattle.c65_code.specs.declared.routine.Routine.TheVariants.{PushA, PushAx, PushEax, LdAi, Tos, Unary}
 use Rattle.c65_code.specs.declared.routine.UnaryRoutine.TheVariants.{Shl1}
 use Rattle.c65_code.specs.declared.routine.TosOp.{TosOp}
 use Rattle.c65_code.specs.declared.routine.TosOp.TheVariants as tos
 use Rattle.c65_code.specs.declared.routine.Width.{Width}
 use Rattle.c65_code.specs.declared.routine.Width.TheVariants.{Ax, Eax}
 use Rattle.c65_genwide.specs.Lines.{call}
+use Rattle.c65_genwide.specs.Passing.{three_code, pass_bytes}
 use Rattle.c65_genwide.specs.Wide.{width_of, narrow_code, wide_code, is_comparison}
 use Rattle.c65_genload.specs.declared.places.Extent.{Extent}
-use Rattle.c65_genload.specs.declared.places.Extent.TheVariants.{One, Two, Four}
+use Rattle.c65_genload.specs.declared.places.Extent.TheVariants.{One, Two, Three, Four}
 use Rattle.c65_genload.specs.declared.places.Field.{Field}
 use Rattle.c65_genload.specs.declared.places.Place.{Place}
 use Rattle.c65_genload.specs.declared.places.Place.TheVariants as places
@@ -23,7 +24,7 @@ use Rattle.c65_genload.specs.declared.places.Access.{Access}
 use Rattle.c65_genload.specs.declared.places.Access.TheVariants.{Whole, Part}
 use Rattle.c65_genload.specs.Places.{byte_more, extent_of}
 use Rattle.c65_genload.specs.Numbers.{number_code, add_word_code, add_by_width, add_code, mask_code, by_code, shift_code, scale_code, is_divisor, divide_code}
-use Rattle.c65_genload.specs.Conversions.{widen_code, convert_code, convert_to, push_code, pass_code, test_code}
+use Rattle.c65_genload.specs.Conversions.{widen_code, convert_code, convert_to, push_code, test_code}
 use Rattle.c65_genload.specs.Addresses.{symbol_code, address_code, above_code, raised_code, offset_code}
 use Rattle.c65_genload.specs.Fields.{ones, others, extract_code, aligned_code}
 use Rattle.c65_genload.specs.Loads.{hold_code, bytes_code, load_code}
@@ -123,15 +124,13 @@ pub push_well : (n : ℕ) (w : Width) → AllWell n (push_code w)
 push_well n Ax = record { all = search rules }
 push_well n Eax = record { all = search rules }
 
-pub pass_well : (n : ℕ) (kind : IntType) → AllWell n (pass_code kind)
-pass_well n ints.SChar = record { all = search rules }
-pass_well n ints.UChar = record { all = search rules }
-pass_well n ints.Short = record { all = search rules }
-pass_well n ints.UShort = record { all = search rules }
-pass_well n ints.Int = record { all = search rules }
-pass_well n ints.UInt = record { all = search rules }
-pass_well n ints.Long = record { all = search rules }
-pass_well n ints.ULong = record { all = search rules }
+pub pass_well : (n m : ℕ) → AllWell n (pass_bytes m)
+pass_well n m =
+    let one : AllWell n (call PushA ∷ []) = record { all = search rules } in
+    let two : AllWell n (call PushAx ∷ []) = record { all = search rules } in
+    let three : AllWell n three_code = record { all = search rules } in
+    let four : AllWell n (call PushEax ∷ []) = record { all = search rules } in
+    well_if n (nat_lt m 2) (call PushA ∷ []) _ one (well_if n (nat_lt m 3) (call PushAx ∷ []) _ two (well_if n (nat_lt m 4) three_code (call PushEax ∷ []) three four))
 
 pub test_well : (n : ℕ) (w : Width) → AllWell n (test_code w)
 test_well n Ax = record { all = search rules }
@@ -145,18 +144,22 @@ hold_well n (places.Near at) = well_none n
 hold_well n (places.Data s at) = well_none n
 hold_well n places.Far = record { all = search rules }
 
-bytes_well : (n : ℕ) (place : Place) (e : Extent) → WellPlace n place → AllWell n (bytes_code place e)
+pub bytes_well : (n : ℕ) (place : Place) (e : Extent) → WellPlace n place → AllWell n (bytes_code place e)
 bytes_well n (places.Bank at) One h = record { all = search rules }
 bytes_well n (places.Bank at) Two h = record { all = search rules }
+bytes_well n (places.Bank at) Three h = record { all = search rules }
 bytes_well n (places.Bank at) Four h = record { all = search rules }
 bytes_well n (places.Near at) One h = record { all = search (rules, h) }
 bytes_well n (places.Near at) Two h = record { all = search rules }
+bytes_well n (places.Near at) Three h = record { all = search rules }
 bytes_well n (places.Near at) Four h = record { all = search rules }
 bytes_well n (places.Data s at) One h = record { all = search (rules, h) }
 bytes_well n (places.Data s at) Two h = record { all = search (rules, h) }
+bytes_well n (places.Data s at) Three h = record { all = search (rules, h) }
 bytes_well n (places.Data s at) Four h = record { all = search (rules, h) }
 bytes_well n places.Far One h = record { all = search rules }
 bytes_well n places.Far Two h = record { all = search rules }
+bytes_well n places.Far Three h = record { all = search rules }
 bytes_well n places.Far Four h = record { all = search rules }
 
 pub extract_well : (n : ℕ) (g : Field) → AllWell n (extract_code g)
@@ -174,15 +177,19 @@ load_well n place (Part field) h = well_append n (bytes_code place Two) (extract
 bytes_store_well : (n : ℕ) (place : Place) (e : Extent) → WellPlace n place → AllWell n (bytes_store place e)
 bytes_store_well n (places.Bank at) One h = record { all = search rules }
 bytes_store_well n (places.Bank at) Two h = record { all = search rules }
+bytes_store_well n (places.Bank at) Three h = record { all = search rules }
 bytes_store_well n (places.Bank at) Four h = record { all = search rules }
 bytes_store_well n (places.Near at) One h = record { all = search (rules, h) }
 bytes_store_well n (places.Near at) Two h = record { all = search (rules, h) }
+bytes_store_well n (places.Near at) Three h = record { all = search (rules, h) }
 bytes_store_well n (places.Near at) Four h = record { all = search (rules, h) }
 bytes_store_well n (places.Data s at) One h = record { all = search (rules, h) }
 bytes_store_well n (places.Data s at) Two h = record { all = search (rules, h) }
+bytes_store_well n (places.Data s at) Three h = record { all = search (rules, h) }
 bytes_store_well n (places.Data s at) Four h = record { all = search (rules, h) }
 bytes_store_well n places.Far One h = record { all = search rules }
 bytes_store_well n places.Far Two h = record { all = search rules }
+bytes_store_well n places.Far Three h = record { all = search rules }
 bytes_store_well n places.Far Four h = record { all = search rules }
 
 after_store_well : (n : ℕ) (place : Place) (kind : IntType) → AllWell n (after_store place kind)

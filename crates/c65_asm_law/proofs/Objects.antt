@@ -3,7 +3,7 @@ use Rattle.std.proofs.Common.{◌≡◌, ℕ, ◌+◌, ◌%◌, ◌<◌, ◌≤�
 use Rattle.std.specs.Prelude.{if◌then◌else◌, nat_le}
 use Rattle.std.proofs.lemmas.Bool.{leb-true}
 use Rattle.c65_csem.specs.Trees.{Typed, UnitTy}
-use Rattle.c65_csem.specs.Typed.{IsTyped}
+use Rattle.c65_csem.specs.Typed.{IsTyped, IsGiven}
 use Rattle.c65_csem.specs.Places.{is_tag}
 use Rattle.c65_mach.specs.declared.rows.Op.{Op}
 use Rattle.c65_mach.specs.declared.rows.Op.TheVariants.{Sta, Stx}
@@ -34,13 +34,16 @@ use Rattle.c65_genstmt.specs.Objects.{spot_at, spot_of, point_code, stored_code,
 use Rattle.c65_asm_law.proofs.Well.{AllWell, well_append, well_none}
 use Rattle.c65_asm_law.proofs.Loads.{test_well, store_well}
 use Rattle.c65_asm_law.proofs.Known.{Knows}
-use Rattle.c65_asm_law.proofs.Exprs.{expr_well}
+use Rattle.c65_asm_law.proofs.Exprs.{expr_well, given_well}
 use Rattle.c65_asm_law.proofs.Entries.{near_well, far_store_well, bank_clear_well, clear_well, copy_well}
 
 -- ---- values
 
 pub value_well : (n : ℕ) (u : UnitTy) (f : Framed) (e : Typed) (d : Drafted) → Knows f u n → IsTyped u e → (with_value f e d).labels ≤ 2 ^ 32 → AllWell n d.lines → AllWell n (with_value f e d).lines
 value_well n u f e d knows typed few h = well_append n d.lines (expr_code f 0 d.labels e) h (expr_well n u f 0 d.labels e knows typed (omega arith) few)
+
+pub returned_well : (n : ℕ) (u : UnitTy) (f : Framed) (e : Typed) (d : Drafted) → Knows f u n → IsGiven u e → (with_value f e d).labels ≤ 2 ^ 32 → AllWell n d.lines → AllWell n (with_value f e d).lines
+returned_well n u f e d knows given few h = well_append n d.lines (expr_code f 0 d.labels e) h (given_well n u f 0 d.labels e knows given (omega arith) few)
 
 pub condition_well : (n : ℕ) (u : UnitTy) (f : Framed) (op : Op) (to : ℕ) (e : Typed) (d : Drafted) → Knows f u n → IsTyped u e → to < 2 ^ 32 → d.labels + uses e ≤ 2 ^ 32 → AllWell n d.lines → AllWell n (with_condition f op to e d).lines
 condition_well n u f op to e d knows typed low few h =

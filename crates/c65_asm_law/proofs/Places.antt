@@ -1,5 +1,5 @@
 -- Where places lie, and the pieces of which the lines of expressions are made.
-use Rattle.std.proofs.Common.{◌≡◌, ℕ, ◌+◌, ◌-◌, ◌%◌, ◌<◌, ◌^◌, Bool, true, false, Option, None, Some, [], refl, arith, rules}
+use Rattle.std.proofs.Common.{◌≡◌, ℕ, zero, suc, ◌+◌, ◌-◌, ◌%◌, ◌<◌, ◌^◌, Bool, true, false, Option, None, Some, List, [], refl, arith, rules}
 use Rattle.std.specs.Prelude.{if◌then◌else◌, nat_le, nat_eq}
 use Rattle.std.proofs.lemmas.Bool.{leb-true}
 use Rattle.std.proofs.lemmas.Option.{slice_get_within}
@@ -15,31 +15,36 @@ use Rattle.c65_ctype.specs.Views.{types_of}
 use Rattle.c65_base.specs.declared.library.Library.{Library}
 use Rattle.c65_csem.specs.Trees.{Typed, node, object, member, UnitTy}
 use Rattle.c65_csem.specs.Typed.{IsTyped}
+use Rattle.c65_code.specs.declared.line.Line.{Line}
 use Rattle.c65_code.specs.declared.routine.Width.{Width}
 use Rattle.c65_code.specs.declared.routine.Width.TheVariants.{Ax}
 use Rattle.c65_code.specs.Writable.{IsLetters}
 use Rattle.c65_genframe.specs.declared.home.Home.{Home}
 use Rattle.c65_genframe.specs.declared.home.Home.TheVariants as homes
-use Rattle.c65_genframe.specs.Frames.{Framed, home_of, is_raised}
+use Rattle.c65_genframe.specs.Registers.{registers}
+use Rattle.c65_genframe.specs.Frames.{Framed, home_of, is_raised, saved_bytes}
 use Rattle.c65_genframe.specs.Symbols.{numbers_of, object_symbol, function_symbol}
 use Rattle.c65_genwide.specs.Wide.{width_of, wide_code}
 use Rattle.c65_genload.specs.declared.places.Extent.{Extent}
-use Rattle.c65_genload.specs.declared.places.Extent.TheVariants.{One, Two, Four}
+use Rattle.c65_genload.specs.declared.places.Extent.TheVariants.{One, Two, Three, Four}
 use Rattle.c65_genload.specs.declared.places.Place.{Place}
 use Rattle.c65_genload.specs.declared.places.Place.TheVariants as places
 use Rattle.c65_genload.specs.declared.places.Access.{Access}
 use Rattle.c65_genload.specs.declared.places.Access.TheVariants.{Whole, Part}
-use Rattle.c65_genload.specs.Places.{type_in, extent_of}
+use Rattle.c65_genload.specs.Places.{type_in}
 use Rattle.c65_genload.specs.Numbers.{scale_code}
 use Rattle.c65_genload.specs.Conversions.{push_code, convert_code}
 use Rattle.c65_genexpr.specs.declared.operands.Operands.{Operands}
 use Rattle.c65_genexpr.specs.declared.operands.Operands.TheVariants.{Numbers, PointerFirst, PointerLast, Pointers}
 use Rattle.c65_genexpr.specs.declared.arguments.Passed.{Passed}
-use Rattle.c65_genexpr.specs.Types.{bare, offset_at}
-use Rattle.c65_genexpr.specs.Places.{more, near, soft_place, place_at, moved, place_of, soft_code, code_at, object_code}
+use Rattle.c65_genexpr.specs.declared.types.Outcome.{Outcome}
+use Rattle.c65_genexpr.specs.declared.types.Outcome.TheVariants.{Nothing, Number, Area}
+use Rattle.c65_genexpr.specs.Types.{bare, offset_at, given_bytes}
+use Rattle.c65_genexpr.specs.Places.{more, near, soft_place, place_at, moved, place_of, soft_code, code_at, object_code, rest_code}
 use Rattle.c65_genexpr.specs.Operands.{computes, between_code, difference_code, behind_code, unary_code, conversion_code, negative, scaled, short_code}
 use Rattle.c65_genexpr.specs.Steps.{is_post, back_code, after_code, step_code, open_code, close_code}
-use Rattle.c65_genexpr.specs.Arguments.{registers_in, reads_of, registers_of, argument_code}
+use Rattle.c65_genexpr.specs.Spills.{kept_code, first_code, further_code, again_code, spill_code}
+use Rattle.c65_genexpr.specs.Arguments.{reads_of, argument_code}
 use Rattle.c65_genexpr.specs.Calls.{count_code, fetch_code, result_code, library_at, named_by, named_code, pointer_code, direct_code, ptr4_code}
 use Rattle.c65_asm_law.proofs.Well.{AllWell, well_append, well_none, well_more, well_if, letters_none, letters_a, letters_y, letters_ax, letters_eax}
 use Rattle.c65_asm_law.proofs.Known.{Knows}
@@ -93,6 +98,24 @@ home_well n f pushed i (Some (homes.Soft d)) few known = soft_well n (is_raised 
 
 pub object_well : (n : ℕ) (f : Framed) (pushed i : ℕ) → pushed < 2 ^ 16 → (object_symbol (numbers_of f.parts) i).0 < n → AllWell n (object_code f pushed i)
 object_well n f pushed i few known = home_well n f pushed i (home_of f i) few known
+
+-- the place behind the further arguments
+pub further_well : (n : ℕ) (f : Framed) (pushed : ℕ) → pushed < 2 ^ 16 → AllWell n (rest_code f pushed)
+further_well n f pushed few = raised_well n pushed ((pushed + f.soft + saved_bytes f.bank + 65536 - f.stacked) % 65536) few
+
+-- the structure that a call gives
+further_bytes_well : (n : ℕ) (e : Extent) → AllWell n (further_code e)
+further_bytes_well n One = well_none n
+further_bytes_well n Two = record { all = search rules }
+further_bytes_well n Three = record { all = search rules }
+further_bytes_well n Four = record { all = search rules }
+
+pub spill_well : (n : ℕ) (address : List Line) (e : Extent) → AllWell n address → AllWell n (spill_code address e)
+spill_well n address e h =
+    let kept : AllWell n kept_code = record { all = search rules } in
+    let first : AllWell n first_code = record { all = search rules } in
+    let again : AllWell n again_code = record { all = search rules } in
+    well_append n kept_code _ kept (well_append n address _ h (well_append n first_code _ first (well_append n (further_code e) again_code (further_bytes_well n e) again)))
 
 -- ---- operators
 
@@ -150,44 +173,45 @@ close_well n op operands right place access h = well_append n _ _ (behind_well n
 
 -- ---- calls
 
-in_letters : (e : Extent) → IsLetters (registers_in e)
-in_letters One = letters_a
-in_letters Two = letters_ax
-in_letters Four = letters_eax
+in_letters : (n : ℕ) → IsLetters (registers n)
+in_letters zero = letters_none
+in_letters (suc zero) = letters_a
+in_letters (suc (suc zero)) = letters_ax
+in_letters (suc (suc (suc n))) = letters_eax
 
-gives_letters : (kind : Option IntType) → IsLetters (registers_of kind)
-gives_letters None = letters_none
-gives_letters (Some kind) = in_letters (extent_of kind)
+gives_letters : (given : Outcome) → IsLetters (registers (given_bytes given))
+gives_letters given = in_letters (given_bytes given)
 
 reads_letters : (counted : Bool) (p : Passed) → IsLetters (reads_of counted p)
 reads_letters true p = letters_y
-reads_letters false p = gives_letters p.last
+reads_letters false p = in_letters p.last
 
 count_well : (n : ℕ) (counted : Bool) (p : Passed) → p.stacked < 2 ^ 8 → AllWell n (count_code counted p)
 count_well n true p few = record { all = ((tt, few), tt) }
 count_well n false p few = well_none n
 
-result_well : (n : ℕ) (kind : Option IntType) → AllWell n (result_code kind)
-result_well n None = well_none n
-result_well n (Some kind) = narrow_well n kind
+result_well : (n : ℕ) (given : Outcome) → AllWell n (result_code given)
+result_well n Nothing = well_none n
+result_well n (Number kind) = narrow_well n kind
+result_well n (Area bytes) = well_none n
 
-named_by_well : (n : ℕ) (f : Framed) (i : ℕ) (l : Option Library) (counted : Bool) (p : Passed) (kind : Option IntType) → (function_symbol (numbers_of f.parts) i).0 < n → p.stacked < 2 ^ 8 → AllWell n (named_by f i l counted p kind)
-named_by_well n f i (Some l) counted p kind known few = well_more n _ _ tt (result_well n kind)
-named_by_well n f i None counted p kind known few = well_append n (count_code counted p) _ (count_well n counted p few) (well_more n _ _ (known, (reads_letters counted p, gives_letters kind)) (result_well n kind))
+named_by_well : (n : ℕ) (f : Framed) (i : ℕ) (l : Option Library) (counted : Bool) (p : Passed) (given : Outcome) → (function_symbol (numbers_of f.parts) i).0 < n → p.stacked < 2 ^ 8 → AllWell n (named_by f i l counted p given)
+named_by_well n f i (Some l) counted p given known few = well_more n _ _ tt (result_well n given)
+named_by_well n f i None counted p given known few = well_append n (count_code counted p) _ (count_well n counted p few) (well_more n _ _ (known, (reads_letters counted p, gives_letters given)) (result_well n given))
 
-pub named_well : (n : ℕ) (f : Framed) (i : ℕ) (counted : Bool) (p : Passed) (kind : Option IntType) → (function_symbol (numbers_of f.parts) i).0 < n → p.stacked < 2 ^ 8 → AllWell n (named_code f i counted p kind)
-named_well n f i counted p kind known few = named_by_well n f i (library_at f i) counted p kind known few
+pub named_well : (n : ℕ) (f : Framed) (i : ℕ) (counted : Bool) (p : Passed) (given : Outcome) → (function_symbol (numbers_of f.parts) i).0 < n → p.stacked < 2 ^ 8 → AllWell n (named_code f i counted p given)
+named_well n f i counted p given known few = named_by_well n f i (library_at f i) counted p given known few
 
 fetch_well : (n : ℕ) (p : Passed) → p.stacked < 2 ^ 8 → AllWell n (fetch_code p)
 fetch_well n p few = record { all = search (rules, few) }
 
-pub pointer_well : (n : ℕ) (counted : Bool) (p : Passed) (kind : Option IntType) → p.stacked < 2 ^ 8 → AllWell n (pointer_code counted p kind)
-pointer_well n counted p kind few = well_append n (fetch_code p) _ (fetch_well n p few) (well_append n (count_code counted p) _ (count_well n counted p few) (well_more n _ _ (reads_letters counted p, gives_letters kind) (well_more n _ _ tt (result_well n kind))))
+pub pointer_well : (n : ℕ) (counted : Bool) (p : Passed) (given : Outcome) → p.stacked < 2 ^ 8 → AllWell n (pointer_code counted p given)
+pointer_well n counted p given few = well_append n (fetch_code p) _ (fetch_well n p few) (well_append n (count_code counted p) _ (count_well n counted p few) (well_more n _ _ (reads_letters counted p, gives_letters given) (well_more n _ _ tt (result_well n given))))
 
-pub direct_well : (n : ℕ) (counted : Bool) (p : Passed) (kind : Option IntType) → p.stacked < 2 ^ 8 → AllWell n (direct_code counted p kind)
-direct_well n counted p kind few =
+pub direct_well : (n : ℕ) (counted : Bool) (p : Passed) (given : Outcome) → p.stacked < 2 ^ 8 → AllWell n (direct_code counted p given)
+direct_well n counted p given few =
     let stored : AllWell n ptr4_code = record { all = search rules } in
-    well_append n ptr4_code _ stored (well_append n (count_code counted p) _ (count_well n counted p few) (well_more n _ _ (reads_letters counted p, gives_letters kind) (result_well n kind)))
+    well_append n ptr4_code _ stored (well_append n (count_code counted p) _ (count_well n counted p few) (well_more n _ _ (reads_letters counted p, gives_letters given) (result_well n given)))
 
-pub argument_well : (n : ℕ) (kept : Bool) (kind : IntType) → AllWell n (argument_code kept kind)
-argument_well n kept kind = well_if n kept [] _ (well_none n) (pass_well n kind)
+pub argument_well : (n : ℕ) (kept : Bool) (size : ℕ) → AllWell n (argument_code kept size)
+argument_well n kept size = well_if n kept [] _ (well_none n) (pass_well n size)

@@ -22,7 +22,7 @@ use Rattle.c65_genstmt.specs.Stmts.{case_behind, case_behind_all, with_label, wi
 use Rattle.c65_asm_law.proofs.Well.{AllWell, well_append}
 use Rattle.c65_asm_law.proofs.Known.{Knows}
 use Rattle.c65_asm_law.proofs.Entries.{choice_well}
-use Rattle.c65_asm_law.proofs.Objects.{value_well, condition_well, spot_well, set_grows, set_well, zeros_grow, zeros_well}
+use Rattle.c65_asm_law.proofs.Objects.{value_well, returned_well, condition_well, spot_well, set_grows, set_well, zeros_grow, zeros_well}
 
 -- where jumps lead
 pub record WellWays (w : Ways) : Type 0 where
@@ -198,7 +198,7 @@ mutual
   stmt_well n u c f w l break d knows typed go low few h = jump_well n w.behind d go.behind h
   stmt_well n u c f w l continue d knows typed go low few h = jump_well n w.onward d go.onward h
   stmt_well n u c f w l (return absent) d knows typed go low few h = jump_well n 0 d (omega arith) h
-  stmt_well n u c f w l (return (present e)) d knows typed go low few h = jump_well n 0 (with_value f e d) (omega arith) (value_well n u f e d knows typed.0 (omega (arith, few)) h)
+  stmt_well n u c f w l (return (present e)) d knows typed go low few h = jump_well n 0 (with_value f e d) (omega arith) (returned_well n u f e d knows typed.0 (omega (arith, few)) h)
 
   stmts_well : (n : ℕ) (u : UnitTy) (c : Context) (f : Framed) (w : Ways) (l : ℕ) (ss : Stmts) (d : Drafted) → Knows f u n → AreStmts u c ss → WellWays w → l < 2 ^ 32 → (with_stmts f w l ss d).labels < 2 ^ 32 → AllWell n d.lines → AllWell n (with_stmts f w l ss d).lines
   stmts_well n u c f w l no_stmts d knows typed go low few h = h

@@ -1,5 +1,5 @@
 -- The symbols of a program: each has a spelling of its own.
-use Rattle.std.proofs.Common.{◌≡◌, ℕ, suc, ◌+◌, ◌<◌, ◌^◌, Bool, true, false, IsTrue, Some, List, [], ◌∷◌, ◌++◌, inl, inr, length, slice_get, decimal, refl, sym, ap, subst, ◌∙◌, arith}
+use Rattle.std.proofs.Common.{◌≡◌, ℕ, suc, ◌+◌, ◌<◌, ◌^◌, Bool, true, false, IsTrue, Option, None, Some, List, [], ◌∷◌, ◌++◌, inl, inr, length, slice_get, decimal, refl, sym, ap, subst, ◌∙◌, arith}
 use Rattle.std.specs.Prelude.{◌↔◌}
 use Rattle.std.specs.Str.Parse.{digits_value}
 use Rattle.std.proofs.lemmas.Fmt.{decimal_is_IsNumeral}
@@ -22,16 +22,17 @@ abbrev pub inside : ℕ → Symbol
 inside k = record { spelling = numbered 115 k; literal = false }
 
 pub data IsSymbol (names : List (List ℕ)) (parts : Parts) (k : ℕ) (s : Symbol) : Type 0 where
-  object : (o : TObject) → IsExternalObject parts k o → s ≡ outside names o.name → IsSymbol names parts k s
+  object : (o : TObject) (name : Name) → IsExternalObject parts k o name → s ≡ outside names name → IsSymbol names parts k s
   function : (i : ℕ) (g : TFunc) → length parts.objects.items + length parts.literals.items + i ≡ k → IsExternalFunction parts i g → s ≡ outside names g.name → IsSymbol names parts k s
   static : s ≡ inside k → IsSymbol names parts k s
   literal : s ≡ literal_symbol k → IsSymbol names parts k s
 
-object_is : (names : List (List ℕ)) (parts : Parts) (k : ℕ) (o : TObject) (b : Bool) → is_external o.class ≡ b → slice_get parts.objects.items k ≡ Some o → IsSymbol names parts k (plain_symbol names b o.name k)
-object_is names parts k o true is there = object o (there, is) refl
-object_is names parts k o false is there = static refl
+object_is : (names : List (List ℕ)) (parts : Parts) (k : ℕ) (o : TObject) (b : Bool) (m : Option Name) → is_external o.class ≡ b → o.name ≡ m → slice_get parts.objects.items k ≡ Some o → IsSymbol names parts k (plain_symbol names b m k)
+object_is names parts k o true (Some name) is called there = object o name (there, is, called) refl
+object_is names parts k o true None is called there = static refl
+object_is names parts k o false m is called there = static refl
 
-function_is : (names : List (List ℕ)) (parts : Parts) (k i : ℕ) (g : TFunc) (b : Bool) → g.external ≡ b → length parts.objects.items + length parts.literals.items + i ≡ k → slice_get parts.funcs.items i ≡ Some g → IsSymbol names parts k (plain_symbol names b g.name k)
+function_is : (names : List (List ℕ)) (parts : Parts) (k i : ℕ) (g : TFunc) (b : Bool) → g.external ≡ b → length parts.objects.items + length parts.literals.items + i ≡ k → slice_get parts.funcs.items i ≡ Some g → IsSymbol names parts k (plain_symbol names b (Some g.name) k)
 function_is names parts k i g true is at there = function i g at (there, is) refl
 function_is names parts k i g false is at there = static refl
 
@@ -40,7 +41,7 @@ objects_are : (names : List (List ℕ)) (parts : Parts) (i : ℕ) (os : List TOb
 objects_are names parts i [] ss rest at h = (h, omega (arith, at))
 objects_are names parts i (o ∷ os) ss rest at h =
     let s : Symbol = plain_symbol names (is_external o.class) o.name i in
-    let here : IsSymbol names parts i s = object_is names parts i o (is_external o.class) refl (rest_first parts.objects.items i o os rest) in
+    let here : IsSymbol names parts i s = object_is names parts i o (is_external o.class) o.name refl refl (rest_first parts.objects.items i o os rest) in
     let more : EachAt (IsSymbol names parts) 0 (ss ++ s ∷ []) = each_more (IsSymbol names parts) 0 i ss s h (omega (arith, at)) here in
     let all = objects_are names parts (suc i) os (ss ++ s ∷ []) (rest_next parts.objects.items i o os rest) (omega (arith, length_more ss s, at)) more in
     (all.0, omega (arith, all.1))
@@ -58,7 +59,7 @@ functions_are : (names : List (List ℕ)) (parts : Parts) (k i : ℕ) (gs : List
     → EachAt (IsSymbol names parts) 0 (with_functions names k gs ss) × (length (with_functions names k gs ss) ≡ k + length gs)
 functions_are names parts k i [] ss is rest at h = (h, omega (arith, at))
 functions_are names parts k i (g ∷ gs) ss is rest at h =
-    let s : Symbol = plain_symbol names g.external g.name k in
+    let s : Symbol = plain_symbol names g.external (Some g.name) k in
     let here : IsSymbol names parts k s = function_is names parts k i g g.external refl is (rest_first parts.funcs.items i g gs rest) in
     let more : EachAt (IsSymbol names parts) 0 (ss ++ s ∷ []) = each_more (IsSymbol names parts) 0 k ss s h (omega (arith, at)) here in
     let all = functions_are names parts (suc k) (suc i) gs (ss ++ s ∷ []) (omega (arith, is)) (rest_next parts.funcs.items i g gs rest) (omega (arith, length_more ss s, at)) more in
@@ -92,7 +93,7 @@ same_number : (a b : ℕ) → a < 2 ^ 32 → b < 2 ^ 32 → decimal a ≡ decima
 same_number a b low high h = sym (decimal_is_IsNumeral a (omega (arith, low))).1 ∙ (ap (digits_value 10) h ∙ (decimal_is_IsNumeral b (omega (arith, high))).1)
 
 spelled : (names : List (List ℕ)) (parts : Parts) (k : ℕ) (s : Symbol) → HasNames names parts → k < 2 ^ 32 → IsSymbol names parts k s → IsSpelling s.spelling
-spelled names parts k s has few (object o at is) = subst (λ (z : Symbol). IsSpelling z.spelling) (sym is) (inl (has.objects k o at))
+spelled names parts k s has few (object o name at is) = subst (λ (z : Symbol). IsSpelling z.spelling) (sym is) (inl (has.objects k o name at))
 spelled names parts k s has few (function i g e at is) = subst (λ (z : Symbol). IsSpelling z.spelling) (sym is) (inl (has.functions i g at))
 spelled names parts k s has few (static is) = subst (λ (z : Symbol). IsSpelling z.spelling) (sym is) (inr (inl (k, few, refl)))
 spelled names parts k s has few (literal is) = subst (λ (z : Symbol). IsSpelling z.spelling) (sym is) (inr (inr (k, few, refl)))
@@ -105,9 +106,9 @@ not_both : (b : Bool) → IsTrue b → b ≡ false → ⊥
 not_both b h e = cc
 
 marked : (names : List (List ℕ)) (parts : Parts) (k : ℕ) (s : Symbol) → k < 2 ^ 32 → IsSymbol names parts k s → IsTrue s.literal ↔ IsNumbered 113 s.spelling
-marked names parts k s few (object o at is) = (
+marked names parts k s few (object o name at is) = (
   (λ h. absurd (not_both s.literal h (ap (λ z. z.literal) is))),
-  (λ n. absurd (let e : 95 ≡ 113 = sym (first_of s (outside names o.name) is) ∙ ap head_of n.2 in omega (arith, e))),
+  (λ n. absurd (let e : 95 ≡ 113 = sym (first_of s (outside names name) is) ∙ ap head_of n.2 in omega (arith, e))),
 )
 marked names parts k s few (function i g e at is) = (
   (λ h. absurd (not_both s.literal h (ap (λ z. z.literal) is))),
@@ -126,13 +127,13 @@ marked names parts k s few (literal is) = (
 
 -- an item of external linkage, by the place of its symbol
 data IsOutside (names : List (List ℕ)) (parts : Parts) (k : ℕ) (spelling : List ℕ) : Type 0 where
-  object : (o : TObject) → IsExternalObject parts k o → spelling ≡ spelling_of names o.name → IsOutside names parts k spelling
+  object : (o : TObject) (name : Name) → IsExternalObject parts k o name → spelling ≡ spelling_of names name → IsOutside names parts k spelling
   function : (i : ℕ) (g : TFunc) → length parts.objects.items + length parts.literals.items + i ≡ k → IsExternalFunction parts i g → spelling ≡ spelling_of names g.name → IsOutside names parts k spelling
 
 own_outside : (names : List (List ℕ)) (parts : Parts) (i j : ℕ) (spelling : List ℕ) → HasNames names parts → IsOutside names parts i spelling → IsOutside names parts j spelling → i ≡ j
-own_outside names parts i j spelling has (object a at is) (object b bt js) = has.own_object i j a b at bt (sym is ∙ js)
-own_outside names parts i j spelling has (object a at is) (function k g e bt js) = absurd (has.apart i k a g at bt (sym is ∙ js))
-own_outside names parts i j spelling has (function k g e at is) (object b bt js) = absurd (has.apart j k b g bt at (sym js ∙ is))
+own_outside names parts i j spelling has (object a m at is) (object b n bt js) = has.own_object i j a b m n at bt (sym is ∙ js)
+own_outside names parts i j spelling has (object a m at is) (function k g e bt js) = absurd (has.apart i k a m g at bt (sym is ∙ js))
+own_outside names parts i j spelling has (function k g e at is) (object b n bt js) = absurd (has.apart j k b n g bt at (sym js ∙ is))
 own_outside names parts i j spelling has (function k g e at is) (function m h d bt js) = omega (arith, e, d, has.own_function k m g h at bt (sym is ∙ js))
 
 -- what a symbol is of, by its first byte, and what follows it
@@ -142,7 +143,7 @@ data IsSpelled (names : List (List ℕ)) (parts : Parts) (k : ℕ) (spelling : L
   literal : head_of spelling ≡ 113 → rest_of spelling ≡ decimal k → IsSpelled names parts k spelling
 
 is_spelled : (names : List (List ℕ)) (parts : Parts) (k : ℕ) (s : Symbol) → IsSymbol names parts k s → IsSpelled names parts k s.spelling
-is_spelled names parts k s (object o at is) = named (first_of s (outside names o.name) is) (object o at (ap (λ z. rest_of z.spelling) is))
+is_spelled names parts k s (object o name at is) = named (first_of s (outside names name) is) (object o name at (ap (λ z. rest_of z.spelling) is))
 is_spelled names parts k s (function i g e at is) = named (first_of s (outside names g.name) is) (function i g e at (ap (λ z. rest_of z.spelling) is))
 is_spelled names parts k s (static is) = static (first_of s (inside k) is) (ap (λ z. rest_of z.spelling) is)
 is_spelled names parts k s (literal is) = literal (first_of s (literal_symbol k) is) (ap (λ z. rest_of z.spelling) is)

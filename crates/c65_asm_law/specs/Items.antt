@@ -18,19 +18,19 @@ use Rattle.c65_gendata.specs.Symbols.{known, external, is_external}
 abbrev pub spelling_of : List (List ℕ) → Name → List ℕ
 spelling_of names name = known (slice_get names name.0)
 
-abbrev pub IsExternalObject : Parts → ℕ → TObject → Type 0
-IsExternalObject parts i o = (slice_get parts.objects.items i ≡ Some o) × IsTrue (is_external o.class)
+abbrev pub IsExternalObject : Parts → ℕ → TObject → Name → Type 0
+IsExternalObject parts i o name = (slice_get parts.objects.items i ≡ Some o) × IsTrue (is_external o.class) × (o.name ≡ Some name)
 
 abbrev pub IsExternalFunction : Parts → ℕ → TFunc → Type 0
 IsExternalFunction parts i g = (slice_get parts.funcs.items i ≡ Some g) × IsTrue g.external
 
 -- the names of external linkage are identifiers, and no two items have the same (C90 6.1.2, 6.1.2.2)
 pub record HasNames (names : List (List ℕ)) (parts : Parts) : Type 0 where
-  pub objects : (i : ℕ) (o : TObject) → IsExternalObject parts i o → IsTrue (writable.is_external (external names o.name))
+  pub objects : (i : ℕ) (o : TObject) (name : Name) → IsExternalObject parts i o name → IsTrue (writable.is_external (external names name))
   pub functions : (i : ℕ) (g : TFunc) → IsExternalFunction parts i g → IsTrue (writable.is_external (external names g.name))
-  pub own_object : (i j : ℕ) (a b : TObject) → IsExternalObject parts i a → IsExternalObject parts j b → spelling_of names a.name ≡ spelling_of names b.name → i ≡ j
+  pub own_object : (i j : ℕ) (a b : TObject) (m n : Name) → IsExternalObject parts i a m → IsExternalObject parts j b n → spelling_of names m ≡ spelling_of names n → i ≡ j
   pub own_function : (i j : ℕ) (a b : TFunc) → IsExternalFunction parts i a → IsExternalFunction parts j b → spelling_of names a.name ≡ spelling_of names b.name → i ≡ j
-  pub apart : (i j : ℕ) (a : TObject) (b : TFunc) → IsExternalObject parts i a → IsExternalFunction parts j b → spelling_of names a.name ≡ spelling_of names b.name → ⊥
+  pub apart : (i j : ℕ) (a : TObject) (m : Name) (b : TFunc) → IsExternalObject parts i a m → IsExternalFunction parts j b → spelling_of names m ≡ spelling_of names b.name → ⊥
 
 abbrev pub IsByte : Cell → Type 0
 IsByte (Byte b) = b < 2 ^ 8

@@ -6,7 +6,7 @@ use Rattle.c65_ints.specs.declared.types.IntType.{IntType}
 use Rattle.c65_ctype.specs.Trees.{QTy, type_in}
 use Rattle.c65_ctype.specs.Views.{types_of}
 use Rattle.c65_base.specs.declared.library.Library.{Library}
-use Rattle.c65_csem.specs.Trees.{Typed, node, Node, constant, null, literal, object, func, deref, member, load, address, decay, convert, unary, binary, both, either, choice, comma, assign, assign_op, assign_step, step, copy, call, Nodes, none, some}
+use Rattle.c65_csem.specs.Trees.{Typed, node, Node, constant, null, literal, object, func, deref, member, load, address, decay, convert, unary, binary, both, either, choice, comma, assign, assign_op, assign_step, step, copy, call, pack, spill, rest as further, Nodes, none, some}
 use Rattle.c65_mach.specs.declared.rows.Op.TheVariants.{Beq, Bne, Jmp}
 use Rattle.c65_mach.specs.declared.rows.Mode.TheVariants.{Absolute}
 use Rattle.c65_code.specs.declared.line.Operand.TheVariants.{To}
@@ -22,22 +22,24 @@ use Rattle.c65_genload.specs.declared.places.Place.{Place}
 use Rattle.c65_genload.specs.declared.places.Place.TheVariants as places
 use Rattle.c65_genload.specs.declared.places.Access.{Access}
 use Rattle.c65_genload.specs.Words.{branch}
-use Rattle.c65_genload.specs.Places.{held}
+use Rattle.c65_genload.specs.Places.{held, extent_by}
 use Rattle.c65_genload.specs.Conversions.{waiting}
 use Rattle.c65_genexpr.specs.declared.operands.Operands.{Operands}
 use Rattle.c65_genexpr.specs.declared.operands.Operands.TheVariants.{Numbers, PointerFirst}
 use Rattle.c65_genexpr.specs.declared.arguments.Passed.{Passed}
-use Rattle.c65_genexpr.specs.Types.{kind_of, result_kind, kind_in, bare, offset_at, access_of, target_bytes}
-use Rattle.c65_genexpr.specs.Places.{more, place_of, IsKnown}
+use Rattle.c65_genexpr.specs.declared.types.Outcome.{Outcome}
+use Rattle.c65_genexpr.specs.declared.types.Outcome.TheVariants.{Nothing, Number, Area}
+use Rattle.c65_genexpr.specs.Types.{kind_of, outcome_of, kind_in, bare, offset_at, access_of, target_bytes}
+use Rattle.c65_genexpr.specs.Places.{more, place_of, object_code, IsKnown}
 use Rattle.c65_genexpr.specs.Operands.{residue_of, operands_of, computes, is_short, short_of, binary_by}
 use Rattle.c65_genexpr.specs.Steps.{amount_of}
-use Rattle.c65_genexpr.specs.Arguments.{is_fast, is_counted, stays, passed_of}
+use Rattle.c65_genexpr.specs.Arguments.{is_fast, is_counted, stays, passed_size, passed_of}
 use Rattle.c65_genexpr.specs.Arguments as arguments
 use Rattle.c65_genexpr.specs.Calls.{named, library_at, count_code, fetch_code, result_code, named_by, pointer_code, direct_code, ptr4_code}
 use Rattle.c65_genexpr.specs.Uses.{uses}
 use Rattle.c65_genexpr.specs.Code.{target_code, behind_open, compound, call_by, test_in, expr_code, node_code, args_code}
 use Rattle.c65_gen_law_lines.proofs.ExprLaws.{moved_known, no_short}
-use Rattle.c65_gen_law_lines.proofs.StackPieces.{narrow_still, number_still, object_still, offset_still, conversion_still, push_leaves, argument_leaves, test_still, hold_leaves, load_still, stored_leaves, copy_leaves, unary_still, between_leaves, behind_leaves, short_still, step_still, open_leaves, close_leaves}
+use Rattle.c65_gen_law_lines.proofs.StackPieces.{narrow_still, number_still, object_still, further_still, offset_still, conversion_still, push_leaves, argument_leaves, test_still, hold_leaves, bytes_still, load_still, stored_leaves, copy_leaves, spill_still, unary_still, between_leaves, behind_leaves, short_still, step_still, open_leaves, close_leaves}
 use Rattle.c65_gen_law_calls.specs.Sites.{Site, site_by, unless_named, sites_of, node_sites, args_sites}
 use Rattle.c65_gen_law_calls.specs.Lines.{is_calling, named_line, line_by, line_of}
 use Rattle.c65_gen_law_calls.specs.Found.{ExpressionsCallInOrder}
@@ -79,44 +81,45 @@ count_free : (counted : Bool) (p : Passed) → Free (count_code counted p)
 count_free true p = record { none = refl }
 count_free false p = free_none
 
-result_free : (kind : Option IntType) → Free (result_code kind)
-result_free None = free_none
-result_free (Some kind) = free_leaves (narrow_still kind [])
+result_free : (given : Outcome) → Free (result_code given)
+result_free Nothing = free_none
+result_free (Number kind) = free_leaves (narrow_still kind [])
+result_free (Area bytes) = free_none
 
 -- the line of a call
 one_call : {f : Framed} (site : Site) (line : Line) → is_calling line ≡ true → line_of f site ≡ line → Has f (site ∷ []) (line ∷ [])
 one_call site line h e = record { is = ap (λ (b : Bool). if b then line ∷ [] else []) h ∙ ap (λ (x : Line). x ∷ []) (sym e) }
 
 named_has : {f : Framed} (i : ℕ) (l : Option Library) (site : Site) → line_of f site ≡ named_line f i l site
-    → Has f (site ∷ []) (named_by f i l (is_counted (bare site.callee)) (passed_of (is_fast (bare site.callee)) site.args) (result_kind (type_in site.type)))
+    → Has f (site ∷ []) (named_by f i l (is_counted (bare site.callee)) (passed_of f (is_fast (bare site.callee)) site.args) (outcome_of f (type_in site.type)))
 named_has {f = f} i None site e =
-    let count : Free (count_code (is_counted (bare site.callee)) (passed_of (is_fast (bare site.callee)) site.args)) = count_free (is_counted (bare site.callee)) (passed_of (is_fast (bare site.callee)) site.args) in
-    has_before count (has_behind (one_call site (named_line f i None site) refl e) (result_free (result_kind (type_in site.type))))
-named_has {f = f} i (Some l) site e = has_behind (one_call site (named_line f i (Some l) site) refl e) (result_free (result_kind (type_in site.type)))
+    let count : Free (count_code (is_counted (bare site.callee)) (passed_of f (is_fast (bare site.callee)) site.args)) = count_free (is_counted (bare site.callee)) (passed_of f (is_fast (bare site.callee)) site.args) in
+    has_before count (has_behind (one_call site (named_line f i None site) refl e) (result_free (outcome_of f (type_in site.type))))
+named_has {f = f} i (Some l) site e = has_behind (one_call site (named_line f i (Some l) site) refl e) (result_free (outcome_of f (type_in site.type)))
 
 pointer_has : {f : Framed} (site : Site) → line_of f site ≡ line_by f None site
-    → Has f (site ∷ []) (pointer_code (is_counted (bare site.callee)) (passed_of (is_fast (bare site.callee)) site.args) (result_kind (type_in site.type)))
+    → Has f (site ∷ []) (pointer_code (is_counted (bare site.callee)) (passed_of f (is_fast (bare site.callee)) site.args) (outcome_of f (type_in site.type)))
 pointer_has {f = f} site e =
     let counted : Bool = is_counted (bare site.callee) in
-    let p : Passed = passed_of (is_fast (bare site.callee)) site.args in
+    let p : Passed = passed_of f (is_fast (bare site.callee)) site.args in
     let fetch : Free (fetch_code p) = record { none = refl } in
     let two : Free (Call (Routine (IncSp two_bytes)) ∷ []) = record { none = refl } in
-    has_before fetch (has_before (count_free counted p) (has_behind (one_call site (line_by f None site) refl e) (free_append two (result_free (result_kind (type_in site.type))))))
+    has_before fetch (has_before (count_free counted p) (has_behind (one_call site (line_by f None site) refl e) (free_append two (result_free (outcome_of f (type_in site.type))))))
 
 direct_has : {f : Framed} (site : Site) → line_of f site ≡ line_by f None site
-    → Has f (site ∷ []) (direct_code (is_counted (bare site.callee)) (passed_of (is_fast (bare site.callee)) site.args) (result_kind (type_in site.type)))
+    → Has f (site ∷ []) (direct_code (is_counted (bare site.callee)) (passed_of f (is_fast (bare site.callee)) site.args) (outcome_of f (type_in site.type)))
 direct_has {f = f} site e =
     let counted : Bool = is_counted (bare site.callee) in
-    let p : Passed = passed_of (is_fast (bare site.callee)) site.args in
+    let p : Passed = passed_of f (is_fast (bare site.callee)) site.args in
     let stored : Free ptr4_code = record { none = refl } in
-    has_before stored (has_before (count_free counted p) (has_behind (one_call site (line_by f None site) refl e) (result_free (result_kind (type_in site.type)))))
+    has_before stored (has_before (count_free counted p) (has_behind (one_call site (line_by f None site) refl e) (result_free (outcome_of f (type_in site.type)))))
 
 call_has : {f : Framed} {ss : List Site} {callee args above : List Line} (n : Option ℕ) (t : QTy) (g : Typed) (es : Nodes) → named g ≡ n → Has f ss callee → Has f (args_sites es) args → Has f (args_sites es) above
-    → Has f (unless_named n ss ++ (args_sites es ++ site_by t g es ∷ [])) (call_by f n (result_kind (type_in t)) g es callee args above)
+    → Has f (unless_named n ss ++ (args_sites es ++ site_by t g es ∷ [])) (call_by f n (outcome_of f (type_in t)) g es callee args above)
 call_has {f = f} (Some i) t g es e dc da db = has_then da (named_has i (library_at f i) (site_by t g es) (ap (λ (n : Option ℕ). line_by f n (site_by t g es)) e))
 call_has {f = f} None t g none e dc da db = has_then dc (direct_has (site_by t g none) (ap (λ (n : Option ℕ). line_by f n (site_by t g none)) e))
-call_has {f = f} None t g (some a rest) e dc da db =
-    let es : Nodes = some a rest in
+call_has {f = f} None t g (some a more_args) e dc da db =
+    let es : Nodes = some a more_args in
     has_then dc (has_before (free_leaves (push_leaves Ax [])) (has_then db (pointer_has (site_by t g es) (ap (λ (n : Option ℕ). line_by f n (site_by t g es)) e))))
 
 -- ---- the whole tree
@@ -173,12 +176,15 @@ mutual
       has_then (expr_has f pushed lo a) (has_before (free_leaves (push_leaves Ax [])) (has_behind (expr_has f (more pushed 2) (lo + uses a) b) (free_leaves (copy_leaves (type_bytes f (type_in t)) []))))
   node_has f pushed lo t (call g es) =
       call_has (named g) t g es refl (expr_has f pushed lo g) (args_has f pushed lo (is_fast (bare g)) es) (args_has f (more pushed 2) (lo + uses g) (is_fast (bare g)) es)
+  node_has f pushed lo t (pack e) = has_behind (target_has (place_of f pushed e) (known_sites f pushed e) (expr_has f pushed lo e)) (free_leaves (bytes_still (place_of f pushed e) (extent_by (type_bytes f (type_in t))) []))
+  node_has f pushed lo t (spill i e) = has_behind (expr_has f pushed lo e) (free_leaves (spill_still (object_code f pushed i) (extent_by (type_bytes f (type_in t))) (object_still f pushed i) []))
+  node_has f pushed lo t further = has_free (free_leaves (further_still f pushed []))
 
   args_has : (f : Framed) (pushed lo : ℕ) (fast : Bool) (es : Nodes) → Has f (args_sites es) (args_code f pushed lo fast es)
   args_has f pushed lo fast none = has_none
   args_has f pushed lo fast (some e es) =
       let kept : Bool = stays fast es in
-      has_then (expr_has f pushed lo e) (has_before (free_leaves (argument_leaves kept (kind_in e) [])) (args_has f (more pushed (arguments.argument_bytes kept (kind_in e))) (lo + uses e) fast es))
+      has_then (expr_has f pushed lo e) (has_before (free_leaves (argument_leaves f kept e [])) (args_has f (more pushed (arguments.argument_bytes kept (passed_size f e))) (lo + uses e) fast es))
 
 pub has_expression : (f : Framed) (pushed fresh : ℕ) (e : Typed) → Has f (sites_of e) (expr_code f pushed fresh e)
 has_expression f pushed fresh e = expr_has f pushed fresh e

@@ -53,7 +53,7 @@ record At (f : Framed) (ss : List Site) (w : Option Waiting) (lines : List Line)
   site : Site
   found : slice_get ss (length (callings (take j lines))) ≡ Some site
   calls : line ≡ line_of f site
-  takes : waiting_at w lines j ≡ waiting_at w lines (suc j) + bytes_in (bytes_of site)
+  takes : waiting_at w lines j ≡ waiting_at w lines (suc j) + bytes_in (bytes_of f site)
 
 abbrev head_of : Line → List Line → Line
 head_of other [] = other
@@ -69,15 +69,15 @@ waits_on line lines w x None is e = absurd (let n : waits None lines ≡ None = 
 waits_on line lines w x (Some y) is e = (y, is)
 
 -- the line of the first call
-first_call : (f : Framed) (line : Line) (lines : List Line) (ss : List Site) (w y : Waiting) → is_calling line ≡ true → w.calls ≡ all_bytes ss → line ∷ callings lines ≡ lines_of f ss → by_line line w ≡ Some y
-    → (s : Site) × (rest : List Site) × (ss ≡ s ∷ rest) × (line ≡ line_of f s) × (callings lines ≡ lines_of f rest) × (y.calls ≡ all_bytes rest) × (bytes_in w.values ≡ bytes_in y.values + bytes_in (bytes_of s))
+first_call : (f : Framed) (line : Line) (lines : List Line) (ss : List Site) (w y : Waiting) → is_calling line ≡ true → w.calls ≡ all_bytes f ss → line ∷ callings lines ≡ lines_of f ss → by_line line w ≡ Some y
+    → (s : Site) × (rest : List Site) × (ss ≡ s ∷ rest) × (line ≡ line_of f s) × (callings lines ≡ lines_of f rest) × (y.calls ≡ all_bytes f rest) × (bytes_in w.values ≡ bytes_in y.values + bytes_in (bytes_of f s))
 first_call f line lines [] w y calls all is e = absurd cc
 first_call f line lines (s ∷ rest) w y calls all is e =
-    let step : left (all_bytes rest) (taken (bytes_of s) w.values) ≡ Some y = ap (λ (c : List (List ℕ)). called c w.values) (sym all) ∙ (sym (line_takes line w calls) ∙ e) in
-    (s, rest, refl, ap (head_of line) is, ap tail_of is, left_calls (all_bytes rest) (taken (bytes_of s) w.values) y step, left_sum (all_bytes rest) (bytes_of s) w.values (taken (bytes_of s) w.values) y refl step)
+    let step : left (all_bytes f rest) (taken (bytes_of f s) w.values) ≡ Some y = ap (λ (c : List (List ℕ)). called c w.values) (sym all) ∙ (sym (line_takes line w calls) ∙ e) in
+    (s, rest, refl, ap (head_of line) is, ap tail_of is, left_calls (all_bytes f rest) (taken (bytes_of f s) w.values) y step, left_sum (all_bytes f rest) (bytes_of f s) w.values (taken (bytes_of f s) w.values) y refl step)
 
-at_behind : (f : Framed) (ss : List Site) (w x : Waiting) (first : Line) (lines : List Line) (j : ℕ) (line : Line) (b : Bool) → waits (Some w) (first ∷ lines) ≡ Some x → w.calls ≡ all_bytes ss → callings (first ∷ lines) ≡ lines_of f ss → is_calling first ≡ b
-    → ((rest : List Site) (y : Waiting) → waits (Some y) lines ≡ Some x → y.calls ≡ all_bytes rest → callings lines ≡ lines_of f rest → At f rest (Some y) lines j line) → At f ss (Some w) (first ∷ lines) (suc j) line
+at_behind : (f : Framed) (ss : List Site) (w x : Waiting) (first : Line) (lines : List Line) (j : ℕ) (line : Line) (b : Bool) → waits (Some w) (first ∷ lines) ≡ Some x → w.calls ≡ all_bytes f ss → callings (first ∷ lines) ≡ lines_of f ss → is_calling first ≡ b
+    → ((rest : List Site) (y : Waiting) → waits (Some y) lines ≡ Some x → y.calls ≡ all_bytes f rest → callings lines ≡ lines_of f rest → At f rest (Some y) lines j line) → At f ss (Some w) (first ∷ lines) (suc j) line
 at_behind f ss w x first lines j line true e all is c later =
     let y : (y : Waiting) × (by_line first w ≡ Some y) = waits_on first lines w x (by_line first w) refl e in
     let on : waits (Some y.0) lines ≡ Some x = ap (λ (z : Option Waiting). waits z lines) (sym y.1) ∙ e in
@@ -108,7 +108,7 @@ at_behind f ss w x first lines j line false e all is c later =
       takes = omega (arith, rest.takes, before, after);
     }
 
-at_line : (f : Framed) (ss : List Site) (w x : Waiting) (lines : List Line) (j : ℕ) (line : Line) → waits (Some w) lines ≡ Some x → w.calls ≡ all_bytes ss → callings lines ≡ lines_of f ss → slice_get lines j ≡ Some line → is_calling line ≡ true → At f ss (Some w) lines j line
+at_line : (f : Framed) (ss : List Site) (w x : Waiting) (lines : List Line) (j : ℕ) (line : Line) → waits (Some w) lines ≡ Some x → w.calls ≡ all_bytes f ss → callings lines ≡ lines_of f ss → slice_get lines j ≡ Some line → is_calling line ≡ true → At f ss (Some w) lines j line
 at_line f ss w x [] j line e all is here calls = absurd cc
 at_line f ss w x (first ∷ lines) zero line e all is here calls =
     let same : first ≡ line = cc in
@@ -174,10 +174,10 @@ Split f is_main body out middle = (with_function f is_main (Some body) (no_lines
 same_middle : (f : Framed) (a b : List Line) → entry_code f ++ (a ++ end_code f) ≡ entry_code f ++ (b ++ end_code f) → a ≡ b
 same_middle f a b e = same_before a b (end_code f) (same_behind (entry_code f) (a ++ end_code f) (b ++ end_code f) e)
 
-pub middle_level : (u : UnitTy) (g : FuncTy) (body : Stmt) (f : Framed) (is_main : Bool) (out : RegSet) (middle : List Line) → IsBody u g body → (with_function f is_main (Some body) (no_lines out)).labels ≤ 2 ^ 32 → Split f is_main body out middle → AreLevel (at_first body) middle
+pub middle_level : (u : UnitTy) (g : FuncTy) (body : Stmt) (f : Framed) (is_main : Bool) (out : RegSet) (middle : List Line) → IsBody u g body → (with_function f is_main (Some body) (no_lines out)).labels ≤ 2 ^ 32 → Split f is_main body out middle → AreLevel (at_first f body) middle
 middle_level u g body f is_main out middle well few lines =
     let level = functions_are_level u g body f is_main out well few in
-    subst (λ (l : List Line). AreLevel (at_first body) l) (same_middle f level.0 middle (sym level.1 ∙ lines)) level.3
+    subst (λ (l : List Line). AreLevel (at_first f body) l) (same_middle f level.0 middle (sym level.1 ∙ lines)) level.3
 
 pub lines_are_of_calls : LinesAreOfCalls
 lines_are_of_calls u g body f is_main out middle well few lines j line here calls =
@@ -186,9 +186,9 @@ lines_are_of_calls u g body f is_main out middle well few lines j line here call
     let same : put.added ≡ middle = same_middle f put.added middle (sym (append_lines (entry_code f) put.added (end_code f)) ∙ made) in
     let level = functions_are_level u g body f is_main out well few in
     let other : level.0 ≡ middle = same_middle f level.0 middle (sym level.1 ∙ lines) in
-    let waits_all : waits (at_first body) middle ≡ Some (waiting_by [] []) = ap (waits (at_first body)) (sym other) ∙ level.2 in
+    let waits_all : waits (at_first f body) middle ≡ Some (waiting_by [] []) = ap (waits (at_first f body)) (sym other) ∙ level.2 in
     let all : callings middle ≡ lines_of f (statement_sites body) = ap callings (sym same) ∙ put.has.is in
-    let at : At f (statement_sites body) (at_first body) middle j line = at_line f (statement_sites body) (waiting_by [] (statement_calls f body)) (waiting_by [] []) middle j line waits_all (statement_calls_are body) all here calls in
+    let at : At f (statement_sites body) (at_first f body) middle j line = at_line f (statement_sites body) (waiting_by [] (statement_calls f body)) (waiting_by [] []) middle j line waits_all (statement_calls_are f body) all here calls in
     record {
       site = at.site;
       found = at.found;

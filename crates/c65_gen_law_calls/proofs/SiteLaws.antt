@@ -1,8 +1,10 @@
 -- The calls of a body: what each takes away, and that each is well typed.
 use Rattle.std.proofs.Common.{◌≡◌, ℕ, zero, suc, Option, None, Some, List, [], ◌∷◌, ◌++◌, slice_get, refl, sym, ap, subst, ◌∙◌}
 use Rattle.c65_ctype.specs.Trees.{QTy}
-use Rattle.c65_csem.specs.Trees.{Typed, node, Node, constant, null, literal, object, func, deref, member, load, address, decay, convert, unary, binary, both, either, choice, comma, assign, assign_op, assign_step, step, copy, call, Nodes, none, some, MaybeTyped, absent, present, Stmt, empty, eval, set_part, clear, block, if_stmt, while, do_while, for_loop, switch, case, default, label, goto, break, continue, return, Stmts, no_stmts, and_stmts, UnitTy}
-use Rattle.c65_csem.specs.Typed.{IsTyped, IsNode, AreTyped}
+use Rattle.c65_csem.specs.Trees.{Typed, node, Node, constant, null, literal, object, func, deref, member, load, address, decay, convert, unary, binary, both, either, choice, comma, assign, assign_op, assign_step, step, copy, call, pack, spill, rest as further, Nodes, none, some, MaybeTyped, absent, present, Stmt, empty, eval, set_part, clear, block, if_stmt, while, do_while, for_loop, switch, case, default, label, goto, break, continue, return, Stmts, no_stmts, and_stmts, UnitTy}
+use Rattle.c65_csem.specs.Typed as typing
+use Rattle.c65_csem.specs.Typed.{IsTyped, IsNode, IsGiven, IsCalled, AreTyped, IsUsual, IsResult}
+use Rattle.c65_genframe.specs.Frames.{Framed}
 use Rattle.c65_csem.specs.Statements.{Context, looping, switching, IsStmt, AreStmts, IsMaybe, IsMaybeCondition, IsReturn}
 use Rattle.c65_genexpr.specs.Types.{bare}
 use Rattle.c65_genexpr.specs.Arguments.{is_fast}
@@ -13,86 +15,89 @@ use Rattle.c65_gen_law_calls.specs.Sites.{Site, site_by, IsSite, bytes_of, unles
 
 -- ---- what they take away
 
-abbrev pub all_bytes : List Site → List (List ℕ)
-all_bytes [] = []
-all_bytes (s ∷ ss) = bytes_of s ∷ all_bytes ss
+abbrev pub all_bytes : Framed → List Site → List (List ℕ)
+all_bytes f [] = []
+all_bytes f (s ∷ ss) = bytes_of f s ∷ all_bytes f ss
 
-bytes_append : (ss ts : List Site) → all_bytes (ss ++ ts) ≡ all_bytes ss ++ all_bytes ts
-bytes_append [] ts = refl
-bytes_append (s ∷ ss) ts = ap (λ (x : List (List ℕ)). bytes_of s ∷ x) (bytes_append ss ts)
+bytes_append : (f : Framed) (ss ts : List Site) → all_bytes f (ss ++ ts) ≡ all_bytes f ss ++ all_bytes f ts
+bytes_append f [] ts = refl
+bytes_append f (s ∷ ss) ts = ap (λ (x : List (List ℕ)). bytes_of f s ∷ x) (bytes_append f ss ts)
 
-two : (xs ys : List (List ℕ)) (ss ts : List Site) → xs ≡ all_bytes ss → ys ≡ all_bytes ts → xs ++ ys ≡ all_bytes (ss ++ ts)
-two xs ys ss ts p q = ap (λ (x : List (List ℕ)). x ++ ys) p ∙ (ap (λ (y : List (List ℕ)). all_bytes ss ++ y) q ∙ sym (bytes_append ss ts))
+two : (f : Framed) (xs ys : List (List ℕ)) (ss ts : List Site) → xs ≡ all_bytes f ss → ys ≡ all_bytes f ts → xs ++ ys ≡ all_bytes f (ss ++ ts)
+two f xs ys ss ts p q = ap (λ (x : List (List ℕ)). x ++ ys) p ∙ (ap (λ (y : List (List ℕ)). all_bytes f ss ++ y) q ∙ sym (bytes_append f ss ts))
 
-unnamed : (n : Option ℕ) (xs : List (List ℕ)) (ss : List Site) → xs ≡ all_bytes ss → stack.unless_named n xs ≡ all_bytes (unless_named n ss)
-unnamed None xs ss p = p
-unnamed (Some i) xs ss p = refl
-
-mutual
-  calls_are : (e : Typed) → calls_of f e ≡ all_bytes (sites_of e)
-  calls_are (node t n) = node_calls_are t n
-
-  node_calls_are : (t : QTy) (n : Node) → node_calls f n ≡ all_bytes (node_sites t n)
-  node_calls_are t (constant z) = refl
-  node_calls_are t null = refl
-  node_calls_are t (literal n) = refl
-  node_calls_are t (object i) = refl
-  node_calls_are t (func i) = refl
-  node_calls_are t (deref e) = calls_are e
-  node_calls_are t (member e m) = calls_are e
-  node_calls_are t (load e) = calls_are e
-  node_calls_are t (address e) = calls_are e
-  node_calls_are t (decay e) = calls_are e
-  node_calls_are t (convert e) = calls_are e
-  node_calls_are t (unary op e) = calls_are e
-  node_calls_are t (binary op a b) = two (calls_of f a) (calls_of f b) (sites_of a) (sites_of b) (calls_are a) (calls_are b)
-  node_calls_are t (both a b) = two (calls_of f a) (calls_of f b) (sites_of a) (sites_of b) (calls_are a) (calls_are b)
-  node_calls_are t (either a b) = two (calls_of f a) (calls_of f b) (sites_of a) (sites_of b) (calls_are a) (calls_are b)
-  node_calls_are t (choice c a b) = two (calls_of f c) (calls_of f a ++ calls_of f b) (sites_of c) (sites_of a ++ sites_of b) (calls_are c) (two (calls_of f a) (calls_of f b) (sites_of a) (sites_of b) (calls_are a) (calls_are b))
-  node_calls_are t (comma a b) = two (calls_of f a) (calls_of f b) (sites_of a) (sites_of b) (calls_are a) (calls_are b)
-  node_calls_are t (assign a b) = two (calls_of f a) (calls_of f b) (sites_of a) (sites_of b) (calls_are a) (calls_are b)
-  node_calls_are t (assign_op op k a b) = two (calls_of f a) (calls_of f b) (sites_of a) (sites_of b) (calls_are a) (calls_are b)
-  node_calls_are t (assign_step op a b) = two (calls_of f a) (calls_of f b) (sites_of a) (sites_of b) (calls_are a) (calls_are b)
-  node_calls_are t (step how e) = calls_are e
-  node_calls_are t (copy a b) = two (calls_of f a) (calls_of f b) (sites_of a) (sites_of b) (calls_are a) (calls_are b)
-  node_calls_are t (call g es) =
-      two (stack.unless_named (named g) (calls_of f g)) (args_calls f es ++ passed f (is_fast (bare g)) es ∷ []) (unless_named (named g) (sites_of g)) (args_sites es ++ site_by t g es ∷ []) (unnamed (named g) (calls_of f g) (sites_of g) (calls_are g))
-      (two (args_calls f es) (passed f (is_fast (bare g)) es ∷ []) (args_sites es) (site_by t g es ∷ []) (args_calls_are es) refl)
-
-  args_calls_are : (es : Nodes) → args_calls f es ≡ all_bytes (args_sites es)
-  args_calls_are none = refl
-  args_calls_are (some e es) = two (calls_of f e) (args_calls f es) (sites_of e) (args_sites es) (calls_are e) (args_calls_are es)
-
-maybe_calls_are : (e : MaybeTyped) → maybe_calls f e ≡ all_bytes (maybe_sites e)
-maybe_calls_are absent = refl
-maybe_calls_are (present e) = calls_are e
+unnamed : (f : Framed) (n : Option ℕ) (xs : List (List ℕ)) (ss : List Site) → xs ≡ all_bytes f ss → stack.unless_named n xs ≡ all_bytes f (unless_named n ss)
+unnamed f None xs ss p = p
+unnamed f (Some i) xs ss p = refl
 
 mutual
-  pub statement_calls_are : (s : Stmt) → statement_calls f s ≡ all_bytes (statement_sites s)
-  statement_calls_are empty = refl
-  statement_calls_are (eval e) = calls_are e
-  statement_calls_are (set_part i o e) = calls_are e
-  statement_calls_are (clear i) = refl
-  statement_calls_are (block os ss) = statements_calls_are ss
-  statement_calls_are (if_stmt e a b) = two (calls_of f e) (statement_calls f a ++ statement_calls f b) (sites_of e) (statement_sites a ++ statement_sites b) (calls_are e) (two (statement_calls f a) (statement_calls f b) (statement_sites a) (statement_sites b) (statement_calls_are a) (statement_calls_are b))
-  statement_calls_are (while e a) = two (calls_of f e) (statement_calls f a) (sites_of e) (statement_sites a) (calls_are e) (statement_calls_are a)
-  statement_calls_are (do_while a e) = two (statement_calls f a) (calls_of f e) (statement_sites a) (sites_of e) (statement_calls_are a) (calls_are e)
-  statement_calls_are (for_loop i c n a) =
-      two (maybe_calls f i) (maybe_calls f c ++ (statement_calls f a ++ maybe_calls f n)) (maybe_sites i) (maybe_sites c ++ (statement_sites a ++ maybe_sites n)) (maybe_calls_are i)
-      (two (maybe_calls f c) (statement_calls f a ++ maybe_calls f n) (maybe_sites c) (statement_sites a ++ maybe_sites n) (maybe_calls_are c)
-      (two (statement_calls f a) (maybe_calls f n) (statement_sites a) (maybe_sites n) (statement_calls_are a) (maybe_calls_are n)))
-  statement_calls_are (switch e a) = two (calls_of f e) (statement_calls f a) (sites_of e) (statement_sites a) (calls_are e) (statement_calls_are a)
-  statement_calls_are (case z a) = statement_calls_are a
-  statement_calls_are (default a) = statement_calls_are a
-  statement_calls_are (label n a) = statement_calls_are a
-  statement_calls_are (goto n) = refl
-  statement_calls_are break = refl
-  statement_calls_are continue = refl
-  statement_calls_are (return e) = maybe_calls_are e
+  calls_are : (f : Framed) (e : Typed) → calls_of f e ≡ all_bytes f (sites_of e)
+  calls_are f (node t n) = node_calls_are f t n
 
-  statements_calls_are : (ss : Stmts) → statements_calls f ss ≡ all_bytes (statements_sites ss)
-  statements_calls_are no_stmts = refl
-  statements_calls_are (and_stmts a ss) = two (statement_calls f a) (statements_calls f ss) (statement_sites a) (statements_sites ss) (statement_calls_are a) (statements_calls_are ss)
+  node_calls_are : (f : Framed) (t : QTy) (n : Node) → node_calls f n ≡ all_bytes f (node_sites t n)
+  node_calls_are f t (constant z) = refl
+  node_calls_are f t null = refl
+  node_calls_are f t (literal n) = refl
+  node_calls_are f t (object i) = refl
+  node_calls_are f t (func i) = refl
+  node_calls_are f t (deref e) = calls_are f e
+  node_calls_are f t (member e m) = calls_are f e
+  node_calls_are f t (load e) = calls_are f e
+  node_calls_are f t (address e) = calls_are f e
+  node_calls_are f t (decay e) = calls_are f e
+  node_calls_are f t (convert e) = calls_are f e
+  node_calls_are f t (unary op e) = calls_are f e
+  node_calls_are f t (binary op a b) = two f (calls_of f a) (calls_of f b) (sites_of a) (sites_of b) (calls_are f a) (calls_are f b)
+  node_calls_are f t (both a b) = two f (calls_of f a) (calls_of f b) (sites_of a) (sites_of b) (calls_are f a) (calls_are f b)
+  node_calls_are f t (either a b) = two f (calls_of f a) (calls_of f b) (sites_of a) (sites_of b) (calls_are f a) (calls_are f b)
+  node_calls_are f t (choice c a b) = two f (calls_of f c) (calls_of f a ++ calls_of f b) (sites_of c) (sites_of a ++ sites_of b) (calls_are f c) (two f (calls_of f a) (calls_of f b) (sites_of a) (sites_of b) (calls_are f a) (calls_are f b))
+  node_calls_are f t (comma a b) = two f (calls_of f a) (calls_of f b) (sites_of a) (sites_of b) (calls_are f a) (calls_are f b)
+  node_calls_are f t (assign a b) = two f (calls_of f a) (calls_of f b) (sites_of a) (sites_of b) (calls_are f a) (calls_are f b)
+  node_calls_are f t (assign_op op k a b) = two f (calls_of f a) (calls_of f b) (sites_of a) (sites_of b) (calls_are f a) (calls_are f b)
+  node_calls_are f t (assign_step op a b) = two f (calls_of f a) (calls_of f b) (sites_of a) (sites_of b) (calls_are f a) (calls_are f b)
+  node_calls_are f t (step how e) = calls_are f e
+  node_calls_are f t (copy a b) = two f (calls_of f a) (calls_of f b) (sites_of a) (sites_of b) (calls_are f a) (calls_are f b)
+  node_calls_are f t (call g es) =
+      two f (stack.unless_named (named g) (calls_of f g)) (args_calls f es ++ passed f (is_fast (bare g)) es ∷ []) (unless_named (named g) (sites_of g)) (args_sites es ++ site_by t g es ∷ []) (unnamed f (named g) (calls_of f g) (sites_of g) (calls_are f g))
+      (two f (args_calls f es) (passed f (is_fast (bare g)) es ∷ []) (args_sites es) (site_by t g es ∷ []) (args_calls_are f es) refl)
+  node_calls_are f t (pack e) = calls_are f e
+  node_calls_are f t (spill i e) = calls_are f e
+  node_calls_are f t further = refl
+
+  args_calls_are : (f : Framed) (es : Nodes) → args_calls f es ≡ all_bytes f (args_sites es)
+  args_calls_are f none = refl
+  args_calls_are f (some e es) = two f (calls_of f e) (args_calls f es) (sites_of e) (args_sites es) (calls_are f e) (args_calls_are f es)
+
+maybe_calls_are : (f : Framed) (e : MaybeTyped) → maybe_calls f e ≡ all_bytes f (maybe_sites e)
+maybe_calls_are f absent = refl
+maybe_calls_are f (present e) = calls_are f e
+
+mutual
+  pub statement_calls_are : (f : Framed) (s : Stmt) → statement_calls f s ≡ all_bytes f (statement_sites s)
+  statement_calls_are f empty = refl
+  statement_calls_are f (eval e) = calls_are f e
+  statement_calls_are f (set_part i o e) = calls_are f e
+  statement_calls_are f (clear i) = refl
+  statement_calls_are f (block os ss) = statements_calls_are f ss
+  statement_calls_are f (if_stmt e a b) = two f (calls_of f e) (statement_calls f a ++ statement_calls f b) (sites_of e) (statement_sites a ++ statement_sites b) (calls_are f e) (two f (statement_calls f a) (statement_calls f b) (statement_sites a) (statement_sites b) (statement_calls_are f a) (statement_calls_are f b))
+  statement_calls_are f (while e a) = two f (calls_of f e) (statement_calls f a) (sites_of e) (statement_sites a) (calls_are f e) (statement_calls_are f a)
+  statement_calls_are f (do_while a e) = two f (statement_calls f a) (calls_of f e) (statement_sites a) (sites_of e) (statement_calls_are f a) (calls_are f e)
+  statement_calls_are f (for_loop i c n a) =
+      two f (maybe_calls f i) (maybe_calls f c ++ (statement_calls f a ++ maybe_calls f n)) (maybe_sites i) (maybe_sites c ++ (statement_sites a ++ maybe_sites n)) (maybe_calls_are f i)
+      (two f (maybe_calls f c) (statement_calls f a ++ maybe_calls f n) (maybe_sites c) (statement_sites a ++ maybe_sites n) (maybe_calls_are f c)
+      (two f (statement_calls f a) (maybe_calls f n) (statement_sites a) (maybe_sites n) (statement_calls_are f a) (maybe_calls_are f n)))
+  statement_calls_are f (switch e a) = two f (calls_of f e) (statement_calls f a) (sites_of e) (statement_sites a) (calls_are f e) (statement_calls_are f a)
+  statement_calls_are f (case z a) = statement_calls_are f a
+  statement_calls_are f (default a) = statement_calls_are f a
+  statement_calls_are f (label n a) = statement_calls_are f a
+  statement_calls_are f (goto n) = refl
+  statement_calls_are f break = refl
+  statement_calls_are f continue = refl
+  statement_calls_are f (return e) = maybe_calls_are f e
+
+  statements_calls_are : (f : Framed) (ss : Stmts) → statements_calls f ss ≡ all_bytes f (statements_sites ss)
+  statements_calls_are f no_stmts = refl
+  statements_calls_are f (and_stmts a ss) = two f (statement_calls f a) (statements_calls f ss) (statement_sites a) (statements_sites ss) (statement_calls_are f a) (statements_calls_are f ss)
 
 -- ---- their types
 
@@ -112,6 +117,10 @@ site_in u (r ∷ ss) (suc k) s p e = site_in u ss k s p.1 e
 unnamed_sites : (u : UnitTy) (n : Option ℕ) (ss : List Site) → AreSites u ss → AreSites u (unless_named n ss)
 unnamed_sites u None ss p = p
 unnamed_sites u (Some i) ss p = tt
+
+usual_result : (u : UnitTy) (t : QTy) → IsUsual t → IsResult u t
+usual_result u t typing.nothing = typing.nothing
+usual_result u t (typing.scalar h) = typing.scalar h
 
 mutual
   expr_sites : (u : UnitTy) (e : Typed) → IsTyped u e → AreSites u (sites_of e)
@@ -142,11 +151,26 @@ mutual
   typed_sites u t (copy a b) h = sites_append u (sites_of a) (sites_of b) (expr_sites u a h.0) (expr_sites u b h.1)
   typed_sites u t (call g es) h =
       sites_append u (unless_named (named g) (sites_of g)) (args_sites es ++ site_by t g es ∷ []) (unnamed_sites u (named g) (sites_of g) (expr_sites u g h.0))
-      (sites_append u (args_sites es) (site_by t g es ∷ []) (argument_sites u es h.3) (h, tt))
+      (sites_append u (args_sites es) (site_by t g es ∷ []) (argument_sites u es h.4) (record { callee = h.0; value = h.1; made = h.2; result = usual_result u t h.3; args = h.4 }, tt))
+  typed_sites u t (pack e) h = absurd h
+  typed_sites u t (spill i e) h = called_sites u t e h.0
+  typed_sites u t further h = tt
+
+  -- a call that gives a structure
+  called_sites : (u : UnitTy) (t : QTy) (e : Typed) → IsCalled u t e → AreSites u (sites_of e)
+  called_sites u t (node s (call g es)) h =
+      sites_append u (unless_named (named g) (sites_of g)) (args_sites es ++ site_by s g es ∷ []) (unnamed_sites u (named g) (sites_of g) (expr_sites u g h.2))
+      (sites_append u (args_sites es) (site_by s g es ∷ []) (argument_sites u es h.5) (record { callee = h.2; value = h.3; made = h.4; result = typing.structure h.1; args = h.5 }, tt))
+  called_sites u t (node s _) h = absurd h
 
   argument_sites : (u : UnitTy) (es : Nodes) → AreTyped u es → AreSites u (args_sites es)
   argument_sites u none h = tt
-  argument_sites u (some e es) h = sites_append u (sites_of e) (args_sites es) (expr_sites u e h.0) (argument_sites u es h.1)
+  argument_sites u (some e es) h = sites_append u (sites_of e) (args_sites es) (given_sites u e h.0) (argument_sites u es h.1)
+
+  -- an argument or a returned value
+  given_sites : (u : UnitTy) (e : Typed) → IsGiven u e → AreSites u (sites_of e)
+  given_sites u (node t (pack e)) h = expr_sites u e h.0
+  given_sites u (node t n) h = typed_sites u t n h.0
 
 some_sites : (u : UnitTy) (e : MaybeTyped) → IsMaybe u e → AreSites u (maybe_sites e)
 some_sites u absent h = tt
@@ -158,7 +182,7 @@ condition_sites u (present e) h = expr_sites u e h.0
 
 return_sites : (u : UnitTy) (c : Context) (e : MaybeTyped) → IsReturn u c e → AreSites u (maybe_sites e)
 return_sites u c absent h = tt
-return_sites u c (present e) h = expr_sites u e h.0
+return_sites u c (present e) h = given_sites u e h.0
 
 mutual
   pub stmt_sites : (u : UnitTy) (c : Context) (s : Stmt) → IsStmt u c s → AreSites u (statement_sites s)

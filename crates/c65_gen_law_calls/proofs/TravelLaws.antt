@@ -144,7 +144,7 @@ agrees_at : (s : Setting) (p : Program) (c d : Compiled) (j : ℕ) (line : Line)
     → named made.site.callee ≡ n → Reaches s line (laid p d).number a t q u → Through n (Agrees (unit_of p.parts) made.site d.func) → Agrees (unit_of p.parts) made.site d.func
 agrees_at s p c d j line None a q t u made sound first second is reach asked = asked
 agrees_at s p c d j line (Some i) a q t u made sound first second is reach asked =
-    let there = named_there (unit_of p.parts) made.site.callee i made.typed.0 is in
+    let there = named_there (unit_of p.parts) made.site.callee i made.typed.callee is in
     let same : line ≡ named_line c.frame i (library_at c.frame i) made.site = made.calls ∙ ap (λ (o : Option ℕ). line_by c.frame o made.site) is in
     let to = named_reach s c.frame i (library_at c.frame i) made.site (laid p d).number a q t u (subst (λ (x : Line). Reaches s x (laid p d).number a t q u) same reach) in
     let number : (function_symbol (numbers_of p.parts) i).0 ≡ (function_symbol (numbers_of p.parts) d.index).0 = ap (λ (x : Parts). (function_symbol (numbers_of x) i).0) (sym (parts_are p.parts p.modes c.func c.frame first.framed)) ∙ to.1 in
@@ -166,15 +166,15 @@ named_runs f i (Some k) site l (inl e) = (k, refl, let z : Some k ≡ Some l = a
 named_runs f i (Some k) site l (inr e) = absurd (let z = e.2 in cc)
 
 library_at_line : (s : Setting) (p : Program) (c : Compiled) (j : ℕ) (line : Line) (l : Library) (n : Option ℕ) (made : IsMade (unit_of p.parts) c.frame c.body c.middle j line) → IsSound p → IsCompiled s p c
-    → named made.site.callee ≡ n → RunsLibrary line l → Through n (LibraryAgrees made.site l) → bytes_in (bytes_of made.site) ≡ library_bytes l
-library_at_line s p c j line l None made sound first is runs asked = agreed_library made.site l asked
+    → named made.site.callee ≡ n → RunsLibrary line l → Through n (LibraryAgrees made.site l) → bytes_in (bytes_of c.frame made.site) ≡ library_bytes l
+library_at_line s p c j line l None made sound first is runs asked = agreed_library c.frame made.site l asked
 library_at_line s p c j line l (Some i) made sound first is runs asked =
-    let there = named_there (unit_of p.parts) made.site.callee i made.typed.0 is in
+    let there = named_there (unit_of p.parts) made.site.callee i made.typed.callee is in
     let same : line ≡ named_line c.frame i (library_at c.frame i) made.site = made.calls ∙ ap (λ (o : Option ℕ). line_by c.frame o made.site) is in
     let own = named_runs c.frame i (library_at c.frame i) made.site l (subst (λ (x : Line). RunsLibrary x l) same runs) in
     let agrees : AgreesWith (unit_of p.parts) made.site there.0 there.0.library there.0.body = sound.names c.index (length (callings (take j c.middle))) i c.func there.0 c.body made.site first.found first.has_body made.found is there.1 in
     let kept : LibraryAgrees made.site own.0 = library_by (unit_of p.parts) made.site there.0 there.0.library there.0.body own.0 (sym (library_is s p c i there.0 first there.1) ∙ own.1) agrees in
-    agreed_library made.site own.0 kept ∙ ap library_bytes own.2
+    agreed_library c.frame made.site own.0 kept ∙ ap library_bytes own.2
 
 -- ---- one step of a way
 
@@ -182,15 +182,15 @@ library_step : (s : Setting) (p : Program) (c : Compiled) (j k : ℕ) (t u : Sta
     → Runs s line l (place_in (laid p c) j) t (place_in (laid p c) k) u → ((site : Site) → site_at c.body c.middle j ≡ Some site → Through (named site.callee) (LibraryAgrees site l)) → Step (laid p c) j t k u
 library_step s p c j k t u line l sound first here runs asked =
     let made : IsMade (unit_of p.parts) c.frame c.body c.middle j line = site_of s p c j line sound first here (run_calls line l runs.called) in
-    let bytes : bytes_in (bytes_of made.site) ≡ library_bytes l = library_at_line s p c j line l (named made.site.callee) made sound first refl runs.called (asked made.site made.found) in
+    let bytes : bytes_in (bytes_of c.frame made.site) ≡ library_bytes l = library_at_line s p c j line l (named made.site.callee) made sound first refl runs.called (asked made.site made.found) in
     let laid_there : IsLaid s (laid p c) = laid_of s p c sound first in
     let n : ℕ = length (entry_code c.frame) in
     let g : ℕ = (laid p c).number in
     let behind : suc (n + j) ≡ n + suc j = omega arith in
-    let arrives : Arrives g (entry_code c.frame) c.middle (place_in (laid p c) k) (height_at (at_first c.body) c.middle (suc j)) (at_first c.body) = settles g (suc j) (s.lines g) (entry_code c.frame) c.middle (end_code c.frame) (at_first c.body) (place_in (laid p c) k) laid_there.lines (no_labels (end_code c.frame) (end_flat c.frame).plain) (below_length c.middle j line here) (runs.to ∙ ap (λ (i : ℕ). (g, settle (s.lines g) i)) behind) in
+    let arrives : Arrives g (entry_code c.frame) c.middle (place_in (laid p c) k) (height_at (at_first c.frame c.body) c.middle (suc j)) (at_first c.frame c.body) = settles g (suc j) (s.lines g) (entry_code c.frame) c.middle (end_code c.frame) (at_first c.frame c.body) (place_in (laid p c) k) laid_there.lines (no_labels (end_code c.frame) (end_flat c.frame).plain) (below_length c.middle j line here) (runs.to ∙ ap (λ (i : ℕ). (g, settle (s.lines g) i)) behind) in
     let place : k ≡ arrives.at = same_line n g k arrives.at arrives.to in
     let after : bytes_before (laid p c) k ≡ bytes_before (laid p c) (suc j) = ap (bytes_before (laid p c)) place ∙ ap sum_in arrives.height in
-    let takes : bytes_before (laid p c) j ≡ bytes_before (laid p c) (suc j) + bytes_in (bytes_of made.site) = made.takes in
+    let takes : bytes_before (laid p c) j ≡ bytes_before (laid p c) (suc j) + bytes_in (bytes_of c.frame made.site) = made.takes in
     record { sp = omega (arith, library_sp l t u runs.row, bytes, after, takes); frames = row_frames (row_of (routines.Library l) t) t u runs.row }
 
 -- ---- ways
@@ -208,8 +208,8 @@ travel s p c j m t u sound first (library {k = k} {u = v} line l at runs asked r
 travel s p c j m t u sound first (calls {d = d} {k = k} {from = from} {to = to} {u = w} {v = v} {x = x} q b line second at reach asked counted entry body same number end rest) =
     let made : IsMade (unit_of p.parts) c.frame c.body c.middle j line = site_of s p c j line sound first at (reach_calls s line (laid p d).number (place_in (laid p c) j) q t b reach) in
     let agrees : Agrees (unit_of p.parts) made.site d.func = agrees_at s p c d j line (named made.site.callee) (place_in (laid p c) j) q t b made sound first second refl reach (asked made.site made.found) in
-    let bytes : bytes_in (bytes_of made.site) + pushed_bytes d.frame.last ≡ passed_bytes d.frame b = agreed_bytes p.parts p.modes d.func d.frame made.site b second.framed agrees (counted made.site made.found) in
-    let before : bytes_before (laid p c) j ≡ bytes_before (laid p c) (suc j) + bytes_in (bytes_of made.site) = made.takes in
+    let bytes : bytes_in (bytes_of c.frame made.site) + pushed_bytes d.frame.last ≡ passed_bytes d.frame b = agreed_bytes p.parts p.modes d.func d.frame c.frame made.site b second.framed (parts_are p.parts p.modes c.func c.frame first.framed) agrees (counted made.site made.found) in
+    let before : bytes_before (laid p c) j ≡ bytes_before (laid p c) (suc j) + bytes_in (bytes_of c.frame made.site) = made.takes in
     let takes : bytes_before (laid p c) j + pushed_bytes d.frame.last ≡ bytes_before (laid p c) (suc j) + passed_bytes d.frame b = omega (arith, bytes, before) in
     let entered : Entered s (laid p d).number (place_in (laid p c) j) t q b = reach_enters s line (laid p d).number (place_in (laid p c) j) q t b reach in
     let inner : Step (laid p d) from w to v = travel s p d from to w v sound second body in

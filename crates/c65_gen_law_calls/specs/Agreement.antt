@@ -1,7 +1,8 @@
 -- When a call and the function that it calls agree (C90 6.3.2.2; docs/MACHINE.md, "Calls"). Where they do not, the call is undefined.
-use Rattle.std.specs.Prelude.{◌≡◌, ℕ, not, Bool, true, false, Option, None, Some, IsTrue, List, [], ◌∷◌, slice_get, if◌then◌else◌}
+use Rattle.std.specs.Prelude.{◌≡◌, ℕ, ◌==◌, ◌&&◌, not, Bool, true, false, Option, None, Some, IsTrue, List, [], ◌∷◌, slice_get, if◌then◌else◌}
 use Rattle.c65_ints.specs.declared.types.IntType.TheVariants.{Int, UInt}
-use Rattle.c65_ctype.specs.Trees.{Ty, void, int, pointer, function, Fn, fn, known, QTys, end, more}
+use Rattle.c65_ctype.specs.Trees.{Ty, void, int, pointer, function, QTy, type_in, Fn, fn, known, QTys, end, more, TypesTy}
+use Rattle.c65_ctype.specs.Sizes.{size_of}
 use Rattle.c65_base.specs.declared.library.Library.{Library}
 use Rattle.c65_base.specs.declared.library.Library.TheVariants as library
 use Rattle.c65_csem.specs.Trees.{Nodes, none, some, Stmt, UnitTy, FuncTy}
@@ -64,18 +65,22 @@ NamesAgree u = (i j k : ℕ) (g h : FuncTy) (body : Stmt) (s : Site)
 
 -- ---- prototypes
 
-abbrev pub alike_types : QTys → QTys → Bool
-alike_types end end = true
-alike_types end (more q qs) = false
-alike_types (more p ps) end = false
-alike_types (more p ps) (more q qs) = if are_alike p q then alike_types ps qs else false
+-- the same down to pointers and tags, and of the same size
+abbrev pub is_like : TypesTy → QTy → QTy → Bool
+is_like types p q = are_alike p q && size_of types (type_in p) == size_of types (type_in q)
 
--- two types of functions with prototypes of the same parameters down to pointers, neither variadic, and of the same convention
-abbrev pub AreAlike : Fn → Fn → Type 0
-AreAlike (fn q (known ps) false c) (fn r (known qs) false d) = IsTrue (alike_types ps qs) × (c ≡ d)
-AreAlike _ _ = ⊥
+abbrev pub alike_types : TypesTy → QTys → QTys → Bool
+alike_types types end end = true
+alike_types types end (more q qs) = false
+alike_types types (more p ps) end = false
+alike_types types (more p ps) (more q qs) = if is_like types p q then alike_types types ps qs else false
+
+-- two types of functions with prototypes of the same parameters down to pointers and tags, neither variadic, and of the same convention
+abbrev pub AreAlike : TypesTy → Fn → Fn → Type 0
+AreAlike types (fn q (known ps) false c) (fn r (known qs) false d) = IsTrue (alike_types types ps qs) × (c ≡ d)
+AreAlike types _ _ = ⊥
 
 -- So a well typed call by such a type always agrees, whether it calls by name or through a pointer.
 abbrev pub PrototypesAgree : Type 0
 PrototypesAgree = (u : UnitTy) (g : FuncTy) (body : Stmt) (s : Site) (t : Fn)
-    → IsBody u g body → IsSite u s → bare s.callee ≡ pointer (plain (function t)) → AreAlike t g.ty → Agrees u s g
+    → IsBody u g body → IsSite u s → bare s.callee ≡ pointer (plain (function t)) → AreAlike u.types t g.ty → Agrees u s g

@@ -24,7 +24,7 @@ pub record IsMade (u : UnitTy) (f : Framed) (body : Stmt) (middle : List Line) (
   pub found : site_at body middle j ≡ Some site
   pub typed : IsSite u site
   pub calls : line ≡ line_of f site
-  pub takes : waiting_at (at_first body) middle j ≡ waiting_at (at_first body) middle (suc j) + bytes_in (bytes_of site)
+  pub takes : waiting_at (at_first f body) middle j ≡ waiting_at (at_first f body) middle (suc j) + bytes_in (bytes_of f site)
 
 -- So it is with each line that calls, of a well typed function between its entry and its end.
 abbrev pub LinesAreOfCalls : Type 0

@@ -12,8 +12,9 @@ use Rattle.c65_code.specs.declared.routine.Routine.{Routine}
 use Rattle.c65_code.specs.declared.routine.Routine.TheVariants as routines
 use Rattle.c65_genframe.specs.Symbols.{numbers_of, function_symbol}
 use Rattle.c65_genframe.specs.Frames.{Framed}
-use Rattle.c65_genexpr.specs.Types.{result_kind, bare}
-use Rattle.c65_genexpr.specs.Arguments.{is_fast, is_counted, passed_of, reads_of, registers_of}
+use Rattle.c65_genframe.specs.Registers.{registers}
+use Rattle.c65_genexpr.specs.Types.{outcome_of, given_bytes, bare}
+use Rattle.c65_genexpr.specs.Arguments.{is_fast, is_counted, passed_of, reads_of}
 use Rattle.c65_genexpr.specs.Calls.{named, library_at}
 use Rattle.c65_gen_law_calls.specs.Sites.{Site, statement_sites}
 
@@ -35,19 +36,19 @@ callings [] = []
 callings (line ∷ lines) = if is_calling line then line ∷ callings lines else callings lines
 
 -- the line by which a typed call calls
-abbrev pub reads_by : Site → RegSet
-reads_by s = reads_of (is_counted (bare s.callee)) (passed_of (is_fast (bare s.callee)) s.args)
+abbrev pub reads_by : Framed → Site → RegSet
+reads_by f s = reads_of (is_counted (bare s.callee)) (passed_of f (is_fast (bare s.callee)) s.args)
 
-abbrev pub gives_by : Site → RegSet
-gives_by s = registers_of (result_kind (type_in s.type))
+abbrev pub gives_by : Framed → Site → RegSet
+gives_by f s = registers (given_bytes (outcome_of f (type_in s.type)))
 
 abbrev pub named_line : Framed → ℕ → Option Library → Site → Line
 named_line f i (Some l) s = Call (callees.Routine (routines.Library l))
-named_line f i None s = Call (callees.Function (function_symbol (numbers_of f.parts) i) (reads_by s) (gives_by s))
+named_line f i None s = Call (callees.Function (function_symbol (numbers_of f.parts) i) (reads_by f s) (gives_by f s))
 
 abbrev pub line_by : Framed → Option ℕ → Site → Line
 line_by f (Some i) s = named_line f i (library_at f i) s
-line_by f None s = Call (callees.Pointer (reads_by s) (gives_by s))
+line_by f None s = Call (callees.Pointer (reads_by f s) (gives_by f s))
 
 abbrev pub line_of : Framed → Site → Line
 line_of f s = line_by f (named s.callee) s

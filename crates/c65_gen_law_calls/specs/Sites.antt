@@ -1,8 +1,10 @@
 -- The calls of a typed body (C90 6.3.2.2), in the order of their lines.
-use Rattle.std.specs.Prelude.{ℕ, Option, Some, None, List, [], ◌∷◌, ◌++◌}
+use Rattle.std.specs.Prelude.{◌≡◌, ℕ, false, Option, Some, None, List, [], ◌∷◌, ◌++◌}
 use Rattle.c65_ctype.specs.Trees.{QTy}
-use Rattle.c65_csem.specs.Trees.{Typed, node, Node, deref, member, load, address, decay, convert, unary, binary, both, either, choice, comma, assign, assign_op, assign_step, step, copy, call, Nodes, none, some, MaybeTyped, absent, present, Stmt, eval, set_part, block, if_stmt, while, do_while, for_loop, switch, case, default, label, return, Stmts, no_stmts, and_stmts, UnitTy}
-use Rattle.c65_csem.specs.Typed.{IsNode}
+use Rattle.c65_csem.specs.Trees.{Typed, node, Node, deref, member, load, address, decay, convert, unary, binary, both, either, choice, comma, assign, assign_op, assign_step, step, copy, call, pack, spill, Nodes, none, some, MaybeTyped, absent, present, Stmt, eval, set_part, block, if_stmt, while, do_while, for_loop, switch, case, default, label, return, Stmts, no_stmts, and_stmts, UnitTy, type_of}
+use Rattle.c65_csem.specs.Places.{is_place}
+use Rattle.c65_csem.specs.Typed.{IsTyped, AreTyped, IsCall, IsResult}
+use Rattle.c65_genframe.specs.Frames.{Framed}
 use Rattle.c65_genexpr.specs.Types.{bare}
 use Rattle.c65_genexpr.specs.Arguments.{is_fast}
 use Rattle.c65_genexpr.specs.Calls.{named}
@@ -17,13 +19,17 @@ pub record Site : Type 0 where
 abbrev pub site_by : QTy → Typed → Nodes → Site
 site_by t g es = record { type = t; callee = g; args = es }
 
--- it is well typed
-abbrev pub IsSite : UnitTy → Site → Type 0
-IsSite u s = IsNode u s.type (call s.callee s.args)
+-- it is well typed, whether it stands alone or an object takes what it gives
+pub record IsSite (u : UnitTy) (s : Site) : Type 0 where
+  pub callee : IsTyped u s.callee
+  pub value : is_place s.callee ≡ false
+  pub made : IsCall u s.type (type_of s.callee) s.args
+  pub result : IsResult u s.type
+  pub args : AreTyped u s.args
 
--- what waits for it when its function is called, the last argument first
-abbrev pub bytes_of : Site → List ℕ
-bytes_of s = passed (is_fast (bare s.callee)) s.args
+-- what waits for it when its function is called, the last argument first, in a function with this frame
+abbrev pub bytes_of : Framed → Site → List ℕ
+bytes_of f s = passed f (is_fast (bare s.callee)) s.args
 
 -- a function that is called by its name is no expression with lines
 abbrev pub unless_named : Option ℕ → List Site → List Site
@@ -53,6 +59,8 @@ abbrev mutual
   node_sites t (step how e) = sites_of e
   node_sites t (copy a b) = sites_of a ++ sites_of b
   node_sites t (call g es) = unless_named (named g) (sites_of g) ++ (args_sites es ++ site_by t g es ∷ [])
+  node_sites t (pack e) = sites_of e
+  node_sites t (spill i e) = sites_of e
   node_sites t _ = []
 
   pub args_sites : Nodes → List Site

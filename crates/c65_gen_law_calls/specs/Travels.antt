@@ -50,7 +50,7 @@ pub record Compiled : Type 0 where
   pub middle : List Line
 
 abbrev pub laid : Program → Compiled → Laid
-laid p c = record { number = (function_symbol (numbers_of p.parts) c.index).0; frame = c.frame; middle = c.middle; first = at_first c.body }
+laid p c = record { number = (function_symbol (numbers_of p.parts) c.index).0; frame = c.frame; middle = c.middle; first = at_first c.frame c.body }
 
 abbrev pub all_lines : Program → Compiled → List Line
 all_lines p c = (with_function c.frame (c.index == p.main) (Some c.body) (no_lines (gives_of p.parts c.func))).lines
@@ -109,7 +109,7 @@ pub data Travels (s : Setting) (p : Program) : Compiled → ℕ → State → �
   calls : {c d : Compiled} {j k m from to : ℕ} {a u v x y : State} (q : Place) (t : State) (line : Line) → IsCompiled s p d → slice_get c.middle j ≡ Some line
       → Reaches s line (laid p d).number (place_in (laid p c) j) a q t
       → ((site : Site) → site_at c.body c.middle j ≡ Some site → Through (named site.callee) (Agrees (unit_of p.parts) site d.func))
-      → ((site : Site) → site_at c.body c.middle j ≡ Some site → d.frame.variadic ≡ true → t.regs.y ≡ bytes_in (bytes_of site))
+      → ((site : Site) → site_at c.body c.middle j ≡ Some site → d.frame.variadic ≡ true → t.regs.y ≡ bytes_in (bytes_of c.frame site))
       → Passes s (entry_code d.frame) q t (place_in (laid p d) from) u
       → Travels s p d from u to v → bytes_before (laid p d) from ≡ bytes_before (laid p d) to → parameter_bytes d.frame v ≡ parameter_bytes d.frame u
       → Passes s (end_code d.frame) (place_in (laid p d) to) v (place_in (laid p c) k) x → Travels s p c k x m y → Travels s p c j a m y

@@ -1,7 +1,9 @@
 -- The lines of an expression: its labels, its size, and the form of each line.
 use Rattle.std.proofs.Common.{◌≡◌, ℕ, ◌+◌, ◌-◌, ◌*◌, ◌≤◌, Bool, true, false, Option, None, Some, List, [], ◌∷◌, ◌++◌, refl, sym, arith}
 use Rattle.c65_base.specs.declared.operators.BinaryOp.{BinaryOp}
+use Rattle.std.specs.Prelude.{nat_lt}
 use Rattle.c65_ints.specs.declared.types.IntType.{IntType}
+use Rattle.c65_ints.specs.declared.types.IntType.TheVariants as ints
 use Rattle.c65_ctype.specs.Trees.{QTy, TypesTy, type_in}
 use Rattle.c65_ctype.specs.Views.{types_of}
 use Rattle.c65_csem.specs.Trees.{Typed, node, Node, constant, null, literal, object, func, deref, member, load, address, decay, convert, unary, binary, both, either, choice, comma, assign, assign_op, assign_step, step, copy, call, pack, spill, rest as further, Nodes, none, some}
@@ -20,24 +22,25 @@ use Rattle.c65_genload.specs.declared.places.Place.TheVariants as places
 use Rattle.c65_genload.specs.declared.places.Access.{Access}
 use Rattle.c65_genload.specs.declared.places.Access.TheVariants.{Whole, Part}
 use Rattle.c65_genload.specs.Words.{branch}
-use Rattle.c65_genload.specs.Places.{held}
-use Rattle.c65_genload.specs.Conversions.{push_code, waiting}
+use Rattle.c65_genload.specs.Places.{held, extent_by}
+use Rattle.c65_genload.specs.Conversions.{push_code, waiting, size_of}
 use Rattle.c65_genload.specs.Loads.{hold_code}
 use Rattle.c65_genload.specs.Stores.{store_code}
+use Rattle.c65_genexpr.specs.declared.types.Outcome.{Outcome}
 use Rattle.c65_genexpr.specs.declared.operands.Operands.{Operands}
 use Rattle.c65_genexpr.specs.declared.operands.Operands.TheVariants.{Numbers, PointerFirst}
-use Rattle.c65_genexpr.specs.Types.{kind_of, result_kind, kind_in, bare, offset_at, bits_at, field_or, access_of, target_bytes}
-use Rattle.c65_genexpr.specs.Places.{more, moved, place_of, IsKnown}
+use Rattle.c65_genexpr.specs.Types.{kind_of, outcome_of, kind_in, bare, offset_at, bits_at, field_or, access_of, target_bytes}
+use Rattle.c65_genexpr.specs.Places.{more, moved, place_of, object_code, IsKnown}
 use Rattle.c65_genexpr.specs.Operands.{residue_of, operands_of, computes, is_short, short_in, short_of, between_code, behind_code, short_code, binary_by}
 use Rattle.c65_genexpr.specs.Steps.{amount_of, open_code, close_code}
-use Rattle.c65_genexpr.specs.Arguments.{is_fast, is_counted, stays, passed_of, argument_bytes}
+use Rattle.c65_genexpr.specs.Arguments.{is_fast, is_counted, stays, passed_size, passed_of, argument_bytes}
 use Rattle.c65_genexpr.specs.Calls.{named}
 use Rattle.c65_genexpr.specs.Uses.{unless_named, uses, node_uses, args_uses}
 use Rattle.c65_genexpr.specs.Code.{target_code, truth_code, behind_open, compound, call_by, expr_code, node_code, args_code}
 use Rattle.c65_gen_law_lines.specs.Bulk.{nodes, nodes_in}
 use Rattle.c65_gen_law_lines.specs.Laws.{ExpressionsOwnTheirLabels, ExpressionsAreSmall, ExpressionsAreFit}
 use Rattle.c65_gen_law_lines.proofs.Made.{Leads, leads_wider, leads_append, leads_plain, leads_to, times-append, size-append, plain_times, among_split, among_one, all_append, Piece, Made, made_piece, made_append, made_behind, made_before, made_wider, made_as, made_none}
-use Rattle.c65_gen_law_lines.proofs.Pieces.{by_access, number_piece, symbol_piece, object_piece, offset_piece, load_piece, conversion_piece, unary_piece, between_piece, behind_piece, short_piece, push_piece, test_piece, hold_piece, store_piece, copy_piece, step_piece, open_piece, close_piece, named_piece, pointer_piece, argument_piece, direct_piece}
+use Rattle.c65_gen_law_lines.proofs.Pieces.{by_access, passing_by, passing, part_piece, spill_piece, further_piece, number_piece, symbol_piece, object_piece, offset_piece, load_piece, conversion_piece, unary_piece, between_piece, behind_piece, short_piece, push_piece, test_piece, hold_piece, store_piece, copy_piece, step_piece, open_piece, close_piece, named_piece, pointer_piece, argument_piece, direct_piece}
 
 -- ---- places that are known
 
@@ -107,12 +110,11 @@ slack_fits (node t n) = omega (arith, some_nodes (node t n))
 abbrev pub room : Typed → ℕ
 room e = 128 * nodes e - (3 + slack e)
 
-passing_few : (n : ℕ) → passing n ≤ 16
-passing_few zero = omega arith
-passing_few (suc zero) = omega arith
-passing_few (suc (suc zero)) = omega arith
-passing_few (suc (suc (suc zero))) = omega arith
-passing_few (suc (suc (suc (suc n)))) = omega arith
+passing_few : (a b c : Bool) → passing_by a b c ≤ 16
+passing_few true b c = omega arith
+passing_few false true c = omega arith
+passing_few false false true = omega arith
+passing_few false false false = omega arith
 
 passing_number : (kind : IntType) → passing (size_of kind) ≤ 3
 passing_number ints.SChar = omega arith
@@ -126,7 +128,9 @@ passing_number ints.ULong = omega arith
 
 -- only the bytes of a structure may be three
 passing_fits : (f : Framed) (e : Typed) → passing (passed_size f e) ≤ 3 + slack e
-passing_fits f (node t (pack e)) = passing_few (passed_size f (node t (pack e)))
+passing_fits f (node t (pack e)) =
+    let n : ℕ = passed_size f (node t (pack e)) in
+    omega (arith, passing_few (nat_lt n 2) (nat_lt n 3) (nat_lt n 4))
 passing_fits f (node t n) = omega (arith, passing_number (kind_of (type_in t)))
 
 field_fits : (whole part : ℕ) (kind : IntType) (bits : Option (ℕ × ℕ)) → whole ≤ part → by_access whole part (field_or kind bits) ≤ part
@@ -229,16 +233,16 @@ compound_made f pushed op operands a b lo m j k left right ma mb =
     (made_behind (lo + uses a) m k (by_access 41 108 access) right (close_code op operands (kind_in b) place access) mb (close_piece op operands (kind_in b) place access))))
     (omega (arith, open_and_close access, access_fits 69 153 (types_of f.parts.types) a (omega arith) (omega arith)))
 
-call_made : (f : Framed) (n : Option ℕ) (kind : Option IntType) (g : Typed) (es : Nodes) (lo u j k : ℕ) (callee args above : List Line) → Made lo u j callee → Made lo (args_uses es) k args → Made (lo + u) (args_uses es) k above → Made lo (unless_named n u + args_uses es) (j + k + 63) (call_by f n kind g es callee args above)
-call_made f (Some i) kind g es lo u j k callee args above mc ma mb =
+call_made : (f : Framed) (n : Option ℕ) (given : Outcome) (g : Typed) (es : Nodes) (lo u j k : ℕ) (callee args above : List Line) → Made lo u j callee → Made lo (args_uses es) k args → Made (lo + u) (args_uses es) k above → Made lo (unless_named n u + args_uses es) (j + k + 63) (call_by f n given g es callee args above)
+call_made f (Some i) given g es lo u j k callee args above mc ma mb =
     let m : ℕ = args_uses es in
-    made_as lo m (0 + m) (j + k + 63) _ (omega arith) (made_wider lo m (k + 63) (j + k + 63) _ (made_behind lo m k 63 args _ ma (named_piece f i (is_counted (bare g)) (passed_of f (is_fast (bare g)) es) kind)) (omega arith))
-call_made f None kind g none lo u j k callee args above mc ma mb =
-    made_as lo u (u + 0) (j + k + 63) _ (omega arith) (made_wider lo u (j + 12) (j + k + 63) _ (made_behind lo u j 12 callee _ mc (direct_piece (is_counted (bare g)) (passed_of f (is_fast (bare g)) none) kind)) (omega arith))
-call_made f None kind g (some e more_args) lo u j k callee args above mc ma mb =
+    made_as lo m (0 + m) (j + k + 63) _ (omega arith) (made_wider lo m (k + 63) (j + k + 63) _ (made_behind lo m k 63 args _ ma (named_piece f i (is_counted (bare g)) (passed_of f (is_fast (bare g)) es) given)) (omega arith))
+call_made f None given g none lo u j k callee args above mc ma mb =
+    made_as lo u (u + 0) (j + k + 63) _ (omega arith) (made_wider lo u (j + 12) (j + k + 63) _ (made_behind lo u j 12 callee _ mc (direct_piece (is_counted (bare g)) (passed_of f (is_fast (bare g)) none) given)) (omega arith))
+call_made f None given g (some e more_args) lo u j k callee args above mc ma mb =
     let es : Nodes = some e more_args in
     let m : ℕ = args_uses es in
-    made_wider lo (u + m) (j + (3 + (k + 26))) (j + k + 63) _ (made_append lo u m j (3 + (k + 26)) callee _ mc (made_before (lo + u) m 3 (k + 26) (push_code Ax) _ (push_piece Ax) (made_behind (lo + u) m k 26 above _ mb (pointer_piece (is_counted (bare g)) (passed_of f (is_fast (bare g)) es) kind)))) (omega arith)
+    made_wider lo (u + m) (j + (3 + (k + 26))) (j + k + 63) _ (made_append lo u m j (3 + (k + 26)) callee _ mc (made_before (lo + u) m 3 (k + 26) (push_code Ax) _ (push_piece Ax) (made_behind (lo + u) m k 26 above _ mb (pointer_piece (is_counted (bare g)) (passed_of f (is_fast (bare g)) es) given)))) (omega arith)
 
 -- ---- the whole tree
 
@@ -291,14 +295,13 @@ mutual
   node_made f pushed lo t (copy a b) =
       made_wider lo (uses a + uses b) (room a + (3 + (room b + 13))) _ _ (made_append lo (uses a) (uses b) (room a) (3 + (room b + 13)) _ _ (expr_made f pushed lo a) (made_before (lo + uses a) (uses b) 3 (room b + 13) _ _ (push_piece Ax) (made_behind (lo + uses a) (uses b) (room b) 13 _ _ (expr_made f (more pushed 2) (lo + uses a) b) (copy_piece (type_bytes f (type_in t)))))) (omega (arith, some_nodes a, some_nodes b))
   node_made f pushed lo t (call g es) =
-      made_wider lo (unless_named (named g) (uses g) + args_uses es) (room g + 128 * nodes_in es + 63) _ _ (call_made f (named g) (result_kind (type_in t)) g es lo (uses g) (room g) (128 * nodes_in es) _ _ _ (expr_made f pushed lo g) (args_made f pushed lo (is_fast (bare g)) es) (args_made f (more pushed 2) (lo + uses g) (is_fast (bare g)) es)) (omega (arith, some_nodes g))
-
+      made_wider lo (unless_named (named g) (uses g) + args_uses es) (room g + 128 * nodes_in es + 63) _ _ (call_made f (named g) (outcome_of f (type_in t)) g es lo (uses g) (room g) (128 * nodes_in es) _ _ _ (expr_made f pushed lo g) (args_made f pushed lo (is_fast (bare g)) es) (args_made f (more pushed 2) (lo + uses g) (is_fast (bare g)) es)) (omega (arith, some_nodes g))
   node_made f pushed lo t (pack e) =
       let place : Place = place_of f pushed e in
       made_wider lo (uses e) (room e + 17) _ _ (made_behind lo (uses e) (room e) 17 _ _ (target_made lo (uses e) (room e) place _ (known_uses f pushed e) (expr_made f pushed lo e)) (part_piece place (extent_by (type_bytes f (type_in t))))) (omega (arith, some_nodes e))
   node_made f pushed lo t (spill i e) =
       made_wider lo (uses e) (room e + 67) _ _ (made_behind lo (uses e) (room e) 67 _ _ (expr_made f pushed lo e) (spill_piece (object_code f pushed i) (extent_by (type_bytes f (type_in t))) (object_piece f pushed i))) (omega (arith, some_nodes e))
-  node_made f pushed lo t further = leaf lo 34 (node t further) _ (omega arith) refl (raised_piece pushed (rest_offset f pushed))
+  node_made f pushed lo t further = leaf lo 34 (node t further) _ (omega arith) refl (further_piece f pushed)
 
   args_made : (f : Framed) (pushed lo : ℕ) (fast : Bool) (es : Nodes) → Made lo (args_uses es) (128 * nodes_in es) (args_code f pushed lo fast es)
   args_made f pushed lo fast none = made_none lo 0

@@ -29,7 +29,7 @@ use Rattle.c65_genstmt.specs.declared.objects.Spot.TheVariants.{Bank, Soft, Data
 use Rattle.c65_genstmt.specs.Objects.{point_code, stored_code}
 use Rattle.c65_gen_law_lines.specs.Labels.{times, among}
 use Rattle.c65_gen_law_lines.proofs.Made.{is_plain, times-append, plain_times, among_split, among_none, among_one, Leads, leads_wider, leads_append, leads_plain, leads_to, all_append, Piece, Made}
-use Rattle.c65_gen_law_lines.proofs.Pieces.{store_piece}
+use Rattle.c65_gen_law_lines.proofs.Pieces.{pass_piece, store_piece}
 
 pub record Flat (lines : List Line) : Type 0 where
   pub plain : list_all is_plain lines ≡ true
@@ -107,7 +107,7 @@ lower_flat n = flat_append (repeated (n / 255) (small_lower 255)) (small_lower (
 
 pushed_flat : (a : Arrival) → Flat (pushed_code a)
 pushed_flat Passed = flat_none
-pushed_flat (Pushed bytes) = record { plain = refl; fit = refl }
+pushed_flat (Pushed bytes) = flat_piece _ _ (pass_piece bytes)
 pushed_flat (Kept bank bytes) = flat_none
 
 bank_store_flat : (bank bytes : ℕ) → Flat (bank_store bank bytes)

@@ -1,6 +1,6 @@
 -- The pieces of which lines are made: each with its greatest size.
 use Rattle.std.proofs.Common.{ℕ, ◌+◌, ◌-◌, ◌%◌, ◌≤◌, ◌==◌, Bool, true, false, Option, None, Some, List, [], ◌∷◌, ◌++◌, refl, arith}
-use Rattle.std.specs.Prelude.{min}
+use Rattle.std.specs.Prelude.{min, if◌then◌else◌, nat_lt}
 use Rattle.c65_base.specs.declared.operators.UnaryOp.{UnaryOp}
 use Rattle.c65_base.specs.declared.operators.UnaryOp.TheVariants as unary
 use Rattle.c65_base.specs.declared.operators.BinaryOp.{BinaryOp}
@@ -16,7 +16,7 @@ use Rattle.c65_code.specs.declared.line.Line.{Line}
 use Rattle.c65_code.specs.declared.line.Line.TheVariants.{Call}
 use Rattle.c65_code.specs.declared.line.Callee.TheVariants.{Function, Pointer}
 use Rattle.c65_code.specs.declared.routine.Count.TheVariants.{Two as two_bytes}
-use Rattle.c65_code.specs.declared.routine.Routine.TheVariants.{PushAx, LdAi, Tos, Unary, IncSp, Library as library_routine}
+use Rattle.c65_code.specs.declared.routine.Routine.TheVariants.{PushA, PushAx, PushEax, LdAi, Tos, Unary, IncSp, Library as library_routine}
 use Rattle.c65_code.specs.declared.routine.UnaryRoutine.TheVariants.{Shl1}
 use Rattle.c65_code.specs.declared.routine.TosOp.{TosOp}
 use Rattle.c65_code.specs.declared.routine.TosOp.TheVariants as tos
@@ -24,9 +24,11 @@ use Rattle.c65_code.specs.declared.routine.Width.{Width}
 use Rattle.c65_code.specs.declared.routine.Width.TheVariants.{Ax, Eax}
 use Rattle.c65_genframe.specs.declared.home.Home.{Home}
 use Rattle.c65_genframe.specs.declared.home.Home.TheVariants as homes
-use Rattle.c65_genframe.specs.Frames.{Framed, home_of, is_raised}
+use Rattle.c65_genframe.specs.Registers.{registers}
+use Rattle.c65_genframe.specs.Frames.{Framed, home_of, is_raised, saved_bytes}
 use Rattle.c65_genframe.specs.Symbols.{numbers_of, object_symbol, function_symbol}
 use Rattle.c65_genwide.specs.Lines.{call}
+use Rattle.c65_genwide.specs.Passing.{three_code, pass_bytes}
 use Rattle.c65_genwide.specs.Wide.{width_of, narrow_code, wide_code, tos_of, is_comparison}
 use Rattle.c65_genload.specs.declared.places.Extent.{Extent}
 use Rattle.c65_genload.specs.declared.places.Extent.TheVariants.{One, Two, Three, Four}
@@ -37,7 +39,7 @@ use Rattle.c65_genload.specs.declared.places.Access.{Access}
 use Rattle.c65_genload.specs.declared.places.Access.TheVariants.{Whole, Part}
 use Rattle.c65_genload.specs.Places.{type_in, byte_more, extent_of}
 use Rattle.c65_genload.specs.Numbers.{number_code, add_word_code, add_by_width, add_code, mask_code, by_code, shift_code, scale_code, is_divisor, divide_code}
-use Rattle.c65_genload.specs.Conversions.{widen_code, convert_code, convert_to, push_code, pass_bytes, test_code}
+use Rattle.c65_genload.specs.Conversions.{widen_code, convert_code, convert_to, push_code, test_code}
 use Rattle.c65_genload.specs.Addresses.{symbol_code, address_code, above_code, raised_code, offset_code}
 use Rattle.c65_genload.specs.Fields.{ones, others, extract_code, aligned_code}
 use Rattle.c65_genload.specs.Loads.{hold_code, bytes_code, load_code}
@@ -45,10 +47,14 @@ use Rattle.c65_genload.specs.Stores.{bytes_store, after_store, under_code, field
 use Rattle.c65_genexpr.specs.declared.operands.Operands.{Operands}
 use Rattle.c65_genexpr.specs.declared.operands.Operands.TheVariants.{Numbers, PointerFirst, PointerLast, Pointers}
 use Rattle.c65_genexpr.specs.declared.arguments.Passed.{Passed}
-use Rattle.c65_genexpr.specs.Places.{more, soft_code, code_at, object_code}
+use Rattle.c65_genexpr.specs.Places.{more, soft_code, code_at, object_code, rest_code}
 use Rattle.c65_genexpr.specs.Operands.{computes, between_code, difference_code, behind_code, unary_code, conversion_code, negative, scaled, short_code}
 use Rattle.c65_genexpr.specs.Steps.{is_post, back_code, after_code, step_code, open_code, close_code}
-use Rattle.c65_genexpr.specs.Arguments.{reads_of, registers_of, argument_code}
+use Rattle.c65_genexpr.specs.declared.types.Outcome.{Outcome}
+use Rattle.c65_genexpr.specs.declared.types.Outcome.TheVariants.{Nothing, Number, Area}
+use Rattle.c65_genexpr.specs.Types.{given_bytes}
+use Rattle.c65_genexpr.specs.Spills.{kept_code, first_code, further_code, again_code, spill_code}
+use Rattle.c65_genexpr.specs.Arguments.{reads_of, argument_code}
 use Rattle.c65_genexpr.specs.Calls.{count_code, fetch_code, result_code, library_at, named_by, named_code, pointer_code, direct_code, ptr4_code}
 use Rattle.c65_gen_law_lines.proofs.Made.{Piece, piece_append, piece_wider, piece_if, piece_none}
 
@@ -128,6 +134,9 @@ home_piece f pushed i (Some (homes.Soft d)) = soft_piece (is_raised f i) pushed 
 pub object_piece : (f : Framed) (pushed i : ℕ) → Piece 34 (object_code f pushed i)
 object_piece f pushed i = home_piece f pushed i (home_of f i)
 
+pub further_piece : (f : Framed) (pushed : ℕ) → Piece 34 (rest_code f pushed)
+further_piece f pushed = raised_piece pushed ((pushed + f.soft + saved_bytes f.bank + 65536 - f.stacked) % 65536)
+
 -- ---- conversions
 
 widen_piece : (kind : IntType) → Piece 3 (widen_code kind)
@@ -159,17 +168,21 @@ pub push_piece : (w : Width) → Piece 3 (push_code w)
 push_piece Ax = record { plain = refl; fit = refl; size = omega arith }
 push_piece Eax = record { plain = refl; fit = refl; size = omega arith }
 
--- the lines that push a value of so many bytes: three bytes have no routine
-abbrev pub passing : ℕ → ℕ
-passing (suc (suc (suc zero))) = 16
-passing _ = 3
+-- the lines that push a value of so many bytes: for three there is no routine
+abbrev pub passing_by : Bool → Bool → Bool → ℕ
+passing_by below_two below_three below_four = if below_two then 3 else (if below_three then 3 else (if below_four then 16 else 3))
 
-pass_piece : (n : ℕ) → Piece (passing n) (pass_bytes n)
-pass_piece zero = record { plain = refl; fit = refl; size = omega arith }
-pass_piece (suc zero) = record { plain = refl; fit = refl; size = omega arith }
-pass_piece (suc (suc zero)) = record { plain = refl; fit = refl; size = omega arith }
-pass_piece (suc (suc (suc zero))) = record { plain = refl; fit = refl; size = omega arith }
-pass_piece (suc (suc (suc (suc n)))) = record { plain = refl; fit = refl; size = omega arith }
+abbrev pub passing : ℕ → ℕ
+passing n = passing_by (nat_lt n 2) (nat_lt n 3) (nat_lt n 4)
+
+pass_piece_by : (a b c : Bool) → Piece (passing_by a b c) (if a then call PushA ∷ [] else (if b then call PushAx ∷ [] else (if c then three_code else call PushEax ∷ [])))
+pass_piece_by true b c = record { plain = refl; fit = refl; size = omega arith }
+pass_piece_by false true c = record { plain = refl; fit = refl; size = omega arith }
+pass_piece_by false false true = record { plain = refl; fit = refl; size = omega arith }
+pass_piece_by false false false = record { plain = refl; fit = refl; size = omega arith }
+
+pub pass_piece : (n : ℕ) → Piece (passing n) (pass_bytes n)
+pass_piece n = pass_piece_by (nat_lt n 2) (nat_lt n 3) (nat_lt n 4)
 
 pub argument_piece : (kept : Bool) (n : ℕ) → Piece (passing n) (argument_code kept n)
 argument_piece kept n = piece_if (passing n) kept [] (pass_bytes n) (piece_none (passing n)) (pass_piece n)
@@ -369,38 +382,54 @@ pub close_piece : (op : BinaryOp) (operands : Operands) (right : IntType) (place
 close_piece op operands right place access =
     piece_wider _ _ _ (piece_append 19 _ _ _ (behind_piece op operands right) (piece_append 3 _ _ _ (convert_piece (computes operands) (type_in access)) (store_piece place access))) (close_sizes access)
 
+-- ---- structures that calls give
+
+further_bytes_piece : (e : Extent) → Piece 15 (further_code e)
+further_bytes_piece One = piece_none 15
+further_bytes_piece Two = record { plain = refl; fit = refl; size = omega arith }
+further_bytes_piece Three = record { plain = refl; fit = refl; size = omega arith }
+further_bytes_piece Four = record { plain = refl; fit = refl; size = omega arith }
+
+pub spill_piece : (address : List Line) (e : Extent) → Piece 34 address → Piece 67 (spill_code address e)
+spill_piece address e p =
+    let kept : Piece 4 kept_code = record { plain = refl; fit = refl; size = omega arith } in
+    let first : Piece 10 first_code = record { plain = refl; fit = refl; size = omega arith } in
+    let again : Piece 4 again_code = record { plain = refl; fit = refl; size = omega arith } in
+    piece_append 4 63 kept_code _ kept (piece_append 34 29 address _ p (piece_append 10 19 first_code _ first (piece_append 15 4 (further_code e) again_code (further_bytes_piece e) again)))
+
 -- ---- calls
 
 count_piece : (counted : Bool) (p : Passed) → Piece 2 (count_code counted p)
 count_piece true p = record { plain = refl; fit = refl; size = omega arith }
 count_piece false p = piece_none 2
 
-result_piece : (kind : Option IntType) → Piece 3 (result_code kind)
-result_piece None = piece_none 3
-result_piece (Some kind) = narrow_piece kind
+result_piece : (given : Outcome) → Piece 3 (result_code given)
+result_piece Nothing = piece_none 3
+result_piece (Number kind) = narrow_piece kind
+result_piece (Area bytes) = piece_none 3
 
-named_by_piece : (f : Framed) (i : ℕ) (l : Option Library) (counted : Bool) (p : Passed) (kind : Option IntType) → Piece 63 (named_by f i l counted p kind)
-named_by_piece f i (Some l) counted p kind =
+named_by_piece : (f : Framed) (i : ℕ) (l : Option Library) (counted : Bool) (p : Passed) (given : Outcome) → Piece 63 (named_by f i l counted p given)
+named_by_piece f i (Some l) counted p given =
     let one : Piece 60 (call (library_routine l) ∷ []) = record { plain = refl; fit = refl; size = omega arith } in
-    piece_append 60 3 (call (library_routine l) ∷ []) _ one (result_piece kind)
-named_by_piece f i None counted p kind =
-    let one : Piece 3 (Call (Function (function_symbol (numbers_of f.parts) i) (reads_of counted p) (registers_of kind)) ∷ []) = record { plain = refl; fit = refl; size = omega arith } in
-    piece_wider 8 63 _ (piece_append 2 6 (count_code counted p) _ (count_piece counted p) (one_call 3 (Call (Function (function_symbol (numbers_of f.parts) i) (reads_of counted p) (registers_of kind))) _ one (result_piece kind))) (omega arith)
+    piece_append 60 3 (call (library_routine l) ∷ []) _ one (result_piece given)
+named_by_piece f i None counted p given =
+    let one : Piece 3 (Call (Function (function_symbol (numbers_of f.parts) i) (reads_of counted p) (registers (given_bytes given))) ∷ []) = record { plain = refl; fit = refl; size = omega arith } in
+    piece_wider 8 63 _ (piece_append 2 6 (count_code counted p) _ (count_piece counted p) (one_call 3 (Call (Function (function_symbol (numbers_of f.parts) i) (reads_of counted p) (registers (given_bytes given)))) _ one (result_piece given))) (omega arith)
 
-pub named_piece : (f : Framed) (i : ℕ) (counted : Bool) (p : Passed) (kind : Option IntType) → Piece 63 (named_code f i counted p kind)
-named_piece f i counted p kind = named_by_piece f i (library_at f i) counted p kind
+pub named_piece : (f : Framed) (i : ℕ) (counted : Bool) (p : Passed) (given : Outcome) → Piece 63 (named_code f i counted p given)
+named_piece f i counted p given = named_by_piece f i (library_at f i) counted p given
 
 fetch_piece : (p : Passed) → Piece 15 (fetch_code p)
 fetch_piece p = record { plain = refl; fit = refl; size = omega arith }
 
-pub direct_piece : (counted : Bool) (p : Passed) (kind : Option IntType) → Piece 12 (direct_code counted p kind)
-direct_piece counted p kind =
+pub direct_piece : (counted : Bool) (p : Passed) (given : Outcome) → Piece 12 (direct_code counted p given)
+direct_piece counted p given =
     let stored : Piece 4 ptr4_code = record { plain = refl; fit = refl; size = omega arith } in
-    let one : Piece 3 (Call (Pointer (reads_of counted p) (registers_of kind)) ∷ []) = record { plain = refl; fit = refl; size = omega arith } in
-    piece_append 4 8 ptr4_code _ stored (piece_append 2 6 (count_code counted p) _ (count_piece counted p) (one_call 3 (Call (Pointer (reads_of counted p) (registers_of kind))) _ one (result_piece kind)))
+    let one : Piece 3 (Call (Pointer (reads_of counted p) (registers (given_bytes given))) ∷ []) = record { plain = refl; fit = refl; size = omega arith } in
+    piece_append 4 8 ptr4_code _ stored (piece_append 2 6 (count_code counted p) _ (count_piece counted p) (one_call 3 (Call (Pointer (reads_of counted p) (registers (given_bytes given)))) _ one (result_piece given)))
 
-pub pointer_piece : (counted : Bool) (p : Passed) (kind : Option IntType) → Piece 26 (pointer_code counted p kind)
-pointer_piece counted p kind =
-    let one : Piece 3 (Call (Pointer (reads_of counted p) (registers_of kind)) ∷ []) = record { plain = refl; fit = refl; size = omega arith } in
+pub pointer_piece : (counted : Bool) (p : Passed) (given : Outcome) → Piece 26 (pointer_code counted p given)
+pointer_piece counted p given =
+    let one : Piece 3 (Call (Pointer (reads_of counted p) (registers (given_bytes given))) ∷ []) = record { plain = refl; fit = refl; size = omega arith } in
     let two : Piece 3 (call (IncSp two_bytes) ∷ []) = record { plain = refl; fit = refl; size = omega arith } in
-    piece_append 15 11 (fetch_code p) _ (fetch_piece p) (piece_append 2 9 (count_code counted p) _ (count_piece counted p) (one_call 6 (Call (Pointer (reads_of counted p) (registers_of kind))) _ one (one_call 3 (call (IncSp two_bytes)) _ two (result_piece kind))))
+    piece_append 15 11 (fetch_code p) _ (fetch_piece p) (piece_append 2 9 (count_code counted p) _ (count_piece counted p) (one_call 6 (Call (Pointer (reads_of counted p) (registers (given_bytes given)))) _ one (one_call 3 (call (IncSp two_bytes)) _ two (result_piece given))))

@@ -15,6 +15,7 @@ use Rattle.c65_genframe.specs.declared.home.Moved.{Moved}
 use Rattle.c65_genframe.specs.Frames.{Framed}
 use Rattle.c65_ints.specs.declared.types.IntType.{IntType}
 use Rattle.c65_genwide.specs.Lines.{value, call}
+use Rattle.c65_genwide.specs.Passing.{three_code, pass_bytes}
 use Rattle.c65_genentry.specs.Words.{sp, tmp1, tmp2, ptr1, ptr2, regbank, implied, zero_page, by_y, branch}
 use Rattle.c65_genentry.specs.Stack.{count_of, raise_by, lower_by, small_raise, small_lower, repeated, raise_code, lower_code}
 use Rattle.c65_genentry.specs.Ends.{restored_code, plain_end, variadic_end, end_code}
@@ -80,14 +81,17 @@ lower_size n le = takes_wider (takes_append (repeated_size (n / 255) (small_lowe
 
 -- ---- entry and end
 
-push_size : (b c : Bool) → Takes 3 (call (if b then PushA else (if c then PushAx else PushEax)) ∷ [])
-push_size true c = record { size = omega arith }
-push_size false true = record { size = omega arith }
-push_size false false = record { size = omega arith }
+push_size : (bytes : ℕ) → Takes 16 (pass_bytes bytes)
+push_size bytes =
+    let one : Takes 16 (call PushA ∷ []) = record { size = omega arith } in
+    let two : Takes 16 (call PushAx ∷ []) = record { size = omega arith } in
+    let three : Takes 16 three_code = record { size = omega arith } in
+    let four : Takes 16 (call PushEax ∷ []) = record { size = omega arith } in
+    takes_if (nat_lt bytes 2) one (takes_if (nat_lt bytes 3) two (takes_if (nat_lt bytes 4) three four))
 
-pushed_size : (a : Arrival) → Takes 3 (pushed_code a)
+pushed_size : (a : Arrival) → Takes 16 (pushed_code a)
 pushed_size Passed = takes_none
-pushed_size (Pushed bytes) = push_size (nat_lt bytes 2) (nat_lt bytes 3)
+pushed_size (Pushed bytes) = push_size bytes
 pushed_size (Kept bank bytes) = takes_none
 
 bank_store_size : (bank bytes : ℕ) → Takes 4 (bank_store bank bytes)
@@ -128,7 +132,7 @@ checked_size : (check : Option ℕ) → Takes 15 (checked_code check)
 checked_size None = record { size = omega arith }
 checked_size (Some c) = record { size = omega arith }
 
-taking_size : (f : Framed) → f.soft ≤ 1025 → Takes (39 + 19 * length f.moved) (taking_code f)
+taking_size : (f : Framed) → f.soft ≤ 1025 → Takes (52 + 19 * length f.moved) (taking_code f)
 taking_size f le =
     let tya : Takes 1 (implied Tya ∷ []) = record { size = omega arith } in
     let save : Takes 3 (call SaveRegs ∷ []) = record { size = omega arith } in
@@ -136,7 +140,7 @@ taking_size f le =
     takes_wider (takes_append (pushed_size f.last) (takes_append (takes_if f.variadic tya takes_none) (takes_append (takes_if (nat_lt 0 f.bank) save takes_none) (takes_append (kept_size f.last)
     (takes_append (lower_size (taken_bytes f.variadic f.soft) (taken_few f.variadic f.soft le)) (takes_append (takes_if f.variadic push takes_none) (moved_size f.moved))))))) (omega arith)
 
-pub entry_size : (f : Framed) → f.soft ≤ 1025 → Takes (54 + 19 * length f.moved) (entry_code f)
+pub entry_size : (f : Framed) → f.soft ≤ 1025 → Takes (67 + 19 * length f.moved) (entry_code f)
 entry_size f le = takes_wider (takes_append (checked_size f.check) (taking_size f le)) (omega arith)
 
 restored_size : (bank : ℕ) → Takes 3 (restored_code bank)

@@ -7,7 +7,7 @@ use Rattle.c65_ints.specs.declared.types.IntType.{IntType}
 use Rattle.c65_ctype.specs.Trees.{QTy, type_in}
 use Rattle.c65_ctype.specs.Views.{types_of}
 use Rattle.c65_base.specs.declared.library.Library.{Library}
-use Rattle.c65_csem.specs.Trees.{Typed, node, Node, constant, null, literal, object, func, deref, member, load, address, decay, convert, unary, binary, both, either, choice, comma, assign, assign_op, assign_step, step, copy, call, Nodes, none, some}
+use Rattle.c65_csem.specs.Trees.{Typed, node, Node, constant, null, literal, object, func, deref, member, load, address, decay, convert, unary, binary, both, either, choice, comma, assign, assign_op, assign_step, step, copy, call, pack, spill, rest as further, Nodes, none, some}
 use Rattle.c65_mach.specs.declared.rows.Op.TheVariants.{Beq, Bne, Jmp}
 use Rattle.c65_mach.specs.declared.rows.Mode.TheVariants.{Absolute}
 use Rattle.c65_code.specs.declared.line.Operand.TheVariants.{To}
@@ -19,21 +19,24 @@ use Rattle.c65_code.specs.declared.routine.Routine.TheVariants.{IncSp, Library a
 use Rattle.c65_code.specs.declared.routine.Width.TheVariants.{Ax}
 use Rattle.c65_genframe.specs.Symbols.{numbers_of, function_symbol}
 use Rattle.c65_genframe.specs.Frames.{Framed, type_bytes}
+use Rattle.c65_genframe.specs.Registers.{registers}
 use Rattle.c65_genwide.specs.Wide.{width_of}
 use Rattle.c65_genload.specs.declared.places.Place.{Place}
 use Rattle.c65_genload.specs.declared.places.Place.TheVariants as places
 use Rattle.c65_genload.specs.declared.places.Access.{Access}
 use Rattle.c65_genload.specs.Words.{branch}
-use Rattle.c65_genload.specs.Places.{held}
+use Rattle.c65_genload.specs.Places.{held, extent_by}
 use Rattle.c65_genload.specs.Conversions.{waiting}
 use Rattle.c65_genexpr.specs.declared.operands.Operands.{Operands}
 use Rattle.c65_genexpr.specs.declared.operands.Operands.TheVariants.{Numbers, PointerFirst}
 use Rattle.c65_genexpr.specs.declared.arguments.Passed.{Passed}
-use Rattle.c65_genexpr.specs.Types.{kind_of, result_kind, kind_in, bare, offset_at, access_of, target_bytes}
-use Rattle.c65_genexpr.specs.Places.{more, place_of, IsKnown}
+use Rattle.c65_genexpr.specs.declared.types.Outcome.{Outcome}
+use Rattle.c65_genexpr.specs.declared.types.Outcome.TheVariants.{Nothing, Number, Area}
+use Rattle.c65_genexpr.specs.Types.{kind_of, outcome_of, given_bytes, kind_in, bare, offset_at, access_of, target_bytes}
+use Rattle.c65_genexpr.specs.Places.{more, place_of, object_code, IsKnown}
 use Rattle.c65_genexpr.specs.Operands.{residue_of, operands_of, computes, is_short, short_of, binary_by}
 use Rattle.c65_genexpr.specs.Steps.{amount_of}
-use Rattle.c65_genexpr.specs.Arguments.{is_fast, is_counted, stays, passed_of, argument_code, reads_of, registers_of}
+use Rattle.c65_genexpr.specs.Arguments.{is_fast, is_counted, stays, passed_size, passed_of, reads_of}
 use Rattle.c65_genexpr.specs.Arguments as arguments
 use Rattle.c65_genexpr.specs.Calls.{named, count_code, fetch_code, result_code, library_at, named_by, pointer_code, direct_code, ptr4_code}
 use Rattle.c65_genexpr.specs.Uses.{uses}
@@ -41,7 +44,7 @@ use Rattle.c65_genexpr.specs.Code.{target_code, behind_open, compound, call_by, 
 use Rattle.c65_gen_law_lines.specs.Stack.{bytes_in, Waiting, waiting_by, taken, left, waits, argument_bytes, passed, unless_named, calls_of, node_calls, args_calls}
 use Rattle.c65_gen_law_lines.specs.Laws.{ExpressionsKeepTheStack, CallsAreCounted}
 use Rattle.c65_gen_law_lines.proofs.ExprLaws.{moved_known, no_short}
-use Rattle.c65_gen_law_lines.proofs.StackPieces.{waits_append, Leaves, leaves_then, leaves_none, Still, narrow_still, number_still, object_still, offset_still, conversion_still, push_leaves, argument_leaves, test_still, holding, hold_leaves, load_still, stored_leaves, copy_leaves, unary_still, between_leaves, behind_leaves, short_still, step_still, open_leaves, close_leaves}
+use Rattle.c65_gen_law_lines.proofs.StackPieces.{waits_append, Leaves, leaves_then, leaves_none, Still, narrow_still, number_still, object_still, further_still, offset_still, conversion_still, push_leaves, argument_leaves, test_still, holding, hold_leaves, bytes_still, load_still, stored_leaves, copy_leaves, spill_still, unary_still, between_leaves, behind_leaves, short_still, step_still, open_leaves, close_leaves}
 
 -- lines lead from some values that wait to others by these calls
 record Does (cs : List (List ℕ)) (v : List ℕ) (a : List Line) (u : List ℕ) : Type 0 where
@@ -92,9 +95,9 @@ target_does (places.Bank b) h d = does_as (sym (h tt)) does_none
 target_does (places.Near at) h d = does_as (sym (h tt)) does_none
 target_does (places.Data s at) h d = does_as (sym (h tt)) does_none
 
-short_calls : (op : BinaryOp) (operands : Operands) (e : Typed) (n : ℕ) → short_of op operands e ≡ Some n → calls_of f e ≡ []
-short_calls op operands (node t (constant z)) n h = refl
-short_calls op operands (node t _) n h = absurd (no_short (is_short op operands) n h)
+short_calls : (f : Framed) (op : BinaryOp) (operands : Operands) (e : Typed) (n : ℕ) → short_of op operands e ≡ Some n → calls_of f e ≡ []
+short_calls f op operands (node t (constant z)) n h = refl
+short_calls f op operands (node t _) n h = absurd (no_short (is_short op operands) n h)
 
 binary_does : {cs ds : List (List ℕ)} {v : List ℕ} {a b : List Line} (op : BinaryOp) (operands : Operands) (right : IntType) (s : Option ℕ) → ((c : ℕ) → s ≡ Some c → ds ≡ []) → Does cs v a v → Does ds (waiting (width_of (computes operands)) ∷ v) b (waiting (width_of (computes operands)) ∷ v) → Does (cs ++ ds) v (binary_by op operands s right a b) v
 binary_does {v = v} op operands right None drops da db = does_then da (does_before (between_leaves operands v) (does_behind db (behind_leaves op operands right v)))
@@ -118,42 +121,43 @@ count_still : (counted : Bool) (p : Passed) → Still (count_code counted p)
 count_still true p v = record { to = λ calls. refl }
 count_still false p v = leaves_none
 
-result_still : (kind : Option IntType) → Still (result_code kind)
-result_still None v = leaves_none
-result_still (Some kind) v = narrow_still kind v
+result_still : (given : Outcome) → Still (result_code given)
+result_still Nothing v = leaves_none
+result_still (Number kind) v = narrow_still kind v
+result_still (Area bytes) v = leaves_none
 
-named_does : (f : Framed) (i : ℕ) (l : Option Library) (counted : Bool) (p : Passed) (kind : Option IntType) (ns v : List ℕ) → Does (ns ∷ []) (ns ++ v) (named_by f i l counted p kind) v
-named_does f i None counted p kind ns v =
-    let line : Line = Call (Function (function_symbol (numbers_of f.parts) i) (reads_of counted p) (registers_of kind)) in
+named_does : (f : Framed) (i : ℕ) (l : Option Library) (counted : Bool) (p : Passed) (given : Outcome) (ns v : List ℕ) → Does (ns ∷ []) (ns ++ v) (named_by f i l counted p given) v
+named_does f i None counted p given ns v =
+    let line : Line = Call (Function (function_symbol (numbers_of f.parts) i) (reads_of counted p) (registers (given_bytes given))) in
     let one : Does (ns ∷ []) (ns ++ v) (line ∷ []) v = record { to = λ rest. ap (left rest) (taken_all ns v) } in
-    does_before (count_still counted p (ns ++ v)) (does_behind one (result_still kind v))
-named_does f i (Some l) counted p kind ns v =
+    does_before (count_still counted p (ns ++ v)) (does_behind one (result_still given v))
+named_does f i (Some l) counted p given ns v =
     let line : Line = Call (Routine (library_routine l)) in
     let one : Does (ns ∷ []) (ns ++ v) (line ∷ []) v = record { to = λ rest. ap (left rest) (taken_all ns v) } in
-    does_behind one (result_still kind v)
+    does_behind one (result_still given v)
 
-pointer_does : (counted : Bool) (p : Passed) (kind : Option IntType) (ns v : List ℕ) → Does (ns ∷ []) (ns ++ 2 ∷ v) (pointer_code counted p kind) v
-pointer_does counted p kind ns v =
-    let line : Line = Call (Pointer (reads_of counted p) (registers_of kind)) in
+pointer_does : (counted : Bool) (p : Passed) (given : Outcome) (ns v : List ℕ) → Does (ns ∷ []) (ns ++ 2 ∷ v) (pointer_code counted p given) v
+pointer_does counted p given ns v =
+    let line : Line = Call (Pointer (reads_of counted p) (registers (given_bytes given))) in
     let one : Does (ns ∷ []) (ns ++ 2 ∷ v) (line ∷ []) (2 ∷ v) = record { to = λ rest. ap (left rest) (taken_all ns (2 ∷ v)) } in
     let two : Leaves (2 ∷ v) (Call (Routine (IncSp two_bytes)) ∷ []) v = record { to = λ calls. refl } in
     let fetch : Leaves (ns ++ 2 ∷ v) (fetch_code p) (ns ++ 2 ∷ v) = record { to = λ calls. refl } in
-    does_before fetch (does_before (count_still counted p (ns ++ 2 ∷ v)) (does_behind one (leaves_then two (result_still kind v))))
+    does_before fetch (does_before (count_still counted p (ns ++ 2 ∷ v)) (does_behind one (leaves_then two (result_still given v))))
 
-direct_does : (counted : Bool) (p : Passed) (kind : Option IntType) (v : List ℕ) → Does ([] ∷ []) v (direct_code counted p kind) v
-direct_does counted p kind v =
-    let line : Line = Call (Pointer (reads_of counted p) (registers_of kind)) in
+direct_does : (counted : Bool) (p : Passed) (given : Outcome) (v : List ℕ) → Does ([] ∷ []) v (direct_code counted p given) v
+direct_does counted p given v =
+    let line : Line = Call (Pointer (reads_of counted p) (registers (given_bytes given))) in
     let one : Does ([] ∷ []) v (line ∷ []) v = record { to = λ rest. ap (left rest) (taken_all [] v) } in
     let stored : Leaves v ptr4_code v = record { to = λ calls. refl } in
-    does_before stored (does_before (count_still counted p v) (does_behind one (result_still kind v)))
+    does_before stored (does_before (count_still counted p v) (does_behind one (result_still given v)))
 
-call_does : {cs : List (List ℕ)} {v : List ℕ} {callee args above : List Line} (f : Framed) (n : Option ℕ) (kind : Option IntType) (g : Typed) (es : Nodes) → Does cs v callee v → Does (args_calls f es) v args (passed f (is_fast (bare g)) es ++ v) → Does (args_calls f es) (2 ∷ v) above (passed f (is_fast (bare g)) es ++ 2 ∷ v)
-    → Does (unless_named n cs ++ (args_calls f es ++ passed f (is_fast (bare g)) es ∷ [])) v (call_by f n kind g es callee args above) v
-call_does {v = v} f (Some i) kind g es dc da db = does_then da (named_does f i (library_at f i) (is_counted (bare g)) (passed_of (is_fast (bare g)) es) kind (passed f (is_fast (bare g)) es) v)
-call_does {v = v} f None kind g none dc da db = does_then dc (direct_does (is_counted (bare g)) (passed_of (is_fast (bare g)) none) kind v)
-call_does {v = v} f None kind g (some e es) dc da db =
+call_does : {cs : List (List ℕ)} {v : List ℕ} {callee args above : List Line} (f : Framed) (n : Option ℕ) (given : Outcome) (g : Typed) (es : Nodes) → Does cs v callee v → Does (args_calls f es) v args (passed f (is_fast (bare g)) es ++ v) → Does (args_calls f es) (2 ∷ v) above (passed f (is_fast (bare g)) es ++ 2 ∷ v)
+    → Does (unless_named n cs ++ (args_calls f es ++ passed f (is_fast (bare g)) es ∷ [])) v (call_by f n given g es callee args above) v
+call_does {v = v} f (Some i) given g es dc da db = does_then da (named_does f i (library_at f i) (is_counted (bare g)) (passed_of f (is_fast (bare g)) es) given (passed f (is_fast (bare g)) es) v)
+call_does {v = v} f None given g none dc da db = does_then dc (direct_does (is_counted (bare g)) (passed_of f (is_fast (bare g)) none) given v)
+call_does {v = v} f None given g (some e es) dc da db =
     let all : Nodes = some e es in
-    does_then dc (does_before (push_leaves Ax v) (does_then db (pointer_does (is_counted (bare g)) (passed_of (is_fast (bare g)) all) kind (passed f (is_fast (bare g)) all) v)))
+    does_then dc (does_before (push_leaves Ax v) (does_then db (pointer_does (is_counted (bare g)) (passed_of f (is_fast (bare g)) all) given (passed f (is_fast (bare g)) all) v)))
 
 -- ---- the whole tree
 
@@ -187,7 +191,7 @@ mutual
   node_does f pushed lo t (binary op a b) v =
       let operands : Operands = operands_of f (bare a) (bare b) in
       let w : ℕ = waiting (width_of (computes operands)) in
-      binary_does op operands (kind_in b) (short_of op operands b) (short_calls op operands b) (expr_does f pushed lo a v) (expr_does f (more pushed w) (lo + uses a) b (w ∷ v))
+      binary_does op operands (kind_in b) (short_of op operands b) (short_calls f op operands b) (expr_does f pushed lo a v) (expr_does f (more pushed w) (lo + uses a) b (w ∷ v))
   node_does f pushed lo t (both a b) v =
       does_then (expr_does f pushed (lo + 1) a v) (does_before (test_still (width_of (kind_in a)) v) (does_line (branch Beq lo) (λ w. refl)
       (does_behind (expr_does f pushed (lo + 1 + uses a) b v) (leaves_then (test_still (width_of (kind_in b)) v) (record { to = λ calls. refl })))))
@@ -212,15 +216,19 @@ mutual
   node_does f pushed lo t (copy a b) v =
       does_then (expr_does f pushed lo a v) (does_before (push_leaves Ax v) (does_behind (expr_does f (more pushed 2) (lo + uses a) b (2 ∷ v)) (copy_leaves (type_bytes f (type_in t)) v)))
   node_does f pushed lo t (call g es) v =
-      call_does f (named g) (result_kind (type_in t)) g es (expr_does f pushed lo g v) (args_does f pushed lo (is_fast (bare g)) es v) (args_does f (more pushed 2) (lo + uses g) (is_fast (bare g)) es (2 ∷ v))
+      call_does f (named g) (outcome_of f (type_in t)) g es (expr_does f pushed lo g v) (args_does f pushed lo (is_fast (bare g)) es v) (args_does f (more pushed 2) (lo + uses g) (is_fast (bare g)) es (2 ∷ v))
+  node_does f pushed lo t (pack e) v = does_behind (target_does (place_of f pushed e) (known_calls f pushed e) (expr_does f pushed lo e v)) (bytes_still (place_of f pushed e) (extent_by (type_bytes f (type_in t))) v)
+  node_does f pushed lo t (spill i e) v = does_behind (expr_does f pushed lo e v) (spill_still (object_code f pushed i) (extent_by (type_bytes f (type_in t))) (object_still f pushed i) v)
+  node_does f pushed lo t further v = does_leaves (further_still f pushed v)
 
   args_does : (f : Framed) (pushed lo : ℕ) (fast : Bool) (es : Nodes) (v : List ℕ) → Does (args_calls f es) v (args_code f pushed lo fast es) (passed f fast es ++ v)
   args_does f pushed lo fast none v = does_none
   args_does f pushed lo fast (some e es) v =
       let kept : Bool = stays fast es in
-      let own : List ℕ = argument_bytes kept (kind_in e) in
-      let rest : Does (args_calls f es) (own ++ v) (args_code f (more pushed (arguments.argument_bytes kept (kind_in e))) (lo + uses e) fast es) (passed f fast es ++ (own ++ v)) = args_does f (more pushed (arguments.argument_bytes kept (kind_in e))) (lo + uses e) fast es (own ++ v) in
-      does_to (sym (append_assoc (passed f fast es) own v)) (does_then (expr_does f pushed lo e v) (does_before (argument_leaves kept (kind_in e) v) rest))
+      let size : ℕ = passed_size f e in
+      let own : List ℕ = argument_bytes kept size in
+      let rest : Does (args_calls f es) (own ++ v) (args_code f (more pushed (arguments.argument_bytes kept size)) (lo + uses e) fast es) (passed f fast es ++ (own ++ v)) = args_does f (more pushed (arguments.argument_bytes kept size)) (lo + uses e) fast es (own ++ v) in
+      does_to (sym (append_assoc (passed f fast es) own v)) (does_then (expr_does f pushed lo e v) (does_before (argument_leaves f kept e v) rest))
 
 pub expressions_keep_the_stack : ExpressionsKeepTheStack
 expressions_keep_the_stack f pushed fresh e values calls = (expr_does f pushed fresh e values).to calls
@@ -231,12 +239,13 @@ bytes_append : (xs ys : List ℕ) → bytes_in (xs ++ ys) ≡ bytes_in xs + byte
 bytes_append [] ys = omega arith
 bytes_append (x ∷ xs) ys = omega (arith, bytes_append xs ys)
 
-counted_by : (kept : Bool) (kind : IntType) (p : Passed) (n : ℕ) → p.stacked ≡ n % 256 → (arguments.joined kept kind p).stacked ≡ (n + bytes_in (argument_bytes kept kind)) % 256
-counted_by true kind p n e = e ∙ ap (λ m. m % 256) (omega arith)
-counted_by false kind p n e = omega (arith, e)
+counted_by : (kept : Bool) (size : ℕ) (p : Passed) (n : ℕ) → p.stacked ≡ n % 256 → (arguments.joined kept size p).stacked ≡ (n + bytes_in (argument_bytes kept size)) % 256
+counted_by true size p n e = e ∙ ap (λ m. m % 256) (omega arith)
+counted_by false size p n e = omega (arith, e)
 
 pub calls_are_counted : CallsAreCounted
-calls_are_counted fast none = refl
-calls_are_counted fast (some e es) =
+calls_are_counted f fast none = refl
+calls_are_counted f fast (some e es) =
     let kept : Bool = stays fast es in
-    counted_by kept (kind_in e) (passed_of fast es) (bytes_in (passed f fast es)) (calls_are_counted fast es) ∙ ap (λ m. m % 256) (sym (bytes_append (passed f fast es) (argument_bytes kept (kind_in e))))
+    let size : ℕ = passed_size f e in
+    counted_by kept size (passed_of f fast es) (bytes_in (passed f fast es)) (calls_are_counted f fast es) ∙ ap (λ m. m % 256) (sym (bytes_append (passed f fast es) (argument_bytes kept size)))

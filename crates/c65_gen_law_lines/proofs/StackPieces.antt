@@ -1,6 +1,7 @@
 -- What each piece of lines does to the values that wait.
-use Rattle.std.proofs.Common.{◌≡◌, ℕ, ◌+◌, ◌-◌, ◌%◌, ◌==◌, Bool, true, false, Option, None, Some, List, [], ◌∷◌, ◌++◌, refl, ◌∙◌, ap}
+use Rattle.std.proofs.Common.{◌≡◌, ℕ, zero, suc, ◌+◌, ◌-◌, ◌%◌, ◌≤◌, ◌==◌, Bool, true, false, Option, None, Some, List, [], ◌∷◌, ◌++◌, refl, ◌∙◌, ap, arith}
 use Rattle.std.specs.Prelude.{if◌then◌else◌, min}
+use Rattle.std.proofs.Math.Nat.{le-max_left, max-le, min-le_right}
 use Rattle.c65_base.specs.declared.operators.UnaryOp.{UnaryOp}
 use Rattle.c65_base.specs.declared.operators.UnaryOp.TheVariants as unary
 use Rattle.c65_base.specs.declared.operators.BinaryOp.{BinaryOp}
@@ -10,6 +11,8 @@ use Rattle.c65_ints.specs.declared.types.IntType.{IntType}
 use Rattle.c65_ints.specs.declared.types.IntType.TheVariants as ints
 use Rattle.c65_ints.specs.Ranges.{is_signed_of}
 use Rattle.c65_ctype.specs.Trees.{Ty, void, int, pointer, array, tag, function}
+use Rattle.c65_ctype.specs.Trees as types
+use Rattle.c65_csem.specs.Trees.{Typed, node, pack}
 use Rattle.c65_code.specs.declared.line.Line.{Line}
 use Rattle.c65_code.specs.declared.routine.Routine.TheVariants.{PushAx, LdAi, Tos, Unary}
 use Rattle.c65_code.specs.declared.routine.UnaryRoutine.TheVariants.{Shl1}
@@ -19,8 +22,9 @@ use Rattle.c65_code.specs.declared.routine.Width.{Width}
 use Rattle.c65_code.specs.declared.routine.Width.TheVariants.{Ax, Eax}
 use Rattle.c65_genframe.specs.declared.home.Home.{Home}
 use Rattle.c65_genframe.specs.declared.home.Home.TheVariants as homes
-use Rattle.c65_genframe.specs.Frames.{Framed, home_of, is_raised}
+use Rattle.c65_genframe.specs.Frames.{Framed, home_of, is_raised, saved_bytes, type_bytes}
 use Rattle.c65_genwide.specs.Lines.{call}
+use Rattle.c65_genwide.specs.Passing.{pass_bytes}
 use Rattle.c65_genwide.specs.Wide.{width_of, narrow_code, wide_code, tos_of, is_comparison}
 use Rattle.c65_genload.specs.declared.places.Extent.{Extent}
 use Rattle.c65_genload.specs.declared.places.Extent.TheVariants.{One, Two, Three, Four}
@@ -31,17 +35,19 @@ use Rattle.c65_genload.specs.declared.places.Access.{Access}
 use Rattle.c65_genload.specs.declared.places.Access.TheVariants.{Whole, Part}
 use Rattle.c65_genload.specs.Places.{type_in, byte_more, extent_of}
 use Rattle.c65_genload.specs.Numbers.{number_code, add_word_code, add_by_width, add_code, mask_code, by_code, shift_code, scale_code, is_divisor, divide_code}
-use Rattle.c65_genload.specs.Conversions.{widen_code, convert_code, convert_to, push_code, pass_bytes, test_code, waiting}
+use Rattle.c65_genload.specs.Conversions.{widen_code, convert_code, convert_to, push_code, test_code, waiting, size_of}
 use Rattle.c65_genload.specs.Addresses.{address_code, above_code, offset_code}
 use Rattle.c65_genload.specs.Fields.{ones, others, extract_code}
 use Rattle.c65_genload.specs.Loads.{hold_code, bytes_code, load_code}
 use Rattle.c65_genload.specs.Stores.{bytes_store, after_store, under_code, field_store, store_code, copy_code}
 use Rattle.c65_genexpr.specs.declared.operands.Operands.{Operands}
 use Rattle.c65_genexpr.specs.declared.operands.Operands.TheVariants.{Numbers, PointerFirst, PointerLast, Pointers}
-use Rattle.c65_genexpr.specs.Places.{more, soft_code, code_at, object_code}
+use Rattle.c65_genexpr.specs.Places.{more, soft_code, code_at, object_code, rest_code}
 use Rattle.c65_genexpr.specs.Operands.{computes, between_code, difference_code, behind_code, unary_code, conversion_code, negative, scaled, short_code}
 use Rattle.c65_genexpr.specs.Steps.{is_post, back_code, after_code, step_code, open_code, close_code}
-use Rattle.c65_genexpr.specs.Arguments.{argument_code}
+use Rattle.c65_genexpr.specs.Types.{kind_of}
+use Rattle.c65_genexpr.specs.Spills.{kept_code, first_code, further_code, again_code, spill_code}
+use Rattle.c65_genexpr.specs.Arguments.{clamped, passed_size, argument_code}
 use Rattle.c65_gen_law_lines.specs.Stack.{Waiting, waiting_by, behind, waits, argument_bytes}
 
 pub waits_append : (a b : List Line) (w : Option Waiting) → waits w (a ++ b) ≡ waits (waits w a) b
@@ -120,6 +126,9 @@ home_still f pushed i (Some (homes.Soft d)) v = soft_still (is_raised f i) pushe
 pub object_still : (f : Framed) (pushed i : ℕ) → Still (object_code f pushed i)
 object_still f pushed i v = home_still f pushed i (home_of f i) v
 
+pub further_still : (f : Framed) (pushed : ℕ) → Still (rest_code f pushed)
+further_still f pushed v = leaves_then {a = address_code pushed} (record { to = λ calls. refl }) (above_still ((pushed + f.soft + saved_bytes f.bank + 65536 - f.stacked) % 65536) v)
+
 one_still : (n : ℕ) → Still (add_code ints.UInt n)
 one_still n v = record { to = λ calls. refl }
 
@@ -155,7 +164,41 @@ pub push_leaves : (w : Width) (v : List ℕ) → Leaves v (push_code w) (waiting
 push_leaves Ax v = record { to = λ calls. refl }
 push_leaves Eax v = record { to = λ calls. refl }
 
--- a value of one to four bytes
+-- an argument has one to four bytes
+pub number_some : (kind : IntType) → 1 ≤ size_of kind
+number_some ints.SChar = omega arith
+number_some ints.UChar = omega arith
+number_some ints.Short = omega arith
+number_some ints.UShort = omega arith
+number_some ints.Int = omega arith
+number_some ints.UInt = omega arith
+number_some ints.Long = omega arith
+number_some ints.ULong = omega arith
+
+pub number_few : (kind : IntType) → size_of kind ≤ 4
+number_few ints.SChar = omega arith
+number_few ints.UChar = omega arith
+number_few ints.Short = omega arith
+number_few ints.UShort = omega arith
+number_few ints.Int = omega arith
+number_few ints.UInt = omega arith
+number_few ints.Long = omega arith
+number_few ints.ULong = omega arith
+
+clamped_some : (n : ℕ) → 1 ≤ clamped n
+clamped_some n = le-max_left 1 (min n 4)
+
+clamped_few : (n : ℕ) → clamped n ≤ 4
+clamped_few n = max-le (omega arith) (min-le_right n 4)
+
+pub passed_some : (f : Framed) (e : Typed) → 1 ≤ passed_size f e
+passed_some f (node t (pack e)) = clamped_some (type_bytes f (types.type_in t))
+passed_some f (node t n) = number_some (kind_of (types.type_in t))
+
+pub passed_few : (f : Framed) (e : Typed) → passed_size f e ≤ 4
+passed_few f (node t (pack e)) = clamped_few (type_bytes f (types.type_in t))
+passed_few f (node t n) = number_few (kind_of (types.type_in t))
+
 pass_leaves : (n : ℕ) (v : List ℕ) → 1 ≤ n → n ≤ 4 → Leaves v (pass_bytes n) (n ∷ v)
 pass_leaves zero v some few = absurd (omega (arith, some))
 pass_leaves (suc zero) v some few = record { to = λ calls. refl }
@@ -259,6 +302,21 @@ stored_leaves place (Part field) v = field_leaves place field v
 
 pub copy_leaves : (n : ℕ) (v : List ℕ) → Leaves (2 ∷ v) (copy_code n) v
 copy_leaves n v = record { to = λ calls. refl }
+
+-- ---- structures that calls give
+
+further_bytes_still : (e : Extent) → Still (further_code e)
+further_bytes_still One v = leaves_none
+further_bytes_still Two v = record { to = λ calls. refl }
+further_bytes_still Three v = record { to = λ calls. refl }
+further_bytes_still Four v = record { to = λ calls. refl }
+
+pub spill_still : (address : List Line) (e : Extent) → Still address → Still (spill_code address e)
+spill_still address e still v =
+    let kept : Leaves v kept_code v = record { to = λ calls. refl } in
+    let first : Leaves v first_code v = record { to = λ calls. refl } in
+    let again : Leaves v again_code v = record { to = λ calls. refl } in
+    leaves_then kept (leaves_then (still v) (leaves_then first (leaves_then (further_bytes_still e v) again)))
 
 -- ---- operators
 

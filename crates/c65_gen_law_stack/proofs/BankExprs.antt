@@ -5,7 +5,7 @@ use Rattle.c65_base.specs.declared.operators.BinaryOp.{BinaryOp}
 use Rattle.c65_ints.specs.declared.types.IntType.{IntType}
 use Rattle.c65_ctype.specs.Trees.{QTy, type_in}
 use Rattle.c65_ctype.specs.Views.{types_of}
-use Rattle.c65_csem.specs.Trees.{Typed, node, Node, constant, null, literal, object, func, deref, member, load, address, decay, convert, unary, binary, both, either, choice, comma, assign, assign_op, assign_step, step, copy, call, Nodes, none, some}
+use Rattle.c65_csem.specs.Trees.{Typed, node, Node, constant, null, literal, object, func, deref, member, load, address, decay, convert, unary, binary, both, either, choice, comma, assign, assign_op, assign_step, step, copy, call, pack, spill, rest as further, Nodes, none, some}
 use Rattle.c65_mach.specs.declared.rows.Op.TheVariants.{Beq, Bne, Jmp}
 use Rattle.c65_mach.specs.declared.rows.Mode.TheVariants.{Absolute}
 use Rattle.c65_code.specs.declared.line.Operand.TheVariants.{To}
@@ -21,20 +21,21 @@ use Rattle.c65_genload.specs.declared.places.Place.{Place}
 use Rattle.c65_genload.specs.declared.places.Place.TheVariants as places
 use Rattle.c65_genload.specs.declared.places.Access.{Access}
 use Rattle.c65_genload.specs.Words.{branch}
-use Rattle.c65_genload.specs.Places.{held}
+use Rattle.c65_genload.specs.Places.{held, extent_by}
 use Rattle.c65_genload.specs.Conversions.{waiting}
 use Rattle.c65_genexpr.specs.declared.operands.Operands.{Operands}
 use Rattle.c65_genexpr.specs.declared.operands.Operands.TheVariants.{Numbers, PointerFirst}
-use Rattle.c65_genexpr.specs.Types.{kind_of, result_kind, kind_in, bare, offset_at, access_of, target_bytes}
-use Rattle.c65_genexpr.specs.Places.{more, near, soft_place, place_at, moved, place_of}
+use Rattle.c65_genexpr.specs.declared.types.Outcome.{Outcome}
+use Rattle.c65_genexpr.specs.Types.{kind_of, outcome_of, kind_in, bare, offset_at, access_of, target_bytes}
+use Rattle.c65_genexpr.specs.Places.{more, near, soft_place, place_at, moved, place_of, object_code}
 use Rattle.c65_genexpr.specs.Operands.{residue_of, operands_of, computes, short_of, binary_by}
 use Rattle.c65_genexpr.specs.Steps.{amount_of}
-use Rattle.c65_genexpr.specs.Arguments.{is_fast, is_counted, stays, passed_of, argument_bytes}
+use Rattle.c65_genexpr.specs.Arguments.{is_fast, is_counted, stays, passed_size, passed_of, argument_bytes}
 use Rattle.c65_genexpr.specs.Calls.{named}
 use Rattle.c65_genexpr.specs.Uses.{uses}
 use Rattle.c65_genexpr.specs.Code.{target_code, behind_open, compound, call_by, truth_code, test_in, expr_code, node_code, args_code}
 use Rattle.c65_gen_law_stack.proofs.FrameOrder.{NotBank}
-use Rattle.c65_gen_law_stack.proofs.BankPieces.{Clear, clear_then, clear_none, IsOff, number_clear, symbol_clear, offset_clear, object_clear, conversion_clear, push_clear, argument_clear, test_clear, hold_clear, load_clear, store_clear, copy_clear, unary_clear, between_clear, behind_clear, short_clear, step_clear, open_clear, close_clear, named_clear, direct_clear, pointer_clear}
+use Rattle.c65_gen_law_stack.proofs.BankPieces.{Clear, clear_then, clear_none, IsOff, number_clear, symbol_clear, offset_clear, object_clear, further_clear, conversion_clear, push_clear, argument_clear, test_clear, hold_clear, bytes_clear, load_clear, store_clear, copy_clear, spill_clear, unary_clear, between_clear, behind_clear, short_clear, step_clear, open_clear, close_clear, named_clear, direct_clear, pointer_clear}
 
 -- no home of a frame is in regbank
 abbrev pub IsBankless : Framed → Type 0
@@ -87,10 +88,10 @@ compound_clear f pushed op operands a b bankless ca cb =
     let access : Access = access_of (types_of f.parts.types) a in
     clear_then (target_clear place ca) (clear_then (open_clear place access (computes operands)) (clear_then cb (close_clear op operands (kind_in b) place access (place_off f pushed a bankless))))
 
-call_clear : {callee args above : List Line} (f : Framed) (n : Option ℕ) (kind : Option IntType) (g : Typed) (es : Nodes) → Clear callee → Clear args → Clear above → Clear (call_by f n kind g es callee args above)
-call_clear f (Some i) kind g es cc ca cb = clear_then ca (named_clear f i (is_counted (bare g)) (passed_of (is_fast (bare g)) es) kind)
-call_clear f None kind g none cc ca cb = clear_then cc (direct_clear (is_counted (bare g)) (passed_of (is_fast (bare g)) none) kind)
-call_clear f None kind g (some e es) cc ca cb = clear_then cc (clear_then (push_clear Ax) (clear_then cb (pointer_clear (is_counted (bare g)) (passed_of (is_fast (bare g)) (some e es)) kind)))
+call_clear : {callee args above : List Line} (f : Framed) (n : Option ℕ) (given : Outcome) (g : Typed) (es : Nodes) → Clear callee → Clear args → Clear above → Clear (call_by f n given g es callee args above)
+call_clear f (Some i) given g es cc ca cb = clear_then ca (named_clear f i (is_counted (bare g)) (passed_of f (is_fast (bare g)) es) given)
+call_clear f None given g none cc ca cb = clear_then cc (direct_clear (is_counted (bare g)) (passed_of f (is_fast (bare g)) none) given)
+call_clear f None given g (some e es) cc ca cb = clear_then cc (clear_then (push_clear Ax) (clear_then cb (pointer_clear (is_counted (bare g)) (passed_of f (is_fast (bare g)) (some e es)) given)))
 
 beq_clear : (l : ℕ) → Clear (branch Beq l ∷ [])
 beq_clear l = record { all = refl }
@@ -149,10 +150,13 @@ mutual
       clear_then (target_clear place (expr_clear f pushed lo e k)) (step_clear how place (access_of (types_of f.parts.types) e) (amount_of f how (bare e)) (place_off f pushed e k))
   node_clear f pushed lo t (copy a b) k = clear_then (expr_clear f pushed lo a k) (clear_then (push_clear Ax) (clear_then (expr_clear f (more pushed 2) (lo + uses a) b k) (copy_clear (type_bytes f (type_in t)))))
   node_clear f pushed lo t (call g es) k =
-      call_clear f (named g) (result_kind (type_in t)) g es (expr_clear f pushed lo g k) (args_clear f pushed lo (is_fast (bare g)) es k) (args_clear f (more pushed 2) (lo + uses g) (is_fast (bare g)) es k)
+      call_clear f (named g) (outcome_of f (type_in t)) g es (expr_clear f pushed lo g k) (args_clear f pushed lo (is_fast (bare g)) es k) (args_clear f (more pushed 2) (lo + uses g) (is_fast (bare g)) es k)
+  node_clear f pushed lo t (pack e) k = clear_then (target_clear (place_of f pushed e) (expr_clear f pushed lo e k)) (bytes_clear (place_of f pushed e) (extent_by (type_bytes f (type_in t))))
+  node_clear f pushed lo t (spill i e) k = clear_then (expr_clear f pushed lo e k) (spill_clear (object_code f pushed i) (extent_by (type_bytes f (type_in t))) (object_clear f pushed i))
+  node_clear f pushed lo t further k = further_clear f pushed
 
   args_clear : (f : Framed) (pushed lo : ℕ) (fast : Bool) (es : Nodes) → IsBankless f → Clear (args_code f pushed lo fast es)
   args_clear f pushed lo fast none k = clear_none
   args_clear f pushed lo fast (some e es) k =
       let kept : Bool = stays fast es in
-      clear_then (expr_clear f pushed lo e k) (clear_then (argument_clear kept (kind_in e)) (args_clear f (more pushed (argument_bytes kept (kind_in e))) (lo + uses e) fast es k))
+      clear_then (expr_clear f pushed lo e k) (clear_then (argument_clear kept (passed_size f e)) (args_clear f (more pushed (argument_bytes kept (passed_size f e))) (lo + uses e) fast es k))

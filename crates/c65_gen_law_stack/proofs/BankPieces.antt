@@ -1,6 +1,6 @@
 -- The pieces of which lines are made write nothing of regbank, but for stores to a place in regbank.
 use Rattle.std.proofs.Common.{◌≡◌, ℕ, ◌+◌, ◌-◌, ◌%◌, ◌==◌, Bool, true, false, Option, None, Some, List, [], ◌∷◌, ◌++◌, refl, ◌∙◌}
-use Rattle.std.specs.Prelude.{min, if◌then◌else◌}
+use Rattle.std.specs.Prelude.{min, if◌then◌else◌, nat_lt}
 use Rattle.std.specs.List.{list_all}
 use Rattle.std.proofs.lemmas.Bool.{and_from}
 use Rattle.std.proofs.lemmas.List.Folds.{list_all-append}
@@ -19,7 +19,7 @@ use Rattle.c65_code.specs.declared.line.Line.{Line}
 use Rattle.c65_code.specs.declared.line.Line.TheVariants.{Call}
 use Rattle.c65_code.specs.declared.line.Callee.TheVariants.{Function, Pointer}
 use Rattle.c65_code.specs.declared.routine.Count.TheVariants.{Two as two_bytes}
-use Rattle.c65_code.specs.declared.routine.Routine.TheVariants.{PushAx, LdAi, Tos, Unary, IncSp, Library as library_routine}
+use Rattle.c65_code.specs.declared.routine.Routine.TheVariants.{PushA, PushAx, PushEax, LdAi, Tos, Unary, IncSp, Library as library_routine}
 use Rattle.c65_code.specs.declared.routine.UnaryRoutine.TheVariants.{Shl1}
 use Rattle.c65_code.specs.declared.routine.TosOp.{TosOp}
 use Rattle.c65_code.specs.declared.routine.TosOp.TheVariants as tos
@@ -27,12 +27,14 @@ use Rattle.c65_code.specs.declared.routine.Width.{Width}
 use Rattle.c65_code.specs.declared.routine.Width.TheVariants.{Ax, Eax}
 use Rattle.c65_genframe.specs.declared.home.Home.{Home}
 use Rattle.c65_genframe.specs.declared.home.Home.TheVariants as homes
-use Rattle.c65_genframe.specs.Frames.{Framed, home_of, is_raised}
+use Rattle.c65_genframe.specs.Registers.{registers}
+use Rattle.c65_genframe.specs.Frames.{Framed, home_of, is_raised, saved_bytes}
 use Rattle.c65_genframe.specs.Symbols.{numbers_of, object_symbol, function_symbol}
 use Rattle.c65_genwide.specs.Lines.{call}
+use Rattle.c65_genwide.specs.Passing.{three_code, pass_bytes}
 use Rattle.c65_genwide.specs.Wide.{width_of, narrow_code, wide_code, tos_of, is_comparison}
 use Rattle.c65_genload.specs.declared.places.Extent.{Extent}
-use Rattle.c65_genload.specs.declared.places.Extent.TheVariants.{One, Two, Four}
+use Rattle.c65_genload.specs.declared.places.Extent.TheVariants.{One, Two, Three, Four}
 use Rattle.c65_genload.specs.declared.places.Field.{Field}
 use Rattle.c65_genload.specs.declared.places.Place.{Place}
 use Rattle.c65_genload.specs.declared.places.Place.TheVariants as places
@@ -40,7 +42,7 @@ use Rattle.c65_genload.specs.declared.places.Access.{Access}
 use Rattle.c65_genload.specs.declared.places.Access.TheVariants.{Whole, Part}
 use Rattle.c65_genload.specs.Places.{type_in, byte_more, extent_of}
 use Rattle.c65_genload.specs.Numbers.{number_code, add_word_code, add_by_width, add_code, mask_code, by_code, shift_code, scale_code, is_divisor, divide_code}
-use Rattle.c65_genload.specs.Conversions.{widen_code, convert_code, convert_to, push_code, pass_code, test_code}
+use Rattle.c65_genload.specs.Conversions.{widen_code, convert_code, convert_to, push_code, test_code}
 use Rattle.c65_genload.specs.Addresses.{symbol_code, address_code, above_code, raised_code, offset_code}
 use Rattle.c65_genload.specs.Fields.{ones, others, extract_code}
 use Rattle.c65_genload.specs.Loads.{hold_code, bytes_code, load_code}
@@ -48,10 +50,14 @@ use Rattle.c65_genload.specs.Stores.{bytes_store, after_store, under_code, field
 use Rattle.c65_genexpr.specs.declared.operands.Operands.{Operands}
 use Rattle.c65_genexpr.specs.declared.operands.Operands.TheVariants.{Numbers, PointerFirst, PointerLast, Pointers}
 use Rattle.c65_genexpr.specs.declared.arguments.Passed.{Passed}
-use Rattle.c65_genexpr.specs.Places.{more, soft_code, code_at, object_code}
+use Rattle.c65_genexpr.specs.Places.{more, soft_code, code_at, object_code, rest_code}
 use Rattle.c65_genexpr.specs.Operands.{computes, between_code, difference_code, behind_code, unary_code, conversion_code, negative, scaled, short_code}
 use Rattle.c65_genexpr.specs.Steps.{is_post, back_code, step_code, open_code, close_code}
-use Rattle.c65_genexpr.specs.Arguments.{reads_of, registers_of, argument_code}
+use Rattle.c65_genexpr.specs.declared.types.Outcome.{Outcome}
+use Rattle.c65_genexpr.specs.declared.types.Outcome.TheVariants.{Nothing, Number, Area}
+use Rattle.c65_genexpr.specs.Types.{given_bytes}
+use Rattle.c65_genexpr.specs.Spills.{kept_code, first_code, further_code, again_code, spill_code}
+use Rattle.c65_genexpr.specs.Arguments.{reads_of, argument_code}
 use Rattle.c65_genexpr.specs.Calls.{count_code, fetch_code, result_code, library_at, named_by, named_code, pointer_code, direct_code, ptr4_code}
 use Rattle.c65_gen_law_stack.specs.Bank.{leaves_bank}
 
@@ -134,6 +140,9 @@ home_clear f pushed i (Some (homes.Soft d)) = soft_clear (is_raised f i) pushed 
 pub object_clear : (f : Framed) (pushed i : ℕ) → Clear (object_code f pushed i)
 object_clear f pushed i = home_clear f pushed i (home_of f i)
 
+pub further_clear : (f : Framed) (pushed : ℕ) → Clear (rest_code f pushed)
+further_clear f pushed = raised_clear pushed ((pushed + f.soft + saved_bytes f.bank + 65536 - f.stacked) % 65536)
+
 -- ---- conversions
 
 widen_clear : (kind : IntType) → Clear (widen_code kind)
@@ -165,18 +174,16 @@ pub push_clear : (w : Width) → Clear (push_code w)
 push_clear Ax = record { all = refl }
 push_clear Eax = record { all = refl }
 
-pass_clear : (kind : IntType) → Clear (pass_code kind)
-pass_clear ints.SChar = record { all = refl }
-pass_clear ints.UChar = record { all = refl }
-pass_clear ints.Short = record { all = refl }
-pass_clear ints.UShort = record { all = refl }
-pass_clear ints.Int = record { all = refl }
-pass_clear ints.UInt = record { all = refl }
-pass_clear ints.Long = record { all = refl }
-pass_clear ints.ULong = record { all = refl }
+pub pass_clear : (n : ℕ) → Clear (pass_bytes n)
+pass_clear n =
+    let one : Clear (call PushA ∷ []) = record { all = refl } in
+    let two : Clear (call PushAx ∷ []) = record { all = refl } in
+    let three : Clear three_code = record { all = refl } in
+    let four : Clear (call PushEax ∷ []) = record { all = refl } in
+    clear_if (nat_lt n 2) one (clear_if (nat_lt n 3) two (clear_if (nat_lt n 4) three four))
 
-pub argument_clear : (kept : Bool) (kind : IntType) → Clear (argument_code kept kind)
-argument_clear kept kind = clear_if kept clear_none (pass_clear kind)
+pub argument_clear : (kept : Bool) (n : ℕ) → Clear (argument_code kept n)
+argument_clear kept n = clear_if kept clear_none (pass_clear n)
 
 pub test_clear : (w : Width) → Clear (test_code w)
 test_clear Ax = record { all = refl }
@@ -190,18 +197,22 @@ hold_clear (places.Near at) = clear_none
 hold_clear (places.Data s at) = clear_none
 hold_clear places.Far = record { all = refl }
 
-bytes_clear : (place : Place) (e : Extent) → Clear (bytes_code place e)
+pub bytes_clear : (place : Place) (e : Extent) → Clear (bytes_code place e)
 bytes_clear (places.Bank b) One = record { all = refl }
 bytes_clear (places.Bank b) Two = record { all = refl }
+bytes_clear (places.Bank b) Three = record { all = refl }
 bytes_clear (places.Bank b) Four = record { all = refl }
 bytes_clear (places.Near at) One = record { all = refl }
 bytes_clear (places.Near at) Two = record { all = refl }
+bytes_clear (places.Near at) Three = record { all = refl }
 bytes_clear (places.Near at) Four = record { all = refl }
 bytes_clear (places.Data s at) One = record { all = refl }
 bytes_clear (places.Data s at) Two = record { all = refl }
+bytes_clear (places.Data s at) Three = record { all = refl }
 bytes_clear (places.Data s at) Four = record { all = refl }
 bytes_clear places.Far One = record { all = refl }
 bytes_clear places.Far Two = record { all = refl }
+bytes_clear places.Far Three = record { all = refl }
 bytes_clear places.Far Four = record { all = refl }
 
 extract_clear : (g : Field) → Clear (extract_code g)
@@ -215,12 +226,15 @@ bytes_store_clear : (place : Place) (e : Extent) → IsOff place → Clear (byte
 bytes_store_clear (places.Bank b) e off = absurd off
 bytes_store_clear (places.Near at) One off = record { all = refl }
 bytes_store_clear (places.Near at) Two off = record { all = refl }
+bytes_store_clear (places.Near at) Three off = record { all = refl }
 bytes_store_clear (places.Near at) Four off = record { all = refl }
 bytes_store_clear (places.Data s at) One off = record { all = refl }
 bytes_store_clear (places.Data s at) Two off = record { all = refl }
+bytes_store_clear (places.Data s at) Three off = record { all = refl }
 bytes_store_clear (places.Data s at) Four off = record { all = refl }
 bytes_store_clear places.Far One off = record { all = refl }
 bytes_store_clear places.Far Two off = record { all = refl }
+bytes_store_clear places.Far Three off = record { all = refl }
 bytes_store_clear places.Far Four off = record { all = refl }
 
 after_store_clear : (place : Place) (kind : IntType) → Clear (after_store place kind)
@@ -297,34 +311,50 @@ open_clear place access kind = clear_then (hold_clear place) (clear_then (load_c
 pub close_clear : (op : BinaryOp) (operands : Operands) (right : IntType) (place : Place) (access : Access) → IsOff place → Clear (close_code op operands right place access)
 close_clear op operands right place access off = clear_then (behind_clear op operands right) (clear_then (convert_clear (computes operands) (type_in access)) (store_clear place access off))
 
+-- ---- structures that calls give
+
+further_bytes_clear : (e : Extent) → Clear (further_code e)
+further_bytes_clear One = clear_none
+further_bytes_clear Two = record { all = refl }
+further_bytes_clear Three = record { all = refl }
+further_bytes_clear Four = record { all = refl }
+
+pub spill_clear : (address : List Line) (e : Extent) → Clear address → Clear (spill_code address e)
+spill_clear address e c =
+    let kept : Clear kept_code = record { all = refl } in
+    let first : Clear first_code = record { all = refl } in
+    let again : Clear again_code = record { all = refl } in
+    clear_then kept (clear_then c (clear_then first (clear_then (further_bytes_clear e) again)))
+
 -- ---- calls
 
 count_clear : (counted : Bool) (p : Passed) → Clear (count_code counted p)
 count_clear true p = record { all = refl }
 count_clear false p = clear_none
 
-result_clear : (kind : Option IntType) → Clear (result_code kind)
-result_clear None = clear_none
-result_clear (Some kind) = narrow_clear kind
+result_clear : (given : Outcome) → Clear (result_code given)
+result_clear Nothing = clear_none
+result_clear (Number kind) = narrow_clear kind
+result_clear (Area bytes) = clear_none
 
-named_by_clear : (f : Framed) (i : ℕ) (l : Option Library) (counted : Bool) (p : Passed) (kind : Option IntType) → Clear (named_by f i l counted p kind)
-named_by_clear f i (Some l) counted p kind = let one : Clear (call (library_routine l) ∷ []) = record { all = refl } in clear_then one (result_clear kind)
-named_by_clear f i None counted p kind =
-    let one : Clear (Call (Function (function_symbol (numbers_of f.parts) i) (reads_of counted p) (registers_of kind)) ∷ []) = record { all = refl } in
-    clear_then (count_clear counted p) (clear_then one (result_clear kind))
+named_by_clear : (f : Framed) (i : ℕ) (l : Option Library) (counted : Bool) (p : Passed) (given : Outcome) → Clear (named_by f i l counted p given)
+named_by_clear f i (Some l) counted p given = let one : Clear (call (library_routine l) ∷ []) = record { all = refl } in clear_then one (result_clear given)
+named_by_clear f i None counted p given =
+    let one : Clear (Call (Function (function_symbol (numbers_of f.parts) i) (reads_of counted p) (registers (given_bytes given))) ∷ []) = record { all = refl } in
+    clear_then (count_clear counted p) (clear_then one (result_clear given))
 
-pub named_clear : (f : Framed) (i : ℕ) (counted : Bool) (p : Passed) (kind : Option IntType) → Clear (named_code f i counted p kind)
-named_clear f i counted p kind = named_by_clear f i (library_at f i) counted p kind
+pub named_clear : (f : Framed) (i : ℕ) (counted : Bool) (p : Passed) (given : Outcome) → Clear (named_code f i counted p given)
+named_clear f i counted p given = named_by_clear f i (library_at f i) counted p given
 
-pub direct_clear : (counted : Bool) (p : Passed) (kind : Option IntType) → Clear (direct_code counted p kind)
-direct_clear counted p kind =
-    let one : Clear (Call (Pointer (reads_of counted p) (registers_of kind)) ∷ []) = record { all = refl } in
+pub direct_clear : (counted : Bool) (p : Passed) (given : Outcome) → Clear (direct_code counted p given)
+direct_clear counted p given =
+    let one : Clear (Call (Pointer (reads_of counted p) (registers (given_bytes given))) ∷ []) = record { all = refl } in
     let stored : Clear ptr4_code = record { all = refl } in
-    clear_then stored (clear_then (count_clear counted p) (clear_then one (result_clear kind)))
+    clear_then stored (clear_then (count_clear counted p) (clear_then one (result_clear given)))
 
-pub pointer_clear : (counted : Bool) (p : Passed) (kind : Option IntType) → Clear (pointer_code counted p kind)
-pointer_clear counted p kind =
-    let one : Clear (Call (Pointer (reads_of counted p) (registers_of kind)) ∷ []) = record { all = refl } in
+pub pointer_clear : (counted : Bool) (p : Passed) (given : Outcome) → Clear (pointer_code counted p given)
+pointer_clear counted p given =
+    let one : Clear (Call (Pointer (reads_of counted p) (registers (given_bytes given))) ∷ []) = record { all = refl } in
     let two : Clear (call (IncSp two_bytes) ∷ []) = record { all = refl } in
     let fetch : Clear (fetch_code p) = record { all = refl } in
-    clear_then fetch (clear_then (count_clear counted p) (clear_then one (clear_then two (result_clear kind))))
+    clear_then fetch (clear_then (count_clear counted p) (clear_then one (clear_then two (result_clear given))))

@@ -10,7 +10,7 @@ use Rattle.c65_code.specs.declared.line.Line.{Line}
 use Rattle.c65_code.specs.declared.routine.Count.{Count}
 use Rattle.c65_code.specs.declared.routine.Width.{Width}
 use Rattle.c65_code.specs.declared.routine.Width.TheVariants.{Ax, Eax}
-use Rattle.c65_code.specs.declared.routine.Routine.TheVariants.{PushA, PushAx, PushEax, RestRegs, AddYSp}
+use Rattle.c65_code.specs.declared.routine.Routine.TheVariants.{RestRegs, AddYSp}
 use Rattle.c65_code.specs.Segments.{Drafted}
 use Rattle.c65_genframe.specs.declared.home.Home.{Home}
 use Rattle.c65_genframe.specs.declared.home.Home.TheVariants as homes
@@ -45,7 +45,7 @@ use Rattle.c65_genstmt.specs.Functions.{main_code, no_lines}
 use Rattle.c65_gen_law_stack.specs.Bank.{FunctionsLeaveRegbank}
 use Rattle.c65_gen_law_stack.proofs.EntryWay.{IsOrderly}
 use Rattle.c65_gen_law_stack.proofs.FrameOrder.{NotBank, frames_are_orderly, frames_without_bank}
-use Rattle.c65_gen_law_stack.proofs.BankPieces.{Clear, clear_then, clear_if, clear_none, store_clear, test_clear}
+use Rattle.c65_gen_law_stack.proofs.BankPieces.{pass_clear, Clear, clear_then, clear_if, clear_none, store_clear, test_clear}
 use Rattle.c65_gen_law_stack.proofs.BankExprs.{IsBankless, label_clear, expr_clear}
 
 -- ---- objects
@@ -233,13 +233,8 @@ raise_clear n = clear_then (repeated_clear (n / 255) (small_raise 255) (small_ra
 lower_clear : (n : ℕ) → Clear (lower_code n)
 lower_clear n = clear_then (repeated_clear (n / 255) (small_lower 255) (small_lower_clear 255)) (small_lower_clear (n % 255))
 
-push_by : (b c : Bool) → Clear (call (if b then PushA else (if c then PushAx else PushEax)) ∷ [])
-push_by true c = record { all = refl }
-push_by false true = record { all = refl }
-push_by false false = record { all = refl }
-
 pushed_clear : (a : Arrival) → Clear (pushed_code a)
-pushed_clear (Pushed bytes) = push_by (nat_lt bytes 2) (nat_lt bytes 3)
+pushed_clear (Pushed bytes) = pass_clear bytes
 pushed_clear Passed = clear_none
 pushed_clear (Kept bank bytes) = clear_none
 

@@ -3,7 +3,8 @@ use Rattle.std.proofs.Common.{◌≡◌, ℕ, zero, suc, ◌+◌, ◌*◌, ◌/�
 use Rattle.std.specs.Prelude.{if◌then◌else◌, nat_lt, IsTrue}
 use Rattle.std.proofs.lemmas.Bool.{eqb-true}
 use Rattle.c65_mach.specs.State.{Regs}
-use Rattle.c65_mach.specs.declared.rows.Op.TheVariants.{Adc, Clc, Ldy, Lda, Sta, Stx, Tax, Tay, Tya}
+use Rattle.c65_mach.specs.Step.{after}
+use Rattle.c65_mach.specs.declared.rows.Op.TheVariants.{Adc, Clc, Iny, Ldy, Lda, Sta, Stx, Tax, Tay, Txa, Tya}
 use Rattle.c65_code.specs.declared.routine.Count.{Count}
 use Rattle.c65_code.specs.declared.routine.Count.TheVariants.{One, Two, Three, Four, Five, Six, Seven, Eight}
 use Rattle.c65_code.specs.declared.routine.Routine.TheVariants.{PushA, PushAx, PushEax, LdAxYSp, LdAi, LdAxi, SaveRegs, SubYSp, DecSp, StkChk}
@@ -19,7 +20,8 @@ use Rattle.c65_genframe.specs.declared.home.Arrival.TheVariants.{Passed, Pushed,
 use Rattle.c65_genframe.specs.declared.home.Moved.{Moved}
 use Rattle.c65_genframe.specs.Frames.{Framed, saved_bytes}
 use Rattle.c65_genwide.specs.Lines.{value, call}
-use Rattle.c65_genentry.specs.Words.{sp, tmp2, tmp3, tmp4, regbank, implied, zero_page, by_y}
+use Rattle.c65_genwide.specs.Passing.{three_code}
+use Rattle.c65_genentry.specs.Words.{sp, sreg, tmp2, tmp3, tmp4, regbank, implied, zero_page, by_y}
 use Rattle.c65_genentry.specs.Stack.{count_of, lower_by, small_lower, repeated, lower_code}
 use Rattle.c65_genentry.specs.Entry.{pushed_code, bank_store, kept_code, saved_code, counted_code, count_code, near_load, far_load, load_code, moved_code, all_moved, taken_bytes, checked_code, taking_code, entry_code}
 use Rattle.c65_gen_law_stack.specs.Passing.{Passes}
@@ -29,10 +31,52 @@ use Rattle.c65_gen_law_stack.proofs.Ways.{halves, single, simple_way}
 
 -- ---- the last parameter
 
-push_way : (b c : Bool) (s : Setting) (p q : Place) (t u : State) → Passes s (call (if b then PushA else (if c then PushAx else PushEax)) ∷ []) p t q u → Quiet (if b then 1 else (if c then 2 else 4)) t u
-push_way true c s p q t u h = let one = single s (call PushA) p q t u h in (pushes_a s p q t u one.0.calm one.1).1
-push_way false true s p q t u h = let one = single s (call PushAx) p q t u h in pushes_ax s p q t u one.0.calm one.1
-push_way false false s p q t u h = let one = single s (call PushEax) p q t u h in pushes_eax s p q t u one.0.calm one.1
+-- sp is lower by so many bytes, and regbank has not changed
+record Lowers (n : ℕ) (t u : State) : Type 0 where
+  sinks : Sinks n t u
+  bank : bank_of u ≡ bank_of t
+
+lowers_quiet : {n : ℕ} {t u : State} → Quiet n t u → Lowers n t u
+lowers_quiet p = record { sinks = p.sinks; bank = p.bank }
+
+-- three bytes are stored one behind another, from sp on
+abbrev three_stores : List Line
+three_stores = value Ldy 0 ∷ by_y Sta sp ∷ implied Iny ∷ implied Txa ∷ by_y Sta sp ∷ implied Iny ∷ zero_page Lda sreg ∷ by_y Sta sp ∷ []
+
+above_three : (m : Bytes) (w a x z b : ℕ) → w + 3 ≤ 65535 → w + 3 ≤ b → write (write (write m (after w 0) a) (after w 1) x) (after w 2) z b ≡ m b
+above_three m w a x z b low h =
+    let m0 : Bytes = write m (after w 0) a in
+    let m1 : Bytes = write m0 (after w 1) x in
+    write_other m1 (after w 2) z b (λ e. omega (arith, e, low, h)) ∙ (write_other m0 (after w 1) x b (λ e. omega (arith, e, low, h)) ∙ write_other m (after w 0) a b (λ e. omega (arith, e, low, h)))
+
+stores_way : (s : Setting) (p q : Place) (t u : State) → sp_of t + 3 ≤ 65535 → Passes s three_stores p t q u → (sp_of u ≡ sp_of t) × ((b : ℕ) → sp_of t + 3 ≤ b → u.mem b ≡ t.mem b) × (u.pushed ≡ t.pushed) × (u.frames ≡ t.frames) × (bank_of u ≡ bank_of t)
+stores_way s p q t u low h =
+    let all = simple_way s three_stores p q t u refl h in
+    (ap sp_of all, λ b above. ap (λ (x : State). x.mem b) all ∙ above_three t.mem (sp_of t) t.regs.a t.regs.x (t.zp 2) b low above, ap (λ (x : State). x.pushed) all, ap (λ (x : State). x.frames) all, ap bank_of all)
+
+three_way : (s : Setting) (p q : Place) (t u : State) → Passes s three_code p t q u → Lowers 3 t u
+three_way s p q t u h =
+    let two = halves s (call (DecSp Three) ∷ []) three_stores p q t u h in
+    let v : State = two.1 in
+    let one = single s (call (DecSp Three)) p two.0 t v two.2 in
+    let low : Quiet 3 t v = lowers Three s p two.0 t v (omega (arith, one.0.calm.low)) one.1 in
+    let stored = stores_way s two.0 q v u (omega (arith, low.sinks.sp, one.0.calm.high)) two.3 in
+    record {
+      sinks = record {
+        sp = omega (arith, low.sinks.sp, stored.0);
+        mem = λ b above. stored.1 b (omega (arith, low.sinks.sp, above)) ∙ low.sinks.mem b above;
+        pushed = stored.2 ∙ low.sinks.pushed;
+        frames = stored.3 ∙ low.sinks.frames;
+      };
+      bank = stored.4 ∙ low.bank;
+    }
+
+push_way : (b c d : Bool) (s : Setting) (p q : Place) (t u : State) → Passes s (if b then call PushA ∷ [] else (if c then call PushAx ∷ [] else (if d then three_code else call PushEax ∷ []))) p t q u
+    → Lowers (if b then 1 else (if c then 2 else (if d then 3 else 4))) t u
+push_way true c d s p q t u h = let one = single s (call PushA) p q t u h in lowers_quiet (pushes_a s p q t u one.0.calm one.1).1
+push_way false true d s p q t u h = let one = single s (call PushAx) p q t u h in lowers_quiet (pushes_ax s p q t u one.0.calm one.1)
+push_way false false true s p q t u h = three_way s p q t u h
+push_way false false false s p q t u h = let one = single s (call PushEax) p q t u h in lowers_quiet (pushes_eax s p q t u one.0.calm one.1)
 
 same_quiet : (t u : State) → u ≡ t → Quiet 0 t u
 same_quiet t u e = subst (λ (x : State). Quiet 0 t x) (sym e) (quiet_same t)
@@ -40,10 +84,10 @@ same_quiet t u e = subst (λ (x : State). Quiet 0 t x) (sym e) (quiet_same t)
 same_sinks : (t u : State) → u ≡ t → Sinks 0 t u
 same_sinks t u e = subst (λ (x : State). Sinks 0 t x) (sym e) (sinks_same t)
 
-pushed_way : (a : Arrival) (s : Setting) (p q : Place) (t u : State) → Passes s (pushed_code a) p t q u → Quiet (pushed_bytes a) t u
-pushed_way (Pushed bytes) s p q t u h = push_way (nat_lt bytes 2) (nat_lt bytes 3) s p q t u h
-pushed_way Passed s p q t u h = same_quiet t u h.1
-pushed_way (Kept bank bytes) s p q t u h = same_quiet t u h.1
+pushed_way : (a : Arrival) (s : Setting) (p q : Place) (t u : State) → Passes s (pushed_code a) p t q u → Lowers (pushed_bytes a) t u
+pushed_way (Pushed bytes) s p q t u h = push_way (nat_lt bytes 2) (nat_lt bytes 3) (nat_lt bytes 4) s p q t u h
+pushed_way Passed s p q t u h = lowers_quiet (same_quiet t u h.1)
+pushed_way (Kept bank bytes) s p q t u h = lowers_quiet (same_quiet t u h.1)
 
 -- ---- lines that change registers alone
 
@@ -264,7 +308,7 @@ no_keep (Kept bank bytes) s p q t u e h = absurd cc
 
 -- the states between the pieces of an entry
 record Entry (f : Framed) (t0 t1 t2 t3 t4 t5 t6 t7 : State) : Type 0 where
-  push : Quiet (pushed_bytes f.last) t0 t1
+  push : Lowers (pushed_bytes f.last) t0 t1
   count : Registers t1 t2
   counted : IsTrue f.variadic → t2.regs.a ≡ t1.regs.y
   save : Quiet (saved_bytes f.bank) t2 t3

@@ -8,7 +8,7 @@ use Rattle.c65_ints.specs.declared.types.IntType.{IntType}
 use Rattle.c65_ctype.specs.Trees.{QTy, type_in}
 use Rattle.c65_ctype.specs.Views.{types_of}
 use Rattle.c65_base.specs.declared.library.Library.{Library}
-use Rattle.c65_csem.specs.Trees.{Typed, node, Node, constant, null, literal, object, func, deref, member, load, address, decay, convert, unary, binary, both, either, choice, comma, assign, assign_op, assign_step, step, copy, call, Nodes, none, some}
+use Rattle.c65_csem.specs.Trees.{Typed, node, Node, constant, null, literal, object, func, deref, member, load, address, decay, convert, unary, binary, both, either, choice, comma, assign, assign_op, assign_step, step, copy, call, pack, spill, rest as further, Nodes, none, some}
 use Rattle.c65_mach.specs.declared.rows.Op.TheVariants.{Beq, Bne, Jmp}
 use Rattle.c65_mach.specs.declared.rows.Mode.TheVariants.{Absolute, Relative}
 use Rattle.c65_code.specs.declared.line.Callee.TheVariants.{Routine, Function, Pointer}
@@ -20,20 +20,24 @@ use Rattle.c65_code.specs.declared.routine.Routine.TheVariants.{IncSp, Library a
 use Rattle.c65_code.specs.declared.routine.Width.TheVariants.{Ax}
 use Rattle.c65_genframe.specs.Symbols.{numbers_of, function_symbol, literal_symbol}
 use Rattle.c65_genframe.specs.Frames.{Framed, type_bytes}
+use Rattle.c65_genframe.specs.Registers.{registers}
 use Rattle.c65_genwide.specs.Wide.{width_of}
 use Rattle.c65_genload.specs.declared.places.Place.{Place}
 use Rattle.c65_genload.specs.declared.places.Place.TheVariants as places
 use Rattle.c65_genload.specs.declared.places.Access.{Access}
-use Rattle.c65_genload.specs.Places.{held}
+use Rattle.c65_genload.specs.declared.places.Extent.{Extent}
+use Rattle.c65_genload.specs.Places.{held, extent_by}
 use Rattle.c65_genload.specs.Conversions.{waiting}
 use Rattle.c65_genexpr.specs.declared.operands.Operands.{Operands}
 use Rattle.c65_genexpr.specs.declared.operands.Operands.TheVariants.{Numbers, PointerFirst}
 use Rattle.c65_genexpr.specs.declared.arguments.Passed.{Passed}
-use Rattle.c65_genexpr.specs.Types.{kind_of, result_kind, kind_in, bare, offset_at, access_of, target_bytes}
-use Rattle.c65_genexpr.specs.Places.{more, place_of, IsKnown}
+use Rattle.c65_genexpr.specs.declared.types.Outcome.{Outcome}
+use Rattle.c65_genexpr.specs.declared.types.Outcome.TheVariants.{Nothing, Number, Area}
+use Rattle.c65_genexpr.specs.Types.{kind_of, outcome_of, given_bytes, kind_in, bare, offset_at, access_of, target_bytes}
+use Rattle.c65_genexpr.specs.Places.{more, place_of, object_code, IsKnown}
 use Rattle.c65_genexpr.specs.Operands.{residue_of, operands_of, computes, is_short, short_of, binary_by}
 use Rattle.c65_genexpr.specs.Steps.{amount_of}
-use Rattle.c65_genexpr.specs.Arguments.{is_fast, is_counted, stays, passed_of, reads_of, registers_of}
+use Rattle.c65_genexpr.specs.Arguments.{is_fast, is_counted, stays, passed_size, passed_of, reads_of}
 use Rattle.c65_genexpr.specs.Arguments as arguments
 use Rattle.c65_genexpr.specs.Calls.{named, count_code, fetch_code, result_code, library_at, named_by, named_code, pointer_code, direct_code, ptr4_code}
 use Rattle.c65_genexpr.specs.Uses.{uses}
@@ -41,8 +45,8 @@ use Rattle.c65_genexpr.specs.Code.{target_code, behind_open, compound, call_by, 
 use Rattle.c65_gen_law_lines.specs.Stack.{waiting_by, taken, left, waits, argument_bytes, passed, unless_named, calls_of, node_calls, args_calls}
 use Rattle.c65_gen_law_lines.proofs.Made.{is_plain}
 use Rattle.c65_gen_law_lines.proofs.ExprLaws.{moved_known, no_short}
-use Rattle.c65_gen_law_lines.proofs.Pieces.{number_piece, symbol_piece, offset_piece, object_piece, conversion_piece, push_piece, argument_piece, test_piece, hold_piece, load_piece, store_piece, copy_piece, unary_piece, between_piece, behind_piece, short_piece, step_piece, open_piece, close_piece, named_piece, pointer_piece, direct_piece}
-use Rattle.c65_gen_law_lines.proofs.StackPieces.{waits_append, Leaves, leaves_then, leaves_none, Still, narrow_still, number_still, object_still, offset_still, conversion_still, push_leaves, argument_leaves, test_still, holding, hold_leaves, load_still, stored_leaves, copy_leaves, unary_still, between_leaves, behind_leaves, short_still, step_still, open_leaves, close_leaves}
+use Rattle.c65_gen_law_lines.proofs.Pieces.{number_piece, symbol_piece, offset_piece, object_piece, conversion_piece, push_piece, argument_piece, test_piece, hold_piece, part_piece, load_piece, store_piece, copy_piece, spill_piece, further_piece, unary_piece, between_piece, behind_piece, short_piece, step_piece, open_piece, close_piece, named_piece, pointer_piece, direct_piece}
+use Rattle.c65_gen_law_lines.proofs.StackPieces.{waits_append, Leaves, leaves_then, leaves_none, Still, narrow_still, number_still, object_still, further_still, offset_still, conversion_still, push_leaves, argument_leaves, test_still, holding, hold_leaves, bytes_still, load_still, stored_leaves, copy_leaves, spill_still, unary_still, between_leaves, behind_leaves, short_still, step_still, open_leaves, close_leaves}
 use Rattle.c65_gen_law_lines.proofs.StackLaws.{nothing_more}
 use Rattle.c65_gen_law_stack.proofs.Levels.{Level, Nowhere, There, level_then, level_end, level_behind, level_plain, level_piece, level_none, level_label, level_leads, Closed, closed_open, closed_then, closed_behind, closed_as}
 
@@ -66,9 +70,9 @@ target_level (places.Bank b) h d = closed_as (sym (h tt)) level_none
 target_level (places.Near at) h d = closed_as (sym (h tt)) level_none
 target_level (places.Data s at) h d = closed_as (sym (h tt)) level_none
 
-short_calls : (op : BinaryOp) (operands : Operands) (e : Typed) (n : ℕ) → short_of op operands e ≡ Some n → calls_of f e ≡ []
-short_calls op operands (node t (constant z)) n h = refl
-short_calls op operands (node t _) n h = absurd (no_short (is_short op operands) n h)
+short_calls : (f : Framed) (op : BinaryOp) (operands : Operands) (e : Typed) (n : ℕ) → short_of op operands e ≡ Some n → calls_of f e ≡ []
+short_calls f op operands (node t (constant z)) n h = refl
+short_calls f op operands (node t _) n h = absurd (no_short (is_short op operands) n h)
 
 binary_level : {cs ds : List (List ℕ)} {v : List ℕ} {a b : List Line} (op : BinaryOp) (operands : Operands) (right : IntType) (s : Option ℕ) → ((c : ℕ) → s ≡ Some c → ds ≡ []) → Closed cs v a v
     → Closed ds (waiting (width_of (computes operands)) ∷ v) b (waiting (width_of (computes operands)) ∷ v) → Closed (cs ++ ds) v (binary_by op operands s right a b) v
@@ -102,52 +106,53 @@ count_still : (counted : Bool) (p : Passed) → Still (count_code counted p)
 count_still true p v = record { to = λ calls. refl }
 count_still false p v = leaves_none
 
-result_still : (kind : Option IntType) → Still (result_code kind)
-result_still None v = leaves_none
-result_still (Some kind) v = narrow_still kind v
+result_still : (given : Outcome) → Still (result_code given)
+result_still Nothing v = leaves_none
+result_still (Number kind) v = narrow_still kind v
+result_still (Area bytes) v = leaves_none
 
-named_does : (f : Framed) (i : ℕ) (l : Option Library) (counted : Bool) (p : Passed) (kind : Option IntType) (ns v : List ℕ) → Does (ns ∷ []) (ns ++ v) (named_by f i l counted p kind) v
-named_does f i None counted p kind ns v =
-    let line : Line = Call (Function (function_symbol (numbers_of f.parts) i) (reads_of counted p) (registers_of kind)) in
+named_does : (f : Framed) (i : ℕ) (l : Option Library) (counted : Bool) (p : Passed) (given : Outcome) (ns v : List ℕ) → Does (ns ∷ []) (ns ++ v) (named_by f i l counted p given) v
+named_does f i None counted p given ns v =
+    let line : Line = Call (Function (function_symbol (numbers_of f.parts) i) (reads_of counted p) (registers (given_bytes given))) in
     let one : Does (ns ∷ []) (ns ++ v) (line ∷ []) v = record { to = λ rest. ap (left rest) (taken_all ns v) } in
-    does_before (count_still counted p (ns ++ v)) (does_behind one (result_still kind v))
-named_does f i (Some l) counted p kind ns v =
+    does_before (count_still counted p (ns ++ v)) (does_behind one (result_still given v))
+named_does f i (Some l) counted p given ns v =
     let line : Line = Call (Routine (library_routine l)) in
     let one : Does (ns ∷ []) (ns ++ v) (line ∷ []) v = record { to = λ rest. ap (left rest) (taken_all ns v) } in
-    does_behind one (result_still kind v)
+    does_behind one (result_still given v)
 
-pointer_does : (counted : Bool) (p : Passed) (kind : Option IntType) (ns v : List ℕ) → Does (ns ∷ []) (ns ++ 2 ∷ v) (pointer_code counted p kind) v
-pointer_does counted p kind ns v =
-    let line : Line = Call (Pointer (reads_of counted p) (registers_of kind)) in
+pointer_does : (counted : Bool) (p : Passed) (given : Outcome) (ns v : List ℕ) → Does (ns ∷ []) (ns ++ 2 ∷ v) (pointer_code counted p given) v
+pointer_does counted p given ns v =
+    let line : Line = Call (Pointer (reads_of counted p) (registers (given_bytes given))) in
     let one : Does (ns ∷ []) (ns ++ 2 ∷ v) (line ∷ []) (2 ∷ v) = record { to = λ rest. ap (left rest) (taken_all ns (2 ∷ v)) } in
     let two : Leaves (2 ∷ v) (Call (Routine (IncSp two_bytes)) ∷ []) v = record { to = λ calls. refl } in
     let fetch : Leaves (ns ++ 2 ∷ v) (fetch_code p) (ns ++ 2 ∷ v) = record { to = λ calls. refl } in
-    does_before fetch (does_before (count_still counted p (ns ++ 2 ∷ v)) (does_behind one (leaves_then two (result_still kind v))))
+    does_before fetch (does_before (count_still counted p (ns ++ 2 ∷ v)) (does_behind one (leaves_then two (result_still given v))))
 
-direct_does : (counted : Bool) (p : Passed) (kind : Option IntType) (v : List ℕ) → Does ([] ∷ []) v (direct_code counted p kind) v
-direct_does counted p kind v =
-    let line : Line = Call (Pointer (reads_of counted p) (registers_of kind)) in
+direct_does : (counted : Bool) (p : Passed) (given : Outcome) (v : List ℕ) → Does ([] ∷ []) v (direct_code counted p given) v
+direct_does counted p given v =
+    let line : Line = Call (Pointer (reads_of counted p) (registers (given_bytes given))) in
     let one : Does ([] ∷ []) v (line ∷ []) v = record { to = λ rest. ap (left rest) (taken_all [] v) } in
     let stored : Leaves v ptr4_code v = record { to = λ calls. refl } in
-    does_before stored (does_before (count_still counted p v) (does_behind one (result_still kind v)))
+    does_before stored (does_before (count_still counted p v) (does_behind one (result_still given v)))
 
-call_level : {cs : List (List ℕ)} {v : List ℕ} {callee args above : List Line} (f : Framed) (n : Option ℕ) (kind : Option IntType) (g : Typed) (es : Nodes) → Closed cs v callee v → Closed (args_calls f es) v args (passed f (is_fast (bare g)) es ++ v)
-    → Closed (args_calls f es) (2 ∷ v) above (passed f (is_fast (bare g)) es ++ 2 ∷ v) → Closed (unless_named n cs ++ (args_calls f es ++ passed f (is_fast (bare g)) es ∷ [])) v (call_by f n kind g es callee args above) v
-call_level {v = v} f (Some i) kind g es dc da db =
+call_level : {cs : List (List ℕ)} {v : List ℕ} {callee args above : List Line} (f : Framed) (n : Option ℕ) (given : Outcome) (g : Typed) (es : Nodes) → Closed cs v callee v → Closed (args_calls f es) v args (passed f (is_fast (bare g)) es ++ v)
+    → Closed (args_calls f es) (2 ∷ v) above (passed f (is_fast (bare g)) es ++ 2 ∷ v) → Closed (unless_named n cs ++ (args_calls f es ++ passed f (is_fast (bare g)) es ∷ [])) v (call_by f n given g es callee args above) v
+call_level {v = v} f (Some i) given g es dc da db =
     let ns : List ℕ = passed f (is_fast (bare g)) es in
-    let p : Passed = passed_of (is_fast (bare g)) es in
-    let does : Does (ns ∷ []) (ns ++ v) (named_code f i (is_counted (bare g)) p kind) v = named_does f i (library_at f i) (is_counted (bare g)) p kind ns v in
-    closed_then da (level_plain does.to (named_piece f i (is_counted (bare g)) p kind).plain)
-call_level {v = v} f None kind g none dc da db =
-    let p : Passed = passed_of (is_fast (bare g)) none in
-    let does : Does ([] ∷ []) v (direct_code (is_counted (bare g)) p kind) v = direct_does (is_counted (bare g)) p kind v in
-    closed_then dc (level_plain does.to (direct_piece (is_counted (bare g)) p kind).plain)
-call_level {v = v} f None kind g (some e rest) dc da db =
+    let p : Passed = passed_of f (is_fast (bare g)) es in
+    let does : Does (ns ∷ []) (ns ++ v) (named_code f i (is_counted (bare g)) p given) v = named_does f i (library_at f i) (is_counted (bare g)) p given ns v in
+    closed_then da (level_plain does.to (named_piece f i (is_counted (bare g)) p given).plain)
+call_level {v = v} f None given g none dc da db =
+    let p : Passed = passed_of f (is_fast (bare g)) none in
+    let does : Does ([] ∷ []) v (direct_code (is_counted (bare g)) p given) v = direct_does (is_counted (bare g)) p given v in
+    closed_then dc (level_plain does.to (direct_piece (is_counted (bare g)) p given).plain)
+call_level {v = v} f None given g (some e rest) dc da db =
     let es : Nodes = some e rest in
     let ns : List ℕ = passed f (is_fast (bare g)) es in
-    let p : Passed = passed_of (is_fast (bare g)) es in
-    let does : Does (ns ∷ []) (ns ++ 2 ∷ v) (pointer_code (is_counted (bare g)) p kind) v = pointer_does (is_counted (bare g)) p kind ns v in
-    closed_then dc (before (push_leaves Ax v) (push_piece Ax).plain (closed_then db (level_plain does.to (pointer_piece (is_counted (bare g)) p kind).plain)))
+    let p : Passed = passed_of f (is_fast (bare g)) es in
+    let does : Does (ns ∷ []) (ns ++ 2 ∷ v) (pointer_code (is_counted (bare g)) p given) v = pointer_does (is_counted (bare g)) p given ns v in
+    closed_then dc (before (push_leaves Ax v) (push_piece Ax).plain (closed_then db (level_plain does.to (pointer_piece (is_counted (bare g)) p given).plain)))
 
 -- ---- labels of their own
 
@@ -230,7 +235,7 @@ mutual
   node_level f pushed lo t (binary op a b) v =
       let operands : Operands = operands_of f (bare a) (bare b) in
       let w : ℕ = waiting (width_of (computes operands)) in
-      binary_level op operands (kind_in b) (short_of op operands b) (short_calls op operands b) (expr_level f pushed lo a v) (expr_level f (more pushed w) (lo + uses a) b (w ∷ v))
+      binary_level op operands (kind_in b) (short_of op operands b) (short_calls f op operands b) (expr_level f pushed lo a v) (expr_level f (more pushed w) (lo + uses a) b (w ∷ v))
   node_level f pushed lo t (both a b) v = both_level lo a b (expr_level f pushed (lo + 1) a v) (expr_level f pushed (lo + 1 + uses a) b v)
   node_level f pushed lo t (either a b) v = either_level lo (lo + 1) a b (expr_level f pushed (lo + 2) a v) (expr_level f pushed (lo + 2 + uses a) b v)
   node_level f pushed lo t (choice c a b) v = choice_level lo (lo + 1) c (expr_level f pushed (lo + 2) c v) (expr_level f pushed (lo + 2 + uses c) a v) (expr_level f pushed (lo + 2 + uses c + uses a) b v)
@@ -250,12 +255,21 @@ mutual
   node_level f pushed lo t (copy a b) v =
       closed_then (expr_level f pushed lo a v) (before (push_leaves Ax v) (push_piece Ax).plain (behind (expr_level f (more pushed 2) (lo + uses a) b (2 ∷ v)) (copy_leaves (type_bytes f (type_in t)) v) (copy_piece (type_bytes f (type_in t))).plain))
   node_level f pushed lo t (call g es) v =
-      call_level f (named g) (result_kind (type_in t)) g es (expr_level f pushed lo g v) (args_level f pushed lo (is_fast (bare g)) es v) (args_level f (more pushed 2) (lo + uses g) (is_fast (bare g)) es (2 ∷ v))
+      call_level f (named g) (outcome_of f (type_in t)) g es (expr_level f pushed lo g v) (args_level f pushed lo (is_fast (bare g)) es v) (args_level f (more pushed 2) (lo + uses g) (is_fast (bare g)) es (2 ∷ v))
+  node_level f pushed lo t (pack e) v =
+      let place : Place = place_of f pushed e in
+      let extent : Extent = extent_by (type_bytes f (type_in t)) in
+      behind (target_level place (known_calls f pushed e) (expr_level f pushed lo e v)) (bytes_still place extent v) (part_piece place extent).plain
+  node_level f pushed lo t (spill i e) v =
+      let extent : Extent = extent_by (type_bytes f (type_in t)) in
+      behind (expr_level f pushed lo e v) (spill_still (object_code f pushed i) extent (object_still f pushed i) v) (spill_piece (object_code f pushed i) extent (object_piece f pushed i)).plain
+  node_level f pushed lo t further v = level_piece (further_still f pushed v) (further_piece f pushed).plain
 
   args_level : (f : Framed) (pushed lo : ℕ) (fast : Bool) (es : Nodes) (v : List ℕ) → Closed (args_calls f es) v (args_code f pushed lo fast es) (passed f fast es ++ v)
   args_level f pushed lo fast none v = level_none
   args_level f pushed lo fast (some e es) v =
       let kept : Bool = stays fast es in
-      let own : List ℕ = argument_bytes kept (kind_in e) in
-      let rest : Closed (args_calls f es) (own ++ v) (args_code f (more pushed (arguments.argument_bytes kept (kind_in e))) (lo + uses e) fast es) (passed f fast es ++ (own ++ v)) = args_level f (more pushed (arguments.argument_bytes kept (kind_in e))) (lo + uses e) fast es (own ++ v) in
-      closed_to (sym (append_assoc (passed f fast es) own v)) (closed_then (expr_level f pushed lo e v) (before (argument_leaves kept (kind_in e) v) (argument_piece kept (kind_in e)).plain rest))
+      let size : ℕ = passed_size f e in
+      let own : List ℕ = argument_bytes kept size in
+      let rest : Closed (args_calls f es) (own ++ v) (args_code f (more pushed (arguments.argument_bytes kept size)) (lo + uses e) fast es) (passed f fast es ++ (own ++ v)) = args_level f (more pushed (arguments.argument_bytes kept size)) (lo + uses e) fast es (own ++ v) in
+      closed_to (sym (append_assoc (passed f fast es) own v)) (closed_then (expr_level f pushed lo e v) (before (argument_leaves f kept e v) (argument_piece kept size).plain rest))

@@ -282,5 +282,5 @@ functions_keep_heights u g body f is_main out s n well few lines =
       all,
       level.2,
       λ j line q t v at own steady moves.
-          moves_keep_heights s n j (entry_code f) middle (end_code f) (at_first body) line q t v all (no_labels (entry_code f) (entry_flat f).plain) (no_labels (end_code f) (end_flat f).plain) level.3 at own steady moves,
+          moves_keep_heights s n j (entry_code f) middle (end_code f) (at_first f body) line q t v all (no_labels (entry_code f) (entry_flat f).plain) (no_labels (end_code f) (end_flat f).plain) level.3 at own steady moves,
     )

@@ -16,7 +16,7 @@ use Rattle.c65_gen_law_stack.specs.Passing.{Passes}
 
 -- the bytes of the last parameter that the entry pushes
 abbrev pub pushed_bytes : Arrival → ℕ
-pushed_bytes (Pushed bytes) = if nat_lt bytes 2 then 1 else (if nat_lt bytes 3 then 2 else 4)
+pushed_bytes (Pushed bytes) = if nat_lt bytes 2 then 1 else (if nat_lt bytes 3 then 2 else (if nat_lt bytes 4 then 3 else 4))
 pushed_bytes _ = 0
 
 -- how far the entry lowers sp

@@ -51,15 +51,15 @@ MovesKeepHeights = (s : Setting) (g j : ℕ) (before middle rest : List Line) (w
     → slice_get middle j ≡ Some line → IsOwn (form_of line) → IsSteady s line t → Moves s line (g, length before + j) t q u
     → Goes g (length before) middle w j t q u
 
-abbrev pub at_first : Stmt → Option Waiting
-at_first body = Some (waiting_by [] (statement_calls f body))
+abbrev pub at_first : Framed → Stmt → Option Waiting
+at_first f body = Some (waiting_by [] (statement_calls f body))
 
 -- and those of a well typed function between its entry and its end, where nothing waits at first and at last
 abbrev pub FunctionsKeepHeights : Type 0
 FunctionsKeepHeights = (u : UnitTy) (g : FuncTy) (body : Stmt) (f : Framed) (is_main : Bool) (out : RegSet) (s : Setting) (n : ℕ)
     → IsBody u g body → (with_function f is_main (Some body) (no_lines out)).labels ≤ 2 ^ 32 → s.lines n ≡ (with_function f is_main (Some body) (no_lines out)).lines
-    → (middle : List Line) × (s.lines n ≡ entry_code f ++ (middle ++ end_code f)) × (waits (at_first body) middle ≡ Some (waiting_by [] []))
-    × ((j : ℕ) (line : Line) (q : Place) (t v : State) → slice_get middle j ≡ Some line → IsOwn (form_of line) → IsSteady s line t → Moves s line (n, length (entry_code f) + j) t q v → Goes n (length (entry_code f)) middle (at_first body) j t q v)
+    → (middle : List Line) × (s.lines n ≡ entry_code f ++ (middle ++ end_code f)) × (waits (at_first f body) middle ≡ Some (waiting_by [] []))
+    × ((j : ℕ) (line : Line) (q : Place) (t v : State) → slice_get middle j ≡ Some line → IsOwn (form_of line) → IsSteady s line t → Moves s line (n, length (entry_code f) + j) t q v → Goes n (length (entry_code f)) middle (at_first f body) j t q v)
 
 -- So does a call of a function, from the calling line to the line behind it, where the call takes away what the function takes, and the
 -- body of the function leaves sp and what its entry put away as they were.
