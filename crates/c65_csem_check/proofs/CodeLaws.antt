@@ -7,10 +7,10 @@ use Rattle.std.proofs.lemmas.List.{drop_all}
 use Rattle.c65_ctype.specs.declared.types.QType.{QType}
 use Rattle.c65_ctype.specs.declared.types.FnType.{FnType, out-FnType}
 use Rattle.c65_ctype.specs.Compatible.{same_bool}
-use Rattle.c65_ctype.specs.Trees.{Fn, fn, QTy, QTys, end, more}
+use Rattle.c65_ctype.specs.Trees.{Fn, fn, QTy, QTys, end, more, TypesTy}
 use Rattle.c65_ctype.specs.Views.{qty_of, fn_of, qtys_of, params_in}
 use Rattle.c65_ctype.proofs.ViewLaws.{fn_view}
-use Rattle.c65_csem.specs.Trees.{Typed, Node, Nodes, none, some, UnitTy}
+use Rattle.c65_csem.specs.Trees.{Typed, node, Node, call, Nodes, none, some, UnitTy}
 use Rattle.c65_csem.specs.declared.expr.TExpr.{TExpr}
 use Rattle.c65_csem.specs.declared.expr.TKind.{TKind}
 use Rattle.c65_csem.specs.declared.expr.TKind.TheVariants as x
@@ -66,19 +66,19 @@ same_end xs ys i past within inside =
         let left = types_left ys i below in
         e ∙ ap (kinds.same_all end) (sym left.2)
 
-pub given_end : (xs : List QType) (ys : List TExpr) (i : ℕ) → length xs ≤ i → i ≤ length xs → i ≤ length ys → nat_eq (length xs) (length ys) ≡ exprs.are_given (qtys_of (drop i xs)) false (nodes_of (drop i ys))
-given_end xs ys i past within inside =
-    tested (nat_eq (length xs) (length ys)) refl ∙ ap (λ (zs : List QType). exprs.are_given (qtys_of zs) false (nodes_of (drop i ys))) (sym (drop_all i xs past))
+pub given_end : (types : TypesTy) (xs : List QType) (ys : List TExpr) (i : ℕ) → length xs ≤ i → i ≤ length xs → i ≤ length ys → nat_eq (length xs) (length ys) ≡ exprs.are_given types (qtys_of (drop i xs)) false (nodes_of (drop i ys))
+given_end types xs ys i past within inside =
+    tested (nat_eq (length xs) (length ys)) refl ∙ ap (λ (zs : List QType). exprs.are_given types (qtys_of zs) false (nodes_of (drop i ys))) (sym (drop_all i xs past))
   where
-    tested : (t : Bool) → nat_eq (length xs) (length ys) ≡ t → nat_eq (length xs) (length ys) ≡ exprs.are_given end false (nodes_of (drop i ys))
+    tested : (t : Bool) → nat_eq (length xs) (length ys) ≡ t → nat_eq (length xs) (length ys) ≡ exprs.are_given types end false (nodes_of (drop i ys))
     tested true e =
         let same = eqb-true (length xs) (length ys) e in
-        e ∙ ap (λ (zs : List TExpr). exprs.are_given end false (nodes_of zs)) (sym (drop_all i ys (omega arith)))
+        e ∙ ap (λ (zs : List TExpr). exprs.are_given types end false (nodes_of zs)) (sym (drop_all i ys (omega arith)))
     tested false e =
         let other = eqb-false (length xs) (length ys) e in
         let below : i < length ys = omega arith in
         let left = nodes_left ys i below in
-        e ∙ ap (exprs.are_given end false) (sym left.2)
+        e ∙ ap (exprs.are_given types end false) (sym left.2)
 
 pub match_end : (u : UnitTy) (xs : List QType) (ys : List ℕ) (i : ℕ) → length xs ≤ i → i ≤ length xs → i ≤ length ys → nat_eq (length xs) (length ys) ≡ units.params_match u (qtys_of (drop i xs)) (drop i ys)
 match_end u xs ys i past within inside =
@@ -95,11 +95,11 @@ match_end u xs ys i past within inside =
         e ∙ ap (units.params_match u end) (sym left.2)
 
 -- a prototype
-pub fits_by : (f : FnType) (types : Vec QType) (ys : List QType) (es : Nodes) → (out-FnType f).params ≡ Some types → ys ≡ types.items → exprs.are_given (qtys_of ys) (out-FnType f).variadic es ≡ exprs.fits_fn (fn_of f) es
-fits_by f types ys es is list =
-    ap (λ (zs : List QType). exprs.are_given (qtys_of zs) (out-FnType f).variadic es) list
-    ∙ ap (λ (o : Option (Vec QType)). exprs.fits (params_in o) (out-FnType f).variadic es) (sym is)
-    ∙ ap (λ (w : Fn). exprs.fits_fn w es) (sym (fn_view f))
+pub fits_by : (types : TypesTy) (f : FnType) (params : Vec QType) (ys : List QType) (es : Nodes) → (out-FnType f).params ≡ Some params → ys ≡ params.items → exprs.are_given types (qtys_of ys) (out-FnType f).variadic es ≡ exprs.fits_fn types (fn_of f) es
+fits_by types f params ys es is list =
+    ap (λ (zs : List QType). exprs.are_given types (qtys_of zs) (out-FnType f).variadic es) list
+    ∙ ap (λ (o : Option (Vec QType)). exprs.fits types (params_in o) (out-FnType f).variadic es) (sym is)
+    ∙ ap (λ (w : Fn). exprs.fits_fn types w es) (sym (fn_view f))
 
 pub matches_by : (u : UnitTy) (f : FnType) (types : Vec QType) (ys : List QType) (ns : List ℕ) → (out-FnType f).params ≡ Some types → ys ≡ types.items → units.params_match u (qtys_of ys) ns ≡ units.prototype_matches u (fn_of f) ns
 matches_by u f types ys ns is list =
@@ -112,11 +112,18 @@ matches_by u f types ys ns is list =
 pub all_same : {a b c x y z : Bool} → a ≡ x → b ≡ y → c ≡ z → (a && b && c) ≡ (x && y && z)
 all_same {b = b} {c = c} {x = x} {y = y} p q r = ap (λ (t : Bool). t && b && c) p ∙ ap (λ (t : Bool). x && t && c) q ∙ ap (λ (t : Bool). x && y && t) r
 
-pub call_node : (u : UnitTy) (t : QTy) (k : TKind) (f : Box TExpr Global) (v : Vec TExpr) (g : TExpr) (ys : List TExpr) → k ≡ x.Call f v → g ≡ f.value → ys ≡ v.items → (exprs.is_typed u (typed_of g) && exprs.is_call t (typed_of g) (nodes_of ys) && exprs.are_typed u (nodes_of ys)) ≡ exprs.is_node u t (node_of k)
-call_node u t k f v g ys is one all =
-    ap (λ (e : TExpr). exprs.is_typed u (typed_of e) && exprs.is_call t (typed_of e) (nodes_of ys) && exprs.are_typed u (nodes_of ys)) one
-    ∙ ap (λ (zs : List TExpr). exprs.is_typed u (typed_of f.value) && exprs.is_call t (typed_of f.value) (nodes_of zs) && exprs.are_typed u (nodes_of zs)) all
-    ∙ sym (ap (λ (j : TKind). exprs.is_node u t (node_of j)) is ∙ ap (exprs.is_node u t) (node_of_call f v))
+pub call_parts : (u : UnitTy) (t : QTy) (k : TKind) (f : Box TExpr Global) (v : Vec TExpr) (g : TExpr) (ys : List TExpr) → k ≡ x.Call f v → g ≡ f.value → ys ≡ v.items → (exprs.is_typed u (typed_of g) && exprs.are_typed u (nodes_of ys) && exprs.is_call u.types t (typed_of g) (nodes_of ys)) ≡ exprs.is_whole_call u (node t (node_of k))
+call_parts u t k f v g ys is one all =
+    ap (λ (e : TExpr). exprs.is_typed u (typed_of e) && exprs.are_typed u (nodes_of ys) && exprs.is_call u.types t (typed_of e) (nodes_of ys)) one
+    ∙ ap (λ (zs : List TExpr). exprs.is_typed u (typed_of f.value) && exprs.are_typed u (nodes_of zs) && exprs.is_call u.types t (typed_of f.value) (nodes_of zs)) all
+    ∙ sym (ap (λ (j : TKind). exprs.is_whole_call u (node t (node_of j))) is ∙ ap (λ (n : Node). exprs.is_whole_call u (node t n)) (node_of_call f v))
+
+pub call_node : (u : UnitTy) (t : QTy) (k : TKind) (f : Box TExpr Global) (v : Vec TExpr) (y : Bool) → k ≡ x.Call f v → y ≡ kinds.is_usual t → y ≡ true → exprs.is_whole_call u (node t (node_of k)) ≡ exprs.is_node u t (node_of k)
+call_node u t k f v y is usual holds =
+    let same = ap node_of is ∙ node_of_call f v in
+    ap (λ (n : Node). exprs.is_whole_call u (node t n)) same
+    ∙ ap (λ (w : Bool). w && exprs.is_whole_call u (node t (call (typed_of f.value) (nodes_of v.items)))) (sym (sym usual ∙ holds))
+    ∙ sym (ap (exprs.is_node u t) same)
 
 pub block_labels : (k : TStmt) (os : Vec ℕ) (v : Vec TStmt) (ys : List TStmt) → k ≡ s.Block os v → ys ≡ v.items → labels_in (stmts_of ys) ≡ labels_of (stmt_of k)
 block_labels k os v ys is list = ap (λ (zs : List TStmt). labels_in (stmts_of zs)) list ∙ sym (ap (λ (j : TStmt). labels_of (stmt_of j)) is ∙ ap labels_of (stmt_of_block os v))

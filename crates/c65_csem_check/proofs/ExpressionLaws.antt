@@ -1,5 +1,5 @@
 -- What the tests on expressions tell.
-use Rattle.std.proofs.Common.{◌≡◌, ℕ, ◌+◌, ◌≤◌, ℤ, ◌≤ℤ◌, List, length, Bool, true, false, not, ◌&&◌, ◌||◌, ◌⊎◌, inl, inr, Option, Some, None, slice_get, nat_le, int_le, refl, sym, ap, ◌∙◌, subst, IsTrue}
+use Rattle.std.proofs.Common.{◌≡◌, ℕ, ◌+◌, ◌≤◌, ℤ, ◌≤ℤ◌, List, length, Bool, true, false, not, ◌&&◌, ◌||◌, ◌⊎◌, inl, inr, Option, Some, None, is_some, slice_get, nat_le, int_le, refl, sym, ap, ◌∙◌, subst, IsTrue}
 use Rattle.std.specs.Prelude.{if◌then◌else◌, T}
 use Rattle.std.specs.Int.Signed.{le_z_yes}
 use Rattle.std.proofs.lemmas.Bool.{le-leb, leb-true}
@@ -12,13 +12,15 @@ use Rattle.c65_ints.specs.declared.types.IntType.TheVariants.{Int}
 use Rattle.c65_ints.specs.Ranges.{InRange, least_of, greatest_of}
 use Rattle.c65_ctype.specs.Trees.{Ty, void, int, pointer, array, tag, function, QTy, qual, type_in, Fn, fn, Params, unknown, known, QTys, end, more, MemberTy, TypesTy}
 use Rattle.c65_ctype.specs.Sizes.{size_of}
-use Rattle.c65_csem.specs.Trees.{Typed, node, Node, constant, null, literal, object, func, deref, member, load, address, decay, convert, unary, binary, both as both_node, either as either_node, choice, comma, assign, assign_op, assign_step, step, copy, call, Nodes, none, some, type_of, ObjectTy, FuncTy, UnitTy}
+use Rattle.c65_csem.specs.declared.items.Class.{Class}
+use Rattle.c65_csem.specs.declared.items.Class.TheVariants as classes
+use Rattle.c65_csem.specs.Trees.{Typed, node, Node, constant, null, literal, object, func, deref, member, load, address, decay, convert, unary, binary, both as both_node, either as either_node, choice, comma, assign, assign_op, assign_step, step, copy, call, pack, spill, rest, Nodes, none, some, type_of, ObjectTy, FuncTy, UnitTy}
 use Rattle.c65_csem.specs.Places.{is_place, plain, plain_of, qualified, is_promoted, is_scalar, is_tag, member_at, is_bit_field, is_registered, are_alike}
-use Rattle.c65_csem.specs.Typed.{IsTyped, IsNode, AreTyped, HasInt, IsInt, IsPromoted, IsPointer, IsScalar, IsValue, IsMoved, IsScalarPlace, AreAlike, AreShifted, AreCompared, AreAdded, AreSubtracted, Operands, Operand, Computes, Steps, Converts, IsLiteral, Passes, IsMember, IsAddressed, IsArm, IsStepped, ArePassed, AreGiven, Fits, FitsFn, IsResult, IsCall, arguments_size, result_of}
+use Rattle.c65_csem.specs.Typed.{IsTyped, IsNode, IsGiven, IsCalled, AreTyped, HasInt, IsInt, IsPromoted, IsPointer, IsScalar, IsValue, IsMoved, IsScalarPlace, AreAlike, AreShifted, AreCompared, AreAdded, AreSubtracted, Operands, Operand, Computes, Steps, Converts, IsLiteral, Passes, IsMember, IsAddressed, IsArm, IsStepped, ArePassed, AreGiven, Fits, FitsFn, IsSmall, IsUsual, IsCall, IsSpot, arguments_size, result_of, rest_type}
 use Rattle.c65_csem_check.specs.Kinds as types
 use Rattle.c65_csem_check.specs.Expressions as b
-use Rattle.c65_csem_check.proofs.Tells.{Tells, like, tells_itself, tells_not, tells_unit, tells_never, tells_found, from_decides, both, three, four, either}
-use Rattle.c65_csem_check.proofs.TypeLaws.{tells_same, tells_int_of, tells_by_int, tells_int, tells_promoted, tells_void, tells_pointer, tells_plain_of, tells_scalar, tells_pointer_to, tells_moved, tells_result, tells_passed, tells_stepped, tells_decayed, tells_literal, tells_qualified}
+use Rattle.c65_csem_check.proofs.Tells.{Tells, like, tells_itself, tells_not, tells_unit, tells_never, tells_found, some_same, from_decides, both, behind, three, four, either}
+use Rattle.c65_csem_check.proofs.TypeLaws.{IsFlat, flat_is, small_flat, tells_same, tells_ty, tells_int_of, tells_by_int, tells_int, tells_promoted, tells_void, tells_pointer, tells_plain_of, tells_scalar, tells_pointer_to, tells_moved, tells_small, tells_usual, tells_passes, tells_stepped, tells_decayed, tells_literal, tells_qualified}
 
 true_of : (b : Bool) → T b → b ≡ true
 true_of true h = refl
@@ -46,35 +48,15 @@ callee_is (qual (function g) false false) f h = cc
 callee_is (qual t true v) f h = cc
 callee_is (qual t false true) f h = cc
 
-scalar_size : (types : TypesTy) (t : Ty) → is_scalar t ≡ true → b.scalar_bytes t ≡ size_of types t
-scalar_size types (int k) h = refl
-scalar_size types (pointer q) h = refl
-scalar_size types void h = cc
-scalar_size types (array q n) h = cc
-scalar_size types (tag n) h = cc
-scalar_size types (function f) h = cc
+pub given_flat : (u : UnitTy) (e : Typed) → IsGiven u e → IsFlat (type_in (type_of e))
+given_flat u (node t (pack e)) w = small_flat u.types (type_in t) w.1.0
+given_flat u (node t e) w = inl w.1.0.0
 
-passed_scalar : (t : QTy) → Passes t → is_scalar (type_in t) ≡ true
-passed_scalar t (Passes.number w) = ap (λ (q : QTy). is_scalar (type_in q)) w.1
-passed_scalar t (Passes.pointer_value w) = ap (λ (q : QTy). is_scalar (type_in q)) w.1
-
-add_bytes : (types : TypesTy) (t : QTy) (m n : ℕ) → is_scalar (type_in t) ≡ true → m ≡ n → b.scalar_bytes (type_in t) + m ≡ size_of types (type_in t) + n
-add_bytes types t m n h e = ap (λ (k : ℕ). k + m) (scalar_size types (type_in t) h) ∙ ap (λ (k : ℕ). size_of types (type_in t) + k) e
-
-passed_bytes : (types : TypesTy) (es : Nodes) → ArePassed es → b.argument_bytes es ≡ arguments_size types es
-passed_bytes types none w = refl
-passed_bytes types (some (node t e) es) w = add_bytes types t _ _ (passed_scalar t w.0) (passed_bytes types es w.2)
-
-given_bytes : (types : TypesTy) (qs : QTys) (variadic : Bool) (es : Nodes) → AreGiven qs variadic es → b.argument_bytes es ≡ arguments_size types es
-given_bytes types end false none w = refl
-given_bytes types end false (some e es) w = absurd w
-given_bytes types end true es w = passed_bytes types es w
-given_bytes types (more q qs) variadic none w = absurd w
-given_bytes types (more q qs) variadic (some (node t e) es) w = add_bytes types t _ _ w.1.0.0 (given_bytes types qs variadic es w.2)
-
-fitting_bytes : (types : TypesTy) (f : Fn) (es : Nodes) → FitsFn f es → b.argument_bytes es ≡ arguments_size types es
-fitting_bytes types (fn q unknown variadic cdecl) es w = passed_bytes types es w
-fitting_bytes types (fn q (known qs) variadic cdecl) es w = given_bytes types qs variadic es w
+given_bytes : (u : UnitTy) (es : Nodes) → AreTyped u es → b.argument_bytes u.types es ≡ arguments_size u.types es
+given_bytes u none w = refl
+given_bytes u (some (node t e) es) w =
+    ap (λ (k : ℕ). k + b.argument_bytes u.types es) (flat_is u.types (type_in t) (given_flat u (node t e) w.0))
+    ∙ ap (λ (k : ℕ). size_of u.types (type_in t) + k) (given_bytes u es w.1)
 
 abbrev OfOne : QTy → QTy → Type 0
 OfOne a c = (k : IntType) × HasInt a k × (IsTrue (is_promoted k) × HasInt a k × HasInt c k)
@@ -84,25 +66,24 @@ and_false true h = cc
 and_false false h = cc
 
 abbrev Called : UnitTy → QTy → Nodes → Fn → Type 0
-Called u t es g = (t ≡ plain_of (result_of g)) × IsResult t × FitsFn g es × (b.are_few es ≡ true)
+Called u t es g = (t ≡ plain_of (result_of g)) × FitsFn u g es × (b.are_few u.types es ≡ true)
 
-made_call : (u : UnitTy) (t f : QTy) (es : Nodes) (g : Fn) → b.callee_of f ≡ Some g → Called u t es g → IsCall u t f es
-made_call u t f es g e w = record {
+made_call : (u : UnitTy) (t f : QTy) (es : Nodes) (g : Fn) → AreTyped u es → b.callee_of f ≡ Some g → Called u t es g → IsCall u t f es
+made_call u t f es g typed e w = record {
   callee = g;
   named = callee_is f g e;
   result = w.0;
-  scalar = w.1;
-  given = w.2;
-  few = subst (λ (n : ℕ). n ≤ 250) (fitting_bytes u.types g es w.2) (leb-true _ _ w.3);
+  given = w.1;
+  few = subst (λ (n : ℕ). n ≤ 250) (given_bytes u es typed) (leb-true _ _ w.2);
 }
 
-of_call : (u : UnitTy) (t f : QTy) (es : Nodes) (g : Fn) → b.callee_of f ≡ Some g → IsCall u t f es → Called u t es g
-of_call u t f es g e w =
+of_call : (u : UnitTy) (t f : QTy) (es : Nodes) (g : Fn) → AreTyped u es → b.callee_of f ≡ Some g → IsCall u t f es → Called u t es g
+of_call u t f es g typed e w =
     let P : Fn → Type 0 = Called u t es in
     let named : b.callee_of f ≡ Some w.callee = ap b.callee_of w.named in
     let same : w.callee ≡ g = cc in
     let few : arguments_size u.types es ≤ 250 = w.few in
-    subst P same (w.result, w.scalar, w.given, le-leb _ _ (subst (λ (n : ℕ). n ≤ 250) (sym (fitting_bytes u.types w.callee es w.given)) few))
+    subst P same (w.result, w.given, le-leb _ _ (subst (λ (n : ℕ). n ≤ 250) (sym (given_bytes u es typed)) few))
 
 module _ {S : Type 0} where
   -- Operands.
@@ -268,33 +249,59 @@ module _ {S : Type 0} where
 
   -- Calls.
 
-  tells_passed_value : (e : Typed) → Tells S (b.is_passed_value e) (Passes (type_of e) × (is_place e ≡ false))
-  tells_passed_value e = both (tells_passed (type_of e)) (tells_not (is_place e))
+  tells_all_passed : (u : UnitTy) (es : Nodes) → Tells S (b.are_passed u.types es) (ArePassed u es)
+  tells_all_passed u none = tells_unit
+  tells_all_passed u (some e es) = both (tells_passes u (type_of e)) (tells_all_passed u es)
 
-  tells_all_passed : (es : Nodes) → Tells S (b.are_passed es) (ArePassed es)
-  tells_all_passed none = tells_unit
-  tells_all_passed (some e es) = like (both (tells_passed_value e) (tells_all_passed es)) (λ w. (w.0.0, w.0.1, w.1)) (λ w. ((w.0, w.1), w.2))
+  tells_all_given : (u : UnitTy) (qs : QTys) (variadic : Bool) (es : Nodes) → Tells S (b.are_given u.types qs variadic es) (AreGiven u qs variadic es)
+  tells_all_given u end false none = tells_unit
+  tells_all_given u end false (some e es) = tells_never
+  tells_all_given u end true es = tells_all_passed u es
+  tells_all_given u (more q qs) variadic none = tells_never
+  tells_all_given u (more q qs) variadic (some e es) = both (tells_plain_of (type_of e) q) (tells_all_given u qs variadic es)
 
-  tells_given : (qs : QTys) (variadic : Bool) (es : Nodes) → Tells S (b.are_given qs variadic es) (AreGiven qs variadic es)
-  tells_given end false none = tells_unit
-  tells_given end false (some e es) = tells_never
-  tells_given end true es = tells_all_passed es
-  tells_given (more q qs) variadic none = tells_never
-  tells_given (more q qs) variadic (some e es) = like (both (both (tells_plain_of (type_of e) q) (tells_value e)) (tells_given qs variadic es)) (λ w. (w.0.0, w.0.1, w.1)) (λ w. ((w.0, w.1), w.2))
+  tells_fits : (u : UnitTy) (f : Fn) (es : Nodes) → Tells S (b.fits_fn u.types f es) (FitsFn u f es)
+  tells_fits u (fn q unknown variadic cdecl) es = tells_all_passed u es
+  tells_fits u (fn q (known qs) variadic cdecl) es = tells_all_given u qs variadic es
 
-  tells_fits : (f : Fn) (es : Nodes) → Tells S (b.fits_fn f es) (FitsFn f es)
-  tells_fits (fn q unknown variadic cdecl) es = tells_all_passed es
-  tells_fits (fn q (known qs) variadic cdecl) es = tells_given qs variadic es
+  tells_calls : (u : UnitTy) (t : QTy) (es : Nodes) (g : Fn) → Tells S (b.calls u.types g t es) (Called u t es g)
+  tells_calls u t es g = three (tells_plain_of t (result_of g)) (tells_fits u g es) (tells_itself (b.are_few u.types es))
 
-  tells_called : (u : UnitTy) (t : QTy) (es : Nodes) (g : Fn) → Tells S (b.calls g t es) (Called u t es g)
-  tells_called u t es g = four (tells_plain_of t (result_of g)) (tells_result t) (tells_fits g es) (tells_itself (b.are_few es))
+  by_callee : (u : UnitTy) (t f : QTy) (es : Nodes) (o : Option Fn) → AreTyped u es → b.callee_of f ≡ o → Tells S (b.call_by u.types o t es) (IsCall u t f es)
+  by_callee u t f es None typed e = record { yes = λ h. cc; only = λ s w. let named : b.callee_of f ≡ Some w.callee = ap b.callee_of w.named in cc }
+  by_callee u t f es (Some g) typed e = like (tells_calls u t es g) (λ w. made_call u t f es g typed e w) (λ w. of_call u t f es g typed e w)
 
-  by_callee : (u : UnitTy) (t f : QTy) (es : Nodes) (o : Option Fn) → b.callee_of f ≡ o → Tells S (b.call_by o t es) (IsCall u t f es)
-  by_callee u t f es None e = record { yes = λ h. cc; only = λ s w. let named : b.callee_of f ≡ Some w.callee = ap b.callee_of w.named in cc }
-  by_callee u t f es (Some g) e = like (tells_called u t es g) (λ w. made_call u t f es g e w) (λ w. of_call u t f es g e w)
+  tells_call : (u : UnitTy) (t : QTy) (f : Typed) (es : Nodes) → AreTyped u es → Tells S (b.is_call u.types t f es) ((is_place f ≡ false) × IsCall u t (type_of f) es)
+  tells_call u t f es typed = both (tells_not (is_place f)) (by_callee u t (type_of f) es (b.callee_of (type_of f)) typed refl)
 
-  tells_call : (u : UnitTy) (t : QTy) (f : Typed) (es : Nodes) → Tells S (b.is_call t f es) ((is_place f ≡ false) × IsCall u t (type_of f) es)
-  tells_call u t f es = both (tells_not (is_place f)) (by_callee u t (type_of f) es (b.callee_of (type_of f)) refl)
+  -- the parts of a call, whatever it gives
+  parts_by : (u : UnitTy) (t : QTy) (f : Typed) (es : Nodes) → Tells S (b.is_typed u f) (IsTyped u f) → Tells S (b.are_typed u es) (AreTyped u es) → Tells S (b.is_typed u f && b.are_typed u es && b.is_call u.types t f es) (IsTyped u f × AreTyped u es × (is_place f ≡ false) × IsCall u t (type_of f) es)
+  parts_by u t f es callee given = like (behind (both callee given) (λ w. tells_call u t f es w.1)) (λ w. (w.0.0, w.0.1, w.1.0, w.1.1)) (λ w. ((w.0, w.1), (w.2, w.3)))
+
+  -- What a call gives.
+
+  pub tells_auto : (c : Class) → Tells S (b.is_auto c) (c ≡ classes.Auto)
+  tells_auto classes.Auto = record { yes = λ h. refl; only = λ s w. refl }
+  tells_auto _ = record { yes = λ h. cc; only = λ s w. cc }
+
+  tells_none : {A : Type 0} (o : Option A) → Tells S (not (is_some o)) (o ≡ None)
+  tells_none None = record { yes = λ h. refl; only = λ s w. refl }
+  tells_none (Some x) = record { yes = λ h. cc; only = λ s w. cc }
+
+  tells_spot : (u : UnitTy) (i : ℕ) (t : QTy) → Tells S (b.spot_at t (slice_get u.objects i)) (IsSpot u i t)
+  tells_spot u i t = like (tells_found (b.spot_at t) (λ o. (o.name ≡ None) × (o.class ≡ classes.Auto) × (type_in o.ty ≡ type_in t)) refl (λ o. three (tells_none o.name) (tells_auto o.class) (tells_ty (type_in o.ty) (type_in t))) (slice_get u.objects i))
+      (λ w. record { object = w.0; there = w.1; unnamed = w.2.0; class = w.2.1; same = w.2.2 })
+      (λ w. (w.object, w.there, (w.unnamed, w.class, w.same)))
+
+  or_by : (x : Bool) (P : Type 0) → Tells S x P → Tells S (x || false) P
+  or_by true P w = w
+  or_by false P w = w
+
+  or_never : {x : Bool} {P : Type 0} → Tells S x P → Tells S (x || false) P
+  or_never w = or_by _ _ w
+
+  tells_pack : (u : UnitTy) (t : QTy) (e : Typed) → Tells S (b.is_pack u.types t e) (IsSmall u t × (t ≡ plain_of (type_of e)))
+  tells_pack u t e = both (tells_small u t) (tells_plain_of t (type_of e))
 
   -- What a node asks beside its parts.
 
@@ -352,8 +359,19 @@ module _ {S : Type 0} where
     tells_node u t (assign_step op a c) = like (three (tells_typed u a) (tells_typed u c) (tells_assign_step u op t a c)) (λ w. (w.0, w.1, w.2.0.0.0, w.2.0.0.1, w.2.0.1, w.2.0.2, w.2.0.3, w.2.1)) (λ w. (w.0, w.1, (((w.2, w.3), w.4, w.5, w.6), w.7)))
     tells_node u t (step how a) = like (both (tells_typed u a) (both (tells_load t a) (tells_stepped u t))) (λ w. (w.0, w.1.0.0, w.1.0.1, w.1.1)) (λ w. (w.0, ((w.1, w.2), w.3)))
     tells_node u t (copy a c) = like (three (tells_typed u a) (tells_typed u c) (tells_copy t a c)) (λ w. (w.0, w.1, w.2.0, w.2.1, w.2.2, w.2.3)) (λ w. (w.0, w.1, (w.2, w.3, w.4, w.5)))
-    tells_node u t (call f es) = like (three (tells_typed u f) (tells_call u t f es) (tells_nodes u es)) (λ w. (w.0, w.1.0, w.1.1, w.2)) (λ w. (w.0, (w.1, w.2), w.3))
+    tells_node u t (call f es) = like (both (tells_usual t) (parts_by u t f es (tells_typed u f) (tells_nodes u es))) (λ w. (w.1.0, w.1.2, w.1.3, w.0, w.1.1)) (λ w. (w.3, (w.0, w.4, w.1, w.2)))
+    tells_node u t (pack e) = tells_never
+    tells_node u t (spill i e) = both (tells_called u t e) (tells_spot u i t)
+    tells_node u t rest = tells_same t rest_type
+
+    tells_called : (u : UnitTy) (t : QTy) (e : Typed) → Tells S (types.same (type_of e) t && types.is_plain_small u.types (type_of e) && b.is_whole_call u e) (IsCalled u t e)
+    tells_called u t (node s (call f es)) = like (three (tells_same s t) (tells_small u s) (parts_by u s f es (tells_typed u f) (tells_nodes u es))) (λ w. (w.0, w.1, w.2.0, w.2.2, w.2.3, w.2.1)) (λ w. (w.0, w.1, (w.2, w.5, w.3, w.4)))
+    tells_called u t (node s _) = like (three (tells_same s t) (tells_small u s) tells_never) (λ w. absurd w.2) (λ w. absurd w)
+
+    pub tells_given : (u : UnitTy) (e : Typed) → Tells S (b.is_given u e) (IsGiven u e)
+    tells_given u (node t (pack e)) = like (or_never (both (tells_typed u e) (tells_pack u t e))) (λ w. (w.0, w.1.0, w.1.1)) (λ w. (w.0, (w.1, w.2)))
+    tells_given u (node t e) = both (tells_node u t e) (tells_value (node t e))
 
     tells_nodes : (u : UnitTy) (es : Nodes) → Tells S (b.are_typed u es) (AreTyped u es)
     tells_nodes u none = tells_unit
-    tells_nodes u (some e es) = both (tells_typed u e) (tells_nodes u es)
+    tells_nodes u (some e es) = both (tells_given u e) (tells_nodes u es)

@@ -14,9 +14,9 @@ use Rattle.c65_csem.specs.Statements.{Context, looping, switching, IsStmt, AreSt
 use Rattle.c65_csem_check.specs.Kinds as kinds
 use Rattle.c65_csem_check.specs.Expressions as exprs
 use Rattle.c65_csem_check.specs.Statements as b
-use Rattle.c65_csem_check.proofs.Tells.{Tells, like, tells_itself, tells_not, tells_unit, tells_never, tells_found, tells_all, both, three, four, either}
-use Rattle.c65_csem_check.proofs.TypeLaws.{is_int_of, int_of_is}
-use Rattle.c65_csem_check.proofs.ExpressionLaws.{tells_typed, tells_value, holds_in}
+use Rattle.c65_csem_check.proofs.Tells.{Tells, like, tells_itself, tells_not, tells_unit, tells_never, tells_found, tells_all, both, behind, three, four, either}
+use Rattle.c65_csem_check.proofs.TypeLaws.{IsFlat, flat_is, is_int_of, int_of_is, tells_same_size}
+use Rattle.c65_csem_check.proofs.ExpressionLaws.{given_flat, tells_typed, tells_given, tells_value, holds_in}
 use Rattle.c65_csem_check.proofs.ListLaws.{tells_number, tells_distinct_values}
 
 -- Sizes.
@@ -48,34 +48,23 @@ mutual
   measured_in_is : (types : TypesTy) (q : QTy) (n : ℕ) → b.measured_in types q ≡ Some n → qualified_size_of types q ≡ n
   measured_in_is types (qual t c v) n h = measured_is types t n h
 
-flat_is : (types : TypesTy) (t : Ty) → (is_scalar t ≡ true) ⊎ (is_tag t ≡ true) → b.flat_bytes types t ≡ size_of types t
-flat_is types (int k) w = refl
-flat_is types (pointer q) w = refl
-flat_is types (tag n) w = refl
-flat_is types void (inl h) = cc
-flat_is types void (inr h) = cc
-flat_is types (array q n) (inl h) = cc
-flat_is types (array q n) (inr h) = cc
-flat_is types (function f) (inl h) = cc
-flat_is types (function f) (inr h) = cc
-
-initial_kind : (e : Typed) → IsInitial e → (is_scalar (type_in (type_of e)) ≡ true) ⊎ (is_tag (type_in (type_of e)) ≡ true)
+initial_kind : (e : Typed) → IsInitial e → IsFlat (type_in (type_of e))
 initial_kind e (IsInitial.value v) = inl v.0.0
 initial_kind e (IsInitial.place h) = inr h
 
-inside_is : (types : TypesTy) (offset : ℕ) (t : Ty) (q : QTy) (o : Option ℕ) → b.measured_in types q ≡ o → (is_scalar t ≡ true) ⊎ (is_tag t ≡ true) → b.is_inside offset (b.flat_bytes types t) o ≡ true → offset + size_of types t ≤ size_of types (type_in q)
+inside_is : (types : TypesTy) (offset : ℕ) (t : Ty) (q : QTy) (o : Option ℕ) → b.measured_in types q ≡ o → IsFlat t → b.is_inside offset (kinds.flat_bytes types t) o ≡ true → offset + size_of types t ≤ size_of types (type_in q)
 inside_is types offset t q None e w h = cc
 inside_is types offset t (qual s c v) (Some whole) e w h =
     let P : ℕ → Type 0 = λ n. offset + n ≤ size_of types s in
-    let Q : ℕ → Type 0 = λ n. offset + b.flat_bytes types t ≤ n in
-    subst P (flat_is types t w) (subst Q (sym (measured_is types s whole e)) (leb-true (offset + b.flat_bytes types t) whole h))
+    let Q : ℕ → Type 0 = λ n. offset + kinds.flat_bytes types t ≤ n in
+    subst P (flat_is types t w) (subst Q (sym (measured_is types s whole e)) (leb-true (offset + kinds.flat_bytes types t) whole h))
 
-is_inside : (types : TypesTy) (offset : ℕ) (t : Ty) (q : QTy) (o : Option ℕ) → b.measured_in types q ≡ o → (is_scalar t ≡ true) ⊎ (is_tag t ≡ true) → IsSome o → offset + size_of types t ≤ size_of types (type_in q) → b.is_inside offset (b.flat_bytes types t) o ≡ true
+is_inside : (types : TypesTy) (offset : ℕ) (t : Ty) (q : QTy) (o : Option ℕ) → b.measured_in types q ≡ o → IsFlat t → IsSome o → offset + size_of types t ≤ size_of types (type_in q) → b.is_inside offset (kinds.flat_bytes types t) o ≡ true
 is_inside types offset t q None e w some h = cc
 is_inside types offset t (qual s c v) (Some whole) e w some h =
     let P : ℕ → Type 0 = λ n. offset + n ≤ whole in
     let Q : ℕ → Type 0 = λ n. offset + size_of types t ≤ n in
-    le-leb (offset + b.flat_bytes types t) whole (subst P (sym (flat_is types t w)) (subst Q (measured_is types s whole e) h))
+    le-leb (offset + kinds.flat_bytes types t) whole (subst P (sym (flat_is types t w)) (subst Q (measured_is types s whole e) h))
 
 -- Automatic objects whose sizes are within the limit.
 abbrev pub AreMeasured : UnitTy → Type 0
@@ -117,7 +106,9 @@ module _ {S : Type 0} where
 
   tells_return : (u : UnitTy) (c : Context) (e : MaybeTyped) → Tells S (b.is_return u c.gives e) (IsReturn u c e)
   tells_return u c absent = tells_unit
-  tells_return u c (present e) = three (tells_typed u e) (tells_value e) (tells_itself (are_alike (type_of e) c.gives))
+  tells_return u c (present e) = like (behind (both (tells_given u e) (tells_itself (are_alike (type_of e) c.gives))) (λ w. tells_same_size u.types (type_of e) c.gives (given_flat u e w.0) w.1))
+      (λ w. (w.0.0, w.0.1, w.1))
+      (λ w. ((w.0, w.1), w.2))
 
   tells_le : (m n : ℕ) → Tells S (nat_le m n) (m ≤ n)
   tells_le m n = record { yes = λ h. leb-true m n h; only = λ s w. le-leb m n w }
@@ -166,8 +157,8 @@ set_by u i offset e None f = record { yes = λ h. absurd (no (exprs.is_typed u e
     no false h = cc
 set_by u i offset e (Some x) f = record { yes = λ h. made h; only = λ s w. told s w }
   where
-    all : {S : Type 0} → Tells S (exprs.is_typed u e && b.set_by u.types (Some x) offset e) (IsTyped u e × (IsTrue (is_automatic x.class) × IsInitial e × (b.is_inside offset (b.flat_bytes u.types (type_in (type_of e))) (b.measured_in u.types x.ty) ≡ true)))
-    all = both (tells_typed u e) (three (tells_itself (is_automatic x.class)) (tells_initial e) (tells_itself (b.is_inside offset (b.flat_bytes u.types (type_in (type_of e))) (b.measured_in u.types x.ty))))
+    all : {S : Type 0} → Tells S (exprs.is_typed u e && b.set_by u.types (Some x) offset e) (IsTyped u e × (IsTrue (is_automatic x.class) × IsInitial e × (b.is_inside offset (kinds.flat_bytes u.types (type_in (type_of e))) (b.measured_in u.types x.ty) ≡ true)))
+    all = both (tells_typed u e) (three (tells_itself (is_automatic x.class)) (tells_initial e) (tells_itself (b.is_inside offset (kinds.flat_bytes u.types (type_in (type_of e))) (b.measured_in u.types x.ty))))
 
     made : (exprs.is_typed u e && b.set_by u.types (Some x) offset e) ≡ true → IsSet u i offset e
     made h =

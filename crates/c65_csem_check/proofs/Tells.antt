@@ -9,7 +9,7 @@ pub record Tells (S : Type 0) (b : Bool) (P : Type 0) : Type 0 where
   pub yes : b ≡ true → P
   pub only : S → P → b ≡ true
 
-some_same : {A : Type 0} → (P : A → Type 0) (x y : A) → Some x ≡ Some y → P y → P x
+pub some_same : {A : Type 0} → (P : A → Type 0) (x y : A) → Some x ≡ Some y → P y → P x
 some_same P x y h w = let e : y ≡ x = cc in subst P e w
 
 module _ {S : Type 0} where
@@ -44,6 +44,14 @@ module _ {S : Type 0} where
 
   pub four : {a b c d : Bool} {P Q R T : Type 0} → Tells S a P → Tells S b Q → Tells S c R → Tells S d T → Tells S (a && b && c && d) (P × Q × R × T)
   four x y z v = like (both (three x y z) v) (λ w. (w.0.0, w.0.1, w.0.2, w.1)) (λ w. ((w.0, w.1, w.2), w.3))
+
+  behind_by : (a b : Bool) (P Q : Type 0) → Tells S a P → (P → Tells S b Q) → Tells S (a && b) (P × Q)
+  behind_by true b P Q x y = record { yes = λ h. (x.yes refl, (y (x.yes refl)).yes h); only = λ s w. (y w.0).only s w.1 }
+  behind_by false b P Q x y = record { yes = λ h. cc; only = λ s w. x.only s w.0 }
+
+  -- a test behind one that tells what it needs
+  pub behind : {a b : Bool} {P Q : Type 0} → Tells S a P → (P → Tells S b Q) → Tells S (a && b) (P × Q)
+  behind x y = behind_by _ _ _ _ x y
 
   or_by : (a b : Bool) (P Q : Type 0) → Tells S a P → Tells S b Q → Tells S (a || b) (P ⊎ Q)
   or_by true b P Q x y = record { yes = λ h. inl (x.yes refl); only = λ s w. refl }

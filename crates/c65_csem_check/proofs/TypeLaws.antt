@@ -7,8 +7,9 @@ use Rattle.c65_ints.specs.declared.types.IntType.TheVariants.{SChar, UChar, Shor
 use Rattle.c65_ctype.specs.Trees.{Ty, void, int, pointer, array, tag, function, QTy, qual, type_in, Fn, fn, Params, unknown, known, QTys, end, more, TypesTy}
 use Rattle.c65_ints.specs.Ranges.{number_of}
 use Rattle.c65_ctype.specs.Compatible.{same_int, same_bool}
-use Rattle.c65_csem.specs.Places.{plain, plain_of, qualified, is_promoted, is_scalar, moves}
-use Rattle.c65_csem.specs.Typed.{HasInt, IsInt, IsPromoted, IsPointer, IsScalar, IsMoved, IsStepped, IsResult, Passes, IsLiteral, decayed}
+use Rattle.c65_ctype.specs.Sizes.{size_of}
+use Rattle.c65_csem.specs.Places.{plain, plain_of, qualified, is_promoted, is_scalar, is_small, is_tag, alike, are_alike, moves}
+use Rattle.c65_csem.specs.Typed.{HasInt, IsInt, IsPromoted, IsPointer, IsScalar, IsMoved, IsStepped, IsSmall, IsResult, IsUsual, Passes, IsLiteral, decayed}
 use Rattle.c65_csem.specs.Trees.{UnitTy}
 use Rattle.c65_csem_check.specs.Kinds as b
 use Rattle.c65_csem_check.proofs.Tells.{Tells, like, tells_itself, tells_not, tells_never, from_decides, both, three, four, either}
@@ -54,6 +55,43 @@ and_false false h = cc
 
 abbrev text_of : IntType → ℕ → QTy
 text_of k n = plain (array (plain (int k)) (Some (n + 1)))
+
+-- types whose size is known at once
+abbrev pub IsFlat : Ty → Type 0
+IsFlat t = (is_scalar t ≡ true) ⊎ (is_tag t ≡ true)
+
+pub flat_is : (types : TypesTy) (t : Ty) → IsFlat t → b.flat_bytes types t ≡ size_of types t
+flat_is types (int k) w = refl
+flat_is types (pointer q) w = refl
+flat_is types (tag n) w = refl
+flat_is types void (inl h) = cc
+flat_is types void (inr h) = cc
+flat_is types (array q n) (inl h) = cc
+flat_is types (array q n) (inr h) = cc
+flat_is types (function f) (inl h) = cc
+flat_is types (function f) (inr h) = cc
+
+flat_alike : (t u : Ty) → alike t u ≡ true → IsFlat t → IsFlat u
+flat_alike t (int k) h w = inl refl
+flat_alike t (pointer q) h w = inl refl
+flat_alike t (tag n) h w = inr refl
+flat_alike void void h w = w
+flat_alike (array q n) (array r m) h (inl i) = cc
+flat_alike (array q n) (array r m) h (inr i) = cc
+flat_alike (function f) (function g) h (inl i) = cc
+flat_alike (function f) (function g) h (inr i) = cc
+flat_alike _ _ h w = cc
+
+flat_pair : (t u : QTy) → are_alike t u ≡ true → IsFlat (type_in t) → IsFlat (type_in u)
+flat_pair (qual t c v) (qual u d w) h k = flat_alike t u h k
+
+pub small_flat : (types : TypesTy) (t : Ty) → is_small types t ≡ true → IsFlat t
+small_flat types (tag n) h = inr refl
+small_flat types void h = cc
+small_flat types (int k) h = cc
+small_flat types (pointer q) h = cc
+small_flat types (array q n) h = cc
+small_flat types (function f) h = cc
 
 module _ {S : Type 0} where
   tells_nat : (m n : ℕ) → Tells S (m == n) (m ≡ n)
@@ -146,27 +184,51 @@ module _ {S : Type 0} where
   pub tells_moved : (u : UnitTy) (t : QTy) → Tells S (b.is_moved u.types t) (IsMoved u t)
   tells_moved u t = both (tells_pointer t) (tells_itself (moves u.types (type_in t)))
 
-  pub tells_result : (t : QTy) → Tells S (b.is_result t) (IsResult t)
-  tells_result t = like (either (tells_void t) (tells_scalar t)) (λ w. to w) (λ w. from w)
+  pub tells_small : (u : UnitTy) (t : QTy) → Tells S (b.is_plain_small u.types t) (IsSmall u t)
+  tells_small u t = like (both (tells_bare t) (tells_itself (is_small u.types (type_in t)))) (λ w. (w.1, w.0)) (λ w. (w.1, w.0))
+
+  pub tells_result : (u : UnitTy) (t : QTy) → Tells S (b.is_result u.types t) (IsResult u t)
+  tells_result u t = like (either (either (tells_void t) (tells_scalar t)) (tells_small u t)) (λ w. to w) (λ w. from w)
     where
-      to : (t ≡ plain void) ⊎ IsScalar t → IsResult t
-      to (inl h) = subst IsResult (sym h) IsResult.nothing
-      to (inr h) = IsResult.scalar h
+      to : ((t ≡ plain void) ⊎ IsScalar t) ⊎ IsSmall u t → IsResult u t
+      to (inl (inl h)) = subst (λ (q : QTy). IsResult u q) (sym h) IsResult.nothing
+      to (inl (inr h)) = IsResult.scalar h
+      to (inr h) = IsResult.structure h
 
-      from : {q : QTy} → IsResult q → (q ≡ plain void) ⊎ IsScalar q
-      from IsResult.nothing = inl refl
-      from (IsResult.scalar h) = inr h
+      from : {q : QTy} → IsResult u q → ((q ≡ plain void) ⊎ IsScalar q) ⊎ IsSmall u q
+      from IsResult.nothing = inl (inl refl)
+      from (IsResult.scalar h) = inl (inr h)
+      from (IsResult.structure h) = inr h
 
-  pub tells_passed : (t : QTy) → Tells S (b.is_passed t) (Passes t)
-  tells_passed t = like (either (tells_promoted t) (tells_pointer t)) (λ w. to w) (λ w. from w)
+  pub tells_usual : (t : QTy) → Tells S (b.is_usual t) (IsUsual t)
+  tells_usual t = like (either (tells_void t) (tells_scalar t)) (λ w. to w) (λ w. from w)
     where
-      to : IsPromoted t ⊎ IsPointer t → Passes t
-      to (inl h) = Passes.number h
-      to (inr h) = Passes.pointer_value h
+      to : (t ≡ plain void) ⊎ IsScalar t → IsUsual t
+      to (inl h) = subst IsUsual (sym h) IsUsual.nothing
+      to (inr h) = IsUsual.scalar h
 
-      from : Passes t → IsPromoted t ⊎ IsPointer t
-      from (Passes.number h) = inl h
-      from (Passes.pointer_value h) = inr h
+      from : {q : QTy} → IsUsual q → (q ≡ plain void) ⊎ IsScalar q
+      from IsUsual.nothing = inl refl
+      from (IsUsual.scalar h) = inr h
+
+  pub tells_passes : (u : UnitTy) (t : QTy) → Tells S (b.passes u.types t) (Passes u t)
+  tells_passes u t = like (either (either (tells_promoted t) (tells_pointer t)) (tells_small u t)) (λ w. to w) (λ w. from w)
+    where
+      to : (IsPromoted t ⊎ IsPointer t) ⊎ IsSmall u t → Passes u t
+      to (inl (inl h)) = Passes.number h
+      to (inl (inr h)) = Passes.pointer_value h
+      to (inr h) = Passes.structure h
+
+      from : Passes u t → (IsPromoted t ⊎ IsPointer t) ⊎ IsSmall u t
+      from (Passes.number h) = inl (inl h)
+      from (Passes.pointer_value h) = inl (inr h)
+      from (Passes.structure h) = inr h
+
+  pub tells_same_size : (types : TypesTy) (t q : QTy) → IsFlat (type_in t) → are_alike t q ≡ true → Tells S (b.same_size types t q) (size_of types (type_in t) ≡ size_of types (type_in q))
+  tells_same_size types t q w h =
+      let x = flat_is types (type_in t) w in
+      let y = flat_is types (type_in q) (flat_pair t q h w) in
+      like (tells_nat (b.flat_bytes types (type_in t)) (b.flat_bytes types (type_in q))) (λ e. sym x ∙ e ∙ y) (λ e. x ∙ e ∙ sym y)
 
   pub tells_stepped : (u : UnitTy) (t : QTy) → Tells S (b.is_stepped u.types t) (IsStepped u t)
   tells_stepped u t = like (either (tells_int t) (tells_moved u t)) (λ w. to w) (λ w. from w)

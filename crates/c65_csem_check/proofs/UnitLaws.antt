@@ -5,7 +5,7 @@ use Rattle.std.specs.List.{AllByRecursion}
 use Rattle.std.proofs.lemmas.List.Elements.{All-from_recursion, recursion_from_All}
 use Rattle.std.proofs.lemmas.Bool.{le-leb, leb-true, eqb-true}
 use Rattle.std.proofs.lemmas.Bool.Decides.{Decides-eqb, Decides-ltb}
-use Rattle.c65_ctype.specs.Trees.{Ty, QTy, qual, type_in, Fn, fn, Params, unknown, known, QTys, end, more}
+use Rattle.c65_ctype.specs.Trees.{Ty, void, int, pointer, array, tag, function, QTy, qual, type_in, Fn, fn, Params, unknown, known, QTys, end, more, TypesTy}
 use Rattle.c65_ctype.specs.Sizes.{size_of}
 use Rattle.c65_csem.specs.declared.items.Class.{Class}
 use Rattle.c65_csem.specs.declared.items.Class.TheVariants.{External, Tentative, Declared, Static, Auto, Register, Fixed}
@@ -15,16 +15,18 @@ use Rattle.c65_csem.specs.declared.items.Target.{Target}
 use Rattle.c65_csem.specs.declared.items.Target.TheVariants as targets
 use Rattle.c65_base.specs.declared.library.Library.{Library}
 use Rattle.c65_csem.specs.Trees.{Stmt, ObjectTy, FuncTy, UnitTy}
-use Rattle.c65_csem.specs.Places.{is_scalar, is_sized_in, plain_of, is_framed, is_automatic, are_alike}
+use Rattle.c65_csem.specs.Places.{is_passed, is_sized_in, plain_of, is_framed, is_automatic, are_alike}
 use Rattle.c65_csem.specs.Typed.{IsResult, result_of}
 use Rattle.c65_csem.specs.Statements.{IsStmt, IsDistinct, IsAutomatic, labels_of}
 use Rattle.c65_csem.specs.Units.{NamesTarget, IsCell, IsInit, may_have_init, HasRoomFor, HasSize, IsObject, IsParam, AreParams, MatchParams, context_of, IsBody, HasBody, IsFunc, IsUnit, IsWhole, is_defined, IsDefined, IsLinked, IsProgram}
 use Rattle.c65_csem_check.specs.Kinds as kinds
+use Rattle.c65_csem_check.specs.Expressions.{is_auto}
 use Rattle.c65_csem_check.specs.Statements.{measured_in, are_distinct, is_stmt}
 use Rattle.c65_csem_check.specs.Units as b
 use Rattle.c65_csem_check.specs.Units.{IsMeasured, IsMeasuredUnit}
-use Rattle.c65_csem_check.proofs.Tells.{Tells, like, tells_itself, tells_unit, tells_never, tells_found, tells_all, tells_if, from_decides, both, three, four}
-use Rattle.c65_csem_check.proofs.TypeLaws.{tells_result}
+use Rattle.c65_csem_check.proofs.Tells.{Tells, like, tells_itself, tells_unit, tells_never, tells_found, tells_all, tells_if, some_same, from_decides, both, behind, three}
+use Rattle.c65_csem_check.proofs.TypeLaws.{IsFlat, tells_result, tells_same_size}
+use Rattle.c65_csem_check.proofs.ExpressionLaws.{tells_auto}
 use Rattle.c65_csem_check.proofs.ListLaws.{tells_distinct}
 use Rattle.c65_csem_check.proofs.StatementLaws.{AreMeasured, measured_is, tells_stmt}
 
@@ -117,15 +119,22 @@ init_only u o (Some cells) m z w r =
     let found = measure_found (measured_in u.types o.ty) (length cells) (m (sized_by u o.ty o.class r z)) (λ n e. w.0 ∙ size_is u o.ty n e) in
     (three {S = Unit {0}} (tells_itself (may_have_init o.class)) (tells_itself (b.is_length (length cells) (measured_in u.types o.ty))) (tells_cells u cells)).only tt (r, is_length (length cells) (measured_in u.types o.ty) found, w.1)
 
+-- an object has a name, or is automatic
+tells_unnamed : {A : Type 0} (name : Option A) (c : Class) → Tells (Unit {0}) (is_some name || is_auto c) (name ≡ None → c ≡ Auto)
+tells_unnamed None c = like (tells_auto c) (λ h e. h) (λ w. w refl)
+tells_unnamed (Some n) c = record { yes = λ h e. cc; only = λ s w. refl }
+
 object_yes : (u : UnitTy) (o : ObjectTy) → b.is_object u o ≡ true → IsObject u o
 object_yes u o h =
-    let w = and_true (b.has_size u o.ty o.class) (b.is_init u o o.init) h in
+    let v = and_true (b.has_size u o.ty o.class && b.is_init u o o.init) (is_some o.name || is_auto o.class) h in
+    let w = and_true (b.has_size u o.ty o.class) (b.is_init u o o.init) v.0 in
     let i = init_yes u o o.init w.1 in
-    record { size = (tells_size {S = Unit {0}} u o.ty o.class).yes w.0; init = i.0; class = i.1 }
+    record { size = (tells_size {S = Unit {0}} u o.ty o.class).yes w.0; init = i.0; class = i.1; unnamed = (tells_unnamed o.name o.class).yes v.1 }
 
 object_only : (u : UnitTy) (o : ObjectTy) → IsMeasured u o → IsObject u o → b.is_object u o ≡ true
 object_only u o m w =
-    and_made (b.has_size u o.ty o.class) (b.is_init u o o.init) ((tells_size {S = Unit {0}} u o.ty o.class).only tt w.size) (init_only u o o.init m w.size w.init w.class)
+    let sized = and_made (b.has_size u o.ty o.class) (b.is_init u o o.init) ((tells_size {S = Unit {0}} u o.ty o.class).only tt w.size) (init_only u o o.init m w.size w.init w.class) in
+    and_made (b.has_size u o.ty o.class && b.is_init u o o.init) (is_some o.name || is_auto o.class) sized ((tells_unnamed o.name o.class).only tt w.unnamed)
 
 objects_yes : (u : UnitTy) (os : List ObjectTy) → b.are_objects u os ≡ true → AllByRecursion (IsObject u) os
 objects_yes u [] h = tt
@@ -149,36 +158,60 @@ measured_at u (x ∷ os) m w (suc i) o h auto = measured_at u os m.1 w.1 i o h a
 
 -- Functions.
 
+abbrev IsOfType : UnitTy → QTy → ObjectTy → Type 0
+IsOfType u q o = IsTrue (are_alike o.ty q) × (size_of u.types (type_in o.ty) ≡ size_of u.types (type_in q))
+
+passed_flat : (types : TypesTy) (t : Ty) → is_passed types t ≡ true → IsFlat t
+passed_flat types (int k) h = inl refl
+passed_flat types (pointer q) h = inl refl
+passed_flat types (tag n) h = inr refl
+passed_flat types void h = cc
+passed_flat types (array q n) h = cc
+passed_flat types (function f) h = cc
+
+param_flat : (u : UnitTy) (i : ℕ) (o : ObjectTy) → slice_get u.objects i ≡ Some o → IsParam u i → IsFlat (type_in o.ty)
+param_flat u i o e p =
+    let f = p.framed.0 in
+    let same : p.object ≡ o = cc in
+    let P : ObjectTy → Type 0 = λ (x : ObjectTy). IsFlat (type_in x.ty) in
+    subst P same (passed_flat u.types (type_in p.object.ty) p.passed)
+
 module _ {S : Type 0} where
-  tells_param : (u : UnitTy) (i : ℕ) → Tells S (b.param_by (slice_get u.objects i)) (IsParam u i)
-  tells_param u i = like (tells_found b.param_by (λ o. IsTrue (is_framed o.class) × IsTrue (is_scalar (type_in o.ty))) refl (λ o. both (tells_itself (is_framed o.class)) (tells_itself (is_scalar (type_in o.ty)))) (slice_get u.objects i))
-      (λ w. record { object = w.0; framed = (w.1, w.2.0); scalar = w.2.1 })
-      (λ w. (w.object, w.framed.0, (w.framed.1, w.scalar)))
+  tells_param : (u : UnitTy) (i : ℕ) → Tells S (b.param_by u.types (slice_get u.objects i)) (IsParam u i)
+  tells_param u i = like (tells_found (b.param_by u.types) (λ o. IsTrue (is_framed o.class) × IsTrue (is_passed u.types (type_in o.ty)) × IsSome o.name) refl (λ o. three (tells_itself (is_framed o.class)) (tells_itself (is_passed u.types (type_in o.ty))) (tells_itself (is_some o.name))) (slice_get u.objects i))
+      (λ w. record { object = w.0; framed = (w.1, w.2.0); passed = w.2.1; named = w.2.2 })
+      (λ w. (w.object, w.framed.0, (w.framed.1, w.passed, w.named)))
 
   tells_params : (u : UnitTy) (is : List ℕ) → Tells S (b.are_params u is) (All (IsParam u) is)
-  tells_params u is = tells_all (b.are_params u) (λ i. b.param_by (slice_get u.objects i)) (IsParam u) refl (λ i is. refl) (λ i. tells_param u i) is
+  tells_params u is = tells_all (b.are_params u) (λ i. b.param_by u.types (slice_get u.objects i)) (IsParam u) refl (λ i is. refl) (λ i. tells_param u i) is
 
-  tells_type_of : (u : UnitTy) (i : ℕ) (q : QTy) → Tells S (b.has_type_of (slice_get u.objects i) q) ((o : ObjectTy) × (slice_get u.objects i ≡ Some o) × IsTrue (are_alike o.ty q))
-  tells_type_of u i q = tells_found (λ o. b.has_type_of o q) (λ o. IsTrue (are_alike o.ty q)) refl (λ o. tells_itself (are_alike o.ty q)) (slice_get u.objects i)
+  type_by : (u : UnitTy) (i : ℕ) (q : QTy) (o : Option ObjectTy) → slice_get u.objects i ≡ o → IsParam u i → Tells S (b.has_type_of u.types o q) ((x : ObjectTy) × (o ≡ Some x) × IsOfType u q x)
+  type_by u i q None e p = record { yes = λ h. cc; only = λ s w. let f = w.1 in cc }
+  type_by u i q (Some x) e p =
+      let flat = param_flat u i x e p in
+      like (behind (tells_itself (are_alike x.ty q)) (λ h. tells_same_size u.types x.ty q flat h)) (λ w. (x, refl, w)) (λ w. some_same (IsOfType u q) x w.0 w.1 w.2)
 
-  tells_match : (u : UnitTy) (qs : QTys) (is : List ℕ) → Tells S (b.params_match u qs is) (AreParams u qs is)
-  tells_match u end [] = tells_unit
-  tells_match u end (i ∷ is) = tells_never
-  tells_match u (more q qs) [] = tells_never
-  tells_match u (more q qs) (i ∷ is) = like (tells_if (tells_type_of u i q) (tells_match u qs is)) (λ w. (w.0.0, w.0.1, w.0.2, w.1)) (λ w. ((w.0, w.1, w.2), w.3))
+  tells_type_of : (u : UnitTy) (i : ℕ) (q : QTy) → IsParam u i → Tells S (b.has_type_of u.types (slice_get u.objects i) q) ((o : ObjectTy) × (slice_get u.objects i ≡ Some o) × IsOfType u q o)
+  tells_type_of u i q p = type_by u i q (slice_get u.objects i) refl p
 
-  tells_prototype : (u : UnitTy) (f : Fn) (is : List ℕ) → Tells S (b.prototype_matches u f is) (MatchParams u f is)
-  tells_prototype u (fn q unknown variadic cdecl) is = tells_unit
-  tells_prototype u (fn q (known qs) variadic cdecl) is = tells_match u qs is
+  tells_match : (u : UnitTy) (qs : QTys) (is : List ℕ) → AllByRecursion (IsParam u) is → Tells S (b.params_match u qs is) (AreParams u qs is)
+  tells_match u end [] ps = tells_unit
+  tells_match u end (i ∷ is) ps = tells_never
+  tells_match u (more q qs) [] ps = tells_never
+  tells_match u (more q qs) (i ∷ is) ps = like (tells_if (tells_type_of u i q ps.0) (tells_match u qs is ps.1)) (λ w. (w.0.0, w.0.1, w.0.2.0, w.0.2.1, w.1)) (λ w. ((w.0, w.1, (w.2, w.3)), w.4))
+
+  tells_prototype : (u : UnitTy) (f : Fn) (is : List ℕ) → All (IsParam u) is → Tells S (b.prototype_matches u f is) (MatchParams u f is)
+  tells_prototype u (fn q unknown variadic cdecl) is ps = tells_unit
+  tells_prototype u (fn q (known qs) variadic cdecl) is ps = tells_match u qs is (recursion_from_All (IsParam u) is ps)
 
   tells_empty : (ns : List ℕ) → Tells S (b.is_empty ns) (ns ≡ [])
   tells_empty [] = record { yes = λ h. refl; only = λ s w. refl }
   tells_empty (n ∷ ns) = record { yes = λ h. cc; only = λ s w. cc }
 
 tells_body : (u : UnitTy) (f : FuncTy) (body : Stmt) → Tells (AreMeasured u) (b.is_body u f body) (IsBody u f body)
-tells_body u f body = like (both (both (four (tells_params u f.params) (tells_prototype u f.ty f.params) (tells_distinct f.params) (tells_result (plain_of (result_of f.ty)))) (tells_distinct (labels_of body))) (tells_stmt u (context_of f body) body))
-    (λ w. record { params = w.0.0.0; prototype = w.0.0.1; distinct_params = w.0.0.2; gives = w.0.0.3; labels = w.0.1; typed = w.1 })
-    (λ w. (((w.params, w.prototype, w.distinct_params, w.gives), w.labels), w.typed))
+tells_body u f body = like (both (both (three (behind (tells_params u f.params) (λ ps. tells_prototype u f.ty f.params ps)) (tells_distinct f.params) (tells_result u (plain_of (result_of f.ty)))) (tells_distinct (labels_of body))) (tells_stmt u (context_of f body) body))
+    (λ w. record { params = w.0.0.0.0; prototype = w.0.0.0.1; distinct_params = w.0.0.1; gives = w.0.0.2; labels = w.0.1; typed = w.1 })
+    (λ w. ((((w.params, w.prototype), w.distinct_params, w.gives), w.labels), w.typed))
 
 tells_has_body : (u : UnitTy) (f : FuncTy) (o : Option Stmt) → Tells (AreMeasured u) (b.has_body u f o) (HasBody u f o)
 tells_has_body u f None = tells_empty f.params

@@ -8,12 +8,13 @@ use Rattle.c65_ints.specs.declared.types.IntType.{IntType}
 use Rattle.c65_ints.specs.declared.types.IntType.TheVariants.{Int}
 use Rattle.c65_ints.specs.Ranges.{least_of, greatest_of}
 use Rattle.std.specs.Prelude.{ℤ}
-use Rattle.c65_ctype.specs.Sizes.{bytes_of}
 use Rattle.c65_ctype.specs.Trees.{Ty, void, int, pointer, array, tag, function, QTy, qual, type_in, Fn, fn, Params, unknown, known, QTys, end, more, MemberTy, TypesTy}
-use Rattle.c65_csem.specs.Trees.{Typed, node, Node, constant, null, literal, object, func, deref, member, load, address, decay, convert, unary, binary, both, either, choice, comma, assign, assign_op, assign_step, step, copy, call, Nodes, none, some, type_of, ObjectTy, FuncTy, UnitTy}
+use Rattle.c65_csem.specs.declared.items.Class.{Class}
+use Rattle.c65_csem.specs.declared.items.Class.TheVariants.{Auto}
+use Rattle.c65_csem.specs.Trees.{Typed, node, Node, constant, null, literal, object, func, deref, member, load, address, decay, convert, unary, binary, both, either, choice, comma, assign, assign_op, assign_step, step, copy, call, pack, spill, rest, Nodes, none, some, type_of, ObjectTy, FuncTy, UnitTy}
 use Rattle.c65_csem.specs.Places.{is_place, is_promoted, is_scalar, is_tag, member_at, is_bit_field, is_registered, are_alike}
 use Rattle.c65_csem.specs.Typed.{result_of}
-use Rattle.c65_csem_check.specs.Kinds.{same, same_ty, int_of, is_int_of, is_int, is_promoted_int, is_bare, is_plain_void, is_plain_pointer, is_plain_of, is_plain_scalar, is_pointer_to, is_moved, is_result, is_passed, is_stepped, is_decayed, is_literal, is_qualified}
+use Rattle.c65_csem_check.specs.Kinds.{same, same_ty, int_of, is_int_of, is_int, is_promoted_int, is_bare, is_plain_void, is_plain_pointer, is_plain_of, is_plain_scalar, is_pointer_to, is_moved, is_plain_small, is_usual, passes, is_rest, flat_bytes, is_stepped, is_decayed, is_literal, is_qualified}
 
 -- Operands.
 
@@ -167,48 +168,49 @@ is_step types t a = is_load t a && is_stepped types t
 abbrev pub is_copy : QTy → Typed → Typed → Bool
 is_copy t a b = is_place a && is_tag (type_in t) && is_plain_of t (type_of a) && is_plain_of t (type_of b)
 
+-- an automatic object, and no register
+abbrev pub is_auto : Class → Bool
+is_auto Auto = true
+is_auto _ = false
+
+-- an unnamed object for what a call gives
+abbrev pub spot_at : QTy → Option ObjectTy → Bool
+spot_at t None = false
+spot_at t (Some o) = not (is_some o.name) && is_auto o.class && same_ty (type_in o.ty) (type_in t)
+
+abbrev pub is_pack : TypesTy → QTy → Typed → Bool
+is_pack types t e = is_plain_small types t && is_plain_of t (type_of e)
+
 -- Calls.
 
-abbrev pub is_passed_value : Typed → Bool
-is_passed_value e = is_passed (type_of e) && not (is_place e)
+abbrev pub are_passed : TypesTy → Nodes → Bool
+are_passed types none = true
+are_passed types (some e es) = passes types (type_of e) && are_passed types es
 
-abbrev pub are_passed : Nodes → Bool
-are_passed none = true
-are_passed (some e es) = is_passed_value e && are_passed es
+abbrev pub are_given : TypesTy → QTys → Bool → Nodes → Bool
+are_given types end false none = true
+are_given types end false (some e es) = false
+are_given types end true es = are_passed types es
+are_given types (more q qs) variadic none = false
+are_given types (more q qs) variadic (some e es) = is_plain_of (type_of e) q && are_given types qs variadic es
 
-abbrev pub is_given : QTy → Typed → Bool
-is_given q e = is_plain_of (type_of e) q && is_value e
+abbrev pub fits : TypesTy → Params → Bool → Nodes → Bool
+fits types unknown variadic es = are_passed types es
+fits types (known qs) variadic es = are_given types qs variadic es
 
-abbrev pub are_given : QTys → Bool → Nodes → Bool
-are_given end false none = true
-are_given end false (some e es) = false
-are_given end true es = are_passed es
-are_given (more q qs) variadic none = false
-are_given (more q qs) variadic (some e es) = is_given q e && are_given qs variadic es
-
-abbrev pub fits : Params → Bool → Nodes → Bool
-fits unknown variadic es = are_passed es
-fits (known qs) variadic es = are_given qs variadic es
-
-abbrev pub fits_fn : Fn → Nodes → Bool
-fits_fn (fn q ps variadic cdecl) es = fits ps variadic es
-
--- the bytes of a scalar type
-abbrev pub scalar_bytes : Ty → ℕ
-scalar_bytes (int k) = bytes_of k
-scalar_bytes (pointer q) = 2
-scalar_bytes _ = 0
+abbrev pub fits_fn : TypesTy → Fn → Nodes → Bool
+fits_fn types (fn q ps variadic cdecl) es = fits types ps variadic es
 
 -- the bytes of all arguments
-abbrev pub argument_bytes : Nodes → ℕ
-argument_bytes none = 0
-argument_bytes (some e es) = scalar_bytes (type_in (type_of e)) + argument_bytes es
+abbrev pub argument_bytes : TypesTy → Nodes → ℕ
+argument_bytes types none = 0
+argument_bytes types (some e es) = flat_bytes types (type_in (type_of e)) + argument_bytes types es
 
-abbrev pub are_few : Nodes → Bool
-are_few es = nat_le (argument_bytes es) 250
+abbrev pub are_few : TypesTy → Nodes → Bool
+are_few types es = nat_le (argument_bytes types es) 250
 
-abbrev pub calls : Fn → QTy → Nodes → Bool
-calls f t es = is_plain_of t (result_of f) && is_result t && fits_fn f es && are_few es
+abbrev pub calls : TypesTy → Fn → QTy → Nodes → Bool
+calls types f t es = is_plain_of t (result_of f) && fits_fn types f es && are_few types es
 
 -- the function that a pointer without qualifiers points to
 abbrev pub callee_in : Ty → Option Fn
@@ -218,12 +220,12 @@ callee_in _ = None
 abbrev pub callee_of : QTy → Option Fn
 callee_of (qual t c v) = if c || v then None else callee_in t
 
-abbrev pub call_by : Option Fn → QTy → Nodes → Bool
-call_by None t es = false
-call_by (Some f) t es = calls f t es
+abbrev pub call_by : TypesTy → Option Fn → QTy → Nodes → Bool
+call_by types None t es = false
+call_by types (Some f) t es = calls types f t es
 
-abbrev pub is_call : QTy → Typed → Nodes → Bool
-is_call t f es = not (is_place f) && call_by (callee_of (type_of f)) t es
+abbrev pub is_call : TypesTy → QTy → Typed → Nodes → Bool
+is_call types t f es = not (is_place f) && call_by types (callee_of (type_of f)) t es
 
 -- each node meets its rule
 abbrev mutual
@@ -253,8 +255,25 @@ abbrev mutual
   is_node u t (assign_step op a b) = is_typed u a && is_typed u b && is_assign_step u.types op t a b
   is_node u t (step how a) = is_typed u a && is_step u.types t a
   is_node u t (copy a b) = is_typed u a && is_typed u b && is_copy t a b
-  is_node u t (call f es) = is_typed u f && is_call t f es && are_typed u es
+  is_node u t (call f es) = is_usual t && (is_typed u f && are_typed u es && is_call u.types t f es)
+  is_node u t (pack e) = false
+  is_node u t (spill i e) = same (type_of e) t && is_plain_small u.types (type_of e) && is_whole_call u e && spot_at t (slice_get u.objects i)
+  is_node u t rest = is_rest t
+
+  -- a call, whatever it gives
+  pub is_whole_call : UnitTy → Typed → Bool
+  is_whole_call u (node t (call f es)) = is_typed u f && are_typed u es && is_call u.types t f es
+  is_whole_call u (node t _) = false
+
+  -- the bytes of a structure or union
+  pub is_packed : UnitTy → Typed → Bool
+  is_packed u (node t (pack e)) = is_typed u e && is_pack u.types t e
+  is_packed u (node t _) = false
 
   pub are_typed : UnitTy → Nodes → Bool
   are_typed u none = true
-  are_typed u (some e es) = is_typed u e && are_typed u es
+  are_typed u (some e es) = (is_packed u e || (is_typed u e && is_value e)) && are_typed u es
+
+-- an argument or a returned value
+abbrev pub is_given : UnitTy → Typed → Bool
+is_given u e = is_packed u e || (is_typed u e && is_value e)

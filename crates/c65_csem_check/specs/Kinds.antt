@@ -4,8 +4,10 @@ use Rattle.c65_ints.specs.declared.types.IntType.{IntType}
 use Rattle.c65_ints.specs.declared.types.IntType.TheVariants.{SChar, UChar}
 use Rattle.c65_ctype.specs.Trees.{Ty, void, int, pointer, array, tag, function, QTy, qual, type_in, Fn, fn, Params, unknown, known, QTys, end, more, TypesTy}
 use Rattle.c65_ctype.specs.Compatible.{same_int, same_bool}
-use Rattle.c65_csem.specs.Places.{plain, plain_of, qualified, is_promoted, is_scalar, moves}
-use Rattle.c65_csem.specs.Typed.{decayed}
+use Rattle.c65_ctype.specs.Sizes.{bytes_of, size_in}
+use Rattle.c65_ctype.specs.Tables.{layout_at}
+use Rattle.c65_csem.specs.Places.{plain, plain_of, qualified, is_promoted, is_scalar, is_small, moves}
+use Rattle.c65_csem.specs.Typed.{decayed, rest_type}
 
 abbrev pub equal_count : Option ℕ → Option ℕ → Bool
 equal_count None None = true
@@ -89,11 +91,32 @@ is_pointer_to t q = same t (plain (pointer q))
 abbrev pub is_moved : TypesTy → QTy → Bool
 is_moved types t = is_plain_pointer t && moves types (type_in t)
 
-abbrev pub is_result : QTy → Bool
-is_result t = is_plain_void t || is_plain_scalar t
+-- a structure or union of at most four bytes
+abbrev pub is_plain_small : TypesTy → QTy → Bool
+is_plain_small types t = is_bare t && is_small types (type_in t)
 
-abbrev pub is_passed : QTy → Bool
-is_passed t = is_promoted_int t || is_plain_pointer t
+abbrev pub is_result : TypesTy → QTy → Bool
+is_result types t = is_plain_void t || is_plain_scalar t || is_plain_small types t
+
+abbrev pub is_usual : QTy → Bool
+is_usual t = is_plain_void t || is_plain_scalar t
+
+-- what a call passes without a prototype
+abbrev pub passes : TypesTy → QTy → Bool
+passes types t = is_promoted_int t || is_plain_pointer t || is_plain_small types t
+
+abbrev pub is_rest : QTy → Bool
+is_rest t = same t rest_type
+
+-- the size of a scalar type, and of a structure or union that is finished
+abbrev pub flat_bytes : TypesTy → Ty → ℕ
+flat_bytes types (int k) = bytes_of k
+flat_bytes types (pointer q) = 2
+flat_bytes types (tag n) = size_in (layout_at types n)
+flat_bytes types _ = 0
+
+abbrev pub same_size : TypesTy → QTy → QTy → Bool
+same_size types t q = flat_bytes types (type_in t) == flat_bytes types (type_in q)
 
 abbrev pub is_stepped : TypesTy → QTy → Bool
 is_stepped types t = is_int t || is_moved types t

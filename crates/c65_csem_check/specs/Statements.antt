@@ -3,13 +3,13 @@ use Rattle.std.specs.Prelude.{ℕ, ◌+◌, ◌*◌, ℤ, List, [], ◌∷◌, l
 use Rattle.c65_ints.specs.declared.types.IntType.{IntType}
 use Rattle.c65_ints.specs.declared.types.IntType.TheVariants.{Int}
 use Rattle.c65_ctype.specs.Trees.{Ty, void, int, pointer, array, tag, function, QTy, qual, type_in, TypesTy, LayoutTy}
-use Rattle.c65_ctype.specs.Sizes.{bytes_of, size_in}
+use Rattle.c65_ctype.specs.Sizes.{bytes_of}
 use Rattle.c65_ctype.specs.Tables.{layout_at}
 use Rattle.c65_csem.specs.Trees.{Typed, type_of, MaybeTyped, absent, present, Stmt, empty, eval, set_part, clear, block, if_stmt, while, do_while, for_loop, switch, case, default, label, goto, break, continue, return, Stmts, no_stmts, and_stmts, ObjectTy, UnitTy}
 use Rattle.c65_csem.specs.Places.{is_place, is_tag, is_automatic, are_alike}
 use Rattle.c65_csem.specs.Statements.{Context, looping, switching, cases_of, defaults_of}
-use Rattle.c65_csem_check.specs.Kinds.{int_of, promotes}
-use Rattle.c65_csem_check.specs.Expressions.{is_typed, is_value, holds}
+use Rattle.c65_csem_check.specs.Kinds.{int_of, promotes, flat_bytes, same_size}
+use Rattle.c65_csem_check.specs.Expressions.{is_typed, is_given, is_value, holds}
 
 abbrev pub has_number : List ℕ → ℕ → Bool
 has_number [] n = false
@@ -51,13 +51,6 @@ abbrev mutual
   pub measured_in : TypesTy → QTy → Option ℕ
   measured_in types (qual t c v) = measured types t
 
--- the size of a scalar type, and of a structure or union that is finished
-abbrev pub flat_bytes : TypesTy → Ty → ℕ
-flat_bytes types (int k) = bytes_of k
-flat_bytes types (pointer q) = 2
-flat_bytes types (tag n) = size_in (layout_at types n)
-flat_bytes types _ = 0
-
 abbrev pub is_inside : ℕ → ℕ → Option ℕ → Bool
 is_inside offset size None = false
 is_inside offset size (Some whole) = nat_le (offset + size) whole
@@ -94,7 +87,7 @@ is_maybe_condition u (present e) = is_condition u e
 
 abbrev pub is_return : UnitTy → QTy → MaybeTyped → Bool
 is_return u t absent = true
-is_return u t (present e) = is_typed u e && is_value e && are_alike (type_of e) t
+is_return u t (present e) = is_given u e && are_alike (type_of e) t && same_size u.types (type_of e) t
 
 abbrev pub is_selector : UnitTy → Typed → Bool
 is_selector u e = is_typed u e && not (is_place e) && promotes (int_of (type_of e))

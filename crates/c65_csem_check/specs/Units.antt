@@ -1,6 +1,6 @@
 -- Tests on units and programs (C90 6.7).
 use Rattle.std.specs.Prelude.{◌≡◌, ℕ, List, [], ◌∷◌, length, Bool, true, false, not, ◌||◌, ◌&&◌, ◌==◌, Option, Some, None, is_some, IsSome, IsTrue, All, slice_get, nat_le, nat_lt, if◌then◌else◌}
-use Rattle.c65_ctype.specs.Trees.{QTy, type_in, Fn, fn, Params, unknown, known, QTys, end, more}
+use Rattle.c65_ctype.specs.Trees.{QTy, type_in, Fn, fn, Params, unknown, known, QTys, end, more, TypesTy}
 use Rattle.c65_csem.specs.declared.items.Class.{Class}
 use Rattle.c65_csem.specs.declared.items.Class.TheVariants.{Declared}
 use Rattle.c65_csem.specs.declared.items.Cell.{Cell}
@@ -9,11 +9,12 @@ use Rattle.c65_csem.specs.declared.items.Target.{Target}
 use Rattle.c65_csem.specs.declared.items.Target.TheVariants as targets
 use Rattle.c65_base.specs.declared.library.Library.{Library}
 use Rattle.c65_csem.specs.Trees.{Stmt, ObjectTy, FuncTy, UnitTy}
-use Rattle.c65_csem.specs.Places.{is_scalar, is_sized_in, plain_of, is_framed, are_alike}
+use Rattle.c65_csem.specs.Places.{is_passed, is_sized_in, plain_of, is_framed, are_alike}
 use Rattle.c65_csem.specs.Typed.{result_of}
 use Rattle.c65_csem.specs.Statements.{labels_of}
 use Rattle.c65_csem.specs.Units.{context_of, may_have_init, is_defined}
-use Rattle.c65_csem_check.specs.Kinds.{is_result}
+use Rattle.c65_csem_check.specs.Kinds.{is_result, same_size}
+use Rattle.c65_csem_check.specs.Expressions.{is_auto}
 use Rattle.c65_csem_check.specs.Statements.{are_distinct, measured_in, is_stmt}
 
 abbrev pub names_target : UnitTy → Target → Bool
@@ -42,37 +43,37 @@ has_size u t Declared = true
 has_size u t _ = is_sized_in u.types t
 
 abbrev pub is_object : UnitTy → ObjectTy → Bool
-is_object u o = has_size u o.ty o.class && is_init u o o.init
+is_object u o = has_size u o.ty o.class && is_init u o o.init && (is_some o.name || is_auto o.class)
 
 abbrev pub are_objects : UnitTy → List ObjectTy → Bool
 are_objects u [] = true
 are_objects u (o ∷ os) = if is_object u o then are_objects u os else false
 
-abbrev pub param_by : Option ObjectTy → Bool
-param_by None = false
-param_by (Some o) = is_framed o.class && is_scalar (type_in o.ty)
+abbrev pub param_by : TypesTy → Option ObjectTy → Bool
+param_by types None = false
+param_by types (Some o) = is_framed o.class && is_passed types (type_in o.ty) && is_some o.name
 
 abbrev pub are_params : UnitTy → List ℕ → Bool
 are_params u [] = true
-are_params u (i ∷ is) = if param_by (slice_get u.objects i) then are_params u is else false
+are_params u (i ∷ is) = if param_by u.types (slice_get u.objects i) then are_params u is else false
 
-abbrev pub has_type_of : Option ObjectTy → QTy → Bool
-has_type_of None q = false
-has_type_of (Some o) q = are_alike o.ty q
+abbrev pub has_type_of : TypesTy → Option ObjectTy → QTy → Bool
+has_type_of types None q = false
+has_type_of types (Some o) q = are_alike o.ty q && same_size types o.ty q
 
--- each parameter has the type that the prototype gives it, down to pointers
+-- each parameter has the type that the prototype gives it, down to pointers and tags, and its size
 abbrev pub params_match : UnitTy → QTys → List ℕ → Bool
 params_match u end [] = true
 params_match u end (i ∷ is) = false
 params_match u (more q qs) [] = false
-params_match u (more q qs) (i ∷ is) = if has_type_of (slice_get u.objects i) q then params_match u qs is else false
+params_match u (more q qs) (i ∷ is) = if has_type_of u.types (slice_get u.objects i) q then params_match u qs is else false
 
 abbrev pub prototype_matches : UnitTy → Fn → List ℕ → Bool
 prototype_matches u (fn q unknown variadic cdecl) is = true
 prototype_matches u (fn q (known qs) variadic cdecl) is = params_match u qs is
 
 abbrev pub is_body : UnitTy → FuncTy → Stmt → Bool
-is_body u f body = are_params u f.params && prototype_matches u f.ty f.params && are_distinct f.params && is_result (plain_of (result_of f.ty)) && are_distinct (labels_of body) && is_stmt u (context_of f body) body
+is_body u f body = are_params u f.params && prototype_matches u f.ty f.params && are_distinct f.params && is_result u.types (plain_of (result_of f.ty)) && are_distinct (labels_of body) && is_stmt u (context_of f body) body
 
 abbrev pub is_empty : List ℕ → Bool
 is_empty [] = true

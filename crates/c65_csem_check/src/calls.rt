@@ -1,87 +1,61 @@
 // Calls (C90 6.3.2.2).
-ghost use Rattle.std.specs.Prelude.{◌≡◌, ◌≤◌, option_map, option_copied};
-ghost use Rattle.c65_ctype.specs.Views.{ty_of, qty_of, qtys_of, fn_of};
+ghost use Rattle.std.specs.Prelude.{◌≡◌, option_map, option_copied};
+ghost use Rattle.c65_ctype.specs.Views.{ty_of, qty_of, qtys_of, fn_of, types_of};
 ghost use Rattle.c65_csem.specs.Views.{typed_of, nodes_of};
 ghost use Rattle.c65_csem_check.specs.Expressions;
 
-use crate::nodes::is_value;
-use crate::types::{is_passed, is_plain_of, is_result};
+use crate::sizes::flat_bytes;
+use crate::types::{is_plain_of, passes};
 use c65_csem::TExpr;
-use c65_ctype::{CType, FnType, QType};
-use c65_ints::IntType;
-
-fn is_passed_value(e: &TExpr) -> bool
-    ensures { result ≡ Expressions.is_passed_value (typed_of e.now) }
-{
-    is_passed(&e.ty) && !e.is_place()
-}
+use c65_ctype::{CType, FnType, QType, Types};
 
 /// Whether a call without a prototype passes these arguments.
-fn are_passed(arguments: &[TExpr]) -> bool
-    ensures { result ≡ Expressions.are_passed (nodes_of arguments.now) }
+fn are_passed(types: &Types, arguments: &[TExpr]) -> bool
+    ensures { result ≡ Expressions.are_passed (types_of types.now) (nodes_of arguments.now) }
 {
     for argument in arguments {
-        if !is_passed_value(argument) {
+        if !passes(types, &argument.ty) {
             return false;
         }
     }
     true
 }
 
-fn is_given(parameter: &QType, argument: &TExpr) -> bool
-    ensures { result ≡ Expressions.is_given (qty_of parameter.now) (typed_of argument.now) }
-{
-    is_plain_of(&argument.ty, parameter) && is_value(argument)
-}
-
 /// Whether a call with a prototype passes these arguments.
-fn are_given(parameters: &[QType], variadic: bool, arguments: &[TExpr]) -> bool
-    ensures { result ≡ Expressions.are_given (qtys_of parameters.now) variadic (nodes_of arguments.now) }
+fn are_given(types: &Types, parameters: &[QType], variadic: bool, arguments: &[TExpr]) -> bool
+    ensures { result ≡ Expressions.are_given (types_of types.now) (qtys_of parameters.now) variadic (nodes_of arguments.now) }
 {
     for (i, parameter) in parameters.iter().enumerate() {
         let Some(argument) = arguments.get(i) else {
             return false;
         };
-        if !is_given(parameter, argument) {
+        if !is_plain_of(&argument.ty, parameter) {
             return false;
         }
     }
     if variadic {
-        are_passed(&arguments[parameters.len()..])
+        are_passed(types, &arguments[parameters.len()..])
     } else {
         parameters.len() == arguments.len()
     }
 }
 
-fn fits(function: &FnType, arguments: &[TExpr]) -> bool
-    ensures { result ≡ Expressions.fits_fn (fn_of function.now) (nodes_of arguments.now) }
+fn fits(types: &Types, function: &FnType, arguments: &[TExpr]) -> bool
+    ensures { result ≡ Expressions.fits_fn (types_of types.now) (fn_of function.now) (nodes_of arguments.now) }
 {
     match &function.params {
-        Some(parameters) => are_given(parameters, function.variadic, arguments),
-        None => are_passed(arguments),
-    }
-}
-
-fn scalar_bytes(ty: &CType) -> u32
-    ensures exact { result ≡ Expressions.scalar_bytes (ty_of ty.now) }
-    ensures small { result ≤ 4 }
-{
-    match ty {
-        CType::Int(IntType::SChar | IntType::UChar) => 1,
-        CType::Int(IntType::Short | IntType::UShort | IntType::Int | IntType::UInt) => 2,
-        CType::Int(IntType::Long | IntType::ULong) => 4,
-        CType::Pointer(_) => 2,
-        _ => 0,
+        Some(parameters) => are_given(types, parameters, function.variadic, arguments),
+        None => are_passed(types, arguments),
     }
 }
 
 /// Whether the arguments have at most 250 bytes.
-fn are_few(arguments: &[TExpr]) -> bool
-    ensures { result ≡ Expressions.are_few (nodes_of arguments.now) }
+fn are_few(types: &Types, arguments: &[TExpr]) -> bool
+    ensures { result ≡ Expressions.are_few (types_of types.now) (nodes_of arguments.now) }
 {
     let mut left: u32 = 250;
     for argument in arguments {
-        let bytes = scalar_bytes(&argument.ty.ty);
+        let bytes = flat_bytes(types, &argument.ty.ty);
         if bytes > left {
             return false;
         }
@@ -90,13 +64,12 @@ fn are_few(arguments: &[TExpr]) -> bool
     true
 }
 
-fn is_call_of(function: &FnType, ty: &QType, arguments: &[TExpr]) -> bool
-    ensures { result ≡ Expressions.calls (fn_of function.now) (qty_of ty.now) (nodes_of arguments.now) }
+fn is_call_of(types: &Types, function: &FnType, ty: &QType, arguments: &[TExpr]) -> bool
+    ensures { result ≡ Expressions.calls (types_of types.now) (fn_of function.now) (qty_of ty.now) (nodes_of arguments.now) }
 {
     is_plain_of(ty, &function.result)
-        && is_result(ty)
-        && fits(function, arguments)
-        && are_few(arguments)
+        && fits(types, function, arguments)
+        && are_few(types, arguments)
 }
 
 fn callee_in(ty: &CType) -> Option<&FnType>
@@ -127,18 +100,18 @@ fn callee_of(q: &QType) -> Option<&FnType>
     }
 }
 
-fn call_by(function: Option<&FnType>, ty: &QType, arguments: &[TExpr]) -> bool
-    ensures { result ≡ Expressions.call_by (option_map fn_of (option_copied function.entry)) (qty_of ty.now) (nodes_of arguments.now) }
+fn call_by(types: &Types, function: Option<&FnType>, ty: &QType, arguments: &[TExpr]) -> bool
+    ensures { result ≡ Expressions.call_by (types_of types.now) (option_map fn_of (option_copied function.entry)) (qty_of ty.now) (nodes_of arguments.now) }
 {
     match function {
-        Some(function) => is_call_of(function, ty, arguments),
+        Some(function) => is_call_of(types, function, ty, arguments),
         None => false,
     }
 }
 
 /// Whether a call of this type meets its rule.
-pub fn is_call(ty: &QType, function: &TExpr, arguments: &[TExpr]) -> bool
-    ensures { result ≡ Expressions.is_call (qty_of ty.now) (typed_of function.now) (nodes_of arguments.now) }
+pub fn is_call(types: &Types, ty: &QType, function: &TExpr, arguments: &[TExpr]) -> bool
+    ensures { result ≡ Expressions.is_call (types_of types.now) (qty_of ty.now) (typed_of function.now) (nodes_of arguments.now) }
 {
-    !function.is_place() && call_by(callee_of(&function.ty), ty, arguments)
+    !function.is_place() && call_by(types, callee_of(&function.ty), ty, arguments)
 }

@@ -7,9 +7,10 @@ use crate::calls::is_call;
 use crate::nodes::{
     converts, is_address, is_arm, is_assign, is_assign_op, is_assign_step, is_binary, is_choice,
     is_constant, is_copy, is_decay, is_deref, is_func, is_load, is_logical, is_member, is_object,
-    is_step, is_text, is_unary,
+    is_pack, is_spot, is_step, is_text, is_unary, is_value,
 };
-use crate::types::is_plain_pointer;
+use crate::same::same;
+use crate::types::{is_plain_pointer, is_plain_small, is_rest, is_usual};
 use c65_csem::{Parts, TExpr, TKind};
 
 fn are_all(a: bool, b: bool, c: bool) -> bool
@@ -57,15 +58,53 @@ pub fn is_typed(parts: &Parts, e: &TExpr) -> bool
         }
         TKind::Step(_, a) => is_typed(parts, a) && is_step(types, ty, a),
         TKind::Copy(a, b) => is_typed(parts, a) && is_typed(parts, b) && is_copy(ty, a, b),
+        TKind::Call(_, _) => is_usual(ty) && is_whole_call(parts, e),
+        TKind::Pack(_) => false,
+        TKind::Spill(number, a) => {
+            same(&a.ty, ty)
+                && is_plain_small(types, &a.ty)
+                && is_whole_call(parts, a)
+                && is_spot(parts, ty, *number)
+        }
+        TKind::Rest => is_rest(ty),
+    }
+}
+
+/// Whether an expression is a call that meets its rule, whatever it gives.
+#[cycle(typed)]
+fn is_whole_call(parts: &Parts, e: &TExpr) -> bool
+    ensures { result ≡ Expressions.is_whole_call (unit_of parts.now) (typed_of e.now) }
+{
+    match &e.kind {
         TKind::Call(function, arguments) => {
             let callee: &TExpr = function;
             let given: &[TExpr] = arguments;
             let a = is_typed(parts, callee);
-            let b = is_call(ty, callee, given);
-            let c = are_typed(parts, given);
+            let b = are_typed(parts, given);
+            let c = is_call(&parts.types, &e.ty, callee, given);
             are_all(a, b, c)
         }
+        _ => false,
     }
+}
+
+#[cycle(typed)]
+fn is_packed(parts: &Parts, e: &TExpr) -> bool
+    ensures { result ≡ Expressions.is_packed (unit_of parts.now) (typed_of e.now) }
+{
+    match &e.kind {
+        TKind::Pack(a) => is_typed(parts, a) && is_pack(&parts.types, &e.ty, a),
+        _ => false,
+    }
+}
+
+/// Whether an expression may be an argument or a returned value: a value, or the bytes of a structure
+/// or union.
+#[cycle(typed)]
+pub fn is_given(parts: &Parts, e: &TExpr) -> bool
+    ensures { result ≡ Expressions.is_given (unit_of parts.now) (typed_of e.now) }
+{
+    is_packed(parts, e) || (is_typed(parts, e) && is_value(e))
 }
 
 #[cycle(typed)]
@@ -73,7 +112,7 @@ fn are_typed(parts: &Parts, arguments: &[TExpr]) -> bool
     ensures { result ≡ Expressions.are_typed (unit_of parts.now) (nodes_of arguments.now) }
 {
     for argument in arguments {
-        if !is_typed(parts, argument) {
+        if !is_given(parts, argument) {
             return false;
         }
     }

@@ -8,10 +8,11 @@ ghost use Rattle.c65_csem_check.specs.Kinds;
 ghost use Rattle.c65_csem_check.specs.Expressions.{holds, text_at, object_at, func_at, member_by};
 
 use crate::operators::{computes, operand, operands, steps};
-use crate::same::same;
+use crate::same::{same, same_plain};
 use crate::types::{
     are_alike, int_of, is_bare, is_decayed, is_int, is_int_of, is_literal, is_moved, is_plain_of,
-    is_plain_scalar, is_plain_void, is_pointer_to, is_promoted, is_qualified, is_stepped,
+    is_plain_scalar, is_plain_small, is_plain_void, is_pointer_to, is_promoted, is_qualified,
+    is_stepped,
 };
 use c65_base::{BinaryOp, Text as Bytes, UnaryOp};
 use c65_csem::{Class, Parts, TExpr, TFunc, TKind, TObject, is_scalar, is_tag, member_at};
@@ -157,6 +158,41 @@ pub fn is_object(parts: &Parts, ty: &QType, number: u32) -> bool
     ensures { result ≡ object_at (qty_of ty.now) (slice_get (unit_of parts.now).objects number) }
 {
     object_at(ty, object(parts, number))
+}
+
+/// Whether objects of this class are automatic and no registers.
+pub fn is_auto(class: Class) -> bool
+    ensures { result ≡ Expressions.is_auto class }
+{
+    match class {
+        Class::Auto => true,
+        _ => false,
+    }
+}
+
+fn spot_at(ty: &QType, object: Option<&TObject>) -> bool
+    ensures { result ≡ Expressions.spot_at (qty_of ty.now) (option_map object_of (option_copied object.entry)) }
+{
+    match object {
+        Some(object) => {
+            object.name.is_none() && is_auto(object.class) && same_plain(&object.ty.ty, &ty.ty)
+        }
+        None => false,
+    }
+}
+
+/// Whether an object may hold what a call of this type gives.
+pub fn is_spot(parts: &Parts, ty: &QType, number: u32) -> bool
+    ensures { result ≡ Expressions.spot_at (qty_of ty.now) (slice_get (unit_of parts.now).objects number) }
+{
+    spot_at(ty, object(parts, number))
+}
+
+/// Whether a structure argument or result of this type has the bytes of a place.
+pub fn is_pack(types: &Types, ty: &QType, e: &TExpr) -> bool
+    ensures { result ≡ Expressions.is_pack (types_of types.now) (qty_of ty.now) (typed_of e.now) }
+{
+    is_plain_small(types, ty) && is_plain_of(ty, &e.ty)
 }
 
 fn is_function(ty: &CType) -> bool

@@ -1,11 +1,12 @@
 // Sizes within the limit of 65,535 bytes.
 ghost use Rattle.std.specs.Prelude.{◌≡◌};
 ghost use Rattle.c65_ctype.specs.Sizes.{bytes_of};
-ghost use Rattle.c65_ctype.specs.Views.{ty_of, types_of};
+ghost use Rattle.c65_ctype.specs.Views.{ty_of, qty_of, types_of};
+ghost use Rattle.c65_csem_check.specs.Kinds;
 ghost use Rattle.c65_csem_check.specs.Statements;
 
 use c65_base::Size;
-use c65_ctype::{CType, Types};
+use c65_ctype::{CType, QType, Types};
 use c65_ints::IntType;
 
 pub fn bytes(kind: IntType) -> u32
@@ -49,7 +50,7 @@ pub fn measured(types: &Types, ty: &CType) -> Option<u32>
 
 /// The bytes of a scalar type, and of a structure or union that is finished.
 pub fn flat_bytes(types: &Types, ty: &CType) -> u32
-    ensures { result ≡ Statements.flat_bytes (types_of types.now) (ty_of ty.now) }
+    ensures { result ≡ Kinds.flat_bytes (types_of types.now) (ty_of ty.now) }
 {
     match ty {
         CType::Int(kind) => bytes(*kind),
@@ -60,6 +61,13 @@ pub fn flat_bytes(types: &Types, ty: &CType) -> u32
         },
         _ => 0,
     }
+}
+
+/// Whether two types, each a scalar one or a structure or union, have as many bytes.
+pub fn same_size(types: &Types, a: &QType, b: &QType) -> bool
+    ensures { result ≡ Kinds.same_size (types_of types.now) (qty_of a.now) (qty_of b.now) }
+{
+    flat_bytes(types, &a.ty) == flat_bytes(types, &b.ty)
 }
 
 /// Whether so many bytes at an offset lie inside a whole.

@@ -8,11 +8,11 @@ ghost use Rattle.c65_csem_check.specs.Contexts.{context};
 ghost use Rattle.c65_csem_check.specs.Kinds;
 ghost use Rattle.c65_csem_check.specs.Statements;
 
-use crate::exprs::is_typed;
+use crate::exprs::{is_given, is_typed};
 use crate::labels::are_cases;
 use crate::lists::has_number;
 use crate::nodes::{holds, is_value, object};
-use crate::sizes::{flat_bytes, is_inside, measured};
+use crate::sizes::{flat_bytes, is_inside, measured, same_size};
 use crate::types::{are_alike, int_of, is_promoted_int};
 use c65_csem::{Class, Parts, TExpr, TObject, TStmt, is_tag};
 use c65_ctype::{QType, Types};
@@ -112,7 +112,9 @@ fn is_return(parts: &Parts, gives: &QType, e: &Option<TExpr>) -> bool
     ensures { result ≡ Statements.is_return (unit_of parts.now) (Places.plain_of (qty_of gives.now)) (maybe_of e.now) }
 {
     match e {
-        Some(e) => is_typed(parts, e) && is_value(e) && are_alike(&e.ty, gives),
+        Some(e) => {
+            is_given(parts, e) && are_alike(&e.ty, gives) && same_size(&parts.types, &e.ty, gives)
+        }
         None => true,
     }
 }

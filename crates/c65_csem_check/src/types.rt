@@ -1,5 +1,6 @@
 // Tests on types (C90 6.1.2.5, 6.2.1, 6.2.2).
 ghost use Rattle.std.specs.Prelude.{◌≡◌, ◌+◌, Some};
+ghost use Rattle.c65_ints.specs.declared.types.IntType.TheVariants.{UChar};
 ghost use Rattle.c65_ctype.specs.Trees.{void, int, pointer, array, function};
 ghost use Rattle.c65_ctype.specs.Views.{ty_of, qty_of, fn_of, types_of};
 ghost use Rattle.c65_csem.specs.Places;
@@ -7,7 +8,7 @@ ghost use Rattle.c65_csem.specs.Places.{plain};
 ghost use Rattle.c65_csem_check.specs.Kinds;
 
 use crate::same::{equal_count, same, same_bit, same_function, same_kind, same_plain};
-use c65_csem::{is_scalar, is_sized, promoted};
+use c65_csem::{is_scalar, is_sized, is_small, promoted};
 use c65_ctype::{CType, FnType, QType, Types};
 use c65_ints::IntType;
 
@@ -146,18 +147,41 @@ pub fn is_moved(types: &Types, q: &QType) -> bool
     is_plain_pointer(q) && moves(types, &q.ty)
 }
 
-/// Whether a function may give this type.
-pub fn is_result(q: &QType) -> bool
-    ensures { result ≡ Kinds.is_result (qty_of q.now) }
+/// Whether a type is a structure or union of at most four bytes, without qualifiers.
+pub fn is_plain_small(types: &Types, q: &QType) -> bool
+    ensures { result ≡ Kinds.is_plain_small (types_of types.now) (qty_of q.now) }
+{
+    is_bare(q) && is_small(types, &q.ty)
+}
+
+/// Whether a call that stands alone may have this type.
+pub fn is_usual(q: &QType) -> bool
+    ensures { result ≡ Kinds.is_usual (qty_of q.now) }
 {
     is_plain_void(q) || is_plain_scalar(q)
 }
 
 /// Whether a call without a prototype passes this type.
-pub fn is_passed(q: &QType) -> bool
-    ensures { result ≡ Kinds.is_passed (qty_of q.now) }
+pub fn passes(types: &Types, q: &QType) -> bool
+    ensures { result ≡ Kinds.passes (types_of types.now) (qty_of q.now) }
 {
-    is_promoted_int(q) || is_plain_pointer(q)
+    is_promoted_int(q) || is_plain_pointer(q) || is_plain_small(types, q)
+}
+
+fn points_to_bytes(ty: &CType) -> bool
+    ensures { result ≡ Kinds.same_ty (ty_of ty.now) (pointer (plain (int UChar))) }
+{
+    match ty {
+        CType::Pointer(target) => is_int_of(target, IntType::UChar),
+        _ => false,
+    }
+}
+
+/// Whether a type is that of the place behind the further arguments.
+pub fn is_rest(q: &QType) -> bool
+    ensures { result ≡ Kinds.is_rest (qty_of q.now) }
+{
+    is_bare(q) && points_to_bytes(&q.ty)
 }
 
 /// Whether `++` and `--` work on this type.

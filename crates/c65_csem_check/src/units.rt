@@ -1,6 +1,6 @@
 // Whether a unit is well typed, and a program whole (C90 6.7).
 ghost use Rattle.std.specs.Prelude.{◌≡◌, ◌↔◌, true, map, option_map, option_copied, slice_get, IfOk, IfSome, IsSome, IsTrue};
-ghost use Rattle.c65_ctype.specs.Views.{qty_of, qtys_of, fn_of};
+ghost use Rattle.c65_ctype.specs.Views.{ty_of, qty_of, qtys_of, fn_of, types_of};
 ghost use Rattle.c65_csem.specs.Places;
 ghost use Rattle.c65_csem.specs.Units.{IsUnit, IsProgram, may_have_init, is_defined};
 ghost use Rattle.c65_csem.specs.Views.{object_of, func_of, stmt_of, unit_of};
@@ -10,14 +10,15 @@ ghost use Rattle.c65_csem_check.specs.Units.{IsMeasuredUnit};
 
 use crate::labels::add_labels;
 use crate::lists::are_distinct;
-use crate::nodes::{func, object};
-use crate::sizes::measured;
+use crate::nodes::{func, is_auto, object};
+use crate::sizes::{measured, same_size};
 use crate::stmts::{Around, is_stmt};
 use crate::types::{are_alike, is_void};
 use c65_csem::{
     Cell, Class, Parts, TFunc, TObject, TProgram, TStmt, TUnit, Target, is_scalar, is_sized,
+    is_small,
 };
-use c65_ctype::{FnType, QType};
+use c65_ctype::{CType, FnType, QType, Types};
 use std::alloc::{AllocError, Global};
 
 fn names_target(parts: &Parts, target: Target) -> bool
@@ -93,7 +94,9 @@ fn has_size(parts: &Parts, object: &TObject) -> bool
 fn is_object(parts: &Parts, object: &TObject) -> bool
     ensures { result ≡ Units.is_object (unit_of parts.now) (object_of object.now) }
 {
-    has_size(parts, object) && is_init(parts, object)
+    has_size(parts, object)
+        && is_init(parts, object)
+        && (object.name.is_some() || is_auto(object.class))
 }
 
 fn are_objects(parts: &Parts) -> bool
@@ -116,11 +119,19 @@ fn is_framed(class: Class) -> bool
     }
 }
 
-fn param_by(object: Option<&TObject>) -> bool
-    ensures { result ≡ Units.param_by (option_map object_of (option_copied object.entry)) }
+fn is_passed(types: &Types, ty: &CType) -> bool
+    ensures { result ≡ Places.is_passed (types_of types.now) (ty_of ty.now) }
+{
+    is_scalar(ty) || is_small(types, ty)
+}
+
+fn param_by(types: &Types, object: Option<&TObject>) -> bool
+    ensures { result ≡ Units.param_by (types_of types.now) (option_map object_of (option_copied object.entry)) }
 {
     match object {
-        Some(object) => is_framed(object.class) && is_scalar(&object.ty.ty),
+        Some(object) => {
+            is_framed(object.class) && is_passed(types, &object.ty.ty) && object.name.is_some()
+        }
         None => false,
     }
 }
@@ -129,18 +140,18 @@ fn are_params(parts: &Parts, params: &[u32]) -> bool
     ensures { result ≡ Units.are_params (unit_of parts.now) params.now }
 {
     for param in params {
-        if !param_by(object(parts, *param)) {
+        if !param_by(&parts.types, object(parts, *param)) {
             return false;
         }
     }
     true
 }
 
-fn has_type_of(object: Option<&TObject>, q: &QType) -> bool
-    ensures { result ≡ Units.has_type_of (option_map object_of (option_copied object.entry)) (qty_of q.now) }
+fn has_type_of(types: &Types, object: Option<&TObject>, q: &QType) -> bool
+    ensures { result ≡ Units.has_type_of (types_of types.now) (option_map object_of (option_copied object.entry)) (qty_of q.now) }
 {
     match object {
-        Some(object) => are_alike(&object.ty, q),
+        Some(object) => are_alike(&object.ty, q) && same_size(types, &object.ty, q),
         None => false,
     }
 }
@@ -152,7 +163,7 @@ fn params_match(parts: &Parts, types: &[QType], params: &[u32]) -> bool
         let Some(param) = params.get(i) else {
             return false;
         };
-        if !has_type_of(object(parts, *param), ty) {
+        if !has_type_of(&parts.types, object(parts, *param), ty) {
             return false;
         }
     }
@@ -160,7 +171,7 @@ fn params_match(parts: &Parts, types: &[QType], params: &[u32]) -> bool
 }
 
 /// Whether parameters, by the numbers of their objects, have the types that a function's prototype
-/// gives them, down to pointers; so they have where there is no prototype. It takes no memory.
+/// gives them, down to pointers and tags, and its sizes; so they have where there is no prototype. It takes no memory.
 pub fn prototype_matches(parts: &Parts, function: &FnType, params: &[u32]) -> bool
     ensures { result ≡ Units.prototype_matches (unit_of parts.now) (fn_of function.now) params.now }
 {
@@ -171,10 +182,10 @@ pub fn prototype_matches(parts: &Parts, function: &FnType, params: &[u32]) -> bo
 }
 
 /// Whether a function may give this type, whatever its qualifiers.
-fn gives_result(q: &QType) -> bool
-    ensures { result ≡ Kinds.is_result (Places.plain_of (qty_of q.now)) }
+fn gives_result(types: &Types, q: &QType) -> bool
+    ensures { result ≡ Kinds.is_result (types_of types.now) (Places.plain_of (qty_of q.now)) }
 {
-    is_void(&q.ty) || is_scalar(&q.ty)
+    is_void(&q.ty) || is_scalar(&q.ty) || is_small(types, &q.ty)
 }
 
 fn is_body(alloc: Global, parts: &Parts, func: &TFunc, body: &TStmt) -> Result<bool, AllocError>
@@ -184,7 +195,7 @@ fn is_body(alloc: Global, parts: &Parts, func: &TFunc, body: &TStmt) -> Result<b
     if !are_params(parts, params)
         || !prototype_matches(parts, &func.ty, params)
         || !are_distinct(params)
-        || !gives_result(&func.ty.result)
+        || !gives_result(&parts.types, &func.ty.result)
     {
         return Ok(false);
     }

@@ -16,17 +16,17 @@ use Rattle.c65_csem_names.specs.Tests
 pub both_same : {a b x y : Bool} → a ≡ x → b ≡ y → (a && b) ≡ (x && y)
 both_same {b = b} {x = x} p q = ap (λ (t : Bool). t && b) p ∙ ap (λ (t : Bool). x && t) q
 
-pub call_node : (u : UnitTy) (marks : List Bool) (k : TKind) (f : Box TExpr Global) (v : Vec TExpr) (g : TExpr) (ys : List TExpr) → k ≡ x.Call f v → g ≡ f.value → ys ≡ v.items → (Tests.is_scoped_in u marks (typed_of g) && Tests.are_scoped_in u marks (nodes_of ys)) ≡ Tests.is_scoped_node u marks (node_of k)
-call_node u marks k f v g ys is one all =
-    ap (λ (e : TExpr). Tests.is_scoped_in u marks (typed_of e) && Tests.are_scoped_in u marks (nodes_of ys)) one
-    ∙ ap (λ (zs : List TExpr). Tests.is_scoped_in u marks (typed_of f.value) && Tests.are_scoped_in u marks (nodes_of zs)) all
-    ∙ sym (ap (λ (j : TKind). Tests.is_scoped_node u marks (node_of j)) is ∙ ap (Tests.is_scoped_node u marks) (node_of_call f v))
+pub call_node : (u : UnitTy) (variadic : Bool) (marks : List Bool) (k : TKind) (f : Box TExpr Global) (v : Vec TExpr) (g : TExpr) (ys : List TExpr) → k ≡ x.Call f v → g ≡ f.value → ys ≡ v.items → (Tests.is_scoped_in u variadic marks (typed_of g) && Tests.are_scoped_in u variadic marks (nodes_of ys)) ≡ Tests.is_scoped_node u variadic marks (node_of k)
+call_node u variadic marks k f v g ys is one all =
+    ap (λ (e : TExpr). Tests.is_scoped_in u variadic marks (typed_of e) && Tests.are_scoped_in u variadic marks (nodes_of ys)) one
+    ∙ ap (λ (zs : List TExpr). Tests.is_scoped_in u variadic marks (typed_of f.value) && Tests.are_scoped_in u variadic marks (nodes_of zs)) all
+    ∙ sym (ap (λ (j : TKind). Tests.is_scoped_node u variadic marks (node_of j)) is ∙ ap (Tests.is_scoped_node u variadic marks) (node_of_call f v))
 
-pub block_stmt : (u : UnitTy) (marks : List Bool) (k : TStmt) (os : Vec ℕ) (v : Vec TStmt) (ns : List ℕ) (ys : List TStmt) → k ≡ s.Block os v → ns ≡ os.items → ys ≡ v.items → Tests.are_scoped u (Tests.entered ns marks) (stmts_of ys) ≡ Tests.is_scoped u marks (stmt_of k)
-block_stmt u marks k os v ns ys is numbers list =
-    ap (λ (ms : List ℕ). Tests.are_scoped u (Tests.entered ms marks) (stmts_of ys)) numbers
-    ∙ ap (λ (zs : List TStmt). Tests.are_scoped u (Tests.entered os.items marks) (stmts_of zs)) list
-    ∙ sym (ap (λ (j : TStmt). Tests.is_scoped u marks (stmt_of j)) is ∙ ap (Tests.is_scoped u marks) (stmt_of_block os v))
+pub block_stmt : (u : UnitTy) (variadic : Bool) (marks : List Bool) (k : TStmt) (os : Vec ℕ) (v : Vec TStmt) (ns : List ℕ) (ys : List TStmt) → k ≡ s.Block os v → ns ≡ os.items → ys ≡ v.items → Tests.are_scoped u variadic (Tests.entered ns marks) (stmts_of ys) ≡ Tests.is_scoped u variadic marks (stmt_of k)
+block_stmt u variadic marks k os v ns ys is numbers list =
+    ap (λ (ms : List ℕ). Tests.are_scoped u variadic (Tests.entered ms marks) (stmts_of ys)) numbers
+    ∙ ap (λ (zs : List TStmt). Tests.are_scoped u variadic (Tests.entered os.items marks) (stmts_of zs)) list
+    ∙ sym (ap (λ (j : TStmt). Tests.is_scoped u variadic marks (stmt_of j)) is ∙ ap (Tests.is_scoped u variadic marks) (stmt_of_block os v))
 
 -- ---- marks
 

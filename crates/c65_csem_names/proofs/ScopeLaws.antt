@@ -3,12 +3,12 @@ use Rattle.std.proofs.Common.{◌≡◌, ℕ, zero, suc, ◌<◌, List, [], ◌�
 use Rattle.std.specs.Prelude.{IsTrue, All, ◌==◌, if◌then◌else◌}
 use Rattle.std.proofs.lemmas.Bool.{eqb-true, eqb-false}
 use Rattle.std.proofs.lemmas.Option.{slice_get_within}
-use Rattle.c65_csem.specs.Trees.{Typed, node, Node, constant, null, literal, object, func, deref, member, load, address, decay, convert, unary, binary, both, either, choice, comma, assign, assign_op, assign_step, step, copy, call, Nodes, none, some, Stmt, empty, eval, set_part, clear, block, if_stmt, while, do_while, for_loop, switch, case, default, label, goto, break, continue, return, Stmts, no_stmts, and_stmts, MaybeTyped, absent, present, ObjectTy, FuncTy, UnitTy}
+use Rattle.c65_csem.specs.Trees.{Typed, node, Node, constant, null, literal, object, func, deref, member, load, address, decay, convert, unary, binary, both, either, choice, comma, assign, assign_op, assign_step, step, copy, call, pack, spill, rest, Nodes, none, some, Stmt, empty, eval, set_part, clear, block, if_stmt, while, do_while, for_loop, switch, case, default, label, goto, break, continue, return, Stmts, no_stmts, and_stmts, MaybeTyped, absent, present, ObjectTy, FuncTy, UnitTy}
 use Rattle.c65_meaning.specs.Shapes.{object_in, lives_in_frame}
 use Rattle.c65_meaning.specs.After.{is_among}
-use Rattle.c65_csem_names.specs.Scopes.{entering, IsInScope, IsScopedIn, IsScopedNode, AreScopedIn, IsScopedMaybe, IsScoped, AreScoped, IsScopedBody, HasScopedBody}
+use Rattle.c65_csem_names.specs.Scopes.{is_variadic, entering, IsInScope, IsScopedIn, IsScopedNode, AreScopedIn, IsScopedMaybe, IsScoped, AreScoped, IsScopedBody, HasScopedBody}
 use Rattle.c65_csem_names.specs.Tests as b
-use Rattle.c65_csem_names.proofs.Tells.{Tells, like, tells_unit, tells_if, tells_all}
+use Rattle.c65_csem_names.proofs.Tells.{Tells, like, tells_itself, tells_unit, tells_if, tells_all}
 use Rattle.c65_csem_names.proofs.Tells as t
 
 -- ---- marks
@@ -56,7 +56,7 @@ module _ (u : UnitTy) where
 
   pub with_all : (objects : List ℕ) (marks : List Bool) (scope : List ℕ) → Marks u marks scope → Marks u (b.entered objects marks) (entering objects scope)
   with_all [] marks scope m = m
-  with_all (i ∷ rest) marks scope m = with_all rest (slice_set marks i true) (i ∷ scope) (with_one marks scope i m)
+  with_all (i ∷ is) marks scope m = with_all is (slice_set marks i true) (i ∷ scope) (with_one marks scope i m)
 
   unmarked : (n i : ℕ) → b.is_marked (replicate n false) i ≡ false
   unmarked zero i = refl
@@ -80,77 +80,82 @@ module _ (u : UnitTy) where
     tells_named : (i : ℕ) → Tells (b.is_in_scope u ms i) (IsInScope u s i)
     tells_named i = named_by (lives_in_frame (object_in u i)) (b.is_marked ms i) (is_among s i) (λ h. m.each i h)
 
-    mutual
-      tells_in : (e : Typed) → Tells (b.is_scoped_in u ms e) (IsScopedIn u s e)
-      tells_in (node t e) = tells_node e
+    module _ (variadic : Bool) where
+      mutual
+        tells_in : (e : Typed) → Tells (b.is_scoped_in u variadic ms e) (IsScopedIn u variadic s e)
+        tells_in (node t e) = tells_node e
 
-      tells_node : (e : Node) → Tells (b.is_scoped_node u ms e) (IsScopedNode u s e)
-      tells_node (constant z) = tells_unit
-      tells_node null = tells_unit
-      tells_node (literal l) = tells_unit
-      tells_node (object i) = tells_named i
-      tells_node (func f) = tells_unit
-      tells_node (deref a) = tells_in a
-      tells_node (member a n) = tells_in a
-      tells_node (load a) = tells_in a
-      tells_node (address a) = tells_in a
-      tells_node (decay a) = tells_in a
-      tells_node (convert a) = tells_in a
-      tells_node (unary op a) = tells_in a
-      tells_node (binary op a c) = t.both (tells_in a) (tells_in c)
-      tells_node (both a c) = t.both (tells_in a) (tells_in c)
-      tells_node (either a c) = t.both (tells_in a) (tells_in c)
-      tells_node (choice d a c) = t.three (tells_in d) (tells_in a) (tells_in c)
-      tells_node (comma a c) = t.both (tells_in a) (tells_in c)
-      tells_node (assign a c) = t.both (tells_in a) (tells_in c)
-      tells_node (assign_op op k a c) = t.both (tells_in a) (tells_in c)
-      tells_node (assign_step op a c) = t.both (tells_in a) (tells_in c)
-      tells_node (step kind a) = tells_in a
-      tells_node (copy a c) = t.both (tells_in a) (tells_in c)
-      tells_node (call f es) = t.both (tells_in f) (tells_all_in es)
+        tells_node : (e : Node) → Tells (b.is_scoped_node u variadic ms e) (IsScopedNode u variadic s e)
+        tells_node (constant z) = tells_unit
+        tells_node null = tells_unit
+        tells_node (literal l) = tells_unit
+        tells_node (object i) = tells_named i
+        tells_node (func f) = tells_unit
+        tells_node (deref a) = tells_in a
+        tells_node (member a n) = tells_in a
+        tells_node (load a) = tells_in a
+        tells_node (address a) = tells_in a
+        tells_node (decay a) = tells_in a
+        tells_node (convert a) = tells_in a
+        tells_node (unary op a) = tells_in a
+        tells_node (binary op a c) = t.both (tells_in a) (tells_in c)
+        tells_node (both a c) = t.both (tells_in a) (tells_in c)
+        tells_node (either a c) = t.both (tells_in a) (tells_in c)
+        tells_node (choice d a c) = t.three (tells_in d) (tells_in a) (tells_in c)
+        tells_node (comma a c) = t.both (tells_in a) (tells_in c)
+        tells_node (assign a c) = t.both (tells_in a) (tells_in c)
+        tells_node (assign_op op k a c) = t.both (tells_in a) (tells_in c)
+        tells_node (assign_step op a c) = t.both (tells_in a) (tells_in c)
+        tells_node (step kind a) = tells_in a
+        tells_node (copy a c) = t.both (tells_in a) (tells_in c)
+        tells_node (call f es) = t.both (tells_in f) (tells_all_in es)
+        tells_node (pack a) = tells_in a
+        tells_node (spill i a) = t.both (tells_named i) (tells_in a)
+        tells_node rest = tells_itself variadic
 
-      tells_all_in : (es : Nodes) → Tells (b.are_scoped_in u ms es) (AreScopedIn u s es)
-      tells_all_in none = tells_unit
-      tells_all_in (some e es) = tells_if (tells_in e) (tells_all_in es)
+        tells_all_in : (es : Nodes) → Tells (b.are_scoped_in u variadic ms es) (AreScopedIn u variadic s es)
+        tells_all_in none = tells_unit
+        tells_all_in (some e es) = tells_if (tells_in e) (tells_all_in es)
 
-    tells_maybe : (e : MaybeTyped) → Tells (b.is_scoped_maybe u ms e) (IsScopedMaybe u s e)
-    tells_maybe absent = tells_unit
-    tells_maybe (present e) = tells_in e
+      tells_maybe : (e : MaybeTyped) → Tells (b.is_scoped_maybe u variadic ms e) (IsScopedMaybe u variadic s e)
+      tells_maybe absent = tells_unit
+      tells_maybe (present e) = tells_in e
 
   -- ---- statements
 
-  mutual
-    tells_scoped : (ms : List Bool) (s : List ℕ) → Marks u ms s → (a : Stmt) → Tells (b.is_scoped u ms a) (IsScoped u s a)
-    tells_scoped ms s m empty = tells_unit
-    tells_scoped ms s m (eval e) = tells_in ms s m e
-    tells_scoped ms s m (set_part i o e) = t.both (tells_named ms s m i) (tells_in ms s m e)
-    tells_scoped ms s m (clear i) = tells_named ms s m i
-    tells_scoped ms s m (block objects ss) = tells_all_scoped (b.entered objects ms) (entering objects s) (with_all objects ms s m) ss
-    tells_scoped ms s m (if_stmt e a c) = t.three (tells_in ms s m e) (tells_scoped ms s m a) (tells_scoped ms s m c)
-    tells_scoped ms s m (while e a) = t.both (tells_in ms s m e) (tells_scoped ms s m a)
-    tells_scoped ms s m (do_while a e) = t.both (tells_scoped ms s m a) (tells_in ms s m e)
-    tells_scoped ms s m (for_loop i c n a) = t.four (tells_maybe ms s m i) (tells_maybe ms s m c) (tells_maybe ms s m n) (tells_scoped ms s m a)
-    tells_scoped ms s m (switch e a) = t.both (tells_in ms s m e) (tells_scoped ms s m a)
-    tells_scoped ms s m (case z a) = tells_scoped ms s m a
-    tells_scoped ms s m (default a) = tells_scoped ms s m a
-    tells_scoped ms s m (label l a) = tells_scoped ms s m a
-    tells_scoped ms s m (goto l) = tells_unit
-    tells_scoped ms s m break = tells_unit
-    tells_scoped ms s m continue = tells_unit
-    tells_scoped ms s m (return e) = tells_maybe ms s m e
+  module _ (variadic : Bool) where
+    mutual
+      tells_scoped : (ms : List Bool) (s : List ℕ) → Marks u ms s → (a : Stmt) → Tells (b.is_scoped u variadic ms a) (IsScoped u variadic s a)
+      tells_scoped ms s m empty = tells_unit
+      tells_scoped ms s m (eval e) = tells_in ms s m variadic e
+      tells_scoped ms s m (set_part i o e) = t.both (tells_named ms s m i) (tells_in ms s m variadic e)
+      tells_scoped ms s m (clear i) = tells_named ms s m i
+      tells_scoped ms s m (block objects ss) = tells_all_scoped (b.entered objects ms) (entering objects s) (with_all objects ms s m) ss
+      tells_scoped ms s m (if_stmt e a c) = t.three (tells_in ms s m variadic e) (tells_scoped ms s m a) (tells_scoped ms s m c)
+      tells_scoped ms s m (while e a) = t.both (tells_in ms s m variadic e) (tells_scoped ms s m a)
+      tells_scoped ms s m (do_while a e) = t.both (tells_scoped ms s m a) (tells_in ms s m variadic e)
+      tells_scoped ms s m (for_loop i c n a) = t.four (tells_maybe ms s m variadic i) (tells_maybe ms s m variadic c) (tells_maybe ms s m variadic n) (tells_scoped ms s m a)
+      tells_scoped ms s m (switch e a) = t.both (tells_in ms s m variadic e) (tells_scoped ms s m a)
+      tells_scoped ms s m (case z a) = tells_scoped ms s m a
+      tells_scoped ms s m (default a) = tells_scoped ms s m a
+      tells_scoped ms s m (label l a) = tells_scoped ms s m a
+      tells_scoped ms s m (goto l) = tells_unit
+      tells_scoped ms s m break = tells_unit
+      tells_scoped ms s m continue = tells_unit
+      tells_scoped ms s m (return e) = tells_maybe ms s m variadic e
 
-    tells_all_scoped : (ms : List Bool) (s : List ℕ) → Marks u ms s → (ss : Stmts) → Tells (b.are_scoped u ms ss) (AreScoped u s ss)
-    tells_all_scoped ms s m no_stmts = tells_unit
-    tells_all_scoped ms s m (and_stmts a rest) = tells_if (tells_scoped ms s m a) (tells_all_scoped ms s m rest)
+      tells_all_scoped : (ms : List Bool) (s : List ℕ) → Marks u ms s → (ss : Stmts) → Tells (b.are_scoped u variadic ms ss) (AreScoped u variadic s ss)
+      tells_all_scoped ms s m no_stmts = tells_unit
+      tells_all_scoped ms s m (and_stmts a ss) = tells_if (tells_scoped ms s m a) (tells_all_scoped ms s m ss)
 
   -- ---- bodies
 
-  tells_body : (ms : List Bool) → Marks u ms [] → (params : List ℕ) (body : Option Stmt) → Tells (b.is_scoped_body u ms params body) (IsScopedBody u params body)
-  tells_body ms m params None = tells_unit
-  tells_body ms m params (Some body) = tells_scoped (b.entered params ms) (entering params []) (with_all params ms [] m) body
+  tells_body : (variadic : Bool) (ms : List Bool) → Marks u ms [] → (params : List ℕ) (body : Option Stmt) → Tells (b.is_scoped_body u variadic ms params body) (IsScopedBody u variadic params body)
+  tells_body variadic ms m params None = tells_unit
+  tells_body variadic ms m params (Some body) = tells_scoped variadic (b.entered params ms) (entering params []) (with_all params ms [] m) body
 
   tells_funcs : (ms : List Bool) → Marks u ms [] → (fs : List FuncTy) → Tells (b.are_scoped_funcs u ms fs) (All (HasScopedBody u) fs)
-  tells_funcs ms m fs = tells_all (b.are_scoped_funcs u ms) (b.is_scoped_func u ms) (HasScopedBody u) refl (λ f fs. refl) (λ f. tells_body ms m f.params f.body) fs
+  tells_funcs ms m fs = tells_all (b.are_scoped_funcs u ms) (b.is_scoped_func u ms) (HasScopedBody u) refl (λ f fs. refl) (λ f. tells_body (is_variadic f.ty) ms m f.params f.body) fs
 
   pub tells_bodies : Tells (b.are_scoped_bodies u) (All (HasScopedBody u) u.funcs)
   tells_bodies = tells_funcs (replicate (length u.objects) false) none_marked u.funcs

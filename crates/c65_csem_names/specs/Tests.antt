@@ -8,11 +8,12 @@ use Rattle.c65_csem.specs.declared.items.Target.{Target}
 use Rattle.c65_csem.specs.declared.items.Target.TheVariants as T
 use Rattle.c65_csem.specs.Library.{library_type}
 use Rattle.c65_csem.specs.Places.{is_automatic}
-use Rattle.c65_csem.specs.Trees.{Typed, node, Node, constant, null, literal, object, func, deref, member, load, address, decay, convert, unary, binary, both, either, choice, comma, assign, assign_op, assign_step, step, copy, call, Nodes, none, some, Stmt, empty, eval, set_part, clear, block, if_stmt, while, do_while, for_loop, switch, case, default, label, goto, break, continue, return, Stmts, no_stmts, and_stmts, MaybeTyped, absent, present, ObjectTy, FuncTy, UnitTy}
+use Rattle.c65_csem.specs.Trees.{Typed, node, Node, constant, null, literal, object, func, deref, member, load, address, decay, convert, unary, binary, both, either, choice, comma, assign, assign_op, assign_step, step, copy, call, pack, spill, rest, Nodes, none, some, Stmt, empty, eval, set_part, clear, block, if_stmt, while, do_while, for_loop, switch, case, default, label, goto, break, continue, return, Stmts, no_stmts, and_stmts, MaybeTyped, absent, present, ObjectTy, FuncTy, UnitTy}
 use Rattle.c65_csem.specs.Typed.{result_of}
 use Rattle.c65_csem_check.specs.Kinds.{same_fn}
 use Rattle.c65_csem_names.specs.Initial.{first_pieces, second_pieces}
 use Rattle.c65_csem_names.specs.Programs.{is_int, is_pointer, has_type}
+use Rattle.c65_csem_names.specs.Scopes.{is_variadic}
 use Rattle.c65_meaning.specs.Shapes.{object_in, lives_in_frame}
 
 abbrev pub mark_in : Option Bool → Bool
@@ -44,83 +45,87 @@ is_second (Piece target offset part) = not (part == 0)
 -- the marks in a block with these objects, and behind it, where these objects were not marked before it
 abbrev pub entered : List ℕ → List Bool → List Bool
 entered [] marks = marks
-entered (i ∷ rest) marks = entered rest (slice_set marks i true)
+entered (i ∷ is) marks = entered is (slice_set marks i true)
 
 abbrev pub left : List ℕ → List Bool → List Bool
 left [] marks = marks
-left (i ∷ rest) marks = slice_set (left rest marks) i false
+left (i ∷ is) marks = slice_set (left is marks) i false
 
 module _ (u : UnitTy) where
   abbrev pub is_in_scope : List Bool → ℕ → Bool
   is_in_scope s i = not (lives_in_frame (object_in u i)) || is_marked s i
 
-  abbrev mutual
-    pub is_scoped_in : List Bool → Typed → Bool
-    is_scoped_in s (node t e) = is_scoped_node s e
+  module _ (variadic : Bool) where
+    abbrev mutual
+      pub is_scoped_in : List Bool → Typed → Bool
+      is_scoped_in s (node t e) = is_scoped_node s e
 
-    pub is_scoped_node : List Bool → Node → Bool
-    is_scoped_node s (constant z) = true
-    is_scoped_node s null = true
-    is_scoped_node s (literal l) = true
-    is_scoped_node s (object i) = is_in_scope s i
-    is_scoped_node s (func f) = true
-    is_scoped_node s (deref a) = is_scoped_in s a
-    is_scoped_node s (member a m) = is_scoped_in s a
-    is_scoped_node s (load a) = is_scoped_in s a
-    is_scoped_node s (address a) = is_scoped_in s a
-    is_scoped_node s (decay a) = is_scoped_in s a
-    is_scoped_node s (convert a) = is_scoped_in s a
-    is_scoped_node s (unary op a) = is_scoped_in s a
-    is_scoped_node s (binary op a b) = is_scoped_in s a && is_scoped_in s b
-    is_scoped_node s (both a b) = is_scoped_in s a && is_scoped_in s b
-    is_scoped_node s (either a b) = is_scoped_in s a && is_scoped_in s b
-    is_scoped_node s (choice d a b) = is_scoped_in s d && is_scoped_in s a && is_scoped_in s b
-    is_scoped_node s (comma a b) = is_scoped_in s a && is_scoped_in s b
-    is_scoped_node s (assign a b) = is_scoped_in s a && is_scoped_in s b
-    is_scoped_node s (assign_op op k a b) = is_scoped_in s a && is_scoped_in s b
-    is_scoped_node s (assign_step op a b) = is_scoped_in s a && is_scoped_in s b
-    is_scoped_node s (step kind a) = is_scoped_in s a
-    is_scoped_node s (copy a b) = is_scoped_in s a && is_scoped_in s b
-    is_scoped_node s (call f es) = is_scoped_in s f && are_scoped_in s es
+      pub is_scoped_node : List Bool → Node → Bool
+      is_scoped_node s (constant z) = true
+      is_scoped_node s null = true
+      is_scoped_node s (literal l) = true
+      is_scoped_node s (object i) = is_in_scope s i
+      is_scoped_node s (func f) = true
+      is_scoped_node s (deref a) = is_scoped_in s a
+      is_scoped_node s (member a m) = is_scoped_in s a
+      is_scoped_node s (load a) = is_scoped_in s a
+      is_scoped_node s (address a) = is_scoped_in s a
+      is_scoped_node s (decay a) = is_scoped_in s a
+      is_scoped_node s (convert a) = is_scoped_in s a
+      is_scoped_node s (unary op a) = is_scoped_in s a
+      is_scoped_node s (binary op a b) = is_scoped_in s a && is_scoped_in s b
+      is_scoped_node s (both a b) = is_scoped_in s a && is_scoped_in s b
+      is_scoped_node s (either a b) = is_scoped_in s a && is_scoped_in s b
+      is_scoped_node s (choice d a b) = is_scoped_in s d && is_scoped_in s a && is_scoped_in s b
+      is_scoped_node s (comma a b) = is_scoped_in s a && is_scoped_in s b
+      is_scoped_node s (assign a b) = is_scoped_in s a && is_scoped_in s b
+      is_scoped_node s (assign_op op k a b) = is_scoped_in s a && is_scoped_in s b
+      is_scoped_node s (assign_step op a b) = is_scoped_in s a && is_scoped_in s b
+      is_scoped_node s (step kind a) = is_scoped_in s a
+      is_scoped_node s (copy a b) = is_scoped_in s a && is_scoped_in s b
+      is_scoped_node s (call f es) = is_scoped_in s f && are_scoped_in s es
+      is_scoped_node s (pack a) = is_scoped_in s a
+      is_scoped_node s (spill i a) = is_in_scope s i && is_scoped_in s a
+      is_scoped_node s rest = variadic
 
-    pub are_scoped_in : List Bool → Nodes → Bool
-    are_scoped_in s none = true
-    are_scoped_in s (some e es) = if is_scoped_in s e then are_scoped_in s es else false
+      pub are_scoped_in : List Bool → Nodes → Bool
+      are_scoped_in s none = true
+      are_scoped_in s (some e es) = if is_scoped_in s e then are_scoped_in s es else false
 
-  abbrev pub is_scoped_maybe : List Bool → MaybeTyped → Bool
-  is_scoped_maybe s absent = true
-  is_scoped_maybe s (present e) = is_scoped_in s e
+    abbrev pub is_scoped_maybe : List Bool → MaybeTyped → Bool
+    is_scoped_maybe s absent = true
+    is_scoped_maybe s (present e) = is_scoped_in s e
 
-  abbrev mutual
-    pub is_scoped : List Bool → Stmt → Bool
-    is_scoped s empty = true
-    is_scoped s (eval e) = is_scoped_in s e
-    is_scoped s (set_part i o e) = is_in_scope s i && is_scoped_in s e
-    is_scoped s (clear i) = is_in_scope s i
-    is_scoped s (block objects ss) = are_scoped (entered objects s) ss
-    is_scoped s (if_stmt e a b) = is_scoped_in s e && is_scoped s a && is_scoped s b
-    is_scoped s (while e a) = is_scoped_in s e && is_scoped s a
-    is_scoped s (do_while a e) = is_scoped s a && is_scoped_in s e
-    is_scoped s (for_loop i t n a) = is_scoped_maybe s i && is_scoped_maybe s t && is_scoped_maybe s n && is_scoped s a
-    is_scoped s (switch e a) = is_scoped_in s e && is_scoped s a
-    is_scoped s (case z a) = is_scoped s a
-    is_scoped s (default a) = is_scoped s a
-    is_scoped s (label l a) = is_scoped s a
-    is_scoped s (goto l) = true
-    is_scoped s break = true
-    is_scoped s continue = true
-    is_scoped s (return e) = is_scoped_maybe s e
+    abbrev mutual
+      pub is_scoped : List Bool → Stmt → Bool
+      is_scoped s empty = true
+      is_scoped s (eval e) = is_scoped_in s e
+      is_scoped s (set_part i o e) = is_in_scope s i && is_scoped_in s e
+      is_scoped s (clear i) = is_in_scope s i
+      is_scoped s (block objects ss) = are_scoped (entered objects s) ss
+      is_scoped s (if_stmt e a b) = is_scoped_in s e && is_scoped s a && is_scoped s b
+      is_scoped s (while e a) = is_scoped_in s e && is_scoped s a
+      is_scoped s (do_while a e) = is_scoped s a && is_scoped_in s e
+      is_scoped s (for_loop i t n a) = is_scoped_maybe s i && is_scoped_maybe s t && is_scoped_maybe s n && is_scoped s a
+      is_scoped s (switch e a) = is_scoped_in s e && is_scoped s a
+      is_scoped s (case z a) = is_scoped s a
+      is_scoped s (default a) = is_scoped s a
+      is_scoped s (label l a) = is_scoped s a
+      is_scoped s (goto l) = true
+      is_scoped s break = true
+      is_scoped s continue = true
+      is_scoped s (return e) = is_scoped_maybe s e
 
-    pub are_scoped : List Bool → Stmts → Bool
-    are_scoped s no_stmts = true
-    are_scoped s (and_stmts a rest) = if is_scoped s a then are_scoped s rest else false
+      pub are_scoped : List Bool → Stmts → Bool
+      are_scoped s no_stmts = true
+      are_scoped s (and_stmts a ss) = if is_scoped s a then are_scoped s ss else false
 
-  abbrev pub is_scoped_body : List Bool → List ℕ → Option Stmt → Bool
-  is_scoped_body s params None = true
-  is_scoped_body s params (Some body) = is_scoped (entered params s) body
+  abbrev pub is_scoped_body : Bool → List Bool → List ℕ → Option Stmt → Bool
+  is_scoped_body variadic s params None = true
+  is_scoped_body variadic s params (Some body) = is_scoped variadic (entered params s) body
 
   abbrev pub is_scoped_func : List Bool → FuncTy → Bool
-  is_scoped_func s f = is_scoped_body s f.params f.body
+  is_scoped_func s f = is_scoped_body (is_variadic f.ty) s f.params f.body
 
   abbrev pub are_scoped_funcs : List Bool → List FuncTy → Bool
   are_scoped_funcs s [] = true

@@ -12,15 +12,16 @@ use std::alloc::{AllocError, Global};
 fn is_scoped_from(
     alloc: Global,
     parts: &Parts,
+    variadic: bool,
     marks: &mut Vec<bool>,
     params: &[u32],
     body: &TStmt,
 ) -> Result<bool, AllocError>
-    ensures so { IfOk result (λ so. so ≡ Tests.is_scoped (unit_of parts.now) (Tests.entered params.now marks.old.items) (stmt_of body.now)) }
+    ensures so { IfOk result (λ so. so ≡ Tests.is_scoped (unit_of parts.now) variadic (Tests.entered params.now marks.old.items) (stmt_of body.now)) }
     ensures kept { IfOk result (λ so. marks.new.items ≡ marks.old.items) }
 {
     let fresh = enter(alloc, marks, params)?;
-    let so = is_scoped(alloc, parts, marks, body)?;
+    let so = is_scoped(alloc, parts, variadic, marks, body)?;
     leave(marks, fresh);
     Ok(so)
 }
@@ -35,7 +36,7 @@ fn is_scoped_func(
     ensures kept { IfOk result (λ so. marks.new.items ≡ marks.old.items) }
 {
     match &func.body {
-        Some(body) => is_scoped_from(alloc, parts, marks, &func.params, body),
+        Some(body) => is_scoped_from(alloc, parts, func.ty.variadic, marks, &func.params, body),
         None => Ok(true),
     }
 }

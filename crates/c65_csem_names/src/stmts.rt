@@ -14,58 +14,61 @@ use std::alloc::{AllocError, Global};
 pub fn is_scoped(
     alloc: Global,
     parts: &Parts,
+    variadic: bool,
     marks: &mut Vec<bool>,
     stmt: &TStmt,
 ) -> Result<bool, AllocError>
-    ensures so { IfOk result (λ so. so ≡ Tests.is_scoped (unit_of parts.now) marks.old.items (stmt_of stmt.now)) }
+    ensures so { IfOk result (λ so. so ≡ Tests.is_scoped (unit_of parts.now) variadic marks.old.items (stmt_of stmt.now)) }
     ensures kept { IfOk result (λ so. marks.new.items ≡ marks.old.items) }
 {
     match stmt {
         TStmt::Empty | TStmt::Goto(_) | TStmt::Break | TStmt::Continue => Ok(true),
-        TStmt::Eval(e) => Ok(is_scoped_in(parts, marks, e)),
+        TStmt::Eval(e) => Ok(is_scoped_in(parts, variadic, marks, e)),
         TStmt::Set(number, _, e) => {
-            Ok(is_in_scope(parts, marks, *number) && is_scoped_in(parts, marks, e))
+            Ok(is_in_scope(parts, marks, *number) && is_scoped_in(parts, variadic, marks, e))
         }
         TStmt::Clear(number) => Ok(is_in_scope(parts, marks, *number)),
         TStmt::Block(objects, stmts) => {
             let numbers: &[u32] = objects;
             let inner: &[TStmt] = stmts;
             let fresh = enter(alloc, marks, numbers)?;
-            let so = are_scoped(alloc, parts, marks, inner)?;
+            let so = are_scoped(alloc, parts, variadic, marks, inner)?;
             leave(marks, fresh);
             Ok(so)
         }
         TStmt::If(e, a, b) => {
-            if !is_scoped_in(parts, marks, e) || !is_scoped(alloc, parts, marks, a)? {
-                return Ok(false);
-            }
-            is_scoped(alloc, parts, marks, b)
-        }
-        TStmt::While(e, body) | TStmt::Switch(e, body) => {
-            if !is_scoped_in(parts, marks, e) {
-                return Ok(false);
-            }
-            is_scoped(alloc, parts, marks, body)
-        }
-        TStmt::DoWhile(body, e) => {
-            if !is_scoped(alloc, parts, marks, body)? {
-                return Ok(false);
-            }
-            Ok(is_scoped_in(parts, marks, e))
-        }
-        TStmt::For(first, test, next, body) => {
-            if !is_scoped_maybe(parts, marks, first)
-                || !is_scoped_maybe(parts, marks, test)
-                || !is_scoped_maybe(parts, marks, next)
+            if !is_scoped_in(parts, variadic, marks, e)
+                || !is_scoped(alloc, parts, variadic, marks, a)?
             {
                 return Ok(false);
             }
-            is_scoped(alloc, parts, marks, body)
+            is_scoped(alloc, parts, variadic, marks, b)
+        }
+        TStmt::While(e, body) | TStmt::Switch(e, body) => {
+            if !is_scoped_in(parts, variadic, marks, e) {
+                return Ok(false);
+            }
+            is_scoped(alloc, parts, variadic, marks, body)
+        }
+        TStmt::DoWhile(body, e) => {
+            if !is_scoped(alloc, parts, variadic, marks, body)? {
+                return Ok(false);
+            }
+            Ok(is_scoped_in(parts, variadic, marks, e))
+        }
+        TStmt::For(first, test, next, body) => {
+            if !is_scoped_maybe(parts, variadic, marks, first)
+                || !is_scoped_maybe(parts, variadic, marks, test)
+                || !is_scoped_maybe(parts, variadic, marks, next)
+            {
+                return Ok(false);
+            }
+            is_scoped(alloc, parts, variadic, marks, body)
         }
         TStmt::Case(_, body) | TStmt::Default(body) | TStmt::Label(_, body) => {
-            is_scoped(alloc, parts, marks, body)
+            is_scoped(alloc, parts, variadic, marks, body)
         }
-        TStmt::Return(e) => Ok(is_scoped_maybe(parts, marks, e)),
+        TStmt::Return(e) => Ok(is_scoped_maybe(parts, variadic, marks, e)),
     }
 }
 
@@ -73,14 +76,15 @@ pub fn is_scoped(
 fn are_scoped(
     alloc: Global,
     parts: &Parts,
+    variadic: bool,
     marks: &mut Vec<bool>,
     stmts: &[TStmt],
 ) -> Result<bool, AllocError>
-    ensures so { IfOk result (λ so. so ≡ Tests.are_scoped (unit_of parts.now) marks.old.items (stmts_of stmts.now)) }
+    ensures so { IfOk result (λ so. so ≡ Tests.are_scoped (unit_of parts.now) variadic marks.old.items (stmts_of stmts.now)) }
     ensures kept { IfOk result (λ so. marks.new.items ≡ marks.old.items) }
 {
     for stmt in stmts {
-        if !is_scoped(alloc, parts, marks, stmt)? {
+        if !is_scoped(alloc, parts, variadic, marks, stmt)? {
             return Ok(false);
         }
     }

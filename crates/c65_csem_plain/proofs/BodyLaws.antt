@@ -9,7 +9,7 @@ use Rattle.c65_ctype.specs.Layouts.{is_bit_type}
 use Rattle.c65_ctype.specs.Sizes.{size_of, qualified_size_of, size_in}
 use Rattle.c65_ctype.specs.Tables.{layout_at}
 use Rattle.c65_csem.specs.Places.{is_scalar, is_tag}
-use Rattle.c65_csem.specs.Trees.{Typed, node, Node, constant, null, literal, object, func, deref, member, load, address, decay, convert, unary, binary, both, either, choice, comma, assign, assign_op, assign_step, step, copy, call, Nodes, none, some, type_of, Stmt, empty, eval, set_part, clear, block, if_stmt, while, do_while, for_loop, switch, case, default, label, goto, break, continue, return, Stmts, no_stmts, and_stmts, MaybeTyped, absent, present, ObjectTy, UnitTy}
+use Rattle.c65_csem.specs.Trees.{Typed, node, Node, constant, null, literal, object, func, deref, member, load, address, decay, convert, unary, binary, both, either, choice, comma, assign, assign_op, assign_step, step, copy, call, pack, spill, rest, Nodes, none, some, type_of, Stmt, empty, eval, set_part, clear, block, if_stmt, while, do_while, for_loop, switch, case, default, label, goto, break, continue, return, Stmts, no_stmts, and_stmts, MaybeTyped, absent, present, ObjectTy, UnitTy}
 use Rattle.c65_csem_check.specs.Statements.{measured, measured_in, limited_product}
 use Rattle.c65_csem_check.proofs.ListLaws.{tells_number}
 use Rattle.c65_csem_check.proofs.StatementLaws.{measured_is}
@@ -170,6 +170,9 @@ module _ (types : TypesTy) where
     says_node s (step kind a) = tell.both (says_step s) (says_plain_in a)
     says_node s (copy a c) = tell.both (says_plain_in a) (says_plain_in c)
     says_node s (call f es) = tell.both (says_plain_in f) (says_all_in es)
+    says_node s (pack a) = says_plain_in a
+    says_node s (spill i a) = says_plain_in a
+    says_node s rest = tells_unit
 
     says_all_in : (es : Nodes) → Says (b.are_plain_in types es) (ArePlainIn types es)
     says_all_in none = tells_unit
@@ -212,4 +215,4 @@ module _ (u : UnitTy) (own : List ℕ) where
 
     says_stmts : (ss : Stmts) → Says (b.are_plain_stmts u own ss) (ArePlainStmts u own ss)
     says_stmts no_stmts = tells_unit
-    says_stmts (and_stmts a rest) = tells_if (says_stmt a) (says_stmts rest)
+    says_stmts (and_stmts a ss) = tells_if (says_stmt a) (says_stmts ss)

@@ -19,7 +19,7 @@ use Rattle.c65_csem_check.specs.Statements.{same_value}
 use Rattle.c65_csem_check.proofs.ListLaws.{tells_distinct}
 use Rattle.c65_csem_check.proofs.Tells.{Tells, like, tells_itself, tells_not, tells_unit, tells_never, from_decides, both, three, four, tells_if, tells_all}
 use Rattle.c65_csem_plain.specs.Body.{objects_of}
-use Rattle.c65_csem_plain.specs.Plain.{AreBytes, IsByte, ArePaired, BeginsPlain, IsPlainBody, HasPlainBody, IsUsual, is_external, IsOwnName, IsNamed, IsMain, Starts, IsPlainObject, IsPlainFunc, IsPlain}
+use Rattle.c65_csem_plain.specs.Plain.{AreBytes, IsByte, ArePaired, BeginsPlain, IsPlainBody, HasPlainBody, IsUsual, is_external, IsOwnName, HasOwnName, IsNamed, IsMain, Starts, IsPlainObject, IsPlainFunc, IsPlain}
 use Rattle.c65_csem_plain.specs.Tests as b
 use Rattle.c65_csem_plain.specs.declared.initial.Awaited.{Awaited}
 use Rattle.c65_csem_plain.specs.declared.initial.Awaited.TheVariants.{Any, High, Never}
@@ -113,6 +113,10 @@ module _ (names : List (List ℕ)) where
   says_own : (external : Bool) (name : Name) → Says (b.is_own_name names external name) (IsOwnName names external name)
   says_own external name = own_by external (library_at names name.0)
 
+  says_own_named : (external : Bool) (name : Option Name) → Says (b.has_own_name names external name) (HasOwnName names external name)
+  says_own_named external None = tells_unit
+  says_own_named external (Some name) = says_own external name
+
   says_named : (l : Option Library) (external : Bool) (name : Name) → Says (b.is_named names l external name) (IsNamed names l external name)
   says_named None external name = says_own external name
   says_named (Some l) external name = both (tells_itself external) (says_spelled (slice_get names name.0) (library_name l))
@@ -148,7 +152,7 @@ module _ (u : UnitTy) where
 
 module _ (names : List (List ℕ)) (u : UnitTy) where
   says_object : (o : ObjectTy) → Says (b.is_plain_object names u o) (IsPlainObject names u o)
-  says_object o = like (three (says_bytes u.types (type_in o.ty)) (says_own names (is_external o.class) o.name) (says_begins o.init))
+  says_object o = like (three (says_bytes u.types (type_in o.ty)) (says_own_named names (is_external o.class) o.name) (says_begins o.init))
       (λ h. record { bytes = h.0; named = h.1; begins = h.2 })
       (λ w. (w.bytes, w.named, w.begins))
 

@@ -9,7 +9,7 @@ use Rattle.c65_ctype.specs.Layouts.{is_bit_type}
 use Rattle.c65_ctype.specs.Sizes.{size_of}
 use Rattle.c65_ctype.specs.Tables.{layout_at}
 use Rattle.c65_csem.specs.Places.{is_scalar, is_tag}
-use Rattle.c65_csem.specs.Trees.{Typed, node, Node, constant, null, literal, object, func, deref, member, load, address, decay, convert, unary, binary, both, either, choice, comma, assign, assign_op, assign_step, step, copy, call, Nodes, none, some, type_of, Stmt, empty, eval, set_part, clear, block, if_stmt, while, do_while, for_loop, switch, case, default, label, goto, break, continue, return, Stmts, no_stmts, and_stmts, MaybeTyped, absent, present, ObjectTy, UnitTy}
+use Rattle.c65_csem.specs.Trees.{Typed, node, Node, constant, null, literal, object, func, deref, member, load, address, decay, convert, unary, binary, both, either, choice, comma, assign, assign_op, assign_step, step, copy, call, pack, spill, rest, Nodes, none, some, type_of, Stmt, empty, eval, set_part, clear, block, if_stmt, while, do_while, for_loop, switch, case, default, label, goto, break, continue, return, Stmts, no_stmts, and_stmts, MaybeTyped, absent, present, ObjectTy, UnitTy}
 
 -- the objects of all blocks of a statement
 abbrev mutual
@@ -103,6 +103,9 @@ module _ (types : TypesTy) where
     IsPlainNode t (step kind a) = HasStep t × IsPlainIn a
     IsPlainNode t (copy a b) = IsPlainIn a × IsPlainIn b
     IsPlainNode t (call f es) = IsPlainIn f × ArePlainIn es
+    IsPlainNode t (pack a) = IsPlainIn a
+    IsPlainNode t (spill i a) = IsPlainIn a
+    IsPlainNode t rest = ⊤
 
     pub ArePlainIn : Nodes → Type 0
     ArePlainIn none = ⊤
@@ -141,4 +144,4 @@ module _ (u : UnitTy) (own : List ℕ) where
 
     pub ArePlainStmts : Stmts → Type 0
     ArePlainStmts no_stmts = ⊤
-    ArePlainStmts (and_stmts a rest) = IsPlainStmt a × ArePlainStmts rest
+    ArePlainStmts (and_stmts a ss) = IsPlainStmt a × ArePlainStmts ss

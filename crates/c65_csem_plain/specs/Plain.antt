@@ -36,7 +36,7 @@ BeginsPlain (Some cells) = All IsByte cells × ArePaired cells
 -- ---- functions
 
 module _ (u : UnitTy) where
-  -- each object is a parameter or that of one block, and each label has a number of its type with room for one more
+  -- each object, also one without a name, is a parameter or that of one block, and each label has a number of its type with room for one more
   pub record IsPlainBody (params : List ℕ) (body : Stmt) : Type 0 where
     pub objects : IsDistinct (params ++ objects_of body)
     pub labels : All (λ l. l + 1 < 2 ^ 32) (labels_of body)
@@ -63,6 +63,11 @@ module _ (names : List (List ℕ)) where
   abbrev pub IsOwnName : Bool → Name → Type 0
   IsOwnName external name = IsTrue external → library_at names name.0 ≡ None
 
+  -- an object without a name has none of the library's
+  abbrev pub HasOwnName : Bool → Option Name → Type 0
+  HasOwnName external None = ⊤
+  HasOwnName external (Some name) = IsOwnName external name
+
   -- a function of the library is external and has its name
   abbrev pub IsNamed : Option Library → Bool → Name → Type 0
   IsNamed None external name = IsOwnName external name
@@ -82,7 +87,7 @@ module _ (names : List (List ℕ)) where
   module _ (u : UnitTy) where
     pub record IsPlainObject (o : ObjectTy) : Type 0 where
       pub bytes : HasBytes u.types (type_in o.ty)
-      pub named : IsOwnName (is_external o.class) o.name
+      pub named : HasOwnName (is_external o.class) o.name
       pub begins : BeginsPlain o.init
 
     pub record IsPlainFunc (f : FuncTy) : Type 0 where

@@ -17,7 +17,7 @@ use Rattle.c65_csem.specs.declared.items.Target.TheVariants as T
 use Rattle.c65_csem.specs.Library.{library_at}
 use Rattle.c65_csem.specs.Places.{is_scalar, is_tag}
 use Rattle.c65_csem.specs.Statements.{labels_of}
-use Rattle.c65_csem.specs.Trees.{Typed, node, Node, constant, null, literal, object, func, deref, member, load, address, decay, convert, unary, binary, both, either, choice, comma, assign, assign_op, assign_step, step, copy, call, Nodes, none, some, type_of, Stmt, empty, eval, set_part, clear, block, if_stmt, while, do_while, for_loop, switch, case, default, label, goto, break, continue, return, Stmts, no_stmts, and_stmts, MaybeTyped, absent, present, ObjectTy, FuncTy, UnitTy}
+use Rattle.c65_csem.specs.Trees.{Typed, node, Node, constant, null, literal, object, func, deref, member, load, address, decay, convert, unary, binary, both, either, choice, comma, assign, assign_op, assign_step, step, copy, call, pack, spill, rest, Nodes, none, some, type_of, Stmt, empty, eval, set_part, clear, block, if_stmt, while, do_while, for_loop, switch, case, default, label, goto, break, continue, return, Stmts, no_stmts, and_stmts, MaybeTyped, absent, present, ObjectTy, FuncTy, UnitTy}
 use Rattle.c65_csem_check.specs.Statements.{measured, has_number, are_distinct, same_value}
 use Rattle.c65_csem_plain.specs.Body.{objects_of}
 use Rattle.c65_csem_plain.specs.Plain.{is_external}
@@ -99,6 +99,9 @@ module _ (types : TypesTy) where
     is_plain_node t (step kind a) = has_step t && is_plain_in a
     is_plain_node t (copy a b) = is_plain_in a && is_plain_in b
     is_plain_node t (call f es) = is_plain_in f && are_plain_in es
+    is_plain_node t (pack a) = is_plain_in a
+    is_plain_node t (spill i a) = is_plain_in a
+    is_plain_node t rest = true
 
     pub are_plain_in : Nodes → Bool
     are_plain_in none = true
@@ -140,7 +143,7 @@ module _ (u : UnitTy) (own : List ℕ) where
 
     pub are_plain_stmts : Stmts → Bool
     are_plain_stmts no_stmts = true
-    are_plain_stmts (and_stmts a rest) = if is_plain_stmt a then are_plain_stmts rest else false
+    are_plain_stmts (and_stmts a ss) = if is_plain_stmt a then are_plain_stmts ss else false
 
 abbrev pub are_labels : List ℕ → Bool
 are_labels [] = true
@@ -214,6 +217,10 @@ module _ (names : List (List ℕ)) where
   abbrev pub is_own_name : Bool → Name → Bool
   is_own_name external name = not external || not (is_some (library_at names name.0))
 
+  abbrev pub has_own_name : Bool → Option Name → Bool
+  has_own_name external None = true
+  has_own_name external (Some name) = is_own_name external name
+
   abbrev pub is_named : Option Library → Bool → Name → Bool
   is_named None external name = is_own_name external name
   is_named (Some l) external name = external && is_spelled (slice_get names name.0) (library_name l)
@@ -229,7 +236,7 @@ module _ (names : List (List ℕ)) where
 
   module _ (u : UnitTy) where
     abbrev pub is_plain_object : ObjectTy → Bool
-    is_plain_object o = has_bytes u.types (type_in o.ty) && is_own_name (is_external o.class) o.name && begins_plain o.init
+    is_plain_object o = has_bytes u.types (type_in o.ty) && has_own_name (is_external o.class) o.name && begins_plain o.init
 
     abbrev pub are_plain_objects : List ObjectTy → Bool
     are_plain_objects [] = true

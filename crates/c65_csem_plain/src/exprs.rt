@@ -31,13 +31,16 @@ pub fn is_plain_in(types: &Types, e: &TExpr) -> bool
     match &e.kind {
         TKind::Const(_) | TKind::Null | TKind::Literal(_) | TKind::Object(_) | TKind::Func(_) =>
             true,
+        TKind::Rest => true,
         TKind::Member(a, member) => lies_in(types, *member, &a.ty.ty) && is_plain_in(types, a),
         TKind::Deref(a)
         | TKind::Load(a)
         | TKind::Address(a)
         | TKind::Decay(a)
         | TKind::Convert(a)
-        | TKind::Unary(_, a) => is_plain_in(types, a),
+        | TKind::Unary(_, a)
+        | TKind::Pack(a)
+        | TKind::Spill(_, a) => is_plain_in(types, a),
         TKind::Step(_, a) => has_step(types, &e.ty.ty) && is_plain_in(types, a),
         TKind::Binary(op, a, b) => {
             has_steps(types, *op, &a.ty.ty, &b.ty.ty)

@@ -39,10 +39,20 @@ fn library_at(names: &Names, name: Name) -> Option<Library>
 }
 
 /// Whether a name, where it is external, is none of the library's.
-pub fn is_own_name(names: &Names, external: bool, name: Name) -> bool
+fn is_own_name(names: &Names, external: bool, name: Name) -> bool
     ensures { result ≡ Tests.is_own_name names.now external name }
 {
     !external || library_at(names, name).is_none()
+}
+
+/// Whether a name, where there is one and it is external, is none of the library's.
+pub fn has_own_name(names: &Names, external: bool, name: Option<Name>) -> bool
+    ensures { result ≡ Tests.has_own_name names.now external name }
+{
+    match name {
+        Some(name) => is_own_name(names, external, name),
+        None => true,
+    }
 }
 
 /// Whether a function of the library is external and has its name, and any other function has its own.

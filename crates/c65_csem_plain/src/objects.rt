@@ -5,7 +5,7 @@ ghost use Rattle.c65_csem_plain.specs.Tests;
 
 use crate::initial::{are_bytes, begins_plain};
 use crate::members::has_bytes;
-use crate::names::{is_external, is_own_name};
+use crate::names::{has_own_name, is_external};
 use c65_base::Names;
 use c65_csem::{Parts, TObject};
 
@@ -13,7 +13,7 @@ fn is_plain_object(names: &Names, parts: &Parts, object: &TObject) -> bool
     ensures { result ≡ Tests.is_plain_object names.now (unit_of parts.now) (object_of object.now) }
 {
     has_bytes(&parts.types, &object.ty.ty)
-        && is_own_name(names, is_external(object.class), object.name)
+        && has_own_name(names, is_external(object.class), object.name)
         && begins_plain(&object.init)
 }
 

@@ -1,11 +1,16 @@
 use Rattle.std.proofs.Common.{◌∙◌}
 use Rattle.c65_ctype.specs.Views.{qty_of}
 use Rattle.c65_csem.specs.Views.{unit_of}
-use Rattle.c65_csem_check.proofs.CodeLaws.{all_same, call_node}
+use Rattle.c65_csem_check.proofs.CodeLaws.{all_same, call_parts, call_node}
 use Rattle.c65_csem_check.proofs.exprs.+typed.Goals as goal
 
-pub is_typed-returns-in-Call : goal.is_typed-returns-in-Call
-is_typed-returns-in-Call t c =
+pub is_whole_call-returns-in-Call : goal.is_whole_call-returns-in-Call
+is_whole_call-returns-in-Call t c =
     c.are_all.ensures
-    ∙ all_same c.is_typed-a.ensures c.is_call-b.ensures c.are_typed-c.ensures
-    ∙ call_node (unit_of c.args.parts.now) (qty_of c.args.e.now.ty) c.args.e.now.kind c.in-Call.function c.in-Call.arguments c.deref-callee.result.now c.deref-given.result.now c.in-Call.is c.deref-callee.ensures c.deref-given.ensures.value
+    ∙ all_same c.is_typed-a.ensures c.are_typed-b.ensures c.is_call-c.ensures
+    ∙ call_parts (unit_of c.args.parts.now) (qty_of c.args.e.now.ty) c.args.e.now.kind c.in-Call.function c.in-Call.arguments c.deref-callee.result.now c.deref-given.result.now c.in-Call.is c.deref-callee.ensures c.deref-given.ensures.value
+
+pub is_typed-returns-then-is_usual : goal.is_typed-returns-then-is_usual
+is_typed-returns-then-is_usual t c =
+    c.is_whole_call.ensures
+    ∙ call_node (unit_of c.args.parts.now) (qty_of c.args.e.now.ty) c.args.e.now.kind c.in-Call.field-0 c.in-Call.field-1 c.is_usual.result c.in-Call.is c.is_usual.ensures c.if-is_usual.true
