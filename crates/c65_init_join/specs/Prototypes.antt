@@ -1,6 +1,6 @@
 -- The types that the main function may have (C90 5.1.2.2.1), where plain char is signed or not.
 use Rattle.std.specs.Prelude.{Bool, false}
-use Rattle.c65_ctype.specs.Trees.{pointer, QTy, qual, Fn, fn, known, end, more}
+use Rattle.c65_ctype.specs.Trees.{pointer, qual, Fn, fn, known, end, more}
 use Rattle.c65_csem.specs.Library.{number, text}
 
 -- int main(void)
