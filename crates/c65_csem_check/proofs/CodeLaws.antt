@@ -125,6 +125,21 @@ call_node u t k f v y is usual holds =
     ∙ ap (λ (w : Bool). w && exprs.is_whole_call u (node t (call (typed_of f.value) (nodes_of v.items)))) (sym (sym usual ∙ holds))
     ∙ sym (ap (exprs.is_node u t) same)
 
+packed_node : (u : UnitTy) (t : QTy) (k : TKind) (a : Box TExpr Global) → k ≡ x.Pack a → (exprs.is_typed u (typed_of a.value) && exprs.is_pack u.types t (typed_of a.value)) ≡ exprs.is_packed u (node t (node_of k))
+packed_node u t k a is = sym (ap (λ (j : TKind). exprs.is_packed u (node t (node_of j))) is)
+
+pub packed_by : (u : UnitTy) (t : QTy) (k : TKind) (a : Box TExpr Global) (g h : TExpr) (y : Bool) → k ≡ x.Pack a → g ≡ a.value → h ≡ a.value → y ≡ exprs.is_typed u (typed_of g) → y ≡ true → exprs.is_pack u.types t (typed_of h) ≡ exprs.is_packed u (node t (node_of k))
+packed_by u t k a g h y is one other typed holds =
+    ap (λ (e : TExpr). exprs.is_pack u.types t (typed_of e)) other
+    ∙ ap (λ (w : Bool). w && exprs.is_pack u.types t (typed_of a.value)) (sym (sym (typed ∙ ap (λ (e : TExpr). exprs.is_typed u (typed_of e)) one) ∙ holds))
+    ∙ packed_node u t k a is
+
+pub packed_never : (u : UnitTy) (t : QTy) (k : TKind) (a : Box TExpr Global) (g : TExpr) (y : Bool) → k ≡ x.Pack a → g ≡ a.value → y ≡ exprs.is_typed u (typed_of g) → y ≡ false → y ≡ exprs.is_packed u (node t (node_of k))
+packed_never u t k a g y is one typed fails =
+    fails
+    ∙ ap (λ (w : Bool). w && exprs.is_pack u.types t (typed_of a.value)) (sym (sym (typed ∙ ap (λ (e : TExpr). exprs.is_typed u (typed_of e)) one) ∙ fails))
+    ∙ packed_node u t k a is
+
 pub block_labels : (k : TStmt) (os : Vec ℕ) (v : Vec TStmt) (ys : List TStmt) → k ≡ s.Block os v → ys ≡ v.items → labels_in (stmts_of ys) ≡ labels_of (stmt_of k)
 block_labels k os v ys is list = ap (λ (zs : List TStmt). labels_in (stmts_of zs)) list ∙ sym (ap (λ (j : TStmt). labels_of (stmt_of j)) is ∙ ap labels_of (stmt_of_block os v))
 
