@@ -7,7 +7,7 @@ use Rattle.c65_csem.specs.Places.{member_at, is_fixed_object}
 use Rattle.c65_fold.specs.Constants.{number_type}
 use Rattle.c65_fold.specs.Folded.{value_at, by_value, folded, folded_node, folded_nodes}
 use Rattle.c65_fold.proofs.FoldLaws.{kept_type}
-use Rattle.c65_meaning.specs.Shapes.{bare_type, types_of, shape_of, place_shape, member_shape, object_size, object_in}
+use Rattle.c65_meaning.specs.Shapes.{bare_type, types_of, shape_of, place_shape, member_shape, object_in}
 use Rattle.c65_meaning.specs.Sites.{count, count_all, cases_of, all_cases_of}
 use Rattle.c65_csem_need.specs.Needs.{need, need_in, need_of_all, need_if, greatest_need, greatest_need_of_all}
 use Rattle.c65_meaning.specs.Costs.{bytes_of_objects, local_bytes, all_local_bytes, soft_cost, framed_size, any_fixed, has_fixed, any_has_fixed}
