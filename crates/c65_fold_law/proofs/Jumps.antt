@@ -224,6 +224,6 @@ module _ (u : UnitTy) where
 
     all_land : (what : Sought) (n : ℕ) (ss : Stmts) (c : Context) → AreStmts u c ss → (k l : List Item) → Works u k l → LandIf (after_all u what n ss k) (after_all (folded_unit u) what n (folded_stmts ss) l)
     all_land what n no_stmts c h k l w = refl
-    all_land what n (and_stmts s rest) c h k l w =
-        subst (λ (m : ℕ). LandIf (or_else (after u what n s (plan_stmts u (n + count s) rest k)) (after_all u what (n + count s) rest k)) (or_else (after (folded_unit u) what n (folded_stmt s) (plan_stmts (folded_unit u) (n + m) (folded_stmts rest) l)) (after_all (folded_unit u) what (n + m) (folded_stmts rest) l))) (sym (count_same s))
-        (or_else_land _ _ _ _ (after_land what n s c h.0 _ _ (stmts_work u (n + count s) rest c h.1 k l w)) (all_land what (n + count s) rest c h.1 k l w))
+    all_land what n (and_stmts s more) c h k l w =
+        subst (λ (m : ℕ). LandIf (or_else (after u what n s (plan_stmts u (n + count s) more k)) (after_all u what (n + count s) more k)) (or_else (after (folded_unit u) what n (folded_stmt s) (plan_stmts (folded_unit u) (n + m) (folded_stmts more) l)) (after_all (folded_unit u) what (n + m) (folded_stmts more) l))) (sym (count_same s))
+        (or_else_land _ _ _ _ (after_land what n s c h.0 _ _ (stmts_work u (n + count s) more c h.1 k l w)) (all_land what (n + count s) more c h.1 k l w))

@@ -7,7 +7,7 @@ use Rattle.c65_csem.specs.Places.{member_at, is_fixed_object}
 use Rattle.c65_fold.specs.Constants.{number_type}
 use Rattle.c65_fold.specs.Folded.{value_at, by_value, folded, folded_node, folded_nodes}
 use Rattle.c65_fold.proofs.FoldLaws.{kept_type}
-use Rattle.c65_meaning.specs.Shapes.{bare_type, types_of, shape_of, place_shape, member_shape, object_size, object_in}
+use Rattle.c65_meaning.specs.Shapes.{bare_type, types_of, shape_of, place_shape, member_shape, object_in}
 use Rattle.c65_meaning.specs.Sites.{count, count_all, cases_of, all_cases_of}
 use Rattle.c65_csem_need.specs.Needs.{need, need_in, need_of_all, need_if, greatest_need, greatest_need_of_all}
 use Rattle.c65_meaning.specs.Costs.{bytes_of_objects, local_bytes, all_local_bytes, soft_cost, framed_size, any_fixed, has_fixed, any_has_fixed}
@@ -79,7 +79,7 @@ mutual
 
   counts_same : (ss : Stmts) → count_all (folded_stmts ss) ≡ count_all ss
   counts_same no_stmts = refl
-  counts_same (and_stmts s rest) = ap (λ n. n + count_all (folded_stmts rest)) (count_same s) ∙ ap (λ n. count s + n) (counts_same rest)
+  counts_same (and_stmts s more) = ap (λ n. n + count_all (folded_stmts more)) (count_same s) ∙ ap (λ n. count s + n) (counts_same more)
 
 mutual
   pub cases_same : (s : Stmt) → cases_of (folded_stmt s) ≡ cases_of s
@@ -103,7 +103,7 @@ mutual
 
   all_cases_same : (ss : Stmts) → all_cases_of (folded_stmts ss) ≡ all_cases_of ss
   all_cases_same no_stmts = refl
-  all_cases_same (and_stmts s rest) = ap (λ n. n + all_cases_of (folded_stmts rest)) (cases_same s) ∙ ap (λ n. cases_of s + n) (all_cases_same rest)
+  all_cases_same (and_stmts s more) = ap (λ n. n + all_cases_of (folded_stmts more)) (cases_same s) ∙ ap (λ n. cases_of s + n) (all_cases_same more)
 
 -- ---- values that wait
 
@@ -160,7 +160,7 @@ mutual
 
   nodes_need : (es : Nodes) → need_of_all (folded_nodes es) ≤ need_of_all es
   nodes_need none = omega arith
-  nodes_need (some e rest) = one_more (need (folded e)) (need e) (need_of_all (folded_nodes rest)) (need_of_all rest) (need_less e) (nodes_need rest)
+  nodes_need (some e more) = one_more (need (folded e)) (need e) (need_of_all (folded_nodes more)) (need_of_all more) (need_less e) (nodes_need more)
 
 need_if_less : (o : MaybeTyped) → need_if (folded_if o) ≤ need_if o
 need_if_less absent = omega arith
@@ -191,14 +191,14 @@ mutual
 
   all_less : (ss : Stmts) → greatest_need_of_all (folded_stmts ss) ≤ greatest_need_of_all ss
   all_less no_stmts = omega arith
-  all_less (and_stmts s rest) = two_need (greatest_need (folded_stmt s)) (greatest_need s) (greatest_need_of_all (folded_stmts rest)) (greatest_need_of_all rest) (greatest_less s) (all_less rest)
+  all_less (and_stmts s more) = two_need (greatest_need (folded_stmt s)) (greatest_need s) (greatest_need_of_all (folded_stmts more)) (greatest_need_of_all more) (greatest_less s) (all_less more)
 
 -- ---- bytes on the software stack
 
 module _ (u : UnitTy) where
   bytes_same : (objects : List ℕ) → bytes_of_objects (folded_unit u) objects ≡ bytes_of_objects u objects
   bytes_same [] = refl
-  bytes_same (i ∷ rest) = ap (λ n. framed_size u.types (object_in u i) + n) (bytes_same rest)
+  bytes_same (i ∷ more) = ap (λ n. framed_size u.types (object_in u i) + n) (bytes_same more)
 
   mutual
     pub local_same : (s : Stmt) → local_bytes (folded_unit u) (folded_stmt s) ≡ local_bytes u s
@@ -222,12 +222,12 @@ module _ (u : UnitTy) where
 
     all_local_same : (ss : Stmts) → all_local_bytes (folded_unit u) (folded_stmts ss) ≡ all_local_bytes u ss
     all_local_same no_stmts = refl
-    all_local_same (and_stmts s rest) = ap (λ n. n + all_local_bytes (folded_unit u) (folded_stmts rest)) (local_same s) ∙ ap (λ n. local_bytes u s + n) (all_local_same rest)
+    all_local_same (and_stmts s more) = ap (λ n. n + all_local_bytes (folded_unit u) (folded_stmts more)) (local_same s) ∙ ap (λ n. local_bytes u s + n) (all_local_same more)
 
   -- and it has the same objects
   any_same : (objects : List ℕ) → any_fixed (folded_unit u) objects ≡ any_fixed u objects
   any_same [] = refl
-  any_same (i ∷ rest) = ap (λ b. is_fixed_object (object_in u i) || b) (any_same rest)
+  any_same (i ∷ more) = ap (λ b. is_fixed_object (object_in u i) || b) (any_same more)
 
   or_same : (a b c d : Bool) → a ≡ b → c ≡ d → (a || c) ≡ (b || d)
   or_same a b c d e h = ap (λ x. x || c) e ∙ ap (λ x. b || x) h
@@ -254,7 +254,7 @@ module _ (u : UnitTy) where
 
     all_fixed_same : (ss : Stmts) → any_has_fixed (folded_unit u) (folded_stmts ss) ≡ any_has_fixed u ss
     all_fixed_same no_stmts = refl
-    all_fixed_same (and_stmts s rest) = or_same (has_fixed (folded_unit u) (folded_stmt s)) (has_fixed u s) (any_has_fixed (folded_unit u) (folded_stmts rest)) (any_has_fixed u rest) (fixed_same s) (all_fixed_same rest)
+    all_fixed_same (and_stmts s more) = or_same (has_fixed (folded_unit u) (folded_stmt s)) (has_fixed u s) (any_has_fixed (folded_unit u) (folded_stmts more)) (any_has_fixed u more) (fixed_same s) (all_fixed_same more)
 
   -- a folded body costs no more
   pub cost_less : (passed : ℕ) (s : Stmt) → soft_cost (folded_unit u) passed (folded_stmt s) ≤ soft_cost u passed s

@@ -261,4 +261,4 @@ module _ (u : UnitTy) where
 
     pub stmts_work : (n : ℕ) (ss : Stmts) (c : Context) → AreStmts u c ss → (k l : List Item) → Works k l → Works (plan_stmts u n ss k) (plan_stmts (folded_unit u) n (folded_stmts ss) l)
     stmts_work n no_stmts c h k l w = w
-    stmts_work n (and_stmts s rest) c h k l w = subst (λ (m : ℕ). Works (plan_stmts u n (and_stmts s rest) k) (plan_stmt (folded_unit u) n (folded_stmt s) (plan_stmts (folded_unit u) (n + m) (folded_stmts rest) l))) (sym (count_same s)) (stmt_works n s c h.0 _ _ (stmts_work (n + count s) rest c h.1 k l w))
+    stmts_work n (and_stmts s more) c h k l w = subst (λ (m : ℕ). Works (plan_stmts u n (and_stmts s more) k) (plan_stmt (folded_unit u) n (folded_stmt s) (plan_stmts (folded_unit u) (n + m) (folded_stmts more) l))) (sym (count_same s)) (stmt_works n s c h.0 _ _ (stmts_work (n + count s) more c h.1 k l w))

@@ -1,4 +1,4 @@
-// One program for each undefined action, and one that calls too deep.
+// Programs that come to an undefined action, at least one for each, and one that calls too deep.
 ghost use Rattle.std.specs.Prelude.{[], ◌∷◌};
 ghost use Rattle.c65_meaning.specs.Endings.{EndsAfter};
 ghost use Rattle.c65_meaning.specs.UndefinedSamples.{by_zero, shift_by_width, unset_integer, null_followed, element_read, order_across, literal_written, address_added_to, end_met, misfit, missing_result, length_of_null, overlapping_copy, pointer_left, jump_past_initialiser, no_end_of_calls, entered_twice, missing_structure, structure_behind, structure_left, further_passed_over, none_further, further_left};
