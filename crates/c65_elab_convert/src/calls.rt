@@ -202,12 +202,7 @@ fn arguments_for(
 
 /// The type of what a function gives: nothing, a scalar, or a structure or union of at most four
 /// bytes.
-fn result_type(
-    alloc: Global,
-    types: &Types,
-    pos: Pos,
-    function: &FnType,
-) -> Result<QType, Refusal>
+fn result_type(alloc: Global, types: &Types, pos: Pos, function: &FnType) -> Result<QType, Refusal>
     ensures { Gives qty_of result (calls.result_type (types_of types.now) pos (fn_of function.now)) }
 {
     match classify(&function.result.ty) {

@@ -5,7 +5,9 @@ ghost use Rattle.c65_ctype.specs.Views.{ty_of, qty_of, types_of};
 ghost use Rattle.c65_csem.specs.Views.{typed_of};
 ghost use Rattle.c65_elab_convert.specs.Unaries as unaries;
 
-use crate::classes::{Category, classify, is_bit_field, is_lvalue, is_spilled, is_void, unfit_operand};
+use crate::classes::{
+    Category, classify, is_bit_field, is_lvalue, is_spilled, is_void, unfit_operand,
+};
 use crate::values::{as_int, promotion, value};
 use crate::waiting::beside;
 use c65_base::{Code, Pos, Refusal, UnaryOp, boxed_beside};

@@ -45,13 +45,7 @@ fn variadic_in(begins: bool, block: u32, held: Option<u32>) -> Option<u32>
 {
     match held {
         Some(number) => Some(number),
-        None => {
-            if begins {
-                Some(block)
-            } else {
-                None
-            }
-        }
+        None => { if begins { Some(block) } else { None } }
     }
 }
 
@@ -61,13 +55,7 @@ fn variadic_behind(block: u32, held: Option<u32>) -> Option<u32>
 {
     match held {
         None => None,
-        Some(number) => {
-            if number == block {
-                None
-            } else {
-                Some(number)
-            }
-        }
+        Some(number) => { if number == block { None } else { Some(number) } }
     }
 }
 
