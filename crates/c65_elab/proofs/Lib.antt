@@ -3,4 +3,4 @@ pub mod Listing
 pub mod Parts
 pub mod Knots
 pub mod Firsts
-mod Headed
+pub mod Headed
