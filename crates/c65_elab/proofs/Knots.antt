@@ -36,13 +36,15 @@ use Rattle.c65_tree.specs.View as v
 use Rattle.c65_tree.proofs.Views.{call_view, tagged_view, enum_view, types_view, specifiers_view}
 use Rattle.c65_elab.specs.Constants.{value_at}
 use Rattle.c65_elab.specs.Naming.{called_first}
+use Rattle.c65_elab.specs.Operators.{spilled}
+use Rattle.c65_elab.specs.Places.{firsts_of}
 use Rattle.c65_elab.specs.Typing.{typed, typed_list, value_in, specified, specifier_in, drafted, formals_in, prototype_in, beside, left, is_one, is_single}
 use Rattle.c65_elab.proofs.Listing.{args_walk, drafts_walk, enums_walk, fields_walk, params_walk, one_of, single_of}
 use Rattle.c65_elab.proofs.Parts.{place_is}
 use Rattle.c65_elab.proofs.Walks.{fails_bind, then_ok, then_fails}
 
 -- C90 6.3.2.2
-pub call_is : (l : Pos) (f : Box Expr Global) (es : Vec Expr Global) (s : ScopeTy) → typed (v.expr_at l (x.Call f es)) s ≡ (called_first (v.expr_of f.value) s >>= (λ u. typed (v.expr_of f.value) u >>= (λ e. args_walk e.1 es.items >>= (λ zs. beside zs.1 (call_of zs.1.unit.types l e.0 zs.0)))))
+pub call_is : (l : Pos) (f : Box Expr Global) (es : Vec Expr Global) (s : ScopeTy) → typed (v.expr_at l (x.Call f es)) s ≡ (called_first (v.expr_of f.value) s >>= (λ u. typed (v.expr_of f.value) u >>= (λ e. args_walk e.1 es.items >>= (λ zs. call_of zs.1.unit.types l (firsts_of (v.exprs_from t.no_exprs es.items)) e.0 zs.0 >>= (λ y. spilled zs.1 y)))))
 call_is l f es s = ap (λ (e : t.ExprTree). typed e s) (call_view l f es)
 
 -- C90 6.5.2.1
@@ -54,10 +56,10 @@ pub enum_is : (l : Pos) (tag : Option Name) (es : Vec Enumerator Global) (c : Dr
 enum_is l tag es c sole s = ap (λ (q : t.SpecifierTree). specifier_in q c sole s) (enum_view l tag es)
 
 -- C90 6.5.4.3
-pub types_is : (ps : Vec Param Global) (more : Bool) (stays : Bool) (s : ScopeTy) → formals_in (v.params_of (p.Types ps more)) stays s ≡ (opened s >>= (λ u. params_walk ((length ps.items == 1) && not more) u ps.items >>= (λ r. Ok (d.prototype (without_void r.0.0) more, left stays r.1 (length s.unit.objects)))))
+pub types_is : (ps : Vec Param Global) (more : Bool) (stays : Bool) (s : ScopeTy) → formals_in (v.params_of (p.Types ps more)) stays s ≡ (opened false s >>= (λ u. params_walk ((length ps.items == 1) && not more) u ps.items >>= (λ r. Ok (d.prototype (without_void r.0.0) more, left stays r.1 (length s.unit.objects)))))
 types_is ps more stays s =
     ap (λ (qs : t.ParamsTree). formals_in qs stays s) (types_view ps more)
-    ∙ ap (λ (one : Bool). opened s >>= (λ u. params_walk (one && not more) u ps.items >>= (λ r. Ok (d.prototype (without_void r.0.0) more, left stays r.1 (length s.unit.objects))))) (single_of ps.items)
+    ∙ ap (λ (one : Bool). opened false s >>= (λ u. params_walk (one && not more) u ps.items >>= (λ r. Ok (d.prototype (without_void r.0.0) more, left stays r.1 (length s.unit.objects))))) (single_of ps.items)
 
 -- C90 6.5.1 to 6.5.3
 pub specified_is : (q : Specifiers) (alone : Bool) (s : ScopeTy) → specified (v.specifiers_of q) alone s ≡ (drafts_walk (alone && (length (out-Specifiers q).items.items == 1)) s (out-Specifiers q).items.items >>= (λ r. beside r.1 (w.draft_finished r.0 (char_of r.1.signed_chars) alone (out-Specifiers q).pos)))

@@ -111,8 +111,14 @@ expression-returns-in_err-arguments-in-Call t c =
     let fault = subst (Fails c.in_err-arguments-in-Call.field-0.0) (sym all) (first_of (search rules, search (rules, fails_bind), grind (arith, common_steps), grind (arith, common_steps, fails_bind))) in
     first_of (search (rules, fault), grind (arith, common_steps, fault))
 
-pub expression-returns-in_ok-arguments-in-Call : goal.expression-returns-in_ok-arguments-in-Call
-expression-returns-in_ok-arguments-in-Call t c =
+pub expression-returns-in_err-e-in-Call : goal.expression-returns-in_err-e-in-Call
+expression-returns-in_err-e-in-Call t c =
+    let all = ap (λ (y : ExprKind). typed (expr_at c.args.expr.now.pos y) (scope_of c.args.scope.now)) c.in-Call.is ∙ call_is c.args.expr.now.pos c.in-Call.f c.in-Call.arguments (scope_of c.args.scope.now) in
+    let fault = subst (Fails c.in_err-e-in-Call.field-0.0) (sym all) (first_of (search rules, search (rules, fails_bind), grind (arith, common_steps), grind (arith, common_steps, fails_bind))) in
+    first_of (search (rules, fault), grind (arith, common_steps, fault))
+
+pub expression-returns-in_ok-e-in-Call : goal.expression-returns-in_ok-e-in-Call
+expression-returns-in_ok-e-in-Call t c =
     let all = ap (λ (y : ExprKind). typed (expr_at c.args.expr.now.pos y) (scope_of c.args.scope.now)) c.in-Call.is ∙ call_is c.args.expr.now.pos c.in-Call.f c.in-Call.arguments (scope_of c.args.scope.now) in
     rw all (first_of (search rules, grind (arith, common_steps)))
 

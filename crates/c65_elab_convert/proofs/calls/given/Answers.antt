@@ -18,7 +18,7 @@ returns-in_err-e c =
     let turn = YieldsList-turn (YieldsList-from_vec c.args.arguments.items h.0 (h.1 ∙ c.args.arguments.ok.0)) c.loop-e.yielded c.loop-e.e-iterator c.loop-e.yielded_by c.next.result c.next.new.self c.in-Some.e c.in-Some.is c.next.ensures.steps in
     let i = length c.loop-e.yielded in
     let at = c.len-i.ensures ∙ c.loop-e.given.ok.0 ∙ c.loop-e.invariant.count in
-    let here = subst (λ (k : ℕ). Fails c.in_err-e.field-0.0 (argument types c.args.pos (first_place c.args.pos (drop k c.args.firsts.now)) (option_map qty_of (slice_get c.args.parameters.now k)) (typed_of c.in-Some.e))) at (subst (λ (p : Pos). Fails c.in_err-e.field-0.0 (argument types c.args.pos p (option_map qty_of (slice_get c.args.parameters.now c.len-i.result)) (typed_of c.in-Some.e))) c.first_place-first.ensures c.in_err-e.ensures) in
+    let here = subst (λ (k : ℕ). Fails c.in_err-e.field-0.0 (argument types c.args.pos (first_place c.args.pos (drop k c.args.firsts.now)) (option_map qty_of (slice_get c.args.parameters.now k)) (typed_of c.in-Some.e))) at (rw c.first_place-first.ensures at c.in_err-e.ensures) in
     let whole = given types c.args.pos c.args.firsts.now 0 (qtys_of c.args.parameters.now) (nodes_of c.args.arguments.items) in
     let fault = fails_as c.in_err-e.field-0.0 (argument types c.args.pos (first_place c.args.pos (drop i c.args.firsts.now)) (option_map qty_of (slice_get c.args.parameters.now i)) (typed_of c.in-Some.e)) whole (λ f made. given_fault types c.args.pos c.args.firsts.now c.loop-e.total c.args.parameters.now c.args.arguments.items c.loop-e.given.items i c.in-Some.e whole f turn.0 turn.1 made c.loop-e.invariant.so_far) here in
     search (rules, fault)
@@ -30,7 +30,7 @@ returns-in_err-total c =
     let turn = YieldsList-turn (YieldsList-from_vec c.args.arguments.items h.0 (h.1 ∙ c.args.arguments.ok.0)) c.loop-e.yielded c.loop-e.e-iterator c.loop-e.yielded_by c.next.result c.next.new.self c.in-Some.e c.in-Some.is c.next.ensures.steps in
     let i = length c.loop-e.yielded in
     let at = c.len-i.ensures ∙ c.loop-e.given.ok.0 ∙ c.loop-e.invariant.count in
-    let made = subst (λ (k : ℕ). argument types c.args.pos (first_place c.args.pos (drop k c.args.firsts.now)) (option_map qty_of (slice_get c.args.parameters.now k)) (typed_of c.in-Some.e) ≡ Ok (typed_of c.in_ok-e.e)) at (subst (λ (p : Pos). argument types c.args.pos p (option_map qty_of (slice_get c.args.parameters.now c.len-i.result)) (typed_of c.in-Some.e) ≡ Ok (typed_of c.in_ok-e.e)) c.first_place-first.ensures c.in_ok-e.ensures) in
+    let made = subst (λ (k : ℕ). argument types c.args.pos (first_place c.args.pos (drop k c.args.firsts.now)) (option_map qty_of (slice_get c.args.parameters.now k)) (typed_of c.in-Some.e) ≡ Ok (typed_of c.in_ok-e.e)) at (rw c.first_place-first.ensures at c.in_ok-e.ensures) in
     let whole = given types c.args.pos c.args.firsts.now 0 (qtys_of c.args.parameters.now) (nodes_of c.args.arguments.items) in
     let fault = fails_as c.in_err-total.field-0.0 (counted types c.args.pos c.loop-e.total (typed_of c.in_ok-e.e)) whole (λ f room. given_large types c.args.pos c.args.firsts.now c.loop-e.total c.args.parameters.now c.args.arguments.items c.loop-e.given.items i c.in-Some.e c.in_ok-e.e whole f turn.0 turn.1 made room c.loop-e.invariant.so_far) c.in_err-total.ensures.exact in
     search (rules, fault)
@@ -42,7 +42,7 @@ loop-e-preserved c =
     let turn = YieldsList-turn (YieldsList-from_vec c.args.arguments.items h.0 (h.1 ∙ c.args.arguments.ok.0)) c.loop-e.yielded c.loop-e.e-iterator c.loop-e.yielded_by c.next.result c.next.new.self c.in-Some.e c.in-Some.is c.next.ensures.steps in
     let i = length c.loop-e.yielded in
     let at = c.len-i.ensures ∙ c.loop-e.given.ok.0 ∙ c.loop-e.invariant.count in
-    let made = subst (λ (k : ℕ). argument types c.args.pos (first_place c.args.pos (drop k c.args.firsts.now)) (option_map qty_of (slice_get c.args.parameters.now k)) (typed_of c.in-Some.e) ≡ Ok (typed_of c.in_ok-e.e)) at (subst (λ (p : Pos). argument types c.args.pos p (option_map qty_of (slice_get c.args.parameters.now c.len-i.result)) (typed_of c.in-Some.e) ≡ Ok (typed_of c.in_ok-e.e)) c.first_place-first.ensures c.in_ok-e.ensures) in
+    let made = subst (λ (k : ℕ). argument types c.args.pos (first_place c.args.pos (drop k c.args.firsts.now)) (option_map qty_of (slice_get c.args.parameters.now k)) (typed_of c.in-Some.e) ≡ Ok (typed_of c.in_ok-e.e)) at (rw c.first_place-first.ensures at c.in_ok-e.ensures) in
     let whole = given types c.args.pos c.args.firsts.now 0 (qtys_of c.args.parameters.now) (nodes_of c.args.arguments.items) in
     let next = given_next types c.args.pos c.args.firsts.now c.loop-e.total c.in_ok-total.total c.args.parameters.now c.args.arguments.items c.loop-e.given.items i c.in-Some.e c.in_ok-e.e whole turn.0 turn.1 made c.in_ok-total.ensures.exact c.loop-e.invariant.so_far in
     let longer : length (c.loop-e.yielded ++ c.in-Some.e ∷ []) ≡ suc (length c.loop-e.yielded) = omega (arith, length-append c.loop-e.yielded (c.in-Some.e ∷ [])) in
