@@ -1,7 +1,8 @@
 -- What files are together, stage after stage.
 use Rattle.std.proofs.lemmas.Bool.{le-ltb}
 use Rattle.std.proofs.lemmas.List.{map-append}
-use Rattle.std.proofs.Common.{◌≡◌, ◌≤◌, ◌↔◌, ◌∙◌, map, IfOk, IsTrue, ℕ, zero, suc, Some, ◌⊎◌, inl, inr, Bool, true, List, [], ◌∷◌, ◌++◌, length, nat_lt, Result, Ok, Err, refl, sym, ap, subst}
+use Rattle.std.proofs.Common.{◌≡◌, ◌≤◌, ◌↔◌, ◌∙◌, map, IfOk, IsTrue, ℕ, Option, Some, ◌⊎◌, inl, inr, Bool, true, List, [], ◌∷◌, ◌++◌, length, nat_lt, Result, Ok, Err, refl, sym, ap, subst}
+use Rattle.std.specs.Prelude.{unwrap_or}
 use Rattle.c65_base.specs.declared.names.Name.{Name}
 use Rattle.c65_base.specs.declared.options.Options.{Options}
 use Rattle.c65_base.specs.declared.refusal.Refusal.{Refusal}
@@ -84,12 +85,8 @@ file_comes c rest path names known u t before h = ((u, known), before, (t, in_fi
 -- the first spelling that is known has the first name
 pub rest_is : (names : List (List ℕ)) (n : Name) → names ≡ with_spelling [] rest_spelling → name_of names rest_spelling ≡ Some n.0 → n ≡ rest_name
 rest_is names n table known =
-    let first : name_of (with_spelling [] rest_spelling) rest_spelling ≡ Some n.0 = subst (λ (l : List (List ℕ)). name_of l rest_spelling ≡ Some n.0) table known in
-    numbered n first
-  where
-    numbered : (n : Name) → Some 0 ≡ Some n.0 → n ≡ rest_name
-    numbered (record { 0 = zero }) h = refl
-    numbered (record { 0 = suc m }) h = absurd cc
+    let first : Some 0 ≡ Some n.0 = subst (λ (l : List (List ℕ)). name_of l rest_spelling ≡ Some n.0) table known in
+    sym (ap (λ (o : Option ℕ). let m : Name = record { 0 = unwrap_or o 0 } in m) first)
 
 pub files_stop : (c : Command) (rest : Name) (path : List ℕ) (paths all : List (List ℕ)) (done : List UnitTy) (names : List (List ℕ)) (e : Refusal) → all ≡ path ∷ paths → IsFree e ⊎ file_typed c rest path names (Err e) → IsFree e ⊎ files_typed c rest all done names (Err e)
 files_stop c rest path paths all done names e is h = subst (λ (l : List (List ℕ)). IsFree e ⊎ files_typed c rest l done names (Err e)) (sym is) (stops (file_typed c rest path names) (λ x. files_typed c rest paths (done ++ x.0 ∷ []) x.1) e h)

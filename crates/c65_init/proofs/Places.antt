@@ -3,7 +3,7 @@ use Rattle.std.proofs.Common.{◌≡◌, ◌∙◌, ◌≤◌, List, [], ◌∷�
 use Rattle.c65_base.specs.declared.code.Code.TheVariants.{ParameterList}
 use Rattle.c65_base.specs.declared.refusal.Pos.{Pos}
 use Rattle.c65_base.specs.Answers.{at}
-use Rattle.c65_ctype.specs.Trees.{fn, unknown}
+use Rattle.c65_ctype.specs.Trees.{Fn, function, fn, unknown}
 use Rattle.c65_ctype.specs.declared.types.FnType.{FnType, out-FnType}
 use Rattle.c65_ctype.specs.Views.{qty_of, fn_of}
 use Rattle.c65_ctype.proofs.ViewLaws.{fn_view}
@@ -22,7 +22,7 @@ use Rattle.c65_init_cells.specs.Items.{place_of as item_place_of}
 use Rattle.c65_init_cells.proofs.ItemLaws.{place_is as item_is}
 use Rattle.c65_elab.specs.Places.{place_of}
 use Rattle.c65_elab.proofs.Parts.{place_is}
-use Rattle.c65_init.specs.Functions.{result_in}
+use Rattle.c65_init.specs.Functions.{result_in, is_variadic}
 use Rattle.c65_init.specs.Settled.{unprototyped}
 use Rattle.c65_init.specs.Parameters.{specifiers_place, no_declarations}
 use Rattle.c65_init.specs.Statements.{listed}
@@ -42,6 +42,9 @@ listed_is (x ∷ xs) = ap (and_stmts (stmt_of x)) (listed_is xs)
 
 pub result_is : (f : FnType) → result_in (fn_of f) ≡ qty_of (out-FnType f).result
 result_is f = ap result_in (fn_view f)
+
+pub variadic_is : (f : FnType) → is_variadic (function (fn_of f)) ≡ (out-FnType f).variadic
+variadic_is f = ap (λ (g : Fn). is_variadic (function g)) (fn_view f)
 
 pub unprototyped_is : (f : FnType) → unprototyped (fn_of f) ≡ fn (qty_of (out-FnType f).result) unknown false (out-FnType f).cdecl
 unprototyped_is f = ap unprototyped (fn_view f)

@@ -80,6 +80,7 @@ fn body_stmts(
 }
 
 /// The objects without names live in the outermost block too, behind the others.
+#[tactic(auto, using(crate::proofs::PartLaws::unnamed_behind))]
 fn with_unnamed(unnamed: &[u32], body: TStmt) -> Result<TStmt, AllocError>
     ensures { IfOk result (λ x. stmt_of x ≡ with_unnamed unnamed.now (stmt_of body)) }
 {
@@ -158,6 +159,7 @@ fn declare_enumerators(scope: &mut Scope, list: &[Enumerator], pos: Pos) -> Resu
 }
 
 /// Whether a function takes further arguments.
+#[tactic(auto, using(crate::proofs::Places::variadic_is))]
 fn is_variadic(ty: &CType) -> bool
     ensures { result ≡ is_variadic (ty_of ty.now) }
 {

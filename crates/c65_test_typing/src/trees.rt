@@ -145,7 +145,7 @@ fn tags(alloc: Global) -> Result<[bool; 4], Refusal> {
     let heading = elab_heading(alloc, &mut scope, &int_type(IntType::Int), &heading(alloc)?)?;
     let named = heading.name.is_some();
     let undeclared = scope.find(Name(4)).is_none();
-    scope.open()?;
+    scope.open(false)?;
     let inside = scope.own_tag(Name(2)).is_some();
     scope.close();
     Ok([named, undeclared, inside, scope.find_tag(Name(2)).is_none()])
