@@ -50,9 +50,13 @@ fn plain_spelling(
 ) -> Result<Text, AllocError>
     ensures { IfOk result (λ t. t ≡ plain_spelling names.now external_name name number) }
 {
-    match name {
-        Some(name) if external_name => external(alloc, names, name),
-        _ => numbered(alloc, b's', number),
+    if external_name {
+        match name {
+            Some(name) => external(alloc, names, name),
+            None => numbered(alloc, b's', number),
+        }
+    } else {
+        numbered(alloc, b's', number)
     }
 }
 
