@@ -40,20 +40,19 @@ fn numbered(alloc: Global, letter: u8, number: u32) -> Result<Text, AllocError>
     Ok(Text::from_vec(bytes))
 }
 
-/// `_NAME` for an external name, and `sN` for another.
+/// `_NAME` for an external name, and `sN` for another and for what has no name.
 fn plain_spelling(
     alloc: Global,
     names: &Names,
     external_name: bool,
-    name: Name,
+    name: Option<Name>,
     number: u32,
 ) -> Result<Text, AllocError>
     ensures { IfOk result (λ t. t ≡ plain_spelling names.now external_name name number) }
 {
-    if external_name {
-        external(alloc, names, name)
-    } else {
-        numbered(alloc, b's', number)
+    match name {
+        Some(name) if external_name => external(alloc, names, name),
+        _ => numbered(alloc, b's', number),
     }
 }
 
@@ -61,7 +60,7 @@ fn plain_symbol(
     alloc: Global,
     names: &Names,
     external_name: bool,
-    name: Name,
+    name: Option<Name>,
     number: u32,
 ) -> Result<Symbol, AllocError>
     ensures { IfOk result (λ s. s ≡ plain_symbol names.now external_name name number) }
@@ -130,7 +129,8 @@ fn add_functions(
 {
     for (number, function) in functions.iter().enumerate() {
         let at = (first + number) as u32;
-        let symbol = plain_symbol(alloc, names, function.external, function.name, at)?;
+        let name = Some(function.name);
+        let symbol = plain_symbol(alloc, names, function.external, name, at)?;
         into.push(symbol)?;
     }
     Ok(())

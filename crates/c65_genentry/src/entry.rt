@@ -1,7 +1,7 @@
 // The entry of a function (MACHINE.md, "Calls").
 ghost use Rattle.std.specs.Prelude.{◌≡◌, ◌<◌, OnOk, OnErr};
 ghost use Rattle.c65_genwide.specs.Lines.{with_lines, Keeps};
-ghost use Rattle.c65_genentry.specs.Entry.{push_of, pushed_code, counted_code, saved_code, kept_code, bank_store, near_load, far_load, load_code, moved_code, all_moved, taken_bytes, count_code, checked_code, taking_code, entry_code};
+ghost use Rattle.c65_genentry.specs.Entry.{pushed_code, counted_code, saved_code, kept_code, bank_store, near_load, far_load, load_code, moved_code, all_moved, taken_bytes, count_code, checked_code, taking_code, entry_code};
 
 use crate::places::{REGBANK, SP, TMP2, TMP3, TMP4};
 use crate::stack::lower;
@@ -9,23 +9,10 @@ use c65_code::Line::Do;
 use c65_code::Operand::{Byte, Nothing, Zero};
 use c65_code::{Draft, Routine};
 use c65_genframe::{Arrival, Frame, Moved};
-use c65_genwide::{put, run};
+use c65_genwide::{pass, put, run};
 use c65_mach::Mode::{Immediate, Implied, IndirectY, ZeroPage};
 use c65_mach::Op::{Adc, Clc, Lda, Ldy, Sta, Stx, Tax, Tay, Tya};
 use std::alloc::AllocError;
-
-/// What pushes a parameter of so many bytes.
-fn push_of(bytes: u32) -> Routine
-    ensures { result ≡ push_of bytes }
-{
-    if bytes < 2 {
-        Routine::PushA
-    } else if bytes < 3 {
-        Routine::PushAx
-    } else {
-        Routine::PushEax
-    }
-}
 
 /// The last parameter goes from the registers onto the software stack.
 fn put_pushed(last: Arrival, draft: &mut Draft) -> Result<(), AllocError>
@@ -33,7 +20,7 @@ fn put_pushed(last: Arrival, draft: &mut Draft) -> Result<(), AllocError>
     ensures kept { OnErr result (Keeps draft.old draft.new) }
 {
     match last {
-        Arrival::Pushed(bytes) => run(draft, push_of(bytes)),
+        Arrival::Pushed(bytes) => pass(bytes, draft),
         Arrival::Passed | Arrival::Kept(_, _) => put(draft, &[]),
     }
 }

@@ -1,7 +1,7 @@
 -- A place that is known without lines of code has no labels.
 use Rattle.std.proofs.Common.{◌≡◌, ℕ, Bool, true, false, Option, Some, None, ℤ, refl}
 use Rattle.c65_ctype.specs.Views.{types_of}
-use Rattle.c65_csem.specs.Trees.{Typed, node, constant, null, literal, object, func, deref, member, load, address, decay, convert, unary, binary, both, either, choice, comma, assign, assign_op, assign_step, step, copy, call}
+use Rattle.c65_csem.specs.Trees.{Typed, node, constant, null, literal, object, func, deref, member, load, address, decay, convert, unary, binary, both, either, choice, comma, assign, assign_op, assign_step, step, copy, call, pack, spill, rest}
 use Rattle.c65_genframe.specs.Frames.{Framed}
 use Rattle.c65_genload.specs.declared.places.Place.{Place}
 use Rattle.c65_genload.specs.declared.places.Place.TheVariants.{Bank, Near, Data, Far}
@@ -42,6 +42,9 @@ known_uses f pushed (node t (assign_step op a b)) h = absurd h
 known_uses f pushed (node t (step how e)) h = absurd h
 known_uses f pushed (node t (copy a b)) h = absurd h
 known_uses f pushed (node t (call g es)) h = absurd h
+known_uses f pushed (node t (pack e)) h = absurd h
+known_uses f pushed (node t (spill i e)) h = absurd h
+known_uses f pushed (node t rest) h = absurd h
 
 -- a constant has no labels
 abbrev pub IsThere : Option ℤ → Type 0
@@ -77,6 +80,9 @@ constant_uses (node t (assign_step op a b)) h = absurd h
 constant_uses (node t (step how e)) h = absurd h
 constant_uses (node t (copy a b)) h = absurd h
 constant_uses (node t (call g es)) h = absurd h
+constant_uses (node t (pack e)) h = absurd h
+constant_uses (node t (spill i e)) h = absurd h
+constant_uses (node t rest) h = absurd h
 
 pub short_uses : (op : BinaryOp) (operands : Operands) (e : Typed) (n : ℕ) → short_of op operands e ≡ Some n → uses e ≡ 0
 short_uses op operands e n h = constant_uses e (there_before (is_short op operands) (constant_in e) n h)

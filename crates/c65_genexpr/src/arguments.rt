@@ -1,33 +1,33 @@
 // What a call passes (docs/MACHINE.md, "Calls").
-ghost use Rattle.std.specs.Prelude.{◌≡◌, true, OnOk, OnErr};
+ghost use Rattle.std.specs.Prelude.{◌≡◌, OnOk, OnErr};
 ghost use Rattle.c65_ctype.specs.Views.{ty_of};
-ghost use Rattle.c65_csem.specs.Trees.{none};
-ghost use Rattle.c65_csem.specs.Views.{nodes_of};
+ghost use Rattle.c65_csem.specs.Views.{nodes_of, typed_of};
 ghost use Rattle.c65_genwide.specs.Lines.{with_lines, Keeps};
-ghost use Rattle.c65_genexpr.specs.Arguments.{is_fast, is_counted, stays, joined, passed_of, registers_of, reads_of, argument_code, argument_bytes};
+ghost use Rattle.c65_genexpr.specs.Arguments.{is_fast, is_counted, stays, clamped, passed_size, joined, nothing_passed, reads_of, argument_code, argument_bytes};
 
+use crate::types::kind_of;
 use c65_code::{Draft, Part, RegSet};
-use c65_csem::TExpr;
+use c65_csem::{TExpr, TKind};
 use c65_ctype::CType;
-use c65_genload::{Extent, bytes_of, extent_of, pass};
-use c65_genwide::put;
-use c65_ints::IntType;
+use c65_genframe::{Frame, registers};
+use c65_genload::bytes_of;
+use c65_genwide::{pass, put};
 use std::alloc::AllocError;
 
-/// What was passed: how many bytes on the software stack, modulo 256, and what in registers.
+/// What was passed: how many bytes on the software stack, modulo 256, and how many in registers.
 #[derive(Clone, Copy, Debug, PartialEq, Eq)]
 pub struct Passed {
     pub stacked: u8,
-    pub last: Option<IntType>,
+    pub last: u16,
 }
 
 impl Passed {
     pub fn nothing() -> Passed
-        ensures { result ≡ passed_of true none }
+        ensures { result ≡ nothing_passed }
     {
         Passed {
             stacked: 0,
-            last: None,
+            last: 0,
         }
     }
 }
@@ -68,54 +68,56 @@ pub fn stays(fast: bool, rest: &[TExpr]) -> bool
     }
 }
 
-/// One argument more, before those that were passed.
-pub fn joined(kept: bool, kind: IntType, passed: Passed) -> Passed
-    ensures { result ≡ joined kept kind passed }
+fn clamped(bytes: u32) -> u16
+    ensures { result ≡ clamped bytes }
+{
+    bytes.min(4).max(1) as u16
+}
+
+/// The bytes of an argument: those of a structure or union, or of a number; from 1 to 4.
+pub fn passed_size(frame: &Frame<'_>, e: &TExpr) -> u16
+    ensures { result ≡ passed_size frame.now (typed_of e.now) }
+{
+    match &e.kind {
+        TKind::Pack(_) => clamped(frame.bytes(&e.ty.ty)),
+        _ => bytes_of(kind_of(&e.ty.ty)),
+    }
+}
+
+/// One argument more of so many bytes, before those that were passed.
+pub fn joined(kept: bool, bytes: u16, passed: Passed) -> Passed
+    ensures { result ≡ joined kept bytes passed }
 {
     if kept {
         Passed {
             stacked: passed.stacked,
-            last: Some(kind),
+            last: bytes,
         }
     } else {
         Passed {
-            stacked: (bytes_of(kind) as u8).wrapping_add(passed.stacked),
+            stacked: ((bytes as u32 + passed.stacked as u32) % 256) as u8,
             last: passed.last,
         }
     }
 }
 
-/// An argument stays in registers, or goes onto the software stack.
-pub fn put_argument(kept: bool, kind: IntType, draft: &mut Draft) -> Result<(), AllocError>
-    ensures lines { OnOk result (draft.new ≡ with_lines draft.old (argument_code kept kind)) }
+/// An argument of so many bytes stays in registers, or goes onto the software stack.
+pub fn put_argument(kept: bool, bytes: u16, draft: &mut Draft) -> Result<(), AllocError>
+    ensures lines { OnOk result (draft.new ≡ with_lines draft.old (argument_code kept bytes)) }
     ensures kept { OnErr result (Keeps draft.old draft.new) }
 {
     if kept {
         put(draft, &[])
     } else {
-        pass(kind, draft)
+        pass(bytes as u32, draft)
     }
 }
 
 /// The bytes that it takes there.
-pub fn argument_bytes(kept: bool, kind: IntType) -> u16
-    ensures { result ≡ argument_bytes kept kind }
+pub fn argument_bytes(kept: bool, bytes: u16) -> u16
+    ensures { result ≡ argument_bytes kept bytes }
 {
-    if kept { 0 } else { bytes_of(kind) }
-}
-
-/// The registers of a value.
-pub fn registers_of(kind: Option<IntType>) -> RegSet
-    ensures { result ≡ registers_of kind }
-{
-    match kind {
-        None => RegSet::empty(),
-        Some(kind) => match extent_of(kind) {
-            Extent::One => RegSet::of(&[Part::A]),
-            Extent::Two => RegSet::of(&[Part::A, Part::X]),
-            Extent::Four => RegSet::of(&[Part::A, Part::X]).union(RegSet::zero_bytes(2, 4)),
-        },
-    }
+    if kept { 0 } else { bytes }
 }
 
 /// What a call reads.
@@ -125,6 +127,6 @@ pub fn reads_of(counted: bool, passed: Passed) -> RegSet
     if counted {
         RegSet::of(&[Part::Y])
     } else {
-        registers_of(passed.last)
+        registers(passed.last as u32)
     }
 }

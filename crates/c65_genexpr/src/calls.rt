@@ -4,15 +4,15 @@ ghost use Rattle.c65_csem.specs.Views.{typed_of};
 ghost use Rattle.c65_genwide.specs.Lines.{with_lines, Keeps};
 ghost use Rattle.c65_genexpr.specs.Calls.{named, library_at, fetch_code, count_code, named_code, pointer_code, direct_code, result_code};
 
-use crate::arguments::{Passed, reads_of, registers_of};
+use crate::arguments::{Passed, reads_of};
+use crate::types::{Outcome, given_bytes};
 use c65_base::Library;
 use c65_code::Line::{Call, Do};
 use c65_code::Operand::{Byte, Nothing, Zero};
 use c65_code::{Callee, Count, Draft, Routine};
 use c65_csem::{TExpr, TKind};
-use c65_genframe::Frame;
+use c65_genframe::{Frame, registers};
 use c65_genwide::{narrow, put, run};
-use c65_ints::IntType;
 use c65_mach::Mode::{Immediate, Implied, IndirectY, ZeroPage};
 use c65_mach::Op::{Iny, Lda, Ldy, Sta, Stx};
 use std::alloc::AllocError;
@@ -78,13 +78,13 @@ fn put_fetch(passed: Passed, draft: &mut Draft) -> Result<(), AllocError>
 }
 
 // A character comes back in A alone.
-fn put_result(result_kind: Option<IntType>, draft: &mut Draft) -> Result<(), AllocError>
-    ensures lines { OnOk result (draft.new ≡ with_lines draft.old (result_code result_kind)) }
+fn put_result(given: Outcome, draft: &mut Draft) -> Result<(), AllocError>
+    ensures lines { OnOk result (draft.new ≡ with_lines draft.old (result_code given)) }
     ensures kept { OnErr result (Keeps draft.old draft.new) }
 {
-    match result_kind {
-        Some(kind) => narrow(kind, draft),
-        None => put(draft, &[]),
+    match given {
+        Outcome::Number(kind) => narrow(kind, draft),
+        Outcome::Nothing | Outcome::Area(_) => put(draft, &[]),
     }
 }
 
@@ -94,24 +94,24 @@ pub fn put_named(
     function: u32,
     counted: bool,
     passed: Passed,
-    result_kind: Option<IntType>,
+    given: Outcome,
     draft: &mut Draft,
 ) -> Result<(), AllocError>
-    ensures lines { OnOk result (draft.new ≡ with_lines draft.old (named_code frame.now function counted passed result_kind)) }
+    ensures lines { OnOk result (draft.new ≡ with_lines draft.old (named_code frame.now function counted passed given)) }
     ensures kept { OnErr result (Keeps draft.old draft.new) }
 {
     match library_at(frame, function) {
         Some(library) => {
             run(draft, Routine::Library(library))?;
-            put_result(result_kind, draft)
+            put_result(given, draft)
         }
         None => {
             put_count(counted, passed, draft)?;
             let symbol = frame.numbers().function(function);
             let reads = reads_of(counted, passed);
-            let gives = registers_of(result_kind);
+            let gives = registers(given_bytes(given));
             put(draft, &[Call(Callee::Function(symbol, reads, gives))])?;
-            put_result(result_kind, draft)
+            put_result(given, draft)
         }
     }
 }
@@ -120,29 +120,29 @@ pub fn put_named(
 pub fn put_pointer(
     counted: bool,
     passed: Passed,
-    result_kind: Option<IntType>,
+    given: Outcome,
     draft: &mut Draft,
 ) -> Result<(), AllocError>
-    ensures lines { OnOk result (draft.new ≡ with_lines draft.old (pointer_code counted passed result_kind)) }
+    ensures lines { OnOk result (draft.new ≡ with_lines draft.old (pointer_code counted passed given)) }
     ensures kept { OnErr result (Keeps draft.old draft.new) }
 {
     put_fetch(passed, draft)?;
     put_count(counted, passed, draft)?;
     let reads = reads_of(counted, passed);
-    let gives = registers_of(result_kind);
+    let gives = registers(given_bytes(given));
     put(draft, &[Call(Callee::Pointer(reads, gives))])?;
     run(draft, Routine::IncSp(Count::Two))?;
-    put_result(result_kind, draft)
+    put_result(given, draft)
 }
 
 /// A call through the pointer in AX, without arguments: the pointer goes to ptr4 at once.
 pub fn put_direct(
     counted: bool,
     passed: Passed,
-    result_kind: Option<IntType>,
+    given: Outcome,
     draft: &mut Draft,
 ) -> Result<(), AllocError>
-    ensures lines { OnOk result (draft.new ≡ with_lines draft.old (direct_code counted passed result_kind)) }
+    ensures lines { OnOk result (draft.new ≡ with_lines draft.old (direct_code counted passed given)) }
     ensures kept { OnErr result (Keeps draft.old draft.new) }
 {
     put(
@@ -154,7 +154,7 @@ pub fn put_direct(
     )?;
     put_count(counted, passed, draft)?;
     let reads = reads_of(counted, passed);
-    let gives = registers_of(result_kind);
+    let gives = registers(given_bytes(given));
     put(draft, &[Call(Callee::Pointer(reads, gives))])?;
-    put_result(result_kind, draft)
+    put_result(given, draft)
 }

@@ -8,15 +8,18 @@ ghost use Rattle.c65_genexpr.specs.Places.{IsKnown, place_of};
 ghost use Rattle.c65_genexpr.specs.Uses.{uses, head_uses, args_uses};
 ghost use Rattle.c65_genexpr.specs.Code.{grown, with_label, target_code, expr_code, binary_code, both_code, either_code, choice_code, assign_code, compound_code, call_code, args_code};
 
-use crate::arguments::{Passed, argument_bytes, is_counted, is_fast, joined, put_argument, stays};
+use crate::arguments::{
+    Passed, argument_bytes, is_counted, is_fast, joined, passed_size, put_argument, stays,
+};
 use crate::calls::{named, put_direct, put_named, put_pointer};
 use crate::operands::{
     Operands, computes, operands_of, put_behind, put_between, put_conversion, put_unary,
 };
-use crate::places::{more, place_of, put_object};
+use crate::places::{more, place_of, put_object, put_rest};
 use crate::shorts::{put_short, residue_of, short_of};
+use crate::spills::put_spill;
 use crate::steps::{amount_of, put_close, put_open, put_step};
-use crate::types::{access_of, kind_of, offset_at, result_kind, target_bytes};
+use crate::types::{Outcome, access_of, kind_of, offset_at, outcome_of, target_bytes};
 use c65_base::{BinaryOp, Refusal};
 use c65_code::Line::{Do, Label};
 use c65_code::Operand::{Byte, To};
@@ -24,10 +27,10 @@ use c65_code::{Draft, Width};
 use c65_csem::{TExpr, TKind};
 use c65_genframe::Frame;
 use c65_genload::{
-    Place, copy, held, hold, load, number, push, put_offset, put_symbol, store, test, waiting,
+    Place, copy, extent_by, held, hold, load, load_bytes, number, push, put_offset, put_symbol,
+    store, test, waiting,
 };
 use c65_genwide::{put, width_of};
-use c65_ints::IntType;
 use c65_mach::Mode::{Absolute, Immediate, Relative};
 use c65_mach::Op::{Beq, Bne, Jmp, Lda, Ldx};
 use std::alloc::AllocError;
@@ -47,8 +50,9 @@ fn next_label(draft: &mut Draft) -> Result<u32, AllocError>
 
 /// Puts the lines of an expression behind those of the draft, where so many bytes of values wait on
 /// the software stack. The value then stands in the primary register: in A and X, or in A, X and
-/// sreg; of a place, and of a structure or union, the address. Refuses for want of memory alone, of
-/// labels too; the draft then has its old lines, and perhaps new ones behind them.
+/// sreg; of a place, and of a structure or union, the address. Of a structure or union that is passed
+/// or returned its bytes stand there, the first in A. Refuses for want of memory alone, of labels too;
+/// the draft then has its old lines, and perhaps new ones behind them.
 pub fn gen_expr(
     expr: &TExpr,
     frame: &Frame<'_>,
@@ -137,9 +141,20 @@ pub fn put_expr(
             copy(frame.bytes(&e.ty.ty), draft)
         }
         TKind::Call(callee, args) => {
-            let kind = result_kind(&e.ty.ty);
-            put_call(callee, args, kind, frame, pushed, draft)
+            let given = outcome_of(frame, &e.ty.ty);
+            put_call(callee, args, given, frame, pushed, draft)
         }
+        TKind::Pack(a) => {
+            let place = place_of(frame, pushed, a);
+            put_target(a, place, frame, pushed, draft)?;
+            load_bytes(place, extent_by(frame.bytes(&e.ty.ty)), draft)
+        }
+        TKind::Spill(object, a) => {
+            let extent = extent_by(frame.bytes(&e.ty.ty));
+            put_expr(a, frame, pushed, draft)?;
+            put_spill(frame, pushed, *object, extent, draft)
+        }
+        TKind::Rest => put_rest(frame, pushed, draft),
     }
 }
 
@@ -337,12 +352,12 @@ fn put_compound(
 fn put_call(
     callee: &TExpr,
     args: &[TExpr],
-    kind: Option<IntType>,
+    given: Outcome,
     frame: &Frame<'_>,
     pushed: u16,
     draft: &mut Draft,
 ) -> Result<(), AllocError>
-    ensures lines { OnOk result (draft.new ≡ grown draft.old (call_code frame.now pushed draft.old.labels kind (typed_of callee.now) (nodes_of args.now)) (head_uses (typed_of callee.now) + args_uses (nodes_of args.now))) }
+    ensures lines { OnOk result (draft.new ≡ grown draft.old (call_code frame.now pushed draft.old.labels given (typed_of callee.now) (nodes_of args.now)) (head_uses (typed_of callee.now) + args_uses (nodes_of args.now))) }
     ensures kept { OnErr result (Keeps draft.old draft.new) }
 {
     let fast = is_fast(&callee.ty.ty);
@@ -350,16 +365,16 @@ fn put_call(
     match named(callee) {
         Some(function) => {
             let passed = put_args(args, fast, frame, pushed, draft)?;
-            put_named(frame, function, counted, passed, kind, draft)
+            put_named(frame, function, counted, passed, given, draft)
         }
         None => {
             put_expr(callee, frame, pushed, draft)?;
             match args {
-                [] => put_direct(counted, Passed::nothing(), kind, draft),
+                [] => put_direct(counted, Passed::nothing(), given, draft),
                 [_first, _rest @ ..] => {
                     push(Width::Ax, draft)?;
                     let passed = put_args(args, fast, frame, more(pushed, 2), draft)?;
-                    put_pointer(counted, passed, kind, draft)
+                    put_pointer(counted, passed, given, draft)
                 }
             }
         }
@@ -375,7 +390,7 @@ fn put_args(
     pushed: u16,
     draft: &mut Draft,
 ) -> Result<Passed, AllocError>
-    ensures passed { IfOk result (λ p. p ≡ passed_of fast (nodes_of args.now)) }
+    ensures passed { IfOk result (λ p. p ≡ passed_of frame.now fast (nodes_of args.now)) }
     ensures lines { OnOk result (draft.new ≡ grown draft.old (args_code frame.now pushed draft.old.labels fast (nodes_of args.now)) (args_uses (nodes_of args.now))) }
     ensures kept { OnErr result (Keeps draft.old draft.new) }
 {
@@ -383,12 +398,12 @@ fn put_args(
         [] => Ok(Passed::nothing()),
         [first, rest @ ..] => {
             let kept = stays(fast, rest);
-            let kind = kind_of(&first.ty.ty);
+            let bytes = passed_size(frame, first);
             put_expr(first, frame, pushed, draft)?;
-            put_argument(kept, kind, draft)?;
-            let waiting_now = more(pushed, argument_bytes(kept, kind));
+            put_argument(kept, bytes, draft)?;
+            let waiting_now = more(pushed, argument_bytes(kept, bytes));
             let passed = put_args(rest, fast, frame, waiting_now, draft)?;
-            Ok(joined(kept, kind, passed))
+            Ok(joined(kept, bytes, passed))
         }
     }
 }

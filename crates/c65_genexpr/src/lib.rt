@@ -7,6 +7,7 @@ mod expr;
 mod operands;
 mod places;
 mod shorts;
+mod spills;
 mod steps;
 mod types;
 

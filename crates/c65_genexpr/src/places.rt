@@ -2,7 +2,7 @@
 ghost use Rattle.std.specs.Prelude.{◌≡◌, OnOk, OnErr};
 ghost use Rattle.c65_csem.specs.Views.{typed_of};
 ghost use Rattle.c65_genwide.specs.Lines.{with_lines, Keeps};
-ghost use Rattle.c65_genexpr.specs.Places.{more, near, object_place, moved, place_of, object_code};
+ghost use Rattle.c65_genexpr.specs.Places.{more, near, object_place, moved, place_of, object_code, rest_code};
 
 use crate::types::offset_at;
 use c65_code::Draft;
@@ -101,4 +101,14 @@ pub fn put_object(
         }
         None => put_symbol(frame.numbers().object(object), 0, draft),
     }
+}
+
+/// AX is the address behind the further arguments of the function, the first of which lies highest.
+pub fn put_rest(frame: &Frame<'_>, pushed: u16, draft: &mut Draft) -> Result<(), AllocError>
+    ensures lines { OnOk result (draft.new ≡ with_lines draft.old (rest_code frame.now pushed)) }
+    ensures kept { OnErr result (Keeps draft.old draft.new) }
+{
+    let above = pushed as u32 + frame.soft() as u32 + frame.saved() as u32;
+    let at = (above + 65_536 - frame.stacked() as u32) % 65_536;
+    put_raised(pushed, at as u16, draft)
 }

@@ -2,12 +2,12 @@
 ghost use Rattle.std.specs.Prelude.{◌≡◌};
 ghost use Rattle.c65_ctype.specs.Views.{ty_of, types_of};
 ghost use Rattle.c65_csem.specs.Views.{typed_of};
-ghost use Rattle.c65_genexpr.specs.Types.{kind_of, result_kind, offset_at, bits_at, field_or, access_of, target_bytes};
+ghost use Rattle.c65_genexpr.specs.Types.{kind_of, outcome_of, given_bytes, offset_at, bits_at, field_or, access_of, target_bytes};
 
 use c65_csem::{TExpr, TKind, member_at};
 use c65_ctype::{CType, Types};
 use c65_genframe::Frame;
-use c65_genload::{Access, Field};
+use c65_genload::{Access, Field, bytes_of};
 use c65_ints::IntType;
 
 /// The integer type whose values stand for those of a scalar type: a pointer is an unsigned int.
@@ -20,14 +20,34 @@ pub fn kind_of(ty: &CType) -> IntType
     }
 }
 
-/// The same of a result, which may be none.
-pub fn result_kind(ty: &CType) -> Option<IntType>
-    ensures { result ≡ result_kind (ty_of ty.now) }
+/// What a call gives: nothing, a number, or so many bytes of a structure or union.
+#[derive(Clone, Copy, Debug, PartialEq, Eq)]
+pub enum Outcome {
+    Nothing,
+    Number(IntType),
+    Area(u32),
+}
+
+/// What a call of a function with this result gives.
+pub fn outcome_of(frame: &Frame<'_>, ty: &CType) -> Outcome
+    ensures { result ≡ outcome_of frame.now (ty_of ty.now) }
 {
     match ty {
-        CType::Void => None,
-        CType::Int(kind) => Some(*kind),
-        _ => Some(IntType::UInt),
+        CType::Void => Outcome::Nothing,
+        CType::Int(kind) => Outcome::Number(*kind),
+        CType::Struct(_) => Outcome::Area(frame.bytes(ty)),
+        _ => Outcome::Number(IntType::UInt),
+    }
+}
+
+/// The bytes that it gives.
+pub fn given_bytes(given: Outcome) -> u32
+    ensures { result ≡ given_bytes given }
+{
+    match given {
+        Outcome::Nothing => 0,
+        Outcome::Number(kind) => bytes_of(kind) as u32,
+        Outcome::Area(bytes) => bytes,
     }
 }
 

@@ -333,6 +333,14 @@ impl<'a> Frame<'a> {
         self.soft
     }
 
+    /// How many bytes above those regbank is saved in.
+    pub fn saved(&self) -> u16
+        ensures exact { result ≡ saved_bytes self.now.bank }
+        ensures small { result ≤ 6 }
+    {
+        saved_bytes(self.bank)
+    }
+
     /// How many bytes of parameters stand on the software stack, one that the entry pushed among
     /// them and further arguments not.
     pub fn stacked(&self) -> u16

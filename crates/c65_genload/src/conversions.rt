@@ -1,7 +1,7 @@
-// Conversions, and values that are pushed, passed and tested.
+// Conversions, and values that are pushed and tested.
 ghost use Rattle.std.specs.Prelude.{◌≡◌, OnOk, OnErr};
 ghost use Rattle.c65_genwide.specs.Lines.{with_lines, Keeps};
-ghost use Rattle.c65_genload.specs.Conversions.{widen_code, convert_code, push_code, pass_code, test_code, size_of, waiting};
+ghost use Rattle.c65_genload.specs.Conversions.{widen_code, convert_code, push_code, test_code, size_of, waiting};
 
 use crate::zero_page::{SREG, TMP1};
 use c65_code::Line::Do;
@@ -65,20 +65,6 @@ pub fn push(width: Width, draft: &mut Draft) -> Result<(), AllocError>
     match width {
         Width::Ax => run(draft, Routine::PushAx),
         Width::Eax => run(draft, Routine::PushEax),
-    }
-}
-
-/// The value goes onto the software stack as a parameter, at its own size.
-pub fn pass(kind: IntType, draft: &mut Draft) -> Result<(), AllocError>
-    ensures lines { OnOk result (draft.new ≡ with_lines draft.old (pass_code kind)) }
-    ensures kept { OnErr result (Keeps draft.old draft.new) }
-{
-    match kind {
-        IntType::SChar | IntType::UChar => run(draft, Routine::PushA),
-        IntType::Short | IntType::UShort | IntType::Int | IntType::UInt => {
-            run(draft, Routine::PushAx)
-        }
-        IntType::Long | IntType::ULong => run(draft, Routine::PushEax),
     }
 }
 

@@ -1,17 +1,18 @@
 // Values taken from where they are kept (C90 6.2.2.1).
 ghost use Rattle.std.specs.Prelude.{◌≡◌, OnOk, OnErr};
 ghost use Rattle.c65_genwide.specs.Lines.{with_lines, Keeps};
+ghost use Rattle.c65_genload.specs.declared.places.Extent.TheVariants.{Three};
 ghost use Rattle.c65_genload.specs.Loads.{hold_code, bank_code, near_code, data_code, far_code, bytes_code, load_code};
 
 use crate::fields::extract;
 use crate::places::{Access, Extent, Place, extent_of};
-use crate::zero_page::{REGBANK, SP, SREG};
+use crate::zero_page::{PTR1, REGBANK, SP, SREG};
 use c65_code::Line::Do;
-use c65_code::Operand::{At, Byte, Zero};
+use c65_code::Operand::{At, Byte, Nothing, Zero};
 use c65_code::{Draft, Routine, Sym};
 use c65_genwide::{narrow, put, run};
-use c65_mach::Mode::{Absolute, Immediate, IndirectY, ZeroPage};
-use c65_mach::Op::{Lda, Ldx, Ldy, Sta};
+use c65_mach::Mode::{Absolute, Immediate, Implied, IndirectY, ZeroPage};
+use c65_mach::Op::{Dey, Lda, Ldx, Ldy, Sta, Stx, Tax};
 use std::alloc::AllocError;
 
 /// The address of a place that is anywhere goes onto the software stack, and stays in AX.
@@ -25,6 +26,7 @@ pub fn hold(place: Place, draft: &mut Draft) -> Result<(), AllocError>
     }
 }
 
+// Of regbank at most two bytes.
 fn load_bank(at: u8, extent: Extent, draft: &mut Draft) -> Result<(), AllocError>
     ensures lines { OnOk result (draft.new ≡ with_lines draft.old (bank_code at extent)) }
     ensures kept { OnErr result (Keeps draft.old draft.new) }
@@ -32,7 +34,7 @@ fn load_bank(at: u8, extent: Extent, draft: &mut Draft) -> Result<(), AllocError
     let byte = REGBANK.wrapping_add(at);
     match extent {
         Extent::One => put(draft, &[Do(Lda, ZeroPage, Zero(byte))]),
-        Extent::Two | Extent::Four => put(
+        Extent::Two | Extent::Three | Extent::Four => put(
             draft,
             &[
                 Do(Lda, ZeroPage, Zero(byte)),
@@ -55,6 +57,18 @@ fn load_near(at: u8, extent: Extent, draft: &mut Draft) -> Result<(), AllocError
             put(draft, &[Do(Ldy, Immediate, Byte(at.wrapping_add(1)))])?;
             run(draft, Routine::LdAxYSp)
         }
+        Extent::Three => {
+            put(
+                draft,
+                &[
+                    Do(Ldy, Immediate, Byte(at.wrapping_add(2))),
+                    Do(Lda, IndirectY, Zero(SP)),
+                    Do(Sta, ZeroPage, Zero(SREG)),
+                    Do(Dey, Implied, Nothing),
+                ],
+            )?;
+            run(draft, Routine::LdAxYSp)
+        }
         Extent::Four => {
             put(draft, &[Do(Ldy, Immediate, Byte(at.wrapping_add(3)))])?;
             run(draft, Routine::LdEaxYSp)
@@ -75,6 +89,15 @@ fn load_data(sym: Sym, at: u16, extent: Extent, draft: &mut Draft) -> Result<(),
                 Do(Ldx, Absolute, At(sym, at.wrapping_add(1))),
             ],
         ),
+        Extent::Three => put(
+            draft,
+            &[
+                Do(Lda, Absolute, At(sym, at.wrapping_add(2))),
+                Do(Sta, ZeroPage, Zero(SREG)),
+                Do(Lda, Absolute, At(sym, at)),
+                Do(Ldx, Absolute, At(sym, at.wrapping_add(1))),
+            ],
+        ),
         Extent::Four => put(
             draft,
             &[
@@ -89,6 +112,28 @@ fn load_data(sym: Sym, at: u16, extent: Extent, draft: &mut Draft) -> Result<(),
     }
 }
 
+// No byte behind the third one is read.
+fn load_three(draft: &mut Draft) -> Result<(), AllocError>
+    ensures lines { OnOk result (draft.new ≡ with_lines draft.old (far_code Three)) }
+    ensures kept { OnErr result (Keeps draft.old draft.new) }
+{
+    put(
+        draft,
+        &[
+            Do(Sta, ZeroPage, Zero(PTR1)),
+            Do(Stx, ZeroPage, Zero(PTR1 + 1)),
+            Do(Ldy, Immediate, Byte(2)),
+            Do(Lda, IndirectY, Zero(PTR1)),
+            Do(Sta, ZeroPage, Zero(SREG)),
+            Do(Dey, Implied, Nothing),
+            Do(Lda, IndirectY, Zero(PTR1)),
+            Do(Tax, Implied, Nothing),
+            Do(Dey, Implied, Nothing),
+            Do(Lda, IndirectY, Zero(PTR1)),
+        ],
+    )
+}
+
 fn load_far(extent: Extent, draft: &mut Draft) -> Result<(), AllocError>
     ensures lines { OnOk result (draft.new ≡ with_lines draft.old (far_code extent)) }
     ensures kept { OnErr result (Keeps draft.old draft.new) }
@@ -96,11 +141,13 @@ fn load_far(extent: Extent, draft: &mut Draft) -> Result<(), AllocError>
     match extent {
         Extent::One => run(draft, Routine::LdAi),
         Extent::Two => run(draft, Routine::LdAxi),
+        Extent::Three => load_three(draft),
         Extent::Four => run(draft, Routine::LdEaxi),
     }
 }
 
-/// The bytes at a place come into A, AX or EAX.
+/// The bytes at a place come into A, into A and X, or into A, X and sreg; three of them leave the high
+/// byte of sreg. The address of a place that is anywhere is in AX before.
 pub fn load_bytes(place: Place, extent: Extent, draft: &mut Draft) -> Result<(), AllocError>
     ensures lines { OnOk result (draft.new ≡ with_lines draft.old (bytes_code place extent)) }
     ensures kept { OnErr result (Keeps draft.old draft.new) }

@@ -1,6 +1,6 @@
 // Where objects lie, and what is kept there.
 ghost use Rattle.std.specs.Prelude.{◌≡◌};
-ghost use Rattle.c65_genload.specs.Places.{held, type_in, extent_of};
+ghost use Rattle.c65_genload.specs.Places.{held, type_in, extent_of, extent_by};
 
 use c65_code::Sym;
 use c65_ints::IntType;
@@ -59,6 +59,7 @@ pub fn held(place: Place) -> u16
 pub enum Extent {
     One,
     Two,
+    Three,
     Four,
 }
 
@@ -70,5 +71,20 @@ pub fn extent_of(kind: IntType) -> Extent
         IntType::SChar | IntType::UChar => Extent::One,
         IntType::Short | IntType::UShort | IntType::Int | IntType::UInt => Extent::Two,
         IntType::Long | IntType::ULong => Extent::Four,
+    }
+}
+
+/// So many bytes, from 1 to 4.
+pub fn extent_by(bytes: u32) -> Extent
+    ensures { result ≡ extent_by bytes }
+{
+    if bytes < 2 {
+        Extent::One
+    } else if bytes < 3 {
+        Extent::Two
+    } else if bytes < 4 {
+        Extent::Three
+    } else {
+        Extent::Four
     }
 }

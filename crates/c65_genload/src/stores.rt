@@ -24,7 +24,7 @@ fn store_bank(at: u8, extent: Extent, draft: &mut Draft) -> Result<(), AllocErro
     let byte = REGBANK.wrapping_add(at);
     match extent {
         Extent::One => put(draft, &[Do(Sta, ZeroPage, Zero(byte))]),
-        Extent::Two | Extent::Four => put(
+        Extent::Two | Extent::Three | Extent::Four => put(
             draft,
             &[
                 Do(Sta, ZeroPage, Zero(byte)),
@@ -41,7 +41,7 @@ fn store_near(at: u8, extent: Extent, draft: &mut Draft) -> Result<(), AllocErro
     put(draft, &[Do(Ldy, Immediate, Byte(at))])?;
     match extent {
         Extent::One => put(draft, &[Do(Sta, IndirectY, Zero(SP))]),
-        Extent::Two => run(draft, Routine::StAxYSp),
+        Extent::Two | Extent::Three => run(draft, Routine::StAxYSp),
         Extent::Four => run(draft, Routine::StEaxYSp),
     }
 }
@@ -52,7 +52,7 @@ fn store_data(sym: Sym, at: u16, extent: Extent, draft: &mut Draft) -> Result<()
 {
     match extent {
         Extent::One => put(draft, &[Do(Sta, Absolute, At(sym, at))]),
-        Extent::Two => put(
+        Extent::Two | Extent::Three => put(
             draft,
             &[
                 Do(Sta, Absolute, At(sym, at)),
@@ -79,12 +79,13 @@ fn store_far(extent: Extent, draft: &mut Draft) -> Result<(), AllocError>
 {
     match extent {
         Extent::One => run(draft, Routine::StATos),
-        Extent::Two => run(draft, Routine::StAxTos),
+        Extent::Two | Extent::Three => run(draft, Routine::StAxTos),
         Extent::Four => run(draft, Routine::StEaxTos),
     }
 }
 
-/// A, AX or EAX goes to a place. An address that waited is popped.
+// A, AX or EAX goes to a place. An address that waited is popped. A number has no three bytes, and is
+// stored as of two then.
 fn store_bytes(place: Place, extent: Extent, draft: &mut Draft) -> Result<(), AllocError>
     ensures lines { OnOk result (draft.new ≡ with_lines draft.old (bytes_store place extent)) }
     ensures kept { OnErr result (Keeps draft.old draft.new) }

@@ -4,6 +4,8 @@ pub const SP: u8 = 0;
 /// The high half of EAX.
 pub const SREG: u8 = 2;
 
+pub const PTR1: u8 = 8;
+
 pub const PTR3: u8 = 12;
 
 pub const TMP1: u8 = 16;

@@ -31,7 +31,7 @@ put_expr-returns-in-Call-clause-lines t c =
     ∙ ap (λ (g : TExpr). call (typed_of g) (nodes_of c.in-Call.args.items)) (sym c.deref-in-Call.ensures)
     ∙ ap (λ (l : List TExpr). call (typed_of callee) (nodes_of l)) (sym c.deref-in-Call-2.ensures.value)
     in
-    rw (same, ← c.result_kind-kind.ensures) c.put_call.ensures.lines
+    rw (same, ← c.outcome_of-given.ensures) c.put_call.ensures.lines
 
 -- what the draft keeps
 
@@ -175,3 +175,9 @@ put_expr-returns-in_ok-put_target-in-Step-clause-kept t c = grown_last _ _ _ _ _
 
 pub put_expr-returns-in_ok-put_expr-in-Copy-2-clause-kept : goal.put_expr-returns-in_ok-put_expr-in-Copy-2-clause-kept
 put_expr-returns-in_ok-put_expr-in-Copy-2-clause-kept t c = grown_last _ _ _ _ _ _ c.in_ok-put_expr-in-Copy.ensures.lines (kept_last _ _ _ _ _ c.in_ok-push-in-Copy.ensures.lines (grown_last _ _ _ _ _ _ c.in_ok-put_expr-in-Copy-2.ensures.lines c.copy.ensures.kept))
+
+pub put_expr-returns-in_ok-put_target-in-Pack-clause-kept : goal.put_expr-returns-in_ok-put_target-in-Pack-clause-kept
+put_expr-returns-in_ok-put_target-in-Pack-clause-kept t c = grown_last _ _ _ _ _ _ c.in_ok-put_target-in-Pack.ensures.lines c.load_bytes.ensures.kept
+
+pub put_expr-returns-in_ok-put_expr-in-Spill-clause-kept : goal.put_expr-returns-in_ok-put_expr-in-Spill-clause-kept
+put_expr-returns-in_ok-put_expr-in-Spill-clause-kept t c = grown_last _ _ _ _ _ _ c.in_ok-put_expr-in-Spill.ensures.lines c.put_spill.ensures.kept
