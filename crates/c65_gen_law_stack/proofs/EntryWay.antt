@@ -52,7 +52,7 @@ above_three m w a x z b low h =
 stores_way : (s : Setting) (p q : Place) (t u : State) → sp_of t + 3 ≤ 65535 → Passes s three_stores p t q u → (sp_of u ≡ sp_of t) × ((b : ℕ) → sp_of t + 3 ≤ b → u.mem b ≡ t.mem b) × (u.pushed ≡ t.pushed) × (u.frames ≡ t.frames) × (bank_of u ≡ bank_of t)
 stores_way s p q t u low h =
     let all = simple_way s three_stores p q t u refl h in
-    (ap sp_of all, λ b above. ap (λ (x : State). x.mem b) all ∙ above_three t.mem (sp_of t) t.regs.a t.regs.x (t.zp 2) b low above, ap (λ (x : State). x.pushed) all, ap (λ (x : State). x.frames) all, ap bank_of all)
+    (ap sp_of all, (λ b above. ap (λ (x : State). x.mem b) all ∙ above_three t.mem (sp_of t) t.regs.a t.regs.x (t.zp 2) b low above), ap (λ (x : State). x.pushed) all, ap (λ (x : State). x.frames) all, ap bank_of all)
 
 three_way : (s : Setting) (p q : Place) (t u : State) → Passes s three_code p t q u → Lowers 3 t u
 three_way s p q t u h =
