@@ -2,5 +2,5 @@ pub mod Walks
 pub mod Listing
 pub mod Parts
 pub mod Knots
-pub mod Firsts
+pub mod Beginnings
 pub mod Headed

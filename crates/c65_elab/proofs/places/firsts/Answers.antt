@@ -1,4 +1,4 @@
-use Rattle.c65_elab.proofs.Firsts.{firsts_next, firsts_whole}
+use Rattle.c65_elab.proofs.Beginnings.{firsts_next, firsts_whole}
 use Rattle.c65_elab.proofs.places.firsts.Goals as goal
 
 pub loop-expr-preserved : goal.loop-expr-preserved

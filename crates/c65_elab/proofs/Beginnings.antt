@@ -33,7 +33,7 @@ firsts_next es i e done more place below is so_far here pushed =
     ∙ sym pushed
 
 pub firsts_whole : (es : List Expr) (i : ℕ) (done : List Pos) → length es ≤ i → firsts_walk (take i es) ≡ done → done ≡ firsts_walk es
-firsts_whole es i done past so_far = sym so_far ∙ ap firsts_walk (take_all es i past)
+firsts_whole es i done past so_far = sym so_far ∙ ap firsts_walk (take_all i es past)
 
 -- a call whose parts are typed
 pub call_stops : (l : Pos) (f : Box Expr Global) (es : Vec Expr Global) (s u w z : ScopeTy) (e : Typed) (ns : Nodes) (places : List Pos) (r : Refusal) → called_first (v.expr_of f.value) s ≡ Ok u → typed (v.expr_of f.value) u ≡ Ok (e, w) → args_walk w es.items ≡ Ok (ns, z) → places ≡ firsts_walk es.items → Fails r (call_of z.unit.types l places e ns) → Fails r (typed (v.expr_at l (x.Call f es)) s)
