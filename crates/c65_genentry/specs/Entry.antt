@@ -1,6 +1,6 @@
 -- The entry of a function (docs/MACHINE.md, "Calls").
-use Rattle.std.specs.Prelude.{ℕ, ◌+◌, ◌-◌, ◌/◌, ◌%◌, nat_lt, Bool, if◌then◌else◌, List, [], ◌∷◌, ◌++◌, Option, None, Some}
-use Rattle.c65_mach.specs.declared.rows.Op.TheVariants.{Adc, Clc, Lda, Ldy, Sta, Stx, Tax, Tay, Tya}
+use Rattle.std.specs.Prelude.{ℕ, ◌+◌, ◌-◌, ◌/◌, ◌%◌, ◌==◌, nat_lt, Bool, if◌then◌else◌, List, [], ◌∷◌, ◌++◌, length, Option, None, Some}
+use Rattle.c65_mach.specs.declared.rows.Op.TheVariants.{Adc, Clc, Iny, Lda, Ldy, Sta, Stx, Tax, Tay, Txa, Tya}
 use Rattle.c65_code.specs.declared.line.Line.{Line}
 use Rattle.c65_code.specs.declared.routine.Routine.TheVariants.{PushA, LdAxYSp, LdAi, LdAxi, SaveRegs, StkChk}
 use Rattle.c65_genframe.specs.declared.home.Arrival.{Arrival}
@@ -53,6 +53,31 @@ abbrev pub all_moved : List Moved → List Line
 all_moved [] = []
 all_moved (m ∷ ms) = moved_code m ++ all_moved ms
 
+-- In a variadic function a parameter lies higher by the bytes of the call's further arguments. Y reaches it where regbank is
+-- saved and nothing else is taken yet: at the number of bytes that the call pushed, which X holds, and so many more.
+abbrev pub counted_at : ℕ → ℕ → ℕ → ℕ
+counted_at soft stacked from = (from + 131072 - soft - stacked) % 256
+
+abbrev pub counted_store : ℕ → ℕ → List Line
+counted_store bank bytes = if nat_lt bytes 2 then zero_page Sta ((regbank + bank) % 256) ∷ [] else zero_page Sta ((regbank + bank) % 256) ∷ implied Iny ∷ by_y Lda sp ∷ zero_page Sta (((regbank + bank) % 256 + 1) % 256) ∷ []
+
+abbrev pub counted_move : ℕ → ℕ → Moved → List Line
+counted_move soft stacked m = (implied Txa ∷ implied Clc ∷ value Adc (counted_at soft stacked m.from) ∷ implied Tay ∷ by_y Lda sp ∷ []) ++ counted_store m.bank m.bytes
+
+abbrev pub all_counted : ℕ → ℕ → List Moved → List Line
+all_counted soft stacked [] = []
+all_counted soft stacked (m ∷ ms) = counted_move soft stacked m ++ all_counted soft stacked ms
+
+-- A holds that number before and behind
+abbrev pub raised_moves : ℕ → ℕ → List Moved → List Line
+raised_moves soft stacked ms = if length ms == 0 then [] else implied Tax ∷ (all_counted soft stacked ms ++ implied Txa ∷ [])
+
+abbrev pub early_moves : Framed → List Line
+early_moves f = if f.variadic then raised_moves f.soft f.stacked f.moved else []
+
+abbrev pub late_moves : Framed → List Line
+late_moves f = if f.variadic then [] else all_moved f.moved
+
 abbrev pub taken_bytes : Bool → ℕ → ℕ
 taken_bytes variadic soft = if variadic then soft - 1 else soft
 
@@ -63,7 +88,7 @@ checked_code (Some c) = zero_page Sta tmp2 ∷ value Lda (c % 256) ∷ zero_page
 
 -- the arriving parameter and the objects come to their homes
 abbrev pub taking_code : Framed → List Line
-taking_code f = pushed_code f.last ++ (counted_code f.variadic ++ (saved_code f.bank ++ (kept_code f.last ++ (lower_code (taken_bytes f.variadic f.soft) ++ (count_code f.variadic ++ all_moved f.moved)))))
+taking_code f = pushed_code f.last ++ (counted_code f.variadic ++ (saved_code f.bank ++ (early_moves f ++ (kept_code f.last ++ (lower_code (taken_bytes f.variadic f.soft) ++ (count_code f.variadic ++ late_moves f))))))
 
 abbrev pub entry_code : Framed → List Line
 entry_code f = checked_code f.check ++ taking_code f

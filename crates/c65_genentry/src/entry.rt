@@ -1,7 +1,7 @@
 // The entry of a function (MACHINE.md, "Calls").
 ghost use Rattle.std.specs.Prelude.{◌≡◌, ◌<◌, OnOk, OnErr};
 ghost use Rattle.c65_genwide.specs.Lines.{with_lines, Keeps};
-ghost use Rattle.c65_genentry.specs.Entry.{pushed_code, counted_code, saved_code, kept_code, bank_store, near_load, far_load, load_code, moved_code, all_moved, taken_bytes, count_code, checked_code, taking_code, entry_code};
+ghost use Rattle.c65_genentry.specs.Entry.{pushed_code, counted_code, saved_code, kept_code, bank_store, near_load, far_load, load_code, moved_code, all_moved, counted_at, counted_store, counted_move, all_counted, raised_moves, early_moves, late_moves, taken_bytes, count_code, checked_code, taking_code, entry_code};
 
 use crate::places::{REGBANK, SP, TMP2, TMP3, TMP4};
 use crate::stack::lower;
@@ -11,7 +11,7 @@ use c65_code::{Draft, Routine};
 use c65_genframe::{Arrival, Frame, Moved};
 use c65_genwide::{pass, put, run};
 use c65_mach::Mode::{Immediate, Implied, IndirectY, ZeroPage};
-use c65_mach::Op::{Adc, Clc, Lda, Ldy, Sta, Stx, Tax, Tay, Tya};
+use c65_mach::Op::{Adc, Clc, Iny, Lda, Ldy, Sta, Stx, Tax, Tay, Txa, Tya};
 use std::alloc::AllocError;
 
 /// The last parameter goes from the registers onto the software stack.
@@ -161,6 +161,108 @@ fn put_all_moved(all: &[Moved], draft: &mut Draft) -> Result<(), AllocError>
     Ok(())
 }
 
+/// How much farther than the number of bytes that a variadic call pushed a parameter lies, once regbank is saved.
+fn counted_at(soft: u16, stacked: u16, from: u16) -> u8
+    ensures { result ≡ counted_at soft stacked from }
+{
+    ((u32::from(from) + 131_072 - u32::from(soft) - u32::from(stacked)) % 256) as u8
+}
+
+/// The byte in A goes to regbank, and the one behind it where there are two.
+fn store_counted(bank: u8, bytes: u8, draft: &mut Draft) -> Result<(), AllocError>
+    ensures lines { OnOk result (draft.new ≡ with_lines draft.old (counted_store bank bytes)) }
+    ensures kept { OnErr result (Keeps draft.old draft.new) }
+{
+    let byte = REGBANK.wrapping_add(bank);
+    if bytes < 2 {
+        put(draft, &[Do(Sta, ZeroPage, Zero(byte))])
+    } else {
+        put(
+            draft,
+            &[
+                Do(Sta, ZeroPage, Zero(byte)),
+                Do(Iny, Implied, Nothing),
+                Do(Lda, IndirectY, Zero(SP)),
+                Do(Sta, ZeroPage, Zero(byte.wrapping_add(1))),
+            ],
+        )
+    }
+}
+
+/// A parameter of a variadic function goes to regbank; X holds the number of bytes that the call pushed.
+fn put_counted_move(
+    soft: u16,
+    stacked: u16,
+    moved: Moved,
+    draft: &mut Draft,
+) -> Result<(), AllocError>
+    ensures lines { OnOk result (draft.new ≡ with_lines draft.old (counted_move soft stacked moved)) }
+    ensures kept { OnErr result (Keeps draft.old draft.new) }
+{
+    put(
+        draft,
+        &[
+            Do(Txa, Implied, Nothing),
+            Do(Clc, Implied, Nothing),
+            Do(Adc, Immediate, Byte(counted_at(soft, stacked, moved.from))),
+            Do(Tay, Implied, Nothing),
+            Do(Lda, IndirectY, Zero(SP)),
+        ],
+    )?;
+    store_counted(moved.bank, moved.bytes, draft)
+}
+
+#[tactic(auto, using(c65_genwide::proofs::Kept::kept_same, crate::proofs::Kept::kept_lines, crate::proofs::Kept::kept_on))]
+fn put_all_counted(
+    soft: u16,
+    stacked: u16,
+    all: &[Moved],
+    draft: &mut Draft,
+) -> Result<(), AllocError>
+    ensures lines { OnOk result (draft.new ≡ with_lines draft.old (all_counted soft stacked all.now)) }
+    ensures kept { OnErr result (Keeps draft.old draft.new) }
+{
+    for moved in all {
+        put_counted_move(soft, stacked, *moved, draft)?;
+    }
+    Ok(())
+}
+
+/// The parameters of a variadic function go to regbank; A holds the number of bytes that the call pushed before and behind.
+fn put_raised(soft: u16, stacked: u16, all: &[Moved], draft: &mut Draft) -> Result<(), AllocError>
+    ensures lines { OnOk result (draft.new ≡ with_lines draft.old (raised_moves soft stacked all.now)) }
+    ensures kept { OnErr result (Keeps draft.old draft.new) }
+{
+    if all.is_empty() {
+        return put(draft, &[]);
+    }
+    put(draft, &[Do(Tax, Implied, Nothing)])?;
+    put_all_counted(soft, stacked, all, draft)?;
+    put(draft, &[Do(Txa, Implied, Nothing)])
+}
+
+fn put_early(frame: &Frame, draft: &mut Draft) -> Result<(), AllocError>
+    ensures lines { OnOk result (draft.new ≡ with_lines draft.old (early_moves frame.now)) }
+    ensures kept { OnErr result (Keeps draft.old draft.new) }
+{
+    if frame.is_variadic() {
+        put_raised(frame.soft(), frame.stacked(), frame.moved(), draft)
+    } else {
+        put(draft, &[])
+    }
+}
+
+fn put_late(frame: &Frame, draft: &mut Draft) -> Result<(), AllocError>
+    ensures lines { OnOk result (draft.new ≡ with_lines draft.old (late_moves frame.now)) }
+    ensures kept { OnErr result (Keeps draft.old draft.new) }
+{
+    if frame.is_variadic() {
+        put(draft, &[])
+    } else {
+        put_all_moved(frame.moved(), draft)
+    }
+}
+
 /// How many bytes the entry takes before it pushes the number of a variadic call.
 fn taken_bytes(variadic: bool, soft: u16) -> u16
     ensures { result ≡ taken_bytes variadic soft }
@@ -204,10 +306,11 @@ fn put_taking(frame: &Frame, draft: &mut Draft) -> Result<(), AllocError>
     put_pushed(frame.last(), draft)?;
     put_counted(frame.is_variadic(), draft)?;
     put_saved(frame.bank(), draft)?;
+    put_early(frame, draft)?;
     put_kept(frame.last(), draft)?;
     lower(taken_bytes(frame.is_variadic(), frame.soft()), draft)?;
     put_count(frame.is_variadic(), draft)?;
-    put_all_moved(frame.moved(), draft)
+    put_late(frame, draft)
 }
 
 /// Puts the lines at which a function begins. Its objects then have their homes.
