@@ -298,7 +298,7 @@ mutual
       made_wider lo (unless_named (named g) (uses g) + args_uses es) (room g + 128 * nodes_in es + 63) _ _ (call_made f (named g) (outcome_of f (type_in t)) g es lo (uses g) (room g) (128 * nodes_in es) _ _ _ (expr_made f pushed lo g) (args_made f pushed lo (is_fast (bare g)) es) (args_made f (more pushed 2) (lo + uses g) (is_fast (bare g)) es)) (omega (arith, some_nodes g))
   node_made f pushed lo t (pack e) =
       let place : Place = place_of f pushed e in
-      made_wider lo (uses e) (room e + 17) _ _ (made_behind lo (uses e) (room e) 17 _ _ (target_made lo (uses e) (room e) place _ (known_uses f pushed e) (expr_made f pushed lo e)) (part_piece place (extent_by (type_bytes f (type_in t))))) (omega (arith, some_nodes e))
+      made_wider lo (uses e) (room e + 20) _ _ (made_behind lo (uses e) (room e) 20 _ _ (target_made lo (uses e) (room e) place _ (known_uses f pushed e) (expr_made f pushed lo e)) (part_piece place (extent_by (type_bytes f (type_in t))))) (omega (arith, some_nodes e))
   node_made f pushed lo t (spill i e) =
       made_wider lo (uses e) (room e + 67) _ _ (made_behind lo (uses e) (room e) 67 _ _ (expr_made f pushed lo e) (spill_piece (object_code f pushed i) (extent_by (type_bytes f (type_in t))) (object_piece f pushed i))) (omega (arith, some_nodes e))
   node_made f pushed lo t further = leaf lo 34 (node t further) _ (omega arith) refl (further_piece f pushed)

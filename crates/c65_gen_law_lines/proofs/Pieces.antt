@@ -201,7 +201,7 @@ hold_piece places.Far = record { plain = refl; fit = refl; size = omega arith }
 
 -- the lines that take so many bytes: three have no routine
 abbrev pub taking : Extent → ℕ
-taking Three = 17
+taking Three = 20
 taking _ = 16
 
 pub bytes_piece : (place : Place) (e : Extent) → Piece (taking e) (bytes_code place e)
@@ -222,14 +222,14 @@ bytes_piece places.Far Two = record { plain = refl; fit = refl; size = omega ari
 bytes_piece places.Far Three = record { plain = refl; fit = refl; size = omega arith }
 bytes_piece places.Far Four = record { plain = refl; fit = refl; size = omega arith }
 
-taking_few : (e : Extent) → taking e ≤ 17
+taking_few : (e : Extent) → taking e ≤ 20
 taking_few One = omega arith
 taking_few Two = omega arith
 taking_few Three = omega arith
 taking_few Four = omega arith
 
-pub part_piece : (place : Place) (e : Extent) → Piece 17 (bytes_code place e)
-part_piece place e = piece_wider (taking e) 17 (bytes_code place e) (bytes_piece place e) (taking_few e)
+pub part_piece : (place : Place) (e : Extent) → Piece 20 (bytes_code place e)
+part_piece place e = piece_wider (taking e) 20 (bytes_code place e) (bytes_piece place e) (taking_few e)
 
 -- no number has three
 taking_number : (kind : IntType) → taking (extent_of kind) ≤ 16
