@@ -2,7 +2,7 @@
 use Rattle.std.proofs.Common.{◌≡◌, ℕ, zero, suc, ◌+◌, ◌/◌, ◌%◌, ◌<◌, ◌≤◌, ◌^◌, ◌==◌, ℤ, Bool, true, false, Option, None, Some, List, [], ◌∷◌, ◌++◌, length, refl, arith, rules}
 use Rattle.std.specs.Prelude.{if◌then◌else◌, nat_lt}
 use Rattle.std.proofs.lemmas.Bool.{ltb-true}
-use Rattle.c65_mach.specs.declared.rows.Op.TheVariants.{Adc, Clc, Tax, Bne, Cpy, Dex, Iny, Inc, Lda, Ldx, Ldy, Sta, Stx, Pha, Pla, Rts, Tay, Tya}
+use Rattle.c65_mach.specs.declared.rows.Op.TheVariants.{Adc, Clc, Tax, Bne, Cpy, Dex, Iny, Inc, Lda, Ldx, Ldy, Sta, Stx, Pha, Pla, Rts, Tay, Txa, Tya}
 use Rattle.c65_code.specs.declared.line.Line.{Line}
 use Rattle.c65_code.specs.declared.line.Line.TheVariants.{Label}
 use Rattle.c65_code.specs.declared.routine.Count.{Count}
@@ -17,7 +17,7 @@ use Rattle.c65_genwide.specs.Lines.{value, call}
 use Rattle.c65_genentry.specs.Words.{sp, tmp1, tmp2, ptr1, ptr2, regbank, implied, zero_page, by_y, branch}
 use Rattle.c65_genentry.specs.Stack.{count_of, raise_by, lower_by, small_raise, small_lower, repeated, raise_code, lower_code}
 use Rattle.c65_genentry.specs.Ends.{restored_code, plain_end, variadic_end, end_code}
-use Rattle.c65_genentry.specs.Entry.{pushed_code, bank_store, kept_code, saved_code, counted_code, count_code, near_load, far_load, load_code, moved_code, all_moved, taken_bytes, checked_code, taking_code, entry_code}
+use Rattle.c65_genentry.specs.Entry.{pushed_code, bank_store, kept_code, saved_code, counted_code, count_code, near_load, far_load, load_code, moved_code, all_moved, counted_at, counted_store, counted_move, all_counted, raised_moves, early_moves, late_moves, taken_bytes, checked_code, taking_code, entry_code}
 use Rattle.c65_genentry.specs.Pointers as pointers
 use Rattle.c65_genentry.specs.Bytes.{pages_code, rest_code, loop_labels, block_code, block_labels}
 use Rattle.c65_genentry.specs.Bytes as blocks
@@ -90,6 +90,21 @@ moved_well : (n : ℕ) (ms : List Moved) → Near 2055 ms → AllWell n (all_mov
 moved_well n [] near = well_none n
 moved_well n (m ∷ ms) near = well_append n (moved_code m) (all_moved ms) (well_append n (load_code m.from m.bytes) (bank_store m.bank m.bytes) (load_when n m.from m.bytes (nat_lt m.from 255) refl (omega (arith, near.0))) (bank_store_well n m.bank m.bytes)) (moved_well n ms near.1)
 
+counted_store_well : (n bank bytes : ℕ) → AllWell n (counted_store bank bytes)
+counted_store_well n bank bytes = well_if n (nat_lt bytes 2) (zero_page Sta ((regbank + bank) % 256) ∷ []) (zero_page Sta ((regbank + bank) % 256) ∷ implied Iny ∷ by_y Lda sp ∷ zero_page Sta (((regbank + bank) % 256 + 1) % 256) ∷ []) (record { all = search rules }) (record { all = search rules })
+
+counted_well : (n soft stacked : ℕ) (ms : List Moved) → AllWell n (all_counted soft stacked ms)
+counted_well n soft stacked [] = well_none n
+counted_well n soft stacked (m ∷ ms) =
+    let found : AllWell n (implied Txa ∷ implied Clc ∷ value Adc (counted_at soft stacked m.from) ∷ implied Tay ∷ by_y Lda sp ∷ []) = record { all = search rules } in
+    well_append n (counted_move soft stacked m) (all_counted soft stacked ms) (well_append n _ (counted_store m.bank m.bytes) found (counted_store_well n m.bank m.bytes)) (counted_well n soft stacked ms)
+
+raised_well : (n soft stacked : ℕ) (ms : List Moved) → AllWell n (raised_moves soft stacked ms)
+raised_well n soft stacked ms =
+    let to : AllWell n (implied Tax ∷ []) = record { all = ((tt, tt), tt) } in
+    let back : AllWell n (implied Txa ∷ []) = record { all = ((tt, tt), tt) } in
+    well_if n (length ms == 0) [] (implied Tax ∷ (all_counted soft stacked ms ++ implied Txa ∷ [])) (well_none n) (well_append n (implied Tax ∷ []) (all_counted soft stacked ms ++ implied Txa ∷ []) to (well_append n (all_counted soft stacked ms) (implied Txa ∷ []) (counted_well n soft stacked ms) back))
+
 checked_well : (n : ℕ) (check : Option ℕ) → AllWell n (checked_code check)
 checked_well n None = well_none n
 checked_well n (Some c) = record { all = search rules }
@@ -98,7 +113,9 @@ taking_well : (n : ℕ) (f : Framed) → Near 2055 f.moved → AllWell n (taking
 taking_well n f near =
     let counted : AllWell n (counted_code f.variadic) = well_if n f.variadic (implied Tya ∷ []) [] (record { all = ((tt, tt), tt) }) (well_none n) in
     let count : AllWell n (count_code f.variadic) = well_if n f.variadic (call PushA ∷ []) [] (record { all = (tt, tt) }) (well_none n) in
-    well_append n (pushed_code f.last) _ (pushed_well n f.last) (well_append n (counted_code f.variadic) _ counted (well_append n (saved_code f.bank) _ (saved_well n f.bank) (well_append n (kept_code f.last) _ (kept_well n f.last) (well_append n (lower_code (taken_bytes f.variadic f.soft)) _ (lower_well n (taken_bytes f.variadic f.soft)) (well_append n (count_code f.variadic) (all_moved f.moved) count (moved_well n f.moved near))))))
+    let early : AllWell n (early_moves f) = well_if n f.variadic (raised_moves f.soft f.stacked f.moved) [] (raised_well n f.soft f.stacked f.moved) (well_none n) in
+    let late : AllWell n (late_moves f) = well_if n f.variadic [] (all_moved f.moved) (well_none n) (moved_well n f.moved near) in
+    well_append n (pushed_code f.last) _ (pushed_well n f.last) (well_append n (counted_code f.variadic) _ counted (well_append n (saved_code f.bank) _ (saved_well n f.bank) (well_append n (early_moves f) _ early (well_append n (kept_code f.last) _ (kept_well n f.last) (well_append n (lower_code (taken_bytes f.variadic f.soft)) _ (lower_well n (taken_bytes f.variadic f.soft)) (well_append n (count_code f.variadic) (late_moves f) count late))))))
 
 pub entry_well : (n : ℕ) (f : Framed) → Near 2055 f.moved → AllWell n (entry_code f)
 entry_well n f near = well_append n (checked_code f.check) (taking_code f) (checked_well n f.check) (taking_well n f near)

@@ -1,8 +1,8 @@
 -- Lines at the entry and the end of functions, and about objects: of any size, with no labels or with labels of their own.
-use Rattle.std.proofs.Common.{◌≡◌, ℕ, zero, suc, ◌+◌, ◌/◌, ◌%◌, ◌==◌, Bool, true, false, Option, None, Some, List, [], ◌∷◌, ◌++◌, refl, sym, ◌∙◌, subst, arith}
+use Rattle.std.proofs.Common.{◌≡◌, ℕ, zero, suc, ◌+◌, ◌/◌, ◌%◌, ◌==◌, Bool, true, false, Option, None, Some, List, [], ◌∷◌, ◌++◌, length, refl, sym, ◌∙◌, subst, arith}
 use Rattle.std.specs.Prelude.{if◌then◌else◌, nat_lt, nat_le}
 use Rattle.std.specs.List.{list_all}
-use Rattle.c65_mach.specs.declared.rows.Op.TheVariants.{Adc, Clc, Tax, Bne, Cpy, Dex, Iny, Inc, Lda, Ldx, Ldy, Sta, Stx, Pha, Pla, Rts, Tay, Tya}
+use Rattle.c65_mach.specs.declared.rows.Op.TheVariants.{Adc, Clc, Tax, Bne, Cpy, Dex, Iny, Inc, Lda, Ldx, Ldy, Sta, Stx, Pha, Pla, Rts, Tay, Txa, Tya}
 use Rattle.c65_mach.specs.declared.rows.Mode.TheVariants.{Relative}
 use Rattle.c65_code.specs.declared.line.Line.{Line}
 use Rattle.c65_code.specs.declared.line.Line.TheVariants.{Label}
@@ -17,7 +17,7 @@ use Rattle.c65_genwide.specs.Lines.{value, call}
 use Rattle.c65_genentry.specs.Words.{sp, tmp1, tmp2, ptr1, ptr2, regbank, implied, zero_page, by_y, branch}
 use Rattle.c65_genentry.specs.Stack.{count_of, raise_by, lower_by, small_raise, small_lower, repeated, raise_code, lower_code}
 use Rattle.c65_genentry.specs.Ends.{restored_code, plain_end, variadic_end, end_code}
-use Rattle.c65_genentry.specs.Entry.{pushed_code, bank_store, kept_code, saved_code, counted_code, count_code, near_load, far_load, load_code, moved_code, all_moved, taken_bytes, checked_code, taking_code, entry_code}
+use Rattle.c65_genentry.specs.Entry.{pushed_code, bank_store, kept_code, saved_code, counted_code, count_code, near_load, far_load, load_code, moved_code, all_moved, counted_at, counted_store, counted_move, all_counted, raised_moves, early_moves, late_moves, taken_bytes, checked_code, taking_code, entry_code}
 use Rattle.c65_genentry.specs.Pointers as pointers
 use Rattle.c65_genentry.specs.Bytes.{pages_code, rest_code, loop_labels, block_code, block_labels}
 use Rattle.c65_genentry.specs.Bytes as blocks
@@ -134,6 +134,21 @@ moved_flat : (ms : List Moved) → Flat (all_moved ms)
 moved_flat [] = flat_none
 moved_flat (m ∷ ms) = flat_append (moved_code m) (all_moved ms) (flat_append (load_code m.from m.bytes) (bank_store m.bank m.bytes) (load_flat m.from m.bytes) (bank_store_flat m.bank m.bytes)) (moved_flat ms)
 
+counted_store_flat : (bank bytes : ℕ) → Flat (counted_store bank bytes)
+counted_store_flat bank bytes = flat_if (nat_lt bytes 2) (zero_page Sta ((regbank + bank) % 256) ∷ []) (zero_page Sta ((regbank + bank) % 256) ∷ implied Iny ∷ by_y Lda sp ∷ zero_page Sta (((regbank + bank) % 256 + 1) % 256) ∷ []) (record { plain = refl; fit = refl }) (record { plain = refl; fit = refl })
+
+counted_flat : (soft stacked : ℕ) (ms : List Moved) → Flat (all_counted soft stacked ms)
+counted_flat soft stacked [] = flat_none
+counted_flat soft stacked (m ∷ ms) =
+    let found : Flat (implied Txa ∷ implied Clc ∷ value Adc (counted_at soft stacked m.from) ∷ implied Tay ∷ by_y Lda sp ∷ []) = record { plain = refl; fit = refl } in
+    flat_append (counted_move soft stacked m) (all_counted soft stacked ms) (flat_append _ (counted_store m.bank m.bytes) found (counted_store_flat m.bank m.bytes)) (counted_flat soft stacked ms)
+
+raised_flat : (soft stacked : ℕ) (ms : List Moved) → Flat (raised_moves soft stacked ms)
+raised_flat soft stacked ms =
+    let to : Flat (implied Tax ∷ []) = record { plain = refl; fit = refl } in
+    let back : Flat (implied Txa ∷ []) = record { plain = refl; fit = refl } in
+    flat_if (length ms == 0) [] (implied Tax ∷ (all_counted soft stacked ms ++ implied Txa ∷ [])) flat_none (flat_append (implied Tax ∷ []) (all_counted soft stacked ms ++ implied Txa ∷ []) to (flat_append (all_counted soft stacked ms) (implied Txa ∷ []) (counted_flat soft stacked ms) back))
+
 checked_flat : (check : Option ℕ) → Flat (checked_code check)
 checked_flat None = flat_none
 checked_flat (Some c) = record { plain = refl; fit = refl }
@@ -142,7 +157,9 @@ taking_flat : (f : Framed) → Flat (taking_code f)
 taking_flat f =
     let counted : Flat (counted_code f.variadic) = flat_if f.variadic (implied Tya ∷ []) [] (record { plain = refl; fit = refl }) flat_none in
     let count : Flat (count_code f.variadic) = flat_if f.variadic (call PushA ∷ []) [] (record { plain = refl; fit = refl }) flat_none in
-    flat_append (pushed_code f.last) _ (pushed_flat f.last) (flat_append (counted_code f.variadic) _ counted (flat_append (saved_code f.bank) _ (saved_flat f.bank) (flat_append (kept_code f.last) _ (kept_flat f.last) (flat_append (lower_code (taken_bytes f.variadic f.soft)) _ (lower_flat (taken_bytes f.variadic f.soft)) (flat_append (count_code f.variadic) (all_moved f.moved) count (moved_flat f.moved))))))
+    let early : Flat (early_moves f) = flat_if f.variadic (raised_moves f.soft f.stacked f.moved) [] (raised_flat f.soft f.stacked f.moved) flat_none in
+    let late : Flat (late_moves f) = flat_if f.variadic [] (all_moved f.moved) flat_none (moved_flat f.moved) in
+    flat_append (pushed_code f.last) _ (pushed_flat f.last) (flat_append (counted_code f.variadic) _ counted (flat_append (saved_code f.bank) _ (saved_flat f.bank) (flat_append (early_moves f) _ early (flat_append (kept_code f.last) _ (kept_flat f.last) (flat_append (lower_code (taken_bytes f.variadic f.soft)) _ (lower_flat (taken_bytes f.variadic f.soft)) (flat_append (count_code f.variadic) (late_moves f) count late))))))
 
 pub entry_flat : (f : Framed) → Flat (entry_code f)
 entry_flat f = flat_append (checked_code f.check) (taking_code f) (checked_flat f.check) (taking_flat f)

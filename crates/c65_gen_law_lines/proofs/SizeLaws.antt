@@ -188,4 +188,4 @@ functions_are_small parts modes g body f is_main out framed =
     let m1 : Drafted = with_stmt f (ways 0 0 0) 0 body m0 in
     let m2 : Drafted = with_lines m1 (main_code is_main) in
     let m3 : Drafted = with_label 0 m2 in
-    omega (arith, (grows_lines (67 + 19 * length f.moved) d (entry_code f) (entry_size f frame.0)).size, (stmt_small f (ways 0 0 0) 0 body m0).size, (grows_lines 4 m1 (main_code is_main) (main_size is_main)).size, (label_grows 0 m2).size, (grows_lines 54 m3 (end_code f) (end_size f frame.0 (omega (arith, frame.1)))).size, frame.2)
+    omega (arith, (grows_lines (69 + 19 * length f.moved) d (entry_code f) (entry_size f frame.0)).size, (stmt_small f (ways 0 0 0) 0 body m0).size, (grows_lines 4 m1 (main_code is_main) (main_size is_main)).size, (label_grows 0 m2).size, (grows_lines 54 m3 (end_code f) (end_size f frame.0 (omega (arith, frame.1)))).size, frame.2)

@@ -1,7 +1,7 @@
 -- The bytes of the lines at the entry and the end of functions, and about objects.
 use Rattle.std.proofs.Common.{ℕ, zero, suc, ◌+◌, ◌*◌, ◌/◌, ◌%◌, ◌≤◌, ◌==◌, Bool, true, false, Option, None, Some, ℤ, List, [], ◌∷◌, ◌++◌, length, arith}
 use Rattle.std.specs.Prelude.{if◌then◌else◌, nat_lt, nat_le}
-use Rattle.c65_mach.specs.declared.rows.Op.TheVariants.{Adc, Bne, Clc, Cpy, Dex, Iny, Inc, Lda, Ldx, Ldy, Sta, Stx, Pha, Pla, Rts, Tax, Tay, Tya}
+use Rattle.c65_mach.specs.declared.rows.Op.TheVariants.{Adc, Bne, Clc, Cpy, Dex, Iny, Inc, Lda, Ldx, Ldy, Sta, Stx, Pha, Pla, Rts, Tax, Tay, Txa, Tya}
 use Rattle.c65_code.specs.declared.line.Line.{Line}
 use Rattle.c65_code.specs.declared.line.Line.TheVariants.{Label}
 use Rattle.c65_code.specs.declared.routine.Count.{Count}
@@ -19,7 +19,7 @@ use Rattle.c65_genwide.specs.Passing.{three_code, pass_bytes}
 use Rattle.c65_genentry.specs.Words.{sp, tmp1, tmp2, ptr1, ptr2, regbank, implied, zero_page, by_y, branch}
 use Rattle.c65_genentry.specs.Stack.{count_of, raise_by, lower_by, small_raise, small_lower, repeated, raise_code, lower_code}
 use Rattle.c65_genentry.specs.Ends.{restored_code, plain_end, variadic_end, end_code}
-use Rattle.c65_genentry.specs.Entry.{pushed_code, bank_store, kept_code, near_load, far_load, load_code, all_moved, taken_bytes, checked_code, taking_code, entry_code}
+use Rattle.c65_genentry.specs.Entry.{pushed_code, bank_store, kept_code, near_load, far_load, load_code, all_moved, counted_at, counted_store, all_counted, raised_moves, early_moves, late_moves, taken_bytes, checked_code, taking_code, entry_code}
 use Rattle.c65_genentry.specs.Pointers as pointers
 use Rattle.c65_genentry.specs.Bytes.{pages_code, rest_code, loop_labels, block_code}
 use Rattle.c65_genentry.specs.Bytes as blocks
@@ -124,6 +124,36 @@ moved_size (m ∷ ms) =
     let load : Takes 15 (load_code m.from m.bytes) = takes_if (nat_lt m.from 255) (near_load_size m.from m.bytes) (far_load_size m.from m.bytes) in
     takes_wider (takes_append (takes_append load (bank_store_size m.bank m.bytes)) (moved_size ms)) (omega arith)
 
+counted_store_size : (bank bytes : ℕ) → Takes 7 (counted_store bank bytes)
+counted_store_size bank bytes =
+    let one : Takes 7 (zero_page Sta ((regbank + bank) % 256) ∷ []) = record { size = omega arith } in
+    let two : Takes 7 (zero_page Sta ((regbank + bank) % 256) ∷ implied Iny ∷ by_y Lda sp ∷ zero_page Sta (((regbank + bank) % 256 + 1) % 256) ∷ []) = record { size = omega arith } in
+    takes_if (nat_lt bytes 2) one two
+
+all_counted_size : (soft stacked : ℕ) (ms : List Moved) → Takes (19 * length ms) (all_counted soft stacked ms)
+all_counted_size soft stacked [] = record { size = omega arith }
+all_counted_size soft stacked (m ∷ ms) =
+    let found : Takes 7 (implied Txa ∷ implied Clc ∷ value Adc (counted_at soft stacked m.from) ∷ implied Tay ∷ by_y Lda sp ∷ []) = record { size = omega arith } in
+    takes_wider (takes_append (takes_append found (counted_store_size m.bank m.bytes)) (all_counted_size soft stacked ms)) (omega arith)
+
+raised_size : (soft stacked : ℕ) (ms : List Moved) → Takes (2 + 19 * length ms) (raised_moves soft stacked ms)
+raised_size soft stacked ms =
+    let to : Takes 1 (implied Tax ∷ []) = record { size = omega arith } in
+    let back : Takes 1 (implied Txa ∷ []) = record { size = omega arith } in
+    takes_if (length ms == 0) takes_none (takes_wider (takes_append to (takes_append (all_counted_size soft stacked ms) back)) (omega arith))
+
+early_size : (v : Bool) (soft stacked : ℕ) (ms : List Moved) → Takes (if v then 2 + 19 * length ms else 0) (if v then raised_moves soft stacked ms else [])
+early_size true soft stacked ms = raised_size soft stacked ms
+early_size false soft stacked ms = takes_none
+
+late_size : (v : Bool) (ms : List Moved) → Takes (if v then 0 else 19 * length ms) (if v then [] else all_moved ms)
+late_size true ms = takes_none
+late_size false ms = moved_size ms
+
+moves_sum : (v : Bool) (n : ℕ) → (if v then 2 + 19 * n else 0) + (if v then 0 else 19 * n) ≤ 2 + 19 * n
+moves_sum true n = omega arith
+moves_sum false n = omega arith
+
 taken_few : (variadic : Bool) (soft : ℕ) → soft ≤ 1025 → taken_bytes variadic soft ≤ 1025
 taken_few true soft le = omega (arith, le)
 taken_few false soft le = le
@@ -132,15 +162,15 @@ checked_size : (check : Option ℕ) → Takes 15 (checked_code check)
 checked_size None = record { size = omega arith }
 checked_size (Some c) = record { size = omega arith }
 
-taking_size : (f : Framed) → f.soft ≤ 1025 → Takes (52 + 19 * length f.moved) (taking_code f)
+taking_size : (f : Framed) → f.soft ≤ 1025 → Takes (54 + 19 * length f.moved) (taking_code f)
 taking_size f le =
     let tya : Takes 1 (implied Tya ∷ []) = record { size = omega arith } in
     let save : Takes 3 (call SaveRegs ∷ []) = record { size = omega arith } in
     let push : Takes 3 (call PushA ∷ []) = record { size = omega arith } in
-    takes_wider (takes_append (pushed_size f.last) (takes_append (takes_if f.variadic tya takes_none) (takes_append (takes_if (nat_lt 0 f.bank) save takes_none) (takes_append (kept_size f.last)
-    (takes_append (lower_size (taken_bytes f.variadic f.soft) (taken_few f.variadic f.soft le)) (takes_append (takes_if f.variadic push takes_none) (moved_size f.moved))))))) (omega arith)
+    takes_wider (takes_append (pushed_size f.last) (takes_append (takes_if f.variadic tya takes_none) (takes_append (takes_if (nat_lt 0 f.bank) save takes_none) (takes_append (early_size f.variadic f.soft f.stacked f.moved) (takes_append (kept_size f.last)
+    (takes_append (lower_size (taken_bytes f.variadic f.soft) (taken_few f.variadic f.soft le)) (takes_append (takes_if f.variadic push takes_none) (late_size f.variadic f.moved)))))))) (omega (arith, moves_sum f.variadic (length f.moved)))
 
-pub entry_size : (f : Framed) → f.soft ≤ 1025 → Takes (67 + 19 * length f.moved) (entry_code f)
+pub entry_size : (f : Framed) → f.soft ≤ 1025 → Takes (69 + 19 * length f.moved) (entry_code f)
 entry_size f le = takes_wider (takes_append (checked_size f.check) (taking_size f le)) (omega arith)
 
 restored_size : (bank : ℕ) → Takes 3 (restored_code bank)

@@ -32,7 +32,7 @@ use Rattle.c65_genentry.specs.Bytes as blocks
 use Rattle.c65_genentry.specs.Pointers as pointers
 use Rattle.c65_genentry.specs.Choice.{bits_of, test_code, choice_code}
 use Rattle.c65_genentry.specs.Stack.{count_of, raise_by, lower_by, small_raise, small_lower, repeated, raise_code, lower_code}
-use Rattle.c65_genentry.specs.Entry.{pushed_code, kept_code, saved_code, counted_code, count_code, all_moved, taken_bytes, checked_code, entry_code}
+use Rattle.c65_genentry.specs.Entry.{pushed_code, kept_code, saved_code, counted_code, count_code, all_moved, raised_moves, early_moves, late_moves, taken_bytes, checked_code, entry_code}
 use Rattle.c65_genentry.specs.Ends.{restored_code, end_code}
 use Rattle.c65_genstmt.specs.declared.jumps.Ways.{Ways}
 use Rattle.c65_genstmt.specs.declared.objects.Spot.{Spot}
@@ -255,6 +255,14 @@ nothing_clear a e = subst (λ (x : List Line). Clear x) (sym e) clear_none
 moved_clear : (ms : List Moved) → ms ≡ [] → Clear (all_moved ms)
 moved_clear ms e = nothing_clear (all_moved ms) (ap all_moved e)
 
+late_clear : (v : Bool) (ms : List Moved) → ms ≡ [] → Clear (if v then [] else all_moved ms)
+late_clear true ms e = clear_none
+late_clear false ms e = moved_clear ms e
+
+early_clear : (v : Bool) (soft stacked : ℕ) (ms : List Moved) → ms ≡ [] → Clear (if v then raised_moves soft stacked ms else [])
+early_clear true soft stacked ms e = nothing_clear (raised_moves soft stacked ms) (ap (raised_moves soft stacked) e)
+early_clear false soft stacked ms e = clear_none
+
 restored_clear : (b : Bool) → b ≡ false → Clear (if b then call RestRegs ∷ [] else [])
 restored_clear true e = absurd cc
 restored_clear false e = clear_none
@@ -265,7 +273,7 @@ checked_clear (Some c) = record { all = refl }
 
 entry_clear : (f : Framed) → IsOrderly f → nat_lt 0 f.bank ≡ false → Clear (entry_code f)
 entry_clear f o e =
-    clear_then (checked_clear f.check) (clear_then (pushed_clear f.last) (clear_then (counted_clear f.variadic) (clear_then (saved_clear f.bank) (clear_then (nothing_clear (kept_code f.last) (o.unkept e).0) (clear_then (lower_clear (taken_bytes f.variadic f.soft)) (clear_then (count_clear f.variadic) (moved_clear f.moved (o.unkept e).1)))))))
+    clear_then (checked_clear f.check) (clear_then (pushed_clear f.last) (clear_then (counted_clear f.variadic) (clear_then (saved_clear f.bank) (clear_then (early_clear f.variadic f.soft f.stacked f.moved (o.unkept e).1) (clear_then (nothing_clear (kept_code f.last) (o.unkept e).0) (clear_then (lower_clear (taken_bytes f.variadic f.soft)) (clear_then (count_clear f.variadic) (late_clear f.variadic f.moved (o.unkept e).1))))))))
 
 end_clear : (f : Framed) → nat_lt 0 f.bank ≡ false → Clear (end_code f)
 end_clear f e =

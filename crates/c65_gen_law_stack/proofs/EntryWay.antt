@@ -1,5 +1,5 @@
 -- The entry of a function.
-use Rattle.std.proofs.Common.{◌≡◌, ℕ, zero, suc, ◌+◌, ◌*◌, ◌/◌, ◌%◌, ◌==◌, ◌≤◌, inl, inr, Bool, true, false, Option, None, Some, List, [], ◌∷◌, ◌++◌, refl, sym, ap, subst, ◌∙◌, arith}
+use Rattle.std.proofs.Common.{◌≡◌, ℕ, zero, suc, ◌+◌, ◌*◌, ◌/◌, ◌%◌, ◌==◌, ◌≤◌, inl, inr, Bool, true, false, Option, None, Some, List, [], ◌∷◌, ◌++◌, length, refl, sym, ap, subst, ◌∙◌, arith}
 use Rattle.std.specs.Prelude.{if◌then◌else◌, nat_lt, IsTrue}
 use Rattle.std.proofs.lemmas.Bool.{eqb-true}
 use Rattle.c65_mach.specs.State.{Regs}
@@ -23,7 +23,7 @@ use Rattle.c65_genwide.specs.Lines.{value, call}
 use Rattle.c65_genwide.specs.Passing.{three_code}
 use Rattle.c65_genentry.specs.Words.{sp, sreg, tmp2, tmp3, tmp4, regbank, implied, zero_page, by_y}
 use Rattle.c65_genentry.specs.Stack.{count_of, lower_by, small_lower, repeated, lower_code}
-use Rattle.c65_genentry.specs.Entry.{pushed_code, bank_store, kept_code, saved_code, counted_code, count_code, near_load, far_load, load_code, moved_code, all_moved, taken_bytes, checked_code, taking_code, entry_code}
+use Rattle.c65_genentry.specs.Entry.{pushed_code, bank_store, kept_code, saved_code, counted_code, count_code, near_load, far_load, load_code, moved_code, all_moved, counted_at, counted_store, counted_move, all_counted, raised_moves, early_moves, late_moves, taken_bytes, checked_code, taking_code, entry_code}
 use Rattle.c65_gen_law_stack.specs.Passing.{Passes}
 use Rattle.c65_gen_law_stack.specs.Calls.{pushed_bytes, entry_bytes, IsEntered}
 use Rattle.c65_gen_law_stack.proofs.Steps.{write_other, bytes_same, Sinks, Quiet, sinks_same, sinks_then, quiet_same, quiet_then, pushes_a, pushes_ax, pushes_eax, saves, lowers, lowers_y, bank_kept}
@@ -273,6 +273,92 @@ moved_way (m ∷ ms) s p q t u h =
     let two = halves s (load_code m.from m.bytes) (bank_store m.bank m.bytes) p rest.0 t rest.1 rest.2 in
     sinks_then (sinks_then (load_way (nat_lt m.from 255) m.from m.bytes s p two.0 t two.1 two.2) (bank_way s m.bank m.bytes two.0 rest.0 two.1 rest.1 two.3)) (moved_way ms s rest.0 q rest.1 u rest.3)
 
+moved_none : (s : Setting) (ms : List Moved) (p q : Place) (t u : State) → ms ≡ [] → Passes s (all_moved ms) p t q u → u ≡ t
+moved_none s [] p q t u e h = h.1
+moved_none s (m ∷ ms) p q t u e h = absurd cc
+
+-- behind the frame's lines only where the function is not variadic
+late_way : (v : Bool) (ms : List Moved) (s : Setting) (p q : Place) (t u : State) → Passes s (if v then [] else all_moved ms) p t q u → Sinks 0 t u
+late_way true ms s p q t u h = same_sinks t u h.1
+late_way false ms s p q t u h = moved_way ms s p q t u h
+
+late_none : (v : Bool) (s : Setting) (ms : List Moved) (p q : Place) (t u : State) → ms ≡ [] → Passes s (if v then [] else all_moved ms) p t q u → u ≡ t
+late_none true s ms p q t u e h = h.1
+late_none false s ms p q t u e h = moved_none s ms p q t u e h
+
+-- ---- parameters of a variadic function that move to regbank, where X holds the number of bytes that the call pushed
+
+record Held (t u : State) : Type 0 where
+  sinks : Sinks 0 t u
+  x : u.regs.x ≡ t.regs.x
+
+held_then : {t u v : State} → Held t u → Held u v → Held t v
+held_then a b = record { sinks = sinks_then a.sinks b.sinks; x = b.x ∙ a.x }
+
+sta_held : (s : Setting) (i : ℕ) (p q : Place) (t u : State) → Passes s (zero_page Sta i ∷ []) p t q u → Held t u
+sta_held s i p q t u h =
+    let one = single s (zero_page Sta i) p q t u h in
+    record { sinks = sta_way s i p q t u h; x = ap (λ (z : State). z.regs.x) one.1.goes.1 }
+
+abbrev next_byte : List Line
+next_byte = implied Iny ∷ by_y Lda sp ∷ []
+
+next_held : (s : Setting) (p q : Place) (t u : State) → Passes s next_byte p t q u → Held t u
+next_held s p q t u h =
+    let e = simple_way s next_byte p q t u refl h in
+    record { sinks = (registers_only t u _ e).sinks; x = ap (λ (z : State). z.regs.x) e }
+
+counted_store_way : (s : Setting) (bank bytes : ℕ) (p q : Place) (t u : State) → Passes s (counted_store bank bytes) p t q u → Held t u
+counted_store_way s bank bytes p q t u h = by (nat_lt bytes 2) h
+  where
+    by : (b : Bool) → Passes s (if b then zero_page Sta ((regbank + bank) % 256) ∷ [] else zero_page Sta ((regbank + bank) % 256) ∷ implied Iny ∷ by_y Lda sp ∷ zero_page Sta (((regbank + bank) % 256 + 1) % 256) ∷ []) p t q u → Held t u
+    by true h = sta_held s ((regbank + bank) % 256) p q t u h
+    by false h =
+        let two = halves s (zero_page Sta ((regbank + bank) % 256) ∷ []) (implied Iny ∷ by_y Lda sp ∷ zero_page Sta (((regbank + bank) % 256 + 1) % 256) ∷ []) p q t u h in
+        let three = halves s next_byte (zero_page Sta (((regbank + bank) % 256 + 1) % 256) ∷ []) two.0 q two.1 u two.3 in
+        held_then (sta_held s ((regbank + bank) % 256) p two.0 t two.1 two.2) (held_then (next_held s two.0 three.0 two.1 three.1 three.2) (sta_held s (((regbank + bank) % 256 + 1) % 256) three.0 q three.1 u three.3))
+
+abbrev found_byte : ℕ → List Line
+found_byte at = implied Txa ∷ implied Clc ∷ value Adc at ∷ implied Tay ∷ by_y Lda sp ∷ []
+
+counted_move_way : (s : Setting) (soft stacked : ℕ) (m : Moved) (p q : Place) (t u : State) → Passes s (counted_move soft stacked m) p t q u → Held t u
+counted_move_way s soft stacked m p q t u h =
+    let two = halves s (found_byte (counted_at soft stacked m.from)) (counted_store m.bank m.bytes) p q t u h in
+    let e = simple_way s (found_byte (counted_at soft stacked m.from)) p two.0 t two.1 refl two.2 in
+    held_then (record { sinks = (registers_only t two.1 _ e).sinks; x = ap (λ (z : State). z.regs.x) e }) (counted_store_way s m.bank m.bytes two.0 q two.1 u two.3)
+
+all_counted_way : (s : Setting) (soft stacked : ℕ) (ms : List Moved) (p q : Place) (t u : State) → Passes s (all_counted soft stacked ms) p t q u → Held t u
+all_counted_way s soft stacked [] p q t u h = record { sinks = same_sinks t u h.1; x = ap (λ (z : State). z.regs.x) h.1 }
+all_counted_way s soft stacked (m ∷ ms) p q t u h =
+    let two = halves s (counted_move soft stacked m) (all_counted soft stacked ms) p q t u h in
+    held_then (counted_move_way s soft stacked m p two.0 t two.1 two.2) (all_counted_way s soft stacked ms two.0 q two.1 u two.3)
+
+-- A is as before
+raised_way : (s : Setting) (soft stacked : ℕ) (ms : List Moved) (p q : Place) (t u : State) → Passes s (raised_moves soft stacked ms) p t q u → Sinks 0 t u × (u.regs.a ≡ t.regs.a)
+raised_way s soft stacked ms p q t u h = by (length ms == 0) h
+  where
+    by : (b : Bool) → Passes s (if b then [] else implied Tax ∷ (all_counted soft stacked ms ++ implied Txa ∷ [])) p t q u → Sinks 0 t u × (u.regs.a ≡ t.regs.a)
+    by true h = (same_sinks t u h.1, ap (λ (z : State). z.regs.a) h.1)
+    by false h =
+        let two = halves s (implied Tax ∷ []) (all_counted soft stacked ms ++ implied Txa ∷ []) p q t u h in
+        let three = halves s (all_counted soft stacked ms) (implied Txa ∷ []) two.0 q two.1 u two.3 in
+        let to = simple_way s (implied Tax ∷ []) p two.0 t two.1 refl two.2 in
+        let held = all_counted_way s soft stacked ms two.0 three.0 two.1 three.1 three.2 in
+        let back = simple_way s (implied Txa ∷ []) three.0 q three.1 u refl three.3 in
+        (sinks_then (registers_only t two.1 _ to).sinks (sinks_then held.sinks (registers_only three.1 u _ back).sinks), ap (λ (z : State). z.regs.a) back ∙ (held.x ∙ ap (λ (z : State). z.regs.x) to))
+
+early_way : (v : Bool) (s : Setting) (soft stacked : ℕ) (ms : List Moved) (p q : Place) (t u : State) → Passes s (if v then raised_moves soft stacked ms else []) p t q u → Sinks 0 t u × (u.regs.a ≡ t.regs.a)
+early_way true s soft stacked ms p q t u h = raised_way s soft stacked ms p q t u h
+early_way false s soft stacked ms p q t u h = (same_sinks t u h.1, ap (λ (z : State). z.regs.a) h.1)
+
+raised_none : (s : Setting) (soft stacked : ℕ) (ms : List Moved) (p q : Place) (t u : State) → ms ≡ [] → Passes s (raised_moves soft stacked ms) p t q u → u ≡ t
+raised_none s soft stacked [] p q t u e h = h.1
+raised_none s soft stacked (m ∷ ms) p q t u e h = absurd cc
+
+early_none : (v : Bool) (s : Setting) (soft stacked : ℕ) (ms : List Moved) (p q : Place) (t u : State) → ms ≡ [] → Passes s (if v then raised_moves soft stacked ms else []) p t q u → u ≡ t
+early_none true s soft stacked ms p q t u e h = raised_none s soft stacked ms p q t u e h
+early_none false s soft stacked ms p q t u e h = h.1
+
 -- ---- the whole entry
 
 -- what a frame keeps of what its entry does
@@ -292,10 +378,6 @@ no_way : (s : Setting) (lines : List Line) (p q : Place) (t u : State) → lines
 no_way s [] p q t u e h = h.1
 no_way s (line ∷ lines) p q t u e h = absurd cc
 
-moved_none : (s : Setting) (ms : List Moved) (p q : Place) (t u : State) → ms ≡ [] → Passes s (all_moved ms) p t q u → u ≡ t
-moved_none s [] p q t u e h = h.1
-moved_none s (m ∷ ms) p q t u e h = absurd cc
-
 no_push : (a : Arrival) (s : Setting) (p q : Place) (t u : State) → a ≡ Passed → Passes s (pushed_code a) p t q u → u ≡ t
 no_push Passed s p q t u e h = h.1
 no_push (Pushed bytes) s p q t u e h = absurd cc
@@ -307,51 +389,54 @@ no_keep (Pushed bytes) s p q t u e h = absurd cc
 no_keep (Kept bank bytes) s p q t u e h = absurd cc
 
 -- the states between the pieces of an entry
-record Entry (f : Framed) (t0 t1 t2 t3 t4 t5 t6 t7 : State) : Type 0 where
+record Entry (f : Framed) (t0 t1 t2 t3 te t4 t5 t6 t7 : State) : Type 0 where
   push : Lowers (pushed_bytes f.last) t0 t1
   count : Registers t1 t2
   counted : IsTrue f.variadic → t2.regs.a ≡ t1.regs.y
   save : Quiet (saved_bytes f.bank) t2 t3
   saved : nat_lt 0 f.bank ≡ true → bytes_at 6 (sp_of t3) t3.mem ≡ bank_of t2
-  keep : Sinks 0 t3 t4
+  early : Sinks 0 t3 te
+  held : te.regs.a ≡ t3.regs.a
+  keep : Sinks 0 te t4
   lower : Quiet (taken_bytes f.variadic f.soft) t4 t5
   counts : Counts f.variadic t5 t6
   move : Sinks 0 t6 t7
   -- nothing in between
   unpushed : IsTrue f.variadic → t1 ≡ t0
-  unkept : IsTrue f.variadic → t4 ≡ t3
-  unstored : nat_lt 0 f.bank ≡ false → t4 ≡ t3
+  unkept : IsTrue f.variadic → t4 ≡ te
+  unraised : nat_lt 0 f.bank ≡ false → te ≡ t3
+  unstored : nat_lt 0 f.bank ≡ false → t4 ≡ te
   unmoved : nat_lt 0 f.bank ≡ false → t7 ≡ t6
 
-below_all : (f : Framed) {t0 t1 t2 t3 t4 t5 t6 t7 : State} → IsOrderly f → Entry f t0 t1 t2 t3 t4 t5 t6 t7 → Sinks (entry_bytes f) t0 t7
+below_all : (f : Framed) {t0 t1 t2 t3 te t4 t5 t6 t7 : State} → IsOrderly f → Entry f t0 t1 t2 t3 te t4 t5 t6 t7 → Sinks (entry_bytes f) t0 t7
 below_all f {t0 = t0} {t7 = t7} o e =
-    let sum : pushed_bytes f.last + (0 + (saved_bytes f.bank + (0 + (taken_bytes f.variadic f.soft + ((if f.variadic then 1 else 0) + 0))))) ≡ entry_bytes f = omega (arith, taken_sum f.variadic f.soft o.counted) in
-    subst (λ (n : ℕ). Sinks n t0 t7) sum (sinks_then e.push.sinks (sinks_then e.count.sinks (sinks_then e.save.sinks (sinks_then e.keep (sinks_then e.lower.sinks (sinks_then e.counts.quiet.sinks e.move))))))
+    let sum : pushed_bytes f.last + (0 + (saved_bytes f.bank + (0 + (0 + (taken_bytes f.variadic f.soft + ((if f.variadic then 1 else 0) + 0)))))) ≡ entry_bytes f = omega (arith, taken_sum f.variadic f.soft o.counted) in
+    subst (λ (n : ℕ). Sinks n t0 t7) sum (sinks_then e.push.sinks (sinks_then e.count.sinks (sinks_then e.save.sinks (sinks_then e.early (sinks_then e.keep (sinks_then e.lower.sinks (sinks_then e.counts.quiet.sinks e.move)))))))
 
 -- from where regbank is saved on
-below_saved : (f : Framed) {t0 t1 t2 t3 t4 t5 t6 t7 : State} → IsOrderly f → Entry f t0 t1 t2 t3 t4 t5 t6 t7 → Sinks f.soft t3 t7
+below_saved : (f : Framed) {t0 t1 t2 t3 te t4 t5 t6 t7 : State} → IsOrderly f → Entry f t0 t1 t2 t3 te t4 t5 t6 t7 → Sinks f.soft t3 t7
 below_saved f {t3 = t3} {t7 = t7} o e =
-    let sum : 0 + (taken_bytes f.variadic f.soft + ((if f.variadic then 1 else 0) + 0)) ≡ f.soft = omega (arith, taken_sum f.variadic f.soft o.counted) in
-    subst (λ (n : ℕ). Sinks n t3 t7) sum (sinks_then e.keep (sinks_then e.lower.sinks (sinks_then e.counts.quiet.sinks e.move)))
+    let sum : 0 + (0 + (taken_bytes f.variadic f.soft + ((if f.variadic then 1 else 0) + 0))) ≡ f.soft = omega (arith, taken_sum f.variadic f.soft o.counted) in
+    subst (λ (n : ℕ). Sinks n t3 t7) sum (sinks_then e.early (sinks_then e.keep (sinks_then e.lower.sinks (sinks_then e.counts.quiet.sinks e.move))))
 
-entry_bank : (f : Framed) (b : Bool) {t0 t1 t2 t3 t4 t5 t6 t7 : State} → nat_lt 0 f.bank ≡ b → IsOrderly f → Entry f t0 t1 t2 t3 t4 t5 t6 t7
+entry_bank : (f : Framed) (b : Bool) {t0 t1 t2 t3 te t4 t5 t6 t7 : State} → nat_lt 0 f.bank ≡ b → IsOrderly f → Entry f t0 t1 t2 t3 te t4 t5 t6 t7
     → (if b then bytes_at 6 (sp_of t7 + f.soft) t7.mem else bank_of t7) ≡ bank_of t0
 entry_bank f true {t0 = t0} {t2 = t2} {t3 = t3} {t7 = t7} h o e =
     let below : Sinks f.soft t3 t7 = below_saved f o e in
     let there : bytes_at 6 (sp_of t7 + f.soft) t7.mem ≡ bytes_at 6 (sp_of t3) t7.mem = ap (λ (n : ℕ). bytes_at 6 n t7.mem) below.sp in
     there ∙ (bytes_same 6 (sp_of t3) t3.mem t7.mem below.mem ∙ (e.saved h ∙ (e.count.bank ∙ e.push.bank)))
 entry_bank f false {t3 = t3} {t4 = t4} {t6 = t6} {t7 = t7} h o e =
-    ap bank_of (e.unmoved h) ∙ (e.counts.quiet.bank ∙ (e.lower.bank ∙ (ap bank_of (e.unstored h) ∙ (e.save.bank ∙ (e.count.bank ∙ e.push.bank)))))
+    ap bank_of (e.unmoved h) ∙ (e.counts.quiet.bank ∙ (e.lower.bank ∙ (ap bank_of (e.unstored h) ∙ (ap bank_of (e.unraised h) ∙ (e.save.bank ∙ (e.count.bank ∙ e.push.bank))))))
 
-entry_count : (f : Framed) (v : Bool) {t0 t1 t2 t3 t4 t5 t6 t7 : State} → f.variadic ≡ v → Entry f t0 t1 t2 t3 t4 t5 t6 t7
+entry_count : (f : Framed) (v : Bool) {t0 t1 t2 t3 te t4 t5 t6 t7 : State} → f.variadic ≡ v → Entry f t0 t1 t2 t3 te t4 t5 t6 t7
     → (if v then t7.mem (sp_of t7) else f.stacked) ≡ (if v then t0.regs.y else f.stacked)
 entry_count f true {t0 = t0} {t1 = t1} {t3 = t3} {t4 = t4} {t5 = t5} {t6 = t6} {t7 = t7} h e =
     let same : sp_of t7 ≡ sp_of t6 = omega (arith, e.move.sp) in
     let there : t7.mem (sp_of t7) ≡ t6.mem (sp_of t6) = ap (λ (b : ℕ). t7.mem b) same ∙ e.move.mem (sp_of t6) (omega arith) in
-    there ∙ (e.counts.there h ∙ (e.lower.a ∙ (ap (λ (x : State). x.regs.a) (e.unkept h) ∙ (e.save.a ∙ (e.counted h ∙ ap (λ (x : State). x.regs.y) (e.unpushed h))))))
+    there ∙ (e.counts.there h ∙ (e.lower.a ∙ (ap (λ (x : State). x.regs.a) (e.unkept h) ∙ (e.held ∙ (e.save.a ∙ (e.counted h ∙ ap (λ (x : State). x.regs.y) (e.unpushed h)))))))
 entry_count f false h e = refl
 
-entered_by : (f : Framed) {t0 t1 t2 t3 t4 t5 t6 t7 : State} → IsOrderly f → Entry f t0 t1 t2 t3 t4 t5 t6 t7 → IsEntered f t0 t7
+entered_by : (f : Framed) {t0 t1 t2 t3 te t4 t5 t6 t7 : State} → IsOrderly f → Entry f t0 t1 t2 t3 te t4 t5 t6 t7 → IsEntered f t0 t7
 entered_by f {t0 = t0} {t7 = t7} o e =
     let all : Sinks (entry_bytes f) t0 t7 = below_all f o e in
     record {
@@ -365,28 +450,38 @@ entered_by f {t0 = t0} {t7 = t7} o e =
 
 taken_in : (f : Framed) (s : Setting) (p q : Place) (t u : State) → IsOrderly f → Passes s (taking_code f) p t q u → IsEntered f t u
 taken_in f s p q t u o h =
-    let h1 = halves s (pushed_code f.last) (counted_code f.variadic ++ (saved_code f.bank ++ (kept_code f.last ++ (lower_code (taken_bytes f.variadic f.soft) ++ (count_code f.variadic ++ all_moved f.moved))))) p q t u h in
-    let h2 = halves s (counted_code f.variadic) (saved_code f.bank ++ (kept_code f.last ++ (lower_code (taken_bytes f.variadic f.soft) ++ (count_code f.variadic ++ all_moved f.moved)))) h1.0 q h1.1 u h1.3 in
-    let h3 = halves s (saved_code f.bank) (kept_code f.last ++ (lower_code (taken_bytes f.variadic f.soft) ++ (count_code f.variadic ++ all_moved f.moved))) h2.0 q h2.1 u h2.3 in
-    let h4 = halves s (kept_code f.last) (lower_code (taken_bytes f.variadic f.soft) ++ (count_code f.variadic ++ all_moved f.moved)) h3.0 q h3.1 u h3.3 in
-    let h5 = halves s (lower_code (taken_bytes f.variadic f.soft)) (count_code f.variadic ++ all_moved f.moved) h4.0 q h4.1 u h4.3 in
-    let h6 = halves s (count_code f.variadic) (all_moved f.moved) h5.0 q h5.1 u h5.3 in
+    let behind5 = count_code f.variadic ++ late_moves f in
+    let behind4 = lower_code (taken_bytes f.variadic f.soft) ++ behind5 in
+    let behind3 = kept_code f.last ++ behind4 in
+    let behind2 = early_moves f ++ behind3 in
+    let behind1 = saved_code f.bank ++ behind2 in
+    let h1 = halves s (pushed_code f.last) (counted_code f.variadic ++ behind1) p q t u h in
+    let h2 = halves s (counted_code f.variadic) behind1 h1.0 q h1.1 u h1.3 in
+    let h3 = halves s (saved_code f.bank) behind2 h2.0 q h2.1 u h2.3 in
+    let he = halves s (early_moves f) behind3 h3.0 q h3.1 u h3.3 in
+    let h4 = halves s (kept_code f.last) behind4 he.0 q he.1 u he.3 in
+    let h5 = halves s (lower_code (taken_bytes f.variadic f.soft)) behind5 h4.0 q h4.1 u h4.3 in
+    let h6 = halves s (count_code f.variadic) (late_moves f) h5.0 q h5.1 u h5.3 in
+    let raised = early_way f.variadic s f.soft f.stacked f.moved h3.0 he.0 h3.1 he.1 he.2 in
     let second = counted_way f.variadic s h1.0 h2.0 h1.1 h2.1 h2.2 in
     let third = saved_way f.bank (nat_lt 0 f.bank) s h2.0 h3.0 h2.1 h3.1 refl h3.2 in
-    let e : Entry f t h1.1 h2.1 h3.1 h4.1 h5.1 h6.1 u = record {
+    let e : Entry f t h1.1 h2.1 h3.1 he.1 h4.1 h5.1 h6.1 u = record {
       push = pushed_way f.last s p h1.0 t h1.1 h1.2;
       count = second.0;
       counted = second.1;
       save = third.0;
       saved = third.1;
-      keep = kept_way f.last s h3.0 h4.0 h3.1 h4.1 h4.2;
+      early = raised.0;
+      held = raised.1;
+      keep = kept_way f.last s he.0 h4.0 he.1 h4.1 h4.2;
       lower = lower_way (taken_bytes f.variadic f.soft) s h4.0 h5.0 h4.1 h5.1 h5.2;
       counts = count_way f.variadic s h5.0 h6.0 h5.1 h6.1 h6.2;
-      move = moved_way f.moved s h6.0 q h6.1 u h6.3;
+      move = late_way f.variadic f.moved s h6.0 q h6.1 u h6.3;
       unpushed = λ v. no_push f.last s p h1.0 t h1.1 (o.passed v) h1.2;
-      unkept = λ v. no_keep f.last s h3.0 h4.0 h3.1 h4.1 (o.passed v) h4.2;
-      unstored = λ b. no_way s (kept_code f.last) h3.0 h4.0 h3.1 h4.1 (o.unkept b).0 h4.2;
-      unmoved = λ b. moved_none s f.moved h6.0 q h6.1 u (o.unkept b).1 h6.3;
+      unkept = λ v. no_keep f.last s he.0 h4.0 he.1 h4.1 (o.passed v) h4.2;
+      unraised = λ b. early_none f.variadic s f.soft f.stacked f.moved h3.0 he.0 h3.1 he.1 (o.unkept b).1 he.2;
+      unstored = λ b. no_way s (kept_code f.last) he.0 h4.0 he.1 h4.1 (o.unkept b).0 h4.2;
+      unmoved = λ b. late_none f.variadic s f.moved h6.0 q h6.1 u (o.unkept b).1 h6.3;
     } in
     entered_by f o e
 
