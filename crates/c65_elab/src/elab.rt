@@ -16,14 +16,12 @@ use crate::blocks::{leave, object_count};
 use crate::constants::{value_at, value_of};
 use crate::lists::{is_first, is_single, is_sole};
 use crate::names::{declare_first, literal, named, typedef_type};
-use crate::operators::{assigning, on_place, spilled};
-use crate::places::firsts;
+use crate::operators::{assigning, called, on_place};
 use c65_base::{Code, Name, Refusal};
 use c65_csem::{TExpr, TKind, int_type};
 use c65_ctype::{Field, QType};
 use c65_elab_convert::{
-    binary, both, call, cast, choice, comma, either, index, member, size_of_expr, size_of_type,
-    step,
+    binary, both, cast, choice, comma, either, index, member, size_of_expr, size_of_type, step,
 };
 use c65_elab_declare::{
     Draft, Formal, Formals, Keyword, Part, array_count, begin_enumeration, begun_tag,
@@ -58,12 +56,10 @@ pub fn expression(alloc: Global, scope: &mut Scope, expr: &Expr) -> Result<TExpr
             index(alloc, scope.types(), pos, a, b)
         }
         ExprKind::Call(f, arguments) => {
-            let firsts = firsts(alloc, arguments)?;
             declare_first(scope, f)?;
             let f = expression(alloc, scope, f)?;
-            let arguments = expressions(alloc, scope, arguments)?;
-            let e = call(alloc, scope.types(), pos, &firsts, f, arguments)?;
-            spilled(alloc, scope, e)
+            let given = expressions(alloc, scope, arguments)?;
+            called(alloc, scope, pos, arguments, f, given)
         }
         ExprKind::Member(e, arrow, name) => {
             let e = expression(alloc, scope, e)?;

@@ -1,16 +1,22 @@
 // Operators that ask the scope, or that are several in one construct.
 ghost use Rattle.std.specs.Prelude.{◌≡◌};
-ghost use Rattle.c65_base.specs.Answers.{Gives};
+ghost use Rattle.c65_base.specs.Answers.{Gives, ◌>>=◌};
 ghost use Rattle.c65_ctype.specs.Views.{types_of};
-ghost use Rattle.c65_csem.specs.Views.{typed_of};
+ghost use Rattle.c65_csem.specs.Views.{typed_of, nodes_of};
+ghost use Rattle.c65_elab_convert.specs.Calls.{call_of};
+ghost use Rattle.c65_elab.specs.Places.{firsts_of};
+ghost use Rattle.c65_tree.specs.Trees.{no_exprs};
+ghost use Rattle.c65_tree.specs.View.{exprs_from};
 ghost use Rattle.c65_elab_scope.specs.Scopes.{scope_of};
 ghost use Rattle.c65_elab.specs.Operators.{is_register_class, is_register, on_place, assigning, spilled};
 
+use crate::places::firsts;
 use c65_base::{BinaryOp, Pos, Refusal, UnaryOp, boxed_beside};
 use c65_csem::{Class, TExpr, TKind, is_tag};
 use c65_ctype::Types;
-use c65_elab_convert::{assign, assign_op, beside, unary};
+use c65_elab_convert::{assign, assign_op, beside, call, unary};
 use c65_elab_scope::Scope;
+use c65_tree::Expr;
 use std::alloc::Global;
 
 fn is_register_class(class: Class) -> bool
@@ -69,7 +75,7 @@ pub fn assigning(
 
 /// What a call gives: a structure or union is stored in an object without a name (C90 6.3.2.2). It
 /// refuses for memory alone.
-pub fn spilled(alloc: Global, scope: &mut Scope, e: TExpr) -> Result<TExpr, Refusal>
+fn spilled(alloc: Global, scope: &mut Scope, e: TExpr) -> Result<TExpr, Refusal>
     ensures { Gives (λ x. (typed_of x, scope_of scope.new)) result (spilled (scope_of scope.old) (typed_of e)) }
 {
     if !is_tag(&e.ty.ty) {
@@ -81,4 +87,20 @@ pub fn spilled(alloc: Global, scope: &mut Scope, e: TExpr) -> Result<TExpr, Refu
     let (e, ty) = boxed_beside(alloc, e, ty)?;
     let kind = TKind::Spill(number, e);
     Ok(TExpr { ty, kind })
+}
+
+/// A call of what is typed already, whose arguments are these expressions (C90 6.3.2.2).
+pub fn called(
+    alloc: Global,
+    scope: &mut Scope,
+    pos: Pos,
+    list: &[Expr],
+    f: TExpr,
+    arguments: Vec<TExpr>,
+) -> Result<TExpr, Refusal>
+    ensures { Gives (λ e. (typed_of e, scope_of scope.new)) result (call_of (scope_of scope.old).unit.types pos (firsts_of (exprs_from no_exprs list.now)) (typed_of f) (nodes_of arguments.items) >>= (λ y. spilled (scope_of scope.old) y)) }
+{
+    let (firsts, (f, arguments)) = beside(firsts(alloc, list), (f, arguments))?;
+    let e = call(alloc, scope.types(), pos, &firsts, f, arguments)?;
+    spilled(alloc, scope, e)
 }

@@ -105,20 +105,14 @@ prototype-returns-in_err-bytes t c =
 pub prototype-returns : goal.prototype-returns
 prototype-returns t c = whole (params_walk c.args.sole (scope_of c.args.scope.now)) c.args.params.now c.loop-param.param-index ((map formal_of c.loop-param.formals.items, c.loop-param.bytes), scope_of c.loop-param.scope) c.loop-param-test.false c.loop-param.invariant.walk
 
-pub expression-returns-in_err-arguments-in-Call : goal.expression-returns-in_err-arguments-in-Call
-expression-returns-in_err-arguments-in-Call t c =
+pub expression-returns-in_err-given-in-Call : goal.expression-returns-in_err-given-in-Call
+expression-returns-in_err-given-in-Call t c =
     let all = ap (λ (y : ExprKind). typed (expr_at c.args.expr.now.pos y) (scope_of c.args.scope.now)) c.in-Call.is ∙ call_is c.args.expr.now.pos c.in-Call.f c.in-Call.arguments (scope_of c.args.scope.now) in
-    let fault = subst (Fails c.in_err-arguments-in-Call.field-0.0) (sym all) (first_of (search rules, search (rules, fails_bind), grind (arith, common_steps), grind (arith, common_steps, fails_bind))) in
+    let fault = subst (Fails c.in_err-given-in-Call.field-0.0) (sym all) (first_of (search rules, search (rules, fails_bind), grind (arith, common_steps), grind (arith, common_steps, fails_bind))) in
     first_of (search (rules, fault), grind (arith, common_steps, fault))
 
-pub expression-returns-in_err-e-in-Call : goal.expression-returns-in_err-e-in-Call
-expression-returns-in_err-e-in-Call t c =
-    let all = ap (λ (y : ExprKind). typed (expr_at c.args.expr.now.pos y) (scope_of c.args.scope.now)) c.in-Call.is ∙ call_is c.args.expr.now.pos c.in-Call.f c.in-Call.arguments (scope_of c.args.scope.now) in
-    let fault = subst (Fails c.in_err-e-in-Call.field-0.0) (sym all) (first_of (search rules, search (rules, fails_bind), grind (arith, common_steps), grind (arith, common_steps, fails_bind))) in
-    first_of (search (rules, fault), grind (arith, common_steps, fault))
-
-pub expression-returns-in_ok-e-in-Call : goal.expression-returns-in_ok-e-in-Call
-expression-returns-in_ok-e-in-Call t c =
+pub expression-returns-in_ok-given-in-Call : goal.expression-returns-in_ok-given-in-Call
+expression-returns-in_ok-given-in-Call t c =
     let all = ap (λ (y : ExprKind). typed (expr_at c.args.expr.now.pos y) (scope_of c.args.scope.now)) c.in-Call.is ∙ call_is c.args.expr.now.pos c.in-Call.f c.in-Call.arguments (scope_of c.args.scope.now) in
     rw all (first_of (search rules, grind (arith, common_steps)))
 
