@@ -147,19 +147,19 @@ small_limit true n other h few = absurd (let low : nat_lt 65535 n ≡ false = le
 small_limit false n other h few = refl
 
 small_layout : (o : Option LayoutTy) (other : ℕ) → 1 ≤ size_in o → size_in o ≤ 4 → unwrap_or (option_and_then (λ l. sizing.limited l.size) o) other ≡ size_in o
-small_layout None other some few = absurd (omega (arith, some))
-small_layout (Some l) other some few = small_limit (nat_lt 65535 l.size) l.size other refl few
+small_layout None other least few = absurd (omega (arith, least))
+small_layout (Some l) other least few = small_limit (nat_lt 65535 l.size) l.size other refl few
 
 clamped_small : (n : ℕ) → 1 ≤ n → n ≤ 4 → clamped n ≡ n
-clamped_small zero some few = absurd (omega (arith, some))
-clamped_small (suc zero) some few = refl
-clamped_small (suc (suc zero)) some few = refl
-clamped_small (suc (suc (suc zero))) some few = refl
-clamped_small (suc (suc (suc (suc zero)))) some few = refl
-clamped_small (suc (suc (suc (suc (suc n))))) some few = absurd (omega (arith, few))
+clamped_small zero least few = absurd (omega (arith, least))
+clamped_small (suc zero) least few = refl
+clamped_small (suc (suc zero)) least few = refl
+clamped_small (suc (suc (suc zero))) least few = refl
+clamped_small (suc (suc (suc (suc zero)))) least few = refl
+clamped_small (suc (suc (suc (suc (suc n))))) least few = absurd (omega (arith, few))
 
 record Small (types : TypesTy) (t : Ty) : Type 0 where
-  some : 1 ≤ ctype.size_of types t
+  least : 1 ≤ ctype.size_of types t
   few : ctype.size_of types t ≤ 4
   bytes : (other : ℕ) → sizing.bytes_or types t other ≡ ctype.size_of types t
 
@@ -167,14 +167,14 @@ small_bounds : (n : ℕ) → (nat_le 1 n && nat_le n 4) ≡ true → (1 ≤ n) �
 small_bounds n h = let parts = and_parts (nat_le 1 n) (nat_le n 4) h in (leb-true 1 n parts.0, leb-true n 4 parts.1)
 
 small_tag : (types : TypesTy) (m n : ℕ) → 1 ≤ ctype.size_of types (tag n) → ctype.size_of types (tag n) ≤ 4 → ctype.size_of types (tag m) ≡ ctype.size_of types (tag n) → Small types (tag m)
-small_tag types m n some few same = record {
-  some = omega (arith, some, same);
+small_tag types m n least few same = record {
+  least = omega (arith, least, same);
   few = omega (arith, few, same);
-  bytes = λ other. small_layout (layout_at types m) other (omega (arith, some, same)) (omega (arith, few, same));
+  bytes = λ other. small_layout (layout_at types m) other (omega (arith, least, same)) (omega (arith, few, same));
 }
 
 packed_size : (f : Framed) (q : QTy) (e : Typed) → Small (types_of f.parts.types) (type_in q) → passed_size f (node q (pack e)) ≡ ctype.size_of (types_of f.parts.types) (type_in q)
-packed_size f q e s = ap clamped (s.bytes 0) ∙ clamped_small (ctype.size_of (types_of f.parts.types) (type_in q)) s.some s.few
+packed_size f q e s = ap clamped (s.bytes 0) ∙ clamped_small (ctype.size_of (types_of f.parts.types) (type_in q)) s.least s.few
 
 tag_size : (types : TypesTy) (p : Bool) (m : ℕ) → ctype.size_of types (passed_type p (tag m)) ≡ ctype.size_of types (tag m)
 tag_size types true m = refl
@@ -298,18 +298,18 @@ slots_are parts p (i ∷ is) total h =
 -- ---- frames
 
 pushed_size : (n : ℕ) → 1 ≤ n → n ≤ 4 → pushed_bytes (Pushed n) ≡ n
-pushed_size zero some few = absurd (omega (arith, some))
-pushed_size (suc zero) some few = refl
-pushed_size (suc (suc zero)) some few = refl
-pushed_size (suc (suc (suc zero))) some few = refl
-pushed_size (suc (suc (suc (suc zero)))) some few = refl
-pushed_size (suc (suc (suc (suc (suc n))))) some few = absurd (omega (arith, few))
+pushed_size zero least few = absurd (omega (arith, least))
+pushed_size (suc zero) least few = refl
+pushed_size (suc (suc zero)) least few = refl
+pushed_size (suc (suc (suc zero))) least few = refl
+pushed_size (suc (suc (suc (suc zero)))) least few = refl
+pushed_size (suc (suc (suc (suc (suc n))))) least few = absurd (omega (arith, few))
 
 arrived_at : (parts : Parts) (p : Bool) (i total bytes : ℕ) (home : Option Home) → 1 ≤ slot parts p i → slot parts p i ≤ 4 → bytes + slot parts p i ≡ total
     → bytes + pushed_bytes (arrival_at parts p i home) ≡ bytes_without (is_kept (arrival_at parts p i home)) total (slot parts p i)
-arrived_at parts p i total bytes (Some (Bank b)) some few sum = omega (arith, sum)
-arrived_at parts p i total bytes (Some (Soft d)) some few sum = omega (arith, sum, pushed_size (slot parts p i) some few)
-arrived_at parts p i total bytes None some few sum = omega (arith, sum, pushed_size (slot parts p i) some few)
+arrived_at parts p i total bytes (Some (Bank b)) least few sum = omega (arith, sum)
+arrived_at parts p i total bytes (Some (Soft d)) least few sum = omega (arith, sum, pushed_size (slot parts p i) least few)
+arrived_at parts p i total bytes None least few sum = omega (arith, sum, pushed_size (slot parts p i) least few)
 
 arrives : (parts : Parts) (p : Bool) (low : ℕ) (homes : List (Option Home)) (o : Option ℕ) (total bytes : ℕ) → ((i : ℕ) → o ≡ Some i → (1 ≤ slot parts p i) × (slot parts p i ≤ 4)) → bytes + last_bytes parts p o ≡ total
     → bytes + pushed_bytes (arrival parts p low homes o) ≡ bytes_without (is_kept (arrival parts p low homes o)) total (last_bytes parts p o)
