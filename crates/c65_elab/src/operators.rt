@@ -1,14 +1,13 @@
 // Operators that ask the scope, or that are several in one construct.
 ghost use Rattle.std.specs.Prelude.{◌≡◌};
-ghost use Rattle.c65_base.specs.Answers.{Gives, ◌>>=◌};
+ghost use Rattle.c65_base.specs.Answers.{Gives};
 ghost use Rattle.c65_ctype.specs.Views.{types_of};
 ghost use Rattle.c65_csem.specs.Views.{typed_of, nodes_of};
-ghost use Rattle.c65_elab_convert.specs.Calls.{call_of};
 ghost use Rattle.c65_elab.specs.Places.{firsts_of};
 ghost use Rattle.c65_tree.specs.Trees.{no_exprs};
 ghost use Rattle.c65_tree.specs.View.{exprs_from};
 ghost use Rattle.c65_elab_scope.specs.Scopes.{scope_of};
-ghost use Rattle.c65_elab.specs.Operators.{is_register_class, is_register, on_place, assigning, spilled};
+ghost use Rattle.c65_elab.specs.Operators.{is_register_class, is_register, on_place, assigning, spilled, called};
 
 use crate::places::firsts;
 use c65_base::{BinaryOp, Pos, Refusal, UnaryOp, boxed_beside};
@@ -98,7 +97,7 @@ pub fn called(
     f: TExpr,
     arguments: Vec<TExpr>,
 ) -> Result<TExpr, Refusal>
-    ensures { Gives (λ e. (typed_of e, scope_of scope.new)) result (call_of (scope_of scope.old).unit.types pos (firsts_of (exprs_from no_exprs list.now)) (typed_of f) (nodes_of arguments.items) >>= (λ y. spilled (scope_of scope.old) y)) }
+    ensures { Gives (λ e. (typed_of e, scope_of scope.new)) result (called (scope_of scope.old) pos (firsts_of (exprs_from no_exprs list.now)) (typed_of f) (nodes_of arguments.items)) }
 {
     let (firsts, (f, arguments)) = beside(firsts(alloc, list), (f, arguments))?;
     let e = call(alloc, scope.types(), pos, &firsts, f, arguments)?;
