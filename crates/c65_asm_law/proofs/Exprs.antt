@@ -162,23 +162,23 @@ mutual
       well_append n (target_code place (expr_code f pushed lo e)) _ (target_well n place (expr_code f pushed lo e) (expr_well n u f pushed lo e knows h.0 few room)) (step_well n how place (access_of (types_of f.parts.types) e) (amount_of f how (bare e)) (place_well n u f pushed e knows h.0))
   node_well n u f pushed lo t (copy a b) knows h few room =
       well_append n (expr_code f pushed lo a) _ (expr_well n u f pushed lo a knows h.0 few (omega (arith, room))) (well_append n (push_code Ax) _ (push_well n Ax) (well_append n (expr_code f (more pushed 2) (lo + uses a) b) _ (expr_well n u f (more pushed 2) (lo + uses a) b knows h.1 (omega arith) (omega (arith, room))) (copy_well n (type_bytes f (type_in t)))))
-  node_well n u f pushed lo t (call g es) knows h few room = made_well n u f pushed lo t g es knows h.0 h.4 few room
+  node_well n u f pushed lo t (call g es) knows h few room =
+      call_well n f (named g) (outcome_of f (type_in t)) g es _ _ _ (λ k is. callee_known n u f g k knows h.0 is)
+      (λ none_named. expr_well n u f pushed lo g knows h.0 few (omega (arith, room, unnamed (named g) (uses g) none_named)))
+      (args_well n u f pushed lo (is_fast (bare g)) es knows h.4 few (omega (arith, room)))
+      (λ none_named. args_well n u f (more pushed 2) (lo + uses g) (is_fast (bare g)) es knows h.4 (omega arith) (omega (arith, room, unnamed (named g) (uses g) none_named)))
   node_well n u f pushed lo t (pack e) knows h few room = absurd h
   node_well n u f pushed lo t (spill i e) knows h few room =
       well_append n (expr_code f pushed lo e) _ (called_well n u f pushed lo t e knows h.0 few room) (spill_well n (object_code f pushed i) (extent_by (type_bytes f (type_in t))) (object_well n f pushed i few (knows.objects i (slice_get_within u.objects i h.1.object h.1.there))))
   node_well n u f pushed lo t further knows h few room = further_well n f pushed few
 
-  -- a call, whatever it gives
-  made_well : (n : ℕ) (u : UnitTy) (f : Framed) (pushed lo : ℕ) (t : QTy) (g : Typed) (es : Nodes) → Knows f u n → IsTyped u g → AreTyped u es → pushed < 2 ^ 16 → lo + (unless_named (named g) (uses g) + args_uses es) ≤ 2 ^ 32 → AllWell n (node_code f pushed lo t (call g es))
-  made_well n u f pushed lo t g es knows typed given few room =
-      call_well n f (named g) (outcome_of f (type_in t)) g es _ _ _ (λ k is. callee_known n u f g k knows typed is)
-      (λ none_named. expr_well n u f pushed lo g knows typed few (omega (arith, room, unnamed (named g) (uses g) none_named)))
-      (args_well n u f pushed lo (is_fast (bare g)) es knows given few (omega (arith, room)))
-      (λ none_named. args_well n u f (more pushed 2) (lo + uses g) (is_fast (bare g)) es knows given (omega arith) (omega (arith, room, unnamed (named g) (uses g) none_named)))
-
   -- one that gives a structure
   called_well : (n : ℕ) (u : UnitTy) (f : Framed) (pushed lo : ℕ) (t : QTy) (e : Typed) → Knows f u n → IsCalled u t e → pushed < 2 ^ 16 → lo + uses e ≤ 2 ^ 32 → AllWell n (expr_code f pushed lo e)
-  called_well n u f pushed lo t (node s (call g es)) knows h few room = made_well n u f pushed lo s g es knows h.2 h.5 few room
+  called_well n u f pushed lo t (node s (call g es)) knows h few room =
+      call_well n f (named g) (outcome_of f (type_in s)) g es _ _ _ (λ k is. callee_known n u f g k knows h.2 is)
+      (λ none_named. expr_well n u f pushed lo g knows h.2 few (omega (arith, room, unnamed (named g) (uses g) none_named)))
+      (args_well n u f pushed lo (is_fast (bare g)) es knows h.5 few (omega (arith, room)))
+      (λ none_named. args_well n u f (more pushed 2) (lo + uses g) (is_fast (bare g)) es knows h.5 (omega arith) (omega (arith, room, unnamed (named g) (uses g) none_named)))
   called_well n u f pushed lo t (node s _) knows h few room = absurd h
 
   -- an argument or a returned value
