@@ -19,6 +19,7 @@ use Rattle.c65_init_join.specs.Joined.{joined}
 use Rattle.c65_ppline.specs.Relations.{Answers, just, by_test, ◌then◌}
 use Rattle.c65_ppdir.specs.Units.{Held}
 use Rattle.c65_ppdir_law.specs.Once.{UnitsAreOne}
+use Rattle.c65_meaning_law_turns.specs.Turns.{TurnsGoOn}
 use Rattle.c65_driver_chain.specs.Front.{Command, IsGood, units_typed, joining, generated, compiled}
 use Rattle.c65_driver_chain.specs.Front as chain
 use Rattle.c65_driver_words.specs.Commands.{Spelled}
@@ -101,6 +102,6 @@ made_today : (spelling : Spelling) (old new : Outside) (code : Option Code) (ima
 made_today (NoCommand word) old new code image answer off s = tt
 made_today (Is command) old new code image answer off s = λ held c told e. made_by command.kind command old new code image answer (off command refl) s held c told e
 
-pub holds_today : UnitsAreOne → HeadlineHoldsToday
-holds_today units notes laws words old new code image answer bytes s =
-    holds units notes laws words old new code image answer bytes s (made_today (spelling_of words) old new code image answer (λ command e. never_rewritten words command bytes e) s)
+pub holds_today : UnitsAreOne → TurnsGoOn → HeadlineHoldsToday
+holds_today units turns notes laws words old new code image answer bytes s =
+    holds units turns notes laws words old new code image answer bytes s (made_today (spelling_of words) old new code image answer (λ command e. never_rewritten words command bytes e) s)

@@ -9,6 +9,7 @@ use Rattle.c65_code.specs.declared.code.Code.{Code}
 use Rattle.c65_ppfile.specs.Counts.{FaultCause}
 use Rattle.c65_ppdir.specs.Units.{Held}
 use Rattle.c65_ppdir_law.specs.Once.{UnitsAreOne}
+use Rattle.c65_meaning_law_turns.specs.Turns.{TurnsGoOn}
 use Rattle.c65_sim.specs.Runs.{WriteCause}
 use Rattle.c65_meaning.specs.Program.{ProgramTy}
 use Rattle.c65_driver_words.specs.Commands.{Spelled}
@@ -81,7 +82,7 @@ runs_of setup (Some j) left left' written written' answer i m e =
 
 -- ---- each command
 
-module _ (units : UnitsAreOne) (notes : Recorded) (laws : Laws notes) (command : Spelled) (old new : Outside) (code : Option Code) (image : Option Image) (answer : Result ℕ Refusal)
+module _ (units : UnitsAreOne) (turns : TurnsGoOn) (notes : Recorded) (laws : Laws notes) (command : Spelled) (old new : Outside) (code : Option Code) (image : Option Image) (answer : Result ℕ Refusal)
     (held : Held) (p : ProgramTy) (told : old.files.contents ≡ Some held) (front : IsFront held command p) (made : (c : Code) → code ≡ Some c → IsMadeOf held command c) where
   means : IsLinked command.options.cpu code image answer → IsOfSources command old.files.contents code answer → CauseIn units notes laws held command old new answer → Means notes command p old new code image answer
   means linked sources cause = record {
@@ -94,7 +95,7 @@ module _ (units : UnitsAreOne) (notes : Recorded) (laws : Laws notes) (command :
       let m : Means notes command p old new code image answer = means g.from_code g.from_files (read_cause units notes laws held command old new answer g.read) in
       record {
         means = m;
-        runs = λ i input e left given. runs_well notes p i (m.agrees i e) (setup_of true command) (counted command.cycles spelled.cycles) input spelled.args given old new left rows_take_seven laws.turns answer
+        runs = λ i input e left given. runs_well notes p i (m.agrees i e) (setup_of true command) (counted command.cycles spelled.cycles) input spelled.args given old new left rows_take_seven turns answer
             (runs_of (setup_of true command) image old.left new.left old.written new.written answer i g.made e) g.read g.write;
       }
 
@@ -116,12 +117,12 @@ module _ (units : UnitsAreOne) (notes : Recorded) (laws : Laws notes) (command :
   performs kinds.Text spelled s = texts s
   performs kinds.Run spelled s = tt
 
-by_spelling : UnitsAreOne → (notes : Recorded) → Laws notes → (words : List (List ℕ)) → All AreBytes words → (spelling : Spelling) → spelling_of words ≡ spelling
+by_spelling : UnitsAreOne → TurnsGoOn → (notes : Recorded) → Laws notes → (words : List (List ℕ)) → All AreBytes words → (spelling : Spelling) → spelling_of words ≡ spelling
     → (old new : Outside) (code : Option Code) (image : Option Image) (answer : Result ℕ Refusal)
     → tools.Performs spelling old new code image answer → IsMade spelling old code → Headline notes spelling old new code image answer
-by_spelling units notes laws words bytes (NoCommand word) e old new code image answer s a = tt
-by_spelling units notes laws words bytes (Is command) e old new code image answer s a = λ held p told front.
-    performs units notes laws command old new code image answer held p told front (λ c k. a held c told k) command.kind (words_are_spelled words command bytes e) s
+by_spelling units turns notes laws words bytes (NoCommand word) e old new code image answer s a = tt
+by_spelling units turns notes laws words bytes (Is command) e old new code image answer s a = λ held p told front.
+    performs units turns notes laws command old new code image answer held p told front (λ c k. a held c told k) command.kind (words_are_spelled words command bytes e) s
 
-pub holds : UnitsAreOne → HeadlineHolds
-holds units notes laws words old new code image answer bytes s a = by_spelling units notes laws words bytes (spelling_of words) refl old new code image answer s a
+pub holds : UnitsAreOne → TurnsGoOn → HeadlineHolds
+holds units notes laws words old new code image answer bytes s a = by_spelling units turns notes laws words bytes (spelling_of words) refl old new code image answer s a

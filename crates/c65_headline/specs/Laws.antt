@@ -7,7 +7,7 @@ use Rattle.c65_driver_words.specs.Words.{spelling_of}
 use Rattle.c65_driver.specs.Outside.{Outside}
 use Rattle.c65_driver.specs.Tool.{Performs}
 use Rattle.c65_headline.specs.Images.{Recorded, AreBytes}
-use Rattle.c65_headline.specs.Planned.{ProgramsAgree, ProgramsAreNmos, FrontsAreWritable, RenumberedIsSound, MainIsNumbered, RenumberedComes, NothingIsUndefined, ImagesFollow, TurnsGoOn}
+use Rattle.c65_headline.specs.Planned.{ProgramsAgree, ProgramsAreNmos, FrontsAreWritable, RenumberedIsSound, MainIsNumbered, RenumberedComes, NothingIsUndefined, ImagesFollow}
 use Rattle.c65_headline.specs.Headline.{IsMade, Headline}
 
 -- What is not proved yet. Each field is a law of the crate that it names; docs/LADDER.md has them as a table.
@@ -31,8 +31,6 @@ pub record Laws (notes : Recorded) : Type 0 where
   -- What the lines of a code come to within a weight, its image comes to within as many rows and 96 more, while the stack's guard
   -- lets it: a law above c65_link.
   pub images : ImagesFollow notes
-  -- A program that is defined for ever ends, or makes as many turns as one likes: a law above c65_meaning.
-  pub turns : TurnsGoOn
 
 -- From what is left, what the tool's clause says of words, and how the code was made, the main theorem follows.
 abbrev pub HeadlineHolds : Type 0

@@ -1,5 +1,5 @@
 -- What the layers between the front and the simulator owe to the main theorem, each in words and as a type.
-use Rattle.std.specs.Prelude.{◌≡◌, ◌⊎◌, ℕ, ◌*◌, ◌^◌, ◌<◌, ◌≤◌, Bool, true, List, All, Some, Ok, Err, ⊤}
+use Rattle.std.specs.Prelude.{◌≡◌, ℕ, ◌*◌, ◌^◌, ◌<◌, ◌≤◌, Bool, true, List, All, Some, Ok, Err}
 use Rattle.c65_base.specs.Answers.{Fault, large}
 use Rattle.c65_base.specs.declared.options.Cpu.{Cpu}
 use Rattle.c65_base.specs.declared.refusal.Size.TheVariants as sizes
@@ -26,7 +26,6 @@ use Rattle.c65_link.specs.Linked.{linked, linked_for, undefined}
 use Rattle.c65_link_law_spots.specs.Places.{place_in}
 use Rattle.c65_link_law_spots.specs.Sound.{IsSound}
 use Rattle.c65_meaning.specs.Program.{ProgramTy}
-use Rattle.c65_meaning.specs.Sem.{Outcome, Ends, IsDefined, turns_of, sem}
 use Rattle.c65_sim.specs.View.{arguments_size}
 use Rattle.c65_ppdir.specs.Units.{Held}
 use Rattle.c65_driver_chain.specs.Front.{IsGood}
@@ -118,14 +117,3 @@ ImagesFollow notes = (cpu : Cpu) (code : Code) (image : Image) → RunsOn cpu co
 -- a row takes at most 7 cycles
 abbrev pub RowsTakeSeven : Type 0
 RowsTakeSeven = (setting : Setting) (rows : ℕ) (start : Progress) → cycles_after setting rows start ≤ 7 * rows
-
--- ---- the meaning
-
-abbrev pub HasEnded : Outcome → Type 0
-HasEnded (Ends out status turns) = ⊤
-HasEnded _ = ⊥
-
--- a run between two turns is finite: a program that is always defined ends, or makes as many turns as one likes
-abbrev pub TurnsGoOn : Type 0
-TurnsGoOn = (p : ProgramTy) (args : List (List ℕ)) (input : List ℕ) → ((n : ℕ) → IsDefined (sem p args input n)) → (least : ℕ)
-    → (n : ℕ) × ((least ≤ turns_of (sem p args input n)) ⊎ HasEnded (sem p args input n))

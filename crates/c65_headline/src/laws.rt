@@ -2,6 +2,7 @@
 ghost use Rattle.c65_headline.specs.Planned.{RowsTakeSeven};
 ghost use Rattle.c65_headline.specs.Laws.{HeadlineHolds, HeadlineHoldsToday};
 
+use c65_meaning_law_turns::turns_go_on;
 use c65_ppdir_law::units_are_one;
 
 /// From the laws that are left, the tool's clause and the making of the code, the main theorem follows.
@@ -9,6 +10,7 @@ pub fn headline_holds()
     ensures { HeadlineHolds }
 {
     units_are_one();
+    turns_go_on();
 }
 
 /// Of the tool without rewriting it follows from the laws that are left and the tool's clause.
@@ -16,6 +18,7 @@ pub fn headline_holds_today()
     ensures { HeadlineHoldsToday }
 {
     units_are_one();
+    turns_go_on();
 }
 
 /// A row takes at most 7 cycles, on either processor.

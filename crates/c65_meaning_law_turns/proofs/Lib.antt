@@ -1,0 +1,9 @@
+pub mod Weights
+pub mod Places
+pub mod Landings
+pub mod Tails
+pub mod Scenes
+pub mod Settling
+pub mod Calls
+pub mod Steps
+pub mod Runs
