@@ -125,4 +125,4 @@ by_spelling units turns notes laws words bytes (Is command) e old new code image
     performs units turns notes laws command old new code image answer held p told front (λ c k. a held c told k) command.kind (words_are_spelled words command bytes e) s
 
 pub holds : UnitsAreOne → TurnsGoOn → HeadlineHolds
-holds units notes laws words old new code image answer bytes s a = by_spelling units turns notes laws words bytes (spelling_of words) refl old new code image answer s a
+holds units turns notes laws words old new code image answer bytes s a = by_spelling units turns notes laws words bytes (spelling_of words) refl old new code image answer s a
