@@ -1,7 +1,7 @@
 -- The functions of C's library that the runtime defines (C90 7.7, 7.9, 7.10, 7.11).
 use Rattle.std.specs.Prelude.{ℕ, List, [], ◌∷◌, codes}
 use Rattle.c65_base.specs.declared.library.Library.{Library}
-use Rattle.c65_base.specs.declared.library.Library.TheVariants.{Putchar, Getchar, Puts, Exit, Memcpy, Memset, Strcmp, Strcpy, Strlen}
+use Rattle.c65_base.specs.declared.library.Library.TheVariants.{Putchar, Getchar, Puts, Exit, Memcpy, Memset, Strcmp, Strcpy, Strlen, Printf}
 
 abbrev pub library_name : Library → List ℕ
 library_name Putchar = codes "putchar"
@@ -13,7 +13,8 @@ library_name Memset = codes "memset"
 library_name Strcmp = codes "strcmp"
 library_name Strcpy = codes "strcpy"
 library_name Strlen = codes "strlen"
+library_name Printf = codes "printf"
 
 -- all of them, each once
 abbrev pub library_functions : List Library
-library_functions = Putchar ∷ Getchar ∷ Puts ∷ Exit ∷ Memcpy ∷ Memset ∷ Strcmp ∷ Strcpy ∷ Strlen ∷ []
+library_functions = Putchar ∷ Getchar ∷ Puts ∷ Exit ∷ Memcpy ∷ Memset ∷ Strcmp ∷ Strcpy ∷ Strlen ∷ Printf ∷ []

@@ -14,6 +14,7 @@ pub enum Library {
     Strcmp,
     Strcpy,
     Strlen,
+    Printf,
 }
 
 impl Library {
@@ -31,6 +32,7 @@ impl Library {
             Library::Strcmp => b"strcmp",
             Library::Strcpy => b"strcpy",
             Library::Strlen => b"strlen",
+            Library::Printf => b"printf",
         }
     }
 }

@@ -51,6 +51,7 @@ library_result is_signed the.Memset = bytes
 library_result is_signed the.Strcmp = number
 library_result is_signed the.Strcpy = text is_signed
 library_result is_signed the.Strlen = size
+library_result is_signed the.Printf = number
 
 abbrev pub library_params : Bool → Library → QTys
 library_params is_signed the.Putchar = more number end
@@ -62,9 +63,15 @@ library_params is_signed the.Memset = more bytes (more number (more size end))
 library_params is_signed the.Strcmp = more (const_text is_signed) (more (const_text is_signed) end)
 library_params is_signed the.Strcpy = more (text is_signed) (more (const_text is_signed) end)
 library_params is_signed the.Strlen = more (const_text is_signed) end
+library_params is_signed the.Printf = more (const_text is_signed) end
+
+-- whether further arguments follow
+abbrev pub takes_more : Library → Bool
+takes_more the.Printf = true
+takes_more _ = false
 
 abbrev pub library_type : Bool → Library → Fn
-library_type is_signed l = fn (library_result is_signed l) (known (library_params is_signed l)) false false
+library_type is_signed l = fn (library_result is_signed l) (known (library_params is_signed l)) (takes_more l) false
 
 -- the function of the library with this spelling
 abbrev pub library_named : List ℕ → Option Library

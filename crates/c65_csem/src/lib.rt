@@ -16,6 +16,6 @@ pub use kinds::{
     SMALL, int_type, is_scalar, is_sized, is_small, is_tag, member_at, pointer_to, promoted,
     unqualified,
 };
-pub use library::{library_named, library_type};
+pub use library::{library_named, library_type, takes_more};
 pub use stmt::TStmt;
 pub use unit::{TProgram, TUnit};

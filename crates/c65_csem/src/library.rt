@@ -11,7 +11,7 @@ use c65_ctype::{CType, FnType, QType};
 use c65_ints::IntType;
 use std::alloc::{AllocError, Global};
 
-const ALL: [Library; 9] = [
+const ALL: [Library; 10] = [
     Library::Putchar,
     Library::Getchar,
     Library::Puts,
@@ -21,6 +21,7 @@ const ALL: [Library; 9] = [
     Library::Strcmp,
     Library::Strcpy,
     Library::Strlen,
+    Library::Printf,
 ];
 
 fn library_among(functions: &[Library], spelling: &[u8]) -> Option<Library>
@@ -130,7 +131,11 @@ fn library_result(alloc: Global, signed_chars: bool, function: Library) -> Resul
     ensures { IfOk result (λ q. qty_of q ≡ library.library_result signed_chars function) }
 {
     match function {
-        Library::Putchar | Library::Getchar | Library::Puts | Library::Strcmp => Ok(number()),
+        Library::Putchar
+        | Library::Getchar
+        | Library::Puts
+        | Library::Strcmp
+        | Library::Printf => Ok(number()),
         Library::Exit => Ok(nothing()),
         Library::Memcpy | Library::Memset => bytes(alloc, false),
         Library::Strcpy => text(alloc, false, signed_chars),
@@ -148,7 +153,9 @@ fn library_params(
     match function {
         Library::Getchar => Ok(Vec::new(alloc)),
         Library::Putchar | Library::Exit => one(alloc, number()),
-        Library::Puts | Library::Strlen => one(alloc, text(alloc, true, signed_chars)?),
+        Library::Puts | Library::Strlen | Library::Printf => {
+            one(alloc, text(alloc, true, signed_chars)?)
+        }
         Library::Memcpy => three(alloc, bytes(alloc, false)?, bytes(alloc, true)?, size()),
         Library::Memset => three(alloc, bytes(alloc, false)?, number(), size()),
         Library::Strcmp => {
@@ -162,6 +169,13 @@ fn library_params(
     }
 }
 
+/// Whether a function of the library takes further arguments (C90 6.7.1, 7.8).
+pub fn takes_more(function: Library) -> bool
+    ensures { result ≡ library.takes_more function }
+{
+    matches!(function, Library::Printf)
+}
+
 /// The prototype of a function of the library, where plain char is signed or not.
 pub fn library_type(
     alloc: Global,
@@ -172,5 +186,6 @@ pub fn library_type(
 {
     let given = library_result(alloc, signed_chars, function)?;
     let params = library_params(alloc, signed_chars, function)?;
-    Ok(FnType::new(given, Some(params), false, false))
+    let variadic = takes_more(function);
+    Ok(FnType::new(given, Some(params), variadic, false))
 }
