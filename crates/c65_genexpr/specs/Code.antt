@@ -12,7 +12,6 @@ use Rattle.c65_code.specs.declared.line.Operand.TheVariants.{To}
 use Rattle.c65_code.specs.declared.line.Line.{Line}
 use Rattle.c65_code.specs.declared.line.Line.TheVariants.{Label, Do}
 use Rattle.c65_code.specs.declared.routine.Width.TheVariants.{Ax}
-use Rattle.c65_code.specs.Segments.{Drafted}
 use Rattle.c65_genframe.specs.Symbols.{numbers_of, literal_symbol, function_symbol}
 use Rattle.c65_genframe.specs.Frames.{Framed, type_bytes}
 use Rattle.c65_genwide.specs.Lines.{value}
@@ -37,13 +36,6 @@ use Rattle.c65_genexpr.specs.Steps.{amount_of, step_code, open_code, close_code}
 use Rattle.c65_genexpr.specs.Arguments.{is_fast, is_counted, stays, passed_size, passed_of, argument_code, argument_bytes}
 use Rattle.c65_genexpr.specs.Calls.{named, named_code, pointer_code, direct_code}
 use Rattle.c65_genexpr.specs.Uses.{uses}
-
--- the draft with lines behind its own, and so many labels more
-abbrev pub grown : Drafted → List Line → ℕ → Drafted
-grown d lines n = record d { lines = d.lines ++ lines; labels = d.labels + n }
-
-abbrev pub with_label : Drafted → Drafted
-with_label d = record d { labels = d.labels + 1 }
 
 -- the address of a place, where it takes lines of code
 abbrev pub target_code : Place → List Line → List Line
