@@ -1,5 +1,5 @@
 -- Values whose bytes are read where they lie, trees that change nothing, and values of one byte.
-use Rattle.std.specs.Prelude.{ℕ, ◌==◌, nat_lt, ◌&&◌, ◌||◌, not, if◌then◌else◌, Bool, true, false, Option, Some, None, option_and_then}
+use Rattle.std.specs.Prelude.{ℕ, ◌==◌, nat_lt, ◌&&◌, ◌||◌, not, if◌then◌else◌, Bool, true, false, Option, Some, None, option_and_then, List, [], ◌∷◌}
 use Rattle.c65_ints.specs.declared.types.IntType.{IntType}
 use Rattle.c65_ints.specs.declared.types.IntType.TheVariants.{SChar, UChar}
 use Rattle.c65_ctype.specs.Trees.{Ty, int, pointer, type_in}
@@ -12,9 +12,10 @@ use Rattle.c65_genload.specs.declared.places.Place.{Place}
 use Rattle.c65_genload.specs.declared.places.Place.TheVariants.{Data, Far}
 use Rattle.c65_genload.specs.declared.places.Access.{Access}
 use Rattle.c65_genload.specs.declared.places.Access.TheVariants.{Whole, Part}
+use Rattle.c65_gendirect.specs.declared.bytes.OperandByte.{OperandByte}
 use Rattle.c65_gendirect.specs.declared.direct.Direct.{Direct}
 use Rattle.c65_gendirect.specs.declared.direct.Direct.TheVariants.{Number, Address, Kept}
-use Rattle.c65_gendirect.specs.Bytes.{converted}
+use Rattle.c65_gendirect.specs.Bytes.{byte_of, converted}
 use Rattle.c65_genexpr.specs.Types.{kind_of, bare, access_of}
 use Rattle.c65_genexpr.specs.Places.{place_of}
 use Rattle.c65_genexpr.specs.Operands.{residue_of}
@@ -56,6 +57,19 @@ abbrev mutual
   direct_of f pushed (node t (decay e)) = address_of f pushed e
   direct_of f pushed (node t (convert e)) = converted_if (takes_bytes (type_in t) (bare e)) (kind_of (type_in t)) (direct_of f pushed e)
   direct_of f pushed (node t _) = None
+
+-- the bytes of a number that is kept, as many as its type has
+abbrev pub present : Option OperandByte → List OperandByte → List OperandByte
+present None ds = ds
+present (Some d) ds = d ∷ ds
+
+abbrev pub bytes_by : Direct → ℕ → List OperandByte
+bytes_by d 1 = present (byte_of d 0) []
+bytes_by d 2 = present (byte_of d 0) (present (byte_of d 1) [])
+bytes_by d n = present (byte_of d 0) (present (byte_of d 1) (present (byte_of d 2) (present (byte_of d 3) [])))
+
+abbrev pub own_bytes : Direct → IntType → List OperandByte
+own_bytes d kind = bytes_by d (size_of kind)
 
 -- a value that nothing changes while the program runs
 abbrev pub is_fixed : Option Direct → Bool
