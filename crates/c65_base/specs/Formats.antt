@@ -2,7 +2,7 @@
 -- `%` comes `%`, which stands for itself, or a field: a width from 1 to 99 without a leading zero, or none, and one of the
 -- conversions d, u, x, ld, lu, c and s.
 use Rattle.std.specs.Prelude.{ℕ, ◌+◌, ◌-◌, ◌*◌, ◌/◌, ◌%◌, ◌^◌, ◌==◌, ◌&&◌, false, if◌then◌else◌, nat_lt, nat_le, List, [], ◌∷◌, ◌++◌, Option, Some, None, length, take, drop, replicate, option_and_then}
-use Rattle.std.specs.Option.{option_map}
+use Rattle.std.specs.Option.{option_map, unwrap_or}
 use Rattle.std.specs.Fmt.{decimal, digits}
 
 -- what a conversion writes
@@ -150,3 +150,10 @@ text_of (field w f ∷ ps) (a ∷ given) = option_map (λ t. wide w (form_text f
 -- the text of a format, with a block of arguments and the texts that its pointers name
 abbrev pub text_by : List ℕ → List ℕ → List (List ℕ) → Option (List ℕ)
 text_by format block strings = option_and_then (λ ps. option_and_then (λ ns. option_and_then (λ given. text_of ps given) (arguments_in ps ns strings)) (numbers_in ps block)) (parts_of format)
+
+-- the pointers to those texts, and how many bytes of the block are taken
+abbrev pub pointers_by : List ℕ → List ℕ → List ℕ
+pointers_by format block = unwrap_or (option_and_then (λ ps. option_map (pointers_in ps) (numbers_in ps block)) (parts_of format)) []
+
+abbrev pub taken_by : List ℕ → ℕ
+taken_by format = unwrap_or (option_map argument_bytes (parts_of format)) 0
