@@ -58,18 +58,11 @@ abbrev mutual
   direct_of f pushed (node t (convert e)) = converted_if (takes_bytes (type_in t) (bare e)) (kind_of (type_in t)) (direct_of f pushed e)
   direct_of f pushed (node t _) = None
 
--- the bytes of a number that is kept, as many as its type has
-abbrev pub present : Option OperandByte → List OperandByte → List OperandByte
-present None ds = ds
-present (Some d) ds = d ∷ ds
-
-abbrev pub bytes_by : Direct → ℕ → List OperandByte
-bytes_by d 1 = present (byte_of d 0) []
-bytes_by d 2 = present (byte_of d 0) (present (byte_of d 1) [])
-bytes_by d n = present (byte_of d 0) (present (byte_of d 1) (present (byte_of d 2) (present (byte_of d 3) [])))
-
-abbrev pub own_bytes : Direct → IntType → List OperandByte
-own_bytes d kind = bytes_by d (size_of kind)
+-- the bytes that a number at a known place has
+abbrev pub bytes_by : Extent → OperandByte → OperandByte → OperandByte → OperandByte → List OperandByte
+bytes_by One d0 d1 d2 d3 = d0 ∷ []
+bytes_by Two d0 d1 d2 d3 = d0 ∷ d1 ∷ []
+bytes_by _ d0 d1 d2 d3 = d0 ∷ d1 ∷ d2 ∷ d3 ∷ []
 
 -- a value that nothing changes while the program runs
 abbrev pub is_fixed : Option Direct → Bool
