@@ -23,7 +23,7 @@ use Rattle.c65_genwide.specs.Wide.{width_of}
 use Rattle.c65_genload.specs.declared.places.Place.{Place}
 use Rattle.c65_genload.specs.declared.places.Place.TheVariants.{Far}
 use Rattle.c65_genload.specs.declared.places.Access.{Access}
-use Rattle.c65_genload.specs.Places.{held, type_in, extent_by}
+use Rattle.c65_genload.specs.Places.{held, type_in, extent_of, extent_by}
 use Rattle.c65_genload.specs.Numbers.{number_code}
 use Rattle.c65_genload.specs.Conversions.{push_code, waiting}
 use Rattle.c65_genload.specs.Addresses.{symbol_code, offset_code}
@@ -68,7 +68,7 @@ constant_code (Test to false) width n = if n == 0 then Do Jmp Absolute (To to) �
 
 -- a number that is kept at a known place is tested where it lies; else it is loaded
 abbrev pub tested_load : Option Direct → IntType → Bool → ℕ → List Line → List Line
-tested_load (Some d) kind s to lines = zero_test_code (own_bytes d kind) s to
+tested_load (Some d) kind s to lines = zero_test_code (own_bytes d (extent_of kind)) s to
 tested_load None kind s to lines = wanted (Test to s) (width_of kind) lines
 
 -- behind the address of a place that is anywhere

@@ -8,6 +8,8 @@ use Rattle.c65_csem.specs.Trees.{Typed, node, Node, constant, null, literal, obj
 use Rattle.c65_genframe.specs.Frames.{Framed}
 use Rattle.c65_genframe.specs.Symbols.{numbers_of, literal_symbol, function_symbol}
 use Rattle.c65_genload.specs.Conversions.{size_of}
+use Rattle.c65_genload.specs.declared.places.Extent.{Extent}
+use Rattle.c65_genload.specs.declared.places.Extent.TheVariants.{One, Two}
 use Rattle.c65_genload.specs.declared.places.Place.{Place}
 use Rattle.c65_genload.specs.declared.places.Place.TheVariants.{Data, Far}
 use Rattle.c65_genload.specs.declared.places.Access.{Access}
@@ -58,11 +60,15 @@ abbrev mutual
   direct_of f pushed (node t (convert e)) = converted_if (takes_bytes (type_in t) (bare e)) (kind_of (type_in t)) (direct_of f pushed e)
   direct_of f pushed (node t _) = None
 
--- the bytes that a number at a known place has
-abbrev pub bytes_by : Extent → OperandByte → OperandByte → OperandByte → OperandByte → List OperandByte
-bytes_by One d0 d1 d2 d3 = d0 ∷ []
-bytes_by Two d0 d1 d2 d3 = d0 ∷ d1 ∷ []
-bytes_by _ d0 d1 d2 d3 = d0 ∷ d1 ∷ d2 ∷ d3 ∷ []
+-- the bytes that are kept of a number
+abbrev pub with_byte : Option OperandByte → List OperandByte → List OperandByte
+with_byte None ds = ds
+with_byte (Some d) ds = d ∷ ds
+
+abbrev pub own_bytes : Direct → Extent → List OperandByte
+own_bytes d One = with_byte (byte_of d 0) []
+own_bytes d Two = with_byte (byte_of d 0) (with_byte (byte_of d 1) [])
+own_bytes d _ = with_byte (byte_of d 0) (with_byte (byte_of d 1) (with_byte (byte_of d 2) (with_byte (byte_of d 3) [])))
 
 -- a value that nothing changes while the program runs
 abbrev pub is_fixed : Option Direct → Bool

@@ -151,20 +151,19 @@ form_code (Mask op n) label = labelled label (long_mask_code op n)
 form_code (Constant kind quick) label = quick_code kind quick label
 form_code (Word op low high) label = word_code op low high label ++ placed op label
 form_code (Under low high) label = labelled label (taken_from_code low high)
-form_code (Indexed size low high) label = elements_code size label ++ sum_code low high
+form_code (Indexed size low high) label = elements_code size ++ word_code Add low high label
 form_code (Distance size low high) label = word_code Sub low high label ++ divide_code size
 form_code (DistanceUnder size low high) label = labelled label (taken_from_code low high ++ divide_code size)
 
 -- behind a left operand that waits: elements become bytes
-abbrev pub waiting_code : Operands → ℕ → List Line
-waiting_code (PointerLast size) label = elements_code size label ++ push_code Ax
-waiting_code operands label = between_code operands
+abbrev pub waiting_code : Operands → List Line
+waiting_code (PointerLast size) = elements_code size ++ push_code Ax
+waiting_code operands = between_code operands
 
 -- behind the right operand then
-abbrev pub stacked_code : BinaryOp → Operands → IntType → ℕ → List Line
-stacked_code op (PointerFirst size) right label = elements_code size label ++ wide_code op UInt
-stacked_code op (PointerLast size) right label = wide_code op UInt
-stacked_code op operands right label = labelled label (behind_code op operands right)
+abbrev pub stacked_code : BinaryOp → Operands → IntType → List Line
+stacked_code op (PointerFirst size) right = elements_code size ++ wide_code op UInt
+stacked_code op operands right = behind_code op operands right
 
 -- the bytes that wait while the right operand is computed: the left one has so many
 abbrev pub below_operand : Operating → ℕ → ℕ → ℕ
@@ -175,4 +174,4 @@ below_operand _ pushed bytes = pushed
 abbrev pub operator_by : Operating → BinaryOp → Operands → IntType → ℕ → List Line → List Line → List Line
 operator_by (Left form) op operands right label a b = a ++ form_code form label
 operator_by (Right form) op operands right label a b = b ++ form_code form label
-operator_by Stacked op operands right label a b = a ++ (waiting_code operands label ++ (b ++ stacked_code op operands right label))
+operator_by Stacked op operands right label a b = labelled label (a ++ (waiting_code operands ++ (b ++ stacked_code op operands right)))
