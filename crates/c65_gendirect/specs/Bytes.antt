@@ -39,16 +39,11 @@ back byte = implied (if takes_y byte then Pla else Tya)
 
 -- the bytes of a number, from the lowest on
 abbrev pub number_byte : ℕ → ℕ → ℕ
-number_byte n 0 = first n
-number_byte n 1 = second n
-number_byte n 2 = third n
-number_byte n i = fourth n
+number_byte n i = if i == 0 then first n else (if i == 1 then second n else (if i == 2 then third n else fourth n))
 
 -- an address has two bytes
 abbrev pub address_byte : OperandByte → OperandByte → ℕ → Option OperandByte
-address_byte low high 0 = Some low
-address_byte low high 1 = Some high
-address_byte low high i = None
+address_byte low high i = if i == 0 then Some low else (if i == 1 then Some high else None)
 
 -- so far behind the first byte of a place; a place that is anywhere is not read where it lies
 abbrev pub place_byte : Place → ℕ → Option OperandByte
