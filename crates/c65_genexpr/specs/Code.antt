@@ -73,8 +73,8 @@ tested_load None kind s to lines = wanted (Test to s) (width_of kind) lines
 
 -- behind the address of a place that is anywhere
 abbrev pub load_by : Wanted → Place → Access → List Line → List Line
-load_by Value place access address = address ++ load_code place access
-load_by (Test to s) place access address = tested_load (kept_at place access) (type_in access) s to (address ++ load_code place access)
+load_by Value place access lines = lines ++ load_code place access
+load_by (Test to s) place access lines = tested_load (kept_at place access) (type_in access) s to (lines ++ load_code place access)
 
 -- the bytes that wait for the right side of a compound assignment
 abbrev pub behind_open : Framed → ℕ → Operands → Typed → ℕ
