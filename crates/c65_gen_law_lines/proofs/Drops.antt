@@ -1,12 +1,12 @@
 -- Sides that an operator reads where they lie have no labels and call nothing.
-use Rattle.std.proofs.Common.{◌≡◌, ℕ, ◌==◌, Bool, true, false, Option, Some, None, ℤ, List, [], refl, ◌∙◌, ap, subst}
+use Rattle.std.proofs.Common.{◌≡◌, ℕ, ◌==◌, Bool, true, false, Option, Some, None, ℤ, [], refl, ◌∙◌, ap}
 use Rattle.std.specs.Prelude.{◌&&◌, ◌||◌, if◌then◌else◌, is_some, option_and_then, option_map}
 use Rattle.c65_base.specs.declared.operators.BinaryOp.{BinaryOp}
 use Rattle.c65_base.specs.declared.operators.BinaryOp.TheVariants as ops
 use Rattle.c65_ints.specs.declared.types.IntType.{IntType}
 use Rattle.c65_ctype.specs.Trees.{type_in}
 use Rattle.c65_ctype.specs.Views.{types_of}
-use Rattle.c65_csem.specs.Trees.{Typed, node, Node, constant, null, literal, object, func, deref, member, load, address, decay, convert, unary, binary, both, either, choice, comma, assign, assign_op, assign_step, step, copy, call, pack, spill, rest}
+use Rattle.c65_csem.specs.Trees.{Typed, node, constant, null, literal, object, func, member, load, address, decay, convert}
 use Rattle.c65_code.specs.declared.routine.Width.{Width}
 use Rattle.c65_code.specs.declared.routine.Width.TheVariants.{Ax, Eax}
 use Rattle.c65_genframe.specs.Frames.{Framed}
@@ -18,7 +18,7 @@ use Rattle.c65_gendirect.specs.declared.bytes.OperandByte.{OperandByte}
 use Rattle.c65_gendirect.specs.declared.direct.Direct.{Direct}
 use Rattle.c65_gendirect.specs.declared.compare.Sides.{Sides}
 use Rattle.c65_gendirect.specs.declared.relation.Relation.{Relation}
-use Rattle.c65_gendirect.specs.Bytes.{byte_of, converted}
+use Rattle.c65_gendirect.specs.Bytes.{byte_of}
 use Rattle.c65_gendirect.specs.Compare.{mirrored}
 use Rattle.c65_genshift.specs.declared.quick.Quick.{Quick}
 use Rattle.c65_genshift.specs.Quick.{quick_of}
@@ -36,7 +36,7 @@ use Rattle.c65_genexpr.specs.Places.{moved, place_of, IsKnown}
 use Rattle.c65_genexpr.specs.Operands.{residue_of, negative, constant_in}
 use Rattle.c65_genexpr.specs.Direct.{kept_at, address_at, address_of, takes_bytes, converted_if, direct_of, is_fixed, is_pure, is_byte}
 use Rattle.c65_genexpr.specs.Wanted.{handed_sense}
-use Rattle.c65_genexpr.specs.Comparing.{is_zero, zero_sense, tested_by, sides_of, lowest, is_raised, raised, one_more, range_of, meeting, beside, changes, compared_by, comparing_of}
+use Rattle.c65_genexpr.specs.Comparing.{is_zero, zero_sense, tested_by, sides_of, is_raised, raised, one_more, range_of, meeting, beside, changes, compared_by, comparing_of}
 use Rattle.c65_genexpr.specs.Operating.{sum_by, mask_by, number_form, offset_form, constant_form, word_in, word_if, element_form, right_form, under_if, left_form, constant_right, direct_right, direct_left, by_left, by_right, operating_of}
 use Rattle.c65_genexpr.specs.Operating as operators
 use Rattle.c65_genexpr.specs.Uses.{uses}

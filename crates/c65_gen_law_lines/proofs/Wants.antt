@@ -1,11 +1,10 @@
 -- Lines of which a value or a test is wanted: their labels, their size, and the form of each line.
-use Rattle.std.proofs.Common.{◌≡◌, ℕ, ◌+◌, ◌≤◌, ◌<◌, ◌==◌, Bool, true, false, Option, Some, None, List, [], ◌∷◌, ◌++◌, length, refl, sym, ◌∙◌, ap, subst, arith}
+use Rattle.std.proofs.Common.{◌≡◌, ℕ, ◌+◌, ◌≤◌, ◌==◌, Bool, true, false, Option, Some, None, List, [], ◌∷◌, ◌++◌, length, refl, sym, ◌∙◌, ap, subst, arith}
 use Rattle.std.specs.Prelude.{if◌then◌else◌}
 use Rattle.std.specs.List.{list_all}
 use Rattle.std.proofs.lemmas.Bool.{and_from}
 use Rattle.c65_base.specs.declared.operators.BinaryOp.{BinaryOp}
 use Rattle.c65_ints.specs.declared.types.IntType.{IntType}
-use Rattle.c65_ints.specs.declared.types.IntType.TheVariants as ints
 use Rattle.c65_ctype.specs.Trees.{Ty}
 use Rattle.c65_mach.specs.declared.rows.Op.TheVariants.{Jmp, Tay}
 use Rattle.c65_mach.specs.declared.rows.Mode.TheVariants.{Absolute, Relative}
@@ -33,17 +32,16 @@ use Rattle.c65_genexpr.specs.declared.wanted.Wanted.TheVariants.{Value, Test}
 use Rattle.c65_genexpr.specs.Types.{kind_of}
 use Rattle.c65_genexpr.specs.Direct.{with_byte, own_bytes}
 use Rattle.c65_genexpr.specs.Operands.{conversion_by}
-use Rattle.c65_genexpr.specs.Wanted.{sense_of, wanted_by, handed, by_sense, wanted, aimed, truth_labels, inner, truth_by, way, way_labels, joined}
+use Rattle.c65_genexpr.specs.Wanted.{sense_of, handed, by_sense, wanted, aimed, truth_labels, inner, truth_by, way, way_labels, joined}
 use Rattle.c65_genexpr.specs.Comparing.{low_code, comparison_by}
 use Rattle.c65_genexpr.specs.Operating.{operator_by}
 use Rattle.c65_genexpr.specs.Code.{constant_code, tested_load}
 use Rattle.c65_gen_law_lines.specs.Labels.{among, aims, may_lead}
-use Rattle.c65_gen_law_lines.proofs.Made.{or_right, among_split, among_one, among_none, Piece, piece_none, Stretch, Made, nowhere, once_at, stretch_then, stretch_piece, stretch_label, stretch_branch, stretch_jump, stretch_wider, stretch_as, stretch_made, made_stretch, leads_inner, leads_within, leads_outer, made_piece, made_behind, made_wider, made_as}
+use Rattle.c65_gen_law_lines.proofs.Made.{among_split, among_one, among_none, Piece, piece_none, Stretch, Made, once_at, stretch_then, stretch_piece, stretch_label, stretch_branch, stretch_jump, stretch_wider, stretch_as, stretch_made, made_stretch, leads_inner, leads_within, leads_outer, made_piece, made_behind, made_wider, made_as}
 use Rattle.c65_gen_law_lines.proofs.Pieces.{number_piece, conversion_piece, test_piece, between_piece, behind_piece}
-use Rattle.c65_gen_law_lines.proofs.Quiet.{Quiet}
 use Rattle.c65_gen_law_lines.proofs.Directs.{loaded_quiet, compare_quiet, compare_byte_quiet, zero_test_quiet, truth_quiet}
 use Rattle.c65_gen_law_lines.proofs.Drops.{IfRead, Unread, Unused}
-use Rattle.c65_gen_law_lines.proofs.Forms.{before_size, behind_size, stacked_sizes, form_quiet, waiting_part, stacked_part}
+use Rattle.c65_gen_law_lines.proofs.Forms.{stacked_sizes, form_quiet, waiting_part, stacked_part}
 
 -- the same labels, from a number that is the same
 pub made_from : {outside : List ℕ} {lo to n k : ℕ} {a : List Line} → lo ≡ to → Made outside lo n k a → Made outside to n k a
