@@ -1,5 +1,5 @@
 // Operators whose right operand is a constant, by shifts and masks (C90 6.3.5, 6.3.7).
-ghost use Rattle.std.specs.Prelude.{◌≡◌, OnOk, OnErr};
+ghost use Rattle.std.specs.Prelude.{◌≡◌, ◌≤◌, OnOk, OnErr};
 ghost use Rattle.c65_genwide.specs.Lines.{with_lines, grown, Keeps};
 ghost use Rattle.c65_genshift.specs.Quick.{power_below, power_of, shift_if, scaled_if, rest_if, quick_by, quick_of, quick_lines, quick_code, elements_code};
 
@@ -20,17 +20,25 @@ pub enum Quick {
     Mask(u32),
 }
 
-fn power_of(number: u32) -> Option<u32>
-    ensures { result ≡ power_of number }
+#[tactic(auto, using(crate::proofs::Powers::power_here, crate::proofs::Powers::power_lower))]
+fn power_below(bound: u32, number: u32) -> Option<u32>
+    requires { bound ≤ 32 }
+    ensures { result ≡ power_below bound number }
 {
-    let mut bound = 32;
-    while bound > 0 {
-        bound -= 1;
-        if number == 1 << bound {
-            return Some(bound);
+    let mut above = bound;
+    while above > 0 {
+        above -= 1;
+        if number == 1 << above {
+            return Some(above);
         }
     }
     None
+}
+
+fn power_of(number: u32) -> Option<u32>
+    ensures { result ≡ power_of number }
+{
+    power_below(32, number)
 }
 
 fn shift_if(op: TosOp, width: Width, count: u32) -> Option<Quick>
@@ -79,6 +87,14 @@ fn put_lines(width: Width, quick: Quick, label: u32, draft: &mut Draft) -> Resul
     }
 }
 
+fn put_with(kind: IntType, quick: Quick, label: u32, draft: &mut Draft) -> Result<(), AllocError>
+    ensures lines { OnOk result (draft.new ≡ with_lines draft.old (quick_code kind quick label)) }
+    ensures kept { OnErr result (Keeps draft.old draft.new) }
+{
+    put_lines(width_of(kind), quick, label, draft)?;
+    narrow(kind, draft)
+}
+
 /// Behind the left operand, in the operator's type. A label is given, and placed once, also where no
 /// line leads to it.
 #[tactic(auto, using(c65_genwide::proofs::Kept::label_last, c65_genwide::proofs::Kept::label_then))]
@@ -87,8 +103,7 @@ pub fn put_quick(kind: IntType, quick: Quick, draft: &mut Draft) -> Result<(), A
     ensures kept { OnErr result (Keeps draft.old draft.new) }
 {
     let label = next_label(draft)?;
-    put_lines(width_of(kind), quick, label, draft)?;
-    narrow(kind, draft)
+    put_with(kind, quick, label, draft)
 }
 
 /// A number of elements of so many bytes becomes a number of bytes (C90 6.3.6).
