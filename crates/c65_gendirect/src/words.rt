@@ -128,11 +128,7 @@ pub fn put_word(
 }
 
 /// A word is added to AX.
-pub fn put_sum(
-    low: OperandByte,
-    high: OperandByte,
-    draft: &mut Draft,
-) -> Result<(), AllocError>
+pub fn put_sum(low: OperandByte, high: OperandByte, draft: &mut Draft) -> Result<(), AllocError>
     ensures lines { OnOk result (draft.new ≡ with_lines draft.old (sum_code low high)) }
     ensures kept { OnErr result (Keeps draft.old draft.new) }
 {
