@@ -1,43 +1,50 @@
 // Expressions (C90 6.3).
-ghost use Rattle.std.specs.Prelude.{◌≡◌, [], ◌+◌, ◌≤◌, Bool, Some, None, OnOk, IfOk, OnErr, IfErr};
+ghost use Rattle.std.specs.Prelude.{◌≡◌, [], ◌+◌, ◌≤◌, true, false, not, Some, None, OnOk, IfOk, OnErr, IfErr};
 ghost use Rattle.c65_base.specs.declared.refusal.Refusal.TheVariants.{OutOfMemory};
 ghost use Rattle.c65_csem.specs.Views.{typed_of, nodes_of};
 ghost use Rattle.c65_genwide.specs.Lines.{grown, Keeps};
 ghost use Rattle.c65_genexpr.specs.Arguments.{passed_of};
-ghost use Rattle.c65_genexpr.specs.Places.{IsKnown, place_of};
+ghost use Rattle.c65_genexpr.specs.Places.{place_of};
 ghost use Rattle.c65_genexpr.specs.Wanted.{sense_of, is_straight, way_labels};
+ghost use Rattle.c65_genexpr.specs.declared.wanted.Wanted.TheVariants.{Value, Test};
+ghost use Rattle.c65_genexpr.specs.Comparing.{on, relation_by};
+ghost use Rattle.c65_genexpr.specs.Leaving.{IsFree};
 ghost use Rattle.c65_genexpr.specs.Uses.{uses, head_uses, args_uses, binary_uses, comparison_uses};
-ghost use Rattle.c65_genexpr.specs.Code.{target_code, expr_code, binary_code, operator_code, comparison_code, joint_code, choice_code, assign_code, compound_code, call_code, args_code};
+ghost use Rattle.c65_genexpr.specs.Code.{target_code, expr_code, load_test_code, binary_code, operator_code, comparison_code, joint_code, choice_code, assign_code, compound_code, call_code, args_code};
 
 use crate::arguments::{
     Passed, argument_bytes, is_counted, is_fast, joined, passed_size, put_argument, stays,
 };
 use crate::calls::{named, put_direct, put_named, put_pointer};
-use crate::comparing::{Comparing, Side, comparing_of, put_found, put_read, relation_by, tested_by};
+use crate::comparing::{Comparing, Side, comparing_of, relation_by, tested_by};
 use crate::constants::residue_of;
+use crate::direct::{kept_at, put_own_test};
+use crate::leaving::{leave_out, leave_place};
 use crate::operands::{
-    Operands, computes, operands_of, put_between, put_conversion, put_unary, same_truth,
+    Operands, computes, operands_of, put_behind, put_between, put_conversion, put_unary, same_truth,
 };
 use crate::operating::{Operating, operating_of, put_form, put_stacked, put_waiting};
 use crate::places::{more, place_of, put_object, put_rest};
 use crate::spills::put_spill;
 use crate::steps::{amount_of, put_close, put_open, put_step};
 use crate::types::{Outcome, access_of, kind_of, offset_at, outcome_of, target_bytes};
-use crate::wanted::{Wanted, put_decided, put_value_test, wanted_by};
+use crate::wanted::{
+    Wanted, is_straight, put_decided, put_outcome_test, put_value_test, wanted_by,
+};
 use c65_base::{BinaryOp, Refusal, UnaryOp};
 use c65_code::Line::{Do, Label};
 use c65_code::Operand::To;
 use c65_code::{Draft, Width};
 use c65_csem::{TExpr, TKind};
-use c65_gendirect::{Relation, relation_of, truth};
+use c65_gendirect::{Relation, put_compare, put_compare_byte, put_op, put_truth, relation_of};
 use c65_genframe::Frame;
 use c65_genload::{
     Place, copy, extent_by, held, hold, load, load_bytes, number, push, put_offset, put_symbol,
-    store, waiting,
+    store, value_type, waiting,
 };
 use c65_genwide::{next_label, put, width_of};
 use c65_mach::Mode::Absolute;
-use c65_mach::Op::Jmp;
+use c65_mach::Op::{Jmp, Lda};
 use std::alloc::AllocError;
 
 /// Puts the lines of an expression behind those of the draft, where so many bytes of values wait on
@@ -92,9 +99,9 @@ pub fn put_expr(
             put_conversion(&e.ty.ty, kind_of(&a.ty.ty), draft)
         }
         TKind::Unary(UnaryOp::Not, a) => {
-            let no = two_labels(draft)?;
-            put_test(a, frame, pushed, no, true, draft)?;
-            truth(no, draft)
+            let truth = truth_labels(draft)?;
+            put_test(a, frame, pushed, truth.no, true, draft)?;
+            put_truth(truth.no, truth.end, draft)
         }
         TKind::Unary(op, a) => {
             put_expr(a, frame, pushed, draft)?;
@@ -102,14 +109,14 @@ pub fn put_expr(
         }
         TKind::Binary(op, a, b) => put_binary(a, b, *op, frame, pushed, draft),
         TKind::And(a, b) => {
-            let no = two_labels(draft)?;
-            put_joint(a, b, false, frame, pushed, no, false, draft)?;
-            truth(no, draft)
+            let truth = truth_labels(draft)?;
+            put_joint(a, b, false, frame, pushed, truth.no, false, draft)?;
+            put_truth(truth.no, truth.end, draft)
         }
         TKind::Or(a, b) => {
-            let no = two_labels(draft)?;
-            put_joint(a, b, true, frame, pushed, no, false, draft)?;
-            truth(no, draft)
+            let truth = truth_labels(draft)?;
+            put_joint(a, b, true, frame, pushed, truth.no, false, draft)?;
+            put_truth(truth.no, truth.end, draft)
         }
         TKind::Cond(c, a, b) => put_choice(c, a, b, frame, pushed, draft),
         TKind::Comma(a, b) => {
@@ -181,8 +188,14 @@ pub fn put_test(
         TKind::Const(z) => put_decided(residue_of(*z) != 0, sense, to, draft),
         TKind::Null => put_decided(false, sense, to, draft),
         TKind::Load(a) => put_load_test(a, frame, pushed, to, sense, draft),
-        TKind::Convert(a) if same_truth(&e.ty.ty, &a.ty.ty) => {
-            put_test(a, frame, pushed, to, sense, draft)
+        TKind::Convert(a) => {
+            if same_truth(&e.ty.ty, &a.ty.ty) {
+                put_test(a, frame, pushed, to, sense, draft)
+            } else {
+                put_expr(a, frame, pushed, draft)?;
+                put_conversion(&e.ty.ty, kind_of(&a.ty.ty), draft)?;
+                put_value_test(width_of(kind_of(&e.ty.ty)), sense, to, draft)
+            }
         }
         TKind::Unary(UnaryOp::Not, a) => put_test(a, frame, pushed, to, !sense, draft),
         TKind::Binary(op, a, b) => match relation_of(*op) {
@@ -225,22 +238,6 @@ fn put_wanted(
     }
 }
 
-// A place whose address takes no lines of code has no labels.
-fn skip(
-    a: &TExpr,
-    place: Place,
-    frame: &Frame<'_>,
-    pushed: u16,
-    draft: &mut Draft,
-) -> Result<(), AllocError>
-    requires at { place ≡ place_of frame.now pushed (typed_of a.now) }
-    requires known { IsKnown place }
-    ensures lines { OnOk result (draft.new ≡ grown draft.old [] (uses None (typed_of a.now))) }
-    ensures kept { OnErr result (Keeps draft.old draft.new) }
-{
-    put(draft, &[])
-}
-
 // The address of a place, where it takes lines of code.
 #[cycle(expression)]
 fn put_target(
@@ -256,7 +253,7 @@ fn put_target(
 {
     match place {
         Place::Far => put_expr(a, frame, pushed, draft),
-        Place::Bank(_) | Place::Near(_) | Place::Data(_, _) => skip(a, place, frame, pushed, draft),
+        Place::Bank(_) | Place::Near(_) | Place::Data(_, _) => leave_place(a, place, frame, pushed, draft),
     }
 }
 
@@ -276,7 +273,10 @@ fn put_load_test(
     let place = place_of(frame, pushed, a);
     let access = access_of(&frame.parts().types, a);
     match kept_at(place, access) {
-        Some(direct) => put_zero_test(direct, value_type(access), sense, to, draft),
+        Some(direct) => {
+            leave_place(a, place, frame, pushed, draft)?;
+            put_own_test(direct, value_type(access), sense, to, draft)
+        }
         None => {
             put_target(a, place, frame, pushed, draft)?;
             load(place, access, draft)?;
@@ -285,15 +285,22 @@ fn put_load_test(
     }
 }
 
-// Two labels that follow one another; the first one.
-fn two_labels(draft: &mut Draft) -> Result<u32, AllocError>
-    ensures label { IfOk result (λ l. l ≡ draft.old.labels) }
+/// The labels of a truth value: where a test of it leads if it fails, and where both ways meet.
+#[derive(Clone, Copy)]
+struct Truth {
+    no: u32,
+    end: u32,
+}
+
+fn truth_labels(draft: &mut Draft) -> Result<Truth, AllocError>
+    ensures no { IfOk result (λ t. t.no ≡ draft.old.labels) }
+    ensures end { IfOk result (λ t. t.end ≡ draft.old.labels + 1) }
     ensures draft { OnOk result (draft.new ≡ grown draft.old [] 2) }
     ensures kept { OnErr result (Keeps draft.old draft.new) }
 {
-    let label = next_label(draft)?;
-    next_label(draft)?;
-    Ok(label)
+    let no = next_label(draft)?;
+    let end = next_label(draft)?;
+    Ok(Truth { no, end })
 }
 
 // The value of an operator, or the truth value of a comparison.
@@ -311,9 +318,9 @@ fn put_binary(
 {
     match relation_of(op) {
         Some(relation) => {
-            let no = two_labels(draft)?;
-            put_comparison(a, b, op, relation, frame, pushed, no, false, draft)?;
-            truth(no, draft)
+            let truth = truth_labels(draft)?;
+            put_comparison(a, b, op, relation, frame, pushed, truth.no, false, draft)?;
+            put_truth(truth.no, truth.end, draft)
         }
         None => put_operator(a, b, op, frame, pushed, draft),
     }
@@ -336,18 +343,21 @@ fn put_operator(
     match operating_of(frame, pushed, op, operands, a, b) {
         Operating::Left(form) => {
             put_expr(a, frame, pushed, draft)?;
+            leave_out(b, Wanted::Value, draft)?;
             put_form(form, label, draft)
         }
         Operating::Right(form) => {
+            leave_out(a, Wanted::Value, draft)?;
             put_expr(b, frame, pushed, draft)?;
             put_form(form, label, draft)
         }
         Operating::Stacked => {
             let wait = waiting(width_of(computes(operands)));
             put_expr(a, frame, pushed, draft)?;
-            put_waiting(operands, label, draft)?;
+            put_waiting(operands, draft)?;
             put_expr(b, frame, more(pushed, wait), draft)?;
-            put_stacked(op, operands, kind_of(&b.ty.ty), label, draft)
+            put_stacked(op, operands, kind_of(&b.ty.ty), draft)?;
+            put(draft, &[Label(label)])
         }
     }
 }
@@ -371,44 +381,65 @@ fn put_comparison(
     let own = next_label(draft)?;
     let operands = operands_of(frame, &a.ty.ty, &b.ty.ty);
     let held = relation_by(sense, relation);
+    let left = wanted_by(tested_by(held, b), to);
+    let right = wanted_by(tested_by(held, a), to);
     match comparing_of(frame, pushed, held, computes(operands), a, b) {
-        Comparing::Truth(Side::Left) => {
-            put_wanted(a, wanted_by(tested_by(held, b), to), frame, pushed, draft)?;
-            put(draft, &[Label(own)])
-        }
-        Comparing::Truth(Side::Right) => {
-            put_wanted(b, wanted_by(tested_by(held, a), to), frame, pushed, draft)?;
+        Comparing::Truth(side) => {
+            put_side(side, a, left, b, right, frame, pushed, draft)?;
             put(draft, &[Label(own)])
         }
         Comparing::Byte(side, None, relation, byte) => {
-            let first = match side {
-                Side::Left => a,
-                Side::Right => b,
-            };
-            put_expr(first, frame, pushed, draft)?;
-            compare_byte(relation, byte, to, draft)?;
+            put_side(side, a, left, b, right, frame, pushed, draft)?;
+            put_compare_byte(relation, byte, to, draft)?;
             put(draft, &[Label(own)])
         }
         Comparing::Byte(_, Some(low), relation, byte) => {
-            put_byte(Lda, low, draft)?;
-            compare_byte(relation, byte, to, draft)?;
+            leave_out(a, left, draft)?;
+            leave_out(b, right, draft)?;
+            put_op(Lda, low, draft)?;
+            put_compare_byte(relation, byte, to, draft)?;
             put(draft, &[Label(own)])
         }
         Comparing::Whole(side, relation, is_signed, sides) => {
-            let first = match side {
-                Side::Left => a,
-                Side::Right => b,
-            };
-            put_expr(first, frame, pushed, draft)?;
-            compare(relation, is_signed, sides, own, to, draft)
+            put_side(side, a, left, b, right, frame, pushed, draft)?;
+            put_compare(relation, is_signed, sides, own, to, draft)
         }
         Comparing::Stacked => {
             let wait = waiting(width_of(computes(operands)));
-            put_expr(a, frame, pushed, draft)?;
+            put_wanted(a, left, frame, pushed, draft)?;
             put_between(operands, draft)?;
-            put_expr(b, frame, more(pushed, wait), draft)?;
+            put_wanted(b, right, frame, more(pushed, wait), draft)?;
             put_behind(op, operands, kind_of(&b.ty.ty), draft)?;
-            put_outcome_test(sense, to, own, draft)
+            put_outcome_test(sense, to, draft)?;
+            put(draft, &[Label(own)])
+        }
+    }
+}
+
+// One of two sides; the other one is read where it lies.
+#[cycle(expression)]
+fn put_side(
+    side: Side,
+    a: &TExpr,
+    left: Wanted,
+    b: &TExpr,
+    right: Wanted,
+    frame: &Frame<'_>,
+    pushed: u16,
+    draft: &mut Draft,
+) -> Result<(), AllocError>
+    requires { IsFree side (sense_of left) (typed_of a.now) (sense_of right) (typed_of b.now) }
+    ensures lines { OnOk result (draft.new ≡ grown draft.old (on side (expr_code frame.now pushed draft.old.labels left (typed_of a.now)) (expr_code frame.now pushed (draft.old.labels + uses (sense_of left) (typed_of a.now)) right (typed_of b.now))) (uses (sense_of left) (typed_of a.now) + uses (sense_of right) (typed_of b.now))) }
+    ensures kept { OnErr result (Keeps draft.old draft.new) }
+{
+    match side {
+        Side::Left => {
+            put_wanted(a, left, frame, pushed, draft)?;
+            leave_out(b, right, draft)
+        }
+        Side::Right => {
+            leave_out(a, left, draft)?;
+            put_wanted(b, right, frame, pushed, draft)
         }
     }
 }
