@@ -9,7 +9,7 @@ mod loads;
 mod numbers;
 mod places;
 mod stores;
-mod zero_page;
+pub mod zero_page;
 
 pub use address::{put_address, put_offset, put_raised, put_symbol};
 pub use conversions::{bytes_of, convert, push, test, waiting};
