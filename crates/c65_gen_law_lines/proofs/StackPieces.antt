@@ -105,7 +105,7 @@ shift_still op n v = leaves_if (n == 0) leaves_none (by_still op n v)
 double_still : Still (call (Unary Shl1 Ax) ∷ [])
 double_still v = record { to = λ calls. refl }
 
-scale_still : (n : ℕ) → Still (scale_code n)
+pub scale_still : (n : ℕ) → Still (scale_code n)
 scale_still n v = leaves_if (n == 1) leaves_none (leaves_if (n == 2) (double_still v) (by_still tos.Mul n v))
 
 divide_still : (n : ℕ) → Still (divide_code n)
