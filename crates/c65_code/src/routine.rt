@@ -152,7 +152,7 @@ pub enum Routine {
 
 impl Routine {
     /// How many routines there are.
-    pub const COUNT: usize = 122;
+    pub const COUNT: usize = 123;
 
     /// All of them. Each stands before those that it calls, and the hooks stand last.
     pub const ALL: [Routine; Routine::COUNT] = [
@@ -167,6 +167,7 @@ impl Routine {
         Routine::Library(Library::Strcpy),
         Routine::Library(Library::Putchar),
         Routine::Library(Library::Strlen),
+        Routine::Library(Library::Printf),
         Routine::PushA,
         Routine::PushAx,
         Routine::PushA0,
@@ -347,55 +348,55 @@ impl Routine {
     /// The routine's place in `ALL`.
     pub fn number(self) -> usize
         ensures value { result ≡ number_of self }
-        ensures small { result < 122 }
+        ensures small { result < 123 }
     {
         match self {
             Routine::Start => 0,
             Routine::StartArgs => 1,
             Routine::Library(function) => 2 + library_number(function),
-            Routine::PushA => 11,
-            Routine::PushAx => 12,
-            Routine::PushA0 => 13,
-            Routine::Push0 => 14,
-            Routine::PushEax => 15,
-            Routine::PopA => 16,
-            Routine::PopAx => 17,
-            Routine::PopEax => 18,
-            Routine::PopPtrs => 19,
-            Routine::IncSp(count) => 20 + count as usize,
-            Routine::DecSp(count) => 28 + count as usize,
-            Routine::AddYSp => 36,
-            Routine::SubYSp => 37,
-            Routine::LdAxYSp => 38,
-            Routine::LdAx0Sp => 39,
-            Routine::LdEaxYSp => 40,
-            Routine::StAxYSp => 41,
-            Routine::StAx0Sp => 42,
-            Routine::StEaxYSp => 43,
-            Routine::LdAi => 44,
-            Routine::LdAxi => 45,
-            Routine::LdEaxi => 46,
-            Routine::StATos => 47,
-            Routine::StAxTos => 48,
-            Routine::StEaxTos => 49,
-            Routine::CopyTos => 50,
-            Routine::Tos(op, Width::Ax) => 51 + op as usize,
-            Routine::Tos(op, Width::Eax) => 74 + op as usize,
-            Routine::Unary(op, Width::Ax) => 97 + op as usize,
-            Routine::Unary(op, Width::Eax) => 103 + op as usize,
-            Routine::SignA => 109,
-            Routine::LongAx => 110,
-            Routine::ULongAx => 111,
-            Routine::SaveRegs => 112,
-            Routine::RestRegs => 113,
-            Routine::CallPtr4 => 114,
-            Routine::StkChk => 115,
-            Routine::HookOpen => 116,
-            Routine::HookClose => 117,
-            Routine::HookRead => 118,
-            Routine::HookWrite => 119,
-            Routine::HookArgs => 120,
-            Routine::HookExit => 121,
+            Routine::PushA => 12,
+            Routine::PushAx => 13,
+            Routine::PushA0 => 14,
+            Routine::Push0 => 15,
+            Routine::PushEax => 16,
+            Routine::PopA => 17,
+            Routine::PopAx => 18,
+            Routine::PopEax => 19,
+            Routine::PopPtrs => 20,
+            Routine::IncSp(count) => 21 + count as usize,
+            Routine::DecSp(count) => 29 + count as usize,
+            Routine::AddYSp => 37,
+            Routine::SubYSp => 38,
+            Routine::LdAxYSp => 39,
+            Routine::LdAx0Sp => 40,
+            Routine::LdEaxYSp => 41,
+            Routine::StAxYSp => 42,
+            Routine::StAx0Sp => 43,
+            Routine::StEaxYSp => 44,
+            Routine::LdAi => 45,
+            Routine::LdAxi => 46,
+            Routine::LdEaxi => 47,
+            Routine::StATos => 48,
+            Routine::StAxTos => 49,
+            Routine::StEaxTos => 50,
+            Routine::CopyTos => 51,
+            Routine::Tos(op, Width::Ax) => 52 + op as usize,
+            Routine::Tos(op, Width::Eax) => 75 + op as usize,
+            Routine::Unary(op, Width::Ax) => 98 + op as usize,
+            Routine::Unary(op, Width::Eax) => 104 + op as usize,
+            Routine::SignA => 110,
+            Routine::LongAx => 111,
+            Routine::ULongAx => 112,
+            Routine::SaveRegs => 113,
+            Routine::RestRegs => 114,
+            Routine::CallPtr4 => 115,
+            Routine::StkChk => 116,
+            Routine::HookOpen => 117,
+            Routine::HookClose => 118,
+            Routine::HookRead => 119,
+            Routine::HookWrite => 120,
+            Routine::HookArgs => 121,
+            Routine::HookExit => 122,
         }
     }
 }
@@ -523,16 +524,16 @@ fn among(routines: &[Routine], name: &[u8]) -> Option<Routine>
 // Where most routines stand whose names begin like this one.
 fn likely_places(name: &[u8]) -> Range<usize>
     ensures order { result.start ≤ result.end }
-    ensures end { result.end ≤ 122 }
+    ensures end { result.end ≤ 123 }
 {
     match name.first() {
-        Some(b'p') => 11..20,
-        Some(b'i') => 20..28,
-        Some(b'd') => 28..36,
-        Some(b'l') => 38..47,
-        Some(b's') => 41..50,
-        Some(b't') => 51..97,
-        Some(b'a' | b'b' | b'c' | b'n') => 97..115,
+        Some(b'p') => 11..21,
+        Some(b'i') => 21..29,
+        Some(b'd') => 29..37,
+        Some(b'l') => 39..48,
+        Some(b's') => 42..51,
+        Some(b't') => 52..98,
+        Some(b'a' | b'b' | b'c' | b'n') => 98..116,
         _ => 0..0,
     }
 }
@@ -551,5 +552,6 @@ fn library_number(function: Library) -> usize
         Library::Strcpy => 6,
         Library::Putchar => 7,
         Library::Strlen => 8,
+        Library::Printf => 9,
     }
 }

@@ -2,11 +2,11 @@
 ghost use Rattle.std.specs.Prelude.{◌≡◌, [], ◌+◌, ◌≤◌, OnOk, IfOk, OnErr, IfErr};
 ghost use Rattle.c65_base.specs.declared.refusal.Refusal.TheVariants.{OutOfMemory};
 ghost use Rattle.c65_csem.specs.Views.{typed_of, nodes_of};
-ghost use Rattle.c65_genwide.specs.Lines.{Keeps};
+ghost use Rattle.c65_genwide.specs.Lines.{grown, Keeps};
 ghost use Rattle.c65_genexpr.specs.Arguments.{passed_of};
 ghost use Rattle.c65_genexpr.specs.Places.{IsKnown, place_of};
 ghost use Rattle.c65_genexpr.specs.Uses.{uses, head_uses, args_uses};
-ghost use Rattle.c65_genexpr.specs.Code.{grown, with_label, target_code, expr_code, binary_code, both_code, either_code, choice_code, assign_code, compound_code, call_code, args_code};
+ghost use Rattle.c65_genexpr.specs.Code.{target_code, expr_code, binary_code, both_code, either_code, choice_code, assign_code, compound_code, call_code, args_code};
 
 use crate::arguments::{
     Passed, argument_bytes, is_counted, is_fast, joined, passed_size, put_argument, stays,
@@ -30,23 +30,10 @@ use c65_genload::{
     Place, copy, extent_by, held, hold, load, load_bytes, number, push, put_offset, put_symbol,
     store, test, waiting,
 };
-use c65_genwide::{put, width_of};
+use c65_genwide::{next_label, put, width_of};
 use c65_mach::Mode::{Absolute, Immediate, Relative};
 use c65_mach::Op::{Beq, Bne, Jmp, Lda, Ldx};
 use std::alloc::AllocError;
-
-/// A label that was not given before; where there is none, want of memory.
-#[tactic(auto, using(c65_genwide::proofs::Kept::kept_same, crate::proofs::Kept::label_then))]
-fn next_label(draft: &mut Draft) -> Result<u32, AllocError>
-    ensures label { IfOk result (λ l. l ≡ draft.old.labels) }
-    ensures draft { OnOk result (draft.new ≡ with_label draft.old) }
-    ensures kept { OnErr result (Keeps draft.old draft.new) }
-{
-    if draft.labels() >= 0x8000_0000 {
-        return Err(AllocError);
-    }
-    Ok(draft.fresh())
-}
 
 /// Puts the lines of an expression behind those of the draft, where so many bytes of values wait on
 /// the software stack. The value then stands in the primary register: in A and X, or in A, X and

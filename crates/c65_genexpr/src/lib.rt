@@ -3,13 +3,16 @@
 
 mod arguments;
 mod calls;
+mod comparing;
 mod expr;
 mod operands;
+mod operating;
 mod places;
 mod shorts;
 mod spills;
 mod steps;
 mod types;
+mod wanted;
 
 pub use c65_genframe::{Frame, Home};
 pub use expr::{gen_expr, put_expr};

@@ -1,8 +1,7 @@
 // Operators whose right operand is a constant (C90 6.3.6).
 ghost use Rattle.std.specs.Prelude.{◌≡◌, Some, OnOk, OnErr};
 ghost use Rattle.c65_csem.specs.Views.{typed_of};
-ghost use Rattle.c65_genwide.specs.Lines.{with_lines, Keeps};
-ghost use Rattle.c65_genexpr.specs.Code.{grown};
+ghost use Rattle.c65_genwide.specs.Lines.{with_lines, grown, Keeps};
 ghost use Rattle.c65_genexpr.specs.Uses.{uses};
 ghost use Rattle.c65_genexpr.specs.Operands.{residue_of, negative, constant_in, is_short, short_of, scaled, short_code};
 

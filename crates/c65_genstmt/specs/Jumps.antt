@@ -4,8 +4,8 @@ use Rattle.c65_csem.specs.Trees.{Typed}
 use Rattle.c65_mach.specs.declared.rows.Op.{Op}
 use Rattle.c65_code.specs.Segments.{Drafted}
 use Rattle.c65_genframe.specs.Frames.{Framed}
-use Rattle.c65_genwide.specs.Lines.{with_lines}
-use Rattle.c65_genexpr.specs.Code.{grown, expr_code, test_in}
+use Rattle.c65_genwide.specs.Lines.{with_lines, grown}
+use Rattle.c65_genexpr.specs.Code.{expr_code, test_in}
 use Rattle.c65_genexpr.specs.Uses.{uses}
 use Rattle.c65_genentry.specs.Words.{branch}
 

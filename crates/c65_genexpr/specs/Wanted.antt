@@ -1,0 +1,75 @@
+-- What is wanted of an expression, and of its parts.
+use Rattle.std.specs.Prelude.{ℕ, ◌+◌, Bool, false, if◌then◌else◌, Option, Some, None, List, [], ◌∷◌, ◌++◌}
+use Rattle.c65_mach.specs.declared.rows.Op.{Op}
+use Rattle.c65_mach.specs.declared.rows.Op.TheVariants.{Beq, Bne}
+use Rattle.c65_code.specs.declared.line.Line.{Line}
+use Rattle.c65_code.specs.declared.line.Line.TheVariants.{Label}
+use Rattle.c65_code.specs.declared.routine.Width.{Width}
+use Rattle.c65_genload.specs.Words.{branch}
+use Rattle.c65_genload.specs.Conversions.{test_code}
+use Rattle.c65_gendirect.specs.Tests.{truth_code}
+use Rattle.c65_genexpr.specs.declared.wanted.Wanted.{Wanted}
+use Rattle.c65_genexpr.specs.declared.wanted.Wanted.TheVariants.{Value, Test}
+
+-- the sense of a test; a value has none
+abbrev pub sense_of : Wanted → Option Bool
+sense_of Value = None
+sense_of (Test to s) = Some s
+
+-- a test in this sense, or a value
+abbrev pub wanted_by : Option Bool → ℕ → Wanted
+wanted_by None to = Value
+wanted_by (Some s) to = Test to s
+
+-- a part that has the same truth is tested in its place; else its value is wanted
+abbrev pub handed : Bool → Wanted → Wanted
+handed same w = if same then w else Value
+
+abbrev pub handed_sense : Bool → Option Bool → Option Bool
+handed_sense same s = if same then s else None
+
+-- by whether a value is not zero, behind a test of it
+abbrev pub by_sense : Bool → Op
+by_sense s = if s then Bne else Beq
+
+-- the lines of a value, from which the truth is taken where a test is wanted
+abbrev pub wanted : Wanted → Width → List Line → List Line
+wanted Value width lines = lines
+wanted (Test to s) width lines = lines ++ (test_code width ++ branch (by_sense s) to ∷ [])
+
+-- ---- comparisons, `!`, `&&` and `||`: where the value is wanted, a test leads to the first of two labels if it fails
+
+abbrev pub aimed : Wanted → ℕ → ℕ
+aimed Value fresh = fresh
+aimed (Test to s) fresh = to
+
+abbrev pub aimed_sense : Option Bool → Bool
+aimed_sense None = false
+aimed_sense (Some s) = s
+
+abbrev pub sense : Wanted → Bool
+sense w = aimed_sense (sense_of w)
+
+abbrev pub truth_labels : Option Bool → ℕ
+truth_labels None = 2
+truth_labels (Some s) = 0
+
+-- the first label behind these
+abbrev pub inner : Wanted → ℕ → ℕ
+inner w fresh = fresh + truth_labels (sense_of w)
+
+-- behind such a test
+abbrev pub truth_by : Wanted → ℕ → List Line → List Line
+truth_by Value fresh lines = lines ++ truth_code fresh
+truth_by (Test to s) fresh lines = lines
+
+-- ---- `&&` and `||`: the left side leads where the whole does, or to a label behind the right one
+
+abbrev pub way : Bool → ℕ → ℕ → ℕ
+way straight to m = if straight then to else m
+
+abbrev pub way_labels : Bool → ℕ
+way_labels straight = if straight then 0 else 1
+
+abbrev pub joined : Bool → ℕ → List Line → List Line → List Line
+joined straight m a b = a ++ (b ++ (if straight then [] else Label m ∷ []))
