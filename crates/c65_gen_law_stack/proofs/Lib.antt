@@ -18,4 +18,4 @@ pub mod BankExprs
 pub mod BankStmts
 pub mod BankMoves
 pub mod WalkLaws
-pub mod QuietLines
+pub mod EvenLines

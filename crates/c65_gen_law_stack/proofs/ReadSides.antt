@@ -11,6 +11,7 @@ use Rattle.c65_genwide.specs.Wide.{width_of}
 use Rattle.c65_genload.specs.declared.places.Place.{Place}
 use Rattle.c65_genload.specs.declared.places.Place.TheVariants as places
 use Rattle.c65_genload.specs.declared.places.Access.{Access}
+use Rattle.c65_gendirect.specs.declared.bytes.OperandByte.{OperandByte}
 use Rattle.c65_gendirect.specs.declared.direct.Direct.{Direct}
 use Rattle.c65_gendirect.specs.declared.relation.Relation.{Relation}
 use Rattle.c65_gendirect.specs.declared.compare.Sides.{Sides}
@@ -27,9 +28,9 @@ use Rattle.c65_genexpr.specs.declared.operating.Operating.TheVariants as operati
 use Rattle.c65_genexpr.specs.Types.{kind_of, bare, offset_at, access_of}
 use Rattle.c65_genexpr.specs.Places.{place_of, IsKnown}
 use Rattle.c65_genexpr.specs.Operands.{residue_of, constant_in}
-use Rattle.c65_genexpr.specs.Direct.{kept_at, address_at, address_of, takes_bytes, converted_if, direct_of, is_fixed, is_pure, is_byte}
-use Rattle.c65_genexpr.specs.Comparing.{is_zero, zero_sense, tested_by, sides_of, is_raised, raised, one_more, range_of, meeting, beside, changes, compared_by, comparing_of}
-use Rattle.c65_genexpr.specs.Operating.{constant_form, word_in, right_form, left_form, form_in, by_left, by_right, operating_of}
+use Rattle.c65_genexpr.specs.Direct.{kept_at, address_at, address_of, takes_bytes, converted_if, direct_of, is_fixed, is_pure}
+use Rattle.c65_genexpr.specs.Comparing.{is_zero, zero_sense, tested_by, sides_of, is_raised, raised, one_more, range_of, meeting, beside, changes, compared_by}
+use Rattle.c65_genexpr.specs.Operating.{constant_form, word_in, right_form, left_form, constant_right, direct_right, direct_left, by_left, by_right, operating_of}
 use Rattle.c65_gen_law_lines.proofs.ExprLaws.{moved_known}
 
 -- what holds of objects, constants and addresses, and with a tree of its parts, conversions and addresses
@@ -51,12 +52,12 @@ some_then g (Some x) y e = (x, refl)
 
 -- ---- a value that is read where it lies
 
-known_passes : {P : Typed → Type 0} → Passes P → (f : Framed) (pushed : ℕ) (e : Typed) → IsKnown (place_of f pushed e) → P e
+pub known_passes : {P : Typed → Type 0} → Passes P → (f : Framed) (pushed : ℕ) (e : Typed) → IsKnown (place_of f pushed e) → P e
 known_passes p f pushed (node t (object i)) h = p.object t i
 known_passes p f pushed (node t (member e m)) h = p.member t e m (known_passes p f pushed e (moved_known (place_of f pushed e) (offset_at (types_of f.parts.types) (bare e) m) h))
 known_passes p f pushed (node t _) h = absurd h
 
-kept_known : (place : Place) (access : Access) (d : Direct) → kept_at place access ≡ Some d → IsKnown place
+pub kept_known : (place : Place) (access : Access) (d : Direct) → kept_at place access ≡ Some d → IsKnown place
 kept_known places.Far access d e = absurd cc
 kept_known (places.Bank b) access d e = tt
 kept_known (places.Near at) access d e = tt
@@ -131,28 +132,17 @@ beside_passes side r bytes kind first (Some d) own other =
     compared_if (is_raised r (range_of bytes kind) d) (meeting side (raised r) bytes kind first (sides_of (width_of kind) (one_more d))) (meeting side r bytes kind first (sides_of (width_of kind) d))
     (meeting_passes side (raised r) bytes kind first (sides_of (width_of kind) (one_more d)) own (other d refl)) (meeting_passes side r bytes kind first (sides_of (width_of kind) d) own (other d refl))
 
-compared_passes : {A B : Type 0} (r : Relation) (bytes : Bool) (kind : IntType) (pure : Bool) (a b : Option Direct) → ((d : Direct) → a ≡ Some d → A) → ((d : Direct) → b ≡ Some d → B) → Compared A B (compared_by r bytes kind pure a b)
+pub compared_passes : {A B : Type 0} (r : Relation) (bytes : Bool) (kind : IntType) (pure : Bool) (a b : Option Direct) → ((d : Direct) → a ≡ Some d → A) → ((d : Direct) → b ≡ Some d → B) → Compared A B (compared_by r bytes kind pure a b)
 compared_passes r bytes kind pure a b pa pb =
     compared_if (changes kind pure a b) (beside sides.Right (mirrored r) bytes kind b a) (beside sides.Left r bytes kind a b)
     (beside_passes sides.Right (mirrored r) bytes kind b a pb pa) (beside_passes sides.Left r bytes kind a b pa pb)
 
-tested_passes : {P : Typed → Type 0} → Passes P → (r : Relation) (e : Typed) → is_some (tested_by r e) ≡ true → P e
+pub tested_passes : {P : Typed → Type 0} → Passes P → (r : Relation) (e : Typed) → is_some (tested_by r e) ≡ true → P e
 tested_passes p r e h = by (is_zero e) refl h
   where
     by : (b : Bool) → is_zero e ≡ b → is_some (if b then zero_sense r else None) ≡ true → P e
     by true z h = zero_passes p e z
     by false z h = absurd cc
-
-pub comparing_passes : {P : Typed → Type 0} → Passes P → (f : Framed) (pushed : ℕ) (r : Relation) (kind : IntType) (a b : Typed) → Compared (P a) (P b) (comparing_of f pushed r kind a b)
-comparing_passes p f pushed r kind a b = by (is_some (tested_by r b)) (is_some (tested_by r a)) refl refl
-  where
-    rest : Comparing
-    rest = compared_by r (is_byte a && is_byte b) kind (is_pure b) (direct_of f pushed a) (direct_of f pushed b)
-
-    by : (x y : Bool) → is_some (tested_by r b) ≡ x → is_some (tested_by r a) ≡ y → Compared (P a) (P b) (if x then Truth sides.Left else (if y then Truth sides.Right else rest))
-    by true y h k = tested_passes p r b h
-    by false true h k = tested_passes p r a k
-    by false false h k = compared_passes r (is_byte a && is_byte b) kind (is_pure b) (direct_of f pushed a) (direct_of f pushed b) (direct_passes p f pushed a) (direct_passes p f pushed b)
 
 -- ---- operators
 
@@ -171,13 +161,19 @@ left_passes true (Some x) h = h x refl
 left_passes true None h = tt
 left_passes false o h = tt
 
-form_passes : {A : Type 0} (g : OperandByte → OperandByte → Option Form) (o : Option Direct) → ((d : Direct) → o ≡ Some d → A) → (x : Form) → form_in g o ≡ Some x → A
-form_passes g None h x e = absurd cc
-form_passes g (Some d) h x e = h d refl
+operand_passes : {A B : Type 0} {C : Type 0} (g : A → Option B) (h : Direct → Option A) (o : Option Direct) → ((d : Direct) → o ≡ Some d → C) → (x : B) → option_and_then g (option_and_then h o) ≡ Some x → C
+operand_passes g h None own x e = absurd cc
+operand_passes g h (Some d) own x e = own d refl
+
+constant_right_passes : {P : Typed → Type 0} → Passes P → (op : BinaryOp) (operands : Operands) (e : Typed) (x : Form) → constant_right op operands e ≡ Some x → P e
+constant_right_passes p op operands e x h =
+    let z = some_then (λ (z : ℤ). constant_form op operands (residue_of z)) (constant_in e) x h in
+    constant_passes p e z.0 z.1
 
 pub operating_passes : {P : Typed → Type 0} → Passes P → (f : Framed) (pushed : ℕ) (op : BinaryOp) (operands : Operands) (a b : Typed) → Operated (P a) (P b) (operating_of f pushed op operands a b)
 operating_passes p f pushed op operands a b =
     let left : Option Direct = direct_of f pushed a in
-    right_passes (option_and_then (λ z. constant_form op operands (residue_of z)) (constant_in b)) _ (λ x e. let z = some_then (λ z. constant_form op operands (residue_of z)) (constant_in b) x e in constant_passes p b z.0 z.1)
-    (right_passes (form_in (right_form op operands) (direct_of f pushed b)) _ (form_passes (right_form op operands) (direct_of f pushed b) (direct_passes p f pushed b))
-    (left_passes (is_fixed left || is_pure b) (form_in (left_form op operands) left) (form_passes (left_form op operands) left (direct_passes p f pushed a))))
+    let right : Option Direct = direct_of f pushed b in
+    right_passes (constant_right op operands b) (by_right (direct_right op operands right) (by_left (is_fixed left || is_pure b) (direct_left op operands left))) (constant_right_passes p op operands b)
+    (right_passes (direct_right op operands right) (by_left (is_fixed left || is_pure b) (direct_left op operands left)) (operand_passes (λ w. right_form op operands w.0 w.1) word_in right (direct_passes p f pushed b))
+    (left_passes (is_fixed left || is_pure b) (direct_left op operands left) (operand_passes (λ w. left_form op operands w.0 w.1) word_in left (direct_passes p f pushed a))))

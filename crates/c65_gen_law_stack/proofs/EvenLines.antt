@@ -39,51 +39,51 @@ At P v l h = P l × (h ≡ v)
 
 -- Whatever waits, these lines leave it, and regbank. The labels of P stand where it waits, and branches lead to labels that stand so, or
 -- elsewhere to one of X.
-pub record Quiet (P X : Labels) (a : List Line) : Type 0 where
+pub record Even (P X : Labels) (a : List Line) : Type 0 where
   pub level : (v : List ℕ) → Level (At P v) (At X v) [] v a v
   pub clear : Clear a
 
-pub quiet_end : {P Q X Y : Labels} {a : List Line} → Quiet P X a → ((l : ℕ) → Q l → P l) → ((l : ℕ) → X l → P l ⊎ Y l) → Quiet Q Y a
-quiet_end p fewer closes = record {
+pub even_end : {P Q X Y : Labels} {a : List Line} → Even P X a → ((l : ℕ) → Q l → P l) → ((l : ℕ) → X l → P l ⊎ Y l) → Even Q Y a
+even_end p fewer closes = record {
   level = λ v. level_end (p.level v) (λ l h z. (fewer l z.0, z.1)) (λ l h z. elim (closes l z.0) [ inl a ↦ inl (a, z.1) | inr y ↦ inr (y, z.1) ]);
   clear = p.clear;
 }
 
-pub quiet_then : {P Q X : Labels} {a b : List Line} → Quiet P X a → Quiet Q X b → Quiet (Both P Q) X (a ++ b)
-quiet_then p q = record {
+pub even_then : {P Q X : Labels} {a b : List Line} → Even P X a → Even Q X b → Even (Both P Q) X (a ++ b)
+even_then p q = record {
   level = λ v. level_end (level_then (p.level v) (q.level v)) (λ l h z. elim z.0 [ inl a ↦ inl (a, z.1) | inr b ↦ inr (b, z.1) ]) (λ l h z. inr z);
   clear = clear_then p.clear q.clear;
 }
 
 -- lines without labels and branches
-pub quiet_piece : {X : Labels} {a : List Line} → Still a → list_all is_plain a ≡ true → Clear a → Quiet No X a
-quiet_piece still plain clear = record { level = λ v. level_end (level_piece (still v) plain) (λ l h z. z.0) (λ l h z. inr z); clear = clear }
+pub even_piece : {X : Labels} {a : List Line} → Still a → list_all is_plain a ≡ true → Clear a → Even No X a
+even_piece still plain clear = record { level = λ v. level_end (level_piece (still v) plain) (λ l h z. z.0) (λ l h z. inr z); clear = clear }
 
-pub quiet_label : {X : Labels} (k : ℕ) → Quiet (One k) X (Label k ∷ [])
-quiet_label k = record { level = λ v. level_label k v; clear = record { all = refl } }
+pub even_label : {X : Labels} (k : ℕ) → Even (One k) X (Label k ∷ [])
+even_label k = record { level = λ v. level_label k v; clear = record { all = refl } }
 
-pub quiet_open : {X : Labels} {a : List Line} → Quiet No No a → Quiet No X a
-quiet_open p = quiet_end p (λ l z. z) (λ l z. absurd z)
+pub even_open : {X : Labels} {a : List Line} → Even No No a → Even No X a
+even_open p = even_end p (λ l z. z) (λ l z. absurd z)
 
-pub quiet_if : {P X : Labels} (b : Bool) {x y : List Line} → Quiet P X x → Quiet P X y → Quiet P X (if b then x else y)
-quiet_if true p q = p
-quiet_if false p q = q
+pub even_if : {P X : Labels} (b : Bool) {x y : List Line} → Even P X x → Even P X y → Even P X (if b then x else y)
+even_if true p q = p
+even_if false p q = q
 
 -- two closed forms, and one that only leads elsewhere
-pub quiet_on : {X : Labels} {a b : List Line} → Quiet No X a → Quiet No X b → Quiet No X (a ++ b)
-quiet_on p q = quiet_end (quiet_then p q) (λ l z. absurd z) (λ l z. inr z)
+pub even_on : {X : Labels} {a b : List Line} → Even No X a → Even No X b → Even No X (a ++ b)
+even_on p q = even_end (even_then p q) (λ l z. absurd z) (λ l z. inr z)
 
 -- a label that stands there is no longer open
-pub quiet_close : {P X : Labels} {a : List Line} (k : ℕ) → P k → Quiet P (Both (One k) X) a → Quiet No X a
-quiet_close {P = P} {X = X} k here p = quiet_end p (λ l z. absurd z) by
+pub even_close : {P X : Labels} {a : List Line} (k : ℕ) → P k → Even P (Both (One k) X) a → Even No X a
+even_close {P = P} {X = X} k here p = even_end p (λ l z. absurd z) by
   where
     by : (l : ℕ) → Both (One k) X l → P l ⊎ X l
     by l (inl e) = inl (subst (λ (x : ℕ). P x) (sym e) here)
     by l (inr x) = inr x
 
 -- a branch or a jump, to one of X
-leads_quiet : {X : Labels} (op : Op) (mode : Mode) (k : ℕ) → X k → Clear (Do op mode (To k) ∷ []) → Quiet No X (Do op mode (To k) ∷ [])
-leads_quiet {X = X} op mode k x clear = record {
+leads_even : {X : Labels} (op : Op) (mode : Mode) (k : ℕ) → X k → Clear (Do op mode (To k) ∷ []) → Even No X (Do op mode (To k) ∷ [])
+leads_even {X = X} op mode k x clear = record {
   level = λ v. level_end (level_leads op mode k v) (λ l h z. z.0) (λ l h z. inr (subst (λ (y : ℕ). X y) (sym z.0) x, z.1));
   clear = clear;
 }
@@ -92,11 +92,11 @@ leads_quiet {X = X} op mode k x clear = record {
 abbrev pub IsBranch : Op → Type 0
 IsBranch op = is_written (kind_of op) ≡ false
 
-pub quiet_branch : {X : Labels} (op : Op) (k : ℕ) → IsBranch op → X k → Quiet No X (branch op k ∷ [])
-quiet_branch op k plain x = leads_quiet op Relative k x (record { all = ap (λ (b : Bool). (not b || lies_outside Relative (To k)) && true) plain })
+pub even_branch : {X : Labels} (op : Op) (k : ℕ) → IsBranch op → X k → Even No X (branch op k ∷ [])
+even_branch op k plain x = leads_even op Relative k x (record { all = ap (λ (b : Bool). (not b || lies_outside Relative (To k)) && true) plain })
 
-pub quiet_jump : {X : Labels} (k : ℕ) → X k → Quiet No X (Do Jmp Absolute (To k) ∷ [])
-quiet_jump k x = leads_quiet Jmp Absolute k x (record { all = refl })
+pub even_jump : {X : Labels} (k : ℕ) → X k → Even No X (Do Jmp Absolute (To k) ∷ [])
+even_jump k x = leads_even Jmp Absolute k x (record { all = refl })
 
 -- operations that lead nowhere and write nothing of regbank
 abbrev pub is_bare : Line → Bool
@@ -104,16 +104,16 @@ is_bare (Label l) = false
 is_bare (Do op mode operand) = not (is_to operand) && (not (is_written (kind_of op)) || lies_outside mode operand)
 is_bare (Call callee) = false
 
-pub quiet_lines : {X : Labels} (a : List Line) → list_all is_bare a ≡ true → Quiet No X a
-quiet_lines [] h = quiet_piece (λ v. leaves_none) refl clear_none
-quiet_lines (Label l ∷ a) h = absurd cc
-quiet_lines (Do op mode operand ∷ a) h =
+pub even_lines : {X : Labels} (a : List Line) → list_all is_bare a ≡ true → Even No X a
+even_lines [] h = even_piece (λ v. leaves_none) refl clear_none
+even_lines (Label l ∷ a) h = absurd cc
+even_lines (Do op mode operand ∷ a) h =
     let both = and_parts (is_bare (Do op mode operand)) (list_all is_bare a) h in
     let own = and_parts (not (is_to operand)) (not (is_written (kind_of op)) || lies_outside mode operand) both.0 in
-    let one : Quiet No _ (Do op mode operand ∷ []) = quiet_piece (λ v. record { to = λ calls. refl }) (and_from (not (is_to operand)) true own.0 refl) (record { all = and_from (not (is_written (kind_of op)) || lies_outside mode operand) true own.1 refl }) in
-    quiet_on one (quiet_lines a both.1)
-quiet_lines (Call callee ∷ a) h = absurd cc
+    let one : Even No _ (Do op mode operand ∷ []) = even_piece (λ v. record { to = λ calls. refl }) (and_from (not (is_to operand)) true own.0 refl) (record { all = and_from (not (is_written (kind_of op)) || lies_outside mode operand) true own.1 refl }) in
+    even_on one (even_lines a both.1)
+even_lines (Call callee ∷ a) h = absurd cc
 
 -- a label that nothing leads to
-pub quiet_labelled : {X : Labels} {a : List Line} (k : ℕ) → Quiet No X a → Quiet No X (a ++ Label k ∷ [])
-quiet_labelled k p = quiet_end (quiet_then p (quiet_label k)) (λ l z. absurd z) (λ l z. inr z)
+pub even_labelled : {X : Labels} {a : List Line} (k : ℕ) → Even No X a → Even No X (a ++ Label k ∷ [])
+even_labelled k p = even_end (even_then p (even_label k)) (λ l z. absurd z) (λ l z. inr z)
