@@ -23,7 +23,7 @@ use Rattle.c65_genwide.specs.Wide.{width_of}
 use Rattle.c65_genload.specs.declared.places.Place.{Place}
 use Rattle.c65_genload.specs.declared.places.Place.TheVariants.{Far}
 use Rattle.c65_genload.specs.declared.places.Access.{Access}
-use Rattle.c65_genload.specs.Places.{held, type_in, extent_by}
+use Rattle.c65_genload.specs.Places.{held, type_in, extent_of, extent_by}
 use Rattle.c65_genload.specs.Numbers.{number_code}
 use Rattle.c65_genload.specs.Conversions.{push_code, waiting}
 use Rattle.c65_genload.specs.Addresses.{symbol_code, offset_code}
@@ -32,7 +32,7 @@ use Rattle.c65_genload.specs.Stores.{store_code, copy_code}
 use Rattle.c65_gendirect.specs.declared.direct.Direct.{Direct}
 use Rattle.c65_gendirect.specs.declared.relation.Relation.{Relation}
 use Rattle.c65_gendirect.specs.Compare.{relation_of}
-use Rattle.c65_gendirect.specs.Tests.{zero_test_code}
+use Rattle.c65_gendirect.specs.Tests.{zero_test_code, truth_code}
 use Rattle.c65_genexpr.specs.declared.wanted.Wanted.{Wanted}
 use Rattle.c65_genexpr.specs.declared.wanted.Wanted.TheVariants.{Value, Test}
 use Rattle.c65_genexpr.specs.declared.operands.Operands.{Operands}
@@ -40,7 +40,7 @@ use Rattle.c65_genexpr.specs.declared.operands.Operands.TheVariants.{Numbers, Po
 use Rattle.c65_genexpr.specs.declared.types.Outcome.{Outcome}
 use Rattle.c65_genexpr.specs.Types.{kind_of, outcome_of, kind_in, bare, offset_at, access_of, target_bytes}
 use Rattle.c65_genexpr.specs.Places.{more, place_of, object_code, rest_code}
-use Rattle.c65_genexpr.specs.Wanted.{wanted_by, handed, wanted, sense, aimed, inner, truth_by, way, way_labels, joined}
+use Rattle.c65_genexpr.specs.Wanted.{wanted_by, handed, wanted, sense, aimed, inner, truth_by, is_straight, way, way_labels, joined}
 use Rattle.c65_genexpr.specs.Spills.{spill_code}
 use Rattle.c65_genexpr.specs.Operands.{residue_of, operands_of, computes, unary_code, same_truth, conversion_by}
 use Rattle.c65_genexpr.specs.Direct.{kept_at, own_bytes}
@@ -68,7 +68,7 @@ constant_code (Test to false) width n = if n == 0 then Do Jmp Absolute (To to) �
 
 -- a number that is kept at a known place is tested where it lies; else it is loaded
 abbrev pub tested_load : Option Direct → IntType → Bool → ℕ → List Line → List Line
-tested_load (Some d) kind s to lines = zero_test_code (own_bytes d kind) s to
+tested_load (Some d) kind s to lines = zero_test_code (own_bytes d (extent_of kind)) s to
 tested_load None kind s to lines = wanted (Test to s) (width_of kind) lines
 
 -- behind the address of a place that is anywhere
@@ -127,12 +127,12 @@ abbrev mutual
       let own = inner w fresh in
       truth_by w fresh (comparison_by how op operands (kind_in b) (sense w) to own (expr_code f pushed (own + 1) (wanted_by (tested_by q b) to) a) (expr_code f (below_side how pushed bytes) (own + 1 + uses (tested_by q b) a) (wanted_by (tested_by q a) to) b)))
   node_code f pushed fresh w t (both a b) =
-      let straight = not (sense w) in
+      let straight = is_straight false (sense w) in
       let own = inner w fresh in
       let first = own + way_labels straight in
       truth_by w fresh (joined straight own (expr_code f pushed first (Test (way straight (aimed w fresh) own) false) a) (expr_code f pushed (first + uses (Some false) a) (Test (aimed w fresh) (sense w)) b))
   node_code f pushed fresh w t (either a b) =
-      let straight = sense w in
+      let straight = is_straight true (sense w) in
       let own = inner w fresh in
       let first = own + way_labels straight in
       truth_by w fresh (joined straight own (expr_code f pushed first (Test (way straight (aimed w fresh) own) true) a) (expr_code f pushed (first + uses (Some true) a) (Test (aimed w fresh) (sense w)) b))
@@ -182,10 +182,20 @@ comparison_code f pushed own to s op r a b =
     let how = comparing_of f pushed q (computes operands) a b in
     comparison_by how op operands (kind_in b) s to own (expr_code f pushed (own + 1) (wanted_by (tested_by q b) to) a) (expr_code f (below_side how pushed (waiting (width_of (computes operands)))) (own + 1 + uses (tested_by q b) a) (wanted_by (tested_by q a) to) b)
 
-abbrev pub joint_code : Framed → ℕ → ℕ → ℕ → Bool → Bool → Bool → Typed → Typed → List Line
-joint_code f pushed own to s straight stop a b =
+-- a binary operator whose value is wanted
+abbrev pub binary_code : Framed → ℕ → ℕ → BinaryOp → Typed → Typed → List Line
+binary_code f pushed fresh op a b =
+    by_relation (relation_of op) (operator_code f pushed fresh op a b) (λ r. comparison_code f pushed (fresh + 2) fresh false op r a b ++ truth_code fresh)
+
+-- `&&` and `||`, which a left side decides whose truth is stop
+abbrev pub joint_code : Framed → ℕ → ℕ → ℕ → Bool → Bool → Typed → Typed → List Line
+joint_code f pushed own to s stop a b =
+    let straight = is_straight stop s in
     let first = own + way_labels straight in
     joined straight own (expr_code f pushed first (Test (way straight to own) stop) a) (expr_code f pushed (first + uses (Some stop) a) (Test to s) b)
+
+abbrev pub load_test_code : Framed → ℕ → ℕ → ℕ → Bool → Typed → List Line
+load_test_code f pushed fresh to s e = load_by (Test to s) (place_of f pushed e) (access_of (types_of f.parts.types) e) (target_code (place_of f pushed e) (expr_code f pushed fresh Value e))
 
 abbrev pub choice_code : Framed → ℕ → ℕ → Typed → Typed → Typed → List Line
 choice_code f pushed fresh c a b =

@@ -11,7 +11,7 @@ use Rattle.c65_code.specs.declared.routine.Width.{Width}
 use Rattle.c65_code.specs.declared.routine.Width.TheVariants.{Ax, Eax}
 use Rattle.c65_genframe.specs.Frames.{Framed}
 use Rattle.c65_genwide.specs.Wide.{width_of}
-use Rattle.c65_genload.specs.Words.{implied, branch}
+use Rattle.c65_genload.specs.Words.{implied}
 use Rattle.c65_gendirect.specs.declared.bytes.OperandByte.{OperandByte}
 use Rattle.c65_gendirect.specs.declared.direct.Direct.{Direct}
 use Rattle.c65_gendirect.specs.declared.direct.Direct.TheVariants.{Number, Address, Kept}
@@ -30,7 +30,7 @@ use Rattle.c65_genexpr.specs.declared.operands.Operands.{Operands}
 use Rattle.c65_genexpr.specs.Operands.{residue_of, computes, between_code, behind_code}
 use Rattle.c65_genexpr.specs.Places.{more}
 use Rattle.c65_genexpr.specs.Direct.{direct_of, is_fixed, is_pure, is_byte}
-use Rattle.c65_genexpr.specs.Wanted.{by_sense}
+use Rattle.c65_genexpr.specs.Wanted.{branch_code}
 
 -- the relation that holds where a comparison has this truth
 abbrev pub relation_by : Bool → Relation → Relation
@@ -145,4 +145,4 @@ comparison_by (Truth side) op operands right s to m a b = labelled m (on side a 
 comparison_by (Byte side low r d) op operands right s to m a b = labelled m (low_code low (on side a b) ++ compare_byte_code r d to)
 comparison_by (Whole side r is_signed sides) op operands right s to m a b = on side a b ++ compare_code r is_signed sides m to
 comparison_by Stacked op operands right s to m a b =
-    labelled m (a ++ (between_code operands ++ (b ++ (behind_code op operands right ++ (implied Tay ∷ branch (by_sense s) to ∷ [])))))
+    labelled m (a ++ (between_code operands ++ (b ++ (behind_code op operands right ++ (implied Tay ∷ branch_code s to)))))

@@ -8,6 +8,8 @@ use Rattle.c65_csem.specs.Trees.{Typed, node, Node, constant, null, literal, obj
 use Rattle.c65_genframe.specs.Frames.{Framed}
 use Rattle.c65_genframe.specs.Symbols.{numbers_of, literal_symbol, function_symbol}
 use Rattle.c65_genload.specs.Conversions.{size_of}
+use Rattle.c65_genload.specs.declared.places.Extent.{Extent}
+use Rattle.c65_genload.specs.declared.places.Extent.TheVariants.{One, Two}
 use Rattle.c65_genload.specs.declared.places.Place.{Place}
 use Rattle.c65_genload.specs.declared.places.Place.TheVariants.{Data, Far}
 use Rattle.c65_genload.specs.declared.places.Access.{Access}
@@ -58,18 +60,15 @@ abbrev mutual
   direct_of f pushed (node t (convert e)) = converted_if (takes_bytes (type_in t) (bare e)) (kind_of (type_in t)) (direct_of f pushed e)
   direct_of f pushed (node t _) = None
 
--- the bytes of a number that is kept, as many as its type has
-abbrev pub present : Option OperandByte → List OperandByte → List OperandByte
-present None ds = ds
-present (Some d) ds = d ∷ ds
+-- the bytes that are kept of a number
+abbrev pub with_byte : Option OperandByte → List OperandByte → List OperandByte
+with_byte None ds = ds
+with_byte (Some d) ds = d ∷ ds
 
-abbrev pub bytes_by : Direct → ℕ → List OperandByte
-bytes_by d 1 = present (byte_of d 0) []
-bytes_by d 2 = present (byte_of d 0) (present (byte_of d 1) [])
-bytes_by d n = present (byte_of d 0) (present (byte_of d 1) (present (byte_of d 2) (present (byte_of d 3) [])))
-
-abbrev pub own_bytes : Direct → IntType → List OperandByte
-own_bytes d kind = bytes_by d (size_of kind)
+abbrev pub own_bytes : Direct → Extent → List OperandByte
+own_bytes d One = with_byte (byte_of d 0) []
+own_bytes d Two = with_byte (byte_of d 0) (with_byte (byte_of d 1) [])
+own_bytes d _ = with_byte (byte_of d 0) (with_byte (byte_of d 1) (with_byte (byte_of d 2) (with_byte (byte_of d 3) [])))
 
 -- a value that nothing changes while the program runs
 abbrev pub is_fixed : Option Direct → Bool

@@ -17,7 +17,7 @@ use Rattle.c65_genload.specs.Conversions.{push_code}
 use Rattle.c65_gendirect.specs.declared.bytes.OperandByte.{OperandByte}
 use Rattle.c65_gendirect.specs.declared.direct.Direct.{Direct}
 use Rattle.c65_gendirect.specs.Bytes.{byte_of}
-use Rattle.c65_gendirect.specs.Words.{word_code, add_number_code, under_code, long_mask_code}
+use Rattle.c65_gendirect.specs.Words.{word_code, add_number_code, taken_from_code, long_mask_code}
 use Rattle.c65_genshift.specs.declared.quick.Quick.{Quick}
 use Rattle.c65_genshift.specs.Quick.{quick_of, quick_code, elements_code}
 use Rattle.c65_genshift.specs.Shifts.{labelled}
@@ -108,8 +108,14 @@ left_form Add (PointerFirst size) low high = Some (Indexed size low high)
 left_form Sub (Pointers size) low high = Some (DistanceUnder size low high)
 left_form op operands low high = None
 
-abbrev pub form_in : (OperandByte → OperandByte → Option Form) → Option Direct → Option Form
-form_in form d = option_and_then (λ w. form w.0 w.1) (option_and_then word_in d)
+abbrev pub constant_right : BinaryOp → Operands → Typed → Option Form
+constant_right op operands b = option_and_then (λ z. constant_form op operands (residue_of z)) (constant_in b)
+
+abbrev pub direct_right : BinaryOp → Operands → Option Direct → Option Form
+direct_right op operands b = option_and_then (λ w. right_form op operands w.0 w.1) (option_and_then word_in b)
+
+abbrev pub direct_left : BinaryOp → Operands → Option Direct → Option Form
+direct_left op operands a = option_and_then (λ w. left_form op operands w.0 w.1) (option_and_then word_in a)
 
 -- ---- the form
 
@@ -125,10 +131,9 @@ by_right None other = other
 -- how an operator is computed on two operands
 abbrev pub operating_of : Framed → ℕ → BinaryOp → Operands → Typed → Typed → Operating
 operating_of f pushed op operands a b =
-    let left = direct_of f pushed a in
-    by_right (option_and_then (λ z. constant_form op operands (residue_of z)) (constant_in b))
-    (by_right (form_in (right_form op operands) (direct_of f pushed b))
-    (by_left (is_fixed left || is_pure b) (form_in (left_form op operands) left)))
+    by_right (constant_right op operands b)
+    (by_right (direct_right op operands (direct_of f pushed b))
+    (by_left (is_fixed (direct_of f pushed a) || is_pure b) (direct_left op operands (direct_of f pushed a))))
 
 -- ---- lines
 
@@ -145,16 +150,20 @@ form_code (LongSum n) label = labelled label (add_long_code n)
 form_code (Mask op n) label = labelled label (long_mask_code op n)
 form_code (Constant kind quick) label = quick_code kind quick label
 form_code (Word op low high) label = word_code op low high label ++ placed op label
-form_code (Under low high) label = labelled label (under_code low high)
-form_code (Indexed size low high) label = elements_code size label ++ sum_code low high
+form_code (Under low high) label = labelled label (taken_from_code low high)
+form_code (Indexed size low high) label = elements_code size ++ word_code Add low high label
 form_code (Distance size low high) label = word_code Sub low high label ++ divide_code size
-form_code (DistanceUnder size low high) label = labelled label (under_code low high ++ divide_code size)
+form_code (DistanceUnder size low high) label = labelled label (taken_from_code low high ++ divide_code size)
 
--- a left operand that waits, from the lines of both: elements become bytes
-abbrev pub stacked_code : BinaryOp → Operands → IntType → ℕ → List Line → List Line → List Line
-stacked_code op (PointerFirst size) right label a b = a ++ (push_code Ax ++ (b ++ (elements_code size label ++ wide_code op UInt)))
-stacked_code op (PointerLast size) right label a b = a ++ (elements_code size label ++ (push_code Ax ++ (b ++ wide_code op UInt)))
-stacked_code op operands right label a b = labelled label (a ++ (between_code operands ++ (b ++ behind_code op operands right)))
+-- behind a left operand that waits: elements become bytes
+abbrev pub waiting_code : Operands → List Line
+waiting_code (PointerLast size) = elements_code size ++ push_code Ax
+waiting_code operands = between_code operands
+
+-- behind the right operand then
+abbrev pub stacked_code : BinaryOp → Operands → IntType → List Line
+stacked_code op (PointerFirst size) right = elements_code size ++ wide_code op UInt
+stacked_code op operands right = behind_code op operands right
 
 -- the bytes that wait while the right operand is computed: the left one has so many
 abbrev pub below_operand : Operating → ℕ → ℕ → ℕ
@@ -165,4 +174,4 @@ below_operand _ pushed bytes = pushed
 abbrev pub operator_by : Operating → BinaryOp → Operands → IntType → ℕ → List Line → List Line → List Line
 operator_by (Left form) op operands right label a b = a ++ form_code form label
 operator_by (Right form) op operands right label a b = b ++ form_code form label
-operator_by Stacked op operands right label a b = stacked_code op operands right label a b
+operator_by Stacked op operands right label a b = labelled label (a ++ (waiting_code operands ++ (b ++ stacked_code op operands right)))

@@ -1,6 +1,7 @@
 -- How many labels the lines of an expression have.
 use Rattle.std.specs.Prelude.{ℕ, ◌+◌, Bool, true, false, not, Option, Some, None}
 use Rattle.c65_base.specs.declared.operators.UnaryOp.TheVariants.{Not}
+use Rattle.c65_base.specs.declared.operators.BinaryOp.{BinaryOp}
 use Rattle.c65_ctype.specs.Trees.{QTy, type_in}
 use Rattle.c65_csem.specs.Trees.{Typed, node, Node, constant, null, literal, object, func, deref, member, load, address, decay, convert, unary, binary, both, either, choice, comma, assign, assign_op, assign_step, step, copy, call, pack, spill, rest, Nodes, none, some}
 use Rattle.c65_gendirect.specs.declared.relation.Relation.{Relation}
@@ -8,7 +9,7 @@ use Rattle.c65_gendirect.specs.Compare.{relation_of}
 use Rattle.c65_genexpr.specs.Types.{bare}
 use Rattle.c65_genexpr.specs.Calls.{named}
 use Rattle.c65_genexpr.specs.Operands.{same_truth}
-use Rattle.c65_genexpr.specs.Wanted.{handed_sense, aimed_sense, truth_labels, way_labels}
+use Rattle.c65_genexpr.specs.Wanted.{handed_sense, aimed_sense, truth_labels, is_straight, way_labels}
 use Rattle.c65_genexpr.specs.Comparing.{relation_by, tested_by}
 
 -- a function that is called by its name takes no lines of its own
@@ -44,8 +45,8 @@ abbrev mutual
       by_relation (relation_of op) (1 + (uses None a + uses None b)) (λ r.
       let q = relation_by (aimed_sense s) r in
       truth_labels s + (1 + (uses (tested_by q b) a + uses (tested_by q a) b)))
-  node_uses s t (both a b) = truth_labels s + (way_labels (not (aimed_sense s)) + (uses (Some false) a + uses (Some (aimed_sense s)) b))
-  node_uses s t (either a b) = truth_labels s + (way_labels (aimed_sense s) + (uses (Some true) a + uses (Some (aimed_sense s)) b))
+  node_uses s t (both a b) = truth_labels s + (way_labels (is_straight false (aimed_sense s)) + (uses (Some false) a + uses (Some (aimed_sense s)) b))
+  node_uses s t (either a b) = truth_labels s + (way_labels (is_straight true (aimed_sense s)) + (uses (Some true) a + uses (Some (aimed_sense s)) b))
   node_uses s t (choice c a b) = 2 + (uses (Some false) c + (uses None a + uses None b))
   node_uses s t (comma a b) = uses None a + uses s b
   node_uses s t (assign a b) = uses None a + uses None b
@@ -64,6 +65,14 @@ abbrev mutual
 
 abbrev pub head_uses : Typed → ℕ
 head_uses f = unless_named (named f) (uses None f)
+
+-- a comparison by a relation
+abbrev pub comparison_uses : Relation → Typed → Typed → ℕ
+comparison_uses q a b = 1 + (uses (tested_by q b) a + uses (tested_by q a) b)
+
+-- a binary operator whose value is wanted
+abbrev pub binary_uses : BinaryOp → Typed → Typed → ℕ
+binary_uses op a b = by_relation (relation_of op) (1 + (uses None a + uses None b)) (λ r. 2 + comparison_uses (relation_by false r) a b)
 
 -- how many trees a tree has, itself among them; more than its arguments have places
 abbrev mutual

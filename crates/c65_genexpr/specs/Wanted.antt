@@ -1,5 +1,5 @@
 -- What is wanted of an expression, and of its parts.
-use Rattle.std.specs.Prelude.{ℕ, ◌+◌, Bool, false, if◌then◌else◌, Option, Some, None, List, [], ◌∷◌, ◌++◌}
+use Rattle.std.specs.Prelude.{ℕ, ◌+◌, Bool, false, not, if◌then◌else◌, Option, Some, None, List, [], ◌∷◌, ◌++◌}
 use Rattle.c65_mach.specs.declared.rows.Op.{Op}
 use Rattle.c65_mach.specs.declared.rows.Op.TheVariants.{Beq, Bne}
 use Rattle.c65_code.specs.declared.line.Line.{Line}
@@ -32,10 +32,17 @@ handed_sense same s = if same then s else None
 abbrev pub by_sense : Bool → Op
 by_sense s = if s then Bne else Beq
 
+abbrev pub branch_code : Bool → ℕ → List Line
+branch_code s to = branch (by_sense s) to ∷ []
+
+-- behind a value
+abbrev pub value_test_code : Width → Bool → ℕ → List Line
+value_test_code width s to = test_code width ++ branch_code s to
+
 -- the lines of a value, from which the truth is taken where a test is wanted
 abbrev pub wanted : Wanted → Width → List Line → List Line
 wanted Value width lines = lines
-wanted (Test to s) width lines = lines ++ (test_code width ++ branch (by_sense s) to ∷ [])
+wanted (Test to s) width lines = lines ++ value_test_code width s to
 
 -- ---- comparisons, `!`, `&&` and `||`: where the value is wanted, a test leads to the first of two labels if it fails
 
@@ -63,13 +70,17 @@ abbrev pub truth_by : Wanted → ℕ → List Line → List Line
 truth_by Value fresh lines = lines ++ truth_code fresh
 truth_by (Test to s) fresh lines = lines
 
--- ---- `&&` and `||`: the left side leads where the whole does, or to a label behind the right one
+-- ---- `&&` and `||`, which a left side decides whose truth is stop
+
+-- whether the whole then has the truth that a test asks for: the left side leads where the whole does, else behind the right one
+abbrev pub is_straight : Bool → Bool → Bool
+is_straight stop s = if stop then s else not s
 
 abbrev pub way : Bool → ℕ → ℕ → ℕ
-way straight to m = if straight then to else m
+way straight to own = if straight then to else own
 
 abbrev pub way_labels : Bool → ℕ
 way_labels straight = if straight then 0 else 1
 
 abbrev pub joined : Bool → ℕ → List Line → List Line → List Line
-joined straight m a b = a ++ (b ++ (if straight then [] else Label m ∷ []))
+joined straight own a b = a ++ (b ++ (if straight then [] else Label own ∷ []))

@@ -1,5 +1,5 @@
 -- Operators whose right operand is a constant, by shifts and masks (C90 6.3.5, 6.3.7).
-use Rattle.std.specs.Prelude.{ℕ, zero, suc, ◌-◌, ◌^◌, ◌==◌, nat_lt, if◌then◌else◌, Option, Some, None, List, [], ◌∷◌, ◌++◌}
+use Rattle.std.specs.Prelude.{ℕ, zero, suc, ◌+◌, ◌-◌, ◌^◌, ◌==◌, nat_lt, if◌then◌else◌, Option, Some, None, List, [], ◌∷◌, ◌++◌}
 use Rattle.c65_base.specs.declared.operators.BinaryOp.{BinaryOp}
 use Rattle.c65_ints.specs.declared.types.IntType.{IntType}
 use Rattle.c65_ints.specs.Ranges.{is_signed_of}
@@ -15,7 +15,7 @@ use Rattle.c65_genload.specs.Words.{sreg, implied, zero_page}
 use Rattle.c65_genload.specs.Numbers.{first, second, third, fourth, mask_code, scale_code}
 use Rattle.c65_genshift.specs.declared.quick.Quick.{Quick}
 use Rattle.c65_genshift.specs.declared.quick.Quick.TheVariants.{Shift, Mask}
-use Rattle.c65_genshift.specs.Shifts.{labelled, shift_code, is_short}
+use Rattle.c65_genshift.specs.Shifts.{calls_code, left_byte_code, labelled, shift_code, is_short}
 
 -- the k below a bound with 2 to the k the number
 abbrev pub power_below : ℕ → ℕ → Option ℕ
@@ -78,10 +78,10 @@ quick_lines width (Mask n) label = labelled label (mask_by_width width n)
 abbrev pub quick_code : IntType → Quick → ℕ → List Line
 quick_code kind quick label = quick_lines (width_of kind) quick label ++ narrow_code kind
 
-abbrev pub elements_by : ℕ → Option Quick → ℕ → List Line
-elements_by size (Some quick) label = quick_lines Ax quick label
-elements_by size None label = labelled label (scale_code size)
+abbrev pub elements_by : ℕ → Option ℕ → List Line
+elements_by size (Some k) = if nat_lt k 8 then calls_code tos.Shl Ax k else (if nat_lt k 16 then left_byte_code (k - 8) else scale_code size)
+elements_by size None = scale_code size
 
--- a number of elements of so many bytes becomes one of bytes. The label is a fresh one, and is placed once.
-abbrev pub elements_code : ℕ → ℕ → List Line
-elements_code size label = elements_by size (quick_by tos.Mul Ax size) label
+-- a number of elements of so many bytes becomes one of bytes
+abbrev pub elements_code : ℕ → List Line
+elements_code size = elements_by size (power_of size)

@@ -9,4 +9,3 @@ mod zero_page;
 
 pub use masks::mask;
 pub use quick::{Quick, put_elements, put_quick, quick_of};
-pub use shifts::{is_short, shift};

@@ -1,14 +1,14 @@
 // Operators whose right operand is a constant, by shifts and masks (C90 6.3.5, 6.3.7).
-ghost use Rattle.std.specs.Prelude.{◌≡◌, ◌≤◌, None, OnOk, OnErr};
-ghost use Rattle.c65_genwide.specs.Lines.{with_lines, Keeps};
+ghost use Rattle.std.specs.Prelude.{◌≡◌, ◌≤◌, OnOk, OnErr};
+ghost use Rattle.c65_genwide.specs.Lines.{with_lines, grown, Keeps};
 ghost use Rattle.c65_genshift.specs.Quick.{power_below, power_of, shift_if, scaled_if, rest_if, quick_by, quick_of, quick_lines, quick_code, elements_code};
 
 use crate::masks::mask;
-use crate::shifts::{is_short, place, shift};
+use crate::shifts::{is_short, place, put_calls, put_left_byte, shift};
 use c65_base::BinaryOp;
 use c65_code::{Draft, TosOp, Width};
 use c65_genload::scale;
-use c65_genwide::{narrow, tos_of, width_of};
+use c65_genwide::{narrow, next_label, tos_of, width_of};
 use c65_ints::IntType;
 use std::alloc::AllocError;
 
@@ -20,17 +20,25 @@ pub enum Quick {
     Mask(u32),
 }
 
-fn power_of(number: u32) -> Option<u32>
-    ensures { result ≡ power_of number }
+#[tactic(auto, using(crate::proofs::Powers::power_here, crate::proofs::Powers::power_lower))]
+fn power_below(bound: u32, number: u32) -> Option<u32>
+    requires { bound ≤ 32 }
+    ensures { result ≡ power_below bound number }
 {
-    let mut bound = 32;
-    while bound > 0 {
-        bound -= 1;
-        if number == 1 << bound {
-            return Some(bound);
+    let mut above = bound;
+    while above > 0 {
+        above -= 1;
+        if number == 1 << above {
+            return Some(above);
         }
     }
     None
+}
+
+fn power_of(number: u32) -> Option<u32>
+    ensures { result ≡ power_of number }
+{
+    power_below(32, number)
 }
 
 fn shift_if(op: TosOp, width: Width, count: u32) -> Option<Quick>
@@ -79,14 +87,7 @@ fn put_lines(width: Width, quick: Quick, label: u32, draft: &mut Draft) -> Resul
     }
 }
 
-/// Behind the left operand, in the operator's type. The label is a fresh one, and is
-/// placed once, also where no line leads to it.
-pub fn put_quick(
-    kind: IntType,
-    quick: Quick,
-    label: u32,
-    draft: &mut Draft,
-) -> Result<(), AllocError>
+fn put_with(kind: IntType, quick: Quick, label: u32, draft: &mut Draft) -> Result<(), AllocError>
     ensures lines { OnOk result (draft.new ≡ with_lines draft.old (quick_code kind quick label)) }
     ensures kept { OnErr result (Keeps draft.old draft.new) }
 {
@@ -94,17 +95,25 @@ pub fn put_quick(
     narrow(kind, draft)
 }
 
-/// A number of elements of so many bytes becomes a number of bytes (C90 6.3.6). The label is a fresh
-/// one, and is placed once, also where no line leads to it.
-pub fn put_elements(size: u32, label: u32, draft: &mut Draft) -> Result<(), AllocError>
-    ensures lines { OnOk result (draft.new ≡ with_lines draft.old (elements_code size label)) }
+/// Behind the left operand, in the operator's type. A label is given, and placed once, also where no
+/// line leads to it.
+#[tactic(auto, using(c65_genwide::proofs::Kept::label_last, c65_genwide::proofs::Kept::label_then))]
+pub fn put_quick(kind: IntType, quick: Quick, draft: &mut Draft) -> Result<(), AllocError>
+    ensures lines { OnOk result (draft.new ≡ grown draft.old (quick_code kind quick draft.old.labels) 1) }
     ensures kept { OnErr result (Keeps draft.old draft.new) }
 {
-    match quick_by(TosOp::Mul, Width::Ax, size) {
-        Some(quick) => put_lines(Width::Ax, quick, label, draft),
-        None => {
-            scale(size, draft)?;
-            place(label, draft)
-        }
+    let label = next_label(draft)?;
+    put_with(kind, quick, label, draft)
+}
+
+/// A number of elements of so many bytes becomes a number of bytes (C90 6.3.6).
+pub fn put_elements(size: u32, draft: &mut Draft) -> Result<(), AllocError>
+    ensures lines { OnOk result (draft.new ≡ with_lines draft.old (elements_code size)) }
+    ensures kept { OnErr result (Keeps draft.old draft.new) }
+{
+    match power_of(size) {
+        Some(exponent) if exponent < 8 => put_calls(TosOp::Shl, Width::Ax, exponent, draft),
+        Some(exponent) if exponent < 16 => put_left_byte(exponent - 8, draft),
+        _ => scale(size, draft),
     }
 }

@@ -42,7 +42,7 @@ fn one_of(op: TosOp) -> UnaryRoutine
     }
 }
 
-fn put_calls(op: TosOp, width: Width, count: u32, draft: &mut Draft) -> Result<(), AllocError>
+pub fn put_calls(op: TosOp, width: Width, count: u32, draft: &mut Draft) -> Result<(), AllocError>
     ensures lines { OnOk result (draft.new ≡ with_lines draft.old (calls_code op width count)) }
     ensures kept { OnErr result (Keeps draft.old draft.new) }
 {
@@ -90,7 +90,7 @@ fn put_right_turns(count: u8, label: u32, draft: &mut Draft) -> Result<(), Alloc
 }
 
 // AX by eight bits and a count more.
-fn put_left_byte(count: u32, draft: &mut Draft) -> Result<(), AllocError>
+pub fn put_left_byte(count: u32, draft: &mut Draft) -> Result<(), AllocError>
     ensures lines { OnOk result (draft.new ≡ with_lines draft.old (left_byte_code count)) }
     ensures kept { OnErr result (Keeps draft.old draft.new) }
 {
