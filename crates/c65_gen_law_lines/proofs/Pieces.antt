@@ -100,7 +100,7 @@ scale_piece n = piece_if 13 (n == 1) [] _ (piece_none 13) (piece_if 13 (n == 2) 
 zero_piece : Piece 10 (number_code Ax 0)
 zero_piece = record { plain = refl; fit = refl; size = omega arith }
 
-divide_piece : (n : ℕ) → Piece 10 (divide_code n)
+pub divide_piece : (n : ℕ) → Piece 10 (divide_code n)
 divide_piece n = piece_if 10 (n == 1) [] _ (piece_none 10) (piece_if 10 (is_divisor n) (by_code tos.Div n) (number_code Ax 0) (by_piece tos.Div n) zero_piece)
 
 pub symbol_piece : (s : Sym) (at : ℕ) → Piece 4 (symbol_code s at)
@@ -323,7 +323,7 @@ unary_piece unary.BitNot Eax = record { plain = refl; fit = refl; size = omega a
 unary_piece unary.Not w = record { plain = refl; fit = refl; size = omega arith }
 unary_piece _ w = piece_none 13
 
-wide_piece : (op : BinaryOp) (kind : IntType) → Piece 6 (wide_code op kind)
+pub wide_piece : (op : BinaryOp) (kind : IntType) → Piece 6 (wide_code op kind)
 wide_piece op kind =
     let one : Piece 3 (call (Tos (tos_of op (is_signed_of kind)) (width_of kind)) ∷ []) = record { plain = refl; fit = refl; size = omega arith } in
     one_call 3 (call (Tos (tos_of op (is_signed_of kind)) (width_of kind))) _ one (piece_if 3 (is_comparison op) [] (narrow_code kind) (piece_none 3) (narrow_piece kind))

@@ -87,7 +87,7 @@ double_still v = record { to = λ calls. refl }
 pub scale_still : (n : ℕ) → Still (scale_code n)
 scale_still n v = leaves_if (n == 1) leaves_none (leaves_if (n == 2) (double_still v) (by_still tos.Mul n v))
 
-divide_still : (n : ℕ) → Still (divide_code n)
+pub divide_still : (n : ℕ) → Still (divide_code n)
 divide_still n v = leaves_if (n == 1) leaves_none (leaves_if (is_divisor n) (by_still tos.Div n v) (number_still Ax 0 v))
 
 above_still : (n : ℕ) → Still (call LdAi ∷ (above_code ++ add_code ints.UInt n))
@@ -309,7 +309,7 @@ tos_leaves : (op : TosOp) (w : Width) (v : List ℕ) → Leaves (waiting w ∷ v
 tos_leaves op Ax v = record { to = λ calls. refl }
 tos_leaves op Eax v = record { to = λ calls. refl }
 
-wide_leaves : (op : BinaryOp) (kind : IntType) (v : List ℕ) → Leaves (waiting (width_of kind) ∷ v) (wide_code op kind) v
+pub wide_leaves : (op : BinaryOp) (kind : IntType) (v : List ℕ) → Leaves (waiting (width_of kind) ∷ v) (wide_code op kind) v
 wide_leaves op kind v = leaves_then (tos_leaves (tos_of op (is_signed_of kind)) (width_of kind) v) (leaves_if (is_comparison op) leaves_none (narrow_still kind v))
 
 pub between_leaves : (operands : Operands) (v : List ℕ) → Leaves v (between_code operands) (waiting (width_of (computes operands)) ∷ v)

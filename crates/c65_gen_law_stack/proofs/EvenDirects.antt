@@ -116,11 +116,13 @@ taken_even low high =
     even_on (even_lines (zero_page Sta tmp1 ∷ zero_page Stx tmp2 ∷ []) refl) (even_on (byte_even Lda low refl) (even_on (even_lines (implied Sec ∷ zero_page Sbc tmp1 ∷ []) refl)
     (even_on (aside_even high) (even_on (byte_even Lda high refl) (even_on (even_lines (zero_page Sbc tmp2 ∷ implied Tax ∷ []) refl) (back_even high))))))
 
+number_even : {X : Labels} (op : BinaryOp) (n : ℕ) → Even No X (value (instruction op) n ∷ [])
+number_even op n = reader_even (instruction op) Immediate (operand.Byte n) (instruction_reads op) refl
+
 pub long_mask_even : {X : Labels} (op : BinaryOp) (n : ℕ) → Even No X (long_mask_code op n)
 long_mask_even op n =
-    let by (m : ℕ) : Even No _ (value (instruction op) m ∷ []) = reader_even (instruction op) Immediate (operand.Byte m) (instruction_reads op) refl in
-    even_on (by (first n)) (even_on (even_lines (implied Tay ∷ implied Txa ∷ []) refl) (even_on (by (second n)) (even_on (even_lines (implied Tax ∷ zero_page Lda sreg ∷ []) refl) (even_on (by (third n))
-    (even_on (even_lines (zero_page Sta sreg ∷ zero_page Lda (sreg + 1) ∷ []) refl) (even_on (by (fourth n)) (even_lines (zero_page Sta (sreg + 1) ∷ implied Tya ∷ []) refl)))))))
+    even_on (number_even op (first n)) (even_on (even_lines (implied Tay ∷ implied Txa ∷ []) refl) (even_on (number_even op (second n)) (even_on (even_lines (implied Tax ∷ zero_page Lda sreg ∷ []) refl) (even_on (number_even op (third n))
+    (even_on (even_lines (zero_page Sta sreg ∷ zero_page Lda (sreg + 1) ∷ []) refl) (even_on (number_even op (fourth n)) (even_lines (zero_page Sta (sreg + 1) ∷ implied Tya ∷ []) refl)))))))
 
 -- ---- comparisons
 

@@ -25,7 +25,7 @@ use Rattle.c65_gen_law_lines.proofs.StackPieces.{number_still, test_still, divid
 use Rattle.c65_gen_law_stack.proofs.BankPieces.{number_clear, test_clear, divide_clear}
 use Rattle.c65_gen_law_stack.proofs.EvenLines.{Labels, No, One, Even, even_piece, even_if, even_on, even_jump, even_lines, even_labelled}
 use Rattle.c65_gen_law_stack.proofs.EvenShifts.{quick_even, elements_even}
-use Rattle.c65_gen_law_stack.proofs.EvenDirects.{word_even, sum_even, added_even, taken_even, long_mask_even, sense_even}
+use Rattle.c65_gen_law_stack.proofs.EvenDirects.{word_even, added_even, taken_even, long_mask_even, sense_even}
 
 -- where what is wanted leads
 abbrev pub Aim : Wanted → Labels
@@ -65,6 +65,6 @@ form_even (Mask op n) label = even_labelled label (long_mask_even op n)
 form_even (Constant kind quick) label = quick_even kind quick label
 form_even (Word op low high) label = even_on (word_even op low high label) (placed_even op label)
 form_even (Under low high) label = even_labelled label (taken_even low high)
-form_even (Indexed size low high) label = even_labelled label (even_on (elements_even size) (sum_even low high))
+form_even (Indexed size low high) label = even_on (elements_even size) (word_even ops.Add low high label)
 form_even (Distance size low high) label = even_on (word_even ops.Sub low high label) (divide_even size)
 form_even (DistanceUnder size low high) label = even_labelled label (even_on (taken_even low high) (divide_even size))

@@ -71,7 +71,7 @@ shift_even tos.Shl Eax n label = even_labelled label (left_long_even n)
 shift_even tos.Shr Ax n label = right_word_even n label
 shift_even tos.Shr Eax n label = even_labelled label (right_long_even n)
 shift_even tos.Asr width n label = even_labelled label (calls_even tos.Asr width n)
-shift_even _ width n label = even_labelled label (calls_even _ width n)
+shift_even op width n label = even_labelled label (calls_even op width n)
 
 -- ---- masks
 

@@ -24,13 +24,13 @@ use Rattle.c65_code.specs.declared.routine.Width.TheVariants.{Ax}
 use Rattle.c65_genframe.specs.Symbols.{numbers_of, function_symbol, literal_symbol}
 use Rattle.c65_genframe.specs.Frames.{Framed, type_bytes}
 use Rattle.c65_genframe.specs.Registers.{registers}
-use Rattle.c65_genwide.specs.Wide.{width_of, wide_code}
+use Rattle.c65_genwide.specs.Wide.{width_of}
 use Rattle.c65_genload.specs.declared.places.Place.{Place}
 use Rattle.c65_genload.specs.declared.places.Place.TheVariants as places
 use Rattle.c65_genload.specs.declared.places.Access.{Access}
 use Rattle.c65_genload.specs.declared.places.Extent.{Extent}
 use Rattle.c65_genload.specs.Words.{implied}
-use Rattle.c65_genload.specs.Places.{type_in as type_at, held, extent_by}
+use Rattle.c65_genload.specs.Places.{type_in as type_at, held, extent_of, extent_by}
 use Rattle.c65_genload.specs.Loads.{load_code}
 use Rattle.c65_genload.specs.Conversions.{waiting}
 use Rattle.c65_gendirect.specs.declared.bytes.OperandByte.{OperandByte}
@@ -259,7 +259,7 @@ choice_level {v = v} j k dc da db =
 
 -- a value that is tested where it lies, or when it is loaded
 tested_level : {cs : List (List ℕ)} {v : List ℕ} {a : List Line} (o : Option Direct) (kind : IntType) (s : Bool) (to : ℕ) → ((d : Direct) → o ≡ Some d → cs ≡ []) → Closed cs v a v → Leading (One to) cs v (tested_load o kind s to a)
-tested_level (Some d) kind s to known p = leading_as (sym (known d refl)) (leading_even (zero_test_even (own_bytes d kind) s to refl))
+tested_level (Some d) kind s to known p = leading_as (sym (known d refl)) (leading_even (zero_test_even (own_bytes d (extent_of kind)) s to refl))
 tested_level None kind s to known p = wanted_level (Test to s) (width_of kind) p
 
 load_level : {cs : List (List ℕ)} {v : List ℕ} {a : List Line} (w : Wanted) (place : Place) (access : Access) → (IsKnown place → cs ≡ []) → Closed cs v a v → Aimed w cs v (load_by w place access a)
@@ -282,46 +282,44 @@ conversion_level (Test to s) false t from p = wanted_level (Test to s) (width_of
 shut : {a : List Line} → Even No No a → (v : List ℕ) → Closed [] v a v
 shut e v = closed_value (leading_even e)
 
-wide_level : (op : BinaryOp) (kind : IntType) (v : List ℕ) → Closed [] (waiting (width_of kind) ∷ v) (wide_code op kind) v
-wide_level op kind v = level_piece (wide_leaves op kind v) (wide_piece op kind).plain
-
-waiting_level : (operands : Operands) (label : ℕ) (v : List ℕ) → Closed [] v (waiting_code operands label) (waiting (width_of (computes operands)) ∷ v)
-waiting_level (Numbers kind) label v = level_piece (between_leaves (Numbers kind) v) (between_piece (Numbers kind)).plain
-waiting_level (PointerFirst size) label v = level_piece (between_leaves (PointerFirst size) v) (between_piece (PointerFirst size)).plain
-waiting_level (PointerLast size) label v = closed_behind (shut (elements_even size) v) (level_piece (push_leaves Ax v) (push_piece Ax).plain)
-waiting_level (Pointers size) label v = level_piece (between_leaves (Pointers size) v) (between_piece (Pointers size)).plain
-
 between_level : (operands : Operands) (v : List ℕ) → Closed [] v (between_code operands) (waiting (width_of (computes operands)) ∷ v)
 between_level operands v = level_piece (between_leaves operands v) (between_piece operands).plain
 
-labelled_level : {v u : List ℕ} {a : List Line} (label : ℕ) → Closed [] v a u → Closed [] v (labelled label a) u
-labelled_level {u = u} label p = closed_behind p (shut (even_labelled label (even_lines [] refl)) u)
+waiting_level : (operands : Operands) (v : List ℕ) → Closed [] v (waiting_code operands) (waiting (width_of (computes operands)) ∷ v)
+waiting_level (Numbers kind) v = between_level (Numbers kind) v
+waiting_level (PointerFirst size) v = between_level (PointerFirst size) v
+waiting_level (PointerLast size) v = closed_behind (shut (elements_even size) v) (level_piece (push_leaves Ax v) (push_piece Ax).plain)
+waiting_level (Pointers size) v = between_level (Pointers size) v
 
-stacked_level : (op : BinaryOp) (operands : Operands) (right : IntType) (label : ℕ) (v : List ℕ) → Closed [] (waiting (width_of (computes operands)) ∷ v) (stacked_code op operands right label) v
-stacked_level op (Numbers kind) right label v = labelled_level label (level_piece (behind_leaves op (Numbers kind) right v) (behind_piece op (Numbers kind) right).plain)
-stacked_level op (PointerFirst size) right label v = labelled_level label (closed_then (shut (elements_even size) (2 ∷ v)) (wide_level op UInt v))
-stacked_level op (PointerLast size) right label v = labelled_level label (wide_level op UInt v)
-stacked_level op (Pointers size) right label v = labelled_level label (level_piece (behind_leaves op (Pointers size) right v) (behind_piece op (Pointers size) right).plain)
+behind_level : (op : BinaryOp) (operands : Operands) (right : IntType) (v : List ℕ) → Closed [] (waiting (width_of (computes operands)) ∷ v) (behind_code op operands right) v
+behind_level op operands right v = level_piece (behind_leaves op operands right v) (behind_piece op operands right).plain
+
+stacked_level : (op : BinaryOp) (operands : Operands) (right : IntType) (v : List ℕ) → Closed [] (waiting (width_of (computes operands)) ∷ v) (stacked_code op operands right) v
+stacked_level op (Numbers kind) right v = behind_level op (Numbers kind) right v
+stacked_level op (PointerFirst size) right v = closed_then (shut (elements_even size) (2 ∷ v)) (level_piece (wide_leaves op UInt v) (wide_piece op UInt).plain)
+stacked_level op (PointerLast size) right v = behind_level op (PointerLast size) right v
+stacked_level op (Pointers size) right v = behind_level op (Pointers size) right v
 
 operator_level : {cs ds : List (List ℕ)} {v : List ℕ} {a b : List Line} (how : Operating) (op : BinaryOp) (operands : Operands) (right : IntType) (label : ℕ) → Operated (cs ≡ []) (ds ≡ []) how → ((u : List ℕ) → Closed cs u a u) → ((u : List ℕ) → Closed ds u b u)
     → Closed (cs ++ ds) v (operator_by how op operands right label a b) v
-operator_level {cs = cs} {ds = ds} {v = v} (operating.Left form) op operands right label none da db = closed_as (left_calls cs ds none) (closed_value (leading_behind (leading_closed (da v)) (form_even form label)))
-operator_level {cs = cs} {ds = ds} {v = v} (operating.Right form) op operands right label none da db = closed_as (right_calls cs ds none) (closed_value (leading_behind (leading_closed (db v)) (form_even form label)))
-operator_level {v = v} operating.Stacked op operands right label none da db = closed_then (da v) (closed_then (waiting_level operands label v) (closed_behind (db (waiting (width_of (computes operands)) ∷ v)) (stacked_level op operands right label v)))
+operator_level {cs = cs} {ds = ds} {v = v} (operating.Left form) op operands right label empty da db = closed_as (left_calls cs ds empty) (closed_value (leading_behind (leading_closed (da v)) (form_even form label)))
+operator_level {cs = cs} {ds = ds} {v = v} (operating.Right form) op operands right label empty da db = closed_as (right_calls cs ds empty) (closed_value (leading_behind (leading_closed (db v)) (form_even form label)))
+operator_level {v = v} operating.Stacked op operands right label empty da db =
+    closed_value (leading_labelled label (leading_closed (closed_then (da v) (closed_then (waiting_level operands v) (closed_behind (db (waiting (width_of (computes operands)) ∷ v)) (stacked_level op operands right v))))))
 
 -- ---- comparisons
 
 -- the lines of one side
 side_level : {cs ds : List (List ℕ)} {v : List ℕ} {a b : List Line} (side : Side) → First side (ds ≡ []) (cs ≡ []) → Closed cs v a v → Closed ds v b v → Closed (cs ++ ds) v (on side a b) v
-side_level {cs = cs} {ds = ds} Left none da db = closed_as (left_calls cs ds none) da
-side_level {cs = cs} {ds = ds} Right none da db = closed_as (right_calls cs ds none) db
+side_level {cs = cs} {ds = ds} Left empty da db = closed_as (left_calls cs ds empty) da
+side_level {cs = cs} {ds = ds} Right empty da db = closed_as (right_calls cs ds empty) db
 
 -- or the low byte of it, where it lies
 low_level : {cs ds : List (List ℕ)} {v : List ℕ} {a b : List Line} (side : Side) (low : Option OperandByte) → First side (ds ≡ []) (cs ≡ []) → (IsSome low → First side (cs ≡ []) (ds ≡ [])) → Closed cs v a v → Closed ds v b v
     → Closed (cs ++ ds) v (low_code low (on side a b)) v
-low_level side None none own da db = side_level side none da db
-low_level {cs = cs} {ds = ds} {v = v} Left (Some d) none own da db = closed_as (sym (own refl) ∙ left_calls cs ds none) (shut (byte_even Lda d refl) v)
-low_level {cs = cs} {ds = ds} {v = v} Right (Some d) none own da db = closed_as (sym (own refl) ∙ right_calls cs ds none) (shut (byte_even Lda d refl) v)
+low_level side None empty own da db = side_level side empty da db
+low_level {cs = cs} {ds = ds} {v = v} Left (Some d) empty own da db = closed_as (sym (own refl) ∙ left_calls cs ds empty) (shut (byte_even Lda d refl) v)
+low_level {cs = cs} {ds = ds} {v = v} Right (Some d) empty own da db = closed_as (sym (own refl) ∙ right_calls cs ds empty) (shut (byte_even Lda d refl) v)
 
 plain_comparison_level : {cs ds : List (List ℕ)} {v : List ℕ} {a b : List Line} (how : Comparing) (op : BinaryOp) (operands : Operands) (right : IntType) (s : Bool) (to m : ℕ) → Compared (cs ≡ []) (ds ≡ []) how → ((u : List ℕ) → Closed cs u a u) → ((u : List ℕ) → Closed ds u b u)
     → Leading (One to) (cs ++ ds) v (comparison_by how op operands right s to m a b)
@@ -330,9 +328,8 @@ plain_comparison_level {v = v} (Byte side low r d) op operands right s to m give
 plain_comparison_level {v = v} (Whole side r is_signed sides) op operands right s to m given da db = leading_behind (leading_closed (side_level side given (da v) (db v))) (compare_even r is_signed sides m to refl)
 plain_comparison_level {v = v} Stacked op operands right s to m given da db =
     let w : ℕ = waiting (width_of (computes operands)) in
-    let last : Closed [] (w ∷ v) (behind_code op operands right) v = level_piece (behind_leaves op operands right v) (behind_piece op operands right).plain in
     let test : Leading (One to) [] v (implied Tay ∷ branch_code s to) = leading_even (routine_test_even s to refl) in
-    let end = level_end {Q = Nowhere} {Y = At (One to) v} (level_then (closed_open last) test) (λ l h z. absurd z) (λ l h z. inr z) in
+    let end = level_end {Q = Nowhere} {Y = At (One to) v} (level_then (closed_open (behind_level op operands right v)) test) (λ l h z. absurd z) (λ l h z. inr z) in
     let right_side = level_end {Q = Nowhere} {Y = At (One to) v} (level_behind (closed_open (db (w ∷ v))) end) (λ l h z. absurd z) (λ l h z. inr z) in
     let push = level_end {Q = Nowhere} {Y = At (One to) v} (level_then (closed_open (between_level operands v)) right_side) (λ l h z. absurd z) (λ l h z. inr z) in
     leading_labelled m (level_end (level_then (closed_open (da v)) push) (λ l h z. absurd z) (λ l h z. inr z))
@@ -344,9 +341,9 @@ comparison_level {cs = cs} {ds = ds} {v = v} (Some x) y how op operands right s 
 comparison_level {cs = cs} {ds = ds} {v = v} None (Some y) how op operands right s to m first second given da db = leading_labelled m (leading_as (right_calls cs ds (second refl)) (db v))
 comparison_level None None how op operands right s to m first second given da db = plain_comparison_level how op operands right s to m given (λ u. closed_value (da u)) (λ u. closed_value (db u))
 
-relation_level : {w : Wanted} {cs : List (List ℕ)} {v : List ℕ} (o : Option Relation) {other : List Line} {f : Relation → List Line} → Aimed w cs v other → ((r : Relation) → Aimed w cs v (f r)) → Aimed w cs v (by_relation o other f)
-relation_level None p q = p
-relation_level (Some r) p q = q r
+relation_level : (w : Wanted) {cs : List (List ℕ)} {v : List ℕ} (o : Option Relation) {other : List Line} {f : Relation → List Line} → Aimed w cs v other → ((r : Relation) → Aimed w cs v (f r)) → Aimed w cs v (by_relation o other f)
+relation_level w None p q = p
+relation_level w (Some r) p q = q r
 
 -- ---- the whole tree
 
@@ -390,7 +387,7 @@ mutual
       let operands : Operands = operands_of f (bare a) (bare b) in
       let bytes : ℕ = waiting (width_of (computes operands)) in
       let operator : Operating = operating_of f pushed op operands a b in
-      relation_level {w = w} (relation_of op)
+      relation_level w (relation_of op)
       (wanted_level w (width_in t) (operator_level operator op operands (kind_in b) lo (operating_passes (no_calls f) f pushed op operands a b) (value_level f pushed (lo + 1) a) (value_level f (below_operand operator pushed bytes) (lo + 1 + uses None a) b)))
       (λ r.
       let q : Relation = relation_by (sense w) r in
@@ -399,7 +396,7 @@ mutual
       let to : ℕ = aimed w lo in
       let own : ℕ = inner w lo in
       let compared : Comparing = compared_by q (is_byte a && is_byte b) kind (is_pure b) (direct_of f pushed a) (direct_of f pushed b) in
-      let given : Compared (calls_of f a ≡ []) (calls_of f b ≡ []) compared = compared_passes q (is_byte a && is_byte b) kind (is_pure b) (direct_of f pushed a) (direct_of f pushed b) (direct_passes (no_calls f) f pushed a) (direct_passes (no_calls f) f pushed b) in
+      let given : Compared (calls_of f a ≡ []) (calls_of f b ≡ []) compared = compared_passes (calls_of f a ≡ []) (calls_of f b ≡ []) q (is_byte a && is_byte b) kind (is_pure b) (direct_of f pushed a) (direct_of f pushed b) (direct_passes (no_calls f) f pushed a) (direct_passes (no_calls f) f pushed b) in
       truth_level w lo (comparison_level (tested_by q b) (tested_by q a) compared op operands (kind_in b) (sense w) to own (tested_passes (no_calls f) q b) (tested_passes (no_calls f) q a) given
       (expr_level f pushed (own + 1) (wanted_by (tested_by q b) to) a) (expr_level f (below_side how pushed bytes) (own + 1 + uses (tested_by q b) a) (wanted_by (tested_by q a) to) b)))
   node_level f pushed lo w t (both a b) v =

@@ -117,28 +117,28 @@ option_passes : {A B : Type 0} {C : Type 0} (g : A → Option B) (o : Option A) 
 option_passes g None h e = absurd cc
 option_passes g (Some x) h e = h x refl
 
-meeting_passes : {A B : Type 0} (side : Side) (r : Relation) (bytes : Bool) (kind : IntType) (first : Option Direct) (s : Option Sides) → ((d : Direct) → first ≡ Some d → First side A B) → First side B A → Compared A B (meeting side r bytes kind first s)
-meeting_passes side r bytes kind first None own other = tt
-meeting_passes side r true kind first (Some s) own other = (other, option_passes (λ d. byte_of d 0) first own)
-meeting_passes side r false kind first (Some s) own other = other
+meeting_passes : (A B : Type 0) (side : Side) (r : Relation) (bytes : Bool) (kind : IntType) (first : Option Direct) (s : Option Sides) → ((d : Direct) → first ≡ Some d → First side A B) → First side B A → Compared A B (meeting side r bytes kind first s)
+meeting_passes A B side r bytes kind first None own other = tt
+meeting_passes A B side r true kind first (Some s) own other = (other, option_passes (λ d. byte_of d 0) first own)
+meeting_passes A B side r false kind first (Some s) own other = other
 
-compared_if : {A B : Type 0} (b : Bool) (x y : Comparing) → Compared A B x → Compared A B y → Compared A B (if b then x else y)
-compared_if true x y p q = p
-compared_if false x y p q = q
+compared_if : (A B : Type 0) (b : Bool) (x y : Comparing) → Compared A B x → Compared A B y → Compared A B (if b then x else y)
+compared_if A B true x y p q = p
+compared_if A B false x y p q = q
 
-beside_passes : {A B : Type 0} (side : Side) (r : Relation) (bytes : Bool) (kind : IntType) (first second : Option Direct) → ((d : Direct) → first ≡ Some d → First side A B) → ((d : Direct) → second ≡ Some d → First side B A) → Compared A B (beside side r bytes kind first second)
-beside_passes side r bytes kind first None own other = tt
-beside_passes side r bytes kind first (Some d) own other =
-    compared_if (is_raised r (range_of bytes kind) d) (meeting side (raised r) bytes kind first (sides_of (width_of kind) (one_more d))) (meeting side r bytes kind first (sides_of (width_of kind) d))
-    (meeting_passes side (raised r) bytes kind first (sides_of (width_of kind) (one_more d)) own (other d refl)) (meeting_passes side r bytes kind first (sides_of (width_of kind) d) own (other d refl))
+beside_passes : (A B : Type 0) (side : Side) (r : Relation) (bytes : Bool) (kind : IntType) (first second : Option Direct) → ((d : Direct) → first ≡ Some d → First side A B) → ((d : Direct) → second ≡ Some d → First side B A) → Compared A B (beside side r bytes kind first second)
+beside_passes A B side r bytes kind first None own other = tt
+beside_passes A B side r bytes kind first (Some d) own other =
+    compared_if A B (is_raised r (range_of bytes kind) d) (meeting side (raised r) bytes kind first (sides_of (width_of kind) (one_more d))) (meeting side r bytes kind first (sides_of (width_of kind) d))
+    (meeting_passes A B side (raised r) bytes kind first (sides_of (width_of kind) (one_more d)) own (other d refl)) (meeting_passes A B side r bytes kind first (sides_of (width_of kind) d) own (other d refl))
 
-pub compared_passes : {A B : Type 0} (r : Relation) (bytes : Bool) (kind : IntType) (pure : Bool) (a b : Option Direct) → ((d : Direct) → a ≡ Some d → A) → ((d : Direct) → b ≡ Some d → B) → Compared A B (compared_by r bytes kind pure a b)
-compared_passes r bytes kind pure a b pa pb =
-    compared_if (changes kind pure a b) (beside sides.Right (mirrored r) bytes kind b a) (beside sides.Left r bytes kind a b)
-    (beside_passes sides.Right (mirrored r) bytes kind b a pb pa) (beside_passes sides.Left r bytes kind a b pa pb)
+pub compared_passes : (A B : Type 0) (r : Relation) (bytes : Bool) (kind : IntType) (pure : Bool) (a b : Option Direct) → ((d : Direct) → a ≡ Some d → A) → ((d : Direct) → b ≡ Some d → B) → Compared A B (compared_by r bytes kind pure a b)
+compared_passes A B r bytes kind pure a b pa pb =
+    compared_if A B (changes kind pure a b) (beside sides.Right (mirrored r) bytes kind b a) (beside sides.Left r bytes kind a b)
+    (beside_passes A B sides.Right (mirrored r) bytes kind b a pb pa) (beside_passes A B sides.Left r bytes kind a b pa pb)
 
 pub tested_passes : {P : Typed → Type 0} → Passes P → (r : Relation) (e : Typed) → is_some (tested_by r e) ≡ true → P e
-tested_passes p r e h = by (is_zero e) refl h
+tested_passes {P = P} p r e h = by (is_zero e) refl h
   where
     by : (b : Bool) → is_zero e ≡ b → is_some (if b then zero_sense r else None) ≡ true → P e
     by true z h = zero_passes p e z
@@ -152,14 +152,14 @@ Operated A B (operating.Left form) = B
 Operated A B (operating.Right form) = A
 Operated A B operating.Stacked = Unit {0}
 
-right_passes : {A B : Type 0} (o : Option Form) (other : Operating) → ((x : Form) → o ≡ Some x → B) → Operated A B other → Operated A B (by_right o other)
-right_passes None other h rest = rest
-right_passes (Some x) other h rest = h x refl
+right_passes : (A B : Type 0) (o : Option Form) (other : Operating) → ((x : Form) → o ≡ Some x → B) → Operated A B other → Operated A B (by_right o other)
+right_passes A B None other h rest = rest
+right_passes A B (Some x) other h rest = h x refl
 
-left_passes : {A B : Type 0} (stays : Bool) (o : Option Form) → ((x : Form) → o ≡ Some x → A) → Operated A B (by_left stays o)
-left_passes true (Some x) h = h x refl
-left_passes true None h = tt
-left_passes false o h = tt
+left_passes : (A B : Type 0) (stays : Bool) (o : Option Form) → ((x : Form) → o ≡ Some x → A) → Operated A B (by_left stays o)
+left_passes A B true (Some x) h = h x refl
+left_passes A B true None h = tt
+left_passes A B false o h = tt
 
 operand_passes : {A B : Type 0} {C : Type 0} (g : A → Option B) (h : Direct → Option A) (o : Option Direct) → ((d : Direct) → o ≡ Some d → C) → (x : B) → option_and_then g (option_and_then h o) ≡ Some x → C
 operand_passes g h None own x e = absurd cc
@@ -171,9 +171,9 @@ constant_right_passes p op operands e x h =
     constant_passes p e z.0 z.1
 
 pub operating_passes : {P : Typed → Type 0} → Passes P → (f : Framed) (pushed : ℕ) (op : BinaryOp) (operands : Operands) (a b : Typed) → Operated (P a) (P b) (operating_of f pushed op operands a b)
-operating_passes p f pushed op operands a b =
+operating_passes {P = P} p f pushed op operands a b =
     let left : Option Direct = direct_of f pushed a in
     let right : Option Direct = direct_of f pushed b in
-    right_passes (constant_right op operands b) (by_right (direct_right op operands right) (by_left (is_fixed left || is_pure b) (direct_left op operands left))) (constant_right_passes p op operands b)
-    (right_passes (direct_right op operands right) (by_left (is_fixed left || is_pure b) (direct_left op operands left)) (operand_passes (λ w. right_form op operands w.0 w.1) word_in right (direct_passes p f pushed b))
-    (left_passes (is_fixed left || is_pure b) (direct_left op operands left) (operand_passes (λ w. left_form op operands w.0 w.1) word_in left (direct_passes p f pushed a))))
+    right_passes (P a) (P b) (constant_right op operands b) (by_right (direct_right op operands right) (by_left (is_fixed left || is_pure b) (direct_left op operands left))) (constant_right_passes p op operands b)
+    (right_passes (P a) (P b) (direct_right op operands right) (by_left (is_fixed left || is_pure b) (direct_left op operands left)) (operand_passes (λ w. right_form op operands w.0 w.1) word_in right (direct_passes p f pushed b))
+    (left_passes (P a) (P b) (is_fixed left || is_pure b) (direct_left op operands left) (operand_passes (λ w. left_form op operands w.0 w.1) word_in left (direct_passes p f pushed a))))
