@@ -271,7 +271,7 @@ unary_clear unary.BitNot Ax = record { all = refl }
 unary_clear unary.BitNot Eax = record { all = refl }
 unary_clear _ w = clear_none
 
-wide_clear : (op : BinaryOp) (kind : IntType) → Clear (wide_code op kind)
+pub wide_clear : (op : BinaryOp) (kind : IntType) → Clear (wide_code op kind)
 wide_clear op kind = let one : Clear (call (Tos (tos_of op (is_signed_of kind)) (width_of kind)) ∷ []) = record { all = refl } in clear_then one (clear_if (is_comparison op) clear_none (narrow_clear kind))
 
 pub between_clear : (operands : Operands) → Clear (between_code operands)

@@ -117,3 +117,6 @@ even_lines (Call callee ∷ a) h = absurd cc
 -- a label that nothing leads to
 pub even_labelled : {X : Labels} {a : List Line} (k : ℕ) → Even No X a → Even No X (a ++ Label k ∷ [])
 even_labelled k p = even_end (even_then p (even_label k)) (λ l z. absurd z) (λ l z. inr z)
+
+pub even_leaves : {P X : Labels} {a : List Line} → Even P X a → Still a
+even_leaves e v = record { to = λ calls. (e.level v).to calls calls refl }

@@ -28,8 +28,8 @@ use Rattle.c65_genexpr.specs.declared.operating.Operating.TheVariants as operati
 use Rattle.c65_genexpr.specs.Types.{kind_of, bare, offset_at, access_of}
 use Rattle.c65_genexpr.specs.Places.{place_of, IsKnown}
 use Rattle.c65_genexpr.specs.Operands.{residue_of, constant_in}
-use Rattle.c65_genexpr.specs.Direct.{kept_at, address_at, address_of, takes_bytes, converted_if, direct_of, is_fixed, is_pure}
-use Rattle.c65_genexpr.specs.Comparing.{is_zero, zero_sense, tested_by, sides_of, is_raised, raised, one_more, range_of, meeting, beside, changes, compared_by}
+use Rattle.c65_genexpr.specs.Direct.{kept_at, address_at, address_of, takes_bytes, converted_if, direct_of, is_fixed, is_pure, is_byte}
+use Rattle.c65_genexpr.specs.Comparing.{is_zero, zero_sense, tested_by, sides_of, is_raised, raised, one_more, range_of, meeting, beside, changes, compared_by, comparing_of}
 use Rattle.c65_genexpr.specs.Operating.{constant_form, word_in, right_form, left_form, constant_right, direct_right, direct_left, by_left, by_right, operating_of}
 use Rattle.c65_gen_law_lines.proofs.ExprLaws.{moved_known}
 
@@ -143,6 +143,20 @@ tested_passes {P = P} p r e h = by (is_zero e) refl h
     by : (b : Bool) → is_zero e ≡ b → is_some (if b then zero_sense r else None) ≡ true → P e
     by true z h = zero_passes p e z
     by false z h = absurd cc
+
+pub comparing_passes : {P : Typed → Type 0} → Passes P → (f : Framed) (pushed : ℕ) (r : Relation) (kind : IntType) (a b : Typed) → Compared (P a) (P b) (comparing_of f pushed r kind a b)
+comparing_passes {P = P} p f pushed r kind a b = by (is_some (tested_by r b)) (is_some (tested_by r a)) refl refl
+  where
+    left : Option Direct
+    left = direct_of f pushed a
+
+    right : Option Direct
+    right = direct_of f pushed b
+
+    by : (x y : Bool) → is_some (tested_by r b) ≡ x → is_some (tested_by r a) ≡ y → Compared (P a) (P b) (if x then Truth sides.Left else (if y then Truth sides.Right else compared_by r (is_byte a && is_byte b) kind (is_pure b) left right))
+    by true y h k = tested_passes p r b h
+    by false true h k = tested_passes p r a k
+    by false false h k = compared_passes (P a) (P b) r (is_byte a && is_byte b) kind (is_pure b) left right (direct_passes p f pushed a) (direct_passes p f pushed b)
 
 -- ---- operators
 
