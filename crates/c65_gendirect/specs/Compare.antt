@@ -50,11 +50,14 @@ lowest_code Greater low = implied Clc ∷ op_of Sbc low
 lowest_code NotGreater low = implied Clc ∷ op_of Sbc low
 lowest_code _ low = op_of Cmp low
 
+-- on from two bytes to the high half of EAX
+abbrev pub upper_code : OperandByte → OperandByte → List Line
+upper_code third fourth = zero_page Lda sreg ∷ (op_of Sbc third ++ (zero_page Lda (sreg + 1) ∷ op_of Sbc fourth))
+
 -- the difference, whose highest byte A then is
 abbrev pub difference_code : Relation → Sides → List Line
 difference_code r (Word low high) = lowest_code r low ++ (implied Txa ∷ op_of Sbc high)
-difference_code r (Long d0 d1 d2 d3) =
-    lowest_code r d0 ++ (implied Txa ∷ (op_of Sbc d1 ++ (zero_page Lda sreg ∷ (op_of Sbc d2 ++ (zero_page Lda (sreg + 1) ∷ op_of Sbc d3)))))
+difference_code r (Long first second third fourth) = lowest_code r first ++ (implied Txa ∷ (op_of Sbc second ++ upper_code third fourth))
 
 -- the branch by the carry, of values without sign
 abbrev pub by_carry : Relation → Op
@@ -81,8 +84,8 @@ second_code byte = if takes_y byte then implied Txa ∷ op_of Cmp byte else op_o
 -- goes where an earlier byte is another; else Z says whether the last one is the same
 abbrev pub same_code : Sides → ℕ → List Line
 same_code (Word low high) other = op_of Cmp low ++ (branch Bne other ∷ second_code high)
-same_code (Long d0 d1 d2 d3) other =
-    op_of Cmp d0 ++ (branch Bne other ∷ (second_code d1 ++ (branch Bne other ∷ zero_page Lda sreg ∷ (op_of Cmp d2 ++ (branch Bne other ∷ zero_page Lda (sreg + 1) ∷ op_of Cmp d3)))))
+same_code (Long first second third fourth) other =
+    op_of Cmp first ++ (branch Bne other ∷ (second_code second ++ (branch Bne other ∷ zero_page Lda sreg ∷ (op_of Cmp third ++ (branch Bne other ∷ zero_page Lda (sreg + 1) ∷ op_of Cmp fourth)))))
 
 -- AX or EAX with a word or a long; fresh is placed once
 abbrev pub compare_code : Relation → Bool → Sides → ℕ → ℕ → List Line

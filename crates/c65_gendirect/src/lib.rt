@@ -6,8 +6,12 @@ mod bytes;
 mod compare;
 mod direct;
 mod relation;
+mod truth;
+mod words;
 
-pub use bytes::OperandByte;
-pub use compare::Sides;
-pub use direct::Direct;
-pub use relation::Relation;
+pub use bytes::{OperandByte, put_op};
+pub use compare::{Sides, put_compare, put_compare_byte};
+pub use direct::{Direct, byte_of, converted};
+pub use relation::{Relation, relation_of};
+pub use truth::{put_truth, put_zero_test};
+pub use words::{put_add_number, put_long_mask, put_sum, put_taken_from, put_word};

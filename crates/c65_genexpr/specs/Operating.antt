@@ -1,6 +1,6 @@
 -- The operators that give a number or a pointer (C90 6.3.5 to 6.3.7, 6.3.10 to 6.3.12): their forms, and the lines of each from
 -- the lines of its two operands.
-use Rattle.std.specs.Prelude.{ℕ, ◌*◌, ◌%◌, ◌||◌, Bool, true, false, if◌then◌else◌, Option, Some, None, option_map, option_and_then, ℤ, List, [], ◌∷◌, ◌++◌}
+use Rattle.std.specs.Prelude.{ℕ, ◌*◌, ◌%◌, ◌==◌, ◌||◌, Bool, true, false, if◌then◌else◌, Option, Some, None, option_map, option_and_then, ℤ, List, [], ◌∷◌, ◌++◌}
 use Rattle.c65_base.specs.declared.operators.BinaryOp.{BinaryOp}
 use Rattle.c65_base.specs.declared.operators.BinaryOp.TheVariants.{Add, Sub, BitAnd, BitXor, BitOr}
 use Rattle.c65_ints.specs.declared.types.IntType.{IntType}
