@@ -1,5 +1,5 @@
 -- The forms of an expression's lines: their labels, and that they leave what waits, and regbank.
-use Rattle.std.proofs.Common.{◌≡◌, ℕ, ◌+◌, ◌==◌, Bool, true, false, Option, None, Some, List, [], ◌∷◌, ◌++◌, refl}
+use Rattle.std.proofs.Common.{◌≡◌, ℕ, ◌+◌, ◌==◌, Bool, true, false, not, Option, None, Some, List, [], ◌∷◌, ◌++◌, refl}
 use Rattle.std.specs.Prelude.{if◌then◌else◌}
 use Rattle.c65_base.specs.declared.operators.BinaryOp.{BinaryOp}
 use Rattle.c65_base.specs.declared.operators.BinaryOp.TheVariants as ops
@@ -17,7 +17,7 @@ use Rattle.c65_genexpr.specs.declared.operating.Form.{Form}
 use Rattle.c65_genexpr.specs.declared.operating.Form.TheVariants.{Sum, LongSum, Mask, Constant, Word, Under, Indexed, Distance, DistanceUnder}
 use Rattle.c65_genexpr.specs.declared.wanted.Wanted.{Wanted}
 use Rattle.c65_genexpr.specs.declared.wanted.Wanted.TheVariants.{Value, Test}
-use Rattle.c65_genexpr.specs.Wanted.{branch_code, value_test_code}
+use Rattle.c65_genexpr.specs.Wanted.{branch_code, value_test_code, decided_code}
 use Rattle.c65_genexpr.specs.Operating.{placed, form_code}
 use Rattle.c65_genexpr.specs.Code.{constant_code}
 use Rattle.c65_gen_law_lines.proofs.Pieces.{number_piece, test_piece, divide_piece}
@@ -45,10 +45,15 @@ value_test_even width s to x = even_on (even_piece (test_still width) (test_piec
 pub routine_test_even : {X : Labels} (s : Bool) (to : ℕ) → X to → Even No X (implied Tay ∷ branch_code s to)
 routine_test_even s to x = even_on (even_lines (implied Tay ∷ []) refl) (branch_even s to x)
 
+decided_even : {X : Labels} (truth s : Bool) (to : ℕ) → X to → Even No X (decided_code truth s to)
+decided_even true true to x = even_jump to x
+decided_even false false to x = even_jump to x
+decided_even true false to x = even_lines [] refl
+decided_even false true to x = even_lines [] refl
+
 pub constant_even : (w : Wanted) (width : Width) (n : ℕ) → Even No (Aim w) (constant_code w width n)
 constant_even Value width n = number_even width n
-constant_even (Test to true) width n = even_if (n == 0) (even_lines [] refl) (even_jump to refl)
-constant_even (Test to false) width n = even_if (n == 0) (even_jump to refl) (even_lines [] refl)
+constant_even (Test to s) width n = decided_even (not (n == 0)) s to refl
 
 divide_even : {X : Labels} (n : ℕ) → Even No X (divide_code n)
 divide_even n = even_piece (divide_still n) (divide_piece n).plain (divide_clear n)
