@@ -290,7 +290,6 @@ behind_clear op (PointerFirst size) right = clear_then (scale_clear size) (wide_
 behind_clear op (PointerLast size) right = wide_clear op ints.UInt
 behind_clear op (Pointers size) right = clear_then (wide_clear op ints.UInt) (difference_clear op size)
 
-
 -- ---- assignments
 
 back_clear : (access : Access) (n : ℕ) → Clear (back_code access n)

@@ -4,8 +4,7 @@ use Rattle.std.specs.Prelude.{if◌then◌else◌, nat_lt, nat_le}
 use Rattle.c65_csem.specs.Trees.{Typed, MaybeTyped, absent, present, Stmt, empty, eval, set_part, clear, block, if_stmt, while, do_while, for_loop, switch, case, default, label, goto, break, continue, return, Stmts, no_stmts, and_stmts}
 use Rattle.c65_csem.specs.Places.{is_tag}
 use Rattle.c65_csem.specs.Statements.{cases_of}
-use Rattle.c65_mach.specs.declared.rows.Op.{Op}
-use Rattle.c65_mach.specs.declared.rows.Op.TheVariants.{Beq, Bne, Jmp, Sta, Stx, Iny, Cpy, Dex, Lda, Ldx, Ldy, Inc, Rts, Pha, Pla, Tay}
+use Rattle.c65_mach.specs.declared.rows.Op.TheVariants.{Bne, Jmp, Sta, Stx, Iny, Cpy, Dex, Lda, Ldx, Ldy, Inc, Rts, Pha, Pla, Tay}
 use Rattle.c65_code.specs.declared.line.Line.{Line}
 use Rattle.c65_code.specs.declared.routine.Count.{Count}
 use Rattle.c65_code.specs.declared.routine.Width.{Width}
@@ -28,12 +27,12 @@ use Rattle.c65_genexpr.specs.declared.wanted.Wanted.TheVariants.{Value, Test}
 use Rattle.c65_genexpr.specs.Types.{kind_in, bare}
 use Rattle.c65_genentry.specs.Drafts.{with_labels}
 use Rattle.c65_genentry.specs.Words.{sp, ptr1, ptr2, tmp1, tmp2, implied, zero_page, by_y, branch, jump, with_code}
-use Rattle.c65_genentry.specs.Bytes.{pages_code, rest_code, loop_labels, block_code, block_labels}
+use Rattle.c65_genentry.specs.Bytes.{pages_code, rest_code, loop_labels, block_code}
 use Rattle.c65_genentry.specs.Bytes as blocks
 use Rattle.c65_genentry.specs.Pointers as pointers
 use Rattle.c65_genentry.specs.Choice.{bits_of, test_code, choice_code}
 use Rattle.c65_genentry.specs.Stack.{count_of, raise_by, lower_by, small_raise, small_lower, repeated, raise_code, lower_code}
-use Rattle.c65_genentry.specs.Entry.{pushed_code, kept_code, saved_code, counted_code, count_code, all_moved, raised_moves, early_moves, late_moves, taken_bytes, checked_code, entry_code}
+use Rattle.c65_genentry.specs.Entry.{pushed_code, kept_code, saved_code, counted_code, count_code, all_moved, raised_moves, taken_bytes, checked_code, entry_code}
 use Rattle.c65_genentry.specs.Ends.{restored_code, end_code}
 use Rattle.c65_genstmt.specs.declared.jumps.Ways.{Ways}
 use Rattle.c65_genstmt.specs.declared.objects.Spot.{Spot}
@@ -46,7 +45,7 @@ use Rattle.c65_genstmt.specs.Functions.{main_code, no_lines}
 use Rattle.c65_gen_law_stack.specs.Bank.{FunctionsLeaveRegbank}
 use Rattle.c65_gen_law_stack.proofs.EntryWay.{IsOrderly}
 use Rattle.c65_gen_law_stack.proofs.FrameOrder.{NotBank, frames_are_orderly, frames_without_bank}
-use Rattle.c65_gen_law_stack.proofs.BankPieces.{pass_clear, Clear, clear_then, clear_if, clear_none, store_clear, test_clear}
+use Rattle.c65_gen_law_stack.proofs.BankPieces.{pass_clear, Clear, clear_then, clear_if, clear_none, store_clear}
 use Rattle.c65_gen_law_stack.proofs.BankExprs.{IsBankless, label_clear, expr_clear}
 
 -- ---- objects

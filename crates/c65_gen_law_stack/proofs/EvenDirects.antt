@@ -1,23 +1,21 @@
 -- Operators, comparisons and tests whose operand is read where it lies: their labels, and that they leave what waits, and regbank.
-use Rattle.std.proofs.Common.{◌≡◌, ℕ, ◌+◌, ◌-◌, ◌%◌, ◌==◌, ◌&&◌, ◌||◌, ◌⊎◌, inl, inr, Bool, true, false, not, List, [], ◌∷◌, ◌++◌, refl, ap}
+use Rattle.std.proofs.Common.{◌≡◌, ℕ, ◌+◌, ◌-◌, ◌%◌, ◌==◌, ◌&&◌, ◌||◌, inl, inr, Bool, true, false, not, List, [], ◌∷◌, refl, ap}
 use Rattle.std.specs.Prelude.{if◌then◌else◌, nat_lt}
-use Rattle.std.specs.List.{list_all}
 use Rattle.std.proofs.lemmas.Bool.{and_from}
 use Rattle.c65_base.specs.declared.operators.BinaryOp.{BinaryOp}
 use Rattle.c65_base.specs.declared.operators.BinaryOp.TheVariants as ops
 use Rattle.c65_mach.specs.declared.rows.Op.{Op}
-use Rattle.c65_mach.specs.declared.rows.Op.TheVariants.{Bcc, Bcs, Beq, Bmi, Bne, Bpl, Bvc, Clc, Cmp, Cpx, Dex, Eor, Inx, Lda, Ldx, Ldy, Ora, Pha, Pla, Sbc, Sec, Sta, Stx, Tax, Tay, Txa, Tya}
+use Rattle.c65_mach.specs.declared.rows.Op.TheVariants.{Bcc, Bcs, Beq, Bne, Bvc, Clc, Cmp, Cpx, Dex, Eor, Inx, Lda, Ldx, Ldy, Ora, Pha, Pla, Sbc, Sec, Sta, Stx, Tax, Tay, Txa, Tya}
 use Rattle.c65_mach.specs.declared.rows.Mode.{Mode}
 use Rattle.c65_mach.specs.declared.rows.Mode.TheVariants.{Absolute, Immediate, IndirectY, ZeroPage}
 use Rattle.c65_mach.specs.Step.{kind_of}
 use Rattle.c65_code.specs.declared.line.Operand.{Operand}
 use Rattle.c65_code.specs.declared.line.Operand.TheVariants as operand
-use Rattle.c65_code.specs.declared.line.Line.{Line}
-use Rattle.c65_code.specs.declared.line.Line.TheVariants.{Label, Do}
+use Rattle.c65_code.specs.declared.line.Line.TheVariants.{Do}
 use Rattle.c65_code.specs.Access.{is_written}
 use Rattle.c65_code.specs.Segments.{is_to}
 use Rattle.c65_genwide.specs.Lines.{value}
-use Rattle.c65_genload.specs.Words.{sp, sreg, tmp1, tmp2, implied, zero_page, by_y, branch}
+use Rattle.c65_genload.specs.Words.{sp, sreg, tmp1, tmp2, implied, zero_page, branch}
 use Rattle.c65_genload.specs.Numbers.{first, second, third, fourth}
 use Rattle.c65_gendirect.specs.declared.bytes.OperandByte.{OperandByte}
 use Rattle.c65_gendirect.specs.declared.bytes.OperandByte.TheVariants.{Number, Low, High, Near, Data, Zero}
@@ -30,7 +28,7 @@ use Rattle.c65_gendirect.specs.Compare.{lowest_code, difference_code, by_carry, 
 use Rattle.c65_gendirect.specs.Tests.{or_code, all_zero_code, zero_test_code, truth_code}
 use Rattle.c65_gendirect.specs.Words.{instruction, carry_code, first_byte_code, both_bytes_code, onward_code, end_label, is_and, is_number, word_code, sum_code, add_number_code, taken_from_code, long_mask_code}
 use Rattle.c65_gen_law_stack.specs.Bank.{lies_outside}
-use Rattle.c65_gen_law_stack.proofs.EvenLines.{Labels, No, One, Both, Even, even_end, even_then, even_label, even_if, even_on, even_close, even_branch, is_bare, even_lines, even_labelled}
+use Rattle.c65_gen_law_stack.proofs.EvenLines.{Labels, No, One, Even, even_end, even_then, even_label, even_if, even_on, even_close, even_branch, is_bare, even_lines, even_labelled}
 
 -- ---- a byte
 

@@ -1,18 +1,11 @@
 -- The forms of an expression's lines: their labels, and that they leave what waits, and regbank.
-use Rattle.std.proofs.Common.{◌≡◌, ℕ, ◌+◌, ◌==◌, Bool, true, false, not, Option, None, Some, List, [], ◌∷◌, ◌++◌, refl}
-use Rattle.std.specs.Prelude.{if◌then◌else◌}
+use Rattle.std.proofs.Common.{ℕ, ◌==◌, Bool, true, false, not, [], ◌∷◌, refl}
 use Rattle.c65_base.specs.declared.operators.BinaryOp.{BinaryOp}
 use Rattle.c65_base.specs.declared.operators.BinaryOp.TheVariants as ops
-use Rattle.c65_mach.specs.declared.rows.Op.TheVariants.{Jmp, Tay}
-use Rattle.c65_mach.specs.declared.rows.Mode.TheVariants.{Absolute}
-use Rattle.c65_code.specs.declared.line.Operand.TheVariants.{To}
-use Rattle.c65_code.specs.declared.line.Line.{Line}
-use Rattle.c65_code.specs.declared.line.Line.TheVariants.{Do}
+use Rattle.c65_mach.specs.declared.rows.Op.TheVariants.{Tay}
 use Rattle.c65_code.specs.declared.routine.Width.{Width}
 use Rattle.c65_genload.specs.Numbers.{number_code, add_long_code, divide_code}
 use Rattle.c65_genload.specs.Words.{implied}
-use Rattle.c65_gendirect.specs.declared.bytes.OperandByte.{OperandByte}
-use Rattle.c65_gendirect.specs.declared.relation.Relation.{Relation}
 use Rattle.c65_genexpr.specs.declared.operating.Form.{Form}
 use Rattle.c65_genexpr.specs.declared.operating.Form.TheVariants.{Sum, LongSum, Mask, Constant, Word, Under, Indexed, Distance, DistanceUnder}
 use Rattle.c65_genexpr.specs.declared.wanted.Wanted.{Wanted}
@@ -23,7 +16,7 @@ use Rattle.c65_genexpr.specs.Code.{constant_code}
 use Rattle.c65_gen_law_lines.proofs.Pieces.{number_piece, test_piece, divide_piece}
 use Rattle.c65_gen_law_lines.proofs.StackPieces.{number_still, test_still, divide_still}
 use Rattle.c65_gen_law_stack.proofs.BankPieces.{number_clear, test_clear, divide_clear}
-use Rattle.c65_gen_law_stack.proofs.EvenLines.{Labels, No, One, Even, even_piece, even_if, even_on, even_jump, even_lines, even_labelled}
+use Rattle.c65_gen_law_stack.proofs.EvenLines.{Labels, No, One, Even, even_piece, even_on, even_jump, even_lines, even_labelled}
 use Rattle.c65_gen_law_stack.proofs.EvenShifts.{quick_even, elements_even}
 use Rattle.c65_gen_law_stack.proofs.EvenDirects.{word_even, added_even, taken_even, long_mask_even, sense_even}
 

@@ -1,5 +1,5 @@
 -- Lines that leave what waits, and regbank: their labels, and where they lead.
-use Rattle.std.proofs.Common.{◌≡◌, ℕ, ◌⊎◌, inl, inr, Bool, true, false, not, List, [], ◌∷◌, ◌++◌, refl, sym, ◌∙◌, ap, subst}
+use Rattle.std.proofs.Common.{◌≡◌, ℕ, ◌⊎◌, inl, inr, Bool, true, false, not, List, [], ◌∷◌, ◌++◌, refl, sym, ap, subst}
 use Rattle.std.specs.Prelude.{if◌then◌else◌, ◌&&◌, ◌||◌}
 use Rattle.std.specs.List.{list_all}
 use Rattle.std.proofs.lemmas.Bool.{and_parts, and_from}
@@ -15,8 +15,8 @@ use Rattle.c65_code.specs.Access.{is_written}
 use Rattle.c65_mach.specs.Step.{kind_of}
 use Rattle.c65_genload.specs.Words.{branch}
 use Rattle.c65_gen_law_lines.proofs.Made.{is_plain}
-use Rattle.c65_gen_law_lines.proofs.StackPieces.{Still, leaves_then, leaves_none}
-use Rattle.c65_gen_law_stack.specs.Bank.{lies_outside, leaves_bank}
+use Rattle.c65_gen_law_lines.proofs.StackPieces.{Still, leaves_none}
+use Rattle.c65_gen_law_stack.specs.Bank.{lies_outside}
 use Rattle.c65_gen_law_stack.proofs.Levels.{Level, level_then, level_end, level_piece, level_label, level_leads}
 use Rattle.c65_gen_law_stack.proofs.BankPieces.{Clear, clear_then, clear_none}
 

@@ -1,10 +1,9 @@
 -- Shifts, masks and products by constants: their labels, and that they leave what waits.
-use Rattle.std.proofs.Common.{◌≡◌, ℕ, zero, suc, ◌+◌, ◌-◌, ◌%◌, ◌==◌, inl, inr, Bool, true, false, Option, None, Some, List, [], ◌∷◌, ◌++◌, refl}
-use Rattle.std.specs.Prelude.{if◌then◌else◌, nat_lt, replicate}
+use Rattle.std.proofs.Common.{ℕ, zero, suc, ◌+◌, ◌-◌, ◌==◌, inl, inr, Option, None, Some, List, [], ◌∷◌, refl}
+use Rattle.std.specs.Prelude.{nat_lt, replicate}
 use Rattle.c65_ints.specs.declared.types.IntType.{IntType}
 use Rattle.c65_mach.specs.declared.rows.Op.TheVariants.{And, Asl, Bne, Dey, Lda, Ldx, Ldy, Lsr, Sta, Stx, Sty, Tax, Tay, Txa, Tya}
 use Rattle.c65_code.specs.declared.line.Line.{Line}
-use Rattle.c65_code.specs.declared.line.Line.TheVariants.{Label}
 use Rattle.c65_code.specs.declared.routine.Routine.TheVariants.{Unary}
 use Rattle.c65_code.specs.declared.routine.TosOp.{TosOp}
 use Rattle.c65_code.specs.declared.routine.TosOp.TheVariants as tos
@@ -12,11 +11,11 @@ use Rattle.c65_code.specs.declared.routine.Width.{Width}
 use Rattle.c65_code.specs.declared.routine.Width.TheVariants.{Ax, Eax}
 use Rattle.c65_genwide.specs.Lines.{value, call}
 use Rattle.c65_genwide.specs.Wide.{width_of, narrow_code}
-use Rattle.c65_genload.specs.Words.{sreg, tmp1, implied, zero_page, branch}
+use Rattle.c65_genload.specs.Words.{sreg, tmp1, implied, zero_page}
 use Rattle.c65_genload.specs.Numbers.{first, second, mask_code, scale_code}
 use Rattle.c65_genshift.specs.declared.quick.Quick.{Quick}
 use Rattle.c65_genshift.specs.declared.quick.Quick.TheVariants.{Shift, Mask}
-use Rattle.c65_genshift.specs.Shifts.{shift_a, one_of, calls_code, turns_code, left_turn, right_turn, left_byte_code, right_byte_code, left_one_code, left_two_code, left_three_code, right_one_code, right_two_code, right_three_code, labelled, left_word_code, right_word_code, left_long_code, right_long_code, shift_code}
+use Rattle.c65_genshift.specs.Shifts.{shift_a, one_of, calls_code, turns_code, left_turn, right_turn, left_byte_code, right_byte_code, left_one_code, left_two_code, left_three_code, right_one_code, right_two_code, right_three_code, left_word_code, right_word_code, left_long_code, right_long_code, shift_code}
 use Rattle.c65_genshift.specs.Quick.{power_of, mask_word_code, mask_high_code, mask_long_code, mask_by_width, quick_lines, quick_code, elements_by, elements_code}
 use Rattle.c65_gen_law_lines.proofs.Pieces.{narrow_piece, scale_piece}
 use Rattle.c65_gen_law_lines.proofs.StackPieces.{narrow_still, scale_still}

@@ -1,5 +1,5 @@
 -- The labels in an expression's lines, and what waits there.
-use Rattle.std.proofs.Common.{◌≡◌, ℕ, ◌+◌, ◌==◌, ◌⊎◌, inl, inr, ◌&&◌, Bool, true, false, not, Option, None, Some, IsSome, List, [], ◌∷◌, ◌++◌, refl, sym, ◌∙◌, ap, subst}
+use Rattle.std.proofs.Common.{◌≡◌, ℕ, ◌+◌, ◌==◌, inl, inr, ◌&&◌, Bool, true, false, not, Option, None, Some, IsSome, List, [], ◌∷◌, ◌++◌, refl, sym, ◌∙◌, ap, subst}
 use Rattle.std.specs.Prelude.{if◌then◌else◌, is_some}
 use Rattle.std.specs.List.{list_all}
 use Rattle.std.proofs.lemmas.Bool.{eq-eqb}
@@ -31,13 +31,11 @@ use Rattle.c65_genload.specs.declared.places.Access.{Access}
 use Rattle.c65_genload.specs.declared.places.Extent.{Extent}
 use Rattle.c65_genload.specs.Words.{implied}
 use Rattle.c65_genload.specs.Places.{type_in as type_at, held, extent_of, extent_by}
-use Rattle.c65_genload.specs.Loads.{load_code}
 use Rattle.c65_genload.specs.Conversions.{waiting}
 use Rattle.c65_gendirect.specs.declared.bytes.OperandByte.{OperandByte}
 use Rattle.c65_gendirect.specs.declared.direct.Direct.{Direct}
 use Rattle.c65_gendirect.specs.declared.relation.Relation.{Relation}
-use Rattle.c65_gendirect.specs.Bytes.{op_of}
-use Rattle.c65_gendirect.specs.Compare.{relation_of, compare_byte_code}
+use Rattle.c65_gendirect.specs.Compare.{relation_of}
 use Rattle.c65_genshift.specs.Shifts.{labelled}
 use Rattle.c65_genexpr.specs.declared.operands.Operands.{Operands}
 use Rattle.c65_genexpr.specs.declared.operands.Operands.TheVariants.{Numbers, PointerFirst, PointerLast, Pointers}
@@ -70,8 +68,8 @@ use Rattle.c65_gen_law_lines.proofs.Made.{is_plain}
 use Rattle.c65_gen_law_lines.proofs.Pieces.{symbol_piece, offset_piece, object_piece, conversion_piece, push_piece, argument_piece, hold_piece, part_piece, load_piece, store_piece, copy_piece, spill_piece, further_piece, unary_piece, between_piece, behind_piece, wide_piece, step_piece, open_piece, close_piece, named_piece, pointer_piece, direct_piece}
 use Rattle.c65_gen_law_lines.proofs.StackPieces.{waits_append, Leaves, leaves_then, leaves_none, Still, narrow_still, object_still, further_still, offset_still, conversion_still, push_leaves, argument_leaves, holding, hold_leaves, bytes_still, load_still, stored_leaves, copy_leaves, spill_still, unary_still, between_leaves, behind_leaves, wide_leaves, step_still, open_leaves, close_leaves}
 use Rattle.c65_gen_law_lines.proofs.StackLaws.{nothing_more}
-use Rattle.c65_gen_law_stack.proofs.Levels.{Level, Nowhere, level_then, level_end, level_behind, level_plain, level_piece, level_none, level_label, Closed, closed_open, closed_then, closed_behind, closed_as}
-use Rattle.c65_gen_law_stack.proofs.EvenLines.{Labels, No, One, Both, At, Even, even_end, even_label, even_on, even_jump, even_lines, even_labelled}
+use Rattle.c65_gen_law_stack.proofs.Levels.{Level, Nowhere, level_then, level_end, level_behind, level_plain, level_piece, level_none, Closed, closed_open, closed_then, closed_behind, closed_as}
+use Rattle.c65_gen_law_stack.proofs.EvenLines.{Labels, No, One, Both, At, Even, even_end, even_label, even_jump, even_lines}
 use Rattle.c65_gen_law_stack.proofs.EvenShifts.{elements_even}
 use Rattle.c65_gen_law_stack.proofs.EvenDirects.{byte_even, compare_even, compare_byte_even, zero_test_even, truth_even}
 use Rattle.c65_gen_law_stack.proofs.EvenForms.{Aim, value_test_even, routine_test_even, constant_even, form_even}
