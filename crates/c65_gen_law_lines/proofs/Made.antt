@@ -240,6 +240,9 @@ stretch_jump {ok = ok} l passes = record { once = λ x. refl; leads = and_from (
 pub stretch_wider : {ok : ℕ → Bool} {f : ℕ → ℕ} {j k : ℕ} {a : List Line} → Stretch ok f j a → j ≤ k → Stretch ok f k a
 stretch_wider p le = record { once = p.once; leads = p.leads; fit = p.fit; size = omega (arith, p.size, le) }
 
+pub stretch_as : {ok : ℕ → Bool} {f g : ℕ → ℕ} {k : ℕ} {a : List Line} → ((l : ℕ) → f l ≡ g l) → Stretch ok f k a → Stretch ok g k a
+stretch_as same p = record { once = λ l. p.once l ∙ same l; leads = p.leads; fit = p.fit; size = p.size }
+
 -- a node's lines in those of a larger one
 pub stretch_made : {ok : ℕ → Bool} {outside : List ℕ} {lo n k : ℕ} {a : List Line} → Made outside lo n k a → ((l : ℕ) → is_within lo n l ≡ true → ok l ≡ true) → list_all ok outside ≡ true → Stretch ok (among lo n) k a
 stretch_made {ok = ok} {outside = outside} {lo = lo} {n = n} {a = a} m inner outer = record {

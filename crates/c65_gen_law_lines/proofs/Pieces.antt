@@ -48,7 +48,7 @@ use Rattle.c65_genexpr.specs.declared.operands.Operands.{Operands}
 use Rattle.c65_genexpr.specs.declared.operands.Operands.TheVariants.{Numbers, PointerFirst, PointerLast, Pointers}
 use Rattle.c65_genexpr.specs.declared.arguments.Passed.{Passed}
 use Rattle.c65_genexpr.specs.Places.{more, soft_code, code_at, object_code, rest_code}
-use Rattle.c65_genexpr.specs.Operands.{computes, between_code, difference_code, behind_code, unary_code, conversion_code, negative, scaled, short_code}
+use Rattle.c65_genexpr.specs.Operands.{computes, between_code, difference_code, behind_code, unary_code, conversion_code, negative}
 use Rattle.c65_genexpr.specs.Steps.{is_post, back_code, after_code, step_code, open_code, close_code}
 use Rattle.c65_genexpr.specs.declared.types.Outcome.{Outcome}
 use Rattle.c65_genexpr.specs.declared.types.Outcome.TheVariants.{Nothing, Number, Area}
@@ -320,7 +320,6 @@ unary_piece unary.Neg Ax = record { plain = refl; fit = refl; size = omega arith
 unary_piece unary.Neg Eax = record { plain = refl; fit = refl; size = omega arith }
 unary_piece unary.BitNot Ax = record { plain = refl; fit = refl; size = omega arith }
 unary_piece unary.BitNot Eax = record { plain = refl; fit = refl; size = omega arith }
-unary_piece unary.Not w = record { plain = refl; fit = refl; size = omega arith }
 unary_piece _ w = piece_none 13
 
 pub wide_piece : (op : BinaryOp) (kind : IntType) → Piece 6 (wide_code op kind)
@@ -343,11 +342,6 @@ behind_piece op (Numbers kind) right = piece_wider 9 19 _ (piece_append 3 6 _ _ 
 behind_piece op (PointerFirst size) right = piece_append 13 6 _ _ (scale_piece size) (wide_piece op ints.UInt)
 behind_piece op (PointerLast size) right = piece_wider 6 19 _ (wide_piece op ints.UInt) (omega arith)
 behind_piece op (Pointers size) right = piece_wider 16 19 _ (piece_append 6 10 _ _ (wide_piece op ints.UInt) (difference_piece op size)) (omega arith)
-
-pub short_piece : (op : BinaryOp) (operands : Operands) (n : ℕ) → Piece 21 (short_code op operands n)
-short_piece ops.Sub operands n = add_piece (computes operands) (negative (scaled operands n))
-short_piece ops.Add operands n = add_piece (computes operands) (scaled operands n)
-short_piece _ operands n = add_piece (computes operands) (scaled operands n)
 
 -- ---- assignments
 

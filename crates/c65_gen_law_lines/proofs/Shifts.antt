@@ -20,9 +20,10 @@ use Rattle.c65_genload.specs.Numbers.{first, second, third, fourth, mask_code}
 use Rattle.c65_genshift.specs.declared.quick.Quick.{Quick}
 use Rattle.c65_genshift.specs.declared.quick.Quick.TheVariants.{Shift, Mask}
 use Rattle.c65_genshift.specs.Shifts.{shift_a, one_of, calls_code, turns_code, left_turn, right_turn, left_byte_code, right_byte_code, left_one_code, left_two_code, left_three_code, right_one_code, right_two_code, right_three_code, labelled, left_word_code, right_word_code, left_long_code, right_long_code, shift_code, is_short_long, is_short}
-use Rattle.c65_genshift.specs.Quick.{power_of, shift_if, scaled_if, rest_if, quick_by, quick_of, mask_word_code, mask_high_code, mask_long_code, mask_by_width, quick_lines, quick_code}
+use Rattle.c65_genshift.specs.Quick.{power_of, shift_if, scaled_if, rest_if, quick_by, quick_of, mask_word_code, mask_high_code, mask_long_code, mask_by_width, quick_lines, quick_code, elements_by, elements_code}
 use Rattle.c65_gen_law_lines.proofs.Made.{Piece, nowhere, once_at}
-use Rattle.c65_gen_law_lines.proofs.Leaves.{Still}
+use Rattle.c65_gen_law_lines.proofs.Pieces.{narrow_piece, scale_piece}
+use Rattle.c65_gen_law_lines.proofs.StackPieces.{narrow_still, scale_still}
 use Rattle.c65_gen_law_lines.proofs.Quiet.{Quiet, quiet_then, quiet_piece, quiet_label, quiet_branch, quiet_none, quiet_wider, quiet_as, quiet_if}
 
 -- ---- by the number of bits
@@ -178,3 +179,16 @@ quick_is_quick op kind n q e = quick_by_quick (tos_of op (is_signed_of kind)) (w
 quick_lines_quiet : {ok : ℕ → Bool} (width : Width) (q : Quick) (label : ℕ) → ok label ≡ true → IsQuick width q → Quiet ok (once_at label) 39 (quick_lines width q label)
 quick_lines_quiet width (Shift op n) label passes h = shift_quiet op width n label passes h
 quick_lines_quiet width (Mask n) label passes h = labelled_quiet label (quiet_wider (mask_quiet width n) (omega arith))
+
+pub quick_quiet : {ok : ℕ → Bool} (kind : IntType) (q : Quick) (label : ℕ) → ok label ≡ true → IsQuick (width_of kind) q → Quiet ok (once_at label) 42 (quick_code kind q label)
+quick_quiet kind q label passes h = quiet_as (λ l. omega arith) (quiet_then (quick_lines_quiet (width_of kind) q label passes h) (quiet_piece (narrow_piece kind) (narrow_still kind)))
+
+-- ---- elements
+
+elements_by_quiet : {ok : ℕ → Bool} (size : ℕ) (k : Option ℕ) → Quiet ok nowhere 91 (elements_by size k)
+elements_by_quiet size (Some k) = quiet_below k 8 (λ lt. quiet_wider (calls_quiet tos.Shl Ax k) (omega (arith, lt)))
+    (λ a. quiet_below k 16 (λ lt. quiet_wider (left_byte_quiet (k - 8) (omega (arith, lt, a))) (omega arith)) (λ b. quiet_wider (quiet_piece (scale_piece size) (scale_still size)) (omega arith)))
+elements_by_quiet size None = quiet_wider (quiet_piece (scale_piece size) (scale_still size)) (omega arith)
+
+pub elements_quiet : {ok : ℕ → Bool} (size : ℕ) → Quiet ok nowhere 91 (elements_code size)
+elements_quiet size = elements_by_quiet size (power_of size)

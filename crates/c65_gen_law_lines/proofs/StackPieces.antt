@@ -43,7 +43,7 @@ use Rattle.c65_genload.specs.Stores.{bytes_store, after_store, under_code, field
 use Rattle.c65_genexpr.specs.declared.operands.Operands.{Operands}
 use Rattle.c65_genexpr.specs.declared.operands.Operands.TheVariants.{Numbers, PointerFirst, PointerLast, Pointers}
 use Rattle.c65_genexpr.specs.Places.{more, soft_code, code_at, object_code, rest_code}
-use Rattle.c65_genexpr.specs.Operands.{computes, between_code, difference_code, behind_code, unary_code, conversion_code, negative, scaled, short_code}
+use Rattle.c65_genexpr.specs.Operands.{computes, between_code, difference_code, behind_code, unary_code, conversion_code, negative}
 use Rattle.c65_genexpr.specs.Steps.{is_post, back_code, after_code, step_code, open_code, close_code}
 use Rattle.c65_genexpr.specs.Types.{kind_of}
 use Rattle.c65_genexpr.specs.Spills.{kept_code, first_code, further_code, again_code, spill_code}
@@ -302,7 +302,6 @@ spill_still address e still v =
 pub unary_still : (op : UnaryOp) (w : Width) → Still (unary_code op w)
 unary_still unary.Neg w v = record { to = λ calls. refl }
 unary_still unary.BitNot w v = record { to = λ calls. refl }
-unary_still unary.Not w v = record { to = λ calls. refl }
 unary_still _ w v = leaves_none
 
 tos_leaves : (op : TosOp) (w : Width) (v : List ℕ) → Leaves (waiting w ∷ v) (call (Tos op w) ∷ []) v
@@ -327,11 +326,6 @@ behind_leaves op (Numbers kind) right v = leaves_then (convert_still right kind 
 behind_leaves op (PointerFirst size) right v = leaves_then (scale_still size (2 ∷ v)) (wide_leaves op ints.UInt v)
 behind_leaves op (PointerLast size) right v = wide_leaves op ints.UInt v
 behind_leaves op (Pointers size) right v = leaves_then (wide_leaves op ints.UInt v) (difference_still op size v)
-
-pub short_still : (op : BinaryOp) (operands : Operands) (n : ℕ) → Still (short_code op operands n)
-short_still ops.Sub operands n v = add_still (computes operands) (negative (scaled operands n)) v
-short_still ops.Add operands n v = add_still (computes operands) (scaled operands n) v
-short_still _ operands n v = add_still (computes operands) (scaled operands n) v
 
 -- ---- assignments
 

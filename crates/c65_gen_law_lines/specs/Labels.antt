@@ -4,6 +4,8 @@ use Rattle.std.specs.List.{list_all}
 use Rattle.c65_code.specs.declared.line.Line.{Line}
 use Rattle.c65_code.specs.declared.line.Line.TheVariants.{Label}
 use Rattle.c65_code.specs.Segments.{is_among, targets_of}
+use Rattle.c65_genexpr.specs.declared.wanted.Wanted.{Wanted}
+use Rattle.c65_genexpr.specs.declared.wanted.Wanted.TheVariants.{Value, Test}
 
 -- how often a label stands among lines
 abbrev pub times : ℕ → List Line → ℕ
@@ -17,6 +19,11 @@ is_within first count l = nat_le first l && nat_lt l (first + count)
 
 abbrev pub among : ℕ → ℕ → ℕ → ℕ
 among first count l = if is_within first count l then 1 else 0
+
+-- the label of a test, which lies outside
+abbrev pub aims : Wanted → List ℕ
+aims Value = []
+aims (Test to s) = to ∷ []
 
 -- a label of the range, or one of those outside it
 abbrev pub may_lead : ℕ → ℕ → List ℕ → ℕ → Bool
