@@ -199,7 +199,12 @@ fn put_lines(machine: &mut Machine, starts: &[(Routine, u16)], lines: &[Line], b
                 machine.write(at, opcode(opposite(op), Mode::Relative));
                 machine.write(at.wrapping_add(1), 3);
                 machine.write(jump, opcode(Op::Jmp, Mode::Absolute));
-                put_word(machine, jump, 3, operand(lines, base, jump, Mode::Absolute, what));
+                put_word(
+                    machine,
+                    jump,
+                    3,
+                    operand(lines, base, jump, Mode::Absolute, what),
+                );
             }
             Line::Call(callee) => {
                 machine.write(at, opcode(Op::Jsr, Mode::Absolute));
