@@ -40,7 +40,7 @@ use Rattle.c65_genexpr.specs.declared.operands.Operands.TheVariants.{Numbers, Po
 use Rattle.c65_genexpr.specs.declared.types.Outcome.{Outcome}
 use Rattle.c65_genexpr.specs.Types.{kind_of, outcome_of, kind_in, bare, offset_at, access_of, target_bytes}
 use Rattle.c65_genexpr.specs.Places.{more, place_of, object_code, rest_code}
-use Rattle.c65_genexpr.specs.Wanted.{wanted_by, handed, wanted, sense, aimed, inner, truth_by, is_straight, way, way_labels, joined}
+use Rattle.c65_genexpr.specs.Wanted.{decided_code, wanted_by, handed, wanted, sense, aimed, inner, truth_by, is_straight, way, way_labels, joined}
 use Rattle.c65_genexpr.specs.Spills.{spill_code}
 use Rattle.c65_genexpr.specs.Operands.{residue_of, operands_of, computes, unary_code, same_truth, conversion_by}
 use Rattle.c65_genexpr.specs.Direct.{kept_at, own_bytes}
@@ -63,8 +63,7 @@ width_in t = width_of (kind_of (types.type_in t))
 -- a constant, or the way that its truth decides
 abbrev pub constant_code : Wanted → Width → ℕ → List Line
 constant_code Value width n = number_code width n
-constant_code (Test to true) width n = if n == 0 then [] else Do Jmp Absolute (To to) ∷ []
-constant_code (Test to false) width n = if n == 0 then Do Jmp Absolute (To to) ∷ [] else []
+constant_code (Test to s) width n = decided_code (not (n == 0)) s to
 
 -- a number that is kept at a known place is tested where it lies; else it is loaded
 abbrev pub tested_load : Option Direct → IntType → Bool → ℕ → List Line → List Line

@@ -29,7 +29,7 @@ use Rattle.c65_genexpr.specs.declared.comparing.Comparing.TheVariants.{Truth, By
 use Rattle.c65_genexpr.specs.declared.operands.Operands.{Operands}
 use Rattle.c65_genexpr.specs.Operands.{residue_of, computes, between_code, behind_code}
 use Rattle.c65_genexpr.specs.Places.{more}
-use Rattle.c65_genexpr.specs.Direct.{direct_of, is_fixed, is_pure, is_byte}
+use Rattle.c65_genexpr.specs.Direct.{sides_of, direct_of, is_fixed, is_pure, is_byte}
 use Rattle.c65_genexpr.specs.Wanted.{branch_code}
 
 -- the relation that holds where a comparison has this truth
@@ -54,19 +54,6 @@ abbrev pub tested_by : Relation → Typed → Option Bool
 tested_by r e = if is_zero e then zero_sense r else None
 
 -- ---- a side that is read where it lies
-
-abbrev pub both_bytes : Option OperandByte → Option OperandByte → Option Sides
-both_bytes (Some low) (Some high) = Some (Word low high)
-both_bytes _ _ = None
-
-abbrev pub all_bytes : Option OperandByte → Option OperandByte → Option OperandByte → Option OperandByte → Option Sides
-all_bytes (Some first) (Some second) (Some third) (Some fourth) = Some (Long first second third fourth)
-all_bytes _ _ _ _ = None
-
--- the bytes that a comparison reads
-abbrev pub sides_of : Width → Direct → Option Sides
-sides_of Ax d = both_bytes (byte_of d 0) (byte_of d 1)
-sides_of Eax d = all_bytes (byte_of d 0) (byte_of d 1) (byte_of d 2) (byte_of d 3)
 
 abbrev pub lowest : Sides → OperandByte
 lowest (Word low high) = low

@@ -5,6 +5,8 @@ use Rattle.c65_ints.specs.declared.types.IntType.TheVariants.{SChar, UChar}
 use Rattle.c65_ctype.specs.Trees.{Ty, int, pointer, type_in}
 use Rattle.c65_ctype.specs.Views.{types_of}
 use Rattle.c65_csem.specs.Trees.{Typed, node, Node, constant, null, literal, object, func, deref, member, load, address, decay, convert, unary, binary, both, either, choice, comma, assign, assign_op, assign_step, step, copy, call, pack, spill, rest}
+use Rattle.c65_code.specs.declared.routine.Width.{Width}
+use Rattle.c65_code.specs.declared.routine.Width.TheVariants.{Ax, Eax}
 use Rattle.c65_genframe.specs.Frames.{Framed}
 use Rattle.c65_genframe.specs.Symbols.{numbers_of, literal_symbol, function_symbol}
 use Rattle.c65_genload.specs.Conversions.{size_of}
@@ -17,6 +19,8 @@ use Rattle.c65_genload.specs.declared.places.Access.TheVariants.{Whole, Part}
 use Rattle.c65_gendirect.specs.declared.bytes.OperandByte.{OperandByte}
 use Rattle.c65_gendirect.specs.declared.direct.Direct.{Direct}
 use Rattle.c65_gendirect.specs.declared.direct.Direct.TheVariants.{Number, Address, Kept}
+use Rattle.c65_gendirect.specs.declared.compare.Sides.{Sides}
+use Rattle.c65_gendirect.specs.declared.compare.Sides.TheVariants.{Word, Long}
 use Rattle.c65_gendirect.specs.Bytes.{byte_of, converted}
 use Rattle.c65_genexpr.specs.Types.{kind_of, bare, access_of}
 use Rattle.c65_genexpr.specs.Places.{place_of}
@@ -59,16 +63,6 @@ abbrev mutual
   direct_of f pushed (node t (decay e)) = address_of f pushed e
   direct_of f pushed (node t (convert e)) = converted_if (takes_bytes (type_in t) (bare e)) (kind_of (type_in t)) (direct_of f pushed e)
   direct_of f pushed (node t _) = None
-
--- the bytes that are kept of a number
-abbrev pub with_byte : Option OperandByte → List OperandByte → List OperandByte
-with_byte None ds = ds
-with_byte (Some d) ds = d ∷ ds
-
-abbrev pub own_bytes : Direct → Extent → List OperandByte
-own_bytes d One = with_byte (byte_of d 0) []
-own_bytes d Two = with_byte (byte_of d 0) (with_byte (byte_of d 1) [])
-own_bytes d _ = with_byte (byte_of d 0) (with_byte (byte_of d 1) (with_byte (byte_of d 2) (with_byte (byte_of d 3) [])))
 
 -- a value that nothing changes while the program runs
 abbrev pub is_fixed : Option Direct → Bool
@@ -122,3 +116,33 @@ abbrev mutual
   is_byte (node t (constant z)) = nat_lt (residue_of z) 256
   is_byte (node t (convert e)) = is_unsigned_char (type_in t) || (keeps_byte (type_in t) (bare e) && is_byte e)
   is_byte (node t _) = is_unsigned_char (type_in t)
+
+-- ---- bytes together
+
+abbrev pub both_bytes : Option OperandByte → Option OperandByte → Option Sides
+both_bytes (Some low) (Some high) = Some (Word low high)
+both_bytes _ _ = None
+
+abbrev pub all_bytes : Option OperandByte → Option OperandByte → Option OperandByte → Option OperandByte → Option Sides
+all_bytes (Some first) (Some second) (Some third) (Some fourth) = Some (Long first second third fourth)
+all_bytes _ _ _ _ = None
+
+-- the bytes of a word or a long
+abbrev pub sides_of : Width → Direct → Option Sides
+sides_of Ax d = both_bytes (byte_of d 0) (byte_of d 1)
+sides_of Eax d = all_bytes (byte_of d 0) (byte_of d 1) (byte_of d 2) (byte_of d 3)
+
+abbrev pub listed : Option Sides → List OperandByte
+listed None = []
+listed (Some (Word low high)) = low ∷ high ∷ []
+listed (Some (Long first second third fourth)) = first ∷ second ∷ third ∷ fourth ∷ []
+
+abbrev pub alone : Option OperandByte → List OperandByte
+alone None = []
+alone (Some d) = d ∷ []
+
+-- the bytes that a number has where it is kept
+abbrev pub own_bytes : Direct → Extent → List OperandByte
+own_bytes d One = alone (byte_of d 0)
+own_bytes d Two = listed (sides_of Ax d)
+own_bytes d _ = listed (sides_of Eax d)

@@ -1,9 +1,11 @@
 -- What is wanted of an expression, and of its parts.
-use Rattle.std.specs.Prelude.{ℕ, ◌+◌, Bool, false, not, if◌then◌else◌, Option, Some, None, List, [], ◌∷◌, ◌++◌}
+use Rattle.std.specs.Prelude.{ℕ, ◌+◌, Bool, true, false, not, if◌then◌else◌, Option, Some, None, List, [], ◌∷◌, ◌++◌}
 use Rattle.c65_mach.specs.declared.rows.Op.{Op}
-use Rattle.c65_mach.specs.declared.rows.Op.TheVariants.{Beq, Bne}
+use Rattle.c65_mach.specs.declared.rows.Op.TheVariants.{Beq, Bne, Jmp}
+use Rattle.c65_mach.specs.declared.rows.Mode.TheVariants.{Absolute}
+use Rattle.c65_code.specs.declared.line.Operand.TheVariants.{To}
 use Rattle.c65_code.specs.declared.line.Line.{Line}
-use Rattle.c65_code.specs.declared.line.Line.TheVariants.{Label}
+use Rattle.c65_code.specs.declared.line.Line.TheVariants.{Label, Do}
 use Rattle.c65_code.specs.declared.routine.Width.{Width}
 use Rattle.c65_genload.specs.Words.{branch}
 use Rattle.c65_genload.specs.Conversions.{test_code}
@@ -43,6 +45,12 @@ value_test_code width s to = test_code width ++ branch_code s to
 abbrev pub wanted : Wanted → Width → List Line → List Line
 wanted Value width lines = lines
 wanted (Test to s) width lines = lines ++ value_test_code width s to
+
+-- a truth that is known: a jump where it is s
+abbrev pub decided_code : Bool → Bool → ℕ → List Line
+decided_code true true to = Do Jmp Absolute (To to) ∷ []
+decided_code false false to = Do Jmp Absolute (To to) ∷ []
+decided_code _ _ to = []
 
 -- ---- comparisons, `!`, `&&` and `||`: where the value is wanted, a test leads to the first of two labels if it fails
 

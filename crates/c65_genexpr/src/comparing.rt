@@ -2,13 +2,12 @@
 ghost use Rattle.std.specs.Prelude.{◌≡◌, ◌&&◌};
 ghost use Rattle.c65_csem.specs.Views.{typed_of};
 ghost use Rattle.c65_genexpr.specs.Direct.{direct_of, is_pure, is_byte};
-ghost use Rattle.c65_genexpr.specs.Comparing.{relation_by, is_zero, tested_by, sides_of, lowest, is_raised, raised, one_more, range_of, meeting, beside, is_read, compared_by, comparing_of};
+ghost use Rattle.c65_genexpr.specs.Comparing.{relation_by, is_zero, tested_by, lowest, is_raised, raised, one_more, range_of, meeting, beside, is_read, compared_by, comparing_of};
 
-use crate::direct::{direct_of, is_byte, is_fixed, is_pure};
+use crate::direct::{direct_of, is_byte, is_fixed, is_pure, sides_of};
 use crate::constants::residue_of;
-use c65_code::Width;
 use c65_csem::{TExpr, TKind};
-use c65_gendirect::{Direct, OperandByte, Relation, Sides};
+use c65_gendirect::{Direct, OperandByte, Relation, Sides, byte_of};
 use c65_genframe::Frame;
 use c65_genwide::width_of;
 use c65_ints::IntType;
@@ -58,18 +57,6 @@ pub fn tested_by(relation: Relation, e: &TExpr) -> Option<bool>
         Relation::Equal if is_zero(e) => Some(false),
         Relation::Unequal if is_zero(e) => Some(true),
         _ => None,
-    }
-}
-
-// The bytes that a comparison reads.
-fn sides_of(width: Width, direct: Direct) -> Option<Sides>
-    ensures { result ≡ sides_of width direct }
-{
-    let low = direct.byte(0)?;
-    let high = direct.byte(1)?;
-    match width {
-        Width::Ax => Some(Sides::Word(low, high)),
-        Width::Eax => Some(Sides::Long(low, high, direct.byte(2)?, direct.byte(3)?)),
     }
 }
 
@@ -135,7 +122,7 @@ fn meeting(
     };
     if bytes {
         let low = match first {
-            Some(direct) => direct.byte(0),
+            Some(direct) => byte_of(direct, 0),
             None => None,
         };
         Comparing::Byte(side, low, relation, lowest(sides))

@@ -1,18 +1,23 @@
 // Values whose bytes are read where they lie, trees that change nothing, and values of one byte.
-ghost use Rattle.std.specs.Prelude.{◌≡◌};
+ghost use Rattle.std.specs.Prelude.{◌≡◌, OnOk, OnErr};
 ghost use Rattle.c65_ctype.specs.Views.{ty_of};
 ghost use Rattle.c65_csem.specs.Views.{typed_of};
-ghost use Rattle.c65_genexpr.specs.Direct.{kept_at, address_at, address_of, takes_bytes, direct_of, own_bytes, is_fixed, is_pure, is_unsigned_char, keeps_byte, is_byte};
+ghost use Rattle.c65_genload.specs.Places.{extent_of};
+ghost use Rattle.c65_genwide.specs.Lines.{with_lines, Keeps};
+ghost use Rattle.c65_gendirect.specs.Tests.{zero_test_code};
+ghost use Rattle.c65_genexpr.specs.Direct.{kept_at, address_at, address_of, takes_bytes, direct_of, is_fixed, is_pure, is_unsigned_char, keeps_byte, is_byte, sides_of, listed, own_bytes};
 
 use crate::places::place_of;
 use crate::constants::residue_of;
 use crate::types::{access_of, kind_of};
+use c65_code::{Draft, Width};
 use c65_csem::{TExpr, TKind};
 use c65_ctype::CType;
-use c65_gendirect::{Direct, converted};
+use c65_gendirect::{Direct, Sides, byte_of, converted, put_zero_test};
 use c65_genframe::Frame;
-use c65_genload::{Access, Place, bytes_of};
+use c65_genload::{Access, Extent, Place, bytes_of, extent_of};
 use c65_ints::IntType;
+use std::alloc::AllocError;
 
 /// A number that is kept at a known place.
 pub fn kept_at(place: Place, access: Access) -> Option<Direct>
@@ -147,5 +152,58 @@ pub fn is_byte(e: &TExpr) -> bool
             is_unsigned_char(&e.ty.ty) || keeps_byte(&e.ty.ty, &a.ty.ty) && is_byte(a)
         }
         _ => is_unsigned_char(&e.ty.ty),
+    }
+}
+
+/// The bytes of a word or a long.
+pub fn sides_of(width: Width, direct: Direct) -> Option<Sides>
+    ensures { result ≡ sides_of width direct }
+{
+    let low = byte_of(direct, 0)?;
+    let high = byte_of(direct, 1)?;
+    match width {
+        Width::Ax => Some(Sides::Word(low, high)),
+        Width::Eax => Some(Sides::Long(low, high, byte_of(direct, 2)?, byte_of(direct, 3)?)),
+    }
+}
+
+/// A test of a number where it is kept.
+pub fn put_own_test(
+    direct: Direct,
+    kind: IntType,
+    sense: bool,
+    to: u32,
+    draft: &mut Draft,
+) -> Result<(), AllocError>
+    ensures lines { OnOk result (draft.new ≡ with_lines draft.old (zero_test_code (own_bytes direct (extent_of kind)) sense to)) }
+    ensures kept { OnErr result (Keeps draft.old draft.new) }
+{
+    match extent_of(kind) {
+        Extent::One => match byte_of(direct, 0) {
+            Some(byte) => put_zero_test(&[byte], sense, to, draft),
+            None => put_zero_test(&[], sense, to, draft),
+        },
+        Extent::Two => put_sides_test(sides_of(Width::Ax, direct), sense, to, draft),
+        Extent::Three | Extent::Four => {
+            put_sides_test(sides_of(Width::Eax, direct), sense, to, draft)
+        }
+    }
+}
+
+fn put_sides_test(
+    sides: Option<Sides>,
+    sense: bool,
+    to: u32,
+    draft: &mut Draft,
+) -> Result<(), AllocError>
+    ensures lines { OnOk result (draft.new ≡ with_lines draft.old (zero_test_code (listed sides) sense to)) }
+    ensures kept { OnErr result (Keeps draft.old draft.new) }
+{
+    match sides {
+        Some(Sides::Word(low, high)) => put_zero_test(&[low, high], sense, to, draft),
+        Some(Sides::Long(first, second, third, fourth)) => {
+            put_zero_test(&[first, second, third, fourth], sense, to, draft)
+        }
+        None => put_zero_test(&[], sense, to, draft),
     }
 }

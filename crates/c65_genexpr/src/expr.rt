@@ -13,31 +13,34 @@ use crate::arguments::{
     Passed, argument_bytes, is_counted, is_fast, joined, passed_size, put_argument, stays,
 };
 use crate::calls::{named, put_direct, put_named, put_pointer};
-use crate::comparing::{Comparing, Side, comparing_of, put_found, put_read, relation_by, tested_by};
+use crate::comparing::{Comparing, Side, comparing_of, relation_by, tested_by};
 use crate::constants::residue_of;
+use crate::direct::{kept_at, put_own_test};
 use crate::operands::{
-    Operands, computes, operands_of, put_between, put_conversion, put_unary, same_truth,
+    Operands, computes, operands_of, put_behind, put_between, put_conversion, put_unary, same_truth,
 };
 use crate::operating::{Operating, operating_of, put_form, put_stacked, put_waiting};
 use crate::places::{more, place_of, put_object, put_rest};
 use crate::spills::put_spill;
 use crate::steps::{amount_of, put_close, put_open, put_step};
 use crate::types::{Outcome, access_of, kind_of, offset_at, outcome_of, target_bytes};
-use crate::wanted::{Wanted, put_decided, put_value_test, wanted_by};
+use crate::wanted::{
+    Wanted, is_straight, put_decided, put_outcome_test, put_value_test, wanted_by,
+};
 use c65_base::{BinaryOp, Refusal, UnaryOp};
 use c65_code::Line::{Do, Label};
 use c65_code::Operand::To;
 use c65_code::{Draft, Width};
 use c65_csem::{TExpr, TKind};
-use c65_gendirect::{Relation, relation_of, truth};
+use c65_gendirect::{Relation, put_compare, put_compare_byte, put_op, put_truth, relation_of};
 use c65_genframe::Frame;
 use c65_genload::{
     Place, copy, extent_by, held, hold, load, load_bytes, number, push, put_offset, put_symbol,
-    store, waiting,
+    store, value_type, waiting,
 };
 use c65_genwide::{next_label, put, width_of};
 use c65_mach::Mode::Absolute;
-use c65_mach::Op::Jmp;
+use c65_mach::Op::{Jmp, Lda};
 use std::alloc::AllocError;
 
 /// Puts the lines of an expression behind those of the draft, where so many bytes of values wait on
@@ -92,9 +95,9 @@ pub fn put_expr(
             put_conversion(&e.ty.ty, kind_of(&a.ty.ty), draft)
         }
         TKind::Unary(UnaryOp::Not, a) => {
-            let no = two_labels(draft)?;
-            put_test(a, frame, pushed, no, true, draft)?;
-            truth(no, draft)
+            let truth = truth_labels(draft)?;
+            put_test(a, frame, pushed, truth.no, true, draft)?;
+            put_truth(truth.no, truth.end, draft)
         }
         TKind::Unary(op, a) => {
             put_expr(a, frame, pushed, draft)?;
@@ -102,14 +105,14 @@ pub fn put_expr(
         }
         TKind::Binary(op, a, b) => put_binary(a, b, *op, frame, pushed, draft),
         TKind::And(a, b) => {
-            let no = two_labels(draft)?;
-            put_joint(a, b, false, frame, pushed, no, false, draft)?;
-            truth(no, draft)
+            let truth = truth_labels(draft)?;
+            put_joint(a, b, false, frame, pushed, truth.no, false, draft)?;
+            put_truth(truth.no, truth.end, draft)
         }
         TKind::Or(a, b) => {
-            let no = two_labels(draft)?;
-            put_joint(a, b, true, frame, pushed, no, false, draft)?;
-            truth(no, draft)
+            let truth = truth_labels(draft)?;
+            put_joint(a, b, true, frame, pushed, truth.no, false, draft)?;
+            put_truth(truth.no, truth.end, draft)
         }
         TKind::Cond(c, a, b) => put_choice(c, a, b, frame, pushed, draft),
         TKind::Comma(a, b) => {
@@ -276,7 +279,7 @@ fn put_load_test(
     let place = place_of(frame, pushed, a);
     let access = access_of(&frame.parts().types, a);
     match kept_at(place, access) {
-        Some(direct) => put_zero_test(direct, value_type(access), sense, to, draft),
+        Some(direct) => put_own_test(direct, value_type(access), sense, to, draft),
         None => {
             put_target(a, place, frame, pushed, draft)?;
             load(place, access, draft)?;
@@ -285,15 +288,22 @@ fn put_load_test(
     }
 }
 
-// Two labels that follow one another; the first one.
-fn two_labels(draft: &mut Draft) -> Result<u32, AllocError>
-    ensures label { IfOk result (λ l. l ≡ draft.old.labels) }
+/// The labels of a truth value: where a test of it leads if it fails, and where both ways meet.
+#[derive(Clone, Copy)]
+struct Truth {
+    no: u32,
+    end: u32,
+}
+
+fn truth_labels(draft: &mut Draft) -> Result<Truth, AllocError>
+    ensures no { IfOk result (λ t. t.no ≡ draft.old.labels) }
+    ensures end { IfOk result (λ t. t.end ≡ draft.old.labels + 1) }
     ensures draft { OnOk result (draft.new ≡ grown draft.old [] 2) }
     ensures kept { OnErr result (Keeps draft.old draft.new) }
 {
-    let label = next_label(draft)?;
-    next_label(draft)?;
-    Ok(label)
+    let no = next_label(draft)?;
+    let end = next_label(draft)?;
+    Ok(Truth { no, end })
 }
 
 // The value of an operator, or the truth value of a comparison.
@@ -311,9 +321,9 @@ fn put_binary(
 {
     match relation_of(op) {
         Some(relation) => {
-            let no = two_labels(draft)?;
-            put_comparison(a, b, op, relation, frame, pushed, no, false, draft)?;
-            truth(no, draft)
+            let truth = truth_labels(draft)?;
+            put_comparison(a, b, op, relation, frame, pushed, truth.no, false, draft)?;
+            put_truth(truth.no, truth.end, draft)
         }
         None => put_operator(a, b, op, frame, pushed, draft),
     }
@@ -345,9 +355,10 @@ fn put_operator(
         Operating::Stacked => {
             let wait = waiting(width_of(computes(operands)));
             put_expr(a, frame, pushed, draft)?;
-            put_waiting(operands, label, draft)?;
+            put_waiting(operands, draft)?;
             put_expr(b, frame, more(pushed, wait), draft)?;
-            put_stacked(op, operands, kind_of(&b.ty.ty), label, draft)
+            put_stacked(op, operands, kind_of(&b.ty.ty), draft)?;
+            put(draft, &[Label(label)])
         }
     }
 }
@@ -386,12 +397,12 @@ fn put_comparison(
                 Side::Right => b,
             };
             put_expr(first, frame, pushed, draft)?;
-            compare_byte(relation, byte, to, draft)?;
+            put_compare_byte(relation, byte, to, draft)?;
             put(draft, &[Label(own)])
         }
         Comparing::Byte(_, Some(low), relation, byte) => {
-            put_byte(Lda, low, draft)?;
-            compare_byte(relation, byte, to, draft)?;
+            put_op(Lda, low, draft)?;
+            put_compare_byte(relation, byte, to, draft)?;
             put(draft, &[Label(own)])
         }
         Comparing::Whole(side, relation, is_signed, sides) => {
@@ -400,7 +411,7 @@ fn put_comparison(
                 Side::Right => b,
             };
             put_expr(first, frame, pushed, draft)?;
-            compare(relation, is_signed, sides, own, to, draft)
+            put_compare(relation, is_signed, sides, own, to, draft)
         }
         Comparing::Stacked => {
             let wait = waiting(width_of(computes(operands)));
@@ -408,7 +419,8 @@ fn put_comparison(
             put_between(operands, draft)?;
             put_expr(b, frame, more(pushed, wait), draft)?;
             put_behind(op, operands, kind_of(&b.ty.ty), draft)?;
-            put_outcome_test(sense, to, own, draft)
+            put_outcome_test(sense, to, draft)?;
+            put(draft, &[Label(own)])
         }
     }
 }

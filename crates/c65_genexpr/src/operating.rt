@@ -11,7 +11,9 @@ use c65_base::BinaryOp;
 use c65_code::Line::Label;
 use c65_code::{Draft, Width};
 use c65_csem::TExpr;
-use c65_gendirect::{Direct, OperandByte, add_number, long_mask, sum, taken_from, word};
+use c65_gendirect::{
+    Direct, OperandByte, byte_of, put_add_number, put_long_mask, put_taken_from, put_word,
+};
 use c65_genframe::Frame;
 use c65_genload::{add, divide, push};
 use c65_genshift::{Quick, put_elements, put_quick, quick_of};
@@ -115,7 +117,7 @@ fn constant_form(op: BinaryOp, operands: Operands, number: u32) -> Option<Form>
 fn word_in(direct: Direct) -> Option<(OperandByte, OperandByte)>
     ensures { result ≡ word_in direct }
 {
-    Some((direct.byte(0)?, direct.byte(1)?))
+    Some((byte_of(direct, 0)?, byte_of(direct, 1)?))
 }
 
 fn word_if(op: BinaryOp, width: Width, low: OperandByte, high: OperandByte) -> Option<Form>
@@ -241,34 +243,34 @@ pub fn put_form(form: Form, label: u32, draft: &mut Draft) -> Result<(), AllocEr
     ensures kept { OnErr result (Keeps draft.old draft.new) }
 {
     match form {
-        Form::Sum(number) => add_number(number, label, draft),
+        Form::Sum(number) => put_add_number(number, label, draft),
         Form::LongSum(number) => {
             add(IntType::ULong, number, draft)?;
             put(draft, &[Label(label)])
         }
         Form::Mask(op, number) => {
-            long_mask(op, number, draft)?;
+            put_long_mask(op, number, draft)?;
             put(draft, &[Label(label)])
         }
         Form::Constant(kind, quick) => put_quick(kind, quick, label, draft),
         Form::Word(op, low, high) => {
-            word(op, low, high, label, draft)?;
+            put_word(op, low, high, label, draft)?;
             place(op, label, draft)
         }
         Form::Under(low, high) => {
-            taken_from(low, high, draft)?;
+            put_taken_from(low, high, draft)?;
             put(draft, &[Label(label)])
         }
         Form::Indexed(size, low, high) => {
-            put_elements(size, label, draft)?;
-            sum(low, high, draft)
+            put_elements(size, draft)?;
+            put_word(BinaryOp::Add, low, high, label, draft)
         }
         Form::Distance(size, low, high) => {
-            word(BinaryOp::Sub, low, high, label, draft)?;
+            put_word(BinaryOp::Sub, low, high, label, draft)?;
             divide(size, draft)
         }
         Form::DistanceUnder(size, low, high) => {
-            taken_from(low, high, draft)?;
+            put_taken_from(low, high, draft)?;
             divide(size, draft)?;
             put(draft, &[Label(label)])
         }
@@ -287,39 +289,34 @@ fn place(op: BinaryOp, label: u32, draft: &mut Draft) -> Result<(), AllocError>
 }
 
 /// Behind the left operand, which then waits: a number of elements becomes one of bytes.
-pub fn put_waiting(operands: Operands, label: u32, draft: &mut Draft) -> Result<(), AllocError>
-    ensures lines { OnOk result (draft.new ≡ with_lines draft.old (waiting_code operands label)) }
+pub fn put_waiting(operands: Operands, draft: &mut Draft) -> Result<(), AllocError>
+    ensures lines { OnOk result (draft.new ≡ with_lines draft.old (waiting_code operands)) }
     ensures kept { OnErr result (Keeps draft.old draft.new) }
 {
     match operands {
         Operands::PointerLast(size) => {
-            put_elements(size, label, draft)?;
+            put_elements(size, draft)?;
             push(Width::Ax, draft)
         }
         _ => put_between(operands, draft),
     }
 }
 
-/// Behind the right operand, which is of this type.
+/// Behind the right operand then, which is of this type.
 pub fn put_stacked(
     op: BinaryOp,
     operands: Operands,
     right: IntType,
-    label: u32,
     draft: &mut Draft,
 ) -> Result<(), AllocError>
-    ensures lines { OnOk result (draft.new ≡ with_lines draft.old (stacked_code op operands right label)) }
+    ensures lines { OnOk result (draft.new ≡ with_lines draft.old (stacked_code op operands right)) }
     ensures kept { OnErr result (Keeps draft.old draft.new) }
 {
     match operands {
         Operands::PointerFirst(size) => {
-            put_elements(size, label, draft)?;
+            put_elements(size, draft)?;
             put_wide(op, IntType::UInt, draft)
         }
-        Operands::PointerLast(_) => put_wide(op, IntType::UInt, draft),
-        Operands::Numbers(_) | Operands::Pointers(_) => {
-            put_behind(op, operands, right, draft)?;
-            put(draft, &[Label(label)])
-        }
+        _ => put_behind(op, operands, right, draft),
     }
 }

@@ -1,6 +1,6 @@
 // Operators whose right operand is a constant, by shifts and masks (C90 6.3.5, 6.3.7).
 ghost use Rattle.std.specs.Prelude.{◌≡◌, ◌≤◌, OnOk, OnErr};
-ghost use Rattle.c65_genwide.specs.Lines.{with_lines, grown, Keeps};
+ghost use Rattle.c65_genwide.specs.Lines.{with_lines, Keeps};
 ghost use Rattle.c65_genshift.specs.Quick.{power_below, power_of, shift_if, scaled_if, rest_if, quick_by, quick_of, quick_lines, quick_code, elements_code};
 
 use crate::masks::mask;
@@ -8,7 +8,7 @@ use crate::shifts::{is_short, place, put_calls, put_left_byte, shift};
 use c65_base::BinaryOp;
 use c65_code::{Draft, TosOp, Width};
 use c65_genload::scale;
-use c65_genwide::{narrow, next_label, tos_of, width_of};
+use c65_genwide::{narrow, tos_of, width_of};
 use c65_ints::IntType;
 use std::alloc::AllocError;
 
@@ -87,23 +87,19 @@ fn put_lines(width: Width, quick: Quick, label: u32, draft: &mut Draft) -> Resul
     }
 }
 
-fn put_with(kind: IntType, quick: Quick, label: u32, draft: &mut Draft) -> Result<(), AllocError>
+/// Behind the left operand, in the operator's type. The label is placed once, also where no line leads
+/// to it.
+pub fn put_quick(
+    kind: IntType,
+    quick: Quick,
+    label: u32,
+    draft: &mut Draft,
+) -> Result<(), AllocError>
     ensures lines { OnOk result (draft.new ≡ with_lines draft.old (quick_code kind quick label)) }
     ensures kept { OnErr result (Keeps draft.old draft.new) }
 {
     put_lines(width_of(kind), quick, label, draft)?;
     narrow(kind, draft)
-}
-
-/// Behind the left operand, in the operator's type. A label is given, and placed once, also where no
-/// line leads to it.
-#[tactic(auto, using(c65_genwide::proofs::Kept::label_last, c65_genwide::proofs::Kept::label_then))]
-pub fn put_quick(kind: IntType, quick: Quick, draft: &mut Draft) -> Result<(), AllocError>
-    ensures lines { OnOk result (draft.new ≡ grown draft.old (quick_code kind quick draft.old.labels) 1) }
-    ensures kept { OnErr result (Keeps draft.old draft.new) }
-{
-    let label = next_label(draft)?;
-    put_with(kind, quick, label, draft)
 }
 
 /// A number of elements of so many bytes becomes a number of bytes (C90 6.3.6).
