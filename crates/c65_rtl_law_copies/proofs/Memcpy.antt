@@ -89,7 +89,7 @@ behind_sourced place bounds P lines Inv l n t r =
     behind_line place bounds P _ _ _ _ Inv l n t (behind_line place bounds P _ _ _ _ Inv l n t (behind_line place bounds P _ _ _ _ Inv l n t
     (behind_line place bounds P _ _ _ _ Inv l n t (behind_line place bounds P _ _ _ _ Inv l n t (behind_line place bounds P _ _ _ _ Inv l n t r)))))
 
-abbrev end_lines : List Line
+abbrev pub end_lines : List Line
 end_lines = value Ldy 3 ∷ load_word_on (value Ldy 4 ∷ raise_by_y)
 
 abbrev memcpy_lines : List Line

@@ -1,6 +1,6 @@
 -- That the lines of the routines that copy and fill blocks do what their rows say (C90 7.11.2).
 use Rattle.std.specs.Prelude.{◌≡◌}
-use Rattle.c65_base.specs.declared.library.Library.TheVariants.{Memcpy}
+use Rattle.c65_base.specs.declared.library.Library.TheVariants.{Memcpy, Memset}
 use Rattle.c65_code.specs.declared.routine.Routine.{Routine}
 use Rattle.c65_code.specs.declared.routine.Routine.TheVariants as routines
 use Rattle.c65_code.specs.RawMachine.{RawSetting, MeetsRow}
@@ -17,3 +17,7 @@ IsMet r = (s : RawSetting) → Holds s r → MeetsRow s r
 -- `copytos`, and `memcpy` (C90 7.11.2.1)
 abbrev pub BlocksAreCopied : Type 0
 BlocksAreCopied = IsMet routines.CopyTos × IsMet (routines.Library Memcpy)
+
+-- `memset` (C90 7.11.6.1)
+abbrev pub BlocksAreFilled : Type 0
+BlocksAreFilled = IsMet (routines.Library Memset)

@@ -3,4 +3,4 @@
 
 mod laws;
 
-pub use laws::blocks_are_copied;
+pub use laws::{blocks_are_copied, blocks_are_filled};

@@ -71,3 +71,16 @@ opens_both s row count at more from t far may =
       second = opens_far s (with_far row (range_of more from)) more from t refl (fewer s row (range_of more from) t may parts.1);
       away = λ k few b low high. away_from s row t may (from + k) b (all_in_range (IsOpen s.place (max (sp_of t) row.sp)) more from parts.1 k few) low high;
     }
+
+-- The same of one range.
+pub record OpenRange (s : RawSetting) (row : Row) (t : State) (count at : ℕ) : Type 0 where
+  pub bytes : OpenBytes s.place (reach_of t) count at
+  pub away : (k : ℕ) → k < count → (b : ℕ) → sp_of t ≤ b → b < row.sp → b ≢ at + k
+
+pub opens_one : (s : RawSetting) (row : Row) (count at : ℕ) (t : State) → row.far ≡ range_of count at → MayRun s row t → OpenRange s row t count at
+opens_one s row count at t far may =
+    let all = subst (λ (bs : List ℕ). All (IsOpen s.place (max (sp_of t) row.sp)) bs) far may.room.far in
+    record {
+      bytes = opens_far s row count at t far may;
+      away = λ k few b low high. away_from s row t may (at + k) b (all_in_range (IsOpen s.place (max (sp_of t) row.sp)) count at all k few) low high;
+    }
