@@ -29,14 +29,14 @@ page_on rest = by_y Lda ptr1 ∷ by_y Sta ptr2 ∷ implied Iny ∷ branch Bne 2 
 abbrev pub copy_on : List Line → List Line
 copy_on rest = value Ldy 0 ∷ zero_page Ldx (ptr3 + 1) ∷ branch Beq 3 ∷ Label 2 ∷ page_on rest
 
-abbrev from_of : State → ℕ
+abbrev pub from_of : State → ℕ
 from_of u = (u.zp 8 + 256 * u.zp 9 + u.regs.y) % 65536
 
-abbrev to_of : State → ℕ
+abbrev pub to_of : State → ℕ
 to_of u = (u.zp 10 + 256 * u.zp 11 + u.regs.y) % 65536
 
 -- a byte copied, Y one more
-abbrev byte_done : State → ℕ → ℕ → ℕ → Bool → Bool → State
+abbrev pub byte_done : State → ℕ → ℕ → ℕ → Bool → Bool → State
 byte_done u from to x n z = record u { regs = record u.regs { a = u.mem from; x = x; y = (u.regs.y + 1) % 256; n = n; z = z }; mem = write u.mem to (u.mem from) }
 
 last_at : (place : Placement) (bounds : Bounds) (P : State → Type 0) (B : ℕ → State → Type 0) (rest : List Line) (from to : ℕ) (u : State)
@@ -96,9 +96,13 @@ pub record Job : Type 0 where
   pub from : ℕ
   pub count : ℕ
 
-pub record IsJob (place : Placement) (bounds : Bounds) (j : Job) : Type 0 where
+-- both blocks may be reached
+pub record Reaches (place : Placement) (bounds : Bounds) (j : Job) : Type 0 where
   pub from_bytes : OpenBytes place bounds j.count j.from
   pub to_bytes : OpenBytes place bounds j.count j.to
+
+pub record IsJob (place : Placement) (bounds : Bounds) (j : Job) : Type 0 where
+  pub reaches : Reaches place bounds j
   pub number : j.o.zp 12 + 256 * j.o.zp 13 ≡ j.count
   pub low : j.o.zp 12 < 256
 
@@ -131,7 +135,7 @@ pub record Next (j : Job) (left : ℕ) (u : State) : Type 0 where
   pub from_is : from_of u ≡ j.from + (j.count - left)
   pub to_is : to_of u ≡ j.to + (j.count - left)
 
-next_is : (place : Placement) (bounds : Bounds) (j : Job) (left : ℕ) (u : State) → IsJob place bounds j → Copying j (suc left) u → Next j (suc left) u
+pub next_is : (place : Placement) (bounds : Bounds) (j : Job) (left : ℕ) (u : State) → Reaches place bounds j → Copying j (suc left) u → Next j (suc left) u
 next_is place bounds j left u job c =
     let y_is : u.regs.y ≡ c.y = ap (λ (k : State). k.regs.y) c.is in
     let zp_is : u.zp ≡ c.zp = ap (λ (k : State). k.zp) c.is in
@@ -148,7 +152,7 @@ next_is place bounds j left u job c =
     record { from_is = omega arith; to_is = omega arith }
 
 -- the memory after the byte
-copies_on : (j : Job) (left : ℕ) (u : State) → (c : Copying j (suc left) u) → Next j (suc left) u
+pub copies_on : (j : Job) (left : ℕ) (u : State) → (c : Copying j (suc left) u) → Next j (suc left) u
     → (b : ℕ) → written (write u.mem (to_of u) (u.mem (from_of u))) (copied left (j.to + j.count - left) (j.from + j.count - left) (write u.mem (to_of u) (u.mem (from_of u)))) b ≡ written j.o.mem (copied j.count j.to j.from j.o.mem) b
 copies_on j left u c next b =
     let T : ℕ = j.to + j.count - suc left in
@@ -163,7 +167,7 @@ copies_on j left u c next b =
     ap (λ (w : Bytes). written w (copied left (j.to + j.count - left) (j.from + j.count - left) w) b) all
     ∙ (shifted (write c.mem T (c.mem F)) left (j.to + j.count - left) (T + 1) (j.from + j.count - left) (F + 1) b (omega arith) (omega arith) ∙ c.copies b)
 
-byte_on : (place : Placement) (bounds : Bounds) (j : Job) (left : ℕ) (u : State) (x : ℕ) (n z : Bool) → IsJob place bounds j → Copying j (suc left) u → (u.regs.y + 1) % 256 ≢ 0
+pub byte_on : (place : Placement) (bounds : Bounds) (j : Job) (left : ℕ) (u : State) (x : ℕ) (n z : Bool) → Reaches place bounds j → Copying j (suc left) u → (u.regs.y + 1) % 256 ≢ 0
     → Copying j left (byte_done u (from_of u) (to_of u) x n z)
 byte_on place bounds j left u x n z job c same_page =
     let y_is : u.regs.y ≡ c.y = ap (λ (k : State). k.regs.y) c.is in
@@ -195,7 +199,7 @@ byte_on place bounds j left u x n z job c same_page =
 nine_ten : (old : Bytes) (v w k : ℕ) → k ≢ 9 → k ≢ 11 → write (write old 9 v) 11 w k ≡ old k
 nine_ten old v w k nine eleven = write_other (write old 9 v) 11 w k eleven ∙ write_other old 9 v k nine
 
-page_done : (place : Placement) (bounds : Bounds) (j : Job) (left : ℕ) (u : State) (x : ℕ) (n z : Bool) → IsJob place bounds j → Copying j (suc left) u → (u.regs.y + 1) % 256 ≡ 0
+pub page_done : (place : Placement) (bounds : Bounds) (j : Job) (left : ℕ) (u : State) (x : ℕ) (n z : Bool) → Reaches place bounds j → Copying j (suc left) u → (u.regs.y + 1) % 256 ≡ 0
     → Copying j left (record (byte_done u (from_of u) (to_of u) x n z) { zp = write (write u.zp 9 ((u.zp 9 + 1) % 256)) 11 ((u.zp 11 + 1) % 256) })
 page_done place bounds j left u x n z job c new_page =
     let y_is : u.regs.y ≡ c.y = ap (λ (k : State). k.regs.y) c.is in
@@ -269,23 +273,23 @@ last_go : (place : Placement) (bounds : Bounds) (P : State → Type 0) (rest : L
     → u.regs.y + suc left < 256 → u.regs.x ≡ suc left → Copying j (suc left) u → ((m : ℕ) (v : State) → suc m ≡ left → v.regs.y + suc m < 256 → v.regs.x ≡ suc m → Copying j (suc m) v → B 4 v)
     → leads_round place bounds P B (4 ∷ 3 ∷ 2 ∷ []) (last_on rest) None u
 last_go place bounds P rest j B zero u job finish few x_is c again =
-    let next = next_is place bounds j 0 u job c in
+    let next = next_is place bounds j 0 u job.reaches c in
     let within = c.within in
     let last : j.count - 1 < j.count = omega arith in
     let one : (u.regs.x + 255) % 256 ≡ 0 = omega arith in
     let same_page : (u.regs.y + 1) % 256 ≢ 0 = omega arith in
-    last_at place bounds P B rest (j.from + (j.count - 1)) (j.to + (j.count - 1)) u next.from_is next.to_is (job.from_bytes.reach (j.count - 1) last) (job.to_bytes.reach (j.count - 1) last)
+    last_at place bounds P B rest (j.from + (j.count - 1)) (j.to + (j.count - 1)) u next.from_is next.to_is (job.reaches.from_bytes.reach (j.count - 1) last) (job.reaches.to_bytes.reach (j.count - 1) last)
     (λ n z more. absurd (more one))
-    (λ n z done. finish B _ (byte_on place bounds j 0 u ((u.regs.x + 255) % 256) n z job c same_page))
+    (λ n z done. finish B _ (byte_on place bounds j 0 u ((u.regs.x + 255) % 256) n z job.reaches c same_page))
 last_go place bounds P rest j B (suc m) u job finish few x_is c again =
-    let next = next_is place bounds j (suc m) u job c in
+    let next = next_is place bounds j (suc m) u job.reaches c in
     let within = c.within in
     let last : j.count - suc (suc m) < j.count = omega arith in
     let x_next : (u.regs.x + 255) % 256 ≡ suc m = omega arith in
     let same_page : (u.regs.y + 1) % 256 ≢ 0 = omega arith in
     let few_on : (u.regs.y + 1) % 256 + suc m < 256 = omega arith in
-    last_at place bounds P B rest (j.from + (j.count - suc (suc m))) (j.to + (j.count - suc (suc m))) u next.from_is next.to_is (job.from_bytes.reach (j.count - suc (suc m)) last) (job.to_bytes.reach (j.count - suc (suc m)) last)
-    (λ n z more. again m _ refl few_on x_next (byte_on place bounds j (suc m) u ((u.regs.x + 255) % 256) n z job c same_page))
+    last_at place bounds P B rest (j.from + (j.count - suc (suc m))) (j.to + (j.count - suc (suc m))) u next.from_is next.to_is (job.reaches.from_bytes.reach (j.count - suc (suc m)) last) (job.reaches.to_bytes.reach (j.count - suc (suc m)) last)
+    (λ n z more. again m _ refl few_on x_next (byte_on place bounds j (suc m) u ((u.regs.x + 255) % 256) n z job.reaches c same_page))
     (λ n z done. absurd (omega arith))
 
 -- X is loaded anew
@@ -348,7 +352,7 @@ page_go : (place : Placement) (bounds : Bounds) (P : State → Type 0) (rest : L
     → ((k : ℕ) (v : State) → suc (suc k) ≡ left → v.regs.y + suc k < 256 → v.regs.x ≡ suc k → Copying j (suc k) v → B 4 v)
     → leads_round place bounds P B (2 ∷ []) (page_on rest) None u
 page_go place bounds P rest j B left u job finish some pages c again later =
-    let next = next_is place bounds j left u job c in
+    let next = next_is place bounds j left u job.reaches c in
     let within = c.within in
     let y_is : u.regs.y ≡ c.y = ap (λ (k : State). k.regs.y) c.is in
     let y_low = c.low in
@@ -356,13 +360,13 @@ page_go place bounds P rest j B left u job finish some pages c again later =
     let from_low = c.from_is in
     let last : j.count - suc left < j.count = omega arith in
     let end : j.count - 1 < j.count = omega arith in
-    let from_end = job.from_bytes.below (j.count - 1) end in
+    let from_end = job.reaches.from_bytes.below (j.count - 1) end in
     let small : u.regs.x < 256 = omega arith in
-    page_at place bounds P B rest (j.from + (j.count - suc left)) (j.to + (j.count - suc left)) u next.from_is next.to_is (job.from_bytes.reach (j.count - suc left) last) (job.to_bytes.reach (j.count - suc left) last)
+    page_at place bounds P B rest (j.from + (j.count - suc left)) (j.to + (j.count - suc left)) u next.from_is next.to_is (job.reaches.from_bytes.reach (j.count - suc left) last) (job.reaches.to_bytes.reach (j.count - suc left) last)
     (λ n z same_page. byte_case n z same_page left refl)
     (λ n z new_page more. page_case n z new_page more left refl)
     (λ n z new_page none.
-    let done = page_done place bounds j left u ((u.regs.x + 255) % 256) n z job c new_page in
+    let done = page_done place bounds j left u ((u.regs.x + 255) % 256) n z job.reaches c new_page in
     tail_go place bounds P rest j B left (page_state u n z) job finish (omega arith) new_page done later)
   where
     byte_case : (n z : Bool) → (u.regs.y + 1) % 256 ≢ 0 → (k : ℕ) → left ≡ k → B 2 (byte_done u (from_of u) (to_of u) u.regs.x n z)
@@ -373,7 +377,7 @@ page_go place bounds P rest j B left u job finish some pages c again later =
     byte_case n z same_page (suc k) e =
         let y_is : u.regs.y ≡ c.y = ap (λ (k : State). k.regs.y) c.is in
         let y_low = c.low in
-        let on : Copying j left (byte_done u (from_of u) (to_of u) u.regs.x n z) = byte_on place bounds j left u u.regs.x n z job c same_page in
+        let on : Copying j left (byte_done u (from_of u) (to_of u) u.regs.x n z) = byte_on place bounds j left u u.regs.x n z job.reaches c same_page in
         again k (byte_done u (from_of u) (to_of u) u.regs.x n z) (sym e) some (omega arith) (subst (λ (i : ℕ). Copying j i (byte_done u (from_of u) (to_of u) u.regs.x n z)) e on)
 
     page_case : (n z : Bool) → (u.regs.y + 1) % 256 ≡ 0 → (u.regs.x + 255) % 256 ≢ 0 → (k : ℕ) → left ≡ k
@@ -391,9 +395,9 @@ page_go place bounds P rest j B left u job finish some pages c again later =
         let from_low = c.from_is in
         let last : j.count - suc left < j.count = omega arith in
         let end : j.count - 1 < j.count = omega arith in
-        let from_end = job.from_bytes.below (j.count - 1) end in
+        let from_end = job.reaches.from_bytes.below (j.count - 1) end in
         let x_next : (u.regs.x + 255) % 256 ≡ u.regs.x - 1 = omega arith in
-        let on : Copying j left (page_state u n z) = page_done place bounds j left u ((u.regs.x + 255) % 256) n z job c new_page in
+        let on : Copying j left (page_state u n z) = page_done place bounds j left u ((u.regs.x + 255) % 256) n z job.reaches c new_page in
         again k (page_state u n z) (sym e) (omega arith) (omega arith) (subst (λ (i : ℕ). Copying j i (page_state u n z)) e on)
 
 -- The piece's two loops, for lines behind it that lead on from a finished copy and weigh no more than `tail`.
@@ -452,7 +456,7 @@ pub record Starts (j : Job) : Type 0 where
 abbrev pub before : Job → ℕ → ℕ → ℕ → Bool → Bool → State
 before j a x y n z = record j.o { regs = record { a = a; x = x; y = y; n = n; v = j.o.regs.v; z = z; c = j.o.regs.c } }
 
-begins : (j : Job) (a x : ℕ) (n z : Bool) → Starts j → Copying j j.count (before j a x 0 n z)
+pub begins : (j : Job) (a x : ℕ) (n z : Bool) → Starts j → Copying j j.count (before j a x 0 n z)
 begins j a x n z starts =
     let f = starts.from_is in
     let t = starts.to_is in

@@ -33,7 +33,7 @@ pointed_on rest = zero_page Sta ptr1 ∷ zero_page Stx (ptr1 + 1) ∷ value Ldy 
 abbrev pub pointed : State → ℕ → ℕ → Bytes
 pointed u l h = write (write (write (write u.zp 8 u.regs.a) 9 u.regs.x) 11 h) 10 l
 
-abbrev pointed_state : State → ℕ → ℕ → Bool → Bool → State
+abbrev pub pointed_state : State → ℕ → ℕ → Bool → Bool → State
 pointed_state u l h n z = record u { regs = record u.regs { a = l; y = 0; n = n; z = z }; zp = pointed u l h }
 
 head_at : (place : Placement) (bounds : Bounds) (P : State → Type 0) (B : ℕ → State → Type 0) (rest : List Line) (at : ℕ) (u : State)
@@ -59,7 +59,7 @@ behind_pointed place bounds P lines Inv l n t r =
     behind_line place bounds P _ _ _ _ Inv l n t (behind_line place bounds P _ _ _ _ Inv l n t (behind_line place bounds P _ _ _ _ Inv l n t (behind_line place bounds P _ _ _ _ Inv l n t
     (behind_line place bounds P _ _ _ _ Inv l n t (behind_line place bounds P _ _ _ _ Inv l n t (behind_line place bounds P _ _ _ _ Inv l n t (behind_line place bounds P _ _ _ _ Inv l n t r)))))))
 
-abbrev top_lines : List Line
+abbrev pub top_lines : List Line
 top_lines = value Ldy 1 ∷ load_word_on raise_two
 
 abbrev copytos_lines : List Line
@@ -131,7 +131,7 @@ copytos_runs s has back t may =
     let near_end : sp_of t + 1 < 65520 = near.below 1 k1 in
     let j : Job = job_of back t in
     let low_count : t.zp 12 < 256 = may.bytes.zp 12 in
-    let job : IsJob s.place (reach_of t) j = record { from_bytes = far.first; to_bytes = far.second; number = refl; low = low_count } in
+    let job : IsJob s.place (reach_of t) j = record { reaches = record { from_bytes = far.first; to_bytes = far.second }; number = refl; low = low_count } in
     let starts : Starts j = record { from_is = refl; to_is = refl } in
     let finish : Finish s.place (reach_of t) (Ends (copytos_row t) t) top_lines j = finished s back t may near far in
     let many : length (range_of (count_of t) (ax_of t) ++ range_of (count_of t) (to_of t)) ≡ count_of t + count_of t = ranges_length (count_of t) (ax_of t) (count_of t) (to_of t) in

@@ -4,3 +4,5 @@ pub mod Copytos
 pub mod Memcpy
 pub mod Fills
 pub mod Memset
+pub mod Texts
+pub mod Strcpy

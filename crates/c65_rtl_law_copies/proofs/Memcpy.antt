@@ -170,7 +170,7 @@ memcpy_runs s has back t may =
     let next : sp_of t + 2 + 1 ≡ sp_of t + 3 = omega arith in
     let j : Job = job_of back t in
     let low_count : t.regs.a < 256 = may.bytes.a in
-    let job : IsJob s.place (reach_of t) j = record { from_bytes = far.first; to_bytes = far.second; number = refl; low = low_count } in
+    let job : IsJob s.place (reach_of t) j = record { reaches = record { from_bytes = far.first; to_bytes = far.second }; number = refl; low = low_count } in
     let starts : Starts j = record { from_is = refl; to_is = refl } in
     let finish : Finish s.place (reach_of t) (Ends (memcpy_row t) t) end_lines j = finished s back t may near far in
     let many : length (range_of (ax_of t) (from_of t) ++ range_of (ax_of t) (to_of t)) ≡ ax_of t + ax_of t = ranges_length (ax_of t) (from_of t) (ax_of t) (to_of t) in

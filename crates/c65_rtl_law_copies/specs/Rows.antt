@@ -1,6 +1,6 @@
 -- That the lines of the routines that copy and fill blocks do what their rows say (C90 7.11.2).
 use Rattle.std.specs.Prelude.{◌≡◌}
-use Rattle.c65_base.specs.declared.library.Library.TheVariants.{Memcpy, Memset}
+use Rattle.c65_base.specs.declared.library.Library.TheVariants.{Memcpy, Memset, Strcpy}
 use Rattle.c65_code.specs.declared.routine.Routine.{Routine}
 use Rattle.c65_code.specs.declared.routine.Routine.TheVariants as routines
 use Rattle.c65_code.specs.RawMachine.{RawSetting, MeetsRow}
@@ -21,3 +21,7 @@ BlocksAreCopied = IsMet routines.CopyTos × IsMet (routines.Library Memcpy)
 -- `memset` (C90 7.11.6.1)
 abbrev pub BlocksAreFilled : Type 0
 BlocksAreFilled = IsMet (routines.Library Memset)
+
+-- `strcpy` (C90 7.11.2.3)
+abbrev pub TextsAreCopied : Type 0
+TextsAreCopied = IsMet (routines.Library Strcpy)

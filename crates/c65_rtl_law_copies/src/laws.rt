@@ -1,5 +1,5 @@
 // Laws, each the contract of a function that does nothing.
-ghost use Rattle.c65_rtl_law_copies.specs.Rows.{BlocksAreCopied, BlocksAreFilled};
+ghost use Rattle.c65_rtl_law_copies.specs.Rows.{BlocksAreCopied, BlocksAreFilled, TextsAreCopied};
 
 /// Wherever the lines of `copytos` or `memcpy` stand under its number, each call that its row admits does what the row says: the
 /// bytes are copied ascending, one after another, in fewer instructions than the row costs.
@@ -10,4 +10,9 @@ pub fn blocks_are_copied()
 /// So it is with `memset`: the bytes are filled ascending.
 pub fn blocks_are_filled()
     ensures { BlocksAreFilled }
+{}
+
+/// So it is with `strcpy`: the bytes up to the first zero are copied ascending, and the zero.
+pub fn texts_are_copied()
+    ensures { TextsAreCopied }
 {}
