@@ -24,7 +24,8 @@ use Rattle.c65_rtl.proofs.Loads.{load_word_on, load_word_at, word_low, word_high
 use Rattle.c65_rtl_law_walks.proofs.Loops.{Round, runs_loops, behind_line}
 use Rattle.c65_rtl_law_walks.proofs.Ranges.{OpenRanges, opens_both, ranges_length}
 use Rattle.c65_rtl_law_copies.proofs.Copies.{copy_on, Job, IsJob, Starts, Finish, Going, copy_begins, copy_round}
-use Rattle.c65_rtl_law_copies.proofs.Kept.{kept_outside, with_pages}
+use Rattle.c65_rtl_law_walks.proofs.Pages.{with_pages}
+use Rattle.c65_rtl_law_copies.proofs.Kept.{kept_outside}
 
 -- AX to ptr1, the word at sp to ptr2
 abbrev pub pointed_on : List Line → List Line

@@ -25,7 +25,8 @@ use Rattle.c65_rtl.proofs.Loads.{load_word_on, load_word_at, word_low, word_high
 use Rattle.c65_rtl_law_walks.proofs.Loops.{Round, runs_loops, behind_line}
 use Rattle.c65_rtl_law_walks.proofs.Ranges.{OpenRanges, opens_both, ranges_length}
 use Rattle.c65_rtl_law_copies.proofs.Copies.{copy_on, Job, IsJob, Starts, Finish, Going, copy_begins, copy_round}
-use Rattle.c65_rtl_law_copies.proofs.Kept.{kept_outside, with_pages}
+use Rattle.c65_rtl_law_walks.proofs.Pages.{with_pages}
+use Rattle.c65_rtl_law_copies.proofs.Kept.{kept_outside}
 
 -- AX to ptr3, the word at sp + 2 to ptr2
 abbrev pub counted_on : List Line → List Line

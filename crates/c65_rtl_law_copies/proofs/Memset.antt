@@ -27,7 +27,8 @@ use Rattle.c65_rtl_law_walks.proofs.Loops.{Round, runs_loops, behind_line}
 use Rattle.c65_rtl_law_walks.proofs.Ranges.{OpenRange, opens_one, range_length}
 use Rattle.c65_rtl_law_copies.proofs.Memcpy.{counted_on, counted_state, counted_at, behind_counted, end_lines}
 use Rattle.c65_rtl_law_copies.proofs.Fills.{fill_on, Job, IsJob, Finish, Going, fill_round, fill_begins}
-use Rattle.c65_rtl_law_copies.proofs.Kept.{kept_unfilled, with_pages}
+use Rattle.c65_rtl_law_walks.proofs.Pages.{with_pages}
+use Rattle.c65_rtl_law_copies.proofs.Kept.{kept_unfilled}
 
 -- the byte at sp
 top_by : (place : Placement) (bounds : Bounds) (P : State → Type 0) (B : ℕ → State → Type 0) (rest : List Line) (at : ℕ) (u : State) → (u.zp 0 + 256 * u.zp 1 + 0) % 65536 ≡ at → IsReachable place bounds at

@@ -27,7 +27,8 @@ use Rattle.c65_rtl_law_walks.proofs.Ranges.{OpenRanges, opens_both, ranges_lengt
 use Rattle.c65_rtl_law_copies.proofs.Copies.{Job, Reaches, before, begins}
 use Rattle.c65_rtl_law_copies.proofs.Texts.{copy_text_on, Done, FinishText, Going, Reading, length_is, reads_from, text_begins, text_round}
 use Rattle.c65_rtl_law_copies.proofs.Copytos.{pointed_on, pointed, pointed_at, behind_pointed, top_lines}
-use Rattle.c65_rtl_law_copies.proofs.Kept.{kept_outside, with_pages}
+use Rattle.c65_rtl_law_walks.proofs.Pages.{with_pages}
+use Rattle.c65_rtl_law_copies.proofs.Kept.{kept_outside}
 
 abbrev strcpy_lines : List Line
 strcpy_lines = pointed_on (copy_text_on top_lines)

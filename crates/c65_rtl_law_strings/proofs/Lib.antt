@@ -1,2 +1,5 @@
 pub mod Lengths
 pub mod StringLength
+pub mod Common
+pub mod Comparing
+pub mod Strcmp

@@ -1,7 +1,7 @@
 -- That the lines of the library's functions on strings do what their rows say (C90 7.11).
 use Rattle.std.specs.Prelude.{◌≡◌}
 use Rattle.c65_base.specs.declared.library.Library.{Library}
-use Rattle.c65_base.specs.declared.library.Library.TheVariants.{Strlen}
+use Rattle.c65_base.specs.declared.library.Library.TheVariants.{Strcmp, Strlen}
 use Rattle.c65_code.specs.declared.routine.Routine.TheVariants as routines
 use Rattle.c65_code.specs.RawMachine.{RawSetting, MeetsRow}
 use Rattle.c65_rtl.specs.Routines.{lines_of}
@@ -17,3 +17,7 @@ IsMet f = (s : RawSetting) → Holds s f → MeetsRow s (routines.Library f)
 -- `strlen` (C90 7.11.6.3)
 abbrev pub StringsAreMeasured : Type 0
 StringsAreMeasured = IsMet Strlen
+
+-- `strcmp` (C90 7.11.4.2)
+abbrev pub StringsAreCompared : Type 0
+StringsAreCompared = IsMet Strcmp

@@ -2,3 +2,4 @@ pub mod Joins
 pub mod Loops
 pub mod Calls
 pub mod Ranges
+pub mod Pages
