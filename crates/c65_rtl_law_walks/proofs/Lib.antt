@@ -3,3 +3,4 @@ pub mod Loops
 pub mod Calls
 pub mod Ranges
 pub mod Pages
+pub mod Walks
