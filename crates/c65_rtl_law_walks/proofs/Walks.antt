@@ -23,8 +23,8 @@ use Rattle.c65_code.specs.Rows.{Row, Meets, row_of}
 use Rattle.c65_code.specs.Moves.{Ref, Given, ZeroAt, MemAt, ref_of, value_at, put, change, effect, settle, labelled}
 use Rattle.c65_code.specs.Segments.{is_among}
 use Rattle.c65_code.specs.RawMachine.{RawSetting, Bounds, IsReachable, IsRawOpen, IsHookWithin, RawComes, here, raw_weight, HasFrame, RawReturns, RawRuns, HasDone, called, entry_of, hook_row}
-use Rattle.c65_rtl.specs.Short.{is_onward}
-use Rattle.c65_rtl.proofs.Ways.{Way, Ends, when, either, whole_at, at_operand, pulling, returning, by_form, by_label, IsAt, IsOwn, SameCalls, IsSought, place_at, next_do, next_call, next_label, weaken, on_form, moved_to, still_own, and_parts, or_none, eq_flip, not_parts}
+use Rattle.c65_rtl.specs.Short.{is_onward, push_of, pushed_by}
+use Rattle.c65_rtl.proofs.Ways.{leads, Way, Ends, when, either, whole_at, at_operand, pulling, returning, by_form, by_label, IsAt, IsOwn, SameCalls, IsSought, place_at, next_do, next_call, next_label, weaken, on_form, moved_to, still_own, and_parts, or_none, eq_flip, not_parts}
 use Rattle.c65_rtl_law_walks.specs.Inside.{MayRunIn, MeetsIn, IsBack}
 use Rattle.c65_rtl_law_walks.proofs.Joins.{bind}
 use Rattle.c65_rtl_law_walks.proofs.Calls.{calls_come_back}
@@ -96,28 +96,33 @@ leads_forward passed (Label l ∷ lines) = leads_forward (l ∷ passed) lines
 leads_forward passed (Do op mode operand ∷ lines) = is_onward passed (op_form (kind_of op) op mode operand) && leads_forward passed lines
 leads_forward passed (Call callee ∷ lines) = leads_forward passed lines
 
--- an operation leaves the calls as they are
-put_calls : (ref : Ref) (v : ℕ) (t : State) → SameCalls t (put ref v t)
-put_calls (Given w) v t = record { frames = refl; ended = refl }
-put_calls (ZeroAt i) v t = record { frames = refl; ended = refl }
-put_calls (MemAt b) v t = record { frames = refl; ended = refl }
+-- an operation leaves the calls as they are, and what is pushed
+record SameStacks (t u : State) : Type 0 where
+  pub frames : u.frames ≡ t.frames
+  pub ended : u.ended ≡ t.ended
+  pub pushed : u.pushed ≡ t.pushed
 
-put_on_calls : (ref : Ref) (v : ℕ) (t u : State) → SameCalls t u → SameCalls t (put ref v u)
-put_on_calls ref v t u same = let put = put_calls ref v u in record { frames = put.frames ∙ same.frames; ended = put.ended ∙ same.ended }
+put_stacks : (ref : Ref) (v : ℕ) (t : State) → SameStacks t (put ref v t)
+put_stacks (Given w) v t = record { frames = refl; ended = refl; pushed = refl }
+put_stacks (ZeroAt i) v t = record { frames = refl; ended = refl; pushed = refl }
+put_stacks (MemAt b) v t = record { frames = refl; ended = refl; pushed = refl }
 
-change_calls : (op : Op) (mode : Mode) (w : ℕ) (t : State) → SameCalls t (change op mode w t)
-change_calls op modes.Accumulator w t = record { frames = refl; ended = refl }
-change_calls op mode w t =
+put_on_stacks : (ref : Ref) (v : ℕ) (t u : State) → SameStacks t u → SameStacks t (put ref v u)
+put_on_stacks ref v t u same = let put = put_stacks ref v u in record { frames = put.frames ∙ same.frames; ended = put.ended ∙ same.ended; pushed = put.pushed ∙ same.pushed }
+
+change_stacks : (op : Op) (mode : Mode) (w : ℕ) (t : State) → SameStacks t (change op mode w t)
+change_stacks op modes.Accumulator w t = record { frames = refl; ended = refl; pushed = refl }
+change_stacks op mode w t =
     let to = changed op (value_at (ref_of mode w t) t) t.regs in
-    put_on_calls (ref_of mode w t) to.0 t (record t { regs = record (signed to.0 t.regs) { c = to.1 } }) (record { frames = refl; ended = refl })
+    put_on_stacks (ref_of mode w t) to.0 t (record t { regs = record (signed to.0 t.regs) { c = to.1 } }) (record { frames = refl; ended = refl; pushed = refl })
 
-effect_calls : (kind : Kind) (op : Op) (mode : Mode) (w : ℕ) (t : State) → SameCalls t (effect kind op mode w t)
-effect_calls Reads op mode w t = record { frames = refl; ended = refl }
-effect_calls Stores op mode w t = put_calls (ref_of mode w t) (stored op t.regs) t
-effect_calls Changes op mode w t = change_calls op mode w t
-effect_calls Registers op mode w t = record { frames = refl; ended = refl }
-effect_calls Branches op mode w t = record { frames = refl; ended = refl }
-effect_calls Moves op mode w t = record { frames = refl; ended = refl }
+effect_stacks : (kind : Kind) (op : Op) (mode : Mode) (w : ℕ) (t : State) → SameStacks t (effect kind op mode w t)
+effect_stacks Reads op mode w t = record { frames = refl; ended = refl; pushed = refl }
+effect_stacks Stores op mode w t = put_stacks (ref_of mode w t) (stored op t.regs) t
+effect_stacks Changes op mode w t = change_stacks op mode w t
+effect_stacks Registers op mode w t = record { frames = refl; ended = refl; pushed = refl }
+effect_stacks Branches op mode w t = record { frames = refl; ended = refl; pushed = refl }
+effect_stacks Moves op mode w t = record { frames = refl; ended = refl; pushed = refl }
 
 operand_parts : (s : RawSetting) (bounds : Bounds) (ref : Ref) (P : Type 0) → at_operand s.place bounds ref P → IsRawOpen s.place bounds ref × P
 operand_parts s bounds (Given v) P h = (tt, h)
@@ -171,7 +176,7 @@ module _ (s : RawSetting) (bounds : Bounds) (deepest : ℕ) (takes : Routine →
       let parts = operand_parts s bounds (ref_of mode (word_of s.place operand) t) (rest None to) h in
       on_form s bounds Q l (Plain op mode operand) v (1 + v) (f, p) t e (stands p l is) own.ended parts.0 (omega arith)
       (λ q u g bytes. moved_to s bounds Q v q (f, settle whole (suc p)) u to (g.0 ∙ ap (λ (ls : List Line). let q' : Place = (f, settle ls (suc p)) in q') has) g.1
-      (after.by None to tt (subst IsBytes g.1 bytes) (still_own frame frames used t to (effect_calls (kind_of op) op mode (word_of s.place operand) t) own) parts.1))
+      (after.by None to tt (subst IsBytes g.1 bytes) (still_own frame frames used t to (let same = effect_stacks (kind_of op) op mode (word_of s.place operand) t in record { frames = same.frames; ended = same.ended }) own) parts.1))
   deep_line (Branch op k) rest passed l v p t e is onward own after h =
       on_form s bounds Q l (Branch op k) v (2 + v) (f, p) t e (stands p l is) own.ended tt (omega arith)
       (λ q u g bytes. moved_to s bounds Q v q (f, settle whole (if is_taken op t.regs then labelled whole k else suc p)) u t
@@ -306,3 +311,68 @@ walks_calling s bounds deepest takes r row back t lines has onward deep bytes ru
     (subst (λ (e : Option ℕ). RawComes s bounds (HasDone e row back t) weight (s.routine r, settle lines 0) (called back t)) (sym ends)
     (walk s bounds deepest takes (HasDone None row back t) (Ends row t) (s.routine r) lines frame t.frames used has room (λ u m bytes. (refl, m, bytes)) lines 0 [] None (called back t) (whole_at lines) onward tt (called_bytes back t bytes)
     (record { frames = refl; ended = running; used = refl }) h))
+
+-- Lines without calls that lead to their return do so here, where all that they push is within the deepest.
+when_more : (b : Bool) (P Q : Type 0) → (P → Q) → when b P → when b Q
+when_more true P Q more h = more h
+when_more false P Q more h = absurd h
+
+when_holds : (b : Bool) (P : Type 0) → when b P → P
+when_holds true P h = h
+when_holds false P h = absurd h
+
+operand_more : (s : RawSetting) (bounds : Bounds) (ref : Ref) (P Q : Type 0) → (P → Q) → at_operand s.place bounds ref P → at_operand s.place bounds ref Q
+operand_more s bounds (Given v) P Q more h = more h
+operand_more s bounds (ZeroAt i) P Q more h = when_more (nat_lt i 256) P Q more h
+operand_more s bounds (MemAt b) P Q more h = (h.0, more h.1)
+
+module _ (s : RawSetting) (bounds : Bounds) (deepest : ℕ) (takes : Routine → Takes) (P : State → Type 0) where
+  abbrev Deeper : ℕ → Way → Way → Type 0
+  Deeper n a b = (skip : Option ℕ) (u : State) → length u.pushed + n ≤ deepest → a skip u → b skip u
+
+  pull_in : (n : ℕ) (a b : Way) → Deeper n a b → (ps : List ℕ) (t : State) → length ps + n ≤ deepest → pulling a ps t → pulling b ps t
+  pull_in n a b more [] t few h = h
+  pull_in n a b more (v ∷ vs) t few h = more None (record t { regs = with_a v t.regs; pushed = vs }) (omega arith) h
+
+  form_in : (form : Form) (n : ℕ) (a b : Way) → Deeper n a b → (t : State) → length t.pushed + (push_of form + n) ≤ deepest → by_form s.place bounds P form a None t → by_deep s bounds deepest P form b None t
+  form_in (Plain op mode operand) n a b more t few h =
+      let to : State = effect (kind_of op) op mode (word_of s.place operand) t in
+      let same = ap (λ (ps : List ℕ). length ps) (effect_stacks (kind_of op) op mode (word_of s.place operand) t).pushed in
+      operand_more s bounds (ref_of mode (word_of s.place operand) t) (a None to) (b None to) (more None to (omega arith)) h
+  form_in (Branch op l) n a b more t few h = λ taken e. more (if taken then Some l else None) t (omega arith) (h taken e)
+  form_in (Jump l) n a b more t few h = more (Some l) t (omega arith) h
+  form_in Push n a b more t few h =
+      let to : State = record t { pushed = t.regs.a ∷ t.pushed } in
+      ((omega arith), more None to (omega arith) (when_holds (nat_lt (length t.pushed) 24) (a None to) h))
+  form_in Pull n a b more t few h = pull_in n a b more t.pushed t (omega arith) h
+  form_in Return n a b more t few h = h
+  form_in Mark n a b more t few h = h
+  form_in (Far at) n a b more t few h = h
+  form_in Depth n a b more t few h = h
+  form_in (Run r) n a b more t few h = h
+  form_in (Enter g reads gives) n a b more t few h = h
+  form_in (Through reads gives) n a b more t few h = h
+  form_in Stray n a b more t few h = h
+
+  line_in : (form : Form) (n : ℕ) (a b : Way) → Deeper n a b → Deeper (push_of form + n) (by_form s.place bounds P form a) (by_deep s bounds deepest P form b)
+  line_in form n a b more (Some l) t few h = more (Some l) t (omega arith) h
+  line_in form n a b more None t few h = form_in form n a b more t few h
+
+  label_in : (k n : ℕ) (a b : Way) → Deeper n a b → Deeper n (by_label k a) (by_label k b)
+  label_in k n a b more None t few h = more None t few h
+  label_in k n a b more (Some l) t few h = chosen (k == l) h
+    where
+      chosen : (c : Bool) → either c (a None t) (a (Some l) t) → either c (b None t) (b (Some l) t)
+      chosen true h = more None t few h
+      chosen false h = more (Some l) t few h
+
+  stray_in : (callee : Callee) (n : ℕ) (a b : Way) → Deeper n a b → Deeper n (by_form s.place bounds P Stray a) (by_call s bounds deepest takes callee b)
+  stray_in callee n a b more (Some l) t few h = more (Some l) t few h
+  stray_in callee n a b more None t few h = absurd h
+
+  pub straight_in : (lines : List Line) → Deeper (pushed_by lines) (leads s.place bounds P lines) (leads_in s bounds deepest takes P lines)
+  unfolding leads leads_in
+  straight_in [] = λ skip t few h. h
+  straight_in (Label k ∷ lines) = λ skip t few h. label_in k (pushed_by lines) _ _ (straight_in lines) skip t (omega arith) h
+  straight_in (Do op mode operand ∷ lines) = line_in (op_form (kind_of op) op mode operand) (pushed_by lines) _ _ (straight_in lines)
+  straight_in (Call callee ∷ lines) = λ skip t few h. stray_in callee (pushed_by lines) _ _ (straight_in lines) skip t (omega arith) h

@@ -1,12 +1,12 @@
 -- Routines that are called within routines: the bounds are those of the outer one.
-use Rattle.std.specs.Prelude.{◌≡◌, ℕ, ◌+◌, ◌≤◌, All, IsTrue, Some, None, slice_get}
+use Rattle.std.specs.Prelude.{◌≡◌, ℕ, suc, ◌+◌, ◌≤◌, All, IsTrue, Some, None, slice_get}
 use Rattle.c65_code.specs.declared.routine.Routine.{Routine}
 use Rattle.c65_code.specs.declared.line.Callee.TheVariants as callees
 use Rattle.c65_code.specs.declared.line.Line.TheVariants.{Call}
 use Rattle.c65_code.specs.LineState.{Place, State, sp_of, s_of, IsBytes}
 use Rattle.c65_code.specs.Placement.{stack_end}
 use Rattle.c65_code.specs.Rows.{Row, Meets, row_of}
-use Rattle.c65_code.specs.RawMachine.{RawSetting, Bounds, IsReachable, RawComes, HasDone, called, entry_of, line_after, hook_row}
+use Rattle.c65_code.specs.RawMachine.{RawSetting, Bounds, IsReachable, RawComes, HasDone, called, entry_of, line_after, hook_row, MeetsRow}
 
 -- What a call wants where the bounds are given: so many bytes of both stacks, and what it reaches.
 pub record MayRunIn (s : RawSetting) (bounds : Bounds) (below pushed : ℕ) (row : Row) (t : State) : Type 0 where
@@ -34,3 +34,11 @@ abbrev pub CallsComeBack : Type 0
 CallsComeBack = (s : RawSetting) (bounds : Bounds) (below pushed weight : ℕ) (r : Routine) (row : Row) (p : Place) (t : State)
     → MeetsIn s below pushed weight r → slice_get (s.lines p.0) p.1 ≡ Some (Call (callees.Routine r)) → hook_row s.args r t ≡ None
     → row_of r t ≡ Some row → row.ends ≡ None → MayRunIn s bounds below pushed row t → RawComes s bounds (IsBack s row p t) (2 + weight) p t
+
+-- the routine takes fewer instructions than its row costs, and leaves sp no more than 64 bytes lower
+abbrev pub IsModest : ℕ → Routine → Type 0
+IsModest weight r = (row : Row) (t : State) → row_of r t ≡ Some row → (suc weight ≤ row.cost) × (sp_of t ≤ row.sp + 64)
+
+-- Within the bytes of both stacks that every routine has, it does what its row says at every call that the row admits.
+abbrev pub RowsAreMetWithin : Type 0
+RowsAreMetWithin = (s : RawSetting) (below pushed weight : ℕ) (r : Routine) → MeetsIn s below pushed weight r → below ≤ 64 → 2 + pushed ≤ 26 → IsModest weight r → MeetsRow s r

@@ -1,6 +1,6 @@
 // Laws, each the contract of a function that does nothing.
 ghost use Rattle.c65_rtl_law_walks.specs.Joined.{LoopsEnd, RunsAreJoined};
-ghost use Rattle.c65_rtl_law_walks.specs.Inside.{CallsComeBack};
+ghost use Rattle.c65_rtl_law_walks.specs.Inside.{CallsComeBack, RowsAreMetWithin};
 
 /// Where the lines come to some places and states, and from each of these to others, they come to the others, and what they
 /// weigh is added.
@@ -18,4 +18,10 @@ pub fn loops_end()
 /// A call of a routine that does what its row says within given bounds comes back to the line behind it with the row met.
 pub fn calls_come_back()
     ensures { CallsComeBack }
+{}
+
+/// A routine that does what its row says within bounds, on no more of both stacks than every routine has and in fewer
+/// instructions than the row costs, does so at every call that its row admits.
+pub fn rows_are_met_within()
+    ensures { RowsAreMetWithin }
 {}

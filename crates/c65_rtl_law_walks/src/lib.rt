@@ -3,4 +3,4 @@
 
 mod laws;
 
-pub use laws::{calls_come_back, loops_end, runs_are_joined};
+pub use laws::{calls_come_back, loops_end, rows_are_met_within, runs_are_joined};
