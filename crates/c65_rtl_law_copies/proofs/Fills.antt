@@ -42,12 +42,13 @@ last_at : (place : Placement) (bounds : Bounds) (P : State → Type 0) (B : ℕ 
     → ((n z : Bool) → (u.regs.x + 255) % 256 ≡ 0 → leads_round place bounds P B (5 ∷ 4 ∷ 3 ∷ 2 ∷ []) rest None (byte_done u (to_of u) ((u.regs.x + 255) % 256) n z))
     → leads_round place bounds P B (4 ∷ 3 ∷ 2 ∷ []) (last_on rest) None u
 unfolding leads_round
-last_at place bounds P B rest to u f w again out =
-    (reach_as place bounds (to_of u) to f w,
-    elim [
-      | true ↦ λ e0. again _ _ (eq_false _ _ (not_true _ e0))
-      | false ↦ λ e0. out _ _ (eq_true _ _ (not_false _ e0))
-    ])
+last_at place bounds P B rest to u f w again out = (
+  reach_as place bounds (to_of u) to f w,
+  elim [
+    | true ↦ λ e0. again _ _ (eq_false _ _ (not_true _ e0))
+    | false ↦ λ e0. out _ _ (eq_true _ _ (not_false _ e0))
+  ],
+)
 
 tail_at : (place : Placement) (bounds : Bounds) (P : State → Type 0) (B : ℕ → State → Type 0) (rest : List Line) (u : State)
     → ((n z : Bool) → u.zp 12 ≡ 0 → leads_round place bounds P B (5 ∷ 4 ∷ 3 ∷ 2 ∷ []) rest None (record u { regs = record u.regs { x = u.zp 12; n = n; z = z } }))
@@ -64,18 +65,19 @@ page_at : (place : Placement) (bounds : Bounds) (P : State → Type 0) (B : ℕ 
     → ((n z : Bool) → (u.regs.y + 1) % 256 ≢ 0 → B 2 (byte_done u (to_of u) u.regs.x n z))
     → ((n z : Bool) → (u.regs.y + 1) % 256 ≡ 0 → (u.regs.x + 255) % 256 ≢ 0 → B 2 (record (byte_done u (to_of u) ((u.regs.x + 255) % 256) n z) { zp = write u.zp 11 ((u.zp 11 + 1) % 256) }))
     → ((n z : Bool) → (u.regs.y + 1) % 256 ≡ 0 → (u.regs.x + 255) % 256 ≡ 0
-        → leads_round place bounds P B (3 ∷ 2 ∷ []) (tail_on rest) None (record (byte_done u (to_of u) ((u.regs.x + 255) % 256) n z) { zp = write u.zp 11 ((u.zp 11 + 1) % 256) }))
+    → leads_round place bounds P B (3 ∷ 2 ∷ []) (tail_on rest) None (record (byte_done u (to_of u) ((u.regs.x + 255) % 256) n z) { zp = write u.zp 11 ((u.zp 11 + 1) % 256) }))
     → leads_round place bounds P B (2 ∷ []) (page_on rest) None u
 unfolding leads_round
-page_at place bounds P B rest to u f w byte page out =
-    (reach_as place bounds (to_of u) to f w,
-    elim [
-      | true ↦ λ e0. byte _ _ (eq_false _ _ (not_true _ e0))
-      | false ↦ λ e0. elim [
-        | true ↦ λ e1. page _ _ (eq_true _ _ (not_false _ e0)) (eq_false _ _ (not_true _ e1))
-        | false ↦ λ e1. out (nat_lt 127 ((u.regs.x + 255) % 256)) (nat_eq ((u.regs.x + 255) % 256) 0) (eq_true _ _ (not_false _ e0)) (eq_true _ _ (not_false _ e1))
-      ]
-    ])
+page_at place bounds P B rest to u f w byte page out = (
+  reach_as place bounds (to_of u) to f w,
+  elim [
+    | true ↦ λ e0. byte _ _ (eq_false _ _ (not_true _ e0))
+    | false ↦ λ e0. elim [
+      | true ↦ λ e1. page _ _ (eq_true _ _ (not_false _ e0)) (eq_false _ _ (not_true _ e1))
+      | false ↦ λ e1. out (nat_lt 127 ((u.regs.x + 255) % 256)) (nat_eq ((u.regs.x + 255) % 256) 0) (eq_true _ _ (not_false _ e0)) (eq_true _ _ (not_false _ e1))
+    ]
+  ],
+)
 
 -- what is filled: a state before it, where, how many bytes, and with what
 pub record Job : Type 0 where
@@ -130,7 +132,7 @@ fills_on j left u c next b =
     let to_same : to_of u ≡ T = next ∙ (let e : j.to + (j.count - suc left) ≡ T = omega arith in e) in
     let value_is : u.regs.a ≡ j.v = ap (λ (k : State). k.regs.a) c.is in
     let all : write u.mem (to_of u) u.regs.a ≡ write c.mem T j.v =
-        ap (λ (w : Bytes). write w (to_of u) u.regs.a) mem_is ∙ (ap (λ (k : ℕ). write c.mem k u.regs.a) to_same ∙ ap (λ (k : ℕ). write c.mem T k) value_is) in
+    ap (λ (w : Bytes). write w (to_of u) u.regs.a) mem_is ∙ (ap (λ (k : ℕ). write c.mem k u.regs.a) to_same ∙ ap (λ (k : ℕ). write c.mem T k) value_is) in
     ap (λ (w : Bytes). written w (filled left (j.to + j.count - left) j.v) b) all
     ∙ (shifted (write c.mem T j.v) left (j.to + j.count - left) (T + 1) j.v b (omega arith) ∙ c.fills b)
 
@@ -309,8 +311,8 @@ page_go place bounds P rest j B left u job finish some pages c again later =
     (λ n z same_page. byte_case n z same_page left refl)
     (λ n z new_page more. page_case n z new_page more left refl)
     (λ n z new_page none.
-      let done = page_done place bounds j left u ((u.regs.x + 255) % 256) n z job c new_page in
-      tail_go place bounds P rest j B left (page_state u n z) job finish (omega arith) new_page done later)
+    let done = page_done place bounds j left u ((u.regs.x + 255) % 256) n z job c new_page in
+    tail_go place bounds P rest j B left (page_state u n z) job finish (omega arith) new_page done later)
   where
     byte_case : (n z : Bool) → (u.regs.y + 1) % 256 ≢ 0 → (k : ℕ) → left ≡ k → B 2 (byte_done u (to_of u) u.regs.x n z)
     byte_case n z same_page zero e =

@@ -1,11 +1,9 @@
 -- What a copy leaves as it was.
-use Rattle.std.proofs.Common.{◌≡◌, ◌≢◌, ℕ, zero, suc, ◌+◌, ◌<◌, ◌⊎◌, inl, inr, true, false, nat_eq, refl, sym, ap, ◌∙◌, arith}
-use Rattle.std.proofs.lemmas.Bool.Decides.{eqb_tells}
+use Rattle.std.proofs.Common.{◌≡◌, ◌≢◌, ℕ, zero, suc, ◌+◌, ◌<◌, refl, ◌∙◌, arith}
 use Rattle.c65_code.specs.LineState.{Bytes, write}
 use Rattle.c65_code.specs.Texts.{copied, filled}
 use Rattle.c65_code.specs.Rows.{written}
 use Rattle.c65_rtl.proofs.Meeting.{write_other}
-use Rattle.c65_rtl.proofs.Pushes.{write_same}
 
 -- a byte that is not copied to
 pub kept_outside : (count to from : ℕ) (m : Bytes) (b : ℕ) → ((k : ℕ) → k < count → b ≢ to + k) → written m (copied count to from m) b ≡ m b

@@ -1,5 +1,5 @@
 -- `memset` (C90 7.11.6.1)
-use Rattle.std.proofs.Common.{◌≡◌, ◌≢◌, ℕ, ◌+◌, ◌*◌, ◌%◌, ◌<◌, Bool, List, [], ◌∷◌, ◌++◌, None, length, refl, sym, ap, subst, ◌∙◌, arith}
+use Rattle.std.proofs.Common.{◌≡◌, ◌≢◌, ℕ, ◌+◌, ◌*◌, ◌%◌, ◌<◌, Bool, List, [], ◌∷◌, None, length, refl, sym, ap, subst, ◌∙◌, arith}
 use Rattle.std.proofs.lemmas.List.{append-nil}
 use Rattle.c65_mach.specs.declared.rows.Op.TheVariants.{Lda, Ldy}
 use Rattle.c65_code.specs.declared.routine.Routine.TheVariants as routines
@@ -11,7 +11,7 @@ use Rattle.c65_code.specs.Texts.{range_of, filled}
 use Rattle.c65_code.specs.declared.routine.Width.TheVariants.{Ax}
 use Rattle.c65_code.specs.Rows.{Row, row_by, giving, popping, costing, by_bytes}
 use Rattle.c65_code.specs.RawMachine.{RawSetting, Bounds, IsReachable, called, MayRun, Runs, MeetsRow, reach_of}
-use Rattle.c65_rtl.specs.Assembly.{sp, ptr1, ptr2, ptr3, implied, value, zero_page, by_y}
+use Rattle.c65_rtl.specs.Assembly.{sp, value, by_y}
 use Rattle.c65_rtl.specs.Stack.{raise_by_y}
 use Rattle.c65_rtl.specs.Routines.{lines_of}
 use Rattle.c65_rtl.proofs.Ways.{Ends}
@@ -23,7 +23,7 @@ use Rattle.c65_rtl.proofs.SpMoves.{with_y_at, raise_by_at}
 use Rattle.c65_rtl.proofs.Pushes.{meets_by}
 use Rattle.c65_rtl.proofs.Stores.{reach_as}
 use Rattle.c65_rtl.proofs.Loads.{load_word_on, load_word_at, word_low, word_high}
-use Rattle.c65_rtl_law_walks.proofs.Loops.{Round, runs_loops, behind_line}
+use Rattle.c65_rtl_law_walks.proofs.Loops.{runs_loops, behind_line}
 use Rattle.c65_rtl_law_walks.proofs.Ranges.{OpenRange, opens_one, range_length}
 use Rattle.c65_rtl_law_copies.proofs.Memcpy.{counted_on, counted_state, counted_at, behind_counted, end_lines}
 use Rattle.c65_rtl_law_copies.proofs.Fills.{fill_on, Job, IsJob, Finish, Going, fill_round, fill_begins}

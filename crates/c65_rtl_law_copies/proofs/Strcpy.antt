@@ -1,16 +1,13 @@
 -- `strcpy` (C90 7.11.2.3)
-use Rattle.std.proofs.Common.{◌≡◌, ◌≢◌, ℕ, ◌+◌, ◌*◌, ◌%◌, ◌<◌, Bool, List, [], ◌∷◌, ◌++◌, None, length, refl, sym, ap, subst, ◌∙◌, arith}
+use Rattle.std.proofs.Common.{◌≡◌, ◌≢◌, ℕ, ◌+◌, ◌*◌, ◌<◌, Bool, List, [], ◌∷◌, ◌++◌, None, length, refl, sym, subst, ◌∙◌, arith}
 use Rattle.std.proofs.lemmas.List.{append-nil}
-use Rattle.c65_mach.specs.declared.rows.Op.TheVariants.{Dey, Lda, Ldy, Sta, Stx}
 use Rattle.c65_code.specs.declared.routine.Routine.TheVariants as routines
 use Rattle.c65_base.specs.declared.library.Library.TheVariants.{Strcpy}
 use Rattle.c65_code.specs.declared.line.Line.{Line}
-use Rattle.c65_code.specs.LineState.{Place, Bytes, write, word_at, State, sp_of, ax_of}
-use Rattle.c65_code.specs.Placement.{Placement}
-use Rattle.c65_code.specs.Texts.{range_of, copied, copy_within, copy_length}
+use Rattle.c65_code.specs.LineState.{Place, word_at, State, sp_of, ax_of}
+use Rattle.c65_code.specs.Texts.{range_of, copy_length}
 use Rattle.c65_code.specs.Rows.{Row, copy_row}
-use Rattle.c65_code.specs.RawMachine.{RawSetting, Bounds, IsReachable, called, MayRun, Runs, MeetsRow, reach_of}
-use Rattle.c65_rtl.specs.Assembly.{sp, ptr1, ptr2, implied, value, zero_page, by_y}
+use Rattle.c65_code.specs.RawMachine.{RawSetting, called, MayRun, Runs, MeetsRow, reach_of}
 use Rattle.c65_rtl.specs.Stack.{raise_two}
 use Rattle.c65_rtl.specs.Routines.{lines_of}
 use Rattle.c65_rtl.proofs.Ways.{Ends}
@@ -20,12 +17,11 @@ use Rattle.c65_rtl.proofs.Opens.{OpenBytes, opens_near}
 use Rattle.c65_rtl.proofs.SpPieces.{left, raise_two_at}
 use Rattle.c65_rtl.proofs.SpMoves.{with_y_at}
 use Rattle.c65_rtl.proofs.Pushes.{meets_by}
-use Rattle.c65_rtl.proofs.Stores.{reach_as}
 use Rattle.c65_rtl.proofs.Loads.{load_word_on, load_word_at, word_low, word_high}
 use Rattle.c65_rtl_law_walks.proofs.Loops.{runs_loops}
 use Rattle.c65_rtl_law_walks.proofs.Ranges.{OpenRanges, opens_both, ranges_length}
 use Rattle.c65_rtl_law_copies.proofs.Copies.{Job, Reaches, before, begins}
-use Rattle.c65_rtl_law_copies.proofs.Texts.{copy_text_on, Done, FinishText, Going, Reading, length_is, reads_from, text_begins, text_round}
+use Rattle.c65_rtl_law_copies.proofs.Texts.{copy_text_on, FinishText, Going, Reading, length_is, reads_from, text_begins, text_round}
 use Rattle.c65_rtl_law_copies.proofs.Copytos.{pointed_on, pointed, pointed_at, behind_pointed, top_lines}
 use Rattle.c65_rtl_law_walks.proofs.Pages.{with_pages}
 use Rattle.c65_rtl_law_copies.proofs.Kept.{kept_outside}
@@ -102,7 +98,7 @@ strcpy_runs s has back t count is may =
     let finish : FinishText s.place (reach_of t) (Ends (strcpy_row count t) t) top_lines j = finished s count back t may near far in
     let many : length (range_of (count + 1) (ax_of t) ++ range_of (count + 1) (to_of t)) ≡ count + 1 + (count + 1) = ranges_length (count + 1) (ax_of t) (count + 1) (to_of t) in
     let reading : (n z : Bool) → Reading j count (before j (t.mem (sp_of t)) t.regs.x 0 n z) =
-        λ n z. reads_from j 65536 count (before j (t.mem (sp_of t)) t.regs.x 0 n z) (omega arith) (omega arith) (length_is (to_of t) (ax_of t) t.mem ∙ sym is) (begins j (t.mem (sp_of t)) t.regs.x n z (record { from_is = refl; to_is = refl })) in
+    λ n z. reads_from j 65536 count (before j (t.mem (sp_of t)) t.regs.x 0 n z) (omega arith) (omega arith) (length_is (to_of t) (ax_of t) t.mem ∙ sym is) (begins j (t.mem (sp_of t)) t.regs.x n z (record { from_is = refl; to_is = refl })) in
     runs_loops s (routines.Library Strcpy) (strcpy_row count t) back t strcpy_lines has (Going j)
     (λ l n u g. behind_pointed s.place (reach_of t) (Ends (strcpy_row count t) t) (copy_text_on top_lines) (Going j) l n u (text_round s.place (reach_of t) (Ends (strcpy_row count t) t) top_lines j reaches finish (λ m. omega arith) l n u g))
     (14 * count + 26) (omega arith) refl may

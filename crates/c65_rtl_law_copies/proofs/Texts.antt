@@ -1,6 +1,6 @@
 -- The copy of a text up to its zero byte: one loop with two ways back, for any lines behind it.
-use Rattle.std.proofs.Common.{◌≡◌, ◌≢◌, ℕ, zero, suc, ◌+◌, ◌-◌, ◌*◌, ◌%◌, ◌<◌, ◌≤◌, Bool, true, false, List, [], ◌∷◌, None, nat_eq, refl, sym, ap, subst, ◌∙◌, arith}
-use Rattle.std.specs.Prelude.{◌==◌, if◌then◌else◌, nat_lt}
+use Rattle.std.proofs.Common.{◌≡◌, ◌≢◌, ℕ, zero, suc, ◌+◌, ◌-◌, ◌*◌, ◌%◌, ◌<◌, ◌≤◌, Bool, true, false, List, [], ◌∷◌, None, refl, sym, ap, subst, ◌∙◌, arith}
+use Rattle.std.specs.Prelude.{◌==◌, if◌then◌else◌}
 use Rattle.c65_mach.specs.declared.rows.Op.TheVariants.{Beq, Bne, Inc, Iny, Lda, Sta}
 use Rattle.c65_code.specs.declared.line.Line.{Line}
 use Rattle.c65_code.specs.declared.line.Line.TheVariants.{Label}
@@ -69,8 +69,10 @@ text_at : (place : Placement) (bounds : Bounds) (P : State → Type 0) (B : ℕ 
     → (u.mem (from_of u) ≢ 0 → (u.regs.y + 1) % 256 ≡ 0 → (u.zp 11 + 1) % 256 ≡ 0 → ⊥)
     → leads_round place bounds P B (2 ∷ []) (text_on rest) None u
 unfolding leads_round
-text_at place bounds P B rest from to u e f r w stop goes page over =
-    (reach_as place bounds (from_of u) from e r, (reach_as place bounds (to_of u) to f w,
+text_at place bounds P B rest from to u e f r w stop goes page over = (
+  reach_as place bounds (from_of u) from e r,
+  (
+    reach_as place bounds (to_of u) to f w,
     elim [
       | true ↦ λ e0. stop _ _ (eq_true _ _ e0)
       | false ↦ λ e0. elim [
@@ -80,7 +82,9 @@ text_at place bounds P B rest from to u e f r w stop goes page over =
           | false ↦ λ e2. absurd (over (eq_false _ _ e0) (eq_true _ _ (not_false _ e1)) (eq_true _ _ (not_false _ e2)))
         ]
       ]
-    ]))
+    ],
+  ),
+)
 
 -- so many bytes other than zero are left
 pub record Reading (j : Job) (left : ℕ) (u : State) : Type 0 where
@@ -171,25 +175,25 @@ text_go place bounds P rest j B left u reaches finish r again =
     let last : j.count - suc left < j.count = omega arith in
     text_at place bounds P B rest (j.from + (j.count - suc left)) (j.to + (j.count - suc left)) u next.from_is next.to_is (reaches.from_bytes.reach (j.count - suc left) last) (reaches.to_bytes.reach (j.count - suc left) last)
     (λ n z none.
-      let nothing : left ≡ 0 = ends_text r.fuel (j.to + j.count - suc left) (j.from + j.count - suc left) u.mem left r.fits r.length (sym (ap u.mem at.from_is) ∙ none) in
-      finish B (zero_done u n z) (done_by place bounds j u n z reaches (subst (λ (i : ℕ). Copying j (suc i) u) nothing c)))
+    let nothing : left ≡ 0 = ends_text r.fuel (j.to + j.count - suc left) (j.from + j.count - suc left) u.mem left r.fits r.length (sym (ap u.mem at.from_is) ∙ none) in
+    finish B (zero_done u n z) (done_by place bounds j u n z reaches (subst (λ (i : ℕ). Copying j (suc i) u) nothing c)))
     (λ n z some same_page.
-      let m = more_of place bounds j left u reaches r some in
-      again m.less _ m.one (read_on place bounds j left u (byte_done u (from_of u) (to_of u) u.regs.x n z) reaches c refl (byte_on place bounds j left u u.regs.x n z reaches c same_page) m))
+    let m = more_of place bounds j left u reaches r some in
+    again m.less _ m.one (read_on place bounds j left u (byte_done u (from_of u) (to_of u) u.regs.x n z) reaches c refl (byte_on place bounds j left u u.regs.x n z reaches c same_page) m))
     (λ n z some new_page.
-      let m = more_of place bounds j left u reaches r some in
-      again m.less _ m.one (read_on place bounds j left u (next_page u n z) reaches c refl (page_done place bounds j left u u.regs.x n z reaches c new_page) m))
+    let m = more_of place bounds j left u reaches r some in
+    again m.less _ m.one (read_on place bounds j left u (next_page u n z) reaches c refl (page_done place bounds j left u u.regs.x n z reaches c new_page) m))
     (λ some new_page over.
-      let m = more_of place bounds j left u reaches r some in
-      let one = m.one in
-      let y_is : u.regs.y ≡ c.y = ap (λ (k : State). k.regs.y) c.is in
-      let zp_is : u.zp ≡ c.zp = ap (λ (k : State). k.zp) c.is in
-      let z11 : u.zp 11 ≡ c.zp 11 = ap (λ (w : Bytes). w 11) zp_is in
-      let y_low = c.low in
-      let to_is = c.to_is in
-      let end : j.count - 1 < j.count = omega arith in
-      let to_end = reaches.to_bytes.below (j.count - 1) end in
-      omega arith)
+    let m = more_of place bounds j left u reaches r some in
+    let one = m.one in
+    let y_is : u.regs.y ≡ c.y = ap (λ (k : State). k.regs.y) c.is in
+    let zp_is : u.zp ≡ c.zp = ap (λ (k : State). k.zp) c.is in
+    let z11 : u.zp 11 ≡ c.zp 11 = ap (λ (w : Bytes). w 11) zp_is in
+    let y_low = c.low in
+    let to_is = c.to_is in
+    let end : j.count - 1 < j.count = omega arith in
+    let to_end = reaches.to_bytes.below (j.count - 1) end in
+    omega arith)
 
 -- what holds at the label, with so much weight left
 abbrev pub Going : Job → ℕ → ℕ → State → Type 0

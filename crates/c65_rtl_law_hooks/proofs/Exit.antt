@@ -1,5 +1,5 @@
 -- `exit`: the hook ends the run.
-use Rattle.std.proofs.Common.{◌≡◌, ℕ, ◌+◌, ◌-◌, ◌≤◌, List, [], ◌∷◌, ◌++◌, Option, Some, None, All, slice_get, length, refl, sym, ap, subst, ◌∙◌, arith}
+use Rattle.std.proofs.Common.{◌≡◌, ℕ, ◌+◌, ◌≤◌, List, [], ◌∷◌, Some, slice_get, length, refl, ap, arith}
 use Rattle.std.specs.Prelude.{sum_by}
 use Rattle.std.proofs.lemmas.List.Sums.{sum_by-cons}
 use Rattle.std.proofs.lemmas.List.Elements.{All-nil}
@@ -7,12 +7,12 @@ use Rattle.c65_mach.specs.declared.rows.Op.TheVariants.{Rts}
 use Rattle.c65_code.specs.declared.routine.Routine.TheVariants as routines
 use Rattle.c65_base.specs.declared.library.Library.TheVariants.{Exit}
 use Rattle.c65_code.specs.declared.line.Line.{Line}
-use Rattle.c65_code.specs.LineState.{Place, State, Frame, IsBytes, s_of}
+use Rattle.c65_code.specs.LineState.{Place, State, Frame, s_of}
 use Rattle.c65_code.specs.Forms.{Run}
 use Rattle.c65_code.specs.Parts.{no_parts}
 use Rattle.c65_code.specs.Moves.{settle}
-use Rattle.c65_code.specs.Rows.{Row, Meets, row_by, costing}
-use Rattle.c65_code.specs.RawMachine.{RawSetting, RawComes, here, HasDone, called, entry_of, MayRun, Runs, MeetsRow, reach_of}
+use Rattle.c65_code.specs.Rows.{Row, row_by, costing}
+use Rattle.c65_code.specs.RawMachine.{RawSetting, here, HasDone, called, entry_of, MayRun, Runs, MeetsRow, reach_of}
 use Rattle.c65_rtl.specs.Assembly.{implied, call}
 use Rattle.c65_rtl.specs.Routines.{lines_of}
 use Rattle.c65_rtl.proofs.Ways.{on_form, moved_to}

@@ -1,5 +1,5 @@
 -- The comparison of two texts: one loop with two ways back, for any lines behind it.
-use Rattle.std.proofs.Common.{◌≡◌, ◌≢◌, ℕ, suc, ◌+◌, ◌-◌, ◌*◌, ◌%◌, ◌<◌, ◌≤◌, inl, inr, Bool, true, false, List, [], ◌∷◌, None, nat_eq, refl, sym, ap, subst, ◌∙◌, arith}
+use Rattle.std.proofs.Common.{◌≡◌, ◌≢◌, ℕ, suc, ◌+◌, ◌-◌, ◌*◌, ◌%◌, ◌<◌, ◌≤◌, inl, inr, Bool, true, false, List, [], ◌∷◌, None, refl, sym, ap, subst, ◌∙◌, arith}
 use Rattle.std.proofs.lemmas.Bool.{cases_lt}
 use Rattle.c65_mach.specs.declared.rows.Op.TheVariants.{Beq, Bne, Cmp, Inc, Iny, Lda}
 use Rattle.c65_code.specs.declared.line.Line.{Line}
@@ -50,22 +50,25 @@ loop_at : (place : Placement) (bounds : Bounds) (P : State → Type 0) (B : ℕ 
     → (u.mem (first_of u) ≢ 0 → apart_of u ≡ 0 → (u.regs.y + 1) % 256 ≡ 0 → (u.zp 11 + 1) % 256 ≡ 0 → ⊥)
     → leads_round place bounds P B (2 ∷ []) (loop_on rest) None u
 unfolding leads_round
-loop_at place bounds P B rest first second u e f r w none unlike goes page over =
-    (reach_as place bounds (first_of u) first e r,
-    elim [
-      | true ↦ λ e0. none _ _ _ (eq_true _ _ e0)
-      | false ↦ λ e0. (reach_as place bounds (second_of u) second f w,
-        elim [
-          | true ↦ λ e1. unlike _ _ _ (eq_false _ _ (not_true _ e1))
-          | false ↦ λ e1. elim [
-            | true ↦ λ e2. goes _ _ _ (eq_false _ _ e0) (eq_true _ _ (not_false _ e1)) (eq_false _ _ (not_true _ e2))
-            | false ↦ λ e2. elim [
-              | true ↦ λ e3. page _ _ _ (eq_false _ _ e0) (eq_true _ _ (not_false _ e1)) (eq_true _ _ (not_false _ e2))
-              | false ↦ λ e3. absurd (over (eq_false _ _ e0) (eq_true _ _ (not_false _ e1)) (eq_true _ _ (not_false _ e2)) (eq_true _ _ (not_false _ e3)))
-            ]
+loop_at place bounds P B rest first second u e f r w none unlike goes page over = (
+  reach_as place bounds (first_of u) first e r,
+  elim [
+    | true ↦ λ e0. none _ _ _ (eq_true _ _ e0)
+    | false ↦ λ e0. (
+      reach_as place bounds (second_of u) second f w,
+      elim [
+        | true ↦ λ e1. unlike _ _ _ (eq_false _ _ (not_true _ e1))
+        | false ↦ λ e1. elim [
+          | true ↦ λ e2. goes _ _ _ (eq_false _ _ e0) (eq_true _ _ (not_false _ e1)) (eq_false _ _ (not_true _ e2))
+          | false ↦ λ e2. elim [
+            | true ↦ λ e3. page _ _ _ (eq_false _ _ e0) (eq_true _ _ (not_false _ e1)) (eq_true _ _ (not_false _ e2))
+            | false ↦ λ e3. absurd (over (eq_false _ _ e0) (eq_true _ _ (not_false _ e1)) (eq_true _ _ (not_false _ e2)) (eq_true _ _ (not_false _ e3)))
           ]
-        ])
-    ])
+        ]
+      ],
+    )
+  ],
+)
 
 -- what is compared: a state before it, where the texts begin, how many bytes they have in common
 pub record Job : Type 0 where
@@ -209,7 +212,7 @@ loop_go place bounds P rest j B i u job finish le c again =
     let first_small = job.bytes (j.first + i) in
     let second_small = job.bytes (j.second + i) in
     let stops : (n z f : Bool) → (i < j.count → ⊥) → leads_round place bounds P B (3 ∷ 2 ∷ []) rest None (looked u n z f) =
-        λ n z f never. let last : i ≡ j.count = end i j.count le never in finish B (looked u n z f) (moved i j.count last (looked u n z f) (looked_on j i u n z f c)) in
+    λ n z f never. let last : i ≡ j.count = end i j.count le never in finish B (looked u n z f) (moved i j.count last (looked u n z f) (looked_on j i u n z f c)) in
     let more : u.mem (first_of u) ≢ 0 → apart_of u ≡ 0 → i < j.count = λ some alike. elim (cases_lt i j.count) [
       | inl less ↦ less
       | inr many ↦ (
@@ -223,15 +226,15 @@ loop_go place bounds P rest j B i u job finish le c again =
     (λ n z f some alike same_page. again _ (more some alike) (byte_done j i u n z f c same_page))
     (λ n z f some alike new_page. again _ (more some alike) (page_done place bounds j i u n z f job (more some alike) c new_page))
     (λ some alike new_page over.
-      let less : i < j.count = more some alike in
-      let y_is : u.regs.y ≡ c.y = ap (λ (k : State). k.regs.y) c.is in
-      let zp_is : u.zp ≡ c.zp = ap (λ (k : State). k.zp) c.is in
-      let z11 : u.zp 11 ≡ c.zp 11 = ap (λ (w : Bytes). w 11) zp_is in
-      let low = c.low in
-      let second = c.second_is in
-      let end_few : j.count < j.count + 1 = omega arith in
-      let second_end = job.second_bytes.below j.count end_few in
-      omega arith)
+    let less : i < j.count = more some alike in
+    let y_is : u.regs.y ≡ c.y = ap (λ (k : State). k.regs.y) c.is in
+    let zp_is : u.zp ≡ c.zp = ap (λ (k : State). k.zp) c.is in
+    let z11 : u.zp 11 ≡ c.zp 11 = ap (λ (w : Bytes). w 11) zp_is in
+    let low = c.low in
+    let second = c.second_is in
+    let end_few : j.count < j.count + 1 = omega arith in
+    let second_end = job.second_bytes.below j.count end_few in
+    omega arith)
   where
     end : (i n : ℕ) → i ≤ n → (i < n → ⊥) → i ≡ n
     end i n le never = elim (cases_lt i n) [ inl less ↦ absurd (never less) | inr many ↦ (let e : i ≡ n = omega arith in e) ]

@@ -18,7 +18,7 @@ use Rattle.c65_rtl.specs.Stack.{raise_two}
 use Rattle.c65_rtl.specs.Routines.{lines_of}
 use Rattle.c65_rtl.proofs.Ways.{Ends}
 use Rattle.c65_rtl.proofs.Rounds.{leads_round, onward_round}
-use Rattle.c65_rtl.proofs.Meeting.{ends_by, lt_true, lt_false, not_true, not_false}
+use Rattle.c65_rtl.proofs.Meeting.{ends_by, lt_true, lt_false}
 use Rattle.c65_rtl.proofs.Opens.{OpenBytes, opens_near}
 use Rattle.c65_rtl.proofs.SpPieces.{left, raise_two_at}
 use Rattle.c65_rtl.proofs.Pushes.{meets_by}
@@ -80,12 +80,16 @@ apart_at : (place : Placement) (bounds : Bounds) (P : State → Type 0) (B : ℕ
     → ((x : ℕ) (n v z c : Bool) → HighIs (u.mem (first_of u)) (u.mem (second_of u)) x → leads_round place bounds P B (4 ∷ 3 ∷ 2 ∷ []) rest None (apart_state u (u.mem (first_of u)) (u.mem (second_of u)) x n v z c))
     → leads_round place bounds P B (3 ∷ 2 ∷ []) (apart_on rest) None u
 unfolding leads_round
-apart_at place bounds P B rest first second u e f r w follows =
-    (reach_as place bounds (first_of u) first e r, (reach_as place bounds (second_of u) second f w,
+apart_at place bounds P B rest first second u e f r w follows = (
+  reach_as place bounds (first_of u) first e r,
+  (
+    reach_as place bounds (second_of u) second f w,
     elim [
       | true ↦ λ e0. follows 0 _ _ _ _ (inl (lt_true _ _ e0, refl))
       | false ↦ λ e0. follows 255 _ _ _ _ (inr (lt_false _ _ e0, refl))
-    ]))
+    ],
+  ),
+)
 
 difference_is : (p q : ℕ) (b : Bool) → nat_lt p q ≡ b → difference p q ≡ (if b then 65536 + p - q else p - q)
 difference_is p q b e = ap (λ (k : Bool). if k then 65536 + p - q else p - q) e
@@ -156,7 +160,7 @@ finished s same back t may near job B u c =
     let p_small : to.mem (first_of to) < 256 = may.bytes.mem (first_of to) in
     let q_small : to.mem (second_of to) < 256 = may.bytes.mem (second_of to) in
     let gap_is : difference (to.mem (first_of to)) (to.mem (second_of to)) ≡ difference (t.mem (first_text t + same)) (t.mem (ax_of t + same)) =
-        ap (λ (k : ℕ). difference k (to.mem (second_of to))) at.first_byte ∙ ap (λ (k : ℕ). difference (t.mem (first_text t + same)) k) at.second_byte in
+    ap (λ (k : ℕ). difference k (to.mem (second_of to))) at.first_byte ∙ ap (λ (k : ℕ). difference (t.mem (first_text t + same)) k) at.second_byte in
     subst (λ (k : State). leads_round s.place (reach_of t) (Ends (strcmp_row same t) t) B (3 ∷ 2 ∷ []) end_lines None k) (sym c.is)
     (apart_at s.place (reach_of t) (Ends (strcmp_row same t) t) B raise_two (first_text t + same) (ax_of t + same) to at.first_at at.second_at (job.first_bytes.reach same last) (job.second_bytes.reach same last)
     (λ x n v z c' gap. onward_round s.place (reach_of t) (Ends (strcmp_row same t) t) B raise_two (4 ∷ 3 ∷ 2 ∷ []) refl None (apart_state to (to.mem (first_of to)) (to.mem (second_of to)) x n v z c')
@@ -200,7 +204,17 @@ strcmp_runs s has back t same is may =
     let finish : Finish s.place (reach_of t) (Ends (strcmp_row same t) t) end_lines j = finished s same back t may near job in
     let many : length (range_of (same + 1) (first_text t) ++ range_of (same + 1) (ax_of t)) ≡ same + 1 + (same + 1) = ranges_length (same + 1) (first_text t) (same + 1) (ax_of t) in
     let begun : (n z : Bool) → Comparing j 0 (pointed_state (called back t) (t.mem (sp_of t)) (t.mem (sp_of t + 1)) n z) = λ n z. record {
-      a = t.mem (sp_of t); y = 0; nf = n; zf = z; cf = t.regs.c; zp = j.o.zp; is = refl; rest = λ k nine eleven. refl; low = omega arith; first_is = omega arith; second_is = omega arith;
+      a = t.mem (sp_of t);
+      y = 0;
+      nf = n;
+      zf = z;
+      cf = t.regs.c;
+      zp = j.o.zp;
+      is = refl;
+      rest = λ k nine eleven. refl;
+      low = omega arith;
+      first_is = omega arith;
+      second_is = omega arith;
     } in
     runs_loops s (routines.Library Strcmp) (strcmp_row same t) back t strcmp_lines has (Going j)
     (λ l n u g. behind_pointed s.place (reach_of t) (Ends (strcmp_row same t) t) (compare_on end_lines) (Going j) l n u (compare_round s.place (reach_of t) (Ends (strcmp_row same t) t) end_lines j job finish (λ m. omega arith) l n u g))

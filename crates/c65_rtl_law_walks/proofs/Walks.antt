@@ -9,7 +9,6 @@ use Rattle.c65_mach.specs.declared.rows.Op.{Op}
 use Rattle.c65_mach.specs.declared.rows.Mode.{Mode}
 use Rattle.c65_mach.specs.declared.rows.Mode.TheVariants as modes
 use Rattle.c65_mach.specs.Step.{signed, changed, stored, with_a, is_taken, Kind, Reads, Stores, Changes, Branches, Registers, Moves, kind_of}
-use Rattle.c65_code.specs.declared.line.Operand.{Operand}
 use Rattle.c65_code.specs.declared.line.Callee.{Callee}
 use Rattle.c65_code.specs.declared.line.Callee.TheVariants as callees
 use Rattle.c65_code.specs.declared.line.Line.{Line}
@@ -18,13 +17,13 @@ use Rattle.c65_code.specs.declared.routine.Routine.{Routine}
 use Rattle.c65_code.specs.LineState.{Place, State, Frame, s_of, sp_of, IsBytes}
 use Rattle.c65_code.specs.Parts.{no_parts}
 use Rattle.c65_code.specs.Placement.{word_of, stack_end}
-use Rattle.c65_code.specs.Forms.{Form, Mark, Plain, Branch, Jump, Far, Push, Pull, Depth, Return, Run, Enter, Through, Stray, form_of, op_form, callee_form}
+use Rattle.c65_code.specs.Forms.{Form, Mark, Plain, Branch, Jump, Far, Push, Pull, Depth, Return, Run, Enter, Through, Stray, form_of, op_form}
 use Rattle.c65_code.specs.Rows.{Row, Meets, row_of}
 use Rattle.c65_code.specs.Moves.{Ref, Given, ZeroAt, MemAt, ref_of, value_at, put, change, effect, settle, labelled}
 use Rattle.c65_code.specs.Segments.{is_among}
 use Rattle.c65_code.specs.RawMachine.{RawSetting, Bounds, IsReachable, IsRawOpen, IsHookWithin, RawComes, here, raw_weight, HasFrame, RawReturns, RawRuns, HasDone, called, entry_of, hook_row}
 use Rattle.c65_rtl.specs.Short.{is_onward, push_of, pushed_by}
-use Rattle.c65_rtl.proofs.Ways.{leads, Way, Ends, when, either, whole_at, at_operand, pulling, returning, by_form, by_label, IsAt, IsOwn, SameCalls, IsSought, place_at, next_do, next_call, next_label, weaken, on_form, moved_to, still_own, and_parts, or_none, eq_flip, not_parts}
+use Rattle.c65_rtl.proofs.Ways.{leads, Way, Ends, when, either, whole_at, at_operand, pulling, returning, by_form, by_label, IsAt, IsOwn, IsSought, place_at, next_do, next_call, next_label, weaken, on_form, moved_to, still_own, and_parts, or_none, eq_flip, not_parts}
 use Rattle.c65_rtl_law_walks.specs.Inside.{MayRunIn, MeetsIn, IsBack}
 use Rattle.c65_rtl_law_walks.proofs.Joins.{bind}
 use Rattle.c65_rtl_law_walks.proofs.Calls.{calls_come_back}
