@@ -41,5 +41,6 @@ rows_are_met_within s below pushed weight r meets few shallow modest row back t 
       high = may.high;
       bytes = may.bytes;
       running = may.running;
+      data_low = may.data_low;
     } in
     record { weight = weight; within = fits.0; comes = meets (reach_of t) row back t row_is may_in }

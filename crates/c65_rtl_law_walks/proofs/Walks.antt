@@ -21,7 +21,7 @@ use Rattle.c65_code.specs.Forms.{Form, Mark, Plain, Branch, Jump, Far, Push, Pul
 use Rattle.c65_code.specs.Rows.{Row, Meets, row_of}
 use Rattle.c65_code.specs.Moves.{Ref, Given, ZeroAt, MemAt, ref_of, value_at, put, change, effect, settle, labelled}
 use Rattle.c65_code.specs.Segments.{is_among}
-use Rattle.c65_code.specs.RawMachine.{RawSetting, Bounds, IsReachable, IsRawOpen, IsHookWithin, RawComes, here, raw_weight, HasFrame, RawReturns, RawRuns, HasDone, called, entry_of, hook_row}
+use Rattle.c65_code.specs.RawMachine.{RawSetting, Bounds, IsReachable, IsRawOpen, IsHookWithin, RawComes, here, raw_weight, HasFrame, RawReturns, RawRuns, HasDone, called, entry_of, hook_row, LieLow}
 use Rattle.c65_rtl.specs.Short.{is_onward, push_of, pushed_by}
 use Rattle.c65_rtl.proofs.Ways.{leads, Way, Ends, when, either, whole_at, at_operand, pulling, returning, by_form, by_label, IsAt, IsOwn, IsSought, place_at, next_do, next_call, next_label, weaken, on_form, moved_to, still_own, and_parts, or_none, eq_flip, not_parts}
 use Rattle.c65_rtl_law_walks.specs.Inside.{MayRunIn, MeetsIn, IsBack}
@@ -46,6 +46,7 @@ pub record Calls (s : RawSetting) (bounds : Bounds) (deepest : ℕ) (takes : Rou
   pub soft : bounds.soft + (takes r).below ≤ sp_of t
   pub hard : length t.pushed + 2 + (takes r).pushed ≤ deepest
   pub high : sp_of t ≤ stack_end
+  pub data_low : LieLow s.place
   pub follows : (u : State) → Meets row t u → IsBytes u → rest None u
 
 -- and a call of a hook
@@ -209,7 +210,7 @@ module _ (s : RawSetting) (bounds : Bounds) (deepest : ℕ) (takes : Routine →
   row_line r rest passed v p t is bytes own after None e c =
       let calls = own.used in
       let hard = c.hard in
-      let may : MayRunIn s bounds (takes r).below (takes r).pushed c.row t = record { ready = c.ready; near = c.near; far = c.far; soft = c.soft; hard = omega arith; high = c.high; bytes = bytes; running = own.ended } in
+      let may : MayRunIn s bounds (takes r).below (takes r).pushed c.row t = record { ready = c.ready; near = c.near; far = c.far; soft = c.soft; hard = omega arith; high = c.high; bytes = bytes; running = own.ended; data_low = c.data_low } in
       let start : Place = (f, p) in
       bind s bounds (IsBack s c.row start t) Q (2 + (takes r).weight) v start t
       (calls_come_back s bounds (takes r).below (takes r).pushed (takes r).weight r c.row start t c.meets (stands p (Call (callees.Routine r)) is) e c.row_is c.goes_on may)

@@ -6,7 +6,7 @@ use Rattle.c65_code.specs.declared.line.Line.TheVariants.{Call}
 use Rattle.c65_code.specs.LineState.{Place, State, sp_of, s_of, IsBytes}
 use Rattle.c65_code.specs.Placement.{stack_end}
 use Rattle.c65_code.specs.Rows.{Row, Meets, row_of}
-use Rattle.c65_code.specs.RawMachine.{RawSetting, Bounds, IsReachable, RawComes, HasDone, called, entry_of, line_after, hook_row, MeetsRow}
+use Rattle.c65_code.specs.RawMachine.{RawSetting, Bounds, IsReachable, RawComes, HasDone, called, entry_of, line_after, hook_row, LieLow, MeetsRow}
 
 -- What a call wants where the bounds are given: so many bytes of both stacks, and what it reaches.
 pub record MayRunIn (s : RawSetting) (bounds : Bounds) (below pushed : ℕ) (row : Row) (t : State) : Type 0 where
@@ -19,6 +19,7 @@ pub record MayRunIn (s : RawSetting) (bounds : Bounds) (below pushed : ℕ) (row
   pub high : sp_of t ≤ stack_end
   pub bytes : IsBytes t
   pub running : t.ended ≡ None
+  pub data_low : LieLow s.place
 
 -- The routine does what its row says at every such call, in so many instructions.
 abbrev pub MeetsIn : RawSetting → ℕ → ℕ → ℕ → Routine → Type 0

@@ -1,0 +1,6 @@
+//! Laws of the runtime: what a routine needs that is called within another one.
+#![tactic(auto)]
+
+mod laws;
+
+pub use laws::inner_rows_are_met;
