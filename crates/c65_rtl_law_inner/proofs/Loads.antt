@@ -1,15 +1,15 @@
 -- `popa` and `ldaxysp`
-use Rattle.std.proofs.Common.{◌≡◌, ℕ, ◌+◌, ◌-◌, ◌*◌, ◌%◌, ◌<◌, ◌≤◌, inl, inr, Bool, IsTrue, List, [], ◌∷◌, Some, None, refl, sym, ap, subst, ◌∙◌, arith}
+use Rattle.std.proofs.Common.{◌≡◌, ℕ, ◌+◌, ◌-◌, ◌*◌, ◌%◌, ◌<◌, ◌≤◌, inl, inr, Bool, List, [], ◌∷◌, Some, None, refl, sym, ap, subst, ◌∙◌, arith}
 use Rattle.std.specs.Prelude.{nat_le}
 use Rattle.std.proofs.lemmas.List.{append-nil}
 use Rattle.c65_mach.specs.declared.rows.Op.TheVariants.{Lda, Ldy, Rts}
 use Rattle.c65_code.specs.declared.routine.Width.TheVariants.{Ax}
 use Rattle.c65_code.specs.declared.routine.Routine.TheVariants as routines
 use Rattle.c65_code.specs.declared.line.Line.{Line}
-use Rattle.c65_code.specs.LineState.{Place, State, sp_of, word_at}
+use Rattle.c65_code.specs.LineState.{State, sp_of, word_at}
 use Rattle.c65_code.specs.Placement.{Placement}
 use Rattle.c65_code.specs.Rows.{Row, row_by, keeping, popping, reading, giving, needing}
-use Rattle.c65_code.specs.RawMachine.{RawSetting, Bounds, IsReachable, LieLow, called}
+use Rattle.c65_code.specs.RawMachine.{Bounds, IsReachable, LieLow, called}
 use Rattle.c65_rtl.specs.Assembly.{sp, implied, value, by_y}
 use Rattle.c65_rtl.specs.Stack.{raise_one}
 use Rattle.c65_rtl.proofs.Ways.{leads, Ends}

@@ -1,5 +1,5 @@
 -- `incsp1` and `incsp4`
-use Rattle.std.proofs.Common.{◌≡◌, ℕ, ◌+◌, ◌<◌, [], ◌∷◌, None, refl, sym, arith}
+use Rattle.std.proofs.Common.{◌≡◌, ◌+◌, [], ◌∷◌, None, refl, sym, arith}
 use Rattle.std.proofs.lemmas.List.{append-nil}
 use Rattle.c65_mach.specs.declared.rows.Op.TheVariants.{Ldy}
 use Rattle.c65_code.specs.declared.routine.Count.{Count}
@@ -7,7 +7,7 @@ use Rattle.c65_code.specs.declared.routine.Count.TheVariants.{One, Four}
 use Rattle.c65_code.specs.declared.routine.Routine.TheVariants as routines
 use Rattle.c65_code.specs.LineState.{Place, State, sp_of}
 use Rattle.c65_code.specs.Rows.{Row, sp_row, number_of}
-use Rattle.c65_code.specs.RawMachine.{RawSetting, called}
+use Rattle.c65_code.specs.RawMachine.{called}
 use Rattle.c65_rtl.specs.Assembly.{value}
 use Rattle.c65_rtl.specs.Stack.{raise_one, raise_by_y}
 use Rattle.c65_rtl.proofs.Ways.{Ends}

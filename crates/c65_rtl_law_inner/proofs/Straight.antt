@@ -1,8 +1,8 @@
 -- A routine whose lines lead forward only, and call nothing, within given bounds.
-use Rattle.std.proofs.Common.{◌≡◌, ℕ, ◌+◌, ◌≤◌, IsTrue, List, [], Option, Some, None, length, sym, subst, ◌∙◌, arith}
+use Rattle.std.proofs.Common.{◌≡◌, ℕ, IsTrue, List, [], Some, None, sym, subst, ◌∙◌, arith}
 use Rattle.c65_code.specs.declared.line.Line.{Line}
 use Rattle.c65_code.specs.declared.routine.Routine.{Routine}
-use Rattle.c65_code.specs.LineState.{Place, State, s_of}
+use Rattle.c65_code.specs.LineState.{Place, State}
 use Rattle.c65_code.specs.Rows.{Row, row_of}
 use Rattle.c65_code.specs.RawMachine.{RawSetting, Bounds, RawComes, HasDone, called, entry_of}
 use Rattle.c65_rtl.specs.Short.{pushed_by}
@@ -20,7 +20,7 @@ nothing r = record { below = 0; pushed = 0; weight = 0 }
 pub straight_meets : (s : RawSetting) (below : ℕ) (r : Routine) (row : State → Row) (lines : List Line) → ((t : State) → row_of r t ≡ Some (row t)) → ((t : State) → (row t).ends ≡ None) → s.lines (s.routine r) ≡ lines
     → IsTrue (leads_forward [] lines)
     → ((bounds : Bounds) (back : Place) (t : State) → MayRunIn s bounds below (pushed_by lines) (row t) t → leads s.place bounds (Ends (row t) t) lines None (called back t))
-    → MeetsIn s below (pushed_by lines) (weight_in nothing lines) r
+    → MeetsIn s below (pushed_by lines) (λ w. weight_in nothing lines) r
 straight_meets s below r row lines is goes_on has onward by bounds given back t e may =
     let same : row t ≡ given = some_is (row t) given (sym (is t) ∙ e) in
     let hard = may.hard in

@@ -3,6 +3,7 @@ use Rattle.std.specs.Prelude.{◌≡◌, ℕ}
 use Rattle.c65_code.specs.declared.routine.Count.TheVariants.{One, Four}
 use Rattle.c65_code.specs.declared.routine.Routine.{Routine}
 use Rattle.c65_code.specs.declared.routine.Routine.TheVariants as routines
+use Rattle.c65_code.specs.Rows.{Row}
 use Rattle.c65_code.specs.RawMachine.{RawSetting}
 use Rattle.c65_rtl.specs.Routines.{lines_of}
 use Rattle.c65_rtl_law_walks.specs.Inside.{MeetsIn}
@@ -17,12 +18,12 @@ pushed_of (routines.IncSp Four) = 1
 pushed_of _ = 0
 
 -- instructions, where a branch weighs 2
-abbrev pub weight_of : Routine → ℕ
-weight_of (routines.IncSp One) = 5
-weight_of (routines.IncSp Four) = 11
-weight_of routines.PopA = 7
-weight_of routines.LdAxYSp = 5
-weight_of _ = 0
+abbrev pub weight_of : Routine → Row → ℕ
+weight_of (routines.IncSp One) row = 5
+weight_of (routines.IncSp Four) row = 11
+weight_of routines.PopA row = 7
+weight_of routines.LdAxYSp row = 5
+weight_of _ row = 0
 
 -- wherever the routine's lines stand under its number
 abbrev pub IsMetIn : Routine → Type 0

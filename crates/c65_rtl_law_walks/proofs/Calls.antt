@@ -17,12 +17,12 @@ pub calls_come_back : CallsComeBack
 calls_come_back s bounds below pushed weight r row p t meets is no_hook row_is goes_on may =
     let deep = may.hard in
     let room : bounds.hard + 2 ≤ s_of t = omega arith in
-    on_form s bounds (IsBack s row p t) (Call (callees.Routine r)) (Run r) weight (2 + weight) p t refl is may.running
+    on_form s bounds (IsBack s row p t) (Call (callees.Routine r)) (Run r) (weight row) (2 + weight row) p t refl is may.running
     (subst (λ (k : Option Row). IsHookWithin s.place bounds k t) (sym no_hook) room) (omega arith)
     (λ q u g bytes.
     let e = subst (λ (k : Option Row). RawRuns s k r p t q u) no_hook g in
-    moved_to s bounds (IsBack s row p t) weight q (entry_of s (s.routine r)) u (called (line_after s p) t) e.0 e.1
-    (subst (λ (k : Option ℕ). RawComes s bounds (HasDone k row (line_after s p) t) weight (entry_of s (s.routine r)) (called (line_after s p) t)) goes_on (meets bounds row (line_after s p) t row_is may)))
+    moved_to s bounds (IsBack s row p t) (weight row) q (entry_of s (s.routine r)) u (called (line_after s p) t) e.0 e.1
+    (subst (λ (k : Option ℕ). RawComes s bounds (HasDone k row (line_after s p) t) (weight row) (entry_of s (s.routine r)) (called (line_after s p) t)) goes_on (meets bounds row (line_after s p) t row_is may)))
 
 pub rows_are_met_within : RowsAreMetWithin
 rows_are_met_within s below pushed weight r meets few shallow modest row back t row_is may =
@@ -43,4 +43,4 @@ rows_are_met_within s below pushed weight r meets few shallow modest row back t 
       running = may.running;
       data_low = may.data_low;
     } in
-    record { weight = weight; within = fits.0; comes = meets (reach_of t) row back t row_is may_in }
+    record { weight = weight row; within = fits.0; comes = meets (reach_of t) row back t row_is may_in }

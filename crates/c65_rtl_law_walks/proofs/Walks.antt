@@ -38,7 +38,9 @@ pub record Takes : Type 0 where
 pub record Calls (s : RawSetting) (bounds : Bounds) (deepest : ℕ) (takes : Routine → Takes) (r : Routine) (rest : Way) (t : State) : Type 0 where
   pub row : Row
   pub row_is : row_of r t ≡ Some row
-  pub meets : MeetsIn s (takes r).below (takes r).pushed (takes r).weight r
+  pub weight : Row → ℕ
+  pub meets : MeetsIn s (takes r).below (takes r).pushed weight r
+  pub light : weight row ≤ (takes r).weight
   pub goes_on : row.ends ≡ None
   pub ready : IsTrue row.ready
   pub near : All (IsReachable s.place bounds) row.near
@@ -212,11 +214,13 @@ module _ (s : RawSetting) (bounds : Bounds) (deepest : ℕ) (takes : Routine →
       let hard = c.hard in
       let may : MayRunIn s bounds (takes r).below (takes r).pushed c.row t = record { ready = c.ready; near = c.near; far = c.far; soft = c.soft; hard = omega arith; high = c.high; bytes = bytes; running = own.ended; data_low = c.data_low } in
       let start : Place = (f, p) in
-      bind s bounds (IsBack s c.row start t) Q (2 + (takes r).weight) v start t
-      (calls_come_back s bounds (takes r).below (takes r).pushed (takes r).weight r c.row start t c.meets (stands p (Call (callees.Routine r)) is) e c.row_is c.goes_on may)
+      let light = c.light in
+      weaken s bounds Q (2 + c.weight c.row + v) (2 + (takes r).weight + v) start t (omega arith)
+      (bind s bounds (IsBack s c.row start t) Q (2 + c.weight c.row) v start t
+      (calls_come_back s bounds (takes r).below (takes r).pushed c.weight r c.row start t c.meets (stands p (Call (callees.Routine r)) is) e c.row_is c.goes_on may)
       (λ q u back. let m = back.1 in
       moved_to s bounds Q v q (f, settle whole (suc p)) u u (back.0 ∙ ap (λ (ls : List Line). let q' : Place = (f, settle ls (suc p)) in q') has) refl
-      (after.by None u tt back.2 (still_own frame frames used t u (record { frames = m.frames; ended = m.ended ∙ (c.goes_on ∙ sym own.ended) }) own) (c.follows u m back.2)))
+      (after.by None u tt back.2 (still_own frame frames used t u (record { frames = m.frames; ended = m.ended ∙ (c.goes_on ∙ sym own.ended) }) own) (c.follows u m back.2))))
   row_line r rest passed v p t is bytes own after (Some row) e c =
       let calls = own.used in
       let hard = c.hard in

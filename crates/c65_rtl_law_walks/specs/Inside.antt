@@ -21,10 +21,10 @@ pub record MayRunIn (s : RawSetting) (bounds : Bounds) (below pushed : ℕ) (row
   pub running : t.ended ≡ None
   pub data_low : LieLow s.place
 
--- The routine does what its row says at every such call, in so many instructions.
-abbrev pub MeetsIn : RawSetting → ℕ → ℕ → ℕ → Routine → Type 0
+-- The routine does what its row says at every such call, in so many instructions for the row.
+abbrev pub MeetsIn : RawSetting → ℕ → ℕ → (Row → ℕ) → Routine → Type 0
 MeetsIn s below pushed weight r = (bounds : Bounds) (row : Row) (back : Place) (t : State) → row_of r t ≡ Some row → MayRunIn s bounds below pushed row t
-    → RawComes s bounds (HasDone row.ends row back t) weight (entry_of s (s.routine r)) (called back t)
+    → RawComes s bounds (HasDone row.ends row back t) (weight row) (entry_of s (s.routine r)) (called back t)
 
 -- behind the line, with the row met
 abbrev pub IsBack : RawSetting → Row → Place → State → Place → State → Type 0
@@ -32,14 +32,14 @@ IsBack s row p t q u = (q ≡ line_after s p) × Meets row t u × IsBytes u
 
 -- A line that calls it weighs 2 more.
 abbrev pub CallsComeBack : Type 0
-CallsComeBack = (s : RawSetting) (bounds : Bounds) (below pushed weight : ℕ) (r : Routine) (row : Row) (p : Place) (t : State)
+CallsComeBack = (s : RawSetting) (bounds : Bounds) (below pushed : ℕ) (weight : Row → ℕ) (r : Routine) (row : Row) (p : Place) (t : State)
     → MeetsIn s below pushed weight r → slice_get (s.lines p.0) p.1 ≡ Some (Call (callees.Routine r)) → hook_row s.args r t ≡ None
-    → row_of r t ≡ Some row → row.ends ≡ None → MayRunIn s bounds below pushed row t → RawComes s bounds (IsBack s row p t) (2 + weight) p t
+    → row_of r t ≡ Some row → row.ends ≡ None → MayRunIn s bounds below pushed row t → RawComes s bounds (IsBack s row p t) (2 + weight row) p t
 
 -- the routine takes fewer instructions than its row costs, and leaves sp no more than 64 bytes lower
-abbrev pub IsModest : ℕ → Routine → Type 0
-IsModest weight r = (row : Row) (t : State) → row_of r t ≡ Some row → (suc weight ≤ row.cost) × (sp_of t ≤ row.sp + 64)
+abbrev pub IsModest : (Row → ℕ) → Routine → Type 0
+IsModest weight r = (row : Row) (t : State) → row_of r t ≡ Some row → (suc (weight row) ≤ row.cost) × (sp_of t ≤ row.sp + 64)
 
 -- Within the bytes of both stacks that every routine has, it does what its row says at every call that the row admits.
 abbrev pub RowsAreMetWithin : Type 0
-RowsAreMetWithin = (s : RawSetting) (below pushed weight : ℕ) (r : Routine) → MeetsIn s below pushed weight r → below ≤ 64 → 2 + pushed ≤ 26 → IsModest weight r → MeetsRow s r
+RowsAreMetWithin = (s : RawSetting) (below pushed : ℕ) (weight : Row → ℕ) (r : Routine) → MeetsIn s below pushed weight r → below ≤ 64 → 2 + pushed ≤ 26 → IsModest weight r → MeetsRow s r
