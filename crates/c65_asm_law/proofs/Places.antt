@@ -192,7 +192,7 @@ result_well n (Number kind) = narrow_well n kind
 result_well n (Area bytes) = well_none n
 
 named_by_well : (n : ℕ) (f : Framed) (i : ℕ) (l : Option Library) (counted : Bool) (p : Passed) (given : Outcome) → (function_symbol (numbers_of f.parts) i).0 < n → p.stacked < 2 ^ 8 → AllWell n (named_by f i l counted p given)
-named_by_well n f i (Some l) counted p given known few = well_more n _ _ tt (result_well n given)
+named_by_well n f i (Some l) counted p given known few = well_append n (count_code counted p) _ (count_well n counted p few) (well_more n _ _ tt (result_well n given))
 named_by_well n f i None counted p given known few = well_append n (count_code counted p) _ (count_well n counted p few) (well_more n _ _ (known, (reads_letters counted p, gives_letters given)) (result_well n given))
 
 pub named_well : (n : ℕ) (f : Framed) (i : ℕ) (counted : Bool) (p : Passed) (given : Outcome) → (function_symbol (numbers_of f.parts) i).0 < n → p.stacked < 2 ^ 8 → AllWell n (named_code f i counted p given)

@@ -10,7 +10,7 @@ use Rattle.c65_code.specs.declared.routine.TosOp.TheVariants as tos
 use Rattle.c65_code.specs.declared.routine.UnaryRoutine.{UnaryRoutine}
 use Rattle.c65_code.specs.declared.routine.UnaryRoutine.TheVariants.{Neg, Compl, Shl1, Shr1, Asr1, BNeg}
 use Rattle.c65_base.specs.declared.library.Library.{Library}
-use Rattle.c65_base.specs.declared.library.Library.TheVariants.{Putchar, Getchar, Puts, Exit, Memcpy, Memset, Strcmp, Strcpy, Strlen}
+use Rattle.c65_base.specs.declared.library.Library.TheVariants.{Putchar, Getchar, Puts, Exit, Memcpy, Memset, Strcmp, Strcpy, Strlen, Printf}
 use Rattle.c65_code.specs.declared.routine.Routine.{Routine}
 use Rattle.c65_code.specs.declared.routine.Routine.TheVariants as routines
 use Rattle.c65_code.specs.Names.{name_of, found_in, routine_named}
@@ -110,6 +110,7 @@ own_library Memset = refl
 own_library Strcmp = refl
 own_library Strcpy = refl
 own_library Strlen = refl
+own_library Printf = refl
 
 pub own_name : (r : Routine) → routine_named (name_of r) ≡ Some r
 own_name routines.PushA = refl

@@ -1,7 +1,7 @@
 -- Each routine stands at its number.
 use Rattle.std.proofs.Common.{◌≡◌, Some, refl, slice_get}
 use Rattle.c65_base.specs.declared.library.Library.{Library}
-use Rattle.c65_base.specs.declared.library.Library.TheVariants.{Putchar, Getchar, Puts, Exit, Memcpy, Memset, Strcmp, Strcpy, Strlen}
+use Rattle.c65_base.specs.declared.library.Library.TheVariants.{Putchar, Getchar, Puts, Exit, Memcpy, Memset, Strcmp, Strcpy, Strlen, Printf}
 use Rattle.c65_code.specs.declared.routine.Count.{Count}
 use Rattle.c65_code.specs.declared.routine.Count.TheVariants.{One, Two, Three, Four, Five, Six, Seven, Eight}
 use Rattle.c65_code.specs.declared.routine.Width.TheVariants.{Ax, Eax}
@@ -44,6 +44,7 @@ functions_are_numbered Strcmp = refl
 functions_are_numbered Strcpy = refl
 functions_are_numbered Putchar = refl
 functions_are_numbered Strlen = refl
+functions_are_numbered Printf = refl
 
 word_operators_are_numbered : (x : TosOp) → slice_get ALL (number_of (routines.Tos x Ax)) ≡ Some (routines.Tos x Ax)
 word_operators_are_numbered tos.Add = refl

@@ -9,7 +9,7 @@ use Rattle.c65_code.specs.declared.routine.TosOp.TheVariants as tos
 use Rattle.c65_code.specs.declared.routine.UnaryRoutine.{UnaryRoutine}
 use Rattle.c65_code.specs.declared.routine.UnaryRoutine.TheVariants.{Neg, Compl, Shl1, Shr1, Asr1, BNeg}
 use Rattle.c65_base.specs.declared.library.Library.{Library}
-use Rattle.c65_base.specs.declared.library.Library.TheVariants.{Putchar, Getchar, Puts, Exit, Memcpy, Memset, Strcmp, Strcpy, Strlen}
+use Rattle.c65_base.specs.declared.library.Library.TheVariants.{Putchar, Getchar, Puts, Exit, Memcpy, Memset, Strcmp, Strcpy, Strlen, Printf}
 use Rattle.c65_code.specs.declared.routine.Routine.{Routine}
 use Rattle.c65_code.specs.declared.routine.Routine.TheVariants as routines
 use Rattle.c65_code.specs.Parts.{has_part, union_of}
@@ -18,7 +18,7 @@ use Rattle.c65_code.specs.LineState.{State, sp_of, Same}
 use Rattle.c65_code.specs.Placement.{Setting}
 use Rattle.c65_code.specs.Forms.{Form, Mark, Plain, Branch, Jump, Far, Push, Pull, Depth, Return, Run, Enter, Through, Stray, form_of}
 use Rattle.c65_code.specs.Numbers.{tos_result, result_width}
-use Rattle.c65_code.specs.Rows.{Row, Gives, row_of, row_by, is_too_deep, check_row, costing, popping, giving_if, number_at, size_of, primary_of, tos_cost, read_row}
+use Rattle.c65_code.specs.Rows.{Row, Gives, row_of, row_by, is_too_deep, check_row, costing, popping, giving_if, number_at, size_of, primary_of, tos_cost, read_row, printed_of, print_row}
 use Rattle.c65_code.specs.Moves.{Enters, Calls}
 use Rattle.c65_code.specs.Weights.{row_cost, call_weight, Weighs}
 use Rattle.c65_code.specs.LineLaws.{RunsWeigh, LeavesAOpen, CallsLeaveYOpen, with_a, with_y}
@@ -78,6 +78,10 @@ read_costs : (input : List ℕ) (t : State) (row : Row) → (read_row input t ro
 read_costs [] t row = refl
 read_costs (v ∷ input) t row = refl
 
+print_costs : (text : Option (List ℕ)) (t : State) → 1 ≤ (print_row t text (costing 256 (row_by (routines.Library Printf) t))).cost
+print_costs None t = lit≤ tt
+print_costs (Some text) t = omega arith
+
 library_costs : (f : Library) (t : State) → 1 ≤ row_cost (row_of (routines.Library f) t)
 library_costs Putchar t = lit≤ tt
 library_costs Getchar t = subst (λ n. 1 ≤ n) (sym (read_costs t.input t (costing 256 (row_by (routines.Library Getchar) t)))) (lit≤ tt)
@@ -88,6 +92,7 @@ library_costs Memset t = omega arith
 library_costs Strcmp t = omega arith
 library_costs Strcpy t = omega arith
 library_costs Strlen t = omega arith
+library_costs Printf t = print_costs (printed_of t) t
 
 check_costs : (deep : Bool) (t : State) → 1 ≤ (check_row deep (costing 256 (row_by routines.StkChk t))).cost
 check_costs true t = lit≤ tt

@@ -5,7 +5,7 @@ use Rattle.c65_code.specs.declared.parts.RegSet.{RegSet}
 use Rattle.c65_code.specs.declared.routine.Width.{Width}
 use Rattle.c65_code.specs.declared.routine.Width.TheVariants.{Ax, Eax}
 use Rattle.c65_base.specs.declared.library.Library.{Library}
-use Rattle.c65_base.specs.declared.library.Library.TheVariants.{Getchar, Memcpy, Memset, Strcmp, Strcpy}
+use Rattle.c65_base.specs.declared.library.Library.TheVariants.{Getchar, Memcpy, Memset, Strcmp, Strcpy, Printf}
 use Rattle.c65_code.specs.declared.routine.Routine.{Routine}
 use Rattle.c65_code.specs.declared.routine.Routine.TheVariants as routines
 use Rattle.c65_code.specs.Parts.{no_parts, all_parts, zero_bytes, union_of, minus_of, set_of}
@@ -78,6 +78,8 @@ library_reads Memcpy = union_of ax sp_bytes
 library_reads Memset = union_of ax sp_bytes
 library_reads Strcmp = union_of ax sp_bytes
 library_reads Strcpy = union_of ax sp_bytes
+-- Y tells how many bytes of arguments lie at the sp
+library_reads Printf = union_of only_y sp_bytes
 library_reads _ = ax
 
 abbrev pub library_sets : Library → RegSet
@@ -85,6 +87,7 @@ library_sets Memcpy = union_of large sp_bytes
 library_sets Memset = union_of large sp_bytes
 library_sets Strcmp = union_of large sp_bytes
 library_sets Strcpy = union_of large sp_bytes
+library_sets Printf = union_of large sp_bytes
 library_sets _ = large
 
 abbrev pub routine_reads : Routine → RegSet

@@ -1,7 +1,7 @@
 -- The number of each routine: its place in the table of all routines, in which each stands before those that it calls.
 use Rattle.std.specs.Prelude.{◌≡◌, ℕ, ◌+◌, Some, slice_get}
 use Rattle.c65_base.specs.declared.library.Library.{Library}
-use Rattle.c65_base.specs.declared.library.Library.TheVariants.{Putchar, Getchar, Puts, Exit, Memcpy, Memset, Strcmp, Strcpy, Strlen}
+use Rattle.c65_base.specs.declared.library.Library.TheVariants.{Putchar, Getchar, Puts, Exit, Memcpy, Memset, Strcmp, Strcpy, Strlen, Printf}
 use Rattle.c65_code.specs.declared.routine.Count.{Count}
 use Rattle.c65_code.specs.declared.routine.Count.TheVariants.{One, Two, Three, Four, Five, Six, Seven, Eight}
 use Rattle.c65_code.specs.declared.routine.Width.TheVariants.{Ax, Eax}
@@ -33,6 +33,7 @@ library_number Strcmp = 5
 library_number Strcpy = 6
 library_number Putchar = 7
 library_number Strlen = 8
+library_number Printf = 9
 
 abbrev pub operator_number : TosOp → ℕ
 operator_number tos.Add = 0
@@ -72,49 +73,49 @@ abbrev pub number_of : Routine → ℕ
 number_of routines.Start = 0
 number_of routines.StartArgs = 1
 number_of (routines.Library f) = 2 + library_number f
-number_of routines.PushA = 11
-number_of routines.PushAx = 12
-number_of routines.PushA0 = 13
-number_of routines.Push0 = 14
-number_of routines.PushEax = 15
-number_of routines.PopA = 16
-number_of routines.PopAx = 17
-number_of routines.PopEax = 18
-number_of routines.PopPtrs = 19
-number_of (routines.IncSp count) = 20 + count_number count
-number_of (routines.DecSp count) = 28 + count_number count
-number_of routines.AddYSp = 36
-number_of routines.SubYSp = 37
-number_of routines.LdAxYSp = 38
-number_of routines.LdAx0Sp = 39
-number_of routines.LdEaxYSp = 40
-number_of routines.StAxYSp = 41
-number_of routines.StAx0Sp = 42
-number_of routines.StEaxYSp = 43
-number_of routines.LdAi = 44
-number_of routines.LdAxi = 45
-number_of routines.LdEaxi = 46
-number_of routines.StATos = 47
-number_of routines.StAxTos = 48
-number_of routines.StEaxTos = 49
-number_of routines.CopyTos = 50
-number_of (routines.Tos op Ax) = 51 + operator_number op
-number_of (routines.Tos op Eax) = 74 + operator_number op
-number_of (routines.Unary op Ax) = 97 + unary_number op
-number_of (routines.Unary op Eax) = 103 + unary_number op
-number_of routines.SignA = 109
-number_of routines.LongAx = 110
-number_of routines.ULongAx = 111
-number_of routines.SaveRegs = 112
-number_of routines.RestRegs = 113
-number_of routines.CallPtr4 = 114
-number_of routines.StkChk = 115
-number_of routines.HookOpen = 116
-number_of routines.HookClose = 117
-number_of routines.HookRead = 118
-number_of routines.HookWrite = 119
-number_of routines.HookArgs = 120
-number_of routines.HookExit = 121
+number_of (routines.Tos op Ax) = 12 + operator_number op
+number_of (routines.Tos op Eax) = 35 + operator_number op
+number_of routines.PushA = 58
+number_of routines.PushAx = 59
+number_of routines.PushA0 = 60
+number_of routines.Push0 = 61
+number_of routines.PushEax = 62
+number_of routines.PopA = 63
+number_of routines.PopAx = 64
+number_of routines.PopEax = 65
+number_of routines.PopPtrs = 66
+number_of (routines.IncSp count) = 67 + count_number count
+number_of (routines.DecSp count) = 75 + count_number count
+number_of routines.AddYSp = 83
+number_of routines.SubYSp = 84
+number_of routines.LdAxYSp = 85
+number_of routines.LdAx0Sp = 86
+number_of routines.LdEaxYSp = 87
+number_of routines.StAxYSp = 88
+number_of routines.StAx0Sp = 89
+number_of routines.StEaxYSp = 90
+number_of routines.LdAi = 91
+number_of routines.LdAxi = 92
+number_of routines.LdEaxi = 93
+number_of routines.StATos = 94
+number_of routines.StAxTos = 95
+number_of routines.StEaxTos = 96
+number_of routines.CopyTos = 97
+number_of (routines.Unary op Ax) = 98 + unary_number op
+number_of (routines.Unary op Eax) = 104 + unary_number op
+number_of routines.SignA = 110
+number_of routines.LongAx = 111
+number_of routines.ULongAx = 112
+number_of routines.SaveRegs = 113
+number_of routines.RestRegs = 114
+number_of routines.CallPtr4 = 115
+number_of routines.StkChk = 116
+number_of routines.HookOpen = 117
+number_of routines.HookClose = 118
+number_of routines.HookRead = 119
+number_of routines.HookWrite = 120
+number_of routines.HookArgs = 121
+number_of routines.HookExit = 122
 
 abbrev pub RoutinesAreNumbered : Type 0
 RoutinesAreNumbered = (r : Routine) → slice_get ALL (number_of r) ≡ Some r

@@ -1,6 +1,7 @@
 -- What each routine of the runtime does (docs/MACHINE.md, "Routines"): a row of numbers, computed from the state before,
 -- and one relation that gives every row its meaning.
-use Rattle.std.specs.Prelude.{◌≡◌, ℕ, ◌+◌, ◌-◌, ◌*◌, ◌/◌, ◌%◌, ◌<◌, ◌≤◌, ◌⊎◌, Bool, true, false, ◌||◌, if◌then◌else◌, nat_lt, nat_le, List, [], ◌∷◌, ◌++◌, Option, Some, None, length, drop}
+use Rattle.std.specs.Prelude.{◌≡◌, ℕ, ◌+◌, ◌-◌, ◌*◌, ◌/◌, ◌%◌, ◌<◌, ◌≤◌, ◌⊎◌, Bool, true, false, ◌||◌, if◌then◌else◌, nat_lt, nat_le, List, [], ◌∷◌, ◌++◌, Option, Some, None, length, drop, map}
+use Rattle.std.specs.List.{flat_map}
 use Rattle.c65_code.specs.declared.parts.Part.{Part}
 use Rattle.c65_code.specs.declared.parts.RegSet.{RegSet}
 use Rattle.c65_code.specs.declared.routine.Count.{Count}
@@ -11,13 +12,14 @@ use Rattle.c65_code.specs.declared.routine.TosOp.{TosOp}
 use Rattle.c65_code.specs.declared.routine.TosOp.TheVariants as tos
 use Rattle.c65_code.specs.declared.routine.UnaryRoutine.{UnaryRoutine}
 use Rattle.c65_base.specs.declared.library.Library.{Library}
-use Rattle.c65_base.specs.declared.library.Library.TheVariants.{Putchar, Getchar, Puts, Exit, Memcpy, Memset, Strcmp, Strcpy, Strlen}
+use Rattle.c65_base.specs.declared.library.Library.TheVariants.{Putchar, Getchar, Puts, Exit, Memcpy, Memset, Strcmp, Strcpy, Strlen, Printf}
+use Rattle.c65_base.specs.Formats.{text_by, pointers_by, taken_by}
 use Rattle.c65_code.specs.declared.routine.Routine.{Routine}
 use Rattle.c65_code.specs.declared.routine.Routine.TheVariants as routines
 use Rattle.c65_code.specs.Parts.{has_part, union_of}
 use Rattle.c65_code.specs.Effects.{only_a, routine_sets}
 use Rattle.c65_code.specs.Numbers.{tos_result, result_width, unary_result, unary_width}
-use Rattle.c65_code.specs.Texts.{bytes_at, range_of, filled, listed, copied, text_length, copy_length, common_length, difference}
+use Rattle.c65_code.specs.Texts.{bytes_at, range_of, filled, listed, copied, text_length, text_at, text_range, copy_length, common_length, difference}
 use Rattle.c65_code.specs.LineState.{Bytes, write, word_at, State, sp_of, s_of, sreg_of, ax_of, eax_of, zero_word, Same}
 
 -- A row. `None` for a result leaves it open. `near` are the addresses that the routine counts from the sp, `far` those that
@@ -212,7 +214,38 @@ compare_row a b t row =
     let same = common_length a b t.mem in
     by_bytes (giving Ax (difference (t.mem (a + same)) (t.mem (b + same))) (record row { far = range_of (same + 1) a ++ range_of (same + 1) b }))
 
--- the functions of the library (C90 7.9.7, 7.10.4, 7.11): the last argument is in AX, the others are popped
+-- `printf` (C90 7.9.6.1): Y bytes of arguments lie at the sp, and the last word of them is the format's address. It takes them
+-- off, and gives the number of bytes that it writes.
+abbrev pub format_at : State → ℕ
+format_at t = word_at t.mem (sp_of t + t.regs.y - 2)
+
+abbrev pub format_of : State → List ℕ
+format_of t = text_at (format_at t) t.mem
+
+abbrev pub block_of : State → List ℕ
+block_of t = bytes_at (t.regs.y - 2) (sp_of t) t.mem
+
+-- where the texts among its arguments are
+abbrev pub places_of : State → List ℕ
+places_of t = pointers_by (format_of t) (block_of t)
+
+abbrev pub printed_of : State → Option (List ℕ)
+printed_of t = text_by (format_of t) (block_of t) (map (λ at. text_at at t.mem) (places_of t))
+
+-- it takes 3,072 for each byte of arguments, and each that is read elsewhere or written
+abbrev pub by_printed : State → List ℕ → Row → Row
+by_printed t text row = record row { cost = 1024 + 3072 * (length row.far + (taken_by (format_of t) + length text)) }
+
+abbrev pub print_row : State → Option (List ℕ) → Row → Row
+print_row t None row = needing false row
+print_row t (Some text) row = by_printed t text (needing (nat_le 2 t.regs.y) (giving Ax (length text) (record (popping t.regs.y t row) {
+  sp = (sp_of t + t.regs.y) % 65536;
+  out = text;
+  far = text_range (format_at t) t.mem ++ flat_map (λ at. text_range at t.mem) (places_of t);
+})))
+
+-- the functions of the library (C90 7.9.6, 7.9.7, 7.10.4, 7.11): where they are not variadic, the last argument is in AX, and the
+-- others are popped
 abbrev pub library_row : Library → State → Row → Row
 library_row Putchar t row = record (giving Ax t.regs.a row) { out = t.regs.a ∷ [] }
 library_row Getchar t row = read_row t.input t row
@@ -223,6 +256,7 @@ library_row Memset t row = let to = word_at t.mem (sp_of t + 2) in by_bytes (giv
 library_row Strcmp t row = compare_row (word_at t.mem (sp_of t)) (ax_of t) t (popping 2 t row)
 library_row Strcpy t row = let to = word_at t.mem (sp_of t) in copy_row (routines.Library Strcpy) (copy_length to (ax_of t) t.mem + 1) to (ax_of t) 2 t
 library_row Strlen t row = let count = text_length (ax_of t) t.mem in by_bytes (giving Ax count (far_reading (count + 1) (ax_of t) row))
+library_row Printf t row = print_row t (printed_of t) row
 
 -- the bytes of regbank
 abbrev pub bank_of : State → List ℕ

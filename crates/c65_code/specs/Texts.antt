@@ -45,6 +45,13 @@ length_within (suc fuel) at m = if m at == 0 then 0 else suc (length_within fuel
 unfoldable pub text_length : ℕ → Bytes → ℕ
 text_length at m = length_within 65536 at m
 
+-- the text at an address, and the addresses of its bytes with the zero behind them
+abbrev pub text_at : ℕ → Bytes → List ℕ
+text_at at m = bytes_at (text_length at m) at m
+
+abbrev pub text_range : ℕ → Bytes → List ℕ
+text_range at m = range_of (text_length at m + 1) at
+
 -- how many bytes two texts have in common before they differ or both end, at most so many
 abbrev pub common_within : ℕ → ℕ → ℕ → Bytes → ℕ
 common_within zero a b m = 0

@@ -77,6 +77,7 @@ fn library_reads_of(function: Library) -> RegSet
     match function {
         Library::Getchar => RegSet::empty(),
         Library::Memcpy | Library::Memset | Library::Strcmp | Library::Strcpy => word().union(sp()),
+        Library::Printf => only(Part::Y).union(sp()),
         Library::Putchar | Library::Puts | Library::Exit | Library::Strlen => word(),
     }
 }
@@ -85,7 +86,11 @@ fn library_sets_of(function: Library) -> RegSet
     ensures { result ≡ library_sets function }
 {
     match function {
-        Library::Memcpy | Library::Memset | Library::Strcmp | Library::Strcpy => most().union(sp()),
+        Library::Memcpy
+        | Library::Memset
+        | Library::Strcmp
+        | Library::Strcpy
+        | Library::Printf => most().union(sp()),
         Library::Putchar | Library::Getchar | Library::Puts | Library::Exit | Library::Strlen =>
             most(),
     }

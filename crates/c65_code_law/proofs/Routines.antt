@@ -12,14 +12,14 @@ use Rattle.c65_code.specs.declared.routine.TosOp.TheVariants as tos
 use Rattle.c65_code.specs.declared.routine.UnaryRoutine.{UnaryRoutine}
 use Rattle.c65_code.specs.declared.routine.UnaryRoutine.TheVariants.{Neg, Compl, Shl1, Shr1, Asr1, BNeg}
 use Rattle.c65_base.specs.declared.library.Library.{Library}
-use Rattle.c65_base.specs.declared.library.Library.TheVariants.{Putchar, Getchar, Puts, Exit, Memcpy, Memset, Strcmp, Strcpy, Strlen}
+use Rattle.c65_base.specs.declared.library.Library.TheVariants.{Putchar, Getchar, Puts, Exit, Memcpy, Memset, Strcmp, Strcpy, Strlen, Printf}
 use Rattle.c65_code.specs.declared.routine.Routine.{Routine}
 use Rattle.c65_code.specs.declared.routine.Routine.TheVariants as routines
 use Rattle.c65_code.specs.Parts.{has_part}
 use Rattle.c65_code.specs.Numbers.{tos_result, result_width, unary_result, unary_width}
 use Rattle.c65_code.specs.Texts.{bytes_at, listed, filled, copied}
 use Rattle.c65_code.specs.LineState.{Bytes, write, word_at, State, sp_of, sreg_of, ax_of, eax_of, IsBytes}
-use Rattle.c65_code.specs.Rows.{Row, written, row_by, long_at, size_of, number_of, giving, giving_if, popping, costing, tos_cost, read_row, tos_row, unary_row, library_row, is_too_deep, check_row, row_of}
+use Rattle.c65_code.specs.Rows.{Row, written, row_by, long_at, size_of, number_of, giving, giving_if, popping, costing, tos_cost, read_row, printed_of, print_row, tos_row, unary_row, library_row, is_too_deep, check_row, row_of}
 use Rattle.c65_code_law.proofs.MetRows.{Fits, FitsWord, AreWritten, IsFit, IsMet, met, plain_met}
 use Rattle.c65_code_law.proofs.Results.{IsLong, LongIf, tos_long, unary_long}
 
@@ -170,6 +170,10 @@ module _ (t : State) (bytes : IsBytes t) (high : sp_of t ≤ 65520) where
   read_met [] = plain_met _ t bytes (record { a = low 65535 t.regs.a; x = upper 65535 t.regs.x; sp = same_sp _; sreg = tt; writes = tt; pointers = refl; bank = refl })
   read_met (v ∷ input) = plain_met _ t bytes (record { a = low v t.regs.a; x = upper v t.regs.x; sp = same_sp _; sreg = tt; writes = tt; pointers = refl; bank = refl })
 
+  print_met : (text : Option (List ℕ)) → IsMet (print_row t text (costing 256 (row_by (routines.Library Printf) t))) t
+  print_met None = plain_met _ t bytes (record { a = tt; x = tt; sp = same_sp _; sreg = tt; writes = tt; pointers = refl; bank = refl })
+  print_met (Some text) = plain_met _ t bytes (record { a = low _ t.regs.a; x = upper _ t.regs.x; sp = word _ 0 _ refl refl (omega arith); sreg = tt; writes = tt; pointers = refl; bank = refl })
+
   library_met : (f : Library) → IsMet (library_row f t (costing 256 (row_by (routines.Library f) t))) t
   library_met Putchar = plain_met _ t bytes (record { a = low _ t.regs.a; x = upper _ t.regs.x; sp = same_sp _; sreg = tt; writes = tt; pointers = refl; bank = refl })
   library_met Getchar = read_met t.input
@@ -179,6 +183,7 @@ module _ (t : State) (bytes : IsBytes t) (high : sp_of t ≤ 65520) where
   library_met Memset = plain_met _ t bytes (record { a = low _ t.regs.a; x = upper _ t.regs.x; sp = word _ 0 _ refl refl (omega arith); sreg = tt; writes = filled_small _ _ _ (bytes.mem (sp_of t)); pointers = refl; bank = refl })
   library_met Strcmp = plain_met _ t bytes (record { a = low _ t.regs.a; x = upper _ t.regs.x; sp = word _ 0 _ refl refl (omega arith); sreg = tt; writes = tt; pointers = refl; bank = refl })
   library_met Strcpy = plain_met _ t bytes (record { a = low _ t.regs.a; x = upper _ t.regs.x; sp = word _ 0 _ refl refl (omega arith); sreg = tt; writes = copied_small _ _ _ t.mem bytes.mem; pointers = refl; bank = refl })
+  library_met Printf = print_met (printed_of t)
   library_met Strlen = plain_met _ t bytes (record { a = low _ t.regs.a; x = upper _ t.regs.x; sp = same_sp _; sreg = tt; writes = tt; pointers = refl; bank = refl })
 
   -- ---- ptr1 and ptr2, and regbank

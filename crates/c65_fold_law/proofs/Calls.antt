@@ -1,9 +1,9 @@
 -- Calls, their ends and the library, beside those of the folded program.
 use Rattle.std.proofs.Common.{◌≡◌, ℕ, zero, suc, ◌≤◌, List, [], ◌∷◌, Option, Some, None, true, option_map, slice_get, refl, sym, ap, ◌∙◌, subst, Bool, false}
-use Rattle.std.specs.Prelude.{⊤, Result, Ok, Err, nat_le, ◌&&◌, ◌||◌, ◌==◌, if◌then◌else◌}
+use Rattle.std.specs.Prelude.{⊤, take, Result, Ok, Err, nat_le, ◌&&◌, ◌||◌, ◌==◌, if◌then◌else◌}
 use Rattle.c65_ctype.specs.Trees.{Ty}
 use Rattle.c65_base.specs.declared.library.Library.{Library}
-use Rattle.c65_base.specs.declared.library.Library.TheVariants.{Putchar, Getchar, Puts, Exit, Memcpy, Memset, Strcmp, Strcpy, Strlen}
+use Rattle.c65_base.specs.declared.library.Library.TheVariants.{Putchar, Getchar, Puts, Exit, Memcpy, Memset, Strcmp, Strcpy, Strlen, Printf}
 use Rattle.c65_csem.specs.Trees.{Stmt, FuncTy, UnitTy}
 use Rattle.c65_meaning.specs.Why.{Why, By}
 use Rattle.c65_meaning.specs.Store.{Cell, Value, Whole, Null, Place, Opaque, Cells, NoValue}
@@ -13,8 +13,8 @@ use Rattle.c65_meaning.specs.Costs.{argument_bytes, soft_cost, has_fixed}
 use Rattle.c65_meaning.specs.After.{ToLabel, Landing, Left, without}
 use Rattle.c65_meaning.specs.State.{Frame, Scene, State, Running, turned, name_object, rest_in, name_rest, Undefined}
 use Rattle.c65_meaning.specs.Library.{Effect, effect_of}
-use Rattle.c65_meaning.specs.Step.{begin_object, begin_objects, end_objects, with_params, new_frame, entered, called, allowed, unless_refused, accepted, call_of, invoked, status_of, back_in, behind, params_of, func_in, frames_below, without_frame, left_call, returned, left_for, landed, label_in, body_of, jumped, switched, ended_or, finished, library_call, served, is_active, entered_once, end_named, end_arguments, with_rest, further, with_passed}
-use Rattle.c65_meaning.specs.Calls.{is_variadic}
+use Rattle.c65_meaning.specs.Step.{begin_object, begin_objects, end_objects, with_params, new_frame, entered, called, allowed, unless_refused, accepted, call_of, invoked, status_of, back_in, behind, params_of, func_in, frames_below, without_frame, left_call, returned, left_for, landed, label_in, body_of, jumped, switched, ended_or, finished, library_call, served, provided, is_active, entered_once, end_named, end_arguments, with_rest, cells_behind, further, with_passed}
+use Rattle.c65_meaning.specs.Calls.{is_variadic, named_count}
 use Rattle.c65_fold_law.specs.Laws.{Cheaper}
 use Rattle.c65_fold_law.specs.Programs.{folded_stmt, folded_body, folded_func, folded_unit}
 use Rattle.c65_fold_law.proofs.Kept.{func_same, cost_less, fixed_same}
@@ -132,16 +132,17 @@ module _ (u : UnitTy) where
 
   -- ---- the library
 
-  effect_same : (c : Scene) (gs : List Frame) (f : Library) (args : List Value) → effect_of (framed gs c) f args ≡ effect_of c f args
-  effect_same c gs Putchar args = refl
-  effect_same c gs Getchar args = refl
-  effect_same c gs Puts args = refl
-  effect_same c gs Exit args = refl
-  effect_same c gs Memcpy args = refl
-  effect_same c gs Memset args = refl
-  effect_same c gs Strcmp args = refl
-  effect_same c gs Strcpy args = refl
-  effect_same c gs Strlen args = refl
+  effect_same : (c : Scene) (gs : List Frame) (f : Library) (args : List Value) (rest : List Cell) → effect_of (framed gs c) f args rest ≡ effect_of c f args rest
+  effect_same c gs Putchar args rest = refl
+  effect_same c gs Getchar args rest = refl
+  effect_same c gs Puts args rest = refl
+  effect_same c gs Exit args rest = refl
+  effect_same c gs Memcpy args rest = refl
+  effect_same c gs Memset args rest = refl
+  effect_same c gs Strcmp args rest = refl
+  effect_same c gs Strcpy args rest = refl
+  effect_same c gs Strlen args rest = refl
+  effect_same c gs Printf args rest = refl
 
   ended_or_sim : (k l : List Item) (vs : List Value) (c : Scene) (gs : List Frame) (e : Effect) (o : Option ℕ) → Works u k l → Cheaper c.frames gs → Sim u (ended_or k vs c e o) (ended_or l vs (framed gs c) e o)
   ended_or_sim k l vs c gs e None w h = runs u k l (e.result ∷ vs) (record c { store = e.store; input = e.input; out = e.out }) gs w h
@@ -151,16 +152,16 @@ module _ (u : UnitTy) where
   finished_sim k l vs c gs (Err why) w h = tt
   finished_sim k l vs c gs (Ok e) w h = ended_or_sim k l vs c gs e e.status w h
 
-  pub library_sim : (n : ℕ) (f : Library) (args : List Value) (k l : List Item) (vs : List Value) (c : Scene) (gs : List Frame) → Works u k l → Cheaper c.frames gs → Sim u (library_call n f args k vs c) (library_call n f args l vs (framed gs c))
-  library_sim zero f args k l vs c gs w h = subst (λ (o : Result Effect Why). Sim u (finished k vs c (effect_of c f args)) (finished l vs (framed gs c) o)) (sym (effect_same c gs f args)) (finished_sim k l vs c gs (effect_of c f args) w h)
-  library_sim (suc n) f args k l vs c gs w h = runs u (Busy n f args ∷ k) (Busy n f args ∷ l) vs c gs (item u (Busy n f args) k l tt w) h
+  pub library_sim : (n : ℕ) (f : Library) (args : List Value) (rest : List Cell) (k l : List Item) (vs : List Value) (c : Scene) (gs : List Frame) → Works u k l → Cheaper c.frames gs → Sim u (library_call n f args rest k vs c) (library_call n f args rest l vs (framed gs c))
+  library_sim zero f args rest k l vs c gs w h = subst (λ (o : Result Effect Why). Sim u (finished k vs c (effect_of c f args rest)) (finished l vs (framed gs c) o)) (sym (effect_same c gs f args rest)) (finished_sim k l vs c gs (effect_of c f args rest) w h)
+  library_sim (suc n) f args rest k l vs c gs w h = runs u (Busy n f args rest ∷ k) (Busy n f args rest ∷ l) vs c gs (item u (Busy n f args rest) k l tt w) h
 
-  served_at : (f : Library) (args : List Value) (k l : List Item) (vs : List Value) (c : Scene) (gs : List Frame) (o : Result Effect Why) → Works u k l → Cheaper c.frames gs → Sim u (served f args k vs c o) (served f args l vs (framed gs c) o)
-  served_at f args k l vs c gs (Err why) w h = tt
-  served_at f args k l vs c gs (Ok e) w h = library_sim e.bytes f args k l vs c gs w h
+  served_at : (f : Library) (args : List Value) (rest : List Cell) (k l : List Item) (vs : List Value) (c : Scene) (gs : List Frame) (o : Result Effect Why) → Works u k l → Cheaper c.frames gs → Sim u (served f args rest k vs c o) (served f args rest l vs (framed gs c) o)
+  served_at f args rest k l vs c gs (Err why) w h = tt
+  served_at f args rest k l vs c gs (Ok e) w h = library_sim e.bytes f args rest k l vs c gs w h
 
-  served_sim : (f : Library) (args : List Value) (k l : List Item) (vs : List Value) (c : Scene) (gs : List Frame) → Works u k l → Cheaper c.frames gs → Sim u (served f args k vs c (effect_of c f args)) (served f args l vs (framed gs c) (effect_of (framed gs c) f args))
-  served_sim f args k l vs c gs w h = subst (λ (o : Result Effect Why). Sim u (served f args k vs c (effect_of c f args)) (served f args l vs (framed gs c) o)) (sym (effect_same c gs f args)) (served_at f args k l vs c gs (effect_of c f args) w h)
+  provided_sim : (f : Library) (args : List Value) (rest : List Cell) (k l : List Item) (vs : List Value) (c : Scene) (gs : List Frame) → Works u k l → Cheaper c.frames gs → Sim u (provided f args rest k vs c) (provided f args rest l vs (framed gs c))
+  provided_sim f args rest k l vs c gs w h = subst (λ (o : Result Effect Why). Sim u (provided f args rest k vs c) (served f args rest l vs (framed gs c) o)) (sym (effect_same c gs f args rest)) (served_at f args rest k l vs c gs (effect_of c f args rest) w h)
 
   -- ---- calls
 
@@ -204,7 +205,7 @@ module _ (u : UnitTy) where
 
   called_sim : (f : ℕ) (types : List Ty) (args : List Value) (g : FuncTy) (body : Option Stmt) (lib : Option Library) → TypedBody u body → (k l : List Item) (vs : List Value) (c : Scene) (gs : List Frame) → Works u k l → Cheaper c.frames gs → Sim u (called u f types args g body lib k vs c) (called (folded_unit u) f types args (folded_func g) (folded_body body) lib l vs (framed gs c))
   called_sim f types args g (Some body) lib typed k l vs c gs w h = once_sim f g body typed (soft_cost u (argument_bytes u types) body) (soft_cost (folded_unit u) (argument_bytes (folded_unit u) types) (folded_stmt body)) (cost_less u (argument_bytes u types) body) types args k l vs (turned c) gs w h
-  called_sim f types args g None (Some lib) typed k l vs c gs w h = served_sim lib args k l vs c gs w h
+  called_sim f types args g None (Some lib) typed k l vs c gs w h = provided_sim lib (take (named_count g.ty) args) (cells_behind u (named_count g.ty) types args) k l vs c gs w h
   called_sim f types args g None None typed k l vs c gs w h = tt
 
   refused_sim : (o : Option Why) (s t : State) → Sim u s t → Sim u (unless_refused u o s) (unless_refused (folded_unit u) o t)

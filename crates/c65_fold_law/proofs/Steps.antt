@@ -76,7 +76,7 @@ module _ (p : ProgramTy) (typed : TypedFuncs p.unit) where
   perform_sim (Lay i done size) t k l w vs c gs h = one_sim p.unit vs _ _ (λ v r. lay_sim p.unit i done size v _ _ k l r c gs (place_in_same p.unit i 0 c gs h) w h)
   perform_sim Reach t k l w vs c gs h = go_on_sim p.unit _ _ k l vs c gs (rest_place_same p.unit c gs h) w h
   perform_sim (Invoke callee types) t k l w vs c gs h = invoked_sim p.unit typed callee types k l (taken types [] vs) c gs w h
-  perform_sim (Busy left f args) t k l w vs c gs h = library_sim p.unit left f args k l vs c gs w h
+  perform_sim (Busy left f args rest) t k l w vs c gs h = library_sim p.unit left f args rest k l vs c gs w h
   perform_sim Skip t k l w vs c gs h = runs p.unit k l vs c gs w h
   perform_sim (Init i o shape) t k l w vs c gs h = one_sim p.unit vs _ _ (λ v r. with_scene_sim p.unit _ _ k l r (init_scene i o shape c gs v h) w)
   perform_sim (CarryInto i o done size) t k l w vs c gs h = one_sim p.unit vs _ _ (λ from r. set_area_sim p.unit i o done size from _ _ k l r c gs (place_in_same p.unit i o c gs h) w h)

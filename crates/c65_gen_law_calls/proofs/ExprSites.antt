@@ -93,9 +93,9 @@ one_call site line h e = record { is = ap (λ (b : Bool). if b then line ∷ [] 
 named_has : {f : Framed} (i : ℕ) (l : Option Library) (site : Site) → line_of f site ≡ named_line f i l site
     → Has f (site ∷ []) (named_by f i l (is_counted (bare site.callee)) (passed_of f (is_fast (bare site.callee)) site.args) (outcome_of f (type_in site.type)))
 named_has {f = f} i None site e =
-    let count : Free (count_code (is_counted (bare site.callee)) (passed_of f (is_fast (bare site.callee)) site.args)) = count_free (is_counted (bare site.callee)) (passed_of f (is_fast (bare site.callee)) site.args) in
-    has_before count (has_behind (one_call site (named_line f i None site) refl e) (result_free (outcome_of f (type_in site.type))))
-named_has {f = f} i (Some l) site e = has_behind (one_call site (named_line f i (Some l) site) refl e) (result_free (outcome_of f (type_in site.type)))
+    has_before (count_free (is_counted (bare site.callee)) (passed_of f (is_fast (bare site.callee)) site.args)) (has_behind (one_call site (named_line f i None site) refl e) (result_free (outcome_of f (type_in site.type))))
+named_has {f = f} i (Some l) site e =
+    has_before (count_free (is_counted (bare site.callee)) (passed_of f (is_fast (bare site.callee)) site.args)) (has_behind (one_call site (named_line f i (Some l) site) refl e) (result_free (outcome_of f (type_in site.type))))
 
 pointer_has : {f : Framed} (site : Site) → line_of f site ≡ line_by f None site
     → Has f (site ∷ []) (pointer_code (is_counted (bare site.callee)) (passed_of f (is_fast (bare site.callee)) site.args) (outcome_of f (type_in site.type)))

@@ -233,16 +233,16 @@ compound_made f pushed op operands a b lo m j k left right ma mb =
     (made_behind (lo + uses a) m k (by_access 41 108 access) right (close_code op operands (kind_in b) place access) mb (close_piece op operands (kind_in b) place access))))
     (omega (arith, open_and_close access, access_fits 69 153 (types_of f.parts.types) a (omega arith) (omega arith)))
 
-call_made : (f : Framed) (n : Option ℕ) (given : Outcome) (g : Typed) (es : Nodes) (lo u j k : ℕ) (callee args above : List Line) → Made lo u j callee → Made lo (args_uses es) k args → Made (lo + u) (args_uses es) k above → Made lo (unless_named n u + args_uses es) (j + k + 63) (call_by f n given g es callee args above)
+call_made : (f : Framed) (n : Option ℕ) (given : Outcome) (g : Typed) (es : Nodes) (lo u j k : ℕ) (callee args above : List Line) → Made lo u j callee → Made lo (args_uses es) k args → Made (lo + u) (args_uses es) k above → Made lo (unless_named n u + args_uses es) (j + k + 65) (call_by f n given g es callee args above)
 call_made f (Some i) given g es lo u j k callee args above mc ma mb =
     let m : ℕ = args_uses es in
-    made_as lo m (0 + m) (j + k + 63) _ (omega arith) (made_wider lo m (k + 63) (j + k + 63) _ (made_behind lo m k 63 args _ ma (named_piece f i (is_counted (bare g)) (passed_of f (is_fast (bare g)) es) given)) (omega arith))
+    made_as lo m (0 + m) (j + k + 65) _ (omega arith) (made_wider lo m (k + 65) (j + k + 65) _ (made_behind lo m k 65 args _ ma (named_piece f i (is_counted (bare g)) (passed_of f (is_fast (bare g)) es) given)) (omega arith))
 call_made f None given g none lo u j k callee args above mc ma mb =
-    made_as lo u (u + 0) (j + k + 63) _ (omega arith) (made_wider lo u (j + 12) (j + k + 63) _ (made_behind lo u j 12 callee _ mc (direct_piece (is_counted (bare g)) (passed_of f (is_fast (bare g)) none) given)) (omega arith))
+    made_as lo u (u + 0) (j + k + 65) _ (omega arith) (made_wider lo u (j + 12) (j + k + 65) _ (made_behind lo u j 12 callee _ mc (direct_piece (is_counted (bare g)) (passed_of f (is_fast (bare g)) none) given)) (omega arith))
 call_made f None given g (some e more_args) lo u j k callee args above mc ma mb =
     let es : Nodes = some e more_args in
     let m : ℕ = args_uses es in
-    made_wider lo (u + m) (j + (3 + (k + 26))) (j + k + 63) _ (made_append lo u m j (3 + (k + 26)) callee _ mc (made_before (lo + u) m 3 (k + 26) (push_code Ax) _ (push_piece Ax) (made_behind (lo + u) m k 26 above _ mb (pointer_piece (is_counted (bare g)) (passed_of f (is_fast (bare g)) es) given)))) (omega arith)
+    made_wider lo (u + m) (j + (3 + (k + 26))) (j + k + 65) _ (made_append lo u m j (3 + (k + 26)) callee _ mc (made_before (lo + u) m 3 (k + 26) (push_code Ax) _ (push_piece Ax) (made_behind (lo + u) m k 26 above _ mb (pointer_piece (is_counted (bare g)) (passed_of f (is_fast (bare g)) es) given)))) (omega arith)
 
 -- ---- the whole tree
 
@@ -295,7 +295,7 @@ mutual
   node_made f pushed lo t (copy a b) =
       made_wider lo (uses a + uses b) (room a + (3 + (room b + 13))) _ _ (made_append lo (uses a) (uses b) (room a) (3 + (room b + 13)) _ _ (expr_made f pushed lo a) (made_before (lo + uses a) (uses b) 3 (room b + 13) _ _ (push_piece Ax) (made_behind (lo + uses a) (uses b) (room b) 13 _ _ (expr_made f (more pushed 2) (lo + uses a) b) (copy_piece (type_bytes f (type_in t)))))) (omega (arith, some_nodes a, some_nodes b))
   node_made f pushed lo t (call g es) =
-      made_wider lo (unless_named (named g) (uses g) + args_uses es) (room g + 128 * nodes_in es + 63) _ _ (call_made f (named g) (outcome_of f (type_in t)) g es lo (uses g) (room g) (128 * nodes_in es) _ _ _ (expr_made f pushed lo g) (args_made f pushed lo (is_fast (bare g)) es) (args_made f (more pushed 2) (lo + uses g) (is_fast (bare g)) es)) (omega (arith, some_nodes g))
+      made_wider lo (unless_named (named g) (uses g) + args_uses es) (room g + 128 * nodes_in es + 65) _ _ (call_made f (named g) (outcome_of f (type_in t)) g es lo (uses g) (room g) (128 * nodes_in es) _ _ _ (expr_made f pushed lo g) (args_made f pushed lo (is_fast (bare g)) es) (args_made f (more pushed 2) (lo + uses g) (is_fast (bare g)) es)) (omega (arith, some_nodes g))
   node_made f pushed lo t (pack e) =
       let place : Place = place_of f pushed e in
       made_wider lo (uses e) (room e + 20) _ _ (made_behind lo (uses e) (room e) 20 _ _ (target_made lo (uses e) (room e) place _ (known_uses f pushed e) (expr_made f pushed lo e)) (part_piece place (extent_by (type_bytes f (type_in t))))) (omega (arith, some_nodes e))

@@ -408,15 +408,15 @@ result_piece Nothing = piece_none 3
 result_piece (Number kind) = narrow_piece kind
 result_piece (Area bytes) = piece_none 3
 
-named_by_piece : (f : Framed) (i : ℕ) (l : Option Library) (counted : Bool) (p : Passed) (given : Outcome) → Piece 63 (named_by f i l counted p given)
+named_by_piece : (f : Framed) (i : ℕ) (l : Option Library) (counted : Bool) (p : Passed) (given : Outcome) → Piece 65 (named_by f i l counted p given)
 named_by_piece f i (Some l) counted p given =
     let one : Piece 60 (call (library_routine l) ∷ []) = record { plain = refl; fit = refl; size = omega arith } in
-    piece_append 60 3 (call (library_routine l) ∷ []) _ one (result_piece given)
+    piece_append 2 63 (count_code counted p) _ (count_piece counted p) (piece_append 60 3 (call (library_routine l) ∷ []) _ one (result_piece given))
 named_by_piece f i None counted p given =
     let one : Piece 3 (Call (Function (function_symbol (numbers_of f.parts) i) (reads_of counted p) (registers (given_bytes given))) ∷ []) = record { plain = refl; fit = refl; size = omega arith } in
-    piece_wider 8 63 _ (piece_append 2 6 (count_code counted p) _ (count_piece counted p) (one_call 3 (Call (Function (function_symbol (numbers_of f.parts) i) (reads_of counted p) (registers (given_bytes given)))) _ one (result_piece given))) (omega arith)
+    piece_wider 8 65 _ (piece_append 2 6 (count_code counted p) _ (count_piece counted p) (one_call 3 (Call (Function (function_symbol (numbers_of f.parts) i) (reads_of counted p) (registers (given_bytes given)))) _ one (result_piece given))) (omega arith)
 
-pub named_piece : (f : Framed) (i : ℕ) (counted : Bool) (p : Passed) (given : Outcome) → Piece 63 (named_code f i counted p given)
+pub named_piece : (f : Framed) (i : ℕ) (counted : Bool) (p : Passed) (given : Outcome) → Piece 65 (named_code f i counted p given)
 named_piece f i counted p given = named_by_piece f i (library_at f i) counted p given
 
 fetch_piece : (p : Passed) → Piece 15 (fetch_code p)

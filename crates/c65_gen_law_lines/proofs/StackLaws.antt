@@ -134,7 +134,7 @@ named_does f i None counted p given ns v =
 named_does f i (Some l) counted p given ns v =
     let line : Line = Call (Routine (library_routine l)) in
     let one : Does (ns ∷ []) (ns ++ v) (line ∷ []) v = record { to = λ rest. ap (left rest) (taken_all ns v) } in
-    does_behind one (result_still given v)
+    does_before (count_still counted p (ns ++ v)) (does_behind one (result_still given v))
 
 pointer_does : (counted : Bool) (p : Passed) (given : Outcome) (ns v : List ℕ) → Does (ns ∷ []) (ns ++ 2 ∷ v) (pointer_code counted p given) v
 pointer_does counted p given ns v =

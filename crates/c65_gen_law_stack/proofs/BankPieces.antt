@@ -338,7 +338,7 @@ result_clear (Number kind) = narrow_clear kind
 result_clear (Area bytes) = clear_none
 
 named_by_clear : (f : Framed) (i : ℕ) (l : Option Library) (counted : Bool) (p : Passed) (given : Outcome) → Clear (named_by f i l counted p given)
-named_by_clear f i (Some l) counted p given = let one : Clear (call (library_routine l) ∷ []) = record { all = refl } in clear_then one (result_clear given)
+named_by_clear f i (Some l) counted p given = let one : Clear (call (library_routine l) ∷ []) = record { all = refl } in clear_then (count_clear counted p) (clear_then one (result_clear given))
 named_by_clear f i None counted p given =
     let one : Clear (Call (Function (function_symbol (numbers_of f.parts) i) (reads_of counted p) (registers (given_bytes given))) ∷ []) = record { all = refl } in
     clear_then (count_clear counted p) (clear_then one (result_clear given))

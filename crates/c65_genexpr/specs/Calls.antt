@@ -57,7 +57,7 @@ result_code _ = []
 
 -- a function of the library is its routine
 abbrev pub named_by : Framed → ℕ → Option Library → Bool → Passed → Outcome → List Line
-named_by f i (Some l) counted p given = call (routines.Library l) ∷ result_code given
+named_by f i (Some l) counted p given = count_code counted p ++ (call (routines.Library l) ∷ result_code given)
 named_by f i None counted p given = count_code counted p ++ (Call (Function (function_symbol (numbers_of f.parts) i) (reads_of counted p) (registers (given_bytes given))) ∷ result_code given)
 
 abbrev pub named_code : Framed → ℕ → Bool → Passed → Outcome → List Line

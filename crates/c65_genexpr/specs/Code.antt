@@ -1,61 +1,79 @@
 -- The lines of expressions (C90 6.3): pushed bytes of values wait on the software stack, and fresh is the first label that
 -- is free. A value stands in AX, or in EAX; of a place, and of a structure or
 -- union, the address. Of one that is passed or returned the bytes stand in A, X and sreg, as many as there are, the first in A.
-use Rattle.std.specs.Prelude.{ℕ, ◌+◌, Bool, Option, Some, None, List, [], ◌∷◌, ◌++◌}
+-- A test leads to its label where the truth is the one that is asked for, and else goes on.
+use Rattle.std.specs.Prelude.{ℕ, ◌+◌, ◌==◌, not, if◌then◌else◌, Bool, true, false, Option, Some, None, List, [], ◌∷◌, ◌++◌}
+use Rattle.c65_base.specs.declared.operators.UnaryOp.TheVariants.{Not}
 use Rattle.c65_base.specs.declared.operators.BinaryOp.{BinaryOp}
-use Rattle.c65_ctype.specs.Trees.{QTy, type_in}
+use Rattle.c65_ints.specs.declared.types.IntType.{IntType}
+use Rattle.c65_ctype.specs.Trees.{QTy}
+use Rattle.c65_ctype.specs.Trees as types
 use Rattle.c65_ctype.specs.Views.{types_of}
 use Rattle.c65_csem.specs.Trees.{Typed, node, Node, constant, null, literal, object, func, deref, member, load, address, decay, convert, unary, binary, both, either, choice, comma, assign, assign_op, assign_step, step, copy, call, pack, spill, rest, Nodes, none, some}
-use Rattle.c65_mach.specs.declared.rows.Op.TheVariants.{Beq, Bne, Jmp, Lda, Ldx}
+use Rattle.c65_mach.specs.declared.rows.Op.TheVariants.{Jmp}
 use Rattle.c65_mach.specs.declared.rows.Mode.TheVariants.{Absolute}
 use Rattle.c65_code.specs.declared.line.Operand.TheVariants.{To}
 use Rattle.c65_code.specs.declared.line.Line.{Line}
 use Rattle.c65_code.specs.declared.line.Line.TheVariants.{Label, Do}
+use Rattle.c65_code.specs.declared.routine.Width.{Width}
 use Rattle.c65_code.specs.declared.routine.Width.TheVariants.{Ax}
-use Rattle.c65_code.specs.Segments.{Drafted}
 use Rattle.c65_genframe.specs.Symbols.{numbers_of, literal_symbol, function_symbol}
 use Rattle.c65_genframe.specs.Frames.{Framed, type_bytes}
-use Rattle.c65_genwide.specs.Lines.{value}
 use Rattle.c65_genwide.specs.Wide.{width_of}
 use Rattle.c65_genload.specs.declared.places.Place.{Place}
 use Rattle.c65_genload.specs.declared.places.Place.TheVariants.{Far}
-use Rattle.c65_genload.specs.Words.{branch}
-use Rattle.c65_genload.specs.Places.{held, extent_by}
+use Rattle.c65_genload.specs.declared.places.Access.{Access}
+use Rattle.c65_genload.specs.Places.{held, type_in, extent_of, extent_by}
 use Rattle.c65_genload.specs.Numbers.{number_code}
-use Rattle.c65_genload.specs.Conversions.{push_code, test_code, waiting}
+use Rattle.c65_genload.specs.Conversions.{push_code, waiting}
 use Rattle.c65_genload.specs.Addresses.{symbol_code, offset_code}
 use Rattle.c65_genload.specs.Loads.{hold_code, bytes_code, load_code}
 use Rattle.c65_genload.specs.Stores.{store_code, copy_code}
+use Rattle.c65_gendirect.specs.declared.direct.Direct.{Direct}
+use Rattle.c65_gendirect.specs.declared.relation.Relation.{Relation}
+use Rattle.c65_gendirect.specs.Compare.{relation_of}
+use Rattle.c65_gendirect.specs.Tests.{zero_test_code, truth_code}
+use Rattle.c65_genexpr.specs.declared.wanted.Wanted.{Wanted}
+use Rattle.c65_genexpr.specs.declared.wanted.Wanted.TheVariants.{Value, Test}
 use Rattle.c65_genexpr.specs.declared.operands.Operands.{Operands}
 use Rattle.c65_genexpr.specs.declared.operands.Operands.TheVariants.{Numbers, PointerFirst}
 use Rattle.c65_genexpr.specs.declared.types.Outcome.{Outcome}
 use Rattle.c65_genexpr.specs.Types.{kind_of, outcome_of, kind_in, bare, offset_at, access_of, target_bytes}
 use Rattle.c65_genexpr.specs.Places.{more, place_of, object_code, rest_code}
+use Rattle.c65_genexpr.specs.Wanted.{decided_code, wanted_by, handed, wanted, sense, aimed, inner, truth_by, is_straight, way, way_labels, joined}
 use Rattle.c65_genexpr.specs.Spills.{spill_code}
-use Rattle.c65_genexpr.specs.Operands.{residue_of, operands_of, computes, short_of, binary_by, unary_code, conversion_code}
+use Rattle.c65_genexpr.specs.Operands.{residue_of, operands_of, computes, unary_code, same_truth, conversion_by}
+use Rattle.c65_genexpr.specs.Direct.{kept_at, own_bytes}
+use Rattle.c65_genexpr.specs.Comparing.{relation_by, tested_by, comparing_of, below_side, comparison_by}
+use Rattle.c65_genexpr.specs.Operating.{operating_of, below_operand, operator_by}
 use Rattle.c65_genexpr.specs.Steps.{amount_of, step_code, open_code, close_code}
 use Rattle.c65_genexpr.specs.Arguments.{is_fast, is_counted, stays, passed_size, passed_of, argument_code, argument_bytes}
 use Rattle.c65_genexpr.specs.Calls.{named, named_code, pointer_code, direct_code}
-use Rattle.c65_genexpr.specs.Uses.{uses}
-
--- the draft with lines behind its own, and so many labels more
-abbrev pub grown : Drafted → List Line → ℕ → Drafted
-grown d lines n = record d { lines = d.lines ++ lines; labels = d.labels + n }
-
-abbrev pub with_label : Drafted → Drafted
-with_label d = record d { labels = d.labels + 1 }
+use Rattle.c65_genexpr.specs.Uses.{uses, by_relation}
 
 -- the address of a place, where it takes lines of code
 abbrev pub target_code : Place → List Line → List Line
 target_code Far code = code
 target_code _ code = []
 
-abbrev pub truth_code : ℕ → List Line
-truth_code l = value Lda 1 ∷ Label l ∷ value Ldx 0 ∷ []
+-- where the values of a type stand
+abbrev pub width_in : QTy → Width
+width_in t = width_of (kind_of (types.type_in t))
 
--- what stands behind each side of `&&`, `||` and `?:`
-abbrev pub test_in : Typed → List Line
-test_in e = test_code (width_of (kind_in e))
+-- a constant, or the way that its truth decides
+abbrev pub constant_code : Wanted → Width → ℕ → List Line
+constant_code Value width n = number_code width n
+constant_code (Test to s) width n = decided_code (not (n == 0)) s to
+
+-- a number that is kept at a known place is tested where it lies; else it is loaded
+abbrev pub tested_load : Option Direct → IntType → Bool → ℕ → List Line → List Line
+tested_load (Some d) kind s to lines = zero_test_code (own_bytes d (extent_of kind)) s to
+tested_load None kind s to lines = wanted (Test to s) (width_of kind) lines
+
+-- behind the address of a place that is anywhere
+abbrev pub load_by : Wanted → Place → Access → List Line → List Line
+load_by Value place access lines = lines ++ load_code place access
+load_by (Test to s) place access lines = tested_load (kept_at place access) (type_in access) s to (lines ++ load_code place access)
 
 -- the bytes that wait for the right side of a compound assignment
 abbrev pub behind_open : Framed → ℕ → Operands → Typed → ℕ
@@ -76,48 +94,68 @@ call_by f None given g none callee args above = callee ++ direct_code (is_counte
 call_by f None given g (some e es) callee args above = callee ++ (push_code Ax ++ (above ++ pointer_code (is_counted (bare g)) (passed_of f (is_fast (bare g)) (some e es)) given))
 
 abbrev mutual
-  pub expr_code : Framed → ℕ → ℕ → Typed → List Line
-  expr_code f pushed fresh (node t n) = node_code f pushed fresh t n
+  pub expr_code : Framed → ℕ → ℕ → Wanted → Typed → List Line
+  expr_code f pushed fresh w (node t n) = node_code f pushed fresh w t n
 
-  pub node_code : Framed → ℕ → ℕ → QTy → Node → List Line
-  node_code f pushed fresh t (constant z) = number_code (width_of (kind_of (type_in t))) (residue_of z)
-  node_code f pushed fresh t null = number_code Ax 0
-  node_code f pushed fresh t (literal n) = symbol_code (literal_symbol (numbers_of f.parts) n) 0
-  node_code f pushed fresh t (object i) = object_code f pushed i
-  node_code f pushed fresh t (func i) = symbol_code (function_symbol (numbers_of f.parts) i) 0
-  node_code f pushed fresh t (deref e) = expr_code f pushed fresh e
-  node_code f pushed fresh t (member e m) = expr_code f pushed fresh e ++ offset_code (offset_at (types_of f.parts.types) (bare e) m)
-  node_code f pushed fresh t (load e) = target_code (place_of f pushed e) (expr_code f pushed fresh e) ++ load_code (place_of f pushed e) (access_of (types_of f.parts.types) e)
-  node_code f pushed fresh t (address e) = expr_code f pushed fresh e
-  node_code f pushed fresh t (decay e) = expr_code f pushed fresh e
-  node_code f pushed fresh t (convert e) = expr_code f pushed fresh e ++ conversion_code (type_in t) (kind_in e)
-  node_code f pushed fresh t (unary op e) = expr_code f pushed fresh e ++ unary_code op (width_of (kind_in e))
-  node_code f pushed fresh t (binary op a b) =
+  pub node_code : Framed → ℕ → ℕ → Wanted → QTy → Node → List Line
+  node_code f pushed fresh w t (constant z) = constant_code w (width_in t) (residue_of z)
+  node_code f pushed fresh w t null = constant_code w Ax 0
+  node_code f pushed fresh w t (literal n) = wanted w (width_in t) (symbol_code (literal_symbol (numbers_of f.parts) n) 0)
+  node_code f pushed fresh w t (object i) = wanted w (width_in t) (object_code f pushed i)
+  node_code f pushed fresh w t (func i) = wanted w (width_in t) (symbol_code (function_symbol (numbers_of f.parts) i) 0)
+  node_code f pushed fresh w t (deref e) = wanted w (width_in t) (expr_code f pushed fresh Value e)
+  node_code f pushed fresh w t (member e m) = wanted w (width_in t) (expr_code f pushed fresh Value e ++ offset_code (offset_at (types_of f.parts.types) (bare e) m))
+  node_code f pushed fresh w t (load e) = load_by w (place_of f pushed e) (access_of (types_of f.parts.types) e) (target_code (place_of f pushed e) (expr_code f pushed fresh Value e))
+  node_code f pushed fresh w t (address e) = wanted w (width_in t) (expr_code f pushed fresh Value e)
+  node_code f pushed fresh w t (decay e) = wanted w (width_in t) (expr_code f pushed fresh Value e)
+  node_code f pushed fresh w t (convert e) =
+      let same = same_truth (types.type_in t) (bare e) in
+      conversion_by w same (types.type_in t) (kind_in e) (expr_code f pushed fresh (handed same w) e)
+  node_code f pushed fresh w t (unary Not e) = truth_by w fresh (expr_code f pushed (inner w fresh) (Test (aimed w fresh) (not (sense w))) e)
+  node_code f pushed fresh w t (unary op e) = wanted w (width_in t) (expr_code f pushed fresh Value e ++ unary_code op (width_of (kind_in e)))
+  node_code f pushed fresh w t (binary op a b) =
       let operands = operands_of f (bare a) (bare b) in
-      binary_by op operands (short_of op operands b) (kind_in b) (expr_code f pushed fresh a) (expr_code f (more pushed (waiting (width_of (computes operands)))) (fresh + uses a) b)
-  node_code f pushed fresh t (both a b) =
-      expr_code f pushed (fresh + 1) a ++ (test_in a ++ (branch Beq fresh ∷ (expr_code f pushed (fresh + 1 + uses a) b ++ (test_in b ++ (branch Beq fresh ∷ truth_code fresh)))))
-  node_code f pushed fresh t (either a b) =
-      expr_code f pushed (fresh + 2) a ++ (test_in a ++ (branch Bne fresh ∷ (expr_code f pushed (fresh + 2 + uses a) b ++ (test_in b ++ (branch Beq (fresh + 1) ∷ Label fresh ∷ truth_code (fresh + 1))))))
-  node_code f pushed fresh t (choice c a b) =
-      expr_code f pushed (fresh + 2) c ++ (test_in c ++ (branch Beq fresh ∷ (expr_code f pushed (fresh + 2 + uses c) a ++ (Do Jmp Absolute (To (fresh + 1)) ∷ Label fresh ∷ (expr_code f pushed (fresh + 2 + uses c + uses a) b ++ Label (fresh + 1) ∷ [])))))
-  node_code f pushed fresh t (comma a b) = expr_code f pushed fresh a ++ expr_code f pushed (fresh + uses a) b
-  node_code f pushed fresh t (assign a b) =
+      let bytes = waiting (width_of (computes operands)) in
+      by_relation (relation_of op)
+      (let how = operating_of f pushed op operands a b in
+      wanted w (width_in t) (operator_by how op operands (kind_in b) fresh (expr_code f pushed (fresh + 1) Value a) (expr_code f (below_operand how pushed bytes) (fresh + 1 + uses None a) Value b)))
+      (λ r.
+      let q = relation_by (sense w) r in
+      let how = comparing_of f pushed q (computes operands) a b in
+      let to = aimed w fresh in
+      let own = inner w fresh in
+      truth_by w fresh (comparison_by how op operands (kind_in b) (sense w) to own (expr_code f pushed (own + 1) (wanted_by (tested_by q b) to) a) (expr_code f (below_side how pushed bytes) (own + 1 + uses (tested_by q b) a) (wanted_by (tested_by q a) to) b)))
+  node_code f pushed fresh w t (both a b) =
+      let straight = is_straight false (sense w) in
+      let own = inner w fresh in
+      let first = own + way_labels straight in
+      truth_by w fresh (joined straight own (expr_code f pushed first (Test (way straight (aimed w fresh) own) false) a) (expr_code f pushed (first + uses (Some false) a) (Test (aimed w fresh) (sense w)) b))
+  node_code f pushed fresh w t (either a b) =
+      let straight = is_straight true (sense w) in
+      let own = inner w fresh in
+      let first = own + way_labels straight in
+      truth_by w fresh (joined straight own (expr_code f pushed first (Test (way straight (aimed w fresh) own) true) a) (expr_code f pushed (first + uses (Some true) a) (Test (aimed w fresh) (sense w)) b))
+  node_code f pushed fresh w t (choice c a b) =
+      let first = fresh + 2 + uses (Some false) c in
+      wanted w (width_in t) (expr_code f pushed (fresh + 2) (Test fresh false) c ++ (expr_code f pushed first Value a ++ (Do Jmp Absolute (To (fresh + 1)) ∷ Label fresh ∷ (expr_code f pushed (first + uses None a) Value b ++ Label (fresh + 1) ∷ []))))
+  node_code f pushed fresh w t (comma a b) = expr_code f pushed fresh Value a ++ expr_code f pushed (fresh + uses None a) w b
+  node_code f pushed fresh w t (assign a b) =
       let place = place_of f pushed a in
-      target_code place (expr_code f pushed fresh a) ++ (hold_code place ++ (expr_code f (more pushed (held place)) (fresh + uses a) b ++ store_code place (access_of (types_of f.parts.types) a)))
-  node_code f pushed fresh t (assign_op op k a b) = compound f pushed op (Numbers k) a b (expr_code f pushed fresh a) (expr_code f (behind_open f pushed (Numbers k) a) (fresh + uses a) b)
-  node_code f pushed fresh t (assign_step op a b) =
+      wanted w (width_in t) (target_code place (expr_code f pushed fresh Value a) ++ (hold_code place ++ (expr_code f (more pushed (held place)) (fresh + uses None a) Value b ++ store_code place (access_of (types_of f.parts.types) a))))
+  node_code f pushed fresh w t (assign_op op k a b) = wanted w (width_in t) (compound f pushed op (Numbers k) a b (expr_code f pushed fresh Value a) (expr_code f (behind_open f pushed (Numbers k) a) (fresh + uses None a) Value b))
+  node_code f pushed fresh w t (assign_step op a b) =
       let operands = PointerFirst (target_bytes f (bare a)) in
-      compound f pushed op operands a b (expr_code f pushed fresh a) (expr_code f (behind_open f pushed operands a) (fresh + uses a) b)
-  node_code f pushed fresh t (step how e) =
-      target_code (place_of f pushed e) (expr_code f pushed fresh e) ++ step_code how (place_of f pushed e) (access_of (types_of f.parts.types) e) (amount_of f how (bare e))
-  node_code f pushed fresh t (copy a b) =
-      expr_code f pushed fresh a ++ (push_code Ax ++ (expr_code f (more pushed 2) (fresh + uses a) b ++ copy_code (type_bytes f (type_in t))))
-  node_code f pushed fresh t (call g es) =
-      call_by f (named g) (outcome_of f (type_in t)) g es (expr_code f pushed fresh g) (args_code f pushed fresh (is_fast (bare g)) es) (args_code f (more pushed 2) (fresh + uses g) (is_fast (bare g)) es)
-  node_code f pushed fresh t (pack e) = target_code (place_of f pushed e) (expr_code f pushed fresh e) ++ bytes_code (place_of f pushed e) (extent_by (type_bytes f (type_in t)))
-  node_code f pushed fresh t (spill i e) = expr_code f pushed fresh e ++ spill_code (object_code f pushed i) (extent_by (type_bytes f (type_in t)))
-  node_code f pushed fresh t rest = rest_code f pushed
+      wanted w (width_in t) (compound f pushed op operands a b (expr_code f pushed fresh Value a) (expr_code f (behind_open f pushed operands a) (fresh + uses None a) Value b))
+  node_code f pushed fresh w t (step how e) =
+      wanted w (width_in t) (target_code (place_of f pushed e) (expr_code f pushed fresh Value e) ++ step_code how (place_of f pushed e) (access_of (types_of f.parts.types) e) (amount_of f how (bare e)))
+  node_code f pushed fresh w t (copy a b) =
+      wanted w (width_in t) (expr_code f pushed fresh Value a ++ (push_code Ax ++ (expr_code f (more pushed 2) (fresh + uses None a) Value b ++ copy_code (type_bytes f (types.type_in t)))))
+  node_code f pushed fresh w t (call g es) =
+      wanted w (width_in t) (call_by f (named g) (outcome_of f (types.type_in t)) g es (expr_code f pushed fresh Value g) (args_code f pushed fresh (is_fast (bare g)) es) (args_code f (more pushed 2) (fresh + uses None g) (is_fast (bare g)) es))
+  node_code f pushed fresh w t (pack e) =
+      wanted w (width_in t) (target_code (place_of f pushed e) (expr_code f pushed fresh Value e) ++ bytes_code (place_of f pushed e) (extent_by (type_bytes f (types.type_in t))))
+  node_code f pushed fresh w t (spill i e) = wanted w (width_in t) (expr_code f pushed fresh Value e ++ spill_code (object_code f pushed i) (extent_by (type_bytes f (types.type_in t))))
+  node_code f pushed fresh w t rest = wanted w (width_in t) (rest_code f pushed)
 
   -- arguments from left to right
   pub args_code : Framed → ℕ → ℕ → Bool → Nodes → List Line
@@ -125,34 +163,51 @@ abbrev mutual
   args_code f pushed fresh fast (some e es) =
       let kept = stays fast es in
       let bytes = passed_size f e in
-      expr_code f pushed fresh e ++ (argument_code kept bytes ++ args_code f (more pushed (argument_bytes kept bytes)) (fresh + uses e) fast es)
+      expr_code f pushed fresh Value e ++ (argument_code kept bytes ++ args_code f (more pushed (argument_bytes kept bytes)) (fresh + uses None e) fast es)
 
 -- ---- the same by construct
 
+abbrev pub operator_code : Framed → ℕ → ℕ → BinaryOp → Typed → Typed → List Line
+operator_code f pushed fresh op a b =
+    let operands = operands_of f (bare a) (bare b) in
+    let how = operating_of f pushed op operands a b in
+    operator_by how op operands (kind_in b) fresh (expr_code f pushed (fresh + 1) Value a) (expr_code f (below_operand how pushed (waiting (width_of (computes operands)))) (fresh + 1 + uses None a) Value b)
+
+-- where the truth of a comparison is s, to a label
+abbrev pub comparison_code : Framed → ℕ → ℕ → ℕ → Bool → BinaryOp → Relation → Typed → Typed → List Line
+comparison_code f pushed own to s op r a b =
+    let operands = operands_of f (bare a) (bare b) in
+    let q = relation_by s r in
+    let how = comparing_of f pushed q (computes operands) a b in
+    comparison_by how op operands (kind_in b) s to own (expr_code f pushed (own + 1) (wanted_by (tested_by q b) to) a) (expr_code f (below_side how pushed (waiting (width_of (computes operands)))) (own + 1 + uses (tested_by q b) a) (wanted_by (tested_by q a) to) b)
+
+-- a binary operator whose value is wanted
 abbrev pub binary_code : Framed → ℕ → ℕ → BinaryOp → Typed → Typed → List Line
 binary_code f pushed fresh op a b =
-    let operands = operands_of f (bare a) (bare b) in
-    binary_by op operands (short_of op operands b) (kind_in b) (expr_code f pushed fresh a) (expr_code f (more pushed (waiting (width_of (computes operands)))) (fresh + uses a) b)
+    by_relation (relation_of op) (operator_code f pushed fresh op a b) (λ r. comparison_code f pushed (fresh + 2) fresh false op r a b ++ truth_code fresh)
 
-abbrev pub both_code : Framed → ℕ → ℕ → Typed → Typed → List Line
-both_code f pushed fresh a b =
-    expr_code f pushed (fresh + 1) a ++ (test_in a ++ (branch Beq fresh ∷ (expr_code f pushed (fresh + 1 + uses a) b ++ (test_in b ++ (branch Beq fresh ∷ truth_code fresh)))))
+-- `&&` and `||`, which a left side decides whose truth is stop
+abbrev pub joint_code : Framed → ℕ → ℕ → ℕ → Bool → Bool → Typed → Typed → List Line
+joint_code f pushed own to s stop a b =
+    let straight = is_straight stop s in
+    let first = own + way_labels straight in
+    joined straight own (expr_code f pushed first (Test (way straight to own) stop) a) (expr_code f pushed (first + uses (Some stop) a) (Test to s) b)
 
-abbrev pub either_code : Framed → ℕ → ℕ → Typed → Typed → List Line
-either_code f pushed fresh a b =
-    expr_code f pushed (fresh + 2) a ++ (test_in a ++ (branch Bne fresh ∷ (expr_code f pushed (fresh + 2 + uses a) b ++ (test_in b ++ (branch Beq (fresh + 1) ∷ Label fresh ∷ truth_code (fresh + 1))))))
+abbrev pub load_test_code : Framed → ℕ → ℕ → ℕ → Bool → Typed → List Line
+load_test_code f pushed fresh to s e = load_by (Test to s) (place_of f pushed e) (access_of (types_of f.parts.types) e) (target_code (place_of f pushed e) (expr_code f pushed fresh Value e))
 
 abbrev pub choice_code : Framed → ℕ → ℕ → Typed → Typed → Typed → List Line
 choice_code f pushed fresh c a b =
-    expr_code f pushed (fresh + 2) c ++ (test_in c ++ (branch Beq fresh ∷ (expr_code f pushed (fresh + 2 + uses c) a ++ (Do Jmp Absolute (To (fresh + 1)) ∷ Label fresh ∷ (expr_code f pushed (fresh + 2 + uses c + uses a) b ++ Label (fresh + 1) ∷ [])))))
+    let first = fresh + 2 + uses (Some false) c in
+    expr_code f pushed (fresh + 2) (Test fresh false) c ++ (expr_code f pushed first Value a ++ (Do Jmp Absolute (To (fresh + 1)) ∷ Label fresh ∷ (expr_code f pushed (first + uses None a) Value b ++ Label (fresh + 1) ∷ [])))
 
 abbrev pub assign_code : Framed → ℕ → ℕ → Typed → Typed → List Line
 assign_code f pushed fresh a b =
     let place = place_of f pushed a in
-    target_code place (expr_code f pushed fresh a) ++ (hold_code place ++ (expr_code f (more pushed (held place)) (fresh + uses a) b ++ store_code place (access_of (types_of f.parts.types) a)))
+    target_code place (expr_code f pushed fresh Value a) ++ (hold_code place ++ (expr_code f (more pushed (held place)) (fresh + uses None a) Value b ++ store_code place (access_of (types_of f.parts.types) a)))
 
 abbrev pub compound_code : Framed → ℕ → ℕ → BinaryOp → Operands → Typed → Typed → List Line
-compound_code f pushed fresh op operands a b = compound f pushed op operands a b (expr_code f pushed fresh a) (expr_code f (behind_open f pushed operands a) (fresh + uses a) b)
+compound_code f pushed fresh op operands a b = compound f pushed op operands a b (expr_code f pushed fresh Value a) (expr_code f (behind_open f pushed operands a) (fresh + uses None a) Value b)
 
 abbrev pub call_code : Framed → ℕ → ℕ → Outcome → Typed → Nodes → List Line
-call_code f pushed fresh given g es = call_by f (named g) given g es (expr_code f pushed fresh g) (args_code f pushed fresh (is_fast (bare g)) es) (args_code f (more pushed 2) (fresh + uses g) (is_fast (bare g)) es)
+call_code f pushed fresh given g es = call_by f (named g) given g es (expr_code f pushed fresh Value g) (args_code f pushed fresh (is_fast (bare g)) es) (args_code f (more pushed 2) (fresh + uses None g) (is_fast (bare g)) es)

@@ -1,9 +1,14 @@
 pub mod Arguments
 pub mod Calls
 pub mod Code
+pub mod Comparing
+pub mod Direct
+pub mod Leaving
 pub mod Operands
+pub mod Operating
 pub mod Places
 pub mod Spills
 pub mod Steps
 pub mod Types
 pub mod Uses
+pub mod Wanted

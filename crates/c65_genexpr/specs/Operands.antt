@@ -1,5 +1,5 @@
 -- Operators between their two operands (C90 6.3.3 to 6.3.12).
-use Rattle.std.specs.Prelude.{ℕ, ◌-◌, ◌*◌, ◌%◌, Bool, true, false, Option, Some, None, ℤ, List, [], ◌∷◌, ◌++◌}
+use Rattle.std.specs.Prelude.{ℕ, ◌-◌, ◌%◌, nat_le, ◌&&◌, Bool, true, false, Option, Some, None, ℤ, List, [], ◌∷◌, ◌++◌}
 use Rattle.c65_base.specs.declared.operators.UnaryOp.{UnaryOp}
 use Rattle.c65_base.specs.declared.operators.UnaryOp.TheVariants as unary
 use Rattle.c65_base.specs.declared.operators.BinaryOp.{BinaryOp}
@@ -9,18 +9,22 @@ use Rattle.c65_ints.specs.declared.types.IntType.TheVariants.{UInt}
 use Rattle.c65_ints.specs.Ranges.{residue}
 use Rattle.c65_ctype.specs.Trees.{Ty, void, pointer}
 use Rattle.c65_csem.specs.Trees.{Typed, node, constant}
+use Rattle.c65_csem.specs.Places.{is_scalar}
 use Rattle.c65_code.specs.declared.line.Line.{Line}
 use Rattle.c65_code.specs.declared.routine.Width.{Width}
 use Rattle.c65_code.specs.declared.routine.Width.TheVariants.{Ax}
 use Rattle.c65_code.specs.declared.routine.Routine.TheVariants.{Unary}
-use Rattle.c65_code.specs.declared.routine.UnaryRoutine.TheVariants.{Neg, Compl, BNeg}
+use Rattle.c65_code.specs.declared.routine.UnaryRoutine.TheVariants.{Neg, Compl}
 use Rattle.c65_genframe.specs.Frames.{Framed}
 use Rattle.c65_genwide.specs.Lines.{call}
 use Rattle.c65_genwide.specs.Wide.{width_of, wide_code}
-use Rattle.c65_genload.specs.Numbers.{add_code, scale_code, divide_code}
-use Rattle.c65_genload.specs.Conversions.{convert_code, push_code}
+use Rattle.c65_genload.specs.Numbers.{scale_code, divide_code}
+use Rattle.c65_genload.specs.Conversions.{size_of, convert_code, push_code}
 use Rattle.c65_genexpr.specs.declared.operands.Operands.{Operands}
 use Rattle.c65_genexpr.specs.declared.operands.Operands.TheVariants.{Numbers, PointerFirst, PointerLast, Pointers}
+use Rattle.c65_genexpr.specs.declared.wanted.Wanted.{Wanted}
+use Rattle.c65_genexpr.specs.declared.wanted.Wanted.TheVariants.{Value, Test}
+use Rattle.c65_genexpr.specs.Wanted.{wanted}
 use Rattle.c65_genexpr.specs.Types.{kind_of, target_bytes}
 
 -- the left operand is no pointer
@@ -61,14 +65,22 @@ behind_code op (Pointers size) right = wide_code op UInt ++ difference_code op s
 abbrev pub unary_code : UnaryOp → Width → List Line
 unary_code unary.Neg width = call (Unary Neg width) ∷ []
 unary_code unary.BitNot width = call (Unary Compl width) ∷ []
-unary_code unary.Not width = call (Unary BNeg width) ∷ []
 unary_code op width = []
 
 abbrev pub conversion_code : Ty → IntType → List Line
 conversion_code void from = []
 conversion_code to from = convert_code from (kind_of to)
 
--- ---- a constant as right operand
+-- whether a converted value is zero just where the value is
+abbrev pub same_truth : Ty → Ty → Bool
+same_truth to from = is_scalar to && (is_scalar from && nat_le (size_of (kind_of from)) (size_of (kind_of to)))
+
+abbrev pub conversion_by : Wanted → Bool → Ty → IntType → List Line → List Line
+conversion_by Value same to from lines = lines ++ conversion_code to from
+conversion_by (Test l s) true to from lines = lines
+conversion_by (Test l s) false to from lines = wanted (Test l s) (width_of (kind_of to)) (lines ++ conversion_code to from)
+
+-- ---- constants
 
 -- modulo 2 to the 32
 abbrev pub residue_of : ℤ → ℕ
@@ -80,37 +92,3 @@ negative n = (4294967296 - n) % 4294967296
 abbrev pub constant_in : Typed → Option ℤ
 constant_in (node t (constant z)) = Some z
 constant_in (node t _) = None
-
--- a number is added to a number, or elements to a pointer
-abbrev pub takes_constant : Operands → Bool
-takes_constant (Numbers kind) = true
-takes_constant (PointerFirst size) = true
-takes_constant _ = false
-
-abbrev pub is_short : BinaryOp → Operands → Bool
-is_short Add operands = takes_constant operands
-is_short Sub operands = takes_constant operands
-is_short op operands = false
-
-abbrev pub short_in : Bool → Option ℤ → Option ℕ
-short_in true (Some z) = Some (residue_of z)
-short_in true None = None
-short_in false z = None
-
--- the constant that an operator takes as it is
-abbrev pub short_of : BinaryOp → Operands → Typed → Option ℕ
-short_of op operands e = short_in (is_short op operands) (constant_in e)
-
--- elements to bytes
-abbrev pub scaled : Operands → ℕ → ℕ
-scaled (PointerFirst size) n = n * size % 4294967296
-scaled operands n = n
-
-abbrev pub short_code : BinaryOp → Operands → ℕ → List Line
-short_code Sub operands n = add_code (computes operands) (negative (scaled operands n))
-short_code op operands n = add_code (computes operands) (scaled operands n)
-
--- an operator, from the lines of its two operands
-abbrev pub binary_by : BinaryOp → Operands → Option ℕ → IntType → List Line → List Line → List Line
-binary_by op operands (Some n) right a b = a ++ short_code op operands n
-binary_by op operands None right a b = a ++ (between_code operands ++ (b ++ behind_code op operands right))

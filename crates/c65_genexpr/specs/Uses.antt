@@ -1,51 +1,78 @@
 -- How many labels the lines of an expression have.
-use Rattle.std.specs.Prelude.{ℕ, ◌+◌, Option, Some, None}
+use Rattle.std.specs.Prelude.{ℕ, ◌+◌, Bool, true, false, not, Option, Some, None}
+use Rattle.c65_base.specs.declared.operators.UnaryOp.TheVariants.{Not}
+use Rattle.c65_base.specs.declared.operators.BinaryOp.{BinaryOp}
+use Rattle.c65_ctype.specs.Trees.{QTy, type_in}
 use Rattle.c65_csem.specs.Trees.{Typed, node, Node, constant, null, literal, object, func, deref, member, load, address, decay, convert, unary, binary, both, either, choice, comma, assign, assign_op, assign_step, step, copy, call, pack, spill, rest, Nodes, none, some}
+use Rattle.c65_gendirect.specs.declared.relation.Relation.{Relation}
+use Rattle.c65_gendirect.specs.Compare.{relation_of}
+use Rattle.c65_genexpr.specs.Types.{bare}
 use Rattle.c65_genexpr.specs.Calls.{named}
+use Rattle.c65_genexpr.specs.Operands.{same_truth}
+use Rattle.c65_genexpr.specs.Wanted.{handed_sense, aimed_sense, truth_labels, is_straight, way_labels}
+use Rattle.c65_genexpr.specs.Comparing.{relation_by, tested_by}
 
 -- a function that is called by its name takes no lines of its own
 abbrev pub unless_named : Option ℕ → ℕ → ℕ
 unless_named (Some i) n = 0
 unless_named None n = n
 
-abbrev mutual
-  pub uses : Typed → ℕ
-  uses (node t n) = node_uses n
+-- a comparison has the labels of its own by its relation, another operator has none
+abbrev pub by_relation : {A : Type 0} → Option Relation → A → (Relation → A) → A
+by_relation None other f = other
+by_relation (Some r) other f = f r
 
-  pub node_uses : Node → ℕ
-  node_uses (constant z) = 0
-  node_uses null = 0
-  node_uses (literal n) = 0
-  node_uses (object i) = 0
-  node_uses (func i) = 0
-  node_uses (deref e) = uses e
-  node_uses (member e m) = uses e
-  node_uses (load e) = uses e
-  node_uses (address e) = uses e
-  node_uses (decay e) = uses e
-  node_uses (convert e) = uses e
-  node_uses (unary op e) = uses e
-  node_uses (binary op a b) = uses a + uses b
-  node_uses (both a b) = 1 + (uses a + uses b)
-  node_uses (either a b) = 2 + (uses a + uses b)
-  node_uses (choice c a b) = 2 + (uses c + (uses a + uses b))
-  node_uses (comma a b) = uses a + uses b
-  node_uses (assign a b) = uses a + uses b
-  node_uses (assign_op op k a b) = uses a + uses b
-  node_uses (assign_step op a b) = uses a + uses b
-  node_uses (step how e) = uses e
-  node_uses (copy a b) = uses a + uses b
-  node_uses (call f es) = unless_named (named f) (uses f) + args_uses es
-  node_uses (pack e) = uses e
-  node_uses (spill i e) = uses e
-  node_uses rest = 0
+abbrev mutual
+  -- of a test in a sense, or of a value
+  pub uses : Option Bool → Typed → ℕ
+  uses s (node t n) = node_uses s t n
+
+  pub node_uses : Option Bool → QTy → Node → ℕ
+  node_uses s t (constant z) = 0
+  node_uses s t null = 0
+  node_uses s t (literal n) = 0
+  node_uses s t (object i) = 0
+  node_uses s t (func i) = 0
+  node_uses s t (deref e) = uses None e
+  node_uses s t (member e m) = uses None e
+  node_uses s t (load e) = uses None e
+  node_uses s t (address e) = uses None e
+  node_uses s t (decay e) = uses None e
+  node_uses s t (convert e) = uses (handed_sense (same_truth (type_in t) (bare e)) s) e
+  node_uses s t (unary Not e) = truth_labels s + uses (Some (not (aimed_sense s))) e
+  node_uses s t (unary op e) = uses None e
+  node_uses s t (binary op a b) =
+      by_relation (relation_of op) (1 + (uses None a + uses None b)) (λ r.
+      let q = relation_by (aimed_sense s) r in
+      truth_labels s + (1 + (uses (tested_by q b) a + uses (tested_by q a) b)))
+  node_uses s t (both a b) = truth_labels s + (way_labels (is_straight false (aimed_sense s)) + (uses (Some false) a + uses (Some (aimed_sense s)) b))
+  node_uses s t (either a b) = truth_labels s + (way_labels (is_straight true (aimed_sense s)) + (uses (Some true) a + uses (Some (aimed_sense s)) b))
+  node_uses s t (choice c a b) = 2 + (uses (Some false) c + (uses None a + uses None b))
+  node_uses s t (comma a b) = uses None a + uses s b
+  node_uses s t (assign a b) = uses None a + uses None b
+  node_uses s t (assign_op op k a b) = uses None a + uses None b
+  node_uses s t (assign_step op a b) = uses None a + uses None b
+  node_uses s t (step how e) = uses None e
+  node_uses s t (copy a b) = uses None a + uses None b
+  node_uses s t (call f es) = unless_named (named f) (uses None f) + args_uses es
+  node_uses s t (pack e) = uses None e
+  node_uses s t (spill i e) = uses None e
+  node_uses s t rest = 0
 
   pub args_uses : Nodes → ℕ
   args_uses none = 0
-  args_uses (some e es) = uses e + args_uses es
+  args_uses (some e es) = uses None e + args_uses es
 
 abbrev pub head_uses : Typed → ℕ
-head_uses f = unless_named (named f) (uses f)
+head_uses f = unless_named (named f) (uses None f)
+
+-- a comparison by a relation
+abbrev pub comparison_uses : Relation → Typed → Typed → ℕ
+comparison_uses q a b = 1 + (uses (tested_by q b) a + uses (tested_by q a) b)
+
+-- a binary operator whose value is wanted
+abbrev pub binary_uses : BinaryOp → Typed → Typed → ℕ
+binary_uses op a b = by_relation (relation_of op) (1 + (uses None a + uses None b)) (λ r. 2 + comparison_uses (relation_by false r) a b)
 
 -- how many trees a tree has, itself among them; more than its arguments have places
 abbrev mutual

@@ -102,6 +102,7 @@ pub fn put_named(
 {
     match library_at(frame, function) {
         Some(library) => {
+            put_count(counted, passed, draft)?;
             run(draft, Routine::Library(library))?;
             put_result(given, draft)
         }

@@ -1,52 +1,51 @@
 // Expressions (C90 6.3).
-ghost use Rattle.std.specs.Prelude.{◌≡◌, [], ◌+◌, ◌≤◌, OnOk, IfOk, OnErr, IfErr};
+ghost use Rattle.std.specs.Prelude.{◌≡◌, [], ◌+◌, ◌≤◌, true, false, not, Some, None, OnOk, IfOk, OnErr, IfErr};
 ghost use Rattle.c65_base.specs.declared.refusal.Refusal.TheVariants.{OutOfMemory};
 ghost use Rattle.c65_csem.specs.Views.{typed_of, nodes_of};
-ghost use Rattle.c65_genwide.specs.Lines.{Keeps};
+ghost use Rattle.c65_genwide.specs.Lines.{grown, Keeps};
 ghost use Rattle.c65_genexpr.specs.Arguments.{passed_of};
-ghost use Rattle.c65_genexpr.specs.Places.{IsKnown, place_of};
-ghost use Rattle.c65_genexpr.specs.Uses.{uses, head_uses, args_uses};
-ghost use Rattle.c65_genexpr.specs.Code.{grown, with_label, target_code, expr_code, binary_code, both_code, either_code, choice_code, assign_code, compound_code, call_code, args_code};
+ghost use Rattle.c65_genexpr.specs.Places.{place_of};
+ghost use Rattle.c65_genexpr.specs.Wanted.{sense_of, is_straight, way_labels};
+ghost use Rattle.c65_genexpr.specs.declared.wanted.Wanted.TheVariants.{Value, Test};
+ghost use Rattle.c65_genexpr.specs.Comparing.{on, relation_by};
+ghost use Rattle.c65_genexpr.specs.Leaving.{IsFree};
+ghost use Rattle.c65_genexpr.specs.Uses.{uses, head_uses, args_uses, binary_uses, comparison_uses};
+ghost use Rattle.c65_genexpr.specs.Code.{target_code, expr_code, load_test_code, binary_code, operator_code, comparison_code, joint_code, choice_code, assign_code, compound_code, call_code, args_code};
 
 use crate::arguments::{
     Passed, argument_bytes, is_counted, is_fast, joined, passed_size, put_argument, stays,
 };
 use crate::calls::{named, put_direct, put_named, put_pointer};
+use crate::comparing::{Comparing, Side, comparing_of, relation_by, tested_by};
+use crate::constants::residue_of;
+use crate::direct::{kept_at, put_own_test};
+use crate::leaving::{leave_out, leave_place};
 use crate::operands::{
-    Operands, computes, operands_of, put_behind, put_between, put_conversion, put_unary,
+    Operands, computes, operands_of, put_behind, put_between, put_conversion, put_unary, same_truth,
 };
+use crate::operating::{Operating, operating_of, put_form, put_stacked, put_waiting};
 use crate::places::{more, place_of, put_object, put_rest};
-use crate::shorts::{put_short, residue_of, short_of};
 use crate::spills::put_spill;
 use crate::steps::{amount_of, put_close, put_open, put_step};
 use crate::types::{Outcome, access_of, kind_of, offset_at, outcome_of, target_bytes};
-use c65_base::{BinaryOp, Refusal};
+use crate::wanted::{
+    Wanted, is_straight, put_decided, put_outcome_test, put_value_test, wanted_by,
+};
+use c65_base::{BinaryOp, Refusal, UnaryOp};
 use c65_code::Line::{Do, Label};
-use c65_code::Operand::{Byte, To};
+use c65_code::Operand::To;
 use c65_code::{Draft, Width};
 use c65_csem::{TExpr, TKind};
+use c65_gendirect::{Relation, put_compare, put_compare_byte, put_op, put_truth, relation_of};
 use c65_genframe::Frame;
 use c65_genload::{
     Place, copy, extent_by, held, hold, load, load_bytes, number, push, put_offset, put_symbol,
-    store, test, waiting,
+    store, value_type, waiting,
 };
-use c65_genwide::{put, width_of};
-use c65_mach::Mode::{Absolute, Immediate, Relative};
-use c65_mach::Op::{Beq, Bne, Jmp, Lda, Ldx};
+use c65_genwide::{next_label, put, width_of};
+use c65_mach::Mode::Absolute;
+use c65_mach::Op::{Jmp, Lda};
 use std::alloc::AllocError;
-
-/// A label that was not given before; where there is none, want of memory.
-#[tactic(auto, using(c65_genwide::proofs::Kept::kept_same, crate::proofs::Kept::label_then))]
-fn next_label(draft: &mut Draft) -> Result<u32, AllocError>
-    ensures label { IfOk result (λ l. l ≡ draft.old.labels) }
-    ensures draft { OnOk result (draft.new ≡ with_label draft.old) }
-    ensures kept { OnErr result (Keeps draft.old draft.new) }
-{
-    if draft.labels() >= 0x8000_0000 {
-        return Err(AllocError);
-    }
-    Ok(draft.fresh())
-}
 
 /// Puts the lines of an expression behind those of the draft, where so many bytes of values wait on
 /// the software stack. The value then stands in the primary register: in A and X, or in A, X and
@@ -60,7 +59,7 @@ pub fn gen_expr(
     draft: &mut Draft,
 ) -> Result<(), Refusal>
     requires { pushed ≤ 65535 }
-    ensures lines { OnOk result (draft.new ≡ grown draft.old (expr_code frame.now pushed draft.old.labels (typed_of expr.now)) (uses (typed_of expr.now))) }
+    ensures lines { OnOk result (draft.new ≡ grown draft.old (expr_code frame.now pushed draft.old.labels Value (typed_of expr.now)) (uses None (typed_of expr.now))) }
     ensures refused { IfErr result (λ e. e ≡ OutOfMemory) }
     ensures kept { OnErr result (Keeps draft.old draft.new) }
 {
@@ -76,7 +75,7 @@ pub fn put_expr(
     pushed: u16,
     draft: &mut Draft,
 ) -> Result<(), AllocError>
-    ensures lines { OnOk result (draft.new ≡ grown draft.old (expr_code frame.now pushed draft.old.labels (typed_of e.now)) (uses (typed_of e.now))) }
+    ensures lines { OnOk result (draft.new ≡ grown draft.old (expr_code frame.now pushed draft.old.labels Value (typed_of e.now)) (uses None (typed_of e.now))) }
     ensures kept { OnErr result (Keeps draft.old draft.new) }
 {
     match &e.kind {
@@ -99,13 +98,26 @@ pub fn put_expr(
             put_expr(a, frame, pushed, draft)?;
             put_conversion(&e.ty.ty, kind_of(&a.ty.ty), draft)
         }
+        TKind::Unary(UnaryOp::Not, a) => {
+            let truth = truth_labels(draft)?;
+            put_test(a, frame, pushed, truth.no, true, draft)?;
+            put_truth(truth.no, truth.end, draft)
+        }
         TKind::Unary(op, a) => {
             put_expr(a, frame, pushed, draft)?;
             put_unary(*op, width_of(kind_of(&a.ty.ty)), draft)
         }
         TKind::Binary(op, a, b) => put_binary(a, b, *op, frame, pushed, draft),
-        TKind::And(a, b) => put_both(a, b, frame, pushed, draft),
-        TKind::Or(a, b) => put_either(a, b, frame, pushed, draft),
+        TKind::And(a, b) => {
+            let truth = truth_labels(draft)?;
+            put_joint(a, b, false, frame, pushed, truth.no, false, draft)?;
+            put_truth(truth.no, truth.end, draft)
+        }
+        TKind::Or(a, b) => {
+            let truth = truth_labels(draft)?;
+            put_joint(a, b, true, frame, pushed, truth.no, false, draft)?;
+            put_truth(truth.no, truth.end, draft)
+        }
         TKind::Cond(c, a, b) => put_choice(c, a, b, frame, pushed, draft),
         TKind::Comma(a, b) => {
             put_expr(a, frame, pushed, draft)?;
@@ -158,20 +170,72 @@ pub fn put_expr(
     }
 }
 
-// A place whose address takes no lines of code has no labels.
-fn skip(
-    a: &TExpr,
-    place: Place,
+/// A test of an expression, where so many bytes wait: the lines lead to a label where its truth is this,
+/// and go on else.
+#[cycle(expression)]
+pub fn put_test(
+    e: &TExpr,
+    frame: &Frame<'_>,
+    pushed: u16,
+    to: u32,
+    sense: bool,
+    draft: &mut Draft,
+) -> Result<(), AllocError>
+    ensures lines { OnOk result (draft.new ≡ grown draft.old (expr_code frame.now pushed draft.old.labels (Test to sense) (typed_of e.now)) (uses (Some sense) (typed_of e.now))) }
+    ensures kept { OnErr result (Keeps draft.old draft.new) }
+{
+    match &e.kind {
+        TKind::Const(z) => put_decided(residue_of(*z) != 0, sense, to, draft),
+        TKind::Null => put_decided(false, sense, to, draft),
+        TKind::Load(a) => put_load_test(a, frame, pushed, to, sense, draft),
+        TKind::Convert(a) => {
+            if same_truth(&e.ty.ty, &a.ty.ty) {
+                put_test(a, frame, pushed, to, sense, draft)
+            } else {
+                put_expr(a, frame, pushed, draft)?;
+                put_conversion(&e.ty.ty, kind_of(&a.ty.ty), draft)?;
+                put_value_test(width_of(kind_of(&e.ty.ty)), sense, to, draft)
+            }
+        }
+        TKind::Unary(UnaryOp::Not, a) => put_test(a, frame, pushed, to, !sense, draft),
+        TKind::Binary(op, a, b) => match relation_of(*op) {
+            Some(relation) => {
+                put_comparison(a, b, *op, relation, frame, pushed, to, sense, draft)
+            }
+            None => {
+                put_operator(a, b, *op, frame, pushed, draft)?;
+                put_value_test(width_of(kind_of(&e.ty.ty)), sense, to, draft)
+            }
+        },
+        TKind::And(a, b) => put_joint(a, b, false, frame, pushed, to, sense, draft),
+        TKind::Or(a, b) => put_joint(a, b, true, frame, pushed, to, sense, draft),
+        TKind::Comma(a, b) => {
+            put_expr(a, frame, pushed, draft)?;
+            put_test(b, frame, pushed, to, sense, draft)
+        }
+        _ => {
+            put_expr(e, frame, pushed, draft)?;
+            put_value_test(width_of(kind_of(&e.ty.ty)), sense, to, draft)
+        }
+    }
+}
+
+/// The value or a test.
+#[cycle(expression)]
+fn put_wanted(
+    e: &TExpr,
+    wanted: Wanted,
     frame: &Frame<'_>,
     pushed: u16,
     draft: &mut Draft,
 ) -> Result<(), AllocError>
-    requires at { place ≡ place_of frame.now pushed (typed_of a.now) }
-    requires known { IsKnown place }
-    ensures lines { OnOk result (draft.new ≡ grown draft.old [] (uses (typed_of a.now))) }
+    ensures lines { OnOk result (draft.new ≡ grown draft.old (expr_code frame.now pushed draft.old.labels wanted (typed_of e.now)) (uses (sense_of wanted) (typed_of e.now))) }
     ensures kept { OnErr result (Keeps draft.old draft.new) }
 {
-    put(draft, &[])
+    match wanted {
+        Wanted::Value => put_expr(e, frame, pushed, draft),
+        Wanted::Test(to, sense) => put_test(e, frame, pushed, to, sense, draft),
+    }
 }
 
 // The address of a place, where it takes lines of code.
@@ -184,15 +248,62 @@ fn put_target(
     draft: &mut Draft,
 ) -> Result<(), AllocError>
     requires { place ≡ place_of frame.now pushed (typed_of a.now) }
-    ensures lines { OnOk result (draft.new ≡ grown draft.old (target_code place (expr_code frame.now pushed draft.old.labels (typed_of a.now))) (uses (typed_of a.now))) }
+    ensures lines { OnOk result (draft.new ≡ grown draft.old (target_code place (expr_code frame.now pushed draft.old.labels Value (typed_of a.now))) (uses None (typed_of a.now))) }
     ensures kept { OnErr result (Keeps draft.old draft.new) }
 {
     match place {
         Place::Far => put_expr(a, frame, pushed, draft),
-        Place::Bank(_) | Place::Near(_) | Place::Data(_, _) => skip(a, place, frame, pushed, draft),
+        Place::Bank(_) | Place::Near(_) | Place::Data(_, _) => leave_place(a, place, frame, pushed, draft),
     }
 }
 
+// A number that is kept at a known place is tested where it lies.
+#[cycle(expression)]
+fn put_load_test(
+    a: &TExpr,
+    frame: &Frame<'_>,
+    pushed: u16,
+    to: u32,
+    sense: bool,
+    draft: &mut Draft,
+) -> Result<(), AllocError>
+    ensures lines { OnOk result (draft.new ≡ grown draft.old (load_test_code frame.now pushed draft.old.labels to sense (typed_of a.now)) (uses None (typed_of a.now))) }
+    ensures kept { OnErr result (Keeps draft.old draft.new) }
+{
+    let place = place_of(frame, pushed, a);
+    let access = access_of(&frame.parts().types, a);
+    match kept_at(place, access) {
+        Some(direct) => {
+            leave_place(a, place, frame, pushed, draft)?;
+            put_own_test(direct, value_type(access), sense, to, draft)
+        }
+        None => {
+            put_target(a, place, frame, pushed, draft)?;
+            load(place, access, draft)?;
+            put_value_test(width_of(value_type(access)), sense, to, draft)
+        }
+    }
+}
+
+/// The labels of a truth value: where a test of it leads if it fails, and where both ways meet.
+#[derive(Clone, Copy)]
+struct Truth {
+    no: u32,
+    end: u32,
+}
+
+fn truth_labels(draft: &mut Draft) -> Result<Truth, AllocError>
+    ensures no { IfOk result (λ t. t.no ≡ draft.old.labels) }
+    ensures end { IfOk result (λ t. t.end ≡ draft.old.labels + 1) }
+    ensures draft { OnOk result (draft.new ≡ grown draft.old [] 2) }
+    ensures kept { OnErr result (Keeps draft.old draft.new) }
+{
+    let no = next_label(draft)?;
+    let end = next_label(draft)?;
+    Ok(Truth { no, end })
+}
+
+// The value of an operator, or the truth value of a comparison.
 #[cycle(expression)]
 fn put_binary(
     a: &TExpr,
@@ -202,83 +313,162 @@ fn put_binary(
     pushed: u16,
     draft: &mut Draft,
 ) -> Result<(), AllocError>
-    ensures lines { OnOk result (draft.new ≡ grown draft.old (binary_code frame.now pushed draft.old.labels op (typed_of a.now) (typed_of b.now)) (uses (typed_of a.now) + uses (typed_of b.now))) }
+    ensures lines { OnOk result (draft.new ≡ grown draft.old (binary_code frame.now pushed draft.old.labels op (typed_of a.now) (typed_of b.now)) (binary_uses op (typed_of a.now) (typed_of b.now))) }
     ensures kept { OnErr result (Keeps draft.old draft.new) }
 {
-    let operands = operands_of(frame, &a.ty.ty, &b.ty.ty);
-    let wait = waiting(width_of(computes(operands)));
-    match short_of(op, operands, b) {
-        Some(number) => {
-            put_expr(a, frame, pushed, draft)?;
-            put_short(op, operands, number, b, draft)
+    match relation_of(op) {
+        Some(relation) => {
+            let truth = truth_labels(draft)?;
+            put_comparison(a, b, op, relation, frame, pushed, truth.no, false, draft)?;
+            put_truth(truth.no, truth.end, draft)
         }
-        None => {
+        None => put_operator(a, b, op, frame, pushed, draft),
+    }
+}
+
+#[cycle(expression)]
+fn put_operator(
+    a: &TExpr,
+    b: &TExpr,
+    op: BinaryOp,
+    frame: &Frame<'_>,
+    pushed: u16,
+    draft: &mut Draft,
+) -> Result<(), AllocError>
+    ensures lines { OnOk result (draft.new ≡ grown draft.old (operator_code frame.now pushed draft.old.labels op (typed_of a.now) (typed_of b.now)) (1 + (uses None (typed_of a.now) + uses None (typed_of b.now)))) }
+    ensures kept { OnErr result (Keeps draft.old draft.new) }
+{
+    let label = next_label(draft)?;
+    let operands = operands_of(frame, &a.ty.ty, &b.ty.ty);
+    match operating_of(frame, pushed, op, operands, a, b) {
+        Operating::Left(form) => {
             put_expr(a, frame, pushed, draft)?;
-            put_between(operands, draft)?;
+            leave_out(b, Wanted::Value, draft)?;
+            put_form(form, label, draft)
+        }
+        Operating::Right(form) => {
+            leave_out(a, Wanted::Value, draft)?;
+            put_expr(b, frame, pushed, draft)?;
+            put_form(form, label, draft)
+        }
+        Operating::Stacked => {
+            let wait = waiting(width_of(computes(operands)));
+            put_expr(a, frame, pushed, draft)?;
+            put_waiting(operands, draft)?;
             put_expr(b, frame, more(pushed, wait), draft)?;
-            put_behind(op, operands, kind_of(&b.ty.ty), draft)
+            put_stacked(op, operands, kind_of(&b.ty.ty), draft)?;
+            put(draft, &[Label(label)])
         }
     }
 }
 
-// `&&`: the test of a side that is zero leaves 0 in A.
+// A comparison leads to a label where its truth is this.
 #[cycle(expression)]
-fn put_both(
+fn put_comparison(
     a: &TExpr,
     b: &TExpr,
+    op: BinaryOp,
+    relation: Relation,
     frame: &Frame<'_>,
     pushed: u16,
+    to: u32,
+    sense: bool,
     draft: &mut Draft,
 ) -> Result<(), AllocError>
-    ensures lines { OnOk result (draft.new ≡ grown draft.old (both_code frame.now pushed draft.old.labels (typed_of a.now) (typed_of b.now)) (1 + (uses (typed_of a.now) + uses (typed_of b.now)))) }
+    ensures lines { OnOk result (draft.new ≡ grown draft.old (comparison_code frame.now pushed draft.old.labels to sense op relation (typed_of a.now) (typed_of b.now)) (comparison_uses (relation_by sense relation) (typed_of a.now) (typed_of b.now))) }
     ensures kept { OnErr result (Keeps draft.old draft.new) }
 {
-    let no = next_label(draft)?;
-    put_expr(a, frame, pushed, draft)?;
-    test(width_of(kind_of(&a.ty.ty)), draft)?;
-    put(draft, &[Do(Beq, Relative, To(no))])?;
-    put_expr(b, frame, pushed, draft)?;
-    test(width_of(kind_of(&b.ty.ty)), draft)?;
-    put(
-        draft,
-        &[
-            Do(Beq, Relative, To(no)),
-            Do(Lda, Immediate, Byte(1)),
-            Label(no),
-            Do(Ldx, Immediate, Byte(0)),
-        ],
-    )
+    let own = next_label(draft)?;
+    let operands = operands_of(frame, &a.ty.ty, &b.ty.ty);
+    let held = relation_by(sense, relation);
+    let left = wanted_by(tested_by(held, b), to);
+    let right = wanted_by(tested_by(held, a), to);
+    match comparing_of(frame, pushed, held, computes(operands), a, b) {
+        Comparing::Truth(side) => {
+            put_side(side, a, left, b, right, frame, pushed, draft)?;
+            put(draft, &[Label(own)])
+        }
+        Comparing::Byte(side, None, relation, byte) => {
+            put_side(side, a, left, b, right, frame, pushed, draft)?;
+            put_compare_byte(relation, byte, to, draft)?;
+            put(draft, &[Label(own)])
+        }
+        Comparing::Byte(_, Some(low), relation, byte) => {
+            leave_out(a, left, draft)?;
+            leave_out(b, right, draft)?;
+            put_op(Lda, low, draft)?;
+            put_compare_byte(relation, byte, to, draft)?;
+            put(draft, &[Label(own)])
+        }
+        Comparing::Whole(side, relation, is_signed, sides) => {
+            put_side(side, a, left, b, right, frame, pushed, draft)?;
+            put_compare(relation, is_signed, sides, own, to, draft)
+        }
+        Comparing::Stacked => {
+            let wait = waiting(width_of(computes(operands)));
+            put_wanted(a, left, frame, pushed, draft)?;
+            put_between(operands, draft)?;
+            put_wanted(b, right, frame, more(pushed, wait), draft)?;
+            put_behind(op, operands, kind_of(&b.ty.ty), draft)?;
+            put_outcome_test(sense, to, draft)?;
+            put(draft, &[Label(own)])
+        }
+    }
 }
 
-// `||`
+// One of two sides; the other one is read where it lies.
 #[cycle(expression)]
-fn put_either(
+fn put_side(
+    side: Side,
     a: &TExpr,
+    left: Wanted,
     b: &TExpr,
+    right: Wanted,
     frame: &Frame<'_>,
     pushed: u16,
     draft: &mut Draft,
 ) -> Result<(), AllocError>
-    ensures lines { OnOk result (draft.new ≡ grown draft.old (either_code frame.now pushed draft.old.labels (typed_of a.now) (typed_of b.now)) (2 + (uses (typed_of a.now) + uses (typed_of b.now)))) }
+    requires { IsFree side (sense_of left) (typed_of a.now) (sense_of right) (typed_of b.now) }
+    ensures lines { OnOk result (draft.new ≡ grown draft.old (on side (expr_code frame.now pushed draft.old.labels left (typed_of a.now)) (expr_code frame.now pushed (draft.old.labels + uses (sense_of left) (typed_of a.now)) right (typed_of b.now))) (uses (sense_of left) (typed_of a.now) + uses (sense_of right) (typed_of b.now))) }
     ensures kept { OnErr result (Keeps draft.old draft.new) }
 {
-    let yes = next_label(draft)?;
-    let no = next_label(draft)?;
-    put_expr(a, frame, pushed, draft)?;
-    test(width_of(kind_of(&a.ty.ty)), draft)?;
-    put(draft, &[Do(Bne, Relative, To(yes))])?;
-    put_expr(b, frame, pushed, draft)?;
-    test(width_of(kind_of(&b.ty.ty)), draft)?;
-    put(
-        draft,
-        &[
-            Do(Beq, Relative, To(no)),
-            Label(yes),
-            Do(Lda, Immediate, Byte(1)),
-            Label(no),
-            Do(Ldx, Immediate, Byte(0)),
-        ],
-    )
+    match side {
+        Side::Left => {
+            put_wanted(a, left, frame, pushed, draft)?;
+            leave_out(b, right, draft)
+        }
+        Side::Right => {
+            leave_out(a, left, draft)?;
+            put_wanted(b, right, frame, pushed, draft)
+        }
+    }
+}
+
+// `&&` and `||`: a left side of this truth decides. Where the truth of the whole is that of the test,
+// they lead to its label.
+#[cycle(expression)]
+fn put_joint(
+    a: &TExpr,
+    b: &TExpr,
+    stop: bool,
+    frame: &Frame<'_>,
+    pushed: u16,
+    to: u32,
+    sense: bool,
+    draft: &mut Draft,
+) -> Result<(), AllocError>
+    ensures lines { OnOk result (draft.new ≡ grown draft.old (joint_code frame.now pushed draft.old.labels to sense stop (typed_of a.now) (typed_of b.now)) (way_labels (is_straight stop sense) + (uses (Some stop) (typed_of a.now) + uses (Some sense) (typed_of b.now)))) }
+    ensures kept { OnErr result (Keeps draft.old draft.new) }
+{
+    if is_straight(stop, sense) {
+        put_test(a, frame, pushed, to, stop, draft)?;
+        put_test(b, frame, pushed, to, sense, draft)
+    } else {
+        let own = next_label(draft)?;
+        put_test(a, frame, pushed, own, stop, draft)?;
+        put_test(b, frame, pushed, to, sense, draft)?;
+        put(draft, &[Label(own)])
+    }
 }
 
 // `?:`
@@ -291,14 +481,12 @@ fn put_choice(
     pushed: u16,
     draft: &mut Draft,
 ) -> Result<(), AllocError>
-    ensures lines { OnOk result (draft.new ≡ grown draft.old (choice_code frame.now pushed draft.old.labels (typed_of c.now) (typed_of a.now) (typed_of b.now)) (2 + (uses (typed_of c.now) + (uses (typed_of a.now) + uses (typed_of b.now))))) }
+    ensures lines { OnOk result (draft.new ≡ grown draft.old (choice_code frame.now pushed draft.old.labels (typed_of c.now) (typed_of a.now) (typed_of b.now)) (2 + (uses (Some false) (typed_of c.now) + (uses None (typed_of a.now) + uses None (typed_of b.now))))) }
     ensures kept { OnErr result (Keeps draft.old draft.new) }
 {
     let other = next_label(draft)?;
     let end = next_label(draft)?;
-    put_expr(c, frame, pushed, draft)?;
-    test(width_of(kind_of(&c.ty.ty)), draft)?;
-    put(draft, &[Do(Beq, Relative, To(other))])?;
+    put_test(c, frame, pushed, other, false, draft)?;
     put_expr(a, frame, pushed, draft)?;
     put(draft, &[Do(Jmp, Absolute, To(end)), Label(other)])?;
     put_expr(b, frame, pushed, draft)?;
@@ -314,7 +502,7 @@ fn put_assign(
     pushed: u16,
     draft: &mut Draft,
 ) -> Result<(), AllocError>
-    ensures lines { OnOk result (draft.new ≡ grown draft.old (assign_code frame.now pushed draft.old.labels (typed_of a.now) (typed_of b.now)) (uses (typed_of a.now) + uses (typed_of b.now))) }
+    ensures lines { OnOk result (draft.new ≡ grown draft.old (assign_code frame.now pushed draft.old.labels (typed_of a.now) (typed_of b.now)) (uses None (typed_of a.now) + uses None (typed_of b.now))) }
     ensures kept { OnErr result (Keeps draft.old draft.new) }
 {
     let place = place_of(frame, pushed, a);
@@ -335,7 +523,7 @@ fn put_compound(
     pushed: u16,
     draft: &mut Draft,
 ) -> Result<(), AllocError>
-    ensures lines { OnOk result (draft.new ≡ grown draft.old (compound_code frame.now pushed draft.old.labels op operands (typed_of a.now) (typed_of b.now)) (uses (typed_of a.now) + uses (typed_of b.now))) }
+    ensures lines { OnOk result (draft.new ≡ grown draft.old (compound_code frame.now pushed draft.old.labels op operands (typed_of a.now) (typed_of b.now)) (uses None (typed_of a.now) + uses None (typed_of b.now))) }
     ensures kept { OnErr result (Keeps draft.old draft.new) }
 {
     let place = place_of(frame, pushed, a);

@@ -3,13 +3,18 @@
 
 mod arguments;
 mod calls;
+mod comparing;
+mod constants;
+mod direct;
 mod expr;
+mod leaving;
 mod operands;
+mod operating;
 mod places;
-mod shorts;
 mod spills;
 mod steps;
 mod types;
+mod wanted;
 
 pub use c65_genframe::{Frame, Home};
-pub use expr::{gen_expr, put_expr};
+pub use expr::{gen_expr, put_expr, put_test};

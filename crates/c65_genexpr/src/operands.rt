@@ -2,14 +2,15 @@
 ghost use Rattle.std.specs.Prelude.{◌≡◌, OnOk, OnErr};
 ghost use Rattle.c65_ctype.specs.Views.{ty_of};
 ghost use Rattle.c65_genwide.specs.Lines.{with_lines, Keeps};
-ghost use Rattle.c65_genexpr.specs.Operands.{operands_of, computes, between_code, behind_code, unary_code, conversion_code};
+ghost use Rattle.c65_genexpr.specs.Operands.{operands_of, computes, between_code, behind_code, unary_code, conversion_code, same_truth};
 
 use crate::types::{kind_of, target_bytes};
 use c65_base::{BinaryOp, UnaryOp};
 use c65_code::{Draft, Routine, UnaryRoutine, Width};
 use c65_ctype::CType;
 use c65_genframe::Frame;
-use c65_genload::{convert, divide, push, scale};
+use c65_csem::is_scalar;
+use c65_genload::{bytes_of, convert, divide, push, scale};
 use c65_genwide::{put, put_wide, run, width_of};
 use c65_ints::IntType;
 use std::alloc::AllocError;
@@ -93,7 +94,7 @@ pub fn put_behind(
     }
 }
 
-/// `-`, `~` and `!`.
+/// `-` and `~`.
 pub fn put_unary(op: UnaryOp, width: Width, draft: &mut Draft) -> Result<(), AllocError>
     ensures lines { OnOk result (draft.new ≡ with_lines draft.old (unary_code op width)) }
     ensures kept { OnErr result (Keeps draft.old draft.new) }
@@ -101,9 +102,15 @@ pub fn put_unary(op: UnaryOp, width: Width, draft: &mut Draft) -> Result<(), All
     match op {
         UnaryOp::Neg => run(draft, Routine::Unary(UnaryRoutine::Neg, width)),
         UnaryOp::BitNot => run(draft, Routine::Unary(UnaryRoutine::Compl, width)),
-        UnaryOp::Not => run(draft, Routine::Unary(UnaryRoutine::BNeg, width)),
         _ => put(draft, &[]),
     }
+}
+
+/// Whether a converted value is zero just where the value is.
+pub fn same_truth(to: &CType, from: &CType) -> bool
+    ensures { result ≡ same_truth (ty_of to.now) (ty_of from.now) }
+{
+    is_scalar(to) && is_scalar(from) && bytes_of(kind_of(from)) <= bytes_of(kind_of(to))
 }
 
 /// A conversion, also to void (C90 6.3.4).

@@ -5,7 +5,7 @@ ghost use Rattle.c65_genwide.specs.Lines.{with_lines, Keeps};
 ghost use Rattle.c65_genexpr.specs.Steps.{is_up, is_post, amount_of, back_code, after_code, step_code, open_code, close_code};
 
 use crate::operands::{Operands, computes, put_behind};
-use crate::shorts::negative;
+use crate::constants::negative;
 use crate::types::target_bytes;
 use c65_base::{BinaryOp, StepKind};
 use c65_code::Draft;

@@ -9,12 +9,12 @@ mod loads;
 mod numbers;
 mod places;
 mod stores;
-mod zero_page;
+pub mod zero_page;
 
 pub use address::{put_address, put_offset, put_raised, put_symbol};
 pub use conversions::{bytes_of, convert, push, test, waiting};
 pub use fields::{extract, in_field};
 pub use loads::{hold, load, load_bytes};
-pub use numbers::{add, divide, number, scale};
-pub use places::{Access, Extent, Field, Place, extent_by, held, value_type};
+pub use numbers::{add, divide, first, fourth, mask, number, scale, second, third};
+pub use places::{Access, Extent, Field, Place, extent_by, extent_of, held, value_type};
 pub use stores::{copy, store};

@@ -13,25 +13,25 @@ use c65_mach::Mode::{Immediate, Implied, ZeroPage};
 use c65_mach::Op::{Adc, And, Clc, Lda, Ldx, Sta, Tax, Tay, Txa, Tya};
 use std::alloc::AllocError;
 
-fn first(number: u32) -> u8
+pub fn first(number: u32) -> u8
     ensures { result ≡ first number }
 {
     (number % 256) as u8
 }
 
-fn second(number: u32) -> u8
+pub fn second(number: u32) -> u8
     ensures { result ≡ second number }
 {
     (number / 256 % 256) as u8
 }
 
-fn third(number: u32) -> u8
+pub fn third(number: u32) -> u8
     ensures { result ≡ third number }
 {
     (number / 65_536 % 256) as u8
 }
 
-fn fourth(number: u32) -> u8
+pub fn fourth(number: u32) -> u8
     ensures { result ≡ fourth number }
 {
     (number / 16_777_216 % 256) as u8

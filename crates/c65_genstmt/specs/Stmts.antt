@@ -1,9 +1,9 @@
 -- Statements as lines (C90 6.6): what becomes of a draft. Where jumps lead is given; l is the label of the next case of the
 -- innermost switch.
-use Rattle.std.specs.Prelude.{ℕ, ◌+◌, if◌then◌else◌, [], ◌∷◌, length}
+use Rattle.std.specs.Prelude.{ℕ, ◌+◌, true, false, if◌then◌else◌, [], ◌∷◌, length}
 use Rattle.c65_csem.specs.Trees.{Typed, MaybeTyped, absent, present, Stmt, empty, eval, set_part, clear, block, if_stmt, while, do_while, for_loop, switch, case, default, label, goto, break, continue, return, Stmts, no_stmts, and_stmts}
 use Rattle.c65_csem.specs.Statements.{cases_of}
-use Rattle.c65_mach.specs.declared.rows.Op.TheVariants.{Beq, Bne, Jmp}
+use Rattle.c65_mach.specs.declared.rows.Op.TheVariants.{Jmp}
 use Rattle.c65_code.specs.declared.line.Line.TheVariants.{Label}
 use Rattle.c65_code.specs.Segments.{Drafted}
 use Rattle.c65_genframe.specs.Frames.{Framed}
@@ -14,7 +14,7 @@ use Rattle.c65_genentry.specs.Drafts.{with_labels}
 use Rattle.c65_genentry.specs.Words.{jump, with_code}
 use Rattle.c65_genentry.specs.Choice.{choice_code}
 use Rattle.c65_genstmt.specs.declared.jumps.Ways.{Ways}
-use Rattle.c65_genstmt.specs.Jumps.{following, with_value, with_condition}
+use Rattle.c65_genstmt.specs.Jumps.{following, with_value, with_test}
 use Rattle.c65_genstmt.specs.Objects.{with_set, with_cleared}
 use Rattle.c65_genstmt.specs.Cases.{has_default}
 
@@ -55,10 +55,10 @@ abbrev pub with_maybe : Framed → MaybeTyped → Drafted → Drafted
 with_maybe f absent d = d
 with_maybe f (present e) d = with_value f e d
 
--- a test of a loop, where there is one, and a branch where it fails
-abbrev pub with_test : Framed → ℕ → MaybeTyped → Drafted → Drafted
-with_test f end absent d = d
-with_test f end (present e) d = with_condition f Beq end e d
+-- the test of a loop, where there is one, which leaves it where it fails
+abbrev pub with_guard : Framed → ℕ → MaybeTyped → Drafted → Drafted
+with_guard f end absent d = d
+with_guard f end (present e) d = with_test f end false e d
 
 abbrev pub ways : ℕ → ℕ → ℕ → Ways
 ways behind onward other = record { behind = behind; onward = onward; other = other }
@@ -75,7 +75,7 @@ with_choice f e a d =
 
 -- the end of a loop that tests behind its body
 abbrev pub with_bottom : Framed → ℕ → ℕ → ℕ → Typed → Drafted → Drafted
-with_bottom f head onward end e d = with_label end (with_condition f Bne head e (with_label onward d))
+with_bottom f head onward end e d = with_label end (with_test f head true e (with_label onward d))
 
 abbrev mutual
   pub with_stmt : Framed → Ways → ℕ → Stmt → Drafted → Drafted
@@ -85,18 +85,18 @@ abbrev mutual
   with_stmt f w l (clear i) d = with_cleared f i d
   with_stmt f w l (block os ss) d = with_stmts f w l ss d
   with_stmt f w l (if_stmt e a b) d =
-      let first = with_stmt f w l a (with_condition f Beq d.labels e (two_given d)) in
+      let first = with_stmt f w l a (with_test f d.labels false e (two_given d)) in
       let second = with_stmt f w (case_behind l a) b (with_label d.labels (with_jump (d.labels + 1) first)) in
       with_label (d.labels + 1) second
   with_stmt f w l (while e a) d =
-      let body = with_stmt f (ways (d.labels + 1) d.labels w.other) l a (with_condition f Beq (d.labels + 1) e (with_label d.labels (two_given d))) in
+      let body = with_stmt f (ways (d.labels + 1) d.labels w.other) l a (with_test f (d.labels + 1) false e (with_label d.labels (two_given d))) in
       with_label (d.labels + 1) (with_jump d.labels body)
   with_stmt f w l (do_while a e) d =
       let body = with_stmt f (ways (d.labels + 1 + 1) (d.labels + 1) w.other) l a (with_label d.labels (three_given d)) in
       with_bottom f d.labels (d.labels + 1) (d.labels + 1 + 1) e body
   with_stmt f w l (for_loop i c n a) d =
       let g = with_maybe f i d in
-      let body = with_stmt f (ways (g.labels + 1 + 1) (g.labels + 1) w.other) l a (with_test f (g.labels + 1 + 1) c (with_label g.labels (three_given g))) in
+      let body = with_stmt f (ways (g.labels + 1 + 1) (g.labels + 1) w.other) l a (with_guard f (g.labels + 1 + 1) c (with_label g.labels (three_given g))) in
       with_label (g.labels + 1 + 1) (with_jump g.labels (with_maybe f n (with_label (g.labels + 1) body)))
   with_stmt f w l (switch e a) d =
       with_label d.labels (with_stmt f (ways d.labels w.onward (d.labels + 1)) (d.labels + 1 + 1) a (with_choice f e a d))
@@ -129,5 +129,5 @@ with_switch f w e a d = with_stmt f w 0 (switch e a) d
 -- a loop from its head on
 abbrev pub with_for : Framed → Ways → ℕ → MaybeTyped → MaybeTyped → Stmt → Drafted → Drafted
 with_for f w l c n a g =
-    let body = with_stmt f (ways (g.labels + 1 + 1) (g.labels + 1) w.other) l a (with_test f (g.labels + 1 + 1) c (with_label g.labels (three_given g))) in
+    let body = with_stmt f (ways (g.labels + 1 + 1) (g.labels + 1) w.other) l a (with_guard f (g.labels + 1 + 1) c (with_label g.labels (three_given g))) in
     with_label (g.labels + 1 + 1) (with_jump g.labels (with_maybe f n (with_label (g.labels + 1) body)))

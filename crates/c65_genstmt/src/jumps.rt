@@ -1,4 +1,4 @@
-// Jumps and conditions.
+// Jumps, values and tests.
 ghost use Rattle.std.specs.Prelude.{◌≡◌, ◌∷◌, [], OnOk};
 ghost use Rattle.c65_mach.specs.declared.rows.Op.TheVariants.{Jmp};
 ghost use Rattle.c65_ctype.specs.Views.{ty_of};
@@ -6,15 +6,14 @@ ghost use Rattle.c65_csem.specs.Views.{typed_of};
 ghost use Rattle.c65_genexpr.specs.Types.{kind_of};
 ghost use Rattle.c65_genwide.specs.Lines.{with_lines};
 ghost use Rattle.c65_genentry.specs.Words.{jump};
-ghost use Rattle.c65_genstmt.specs.Jumps.{following, with_value, with_condition};
+ghost use Rattle.c65_genstmt.specs.Jumps.{following, with_value, with_test};
 
 use c65_code::{Draft, Line, Operand};
 use c65_csem::TExpr;
 use c65_ctype::CType;
-use c65_genexpr::put_expr;
+use c65_genexpr::{put_expr, put_test};
 use c65_genframe::Frame;
-use c65_genload::test;
-use c65_genwide::{put, width_of};
+use c65_genwide::put;
 use c65_ints::IntType;
 use c65_mach::{Mode, Op};
 use std::alloc::AllocError;
@@ -64,17 +63,15 @@ pub fn put_value(expr: &TExpr, frame: &Frame<'_>, draft: &mut Draft) -> Result<(
     put_expr(expr, frame, 0, draft)
 }
 
-/// A condition, and a branch where it is zero, or where it is not.
-pub fn put_condition(
+/// A test where no value waits: it leads to a label where the truth of the expression is this.
+pub fn put_truth(
     expr: &TExpr,
     frame: &Frame<'_>,
-    op: Op,
     label: u32,
+    sense: bool,
     draft: &mut Draft,
 ) -> Result<(), AllocError>
-    ensures { OnOk result (draft.new ≡ with_condition frame.now op label (typed_of expr.now) draft.old) }
+    ensures { OnOk result (draft.new ≡ with_test frame.now label sense (typed_of expr.now) draft.old) }
 {
-    put_value(expr, frame, draft)?;
-    test(width_of(kind_of(&expr.ty.ty)), draft)?;
-    put(draft, &[Line::Do(op, Mode::Relative, Operand::To(label))])
+    put_test(expr, frame, 0, label, sense, draft)
 }

@@ -2,17 +2,16 @@
 ghost use Rattle.std.specs.Prelude.{◌≡◌, ◌+◌, IfOk, OnOk};
 ghost use Rattle.c65_csem.specs.Statements.{cases_of};
 ghost use Rattle.c65_csem.specs.Views.{typed_of, maybe_of, stmt_of, stmts_of};
-ghost use Rattle.c65_genstmt.specs.Stmts.{case_behind, case_behind_all, with_maybe, with_test, default_way, with_choice, with_label, three_given, with_bottom, with_stmt, with_stmts, with_if, with_while, with_do, with_for, with_switch};
+ghost use Rattle.c65_genstmt.specs.Stmts.{case_behind, case_behind_all, with_maybe, with_guard, default_way, with_choice, with_label, three_given, with_bottom, with_stmt, with_stmts, with_if, with_while, with_do, with_for, with_switch};
 
 use crate::cases::{add_cases, has_default};
-use crate::jumps::{Ways, following, kind_of, put_condition, put_jump, put_value};
+use crate::jumps::{Ways, following, kind_of, put_jump, put_truth, put_value};
 use crate::objects::{put_clear, put_set};
 use c65_code::Draft;
 use c65_csem::{TExpr, TStmt};
 use c65_genentry::{choose, fresh, label, reserve};
 use c65_genframe::Frame;
 use c65_genwide::width_of;
-use c65_mach::Op;
 use std::alloc::{AllocError, Global};
 
 fn put_maybe(expr: &Option<TExpr>, frame: &Frame<'_>, draft: &mut Draft) -> Result<(), AllocError>
@@ -24,17 +23,17 @@ fn put_maybe(expr: &Option<TExpr>, frame: &Frame<'_>, draft: &mut Draft) -> Resu
     }
 }
 
-/// A test of a loop, where there is one, and a branch where it fails.
-fn put_test(
+/// The test of a loop, where there is one, which leaves it where it fails.
+fn put_guard(
     test: &Option<TExpr>,
     frame: &Frame<'_>,
     end: u32,
     draft: &mut Draft,
 ) -> Result<(), AllocError>
-    ensures { OnOk result (draft.new ≡ with_test frame.now end (maybe_of test.now) draft.old) }
+    ensures { OnOk result (draft.new ≡ with_guard frame.now end (maybe_of test.now) draft.old) }
 {
     match test {
-        Some(test) => put_condition(test, frame, Op::Beq, end, draft),
+        Some(test) => put_truth(test, frame, end, false, draft),
         None => Ok(()),
     }
 }
@@ -118,7 +117,7 @@ fn close_loop(
     ensures { OnOk result (draft.new ≡ with_bottom frame.now turns.head turns.onward turns.end (typed_of test.now) draft.old) }
 {
     label(draft, turns.onward)?;
-    put_condition(test, frame, Op::Bne, turns.head, draft)?;
+    put_truth(test, frame, turns.head, true, draft)?;
     label(draft, turns.end)?;
     Ok(())
 }
@@ -233,7 +232,7 @@ fn put_if(
 {
     let no = fresh(draft)?;
     let end = fresh(draft)?;
-    put_condition(test, frame, Op::Beq, no, draft)?;
+    put_truth(test, frame, no, false, draft)?;
     put_stmt(alloc, body, frame, ways, case, draft)?;
     put_jump(end, draft)?;
     label(draft, no)?;
@@ -258,7 +257,7 @@ fn put_while(
     let head = fresh(draft)?;
     let end = fresh(draft)?;
     label(draft, head)?;
-    put_condition(test, frame, Op::Beq, end, draft)?;
+    put_truth(test, frame, end, false, draft)?;
     let inner = Ways {
         behind: end,
         onward: head,
@@ -313,7 +312,7 @@ fn put_for(
     let onward = fresh(draft)?;
     let end = fresh(draft)?;
     label(draft, head)?;
-    put_test(test, frame, end, draft)?;
+    put_guard(test, frame, end, draft)?;
     let inner = Ways {
         behind: end,
         onward,

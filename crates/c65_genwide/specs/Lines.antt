@@ -20,6 +20,14 @@ call r = Call (callees.Routine r)
 abbrev pub with_lines : Drafted → List Line → Drafted
 with_lines draft lines = record draft { lines = draft.lines ++ lines }
 
+-- the draft with lines behind its own, and so many labels more
+abbrev pub grown : Drafted → List Line → ℕ → Drafted
+grown d lines n = record d { lines = d.lines ++ lines; labels = d.labels + n }
+
+-- a label more
+abbrev pub with_label : Drafted → Drafted
+with_label d = record d { labels = d.labels + 1 }
+
 -- the draft has its old lines, and perhaps new ones behind them and new labels
 pub record Keeps (old new : Drafted) : Type 0 where
   pub lines : List Line

@@ -7,5 +7,5 @@ mod wide;
 mod writing;
 
 pub use passing::pass;
-pub use wide::{gen_wide, narrow, put_wide, width_of};
-pub use writing::{put, run};
+pub use wide::{gen_wide, narrow, put_wide, tos_of, width_of};
+pub use writing::{next_label, put, run};

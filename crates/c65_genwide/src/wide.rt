@@ -28,7 +28,7 @@ fn signed_or(is_signed: bool, signed: TosOp, unsigned: TosOp) -> TosOp
     if is_signed { signed } else { unsigned }
 }
 
-fn tos_of(op: BinaryOp, is_signed: bool) -> TosOp
+pub fn tos_of(op: BinaryOp, is_signed: bool) -> TosOp
     ensures { result ≡ tos_of op is_signed }
 {
     match op {

@@ -10,20 +10,21 @@ use Rattle.c65_code.specs.declared.routine.TheConstants.Routine.{ALL}
 use Rattle.c65_code.specs.Numbering.{number_of}
 use Rattle.c65_rtl.specs.Routines.{is_narrow, lines_of}
 use Rattle.c65_rtlwide.specs.Wide.{is_wide, lines_of as wide_lines_of}
+use Rattle.c65_va.specs.Printf.{is_printf, printf_lines}
 
 -- the hooks have no lines
 abbrev pub has_lines : Routine → Bool
-has_lines r = is_wide r || is_narrow r
+has_lines r = is_wide r || (is_printf r || is_narrow r)
 
 abbrev pub routine_lines : Routine → List Line
-routine_lines r = if is_wide r then wide_lines_of r else lines_of r
+routine_lines r = if is_wide r then wide_lines_of r else if is_printf r then printf_lines else lines_of r
 
 -- by their numbers, which routines are used
 abbrev pub Marks : Type 0
 Marks = List Bool
 
 abbrev pub no_marks : Marks
-no_marks = replicate 122 false
+no_marks = replicate 123 false
 
 abbrev pub marked : Marks → Routine → Marks
 marked marks r = slice_set marks (number_of r) true

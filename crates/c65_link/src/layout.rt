@@ -57,7 +57,7 @@ impl Model for Layout {
 
     ghost view = { λ l. record { at = l.at; symbols = l.symbols.items; routines = l.routines } };
 
-    ghost invariant = { λ l. length l.routines ≡ 122 };
+    ghost invariant = { λ l. length l.routines ≡ 123 };
 }
 
 impl Layout {

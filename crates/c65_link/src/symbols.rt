@@ -19,7 +19,7 @@ pub enum Target {
     Runtime(Library),
 }
 
-const FUNCTIONS: [Library; 9] = [
+const FUNCTIONS: [Library; 10] = [
     Library::Putchar,
     Library::Getchar,
     Library::Puts,
@@ -29,6 +29,7 @@ const FUNCTIONS: [Library; 9] = [
     Library::Strcmp,
     Library::Strcpy,
     Library::Strlen,
+    Library::Printf,
 ];
 
 // Whether it is an underscore and the function's name.

@@ -7,13 +7,14 @@ use crate::symbols::{Target, in_cell, in_line};
 use c65_code::{Callee, Code, DataCell, Datum, Line, Routine, Seg, Sym};
 use c65_rtl::{is_narrow, routine};
 use c65_rtlwide::{is_wide, wide_routine};
+use c65_va::{is_printf, printf_routine};
 use std::alloc::{AllocError, Global};
 use std::marker::Model;
 
 fn is_written(which: Routine) -> bool
     ensures { result ≡ has_lines which }
 {
-    is_wide(which) || is_narrow(which)
+    is_wide(which) || is_printf(which) || is_narrow(which)
 }
 
 /// A routine with its lines.
@@ -43,6 +44,8 @@ impl Part {
     {
         let seg = if is_wide(which) {
             wide_routine(alloc, which)
+        } else if is_printf(which) {
+            printf_routine(alloc)
         } else {
             routine(alloc, which)
         };
@@ -80,7 +83,7 @@ impl Model for Chosen {
 
     ghost view = { λ c. record { marks = c.marks; parts = c.parts.items } };
 
-    ghost invariant = { λ c. length c.marks ≡ 122 };
+    ghost invariant = { λ c. length c.marks ≡ 123 };
 }
 
 impl Chosen {

@@ -99,13 +99,13 @@ order_apart = refl
 
 abbrev Inside : List Routine → Type 0
 Inside [] = Unit {0}
-Inside (r ∷ rs) = (number_of r < 122) × Inside rs
+Inside (r ∷ rs) = (number_of r < 123) × Inside rs
 
-inside : (rs : List Routine) → list_all (λ r. nat_lt (number_of r) 122) rs ≡ true → Inside rs
+inside : (rs : List Routine) → list_all (λ r. nat_lt (number_of r) 123) rs ≡ true → Inside rs
 inside [] h = tt
 inside (r ∷ rs) h =
-    let parts = and_parts (nat_lt (number_of r) 122) (list_all (λ r. nat_lt (number_of r) 122) rs) h in
-    (ltb-true (number_of r) 122 parts.0, inside rs parts.1)
+    let parts = and_parts (nat_lt (number_of r) 123) (list_all (λ r. nat_lt (number_of r) 123) rs) h in
+    (ltb-true (number_of r) 123 parts.0, inside rs parts.1)
 
 inside_sub : (xs ys : List Routine) → IsSub xs ys → Inside ys → Inside xs
 inside_sub _ _ none h = h
@@ -113,7 +113,7 @@ inside_sub _ _ (skip y xs ys s) h = inside_sub xs ys s h.1
 inside_sub _ _ (keep y xs ys s) h = (h.0, inside_sub xs ys s h.1)
 
 -- by computation
-order_inside : list_all (λ r. nat_lt (number_of r) 122) ALL ≡ true
+order_inside : list_all (λ r. nat_lt (number_of r) 123) ALL ≡ true
 order_inside = refl
 
 -- The routines of a code
@@ -144,7 +144,7 @@ later : (rs : List Routine) (layout : Layout) (n : ℕ) → Lacks (map number_of
 later [] layout n h = refl
 later (r ∷ rs) layout n h = later rs (with_routine layout r) n h.1 ∙ get_or-set_other layout.routines (number_of r) n (layout.at % 65536) 0 h.0
 
-lead : (rs : List Routine) (layout : Layout) (k : ℕ) (r : Routine) → slice_get rs k ≡ Some r → Apart rs → Inside rs → length layout.routines ≡ 122 → slice_index (layout_routines layout rs).routines (number_of r) ≡ behind_routines layout.at (take k rs) % 65536
+lead : (rs : List Routine) (layout : Layout) (k : ℕ) (r : Routine) → slice_get rs k ≡ Some r → Apart rs → Inside rs → length layout.routines ≡ 123 → slice_index (layout_routines layout rs).routines (number_of r) ≡ behind_routines layout.at (take k rs) % 65536
 lead [] layout k r here a i wide = none_there r here
 lead (q ∷ rs) layout zero r here a i wide =
     let same : q ≡ r = same_one r q here in
@@ -190,7 +190,7 @@ called code k r here =
     let all : Layout = layout_routines coded (routines_in code) in
     let named : Layout = with_targets all 0 (targets_of code) in
     let given : Layout = with_all_data named code.datums in
-    let wide : length coded.routines ≡ 122 = ap length (functions_keep code.functions begun) in
+    let wide : length coded.routines ≡ 123 = ap length (functions_keep code.functions begun) in
     let at_end : coded.at ≡ behind (first_address code) code.functions = functions_behind code.functions begun in
     let a : slice_index all.routines (number_of r) ≡ behind_routines coded.at (take k (routines_in code)) % 65536 = lead (routines_in code) coded k r here each.apart each.inside wide in
     let b : (with_all_zeros given code.datums).routines ≡ all.routines = zeros_keep code.datums given ∙ data_keep code.datums named ∙ targets_keep (targets_of code) 0 all in

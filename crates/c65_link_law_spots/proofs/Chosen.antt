@@ -50,7 +50,7 @@ if_stays : (b : Bool) (chosen : Chosen) (r q : Routine) → number_of q ≤ numb
 if_stays true chosen r q le later = lines_stay (routine_lines r) chosen.marks r q le later
 if_stays false chosen r q le later = refl
 
-if_more : (b : Bool) (chosen : Chosen) (r : Routine) → length chosen.marks ≡ 122 → More chosen.marks (taken_if b chosen r).marks
+if_more : (b : Bool) (chosen : Chosen) (r : Routine) → length chosen.marks ≡ 123 → More chosen.marks (taken_if b chosen r).marks
 if_more true chosen r wide = calls_more (routine_lines r) chosen.marks wide
 if_more false chosen r wide = no_more chosen.marks
 
@@ -85,7 +85,7 @@ abbrev pub Follows : ℕ → List Routine → Type 0
 Follows n [] = Unit {0}
 Follows n (r ∷ rs) = (number_of r ≡ n) × (list_all (calls_later r) (routine_lines r) ≡ true) × Follows (suc n) rs
 
-pub marks_on : (rs : List Routine) (chosen : Chosen) → length chosen.marks ≡ 122 → More chosen.marks (with_routines chosen rs).marks
+pub marks_on : (rs : List Routine) (chosen : Chosen) → length chosen.marks ≡ 123 → More chosen.marks (with_routines chosen rs).marks
 unfolding with_routines
 marks_on [] chosen wide = no_more chosen.marks
 marks_on (r ∷ rs) chosen wide =
@@ -139,7 +139,7 @@ of_push xs x r h = by xs h.place h.there
     by (y ∷ ys) zero e = inl (record { place = 0; there = e })
     by (y ∷ ys) (suc k) e = next y ys (by ys k e)
 
-if_done : (b : Bool) (chosen : Chosen) (r : Routine) → length chosen.marks ≡ 122 → (b ≡ true → has_lines r ≡ true) → AreDone chosen.parts chosen.marks → AreDone (taken_if b chosen r).parts (taken_if b chosen r).marks
+if_done : (b : Bool) (chosen : Chosen) (r : Routine) → length chosen.marks ≡ 123 → (b ≡ true → has_lines r ≡ true) → AreDone chosen.parts chosen.marks → AreDone (taken_if b chosen r).parts (taken_if b chosen r).marks
 if_done false chosen r wide lined d = d
 if_done true chosen r wide lined d =
     record {
@@ -155,7 +155,7 @@ if_done true chosen r wide lined d =
     called_by q j line s (inl h) here calls = (calls_more (routine_lines r) chosen.marks wide).kept s (d.called q j line s h here calls)
     called_by q j line s (inr e) here calls = calls_mark (routine_lines r) chosen.marks j line s wide (subst (λ (x : Routine). slice_get (routine_lines x) j ≡ Some line) (sym e) here) calls
 
-pub done : (rs : List Routine) (chosen : Chosen) → length chosen.marks ≡ 122 → AreDone chosen.parts chosen.marks → AreDone (with_routines chosen rs).parts (with_routines chosen rs).marks
+pub done : (rs : List Routine) (chosen : Chosen) → length chosen.marks ≡ 123 → AreDone chosen.parts chosen.marks → AreDone (with_routines chosen rs).parts (with_routines chosen rs).marks
 unfolding with_routines
 done [] chosen wide d = d
 done (r ∷ rs) chosen wide d =
@@ -199,7 +199,7 @@ pub record IsWhole (first : Marks) (chosen : Chosen) : Type 0 where
   pub called : (q r : Routine) (j : ℕ) (line : Line) → IsOf chosen.parts q → slice_get (routine_lines q) j ≡ Some line → CallsRoutine line r → has_lines r ≡ true → IsOf chosen.parts r
   pub lined : (q : Routine) → IsOf chosen.parts q → has_lines q ≡ true
 
-pub whole : (first : Marks) → length first ≡ 122 → IsWhole first (chosen_by (record { marks = first; parts = [] }))
+pub whole : (first : Marks) → length first ≡ 123 → IsWhole first (chosen_by (record { marks = first; parts = [] }))
 whole first wide =
     let begun : Chosen = record { marks = first; parts = [] } in
     let more : More first (with_routines begun ALL).marks = marks_on ALL begun wide in

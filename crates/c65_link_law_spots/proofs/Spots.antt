@@ -24,6 +24,8 @@ use Rattle.c65_rtl.specs.Routines.{is_narrow, lines_of}
 use Rattle.c65_rtl.proofs.SegmentLaws.{segment_of as narrow_segment}
 use Rattle.c65_rtlwide.specs.Wide.{is_wide, lines_of as wide_lines_of}
 use Rattle.c65_rtlwide.proofs.SegmentLaws.{segment_of as wide_segment}
+use Rattle.c65_va.specs.Printf.{is_printf, printf_lines}
+use Rattle.c65_va.proofs.SegmentLaws.{printf_segment}
 use Rattle.c65_link.specs.declared.symbols.Target.{Target}
 use Rattle.c65_link.specs.declared.symbols.Target.TheVariants.{Nowhere, Own, Runtime}
 use Rattle.c65_link.specs.Bodies.{Body, with_line, with_lines, body_of, line_size, far_size, far_labels, plus}
@@ -73,13 +75,17 @@ segment_full lines s = closed_full lines (record { far = far_labels [] 0 lines; 
 pub routine_segment : (r : Routine) → has_lines r ≡ true → IsSegment (routine_lines r)
 routine_segment r h = by (is_wide r) refl
   where
-    narrow : is_wide r ≡ false → (is_wide r ≡ true) ⊎ (is_narrow r ≡ true) → is_narrow r ≡ true
-    narrow e (inl g) = absurd (both_ways (is_wide r) e g)
-    narrow e (inr g) = g
+    rest : (a b : Bool) → a ≡ false → (a || b) ≡ true → b ≡ true
+    rest true b e g = absurd cc
+    rest false b e g = g
 
-    by : (b : Bool) → is_wide r ≡ b → IsSegment (if b then wide_lines_of r else lines_of r)
+    other : (b : Bool) → is_printf r ≡ b → (is_printf r || is_narrow r) ≡ true → IsSegment (if b then printf_lines else lines_of r)
+    other true e g = printf_segment
+    other false e g = narrow_segment r (rest (is_printf r) (is_narrow r) e g)
+
+    by : (b : Bool) → is_wide r ≡ b → IsSegment (if b then wide_lines_of r else if is_printf r then printf_lines else lines_of r)
     by true e = wide_segment r e
-    by false e = narrow_segment r (narrow e (or_cases (is_wide r) (is_narrow r) h))
+    by false e = other (is_printf r) refl (rest (is_wide r) (is_printf r || is_narrow r) e h)
 
 -- Sizes of functions and routines
 

@@ -47,7 +47,7 @@ place_in code = record (addresses_in code) { constant = constant_at (addresses_i
 -- which stands once by itself, the number behind all routines.
 
 abbrev pub routine_count : ℕ
-routine_count = 122
+routine_count = 123
 
 abbrev pub lines_by : Option Routine → List Line
 lines_by None = []

@@ -1,24 +1,25 @@
 -- What calls and the library leave of output, turns and names of blocks.
-use Rattle.std.proofs.Common.{arith, ◌≡◌, ℕ, zero, suc, ◌*◌, refl, sym, length, List, [], ◌∷◌, ◌++◌, append-nil, ℤ, pos, negsuc, Bool, true, false, ◌∙◌}
+use Rattle.std.proofs.Common.{arith, ◌≡◌, ℕ, zero, suc, ◌*◌, refl, sym, take, length, List, [], ◌∷◌, ◌++◌, append-nil, ℤ, pos, negsuc, Bool, true, false, ◌∙◌}
 use Rattle.std.specs.Prelude.{Result, Ok, Err, Option, Some, None, ⊤, slice_get, not, ◌&&◌}
 use Rattle.c65_ints.specs.Ranges.{residue}
 use Rattle.c65_ctype.specs.Trees.{Ty}
 use Rattle.c65_base.specs.declared.library.Library.{Library}
-use Rattle.c65_base.specs.declared.library.Library.TheVariants.{Putchar, Getchar, Puts, Exit, Memcpy, Memset, Strcmp, Strcpy, Strlen}
+use Rattle.c65_base.specs.declared.library.Library.TheVariants.{Putchar, Getchar, Puts, Exit, Memcpy, Memset, Strcmp, Strcpy, Strlen, Printf}
 use Rattle.c65_csem.specs.Trees.{Stmt, FuncTy, UnitTy}
-use Rattle.c65_meaning.specs.Why.{Why, ◌>>=◌, By}
-use Rattle.c65_meaning.specs.Store.{write, Cell, list_block, Value, Whole, Null, Place, Opaque, Cells, NoValue, Shape, Store}
+use Rattle.c65_meaning.specs.Why.{Why, ◌>>=◌, By, or_by}
+use Rattle.c65_meaning.specs.Store.{write, Cell, list_block, nth_cell, Value, Whole, Null, Place, Opaque, Cells, NoValue, Shape, Store}
 use Rattle.c65_meaning.specs.Shapes.{object_in, object_shape}
 use Rattle.c65_meaning.specs.Items.{Item, Busy}
 use Rattle.c65_meaning.specs.Costs.{soft_cost, argument_bytes, has_fixed}
 use Rattle.c65_meaning.specs.State.{State, Deep, Running, Scene, Frame, turned, Undefined, rest_in, name_rest}
 use Rattle.c65_meaning.specs.After.{Left}
-use Rattle.c65_meaning.specs.Library.{Effect, effect_of, arg0, arg1, arg2, arg3, number_in, count_in, got, copied_area, filled_area, text_at, compared_texts, stores}
-use Rattle.c65_meaning.specs.Step.{put, begin_object, status_of, back_in, left_call, frames_below, without_frame, params_of, func_in, returned, behind, end_objects, finished, ended_or, library_call, served, called, accepted, allowed, unless_refused, call_of, invoked, unless_deep, with_params, new_frame, is_deep, is_active, begin_rest, with_rest, further, with_passed, end_arguments}
-use Rattle.c65_meaning.specs.Calls.{is_variadic}
+use Rattle.c65_meaning.specs.Library.{Effect, effect_of, arg0, arg1, arg2, arg3, number_in, count_in, got, copied_area, filled_area, text_at, compared_texts, stores, drawn, printed}
+use Rattle.c65_base.specs.Formats.{parts_of, text_of}
+use Rattle.c65_meaning.specs.Step.{put, begin_object, status_of, back_in, left_call, frames_below, without_frame, params_of, func_in, returned, behind, end_objects, finished, ended_or, library_call, served, called, accepted, allowed, unless_refused, call_of, invoked, unless_deep, with_params, new_frame, is_deep, is_active, begin_rest, with_rest, cells_behind, further, with_passed, end_arguments}
+use Rattle.c65_meaning.specs.Calls.{is_variadic, named_count}
 use Rattle.c65_meaning.proofs.Blocks.{same_later, Keeps, KeepsIf, write_keeps, copied_keeps, filled_area_keeps}
 use Rattle.c65_meaning.proofs.Grown.{Grown, Same, SameIf, itself, same_twice, no_later, more_out, runs, turns_on, same, one_grows, if_grows, stored_same, then_same, begin_keeps, block_begins, end_one, end_same}
-use Rattle.c65_meaning.specs.declared.action.Action.TheVariants.{FixedAgain}
+use Rattle.c65_meaning.specs.declared.action.Action.TheVariants.{FixedAgain, LibraryArgument}
 
 -- ---- ends of calls
 
@@ -122,16 +123,21 @@ copy_grows : (c : Scene) (to from : Value) (o : Result (List ℕ) Why) → Effec
 copy_grows c to from (Err why) = tt
 copy_grows c to from (Ok text) = storing c (2 * suc (length text)) to (copied_area c.store to from (suc (length text))) (copied_keeps c.store to from (suc (length text)))
 
-effect_grows : (c : Scene) (f : Library) (args : List Value) → EffectGrows c (effect_of c f args)
-effect_grows c Putchar args = arg1_grows c args _ (λ v. number_grows c v _ (λ z. writes c _ (residue 256 z ∷ []) refl refl))
-effect_grows c Getchar args = arg0_grows c args _ (got_grows c c.input)
-effect_grows c Puts args = arg1_grows c args _ (λ v. then_grows c (text_at c.store v) _ (λ text. writes c _ (text ++ 10 ∷ []) refl refl))
-effect_grows c Exit args = arg1_grows c args _ (λ v. number_grows c v _ (λ z. nothing c _ refl refl))
-effect_grows c Memcpy args = arg3_grows c args _ (λ to from v. count_grows c v _ (λ n. storing c (2 * n) to (copied_area c.store to from n) (copied_keeps c.store to from n)))
-effect_grows c Memset args = arg3_grows c args _ (λ to v w. number_grows c v _ (λ z. count_grows c w _ (λ n. storing c n to (filled_area c.store to n (residue 256 z)) (filled_area_keeps c.store to n (residue 256 z)))))
-effect_grows c Strcmp args = arg2_grows c args _ (λ v w. then_grows c (compared_texts c.store v w) _ (λ d. nothing c _ refl refl))
-effect_grows c Strcpy args = arg2_grows c args _ (λ to from. copy_grows c to from (text_at c.store from))
-effect_grows c Strlen args = arg1_grows c args _ (λ v. then_grows c (text_at c.store v) _ (λ text. nothing c _ refl refl))
+printed_grows : (c : Scene) (rest : List Cell) (format : List ℕ) → EffectGrows c (printed c rest format)
+printed_grows c rest format =
+    then_grows c (or_by LibraryArgument (parts_of format)) _ (λ ps. then_grows c (drawn c.store ps (nth_cell rest) (length rest)) _ (λ given. then_grows c (or_by LibraryArgument (text_of ps given)) _ (λ t. writes c _ t refl refl)))
+
+effect_grows : (c : Scene) (f : Library) (args : List Value) (rest : List Cell) → EffectGrows c (effect_of c f args rest)
+effect_grows c Putchar args rest = arg1_grows c args _ (λ v. number_grows c v _ (λ z. writes c _ (residue 256 z ∷ []) refl refl))
+effect_grows c Getchar args rest = arg0_grows c args _ (got_grows c c.input)
+effect_grows c Puts args rest = arg1_grows c args _ (λ v. then_grows c (text_at c.store v) _ (λ text. writes c _ (text ++ 10 ∷ []) refl refl))
+effect_grows c Exit args rest = arg1_grows c args _ (λ v. number_grows c v _ (λ z. nothing c _ refl refl))
+effect_grows c Memcpy args rest = arg3_grows c args _ (λ to from v. count_grows c v _ (λ n. storing c (2 * n) to (copied_area c.store to from n) (copied_keeps c.store to from n)))
+effect_grows c Memset args rest = arg3_grows c args _ (λ to v w. number_grows c v _ (λ z. count_grows c w _ (λ n. storing c n to (filled_area c.store to n (residue 256 z)) (filled_area_keeps c.store to n (residue 256 z)))))
+effect_grows c Strcmp args rest = arg2_grows c args _ (λ v w. then_grows c (compared_texts c.store v w) _ (λ d. nothing c _ refl refl))
+effect_grows c Strcpy args rest = arg2_grows c args _ (λ to from. copy_grows c to from (text_at c.store from))
+effect_grows c Strlen args rest = arg1_grows c args _ (λ v. then_grows c (text_at c.store v) _ (λ text. nothing c _ refl refl))
+effect_grows c Printf args rest = arg1_grows c args _ (λ v. then_grows c (text_at c.store v) _ (printed_grows c rest))
 
 ended_or_grows : (k : List Item) (vs : List Value) (c : Scene) (e : Effect) (o : Option ℕ) → Grows c e → Grown c (ended_or k vs c e o)
 ended_or_grows k vs c e None h = record { shows = more_out c.out e.out h.written c.turns h.begins; names = record { later = omega arith; blocks = λ b small. h.keeps b } }
@@ -141,13 +147,13 @@ finished_grows : (k : List Item) (vs : List Value) (c : Scene) (o : Result Effec
 finished_grows k vs c (Err why) h = tt
 finished_grows k vs c (Ok e) h = ended_or_grows k vs c e e.status h
 
-pub library_grows : (n : ℕ) (f : Library) (args : List Value) (k : List Item) (vs : List Value) (c : Scene) → Grown c (library_call n f args k vs c)
-library_grows zero f args k vs c = finished_grows k vs c (effect_of c f args) (effect_grows c f args)
-library_grows (suc n) f args k vs c = same (Busy n f args ∷ k) vs c
+pub library_grows : (n : ℕ) (f : Library) (args : List Value) (rest : List Cell) (k : List Item) (vs : List Value) (c : Scene) → Grown c (library_call n f args rest k vs c)
+library_grows zero f args rest k vs c = finished_grows k vs c (effect_of c f args rest) (effect_grows c f args rest)
+library_grows (suc n) f args rest k vs c = same (Busy n f args rest ∷ k) vs c
 
-served_grows : (f : Library) (args : List Value) (k : List Item) (vs : List Value) (c : Scene) (o : Result Effect Why) → Grown c (served f args k vs c o)
-served_grows f args k vs c (Err why) = tt
-served_grows f args k vs c (Ok e) = library_grows e.bytes f args k vs c
+served_grows : (f : Library) (args : List Value) (rest : List Cell) (k : List Item) (vs : List Value) (c : Scene) (o : Result Effect Why) → Grown c (served f args rest k vs c o)
+served_grows f args rest k vs c (Err why) = tt
+served_grows f args rest k vs c (Ok e) = library_grows e.bytes f args rest k vs c
 
 -- ---- calls
 
@@ -193,7 +199,10 @@ called_grows u f types args g (Some body) l k vs c =
     let first : Scene = new_frame u f (soft_cost u (argument_bytes u types) body) (turned c) in
     if_grows c (has_fixed u body && is_active f (turned c).frames) (Undefined (By FixedAgain)) _ tt
     (unless_deep_grows c _ vs (with_passed u g types args first) (passed_same u (turned c) (is_variadic g.ty) (further u g types args) (with_params u g.params args first) (params_same u (turned c) g.params args first (new_frame_same u f (soft_cost u (argument_bytes u types) body) (turned c)))))
-called_grows u f types args g None (Some l) k vs c = served_grows l args k vs c (effect_of c l args)
+called_grows u f types args g None (Some l) k vs c =
+    let named : List Value = take (named_count g.ty) args in
+    let behind : List Cell = cells_behind u (named_count g.ty) types args in
+    served_grows l named behind k vs c (effect_of c l named behind)
 called_grows u f types args g None None k vs c = tt
 
 refused_grows : (u : UnitTy) (c : Scene) (o : Option Why) (s : State) → Grown c s → Grown c (unless_refused u o s)

@@ -157,7 +157,7 @@ module _ (p : ProgramTy) where
   perform_grows (Lay i done size) k vs c = one_grows c vs _ (λ v r. lay_grows i done size v (place_in_object p.unit i 0 c) k r c)
   perform_grows Reach k vs c = goes_on c (rest_place c) k vs
   perform_grows (Invoke callee types) k vs c = invoked_grows p.unit callee types k (taken types [] vs) c
-  perform_grows (Busy left f args) k vs c = library_grows left f args k vs c
+  perform_grows (Busy left f args rest) k vs c = library_grows left f args rest k vs c
   perform_grows Skip k vs c = same k vs c
   perform_grows (Init i o shape) k vs c = one_grows c vs _ (λ v r. with_scene_grows c (put true shape c (place_in_object p.unit i o c) v) k r (put_same true shape c (place_in_object p.unit i o c) v))
   perform_grows (CarryInto i o done size) k vs c = one_grows c vs _ (λ from r. set_area_grows i o done size from (place_in_object p.unit i o c) k r c)

@@ -1,5 +1,5 @@
 -- What a call passes, and which functions may be called so (C90 6.3.2.2).
-use Rattle.std.specs.Prelude.{ℕ, ◌&&◌, Bool, true, false, List, [], ◌∷◌, Option, Some, None}
+use Rattle.std.specs.Prelude.{ℕ, zero, suc, ◌&&◌, Bool, true, false, List, [], ◌∷◌, Option, Some, None}
 use Rattle.c65_ctype.specs.Trees.{Ty, void, int, pointer, function, qual, Fn, fn, unknown, known, QTys, end, more, TypesTy, type_in}
 use Rattle.c65_csem.specs.Trees.{ObjectTy, FuncTy, UnitTy}
 use Rattle.c65_ctype.specs.Compatible.{are_compatible}
@@ -20,6 +20,15 @@ function_type _ = None
 -- a function that takes further arguments
 abbrev pub is_variadic : Fn → Bool
 is_variadic (fn result params variadic cdecl) = variadic
+
+-- how many arguments a function's prototype names
+abbrev pub count_of : QTys → ℕ
+count_of end = zero
+count_of (more q rest) = suc (count_of rest)
+
+abbrev pub named_count : Fn → ℕ
+named_count (fn result unknown variadic cdecl) = zero
+named_count (fn result (known params) variadic cdecl) = count_of params
 
 -- what a call passes: by its own prototype, and further arguments and those without a prototype as they are
 abbrev pub passed_by : QTys → List Ty → List Ty

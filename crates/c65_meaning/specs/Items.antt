@@ -10,7 +10,7 @@ use Rattle.c65_ctype.specs.Trees.{Ty, QTy, type_in}
 use Rattle.c65_ctype.specs.Sizes.{size_of}
 use Rattle.c65_base.specs.declared.library.Library.{Library}
 use Rattle.c65_csem.specs.Trees.{Typed, node, Node, constant, null, literal, object, func, deref, member, load, address, decay, convert, unary, binary, both, either, choice, comma, assign, assign_op, assign_step, step, copy, call, pack, spill, rest, Nodes, none, some, Stmt, empty, eval, set_part, clear, block, if_stmt, while, do_while, for_loop, switch, case, default, label, goto, break, continue, return, Stmts, no_stmts, and_stmts, MaybeTyped, absent, present, UnitTy}
-use Rattle.c65_meaning.specs.Store.{Value, Whole, Null, Place, Shape, Number, Area}
+use Rattle.c65_meaning.specs.Store.{Cell, Value, Whole, Null, Place, Shape, Number, Area}
 use Rattle.c65_meaning.specs.Operators.{is_post}
 use Rattle.c65_meaning.specs.Shapes.{bare_type, types_of, shape_of, place_shape, offset_of, object_size, object_in, literal_block}
 use Rattle.c65_csem.specs.Places.{member_at}
@@ -48,7 +48,7 @@ pub data Item : Type 0 where
   Lay : (i done size : ℕ) → Item
   Reach : Item
   Invoke : (callee : Ty) (args : List Ty) → Item
-  Busy : (left : ℕ) (f : Library) (args : List Value) → Item
+  Busy : (left : ℕ) (f : Library) (args : List Value) (rest : List Cell) → Item
   -- statements
   Skip : Item
   Init : (i offset : ℕ) (shape : Shape) → Item

@@ -19,4 +19,5 @@ pub mod Building
 pub mod Endings
 pub mod Samples
 pub mod UndefinedSamples
+pub mod PrintSamples
 pub mod Fits

@@ -1,11 +1,14 @@
--- The functions of the library (C90 7.9.7, 7.10.4, 7.11), or why a call of one has no meaning.
+-- The functions of the library (C90 7.9.6.3, 7.9.7, 7.10.4, 7.11), or why a call of one has no meaning.
 use Rattle.std.specs.Prelude.{ℕ, zero, suc, ◌+◌, ◌-◌, ◌*◌, ◌==◌, ◌&&◌, Bool, false, ℤ, pos, negsuc, ◌-ℤ◌, List, [], ◌∷◌, ◌++◌, Result, Ok, Err, Option, Some, None, length, min, nat_lt, if◌then◌else◌}
-use Rattle.c65_ints.specs.Ranges.{residue}
+use Rattle.c65_ints.specs.declared.types.IntType.TheVariants.{Int}
+use Rattle.c65_ints.specs.Ranges.{residue, wrap_of}
+use Rattle.c65_base.specs.Formats.{Form, string, Part, plain, field, form_bytes, parts_of, argument_bytes, Argument, text_of}
+use Rattle.c65_base.specs.Formats as formats
 use Rattle.c65_base.specs.declared.library.Library.{Library}
-use Rattle.c65_base.specs.declared.library.Library.TheVariants.{Putchar, Getchar, Puts, Exit, Memcpy, Memset, Strcmp, Strcpy, Strlen}
+use Rattle.c65_base.specs.declared.library.Library.TheVariants.{Putchar, Getchar, Puts, Exit, Memcpy, Memset, Strcmp, Strcpy, Strlen, Printf}
 use Rattle.c65_meaning.specs.declared.action.Action.TheVariants.{UnsetBit, UnknownValue, LibraryArgument}
-use Rattle.c65_meaning.specs.Why.{Why, By, Unfit, ◌>>=◌}
-use Rattle.c65_meaning.specs.Store.{Cell, Bits, Piece, Clouded, byte, Block, Store, Value, Whole, Null, Place, NoValue, set_block, set_cells, reached_or, writable}
+use Rattle.c65_meaning.specs.Why.{Why, By, Unfit, ◌>>=◌, or_by}
+use Rattle.c65_meaning.specs.Store.{Cell, Bits, Piece, Clouded, byte, Block, Store, Value, Whole, Null, Place, NoValue, set_block, set_cells, Gathered, Lacking, Hidden, Found, gathered, read_pair, reached_or, writable, nth_cell}
 use Rattle.c65_meaning.specs.Operators.{unusable}
 use Rattle.c65_meaning.specs.State.{Scene}
 
@@ -103,6 +106,44 @@ compared_texts s (Place b o) (Place c p) = area s b o 0 >>= λ x. area s c p 0 >
 compared_texts s (Place b o) w = Err (not_pointing w)
 compared_texts s v w = Err (not_pointing v)
 
+-- ---- printing (C90 7.9.6.3): the further arguments are cells, in which the first one ends at their end
+
+-- a number of which each bit is set
+abbrev pub number_from : Gathered → Result Argument Why
+number_from (Found n) = Ok (formats.number n)
+number_from Lacking = Err (By LibraryArgument)
+number_from Hidden = Err (By LibraryArgument)
+
+-- the text that a pointer names
+abbrev pub text_from : Store → Result Value Why → Result Argument Why
+text_from s (Ok (Place b o)) = text_at s (Place b o) >>= λ t. Ok (formats.text t)
+text_from s _ = Err (By LibraryArgument)
+
+-- the argument of a conversion, in the cells from o on
+abbrev pub argument_at : Store → Form → (ℕ → Cell) → ℕ → Result Argument Why
+argument_at s string cells o = text_from s (read_pair (cells o) (cells (suc o)))
+argument_at s f cells o = number_from (gathered (form_bytes f) cells o)
+
+-- those of a format's fields, from so many cells, from their end down
+abbrev pub drawn : Store → List Part → (ℕ → Cell) → ℕ → Result (List Argument) Why
+drawn s [] cells left = Ok []
+drawn s (plain b ∷ ps) cells left = drawn s ps cells left
+drawn s (field w f ∷ ps) cells left =
+    if nat_lt left (form_bytes f) then Err (By LibraryArgument) else (argument_at s f cells (left - form_bytes f) >>= λ a. drawn s ps cells (left - form_bytes f) >>= λ given. Ok (a ∷ given))
+
+-- the bytes of the texts, each with its zero
+abbrev pub text_bytes : List Argument → ℕ
+text_bytes [] = 0
+text_bytes (formats.number n ∷ given) = text_bytes given
+text_bytes (formats.text t ∷ given) = suc (length t) + text_bytes given
+
+-- read: the format with its zero, the arguments that it takes, and their texts; written: the text, whose length is the result
+abbrev pub prints : Scene → List ℕ → List Part → List Argument → List ℕ → Effect
+prints c format ps given t = writes_out c (suc (length format) + (argument_bytes ps + (text_bytes given + length t))) t (Whole (wrap_of Int (pos (length t))))
+
+abbrev pub printed : Scene → List Cell → List ℕ → Result Effect Why
+printed c rest format = or_by LibraryArgument (parts_of format) >>= λ ps. drawn c.store ps (nth_cell rest) (length rest) >>= λ given. or_by LibraryArgument (text_of ps given) >>= λ t. Ok (prints c format ps given t)
+
 -- ---- the functions
 
 abbrev pub got : Scene → List ℕ → Effect
@@ -135,13 +176,15 @@ abbrev pub count_in : Value → (ℕ → Result Effect Why) → Result Effect Wh
 count_in (Whole (pos n)) f = f n
 count_in v f = Err (unusable v)
 
-abbrev pub effect_of : Scene → Library → List Value → Result Effect Why
-effect_of c Putchar args = arg1 args (λ v. number_in v (λ z. Ok (writes_out c 1 (residue 256 z ∷ []) (Whole (pos (residue 256 z))))))
-effect_of c Getchar args = arg0 args (Ok (got c c.input))
-effect_of c Puts args = arg1 args (λ v. text_at c.store v >>= λ text. Ok (writes_out c (2 * suc (length text)) (text ++ 10 ∷ []) (Whole (pos 0))))
-effect_of c Exit args = arg1 args (λ v. number_in v (λ z. Ok (ends c (residue 256 z))))
-effect_of c Memcpy args = arg3 args (λ to from v. count_in v (λ n. copied_area c.store to from n >>= λ s. Ok (stores c (2 * n) to s)))
-effect_of c Memset args = arg3 args (λ to v w. number_in v (λ z. count_in w (λ n. filled_area c.store to n (residue 256 z) >>= λ s. Ok (stores c n to s))))
-effect_of c Strcmp args = arg2 args (λ v w. compared_texts c.store v w >>= λ d. Ok (gives c (2 * d.read) (Whole d.difference)))
-effect_of c Strcpy args = arg2 args (λ to from. text_at c.store from >>= λ text. copied_area c.store to from (suc (length text)) >>= λ s. Ok (stores c (2 * suc (length text)) to s))
-effect_of c Strlen args = arg1 args (λ v. text_at c.store v >>= λ text. Ok (gives c (suc (length text)) (Whole (pos (length text)))))
+-- on the arguments that they name, and the cells of the further ones
+abbrev pub effect_of : Scene → Library → List Value → List Cell → Result Effect Why
+effect_of c Putchar args rest = arg1 args (λ v. number_in v (λ z. Ok (writes_out c 1 (residue 256 z ∷ []) (Whole (pos (residue 256 z))))))
+effect_of c Getchar args rest = arg0 args (Ok (got c c.input))
+effect_of c Puts args rest = arg1 args (λ v. text_at c.store v >>= λ text. Ok (writes_out c (2 * suc (length text)) (text ++ 10 ∷ []) (Whole (pos 0))))
+effect_of c Exit args rest = arg1 args (λ v. number_in v (λ z. Ok (ends c (residue 256 z))))
+effect_of c Memcpy args rest = arg3 args (λ to from v. count_in v (λ n. copied_area c.store to from n >>= λ s. Ok (stores c (2 * n) to s)))
+effect_of c Memset args rest = arg3 args (λ to v w. number_in v (λ z. count_in w (λ n. filled_area c.store to n (residue 256 z) >>= λ s. Ok (stores c n to s))))
+effect_of c Strcmp args rest = arg2 args (λ v w. compared_texts c.store v w >>= λ d. Ok (gives c (2 * d.read) (Whole d.difference)))
+effect_of c Strcpy args rest = arg2 args (λ to from. text_at c.store from >>= λ text. copied_area c.store to from (suc (length text)) >>= λ s. Ok (stores c (2 * suc (length text)) to s))
+effect_of c Strlen args rest = arg1 args (λ v. text_at c.store v >>= λ text. Ok (gives c (suc (length text)) (Whole (pos (length text)))))
+effect_of c Printf args rest = arg1 args (λ v. text_at c.store v >>= printed c rest)

@@ -1,5 +1,5 @@
 -- One step of a run: what each item of pending work does (C90 6.1.2.4, 6.3, 6.5.7, 6.6).
-use Rattle.std.specs.Prelude.{ℕ, zero, suc, ◌+◌, ◌==◌, ◌&&◌, ◌||◌, not, Bool, true, false, pos, List, [], ◌∷◌, ◌++◌, drop, length, Result, Ok, Err, Option, Some, None, slice_get, nat_lt, nat_le, if◌then◌else◌}
+use Rattle.std.specs.Prelude.{ℕ, zero, suc, ◌+◌, ◌==◌, ◌&&◌, ◌||◌, not, Bool, true, false, pos, List, [], ◌∷◌, ◌++◌, take, drop, length, Result, Ok, Err, Option, Some, None, slice_get, nat_lt, nat_le, if◌then◌else◌}
 use Rattle.c65_ints.specs.Ranges.{residue}
 use Rattle.c65_ctype.specs.Trees.{Ty, TypesTy}
 use Rattle.c65_ctype.specs.Sizes.{size_of}
@@ -17,7 +17,7 @@ use Rattle.c65_meaning.specs.After.{ToLabel, ToCase, ToDefault, Landing, or_else
 use Rattle.c65_meaning.specs.Costs.{has_fixed, argument_bytes, soft_cost}
 use Rattle.c65_meaning.specs.State.{Frame, Scene, State, Undefined, Deep, Ended, Running, with_store, turned, soft_sum, hard_sum, block_in, name_object, rest_in, name_rest}
 use Rattle.c65_meaning.specs.Library.{Effect, effect_of, overlap}
-use Rattle.c65_meaning.specs.Calls.{is_variadic, accepts}
+use Rattle.c65_meaning.specs.Calls.{is_variadic, named_count, accepts}
 
 -- ---- taking values, and going on with what an action gave
 
@@ -221,14 +221,14 @@ abbrev pub finished : List Item → List Value → Scene → Result Effect Why �
 finished k vs c (Err why) = Undefined why
 finished k vs c (Ok e) = ended_or k vs c e e.status
 
-abbrev pub library_call : ℕ → Library → List Value → List Item → List Value → Scene → State
-library_call zero f args k vs c = finished k vs c (effect_of c f args)
-library_call (suc left) f args k vs c = Running (Busy left f args ∷ k) vs c
+abbrev pub library_call : ℕ → Library → List Value → List Cell → List Item → List Value → Scene → State
+library_call zero f args rest k vs c = finished k vs c (effect_of c f args rest)
+library_call (suc left) f args rest k vs c = Running (Busy left f args rest ∷ k) vs c
 
 -- one step, and one more for each byte
-abbrev pub served : Library → List Value → List Item → List Value → Scene → Result Effect Why → State
-served f args k vs c (Err why) = Undefined why
-served f args k vs c (Ok e) = library_call e.bytes f args k vs c
+abbrev pub served : Library → List Value → List Cell → List Item → List Value → Scene → Result Effect Why → State
+served f args rest k vs c (Err why) = Undefined why
+served f args rest k vs c (Ok e) = library_call e.bytes f args rest k vs c
 
 module _ (u : UnitTy) where
   -- each parameter is a new block that holds its argument
@@ -240,9 +240,12 @@ module _ (u : UnitTy) where
   abbrev pub new_frame : ℕ → ℕ → Scene → Scene
   new_frame f cost c = record c { frames = record { func = f; object = λ i. None; cost = cost; rest = None } ∷ c.frames }
 
-  -- the cells of the arguments behind those of the parameters
+  -- the cells of the arguments behind so many, and behind those of the parameters
+  abbrev pub cells_behind : ℕ → List Ty → List Value → List Cell
+  cells_behind n types args = rest_list u.types (drop n types) (drop n args)
+
   abbrev pub further : FuncTy → List Ty → List Value → List Cell
-  further g types args = rest_list u.types (drop (length g.params) types) (drop (length g.params) args)
+  further g types args = cells_behind (length g.params) types args
 
   -- the parameters begin, and in a variadic function the further arguments
   abbrev pub with_passed : FuncTy → List Ty → List Value → Scene → Result Scene Why
@@ -256,9 +259,13 @@ module _ (u : UnitTy) where
   abbrev pub entered_once : ℕ → FuncTy → Stmt → ℕ → List Ty → List Value → List Item → List Value → Scene → State
   entered_once f g body cost types args k vs c = if has_fixed u body && is_active f c.frames then Undefined (By FixedAgain) else entered f g body cost types args k vs c
 
+  -- one of a function of the library, on the arguments that it names and the cells of the further ones
+  abbrev pub provided : Library → List Value → List Cell → List Item → List Value → Scene → State
+  provided l args rest k vs c = served l args rest k vs c (effect_of c l args rest)
+
   abbrev pub called : ℕ → List Ty → List Value → FuncTy → Option Stmt → Option Library → List Item → List Value → Scene → State
   called f types args g (Some body) library k vs c = entered_once f g body (soft_cost u (argument_bytes u types) body) types args k vs (turned c)
-  called f types args g None (Some l) k vs c = served l args k vs c (effect_of c l args)
+  called f types args g None (Some l) k vs c = provided l (take (named_count g.ty) args) (cells_behind (named_count g.ty) types args) k vs c
   called f types args g None None k vs c = Undefined Unfit
 
   -- the values are there, and the function fits the call
@@ -409,7 +416,7 @@ module _ (p : ProgramTy) where
   perform (Lay i done size) k vs c = one vs (λ v r. lay_step i done size v (place_in_object p.unit i 0 c) k r c)
   perform Reach k vs c = go_on (rest_place c) k vs c
   perform (Invoke callee types) k vs c = invoked p.unit callee types k (taken types [] vs) c
-  perform (Busy left f args) k vs c = library_call left f args k vs c
+  perform (Busy left f args rest) k vs c = library_call left f args rest k vs c
   perform Skip k vs c = Running k vs c
   perform (Init i o shape) k vs c = one vs (λ v r. with_scene (put true shape c (place_in_object p.unit i o c) v) k r)
   perform (CarryInto i o done size) k vs c = one vs (λ from r. set_area_step i o done size from (place_in_object p.unit i o c) k r c)

@@ -6,6 +6,7 @@
 mod action;
 mod ending;
 mod laws;
+pub mod prints;
 pub mod samples;
 pub mod undefined;
 

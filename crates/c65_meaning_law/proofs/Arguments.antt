@@ -1,17 +1,17 @@
 -- The arguments of a call: their values among those that wait, and what a compatible function takes.
 use Rattle.std.proofs.Common.{◌≡◌, ℕ, pos, negsuc, Bool, true, false, List, [], ◌∷◌, Option, Some, None, refl, sym, ap, ◌∙◌, subst, if◌then◌else◌}
-use Rattle.std.specs.Prelude.{IsSome, option_and_then, ◌&&◌, ◌^◌, ⊤}
+use Rattle.std.specs.Prelude.{take, IsSome, option_and_then, ◌&&◌, ◌^◌, ⊤}
 use Rattle.std.proofs.lemmas.Bool.{and_parts}
 use Rattle.c65_ctype.specs.Trees.{Ty, void, int, pointer, array, tag, function, QTy, qual, type_in, Fn, fn, QTys, end, more, TypesTy}
 use Rattle.c65_ctype.specs.Compatible.{Pairs, same_int, same_bool, meet, qualified_meet, functions_meet, params_meet, each_in, agrees, are_compatible}
 use Rattle.c65_base.specs.declared.library.Library.{Library}
 use Rattle.c65_base.specs.declared.library.Library.TheVariants as the
-use Rattle.c65_csem.specs.Library.{library_params}
+use Rattle.c65_csem.specs.Library.{takes_more, library_params}
 use Rattle.c65_csem.specs.Trees.{UnitTy}
 use Rattle.c65_csem.specs.Places.{plain}
 use Rattle.c65_csem.specs.Units.{AreParams}
 use Rattle.c65_meaning.specs.Store.{Store, Value, Whole, Null, Place, Opaque, Cells, NoValue}
-use Rattle.c65_meaning.specs.Calls.{fit, fit_objects, promoted, parameter_type}
+use Rattle.c65_meaning.specs.Calls.{count_of, fit, fit_objects, promoted, parameter_type}
 use Rattle.c65_meaning.specs.Shapes.{object_in}
 use Rattle.c65_meaning.specs.Step.{taken}
 use Rattle.c65_meaning_law.specs.Library.{IsNumber, IsCount, IsPointing, AreArguments}
@@ -125,15 +125,14 @@ module _ (D : ℕ → Type 0) where
   SuitedBy (more q ps) (v ∷ vs) = Suits D (kind_passed (type_in q)) v × SuitedBy ps vs
   SuitedBy _ _ = ⊥
 
-  fit_by : (types : TypesTy) (ts : List Ty) (ps : QTys) (vs : List Value) → fit types ts false ps ≡ true → AllSuited ts vs → SuitedBy ps vs
-  fit_by types [] end [] f a = tt
-  fit_by types [] end (v ∷ vs) f a = absurd a
-  fit_by types (t ∷ ts) end vs f a = absurd (cc)
-  fit_by types [] (more q ps) vs f a = absurd (cc)
-  fit_by types (t ∷ ts) (more q ps) [] f a = absurd a
-  fit_by types (t ∷ ts) (more q ps) (v ∷ vs) f a =
-      let parts = and_parts (are_compatible types (plain t) (plain (type_in q))) (fit types ts false ps) f in
-      (subst (λ (x : Kind). Suits D x v) (compatible_kind types t (type_in q) parts.0) a.0, fit_by types ts ps vs parts.1 a.1)
+  -- those that a prototype names
+  fit_by : (types : TypesTy) (ts : List Ty) (variadic : Bool) (ps : QTys) (vs : List Value) → fit types ts variadic ps ≡ true → AllSuited ts vs → SuitedBy ps (take (count_of ps) vs)
+  fit_by types ts variadic end vs f a = tt
+  fit_by types [] variadic (more q ps) vs f a = absurd (cc)
+  fit_by types (t ∷ ts) variadic (more q ps) [] f a = absurd a
+  fit_by types (t ∷ ts) variadic (more q ps) (v ∷ vs) f a =
+      let parts = and_parts (are_compatible types (plain t) (plain (type_in q))) (fit types ts variadic ps) f in
+      (subst (λ (x : Kind). Suits D x v) (compatible_kind types t (type_in q) parts.0) a.0, fit_by types ts variadic ps vs parts.1 a.1)
 
 -- ---- what the library takes
 
@@ -176,6 +175,7 @@ module _ (s : Store) where
   arguments_by c the.Strcmp (v ∷ w ∷ []) h = (points v h.0, points w h.1.0)
   arguments_by c the.Strcpy (v ∷ w ∷ []) h = (points v h.0, points w h.1.0)
   arguments_by c the.Strlen (v ∷ []) h = points v h.0
+  arguments_by c the.Printf (v ∷ []) h = points v h.0
   arguments_by c the.Putchar [] h = absurd h
   arguments_by c the.Putchar (v ∷ w ∷ vs) h = absurd h.1
   arguments_by c the.Getchar (v ∷ vs) h = absurd h
@@ -199,6 +199,8 @@ module _ (s : Store) where
   arguments_by c the.Strcpy (v ∷ w ∷ x ∷ vs) h = absurd h.1.1
   arguments_by c the.Strlen [] h = absurd h
   arguments_by c the.Strlen (v ∷ w ∷ vs) h = absurd h.1
+  arguments_by c the.Printf [] h = absurd h
+  arguments_by c the.Printf (v ∷ w ∷ vs) h = absurd h.1
 
-  pub library_arguments : (types : TypesTy) (ts : List Ty) (c : Bool) (l : Library) (vs : List Value) → fit types ts false (library_params c l) ≡ true → AllSuited E ts vs → AreArguments s l vs
-  library_arguments types ts c l vs f a = arguments_by c l vs (fit_by E types ts (library_params c l) vs f a)
+  pub library_arguments : (types : TypesTy) (ts : List Ty) (c : Bool) (l : Library) (vs : List Value) → fit types ts (takes_more l) (library_params c l) ≡ true → AllSuited E ts vs → AreArguments s l (take (count_of (library_params c l)) vs)
+  library_arguments types ts c l vs f a = arguments_by c l (take (count_of (library_params c l)) vs) (fit_by E types ts (takes_more l) (library_params c l) vs f a)

@@ -21,7 +21,7 @@ use Rattle.c65_meaning_law.proofs.Values.{bind_sound, map_sound}
 use Rattle.c65_meaning_law.proofs.Steps.{put_in}
 use Rattle.c65_meaning_law.proofs.Scopes.{Grows, grows_same, grows_on, grows, block_new, ready_after, store_after, ready_stays, AreAutomatic, automatic_of, IsBegun, rest_begun}
 use Rattle.c65_meaning_law.proofs.Stores.{cell_fits, at_fits, joined_fit}
-use Rattle.c65_meaning_law.proofs.Statements.{cell_on, stands_on}
+use Rattle.c65_meaning_law.proofs.Statements.{cells_on, stands_on}
 use Rattle.c65_meaning_law.proofs.StatementSteps.{moves_here, stands_here, fits_here}
 use Rattle.c65_meaning_law.proofs.Arguments.{Enough}
 use Rattle.c65_csem.specs.Places.{is_framed, is_automatic}
@@ -57,6 +57,9 @@ module _ (D : ℕ → Type 0) where
   list_fits types (t ∷ ts) [] h = λ q. tt
   list_fits types (t ∷ ts) (v ∷ vs) h = joined_fit D (rest_list types ts vs) (cells_of_value (size_of types t) v) (list_fits types ts vs h.1) (at_fits D (size_of types t) (cell_of v) 0 (cell_fits D v h.0))
 
+  pub behind_fit : (types : TypesTy) (n : ℕ) (ts : List Ty) (vs : List Value) → AllStand D vs → CellsFit D (nth_cell (rest_list types (drop n ts) (drop n vs)))
+  behind_fit types n ts vs h = list_fits types (drop n ts) (drop n vs) (stand_behind n vs h)
+
 module _ (p : ProgramTy) where
   all_stand_on : (c e : Scene) → Grows p.unit c e → (vs : List Value) → AllStand (D p.unit c) vs → AllStand (D p.unit e) vs
   all_stand_on c e g [] h = tt
@@ -85,15 +88,12 @@ module _ (p : ProgramTy) where
 
   -- ---- and behind them the further arguments
 
-  cells_on : (c e : Scene) → Grows p.unit c e → (xs : List Cell) → CellsFit (D p.unit c) (nth_cell xs) → CellsFit (D p.unit e) (nth_cell xs)
-  cells_on c e g xs h = λ q. cell_on statement p.unit c e g (nth_cell xs q) (h q)
-
   passed_on : (variadic : Bool) (xs : List Cell) (scope : List ℕ) (d : Scene) (r : Result Scene Why) → CellsFit (D p.unit d) (nth_cell xs) → Sound (IsBegun p.unit false scope d) r → Sound (IsBegun p.unit variadic scope d) (r >>= λ e. Ok (with_rest variadic xs e))
-  passed_on variadic xs scope d r h s = bind_sound (IsBegun p.unit false scope d) (IsBegun p.unit variadic scope d) r (λ e. Ok (with_rest variadic xs e)) s (λ e b. rest_begun p.unit variadic xs scope d e b (cells_on d e b.grows xs h))
+  passed_on variadic xs scope d r h s = bind_sound (IsBegun p.unit false scope d) (IsBegun p.unit variadic scope d) r (λ e. Ok (with_rest variadic xs e)) s (λ e b. rest_begun p.unit variadic xs scope d e b (cells_on statement p.unit d e b.grows xs h))
 
   pub passed_begin : (g : FuncTy) (types : List Ty) (args : List Value) (d : Scene) → AreAutomatic p.unit g.params → IsReady p.unit false [] d → StoreFits (D p.unit d) d.store → AllStand (D p.unit d) args → Enough (D p.unit d) g.params args → Sound (IsBegun p.unit (is_variadic g.ty) (entering g.params []) d) (with_passed p.unit g types args d)
   passed_begin g types args d n r h a o =
       subst (λ (v : Bool). Sound (IsBegun p.unit (is_variadic g.ty) (entering g.params []) d) (with_params p.unit g.params args d >>= λ e. Ok (with_rest v (further p.unit g types args) e))) (same_variadic g.ty)
       (passed_on (is_variadic g.ty) (further p.unit g types args) (entering g.params []) d (with_params p.unit g.params args d)
-      (list_fits (D p.unit d) p.unit.types (drop (length g.params) types) (drop (length g.params) args) (stand_behind (D p.unit d) (length g.params) args a))
+      (behind_fit (D p.unit d) p.unit.types (length g.params) types args a)
       (params_begin g.params args [] d n r h a o))

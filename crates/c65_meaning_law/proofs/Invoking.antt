@@ -1,6 +1,6 @@
 -- A call: the callee is there, takes its arguments, and its body begins; or the library serves it.
 use Rattle.std.proofs.Common.{◌≡◌, ℕ, zero, suc, Bool, true, false, List, [], ◌∷◌, Option, Some, None, refl, sym, ap, ◌∙◌, subst, if◌then◌else◌}
-use Rattle.std.specs.Prelude.{Result, Ok, Err, All, IsSome, IsTrue, slice_get, not, ◌&&◌}
+use Rattle.std.specs.Prelude.{take, Result, Ok, Err, All, IsSome, IsTrue, slice_get, not, ◌&&◌}
 use Rattle.std.proofs.lemmas.Bool.{and_parts}
 use Rattle.std.proofs.lemmas.Option.{get_or_from_slice_get, slice_get_within}
 use Rattle.std.proofs.lemmas.List.Elements.{All-get_or}
@@ -9,7 +9,7 @@ use Rattle.c65_ctype.specs.Compatible.{are_compatible}
 use Rattle.c65_base.specs.declared.library.Library.{Library}
 use Rattle.c65_base.specs.declared.library.Library.TheVariants as the
 use Rattle.c65_csem.specs.Trees.{Stmt, FuncTy}
-use Rattle.c65_csem.specs.Library.{library_type}
+use Rattle.c65_csem.specs.Library.{library_params, library_type}
 use Rattle.c65_csem.specs.Places.{plain}
 use Rattle.c65_csem.specs.Statements as st
 use Rattle.c65_csem.specs.Statements.{CanBreak}
@@ -21,10 +21,9 @@ use Rattle.c65_meaning.specs.Store.{Cell, Bits, Piece, Clouded, Value, Whole, Nu
 use Rattle.c65_meaning.specs.Shapes.{object_in, lives_in_frame, literal_block, object_block}
 use Rattle.c65_meaning.specs.Items.{Item, Invoke, Leave, plan_stmt}
 use Rattle.c65_meaning.specs.Costs.{argument_bytes, soft_cost, has_fixed}
-use Rattle.c65_meaning.specs.Calls.{passed_to, fit_definition, accepts}
-use Rattle.c65_meaning.specs.Library.{effect_of}
+use Rattle.c65_meaning.specs.Calls.{count_of, named_count, passed_to, fit_definition, accepts}
 use Rattle.c65_meaning.specs.State.{Frame, Scene, State, Deep, Running, turned, block_in, Undefined}
-use Rattle.c65_meaning.specs.Step.{place_in, are_values, is_deep, unless_deep, new_frame, with_passed, entered, called, unless_refused, accepted, call_of, invoked, served, func_in, frames_below, perform, is_active}
+use Rattle.c65_meaning.specs.Step.{place_in, are_values, is_deep, unless_deep, new_frame, with_passed, entered, called, unless_refused, accepted, call_of, invoked, provided, cells_behind, rest_list, func_in, frames_below, perform, is_active}
 use Rattle.c65_csem_names.specs.Scopes.{is_variadic, IsInScope, IsScoped, IsScopedBody, HasScopedBody, entering}
 use Rattle.c65_csem_names.specs.Library.{IsTypedAs, HasLibraryType}
 use Rattle.c65_csem_names.specs.Programs.{IsScopedProgram}
@@ -37,9 +36,9 @@ use Rattle.c65_meaning_law.proofs.Statements.{suits_on, suited_on, takes_on, stm
 use Rattle.c65_meaning_law.proofs.StatementSteps.{moves_here, stands_here, fits_here}
 use Rattle.c65_meaning_law.proofs.Calls.{with_frames, IsCall, AreWaiting, IsWell, IsAt}
 use Rattle.c65_meaning_law.proofs.Returns.{grown_with, call_on, waiting_on, at_later}
-use Rattle.c65_meaning_law.proofs.LibraryCalls.{served_well}
+use Rattle.c65_meaning_law.proofs.LibraryCalls.{provided_well}
 use Rattle.c65_meaning_law.proofs.Arguments.{callee_kind, AllSuited, are_taken, Enough, fit_enough, objects_enough, library_arguments}
-use Rattle.c65_meaning_law.proofs.Entering.{AllStand, automatic_params, passed_begin}
+use Rattle.c65_meaning_law.proofs.Entering.{AllStand, automatic_params, passed_begin, behind_fit}
 
 pub all_at : {A : Type 0} (P : A → Type 0) (xs : List A) (i : ℕ) (x : A) → All P xs → slice_get xs i ≡ Some x → P x
 all_at P xs i x h e = subst P (get_or_from_slice_get xs i x x e) (All-get_or P xs i x (slice_get_within xs i x e) h)
@@ -146,6 +145,26 @@ module _ (p : ProgramTy) (w : IsProgram p.unit p.main) (s : IsScopedProgram p.un
       moved : Grows p.unit c d
       moved = moves_here (inside call) tt p c d i
 
+      stand_on : (e : Scene) (ts : List Ty) (ws : List Value) → ((b : ℕ) → E b → D p.unit e b) → AllSuited E ts ws → AllStand (D p.unit e) ws
+      stand_on e ts ws g h = raise_all ws (all_stand ts ws h)
+        where
+          cell_raised : (x : Cell) → CellFits E x → CellFits (D p.unit e) x
+          cell_raised (Piece i b o) h = g b h
+          cell_raised (Bits n v) h = tt
+          cell_raised Clouded h = tt
+
+          raise_one : (v : Value) → Stands E v → Stands (D p.unit e) v
+          raise_one (Place b o) h = g b h
+          raise_one (Whole z) h = tt
+          raise_one Null h = tt
+          raise_one Opaque h = tt
+          raise_one (Cells xs) h = λ q. cell_raised (nth_cell xs q) (h q)
+          raise_one NoValue h = tt
+
+          raise_all : (ws : List Value) → AllStand E ws → AllStand (D p.unit e) ws
+          raise_all [] h = tt
+          raise_all (v ∷ ws) h = (raise_one v h.0, raise_all ws h.1)
+
       enters : (f : ℕ) (g : FuncTy) (body : Stmt) (cost : ℕ) → slice_get p.unit.funcs f ≡ Some g → g.body ≡ Some body → Enough E g.params args → Gives (kind_given g.ty) (Takes (inside call) p.unit c k) ks → IsWell p.unit (entered p.unit f g body cost types args k vs (turned d))
       enters f g body cost m j o t =
           let first : Scene = new_frame p.unit f cost (turned d) in
@@ -159,38 +178,20 @@ module _ (p : ProgramTy) (w : IsProgram p.unit p.main) (s : IsScopedProgram p.un
                 (waits e (record { func = g; code = body; base = ks; behind = k }) (λ b h. n.blocks b (moved.blocks b h)) c.frames at.active at.waiting (t.0, t.1, takes_on (inside call) p.unit c (with_frames c c.frames) own k (t.0 ∷ ks) t.2)),
           ))
         where
-          stand_on : (e : Scene) (ts : List Ty) (ws : List Value) → ((b : ℕ) → E b → D p.unit e b) → AllSuited E ts ws → AllStand (D p.unit e) ws
-          stand_on e ts ws g h = raise_all ws (all_stand ts ws h)
-            where
-              cell_raised : (x : Cell) → CellFits E x → CellFits (D p.unit e) x
-              cell_raised (Piece i b o) h = g b h
-              cell_raised (Bits n v) h = tt
-              cell_raised Clouded h = tt
-
-              raise_one : (v : Value) → Stands E v → Stands (D p.unit e) v
-              raise_one (Place b o) h = g b h
-              raise_one (Whole z) h = tt
-              raise_one Null h = tt
-              raise_one Opaque h = tt
-              raise_one (Cells xs) h = λ q. cell_raised (nth_cell xs q) (h q)
-              raise_one NoValue h = tt
-
-              raise_all : (ws : List Value) → AllStand E ws → AllStand (D p.unit e) ws
-              raise_all [] h = tt
-              raise_all (v ∷ ws) h = (raise_one v h.0, raise_all ws h.1)
-
           enough_on : (e : Scene) (os : List ℕ) (ws : List Value) → Enough E os ws → Enough (D p.unit e) os ws
           enough_on e [] ws h = tt
           enough_on e (j ∷ os) [] h = absurd h
           enough_on e (j ∷ os) (v ∷ ws) h = enough_on e os ws h
 
-      serves : (char : Bool) (l : Library) (g : FuncTy) → g.ty ≡ library_type char l → fit_definition p.unit types g.params g.ty ≡ true → Gives (kind_given g.ty) (Takes (inside call) p.unit c k) ks → IsWell p.unit (served l args k vs d (effect_of d l args))
+      serves : (char : Bool) (l : Library) (g : FuncTy) → g.ty ≡ library_type char l → fit_definition p.unit types g.params g.ty ≡ true → Gives (kind_given g.ty) (Takes (inside call) p.unit c k) ks → IsWell p.unit (provided l (take (named_count g.ty) args) (cells_behind p.unit (named_count g.ty) types args) k vs d)
       serves char l g e f t =
           let there = all_suited_on d moved types args given in
           let fits : fit_definition p.unit types g.params (library_type char l) ≡ true = subst (λ (y : Fn). fit_definition p.unit types g.params y ≡ true) e f in
-          served_well p d call (at_later p c d call moved at) (fits_here (inside call) tt p c d moved i.store) l args (library_arguments d.store p.unit.types types char l args fits there) k ks vs
+          subst (λ (n : ℕ). IsWell p.unit (provided l (take n args) (cells_behind p.unit n types args) k vs d)) (sym (ap named_count e))
+          (provided_well p d call (at_later p c d call moved at) (fits_here (inside call) tt p c d moved i.store) l (take (count_of (library_params char l)) args) (library_arguments d.store p.unit.types types char l args fits there)
+          (cells_behind p.unit (count_of (library_params char l)) types args) (behind_fit (D p.unit d) p.unit.types (count_of (library_params char l)) types args (stand_on d types args moved.blocks given)) k ks vs
           (t.0, subst (λ (y : Kind). Below y t.0) (ap kind_given e ∙ library_kind char l) t.1, takes_on (inside call) p.unit c d moved k (t.0 ∷ ks) t.2)
-          (suited_on (inside call) p.unit c d moved ks vs suited)
+          (suited_on (inside call) p.unit c d moved ks vs suited))
         where
           library_kind : (char : Bool) (m : Library) → kind_given (library_type char m) ≡ kind_from m
           library_kind char the.Putchar = refl
@@ -202,6 +203,7 @@ module _ (p : ProgramTy) (w : IsProgram p.unit p.main) (s : IsScopedProgram p.un
           library_kind char the.Strcmp = refl
           library_kind char the.Strcpy = refl
           library_kind char the.Strlen = refl
+          library_kind char the.Printf = refl
 
       once_well : (again : Bool) (x : State) → IsWell p.unit x → IsWell p.unit (if again then Undefined (By FixedAgain) else x)
       once_well true x h = tt

@@ -1,16 +1,18 @@
 -- The functions of the library on arguments of their types.
-use Rattle.std.proofs.Common.{◌≡◌, ℕ, zero, suc, ◌+◌, ◌-◌, ℤ, pos, negsuc, false, List, [], ◌∷◌, true, Option, Some, None, refl, subst}
-use Rattle.std.specs.Prelude.{◌==◌, Result, Ok, Err, IsSome, ⊤, min, length, nat_le, if◌then◌else◌}
+use Rattle.std.proofs.Common.{◌≡◌, ℕ, zero, suc, ◌+◌, ◌-◌, ℤ, pos, negsuc, Bool, false, List, [], ◌∷◌, true, Option, Some, None, refl, ap, subst}
+use Rattle.std.specs.Prelude.{◌==◌, Result, Ok, Err, IsSome, ⊤, min, length, nat_lt, nat_le, if◌then◌else◌}
 use Rattle.c65_ints.specs.Ranges.{residue}
 use Rattle.c65_base.specs.declared.library.Library.{Library}
-use Rattle.c65_base.specs.declared.library.Library.TheVariants.{Putchar, Getchar, Puts, Exit, Memcpy, Memset, Strcmp, Strcpy, Strlen}
+use Rattle.c65_base.specs.declared.library.Library.TheVariants.{Putchar, Getchar, Puts, Exit, Memcpy, Memset, Strcmp, Strcpy, Strlen, Printf}
+use Rattle.c65_meaning.specs.declared.action.Action.{Action}
 use Rattle.c65_meaning.specs.declared.action.Action.TheVariants.{UnsetBit, EndedObject, LibraryArgument}
-use Rattle.c65_meaning.specs.Why.{Why, By, Unfit, ◌>>=◌}
-use Rattle.c65_meaning.specs.Store.{Cell, Piece, Bits, Clouded, byte, Block, Store, Value, Whole, Null, Place, Opaque, Cells, NoValue, set_block, set_cells, reached_or, writable}
-use Rattle.c65_meaning.specs.Library.{Effect, got, area, overlap, filled, copied_area, filled_area, set_byte, before, text_in, text_at, Compared, one_more, compared_byte, compared_in, compared_texts, number_in, count_in, effect_of}
+use Rattle.c65_meaning.specs.Why.{Why, By, Unfit, ◌>>=◌, or_by}
+use Rattle.c65_meaning.specs.Store.{Cell, Piece, Bits, Clouded, byte, Block, Store, Value, Whole, Null, Place, Opaque, Cells, NoValue, nth_cell, set_block, set_cells, Gathered, Lacking, Hidden, Found, gathered, are_of_one, as_pointer, gather, read_pair, reached_or, writable}
+use Rattle.c65_meaning.specs.Library.{Effect, got, area, overlap, filled, copied_area, filled_area, set_byte, before, text_in, text_at, Compared, one_more, compared_byte, compared_in, compared_texts, number_in, count_in, number_from, text_from, argument_at, drawn, printed, effect_of}
+use Rattle.c65_base.specs.Formats.{Form, signed, unsigned, hexadecimal, signed_long, unsigned_long, character, string, Part, plain, field, form_bytes, parts_of, Argument, text_of}
 use Rattle.c65_meaning.specs.State.{Scene}
 use Rattle.c65_meaning_law.specs.Laws.{IsClosed}
-use Rattle.c65_meaning_law.specs.Library.{IsNumber, IsCount, IsPointing, AreArguments, IsOfBlock, IsSoundCall, LibraryFits}
+use Rattle.c65_meaning_law.specs.Library.{IsNumber, IsCount, IsPointing, AreArguments, AreOfBlocks, IsOfBlock, IsSoundCall, LibraryFits}
 use Rattle.c65_meaning_law.proofs.Stacks.{Kind, arithmetic, pointing, free, kind_from, Sound, Stands, Suits, CellFits, CellsFit, StoreFits}
 use Rattle.c65_meaning_law.proofs.Values.{if_sound, bind_sound, stands}
 use Rattle.c65_meaning_law.proofs.Stores.{BlockFits, writable_sound, set_fits, block_set}
@@ -129,6 +131,73 @@ module _ (c : Scene) where
     compare_texts (Whole z) w h g = absurd h
     compare_texts (Cells xs) w h g = absurd h
 
+    -- ---- printing
+
+    or_sound : {A : Type 0} (action : Action) (o : Option A) → Sound (Any A) (or_by action o)
+    or_sound action (Some x) = tt
+    or_sound action None = tt
+
+    number_sound : (g : Gathered) → Sound (Any Argument) (number_from g)
+    number_sound (Found n) = tt
+    number_sound Lacking = tt
+    number_sound Hidden = tt
+
+    from_sound : (v : Value) → ((b o : ℕ) → v ≡ Place b o → E b) → Sound (Any Argument) (text_from c.store (Ok v))
+    from_sound (Place b o) h = bind_sound (Any (List ℕ)) (Any Argument) (text_at c.store (Place b o)) _ (texts (Place b o) (h b o refl)) (λ t g. tt)
+    from_sound (Whole z) h = tt
+    from_sound Null h = tt
+    from_sound Opaque h = tt
+    from_sound (Cells xs) h = tt
+    from_sound NoValue h = tt
+
+    piece_sound : (one : Bool) (b o : ℕ) → E b → Sound (Any Argument) (text_from c.store (if one then Ok (Place b o) else Ok Opaque))
+    piece_sound true b o h = from_sound (Place b o) (λ e q i. subst E (place_block b o e q i) h)
+      where
+        block_in : Value → ℕ
+        block_in (Place b o) = b
+        block_in v = zero
+
+        place_block : (b o e q : ℕ) → Place b o ≡ Place e q → b ≡ e
+        place_block b o e q i = ap block_in i
+    piece_sound false b o h = tt
+
+    pointer_sound : (g : Gathered) → Sound (Any Argument) (text_from c.store (as_pointer g))
+    pointer_sound Lacking = tt
+    pointer_sound Hidden = tt
+    pointer_sound (Found zero) = tt
+    pointer_sound (Found (suc n)) = tt
+
+    pair_sound : (x y : Cell) → CellFits E x → Sound (Any Argument) (text_from c.store (read_pair x y))
+    pair_sound (Piece i b o) (Piece j d q) h = piece_sound (are_of_one i b o j d q) b o h
+    pair_sound (Piece i b o) (Bits known v) h = pointer_sound (gather (Piece i b o) (gather (Bits known v) (Found 0)))
+    pair_sound (Piece i b o) Clouded h = pointer_sound (gather (Piece i b o) (gather Clouded (Found 0)))
+    pair_sound (Bits known v) y h = pointer_sound (gather (Bits known v) (gather y (Found 0)))
+    pair_sound Clouded y h = pointer_sound (gather Clouded (gather y (Found 0)))
+
+    argument_sound : (f : Form) (cells : ℕ → Cell) (o : ℕ) → CellsFit E cells → Sound (Any Argument) (argument_at c.store f cells o)
+    argument_sound string cells o h = pair_sound (cells o) (cells (suc o)) (h o)
+    argument_sound signed cells o h = number_sound (gathered 2 cells o)
+    argument_sound unsigned cells o h = number_sound (gathered 2 cells o)
+    argument_sound hexadecimal cells o h = number_sound (gathered 2 cells o)
+    argument_sound signed_long cells o h = number_sound (gathered 4 cells o)
+    argument_sound unsigned_long cells o h = number_sound (gathered 4 cells o)
+    argument_sound character cells o h = number_sound (gathered 2 cells o)
+
+    drawn_sound : (ps : List Part) (cells : ℕ → Cell) (left : ℕ) → CellsFit E cells → Sound (Any (List Argument)) (drawn c.store ps cells left)
+    drawn_sound [] cells left h = tt
+    drawn_sound (plain b ∷ ps) cells left h = drawn_sound ps cells left h
+    drawn_sound (field w f ∷ ps) cells left h =
+        let below : ℕ = left - form_bytes f in
+        if_sound (Any (List Argument)) (nat_lt left (form_bytes f)) (Err (By LibraryArgument)) _ tt
+        (bind_sound (Any Argument) (Any (List Argument)) (argument_at c.store f cells below) _ (argument_sound f cells below h)
+        (λ a g. bind_sound (Any (List Argument)) (Any (List Argument)) (drawn c.store ps cells below) _ (drawn_sound ps cells below h) (λ given i. tt)))
+
+    prints_fine : (rest : List Cell) (format : List ℕ) → CellsFit E (nth_cell rest) → Sound (Fine (arithmetic true)) (printed c rest format)
+    prints_fine rest format h =
+        bind_sound (Any (List Part)) (Fine (arithmetic true)) (or_by LibraryArgument (parts_of format)) _ (or_sound LibraryArgument (parts_of format))
+        (λ ps i. bind_sound (Any (List Argument)) (Fine (arithmetic true)) (drawn c.store ps (nth_cell rest) (length rest)) _ (drawn_sound ps (nth_cell rest) (length rest) h)
+        (λ given j. bind_sound (Any (List ℕ)) (Fine (arithmetic true)) (or_by LibraryArgument (text_of ps given)) _ (or_sound LibraryArgument (text_of ps given)) (λ t k. (fits, tt))))
+
     -- ---- the functions
 
     got_fine : (input : List ℕ) → Fine (arithmetic true) (got c input)
@@ -143,17 +212,18 @@ module _ (c : Scene) where
     place_suits (Whole z) h = absurd h
     place_suits (Cells xs) h = absurd h
 
-    pub fine : (f : Library) (args : List Value) → AreArguments c.store f args → Sound (Fine (kind_from f)) (effect_of c f args)
-    fine Putchar (v ∷ []) h = number (arithmetic true) v _ h (λ z. (fits, tt))
-    fine Getchar [] h = got_fine c.input
-    fine Puts (v ∷ []) h = bind_sound (Any (List ℕ)) (Fine (arithmetic true)) (text_at c.store v) _ (texts v h) (λ text g. (fits, tt))
-    fine Exit (v ∷ []) h = number free v _ h (λ z. (fits, tt))
-    fine Memcpy (to ∷ from ∷ n ∷ []) h = counts pointing n _ h.2 (λ m. bind_sound (StoreFits E) (Fine pointing) (copied_area c.store to from m) _ (copies to from m h.0 h.1) (λ s g. (g, place_suits to h.0)))
-    fine Memset (to ∷ v ∷ n ∷ []) h = number pointing v _ h.1 (λ z. counts pointing n _ h.2 (λ m. bind_sound (StoreFits E) (Fine pointing) (filled_area c.store to m (residue 256 z)) _ (sets to m (residue 256 z) h.0) (λ s g. (g, place_suits to h.0))))
-    fine Strcmp (v ∷ w ∷ []) h = bind_sound (Any Compared) (Fine (arithmetic true)) (compared_texts c.store v w) _ (compare_texts v w h.0 h.1) (λ d g. (fits, tt))
-    fine Strcpy (to ∷ from ∷ []) h = bind_sound (Any (List ℕ)) (Fine pointing) (text_at c.store from) _ (texts from h.1) (λ text g. bind_sound (StoreFits E) (Fine pointing) (copied_area c.store to from (suc (length text))) _ (copies to from (suc (length text)) h.0 h.1) (λ s i. (i, place_suits to h.0)))
-    fine Strlen (v ∷ []) h = bind_sound (Any (List ℕ)) (Fine (arithmetic false)) (text_at c.store v) _ (texts v h) (λ text g. (fits, tt))
-    fine _ _ h = absurd h
+    pub fine : (f : Library) (args : List Value) (rest : List Cell) → AreArguments c.store f args → CellsFit E (nth_cell rest) → Sound (Fine (kind_from f)) (effect_of c f args rest)
+    fine Putchar (v ∷ []) rest h k = number (arithmetic true) v _ h (λ z. (fits, tt))
+    fine Getchar [] rest h k = got_fine c.input
+    fine Puts (v ∷ []) rest h k = bind_sound (Any (List ℕ)) (Fine (arithmetic true)) (text_at c.store v) _ (texts v h) (λ text g. (fits, tt))
+    fine Exit (v ∷ []) rest h k = number free v _ h (λ z. (fits, tt))
+    fine Memcpy (to ∷ from ∷ n ∷ []) rest h k = counts pointing n _ h.2 (λ m. bind_sound (StoreFits E) (Fine pointing) (copied_area c.store to from m) _ (copies to from m h.0 h.1) (λ s g. (g, place_suits to h.0)))
+    fine Memset (to ∷ v ∷ n ∷ []) rest h k = number pointing v _ h.1 (λ z. counts pointing n _ h.2 (λ m. bind_sound (StoreFits E) (Fine pointing) (filled_area c.store to m (residue 256 z)) _ (sets to m (residue 256 z) h.0) (λ s g. (g, place_suits to h.0))))
+    fine Strcmp (v ∷ w ∷ []) rest h k = bind_sound (Any Compared) (Fine (arithmetic true)) (compared_texts c.store v w) _ (compare_texts v w h.0 h.1) (λ d g. (fits, tt))
+    fine Strcpy (to ∷ from ∷ []) rest h k = bind_sound (Any (List ℕ)) (Fine pointing) (text_at c.store from) _ (texts from h.1) (λ text g. bind_sound (StoreFits E) (Fine pointing) (copied_area c.store to from (suc (length text))) _ (copies to from (suc (length text)) h.0 h.1) (λ s i. (i, place_suits to h.0)))
+    fine Strlen (v ∷ []) rest h k = bind_sound (Any (List ℕ)) (Fine (arithmetic false)) (text_at c.store v) _ (texts v h) (λ text g. (fits, tt))
+    fine Printf (v ∷ []) rest h g = bind_sound (Any (List ℕ)) (Fine (arithmetic true)) (text_at c.store v) _ (texts v h) (λ format i. prints_fine rest format g)
+    fine _ _ rest h g = absurd h
 
   -- ---- the law
 
@@ -164,6 +234,14 @@ module _ (c : Scene) where
       one b x q (Piece i d o) e f = h b x q i d o e f
       one b x q (Bits known value) e f = tt
       one b x q Clouded e f = tt
+
+  cells_at_first : (xs : List Cell) → AreOfBlocks c.store xs → CellsFit E (nth_cell xs)
+  cells_at_first xs h = λ q. one q (nth_cell xs q) refl
+    where
+      one : (q : ℕ) (y : Cell) → nth_cell xs q ≡ y → CellFits E y
+      one q (Piece i b o) e = h q i b o e
+      one q (Bits known value) e = tt
+      one q Clouded e = tt
 
   closed_after : (s : Store) → StoreFits E s → IsClosed s
   closed_after s h b x q i d o e f = h.there d (subst (CellFits E) f (h.all b x e q))
@@ -182,4 +260,4 @@ module _ (c : Scene) where
   sound x (Err Unfit) h = absurd h
 
 pub library_fits : LibraryFits
-library_fits f args c h i = sound c (kind_from f) (effect_of c f args) (fine c (fits_at_first c i) f args h)
+library_fits f args rest c h g i = sound c (kind_from f) (effect_of c f args rest) (fine c (fits_at_first c i) f args rest h (cells_at_first c rest g))

@@ -80,6 +80,7 @@ kind_from the.Memset = pointing
 kind_from the.Strcpy = pointing
 kind_from the.Exit = free
 kind_from the.Strlen = arithmetic false
+kind_from the.Printf = arithmetic true
 kind_from _ = arithmetic true
 
 -- of values other than cells
@@ -371,7 +372,7 @@ module _ (m : Setting) (u : UnitTy) (c : Scene) where
   Does (Lay i done size) k f q (carrying ∷ ks) = HasBlock u c i × Gives naming f ks
   Does Reach k f q ks = HasRest c × Gives pointing f ks
   Does (Invoke callee types) k f q ks = (h : IsCallee callee types) × (rest : List Kind) × (ks ≡ pushed types (pointing ∷ rest)) × Gives (kind_given h.type) f rest
-  Does (Busy left library args) k f q ks = IsCalled m × AreArguments c.store library args × Gives (kind_from library) f ks
+  Does (Busy left library args rest) k f q ks = IsCalled m × (AreArguments c.store library args × CellsFit (D u c) (nth_cell rest)) × Gives (kind_from library) f ks
   Does Leave k f q ks = IsAtEnd m returning k ks
   Does i k f q ks = HasStatements m × Acts i f q ks
 

@@ -32,7 +32,7 @@ begins _ = false
 
 -- what runs inside a call alone
 abbrev pub is_of_call : Item → Bool
-is_of_call (Busy left l args) = true
+is_of_call (Busy left l args rest) = true
 is_of_call Leave = true
 is_of_call _ = false
 
@@ -205,7 +205,7 @@ module _ (m : Setting) (hs : HasStatements m) (p : ProgramTy) (c : Scene) where
   acts (Lay j done size) k ks vs d n o u t a i = performs m p c (Lay j done size) k ks vs d refl t a i
   acts Reach k ks vs d n o u t a i = performs m p c Reach k ks vs d refl t a i
   acts (Invoke callee types) k ks vs d n o u t a i = absurd (cc)
-  acts (Busy left l args) k ks vs d n o u t a i = absurd (cc)
+  acts (Busy left l args rest) k ks vs d n o u t a i = absurd (cc)
   acts (Select left at body) k ks vs d n o u t a i = absurd (cc)
   acts (Jump l at) k ks vs d n o u t a i = absurd (cc)
   acts LeaveLoop k ks vs d n o u t a i = leaves_for (up_to_break k) ks vs d n (breaks k ks t.1) a i
@@ -295,7 +295,7 @@ IsGoodSome p s = (c : Scene) × IsGood statement p.unit c s
 
 module _ (p : ProgramTy) where
   of_no_call : (c : Scene) (j : Item) (k : List Item) (ks : List Kind) → Does statement p.unit c j k (Takes statement p.unit c k) (Out statement p.unit c k) ks → is_of_call j ≡ false
-  of_no_call c (Busy left l args) k ks h = absurd h.0
+  of_no_call c (Busy left l args rest) k ks h = absurd h.0
   of_no_call c Leave k ks h = absurd h
   of_no_call c _ k ks h = refl
 

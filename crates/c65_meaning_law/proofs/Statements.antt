@@ -24,7 +24,7 @@ use Rattle.c65_meaning_law.specs.Laws.{HasBlock}
 use Rattle.c65_meaning_law.specs.Library.{IsPointing, AreArguments}
 use Rattle.c65_csem_names.specs.Scopes.{IsScopedIn, IsScopedMaybe, IsScoped, AreScoped}
 use Rattle.c65_meaning_law.specs.Statements.{IsReady}
-use Rattle.c65_meaning_law.proofs.Stacks.{Kind, Exit, breaking, continuing, returning, arithmetic, pointing, naming, carrying, free, kind_in, kind_at, kind_of, kind_passed, kind_given, kind_from, Below, joined, turned_kind, with_kind, Gives, Stands, Suits, AreSuited, CellFits, Setting, expression, statement, inside, HasStatements, IsContext, HasLabel, IsReturned, D, IsPart, IsMaybePart, HaveBlocks, Leads, IsWork, IsBlock, IsLoop, Does, Takes, Out}
+use Rattle.c65_meaning_law.proofs.Stacks.{Kind, Exit, breaking, continuing, returning, arithmetic, pointing, naming, carrying, free, kind_in, kind_at, kind_of, kind_passed, kind_given, kind_from, Below, joined, turned_kind, with_kind, Gives, Stands, Suits, AreSuited, CellFits, CellsFit, Setting, expression, statement, inside, HasStatements, IsContext, HasLabel, IsReturned, D, IsPart, IsMaybePart, HaveBlocks, Leads, IsWork, IsBlock, IsLoop, Does, Takes, Out}
 use Rattle.c65_meaning_law.proofs.Plans.{below_refl, below_value, simple, tag_kind, takes, given_takes}
 use Rattle.c65_meaning_law.proofs.Scopes.{is_some_in, there, given_there, Grows, stays, ready_stays}
 
@@ -36,12 +36,15 @@ module _ (m : Setting) (u : UnitTy) (c e : Scene) (g : Grows u c e) where
   cell_on (Bits known value) h = tt
   cell_on Clouded h = tt
 
+  pub cells_on : (xs : List Cell) → CellsFit (D u c) (nth_cell xs) → CellsFit (D u e) (nth_cell xs)
+  cells_on xs h = λ q. cell_on (nth_cell xs q) (h q)
+
   pub stands_on : (v : Value) → Stands (D u c) v → Stands (D u e) v
   stands_on (Place b o) h = g.blocks b h
   stands_on (Whole z) h = tt
   stands_on Null h = tt
   stands_on Opaque h = tt
-  stands_on (Cells xs) h = λ q. cell_on (nth_cell xs q) (h q)
+  stands_on (Cells xs) h = cells_on xs h
   stands_on NoValue h = tt
 
   pub suits_on : (x : Kind) (v : Value) → Suits (D u c) x v → Suits (D u e) x v
@@ -50,7 +53,7 @@ module _ (m : Setting) (u : UnitTy) (c e : Scene) (g : Grows u c e) where
   suits_on free Null h = tt
   suits_on free Opaque h = tt
   suits_on free NoValue h = tt
-  suits_on carrying (Cells xs) h = λ q. cell_on (nth_cell xs q) (h q)
+  suits_on carrying (Cells xs) h = cells_on xs h
   suits_on carrying NoValue h = tt
   suits_on (arithmetic s) (Whole z) h = h
   suits_on (arithmetic s) Opaque h = tt
@@ -85,6 +88,7 @@ module _ (m : Setting) (u : UnitTy) (c e : Scene) (g : Grows u c e) where
   arguments_on the.Strcmp (v ∷ w ∷ []) h = (pointing_on v h.0, pointing_on w h.1)
   arguments_on the.Strcpy (v ∷ w ∷ []) h = (pointing_on v h.0, pointing_on w h.1)
   arguments_on the.Strlen (v ∷ []) h = pointing_on v h
+  arguments_on the.Printf (v ∷ []) h = pointing_on v h
   arguments_on _ _ h = absurd h
 
   part_on : (a : Typed) → IsPart u c a → IsPart u e a
@@ -135,7 +139,7 @@ module _ (m : Setting) (u : UnitTy) (c e : Scene) (g : Grows u c e) where
     does_on (Lay i done size) k (carrying ∷ ks) h = (g.objects i h.0, gives_on naming ks h.1)
     does_on Reach k ks h = (g.rest h.0, gives_on pointing ks h.1)
     does_on (Invoke callee types) k ks h = (h.0, h.1, h.2, gives_on (kind_given h.0.type) h.1 h.3)
-    does_on (Busy left l args) k ks h = (h.0, arguments_on l args h.1, gives_on (kind_from l) ks h.2)
+    does_on (Busy left l args rest) k ks h = (h.0, (arguments_on l args h.1.0, cells_on rest h.1.1), gives_on (kind_from l) ks h.2)
     does_on Skip k ks h = (h.0, n ks h.1)
     does_on (Init i d s) k (x ∷ ks) h = (h.0, (g.objects i h.1.0, n ks h.1.1))
     does_on (CarryInto i d done size) k (naming ∷ ks) h = (h.0, (g.objects i h.1.0, n ks h.1.1))

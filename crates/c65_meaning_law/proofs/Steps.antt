@@ -229,7 +229,7 @@ module _ (m : Setting) (p : ProgramTy) (c : Scene) where
   performs (Lay j done size) k (carrying ∷ ks) vs d n t a i = with_one carrying ks vs _ a (λ v r s b. lays j done size v (place_in_object p.unit j 0 d) k ks r d t.0 s (place_suits j 0 d t.0 i) t.1 b i)
   performs Reach k ks vs d n t a i = goes pointing (rest_place d) k ks vs d (rest_sound d t.0 i) t.1 a i
   performs (Invoke callee types) k ks vs d n t a i = absurd (cc)
-  performs (Busy left f args) k ks vs d n t a i = absurd (cc)
+  performs (Busy left f args rest) k ks vs d n t a i = absurd (cc)
   performs Skip k ks vs d n t a i = absurd (cc)
   performs (Init j o f) k ks vs d n t a i = absurd (cc)
   performs (CarryInto j o done size) k ks vs d n t a i = absurd (cc)

@@ -59,7 +59,7 @@ module _ (p : ProgramTy) (w : IsProgram p.unit p.main) (s : IsScopedProgram p.un
 
     performs_well : (j : Item) (k : List Item) (ks : List Kind) (vs : List Value) (d : Scene) → Takes (inside call) p.unit c (j ∷ k) ks → AreSuited (D p.unit c) ks vs → IsScene p.unit c d → IsWell p.unit (perform p j k vs d)
     performs_well (Invoke callee types) k ks vs d t a i = invoke_well p w s c call at callee types k ks vs d t i a
-    performs_well (Busy left l args) k ks vs d t a i = busy_well p c call at left l args k ks vs d t i a
+    performs_well (Busy left l args rest) k ks vs d t a i = busy_well p c call at left l args rest k ks vs d t i a
     performs_well (Jump l n) k ks vs d t a i = jumps c call at l n k ks vs d t i a
     performs_well Give k ks vs d t a i = give_well p c call at.waiting k ks vs d t i a
     performs_well GiveNothing k ks vs d t a i = give_nothing_well p c call at.waiting at.active k ks vs d t i a

@@ -1,9 +1,9 @@
--- The functions of the library on arguments of their types (C90 7.9.7, 7.10.4, 7.11).
+-- The functions of the library on arguments of their types (C90 7.9.6.3, 7.9.7, 7.10.4, 7.11).
 use Rattle.std.specs.Prelude.{◌≡◌, ℕ, pos, List, [], ◌∷◌, Result, Ok, Err, IsSome, ⊤}
 use Rattle.c65_base.specs.declared.library.Library.{Library}
-use Rattle.c65_base.specs.declared.library.Library.TheVariants.{Putchar, Getchar, Puts, Exit, Memcpy, Memset, Strcmp, Strcpy, Strlen}
+use Rattle.c65_base.specs.declared.library.Library.TheVariants.{Putchar, Getchar, Puts, Exit, Memcpy, Memset, Strcmp, Strcpy, Strlen, Printf}
 use Rattle.c65_meaning.specs.Why.{Why, By, Unfit}
-use Rattle.c65_meaning.specs.Store.{Piece, Store, Value, Whole, Place, Opaque, Cells, NoValue, nth_cell}
+use Rattle.c65_meaning.specs.Store.{Cell, Piece, Store, Value, Whole, Place, Opaque, Cells, NoValue, nth_cell}
 use Rattle.c65_meaning.specs.Library.{Effect, effect_of}
 use Rattle.c65_meaning.specs.State.{Scene}
 use Rattle.c65_meaning_law.specs.Laws.{IsClosed}
@@ -27,7 +27,7 @@ IsPointing s (Whole z) = ⊥
 IsPointing s (Cells xs) = ⊥
 IsPointing s _ = ⊤
 
--- the arguments that a function's type asks for
+-- the arguments that a function's type asks for, without further ones
 abbrev pub AreArguments : Store → Library → List Value → Type 0
 AreArguments s Putchar (v ∷ []) = IsNumber v
 AreArguments s Getchar [] = ⊤
@@ -38,12 +38,17 @@ AreArguments s Memset (to ∷ v ∷ n ∷ []) = IsPointing s to × IsNumber v ×
 AreArguments s Strcmp (v ∷ w ∷ []) = IsPointing s v × IsPointing s w
 AreArguments s Strcpy (to ∷ from ∷ []) = IsPointing s to × IsPointing s from
 AreArguments s Strlen (v ∷ []) = IsPointing s v
+AreArguments s Printf (v ∷ []) = IsPointing s v
 AreArguments s _ _ = ⊥
 
--- a place is of a block that there is, and so is each place in cells
+-- each place in cells is of a block that there is
+abbrev pub AreOfBlocks : Store → List Cell → Type 0
+AreOfBlocks s xs = (q i b o : ℕ) → nth_cell xs q ≡ Piece i b o → IsSome (s b)
+
+-- and so is a place, or each one in a value's cells
 abbrev pub IsOfBlock : Store → Value → Type 0
 IsOfBlock s (Place b o) = IsSome (s b)
-IsOfBlock s (Cells xs) = (q i b o : ℕ) → nth_cell xs q ≡ Piece i b o → IsSome (s b)
+IsOfBlock s (Cells xs) = AreOfBlocks s xs
 IsOfBlock s _ = ⊤
 
 -- a call that goes well leaves memory closed and takes no block away, and its result is of a block that there is; what goes wrong is a
@@ -54,4 +59,4 @@ IsSoundCall s (Err (By action)) = ⊤
 IsSoundCall s (Err Unfit) = ⊥
 
 abbrev pub LibraryFits : Type 0
-LibraryFits = (f : Library) (args : List Value) (c : Scene) → AreArguments c.store f args → IsClosed c.store → IsSoundCall c.store (effect_of c f args)
+LibraryFits = (f : Library) (args : List Value) (rest : List Cell) (c : Scene) → AreArguments c.store f args → AreOfBlocks c.store rest → IsClosed c.store → IsSoundCall c.store (effect_of c f args rest)

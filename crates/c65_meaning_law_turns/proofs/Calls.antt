@@ -1,6 +1,6 @@
 -- A call of a function that has a body is a turn, and one of the library ends.
 use Rattle.std.proofs.Common.{◌≡◌, ℕ, zero, suc, ◌≤◌, Bool, true, false, List, [], ◌∷◌, Option, Some, None, Result, Ok, Err, arith}
-use Rattle.std.specs.Prelude.{⊤, slice_get, not, ◌&&◌, if◌then◌else◌}
+use Rattle.std.specs.Prelude.{⊤, take, slice_get, not, ◌&&◌, if◌then◌else◌}
 use Rattle.c65_base.specs.declared.library.Library.{Library}
 use Rattle.c65_ctype.specs.Trees.{Ty}
 use Rattle.c65_csem.specs.Trees.{Stmt, FuncTy}
@@ -12,11 +12,10 @@ use Rattle.c65_meaning.specs.Items.{Item, Leave, plan_stmt}
 use Rattle.c65_meaning.specs.Shapes.{object_in, object_shape}
 use Rattle.c65_meaning.specs.Costs.{has_fixed, argument_bytes, soft_cost}
 use Rattle.c65_meaning.specs.State.{Scene, State, Undefined, Deep, Running, turned}
-use Rattle.c65_meaning.specs.Library.{effect_of}
-use Rattle.c65_meaning.specs.Calls.{is_variadic}
-use Rattle.c65_meaning.specs.Step.{put, begin_object, is_deep, is_active, unless_deep, with_params, with_rest, further, with_passed, new_frame, entered, entered_once, called, allowed, unless_refused, accepted, call_of, invoked}
+use Rattle.c65_meaning.specs.Calls.{is_variadic, named_count}
+use Rattle.c65_meaning.specs.Step.{put, begin_object, is_deep, is_active, unless_deep, with_params, with_rest, cells_behind, further, with_passed, new_frame, entered, entered_once, called, allowed, unless_refused, accepted, call_of, invoked}
 use Rattle.c65_meaning_law_turns.proofs.Scenes.{IsSame, Keeps, put_same}
-use Rattle.c65_meaning_law_turns.proofs.Settling.{IsOn, Settles, now, one_settles, served_settles}
+use Rattle.c65_meaning_law_turns.proofs.Settling.{IsOn, Settles, now, one_settles, provided_settles}
 
 module _ (p : ProgramTy) (before : ℕ) where
   -- the turn is behind
@@ -65,7 +64,7 @@ module _ (p : ProgramTy) (before : ℕ) where
   module _ (k : List Item) (c : Scene) (le : before ≤ c.turns) (h : (vs : List Value) (d : Scene) → IsSame c d → Settles p before (Running k vs d)) where
     called_settles : (f : ℕ) (types : List Ty) (args : List Value) (g : FuncTy) (body : Option Stmt) (library : Option Library) (vs : List Value) → Settles p before (called p.unit f types args g body library k vs c)
     called_settles f types args g (Some body) library vs = now p before _ (once_on f g body (soft_cost p.unit (argument_bytes p.unit types) body) types args k vs (turned c) (let x : suc before ≤ suc c.turns = omega arith in x))
-    called_settles f types args g None (Some l) vs = served_settles p before k vs c (λ v d s. h (v ∷ vs) d s) l args (effect_of c l args)
+    called_settles f types args g None (Some l) vs = provided_settles p before k vs c (λ v d s. h (v ∷ vs) d s) l (take (named_count g.ty) args) (cells_behind p.unit (named_count g.ty) types args)
     called_settles f types args g None None vs = now p before _ tt
 
     refused_settles : (o : Option Why) (s : State) → Settles p before s → Settles p before (unless_refused p.unit o s)

@@ -4,11 +4,11 @@ use Rattle.std.specs.Prelude.{⊤}
 use Rattle.c65_base.specs.declared.library.Library.{Library}
 use Rattle.c65_meaning.specs.Program.{ProgramTy}
 use Rattle.c65_meaning.specs.Why.{Why}
-use Rattle.c65_meaning.specs.Store.{Value}
+use Rattle.c65_meaning.specs.Store.{Cell, Value}
 use Rattle.c65_meaning.specs.Items.{Item}
 use Rattle.c65_meaning.specs.State.{Scene, State, Running}
 use Rattle.c65_meaning.specs.Library.{Effect, effect_of}
-use Rattle.c65_meaning.specs.Step.{one, two, go_on, with_scene, decided, ended_or, finished, library_call, served, step, steps}
+use Rattle.c65_meaning.specs.Step.{one, two, go_on, with_scene, decided, ended_or, finished, library_call, served, provided, step, steps}
 use Rattle.c65_meaning_law_turns.proofs.Scenes.{IsSame, Keeps}
 
 module _ (p : ProgramTy) (before : ℕ) where
@@ -62,10 +62,13 @@ module _ (p : ProgramTy) (before : ℕ) where
     finished_settles (Err why) = now _ tt
     finished_settles (Ok e) = ended_settles e e.status
 
-    pub library_settles : (left : ℕ) (f : Library) (args : List Value) → Settles (library_call left f args k vs c)
-    library_settles zero f args = finished_settles (effect_of c f args)
-    library_settles (suc left) f args = later _ (library_settles left f args)
+    pub library_settles : (left : ℕ) (f : Library) (args : List Value) (rest : List Cell) → Settles (library_call left f args rest k vs c)
+    library_settles zero f args rest = finished_settles (effect_of c f args rest)
+    library_settles (suc left) f args rest = later _ (library_settles left f args rest)
 
-    pub served_settles : (f : Library) (args : List Value) (r : Result Effect Why) → Settles (served f args k vs c r)
-    served_settles f args (Err why) = now _ tt
-    served_settles f args (Ok e) = library_settles e.bytes f args
+    served_settles : (f : Library) (args : List Value) (rest : List Cell) (r : Result Effect Why) → Settles (served f args rest k vs c r)
+    served_settles f args rest (Err why) = now _ tt
+    served_settles f args rest (Ok e) = library_settles e.bytes f args rest
+
+    pub provided_settles : (f : Library) (args : List Value) (rest : List Cell) → Settles (provided f args rest k vs c)
+    provided_settles f args rest = served_settles f args rest (effect_of c f args rest)

@@ -278,7 +278,7 @@ module _ (p : ProgramTy) (before : ℕ) where
     performs (Lay i done size) k vs f light = one_settles p before vs _ (λ v r. puts k f i done size v _ r light)
     performs Reach k vs f light = going k f light _ vs
     performs (Invoke callee types) k vs f light = invoked_settles p before k c le (λ r d s. rest k f light r d s) callee types _
-    performs (Busy left g args) k vs f light = library_settles p before k vs c (λ v d s. rest k f light (v ∷ vs) d s) left g args
+    performs (Busy left g args others) k vs f light = library_settles p before k vs c (λ v d s. rest k f light (v ∷ vs) d s) left g args others
     performs Skip k vs f light = rest k f light vs c (same c)
     performs (Init i o shape) k vs f light = one_settles p before vs _ (λ v r. stores k f light _ r (put_same true shape c _ v))
     performs (CarryInto i o done size) k vs f light = one_settles p before vs _ (λ a r. sets k f i o done size a _ r light)

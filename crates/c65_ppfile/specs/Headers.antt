@@ -1,7 +1,7 @@
 -- The headers that are built in: their names, and their texts at an inclusion.
 use Rattle.std.specs.Prelude.{ℕ, List, [], ◌∷◌, ◌++◌, Bool, true, false, not, ◌&&◌, ◌||◌, if◌then◌else◌, Option, is_some, find, codes, bytes_eq}
 use Rattle.c65_ppfile.specs.declared.headers.BuiltIn.{BuiltIn}
-use Rattle.c65_ppfile.specs.declared.headers.BuiltIn.TheVariants.{Stdio, Stdlib, Strings, Stddef, Limits, Stdint}
+use Rattle.c65_ppfile.specs.declared.headers.BuiltIn.TheVariants.{Stdio, Stdlib, Strings, Stddef, Limits, Stdint, Stdarg}
 
 abbrev pub name_of : BuiltIn → List ℕ
 name_of Stdio = codes "stdio.h"
@@ -10,9 +10,10 @@ name_of Strings = codes "string.h"
 name_of Stddef = codes "stddef.h"
 name_of Limits = codes "limits.h"
 name_of Stdint = codes "stdint.h"
+name_of Stdarg = codes "stdarg.h"
 
 abbrev pub all : List BuiltIn
-all = Stdio ∷ Stdlib ∷ Strings ∷ Stddef ∷ Limits ∷ Stdint ∷ []
+all = Stdio ∷ Stdlib ∷ Strings ∷ Stddef ∷ Limits ∷ Stdint ∷ Stdarg ∷ []
 
 abbrev pub built_in_of : List ℕ → Option BuiltIn
 built_in_of name = find (λ h. bytes_eq (name_of h) name) all
@@ -27,12 +28,13 @@ lines (l ∷ ls) = l ++ 10 ∷ lines ls
 
 -- what a header declares besides size_t and the limits of plain char
 abbrev pub text_of : BuiltIn → List ℕ
-text_of Stdio = lines (codes "#define EOF (-1)" ∷ codes "int putchar(int);" ∷ codes "int getchar(void);" ∷ codes "int puts(const char *);" ∷ [])
+text_of Stdio = lines (codes "#define EOF (-1)" ∷ codes "int putchar(int);" ∷ codes "int getchar(void);" ∷ codes "int puts(const char *);" ∷ codes "int printf(const char *, ...);" ∷ [])
 text_of Stdlib = lines (codes "#define NULL ((void*)0)" ∷ codes "#define EXIT_SUCCESS 0" ∷ codes "#define EXIT_FAILURE 1" ∷ codes "void exit(int);" ∷ [])
 text_of Strings = lines (codes "#define NULL ((void*)0)" ∷ codes "void *memcpy(void *, const void *, size_t);" ∷ codes "void *memset(void *, int, size_t);" ∷ codes "int strcmp(const char *, const char *);" ∷ codes "char *strcpy(char *, const char *);" ∷ codes "size_t strlen(const char *);" ∷ [])
 text_of Stddef = lines (codes "#define NULL ((void*)0)" ∷ codes "typedef int ptrdiff_t;" ∷ [])
 text_of Limits = lines (codes "#define CHAR_BIT 8" ∷ codes "#define SCHAR_MIN (-128)" ∷ codes "#define SCHAR_MAX 127" ∷ codes "#define UCHAR_MAX 255" ∷ codes "#define MB_LEN_MAX 1" ∷ codes "#define SHRT_MIN (-32767-1)" ∷ codes "#define SHRT_MAX 32767" ∷ codes "#define USHRT_MAX 65535U" ∷ codes "#define INT_MIN (-32767-1)" ∷ codes "#define INT_MAX 32767" ∷ codes "#define UINT_MAX 65535U" ∷ codes "#define LONG_MIN (-2147483647L-1L)" ∷ codes "#define LONG_MAX 2147483647L" ∷ codes "#define ULONG_MAX 4294967295UL" ∷ [])
 text_of Stdint = lines (codes "typedef signed char int8_t;" ∷ codes "typedef unsigned char uint8_t;" ∷ codes "typedef int int16_t;" ∷ codes "typedef unsigned int uint16_t;" ∷ codes "typedef long int32_t;" ∷ codes "typedef unsigned long uint32_t;" ∷ [])
+text_of Stdarg = lines (codes "typedef unsigned char *va_list;" ∷ codes "#define va_start(ap,last) ((void)((ap)=__va_rest))" ∷ codes "#define va_arg(ap,t) (*(t*)((ap)-=sizeof(t)))" ∷ codes "#define va_end(ap) ((void)0)" ∷ [])
 
 abbrev pub has_size : BuiltIn → Bool
 has_size Stdlib = true

@@ -13,15 +13,17 @@ pub enum BuiltIn {
     Stddef,
     Limits,
     Stdint,
+    Stdarg,
 }
 
-const ALL: [BuiltIn; 6] = [
+const ALL: [BuiltIn; 7] = [
     BuiltIn::Stdio,
     BuiltIn::Stdlib,
     BuiltIn::Strings,
     BuiltIn::Stddef,
     BuiltIn::Limits,
     BuiltIn::Stdint,
+    BuiltIn::Stdarg,
 ];
 
 const SIZE: &[u8] = b"typedef unsigned int size_t;\n";
@@ -30,6 +32,7 @@ const STDIO: &[u8] = b"#define EOF (-1)
 int putchar(int);
 int getchar(void);
 int puts(const char *);
+int printf(const char *, ...);
 ";
 
 const STDLIB: &[u8] = b"#define NULL ((void*)0)
@@ -82,6 +85,13 @@ typedef long int32_t;
 typedef unsigned long uint32_t;
 ";
 
+// The further arguments lie below their end, the first one highest (docs/MACHINE.md, "Calls").
+const STDARG: &[u8] = b"typedef unsigned char *va_list;
+#define va_start(ap,last) ((void)((ap)=__va_rest))
+#define va_arg(ap,t) (*(t*)((ap)-=sizeof(t)))
+#define va_end(ap) ((void)0)
+";
+
 impl BuiltIn {
     /// The header's name between its brackets.
     pub fn name(self) -> &'static [u8]
@@ -94,6 +104,7 @@ impl BuiltIn {
             BuiltIn::Stddef => b"stddef.h",
             BuiltIn::Limits => b"limits.h",
             BuiltIn::Stdint => b"stdint.h",
+            BuiltIn::Stdarg => b"stdarg.h",
         }
     }
 
@@ -108,6 +119,7 @@ impl BuiltIn {
             BuiltIn::Stddef => b"<stddef.h>",
             BuiltIn::Limits => b"<limits.h>",
             BuiltIn::Stdint => b"<stdint.h>",
+            BuiltIn::Stdarg => b"<stdarg.h>",
         }
     }
 
@@ -117,7 +129,7 @@ impl BuiltIn {
     {
         match self {
             BuiltIn::Stdlib | BuiltIn::Strings | BuiltIn::Stddef => true,
-            BuiltIn::Stdio | BuiltIn::Limits | BuiltIn::Stdint => false,
+            BuiltIn::Stdio | BuiltIn::Limits | BuiltIn::Stdint | BuiltIn::Stdarg => false,
         }
     }
 
@@ -132,6 +144,7 @@ impl BuiltIn {
             BuiltIn::Stddef => STDDEF,
             BuiltIn::Limits => LIMITS,
             BuiltIn::Stdint => STDINT,
+            BuiltIn::Stdarg => STDARG,
         }
     }
 }

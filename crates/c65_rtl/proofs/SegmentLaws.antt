@@ -8,7 +8,7 @@ use Rattle.c65_code.specs.declared.routine.TosOp.TheVariants as tos
 use Rattle.c65_code.specs.declared.routine.UnaryRoutine.{UnaryRoutine}
 use Rattle.c65_code.specs.declared.routine.UnaryRoutine.TheVariants.{Neg, Compl, Shl1, Shr1, Asr1, BNeg}
 use Rattle.c65_base.specs.declared.library.Library.{Library}
-use Rattle.c65_base.specs.declared.library.Library.TheVariants.{Putchar, Getchar, Puts, Exit, Memcpy, Memset, Strcmp, Strcpy, Strlen}
+use Rattle.c65_base.specs.declared.library.Library.TheVariants.{Putchar, Getchar, Puts, Exit, Memcpy, Memset, Strcmp, Strcpy, Strlen, Printf}
 use Rattle.c65_code.specs.declared.routine.Count.{Count}
 use Rattle.c65_code.specs.declared.routine.Count.TheVariants.{One, Two, Three, Four, Five, Six, Seven, Eight}
 use Rattle.c65_code.specs.declared.routine.Width.{Width}
@@ -103,16 +103,17 @@ lowered Six = record { fit = refl; labels = refl; targets = refl; closed = refl 
 lowered Seven = record { fit = refl; labels = refl; targets = refl; closed = refl }
 lowered Eight = record { fit = refl; labels = refl; targets = refl; closed = refl }
 
-of_library : (function : Library) → IsSegment (lines_of (routines.Library function))
-of_library Putchar = record { fit = refl; labels = refl; targets = refl; closed = refl }
-of_library Getchar = record { fit = refl; labels = refl; targets = refl; closed = refl }
-of_library Puts = record { fit = refl; labels = refl; targets = refl; closed = refl }
-of_library Exit = record { fit = refl; labels = refl; targets = refl; closed = refl }
-of_library Memcpy = record { fit = refl; labels = refl; targets = refl; closed = refl }
-of_library Memset = record { fit = refl; labels = refl; targets = refl; closed = refl }
-of_library Strcmp = record { fit = refl; labels = refl; targets = refl; closed = refl }
-of_library Strcpy = record { fit = refl; labels = refl; targets = refl; closed = refl }
-of_library Strlen = record { fit = refl; labels = refl; targets = refl; closed = refl }
+of_library : (function : Library) → IsTrue (is_narrow (routines.Library function)) → IsSegment (lines_of (routines.Library function))
+of_library Putchar h = record { fit = refl; labels = refl; targets = refl; closed = refl }
+of_library Getchar h = record { fit = refl; labels = refl; targets = refl; closed = refl }
+of_library Puts h = record { fit = refl; labels = refl; targets = refl; closed = refl }
+of_library Exit h = record { fit = refl; labels = refl; targets = refl; closed = refl }
+of_library Memcpy h = record { fit = refl; labels = refl; targets = refl; closed = refl }
+of_library Memset h = record { fit = refl; labels = refl; targets = refl; closed = refl }
+of_library Strcmp h = record { fit = refl; labels = refl; targets = refl; closed = refl }
+of_library Strcpy h = record { fit = refl; labels = refl; targets = refl; closed = refl }
+of_library Strlen h = record { fit = refl; labels = refl; targets = refl; closed = refl }
+of_library Printf h = absurd (false_true h)
 
 pub segment_of : (which : Routine) → IsTrue (is_narrow which) → IsSegment (lines_of which)
 segment_of routines.PushA h = record { fit = refl; labels = refl; targets = refl; closed = refl }
@@ -153,7 +154,7 @@ segment_of (routines.DecSp count) h = lowered count
 segment_of (routines.Tos op Ax) h = word_operator op
 segment_of (routines.Tos op Eax) h = long_operator op h
 segment_of (routines.Unary op width) h = unary op width
-segment_of (routines.Library function) h = of_library function
+segment_of (routines.Library function) h = of_library function h
 segment_of routines.HookOpen h = absurd (false_true h)
 segment_of routines.HookClose h = absurd (false_true h)
 segment_of routines.HookRead h = absurd (false_true h)

@@ -7,7 +7,7 @@ use Rattle.c65_rtl.specs.Assembly.{sp, ptr1, ptr2, ptr3, implied, value, zero_pa
 use Rattle.c65_code.specs.declared.routine.Routine.{Routine}
 use Rattle.c65_code.specs.declared.routine.Routine.TheVariants as routines
 use Rattle.c65_base.specs.declared.library.Library.{Library}
-use Rattle.c65_base.specs.declared.library.Library.TheVariants.{Putchar, Getchar, Puts, Exit, Memcpy, Memset, Strcmp, Strcpy, Strlen}
+use Rattle.c65_base.specs.declared.library.Library.TheVariants.{Putchar, Getchar, Puts, Exit, Memcpy, Memset, Strcmp, Strcpy, Strlen, Printf}
 use Rattle.c65_code.specs.declared.line.Callee.TheVariants as callees
 use Rattle.c65_code.specs.Effects.{ax}
 use Rattle.c65_code.specs.declared.routine.Count.TheVariants.{One, Two, Four}
@@ -99,3 +99,4 @@ library_pieces Memset = memory_pieces Memset
 library_pieces Strcmp = string_pieces Strcmp
 library_pieces Strcpy = string_pieces Strcpy
 library_pieces Strlen = string_pieces Strlen
+library_pieces Printf = []

@@ -10,7 +10,7 @@ use Rattle.c65_code.specs.declared.routine.TosOp.TheVariants as tos
 use Rattle.c65_code.specs.declared.routine.UnaryRoutine.{UnaryRoutine}
 use Rattle.c65_code.specs.declared.routine.UnaryRoutine.TheVariants.{Neg, Compl, Shl1, Shr1, Asr1, BNeg}
 use Rattle.c65_base.specs.declared.library.Library.{Library}
-use Rattle.c65_base.specs.declared.library.Library.TheVariants.{Exit}
+use Rattle.c65_base.specs.declared.library.Library.TheVariants.{Exit, Printf}
 use Rattle.c65_code.specs.declared.routine.Width.{Width}
 use Rattle.c65_code.specs.declared.routine.Width.TheVariants.{Ax, Eax}
 use Rattle.c65_code.specs.Parts.{no_parts, all_parts, union_of, minus_of, set_of}
@@ -25,13 +25,14 @@ use Rattle.c65_rtl.specs.Unary.{word_pieces, long_pieces, widening_pieces}
 use Rattle.c65_rtl.specs.Library.{start_pieces, library_pieces}
 use Rattle.c65_rtl.specs.Check.{check_pieces}
 
--- the hooks are no segments, and the multiplication and the divisions of 32 bits are apart
+-- the hooks are no segments, and the multiplication and the divisions of 32 bits and `printf` are apart
 abbrev pub is_narrow : Routine → Bool
 is_narrow (routines.Tos tos.Mul Eax) = false
 is_narrow (routines.Tos tos.Div Eax) = false
 is_narrow (routines.Tos tos.Mod Eax) = false
 is_narrow (routines.Tos tos.UDiv Eax) = false
 is_narrow (routines.Tos tos.UMod Eax) = false
+is_narrow (routines.Library Printf) = false
 is_narrow routines.HookOpen = false
 is_narrow routines.HookClose = false
 is_narrow routines.HookRead = false

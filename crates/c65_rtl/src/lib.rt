@@ -1,4 +1,4 @@
-//! The runtime's routines as segments: all but the multiplication and the divisions of 32 bits.
+//! The runtime's routines as segments: all but the multiplication and the divisions of 32 bits, and `printf`.
 //!
 //! The routines without loops and calls, and the shifts, do what their rows say: their lines, on the machine whose calls all
 //! enter lines, come back with the row met, in fewer instructions than it costs, and within the bytes that they may reach of

@@ -319,5 +319,6 @@ pub fn library(draft: &mut Draft, function: Library) -> Result<(), AllocError>
         Library::Strcmp => string_function(draft, function),
         Library::Strcpy => string_function(draft, function),
         Library::Strlen => string_function(draft, function),
+        Library::Printf => Ok(()),
     }
 }

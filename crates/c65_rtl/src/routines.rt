@@ -16,17 +16,18 @@ use crate::orders::order;
 use crate::shifts::shift;
 use crate::stack::{load, lower, pop, push, raise, store};
 use crate::unary::{long, widening, word};
-use c65_base::Refusal;
+use c65_base::{Library, Refusal};
 use c65_code::{Draft, Routine, Seg, TosOp, Width};
 use std::alloc::{AllocError, Global};
 
-/// Whether the routine's lines stand here: it is no hook, and not the multiplication or a division of 32 bits.
+/// Whether the routine's lines stand here: it is no hook, and not the multiplication or a division of 32 bits, or `printf`.
 pub fn is_narrow(which: Routine) -> bool
     ensures { result ≡ is_narrow which }
 {
     match which {
         Routine::Tos(TosOp::Mul | TosOp::Div | TosOp::Mod, Width::Eax) => false,
         Routine::Tos(TosOp::UDiv | TosOp::UMod, Width::Eax) => false,
+        Routine::Library(Library::Printf) => false,
         Routine::HookOpen | Routine::HookClose | Routine::HookRead => false,
         Routine::HookWrite | Routine::HookArgs | Routine::HookExit => false,
         _ => true,

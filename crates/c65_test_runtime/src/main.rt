@@ -12,6 +12,9 @@
 //! - `alone NAME EAX TOS`: whether the routine leaves all other memory as it was
 //! - `check SP ASKED S`: where the check of the stacks goes for so many bytes, with S before its call
 //! - `programs`: programs that call the library over the hooks
+//!
+//! A line of the table `formats` is a call of printf: the format, the text that C's own printf writes for it, and the arguments,
+//! with tabs between. An argument is `2` or `4`, for so many bytes, and a number, or `s` and a text.
 #![tactic(auto)]
 
 mod arithmetic;
@@ -20,6 +23,7 @@ mod checks;
 mod library;
 mod operators;
 mod placing;
+mod printing;
 mod stack;
 mod whole;
 mod words;
@@ -28,6 +32,7 @@ use crate::checks::check;
 use crate::library::{adds, ascends, compares, copies, copies_structure, echoes, fills, measures};
 use crate::operators::{right_numbers, right_pairs};
 use crate::placing::{FIRST, Runtime, placed_runtime};
+use crate::printing::prints;
 use crate::stack::{is_right_far, restores_bank, right_places, saves_bank};
 use crate::whole::{fill, leaves_others};
 use crate::words::Words;
@@ -129,6 +134,12 @@ fn main(rt: HostRuntime) -> Result<(), anyhow::Error> {
     let mut runtime = placed_runtime(rt.alloc())?;
     for text in rows.lines() {
         line(&rt, &mut runtime, text)?;
+    }
+    let formats = fs::read_to_string(&rt, "formats")?;
+    for text in formats.lines() {
+        let right = prints(rt.alloc(), &mut runtime, text)?;
+        let (format, _) = text.split_once('\t').unwrap_or((text, ""));
+        println!(rt; "print {format}: {right}")?;
     }
     Ok(())
 }

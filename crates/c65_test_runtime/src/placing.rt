@@ -4,6 +4,7 @@ use c65_code::{Callee, Line, Operand, Routine, Seg};
 use c65_mach::{Machine, Mode, Op, decode};
 use c65_rtl::{is_narrow, routine};
 use c65_rtlwide::{is_wide, wide_routine};
+use c65_va::{is_printf, printf_routine};
 use std::alloc::Global;
 
 /// The address of the first routine.
@@ -28,28 +29,99 @@ fn segment(alloc: Global, which: Routine) -> Result<Option<Seg>, Refusal> {
     if is_wide(which) {
         return Ok(Some(wide_routine(alloc, which)?));
     }
+    if is_printf(which) {
+        return Ok(Some(printf_routine(alloc)?));
+    }
     Ok(None)
 }
 
-fn size_of(line: &Line) -> u16 {
+// The bytes of a line; of a branch, those of the opposite branch round a jump.
+fn most_of(line: &Line) -> u16 {
     match line {
         Line::Label(_) => 0,
         Line::Call(_) => 3,
         Line::Do(_, Mode::Implied | Mode::Accumulator, _) => 1,
         Line::Do(_, Mode::Absolute | Mode::AbsoluteX | Mode::AbsoluteY | Mode::Indirect, _) => 3,
+        Line::Do(_, Mode::Relative, _) => 5,
         Line::Do(_, _, _) => 2,
+    }
+}
+
+// Whether the label stands in so few lines that a branch beside them reaches it.
+fn is_near(lines: &[Line], label: u32) -> bool {
+    let mut bytes = 0_u16;
+    let mut there = false;
+    for line in lines {
+        there = there || *line == Line::Label(label);
+        bytes = bytes.wrapping_add(most_of(line));
+    }
+    there && bytes < 120
+}
+
+// Whether the line at a place is a branch that does not reach its label.
+fn is_far(lines: &[Line], place: usize) -> bool {
+    match lines.get(place) {
+        Some(Line::Do(_, Mode::Relative, Operand::To(label))) => {
+            let (before, behind) = lines.split_at(place);
+            !is_near(up_to(behind, *label), *label) && !is_near(down_to(before, *label), *label)
+        }
+        _ => false,
+    }
+}
+
+// The lines up to a label, or from it on; all where there is no such label.
+fn up_to(lines: &[Line], label: u32) -> &[Line] {
+    let end = place_in(lines, label).wrapping_add(1).min(lines.len());
+    &lines[..end]
+}
+
+fn down_to(lines: &[Line], label: u32) -> &[Line] {
+    let first = place_in(lines, label);
+    if first < lines.len() {
+        &lines[first..]
+    } else {
+        lines
+    }
+}
+
+fn place_in(lines: &[Line], label: u32) -> usize {
+    for (place, line) in lines.iter().enumerate() {
+        if *line == Line::Label(label) {
+            return place;
+        }
+    }
+    lines.len()
+}
+
+fn size_of(lines: &[Line], place: usize, line: &Line) -> u16 {
+    match line {
+        Line::Do(_, Mode::Relative, _) if !is_far(lines, place) => 2,
+        _ => most_of(line),
     }
 }
 
 fn place_of(lines: &[Line], base: u16, label: u32) -> u16 {
     let mut at = base;
-    for line in lines {
+    for (place, line) in lines.iter().enumerate() {
         if *line == Line::Label(label) {
             return at;
         }
-        at = at.wrapping_add(size_of(line));
+        at = at.wrapping_add(size_of(lines, place, line));
     }
     at
+}
+
+fn opposite(op: Op) -> Op {
+    match op {
+        Op::Beq => Op::Bne,
+        Op::Bne => Op::Beq,
+        Op::Bcc => Op::Bcs,
+        Op::Bcs => Op::Bcc,
+        Op::Bpl => Op::Bmi,
+        Op::Bmi => Op::Bpl,
+        Op::Bvc => Op::Bvs,
+        _ => Op::Bvc,
+    }
 }
 
 // A byte without a row where the table has none.
@@ -118,10 +190,17 @@ fn put_word(machine: &mut Machine, at: u16, size: u16, word: u16) {
 // Puts the lines at an address, and answers the address behind them.
 fn put_lines(machine: &mut Machine, starts: &[(Routine, u16)], lines: &[Line], base: u16) -> u16 {
     let mut at = base;
-    for line in lines {
-        let size = size_of(line);
+    for (place, line) in lines.iter().enumerate() {
+        let size = size_of(lines, place, line);
         match *line {
             Line::Label(_) => {}
+            Line::Do(op, Mode::Relative, what) if size > 2 => {
+                let jump = at.wrapping_add(2);
+                machine.write(at, opcode(opposite(op), Mode::Relative));
+                machine.write(at.wrapping_add(1), 3);
+                machine.write(jump, opcode(Op::Jmp, Mode::Absolute));
+                put_word(machine, jump, 3, operand(lines, base, jump, Mode::Absolute, what));
+            }
             Line::Call(callee) => {
                 machine.write(at, opcode(Op::Jsr, Mode::Absolute));
                 put_word(machine, at, size, called(starts, &callee));

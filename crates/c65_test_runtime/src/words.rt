@@ -23,11 +23,7 @@ impl<'a> Words<'a> {
 
     /// The next number, in hexadecimal.
     pub fn long(&mut self) -> u32 {
-        let mut number = 0_u32;
-        for byte in self.next_word().as_bytes() {
-            number = number.wrapping_mul(16).wrapping_add(digit(*byte));
-        }
-        number
+        number(self.next_word())
     }
 
     pub fn word(&mut self) -> u16 {
@@ -39,6 +35,15 @@ impl<'a> Words<'a> {
         let [low, _, _, _] = self.long().to_le_bytes();
         low
     }
+}
+
+/// The number of a word in hexadecimal.
+pub fn number(word: &str) -> u32 {
+    let mut number = 0_u32;
+    for byte in word.as_bytes() {
+        number = number.wrapping_mul(16).wrapping_add(digit(*byte));
+    }
+    number
 }
 
 fn digit(byte: u8) -> u32 {

@@ -4,8 +4,7 @@ use Rattle.c65_csem.specs.Trees.{call}
 use Rattle.c65_csem.specs.Views.{typed_of, nodes_of, node_of}
 use Rattle.c65_csem.proofs.RowLaws.{node_of_call}
 use Rattle.c65_genexpr.specs.Uses.{count, node_count, args_count}
-use Rattle.c65_genwide.proofs.Kept.{kept_then, kept_last}
-use Rattle.c65_genexpr.proofs.Kept.{grown_then, grown_last, label_then, label_last, refused_then}
+use Rattle.c65_genwide.proofs.Kept.{kept_then, kept_last, grown_then, grown_last, label_then, label_last, refused_then}
 use Rattle.c65_genexpr.proofs.expr.+expression.Goals as goal
 
 pub put_expr-put_call-requires : goal.put_expr-put_call-requires

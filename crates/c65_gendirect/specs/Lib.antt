@@ -1,0 +1,4 @@
+pub mod Bytes
+pub mod Compare
+pub mod Tests
+pub mod Words

@@ -1,0 +1,17 @@
+//! Operators, comparisons and tests whose operand is read where it lies, in place of one that waits on
+//! the software stack.
+#![tactic(auto, using(c65_genwide::proofs::Kept::kept_then, c65_genwide::proofs::Kept::kept_last))]
+
+mod bytes;
+mod compare;
+mod direct;
+mod relation;
+mod truth;
+mod words;
+
+pub use bytes::{OperandByte, put_op};
+pub use compare::{Sides, put_compare, put_compare_byte};
+pub use direct::{Direct, byte_of, converted};
+pub use relation::{Relation, relation_of};
+pub use truth::{put_truth, put_zero_test};
+pub use words::{put_add_number, put_long_mask, put_sum, put_taken_from, put_word};
