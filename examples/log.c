@@ -1,22 +1,10 @@
 /* A log with further arguments, which one function hands on to another. */
+#include <stdarg.h>
 #include <stdio.h>
-
-typedef unsigned char *va_list;
-#define va_start(list, last) ((list) = __va_rest)
-#define va_arg(list, type) (*(type *) ((list) -= sizeof(type)))
-
-static void number(unsigned long n)
-{
-    if (n > 9)
-        number(n / 10);
-    putchar('0' + (int) (n % 10));
-}
 
 /* `%d` an int, `%l` a long, `%s` a text */
 static void write_list(const char *form, va_list list)
 {
-    const char *text;
-
     for (; *form; ++form) {
         if (*form != '%') {
             putchar(*form);
@@ -24,14 +12,13 @@ static void write_list(const char *form, va_list list)
         }
         switch (*++form) {
         case 'd':
-            number(va_arg(list, int));
+            printf("%d", va_arg(list, int));
             break;
         case 'l':
-            number(va_arg(list, long));
+            printf("%ld", va_arg(list, long));
             break;
         case 's':
-            for (text = va_arg(list, const char *); *text; ++text)
-                putchar(*text);
+            printf("%s", va_arg(list, const char *));
             break;
         }
     }
@@ -44,13 +31,10 @@ static void log_line(const char *from, const char *form, ...)
 {
     va_list list;
 
-    number(++lines);
-    putchar(' ');
-    for (; *from; ++from)
-        putchar(*from);
-    putchar(' ');
+    printf("%d %s ", ++lines, from);
     va_start(list, form);
     write_list(form, list);
+    va_end(list);
 }
 
 int main(void)

@@ -5,7 +5,7 @@
 # Variables: lib; sources and folders, one a line; strict, 1 where only C90's names are wanted.
 
 BEGIN {
-    split("stdio.h stdlib.h string.h stddef.h limits.h stdint.h", names, " ")
+    split("stdio.h stdlib.h string.h stddef.h limits.h stdint.h stdarg.h", names, " ")
     for (i in names) built_in[names[i]] = 1
     read_table(lib "/files")
     folder_count = split(folders, folder, "\n") - 1

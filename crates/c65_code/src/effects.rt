@@ -86,11 +86,8 @@ fn library_sets_of(function: Library) -> RegSet
     ensures { result ≡ library_sets function }
 {
     match function {
-        Library::Memcpy
-        | Library::Memset
-        | Library::Strcmp
-        | Library::Strcpy
-        | Library::Printf => most().union(sp()),
+        Library::Memcpy | Library::Memset | Library::Strcmp | Library::Strcpy | Library::Printf =>
+            most().union(sp()),
         Library::Putchar | Library::Getchar | Library::Puts | Library::Exit | Library::Strlen =>
             most(),
     }

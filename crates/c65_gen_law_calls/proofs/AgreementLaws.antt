@@ -1,6 +1,6 @@
 -- A call that agrees with its function passes as many bytes as the function takes away.
-use Rattle.std.proofs.Common.{◌≡◌, ℕ, ◌+◌, ◌-◌, ◌==◌, ◌||◌, not, Bool, true, false, Option, None, Some, List, [], ◌∷◌, length, slice_get, refl, sym, ap, subst, ◌∙◌, arith}
-use Rattle.std.specs.Prelude.{nat_lt, if◌then◌else◌, Ok}
+use Rattle.std.proofs.Common.{◌≡◌, ℕ, ◌+◌, ◌-◌, ◌<◌, ◌==◌, ◌||◌, not, Bool, true, false, Option, None, Some, List, [], ◌∷◌, length, slice_get, refl, sym, ap, subst, ◌∙◌, arith}
+use Rattle.std.specs.Prelude.{IsTrue, nat_lt, if◌then◌else◌, Ok}
 use Rattle.std.proofs.lemmas.Bool.{eq-eqb, eqb-true, and_parts}
 use Rattle.c65_base.specs.declared.refusal.Size.TheVariants as sizes
 use Rattle.c65_base.specs.Answers.{large}
@@ -13,15 +13,16 @@ use Rattle.c65_ctype.specs.Compatible.{same_int}
 use Rattle.c65_csem.specs.declared.items.Parts.{Parts}
 use Rattle.c65_base.specs.declared.library.Library.{Library}
 use Rattle.c65_base.specs.declared.library.Library.TheVariants as library
+use Rattle.c65_csem.specs.Library.{takes_more}
 use Rattle.c65_csem.specs.Trees.{Typed, node, pack, type_of, Nodes, none, some, Stmt, UnitTy, FuncTy}
 use Rattle.c65_csem.specs.Places.{is_scalar, is_small, is_passed, plain, are_alike, alike}
 use Rattle.c65_csem.specs.Typed.{AreGiven, FitsFn, IsCall, IsGiven, AreTyped}
 use Rattle.c65_csem.specs.Units.{AreParams, MatchParams, IsBody}
 use Rattle.c65_csem.specs.Views.{unit_of}
 use Rattle.c65_code.specs.LineState.{State, sp_of}
-use Rattle.c65_base.specs.declared.library.Library.TheVariants.{Putchar, Getchar, Puts, Exit, Memcpy, Memset, Strcmp, Strcpy, Strlen}
+use Rattle.c65_base.specs.declared.library.Library.TheVariants.{Putchar, Getchar, Puts, Exit, Memcpy, Memset, Strcmp, Strcpy, Strlen, Printf}
 use Rattle.c65_code.specs.declared.routine.Routine.TheVariants as routines
-use Rattle.c65_code.specs.Rows.{Row, row_by, read_row, costing, row_of}
+use Rattle.c65_code.specs.Rows.{Row, row_by, read_row, printed_of, print_row, costing, row_of}
 use Rattle.c65_code.specs.Moves.{MeetsRow}
 use Rattle.c65_genframe.specs.declared.modes.Modes.{Modes}
 use Rattle.c65_genframe.specs.declared.home.Arrival.{Arrival}
@@ -39,6 +40,7 @@ use Rattle.c65_gen_law_stack.specs.Parameters as parameters
 use Rattle.c65_gen_law_stack.specs.Parameters.{IsArgument, AreArguments, AreTaken}
 use Rattle.c65_gen_law_stack.proofs.ParameterLaws.{same_kind, alike_in, plain_type, scalar_size, argument_taken, calls_pass_what_is_taken}
 use Rattle.c65_gen_law_calls.specs.Sites.{Site, bytes_of}
+use Rattle.c65_gen_law_calls.specs.Travels.{IsReady}
 use Rattle.c65_gen_law_calls.specs.Agreement.{Takes, Agrees, library_types, AreOf, LibraryAgrees, is_like, alike_types, AreAlike, PrototypesAgree}
 
 -- ---- types that are alike
@@ -221,12 +223,14 @@ agreed_bytes parts modes g f h s t framed own agrees counted = passes_by (is_var
 
 -- ---- functions of the library
 
-abbrev pub library_bytes : Library → ℕ
-library_bytes Memcpy = 4
-library_bytes Memset = 4
-library_bytes Strcmp = 2
-library_bytes Strcpy = 2
-library_bytes _ = 0
+-- what a function of the library takes off the stack, where Y is as given
+abbrev pub library_bytes : Library → ℕ → ℕ
+library_bytes Memcpy y = 4
+library_bytes Memset y = 4
+library_bytes Strcmp y = 2
+library_bytes Strcpy y = 2
+library_bytes Printf y = y
+library_bytes _ y = 0
 
 pointer_scalar : (q : QTy) (x : Ty) → alike (pointer q) x ≡ true → (is_scalar x ≡ true) × (size_of (kind_of x) ≡ 2)
 pointer_scalar q (pointer r) h = (refl, refl)
@@ -251,22 +255,22 @@ int_size : (f : Framed) (e : Typed) → alike (int Int) (bare e) ≡ true → pa
 int_size f e h = let own = int_scalar (bare e) h in scalar_size f e own.0 ∙ own.1
 
 -- none, one, two or three arguments
-no_arg : (f : Framed) (es : Nodes) → AreOf es [] → bytes_in (passed f true es) ≡ 0
+no_arg : (f : Framed) (es : Nodes) → AreOf false es [] → bytes_in (passed f true es) ≡ 0
 no_arg f none h = refl
 no_arg f (some e es) h = absurd h
 
-one_arg : (f : Framed) (t : Ty) (es : Nodes) → AreOf es (t ∷ []) → bytes_in (passed f true es) ≡ 0
+one_arg : (f : Framed) (t : Ty) (es : Nodes) → AreOf false es (t ∷ []) → bytes_in (passed f true es) ≡ 0
 one_arg f t none h = absurd h
 one_arg f t (some e none) h = refl
 one_arg f t (some e (some g es)) h = absurd h.1
 
-two_args : (f : Framed) (q : QTy) (t : Ty) (es : Nodes) → AreOf es (pointer q ∷ t ∷ []) → bytes_in (passed f true es) ≡ 2
+two_args : (f : Framed) (q : QTy) (t : Ty) (es : Nodes) → AreOf false es (pointer q ∷ t ∷ []) → bytes_in (passed f true es) ≡ 2
 two_args f q t none h = absurd h
 two_args f q t (some e none) h = absurd h.1
 two_args f q t (some e (some g none)) h = let size : passed_size f e ≡ 2 = pointer_size f q e h.0 in omega (arith, size)
 two_args f q t (some e (some g (some i es))) h = absurd h.1.1
 
-sizes_sum : (f : Framed) (t : Ty) → ((e : Typed) → alike t (bare e) ≡ true → passed_size f e ≡ 2) → (q : QTy) (z : Ty) (es : Nodes) → AreOf es (pointer q ∷ t ∷ z ∷ []) → bytes_in (passed f true es) ≡ 4
+sizes_sum : (f : Framed) (t : Ty) → ((e : Typed) → alike t (bare e) ≡ true → passed_size f e ≡ 2) → (q : QTy) (z : Ty) (es : Nodes) → AreOf false es (pointer q ∷ t ∷ z ∷ []) → bytes_in (passed f true es) ≡ 4
 sizes_sum f t size q z none h = absurd h
 sizes_sum f t size q z (some e none) h = absurd h.1
 sizes_sum f t size q z (some e (some g none)) h = absurd h.1.1
@@ -276,7 +280,7 @@ sizes_sum f t size q z (some e (some g (some i none))) h =
     omega (arith, first, second)
 sizes_sum f t size q z (some e (some g (some i (some j es)))) h = absurd h.1.1.1
 
-library_passes : (f : Framed) (l : Library) (es : Nodes) → AreOf es (library_types l) → bytes_in (passed f true es) ≡ library_bytes l
+library_passes : (f : Framed) (l : Library) (es : Nodes) → AreOf false es (library_types l) → bytes_in (passed f true es) ≡ library_bytes l 0
 library_passes f library.Putchar es h = one_arg f (int Int) es h
 library_passes f library.Getchar es h = no_arg f es h
 library_passes f library.Puts es h = one_arg f (pointer (plain void)) es h
@@ -286,9 +290,22 @@ library_passes f library.Memset es h = sizes_sum f (int Int) (int_size f) (plain
 library_passes f library.Strcmp es h = two_args f (plain void) (pointer (plain void)) es h
 library_passes f library.Strcpy es h = two_args f (plain void) (pointer (plain void)) es h
 library_passes f library.Strlen es h = one_arg f (pointer (plain void)) es h
+library_passes f library.Printf es h = one_arg f (pointer (plain void)) es h
 
-pub agreed_library : (f : Framed) (s : Site) (l : Library) → LibraryAgrees s l → bytes_in (bytes_of f s) ≡ library_bytes l
-agreed_library f s l agrees = ap (λ (b : Bool). bytes_in (passed f b s.args)) agrees.fast ∙ library_passes f l s.args agrees.taken
+plain_library : (f : Framed) (s : Site) (l : Library) → is_fast (bare s.callee) ≡ true → AreOf false s.args (library_types l) → bytes_in (bytes_of f s) ≡ library_bytes l 0
+plain_library f s l fast taken = ap (λ (b : Bool). bytes_in (passed f b s.args)) fast ∙ library_passes f l s.args taken
+
+pub agreed_library : (f : Framed) (s : Site) (l : Library) (y : ℕ) → LibraryAgrees s l → (takes_more l ≡ true → y ≡ bytes_in (bytes_of f s)) → bytes_in (bytes_of f s) ≡ library_bytes l y
+agreed_library f s library.Putchar y agrees counted = plain_library f s library.Putchar agrees.fast agrees.taken
+agreed_library f s library.Getchar y agrees counted = plain_library f s library.Getchar agrees.fast agrees.taken
+agreed_library f s library.Puts y agrees counted = plain_library f s library.Puts agrees.fast agrees.taken
+agreed_library f s library.Exit y agrees counted = plain_library f s library.Exit agrees.fast agrees.taken
+agreed_library f s library.Memcpy y agrees counted = plain_library f s library.Memcpy agrees.fast agrees.taken
+agreed_library f s library.Memset y agrees counted = plain_library f s library.Memset agrees.fast agrees.taken
+agreed_library f s library.Strcmp y agrees counted = plain_library f s library.Strcmp agrees.fast agrees.taken
+agreed_library f s library.Strcpy y agrees counted = plain_library f s library.Strcpy agrees.fast agrees.taken
+agreed_library f s library.Strlen y agrees counted = plain_library f s library.Strlen agrees.fast agrees.taken
+agreed_library f s library.Printf y agrees counted = sym (counted refl)
 
 read_sp : (input : List ℕ) (t : State) (row : Row) → (read_row input t row).sp ≡ row.sp
 read_sp [] t row = refl
@@ -297,13 +314,18 @@ read_sp (v ∷ input) t row = refl
 row_sp : (row : Row) (t u : State) → MeetsRow (Some row) t u → sp_of u ≡ row.sp
 row_sp row t u m = m.sp
 
-pub library_sp : (l : Library) (t u : State) → MeetsRow (row_of (routines.Library l) t) t u → sp_of u ≡ sp_of t + library_bytes l
-library_sp Putchar t u m = let same : sp_of u ≡ sp_of t = row_sp _ t u m in omega (arith, same)
-library_sp Getchar t u m = let same : sp_of u ≡ sp_of t = row_sp _ t u m ∙ read_sp t.input t (costing 256 (row_by (routines.Library Getchar) t)) in omega (arith, same)
-library_sp Puts t u m = let same : sp_of u ≡ sp_of t = row_sp _ t u m in omega (arith, same)
-library_sp Exit t u m = let same : sp_of u ≡ sp_of t = row_sp _ t u m in omega (arith, same)
-library_sp Memcpy t u m = row_sp _ t u m
-library_sp Memset t u m = row_sp _ t u m
-library_sp Strcmp t u m = row_sp _ t u m
-library_sp Strcpy t u m = row_sp _ t u m
-library_sp Strlen t u m = let same : sp_of u ≡ sp_of t = row_sp _ t u m in omega (arith, same)
+print_sp : (text : Option (List ℕ)) (t : State) (row : Row) → IsTrue (print_row t text row).ready → sp_of t + t.regs.y < 65536 → (print_row t text row).sp ≡ sp_of t + t.regs.y
+print_sp None t row ready below = absurd (let h : false ≡ true = ready in cc)
+print_sp (Some text) t row ready below = omega (arith, below)
+
+pub library_sp : (l : Library) (t u : State) → MeetsRow (row_of (routines.Library l) t) t u → IsReady (row_of (routines.Library l) t) → (takes_more l ≡ true → sp_of t + t.regs.y < 65536) → sp_of u ≡ sp_of t + library_bytes l t.regs.y
+library_sp Putchar t u m ready below = let same : sp_of u ≡ sp_of t = row_sp _ t u m in omega (arith, same)
+library_sp Getchar t u m ready below = let same : sp_of u ≡ sp_of t = row_sp _ t u m ∙ read_sp t.input t (costing 256 (row_by (routines.Library Getchar) t)) in omega (arith, same)
+library_sp Puts t u m ready below = let same : sp_of u ≡ sp_of t = row_sp _ t u m in omega (arith, same)
+library_sp Exit t u m ready below = let same : sp_of u ≡ sp_of t = row_sp _ t u m in omega (arith, same)
+library_sp Memcpy t u m ready below = row_sp _ t u m
+library_sp Memset t u m ready below = row_sp _ t u m
+library_sp Strcmp t u m ready below = row_sp _ t u m
+library_sp Strcpy t u m ready below = row_sp _ t u m
+library_sp Strlen t u m ready below = let same : sp_of u ≡ sp_of t = row_sp _ t u m in omega (arith, same)
+library_sp Printf t u m ready below = row_sp _ t u m ∙ print_sp (printed_of t) t (costing 256 (row_by (routines.Library Printf) t)) ready (below refl)

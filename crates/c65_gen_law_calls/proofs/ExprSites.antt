@@ -1,13 +1,15 @@
 -- The lines of an expression call as its calls do, in their order.
-use Rattle.std.proofs.Common.{◌≡◌, ℕ, ◌+◌, Bool, true, false, Option, None, Some, List, [], ◌∷◌, ◌++◌, refl, sym, ap, ◌∙◌}
+use Rattle.std.proofs.Common.{◌≡◌, ℕ, ◌+◌, Bool, true, false, not, Option, None, Some, IsSome, List, [], ◌∷◌, ◌++◌, refl, sym, ap, ◌∙◌}
 use Rattle.std.specs.Prelude.{if◌then◌else◌}
 use Rattle.c65_base.specs.declared.operators.BinaryOp.{BinaryOp}
 use Rattle.c65_ints.specs.declared.types.IntType.{IntType}
-use Rattle.c65_ctype.specs.Trees.{QTy, type_in}
+use Rattle.c65_ints.specs.declared.types.IntType.TheVariants.{UInt}
+use Rattle.c65_ctype.specs.Trees.{Ty, QTy, type_in}
 use Rattle.c65_ctype.specs.Views.{types_of}
 use Rattle.c65_base.specs.declared.library.Library.{Library}
 use Rattle.c65_csem.specs.Trees.{Typed, node, Node, constant, null, literal, object, func, deref, member, load, address, decay, convert, unary, binary, both, either, choice, comma, assign, assign_op, assign_step, step, copy, call, pack, spill, rest as further, Nodes, none, some}
-use Rattle.c65_mach.specs.declared.rows.Op.TheVariants.{Beq, Bne, Jmp}
+use Rattle.c65_base.specs.declared.operators.UnaryOp.TheVariants as unaries
+use Rattle.c65_mach.specs.declared.rows.Op.TheVariants.{Jmp, Lda}
 use Rattle.c65_mach.specs.declared.rows.Mode.TheVariants.{Absolute}
 use Rattle.c65_code.specs.declared.line.Operand.TheVariants.{To}
 use Rattle.c65_code.specs.declared.line.Line.{Line}
@@ -15,42 +17,75 @@ use Rattle.c65_code.specs.declared.line.Callee.TheVariants.{Routine}
 use Rattle.c65_code.specs.declared.line.Line.TheVariants.{Label, Do, Call}
 use Rattle.c65_code.specs.declared.routine.Count.TheVariants.{Two as two_bytes}
 use Rattle.c65_code.specs.declared.routine.Routine.TheVariants.{IncSp}
+use Rattle.c65_code.specs.declared.routine.Width.{Width}
 use Rattle.c65_code.specs.declared.routine.Width.TheVariants.{Ax}
 use Rattle.c65_genframe.specs.Frames.{Framed, type_bytes}
 use Rattle.c65_genwide.specs.Wide.{width_of}
 use Rattle.c65_genload.specs.declared.places.Place.{Place}
 use Rattle.c65_genload.specs.declared.places.Place.TheVariants as places
 use Rattle.c65_genload.specs.declared.places.Access.{Access}
-use Rattle.c65_genload.specs.Words.{branch}
-use Rattle.c65_genload.specs.Places.{held, extent_by}
+use Rattle.c65_genload.specs.Places.{type_in as type_at, held, extent_of, extent_by}
 use Rattle.c65_genload.specs.Conversions.{waiting}
+use Rattle.c65_gendirect.specs.declared.bytes.OperandByte.{OperandByte}
+use Rattle.c65_gendirect.specs.declared.direct.Direct.{Direct}
+use Rattle.c65_gendirect.specs.declared.relation.Relation.{Relation}
+use Rattle.c65_gendirect.specs.Compare.{relation_of}
+use Rattle.c65_genshift.specs.Shifts.{labelled}
 use Rattle.c65_genexpr.specs.declared.operands.Operands.{Operands}
-use Rattle.c65_genexpr.specs.declared.operands.Operands.TheVariants.{Numbers, PointerFirst}
+use Rattle.c65_genexpr.specs.declared.operands.Operands.TheVariants.{Numbers, PointerFirst, PointerLast, Pointers}
+use Rattle.c65_genexpr.specs.declared.operating.Operating.{Operating}
+use Rattle.c65_genexpr.specs.declared.operating.Operating.TheVariants as operating
+use Rattle.c65_genexpr.specs.declared.comparing.Side.{Side}
+use Rattle.c65_genexpr.specs.declared.comparing.Side.TheVariants.{Left, Right}
+use Rattle.c65_genexpr.specs.declared.comparing.Comparing.{Comparing}
+use Rattle.c65_genexpr.specs.declared.comparing.Comparing.TheVariants.{Truth, Byte, Whole, Stacked}
+use Rattle.c65_genexpr.specs.declared.wanted.Wanted.{Wanted}
+use Rattle.c65_genexpr.specs.declared.wanted.Wanted.TheVariants.{Value, Test}
 use Rattle.c65_genexpr.specs.declared.arguments.Passed.{Passed}
 use Rattle.c65_genexpr.specs.declared.types.Outcome.{Outcome}
 use Rattle.c65_genexpr.specs.declared.types.Outcome.TheVariants.{Nothing, Number, Area}
 use Rattle.c65_genexpr.specs.Types.{kind_of, outcome_of, kind_in, bare, offset_at, access_of, target_bytes}
 use Rattle.c65_genexpr.specs.Places.{more, place_of, object_code, IsKnown}
-use Rattle.c65_genexpr.specs.Operands.{residue_of, operands_of, computes, is_short, short_of, binary_by}
+use Rattle.c65_genexpr.specs.Wanted.{wanted_by, handed, wanted, sense, aimed, inner, truth_by, way, way_labels, joined}
+use Rattle.c65_genexpr.specs.Operands.{residue_of, operands_of, computes, same_truth, conversion_by}
+use Rattle.c65_genexpr.specs.Direct.{kept_at, own_bytes}
+use Rattle.c65_genexpr.specs.Comparing.{relation_by, tested_by, comparing_of, on, low_code, below_side, comparison_by}
+use Rattle.c65_genexpr.specs.Operating.{operating_of, waiting_code, stacked_code, below_operand, operator_by}
 use Rattle.c65_genexpr.specs.Steps.{amount_of}
 use Rattle.c65_genexpr.specs.Arguments.{is_fast, is_counted, stays, passed_size, passed_of}
 use Rattle.c65_genexpr.specs.Arguments as arguments
 use Rattle.c65_genexpr.specs.Calls.{named, library_at, count_code, fetch_code, result_code, named_by, pointer_code, direct_code, ptr4_code}
-use Rattle.c65_genexpr.specs.Uses.{uses}
-use Rattle.c65_genexpr.specs.Code.{target_code, behind_open, compound, call_by, test_in, expr_code, node_code, args_code}
-use Rattle.c65_gen_law_lines.proofs.ExprLaws.{moved_known, no_short}
-use Rattle.c65_gen_law_lines.proofs.StackPieces.{narrow_still, number_still, object_still, further_still, offset_still, conversion_still, push_leaves, argument_leaves, test_still, hold_leaves, bytes_still, load_still, stored_leaves, copy_leaves, spill_still, unary_still, between_leaves, behind_leaves, short_still, step_still, open_leaves, close_leaves}
+use Rattle.c65_genexpr.specs.Uses.{uses, by_relation}
+use Rattle.c65_genexpr.specs.Code.{target_code, width_in, tested_load, load_by, behind_open, compound, call_by, expr_code, node_code, args_code}
+use Rattle.c65_gen_law_lines.proofs.StackPieces.{narrow_still, object_still, further_still, offset_still, conversion_still, push_leaves, argument_leaves, hold_leaves, bytes_still, load_still, stored_leaves, copy_leaves, spill_still, unary_still, between_leaves, behind_leaves, wide_leaves, step_still, open_leaves, close_leaves}
+use Rattle.c65_gen_law_stack.proofs.EvenLines.{Labels, No, One, Even, even_label, even_leaves}
+use Rattle.c65_gen_law_stack.proofs.EvenShifts.{elements_even}
+use Rattle.c65_gen_law_stack.proofs.EvenDirects.{byte_even, compare_even, compare_byte_even, zero_test_even, truth_even}
+use Rattle.c65_gen_law_stack.proofs.EvenForms.{value_test_even, routine_test_even, constant_even, form_even}
+use Rattle.c65_gen_law_stack.proofs.ReadSides.{Passes, known_passes, kept_known, First, Compared, comparing_passes, Operated, operating_passes}
 use Rattle.c65_gen_law_calls.specs.Sites.{Site, site_by, unless_named, sites_of, node_sites, args_sites}
 use Rattle.c65_gen_law_calls.specs.Lines.{is_calling, named_line, line_by, line_of}
 use Rattle.c65_gen_law_calls.specs.Found.{ExpressionsCallInOrder}
-use Rattle.c65_gen_law_calls.proofs.Callings.{Free, free_leaves, free_append, free_none, Has, has_then, has_behind, has_before, has_line, has_none, has_free, has_as}
+use Rattle.c65_gen_law_calls.proofs.Callings.{Free, free_leaves, free_append, free_none, free_if, Has, has_then, has_behind, has_before, has_line, has_none, has_free, has_as}
 
--- ---- places that are known
+-- ---- operands that are read where they lie
+
+no_site : Passes (λ e. sites_of e ≡ [])
+no_site = record {
+  constant = λ t z. refl;
+  null = λ t. refl;
+  literal = λ t n. refl;
+  object = λ t i. refl;
+  func = λ t i. refl;
+  member = λ t e m h. h;
+  load = λ t e h. h;
+  address = λ t e h. h;
+  decay = λ t e h. h;
+  convert = λ t e h. h;
+}
 
 known_sites : (f : Framed) (pushed : ℕ) (e : Typed) → IsKnown (place_of f pushed e) → sites_of e ≡ []
-known_sites f pushed (node t (object i)) h = refl
-known_sites f pushed (node t (member e m)) h = known_sites f pushed e (moved_known (place_of f pushed e) (offset_at (types_of f.parts.types) (bare e) m) h)
-known_sites f pushed (node t _) h = absurd h
+known_sites f pushed e h = known_passes no_site f pushed e h
 
 target_has : {f : Framed} {ss : List Site} {code : List Line} (p : Place) → (IsKnown p → ss ≡ []) → Has f ss code → Has f ss (target_code p code)
 target_has places.Far h d = d
@@ -58,22 +93,89 @@ target_has (places.Bank b) h d = has_as (sym (h tt)) has_none
 target_has (places.Near at) h d = has_as (sym (h tt)) has_none
 target_has (places.Data s at) h d = has_as (sym (h tt)) has_none
 
-short_sites : (op : BinaryOp) (operands : Operands) (e : Typed) (n : ℕ) → short_of op operands e ≡ Some n → sites_of e ≡ []
-short_sites op operands (node t (constant z)) n h = refl
-short_sites op operands (node t _) n h = absurd (no_short (is_short op operands) n h)
-
 pub no_sites : (xs : List Site) → xs ++ [] ≡ xs
 no_sites [] = refl
 no_sites (x ∷ xs) = ap (λ (l : List Site). x ∷ l) (no_sites xs)
 
-binary_has : {f : Framed} {ss ts : List Site} {a b : List Line} (op : BinaryOp) (operands : Operands) (right : IntType) (s : Option ℕ) → ((c : ℕ) → s ≡ Some c → ts ≡ []) → Has f ss a → Has f ts b → Has f (ss ++ ts) (binary_by op operands s right a b)
-binary_has op operands right None drops da db = has_then da (has_before (free_leaves (between_leaves operands [])) (has_behind db (free_leaves (behind_leaves op operands right []))))
-binary_has {ss = ss} op operands right (Some c) drops da db = has_as (sym (no_sites ss) ∙ ap (λ (l : List Site). ss ++ l) (sym (drops c refl))) (has_behind da (free_leaves (short_still op operands c [])))
+-- the calls of one operand alone, where the other has none
+left_sites : (ss ts : List Site) → ts ≡ [] → ss ≡ ss ++ ts
+left_sites ss ts h = sym (no_sites ss) ∙ ap (λ (x : List Site). ss ++ x) (sym h)
 
--- ---- conditions
+right_sites : (ss ts : List Site) → ss ≡ [] → ts ≡ ss ++ ts
+right_sites ss ts h = ap (λ (x : List Site). x ++ ts) (sym h)
 
-test_free : (e : Typed) → Free (test_in e)
-test_free e = free_leaves (test_still (width_of (kind_in e)) [])
+-- ---- what is wanted
+
+even_free : {P X : Labels} {a : List Line} → Even P X a → Free a
+even_free e = free_leaves (even_leaves e [])
+
+wanted_has : {f : Framed} {ss : List Site} {a : List Line} (w : Wanted) (width : Width) → Has f ss a → Has f ss (wanted w width a)
+wanted_has Value width d = d
+wanted_has (Test to s) width d = has_behind d (even_free (value_test_even {X = One to} width s to refl))
+
+truth_has : {f : Framed} {ss : List Site} {a : List Line} (w : Wanted) (fresh : ℕ) → Has f ss a → Has f ss (truth_by w fresh a)
+truth_has Value fresh d = has_behind d (even_free (truth_even fresh))
+truth_has (Test to s) fresh d = d
+
+labelled_has : {f : Framed} {ss : List Site} {a : List Line} (label : ℕ) → Has f ss a → Has f ss (labelled label a)
+labelled_has label d = has_behind d (even_free (even_label {X = No} label))
+
+tested_has : {f : Framed} {ss : List Site} {a : List Line} (o : Option Direct) (kind : IntType) (s : Bool) (to : ℕ) → ((d : Direct) → o ≡ Some d → ss ≡ []) → Has f ss a → Has f ss (tested_load o kind s to a)
+tested_has (Some d) kind s to known p = has_as (sym (known d refl)) (has_free (even_free (zero_test_even {X = One to} (own_bytes d (extent_of kind)) s to refl)))
+tested_has None kind s to known p = wanted_has (Test to s) (width_of kind) p
+
+load_has : {f : Framed} {ss : List Site} {a : List Line} (w : Wanted) (place : Place) (access : Access) → (IsKnown place → ss ≡ []) → Has f ss a → Has f ss (load_by w place access a)
+load_has Value place access known p = has_behind p (free_leaves (load_still place access []))
+load_has (Test to s) place access known p = tested_has (kept_at place access) (type_at access) s to (λ d e. known (kept_known place access d e)) (has_behind p (free_leaves (load_still place access [])))
+
+conversion_has : {f : Framed} {ss : List Site} {a : List Line} (w : Wanted) (same : Bool) (t : Ty) (from : IntType) → Has f ss a → Has f ss (conversion_by w same t from a)
+conversion_has Value same t from p = has_behind p (free_leaves (conversion_still t from []))
+conversion_has (Test to s) true t from p = p
+conversion_has (Test to s) false t from p = wanted_has (Test to s) (width_of (kind_of t)) (has_behind p (free_leaves (conversion_still t from [])))
+
+joined_has : {f : Framed} {ss ts : List Site} {a b : List Line} (straight : Bool) (m : ℕ) → Has f ss a → Has f ts b → Has f (ss ++ ts) (joined straight m a b)
+joined_has straight m da db = has_then da (has_behind db (free_if straight free_none (even_free (even_label {X = No} m))))
+
+-- ---- operators
+
+waiting_free : (operands : Operands) → Free (waiting_code operands)
+waiting_free (Numbers kind) = free_leaves (between_leaves (Numbers kind) [])
+waiting_free (PointerFirst size) = free_leaves (between_leaves (PointerFirst size) [])
+waiting_free (PointerLast size) = free_append (even_free (elements_even {X = No} size)) (free_leaves (push_leaves Ax []))
+waiting_free (Pointers size) = free_leaves (between_leaves (Pointers size) [])
+
+stacked_free : (op : BinaryOp) (operands : Operands) (right : IntType) → Free (stacked_code op operands right)
+stacked_free op (Numbers kind) right = free_leaves (behind_leaves op (Numbers kind) right [])
+stacked_free op (PointerFirst size) right = free_append (even_free (elements_even {X = No} size)) (free_leaves (wide_leaves op UInt []))
+stacked_free op (PointerLast size) right = free_leaves (behind_leaves op (PointerLast size) right [])
+stacked_free op (Pointers size) right = free_leaves (behind_leaves op (Pointers size) right [])
+
+operator_has : {f : Framed} {ss ts : List Site} {a b : List Line} (how : Operating) (op : BinaryOp) (operands : Operands) (right : IntType) (label : ℕ) → Operated (ss ≡ []) (ts ≡ []) how → Has f ss a → Has f ts b → Has f (ss ++ ts) (operator_by how op operands right label a b)
+operator_has {ss = ss} {ts = ts} (operating.Left form) op operands right label empty da db = has_as (left_sites ss ts empty) (has_behind da (even_free (form_even {X = No} form label)))
+operator_has {ss = ss} {ts = ts} (operating.Right form) op operands right label empty da db = has_as (right_sites ss ts empty) (has_behind db (even_free (form_even {X = No} form label)))
+operator_has operating.Stacked op operands right label empty da db = labelled_has label (has_then da (has_before (waiting_free operands) (has_behind db (stacked_free op operands right))))
+
+-- ---- comparisons
+
+side_has : {f : Framed} {ss ts : List Site} {a b : List Line} (side : Side) → First side (ts ≡ []) (ss ≡ []) → Has f ss a → Has f ts b → Has f (ss ++ ts) (on side a b)
+side_has {ss = ss} {ts = ts} Left empty da db = has_as (left_sites ss ts empty) da
+side_has {ss = ss} {ts = ts} Right empty da db = has_as (right_sites ss ts empty) db
+
+low_has : {f : Framed} {ss ts : List Site} {a b : List Line} (side : Side) (low : Option OperandByte) → First side (ts ≡ []) (ss ≡ []) → (IsSome low → First side (ss ≡ []) (ts ≡ [])) → Has f ss a → Has f ts b → Has f (ss ++ ts) (low_code low (on side a b))
+low_has side None empty own da db = side_has side empty da db
+low_has {ss = ss} {ts = ts} Left (Some d) empty own da db = has_as (sym (own refl) ∙ left_sites ss ts empty) (has_free (even_free (byte_even {X = No} Lda d refl)))
+low_has {ss = ss} {ts = ts} Right (Some d) empty own da db = has_as (sym (own refl) ∙ right_sites ss ts empty) (has_free (even_free (byte_even {X = No} Lda d refl)))
+
+comparison_has : {f : Framed} {ss ts : List Site} {a b : List Line} (how : Comparing) (op : BinaryOp) (operands : Operands) (right : IntType) (s : Bool) (to m : ℕ) → Compared (ss ≡ []) (ts ≡ []) how → Has f ss a → Has f ts b → Has f (ss ++ ts) (comparison_by how op operands right s to m a b)
+comparison_has (Truth side) op operands right s to m given da db = labelled_has m (side_has side given da db)
+comparison_has (Byte side low r d) op operands right s to m given da db = labelled_has m (has_behind (low_has side low given.0 given.1 da db) (even_free (compare_byte_even {X = One to} r d to refl)))
+comparison_has (Whole side r is_signed sides) op operands right s to m given da db = has_behind (side_has side given da db) (even_free (compare_even {X = One to} r is_signed sides m to refl))
+comparison_has Stacked op operands right s to m given da db =
+    labelled_has m (has_then da (has_before (free_leaves (between_leaves operands [])) (has_behind db (free_append (free_leaves (behind_leaves op operands right [])) (even_free (routine_test_even {X = One to} s to refl))))))
+
+relation_has : {f : Framed} {ss : List Site} (o : Option Relation) {other : List Line} {g : Relation → List Line} → Has f ss other → ((r : Relation) → Has f ss (g r)) → Has f ss (by_relation o other g)
+relation_has None p q = p
+relation_has (Some r) p q = q r
 
 -- ---- calls
 
@@ -131,63 +233,78 @@ compound_has {f = f} pushed op operands a b da db =
     has_then (target_has place (known_sites f pushed a) da) (has_before (free_leaves (open_leaves place access (computes operands) [])) (has_behind db (free_leaves (close_leaves op operands (kind_in b) place access []))))
 
 mutual
-  expr_has : (f : Framed) (pushed lo : ℕ) (e : Typed) → Has f (sites_of e) (expr_code f pushed lo e)
-  expr_has f pushed lo (node t n) = node_has f pushed lo t n
+  expr_has : (f : Framed) (pushed lo : ℕ) (w : Wanted) (e : Typed) → Has f (sites_of e) (expr_code f pushed lo w e)
+  expr_has f pushed lo w (node t n) = node_has f pushed lo w t n
 
-  node_has : (f : Framed) (pushed lo : ℕ) (t : QTy) (n : Node) → Has f (node_sites t n) (node_code f pushed lo t n)
-  node_has f pushed lo t (constant z) = has_free (free_leaves (number_still (width_of (kind_of (type_in t))) (residue_of z) []))
-  node_has f pushed lo t null = has_free (free_leaves (number_still Ax 0 []))
-  node_has f pushed lo t (literal n) = record { is = refl }
-  node_has f pushed lo t (object i) = has_free (free_leaves (object_still f pushed i []))
-  node_has f pushed lo t (func i) = record { is = refl }
-  node_has f pushed lo t (deref e) = expr_has f pushed lo e
-  node_has f pushed lo t (member e m) = has_behind (expr_has f pushed lo e) (free_leaves (offset_still (offset_at (types_of f.parts.types) (bare e) m) []))
-  node_has f pushed lo t (load e) = has_behind (target_has (place_of f pushed e) (known_sites f pushed e) (expr_has f pushed lo e)) (free_leaves (load_still (place_of f pushed e) (access_of (types_of f.parts.types) e) []))
-  node_has f pushed lo t (address e) = expr_has f pushed lo e
-  node_has f pushed lo t (decay e) = expr_has f pushed lo e
-  node_has f pushed lo t (convert e) = has_behind (expr_has f pushed lo e) (free_leaves (conversion_still (type_in t) (kind_in e) []))
-  node_has f pushed lo t (unary op e) = has_behind (expr_has f pushed lo e) (free_leaves (unary_still op (width_of (kind_in e)) []))
-  node_has f pushed lo t (binary op a b) =
+  node_has : (f : Framed) (pushed lo : ℕ) (w : Wanted) (t : QTy) (n : Node) → Has f (node_sites t n) (node_code f pushed lo w t n)
+  node_has f pushed lo w t (constant z) = has_free (even_free (constant_even w (width_in t) (residue_of z)))
+  node_has f pushed lo w t null = has_free (even_free (constant_even w Ax 0))
+  node_has f pushed lo w t (literal n) = wanted_has w (width_in t) (record { is = refl })
+  node_has f pushed lo w t (object i) = wanted_has w (width_in t) (has_free (free_leaves (object_still f pushed i [])))
+  node_has f pushed lo w t (func i) = wanted_has w (width_in t) (record { is = refl })
+  node_has f pushed lo w t (deref e) = wanted_has w (width_in t) (expr_has f pushed lo Value e)
+  node_has f pushed lo w t (member e m) = wanted_has w (width_in t) (has_behind (expr_has f pushed lo Value e) (free_leaves (offset_still (offset_at (types_of f.parts.types) (bare e) m) [])))
+  node_has f pushed lo w t (load e) = load_has w (place_of f pushed e) (access_of (types_of f.parts.types) e) (known_sites f pushed e) (target_has (place_of f pushed e) (known_sites f pushed e) (expr_has f pushed lo Value e))
+  node_has f pushed lo w t (address e) = wanted_has w (width_in t) (expr_has f pushed lo Value e)
+  node_has f pushed lo w t (decay e) = wanted_has w (width_in t) (expr_has f pushed lo Value e)
+  node_has f pushed lo w t (convert e) =
+      let same : Bool = same_truth (type_in t) (bare e) in
+      conversion_has w same (type_in t) (kind_in e) (expr_has f pushed lo (handed same w) e)
+  node_has f pushed lo w t (unary unaries.Not e) = truth_has w lo (expr_has f pushed (inner w lo) (Test (aimed w lo) (not (sense w))) e)
+  node_has f pushed lo w t (unary op e) = wanted_has w (width_in t) (has_behind (expr_has f pushed lo Value e) (free_leaves (unary_still op (width_of (kind_in e)) [])))
+  node_has f pushed lo w t (binary op a b) =
       let operands : Operands = operands_of f (bare a) (bare b) in
-      let w : ℕ = waiting (width_of (computes operands)) in
-      binary_has op operands (kind_in b) (short_of op operands b) (short_sites op operands b) (expr_has f pushed lo a) (expr_has f (more pushed w) (lo + uses a) b)
-  node_has f pushed lo t (both a b) =
-      has_then (expr_has f pushed (lo + 1) a) (has_before (test_free a) (has_line (branch Beq lo) refl
-      (has_behind (expr_has f pushed (lo + 1 + uses a) b) (free_append (test_free b) (record { none = refl })))))
-  node_has f pushed lo t (either a b) =
-      has_then (expr_has f pushed (lo + 2) a) (has_before (test_free a) (has_line (branch Bne lo) refl
-      (has_behind (expr_has f pushed (lo + 2 + uses a) b) (free_append (test_free b) (record { none = refl })))))
-  node_has f pushed lo t (choice c a b) =
-      has_then (expr_has f pushed (lo + 2) c) (has_before (test_free c) (has_line (branch Beq lo) refl
-      (has_then (expr_has f pushed (lo + 2 + uses c) a) (has_line (Do Jmp Absolute (To (lo + 1))) refl (has_line (Label lo) refl
-      (has_behind (expr_has f pushed (lo + 2 + uses c + uses a) b) (record { none = refl })))))))
-  node_has f pushed lo t (comma a b) = has_then (expr_has f pushed lo a) (expr_has f pushed (lo + uses a) b)
-  node_has f pushed lo t (assign a b) =
+      let bytes : ℕ = waiting (width_of (computes operands)) in
+      let operator : Operating = operating_of f pushed op operands a b in
+      relation_has (relation_of op)
+      (wanted_has w (width_in t) (operator_has operator op operands (kind_in b) lo (operating_passes no_site f pushed op operands a b) (expr_has f pushed (lo + 1) Value a) (expr_has f (below_operand operator pushed bytes) (lo + 1 + uses None a) Value b)))
+      (λ r.
+      let q : Relation = relation_by (sense w) r in
+      let how : Comparing = comparing_of f pushed q (computes operands) a b in
+      let to : ℕ = aimed w lo in
+      let own : ℕ = inner w lo in
+      truth_has w lo (comparison_has how op operands (kind_in b) (sense w) to own (comparing_passes no_site f pushed q (computes operands) a b)
+      (expr_has f pushed (own + 1) (wanted_by (tested_by q b) to) a) (expr_has f (below_side how pushed bytes) (own + 1 + uses (tested_by q b) a) (wanted_by (tested_by q a) to) b)))
+  node_has f pushed lo w t (both a b) =
+      let straight : Bool = not (sense w) in
+      let own : ℕ = inner w lo in
+      let first : ℕ = own + way_labels straight in
+      truth_has w lo (joined_has straight own (expr_has f pushed first (Test (way straight (aimed w lo) own) false) a) (expr_has f pushed (first + uses (Some false) a) (Test (aimed w lo) (sense w)) b))
+  node_has f pushed lo w t (either a b) =
+      let straight : Bool = sense w in
+      let own : ℕ = inner w lo in
+      let first : ℕ = own + way_labels straight in
+      truth_has w lo (joined_has straight own (expr_has f pushed first (Test (way straight (aimed w lo) own) true) a) (expr_has f pushed (first + uses (Some true) a) (Test (aimed w lo) (sense w)) b))
+  node_has f pushed lo w t (choice c a b) =
+      let first : ℕ = lo + 2 + uses (Some false) c in
+      wanted_has w (width_in t) (has_then (expr_has f pushed (lo + 2) (Test lo false) c) (has_then (expr_has f pushed first Value a) (has_line (Do Jmp Absolute (To (lo + 1))) refl (has_line (Label lo) refl (has_behind (expr_has f pushed (first + uses None a) Value b) (record { none = refl }))))))
+  node_has f pushed lo w t (comma a b) = has_then (expr_has f pushed lo Value a) (expr_has f pushed (lo + uses None a) w b)
+  node_has f pushed lo w t (assign a b) =
       let place : Place = place_of f pushed a in
-      has_then (target_has place (known_sites f pushed a) (expr_has f pushed lo a)) (has_before (free_leaves (hold_leaves place [])) (has_behind (expr_has f (more pushed (held place)) (lo + uses a) b) (free_leaves (stored_leaves place (access_of (types_of f.parts.types) a) []))))
-  node_has f pushed lo t (assign_op op k a b) = compound_has pushed op (Numbers k) a b (expr_has f pushed lo a) (expr_has f (behind_open f pushed (Numbers k) a) (lo + uses a) b)
-  node_has f pushed lo t (assign_step op a b) =
+      wanted_has w (width_in t) (has_then (target_has place (known_sites f pushed a) (expr_has f pushed lo Value a)) (has_before (free_leaves (hold_leaves place [])) (has_behind (expr_has f (more pushed (held place)) (lo + uses None a) Value b) (free_leaves (stored_leaves place (access_of (types_of f.parts.types) a) [])))))
+  node_has f pushed lo w t (assign_op op k a b) = wanted_has w (width_in t) (compound_has pushed op (Numbers k) a b (expr_has f pushed lo Value a) (expr_has f (behind_open f pushed (Numbers k) a) (lo + uses None a) Value b))
+  node_has f pushed lo w t (assign_step op a b) =
       let operands : Operands = PointerFirst (target_bytes f (bare a)) in
-      compound_has pushed op operands a b (expr_has f pushed lo a) (expr_has f (behind_open f pushed operands a) (lo + uses a) b)
-  node_has f pushed lo t (step how e) =
+      wanted_has w (width_in t) (compound_has pushed op operands a b (expr_has f pushed lo Value a) (expr_has f (behind_open f pushed operands a) (lo + uses None a) Value b))
+  node_has f pushed lo w t (step how e) =
       let place : Place = place_of f pushed e in
-      has_behind (target_has place (known_sites f pushed e) (expr_has f pushed lo e)) (free_leaves (step_still how place (access_of (types_of f.parts.types) e) (amount_of f how (bare e)) []))
-  node_has f pushed lo t (copy a b) =
-      has_then (expr_has f pushed lo a) (has_before (free_leaves (push_leaves Ax [])) (has_behind (expr_has f (more pushed 2) (lo + uses a) b) (free_leaves (copy_leaves (type_bytes f (type_in t)) []))))
-  node_has f pushed lo t (call g es) =
-      call_has (named g) t g es refl (expr_has f pushed lo g) (args_has f pushed lo (is_fast (bare g)) es) (args_has f (more pushed 2) (lo + uses g) (is_fast (bare g)) es)
-  node_has f pushed lo t (pack e) = has_behind (target_has (place_of f pushed e) (known_sites f pushed e) (expr_has f pushed lo e)) (free_leaves (bytes_still (place_of f pushed e) (extent_by (type_bytes f (type_in t))) []))
-  node_has f pushed lo t (spill i e) = has_behind (expr_has f pushed lo e) (free_leaves (spill_still (object_code f pushed i) (extent_by (type_bytes f (type_in t))) (object_still f pushed i) []))
-  node_has f pushed lo t further = has_free (free_leaves (further_still f pushed []))
+      wanted_has w (width_in t) (has_behind (target_has place (known_sites f pushed e) (expr_has f pushed lo Value e)) (free_leaves (step_still how place (access_of (types_of f.parts.types) e) (amount_of f how (bare e)) [])))
+  node_has f pushed lo w t (copy a b) =
+      wanted_has w (width_in t) (has_then (expr_has f pushed lo Value a) (has_before (free_leaves (push_leaves Ax [])) (has_behind (expr_has f (more pushed 2) (lo + uses None a) Value b) (free_leaves (copy_leaves (type_bytes f (type_in t)) [])))))
+  node_has f pushed lo w t (call g es) =
+      wanted_has w (width_in t) (call_has (named g) t g es refl (expr_has f pushed lo Value g) (args_has f pushed lo (is_fast (bare g)) es) (args_has f (more pushed 2) (lo + uses None g) (is_fast (bare g)) es))
+  node_has f pushed lo w t (pack e) = wanted_has w (width_in t) (has_behind (target_has (place_of f pushed e) (known_sites f pushed e) (expr_has f pushed lo Value e)) (free_leaves (bytes_still (place_of f pushed e) (extent_by (type_bytes f (type_in t))) [])))
+  node_has f pushed lo w t (spill i e) = wanted_has w (width_in t) (has_behind (expr_has f pushed lo Value e) (free_leaves (spill_still (object_code f pushed i) (extent_by (type_bytes f (type_in t))) (object_still f pushed i) [])))
+  node_has f pushed lo w t further = wanted_has w (width_in t) (has_free (free_leaves (further_still f pushed [])))
 
   args_has : (f : Framed) (pushed lo : ℕ) (fast : Bool) (es : Nodes) → Has f (args_sites es) (args_code f pushed lo fast es)
   args_has f pushed lo fast none = has_none
   args_has f pushed lo fast (some e es) =
       let kept : Bool = stays fast es in
-      has_then (expr_has f pushed lo e) (has_before (free_leaves (argument_leaves f kept e [])) (args_has f (more pushed (arguments.argument_bytes kept (passed_size f e))) (lo + uses e) fast es))
+      has_then (expr_has f pushed lo Value e) (has_before (free_leaves (argument_leaves f kept e [])) (args_has f (more pushed (arguments.argument_bytes kept (passed_size f e))) (lo + uses None e) fast es))
 
-pub has_expression : (f : Framed) (pushed fresh : ℕ) (e : Typed) → Has f (sites_of e) (expr_code f pushed fresh e)
-has_expression f pushed fresh e = expr_has f pushed fresh e
+pub has_expression : (f : Framed) (pushed fresh : ℕ) (w : Wanted) (e : Typed) → Has f (sites_of e) (expr_code f pushed fresh w e)
+has_expression f pushed fresh w e = expr_has f pushed fresh w e
 
 pub expressions_call_in_order : ExpressionsCallInOrder
-expressions_call_in_order f pushed fresh e = (expr_has f pushed fresh e).is
+expressions_call_in_order f pushed fresh w e = (expr_has f pushed fresh w e).is

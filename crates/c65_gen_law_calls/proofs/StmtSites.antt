@@ -4,8 +4,7 @@ use Rattle.std.specs.Prelude.{nat_lt, nat_le}
 use Rattle.c65_csem.specs.Trees.{Typed, MaybeTyped, absent, present, Stmt, empty, eval, set_part, clear, block, if_stmt, while, do_while, for_loop, switch, case, default, label, goto, break, continue, return, Stmts, no_stmts, and_stmts}
 use Rattle.c65_csem.specs.Places.{is_tag}
 use Rattle.c65_csem.specs.Statements.{cases_of}
-use Rattle.c65_mach.specs.declared.rows.Op.{Op}
-use Rattle.c65_mach.specs.declared.rows.Op.TheVariants.{Beq, Bne, Jmp, Sta, Stx, Iny, Cpy, Dex, Lda, Ldx, Ldy, Inc}
+use Rattle.c65_mach.specs.declared.rows.Op.TheVariants.{Bne, Jmp, Sta, Stx, Iny, Cpy, Dex, Lda, Ldx, Ldy, Inc}
 use Rattle.c65_code.specs.declared.line.Line.{Line}
 use Rattle.c65_code.specs.declared.line.Line.TheVariants.{Label}
 use Rattle.c65_code.specs.declared.routine.Width.{Width}
@@ -19,7 +18,8 @@ use Rattle.c65_genload.specs.declared.places.Access.{Access}
 use Rattle.c65_genload.specs.declared.places.Access.TheVariants.{Whole}
 use Rattle.c65_genload.specs.declared.places.Place.TheVariants as places
 use Rattle.c65_genexpr.specs.Types.{kind_in, bare}
-use Rattle.c65_genexpr.specs.Code.{expr_code, test_in}
+use Rattle.c65_genexpr.specs.declared.wanted.Wanted.TheVariants.{Value, Test}
+use Rattle.c65_genexpr.specs.Code.{expr_code}
 use Rattle.c65_genentry.specs.Drafts.{with_labels}
 use Rattle.c65_genentry.specs.Words.{ptr1, ptr2, tmp1, tmp2, regbank, implied, zero_page, by_y, branch, jump, with_code}
 use Rattle.c65_genentry.specs.Bytes.{pages_code, rest_code, loop_labels, block_code, block_labels}
@@ -29,10 +29,10 @@ use Rattle.c65_genentry.specs.Choice.{bits_of, test_code, choice_code}
 use Rattle.c65_genstmt.specs.declared.jumps.Ways.{Ways}
 use Rattle.c65_genstmt.specs.declared.objects.Spot.{Spot}
 use Rattle.c65_genstmt.specs.declared.objects.Spot.TheVariants.{Bank, Soft, Data}
-use Rattle.c65_genstmt.specs.Jumps.{following, with_value, with_condition}
+use Rattle.c65_genstmt.specs.Jumps.{following, with_value, with_test}
 use Rattle.c65_genstmt.specs.Objects.{spot_of, object_bytes, point_code, stored_code, with_copied, with_kept, with_zeros}
-use Rattle.c65_genstmt.specs.Stmts.{case_behind, with_label, with_jump, two_given, three_given, with_maybe, with_test, ways, default_way, with_stmt, with_stmts}
-use Rattle.c65_gen_law_lines.proofs.StackPieces.{test_still, stored_leaves}
+use Rattle.c65_genstmt.specs.Stmts.{case_behind, with_label, with_jump, two_given, three_given, with_maybe, with_guard, ways, default_way, with_stmt, with_stmts}
+use Rattle.c65_gen_law_lines.proofs.StackPieces.{stored_leaves}
 use Rattle.c65_gen_law_calls.specs.Sites.{Site, sites_of, maybe_sites, statement_sites, statements_sites}
 use Rattle.c65_gen_law_calls.proofs.Callings.{Free, free_leaves, free_append, free_none, free_if, Has, has_then, has_free, has_as}
 use Rattle.c65_gen_law_calls.proofs.ExprSites.{has_expression, no_sites}
@@ -79,7 +79,7 @@ free_code : {f : Framed} (n : ℕ) (d : Drafted) (a : List Line) → Free a → 
 free_code n d a free = record { added = a; lines = refl; has = has_free free }
 
 value_adds : (f : Framed) (e : Typed) (d : Drafted) → Adds f (sites_of e) d (with_value f e d)
-value_adds f e d = record { added = expr_code f 0 d.labels e; lines = refl; has = has_expression f 0 d.labels e }
+value_adds f e d = record { added = expr_code f 0 d.labels Value e; lines = refl; has = has_expression f 0 d.labels Value e }
 
 pub label_adds : {f : Framed} (l : ℕ) (d : Drafted) → Adds f [] d (with_label l d)
 label_adds l d = free_lines d (Label l ∷ []) (record { none = refl })
@@ -87,11 +87,8 @@ label_adds l d = free_lines d (Label l ∷ []) (record { none = refl })
 jump_adds : {f : Framed} (l : ℕ) (d : Drafted) → Adds f [] d (with_jump l d)
 jump_adds l d = free_lines d (jump Jmp l ∷ []) (record { none = refl })
 
-condition_adds : (f : Framed) (op : Op) (to : ℕ) (e : Typed) (d : Drafted) → Adds f (sites_of e) d (with_condition f op to e d)
-condition_adds f op to e d =
-    let v : Drafted = with_value f e d in
-    let t : Drafted = with_lines v (test_in e) in
-    adds_behind (value_adds f e d) (adds_before (free_lines v (test_in e) (free_leaves (test_still (width_of (kind_in e)) []))) (free_lines t (branch op to ∷ []) (record { none = refl })))
+test_adds : (f : Framed) (to : ℕ) (s : Bool) (e : Typed) (d : Drafted) → Adds f (sites_of e) d (with_test f to s e d)
+test_adds f to s e d = record { added = expr_code f 0 d.labels (Test to s) e; lines = refl; has = has_expression f 0 d.labels (Test to s) e }
 
 -- ---- objects
 
@@ -184,9 +181,9 @@ maybe_adds : (f : Framed) (e : MaybeTyped) (d : Drafted) → Adds f (maybe_sites
 maybe_adds f absent d = adds_same d
 maybe_adds f (present e) d = value_adds f e d
 
-test_adds : (f : Framed) (to : ℕ) (e : MaybeTyped) (d : Drafted) → Adds f (maybe_sites e) d (with_test f to e d)
-test_adds f to absent d = adds_same d
-test_adds f to (present e) d = condition_adds f Beq to e d
+guard_adds : (f : Framed) (to : ℕ) (e : MaybeTyped) (d : Drafted) → Adds f (maybe_sites e) d (with_guard f to e d)
+guard_adds f to absent d = adds_same d
+guard_adds f to (present e) d = test_adds f to false e d
 
 -- labels that are given change no lines
 given_adds : {f : Framed} {ss : List Site} {d e g : Drafted} → d.lines ≡ e.lines → Adds f ss e g → Adds f ss d g
@@ -200,40 +197,40 @@ mutual
   stmt_adds f w l (clear i) d = zeros_adds (spot_of f i 0) (object_bytes f i) d
   stmt_adds f w l (block os ss) d = stmts_add f w l ss d
   stmt_adds f w l (if_stmt e a b) d =
-      let m1 : Drafted = with_condition f Beq d.labels e (two_given d) in
+      let m1 : Drafted = with_test f d.labels false e (two_given d) in
       let m2 : Drafted = with_stmt f w l a m1 in
       let m3 : Drafted = with_jump (d.labels + 1) m2 in
       let m4 : Drafted = with_label d.labels m3 in
       let m5 : Drafted = with_stmt f w (case_behind l a) b m4 in
-      given_adds {e = two_given d} refl (adds_then (condition_adds f Beq d.labels e (two_given d)) (adds_then (stmt_adds f w l a m1)
+      given_adds {e = two_given d} refl (adds_then (test_adds f d.labels false e (two_given d)) (adds_then (stmt_adds f w l a m1)
       (adds_before (jump_adds (d.labels + 1) m2) (adds_before (label_adds d.labels m3) (adds_behind (stmt_adds f w (case_behind l a) b m4) (label_adds (d.labels + 1) m5))))))
   stmt_adds f w l (while e a) d =
       let m1 : Drafted = with_label d.labels (two_given d) in
-      let m2 : Drafted = with_condition f Beq (d.labels + 1) e m1 in
+      let m2 : Drafted = with_test f (d.labels + 1) false e m1 in
       let inner : Ways = ways (d.labels + 1) d.labels w.other in
       let m3 : Drafted = with_stmt f inner l a m2 in
       let m4 : Drafted = with_jump d.labels m3 in
-      given_adds {e = two_given d} refl (adds_before (label_adds d.labels (two_given d)) (adds_then (condition_adds f Beq (d.labels + 1) e m1)
+      given_adds {e = two_given d} refl (adds_before (label_adds d.labels (two_given d)) (adds_then (test_adds f (d.labels + 1) false e m1)
       (adds_behind (adds_behind (stmt_adds f inner l a m2) (jump_adds d.labels m3)) (label_adds (d.labels + 1) m4))))
   stmt_adds f w l (do_while a e) d =
       let m1 : Drafted = with_label d.labels (three_given d) in
       let inner : Ways = ways (d.labels + 1 + 1) (d.labels + 1) w.other in
       let m2 : Drafted = with_stmt f inner l a m1 in
       let m3 : Drafted = with_label (d.labels + 1) m2 in
-      let m4 : Drafted = with_condition f Bne d.labels e m3 in
+      let m4 : Drafted = with_test f d.labels true e m3 in
       given_adds {e = three_given d} refl (adds_before (label_adds d.labels (three_given d)) (adds_then (stmt_adds f inner l a m1)
-      (adds_before (label_adds (d.labels + 1) m2) (adds_behind (condition_adds f Bne d.labels e m3) (label_adds (d.labels + 1 + 1) m4)))))
+      (adds_before (label_adds (d.labels + 1) m2) (adds_behind (test_adds f d.labels true e m3) (label_adds (d.labels + 1 + 1) m4)))))
   stmt_adds f w l (for_loop i t n a) d =
       let g : Drafted = with_maybe f i d in
       let m1 : Drafted = with_label g.labels (three_given g) in
-      let m2 : Drafted = with_test f (g.labels + 1 + 1) t m1 in
+      let m2 : Drafted = with_guard f (g.labels + 1 + 1) t m1 in
       let inner : Ways = ways (g.labels + 1 + 1) (g.labels + 1) w.other in
       let m3 : Drafted = with_stmt f inner l a m2 in
       let m4 : Drafted = with_label (g.labels + 1) m3 in
       let m5 : Drafted = with_maybe f n m4 in
       let m6 : Drafted = with_jump g.labels m5 in
       let loop : Adds f (maybe_sites t ++ (statement_sites a ++ maybe_sites n)) g (with_label (g.labels + 1 + 1) m6) =
-      given_adds {e = three_given g} refl (adds_before (label_adds g.labels (three_given g)) (adds_then (test_adds f (g.labels + 1 + 1) t m1) (adds_then (stmt_adds f inner l a m2)
+      given_adds {e = three_given g} refl (adds_before (label_adds g.labels (three_given g)) (adds_then (guard_adds f (g.labels + 1 + 1) t m1) (adds_then (stmt_adds f inner l a m2)
       (adds_before (label_adds (g.labels + 1) m3) (adds_behind (adds_behind (maybe_adds f n m4) (jump_adds g.labels m5)) (label_adds (g.labels + 1 + 1) m6)))))) in
       adds_then (maybe_adds f i d) loop
   stmt_adds f w l (switch e a) d =

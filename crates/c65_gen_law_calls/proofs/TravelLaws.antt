@@ -6,6 +6,7 @@ use Rattle.std.proofs.lemmas.Option.{slice_get-map, slice_get_within, get_or_fro
 use Rattle.c65_base.specs.declared.library.Library.{Library}
 use Rattle.c65_csem.specs.declared.items.Parts.{Parts}
 use Rattle.c65_csem.specs.declared.items.TFunc.{TFunc}
+use Rattle.c65_csem.specs.Library.{takes_more}
 use Rattle.c65_csem.specs.Trees.{Typed, node, decay, func, Stmt, UnitTy, FuncTy}
 use Rattle.c65_csem.specs.Typed.{IsTyped}
 use Rattle.c65_csem.specs.Units.{HasBody, IsBody, IsFunc}
@@ -166,23 +167,24 @@ named_runs f i (Some k) site l (inl e) = (k, refl, let z : Some k ≡ Some l = a
 named_runs f i (Some k) site l (inr e) = absurd (let z = e.2 in cc)
 
 library_at_line : (s : Setting) (p : Program) (c : Compiled) (j : ℕ) (line : Line) (l : Library) (n : Option ℕ) (made : IsMade (unit_of p.parts) c.frame c.body c.middle j line) → IsSound p → IsCompiled s p c
-    → named made.site.callee ≡ n → RunsLibrary line l → Through n (LibraryAgrees made.site l) → bytes_in (bytes_of c.frame made.site) ≡ library_bytes l
-library_at_line s p c j line l None made sound first is runs asked = agreed_library c.frame made.site l asked
-library_at_line s p c j line l (Some i) made sound first is runs asked =
+    → named made.site.callee ≡ n → RunsLibrary line l → Through n (LibraryAgrees made.site l) → (y : ℕ) → (takes_more l ≡ true → y ≡ bytes_in (bytes_of c.frame made.site)) → bytes_in (bytes_of c.frame made.site) ≡ library_bytes l y
+library_at_line s p c j line l None made sound first is runs asked y counted = agreed_library c.frame made.site l y asked counted
+library_at_line s p c j line l (Some i) made sound first is runs asked y counted =
     let there = named_there (unit_of p.parts) made.site.callee i made.typed.callee is in
     let same : line ≡ named_line c.frame i (library_at c.frame i) made.site = made.calls ∙ ap (λ (o : Option ℕ). line_by c.frame o made.site) is in
     let own = named_runs c.frame i (library_at c.frame i) made.site l (subst (λ (x : Line). RunsLibrary x l) same runs) in
     let agrees : AgreesWith (unit_of p.parts) made.site there.0 there.0.library there.0.body = sound.names c.index (length (callings (take j c.middle))) i c.func there.0 c.body made.site first.found first.has_body made.found is there.1 in
     let kept : LibraryAgrees made.site own.0 = library_by (unit_of p.parts) made.site there.0 there.0.library there.0.body own.0 (sym (library_is s p c i there.0 first there.1) ∙ own.1) agrees in
-    agreed_library c.frame made.site own.0 kept ∙ ap library_bytes own.2
+    agreed_library c.frame made.site l y (subst (λ (k : Library). LibraryAgrees made.site k) own.2 kept) counted
 
 -- ---- one step of a way
 
 library_step : (s : Setting) (p : Program) (c : Compiled) (j k : ℕ) (t u : State) (line : Line) (l : Library) → IsSound p → IsCompiled s p c → slice_get c.middle j ≡ Some line
-    → Runs s line l (place_in (laid p c) j) t (place_in (laid p c) k) u → ((site : Site) → site_at c.body c.middle j ≡ Some site → Through (named site.callee) (LibraryAgrees site l)) → Step (laid p c) j t k u
-library_step s p c j k t u line l sound first here runs asked =
+    → Runs s line l (place_in (laid p c) j) t (place_in (laid p c) k) u → ((site : Site) → site_at c.body c.middle j ≡ Some site → Through (named site.callee) (LibraryAgrees site l))
+    → ((site : Site) → site_at c.body c.middle j ≡ Some site → takes_more l ≡ true → t.regs.y ≡ bytes_in (bytes_of c.frame site)) → Step (laid p c) j t k u
+library_step s p c j k t u line l sound first here runs asked counted =
     let made : IsMade (unit_of p.parts) c.frame c.body c.middle j line = site_of s p c j line sound first here (run_calls line l runs.called) in
-    let bytes : bytes_in (bytes_of c.frame made.site) ≡ library_bytes l = library_at_line s p c j line l (named made.site.callee) made sound first refl runs.called (asked made.site made.found) in
+    let bytes : bytes_in (bytes_of c.frame made.site) ≡ library_bytes l t.regs.y = library_at_line s p c j line l (named made.site.callee) made sound first refl runs.called (asked made.site made.found) t.regs.y (counted made.site made.found) in
     let laid_there : IsLaid s (laid p c) = laid_of s p c sound first in
     let n : ℕ = length (entry_code c.frame) in
     let g : ℕ = (laid p c).number in
@@ -191,7 +193,7 @@ library_step s p c j k t u line l sound first here runs asked =
     let place : k ≡ arrives.at = same_line n g k arrives.at arrives.to in
     let after : bytes_before (laid p c) k ≡ bytes_before (laid p c) (suc j) = ap (bytes_before (laid p c)) place ∙ ap sum_in arrives.height in
     let takes : bytes_before (laid p c) j ≡ bytes_before (laid p c) (suc j) + bytes_in (bytes_of c.frame made.site) = made.takes in
-    record { sp = omega (arith, library_sp l t u runs.row, bytes, after, takes); frames = row_frames (row_of (routines.Library l) t) t u runs.row }
+    record { sp = omega (arith, library_sp l t u runs.row runs.ready runs.below, bytes, after, takes); frames = row_frames (row_of (routines.Library l) t) t u runs.row }
 
 -- ---- ways
 
@@ -201,8 +203,8 @@ travel s p c j m t u sound first (moves {k = k} {u = v} line at own steady move 
     let step : Step (laid p c) j t k v = move_step s (laid p c) j k t v line (laid_of s p c sound first) at own steady move in
     let later : Step (laid p c) k v m u = travel s p c k m v u sound first rest in
     record { sp = omega (arith, step.sp, later.sp); frames = later.frames ∙ step.frames }
-travel s p c j m t u sound first (library {k = k} {u = v} line l at runs asked rest) =
-    let step : Step (laid p c) j t k v = library_step s p c j k t v line l sound first at runs asked in
+travel s p c j m t u sound first (library {k = k} {u = v} line l at runs asked counted rest) =
+    let step : Step (laid p c) j t k v = library_step s p c j k t v line l sound first at runs asked counted in
     let later : Step (laid p c) k v m u = travel s p c k m v u sound first rest in
     record { sp = omega (arith, step.sp, later.sp); frames = later.frames ∙ step.frames }
 travel s p c j m t u sound first (calls {d = d} {k = k} {from = from} {to = to} {u = w} {v = v} {x = x} q b line second at reach asked counted entry body same number end rest) =

@@ -5,6 +5,7 @@ use Rattle.c65_ctype.specs.Trees.{Ty, void, int, pointer, function, QTy, type_in
 use Rattle.c65_ctype.specs.Sizes.{size_of}
 use Rattle.c65_base.specs.declared.library.Library.{Library}
 use Rattle.c65_base.specs.declared.library.Library.TheVariants as library
+use Rattle.c65_csem.specs.Library.{takes_more}
 use Rattle.c65_csem.specs.Trees.{Nodes, none, some, Stmt, UnitTy, FuncTy}
 use Rattle.c65_csem.specs.Places.{plain, are_alike, alike}
 use Rattle.c65_csem.specs.Units.{IsBody}
@@ -26,7 +27,7 @@ pub record Agrees (u : UnitTy) (s : Site) (g : FuncTy) : Type 0 where
   pub counted : is_counted (bare s.callee) ≡ is_variadic g.ty
   pub taken : Takes (is_variadic g.ty) u g s.args
 
--- the parameters of the functions of the library (C90 7.9.7, 7.10.4, 7.11)
+-- the parameters of the functions of the library (C90 7.9.6.3, 7.9.7, 7.10.4, 7.11), without further arguments
 abbrev pub address : Ty
 address = pointer (plain void)
 
@@ -40,16 +41,20 @@ library_types library.Memset = address ∷ int Int ∷ int UInt ∷ []
 library_types library.Strcmp = address ∷ address ∷ []
 library_types library.Strcpy = address ∷ address ∷ []
 library_types library.Strlen = address ∷ []
+library_types library.Printf = address ∷ []
 
-abbrev pub AreOf : Nodes → List Ty → Type 0
-AreOf none [] = Unit {0}
-AreOf none (t ∷ ts) = ⊥
-AreOf (some e es) [] = ⊥
-AreOf (some e es) (t ∷ ts) = IsTrue (alike t (bare e)) × AreOf es ts
+-- arguments of these types, and where it is variadic others behind them
+abbrev pub AreOf : Bool → Nodes → List Ty → Type 0
+AreOf variadic none [] = Unit {0}
+AreOf variadic none (t ∷ ts) = ⊥
+AreOf true (some e es) [] = Unit {0}
+AreOf false (some e es) [] = ⊥
+AreOf variadic (some e es) (t ∷ ts) = IsTrue (alike t (bare e)) × AreOf variadic es ts
 
 pub record LibraryAgrees (s : Site) (l : Library) : Type 0 where
-  pub fast : is_fast (bare s.callee) ≡ true
-  pub taken : AreOf s.args (library_types l)
+  pub fast : is_fast (bare s.callee) ≡ not (takes_more l)
+  pub counted : is_counted (bare s.callee) ≡ takes_more l
+  pub taken : AreOf (takes_more l) s.args (library_types l)
 
 -- the call agrees with a function of the unit, which is one of the library or has a body
 abbrev pub AgreesWith : UnitTy → Site → FuncTy → Option Library → Option Stmt → Type 0

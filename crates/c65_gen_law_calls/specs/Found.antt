@@ -5,6 +5,7 @@ use Rattle.c65_csem.specs.Units.{IsBody}
 use Rattle.c65_code.specs.declared.parts.RegSet.{RegSet}
 use Rattle.c65_code.specs.declared.line.Line.{Line}
 use Rattle.c65_genframe.specs.Frames.{Framed}
+use Rattle.c65_genexpr.specs.declared.wanted.Wanted.{Wanted}
 use Rattle.c65_genexpr.specs.Code.{expr_code}
 use Rattle.c65_genentry.specs.Entry.{entry_code}
 use Rattle.c65_genentry.specs.Ends.{end_code}
@@ -14,9 +15,9 @@ use Rattle.c65_gen_law_stack.specs.Going.{waiting_at, at_first}
 use Rattle.c65_gen_law_calls.specs.Sites.{Site, IsSite, bytes_of, sites_of}
 use Rattle.c65_gen_law_calls.specs.Lines.{is_calling, callings, line_of, lines_of, site_at}
 
--- the lines of an expression that call are those of its calls, in their order
+-- the lines of an expression that call are those of its calls, in their order, whether its value is wanted or a test
 abbrev pub ExpressionsCallInOrder : Type 0
-ExpressionsCallInOrder = (f : Framed) (pushed fresh : ℕ) (e : Typed) → callings (expr_code f pushed fresh e) ≡ lines_of f (sites_of e)
+ExpressionsCallInOrder = (f : Framed) (pushed fresh : ℕ) (w : Wanted) (e : Typed) → callings (expr_code f pushed fresh w e) ≡ lines_of f (sites_of e)
 
 -- The line with this number is that of a well typed call of the body, and takes away the bytes of what this call passes.
 pub record IsMade (u : UnitTy) (f : Framed) (body : Stmt) (middle : List Line) (j : ℕ) (line : Line) : Type 0 where

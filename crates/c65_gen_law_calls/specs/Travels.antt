@@ -1,7 +1,8 @@
 -- Ways through the functions of a compiled program, with all calls on them (docs/MACHINE.md, "Calls").
-use Rattle.std.specs.Prelude.{◌≡◌, ℕ, suc, ◌+◌, ◌^◌, ◌≤◌, ◌==◌, ◌⊎◌, Bool, true, Option, None, Some, Ok, List, ◌++◌, length, slice_get}
+use Rattle.std.specs.Prelude.{◌≡◌, ℕ, suc, ◌+◌, ◌^◌, ◌<◌, ◌≤◌, ◌==◌, ◌⊎◌, IsTrue, Bool, true, Option, None, Some, Ok, List, ◌++◌, length, slice_get}
 use Rattle.c65_csem.specs.declared.items.Parts.{Parts}
 use Rattle.c65_base.specs.declared.library.Library.{Library}
+use Rattle.c65_csem.specs.Library.{takes_more}
 use Rattle.c65_csem.specs.Trees.{Stmt, FuncTy}
 use Rattle.c65_csem.specs.Units.{IsUnit}
 use Rattle.c65_csem.specs.Views.{unit_of}
@@ -16,7 +17,7 @@ use Rattle.c65_code.specs.Effects.{ptr4_bytes}
 use Rattle.c65_code.specs.LineState.{Place, State, sp_of}
 use Rattle.c65_code.specs.Placement.{Setting}
 use Rattle.c65_code.specs.Forms.{form_of}
-use Rattle.c65_code.specs.Rows.{row_of}
+use Rattle.c65_code.specs.Rows.{Row, row_of}
 use Rattle.c65_code.specs.Moves.{settle, MeetsRow, IsCallee, Enters, Moves}
 use Rattle.c65_code.specs.Steady.{IsSteady}
 use Rattle.c65_genframe.specs.declared.modes.Modes.{Modes}
@@ -84,10 +85,18 @@ Reaches s _ n p t q u = ⊥
 abbrev pub RunsLibrary : Line → Library → Type 0
 RunsLibrary line l = (line ≡ Call (callees.Routine (routines.Library l))) ⊎ ((reads : RegSet) × (gives : RegSet) × (line ≡ Call (callees.Pointer reads gives)))
 
+-- a row whose needs are met
+abbrev pub IsReady : Option Row → Type 0
+IsReady None = ⊥
+IsReady (Some row) = IsTrue row.ready
+
+-- its further arguments end below the top of memory
 pub record Runs (s : Setting) (line : Line) (l : Library) (p : Place) (t : State) (q : Place) (u : State) : Type 0 where
   pub called : RunsLibrary line l
   pub to : q ≡ (p.0, settle (s.lines p.0) (suc p.1))
   pub row : MeetsRow (row_of (routines.Library l) t) t u
+  pub ready : IsReady (row_of (routines.Library l) t)
+  pub below : takes_more l ≡ true → sp_of t + t.regs.y < 65536
 
 -- what is asked of a call where it is made: through a pointer, that it agrees with the function that is called
 abbrev pub Through : Option ℕ → Type 0 → Type 0
@@ -96,8 +105,8 @@ Through (Some i) asked = Unit {0}
 
 -- From one of a function's lines, or the line behind them, to another: by moves that call no function, by whole calls of functions of
 -- the library, and by whole calls of compiled functions, through the entry of the called function, a way from one of its lines to
--- another before which as much waits, and its end. At a variadic call Y is the number of bytes that wait for it, and the function leaves
--- the number at sp alone.
+-- another before which as much waits, and its end. At a variadic call Y is the number of bytes that wait for it, and a compiled function
+-- leaves the number at sp alone.
 pub data Travels (s : Setting) (p : Program) : Compiled → ℕ → State → ℕ → State → Type 0 where
   stays : {c : Compiled} {j : ℕ} {t : State} → Travels s p c j t j t
   moves : {c : Compiled} {j k m : ℕ} {t u v : State} (line : Line) → slice_get c.middle j ≡ Some line → IsOwn (form_of line) → IsSteady s line t
@@ -105,6 +114,7 @@ pub data Travels (s : Setting) (p : Program) : Compiled → ℕ → State → �
   library : {c : Compiled} {j k m : ℕ} {t u v : State} (line : Line) (l : Library) → slice_get c.middle j ≡ Some line
       → Runs s line l (place_in (laid p c) j) t (place_in (laid p c) k) u
       → ((site : Site) → site_at c.body c.middle j ≡ Some site → Through (named site.callee) (LibraryAgrees site l))
+      → ((site : Site) → site_at c.body c.middle j ≡ Some site → takes_more l ≡ true → t.regs.y ≡ bytes_in (bytes_of c.frame site))
       → Travels s p c k u m v → Travels s p c j t m v
   calls : {c d : Compiled} {j k m from to : ℕ} {a u v x y : State} (q : Place) (t : State) (line : Line) → IsCompiled s p d → slice_get c.middle j ≡ Some line
       → Reaches s line (laid p d).number (place_in (laid p c) j) a q t

@@ -1,19 +1,16 @@
 -- The lines of an expression: its labels, its size, and the form of each line.
-use Rattle.std.proofs.Common.{◌≡◌, ℕ, ◌+◌, ◌-◌, ◌*◌, ◌≤◌, Bool, true, false, Option, None, Some, List, [], ◌∷◌, ◌++◌, refl, sym, arith}
-use Rattle.c65_base.specs.declared.operators.BinaryOp.{BinaryOp}
+use Rattle.std.proofs.Common.{◌≡◌, ℕ, ◌+◌, ◌-◌, ◌*◌, ◌≤◌, Bool, true, false, not, Option, None, Some, List, [], ◌∷◌, ◌++◌, refl, sym, ap, arith}
 use Rattle.std.specs.Prelude.{nat_lt}
+use Rattle.c65_base.specs.declared.operators.BinaryOp.{BinaryOp}
+use Rattle.c65_base.specs.declared.operators.UnaryOp.{UnaryOp}
+use Rattle.c65_base.specs.declared.operators.UnaryOp.TheVariants as unary_ops
 use Rattle.c65_ints.specs.declared.types.IntType.{IntType}
 use Rattle.c65_ints.specs.declared.types.IntType.TheVariants as ints
 use Rattle.c65_ctype.specs.Trees.{QTy, TypesTy, type_in}
 use Rattle.c65_ctype.specs.Views.{types_of}
 use Rattle.c65_csem.specs.Trees.{Typed, node, Node, constant, null, literal, object, func, deref, member, load, address, decay, convert, unary, binary, both, either, choice, comma, assign, assign_op, assign_step, step, copy, call, pack, spill, rest as further, Nodes, none, some}
-use Rattle.c65_mach.specs.declared.rows.Op.TheVariants.{Beq, Bne, Jmp}
-use Rattle.c65_mach.specs.declared.rows.Mode.TheVariants.{Absolute, Relative}
-use Rattle.c65_code.specs.declared.line.Operand.TheVariants.{To}
 use Rattle.c65_code.specs.declared.line.Line.{Line}
-use Rattle.c65_code.specs.declared.line.Line.TheVariants.{Label, Do}
 use Rattle.c65_code.specs.declared.routine.Width.TheVariants.{Ax}
-use Rattle.c65_code.specs.Segments.{is_fit}
 use Rattle.c65_genframe.specs.Symbols.{numbers_of, literal_symbol, function_symbol}
 use Rattle.c65_genframe.specs.Frames.{Framed, type_bytes}
 use Rattle.c65_genwide.specs.Wide.{width_of}
@@ -21,47 +18,48 @@ use Rattle.c65_genload.specs.declared.places.Place.{Place}
 use Rattle.c65_genload.specs.declared.places.Place.TheVariants as places
 use Rattle.c65_genload.specs.declared.places.Access.{Access}
 use Rattle.c65_genload.specs.declared.places.Access.TheVariants.{Whole, Part}
-use Rattle.c65_genload.specs.Words.{branch}
 use Rattle.c65_genload.specs.Places.{held, extent_by}
-use Rattle.c65_genload.specs.Conversions.{push_code, waiting, size_of}
+use Rattle.c65_genload.specs.Places as loads
+use Rattle.c65_genload.specs.Conversions.{waiting, size_of}
 use Rattle.c65_genload.specs.Loads.{hold_code}
 use Rattle.c65_genload.specs.Stores.{store_code}
+use Rattle.c65_gendirect.specs.declared.relation.Relation.{Relation}
+use Rattle.c65_gendirect.specs.Compare.{relation_of}
 use Rattle.c65_genexpr.specs.declared.types.Outcome.{Outcome}
 use Rattle.c65_genexpr.specs.declared.operands.Operands.{Operands}
 use Rattle.c65_genexpr.specs.declared.operands.Operands.TheVariants.{Numbers, PointerFirst}
+use Rattle.c65_genexpr.specs.declared.comparing.Comparing.{Comparing}
+use Rattle.c65_genexpr.specs.declared.operating.Operating.{Operating}
+use Rattle.c65_genexpr.specs.declared.wanted.Wanted.{Wanted}
+use Rattle.c65_genexpr.specs.declared.wanted.Wanted.TheVariants.{Value, Test}
 use Rattle.c65_genexpr.specs.Types.{kind_of, outcome_of, kind_in, bare, offset_at, bits_at, field_or, access_of, target_bytes}
-use Rattle.c65_genexpr.specs.Places.{more, moved, place_of, object_code, IsKnown}
-use Rattle.c65_genexpr.specs.Operands.{residue_of, operands_of, computes, is_short, short_in, short_of, between_code, behind_code, short_code, binary_by}
-use Rattle.c65_genexpr.specs.Steps.{amount_of, open_code, close_code}
+use Rattle.c65_genexpr.specs.Places.{more, place_of, object_code, IsKnown}
+use Rattle.c65_genexpr.specs.Operands.{residue_of, operands_of, computes, unary_code, same_truth}
+use Rattle.c65_genexpr.specs.Direct.{kept_at}
+use Rattle.c65_genexpr.specs.Wanted.{sense_of, wanted_by, handed, handed_sense, wanted, aimed, sense, truth_labels, inner, truth_by, is_straight, way, way_labels}
+use Rattle.c65_genexpr.specs.Comparing.{relation_by, tested_by, comparing_of, below_side}
+use Rattle.c65_genexpr.specs.Operating.{operating_of, below_operand}
+use Rattle.c65_genexpr.specs.Steps.{amount_of}
 use Rattle.c65_genexpr.specs.Arguments.{is_fast, is_counted, stays, passed_size, passed_of, argument_bytes}
 use Rattle.c65_genexpr.specs.Calls.{named}
-use Rattle.c65_genexpr.specs.Uses.{unless_named, uses, node_uses, args_uses}
-use Rattle.c65_genexpr.specs.Code.{target_code, truth_code, behind_open, compound, call_by, expr_code, node_code, args_code}
+use Rattle.c65_genexpr.specs.Uses.{unless_named, by_relation, uses, node_uses, args_uses, comparison_uses}
+use Rattle.c65_genexpr.specs.Code.{target_code, width_in, load_by, behind_open, compound, call_by, expr_code, node_code, args_code, operator_code, comparison_code}
 use Rattle.c65_gen_law_lines.specs.Bulk.{nodes, nodes_in}
+use Rattle.c65_gen_law_lines.specs.Labels.{aims}
 use Rattle.c65_gen_law_lines.specs.Laws.{ExpressionsOwnTheirLabels, ExpressionsAreSmall, ExpressionsAreFit}
-use Rattle.c65_gen_law_lines.proofs.Made.{Leads, leads_wider, leads_append, leads_plain, leads_to, times-append, size-append, plain_times, among_split, among_one, all_append, Piece, Made, made_piece, made_append, made_behind, made_before, made_wider, made_as, made_none}
-use Rattle.c65_gen_law_lines.proofs.Pieces.{by_access, passing_by, passing, part_piece, spill_piece, further_piece, number_piece, symbol_piece, object_piece, offset_piece, load_piece, conversion_piece, unary_piece, between_piece, behind_piece, short_piece, push_piece, test_piece, hold_piece, store_piece, copy_piece, step_piece, open_piece, close_piece, named_piece, pointer_piece, argument_piece, direct_piece}
+use Rattle.c65_gen_law_lines.proofs.Made.{Made, made_piece, made_append, made_behind, made_before, made_wider, made_as, made_none}
+use Rattle.c65_gen_law_lines.proofs.Pieces.{by_access, passing_by, passing, part_piece, spill_piece, further_piece, symbol_piece, object_piece, offset_piece, load_piece, unary_piece, push_piece, hold_piece, store_piece, copy_piece, step_piece, open_piece, close_piece, named_piece, pointer_piece, argument_piece, direct_piece}
+use Rattle.c65_gen_law_lines.proofs.Drops.{kept_known, known_uses, comparing_uses, operating_uses}
+use Rattle.c65_gen_law_lines.proofs.Wants.{made_closed, wanted_made, constant_made, tested_made, converted_made, truth_made, joined_made, comparison_made, operator_made, choice_made}
 
 -- ---- places that are known
 
-pub moved_known : (p : Place) (n : ℕ) → IsKnown (moved p n) → IsKnown p
-moved_known (places.Bank b) n h = tt
-moved_known (places.Near at) n h = tt
-moved_known (places.Data s at) n h = tt
-moved_known places.Far n h = h
-
--- the lines of a known place would have no labels
-known_uses : (f : Framed) (pushed : ℕ) (e : Typed) → IsKnown (place_of f pushed e) → uses e ≡ 0
-known_uses f pushed (node t (object i)) h = refl
-known_uses f pushed (node t (member e m)) h = known_uses f pushed e (moved_known (place_of f pushed e) (offset_at (types_of f.parts.types) (bare e) m) h)
-known_uses f pushed (node t _) h = absurd h
-
 -- the address of a place, where it takes lines
-target_made : (lo n k : ℕ) (p : Place) (code : List Line) → (IsKnown p → n ≡ 0) → Made lo n k code → Made lo n k (target_code p code)
-target_made lo n k places.Far code h made = made
-target_made lo n k (places.Bank b) code h made = made_as lo 0 n k [] (sym (h tt)) (made_none lo k)
-target_made lo n k (places.Near at) code h made = made_as lo 0 n k [] (sym (h tt)) (made_none lo k)
-target_made lo n k (places.Data s at) code h made = made_as lo 0 n k [] (sym (h tt)) (made_none lo k)
+target_made : {outside : List ℕ} {lo n k : ℕ} {code : List Line} (p : Place) → (IsKnown p → n ≡ 0) → Made outside lo n k code → Made outside lo n k (target_code p code)
+target_made places.Far h made = made
+target_made (places.Bank b) h made = made_as (sym (h tt)) made_none
+target_made (places.Near at) h made = made_as (sym (h tt)) made_none
+target_made (places.Data s at) h made = made_as (sym (h tt)) made_none
 
 -- ---- sizes
 
@@ -96,7 +94,7 @@ some_nodes (node t further) = omega arith
 -- A member takes few lines, which leaves room for the lines of a bit-field; and so do the bytes of a structure, which leaves room
 -- to push three of them.
 abbrev slack : Typed → ℕ
-slack (node t (member e m)) = 110
+slack (node t (member e m)) = 104
 slack (node t (pack e)) = 13
 slack _ = 0
 
@@ -138,185 +136,155 @@ field_fits whole part kind None le = le
 field_fits whole part kind (Some bits) le = omega arith
 
 -- what is kept in a whole object takes fewer lines than a bit-field, which is a member
-access_fits : (whole part : ℕ) (types : TypesTy) (e : Typed) → whole ≤ part → part ≤ whole + 110 → by_access whole part (access_of types e) ≤ whole + slack e
+access_fits : (whole part : ℕ) (types : TypesTy) (e : Typed) → whole ≤ part → part ≤ whole + 104 → by_access whole part (access_of types e) ≤ whole + slack e
 access_fits whole part types (node t (member e m)) le most = omega (arith, most, field_fits whole part (kind_of (type_in t)) (bits_at types (bare e) m) le)
 access_fits whole part types (node t _) le most = omega arith
 
 -- ---- nodes over lines that are given
 
-binary_made : (op : BinaryOp) (operands : Operands) (right : IntType) (lo n m j k : ℕ) (a b : List Line) (s : Option ℕ) → ((c : ℕ) → s ≡ Some c → m ≡ 0) → Made lo n j a → Made (lo + n) m k b → Made lo (n + m) (j + k + 35) (binary_by op operands s right a b)
-binary_made op operands right lo n m j k a b None drops ma mb =
-    made_wider lo (n + m) (j + (16 + (k + 19))) (j + k + 35) _ (made_append lo n m j (16 + (k + 19)) a _ ma (made_before (lo + n) m 16 (k + 19) (between_code operands) _ (between_piece operands) (made_behind (lo + n) m k 19 b (behind_code op operands right) mb (behind_piece op operands right)))) (omega arith)
-binary_made op operands right lo n m j k a b (Some c) drops ma mb =
-    made_as lo n (n + m) (j + k + 35) _ (omega (arith, drops c refl)) (made_wider lo n (j + 21) (j + k + 35) _ (made_behind lo n j 21 a (short_code op operands c) ma (short_piece op operands c)) (omega arith))
-
-pub no_short : (b : Bool) (n : ℕ) → short_in b None ≡ Some n → ⊥
-no_short true n h = cc
-no_short false n h = cc
-
--- a constant that an operator takes as it is has no labels
-short_uses : (op : BinaryOp) (operands : Operands) (e : Typed) (n : ℕ) → short_of op operands e ≡ Some n → uses e ≡ 0
-short_uses op operands (node t (constant z)) n h = refl
-short_uses op operands (node t _) n h = absurd (no_short (is_short op operands) n h)
-
-both_made : (lo n m j k : ℕ) (a b s t : List Line) → Piece 8 s → Piece 8 t → Made (lo + 1) n j a → Made (lo + 1 + n) m k b → Made lo (1 + (n + m)) (j + k + 30) (a ++ (s ++ (branch Beq lo ∷ (b ++ (t ++ (branch Beq lo ∷ truth_code lo))))))
-both_made lo n m j k a b s t ps pt ma mb =
-    let count : ℕ = 1 + (n + m) in
-    let t3 : List Line = branch Beq lo ∷ truth_code lo in
-    let t2 : List Line = b ++ (t ++ t3) in
-    let t1 : List Line = branch Beq lo ∷ t2 in
-    let truth : Leads lo count (truth_code lo) = record { all = refl } in
-    let last : Leads lo count t3 = leads_to lo count lo Beq Relative (truth_code lo) (omega arith) (omega arith) truth in
-    let right : Leads lo count t2 = leads_append lo count b (t ++ t3) (leads_wider (lo + 1 + n) m lo count b (omega arith) (omega arith) mb.leads) (leads_append lo count t t3 (leads_plain lo count t pt.plain) last) in
-    let test : Leads lo count t1 = leads_to lo count lo Beq Relative t2 (omega arith) (omega arith) right in
-    record {
-      once = λ l. omega (arith, times-append l a (s ++ t1), times-append l s t1, times-append l b (t ++ t3), times-append l t t3, plain_times l s ps.plain, plain_times l t pt.plain, ma.once l, mb.once l, among_split lo 1 (n + m) l, among_split (lo + 1) n m l, among_one lo l);
-      leads = leads_append lo count a (s ++ t1) (leads_wider (lo + 1) n lo count a (omega arith) (omega arith) ma.leads) (leads_append lo count s t1 (leads_plain lo count s ps.plain) test);
-      fit = all_append is_fit a (s ++ t1) ma.fit (all_append is_fit s t1 ps.fit (all_append is_fit b (t ++ t3) mb.fit (all_append is_fit t t3 pt.fit refl)));
-      size = omega (arith, size-append a (s ++ t1), size-append s t1, size-append b (t ++ t3), size-append t t3, ps.size, pt.size, ma.size, mb.size);
-    }
-
-either_made : (lo n m j k : ℕ) (a b s t : List Line) → Piece 8 s → Piece 8 t → Made (lo + 2) n j a → Made (lo + 2 + n) m k b → Made lo (2 + (n + m)) (j + k + 30) (a ++ (s ++ (branch Bne lo ∷ (b ++ (t ++ (branch Beq (lo + 1) ∷ Label lo ∷ truth_code (lo + 1)))))))
-either_made lo n m j k a b s t ps pt ma mb =
-    let count : ℕ = 2 + (n + m) in
-    let t4 : List Line = Label lo ∷ truth_code (lo + 1) in
-    let t3 : List Line = branch Beq (lo + 1) ∷ t4 in
-    let t2 : List Line = b ++ (t ++ t3) in
-    let t1 : List Line = branch Bne lo ∷ t2 in
-    let truth : Leads lo count t4 = record { all = refl } in
-    let last : Leads lo count t3 = leads_to lo count (lo + 1) Beq Relative t4 (omega arith) (omega arith) truth in
-    let right : Leads lo count t2 = leads_append lo count b (t ++ t3) (leads_wider (lo + 2 + n) m lo count b (omega arith) (omega arith) mb.leads) (leads_append lo count t t3 (leads_plain lo count t pt.plain) last) in
-    let test : Leads lo count t1 = leads_to lo count lo Bne Relative t2 (omega arith) (omega arith) right in
-    record {
-      once = λ l. omega (arith, times-append l a (s ++ t1), times-append l s t1, times-append l b (t ++ t3), times-append l t t3, plain_times l s ps.plain, plain_times l t pt.plain, ma.once l, mb.once l, among_split lo 2 (n + m) l, among_split (lo + 2) n m l, among_split lo 1 1 l, among_one lo l, among_one (lo + 1) l);
-      leads = leads_append lo count a (s ++ t1) (leads_wider (lo + 2) n lo count a (omega arith) (omega arith) ma.leads) (leads_append lo count s t1 (leads_plain lo count s ps.plain) test);
-      fit = all_append is_fit a (s ++ t1) ma.fit (all_append is_fit s t1 ps.fit (all_append is_fit b (t ++ t3) mb.fit (all_append is_fit t t3 pt.fit refl)));
-      size = omega (arith, size-append a (s ++ t1), size-append s t1, size-append b (t ++ t3), size-append t t3, ps.size, pt.size, ma.size, mb.size);
-    }
-
-choice_made : (lo u n m i j k : ℕ) (c a b s : List Line) → Piece 8 s → Made (lo + 2) u i c → Made (lo + 2 + u) n j a → Made (lo + 2 + u + n) m k b → Made lo (2 + (u + (n + m))) (i + (j + k) + 16) (c ++ (s ++ (branch Beq lo ∷ (a ++ (Do Jmp Absolute (To (lo + 1)) ∷ Label lo ∷ (b ++ Label (lo + 1) ∷ []))))))
-choice_made lo u n m i j k c a b s ps mc ma mb =
-    let count : ℕ = 2 + (u + (n + m)) in
-    let t5 : List Line = Label (lo + 1) ∷ [] in
-    let t4 : List Line = Label lo ∷ (b ++ t5) in
-    let t3 : List Line = Do Jmp Absolute (To (lo + 1)) ∷ t4 in
-    let t2 : List Line = a ++ t3 in
-    let t1 : List Line = branch Beq lo ∷ t2 in
-    let end : Leads lo count t5 = record { all = refl } in
-    let second : Leads lo count (b ++ t5) = leads_append lo count b t5 (leads_wider (lo + 2 + u + n) m lo count b (omega arith) (omega arith) mb.leads) end in
-    let marked : Leads lo count t4 = record { all = second.all } in
-    let jump : Leads lo count t3 = leads_to lo count (lo + 1) Jmp Absolute t4 (omega arith) (omega arith) marked in
-    let right : Leads lo count t2 = leads_append lo count a t3 (leads_wider (lo + 2 + u) n lo count a (omega arith) (omega arith) ma.leads) jump in
-    let test : Leads lo count t1 = leads_to lo count lo Beq Relative t2 (omega arith) (omega arith) right in
-    record {
-      once = λ l. omega (arith, times-append l c (s ++ t1), times-append l s t1, times-append l a t3, times-append l b t5, plain_times l s ps.plain, mc.once l, ma.once l, mb.once l, among_split lo 2 (u + (n + m)) l, among_split (lo + 2) u (n + m) l, among_split (lo + 2 + u) n m l, among_split lo 1 1 l, among_one lo l, among_one (lo + 1) l);
-      leads = leads_append lo count c (s ++ t1) (leads_wider (lo + 2) u lo count c (omega arith) (omega arith) mc.leads) (leads_append lo count s t1 (leads_plain lo count s ps.plain) test);
-      fit = all_append is_fit c (s ++ t1) mc.fit (all_append is_fit s t1 ps.fit (all_append is_fit a t3 ma.fit (all_append is_fit b t5 mb.fit refl)));
-      size = omega (arith, size-append c (s ++ t1), size-append s t1, size-append a t3, size-append b t5, ps.size, mc.size, ma.size, mb.size);
-    }
-
-assign_made : (lo n m j k w : ℕ) (place : Place) (access : Access) (a b : List Line) → by_access 19 86 access ≤ w → Made lo n j a → Made (lo + n) m k b → Made lo (n + m) (j + k + (3 + w)) (a ++ (hold_code place ++ (b ++ store_code place access)))
-assign_made lo n m j k w place access a b le ma mb =
-    made_wider lo (n + m) (j + (3 + (k + by_access 19 86 access))) (j + k + (3 + w)) _ (made_append lo n m j (3 + (k + by_access 19 86 access)) a _ ma (made_before (lo + n) m 3 (k + by_access 19 86 access) (hold_code place) _ (hold_piece place) (made_behind (lo + n) m k (by_access 19 86 access) b (store_code place access) mb (store_piece place access)))) (omega (arith, le))
+assign_made : {lo n m j k w : ℕ} {a b : List Line} (place : Place) (access : Access) → by_access 19 86 access ≤ w → Made [] lo n j a → Made [] (lo + n) m k b → Made [] lo (n + m) (j + k + (3 + w)) (a ++ (hold_code place ++ (b ++ store_code place access)))
+assign_made place access le ma mb = made_wider (made_append ma (made_before (hold_piece place) (made_behind mb (store_piece place access)))) (omega (arith, le))
 
 open_and_close : (access : Access) → by_access 28 45 access + by_access 41 108 access ≤ by_access 69 153 access
 open_and_close (Whole kind) = omega arith
 open_and_close (Part field) = omega arith
 
-compound_made : (f : Framed) (pushed : ℕ) (op : BinaryOp) (operands : Operands) (a b : Typed) (lo m j k : ℕ) (left right : List Line) → Made lo (uses a) j left → Made (lo + uses a) m k right → Made lo (uses a + m) (j + k + (69 + slack a)) (compound f pushed op operands a b left right)
-compound_made f pushed op operands a b lo m j k left right ma mb =
+compound_made : {lo m j k : ℕ} {left right : List Line} (f : Framed) (pushed : ℕ) (op : BinaryOp) (operands : Operands) (a b : Typed) → Made [] lo (uses None a) j left → Made [] (lo + uses None a) m k right → Made [] lo (uses None a + m) (j + k + (69 + slack a)) (compound f pushed op operands a b left right)
+compound_made f pushed op operands a b ma mb =
     let place : Place = place_of f pushed a in
     let access : Access = access_of (types_of f.parts.types) a in
-    made_wider lo (uses a + m) (j + (by_access 28 45 access + (k + by_access 41 108 access))) (j + k + (69 + slack a)) _
-    (made_append lo (uses a) m j (by_access 28 45 access + (k + by_access 41 108 access)) (target_code place left) _ (target_made lo (uses a) j place left (known_uses f pushed a) ma)
-    (made_before (lo + uses a) m (by_access 28 45 access) (k + by_access 41 108 access) (open_code place access (computes operands)) _ (open_piece place access (computes operands))
-    (made_behind (lo + uses a) m k (by_access 41 108 access) right (close_code op operands (kind_in b) place access) mb (close_piece op operands (kind_in b) place access))))
+    made_wider (made_append (target_made place (known_uses f pushed a) ma) (made_before (open_piece place access (computes operands)) (made_behind mb (close_piece op operands (kind_in b) place access))))
     (omega (arith, open_and_close access, access_fits 69 153 (types_of f.parts.types) a (omega arith) (omega arith)))
 
-call_made : (f : Framed) (n : Option ℕ) (given : Outcome) (g : Typed) (es : Nodes) (lo u j k : ℕ) (callee args above : List Line) → Made lo u j callee → Made lo (args_uses es) k args → Made (lo + u) (args_uses es) k above → Made lo (unless_named n u + args_uses es) (j + k + 65) (call_by f n given g es callee args above)
-call_made f (Some i) given g es lo u j k callee args above mc ma mb =
-    let m : ℕ = args_uses es in
-    made_as lo m (0 + m) (j + k + 65) _ (omega arith) (made_wider lo m (k + 65) (j + k + 65) _ (made_behind lo m k 65 args _ ma (named_piece f i (is_counted (bare g)) (passed_of f (is_fast (bare g)) es) given)) (omega arith))
-call_made f None given g none lo u j k callee args above mc ma mb =
-    made_as lo u (u + 0) (j + k + 65) _ (omega arith) (made_wider lo u (j + 12) (j + k + 65) _ (made_behind lo u j 12 callee _ mc (direct_piece (is_counted (bare g)) (passed_of f (is_fast (bare g)) none) given)) (omega arith))
-call_made f None given g (some e more_args) lo u j k callee args above mc ma mb =
+call_made : {lo u j k : ℕ} {callee args above : List Line} (f : Framed) (n : Option ℕ) (given : Outcome) (g : Typed) (es : Nodes) → Made [] lo u j callee → Made [] lo (args_uses es) k args → Made [] (lo + u) (args_uses es) k above → Made [] lo (unless_named n u + args_uses es) (j + k + 65) (call_by f n given g es callee args above)
+call_made f (Some i) given g es mc ma mb = made_as (omega arith) (made_wider (made_behind ma (named_piece f i (is_counted (bare g)) (passed_of f (is_fast (bare g)) es) given)) (omega arith))
+call_made f None given g none mc ma mb = made_as (omega arith) (made_wider (made_behind mc (direct_piece (is_counted (bare g)) (passed_of f (is_fast (bare g)) none) given)) (omega arith))
+call_made f None given g (some e more_args) mc ma mb =
     let es : Nodes = some e more_args in
-    let m : ℕ = args_uses es in
-    made_wider lo (u + m) (j + (3 + (k + 26))) (j + k + 65) _ (made_append lo u m j (3 + (k + 26)) callee _ mc (made_before (lo + u) m 3 (k + 26) (push_code Ax) _ (push_piece Ax) (made_behind (lo + u) m k 26 above _ mb (pointer_piece (is_counted (bare g)) (passed_of f (is_fast (bare g)) es) given)))) (omega arith)
+    made_wider (made_append mc (made_before (push_piece Ax) (made_behind mb (pointer_piece (is_counted (bare g)) (passed_of f (is_fast (bare g)) es) given)))) (omega arith)
+
+-- a load, or a test of what is kept
+load_made : {lo n k w : ℕ} {a : List Line} (wants : Wanted) (place : Place) (access : Access) → (IsKnown place → n ≡ 0) → by_access 19 36 access ≤ w → Made [] lo n k a → Made (aims wants) lo n (k + w + 23) (load_by wants place access a)
+load_made Value place access known le m = made_wider (made_behind m (load_piece place access)) (omega (arith, le))
+load_made (Test to s) place access known le m = made_wider (tested_made (kept_at place access) (loads.type_in access) s to (λ d h. known (kept_known place access d h)) (made_behind m (load_piece place access))) (omega (arith, le))
 
 -- ---- the whole tree
 
-leaf : (lo k : ℕ) (e : Typed) (code : List Line) → k + 3 ≤ 128 → slack e ≡ 0 → Piece k code → Made lo 0 (room e) code
-leaf lo k e code le flat p = made_wider lo 0 k (room e) code (made_piece lo k code p) (omega (arith, some_nodes e))
+leaf : {outside : List ℕ} {lo k : ℕ} {code : List Line} (e : Typed) → k + 3 ≤ 128 → slack e ≡ 0 → Made outside lo 0 k code → Made outside lo 0 (room e) code
+leaf e le flat m = made_wider m (omega (arith, some_nodes e))
+
+handed_is : (same : Bool) (w : Wanted) → sense_of (handed same w) ≡ handed_sense same (sense_of w)
+handed_is true w = refl
+handed_is false w = refl
+
+unary_made : {lo : ℕ} {code : List Line} (w : Wanted) (t : QTy) (op : UnaryOp) (e : Typed) → Made [] lo (uses None e) (room e) code → Made (aims w) lo (uses None e) (room (node t (unary op e))) (wanted w (width_in t) (code ++ unary_code op (width_of (kind_in e))))
+unary_made w t op e m = made_wider (wanted_made w (width_in t) (made_behind m (unary_piece op (width_of (kind_in e))))) (omega (arith, some_nodes e))
+
+-- a side of which a value or a test is wanted
+tested_side : {lo k : ℕ} {code : List Line} (e : Typed) (s : Option Bool) (to : ℕ) → Made (aims (wanted_by s to)) lo (uses (sense_of (wanted_by s to)) e) k code → Made (to ∷ []) lo (uses s e) k code
+tested_side e None to m = made_closed (to ∷ []) m
+tested_side e (Some s) to m = m
+
+-- the lines of an expression for each place of its labels and whatever is wanted
+abbrev Parts : Framed → Typed → Type 0
+Parts f e = (pushed lo : ℕ) (w : Wanted) → Made (aims w) lo (uses (sense_of w) e) (room e) (expr_code f pushed lo w e)
+
+binary_made : (f : Framed) (pushed lo : ℕ) (w : Wanted) (t : QTy) (op : BinaryOp) (a b : Typed) → Parts f a → Parts f b → (r : Option Relation)
+    → Made (aims w) lo (by_relation r (1 + (uses None a + uses None b)) (λ q. truth_labels (sense_of w) + comparison_uses (relation_by (sense w) q) a b)) (room (node t (binary op a b)))
+    (by_relation r (wanted w (width_in t) (operator_code f pushed lo op a b)) (λ q. truth_by w lo (comparison_code f pushed (inner w lo) (aimed w lo) (sense w) op q a b)))
+binary_made f pushed lo w t op a b ma mb None =
+    let operands : Operands = operands_of f (bare a) (bare b) in
+    let how : Operating = operating_of f pushed op operands a b in
+    made_wider (wanted_made w (width_in t) (operator_made how op operands (kind_in b) lo (operating_uses f pushed op operands a b) (ma pushed (lo + 1) Value) (mb (below_operand how pushed (waiting (width_of (computes operands)))) (lo + 1 + uses None a) Value))) (omega (arith, some_nodes a, some_nodes b))
+binary_made f pushed lo w t op a b ma mb (Some r) =
+    let operands : Operands = operands_of f (bare a) (bare b) in
+    let q : Relation = relation_by (sense w) r in
+    let how : Comparing = comparing_of f pushed q (computes operands) a b in
+    let to : ℕ = aimed w lo in
+    let own : ℕ = inner w lo in
+    made_wider (truth_made w lo (comparison_made how op operands (kind_in b) (sense w) to own (comparing_uses f pushed q (computes operands) a b)
+    (tested_side a (tested_by q b) to (ma pushed (own + 1) (wanted_by (tested_by q b) to))) (tested_side b (tested_by q a) to (mb (below_side how pushed (waiting (width_of (computes operands)))) (own + 1 + uses (tested_by q b) a) (wanted_by (tested_by q a) to))))) (omega (arith, some_nodes a, some_nodes b))
 
 mutual
-  pub expr_made : (f : Framed) (pushed lo : ℕ) (e : Typed) → Made lo (uses e) (room e) (expr_code f pushed lo e)
-  expr_made f pushed lo (node t n) = node_made f pushed lo t n
+  pub expr_made : (f : Framed) (pushed lo : ℕ) (w : Wanted) (e : Typed) → Made (aims w) lo (uses (sense_of w) e) (room e) (expr_code f pushed lo w e)
+  expr_made f pushed lo w (node t n) = node_made f pushed lo w t n
 
-  node_made : (f : Framed) (pushed lo : ℕ) (t : QTy) (n : Node) → Made lo (node_uses n) (room (node t n)) (node_code f pushed lo t n)
-  node_made f pushed lo t (constant z) = leaf lo 12 (node t (constant z)) _ (omega arith) refl (number_piece (width_of (kind_of (type_in t))) (residue_of z))
-  node_made f pushed lo t null = leaf lo 12 (node t null) _ (omega arith) refl (number_piece Ax 0)
-  node_made f pushed lo t (literal n) = leaf lo 4 (node t (literal n)) _ (omega arith) refl (symbol_piece (literal_symbol (numbers_of f.parts) n) 0)
-  node_made f pushed lo t (object i) = leaf lo 34 (node t (object i)) _ (omega arith) refl (object_piece f pushed i)
-  node_made f pushed lo t (func i) = leaf lo 4 (node t (func i)) _ (omega arith) refl (symbol_piece (function_symbol (numbers_of f.parts) i) 0)
-  node_made f pushed lo t (deref e) = made_wider lo (uses e) (room e) _ _ (expr_made f pushed lo e) (omega (arith, some_nodes e))
-  node_made f pushed lo t (member e m) = made_wider lo (uses e) (room e + 9) _ _ (made_behind lo (uses e) (room e) 9 _ _ (expr_made f pushed lo e) (offset_piece (offset_at (types_of f.parts.types) (bare e) m))) (omega (arith, some_nodes e))
-  node_made f pushed lo t (load e) =
+  node_made : (f : Framed) (pushed lo : ℕ) (w : Wanted) (t : QTy) (n : Node) → Made (aims w) lo (node_uses (sense_of w) t n) (room (node t n)) (node_code f pushed lo w t n)
+  node_made f pushed lo w t (constant z) = leaf (node t (constant z)) (omega arith) refl (constant_made w (width_in t) (residue_of z))
+  node_made f pushed lo w t null = leaf (node t null) (omega arith) refl (constant_made w Ax 0)
+  node_made f pushed lo w t (literal n) = leaf (node t (literal n)) (omega arith) refl (wanted_made w (width_in t) (made_piece (symbol_piece (literal_symbol (numbers_of f.parts) n) 0)))
+  node_made f pushed lo w t (object i) = leaf (node t (object i)) (omega arith) refl (wanted_made w (width_in t) (made_piece (object_piece f pushed i)))
+  node_made f pushed lo w t (func i) = leaf (node t (func i)) (omega arith) refl (wanted_made w (width_in t) (made_piece (symbol_piece (function_symbol (numbers_of f.parts) i) 0)))
+  node_made f pushed lo w t (deref e) = made_wider (wanted_made w (width_in t) (expr_made f pushed lo Value e)) (omega (arith, some_nodes e))
+  node_made f pushed lo w t (member e m) = made_wider (wanted_made w (width_in t) (made_behind (expr_made f pushed lo Value e) (offset_piece (offset_at (types_of f.parts.types) (bare e) m)))) (omega (arith, some_nodes e))
+  node_made f pushed lo w t (load e) =
+      let place : Place = place_of f pushed e in
       let access : Access = access_of (types_of f.parts.types) e in
-      made_wider lo (uses e) (room e + by_access 19 36 access) _ _ (made_behind lo (uses e) (room e) (by_access 19 36 access) _ _ (target_made lo (uses e) (room e) (place_of f pushed e) _ (known_uses f pushed e) (expr_made f pushed lo e)) (load_piece (place_of f pushed e) access)) (omega (arith, some_nodes e, access_fits 19 36 (types_of f.parts.types) e (omega arith) (omega arith), slack_fits e))
-  node_made f pushed lo t (address e) = made_wider lo (uses e) (room e) _ _ (expr_made f pushed lo e) (omega (arith, some_nodes e))
-  node_made f pushed lo t (decay e) = made_wider lo (uses e) (room e) _ _ (expr_made f pushed lo e) (omega (arith, some_nodes e))
-  node_made f pushed lo t (convert e) = made_wider lo (uses e) (room e + 3) _ _ (made_behind lo (uses e) (room e) 3 _ _ (expr_made f pushed lo e) (conversion_piece (type_in t) (kind_in e))) (omega (arith, some_nodes e))
-  node_made f pushed lo t (unary op e) = made_wider lo (uses e) (room e + 13) _ _ (made_behind lo (uses e) (room e) 13 _ _ (expr_made f pushed lo e) (unary_piece op (width_of (kind_in e)))) (omega (arith, some_nodes e))
-  node_made f pushed lo t (binary op a b) =
-      let operands : Operands = operands_of f (bare a) (bare b) in
-      made_wider lo (uses a + uses b) (room a + room b + 35) _ _ (binary_made op operands (kind_in b) lo (uses a) (uses b) (room a) (room b) _ _ (short_of op operands b) (short_uses op operands b) (expr_made f pushed lo a) (expr_made f (more pushed (waiting (width_of (computes operands)))) (lo + uses a) b)) (omega (arith, some_nodes a, some_nodes b))
-  node_made f pushed lo t (both a b) =
-      made_wider lo (1 + (uses a + uses b)) (room a + room b + 30) _ _ (both_made lo (uses a) (uses b) (room a) (room b) _ _ _ _ (test_piece (width_of (kind_in a))) (test_piece (width_of (kind_in b))) (expr_made f pushed (lo + 1) a) (expr_made f pushed (lo + 1 + uses a) b)) (omega (arith, some_nodes a, some_nodes b))
-  node_made f pushed lo t (either a b) =
-      made_wider lo (2 + (uses a + uses b)) (room a + room b + 30) _ _ (either_made lo (uses a) (uses b) (room a) (room b) _ _ _ _ (test_piece (width_of (kind_in a))) (test_piece (width_of (kind_in b))) (expr_made f pushed (lo + 2) a) (expr_made f pushed (lo + 2 + uses a) b)) (omega (arith, some_nodes a, some_nodes b))
-  node_made f pushed lo t (choice c a b) =
-      made_wider lo (2 + (uses c + (uses a + uses b))) (room c + (room a + room b) + 16) _ _ (choice_made lo (uses c) (uses a) (uses b) (room c) (room a) (room b) _ _ _ _ (test_piece (width_of (kind_in c))) (expr_made f pushed (lo + 2) c) (expr_made f pushed (lo + 2 + uses c) a) (expr_made f pushed (lo + 2 + uses c + uses a) b)) (omega (arith, some_nodes c, some_nodes a, some_nodes b))
-  node_made f pushed lo t (comma a b) =
-      made_wider lo (uses a + uses b) (room a + room b) _ _ (made_append lo (uses a) (uses b) (room a) (room b) _ _ (expr_made f pushed lo a) (expr_made f pushed (lo + uses a) b)) (omega (arith, some_nodes a, some_nodes b))
-  node_made f pushed lo t (assign a b) =
+      made_wider (load_made w place access (known_uses f pushed e) (access_fits 19 36 (types_of f.parts.types) e (omega arith) (omega arith)) (target_made place (known_uses f pushed e) (expr_made f pushed lo Value e))) (omega (arith, some_nodes e, slack_fits e))
+  node_made f pushed lo w t (address e) = made_wider (wanted_made w (width_in t) (expr_made f pushed lo Value e)) (omega (arith, some_nodes e))
+  node_made f pushed lo w t (decay e) = made_wider (wanted_made w (width_in t) (expr_made f pushed lo Value e)) (omega (arith, some_nodes e))
+  node_made f pushed lo w t (convert e) =
+      let same : Bool = same_truth (type_in t) (bare e) in
+      made_as (ap (λ s. uses s e) (handed_is same w)) (made_wider (converted_made w same (type_in t) (kind_in e) (expr_made f pushed lo (handed same w) e)) (omega (arith, some_nodes e)))
+  node_made f pushed lo w t (unary unary_ops.Not e) = made_wider (truth_made w lo (expr_made f pushed (inner w lo) (Test (aimed w lo) (not (sense w))) e)) (omega (arith, some_nodes e))
+  node_made f pushed lo w t (unary unary_ops.Neg e) = unary_made w t unary_ops.Neg e (expr_made f pushed lo Value e)
+  node_made f pushed lo w t (unary unary_ops.BitNot e) = unary_made w t unary_ops.BitNot e (expr_made f pushed lo Value e)
+  node_made f pushed lo w t (unary unary_ops.Plus e) = unary_made w t unary_ops.Plus e (expr_made f pushed lo Value e)
+  node_made f pushed lo w t (unary unary_ops.Deref e) = unary_made w t unary_ops.Deref e (expr_made f pushed lo Value e)
+  node_made f pushed lo w t (unary unary_ops.Address e) = unary_made w t unary_ops.Address e (expr_made f pushed lo Value e)
+  node_made f pushed lo w t (binary op a b) = binary_made f pushed lo w t op a b (λ p l v. expr_made f p l v a) (λ p l v. expr_made f p l v b) (relation_of op)
+  node_made f pushed lo w t (both a b) =
+      let straight : Bool = is_straight false (sense w) in
+      let own : ℕ = inner w lo in
+      let first : ℕ = own + way_labels straight in
+      made_wider (truth_made w lo (joined_made straight (aimed w lo) own (expr_made f pushed first (Test (way straight (aimed w lo) own) false) a) (expr_made f pushed (first + uses (Some false) a) (Test (aimed w lo) (sense w)) b))) (omega (arith, some_nodes a, some_nodes b))
+  node_made f pushed lo w t (either a b) =
+      let straight : Bool = is_straight true (sense w) in
+      let own : ℕ = inner w lo in
+      let first : ℕ = own + way_labels straight in
+      made_wider (truth_made w lo (joined_made straight (aimed w lo) own (expr_made f pushed first (Test (way straight (aimed w lo) own) true) a) (expr_made f pushed (first + uses (Some true) a) (Test (aimed w lo) (sense w)) b))) (omega (arith, some_nodes a, some_nodes b))
+  node_made f pushed lo w t (choice c a b) =
+      let first : ℕ = lo + 2 + uses (Some false) c in
+      made_wider (wanted_made w (width_in t) (choice_made lo (expr_made f pushed (lo + 2) (Test lo false) c) (expr_made f pushed first Value a) (expr_made f pushed (first + uses None a) Value b))) (omega (arith, some_nodes c, some_nodes a, some_nodes b))
+  node_made f pushed lo w t (comma a b) = made_wider (made_append (made_closed (aims w) (expr_made f pushed lo Value a)) (expr_made f pushed (lo + uses None a) w b)) (omega (arith, some_nodes a, some_nodes b))
+  node_made f pushed lo w t (assign a b) =
       let place : Place = place_of f pushed a in
       let access : Access = access_of (types_of f.parts.types) a in
-      made_wider lo (uses a + uses b) (room a + room b + (3 + (19 + slack a))) _ _ (assign_made lo (uses a) (uses b) (room a) (room b) (19 + slack a) place access _ _ (access_fits 19 86 (types_of f.parts.types) a (omega arith) (omega arith)) (target_made lo (uses a) (room a) place _ (known_uses f pushed a) (expr_made f pushed lo a)) (expr_made f (more pushed (held place)) (lo + uses a) b)) (omega (arith, some_nodes a, some_nodes b, slack_fits a))
-  node_made f pushed lo t (assign_op op k a b) =
-      made_wider lo (uses a + uses b) (room a + room b + (69 + slack a)) _ _ (compound_made f pushed op (Numbers k) a b lo (uses b) (room a) (room b) _ _ (expr_made f pushed lo a) (expr_made f (behind_open f pushed (Numbers k) a) (lo + uses a) b)) (omega (arith, some_nodes a, some_nodes b, slack_fits a))
-  node_made f pushed lo t (assign_step op a b) =
+      made_wider (wanted_made w (width_in t) (assign_made place access (access_fits 19 86 (types_of f.parts.types) a (omega arith) (omega arith)) (target_made place (known_uses f pushed a) (expr_made f pushed lo Value a)) (expr_made f (more pushed (held place)) (lo + uses None a) Value b))) (omega (arith, some_nodes a, some_nodes b, slack_fits a))
+  node_made f pushed lo w t (assign_op op k a b) =
+      made_wider (wanted_made w (width_in t) (compound_made f pushed op (Numbers k) a b (expr_made f pushed lo Value a) (expr_made f (behind_open f pushed (Numbers k) a) (lo + uses None a) Value b))) (omega (arith, some_nodes a, some_nodes b, slack_fits a))
+  node_made f pushed lo w t (assign_step op a b) =
       let operands : Operands = PointerFirst (target_bytes f (bare a)) in
-      made_wider lo (uses a + uses b) (room a + room b + (69 + slack a)) _ _ (compound_made f pushed op operands a b lo (uses b) (room a) (room b) _ _ (expr_made f pushed lo a) (expr_made f (behind_open f pushed operands a) (lo + uses a) b)) (omega (arith, some_nodes a, some_nodes b, slack_fits a))
-  node_made f pushed lo t (step how e) =
+      made_wider (wanted_made w (width_in t) (compound_made f pushed op operands a b (expr_made f pushed lo Value a) (expr_made f (behind_open f pushed operands a) (lo + uses None a) Value b))) (omega (arith, some_nodes a, some_nodes b, slack_fits a))
+  node_made f pushed lo w t (step how e) =
       let place : Place = place_of f pushed e in
       let access : Access = access_of (types_of f.parts.types) e in
-      made_wider lo (uses e) (room e + by_access 83 187 access) _ _ (made_behind lo (uses e) (room e) (by_access 83 187 access) _ _ (target_made lo (uses e) (room e) place _ (known_uses f pushed e) (expr_made f pushed lo e)) (step_piece how place access (amount_of f how (bare e)))) (omega (arith, some_nodes e, access_fits 83 187 (types_of f.parts.types) e (omega arith) (omega arith), slack_fits e))
-  node_made f pushed lo t (copy a b) =
-      made_wider lo (uses a + uses b) (room a + (3 + (room b + 13))) _ _ (made_append lo (uses a) (uses b) (room a) (3 + (room b + 13)) _ _ (expr_made f pushed lo a) (made_before (lo + uses a) (uses b) 3 (room b + 13) _ _ (push_piece Ax) (made_behind (lo + uses a) (uses b) (room b) 13 _ _ (expr_made f (more pushed 2) (lo + uses a) b) (copy_piece (type_bytes f (type_in t)))))) (omega (arith, some_nodes a, some_nodes b))
-  node_made f pushed lo t (call g es) =
-      made_wider lo (unless_named (named g) (uses g) + args_uses es) (room g + 128 * nodes_in es + 65) _ _ (call_made f (named g) (outcome_of f (type_in t)) g es lo (uses g) (room g) (128 * nodes_in es) _ _ _ (expr_made f pushed lo g) (args_made f pushed lo (is_fast (bare g)) es) (args_made f (more pushed 2) (lo + uses g) (is_fast (bare g)) es)) (omega (arith, some_nodes g))
-  node_made f pushed lo t (pack e) =
+      made_wider (wanted_made w (width_in t) (made_behind (target_made place (known_uses f pushed e) (expr_made f pushed lo Value e)) (step_piece how place access (amount_of f how (bare e))))) (omega (arith, some_nodes e, access_fits 83 187 (types_of f.parts.types) e (omega arith) (omega arith), slack_fits e))
+  node_made f pushed lo w t (copy a b) =
+      made_wider (wanted_made w (width_in t) (made_append (expr_made f pushed lo Value a) (made_before (push_piece Ax) (made_behind (expr_made f (more pushed 2) (lo + uses None a) Value b) (copy_piece (type_bytes f (type_in t))))))) (omega (arith, some_nodes a, some_nodes b))
+  node_made f pushed lo w t (call g es) =
+      made_wider (wanted_made w (width_in t) (call_made f (named g) (outcome_of f (type_in t)) g es (expr_made f pushed lo Value g) (args_made f pushed lo (is_fast (bare g)) es) (args_made f (more pushed 2) (lo + uses None g) (is_fast (bare g)) es))) (omega (arith, some_nodes g))
+  node_made f pushed lo w t (pack e) =
       let place : Place = place_of f pushed e in
-      made_wider lo (uses e) (room e + 20) _ _ (made_behind lo (uses e) (room e) 20 _ _ (target_made lo (uses e) (room e) place _ (known_uses f pushed e) (expr_made f pushed lo e)) (part_piece place (extent_by (type_bytes f (type_in t))))) (omega (arith, some_nodes e))
-  node_made f pushed lo t (spill i e) =
-      made_wider lo (uses e) (room e + 67) _ _ (made_behind lo (uses e) (room e) 67 _ _ (expr_made f pushed lo e) (spill_piece (object_code f pushed i) (extent_by (type_bytes f (type_in t))) (object_piece f pushed i))) (omega (arith, some_nodes e))
-  node_made f pushed lo t further = leaf lo 34 (node t further) _ (omega arith) refl (further_piece f pushed)
+      made_wider (wanted_made w (width_in t) (made_behind (target_made place (known_uses f pushed e) (expr_made f pushed lo Value e)) (part_piece place (extent_by (type_bytes f (type_in t)))))) (omega (arith, some_nodes e))
+  node_made f pushed lo w t (spill i e) =
+      made_wider (wanted_made w (width_in t) (made_behind (expr_made f pushed lo Value e) (spill_piece (object_code f pushed i) (extent_by (type_bytes f (type_in t))) (object_piece f pushed i)))) (omega (arith, some_nodes e))
+  node_made f pushed lo w t further = leaf (node t further) (omega arith) refl (wanted_made w (width_in t) (made_piece (further_piece f pushed)))
 
-  args_made : (f : Framed) (pushed lo : ℕ) (fast : Bool) (es : Nodes) → Made lo (args_uses es) (128 * nodes_in es) (args_code f pushed lo fast es)
-  args_made f pushed lo fast none = made_none lo 0
+  args_made : (f : Framed) (pushed lo : ℕ) (fast : Bool) (es : Nodes) → Made [] lo (args_uses es) (128 * nodes_in es) (args_code f pushed lo fast es)
+  args_made f pushed lo fast none = made_none
   args_made f pushed lo fast (some e es) =
       let kept : Bool = stays fast es in
       let size : ℕ = passed_size f e in
-      made_wider lo (uses e + args_uses es) (room e + (passing size + 128 * nodes_in es)) _ _ (made_append lo (uses e) (args_uses es) (room e) (passing size + 128 * nodes_in es) _ _ (expr_made f pushed lo e) (made_before (lo + uses e) (args_uses es) (passing size) (128 * nodes_in es) _ _ (argument_piece kept size) (args_made f (more pushed (argument_bytes kept size)) (lo + uses e) fast es))) (omega (arith, some_nodes e, slack_fits e, passing_fits f e))
+      made_wider (made_append (expr_made f pushed lo Value e) (made_before (argument_piece kept size) (args_made f (more pushed (argument_bytes kept size)) (lo + uses None e) fast es))) (omega (arith, some_nodes e, slack_fits e, passing_fits f e))
 
 pub expressions_own_their_labels : ExpressionsOwnTheirLabels
-expressions_own_their_labels f pushed fresh e =
-    let made : Made fresh (uses e) (room e) (expr_code f pushed fresh e) = expr_made f pushed fresh e in
-    record { once = made.once; targets = made.leads.all }
+expressions_own_their_labels f pushed fresh w e =
+    let made : Made (aims w) fresh (uses (sense_of w) e) (room e) (expr_code f pushed fresh w e) = expr_made f pushed fresh w e in
+    record { once = made.once; targets = made.leads }
 
 pub expressions_are_small : ExpressionsAreSmall
-expressions_are_small f pushed fresh e = omega (arith, (expr_made f pushed fresh e).size)
+expressions_are_small f pushed fresh w e = omega (arith, (expr_made f pushed fresh w e).size)
 
 pub expressions_are_fit : ExpressionsAreFit
-expressions_are_fit f pushed fresh e = (expr_made f pushed fresh e).fit
+expressions_are_fit f pushed fresh w e = (expr_made f pushed fresh w e).fit

@@ -1,18 +1,20 @@
 -- Lines made of pieces: their labels, their targets, their forms and their size.
-use Rattle.std.proofs.Common.{◌≡◌, ℕ, ◌+◌, ◌<◌, ◌≤◌, ◌==◌, ◌⊎◌, inl, inr, Bool, true, false, not, List, [], ◌∷◌, ◌++◌, refl, sym, ◌∙◌, ap, subst, arith}
-use Rattle.std.specs.Prelude.{if◌then◌else◌, nat_le, nat_lt}
+use Rattle.std.proofs.Common.{◌≡◌, ℕ, ◌+◌, ◌<◌, ◌≤◌, ◌==◌, ◌||◌, ◌⊎◌, inl, inr, Bool, true, false, not, List, [], ◌∷◌, ◌++◌, refl, sym, ◌∙◌, ap, subst, arith}
+use Rattle.std.specs.Prelude.{if◌then◌else◌, nat_le, nat_lt, nat_eq}
 use Rattle.std.specs.List.{list_all}
-use Rattle.std.proofs.lemmas.Bool.{and_parts, and_from, and_left, and_right, le-leb, lt-leb, lt-ltb, le-ltb, leb-true, ltb-true, eq-eqb, ne_eqb, cases_lt, cases_order}
+use Rattle.std.proofs.lemmas.Bool.{and_parts, and_from, and_left, and_right, le-leb, lt-leb, lt-ltb, le-ltb, leb-true, ltb-true, eq-eqb, eqb-true, ne_eqb, cases_lt, cases_order}
 use Rattle.std.proofs.lemmas.List.Folds.{list_all-append}
 use Rattle.c65_mach.specs.declared.rows.Op.{Op}
+use Rattle.c65_mach.specs.declared.rows.Op.TheVariants.{Jmp}
 use Rattle.c65_mach.specs.declared.rows.Mode.{Mode}
+use Rattle.c65_mach.specs.declared.rows.Mode.TheVariants.{Absolute, Relative}
 use Rattle.c65_code.specs.declared.line.Operand.{Operand}
 use Rattle.c65_code.specs.declared.line.Operand.TheVariants.{Nothing, Byte, Low, High, Zero, At, To}
 use Rattle.c65_code.specs.declared.line.Line.{Line}
 use Rattle.c65_code.specs.declared.line.Line.TheVariants.{Label, Do, Call}
-use Rattle.c65_code.specs.Segments.{is_to, is_fit, target_of, targets_of}
+use Rattle.c65_code.specs.Segments.{is_to, is_fit, is_among, target_of, targets_of}
 use Rattle.c65_code.specs.Weights.{lines_size}
-use Rattle.c65_gen_law_lines.specs.Labels.{times, is_within, among}
+use Rattle.c65_gen_law_lines.specs.Labels.{times, is_within, among, may_lead}
 
 -- ---- labels and targets
 
@@ -144,13 +146,6 @@ pub record Piece (k : ℕ) (lines : List Line) : Type 0 where
   pub fit : list_all is_fit lines ≡ true
   pub size : lines_size lines ≤ k
 
--- the labels from lo on, so many
-pub record Made (lo n k : ℕ) (lines : List Line) : Type 0 where
-  pub once : (l : ℕ) → times l lines ≡ among lo n l
-  pub leads : Leads lo n lines
-  pub fit : list_all is_fit lines ≡ true
-  pub size : lines_size lines ≤ k
-
 pub all_append : (p : Line → Bool) (a b : List Line) → list_all p a ≡ true → list_all p b ≡ true → list_all p (a ++ b) ≡ true
 all_append p a b ha hb = list_all-append p a b ∙ and_from (list_all p a) (list_all p b) ha hb
 
@@ -173,43 +168,145 @@ piece_none k = record { plain = refl; fit = refl; size = omega arith }
 
 -- ---- lines made of lines
 
-pub made_piece : (lo k : ℕ) (a : List Line) → Piece k a → Made lo 0 k a
-made_piece lo k a p = record {
-  once = λ l. plain_times l a p.plain ∙ sym (among_none lo l);
-  leads = leads_plain lo 0 a p.plain;
-  fit = p.fit;
-  size = p.size;
+-- a test of one of several labels passes each of them
+pub or_left : (a b : Bool) → a ≡ true → (a || b) ≡ true
+or_left true b h = refl
+or_left false b h = absurd cc
+
+pub or_right : (a b : Bool) → b ≡ true → (a || b) ≡ true
+or_right true b h = refl
+or_right false b h = h
+
+or_parts : (a b : Bool) → (a || b) ≡ true → (a ≡ true) ⊎ (b ≡ true)
+or_parts true b h = inl refl
+or_parts false b h = inr h
+
+pub all_passes : (p q : ℕ → Bool) (ls : List ℕ) → ((l : ℕ) → p l ≡ true → q l ≡ true) → list_all p ls ≡ true → list_all q ls ≡ true
+all_passes p q [] wider h = refl
+all_passes p q (l ∷ ls) wider h =
+    let parts = and_parts (p l) (list_all p ls) h in
+    and_from (q l) (list_all q ls) (wider l parts.0) (all_passes p q ls wider parts.1)
+
+pub among_passes : (ok : ℕ → Bool) (ls : List ℕ) (l : ℕ) → list_all ok ls ≡ true → is_among ls l ≡ true → ok l ≡ true
+among_passes ok [] l h there = absurd cc
+among_passes ok (k ∷ ls) l h there =
+    let parts = and_parts (ok k) (list_all ok ls) h in
+    go parts.0 (among_passes ok ls l parts.1) (or_parts (nat_eq l k) (is_among ls l) there)
+  where
+    go : ok k ≡ true → (is_among ls l ≡ true → ok l ≡ true) → (nat_eq l k ≡ true) ⊎ (is_among ls l ≡ true) → ok l ≡ true
+    go here rest (inl e) = ap ok (eqb-true l k e) ∙ here
+    go here rest (inr e) = rest e
+
+-- Lines as a part of others: how often they have each label, a test that their targets pass, and their greatest size.
+pub record Stretch (ok : ℕ → Bool) (own : ℕ → ℕ) (k : ℕ) (lines : List Line) : Type 0 where
+  pub once : (l : ℕ) → times l lines ≡ own l
+  pub leads : list_all ok (targets_of lines) ≡ true
+  pub fit : list_all is_fit lines ≡ true
+  pub size : lines_size lines ≤ k
+
+-- the labels from lo on, so many; the lines lead to these and to those outside
+pub record Made (outside : List ℕ) (lo n k : ℕ) (lines : List Line) : Type 0 where
+  pub once : (l : ℕ) → times l lines ≡ among lo n l
+  pub leads : list_all (may_lead lo n outside) (targets_of lines) ≡ true
+  pub fit : list_all is_fit lines ≡ true
+  pub size : lines_size lines ≤ k
+
+abbrev pub nowhere : ℕ → ℕ
+nowhere l = 0
+
+abbrev pub once_at : ℕ → ℕ → ℕ
+once_at l x = if l == x then 1 else 0
+
+pub stretch_then : {ok : ℕ → Bool} {f g : ℕ → ℕ} {j k : ℕ} {a b : List Line} → Stretch ok f j a → Stretch ok g k b → Stretch ok (λ l. f l + g l) (j + k) (a ++ b)
+stretch_then {ok = ok} {a = a} {b = b} p q = record {
+  once = λ l. omega (arith, times-append l a b, p.once l, q.once l);
+  leads = ap (list_all ok) (targets-append a b) ∙ (list_all-append ok (targets_of a) (targets_of b) ∙ and_from (list_all ok (targets_of a)) (list_all ok (targets_of b)) p.leads q.leads);
+  fit = all_append is_fit a b p.fit q.fit;
+  size = omega (arith, size-append a b, p.size, q.size);
 }
 
-pub made_append : (lo m n j k : ℕ) (a b : List Line) → Made lo m j a → Made (lo + m) n k b → Made lo (m + n) (j + k) (a ++ b)
-made_append lo m n j k a b ma mb = record {
-  once = λ l. omega (arith, times-append l a b, ma.once l, mb.once l, among_split lo m n l);
-  leads = leads_append lo (m + n) a b (leads_wider lo m lo (m + n) a (omega arith) (omega arith) ma.leads) (leads_wider (lo + m) n lo (m + n) b (omega arith) (omega arith) mb.leads);
-  fit = all_append is_fit a b ma.fit mb.fit;
-  size = omega (arith, size-append a b, ma.size, mb.size);
+pub stretch_piece : {ok : ℕ → Bool} {k : ℕ} {a : List Line} → Piece k a → Stretch ok nowhere k a
+stretch_piece {ok = ok} {a = a} p = record { once = λ l. plain_times l a p.plain; leads = ap (list_all ok) (plain_targets a p.plain); fit = p.fit; size = p.size }
+
+pub stretch_label : {ok : ℕ → Bool} (l : ℕ) → Stretch ok (once_at l) 0 (Label l ∷ [])
+stretch_label l = record { once = λ x. omega arith; leads = refl; fit = refl; size = omega arith }
+
+pub stretch_branch : {ok : ℕ → Bool} (op : Op) (l : ℕ) → is_fit (Do op Relative (To 0)) ≡ true → ok l ≡ true → Stretch ok nowhere 5 (Do op Relative (To l) ∷ [])
+stretch_branch {ok = ok} op l fits passes = record { once = λ x. refl; leads = and_from (ok l) true passes refl; fit = and_from (is_fit (Do op Relative (To 0))) true fits refl; size = omega arith }
+
+pub stretch_jump : {ok : ℕ → Bool} (l : ℕ) → ok l ≡ true → Stretch ok nowhere 3 (Do Jmp Absolute (To l) ∷ [])
+stretch_jump {ok = ok} l passes = record { once = λ x. refl; leads = and_from (ok l) true passes refl; fit = refl; size = omega arith }
+
+pub stretch_wider : {ok : ℕ → Bool} {f : ℕ → ℕ} {j k : ℕ} {a : List Line} → Stretch ok f j a → j ≤ k → Stretch ok f k a
+stretch_wider p le = record { once = p.once; leads = p.leads; fit = p.fit; size = omega (arith, p.size, le) }
+
+pub stretch_as : {ok : ℕ → Bool} {f g : ℕ → ℕ} {k : ℕ} {a : List Line} → ((l : ℕ) → f l ≡ g l) → Stretch ok f k a → Stretch ok g k a
+stretch_as same p = record { once = λ l. p.once l ∙ same l; leads = p.leads; fit = p.fit; size = p.size }
+
+-- a node's lines in those of a larger one
+pub stretch_made : {ok : ℕ → Bool} {outside : List ℕ} {lo n k : ℕ} {a : List Line} → Made outside lo n k a → ((l : ℕ) → is_within lo n l ≡ true → ok l ≡ true) → list_all ok outside ≡ true → Stretch ok (among lo n) k a
+stretch_made {ok = ok} {outside = outside} {lo = lo} {n = n} {a = a} m inner outer = record {
+  once = m.once;
+  leads = all_passes (may_lead lo n outside) ok (targets_of a) each m.leads;
+  fit = m.fit;
+  size = m.size;
 }
+  where
+    each : (l : ℕ) → may_lead lo n outside l ≡ true → ok l ≡ true
+    each l h = go (or_parts (is_within lo n l) (is_among outside l) h)
+      where
+        go : (is_within lo n l ≡ true) ⊎ (is_among outside l ≡ true) → ok l ≡ true
+        go (inl e) = inner l e
+        go (inr e) = among_passes ok outside l outer e
 
-pub made_behind : (lo n j k : ℕ) (a p : List Line) → Made lo n j a → Piece k p → Made lo n (j + k) (a ++ p)
-made_behind lo n j k a p ma pp = record {
-  once = λ l. omega (arith, times-append l a p, ma.once l, plain_times l p pp.plain);
-  leads = leads_append lo n a p ma.leads (leads_plain lo n p pp.plain);
-  fit = all_append is_fit a p ma.fit pp.fit;
-  size = omega (arith, size-append a p, ma.size, pp.size);
-}
+pub made_stretch : {outside : List ℕ} {lo n k : ℕ} {f : ℕ → ℕ} {a : List Line} → Stretch (may_lead lo n outside) f k a → ((l : ℕ) → f l ≡ among lo n l) → Made outside lo n k a
+made_stretch p same = record { once = λ l. p.once l ∙ same l; leads = p.leads; fit = p.fit; size = p.size }
 
-pub made_before : (lo n j k : ℕ) (p a : List Line) → Piece j p → Made lo n k a → Made lo n (j + k) (p ++ a)
-made_before lo n j k p a pp ma = record {
-  once = λ l. omega (arith, times-append l p a, ma.once l, plain_times l p pp.plain);
-  leads = leads_append lo n p a (leads_plain lo n p pp.plain) ma.leads;
-  fit = all_append is_fit p a pp.fit ma.fit;
-  size = omega (arith, size-append p a, ma.size, pp.size);
-}
+-- ---- where a node may lead
 
-pub made_wider : (lo n j k : ℕ) (a : List Line) → Made lo n j a → j ≤ k → Made lo n k a
-made_wider lo n j k a m le = record { once = m.once; leads = m.leads; fit = m.fit; size = omega (arith, m.size, le) }
+pub leads_inner : (outside : List ℕ) (lo n l : ℕ) → lo ≤ l → l < lo + n → may_lead lo n outside l ≡ true
+leads_inner outside lo n l low high = or_left (is_within lo n l) (is_among outside l) (within lo n l low high)
 
-pub made_as : (lo n m k : ℕ) (a : List Line) → n ≡ m → Made lo n k a → Made lo m k a
-made_as lo n m k a e made = subst (λ (x : ℕ). Made lo x k a) e made
+pub leads_within : (outside : List ℕ) (lo n to m : ℕ) → to ≤ lo → lo + n ≤ to + m → (l : ℕ) → is_within lo n l ≡ true → may_lead to m outside l ≡ true
+leads_within outside lo n to m low high l h = or_left (is_within to m l) (is_among outside l) (within_wider lo n to m l low high h)
 
-pub made_none : (lo k : ℕ) → Made lo 0 k []
-made_none lo k = made_piece lo k [] (piece_none k)
+pub leads_outer : (lo n l : ℕ) → may_lead lo n (l ∷ []) l ≡ true
+leads_outer lo n l = or_right (is_within lo n l) (is_among (l ∷ []) l) (or_left (nat_eq l l) false (eq-eqb l l refl))
+
+-- labels outside stay so
+pub outside_stay : (lo n : ℕ) (outside : List ℕ) → list_all (may_lead lo n outside) outside ≡ true
+outside_stay lo n outside = go outside (λ l h. h)
+  where
+    go : (ls : List ℕ) → ((l : ℕ) → is_among ls l ≡ true → is_among outside l ≡ true) → list_all (may_lead lo n outside) ls ≡ true
+    go [] h = refl
+    go (l ∷ ls) h =
+        let here : is_among outside l ≡ true = h l (or_left (nat_eq l l) (is_among ls l) (eq-eqb l l refl)) in
+        and_from (may_lead lo n outside l) (list_all (may_lead lo n outside) ls) (or_right (is_within lo n l) (is_among outside l) here) (go ls (λ k more. h k (or_right (nat_eq k l) (is_among ls k) more)))
+
+-- ---- nodes
+
+made_same : {outside : List ℕ} {lo n k : ℕ} {a : List Line} → Made outside lo n k a → Stretch (may_lead lo n outside) (among lo n) k a
+made_same m = record { once = m.once; leads = m.leads; fit = m.fit; size = m.size }
+
+pub made_piece : {outside : List ℕ} {lo k : ℕ} {a : List Line} → Piece k a → Made outside lo 0 k a
+made_piece {lo = lo} p = made_stretch (stretch_piece p) (λ l. sym (among_none lo l))
+
+pub made_append : {outside : List ℕ} {lo m n j k : ℕ} {a b : List Line} → Made outside lo m j a → Made outside (lo + m) n k b → Made outside lo (m + n) (j + k) (a ++ b)
+made_append {outside = outside} {lo = lo} {m = m} {n = n} p q = made_stretch
+    (stretch_then (stretch_made p (leads_within outside lo m lo (m + n) (omega arith) (omega arith)) (outside_stay lo (m + n) outside)) (stretch_made q (leads_within outside (lo + m) n lo (m + n) (omega arith) (omega arith)) (outside_stay lo (m + n) outside)))
+    (λ l. sym (among_split lo m n l))
+
+pub made_behind : {outside : List ℕ} {lo n j k : ℕ} {a p : List Line} → Made outside lo n j a → Piece k p → Made outside lo n (j + k) (a ++ p)
+made_behind {lo = lo} {n = n} m p = made_stretch (stretch_then (made_same m) (stretch_piece p)) (λ l. omega arith)
+
+pub made_before : {outside : List ℕ} {lo n j k : ℕ} {p a : List Line} → Piece j p → Made outside lo n k a → Made outside lo n (j + k) (p ++ a)
+made_before p m = made_stretch (stretch_then (stretch_piece p) (made_same m)) (λ l. omega arith)
+
+pub made_wider : {outside : List ℕ} {lo n j k : ℕ} {a : List Line} → Made outside lo n j a → j ≤ k → Made outside lo n k a
+made_wider m le = record { once = m.once; leads = m.leads; fit = m.fit; size = omega (arith, m.size, le) }
+
+pub made_as : {outside : List ℕ} {lo n m k : ℕ} {a : List Line} → n ≡ m → Made outside lo n k a → Made outside lo m k a
+made_as {outside = outside} {lo = lo} {k = k} {a = a} e made = subst (λ (x : ℕ). Made outside lo x k a) e made
+
+pub made_none : {outside : List ℕ} {lo k : ℕ} → Made outside lo 0 k []
+made_none {k = k} = made_piece (piece_none k)

@@ -48,7 +48,7 @@ use Rattle.c65_genexpr.specs.declared.operands.Operands.{Operands}
 use Rattle.c65_genexpr.specs.declared.operands.Operands.TheVariants.{Numbers, PointerFirst, PointerLast, Pointers}
 use Rattle.c65_genexpr.specs.declared.arguments.Passed.{Passed}
 use Rattle.c65_genexpr.specs.Places.{more, soft_code, code_at, object_code, rest_code}
-use Rattle.c65_genexpr.specs.Operands.{computes, between_code, difference_code, behind_code, unary_code, conversion_code, negative, scaled, short_code}
+use Rattle.c65_genexpr.specs.Operands.{computes, between_code, difference_code, behind_code, unary_code, conversion_code, negative}
 use Rattle.c65_genexpr.specs.Steps.{is_post, back_code, after_code, step_code, open_code, close_code}
 use Rattle.c65_genexpr.specs.declared.types.Outcome.{Outcome}
 use Rattle.c65_genexpr.specs.declared.types.Outcome.TheVariants.{Nothing, Number, Area}
@@ -100,7 +100,7 @@ scale_piece n = piece_if 13 (n == 1) [] _ (piece_none 13) (piece_if 13 (n == 2) 
 zero_piece : Piece 10 (number_code Ax 0)
 zero_piece = record { plain = refl; fit = refl; size = omega arith }
 
-divide_piece : (n : ℕ) → Piece 10 (divide_code n)
+pub divide_piece : (n : ℕ) → Piece 10 (divide_code n)
 divide_piece n = piece_if 10 (n == 1) [] _ (piece_none 10) (piece_if 10 (is_divisor n) (by_code tos.Div n) (number_code Ax 0) (by_piece tos.Div n) zero_piece)
 
 pub symbol_piece : (s : Sym) (at : ℕ) → Piece 4 (symbol_code s at)
@@ -320,10 +320,9 @@ unary_piece unary.Neg Ax = record { plain = refl; fit = refl; size = omega arith
 unary_piece unary.Neg Eax = record { plain = refl; fit = refl; size = omega arith }
 unary_piece unary.BitNot Ax = record { plain = refl; fit = refl; size = omega arith }
 unary_piece unary.BitNot Eax = record { plain = refl; fit = refl; size = omega arith }
-unary_piece unary.Not w = record { plain = refl; fit = refl; size = omega arith }
 unary_piece _ w = piece_none 13
 
-wide_piece : (op : BinaryOp) (kind : IntType) → Piece 6 (wide_code op kind)
+pub wide_piece : (op : BinaryOp) (kind : IntType) → Piece 6 (wide_code op kind)
 wide_piece op kind =
     let one : Piece 3 (call (Tos (tos_of op (is_signed_of kind)) (width_of kind)) ∷ []) = record { plain = refl; fit = refl; size = omega arith } in
     one_call 3 (call (Tos (tos_of op (is_signed_of kind)) (width_of kind))) _ one (piece_if 3 (is_comparison op) [] (narrow_code kind) (piece_none 3) (narrow_piece kind))
@@ -343,11 +342,6 @@ behind_piece op (Numbers kind) right = piece_wider 9 19 _ (piece_append 3 6 _ _ 
 behind_piece op (PointerFirst size) right = piece_append 13 6 _ _ (scale_piece size) (wide_piece op ints.UInt)
 behind_piece op (PointerLast size) right = piece_wider 6 19 _ (wide_piece op ints.UInt) (omega arith)
 behind_piece op (Pointers size) right = piece_wider 16 19 _ (piece_append 6 10 _ _ (wide_piece op ints.UInt) (difference_piece op size)) (omega arith)
-
-pub short_piece : (op : BinaryOp) (operands : Operands) (n : ℕ) → Piece 21 (short_code op operands n)
-short_piece ops.Sub operands n = add_piece (computes operands) (negative (scaled operands n))
-short_piece ops.Add operands n = add_piece (computes operands) (scaled operands n)
-short_piece _ operands n = add_piece (computes operands) (scaled operands n)
 
 -- ---- assignments
 

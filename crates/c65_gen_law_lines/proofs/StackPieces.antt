@@ -43,34 +43,13 @@ use Rattle.c65_genload.specs.Stores.{bytes_store, after_store, under_code, field
 use Rattle.c65_genexpr.specs.declared.operands.Operands.{Operands}
 use Rattle.c65_genexpr.specs.declared.operands.Operands.TheVariants.{Numbers, PointerFirst, PointerLast, Pointers}
 use Rattle.c65_genexpr.specs.Places.{more, soft_code, code_at, object_code, rest_code}
-use Rattle.c65_genexpr.specs.Operands.{computes, between_code, difference_code, behind_code, unary_code, conversion_code, negative, scaled, short_code}
+use Rattle.c65_genexpr.specs.Operands.{computes, between_code, difference_code, behind_code, unary_code, conversion_code, negative}
 use Rattle.c65_genexpr.specs.Steps.{is_post, back_code, after_code, step_code, open_code, close_code}
 use Rattle.c65_genexpr.specs.Types.{kind_of}
 use Rattle.c65_genexpr.specs.Spills.{kept_code, first_code, further_code, again_code, spill_code}
 use Rattle.c65_genexpr.specs.Arguments.{clamped, passed_size, argument_code}
-use Rattle.c65_gen_law_lines.specs.Stack.{Waiting, waiting_by, behind, waits, argument_bytes}
-
-pub waits_append : (a b : List Line) (w : Option Waiting) → waits w (a ++ b) ≡ waits (waits w a) b
-waits_append [] b w = refl
-waits_append (line ∷ a) b w = waits_append a b (behind line w)
-
--- lines lead from some values that wait to others, and call nothing
-pub record Leaves (v : List ℕ) (a : List Line) (u : List ℕ) : Type 0 where
-  pub to : (calls : List (List ℕ)) → waits (Some (waiting_by v calls)) a ≡ Some (waiting_by u calls)
-
-pub leaves_then : {v u t : List ℕ} {a b : List Line} → Leaves v a u → Leaves u b t → Leaves v (a ++ b) t
-leaves_then {v = v} {a = a} {b = b} p q = record { to = λ calls. waits_append a b (Some (waiting_by v calls)) ∙ (ap (λ w. waits w b) (p.to calls) ∙ q.to calls) }
-
-pub leaves_none : {v : List ℕ} → Leaves v [] v
-leaves_none = record { to = λ calls. refl }
-
-pub leaves_if : {v u : List ℕ} (b : Bool) {x y : List Line} → Leaves v x u → Leaves v y u → Leaves v (if b then x else y) u
-leaves_if true p q = p
-leaves_if false p q = q
-
--- lines that leave what waits
-abbrev pub Still : List Line → Type 0
-Still a = (v : List ℕ) → Leaves v a v
+use Rattle.c65_gen_law_lines.specs.Stack.{argument_bytes}
+pub use Rattle.c65_gen_law_lines.proofs.Leaves.{waits_append, Leaves, leaves_then, leaves_none, leaves_if, Still}
 
 pub narrow_still : (kind : IntType) → Still (narrow_code kind)
 narrow_still ints.SChar v = record { to = λ calls. refl }
@@ -105,10 +84,10 @@ shift_still op n v = leaves_if (n == 0) leaves_none (by_still op n v)
 double_still : Still (call (Unary Shl1 Ax) ∷ [])
 double_still v = record { to = λ calls. refl }
 
-scale_still : (n : ℕ) → Still (scale_code n)
+pub scale_still : (n : ℕ) → Still (scale_code n)
 scale_still n v = leaves_if (n == 1) leaves_none (leaves_if (n == 2) (double_still v) (by_still tos.Mul n v))
 
-divide_still : (n : ℕ) → Still (divide_code n)
+pub divide_still : (n : ℕ) → Still (divide_code n)
 divide_still n v = leaves_if (n == 1) leaves_none (leaves_if (is_divisor n) (by_still tos.Div n v) (number_still Ax 0 v))
 
 above_still : (n : ℕ) → Still (call LdAi ∷ (above_code ++ add_code ints.UInt n))
@@ -323,14 +302,13 @@ spill_still address e still v =
 pub unary_still : (op : UnaryOp) (w : Width) → Still (unary_code op w)
 unary_still unary.Neg w v = record { to = λ calls. refl }
 unary_still unary.BitNot w v = record { to = λ calls. refl }
-unary_still unary.Not w v = record { to = λ calls. refl }
 unary_still _ w v = leaves_none
 
 tos_leaves : (op : TosOp) (w : Width) (v : List ℕ) → Leaves (waiting w ∷ v) (call (Tos op w) ∷ []) v
 tos_leaves op Ax v = record { to = λ calls. refl }
 tos_leaves op Eax v = record { to = λ calls. refl }
 
-wide_leaves : (op : BinaryOp) (kind : IntType) (v : List ℕ) → Leaves (waiting (width_of kind) ∷ v) (wide_code op kind) v
+pub wide_leaves : (op : BinaryOp) (kind : IntType) (v : List ℕ) → Leaves (waiting (width_of kind) ∷ v) (wide_code op kind) v
 wide_leaves op kind v = leaves_then (tos_leaves (tos_of op (is_signed_of kind)) (width_of kind) v) (leaves_if (is_comparison op) leaves_none (narrow_still kind v))
 
 pub between_leaves : (operands : Operands) (v : List ℕ) → Leaves v (between_code operands) (waiting (width_of (computes operands)) ∷ v)
@@ -348,11 +326,6 @@ behind_leaves op (Numbers kind) right v = leaves_then (convert_still right kind 
 behind_leaves op (PointerFirst size) right v = leaves_then (scale_still size (2 ∷ v)) (wide_leaves op ints.UInt v)
 behind_leaves op (PointerLast size) right v = wide_leaves op ints.UInt v
 behind_leaves op (Pointers size) right v = leaves_then (wide_leaves op ints.UInt v) (difference_still op size v)
-
-pub short_still : (op : BinaryOp) (operands : Operands) (n : ℕ) → Still (short_code op operands n)
-short_still ops.Sub operands n v = add_still (computes operands) (negative (scaled operands n)) v
-short_still ops.Add operands n v = add_still (computes operands) (scaled operands n) v
-short_still _ operands n v = add_still (computes operands) (scaled operands n) v
 
 -- ---- assignments
 

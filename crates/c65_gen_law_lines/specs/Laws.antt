@@ -14,28 +14,30 @@ use Rattle.c65_genframe.specs.Marks.{all_marks}
 use Rattle.c65_genframe.specs.Objects.{locals_of}
 use Rattle.c65_genframe.specs.Frames.{Framed, has_prototype, frame_of}
 use Rattle.c65_genexpr.specs.Arguments.{passed_of}
+use Rattle.c65_genexpr.specs.declared.wanted.Wanted.{Wanted}
+use Rattle.c65_genexpr.specs.Wanted.{sense_of}
 use Rattle.c65_genexpr.specs.Uses.{uses}
 use Rattle.c65_genexpr.specs.Code.{expr_code}
 use Rattle.c65_genstmt.specs.declared.jumps.Ways.{Ways}
 use Rattle.c65_genstmt.specs.Stmts.{with_stmt}
 use Rattle.c65_genstmt.specs.Programs.{program_of}
 use Rattle.c65_genstmt.specs.Functions.{no_lines, with_function}
-use Rattle.c65_gen_law_lines.specs.Labels.{among, OwnsLabels}
+use Rattle.c65_gen_law_lines.specs.Labels.{among, aims, OwnsLabels}
 use Rattle.c65_gen_law_lines.specs.Homes.{in_bank, in_blocks, in_params}
 use Rattle.c65_gen_law_lines.specs.Bulk.{nodes, statement_nodes, functions_nodes}
 use Rattle.c65_gen_law_lines.specs.Stack.{Waiting, waiting_by, waits, bytes_in, passed, calls_of, statement_calls}
 
--- the labels from the first free one on, as many as the expression uses
+-- the labels from the first free one on, as many as a value or a test of the expression uses; a test leads to its own label too
 abbrev pub ExpressionsOwnTheirLabels : Type 0
-ExpressionsOwnTheirLabels = (f : Framed) (pushed fresh : ℕ) (e : Typed) → OwnsLabels fresh (uses e) (expr_code f pushed fresh e)
+ExpressionsOwnTheirLabels = (f : Framed) (pushed fresh : ℕ) (w : Wanted) (e : Typed) → OwnsLabels fresh (uses (sense_of w) e) (aims w) (expr_code f pushed fresh w e)
 
 -- at most 128 bytes for each node
 abbrev pub ExpressionsAreSmall : Type 0
-ExpressionsAreSmall = (f : Framed) (pushed fresh : ℕ) (e : Typed) → lines_size (expr_code f pushed fresh e) ≤ 128 * nodes e
+ExpressionsAreSmall = (f : Framed) (pushed fresh : ℕ) (w : Wanted) (e : Typed) → lines_size (expr_code f pushed fresh w e) ≤ 128 * nodes e
 
 -- each line may stand in a segment
 abbrev pub ExpressionsAreFit : Type 0
-ExpressionsAreFit = (f : Framed) (pushed fresh : ℕ) (e : Typed) → IsTrue (list_all is_fit (expr_code f pushed fresh e))
+ExpressionsAreFit = (f : Framed) (pushed fresh : ℕ) (w : Wanted) (e : Typed) → IsTrue (list_all is_fit (expr_code f pushed fresh w e))
 
 -- the lines of a well typed body are a segment, where so many labels can be given
 abbrev pub FunctionsAreSegments : Type 0
@@ -46,8 +48,8 @@ FunctionsAreSegments = (u : UnitTy) (g : FuncTy) (body : Stmt) (f : Framed) (is_
 -- an expression's lines leave what waits as it was: each takes away no other value than the one that was pushed last, a call takes away its arguments,
 -- and none moves sp otherwise or saves or restores regbank
 abbrev pub ExpressionsKeepTheStack : Type 0
-ExpressionsKeepTheStack = (f : Framed) (pushed fresh : ℕ) (e : Typed) (values : List ℕ) (calls : List (List ℕ))
-    → waits (Some (waiting_by values (calls_of f e ++ calls))) (expr_code f pushed fresh e) ≡ Some (waiting_by values calls)
+ExpressionsKeepTheStack = (f : Framed) (pushed fresh : ℕ) (w : Wanted) (e : Typed) (values : List ℕ) (calls : List (List ℕ))
+    → waits (Some (waiting_by values (calls_of f e ++ calls))) (expr_code f pushed fresh w e) ≡ Some (waiting_by values calls)
 
 -- and so do the lines of a statement, behind those of any draft
 abbrev pub StatementsKeepTheStack : Type 0

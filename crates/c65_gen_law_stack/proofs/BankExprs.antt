@@ -1,16 +1,19 @@
 -- An expression writes nothing of regbank where no home is there.
-use Rattle.std.proofs.Common.{ℕ, ◌+◌, Bool, true, false, Option, None, Some, List, [], ◌∷◌, refl}
+use Rattle.std.proofs.Common.{ℕ, ◌+◌, Bool, true, false, not, Option, None, Some, List, [], ◌∷◌, refl}
 use Rattle.std.specs.Prelude.{if◌then◌else◌, nat_le}
 use Rattle.c65_base.specs.declared.operators.BinaryOp.{BinaryOp}
 use Rattle.c65_ints.specs.declared.types.IntType.{IntType}
-use Rattle.c65_ctype.specs.Trees.{QTy, type_in}
+use Rattle.c65_ints.specs.declared.types.IntType.TheVariants.{UInt}
+use Rattle.c65_ctype.specs.Trees.{Ty, QTy, type_in}
 use Rattle.c65_ctype.specs.Views.{types_of}
 use Rattle.c65_csem.specs.Trees.{Typed, node, Node, constant, null, literal, object, func, deref, member, load, address, decay, convert, unary, binary, both, either, choice, comma, assign, assign_op, assign_step, step, copy, call, pack, spill, rest as further, Nodes, none, some}
-use Rattle.c65_mach.specs.declared.rows.Op.TheVariants.{Beq, Bne, Jmp}
+use Rattle.c65_base.specs.declared.operators.UnaryOp.TheVariants as unaries
+use Rattle.c65_mach.specs.declared.rows.Op.TheVariants.{Jmp, Lda}
 use Rattle.c65_mach.specs.declared.rows.Mode.TheVariants.{Absolute}
 use Rattle.c65_code.specs.declared.line.Operand.TheVariants.{To}
 use Rattle.c65_code.specs.declared.line.Line.{Line}
 use Rattle.c65_code.specs.declared.line.Line.TheVariants.{Label, Do}
+use Rattle.c65_code.specs.declared.routine.Width.{Width}
 use Rattle.c65_code.specs.declared.routine.Width.TheVariants.{Ax}
 use Rattle.c65_genframe.specs.declared.home.Home.{Home}
 use Rattle.c65_genframe.specs.declared.home.Home.TheVariants as homes
@@ -20,22 +23,42 @@ use Rattle.c65_genwide.specs.Wide.{width_of}
 use Rattle.c65_genload.specs.declared.places.Place.{Place}
 use Rattle.c65_genload.specs.declared.places.Place.TheVariants as places
 use Rattle.c65_genload.specs.declared.places.Access.{Access}
-use Rattle.c65_genload.specs.Words.{branch}
-use Rattle.c65_genload.specs.Places.{held, extent_by}
+use Rattle.c65_genload.specs.Places.{type_in as type_at, held, extent_of, extent_by}
 use Rattle.c65_genload.specs.Conversions.{waiting}
+use Rattle.c65_gendirect.specs.declared.bytes.OperandByte.{OperandByte}
+use Rattle.c65_gendirect.specs.declared.direct.Direct.{Direct}
+use Rattle.c65_gendirect.specs.declared.relation.Relation.{Relation}
+use Rattle.c65_gendirect.specs.Compare.{relation_of}
+use Rattle.c65_genshift.specs.Shifts.{labelled}
 use Rattle.c65_genexpr.specs.declared.operands.Operands.{Operands}
-use Rattle.c65_genexpr.specs.declared.operands.Operands.TheVariants.{Numbers, PointerFirst}
+use Rattle.c65_genexpr.specs.declared.operands.Operands.TheVariants.{Numbers, PointerFirst, PointerLast, Pointers}
+use Rattle.c65_genexpr.specs.declared.operating.Operating.{Operating}
+use Rattle.c65_genexpr.specs.declared.operating.Operating.TheVariants as operating
+use Rattle.c65_genexpr.specs.declared.comparing.Side.{Side}
+use Rattle.c65_genexpr.specs.declared.comparing.Side.TheVariants.{Left, Right}
+use Rattle.c65_genexpr.specs.declared.comparing.Comparing.{Comparing}
+use Rattle.c65_genexpr.specs.declared.comparing.Comparing.TheVariants.{Truth, Byte, Whole, Stacked}
+use Rattle.c65_genexpr.specs.declared.wanted.Wanted.{Wanted}
+use Rattle.c65_genexpr.specs.declared.wanted.Wanted.TheVariants.{Value, Test}
 use Rattle.c65_genexpr.specs.declared.types.Outcome.{Outcome}
 use Rattle.c65_genexpr.specs.Types.{kind_of, outcome_of, kind_in, bare, offset_at, access_of, target_bytes}
 use Rattle.c65_genexpr.specs.Places.{more, near, soft_place, place_at, moved, place_of, object_code}
-use Rattle.c65_genexpr.specs.Operands.{residue_of, operands_of, computes, short_of, binary_by}
+use Rattle.c65_genexpr.specs.Wanted.{wanted_by, handed, wanted, sense, aimed, inner, truth_by, way, way_labels, joined}
+use Rattle.c65_genexpr.specs.Operands.{residue_of, operands_of, computes, same_truth, conversion_by}
+use Rattle.c65_genexpr.specs.Direct.{kept_at, own_bytes}
+use Rattle.c65_genexpr.specs.Comparing.{relation_by, tested_by, comparing_of, on, low_code, below_side, comparison_by}
+use Rattle.c65_genexpr.specs.Operating.{operating_of, waiting_code, stacked_code, below_operand, operator_by}
 use Rattle.c65_genexpr.specs.Steps.{amount_of}
 use Rattle.c65_genexpr.specs.Arguments.{is_fast, is_counted, stays, passed_size, passed_of, argument_bytes}
 use Rattle.c65_genexpr.specs.Calls.{named}
-use Rattle.c65_genexpr.specs.Uses.{uses}
-use Rattle.c65_genexpr.specs.Code.{target_code, behind_open, compound, call_by, truth_code, test_in, expr_code, node_code, args_code}
+use Rattle.c65_genexpr.specs.Uses.{uses, by_relation}
+use Rattle.c65_genexpr.specs.Code.{target_code, width_in, tested_load, load_by, behind_open, compound, call_by, expr_code, node_code, args_code}
 use Rattle.c65_gen_law_stack.proofs.FrameOrder.{NotBank}
-use Rattle.c65_gen_law_stack.proofs.BankPieces.{Clear, clear_then, clear_none, IsOff, number_clear, symbol_clear, offset_clear, object_clear, further_clear, conversion_clear, push_clear, argument_clear, test_clear, hold_clear, bytes_clear, load_clear, store_clear, copy_clear, spill_clear, unary_clear, between_clear, behind_clear, short_clear, step_clear, open_clear, close_clear, named_clear, direct_clear, pointer_clear}
+use Rattle.c65_gen_law_stack.proofs.EvenLines.{No, One}
+use Rattle.c65_gen_law_stack.proofs.EvenShifts.{elements_even}
+use Rattle.c65_gen_law_stack.proofs.EvenDirects.{byte_even, compare_even, compare_byte_even, zero_test_even, truth_even}
+use Rattle.c65_gen_law_stack.proofs.EvenForms.{value_test_even, routine_test_even, constant_even, form_even}
+use Rattle.c65_gen_law_stack.proofs.BankPieces.{Clear, clear_then, clear_if, clear_none, IsOff, symbol_clear, offset_clear, object_clear, further_clear, conversion_clear, push_clear, argument_clear, hold_clear, bytes_clear, load_clear, store_clear, copy_clear, spill_clear, unary_clear, wide_clear, between_clear, behind_clear, step_clear, open_clear, close_clear, named_clear, direct_clear, pointer_clear}
 
 -- no home of a frame is in regbank
 abbrev pub IsBankless : Framed → Type 0
@@ -78,9 +101,70 @@ target_clear (places.Bank b) c = clear_none
 target_clear (places.Near at) c = clear_none
 target_clear (places.Data s at) c = clear_none
 
-binary_clear : {a b : List Line} (op : BinaryOp) (operands : Operands) (right : IntType) (s : Option ℕ) → Clear a → Clear b → Clear (binary_by op operands s right a b)
-binary_clear op operands right None ca cb = clear_then ca (clear_then (between_clear operands) (clear_then cb (behind_clear op operands right)))
-binary_clear op operands right (Some c) ca cb = clear_then ca (short_clear op operands c)
+pub label_clear : (l : ℕ) → Clear (Label l ∷ [])
+label_clear l = record { all = refl }
+
+wanted_clear : (w : Wanted) (width : Width) {code : List Line} → Clear code → Clear (wanted w width code)
+wanted_clear Value width c = c
+wanted_clear (Test to s) width c = clear_then c (value_test_even {X = One to} width s to refl).clear
+
+truth_clear : (w : Wanted) (fresh : ℕ) {code : List Line} → Clear code → Clear (truth_by w fresh code)
+truth_clear Value fresh c = clear_then c (truth_even fresh).clear
+truth_clear (Test to s) fresh c = c
+
+tested_clear : (o : Option Direct) (kind : IntType) (s : Bool) (to : ℕ) {code : List Line} → Clear code → Clear (tested_load o kind s to code)
+tested_clear (Some d) kind s to c = (zero_test_even {X = One to} (own_bytes d (extent_of kind)) s to refl).clear
+tested_clear None kind s to c = wanted_clear (Test to s) (width_of kind) c
+
+load_by_clear : (w : Wanted) (place : Place) (access : Access) {code : List Line} → Clear code → Clear (load_by w place access code)
+load_by_clear Value place access c = clear_then c (load_clear place access)
+load_by_clear (Test to s) place access c = tested_clear (kept_at place access) (type_at access) s to (clear_then c (load_clear place access))
+
+conversion_by_clear : (w : Wanted) (same : Bool) (t : Ty) (from : IntType) {code : List Line} → Clear code → Clear (conversion_by w same t from code)
+conversion_by_clear Value same t from c = clear_then c (conversion_clear t from)
+conversion_by_clear (Test to s) true t from c = c
+conversion_by_clear (Test to s) false t from c = wanted_clear (Test to s) (width_of (kind_of t)) (clear_then c (conversion_clear t from))
+
+labelled_clear : (label : ℕ) {code : List Line} → Clear code → Clear (labelled label code)
+labelled_clear label c = clear_then c (label_clear label)
+
+waiting_clear : (operands : Operands) → Clear (waiting_code operands)
+waiting_clear (Numbers kind) = between_clear (Numbers kind)
+waiting_clear (PointerFirst size) = between_clear (PointerFirst size)
+waiting_clear (PointerLast size) = clear_then (elements_even {X = No} size).clear (push_clear Ax)
+waiting_clear (Pointers size) = between_clear (Pointers size)
+
+stacked_clear : (op : BinaryOp) (operands : Operands) (right : IntType) → Clear (stacked_code op operands right)
+stacked_clear op (Numbers kind) right = behind_clear op (Numbers kind) right
+stacked_clear op (PointerFirst size) right = clear_then (elements_even {X = No} size).clear (wide_clear op UInt)
+stacked_clear op (PointerLast size) right = behind_clear op (PointerLast size) right
+stacked_clear op (Pointers size) right = behind_clear op (Pointers size) right
+
+operator_clear : {a b : List Line} (how : Operating) (op : BinaryOp) (operands : Operands) (right : IntType) (label : ℕ) → Clear a → Clear b → Clear (operator_by how op operands right label a b)
+operator_clear (operating.Left form) op operands right label ca cb = clear_then ca (form_even {X = No} form label).clear
+operator_clear (operating.Right form) op operands right label ca cb = clear_then cb (form_even {X = No} form label).clear
+operator_clear operating.Stacked op operands right label ca cb = labelled_clear label (clear_then ca (clear_then (waiting_clear operands) (clear_then cb (stacked_clear op operands right))))
+
+side_clear : {a b : List Line} (side : Side) → Clear a → Clear b → Clear (on side a b)
+side_clear Left ca cb = ca
+side_clear Right ca cb = cb
+
+low_clear : (low : Option OperandByte) {code : List Line} → Clear code → Clear (low_code low code)
+low_clear None c = c
+low_clear (Some d) c = (byte_even {X = No} Lda d refl).clear
+
+comparison_clear : {a b : List Line} (how : Comparing) (op : BinaryOp) (operands : Operands) (right : IntType) (s : Bool) (to m : ℕ) → Clear a → Clear b → Clear (comparison_by how op operands right s to m a b)
+comparison_clear (Truth side) op operands right s to m ca cb = labelled_clear m (side_clear side ca cb)
+comparison_clear (Byte side low r d) op operands right s to m ca cb = labelled_clear m (clear_then (low_clear low (side_clear side ca cb)) (compare_byte_even {X = One to} r d to refl).clear)
+comparison_clear (Whole side r is_signed sides) op operands right s to m ca cb = clear_then (side_clear side ca cb) (compare_even {X = One to} r is_signed sides m to refl).clear
+comparison_clear Stacked op operands right s to m ca cb = labelled_clear m (clear_then ca (clear_then (between_clear operands) (clear_then cb (clear_then (behind_clear op operands right) (routine_test_even {X = One to} s to refl).clear))))
+
+relation_clear : (o : Option Relation) {other : List Line} {f : Relation → List Line} → Clear other → ((r : Relation) → Clear (f r)) → Clear (by_relation o other f)
+relation_clear None c d = c
+relation_clear (Some r) c d = d r
+
+joined_clear : (straight : Bool) (m : ℕ) {a b : List Line} → Clear a → Clear b → Clear (joined straight m a b)
+joined_clear straight m ca cb = clear_then ca (clear_then cb (clear_if straight clear_none (label_clear m)))
 
 compound_clear : {left right : List Line} (f : Framed) (pushed : ℕ) (op : BinaryOp) (operands : Operands) (a b : Typed) → IsBankless f → Clear left → Clear right → Clear (compound f pushed op operands a b left right)
 compound_clear f pushed op operands a b bankless ca cb =
@@ -93,70 +177,74 @@ call_clear f (Some i) given g es cc ca cb = clear_then ca (named_clear f i (is_c
 call_clear f None given g none cc ca cb = clear_then cc (direct_clear (is_counted (bare g)) (passed_of f (is_fast (bare g)) none) given)
 call_clear f None given g (some e es) cc ca cb = clear_then cc (clear_then (push_clear Ax) (clear_then cb (pointer_clear (is_counted (bare g)) (passed_of f (is_fast (bare g)) (some e es)) given)))
 
-beq_clear : (l : ℕ) → Clear (branch Beq l ∷ [])
-beq_clear l = record { all = refl }
-
-bne_clear : (l : ℕ) → Clear (branch Bne l ∷ [])
-bne_clear l = record { all = refl }
-
-jmp_clear : (l : ℕ) → Clear (Do Jmp Absolute (To l) ∷ [])
-jmp_clear l = record { all = refl }
-
-pub label_clear : (l : ℕ) → Clear (Label l ∷ [])
-label_clear l = record { all = refl }
-
-truth_clear : (l : ℕ) → Clear (truth_code l)
-truth_clear l = record { all = refl }
-
-test_in_clear : (e : Typed) → Clear (test_in e)
-test_in_clear e = test_clear (width_of (kind_in e))
+jump_clear : (l : ℕ) → Clear (Do Jmp Absolute (To l) ∷ [])
+jump_clear l = record { all = refl }
 
 mutual
-  pub expr_clear : (f : Framed) (pushed lo : ℕ) (e : Typed) → IsBankless f → Clear (expr_code f pushed lo e)
-  expr_clear f pushed lo (node t n) b = node_clear f pushed lo t n b
+  pub expr_clear : (f : Framed) (pushed lo : ℕ) (w : Wanted) (e : Typed) → IsBankless f → Clear (expr_code f pushed lo w e)
+  expr_clear f pushed lo w (node t n) b = node_clear f pushed lo w t n b
 
-  node_clear : (f : Framed) (pushed lo : ℕ) (t : QTy) (n : Node) → IsBankless f → Clear (node_code f pushed lo t n)
-  node_clear f pushed lo t (constant z) k = number_clear (width_of (kind_of (type_in t))) (residue_of z)
-  node_clear f pushed lo t null k = number_clear Ax 0
-  node_clear f pushed lo t (literal n) k = symbol_clear (literal_symbol (numbers_of f.parts) n) 0
-  node_clear f pushed lo t (object i) k = object_clear f pushed i
-  node_clear f pushed lo t (func i) k = symbol_clear (function_symbol (numbers_of f.parts) i) 0
-  node_clear f pushed lo t (deref e) k = expr_clear f pushed lo e k
-  node_clear f pushed lo t (member e m) k = clear_then (expr_clear f pushed lo e k) (offset_clear (offset_at (types_of f.parts.types) (bare e) m))
-  node_clear f pushed lo t (load e) k = clear_then (target_clear (place_of f pushed e) (expr_clear f pushed lo e k)) (load_clear (place_of f pushed e) (access_of (types_of f.parts.types) e))
-  node_clear f pushed lo t (address e) k = expr_clear f pushed lo e k
-  node_clear f pushed lo t (decay e) k = expr_clear f pushed lo e k
-  node_clear f pushed lo t (convert e) k = clear_then (expr_clear f pushed lo e k) (conversion_clear (type_in t) (kind_in e))
-  node_clear f pushed lo t (unary op e) k = clear_then (expr_clear f pushed lo e k) (unary_clear op (width_of (kind_in e)))
-  node_clear f pushed lo t (binary op a b) k =
+  node_clear : (f : Framed) (pushed lo : ℕ) (w : Wanted) (t : QTy) (n : Node) → IsBankless f → Clear (node_code f pushed lo w t n)
+  node_clear f pushed lo w t (constant z) k = (constant_even w (width_in t) (residue_of z)).clear
+  node_clear f pushed lo w t null k = (constant_even w Ax 0).clear
+  node_clear f pushed lo w t (literal n) k = wanted_clear w (width_in t) (symbol_clear (literal_symbol (numbers_of f.parts) n) 0)
+  node_clear f pushed lo w t (object i) k = wanted_clear w (width_in t) (object_clear f pushed i)
+  node_clear f pushed lo w t (func i) k = wanted_clear w (width_in t) (symbol_clear (function_symbol (numbers_of f.parts) i) 0)
+  node_clear f pushed lo w t (deref e) k = wanted_clear w (width_in t) (expr_clear f pushed lo Value e k)
+  node_clear f pushed lo w t (member e m) k = wanted_clear w (width_in t) (clear_then (expr_clear f pushed lo Value e k) (offset_clear (offset_at (types_of f.parts.types) (bare e) m)))
+  node_clear f pushed lo w t (load e) k = load_by_clear w (place_of f pushed e) (access_of (types_of f.parts.types) e) (target_clear (place_of f pushed e) (expr_clear f pushed lo Value e k))
+  node_clear f pushed lo w t (address e) k = wanted_clear w (width_in t) (expr_clear f pushed lo Value e k)
+  node_clear f pushed lo w t (decay e) k = wanted_clear w (width_in t) (expr_clear f pushed lo Value e k)
+  node_clear f pushed lo w t (convert e) k =
+      let same : Bool = same_truth (type_in t) (bare e) in
+      conversion_by_clear w same (type_in t) (kind_in e) (expr_clear f pushed lo (handed same w) e k)
+  node_clear f pushed lo w t (unary unaries.Not e) k = truth_clear w lo (expr_clear f pushed (inner w lo) (Test (aimed w lo) (not (sense w))) e k)
+  node_clear f pushed lo w t (unary op e) k = wanted_clear w (width_in t) (clear_then (expr_clear f pushed lo Value e k) (unary_clear op (width_of (kind_in e))))
+  node_clear f pushed lo w t (binary op a b) k =
       let operands : Operands = operands_of f (bare a) (bare b) in
-      binary_clear op operands (kind_in b) (short_of op operands b) (expr_clear f pushed lo a k) (expr_clear f (more pushed (waiting (width_of (computes operands)))) (lo + uses a) b k)
-  node_clear f pushed lo t (both a b) k =
-      clear_then (expr_clear f pushed (lo + 1) a k) (clear_then (test_in_clear a) (clear_then (beq_clear lo) (clear_then (expr_clear f pushed (lo + 1 + uses a) b k) (clear_then (test_in_clear b) (clear_then (beq_clear lo) (truth_clear lo))))))
-  node_clear f pushed lo t (either a b) k =
-      clear_then (expr_clear f pushed (lo + 2) a k) (clear_then (test_in_clear a) (clear_then (bne_clear lo) (clear_then (expr_clear f pushed (lo + 2 + uses a) b k) (clear_then (test_in_clear b) (clear_then (beq_clear (lo + 1)) (clear_then (label_clear lo) (truth_clear (lo + 1))))))))
-  node_clear f pushed lo t (choice c a b) k =
-      clear_then (expr_clear f pushed (lo + 2) c k) (clear_then (test_in_clear c) (clear_then (beq_clear lo) (clear_then (expr_clear f pushed (lo + 2 + uses c) a k) (clear_then (jmp_clear (lo + 1)) (clear_then (label_clear lo) (clear_then (expr_clear f pushed (lo + 2 + uses c + uses a) b k) (label_clear (lo + 1))))))))
-  node_clear f pushed lo t (comma a b) k = clear_then (expr_clear f pushed lo a k) (expr_clear f pushed (lo + uses a) b k)
-  node_clear f pushed lo t (assign a b) k =
+      let bytes : ℕ = waiting (width_of (computes operands)) in
+      let operator : Operating = operating_of f pushed op operands a b in
+      relation_clear (relation_of op)
+      (wanted_clear w (width_in t) (operator_clear operator op operands (kind_in b) lo (expr_clear f pushed (lo + 1) Value a k) (expr_clear f (below_operand operator pushed bytes) (lo + 1 + uses None a) Value b k)))
+      (λ r.
+      let q : Relation = relation_by (sense w) r in
+      let how : Comparing = comparing_of f pushed q (computes operands) a b in
+      let to : ℕ = aimed w lo in
+      let own : ℕ = inner w lo in
+      truth_clear w lo (comparison_clear how op operands (kind_in b) (sense w) to own (expr_clear f pushed (own + 1) (wanted_by (tested_by q b) to) a k) (expr_clear f (below_side how pushed bytes) (own + 1 + uses (tested_by q b) a) (wanted_by (tested_by q a) to) b k)))
+  node_clear f pushed lo w t (both a b) k =
+      let straight : Bool = not (sense w) in
+      let own : ℕ = inner w lo in
+      let first : ℕ = own + way_labels straight in
+      truth_clear w lo (joined_clear straight own (expr_clear f pushed first (Test (way straight (aimed w lo) own) false) a k) (expr_clear f pushed (first + uses (Some false) a) (Test (aimed w lo) (sense w)) b k))
+  node_clear f pushed lo w t (either a b) k =
+      let straight : Bool = sense w in
+      let own : ℕ = inner w lo in
+      let first : ℕ = own + way_labels straight in
+      truth_clear w lo (joined_clear straight own (expr_clear f pushed first (Test (way straight (aimed w lo) own) true) a k) (expr_clear f pushed (first + uses (Some true) a) (Test (aimed w lo) (sense w)) b k))
+  node_clear f pushed lo w t (choice c a b) k =
+      let first : ℕ = lo + 2 + uses (Some false) c in
+      wanted_clear w (width_in t) (clear_then (expr_clear f pushed (lo + 2) (Test lo false) c k) (clear_then (expr_clear f pushed first Value a k) (clear_then (jump_clear (lo + 1)) (clear_then (label_clear lo) (clear_then (expr_clear f pushed (first + uses None a) Value b k) (label_clear (lo + 1)))))))
+  node_clear f pushed lo w t (comma a b) k = clear_then (expr_clear f pushed lo Value a k) (expr_clear f pushed (lo + uses None a) w b k)
+  node_clear f pushed lo w t (assign a b) k =
       let place : Place = place_of f pushed a in
-      clear_then (target_clear place (expr_clear f pushed lo a k)) (clear_then (hold_clear place) (clear_then (expr_clear f (more pushed (held place)) (lo + uses a) b k) (store_clear place (access_of (types_of f.parts.types) a) (place_off f pushed a k))))
-  node_clear f pushed lo t (assign_op op kind a b) k = compound_clear f pushed op (Numbers kind) a b k (expr_clear f pushed lo a k) (expr_clear f (behind_open f pushed (Numbers kind) a) (lo + uses a) b k)
-  node_clear f pushed lo t (assign_step op a b) k =
+      wanted_clear w (width_in t) (clear_then (target_clear place (expr_clear f pushed lo Value a k)) (clear_then (hold_clear place) (clear_then (expr_clear f (more pushed (held place)) (lo + uses None a) Value b k) (store_clear place (access_of (types_of f.parts.types) a) (place_off f pushed a k)))))
+  node_clear f pushed lo w t (assign_op op kind a b) k = wanted_clear w (width_in t) (compound_clear f pushed op (Numbers kind) a b k (expr_clear f pushed lo Value a k) (expr_clear f (behind_open f pushed (Numbers kind) a) (lo + uses None a) Value b k))
+  node_clear f pushed lo w t (assign_step op a b) k =
       let operands : Operands = PointerFirst (target_bytes f (bare a)) in
-      compound_clear f pushed op operands a b k (expr_clear f pushed lo a k) (expr_clear f (behind_open f pushed operands a) (lo + uses a) b k)
-  node_clear f pushed lo t (step how e) k =
+      wanted_clear w (width_in t) (compound_clear f pushed op operands a b k (expr_clear f pushed lo Value a k) (expr_clear f (behind_open f pushed operands a) (lo + uses None a) Value b k))
+  node_clear f pushed lo w t (step how e) k =
       let place : Place = place_of f pushed e in
-      clear_then (target_clear place (expr_clear f pushed lo e k)) (step_clear how place (access_of (types_of f.parts.types) e) (amount_of f how (bare e)) (place_off f pushed e k))
-  node_clear f pushed lo t (copy a b) k = clear_then (expr_clear f pushed lo a k) (clear_then (push_clear Ax) (clear_then (expr_clear f (more pushed 2) (lo + uses a) b k) (copy_clear (type_bytes f (type_in t)))))
-  node_clear f pushed lo t (call g es) k =
-      call_clear f (named g) (outcome_of f (type_in t)) g es (expr_clear f pushed lo g k) (args_clear f pushed lo (is_fast (bare g)) es k) (args_clear f (more pushed 2) (lo + uses g) (is_fast (bare g)) es k)
-  node_clear f pushed lo t (pack e) k = clear_then (target_clear (place_of f pushed e) (expr_clear f pushed lo e k)) (bytes_clear (place_of f pushed e) (extent_by (type_bytes f (type_in t))))
-  node_clear f pushed lo t (spill i e) k = clear_then (expr_clear f pushed lo e k) (spill_clear (object_code f pushed i) (extent_by (type_bytes f (type_in t))) (object_clear f pushed i))
-  node_clear f pushed lo t further k = further_clear f pushed
+      wanted_clear w (width_in t) (clear_then (target_clear place (expr_clear f pushed lo Value e k)) (step_clear how place (access_of (types_of f.parts.types) e) (amount_of f how (bare e)) (place_off f pushed e k)))
+  node_clear f pushed lo w t (copy a b) k = wanted_clear w (width_in t) (clear_then (expr_clear f pushed lo Value a k) (clear_then (push_clear Ax) (clear_then (expr_clear f (more pushed 2) (lo + uses None a) Value b k) (copy_clear (type_bytes f (type_in t))))))
+  node_clear f pushed lo w t (call g es) k =
+      wanted_clear w (width_in t) (call_clear f (named g) (outcome_of f (type_in t)) g es (expr_clear f pushed lo Value g k) (args_clear f pushed lo (is_fast (bare g)) es k) (args_clear f (more pushed 2) (lo + uses None g) (is_fast (bare g)) es k))
+  node_clear f pushed lo w t (pack e) k = wanted_clear w (width_in t) (clear_then (target_clear (place_of f pushed e) (expr_clear f pushed lo Value e k)) (bytes_clear (place_of f pushed e) (extent_by (type_bytes f (type_in t)))))
+  node_clear f pushed lo w t (spill i e) k = wanted_clear w (width_in t) (clear_then (expr_clear f pushed lo Value e k) (spill_clear (object_code f pushed i) (extent_by (type_bytes f (type_in t))) (object_clear f pushed i)))
+  node_clear f pushed lo w t further k = wanted_clear w (width_in t) (further_clear f pushed)
 
   args_clear : (f : Framed) (pushed lo : ℕ) (fast : Bool) (es : Nodes) → IsBankless f → Clear (args_code f pushed lo fast es)
   args_clear f pushed lo fast none k = clear_none
   args_clear f pushed lo fast (some e es) k =
       let kept : Bool = stays fast es in
-      clear_then (expr_clear f pushed lo e k) (clear_then (argument_clear kept (passed_size f e)) (args_clear f (more pushed (argument_bytes kept (passed_size f e))) (lo + uses e) fast es k))
+      clear_then (expr_clear f pushed lo Value e k) (clear_then (argument_clear kept (passed_size f e)) (args_clear f (more pushed (argument_bytes kept (passed_size f e))) (lo + uses None e) fast es k))

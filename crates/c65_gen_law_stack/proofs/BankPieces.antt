@@ -51,7 +51,7 @@ use Rattle.c65_genexpr.specs.declared.operands.Operands.{Operands}
 use Rattle.c65_genexpr.specs.declared.operands.Operands.TheVariants.{Numbers, PointerFirst, PointerLast, Pointers}
 use Rattle.c65_genexpr.specs.declared.arguments.Passed.{Passed}
 use Rattle.c65_genexpr.specs.Places.{more, soft_code, code_at, object_code, rest_code}
-use Rattle.c65_genexpr.specs.Operands.{computes, between_code, difference_code, behind_code, unary_code, conversion_code, negative, scaled, short_code}
+use Rattle.c65_genexpr.specs.Operands.{computes, between_code, difference_code, behind_code, unary_code, conversion_code, negative}
 use Rattle.c65_genexpr.specs.Steps.{is_post, back_code, step_code, open_code, close_code}
 use Rattle.c65_genexpr.specs.declared.types.Outcome.{Outcome}
 use Rattle.c65_genexpr.specs.declared.types.Outcome.TheVariants.{Nothing, Number, Area}
@@ -113,7 +113,7 @@ shift_clear op n = clear_if (n == 0) clear_none (by_clear op n)
 pub scale_clear : (n : ℕ) → Clear (scale_code n)
 scale_clear n = let one : Clear (call (Unary Shl1 Ax) ∷ []) = record { all = refl } in clear_if (n == 1) clear_none (clear_if (n == 2) one (by_clear tos.Mul n))
 
-divide_clear : (n : ℕ) → Clear (divide_code n)
+pub divide_clear : (n : ℕ) → Clear (divide_code n)
 divide_clear n = clear_if (n == 1) clear_none (clear_if (is_divisor n) (by_clear tos.Div n) (number_clear Ax 0))
 
 pub symbol_clear : (s : Sym) (at : ℕ) → Clear (symbol_code s at)
@@ -269,10 +269,9 @@ unary_clear unary.Neg Ax = record { all = refl }
 unary_clear unary.Neg Eax = record { all = refl }
 unary_clear unary.BitNot Ax = record { all = refl }
 unary_clear unary.BitNot Eax = record { all = refl }
-unary_clear unary.Not w = record { all = refl }
 unary_clear _ w = clear_none
 
-wide_clear : (op : BinaryOp) (kind : IntType) → Clear (wide_code op kind)
+pub wide_clear : (op : BinaryOp) (kind : IntType) → Clear (wide_code op kind)
 wide_clear op kind = let one : Clear (call (Tos (tos_of op (is_signed_of kind)) (width_of kind)) ∷ []) = record { all = refl } in clear_then one (clear_if (is_comparison op) clear_none (narrow_clear kind))
 
 pub between_clear : (operands : Operands) → Clear (between_code operands)
@@ -290,11 +289,6 @@ behind_clear op (Numbers kind) right = clear_then (convert_clear right kind) (wi
 behind_clear op (PointerFirst size) right = clear_then (scale_clear size) (wide_clear op ints.UInt)
 behind_clear op (PointerLast size) right = wide_clear op ints.UInt
 behind_clear op (Pointers size) right = clear_then (wide_clear op ints.UInt) (difference_clear op size)
-
-pub short_clear : (op : BinaryOp) (operands : Operands) (n : ℕ) → Clear (short_code op operands n)
-short_clear ops.Sub operands n = add_clear (computes operands) (negative (scaled operands n))
-short_clear ops.Add operands n = add_clear (computes operands) (scaled operands n)
-short_clear _ operands n = add_clear (computes operands) (scaled operands n)
 
 -- ---- assignments
 

@@ -4,8 +4,7 @@ use Rattle.std.specs.Prelude.{if◌then◌else◌, nat_lt, nat_le}
 use Rattle.c65_csem.specs.Trees.{Typed, MaybeTyped, absent, present, Stmt, empty, eval, set_part, clear, block, if_stmt, while, do_while, for_loop, switch, case, default, label, goto, break, continue, return, Stmts, no_stmts, and_stmts}
 use Rattle.c65_csem.specs.Places.{is_tag}
 use Rattle.c65_csem.specs.Statements.{cases_of}
-use Rattle.c65_mach.specs.declared.rows.Op.{Op}
-use Rattle.c65_mach.specs.declared.rows.Op.TheVariants.{Beq, Bne, Jmp, Sta, Stx, Iny, Cpy, Dex, Lda, Ldx, Ldy, Inc, Rts, Pha, Pla, Tay}
+use Rattle.c65_mach.specs.declared.rows.Op.TheVariants.{Bne, Jmp, Sta, Stx, Iny, Cpy, Dex, Lda, Ldx, Ldy, Inc, Rts, Pha, Pla, Tay}
 use Rattle.c65_code.specs.declared.line.Line.{Line}
 use Rattle.c65_code.specs.declared.routine.Count.{Count}
 use Rattle.c65_code.specs.declared.routine.Width.{Width}
@@ -24,28 +23,29 @@ use Rattle.c65_genload.specs.Conversions.{size_of}
 use Rattle.c65_genload.specs.declared.places.Access.{Access}
 use Rattle.c65_genload.specs.declared.places.Access.TheVariants.{Whole}
 use Rattle.c65_genload.specs.declared.places.Place.TheVariants as places
+use Rattle.c65_genexpr.specs.declared.wanted.Wanted.TheVariants.{Value, Test}
 use Rattle.c65_genexpr.specs.Types.{kind_in, bare}
 use Rattle.c65_genentry.specs.Drafts.{with_labels}
 use Rattle.c65_genentry.specs.Words.{sp, ptr1, ptr2, tmp1, tmp2, implied, zero_page, by_y, branch, jump, with_code}
-use Rattle.c65_genentry.specs.Bytes.{pages_code, rest_code, loop_labels, block_code, block_labels}
+use Rattle.c65_genentry.specs.Bytes.{pages_code, rest_code, loop_labels, block_code}
 use Rattle.c65_genentry.specs.Bytes as blocks
 use Rattle.c65_genentry.specs.Pointers as pointers
 use Rattle.c65_genentry.specs.Choice.{bits_of, test_code, choice_code}
 use Rattle.c65_genentry.specs.Stack.{count_of, raise_by, lower_by, small_raise, small_lower, repeated, raise_code, lower_code}
-use Rattle.c65_genentry.specs.Entry.{pushed_code, kept_code, saved_code, counted_code, count_code, all_moved, raised_moves, early_moves, late_moves, taken_bytes, checked_code, entry_code}
+use Rattle.c65_genentry.specs.Entry.{pushed_code, kept_code, saved_code, counted_code, count_code, all_moved, raised_moves, taken_bytes, checked_code, entry_code}
 use Rattle.c65_genentry.specs.Ends.{restored_code, end_code}
 use Rattle.c65_genstmt.specs.declared.jumps.Ways.{Ways}
 use Rattle.c65_genstmt.specs.declared.objects.Spot.{Spot}
 use Rattle.c65_genstmt.specs.declared.objects.Spot.TheVariants.{Bank, Soft, Data}
-use Rattle.c65_genstmt.specs.Jumps.{following, with_value, with_condition}
+use Rattle.c65_genstmt.specs.Jumps.{following, with_value, with_test}
 use Rattle.c65_genstmt.specs.Objects.{spot_at, spot_of, object_bytes, point_code, stored_code, with_copied, with_kept, with_zeros}
 use Rattle.c65_genstmt.specs.Cases.{room_of}
-use Rattle.c65_genstmt.specs.Stmts.{case_behind, with_label, with_jump, two_given, three_given, with_maybe, with_test, ways, default_way, with_stmt, with_stmts}
+use Rattle.c65_genstmt.specs.Stmts.{case_behind, with_label, with_jump, two_given, three_given, with_maybe, with_guard, ways, default_way, with_stmt, with_stmts}
 use Rattle.c65_genstmt.specs.Functions.{main_code, no_lines}
 use Rattle.c65_gen_law_stack.specs.Bank.{FunctionsLeaveRegbank}
 use Rattle.c65_gen_law_stack.proofs.EntryWay.{IsOrderly}
 use Rattle.c65_gen_law_stack.proofs.FrameOrder.{NotBank, frames_are_orderly, frames_without_bank}
-use Rattle.c65_gen_law_stack.proofs.BankPieces.{pass_clear, Clear, clear_then, clear_if, clear_none, store_clear, test_clear}
+use Rattle.c65_gen_law_stack.proofs.BankPieces.{pass_clear, Clear, clear_then, clear_if, clear_none, store_clear}
 use Rattle.c65_gen_law_stack.proofs.BankExprs.{IsBankless, label_clear, expr_clear}
 
 -- ---- objects
@@ -110,16 +110,10 @@ copy_block bytes l =
 -- ---- drafts
 
 value_kept : (f : Framed) (e : Typed) (d : Drafted) → IsBankless f → Clear d.lines → Clear (with_value f e d).lines
-value_kept f e d b c = clear_then c (expr_clear f 0 d.labels e b)
+value_kept f e d b c = clear_then c (expr_clear f 0 d.labels Value e b)
 
-condition_kept : (f : Framed) (op : Op) (to : ℕ) (e : Typed) (d : Drafted) → Clear (branch op to ∷ []) → IsBankless f → Clear d.lines → Clear (with_condition f op to e d).lines
-condition_kept f op to e d branches b c = clear_then (clear_then (value_kept f e d b c) (test_clear (width_of (kind_in e)))) branches
-
-beq : (l : ℕ) → Clear (branch Beq l ∷ [])
-beq l = record { all = refl }
-
-bne : (l : ℕ) → Clear (branch Bne l ∷ [])
-bne l = record { all = refl }
+tested_kept : (f : Framed) (to : ℕ) (s : Bool) (e : Typed) (d : Drafted) → IsBankless f → Clear d.lines → Clear (with_test f to s e d).lines
+tested_kept f to s e d b c = clear_then c (expr_clear f 0 d.labels (Test to s) e b)
 
 jmp : (l : ℕ) → Clear (jump Jmp l ∷ [])
 jmp l = record { all = refl }
@@ -128,9 +122,9 @@ maybe_kept : (f : Framed) (e : MaybeTyped) (d : Drafted) → IsBankless f → Cl
 maybe_kept f absent d b c = c
 maybe_kept f (present e) d b c = value_kept f e d b c
 
-test_kept : (f : Framed) (to : ℕ) (e : MaybeTyped) (d : Drafted) → IsBankless f → Clear d.lines → Clear (with_test f to e d).lines
-test_kept f to absent d b c = c
-test_kept f to (present e) d b c = condition_kept f Beq to e d (beq to) b c
+guard_kept : (f : Framed) (to : ℕ) (e : MaybeTyped) (d : Drafted) → IsBankless f → Clear d.lines → Clear (with_guard f to e d).lines
+guard_kept f to absent d b c = c
+guard_kept f to (present e) d b c = tested_kept f to false e d b c
 
 copied_kept : (spot : Spot) (bytes : ℕ) (d : Drafted) → Clear d.lines → Clear (with_copied spot bytes d).lines
 copied_kept spot bytes d c =
@@ -163,29 +157,29 @@ mutual
   stmt_kept f w l (clear i) d b c = zeros_kept (spot_of f i 0) (object_bytes f i) d (spot_off f i 0 (home_of f i) (b i)) c
   stmt_kept f w l (block os ss) d b c = stmts_kept f w l ss d b c
   stmt_kept f w l (if_stmt e x y) d b c =
-      let m1 : Drafted = with_condition f Beq d.labels e (two_given d) in
+      let m1 : Drafted = with_test f d.labels false e (two_given d) in
       let m2 : Drafted = with_stmt f w l x m1 in
       let m3 : Drafted = with_jump (d.labels + 1) m2 in
       let m4 : Drafted = with_label d.labels m3 in
-      let c2 : Clear m2.lines = stmt_kept f w l x m1 b (condition_kept f Beq d.labels e (two_given d) (beq d.labels) b c) in
+      let c2 : Clear m2.lines = stmt_kept f w l x m1 b (tested_kept f d.labels false e (two_given d) b c) in
       clear_then (stmt_kept f w (case_behind l x) y m4 b (clear_then (clear_then c2 (jmp (d.labels + 1))) (label_clear d.labels))) (label_clear (d.labels + 1))
   stmt_kept f w l (while e x) d b c =
       let m1 : Drafted = with_label d.labels (two_given d) in
-      let m2 : Drafted = with_condition f Beq (d.labels + 1) e m1 in
-      clear_then (clear_then (stmt_kept f (ways (d.labels + 1) d.labels w.other) l x m2 b (condition_kept f Beq (d.labels + 1) e m1 (beq (d.labels + 1)) b (clear_then c (label_clear d.labels)))) (jmp d.labels)) (label_clear (d.labels + 1))
+      let m2 : Drafted = with_test f (d.labels + 1) false e m1 in
+      clear_then (clear_then (stmt_kept f (ways (d.labels + 1) d.labels w.other) l x m2 b (tested_kept f (d.labels + 1) false e m1 b (clear_then c (label_clear d.labels)))) (jmp d.labels)) (label_clear (d.labels + 1))
   stmt_kept f w l (do_while x e) d b c =
       let m1 : Drafted = with_label d.labels (three_given d) in
       let m2 : Drafted = with_stmt f (ways (d.labels + 1 + 1) (d.labels + 1) w.other) l x m1 in
       let m3 : Drafted = with_label (d.labels + 1) m2 in
       let c2 : Clear m2.lines = stmt_kept f (ways (d.labels + 1 + 1) (d.labels + 1) w.other) l x m1 b (clear_then c (label_clear d.labels)) in
-      clear_then (condition_kept f Bne d.labels e m3 (bne d.labels) b (clear_then c2 (label_clear (d.labels + 1)))) (label_clear (d.labels + 1 + 1))
+      clear_then (tested_kept f d.labels true e m3 b (clear_then c2 (label_clear (d.labels + 1)))) (label_clear (d.labels + 1 + 1))
   stmt_kept f w l (for_loop i t n x) d b c =
       let g : Drafted = with_maybe f i d in
       let m1 : Drafted = with_label g.labels (three_given g) in
-      let m2 : Drafted = with_test f (g.labels + 1 + 1) t m1 in
+      let m2 : Drafted = with_guard f (g.labels + 1 + 1) t m1 in
       let m3 : Drafted = with_stmt f (ways (g.labels + 1 + 1) (g.labels + 1) w.other) l x m2 in
       let m4 : Drafted = with_label (g.labels + 1) m3 in
-      let c2 : Clear m2.lines = test_kept f (g.labels + 1 + 1) t m1 b (clear_then (maybe_kept f i d b c) (label_clear g.labels)) in
+      let c2 : Clear m2.lines = guard_kept f (g.labels + 1 + 1) t m1 b (clear_then (maybe_kept f i d b c) (label_clear g.labels)) in
       let c3 : Clear m3.lines = stmt_kept f (ways (g.labels + 1 + 1) (g.labels + 1) w.other) l x m2 b c2 in
       clear_then (clear_then (maybe_kept f n m4 b (clear_then c3 (label_clear (g.labels + 1)))) (jmp g.labels)) (label_clear (g.labels + 1 + 1))
   stmt_kept f w l (switch e x) d b c =

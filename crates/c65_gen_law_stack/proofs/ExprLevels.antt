@@ -1,22 +1,25 @@
 -- The labels in an expression's lines, and what waits there.
-use Rattle.std.proofs.Common.{◌≡◌, ℕ, ◌+◌, ◌==◌, ◌⊎◌, inl, inr, Bool, true, false, Option, None, Some, List, [], ◌∷◌, ◌++◌, refl, sym, ◌∙◌, ap, subst}
-use Rattle.std.specs.Prelude.{if◌then◌else◌}
+use Rattle.std.proofs.Common.{◌≡◌, ℕ, ◌+◌, ◌==◌, inl, inr, ◌&&◌, Bool, true, false, not, Option, None, Some, IsSome, List, [], ◌∷◌, ◌++◌, refl, sym, ◌∙◌, ap, subst}
+use Rattle.std.specs.Prelude.{if◌then◌else◌, is_some}
 use Rattle.std.specs.List.{list_all}
 use Rattle.std.proofs.lemmas.Bool.{eq-eqb}
+use Rattle.c65_base.specs.declared.operators.UnaryOp.TheVariants as unaries
 use Rattle.c65_base.specs.declared.operators.BinaryOp.{BinaryOp}
 use Rattle.c65_ints.specs.declared.types.IntType.{IntType}
-use Rattle.c65_ctype.specs.Trees.{QTy, type_in}
+use Rattle.c65_ints.specs.declared.types.IntType.TheVariants.{UInt}
+use Rattle.c65_ctype.specs.Trees.{Ty, QTy, type_in}
 use Rattle.c65_ctype.specs.Views.{types_of}
 use Rattle.c65_base.specs.declared.library.Library.{Library}
 use Rattle.c65_csem.specs.Trees.{Typed, node, Node, constant, null, literal, object, func, deref, member, load, address, decay, convert, unary, binary, both, either, choice, comma, assign, assign_op, assign_step, step, copy, call, pack, spill, rest as further, Nodes, none, some}
-use Rattle.c65_mach.specs.declared.rows.Op.TheVariants.{Beq, Bne, Jmp}
-use Rattle.c65_mach.specs.declared.rows.Mode.TheVariants.{Absolute, Relative}
+use Rattle.c65_mach.specs.declared.rows.Op.TheVariants.{Jmp, Lda, Tay}
+use Rattle.c65_mach.specs.declared.rows.Mode.TheVariants.{Absolute}
 use Rattle.c65_code.specs.declared.line.Callee.TheVariants.{Routine, Function, Pointer}
 use Rattle.c65_code.specs.declared.line.Operand.TheVariants.{To}
 use Rattle.c65_code.specs.declared.line.Line.{Line}
 use Rattle.c65_code.specs.declared.line.Line.TheVariants.{Label, Do, Call}
 use Rattle.c65_code.specs.declared.routine.Count.TheVariants.{Two as two_bytes}
 use Rattle.c65_code.specs.declared.routine.Routine.TheVariants.{IncSp, Library as library_routine}
+use Rattle.c65_code.specs.declared.routine.Width.{Width}
 use Rattle.c65_code.specs.declared.routine.Width.TheVariants.{Ax}
 use Rattle.c65_genframe.specs.Symbols.{numbers_of, function_symbol, literal_symbol}
 use Rattle.c65_genframe.specs.Frames.{Framed, type_bytes}
@@ -26,29 +29,51 @@ use Rattle.c65_genload.specs.declared.places.Place.{Place}
 use Rattle.c65_genload.specs.declared.places.Place.TheVariants as places
 use Rattle.c65_genload.specs.declared.places.Access.{Access}
 use Rattle.c65_genload.specs.declared.places.Extent.{Extent}
-use Rattle.c65_genload.specs.Places.{held, extent_by}
+use Rattle.c65_genload.specs.Words.{implied}
+use Rattle.c65_genload.specs.Places.{type_in as type_at, held, extent_of, extent_by}
 use Rattle.c65_genload.specs.Conversions.{waiting}
+use Rattle.c65_gendirect.specs.declared.bytes.OperandByte.{OperandByte}
+use Rattle.c65_gendirect.specs.declared.direct.Direct.{Direct}
+use Rattle.c65_gendirect.specs.declared.relation.Relation.{Relation}
+use Rattle.c65_gendirect.specs.Compare.{relation_of}
+use Rattle.c65_genshift.specs.Shifts.{labelled}
 use Rattle.c65_genexpr.specs.declared.operands.Operands.{Operands}
-use Rattle.c65_genexpr.specs.declared.operands.Operands.TheVariants.{Numbers, PointerFirst}
+use Rattle.c65_genexpr.specs.declared.operands.Operands.TheVariants.{Numbers, PointerFirst, PointerLast, Pointers}
+use Rattle.c65_genexpr.specs.declared.operating.Operating.{Operating}
+use Rattle.c65_genexpr.specs.declared.operating.Operating.TheVariants as operating
+use Rattle.c65_genexpr.specs.declared.comparing.Side.{Side}
+use Rattle.c65_genexpr.specs.declared.comparing.Side.TheVariants.{Left, Right}
+use Rattle.c65_genexpr.specs.declared.comparing.Comparing.{Comparing}
+use Rattle.c65_genexpr.specs.declared.comparing.Comparing.TheVariants.{Truth, Byte, Whole, Stacked}
+use Rattle.c65_genexpr.specs.declared.wanted.Wanted.{Wanted}
+use Rattle.c65_genexpr.specs.declared.wanted.Wanted.TheVariants.{Value, Test}
 use Rattle.c65_genexpr.specs.declared.arguments.Passed.{Passed}
 use Rattle.c65_genexpr.specs.declared.types.Outcome.{Outcome}
 use Rattle.c65_genexpr.specs.declared.types.Outcome.TheVariants.{Nothing, Number, Area}
 use Rattle.c65_genexpr.specs.Types.{kind_of, outcome_of, given_bytes, kind_in, bare, offset_at, access_of, target_bytes}
 use Rattle.c65_genexpr.specs.Places.{more, place_of, object_code, IsKnown}
-use Rattle.c65_genexpr.specs.Operands.{residue_of, operands_of, computes, is_short, short_of, binary_by}
+use Rattle.c65_genexpr.specs.Wanted.{wanted_by, handed, wanted, sense, aimed, inner, truth_by, way, way_labels, joined, branch_code}
+use Rattle.c65_genexpr.specs.Operands.{residue_of, operands_of, computes, between_code, behind_code, same_truth, conversion_by}
+use Rattle.c65_genexpr.specs.Direct.{kept_at, own_bytes, direct_of, is_pure, is_byte}
+use Rattle.c65_genexpr.specs.Comparing.{relation_by, tested_by, compared_by, comparing_of, on, low_code, below_side, comparison_by}
+use Rattle.c65_genexpr.specs.Operating.{operating_of, waiting_code, stacked_code, below_operand, operator_by}
 use Rattle.c65_genexpr.specs.Steps.{amount_of}
 use Rattle.c65_genexpr.specs.Arguments.{is_fast, is_counted, stays, passed_size, passed_of, reads_of}
 use Rattle.c65_genexpr.specs.Arguments as arguments
 use Rattle.c65_genexpr.specs.Calls.{named, count_code, fetch_code, result_code, library_at, named_by, named_code, pointer_code, direct_code, ptr4_code}
-use Rattle.c65_genexpr.specs.Uses.{uses}
-use Rattle.c65_genexpr.specs.Code.{target_code, behind_open, compound, call_by, truth_code, test_in, expr_code, node_code, args_code}
+use Rattle.c65_genexpr.specs.Uses.{uses, by_relation}
+use Rattle.c65_genexpr.specs.Code.{target_code, width_in, tested_load, load_by, behind_open, compound, call_by, expr_code, node_code, args_code}
 use Rattle.c65_gen_law_lines.specs.Stack.{waiting_by, taken, left, waits, argument_bytes, passed, unless_named, calls_of, node_calls, args_calls}
 use Rattle.c65_gen_law_lines.proofs.Made.{is_plain}
-use Rattle.c65_gen_law_lines.proofs.ExprLaws.{moved_known, no_short}
-use Rattle.c65_gen_law_lines.proofs.Pieces.{number_piece, symbol_piece, offset_piece, object_piece, conversion_piece, push_piece, argument_piece, test_piece, hold_piece, part_piece, load_piece, store_piece, copy_piece, spill_piece, further_piece, unary_piece, between_piece, behind_piece, short_piece, step_piece, open_piece, close_piece, named_piece, pointer_piece, direct_piece}
-use Rattle.c65_gen_law_lines.proofs.StackPieces.{waits_append, Leaves, leaves_then, leaves_none, Still, narrow_still, number_still, object_still, further_still, offset_still, conversion_still, push_leaves, argument_leaves, test_still, holding, hold_leaves, bytes_still, load_still, stored_leaves, copy_leaves, spill_still, unary_still, between_leaves, behind_leaves, short_still, step_still, open_leaves, close_leaves}
+use Rattle.c65_gen_law_lines.proofs.Pieces.{symbol_piece, offset_piece, object_piece, conversion_piece, push_piece, argument_piece, hold_piece, part_piece, load_piece, store_piece, copy_piece, spill_piece, further_piece, unary_piece, between_piece, behind_piece, wide_piece, step_piece, open_piece, close_piece, named_piece, pointer_piece, direct_piece}
+use Rattle.c65_gen_law_lines.proofs.StackPieces.{waits_append, Leaves, leaves_then, leaves_none, Still, narrow_still, object_still, further_still, offset_still, conversion_still, push_leaves, argument_leaves, holding, hold_leaves, bytes_still, load_still, stored_leaves, copy_leaves, spill_still, unary_still, between_leaves, behind_leaves, wide_leaves, step_still, open_leaves, close_leaves}
 use Rattle.c65_gen_law_lines.proofs.StackLaws.{nothing_more}
-use Rattle.c65_gen_law_stack.proofs.Levels.{Level, Nowhere, There, level_then, level_end, level_behind, level_plain, level_piece, level_none, level_label, level_leads, Closed, closed_open, closed_then, closed_behind, closed_as}
+use Rattle.c65_gen_law_stack.proofs.Levels.{Level, Nowhere, level_then, level_end, level_behind, level_plain, level_piece, level_none, Closed, closed_open, closed_then, closed_behind, closed_as}
+use Rattle.c65_gen_law_stack.proofs.EvenLines.{Labels, No, One, Both, At, Even, even_end, even_label, even_jump, even_lines}
+use Rattle.c65_gen_law_stack.proofs.EvenShifts.{elements_even}
+use Rattle.c65_gen_law_stack.proofs.EvenDirects.{byte_even, compare_even, compare_byte_even, zero_test_even, truth_even}
+use Rattle.c65_gen_law_stack.proofs.EvenForms.{Aim, value_test_even, routine_test_even, constant_even, form_even}
+use Rattle.c65_gen_law_stack.proofs.ReadSides.{Passes, known_passes, kept_known, direct_passes, First, Compared, compared_passes, tested_passes, Operated, operating_passes}
 
 -- a piece of lines behind closed ones, and before
 behind : {cs : List (List ℕ)} {v u t : List ℕ} {a b : List Line} → Closed cs v a u → Leaves u b t → list_all is_plain b ≡ true → Closed cs v (a ++ b) t
@@ -57,12 +82,24 @@ behind p q plain = closed_behind p (level_piece q plain)
 before : {cs : List (List ℕ)} {v u t : List ℕ} {a b : List Line} → Leaves v a u → list_all is_plain a ≡ true → Closed cs u b t → Closed cs v (a ++ b) t
 before p plain q = closed_then (level_piece p plain) q
 
--- ---- places that are known
+-- ---- operands that are read where they lie
+
+no_calls : (f : Framed) → Passes (λ e. calls_of f e ≡ [])
+no_calls f = record {
+  constant = λ t z. refl;
+  null = λ t. refl;
+  literal = λ t n. refl;
+  object = λ t i. refl;
+  func = λ t i. refl;
+  member = λ t e m h. h;
+  load = λ t e h. h;
+  address = λ t e h. h;
+  decay = λ t e h. h;
+  convert = λ t e h. h;
+}
 
 known_calls : (f : Framed) (pushed : ℕ) (e : Typed) → IsKnown (place_of f pushed e) → calls_of f e ≡ []
-known_calls f pushed (node t (object i)) h = refl
-known_calls f pushed (node t (member e m)) h = known_calls f pushed e (moved_known (place_of f pushed e) (offset_at (types_of f.parts.types) (bare e) m) h)
-known_calls f pushed (node t _) h = absurd h
+known_calls f pushed e h = known_passes (no_calls f) f pushed e h
 
 target_level : {cs : List (List ℕ)} {v : List ℕ} {code : List Line} (p : Place) → (IsKnown p → cs ≡ []) → Closed cs v code v → Closed cs v (target_code p code) v
 target_level places.Far h d = d
@@ -70,14 +107,12 @@ target_level (places.Bank b) h d = closed_as (sym (h tt)) level_none
 target_level (places.Near at) h d = closed_as (sym (h tt)) level_none
 target_level (places.Data s at) h d = closed_as (sym (h tt)) level_none
 
-short_calls : (f : Framed) (op : BinaryOp) (operands : Operands) (e : Typed) (n : ℕ) → short_of op operands e ≡ Some n → calls_of f e ≡ []
-short_calls f op operands (node t (constant z)) n h = refl
-short_calls f op operands (node t _) n h = absurd (no_short (is_short op operands) n h)
+-- the calls of one operand alone, where the other has none
+left_calls : (cs ds : List (List ℕ)) → ds ≡ [] → cs ≡ cs ++ ds
+left_calls cs ds h = sym (nothing_more cs) ∙ ap (λ (x : List (List ℕ)). cs ++ x) (sym h)
 
-binary_level : {cs ds : List (List ℕ)} {v : List ℕ} {a b : List Line} (op : BinaryOp) (operands : Operands) (right : IntType) (s : Option ℕ) → ((c : ℕ) → s ≡ Some c → ds ≡ []) → Closed cs v a v
-    → Closed ds (waiting (width_of (computes operands)) ∷ v) b (waiting (width_of (computes operands)) ∷ v) → Closed (cs ++ ds) v (binary_by op operands s right a b) v
-binary_level {v = v} op operands right None drops da db = closed_then da (before (between_leaves operands v) (between_piece operands).plain (behind db (behind_leaves op operands right v) (behind_piece op operands right).plain))
-binary_level {cs = cs} {v = v} op operands right (Some c) drops da db = closed_as (sym (nothing_more cs) ∙ ap (λ l. cs ++ l) (sym (drops c refl))) (behind da (short_still op operands c v) (short_piece op operands c).plain)
+right_calls : (cs ds : List (List ℕ)) → cs ≡ [] → ds ≡ cs ++ ds
+right_calls cs ds h = ap (λ (x : List (List ℕ)). x ++ ds) (sym h)
 
 -- ---- calls
 
@@ -154,51 +189,159 @@ call_level {v = v} f None given g (some e rest) dc da db =
     let does : Does (ns ∷ []) (ns ++ 2 ∷ v) (pointer_code (is_counted (bare g)) p given) v = pointer_does (is_counted (bare g)) p given ns v in
     closed_then dc (before (push_leaves Ax v) (push_piece Ax).plain (closed_then db (level_plain does.to (pointer_piece (is_counted (bare g)) p given).plain)))
 
--- ---- labels of their own
+-- ---- what is wanted
 
--- A or X is 1 or 0, with the label between
-truth_level : {X : ℕ → List ℕ → Type 0} (k : ℕ) (v : List ℕ) → Level (There k v) X [] v (truth_code k) v
-truth_level k v = record {
-  to = λ calls rest e. ap (λ (x : List (List ℕ)). Some (waiting_by v x)) e;
-  puts = λ calls rest e l h s. inr (inl (ap Label (sym s.0), sym s.1));
-  found = λ calls rest e l h s. elim s [
-    | inl x ↦ absurd (let g = x.0 in cc)
-    | inr y ↦ elim y [ inl x ↦ absurd (let g = x.0 in cc) | inr z ↦ elim z [ inl x ↦ absurd (let g = x.0 in cc) | inr n ↦ absurd n ] ]
-  ];
-}
+-- lines with these calls, before and behind which the same values wait, and which lead elsewhere to these labels alone, where they wait
+abbrev pub Leading : Labels → List (List ℕ) → List ℕ → List Line → Type 0
+Leading X cs v a = Level Nowhere (At X v) cs v a v
 
-test_level : {X : ℕ → List ℕ → Type 0} (e : Typed) (v : List ℕ) → Level Nowhere X [] v (test_in e) v
-test_level e v = level_piece (test_still (width_of (kind_in e)) v) (test_piece (width_of (kind_in e))).plain
+abbrev pub Aimed : Wanted → List (List ℕ) → List ℕ → List Line → Type 0
+Aimed w cs v a = Leading (Aim w) cs v a
 
-both_level : {cs ds : List (List ℕ)} {v : List ℕ} {a b : List Line} (k : ℕ) (x y : Typed) → Closed cs v a v → Closed ds v b v
-    → Closed (cs ++ ds) v (a ++ (test_in x ++ (Do Beq Relative (To k) ∷ (b ++ (test_in y ++ (Do Beq Relative (To k) ∷ truth_code k)))))) v
-both_level {v = v} k x y da db =
-    level_end (level_then (closed_open da) (level_then (test_level x v) (level_then (level_leads Beq Relative k v) (level_behind (closed_open db) (level_then (test_level y v) (level_then (level_leads Beq Relative k v) (truth_level k v)))))))
-    (λ l h z. absurd z) (λ l h z. inl (inr (inr (inr (inr (inr (inr z)))))))
+leading_closed : {X : Labels} {cs : List (List ℕ)} {v : List ℕ} {a : List Line} → Closed cs v a v → Leading X cs v a
+leading_closed p = closed_open p
 
--- one of two labels
-abbrev Either : ℕ → ℕ → List ℕ → ℕ → List ℕ → Type 0
-Either j k v l h = There j v l h ⊎ There k v l h
+pub closed_value : {cs : List (List ℕ)} {v : List ℕ} {a : List Line} → Leading No cs v a → Closed cs v a v
+closed_value p = level_end p (λ l h z. z) (λ l h z. inr z.0)
 
-first_open : {cs : List (List ℕ)} {v u : List ℕ} {a : List Line} {P : ℕ → List ℕ → Type 0} (j k : ℕ) (w : List ℕ) → Level P (There j w) cs v a u → Level P (Either j k w) cs v a u
-first_open j k w p = level_end p (λ l h z. z) (λ l h z. inr (inl z))
+leading_even : {X : Labels} {v : List ℕ} {a : List Line} → Even No X a → Leading X [] v a
+leading_even {v = v} e = level_end (e.level v) (λ l h z. absurd z) (λ l h z. inr z)
 
-second_open : {cs : List (List ℕ)} {v u : List ℕ} {a : List Line} {P : ℕ → List ℕ → Type 0} (j k : ℕ) (w : List ℕ) → Level P (There k w) cs v a u → Level P (Either j k w) cs v a u
-second_open j k w p = level_end p (λ l h z. z) (λ l h z. inr (inr z))
+leading_then : {X : Labels} {cs ds : List (List ℕ)} {v : List ℕ} {a b : List Line} → Leading X cs v a → Leading X ds v b → Leading X (cs ++ ds) v (a ++ b)
+leading_then p q = level_end (level_then p q) (λ l h z. absurd z) (λ l h z. inr z)
 
-either_level : {cs ds : List (List ℕ)} {v : List ℕ} {a b : List Line} (j k : ℕ) (x y : Typed) → Closed cs v a v → Closed ds v b v
-    → Closed (cs ++ ds) v (a ++ (test_in x ++ (Do Bne Relative (To j) ∷ (b ++ (test_in y ++ (Do Beq Relative (To k) ∷ Label j ∷ truth_code k)))))) v
-either_level {v = v} j k x y da db =
-    level_end (level_then (closed_open da) (level_then (test_level x v) (level_then (first_open j k v (level_leads Bne Relative j v)) (level_behind (closed_open db) (level_then (test_level y v) (level_then (second_open j k v (level_leads Beq Relative k v)) (level_then (level_label j v) (truth_level k v))))))))
+leading_behind : {X : Labels} {cs : List (List ℕ)} {v : List ℕ} {a b : List Line} → Leading X cs v a → Even No X b → Leading X cs v (a ++ b)
+leading_behind {v = v} p e = level_end (level_behind p (e.level v)) (λ l h z. absurd z) (λ l h z. inr z)
+
+leading_as : {X : Labels} {cs ds : List (List ℕ)} {v : List ℕ} {a : List Line} → cs ≡ ds → Leading X cs v a → Leading X ds v a
+leading_as {X = X} {v = v} {a = a} e p = subst (λ (x : List (List ℕ)). Leading X x v a) e p
+
+leading_wider : {X Y : Labels} {cs : List (List ℕ)} {v : List ℕ} {a : List Line} → ((l : ℕ) → X l → Y l) → Leading X cs v a → Leading Y cs v a
+leading_wider wider p = level_end p (λ l h z. z) (λ l h z. inr (wider l z.0, z.1))
+
+-- a label behind lines that lead to it
+leading_close : {X : Labels} {cs : List (List ℕ)} {v : List ℕ} {a : List Line} (m : ℕ) → Leading (Both (One m) X) cs v a → Leading X cs v (a ++ Label m ∷ [])
+leading_close {v = v} m p =
+    level_end (level_behind p ((even_label m).level v)) (λ l h z. absurd z) (λ l h z. elim z.0 [ inl x ↦ inl (inr (x, z.1)) | inr y ↦ inr (y, z.1) ])
+
+leading_labelled : {X : Labels} {cs : List (List ℕ)} {v : List ℕ} {a : List Line} (m : ℕ) → Leading X cs v a → Leading X cs v (labelled m a)
+leading_labelled m p = leading_close m (leading_wider (λ l z. inr z) p)
+
+wanted_level : {cs : List (List ℕ)} {v : List ℕ} {a : List Line} (w : Wanted) (width : Width) → Closed cs v a v → Aimed w cs v (wanted w width a)
+wanted_level Value width d = leading_closed d
+wanted_level (Test to s) width d = leading_behind (leading_closed d) (value_test_even width s to refl)
+
+-- a truth value, from a test that leads to its first label
+truth_level : {cs : List (List ℕ)} {v : List ℕ} {a : List Line} (w : Wanted) (fresh : ℕ) → Leading (One (aimed w fresh)) cs v a → Aimed w cs v (truth_by w fresh a)
+truth_level {v = v} Value fresh p =
+    let last : Even (One fresh) (One fresh) _ = even_end (truth_even fresh) (λ l z. z) (λ l z. absurd z) in
+    level_end (level_behind p (last.level v)) (λ l h z. absurd z) (λ l h z. inl (inr z))
+truth_level (Test to s) fresh p = p
+
+-- `&&` and `||`
+joined_level : {cs ds : List (List ℕ)} {v : List ℕ} {a b : List Line} (straight : Bool) (to m : ℕ) → Leading (One (way straight to m)) cs v a → Leading (One to) ds v b → Leading (One to) (cs ++ ds) v (joined straight m a b)
+joined_level true to m da db = leading_then da (leading_behind db (even_lines [] refl))
+joined_level {v = v} false to m da db =
+    let first = leading_wider {Y = Both (One m) (One to)} (λ l z. inl z) da in
+    let second = leading_wider {Y = Both (One m) (One to)} (λ l z. inr z) db in
+    level_end (level_then first (level_behind second ((even_label m).level v))) (λ l h z. absurd z) (λ l h z. elim z.0 [ inl x ↦ inl (inr (inr (x, z.1))) | inr y ↦ inr (y, z.1) ])
+
+choice_level : {bs cs ds : List (List ℕ)} {v : List ℕ} {c a b : List Line} (j k : ℕ) → Leading (One j) bs v c → Closed cs v a v → Closed ds v b v
+    → Closed (bs ++ (cs ++ ds)) v (c ++ (a ++ (Do Jmp Absolute (To k) ∷ Label j ∷ (b ++ Label k ∷ [])))) v
+choice_level {v = v} j k dc da db =
+    let test = leading_wider {Y = Both (One j) (One k)} (λ l z. inl z) dc in
+    let over = leading_even {X = Both (One j) (One k)} {v = v} (even_jump k (inr refl)) in
+    level_end (level_then test (level_then (closed_open da) (level_then over (level_then ((even_label j).level v) (level_behind (closed_open db) ((even_label k).level v))))))
     (λ l h z. absurd z)
-    (λ l h z. elim z [ inl p ↦ inl (inr (inr (inr (inr (inr (inr (inl p))))))) | inr q ↦ inl (inr (inr (inr (inr (inr (inr (inr q))))))) ])
+    (λ l h z. elim z.0 [ inl x ↦ inl (inr (inr (inr (inl (x, z.1))))) | inr y ↦ inl (inr (inr (inr (inr (inr (y, z.1)))))) ])
 
-choice_level : {bs cs ds : List (List ℕ)} {v : List ℕ} {c a b : List Line} (j k : ℕ) (x : Typed) → Closed bs v c v → Closed cs v a v → Closed ds v b v
-    → Closed (bs ++ (cs ++ ds)) v (c ++ (test_in x ++ (Do Beq Relative (To j) ∷ (a ++ (Do Jmp Absolute (To k) ∷ Label j ∷ (b ++ Label k ∷ [])))))) v
-choice_level {v = v} j k x dc da db =
-    level_end (level_then (closed_open dc) (level_then (test_level x v) (level_then (first_open j k v (level_leads Beq Relative j v)) (level_then (closed_open da) (level_then (second_open j k v (level_leads Jmp Absolute k v)) (level_then (level_label j v) (level_behind (closed_open db) (level_label k v))))))))
-    (λ l h z. absurd z)
-    (λ l h z. elim z [ inl p ↦ inl (inr (inr (inr (inr (inr (inl p)))))) | inr q ↦ inl (inr (inr (inr (inr (inr (inr (inr q))))))) ])
+-- a value that is tested where it lies, or when it is loaded
+tested_level : {cs : List (List ℕ)} {v : List ℕ} {a : List Line} (o : Option Direct) (kind : IntType) (s : Bool) (to : ℕ) → ((d : Direct) → o ≡ Some d → cs ≡ []) → Closed cs v a v → Leading (One to) cs v (tested_load o kind s to a)
+tested_level (Some d) kind s to known p = leading_as (sym (known d refl)) (leading_even (zero_test_even (own_bytes d (extent_of kind)) s to refl))
+tested_level None kind s to known p = wanted_level (Test to s) (width_of kind) p
+
+load_level : {cs : List (List ℕ)} {v : List ℕ} {a : List Line} (w : Wanted) (place : Place) (access : Access) → (IsKnown place → cs ≡ []) → Closed cs v a v → Aimed w cs v (load_by w place access a)
+load_level {v = v} Value place access known p = leading_closed (behind p (load_still place access v) (load_piece place access).plain)
+load_level {v = v} (Test to s) place access known p =
+    tested_level (kept_at place access) (type_at access) s to (λ d e. known (kept_known place access d e)) (behind p (load_still place access v) (load_piece place access).plain)
+
+converted_level : {cs : List (List ℕ)} {v : List ℕ} {a : List Line} (t : Ty) (from : IntType) → Closed cs v a v → Closed cs v (conversion_by Value true t from a) v
+converted_level {v = v} t from p = behind p (conversion_still t from v) (conversion_piece t from).plain
+
+conversion_level : {cs : List (List ℕ)} {v : List ℕ} {a : List Line} (w : Wanted) (same : Bool) (t : Ty) (from : IntType) → Aimed (handed same w) cs v a → Aimed w cs v (conversion_by w same t from a)
+conversion_level Value true t from p = leading_closed (converted_level t from (closed_value p))
+conversion_level Value false t from p = leading_closed (converted_level t from (closed_value p))
+conversion_level (Test to s) true t from p = p
+conversion_level (Test to s) false t from p = wanted_level (Test to s) (width_of (kind_of t)) (converted_level t from (closed_value p))
+
+-- ---- operators
+
+-- lines that leave what waits, as closed ones
+shut : {a : List Line} → Even No No a → (v : List ℕ) → Closed [] v a v
+shut e v = closed_value (leading_even e)
+
+between_level : (operands : Operands) (v : List ℕ) → Closed [] v (between_code operands) (waiting (width_of (computes operands)) ∷ v)
+between_level operands v = level_piece (between_leaves operands v) (between_piece operands).plain
+
+waiting_level : (operands : Operands) (v : List ℕ) → Closed [] v (waiting_code operands) (waiting (width_of (computes operands)) ∷ v)
+waiting_level (Numbers kind) v = between_level (Numbers kind) v
+waiting_level (PointerFirst size) v = between_level (PointerFirst size) v
+waiting_level (PointerLast size) v = closed_behind (shut (elements_even size) v) (level_piece (push_leaves Ax v) (push_piece Ax).plain)
+waiting_level (Pointers size) v = between_level (Pointers size) v
+
+behind_level : (op : BinaryOp) (operands : Operands) (right : IntType) (v : List ℕ) → Closed [] (waiting (width_of (computes operands)) ∷ v) (behind_code op operands right) v
+behind_level op operands right v = level_piece (behind_leaves op operands right v) (behind_piece op operands right).plain
+
+stacked_level : (op : BinaryOp) (operands : Operands) (right : IntType) (v : List ℕ) → Closed [] (waiting (width_of (computes operands)) ∷ v) (stacked_code op operands right) v
+stacked_level op (Numbers kind) right v = behind_level op (Numbers kind) right v
+stacked_level op (PointerFirst size) right v = closed_then (shut (elements_even size) (2 ∷ v)) (level_piece (wide_leaves op UInt v) (wide_piece op UInt).plain)
+stacked_level op (PointerLast size) right v = behind_level op (PointerLast size) right v
+stacked_level op (Pointers size) right v = behind_level op (Pointers size) right v
+
+operator_level : {cs ds : List (List ℕ)} {v : List ℕ} {a b : List Line} (how : Operating) (op : BinaryOp) (operands : Operands) (right : IntType) (label : ℕ) → Operated (cs ≡ []) (ds ≡ []) how → ((u : List ℕ) → Closed cs u a u) → ((u : List ℕ) → Closed ds u b u)
+    → Closed (cs ++ ds) v (operator_by how op operands right label a b) v
+operator_level {cs = cs} {ds = ds} {v = v} (operating.Left form) op operands right label empty da db = closed_as (left_calls cs ds empty) (closed_value (leading_behind (leading_closed (da v)) (form_even form label)))
+operator_level {cs = cs} {ds = ds} {v = v} (operating.Right form) op operands right label empty da db = closed_as (right_calls cs ds empty) (closed_value (leading_behind (leading_closed (db v)) (form_even form label)))
+operator_level {v = v} operating.Stacked op operands right label empty da db =
+    closed_value (leading_labelled label (leading_closed (closed_then (da v) (closed_then (waiting_level operands v) (closed_behind (db (waiting (width_of (computes operands)) ∷ v)) (stacked_level op operands right v))))))
+
+-- ---- comparisons
+
+-- the lines of one side
+side_level : {cs ds : List (List ℕ)} {v : List ℕ} {a b : List Line} (side : Side) → First side (ds ≡ []) (cs ≡ []) → Closed cs v a v → Closed ds v b v → Closed (cs ++ ds) v (on side a b) v
+side_level {cs = cs} {ds = ds} Left empty da db = closed_as (left_calls cs ds empty) da
+side_level {cs = cs} {ds = ds} Right empty da db = closed_as (right_calls cs ds empty) db
+
+-- or the low byte of it, where it lies
+low_level : {cs ds : List (List ℕ)} {v : List ℕ} {a b : List Line} (side : Side) (low : Option OperandByte) → First side (ds ≡ []) (cs ≡ []) → (IsSome low → First side (cs ≡ []) (ds ≡ [])) → Closed cs v a v → Closed ds v b v
+    → Closed (cs ++ ds) v (low_code low (on side a b)) v
+low_level side None empty own da db = side_level side empty da db
+low_level {cs = cs} {ds = ds} {v = v} Left (Some d) empty own da db = closed_as (sym (own refl) ∙ left_calls cs ds empty) (shut (byte_even Lda d refl) v)
+low_level {cs = cs} {ds = ds} {v = v} Right (Some d) empty own da db = closed_as (sym (own refl) ∙ right_calls cs ds empty) (shut (byte_even Lda d refl) v)
+
+plain_comparison_level : {cs ds : List (List ℕ)} {v : List ℕ} {a b : List Line} (how : Comparing) (op : BinaryOp) (operands : Operands) (right : IntType) (s : Bool) (to m : ℕ) → Compared (cs ≡ []) (ds ≡ []) how → ((u : List ℕ) → Closed cs u a u) → ((u : List ℕ) → Closed ds u b u)
+    → Leading (One to) (cs ++ ds) v (comparison_by how op operands right s to m a b)
+plain_comparison_level {v = v} (Truth side) op operands right s to m given da db = leading_labelled m (leading_closed (side_level side given (da v) (db v)))
+plain_comparison_level {v = v} (Byte side low r d) op operands right s to m given da db = leading_labelled m (leading_behind (leading_closed (low_level side low given.0 given.1 (da v) (db v))) (compare_byte_even r d to refl))
+plain_comparison_level {v = v} (Whole side r is_signed sides) op operands right s to m given da db = leading_behind (leading_closed (side_level side given (da v) (db v))) (compare_even r is_signed sides m to refl)
+plain_comparison_level {v = v} Stacked op operands right s to m given da db =
+    let w : ℕ = waiting (width_of (computes operands)) in
+    let test : Leading (One to) [] v (implied Tay ∷ branch_code s to) = leading_even (routine_test_even s to refl) in
+    let end = level_end {Q = Nowhere} {Y = At (One to) v} (level_then (closed_open (behind_level op operands right v)) test) (λ l h z. absurd z) (λ l h z. inr z) in
+    let right_side = level_end {Q = Nowhere} {Y = At (One to) v} (level_behind (closed_open (db (w ∷ v))) end) (λ l h z. absurd z) (λ l h z. inr z) in
+    let push = level_end {Q = Nowhere} {Y = At (One to) v} (level_then (closed_open (between_level operands v)) right_side) (λ l h z. absurd z) (λ l h z. inr z) in
+    leading_labelled m (level_end (level_then (closed_open (da v)) push) (λ l h z. absurd z) (λ l h z. inr z))
+
+comparison_level : {cs ds : List (List ℕ)} {v : List ℕ} {a b : List Line} (x y : Option Bool) (how : Comparing) (op : BinaryOp) (operands : Operands) (right : IntType) (s : Bool) (to m : ℕ) → (is_some x ≡ true → ds ≡ []) → (is_some y ≡ true → cs ≡ []) → Compared (cs ≡ []) (ds ≡ []) how
+    → ((u : List ℕ) → Aimed (wanted_by x to) cs u a) → ((u : List ℕ) → Aimed (wanted_by y to) ds u b)
+    → Leading (One to) (cs ++ ds) v (comparison_by (if is_some x then Truth Left else (if is_some y then Truth Right else how)) op operands right s to m a b)
+comparison_level {cs = cs} {ds = ds} {v = v} (Some x) y how op operands right s to m first second given da db = leading_labelled m (leading_as (left_calls cs ds (first refl)) (da v))
+comparison_level {cs = cs} {ds = ds} {v = v} None (Some y) how op operands right s to m first second given da db = leading_labelled m (leading_as (right_calls cs ds (second refl)) (db v))
+comparison_level None None how op operands right s to m first second given da db = plain_comparison_level how op operands right s to m given (λ u. closed_value (da u)) (λ u. closed_value (db u))
+
+relation_level : (w : Wanted) {cs : List (List ℕ)} {v : List ℕ} (o : Option Relation) {other : List Line} {f : Relation → List Line} → Aimed w cs v other → ((r : Relation) → Aimed w cs v (f r)) → Aimed w cs v (by_relation o other f)
+relation_level w None p q = p
+relation_level w (Some r) p q = q r
 
 -- ---- the whole tree
 
@@ -213,57 +356,85 @@ compound_level f pushed op operands a b v da db =
     closed_then (target_level place (known_calls f pushed a) da) (before (open_leaves place access (computes operands) v) (open_piece place access (computes operands)).plain (behind db (close_leaves op operands (kind_in b) place access v) (close_piece op operands (kind_in b) place access).plain))
 
 mutual
-  pub expr_level : (f : Framed) (pushed lo : ℕ) (e : Typed) (v : List ℕ) → Closed (calls_of f e) v (expr_code f pushed lo e) v
-  expr_level f pushed lo (node t n) v = node_level f pushed lo t n v
+  pub expr_level : (f : Framed) (pushed lo : ℕ) (w : Wanted) (e : Typed) (v : List ℕ) → Aimed w (calls_of f e) v (expr_code f pushed lo w e)
+  expr_level f pushed lo w (node t n) v = node_level f pushed lo w t n v
 
-  node_level : (f : Framed) (pushed lo : ℕ) (t : QTy) (n : Node) (v : List ℕ) → Closed (node_calls f n) v (node_code f pushed lo t n) v
-  node_level f pushed lo t (constant z) v = level_piece (number_still (width_of (kind_of (type_in t))) (residue_of z) v) (number_piece (width_of (kind_of (type_in t))) (residue_of z)).plain
-  node_level f pushed lo t null v = level_piece (number_still Ax 0 v) (number_piece Ax 0).plain
-  node_level f pushed lo t (literal n) v = level_plain (λ rest. refl) (symbol_piece (literal_symbol (numbers_of f.parts) n) 0).plain
-  node_level f pushed lo t (object i) v = level_piece (object_still f pushed i v) (object_piece f pushed i).plain
-  node_level f pushed lo t (func i) v = level_plain (λ rest. refl) (symbol_piece (function_symbol (numbers_of f.parts) i) 0).plain
-  node_level f pushed lo t (deref e) v = expr_level f pushed lo e v
-  node_level f pushed lo t (member e m) v = behind (expr_level f pushed lo e v) (offset_still (offset_at (types_of f.parts.types) (bare e) m) v) (offset_piece (offset_at (types_of f.parts.types) (bare e) m)).plain
-  node_level f pushed lo t (load e) v =
+  -- of a value
+  pub value_level : (f : Framed) (pushed lo : ℕ) (e : Typed) (v : List ℕ) → Closed (calls_of f e) v (expr_code f pushed lo Value e) v
+  value_level f pushed lo (node t n) v = closed_value (node_level f pushed lo Value t n v)
+
+  node_level : (f : Framed) (pushed lo : ℕ) (w : Wanted) (t : QTy) (n : Node) (v : List ℕ) → Aimed w (node_calls f n) v (node_code f pushed lo w t n)
+  node_level f pushed lo w t (constant z) v = leading_even (constant_even w (width_in t) (residue_of z))
+  node_level f pushed lo w t null v = leading_even (constant_even w Ax 0)
+  node_level f pushed lo w t (literal n) v = wanted_level w (width_in t) (level_plain (λ rest. refl) (symbol_piece (literal_symbol (numbers_of f.parts) n) 0).plain)
+  node_level f pushed lo w t (object i) v = wanted_level w (width_in t) (level_piece (object_still f pushed i v) (object_piece f pushed i).plain)
+  node_level f pushed lo w t (func i) v = wanted_level w (width_in t) (level_plain (λ rest. refl) (symbol_piece (function_symbol (numbers_of f.parts) i) 0).plain)
+  node_level f pushed lo w t (deref e) v = wanted_level w (width_in t) (value_level f pushed lo e v)
+  node_level f pushed lo w t (member e m) v = wanted_level w (width_in t) (behind (value_level f pushed lo e v) (offset_still (offset_at (types_of f.parts.types) (bare e) m) v) (offset_piece (offset_at (types_of f.parts.types) (bare e) m)).plain)
+  node_level f pushed lo w t (load e) v =
       let place : Place = place_of f pushed e in
-      let access : Access = access_of (types_of f.parts.types) e in
-      behind (target_level place (known_calls f pushed e) (expr_level f pushed lo e v)) (load_still place access v) (load_piece place access).plain
-  node_level f pushed lo t (address e) v = expr_level f pushed lo e v
-  node_level f pushed lo t (decay e) v = expr_level f pushed lo e v
-  node_level f pushed lo t (convert e) v = behind (expr_level f pushed lo e v) (conversion_still (type_in t) (kind_in e) v) (conversion_piece (type_in t) (kind_in e)).plain
-  node_level f pushed lo t (unary op e) v = behind (expr_level f pushed lo e v) (unary_still op (width_of (kind_in e)) v) (unary_piece op (width_of (kind_in e))).plain
-  node_level f pushed lo t (binary op a b) v =
+      load_level w place (access_of (types_of f.parts.types) e) (known_calls f pushed e) (target_level place (known_calls f pushed e) (value_level f pushed lo e v))
+  node_level f pushed lo w t (address e) v = wanted_level w (width_in t) (value_level f pushed lo e v)
+  node_level f pushed lo w t (decay e) v = wanted_level w (width_in t) (value_level f pushed lo e v)
+  node_level f pushed lo w t (convert e) v =
+      let same : Bool = same_truth (type_in t) (bare e) in
+      conversion_level w same (type_in t) (kind_in e) (expr_level f pushed lo (handed same w) e v)
+  node_level f pushed lo w t (unary unaries.Not e) v = truth_level w lo (expr_level f pushed (inner w lo) (Test (aimed w lo) (not (sense w))) e v)
+  node_level f pushed lo w t (unary op e) v = wanted_level w (width_in t) (behind (value_level f pushed lo e v) (unary_still op (width_of (kind_in e)) v) (unary_piece op (width_of (kind_in e))).plain)
+  node_level f pushed lo w t (binary op a b) v =
       let operands : Operands = operands_of f (bare a) (bare b) in
-      let w : ℕ = waiting (width_of (computes operands)) in
-      binary_level op operands (kind_in b) (short_of op operands b) (short_calls f op operands b) (expr_level f pushed lo a v) (expr_level f (more pushed w) (lo + uses a) b (w ∷ v))
-  node_level f pushed lo t (both a b) v = both_level lo a b (expr_level f pushed (lo + 1) a v) (expr_level f pushed (lo + 1 + uses a) b v)
-  node_level f pushed lo t (either a b) v = either_level lo (lo + 1) a b (expr_level f pushed (lo + 2) a v) (expr_level f pushed (lo + 2 + uses a) b v)
-  node_level f pushed lo t (choice c a b) v = choice_level lo (lo + 1) c (expr_level f pushed (lo + 2) c v) (expr_level f pushed (lo + 2 + uses c) a v) (expr_level f pushed (lo + 2 + uses c + uses a) b v)
-  node_level f pushed lo t (comma a b) v = closed_then (expr_level f pushed lo a v) (expr_level f pushed (lo + uses a) b v)
-  node_level f pushed lo t (assign a b) v =
+      let bytes : ℕ = waiting (width_of (computes operands)) in
+      let operator : Operating = operating_of f pushed op operands a b in
+      relation_level w (relation_of op)
+      (wanted_level w (width_in t) (operator_level operator op operands (kind_in b) lo (operating_passes (no_calls f) f pushed op operands a b) (value_level f pushed (lo + 1) a) (value_level f (below_operand operator pushed bytes) (lo + 1 + uses None a) b)))
+      (λ r.
+      let q : Relation = relation_by (sense w) r in
+      let kind : IntType = computes operands in
+      let how : Comparing = comparing_of f pushed q kind a b in
+      let to : ℕ = aimed w lo in
+      let own : ℕ = inner w lo in
+      let compared : Comparing = compared_by q (is_byte a && is_byte b) kind (is_pure b) (direct_of f pushed a) (direct_of f pushed b) in
+      let given : Compared (calls_of f a ≡ []) (calls_of f b ≡ []) compared = compared_passes (calls_of f a ≡ []) (calls_of f b ≡ []) q (is_byte a && is_byte b) kind (is_pure b) (direct_of f pushed a) (direct_of f pushed b) (direct_passes (no_calls f) f pushed a) (direct_passes (no_calls f) f pushed b) in
+      truth_level w lo (comparison_level (tested_by q b) (tested_by q a) compared op operands (kind_in b) (sense w) to own (tested_passes (no_calls f) q b) (tested_passes (no_calls f) q a) given
+      (expr_level f pushed (own + 1) (wanted_by (tested_by q b) to) a) (expr_level f (below_side how pushed bytes) (own + 1 + uses (tested_by q b) a) (wanted_by (tested_by q a) to) b)))
+  node_level f pushed lo w t (both a b) v =
+      let straight : Bool = not (sense w) in
+      let own : ℕ = inner w lo in
+      let first : ℕ = own + way_labels straight in
+      truth_level w lo (joined_level straight (aimed w lo) own (expr_level f pushed first (Test (way straight (aimed w lo) own) false) a v) (expr_level f pushed (first + uses (Some false) a) (Test (aimed w lo) (sense w)) b v))
+  node_level f pushed lo w t (either a b) v =
+      let straight : Bool = sense w in
+      let own : ℕ = inner w lo in
+      let first : ℕ = own + way_labels straight in
+      truth_level w lo (joined_level straight (aimed w lo) own (expr_level f pushed first (Test (way straight (aimed w lo) own) true) a v) (expr_level f pushed (first + uses (Some true) a) (Test (aimed w lo) (sense w)) b v))
+  node_level f pushed lo w t (choice c a b) v =
+      let first : ℕ = lo + 2 + uses (Some false) c in
+      wanted_level w (width_in t) (choice_level lo (lo + 1) (expr_level f pushed (lo + 2) (Test lo false) c v) (value_level f pushed first a v) (value_level f pushed (first + uses None a) b v))
+  node_level f pushed lo w t (comma a b) v = leading_then (leading_closed (value_level f pushed lo a v)) (expr_level f pushed (lo + uses None a) w b v)
+  node_level f pushed lo w t (assign a b) v =
       let place : Place = place_of f pushed a in
       let access : Access = access_of (types_of f.parts.types) a in
-      closed_then (target_level place (known_calls f pushed a) (expr_level f pushed lo a v)) (before (hold_leaves place v) (hold_piece place).plain (behind (expr_level f (more pushed (held place)) (lo + uses a) b (holding place v)) (stored_leaves place access v) (store_piece place access).plain))
-  node_level f pushed lo t (assign_op op k a b) v = compound_level f pushed op (Numbers k) a b v (expr_level f pushed lo a v) (expr_level f (behind_open f pushed (Numbers k) a) (lo + uses a) b (waiting (width_of k) ∷ holding (place_of f pushed a) v))
-  node_level f pushed lo t (assign_step op a b) v =
+      wanted_level w (width_in t) (closed_then (target_level place (known_calls f pushed a) (value_level f pushed lo a v)) (before (hold_leaves place v) (hold_piece place).plain (behind (value_level f (more pushed (held place)) (lo + uses None a) b (holding place v)) (stored_leaves place access v) (store_piece place access).plain)))
+  node_level f pushed lo w t (assign_op op k a b) v = wanted_level w (width_in t) (compound_level f pushed op (Numbers k) a b v (value_level f pushed lo a v) (value_level f (behind_open f pushed (Numbers k) a) (lo + uses None a) b (waiting (width_of k) ∷ holding (place_of f pushed a) v)))
+  node_level f pushed lo w t (assign_step op a b) v =
       let operands : Operands = PointerFirst (target_bytes f (bare a)) in
-      compound_level f pushed op operands a b v (expr_level f pushed lo a v) (expr_level f (behind_open f pushed operands a) (lo + uses a) b (2 ∷ holding (place_of f pushed a) v))
-  node_level f pushed lo t (step how e) v =
+      wanted_level w (width_in t) (compound_level f pushed op operands a b v (value_level f pushed lo a v) (value_level f (behind_open f pushed operands a) (lo + uses None a) b (2 ∷ holding (place_of f pushed a) v)))
+  node_level f pushed lo w t (step how e) v =
       let place : Place = place_of f pushed e in
       let access : Access = access_of (types_of f.parts.types) e in
-      behind (target_level place (known_calls f pushed e) (expr_level f pushed lo e v)) (step_still how place access (amount_of f how (bare e)) v) (step_piece how place access (amount_of f how (bare e))).plain
-  node_level f pushed lo t (copy a b) v =
-      closed_then (expr_level f pushed lo a v) (before (push_leaves Ax v) (push_piece Ax).plain (behind (expr_level f (more pushed 2) (lo + uses a) b (2 ∷ v)) (copy_leaves (type_bytes f (type_in t)) v) (copy_piece (type_bytes f (type_in t))).plain))
-  node_level f pushed lo t (call g es) v =
-      call_level f (named g) (outcome_of f (type_in t)) g es (expr_level f pushed lo g v) (args_level f pushed lo (is_fast (bare g)) es v) (args_level f (more pushed 2) (lo + uses g) (is_fast (bare g)) es (2 ∷ v))
-  node_level f pushed lo t (pack e) v =
+      wanted_level w (width_in t) (behind (target_level place (known_calls f pushed e) (value_level f pushed lo e v)) (step_still how place access (amount_of f how (bare e)) v) (step_piece how place access (amount_of f how (bare e))).plain)
+  node_level f pushed lo w t (copy a b) v =
+      wanted_level w (width_in t) (closed_then (value_level f pushed lo a v) (before (push_leaves Ax v) (push_piece Ax).plain (behind (value_level f (more pushed 2) (lo + uses None a) b (2 ∷ v)) (copy_leaves (type_bytes f (type_in t)) v) (copy_piece (type_bytes f (type_in t))).plain)))
+  node_level f pushed lo w t (call g es) v =
+      wanted_level w (width_in t) (call_level f (named g) (outcome_of f (type_in t)) g es (value_level f pushed lo g v) (args_level f pushed lo (is_fast (bare g)) es v) (args_level f (more pushed 2) (lo + uses None g) (is_fast (bare g)) es (2 ∷ v)))
+  node_level f pushed lo w t (pack e) v =
       let place : Place = place_of f pushed e in
       let extent : Extent = extent_by (type_bytes f (type_in t)) in
-      behind (target_level place (known_calls f pushed e) (expr_level f pushed lo e v)) (bytes_still place extent v) (part_piece place extent).plain
-  node_level f pushed lo t (spill i e) v =
+      wanted_level w (width_in t) (behind (target_level place (known_calls f pushed e) (value_level f pushed lo e v)) (bytes_still place extent v) (part_piece place extent).plain)
+  node_level f pushed lo w t (spill i e) v =
       let extent : Extent = extent_by (type_bytes f (type_in t)) in
-      behind (expr_level f pushed lo e v) (spill_still (object_code f pushed i) extent (object_still f pushed i) v) (spill_piece (object_code f pushed i) extent (object_piece f pushed i)).plain
-  node_level f pushed lo t further v = level_piece (further_still f pushed v) (further_piece f pushed).plain
+      wanted_level w (width_in t) (behind (value_level f pushed lo e v) (spill_still (object_code f pushed i) extent (object_still f pushed i) v) (spill_piece (object_code f pushed i) extent (object_piece f pushed i)).plain)
+  node_level f pushed lo w t further v = wanted_level w (width_in t) (level_piece (further_still f pushed v) (further_piece f pushed).plain)
 
   args_level : (f : Framed) (pushed lo : ℕ) (fast : Bool) (es : Nodes) (v : List ℕ) → Closed (args_calls f es) v (args_code f pushed lo fast es) (passed f fast es ++ v)
   args_level f pushed lo fast none v = level_none
@@ -271,5 +442,5 @@ mutual
       let kept : Bool = stays fast es in
       let size : ℕ = passed_size f e in
       let own : List ℕ = argument_bytes kept size in
-      let rest : Closed (args_calls f es) (own ++ v) (args_code f (more pushed (arguments.argument_bytes kept size)) (lo + uses e) fast es) (passed f fast es ++ (own ++ v)) = args_level f (more pushed (arguments.argument_bytes kept size)) (lo + uses e) fast es (own ++ v) in
-      closed_to (sym (append_assoc (passed f fast es) own v)) (closed_then (expr_level f pushed lo e v) (before (argument_leaves f kept e v) (argument_piece kept size).plain rest))
+      let rest : Closed (args_calls f es) (own ++ v) (args_code f (more pushed (arguments.argument_bytes kept size)) (lo + uses None e) fast es) (passed f fast es ++ (own ++ v)) = args_level f (more pushed (arguments.argument_bytes kept size)) (lo + uses None e) fast es (own ++ v) in
+      closed_to (sym (append_assoc (passed f fast es) own v)) (closed_then (value_level f pushed lo e v) (before (argument_leaves f kept e v) (argument_piece kept size).plain rest))

@@ -1,8 +1,8 @@
 -- The lines of expressions and functions are level.
-use Rattle.std.proofs.Common.{◌≡◌, ℕ, zero, suc, ◌+◌, ◌<◌, ◌≤◌, ◌==◌, ◌||◌, ◌⊎◌, inl, inr, Bool, true, false, not, Some, List, [], ◌∷◌, ◌++◌, length, nat_eq, refl, sym, ◌∙◌, ap, subst, arith}
+use Rattle.std.proofs.Common.{◌≡◌, ℕ, zero, suc, ◌+◌, ◌<◌, ◌≤◌, ◌==◌, ◌||◌, ◌⊎◌, inl, inr, Bool, true, false, not, None, Some, List, [], ◌∷◌, ◌++◌, length, nat_eq, refl, sym, ◌∙◌, ap, subst, arith}
 use Rattle.std.specs.Prelude.{if◌then◌else◌, slice_index_or}
 use Rattle.std.specs.List.{list_all}
-use Rattle.std.proofs.lemmas.Bool.{cases_eq, and_parts, eq-eqb, ne_eqb}
+use Rattle.std.proofs.lemmas.Bool.{cases_eq, and_parts, eq-eqb, eqb-true, ne_eqb}
 use Rattle.c65_csem.specs.Trees.{Stmt, empty, eval, set_part, clear, block, if_stmt, while, do_while, for_loop, switch, case, default, label, goto, break, continue, return, Stmts, no_stmts, and_stmts, UnitTy, FuncTy}
 use Rattle.c65_csem.specs.Statements.{labels_of, labels_in}
 use Rattle.c65_csem.specs.Units.{context_of, IsBody}
@@ -13,7 +13,9 @@ use Rattle.c65_code.specs.Segments.{Drafted, is_among, is_distinct}
 use Rattle.c65_code.specs.Segments as segments
 use Rattle.c65_genframe.specs.Frames.{Framed}
 use Rattle.c65_genwide.specs.Lines.{with_lines}
+use Rattle.c65_genexpr.specs.declared.wanted.Wanted.TheVariants.{Value, Test}
 use Rattle.c65_genexpr.specs.Uses.{uses}
+use Rattle.c65_genexpr.specs.Code.{expr_code}
 use Rattle.c65_genentry.specs.Drafts.{with_labels}
 use Rattle.c65_genentry.specs.Entry.{entry_code}
 use Rattle.c65_genentry.specs.Ends.{end_code}
@@ -22,7 +24,7 @@ use Rattle.c65_genstmt.specs.Cases.{room_of}
 use Rattle.c65_genstmt.specs.Stmts.{with_label, ways, with_stmt}
 use Rattle.c65_genstmt.specs.Functions.{main_code, no_lines}
 use Rattle.c65_gen_law_lines.specs.Labels.{times, is_within, among}
-use Rattle.c65_gen_law_lines.specs.Stack.{waiting_by, statement_calls}
+use Rattle.c65_gen_law_lines.specs.Stack.{waiting_by, calls_of, statement_calls}
 use Rattle.c65_gen_law_lines.proofs.Made.{is_plain, times-append}
 use Rattle.c65_gen_law_lines.proofs.ExprLaws.{expressions_own_their_labels}
 use Rattle.c65_gen_law_lines.proofs.FunctionLaws.{functions_are_segments}
@@ -30,9 +32,9 @@ use Rattle.c65_gen_law_lines.proofs.Others.{names, names_in, others, others_are}
 use Rattle.c65_gen_law_lines.proofs.Puts.{one, one_same}
 use Rattle.c65_gen_law_lines.proofs.StackPieces.{Still, leaves_none}
 use Rattle.c65_gen_law_lines.proofs.StackLaws.{nothing_more}
-use Rattle.c65_gen_law_stack.specs.Heights.{ExpressionsAreLevel, FunctionsAreLevel}
-use Rattle.c65_gen_law_stack.proofs.Levels.{all_level, closed_lines}
-use Rattle.c65_gen_law_stack.proofs.ExprLevels.{expr_level}
+use Rattle.c65_gen_law_stack.specs.Heights.{ExpressionsAreLevel, TestsAreLevel, FunctionsAreLevel}
+use Rattle.c65_gen_law_stack.proofs.Levels.{level_end, level_behind, level_label, Closed, all_level, closed_lines}
+use Rattle.c65_gen_law_stack.proofs.ExprLevels.{expr_level, value_level}
 use Rattle.c65_gen_law_stack.proofs.StmtLevels.{Grows, grows_then, grows_behind, grows_end, grows_lines, grows_label, append_lines, Exits, to_behind, to_onward, to_end, to_label, stmt_grows}
 
 -- ---- expressions
@@ -46,7 +48,21 @@ few_among lo n l = by (is_within lo n l)
 
 pub expressions_are_level : ExpressionsAreLevel
 expressions_are_level f pushed fresh e values calls =
-    closed_lines calls (expr_level f pushed fresh e values) (λ l. omega (arith, (expressions_own_their_labels f pushed fresh e).once l, few_among fresh (uses e) l))
+    closed_lines calls (value_level f pushed fresh e values) (λ l. omega (arith, (expressions_own_their_labels f pushed fresh Value e).once l, few_among fresh (uses None e) l))
+
+-- a label that stands behind lines with labels of their own
+one_behind : (lo n to l : ℕ) → among lo n to ≡ 0 → among lo n l + one to l ≤ 1
+one_behind lo n to l none = by (to == l) refl
+  where
+    by : (b : Bool) → (to == l) ≡ b → among lo n l + (if b then 1 else 0) ≤ 1
+    by true e = let same : among lo n l ≡ among lo n to = ap (among lo n) (sym (eqb-true to l e)) in omega (arith, same, none)
+    by false e = omega (arith, few_among lo n l)
+
+pub tests_are_level : TestsAreLevel
+tests_are_level f pushed fresh to s e values calls apart =
+    let lines : List Line = expr_code f pushed fresh (Test to s) e in
+    let level : Closed (calls_of f e) values (lines ++ Label to ∷ []) values = level_end (level_behind (expr_level f pushed fresh (Test to s) e values) (level_label to values)) (λ l h z. absurd z) (λ l h z. inl (inr z)) in
+    closed_lines calls level (λ l. omega (arith, times-append l lines (Label to ∷ []), (expressions_own_their_labels f pushed fresh (Test to s) e).once l, one_behind fresh (uses (Some s) e) to l apart))
 
 -- ---- labels of statements
 

@@ -5,6 +5,11 @@ pub mod EndWay
 pub mod FrameOrder
 pub mod CallWay
 pub mod Levels
+pub mod EvenLines
+pub mod EvenShifts
+pub mod EvenDirects
+pub mod EvenForms
+pub mod ReadSides
 pub mod ExprLevels
 pub mod BlockLevels
 pub mod StmtLevels

@@ -6,9 +6,8 @@ use Rattle.std.proofs.lemmas.Bool.{eqb-true}
 use Rattle.c65_csem.specs.Trees.{Typed, MaybeTyped, absent, present, Stmt, empty, eval, set_part, clear, block, if_stmt, while, do_while, for_loop, switch, case, default, label, goto, break, continue, return, Stmts, no_stmts, and_stmts, UnitTy}
 use Rattle.c65_csem.specs.Places.{is_tag}
 use Rattle.c65_csem.specs.Statements.{cases_of, defaults_of, Context, looping, switching, IsStmt, AreStmts}
-use Rattle.c65_mach.specs.declared.rows.Op.{Op}
-use Rattle.c65_mach.specs.declared.rows.Op.TheVariants.{Beq, Bne, Jmp, Sta, Stx}
-use Rattle.c65_mach.specs.declared.rows.Mode.TheVariants.{Absolute, Relative}
+use Rattle.c65_mach.specs.declared.rows.Op.TheVariants.{Jmp, Sta, Stx}
+use Rattle.c65_mach.specs.declared.rows.Mode.TheVariants.{Absolute}
 use Rattle.c65_code.specs.declared.line.Line.{Line}
 use Rattle.c65_code.specs.declared.line.Line.TheVariants.{Label}
 use Rattle.c65_code.specs.declared.routine.Width.{Width}
@@ -19,9 +18,10 @@ use Rattle.c65_genwide.specs.Wide.{width_of}
 use Rattle.c65_genload.specs.Conversions.{size_of}
 use Rattle.c65_genload.specs.declared.places.Access.TheVariants.{Whole}
 use Rattle.c65_genexpr.specs.Types.{kind_in, bare}
-use Rattle.c65_genexpr.specs.Code.{expr_code, test_in}
+use Rattle.c65_genexpr.specs.declared.wanted.Wanted.TheVariants.{Value, Test}
+use Rattle.c65_genexpr.specs.Code.{expr_code}
 use Rattle.c65_genentry.specs.Drafts.{with_labels}
-use Rattle.c65_genentry.specs.Words.{ptr1, ptr2, zero_page, branch, jump, with_code}
+use Rattle.c65_genentry.specs.Words.{ptr1, ptr2, zero_page, jump, with_code}
 use Rattle.c65_genentry.specs.Bytes.{block_labels}
 use Rattle.c65_genentry.specs.Bytes as blocks
 use Rattle.c65_genentry.specs.Pointers as pointers
@@ -29,20 +29,19 @@ use Rattle.c65_genentry.specs.Choice.{choice_code}
 use Rattle.c65_genstmt.specs.declared.jumps.Ways.{Ways}
 use Rattle.c65_genstmt.specs.declared.objects.Spot.{Spot}
 use Rattle.c65_genstmt.specs.declared.objects.Spot.TheVariants.{Bank, Soft, Data}
-use Rattle.c65_genstmt.specs.Jumps.{following, with_value, with_condition}
+use Rattle.c65_genstmt.specs.Jumps.{following, with_value, with_test}
 use Rattle.c65_genstmt.specs.Objects.{spot_of, object_bytes, point_code, stored_code, with_copied, with_kept, with_zeros}
 use Rattle.c65_genstmt.specs.Cases.{has_default}
-use Rattle.c65_genstmt.specs.Stmts.{case_behind, with_label, with_jump, two_given, three_given, with_maybe, with_test, ways, default_way, with_stmt, with_stmts}
+use Rattle.c65_genstmt.specs.Stmts.{case_behind, with_label, with_jump, two_given, three_given, with_maybe, with_guard, ways, default_way, with_stmt, with_stmts}
 use Rattle.c65_gen_law_lines.specs.Stack.{calls_of, maybe_calls, statement_calls, statements_calls}
 use Rattle.c65_gen_law_lines.proofs.Made.{is_plain}
-use Rattle.c65_gen_law_lines.proofs.Pieces.{test_piece}
 use Rattle.c65_gen_law_lines.proofs.Flat.{point_flat, stored_flat, bank_clear_flat}
 use Rattle.c65_gen_law_lines.proofs.Puts.{one, one_same}
 use Rattle.c65_gen_law_lines.proofs.Others.{names, others, others_in, laid, others_are, default_counts, some_default}
-use Rattle.c65_gen_law_lines.proofs.StackPieces.{Still, test_still}
+use Rattle.c65_gen_law_lines.proofs.StackPieces.{Still}
 use Rattle.c65_gen_law_lines.proofs.StackLaws.{nothing_more}
 use Rattle.c65_gen_law_stack.proofs.Levels.{Level, Nowhere, level_then, level_end, level_piece, level_none, level_label, level_leads, Closed}
-use Rattle.c65_gen_law_stack.proofs.ExprLevels.{expr_level}
+use Rattle.c65_gen_law_stack.proofs.ExprLevels.{expr_level, value_level}
 use Rattle.c65_gen_law_stack.proofs.BlockLevels.{clear_level, copy_level, point_still, stored_still, bank_clear_still, choice_level}
 
 -- labels that m counts, where nothing waits; and labels of X
@@ -120,7 +119,7 @@ grows_code : {X : ℕ → Type 0} (n : ℕ) (d : Drafted) (a : List Line) → Cl
 grows_code n d a closed = record { added = a; lines = refl; level = closed_level closed }
 
 grows_value : {X : ℕ → Type 0} (f : Framed) (e : Typed) (d : Drafted) → Grows none X (calls_of f e) d (with_value f e d)
-grows_value f e d = record { added = expr_code f 0 d.labels e; lines = refl; level = closed_level (expr_level f 0 d.labels e []) }
+grows_value f e d = record { added = expr_code f 0 d.labels Value e; lines = refl; level = closed_level (value_level f 0 d.labels e []) }
 
 same_label : (k l : ℕ) → 1 ≤ one k l → l ≡ k
 same_label k l h = by (k == l) refl h
@@ -139,17 +138,15 @@ To_label k l = l ≡ k
 grows_jump : (k : ℕ) (d : Drafted) → Grows none (To_label k) [] d (with_jump k d)
 grows_jump k d = record { added = jump Jmp k ∷ []; lines = refl; level = level_end (level_leads Jmp Absolute k []) (λ l h z. absurd (omega (arith, z.0))) (λ l h z. inr z) }
 
-grows_branch : (op : Op) (k : ℕ) (d : Drafted) → Grows none (To_label k) [] d (with_lines d (branch op k ∷ []))
-grows_branch op k d = record { added = branch op k ∷ []; lines = refl; level = level_end (level_leads op Relative k []) (λ l h z. absurd (omega (arith, z.0))) (λ l h z. inr z) }
-
 none_left : {X : ℕ → Type 0} {m : ℕ → ℕ} {cs : List (List ℕ)} {d e : Drafted} → Grows m X cs d e → Grows none X cs d e
 none_left p = grows_end p (λ l z. absurd (omega (arith, z))) (λ l x. inr x)
 
-grows_condition : (f : Framed) (op : Op) (to : ℕ) (e : Typed) (d : Drafted) → Grows none (To_label to) (calls_of f e) d (with_condition f op to e d)
-grows_condition f op to e d =
-    let v : Drafted = with_value f e d in
-    let t : Drafted = with_lines v (test_in e) in
-    none_left (grows_behind (grows_value f e d) (grows_then (grows_lines v (test_in e) (test_still (width_of (kind_in e))) (test_piece (width_of (kind_in e))).plain) (grows_branch op to t)))
+grows_test : (f : Framed) (to : ℕ) (s : Bool) (e : Typed) (d : Drafted) → Grows none (To_label to) (calls_of f e) d (with_test f to s e d)
+grows_test f to s e d = record {
+  added = expr_code f 0 d.labels (Test to s) e;
+  lines = refl;
+  level = level_end (expr_level f 0 d.labels (Test to s) e []) (λ l h z. absurd (omega (arith, z.0))) (λ l h z. inr z);
+}
 
 -- ---- objects
 
@@ -182,9 +179,9 @@ grows_maybe : {X : ℕ → Type 0} (f : Framed) (e : MaybeTyped) (d : Drafted) �
 grows_maybe f absent d = grows_same d
 grows_maybe f (present e) d = grows_value f e d
 
-grows_test : (f : Framed) (to : ℕ) (e : MaybeTyped) (d : Drafted) → Grows none (To_label to) (maybe_calls f e) d (with_test f to e d)
-grows_test f to absent d = grows_same d
-grows_test f to (present e) d = grows_condition f Beq to e d
+grows_guard : (f : Framed) (to : ℕ) (e : MaybeTyped) (d : Drafted) → Grows none (To_label to) (maybe_calls f e) d (with_guard f to e d)
+grows_guard f to absent d = grows_same d
+grows_guard f to (present e) d = grows_test f to false e d
 
 -- the labels to which a statement may lead: where its jumps go, the end of the function, and labels of the function
 pub data Exits (w : Ways) (labels : List ℕ) (l : ℕ) : Type 0 where
@@ -276,13 +273,13 @@ mutual
   stmt_grows u c f w l (clear i) d h = grows_zeros (spot_of f i 0) (object_bytes f i) d
   stmt_grows u c f w l (block os ss) d h = stmts_grow u c f w l ss d h.1
   stmt_grows u c f w l (if_stmt e a b) d h =
-      let m1 : Drafted = with_condition f Beq d.labels e (two_given d) in
+      let m1 : Drafted = with_test f d.labels false e (two_given d) in
       let m2 : Drafted = with_stmt f w l a m1 in
       let m3 : Drafted = with_jump (d.labels + 1) m2 in
       let m4 : Drafted = with_label d.labels m3 in
       let m5 : Drafted = with_stmt f w (case_behind l a) b m4 in
       let X : ℕ → Type 0 = Two d.labels (d.labels + 1) (Exits w c.labels) in
-      let test : Grows none X (calls_of f e) (two_given d) m1 = grows_open (first_of_two (Exits w c.labels) d.labels (d.labels + 1)) (grows_condition f Beq d.labels e (two_given d)) in
+      let test : Grows none X (calls_of f e) (two_given d) m1 = grows_open (first_of_two (Exits w c.labels) d.labels (d.labels + 1)) (grows_test f d.labels false e (two_given d)) in
       let first : Grows (others w.other l a) X (statement_calls f a) m1 m2 = grows_open (λ x z. inr (inr z)) (stmt_grows u c f w l a m1 h.1) in
       let over : Grows none X [] m2 m3 = grows_open (second_of_two (Exits w c.labels) d.labels (d.labels + 1)) (grows_jump (d.labels + 1) m2) in
       let second : Grows (others w.other (case_behind l a) b) X (statement_calls f b) m4 m5 = grows_open (λ x z. inr (inr z)) (stmt_grows u c f w (case_behind l a) b m4 h.2) in
@@ -290,12 +287,12 @@ mutual
       (grows_then test (grows_then first (grows_then over (grows_then (grows_label d.labels m3) (grows_behind second (grows_label (d.labels + 1) m5)))))))
   stmt_grows u c f w l (while e a) d h =
       let m1 : Drafted = with_label d.labels (two_given d) in
-      let m2 : Drafted = with_condition f Beq (d.labels + 1) e m1 in
+      let m2 : Drafted = with_test f (d.labels + 1) false e m1 in
       let inner : Ways = ways (d.labels + 1) d.labels w.other in
       let m3 : Drafted = with_stmt f inner l a m2 in
       let m4 : Drafted = with_jump d.labels m3 in
       let X : ℕ → Type 0 = Two d.labels (d.labels + 1) (Exits w c.labels) in
-      let test : Grows none X (calls_of f e) m1 m2 = grows_open (second_of_two (Exits w c.labels) d.labels (d.labels + 1)) (grows_condition f Beq (d.labels + 1) e m1) in
+      let test : Grows none X (calls_of f e) m1 m2 = grows_open (second_of_two (Exits w c.labels) d.labels (d.labels + 1)) (grows_test f (d.labels + 1) false e m1) in
       let body : Grows (others w.other l a) X (statement_calls f a) m2 m3 = grows_open (λ x z. turned (Exits w c.labels) d.labels (d.labels + 1) x (through w c.labels (d.labels + 1) d.labels w.other x z)) (stmt_grows u (looping c) f inner l a m2 h.1) in
       let over : Grows none X [] m3 m4 = grows_open (first_of_two (Exits w c.labels) d.labels (d.labels + 1)) (grows_jump d.labels m3) in
       grows_given {e = two_given d} refl (close_two d.labels (d.labels + 1) (omega (arith, one_same d.labels)) (omega (arith, one_same (d.labels + 1))) (λ x z. omega (arith, z))
@@ -305,23 +302,23 @@ mutual
       let inner : Ways = ways (d.labels + 1 + 1) (d.labels + 1) w.other in
       let m2 : Drafted = with_stmt f inner l a m1 in
       let m3 : Drafted = with_label (d.labels + 1) m2 in
-      let m4 : Drafted = with_condition f Bne d.labels e m3 in
+      let m4 : Drafted = with_test f d.labels true e m3 in
       let X : ℕ → Type 0 = Three d.labels (d.labels + 1) (d.labels + 1 + 1) (Exits w c.labels) in
       let body : Grows (others w.other l a) X (statement_calls f a) m1 m2 = grows_open (λ x z. inr (turned (Exits w c.labels) (d.labels + 1) (d.labels + 1 + 1) x (through w c.labels (d.labels + 1 + 1) (d.labels + 1) w.other x z))) (stmt_grows u (looping c) f inner l a m1 h.0) in
-      let test : Grows none X (calls_of f e) m3 m4 = grows_open (λ x z. inl z) (grows_condition f Bne d.labels e m3) in
+      let test : Grows none X (calls_of f e) m3 m4 = grows_open (λ x z. inl z) (grows_test f d.labels true e m3) in
       grows_given {e = three_given d} refl (close_three d.labels (d.labels + 1) (d.labels + 1 + 1) (omega (arith, one_same d.labels)) (omega (arith, one_same (d.labels + 1))) (omega (arith, one_same (d.labels + 1 + 1))) (λ x z. omega (arith, z))
       (grows_then (grows_label d.labels (three_given d)) (grows_then body (grows_then (grows_label (d.labels + 1) m2) (grows_behind test (grows_label (d.labels + 1 + 1) m4))))))
   stmt_grows u c f w l (for_loop i t n a) d h =
       let g : Drafted = with_maybe f i d in
       let m1 : Drafted = with_label g.labels (three_given g) in
-      let m2 : Drafted = with_test f (g.labels + 1 + 1) t m1 in
+      let m2 : Drafted = with_guard f (g.labels + 1 + 1) t m1 in
       let inner : Ways = ways (g.labels + 1 + 1) (g.labels + 1) w.other in
       let m3 : Drafted = with_stmt f inner l a m2 in
       let m4 : Drafted = with_label (g.labels + 1) m3 in
       let m5 : Drafted = with_maybe f n m4 in
       let m6 : Drafted = with_jump g.labels m5 in
       let X : ℕ → Type 0 = Three g.labels (g.labels + 1) (g.labels + 1 + 1) (Exits w c.labels) in
-      let test : Grows none X (maybe_calls f t) m1 m2 = grows_open (λ x z. inr (inr (inl z))) (grows_test f (g.labels + 1 + 1) t m1) in
+      let test : Grows none X (maybe_calls f t) m1 m2 = grows_open (λ x z. inr (inr (inl z))) (grows_guard f (g.labels + 1 + 1) t m1) in
       let body : Grows (others w.other l a) X (statement_calls f a) m2 m3 = grows_open (λ x z. inr (turned (Exits w c.labels) (g.labels + 1) (g.labels + 1 + 1) x (through w c.labels (g.labels + 1 + 1) (g.labels + 1) w.other x z))) (stmt_grows u (looping c) f inner l a m2 h.3) in
       let over : Grows none X [] m5 m6 = grows_open (λ x z. inl z) (grows_jump g.labels m5) in
       let loop : Grows (others w.other l a) (Exits w c.labels) (maybe_calls f t ++ (statement_calls f a ++ maybe_calls f n)) g (with_label (g.labels + 1 + 1) m6) =

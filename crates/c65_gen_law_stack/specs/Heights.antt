@@ -7,10 +7,13 @@ use Rattle.c65_code.specs.declared.line.Line.TheVariants.{Label}
 use Rattle.c65_code.specs.declared.parts.RegSet.{RegSet}
 use Rattle.c65_code.specs.Segments.{target_of}
 use Rattle.c65_genframe.specs.Frames.{Framed}
+use Rattle.c65_genexpr.specs.declared.wanted.Wanted.TheVariants.{Value, Test}
+use Rattle.c65_genexpr.specs.Uses.{uses}
 use Rattle.c65_genexpr.specs.Code.{expr_code}
 use Rattle.c65_genentry.specs.Entry.{entry_code}
 use Rattle.c65_genentry.specs.Ends.{end_code}
 use Rattle.c65_genstmt.specs.Functions.{no_lines, with_function}
+use Rattle.c65_gen_law_lines.specs.Labels.{among}
 use Rattle.c65_gen_law_lines.specs.Stack.{Waiting, waiting_by, waits, calls_of, statement_calls}
 
 abbrev pub values_in : Option Waiting → Option (List ℕ)
@@ -30,7 +33,12 @@ pub record AreLevel (w : Option Waiting) (lines : List Line) : Type 0 where
 
 -- those of an expression, whatever waits
 abbrev pub ExpressionsAreLevel : Type 0
-ExpressionsAreLevel = (f : Framed) (pushed fresh : ℕ) (e : Typed) (values : List ℕ) (calls : List (List ℕ)) → AreLevel (Some (waiting_by values (calls_of f e ++ calls))) (expr_code f pushed fresh e)
+ExpressionsAreLevel = (f : Framed) (pushed fresh : ℕ) (e : Typed) (values : List ℕ) (calls : List (List ℕ)) → AreLevel (Some (waiting_by values (calls_of f e ++ calls))) (expr_code f pushed fresh Value e)
+
+-- and those of a test, whatever waits, with the label to which it leads behind them: as much waits wherever it leads there
+abbrev pub TestsAreLevel : Type 0
+TestsAreLevel = (f : Framed) (pushed fresh to : ℕ) (sense : Bool) (e : Typed) (values : List ℕ) (calls : List (List ℕ)) → among fresh (uses (Some sense) e) to ≡ 0
+    → AreLevel (Some (waiting_by values (calls_of f e ++ calls))) (expr_code f pushed fresh (Test to sense) e ++ Label to ∷ [])
 
 -- and those of a function between its entry and its end, where nothing waits at first and at last
 abbrev pub FunctionsAreLevel : Type 0

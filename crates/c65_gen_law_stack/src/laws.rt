@@ -1,6 +1,6 @@
 // Laws of the software stack, each the contract of a function that does nothing.
 ghost use Rattle.c65_gen_law_stack.specs.Calls.{EntriesLowerSp, EndsRaiseSp, EndsUndoEntries};
-ghost use Rattle.c65_gen_law_stack.specs.Heights.{ExpressionsAreLevel, FunctionsAreLevel};
+ghost use Rattle.c65_gen_law_stack.specs.Heights.{ExpressionsAreLevel, TestsAreLevel, FunctionsAreLevel};
 ghost use Rattle.c65_gen_law_stack.specs.Bank.{FunctionsLeaveRegbank, MovesLeaveRegbank};
 ghost use Rattle.c65_gen_law_stack.specs.Walks.{WalksKeepHeights};
 ghost use Rattle.c65_gen_law_stack.specs.Parameters.{CallsPassWhatIsTaken, CallsPassTheirParameters};
@@ -24,6 +24,11 @@ pub fn ends_undo_entries()
 /// Whichever line of an expression leads to a label, the same values wait on the software stack there as at the label, which is one of its own.
 pub fn expressions_are_level()
     ensures { ExpressionsAreLevel }
+{}
+
+/// So it is where an expression is tested, and whichever line leads to the label of the test, as much waits there as at first.
+pub fn tests_are_level()
+    ensures { TestsAreLevel }
 {}
 
 /// So it is with the lines of a well typed function between its entry and its end, before and behind which nothing waits.

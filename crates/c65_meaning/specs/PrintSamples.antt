@@ -1,5 +1,5 @@
 -- Small programs that print by a format.
-use Rattle.std.specs.Prelude.{ℕ, pos, List, [], ◌∷◌, ◌++◌, codes, length}
+use Rattle.std.specs.Prelude.{ℕ, ◌+◌, pos, List, [], ◌∷◌, ◌++◌, codes, length}
 use Rattle.c65_ints.specs.declared.types.IntType.TheVariants as I
 use Rattle.c65_base.specs.declared.library.Library.TheVariants as L
 use Rattle.c65_ctype.specs.Trees.{int, Fn}

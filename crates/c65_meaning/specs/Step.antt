@@ -230,6 +230,10 @@ abbrev pub served : Library → List Value → List Cell → List Item → List 
 served f args rest k vs c (Err why) = Undefined why
 served f args rest k vs c (Ok e) = library_call e.bytes f args rest k vs c
 
+-- on the arguments that the function names and the cells of the further ones
+abbrev pub provided : Library → List Value → List Cell → List Item → List Value → Scene → State
+provided f args rest k vs c = served f args rest k vs c (effect_of c f args rest)
+
 module _ (u : UnitTy) where
   -- each parameter is a new block that holds its argument
   abbrev pub with_params : List ℕ → List Value → Scene → Result Scene Why
@@ -258,10 +262,6 @@ module _ (u : UnitTy) where
   -- a function with an object that has one place for the whole run is entered by one call at a time
   abbrev pub entered_once : ℕ → FuncTy → Stmt → ℕ → List Ty → List Value → List Item → List Value → Scene → State
   entered_once f g body cost types args k vs c = if has_fixed u body && is_active f c.frames then Undefined (By FixedAgain) else entered f g body cost types args k vs c
-
-  -- one of a function of the library, on the arguments that it names and the cells of the further ones
-  abbrev pub provided : Library → List Value → List Cell → List Item → List Value → Scene → State
-  provided l args rest k vs c = served l args rest k vs c (effect_of c l args rest)
 
   abbrev pub called : ℕ → List Ty → List Value → FuncTy → Option Stmt → Option Library → List Item → List Value → Scene → State
   called f types args g (Some body) library k vs c = entered_once f g body (soft_cost u (argument_bytes u types) body) types args k vs (turned c)

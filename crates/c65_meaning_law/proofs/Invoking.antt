@@ -23,7 +23,7 @@ use Rattle.c65_meaning.specs.Items.{Item, Invoke, Leave, plan_stmt}
 use Rattle.c65_meaning.specs.Costs.{argument_bytes, soft_cost, has_fixed}
 use Rattle.c65_meaning.specs.Calls.{count_of, named_count, passed_to, fit_definition, accepts}
 use Rattle.c65_meaning.specs.State.{Frame, Scene, State, Deep, Running, turned, block_in, Undefined}
-use Rattle.c65_meaning.specs.Step.{place_in, are_values, is_deep, unless_deep, new_frame, with_passed, entered, called, unless_refused, accepted, call_of, invoked, provided, cells_behind, rest_list, func_in, frames_below, perform, is_active}
+use Rattle.c65_meaning.specs.Step.{place_in, are_values, is_deep, unless_deep, new_frame, with_passed, entered, called, unless_refused, accepted, call_of, invoked, provided, cells_behind, func_in, frames_below, perform, is_active}
 use Rattle.c65_csem_names.specs.Scopes.{is_variadic, IsInScope, IsScoped, IsScopedBody, HasScopedBody, entering}
 use Rattle.c65_csem_names.specs.Library.{IsTypedAs, HasLibraryType}
 use Rattle.c65_csem_names.specs.Programs.{IsScopedProgram}

@@ -139,7 +139,7 @@ module _ (m : Setting) (u : UnitTy) (c e : Scene) (g : Grows u c e) where
     does_on (Lay i done size) k (carrying ∷ ks) h = (g.objects i h.0, gives_on naming ks h.1)
     does_on Reach k ks h = (g.rest h.0, gives_on pointing ks h.1)
     does_on (Invoke callee types) k ks h = (h.0, h.1, h.2, gives_on (kind_given h.0.type) h.1 h.3)
-    does_on (Busy left l args rest) k ks h = (h.0, (arguments_on l args h.1.0, cells_on rest h.1.1), gives_on (kind_from l) ks h.2)
+    does_on (Busy left l args xs) k ks h = (h.0, (arguments_on l args h.1.0, cells_on xs h.1.1), gives_on (kind_from l) ks h.2)
     does_on Skip k ks h = (h.0, n ks h.1)
     does_on (Init i d s) k (x ∷ ks) h = (h.0, (g.objects i h.1.0, n ks h.1.1))
     does_on (CarryInto i d done size) k (naming ∷ ks) h = (h.0, (g.objects i h.1.0, n ks h.1.1))

@@ -1,12 +1,7 @@
 -- The lines of `printf` keep what a segment's lines keep.
-use Rattle.std.proofs.Common.{◌≡◌, List, refl, subst, sym}
-use Rattle.c65_code.specs.declared.line.Line.{Line}
+use Rattle.std.proofs.Common.{refl}
 use Rattle.c65_code.specs.Segments.{IsSegment}
 use Rattle.c65_va.specs.Printf.{printf_lines}
 
 pub printf_segment : IsSegment printf_lines
 printf_segment = record { fit = refl; labels = refl; targets = refl; closed = refl }
-
--- lines that are those
-pub closes : (lines : List Line) → lines ≡ printf_lines → IsSegment lines
-closes lines e = subst IsSegment (sym e) printf_segment

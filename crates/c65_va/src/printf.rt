@@ -13,22 +13,33 @@ use c65_code::Operand::{Byte, Nothing, To, Zero};
 use c65_code::{Callee, Count, Draft, Line, Routine, Seg};
 use c65_mach::Mode::{Absolute, Accumulator, Immediate, Implied, IndirectY, Relative, ZeroPage};
 use c65_mach::Op::{
-    Adc, Asl, Bcc, Bcs, Beq, Bne, Bpl, Clc, Cmp, Cpy, Dec, Dex, Inc, Inx, Iny, Jmp, Lda, Ldx, Ldy, Ora, Pha, Pla, Rol, Rts, Sbc, Sec, Sta, Stx, Sty, Tay, Tya,
+    Adc, Asl, Bcc, Bcs, Beq, Bne, Bpl, Clc, Cmp, Cpy, Dec, Dex, Inc, Inx, Iny, Jmp, Lda, Ldx, Ldy,
+    Ora, Pha, Pla, Rol, Rts, Sbc, Sec, Sta, Stx, Sty, Tay, Tya,
 };
 use c65_rtl::given;
 use std::alloc::Global;
 
 // The labels that several pieces name.
 const NEXT: u32 = 0;
+
 const WIDTH: u32 = 1;
+
 const LETTER: u32 = 2;
+
 const LONG: u32 = 3;
+
 const NUMBER: u32 = 4;
+
 const DIGITS: u32 = 5;
+
 const CHARACTER: u32 = 6;
+
 const STRING: u32 = 7;
+
 const PAD: u32 = 8;
+
 const WRITE: u32 = 9;
+
 const FINISH: u32 = 10;
 
 // `%` less `0`, as a byte.

@@ -1,5 +1,7 @@
 use Rattle.std.proofs.Common.{refl}
+use Rattle.std.specs.Fmt.{digits}
 use Rattle.c65_meaning.proofs.prints.each_form_is_printed.Goals as goal
 
 pub returns : goal.returns
+unfolding digits
 returns c = record { running = tt; ending = refl }

@@ -28,9 +28,15 @@ int fputc(int c, FILE *stream);
 int fputs(const char *s, FILE *stream);
 int getc(FILE *stream);
 int getchar(void);
+int printf(const char *format, ...);
 int putc(int c, FILE *stream);
 int putchar(int c);
 int puts(const char *s);
+int sprintf(char *s, const char *format, ...);
+
+/* The list is a va_list. */
+int vprintf(const char *format, unsigned char *list);
+int vsprintf(char *s, const char *format, unsigned char *list);
 
 /* Beyond C90, as POSIX has it. */
 #ifndef __STRICT_ANSI__

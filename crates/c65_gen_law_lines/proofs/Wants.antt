@@ -1,0 +1,202 @@
+-- Lines of which a value or a test is wanted: their labels, their size, and the form of each line.
+use Rattle.std.proofs.Common.{◌≡◌, ℕ, ◌+◌, ◌≤◌, ◌<◌, ◌==◌, Bool, true, false, Option, Some, None, List, [], ◌∷◌, ◌++◌, length, refl, sym, ◌∙◌, ap, subst, arith}
+use Rattle.std.specs.Prelude.{if◌then◌else◌}
+use Rattle.std.specs.List.{list_all}
+use Rattle.std.proofs.lemmas.Bool.{and_from}
+use Rattle.c65_base.specs.declared.operators.BinaryOp.{BinaryOp}
+use Rattle.c65_ints.specs.declared.types.IntType.{IntType}
+use Rattle.c65_ints.specs.declared.types.IntType.TheVariants as ints
+use Rattle.c65_ctype.specs.Trees.{Ty}
+use Rattle.c65_mach.specs.declared.rows.Op.TheVariants.{Jmp, Tay}
+use Rattle.c65_mach.specs.declared.rows.Mode.TheVariants.{Absolute, Relative}
+use Rattle.c65_code.specs.declared.line.Operand.TheVariants.{To}
+use Rattle.c65_code.specs.declared.line.Line.{Line}
+use Rattle.c65_code.specs.declared.line.Line.TheVariants.{Label, Do}
+use Rattle.c65_code.specs.declared.routine.Width.{Width}
+use Rattle.c65_code.specs.Segments.{is_fit}
+use Rattle.c65_genload.specs.declared.places.Extent.{Extent}
+use Rattle.c65_genload.specs.declared.places.Extent.TheVariants.{One, Two, Three, Four}
+use Rattle.c65_genload.specs.Words.{implied}
+use Rattle.c65_genload.specs.Places.{extent_of}
+use Rattle.c65_genwide.specs.Wide.{width_of}
+use Rattle.c65_gendirect.specs.declared.bytes.OperandByte.{OperandByte}
+use Rattle.c65_gendirect.specs.declared.direct.Direct.{Direct}
+use Rattle.c65_gendirect.specs.Bytes.{byte_of}
+use Rattle.c65_genexpr.specs.declared.comparing.Side.TheVariants as side
+use Rattle.c65_genexpr.specs.declared.comparing.Comparing.{Comparing}
+use Rattle.c65_genexpr.specs.declared.comparing.Comparing.TheVariants as comparing
+use Rattle.c65_genexpr.specs.declared.operating.Operating.{Operating}
+use Rattle.c65_genexpr.specs.declared.operating.Operating.TheVariants as operating
+use Rattle.c65_genexpr.specs.declared.operands.Operands.{Operands}
+use Rattle.c65_genexpr.specs.declared.wanted.Wanted.{Wanted}
+use Rattle.c65_genexpr.specs.declared.wanted.Wanted.TheVariants.{Value, Test}
+use Rattle.c65_genexpr.specs.Types.{kind_of}
+use Rattle.c65_genexpr.specs.Direct.{with_byte, own_bytes}
+use Rattle.c65_genexpr.specs.Operands.{conversion_by}
+use Rattle.c65_genexpr.specs.Wanted.{sense_of, wanted_by, handed, by_sense, wanted, aimed, truth_labels, inner, truth_by, way, way_labels, joined}
+use Rattle.c65_genexpr.specs.Comparing.{low_code, comparison_by}
+use Rattle.c65_genexpr.specs.Operating.{operator_by}
+use Rattle.c65_genexpr.specs.Code.{constant_code, tested_load}
+use Rattle.c65_gen_law_lines.specs.Labels.{among, aims, may_lead}
+use Rattle.c65_gen_law_lines.proofs.Made.{or_right, among_split, among_one, among_none, Piece, piece_none, Stretch, Made, nowhere, once_at, stretch_then, stretch_piece, stretch_label, stretch_branch, stretch_jump, stretch_wider, stretch_as, stretch_made, made_stretch, leads_inner, leads_within, leads_outer, made_piece, made_behind, made_wider, made_as}
+use Rattle.c65_gen_law_lines.proofs.Pieces.{number_piece, conversion_piece, test_piece, between_piece, behind_piece}
+use Rattle.c65_gen_law_lines.proofs.Quiet.{Quiet}
+use Rattle.c65_gen_law_lines.proofs.Directs.{loaded_quiet, compare_quiet, compare_byte_quiet, zero_test_quiet, truth_quiet}
+use Rattle.c65_gen_law_lines.proofs.Drops.{IfRead, Unread, Unused}
+use Rattle.c65_gen_law_lines.proofs.Forms.{before_size, behind_size, stacked_sizes, form_quiet, waiting_part, stacked_part}
+
+-- the same labels, from a number that is the same
+pub made_from : {outside : List ℕ} {lo to n k : ℕ} {a : List Line} → lo ≡ to → Made outside lo n k a → Made outside to n k a
+made_from {outside = outside} {n = n} {k = k} {a = a} e made = subst (λ (x : ℕ). Made outside x n k a) e made
+
+-- lines that lead nowhere else stand anywhere
+pub made_closed : {lo n k : ℕ} {a : List Line} → (outside : List ℕ) → Made [] lo n k a → Made outside lo n k a
+made_closed {lo = lo} {n = n} outside m = made_stretch (stretch_made m (leads_within outside lo n lo n (omega arith) (omega arith)) refl) (λ l. refl)
+
+sense_fits : (s : Bool) → is_fit (Do (by_sense s) Relative (To 0)) ≡ true
+sense_fits true = refl
+sense_fits false = refl
+
+pub wanted_made : {lo n k : ℕ} {a : List Line} (w : Wanted) (width : Width) → Made [] lo n k a → Made (aims w) lo n (k + 13) (wanted w width a)
+wanted_made Value width m = made_wider m (omega arith)
+wanted_made {lo = lo} {n = n} (Test to s) width m = made_stretch
+    (stretch_then (stretch_made m (leads_within (to ∷ []) lo n lo n (omega arith) (omega arith)) refl) (stretch_then (stretch_piece (test_piece width)) (stretch_branch (by_sense s) to (sense_fits s) (leads_outer lo n to))))
+    (λ l. omega arith)
+
+constant_if : {outside : List ℕ} {lo : ℕ} {x y : List Line} (b : Bool) → Made outside lo 0 12 x → Made outside lo 0 12 y → Made outside lo 0 12 (if b then x else y)
+constant_if true p q = p
+constant_if false p q = q
+
+pub constant_made : {lo : ℕ} (w : Wanted) (width : Width) (n : ℕ) → Made (aims w) lo 0 12 (constant_code w width n)
+constant_made Value width n = made_piece (number_piece width n)
+constant_made {lo = lo} (Test to true) width n = constant_if (n == 0) (made_piece (piece_none 12)) (made_wider (made_stretch (stretch_jump to (leads_outer lo 0 to)) (λ l. sym (among_none lo l))) (omega arith))
+constant_made {lo = lo} (Test to false) width n = constant_if (n == 0) (made_wider (made_stretch (stretch_jump to (leads_outer lo 0 to)) (λ l. sym (among_none lo l))) (omega arith)) (made_piece (piece_none 12))
+
+with_few : (d : Option OperandByte) (ds : List OperandByte) (n : ℕ) → length ds ≤ n → length (with_byte d ds) ≤ n + 1
+with_few None ds n le = omega (arith, le)
+with_few (Some d) ds n le = omega (arith, le)
+
+all_few : (d0 d1 d2 d3 : Option OperandByte) → length (with_byte d0 (with_byte d1 (with_byte d2 (with_byte d3 [])))) ≤ 4
+all_few d0 d1 d2 d3 = with_few d0 _ 3 (with_few d1 _ 2 (with_few d2 _ 1 (with_few d3 [] 0 (omega arith))))
+
+pub few_bytes : (d : Direct) (e : Extent) → length (own_bytes d e) ≤ 4
+few_bytes d One = omega (arith, with_few (byte_of d 0) [] 0 (omega arith))
+few_bytes d Two = omega (arith, with_few (byte_of d 0) (with_byte (byte_of d 1) []) 1 (with_few (byte_of d 1) [] 0 (omega arith)))
+few_bytes d Three = all_few (byte_of d 0) (byte_of d 1) (byte_of d 2) (byte_of d 3)
+few_bytes d Four = all_few (byte_of d 0) (byte_of d 1) (byte_of d 2) (byte_of d 3)
+
+-- of a value that is read where it lies the lines are not taken
+pub tested_made : {lo n k : ℕ} {a : List Line} (d : Option Direct) (kind : IntType) (s : Bool) (to : ℕ) → ((c : Direct) → d ≡ Some c → n ≡ 0) → Made [] lo n k a → Made (to ∷ []) lo n (k + 23) (tested_load d kind s to a)
+tested_made (Some d) kind s to idle m =
+    let few : length (own_bytes d (extent_of kind)) ≤ 4 = few_bytes d (extent_of kind) in
+    made_as (sym (idle d refl)) (made_wider (made_stretch (zero_test_quiet (own_bytes d (extent_of kind)) s to (leads_outer _ 0 to)).part (λ l. sym (among_none _ l))) (omega (arith, few)))
+tested_made None kind s to idle m = made_wider (wanted_made (Test to s) (width_of kind) m) (omega arith)
+
+handed_value : {lo n k : ℕ} {a : List Line} (same : Bool) → Made (aims (handed same Value)) lo n k a → Made [] lo n k a
+handed_value true m = m
+handed_value false m = m
+
+pub converted_made : {lo n k : ℕ} {a : List Line} (w : Wanted) (same : Bool) (to : Ty) (from : IntType) → Made (aims (handed same w)) lo n k a → Made (aims w) lo n (k + 16) (conversion_by w same to from a)
+converted_made Value same to from m = made_wider (made_behind (handed_value same m) (conversion_piece to from)) (omega arith)
+converted_made (Test l s) true to from m = made_wider m (omega arith)
+converted_made (Test l s) false to from m = made_wider (wanted_made (Test l s) (width_of (kind_of to)) (made_behind m (conversion_piece to from))) (omega arith)
+
+-- ---- truth values
+
+pub truth_made : {n k : ℕ} {a : List Line} (w : Wanted) (lo : ℕ) → Made (aimed w lo ∷ []) (inner w lo) n k a → Made (aims w) lo (truth_labels (sense_of w) + n) (k + 11) (truth_by w lo a)
+truth_made {n = n} Value lo m = made_stretch
+    (stretch_then (stretch_made m (leads_within [] (lo + 2) n lo (2 + n) (omega arith) (omega arith)) (and_from (may_lead lo (2 + n) [] lo) true (leads_inner [] lo (2 + n) lo (omega arith) (omega arith)) refl)) (truth_quiet lo (leads_inner [] lo (2 + n) (lo + 1) (omega arith) (omega arith))).part)
+    (λ l. omega (arith, among_split lo 2 n l, among_split lo 1 1 l, among_one lo l, among_one (lo + 1) l))
+truth_made {n = n} (Test to s) lo m = made_as (omega arith) (made_from (omega arith) (made_wider m (omega arith)))
+
+-- ---- `&&` and `||`
+
+pub joined_made : {na nb j k : ℕ} {a b : List Line} (straight : Bool) (to own : ℕ) → Made (way straight to own ∷ []) (own + way_labels straight) na j a → Made (to ∷ []) (own + way_labels straight + na) nb k b → Made (to ∷ []) own (way_labels straight + (na + nb)) (j + k) (joined straight own a b)
+joined_made {na = na} {nb = nb} true to own ma mb = made_wider (made_stretch
+    (stretch_then (stretch_made ma (leads_within (to ∷ []) (own + 0) na own (0 + (na + nb)) (omega arith) (omega arith)) (and_from (may_lead own (0 + (na + nb)) (to ∷ []) to) true (leads_outer own (0 + (na + nb)) to) refl))
+    (stretch_then (stretch_made mb (leads_within (to ∷ []) (own + 0 + na) nb own (0 + (na + nb)) (omega arith) (omega arith)) (and_from (may_lead own (0 + (na + nb)) (to ∷ []) to) true (leads_outer own (0 + (na + nb)) to) refl)) (stretch_piece (piece_none 0))))
+    (λ l. omega (arith, among_split own 0 (na + nb) l, among_none own l, among_split (own + 0) na nb l)))
+    (omega arith)
+joined_made {na = na} {nb = nb} false to own ma mb = made_wider (made_stretch
+    (stretch_then (stretch_made ma (leads_within (to ∷ []) (own + 1) na own (1 + (na + nb)) (omega arith) (omega arith)) (and_from (may_lead own (1 + (na + nb)) (to ∷ []) own) true (leads_inner (to ∷ []) own (1 + (na + nb)) own (omega arith) (omega arith)) refl))
+    (stretch_then (stretch_made mb (leads_within (to ∷ []) (own + 1 + na) nb own (1 + (na + nb)) (omega arith) (omega arith)) (and_from (may_lead own (1 + (na + nb)) (to ∷ []) to) true (leads_outer own (1 + (na + nb)) to) refl)) (stretch_label own)))
+    (λ l. omega (arith, among_split own 1 (na + nb) l, among_one own l, among_split (own + 1) na nb l)))
+    (omega arith)
+
+-- ---- comparisons
+
+-- no labels
+none_among : (lo n l : ℕ) → n ≡ 0 → among lo n l ≡ 0
+none_among lo n l e = ap (λ (m : ℕ). among lo m l) e ∙ among_none lo l
+
+low_part : {ok : ℕ → Bool} {k : ℕ} {a : List Line} (lo n : ℕ) (low : Option OperandByte) → IfRead low (n ≡ 0) → Stretch ok (among lo n) k a → Stretch ok (among lo n) (k + 4) (low_code low a)
+low_part lo n None none p = stretch_wider p (omega arith)
+low_part lo n (Some d) none p = stretch_wider (stretch_as (λ l. sym (none_among lo n l none)) (loaded_quiet d).part) (omega arith)
+
+-- the label of its own, and those of both sides
+abbrev both_sides : ℕ → ℕ → ℕ → ℕ → ℕ → ℕ → ℕ
+both_sides own la na lb nb l = once_at own l + (among la na l + among lb nb l)
+
+comparison_part : {ok : ℕ → Bool} {j k : ℕ} {a b : List Line} (na nb : ℕ) (how : Comparing) (op : BinaryOp) (operands : Operands) (right : IntType) (s : Bool) (to own la lb : ℕ) → Unread how (na ≡ 0) (nb ≡ 0) → ok own ≡ true → ok to ≡ true
+    → Stretch ok (among la na) j a → Stretch ok (among lb nb) k b → Stretch ok (both_sides own la na lb nb) (j + k + 46) (comparison_by how op operands right s to own a b)
+comparison_part na nb (comparing.Truth side.Left) op operands right s to own la lb none mine other p q = stretch_wider (stretch_as (λ l. omega (arith, none_among lb nb l none)) (stretch_then p (stretch_label own))) (omega arith)
+comparison_part na nb (comparing.Truth side.Right) op operands right s to own la lb none mine other p q = stretch_wider (stretch_as (λ l. omega (arith, none_among la na l none)) (stretch_then q (stretch_label own))) (omega arith)
+comparison_part na nb (comparing.Byte side.Left low r d) op operands right s to own la lb none mine other p q =
+    stretch_wider (stretch_as (λ l. omega (arith, none_among lb nb l none.1)) (stretch_then (stretch_then (low_part la na low none.0 p) (compare_byte_quiet r d to other).part) (stretch_label own))) (omega arith)
+comparison_part na nb (comparing.Byte side.Right low r d) op operands right s to own la lb none mine other p q =
+    stretch_wider (stretch_as (λ l. omega (arith, none_among la na l none.1)) (stretch_then (stretch_then (low_part lb nb low none.0 q) (compare_byte_quiet r d to other).part) (stretch_label own))) (omega arith)
+comparison_part na nb (comparing.Whole side.Left r is_signed sides) op operands right s to own la lb none mine other p q =
+    stretch_wider (stretch_as (λ l. omega (arith, none_among lb nb l none)) (stretch_then p (compare_quiet r is_signed sides own to mine other).part)) (omega arith)
+comparison_part na nb (comparing.Whole side.Right r is_signed sides) op operands right s to own la lb none mine other p q =
+    stretch_wider (stretch_as (λ l. omega (arith, none_among la na l none)) (stretch_then q (compare_quiet r is_signed sides own to mine other).part)) (omega arith)
+comparison_part na nb comparing.Stacked op operands right s to own la lb none mine other p q =
+    let result : Piece 1 (implied Tay ∷ []) = record { plain = refl; fit = refl; size = omega arith } in
+    stretch_wider (stretch_as (λ l. omega arith) (stretch_then
+    (stretch_then p (stretch_then (stretch_piece (between_piece operands)) (stretch_then q (stretch_then (stretch_piece (behind_piece op operands right)) (stretch_then (stretch_piece result) (stretch_branch (by_sense s) to (sense_fits s) other))))))
+    (stretch_label own))) (omega arith)
+
+-- labels of an operator's own and of its operands, one behind the other
+own_and_sides : (own na nb l : ℕ) → both_sides own (own + 1) na (own + 1 + na) nb l ≡ among own (1 + (na + nb)) l
+own_and_sides own na nb l = omega (arith, among_split own 1 (na + nb) l, among_one own l, among_split (own + 1) na nb l)
+
+outer_stays : (own n to : ℕ) → list_all (may_lead own n (to ∷ [])) (to ∷ []) ≡ true
+outer_stays own n to = and_from (may_lead own n (to ∷ []) to) true (leads_outer own n to) refl
+
+pub comparison_made : {na nb j k : ℕ} {a b : List Line} (how : Comparing) (op : BinaryOp) (operands : Operands) (right : IntType) (s : Bool) (to own : ℕ) → Unread how (na ≡ 0) (nb ≡ 0)
+    → Made (to ∷ []) (own + 1) na j a → Made (to ∷ []) (own + 1 + na) nb k b → Made (to ∷ []) own (1 + (na + nb)) (j + k + 46) (comparison_by how op operands right s to own a b)
+comparison_made {na = na} {nb = nb} how op operands right s to own none ma mb =
+    let n : ℕ = 1 + (na + nb) in
+    made_stretch (comparison_part na nb how op operands right s to own (own + 1) (own + 1 + na) none (leads_inner (to ∷ []) own n own (omega arith) (omega arith)) (leads_outer own n to)
+    (stretch_made ma (leads_within (to ∷ []) (own + 1) na own n (omega arith) (omega arith)) (outer_stays own n to))
+    (stretch_made mb (leads_within (to ∷ []) (own + 1 + na) nb own n (omega arith) (omega arith)) (outer_stays own n to)))
+    (own_and_sides own na nb)
+
+-- ---- operators that give a number or a pointer
+
+operator_part : {ok : ℕ → Bool} {j k : ℕ} {a b : List Line} (na nb : ℕ) (how : Operating) (op : BinaryOp) (operands : Operands) (right : IntType) (own la lb : ℕ) → Unused how (na ≡ 0) (nb ≡ 0) → ok own ≡ true
+    → Stretch ok (among la na) j a → Stretch ok (among lb nb) k b → Stretch ok (both_sides own la na lb nb) (j + k + 113) (operator_by how op operands right own a b)
+operator_part na nb (operating.Left form) op operands right own la lb small mine p q = stretch_wider (stretch_as (λ l. omega (arith, none_among lb nb l small.1)) (stretch_then p (form_quiet form own mine small.0).part)) (omega arith)
+operator_part na nb (operating.Right form) op operands right own la lb small mine p q = stretch_wider (stretch_as (λ l. omega (arith, none_among la na l small.1)) (stretch_then q (form_quiet form own mine small.0).part)) (omega arith)
+operator_part na nb operating.Stacked op operands right own la lb small mine p q =
+    stretch_wider (stretch_as (λ l. omega arith) (stretch_then (stretch_then p (stretch_then (waiting_part operands) (stretch_then q (stacked_part op operands right)))) (stretch_label own))) (omega (arith, stacked_sizes operands))
+
+pub operator_made : {na nb j k : ℕ} {a b : List Line} (how : Operating) (op : BinaryOp) (operands : Operands) (right : IntType) (own : ℕ) → Unused how (na ≡ 0) (nb ≡ 0)
+    → Made [] (own + 1) na j a → Made [] (own + 1 + na) nb k b → Made [] own (1 + (na + nb)) (j + k + 113) (operator_by how op operands right own a b)
+operator_made {na = na} {nb = nb} how op operands right own small ma mb =
+    let n : ℕ = 1 + (na + nb) in
+    made_stretch (operator_part na nb how op operands right own (own + 1) (own + 1 + na) small (leads_inner [] own n own (omega arith) (omega arith))
+    (stretch_made ma (leads_within [] (own + 1) na own n (omega arith) (omega arith)) refl) (stretch_made mb (leads_within [] (own + 1 + na) nb own n (omega arith) (omega arith)) refl))
+    (own_and_sides own na nb)
+
+-- ---- `?:`
+
+pub choice_made : {u n m i j k : ℕ} {c a b : List Line} (lo : ℕ) → Made (lo ∷ []) (lo + 2) u i c → Made [] (lo + 2 + u) n j a → Made [] (lo + 2 + u + n) m k b → Made [] lo (2 + (u + (n + m))) (i + (j + k) + 3) (c ++ (a ++ (Do Jmp Absolute (To (lo + 1)) ∷ Label lo ∷ (b ++ Label (lo + 1) ∷ []))))
+choice_made {u = u} {n = n} {m = m} lo mc ma mb =
+    let count : ℕ = 2 + (u + (n + m)) in
+    let first : may_lead lo count [] lo ≡ true = leads_inner [] lo count lo (omega arith) (omega arith) in
+    made_wider (made_stretch
+    (stretch_then (stretch_made mc (leads_within [] (lo + 2) u lo count (omega arith) (omega arith)) (and_from (may_lead lo count [] lo) true first refl))
+    (stretch_then (stretch_made ma (leads_within [] (lo + 2 + u) n lo count (omega arith) (omega arith)) refl) (stretch_then (stretch_jump (lo + 1) (leads_inner [] lo count (lo + 1) (omega arith) (omega arith))) (stretch_then (stretch_label lo)
+    (stretch_then (stretch_made mb (leads_within [] (lo + 2 + u + n) m lo count (omega arith) (omega arith)) refl) (stretch_label (lo + 1)))))))
+    (λ l. omega (arith, among_split lo 2 (u + (n + m)) l, among_split (lo + 2) u (n + m) l, among_split (lo + 2 + u) n m l, among_split lo 1 1 l, among_one lo l, among_one (lo + 1) l)))
+    (omega arith)
