@@ -34,7 +34,7 @@ use Rattle.c65_genshift.specs.declared.quick.Quick.{Quick}
 use Rattle.c65_genshift.specs.declared.quick.Quick.TheVariants.{Shift, Mask}
 use Rattle.c65_genshift.specs.Shifts.{one_of, calls_code, turns_code, left_turn, right_turn, shift_a, left_byte_code, right_byte_code, left_one_code, left_two_code, left_three_code, right_one_code, right_two_code, right_three_code, labelled, left_word_code, right_word_code, left_long_code, right_long_code, shift_code}
 use Rattle.c65_genshift.specs.Quick.{power_of, mask_word_code, mask_high_code, mask_long_code, mask_by_width, quick_lines, quick_code, elements_by, elements_code}
-use Rattle.c65_mach.specs.declared.rows.Op.TheVariants.{Adc, Asl, Bne, Cmp, Cpx, Lda, Ldx, Lsr, Ora, Sbc, Sta, Tax, Txa}
+use Rattle.c65_mach.specs.declared.rows.Op.TheVariants.{Asl, Bne, Cmp, Cpx, Dey, Lda, Ldx, Ldy, Lsr, Ora, Sbc, Sec, Stx, Sty, Tax}
 use Rattle.c65_code.specs.declared.routine.Routine.TheVariants.{Unary}
 use Rattle.c65_genwide.specs.Lines.{value, call}
 use Rattle.c65_genload.specs.Words.{sreg, tmp1, tmp2, implied, zero_page, branch}
@@ -143,17 +143,17 @@ word_well n op low high l h k room =
     well_if n (is_number 0 high) _ _ (well_append n (first_byte_code op low) _ (first_byte_well n op low h) (onward_well n op l room))
     (well_if n (is_and op && is_number 255 high) _ _ (first_byte_well n op low h) (well_append n (both_bytes_code op low high) _ (both_bytes_well n op low high h k) (end_well n op l room)))
 
--- what is left of a byte that is above 0
-taken_when : (n m l : ℕ) (b : Bool) (other : List Line) → b ≡ (second m == 255 && nat_lt 0 (first m)) → l < 2 ^ 32 → AllWell n other → AllWell n (if b then word_code ops.Sub (bytes.Number (256 - first m)) (bytes.Number 0) l else other)
-taken_when n m l true other is room h = word_well n ops.Sub (bytes.Number (256 - first m)) (bytes.Number 0) l (above_zero m (and_right (second m == 255) (nat_lt 0 (first m)) is)) (omega arith) room
-taken_when n m l false other is room h = h
-
 and_right : (a b : Bool) → true ≡ (a && b) → b ≡ true
 and_right true true is = refl
 and_right a b is = absurd cc
 
 above_zero : (m : ℕ) → nat_lt 0 (first m) ≡ true → 256 - first m < 2 ^ 8
 above_zero m is = omega (arith, ltb-true 0 (first m) is)
+
+-- what is left of a byte that is above 0
+taken_when : (n m l : ℕ) (b : Bool) (other : List Line) → b ≡ (second m == 255 && nat_lt 0 (first m)) → l < 2 ^ 32 → AllWell n other → AllWell n (if b then word_code ops.Sub (bytes.Number (256 - first m)) (bytes.Number 0) l else other)
+taken_when n m l true other is room h = word_well n ops.Sub (bytes.Number (256 - first m)) (bytes.Number 0) l (above_zero m (and_right (second m == 255) (nat_lt 0 (first m)) is)) (omega arith) room
+taken_when n m l false other is room h = h
 
 pub add_number_well : (n m l : ℕ) → l < 2 ^ 32 → AllWell n (add_number_code m l)
 add_number_well n m l room = well_if n (m % 65536 == 0) (Label l ∷ []) _ (label_one n l room) (taken_when n m l (second m == 255 && nat_lt 0 (first m)) _ refl room (word_well n ops.Add (bytes.Number (first m)) (bytes.Number (second m)) l (omega arith) (omega arith) room))
@@ -162,7 +162,7 @@ pub taken_from_well : (n : ℕ) (low high : OperandByte) → WellByte n low → 
 taken_from_well n low high h k =
     let last : AllWell n (zero_page Sbc tmp2 ∷ implied Tax ∷ back high ∷ []) = record { all = search rules } in
     let second_byte : AllWell n (op_of Lda high ++ (zero_page Sbc tmp2 ∷ implied Tax ∷ back high ∷ [])) = well_append n (op_of Lda high) _ (op_well n Lda high k) last in
-    let first_byte : AllWell n (op_of Lda low ++ (implied _ ∷ zero_page Sbc tmp1 ∷ aside high ∷ (op_of Lda high ++ (zero_page Sbc tmp2 ∷ implied Tax ∷ back high ∷ [])))) = well_append n (op_of Lda low) _ (op_well n Lda low h) (well_more n _ _ (tt, tt) (well_more n _ _ (tt, omega arith) (well_more n _ _ (tt, tt) second_byte))) in
+    let first_byte : AllWell n (op_of Lda low ++ (implied Sec ∷ zero_page Sbc tmp1 ∷ aside high ∷ (op_of Lda high ++ (zero_page Sbc tmp2 ∷ implied Tax ∷ back high ∷ [])))) = well_append n (op_of Lda low) _ (op_well n Lda low h) (well_more n _ _ (tt, tt) (well_more n _ _ (tt, omega arith) (well_more n _ _ (tt, tt) second_byte))) in
     well_more n _ _ (tt, omega arith) (well_more n _ _ (tt, omega arith) first_byte)
 
 pub long_mask_well : (n : ℕ) (op : BinaryOp) (m : ℕ) → AllWell n (long_mask_code op m)
@@ -185,9 +185,9 @@ lowest_well n _ low h = op_well n Cmp low h
 difference_well : (n : ℕ) (r : Relation) (s : Sides) → WellSides n s → AllWell n (difference_code r s)
 difference_well n r (Word low high) h = well_append n (lowest_code r low) _ (lowest_well n r low h.0) (well_more n _ _ (tt, tt) (op_well n Sbc high h.1))
 difference_well n r (Long d0 d1 d2 d3) h =
-    let last : AllWell n (zero_page Lda (sreg + 1) ∷ op_of Sbc d3) = well_more n _ _ (tt, omega arith) (op_well n Sbc d3 h.3) in
-    let third_byte : AllWell n (zero_page Lda sreg ∷ (op_of Sbc d2 ++ (zero_page Lda (sreg + 1) ∷ op_of Sbc d3))) = well_more n _ _ (tt, omega arith) (well_append n (op_of Sbc d2) _ (op_well n Sbc d2 h.2) last) in
-    well_append n (lowest_code r d0) _ (lowest_well n r d0 h.0) (well_more n _ _ (tt, tt) (well_append n (op_of Sbc d1) _ (op_well n Sbc d1 h.1) third_byte))
+    let last : AllWell n (zero_page Lda (sreg + 1) ∷ op_of Sbc d3) = well_more n _ _ (tt, omega arith) (op_well n Sbc d3 h.1.1.1) in
+    let third_byte : AllWell n (zero_page Lda sreg ∷ (op_of Sbc d2 ++ (zero_page Lda (sreg + 1) ∷ op_of Sbc d3))) = well_more n _ _ (tt, omega arith) (well_append n (op_of Sbc d2) _ (op_well n Sbc d2 h.1.1.0) last) in
+    well_append n (lowest_code r d0) _ (lowest_well n r d0 h.0) (well_more n _ _ (tt, tt) (well_append n (op_of Sbc d1) _ (op_well n Sbc d1 h.1.0) third_byte))
 
 order_well : (n : ℕ) (r : Relation) (signed : Bool) (l to : ℕ) → l < 2 ^ 32 → to < 2 ^ 32 → AllWell n (order_code r signed l to)
 order_well n r signed l to room low = well_if n signed _ _ (record { all = ((tt, room), ((tt, omega arith), (room, ((tt, low), tt)))) }) (record { all = (room, ((tt, low), tt)) })
@@ -198,9 +198,9 @@ second_well n byte h = well_if n (takes_y byte) _ _ (well_more n _ _ (tt, tt) (o
 same_well : (n : ℕ) (s : Sides) (to : ℕ) → WellSides n s → to < 2 ^ 32 → AllWell n (same_code s to)
 same_well n (Word low high) to h room = well_append n (op_of Cmp low) _ (op_well n Cmp low h.0) (well_more n _ _ (tt, room) (second_well n high h.1))
 same_well n (Long d0 d1 d2 d3) to h room =
-    let last : AllWell n (branch Bne to ∷ zero_page Lda (sreg + 1) ∷ op_of Cmp d3) = well_more n _ _ (tt, room) (well_more n _ _ (tt, omega arith) (op_well n Cmp d3 h.3)) in
-    let third_byte : AllWell n (branch Bne to ∷ zero_page Lda sreg ∷ (op_of Cmp d2 ++ (branch Bne to ∷ zero_page Lda (sreg + 1) ∷ op_of Cmp d3))) = well_more n _ _ (tt, room) (well_more n _ _ (tt, omega arith) (well_append n (op_of Cmp d2) _ (op_well n Cmp d2 h.2) last)) in
-    well_append n (op_of Cmp d0) _ (op_well n Cmp d0 h.0) (well_more n _ _ (tt, room) (well_append n (second_code d1) _ (second_well n d1 h.1) third_byte))
+    let last : AllWell n (branch Bne to ∷ zero_page Lda (sreg + 1) ∷ op_of Cmp d3) = well_more n _ _ (tt, room) (well_more n _ _ (tt, omega arith) (op_well n Cmp d3 h.1.1.1)) in
+    let third_byte : AllWell n (branch Bne to ∷ zero_page Lda sreg ∷ (op_of Cmp d2 ++ (branch Bne to ∷ zero_page Lda (sreg + 1) ∷ op_of Cmp d3))) = well_more n _ _ (tt, room) (well_more n _ _ (tt, omega arith) (well_append n (op_of Cmp d2) _ (op_well n Cmp d2 h.1.1.0) last)) in
+    well_append n (op_of Cmp d0) _ (op_well n Cmp d0 h.0) (well_more n _ _ (tt, room) (well_append n (second_code d1) _ (second_well n d1 h.1.0) third_byte))
 
 -- where the bytes are the same, or are not
 end_same : (n : ℕ) (op : Op) (l to : ℕ) → l < 2 ^ 32 → to < 2 ^ 32 → AllWell n (branch op to ∷ Label l ∷ [])
@@ -253,10 +253,13 @@ calls_well n op w m = repeated_well n m _ tt
 shifts_well : (n m : ℕ) (op : Op) → AllWell n (replicate m (shift_a op))
 shifts_well n m op = repeated_well n m _ (tt, tt)
 
+tmp_low : tmp1 < 2 ^ 8
+tmp_low = omega arith
+
 turns_well : (n m l : ℕ) (turn : List Line) → m < 2 ^ 8 → l < 2 ^ 32 → AllWell n turn → AllWell n (turns_code turn m l)
 turns_well n m l turn few room h =
-    let last : AllWell n (implied _ ∷ branch Bne l ∷ zero_page Ldx tmp1 ∷ []) = record { all = search (rules, room) } in
-    well_more n _ _ (tt, omega arith) (well_more n _ _ (tt, few) (well_more n _ _ room (well_append n turn _ h last)))
+    let last : AllWell n (implied Dey ∷ branch Bne l ∷ zero_page Ldx tmp1 ∷ []) = record { all = search (rules, room) } in
+    well_more n _ _ (tt, tmp_low) (well_more n _ _ (tt, few) (well_more n _ _ room (well_append n turn _ h last)))
 
 left_byte_well : (n m : ℕ) → AllWell n (left_byte_code m)
 left_byte_well n m = well_append n _ _ (shifts_well n m Asl) (record { all = search rules })
@@ -286,7 +289,7 @@ right_long_well : (n m : ℕ) → AllWell n (right_long_code m)
 right_long_well n m =
     let one : AllWell n right_one_code = record { all = search rules } in
     let two : AllWell n right_two_code = record { all = search rules } in
-    let head : AllWell n (zero_page Lda (sreg + 1) ∷ value Ldx 0 ∷ zero_page _ sreg ∷ zero_page _ (sreg + 1) ∷ []) = record { all = search rules } in
+    let head : AllWell n (zero_page Lda (sreg + 1) ∷ value Ldx 0 ∷ zero_page Stx sreg ∷ zero_page Stx (sreg + 1) ∷ []) = record { all = search rules } in
     let three : AllWell n (right_three_code (m - 24)) = well_append n _ _ head (shifts_well n (m - 24) Lsr) in
     well_if n (nat_lt m 8) _ _ (calls_well n tos.Shr Eax m) (well_if n (nat_lt m 16) _ _ (well_append n right_one_code _ one (calls_well n tos.Shr Eax (m - 8))) (well_if n (nat_lt m 24) _ _ (well_append n right_two_code _ two (calls_well n tos.Shr Eax (m - 16))) three))
 
@@ -302,7 +305,7 @@ mask_word_well n m = well_if n (second m == 0) _ (mask_code m) (record { all = s
 
 mask_long_well : (n m : ℕ) → AllWell n (mask_long_code m)
 mask_long_well n m =
-    let zeros : AllWell n (value _ 0 ∷ zero_page _ sreg ∷ zero_page _ (sreg + 1) ∷ []) = record { all = search rules } in
+    let zeros : AllWell n (value Ldy 0 ∷ zero_page Sty sreg ∷ zero_page Sty (sreg + 1) ∷ []) = record { all = search rules } in
     well_if n (nat_lt m 65536) _ _ (well_append n (mask_word_code m) _ (mask_word_well n m) zeros) (record { all = search rules })
 
 mask_width_well : (n : ℕ) (w : Width) (m : ℕ) → AllWell n (mask_by_width w m)

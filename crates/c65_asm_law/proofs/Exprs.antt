@@ -32,14 +32,15 @@ use Rattle.c65_gendirect.specs.declared.relation.Relation.{Relation}
 use Rattle.c65_gendirect.specs.Compare.{relation_of}
 use Rattle.c65_genexpr.specs.declared.wanted.Wanted.{Wanted}
 use Rattle.c65_genexpr.specs.declared.wanted.Wanted.TheVariants.{Value, Test}
-use Rattle.c65_genexpr.specs.Wanted.{sense_of, wanted_by, handed, handed_sense, value_test_code, branch_code, wanted, aimed, aimed_sense, sense, truth_labels, inner, truth_by, is_straight, way, way_labels, joined}
+use Rattle.c65_genexpr.specs.Wanted.{sense_of, decided_code, wanted_by, handed, handed_sense, value_test_code, branch_code, wanted, aimed, aimed_sense, sense, truth_labels, inner, truth_by, is_straight, way, way_labels}
+use Rattle.c65_genexpr.specs.Wanted as tests
 use Rattle.c65_genexpr.specs.declared.comparing.Comparing.{Comparing}
 use Rattle.c65_genexpr.specs.declared.comparing.Comparing.TheVariants as compared
 use Rattle.c65_genexpr.specs.declared.operating.Operating.{Operating}
 use Rattle.c65_genexpr.specs.declared.operating.Operating.TheVariants as ways
 use Rattle.c65_genexpr.specs.Direct.{kept_at, own_bytes}
-use Rattle.c65_genexpr.specs.Comparing.{relation_by, tested_by, comparing_of, below_side}
-use Rattle.c65_genexpr.specs.Operating.{operating_of, below_operand}
+use Rattle.c65_genexpr.specs.Comparing.{relation_by, tested_by, comparing_of, below_side, comparison_by}
+use Rattle.c65_genexpr.specs.Operating.{operating_of, below_operand, operator_by}
 use Rattle.c65_genexpr.specs.declared.operands.Operands.{Operands}
 use Rattle.c65_genexpr.specs.declared.operands.Operands.TheVariants.{Numbers, PointerFirst}
 use Rattle.c65_genexpr.specs.declared.arguments.Passed.{Passed}
@@ -78,22 +79,6 @@ wanted_well : (n : ℕ) (w : Wanted) (width : Width) (lines : List Line) → Wel
 wanted_well n Value width lines aim h = h
 wanted_well n (Test to s) width lines aim h = well_append n lines _ h (value_test_well n width s to aim)
 
-wanted_by_well : (s : Option Bool) (to : ℕ) → to < 2 ^ 32 → WellWanted (wanted_by s to)
-wanted_by_well None to aim = tt
-wanted_by_well (Some s) to aim = aim
-
-sense_same : (s : Option Bool) (to : ℕ) → sense_of (wanted_by s to) ≡ s
-sense_same None to = refl
-sense_same (Some s) to = refl
-
-handed_well : (same : Bool) (w : Wanted) → WellWanted w → WellWanted (handed same w)
-handed_well true w aim = aim
-handed_well false w aim = tt
-
-handed_same : (same : Bool) (w : Wanted) → sense_of (handed same w) ≡ handed_sense same (sense_of w)
-handed_same true w = refl
-handed_same false w = refl
-
 aimed_low : (w : Wanted) (lo : ℕ) → WellWanted w → lo + truth_labels (sense_of w) < 2 ^ 32 → aimed w lo < 2 ^ 32
 aimed_low Value lo aim room = omega (arith, room)
 aimed_low (Test to s) lo aim room = aim
@@ -112,13 +97,15 @@ way_low : (straight : Bool) (to own k : ℕ) → to < 2 ^ 32 → own + (way_labe
 way_low true to own k low room = low
 way_low false to own k low room = omega (arith, room)
 
-jump_one : (n to : ℕ) → to < 2 ^ 32 → AllWell n (Do Jmp Absolute (To to) ∷ [])
-jump_one n to aim = record { all = ((tt, aim), tt) }
+decided_well : (n : ℕ) (truth s : Bool) (to : ℕ) → to < 2 ^ 32 → AllWell n (decided_code truth s to)
+decided_well n true true to aim = record { all = ((tt, aim), tt) }
+decided_well n false false to aim = record { all = ((tt, aim), tt) }
+decided_well n true false to aim = well_none n
+decided_well n false true to aim = well_none n
 
 constant_well : (n : ℕ) (w : Wanted) (width : Width) (m : ℕ) → WellWanted w → AllWell n (constant_code w width m)
 constant_well n Value width m aim = number_well n width m
-constant_well n (Test to true) width m aim = well_if n (m == 0) [] _ (well_none n) (jump_one n to aim)
-constant_well n (Test to false) width m aim = well_if n (m == 0) _ [] (jump_one n to aim) (well_none n)
+constant_well n (Test to s) width m aim = decided_well n (not (m == 0)) s to aim
 
 tested_load_well : (n : ℕ) (d : Option Direct) (kind : IntType) (s : Bool) (to : ℕ) (lines : List Line) → WellRead n d → to < 2 ^ 32 → AllWell n lines → AllWell n (tested_load d kind s to lines)
 tested_load_well n (Some d) kind s to lines h aim k = zero_test_well n (own_bytes d (extent_of kind)) s to (own_well n d (extent_of kind) h) aim
@@ -163,7 +150,7 @@ callee_known n u f (node t _) i knows h is = absurd cc
 
 -- ---- nodes over lines that are given
 
-joined_well : (n : ℕ) (straight : Bool) (own : ℕ) (a b : List Line) → own + way_labels straight ≤ 2 ^ 32 → AllWell n a → AllWell n b → AllWell n (joined straight own a b)
+joined_well : (n : ℕ) (straight : Bool) (own : ℕ) (a b : List Line) → own + way_labels straight ≤ 2 ^ 32 → AllWell n a → AllWell n b → AllWell n (tests.joined straight own a b)
 joined_well n true own a b room ha hb = well_append n a _ ha (well_append n b [] hb (well_none n))
 joined_well n false own a b room ha hb =
     let low : own < 2 ^ 32 = omega (arith, room) in
@@ -207,8 +194,9 @@ tree_by n f e pushed lo None to tree few aim room = tree pushed lo Value few tt 
 tree_by n f e pushed lo (Some s) to tree few aim room = tree pushed lo (Test to s) few aim room
 
 tree_handed : (n : ℕ) (f : Framed) (e : Typed) (pushed lo : ℕ) (same : Bool) (w : Wanted) → WellTree n f e → pushed < 2 ^ 16 → WellWanted w → lo + uses (handed_sense same (sense_of w)) e ≤ 2 ^ 32 → AllWell n (expr_code f pushed lo (handed same w) e)
-tree_handed n f e pushed lo true w tree few aim room = tree pushed lo w few aim room
-tree_handed n f e pushed lo false w tree few aim room = tree pushed lo Value few tt room
+tree_handed n f e pushed lo same Value tree few aim room = tree pushed lo Value few tt room
+tree_handed n f e pushed lo true (Test to s) tree few aim room = tree pushed lo (Test to s) few aim room
+tree_handed n f e pushed lo false (Test to s) tree few aim room = tree pushed lo Value few tt room
 
 operation_well : (n : ℕ) (u : UnitTy) (f : Framed) (pushed lo : ℕ) (w : Wanted) (width : Width) (op : BinaryOp) (operands : Operands) (a b : Typed) → Knows f u n → IsTyped u a → IsTyped u b → WellTree n f a → WellTree n f b → pushed < 2 ^ 16 → WellWanted w → lo + (1 + (uses None a + uses None b)) ≤ 2 ^ 32 → AllWell n (wanted w width (operator_by (operating_of f pushed op operands a b) op operands (kind_in b) lo (expr_code f pushed (lo + 1) Value a) (expr_code f (below_operand (operating_of f pushed op operands a b) pushed (waiting (width_of (computes operands)))) (lo + 1 + uses None a) Value b)))
 operation_well n u f pushed lo w width op operands a b knows ha hb ta tb few aim room =
@@ -232,7 +220,7 @@ binary_well n u f pushed lo w width None op operands a b knows ha hb ta tb few a
 binary_well n u f pushed lo w width (Some r) op operands a b knows ha hb ta tb few aim room = comparison_in n u f pushed lo w op operands (relation_by (sense w) r) a b knows ha hb ta tb few aim room
 
 -- `&&` and `||`
-joint_well : (n : ℕ) (f : Framed) (pushed lo : ℕ) (w : Wanted) (stop straight : Bool) (a b : Typed) → WellTree n f a → WellTree n f b → pushed < 2 ^ 16 → WellWanted w → lo + (truth_labels (sense_of w) + (way_labels straight + (uses (Some stop) a + uses (Some (sense w)) b))) ≤ 2 ^ 32 → AllWell n (truth_by w lo (joined straight (inner w lo) (expr_code f pushed (inner w lo + way_labels straight) (Test (way straight (aimed w lo) (inner w lo)) stop) a) (expr_code f pushed (inner w lo + way_labels straight + uses (Some stop) a) (Test (aimed w lo) (sense w)) b)))
+joint_well : (n : ℕ) (f : Framed) (pushed lo : ℕ) (w : Wanted) (stop straight : Bool) (a b : Typed) → WellTree n f a → WellTree n f b → pushed < 2 ^ 16 → WellWanted w → lo + (truth_labels (sense_of w) + (way_labels straight + (uses (Some stop) a + uses (Some (sense w)) b))) ≤ 2 ^ 32 → AllWell n (truth_by w lo (tests.joined straight (inner w lo) (expr_code f pushed (inner w lo + way_labels straight) (Test (way straight (aimed w lo) (inner w lo)) stop) a) (expr_code f pushed (inner w lo + way_labels straight + uses (Some stop) a) (Test (aimed w lo) (sense w)) b)))
 joint_well n f pushed lo w stop straight a b ta tb few aim room =
     let to : aimed w lo < 2 ^ 32 = not_aimed w lo (way_labels straight + (uses (Some stop) a + uses (Some (sense w)) b)) aim room in
     truth_by_well n w lo _ (omega (arith, room)) (joined_well n straight (inner w lo) _ _ (omega (arith, room)) (ta pushed (inner w lo + way_labels straight) (Test (way straight (aimed w lo) (inner w lo)) stop) few (way_low straight (aimed w lo) (inner w lo) (uses (Some stop) a) to (omega (arith, room))) (omega (arith, room))) (tb pushed (inner w lo + way_labels straight + uses (Some stop) a) (Test (aimed w lo) (sense w)) few to (omega (arith, room))))

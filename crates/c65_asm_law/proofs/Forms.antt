@@ -1,5 +1,5 @@
 -- The forms of operators and comparisons: the bytes that they read can be written.
-use Rattle.std.proofs.Common.{ℕ, ◌+◌, ◌%◌, ◌<◌, ◌^◌, ◌==◌, Bool, true, false, Option, None, Some, List, [], ◌∷◌, ◌++◌, arith, rules}
+use Rattle.std.proofs.Common.{ℕ, ◌+◌, ◌*◌, ◌%◌, ◌<◌, ◌^◌, ◌==◌, Bool, true, false, Option, None, Some, List, [], ◌∷◌, ◌++◌, arith, rules}
 use Rattle.std.specs.Prelude.{if◌then◌else◌, ◌&&◌, ◌||◌, is_some, option_map, option_and_then}
 use Rattle.c65_base.specs.declared.operators.BinaryOp.{BinaryOp}
 use Rattle.c65_base.specs.declared.operators.BinaryOp.TheVariants as ops
@@ -49,8 +49,8 @@ use Rattle.c65_genexpr.specs.declared.comparing.Comparing.TheVariants as compare
 use Rattle.c65_genexpr.specs.Types.{kind_of, bare, access_of}
 use Rattle.c65_genexpr.specs.Places.{place_of}
 use Rattle.c65_genexpr.specs.Operands.{residue_of, constant_in, between_code, behind_code, negative}
-use Rattle.c65_genexpr.specs.Direct.{kept_at, address_at, address_of, takes_bytes, converted_if, direct_of, with_byte, own_bytes, is_fixed, is_pure, is_byte}
-use Rattle.c65_genexpr.specs.Comparing.{tested_by, both_bytes, all_bytes, sides_of, lowest, is_raised, raised, one_more, range_of, meeting, beside, changes, compared_by, comparing_of, on, low_code, comparison_by}
+use Rattle.c65_genexpr.specs.Direct.{kept_at, address_at, address_of, takes_bytes, converted_if, direct_of, own_bytes, is_fixed, is_pure, is_byte, both_bytes, all_bytes, sides_of, listed, alone}
+use Rattle.c65_genexpr.specs.Comparing.{tested_by, lowest, is_raised, raised, one_more, range_of, meeting, beside, changes, compared_by, comparing_of, on, low_code, comparison_by}
 use Rattle.c65_genexpr.specs.Operating.{sum_by, mask_by, number_form, offset_form, constant_form, pair_of, word_in, word_if, element_form, right_form, under_if, left_form, constant_right, direct_right, direct_left, by_left, by_right, operating_of, placed, form_code, waiting_code, stacked_code, operator_by}
 use Rattle.c65_genexpr.specs.Operating as operators
 use Rattle.c65_genexpr.specs.Wanted.{branch_code}
@@ -99,15 +99,6 @@ read_well n u f pushed (node t (decay e)) knows h = address_of_well n u f pushed
 read_well n u f pushed (node t (convert e)) knows h = converted_if_well n (takes_bytes (type_in t) (bare e)) (kind_of (type_in t)) (direct_of f pushed e) (read_well n u f pushed e knows h.0)
 read_well n u f pushed (node t _) knows h = tt
 
-with_byte_well : (n : ℕ) (byte : Option OperandByte) (ds : List OperandByte) → WellMaybe n byte → AreBytes n ds → AreBytes n (with_byte byte ds)
-with_byte_well n None ds h k = k
-with_byte_well n (Some byte) ds h k = (h, k)
-
-pub own_well : (n : ℕ) (d : Direct) (e : Extent) → WellDirect n d → AreBytes n (own_bytes d e)
-own_well n d One h = with_byte_well n (byte_of d 0) [] (byte_well n d 0 h) tt
-own_well n d Two h = with_byte_well n (byte_of d 0) _ (byte_well n d 0 h) (with_byte_well n (byte_of d 1) [] (byte_well n d 1 h) tt)
-own_well n d _ h = with_byte_well n (byte_of d 0) _ (byte_well n d 0 h) (with_byte_well n (byte_of d 1) _ (byte_well n d 1 h) (with_byte_well n (byte_of d 2) _ (byte_well n d 2 h) (with_byte_well n (byte_of d 3) [] (byte_well n d 3 h) tt)))
-
 -- ---- comparisons
 
 abbrev pub WellComparing : ℕ → Comparing → Type 0
@@ -135,6 +126,20 @@ all_bytes_well n (Some a) (Some b) (Some c) None h k l m = tt
 sides_well : (n : ℕ) (w : Width) (d : Direct) → WellDirect n d → WellSome n (sides_of w d)
 sides_well n Ax d h = both_bytes_well n (byte_of d 0) (byte_of d 1) (byte_well n d 0 h) (byte_well n d 1 h)
 sides_well n Eax d h = all_bytes_well n (byte_of d 0) (byte_of d 1) (byte_of d 2) (byte_of d 3) (byte_well n d 0 h) (byte_well n d 1 h) (byte_well n d 2 h) (byte_well n d 3 h)
+
+listed_well : (n : ℕ) (sides : Option Sides) → WellSome n sides → AreBytes n (listed sides)
+listed_well n None h = tt
+listed_well n (Some (Word low high)) h = (h.0, (h.1, tt))
+listed_well n (Some (Long d0 d1 d2 d3)) h = (h.0, (h.1.0, (h.1.1.0, (h.1.1.1, tt))))
+
+alone_well : (n : ℕ) (byte : Option OperandByte) → WellMaybe n byte → AreBytes n (alone byte)
+alone_well n None h = tt
+alone_well n (Some byte) h = (h, tt)
+
+pub own_well : (n : ℕ) (d : Direct) (e : Extent) → WellDirect n d → AreBytes n (own_bytes d e)
+own_well n d One h = alone_well n (byte_of d 0) (byte_well n d 0 h)
+own_well n d Two h = listed_well n (sides_of Ax d) (sides_well n Ax d h)
+own_well n d _ h = listed_well n (sides_of Eax d) (sides_well n Eax d h)
 
 lowest_well : (n : ℕ) (sides : Sides) → WellSides n sides → WellByte n (lowest sides)
 lowest_well n (Word low high) h = h.0
@@ -274,7 +279,9 @@ left_well n ops.Sub (Numbers kind) low high h k = under_if_well n (width_of kind
 left_well n op (Numbers kind) low high h k = word_if_well n (operators.takes_bytes op) op (width_of kind) low high h k
 left_well n ops.Add (PointerFirst size) low high h k = (h, k)
 left_well n _ (PointerFirst size) low high h k = tt
-left_well n op (PointerLast size) low high h k = tt
+left_well n ops.Sub (PointerLast size) low high h k = tt
+left_well n ops.Add (PointerLast size) low high h k = tt
+left_well n _ (PointerLast size) low high h k = tt
 left_well n ops.Sub (Pointers size) low high h k = (h, k)
 left_well n _ (Pointers size) low high h k = tt
 

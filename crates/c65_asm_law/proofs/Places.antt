@@ -130,7 +130,6 @@ conversion_well n (function g) from = convert_well n from ints.UInt
 pub unary_well : (n : ℕ) (op : UnaryOp) (w : Width) → AllWell n (unary_code op w)
 unary_well n unary.Neg w = record { all = (tt, tt) }
 unary_well n unary.BitNot w = record { all = (tt, tt) }
-unary_well n unary.Not w = record { all = (tt, tt) }
 unary_well n _ w = well_none n
 
 pub between_well : (n : ℕ) (operands : Operands) → AllWell n (between_code operands)
