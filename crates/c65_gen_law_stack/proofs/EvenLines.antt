@@ -15,7 +15,7 @@ use Rattle.c65_code.specs.Access.{is_written}
 use Rattle.c65_mach.specs.Step.{kind_of}
 use Rattle.c65_genload.specs.Words.{branch}
 use Rattle.c65_gen_law_lines.proofs.Made.{is_plain}
-use Rattle.c65_gen_law_lines.proofs.StackPieces.{Still, leaves_none}
+use Rattle.c65_gen_law_lines.proofs.Leaves.{Still, leaves_none}
 use Rattle.c65_gen_law_stack.specs.Bank.{lies_outside}
 use Rattle.c65_gen_law_stack.proofs.Levels.{Level, level_then, level_end, level_piece, level_label, level_leads}
 use Rattle.c65_gen_law_stack.proofs.BankPieces.{Clear, clear_then, clear_none}

@@ -30,7 +30,7 @@ use Rattle.c65_genexpr.specs.Operands.{residue_of, constant_in}
 use Rattle.c65_genexpr.specs.Direct.{kept_at, address_at, address_of, takes_bytes, converted_if, sides_of, direct_of, is_fixed, is_pure, is_byte}
 use Rattle.c65_genexpr.specs.Comparing.{is_zero, zero_sense, tested_by, is_raised, raised, one_more, range_of, meeting, beside, changes, compared_by, comparing_of}
 use Rattle.c65_genexpr.specs.Operating.{constant_form, word_in, right_form, left_form, constant_right, direct_right, direct_left, by_left, by_right, operating_of}
-use Rattle.c65_gen_law_lines.proofs.ExprLaws.{moved_known}
+use Rattle.c65_gen_law_lines.proofs.Drops.{moved_known}
 
 -- what holds of objects, constants and addresses, and with a tree of its parts, conversions and addresses
 pub record Passes (P : Typed → Type 0) : Type 0 where
