@@ -69,7 +69,7 @@ pub record Idle (f : Framed) (e : Typed) : Type 0 where
   pub uses : uses None e ≡ 0
   pub calls : calls_of f e ≡ []
 
-kept_known : (p : Place) (access : Access) (d : Direct) → kept_at p access ≡ Some d → IsKnown p
+pub kept_known : (p : Place) (access : Access) (d : Direct) → kept_at p access ≡ Some d → IsKnown p
 kept_known (places.Bank b) access d h = tt
 kept_known (places.Near at) access d h = tt
 kept_known (places.Data s at) access d h = tt

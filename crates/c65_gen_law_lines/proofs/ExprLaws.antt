@@ -1,19 +1,16 @@
 -- The lines of an expression: its labels, its size, and the form of each line.
-use Rattle.std.proofs.Common.{◌≡◌, ℕ, ◌+◌, ◌-◌, ◌*◌, ◌≤◌, Bool, true, false, Option, None, Some, List, [], ◌∷◌, ◌++◌, refl, sym, arith}
-use Rattle.c65_base.specs.declared.operators.BinaryOp.{BinaryOp}
+use Rattle.std.proofs.Common.{◌≡◌, ℕ, ◌+◌, ◌-◌, ◌*◌, ◌≤◌, Bool, true, false, not, Option, None, Some, List, [], ◌∷◌, ◌++◌, refl, sym, ap, arith}
 use Rattle.std.specs.Prelude.{nat_lt}
+use Rattle.c65_base.specs.declared.operators.BinaryOp.{BinaryOp}
+use Rattle.c65_base.specs.declared.operators.UnaryOp.{UnaryOp}
+use Rattle.c65_base.specs.declared.operators.UnaryOp.TheVariants as unary_ops
 use Rattle.c65_ints.specs.declared.types.IntType.{IntType}
 use Rattle.c65_ints.specs.declared.types.IntType.TheVariants as ints
 use Rattle.c65_ctype.specs.Trees.{QTy, TypesTy, type_in}
 use Rattle.c65_ctype.specs.Views.{types_of}
 use Rattle.c65_csem.specs.Trees.{Typed, node, Node, constant, null, literal, object, func, deref, member, load, address, decay, convert, unary, binary, both, either, choice, comma, assign, assign_op, assign_step, step, copy, call, pack, spill, rest as further, Nodes, none, some}
-use Rattle.c65_mach.specs.declared.rows.Op.TheVariants.{Beq, Bne, Jmp}
-use Rattle.c65_mach.specs.declared.rows.Mode.TheVariants.{Absolute, Relative}
-use Rattle.c65_code.specs.declared.line.Operand.TheVariants.{To}
 use Rattle.c65_code.specs.declared.line.Line.{Line}
-use Rattle.c65_code.specs.declared.line.Line.TheVariants.{Label, Do}
 use Rattle.c65_code.specs.declared.routine.Width.TheVariants.{Ax}
-use Rattle.c65_code.specs.Segments.{is_fit}
 use Rattle.c65_genframe.specs.Symbols.{numbers_of, literal_symbol, function_symbol}
 use Rattle.c65_genframe.specs.Frames.{Framed, type_bytes}
 use Rattle.c65_genwide.specs.Wide.{width_of}
@@ -21,26 +18,39 @@ use Rattle.c65_genload.specs.declared.places.Place.{Place}
 use Rattle.c65_genload.specs.declared.places.Place.TheVariants as places
 use Rattle.c65_genload.specs.declared.places.Access.{Access}
 use Rattle.c65_genload.specs.declared.places.Access.TheVariants.{Whole, Part}
-use Rattle.c65_genload.specs.Words.{branch}
 use Rattle.c65_genload.specs.Places.{held, extent_by}
-use Rattle.c65_genload.specs.Conversions.{push_code, waiting, size_of}
+use Rattle.c65_genload.specs.Places as loads
+use Rattle.c65_genload.specs.Conversions.{waiting, size_of}
 use Rattle.c65_genload.specs.Loads.{hold_code}
 use Rattle.c65_genload.specs.Stores.{store_code}
+use Rattle.c65_gendirect.specs.declared.relation.Relation.{Relation}
+use Rattle.c65_gendirect.specs.Compare.{relation_of}
 use Rattle.c65_genexpr.specs.declared.types.Outcome.{Outcome}
 use Rattle.c65_genexpr.specs.declared.operands.Operands.{Operands}
 use Rattle.c65_genexpr.specs.declared.operands.Operands.TheVariants.{Numbers, PointerFirst}
+use Rattle.c65_genexpr.specs.declared.comparing.Comparing.{Comparing}
+use Rattle.c65_genexpr.specs.declared.operating.Operating.{Operating}
+use Rattle.c65_genexpr.specs.declared.wanted.Wanted.{Wanted}
+use Rattle.c65_genexpr.specs.declared.wanted.Wanted.TheVariants.{Value, Test}
 use Rattle.c65_genexpr.specs.Types.{kind_of, outcome_of, kind_in, bare, offset_at, bits_at, field_or, access_of, target_bytes}
-use Rattle.c65_genexpr.specs.Places.{more, moved, place_of, object_code, IsKnown}
-use Rattle.c65_genexpr.specs.Operands.{residue_of, operands_of, computes, is_short, short_in, short_of, between_code, behind_code, short_code, binary_by}
-use Rattle.c65_genexpr.specs.Steps.{amount_of, open_code, close_code}
+use Rattle.c65_genexpr.specs.Places.{more, place_of, object_code, IsKnown}
+use Rattle.c65_genexpr.specs.Operands.{residue_of, operands_of, computes, unary_code, same_truth}
+use Rattle.c65_genexpr.specs.Direct.{kept_at}
+use Rattle.c65_genexpr.specs.Wanted.{sense_of, wanted_by, handed, handed_sense, wanted, aimed, sense, truth_labels, inner, truth_by, is_straight, way, way_labels}
+use Rattle.c65_genexpr.specs.Comparing.{relation_by, tested_by, comparing_of, below_side}
+use Rattle.c65_genexpr.specs.Operating.{operating_of, below_operand}
+use Rattle.c65_genexpr.specs.Steps.{amount_of}
 use Rattle.c65_genexpr.specs.Arguments.{is_fast, is_counted, stays, passed_size, passed_of, argument_bytes}
 use Rattle.c65_genexpr.specs.Calls.{named}
-use Rattle.c65_genexpr.specs.Uses.{unless_named, uses, node_uses, args_uses}
-use Rattle.c65_genexpr.specs.Code.{target_code, truth_code, behind_open, compound, call_by, expr_code, node_code, args_code}
+use Rattle.c65_genexpr.specs.Uses.{unless_named, by_relation, uses, node_uses, args_uses, comparison_uses}
+use Rattle.c65_genexpr.specs.Code.{target_code, width_in, load_by, behind_open, compound, call_by, expr_code, node_code, args_code, operator_code, comparison_code}
 use Rattle.c65_gen_law_lines.specs.Bulk.{nodes, nodes_in}
+use Rattle.c65_gen_law_lines.specs.Labels.{aims}
 use Rattle.c65_gen_law_lines.specs.Laws.{ExpressionsOwnTheirLabels, ExpressionsAreSmall, ExpressionsAreFit}
-use Rattle.c65_gen_law_lines.proofs.Made.{Leads, leads_wider, leads_append, leads_plain, leads_to, times-append, size-append, plain_times, among_split, among_one, all_append, Piece, Made, made_piece, made_append, made_behind, made_before, made_wider, made_as, made_none}
-use Rattle.c65_gen_law_lines.proofs.Pieces.{by_access, passing_by, passing, part_piece, spill_piece, further_piece, number_piece, symbol_piece, object_piece, offset_piece, load_piece, conversion_piece, unary_piece, between_piece, behind_piece, short_piece, push_piece, test_piece, hold_piece, store_piece, copy_piece, step_piece, open_piece, close_piece, named_piece, pointer_piece, argument_piece, direct_piece}
+use Rattle.c65_gen_law_lines.proofs.Made.{Made, made_piece, made_append, made_behind, made_before, made_wider, made_as, made_none}
+use Rattle.c65_gen_law_lines.proofs.Pieces.{by_access, passing_by, passing, part_piece, spill_piece, further_piece, symbol_piece, object_piece, offset_piece, load_piece, unary_piece, push_piece, hold_piece, store_piece, copy_piece, step_piece, open_piece, close_piece, named_piece, pointer_piece, argument_piece, direct_piece}
+use Rattle.c65_gen_law_lines.proofs.Drops.{kept_known, known_uses, comparing_uses, operating_uses}
+use Rattle.c65_gen_law_lines.proofs.Wants.{made_closed, wanted_made, constant_made, tested_made, converted_made, truth_made, joined_made, comparison_made, operator_made, choice_made}
 
 -- ---- places that are known
 
@@ -163,8 +173,37 @@ load_made (Test to s) place access known le m = made_wider (tested_made (kept_at
 leaf : {outside : List ℕ} {lo k : ℕ} {code : List Line} (e : Typed) → k + 3 ≤ 128 → slack e ≡ 0 → Made outside lo 0 k code → Made outside lo 0 (room e) code
 leaf e le flat m = made_wider m (omega (arith, some_nodes e))
 
-abbrev sub : Wanted → Option Bool
-sub w = sense_of w
+handed_is : (same : Bool) (w : Wanted) → sense_of (handed same w) ≡ handed_sense same (sense_of w)
+handed_is true w = refl
+handed_is false w = refl
+
+unary_made : {lo : ℕ} {code : List Line} (w : Wanted) (t : QTy) (op : UnaryOp) (e : Typed) → Made [] lo (uses None e) (room e) code → Made (aims w) lo (uses None e) (room (node t (unary op e))) (wanted w (width_in t) (code ++ unary_code op (width_of (kind_in e))))
+unary_made w t op e m = made_wider (wanted_made w (width_in t) (made_behind m (unary_piece op (width_of (kind_in e))))) (omega (arith, some_nodes e))
+
+-- a side of which a value or a test is wanted
+tested_side : {lo k : ℕ} {code : List Line} (e : Typed) (s : Option Bool) (to : ℕ) → Made (aims (wanted_by s to)) lo (uses (sense_of (wanted_by s to)) e) k code → Made (to ∷ []) lo (uses s e) k code
+tested_side e None to m = made_closed (to ∷ []) m
+tested_side e (Some s) to m = m
+
+-- the lines of an expression for each place of its labels and whatever is wanted
+abbrev Parts : Framed → Typed → Type 0
+Parts f e = (pushed lo : ℕ) (w : Wanted) → Made (aims w) lo (uses (sense_of w) e) (room e) (expr_code f pushed lo w e)
+
+binary_made : (f : Framed) (pushed lo : ℕ) (w : Wanted) (t : QTy) (op : BinaryOp) (a b : Typed) → Parts f a → Parts f b → (r : Option Relation)
+    → Made (aims w) lo (by_relation r (1 + (uses None a + uses None b)) (λ q. truth_labels (sense_of w) + comparison_uses (relation_by (sense w) q) a b)) (room (node t (binary op a b)))
+    (by_relation r (wanted w (width_in t) (operator_code f pushed lo op a b)) (λ q. truth_by w lo (comparison_code f pushed (inner w lo) (aimed w lo) (sense w) op q a b)))
+binary_made f pushed lo w t op a b ma mb None =
+    let operands : Operands = operands_of f (bare a) (bare b) in
+    let how : Operating = operating_of f pushed op operands a b in
+    made_wider (wanted_made w (width_in t) (operator_made how op operands (kind_in b) lo (operating_uses f pushed op operands a b) (ma pushed (lo + 1) Value) (mb (below_operand how pushed (waiting (width_of (computes operands)))) (lo + 1 + uses None a) Value))) (omega (arith, some_nodes a, some_nodes b))
+binary_made f pushed lo w t op a b ma mb (Some r) =
+    let operands : Operands = operands_of f (bare a) (bare b) in
+    let q : Relation = relation_by (sense w) r in
+    let how : Comparing = comparing_of f pushed q (computes operands) a b in
+    let to : ℕ = aimed w lo in
+    let own : ℕ = inner w lo in
+    made_wider (truth_made w lo (comparison_made how op operands (kind_in b) (sense w) to own (comparing_uses f pushed q (computes operands) a b)
+    (tested_side a (tested_by q b) to (ma pushed (own + 1) (wanted_by (tested_by q b) to))) (tested_side b (tested_by q a) to (mb (below_side how pushed (waiting (width_of (computes operands)))) (own + 1 + uses (tested_by q b) a) (wanted_by (tested_by q a) to))))) (omega (arith, some_nodes a, some_nodes b))
 
 mutual
   pub expr_made : (f : Framed) (pushed lo : ℕ) (w : Wanted) (e : Typed) → Made (aims w) lo (uses (sense_of w) e) (room e) (expr_code f pushed lo w e)
@@ -188,19 +227,12 @@ mutual
       let same : Bool = same_truth (type_in t) (bare e) in
       made_as (ap (λ s. uses s e) (handed_is same w)) (made_wider (converted_made w same (type_in t) (kind_in e) (expr_made f pushed lo (handed same w) e)) (omega (arith, some_nodes e)))
   node_made f pushed lo w t (unary unary_ops.Not e) = made_wider (truth_made w lo (expr_made f pushed (inner w lo) (Test (aimed w lo) (not (sense w))) e)) (omega (arith, some_nodes e))
-  node_made f pushed lo w t (unary unary_ops.Neg e) = unary_made w (width_in t) unary_ops.Neg e (expr_made f pushed lo Value e)
-  node_made f pushed lo w t (unary unary_ops.BitNot e) = unary_made w (width_in t) unary_ops.BitNot e (expr_made f pushed lo Value e)
-  node_made f pushed lo w t (unary unary_ops.Plus e) = unary_made w (width_in t) unary_ops.Plus e (expr_made f pushed lo Value e)
-  node_made f pushed lo w t (unary unary_ops.Deref e) = unary_made w (width_in t) unary_ops.Deref e (expr_made f pushed lo Value e)
-  node_made f pushed lo w t (unary unary_ops.Address e) = unary_made w (width_in t) unary_ops.Address e (expr_made f pushed lo Value e)
-  node_made f pushed lo w t (binary op a b) = relation_made (relation_of op)
-    where
-      operands : Operands
-      operands = operands_of f (bare a) (bare b)
-
-      relation_made : (r : Option Relation) → Made (aims w) lo (by_relation r _ _) (room (node t (binary op a b))) (by_relation r _ _)
-      relation_made None = ?
-      relation_made (Some r) = ?
+  node_made f pushed lo w t (unary unary_ops.Neg e) = unary_made w t unary_ops.Neg e (expr_made f pushed lo Value e)
+  node_made f pushed lo w t (unary unary_ops.BitNot e) = unary_made w t unary_ops.BitNot e (expr_made f pushed lo Value e)
+  node_made f pushed lo w t (unary unary_ops.Plus e) = unary_made w t unary_ops.Plus e (expr_made f pushed lo Value e)
+  node_made f pushed lo w t (unary unary_ops.Deref e) = unary_made w t unary_ops.Deref e (expr_made f pushed lo Value e)
+  node_made f pushed lo w t (unary unary_ops.Address e) = unary_made w t unary_ops.Address e (expr_made f pushed lo Value e)
+  node_made f pushed lo w t (binary op a b) = binary_made f pushed lo w t op a b (λ p l v. expr_made f p l v a) (λ p l v. expr_made f p l v b) (relation_of op)
   node_made f pushed lo w t (both a b) =
       let straight : Bool = is_straight false (sense w) in
       let own : ℕ = inner w lo in

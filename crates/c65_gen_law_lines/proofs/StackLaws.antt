@@ -1,14 +1,16 @@
 -- An expression's lines leave what waits, and each call takes away what was passed to it.
-use Rattle.std.proofs.Common.{◌≡◌, ℕ, ◌+◌, ◌%◌, ◌==◌, Bool, true, false, Option, None, Some, List, [], ◌∷◌, ◌++◌, refl, sym, ◌∙◌, ap, subst, arith}
+use Rattle.std.proofs.Common.{◌≡◌, ℕ, ◌+◌, ◌%◌, ◌==◌, Bool, true, false, not, Option, None, Some, List, [], ◌∷◌, ◌++◌, refl, sym, ◌∙◌, ap, subst, arith}
 use Rattle.std.specs.Prelude.{if◌then◌else◌}
 use Rattle.std.proofs.lemmas.Bool.{eq-eqb}
 use Rattle.c65_base.specs.declared.operators.BinaryOp.{BinaryOp}
+use Rattle.c65_base.specs.declared.operators.UnaryOp.{UnaryOp}
+use Rattle.c65_base.specs.declared.operators.UnaryOp.TheVariants as unary_ops
 use Rattle.c65_ints.specs.declared.types.IntType.{IntType}
-use Rattle.c65_ctype.specs.Trees.{QTy, type_in}
+use Rattle.c65_ctype.specs.Trees.{Ty, QTy, type_in}
 use Rattle.c65_ctype.specs.Views.{types_of}
 use Rattle.c65_base.specs.declared.library.Library.{Library}
 use Rattle.c65_csem.specs.Trees.{Typed, node, Node, constant, null, literal, object, func, deref, member, load, address, decay, convert, unary, binary, both, either, choice, comma, assign, assign_op, assign_step, step, copy, call, pack, spill, rest as further, Nodes, none, some}
-use Rattle.c65_mach.specs.declared.rows.Op.TheVariants.{Beq, Bne, Jmp}
+use Rattle.c65_mach.specs.declared.rows.Op.TheVariants.{Jmp, Tay}
 use Rattle.c65_mach.specs.declared.rows.Mode.TheVariants.{Absolute}
 use Rattle.c65_code.specs.declared.line.Operand.TheVariants.{To}
 use Rattle.c65_code.specs.declared.line.Callee.TheVariants.{Routine, Function, Pointer}
@@ -16,6 +18,7 @@ use Rattle.c65_code.specs.declared.line.Line.{Line}
 use Rattle.c65_code.specs.declared.line.Line.TheVariants.{Label, Do, Call}
 use Rattle.c65_code.specs.declared.routine.Count.TheVariants.{Two as two_bytes}
 use Rattle.c65_code.specs.declared.routine.Routine.TheVariants.{IncSp, Library as library_routine}
+use Rattle.c65_code.specs.declared.routine.Width.{Width}
 use Rattle.c65_code.specs.declared.routine.Width.TheVariants.{Ax}
 use Rattle.c65_genframe.specs.Symbols.{numbers_of, function_symbol}
 use Rattle.c65_genframe.specs.Frames.{Framed, type_bytes}
@@ -24,9 +27,21 @@ use Rattle.c65_genwide.specs.Wide.{width_of}
 use Rattle.c65_genload.specs.declared.places.Place.{Place}
 use Rattle.c65_genload.specs.declared.places.Place.TheVariants as places
 use Rattle.c65_genload.specs.declared.places.Access.{Access}
-use Rattle.c65_genload.specs.Words.{branch}
-use Rattle.c65_genload.specs.Places.{held, extent_by}
+use Rattle.c65_genload.specs.Words.{implied}
+use Rattle.c65_genload.specs.Places.{held, extent_by, extent_of}
+use Rattle.c65_genload.specs.Places as loads
 use Rattle.c65_genload.specs.Conversions.{waiting}
+use Rattle.c65_gendirect.specs.declared.bytes.OperandByte.{OperandByte}
+use Rattle.c65_gendirect.specs.declared.direct.Direct.{Direct}
+use Rattle.c65_gendirect.specs.declared.relation.Relation.{Relation}
+use Rattle.c65_gendirect.specs.Compare.{relation_of}
+use Rattle.c65_genexpr.specs.declared.comparing.Side.TheVariants as side
+use Rattle.c65_genexpr.specs.declared.comparing.Comparing.{Comparing}
+use Rattle.c65_genexpr.specs.declared.comparing.Comparing.TheVariants as comparing
+use Rattle.c65_genexpr.specs.declared.operating.Operating.{Operating}
+use Rattle.c65_genexpr.specs.declared.operating.Operating.TheVariants as operating
+use Rattle.c65_genexpr.specs.declared.wanted.Wanted.{Wanted}
+use Rattle.c65_genexpr.specs.declared.wanted.Wanted.TheVariants.{Value, Test}
 use Rattle.c65_genexpr.specs.declared.operands.Operands.{Operands}
 use Rattle.c65_genexpr.specs.declared.operands.Operands.TheVariants.{Numbers, PointerFirst}
 use Rattle.c65_genexpr.specs.declared.arguments.Passed.{Passed}
@@ -34,17 +49,24 @@ use Rattle.c65_genexpr.specs.declared.types.Outcome.{Outcome}
 use Rattle.c65_genexpr.specs.declared.types.Outcome.TheVariants.{Nothing, Number, Area}
 use Rattle.c65_genexpr.specs.Types.{kind_of, outcome_of, given_bytes, kind_in, bare, offset_at, access_of, target_bytes}
 use Rattle.c65_genexpr.specs.Places.{more, place_of, object_code, IsKnown}
-use Rattle.c65_genexpr.specs.Operands.{residue_of, operands_of, computes, is_short, short_of, binary_by}
+use Rattle.c65_genexpr.specs.Operands.{residue_of, operands_of, computes, unary_code, same_truth, conversion_by}
+use Rattle.c65_genexpr.specs.Direct.{kept_at, own_bytes}
+use Rattle.c65_genexpr.specs.Wanted.{wanted_by, handed, branch_code, wanted, aimed, sense, inner, truth_by, is_straight, way, way_labels, joined as both_joined}
+use Rattle.c65_genexpr.specs.Comparing.{relation_by, tested_by, comparing_of, low_code, below_side, comparison_by}
+use Rattle.c65_genexpr.specs.Operating.{operating_of, below_operand, operator_by}
 use Rattle.c65_genexpr.specs.Steps.{amount_of}
 use Rattle.c65_genexpr.specs.Arguments.{is_fast, is_counted, stays, passed_size, passed_of, reads_of}
 use Rattle.c65_genexpr.specs.Arguments as arguments
 use Rattle.c65_genexpr.specs.Calls.{named, count_code, fetch_code, result_code, library_at, named_by, pointer_code, direct_code, ptr4_code}
-use Rattle.c65_genexpr.specs.Uses.{uses}
-use Rattle.c65_genexpr.specs.Code.{target_code, behind_open, compound, call_by, expr_code, node_code, args_code}
+use Rattle.c65_genexpr.specs.Uses.{by_relation, uses}
+use Rattle.c65_genexpr.specs.Code.{target_code, width_in, constant_code, tested_load, load_by, behind_open, compound, call_by, expr_code, node_code, args_code, operator_code, comparison_code}
 use Rattle.c65_gen_law_lines.specs.Stack.{bytes_in, Waiting, waiting_by, taken, left, waits, argument_bytes, passed, unless_named, calls_of, node_calls, args_calls}
 use Rattle.c65_gen_law_lines.specs.Laws.{ExpressionsKeepTheStack, CallsAreCounted}
-use Rattle.c65_gen_law_lines.proofs.ExprLaws.{moved_known, no_short}
-use Rattle.c65_gen_law_lines.proofs.StackPieces.{waits_append, Leaves, leaves_then, leaves_none, Still, narrow_still, number_still, object_still, further_still, offset_still, conversion_still, push_leaves, argument_leaves, test_still, holding, hold_leaves, bytes_still, load_still, stored_leaves, copy_leaves, spill_still, unary_still, between_leaves, behind_leaves, short_still, step_still, open_leaves, close_leaves}
+use Rattle.c65_gen_law_lines.proofs.Quiet.{Quiet}
+use Rattle.c65_gen_law_lines.proofs.Directs.{loaded_quiet, compare_quiet, compare_byte_quiet, zero_test_quiet, truth_quiet}
+use Rattle.c65_gen_law_lines.proofs.Drops.{kept_known, known_calls, IfRead, Unread, comparing_calls, Unused, operating_calls}
+use Rattle.c65_gen_law_lines.proofs.Forms.{form_quiet, waiting_leaves, stacked_leaves}
+use Rattle.c65_gen_law_lines.proofs.StackPieces.{waits_append, Leaves, leaves_then, leaves_none, leaves_if, Still, narrow_still, number_still, object_still, further_still, offset_still, conversion_still, push_leaves, argument_leaves, test_still, holding, hold_leaves, bytes_still, load_still, stored_leaves, copy_leaves, spill_still, unary_still, between_leaves, behind_leaves, step_still, open_leaves, close_leaves}
 
 -- lines lead from some values that wait to others by these calls
 record Does (cs : List (List ℕ)) (v : List ℕ) (a : List Line) (u : List ℕ) : Type 0 where
@@ -84,24 +106,79 @@ nothing_more (x ∷ xs) = ap (λ l. x ∷ l) (nothing_more xs)
 
 -- ---- places that are known
 
-known_calls : (f : Framed) (pushed : ℕ) (e : Typed) → IsKnown (place_of f pushed e) → calls_of f e ≡ []
-known_calls f pushed (node t (object i)) h = refl
-known_calls f pushed (node t (member e m)) h = known_calls f pushed e (moved_known (place_of f pushed e) (offset_at (types_of f.parts.types) (bare e) m) h)
-known_calls f pushed (node t _) h = absurd h
-
 target_does : {cs : List (List ℕ)} {v : List ℕ} {code : List Line} (p : Place) → (IsKnown p → cs ≡ []) → Does cs v code v → Does cs v (target_code p code) v
 target_does places.Far h d = d
 target_does (places.Bank b) h d = does_as (sym (h tt)) does_none
 target_does (places.Near at) h d = does_as (sym (h tt)) does_none
 target_does (places.Data s at) h d = does_as (sym (h tt)) does_none
 
-short_calls : (f : Framed) (op : BinaryOp) (operands : Operands) (e : Typed) (n : ℕ) → short_of op operands e ≡ Some n → calls_of f e ≡ []
-short_calls f op operands (node t (constant z)) n h = refl
-short_calls f op operands (node t _) n h = absurd (no_short (is_short op operands) n h)
+-- ---- values and tests
 
-binary_does : {cs ds : List (List ℕ)} {v : List ℕ} {a b : List Line} (op : BinaryOp) (operands : Operands) (right : IntType) (s : Option ℕ) → ((c : ℕ) → s ≡ Some c → ds ≡ []) → Does cs v a v → Does ds (waiting (width_of (computes operands)) ∷ v) b (waiting (width_of (computes operands)) ∷ v) → Does (cs ++ ds) v (binary_by op operands s right a b) v
-binary_does {v = v} op operands right None drops da db = does_then da (does_before (between_leaves operands v) (does_behind db (behind_leaves op operands right v)))
-binary_does {cs = cs} {v = v} op operands right (Some c) drops da db = does_as (sym (nothing_more cs) ∙ ap (λ l. cs ++ l) (sym (drops c refl))) (does_behind da (short_still op operands c v))
+one_label : {v : List ℕ} (l : ℕ) → Leaves v (Label l ∷ []) v
+one_label l = record { to = λ calls. refl }
+
+wanted_does : {cs : List (List ℕ)} {v : List ℕ} {a : List Line} (w : Wanted) (width : Width) → Does cs v a v → Does cs v (wanted w width a) v
+wanted_does Value width d = d
+wanted_does {v = v} (Test to s) width d = does_behind d (leaves_then (test_still width v) (record { to = λ calls. refl }))
+
+constant_leaves : (w : Wanted) (width : Width) (n : ℕ) (v : List ℕ) → Leaves v (constant_code w width n) v
+constant_leaves Value width n v = number_still width n v
+constant_leaves (Test to true) width n v = leaves_if (n == 0) leaves_none (record { to = λ calls. refl })
+constant_leaves (Test to false) width n v = leaves_if (n == 0) (record { to = λ calls. refl }) leaves_none
+
+tested_does : {cs : List (List ℕ)} {v : List ℕ} {a : List Line} (d : Option Direct) (kind : IntType) (s : Bool) (to : ℕ) → ((c : Direct) → d ≡ Some c → cs ≡ []) → Does cs v a v → Does cs v (tested_load d kind s to a) v
+tested_does {v = v} (Some d) kind s to idle da = does_as (sym (idle d refl)) (does_leaves ((zero_test_quiet {ok = λ l. true} (own_bytes d (extent_of kind)) s to refl).still v))
+tested_does None kind s to idle da = wanted_does (Test to s) (width_of kind) da
+
+load_does : {cs : List (List ℕ)} {v : List ℕ} {a : List Line} (w : Wanted) (place : Place) (access : Access) → (IsKnown place → cs ≡ []) → Does cs v a v → Does cs v (load_by w place access a) v
+load_does {v = v} Value place access known d = does_behind d (load_still place access v)
+load_does {v = v} (Test to s) place access known d = tested_does (kept_at place access) (loads.type_in access) s to (λ c h. known (kept_known place access c h)) (does_behind d (load_still place access v))
+
+converted_does : {cs : List (List ℕ)} {v : List ℕ} {a : List Line} (w : Wanted) (same : Bool) (to : Ty) (from : IntType) → Does cs v a v → Does cs v (conversion_by w same to from a) v
+converted_does {v = v} Value same to from d = does_behind d (conversion_still to from v)
+converted_does (Test l s) true to from d = d
+converted_does {v = v} (Test l s) false to from d = wanted_does (Test l s) (width_of (kind_of to)) (does_behind d (conversion_still to from v))
+
+truth_does : {cs : List (List ℕ)} {v : List ℕ} {a : List Line} (w : Wanted) (lo : ℕ) → Does cs v a v → Does cs v (truth_by w lo a) v
+truth_does {v = v} Value lo d = does_behind d ((truth_quiet {ok = λ l. true} lo refl).still v)
+truth_does (Test to s) lo d = d
+
+joined_does : {cs ds : List (List ℕ)} {v : List ℕ} {a b : List Line} (straight : Bool) (own : ℕ) → Does cs v a v → Does ds v b v → Does (cs ++ ds) v (both_joined straight own a b) v
+joined_does straight own da db = does_then da (does_behind db (leaves_if straight leaves_none (one_label own)))
+
+-- ---- comparisons and operators
+
+-- lines that leave whatever waits, by these calls
+abbrev Doing : List (List ℕ) → List Line → Type 0
+Doing cs a = (v : List ℕ) → Does cs v a v
+
+-- one of the two sides calls nothing
+left_alone : {cs ds : List (List ℕ)} {v : List ℕ} {a : List Line} → ds ≡ [] → Does cs v a v → Does (cs ++ ds) v a v
+left_alone {cs = cs} quiet d = does_as (sym (nothing_more cs) ∙ ap (λ l. cs ++ l) (sym quiet)) d
+
+right_alone : {cs ds : List (List ℕ)} {v : List ℕ} {a : List Line} → cs ≡ [] → Does ds v a v → Does (cs ++ ds) v a v
+right_alone {ds = ds} quiet d = does_as (ap (λ l. l ++ ds) (sym quiet)) d
+
+low_does : {cs : List (List ℕ)} {v : List ℕ} {a : List Line} (low : Option OperandByte) → IfRead low (cs ≡ []) → Does cs v a v → Does cs v (low_code low a) v
+low_does None quiet d = d
+low_does {v = v} (Some byte) quiet d = does_as (sym quiet) (does_leaves ((loaded_quiet {ok = λ l. true} byte).still v))
+
+comparison_does : {cs ds : List (List ℕ)} {a b : List Line} (how : Comparing) (op : BinaryOp) (operands : Operands) (right : IntType) (s : Bool) (to own : ℕ) → Unread how (cs ≡ []) (ds ≡ []) → Doing cs a → Doing ds b → Doing (cs ++ ds) (comparison_by how op operands right s to own a b)
+comparison_does (comparing.Truth side.Left) op operands right s to own quiet da db v = left_alone quiet (does_behind (da v) (one_label own))
+comparison_does (comparing.Truth side.Right) op operands right s to own quiet da db v = right_alone quiet (does_behind (db v) (one_label own))
+comparison_does (comparing.Byte side.Left low r d) op operands right s to own quiet da db v = left_alone quiet.1 (does_behind (does_behind (low_does low quiet.0 (da v)) ((compare_byte_quiet {ok = λ l. true} r d to refl).still v)) (one_label own))
+comparison_does (comparing.Byte side.Right low r d) op operands right s to own quiet da db v = right_alone quiet.1 (does_behind (does_behind (low_does low quiet.0 (db v)) ((compare_byte_quiet {ok = λ l. true} r d to refl).still v)) (one_label own))
+comparison_does (comparing.Whole side.Left r is_signed sides) op operands right s to own quiet da db v = left_alone quiet (does_behind (da v) ((compare_quiet {ok = λ l. true} r is_signed sides own to refl refl).still v))
+comparison_does (comparing.Whole side.Right r is_signed sides) op operands right s to own quiet da db v = right_alone quiet (does_behind (db v) ((compare_quiet {ok = λ l. true} r is_signed sides own to refl refl).still v))
+comparison_does comparing.Stacked op operands right s to own quiet da db v =
+    let last : Leaves v (implied Tay ∷ branch_code s to) v = record { to = λ calls. refl } in
+    does_behind (does_then (da v) (does_before (between_leaves operands v) (does_behind (db (waiting (width_of (computes operands)) ∷ v)) (leaves_then (behind_leaves op operands right v) last)))) (one_label own)
+
+operator_does : {cs ds : List (List ℕ)} {a b : List Line} (how : Operating) (op : BinaryOp) (operands : Operands) (right : IntType) (own : ℕ) → Unused how (cs ≡ []) (ds ≡ []) → Doing cs a → Doing ds b → Doing (cs ++ ds) (operator_by how op operands right own a b)
+operator_does (operating.Left form) op operands right own small da db v = left_alone small.1 (does_behind (da v) ((form_quiet {ok = λ l. true} form own refl small.0).still v))
+operator_does (operating.Right form) op operands right own small da db v = right_alone small.1 (does_behind (db v) ((form_quiet {ok = λ l. true} form own refl small.0).still v))
+operator_does operating.Stacked op operands right own small da db v =
+    does_behind (does_then (da v) (does_before (waiting_leaves operands v) (does_behind (db (waiting (width_of (computes operands)) ∷ v)) (stacked_leaves op operands right v)))) (one_label own)
 
 -- ---- calls
 
@@ -171,55 +248,86 @@ compound_does f pushed op operands a b v da db =
     let access : Access = access_of (types_of f.parts.types) a in
     does_then (target_does place (known_calls f pushed a) da) (does_before (open_leaves place access (computes operands) v) (does_behind db (close_leaves op operands (kind_in b) place access v)))
 
-mutual
-  expr_does : (f : Framed) (pushed lo : ℕ) (e : Typed) (v : List ℕ) → Does (calls_of f e) v (expr_code f pushed lo e) v
-  expr_does f pushed lo (node t n) v = node_does f pushed lo t n v
+-- the lines of an expression wherever they stand
+abbrev Acts : Framed → Typed → Type 0
+Acts f e = (pushed lo : ℕ) (w : Wanted) → Doing (calls_of f e) (expr_code f pushed lo w e)
 
-  node_does : (f : Framed) (pushed lo : ℕ) (t : QTy) (n : Node) (v : List ℕ) → Does (node_calls f n) v (node_code f pushed lo t n) v
-  node_does f pushed lo t (constant z) v = does_leaves (number_still (width_of (kind_of (type_in t))) (residue_of z) v)
-  node_does f pushed lo t null v = does_leaves (number_still Ax 0 v)
-  node_does f pushed lo t (literal n) v = record { to = λ rest. refl }
-  node_does f pushed lo t (object i) v = does_leaves (object_still f pushed i v)
-  node_does f pushed lo t (func i) v = record { to = λ rest. refl }
-  node_does f pushed lo t (deref e) v = expr_does f pushed lo e v
-  node_does f pushed lo t (member e m) v = does_behind (expr_does f pushed lo e v) (offset_still (offset_at (types_of f.parts.types) (bare e) m) v)
-  node_does f pushed lo t (load e) v = does_behind (target_does (place_of f pushed e) (known_calls f pushed e) (expr_does f pushed lo e v)) (load_still (place_of f pushed e) (access_of (types_of f.parts.types) e) v)
-  node_does f pushed lo t (address e) v = expr_does f pushed lo e v
-  node_does f pushed lo t (decay e) v = expr_does f pushed lo e v
-  node_does f pushed lo t (convert e) v = does_behind (expr_does f pushed lo e v) (conversion_still (type_in t) (kind_in e) v)
-  node_does f pushed lo t (unary op e) v = does_behind (expr_does f pushed lo e v) (unary_still op (width_of (kind_in e)) v)
-  node_does f pushed lo t (binary op a b) v =
-      let operands : Operands = operands_of f (bare a) (bare b) in
-      let w : ℕ = waiting (width_of (computes operands)) in
-      binary_does op operands (kind_in b) (short_of op operands b) (short_calls f op operands b) (expr_does f pushed lo a v) (expr_does f (more pushed w) (lo + uses a) b (w ∷ v))
-  node_does f pushed lo t (both a b) v =
-      does_then (expr_does f pushed (lo + 1) a v) (does_before (test_still (width_of (kind_in a)) v) (does_line (branch Beq lo) (λ w. refl)
-      (does_behind (expr_does f pushed (lo + 1 + uses a) b v) (leaves_then (test_still (width_of (kind_in b)) v) (record { to = λ calls. refl })))))
-  node_does f pushed lo t (either a b) v =
-      does_then (expr_does f pushed (lo + 2) a v) (does_before (test_still (width_of (kind_in a)) v) (does_line (branch Bne lo) (λ w. refl)
-      (does_behind (expr_does f pushed (lo + 2 + uses a) b v) (leaves_then (test_still (width_of (kind_in b)) v) (record { to = λ calls. refl })))))
-  node_does f pushed lo t (choice c a b) v =
-      does_then (expr_does f pushed (lo + 2) c v) (does_before (test_still (width_of (kind_in c)) v) (does_line (branch Beq lo) (λ w. refl)
-      (does_then (expr_does f pushed (lo + 2 + uses c) a v) (does_line (Do Jmp Absolute (To (lo + 1))) (λ w. refl) (does_line (Label lo) (λ w. refl)
-      (does_behind (expr_does f pushed (lo + 2 + uses c + uses a) b v) (record { to = λ calls. refl })))))))
-  node_does f pushed lo t (comma a b) v = does_then (expr_does f pushed lo a v) (expr_does f pushed (lo + uses a) b v)
-  node_does f pushed lo t (assign a b) v =
+binary_does : (f : Framed) (pushed lo : ℕ) (w : Wanted) (t : QTy) (op : BinaryOp) (a b : Typed) → Acts f a → Acts f b → (r : Option Relation)
+    → Doing (calls_of f a ++ calls_of f b) (by_relation r (wanted w (width_in t) (operator_code f pushed lo op a b)) (λ q. truth_by w lo (comparison_code f pushed (inner w lo) (aimed w lo) (sense w) op q a b)))
+binary_does f pushed lo w t op a b da db None v =
+    let operands : Operands = operands_of f (bare a) (bare b) in
+    let how : Operating = operating_of f pushed op operands a b in
+    wanted_does w (width_in t) (operator_does how op operands (kind_in b) lo (operating_calls f pushed op operands a b) (da pushed (lo + 1) Value) (db (below_operand how pushed (waiting (width_of (computes operands)))) (lo + 1 + uses None a) Value) v)
+binary_does f pushed lo w t op a b da db (Some r) v =
+    let operands : Operands = operands_of f (bare a) (bare b) in
+    let q : Relation = relation_by (sense w) r in
+    let how : Comparing = comparing_of f pushed q (computes operands) a b in
+    let to : ℕ = aimed w lo in
+    let own : ℕ = inner w lo in
+    truth_does w lo (comparison_does how op operands (kind_in b) (sense w) to own (comparing_calls f pushed q (computes operands) a b)
+    (da pushed (own + 1) (wanted_by (tested_by q b) to)) (db (below_side how pushed (waiting (width_of (computes operands)))) (own + 1 + uses (tested_by q b) a) (wanted_by (tested_by q a) to)) v)
+
+unary_does : {cs : List (List ℕ)} {v : List ℕ} {a : List Line} (w : Wanted) (t : QTy) (op : UnaryOp) (width : Width) → Does cs v a v → Does cs v (wanted w (width_in t) (a ++ unary_code op width)) v
+unary_does {v = v} w t op width d = wanted_does w (width_in t) (does_behind d (unary_still op width v))
+
+mutual
+  expr_does : (f : Framed) (pushed lo : ℕ) (w : Wanted) (e : Typed) (v : List ℕ) → Does (calls_of f e) v (expr_code f pushed lo w e) v
+  expr_does f pushed lo w (node t n) v = node_does f pushed lo w t n v
+
+  node_does : (f : Framed) (pushed lo : ℕ) (w : Wanted) (t : QTy) (n : Node) (v : List ℕ) → Does (node_calls f n) v (node_code f pushed lo w t n) v
+  node_does f pushed lo w t (constant z) v = does_leaves (constant_leaves w (width_in t) (residue_of z) v)
+  node_does f pushed lo w t null v = does_leaves (constant_leaves w Ax 0 v)
+  node_does f pushed lo w t (literal n) v = wanted_does w (width_in t) (record { to = λ rest. refl })
+  node_does f pushed lo w t (object i) v = wanted_does w (width_in t) (does_leaves (object_still f pushed i v))
+  node_does f pushed lo w t (func i) v = wanted_does w (width_in t) (record { to = λ rest. refl })
+  node_does f pushed lo w t (deref e) v = wanted_does w (width_in t) (expr_does f pushed lo Value e v)
+  node_does f pushed lo w t (member e m) v = wanted_does w (width_in t) (does_behind (expr_does f pushed lo Value e v) (offset_still (offset_at (types_of f.parts.types) (bare e) m) v))
+  node_does f pushed lo w t (load e) v = load_does w (place_of f pushed e) (access_of (types_of f.parts.types) e) (known_calls f pushed e) (target_does (place_of f pushed e) (known_calls f pushed e) (expr_does f pushed lo Value e v))
+  node_does f pushed lo w t (address e) v = wanted_does w (width_in t) (expr_does f pushed lo Value e v)
+  node_does f pushed lo w t (decay e) v = wanted_does w (width_in t) (expr_does f pushed lo Value e v)
+  node_does f pushed lo w t (convert e) v =
+      let same : Bool = same_truth (type_in t) (bare e) in
+      converted_does w same (type_in t) (kind_in e) (expr_does f pushed lo (handed same w) e v)
+  node_does f pushed lo w t (unary unary_ops.Not e) v = truth_does w lo (expr_does f pushed (inner w lo) (Test (aimed w lo) (not (sense w))) e v)
+  node_does f pushed lo w t (unary unary_ops.Neg e) v = unary_does w t unary_ops.Neg (width_of (kind_in e)) (expr_does f pushed lo Value e v)
+  node_does f pushed lo w t (unary unary_ops.BitNot e) v = unary_does w t unary_ops.BitNot (width_of (kind_in e)) (expr_does f pushed lo Value e v)
+  node_does f pushed lo w t (unary unary_ops.Plus e) v = unary_does w t unary_ops.Plus (width_of (kind_in e)) (expr_does f pushed lo Value e v)
+  node_does f pushed lo w t (unary unary_ops.Deref e) v = unary_does w t unary_ops.Deref (width_of (kind_in e)) (expr_does f pushed lo Value e v)
+  node_does f pushed lo w t (unary unary_ops.Address e) v = unary_does w t unary_ops.Address (width_of (kind_in e)) (expr_does f pushed lo Value e v)
+  node_does f pushed lo w t (binary op a b) v = binary_does f pushed lo w t op a b (λ p l u. expr_does f p l u a) (λ p l u. expr_does f p l u b) (relation_of op) v
+  node_does f pushed lo w t (both a b) v =
+      let straight : Bool = is_straight false (sense w) in
+      let own : ℕ = inner w lo in
+      let first : ℕ = own + way_labels straight in
+      truth_does w lo (joined_does straight own (expr_does f pushed first (Test (way straight (aimed w lo) own) false) a v) (expr_does f pushed (first + uses (Some false) a) (Test (aimed w lo) (sense w)) b v))
+  node_does f pushed lo w t (either a b) v =
+      let straight : Bool = is_straight true (sense w) in
+      let own : ℕ = inner w lo in
+      let first : ℕ = own + way_labels straight in
+      truth_does w lo (joined_does straight own (expr_does f pushed first (Test (way straight (aimed w lo) own) true) a v) (expr_does f pushed (first + uses (Some true) a) (Test (aimed w lo) (sense w)) b v))
+  node_does f pushed lo w t (choice c a b) v =
+      let first : ℕ = lo + 2 + uses (Some false) c in
+      wanted_does w (width_in t) (does_then (expr_does f pushed (lo + 2) (Test lo false) c v) (does_then (expr_does f pushed first Value a v) (does_line (Do Jmp Absolute (To (lo + 1))) (λ u. refl) (does_line (Label lo) (λ u. refl)
+      (does_behind (expr_does f pushed (first + uses None a) Value b v) (one_label (lo + 1)))))))
+  node_does f pushed lo w t (comma a b) v = does_then (expr_does f pushed lo Value a v) (expr_does f pushed (lo + uses None a) w b v)
+  node_does f pushed lo w t (assign a b) v =
       let place : Place = place_of f pushed a in
-      does_then (target_does place (known_calls f pushed a) (expr_does f pushed lo a v)) (does_before (hold_leaves place v) (does_behind (expr_does f (more pushed (held place)) (lo + uses a) b (holding place v)) (stored_leaves place (access_of (types_of f.parts.types) a) v)))
-  node_does f pushed lo t (assign_op op k a b) v = compound_does f pushed op (Numbers k) a b v (expr_does f pushed lo a v) (expr_does f (behind_open f pushed (Numbers k) a) (lo + uses a) b (waiting (width_of k) ∷ holding (place_of f pushed a) v))
-  node_does f pushed lo t (assign_step op a b) v =
+      wanted_does w (width_in t) (does_then (target_does place (known_calls f pushed a) (expr_does f pushed lo Value a v)) (does_before (hold_leaves place v) (does_behind (expr_does f (more pushed (held place)) (lo + uses None a) Value b (holding place v)) (stored_leaves place (access_of (types_of f.parts.types) a) v))))
+  node_does f pushed lo w t (assign_op op k a b) v =
+      wanted_does w (width_in t) (compound_does f pushed op (Numbers k) a b v (expr_does f pushed lo Value a v) (expr_does f (behind_open f pushed (Numbers k) a) (lo + uses None a) Value b (waiting (width_of k) ∷ holding (place_of f pushed a) v)))
+  node_does f pushed lo w t (assign_step op a b) v =
       let operands : Operands = PointerFirst (target_bytes f (bare a)) in
-      compound_does f pushed op operands a b v (expr_does f pushed lo a v) (expr_does f (behind_open f pushed operands a) (lo + uses a) b (2 ∷ holding (place_of f pushed a) v))
-  node_does f pushed lo t (step how e) v =
+      wanted_does w (width_in t) (compound_does f pushed op operands a b v (expr_does f pushed lo Value a v) (expr_does f (behind_open f pushed operands a) (lo + uses None a) Value b (2 ∷ holding (place_of f pushed a) v)))
+  node_does f pushed lo w t (step how e) v =
       let place : Place = place_of f pushed e in
-      does_behind (target_does place (known_calls f pushed e) (expr_does f pushed lo e v)) (step_still how place (access_of (types_of f.parts.types) e) (amount_of f how (bare e)) v)
-  node_does f pushed lo t (copy a b) v =
-      does_then (expr_does f pushed lo a v) (does_before (push_leaves Ax v) (does_behind (expr_does f (more pushed 2) (lo + uses a) b (2 ∷ v)) (copy_leaves (type_bytes f (type_in t)) v)))
-  node_does f pushed lo t (call g es) v =
-      call_does f (named g) (outcome_of f (type_in t)) g es (expr_does f pushed lo g v) (args_does f pushed lo (is_fast (bare g)) es v) (args_does f (more pushed 2) (lo + uses g) (is_fast (bare g)) es (2 ∷ v))
-  node_does f pushed lo t (pack e) v = does_behind (target_does (place_of f pushed e) (known_calls f pushed e) (expr_does f pushed lo e v)) (bytes_still (place_of f pushed e) (extent_by (type_bytes f (type_in t))) v)
-  node_does f pushed lo t (spill i e) v = does_behind (expr_does f pushed lo e v) (spill_still (object_code f pushed i) (extent_by (type_bytes f (type_in t))) (object_still f pushed i) v)
-  node_does f pushed lo t further v = does_leaves (further_still f pushed v)
+      wanted_does w (width_in t) (does_behind (target_does place (known_calls f pushed e) (expr_does f pushed lo Value e v)) (step_still how place (access_of (types_of f.parts.types) e) (amount_of f how (bare e)) v))
+  node_does f pushed lo w t (copy a b) v =
+      wanted_does w (width_in t) (does_then (expr_does f pushed lo Value a v) (does_before (push_leaves Ax v) (does_behind (expr_does f (more pushed 2) (lo + uses None a) Value b (2 ∷ v)) (copy_leaves (type_bytes f (type_in t)) v))))
+  node_does f pushed lo w t (call g es) v =
+      wanted_does w (width_in t) (call_does f (named g) (outcome_of f (type_in t)) g es (expr_does f pushed lo Value g v) (args_does f pushed lo (is_fast (bare g)) es v) (args_does f (more pushed 2) (lo + uses None g) (is_fast (bare g)) es (2 ∷ v)))
+  node_does f pushed lo w t (pack e) v = wanted_does w (width_in t) (does_behind (target_does (place_of f pushed e) (known_calls f pushed e) (expr_does f pushed lo Value e v)) (bytes_still (place_of f pushed e) (extent_by (type_bytes f (type_in t))) v))
+  node_does f pushed lo w t (spill i e) v = wanted_does w (width_in t) (does_behind (expr_does f pushed lo Value e v) (spill_still (object_code f pushed i) (extent_by (type_bytes f (type_in t))) (object_still f pushed i) v))
+  node_does f pushed lo w t further v = wanted_does w (width_in t) (does_leaves (further_still f pushed v))
 
   args_does : (f : Framed) (pushed lo : ℕ) (fast : Bool) (es : Nodes) (v : List ℕ) → Does (args_calls f es) v (args_code f pushed lo fast es) (passed f fast es ++ v)
   args_does f pushed lo fast none v = does_none
@@ -227,11 +335,11 @@ mutual
       let kept : Bool = stays fast es in
       let size : ℕ = passed_size f e in
       let own : List ℕ = argument_bytes kept size in
-      let rest : Does (args_calls f es) (own ++ v) (args_code f (more pushed (arguments.argument_bytes kept size)) (lo + uses e) fast es) (passed f fast es ++ (own ++ v)) = args_does f (more pushed (arguments.argument_bytes kept size)) (lo + uses e) fast es (own ++ v) in
-      does_to (sym (append_assoc (passed f fast es) own v)) (does_then (expr_does f pushed lo e v) (does_before (argument_leaves f kept e v) rest))
+      let rest : Does (args_calls f es) (own ++ v) (args_code f (more pushed (arguments.argument_bytes kept size)) (lo + uses None e) fast es) (passed f fast es ++ (own ++ v)) = args_does f (more pushed (arguments.argument_bytes kept size)) (lo + uses None e) fast es (own ++ v) in
+      does_to (sym (append_assoc (passed f fast es) own v)) (does_then (expr_does f pushed lo Value e v) (does_before (argument_leaves f kept e v) rest))
 
 pub expressions_keep_the_stack : ExpressionsKeepTheStack
-expressions_keep_the_stack f pushed fresh e values calls = (expr_does f pushed fresh e values).to calls
+expressions_keep_the_stack f pushed fresh w e values calls = (expr_does f pushed fresh w e values).to calls
 
 -- ---- the number of bytes that a call passes
 

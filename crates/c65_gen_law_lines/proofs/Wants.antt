@@ -125,11 +125,6 @@ joined_made {na = na} {nb = nb} false to own ma mb = made_wider (made_stretch
 
 -- ---- comparisons
 
--- a side of which a value or a test is wanted
-pub made_side : {lo n k : ℕ} {a : List Line} (s : Option Bool) (to : ℕ) → Made (aims (wanted_by s to)) lo n k a → Made (to ∷ []) lo n k a
-made_side None to m = made_closed (to ∷ []) m
-made_side (Some s) to m = m
-
 -- no labels
 none_among : (lo n l : ℕ) → n ≡ 0 → among lo n l ≡ 0
 none_among lo n l e = ap (λ (m : ℕ). among lo m l) e ∙ among_none lo l
