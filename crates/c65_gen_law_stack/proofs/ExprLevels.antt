@@ -74,7 +74,7 @@ use Rattle.c65_gen_law_stack.proofs.EvenLines.{Labels, No, One, Both, At, Even, 
 use Rattle.c65_gen_law_stack.proofs.EvenShifts.{elements_even}
 use Rattle.c65_gen_law_stack.proofs.EvenDirects.{byte_even, compare_even, compare_byte_even, zero_test_even, truth_even}
 use Rattle.c65_gen_law_stack.proofs.EvenForms.{Aim, value_test_even, routine_test_even, constant_even, form_even}
-use Rattle.c65_gen_law_stack.proofs.ReadSides.{Passes, known_passes, kept_known, direct_passes, First, Compared, compared_passes, tested_passes, Operated, operating_passes}
+use Rattle.c65_gen_law_stack.proofs.ReadSides.{Reaches, known_reached, kept_known, direct_reached, First, Compared, compared_reached, tested_reached, Operated, operating_reached}
 
 -- a piece of lines behind closed ones, and before
 behind : {cs : List (List ℕ)} {v u t : List ℕ} {a b : List Line} → Closed cs v a u → Leaves u b t → list_all is_plain b ≡ true → Closed cs v (a ++ b) t
@@ -85,7 +85,7 @@ before p plain q = closed_then (level_piece p plain) q
 
 -- ---- operands that are read where they lie
 
-no_calls : (f : Framed) → Passes (λ e. calls_of f e ≡ [])
+no_calls : (f : Framed) → Reaches (λ e. calls_of f e ≡ [])
 no_calls f = record {
   constant = λ t z. refl;
   null = λ t. refl;
@@ -100,7 +100,7 @@ no_calls f = record {
 }
 
 known_calls : (f : Framed) (pushed : ℕ) (e : Typed) → IsKnown (place_of f pushed e) → calls_of f e ≡ []
-known_calls f pushed e h = known_passes (no_calls f) f pushed e h
+known_calls f pushed e h = known_reached (no_calls f) f pushed e h
 
 target_level : {cs : List (List ℕ)} {v : List ℕ} {code : List Line} (p : Place) → (IsKnown p → cs ≡ []) → Closed cs v code v → Closed cs v (target_code p code) v
 target_level places.Far h d = d
@@ -387,7 +387,7 @@ mutual
       let bytes : ℕ = waiting (width_of (computes operands)) in
       let operator : Operating = operating_of f pushed op operands a b in
       relation_level w (relation_of op)
-      (wanted_level w (width_in t) (operator_level operator op operands (kind_in b) lo (operating_passes (no_calls f) f pushed op operands a b) (value_level f pushed (lo + 1) a) (value_level f (below_operand operator pushed bytes) (lo + 1 + uses None a) b)))
+      (wanted_level w (width_in t) (operator_level operator op operands (kind_in b) lo (operating_reached (no_calls f) f pushed op operands a b) (value_level f pushed (lo + 1) a) (value_level f (below_operand operator pushed bytes) (lo + 1 + uses None a) b)))
       (λ r.
       let q : Relation = relation_by (sense w) r in
       let kind : IntType = computes operands in
@@ -395,8 +395,8 @@ mutual
       let to : ℕ = aimed w lo in
       let own : ℕ = inner w lo in
       let compared : Comparing = compared_by q (is_byte a && is_byte b) kind (is_pure b) (direct_of f pushed a) (direct_of f pushed b) in
-      let given : Compared (calls_of f a ≡ []) (calls_of f b ≡ []) compared = compared_passes (calls_of f a ≡ []) (calls_of f b ≡ []) q (is_byte a && is_byte b) kind (is_pure b) (direct_of f pushed a) (direct_of f pushed b) (direct_passes (no_calls f) f pushed a) (direct_passes (no_calls f) f pushed b) in
-      truth_level w lo (comparison_level (tested_by q b) (tested_by q a) compared op operands (kind_in b) (sense w) to own (tested_passes (no_calls f) q b) (tested_passes (no_calls f) q a) given
+      let given : Compared (calls_of f a ≡ []) (calls_of f b ≡ []) compared = compared_reached (calls_of f a ≡ []) (calls_of f b ≡ []) q (is_byte a && is_byte b) kind (is_pure b) (direct_of f pushed a) (direct_of f pushed b) (direct_reached (no_calls f) f pushed a) (direct_reached (no_calls f) f pushed b) in
+      truth_level w lo (comparison_level (tested_by q b) (tested_by q a) compared op operands (kind_in b) (sense w) to own (tested_reached (no_calls f) q b) (tested_reached (no_calls f) q a) given
       (expr_level f pushed (own + 1) (wanted_by (tested_by q b) to) a) (expr_level f (below_side how pushed bytes) (own + 1 + uses (tested_by q b) a) (wanted_by (tested_by q a) to) b)))
   node_level f pushed lo w t (both a b) v =
       let straight : Bool = not (sense w) in
