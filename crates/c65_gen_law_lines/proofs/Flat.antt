@@ -28,7 +28,7 @@ use Rattle.c65_genstmt.specs.declared.objects.Spot.{Spot}
 use Rattle.c65_genstmt.specs.declared.objects.Spot.TheVariants.{Bank, Soft, Data}
 use Rattle.c65_genstmt.specs.Objects.{point_code, stored_code}
 use Rattle.c65_gen_law_lines.specs.Labels.{times, among}
-use Rattle.c65_gen_law_lines.proofs.Made.{is_plain, times-append, plain_times, among_split, among_none, among_one, Leads, leads_wider, leads_append, leads_plain, leads_to, all_append, Piece, Made}
+use Rattle.c65_gen_law_lines.proofs.Made.{is_plain, times-append, plain_times, among_split, among_none, among_one, Leads, leads_wider, leads_append, leads_plain, leads_to, all_append, Piece}
 use Rattle.c65_gen_law_lines.proofs.Pieces.{pass_piece, store_piece}
 
 pub record Flat (lines : List Line) : Type 0 where
@@ -53,9 +53,6 @@ flat_append a b fa fb = record { plain = all_append is_plain a b fa.plain fb.pla
 pub flat_if : (b : Bool) (x y : List Line) → Flat x → Flat y → Flat (if b then x else y)
 flat_if true x y fx fy = fx
 flat_if false x y fx fy = fy
-
-pub own_made : (lo n k : ℕ) (a : List Line) → Made lo n k a → Own lo n a
-own_made lo n k a m = record { once = m.once; leads = m.leads; fit = m.fit }
 
 pub own_flat : (lo : ℕ) (a : List Line) → Flat a → Own lo 0 a
 own_flat lo a p = record { once = λ l. plain_times l a p.plain ∙ sym (among_none lo l); leads = leads_plain lo 0 a p.plain; fit = p.fit }

@@ -24,7 +24,7 @@ use Rattle.c65_genstmt.specs.Stmts.{with_label, ways, with_stmt}
 use Rattle.c65_genstmt.specs.Functions.{main_code, no_lines}
 use Rattle.c65_gen_law_lines.specs.Labels.{times, among}
 use Rattle.c65_gen_law_lines.specs.Laws.{FunctionsAreSegments}
-use Rattle.c65_gen_law_lines.proofs.Made.{within, among_inside}
+use Rattle.c65_gen_law_lines.proofs.Made.{within, among_inside, or_left, or_right}
 use Rattle.c65_gen_law_lines.proofs.Flat.{Flat, flat_none, entry_flat, end_flat}
 use Rattle.c65_gen_law_lines.proofs.Puts.{one, below_next, below_more, at_most_one, one_same, one_other, Puts, puts_then, puts_end, puts_flat, puts_label}
 use Rattle.c65_gen_law_lines.proofs.Others.{names, names_in, others, laid, times_one, others_are}
@@ -196,14 +196,6 @@ times_occurs x [] = refl
 times_occurs x (Label l ∷ a) = omega (arith, times_occurs x a)
 times_occurs x (Do op mode operand ∷ a) = times_occurs x a
 times_occurs x (Call callee ∷ a) = times_occurs x a
-
-or_left : (a b : Bool) → a ≡ true → (a || b) ≡ true
-or_left true b h = refl
-or_left false b h = absurd cc
-
-or_right : (a b : Bool) → b ≡ true → (a || b) ≡ true
-or_right true b h = refl
-or_right false b h = h
 
 is_there : (x : ℕ) (ls : List ℕ) → 1 ≤ occurs x ls → is_among ls x ≡ true
 is_there x [] h = absurd (omega (arith, h))

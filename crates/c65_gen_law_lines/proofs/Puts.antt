@@ -1,29 +1,26 @@
 -- What becomes of a draft: which labels it puts, and where it leads.
-use Rattle.std.proofs.Common.{◌≡◌, ℕ, ◌+◌, ◌<◌, ◌≤◌, ◌==◌, ◌⊎◌, inl, inr, Bool, true, List, [], ◌∷◌, ◌++◌, refl, ◌∙◌, ap, arith}
+use Rattle.std.proofs.Common.{◌≡◌, ℕ, ◌+◌, ◌<◌, ◌≤◌, ◌==◌, ◌⊎◌, inl, inr, Bool, true, None, Some, List, [], ◌∷◌, ◌++◌, refl, ◌∙◌, ap, arith}
 use Rattle.std.specs.Prelude.{if◌then◌else◌, nat_lt}
 use Rattle.std.specs.List.{list_all}
-use Rattle.std.proofs.lemmas.Bool.{and_parts, and_from, lt-ltb, le-ltb, eq-eqb, ne_eqb, cases_lt}
+use Rattle.std.proofs.lemmas.Bool.{and_from, lt-ltb, le-ltb, eq-eqb, ne_eqb, cases_lt}
 use Rattle.std.proofs.lemmas.List.Folds.{list_all-append}
-use Rattle.c65_mach.specs.declared.rows.Op.{Op}
 use Rattle.c65_mach.specs.declared.rows.Op.TheVariants.{Jmp}
 use Rattle.c65_csem.specs.Trees.{Typed}
 use Rattle.c65_code.specs.declared.line.Line.{Line}
 use Rattle.c65_code.specs.declared.line.Line.TheVariants.{Label}
 use Rattle.c65_code.specs.Segments.{Drafted, is_fit, targets_of}
 use Rattle.c65_genframe.specs.Frames.{Framed}
-use Rattle.c65_genwide.specs.Lines.{with_lines}
-use Rattle.c65_genwide.specs.Wide.{width_of}
-use Rattle.c65_genexpr.specs.Types.{kind_in}
-use Rattle.c65_genexpr.specs.Code.{expr_code, test_in}
+use Rattle.c65_genwide.specs.Lines.{with_lines, grown}
+use Rattle.c65_genexpr.specs.declared.wanted.Wanted.TheVariants.{Value, Test}
+use Rattle.c65_genexpr.specs.Code.{expr_code}
 use Rattle.c65_genexpr.specs.Uses.{uses}
-use Rattle.c65_genentry.specs.Words.{jump, branch, with_code}
-use Rattle.c65_genstmt.specs.Jumps.{with_value, with_condition}
+use Rattle.c65_genentry.specs.Words.{jump, with_code}
+use Rattle.c65_genstmt.specs.Jumps.{with_value, with_test}
 use Rattle.c65_genstmt.specs.Stmts.{with_label, with_jump, two_given, three_given}
 use Rattle.c65_gen_law_lines.specs.Labels.{times, is_within, among}
-use Rattle.c65_gen_law_lines.proofs.Made.{times-append, plain_times, targets-append, plain_targets, among_inside, among_in, among_low, among_high, among_one, all_append}
-use Rattle.c65_gen_law_lines.proofs.Pieces.{test_piece}
-use Rattle.c65_gen_law_lines.proofs.ExprLaws.{room, expr_made}
-use Rattle.c65_gen_law_lines.proofs.Flat.{Flat, flat_piece, Own, own_made}
+use Rattle.c65_gen_law_lines.proofs.Made.{times-append, plain_times, targets-append, plain_targets, among_inside, among_in, among_low, among_high, among_one, all_append, all_passes, Stretch, Made, stretch_made}
+use Rattle.c65_gen_law_lines.proofs.ExprLaws.{expr_made}
+use Rattle.c65_gen_law_lines.proofs.Flat.{Flat, Own}
 
 -- 1 for one label
 abbrev pub one : ℕ → ℕ → ℕ
@@ -75,12 +72,6 @@ Covers ok d e = (x : ℕ) → times x d.lines < times x e.lines → ok x ≡ tru
 
 pub arrives_append : (ok : ℕ → Bool) (a b : List Line) → list_all ok (targets_of a) ≡ true → list_all ok (targets_of b) ≡ true → list_all ok (targets_of (a ++ b)) ≡ true
 arrives_append ok a b ha hb = ap (list_all ok) (targets-append a b) ∙ (list_all-append ok (targets_of a) (targets_of b) ∙ and_from (list_all ok (targets_of a)) (list_all ok (targets_of b)) ha hb)
-
-all_covered : (ok : ℕ → Bool) (lo n : ℕ) (ls : List ℕ) → ((x : ℕ) → is_within lo n x ≡ true → ok x ≡ true) → list_all (is_within lo n) ls ≡ true → list_all ok ls ≡ true
-all_covered ok lo n [] covers h = refl
-all_covered ok lo n (l ∷ ls) covers h =
-    let parts = and_parts (is_within lo n l) (list_all (is_within lo n) ls) h in
-    and_from (ok l) (list_all ok ls) (covers l parts.0) (all_covered ok lo n ls covers parts.1)
 
 -- The draft e comes from d by lines that put labels: those given on the way at most once each, and others as often as is said.
 -- They lead to labels that they put, and to others of which E speaks.
@@ -177,36 +168,29 @@ puts_jump d l = record {
   leads = λ ok ex covers h. arrives_append ok d.lines (jump Jmp l ∷ []) h (and_from (ok l) true ex refl);
 }
 
-pub puts_branch : (d : Drafted) (op : Op) (l : ℕ) → list_all is_fit (branch op l ∷ []) ≡ true → Puts d (with_lines d (branch op l ∷ [])) no_others (Passes l)
-puts_branch d op l fits = record {
-  grows = omega arith;
-  most = λ x. omega (arith, times-append x d.lines (branch op l ∷ []));
-  least = λ x. omega (arith, times-append x d.lines (branch op l ∷ []));
-  fit = λ h. all_append is_fit d.lines (branch op l ∷ []) h fits;
-  leads = λ ok ex covers h. arrives_append ok d.lines (branch op l ∷ []) h (and_from (ok l) true ex refl);
-}
-
 pub puts_own : (d : Drafted) (n : ℕ) (a : List Line) → Own d.labels n a → Puts d (with_code n a d) no_others Free
 puts_own d n a own = record {
   grows = omega arith;
   most = λ x. omega (arith, times-append x d.lines a, own.once x, below_more d.labels n x);
   least = λ x. omega (arith, times-append x d.lines a);
   fit = λ h. all_append is_fit d.lines a h own.fit;
-  leads = λ ok ex covers h. arrives_append ok d.lines a h (all_covered ok d.labels n (targets_of a) (λ x inside. covers x (omega (arith, times-append x d.lines a, own.once x, among_inside d.labels n x inside))) own.leads.all);
+  leads = λ ok ex covers h. arrives_append ok d.lines a h (all_passes (is_within d.labels n) ok (targets_of a) (λ x inside. covers x (omega (arith, times-append x d.lines a, own.once x, among_inside d.labels n x inside))) own.leads.all);
 }
 
-value_own : (f : Framed) (d : Drafted) (e : Typed) → Own d.labels (uses e) (expr_code f 0 d.labels e)
-value_own f d e = own_made d.labels (uses e) (room e) (expr_code f 0 d.labels e) (expr_made f 0 d.labels e)
+-- labels outside pass the test
+puts_made : {k : ℕ} (d : Drafted) (n : ℕ) (outside : List ℕ) (a : List Line) → Made outside d.labels n k a → Puts d (grown d a n) no_others (λ ok. list_all ok outside ≡ true)
+puts_made {k = k} d n outside a made = record {
+  grows = omega arith;
+  most = λ x. omega (arith, times-append x d.lines a, made.once x, below_more d.labels n x);
+  least = λ x. omega (arith, times-append x d.lines a);
+  fit = λ h. all_append is_fit d.lines a h made.fit;
+  leads = λ ok ex covers h.
+      let part : Stretch ok (among d.labels n) k a = stretch_made made (λ x inside. covers x (omega (arith, times-append x d.lines a, made.once x, among_inside d.labels n x inside))) ex in
+      arrives_append ok d.lines a h part.leads;
+}
 
 pub puts_value : (f : Framed) (e : Typed) (d : Drafted) → Puts d (with_value f e d) no_others Free
-puts_value f e d = puts_own d (uses e) (expr_code f 0 d.labels e) (value_own f d e)
+puts_value f e d = puts_end (puts_made d (uses None e) [] (expr_code f 0 d.labels Value e) (expr_made f 0 d.labels Value e)) (λ x. refl) (λ ok ex. refl)
 
-test_flat : (e : Typed) → Flat (test_in e)
-test_flat e = flat_piece 8 (test_in e) (test_piece (width_of (kind_in e)))
-
--- a branch of an operation that the table has
-pub puts_condition : (f : Framed) (op : Op) (to : ℕ) (e : Typed) (d : Drafted) → list_all is_fit (branch op to ∷ []) ≡ true → Puts d (with_condition f op to e d) no_others (Passes to)
-puts_condition f op to e d fits =
-    let v : Drafted = with_value f e d in
-    let t : Drafted = with_lines v (test_in e) in
-    puts_end (puts_then (puts_value f e d) (puts_then (puts_flat v (test_in e) (test_flat e)) (puts_branch t op to fits))) (λ x. omega arith) (λ ok ex. (tt, (tt, ex)))
+pub puts_test : (f : Framed) (to : ℕ) (s : Bool) (e : Typed) (d : Drafted) → Puts d (with_test f to s e d) no_others (Passes to)
+puts_test f to s e d = puts_end (puts_made d (uses (Some s) e) (to ∷ []) (expr_code f 0 d.labels (Test to s) e) (expr_made f 0 d.labels (Test to s) e)) (λ x. refl) (λ ok ex. and_from (ok to) true ex refl)

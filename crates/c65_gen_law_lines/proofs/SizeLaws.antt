@@ -4,8 +4,7 @@ use Rattle.std.proofs.lemmas.List.{length-append}
 use Rattle.c65_csem.specs.Trees.{Typed, MaybeTyped, absent, present, Stmt, empty, eval, set_part, clear, block, if_stmt, while, do_while, for_loop, switch, case, default, label, goto, break, continue, return, Stmts, no_stmts, and_stmts}
 use Rattle.c65_csem.specs.Places.{is_tag}
 use Rattle.c65_csem.specs.Statements.{cases_of, cases_in}
-use Rattle.c65_mach.specs.declared.rows.Op.{Op}
-use Rattle.c65_mach.specs.declared.rows.Op.TheVariants.{Beq, Bne, Jmp, Sta, Stx}
+use Rattle.c65_mach.specs.declared.rows.Op.TheVariants.{Jmp, Sta, Stx}
 use Rattle.c65_code.specs.declared.line.Line.{Line}
 use Rattle.c65_code.specs.declared.line.Line.TheVariants.{Label}
 use Rattle.c65_code.specs.Segments.{Drafted}
@@ -15,10 +14,11 @@ use Rattle.c65_genwide.specs.Lines.{with_lines}
 use Rattle.c65_genwide.specs.Wide.{width_of}
 use Rattle.c65_genload.specs.Conversions.{size_of}
 use Rattle.c65_genload.specs.declared.places.Access.TheVariants.{Whole}
+use Rattle.c65_genexpr.specs.declared.wanted.Wanted.TheVariants.{Value, Test}
 use Rattle.c65_genexpr.specs.Types.{kind_in, bare}
-use Rattle.c65_genexpr.specs.Code.{expr_code, test_in}
+use Rattle.c65_genexpr.specs.Code.{expr_code}
 use Rattle.c65_genentry.specs.Drafts.{with_labels}
-use Rattle.c65_genentry.specs.Words.{ptr1, ptr2, zero_page, branch, jump, with_code}
+use Rattle.c65_genentry.specs.Words.{ptr1, ptr2, zero_page, jump, with_code}
 use Rattle.c65_genentry.specs.Bytes.{block_labels}
 use Rattle.c65_genentry.specs.Bytes as blocks
 use Rattle.c65_genentry.specs.Pointers as pointers
@@ -28,15 +28,14 @@ use Rattle.c65_genentry.specs.Choice.{choice_code}
 use Rattle.c65_genstmt.specs.declared.jumps.Ways.{Ways}
 use Rattle.c65_genstmt.specs.declared.objects.Spot.{Spot}
 use Rattle.c65_genstmt.specs.declared.objects.Spot.TheVariants.{Bank, Soft, Data}
-use Rattle.c65_genstmt.specs.Jumps.{following, with_value, with_condition}
+use Rattle.c65_genstmt.specs.Jumps.{following, with_value, with_test}
 use Rattle.c65_genstmt.specs.Objects.{spot_of, object_bytes, point_code, stored_code, with_copied, with_kept, with_zeros}
-use Rattle.c65_genstmt.specs.Stmts.{case_behind, with_label, with_jump, two_given, three_given, with_maybe, with_test, ways, default_way, with_stmt, with_stmts}
+use Rattle.c65_genstmt.specs.Stmts.{case_behind, with_label, with_jump, two_given, three_given, with_maybe, with_guard, ways, default_way, with_stmt, with_stmts}
 use Rattle.c65_genstmt.specs.Cases.{room_of}
 use Rattle.c65_genstmt.specs.Functions.{main_code, no_lines}
 use Rattle.c65_gen_law_lines.specs.Bulk.{nodes, maybe_nodes, statement_nodes, statements_nodes}
 use Rattle.c65_gen_law_lines.specs.Laws.{FunctionsAreSmall}
 use Rattle.c65_gen_law_lines.proofs.Made.{size-append}
-use Rattle.c65_gen_law_lines.proofs.Pieces.{test_piece}
 use Rattle.c65_gen_law_lines.proofs.ExprLaws.{expr_made}
 use Rattle.c65_gen_law_lines.proofs.FrameLaws.{frames_are_small}
 use Rattle.c65_gen_law_lines.proofs.Sizes.{Takes, choice_size, point_size, stored_size, bank_clear_size, clear_size, copy_size, entry_size, end_size, main_size}
@@ -61,7 +60,7 @@ grows_code : (k n : ℕ) (d : Drafted) (a : List Line) → Takes k a → Grows k
 grows_code k n d a p = record { size = omega (arith, size-append d.lines a, p.size) }
 
 value_grows : (f : Framed) (e : Typed) (d : Drafted) → Grows (128 * nodes e) d (with_value f e d)
-value_grows f e d = record { size = omega (arith, size-append d.lines (expr_code f 0 d.labels e), (expr_made f 0 d.labels e).size) }
+value_grows f e d = record { size = omega (arith, size-append d.lines (expr_code f 0 d.labels Value e), (expr_made f 0 d.labels Value e).size) }
 
 label_grows : (l : ℕ) (d : Drafted) → Grows 0 d (with_label l d)
 label_grows l d = record { size = omega (arith, size-append d.lines (Label l ∷ [])) }
@@ -69,12 +68,8 @@ label_grows l d = record { size = omega (arith, size-append d.lines (Label l ∷
 jump_grows : (l : ℕ) (d : Drafted) → Grows 3 d (with_jump l d)
 jump_grows l d = record { size = omega (arith, size-append d.lines (jump Jmp l ∷ [])) }
 
-condition_grows : (f : Framed) (op : Op) (to : ℕ) (e : Typed) (d : Drafted) → Grows (128 * nodes e + 13) d (with_condition f op to e d)
-condition_grows f op to e d =
-    let v : Drafted = with_value f e d in
-    let t : Drafted = with_lines v (test_in e) in
-    let first : Grows (128 * nodes e) d v = value_grows f e d in
-    record { size = omega (arith, first.size, size-append v.lines (test_in e), (test_piece (width_of (kind_in e))).size, size-append t.lines (branch op to ∷ [])) }
+test_grows : (f : Framed) (to : ℕ) (s : Bool) (e : Typed) (d : Drafted) → Grows (128 * nodes e) d (with_test f to s e d)
+test_grows f to s e d = record { size = omega (arith, size-append d.lines (expr_code f 0 d.labels (Test to s) e), (expr_made f 0 d.labels (Test to s) e).size) }
 
 -- ---- objects
 
@@ -103,9 +98,9 @@ maybe_grows : (f : Framed) (e : MaybeTyped) (d : Drafted) → Grows (128 * maybe
 maybe_grows f absent d = grows_same
 maybe_grows f (present e) d = value_grows f e d
 
-test_grows : (f : Framed) (to : ℕ) (e : MaybeTyped) (d : Drafted) → Grows (128 * maybe_nodes e + 13) d (with_test f to e d)
-test_grows f to absent d = grows_wider grows_same (omega arith)
-test_grows f to (present e) d = condition_grows f Beq to e d
+guard_grows : (f : Framed) (to : ℕ) (e : MaybeTyped) (d : Drafted) → Grows (128 * maybe_nodes e) d (with_guard f to e d)
+guard_grows f to absent d = grows_same
+guard_grows f to (present e) d = test_grows f to false e d
 
 -- the bytes of a statement, while its case labels keep room for their tests
 record Within (s : Stmt) (d e : Drafted) : Type 0 where
@@ -124,36 +119,36 @@ mutual
   stmt_small f w l (clear i) d = record { size = omega (arith, (zeros_grows (spot_of f i 0) (object_bytes f i) d).size) }
   stmt_small f w l (block os ss) d = record { size = omega (arith, (stmts_small f w l ss d).size) }
   stmt_small f w l (if_stmt e a b) d =
-      let m1 : Drafted = with_condition f Beq d.labels e (two_given d) in
+      let m1 : Drafted = with_test f d.labels false e (two_given d) in
       let m2 : Drafted = with_stmt f w l a m1 in
       let m3 : Drafted = with_jump (d.labels + 1) m2 in
       let m4 : Drafted = with_label d.labels m3 in
       let m5 : Drafted = with_stmt f w (case_behind l a) b m4 in
-      record { size = omega (arith, (condition_grows f Beq d.labels e (two_given d)).size, (stmt_small f w l a m1).size, (jump_grows (d.labels + 1) m2).size, (label_grows d.labels m3).size, (stmt_small f w (case_behind l a) b m4).size, (label_grows (d.labels + 1) m5).size, length-append (cases_of a) (cases_of b)) }
+      record { size = omega (arith, (test_grows f d.labels false e (two_given d)).size, (stmt_small f w l a m1).size, (jump_grows (d.labels + 1) m2).size, (label_grows d.labels m3).size, (stmt_small f w (case_behind l a) b m4).size, (label_grows (d.labels + 1) m5).size, length-append (cases_of a) (cases_of b)) }
   stmt_small f w l (while e a) d =
       let m1 : Drafted = with_label d.labels (two_given d) in
-      let m2 : Drafted = with_condition f Beq (d.labels + 1) e m1 in
+      let m2 : Drafted = with_test f (d.labels + 1) false e m1 in
       let inner : Ways = ways (d.labels + 1) d.labels w.other in
       let m3 : Drafted = with_stmt f inner l a m2 in
       let m4 : Drafted = with_jump d.labels m3 in
-      record { size = omega (arith, (label_grows d.labels (two_given d)).size, (condition_grows f Beq (d.labels + 1) e m1).size, (stmt_small f inner l a m2).size, (jump_grows d.labels m3).size, (label_grows (d.labels + 1) m4).size) }
+      record { size = omega (arith, (label_grows d.labels (two_given d)).size, (test_grows f (d.labels + 1) false e m1).size, (stmt_small f inner l a m2).size, (jump_grows d.labels m3).size, (label_grows (d.labels + 1) m4).size) }
   stmt_small f w l (do_while a e) d =
       let m1 : Drafted = with_label d.labels (three_given d) in
       let inner : Ways = ways (d.labels + 1 + 1) (d.labels + 1) w.other in
       let m2 : Drafted = with_stmt f inner l a m1 in
       let m3 : Drafted = with_label (d.labels + 1) m2 in
-      let m4 : Drafted = with_condition f Bne d.labels e m3 in
-      record { size = omega (arith, (label_grows d.labels (three_given d)).size, (stmt_small f inner l a m1).size, (label_grows (d.labels + 1) m2).size, (condition_grows f Bne d.labels e m3).size, (label_grows (d.labels + 1 + 1) m4).size) }
+      let m4 : Drafted = with_test f d.labels true e m3 in
+      record { size = omega (arith, (label_grows d.labels (three_given d)).size, (stmt_small f inner l a m1).size, (label_grows (d.labels + 1) m2).size, (test_grows f d.labels true e m3).size, (label_grows (d.labels + 1 + 1) m4).size) }
   stmt_small f w l (for_loop i t n a) d =
       let g : Drafted = with_maybe f i d in
       let m1 : Drafted = with_label g.labels (three_given g) in
-      let m2 : Drafted = with_test f (g.labels + 1 + 1) t m1 in
+      let m2 : Drafted = with_guard f (g.labels + 1 + 1) t m1 in
       let inner : Ways = ways (g.labels + 1 + 1) (g.labels + 1) w.other in
       let m3 : Drafted = with_stmt f inner l a m2 in
       let m4 : Drafted = with_label (g.labels + 1) m3 in
       let m5 : Drafted = with_maybe f n m4 in
       let m6 : Drafted = with_jump g.labels m5 in
-      record { size = omega (arith, (maybe_grows f i d).size, (label_grows g.labels (three_given g)).size, (test_grows f (g.labels + 1 + 1) t m1).size, (stmt_small f inner l a m2).size, (label_grows (g.labels + 1) m3).size, (maybe_grows f n m4).size, (jump_grows g.labels m5).size, (label_grows (g.labels + 1 + 1) m6).size) }
+      record { size = omega (arith, (maybe_grows f i d).size, (label_grows g.labels (three_given g)).size, (guard_grows f (g.labels + 1 + 1) t m1).size, (stmt_small f inner l a m2).size, (label_grows (g.labels + 1) m3).size, (maybe_grows f n m4).size, (jump_grows g.labels m5).size, (label_grows (g.labels + 1 + 1) m6).size) }
   stmt_small f w l (switch e a) d =
       let cases : List ℤ = cases_of a in
       let m0 : Drafted = with_labels (length cases) (two_given d) in

@@ -4,8 +4,7 @@ use Rattle.std.specs.Prelude.{nat_lt, nat_le, Option}
 use Rattle.c65_csem.specs.Trees.{Typed, MaybeTyped, absent, present, Stmt, empty, eval, set_part, clear, block, if_stmt, while, do_while, for_loop, switch, case, default, label, goto, break, continue, return, Stmts, no_stmts, and_stmts}
 use Rattle.c65_csem.specs.Places.{is_tag}
 use Rattle.c65_csem.specs.Statements.{cases_of}
-use Rattle.c65_mach.specs.declared.rows.Op.{Op}
-use Rattle.c65_mach.specs.declared.rows.Op.TheVariants.{Beq, Bne, Jmp, Sta, Stx, Iny, Cpy, Dex, Lda, Ldx, Ldy, Inc}
+use Rattle.c65_mach.specs.declared.rows.Op.TheVariants.{Bne, Jmp, Sta, Stx, Iny, Cpy, Dex, Lda, Ldx, Ldy, Inc}
 use Rattle.c65_code.specs.declared.line.Line.{Line}
 use Rattle.c65_code.specs.declared.line.Line.TheVariants.{Label}
 use Rattle.c65_code.specs.declared.routine.Width.{Width}
@@ -18,8 +17,9 @@ use Rattle.c65_genload.specs.Conversions.{size_of}
 use Rattle.c65_genload.specs.declared.places.Access.{Access}
 use Rattle.c65_genload.specs.declared.places.Access.TheVariants.{Whole}
 use Rattle.c65_genload.specs.declared.places.Place.TheVariants as places
+use Rattle.c65_genexpr.specs.declared.wanted.Wanted.TheVariants.{Value, Test}
 use Rattle.c65_genexpr.specs.Types.{kind_in, bare}
-use Rattle.c65_genexpr.specs.Code.{expr_code, test_in}
+use Rattle.c65_genexpr.specs.Code.{expr_code}
 use Rattle.c65_genentry.specs.Drafts.{with_labels}
 use Rattle.c65_genentry.specs.Words.{ptr1, ptr2, tmp1, tmp2, regbank, implied, zero_page, by_y, branch, jump, with_code}
 use Rattle.c65_genentry.specs.Bytes.{pages_code, rest_code, loop_labels, block_code, block_labels}
@@ -29,12 +29,12 @@ use Rattle.c65_genentry.specs.Choice.{bits_of, test_code, choice_code}
 use Rattle.c65_genstmt.specs.declared.jumps.Ways.{Ways}
 use Rattle.c65_genstmt.specs.declared.objects.Spot.{Spot}
 use Rattle.c65_genstmt.specs.declared.objects.Spot.TheVariants.{Bank, Soft, Data}
-use Rattle.c65_genstmt.specs.Jumps.{following, with_value, with_condition}
+use Rattle.c65_genstmt.specs.Jumps.{following, with_value, with_test}
 use Rattle.c65_genstmt.specs.Objects.{spot_of, object_bytes, point_code, stored_code, with_copied, with_kept, with_zeros}
-use Rattle.c65_genstmt.specs.Stmts.{case_behind, with_label, with_jump, two_given, three_given, with_maybe, with_test, ways, default_way, with_stmt, with_stmts}
+use Rattle.c65_genstmt.specs.Stmts.{case_behind, with_label, with_jump, two_given, three_given, with_maybe, with_guard, ways, default_way, with_stmt, with_stmts}
 use Rattle.c65_gen_law_lines.specs.Stack.{Waiting, waiting_by, waits, calls_of, maybe_calls, statement_calls, statements_calls}
 use Rattle.c65_gen_law_lines.specs.Laws.{StatementsKeepTheStack}
-use Rattle.c65_gen_law_lines.proofs.StackPieces.{waits_append, Leaves, leaves_then, leaves_none, leaves_if, Still, test_still, stored_leaves}
+use Rattle.c65_gen_law_lines.proofs.StackPieces.{waits_append, Leaves, leaves_then, leaves_none, leaves_if, Still, stored_leaves}
 use Rattle.c65_gen_law_lines.proofs.StackLaws.{joined, expressions_keep_the_stack}
 
 -- between two drafts stand lines that leave what waits, by these calls
@@ -62,7 +62,7 @@ still_code : (n : ℕ) (d : Drafted) (a : List Line) → Still a → Keeps [] d 
 still_code n d a still = record { keeps = λ start v rest h. waits_append d.lines a start ∙ (ap (λ w. waits w a) h ∙ (still v).to rest) }
 
 value_keeps : (f : Framed) (e : Typed) (d : Drafted) → Keeps (calls_of f e) d (with_value f e d)
-value_keeps f e d = record { keeps = λ start v rest h. waits_append d.lines (expr_code f 0 d.labels e) start ∙ (ap (λ w. waits w (expr_code f 0 d.labels e)) h ∙ expressions_keep_the_stack f 0 d.labels e v rest) }
+value_keeps f e d = record { keeps = λ start v rest h. waits_append d.lines (expr_code f 0 d.labels Value e) start ∙ (ap (λ w. waits w (expr_code f 0 d.labels Value e)) h ∙ expressions_keep_the_stack f 0 d.labels Value e v rest) }
 
 one_label : (l : ℕ) → Still (Label l ∷ [])
 one_label l v = record { to = λ calls. refl }
@@ -70,20 +70,14 @@ one_label l v = record { to = λ calls. refl }
 one_jump : (l : ℕ) → Still (jump Jmp l ∷ [])
 one_jump l v = record { to = λ calls. refl }
 
-one_branch : (op : Op) (l : ℕ) → Still (branch op l ∷ [])
-one_branch op l v = record { to = λ calls. refl }
-
 label_keeps : (l : ℕ) (d : Drafted) → Keeps [] d (with_label l d)
 label_keeps l d = still_lines d (Label l ∷ []) (one_label l)
 
 jump_keeps : (l : ℕ) (d : Drafted) → Keeps [] d (with_jump l d)
 jump_keeps l d = still_lines d (jump Jmp l ∷ []) (one_jump l)
 
-condition_keeps : (f : Framed) (op : Op) (to : ℕ) (e : Typed) (d : Drafted) → Keeps (calls_of f e) d (with_condition f op to e d)
-condition_keeps f op to e d =
-    let v : Drafted = with_value f e d in
-    let t : Drafted = with_lines v (test_in e) in
-    keeps_behind (value_keeps f e d) (keeps_before (still_lines v (test_in e) (test_still (width_of (kind_in e)))) (still_lines t (branch op to ∷ []) (one_branch op to)))
+test_keeps : (f : Framed) (to : ℕ) (s : Bool) (e : Typed) (d : Drafted) → Keeps (calls_of f e) d (with_test f to s e d)
+test_keeps f to s e d = record { keeps = λ start v rest h. waits_append d.lines (expr_code f 0 d.labels (Test to s) e) start ∙ (ap (λ w. waits w (expr_code f 0 d.labels (Test to s) e)) h ∙ expressions_keep_the_stack f 0 d.labels (Test to s) e v rest) }
 
 -- ---- objects
 
@@ -183,9 +177,9 @@ maybe_keeps : (f : Framed) (e : MaybeTyped) (d : Drafted) → Keeps (maybe_calls
 maybe_keeps f absent d = keeps_same
 maybe_keeps f (present e) d = value_keeps f e d
 
-test_keeps : (f : Framed) (to : ℕ) (e : MaybeTyped) (d : Drafted) → Keeps (maybe_calls f e) d (with_test f to e d)
-test_keeps f to absent d = keeps_same
-test_keeps f to (present e) d = condition_keeps f Beq to e d
+guard_keeps : (f : Framed) (to : ℕ) (e : MaybeTyped) (d : Drafted) → Keeps (maybe_calls f e) d (with_guard f to e d)
+guard_keeps f to absent d = keeps_same
+guard_keeps f to (present e) d = test_keeps f to false e d
 
 -- labels that are given change no lines
 given_keeps : {cs : List (List ℕ)} {d e g : Drafted} → d.lines ≡ e.lines → Keeps cs e g → Keeps cs d g
@@ -199,40 +193,40 @@ mutual
   stmt_keeps f w l (clear i) d = zeros_keeps (spot_of f i 0) (object_bytes f i) d
   stmt_keeps f w l (block os ss) d = stmts_keep f w l ss d
   stmt_keeps f w l (if_stmt e a b) d =
-      let m1 : Drafted = with_condition f Beq d.labels e (two_given d) in
+      let m1 : Drafted = with_test f d.labels false e (two_given d) in
       let m2 : Drafted = with_stmt f w l a m1 in
       let m3 : Drafted = with_jump (d.labels + 1) m2 in
       let m4 : Drafted = with_label d.labels m3 in
       let m5 : Drafted = with_stmt f w (case_behind l a) b m4 in
-      given_keeps {e = two_given d} refl (keeps_then (condition_keeps f Beq d.labels e (two_given d)) (keeps_then (stmt_keeps f w l a m1)
+      given_keeps {e = two_given d} refl (keeps_then (test_keeps f d.labels false e (two_given d)) (keeps_then (stmt_keeps f w l a m1)
       (keeps_before (jump_keeps (d.labels + 1) m2) (keeps_before (label_keeps d.labels m3) (keeps_behind (stmt_keeps f w (case_behind l a) b m4) (label_keeps (d.labels + 1) m5))))))
   stmt_keeps f w l (while e a) d =
       let m1 : Drafted = with_label d.labels (two_given d) in
-      let m2 : Drafted = with_condition f Beq (d.labels + 1) e m1 in
+      let m2 : Drafted = with_test f (d.labels + 1) false e m1 in
       let inner : Ways = ways (d.labels + 1) d.labels w.other in
       let m3 : Drafted = with_stmt f inner l a m2 in
       let m4 : Drafted = with_jump d.labels m3 in
-      given_keeps {e = two_given d} refl (keeps_before (label_keeps d.labels (two_given d)) (keeps_then (condition_keeps f Beq (d.labels + 1) e m1)
+      given_keeps {e = two_given d} refl (keeps_before (label_keeps d.labels (two_given d)) (keeps_then (test_keeps f (d.labels + 1) false e m1)
       (keeps_behind (keeps_behind (stmt_keeps f inner l a m2) (jump_keeps d.labels m3)) (label_keeps (d.labels + 1) m4))))
   stmt_keeps f w l (do_while a e) d =
       let m1 : Drafted = with_label d.labels (three_given d) in
       let inner : Ways = ways (d.labels + 1 + 1) (d.labels + 1) w.other in
       let m2 : Drafted = with_stmt f inner l a m1 in
       let m3 : Drafted = with_label (d.labels + 1) m2 in
-      let m4 : Drafted = with_condition f Bne d.labels e m3 in
+      let m4 : Drafted = with_test f d.labels true e m3 in
       given_keeps {e = three_given d} refl (keeps_before (label_keeps d.labels (three_given d)) (keeps_then (stmt_keeps f inner l a m1)
-      (keeps_before (label_keeps (d.labels + 1) m2) (keeps_behind (condition_keeps f Bne d.labels e m3) (label_keeps (d.labels + 1 + 1) m4)))))
+      (keeps_before (label_keeps (d.labels + 1) m2) (keeps_behind (test_keeps f d.labels true e m3) (label_keeps (d.labels + 1 + 1) m4)))))
   stmt_keeps f w l (for_loop i t n a) d =
       let g : Drafted = with_maybe f i d in
       let m1 : Drafted = with_label g.labels (three_given g) in
-      let m2 : Drafted = with_test f (g.labels + 1 + 1) t m1 in
+      let m2 : Drafted = with_guard f (g.labels + 1 + 1) t m1 in
       let inner : Ways = ways (g.labels + 1 + 1) (g.labels + 1) w.other in
       let m3 : Drafted = with_stmt f inner l a m2 in
       let m4 : Drafted = with_label (g.labels + 1) m3 in
       let m5 : Drafted = with_maybe f n m4 in
       let m6 : Drafted = with_jump g.labels m5 in
       let loop : Keeps (maybe_calls f t ++ (statement_calls f a ++ maybe_calls f n)) g (with_label (g.labels + 1 + 1) m6) =
-      given_keeps {e = three_given g} refl (keeps_before (label_keeps g.labels (three_given g)) (keeps_then (test_keeps f (g.labels + 1 + 1) t m1) (keeps_then (stmt_keeps f inner l a m2)
+      given_keeps {e = three_given g} refl (keeps_before (label_keeps g.labels (three_given g)) (keeps_then (guard_keeps f (g.labels + 1 + 1) t m1) (keeps_then (stmt_keeps f inner l a m2)
       (keeps_before (label_keeps (g.labels + 1) m3) (keeps_behind (keeps_behind (maybe_keeps f n m4) (jump_keeps g.labels m5)) (label_keeps (g.labels + 1 + 1) m6)))))) in
       keeps_then (maybe_keeps f i d) loop
   stmt_keeps f w l (switch e a) d =
