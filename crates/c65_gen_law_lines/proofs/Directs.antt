@@ -5,12 +5,11 @@ use Rattle.std.proofs.lemmas.Bool.{and_from}
 use Rattle.c65_base.specs.declared.operators.BinaryOp.{BinaryOp}
 use Rattle.c65_base.specs.declared.operators.BinaryOp.TheVariants as ops
 use Rattle.c65_mach.specs.declared.rows.Op.{Op}
-use Rattle.c65_mach.specs.declared.rows.Op.TheVariants.{Adc, And, Bcc, Bcs, Beq, Bmi, Bne, Bpl, Bvc, Clc, Cmp, Dex, Eor, Inx, Lda, Ldx, Ora, Sbc, Sec, Sta, Stx, Tax, Tay, Txa, Tya}
+use Rattle.c65_mach.specs.declared.rows.Op.TheVariants.{Adc, And, Bcc, Bcs, Beq, Bne, Bvc, Clc, Cmp, Dex, Eor, Inx, Lda, Ldx, Ora, Sbc, Sec, Sta, Stx, Tax, Tay, Txa, Tya}
 use Rattle.c65_mach.specs.declared.rows.Mode.TheVariants.{Relative}
 use Rattle.c65_code.specs.declared.line.Sym.{Sym}
 use Rattle.c65_code.specs.declared.line.Operand.TheVariants.{To}
-use Rattle.c65_code.specs.declared.line.Line.{Line}
-use Rattle.c65_code.specs.declared.line.Line.TheVariants.{Label, Do}
+use Rattle.c65_code.specs.declared.line.Line.TheVariants.{Do}
 use Rattle.c65_code.specs.Segments.{is_fit}
 use Rattle.c65_genwide.specs.Lines.{value}
 use Rattle.c65_genload.specs.Words.{sreg, tmp1, tmp2, implied, zero_page, by_y, absolute, branch}

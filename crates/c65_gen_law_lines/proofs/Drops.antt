@@ -1,12 +1,12 @@
 -- Sides that an operator reads where they lie have no labels and call nothing.
-use Rattle.std.proofs.Common.{◌≡◌, ℕ, ◌==◌, Bool, true, false, Option, Some, None, ℤ, List, [], refl, ◌∙◌, ap, subst}
+use Rattle.std.proofs.Common.{◌≡◌, ℕ, ◌==◌, Bool, true, false, Option, Some, None, ℤ, [], refl, ◌∙◌, ap}
 use Rattle.std.specs.Prelude.{◌&&◌, ◌||◌, if◌then◌else◌, is_some, option_and_then, option_map}
 use Rattle.c65_base.specs.declared.operators.BinaryOp.{BinaryOp}
 use Rattle.c65_base.specs.declared.operators.BinaryOp.TheVariants as ops
 use Rattle.c65_ints.specs.declared.types.IntType.{IntType}
 use Rattle.c65_ctype.specs.Trees.{type_in}
 use Rattle.c65_ctype.specs.Views.{types_of}
-use Rattle.c65_csem.specs.Trees.{Typed, node, Node, constant, null, literal, object, func, deref, member, load, address, decay, convert, unary, binary, both, either, choice, comma, assign, assign_op, assign_step, step, copy, call, pack, spill, rest}
+use Rattle.c65_csem.specs.Trees.{Typed, node, constant, null, literal, object, func, member, load, address, decay, convert}
 use Rattle.c65_code.specs.declared.routine.Width.{Width}
 use Rattle.c65_code.specs.declared.routine.Width.TheVariants.{Ax, Eax}
 use Rattle.c65_genframe.specs.Frames.{Framed}
@@ -18,7 +18,7 @@ use Rattle.c65_gendirect.specs.declared.bytes.OperandByte.{OperandByte}
 use Rattle.c65_gendirect.specs.declared.direct.Direct.{Direct}
 use Rattle.c65_gendirect.specs.declared.compare.Sides.{Sides}
 use Rattle.c65_gendirect.specs.declared.relation.Relation.{Relation}
-use Rattle.c65_gendirect.specs.Bytes.{byte_of, converted}
+use Rattle.c65_gendirect.specs.Bytes.{byte_of}
 use Rattle.c65_gendirect.specs.Compare.{mirrored}
 use Rattle.c65_genshift.specs.declared.quick.Quick.{Quick}
 use Rattle.c65_genshift.specs.Quick.{quick_of}
@@ -34,9 +34,8 @@ use Rattle.c65_genexpr.specs.declared.operands.Operands.TheVariants.{Numbers, Po
 use Rattle.c65_genexpr.specs.Types.{kind_of, bare, offset_at, access_of}
 use Rattle.c65_genexpr.specs.Places.{moved, place_of, IsKnown}
 use Rattle.c65_genexpr.specs.Operands.{residue_of, negative, constant_in}
-use Rattle.c65_genexpr.specs.Direct.{kept_at, address_at, address_of, takes_bytes, converted_if, direct_of, is_fixed, is_pure, is_byte}
-use Rattle.c65_genexpr.specs.Wanted.{handed_sense}
-use Rattle.c65_genexpr.specs.Comparing.{is_zero, zero_sense, tested_by, sides_of, lowest, is_raised, raised, one_more, range_of, meeting, beside, changes, compared_by, comparing_of}
+use Rattle.c65_genexpr.specs.Direct.{kept_at, address_at, address_of, takes_bytes, converted_if, sides_of, direct_of, is_fixed, is_pure, is_byte}
+use Rattle.c65_genexpr.specs.Comparing.{is_zero, zero_sense, tested_by, is_raised, raised, one_more, range_of, meeting, beside, changes, compared_by, comparing_of}
 use Rattle.c65_genexpr.specs.Operating.{sum_by, mask_by, number_form, offset_form, constant_form, word_in, word_if, element_form, right_form, under_if, left_form, constant_right, direct_right, direct_left, by_left, by_right, operating_of}
 use Rattle.c65_genexpr.specs.Operating as operators
 use Rattle.c65_genexpr.specs.Uses.{uses}
@@ -90,10 +89,6 @@ address_idle f pushed (node t (member e m)) d h =
     record { uses = known_uses f pushed (node t (member e m)) known; calls = known_calls f pushed (node t (member e m)) known }
 address_idle f pushed (node t _) d h = absurd cc
 
-handed_none : (b : Bool) → handed_sense b None ≡ None
-handed_none true = refl
-handed_none false = refl
-
 -- what is converted is direct
 converted_from : (b : Bool) (to : IntType) (x : Option Direct) (d : Direct) {A : Type 0} → ((c : Direct) → x ≡ Some c → A) → converted_if b to x ≡ Some d → A
 converted_from true to (Some c) d found h = found c refl
@@ -110,7 +105,7 @@ direct_idle f pushed (node t (address e)) d h = let idle : Idle f e = address_id
 direct_idle f pushed (node t (decay e)) d h = let idle : Idle f e = address_idle f pushed e d h in record { uses = idle.uses; calls = idle.calls }
 direct_idle f pushed (node t (convert e)) d h =
     let idle : Idle f e = converted_from (takes_bytes (type_in t) (bare e)) (kind_of (type_in t)) (direct_of f pushed e) d (direct_idle f pushed e) h in
-    record { uses = ap (λ s. uses s e) (handed_none _) ∙ idle.uses; calls = idle.calls }
+    record { uses = idle.uses; calls = idle.calls }
 direct_idle f pushed (node t _) d h = absurd cc
 
 constant_idle : (f : Framed) (e : Typed) (z : ℤ) → constant_in e ≡ Some z → Idle f e

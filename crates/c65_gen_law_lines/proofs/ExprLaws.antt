@@ -174,8 +174,9 @@ leaf : {outside : List ℕ} {lo k : ℕ} {code : List Line} (e : Typed) → k + 
 leaf e le flat m = made_wider m (omega (arith, some_nodes e))
 
 handed_is : (same : Bool) (w : Wanted) → sense_of (handed same w) ≡ handed_sense same (sense_of w)
-handed_is true w = refl
-handed_is false w = refl
+handed_is same Value = refl
+handed_is true (Test to s) = refl
+handed_is false (Test to s) = refl
 
 unary_made : {lo : ℕ} {code : List Line} (w : Wanted) (t : QTy) (op : UnaryOp) (e : Typed) → Made [] lo (uses None e) (room e) code → Made (aims w) lo (uses None e) (room (node t (unary op e))) (wanted w (width_in t) (code ++ unary_code op (width_of (kind_in e))))
 unary_made w t op e m = made_wider (wanted_made w (width_in t) (made_behind m (unary_piece op (width_of (kind_in e))))) (omega (arith, some_nodes e))

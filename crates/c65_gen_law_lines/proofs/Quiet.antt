@@ -9,7 +9,7 @@ use Rattle.c65_code.specs.declared.line.Line.{Line}
 use Rattle.c65_code.specs.declared.line.Line.TheVariants.{Label, Do}
 use Rattle.c65_code.specs.Segments.{is_fit}
 use Rattle.c65_gen_law_lines.proofs.Made.{Piece, Stretch, nowhere, once_at, stretch_then, stretch_piece, stretch_label, stretch_branch, stretch_jump, stretch_wider}
-use Rattle.c65_gen_law_lines.proofs.Leaves.{Leaves, leaves_then, leaves_none, Still}
+use Rattle.c65_gen_law_lines.proofs.Leaves.{leaves_then, leaves_none, Still}
 
 pub record Quiet (ok : ℕ → Bool) (own : ℕ → ℕ) (k : ℕ) (lines : List Line) : Type 0 where
   pub part : Stretch ok own k lines

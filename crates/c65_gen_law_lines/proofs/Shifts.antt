@@ -1,27 +1,26 @@
 -- Shifts and masks by constants: their labels, their size, and that they leave what waits.
-use Rattle.std.proofs.Common.{◌≡◌, ℕ, zero, suc, ◌+◌, ◌-◌, ◌*◌, ◌%◌, ◌<◌, ◌≤◌, ◌==◌, Bool, true, false, Option, Some, None, List, [], ◌∷◌, ◌++◌, refl, sym, ap, subst, arith}
-use Rattle.std.specs.Prelude.{◌&&◌, ◌||◌, nat_lt, nat_le, if◌then◌else◌, replicate}
+use Rattle.std.proofs.Common.{◌≡◌, ℕ, zero, suc, ◌+◌, ◌-◌, ◌*◌, ◌%◌, ◌<◌, ◌≤◌, ◌==◌, Bool, true, false, Option, Some, None, List, [], ◌∷◌, ◌++◌, refl, subst, arith}
+use Rattle.std.specs.Prelude.{◌||◌, nat_lt, nat_le, if◌then◌else◌, replicate}
 use Rattle.std.proofs.lemmas.Bool.{and_parts, ltb-true, ltb-false}
 use Rattle.c65_base.specs.declared.operators.BinaryOp.{BinaryOp}
 use Rattle.c65_ints.specs.declared.types.IntType.{IntType}
 use Rattle.c65_ints.specs.Ranges.{is_signed_of}
-use Rattle.c65_mach.specs.declared.rows.Op.TheVariants.{And, Asl, Bne, Dey, Lda, Ldx, Ldy, Lsr, Rol, Ror, Sta, Stx, Sty, Tax, Tay, Txa, Tya}
+use Rattle.c65_mach.specs.declared.rows.Op.TheVariants.{And, Asl, Bne, Dey, Lda, Ldx, Ldy, Lsr, Sta, Stx, Sty, Tax, Tay, Txa, Tya}
 use Rattle.c65_code.specs.declared.line.Line.{Line}
-use Rattle.c65_code.specs.declared.line.Line.TheVariants.{Label}
 use Rattle.c65_code.specs.declared.routine.TosOp.{TosOp}
 use Rattle.c65_code.specs.declared.routine.TosOp.TheVariants as tos
 use Rattle.c65_code.specs.declared.routine.Width.{Width}
 use Rattle.c65_code.specs.declared.routine.Width.TheVariants.{Ax, Eax}
 use Rattle.c65_code.specs.declared.routine.Routine.TheVariants.{Unary}
 use Rattle.c65_genwide.specs.Lines.{value, call}
-use Rattle.c65_genwide.specs.Wide.{width_of, tos_of, narrow_code}
-use Rattle.c65_genload.specs.Words.{sreg, tmp1, implied, zero_page, branch}
-use Rattle.c65_genload.specs.Numbers.{first, second, third, fourth, mask_code}
+use Rattle.c65_genwide.specs.Wide.{width_of, tos_of}
+use Rattle.c65_genload.specs.Words.{sreg, tmp1, implied, zero_page}
+use Rattle.c65_genload.specs.Numbers.{first, second, mask_code}
 use Rattle.c65_genshift.specs.declared.quick.Quick.{Quick}
 use Rattle.c65_genshift.specs.declared.quick.Quick.TheVariants.{Shift, Mask}
-use Rattle.c65_genshift.specs.Shifts.{shift_a, one_of, calls_code, turns_code, left_turn, right_turn, left_byte_code, right_byte_code, left_one_code, left_two_code, left_three_code, right_one_code, right_two_code, right_three_code, labelled, left_word_code, right_word_code, left_long_code, right_long_code, shift_code, is_short_long, is_short}
-use Rattle.c65_genshift.specs.Quick.{power_of, shift_if, scaled_if, rest_if, quick_by, quick_of, mask_word_code, mask_high_code, mask_long_code, mask_by_width, quick_lines, quick_code, elements_by, elements_code}
-use Rattle.c65_gen_law_lines.proofs.Made.{Piece, nowhere, once_at}
+use Rattle.c65_genshift.specs.Shifts.{shift_a, one_of, calls_code, turns_code, left_turn, right_turn, left_byte_code, right_byte_code, left_one_code, left_two_code, right_one_code, right_two_code, labelled, left_word_code, right_word_code, left_long_code, right_long_code, shift_code, is_short_long, is_short}
+use Rattle.c65_genshift.specs.Quick.{power_of, scaled_if, rest_if, quick_by, quick_of, mask_word_code, mask_high_code, mask_by_width, quick_lines, quick_code, elements_by, elements_code}
+use Rattle.c65_gen_law_lines.proofs.Made.{nowhere, once_at}
 use Rattle.c65_gen_law_lines.proofs.Pieces.{narrow_piece, scale_piece}
 use Rattle.c65_gen_law_lines.proofs.StackPieces.{narrow_still, scale_still}
 use Rattle.c65_gen_law_lines.proofs.Quiet.{Quiet, quiet_then, quiet_piece, quiet_label, quiet_branch, quiet_none, quiet_wider, quiet_as, quiet_if}

@@ -51,7 +51,7 @@ use Rattle.c65_genexpr.specs.Types.{kind_of, outcome_of, given_bytes, kind_in, b
 use Rattle.c65_genexpr.specs.Places.{more, place_of, object_code, IsKnown}
 use Rattle.c65_genexpr.specs.Operands.{residue_of, operands_of, computes, unary_code, same_truth, conversion_by}
 use Rattle.c65_genexpr.specs.Direct.{kept_at, own_bytes}
-use Rattle.c65_genexpr.specs.Wanted.{wanted_by, handed, branch_code, wanted, aimed, sense, inner, truth_by, is_straight, way, way_labels, joined as both_joined}
+use Rattle.c65_genexpr.specs.Wanted.{decided_code, wanted_by, handed, branch_code, wanted, aimed, sense, inner, truth_by, is_straight, way, way_labels, joined as both_joined}
 use Rattle.c65_genexpr.specs.Comparing.{relation_by, tested_by, comparing_of, low_code, below_side, comparison_by}
 use Rattle.c65_genexpr.specs.Operating.{operating_of, below_operand, operator_by}
 use Rattle.c65_genexpr.specs.Steps.{amount_of}
@@ -62,7 +62,6 @@ use Rattle.c65_genexpr.specs.Uses.{by_relation, uses}
 use Rattle.c65_genexpr.specs.Code.{target_code, width_in, constant_code, tested_load, load_by, behind_open, compound, call_by, expr_code, node_code, args_code, operator_code, comparison_code}
 use Rattle.c65_gen_law_lines.specs.Stack.{bytes_in, Waiting, waiting_by, taken, left, waits, argument_bytes, passed, unless_named, calls_of, node_calls, args_calls}
 use Rattle.c65_gen_law_lines.specs.Laws.{ExpressionsKeepTheStack, CallsAreCounted}
-use Rattle.c65_gen_law_lines.proofs.Quiet.{Quiet}
 use Rattle.c65_gen_law_lines.proofs.Directs.{loaded_quiet, compare_quiet, compare_byte_quiet, zero_test_quiet, truth_quiet}
 use Rattle.c65_gen_law_lines.proofs.Drops.{kept_known, known_calls, IfRead, Unread, comparing_calls, Unused, operating_calls}
 use Rattle.c65_gen_law_lines.proofs.Forms.{form_quiet, waiting_leaves, stacked_leaves}
@@ -121,10 +120,15 @@ wanted_does : {cs : List (List ℕ)} {v : List ℕ} {a : List Line} (w : Wanted)
 wanted_does Value width d = d
 wanted_does {v = v} (Test to s) width d = does_behind d (leaves_then (test_still width v) (record { to = λ calls. refl }))
 
+decided_leaves : (truth s : Bool) (to : ℕ) (v : List ℕ) → Leaves v (decided_code truth s to) v
+decided_leaves true true to v = record { to = λ calls. refl }
+decided_leaves false false to v = record { to = λ calls. refl }
+decided_leaves true false to v = leaves_none
+decided_leaves false true to v = leaves_none
+
 constant_leaves : (w : Wanted) (width : Width) (n : ℕ) (v : List ℕ) → Leaves v (constant_code w width n) v
 constant_leaves Value width n v = number_still width n v
-constant_leaves (Test to true) width n v = leaves_if (n == 0) leaves_none (record { to = λ calls. refl })
-constant_leaves (Test to false) width n v = leaves_if (n == 0) (record { to = λ calls. refl }) leaves_none
+constant_leaves (Test to s) width n v = decided_leaves (not (n == 0)) s to v
 
 tested_does : {cs : List (List ℕ)} {v : List ℕ} {a : List Line} (d : Option Direct) (kind : IntType) (s : Bool) (to : ℕ) → ((c : Direct) → d ≡ Some c → cs ≡ []) → Does cs v a v → Does cs v (tested_load d kind s to a) v
 tested_does {v = v} (Some d) kind s to idle da = does_as (sym (idle d refl)) (does_leaves ((zero_test_quiet {ok = λ l. true} (own_bytes d (extent_of kind)) s to refl).still v))

@@ -1,11 +1,10 @@
 -- Lines of which a value or a test is wanted: their labels, their size, and the form of each line.
-use Rattle.std.proofs.Common.{◌≡◌, ℕ, ◌+◌, ◌≤◌, ◌<◌, ◌==◌, Bool, true, false, Option, Some, None, List, [], ◌∷◌, ◌++◌, length, refl, sym, ◌∙◌, ap, subst, arith}
+use Rattle.std.proofs.Common.{◌≡◌, ℕ, ◌+◌, ◌≤◌, ◌==◌, Bool, true, false, not, Option, Some, None, List, [], ◌∷◌, ◌++◌, length, refl, sym, ◌∙◌, ap, subst, arith}
 use Rattle.std.specs.Prelude.{if◌then◌else◌}
 use Rattle.std.specs.List.{list_all}
 use Rattle.std.proofs.lemmas.Bool.{and_from}
 use Rattle.c65_base.specs.declared.operators.BinaryOp.{BinaryOp}
 use Rattle.c65_ints.specs.declared.types.IntType.{IntType}
-use Rattle.c65_ints.specs.declared.types.IntType.TheVariants as ints
 use Rattle.c65_ctype.specs.Trees.{Ty}
 use Rattle.c65_mach.specs.declared.rows.Op.TheVariants.{Jmp, Tay}
 use Rattle.c65_mach.specs.declared.rows.Mode.TheVariants.{Absolute, Relative}
@@ -13,6 +12,7 @@ use Rattle.c65_code.specs.declared.line.Operand.TheVariants.{To}
 use Rattle.c65_code.specs.declared.line.Line.{Line}
 use Rattle.c65_code.specs.declared.line.Line.TheVariants.{Label, Do}
 use Rattle.c65_code.specs.declared.routine.Width.{Width}
+use Rattle.c65_code.specs.declared.routine.Width.TheVariants.{Ax, Eax}
 use Rattle.c65_code.specs.Segments.{is_fit}
 use Rattle.c65_genload.specs.declared.places.Extent.{Extent}
 use Rattle.c65_genload.specs.declared.places.Extent.TheVariants.{One, Two, Three, Four}
@@ -21,6 +21,8 @@ use Rattle.c65_genload.specs.Places.{extent_of}
 use Rattle.c65_genwide.specs.Wide.{width_of}
 use Rattle.c65_gendirect.specs.declared.bytes.OperandByte.{OperandByte}
 use Rattle.c65_gendirect.specs.declared.direct.Direct.{Direct}
+use Rattle.c65_gendirect.specs.declared.compare.Sides.{Sides}
+use Rattle.c65_gendirect.specs.declared.compare.Sides.TheVariants.{Word, Long}
 use Rattle.c65_gendirect.specs.Bytes.{byte_of}
 use Rattle.c65_genexpr.specs.declared.comparing.Side.TheVariants as side
 use Rattle.c65_genexpr.specs.declared.comparing.Comparing.{Comparing}
@@ -31,19 +33,18 @@ use Rattle.c65_genexpr.specs.declared.operands.Operands.{Operands}
 use Rattle.c65_genexpr.specs.declared.wanted.Wanted.{Wanted}
 use Rattle.c65_genexpr.specs.declared.wanted.Wanted.TheVariants.{Value, Test}
 use Rattle.c65_genexpr.specs.Types.{kind_of}
-use Rattle.c65_genexpr.specs.Direct.{with_byte, own_bytes}
+use Rattle.c65_genexpr.specs.Direct.{sides_of, listed, alone, own_bytes}
 use Rattle.c65_genexpr.specs.Operands.{conversion_by}
-use Rattle.c65_genexpr.specs.Wanted.{sense_of, wanted_by, handed, by_sense, wanted, aimed, truth_labels, inner, truth_by, way, way_labels, joined}
+use Rattle.c65_genexpr.specs.Wanted.{decided_code, sense_of, handed, by_sense, wanted, aimed, truth_labels, inner, truth_by, way, way_labels, joined}
 use Rattle.c65_genexpr.specs.Comparing.{low_code, comparison_by}
 use Rattle.c65_genexpr.specs.Operating.{operator_by}
 use Rattle.c65_genexpr.specs.Code.{constant_code, tested_load}
 use Rattle.c65_gen_law_lines.specs.Labels.{among, aims, may_lead}
-use Rattle.c65_gen_law_lines.proofs.Made.{or_right, among_split, among_one, among_none, Piece, piece_none, Stretch, Made, nowhere, once_at, stretch_then, stretch_piece, stretch_label, stretch_branch, stretch_jump, stretch_wider, stretch_as, stretch_made, made_stretch, leads_inner, leads_within, leads_outer, made_piece, made_behind, made_wider, made_as}
+use Rattle.c65_gen_law_lines.proofs.Made.{among_split, among_one, among_none, Piece, piece_none, Stretch, Made, once_at, stretch_then, stretch_piece, stretch_label, stretch_branch, stretch_jump, stretch_wider, stretch_as, stretch_made, made_stretch, leads_inner, leads_within, leads_outer, made_piece, made_behind, made_wider, made_as, made_none}
 use Rattle.c65_gen_law_lines.proofs.Pieces.{number_piece, conversion_piece, test_piece, between_piece, behind_piece}
-use Rattle.c65_gen_law_lines.proofs.Quiet.{Quiet}
 use Rattle.c65_gen_law_lines.proofs.Directs.{loaded_quiet, compare_quiet, compare_byte_quiet, zero_test_quiet, truth_quiet}
 use Rattle.c65_gen_law_lines.proofs.Drops.{IfRead, Unread, Unused}
-use Rattle.c65_gen_law_lines.proofs.Forms.{before_size, behind_size, stacked_sizes, form_quiet, waiting_part, stacked_part}
+use Rattle.c65_gen_law_lines.proofs.Forms.{stacked_sizes, form_quiet, waiting_part, stacked_part}
 
 -- the same labels, from a number that is the same
 pub made_from : {outside : List ℕ} {lo to n k : ℕ} {a : List Line} → lo ≡ to → Made outside lo n k a → Made outside to n k a
@@ -63,27 +64,30 @@ wanted_made {lo = lo} {n = n} (Test to s) width m = made_stretch
     (stretch_then (stretch_made m (leads_within (to ∷ []) lo n lo n (omega arith) (omega arith)) refl) (stretch_then (stretch_piece (test_piece width)) (stretch_branch (by_sense s) to (sense_fits s) (leads_outer lo n to))))
     (λ l. omega arith)
 
-constant_if : {outside : List ℕ} {lo : ℕ} {x y : List Line} (b : Bool) → Made outside lo 0 12 x → Made outside lo 0 12 y → Made outside lo 0 12 (if b then x else y)
-constant_if true p q = p
-constant_if false p q = q
+decided_made : {lo : ℕ} (truth s : Bool) (to : ℕ) → Made (to ∷ []) lo 0 3 (decided_code truth s to)
+decided_made {lo = lo} true true to = made_stretch (stretch_jump to (leads_outer lo 0 to)) (λ l. sym (among_none lo l))
+decided_made {lo = lo} false false to = made_stretch (stretch_jump to (leads_outer lo 0 to)) (λ l. sym (among_none lo l))
+decided_made true false to = made_none
+decided_made false true to = made_none
 
 pub constant_made : {lo : ℕ} (w : Wanted) (width : Width) (n : ℕ) → Made (aims w) lo 0 12 (constant_code w width n)
 constant_made Value width n = made_piece (number_piece width n)
-constant_made {lo = lo} (Test to true) width n = constant_if (n == 0) (made_piece (piece_none 12)) (made_wider (made_stretch (stretch_jump to (leads_outer lo 0 to)) (λ l. sym (among_none lo l))) (omega arith))
-constant_made {lo = lo} (Test to false) width n = constant_if (n == 0) (made_wider (made_stretch (stretch_jump to (leads_outer lo 0 to)) (λ l. sym (among_none lo l))) (omega arith)) (made_piece (piece_none 12))
+constant_made (Test to s) width n = made_wider (decided_made (not (n == 0)) s to) (omega arith)
 
-with_few : (d : Option OperandByte) (ds : List OperandByte) (n : ℕ) → length ds ≤ n → length (with_byte d ds) ≤ n + 1
-with_few None ds n le = omega (arith, le)
-with_few (Some d) ds n le = omega (arith, le)
+alone_few : (d : Option OperandByte) → length (alone d) ≤ 4
+alone_few None = omega arith
+alone_few (Some d) = omega arith
 
-all_few : (d0 d1 d2 d3 : Option OperandByte) → length (with_byte d0 (with_byte d1 (with_byte d2 (with_byte d3 [])))) ≤ 4
-all_few d0 d1 d2 d3 = with_few d0 _ 3 (with_few d1 _ 2 (with_few d2 _ 1 (with_few d3 [] 0 (omega arith))))
+listed_few : (sides : Option Sides) → length (listed sides) ≤ 4
+listed_few None = omega arith
+listed_few (Some (Word low high)) = omega arith
+listed_few (Some (Long first second third fourth)) = omega arith
 
-pub few_bytes : (d : Direct) (e : Extent) → length (own_bytes d e) ≤ 4
-few_bytes d One = omega (arith, with_few (byte_of d 0) [] 0 (omega arith))
-few_bytes d Two = omega (arith, with_few (byte_of d 0) (with_byte (byte_of d 1) []) 1 (with_few (byte_of d 1) [] 0 (omega arith)))
-few_bytes d Three = all_few (byte_of d 0) (byte_of d 1) (byte_of d 2) (byte_of d 3)
-few_bytes d Four = all_few (byte_of d 0) (byte_of d 1) (byte_of d 2) (byte_of d 3)
+few_bytes : (d : Direct) (e : Extent) → length (own_bytes d e) ≤ 4
+few_bytes d One = alone_few (byte_of d 0)
+few_bytes d Two = listed_few (sides_of Ax d)
+few_bytes d Three = listed_few (sides_of Eax d)
+few_bytes d Four = listed_few (sides_of Eax d)
 
 -- of a value that is read where it lies the lines are not taken
 pub tested_made : {lo n k : ℕ} {a : List Line} (d : Option Direct) (kind : IntType) (s : Bool) (to : ℕ) → ((c : Direct) → d ≡ Some c → n ≡ 0) → Made [] lo n k a → Made (to ∷ []) lo n (k + 23) (tested_load d kind s to a)
@@ -92,12 +96,8 @@ tested_made (Some d) kind s to idle m =
     made_as (sym (idle d refl)) (made_wider (made_stretch (zero_test_quiet (own_bytes d (extent_of kind)) s to (leads_outer _ 0 to)).part (λ l. sym (among_none _ l))) (omega (arith, few)))
 tested_made None kind s to idle m = made_wider (wanted_made (Test to s) (width_of kind) m) (omega arith)
 
-handed_value : {lo n k : ℕ} {a : List Line} (same : Bool) → Made (aims (handed same Value)) lo n k a → Made [] lo n k a
-handed_value true m = m
-handed_value false m = m
-
 pub converted_made : {lo n k : ℕ} {a : List Line} (w : Wanted) (same : Bool) (to : Ty) (from : IntType) → Made (aims (handed same w)) lo n k a → Made (aims w) lo n (k + 16) (conversion_by w same to from a)
-converted_made Value same to from m = made_wider (made_behind (handed_value same m) (conversion_piece to from)) (omega arith)
+converted_made Value same to from m = made_wider (made_behind m (conversion_piece to from)) (omega arith)
 converted_made (Test l s) true to from m = made_wider m (omega arith)
 converted_made (Test l s) false to from m = made_wider (wanted_made (Test l s) (width_of (kind_of to)) (made_behind m (conversion_piece to from))) (omega arith)
 

@@ -1,12 +1,13 @@
 // Laws of the lines that the generator writes, each the contract of a function that does nothing.
 ghost use Rattle.c65_gen_law_lines.specs.Laws.{ExpressionsOwnTheirLabels, ExpressionsAreSmall, ExpressionsAreFit, ExpressionsKeepTheStack, StatementsKeepTheStack, CallsAreCounted, FramesAreSmall, HomesAreApart, FunctionsAreSmall, ProgramsAreSmall, FunctionsAreSegments};
 
-/// An expression's lines have the labels from the first free one on, as many as it uses, each once; their branches lead to these alone.
+/// An expression's lines, for its value or for a test of it, have the labels from the first free one on, as many as it uses, each once;
+/// their branches lead to these alone, and those of a test to its own label too.
 pub fn expressions_own_their_labels()
     ensures { ExpressionsOwnTheirLabels }
 {}
 
-/// An expression's lines have at most 128 bytes for each of its nodes.
+/// An expression's lines, for its value or for a test of it, have at most 128 bytes for each of its nodes.
 pub fn expressions_are_small()
     ensures { ExpressionsAreSmall }
 {}

@@ -1,16 +1,41 @@
--- A place that is known without lines of code has no labels.
+-- Trees that are read where they lie have no labels.
 use Rattle.std.proofs.Common.{◌≡◌, ℕ, Bool, true, false, Option, Some, None, ℤ, refl}
+use Rattle.std.specs.Prelude.{option_and_then, is_some, ◌&&◌, if◌then◌else◌}
+use Rattle.c65_base.specs.declared.operators.BinaryOp.{BinaryOp}
+use Rattle.c65_ints.specs.declared.types.IntType.{IntType}
+use Rattle.c65_ctype.specs.Trees.{type_in}
 use Rattle.c65_ctype.specs.Views.{types_of}
 use Rattle.c65_csem.specs.Trees.{Typed, node, constant, null, literal, object, func, deref, member, load, address, decay, convert, unary, binary, both, either, choice, comma, assign, assign_op, assign_step, step, copy, call, pack, spill, rest}
 use Rattle.c65_genframe.specs.Frames.{Framed}
+use Rattle.c65_genload.specs.declared.places.Access.{Access}
+use Rattle.c65_genload.specs.declared.places.Access.TheVariants.{Whole, Part}
 use Rattle.c65_genload.specs.declared.places.Place.{Place}
 use Rattle.c65_genload.specs.declared.places.Place.TheVariants.{Bank, Near, Data, Far}
-use Rattle.c65_genexpr.specs.Types.{bare, offset_at}
-use Rattle.c65_genexpr.specs.Places.{IsKnown, moved, place_of}
-use Rattle.c65_base.specs.declared.operators.BinaryOp.{BinaryOp}
+use Rattle.c65_gendirect.specs.declared.bytes.OperandByte.{OperandByte}
+use Rattle.c65_gendirect.specs.declared.compare.Sides.{Sides}
+use Rattle.c65_gendirect.specs.declared.direct.Direct.{Direct}
+use Rattle.c65_gendirect.specs.declared.relation.Relation.{Relation}
+use Rattle.c65_gendirect.specs.declared.relation.Relation.TheVariants.{Less, NotLess, Greater, NotGreater, Equal, Unequal}
+use Rattle.c65_gendirect.specs.Bytes.{byte_of}
+use Rattle.c65_gendirect.specs.Compare.{mirrored}
+use Rattle.c65_genwide.specs.Wide.{width_of}
+use Rattle.c65_genexpr.specs.declared.comparing.Side.{Side}
+use Rattle.c65_genexpr.specs.declared.comparing.Side.TheVariants.{Left, Right}
+use Rattle.c65_genexpr.specs.declared.comparing.Comparing.{Comparing}
+use Rattle.c65_genexpr.specs.declared.comparing.Comparing.TheVariants.{Truth, Byte}
+use Rattle.c65_genexpr.specs.declared.operating.Form.{Form}
+use Rattle.c65_genexpr.specs.declared.operating.Operating.{Operating}
 use Rattle.c65_genexpr.specs.declared.operands.Operands.{Operands}
-use Rattle.c65_genexpr.specs.Operands.{constant_in, is_short, short_in, short_of}
+use Rattle.c65_genexpr.specs.Types.{kind_of, bare, offset_at, access_of}
+use Rattle.c65_genexpr.specs.Places.{IsKnown, moved, place_of}
+use Rattle.c65_genexpr.specs.Operands.{constant_in}
+use Rattle.c65_genexpr.specs.Direct.{kept_at, address_at, address_of, takes_bytes, converted_if, direct_of, is_fixed, is_pure, is_byte, sides_of}
+use Rattle.c65_genexpr.specs.Comparing.{is_zero, zero_sense, tested_by, lowest, range_of, is_raised, raised, one_more, meeting, beside, changes, compared_by, comparing_of}
+use Rattle.c65_genexpr.specs.Operating.{constant_right, direct_right, direct_left, by_left, by_right, operating_of}
 use Rattle.c65_genexpr.specs.Uses.{uses}
+use Rattle.c65_genexpr.specs.Leaving.{IsFree, ComparesFree, OperatesFree}
+
+-- ---- places
 
 known_before : (place : Place) (n : ℕ) → IsKnown (moved place n) → IsKnown place
 known_before (Bank b) n h = tt
@@ -18,7 +43,7 @@ known_before (Near at) n h = tt
 known_before (Data sym at) n h = tt
 known_before Far n h = h
 
-pub known_uses : (f : Framed) (pushed : ℕ) (e : Typed) → IsKnown (place_of f pushed e) → uses e ≡ 0
+pub known_uses : (f : Framed) (pushed : ℕ) (e : Typed) → IsKnown (place_of f pushed e) → uses None e ≡ 0
 known_uses f pushed (node t (object i)) h = refl
 known_uses f pushed (node t (member e m)) h = known_uses f pushed e (known_before (place_of f pushed e) (offset_at (types_of f.parts.types) (bare e) m) h)
 known_uses f pushed (node t (constant z)) h = refl
@@ -46,24 +71,20 @@ known_uses f pushed (node t (pack e)) h = absurd h
 known_uses f pushed (node t (spill i e)) h = absurd h
 known_uses f pushed (node t rest) h = absurd h
 
--- a constant has no labels
-abbrev pub IsThere : Option ℤ → Type 0
+-- ---- constants
+
+abbrev pub IsThere : {A : Type 0} → Option A → Type 0
 IsThere None = ⊥
-IsThere (Some z) = Unit {0}
+IsThere (Some x) = Unit {0}
 
-there_before : (b : Bool) (z : Option ℤ) (n : ℕ) → short_in b z ≡ Some n → IsThere z
-there_before true (Some z) n h = tt
-there_before true None n h = cc
-there_before false z n h = cc
-
-constant_uses : (e : Typed) → IsThere (constant_in e) → uses e ≡ 0
+pub constant_uses : (e : Typed) → IsThere (constant_in e) → uses None e ≡ 0
 constant_uses (node t (constant z)) h = refl
-constant_uses (node t (object i)) h = absurd h
-constant_uses (node t (member e m)) h = absurd h
-constant_uses (node t (null)) h = absurd h
+constant_uses (node t null) h = absurd h
 constant_uses (node t (literal n)) h = absurd h
+constant_uses (node t (object i)) h = absurd h
 constant_uses (node t (func i)) h = absurd h
 constant_uses (node t (deref e)) h = absurd h
+constant_uses (node t (member e m)) h = absurd h
 constant_uses (node t (load e)) h = absurd h
 constant_uses (node t (address e)) h = absurd h
 constant_uses (node t (decay e)) h = absurd h
@@ -84,5 +105,190 @@ constant_uses (node t (pack e)) h = absurd h
 constant_uses (node t (spill i e)) h = absurd h
 constant_uses (node t rest) h = absurd h
 
-pub short_uses : (op : BinaryOp) (operands : Operands) (e : Typed) (n : ℕ) → short_of op operands e ≡ Some n → uses e ≡ 0
-short_uses op operands e n h = constant_uses e (there_before (is_short op operands) (constant_in e) n h)
+pub zero_uses : (s : Option Bool) (e : Typed) → is_zero e ≡ true → uses s e ≡ 0
+zero_uses s (node t (constant z)) h = refl
+zero_uses s (node t null) h = refl
+zero_uses s (node t (literal n)) h = cc
+zero_uses s (node t (object i)) h = cc
+zero_uses s (node t (func i)) h = cc
+zero_uses s (node t (deref e)) h = cc
+zero_uses s (node t (member e m)) h = cc
+zero_uses s (node t (load e)) h = cc
+zero_uses s (node t (address e)) h = cc
+zero_uses s (node t (decay e)) h = cc
+zero_uses s (node t (convert e)) h = cc
+zero_uses s (node t (unary op e)) h = cc
+zero_uses s (node t (binary op a b)) h = cc
+zero_uses s (node t (both a b)) h = cc
+zero_uses s (node t (either a b)) h = cc
+zero_uses s (node t (choice c a b)) h = cc
+zero_uses s (node t (comma a b)) h = cc
+zero_uses s (node t (assign a b)) h = cc
+zero_uses s (node t (assign_op op k a b)) h = cc
+zero_uses s (node t (assign_step op a b)) h = cc
+zero_uses s (node t (step how e)) h = cc
+zero_uses s (node t (copy a b)) h = cc
+zero_uses s (node t (call g es)) h = cc
+zero_uses s (node t (pack e)) h = cc
+zero_uses s (node t (spill i e)) h = cc
+zero_uses s (node t rest) h = cc
+
+-- ---- direct values
+
+kept_known : (place : Place) (access : Access) → IsThere (kept_at place access) → IsKnown place
+kept_known (Bank b) access h = tt
+kept_known (Near at) access h = tt
+kept_known (Data sym at) access h = tt
+kept_known Far access h = h
+
+address_known : (place : Place) → IsThere (address_at place) → IsKnown place
+address_known (Bank b) h = tt
+address_known (Near at) h = tt
+address_known (Data sym at) h = tt
+address_known Far h = h
+
+address_uses : (f : Framed) (pushed : ℕ) (e : Typed) → IsThere (address_of f pushed e) → uses None e ≡ 0
+address_uses f pushed (node t (literal n)) h = refl
+address_uses f pushed (node t (func i)) h = refl
+address_uses f pushed (node t (object i)) h = refl
+address_uses f pushed (node t (member e m)) h = known_uses f pushed (node t (member e m)) (address_known (place_of f pushed (node t (member e m))) h)
+address_uses f pushed (node t (constant z)) h = refl
+address_uses f pushed (node t null) h = refl
+address_uses f pushed (node t (deref e)) h = absurd h
+address_uses f pushed (node t (load e)) h = absurd h
+address_uses f pushed (node t (address e)) h = absurd h
+address_uses f pushed (node t (decay e)) h = absurd h
+address_uses f pushed (node t (convert e)) h = absurd h
+address_uses f pushed (node t (unary op e)) h = absurd h
+address_uses f pushed (node t (binary op a b)) h = absurd h
+address_uses f pushed (node t (both a b)) h = absurd h
+address_uses f pushed (node t (either a b)) h = absurd h
+address_uses f pushed (node t (choice c a b)) h = absurd h
+address_uses f pushed (node t (comma a b)) h = absurd h
+address_uses f pushed (node t (assign a b)) h = absurd h
+address_uses f pushed (node t (assign_op op k a b)) h = absurd h
+address_uses f pushed (node t (assign_step op a b)) h = absurd h
+address_uses f pushed (node t (step how e)) h = absurd h
+address_uses f pushed (node t (copy a b)) h = absurd h
+address_uses f pushed (node t (call g es)) h = absurd h
+address_uses f pushed (node t (pack e)) h = absurd h
+address_uses f pushed (node t (spill i e)) h = absurd h
+address_uses f pushed (node t rest) h = absurd h
+
+converted_there : (same : Bool) (to : IntType) (d : Option Direct) → IsThere (converted_if same to d) → IsThere d
+converted_there true to (Some d) h = tt
+converted_there true to None h = h
+converted_there false to d h = absurd h
+
+pub direct_uses : (f : Framed) (pushed : ℕ) (e : Typed) → IsThere (direct_of f pushed e) → uses None e ≡ 0
+direct_uses f pushed (node t (constant z)) h = refl
+direct_uses f pushed (node t null) h = refl
+direct_uses f pushed (node t (load e)) h = known_uses f pushed e (kept_known (place_of f pushed e) (access_of (types_of f.parts.types) e) h)
+direct_uses f pushed (node t (address e)) h = address_uses f pushed e h
+direct_uses f pushed (node t (decay e)) h = address_uses f pushed e h
+direct_uses f pushed (node t (convert e)) h = direct_uses f pushed e (converted_there (takes_bytes (type_in t) (bare e)) (kind_of (type_in t)) (direct_of f pushed e) h)
+direct_uses f pushed (node t (literal n)) h = absurd h
+direct_uses f pushed (node t (object i)) h = absurd h
+direct_uses f pushed (node t (func i)) h = absurd h
+direct_uses f pushed (node t (deref e)) h = absurd h
+direct_uses f pushed (node t (member e m)) h = absurd h
+direct_uses f pushed (node t (unary op e)) h = absurd h
+direct_uses f pushed (node t (binary op a b)) h = absurd h
+direct_uses f pushed (node t (both a b)) h = absurd h
+direct_uses f pushed (node t (either a b)) h = absurd h
+direct_uses f pushed (node t (choice c a b)) h = absurd h
+direct_uses f pushed (node t (comma a b)) h = absurd h
+direct_uses f pushed (node t (assign a b)) h = absurd h
+direct_uses f pushed (node t (assign_op op k a b)) h = absurd h
+direct_uses f pushed (node t (assign_step op a b)) h = absurd h
+direct_uses f pushed (node t (step how e)) h = absurd h
+direct_uses f pushed (node t (copy a b)) h = absurd h
+direct_uses f pushed (node t (call g es)) h = absurd h
+direct_uses f pushed (node t (pack e)) h = absurd h
+direct_uses f pushed (node t (spill i e)) h = absurd h
+direct_uses f pushed (node t rest) h = absurd h
+
+-- ---- operators
+
+right_free : (a b : Typed) (form : Option Form) (other : Operating) → (IsThere form → uses None b ≡ 0) → OperatesFree other a b → OperatesFree (by_right form other) a b
+right_free a b (Some form) other free before = free tt
+right_free a b None other free before = before
+
+left_free : (a b : Typed) (stays : Bool) (form : Option Form) → (IsThere form → uses None a ≡ 0) → OperatesFree (by_left stays form) a b
+left_free a b true (Some form) free = free tt
+left_free a b true None free = tt
+left_free a b false form free = tt
+
+right_there : (op : BinaryOp) (operands : Operands) (d : Option Direct) → IsThere (direct_right op operands d) → IsThere d
+right_there op operands (Some d) h = tt
+right_there op operands None h = h
+
+left_there : (op : BinaryOp) (operands : Operands) (d : Option Direct) → IsThere (direct_left op operands d) → IsThere d
+left_there op operands (Some d) h = tt
+left_there op operands None h = h
+
+after_there : {A B : Type 0} (g : A → Option B) (o : Option A) → IsThere (option_and_then g o) → IsThere o
+after_there g (Some x) h = tt
+after_there g None h = h
+
+pub operates_free : (f : Framed) (pushed : ℕ) (op : BinaryOp) (operands : Operands) (a b : Typed) → OperatesFree (operating_of f pushed op operands a b) a b
+operates_free f pushed op operands a b =
+    right_free a b _ _ (λ h. constant_uses b (after_there _ (constant_in b) h))
+    (right_free a b _ _ (λ h. direct_uses f pushed b (right_there op operands (direct_of f pushed b) h))
+    (left_free a b _ _ (λ h. direct_uses f pushed a (left_there op operands (direct_of f pushed a) h))))
+
+-- ---- comparisons
+
+low_left : (a b : Typed) (r : Relation) (low : Option OperandByte) (d : OperandByte) → uses None a ≡ 0 → uses None b ≡ 0 → ComparesFree (Byte Left low r d) None a None b
+low_left a b r None d first other = other
+low_left a b r (Some low) d first other = (first, other)
+
+low_right : (a b : Typed) (r : Relation) (low : Option OperandByte) (d : OperandByte) → uses None b ≡ 0 → uses None a ≡ 0 → ComparesFree (Byte Right low r d) None a None b
+low_right a b r None d first other = other
+low_right a b r (Some low) d first other = (other, first)
+
+meets_left : (a b : Typed) (r : Relation) (bytes : Bool) (kind : IntType) (x : Option Direct) (sides : Option Sides) → (IsThere x → uses None a ≡ 0) → uses None b ≡ 0 → ComparesFree (meeting Left r bytes kind x sides) None a None b
+meets_left a b r bytes kind x None first other = tt
+meets_left a b r false kind x (Some sides) first other = other
+meets_left a b r true kind None (Some sides) first other = other
+meets_left a b r true kind (Some d) (Some sides) first other = low_left a b r (byte_of d 0) (lowest sides) (first tt) other
+
+meets_right : (a b : Typed) (r : Relation) (bytes : Bool) (kind : IntType) (x : Option Direct) (sides : Option Sides) → (IsThere x → uses None b ≡ 0) → uses None a ≡ 0 → ComparesFree (meeting Right r bytes kind x sides) None a None b
+meets_right a b r bytes kind x None first other = tt
+meets_right a b r false kind x (Some sides) first other = other
+meets_right a b r true kind None (Some sides) first other = other
+meets_right a b r true kind (Some d) (Some sides) first other = low_right a b r (byte_of d 0) (lowest sides) (first tt) other
+
+-- one of two forms
+either_free : (a b : Typed) (is : Bool) (c d : Comparing) → ComparesFree c None a None b → ComparesFree d None a None b → ComparesFree (if is then c else d) None a None b
+either_free a b true c d one other = one
+either_free a b false c d one other = other
+
+beside_left : (a b : Typed) (r : Relation) (bytes : Bool) (kind : IntType) (x y : Option Direct) → (IsThere x → uses None a ≡ 0) → (IsThere y → uses None b ≡ 0) → ComparesFree (beside Left r bytes kind x y) None a None b
+beside_left a b r bytes kind x None first other = tt
+beside_left a b r bytes kind x (Some d) first other =
+    either_free a b (is_raised r (range_of bytes kind) d) _ _ (meets_left a b (raised r) bytes kind x (sides_of (width_of kind) (one_more d)) first (other tt)) (meets_left a b r bytes kind x (sides_of (width_of kind) d) first (other tt))
+
+beside_right : (a b : Typed) (r : Relation) (bytes : Bool) (kind : IntType) (x y : Option Direct) → (IsThere x → uses None b ≡ 0) → (IsThere y → uses None a ≡ 0) → ComparesFree (beside Right r bytes kind x y) None a None b
+beside_right a b r bytes kind x None first other = tt
+beside_right a b r bytes kind x (Some d) first other =
+    either_free a b (is_raised r (range_of bytes kind) d) _ _ (meets_right a b (raised r) bytes kind x (sides_of (width_of kind) (one_more d)) first (other tt)) (meets_right a b r bytes kind x (sides_of (width_of kind) d) first (other tt))
+
+compared_free : (f : Framed) (pushed : ℕ) (r : Relation) (kind : IntType) (a b : Typed) → ComparesFree (compared_by r (is_byte a && is_byte b) kind (is_pure b) (direct_of f pushed a) (direct_of f pushed b)) None a None b
+compared_free f pushed r kind a b =
+    either_free a b (changes kind (is_pure b) (direct_of f pushed a) (direct_of f pushed b)) _ _
+    (beside_right a b (mirrored r) (is_byte a && is_byte b) kind (direct_of f pushed b) (direct_of f pushed a) (direct_uses f pushed b) (direct_uses f pushed a))
+    (beside_left a b r (is_byte a && is_byte b) kind (direct_of f pushed a) (direct_of f pushed b) (direct_uses f pushed a) (direct_uses f pushed b))
+
+-- by which of the sides is 0
+zero_free : (f : Framed) (pushed : ℕ) (r : Relation) (kind : IntType) (a b : Typed) (za zb : Bool) (s : Option Bool) → is_zero a ≡ za → is_zero b ≡ zb → ComparesFree (if is_some (if zb then s else None) then Truth Left else (if is_some (if za then s else None) then Truth Right else compared_by r (is_byte a && is_byte b) kind (is_pure b) (direct_of f pushed a) (direct_of f pushed b))) (if zb then s else None) a (if za then s else None) b
+zero_free f pushed r kind a b true true None is_a is_b = compared_free f pushed r kind a b
+zero_free f pushed r kind a b true false None is_a is_b = compared_free f pushed r kind a b
+zero_free f pushed r kind a b false true None is_a is_b = compared_free f pushed r kind a b
+zero_free f pushed r kind a b false false s is_a is_b = compared_free f pushed r kind a b
+zero_free f pushed r kind a b true true (Some s) is_a is_b = zero_uses (Some s) b is_b
+zero_free f pushed r kind a b false true (Some s) is_a is_b = zero_uses None b is_b
+zero_free f pushed r kind a b true false (Some s) is_a is_b = zero_uses None a is_a
+
+pub compares_free : (f : Framed) (pushed : ℕ) (r : Relation) (kind : IntType) (a b : Typed) → ComparesFree (comparing_of f pushed r kind a b) (tested_by r b) a (tested_by r a) b
+compares_free f pushed r kind a b = zero_free f pushed r kind a b (is_zero a) (is_zero b) (zero_sense r) refl refl

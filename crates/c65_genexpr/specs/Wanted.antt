@@ -25,10 +25,12 @@ wanted_by (Some s) to = Test to s
 
 -- a part that has the same truth is tested in its place; else its value is wanted
 abbrev pub handed : Bool → Wanted → Wanted
-handed same w = if same then w else Value
+handed same Value = Value
+handed same (Test to s) = if same then Test to s else Value
 
 abbrev pub handed_sense : Bool → Option Bool → Option Bool
-handed_sense same s = if same then s else None
+handed_sense same None = None
+handed_sense same (Some s) = if same then Some s else None
 
 -- by whether a value is not zero, behind a test of it
 abbrev pub by_sense : Bool → Op

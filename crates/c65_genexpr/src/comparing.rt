@@ -1,6 +1,7 @@
 // The form of a comparison (C90 6.3.8, 6.3.9).
 ghost use Rattle.std.specs.Prelude.{◌≡◌, ◌&&◌};
 ghost use Rattle.c65_csem.specs.Views.{typed_of};
+ghost use Rattle.c65_genexpr.specs.Leaving.{ComparesFree};
 ghost use Rattle.c65_genexpr.specs.Direct.{direct_of, is_pure, is_byte};
 ghost use Rattle.c65_genexpr.specs.Comparing.{relation_by, is_zero, tested_by, lowest, is_raised, raised, one_more, range_of, meeting, beside, is_read, compared_by, comparing_of};
 
@@ -194,7 +195,8 @@ pub fn comparing_of(
     a: &TExpr,
     b: &TExpr,
 ) -> Comparing
-    ensures { result ≡ comparing_of frame.now pushed relation kind (typed_of a.now) (typed_of b.now) }
+    ensures exact { result ≡ comparing_of frame.now pushed relation kind (typed_of a.now) (typed_of b.now) }
+    ensures free { ComparesFree result (tested_by relation (typed_of b.now)) (typed_of a.now) (tested_by relation (typed_of a.now)) (typed_of b.now) }
 {
     if tested_by(relation, b).is_some() {
         Comparing::Truth(Side::Left)

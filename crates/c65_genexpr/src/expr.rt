@@ -1,13 +1,16 @@
 // Expressions (C90 6.3).
-ghost use Rattle.std.specs.Prelude.{◌≡◌, [], ◌+◌, ◌≤◌, Bool, Some, None, OnOk, IfOk, OnErr, IfErr};
+ghost use Rattle.std.specs.Prelude.{◌≡◌, [], ◌+◌, ◌≤◌, true, false, not, Some, None, OnOk, IfOk, OnErr, IfErr};
 ghost use Rattle.c65_base.specs.declared.refusal.Refusal.TheVariants.{OutOfMemory};
 ghost use Rattle.c65_csem.specs.Views.{typed_of, nodes_of};
 ghost use Rattle.c65_genwide.specs.Lines.{grown, Keeps};
 ghost use Rattle.c65_genexpr.specs.Arguments.{passed_of};
-ghost use Rattle.c65_genexpr.specs.Places.{IsKnown, place_of};
+ghost use Rattle.c65_genexpr.specs.Places.{place_of};
 ghost use Rattle.c65_genexpr.specs.Wanted.{sense_of, is_straight, way_labels};
+ghost use Rattle.c65_genexpr.specs.declared.wanted.Wanted.TheVariants.{Value, Test};
+ghost use Rattle.c65_genexpr.specs.Comparing.{on, relation_by};
+ghost use Rattle.c65_genexpr.specs.Leaving.{IsFree};
 ghost use Rattle.c65_genexpr.specs.Uses.{uses, head_uses, args_uses, binary_uses, comparison_uses};
-ghost use Rattle.c65_genexpr.specs.Code.{target_code, expr_code, binary_code, operator_code, comparison_code, joint_code, choice_code, assign_code, compound_code, call_code, args_code};
+ghost use Rattle.c65_genexpr.specs.Code.{target_code, expr_code, load_test_code, binary_code, operator_code, comparison_code, joint_code, choice_code, assign_code, compound_code, call_code, args_code};
 
 use crate::arguments::{
     Passed, argument_bytes, is_counted, is_fast, joined, passed_size, put_argument, stays,
@@ -16,6 +19,7 @@ use crate::calls::{named, put_direct, put_named, put_pointer};
 use crate::comparing::{Comparing, Side, comparing_of, relation_by, tested_by};
 use crate::constants::residue_of;
 use crate::direct::{kept_at, put_own_test};
+use crate::leaving::{leave_out, leave_place};
 use crate::operands::{
     Operands, computes, operands_of, put_behind, put_between, put_conversion, put_unary, same_truth,
 };
@@ -184,8 +188,14 @@ pub fn put_test(
         TKind::Const(z) => put_decided(residue_of(*z) != 0, sense, to, draft),
         TKind::Null => put_decided(false, sense, to, draft),
         TKind::Load(a) => put_load_test(a, frame, pushed, to, sense, draft),
-        TKind::Convert(a) if same_truth(&e.ty.ty, &a.ty.ty) => {
-            put_test(a, frame, pushed, to, sense, draft)
+        TKind::Convert(a) => {
+            if same_truth(&e.ty.ty, &a.ty.ty) {
+                put_test(a, frame, pushed, to, sense, draft)
+            } else {
+                put_expr(a, frame, pushed, draft)?;
+                put_conversion(&e.ty.ty, kind_of(&a.ty.ty), draft)?;
+                put_value_test(width_of(kind_of(&e.ty.ty)), sense, to, draft)
+            }
         }
         TKind::Unary(UnaryOp::Not, a) => put_test(a, frame, pushed, to, !sense, draft),
         TKind::Binary(op, a, b) => match relation_of(*op) {
@@ -228,22 +238,6 @@ fn put_wanted(
     }
 }
 
-// A place whose address takes no lines of code has no labels.
-fn skip(
-    a: &TExpr,
-    place: Place,
-    frame: &Frame<'_>,
-    pushed: u16,
-    draft: &mut Draft,
-) -> Result<(), AllocError>
-    requires at { place ≡ place_of frame.now pushed (typed_of a.now) }
-    requires known { IsKnown place }
-    ensures lines { OnOk result (draft.new ≡ grown draft.old [] (uses None (typed_of a.now))) }
-    ensures kept { OnErr result (Keeps draft.old draft.new) }
-{
-    put(draft, &[])
-}
-
 // The address of a place, where it takes lines of code.
 #[cycle(expression)]
 fn put_target(
@@ -259,7 +253,7 @@ fn put_target(
 {
     match place {
         Place::Far => put_expr(a, frame, pushed, draft),
-        Place::Bank(_) | Place::Near(_) | Place::Data(_, _) => skip(a, place, frame, pushed, draft),
+        Place::Bank(_) | Place::Near(_) | Place::Data(_, _) => leave_place(a, place, frame, pushed, draft),
     }
 }
 
@@ -279,7 +273,10 @@ fn put_load_test(
     let place = place_of(frame, pushed, a);
     let access = access_of(&frame.parts().types, a);
     match kept_at(place, access) {
-        Some(direct) => put_own_test(direct, value_type(access), sense, to, draft),
+        Some(direct) => {
+            leave_place(a, place, frame, pushed, draft)?;
+            put_own_test(direct, value_type(access), sense, to, draft)
+        }
         None => {
             put_target(a, place, frame, pushed, draft)?;
             load(place, access, draft)?;
@@ -346,9 +343,11 @@ fn put_operator(
     match operating_of(frame, pushed, op, operands, a, b) {
         Operating::Left(form) => {
             put_expr(a, frame, pushed, draft)?;
+            leave_out(b, Wanted::Value, draft)?;
             put_form(form, label, draft)
         }
         Operating::Right(form) => {
+            leave_out(a, Wanted::Value, draft)?;
             put_expr(b, frame, pushed, draft)?;
             put_form(form, label, draft)
         }
@@ -382,45 +381,65 @@ fn put_comparison(
     let own = next_label(draft)?;
     let operands = operands_of(frame, &a.ty.ty, &b.ty.ty);
     let held = relation_by(sense, relation);
+    let left = wanted_by(tested_by(held, b), to);
+    let right = wanted_by(tested_by(held, a), to);
     match comparing_of(frame, pushed, held, computes(operands), a, b) {
-        Comparing::Truth(Side::Left) => {
-            put_wanted(a, wanted_by(tested_by(held, b), to), frame, pushed, draft)?;
-            put(draft, &[Label(own)])
-        }
-        Comparing::Truth(Side::Right) => {
-            put_wanted(b, wanted_by(tested_by(held, a), to), frame, pushed, draft)?;
+        Comparing::Truth(side) => {
+            put_side(side, a, left, b, right, frame, pushed, draft)?;
             put(draft, &[Label(own)])
         }
         Comparing::Byte(side, None, relation, byte) => {
-            let first = match side {
-                Side::Left => a,
-                Side::Right => b,
-            };
-            put_expr(first, frame, pushed, draft)?;
+            put_side(side, a, left, b, right, frame, pushed, draft)?;
             put_compare_byte(relation, byte, to, draft)?;
             put(draft, &[Label(own)])
         }
         Comparing::Byte(_, Some(low), relation, byte) => {
+            leave_out(a, left, draft)?;
+            leave_out(b, right, draft)?;
             put_op(Lda, low, draft)?;
             put_compare_byte(relation, byte, to, draft)?;
             put(draft, &[Label(own)])
         }
         Comparing::Whole(side, relation, is_signed, sides) => {
-            let first = match side {
-                Side::Left => a,
-                Side::Right => b,
-            };
-            put_expr(first, frame, pushed, draft)?;
+            put_side(side, a, left, b, right, frame, pushed, draft)?;
             put_compare(relation, is_signed, sides, own, to, draft)
         }
         Comparing::Stacked => {
             let wait = waiting(width_of(computes(operands)));
-            put_expr(a, frame, pushed, draft)?;
+            put_wanted(a, left, frame, pushed, draft)?;
             put_between(operands, draft)?;
-            put_expr(b, frame, more(pushed, wait), draft)?;
+            put_wanted(b, right, frame, more(pushed, wait), draft)?;
             put_behind(op, operands, kind_of(&b.ty.ty), draft)?;
             put_outcome_test(sense, to, draft)?;
             put(draft, &[Label(own)])
+        }
+    }
+}
+
+// One of two sides; the other one is read where it lies.
+#[cycle(expression)]
+fn put_side(
+    side: Side,
+    a: &TExpr,
+    left: Wanted,
+    b: &TExpr,
+    right: Wanted,
+    frame: &Frame<'_>,
+    pushed: u16,
+    draft: &mut Draft,
+) -> Result<(), AllocError>
+    requires { IsFree side (sense_of left) (typed_of a.now) (sense_of right) (typed_of b.now) }
+    ensures lines { OnOk result (draft.new ≡ grown draft.old (on side (expr_code frame.now pushed draft.old.labels left (typed_of a.now)) (expr_code frame.now pushed (draft.old.labels + uses (sense_of left) (typed_of a.now)) right (typed_of b.now))) (uses (sense_of left) (typed_of a.now) + uses (sense_of right) (typed_of b.now))) }
+    ensures kept { OnErr result (Keeps draft.old draft.new) }
+{
+    match side {
+        Side::Left => {
+            put_wanted(a, left, frame, pushed, draft)?;
+            leave_out(b, right, draft)
+        }
+        Side::Right => {
+            leave_out(a, left, draft)?;
+            put_wanted(b, right, frame, pushed, draft)
         }
     }
 }

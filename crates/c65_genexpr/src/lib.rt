@@ -7,6 +7,7 @@ mod comparing;
 mod constants;
 mod direct;
 mod expr;
+mod leaving;
 mod operands;
 mod operating;
 mod places;

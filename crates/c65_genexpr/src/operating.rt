@@ -2,6 +2,7 @@
 ghost use Rattle.std.specs.Prelude.{◌≡◌, OnOk, OnErr};
 ghost use Rattle.c65_csem.specs.Views.{typed_of};
 ghost use Rattle.c65_genwide.specs.Lines.{with_lines, Keeps};
+ghost use Rattle.c65_genexpr.specs.Leaving.{OperatesFree};
 ghost use Rattle.c65_genexpr.specs.Operating.{sum_by, mask_by, number_form, offset_form, constant_form, word_in, takes_bytes, word_if, element_form, right_form, under_if, left_form, constant_right, direct_right, direct_left, operating_of, placed, form_code, waiting_code, stacked_code};
 
 use crate::direct::{direct_of, is_fixed, is_pure};
@@ -222,7 +223,8 @@ pub fn operating_of(
     a: &TExpr,
     b: &TExpr,
 ) -> Operating
-    ensures { result ≡ operating_of frame.now pushed op operands (typed_of a.now) (typed_of b.now) }
+    ensures exact { result ≡ operating_of frame.now pushed op operands (typed_of a.now) (typed_of b.now) }
+    ensures free { OperatesFree result (typed_of a.now) (typed_of b.now) }
 {
     if let Some(form) = constant_right(op, operands, b) {
         return Operating::Left(form);

@@ -3,7 +3,7 @@ ghost use Rattle.std.specs.Prelude.{◌≡◌, ◌∷◌, OnOk, OnErr};
 ghost use Rattle.c65_genwide.specs.Lines.{with_lines, Keeps};
 ghost use Rattle.c65_mach.specs.declared.rows.Op.TheVariants.{Tay};
 ghost use Rattle.c65_genload.specs.Words.{implied};
-ghost use Rattle.c65_genexpr.specs.Wanted.{wanted_by, is_straight, branch_code, value_test_code, decided_code};
+ghost use Rattle.c65_genexpr.specs.Wanted.{sense_of, wanted_by, is_straight, branch_code, value_test_code, decided_code};
 
 use c65_code::Line::Do;
 use c65_code::Operand::{Nothing, To};
@@ -24,7 +24,8 @@ pub enum Wanted {
 
 /// A test in this sense, or a value.
 pub fn wanted_by(sense: Option<bool>, to: u32) -> Wanted
-    ensures { result ≡ wanted_by sense to }
+    ensures exact { result ≡ wanted_by sense to }
+    ensures same { sense_of result ≡ sense }
 {
     match sense {
         Some(sense) => Wanted::Test(to, sense),

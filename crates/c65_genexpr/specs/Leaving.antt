@@ -1,0 +1,29 @@
+-- Trees that take no lines, as they are read where they lie.
+use Rattle.std.specs.Prelude.{◌≡◌, ℕ, Bool, Option, Some, None}
+use Rattle.c65_csem.specs.Trees.{Typed}
+use Rattle.c65_genexpr.specs.declared.comparing.Side.{Side}
+use Rattle.c65_genexpr.specs.declared.comparing.Side.TheVariants.{Left, Right}
+use Rattle.c65_genexpr.specs.declared.comparing.Comparing.{Comparing}
+use Rattle.c65_genexpr.specs.declared.comparing.Comparing.TheVariants as comparing
+use Rattle.c65_genexpr.specs.declared.operating.Operating.{Operating}
+use Rattle.c65_genexpr.specs.declared.operating.Operating.TheVariants as operating
+use Rattle.c65_genexpr.specs.Uses.{uses}
+
+-- the side that is left out has no labels
+abbrev pub IsFree : Side → Option Bool → Typed → Option Bool → Typed → Type 0
+IsFree Left s a r b = uses r b ≡ 0
+IsFree Right s a r b = uses s a ≡ 0
+
+-- the sides that a comparison leaves out
+abbrev pub ComparesFree : Comparing → Option Bool → Typed → Option Bool → Typed → Type 0
+ComparesFree (comparing.Truth side) s a r b = IsFree side s a r b
+ComparesFree (comparing.Byte side None q d) s a r b = IsFree side s a r b
+ComparesFree (comparing.Byte side (Some low) q d) s a r b = (uses s a ≡ 0) × (uses r b ≡ 0)
+ComparesFree (comparing.Whole side q is_signed sides) s a r b = IsFree side s a r b
+ComparesFree comparing.Stacked s a r b = Unit {0}
+
+-- the operand that an operator leaves out
+abbrev pub OperatesFree : Operating → Typed → Typed → Type 0
+OperatesFree (operating.Left form) a b = uses None b ≡ 0
+OperatesFree (operating.Right form) a b = uses None a ≡ 0
+OperatesFree operating.Stacked a b = Unit {0}
