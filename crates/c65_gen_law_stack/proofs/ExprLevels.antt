@@ -270,8 +270,7 @@ converted_level : {cs : List (List ℕ)} {v : List ℕ} {a : List Line} (t : Ty)
 converted_level {v = v} t from p = behind p (conversion_still t from v) (conversion_piece t from).plain
 
 conversion_level : {cs : List (List ℕ)} {v : List ℕ} {a : List Line} (w : Wanted) (same : Bool) (t : Ty) (from : IntType) → Aimed (handed same w) cs v a → Aimed w cs v (conversion_by w same t from a)
-conversion_level Value true t from p = leading_closed (converted_level t from (closed_value p))
-conversion_level Value false t from p = leading_closed (converted_level t from (closed_value p))
+conversion_level Value same t from p = leading_closed (converted_level t from (closed_value p))
 conversion_level (Test to s) true t from p = p
 conversion_level (Test to s) false t from p = wanted_level (Test to s) (width_of (kind_of t)) (converted_level t from (closed_value p))
 
