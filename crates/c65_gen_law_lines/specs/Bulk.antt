@@ -1,13 +1,8 @@
 -- How large a program is, by its nodes: the expressions, statements, objects, parameters and functions.
-use Rattle.std.specs.Prelude.{◌≡◌, ℕ, ◌+◌, ◌≤◌, Bool, Option, None, Some, Ok, List, [], ◌∷◌, length}
-use Rattle.c65_csem.specs.declared.items.Parts.{Parts}
+use Rattle.std.specs.Prelude.{ℕ, ◌+◌, Option, None, Some, List, [], ◌∷◌, length}
 use Rattle.c65_csem.specs.declared.items.TFunc.{TFunc}
 use Rattle.c65_csem.specs.Views.{func_of}
-use Rattle.c65_csem.specs.Trees.{Typed, node, Node, constant, null, literal, object, func, deref, member, load, address, decay, convert, unary, binary, both, either, choice, comma, assign, assign_op, assign_step, step, copy, call, pack, spill, rest, Nodes, none, some, MaybeTyped, absent, present, Stmt, eval, set_part, clear, block, if_stmt, while, do_while, for_loop, switch, case, default, label, return, Stmts, no_stmts, and_stmts, FuncTy}
-use Rattle.c65_genframe.specs.declared.modes.Modes.{Modes}
-use Rattle.c65_genframe.specs.Frames.{Framed, frame_of, type_bytes}
-use Rattle.c65_genexpr.specs.Types.{bare}
-use Rattle.c65_genstmt.specs.Objects.{object_bytes}
+use Rattle.c65_csem.specs.Trees.{Typed, node, Node, constant, null, literal, object, func, deref, member, load, address, decay, convert, unary, binary, both, either, choice, comma, assign, assign_op, assign_step, step, copy, call, pack, spill, rest, Nodes, none, some, MaybeTyped, absent, present, Stmt, eval, set_part, block, if_stmt, while, do_while, for_loop, switch, case, default, label, return, Stmts, no_stmts, and_stmts, FuncTy}
 
 abbrev mutual
   -- the expressions in an expression, itself among them

@@ -28,7 +28,7 @@ abbrev pub hook_addresses : List ℕ
 hook_addresses = 0xFFF4 ∷ 0xFFF5 ∷ 0xFFF6 ∷ 0xFFF7 ∷ 0xFFF8 ∷ 0xFFF9 ∷ []
 
 abbrev pub empty_layout : ℕ → Layout
-empty_layout count = record { at = program_start; symbols = replicate count 0; routines = replicate 116 0 ++ hook_addresses }
+empty_layout count = record { at = program_start; symbols = replicate count 0; routines = replicate 117 0 ++ hook_addresses }
 
 abbrev pub with_size : Layout → ℕ → Layout
 with_size layout size = record layout { at = plus layout.at size }

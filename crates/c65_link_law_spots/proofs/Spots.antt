@@ -1,9 +1,10 @@
 -- Where each part of a linked code lies.
-use Rattle.std.proofs.Common.{◌≡◌, ℕ, zero, suc, ◌+◌, ◌-◌, ◌<◌, ◌≤◌, ◌^◌, ◌%◌, ◌⊎◌, inl, inr, not, Bool, true, false, nat_lt, ◌==◌, if◌then◌else◌, List, [], ◌∷◌, ◌++◌, codes, map, take, Some, None, Result, Ok, length, slice_get, slice_index, refl, ap, sym, ◌∙◌, subst, arith, ltb-true}
-use Rattle.std.proofs.lemmas.Bool.{or_cases, and_parts, not-true, eq-eqb, both_ways}
+use Rattle.std.proofs.Common.{◌≡◌, ℕ, zero, suc, ◌+◌, ◌-◌, ◌<◌, ◌≤◌, ◌^◌, ◌%◌, not, Bool, true, false, ◌||◌, nat_lt, ◌==◌, if◌then◌else◌, List, [], ◌∷◌, ◌++◌, codes, map, take, Some, None, Result, Ok, length, slice_get, slice_index, refl, ap, sym, ◌∙◌, subst, arith, ltb-true}
+use Rattle.std.proofs.lemmas.Bool.{and_parts, not-true, eq-eqb, both_ways}
 use Rattle.std.proofs.lemmas.List.{length-set, length-replicate, take-map}
 use Rattle.std.proofs.lemmas.Option.{slice_get_within}
 use Rattle.c65_base.specs.declared.library.Library.{Library}
+use Rattle.c65_base.specs.declared.library.Library.TheVariants.{Putchar, Getchar, Puts, Exit, Memcpy, Memset, Strcmp, Strcpy, Strlen, Printf}
 use Rattle.c65_base.specs.Library.{library_name}
 use Rattle.c65_mach.specs.declared.image.Image.{Image}
 use Rattle.c65_mach.specs.declared.rows.Mode.{Mode}
@@ -303,7 +304,16 @@ pub data Stood (code : Code) (f : ℕ) : Type 0 where
   library : (k : ℕ) (l : Library) (symbol : Symbol) → slice_get code.symbols f ≡ Some symbol → symbol.spelling ≡ codes "_" ++ library_name l → slice_get (routines_in code) k ≡ Some (routines.Library l) → address_in code f ≡ routine_address code k → Stood code f
 
 library_lined : (l : Library) → has_lines (routines.Library l) ≡ true
-library_lined l = refl
+library_lined Putchar = refl
+library_lined Getchar = refl
+library_lined Puts = refl
+library_lined Exit = refl
+library_lined Memcpy = refl
+library_lined Memset = refl
+library_lined Strcmp = refl
+library_lined Strcpy = refl
+library_lined Strlen = refl
+library_lined Printf = refl
 
 stood_library : (code : Code) (image : Image) (f : ℕ) (symbol : Symbol) (l : Library) → linked code ≡ Ok image → slice_get code.symbols f ≡ Some symbol → IsLibrary symbol l
     → ((k : ℕ) (g : Sym × Segment) → slice_get code.functions k ≡ Some g → g.0.0 ≡ f → ⊥) → ((k : ℕ) (d : Datum) → slice_get code.datums k ≡ Some d → d.sym.0 ≡ f → ⊥)

@@ -22,5 +22,5 @@ mod writing;
 pub use gives::{given, tos_result};
 pub use laws::{placements_lie_low, rows_are_met};
 pub use routines::{is_narrow, routine};
-pub use stack::raise;
+pub use stack::BACK;
 pub use writing::put;

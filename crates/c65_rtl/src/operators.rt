@@ -1,20 +1,20 @@
 // The operators on TOS and the primary register that are no orders and no shifts.
 ghost use Rattle.std.specs.Prelude.{◌≡◌, ◌∷◌, [], ◌+◌, ◌<◌, OnOk};
 ghost use Rattle.c65_rtl.specs.Assembly.{with_pieces};
-ghost use Rattle.c65_rtl.specs.Operators.{combined, combined_on, negation, drop_pieces, combine_pieces, subtract_pieces, multiply_pieces, divide_pieces, signed_divide_pieces, arithmetic_pieces, division_pieces};
+ghost use Rattle.c65_rtl.specs.Operators.{combined, combined_on, negation, drop_pieces, combine_pieces, subtract_pieces, multiply_pieces, divide_pieces, signed_divide_pieces, terms_pieces, signed, arithmetic_pieces, division_pieces};
 
-use crate::memory::{point_ptr1, take_ptr1, take_ptr2};
+use crate::memory::point_ptr1;
 use crate::places::{PTR1, PTR2, PTR3, SP, SREG, TMP1, TMP2};
-use crate::stack::raise;
+use crate::stack::{BACK, raise};
 use crate::writing::put;
-use c65_code::Line::{Do, Label};
+use c65_code::Line::{Call, Do, Label};
 use c65_code::Operand::{Byte, Nothing, To, Zero};
-use c65_code::{Count, Draft, Line, TosOp, Width};
-use c65_mach::Mode::{Immediate, Implied, IndirectY, Relative, ZeroPage};
+use c65_code::{Callee, Count, Draft, Line, Routine, TosOp, Width};
+use c65_mach::Mode::{Accumulator, Immediate, Implied, IndirectY, Relative, ZeroPage};
 use c65_mach::Op;
 use c65_mach::Op::{
-    Adc, Asl, Bcc, Bne, Bpl, Clc, Cmp, Dex, Eor, Inc, Iny, Lda, Ldx, Ldy, Lsr, Ora, Rol, Ror, Sbc,
-    Sec, Sta, Stx, Sty, Tax, Txa,
+    Adc, Asl, Bcc, Beq, Bne, Bpl, Clc, Cmp, Dex, Eor, Inc, Iny, Lda, Ldx, Ldy, Lsr, Ora, Rol, Ror,
+    Sbc, Sec, Sta, Stx, Tax, Tay, Txa, Tya,
 };
 use std::alloc::AllocError;
 
@@ -51,82 +51,88 @@ const BORROW_ON: [Line; 8] = [
     Do(Sta, ZeroPage, Zero(SREG + 1)),
 ];
 
-// AX = ptr2 times ptr1, by the bits of ptr1 from the lowest on; Y is 0.
-const MULTIPLY: [Line; 21] = [
-    Do(Sty, ZeroPage, Zero(TMP1)),
-    Do(Sty, ZeroPage, Zero(TMP2)),
-    Label(2),
-    Do(Lsr, ZeroPage, Zero(PTR1 + 1)),
-    Do(Ror, ZeroPage, Zero(PTR1)),
-    Do(Bcc, Relative, To(3)),
-    Do(Clc, Implied, Nothing),
-    Do(Lda, ZeroPage, Zero(TMP1)),
-    Do(Adc, ZeroPage, Zero(PTR2)),
-    Do(Sta, ZeroPage, Zero(TMP1)),
-    Do(Lda, ZeroPage, Zero(TMP2)),
-    Do(Adc, ZeroPage, Zero(PTR2 + 1)),
-    Do(Sta, ZeroPage, Zero(TMP2)),
-    Label(3),
-    Do(Asl, ZeroPage, Zero(PTR2)),
-    Do(Rol, ZeroPage, Zero(PTR2 + 1)),
-    Do(Lda, ZeroPage, Zero(PTR1)),
-    Do(Ora, ZeroPage, Zero(PTR1 + 1)),
-    Do(Bne, Relative, To(2)),
-    Do(Lda, ZeroPage, Zero(TMP1)),
-    Do(Ldx, ZeroPage, Zero(TMP2)),
-];
-
 // AX to ptr2.
-const DIVISOR: [Line; 2] = [
+const POINT_SECOND: [Line; 2] = [
     Do(Sta, ZeroPage, Zero(PTR2)),
     Do(Stx, ZeroPage, Zero(PTR2 + 1)),
 ];
 
-// The remainder's sign to tmp1, the quotient's to tmp2.
-const SIGNS: [Line; 4] = [
-    Do(Lda, ZeroPage, Zero(PTR1 + 1)),
-    Do(Sta, ZeroPage, Zero(TMP1)),
-    Do(Eor, ZeroPage, Zero(PTR2 + 1)),
-    Do(Sta, ZeroPage, Zero(TMP2)),
+// AX popped.
+const POP_WORD: [Line; 1] = [Call(Callee::Routine(Routine::PopAx))];
+
+// AX = ptr2 times ptr1, by the bits of ptr1 from the lowest on; the sum so far is in Y and X.
+const MULTIPLY: [Line; 22] = [
+    Do(Ldy, Immediate, Byte(0)),
+    Do(Ldx, Immediate, Byte(0)),
+    Do(Beq, Relative, To(2)),
+    Label(0),
+    Do(Lsr, ZeroPage, Zero(PTR1 + 1)),
+    Do(Ror, ZeroPage, Zero(PTR1)),
+    Do(Bcc, Relative, To(1)),
+    Do(Clc, Implied, Nothing),
+    Do(Tya, Implied, Nothing),
+    Do(Adc, ZeroPage, Zero(PTR2)),
+    Do(Tay, Implied, Nothing),
+    Do(Txa, Implied, Nothing),
+    Do(Adc, ZeroPage, Zero(PTR2 + 1)),
+    Do(Tax, Implied, Nothing),
+    Label(1),
+    Do(Asl, ZeroPage, Zero(PTR2)),
+    Do(Rol, ZeroPage, Zero(PTR2 + 1)),
+    Label(2),
+    Do(Lda, ZeroPage, Zero(PTR1)),
+    Do(Ora, ZeroPage, Zero(PTR1 + 1)),
+    Do(Bne, Relative, To(0)),
+    Do(Tya, Implied, Nothing),
 ];
 
-// ptr1 divided by ptr2, bit by bit: the quotient takes the dividend's place, and the remainder is ptr3.
+// The dividend is in AX: the remainder's sign to tmp1, the quotient's to tmp2, and N is the dividend's.
+const SIGNS: [Line; 5] = [
+    Do(Stx, ZeroPage, Zero(TMP1)),
+    Do(Txa, Implied, Nothing),
+    Do(Eor, ZeroPage, Zero(PTR2 + 1)),
+    Do(Sta, ZeroPage, Zero(TMP2)),
+    Do(Txa, Implied, Nothing),
+];
+
+// N is the divisor's sign.
+const DIVISOR_SIGN: [Line; 1] = [Do(Lda, ZeroPage, Zero(PTR2 + 1))];
+
+// ptr1 divided by ptr2, bit by bit: the quotient takes the dividend's place, and the remainder is in A and the high byte of
+// ptr3.
 const DIVIDE: [Line; 22] = [
     Do(Lda, Immediate, Byte(0)),
-    Do(Sta, ZeroPage, Zero(PTR3)),
     Do(Sta, ZeroPage, Zero(PTR3 + 1)),
     Do(Ldx, Immediate, Byte(16)),
-    Label(6),
+    Label(2),
     Do(Asl, ZeroPage, Zero(PTR1)),
     Do(Rol, ZeroPage, Zero(PTR1 + 1)),
-    Do(Rol, ZeroPage, Zero(PTR3)),
+    Do(Rol, Accumulator, Nothing),
     Do(Rol, ZeroPage, Zero(PTR3 + 1)),
-    Do(Lda, ZeroPage, Zero(PTR3)),
+    Do(Tay, Implied, Nothing),
     Do(Cmp, ZeroPage, Zero(PTR2)),
     Do(Lda, ZeroPage, Zero(PTR3 + 1)),
     Do(Sbc, ZeroPage, Zero(PTR2 + 1)),
-    Do(Bcc, Relative, To(7)),
+    Do(Bcc, Relative, To(3)),
     Do(Sta, ZeroPage, Zero(PTR3 + 1)),
-    Do(Lda, ZeroPage, Zero(PTR3)),
+    Do(Tya, Implied, Nothing),
     Do(Sbc, ZeroPage, Zero(PTR2)),
-    Do(Sta, ZeroPage, Zero(PTR3)),
+    Do(Tay, Implied, Nothing),
     Do(Inc, ZeroPage, Zero(PTR1)),
-    Label(7),
+    Label(3),
+    Do(Tya, Implied, Nothing),
     Do(Dex, Implied, Nothing),
-    Do(Bne, Relative, To(6)),
+    Do(Bne, Relative, To(2)),
 ];
 
-// AX from ptr1.
+// AX is the quotient.
 const QUOTIENT: [Line; 2] = [
     Do(Lda, ZeroPage, Zero(PTR1)),
     Do(Ldx, ZeroPage, Zero(PTR1 + 1)),
 ];
 
-// AX from ptr3.
-const REMAINDER: [Line; 2] = [
-    Do(Lda, ZeroPage, Zero(PTR3)),
-    Do(Ldx, ZeroPage, Zero(PTR3 + 1)),
-];
+// AX is the remainder.
+const REMAINDER: [Line; 1] = [Do(Ldx, ZeroPage, Zero(PTR3 + 1))];
 
 /// The end of an operator: TOS is dropped.
 pub fn drop_tos(draft: &mut Draft, width: Width) -> Result<(), AllocError>
@@ -215,9 +221,10 @@ fn multiply(draft: &mut Draft) -> Result<(), AllocError>
     ensures { OnOk result (draft.new ≡ with_pieces draft.old multiply_pieces) }
 {
     point_ptr1(draft)?;
-    take_ptr2(draft)?;
+    put(draft, &POP_WORD)?;
+    put(draft, &POINT_SECOND)?;
     put(draft, &MULTIPLY)?;
-    raise(draft, Count::Two)
+    put(draft, &BACK)
 }
 
 pub fn arithmetic(draft: &mut Draft, op: TosOp, width: Width) -> Result<(), AllocError>
@@ -237,15 +244,14 @@ pub fn arithmetic(draft: &mut Draft, op: TosOp, width: Width) -> Result<(), Allo
     }
 }
 
-// A word becomes its negative where the byte of the sign says so.
-fn negate_by(draft: &mut Draft, sign: u8, at: u8, label: u32) -> Result<(), AllocError>
+// The word at an address becomes its negative where N is set.
+fn negate(draft: &mut Draft, at: u8, label: u32) -> Result<(), AllocError>
     requires { at < 255 }
-    ensures { OnOk result (draft.new ≡ with_pieces draft.old (negation sign at label ∷ [])) }
+    ensures { OnOk result (draft.new ≡ with_pieces draft.old (negation at label ∷ [])) }
 {
     put(
         draft,
         &[
-            Do(Lda, ZeroPage, Zero(sign)),
             Do(Bpl, Relative, To(label)),
             Do(Sec, Implied, Nothing),
             Do(Lda, Immediate, Byte(0)),
@@ -259,12 +265,43 @@ fn negate_by(draft: &mut Draft, sign: u8, at: u8, label: u32) -> Result<(), Allo
     )
 }
 
-// The quotient to ptr1, the remainder to ptr3.
+// AX becomes its negative where the byte of the sign says so.
+fn sign_by(draft: &mut Draft, sign: u8) -> Result<(), AllocError>
+    ensures { OnOk result (draft.new ≡ with_pieces draft.old (signed sign ∷ [])) }
+{
+    put(
+        draft,
+        &[
+            Do(Ldy, ZeroPage, Zero(sign)),
+            Do(Bpl, Relative, To(4)),
+            Do(Eor, Immediate, Byte(0xFF)),
+            Do(Clc, Implied, Nothing),
+            Do(Adc, Immediate, Byte(1)),
+            Do(Tay, Implied, Nothing),
+            Do(Txa, Implied, Nothing),
+            Do(Eor, Immediate, Byte(0xFF)),
+            Do(Adc, Immediate, Byte(0)),
+            Do(Tax, Implied, Nothing),
+            Do(Tya, Implied, Nothing),
+            Label(4),
+        ],
+    )
+}
+
+// AX to ptr2 and TOS to ptr1, which stays in AX.
+fn take_terms(draft: &mut Draft) -> Result<(), AllocError>
+    ensures { OnOk result (draft.new ≡ with_pieces draft.old terms_pieces) }
+{
+    put(draft, &POINT_SECOND)?;
+    put(draft, &POP_WORD)?;
+    point_ptr1(draft)
+}
+
+// The quotient to ptr1, the remainder to A and ptr3.
 fn divide(draft: &mut Draft) -> Result<(), AllocError>
     ensures { OnOk result (draft.new ≡ with_pieces draft.old divide_pieces) }
 {
-    put(draft, &DIVISOR)?;
-    take_ptr1(draft)?;
+    take_terms(draft)?;
     put(draft, &DIVIDE)
 }
 
@@ -272,11 +309,11 @@ fn divide(draft: &mut Draft) -> Result<(), AllocError>
 fn divide_signed(draft: &mut Draft) -> Result<(), AllocError>
     ensures { OnOk result (draft.new ≡ with_pieces draft.old signed_divide_pieces) }
 {
-    put(draft, &DIVISOR)?;
-    take_ptr1(draft)?;
+    take_terms(draft)?;
     put(draft, &SIGNS)?;
-    negate_by(draft, PTR1 + 1, PTR1, 2)?;
-    negate_by(draft, PTR2 + 1, PTR2, 3)?;
+    negate(draft, PTR1, 0)?;
+    put(draft, &DIVISOR_SIGN)?;
+    negate(draft, PTR2, 1)?;
     put(draft, &DIVIDE)
 }
 
@@ -287,24 +324,24 @@ pub fn division(draft: &mut Draft, op: TosOp) -> Result<(), AllocError>
         TosOp::UDiv => {
             divide(draft)?;
             put(draft, &QUOTIENT)?;
-            raise(draft, Count::Two)
+            put(draft, &BACK)
         }
         TosOp::UMod => {
             divide(draft)?;
             put(draft, &REMAINDER)?;
-            raise(draft, Count::Two)
+            put(draft, &BACK)
         }
         TosOp::Div => {
             divide_signed(draft)?;
-            negate_by(draft, TMP2, PTR1, 4)?;
             put(draft, &QUOTIENT)?;
-            raise(draft, Count::Two)
+            sign_by(draft, TMP2)?;
+            put(draft, &BACK)
         }
         TosOp::Mod => {
             divide_signed(draft)?;
-            negate_by(draft, TMP1, PTR3, 4)?;
             put(draft, &REMAINDER)?;
-            raise(draft, Count::Two)
+            sign_by(draft, TMP1)?;
+            put(draft, &BACK)
         }
         _ => Ok(()),
     }

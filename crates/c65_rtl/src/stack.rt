@@ -217,8 +217,8 @@ const POINTERS: [Line; 12] = [
     Do(Sta, ZeroPage, Zero(PTR1)),
 ];
 
-// The way back.
-const BACK: [Line; 1] = [Do(Rts, Implied, Nothing)];
+/// The way back.
+pub const BACK: [Line; 1] = [Do(Rts, Implied, Nothing)];
 
 fn raise_by(draft: &mut Draft, y: u8) -> Result<(), AllocError>
     ensures { OnOk result (draft.new ≡ with_pieces draft.old (raise_by_pieces y)) }

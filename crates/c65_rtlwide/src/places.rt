@@ -1,7 +1,5 @@
 // The zero page (docs/MACHINE.md, "Zero page").
 
-/// The software stack's pointer.
-pub const SP: u8 = 0;
 /// The high half of EAX.
 pub const SREG: u8 = 2;
 

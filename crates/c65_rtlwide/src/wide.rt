@@ -3,41 +3,36 @@ ghost use Rattle.std.specs.Prelude.{◌≡◌, ◌∷◌, [], ◌+◌, ◌<◌, 
 ghost use Rattle.c65_base.specs.declared.refusal.Refusal.TheVariants.{OutOfMemory};
 ghost use Rattle.c65_rtl.specs.Assembly.{with_pieces};
 ghost use Rattle.c65_rtl.specs.Routines.{given_by};
-ghost use Rattle.c65_rtlwide.specs.Wide.{is_wide, negation, divide_pieces, signed_divide_pieces, multiply_pieces, division_pieces, wide_pieces, lines_of};
+ghost use Rattle.c65_rtlwide.specs.Wide.{is_wide, negation, signed, divide_pieces, signed_divide_pieces, multiply_pieces, division_pieces, wide_pieces, lines_of};
 
-use crate::places::{PTR1, PTR2, PTR3, PTR4, REGSAVE, SP, SREG, TMP1, TMP2};
+use crate::places::{PTR1, PTR2, PTR3, PTR4, REGSAVE, SREG, TMP1, TMP2};
 use c65_base::Refusal;
-use c65_code::Line::{Do, Label};
+use c65_code::Line::{Call, Do, Label};
 use c65_code::Operand::{Byte, Nothing, To, Zero};
-use c65_code::{Count, Draft, Line, Routine, Seg, TosOp, Width};
-use c65_mach::Mode::{Immediate, Implied, IndirectY, Relative, ZeroPage};
+use c65_code::{Callee, Draft, Line, Routine, Seg, TosOp, UnaryRoutine, Width};
+use c65_mach::Mode::{Immediate, Implied, Relative, ZeroPage};
 use c65_mach::Op::{
-    Adc, Asl, Bcc, Bne, Bpl, Clc, Cmp, Dex, Dey, Eor, Inc, Lda, Ldx, Ldy, Lsr, Ora, Rol, Ror, Sbc,
-    Sec, Sta, Stx,
+    Adc, Asl, Bcc, Bne, Bpl, Clc, Cmp, Dex, Eor, Inc, Lda, Ldx, Ldy, Lsr, Ora, Rol, Ror, Sbc, Sec,
+    Sta, Stx,
 };
-use c65_rtl::{given, put, raise};
+use c65_rtl::{BACK, given, put};
 use std::alloc::{AllocError, Global};
 
-// EAX to ptr3 and ptr4, the four bytes at sp to ptr1 and ptr2; Y is 0.
-const TERMS: [Line; 18] = [
+// EAX to ptr3 and ptr4, and TOS to ptr1 and ptr2; A is its highest byte.
+const TERMS: [Line; 13] = [
     Do(Sta, ZeroPage, Zero(PTR3)),
     Do(Stx, ZeroPage, Zero(PTR3 + 1)),
     Do(Lda, ZeroPage, Zero(SREG)),
     Do(Sta, ZeroPage, Zero(PTR4)),
     Do(Lda, ZeroPage, Zero(SREG + 1)),
     Do(Sta, ZeroPage, Zero(PTR4 + 1)),
-    Do(Ldy, Immediate, Byte(3)),
-    Do(Lda, IndirectY, Zero(SP)),
-    Do(Sta, ZeroPage, Zero(PTR2 + 1)),
-    Do(Dey, Implied, Nothing),
-    Do(Lda, IndirectY, Zero(SP)),
-    Do(Sta, ZeroPage, Zero(PTR2)),
-    Do(Dey, Implied, Nothing),
-    Do(Lda, IndirectY, Zero(SP)),
-    Do(Sta, ZeroPage, Zero(PTR1 + 1)),
-    Do(Dey, Implied, Nothing),
-    Do(Lda, IndirectY, Zero(SP)),
+    Call(Callee::Routine(Routine::PopEax)),
     Do(Sta, ZeroPage, Zero(PTR1)),
+    Do(Stx, ZeroPage, Zero(PTR1 + 1)),
+    Do(Lda, ZeroPage, Zero(SREG)),
+    Do(Sta, ZeroPage, Zero(PTR2)),
+    Do(Lda, ZeroPage, Zero(SREG + 1)),
+    Do(Sta, ZeroPage, Zero(PTR2 + 1)),
 ];
 
 // regsave is 0.
@@ -51,12 +46,12 @@ const NOTHING_YET: [Line; 5] = [
 
 // regsave is the product, by the bits of ptr3 and ptr4 from the lowest on.
 const MULTIPLY: [Line; 29] = [
-    Label(2),
+    Label(0),
     Do(Lsr, ZeroPage, Zero(PTR4 + 1)),
     Do(Ror, ZeroPage, Zero(PTR4)),
     Do(Ror, ZeroPage, Zero(PTR3 + 1)),
     Do(Ror, ZeroPage, Zero(PTR3)),
-    Do(Bcc, Relative, To(3)),
+    Do(Bcc, Relative, To(1)),
     Do(Clc, Implied, Nothing),
     Do(Lda, ZeroPage, Zero(REGSAVE)),
     Do(Adc, ZeroPage, Zero(PTR1)),
@@ -70,7 +65,7 @@ const MULTIPLY: [Line; 29] = [
     Do(Lda, ZeroPage, Zero(REGSAVE + 3)),
     Do(Adc, ZeroPage, Zero(PTR2 + 1)),
     Do(Sta, ZeroPage, Zero(REGSAVE + 3)),
-    Label(3),
+    Label(1),
     Do(Asl, ZeroPage, Zero(PTR1)),
     Do(Rol, ZeroPage, Zero(PTR1 + 1)),
     Do(Rol, ZeroPage, Zero(PTR2)),
@@ -79,21 +74,24 @@ const MULTIPLY: [Line; 29] = [
     Do(Ora, ZeroPage, Zero(PTR3 + 1)),
     Do(Ora, ZeroPage, Zero(PTR4)),
     Do(Ora, ZeroPage, Zero(PTR4 + 1)),
-    Do(Bne, Relative, To(2)),
+    Do(Bne, Relative, To(0)),
 ];
 
-// The remainder's sign to tmp1, the quotient's to tmp2.
+// A is the dividend's highest byte: the remainder's sign to tmp1, the quotient's to tmp2, and N is the dividend's.
 const SIGNS: [Line; 4] = [
-    Do(Lda, ZeroPage, Zero(PTR2 + 1)),
     Do(Sta, ZeroPage, Zero(TMP1)),
     Do(Eor, ZeroPage, Zero(PTR4 + 1)),
     Do(Sta, ZeroPage, Zero(TMP2)),
+    Do(Lda, ZeroPage, Zero(PTR2 + 1)),
 ];
+
+// N is the divisor's sign.
+const DIVISOR_SIGN: [Line; 1] = [Do(Lda, ZeroPage, Zero(PTR4 + 1))];
 
 // ptr1 and ptr2 divided by ptr3 and ptr4, bit by bit: the quotient takes the dividend's place, and the remainder is regsave.
 const DIVIDE: [Line; 33] = [
     Do(Ldx, Immediate, Byte(32)),
-    Label(6),
+    Label(2),
     Do(Asl, ZeroPage, Zero(PTR1)),
     Do(Rol, ZeroPage, Zero(PTR1 + 1)),
     Do(Rol, ZeroPage, Zero(PTR2)),
@@ -110,7 +108,7 @@ const DIVIDE: [Line; 33] = [
     Do(Sbc, ZeroPage, Zero(PTR4)),
     Do(Lda, ZeroPage, Zero(REGSAVE + 3)),
     Do(Sbc, ZeroPage, Zero(PTR4 + 1)),
-    Do(Bcc, Relative, To(7)),
+    Do(Bcc, Relative, To(3)),
     Do(Sta, ZeroPage, Zero(REGSAVE + 3)),
     Do(Lda, ZeroPage, Zero(REGSAVE)),
     Do(Sbc, ZeroPage, Zero(PTR3)),
@@ -122,9 +120,9 @@ const DIVIDE: [Line; 33] = [
     Do(Sbc, ZeroPage, Zero(PTR4)),
     Do(Sta, ZeroPage, Zero(REGSAVE + 2)),
     Do(Inc, ZeroPage, Zero(PTR1)),
-    Label(7),
+    Label(3),
     Do(Dex, Implied, Nothing),
-    Do(Bne, Relative, To(6)),
+    Do(Bne, Relative, To(2)),
 ];
 
 // EAX from ptr1 and ptr2.
@@ -147,15 +145,14 @@ const REMAINDER: [Line; 6] = [
     Do(Ldx, ZeroPage, Zero(REGSAVE + 1)),
 ];
 
-// Four bytes become their negative where the byte of the sign says so.
-fn negate_by(draft: &mut Draft, sign: u8, at: u8, label: u32) -> Result<(), AllocError>
+// Four bytes become their negative where N is set.
+fn negate(draft: &mut Draft, at: u8, label: u32) -> Result<(), AllocError>
     requires { at < 253 }
-    ensures { OnOk result (draft.new ≡ with_pieces draft.old (negation sign at label ∷ [])) }
+    ensures { OnOk result (draft.new ≡ with_pieces draft.old (negation at label ∷ [])) }
 {
     put(
         draft,
         &[
-            Do(Lda, ZeroPage, Zero(sign)),
             Do(Bpl, Relative, To(label)),
             Do(Sec, Implied, Nothing),
             Do(Lda, Immediate, Byte(0)),
@@ -175,6 +172,21 @@ fn negate_by(draft: &mut Draft, sign: u8, at: u8, label: u32) -> Result<(), Allo
     )
 }
 
+// EAX becomes its negative where the byte of the sign says so.
+fn sign_by(draft: &mut Draft, sign: u8) -> Result<(), AllocError>
+    ensures { OnOk result (draft.new ≡ with_pieces draft.old (signed sign ∷ [])) }
+{
+    put(
+        draft,
+        &[
+            Do(Ldy, ZeroPage, Zero(sign)),
+            Do(Bpl, Relative, To(4)),
+            Call(Callee::Routine(Routine::Unary(UnaryRoutine::Neg, Width::Eax))),
+            Label(4),
+        ],
+    )
+}
+
 fn multiply(draft: &mut Draft) -> Result<(), AllocError>
     ensures { OnOk result (draft.new ≡ with_pieces draft.old multiply_pieces) }
 {
@@ -182,7 +194,7 @@ fn multiply(draft: &mut Draft) -> Result<(), AllocError>
     put(draft, &NOTHING_YET)?;
     put(draft, &MULTIPLY)?;
     put(draft, &REMAINDER)?;
-    raise(draft, Count::Four)
+    put(draft, &BACK)
 }
 
 // The quotient to ptr1 and ptr2, the remainder to regsave.
@@ -200,8 +212,9 @@ fn divide_signed(draft: &mut Draft) -> Result<(), AllocError>
 {
     put(draft, &TERMS)?;
     put(draft, &SIGNS)?;
-    negate_by(draft, PTR2 + 1, PTR1, 2)?;
-    negate_by(draft, PTR4 + 1, PTR3, 3)?;
+    negate(draft, PTR1, 0)?;
+    put(draft, &DIVISOR_SIGN)?;
+    negate(draft, PTR3, 1)?;
     put(draft, &NOTHING_YET)?;
     put(draft, &DIVIDE)
 }
@@ -213,24 +226,24 @@ fn division(draft: &mut Draft, op: TosOp) -> Result<(), AllocError>
         TosOp::UDiv => {
             divide(draft)?;
             put(draft, &QUOTIENT)?;
-            raise(draft, Count::Four)
+            put(draft, &BACK)
         }
         TosOp::UMod => {
             divide(draft)?;
             put(draft, &REMAINDER)?;
-            raise(draft, Count::Four)
+            put(draft, &BACK)
         }
         TosOp::Div => {
             divide_signed(draft)?;
-            negate_by(draft, TMP2, PTR1, 4)?;
             put(draft, &QUOTIENT)?;
-            raise(draft, Count::Four)
+            sign_by(draft, TMP2)?;
+            put(draft, &BACK)
         }
         TosOp::Mod => {
             divide_signed(draft)?;
-            negate_by(draft, TMP1, REGSAVE, 4)?;
             put(draft, &REMAINDER)?;
-            raise(draft, Count::Four)
+            sign_by(draft, TMP1)?;
+            put(draft, &BACK)
         }
         _ => Ok(()),
     }

@@ -47,43 +47,7 @@ fn most_of(line: &Line) -> u16 {
     }
 }
 
-// Whether the label stands in so few lines that a branch beside them reaches it.
-fn is_near(lines: &[Line], label: u32) -> bool {
-    let mut bytes = 0_u16;
-    let mut there = false;
-    for line in lines {
-        there = there || *line == Line::Label(label);
-        bytes = bytes.wrapping_add(most_of(line));
-    }
-    there && bytes < 120
-}
-
-// Whether the line at a place is a branch that does not reach its label.
-fn is_far(lines: &[Line], place: usize) -> bool {
-    match lines.get(place) {
-        Some(Line::Do(_, Mode::Relative, Operand::To(label))) => {
-            let (before, behind) = lines.split_at(place);
-            !is_near(up_to(behind, *label), *label) && !is_near(down_to(before, *label), *label)
-        }
-        _ => false,
-    }
-}
-
-// The lines up to a label, or from it on; all where there is no such label.
-fn up_to(lines: &[Line], label: u32) -> &[Line] {
-    let end = place_in(lines, label).wrapping_add(1).min(lines.len());
-    &lines[..end]
-}
-
-fn down_to(lines: &[Line], label: u32) -> &[Line] {
-    let first = place_in(lines, label);
-    if first < lines.len() {
-        &lines[first..]
-    } else {
-        lines
-    }
-}
-
+// The place of a label; behind all lines where there is none.
 fn place_in(lines: &[Line], label: u32) -> usize {
     for (place, line) in lines.iter().enumerate() {
         if *line == Line::Label(label) {
@@ -91,6 +55,27 @@ fn place_in(lines: &[Line], label: u32) -> usize {
         }
     }
     lines.len()
+}
+
+fn bytes_between(lines: &[Line], first: usize, last: usize) -> u16 {
+    let mut bytes = 0_u16;
+    for (place, line) in lines.iter().enumerate() {
+        if first <= place && place <= last {
+            bytes = bytes.wrapping_add(most_of(line));
+        }
+    }
+    bytes
+}
+
+// Whether the line at a place is a branch that might not reach its label.
+fn is_far(lines: &[Line], place: usize) -> bool {
+    match lines.get(place) {
+        Some(Line::Do(_, Mode::Relative, Operand::To(label))) => {
+            let there = place_in(lines, *label);
+            bytes_between(lines, place.min(there), place.max(there)) > 120
+        }
+        _ => false,
+    }
 }
 
 fn size_of(lines: &[Line], place: usize, line: &Line) -> u16 {

@@ -153,6 +153,14 @@ fn run(machine: &mut Machine, inside: (u16, u16), out: &mut Vec<u8>) -> Result<u
     Ok(1_000_000)
 }
 
+fn length(text: &[u8]) -> u32 {
+    let mut bytes = 0_u32;
+    for _ in text {
+        bytes = bytes.wrapping_add(1);
+    }
+    bytes
+}
+
 /// Whether a call writes the text of the table's line, gives its length, takes the arguments off, keeps what it is to keep, and
 /// takes no more instructions than it may. The line has the format, the text and the arguments.
 pub fn prints(alloc: Global, runtime: &mut Runtime, line: &str) -> Result<bool, Refusal> {
@@ -174,12 +182,9 @@ pub fn prints(alloc: Global, runtime: &mut Runtime, line: &str) -> Result<bool, 
     prepare(machine, first, given.sp);
     let mut out = Vec::new(alloc);
     let count = run(machine, (first, end), &mut out)?;
-    let most = given
-        .read
-        .wrapping_add(out.len() as u32)
-        .wrapping_mul(3072)
-        .wrapping_add(1024);
-    let gives = u16::from_le_bytes([machine.a(), machine.x()]) == out.len() as u16;
+    let bytes = given.read.wrapping_add(length(&out));
+    let most = bytes.wrapping_mul(3072).wrapping_add(1024);
+    let gives = u32::from_le_bytes([machine.a(), machine.x(), 0, 0]) == length(&out);
     let stacks = machine.word(0x00) == TOP && machine.s() == 0xFF;
     let keeps = machine.word(0x14) == 0x2143 && machine.word(TOP) == 0x6587;
     Ok(out == wanted && gives && stacks && keeps && count <= most)
