@@ -186,7 +186,26 @@ fn compared_by(
     }
 }
 
-/// How two sides are compared in a type.
+fn form_of(
+    frame: &Frame<'_>,
+    pushed: u16,
+    relation: Relation,
+    kind: IntType,
+    a: &TExpr,
+    b: &TExpr,
+) -> Comparing
+    ensures { result ≡ comparing_of frame.now pushed relation kind (typed_of a.now) (typed_of b.now) }
+{
+    if tested_by(relation, b).is_some() {
+        Comparing::Truth(Side::Left)
+    } else if tested_by(relation, a).is_some() {
+        Comparing::Truth(Side::Right)
+    } else {
+        compared_by(frame, pushed, relation, kind, a, b)
+    }
+}
+
+/// How two sides are compared in a type. A side that is left out has no labels.
 pub fn comparing_of(
     frame: &Frame<'_>,
     pushed: u16,
@@ -198,11 +217,5 @@ pub fn comparing_of(
     ensures exact { result ≡ comparing_of frame.now pushed relation kind (typed_of a.now) (typed_of b.now) }
     ensures free { ComparesFree result (tested_by relation (typed_of b.now)) (typed_of a.now) (tested_by relation (typed_of a.now)) (typed_of b.now) }
 {
-    if tested_by(relation, b).is_some() {
-        Comparing::Truth(Side::Left)
-    } else if tested_by(relation, a).is_some() {
-        Comparing::Truth(Side::Right)
-    } else {
-        compared_by(frame, pushed, relation, kind, a, b)
-    }
+    form_of(frame, pushed, relation, kind, a, b)
 }

@@ -213,9 +213,8 @@ fn direct_left(op: BinaryOp, operands: Operands, a: Option<Direct>) -> Option<Fo
     left_form(op, operands, low, high)
 }
 
-/// How an operator is computed on two operands. The left one is read behind the right one only where
-/// that leaves it as it is.
-pub fn operating_of(
+// The left operand is read behind the right one only where that leaves it as it is.
+fn form_of(
     frame: &Frame<'_>,
     pushed: u16,
     op: BinaryOp,
@@ -223,8 +222,7 @@ pub fn operating_of(
     a: &TExpr,
     b: &TExpr,
 ) -> Operating
-    ensures exact { result ≡ operating_of frame.now pushed op operands (typed_of a.now) (typed_of b.now) }
-    ensures free { OperatesFree result (typed_of a.now) (typed_of b.now) }
+    ensures { result ≡ operating_of frame.now pushed op operands (typed_of a.now) (typed_of b.now) }
 {
     if let Some(form) = constant_right(op, operands, b) {
         return Operating::Left(form);
@@ -237,6 +235,21 @@ pub fn operating_of(
         Some(form) if is_fixed(left) || is_pure(b) => Operating::Right(form),
         _ => Operating::Stacked,
     }
+}
+
+/// How an operator is computed on two operands. One that is left out has no labels.
+pub fn operating_of(
+    frame: &Frame<'_>,
+    pushed: u16,
+    op: BinaryOp,
+    operands: Operands,
+    a: &TExpr,
+    b: &TExpr,
+) -> Operating
+    ensures exact { result ≡ operating_of frame.now pushed op operands (typed_of a.now) (typed_of b.now) }
+    ensures free { OperatesFree result (typed_of a.now) (typed_of b.now) }
+{
+    form_of(frame, pushed, op, operands, a, b)
 }
 
 /// Behind the operand in the primary register. The label is the operator's own.
