@@ -1,6 +1,6 @@
 -- The pieces of which the lines of operands that are read where they lie, of shifts by constants and of tests are made.
-use Rattle.std.proofs.Common.{◌≡◌, ℕ, zero, suc, ◌+◌, ◌-◌, ◌%◌, ◌<◌, ◌≤◌, ◌^◌, ◌==◌, Bool, true, false, Option, None, Some, List, [], ◌∷◌, ◌++◌, refl, arith, rules}
-use Rattle.std.specs.Prelude.{if◌then◌else◌, nat_lt, ◌&&◌, ◌||◌, not, replicate}
+use Rattle.std.proofs.Common.{◌≡◌, ℕ, zero, suc, ◌+◌, ◌-◌, ◌%◌, ◌<◌, ◌^◌, ◌==◌, Bool, true, false, Option, None, Some, List, [], ◌∷◌, ◌++◌, refl, arith, rules}
+use Rattle.std.specs.Prelude.{if◌then◌else◌, nat_lt, ◌&&◌, not, replicate}
 use Rattle.std.proofs.lemmas.Bool.{ltb-true}
 use Rattle.c65_base.specs.declared.operators.BinaryOp.{BinaryOp}
 use Rattle.c65_base.specs.declared.operators.BinaryOp.TheVariants as ops
@@ -13,11 +13,11 @@ use Rattle.c65_code.specs.declared.routine.TosOp.{TosOp}
 use Rattle.c65_code.specs.declared.routine.TosOp.TheVariants as tos
 use Rattle.c65_code.specs.declared.routine.Width.{Width}
 use Rattle.c65_code.specs.declared.routine.Width.TheVariants.{Ax, Eax}
-use Rattle.c65_genwide.specs.Wide.{width_of, narrow_code}
+use Rattle.c65_genwide.specs.Wide.{width_of}
 use Rattle.c65_genload.specs.declared.places.Place.{Place}
 use Rattle.c65_genload.specs.declared.places.Place.TheVariants as places
-use Rattle.c65_genload.specs.Numbers.{first, second, third, fourth, add_long_code, mask_code, scale_code}
-use Rattle.c65_genload.specs.Conversions.{size_of, test_code}
+use Rattle.c65_genload.specs.Numbers.{first, second, third, fourth, add_long_code, mask_code}
+use Rattle.c65_genload.specs.Conversions.{size_of}
 use Rattle.c65_gendirect.specs.declared.bytes.OperandByte.{OperandByte}
 use Rattle.c65_gendirect.specs.declared.bytes.OperandByte.TheVariants as bytes
 use Rattle.c65_gendirect.specs.declared.direct.Direct.{Direct}
@@ -26,17 +26,16 @@ use Rattle.c65_gendirect.specs.declared.compare.Sides.{Sides}
 use Rattle.c65_gendirect.specs.declared.compare.Sides.TheVariants.{Word, Long}
 use Rattle.c65_gendirect.specs.declared.relation.Relation.{Relation}
 use Rattle.c65_gendirect.specs.declared.relation.Relation.TheVariants as relations
-use Rattle.c65_gendirect.specs.Bytes.{op_of, takes_y, aside, back, number_byte, address_byte, place_byte, byte_above, byte_of, converted}
+use Rattle.c65_gendirect.specs.Bytes.{op_of, takes_y, aside, back, number_byte, place_byte, byte_above, byte_of, converted}
 use Rattle.c65_gendirect.specs.Words.{instruction, carry_code, first_byte_code, both_bytes_code, onward_code, end_label, is_and, is_number, word_code, add_number_code, taken_from_code, long_mask_code}
 use Rattle.c65_gendirect.specs.Compare.{lowest_code, difference_code, order_code, second_code, same_code, compare_code, compare_byte_code}
 use Rattle.c65_gendirect.specs.Tests.{or_code, all_zero_code, zero_test_code, truth_code}
 use Rattle.c65_genshift.specs.declared.quick.Quick.{Quick}
 use Rattle.c65_genshift.specs.declared.quick.Quick.TheVariants.{Shift, Mask}
-use Rattle.c65_genshift.specs.Shifts.{one_of, calls_code, turns_code, left_turn, right_turn, shift_a, left_byte_code, right_byte_code, left_one_code, left_two_code, left_three_code, right_one_code, right_two_code, right_three_code, labelled, left_word_code, right_word_code, left_long_code, right_long_code, shift_code}
-use Rattle.c65_genshift.specs.Quick.{power_of, mask_word_code, mask_high_code, mask_long_code, mask_by_width, quick_lines, quick_code, elements_by, elements_code}
+use Rattle.c65_genshift.specs.Shifts.{calls_code, turns_code, left_turn, right_turn, shift_a, left_byte_code, right_byte_code, left_one_code, left_two_code, left_three_code, right_one_code, right_two_code, right_three_code, labelled, left_word_code, right_word_code, left_long_code, right_long_code, shift_code}
+use Rattle.c65_genshift.specs.Quick.{power_of, mask_word_code, mask_long_code, mask_by_width, quick_lines, quick_code, elements_by, elements_code}
 use Rattle.c65_mach.specs.declared.rows.Op.TheVariants.{Asl, Bne, Cmp, Cpx, Dey, Lda, Ldx, Ldy, Lsr, Ora, Sbc, Sec, Stx, Sty, Tax}
-use Rattle.c65_code.specs.declared.routine.Routine.TheVariants.{Unary}
-use Rattle.c65_genwide.specs.Lines.{value, call}
+use Rattle.c65_genwide.specs.Lines.{value}
 use Rattle.c65_genload.specs.Words.{sreg, tmp1, tmp2, implied, zero_page, branch}
 use Rattle.c65_asm_law.proofs.Well.{Well, AllWell, well_append, well_none, well_more, well_if}
 use Rattle.c65_asm_law.proofs.Loads.{WellPlace, narrow_well, mask_well, scale_well}

@@ -1,6 +1,6 @@
 -- The lines of a well typed expression can be written, and their numbers are of their types.
-use Rattle.std.proofs.Common.{◌≡◌, ℕ, ◌+◌, ◌<◌, ◌≤◌, ◌^◌, ◌==◌, Bool, true, false, Option, None, Some, List, [], ◌∷◌, ◌++◌, refl, subst, arith, rules}
-use Rattle.std.specs.Prelude.{if◌then◌else◌, not}
+use Rattle.std.proofs.Common.{◌≡◌, ℕ, ◌+◌, ◌<◌, ◌≤◌, ◌^◌, ◌==◌, Bool, true, false, Option, None, Some, List, [], ◌∷◌, ◌++◌, refl, subst, arith}
+use Rattle.std.specs.Prelude.{not}
 use Rattle.std.proofs.lemmas.Option.{slice_get_within}
 use Rattle.c65_base.specs.declared.operators.UnaryOp.TheVariants.{Not}
 use Rattle.c65_base.specs.declared.operators.BinaryOp.{BinaryOp}
@@ -25,22 +25,22 @@ use Rattle.c65_genload.specs.declared.places.Access.{Access}
 use Rattle.c65_genload.specs.Places.{held, extent_of, extent_by}
 use Rattle.c65_genload.specs.Places as kept
 use Rattle.c65_genload.specs.Conversions.{push_code, test_code, waiting}
-use Rattle.c65_genload.specs.Loads.{hold_code, load_code}
+use Rattle.c65_genload.specs.Loads.{hold_code}
 use Rattle.c65_genload.specs.Stores.{store_code}
 use Rattle.c65_gendirect.specs.declared.direct.Direct.{Direct}
 use Rattle.c65_gendirect.specs.declared.relation.Relation.{Relation}
 use Rattle.c65_gendirect.specs.Compare.{relation_of}
 use Rattle.c65_genexpr.specs.declared.wanted.Wanted.{Wanted}
 use Rattle.c65_genexpr.specs.declared.wanted.Wanted.TheVariants.{Value, Test}
-use Rattle.c65_genexpr.specs.Wanted.{sense_of, decided_code, wanted_by, handed, handed_sense, value_test_code, branch_code, wanted, aimed, aimed_sense, sense, truth_labels, inner, truth_by, is_straight, way, way_labels}
+use Rattle.c65_genexpr.specs.Wanted.{sense_of, decided_code, wanted_by, handed, handed_sense, value_test_code, branch_code, wanted, aimed, sense, truth_labels, inner, truth_by, is_straight, way, way_labels}
 use Rattle.c65_genexpr.specs.Wanted as tests
 use Rattle.c65_genexpr.specs.declared.comparing.Comparing.{Comparing}
 use Rattle.c65_genexpr.specs.declared.comparing.Comparing.TheVariants as compared
 use Rattle.c65_genexpr.specs.declared.operating.Operating.{Operating}
 use Rattle.c65_genexpr.specs.declared.operating.Operating.TheVariants as ways
 use Rattle.c65_genexpr.specs.Direct.{kept_at, own_bytes}
-use Rattle.c65_genexpr.specs.Comparing.{relation_by, tested_by, comparing_of, below_side, comparison_by}
-use Rattle.c65_genexpr.specs.Operating.{operating_of, below_operand, operator_by}
+use Rattle.c65_genexpr.specs.Comparing.{relation_by, tested_by, comparing_of, below_side}
+use Rattle.c65_genexpr.specs.Operating.{operating_of, below_operand}
 use Rattle.c65_genexpr.specs.declared.operands.Operands.{Operands}
 use Rattle.c65_genexpr.specs.declared.operands.Operands.TheVariants.{Numbers, PointerFirst}
 use Rattle.c65_genexpr.specs.declared.arguments.Passed.{Passed}
@@ -51,9 +51,9 @@ use Rattle.c65_genexpr.specs.Operands.{residue_of, operands_of, computes, same_t
 use Rattle.c65_genexpr.specs.Steps.{amount_of, open_code, close_code}
 use Rattle.c65_genexpr.specs.Arguments.{is_fast, is_counted, stays, passed_size, joined, passed_of, argument_bytes, argument_code}
 use Rattle.c65_genexpr.specs.Calls.{named_in, named}
-use Rattle.c65_genexpr.specs.Uses.{unless_named, by_relation, uses, node_uses, args_uses}
-use Rattle.c65_genexpr.specs.Code.{target_code, width_in, constant_code, tested_load, load_by, behind_open, compound, call_by, expr_code, node_code, args_code}
-use Rattle.c65_asm_law.proofs.Well.{AllWell, well_append, well_none, well_more, well_if}
+use Rattle.c65_genexpr.specs.Uses.{unless_named, by_relation, uses, node_uses, args_uses, comparison_uses}
+use Rattle.c65_genexpr.specs.Code.{target_code, width_in, constant_code, tested_load, load_by, behind_open, compound, call_by, expr_code, node_code, args_code, operator_code, comparison_code, joint_code}
+use Rattle.c65_asm_law.proofs.Well.{AllWell, well_append, well_none, well_more}
 use Rattle.c65_asm_law.proofs.Loads.{WellPlace, bytes_well, number_well, symbol_well, offset_well, push_well, test_well, hold_well, load_well, store_well, copy_well}
 use Rattle.c65_asm_law.proofs.Known.{Knows}
 use Rattle.c65_asm_law.proofs.Places.{place_well, object_well, further_well, spill_well, conversion_well, unary_well, step_well, open_well, close_well, named_well, direct_well, pointer_well, argument_well}
@@ -79,14 +79,10 @@ wanted_well : (n : ℕ) (w : Wanted) (width : Width) (lines : List Line) → Wel
 wanted_well n Value width lines aim h = h
 wanted_well n (Test to s) width lines aim h = well_append n lines _ h (value_test_well n width s to aim)
 
-aimed_low : (w : Wanted) (lo : ℕ) → WellWanted w → lo + truth_labels (sense_of w) < 2 ^ 32 → aimed w lo < 2 ^ 32
-aimed_low Value lo aim room = omega (arith, room)
-aimed_low (Test to s) lo aim room = aim
-
--- `!` aims at a label of its own, or at that of the whole
-not_aimed : (w : Wanted) (lo k : ℕ) → WellWanted w → lo + (truth_labels (sense_of w) + k) ≤ 2 ^ 32 → aimed w lo < 2 ^ 32
-not_aimed Value lo k aim room = omega (arith, room)
-not_aimed (Test to s) lo k aim room = aim
+-- a value's test leads to a label of its own
+aim_low : (w : Wanted) (lo k : ℕ) → WellWanted w → lo + (truth_labels (sense_of w) + k) ≤ 2 ^ 32 → aimed w lo < 2 ^ 32
+aim_low Value lo k aim room = omega (arith, room)
+aim_low (Test to s) lo k aim room = aim
 
 truth_by_well : (n : ℕ) (w : Wanted) (lo : ℕ) (lines : List Line) → lo + truth_labels (sense_of w) ≤ 2 ^ 32 → AllWell n lines → AllWell n (truth_by w lo lines)
 truth_by_well n Value lo lines room h = well_append n lines _ h (truth_well n lo (omega (arith, room)))
@@ -198,32 +194,47 @@ tree_handed n f e pushed lo same Value tree few aim room = tree pushed lo Value 
 tree_handed n f e pushed lo true (Test to s) tree few aim room = tree pushed lo (Test to s) few aim room
 tree_handed n f e pushed lo false (Test to s) tree few aim room = tree pushed lo Value few tt room
 
-operation_well : (n : ℕ) (u : UnitTy) (f : Framed) (pushed lo : ℕ) (w : Wanted) (width : Width) (op : BinaryOp) (operands : Operands) (a b : Typed) → Knows f u n → IsTyped u a → IsTyped u b → WellTree n f a → WellTree n f b → pushed < 2 ^ 16 → WellWanted w → lo + (1 + (uses None a + uses None b)) ≤ 2 ^ 32 → AllWell n (wanted w width (operator_by (operating_of f pushed op operands a b) op operands (kind_in b) lo (expr_code f pushed (lo + 1) Value a) (expr_code f (below_operand (operating_of f pushed op operands a b) pushed (waiting (width_of (computes operands)))) (lo + 1 + uses None a) Value b)))
-operation_well n u f pushed lo w width op operands a b knows ha hb ta tb few aim room =
+operator_in : (n : ℕ) (u : UnitTy) (f : Framed) (pushed lo : ℕ) (op : BinaryOp) (a b : Typed) → Knows f u n → IsTyped u a → IsTyped u b → WellTree n f a → WellTree n f b → pushed < 2 ^ 16 → lo + (1 + (uses None a + uses None b)) ≤ 2 ^ 32 → AllWell n (operator_code f pushed lo op a b)
+operator_in n u f pushed lo op a b knows ha hb ta tb few room =
+    let operands : Operands = operands_of f (bare a) (bare b) in
     let how : Operating = operating_of f pushed op operands a b in
-    let below : ℕ = below_operand how pushed (waiting (width_of (computes operands))) in
-    wanted_well n w width _ aim (operator_well n how op operands (kind_in b) lo _ _ (operating_well n u f pushed op operands a b knows ha hb) (omega (arith, room)) (ta pushed (lo + 1) Value few tt (omega (arith, room))) (tb below (lo + 1 + uses None a) Value (below_operand_few how pushed (waiting (width_of (computes operands))) few) tt (omega (arith, room))))
+    let bytes : ℕ = waiting (width_of (computes operands)) in
+    let left : AllWell n (expr_code f pushed (lo + 1) Value a) = ta pushed (lo + 1) Value few tt (omega (arith, room)) in
+    let right : AllWell n (expr_code f (below_operand how pushed bytes) (lo + 1 + uses None a) Value b) = tb (below_operand how pushed bytes) (lo + 1 + uses None a) Value (below_operand_few how pushed bytes few) tt (omega (arith, room)) in
+    operator_well n how op operands (kind_in b) lo _ _ (operating_well n u f pushed op operands a b knows ha hb) (omega (arith, room)) left right
 
-comparison_in : (n : ℕ) (u : UnitTy) (f : Framed) (pushed lo : ℕ) (w : Wanted) (op : BinaryOp) (operands : Operands) (q : Relation) (a b : Typed) → Knows f u n → IsTyped u a → IsTyped u b → WellTree n f a → WellTree n f b → pushed < 2 ^ 16 → WellWanted w → lo + (truth_labels (sense_of w) + (1 + (uses (tested_by q b) a + uses (tested_by q a) b))) ≤ 2 ^ 32 → AllWell n (truth_by w lo (comparison_by (comparing_of f pushed q (computes operands) a b) op operands (kind_in b) (sense w) (aimed w lo) (inner w lo) (expr_code f pushed (inner w lo + 1) (wanted_by (tested_by q b) (aimed w lo)) a) (expr_code f (below_side (comparing_of f pushed q (computes operands) a b) pushed (waiting (width_of (computes operands)))) (inner w lo + 1 + uses (tested_by q b) a) (wanted_by (tested_by q a) (aimed w lo)) b)))
-comparison_in n u f pushed lo w op operands q a b knows ha hb ta tb few aim room =
+comparison_in : (n : ℕ) (u : UnitTy) (f : Framed) (pushed own to : ℕ) (s : Bool) (op : BinaryOp) (r : Relation) (a b : Typed) → Knows f u n → IsTyped u a → IsTyped u b → WellTree n f a → WellTree n f b → pushed < 2 ^ 16 → to < 2 ^ 32 → own + comparison_uses (relation_by s r) a b ≤ 2 ^ 32 → AllWell n (comparison_code f pushed own to s op r a b)
+comparison_in n u f pushed own to s op r a b knows ha hb ta tb few aim room =
+    let operands : Operands = operands_of f (bare a) (bare b) in
+    let q : Relation = relation_by s r in
     let how : Comparing = comparing_of f pushed q (computes operands) a b in
-    let below : ℕ = below_side how pushed (waiting (width_of (computes operands))) in
-    let own : inner w lo < 2 ^ 32 = omega (arith, room) in
-    let to : aimed w lo < 2 ^ 32 = aimed_low w lo aim own in
-    let left : AllWell n (expr_code f pushed (inner w lo + 1) (wanted_by (tested_by q b) (aimed w lo)) a) = tree_by n f a pushed (inner w lo + 1) (tested_by q b) (aimed w lo) ta few to (omega (arith, room)) in
-    let right : AllWell n (expr_code f below (inner w lo + 1 + uses (tested_by q b) a) (wanted_by (tested_by q a) (aimed w lo)) b) = tree_by n f b below (inner w lo + 1 + uses (tested_by q b) a) (tested_by q a) (aimed w lo) tb (below_side_few how pushed (waiting (width_of (computes operands))) few) to (omega (arith, room)) in
-    truth_by_well n w lo _ (omega (arith, room)) (comparison_well n how op operands (kind_in b) (sense w) (aimed w lo) (inner w lo) _ _ (comparing_well n u f pushed q (computes operands) a b knows ha hb) to own left right)
+    let bytes : ℕ = waiting (width_of (computes operands)) in
+    let left : AllWell n (expr_code f pushed (own + 1) (wanted_by (tested_by q b) to) a) = tree_by n f a pushed (own + 1) (tested_by q b) to ta few aim (omega (arith, room)) in
+    let right : AllWell n (expr_code f (below_side how pushed bytes) (own + 1 + uses (tested_by q b) a) (wanted_by (tested_by q a) to) b) = tree_by n f b (below_side how pushed bytes) (own + 1 + uses (tested_by q b) a) (tested_by q a) to tb (below_side_few how pushed bytes few) aim (omega (arith, room)) in
+    comparison_well n how op operands (kind_in b) s to own _ _ (comparing_well n u f pushed q (computes operands) a b knows ha hb) aim (omega (arith, room)) left right
 
 -- a comparison, or another operator
-binary_well : (n : ℕ) (u : UnitTy) (f : Framed) (pushed lo : ℕ) (w : Wanted) (width : Width) (m : Option Relation) (op : BinaryOp) (operands : Operands) (a b : Typed) → Knows f u n → IsTyped u a → IsTyped u b → WellTree n f a → WellTree n f b → pushed < 2 ^ 16 → WellWanted w → lo + by_relation m (1 + (uses None a + uses None b)) (λ r. truth_labels (sense_of w) + (1 + (uses (tested_by (relation_by (sense w) r) b) a + uses (tested_by (relation_by (sense w) r) a) b))) ≤ 2 ^ 32 → AllWell n (by_relation m (wanted w width (operator_by (operating_of f pushed op operands a b) op operands (kind_in b) lo (expr_code f pushed (lo + 1) Value a) (expr_code f (below_operand (operating_of f pushed op operands a b) pushed (waiting (width_of (computes operands)))) (lo + 1 + uses None a) Value b))) (λ r. truth_by w lo (comparison_by (comparing_of f pushed (relation_by (sense w) r) (computes operands) a b) op operands (kind_in b) (sense w) (aimed w lo) (inner w lo) (expr_code f pushed (inner w lo + 1) (wanted_by (tested_by (relation_by (sense w) r) b) (aimed w lo)) a) (expr_code f (below_side (comparing_of f pushed (relation_by (sense w) r) (computes operands) a b) pushed (waiting (width_of (computes operands)))) (inner w lo + 1 + uses (tested_by (relation_by (sense w) r) b) a) (wanted_by (tested_by (relation_by (sense w) r) a) (aimed w lo)) b))))
-binary_well n u f pushed lo w width None op operands a b knows ha hb ta tb few aim room = operation_well n u f pushed lo w width op operands a b knows ha hb ta tb few aim room
-binary_well n u f pushed lo w width (Some r) op operands a b knows ha hb ta tb few aim room = comparison_in n u f pushed lo w op operands (relation_by (sense w) r) a b knows ha hb ta tb few aim room
+binary_well : (n : ℕ) (u : UnitTy) (f : Framed) (pushed lo : ℕ) (w : Wanted) (width : Width) (m : Option Relation) (op : BinaryOp) (a b : Typed) → Knows f u n → IsTyped u a → IsTyped u b → WellTree n f a → WellTree n f b → pushed < 2 ^ 16 → WellWanted w
+    → lo + by_relation m (1 + (uses None a + uses None b)) (λ r. truth_labels (sense_of w) + comparison_uses (relation_by (sense w) r) a b) ≤ 2 ^ 32
+    → AllWell n (by_relation m (wanted w width (operator_code f pushed lo op a b)) (λ r. truth_by w lo (comparison_code f pushed (inner w lo) (aimed w lo) (sense w) op r a b)))
+binary_well n u f pushed lo w width None op a b knows ha hb ta tb few aim room = wanted_well n w width _ aim (operator_in n u f pushed lo op a b knows ha hb ta tb few room)
+binary_well n u f pushed lo w width (Some r) op a b knows ha hb ta tb few aim room =
+    let to : aimed w lo < 2 ^ 32 = aim_low w lo (comparison_uses (relation_by (sense w) r) a b) aim room in
+    truth_by_well n w lo _ (omega (arith, room)) (comparison_in n u f pushed (inner w lo) (aimed w lo) (sense w) op r a b knows ha hb ta tb few to (omega (arith, room)))
 
 -- `&&` and `||`
-joint_well : (n : ℕ) (f : Framed) (pushed lo : ℕ) (w : Wanted) (stop straight : Bool) (a b : Typed) → WellTree n f a → WellTree n f b → pushed < 2 ^ 16 → WellWanted w → lo + (truth_labels (sense_of w) + (way_labels straight + (uses (Some stop) a + uses (Some (sense w)) b))) ≤ 2 ^ 32 → AllWell n (truth_by w lo (tests.joined straight (inner w lo) (expr_code f pushed (inner w lo + way_labels straight) (Test (way straight (aimed w lo) (inner w lo)) stop) a) (expr_code f pushed (inner w lo + way_labels straight + uses (Some stop) a) (Test (aimed w lo) (sense w)) b)))
-joint_well n f pushed lo w stop straight a b ta tb few aim room =
-    let to : aimed w lo < 2 ^ 32 = not_aimed w lo (way_labels straight + (uses (Some stop) a + uses (Some (sense w)) b)) aim room in
-    truth_by_well n w lo _ (omega (arith, room)) (joined_well n straight (inner w lo) _ _ (omega (arith, room)) (ta pushed (inner w lo + way_labels straight) (Test (way straight (aimed w lo) (inner w lo)) stop) few (way_low straight (aimed w lo) (inner w lo) (uses (Some stop) a) to (omega (arith, room))) (omega (arith, room))) (tb pushed (inner w lo + way_labels straight + uses (Some stop) a) (Test (aimed w lo) (sense w)) few to (omega (arith, room))))
+joint_in : (n : ℕ) (f : Framed) (pushed own to : ℕ) (s stop straight : Bool) (a b : Typed) → WellTree n f a → WellTree n f b → pushed < 2 ^ 16 → to < 2 ^ 32 → own + (way_labels straight + (uses (Some stop) a + uses (Some s) b)) ≤ 2 ^ 32
+    → AllWell n (tests.joined straight own (expr_code f pushed (own + way_labels straight) (Test (way straight to own) stop) a) (expr_code f pushed (own + way_labels straight + uses (Some stop) a) (Test to s) b))
+joint_in n f pushed own to s stop straight a b ta tb few aim room =
+    let left : AllWell n (expr_code f pushed (own + way_labels straight) (Test (way straight to own) stop) a) = ta pushed (own + way_labels straight) (Test (way straight to own) stop) few (way_low straight to own (uses (Some stop) a) aim (omega (arith, room))) (omega (arith, room)) in
+    joined_well n straight own _ _ (omega (arith, room)) left (tb pushed (own + way_labels straight + uses (Some stop) a) (Test to s) few aim (omega (arith, room)))
+
+joint_well : (n : ℕ) (f : Framed) (pushed lo : ℕ) (w : Wanted) (stop : Bool) (a b : Typed) → WellTree n f a → WellTree n f b → pushed < 2 ^ 16 → WellWanted w
+    → lo + (truth_labels (sense_of w) + (way_labels (is_straight stop (sense w)) + (uses (Some stop) a + uses (Some (sense w)) b))) ≤ 2 ^ 32 → AllWell n (truth_by w lo (joint_code f pushed (inner w lo) (aimed w lo) (sense w) stop a b))
+joint_well n f pushed lo w stop a b ta tb few aim room =
+    let straight : Bool = is_straight stop (sense w) in
+    let to : aimed w lo < 2 ^ 32 = aim_low w lo (way_labels straight + (uses (Some stop) a + uses (Some (sense w)) b)) aim room in
+    truth_by_well n w lo _ (omega (arith, room)) (joint_in n f pushed (inner w lo) (aimed w lo) (sense w) stop straight a b ta tb few to (omega (arith, room)))
 
 -- ---- the whole tree
 
@@ -249,14 +260,14 @@ mutual
       let same : Bool = same_truth (type_in t) (bare e) in
       converted_well n w same (type_in t) (kind_in e) _ aim (tree_handed n f e pushed lo same w (λ p l v. expr_well n u f p l v e knows h.0) few aim room)
   node_well n u f pushed lo w t (unary Not e) knows h few aim room =
-      truth_by_well n w lo _ (omega (arith, room)) (expr_well n u f pushed (inner w lo) (Test (aimed w lo) (not (sense w))) e knows h.0 few (not_aimed w lo (uses (Some (not (sense w))) e) aim room) (omega (arith, room)))
+      truth_by_well n w lo _ (omega (arith, room)) (expr_well n u f pushed (inner w lo) (Test (aimed w lo) (not (sense w))) e knows h.0 few (aim_low w lo (uses (Some (not (sense w))) e) aim room) (omega (arith, room)))
   node_well n u f pushed lo w t (unary op e) knows h few aim room = wanted_well n w (width_in t) _ aim (well_append n (expr_code f pushed lo Value e) _ (expr_well n u f pushed lo Value e knows h.0 few tt room) (unary_well n op (width_of (kind_in e))))
   node_well n u f pushed lo w t (binary op a b) knows h few aim room =
-      binary_well n u f pushed lo w (width_in t) (relation_of op) op (operands_of f (bare a) (bare b)) a b knows h.0 h.1 (λ p l v. expr_well n u f p l v a knows h.0) (λ p l v. expr_well n u f p l v b knows h.1) few aim room
+      binary_well n u f pushed lo w (width_in t) (relation_of op) op a b knows h.0 h.1 (λ p l v. expr_well n u f p l v a knows h.0) (λ p l v. expr_well n u f p l v b knows h.1) few aim room
   node_well n u f pushed lo w t (both a b) knows h few aim room =
-      joint_well n f pushed lo w false (is_straight false (sense w)) a b (λ p l v. expr_well n u f p l v a knows h.0) (λ p l v. expr_well n u f p l v b knows h.1) few aim room
+      joint_well n f pushed lo w false a b (λ p l v. expr_well n u f p l v a knows h.0) (λ p l v. expr_well n u f p l v b knows h.1) few aim room
   node_well n u f pushed lo w t (either a b) knows h few aim room =
-      joint_well n f pushed lo w true (is_straight true (sense w)) a b (λ p l v. expr_well n u f p l v a knows h.0) (λ p l v. expr_well n u f p l v b knows h.1) few aim room
+      joint_well n f pushed lo w true a b (λ p l v. expr_well n u f p l v a knows h.0) (λ p l v. expr_well n u f p l v b knows h.1) few aim room
   node_well n u f pushed lo w t (choice c a b) knows h few aim room =
       wanted_well n w (width_in t) _ aim (choice_well n lo _ _ _ (omega (arith, room)) (expr_well n u f pushed (lo + 2) (Test lo false) c knows h.0 few (omega (arith, room)) (omega (arith, room))) (expr_well n u f pushed (lo + 2 + uses (Some false) c) Value a knows h.1 few tt (omega (arith, room))) (expr_well n u f pushed (lo + 2 + uses (Some false) c + uses None a) Value b knows h.2 few tt (omega (arith, room))))
   node_well n u f pushed lo w t (comma a b) knows h few aim room =

@@ -5,7 +5,6 @@ use Rattle.std.proofs.lemmas.Bool.{leb-true}
 use Rattle.c65_csem.specs.Trees.{Typed, UnitTy}
 use Rattle.c65_csem.specs.Typed.{IsTyped, IsGiven}
 use Rattle.c65_csem.specs.Places.{is_tag}
-use Rattle.c65_mach.specs.declared.rows.Op.{Op}
 use Rattle.c65_mach.specs.declared.rows.Op.TheVariants.{Sta, Stx}
 use Rattle.c65_code.specs.declared.line.Line.{Line}
 use Rattle.c65_code.specs.Segments.{Drafted}
@@ -14,7 +13,6 @@ use Rattle.c65_genframe.specs.declared.home.Home.TheVariants as homes
 use Rattle.c65_genframe.specs.Frames.{Framed, home_of, type_bytes}
 use Rattle.c65_genframe.specs.Symbols.{numbers_of, object_symbol}
 use Rattle.c65_genwide.specs.Lines.{with_lines}
-use Rattle.c65_genwide.specs.Wide.{width_of}
 use Rattle.c65_genload.specs.declared.places.Access.{Access}
 use Rattle.c65_genload.specs.declared.places.Access.TheVariants.{Whole}
 use Rattle.c65_genload.specs.declared.places.Place.TheVariants as places
@@ -24,7 +22,7 @@ use Rattle.c65_genexpr.specs.Types.{bare, kind_in}
 use Rattle.c65_genexpr.specs.Uses.{uses}
 use Rattle.c65_genexpr.specs.declared.wanted.Wanted.TheVariants.{Value, Test}
 use Rattle.c65_genexpr.specs.Code.{expr_code}
-use Rattle.c65_genentry.specs.Words.{ptr1, ptr2, zero_page, branch, with_code}
+use Rattle.c65_genentry.specs.Words.{ptr1, ptr2, zero_page, with_code}
 use Rattle.c65_genentry.specs.Pointers as pointers
 use Rattle.c65_genentry.specs.Bytes.{block_labels}
 use Rattle.c65_genentry.specs.Bytes as blocks
