@@ -1,8 +1,8 @@
 -- The length of a text in memory.
 use Rattle.std.proofs.Common.{◌≡◌, ◌≢◌, ℕ, zero, suc, ◌+◌, ◌<◌, Bool, true, false, refl, sym, ap, ◌∙◌, arith}
-use Rattle.std.specs.Prelude.{◌==◌, if◌then◌else◌, length}
+use Rattle.std.specs.Prelude.{◌==◌, if◌then◌else◌}
 use Rattle.c65_code.specs.LineState.{Bytes}
-use Rattle.c65_code.specs.Texts.{length_within, text_length, range_of}
+use Rattle.c65_code.specs.Texts.{length_within, text_length}
 use Rattle.c65_rtl.proofs.Meeting.{eq_true, eq_false}
 
 pub record IsText (m : Bytes) (at n : ℕ) : Type 0 where
@@ -38,7 +38,3 @@ is_within at m = refl
 
 pub text_is : (at : ℕ) (m : Bytes) → text_length at m < 65536 → IsText m at (text_length at m)
 text_is at m less = text_within 65536 at m (text_length at m) (sym (is_within at m)) less
-
-pub range_length : (count at : ℕ) → length (range_of count at) ≡ count
-range_length zero at = refl
-range_length (suc count) at = ap suc (range_length count (at + 1))

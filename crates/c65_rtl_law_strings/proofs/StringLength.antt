@@ -25,7 +25,8 @@ use Rattle.c65_rtl.proofs.SpPieces.{left}
 use Rattle.c65_rtl.proofs.Pushes.{meets_by, write_same}
 use Rattle.c65_rtl.proofs.Stores.{reach_as}
 use Rattle.c65_rtl_law_walks.proofs.Loops.{Round, runs_loops}
-use Rattle.c65_rtl_law_strings.proofs.Lengths.{IsText, text_is, range_length}
+use Rattle.c65_rtl_law_walks.proofs.Ranges.{range_length}
+use Rattle.c65_rtl_law_strings.proofs.Lengths.{IsText, text_is}
 
 abbrev round_on : List Line → List Line
 round_on rest = by_y Lda ptr1 ∷ branch Beq 3 ∷ implied Iny ∷ branch Bne 2 ∷ zero_page Inc (ptr1 + 1) ∷ implied Inx ∷ branch Bne 2 ∷ Label 3 ∷ rest

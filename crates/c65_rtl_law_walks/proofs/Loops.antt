@@ -1,7 +1,10 @@
 -- Loops of every kind: a label that was passed may be entered again where its invariant holds with less weight left.
-use Rattle.std.proofs.Common.{◌≡◌, ℕ, zero, suc, ◌+◌, ◌-◌, ◌<◌, ◌≤◌, List, [], ◌∷◌, Option, None, length, refl, sym, ap, subst, arith}
+use Rattle.std.proofs.Common.{◌≡◌, ℕ, zero, suc, ◌∙◌, ◌+◌, ◌-◌, ◌<◌, ◌≤◌, List, [], ◌∷◌, Option, None, length, refl, sym, ap, subst, arith}
 use Rattle.std.specs.Prelude.{sum_by}
 use Rattle.std.proofs.lemmas.List.Sums.{sum_by-cons}
+use Rattle.c65_mach.specs.declared.rows.Op.{Op}
+use Rattle.c65_mach.specs.declared.rows.Mode.{Mode}
+use Rattle.c65_code.specs.declared.line.Operand.{Operand}
 use Rattle.c65_code.specs.declared.line.Line.{Line}
 use Rattle.c65_code.specs.declared.line.Line.TheVariants.{Label, Do, Call}
 use Rattle.c65_code.specs.declared.routine.Routine.{Routine}
@@ -68,3 +71,20 @@ runs_loops s r row back t lines has Inv round most within ends may h =
           (λ j u own h. turns s (reach_of t) (HasDone None row back t) (Ends row t) (s.routine r) lines frame t.frames used has room (λ u m bytes. (refl, m, bytes)) Inv round most j most u (omega arith) own h)
           lines 0 [] None (called back t) (whole_at lines) tt (record { frames = refl; ended = may.running; used = refl }) h));
     }
+
+-- A round stays one where a line stands before all others.
+later_place : (k : ℕ) (lines : List Line) (p : ℕ) → place_behind k lines (suc p) ≡ suc (place_behind k lines p)
+later_place zero lines p = refl
+later_place (suc k) [] p = refl
+later_place (suc k) (l ∷ lines) p = later_place k lines (suc p)
+
+pub behind_line : (place : Placement) (bounds : Bounds) (P : State → Type 0) (op : Op) (mode : Mode) (operand : Operand) (lines : List Line) (Inv : ℕ → ℕ → State → Type 0) (l n : ℕ) (t : State)
+    → Round place bounds P lines Inv l n t → Round place bounds P (Do op mode operand ∷ lines) Inv l n t
+behind_line place bounds P op mode operand lines Inv l n t r = record {
+  k = suc r.k;
+  less = r.less;
+  stands = ap suc r.stands ∙ sym (ap (settle (Do op mode operand ∷ lines)) (later_place r.k lines 0));
+  fewer = r.fewer;
+  weighs = r.weighs;
+  leads = r.leads;
+}
