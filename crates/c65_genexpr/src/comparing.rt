@@ -14,14 +14,14 @@ use c65_genwide::width_of;
 use c65_ints::IntType;
 
 /// One of the two sides.
-#[derive(Clone, Copy, Debug, PartialEq, Eq)]
+#[derive(Clone, Copy)]
 pub enum Side {
     Left,
     Right,
 }
 
 /// How two sides are compared.
-#[derive(Clone, Copy, Debug, PartialEq, Eq)]
+#[derive(Clone, Copy)]
 pub enum Comparing {
     /// The truth of a side, as the other one is 0.
     Truth(Side),

@@ -118,7 +118,12 @@ pub fn is_pure(e: &TExpr) -> bool
         | TKind::Copy(_, _)
         | TKind::Call(_, _)
         | TKind::Spill(_, _) => false,
-        _ => true,
+        TKind::Const(_)
+        | TKind::Null
+        | TKind::Literal(_)
+        | TKind::Object(_)
+        | TKind::Func(_)
+        | TKind::Rest => true,
     }
 }
 

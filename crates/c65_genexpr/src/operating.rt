@@ -23,7 +23,7 @@ use c65_ints::IntType;
 use std::alloc::AllocError;
 
 /// What is done to the operand in the primary register.
-#[derive(Clone, Copy, Debug, PartialEq, Eq)]
+#[derive(Clone, Copy)]
 pub enum Form {
     /// A number is added to AX.
     Sum(u32),
@@ -46,7 +46,7 @@ pub enum Form {
 }
 
 /// How an operator is computed.
-#[derive(Clone, Copy, Debug, PartialEq, Eq)]
+#[derive(Clone, Copy)]
 pub enum Operating {
     /// The left operand, and what is done to it.
     Left(Form),
@@ -156,12 +156,17 @@ fn right_form(
 ) -> Option<Form>
     ensures { result ≡ right_form op operands low high }
 {
-    match (op, operands) {
-        (_, Operands::Numbers(kind)) => word_if(op, width_of(kind), low, high),
-        (_, Operands::PointerFirst(size)) => element_form(op, size, low, high),
-        (BinaryOp::Add, Operands::PointerLast(size)) => Some(Form::Indexed(size, low, high)),
-        (BinaryOp::Sub, Operands::Pointers(size)) => Some(Form::Distance(size, low, high)),
-        (_, _) => None,
+    match operands {
+        Operands::Numbers(kind) => word_if(op, width_of(kind), low, high),
+        Operands::PointerFirst(size) => element_form(op, size, low, high),
+        Operands::PointerLast(size) => match op {
+            BinaryOp::Add => Some(Form::Indexed(size, low, high)),
+            _ => None,
+        },
+        Operands::Pointers(size) => match op {
+            BinaryOp::Sub => Some(Form::Distance(size, low, high)),
+            _ => None,
+        },
     }
 }
 
@@ -183,12 +188,20 @@ fn left_form(
 ) -> Option<Form>
     ensures { result ≡ left_form op operands low high }
 {
-    match (op, operands) {
-        (BinaryOp::Sub, Operands::Numbers(kind)) => under_if(width_of(kind), low, high),
-        (_, Operands::Numbers(kind)) => word_if(op, width_of(kind), low, high),
-        (BinaryOp::Add, Operands::PointerFirst(size)) => Some(Form::Indexed(size, low, high)),
-        (BinaryOp::Sub, Operands::Pointers(size)) => Some(Form::DistanceUnder(size, low, high)),
-        (_, _) => None,
+    match operands {
+        Operands::Numbers(kind) => match op {
+            BinaryOp::Sub => under_if(width_of(kind), low, high),
+            _ => word_if(op, width_of(kind), low, high),
+        },
+        Operands::PointerFirst(size) => match op {
+            BinaryOp::Add => Some(Form::Indexed(size, low, high)),
+            _ => None,
+        },
+        Operands::PointerLast(_) => None,
+        Operands::Pointers(size) => match op {
+            BinaryOp::Sub => Some(Form::DistanceUnder(size, low, high)),
+            _ => None,
+        },
     }
 }
 
