@@ -125,7 +125,7 @@ pub put_comparison-returns-in_err-put_side-in-Truth-clause-kept : goal.put_compa
 put_comparison-returns-in_err-put_side-in-Truth-clause-kept t c = refused_then c.from_residual-in_err-put_side-in-Truth.result (label_then _ _ _ c.in_ok-own.ensures.draft c.in_err-put_side-in-Truth.ensures.kept)
 
 pub put_comparison-returns-in_ok-put_side-in-Truth-clause-kept : goal.put_comparison-returns-in_ok-put_side-in-Truth-clause-kept
-put_comparison-returns-in_ok-put_side-in-Truth-clause-kept t c = label_last _ _ _ _ c.in_ok-own.ensures.draft (grown_last _ _ _ _ _ _ c.in_ok-put_side-in-Truth.ensures.lines c.put-in-Truth.ensures.kept)
+put_comparison-returns-in_ok-put_side-in-Truth-clause-kept t c = label_last _ _ _ _ c.in_ok-own.ensures.draft (grown_last _ _ _ _ _ _ c.in_ok-put_side-in-Truth.ensures.lines c.put.ensures.kept)
 
 pub put_comparison-returns-in_err-put_side-in-Byte-default-None-default-default-clause-kept : goal.put_comparison-returns-in_err-put_side-in-Byte-default-None-default-default-clause-kept
 put_comparison-returns-in_err-put_side-in-Byte-default-None-default-default-clause-kept t c = refused_then c.from_residual-in_err-put_side-in-Byte-default-None-default-default.result (label_then _ _ _ c.in_ok-own.ensures.draft c.in_err-put_side-in-Byte-default-None-default-default.ensures.kept)
@@ -182,7 +182,7 @@ pub put_operator-returns-in_err-leave_out-in-Left-clause-kept : goal.put_operato
 put_operator-returns-in_err-leave_out-in-Left-clause-kept t c = refused_then c.from_residual-in_err-leave_out-in-Left.result (label_then _ _ _ c.in_ok-label.ensures.draft (grown_then _ _ _ _ _ c.in_ok-put_expr-in-Left.ensures.lines c.in_err-leave_out-in-Left.ensures.kept))
 
 pub put_operator-returns-in_ok-leave_out-in-Left-clause-kept : goal.put_operator-returns-in_ok-leave_out-in-Left-clause-kept
-put_operator-returns-in_ok-leave_out-in-Left-clause-kept t c = label_last _ _ _ _ c.in_ok-label.ensures.draft (grown_last _ _ _ _ _ _ c.in_ok-put_expr-in-Left.ensures.lines (grown_last _ _ _ _ _ _ c.in_ok-leave_out-in-Left.ensures.lines c.put_form-in-Left.ensures.kept))
+put_operator-returns-in_ok-leave_out-in-Left-clause-kept t c = label_last _ _ _ _ c.in_ok-label.ensures.draft (grown_last _ _ _ _ _ _ c.in_ok-put_expr-in-Left.ensures.lines (grown_last _ _ _ _ _ _ c.in_ok-leave_out-in-Left.ensures.lines c.put_form.ensures.kept))
 
 pub put_operator-returns-in_err-leave_out-in-Right-clause-kept : goal.put_operator-returns-in_err-leave_out-in-Right-clause-kept
 put_operator-returns-in_err-leave_out-in-Right-clause-kept t c = refused_then c.from_residual-in_err-leave_out-in-Right.result (label_then _ _ _ c.in_ok-label.ensures.draft c.in_err-leave_out-in-Right.ensures.kept)
@@ -209,7 +209,7 @@ pub put_operator-returns-in_ok-put_stacked-in-Stacked-clause-kept : goal.put_ope
 put_operator-returns-in_ok-put_stacked-in-Stacked-clause-kept t c = label_last _ _ _ _ c.in_ok-label.ensures.draft (grown_last _ _ _ _ _ _ c.in_ok-put_expr-in-Stacked.ensures.lines (kept_last _ _ _ _ _ c.in_ok-put_waiting-in-Stacked.ensures.lines (grown_last _ _ _ _ _ _ c.in_ok-put_expr-in-Stacked-2.ensures.lines (kept_last _ _ _ _ _ c.in_ok-put_stacked-in-Stacked.ensures.lines c.put.ensures.kept))))
 
 pub put_joint-returns-in_ok-put_test-clause-kept : goal.put_joint-returns-in_ok-put_test-clause-kept
-put_joint-returns-in_ok-put_test-clause-kept t c = grown_last _ _ _ _ _ _ c.in_ok-put_test.ensures.lines c.put_test-2.ensures.kept
+put_joint-returns-in_ok-put_test-clause-kept t c = grown_last _ _ _ _ _ _ c.in_ok-put_test.ensures.lines c.put_test-then-is_straight.ensures.kept
 
 pub put_joint-returns-in_err-put_test-2-clause-kept : goal.put_joint-returns-in_err-put_test-2-clause-kept
 put_joint-returns-in_err-put_test-2-clause-kept t c = refused_then c.from_residual-in_err-put_test-2.result (label_then _ _ _ c.in_ok-own.ensures.draft c.in_err-put_test-2.ensures.kept)
@@ -221,7 +221,7 @@ pub put_joint-returns-in_ok-put_test-3-clause-kept : goal.put_joint-returns-in_o
 put_joint-returns-in_ok-put_test-3-clause-kept t c = label_last _ _ _ _ c.in_ok-own.ensures.draft (grown_last _ _ _ _ _ _ c.in_ok-put_test-2.ensures.lines (grown_last _ _ _ _ _ _ c.in_ok-put_test-3.ensures.lines c.put.ensures.kept))
 
 pub put_side-returns-in_ok-put_wanted-in-Left-clause-kept : goal.put_side-returns-in_ok-put_wanted-in-Left-clause-kept
-put_side-returns-in_ok-put_wanted-in-Left-clause-kept t c = grown_last _ _ _ _ _ _ c.in_ok-put_wanted-in-Left.ensures.lines c.leave_out-in-Left.ensures.kept
+put_side-returns-in_ok-put_wanted-in-Left-clause-kept t c = grown_last _ _ _ _ _ _ c.in_ok-put_wanted-in-Left.ensures.lines c.leave_out.ensures.kept
 
 pub put_load_test-returns-in_ok-leave_place-in-Some-clause-kept : goal.put_load_test-returns-in_ok-leave_place-in-Some-clause-kept
 put_load_test-returns-in_ok-leave_place-in-Some-clause-kept t c = grown_last _ _ _ _ _ _ c.in_ok-leave_place-in-Some.ensures.lines c.put_own_test.ensures.kept
@@ -263,4 +263,4 @@ pub put_expr-returns-in_err-put_comparison-in-Some-clause-kept : goal.put_expr-r
 put_expr-returns-in_err-put_comparison-in-Some-clause-kept t c = refused_then c.from_residual-in_err-put_comparison-in-Some.result (grown_then _ _ _ _ _ c.in_ok-truth-in-Some.ensures.draft c.in_err-put_comparison-in-Some.ensures.kept)
 
 pub put_expr-returns-in_ok-put_comparison-in-Some-clause-kept : goal.put_expr-returns-in_ok-put_comparison-in-Some-clause-kept
-put_expr-returns-in_ok-put_comparison-in-Some-clause-kept t c = grown_last _ _ _ _ _ _ c.in_ok-truth-in-Some.ensures.draft (grown_last _ _ _ _ _ _ c.in_ok-put_comparison-in-Some.ensures.lines c.put_truth-in-Some.ensures.kept)
+put_expr-returns-in_ok-put_comparison-in-Some-clause-kept t c = grown_last _ _ _ _ _ _ c.in_ok-truth-in-Some.ensures.draft (grown_last _ _ _ _ _ _ c.in_ok-put_comparison-in-Some.ensures.lines c.put_truth.ensures.kept)
