@@ -5,8 +5,8 @@ ghost use Rattle.c65_genexpr.specs.Leaving.{ComparesFree};
 ghost use Rattle.c65_genexpr.specs.Direct.{direct_of, is_pure, is_byte};
 ghost use Rattle.c65_genexpr.specs.Comparing.{relation_by, is_zero, tested_by, lowest, is_raised, raised, one_more, range_of, meeting, beside, is_read, compared_by, comparing_of};
 
-use crate::direct::{direct_of, is_byte, is_fixed, is_pure, sides_of};
 use crate::constants::residue_of;
+use crate::direct::{direct_of, is_byte, is_fixed, is_pure, sides_of};
 use c65_csem::{TExpr, TKind};
 use c65_gendirect::{Direct, OperandByte, Relation, Sides, byte_of};
 use c65_genframe::Frame;

@@ -7,8 +7,8 @@ ghost use Rattle.c65_genwide.specs.Lines.{with_lines, Keeps};
 ghost use Rattle.c65_gendirect.specs.Tests.{zero_test_code};
 ghost use Rattle.c65_genexpr.specs.Direct.{kept_at, address_at, address_of, takes_bytes, direct_of, is_fixed, is_pure, is_unsigned_char, keeps_byte, is_byte, sides_of, listed, own_bytes};
 
-use crate::places::place_of;
 use crate::constants::residue_of;
+use crate::places::place_of;
 use crate::types::{access_of, kind_of};
 use c65_code::{Draft, Width};
 use c65_csem::{TExpr, TKind};

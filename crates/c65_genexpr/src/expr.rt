@@ -102,9 +102,7 @@ pub fn put_expr(
         TKind::Binary(op, a, b) => match relation_of(*op) {
             Some(relation) => {
                 let truth = truth_labels(draft)?;
-                put_comparison(
-                    a, b, *op, relation, frame, pushed, truth.no, false, draft,
-                )?;
+                put_comparison(a, b, *op, relation, frame, pushed, truth.no, false, draft)?;
                 put_truth(truth.no, truth.end, draft)
             }
             None => put_operator(a, b, *op, frame, pushed, draft),
@@ -282,7 +280,9 @@ fn put_target(
 {
     match place {
         Place::Far => put_expr(a, frame, pushed, draft),
-        Place::Bank(_) | Place::Near(_) | Place::Data(_, _) => leave_place(a, place, frame, pushed, draft),
+        Place::Bank(_) | Place::Near(_) | Place::Data(_, _) => leave_place(
+            a, place, frame, pushed, draft,
+        ),
     }
 }
 

@@ -5,9 +5,9 @@ ghost use Rattle.c65_genwide.specs.Lines.{with_lines, Keeps};
 ghost use Rattle.c65_genexpr.specs.Leaving.{OperatesFree};
 ghost use Rattle.c65_genexpr.specs.Operating.{sum_by, mask_by, number_form, offset_form, constant_form, word_in, takes_bytes, word_if, element_form, right_form, under_if, left_form, constant_right, direct_right, direct_left, operating_of, placed, form_code, waiting_code, stacked_code};
 
+use crate::constants::{constant_in, negative, residue_of};
 use crate::direct::{direct_of, is_fixed, is_pure};
 use crate::operands::{Operands, put_behind, put_between};
-use crate::constants::{constant_in, negative, residue_of};
 use c65_base::BinaryOp;
 use c65_code::Line::Label;
 use c65_code::{Draft, Width};
@@ -126,11 +126,7 @@ fn word_if(op: BinaryOp, width: Width, low: OperandByte, high: OperandByte) -> O
 {
     match (op, width) {
         (
-            BinaryOp::Add
-            | BinaryOp::Sub
-            | BinaryOp::BitAnd
-            | BinaryOp::BitXor
-            | BinaryOp::BitOr,
+            BinaryOp::Add | BinaryOp::Sub | BinaryOp::BitAnd | BinaryOp::BitXor | BinaryOp::BitOr,
             Width::Ax,
         ) => Some(Form::Word(op, low, high)),
         (_, _) => None,
@@ -148,12 +144,7 @@ fn element_form(op: BinaryOp, size: u32, low: OperandByte, high: OperandByte) ->
 }
 
 // The right operand is read: the left one is in AX.
-fn right_form(
-    op: BinaryOp,
-    operands: Operands,
-    low: OperandByte,
-    high: OperandByte,
-) -> Option<Form>
+fn right_form(op: BinaryOp, operands: Operands, low: OperandByte, high: OperandByte) -> Option<Form>
     ensures { result ≡ right_form op operands low high }
 {
     match operands {
@@ -180,12 +171,7 @@ fn under_if(width: Width, low: OperandByte, high: OperandByte) -> Option<Form>
 }
 
 // The left operand is read: the right one is in AX.
-fn left_form(
-    op: BinaryOp,
-    operands: Operands,
-    low: OperandByte,
-    high: OperandByte,
-) -> Option<Form>
+fn left_form(op: BinaryOp, operands: Operands, low: OperandByte, high: OperandByte) -> Option<Form>
     ensures { result ≡ left_form op operands low high }
 {
     match operands {
