@@ -1,0 +1,9 @@
+//! How a state of the meaning and a state of the machine on lines belong together, and what it is that lines do the work of a tree.
+#![tactic(auto)]
+
+mod laws;
+
+pub use laws::{
+    arrivals_count, between_is_ready, between_stays, follows_weaken, keeping_goes_on, kept_goes_on,
+    ready_is_calm, scratch_changes, steps_earn, ways_are_followed,
+};
