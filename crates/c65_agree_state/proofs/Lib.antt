@@ -1,3 +1,4 @@
 pub mod Followed
 pub mod Scratch
 pub mod Parts
+pub mod Nodes

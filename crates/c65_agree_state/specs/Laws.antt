@@ -1,10 +1,11 @@
 -- What holds of the relation between scenes and states, and of what is followed.
-use Rattle.std.specs.Prelude.{◌≡◌, ℕ, ◌+◌, ◌<◌, ◌≤◌, ◌⊎◌, List, ◌∷◌, None}
-use Rattle.c65_meaning.specs.Store.{Value}
-use Rattle.c65_meaning.specs.Items.{Item}
+use Rattle.std.specs.Prelude.{◌≡◌, ℕ, ◌+◌, ◌<◌, ◌≤◌, ◌⊎◌, max, List, ◌∷◌, ◌++◌, None}
+use Rattle.c65_meaning.specs.Store.{Value, Shape, Pointer}
+use Rattle.c65_meaning.specs.Items.{Item, Keep, Drop}
 use Rattle.c65_meaning.specs.State as meaning
 use Rattle.c65_meaning.specs.State.{Scene, Running}
 use Rattle.c65_meaning.specs.Step.{perform}
+use Rattle.c65_code.specs.declared.line.Line.{Line}
 use Rattle.c65_code.specs.LineState.{Place, State, sp_of, s_of, IsBytes}
 use Rattle.c65_code.specs.Placement.{IsPlacement, stack_start}
 use Rattle.c65_code.specs.Steady.{IsCalm}
@@ -13,7 +14,7 @@ use Rattle.c65_agree_store.specs.Stands.{Placing, Banks}
 use Rattle.c65_agree_state.specs.World.{World, Active, program_in, setting_in, total_in, HasTurns}
 use Rattle.c65_agree_state.specs.Joins.{Joins}
 use Rattle.c65_agree_state.specs.Follows.{Follows}
-use Rattle.c65_agree_state.specs.Exprs.{Ready, Kept}
+use Rattle.c65_agree_state.specs.Exprs.{Ready, Yield, Valued, Placed, Kept, Does}
 use Rattle.c65_agree_state.specs.Stmts.{Between, Keeping}
 
 -- ---- what is followed
@@ -69,6 +70,22 @@ BetweenStays = (g : World) (a : Active) (needs : ℕ) (scope : List ℕ) (c c2 :
 abbrev pub KeepingGoesOn : Type 0
 KeepingGoesOn = (g : World) (a : Active) (needs : ℕ) (scope : List ℕ) (first c c2 : Scene) (w1 w w2 : Placing) (k1 k k2 : Banks) (t1 t t2 : State)
     → Keeping a first w1 k1 t1 c w k t → Between g a needs scope c w k t → Kept g a c w k t c2 w2 k2 t2 → Keeping a first w1 k1 t1 c2 w2 k2 t2
+
+-- where an expression might begin another one may, which needs no more, behind one that has ended
+abbrev pub ReadyStays : Type 0
+ReadyStays = (g : World) (a : Active) (pushed needs fewer : ℕ) (c c2 : Scene) (w w2 : Placing) (k k2 : Banks) (t t2 : State)
+    → fewer ≤ needs → Ready g a pushed needs c w k t → Kept g a c w k t c2 w2 k2 t2 → Ready g a pushed fewer c2 w2 k2 t2
+
+-- the address of a place in memory, and an array or function as a pointer, take no lines of their own (C90 6.2.2.1, 6.3.3.2)
+abbrev pub AddressesDo : Type 0
+AddressesDo = (g : World) (a : Active) (shape : Shape) (size needs pushed : ℕ) (work : List Item → List Item) (lines : List Line)
+    → Does g a Placed shape work needs pushed lines → Does g a Valued (Pointer size) (λ k. work (Keep ∷ k)) needs pushed lines
+
+-- the lines of `,` are those of its two sides (C90 6.3.17)
+abbrev pub CommasDo : Type 0
+CommasDo = (g : World) (a : Active) (left right : Yield) (first second : Shape) (m n pushed : ℕ) (before behind : List Item → List Item) (code more : List Line)
+    → Does g a left first before m pushed code → Does g a right second behind n pushed more
+    → Does g a right second (λ k. before (Drop ∷ behind k)) (max m (1 + n)) pushed (code ++ more)
 
 -- ---- scratch bytes
 

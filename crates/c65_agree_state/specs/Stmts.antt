@@ -17,7 +17,7 @@ use Rattle.c65_agree_store.specs.Stands.{At, Placing, Banks, Grows, IsFree}
 use Rattle.c65_agree_state.specs.World.{World, unit_in, Active, lines_of, place_in, HasAt, HasTurns}
 use Rattle.c65_agree_state.specs.Joins.{Joins}
 use Rattle.c65_agree_state.specs.Follows.{Follows}
-use Rattle.c65_agree_state.specs.Exprs.{MayFit, ResultIs, width_in}
+use Rattle.c65_agree_state.specs.Exprs.{Valued, MayFit, ResultIs, width_in}
 
 -- the objects of the active call with a live block are among those in scope
 abbrev pub AreOpen : List ℕ → Scene → Type 0
@@ -28,7 +28,7 @@ AreOpen scope c = (i b : ℕ) (x : Block) → block_in c.frames i ≡ Some b →
 pub record Between (g : World) (a : Active) (needs : ℕ) (scope : List ℕ) (c : Scene) (w : Placing) (k : Banks) (t : State) : Type 0 where
   pub joins : Joins g a c w k t
   pub sp : sp_of t ≡ a.base
-  pub room : stack_end + 8 * needs ≤ a.base + soft_sum c.frames
+  pub room : stack_end + 8 * needs + a.spare ≤ a.base + soft_sum c.frames
   pub scoped : AreOpen scope c
   pub none_pushed : t.pushed ≡ []
 
@@ -66,7 +66,7 @@ module _ (g : World) (a : Active) (needs : ℕ) (first : Scene) (w1 : Placing) (
   -- the way out of the call: the meaning has left it with the step, and the machine is to go through the function's end, at label 0
   abbrev pub ReturnLeads : ℕ → ℕ → Type 0
   ReturnLeads n w = (j : ℕ) (v : Value) (c : Scene) (q : Placing) (b : Banks) (t : State) (seen : Seen)
-      → j < n → Between g a needs params c q b t → Keeping a first w1 k1 t1 c q b t → ResultIs false q (width_in result) v t → MayFit false result v
+      → j < n → Between g a needs params c q b t → Keeping a first w1 k1 t1 c q b t → ResultIs Valued q (width_in result) v t → MayFit Valued result v
       → HasTurns g c.turns (place_in g a (labelled (lines_of g a) 0)) seen
       → Follows g j w (left_call (unit_in g) v below vs c) (place_in g a (labelled (lines_of g a) 0)) t seen
 

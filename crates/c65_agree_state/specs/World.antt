@@ -40,7 +40,8 @@ abbrev pub setting_in : World → Setting
 setting_in g = setting_of g.code g.place
 
 -- one call: the number of its function, and of that function's symbol, its frame, the sp while no value waits, by how many bytes the
--- parameters of a variadic function lie higher, the machine's frames behind it, and the meaning's calls behind it
+-- parameters of a variadic function lie higher, the machine's frames behind it, the meaning's calls behind it, and how many bytes it may
+-- push beside those of the values that wait, which some nodes do
 pub record Active : Type 0 where
   pub func : ℕ
   pub symbol : ℕ
@@ -49,6 +50,7 @@ pub record Active : Type 0 where
   pub raised : ℕ
   pub behind : List Frame
   pub calls : List Call
+  pub spare : ℕ
 
 -- the symbol and the frame are the function's
 pub record IsCallOf (g : World) (a : Active) : Type 0 where

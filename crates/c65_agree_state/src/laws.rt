@@ -1,5 +1,5 @@
 // Laws of the relation between meaning and machine, each the contract of a function that does nothing.
-ghost use Rattle.c65_agree_state.specs.Laws.{ArrivalsCount, BetweenIsReady, BetweenStays, FollowsWeaken, KeepingGoesOn, KeptGoesOn, ReadyIsCalm, ScratchChanges, StepsEarn, WaysAreFollowed};
+ghost use Rattle.c65_agree_state.specs.Laws.{AddressesDo, ArrivalsCount, BetweenIsReady, BetweenStays, CommasDo, FollowsWeaken, KeepingGoesOn, KeptGoesOn, ReadyIsCalm, ReadyStays, ScratchChanges, StepsEarn, WaysAreFollowed};
 
 /// What is followed within a weight is followed within a greater one.
 pub fn follows_weaken()
@@ -49,4 +49,19 @@ pub fn between_stays()
 /// A call keeps over an expression what it has kept for the call behind it.
 pub fn keeping_goes_on()
     ensures { KeepingGoesOn }
+{}
+
+/// Where an expression has ended the next one may begin.
+pub fn ready_stays()
+    ensures { ReadyStays }
+{}
+
+/// The lines of a place in memory do the work of its address.
+pub fn addresses_do()
+    ensures { AddressesDo }
+{}
+
+/// The lines of the two sides of `,` do the work of both.
+pub fn commas_do()
+    ensures { CommasDo }
 {}

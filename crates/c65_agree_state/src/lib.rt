@@ -4,6 +4,7 @@
 mod laws;
 
 pub use laws::{
-    arrivals_count, between_is_ready, between_stays, follows_weaken, keeping_goes_on, kept_goes_on,
-    ready_is_calm, scratch_changes, steps_earn, ways_are_followed,
+    addresses_do, arrivals_count, between_is_ready, between_stays, commas_do, follows_weaken,
+    keeping_goes_on, kept_goes_on, ready_is_calm, ready_stays, scratch_changes, steps_earn,
+    ways_are_followed,
 };
