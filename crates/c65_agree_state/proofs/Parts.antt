@@ -1,11 +1,13 @@
 -- One part of an expression behind another, and expressions between statements.
-use Rattle.std.proofs.Common.{◌≡◌, ℕ, ◌+◌, ◌≤◌, List, Option, Some, None, Bool, true, false, refl, sym, ap, ◌∙◌, arith}
+use Rattle.std.proofs.Common.{◌≡◌, ℕ, ◌+◌, ◌<◌, ◌≤◌, ◌⊎◌, inl, inr, List, Option, Some, None, Bool, true, false, refl, sym, ap, ◌∙◌, arith}
+use Rattle.std.proofs.lemmas.Bool.{cases_lt}
 use Rattle.c65_meaning.specs.Store.{Block, Store, lives_in, is_live}
 use Rattle.c65_meaning.specs.After.{is_among}
 use Rattle.c65_meaning.specs.State.{Scene, block_in, soft_sum}
 use Rattle.c65_code.specs.LineState.{State, sp_of}
 use Rattle.c65_agree_store.specs.Stands.{At, Placing, Banks, IsFree}
 use Rattle.c65_agree_state.specs.World.{World, Active}
+use Rattle.c65_agree_state.specs.Joins.{spot_of}
 use Rattle.c65_agree_state.specs.Exprs.{Kept}
 use Rattle.c65_agree_state.specs.Stmts.{AreOpen, Between}
 use Rattle.c65_agree_state.specs.Laws.{KeptGoesOn, BetweenIsReady, BetweenStays, KeepingGoesOn}
@@ -44,13 +46,23 @@ lives_as s b None e l = cc
 lives_as s b (Some x) e l = record { block = x; is = e; live = l }
 
 module _ (g : World) (a : Active) (needs : ℕ) (scope : List ℕ) (c c2 : Scene) (w w2 : Placing) (k k2 : Banks) (t t2 : State) (h : Between g a needs scope c w k t) (kept : Kept g a c w k t c2 w2 k2 t2) where
+  -- a block of the active call has a place, and so a number that is not to come
+  begun : (i b : ℕ) → block_in c.frames i ≡ Some b → b < c.next
+  begun i b e = go (cases_lt b c.next)
+    where
+      go : (b < c.next) ⊎ (c.next ≤ b) → b < c.next
+      go (inl lt) = lt
+      go (inr le) =
+          let clash : Some (spot_of g a i) ≡ None = sym (h.joins.homes i b e) ∙ h.joins.fresh b le in
+          cc
+
   open_before : (i b : ℕ) → block_in c.frames i ≡ Some b → is_live c2.store b ≡ true → is_among scope i ≡ true
   open_before i b e live = go (is_live c.store b) refl
     where
       go : (l : Bool) → is_live c.store b ≡ l → is_among scope i ≡ true
       go true f = let x = lives_as c.store b (c.store b) refl f in h.scoped i b x.block e x.is x.live
       go false f =
-          let none : is_live c2.store b ≡ false = kept.ended b (h.joins.named i b e) f in
+          let none : is_live c2.store b ≡ false = kept.ended b (begun i b e) f in
           let clash : true ≡ false = sym live ∙ none in
           cc
 

@@ -50,7 +50,6 @@ module _ (g : World) (a : Active) (placed : IsPlacement g.code g.place) (c : Sce
     symbols = j.symbols;
     fixed = j.fixed;
     fresh = j.fresh;
-    named = j.named;
     homes = j.homes;
     rests = j.rests;
     active = j.active;

@@ -53,11 +53,10 @@ pub record Joins (g : World) (a : Active) (c : Scene) (w : Placing) (k : Banks) 
   pub bank : HasBank k (length a.behind) t
   pub symbols : HaveSymbols g w
   pub fixed : HaveFixed g c w
-  -- numbers of blocks that are still to come have no place, and the active call's blocks have none of these
+  -- numbers of blocks that are still to come have no place
   pub fresh : (b : ℕ) → c.next ≤ b → w b ≡ None
-  pub named : (i b : ℕ) → block_in c.frames i ≡ Some b → b < c.next
-  -- the blocks of the active call stand at home, and the calls are those of the machine
-  pub homes : (i b : ℕ) (x : Block) → block_in c.frames i ≡ Some b → c.store b ≡ Some x → x.live ≡ true → w b ≡ Some (spot_of g a i)
+  -- the blocks of the active call have their places at home, also those that have ended, and the calls are those of the machine
+  pub homes : (i b : ℕ) → block_in c.frames i ≡ Some b → w b ≡ Some (spot_of g a i)
   pub rests : (b : ℕ) → rest_in c.frames ≡ Some b → IsRest a c w b
   pub active : func_in c.frames ≡ a.func
   pub calls : frames_below c.frames ≡ a.calls
