@@ -2,3 +2,4 @@ pub mod Followed
 pub mod Scratch
 pub mod Parts
 pub mod Nodes
+pub mod Leaves

@@ -1,11 +1,17 @@
 -- What holds of the relation between scenes and states, and of what is followed.
-use Rattle.std.specs.Prelude.{◌≡◌, ℕ, ◌+◌, ◌<◌, ◌≤◌, ◌⊎◌, max, List, ◌∷◌, ◌++◌, None}
+use Rattle.std.specs.Prelude.{◌≡◌, ℕ, ◌+◌, ◌<◌, ◌≤◌, ◌⊎◌, max, Bool, ℤ, List, ◌∷◌, ◌++◌, None}
+use Rattle.c65_ints.specs.declared.types.IntType.{IntType}
+use Rattle.c65_ints.specs.Ranges.{InRange}
+use Rattle.c65_ctype.specs.Trees.{int, qual}
+use Rattle.c65_csem.specs.Trees.{node, constant}
 use Rattle.c65_meaning.specs.Store.{Value, Shape, Pointer}
 use Rattle.c65_meaning.specs.Items.{Item, Keep, Drop}
 use Rattle.c65_meaning.specs.State as meaning
 use Rattle.c65_meaning.specs.State.{Scene, Running}
 use Rattle.c65_meaning.specs.Step.{perform}
 use Rattle.c65_code.specs.declared.line.Line.{Line}
+use Rattle.c65_code.specs.declared.routine.Width.TheVariants.{Ax}
+use Rattle.c65_genwide.specs.Wide.{width_of}
 use Rattle.c65_code.specs.LineState.{Place, State, sp_of, s_of, IsBytes}
 use Rattle.c65_code.specs.Placement.{IsPlacement, stack_start}
 use Rattle.c65_code.specs.Steady.{IsCalm}
@@ -14,7 +20,7 @@ use Rattle.c65_agree_store.specs.Stands.{Placing, Banks}
 use Rattle.c65_agree_state.specs.World.{World, Active, program_in, setting_in, total_in, HasTurns}
 use Rattle.c65_agree_state.specs.Joins.{Joins}
 use Rattle.c65_agree_state.specs.Follows.{Follows}
-use Rattle.c65_agree_state.specs.Exprs.{Ready, Yield, Valued, Placed, Kept, Does}
+use Rattle.c65_agree_state.specs.Exprs.{Ready, Yield, Valued, Placed, Kept, Does, ExpressionDoes}
 use Rattle.c65_agree_state.specs.Stmts.{Between, Keeping}
 
 -- ---- what is followed
@@ -103,3 +109,15 @@ pub record OnlyScratch (base : ℕ) (t u : State) : Type 0 where
 abbrev pub ScratchChanges : Type 0
 ScratchChanges = (g : World) (a : Active) (c : Scene) (w : Placing) (k : Banks) (t u : State)
     → IsPlacement g.code g.place → Joins g a c w k t → OnlyScratch a.base t u → Joins g a c w k u
+
+-- where sp and all bytes from sp on are as before too, all is kept that an expression keeps
+abbrev pub ScratchIsKept : Type 0
+ScratchIsKept = (g : World) (a : Active) (pushed needs : ℕ) (c : Scene) (w : Placing) (k : Banks) (t u : State)
+    → IsPlacement g.code g.place → Ready g a pushed needs c w k t → OnlyScratch (sp_of t) t u → sp_of u ≡ sp_of t → Kept g a c w k t c w k u
+
+-- ---- constants
+
+-- the lines of a constant of at most 16 bits do its work, wherever they stand
+abbrev pub ConstantsDo : Type 0
+ConstantsDo = (g : World) (a : Active) (kind : IntType) (z : ℤ) (c v : Bool) → IsPlacement g.code g.place
+    → width_of kind ≡ Ax → InRange kind z → ExpressionDoes g a (node (qual (int kind) c v) (constant z))

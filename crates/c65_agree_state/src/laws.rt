@@ -1,5 +1,5 @@
 // Laws of the relation between meaning and machine, each the contract of a function that does nothing.
-ghost use Rattle.c65_agree_state.specs.Laws.{AddressesDo, ArrivalsCount, BetweenIsReady, BetweenStays, CommasDo, FollowsWeaken, KeepingGoesOn, KeptGoesOn, ReadyIsCalm, ReadyStays, ScratchChanges, StepsEarn, WaysAreFollowed};
+ghost use Rattle.c65_agree_state.specs.Laws.{AddressesDo, ArrivalsCount, BetweenIsReady, BetweenStays, CommasDo, ConstantsDo, FollowsWeaken, KeepingGoesOn, KeptGoesOn, ReadyIsCalm, ReadyStays, ScratchChanges, ScratchIsKept, StepsEarn, WaysAreFollowed};
 
 /// What is followed within a weight is followed within a greater one.
 pub fn follows_weaken()
@@ -64,4 +64,14 @@ pub fn addresses_do()
 /// The lines of the two sides of `,` do the work of both.
 pub fn commas_do()
     ensures { CommasDo }
+{}
+
+/// Where no more than scratch bytes below sp changes, all is kept that an expression keeps.
+pub fn scratch_is_kept()
+    ensures { ScratchIsKept }
+{}
+
+/// The lines of a constant of at most 16 bits do its work.
+pub fn constants_do()
+    ensures { ConstantsDo }
 {}
