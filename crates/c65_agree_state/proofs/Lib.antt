@@ -3,3 +3,4 @@ pub mod Scratch
 pub mod Parts
 pub mod Nodes
 pub mod Leaves
+pub mod Tests

@@ -20,7 +20,7 @@ use Rattle.c65_agree_store.specs.Stands.{Placing, Banks}
 use Rattle.c65_agree_state.specs.World.{World, Active, program_in, setting_in, total_in, HasTurns}
 use Rattle.c65_agree_state.specs.Joins.{Joins}
 use Rattle.c65_agree_state.specs.Follows.{Follows}
-use Rattle.c65_agree_state.specs.Exprs.{Ready, Yield, Valued, Placed, Kept, Does, ExpressionDoes}
+use Rattle.c65_agree_state.specs.Exprs.{Ready, Yield, Valued, Placed, Kept, Does, ExpressionDoes, TestDoes}
 use Rattle.c65_agree_state.specs.Stmts.{Between, Keeping}
 
 -- ---- what is followed
@@ -121,3 +121,7 @@ ScratchIsKept = (g : World) (a : Active) (pushed needs : ℕ) (c : Scene) (w : P
 abbrev pub ConstantsDo : Type 0
 ConstantsDo = (g : World) (a : Active) (kind : IntType) (z : ℤ) (c v : Bool) → IsPlacement g.code g.place
     → width_of kind ≡ Ax → InRange kind z → ExpressionDoes g a (node (qual (int kind) c v) (constant z))
+
+-- and those of a test of it, which is a jump or no line at all
+abbrev pub ConstantTestsDo : Type 0
+ConstantTestsDo = (g : World) (a : Active) (kind : IntType) (z : ℤ) (c v : Bool) → InRange kind z → TestDoes g a (node (qual (int kind) c v) (constant z))

@@ -1,5 +1,5 @@
 // Laws of the relation between meaning and machine, each the contract of a function that does nothing.
-ghost use Rattle.c65_agree_state.specs.Laws.{AddressesDo, ArrivalsCount, BetweenIsReady, BetweenStays, CommasDo, ConstantsDo, FollowsWeaken, KeepingGoesOn, KeptGoesOn, ReadyIsCalm, ReadyStays, ScratchChanges, ScratchIsKept, StepsEarn, WaysAreFollowed};
+ghost use Rattle.c65_agree_state.specs.Laws.{AddressesDo, ArrivalsCount, BetweenIsReady, BetweenStays, CommasDo, ConstantTestsDo, ConstantsDo, FollowsWeaken, KeepingGoesOn, KeptGoesOn, ReadyIsCalm, ReadyStays, ScratchChanges, ScratchIsKept, StepsEarn, WaysAreFollowed};
 
 /// What is followed within a weight is followed within a greater one.
 pub fn follows_weaken()
@@ -74,4 +74,9 @@ pub fn scratch_is_kept()
 /// The lines of a constant of at most 16 bits do its work.
 pub fn constants_do()
     ensures { ConstantsDo }
+{}
+
+/// The lines of a test of a constant lead where its truth does.
+pub fn constant_tests_do()
+    ensures { ConstantTestsDo }
 {}
