@@ -1,5 +1,5 @@
 -- Trees that are read where they lie have no labels.
-use Rattle.std.proofs.Common.{◌≡◌, ℕ, Bool, true, false, Option, Some, None, ℤ, refl}
+use Rattle.std.proofs.Common.{◌≡◌, ℕ, Bool, true, false, Option, Some, None, refl}
 use Rattle.std.specs.Prelude.{option_and_then, is_some, ◌&&◌, if◌then◌else◌}
 use Rattle.c65_base.specs.declared.operators.BinaryOp.{BinaryOp}
 use Rattle.c65_ints.specs.declared.types.IntType.{IntType}
@@ -8,18 +8,15 @@ use Rattle.c65_ctype.specs.Views.{types_of}
 use Rattle.c65_csem.specs.Trees.{Typed, node, constant, null, literal, object, func, deref, member, load, address, decay, convert, unary, binary, both, either, choice, comma, assign, assign_op, assign_step, step, copy, call, pack, spill, rest}
 use Rattle.c65_genframe.specs.Frames.{Framed}
 use Rattle.c65_genload.specs.declared.places.Access.{Access}
-use Rattle.c65_genload.specs.declared.places.Access.TheVariants.{Whole, Part}
 use Rattle.c65_genload.specs.declared.places.Place.{Place}
 use Rattle.c65_genload.specs.declared.places.Place.TheVariants.{Bank, Near, Data, Far}
 use Rattle.c65_gendirect.specs.declared.bytes.OperandByte.{OperandByte}
 use Rattle.c65_gendirect.specs.declared.compare.Sides.{Sides}
 use Rattle.c65_gendirect.specs.declared.direct.Direct.{Direct}
 use Rattle.c65_gendirect.specs.declared.relation.Relation.{Relation}
-use Rattle.c65_gendirect.specs.declared.relation.Relation.TheVariants.{Less, NotLess, Greater, NotGreater, Equal, Unequal}
 use Rattle.c65_gendirect.specs.Bytes.{byte_of}
 use Rattle.c65_gendirect.specs.Compare.{mirrored}
 use Rattle.c65_genwide.specs.Wide.{width_of}
-use Rattle.c65_genexpr.specs.declared.comparing.Side.{Side}
 use Rattle.c65_genexpr.specs.declared.comparing.Side.TheVariants.{Left, Right}
 use Rattle.c65_genexpr.specs.declared.comparing.Comparing.{Comparing}
 use Rattle.c65_genexpr.specs.declared.comparing.Comparing.TheVariants.{Truth, Byte}
@@ -29,11 +26,11 @@ use Rattle.c65_genexpr.specs.declared.operands.Operands.{Operands}
 use Rattle.c65_genexpr.specs.Types.{kind_of, bare, offset_at, access_of}
 use Rattle.c65_genexpr.specs.Places.{IsKnown, moved, place_of}
 use Rattle.c65_genexpr.specs.Operands.{constant_in}
-use Rattle.c65_genexpr.specs.Direct.{kept_at, address_at, address_of, takes_bytes, converted_if, direct_of, is_fixed, is_pure, is_byte, sides_of}
+use Rattle.c65_genexpr.specs.Direct.{kept_at, address_at, address_of, takes_bytes, converted_if, direct_of, is_pure, is_byte, sides_of}
 use Rattle.c65_genexpr.specs.Comparing.{is_zero, zero_sense, tested_by, lowest, range_of, is_raised, raised, one_more, meeting, beside, changes, compared_by, comparing_of}
-use Rattle.c65_genexpr.specs.Operating.{constant_right, direct_right, direct_left, by_left, by_right, operating_of}
+use Rattle.c65_genexpr.specs.Operating.{direct_right, direct_left, by_left, by_right, operating_of}
 use Rattle.c65_genexpr.specs.Uses.{uses}
-use Rattle.c65_genexpr.specs.Leaving.{IsFree, ComparesFree, OperatesFree}
+use Rattle.c65_genexpr.specs.Leaving.{ComparesFree, OperatesFree}
 
 -- ---- places
 

@@ -1,7 +1,6 @@
 -- The call behind its arguments (C90 6.3.2.2; docs/MACHINE.md, "Calls").
 use Rattle.std.specs.Prelude.{ℕ, ◌+◌, Bool, if◌then◌else◌, Option, Some, None, slice_get, List, [], ◌∷◌, ◌++◌}
 use Rattle.c65_base.specs.declared.library.Library.{Library}
-use Rattle.c65_base.specs.declared.library.Library.TheVariants as library
 use Rattle.c65_csem.specs.declared.items.TFunc.{TFunc}
 use Rattle.c65_csem.specs.Trees.{Typed, node, decay, func}
 use Rattle.c65_mach.specs.declared.rows.Op.TheVariants.{Iny, Lda, Ldy, Sta, Stx}
@@ -9,7 +8,6 @@ use Rattle.c65_code.specs.declared.line.Callee.TheVariants.{Function, Pointer}
 use Rattle.c65_code.specs.declared.line.Line.{Line}
 use Rattle.c65_code.specs.declared.line.Line.TheVariants.{Call}
 use Rattle.c65_code.specs.declared.routine.Count.TheVariants.{Two}
-use Rattle.c65_base.specs.declared.library.Library.TheVariants.{Putchar, Getchar, Puts, Exit, Memcpy, Memset, Strcmp, Strcpy, Strlen}
 use Rattle.c65_code.specs.declared.routine.Routine.TheVariants as routines
 use Rattle.c65_genframe.specs.Frames.{Framed}
 use Rattle.c65_genframe.specs.Registers.{registers}

@@ -1,5 +1,5 @@
 -- Comparisons (C90 6.3.8, 6.3.9): their forms, and the lines of each from the lines of its two sides.
-use Rattle.std.specs.Prelude.{ℕ, ◌+◌, ◌%◌, ◌==◌, ◌&&◌, ◌||◌, not, if◌then◌else◌, Bool, true, false, Option, Some, None, is_some, option_map, option_and_then, List, [], ◌∷◌, ◌++◌}
+use Rattle.std.specs.Prelude.{ℕ, ◌+◌, ◌%◌, ◌==◌, ◌&&◌, ◌||◌, not, if◌then◌else◌, Bool, true, false, Option, Some, None, is_some, option_and_then, List, ◌∷◌, ◌++◌}
 use Rattle.c65_base.specs.declared.operators.BinaryOp.{BinaryOp}
 use Rattle.c65_ints.specs.declared.types.IntType.{IntType}
 use Rattle.c65_ints.specs.declared.types.IntType.TheVariants.{UChar}
@@ -7,14 +7,12 @@ use Rattle.c65_ints.specs.Ranges.{is_signed_of, greatest_of}
 use Rattle.c65_csem.specs.Trees.{Typed, node, constant, null}
 use Rattle.c65_mach.specs.declared.rows.Op.TheVariants.{Lda, Tay}
 use Rattle.c65_code.specs.declared.line.Line.{Line}
-use Rattle.c65_code.specs.declared.routine.Width.{Width}
-use Rattle.c65_code.specs.declared.routine.Width.TheVariants.{Ax, Eax}
 use Rattle.c65_genframe.specs.Frames.{Framed}
 use Rattle.c65_genwide.specs.Wide.{width_of}
 use Rattle.c65_genload.specs.Words.{implied}
 use Rattle.c65_gendirect.specs.declared.bytes.OperandByte.{OperandByte}
 use Rattle.c65_gendirect.specs.declared.direct.Direct.{Direct}
-use Rattle.c65_gendirect.specs.declared.direct.Direct.TheVariants.{Number, Address, Kept}
+use Rattle.c65_gendirect.specs.declared.direct.Direct.TheVariants.{Number}
 use Rattle.c65_gendirect.specs.declared.relation.Relation.{Relation}
 use Rattle.c65_gendirect.specs.declared.relation.Relation.TheVariants.{Less, NotLess, Greater, NotGreater, Equal, Unequal}
 use Rattle.c65_gendirect.specs.declared.compare.Sides.{Sides}
@@ -27,7 +25,7 @@ use Rattle.c65_genexpr.specs.declared.comparing.Side.TheVariants.{Left, Right}
 use Rattle.c65_genexpr.specs.declared.comparing.Comparing.{Comparing}
 use Rattle.c65_genexpr.specs.declared.comparing.Comparing.TheVariants.{Truth, Byte, Whole, Stacked}
 use Rattle.c65_genexpr.specs.declared.operands.Operands.{Operands}
-use Rattle.c65_genexpr.specs.Operands.{residue_of, computes, between_code, behind_code}
+use Rattle.c65_genexpr.specs.Operands.{residue_of, between_code, behind_code}
 use Rattle.c65_genexpr.specs.Places.{more}
 use Rattle.c65_genexpr.specs.Direct.{sides_of, direct_of, is_fixed, is_pure, is_byte}
 use Rattle.c65_genexpr.specs.Wanted.{branch_code}

@@ -3,7 +3,7 @@ use Rattle.std.specs.Prelude.{ℕ, ◌-◌, ◌%◌, nat_le, ◌&&◌, Bool, tru
 use Rattle.c65_base.specs.declared.operators.UnaryOp.{UnaryOp}
 use Rattle.c65_base.specs.declared.operators.UnaryOp.TheVariants as unary
 use Rattle.c65_base.specs.declared.operators.BinaryOp.{BinaryOp}
-use Rattle.c65_base.specs.declared.operators.BinaryOp.TheVariants.{Add, Sub}
+use Rattle.c65_base.specs.declared.operators.BinaryOp.TheVariants.{Sub}
 use Rattle.c65_ints.specs.declared.types.IntType.{IntType}
 use Rattle.c65_ints.specs.declared.types.IntType.TheVariants.{UInt}
 use Rattle.c65_ints.specs.Ranges.{residue}

@@ -1,6 +1,6 @@
 -- The operators that give a number or a pointer (C90 6.3.5 to 6.3.7, 6.3.10 to 6.3.12): their forms, and the lines of each from
 -- the lines of its two operands.
-use Rattle.std.specs.Prelude.{ℕ, ◌*◌, ◌%◌, ◌==◌, ◌||◌, Bool, true, false, if◌then◌else◌, Option, Some, None, option_map, option_and_then, ℤ, List, [], ◌∷◌, ◌++◌}
+use Rattle.std.specs.Prelude.{ℕ, ◌*◌, ◌%◌, ◌==◌, ◌||◌, Bool, true, false, if◌then◌else◌, Option, Some, None, option_map, option_and_then, List, [], ◌∷◌, ◌++◌}
 use Rattle.c65_base.specs.declared.operators.BinaryOp.{BinaryOp}
 use Rattle.c65_base.specs.declared.operators.BinaryOp.TheVariants.{Add, Sub, BitAnd, BitXor, BitOr}
 use Rattle.c65_ints.specs.declared.types.IntType.{IntType}
@@ -18,7 +18,6 @@ use Rattle.c65_gendirect.specs.declared.bytes.OperandByte.{OperandByte}
 use Rattle.c65_gendirect.specs.declared.direct.Direct.{Direct}
 use Rattle.c65_gendirect.specs.Bytes.{byte_of}
 use Rattle.c65_gendirect.specs.Words.{word_code, add_number_code, taken_from_code, long_mask_code}
-use Rattle.c65_genshift.specs.declared.quick.Quick.{Quick}
 use Rattle.c65_genshift.specs.Quick.{quick_of, quick_code, elements_code}
 use Rattle.c65_genshift.specs.Shifts.{labelled}
 use Rattle.c65_genexpr.specs.declared.operands.Operands.{Operands}
@@ -27,7 +26,7 @@ use Rattle.c65_genexpr.specs.declared.operating.Form.{Form}
 use Rattle.c65_genexpr.specs.declared.operating.Form.TheVariants.{Sum, LongSum, Mask, Constant, Word, Under, Indexed, Distance, DistanceUnder}
 use Rattle.c65_genexpr.specs.declared.operating.Operating.{Operating}
 use Rattle.c65_genexpr.specs.declared.operating.Operating.TheVariants.{Left, Right, Stacked}
-use Rattle.c65_genexpr.specs.Operands.{residue_of, negative, constant_in, computes, between_code, behind_code}
+use Rattle.c65_genexpr.specs.Operands.{residue_of, negative, constant_in, between_code, behind_code}
 use Rattle.c65_genexpr.specs.Places.{more}
 use Rattle.c65_genexpr.specs.Direct.{direct_of, is_fixed, is_pure}
 

@@ -29,7 +29,7 @@ use crate::spills::put_spill;
 use crate::steps::{amount_of, put_close, put_open, put_step};
 use crate::types::{Outcome, access_of, kind_of, offset_at, outcome_of, target_bytes};
 use crate::wanted::{
-    Wanted, is_straight, put_decided, put_outcome_test, put_value_test, wanted_by,
+    Wanted, is_straight, put_decided, put_outcome_test, put_value_test, truth_labels, wanted_by,
 };
 use c65_base::{BinaryOp, Refusal, UnaryOp};
 use c65_code::Line::{Do, Label};
@@ -312,25 +312,6 @@ fn put_load_test(
             put_value_test(width_of(value_type(access)), sense, to, draft)
         }
     }
-}
-
-/// The labels of a truth value: where a test of it leads if it fails, and where both ways meet.
-#[derive(Clone, Copy)]
-struct Truth {
-    no: u32,
-    end: u32,
-}
-
-#[tactic(auto, using(c65_genwide::proofs::Kept::label_last, c65_genwide::proofs::Kept::label_then, c65_genwide::proofs::Kept::refused_then))]
-fn truth_labels(draft: &mut Draft) -> Result<Truth, AllocError>
-    ensures no { IfOk result (λ t. t.no ≡ draft.old.labels) }
-    ensures end { IfOk result (λ t. t.end ≡ draft.old.labels + 1) }
-    ensures draft { OnOk result (draft.new ≡ grown draft.old [] 2) }
-    ensures kept { OnErr result (Keeps draft.old draft.new) }
-{
-    let no = next_label(draft)?;
-    let end = next_label(draft)?;
-    Ok(Truth { no, end })
 }
 
 #[cycle(expression)]

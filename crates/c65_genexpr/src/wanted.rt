@@ -1,6 +1,6 @@
 // What is wanted of an expression.
-ghost use Rattle.std.specs.Prelude.{◌≡◌, ◌∷◌, OnOk, OnErr};
-ghost use Rattle.c65_genwide.specs.Lines.{with_lines, Keeps};
+ghost use Rattle.std.specs.Prelude.{◌≡◌, ◌+◌, [], ◌∷◌, IfOk, OnOk, OnErr};
+ghost use Rattle.c65_genwide.specs.Lines.{with_lines, grown, Keeps};
 ghost use Rattle.c65_mach.specs.declared.rows.Op.TheVariants.{Tay};
 ghost use Rattle.c65_genload.specs.Words.{implied};
 ghost use Rattle.c65_genexpr.specs.Wanted.{sense_of, wanted_by, is_straight, branch_code, value_test_code, decided_code};
@@ -9,7 +9,7 @@ use c65_code::Line::Do;
 use c65_code::Operand::{Nothing, To};
 use c65_code::{Draft, Width};
 use c65_genload::test;
-use c65_genwide::put;
+use c65_genwide::{next_label, put};
 use c65_mach::Mode::{Absolute, Implied, Relative};
 use c65_mach::Op::{Beq, Bne, Jmp, Tay};
 use std::alloc::AllocError;
@@ -83,4 +83,23 @@ pub fn put_decided(is_true: bool, sense: bool, to: u32, draft: &mut Draft) -> Re
     } else {
         put(draft, &[])
     }
+}
+
+/// The labels of a truth value: where a test of it leads if it fails, and where both ways meet.
+#[derive(Clone, Copy)]
+pub struct Truth {
+    pub no: u32,
+    pub end: u32,
+}
+
+#[tactic(auto, using(c65_genwide::proofs::Kept::label_last, c65_genwide::proofs::Kept::label_then, c65_genwide::proofs::Kept::refused_then))]
+pub fn truth_labels(draft: &mut Draft) -> Result<Truth, AllocError>
+    ensures no { IfOk result (λ t. t.no ≡ draft.old.labels) }
+    ensures end { IfOk result (λ t. t.end ≡ draft.old.labels + 1) }
+    ensures draft { OnOk result (draft.new ≡ grown draft.old [] 2) }
+    ensures kept { OnErr result (Keeps draft.old draft.new) }
+{
+    let no = next_label(draft)?;
+    let end = next_label(draft)?;
+    Ok(Truth { no, end })
 }
