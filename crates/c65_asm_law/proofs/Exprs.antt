@@ -1,17 +1,20 @@
 -- The lines of a well typed expression can be written, and their numbers are of their types.
-use Rattle.std.proofs.Common.{◌≡◌, ℕ, ◌+◌, ◌<◌, ◌≤◌, ◌^◌, Bool, true, false, Option, None, Some, List, [], ◌∷◌, ◌++◌, refl, subst, arith, rules}
+use Rattle.std.proofs.Common.{◌≡◌, ℕ, ◌+◌, ◌<◌, ◌≤◌, ◌^◌, ◌==◌, Bool, true, false, Option, None, Some, List, [], ◌∷◌, ◌++◌, refl, subst, arith}
+use Rattle.std.specs.Prelude.{not}
 use Rattle.std.proofs.lemmas.Option.{slice_get_within}
+use Rattle.c65_base.specs.declared.operators.UnaryOp.TheVariants.{Not}
 use Rattle.c65_base.specs.declared.operators.BinaryOp.{BinaryOp}
 use Rattle.c65_ints.specs.declared.types.IntType.{IntType}
-use Rattle.c65_ctype.specs.Trees.{QTy, type_in}
+use Rattle.c65_ctype.specs.Trees.{Ty, QTy, type_in}
 use Rattle.c65_ctype.specs.Views.{types_of}
 use Rattle.c65_csem.specs.Trees.{Typed, node, Node, constant, null, literal, object, func, deref, member, load, address, decay, convert, unary, binary, both, either, choice, comma, assign, assign_op, assign_step, step, copy, call, pack, spill, rest as further, Nodes, none, some, UnitTy}
 use Rattle.c65_csem.specs.Typed.{IsTyped, IsNode, IsGiven, IsCalled, AreTyped}
-use Rattle.c65_mach.specs.declared.rows.Op.TheVariants.{Beq, Bne, Jmp}
+use Rattle.c65_mach.specs.declared.rows.Op.TheVariants.{Jmp}
 use Rattle.c65_mach.specs.declared.rows.Mode.TheVariants.{Absolute}
 use Rattle.c65_code.specs.declared.line.Operand.TheVariants.{To}
 use Rattle.c65_code.specs.declared.line.Line.{Line}
 use Rattle.c65_code.specs.declared.line.Line.TheVariants.{Label, Do}
+use Rattle.c65_code.specs.declared.routine.Width.{Width}
 use Rattle.c65_code.specs.declared.routine.Width.TheVariants.{Ax}
 use Rattle.c65_genframe.specs.Symbols.{numbers_of, literal_symbol, function_symbol}
 use Rattle.c65_genframe.specs.Frames.{Framed, type_bytes}
@@ -19,27 +22,43 @@ use Rattle.c65_genwide.specs.Wide.{width_of}
 use Rattle.c65_genload.specs.declared.places.Place.{Place}
 use Rattle.c65_genload.specs.declared.places.Place.TheVariants as places
 use Rattle.c65_genload.specs.declared.places.Access.{Access}
-use Rattle.c65_genload.specs.Words.{branch}
-use Rattle.c65_genload.specs.Places.{held, extent_by}
-use Rattle.c65_genload.specs.Conversions.{push_code, waiting}
+use Rattle.c65_genload.specs.Places.{held, extent_of, extent_by}
+use Rattle.c65_genload.specs.Places as kept
+use Rattle.c65_genload.specs.Conversions.{push_code, test_code, waiting}
 use Rattle.c65_genload.specs.Loads.{hold_code}
 use Rattle.c65_genload.specs.Stores.{store_code}
+use Rattle.c65_gendirect.specs.declared.direct.Direct.{Direct}
+use Rattle.c65_gendirect.specs.declared.relation.Relation.{Relation}
+use Rattle.c65_gendirect.specs.Compare.{relation_of}
+use Rattle.c65_genexpr.specs.declared.wanted.Wanted.{Wanted}
+use Rattle.c65_genexpr.specs.declared.wanted.Wanted.TheVariants.{Value, Test}
+use Rattle.c65_genexpr.specs.Wanted.{sense_of, decided_code, wanted_by, handed, handed_sense, value_test_code, branch_code, wanted, aimed, sense, truth_labels, inner, truth_by, is_straight, way, way_labels}
+use Rattle.c65_genexpr.specs.Wanted as tests
+use Rattle.c65_genexpr.specs.declared.comparing.Comparing.{Comparing}
+use Rattle.c65_genexpr.specs.declared.comparing.Comparing.TheVariants as compared
+use Rattle.c65_genexpr.specs.declared.operating.Operating.{Operating}
+use Rattle.c65_genexpr.specs.declared.operating.Operating.TheVariants as ways
+use Rattle.c65_genexpr.specs.Direct.{kept_at, own_bytes}
+use Rattle.c65_genexpr.specs.Comparing.{relation_by, tested_by, comparing_of, below_side}
+use Rattle.c65_genexpr.specs.Operating.{operating_of, below_operand}
 use Rattle.c65_genexpr.specs.declared.operands.Operands.{Operands}
 use Rattle.c65_genexpr.specs.declared.operands.Operands.TheVariants.{Numbers, PointerFirst}
 use Rattle.c65_genexpr.specs.declared.arguments.Passed.{Passed}
 use Rattle.c65_genexpr.specs.declared.types.Outcome.{Outcome}
 use Rattle.c65_genexpr.specs.Types.{kind_of, outcome_of, kind_in, bare, offset_at, access_of, target_bytes}
 use Rattle.c65_genexpr.specs.Places.{more, place_of, object_code}
-use Rattle.c65_genexpr.specs.Operands.{residue_of, operands_of, computes, short_of, between_code, behind_code, short_code, binary_by}
+use Rattle.c65_genexpr.specs.Operands.{residue_of, operands_of, computes, same_truth, conversion_code, conversion_by}
 use Rattle.c65_genexpr.specs.Steps.{amount_of, open_code, close_code}
 use Rattle.c65_genexpr.specs.Arguments.{is_fast, is_counted, stays, passed_size, joined, passed_of, argument_bytes, argument_code}
 use Rattle.c65_genexpr.specs.Calls.{named_in, named}
-use Rattle.c65_genexpr.specs.Uses.{unless_named, uses, node_uses, args_uses}
-use Rattle.c65_genexpr.specs.Code.{target_code, behind_open, compound, call_by, test_in, truth_code, expr_code, node_code, args_code}
+use Rattle.c65_genexpr.specs.Uses.{unless_named, by_relation, uses, node_uses, args_uses, comparison_uses}
+use Rattle.c65_genexpr.specs.Code.{target_code, width_in, constant_code, tested_load, load_by, behind_open, compound, call_by, expr_code, node_code, args_code, operator_code, comparison_code, joint_code}
 use Rattle.c65_asm_law.proofs.Well.{AllWell, well_append, well_none, well_more}
 use Rattle.c65_asm_law.proofs.Loads.{WellPlace, bytes_well, number_well, symbol_well, offset_well, push_well, test_well, hold_well, load_well, store_well, copy_well}
 use Rattle.c65_asm_law.proofs.Known.{Knows}
-use Rattle.c65_asm_law.proofs.Places.{place_well, object_well, further_well, spill_well, conversion_well, unary_well, between_well, behind_well, short_well, step_well, open_well, close_well, named_well, direct_well, pointer_well, argument_well}
+use Rattle.c65_asm_law.proofs.Places.{place_well, object_well, further_well, spill_well, conversion_well, unary_well, step_well, open_well, close_well, named_well, direct_well, pointer_well, argument_well}
+use Rattle.c65_asm_law.proofs.Directs.{WellRead, zero_test_well, truth_well}
+use Rattle.c65_asm_law.proofs.Forms.{kept_well, own_well, comparing_well, comparison_well, operating_well, operator_well}
 
 target_well : (n : ℕ) (p : Place) (code : List Line) → AllWell n code → AllWell n (target_code p code)
 target_well n places.Far code h = h
@@ -47,8 +66,63 @@ target_well n (places.Bank b) code h = well_none n
 target_well n (places.Near at) code h = well_none n
 target_well n (places.Data s at) code h = well_none n
 
-tested : (n : ℕ) (e : Typed) → AllWell n (test_in e)
-tested n e = test_well n (width_of (kind_in e))
+-- ---- tests lead to labels of 32 bits
+
+abbrev pub WellWanted : Wanted → Type 0
+WellWanted Value = Unit {0}
+WellWanted (Test to s) = to < 2 ^ 32
+
+value_test_well : (n : ℕ) (w : Width) (s : Bool) (to : ℕ) → to < 2 ^ 32 → AllWell n (value_test_code w s to)
+value_test_well n w s to aim = well_append n (test_code w) (branch_code s to) (test_well n w) (record { all = ((tt, aim), tt) })
+
+wanted_well : (n : ℕ) (w : Wanted) (width : Width) (lines : List Line) → WellWanted w → AllWell n lines → AllWell n (wanted w width lines)
+wanted_well n Value width lines aim h = h
+wanted_well n (Test to s) width lines aim h = well_append n lines _ h (value_test_well n width s to aim)
+
+-- a value's test leads to a label of its own
+aim_low : (w : Wanted) (lo k : ℕ) → WellWanted w → lo + (truth_labels (sense_of w) + k) ≤ 2 ^ 32 → aimed w lo < 2 ^ 32
+aim_low Value lo k aim room = omega (arith, room)
+aim_low (Test to s) lo k aim room = aim
+
+truth_by_well : (n : ℕ) (w : Wanted) (lo : ℕ) (lines : List Line) → lo + truth_labels (sense_of w) ≤ 2 ^ 32 → AllWell n lines → AllWell n (truth_by w lo lines)
+truth_by_well n Value lo lines room h = well_append n lines _ h (truth_well n lo (omega (arith, room)))
+truth_by_well n (Test to s) lo lines room h = h
+
+-- the label behind both sides is placed only where it is needed
+way_low : (straight : Bool) (to own k : ℕ) → to < 2 ^ 32 → own + (way_labels straight + k) ≤ 2 ^ 32 → way straight to own < 2 ^ 32
+way_low true to own k low room = low
+way_low false to own k low room = omega (arith, room)
+
+decided_well : (n : ℕ) (truth s : Bool) (to : ℕ) → to < 2 ^ 32 → AllWell n (decided_code truth s to)
+decided_well n true true to aim = record { all = ((tt, aim), tt) }
+decided_well n false false to aim = record { all = ((tt, aim), tt) }
+decided_well n true false to aim = well_none n
+decided_well n false true to aim = well_none n
+
+constant_well : (n : ℕ) (w : Wanted) (width : Width) (m : ℕ) → WellWanted w → AllWell n (constant_code w width m)
+constant_well n Value width m aim = number_well n width m
+constant_well n (Test to s) width m aim = decided_well n (not (m == 0)) s to aim
+
+tested_load_well : (n : ℕ) (d : Option Direct) (kind : IntType) (s : Bool) (to : ℕ) (lines : List Line) → WellRead n d → to < 2 ^ 32 → AllWell n lines → AllWell n (tested_load d kind s to lines)
+tested_load_well n (Some d) kind s to lines h aim k = zero_test_well n (own_bytes d (extent_of kind)) s to (own_well n d (extent_of kind) h) aim
+tested_load_well n None kind s to lines h aim k = wanted_well n (Test to s) (width_of kind) lines aim k
+
+load_by_well : (n : ℕ) (w : Wanted) (place : Place) (access : Access) (lines : List Line) → WellPlace n place → WellWanted w → AllWell n lines → AllWell n (load_by w place access lines)
+load_by_well n Value place access lines h aim k = well_append n lines _ k (load_well n place access h)
+load_by_well n (Test to s) place access lines h aim k = tested_load_well n (kept_at place access) (kept.type_in access) s to _ (kept_well n place access h) aim (well_append n lines _ k (load_well n place access h))
+
+converted_well : (n : ℕ) (w : Wanted) (same : Bool) (t : Ty) (from : IntType) (lines : List Line) → WellWanted w → AllWell n lines → AllWell n (conversion_by w same t from lines)
+converted_well n Value same t from lines aim h = well_append n lines _ h (conversion_well n t from)
+converted_well n (Test to s) true t from lines aim h = h
+converted_well n (Test to s) false t from lines aim h = wanted_well n (Test to s) (width_of (kind_of t)) _ aim (well_append n lines (conversion_code t from) h (conversion_well n t from))
+
+below_side_few : (how : Comparing) (pushed bytes : ℕ) → pushed < 2 ^ 16 → below_side how pushed bytes < 2 ^ 16
+below_side_few compared.Stacked pushed bytes few = omega arith
+below_side_few _ pushed bytes few = few
+
+below_operand_few : (how : Operating) (pushed bytes : ℕ) → pushed < 2 ^ 16 → below_operand how pushed bytes < 2 ^ 16
+below_operand_few ways.Stacked pushed bytes few = omega arith
+below_operand_few _ pushed bytes few = few
 
 -- ---- the bytes of arguments
 
@@ -72,28 +146,17 @@ callee_known n u f (node t _) i knows h is = absurd cc
 
 -- ---- nodes over lines that are given
 
-binary_well : (n : ℕ) (op : BinaryOp) (operands : Operands) (right : IntType) (a b : List Line) (s : Option ℕ) → AllWell n a → AllWell n b → AllWell n (binary_by op operands s right a b)
-binary_well n op operands right a b None ha hb = well_append n a _ ha (well_append n (between_code operands) _ (between_well n operands) (well_append n b (behind_code op operands right) hb (behind_well n op operands right)))
-binary_well n op operands right a b (Some c) ha hb = well_append n a (short_code op operands c) ha (short_well n op operands c)
+joined_well : (n : ℕ) (straight : Bool) (own : ℕ) (a b : List Line) → own + way_labels straight ≤ 2 ^ 32 → AllWell n a → AllWell n b → AllWell n (tests.joined straight own a b)
+joined_well n true own a b room ha hb = well_append n a _ ha (well_append n b [] hb (well_none n))
+joined_well n false own a b room ha hb =
+    let low : own < 2 ^ 32 = omega (arith, room) in
+    well_append n a _ ha (well_append n b (Label own ∷ []) hb (record { all = (low, tt) }))
 
-both_well : (n lo : ℕ) (a b s t : List Line) → lo < 2 ^ 32 → AllWell n s → AllWell n t → AllWell n a → AllWell n b → AllWell n (a ++ (s ++ (branch Beq lo ∷ (b ++ (t ++ (branch Beq lo ∷ truth_code lo))))))
-both_well n lo a b s t room hs ht ha hb =
-    let last : AllWell n (branch Beq lo ∷ truth_code lo) = record { all = search (rules, room) } in
-    let rest : AllWell n (b ++ (t ++ (branch Beq lo ∷ truth_code lo))) = well_append n b _ hb (well_append n t _ ht last) in
-    well_append n a _ ha (well_append n s _ hs (well_more n _ _ (tt, room) rest))
-
-either_well : (n lo : ℕ) (a b s t : List Line) → lo + 1 < 2 ^ 32 → AllWell n s → AllWell n t → AllWell n a → AllWell n b → AllWell n (a ++ (s ++ (branch Bne lo ∷ (b ++ (t ++ (branch Beq (lo + 1) ∷ Label lo ∷ truth_code (lo + 1)))))))
-either_well n lo a b s t room hs ht ha hb =
-    let first : lo < 2 ^ 32 = omega (arith, room) in
-    let last : AllWell n (branch Beq (lo + 1) ∷ Label lo ∷ truth_code (lo + 1)) = record { all = search (rules, room, first) } in
-    let rest : AllWell n (b ++ (t ++ (branch Beq (lo + 1) ∷ Label lo ∷ truth_code (lo + 1)))) = well_append n b _ hb (well_append n t _ ht last) in
-    well_append n a _ ha (well_append n s _ hs (well_more n _ _ (tt, first) rest))
-
-choice_well : (n lo : ℕ) (c a b s : List Line) → lo + 1 < 2 ^ 32 → AllWell n s → AllWell n c → AllWell n a → AllWell n b → AllWell n (c ++ (s ++ (branch Beq lo ∷ (a ++ (Do Jmp Absolute (To (lo + 1)) ∷ Label lo ∷ (b ++ Label (lo + 1) ∷ []))))))
-choice_well n lo c a b s room hs hc ha hb =
+choice_well : (n lo : ℕ) (c a b : List Line) → lo + 1 < 2 ^ 32 → AllWell n c → AllWell n a → AllWell n b → AllWell n (c ++ (a ++ (Do Jmp Absolute (To (lo + 1)) ∷ Label lo ∷ (b ++ Label (lo + 1) ∷ []))))
+choice_well n lo c a b room hc ha hb =
     let first : lo < 2 ^ 32 = omega (arith, room) in
     let second : AllWell n (b ++ Label (lo + 1) ∷ []) = well_append n b (Label (lo + 1) ∷ []) hb (record { all = (room, tt) }) in
-    well_append n c _ hc (well_append n s _ hs (well_more n _ _ (tt, first) (well_append n a _ ha (well_more n _ _ (tt, room) (well_more n _ _ first second)))))
+    well_append n c _ hc (well_append n a _ ha (well_more n _ _ (tt, room) (well_more n _ _ first second)))
 
 assign_well : (n : ℕ) (place : Place) (access : Access) (a b : List Line) → WellPlace n place → AllWell n a → AllWell n b → AllWell n (a ++ (hold_code place ++ (b ++ store_code place access)))
 assign_well n place access a b h ha hb = well_append n a _ ha (well_append n (hold_code place) _ (hold_well n place) (well_append n b (store_code place access) hb (store_well n place access h)))
@@ -116,81 +179,141 @@ unnamed : (i : Option ℕ) (k : ℕ) → i ≡ None → unless_named i k ≡ k
 unnamed None k h = refl
 unnamed (Some j) k h = absurd cc
 
+-- ---- operators, from what holds of their operands
+
+-- the lines of a tree can be written, wherever they stand
+abbrev WellTree : ℕ → Framed → Typed → Type 0
+WellTree n f e = (pushed lo : ℕ) (w : Wanted) → pushed < 2 ^ 16 → WellWanted w → lo + uses (sense_of w) e ≤ 2 ^ 32 → AllWell n (expr_code f pushed lo w e)
+
+tree_by : (n : ℕ) (f : Framed) (e : Typed) (pushed lo : ℕ) (s : Option Bool) (to : ℕ) → WellTree n f e → pushed < 2 ^ 16 → to < 2 ^ 32 → lo + uses s e ≤ 2 ^ 32 → AllWell n (expr_code f pushed lo (wanted_by s to) e)
+tree_by n f e pushed lo None to tree few aim room = tree pushed lo Value few tt room
+tree_by n f e pushed lo (Some s) to tree few aim room = tree pushed lo (Test to s) few aim room
+
+tree_handed : (n : ℕ) (f : Framed) (e : Typed) (pushed lo : ℕ) (same : Bool) (w : Wanted) → WellTree n f e → pushed < 2 ^ 16 → WellWanted w → lo + uses (handed_sense same (sense_of w)) e ≤ 2 ^ 32 → AllWell n (expr_code f pushed lo (handed same w) e)
+tree_handed n f e pushed lo same Value tree few aim room = tree pushed lo Value few tt room
+tree_handed n f e pushed lo true (Test to s) tree few aim room = tree pushed lo (Test to s) few aim room
+tree_handed n f e pushed lo false (Test to s) tree few aim room = tree pushed lo Value few tt room
+
+operator_in : (n : ℕ) (u : UnitTy) (f : Framed) (pushed lo : ℕ) (op : BinaryOp) (a b : Typed) → Knows f u n → IsTyped u a → IsTyped u b → WellTree n f a → WellTree n f b → pushed < 2 ^ 16 → lo + (1 + (uses None a + uses None b)) ≤ 2 ^ 32 → AllWell n (operator_code f pushed lo op a b)
+operator_in n u f pushed lo op a b knows ha hb ta tb few room =
+    let operands : Operands = operands_of f (bare a) (bare b) in
+    let how : Operating = operating_of f pushed op operands a b in
+    let bytes : ℕ = waiting (width_of (computes operands)) in
+    let left : AllWell n (expr_code f pushed (lo + 1) Value a) = ta pushed (lo + 1) Value few tt (omega (arith, room)) in
+    let right : AllWell n (expr_code f (below_operand how pushed bytes) (lo + 1 + uses None a) Value b) = tb (below_operand how pushed bytes) (lo + 1 + uses None a) Value (below_operand_few how pushed bytes few) tt (omega (arith, room)) in
+    operator_well n how op operands (kind_in b) lo _ _ (operating_well n u f pushed op operands a b knows ha hb) (omega (arith, room)) left right
+
+comparison_in : (n : ℕ) (u : UnitTy) (f : Framed) (pushed own to : ℕ) (s : Bool) (op : BinaryOp) (r : Relation) (a b : Typed) → Knows f u n → IsTyped u a → IsTyped u b → WellTree n f a → WellTree n f b → pushed < 2 ^ 16 → to < 2 ^ 32 → own + comparison_uses (relation_by s r) a b ≤ 2 ^ 32 → AllWell n (comparison_code f pushed own to s op r a b)
+comparison_in n u f pushed own to s op r a b knows ha hb ta tb few aim room =
+    let operands : Operands = operands_of f (bare a) (bare b) in
+    let q : Relation = relation_by s r in
+    let how : Comparing = comparing_of f pushed q (computes operands) a b in
+    let bytes : ℕ = waiting (width_of (computes operands)) in
+    let left : AllWell n (expr_code f pushed (own + 1) (wanted_by (tested_by q b) to) a) = tree_by n f a pushed (own + 1) (tested_by q b) to ta few aim (omega (arith, room)) in
+    let right : AllWell n (expr_code f (below_side how pushed bytes) (own + 1 + uses (tested_by q b) a) (wanted_by (tested_by q a) to) b) = tree_by n f b (below_side how pushed bytes) (own + 1 + uses (tested_by q b) a) (tested_by q a) to tb (below_side_few how pushed bytes few) aim (omega (arith, room)) in
+    comparison_well n how op operands (kind_in b) s to own _ _ (comparing_well n u f pushed q (computes operands) a b knows ha hb) aim (omega (arith, room)) left right
+
+-- a comparison, or another operator
+binary_well : (n : ℕ) (u : UnitTy) (f : Framed) (pushed lo : ℕ) (w : Wanted) (width : Width) (m : Option Relation) (op : BinaryOp) (a b : Typed) → Knows f u n → IsTyped u a → IsTyped u b → WellTree n f a → WellTree n f b → pushed < 2 ^ 16 → WellWanted w
+    → lo + by_relation m (1 + (uses None a + uses None b)) (λ r. truth_labels (sense_of w) + comparison_uses (relation_by (sense w) r) a b) ≤ 2 ^ 32
+    → AllWell n (by_relation m (wanted w width (operator_code f pushed lo op a b)) (λ r. truth_by w lo (comparison_code f pushed (inner w lo) (aimed w lo) (sense w) op r a b)))
+binary_well n u f pushed lo w width None op a b knows ha hb ta tb few aim room = wanted_well n w width _ aim (operator_in n u f pushed lo op a b knows ha hb ta tb few room)
+binary_well n u f pushed lo w width (Some r) op a b knows ha hb ta tb few aim room =
+    let to : aimed w lo < 2 ^ 32 = aim_low w lo (comparison_uses (relation_by (sense w) r) a b) aim room in
+    truth_by_well n w lo _ (omega (arith, room)) (comparison_in n u f pushed (inner w lo) (aimed w lo) (sense w) op r a b knows ha hb ta tb few to (omega (arith, room)))
+
+-- `&&` and `||`
+joint_in : (n : ℕ) (f : Framed) (pushed own to : ℕ) (s stop straight : Bool) (a b : Typed) → WellTree n f a → WellTree n f b → pushed < 2 ^ 16 → to < 2 ^ 32 → own + (way_labels straight + (uses (Some stop) a + uses (Some s) b)) ≤ 2 ^ 32
+    → AllWell n (tests.joined straight own (expr_code f pushed (own + way_labels straight) (Test (way straight to own) stop) a) (expr_code f pushed (own + way_labels straight + uses (Some stop) a) (Test to s) b))
+joint_in n f pushed own to s stop straight a b ta tb few aim room =
+    let left : AllWell n (expr_code f pushed (own + way_labels straight) (Test (way straight to own) stop) a) = ta pushed (own + way_labels straight) (Test (way straight to own) stop) few (way_low straight to own (uses (Some stop) a) aim (omega (arith, room))) (omega (arith, room)) in
+    joined_well n straight own _ _ (omega (arith, room)) left (tb pushed (own + way_labels straight + uses (Some stop) a) (Test to s) few aim (omega (arith, room)))
+
+joint_well : (n : ℕ) (f : Framed) (pushed lo : ℕ) (w : Wanted) (stop : Bool) (a b : Typed) → WellTree n f a → WellTree n f b → pushed < 2 ^ 16 → WellWanted w
+    → lo + (truth_labels (sense_of w) + (way_labels (is_straight stop (sense w)) + (uses (Some stop) a + uses (Some (sense w)) b))) ≤ 2 ^ 32 → AllWell n (truth_by w lo (joint_code f pushed (inner w lo) (aimed w lo) (sense w) stop a b))
+joint_well n f pushed lo w stop a b ta tb few aim room =
+    let straight : Bool = is_straight stop (sense w) in
+    let to : aimed w lo < 2 ^ 32 = aim_low w lo (way_labels straight + (uses (Some stop) a + uses (Some (sense w)) b)) aim room in
+    truth_by_well n w lo _ (omega (arith, room)) (joint_in n f pushed (inner w lo) (aimed w lo) (sense w) stop straight a b ta tb few to (omega (arith, room)))
+
 -- ---- the whole tree
 
 mutual
   -- so many bytes wait, and so many labels are left
-  pub expr_well : (n : ℕ) (u : UnitTy) (f : Framed) (pushed lo : ℕ) (e : Typed) → Knows f u n → IsTyped u e → pushed < 2 ^ 16 → lo + uses e ≤ 2 ^ 32 → AllWell n (expr_code f pushed lo e)
-  expr_well n u f pushed lo (node t e) knows h few room = node_well n u f pushed lo t e knows h few room
+  pub expr_well : (n : ℕ) (u : UnitTy) (f : Framed) (pushed lo : ℕ) (w : Wanted) (e : Typed) → Knows f u n → IsTyped u e → pushed < 2 ^ 16 → WellWanted w → lo + uses (sense_of w) e ≤ 2 ^ 32 → AllWell n (expr_code f pushed lo w e)
+  expr_well n u f pushed lo w (node t e) knows h few aim room = node_well n u f pushed lo w t e knows h few aim room
 
-  node_well : (n : ℕ) (u : UnitTy) (f : Framed) (pushed lo : ℕ) (t : QTy) (e : Node) → Knows f u n → IsNode u t e → pushed < 2 ^ 16 → lo + node_uses e ≤ 2 ^ 32 → AllWell n (node_code f pushed lo t e)
-  node_well n u f pushed lo t (constant z) knows h few room = number_well n (width_of (kind_of (type_in t))) (residue_of z)
-  node_well n u f pushed lo t null knows h few room = number_well n Ax 0
-  node_well n u f pushed lo t (literal i) knows h few room = symbol_well n (literal_symbol (numbers_of f.parts) i) 0 (knows.literals i (slice_get_within u.literals i h.0 h.1)) (omega arith)
-  node_well n u f pushed lo t (object i) knows h few room = object_well n f pushed i few (knows.objects i (slice_get_within u.objects i h.0 h.1))
-  node_well n u f pushed lo t (func i) knows h few room = symbol_well n (function_symbol (numbers_of f.parts) i) 0 (knows.funcs i (slice_get_within u.funcs i h.0 h.1)) (omega arith)
-  node_well n u f pushed lo t (deref e) knows h few room = expr_well n u f pushed lo e knows h.0 few room
-  node_well n u f pushed lo t (member e m) knows h few room = well_append n (expr_code f pushed lo e) _ (expr_well n u f pushed lo e knows h.0 few room) (offset_well n (offset_at (types_of f.parts.types) (bare e) m))
-  node_well n u f pushed lo t (load e) knows h few room =
+  node_well : (n : ℕ) (u : UnitTy) (f : Framed) (pushed lo : ℕ) (w : Wanted) (t : QTy) (e : Node) → Knows f u n → IsNode u t e → pushed < 2 ^ 16 → WellWanted w → lo + node_uses (sense_of w) t e ≤ 2 ^ 32 → AllWell n (node_code f pushed lo w t e)
+  node_well n u f pushed lo w t (constant z) knows h few aim room = constant_well n w (width_in t) (residue_of z) aim
+  node_well n u f pushed lo w t null knows h few aim room = constant_well n w Ax 0 aim
+  node_well n u f pushed lo w t (literal i) knows h few aim room = wanted_well n w (width_in t) _ aim (symbol_well n (literal_symbol (numbers_of f.parts) i) 0 (knows.literals i (slice_get_within u.literals i h.0 h.1)) (omega arith))
+  node_well n u f pushed lo w t (object i) knows h few aim room = wanted_well n w (width_in t) _ aim (object_well n f pushed i few (knows.objects i (slice_get_within u.objects i h.0 h.1)))
+  node_well n u f pushed lo w t (func i) knows h few aim room = wanted_well n w (width_in t) _ aim (symbol_well n (function_symbol (numbers_of f.parts) i) 0 (knows.funcs i (slice_get_within u.funcs i h.0 h.1)) (omega arith))
+  node_well n u f pushed lo w t (deref e) knows h few aim room = wanted_well n w (width_in t) _ aim (expr_well n u f pushed lo Value e knows h.0 few tt room)
+  node_well n u f pushed lo w t (member e m) knows h few aim room = wanted_well n w (width_in t) _ aim (well_append n (expr_code f pushed lo Value e) _ (expr_well n u f pushed lo Value e knows h.0 few tt room) (offset_well n (offset_at (types_of f.parts.types) (bare e) m)))
+  node_well n u f pushed lo w t (load e) knows h few aim room =
       let place : Place = place_of f pushed e in
-      well_append n (target_code place (expr_code f pushed lo e)) _ (target_well n place (expr_code f pushed lo e) (expr_well n u f pushed lo e knows h.0 few room)) (load_well n place (access_of (types_of f.parts.types) e) (place_well n u f pushed e knows h.0))
-  node_well n u f pushed lo t (address e) knows h few room = expr_well n u f pushed lo e knows h.0 few room
-  node_well n u f pushed lo t (decay e) knows h few room = expr_well n u f pushed lo e knows h.0 few room
-  node_well n u f pushed lo t (convert e) knows h few room = well_append n (expr_code f pushed lo e) _ (expr_well n u f pushed lo e knows h.0 few room) (conversion_well n (type_in t) (kind_in e))
-  node_well n u f pushed lo t (unary op e) knows h few room = well_append n (expr_code f pushed lo e) _ (expr_well n u f pushed lo e knows h.0 few room) (unary_well n op (width_of (kind_in e)))
-  node_well n u f pushed lo t (binary op a b) knows h few room =
-      let operands : Operands = operands_of f (bare a) (bare b) in
-      binary_well n op operands (kind_in b) _ _ (short_of op operands b) (expr_well n u f pushed lo a knows h.0 few (omega (arith, room))) (expr_well n u f (more pushed (waiting (width_of (computes operands)))) (lo + uses a) b knows h.1 (omega arith) (omega (arith, room)))
-  node_well n u f pushed lo t (both a b) knows h few room =
-      both_well n lo _ _ _ _ (omega (arith, room)) (tested n a) (tested n b) (expr_well n u f pushed (lo + 1) a knows h.0 few (omega (arith, room))) (expr_well n u f pushed (lo + 1 + uses a) b knows h.1 few (omega (arith, room)))
-  node_well n u f pushed lo t (either a b) knows h few room =
-      either_well n lo _ _ _ _ (omega (arith, room)) (tested n a) (tested n b) (expr_well n u f pushed (lo + 2) a knows h.0 few (omega (arith, room))) (expr_well n u f pushed (lo + 2 + uses a) b knows h.1 few (omega (arith, room)))
-  node_well n u f pushed lo t (choice c a b) knows h few room =
-      choice_well n lo _ _ _ _ (omega (arith, room)) (tested n c) (expr_well n u f pushed (lo + 2) c knows h.0 few (omega (arith, room))) (expr_well n u f pushed (lo + 2 + uses c) a knows h.1 few (omega (arith, room))) (expr_well n u f pushed (lo + 2 + uses c + uses a) b knows h.2 few (omega (arith, room)))
-  node_well n u f pushed lo t (comma a b) knows h few room =
-      well_append n (expr_code f pushed lo a) _ (expr_well n u f pushed lo a knows h.0 few (omega (arith, room))) (expr_well n u f pushed (lo + uses a) b knows h.1 few (omega (arith, room)))
-  node_well n u f pushed lo t (assign a b) knows h few room =
+      load_by_well n w place (access_of (types_of f.parts.types) e) _ (place_well n u f pushed e knows h.0) aim (target_well n place (expr_code f pushed lo Value e) (expr_well n u f pushed lo Value e knows h.0 few tt room))
+  node_well n u f pushed lo w t (address e) knows h few aim room = wanted_well n w (width_in t) _ aim (expr_well n u f pushed lo Value e knows h.0 few tt room)
+  node_well n u f pushed lo w t (decay e) knows h few aim room = wanted_well n w (width_in t) _ aim (expr_well n u f pushed lo Value e knows h.0 few tt room)
+  node_well n u f pushed lo w t (convert e) knows h few aim room =
+      let same : Bool = same_truth (type_in t) (bare e) in
+      converted_well n w same (type_in t) (kind_in e) _ aim (tree_handed n f e pushed lo same w (λ p l v. expr_well n u f p l v e knows h.0) few aim room)
+  node_well n u f pushed lo w t (unary Not e) knows h few aim room =
+      truth_by_well n w lo _ (omega (arith, room)) (expr_well n u f pushed (inner w lo) (Test (aimed w lo) (not (sense w))) e knows h.0 few (aim_low w lo (uses (Some (not (sense w))) e) aim room) (omega (arith, room)))
+  node_well n u f pushed lo w t (unary op e) knows h few aim room = wanted_well n w (width_in t) _ aim (well_append n (expr_code f pushed lo Value e) _ (expr_well n u f pushed lo Value e knows h.0 few tt room) (unary_well n op (width_of (kind_in e))))
+  node_well n u f pushed lo w t (binary op a b) knows h few aim room =
+      binary_well n u f pushed lo w (width_in t) (relation_of op) op a b knows h.0 h.1 (λ p l v. expr_well n u f p l v a knows h.0) (λ p l v. expr_well n u f p l v b knows h.1) few aim room
+  node_well n u f pushed lo w t (both a b) knows h few aim room =
+      joint_well n f pushed lo w false a b (λ p l v. expr_well n u f p l v a knows h.0) (λ p l v. expr_well n u f p l v b knows h.1) few aim room
+  node_well n u f pushed lo w t (either a b) knows h few aim room =
+      joint_well n f pushed lo w true a b (λ p l v. expr_well n u f p l v a knows h.0) (λ p l v. expr_well n u f p l v b knows h.1) few aim room
+  node_well n u f pushed lo w t (choice c a b) knows h few aim room =
+      wanted_well n w (width_in t) _ aim (choice_well n lo _ _ _ (omega (arith, room)) (expr_well n u f pushed (lo + 2) (Test lo false) c knows h.0 few (omega (arith, room)) (omega (arith, room))) (expr_well n u f pushed (lo + 2 + uses (Some false) c) Value a knows h.1 few tt (omega (arith, room))) (expr_well n u f pushed (lo + 2 + uses (Some false) c + uses None a) Value b knows h.2 few tt (omega (arith, room))))
+  node_well n u f pushed lo w t (comma a b) knows h few aim room =
+      well_append n (expr_code f pushed lo Value a) _ (expr_well n u f pushed lo Value a knows h.0 few tt (omega (arith, room))) (expr_well n u f pushed (lo + uses None a) w b knows h.1 few aim (omega (arith, room)))
+  node_well n u f pushed lo w t (assign a b) knows h few aim room =
       let place : Place = place_of f pushed a in
-      assign_well n place (access_of (types_of f.parts.types) a) _ _ (place_well n u f pushed a knows h.0) (target_well n place _ (expr_well n u f pushed lo a knows h.0 few (omega (arith, room)))) (expr_well n u f (more pushed (held place)) (lo + uses a) b knows h.1 (omega arith) (omega (arith, room)))
-  node_well n u f pushed lo t (assign_op op k a b) knows h few room =
-      compound_well n f pushed op (Numbers k) a b _ _ (place_well n u f pushed a knows h.0) (expr_well n u f pushed lo a knows h.0 few (omega (arith, room))) (expr_well n u f (behind_open f pushed (Numbers k) a) (lo + uses a) b knows h.1 (omega arith) (omega (arith, room)))
-  node_well n u f pushed lo t (assign_step op a b) knows h few room =
+      wanted_well n w (width_in t) _ aim (assign_well n place (access_of (types_of f.parts.types) a) _ _ (place_well n u f pushed a knows h.0) (target_well n place _ (expr_well n u f pushed lo Value a knows h.0 few tt (omega (arith, room)))) (expr_well n u f (more pushed (held place)) (lo + uses None a) Value b knows h.1 (omega arith) tt (omega (arith, room))))
+  node_well n u f pushed lo w t (assign_op op k a b) knows h few aim room =
+      wanted_well n w (width_in t) _ aim (compound_well n f pushed op (Numbers k) a b _ _ (place_well n u f pushed a knows h.0) (expr_well n u f pushed lo Value a knows h.0 few tt (omega (arith, room))) (expr_well n u f (behind_open f pushed (Numbers k) a) (lo + uses None a) Value b knows h.1 (omega arith) tt (omega (arith, room))))
+  node_well n u f pushed lo w t (assign_step op a b) knows h few aim room =
       let operands : Operands = PointerFirst (target_bytes f (bare a)) in
-      compound_well n f pushed op operands a b _ _ (place_well n u f pushed a knows h.0) (expr_well n u f pushed lo a knows h.0 few (omega (arith, room))) (expr_well n u f (behind_open f pushed operands a) (lo + uses a) b knows h.1 (omega arith) (omega (arith, room)))
-  node_well n u f pushed lo t (step how e) knows h few room =
+      wanted_well n w (width_in t) _ aim (compound_well n f pushed op operands a b _ _ (place_well n u f pushed a knows h.0) (expr_well n u f pushed lo Value a knows h.0 few tt (omega (arith, room))) (expr_well n u f (behind_open f pushed operands a) (lo + uses None a) Value b knows h.1 (omega arith) tt (omega (arith, room))))
+  node_well n u f pushed lo w t (step how e) knows h few aim room =
       let place : Place = place_of f pushed e in
-      well_append n (target_code place (expr_code f pushed lo e)) _ (target_well n place (expr_code f pushed lo e) (expr_well n u f pushed lo e knows h.0 few room)) (step_well n how place (access_of (types_of f.parts.types) e) (amount_of f how (bare e)) (place_well n u f pushed e knows h.0))
-  node_well n u f pushed lo t (copy a b) knows h few room =
-      well_append n (expr_code f pushed lo a) _ (expr_well n u f pushed lo a knows h.0 few (omega (arith, room))) (well_append n (push_code Ax) _ (push_well n Ax) (well_append n (expr_code f (more pushed 2) (lo + uses a) b) _ (expr_well n u f (more pushed 2) (lo + uses a) b knows h.1 (omega arith) (omega (arith, room))) (copy_well n (type_bytes f (type_in t)))))
-  node_well n u f pushed lo t (call g es) knows h few room =
-      call_well n f (named g) (outcome_of f (type_in t)) g es _ _ _ (λ k is. callee_known n u f g k knows h.0 is)
-      (λ none_named. expr_well n u f pushed lo g knows h.0 few (omega (arith, room, unnamed (named g) (uses g) none_named)))
+      wanted_well n w (width_in t) _ aim (well_append n (target_code place (expr_code f pushed lo Value e)) _ (target_well n place (expr_code f pushed lo Value e) (expr_well n u f pushed lo Value e knows h.0 few tt room)) (step_well n how place (access_of (types_of f.parts.types) e) (amount_of f how (bare e)) (place_well n u f pushed e knows h.0)))
+  node_well n u f pushed lo w t (copy a b) knows h few aim room =
+      wanted_well n w (width_in t) _ aim (well_append n (expr_code f pushed lo Value a) _ (expr_well n u f pushed lo Value a knows h.0 few tt (omega (arith, room))) (well_append n (push_code Ax) _ (push_well n Ax) (well_append n (expr_code f (more pushed 2) (lo + uses None a) Value b) _ (expr_well n u f (more pushed 2) (lo + uses None a) Value b knows h.1 (omega arith) tt (omega (arith, room))) (copy_well n (type_bytes f (type_in t))))))
+  node_well n u f pushed lo w t (call g es) knows h few aim room =
+      wanted_well n w (width_in t) _ aim (call_well n f (named g) (outcome_of f (type_in t)) g es _ _ _ (λ k is. callee_known n u f g k knows h.0 is)
+      (λ none_named. expr_well n u f pushed lo Value g knows h.0 few tt (omega (arith, room, unnamed (named g) (uses None g) none_named)))
       (args_well n u f pushed lo (is_fast (bare g)) es knows h.4 few (omega (arith, room)))
-      (λ none_named. args_well n u f (more pushed 2) (lo + uses g) (is_fast (bare g)) es knows h.4 (omega arith) (omega (arith, room, unnamed (named g) (uses g) none_named)))
-  node_well n u f pushed lo t (pack e) knows h few room = absurd h
-  node_well n u f pushed lo t (spill i e) knows h few room =
-      well_append n (expr_code f pushed lo e) _ (called_well n u f pushed lo t e knows h.0 few room) (spill_well n (object_code f pushed i) (extent_by (type_bytes f (type_in t))) (object_well n f pushed i few (knows.objects i (slice_get_within u.objects i h.1.object h.1.there))))
-  node_well n u f pushed lo t further knows h few room = further_well n f pushed few
+      (λ none_named. args_well n u f (more pushed 2) (lo + uses None g) (is_fast (bare g)) es knows h.4 (omega arith) (omega (arith, room, unnamed (named g) (uses None g) none_named))))
+  node_well n u f pushed lo w t (pack e) knows h few aim room = absurd h
+  node_well n u f pushed lo w t (spill i e) knows h few aim room =
+      wanted_well n w (width_in t) _ aim (well_append n (expr_code f pushed lo Value e) _ (called_well n u f pushed lo t e knows h.0 few room) (spill_well n (object_code f pushed i) (extent_by (type_bytes f (type_in t))) (object_well n f pushed i few (knows.objects i (slice_get_within u.objects i h.1.object h.1.there)))))
+  node_well n u f pushed lo w t further knows h few aim room = wanted_well n w (width_in t) _ aim (further_well n f pushed few)
 
   -- one that gives a structure
-  called_well : (n : ℕ) (u : UnitTy) (f : Framed) (pushed lo : ℕ) (t : QTy) (e : Typed) → Knows f u n → IsCalled u t e → pushed < 2 ^ 16 → lo + uses e ≤ 2 ^ 32 → AllWell n (expr_code f pushed lo e)
+  called_well : (n : ℕ) (u : UnitTy) (f : Framed) (pushed lo : ℕ) (t : QTy) (e : Typed) → Knows f u n → IsCalled u t e → pushed < 2 ^ 16 → lo + uses None e ≤ 2 ^ 32 → AllWell n (expr_code f pushed lo Value e)
   called_well n u f pushed lo t (node s (call g es)) knows h few room =
       call_well n f (named g) (outcome_of f (type_in s)) g es _ _ _ (λ k is. callee_known n u f g k knows h.2 is)
-      (λ none_named. expr_well n u f pushed lo g knows h.2 few (omega (arith, room, unnamed (named g) (uses g) none_named)))
+      (λ none_named. expr_well n u f pushed lo Value g knows h.2 few tt (omega (arith, room, unnamed (named g) (uses None g) none_named)))
       (args_well n u f pushed lo (is_fast (bare g)) es knows h.5 few (omega (arith, room)))
-      (λ none_named. args_well n u f (more pushed 2) (lo + uses g) (is_fast (bare g)) es knows h.5 (omega arith) (omega (arith, room, unnamed (named g) (uses g) none_named)))
+      (λ none_named. args_well n u f (more pushed 2) (lo + uses None g) (is_fast (bare g)) es knows h.5 (omega arith) (omega (arith, room, unnamed (named g) (uses None g) none_named)))
   called_well n u f pushed lo t (node s _) knows h few room = absurd h
 
   -- an argument or a returned value
-  pub given_well : (n : ℕ) (u : UnitTy) (f : Framed) (pushed lo : ℕ) (e : Typed) → Knows f u n → IsGiven u e → pushed < 2 ^ 16 → lo + uses e ≤ 2 ^ 32 → AllWell n (expr_code f pushed lo e)
+  pub given_well : (n : ℕ) (u : UnitTy) (f : Framed) (pushed lo : ℕ) (e : Typed) → Knows f u n → IsGiven u e → pushed < 2 ^ 16 → lo + uses None e ≤ 2 ^ 32 → AllWell n (expr_code f pushed lo Value e)
   given_well n u f pushed lo (node t (pack e)) knows h few room =
       let place : Place = place_of f pushed e in
-      well_append n (target_code place (expr_code f pushed lo e)) _ (target_well n place (expr_code f pushed lo e) (expr_well n u f pushed lo e knows h.0 few room)) (bytes_well n place (extent_by (type_bytes f (type_in t))) (place_well n u f pushed e knows h.0))
-  given_well n u f pushed lo (node t e) knows h few room = node_well n u f pushed lo t e knows h.0 few room
+      well_append n (target_code place (expr_code f pushed lo Value e)) _ (target_well n place (expr_code f pushed lo Value e) (expr_well n u f pushed lo Value e knows h.0 few tt room)) (bytes_well n place (extent_by (type_bytes f (type_in t))) (place_well n u f pushed e knows h.0))
+  given_well n u f pushed lo (node t e) knows h few room = node_well n u f pushed lo Value t e knows h.0 few tt room
 
   args_well : (n : ℕ) (u : UnitTy) (f : Framed) (pushed lo : ℕ) (fast : Bool) (es : Nodes) → Knows f u n → AreTyped u es → pushed < 2 ^ 16 → lo + args_uses es ≤ 2 ^ 32 → AllWell n (args_code f pushed lo fast es)
   args_well n u f pushed lo fast none knows h few room = well_none n
   args_well n u f pushed lo fast (some e es) knows h few room =
       let kept : Bool = stays fast es in
       let size : ℕ = passed_size f e in
-      well_append n (expr_code f pushed lo e) _ (given_well n u f pushed lo e knows h.0 few (omega (arith, room))) (well_append n (argument_code kept size) _ (argument_well n kept size) (args_well n u f (more pushed (argument_bytes kept size)) (lo + uses e) fast es knows h.1 (omega arith) (omega (arith, room))))
+      well_append n (expr_code f pushed lo Value e) _ (given_well n u f pushed lo e knows h.0 few (omega (arith, room))) (well_append n (argument_code kept size) _ (argument_well n kept size) (args_well n u f (more pushed (argument_bytes kept size)) (lo + uses None e) fast es knows h.1 (omega arith) (omega (arith, room))))

@@ -4,6 +4,8 @@ pub mod Entries
 pub mod Lists
 pub mod Known
 pub mod Places
+pub mod Directs
+pub mod Forms
 pub mod Exprs
 pub mod Moves
 pub mod Objects

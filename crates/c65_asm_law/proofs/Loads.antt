@@ -64,7 +64,7 @@ add_width_well n Eax kind m = record { all = search rules }
 pub add_well : (n : ℕ) (kind : IntType) (m : ℕ) → AllWell n (add_code kind m)
 add_well n kind m = add_width_well n (width_of kind) kind m
 
-mask_well : (n m : ℕ) → AllWell n (mask_code m)
+pub mask_well : (n m : ℕ) → AllWell n (mask_code m)
 mask_well n m = record { all = search rules }
 
 by_well : (n : ℕ) (op : TosOp) (m : ℕ) → AllWell n (by_code op m)

@@ -5,7 +5,6 @@ use Rattle.std.proofs.lemmas.Bool.{leb-true}
 use Rattle.c65_csem.specs.Trees.{Typed, UnitTy}
 use Rattle.c65_csem.specs.Typed.{IsTyped, IsGiven}
 use Rattle.c65_csem.specs.Places.{is_tag}
-use Rattle.c65_mach.specs.declared.rows.Op.{Op}
 use Rattle.c65_mach.specs.declared.rows.Op.TheVariants.{Sta, Stx}
 use Rattle.c65_code.specs.declared.line.Line.{Line}
 use Rattle.c65_code.specs.Segments.{Drafted}
@@ -14,7 +13,6 @@ use Rattle.c65_genframe.specs.declared.home.Home.TheVariants as homes
 use Rattle.c65_genframe.specs.Frames.{Framed, home_of, type_bytes}
 use Rattle.c65_genframe.specs.Symbols.{numbers_of, object_symbol}
 use Rattle.c65_genwide.specs.Lines.{with_lines}
-use Rattle.c65_genwide.specs.Wide.{width_of}
 use Rattle.c65_genload.specs.declared.places.Access.{Access}
 use Rattle.c65_genload.specs.declared.places.Access.TheVariants.{Whole}
 use Rattle.c65_genload.specs.declared.places.Place.TheVariants as places
@@ -22,17 +20,18 @@ use Rattle.c65_genload.specs.Stores.{store_code}
 use Rattle.c65_genload.specs.Conversions.{size_of}
 use Rattle.c65_genexpr.specs.Types.{bare, kind_in}
 use Rattle.c65_genexpr.specs.Uses.{uses}
-use Rattle.c65_genexpr.specs.Code.{expr_code, test_in}
-use Rattle.c65_genentry.specs.Words.{ptr1, ptr2, zero_page, branch, with_code}
+use Rattle.c65_genexpr.specs.declared.wanted.Wanted.TheVariants.{Value, Test}
+use Rattle.c65_genexpr.specs.Code.{expr_code}
+use Rattle.c65_genentry.specs.Words.{ptr1, ptr2, zero_page, with_code}
 use Rattle.c65_genentry.specs.Pointers as pointers
 use Rattle.c65_genentry.specs.Bytes.{block_labels}
 use Rattle.c65_genentry.specs.Bytes as blocks
 use Rattle.c65_genstmt.specs.declared.objects.Spot.{Spot}
 use Rattle.c65_genstmt.specs.declared.objects.Spot.TheVariants.{Bank, Soft, Data}
-use Rattle.c65_genstmt.specs.Jumps.{with_value, with_condition}
+use Rattle.c65_genstmt.specs.Jumps.{with_value, with_test}
 use Rattle.c65_genstmt.specs.Objects.{spot_at, spot_of, point_code, stored_code, with_copied, with_kept, with_set, with_zeros}
 use Rattle.c65_asm_law.proofs.Well.{AllWell, well_append, well_none}
-use Rattle.c65_asm_law.proofs.Loads.{test_well, store_well}
+use Rattle.c65_asm_law.proofs.Loads.{store_well}
 use Rattle.c65_asm_law.proofs.Known.{Knows}
 use Rattle.c65_asm_law.proofs.Exprs.{expr_well, given_well}
 use Rattle.c65_asm_law.proofs.Entries.{near_well, far_store_well, bank_clear_well, clear_well, copy_well}
@@ -40,16 +39,13 @@ use Rattle.c65_asm_law.proofs.Entries.{near_well, far_store_well, bank_clear_wel
 -- ---- values
 
 pub value_well : (n : ℕ) (u : UnitTy) (f : Framed) (e : Typed) (d : Drafted) → Knows f u n → IsTyped u e → (with_value f e d).labels ≤ 2 ^ 32 → AllWell n d.lines → AllWell n (with_value f e d).lines
-value_well n u f e d knows typed few h = well_append n d.lines (expr_code f 0 d.labels e) h (expr_well n u f 0 d.labels e knows typed (omega arith) few)
+value_well n u f e d knows typed few h = well_append n d.lines (expr_code f 0 d.labels Value e) h (expr_well n u f 0 d.labels Value e knows typed (omega arith) tt few)
 
 pub returned_well : (n : ℕ) (u : UnitTy) (f : Framed) (e : Typed) (d : Drafted) → Knows f u n → IsGiven u e → (with_value f e d).labels ≤ 2 ^ 32 → AllWell n d.lines → AllWell n (with_value f e d).lines
-returned_well n u f e d knows given few h = well_append n d.lines (expr_code f 0 d.labels e) h (given_well n u f 0 d.labels e knows given (omega arith) few)
+returned_well n u f e d knows given few h = well_append n d.lines (expr_code f 0 d.labels Value e) h (given_well n u f 0 d.labels e knows given (omega arith) few)
 
-pub condition_well : (n : ℕ) (u : UnitTy) (f : Framed) (op : Op) (to : ℕ) (e : Typed) (d : Drafted) → Knows f u n → IsTyped u e → to < 2 ^ 32 → d.labels + uses e ≤ 2 ^ 32 → AllWell n d.lines → AllWell n (with_condition f op to e d).lines
-condition_well n u f op to e d knows typed low few h =
-    let v : Drafted = with_value f e d in
-    let t : Drafted = with_lines v (test_in e) in
-    well_append n t.lines (branch op to ∷ []) (well_append n v.lines (test_in e) (value_well n u f e d knows typed few h) (test_well n (width_of (kind_in e)))) (record { all = ((tt, low), tt) })
+pub test_well : (n : ℕ) (u : UnitTy) (f : Framed) (to : ℕ) (s : Bool) (e : Typed) (d : Drafted) → Knows f u n → IsTyped u e → to < 2 ^ 32 → d.labels + uses (Some s) e ≤ 2 ^ 32 → AllWell n d.lines → AllWell n (with_test f to s e d).lines
+test_well n u f to s e d knows typed low few h = well_append n d.lines (expr_code f 0 d.labels (Test to s) e) h (expr_well n u f 0 d.labels (Test to s) e knows typed (omega arith) low few)
 
 -- ---- where a byte of an object lies
 

@@ -41,7 +41,7 @@ use Rattle.c65_genexpr.specs.declared.types.Outcome.{Outcome}
 use Rattle.c65_genexpr.specs.declared.types.Outcome.TheVariants.{Nothing, Number, Area}
 use Rattle.c65_genexpr.specs.Types.{bare, offset_at, given_bytes}
 use Rattle.c65_genexpr.specs.Places.{more, near, soft_place, place_at, moved, place_of, soft_code, code_at, object_code, rest_code}
-use Rattle.c65_genexpr.specs.Operands.{computes, between_code, difference_code, behind_code, unary_code, conversion_code, negative, scaled, short_code}
+use Rattle.c65_genexpr.specs.Operands.{computes, between_code, difference_code, behind_code, unary_code, conversion_code, negative}
 use Rattle.c65_genexpr.specs.Steps.{is_post, back_code, after_code, step_code, open_code, close_code}
 use Rattle.c65_genexpr.specs.Spills.{kept_code, first_code, further_code, again_code, spill_code}
 use Rattle.c65_genexpr.specs.Arguments.{reads_of, argument_code}
@@ -130,7 +130,6 @@ conversion_well n (function g) from = convert_well n from ints.UInt
 pub unary_well : (n : ℕ) (op : UnaryOp) (w : Width) → AllWell n (unary_code op w)
 unary_well n unary.Neg w = record { all = (tt, tt) }
 unary_well n unary.BitNot w = record { all = (tt, tt) }
-unary_well n unary.Not w = record { all = (tt, tt) }
 unary_well n _ w = well_none n
 
 pub between_well : (n : ℕ) (operands : Operands) → AllWell n (between_code operands)
@@ -148,10 +147,6 @@ behind_well n op (Numbers kind) right = well_append n (convert_code right kind) 
 behind_well n op (PointerFirst size) right = well_append n (scale_code size) (wide_code op ints.UInt) (scale_well n size) (wide_well n op ints.UInt)
 behind_well n op (PointerLast size) right = wide_well n op ints.UInt
 behind_well n op (Pointers size) right = well_append n (wide_code op ints.UInt) (difference_code op size) (wide_well n op ints.UInt) (difference_well n op size)
-
-pub short_well : (n : ℕ) (op : BinaryOp) (operands : Operands) (m : ℕ) → AllWell n (short_code op operands m)
-short_well n ops.Sub operands m = add_well n (computes operands) (negative (scaled operands m))
-short_well n _ operands m = add_well n (computes operands) (scaled operands m)
 
 -- ---- assignments
 

@@ -131,11 +131,8 @@ fn library_result(alloc: Global, signed_chars: bool, function: Library) -> Resul
     ensures { IfOk result (λ q. qty_of q ≡ library.library_result signed_chars function) }
 {
     match function {
-        Library::Putchar
-        | Library::Getchar
-        | Library::Puts
-        | Library::Strcmp
-        | Library::Printf => Ok(number()),
+        Library::Putchar | Library::Getchar | Library::Puts | Library::Strcmp | Library::Printf =>
+            Ok(number()),
         Library::Exit => Ok(nothing()),
         Library::Memcpy | Library::Memset => bytes(alloc, false),
         Library::Strcpy => text(alloc, false, signed_chars),

@@ -8,7 +8,7 @@ use Rattle.c65_code.specs.declared.routine.Routine.{Routine}
 use Rattle.c65_code.specs.declared.routine.Routine.TheVariants as routines
 use Rattle.c65_genframe.specs.Frames.{Framed}
 use Rattle.c65_gen_law_lines.specs.Stack.{Waiting, waiting_by, left, called, by_routine, by_line, waits}
-use Rattle.c65_gen_law_lines.proofs.StackPieces.{Leaves}
+use Rattle.c65_gen_law_lines.proofs.Leaves.{Leaves}
 use Rattle.c65_gen_law_calls.specs.Sites.{Site}
 use Rattle.c65_gen_law_calls.specs.Lines.{is_library, is_calling, callings, line_of, lines_of}
 

@@ -62,7 +62,7 @@ use Rattle.c65_gen_law_stack.proofs.EvenLines.{Labels, No, One, Even, even_label
 use Rattle.c65_gen_law_stack.proofs.EvenShifts.{elements_even}
 use Rattle.c65_gen_law_stack.proofs.EvenDirects.{byte_even, compare_even, compare_byte_even, zero_test_even, truth_even}
 use Rattle.c65_gen_law_stack.proofs.EvenForms.{value_test_even, routine_test_even, constant_even, form_even}
-use Rattle.c65_gen_law_stack.proofs.ReadSides.{Passes, known_passes, kept_known, First, Compared, comparing_passes, Operated, operating_passes}
+use Rattle.c65_gen_law_stack.proofs.ReadSides.{Reaches, known_reached, kept_known, First, Compared, comparing_reached, Operated, operating_reached}
 use Rattle.c65_gen_law_calls.specs.Sites.{Site, site_by, unless_named, sites_of, node_sites, args_sites}
 use Rattle.c65_gen_law_calls.specs.Lines.{is_calling, named_line, line_by, line_of}
 use Rattle.c65_gen_law_calls.specs.Found.{ExpressionsCallInOrder}
@@ -70,7 +70,7 @@ use Rattle.c65_gen_law_calls.proofs.Callings.{Free, free_leaves, free_append, fr
 
 -- ---- operands that are read where they lie
 
-no_site : Passes (λ e. sites_of e ≡ [])
+no_site : Reaches (λ e. sites_of e ≡ [])
 no_site = record {
   constant = λ t z. refl;
   null = λ t. refl;
@@ -85,7 +85,7 @@ no_site = record {
 }
 
 known_sites : (f : Framed) (pushed : ℕ) (e : Typed) → IsKnown (place_of f pushed e) → sites_of e ≡ []
-known_sites f pushed e h = known_passes no_site f pushed e h
+known_sites f pushed e h = known_reached no_site f pushed e h
 
 target_has : {f : Framed} {ss : List Site} {code : List Line} (p : Place) → (IsKnown p → ss ≡ []) → Has f ss code → Has f ss (target_code p code)
 target_has places.Far h d = d
@@ -257,13 +257,13 @@ mutual
       let bytes : ℕ = waiting (width_of (computes operands)) in
       let operator : Operating = operating_of f pushed op operands a b in
       relation_has (relation_of op)
-      (wanted_has w (width_in t) (operator_has operator op operands (kind_in b) lo (operating_passes no_site f pushed op operands a b) (expr_has f pushed (lo + 1) Value a) (expr_has f (below_operand operator pushed bytes) (lo + 1 + uses None a) Value b)))
+      (wanted_has w (width_in t) (operator_has operator op operands (kind_in b) lo (operating_reached no_site f pushed op operands a b) (expr_has f pushed (lo + 1) Value a) (expr_has f (below_operand operator pushed bytes) (lo + 1 + uses None a) Value b)))
       (λ r.
       let q : Relation = relation_by (sense w) r in
       let how : Comparing = comparing_of f pushed q (computes operands) a b in
       let to : ℕ = aimed w lo in
       let own : ℕ = inner w lo in
-      truth_has w lo (comparison_has how op operands (kind_in b) (sense w) to own (comparing_passes no_site f pushed q (computes operands) a b)
+      truth_has w lo (comparison_has how op operands (kind_in b) (sense w) to own (comparing_reached no_site f pushed q (computes operands) a b)
       (expr_has f pushed (own + 1) (wanted_by (tested_by q b) to) a) (expr_has f (below_side how pushed bytes) (own + 1 + uses (tested_by q b) a) (wanted_by (tested_by q a) to) b)))
   node_has f pushed lo w t (both a b) =
       let straight : Bool = not (sense w) in

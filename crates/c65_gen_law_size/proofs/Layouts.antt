@@ -1,16 +1,11 @@
 -- What an image takes with the zeros behind its file.
-use Rattle.std.proofs.Common.{◌≡◌, ℕ, ◌+◌, ◌-◌, ◌≤◌, ◌<◌, ◌&&◌, Bool, true, false, nat_lt, if◌then◌else◌, List, [], ◌∷◌, ◌++◌, Option, Some, None, Result, Ok, Err, length, refl, subst, ◌∙◌, arith, ltb-true}
+use Rattle.std.proofs.Common.{◌≡◌, ℕ, ◌+◌, ◌-◌, ◌≤◌, ◌<◌, Bool, true, false, nat_lt, if◌then◌else◌, List, [], ◌∷◌, Option, Some, None, Result, Ok, Err, length, refl, subst, ◌∙◌, arith, ltb-true}
 use Rattle.std.proofs.Math.Nat.{min-le_left}
 use Rattle.c65_base.specs.declared.refusal.Size.TheVariants as limits
 use Rattle.c65_base.specs.Limits.{limit_of}
 use Rattle.c65_mach.specs.declared.image.Image.{Image}
 use Rattle.c65_code.specs.declared.routine.Routine.{Routine}
-use Rattle.c65_code.specs.declared.routine.Routine.TheVariants as routines
-use Rattle.c65_code.specs.declared.routine.Width.TheVariants.{Ax}
-use Rattle.c65_code.specs.declared.routine.UnaryRoutine.TheVariants.{Neg, Compl, Shl1, Shr1, Asr1}
-use Rattle.c65_code.specs.declared.line.Callee.TheVariants as callees
 use Rattle.c65_code.specs.declared.line.Line.{Line}
-use Rattle.c65_code.specs.declared.line.Line.TheVariants.{Label, Do, Call}
 use Rattle.c65_code.specs.declared.line.Sym.{Sym}
 use Rattle.c65_code.specs.declared.code.Code.{Code}
 use Rattle.c65_code.specs.declared.code.Datum.{Datum}
@@ -19,15 +14,13 @@ use Rattle.c65_code.specs.declared.code.DatumKind.TheVariants.{Data, Const, Zero
 use Rattle.c65_code.specs.declared.code.DataCell.{DataCell}
 use Rattle.c65_code.specs.Segments.{Segment}
 use Rattle.c65_code.specs.Placement.{cell_size, cells_size, size_of_datum, program_start}
-use Rattle.c65_code.specs.Weights.{functions_size, extent_of, lines_size, routine_size}
-use Rattle.c65_code.specs.Weights.{line_size as extent_of_line}
+use Rattle.c65_code.specs.Weights.{functions_size, extent_of, lines_size}
 use Rattle.c65_link.specs.declared.symbols.Target.{Target}
 use Rattle.c65_link.specs.declared.symbols.Target.TheVariants as targets
 use Rattle.c65_code.specs.declared.routine.TheConstants.Routine.{ALL}
 use Rattle.c65_link.specs.Bodies.{Body, with_line, body_of, far_labels, far_size, line_size, plus}
 use Rattle.c65_link.specs.Bodies.{with_lines as body_with}
-use Rattle.c65_link.specs.Runtime.{Chosen, is_marked, has_lines, with_calls, routine_lines, with_routine, chosen_by, no_marks}
-use Rattle.c65_link.specs.Runtime.{with_routines as chosen_with}
+use Rattle.c65_link.specs.Runtime.{with_calls, routine_lines, no_marks}
 use Rattle.c65_link.specs.Layouts.{Layout, empty_layout, with_lines, with_function, with_functions, with_target, with_targets, cells_end, with_data, with_zeros, with_all_data, with_all_zeros, code_layout, layout_of}
 use Rattle.c65_link.specs.Layouts as layouts
 use Rattle.c65_link.specs.Symbols.{targets_of, missing_of, with_code_uses}

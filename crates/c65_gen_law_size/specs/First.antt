@@ -1,5 +1,5 @@
 -- The first function of a program whose frame is too large.
-use Rattle.std.specs.Prelude.{◌≡◌, ℕ, ◌<◌, Bool, Some, IsSome, Ok, Err, List, slice_get}
+use Rattle.std.specs.Prelude.{◌≡◌, ℕ, ◌<◌, Some, IsSome, Ok, Err, List, slice_get}
 use Rattle.c65_base.specs.declared.refusal.Size.TheVariants.{Frame}
 use Rattle.c65_base.specs.Answers.{Fault, large}
 use Rattle.c65_csem.specs.declared.items.Parts.{Parts}

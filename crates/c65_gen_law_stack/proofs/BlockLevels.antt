@@ -22,7 +22,8 @@ use Rattle.c65_genstmt.specs.Objects.{point_code, stored_code}
 use Rattle.c65_gen_law_lines.proofs.Made.{is_plain}
 use Rattle.c65_gen_law_lines.proofs.Puts.{one_same}
 use Rattle.c65_gen_law_lines.proofs.Others.{laid}
-use Rattle.c65_gen_law_lines.proofs.StackPieces.{Leaves, leaves_then, leaves_none, leaves_if, Still, stored_leaves}
+use Rattle.c65_gen_law_lines.proofs.Leaves.{Leaves, leaves_then, leaves_none, leaves_if, Still}
+use Rattle.c65_gen_law_lines.proofs.StackPieces.{stored_leaves}
 use Rattle.c65_gen_law_stack.proofs.Levels.{Level, Nowhere, There, level_then, level_end, level_piece, level_none, level_label, level_leads, Closed, closed_then}
 
 -- ---- loops over bytes

@@ -28,13 +28,9 @@ use Rattle.c65_gendirect.specs.Compare.{lowest_code, difference_code, by_carry, 
 use Rattle.c65_gendirect.specs.Tests.{or_code, all_zero_code, zero_test_code, truth_code}
 use Rattle.c65_gendirect.specs.Words.{instruction, carry_code, first_byte_code, both_bytes_code, onward_code, end_label, is_and, is_number, word_code, sum_code, add_number_code, taken_from_code, long_mask_code}
 use Rattle.c65_gen_law_stack.specs.Bank.{lies_outside}
-use Rattle.c65_gen_law_stack.proofs.EvenLines.{Labels, No, One, Even, even_end, even_then, even_label, even_if, even_on, even_close, even_branch, is_bare, even_lines, even_labelled}
+use Rattle.c65_gen_law_stack.proofs.EvenLines.{Labels, No, One, Even, even_end, even_then, even_label, even_if, even_on, even_close, IsReader, even_branch, is_bare, even_lines, even_labelled}
 
 -- ---- a byte
-
--- an operation that writes nothing
-abbrev pub IsReader : Op → Type 0
-IsReader op = is_written (kind_of op) ≡ false
 
 reader_bare : (op : Op) (mode : Mode) (o : Operand) → IsReader op → not (is_to o) ≡ true → is_bare (Do op mode o) ≡ true
 reader_bare op mode o r plain = and_from (not (is_to o)) (not (is_written (kind_of op)) || lies_outside mode o) plain (ap (λ (b : Bool). not b || lies_outside mode o) r)

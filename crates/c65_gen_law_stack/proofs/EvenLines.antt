@@ -15,7 +15,7 @@ use Rattle.c65_code.specs.Access.{is_written}
 use Rattle.c65_mach.specs.Step.{kind_of}
 use Rattle.c65_genload.specs.Words.{branch}
 use Rattle.c65_gen_law_lines.proofs.Made.{is_plain}
-use Rattle.c65_gen_law_lines.proofs.StackPieces.{Still, leaves_none}
+use Rattle.c65_gen_law_lines.proofs.Leaves.{Still, leaves_none}
 use Rattle.c65_gen_law_stack.specs.Bank.{lies_outside}
 use Rattle.c65_gen_law_stack.proofs.Levels.{Level, level_then, level_end, level_piece, level_label, level_leads}
 use Rattle.c65_gen_law_stack.proofs.BankPieces.{Clear, clear_then, clear_none}
@@ -62,14 +62,11 @@ even_piece still plain clear = record { level = λ v. level_end (level_piece (st
 pub even_label : {X : Labels} (k : ℕ) → Even (One k) X (Label k ∷ [])
 even_label k = record { level = λ v. level_label k v; clear = record { all = refl } }
 
-pub even_open : {X : Labels} {a : List Line} → Even No No a → Even No X a
-even_open p = even_end p (λ l z. z) (λ l z. absurd z)
-
 pub even_if : {P X : Labels} (b : Bool) {x y : List Line} → Even P X x → Even P X y → Even P X (if b then x else y)
 even_if true p q = p
 even_if false p q = q
 
--- two closed forms, and one that only leads elsewhere
+-- lines behind others, where no label of theirs is named any more
 pub even_on : {X : Labels} {a b : List Line} → Even No X a → Even No X b → Even No X (a ++ b)
 even_on p q = even_end (even_then p q) (λ l z. absurd z) (λ l z. inr z)
 
@@ -88,11 +85,11 @@ leads_even {X = X} op mode k x clear = record {
   clear = clear;
 }
 
--- an operation that branches
-abbrev pub IsBranch : Op → Type 0
-IsBranch op = is_written (kind_of op) ≡ false
+-- an operation that writes nothing
+abbrev pub IsReader : Op → Type 0
+IsReader op = is_written (kind_of op) ≡ false
 
-pub even_branch : {X : Labels} (op : Op) (k : ℕ) → IsBranch op → X k → Even No X (branch op k ∷ [])
+pub even_branch : {X : Labels} (op : Op) (k : ℕ) → IsReader op → X k → Even No X (branch op k ∷ [])
 even_branch op k plain x = leads_even op Relative k x (record { all = ap (λ (b : Bool). (not b || lies_outside Relative (To k)) && true) plain })
 
 pub even_jump : {X : Labels} (k : ℕ) → X k → Even No X (Do Jmp Absolute (To k) ∷ [])

@@ -66,14 +66,15 @@ use Rattle.c65_genexpr.specs.Code.{target_code, width_in, tested_load, load_by, 
 use Rattle.c65_gen_law_lines.specs.Stack.{waiting_by, taken, left, waits, argument_bytes, passed, unless_named, calls_of, node_calls, args_calls}
 use Rattle.c65_gen_law_lines.proofs.Made.{is_plain}
 use Rattle.c65_gen_law_lines.proofs.Pieces.{symbol_piece, offset_piece, object_piece, conversion_piece, push_piece, argument_piece, hold_piece, part_piece, load_piece, store_piece, copy_piece, spill_piece, further_piece, unary_piece, between_piece, behind_piece, wide_piece, step_piece, open_piece, close_piece, named_piece, pointer_piece, direct_piece}
-use Rattle.c65_gen_law_lines.proofs.StackPieces.{waits_append, Leaves, leaves_then, leaves_none, Still, narrow_still, object_still, further_still, offset_still, conversion_still, push_leaves, argument_leaves, holding, hold_leaves, bytes_still, load_still, stored_leaves, copy_leaves, spill_still, unary_still, between_leaves, behind_leaves, wide_leaves, step_still, open_leaves, close_leaves}
+use Rattle.c65_gen_law_lines.proofs.Leaves.{waits_append, Leaves, leaves_then, leaves_none, Still}
+use Rattle.c65_gen_law_lines.proofs.StackPieces.{narrow_still, object_still, further_still, offset_still, conversion_still, push_leaves, argument_leaves, holding, hold_leaves, bytes_still, load_still, stored_leaves, copy_leaves, spill_still, unary_still, between_leaves, behind_leaves, wide_leaves, step_still, open_leaves, close_leaves}
 use Rattle.c65_gen_law_lines.proofs.StackLaws.{nothing_more}
 use Rattle.c65_gen_law_stack.proofs.Levels.{Level, Nowhere, level_then, level_end, level_behind, level_plain, level_piece, level_none, Closed, closed_open, closed_then, closed_behind, closed_as}
 use Rattle.c65_gen_law_stack.proofs.EvenLines.{Labels, No, One, Both, At, Even, even_end, even_label, even_jump, even_lines}
 use Rattle.c65_gen_law_stack.proofs.EvenShifts.{elements_even}
 use Rattle.c65_gen_law_stack.proofs.EvenDirects.{byte_even, compare_even, compare_byte_even, zero_test_even, truth_even}
 use Rattle.c65_gen_law_stack.proofs.EvenForms.{Aim, value_test_even, routine_test_even, constant_even, form_even}
-use Rattle.c65_gen_law_stack.proofs.ReadSides.{Passes, known_passes, kept_known, direct_passes, First, Compared, compared_passes, tested_passes, Operated, operating_passes}
+use Rattle.c65_gen_law_stack.proofs.ReadSides.{Reaches, known_reached, kept_known, direct_reached, First, Compared, compared_reached, tested_reached, Operated, operating_reached}
 
 -- a piece of lines behind closed ones, and before
 behind : {cs : List (List ℕ)} {v u t : List ℕ} {a b : List Line} → Closed cs v a u → Leaves u b t → list_all is_plain b ≡ true → Closed cs v (a ++ b) t
@@ -84,7 +85,7 @@ before p plain q = closed_then (level_piece p plain) q
 
 -- ---- operands that are read where they lie
 
-no_calls : (f : Framed) → Passes (λ e. calls_of f e ≡ [])
+no_calls : (f : Framed) → Reaches (λ e. calls_of f e ≡ [])
 no_calls f = record {
   constant = λ t z. refl;
   null = λ t. refl;
@@ -99,7 +100,7 @@ no_calls f = record {
 }
 
 known_calls : (f : Framed) (pushed : ℕ) (e : Typed) → IsKnown (place_of f pushed e) → calls_of f e ≡ []
-known_calls f pushed e h = known_passes (no_calls f) f pushed e h
+known_calls f pushed e h = known_reached (no_calls f) f pushed e h
 
 target_level : {cs : List (List ℕ)} {v : List ℕ} {code : List Line} (p : Place) → (IsKnown p → cs ≡ []) → Closed cs v code v → Closed cs v (target_code p code) v
 target_level places.Far h d = d
@@ -269,8 +270,7 @@ converted_level : {cs : List (List ℕ)} {v : List ℕ} {a : List Line} (t : Ty)
 converted_level {v = v} t from p = behind p (conversion_still t from v) (conversion_piece t from).plain
 
 conversion_level : {cs : List (List ℕ)} {v : List ℕ} {a : List Line} (w : Wanted) (same : Bool) (t : Ty) (from : IntType) → Aimed (handed same w) cs v a → Aimed w cs v (conversion_by w same t from a)
-conversion_level Value true t from p = leading_closed (converted_level t from (closed_value p))
-conversion_level Value false t from p = leading_closed (converted_level t from (closed_value p))
+conversion_level Value same t from p = leading_closed (converted_level t from (closed_value p))
 conversion_level (Test to s) true t from p = p
 conversion_level (Test to s) false t from p = wanted_level (Test to s) (width_of (kind_of t)) (converted_level t from (closed_value p))
 
@@ -386,7 +386,7 @@ mutual
       let bytes : ℕ = waiting (width_of (computes operands)) in
       let operator : Operating = operating_of f pushed op operands a b in
       relation_level w (relation_of op)
-      (wanted_level w (width_in t) (operator_level operator op operands (kind_in b) lo (operating_passes (no_calls f) f pushed op operands a b) (value_level f pushed (lo + 1) a) (value_level f (below_operand operator pushed bytes) (lo + 1 + uses None a) b)))
+      (wanted_level w (width_in t) (operator_level operator op operands (kind_in b) lo (operating_reached (no_calls f) f pushed op operands a b) (value_level f pushed (lo + 1) a) (value_level f (below_operand operator pushed bytes) (lo + 1 + uses None a) b)))
       (λ r.
       let q : Relation = relation_by (sense w) r in
       let kind : IntType = computes operands in
@@ -394,8 +394,8 @@ mutual
       let to : ℕ = aimed w lo in
       let own : ℕ = inner w lo in
       let compared : Comparing = compared_by q (is_byte a && is_byte b) kind (is_pure b) (direct_of f pushed a) (direct_of f pushed b) in
-      let given : Compared (calls_of f a ≡ []) (calls_of f b ≡ []) compared = compared_passes (calls_of f a ≡ []) (calls_of f b ≡ []) q (is_byte a && is_byte b) kind (is_pure b) (direct_of f pushed a) (direct_of f pushed b) (direct_passes (no_calls f) f pushed a) (direct_passes (no_calls f) f pushed b) in
-      truth_level w lo (comparison_level (tested_by q b) (tested_by q a) compared op operands (kind_in b) (sense w) to own (tested_passes (no_calls f) q b) (tested_passes (no_calls f) q a) given
+      let given : Compared (calls_of f a ≡ []) (calls_of f b ≡ []) compared = compared_reached (calls_of f a ≡ []) (calls_of f b ≡ []) q (is_byte a && is_byte b) kind (is_pure b) (direct_of f pushed a) (direct_of f pushed b) (direct_reached (no_calls f) f pushed a) (direct_reached (no_calls f) f pushed b) in
+      truth_level w lo (comparison_level (tested_by q b) (tested_by q a) compared op operands (kind_in b) (sense w) to own (tested_reached (no_calls f) q b) (tested_reached (no_calls f) q a) given
       (expr_level f pushed (own + 1) (wanted_by (tested_by q b) to) a) (expr_level f (below_side how pushed bytes) (own + 1 + uses (tested_by q b) a) (wanted_by (tested_by q a) to) b)))
   node_level f pushed lo w t (both a b) v =
       let straight : Bool = not (sense w) in

@@ -30,7 +30,7 @@ use Rattle.c65_gen_law_lines.proofs.ExprLaws.{expressions_own_their_labels}
 use Rattle.c65_gen_law_lines.proofs.FunctionLaws.{functions_are_segments}
 use Rattle.c65_gen_law_lines.proofs.Others.{names, names_in, others, others_are}
 use Rattle.c65_gen_law_lines.proofs.Puts.{one, one_same}
-use Rattle.c65_gen_law_lines.proofs.StackPieces.{Still, leaves_none}
+use Rattle.c65_gen_law_lines.proofs.Leaves.{Still, leaves_none}
 use Rattle.c65_gen_law_lines.proofs.StackLaws.{nothing_more}
 use Rattle.c65_gen_law_stack.specs.Heights.{ExpressionsAreLevel, TestsAreLevel, FunctionsAreLevel}
 use Rattle.c65_gen_law_stack.proofs.Levels.{level_end, level_behind, level_label, Closed, all_level, closed_lines}

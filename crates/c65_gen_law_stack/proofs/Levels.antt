@@ -12,7 +12,7 @@ use Rattle.c65_code.specs.Segments.{is_to, target_of}
 use Rattle.c65_gen_law_lines.specs.Stack.{Waiting, waiting_by, behind, waits}
 use Rattle.c65_gen_law_lines.specs.Labels.{times}
 use Rattle.c65_gen_law_lines.proofs.Made.{is_plain}
-use Rattle.c65_gen_law_lines.proofs.StackPieces.{waits_append, Leaves}
+use Rattle.c65_gen_law_lines.proofs.Leaves.{waits_append, Leaves}
 use Rattle.c65_gen_law_lines.proofs.StackLaws.{joined, nothing_more}
 use Rattle.c65_gen_law_stack.specs.Heights.{values_in, height_at, AreLevel}
 

@@ -1,4 +1,4 @@
--- What holds of each operand that is read where it lies.
+-- What holds of each operand that is read where it lies, as that it calls nothing.
 use Rattle.std.proofs.Common.{◌≡◌, ℕ, ◌&&◌, ◌||◌, Bool, true, false, Option, None, Some, IsSome, ℤ, refl}
 use Rattle.std.specs.Prelude.{if◌then◌else◌, is_some, option_and_then}
 use Rattle.c65_base.specs.declared.operators.BinaryOp.{BinaryOp}
@@ -30,10 +30,10 @@ use Rattle.c65_genexpr.specs.Operands.{residue_of, constant_in}
 use Rattle.c65_genexpr.specs.Direct.{kept_at, address_at, address_of, takes_bytes, converted_if, sides_of, direct_of, is_fixed, is_pure, is_byte}
 use Rattle.c65_genexpr.specs.Comparing.{is_zero, zero_sense, tested_by, is_raised, raised, one_more, range_of, meeting, beside, changes, compared_by, comparing_of}
 use Rattle.c65_genexpr.specs.Operating.{constant_form, word_in, right_form, left_form, constant_right, direct_right, direct_left, by_left, by_right, operating_of}
-use Rattle.c65_gen_law_lines.proofs.ExprLaws.{moved_known}
+use Rattle.c65_gen_law_lines.proofs.Drops.{moved_known}
 
 -- what holds of objects, constants and addresses, and with a tree of its parts, conversions and addresses
-pub record Passes (P : Typed → Type 0) : Type 0 where
+pub record Reaches (P : Typed → Type 0) : Type 0 where
   pub constant : (t : QTy) (z : ℤ) → P (node t (constant z))
   pub null : (t : QTy) → P (node t null)
   pub literal : (t : QTy) (n : ℕ) → P (node t (literal n))
@@ -51,10 +51,10 @@ some_then g (Some x) y e = (x, refl)
 
 -- ---- a value that is read where it lies
 
-pub known_passes : {P : Typed → Type 0} → Passes P → (f : Framed) (pushed : ℕ) (e : Typed) → IsKnown (place_of f pushed e) → P e
-known_passes p f pushed (node t (object i)) h = p.object t i
-known_passes p f pushed (node t (member e m)) h = p.member t e m (known_passes p f pushed e (moved_known (place_of f pushed e) (offset_at (types_of f.parts.types) (bare e) m) h))
-known_passes p f pushed (node t _) h = absurd h
+pub known_reached : {P : Typed → Type 0} → Reaches P → (f : Framed) (pushed : ℕ) (e : Typed) → IsKnown (place_of f pushed e) → P e
+known_reached p f pushed (node t (object i)) h = p.object t i
+known_reached p f pushed (node t (member e m)) h = p.member t e m (known_reached p f pushed e (moved_known (place_of f pushed e) (offset_at (types_of f.parts.types) (bare e) m) h))
+known_reached p f pushed (node t _) h = absurd h
 
 pub kept_known : (place : Place) (access : Access) (d : Direct) → kept_at place access ≡ Some d → IsKnown place
 kept_known places.Far access d e = absurd cc
@@ -68,36 +68,36 @@ address_known (places.Bank b) d e = absurd cc
 address_known (places.Near at) d e = absurd cc
 address_known (places.Data s at) d e = tt
 
-address_passes : {P : Typed → Type 0} → Passes P → (f : Framed) (pushed : ℕ) (e : Typed) (d : Direct) → address_of f pushed e ≡ Some d → P e
-address_passes p f pushed (node t (literal n)) d e = p.literal t n
-address_passes p f pushed (node t (func i)) d e = p.func t i
-address_passes p f pushed (node t (object i)) d e = p.object t i
-address_passes p f pushed (node t (member a m)) d e = known_passes p f pushed (node t (member a m)) (address_known (place_of f pushed (node t (member a m))) d e)
-address_passes p f pushed (node t _) d e = absurd cc
+address_reached : {P : Typed → Type 0} → Reaches P → (f : Framed) (pushed : ℕ) (e : Typed) (d : Direct) → address_of f pushed e ≡ Some d → P e
+address_reached p f pushed (node t (literal n)) d e = p.literal t n
+address_reached p f pushed (node t (func i)) d e = p.func t i
+address_reached p f pushed (node t (object i)) d e = p.object t i
+address_reached p f pushed (node t (member a m)) d e = known_reached p f pushed (node t (member a m)) (address_known (place_of f pushed (node t (member a m))) d e)
+address_reached p f pushed (node t _) d e = absurd cc
 
 conversion_some : (b : Bool) (kind : IntType) (o : Option Direct) (d : Direct) → converted_if b kind o ≡ Some d → (x : Direct) × (o ≡ Some x)
 conversion_some true kind o d e = some_then (converted kind) o d e
 conversion_some false kind o d e = absurd cc
 
-pub direct_passes : {P : Typed → Type 0} → Passes P → (f : Framed) (pushed : ℕ) (e : Typed) (d : Direct) → direct_of f pushed e ≡ Some d → P e
-direct_passes p f pushed (node t (constant z)) d e = p.constant t z
-direct_passes p f pushed (node t null) d e = p.null t
-direct_passes p f pushed (node t (load a)) d e = p.load t a (known_passes p f pushed a (kept_known (place_of f pushed a) (access_of (types_of f.parts.types) a) d e))
-direct_passes p f pushed (node t (address a)) d e = p.address t a (address_passes p f pushed a d e)
-direct_passes p f pushed (node t (decay a)) d e = p.decay t a (address_passes p f pushed a d e)
-direct_passes p f pushed (node t (convert a)) d e =
+pub direct_reached : {P : Typed → Type 0} → Reaches P → (f : Framed) (pushed : ℕ) (e : Typed) (d : Direct) → direct_of f pushed e ≡ Some d → P e
+direct_reached p f pushed (node t (constant z)) d e = p.constant t z
+direct_reached p f pushed (node t null) d e = p.null t
+direct_reached p f pushed (node t (load a)) d e = p.load t a (known_reached p f pushed a (kept_known (place_of f pushed a) (access_of (types_of f.parts.types) a) d e))
+direct_reached p f pushed (node t (address a)) d e = p.address t a (address_reached p f pushed a d e)
+direct_reached p f pushed (node t (decay a)) d e = p.decay t a (address_reached p f pushed a d e)
+direct_reached p f pushed (node t (convert a)) d e =
     let part = conversion_some (takes_bytes (type_in t) (bare a)) (kind_of (type_in t)) (direct_of f pushed a) d e in
-    p.convert t a (direct_passes p f pushed a part.0 part.1)
-direct_passes p f pushed (node t _) d e = absurd cc
+    p.convert t a (direct_reached p f pushed a part.0 part.1)
+direct_reached p f pushed (node t _) d e = absurd cc
 
-pub constant_passes : {P : Typed → Type 0} → Passes P → (e : Typed) (z : ℤ) → constant_in e ≡ Some z → P e
-constant_passes p (node t (constant z)) y e = p.constant t z
-constant_passes p (node t _) y e = absurd cc
+pub constant_reached : {P : Typed → Type 0} → Reaches P → (e : Typed) (z : ℤ) → constant_in e ≡ Some z → P e
+constant_reached p (node t (constant z)) y e = p.constant t z
+constant_reached p (node t _) y e = absurd cc
 
-zero_passes : {P : Typed → Type 0} → Passes P → (e : Typed) → is_zero e ≡ true → P e
-zero_passes p (node t (constant z)) e = p.constant t z
-zero_passes p (node t null) e = p.null t
-zero_passes p (node t _) e = absurd cc
+zero_reached : {P : Typed → Type 0} → Reaches P → (e : Typed) → is_zero e ≡ true → P e
+zero_reached p (node t (constant z)) e = p.constant t z
+zero_reached p (node t null) e = p.null t
+zero_reached p (node t _) e = absurd cc
 
 -- ---- comparisons
 
@@ -112,39 +112,39 @@ Compared A B (Byte side low r d) = First side B A × (IsSome low → First side 
 Compared A B (Whole side r is_signed d) = First side B A
 Compared A B Stacked = Unit {0}
 
-option_passes : {A B : Type 0} {C : Type 0} (g : A → Option B) (o : Option A) → ((x : A) → o ≡ Some x → C) → IsSome (option_and_then g o) → C
-option_passes g None h e = absurd cc
-option_passes g (Some x) h e = h x refl
+option_reached : {A B : Type 0} {C : Type 0} (g : A → Option B) (o : Option A) → ((x : A) → o ≡ Some x → C) → IsSome (option_and_then g o) → C
+option_reached g None h e = absurd cc
+option_reached g (Some x) h e = h x refl
 
-meeting_passes : (A B : Type 0) (side : Side) (r : Relation) (bytes : Bool) (kind : IntType) (first : Option Direct) (s : Option Sides) → ((d : Direct) → first ≡ Some d → First side A B) → First side B A → Compared A B (meeting side r bytes kind first s)
-meeting_passes A B side r bytes kind first None own other = tt
-meeting_passes A B side r true kind first (Some s) own other = (other, option_passes (λ d. byte_of d 0) first own)
-meeting_passes A B side r false kind first (Some s) own other = other
+meeting_reached : (A B : Type 0) (side : Side) (r : Relation) (bytes : Bool) (kind : IntType) (first : Option Direct) (s : Option Sides) → ((d : Direct) → first ≡ Some d → First side A B) → First side B A → Compared A B (meeting side r bytes kind first s)
+meeting_reached A B side r bytes kind first None own other = tt
+meeting_reached A B side r true kind first (Some s) own other = (other, option_reached (λ d. byte_of d 0) first own)
+meeting_reached A B side r false kind first (Some s) own other = other
 
 compared_if : (A B : Type 0) (b : Bool) (x y : Comparing) → Compared A B x → Compared A B y → Compared A B (if b then x else y)
 compared_if A B true x y p q = p
 compared_if A B false x y p q = q
 
-beside_passes : (A B : Type 0) (side : Side) (r : Relation) (bytes : Bool) (kind : IntType) (first second : Option Direct) → ((d : Direct) → first ≡ Some d → First side A B) → ((d : Direct) → second ≡ Some d → First side B A) → Compared A B (beside side r bytes kind first second)
-beside_passes A B side r bytes kind first None own other = tt
-beside_passes A B side r bytes kind first (Some d) own other =
+beside_reached : (A B : Type 0) (side : Side) (r : Relation) (bytes : Bool) (kind : IntType) (first second : Option Direct) → ((d : Direct) → first ≡ Some d → First side A B) → ((d : Direct) → second ≡ Some d → First side B A) → Compared A B (beside side r bytes kind first second)
+beside_reached A B side r bytes kind first None own other = tt
+beside_reached A B side r bytes kind first (Some d) own other =
     compared_if A B (is_raised r (range_of bytes kind) d) (meeting side (raised r) bytes kind first (sides_of (width_of kind) (one_more d))) (meeting side r bytes kind first (sides_of (width_of kind) d))
-    (meeting_passes A B side (raised r) bytes kind first (sides_of (width_of kind) (one_more d)) own (other d refl)) (meeting_passes A B side r bytes kind first (sides_of (width_of kind) d) own (other d refl))
+    (meeting_reached A B side (raised r) bytes kind first (sides_of (width_of kind) (one_more d)) own (other d refl)) (meeting_reached A B side r bytes kind first (sides_of (width_of kind) d) own (other d refl))
 
-pub compared_passes : (A B : Type 0) (r : Relation) (bytes : Bool) (kind : IntType) (pure : Bool) (a b : Option Direct) → ((d : Direct) → a ≡ Some d → A) → ((d : Direct) → b ≡ Some d → B) → Compared A B (compared_by r bytes kind pure a b)
-compared_passes A B r bytes kind pure a b pa pb =
+pub compared_reached : (A B : Type 0) (r : Relation) (bytes : Bool) (kind : IntType) (pure : Bool) (a b : Option Direct) → ((d : Direct) → a ≡ Some d → A) → ((d : Direct) → b ≡ Some d → B) → Compared A B (compared_by r bytes kind pure a b)
+compared_reached A B r bytes kind pure a b pa pb =
     compared_if A B (changes kind pure a b) (beside sides.Right (mirrored r) bytes kind b a) (beside sides.Left r bytes kind a b)
-    (beside_passes A B sides.Right (mirrored r) bytes kind b a pb pa) (beside_passes A B sides.Left r bytes kind a b pa pb)
+    (beside_reached A B sides.Right (mirrored r) bytes kind b a pb pa) (beside_reached A B sides.Left r bytes kind a b pa pb)
 
-pub tested_passes : {P : Typed → Type 0} → Passes P → (r : Relation) (e : Typed) → is_some (tested_by r e) ≡ true → P e
-tested_passes {P = P} p r e h = by (is_zero e) refl h
+pub tested_reached : {P : Typed → Type 0} → Reaches P → (r : Relation) (e : Typed) → is_some (tested_by r e) ≡ true → P e
+tested_reached {P = P} p r e h = by (is_zero e) refl h
   where
     by : (b : Bool) → is_zero e ≡ b → is_some (if b then zero_sense r else None) ≡ true → P e
-    by true z h = zero_passes p e z
+    by true z h = zero_reached p e z
     by false z h = absurd cc
 
-pub comparing_passes : {P : Typed → Type 0} → Passes P → (f : Framed) (pushed : ℕ) (r : Relation) (kind : IntType) (a b : Typed) → Compared (P a) (P b) (comparing_of f pushed r kind a b)
-comparing_passes {P = P} p f pushed r kind a b = by (is_some (tested_by r b)) (is_some (tested_by r a)) refl refl
+pub comparing_reached : {P : Typed → Type 0} → Reaches P → (f : Framed) (pushed : ℕ) (r : Relation) (kind : IntType) (a b : Typed) → Compared (P a) (P b) (comparing_of f pushed r kind a b)
+comparing_reached {P = P} p f pushed r kind a b = by (is_some (tested_by r b)) (is_some (tested_by r a)) refl refl
   where
     left : Option Direct
     left = direct_of f pushed a
@@ -153,9 +153,9 @@ comparing_passes {P = P} p f pushed r kind a b = by (is_some (tested_by r b)) (i
     right = direct_of f pushed b
 
     by : (x y : Bool) → is_some (tested_by r b) ≡ x → is_some (tested_by r a) ≡ y → Compared (P a) (P b) (if x then Truth sides.Left else (if y then Truth sides.Right else compared_by r (is_byte a && is_byte b) kind (is_pure b) left right))
-    by true y h k = tested_passes p r b h
-    by false true h k = tested_passes p r a k
-    by false false h k = compared_passes (P a) (P b) r (is_byte a && is_byte b) kind (is_pure b) left right (direct_passes p f pushed a) (direct_passes p f pushed b)
+    by true y h k = tested_reached p r b h
+    by false true h k = tested_reached p r a k
+    by false false h k = compared_reached (P a) (P b) r (is_byte a && is_byte b) kind (is_pure b) left right (direct_reached p f pushed a) (direct_reached p f pushed b)
 
 -- ---- operators
 
@@ -165,28 +165,28 @@ Operated A B (operating.Left form) = B
 Operated A B (operating.Right form) = A
 Operated A B operating.Stacked = Unit {0}
 
-right_passes : (A B : Type 0) (o : Option Form) (other : Operating) → ((x : Form) → o ≡ Some x → B) → Operated A B other → Operated A B (by_right o other)
-right_passes A B None other h rest = rest
-right_passes A B (Some x) other h rest = h x refl
+right_reached : (A B : Type 0) (o : Option Form) (other : Operating) → ((x : Form) → o ≡ Some x → B) → Operated A B other → Operated A B (by_right o other)
+right_reached A B None other h rest = rest
+right_reached A B (Some x) other h rest = h x refl
 
-left_passes : (A B : Type 0) (stays : Bool) (o : Option Form) → ((x : Form) → o ≡ Some x → A) → Operated A B (by_left stays o)
-left_passes A B true (Some x) h = h x refl
-left_passes A B true None h = tt
-left_passes A B false o h = tt
+left_reached : (A B : Type 0) (stays : Bool) (o : Option Form) → ((x : Form) → o ≡ Some x → A) → Operated A B (by_left stays o)
+left_reached A B true (Some x) h = h x refl
+left_reached A B true None h = tt
+left_reached A B false o h = tt
 
-operand_passes : {A B : Type 0} {C : Type 0} (g : A → Option B) (h : Direct → Option A) (o : Option Direct) → ((d : Direct) → o ≡ Some d → C) → (x : B) → option_and_then g (option_and_then h o) ≡ Some x → C
-operand_passes g h None own x e = absurd cc
-operand_passes g h (Some d) own x e = own d refl
+operand_reached : {A B : Type 0} {C : Type 0} (g : A → Option B) (h : Direct → Option A) (o : Option Direct) → ((d : Direct) → o ≡ Some d → C) → (x : B) → option_and_then g (option_and_then h o) ≡ Some x → C
+operand_reached g h None own x e = absurd cc
+operand_reached g h (Some d) own x e = own d refl
 
-constant_right_passes : {P : Typed → Type 0} → Passes P → (op : BinaryOp) (operands : Operands) (e : Typed) (x : Form) → constant_right op operands e ≡ Some x → P e
-constant_right_passes p op operands e x h =
+constant_right_reached : {P : Typed → Type 0} → Reaches P → (op : BinaryOp) (operands : Operands) (e : Typed) (x : Form) → constant_right op operands e ≡ Some x → P e
+constant_right_reached p op operands e x h =
     let z = some_then (λ (z : ℤ). constant_form op operands (residue_of z)) (constant_in e) x h in
-    constant_passes p e z.0 z.1
+    constant_reached p e z.0 z.1
 
-pub operating_passes : {P : Typed → Type 0} → Passes P → (f : Framed) (pushed : ℕ) (op : BinaryOp) (operands : Operands) (a b : Typed) → Operated (P a) (P b) (operating_of f pushed op operands a b)
-operating_passes {P = P} p f pushed op operands a b =
+pub operating_reached : {P : Typed → Type 0} → Reaches P → (f : Framed) (pushed : ℕ) (op : BinaryOp) (operands : Operands) (a b : Typed) → Operated (P a) (P b) (operating_of f pushed op operands a b)
+operating_reached {P = P} p f pushed op operands a b =
     let left : Option Direct = direct_of f pushed a in
     let right : Option Direct = direct_of f pushed b in
-    right_passes (P a) (P b) (constant_right op operands b) (by_right (direct_right op operands right) (by_left (is_fixed left || is_pure b) (direct_left op operands left))) (constant_right_passes p op operands b)
-    (right_passes (P a) (P b) (direct_right op operands right) (by_left (is_fixed left || is_pure b) (direct_left op operands left)) (operand_passes (λ w. right_form op operands w.0 w.1) word_in right (direct_passes p f pushed b))
-    (left_passes (P a) (P b) (is_fixed left || is_pure b) (direct_left op operands left) (operand_passes (λ w. left_form op operands w.0 w.1) word_in left (direct_passes p f pushed a))))
+    right_reached (P a) (P b) (constant_right op operands b) (by_right (direct_right op operands right) (by_left (is_fixed left || is_pure b) (direct_left op operands left))) (constant_right_reached p op operands b)
+    (right_reached (P a) (P b) (direct_right op operands right) (by_left (is_fixed left || is_pure b) (direct_left op operands left)) (operand_reached (λ w. right_form op operands w.0 w.1) word_in right (direct_reached p f pushed b))
+    (left_reached (P a) (P b) (is_fixed left || is_pure b) (direct_left op operands left) (operand_reached (λ w. left_form op operands w.0 w.1) word_in left (direct_reached p f pushed a))))

@@ -38,7 +38,7 @@ use Rattle.c65_gen_law_lines.proofs.Made.{is_plain}
 use Rattle.c65_gen_law_lines.proofs.Flat.{point_flat, stored_flat, bank_clear_flat}
 use Rattle.c65_gen_law_lines.proofs.Puts.{one, one_same}
 use Rattle.c65_gen_law_lines.proofs.Others.{names, others, others_in, laid, others_are, default_counts, some_default}
-use Rattle.c65_gen_law_lines.proofs.StackPieces.{Still}
+use Rattle.c65_gen_law_lines.proofs.Leaves.{Still}
 use Rattle.c65_gen_law_lines.proofs.StackLaws.{nothing_more}
 use Rattle.c65_gen_law_stack.proofs.Levels.{Level, Nowhere, level_then, level_end, level_piece, level_none, level_label, level_leads, Closed}
 use Rattle.c65_gen_law_stack.proofs.ExprLevels.{expr_level, value_level}

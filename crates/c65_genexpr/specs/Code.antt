@@ -3,7 +3,7 @@
 -- union, the address. Of one that is passed or returned the bytes stand in A, X and sreg, as many as there are, the first in A.
 -- A test leads to its label where the truth is the one that is asked for, and else goes on.
 use Rattle.std.specs.Prelude.{ℕ, ◌+◌, ◌==◌, not, if◌then◌else◌, Bool, true, false, Option, Some, None, List, [], ◌∷◌, ◌++◌}
-use Rattle.c65_base.specs.declared.operators.UnaryOp.TheVariants.{Not}
+use Rattle.c65_base.specs.declared.operators.UnaryOp.{UnaryOp}
 use Rattle.c65_base.specs.declared.operators.BinaryOp.{BinaryOp}
 use Rattle.c65_ints.specs.declared.types.IntType.{IntType}
 use Rattle.c65_ctype.specs.Trees.{QTy}
@@ -49,7 +49,7 @@ use Rattle.c65_genexpr.specs.Operating.{operating_of, below_operand, operator_by
 use Rattle.c65_genexpr.specs.Steps.{amount_of, step_code, open_code, close_code}
 use Rattle.c65_genexpr.specs.Arguments.{is_fast, is_counted, stays, passed_size, passed_of, argument_code, argument_bytes}
 use Rattle.c65_genexpr.specs.Calls.{named, named_code, pointer_code, direct_code}
-use Rattle.c65_genexpr.specs.Uses.{uses, by_relation}
+use Rattle.c65_genexpr.specs.Uses.{uses, by_operator, by_relation}
 
 -- the address of a place, where it takes lines of code
 abbrev pub target_code : Place → List Line → List Line
@@ -111,8 +111,10 @@ abbrev mutual
   node_code f pushed fresh w t (convert e) =
       let same = same_truth (types.type_in t) (bare e) in
       conversion_by w same (types.type_in t) (kind_in e) (expr_code f pushed fresh (handed same w) e)
-  node_code f pushed fresh w t (unary Not e) = truth_by w fresh (expr_code f pushed (inner w fresh) (Test (aimed w fresh) (not (sense w))) e)
-  node_code f pushed fresh w t (unary op e) = wanted w (width_in t) (expr_code f pushed fresh Value e ++ unary_code op (width_of (kind_in e)))
+  node_code f pushed fresh w t (unary op e) =
+      by_operator op
+      (truth_by w fresh (expr_code f pushed (inner w fresh) (Test (aimed w fresh) (not (sense w))) e))
+      (wanted w (width_in t) (expr_code f pushed fresh Value e ++ unary_code op (width_of (kind_in e))))
   node_code f pushed fresh w t (binary op a b) =
       let operands = operands_of f (bare a) (bare b) in
       let bytes = waiting (width_of (computes operands)) in
@@ -181,10 +183,14 @@ comparison_code f pushed own to s op r a b =
     let how = comparing_of f pushed q (computes operands) a b in
     comparison_by how op operands (kind_in b) s to own (expr_code f pushed (own + 1) (wanted_by (tested_by q b) to) a) (expr_code f (below_side how pushed (waiting (width_of (computes operands)))) (own + 1 + uses (tested_by q b) a) (wanted_by (tested_by q a) to) b)
 
--- a binary operator whose value is wanted
-abbrev pub binary_code : Framed → ℕ → ℕ → BinaryOp → Typed → Typed → List Line
-binary_code f pushed fresh op a b =
-    by_relation (relation_of op) (operator_code f pushed fresh op a b) (λ r. comparison_code f pushed (fresh + 2) fresh false op r a b ++ truth_code fresh)
+-- a unary operator whose value is wanted
+abbrev pub unary_value_code : Framed → ℕ → ℕ → UnaryOp → Typed → List Line
+unary_value_code f pushed fresh op e =
+    by_operator op (expr_code f pushed (fresh + 2) (Test fresh true) e ++ truth_code fresh) (expr_code f pushed fresh Value e ++ unary_code op (width_of (kind_in e)))
+
+-- a test of the value
+abbrev pub plain_test_code : Framed → ℕ → ℕ → ℕ → Bool → Typed → List Line
+plain_test_code f pushed fresh to s e = wanted (Test to s) (width_of (kind_in e)) (expr_code f pushed fresh Value e)
 
 -- `&&` and `||`, which a left side decides whose truth is stop
 abbrev pub joint_code : Framed → ℕ → ℕ → ℕ → Bool → Bool → Typed → Typed → List Line

@@ -1,7 +1,7 @@
 -- How many labels the lines of an expression have.
 use Rattle.std.specs.Prelude.{ℕ, ◌+◌, Bool, true, false, not, Option, Some, None}
+use Rattle.c65_base.specs.declared.operators.UnaryOp.{UnaryOp}
 use Rattle.c65_base.specs.declared.operators.UnaryOp.TheVariants.{Not}
-use Rattle.c65_base.specs.declared.operators.BinaryOp.{BinaryOp}
 use Rattle.c65_ctype.specs.Trees.{QTy, type_in}
 use Rattle.c65_csem.specs.Trees.{Typed, node, Node, constant, null, literal, object, func, deref, member, load, address, decay, convert, unary, binary, both, either, choice, comma, assign, assign_op, assign_step, step, copy, call, pack, spill, rest, Nodes, none, some}
 use Rattle.c65_gendirect.specs.declared.relation.Relation.{Relation}
@@ -16,6 +16,11 @@ use Rattle.c65_genexpr.specs.Comparing.{relation_by, tested_by}
 abbrev pub unless_named : Option ℕ → ℕ → ℕ
 unless_named (Some i) n = 0
 unless_named None n = n
+
+-- `!`, or another operator
+abbrev pub by_operator : {A : Type 0} → UnaryOp → A → A → A
+by_operator Not truth other = truth
+by_operator op truth other = other
 
 -- a comparison has the labels of its own by its relation, another operator has none
 abbrev pub by_relation : {A : Type 0} → Option Relation → A → (Relation → A) → A
@@ -39,8 +44,7 @@ abbrev mutual
   node_uses s t (address e) = uses None e
   node_uses s t (decay e) = uses None e
   node_uses s t (convert e) = uses (handed_sense (same_truth (type_in t) (bare e)) s) e
-  node_uses s t (unary Not e) = truth_labels s + uses (Some (not (aimed_sense s))) e
-  node_uses s t (unary op e) = uses None e
+  node_uses s t (unary op e) = by_operator op (truth_labels s + uses (Some (not (aimed_sense s))) e) (uses None e)
   node_uses s t (binary op a b) =
       by_relation (relation_of op) (1 + (uses None a + uses None b)) (λ r.
       let q = relation_by (aimed_sense s) r in
@@ -70,9 +74,9 @@ head_uses f = unless_named (named f) (uses None f)
 abbrev pub comparison_uses : Relation → Typed → Typed → ℕ
 comparison_uses q a b = 1 + (uses (tested_by q b) a + uses (tested_by q a) b)
 
--- a binary operator whose value is wanted
-abbrev pub binary_uses : BinaryOp → Typed → Typed → ℕ
-binary_uses op a b = by_relation (relation_of op) (1 + (uses None a + uses None b)) (λ r. 2 + comparison_uses (relation_by false r) a b)
+-- a unary operator whose value is wanted
+abbrev pub unary_uses : UnaryOp → Typed → ℕ
+unary_uses op e = by_operator op (2 + uses (Some true) e) (uses None e)
 
 -- how many trees a tree has, itself among them; more than its arguments have places
 abbrev mutual

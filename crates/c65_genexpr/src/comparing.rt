@@ -5,8 +5,8 @@ ghost use Rattle.c65_genexpr.specs.Leaving.{ComparesFree};
 ghost use Rattle.c65_genexpr.specs.Direct.{direct_of, is_pure, is_byte};
 ghost use Rattle.c65_genexpr.specs.Comparing.{relation_by, is_zero, tested_by, lowest, is_raised, raised, one_more, range_of, meeting, beside, is_read, compared_by, comparing_of};
 
-use crate::direct::{direct_of, is_byte, is_fixed, is_pure, sides_of};
 use crate::constants::residue_of;
+use crate::direct::{direct_of, is_byte, is_fixed, is_pure, sides_of};
 use c65_csem::{TExpr, TKind};
 use c65_gendirect::{Direct, OperandByte, Relation, Sides, byte_of};
 use c65_genframe::Frame;
@@ -14,14 +14,14 @@ use c65_genwide::width_of;
 use c65_ints::IntType;
 
 /// One of the two sides.
-#[derive(Clone, Copy, Debug, PartialEq, Eq)]
+#[derive(Clone, Copy)]
 pub enum Side {
     Left,
     Right,
 }
 
 /// How two sides are compared.
-#[derive(Clone, Copy, Debug, PartialEq, Eq)]
+#[derive(Clone, Copy)]
 pub enum Comparing {
     /// The truth of a side, as the other one is 0.
     Truth(Side),
@@ -186,7 +186,26 @@ fn compared_by(
     }
 }
 
-/// How two sides are compared in a type.
+fn form_of(
+    frame: &Frame<'_>,
+    pushed: u16,
+    relation: Relation,
+    kind: IntType,
+    a: &TExpr,
+    b: &TExpr,
+) -> Comparing
+    ensures { result ≡ comparing_of frame.now pushed relation kind (typed_of a.now) (typed_of b.now) }
+{
+    if tested_by(relation, b).is_some() {
+        Comparing::Truth(Side::Left)
+    } else if tested_by(relation, a).is_some() {
+        Comparing::Truth(Side::Right)
+    } else {
+        compared_by(frame, pushed, relation, kind, a, b)
+    }
+}
+
+/// How two sides are compared in a type. A side that is left out has no labels.
 pub fn comparing_of(
     frame: &Frame<'_>,
     pushed: u16,
@@ -198,11 +217,5 @@ pub fn comparing_of(
     ensures exact { result ≡ comparing_of frame.now pushed relation kind (typed_of a.now) (typed_of b.now) }
     ensures free { ComparesFree result (tested_by relation (typed_of b.now)) (typed_of a.now) (tested_by relation (typed_of a.now)) (typed_of b.now) }
 {
-    if tested_by(relation, b).is_some() {
-        Comparing::Truth(Side::Left)
-    } else if tested_by(relation, a).is_some() {
-        Comparing::Truth(Side::Right)
-    } else {
-        compared_by(frame, pushed, relation, kind, a, b)
-    }
+    form_of(frame, pushed, relation, kind, a, b)
 }

@@ -7,8 +7,8 @@ ghost use Rattle.c65_genwide.specs.Lines.{with_lines, Keeps};
 ghost use Rattle.c65_gendirect.specs.Tests.{zero_test_code};
 ghost use Rattle.c65_genexpr.specs.Direct.{kept_at, address_at, address_of, takes_bytes, direct_of, is_fixed, is_pure, is_unsigned_char, keeps_byte, is_byte, sides_of, listed, own_bytes};
 
-use crate::places::place_of;
 use crate::constants::residue_of;
+use crate::places::place_of;
 use crate::types::{access_of, kind_of};
 use c65_code::{Draft, Width};
 use c65_csem::{TExpr, TKind};
@@ -118,7 +118,12 @@ pub fn is_pure(e: &TExpr) -> bool
         | TKind::Copy(_, _)
         | TKind::Call(_, _)
         | TKind::Spill(_, _) => false,
-        _ => true,
+        TKind::Const(_)
+        | TKind::Null
+        | TKind::Literal(_)
+        | TKind::Object(_)
+        | TKind::Func(_)
+        | TKind::Rest => true,
     }
 }
 

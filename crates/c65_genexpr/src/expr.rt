@@ -9,8 +9,8 @@ ghost use Rattle.c65_genexpr.specs.Wanted.{sense_of, is_straight, way_labels};
 ghost use Rattle.c65_genexpr.specs.declared.wanted.Wanted.TheVariants.{Value, Test};
 ghost use Rattle.c65_genexpr.specs.Comparing.{on, relation_by};
 ghost use Rattle.c65_genexpr.specs.Leaving.{IsFree};
-ghost use Rattle.c65_genexpr.specs.Uses.{uses, head_uses, args_uses, binary_uses, comparison_uses};
-ghost use Rattle.c65_genexpr.specs.Code.{target_code, expr_code, load_test_code, binary_code, operator_code, comparison_code, joint_code, choice_code, assign_code, compound_code, call_code, args_code};
+ghost use Rattle.c65_genexpr.specs.Uses.{uses, head_uses, args_uses, unary_uses, comparison_uses};
+ghost use Rattle.c65_genexpr.specs.Code.{target_code, expr_code, load_test_code, plain_test_code, unary_value_code, operator_code, comparison_code, joint_code, choice_code, assign_code, compound_code, call_code, args_code};
 
 use crate::arguments::{
     Passed, argument_bytes, is_counted, is_fast, joined, passed_size, put_argument, stays,
@@ -98,16 +98,15 @@ pub fn put_expr(
             put_expr(a, frame, pushed, draft)?;
             put_conversion(&e.ty.ty, kind_of(&a.ty.ty), draft)
         }
-        TKind::Unary(UnaryOp::Not, a) => {
-            let truth = truth_labels(draft)?;
-            put_test(a, frame, pushed, truth.no, true, draft)?;
-            put_truth(truth.no, truth.end, draft)
-        }
-        TKind::Unary(op, a) => {
-            put_expr(a, frame, pushed, draft)?;
-            put_unary(*op, width_of(kind_of(&a.ty.ty)), draft)
-        }
-        TKind::Binary(op, a, b) => put_binary(a, b, *op, frame, pushed, draft),
+        TKind::Unary(op, a) => put_unary_value(a, *op, frame, pushed, draft),
+        TKind::Binary(op, a, b) => match relation_of(*op) {
+            Some(relation) => {
+                let truth = truth_labels(draft)?;
+                put_comparison(a, b, *op, relation, frame, pushed, truth.no, false, draft)?;
+                put_truth(truth.no, truth.end, draft)
+            }
+            None => put_operator(a, b, *op, frame, pushed, draft),
+        },
         TKind::And(a, b) => {
             let truth = truth_labels(draft)?;
             put_joint(a, b, false, frame, pushed, truth.no, false, draft)?;
@@ -192,20 +191,18 @@ pub fn put_test(
             if same_truth(&e.ty.ty, &a.ty.ty) {
                 put_test(a, frame, pushed, to, sense, draft)
             } else {
-                put_expr(a, frame, pushed, draft)?;
-                put_conversion(&e.ty.ty, kind_of(&a.ty.ty), draft)?;
-                put_value_test(width_of(kind_of(&e.ty.ty)), sense, to, draft)
+                put_plain_test(e, frame, pushed, to, sense, draft)
             }
         }
-        TKind::Unary(UnaryOp::Not, a) => put_test(a, frame, pushed, to, !sense, draft),
+        TKind::Unary(op, a) => match op {
+            UnaryOp::Not => put_test(a, frame, pushed, to, !sense, draft),
+            _ => put_plain_test(e, frame, pushed, to, sense, draft),
+        },
         TKind::Binary(op, a, b) => match relation_of(*op) {
             Some(relation) => {
                 put_comparison(a, b, *op, relation, frame, pushed, to, sense, draft)
             }
-            None => {
-                put_operator(a, b, *op, frame, pushed, draft)?;
-                put_value_test(width_of(kind_of(&e.ty.ty)), sense, to, draft)
-            }
+            None => put_plain_test(e, frame, pushed, to, sense, draft),
         },
         TKind::And(a, b) => put_joint(a, b, false, frame, pushed, to, sense, draft),
         TKind::Or(a, b) => put_joint(a, b, true, frame, pushed, to, sense, draft),
@@ -213,11 +210,41 @@ pub fn put_test(
             put_expr(a, frame, pushed, draft)?;
             put_test(b, frame, pushed, to, sense, draft)
         }
-        _ => {
-            put_expr(e, frame, pushed, draft)?;
-            put_value_test(width_of(kind_of(&e.ty.ty)), sense, to, draft)
-        }
+        TKind::Literal(_)
+        | TKind::Object(_)
+        | TKind::Func(_)
+        | TKind::Deref(_)
+        | TKind::Member(_, _)
+        | TKind::Address(_)
+        | TKind::Decay(_)
+        | TKind::Cond(_, _, _)
+        | TKind::Assign(_, _)
+        | TKind::AssignOp(_, _, _, _)
+        | TKind::AssignStep(_, _, _)
+        | TKind::Step(_, _)
+        | TKind::Copy(_, _)
+        | TKind::Call(_, _)
+        | TKind::Pack(_)
+        | TKind::Spill(_, _)
+        | TKind::Rest => put_plain_test(e, frame, pushed, to, sense, draft),
     }
+}
+
+// A test of the value.
+#[cycle(expression)]
+fn put_plain_test(
+    e: &TExpr,
+    frame: &Frame<'_>,
+    pushed: u16,
+    to: u32,
+    sense: bool,
+    draft: &mut Draft,
+) -> Result<(), AllocError>
+    ensures lines { OnOk result (draft.new ≡ grown draft.old (plain_test_code frame.now pushed draft.old.labels to sense (typed_of e.now)) (uses None (typed_of e.now))) }
+    ensures kept { OnErr result (Keeps draft.old draft.new) }
+{
+    put_expr(e, frame, pushed, draft)?;
+    put_value_test(width_of(kind_of(&e.ty.ty)), sense, to, draft)
 }
 
 /// The value or a test.
@@ -253,7 +280,9 @@ fn put_target(
 {
     match place {
         Place::Far => put_expr(a, frame, pushed, draft),
-        Place::Bank(_) | Place::Near(_) | Place::Data(_, _) => leave_place(a, place, frame, pushed, draft),
+        Place::Bank(_) | Place::Near(_) | Place::Data(_, _) => leave_place(
+            a, place, frame, pushed, draft,
+        ),
     }
 }
 
@@ -292,6 +321,7 @@ struct Truth {
     end: u32,
 }
 
+#[tactic(auto, using(c65_genwide::proofs::Kept::label_last, c65_genwide::proofs::Kept::label_then, c65_genwide::proofs::Kept::refused_then))]
 fn truth_labels(draft: &mut Draft) -> Result<Truth, AllocError>
     ensures no { IfOk result (λ t. t.no ≡ draft.old.labels) }
     ensures end { IfOk result (λ t. t.end ≡ draft.old.labels + 1) }
@@ -303,26 +333,27 @@ fn truth_labels(draft: &mut Draft) -> Result<Truth, AllocError>
     Ok(Truth { no, end })
 }
 
-// The value of an operator, or the truth value of a comparison.
 #[cycle(expression)]
-fn put_binary(
+fn put_unary_value(
     a: &TExpr,
-    b: &TExpr,
-    op: BinaryOp,
+    op: UnaryOp,
     frame: &Frame<'_>,
     pushed: u16,
     draft: &mut Draft,
 ) -> Result<(), AllocError>
-    ensures lines { OnOk result (draft.new ≡ grown draft.old (binary_code frame.now pushed draft.old.labels op (typed_of a.now) (typed_of b.now)) (binary_uses op (typed_of a.now) (typed_of b.now))) }
+    ensures lines { OnOk result (draft.new ≡ grown draft.old (unary_value_code frame.now pushed draft.old.labels op (typed_of a.now)) (unary_uses op (typed_of a.now))) }
     ensures kept { OnErr result (Keeps draft.old draft.new) }
 {
-    match relation_of(op) {
-        Some(relation) => {
+    match op {
+        UnaryOp::Not => {
             let truth = truth_labels(draft)?;
-            put_comparison(a, b, op, relation, frame, pushed, truth.no, false, draft)?;
+            put_test(a, frame, pushed, truth.no, true, draft)?;
             put_truth(truth.no, truth.end, draft)
         }
-        None => put_operator(a, b, op, frame, pushed, draft),
+        _ => {
+            put_expr(a, frame, pushed, draft)?;
+            put_unary(op, width_of(kind_of(&a.ty.ty)), draft)
+        }
     }
 }
 

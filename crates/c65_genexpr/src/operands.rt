@@ -7,9 +7,9 @@ ghost use Rattle.c65_genexpr.specs.Operands.{operands_of, computes, between_code
 use crate::types::{kind_of, target_bytes};
 use c65_base::{BinaryOp, UnaryOp};
 use c65_code::{Draft, Routine, UnaryRoutine, Width};
+use c65_csem::is_scalar;
 use c65_ctype::CType;
 use c65_genframe::Frame;
-use c65_csem::is_scalar;
 use c65_genload::{bytes_of, convert, divide, push, scale};
 use c65_genwide::{put, put_wide, run, width_of};
 use c65_ints::IntType;

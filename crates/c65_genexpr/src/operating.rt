@@ -5,9 +5,9 @@ ghost use Rattle.c65_genwide.specs.Lines.{with_lines, Keeps};
 ghost use Rattle.c65_genexpr.specs.Leaving.{OperatesFree};
 ghost use Rattle.c65_genexpr.specs.Operating.{sum_by, mask_by, number_form, offset_form, constant_form, word_in, takes_bytes, word_if, element_form, right_form, under_if, left_form, constant_right, direct_right, direct_left, operating_of, placed, form_code, waiting_code, stacked_code};
 
+use crate::constants::{constant_in, negative, residue_of};
 use crate::direct::{direct_of, is_fixed, is_pure};
 use crate::operands::{Operands, put_behind, put_between};
-use crate::constants::{constant_in, negative, residue_of};
 use c65_base::BinaryOp;
 use c65_code::Line::Label;
 use c65_code::{Draft, Width};
@@ -23,7 +23,7 @@ use c65_ints::IntType;
 use std::alloc::AllocError;
 
 /// What is done to the operand in the primary register.
-#[derive(Clone, Copy, Debug, PartialEq, Eq)]
+#[derive(Clone, Copy)]
 pub enum Form {
     /// A number is added to AX.
     Sum(u32),
@@ -46,7 +46,7 @@ pub enum Form {
 }
 
 /// How an operator is computed.
-#[derive(Clone, Copy, Debug, PartialEq, Eq)]
+#[derive(Clone, Copy)]
 pub enum Operating {
     /// The left operand, and what is done to it.
     Left(Form),
@@ -126,11 +126,7 @@ fn word_if(op: BinaryOp, width: Width, low: OperandByte, high: OperandByte) -> O
 {
     match (op, width) {
         (
-            BinaryOp::Add
-            | BinaryOp::Sub
-            | BinaryOp::BitAnd
-            | BinaryOp::BitXor
-            | BinaryOp::BitOr,
+            BinaryOp::Add | BinaryOp::Sub | BinaryOp::BitAnd | BinaryOp::BitXor | BinaryOp::BitOr,
             Width::Ax,
         ) => Some(Form::Word(op, low, high)),
         (_, _) => None,
@@ -148,20 +144,20 @@ fn element_form(op: BinaryOp, size: u32, low: OperandByte, high: OperandByte) ->
 }
 
 // The right operand is read: the left one is in AX.
-fn right_form(
-    op: BinaryOp,
-    operands: Operands,
-    low: OperandByte,
-    high: OperandByte,
-) -> Option<Form>
+fn right_form(op: BinaryOp, operands: Operands, low: OperandByte, high: OperandByte) -> Option<Form>
     ensures { result ≡ right_form op operands low high }
 {
-    match (op, operands) {
-        (_, Operands::Numbers(kind)) => word_if(op, width_of(kind), low, high),
-        (_, Operands::PointerFirst(size)) => element_form(op, size, low, high),
-        (BinaryOp::Add, Operands::PointerLast(size)) => Some(Form::Indexed(size, low, high)),
-        (BinaryOp::Sub, Operands::Pointers(size)) => Some(Form::Distance(size, low, high)),
-        (_, _) => None,
+    match operands {
+        Operands::Numbers(kind) => word_if(op, width_of(kind), low, high),
+        Operands::PointerFirst(size) => element_form(op, size, low, high),
+        Operands::PointerLast(size) => match op {
+            BinaryOp::Add => Some(Form::Indexed(size, low, high)),
+            _ => None,
+        },
+        Operands::Pointers(size) => match op {
+            BinaryOp::Sub => Some(Form::Distance(size, low, high)),
+            _ => None,
+        },
     }
 }
 
@@ -175,20 +171,23 @@ fn under_if(width: Width, low: OperandByte, high: OperandByte) -> Option<Form>
 }
 
 // The left operand is read: the right one is in AX.
-fn left_form(
-    op: BinaryOp,
-    operands: Operands,
-    low: OperandByte,
-    high: OperandByte,
-) -> Option<Form>
+fn left_form(op: BinaryOp, operands: Operands, low: OperandByte, high: OperandByte) -> Option<Form>
     ensures { result ≡ left_form op operands low high }
 {
-    match (op, operands) {
-        (BinaryOp::Sub, Operands::Numbers(kind)) => under_if(width_of(kind), low, high),
-        (_, Operands::Numbers(kind)) => word_if(op, width_of(kind), low, high),
-        (BinaryOp::Add, Operands::PointerFirst(size)) => Some(Form::Indexed(size, low, high)),
-        (BinaryOp::Sub, Operands::Pointers(size)) => Some(Form::DistanceUnder(size, low, high)),
-        (_, _) => None,
+    match operands {
+        Operands::Numbers(kind) => match op {
+            BinaryOp::Sub => under_if(width_of(kind), low, high),
+            _ => word_if(op, width_of(kind), low, high),
+        },
+        Operands::PointerFirst(size) => match op {
+            BinaryOp::Add => Some(Form::Indexed(size, low, high)),
+            _ => None,
+        },
+        Operands::PointerLast(_) => None,
+        Operands::Pointers(size) => match op {
+            BinaryOp::Sub => Some(Form::DistanceUnder(size, low, high)),
+            _ => None,
+        },
     }
 }
 
@@ -213,9 +212,8 @@ fn direct_left(op: BinaryOp, operands: Operands, a: Option<Direct>) -> Option<Fo
     left_form(op, operands, low, high)
 }
 
-/// How an operator is computed on two operands. The left one is read behind the right one only where
-/// that leaves it as it is.
-pub fn operating_of(
+// The left operand is read behind the right one only where that leaves it as it is.
+fn form_of(
     frame: &Frame<'_>,
     pushed: u16,
     op: BinaryOp,
@@ -223,8 +221,7 @@ pub fn operating_of(
     a: &TExpr,
     b: &TExpr,
 ) -> Operating
-    ensures exact { result ≡ operating_of frame.now pushed op operands (typed_of a.now) (typed_of b.now) }
-    ensures free { OperatesFree result (typed_of a.now) (typed_of b.now) }
+    ensures { result ≡ operating_of frame.now pushed op operands (typed_of a.now) (typed_of b.now) }
 {
     if let Some(form) = constant_right(op, operands, b) {
         return Operating::Left(form);
@@ -237,6 +234,21 @@ pub fn operating_of(
         Some(form) if is_fixed(left) || is_pure(b) => Operating::Right(form),
         _ => Operating::Stacked,
     }
+}
+
+/// How an operator is computed on two operands. One that is left out has no labels.
+pub fn operating_of(
+    frame: &Frame<'_>,
+    pushed: u16,
+    op: BinaryOp,
+    operands: Operands,
+    a: &TExpr,
+    b: &TExpr,
+) -> Operating
+    ensures exact { result ≡ operating_of frame.now pushed op operands (typed_of a.now) (typed_of b.now) }
+    ensures free { OperatesFree result (typed_of a.now) (typed_of b.now) }
+{
+    form_of(frame, pushed, op, operands, a, b)
 }
 
 /// Behind the operand in the primary register. The label is the operator's own.

@@ -4,8 +4,8 @@ ghost use Rattle.c65_ctype.specs.Views.{ty_of};
 ghost use Rattle.c65_genwide.specs.Lines.{with_lines, Keeps};
 ghost use Rattle.c65_genexpr.specs.Steps.{is_up, is_post, amount_of, back_code, after_code, step_code, open_code, close_code};
 
-use crate::operands::{Operands, computes, put_behind};
 use crate::constants::negative;
+use crate::operands::{Operands, computes, put_behind};
 use crate::types::target_bytes;
 use c65_base::{BinaryOp, StepKind};
 use c65_code::Draft;

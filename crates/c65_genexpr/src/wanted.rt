@@ -16,7 +16,7 @@ use std::alloc::AllocError;
 
 /// What is wanted of an expression: its value in the primary register, or a branch to a label exactly
 /// where its truth is this.
-#[derive(Clone, Copy, Debug, PartialEq, Eq)]
+#[derive(Clone, Copy)]
 pub enum Wanted {
     Value,
     Test(u32, bool),

@@ -49,36 +49,6 @@ put_assign-returns-in_err-put_expr-clause-kept t c = refused_then c.from_residua
 pub put_assign-returns-clause-kept : goal.put_assign-returns-clause-kept
 put_assign-returns-clause-kept t c = grown_last _ _ _ _ _ _ c.in_ok-put_target.ensures.lines (kept_last _ _ _ _ _ c.in_ok-hold.ensures.lines (grown_last _ _ _ _ _ _ c.in_ok-put_expr.ensures.lines c.store.ensures.kept))
 
-pub put_binary-returns-in_err-put_between-in-None-clause-kept : goal.put_binary-returns-in_err-put_between-in-None-clause-kept
-put_binary-returns-in_err-put_between-in-None-clause-kept t c = refused_then c.from_residual-in_err-put_between-in-None.result (grown_then _ _ _ _ _ c.in_ok-put_expr-in-None.ensures.lines c.in_err-put_between-in-None.ensures.kept)
-
-pub put_binary-returns-in_err-put_expr-in-None-2-clause-kept : goal.put_binary-returns-in_err-put_expr-in-None-2-clause-kept
-put_binary-returns-in_err-put_expr-in-None-2-clause-kept t c = refused_then c.from_residual-in_err-put_expr-in-None-2.result (grown_then _ _ _ _ _ c.in_ok-put_expr-in-None.ensures.lines (kept_then _ _ _ _ c.in_ok-put_between-in-None.ensures.lines c.in_err-put_expr-in-None-2.ensures.kept))
-
-pub put_binary-returns-in_ok-put_expr-in-Some-clause-kept : goal.put_binary-returns-in_ok-put_expr-in-Some-clause-kept
-put_binary-returns-in_ok-put_expr-in-Some-clause-kept t c = grown_last _ _ _ _ _ _ c.in_ok-put_expr-in-Some.ensures.lines c.put_short.ensures.kept
-
-pub put_binary-returns-in_ok-put_expr-in-None-2-clause-kept : goal.put_binary-returns-in_ok-put_expr-in-None-2-clause-kept
-put_binary-returns-in_ok-put_expr-in-None-2-clause-kept t c = grown_last _ _ _ _ _ _ c.in_ok-put_expr-in-None.ensures.lines (kept_last _ _ _ _ _ c.in_ok-put_between-in-None.ensures.lines (grown_last _ _ _ _ _ _ c.in_ok-put_expr-in-None-2.ensures.lines c.put_behind.ensures.kept))
-
-pub put_both-returns-in_err-put_expr-clause-kept : goal.put_both-returns-in_err-put_expr-clause-kept
-put_both-returns-in_err-put_expr-clause-kept t c = refused_then c.from_residual-in_err-put_expr.result (label_then _ _ _ c.in_ok-no.ensures.draft c.in_err-put_expr.ensures.kept)
-
-pub put_both-returns-in_err-test-clause-kept : goal.put_both-returns-in_err-test-clause-kept
-put_both-returns-in_err-test-clause-kept t c = refused_then c.from_residual-in_err-test.result (label_then _ _ _ c.in_ok-no.ensures.draft (grown_then _ _ _ _ _ c.in_ok-put_expr.ensures.lines c.in_err-test.ensures.kept))
-
-pub put_both-returns-in_err-put-clause-kept : goal.put_both-returns-in_err-put-clause-kept
-put_both-returns-in_err-put-clause-kept t c = refused_then c.from_residual-in_err-put.result (label_then _ _ _ c.in_ok-no.ensures.draft (grown_then _ _ _ _ _ c.in_ok-put_expr.ensures.lines (kept_then _ _ _ _ c.in_ok-test.ensures.lines c.in_err-put.ensures.kept)))
-
-pub put_both-returns-in_err-put_expr-2-clause-kept : goal.put_both-returns-in_err-put_expr-2-clause-kept
-put_both-returns-in_err-put_expr-2-clause-kept t c = refused_then c.from_residual-in_err-put_expr-2.result (label_then _ _ _ c.in_ok-no.ensures.draft (grown_then _ _ _ _ _ c.in_ok-put_expr.ensures.lines (kept_then _ _ _ _ c.in_ok-test.ensures.lines (kept_then _ _ _ _ c.in_ok-put.ensures.lines c.in_err-put_expr-2.ensures.kept))))
-
-pub put_both-returns-in_err-test-2-clause-kept : goal.put_both-returns-in_err-test-2-clause-kept
-put_both-returns-in_err-test-2-clause-kept t c = refused_then c.from_residual-in_err-test-2.result (label_then _ _ _ c.in_ok-no.ensures.draft (grown_then _ _ _ _ _ c.in_ok-put_expr.ensures.lines (kept_then _ _ _ _ c.in_ok-test.ensures.lines (kept_then _ _ _ _ c.in_ok-put.ensures.lines (grown_then _ _ _ _ _ c.in_ok-put_expr-2.ensures.lines c.in_err-test-2.ensures.kept)))))
-
-pub put_both-returns-clause-kept : goal.put_both-returns-clause-kept
-put_both-returns-clause-kept t c = label_last _ _ _ _ c.in_ok-no.ensures.draft (grown_last _ _ _ _ _ _ c.in_ok-put_expr.ensures.lines (kept_last _ _ _ _ _ c.in_ok-test.ensures.lines (kept_last _ _ _ _ _ c.in_ok-put.ensures.lines (grown_last _ _ _ _ _ _ c.in_ok-put_expr-2.ensures.lines (kept_last _ _ _ _ _ c.in_ok-test-2.ensures.lines c.put-2.ensures.kept)))))
-
 pub put_call-returns-in_err-push-in-len1-up-clause-kept : goal.put_call-returns-in_err-push-in-len1-up-clause-kept
 put_call-returns-in_err-push-in-len1-up-clause-kept t c = refused_then c.from_residual-in_err-push-in-len1-up.result (grown_then _ _ _ _ _ c.in_ok-put_expr-in-None.ensures.lines c.in_err-push-in-len1-up.ensures.kept)
 
@@ -94,30 +64,6 @@ put_call-returns-in_ok-passed-in-len1-up-clause-kept t c = grown_last _ _ _ _ _ 
 pub put_call-returns-in_ok-passed-in-Some-clause-kept : goal.put_call-returns-in_ok-passed-in-Some-clause-kept
 put_call-returns-in_ok-passed-in-Some-clause-kept t c = grown_last _ _ _ _ _ _ c.in_ok-passed-in-Some.ensures.lines c.put_named.ensures.kept
 
-pub put_choice-returns-in_err-end-clause-kept : goal.put_choice-returns-in_err-end-clause-kept
-put_choice-returns-in_err-end-clause-kept t c = refused_then c.from_residual-in_err-end.result (label_then _ _ _ c.in_ok-other.ensures.draft c.in_err-end.ensures.kept)
-
-pub put_choice-returns-in_err-put_expr-clause-kept : goal.put_choice-returns-in_err-put_expr-clause-kept
-put_choice-returns-in_err-put_expr-clause-kept t c = refused_then c.from_residual-in_err-put_expr.result (label_then _ _ _ c.in_ok-other.ensures.draft (label_then _ _ _ c.in_ok-end.ensures.draft c.in_err-put_expr.ensures.kept))
-
-pub put_choice-returns-in_err-test-clause-kept : goal.put_choice-returns-in_err-test-clause-kept
-put_choice-returns-in_err-test-clause-kept t c = refused_then c.from_residual-in_err-test.result (label_then _ _ _ c.in_ok-other.ensures.draft (label_then _ _ _ c.in_ok-end.ensures.draft (grown_then _ _ _ _ _ c.in_ok-put_expr.ensures.lines c.in_err-test.ensures.kept)))
-
-pub put_choice-returns-in_err-put-clause-kept : goal.put_choice-returns-in_err-put-clause-kept
-put_choice-returns-in_err-put-clause-kept t c = refused_then c.from_residual-in_err-put.result (label_then _ _ _ c.in_ok-other.ensures.draft (label_then _ _ _ c.in_ok-end.ensures.draft (grown_then _ _ _ _ _ c.in_ok-put_expr.ensures.lines (kept_then _ _ _ _ c.in_ok-test.ensures.lines c.in_err-put.ensures.kept))))
-
-pub put_choice-returns-in_err-put_expr-2-clause-kept : goal.put_choice-returns-in_err-put_expr-2-clause-kept
-put_choice-returns-in_err-put_expr-2-clause-kept t c = refused_then c.from_residual-in_err-put_expr-2.result (label_then _ _ _ c.in_ok-other.ensures.draft (label_then _ _ _ c.in_ok-end.ensures.draft (grown_then _ _ _ _ _ c.in_ok-put_expr.ensures.lines (kept_then _ _ _ _ c.in_ok-test.ensures.lines (kept_then _ _ _ _ c.in_ok-put.ensures.lines c.in_err-put_expr-2.ensures.kept)))))
-
-pub put_choice-returns-in_err-put-2-clause-kept : goal.put_choice-returns-in_err-put-2-clause-kept
-put_choice-returns-in_err-put-2-clause-kept t c = refused_then c.from_residual-in_err-put-2.result (label_then _ _ _ c.in_ok-other.ensures.draft (label_then _ _ _ c.in_ok-end.ensures.draft (grown_then _ _ _ _ _ c.in_ok-put_expr.ensures.lines (kept_then _ _ _ _ c.in_ok-test.ensures.lines (kept_then _ _ _ _ c.in_ok-put.ensures.lines (grown_then _ _ _ _ _ c.in_ok-put_expr-2.ensures.lines c.in_err-put-2.ensures.kept))))))
-
-pub put_choice-returns-in_err-put_expr-3-clause-kept : goal.put_choice-returns-in_err-put_expr-3-clause-kept
-put_choice-returns-in_err-put_expr-3-clause-kept t c = refused_then c.from_residual-in_err-put_expr-3.result (label_then _ _ _ c.in_ok-other.ensures.draft (label_then _ _ _ c.in_ok-end.ensures.draft (grown_then _ _ _ _ _ c.in_ok-put_expr.ensures.lines (kept_then _ _ _ _ c.in_ok-test.ensures.lines (kept_then _ _ _ _ c.in_ok-put.ensures.lines (grown_then _ _ _ _ _ c.in_ok-put_expr-2.ensures.lines (kept_then _ _ _ _ c.in_ok-put-2.ensures.lines c.in_err-put_expr-3.ensures.kept)))))))
-
-pub put_choice-returns-clause-kept : goal.put_choice-returns-clause-kept
-put_choice-returns-clause-kept t c = label_last _ _ _ _ c.in_ok-other.ensures.draft (label_last _ _ _ _ c.in_ok-end.ensures.draft (grown_last _ _ _ _ _ _ c.in_ok-put_expr.ensures.lines (kept_last _ _ _ _ _ c.in_ok-test.ensures.lines (kept_last _ _ _ _ _ c.in_ok-put.ensures.lines (grown_last _ _ _ _ _ _ c.in_ok-put_expr-2.ensures.lines (kept_last _ _ _ _ _ c.in_ok-put-2.ensures.lines (grown_last _ _ _ _ _ _ c.in_ok-put_expr-3.ensures.lines c.put-3.ensures.kept)))))))
-
 pub put_compound-returns-in_err-put_open-clause-kept : goal.put_compound-returns-in_err-put_open-clause-kept
 put_compound-returns-in_err-put_open-clause-kept t c = refused_then c.from_residual-in_err-put_open.result (grown_then _ _ _ _ _ c.in_ok-put_target.ensures.lines c.in_err-put_open.ensures.kept)
 
@@ -126,27 +72,6 @@ put_compound-returns-in_err-put_expr-clause-kept t c = refused_then c.from_resid
 
 pub put_compound-returns-clause-kept : goal.put_compound-returns-clause-kept
 put_compound-returns-clause-kept t c = grown_last _ _ _ _ _ _ c.in_ok-put_target.ensures.lines (kept_last _ _ _ _ _ c.in_ok-put_open.ensures.lines (grown_last _ _ _ _ _ _ c.in_ok-put_expr.ensures.lines c.put_close.ensures.kept))
-
-pub put_either-returns-in_err-no-clause-kept : goal.put_either-returns-in_err-no-clause-kept
-put_either-returns-in_err-no-clause-kept t c = refused_then c.from_residual-in_err-no.result (label_then _ _ _ c.in_ok-yes.ensures.draft c.in_err-no.ensures.kept)
-
-pub put_either-returns-in_err-put_expr-clause-kept : goal.put_either-returns-in_err-put_expr-clause-kept
-put_either-returns-in_err-put_expr-clause-kept t c = refused_then c.from_residual-in_err-put_expr.result (label_then _ _ _ c.in_ok-yes.ensures.draft (label_then _ _ _ c.in_ok-no.ensures.draft c.in_err-put_expr.ensures.kept))
-
-pub put_either-returns-in_err-test-clause-kept : goal.put_either-returns-in_err-test-clause-kept
-put_either-returns-in_err-test-clause-kept t c = refused_then c.from_residual-in_err-test.result (label_then _ _ _ c.in_ok-yes.ensures.draft (label_then _ _ _ c.in_ok-no.ensures.draft (grown_then _ _ _ _ _ c.in_ok-put_expr.ensures.lines c.in_err-test.ensures.kept)))
-
-pub put_either-returns-in_err-put-clause-kept : goal.put_either-returns-in_err-put-clause-kept
-put_either-returns-in_err-put-clause-kept t c = refused_then c.from_residual-in_err-put.result (label_then _ _ _ c.in_ok-yes.ensures.draft (label_then _ _ _ c.in_ok-no.ensures.draft (grown_then _ _ _ _ _ c.in_ok-put_expr.ensures.lines (kept_then _ _ _ _ c.in_ok-test.ensures.lines c.in_err-put.ensures.kept))))
-
-pub put_either-returns-in_err-put_expr-2-clause-kept : goal.put_either-returns-in_err-put_expr-2-clause-kept
-put_either-returns-in_err-put_expr-2-clause-kept t c = refused_then c.from_residual-in_err-put_expr-2.result (label_then _ _ _ c.in_ok-yes.ensures.draft (label_then _ _ _ c.in_ok-no.ensures.draft (grown_then _ _ _ _ _ c.in_ok-put_expr.ensures.lines (kept_then _ _ _ _ c.in_ok-test.ensures.lines (kept_then _ _ _ _ c.in_ok-put.ensures.lines c.in_err-put_expr-2.ensures.kept)))))
-
-pub put_either-returns-in_err-test-2-clause-kept : goal.put_either-returns-in_err-test-2-clause-kept
-put_either-returns-in_err-test-2-clause-kept t c = refused_then c.from_residual-in_err-test-2.result (label_then _ _ _ c.in_ok-yes.ensures.draft (label_then _ _ _ c.in_ok-no.ensures.draft (grown_then _ _ _ _ _ c.in_ok-put_expr.ensures.lines (kept_then _ _ _ _ c.in_ok-test.ensures.lines (kept_then _ _ _ _ c.in_ok-put.ensures.lines (grown_then _ _ _ _ _ c.in_ok-put_expr-2.ensures.lines c.in_err-test-2.ensures.kept))))))
-
-pub put_either-returns-clause-kept : goal.put_either-returns-clause-kept
-put_either-returns-clause-kept t c = label_last _ _ _ _ c.in_ok-yes.ensures.draft (label_last _ _ _ _ c.in_ok-no.ensures.draft (grown_last _ _ _ _ _ _ c.in_ok-put_expr.ensures.lines (kept_last _ _ _ _ _ c.in_ok-test.ensures.lines (kept_last _ _ _ _ _ c.in_ok-put.ensures.lines (grown_last _ _ _ _ _ _ c.in_ok-put_expr-2.ensures.lines (kept_last _ _ _ _ _ c.in_ok-test-2.ensures.lines c.put-2.ensures.kept))))))
 
 pub put_expr-returns-in_err-push-in-Copy-clause-kept : goal.put_expr-returns-in_err-push-in-Copy-clause-kept
 put_expr-returns-in_err-push-in-Copy-clause-kept t c = refused_then c.from_residual-in_err-push-in-Copy.result (grown_then _ _ _ _ _ c.in_ok-put_expr-in-Copy.ensures.lines c.in_err-push-in-Copy.ensures.kept)
@@ -163,9 +88,6 @@ put_expr-returns-in_ok-put_target-in-Load-clause-kept t c = grown_last _ _ _ _ _
 pub put_expr-returns-in_ok-put_expr-in-Convert-clause-kept : goal.put_expr-returns-in_ok-put_expr-in-Convert-clause-kept
 put_expr-returns-in_ok-put_expr-in-Convert-clause-kept t c = grown_last _ _ _ _ _ _ c.in_ok-put_expr-in-Convert.ensures.lines c.put_conversion.ensures.kept
 
-pub put_expr-returns-in_ok-put_expr-in-Unary-clause-kept : goal.put_expr-returns-in_ok-put_expr-in-Unary-clause-kept
-put_expr-returns-in_ok-put_expr-in-Unary-clause-kept t c = grown_last _ _ _ _ _ _ c.in_ok-put_expr-in-Unary.ensures.lines c.put_unary.ensures.kept
-
 pub put_expr-returns-in_ok-put_expr-in-Comma-clause-kept : goal.put_expr-returns-in_ok-put_expr-in-Comma-clause-kept
 put_expr-returns-in_ok-put_expr-in-Comma-clause-kept t c = grown_last _ _ _ _ _ _ c.in_ok-put_expr-in-Comma.ensures.lines c.put_expr-in-Comma-2.ensures.kept
 
@@ -180,3 +102,165 @@ put_expr-returns-in_ok-put_target-in-Pack-clause-kept t c = grown_last _ _ _ _ _
 
 pub put_expr-returns-in_ok-put_expr-in-Spill-clause-kept : goal.put_expr-returns-in_ok-put_expr-in-Spill-clause-kept
 put_expr-returns-in_ok-put_expr-in-Spill-clause-kept t c = grown_last _ _ _ _ _ _ c.in_ok-put_expr-in-Spill.ensures.lines c.put_spill.ensures.kept
+
+pub put_choice-returns-in_err-end-clause-kept : goal.put_choice-returns-in_err-end-clause-kept
+put_choice-returns-in_err-end-clause-kept t c = refused_then c.from_residual-in_err-end.result (label_then _ _ _ c.in_ok-other.ensures.draft c.in_err-end.ensures.kept)
+
+pub put_choice-returns-in_err-put_test-clause-kept : goal.put_choice-returns-in_err-put_test-clause-kept
+put_choice-returns-in_err-put_test-clause-kept t c = refused_then c.from_residual-in_err-put_test.result (label_then _ _ _ c.in_ok-other.ensures.draft (label_then _ _ _ c.in_ok-end.ensures.draft c.in_err-put_test.ensures.kept))
+
+pub put_choice-returns-in_err-put_expr-clause-kept : goal.put_choice-returns-in_err-put_expr-clause-kept
+put_choice-returns-in_err-put_expr-clause-kept t c = refused_then c.from_residual-in_err-put_expr.result (label_then _ _ _ c.in_ok-other.ensures.draft (label_then _ _ _ c.in_ok-end.ensures.draft (grown_then _ _ _ _ _ c.in_ok-put_test.ensures.lines c.in_err-put_expr.ensures.kept)))
+
+pub put_choice-returns-in_err-put-clause-kept : goal.put_choice-returns-in_err-put-clause-kept
+put_choice-returns-in_err-put-clause-kept t c = refused_then c.from_residual-in_err-put.result (label_then _ _ _ c.in_ok-other.ensures.draft (label_then _ _ _ c.in_ok-end.ensures.draft (grown_then _ _ _ _ _ c.in_ok-put_test.ensures.lines (grown_then _ _ _ _ _ c.in_ok-put_expr.ensures.lines c.in_err-put.ensures.kept))))
+
+pub put_choice-returns-in_err-put_expr-2-clause-kept : goal.put_choice-returns-in_err-put_expr-2-clause-kept
+put_choice-returns-in_err-put_expr-2-clause-kept t c = refused_then c.from_residual-in_err-put_expr-2.result (label_then _ _ _ c.in_ok-other.ensures.draft (label_then _ _ _ c.in_ok-end.ensures.draft (grown_then _ _ _ _ _ c.in_ok-put_test.ensures.lines (grown_then _ _ _ _ _ c.in_ok-put_expr.ensures.lines (kept_then _ _ _ _ c.in_ok-put.ensures.lines c.in_err-put_expr-2.ensures.kept)))))
+
+pub put_choice-returns-clause-kept : goal.put_choice-returns-clause-kept
+put_choice-returns-clause-kept t c = label_last _ _ _ _ c.in_ok-other.ensures.draft (label_last _ _ _ _ c.in_ok-end.ensures.draft (grown_last _ _ _ _ _ _ c.in_ok-put_test.ensures.lines (grown_last _ _ _ _ _ _ c.in_ok-put_expr.ensures.lines (kept_last _ _ _ _ _ c.in_ok-put.ensures.lines (grown_last _ _ _ _ _ _ c.in_ok-put_expr-2.ensures.lines c.put-2.ensures.kept)))))
+
+pub put_comparison-returns-in_err-put_side-in-Truth-clause-kept : goal.put_comparison-returns-in_err-put_side-in-Truth-clause-kept
+put_comparison-returns-in_err-put_side-in-Truth-clause-kept t c = refused_then c.from_residual-in_err-put_side-in-Truth.result (label_then _ _ _ c.in_ok-own.ensures.draft c.in_err-put_side-in-Truth.ensures.kept)
+
+pub put_comparison-returns-in_ok-put_side-in-Truth-clause-kept : goal.put_comparison-returns-in_ok-put_side-in-Truth-clause-kept
+put_comparison-returns-in_ok-put_side-in-Truth-clause-kept t c = label_last _ _ _ _ c.in_ok-own.ensures.draft (grown_last _ _ _ _ _ _ c.in_ok-put_side-in-Truth.ensures.lines c.put.ensures.kept)
+
+pub put_comparison-returns-in_err-put_side-in-Byte-default-None-default-default-clause-kept : goal.put_comparison-returns-in_err-put_side-in-Byte-default-None-default-default-clause-kept
+put_comparison-returns-in_err-put_side-in-Byte-default-None-default-default-clause-kept t c = refused_then c.from_residual-in_err-put_side-in-Byte-default-None-default-default.result (label_then _ _ _ c.in_ok-own.ensures.draft c.in_err-put_side-in-Byte-default-None-default-default.ensures.kept)
+
+pub put_comparison-returns-in_err-put_compare_byte-in-Byte-default-None-default-default-clause-kept : goal.put_comparison-returns-in_err-put_compare_byte-in-Byte-default-None-default-default-clause-kept
+put_comparison-returns-in_err-put_compare_byte-in-Byte-default-None-default-default-clause-kept t c = refused_then c.from_residual-in_err-put_compare_byte-in-Byte-default-None-default-default.result (label_then _ _ _ c.in_ok-own.ensures.draft (grown_then _ _ _ _ _ c.in_ok-put_side-in-Byte-default-None-default-default.ensures.lines c.in_err-put_compare_byte-in-Byte-default-None-default-default.ensures.kept))
+
+pub put_comparison-returns-in_ok-put_compare_byte-in-Byte-default-None-default-default-clause-kept : goal.put_comparison-returns-in_ok-put_compare_byte-in-Byte-default-None-default-default-clause-kept
+put_comparison-returns-in_ok-put_compare_byte-in-Byte-default-None-default-default-clause-kept t c = label_last _ _ _ _ c.in_ok-own.ensures.draft (grown_last _ _ _ _ _ _ c.in_ok-put_side-in-Byte-default-None-default-default.ensures.lines (kept_last _ _ _ _ _ c.in_ok-put_compare_byte-in-Byte-default-None-default-default.ensures.lines c.put-in-Byte-default-None-default-default.ensures.kept))
+
+pub put_comparison-returns-in_err-leave_out-in-Byte-default-Some-default-default-clause-kept : goal.put_comparison-returns-in_err-leave_out-in-Byte-default-Some-default-default-clause-kept
+put_comparison-returns-in_err-leave_out-in-Byte-default-Some-default-default-clause-kept t c = refused_then c.from_residual-in_err-leave_out-in-Byte-default-Some-default-default.result (label_then _ _ _ c.in_ok-own.ensures.draft c.in_err-leave_out-in-Byte-default-Some-default-default.ensures.kept)
+
+pub put_comparison-returns-in_err-leave_out-in-Byte-default-Some-default-default-2-clause-kept : goal.put_comparison-returns-in_err-leave_out-in-Byte-default-Some-default-default-2-clause-kept
+put_comparison-returns-in_err-leave_out-in-Byte-default-Some-default-default-2-clause-kept t c = refused_then c.from_residual-in_err-leave_out-in-Byte-default-Some-default-default-2.result (label_then _ _ _ c.in_ok-own.ensures.draft (grown_then _ _ _ _ _ c.in_ok-leave_out-in-Byte-default-Some-default-default.ensures.lines c.in_err-leave_out-in-Byte-default-Some-default-default-2.ensures.kept))
+
+pub put_comparison-returns-in_err-put_op-in-Byte-default-Some-default-default-clause-kept : goal.put_comparison-returns-in_err-put_op-in-Byte-default-Some-default-default-clause-kept
+put_comparison-returns-in_err-put_op-in-Byte-default-Some-default-default-clause-kept t c = refused_then c.from_residual-in_err-put_op-in-Byte-default-Some-default-default.result (label_then _ _ _ c.in_ok-own.ensures.draft (grown_then _ _ _ _ _ c.in_ok-leave_out-in-Byte-default-Some-default-default.ensures.lines (grown_then _ _ _ _ _ c.in_ok-leave_out-in-Byte-default-Some-default-default-2.ensures.lines c.in_err-put_op-in-Byte-default-Some-default-default.ensures.kept)))
+
+pub put_comparison-returns-in_err-put_compare_byte-in-Byte-default-Some-default-default-clause-kept : goal.put_comparison-returns-in_err-put_compare_byte-in-Byte-default-Some-default-default-clause-kept
+put_comparison-returns-in_err-put_compare_byte-in-Byte-default-Some-default-default-clause-kept t c = refused_then c.from_residual-in_err-put_compare_byte-in-Byte-default-Some-default-default.result (label_then _ _ _ c.in_ok-own.ensures.draft (grown_then _ _ _ _ _ c.in_ok-leave_out-in-Byte-default-Some-default-default.ensures.lines (grown_then _ _ _ _ _ c.in_ok-leave_out-in-Byte-default-Some-default-default-2.ensures.lines (kept_then _ _ _ _ c.in_ok-put_op-in-Byte-default-Some-default-default.ensures.lines c.in_err-put_compare_byte-in-Byte-default-Some-default-default.ensures.kept))))
+
+pub put_comparison-returns-in_ok-put_compare_byte-in-Byte-default-Some-default-default-clause-kept : goal.put_comparison-returns-in_ok-put_compare_byte-in-Byte-default-Some-default-default-clause-kept
+put_comparison-returns-in_ok-put_compare_byte-in-Byte-default-Some-default-default-clause-kept t c = label_last _ _ _ _ c.in_ok-own.ensures.draft (grown_last _ _ _ _ _ _ c.in_ok-leave_out-in-Byte-default-Some-default-default.ensures.lines (grown_last _ _ _ _ _ _ c.in_ok-leave_out-in-Byte-default-Some-default-default-2.ensures.lines (kept_last _ _ _ _ _ c.in_ok-put_op-in-Byte-default-Some-default-default.ensures.lines (kept_last _ _ _ _ _ c.in_ok-put_compare_byte-in-Byte-default-Some-default-default.ensures.lines c.put-in-Byte-default-Some-default-default.ensures.kept))))
+
+pub put_comparison-returns-in_err-put_side-in-Whole-clause-kept : goal.put_comparison-returns-in_err-put_side-in-Whole-clause-kept
+put_comparison-returns-in_err-put_side-in-Whole-clause-kept t c = refused_then c.from_residual-in_err-put_side-in-Whole.result (label_then _ _ _ c.in_ok-own.ensures.draft c.in_err-put_side-in-Whole.ensures.kept)
+
+pub put_comparison-returns-in_ok-put_side-in-Whole-clause-kept : goal.put_comparison-returns-in_ok-put_side-in-Whole-clause-kept
+put_comparison-returns-in_ok-put_side-in-Whole-clause-kept t c = label_last _ _ _ _ c.in_ok-own.ensures.draft (grown_last _ _ _ _ _ _ c.in_ok-put_side-in-Whole.ensures.lines c.put_compare.ensures.kept)
+
+pub put_comparison-returns-in_err-put_wanted-in-Stacked-clause-kept : goal.put_comparison-returns-in_err-put_wanted-in-Stacked-clause-kept
+put_comparison-returns-in_err-put_wanted-in-Stacked-clause-kept t c = refused_then c.from_residual-in_err-put_wanted-in-Stacked.result (label_then _ _ _ c.in_ok-own.ensures.draft c.in_err-put_wanted-in-Stacked.ensures.kept)
+
+pub put_comparison-returns-in_err-put_between-in-Stacked-clause-kept : goal.put_comparison-returns-in_err-put_between-in-Stacked-clause-kept
+put_comparison-returns-in_err-put_between-in-Stacked-clause-kept t c = refused_then c.from_residual-in_err-put_between-in-Stacked.result (label_then _ _ _ c.in_ok-own.ensures.draft (grown_then _ _ _ _ _ c.in_ok-put_wanted-in-Stacked.ensures.lines c.in_err-put_between-in-Stacked.ensures.kept))
+
+pub put_comparison-returns-in_err-put_wanted-in-Stacked-2-clause-kept : goal.put_comparison-returns-in_err-put_wanted-in-Stacked-2-clause-kept
+put_comparison-returns-in_err-put_wanted-in-Stacked-2-clause-kept t c = refused_then c.from_residual-in_err-put_wanted-in-Stacked-2.result (label_then _ _ _ c.in_ok-own.ensures.draft (grown_then _ _ _ _ _ c.in_ok-put_wanted-in-Stacked.ensures.lines (kept_then _ _ _ _ c.in_ok-put_between-in-Stacked.ensures.lines c.in_err-put_wanted-in-Stacked-2.ensures.kept)))
+
+pub put_comparison-returns-in_err-put_behind-in-Stacked-clause-kept : goal.put_comparison-returns-in_err-put_behind-in-Stacked-clause-kept
+put_comparison-returns-in_err-put_behind-in-Stacked-clause-kept t c = refused_then c.from_residual-in_err-put_behind-in-Stacked.result (label_then _ _ _ c.in_ok-own.ensures.draft (grown_then _ _ _ _ _ c.in_ok-put_wanted-in-Stacked.ensures.lines (kept_then _ _ _ _ c.in_ok-put_between-in-Stacked.ensures.lines (grown_then _ _ _ _ _ c.in_ok-put_wanted-in-Stacked-2.ensures.lines c.in_err-put_behind-in-Stacked.ensures.kept))))
+
+pub put_comparison-returns-in_err-put_outcome_test-in-Stacked-clause-kept : goal.put_comparison-returns-in_err-put_outcome_test-in-Stacked-clause-kept
+put_comparison-returns-in_err-put_outcome_test-in-Stacked-clause-kept t c = refused_then c.from_residual-in_err-put_outcome_test-in-Stacked.result (label_then _ _ _ c.in_ok-own.ensures.draft (grown_then _ _ _ _ _ c.in_ok-put_wanted-in-Stacked.ensures.lines (kept_then _ _ _ _ c.in_ok-put_between-in-Stacked.ensures.lines (grown_then _ _ _ _ _ c.in_ok-put_wanted-in-Stacked-2.ensures.lines (kept_then _ _ _ _ c.in_ok-put_behind-in-Stacked.ensures.lines c.in_err-put_outcome_test-in-Stacked.ensures.kept)))))
+
+pub put_comparison-returns-in_ok-put_outcome_test-in-Stacked-clause-kept : goal.put_comparison-returns-in_ok-put_outcome_test-in-Stacked-clause-kept
+put_comparison-returns-in_ok-put_outcome_test-in-Stacked-clause-kept t c = label_last _ _ _ _ c.in_ok-own.ensures.draft (grown_last _ _ _ _ _ _ c.in_ok-put_wanted-in-Stacked.ensures.lines (kept_last _ _ _ _ _ c.in_ok-put_between-in-Stacked.ensures.lines (grown_last _ _ _ _ _ _ c.in_ok-put_wanted-in-Stacked-2.ensures.lines (kept_last _ _ _ _ _ c.in_ok-put_behind-in-Stacked.ensures.lines (kept_last _ _ _ _ _ c.in_ok-put_outcome_test-in-Stacked.ensures.lines c.put-in-Stacked.ensures.kept)))))
+
+pub put_operator-returns-in_err-put_expr-in-Left-clause-kept : goal.put_operator-returns-in_err-put_expr-in-Left-clause-kept
+put_operator-returns-in_err-put_expr-in-Left-clause-kept t c = refused_then c.from_residual-in_err-put_expr-in-Left.result (label_then _ _ _ c.in_ok-label.ensures.draft c.in_err-put_expr-in-Left.ensures.kept)
+
+pub put_operator-returns-in_err-leave_out-in-Left-clause-kept : goal.put_operator-returns-in_err-leave_out-in-Left-clause-kept
+put_operator-returns-in_err-leave_out-in-Left-clause-kept t c = refused_then c.from_residual-in_err-leave_out-in-Left.result (label_then _ _ _ c.in_ok-label.ensures.draft (grown_then _ _ _ _ _ c.in_ok-put_expr-in-Left.ensures.lines c.in_err-leave_out-in-Left.ensures.kept))
+
+pub put_operator-returns-in_ok-leave_out-in-Left-clause-kept : goal.put_operator-returns-in_ok-leave_out-in-Left-clause-kept
+put_operator-returns-in_ok-leave_out-in-Left-clause-kept t c = label_last _ _ _ _ c.in_ok-label.ensures.draft (grown_last _ _ _ _ _ _ c.in_ok-put_expr-in-Left.ensures.lines (grown_last _ _ _ _ _ _ c.in_ok-leave_out-in-Left.ensures.lines c.put_form.ensures.kept))
+
+pub put_operator-returns-in_err-leave_out-in-Right-clause-kept : goal.put_operator-returns-in_err-leave_out-in-Right-clause-kept
+put_operator-returns-in_err-leave_out-in-Right-clause-kept t c = refused_then c.from_residual-in_err-leave_out-in-Right.result (label_then _ _ _ c.in_ok-label.ensures.draft c.in_err-leave_out-in-Right.ensures.kept)
+
+pub put_operator-returns-in_err-put_expr-in-Right-clause-kept : goal.put_operator-returns-in_err-put_expr-in-Right-clause-kept
+put_operator-returns-in_err-put_expr-in-Right-clause-kept t c = refused_then c.from_residual-in_err-put_expr-in-Right.result (label_then _ _ _ c.in_ok-label.ensures.draft (grown_then _ _ _ _ _ c.in_ok-leave_out-in-Right.ensures.lines c.in_err-put_expr-in-Right.ensures.kept))
+
+pub put_operator-returns-in_ok-put_expr-in-Right-clause-kept : goal.put_operator-returns-in_ok-put_expr-in-Right-clause-kept
+put_operator-returns-in_ok-put_expr-in-Right-clause-kept t c = label_last _ _ _ _ c.in_ok-label.ensures.draft (grown_last _ _ _ _ _ _ c.in_ok-leave_out-in-Right.ensures.lines (grown_last _ _ _ _ _ _ c.in_ok-put_expr-in-Right.ensures.lines c.put_form-in-Right.ensures.kept))
+
+pub put_operator-returns-in_err-put_expr-in-Stacked-clause-kept : goal.put_operator-returns-in_err-put_expr-in-Stacked-clause-kept
+put_operator-returns-in_err-put_expr-in-Stacked-clause-kept t c = refused_then c.from_residual-in_err-put_expr-in-Stacked.result (label_then _ _ _ c.in_ok-label.ensures.draft c.in_err-put_expr-in-Stacked.ensures.kept)
+
+pub put_operator-returns-in_err-put_waiting-in-Stacked-clause-kept : goal.put_operator-returns-in_err-put_waiting-in-Stacked-clause-kept
+put_operator-returns-in_err-put_waiting-in-Stacked-clause-kept t c = refused_then c.from_residual-in_err-put_waiting-in-Stacked.result (label_then _ _ _ c.in_ok-label.ensures.draft (grown_then _ _ _ _ _ c.in_ok-put_expr-in-Stacked.ensures.lines c.in_err-put_waiting-in-Stacked.ensures.kept))
+
+pub put_operator-returns-in_err-put_expr-in-Stacked-2-clause-kept : goal.put_operator-returns-in_err-put_expr-in-Stacked-2-clause-kept
+put_operator-returns-in_err-put_expr-in-Stacked-2-clause-kept t c = refused_then c.from_residual-in_err-put_expr-in-Stacked-2.result (label_then _ _ _ c.in_ok-label.ensures.draft (grown_then _ _ _ _ _ c.in_ok-put_expr-in-Stacked.ensures.lines (kept_then _ _ _ _ c.in_ok-put_waiting-in-Stacked.ensures.lines c.in_err-put_expr-in-Stacked-2.ensures.kept)))
+
+pub put_operator-returns-in_err-put_stacked-in-Stacked-clause-kept : goal.put_operator-returns-in_err-put_stacked-in-Stacked-clause-kept
+put_operator-returns-in_err-put_stacked-in-Stacked-clause-kept t c = refused_then c.from_residual-in_err-put_stacked-in-Stacked.result (label_then _ _ _ c.in_ok-label.ensures.draft (grown_then _ _ _ _ _ c.in_ok-put_expr-in-Stacked.ensures.lines (kept_then _ _ _ _ c.in_ok-put_waiting-in-Stacked.ensures.lines (grown_then _ _ _ _ _ c.in_ok-put_expr-in-Stacked-2.ensures.lines c.in_err-put_stacked-in-Stacked.ensures.kept))))
+
+pub put_operator-returns-in_ok-put_stacked-in-Stacked-clause-kept : goal.put_operator-returns-in_ok-put_stacked-in-Stacked-clause-kept
+put_operator-returns-in_ok-put_stacked-in-Stacked-clause-kept t c = label_last _ _ _ _ c.in_ok-label.ensures.draft (grown_last _ _ _ _ _ _ c.in_ok-put_expr-in-Stacked.ensures.lines (kept_last _ _ _ _ _ c.in_ok-put_waiting-in-Stacked.ensures.lines (grown_last _ _ _ _ _ _ c.in_ok-put_expr-in-Stacked-2.ensures.lines (kept_last _ _ _ _ _ c.in_ok-put_stacked-in-Stacked.ensures.lines c.put.ensures.kept))))
+
+pub put_joint-returns-in_ok-put_test-clause-kept : goal.put_joint-returns-in_ok-put_test-clause-kept
+put_joint-returns-in_ok-put_test-clause-kept t c = grown_last _ _ _ _ _ _ c.in_ok-put_test.ensures.lines c.put_test-then-is_straight.ensures.kept
+
+pub put_joint-returns-in_err-put_test-2-clause-kept : goal.put_joint-returns-in_err-put_test-2-clause-kept
+put_joint-returns-in_err-put_test-2-clause-kept t c = refused_then c.from_residual-in_err-put_test-2.result (label_then _ _ _ c.in_ok-own.ensures.draft c.in_err-put_test-2.ensures.kept)
+
+pub put_joint-returns-in_err-put_test-3-clause-kept : goal.put_joint-returns-in_err-put_test-3-clause-kept
+put_joint-returns-in_err-put_test-3-clause-kept t c = refused_then c.from_residual-in_err-put_test-3.result (label_then _ _ _ c.in_ok-own.ensures.draft (grown_then _ _ _ _ _ c.in_ok-put_test-2.ensures.lines c.in_err-put_test-3.ensures.kept))
+
+pub put_joint-returns-in_ok-put_test-3-clause-kept : goal.put_joint-returns-in_ok-put_test-3-clause-kept
+put_joint-returns-in_ok-put_test-3-clause-kept t c = label_last _ _ _ _ c.in_ok-own.ensures.draft (grown_last _ _ _ _ _ _ c.in_ok-put_test-2.ensures.lines (grown_last _ _ _ _ _ _ c.in_ok-put_test-3.ensures.lines c.put.ensures.kept))
+
+pub put_side-returns-in_ok-put_wanted-in-Left-clause-kept : goal.put_side-returns-in_ok-put_wanted-in-Left-clause-kept
+put_side-returns-in_ok-put_wanted-in-Left-clause-kept t c = grown_last _ _ _ _ _ _ c.in_ok-put_wanted-in-Left.ensures.lines c.leave_out.ensures.kept
+
+pub put_load_test-returns-in_ok-leave_place-in-Some-clause-kept : goal.put_load_test-returns-in_ok-leave_place-in-Some-clause-kept
+put_load_test-returns-in_ok-leave_place-in-Some-clause-kept t c = grown_last _ _ _ _ _ _ c.in_ok-leave_place-in-Some.ensures.lines c.put_own_test.ensures.kept
+
+pub put_load_test-returns-in_err-load-in-None-clause-kept : goal.put_load_test-returns-in_err-load-in-None-clause-kept
+put_load_test-returns-in_err-load-in-None-clause-kept t c = refused_then c.from_residual-in_err-load-in-None.result (grown_then _ _ _ _ _ c.in_ok-put_target-in-None.ensures.lines c.in_err-load-in-None.ensures.kept)
+
+pub put_load_test-returns-in_ok-load-in-None-clause-kept : goal.put_load_test-returns-in_ok-load-in-None-clause-kept
+put_load_test-returns-in_ok-load-in-None-clause-kept t c = grown_last _ _ _ _ _ _ c.in_ok-put_target-in-None.ensures.lines (kept_last _ _ _ _ _ c.in_ok-load-in-None.ensures.lines c.put_value_test.ensures.kept)
+
+pub put_test-returns-in_ok-put_expr-in-Comma-clause-kept : goal.put_test-returns-in_ok-put_expr-in-Comma-clause-kept
+put_test-returns-in_ok-put_expr-in-Comma-clause-kept t c = grown_last _ _ _ _ _ _ c.in_ok-put_expr-in-Comma.ensures.lines c.put_test-in-Comma.ensures.kept
+
+pub put_plain_test-returns-clause-kept : goal.put_plain_test-returns-clause-kept
+put_plain_test-returns-clause-kept t c = grown_last _ _ _ _ _ _ c.in_ok-put_expr.ensures.lines c.put_value_test.ensures.kept
+
+pub put_unary_value-returns-in_err-put_test-in-Not-clause-kept : goal.put_unary_value-returns-in_err-put_test-in-Not-clause-kept
+put_unary_value-returns-in_err-put_test-in-Not-clause-kept t c = refused_then c.from_residual-in_err-put_test-in-Not.result (grown_then _ _ _ _ _ c.in_ok-truth-in-Not.ensures.draft c.in_err-put_test-in-Not.ensures.kept)
+
+pub put_unary_value-returns-in_ok-put_test-in-Not-clause-kept : goal.put_unary_value-returns-in_ok-put_test-in-Not-clause-kept
+put_unary_value-returns-in_ok-put_test-in-Not-clause-kept t c = grown_last _ _ _ _ _ _ c.in_ok-truth-in-Not.ensures.draft (grown_last _ _ _ _ _ _ c.in_ok-put_test-in-Not.ensures.lines c.put_truth.ensures.kept)
+
+pub put_unary_value-returns-in_ok-put_expr-in_default-clause-kept : goal.put_unary_value-returns-in_ok-put_expr-in_default-clause-kept
+put_unary_value-returns-in_ok-put_expr-in_default-clause-kept t c = grown_last _ _ _ _ _ _ c.in_ok-put_expr-in_default.ensures.lines c.put_unary.ensures.kept
+
+pub put_expr-returns-in_err-put_joint-in-And-clause-kept : goal.put_expr-returns-in_err-put_joint-in-And-clause-kept
+put_expr-returns-in_err-put_joint-in-And-clause-kept t c = refused_then c.from_residual-in_err-put_joint-in-And.result (grown_then _ _ _ _ _ c.in_ok-truth-in-And.ensures.draft c.in_err-put_joint-in-And.ensures.kept)
+
+pub put_expr-returns-in_ok-put_joint-in-And-clause-kept : goal.put_expr-returns-in_ok-put_joint-in-And-clause-kept
+put_expr-returns-in_ok-put_joint-in-And-clause-kept t c = grown_last _ _ _ _ _ _ c.in_ok-truth-in-And.ensures.draft (grown_last _ _ _ _ _ _ c.in_ok-put_joint-in-And.ensures.lines c.put_truth-in-And.ensures.kept)
+
+pub put_expr-returns-in_err-put_joint-in-Or-clause-kept : goal.put_expr-returns-in_err-put_joint-in-Or-clause-kept
+put_expr-returns-in_err-put_joint-in-Or-clause-kept t c = refused_then c.from_residual-in_err-put_joint-in-Or.result (grown_then _ _ _ _ _ c.in_ok-truth-in-Or.ensures.draft c.in_err-put_joint-in-Or.ensures.kept)
+
+pub put_expr-returns-in_ok-put_joint-in-Or-clause-kept : goal.put_expr-returns-in_ok-put_joint-in-Or-clause-kept
+put_expr-returns-in_ok-put_joint-in-Or-clause-kept t c = grown_last _ _ _ _ _ _ c.in_ok-truth-in-Or.ensures.draft (grown_last _ _ _ _ _ _ c.in_ok-put_joint-in-Or.ensures.lines c.put_truth-in-Or.ensures.kept)
+
+pub put_expr-returns-in_err-put_comparison-in-Some-clause-kept : goal.put_expr-returns-in_err-put_comparison-in-Some-clause-kept
+put_expr-returns-in_err-put_comparison-in-Some-clause-kept t c = refused_then c.from_residual-in_err-put_comparison-in-Some.result (grown_then _ _ _ _ _ c.in_ok-truth-in-Some.ensures.draft c.in_err-put_comparison-in-Some.ensures.kept)
+
+pub put_expr-returns-in_ok-put_comparison-in-Some-clause-kept : goal.put_expr-returns-in_ok-put_comparison-in-Some-clause-kept
+put_expr-returns-in_ok-put_comparison-in-Some-clause-kept t c = grown_last _ _ _ _ _ _ c.in_ok-truth-in-Some.ensures.draft (grown_last _ _ _ _ _ _ c.in_ok-put_comparison-in-Some.ensures.lines c.put_truth.ensures.kept)

@@ -6,11 +6,14 @@ use Rattle.c65_genexpr.proofs.expr.+expression.Given as goal
 abbrev pub decreases-put_expr : goal.decreases-put_expr
 decreases-put_expr l = 8 * count (typed_of l.e.now)
 
+abbrev pub decreases-put_plain_test : goal.decreases-put_plain_test
+decreases-put_plain_test l = 8 * count (typed_of l.e.now) + 1
+
 abbrev pub decreases-put_test : goal.decreases-put_test
-decreases-put_test l = 8 * count (typed_of l.e.now) + 1
+decreases-put_test l = 8 * count (typed_of l.e.now) + 2
 
 abbrev pub decreases-put_wanted : goal.decreases-put_wanted
-decreases-put_wanted l = 8 * count (typed_of l.e.now) + 2
+decreases-put_wanted l = 8 * count (typed_of l.e.now) + 3
 
 abbrev pub decreases-put_target : goal.decreases-put_target
 decreases-put_target l = 8 * count (typed_of l.a.now) + 1
@@ -18,32 +21,32 @@ decreases-put_target l = 8 * count (typed_of l.a.now) + 1
 abbrev pub decreases-put_load_test : goal.decreases-put_load_test
 decreases-put_load_test l = 8 * count (typed_of l.a.now) + 2
 
+abbrev pub decreases-put_unary_value : goal.decreases-put_unary_value
+decreases-put_unary_value l = 8 * count (typed_of l.a.now) + 4
+
 abbrev pub decreases-put_side : goal.decreases-put_side
-decreases-put_side l = 8 * (count (typed_of l.a.now) + count (typed_of l.b.now)) + 3
+decreases-put_side l = 8 * (count (typed_of l.a.now) + count (typed_of l.b.now)) + 4
 
 abbrev pub decreases-put_comparison : goal.decreases-put_comparison
-decreases-put_comparison l = 8 * (count (typed_of l.a.now) + count (typed_of l.b.now)) + 4
+decreases-put_comparison l = 8 * (count (typed_of l.a.now) + count (typed_of l.b.now)) + 5
 
 abbrev pub decreases-put_operator : goal.decreases-put_operator
-decreases-put_operator l = 8 * (count (typed_of l.a.now) + count (typed_of l.b.now)) + 4
-
-abbrev pub decreases-put_binary : goal.decreases-put_binary
-decreases-put_binary l = 8 * (count (typed_of l.a.now) + count (typed_of l.b.now)) + 5
+decreases-put_operator l = 8 * (count (typed_of l.a.now) + count (typed_of l.b.now)) + 5
 
 abbrev pub decreases-put_joint : goal.decreases-put_joint
-decreases-put_joint l = 8 * (count (typed_of l.a.now) + count (typed_of l.b.now)) + 4
+decreases-put_joint l = 8 * (count (typed_of l.a.now) + count (typed_of l.b.now)) + 5
 
 abbrev pub decreases-put_choice : goal.decreases-put_choice
-decreases-put_choice l = 8 * (count (typed_of l.c.now) + (count (typed_of l.a.now) + count (typed_of l.b.now))) + 4
+decreases-put_choice l = 8 * (count (typed_of l.c.now) + (count (typed_of l.a.now) + count (typed_of l.b.now))) + 5
 
 abbrev pub decreases-put_assign : goal.decreases-put_assign
-decreases-put_assign l = 8 * (count (typed_of l.a.now) + count (typed_of l.b.now)) + 4
+decreases-put_assign l = 8 * (count (typed_of l.a.now) + count (typed_of l.b.now)) + 5
 
 abbrev pub decreases-put_compound : goal.decreases-put_compound
-decreases-put_compound l = 8 * (count (typed_of l.a.now) + count (typed_of l.b.now)) + 4
+decreases-put_compound l = 8 * (count (typed_of l.a.now) + count (typed_of l.b.now)) + 5
 
 abbrev pub decreases-put_call : goal.decreases-put_call
-decreases-put_call l = 8 * (count (typed_of l.callee.now) + args_count (nodes_of l.args.now)) + 4
+decreases-put_call l = 8 * (count (typed_of l.callee.now) + args_count (nodes_of l.args.now)) + 5
 
 abbrev pub decreases-put_args : goal.decreases-put_args
 decreases-put_args l = 8 * args_count (nodes_of l.args.now)

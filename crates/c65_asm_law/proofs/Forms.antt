@@ -1,0 +1,352 @@
+-- The forms of operators and comparisons: the bytes that they read can be written.
+use Rattle.std.proofs.Common.{ℕ, ◌*◌, ◌%◌, ◌<◌, ◌^◌, ◌==◌, Bool, true, false, Option, None, Some, List, [], ◌∷◌, arith}
+use Rattle.std.specs.Prelude.{if◌then◌else◌, ◌&&◌, ◌||◌, is_some, option_map, option_and_then}
+use Rattle.c65_base.specs.declared.operators.BinaryOp.{BinaryOp}
+use Rattle.c65_base.specs.declared.operators.BinaryOp.TheVariants as ops
+use Rattle.c65_ints.specs.declared.types.IntType.{IntType}
+use Rattle.c65_ints.specs.declared.types.IntType.TheVariants.{UInt}
+use Rattle.c65_ctype.specs.Trees.{type_in}
+use Rattle.c65_ctype.specs.Views.{types_of}
+use Rattle.c65_csem.specs.Trees.{Typed, node, constant, null, literal, object, func, member, load, address, decay, convert, UnitTy}
+use Rattle.c65_csem.specs.Typed.{IsTyped}
+use Rattle.c65_code.specs.declared.line.Line.{Line}
+use Rattle.c65_code.specs.declared.routine.Width.{Width}
+use Rattle.c65_code.specs.declared.routine.Width.TheVariants.{Ax, Eax}
+use Rattle.c65_genframe.specs.Frames.{Framed}
+use Rattle.c65_genwide.specs.Wide.{width_of}
+use Rattle.c65_genload.specs.Words.{implied}
+use Rattle.c65_genload.specs.declared.places.Extent.{Extent}
+use Rattle.c65_genload.specs.declared.places.Extent.TheVariants.{One, Two}
+use Rattle.c65_genload.specs.declared.places.Place.{Place}
+use Rattle.c65_genload.specs.declared.places.Place.TheVariants as places
+use Rattle.c65_genload.specs.declared.places.Access.{Access}
+use Rattle.c65_genload.specs.declared.places.Access.TheVariants.{Whole, Part}
+use Rattle.c65_gendirect.specs.declared.bytes.OperandByte.{OperandByte}
+use Rattle.c65_gendirect.specs.declared.direct.Direct.{Direct}
+use Rattle.c65_gendirect.specs.declared.direct.Direct.TheVariants as directs
+use Rattle.c65_gendirect.specs.declared.compare.Sides.{Sides}
+use Rattle.c65_gendirect.specs.declared.compare.Sides.TheVariants.{Word, Long}
+use Rattle.c65_gendirect.specs.declared.relation.Relation.{Relation}
+use Rattle.c65_gendirect.specs.Bytes.{byte_of}
+use Rattle.c65_gendirect.specs.Words.{word_code, taken_from_code}
+use Rattle.c65_gendirect.specs.Compare.{mirrored}
+use Rattle.c65_genshift.specs.Quick.{quick_of, elements_code}
+use Rattle.c65_genexpr.specs.declared.operands.Operands.{Operands}
+use Rattle.c65_genexpr.specs.declared.operands.Operands.TheVariants.{Numbers, PointerFirst, PointerLast, Pointers}
+use Rattle.c65_genexpr.specs.declared.operating.Form.{Form}
+use Rattle.c65_genexpr.specs.declared.operating.Form.TheVariants as forms
+use Rattle.c65_genexpr.specs.declared.operating.Operating.{Operating}
+use Rattle.c65_genexpr.specs.declared.operating.Operating.TheVariants as ways
+use Rattle.c65_genexpr.specs.declared.comparing.Side.{Side}
+use Rattle.c65_genexpr.specs.declared.comparing.Side.TheVariants.{Left, Right}
+use Rattle.c65_genexpr.specs.declared.comparing.Comparing.{Comparing}
+use Rattle.c65_genexpr.specs.declared.comparing.Comparing.TheVariants as compared
+use Rattle.c65_genexpr.specs.Types.{kind_of, bare, access_of}
+use Rattle.c65_genexpr.specs.Places.{place_of}
+use Rattle.c65_genexpr.specs.Operands.{residue_of, between_code, behind_code, negative}
+use Rattle.c65_genexpr.specs.Direct.{kept_at, address_at, address_of, takes_bytes, converted_if, direct_of, own_bytes, is_fixed, is_pure, is_byte, both_bytes, all_bytes, sides_of, listed, alone}
+use Rattle.c65_genexpr.specs.Comparing.{tested_by, lowest, is_raised, raised, one_more, range_of, meeting, beside, changes, compared_by, comparing_of, on, low_code, comparison_by}
+use Rattle.c65_genexpr.specs.Operating.{sum_by, mask_by, number_form, offset_form, constant_form, pair_of, word_if, element_form, right_form, under_if, left_form, constant_right, direct_right, direct_left, by_left, by_right, operating_of, placed, form_code, waiting_code, stacked_code, operator_by}
+use Rattle.c65_genexpr.specs.Operating as operators
+use Rattle.c65_genexpr.specs.Wanted.{branch_code}
+use Rattle.c65_asm_law.proofs.Well.{AllWell, well_append, well_none}
+use Rattle.c65_asm_law.proofs.Known.{Knows}
+use Rattle.c65_asm_law.proofs.Loads.{WellPlace, push_well, wide_well, divide_well}
+use Rattle.c65_asm_law.proofs.Places.{place_well, between_well, behind_well}
+use Rattle.c65_asm_law.proofs.Directs.{WellByte, WellMaybe, WellDirect, WellRead, byte_well, converted_well, op_well, labelled_well, word_well, add_number_well, taken_from_well, long_mask_well, add_long_well, WellSides, compare_well, compare_byte_well, AreBytes, quick_well, elements_well}
+use Rattle.std.proofs.lemmas.Option.{slice_get_within}
+
+-- ---- values that are read where they lie
+
+pub kept_well : (n : ℕ) (p : Place) (access : Access) → WellPlace n p → WellRead n (kept_at p access)
+kept_well n places.Far access h = tt
+kept_well n (places.Bank at) (Whole kind) h = h
+kept_well n (places.Near at) (Whole kind) h = h
+kept_well n (places.Data s at) (Whole kind) h = h
+kept_well n (places.Bank at) (Part field) h = tt
+kept_well n (places.Near at) (Part field) h = tt
+kept_well n (places.Data s at) (Part field) h = tt
+
+address_at_well : (n : ℕ) (p : Place) → WellPlace n p → WellRead n (address_at p)
+address_at_well n (places.Data s at) h = h
+address_at_well n (places.Bank at) h = tt
+address_at_well n (places.Near at) h = tt
+address_at_well n places.Far h = tt
+
+address_of_well : (n : ℕ) (u : UnitTy) (f : Framed) (pushed : ℕ) (e : Typed) → Knows f u n → IsTyped u e → WellRead n (address_of f pushed e)
+address_of_well n u f pushed (node t (literal i)) knows h = (knows.literals i (slice_get_within u.literals i h.0 h.1), omega arith)
+address_of_well n u f pushed (node t (func i)) knows h = (knows.funcs i (slice_get_within u.funcs i h.0 h.1), omega arith)
+address_of_well n u f pushed (node t (object i)) knows h = address_at_well n (place_of f pushed (node t (object i))) (place_well n u f pushed (node t (object i)) knows h)
+address_of_well n u f pushed (node t (member e m)) knows h = address_at_well n (place_of f pushed (node t (member e m))) (place_well n u f pushed (node t (member e m)) knows h)
+address_of_well n u f pushed (node t _) knows h = tt
+
+converted_if_well : (n : ℕ) (b : Bool) (to : IntType) (d : Option Direct) → WellRead n d → WellRead n (converted_if b to d)
+converted_if_well n true to None h = tt
+converted_if_well n true to (Some d) h = converted_well n to d h
+converted_if_well n false to d h = tt
+
+pub read_well : (n : ℕ) (u : UnitTy) (f : Framed) (pushed : ℕ) (e : Typed) → Knows f u n → IsTyped u e → WellRead n (direct_of f pushed e)
+read_well n u f pushed (node t (constant z)) knows h = tt
+read_well n u f pushed (node t null) knows h = tt
+read_well n u f pushed (node t (load e)) knows h = kept_well n (place_of f pushed e) (access_of (types_of f.parts.types) e) (place_well n u f pushed e knows h.0)
+read_well n u f pushed (node t (address e)) knows h = address_of_well n u f pushed e knows h.0
+read_well n u f pushed (node t (decay e)) knows h = address_of_well n u f pushed e knows h.0
+read_well n u f pushed (node t (convert e)) knows h = converted_if_well n (takes_bytes (type_in t) (bare e)) (kind_of (type_in t)) (direct_of f pushed e) (read_well n u f pushed e knows h.0)
+read_well n u f pushed (node t _) knows h = tt
+
+-- ---- comparisons
+
+abbrev pub WellComparing : ℕ → Comparing → Type 0
+WellComparing n (compared.Truth side) = Unit {0}
+WellComparing n (compared.Byte side low r byte) = WellMaybe n low × WellByte n byte
+WellComparing n (compared.Whole side r signed sides) = WellSides n sides
+WellComparing n compared.Stacked = Unit {0}
+
+abbrev WellSome : ℕ → Option Sides → Type 0
+WellSome n None = Unit {0}
+WellSome n (Some sides) = WellSides n sides
+
+both_bytes_well : (n : ℕ) (a b : Option OperandByte) → WellMaybe n a → WellMaybe n b → WellSome n (both_bytes a b)
+both_bytes_well n (Some a) (Some b) h k = (h, k)
+both_bytes_well n None b h k = tt
+both_bytes_well n (Some a) None h k = tt
+
+all_bytes_well : (n : ℕ) (a b c d : Option OperandByte) → WellMaybe n a → WellMaybe n b → WellMaybe n c → WellMaybe n d → WellSome n (all_bytes a b c d)
+all_bytes_well n (Some a) (Some b) (Some c) (Some d) h k l m = (h, (k, (l, m)))
+all_bytes_well n None b c d h k l m = tt
+all_bytes_well n (Some a) None c d h k l m = tt
+all_bytes_well n (Some a) (Some b) None d h k l m = tt
+all_bytes_well n (Some a) (Some b) (Some c) None h k l m = tt
+
+sides_well : (n : ℕ) (w : Width) (d : Direct) → WellDirect n d → WellSome n (sides_of w d)
+sides_well n Ax d h = both_bytes_well n (byte_of d 0) (byte_of d 1) (byte_well n d 0 h) (byte_well n d 1 h)
+sides_well n Eax d h = all_bytes_well n (byte_of d 0) (byte_of d 1) (byte_of d 2) (byte_of d 3) (byte_well n d 0 h) (byte_well n d 1 h) (byte_well n d 2 h) (byte_well n d 3 h)
+
+listed_well : (n : ℕ) (sides : Option Sides) → WellSome n sides → AreBytes n (listed sides)
+listed_well n None h = tt
+listed_well n (Some (Word low high)) h = (h.0, (h.1, tt))
+listed_well n (Some (Long d0 d1 d2 d3)) h = (h.0, (h.1.0, (h.1.1.0, (h.1.1.1, tt))))
+
+alone_well : (n : ℕ) (byte : Option OperandByte) → WellMaybe n byte → AreBytes n (alone byte)
+alone_well n None h = tt
+alone_well n (Some byte) h = (h, tt)
+
+pub own_well : (n : ℕ) (d : Direct) (e : Extent) → WellDirect n d → AreBytes n (own_bytes d e)
+own_well n d One h = alone_well n (byte_of d 0) (byte_well n d 0 h)
+own_well n d Two h = listed_well n (sides_of Ax d) (sides_well n Ax d h)
+own_well n d _ h = listed_well n (sides_of Eax d) (sides_well n Eax d h)
+
+lowest_well : (n : ℕ) (sides : Sides) → WellSides n sides → WellByte n (lowest sides)
+lowest_well n (Word low high) h = h.0
+lowest_well n (Long d0 d1 d2 d3) h = h.0
+
+first_well : (n : ℕ) (d : Option Direct) → WellRead n d → WellMaybe n (option_and_then (λ x. byte_of x 0) d)
+first_well n None h = tt
+first_well n (Some d) h = byte_well n d 0 h
+
+one_more_well : (n : ℕ) (d : Direct) → WellDirect n d → WellDirect n (one_more d)
+one_more_well n (directs.Number m) h = tt
+one_more_well n (directs.Address s at) h = h
+one_more_well n (directs.Kept p kind) h = h
+
+meeting_well : (n : ℕ) (side : Side) (r : Relation) (few : Bool) (kind : IntType) (first : Option Direct) (sides : Option Sides) → WellRead n first → WellSome n sides → WellComparing n (meeting side r few kind first sides)
+meeting_well n side r few kind first None h k = tt
+meeting_well n side r true kind first (Some sides) h k = (first_well n first h, lowest_well n sides k)
+meeting_well n side r false kind first (Some sides) h k = k
+
+comparing_if : (n : ℕ) (b : Bool) (x y : Comparing) → WellComparing n x → WellComparing n y → WellComparing n (if b then x else y)
+comparing_if n true x y p q = p
+comparing_if n false x y p q = q
+
+beside_well : (n : ℕ) (side : Side) (r : Relation) (few : Bool) (kind : IntType) (first second : Option Direct) → WellRead n first → WellRead n second → WellComparing n (beside side r few kind first second)
+beside_well n side r few kind first None h k = tt
+beside_well n side r few kind first (Some d) h k =
+    comparing_if n (is_raised r (range_of few kind) d) _ _
+    (meeting_well n side (raised r) few kind first (sides_of (width_of kind) (one_more d)) h (sides_well n (width_of kind) (one_more d) (one_more_well n d k)))
+    (meeting_well n side r few kind first (sides_of (width_of kind) d) h (sides_well n (width_of kind) d k))
+
+compared_well : (n : ℕ) (r : Relation) (few : Bool) (kind : IntType) (pure : Bool) (a b : Option Direct) → WellRead n a → WellRead n b → WellComparing n (compared_by r few kind pure a b)
+compared_well n r few kind pure a b h k = comparing_if n (changes kind pure a b) _ _ (beside_well n Right (mirrored r) few kind b a k h) (beside_well n Left r few kind a b h k)
+
+pub comparing_well : (n : ℕ) (u : UnitTy) (f : Framed) (pushed : ℕ) (r : Relation) (kind : IntType) (a b : Typed) → Knows f u n → IsTyped u a → IsTyped u b → WellComparing n (comparing_of f pushed r kind a b)
+comparing_well n u f pushed r kind a b knows h k =
+    comparing_if n (is_some (tested_by r b)) (compared.Truth Left) _ tt
+    (comparing_if n (is_some (tested_by r a)) (compared.Truth Right) _ tt
+    (compared_well n r (is_byte a && is_byte b) kind (is_pure b) (direct_of f pushed a) (direct_of f pushed b) (read_well n u f pushed a knows h) (read_well n u f pushed b knows k)))
+
+on_well : (n : ℕ) (side : Side) (a b : List Line) → AllWell n a → AllWell n b → AllWell n (on side a b)
+on_well n Left a b h k = h
+on_well n Right a b h k = k
+
+low_well : (n : ℕ) (byte : Option OperandByte) (lines : List Line) → WellMaybe n byte → AllWell n lines → AllWell n (low_code byte lines)
+low_well n None lines h k = k
+low_well n (Some byte) lines h k = op_well n _ byte h
+
+pub comparison_well : (n : ℕ) (how : Comparing) (op : BinaryOp) (operands : Operands) (right : IntType) (s : Bool) (to own : ℕ) (a b : List Line) → WellComparing n how → to < 2 ^ 32 → own < 2 ^ 32 → AllWell n a → AllWell n b → AllWell n (comparison_by how op operands right s to own a b)
+comparison_well n (compared.Truth side) op operands right s to own a b h low room ha hb = labelled_well n own _ room (on_well n side a b ha hb)
+comparison_well n (compared.Byte side first r byte) op operands right s to own a b h low room ha hb = labelled_well n own _ room (well_append n (low_code first (on side a b)) _ (low_well n first (on side a b) h.0 (on_well n side a b ha hb)) (compare_byte_well n r byte to h.1 low))
+comparison_well n (compared.Whole side r signed sides) op operands right s to own a b h low room ha hb = well_append n (on side a b) _ (on_well n side a b ha hb) (compare_well n r signed sides own to h room low)
+comparison_well n compared.Stacked op operands right s to own a b h low room ha hb =
+    let last : AllWell n (implied _ ∷ branch_code s to) = record { all = ((tt, tt), ((tt, low), tt)) } in
+    labelled_well n own _ room (well_append n a _ ha (well_append n (between_code operands) _ (between_well n operands) (well_append n b _ hb (well_append n (behind_code op operands right) _ (behind_well n op operands right) last))))
+
+-- ---- operators
+
+abbrev pub WellForm : ℕ → Form → Type 0
+WellForm n (forms.Sum m) = Unit {0}
+WellForm n (forms.LongSum m) = Unit {0}
+WellForm n (forms.Mask op m) = Unit {0}
+WellForm n (forms.Constant kind quick) = Unit {0}
+WellForm n (forms.Word op low high) = WellByte n low × WellByte n high
+WellForm n (forms.Under low high) = WellByte n low × WellByte n high
+WellForm n (forms.Indexed size low high) = WellByte n low × WellByte n high
+WellForm n (forms.Distance size low high) = WellByte n low × WellByte n high
+WellForm n (forms.DistanceUnder size low high) = WellByte n low × WellByte n high
+
+abbrev WellForms : ℕ → Option Form → Type 0
+WellForms n None = Unit {0}
+WellForms n (Some form) = WellForm n form
+
+abbrev pub WellOperating : ℕ → Operating → Type 0
+WellOperating n (ways.Left form) = WellForm n form
+WellOperating n (ways.Right form) = WellForm n form
+WellOperating n ways.Stacked = Unit {0}
+
+sum_well : (n : ℕ) (w : Width) (m : ℕ) → WellForm n (sum_by w m)
+sum_well n Ax m = tt
+sum_well n Eax m = tt
+
+mask_well : (n : ℕ) (op : BinaryOp) (w : Width) (m : ℕ) → WellForms n (mask_by op w m)
+mask_well n op Ax m = tt
+mask_well n op Eax m = tt
+
+constant_kind_well : (n : ℕ) (kind : IntType) (quick : Option _) → WellForms n (option_map (forms.Constant kind) quick)
+constant_kind_well n kind None = tt
+constant_kind_well n kind (Some quick) = tt
+
+number_well : (n : ℕ) (op : BinaryOp) (kind : IntType) (m : ℕ) → WellForms n (number_form op kind m)
+number_well n ops.Add kind m = sum_well n (width_of kind) m
+number_well n ops.Sub kind m = sum_well n (width_of kind) (negative m)
+number_well n ops.BitAnd kind m = mask_well n ops.BitAnd (width_of kind) m
+number_well n ops.BitXor kind m = mask_well n ops.BitXor (width_of kind) m
+number_well n ops.BitOr kind m = mask_well n ops.BitOr (width_of kind) m
+number_well n op kind m = constant_kind_well n kind (quick_of op kind m)
+
+offset_well : (n : ℕ) (op : BinaryOp) (m : ℕ) → WellForms n (offset_form op m)
+offset_well n ops.Add m = tt
+offset_well n ops.Sub m = tt
+offset_well n _ m = tt
+
+constant_well : (n : ℕ) (op : BinaryOp) (operands : Operands) (m : ℕ) → WellForms n (constant_form op operands m)
+constant_well n op (Numbers kind) m = number_well n op kind m
+constant_well n op (PointerFirst size) m = offset_well n op (m * size % 4294967296)
+constant_well n op (PointerLast size) m = tt
+constant_well n op (Pointers size) m = tt
+
+forms_if : (n : ℕ) (b : Bool) (x y : Option Form) → WellForms n x → WellForms n y → WellForms n (if b then x else y)
+forms_if n true x y p q = p
+forms_if n false x y p q = q
+
+word_if_well : (n : ℕ) (b : Bool) (op : BinaryOp) (w : Width) (low high : OperandByte) → WellByte n low → WellByte n high → WellForms n (word_if b op w low high)
+word_if_well n true op Ax low high h k = (h, k)
+word_if_well n true op Eax low high h k = tt
+word_if_well n false op w low high h k = tt
+
+element_well : (n : ℕ) (op : BinaryOp) (size : ℕ) (low high : OperandByte) → WellByte n low → WellByte n high → WellForms n (element_form op size low high)
+element_well n ops.Add size low high h k = forms_if n (size == 1) (Some (forms.Word ops.Add low high)) None (h, k) tt
+element_well n ops.Sub size low high h k = forms_if n (size == 1) (Some (forms.Word ops.Sub low high)) None (h, k) tt
+element_well n _ size low high h k = tt
+
+right_well : (n : ℕ) (op : BinaryOp) (operands : Operands) (low high : OperandByte) → WellByte n low → WellByte n high → WellForms n (right_form op operands low high)
+right_well n op (Numbers kind) low high h k = word_if_well n (operators.takes_bytes op) op (width_of kind) low high h k
+right_well n op (PointerFirst size) low high h k = element_well n op size low high h k
+right_well n ops.Add (PointerLast size) low high h k = (h, k)
+right_well n _ (PointerLast size) low high h k = tt
+right_well n ops.Sub (Pointers size) low high h k = (h, k)
+right_well n _ (Pointers size) low high h k = tt
+
+under_if_well : (n : ℕ) (w : Width) (low high : OperandByte) → WellByte n low → WellByte n high → WellForms n (under_if w low high)
+under_if_well n Ax low high h k = (h, k)
+under_if_well n Eax low high h k = tt
+
+left_well : (n : ℕ) (op : BinaryOp) (operands : Operands) (low high : OperandByte) → WellByte n low → WellByte n high → WellForms n (left_form op operands low high)
+left_well n ops.Sub (Numbers kind) low high h k = under_if_well n (width_of kind) low high h k
+left_well n op (Numbers kind) low high h k = word_if_well n (operators.takes_bytes op) op (width_of kind) low high h k
+left_well n ops.Add (PointerFirst size) low high h k = (h, k)
+left_well n _ (PointerFirst size) low high h k = tt
+left_well n ops.Sub (PointerLast size) low high h k = tt
+left_well n ops.Add (PointerLast size) low high h k = tt
+left_well n _ (PointerLast size) low high h k = tt
+left_well n ops.Sub (Pointers size) low high h k = (h, k)
+left_well n _ (Pointers size) low high h k = tt
+
+-- by the two bytes of a word, where it has both
+taken_right : (n : ℕ) (op : BinaryOp) (operands : Operands) (low high : Option OperandByte) → WellMaybe n low → WellMaybe n high → WellForms n (option_and_then (λ w. right_form op operands w.0 w.1) (pair_of low high))
+taken_right n op operands (Some low) (Some high) h k = right_well n op operands low high h k
+taken_right n op operands None high h k = tt
+taken_right n op operands (Some low) None h k = tt
+
+taken_left : (n : ℕ) (op : BinaryOp) (operands : Operands) (low high : Option OperandByte) → WellMaybe n low → WellMaybe n high → WellForms n (option_and_then (λ w. left_form op operands w.0 w.1) (pair_of low high))
+taken_left n op operands (Some low) (Some high) h k = left_well n op operands low high h k
+taken_left n op operands None high h k = tt
+taken_left n op operands (Some low) None h k = tt
+
+direct_right_well : (n : ℕ) (op : BinaryOp) (operands : Operands) (b : Option Direct) → WellRead n b → WellForms n (direct_right op operands b)
+direct_right_well n op operands None h = tt
+direct_right_well n op operands (Some d) h = taken_right n op operands (byte_of d 0) (byte_of d 1) (byte_well n d 0 h) (byte_well n d 1 h)
+
+direct_left_well : (n : ℕ) (op : BinaryOp) (operands : Operands) (a : Option Direct) → WellRead n a → WellForms n (direct_left op operands a)
+direct_left_well n op operands None h = tt
+direct_left_well n op operands (Some d) h = taken_left n op operands (byte_of d 0) (byte_of d 1) (byte_well n d 0 h) (byte_well n d 1 h)
+
+constant_right_well : (n : ℕ) (op : BinaryOp) (operands : Operands) (b : Typed) → WellForms n (constant_right op operands b)
+constant_right_well n op operands (node t (constant z)) = constant_well n op operands (residue_of z)
+constant_right_well n op operands (node t _) = tt
+
+by_left_well : (n : ℕ) (stays : Bool) (form : Option Form) → WellForms n form → WellOperating n (by_left stays form)
+by_left_well n true (Some form) h = h
+by_left_well n true None h = tt
+by_left_well n false form h = tt
+
+by_right_well : (n : ℕ) (form : Option Form) (other : Operating) → WellForms n form → WellOperating n other → WellOperating n (by_right form other)
+by_right_well n (Some form) other h k = h
+by_right_well n None other h k = k
+
+pub operating_well : (n : ℕ) (u : UnitTy) (f : Framed) (pushed : ℕ) (op : BinaryOp) (operands : Operands) (a b : Typed) → Knows f u n → IsTyped u a → IsTyped u b → WellOperating n (operating_of f pushed op operands a b)
+operating_well n u f pushed op operands a b knows h k =
+    by_right_well n (constant_right op operands b) _ (constant_right_well n op operands b)
+    (by_right_well n (direct_right op operands (direct_of f pushed b)) _ (direct_right_well n op operands (direct_of f pushed b) (read_well n u f pushed b knows k))
+    (by_left_well n (is_fixed (direct_of f pushed a) || is_pure b) (direct_left op operands (direct_of f pushed a)) (direct_left_well n op operands (direct_of f pushed a) (read_well n u f pushed a knows h))))
+
+placed_well : (n : ℕ) (op : BinaryOp) (l : ℕ) → l < 2 ^ 32 → AllWell n (placed op l)
+placed_well n ops.Add l room = well_none n
+placed_well n ops.Sub l room = well_none n
+placed_well n _ l room = record { all = (room, tt) }
+
+form_well : (n : ℕ) (form : Form) (l : ℕ) → WellForm n form → l < 2 ^ 32 → AllWell n (form_code form l)
+form_well n (forms.Sum m) l h room = add_number_well n m l room
+form_well n (forms.LongSum m) l h room = labelled_well n l _ room (add_long_well n m)
+form_well n (forms.Mask op m) l h room = labelled_well n l _ room (long_mask_well n op m)
+form_well n (forms.Constant kind quick) l h room = quick_well n kind quick l room
+form_well n (forms.Word op low high) l h room = well_append n (word_code op low high l) _ (word_well n op low high l h.0 h.1 room) (placed_well n op l room)
+form_well n (forms.Under low high) l h room = labelled_well n l _ room (taken_from_well n low high h.0 h.1)
+form_well n (forms.Indexed size low high) l h room = well_append n (elements_code size) _ (elements_well n size) (word_well n ops.Add low high l h.0 h.1 room)
+form_well n (forms.Distance size low high) l h room = well_append n (word_code ops.Sub low high l) _ (word_well n ops.Sub low high l h.0 h.1 room) (divide_well n size)
+form_well n (forms.DistanceUnder size low high) l h room = labelled_well n l _ room (well_append n (taken_from_code low high) _ (taken_from_well n low high h.0 h.1) (divide_well n size))
+
+waiting_well : (n : ℕ) (operands : Operands) → AllWell n (waiting_code operands)
+waiting_well n (PointerLast size) = well_append n (elements_code size) _ (elements_well n size) (push_well n Ax)
+waiting_well n (Numbers kind) = between_well n (Numbers kind)
+waiting_well n (PointerFirst size) = between_well n (PointerFirst size)
+waiting_well n (Pointers size) = between_well n (Pointers size)
+
+stacked_well : (n : ℕ) (op : BinaryOp) (operands : Operands) (right : IntType) → AllWell n (stacked_code op operands right)
+stacked_well n op (PointerFirst size) right = well_append n (elements_code size) _ (elements_well n size) (wide_well n op UInt)
+stacked_well n op (Numbers kind) right = behind_well n op (Numbers kind) right
+stacked_well n op (PointerLast size) right = behind_well n op (PointerLast size) right
+stacked_well n op (Pointers size) right = behind_well n op (Pointers size) right
+
+pub operator_well : (n : ℕ) (how : Operating) (op : BinaryOp) (operands : Operands) (right : IntType) (l : ℕ) (a b : List Line) → WellOperating n how → l < 2 ^ 32 → AllWell n a → AllWell n b → AllWell n (operator_by how op operands right l a b)
+operator_well n (ways.Left form) op operands right l a b h room ha hb = well_append n a _ ha (form_well n form l h room)
+operator_well n (ways.Right form) op operands right l a b h room ha hb = well_append n b _ hb (form_well n form l h room)
+operator_well n ways.Stacked op operands right l a b h room ha hb = labelled_well n l _ room (well_append n a _ ha (well_append n (waiting_code operands) _ (waiting_well n operands) (well_append n b _ hb (stacked_well n op operands right))))

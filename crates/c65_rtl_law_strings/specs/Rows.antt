@@ -1,0 +1,19 @@
+-- That the lines of the library's functions on strings do what their rows say (C90 7.11).
+use Rattle.std.specs.Prelude.{◌≡◌}
+use Rattle.c65_base.specs.declared.library.Library.{Library}
+use Rattle.c65_base.specs.declared.library.Library.TheVariants.{Strlen}
+use Rattle.c65_code.specs.declared.routine.Routine.TheVariants as routines
+use Rattle.c65_code.specs.RawMachine.{RawSetting, MeetsRow}
+use Rattle.c65_rtl.specs.Routines.{lines_of}
+
+-- the function's lines stand under its number
+abbrev pub Holds : RawSetting → Library → Type 0
+Holds s f = s.lines (s.routine (routines.Library f)) ≡ lines_of (routines.Library f)
+
+-- wherever they do
+abbrev pub IsMet : Library → Type 0
+IsMet f = (s : RawSetting) → Holds s f → MeetsRow s (routines.Library f)
+
+-- `strlen` (C90 7.11.6.3)
+abbrev pub StringsAreMeasured : Type 0
+StringsAreMeasured = IsMet Strlen

@@ -1,0 +1,6 @@
+//! Laws of the runtime: the library's functions on strings do what their rows say.
+#![tactic(auto)]
+
+mod laws;
+
+pub use laws::strings_are_measured;
