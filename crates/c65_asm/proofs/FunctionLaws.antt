@@ -144,12 +144,12 @@ same_takes symbols names op Relative o = kind_to symbols names o
 same_takes symbols names op ZeroPageIndirect o = kind_zero symbols names o
 same_takes symbols names op AbsoluteIndirectX o = refl
 
-same_fit : (symbols : List Symbol) (names : List (List ℕ)) (line : Line) → is_fit (renamed_line symbols names line) ≡ is_fit line
+pub same_fit : (symbols : List Symbol) (names : List (List ℕ)) (line : Line) → is_fit (renamed_line symbols names line) ≡ is_fit line
 same_fit symbols names (lines.Label l) = refl
 same_fit symbols names (lines.Do op mode o) = ap (λ t. has_row op mode && (t && not (is_barred op))) (same_takes symbols names op mode o)
 same_fit symbols names (lines.Call c) = refl
 
-same_labels : (symbols : List Symbol) (names : List (List ℕ)) (ls : List Line) → labels_of (map (renamed_line symbols names) ls) ≡ labels_of ls
+pub same_labels : (symbols : List Symbol) (names : List (List ℕ)) (ls : List Line) → labels_of (map (renamed_line symbols names) ls) ≡ labels_of ls
 same_labels symbols names [] = refl
 same_labels symbols names (lines.Label l ∷ ls) = ap (λ ns. l ∷ ns) (same_labels symbols names ls)
 same_labels symbols names (lines.Do op mode o ∷ ls) = same_labels symbols names ls
@@ -166,7 +166,7 @@ same_target symbols names (lines.Do op mode (operands.At sym offset)) = refl
 same_target symbols names (lines.Do op mode (operands.To l)) = refl
 same_target symbols names (lines.Call c) = refl
 
-same_targets : (symbols : List Symbol) (names : List (List ℕ)) (ls : List Line) → targets_of (map (renamed_line symbols names) ls) ≡ targets_of ls
+pub same_targets : (symbols : List Symbol) (names : List (List ℕ)) (ls : List Line) → targets_of (map (renamed_line symbols names) ls) ≡ targets_of ls
 same_targets symbols names [] = refl
 same_targets symbols names (line ∷ ls) = ap (λ ns. ns ++ targets_of (map (renamed_line symbols names) ls)) (same_target symbols names line) ∙ ap (λ ns. target_of line ++ ns) (same_targets symbols names ls)
 
@@ -177,7 +177,7 @@ same_closing symbols names (lines.Do ops.Jmp mode o) = refl
 same_closing symbols names (lines.Do op mode o) = refl
 same_closing symbols names (lines.Call c) = refl
 
-same_closed : (symbols : List Symbol) (names : List (List ℕ)) (t : Bool) (ls : List Line) → closed_by t (map (renamed_line symbols names) ls) ≡ closed_by t ls
+pub same_closed : (symbols : List Symbol) (names : List (List ℕ)) (t : Bool) (ls : List Line) → closed_by t (map (renamed_line symbols names) ls) ≡ closed_by t ls
 same_closed symbols names t [] = refl
 same_closed symbols names t (line ∷ ls) = ap (λ u. closed_by u (map (renamed_line symbols names) ls)) (same_closing symbols names line) ∙ same_closed symbols names (is_closing line) ls
 

@@ -1,3 +1,4 @@
 pub mod BodyLaws
 mod CodeLaws
 pub mod PlainLaws
+pub mod OnceLaws

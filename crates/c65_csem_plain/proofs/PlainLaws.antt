@@ -19,10 +19,11 @@ use Rattle.c65_csem_check.specs.Statements.{same_value}
 use Rattle.c65_csem_check.proofs.ListLaws.{tells_distinct}
 use Rattle.c65_csem_check.proofs.Tells.{Tells, like, tells_itself, tells_not, tells_unit, tells_never, from_decides, both, three, four, tells_if, tells_all}
 use Rattle.c65_csem_plain.specs.Body.{objects_of}
-use Rattle.c65_csem_plain.specs.Plain.{AreBytes, IsByte, ArePaired, BeginsPlain, IsPlainBody, HasPlainBody, IsUsual, is_external, IsOwnName, HasOwnName, IsNamed, IsMain, Starts, IsPlainObject, IsPlainFunc, IsPlain}
+use Rattle.c65_csem_plain.specs.Plain.{AreBytes, IsByte, ArePaired, BeginsPlain, IsPlainBody, HasPlainBody, IsUsual, is_external, IsOwnName, HasOwnName, IsNamed, IsMain, Starts, IsPlainObject, IsPlainFunc, IsPlain, all_own_objects}
 use Rattle.c65_csem_plain.specs.Tests as b
 use Rattle.c65_csem_plain.specs.declared.initial.Awaited.{Awaited}
 use Rattle.c65_csem_plain.specs.declared.initial.Awaited.TheVariants.{Any, High, Never}
+use Rattle.c65_csem_plain.proofs.OnceLaws.{once_yes, once_only}
 use Rattle.c65_csem_plain.proofs.BodyLaws.{Says, says_le, says_bytes, says_stmt}
 
 -- ---- first values
@@ -167,10 +168,13 @@ module _ (names : List (List ℕ)) (u : UnitTy) where
   says_funcs : (fs : List FuncTy) → Says (b.are_plain_funcs names u fs) (All (IsPlainFunc names u) fs)
   says_funcs fs = tells_all (b.are_plain_funcs names u) (b.is_plain_func names u) (IsPlainFunc names u) refl (λ f fs. refl) says_func fs
 
+  says_apart : (ns : List ℕ) → Says (b.come_once [] ns) (IsDistinct ns)
+  says_apart ns = record { yes = λ h. once_yes [] ns (record { once = λ i j x p q. cc }) h; only = λ s w. once_only [] ns w }
+
   says_plain : (main : ℕ) → Says (b.is_plain names u main) (IsPlain names u main)
-  says_plain main = like (both (four (says_objects u.objects) (says_literals u.literals) (says_starts names (slice_get u.funcs main)) (says_le (length u.objects + length u.literals + length u.funcs) (2 ^ 32))) (says_funcs u.funcs))
-      (λ h. record { objects = h.0.0; literals = h.0.1; start = h.0.2; few = h.0.3; funcs = h.1 })
-      (λ w. ((w.objects, w.literals, w.start, w.few), w.funcs))
+  says_plain main = like (both (four (says_objects u.objects) (says_literals u.literals) (says_starts names (slice_get u.funcs main)) (says_le (length u.objects + length u.literals + length u.funcs) (2 ^ 32))) (both (says_apart (all_own_objects u.funcs)) (says_funcs u.funcs)))
+      (λ h. record { objects = h.0.0; literals = h.0.1; start = h.0.2; few = h.0.3; apart = h.1.0; funcs = h.1.1 })
+      (λ w. ((w.objects, w.literals, w.start, w.few), (w.apart, w.funcs)))
 
   pub plain_yes : (main : ℕ) → b.is_plain names u main ≡ true → IsPlain names u main
   plain_yes main h = (says_plain main).yes h

@@ -46,6 +46,16 @@ module _ (u : UnitTy) where
   HasPlainBody params None = ⊤
   HasPlainBody params (Some body) = IsPlainBody params body
 
+-- the objects that each call of a function begins: its parameters and those of its blocks
+abbrev pub own_objects : List ℕ → Option Stmt → List ℕ
+own_objects params None = []
+own_objects params (Some body) = params ++ objects_of body
+
+-- those of all functions, one behind another
+abbrev pub all_own_objects : List FuncTy → List ℕ
+all_own_objects [] = []
+all_own_objects (f ∷ fs) = own_objects f.params f.body ++ all_own_objects fs
+
 -- neither variadic nor declared cdecl
 abbrev pub IsUsual : Fn → Type 0
 IsUsual (fn q ps variadic cdecl) = (variadic ≡ false) × (cdecl ≡ false)
@@ -98,5 +108,7 @@ module _ (names : List (List ℕ)) where
       pub objects : All IsPlainObject u.objects
       pub literals : All AreBytes u.literals
       pub funcs : All IsPlainFunc u.funcs
+      -- no object is that of two functions
+      pub apart : IsDistinct (all_own_objects u.funcs)
       pub start : Starts (slice_get u.funcs main)
       pub few : length u.objects + length u.literals + length u.funcs ≤ 2 ^ 32

@@ -1,5 +1,6 @@
 -- Tests of what a program made from source meets.
-use Rattle.std.specs.Prelude.{ℕ, ◌+◌, ◌^◌, ℤ, Bool, true, false, not, ◌||◌, ◌&&◌, ◌==◌, List, [], ◌∷◌, ◌++◌, length, Option, Some, None, is_some, slice_get, nat_lt, nat_le, bytes_eq, codes, if◌then◌else◌}
+use Rattle.std.specs.Prelude.{ℕ, ◌+◌, ◌^◌, ℤ, Bool, true, false, not, ◌||◌, ◌&&◌, ◌==◌, List, [], ◌∷◌, ◌++◌, length, Option, Some, None, is_some, slice_get, nat_lt, nat_le, nat_eq, bytes_eq, codes, if◌then◌else◌}
+use Rattle.std.specs.List.{list_any}
 use Rattle.c65_base.specs.declared.names.Name.{Name}
 use Rattle.c65_base.specs.declared.library.Library.{Library}
 use Rattle.c65_base.specs.declared.operators.BinaryOp.{BinaryOp}
@@ -20,9 +21,16 @@ use Rattle.c65_csem.specs.Statements.{labels_of}
 use Rattle.c65_csem.specs.Trees.{Typed, node, Node, constant, null, literal, object, func, deref, member, load, address, decay, convert, unary, binary, both, either, choice, comma, assign, assign_op, assign_step, step, copy, call, pack, spill, rest, Nodes, none, some, type_of, Stmt, empty, eval, set_part, clear, block, if_stmt, while, do_while, for_loop, switch, case, default, label, goto, break, continue, return, Stmts, no_stmts, and_stmts, MaybeTyped, absent, present, ObjectTy, FuncTy, UnitTy}
 use Rattle.c65_csem_check.specs.Statements.{measured, has_number, are_distinct, same_value}
 use Rattle.c65_csem_plain.specs.Body.{objects_of}
-use Rattle.c65_csem_plain.specs.Plain.{is_external}
+use Rattle.c65_csem_plain.specs.Plain.{is_external, all_own_objects}
 use Rattle.c65_csem_plain.specs.declared.initial.Awaited.{Awaited}
 use Rattle.c65_csem_plain.specs.declared.initial.Awaited.TheVariants.{Any, High, Never}
+
+-- ---- lists
+
+-- no number comes twice, and none that came before
+abbrev pub come_once : List ℕ → List ℕ → Bool
+come_once seen [] = true
+come_once seen (n ∷ ns) = if list_any (nat_eq n) seen then false else come_once (seen ++ n ∷ []) ns
 
 -- ---- types
 
@@ -250,4 +258,4 @@ module _ (names : List (List ℕ)) where
     are_plain_funcs (f ∷ fs) = if is_plain_func f then are_plain_funcs fs else false
 
     abbrev pub is_plain : ℕ → Bool
-    is_plain main = are_plain_objects u.objects && all_bytes u.literals && starts (slice_get u.funcs main) && are_few u && are_plain_funcs u.funcs
+    is_plain main = are_plain_objects u.objects && all_bytes u.literals && starts (slice_get u.funcs main) && are_few u && come_once [] (all_own_objects u.funcs) && are_plain_funcs u.funcs

@@ -4,6 +4,7 @@ ghost use Rattle.c65_csem.specs.Views.{unit_of};
 ghost use Rattle.c65_csem_plain.specs.Plain.{IsPlain};
 ghost use Rattle.c65_csem_plain.specs.Tests;
 
+use crate::apart::are_apart;
 use crate::funcs::are_plain_funcs;
 use crate::names::starts;
 use crate::objects::{all_bytes, are_plain_objects};
@@ -31,13 +32,16 @@ fn is_plain_by(alloc: Global, names: &Names, parts: &Parts, main: u32) -> Result
     {
         return Ok(false);
     }
+    if !are_apart(alloc, parts)? {
+        return Ok(false);
+    }
     are_plain_funcs(alloc, names, parts)
 }
 
 /// Whether a program is as each that is made from source: every object has bytes and stands in one
-/// block, pointers begin with both their bytes and move by whole objects, members lie in their
+/// block of one function, pointers begin with both their bytes and move by whole objects, members lie in their
 /// structures, `main` is external and usual, and the names of the library are the library's. It takes
-/// memory for the objects and labels of a function.
+/// memory for the objects and labels of functions.
 pub fn is_plain(alloc: Global, program: &TProgram, names: &Names) -> Result<bool, AllocError>
     ensures { IfOk result (λ so. IsTrue so ↔ IsPlain names.now (unit_of program.now.0) program.now.1) }
 {

@@ -43,7 +43,8 @@ use Rattle.c65_driver.specs.Compiled.{IsLinked, IsOfFront, ReadsAs, front}
 use Rattle.c65_driver.specs.Outside.{Outside}
 use Rattle.c65_headline.specs.Images.{Recorded, ImageAgrees}
 use Rattle.c65_headline.specs.Lines.{OptimisedIf, Optimised}
-use Rattle.c65_headline.specs.Placed.{HasSegment, HasBody, IsClosed}
+use Rattle.c65_asm_law_names.specs.Numbers.{HasSegment, HasBody, IsClosed}
+use Rattle.c65_asm_law_names.proofs.Missing.{nothing_is_undefined}
 use Rattle.c65_headline.specs.Fronts.{command_of, programs, IsFront, IsMadeOf, HasLargeFrame}
 use Rattle.c65_headline.specs.Planned.{Agreeing}
 use Rattle.c65_headline.specs.Headline.{Hinders, IsHindered}
@@ -196,7 +197,7 @@ module _ (units : UnitsAreOne) (notes : Recorded) (laws : Laws notes) (held : He
   made_agrees code m image l =
       let a : Agreeing (record { unit = unit_of m.parts; main = m.main }) m.generated = laws.lines m.parts m.main m.names (modes_of command.options) m.generated m.good m.generates in
       let w = is_written code m in
-      image_agrees notes laws.sound laws.main laws.renumbered laws.images command.options.cpu (record { unit = unit_of m.parts; main = m.main }) m.rewritten image a.main w.0 w.1 (does_run code m) (closed_if command.options.optimise command.options.cpu m.generated m.rewritten m.rewrites a.closed)
+      image_agrees notes laws.renumbered laws.images command.options.cpu (record { unit = unit_of m.parts; main = m.main }) m.rewritten image a.main w.0 w.1 (does_run code m) (closed_if command.options.optimise command.options.cpu m.generated m.rewritten m.rewrites a.closed)
       (main_if command.options.optimise command.options.cpu m.generated m.rewritten a.main m.rewrites a.is_main)
       (defined_if command.options.optimise command.options.cpu m.generated m.rewritten a.main m.rewrites a.defined)
       (subst (λ (c : Code). linked_for command.options.cpu c ≡ Ok image) (is_renumbered code m) l)
@@ -215,7 +216,7 @@ module _ (units : UnitsAreOne) (notes : Recorded) (laws : Laws notes) (held : He
   undefined_never code m name l =
       let a : Agreeing (record { unit = unit_of m.parts; main = m.main }) m.generated = laws.lines m.parts m.main m.names (modes_of command.options) m.generated m.good m.generates in
       let w = is_written code m in
-      laws.whole m.rewritten a.main name w.0 w.1
+      nothing_is_undefined m.rewritten a.main name w.0 w.1
       (closed_if command.options.optimise command.options.cpu m.generated m.rewritten m.rewrites a.closed)
       (main_if command.options.optimise command.options.cpu m.generated m.rewritten a.main m.rewrites a.is_main)
       (subst (λ (c : Code). linked c ≡ Err (undefined name)) (is_renumbered code m) l)

@@ -15,7 +15,7 @@ use Rattle.c65_code.specs.Processors.{RunsOn}
 use Rattle.c65_code.specs.Follows.{FollowsEverywhere}
 use Rattle.c65_code.specs.Writable.{IsWritable}
 use Rattle.c65_asm.specs.Renumbered.{IsOfTypes}
-use Rattle.c65_headline.specs.Placed.{HasSegment}
+use Rattle.c65_asm_law_names.specs.Numbers.{HasSegment}
 
 -- ---- one moment at which the lines show what the meaning shows
 

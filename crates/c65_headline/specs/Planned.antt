@@ -22,7 +22,7 @@ use Rattle.c65_csem.specs.Views.{unit_of}
 use Rattle.c65_genframe.specs.declared.modes.Modes.{Modes}
 use Rattle.c65_genframe.specs.Modes.{modes_of}
 use Rattle.c65_genstmt.specs.Programs.{program_of}
-use Rattle.c65_link.specs.Linked.{linked, linked_for, undefined}
+use Rattle.c65_link.specs.Linked.{linked, linked_for}
 use Rattle.c65_link_law_spots.specs.Places.{place_in}
 use Rattle.c65_link_law_spots.specs.Sound.{IsSound}
 use Rattle.c65_meaning.specs.Program.{ProgramTy}
@@ -36,7 +36,8 @@ use Rattle.c65_driver.specs.Setups.{setup_of}
 use Rattle.c65_headline.specs.Fronts.{command_of, programs}
 use Rattle.c65_headline.specs.Images.{Recorded, AreBytes}
 use Rattle.c65_headline.specs.Lines.{LineAgrees}
-use Rattle.c65_headline.specs.Placed.{Reaches, HasSegment, IsClosed, number_in, by_number}
+use Rattle.c65_asm_law_names.specs.Numbers.{HasSegment, IsClosed, number_in}
+use Rattle.c65_headline.specs.Placed.{Reaches, by_number}
 
 -- ---- words
 
@@ -83,14 +84,6 @@ FrontsAreWritable = (held : Held) (command : Spelled) (parts : Parts) (main : �
 abbrev pub CodesReadBack : Type 0
 CodesReadBack = (code : Code) → IsWritable code → IsOfTypes code → read_text (text_of code) ≡ answers.Code (renumbered code)
 
--- the linker can take it
-abbrev pub RenumberedIsSound : Type 0
-RenumberedIsSound = (code : Code) → IsWritable code → IsOfTypes code → IsSound (renumbered code)
-
--- and its main function is the one that has lines
-abbrev pub MainIsNumbered : Type 0
-MainIsNumbered = (code : Code) (main : ℕ) → IsWritable code → IsMain code main → HasSegment code main → IsMain (renumbered code) (number_in code main)
-
 -- It comes to what the code comes to, at the linker's placement. A symbol that its text does not name (the last line that named
 -- it was rewritten) has no address there, so that the code is taken at every placement. `IsClosed` leaves nine such symbols at
 -- most, for which there is room within the entry.
@@ -102,10 +95,6 @@ RenumberedComes = (code : Code) (image : Image) (main : ℕ) (args : List (List 
     → ComesFrom (setting_of (renumbered code) (place_in (renumbered code))) (number_in code main) (λ shown seen. test shown (by_number code seen)) w t
 
 -- ---- from a code to its image
-
--- the linker misses nothing of a code whose symbols have bodies
-abbrev pub NothingIsUndefined : Type 0
-NothingIsUndefined = (code : Code) (main : ℕ) (name : List ℕ) → IsWritable code → IsOfTypes code → IsClosed code → IsMain code main → linked (renumbered code) ≡ Err (undefined name) → ⊥
 
 -- where the lines of a code come to something within a weight, its image does so within as many rows and 96 more
 abbrev pub ImagesFollow : Recorded → Type 0

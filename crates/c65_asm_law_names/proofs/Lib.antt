@@ -1,0 +1,4 @@
+mod Naming
+mod Writable
+pub mod Sound
+pub mod Missing

@@ -1,0 +1,19 @@
+// Laws, each the contract of a function that does nothing.
+ghost use Rattle.c65_asm_law_names.specs.Laws.{RenumberedIsSound, MainIsNumbered, NothingIsUndefined};
+
+/// A code that can be written can be linked once its symbols are numbered anew: it can be written, its functions are segments, and
+/// each symbol is named by something.
+pub fn renumbered_is_sound()
+    ensures { RenumberedIsSound }
+{}
+
+/// The function `main` that has lines is the one that the renumbered code has.
+pub fn main_is_numbered()
+    ensures { MainIsNumbered }
+{}
+
+/// Where each symbol of a code has lines, data, or a function of the library for its name, and one is `main`, the linker misses no
+/// symbol of the renumbered code.
+pub fn nothing_is_undefined()
+    ensures { NothingIsUndefined }
+{}
