@@ -98,7 +98,7 @@ library_stands None h = cc
 
 -- ---- what is named
 
-found : (ds : List Datum) (n : ℕ) → has_datum ds n ≡ true → (k : ℕ) × (d : Datum) × (slice_get ds k ≡ Some d) × (d.sym.0 ≡ n)
+pub found : (ds : List Datum) (n : ℕ) → has_datum ds n ≡ true → (k : ℕ) × (d : Datum) × (slice_get ds k ≡ Some d) × (d.sym.0 ≡ n)
 found [] n h = cc
 found (d ∷ ds) n h = by (d.sym.0 == n) refl h (λ g. found ds n g)
   where

@@ -144,7 +144,7 @@ module _ (symbols : List Symbol) (names : List (List ℕ)) where
 module _ (code : Code) (w : IsWritable code) where
   -- ---- symbols that are named
 
-  part_known : (x : Sym) → IsPart code x → IsKnown (length code.symbols) x
+  pub part_known : (x : Sym) → IsPart code x → IsKnown (length code.symbols) x
   part_known x (function k f at e) = subst (IsKnown (length code.symbols)) e (w.function_known k f at)
   part_known x (datum k d at e) = subst (IsKnown (length code.symbols)) e (w.datum_known k d at)
   part_known x (line k j f l at here e) = line_known (length code.symbols) l x (w.line k j f l at here) e

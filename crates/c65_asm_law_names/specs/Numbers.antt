@@ -4,6 +4,7 @@ use Rattle.c65_code.specs.declared.code.Code.{Code}
 use Rattle.c65_code.specs.declared.code.Symbol.{Symbol}
 use Rattle.c65_code.specs.declared.line.Sym.{Sym}
 use Rattle.c65_code.specs.Placement.{has_datum, library_of}
+use Rattle.c65_code.specs.Comes.{Seen}
 use Rattle.c65_code.specs.Segments.{Segment}
 use Rattle.c65_asm.specs.Renumbered.{names_of, renamed}
 
@@ -24,3 +25,7 @@ HasBody code i symbol = HasSegment code i ⊎ (IsTrue (has_datum code.datums i) 
 
 abbrev pub IsClosed : Code → Type 0
 IsClosed code = (i : ℕ) (symbol : Symbol) → slice_get code.symbols i ≡ Some symbol → HasBody code i symbol
+
+-- arrivals at the lines of a code, from those of its renumbered form
+abbrev pub by_number : Code → Seen → Seen
+by_number code seen f p = seen (number_in code f) p

@@ -1,5 +1,5 @@
 // Laws, each the contract of a function that does nothing.
-ghost use Rattle.c65_asm_law_names.specs.Laws.{RenumberedIsSound, MainIsNumbered, NothingIsUndefined};
+ghost use Rattle.c65_asm_law_names.specs.Laws.{RenumberedIsSound, MainIsNumbered, RenumberedComes, NothingIsUndefined};
 
 /// A code that can be written can be linked once its symbols are numbered anew: it can be written, its functions are segments, and
 /// each symbol is named by something.
@@ -16,4 +16,9 @@ pub fn main_is_numbered()
 /// symbol of the renumbered code.
 pub fn nothing_is_undefined()
     ensures { NothingIsUndefined }
+{}
+
+/// What the lines of a code come to at every placement within a weight, those of the renumbered code come to at the linker's.
+pub fn renumbered_comes()
+    ensures { RenumberedComes }
 {}

@@ -20,10 +20,11 @@ use Rattle.c65_asm.specs.Renumbered.{IsOfTypes, renumbered}
 use Rattle.c65_link.specs.Linked.{Fault, linked, image_for, linked_for}
 use Rattle.c65_headline.specs.Images.{Recorded, seen_of, Shows, ImageAgrees}
 use Rattle.c65_headline.specs.Lines.{same_end, has_turned, shows, shows_state, CodeAgrees}
-use Rattle.c65_asm_law_names.specs.Numbers.{HasSegment, IsClosed, number_in}
+use Rattle.c65_asm_law_names.specs.Numbers.{HasSegment, IsClosed, number_in, by_number}
 use Rattle.c65_asm_law_names.proofs.Sound.{renumbered_is_sound, main_is_numbered}
-use Rattle.c65_headline.specs.Placed.{IsShownBy, Reaches, by_number}
-use Rattle.c65_headline.specs.Planned.{RenumberedComes, ImagesFollow}
+use Rattle.c65_asm_law_names.proofs.Renumbered.{renumbered_comes}
+use Rattle.c65_headline.specs.Placed.{IsShownBy, Reaches}
+use Rattle.c65_headline.specs.Planned.{ImagesFollow}
 use Rattle.c65_headline.proofs.Processors.{renumbered_runs}
 use Rattle.c65_headline.proofs.Codes.{both, either, shows_grow, state_shown}
 
@@ -114,20 +115,20 @@ any_image : (cpu : Cpu) (r : Result Image Fault) (image : Image) → image_for c
 any_image cpu (Ok i) image h = (i, refl)
 any_image cpu (Err fault) image h = absurd (let k : (let x : Result Image Fault = Err fault in x ≡ Ok image) = h in cc)
 
-pub image_agrees : (notes : Recorded) → RenumberedComes → ImagesFollow notes
+pub image_agrees : (notes : Recorded) → ImagesFollow notes
     → (cpu : Cpu) (p : ProgramTy) (code : Code) (image : Image) (main : ℕ) → IsWritable code → IsOfTypes code → RunsOn cpu code → IsClosed code → IsMain code main → HasSegment code main
     → linked_for cpu (renumbered code) ≡ Ok image → CodeAgrees p code main → ImageAgrees notes p image
-image_agrees notes comes follow cpu p code image main w ty runs closed is_main there l a args input n bytes given few d =
+image_agrees notes follow cpu p code image main w ty runs closed is_main there l a args input n bytes given few d =
     let s = renumbered_is_sound code w ty in
     let r : RunsOn cpu (renumbered code) = renumbered_runs cpu code runs in
     let m : IsMain (renumbered code) (number_in code main) = main_is_numbered code main w is_main there in
     let i : (i : Image) × (linked (renumbered code) ≡ Ok i) = any_image cpu (linked (renumbered code)) image l in
     let early : Reaches notes image args input (λ shown seen. shows_state (sem p args input n) shown) (4000 * (n + 1)) =
     follow cpu (renumbered code) image r s l (number_in code main) m args input (λ shown seen. shows_state (sem p args input n) shown) (4000 * (n + 1)) bytes given few
-    (comes code i.0 main args input (λ shown seen. shows_state (sem p args input n) shown) (4000 * (n + 1)) w ty i.1 closed is_main there (λ shown seen more b h. h)
+    (renumbered_comes code i.0 main args input (λ shown seen. shows_state (sem p args input n) shown) (4000 * (n + 1)) w ty i.1 closed is_main there (λ shown seen more b h. h)
     (λ place t pl st. a.early place args input n t pl given st d)) in
     let late : Reaches notes image args input (λ shown seen. shows a.places (jumps p) (sem p args input n) shown (by_number code seen)) (4000 * (n + 1) + a.more) =
     follow cpu (renumbered code) image r s l (number_in code main) m args input (λ shown seen. shows a.places (jumps p) (sem p args input n) shown (by_number code seen)) (4000 * (n + 1) + a.more) bytes given few
-    (comes code i.0 main args input (shows a.places (jumps p) (sem p args input n)) (4000 * (n + 1) + a.more) w ty i.1 closed is_main there (shows_grow a.places (jumps p) (sem p args input n))
+    (renumbered_comes code i.0 main args input (shows a.places (jumps p) (sem p args input n)) (4000 * (n + 1) + a.more) w ty i.1 closed is_main there (shows_grow a.places (jumps p) (sem p args input n))
     (λ place t pl st. a.late place args input n t pl given st d)) in
     shown_twice notes p code image args input n a.more a.places d early late

@@ -197,7 +197,7 @@ module _ (units : UnitsAreOne) (notes : Recorded) (laws : Laws notes) (held : He
   made_agrees code m image l =
       let a : Agreeing (record { unit = unit_of m.parts; main = m.main }) m.generated = laws.lines m.parts m.main m.names (modes_of command.options) m.generated m.good m.generates in
       let w = is_written code m in
-      image_agrees notes laws.renumbered laws.images command.options.cpu (record { unit = unit_of m.parts; main = m.main }) m.rewritten image a.main w.0 w.1 (does_run code m) (closed_if command.options.optimise command.options.cpu m.generated m.rewritten m.rewrites a.closed)
+      image_agrees notes laws.images command.options.cpu (record { unit = unit_of m.parts; main = m.main }) m.rewritten image a.main w.0 w.1 (does_run code m) (closed_if command.options.optimise command.options.cpu m.generated m.rewritten m.rewrites a.closed)
       (main_if command.options.optimise command.options.cpu m.generated m.rewritten a.main m.rewrites a.is_main)
       (defined_if command.options.optimise command.options.cpu m.generated m.rewritten a.main m.rewrites a.defined)
       (subst (λ (c : Code). linked_for command.options.cpu c ≡ Ok image) (is_renumbered code m) l)

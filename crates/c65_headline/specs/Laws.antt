@@ -7,7 +7,7 @@ use Rattle.c65_driver_words.specs.Words.{spelling_of}
 use Rattle.c65_driver.specs.Outside.{Outside}
 use Rattle.c65_driver.specs.Tool.{Performs}
 use Rattle.c65_headline.specs.Images.{Recorded, AreBytes}
-use Rattle.c65_headline.specs.Planned.{ProgramsAgree, ProgramsAreNmos, FrontsAreWritable, RenumberedComes, ImagesFollow}
+use Rattle.c65_headline.specs.Planned.{ProgramsAgree, ProgramsAreNmos, FrontsAreWritable, ImagesFollow}
 use Rattle.c65_headline.specs.Headline.{IsMade, Headline}
 
 -- What is not proved yet. Each field is a law of the crate that it names; docs/LADDER.md has them as a table.
@@ -20,8 +20,6 @@ pub record Laws (notes : Recorded) : Type 0 where
   -- The code of a program that the front gives can be written as text, where its text was read: c65_asm_law with c65_init_join, or
   -- a test where files are compiled.
   pub writable : FrontsAreWritable
-  -- What the code comes to at every placement, the code numbered anew comes to at the linker's: a law above c65_asm.
-  pub renumbered : RenumberedComes
   -- What the lines of a code come to within a weight, its image comes to within as many rows and 96 more, while the stack's guard
   -- lets it: a law above c65_link.
   pub images : ImagesFollow notes

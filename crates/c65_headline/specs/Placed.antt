@@ -1,13 +1,9 @@
--- What the run of an image comes to, and the arrivals of a code whose symbols were numbered anew.
+-- What the run of an image comes to.
 use Rattle.std.specs.Prelude.{◌≡◌, ℕ, suc, ◌+◌, ◌≤◌, Bool, IsTrue, List, Some, None}
 use Rattle.c65_mach.specs.declared.image.Image.{Image}
 use Rattle.c65_mach.specs.Run.{Progress, Running, Ended, Stopped, run_of}
-use Rattle.c65_code.specs.declared.code.Code.{Code}
 use Rattle.c65_code.specs.Comes.{Seen, Shown}
-use Rattle.c65_asm_law_names.specs.Numbers.{number_in}
 use Rattle.c65_headline.specs.Images.{IsFreeUpTo, Recorded}
-
--- ---- the run of the image
 
 abbrev pub IsShownBy : Shown → Progress → Type 0
 IsShownBy shown (Running now) = shown ≡ record { output = now.output; ended = None }
@@ -26,9 +22,3 @@ pub record Reaches (notes : Recorded) (image : Image) (args : List (List ℕ)) (
   pub few : (f p : ℕ) → seen f p ≤ suc rows
   pub free : IsFreeUpTo image args input rows
   pub recorded : IsTrue (notes image args input rows)
-
--- ---- symbols numbered anew
-
--- arrivals at the lines of a code, from those of its renumbered form
-abbrev pub by_number : Code → Seen → Seen
-by_number code seen f p = seen (number_in code f) p

@@ -36,8 +36,8 @@ use Rattle.c65_driver.specs.Setups.{setup_of}
 use Rattle.c65_headline.specs.Fronts.{command_of, programs}
 use Rattle.c65_headline.specs.Images.{Recorded, AreBytes}
 use Rattle.c65_headline.specs.Lines.{LineAgrees}
-use Rattle.c65_asm_law_names.specs.Numbers.{HasSegment, IsClosed, number_in}
-use Rattle.c65_headline.specs.Placed.{Reaches, by_number}
+use Rattle.c65_asm_law_names.specs.Numbers.{HasSegment, IsClosed}
+use Rattle.c65_headline.specs.Placed.{Reaches}
 
 -- ---- words
 
@@ -83,16 +83,6 @@ FrontsAreWritable = (held : Held) (command : Spelled) (parts : Parts) (main : �
 -- the text of a code that can be written reads as this code with its symbols numbered anew
 abbrev pub CodesReadBack : Type 0
 CodesReadBack = (code : Code) → IsWritable code → IsOfTypes code → read_text (text_of code) ≡ answers.Code (renumbered code)
-
--- It comes to what the code comes to, at the linker's placement. A symbol that its text does not name (the last line that named
--- it was rewritten) has no address there, so that the code is taken at every placement. `IsClosed` leaves nine such symbols at
--- most, for which there is room within the entry.
-abbrev pub RenumberedComes : Type 0
-RenumberedComes = (code : Code) (image : Image) (main : ℕ) (args : List (List ℕ)) (input : List ℕ) (test : Shown → Seen → Bool) (w : ℕ)
-    → IsWritable code → IsOfTypes code → linked (renumbered code) ≡ Ok image → IsClosed code → IsMain code main → HasSegment code main → Grows test
-    → ((place : Placement) (t : State) → IsPlacement code place → IsStart code place args input t → ComesFrom (setting_of code place) main test w t)
-    → (t : State) → IsStart (renumbered code) (place_in (renumbered code)) args input t
-    → ComesFrom (setting_of (renumbered code) (place_in (renumbered code))) (number_in code main) (λ shown seen. test shown (by_number code seen)) w t
 
 -- ---- from a code to its image
 

@@ -145,9 +145,9 @@ code_is_no_data code b s e l = false_from_ne_true (list_any (is_in (address_in c
     let from = at.from in let low = w.from in
     omega (arith, l, from, low))
 
--- the address of a function's symbol lies in the code
+-- the address of a function's symbol lies in the code, behind the start
 pub record InCode (code : Code) (f : ℕ) : Type 0 where
-  pub from : program_start ≤ address_in code f
+  pub from : first_address code ≤ address_in code f
   pub to : address_in code f < code_end code
 
 in_code : (code : Code) (f : ℕ) → IsSound code → Ends code → Stood code f → InCode code f
@@ -155,12 +155,12 @@ in_code code f s e (own k g here is) =
     let at : FunctionAt code k g = function_stands code k g s e here in
     let full = segment_full g.1.lines (s.segment k g here) in
     let address : address_in code f ≡ address_of code k = ap (address_in code) (sym is) ∙ at.address in
-    let first = e.first in let second = e.routines in let from = at.from in let to = at.to in
-    record { from = omega (arith, address, first, from); to = omega (arith, address, to, full, second) }
+    let second = e.routines in let from = at.from in let to = at.to in
+    record { from = omega (arith, address, from); to = omega (arith, address, to, full, second) }
 in_code code f s e (library k l symbol there spelling here address) =
     let at : RoutineAt code k (routines.Library l) = routine_stands code k (routines.Library l) e here in
-    let first = e.first in let second = e.functions in let from = at.from in let to = at.to in let full = at.full in
-    record { from = omega (arith, address, first, second, from); to = omega (arith, address, to, full) }
+    let second = e.functions in let from = at.from in let to = at.to in let full = at.full in
+    record { from = omega (arith, address, second, from); to = omega (arith, address, to, full) }
 
 same_library : (l m : Library) → ◌≡◌ {A = Option Routine} (Some (routines.Library l)) (Some (routines.Library m)) → l ≡ m
 same_library l m h = cc
@@ -289,10 +289,24 @@ places_are_placements code cpu image s linked_is =
       apart = λ i j b d x here there in_d in_x. datums_apart code i j b d x s e here there in_d in_x;
       data_in = λ i b d here h. any_from (is_in (address_in code) b) code.datums i d here (is_in_from code d b h);
       data_of = λ b h. (let d = any_to (is_in (address_in code) b) code.datums h in (d.0, d.1, d.2, is_in_to code d.1 b d.3));
-      function_low = λ f h. (in_code code f s e (stood_at f h)).from;
+      function_low = λ f h. (let c : InCode code f = in_code code f s e (stood_at f h) in let from = c.from in let first = e.first in omega (arith, from, first));
       function_high = λ f h. (let c : InCode code f = in_code code f s e (stood_at f h) in let to = c.to in let first = e.stored in let second = e.zeros in let last = e.all in omega (arith, to, first, second, last));
       function_outside = λ f h. code_is_no_data code (address_in code f) s e (in_code code f s e (stood_at f h)).to;
       function_own = λ f g h k same. own_address code f g s e (stood_at f h) (stood_at g k) same;
       constant_in = λ i k v d here const is. constant_in code i k v d s e here const is;
       constant_of = λ b v h. constant_of code b v h;
+    }
+
+-- functions and data have their addresses behind the start
+pub record AreBehindStart (code : Code) : Type 0 where
+  pub function : (f : ℕ) → IsFunction code f → first_address code ≤ address_in code f
+  pub datum : (i : ℕ) (d : Datum) → IsDatumOf code i d → first_address code ≤ address_in code d.sym.0
+
+pub all_behind_start : (code : Code) (cpu : Cpu) (image : Image) → IsSound code → linked_for cpu code ≡ Ok image → AreBehindStart code
+all_behind_start code cpu image s linked_is =
+    let m : IsMade code image = made code cpu image linked_is in
+    let e : Ends code = ends code m.plain m.is in
+    record {
+      function = λ f h. (let c : InCode code f = in_code code f s e (stood code m.plain f s m.is m.missing h) in c.from);
+      datum = λ i d here. (let w : Within code d = within code i d e (lies code i d s e here) in let from = w.from in let second = e.functions in let third = e.routines in omega (arith, from, second, third));
     }

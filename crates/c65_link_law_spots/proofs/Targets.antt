@@ -120,7 +120,7 @@ made code cpu image h = by (linked code) refl h
         record { plain = plain; is = e; payload = ap (λ (i : Image). i.payload) (sym same); missing = none_by (missing_of code (targets_of code)) plain e }
 
 -- the name of a library function
-spelled : (fs : List Library) (spelling : List ℕ) (l : Library) → library_named fs spelling ≡ Some l → codes "_" ++ library_name l ≡ spelling
+pub spelled : (fs : List Library) (spelling : List ℕ) (l : Library) → library_named fs spelling ≡ Some l → codes "_" ++ library_name l ≡ spelling
 spelled [] spelling l h = none_there l h
 spelled (f ∷ fs) spelling l h = by (bytes_eq (codes "_" ++ library_name f) spelling) refl h (spelled fs spelling l)
   where
