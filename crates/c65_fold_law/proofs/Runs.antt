@@ -1,5 +1,5 @@
 -- A run of a folded program goes beside the program's own, in no more steps.
-use Rattle.std.proofs.Common.{◌≡◌, ℕ, zero, suc, ◌+◌, ◌≤◌, ℤ, false, List, [], ◌∷◌, refl, sym, ap, ◌∙◌, subst, arith}
+use Rattle.std.proofs.Common.{◌≡◌, ℕ, zero, suc, ◌+◌, ◌≤◌, ℤ, Bool, true, false, List, [], ◌∷◌, refl, sym, ap, ◌∙◌, subst, arith}
 use Rattle.c65_csem.specs.Trees.{Typed}
 use Rattle.c65_meaning.specs.Program.{ProgramTy}
 use Rattle.c65_meaning.specs.Why.{Unfit}
@@ -7,11 +7,11 @@ use Rattle.c65_meaning.specs.Store.{Value, Whole}
 use Rattle.c65_meaning.specs.Items.{Item, Push, plan}
 use Rattle.c65_meaning.specs.State.{Frame, Scene, State, Undefined, Deep, Ended, Running}
 use Rattle.c65_meaning.specs.Step.{step, steps, perform}
-use Rattle.c65_meaning.specs.Start.{start}
-use Rattle.c65_meaning.specs.Sem.{Runs, outcome_of, IsDefined}
+use Rattle.c65_meaning.specs.Start.{start_in}
+use Rattle.c65_meaning.specs.Sem.{Runs, outcome_of, IsDefined, sem, sem_free}
 use Rattle.c65_meaning.specs.Laws.{IsLast}
 use Rattle.c65_fold_law.specs.Programs.{folded_program}
-use Rattle.c65_fold_law.specs.Laws.{Cheaper, IsIn, Quietly, Leads, FoldingKeeps, FoldingAddsNothing}
+use Rattle.c65_fold_law.specs.Laws.{Cheaper, IsIn, Quietly, Leads, Meaning, FoldingKeeps, FoldingAddsNothing}
 use Rattle.c65_fold_law.proofs.Settling.{settles}
 use Rattle.c65_fold_law.proofs.Marks.{Mark, Plain, Known, left, right, AreGood, of_marks, folded_item}
 use Rattle.c65_fold_law.proofs.Scenes.{framed, Sim, Beside}
@@ -163,14 +163,31 @@ module _ (p : ProgramTy) where
         let w = (settles p e z good.0 good.1).run (left p.unit m) vs c in
         covers_later n (suc w.others) (Running (plan p.unit e (left p.unit m)) vs c) (Running (left p.unit m) (Whole z ∷ vs) c) _ (omega arith) (quiet_steps c (suc w.others) (Running (plan p.unit e (left p.unit m)) vs c) (Running (left p.unit m) (Whole z ∷ vs) c) w.way) (covers n m good.2 (Whole z ∷ vs) c gs cheaper)
 
-pub folding_keeps : FoldingKeeps
-folding_keeps p args input n w d =
+-- ---- whole programs, whether a call may be too deep or not
+
+abbrev shown_by : Bool → Meaning
+shown_by free p args input n = outcome_of (steps p n (start_in free p args input))
+
+keeps : (free : Bool) → FoldingKeeps (shown_by free)
+keeps free p args input n w d =
     let typed = typed_funcs p.unit w.unit in
-    let m = stepped p typed n (meets p typed n) n (omega arith) (start p args input) (start (folded_program p) args input) (starts p typed false args input) d in
+    let m = stepped p typed n (meets p typed n) n (omega arith) (start_in free p args input) (start_in free (folded_program p) args input) (starts p typed free args input) d in
     record { moment = m.moment; within = m.few; shows = m.shows }
 
-pub adds_nothing : FoldingAddsNothing
-adds_nothing p args input n w =
+adds_nothing : (free : Bool) → FoldingAddsNothing (shown_by free)
+adds_nothing free p args input n w =
     let typed = typed_funcs p.unit w.unit in
-    let c = covers_sim p typed n (covers p typed n) (start p args input) (start (folded_program p) args input) (starts p typed false args input) in
+    let c = covers_sim p typed n (covers p typed n) (start_in free p args input) (start_in free (folded_program p) args input) (starts p typed free args input) in
     record { moment = c.moment; later = c.long; shows = c.shows }
+
+pub folding_keeps : FoldingKeeps sem
+folding_keeps = keeps false
+
+pub folding_keeps_free : FoldingKeeps sem_free
+folding_keeps_free = keeps true
+
+pub folding_adds_nothing : FoldingAddsNothing sem
+folding_adds_nothing = adds_nothing false
+
+pub folding_adds_nothing_free : FoldingAddsNothing sem_free
+folding_adds_nothing_free = adds_nothing true

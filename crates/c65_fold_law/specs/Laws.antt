@@ -10,7 +10,7 @@ use Rattle.c65_meaning.specs.Store.{Value, Whole}
 use Rattle.c65_meaning.specs.Items.{Item, plan}
 use Rattle.c65_meaning.specs.State.{Frame, State, Undefined, Deep, Ended, Running, Scene}
 use Rattle.c65_meaning.specs.Step.{step, steps}
-use Rattle.c65_meaning.specs.Sem.{Outcome, IsDefined, sem}
+use Rattle.c65_meaning.specs.Sem.{Outcome, IsDefined}
 use Rattle.c65_fold_law.specs.Programs.{folded_unit, folded_program}
 
 -- ---- one expression
@@ -71,28 +71,32 @@ ExpressionsKeep = (p : ProgramTy) (e : Typed) → IsUnit p.unit → IsTyped p.un
 
 -- ---- whole programs
 
+-- what a program with these arguments and this input shows after so many steps: by `sem`, or by `sem_free`, where no call is too deep
+abbrev pub Meaning : Type 0
+Meaning = ProgramTy → List (List ℕ) → List ℕ → ℕ → Outcome
+
 -- a run shows this after some steps, no more than so many
-pub record ShowsWithin (p : ProgramTy) (args : List (List ℕ)) (input : List ℕ) (most : ℕ) (shown : Outcome) : Type 0 where
+pub record ShowsWithin (means : Meaning) (p : ProgramTy) (args : List (List ℕ)) (input : List ℕ) (most : ℕ) (shown : Outcome) : Type 0 where
   pub moment : ℕ
   pub within : moment ≤ most
-  pub shows : sem p args input moment ≡ shown
+  pub shows : means p args input moment ≡ shown
 
 -- What a program shows after n steps, where that is defined, its folded form shows after at most n: the same output and turns, and at
 -- the end the same status.
-abbrev pub FoldingKeeps : Type 0
-FoldingKeeps = (p : ProgramTy) (args : List (List ℕ)) (input : List ℕ) (n : ℕ)
-    → IsProgram p.unit p.main → IsDefined (sem p args input n)
-    → ShowsWithin (folded_program p) args input n (sem p args input n)
+abbrev pub FoldingKeeps : Meaning → Type 0
+FoldingKeeps means = (p : ProgramTy) (args : List (List ℕ)) (input : List ℕ) (n : ℕ)
+    → IsProgram p.unit p.main → IsDefined (means p args input n)
+    → ShowsWithin means (folded_program p) args input n (means p args input n)
 
 -- a run shows this after some steps, no fewer than so many, if it is defined there
-pub record ShowsLater (p : ProgramTy) (args : List (List ℕ)) (input : List ℕ) (least : ℕ) (shown : Outcome) : Type 0 where
+pub record ShowsLater (means : Meaning) (p : ProgramTy) (args : List (List ℕ)) (input : List ℕ) (least : ℕ) (shown : Outcome) : Type 0 where
   pub moment : ℕ
   pub later : least ≤ moment
-  pub shows : IsDefined (sem p args input moment) → sem p args input moment ≡ shown
+  pub shows : IsDefined (means p args input moment) → means p args input moment ≡ shown
 
 -- What the folded form shows after n steps, the program itself shows after at least n, unless it is undefined or too deep there: folding
 -- adds no output and no end, and no undefined action or depth of its own.
-abbrev pub FoldingAddsNothing : Type 0
-FoldingAddsNothing = (p : ProgramTy) (args : List (List ℕ)) (input : List ℕ) (n : ℕ)
+abbrev pub FoldingAddsNothing : Meaning → Type 0
+FoldingAddsNothing means = (p : ProgramTy) (args : List (List ℕ)) (input : List ℕ) (n : ℕ)
     → IsProgram p.unit p.main
-    → ShowsLater p args input n (sem (folded_program p) args input n)
+    → ShowsLater means p args input n (means (folded_program p) args input n)

@@ -318,7 +318,7 @@ print_sp : (text : Option (List ℕ)) (t : State) (row : Row) → IsTrue (print_
 print_sp None t row ready below = absurd (let h : false ≡ true = ready in cc)
 print_sp (Some text) t row ready below = omega (arith, below)
 
-pub library_sp : (l : Library) (t u : State) → MeetsRow (row_of (routines.Library l) t) t u → IsReady (row_of (routines.Library l) t) → (takes_more l ≡ true → sp_of t + t.regs.y < 65536) → sp_of u ≡ sp_of t + library_bytes l t.regs.y
+pub library_sp : (l : Library) (t u : State) → MeetsRow (row_of (routines.Library l) t) t u → (takes_more l ≡ true → IsReady (row_of (routines.Library l) t)) → (takes_more l ≡ true → sp_of t + t.regs.y < 65536) → sp_of u ≡ sp_of t + library_bytes l t.regs.y
 library_sp Putchar t u m ready below = let same : sp_of u ≡ sp_of t = row_sp _ t u m in omega (arith, same)
 library_sp Getchar t u m ready below = let same : sp_of u ≡ sp_of t = row_sp _ t u m ∙ read_sp t.input t (costing 256 (row_by (routines.Library Getchar) t)) in omega (arith, same)
 library_sp Puts t u m ready below = let same : sp_of u ≡ sp_of t = row_sp _ t u m in omega (arith, same)
@@ -328,4 +328,4 @@ library_sp Memset t u m ready below = row_sp _ t u m
 library_sp Strcmp t u m ready below = row_sp _ t u m
 library_sp Strcpy t u m ready below = row_sp _ t u m
 library_sp Strlen t u m ready below = let same : sp_of u ≡ sp_of t = row_sp _ t u m in omega (arith, same)
-library_sp Printf t u m ready below = row_sp _ t u m ∙ print_sp (printed_of t) t (costing 256 (row_by (routines.Library Printf) t)) ready (below refl)
+library_sp Printf t u m ready below = row_sp _ t u m ∙ print_sp (printed_of t) t (costing 256 (row_by (routines.Library Printf) t)) (ready refl) (below refl)

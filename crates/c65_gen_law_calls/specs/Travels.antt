@@ -1,5 +1,5 @@
 -- Ways through the functions of a compiled program, with all calls on them (docs/MACHINE.md, "Calls").
-use Rattle.std.specs.Prelude.{◌≡◌, ℕ, suc, ◌+◌, ◌^◌, ◌<◌, ◌≤◌, ◌==◌, ◌⊎◌, IsTrue, Bool, true, Option, None, Some, Ok, List, ◌++◌, length, slice_get}
+use Rattle.std.specs.Prelude.{◌≡◌, ℕ, suc, ◌+◌, ◌^◌, ◌<◌, ◌≤◌, ◌==◌, ◌⊎◌, IsTrue, true, Option, None, Some, Ok, List, ◌++◌, length, slice_get}
 use Rattle.c65_csem.specs.declared.items.Parts.{Parts}
 use Rattle.c65_base.specs.declared.library.Library.{Library}
 use Rattle.c65_csem.specs.Library.{takes_more}
@@ -90,12 +90,12 @@ abbrev pub IsReady : Option Row → Type 0
 IsReady None = ⊥
 IsReady (Some row) = IsTrue row.ready
 
--- its further arguments end below the top of memory
+-- `printf` alone needs its row ready, and its further arguments end below the top of memory
 pub record Runs (s : Setting) (line : Line) (l : Library) (p : Place) (t : State) (q : Place) (u : State) : Type 0 where
   pub called : RunsLibrary line l
   pub to : q ≡ (p.0, settle (s.lines p.0) (suc p.1))
   pub row : MeetsRow (row_of (routines.Library l) t) t u
-  pub ready : IsReady (row_of (routines.Library l) t)
+  pub ready : takes_more l ≡ true → IsReady (row_of (routines.Library l) t)
   pub below : takes_more l ≡ true → sp_of t + t.regs.y < 65536
 
 -- what is asked of a call where it is made: through a pointer, that it agrees with the function that is called

@@ -1,5 +1,5 @@
 -- What a function's entry and its end do to the software stack and to regbank (docs/MACHINE.md, "Calls").
-use Rattle.std.specs.Prelude.{◌≡◌, ℕ, ◌+◌, ◌≤◌, nat_lt, if◌then◌else◌, Bool, Ok, List, ◌∷◌}
+use Rattle.std.specs.Prelude.{◌≡◌, ℕ, ◌+◌, ◌≤◌, nat_lt, if◌then◌else◌, Ok, List, ◌∷◌}
 use Rattle.c65_csem.specs.declared.items.Parts.{Parts}
 use Rattle.c65_csem.specs.Trees.{FuncTy}
 use Rattle.c65_code.specs.Texts.{bytes_at}

@@ -1,5 +1,5 @@
 -- Ways through the lines of a function between its entry and its end, with all calls on them (docs/MACHINE.md, "Calls").
-use Rattle.std.specs.Prelude.{◌≡◌, ℕ, suc, ◌+◌, ◌≤◌, Bool, Option, Some, Ok, List, ◌++◌, length, slice_get}
+use Rattle.std.specs.Prelude.{◌≡◌, ℕ, suc, ◌+◌, ◌≤◌, Option, Some, Ok, List, ◌++◌, length, slice_get}
 use Rattle.c65_csem.specs.declared.items.Parts.{Parts}
 use Rattle.c65_csem.specs.Trees.{FuncTy}
 use Rattle.c65_code.specs.declared.parts.RegSet.{RegSet}

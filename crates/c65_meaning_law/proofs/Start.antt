@@ -12,13 +12,15 @@ use Rattle.c65_meaning.specs.Costs.{bytes_of_objects, soft_cost, arguments_bytes
 use Rattle.c65_meaning.specs.State.{Scene, State, Undefined, Deep, Ended, Running}
 use Rattle.c65_meaning.specs.Step.{place_in, new_frame, with_passed, body_of, step, steps}
 use Rattle.c65_meaning.specs.Start.{bytes_at, text_block, argv_cells, argv_block, with_texts, initial_store, objects_inside, with_arguments, first_store, first_scene, main_values, started, started_by, start_in}
-use Rattle.c65_meaning.specs.Sem.{state_at}
+use Rattle.c65_meaning.specs.Sem.{outcome_of, state_at}
+use Rattle.c65_meaning_law_free.specs.Free.{free_state_at}
+use Rattle.c65_meaning_law_free.proofs.Runs.{free_is_never_deep}
 use Rattle.c65_csem_names.specs.Scopes.{IsInScope}
 use Rattle.c65_csem_names.specs.Programs.{TakesArguments, Starts, IsScopedProgram}
 use Rattle.c65_meaning_law.specs.Laws.{IsClosed, HasBlock, IsFit}
 use Rattle.c65_meaning_law.specs.Statements.{IsReady}
 use Rattle.c65_meaning_law.specs.Programs.{HasBlocks}
-use Rattle.c65_meaning_law.specs.Runs.{ProgramsFit}
+use Rattle.c65_meaning_law.specs.Runs.{IsFitAndFree, ProgramsFit}
 use Rattle.c65_meaning_law.proofs.Stacks.{CellFits, CellsFit, StoreFits, D}
 use Rattle.c65_meaning_law.proofs.Programs.{initial_store_fits}
 use Rattle.c65_meaning_law.proofs.Arguments.{Enough}
@@ -185,5 +187,8 @@ fit p Deep h = tt
 fit p (Ended out status turns) h = tt
 fit p (Running work vs d) h = closed p h.scene d.store h.running.scene.store
 
-pub programs_fit : ProgramsFit
+pub programs_fit : ProgramsFit state_at IsFit
 programs_fit p args input n w s = fit p (state_at p args input n) (state_well p false args input w s n)
+
+pub free_programs_fit : ProgramsFit free_state_at IsFitAndFree
+free_programs_fit p args input n w s = (fit p (free_state_at p args input n) (state_well p true args input w s n), λ e. free_is_never_deep p args input n (ap outcome_of e))

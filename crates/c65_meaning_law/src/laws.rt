@@ -1,8 +1,10 @@
 // Laws of the meaning of well typed trees, each the contract of a function that does nothing.
-ghost use Rattle.c65_meaning_law.specs.Laws.{ExpressionsFit};
+ghost use Rattle.c65_meaning.specs.Sem.{state_at};
+ghost use Rattle.c65_meaning_law_free.specs.Free.{free_state_at};
+ghost use Rattle.c65_meaning_law.specs.Laws.{ExpressionsFit, IsFit};
 ghost use Rattle.c65_meaning_law.specs.Library.{LibraryFits};
 ghost use Rattle.c65_meaning_law.specs.Programs.{InitialStoreFits};
-ghost use Rattle.c65_meaning_law.specs.Runs.{ProgramsFit};
+ghost use Rattle.c65_meaning_law.specs.Runs.{IsFitAndFree, ProgramsFit};
 ghost use Rattle.c65_meaning_law.specs.Statements.{StatementsFit};
 
 /// Where each object that a well typed expression names has a block, and memory names only blocks that there are, the run of the
@@ -30,7 +32,8 @@ pub fn initial_store_fits()
 {}
 
 /// The run of a well typed program whose names are in scope, and whose `main` and library functions have their types, never comes to trees
-/// or values that do not fit.
+/// or values that do not fit; nor does its free run, in which no call is too deep either.
 pub fn programs_fit()
-    ensures { ProgramsFit }
+    ensures checked { ProgramsFit state_at IsFit }
+    ensures free { ProgramsFit free_state_at IsFitAndFree }
 {}

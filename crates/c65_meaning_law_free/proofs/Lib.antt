@@ -1,0 +1,4 @@
+pub mod Scenes
+pub mod Calls
+pub mod Steps
+pub mod Runs
