@@ -2,7 +2,7 @@
 -- is free. A value stands in AX, or in EAX; of a place, and of a structure or
 -- union, the address. Of one that is passed or returned the bytes stand in A, X and sreg, as many as there are, the first in A.
 -- A test leads to its label where the truth is the one that is asked for, and else goes on.
-use Rattle.std.specs.Prelude.{ℕ, ◌+◌, ◌==◌, not, Bool, true, false, Option, Some, None, List, [], ◌∷◌, ◌++◌}
+use Rattle.std.specs.Prelude.{ℕ, ◌+◌, ◌==◌, not, if◌then◌else◌, Bool, true, false, Option, Some, None, List, [], ◌∷◌, ◌++◌}
 use Rattle.c65_base.specs.declared.operators.UnaryOp.{UnaryOp}
 use Rattle.c65_base.specs.declared.operators.BinaryOp.{BinaryOp}
 use Rattle.c65_ints.specs.declared.types.IntType.{IntType}

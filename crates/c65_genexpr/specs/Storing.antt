@@ -1,5 +1,5 @@
 -- Assignments to scalars (C90 6.3.16.1): their forms, and the lines of each from the lines of its two sides.
-use Rattle.std.specs.Prelude.{ℕ, ◌||◌, Bool, true, false, if◌then◌else◌, Option, Some, None, option_map, option_and_then, List, ◌++◌}
+use Rattle.std.specs.Prelude.{ℕ, ◌||◌, Bool, true, false, if◌then◌else◌, Option, Some, None, option_map, option_and_then, List, [], ◌++◌}
 use Rattle.c65_ctype.specs.Views.{types_of}
 use Rattle.c65_csem.specs.Trees.{Typed, node, deref, member}
 use Rattle.c65_code.specs.declared.line.Line.{Line}

@@ -1,6 +1,7 @@
 // The form of an assignment to a scalar (C90 6.3.16.1).
 ghost use Rattle.std.specs.Prelude.{◌≡◌};
 ghost use Rattle.c65_csem.specs.Views.{typed_of};
+ghost use Rattle.c65_genexpr.specs.Direct.{is_pure};
 ghost use Rattle.c65_genexpr.specs.Leaving.{StoresFree};
 ghost use Rattle.c65_genexpr.specs.Storing.{pointer_of, bytes_stored, through, unless_changed, by_pointer, storing_by, storing_of};
 
@@ -112,13 +113,19 @@ fn storing_by(
     }
 }
 
-/// How a value is assigned to a place, where so many bytes wait.
-pub fn storing_of(frame: &Frame<'_>, pushed: u16, a: &TExpr, b: &TExpr) -> Storing
-    ensures form { result ≡ storing_of frame.now pushed (typed_of a.now) (typed_of b.now) }
-    ensures free { StoresFree result (typed_of a.now) (typed_of b.now) }
+fn form_of(frame: &Frame<'_>, pushed: u16, a: &TExpr, b: &TExpr) -> Storing
+    ensures { result ≡ storing_of frame.now pushed (typed_of a.now) (typed_of b.now) }
 {
     let place = place_of(frame, pushed, a);
     let access = access_of(&frame.parts().types, a);
     let pointer = unless_changed(b, pointer_of(frame, pushed, a));
     storing_by(place, access, pointer, direct_of(frame, pushed, b))
+}
+
+/// How a value is assigned to a place, where so many bytes wait. A side that is left out has no labels.
+pub fn storing_of(frame: &Frame<'_>, pushed: u16, a: &TExpr, b: &TExpr) -> Storing
+    ensures exact { result ≡ storing_of frame.now pushed (typed_of a.now) (typed_of b.now) }
+    ensures free { StoresFree result (typed_of a.now) (typed_of b.now) }
+{
+    form_of(frame, pushed, a, b)
 }
