@@ -146,11 +146,11 @@ access_fits whole part types (node t _) le most = omega arith
 
 assigned_made : {lo n m j k w : ℕ} {a b : List Line} (how : Storing) (place : Place) (access : Access) → Unstored how (n ≡ 0) (m ≡ 0) → (IsKnown place → n ≡ 0) → by_access 19 86 access ≤ w → Made [] lo n j a → Made [] (lo + n) m k b
     → Made [] lo (n + m) (j + k + (25 + w)) (assigned_by how place access a b)
-assigned_made (storing.Left at stored) place access none known le ma mb = made_as (omega (arith, none)) (made_wider (made_behind ma (piece_append 22 3 _ _ (read_store_piece at stored) (narrow_piece (loads.type_in access)))) (omega arith))
-assigned_made (storing.RightByte at low high) place access none known le ma mb =
-    made_as (omega (arith, none)) (made_from (omega (arith, none)) (made_wider (made_behind mb (piece_append 22 3 _ _ (byte_through_piece at low high) (narrow_piece (loads.type_in access)))) (omega arith)))
-assigned_made (storing.RightWord at low high) place access none known le ma mb = made_as (omega (arith, none)) (made_from (omega (arith, none)) (made_wider (made_behind mb (word_through_piece at low high)) (omega arith)))
-assigned_made storing.Stacked place access none known le ma mb = made_wider (made_append (target_made place known ma) (made_before (hold_piece place) (made_behind mb (store_piece place access)))) (omega (arith, le))
+assigned_made (storing.Left at stored) place access unread known le ma mb = made_as (omega (arith, unread)) (made_wider (made_behind ma (piece_append 22 3 _ _ (read_store_piece at stored) (narrow_piece (loads.type_in access)))) (omega arith))
+assigned_made (storing.RightByte at low high) place access unread known le ma mb =
+    made_as (omega (arith, unread)) (made_from (omega (arith, unread)) (made_wider (made_behind mb (piece_append 22 3 _ _ (byte_through_piece at low high) (narrow_piece (loads.type_in access)))) (omega arith)))
+assigned_made (storing.RightWord at low high) place access unread known le ma mb = made_as (omega (arith, unread)) (made_from (omega (arith, unread)) (made_wider (made_behind mb (word_through_piece at low high)) (omega arith)))
+assigned_made storing.Stacked place access unread known le ma mb = made_wider (made_append (target_made place known ma) (made_before (hold_piece place) (made_behind mb (store_piece place access)))) (omega (arith, le))
 
 -- a part, or a whole
 either_made : {lo n k : ℕ} {a b : List Line} (c : Bool) → Made [] lo n k a → Made [] lo n k b → Made [] lo n k (if c then a else b)
@@ -159,9 +159,10 @@ either_made false ma mb = mb
 
 -- the label of a sum that is left out
 labelled_made : {lo n k : ℕ} {a : List Line} → Made [] (lo + 1) n k a → Made [] lo (1 + n) k (Label lo ∷ a)
-labelled_made {lo = lo} {n = n} m = made_stretch
+labelled_made {lo = lo} {n = n} m = made_wider (made_stretch
     (stretch_then (stretch_label lo) (stretch_made m (leads_within [] (lo + 1) n lo (1 + n) (omega arith) (omega arith)) refl))
-    (λ l. omega (arith, among_split lo 1 n l, among_one lo l))
+    (λ l. omega (arith, among_split lo 1 n l, among_one lo l)))
+    (omega arith)
 
 based_made : {lo n k : ℕ} {a b : List Line} (place : Place) → Made [] lo n k a → Made [] lo n k b → Made [] lo n k (base_by place a b)
 based_made (places.Far at) ma mb = ma

@@ -190,10 +190,10 @@ operator_does operating.Stacked op operands right own small da db v =
 -- ---- assignments
 
 assigned_does : {cs ds : List (List ℕ)} {a b : List Line} (how : Storing) (place : Place) (access : Access) → Unstored how (cs ≡ []) (ds ≡ []) → (IsKnown place → cs ≡ []) → Doing cs a → Doing ds b → Doing (cs ++ ds) (assigned_by how place access a b)
-assigned_does (storing.Left at stored) place access none known da db v = left_alone none (does_behind (da v) (leaves_then (read_store_still at stored v) (narrow_still (loads.type_in access) v)))
-assigned_does (storing.RightByte at low high) place access none known da db v = right_alone none (does_behind (db v) (leaves_then (byte_through_still at low high v) (narrow_still (loads.type_in access) v)))
-assigned_does (storing.RightWord at low high) place access none known da db v = right_alone none (does_behind (db v) (word_through_still at low high v))
-assigned_does storing.Stacked place access none known da db v = does_then (target_does place known (da v)) (does_before (hold_leaves place v) (does_behind (db (holding place v)) (stored_leaves place access v)))
+assigned_does (storing.Left at stored) place access unread known da db v = left_alone unread (does_behind (da v) (leaves_then (read_store_still at stored v) (narrow_still (loads.type_in access) v)))
+assigned_does (storing.RightByte at low high) place access unread known da db v = right_alone unread (does_behind (db v) (leaves_then (byte_through_still at low high v) (narrow_still (loads.type_in access) v)))
+assigned_does (storing.RightWord at low high) place access unread known da db v = right_alone unread (does_behind (db v) (word_through_still at low high v))
+assigned_does storing.Stacked place access unread known da db v = does_then (target_does place known (da v)) (does_before (hold_leaves place v) (does_behind (db (holding place v)) (stored_leaves place access v)))
 
 either_does : {cs : List (List ℕ)} {v : List ℕ} {a b : List Line} (c : Bool) → Does cs v a v → Does cs v b v → Does cs v (if c then a else b) v
 either_does true da db = da
@@ -206,8 +206,8 @@ based_does (places.Near at) da db = db
 based_does (places.Data s at) da db = db
 
 sum_does : {cs ds : List (List ℕ)} {v : List ℕ} {a b : List Line} (c : Bool) (lo : ℕ) → (c ≡ true → ds ≡ []) → Does cs v a v → Does (cs ++ ds) v b v → Does (cs ++ ds) v (if c then Label lo ∷ a else b) v
-sum_does true lo none da db = left_alone (none refl) (does_line (Label lo) (λ w. refl) da)
-sum_does false lo none da db = db
+sum_does true lo quiet da db = left_alone (quiet refl) (does_line (Label lo) (λ w. refl) da)
+sum_does false lo quiet da db = db
 
 -- ---- calls
 

@@ -352,12 +352,12 @@ relation_level w (Some r) p q = q r
 
 assigned_level : {cs ds : List (List ℕ)} {v : List ℕ} {a b : List Line} (how : Storing) (place : Place) (access : Access) → Unstored how (cs ≡ []) (ds ≡ []) → (IsKnown place → cs ≡ []) → ((u : List ℕ) → Closed cs u a u) → ((u : List ℕ) → Closed ds u b u)
     → Closed (cs ++ ds) v (assigned_by how place access a b) v
-assigned_level {cs = cs} {ds = ds} {v = v} (storing.Left at stored) place access none known da db =
-    closed_as (left_calls cs ds none) (behind (da v) (leaves_then (read_store_still at stored v) (narrow_still (type_at access) v)) (piece_append 22 3 _ _ (read_store_piece at stored) (narrow_piece (type_at access))).plain)
-assigned_level {cs = cs} {ds = ds} {v = v} (storing.RightByte at low high) place access none known da db =
-    closed_as (right_calls cs ds none) (behind (db v) (leaves_then (byte_through_still at low high v) (narrow_still (type_at access) v)) (piece_append 22 3 _ _ (byte_through_piece at low high) (narrow_piece (type_at access))).plain)
-assigned_level {cs = cs} {ds = ds} {v = v} (storing.RightWord at low high) place access none known da db = closed_as (right_calls cs ds none) (behind (db v) (word_through_still at low high v) (word_through_piece at low high).plain)
-assigned_level {v = v} storing.Stacked place access none known da db =
+assigned_level {cs = cs} {ds = ds} {v = v} (storing.Left at stored) place access unread known da db =
+    closed_as (left_calls cs ds unread) (behind (da v) (leaves_then (read_store_still at stored v) (narrow_still (type_at access) v)) (piece_append 22 3 _ _ (read_store_piece at stored) (narrow_piece (type_at access))).plain)
+assigned_level {cs = cs} {ds = ds} {v = v} (storing.RightByte at low high) place access unread known da db =
+    closed_as (right_calls cs ds unread) (behind (db v) (leaves_then (byte_through_still at low high v) (narrow_still (type_at access) v)) (piece_append 22 3 _ _ (byte_through_piece at low high) (narrow_piece (type_at access))).plain)
+assigned_level {cs = cs} {ds = ds} {v = v} (storing.RightWord at low high) place access unread known da db = closed_as (right_calls cs ds unread) (behind (db v) (word_through_still at low high v) (word_through_piece at low high).plain)
+assigned_level {v = v} storing.Stacked place access unread known da db =
     closed_then (target_level place known (da v)) (before (hold_leaves place v) (hold_piece place).plain (behind (db (holding place v)) (stored_leaves place access v) (store_piece place access).plain))
 
 -- ---- the bases of places
@@ -376,8 +376,8 @@ label_level : {cs : List (List ℕ)} {v : List ℕ} {a : List Line} (m : ℕ) �
 label_level {v = v} m d = level_end (level_then ((even_label {X = No} m).level v) (closed_open d)) (λ l h z. absurd z) (λ l h z. absurd z.0)
 
 sum_level : {cs ds : List (List ℕ)} {v : List ℕ} {a b : List Line} (c : Bool) (m : ℕ) → (c ≡ true → ds ≡ []) → Closed cs v a v → Closed (cs ++ ds) v b v → Closed (cs ++ ds) v (if c then Label m ∷ a else b) v
-sum_level {cs = cs} {ds = ds} true m none da db = closed_as (left_calls cs ds (none refl)) (label_level m da)
-sum_level false m none da db = db
+sum_level {cs = cs} {ds = ds} true m quiet da db = closed_as (left_calls cs ds (quiet refl)) (label_level m da)
+sum_level false m quiet da db = db
 
 -- ---- the whole tree
 
