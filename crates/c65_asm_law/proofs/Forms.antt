@@ -7,7 +7,7 @@ use Rattle.c65_ints.specs.declared.types.IntType.{IntType}
 use Rattle.c65_ints.specs.declared.types.IntType.TheVariants.{UInt}
 use Rattle.c65_ctype.specs.Trees.{type_in}
 use Rattle.c65_ctype.specs.Views.{types_of}
-use Rattle.c65_csem.specs.Trees.{Typed, node, constant, null, literal, object, func, member, load, address, decay, convert, UnitTy}
+use Rattle.c65_csem.specs.Trees.{Typed, node, constant, null, literal, object, func, deref, member, load, address, decay, convert, UnitTy}
 use Rattle.c65_csem.specs.Typed.{IsTyped}
 use Rattle.c65_code.specs.declared.line.Line.{Line}
 use Rattle.c65_code.specs.declared.routine.Width.{Width}
