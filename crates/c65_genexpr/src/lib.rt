@@ -13,6 +13,7 @@ mod operating;
 mod places;
 mod spills;
 mod steps;
+mod storing;
 mod types;
 mod wanted;
 
