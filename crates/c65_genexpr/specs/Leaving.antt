@@ -20,10 +20,12 @@ ComparesFree (comparing.Truth side) s a r b = IsFree side s a r b
 ComparesFree (comparing.Byte side None q d) s a r b = IsFree side s a r b
 ComparesFree (comparing.Byte side (Some low) q d) s a r b = (uses s a ≡ 0) × (uses r b ≡ 0)
 ComparesFree (comparing.Whole side q is_signed sides) s a r b = IsFree side s a r b
+ComparesFree (comparing.Held q is_signed) s a r b = Unit {0}
 ComparesFree comparing.Stacked s a r b = Unit {0}
 
 -- the operand that an operator leaves out
 abbrev pub OperatesFree : Operating → Typed → Typed → Type 0
 OperatesFree (operating.Left form) a b = uses None b ≡ 0
 OperatesFree (operating.Right form) a b = uses None a ≡ 0
+OperatesFree (operating.Held form) a b = Unit {0}
 OperatesFree operating.Stacked a b = Unit {0}

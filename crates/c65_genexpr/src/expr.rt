@@ -19,6 +19,7 @@ use crate::calls::{named, put_direct, put_named, put_pointer};
 use crate::comparing::{Comparing, Side, comparing_of, relation_by, tested_by};
 use crate::constants::residue_of;
 use crate::direct::{kept_at, put_own_test};
+use crate::held::{held_word, put_keep};
 use crate::leaving::{leave_out, leave_place};
 use crate::operands::{
     Operands, computes, operands_of, put_behind, put_between, put_conversion, put_unary, same_truth,
@@ -363,6 +364,12 @@ fn put_operator(
             put_expr(b, frame, pushed, draft)?;
             put_form(form, label, draft)
         }
+        Operating::Held(form) => {
+            put_expr(a, frame, pushed, draft)?;
+            put_keep(draft)?;
+            put_expr(b, frame, pushed, draft)?;
+            put_form(form, label, draft)
+        }
         Operating::Stacked => {
             let wait = waiting(width_of(computes(operands)));
             put_expr(a, frame, pushed, draft)?;
@@ -415,6 +422,12 @@ fn put_comparison(
         Comparing::Whole(side, relation, is_signed, sides) => {
             put_side(side, a, left, b, right, frame, pushed, draft)?;
             put_compare(relation, is_signed, sides, own, to, draft)
+        }
+        Comparing::Held(relation, is_signed) => {
+            put_wanted(a, left, frame, pushed, draft)?;
+            put_keep(draft)?;
+            put_wanted(b, right, frame, pushed, draft)?;
+            put_compare(relation, is_signed, held_word(), own, to, draft)
         }
         Comparing::Stacked => {
             let wait = waiting(width_of(computes(operands)));
