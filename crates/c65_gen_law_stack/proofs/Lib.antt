@@ -23,3 +23,5 @@ pub mod BankExprs
 pub mod BankStmts
 pub mod BankMoves
 pub mod WalkLaws
+pub mod LightPieces
+pub mod LightExprs
