@@ -25,3 +25,4 @@ pub mod BankMoves
 pub mod WalkLaws
 pub mod LightPieces
 pub mod LightExprs
+pub mod LightMoves

@@ -1,6 +1,5 @@
 // Expressions (C90 6.3).
-ghost use Rattle.std.specs.Prelude.{◌≡◌, [], ◌+◌, ◌≤◌, true, false, not, Some, None, OnOk, IfOk, OnErr, IfErr};
-ghost use Rattle.c65_base.specs.declared.refusal.Refusal.TheVariants.{OutOfMemory};
+ghost use Rattle.std.specs.Prelude.{◌≡◌, [], ◌+◌, true, false, not, Some, None, OnOk, IfOk, OnErr};
 ghost use Rattle.c65_csem.specs.Views.{typed_of, nodes_of};
 ghost use Rattle.c65_genwide.specs.Lines.{grown, Keeps};
 ghost use Rattle.c65_genexpr.specs.Arguments.{passed_of};
@@ -32,7 +31,7 @@ use crate::types::{Outcome, access_of, kind_of, offset_at, outcome_of, target_by
 use crate::wanted::{
     Wanted, is_straight, put_decided, put_outcome_test, put_value_test, truth_labels, wanted_by,
 };
-use c65_base::{BinaryOp, Refusal, UnaryOp};
+use c65_base::{BinaryOp, UnaryOp};
 use c65_code::Line::{Do, Label};
 use c65_code::Operand::To;
 use c65_code::{Draft, Width};
@@ -48,27 +47,7 @@ use c65_mach::Mode::Absolute;
 use c65_mach::Op::{Jmp, Lda};
 use std::alloc::AllocError;
 
-/// Puts the lines of an expression behind those of the draft, where so many bytes of values wait on
-/// the software stack. The value then stands in the primary register: in A and X, or in A, X and
-/// sreg; of a place, and of a structure or union, the address. Of a structure or union that is passed
-/// or returned its bytes stand there, the first in A. Refuses for want of memory alone, of labels too;
-/// the draft then has its old lines, and perhaps new ones behind them.
-pub fn gen_expr(
-    expr: &TExpr,
-    frame: &Frame<'_>,
-    pushed: u32,
-    draft: &mut Draft,
-) -> Result<(), Refusal>
-    requires { pushed ≤ 65535 }
-    ensures lines { OnOk result (draft.new ≡ grown draft.old (expr_code frame.now pushed draft.old.labels Value (typed_of expr.now)) (uses None (typed_of expr.now))) }
-    ensures refused { IfErr result (λ e. e ≡ OutOfMemory) }
-    ensures kept { OnErr result (Keeps draft.old draft.new) }
-{
-    put_expr(expr, frame, pushed as u16, draft)?;
-    Ok(())
-}
-
-/// The same, for callers that only lack memory.
+/// Puts the lines of the value of an expression, where so many bytes wait, for callers that only lack memory.
 #[cycle(expression)]
 pub fn put_expr(
     e: &TExpr,
@@ -469,8 +448,7 @@ fn put_side(
     }
 }
 
-// `&&` and `||`: a left side of this truth decides. Where the truth of the whole is that of the test,
-// they lead to its label.
+// `&&` and `||`, which a left side of this truth decides.
 #[cycle(expression)]
 fn put_joint(
     a: &TExpr,

@@ -16,7 +16,9 @@ mod places;
 mod spills;
 mod steps;
 mod types;
+mod value;
 mod wanted;
 
 pub use c65_genframe::{Frame, Home};
-pub use expr::{gen_expr, put_expr, put_test};
+pub use expr::{put_expr, put_test};
+pub use value::gen_expr;

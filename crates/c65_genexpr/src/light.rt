@@ -43,9 +43,8 @@ fn is_light_form(form: Form) -> bool
 {
     match form {
         Form::Constant(_, _) => false,
-        Form::Indexed(size, _, _)
-        | Form::Distance(size, _, _)
-        | Form::DistanceUnder(size, _, _) => size == 1,
+        Form::Indexed(size, _, _) | Form::Distance(size, _, _) | Form::DistanceUnder(size, _, _) =>
+            size == 1,
         Form::Sum(_)
         | Form::LongSum(_)
         | Form::Mask(_, _)

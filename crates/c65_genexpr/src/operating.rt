@@ -258,14 +258,8 @@ fn held_form(op: BinaryOp, operands: Operands) -> Option<Form>
 {
     match operands {
         Operands::Numbers(_) => left_form(op, operands, held_low(), held_high()),
-        Operands::PointerFirst(size) => {
-            if size == 1 {
-                held_elements(op)
-            } else {
-                None
-            }
-        }
-        Operands::PointerLast(_) => None,
+        Operands::PointerFirst(size) if size == 1 => held_elements(op),
+        Operands::PointerFirst(_) | Operands::PointerLast(_) => None,
         Operands::Pointers(size) => match op {
             BinaryOp::Sub => Some(Form::DistanceUnder(size, held_low(), held_high())),
             _ => None,
