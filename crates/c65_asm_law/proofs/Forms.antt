@@ -51,9 +51,11 @@ use Rattle.c65_genexpr.specs.Types.{kind_of, bare, offset_at, access_of}
 use Rattle.c65_genexpr.specs.Places.{has_base, place_of}
 use Rattle.c65_genexpr.specs.Operands.{residue_of, between_code, behind_code, negative}
 use Rattle.c65_genexpr.specs.Direct.{kept_at, address_at, address_of, takes_bytes, converted_if, direct_of, own_bytes, is_fixed, is_pure, is_byte, both_bytes, all_bytes, sides_of, listed, alone}
-use Rattle.c65_genexpr.specs.Comparing.{tested_by, lowest, is_raised, raised, one_more, range_of, meeting, beside, changes, compared_by, comparing_of, on, low_code, comparison_by}
-use Rattle.c65_genexpr.specs.Operating.{sum_by, mask_by, number_form, offset_form, constant_form, pair_of, word_in, word_if, element_form, right_form, under_if, left_form, constant_right, direct_right, direct_left, by_left, by_right, operating_of, placed, form_code, waiting_code, stacked_code, operator_by}
+use Rattle.c65_genexpr.specs.Comparing.{tested_by, lowest, is_raised, raised, one_more, range_of, meeting, beside, changes, compared_by, comparing_of, on, low_code, comparison_by, held_by}
+use Rattle.c65_genexpr.specs.Operating.{sum_by, mask_by, number_form, offset_form, constant_form, pair_of, word_in, word_if, element_form, right_form, under_if, left_form, constant_right, direct_right, direct_left, by_left, by_right, operating_of, placed, form_code, waiting_code, stacked_code, operator_by, reading_of, is_light, held_elements, held_form, held_if}
 use Rattle.c65_genexpr.specs.Operating as operators
+use Rattle.c65_genexpr.specs.Comparing as comparisons
+use Rattle.c65_genexpr.specs.Held.{held_low, held_high, keep_code}
 use Rattle.c65_genexpr.specs.Wanted.{branch_code}
 use Rattle.c65_asm_law.proofs.Well.{AllWell, well_append, well_none}
 use Rattle.c65_asm_law.proofs.Known.{Knows}
@@ -188,6 +190,7 @@ abbrev pub WellComparing : ℕ → Comparing → Type 0
 WellComparing n (compared.Truth side) = Unit {0}
 WellComparing n (compared.Byte side low r byte) = WellMaybe n low × WellByte n byte
 WellComparing n (compared.Whole side r signed sides) = WellSides n sides
+WellComparing n (compared.Held r signed) = Unit {0}
 WellComparing n compared.Stacked = Unit {0}
 
 abbrev WellSome : ℕ → Option Sides → Type 0
@@ -256,11 +259,23 @@ beside_well n side r few kind first (Some d) h k =
 compared_well : (n : ℕ) (r : Relation) (few : Bool) (kind : IntType) (pure : Bool) (a b : Option Direct) → WellRead n a → WellRead n b → WellComparing n (compared_by r few kind pure a b)
 compared_well n r few kind pure a b h k = comparing_if n (changes kind pure a b) _ _ (beside_well n Right (mirrored r) few kind b a k h) (beside_well n Left r few kind a b h k)
 
+held_by_well : (n : ℕ) (is : Bool) (w : Width) (r : Relation) (kind : IntType) → WellComparing n (held_by is w r kind)
+held_by_well n true Ax r kind = tt
+held_by_well n true Eax r kind = tt
+held_by_well n false w r kind = tt
+
+or_held_well : (n : ℕ) (how held : Comparing) → WellComparing n how → WellComparing n held → WellComparing n (comparisons.or_held how held)
+or_held_well n (compared.Truth side) held h k = h
+or_held_well n (compared.Byte side low r byte) held h k = h
+or_held_well n (compared.Whole side r signed sides) held h k = h
+or_held_well n (compared.Held r signed) held h k = h
+or_held_well n compared.Stacked held h k = k
+
 pub comparing_well : (n : ℕ) (u : UnitTy) (f : Framed) (pushed : ℕ) (r : Relation) (kind : IntType) (a b : Typed) → Knows f u n → IsTyped u a → IsTyped u b → WellComparing n (comparing_of f pushed r kind a b)
 comparing_well n u f pushed r kind a b knows h k =
     comparing_if n (is_some (tested_by r b)) (compared.Truth Left) _ tt
     (comparing_if n (is_some (tested_by r a)) (compared.Truth Right) _ tt
-    (compared_well n r (is_byte a && is_byte b) kind (is_pure b) (direct_of f pushed a) (direct_of f pushed b) (read_well n u f pushed a knows h) (read_well n u f pushed b knows k)))
+    (or_held_well n (compared_by r (is_byte a && is_byte b) kind (is_pure b) (direct_of f pushed a) (direct_of f pushed b)) _ (compared_well n r (is_byte a && is_byte b) kind (is_pure b) (direct_of f pushed a) (direct_of f pushed b) (read_well n u f pushed a knows h) (read_well n u f pushed b knows k)) (held_by_well n (is_light f pushed b) (width_of kind) r kind)))
 
 on_well : (n : ℕ) (side : Side) (a b : List Line) → AllWell n a → AllWell n b → AllWell n (on side a b)
 on_well n Left a b h k = h
@@ -270,10 +285,15 @@ low_well : (n : ℕ) (byte : Option OperandByte) (lines : List Line) → WellMay
 low_well n None lines h k = k
 low_well n (Some byte) lines h k = op_well n _ byte h
 
+keep_well : (n : ℕ) → AllWell n keep_code
+keep_well n = record { all = ((tt, omega arith), ((tt, omega arith), tt)) }
+
 pub comparison_well : (n : ℕ) (how : Comparing) (op : BinaryOp) (operands : Operands) (right : IntType) (s : Bool) (to own : ℕ) (a b : List Line) → WellComparing n how → to < 2 ^ 32 → own < 2 ^ 32 → AllWell n a → AllWell n b → AllWell n (comparison_by how op operands right s to own a b)
 comparison_well n (compared.Truth side) op operands right s to own a b h low room ha hb = labelled_well n own _ room (on_well n side a b ha hb)
 comparison_well n (compared.Byte side first r byte) op operands right s to own a b h low room ha hb = labelled_well n own _ room (well_append n (low_code first (on side a b)) _ (low_well n first (on side a b) h.0 (on_well n side a b ha hb)) (compare_byte_well n r byte to h.1 low))
 comparison_well n (compared.Whole side r signed sides) op operands right s to own a b h low room ha hb = well_append n (on side a b) _ (on_well n side a b ha hb) (compare_well n r signed sides own to h room low)
+comparison_well n (compared.Held r signed) op operands right s to own a b h low room ha hb =
+    well_append n a _ ha (well_append n keep_code _ (keep_well n) (well_append n b _ hb (compare_well n r signed (Word held_low held_high) own to (omega arith, omega arith) room low)))
 comparison_well n compared.Stacked op operands right s to own a b h low room ha hb =
     let last : AllWell n (implied _ ∷ branch_code s to) = record { all = ((tt, tt), ((tt, low), tt)) } in
     labelled_well n own _ room (well_append n a _ ha (well_append n (between_code operands) _ (between_well n operands) (well_append n b _ hb (well_append n (behind_code op operands right) _ (behind_well n op operands right) last))))
@@ -298,6 +318,7 @@ WellForms n (Some form) = WellForm n form
 abbrev pub WellOperating : ℕ → Operating → Type 0
 WellOperating n (ways.Left form) = WellForm n form
 WellOperating n (ways.Right form) = WellForm n form
+WellOperating n (ways.Held form) = WellForm n form
 WellOperating n ways.Stacked = Unit {0}
 
 sum_well : (n : ℕ) (w : Width) (m : ℕ) → WellForm n (sum_by w m)
@@ -400,11 +421,38 @@ by_right_well : (n : ℕ) (form : Option Form) (other : Operating) → WellForms
 by_right_well n (Some form) other h k = h
 by_right_well n None other h k = k
 
-pub operating_well : (n : ℕ) (u : UnitTy) (f : Framed) (pushed : ℕ) (op : BinaryOp) (operands : Operands) (a b : Typed) → Knows f u n → IsTyped u a → IsTyped u b → WellOperating n (operating_of f pushed op operands a b)
-operating_well n u f pushed op operands a b knows h k =
+held_elements_well : (n : ℕ) (op : BinaryOp) → WellForms n (held_elements op)
+held_elements_well n ops.Add = (omega arith, omega arith)
+held_elements_well n ops.Sub = (omega arith, omega arith)
+held_elements_well n _ = tt
+
+held_form_well : (n : ℕ) (op : BinaryOp) (operands : Operands) → WellForms n (held_form op operands)
+held_form_well n op (Numbers kind) = left_well n op (Numbers kind) held_low held_high (omega arith) (omega arith)
+held_form_well n op (PointerFirst size) = forms_if n (size == 1) (held_elements op) None (held_elements_well n op) tt
+held_form_well n op (PointerLast size) = tt
+held_form_well n ops.Sub (Pointers size) = (omega arith, omega arith)
+held_form_well n _ (Pointers size) = tt
+
+held_well : (n : ℕ) (is : Bool) (form : Option Form) → WellForms n form → WellOperating n (held_if is form)
+held_well n true (Some form) h = h
+held_well n true None h = tt
+held_well n false form h = tt
+
+or_held_operating : (n : ℕ) (how held : Operating) → WellOperating n how → WellOperating n held → WellOperating n (operators.or_held how held)
+or_held_operating n (ways.Left form) held h k = h
+or_held_operating n (ways.Right form) held h k = h
+or_held_operating n (ways.Held form) held h k = h
+or_held_operating n ways.Stacked held h k = k
+
+reading_well : (n : ℕ) (u : UnitTy) (f : Framed) (pushed : ℕ) (op : BinaryOp) (operands : Operands) (a b : Typed) → Knows f u n → IsTyped u a → IsTyped u b → WellOperating n (reading_of f pushed op operands a b)
+reading_well n u f pushed op operands a b knows h k =
     by_right_well n (constant_right op operands b) _ (constant_right_well n op operands b)
     (by_right_well n (direct_right op operands (direct_of f pushed b)) _ (direct_right_well n op operands (direct_of f pushed b) (read_well n u f pushed b knows k))
     (by_left_well n (is_fixed (direct_of f pushed a) || is_pure b) (direct_left op operands (direct_of f pushed a)) (direct_left_well n op operands (direct_of f pushed a) (read_well n u f pushed a knows h))))
+
+pub operating_well : (n : ℕ) (u : UnitTy) (f : Framed) (pushed : ℕ) (op : BinaryOp) (operands : Operands) (a b : Typed) → Knows f u n → IsTyped u a → IsTyped u b → WellOperating n (operating_of f pushed op operands a b)
+operating_well n u f pushed op operands a b knows h k =
+    or_held_operating n (reading_of f pushed op operands a b) _ (reading_well n u f pushed op operands a b knows h k) (held_well n (is_light f pushed b) (held_form op operands) (held_form_well n op operands))
 
 placed_well : (n : ℕ) (op : BinaryOp) (l : ℕ) → l < 2 ^ 32 → AllWell n (placed op l)
 placed_well n ops.Add l room = well_none n
@@ -437,4 +485,5 @@ stacked_well n op (Pointers size) right = behind_well n op (Pointers size) right
 pub operator_well : (n : ℕ) (how : Operating) (op : BinaryOp) (operands : Operands) (right : IntType) (l : ℕ) (a b : List Line) → WellOperating n how → l < 2 ^ 32 → AllWell n a → AllWell n b → AllWell n (operator_by how op operands right l a b)
 operator_well n (ways.Left form) op operands right l a b h room ha hb = well_append n a _ ha (form_well n form l h room)
 operator_well n (ways.Right form) op operands right l a b h room ha hb = well_append n b _ hb (form_well n form l h room)
+operator_well n (ways.Held form) op operands right l a b h room ha hb = well_append n a _ ha (well_append n keep_code _ (keep_well n) (well_append n b _ hb (form_well n form l h room)))
 operator_well n ways.Stacked op operands right l a b h room ha hb = labelled_well n l _ room (well_append n a _ ha (well_append n (waiting_code operands) _ (waiting_well n operands) (well_append n b _ hb (stacked_well n op operands right))))

@@ -28,6 +28,7 @@ use Rattle.c65_genload.specs.Places.{type_in as type_at, extent_of, extent_by}
 use Rattle.c65_genload.specs.Conversions.{waiting}
 use Rattle.c65_gendirect.specs.declared.bytes.OperandByte.{OperandByte}
 use Rattle.c65_gendirect.specs.declared.direct.Direct.{Direct}
+use Rattle.c65_gendirect.specs.declared.compare.Sides.TheVariants.{Word}
 use Rattle.c65_gendirect.specs.declared.relation.Relation.{Relation}
 use Rattle.c65_gendirect.specs.Compare.{relation_of}
 use Rattle.c65_genshift.specs.Shifts.{labelled}
@@ -38,7 +39,7 @@ use Rattle.c65_genexpr.specs.declared.operating.Operating.TheVariants as operati
 use Rattle.c65_genexpr.specs.declared.comparing.Side.{Side}
 use Rattle.c65_genexpr.specs.declared.comparing.Side.TheVariants.{Left, Right}
 use Rattle.c65_genexpr.specs.declared.comparing.Comparing.{Comparing}
-use Rattle.c65_genexpr.specs.declared.comparing.Comparing.TheVariants.{Truth, Byte, Whole, Stacked}
+use Rattle.c65_genexpr.specs.declared.comparing.Comparing.TheVariants.{Truth, Byte, Whole, Stacked, Held}
 use Rattle.c65_genexpr.specs.declared.storing.Storing.{Storing}
 use Rattle.c65_genexpr.specs.declared.storing.Storing.TheVariants as storing
 use Rattle.c65_genexpr.specs.declared.wanted.Wanted.{Wanted}
@@ -52,6 +53,7 @@ use Rattle.c65_genexpr.specs.Wanted.{wanted_by, handed, wanted, sense, aimed, in
 use Rattle.c65_genexpr.specs.Operands.{residue_of, constant_in, operands_of, computes, same_truth, conversion_by}
 use Rattle.c65_genexpr.specs.Direct.{kept_at, own_bytes}
 use Rattle.c65_genexpr.specs.Comparing.{relation_by, tested_by, comparing_of, on, low_code, below_side, comparison_by}
+use Rattle.c65_genexpr.specs.Held.{held_low, held_high}
 use Rattle.c65_genexpr.specs.Operating.{operating_of, waiting_code, stacked_code, below_operand, operator_by}
 use Rattle.c65_genexpr.specs.Storing.{target_code, storing_of, below_value, assigned_by}
 use Rattle.c65_genexpr.specs.Steps.{amount_of}
@@ -65,7 +67,7 @@ use Rattle.c65_gen_law_lines.proofs.StackPieces.{narrow_still, read_store_still,
 use Rattle.c65_gen_law_stack.proofs.EvenLines.{Labels, No, One, Even, even_label, even_leaves}
 use Rattle.c65_gen_law_stack.proofs.EvenShifts.{elements_even}
 use Rattle.c65_gen_law_stack.proofs.EvenDirects.{byte_even, compare_even, compare_byte_even, zero_test_even, truth_even}
-use Rattle.c65_gen_law_stack.proofs.EvenForms.{value_test_even, routine_test_even, constant_even, form_even}
+use Rattle.c65_gen_law_stack.proofs.EvenForms.{value_test_even, routine_test_even, constant_even, form_even, keep_even}
 use Rattle.c65_gen_law_stack.proofs.ReadSides.{Reaches, storing_reached, sum_reached, known_reached, kept_known, First, Compared, comparing_reached, Operated, operating_reached}
 use Rattle.c65_gen_law_calls.specs.Sites.{Site, site_by, unless_named, sites_of, node_sites, args_sites}
 use Rattle.c65_gen_law_calls.specs.Lines.{is_calling, named_line, line_by, line_of}
@@ -158,6 +160,7 @@ stacked_free op (Pointers size) right = free_leaves (behind_leaves op (Pointers 
 operator_has : {f : Framed} {ss ts : List Site} {a b : List Line} (how : Operating) (op : BinaryOp) (operands : Operands) (right : IntType) (label : ℕ) → Operated (ss ≡ []) (ts ≡ []) how → Has f ss a → Has f ts b → Has f (ss ++ ts) (operator_by how op operands right label a b)
 operator_has {ss = ss} {ts = ts} (operating.Left form) op operands right label empty da db = has_as (left_sites ss ts empty) (has_behind da (even_free (form_even {X = No} form label)))
 operator_has {ss = ss} {ts = ts} (operating.Right form) op operands right label empty da db = has_as (right_sites ss ts empty) (has_behind db (even_free (form_even {X = No} form label)))
+operator_has (operating.Held form) op operands right label empty da db = has_then da (has_before (even_free (keep_even {X = No})) (has_behind db (even_free (form_even {X = No} form label))))
 operator_has operating.Stacked op operands right label empty da db = labelled_has label (has_then da (has_before (waiting_free operands) (has_behind db (stacked_free op operands right))))
 
 -- ---- assignments
@@ -198,6 +201,8 @@ comparison_has : {f : Framed} {ss ts : List Site} {a b : List Line} (how : Compa
 comparison_has (Truth side) op operands right s to m given da db = labelled_has m (side_has side given da db)
 comparison_has (Byte side low r d) op operands right s to m given da db = labelled_has m (has_behind (low_has side low given.0 given.1 da db) (even_free (compare_byte_even {X = One to} r d to refl)))
 comparison_has (Whole side r is_signed sides) op operands right s to m given da db = has_behind (side_has side given da db) (even_free (compare_even {X = One to} r is_signed sides m to refl))
+comparison_has (Held r is_signed) op operands right s to m given da db =
+    has_then da (has_before (even_free (keep_even {X = No})) (has_behind db (even_free (compare_even {X = One to} r is_signed (Word held_low held_high) m to refl))))
 comparison_has Stacked op operands right s to m given da db =
     labelled_has m (has_then da (has_before (free_leaves (between_leaves operands [])) (has_behind db (free_append (free_leaves (behind_leaves op operands right [])) (even_free (routine_test_even {X = One to} s to refl))))))
 

@@ -43,9 +43,10 @@ use Rattle.c65_genexpr.specs.Places.{moved, has_base, added_bytes, sum_has_base,
 use Rattle.c65_genexpr.specs.Storing.{pointer_of, bytes_stored, through, unless_changed, by_value, by_pointer, storing_by, storing_of}
 use Rattle.c65_genexpr.specs.Operands.{residue_of, negative, constant_in}
 use Rattle.c65_genexpr.specs.Direct.{kept_at, address_at, address_of, takes_bytes, converted_if, sides_of, direct_of, is_fixed, is_pure, is_byte}
-use Rattle.c65_genexpr.specs.Comparing.{is_zero, zero_sense, tested_by, is_raised, raised, one_more, range_of, meeting, beside, changes, compared_by, comparing_of}
-use Rattle.c65_genexpr.specs.Operating.{sum_by, mask_by, number_form, offset_form, constant_form, word_in, word_if, element_form, right_form, under_if, left_form, constant_right, direct_right, direct_left, by_left, by_right, operating_of}
+use Rattle.c65_genexpr.specs.Comparing.{is_zero, zero_sense, tested_by, is_raised, raised, one_more, range_of, meeting, beside, changes, compared_by, held_by, or_held, comparing_of}
+use Rattle.c65_genexpr.specs.Operating.{sum_by, mask_by, number_form, offset_form, constant_form, word_in, word_if, element_form, right_form, under_if, left_form, constant_right, direct_right, direct_left, by_left, by_right, reading_of, is_light, held_elements, held_form, held_if, operating_of}
 use Rattle.c65_genexpr.specs.Operating as operators
+use Rattle.c65_genexpr.specs.Held.{held_low, held_high}
 use Rattle.c65_genexpr.specs.Uses.{uses}
 use Rattle.c65_gen_law_lines.specs.Stack.{calls_of}
 use Rattle.c65_gen_law_lines.proofs.Shifts.{IsQuick, quick_is_quick}
@@ -152,6 +153,7 @@ Unread (comparing.Byte side.Left low r d) A B = IfRead low A × B
 Unread (comparing.Byte side.Right low r d) A B = IfRead low B × A
 Unread (comparing.Whole side.Left r is_signed sides) A B = B
 Unread (comparing.Whole side.Right r is_signed sides) A B = A
+Unread (comparing.Held r is_signed) A B = Unit {0}
 Unread comparing.Stacked A B = Unit {0}
 
 first_read : {A : Type 0} (x : Option Direct) → ((d : Direct) → x ≡ Some d → A) → IfRead (option_and_then (λ d. byte_of d 0) x) A
@@ -187,22 +189,35 @@ beside_right {A = A} {B = B} r bytes kind x (Some d) right left = unread_if A B 
 compared_unread : {A B : Type 0} (r : Relation) (bytes : Bool) (kind : IntType) (pure : Bool) (x y : Option Direct) → ((d : Direct) → x ≡ Some d → A) → ((d : Direct) → y ≡ Some d → B) → Unread (compared_by r bytes kind pure x y) A B
 compared_unread {A = A} {B = B} r bytes kind pure x y left right = unread_if A B (changes kind pure x y) _ _ (beside_right (mirrored r) bytes kind y x right left) (beside_left r bytes kind x y left right)
 
+-- no side is left out where the left one waits in ptr2
+held_by_unread : (A B : Type 0) (is : Bool) (w : Width) (r : Relation) (kind : IntType) → Unread (held_by is w r kind) A B
+held_by_unread A B true Ax r kind = tt
+held_by_unread A B true Eax r kind = tt
+held_by_unread A B false w r kind = tt
+
+or_held_unread : (A B : Type 0) (how held : Comparing) → Unread how A B → Unread held A B → Unread (or_held how held) A B
+or_held_unread A B (comparing.Truth side) held p q = p
+or_held_unread A B (comparing.Byte side low r d) held p q = p
+or_held_unread A B (comparing.Whole side r is_signed sides) held p q = p
+or_held_unread A B (comparing.Held r is_signed) held p q = p
+or_held_unread A B comparing.Stacked held p q = q
+
 -- the labels of a side that is not taken are none
 pub comparing_uses : (f : Framed) (pushed : ℕ) (q : Relation) (kind : IntType) (a b : Typed) → Unread (comparing_of f pushed q kind a b) (uses (tested_by q b) a ≡ 0) (uses (tested_by q a) b ≡ 0)
 comparing_uses f pushed q kind a b = go (tested_by q b) refl (tested_by q a) refl
   where
-    go : (x : Option Bool) → tested_by q b ≡ x → (y : Option Bool) → tested_by q a ≡ y → Unread (if is_some x then comparing.Truth side.Left else (if is_some y then comparing.Truth side.Right else compared_by q (is_byte a && is_byte b) kind (is_pure b) (direct_of f pushed a) (direct_of f pushed b))) (uses x a ≡ 0) (uses y b ≡ 0)
+    go : (x : Option Bool) → tested_by q b ≡ x → (y : Option Bool) → tested_by q a ≡ y → Unread (if is_some x then comparing.Truth side.Left else (if is_some y then comparing.Truth side.Right else or_held (compared_by q (is_byte a && is_byte b) kind (is_pure b) (direct_of f pushed a) (direct_of f pushed b)) (held_by (is_light f pushed b) (width_of kind) q kind))) (uses x a ≡ 0) (uses y b ≡ 0)
     go (Some s) e y h = zero_uses y b (tested_zero q b s e)
     go None e (Some s) h = zero_uses None a (tested_zero q a s h)
-    go None e None h = compared_unread q (is_byte a && is_byte b) kind (is_pure b) (direct_of f pushed a) (direct_of f pushed b) (λ d found. (direct_idle f pushed a d found).uses) (λ d found. (direct_idle f pushed b d found).uses)
+    go None e None h = or_held_unread _ _ (compared_by q (is_byte a && is_byte b) kind (is_pure b) (direct_of f pushed a) (direct_of f pushed b)) _ (compared_unread q (is_byte a && is_byte b) kind (is_pure b) (direct_of f pushed a) (direct_of f pushed b) (λ d found. (direct_idle f pushed a d found).uses) (λ d found. (direct_idle f pushed b d found).uses)) (held_by_unread _ _ (is_light f pushed b) (width_of kind) q kind)
 
 pub comparing_calls : (f : Framed) (pushed : ℕ) (q : Relation) (kind : IntType) (a b : Typed) → Unread (comparing_of f pushed q kind a b) (calls_of f a ≡ []) (calls_of f b ≡ [])
 comparing_calls f pushed q kind a b = go (tested_by q b) refl (tested_by q a) refl
   where
-    go : (x : Option Bool) → tested_by q b ≡ x → (y : Option Bool) → tested_by q a ≡ y → Unread (if is_some x then comparing.Truth side.Left else (if is_some y then comparing.Truth side.Right else compared_by q (is_byte a && is_byte b) kind (is_pure b) (direct_of f pushed a) (direct_of f pushed b))) (calls_of f a ≡ []) (calls_of f b ≡ [])
+    go : (x : Option Bool) → tested_by q b ≡ x → (y : Option Bool) → tested_by q a ≡ y → Unread (if is_some x then comparing.Truth side.Left else (if is_some y then comparing.Truth side.Right else or_held (compared_by q (is_byte a && is_byte b) kind (is_pure b) (direct_of f pushed a) (direct_of f pushed b)) (held_by (is_light f pushed b) (width_of kind) q kind))) (calls_of f a ≡ []) (calls_of f b ≡ [])
     go (Some s) e y h = zero_calls f b (tested_zero q b s e)
     go None e (Some s) h = zero_calls f a (tested_zero q a s h)
-    go None e None h = compared_unread q (is_byte a && is_byte b) kind (is_pure b) (direct_of f pushed a) (direct_of f pushed b) (λ d found. (direct_idle f pushed a d found).calls) (λ d found. (direct_idle f pushed b d found).calls)
+    go None e None h = or_held_unread _ _ (compared_by q (is_byte a && is_byte b) kind (is_pure b) (direct_of f pushed a) (direct_of f pushed b)) _ (compared_unread q (is_byte a && is_byte b) kind (is_pure b) (direct_of f pushed a) (direct_of f pushed b) (λ d found. (direct_idle f pushed a d found).calls) (λ d found. (direct_idle f pushed b d found).calls)) (held_by_unread _ _ (is_light f pushed b) (width_of kind) q kind)
 
 -- ---- assignments
 
@@ -306,6 +321,7 @@ IsSmall _ = Unit {0}
 abbrev pub Unused : Operating → Type 0 → Type 0 → Type 0
 Unused (operating.Left form) A B = IsSmall form × B
 Unused (operating.Right form) A B = IsSmall form × A
+Unused (operating.Held form) A B = IsSmall form
 Unused operating.Stacked A B = Unit {0}
 
 -- a form that an option has is small
@@ -416,11 +432,38 @@ left_unused A B true None p = tt
 left_unused A B true (Some form) p = p
 left_unused A B false x p = tt
 
-unused_by : {A B : Type 0} (f : Framed) (pushed : ℕ) (op : BinaryOp) (operands : Operands) (a b : Typed) → (Idle f a → A) → (Idle f b → B) → Unused (operating_of f pushed op operands a b) A B
-unused_by {A = A} {B = B} f pushed op operands a b left right =
+held_elements_small : (op : BinaryOp) → AllSmall (held_elements op)
+held_elements_small ops.Add = tt
+held_elements_small ops.Sub = tt
+held_elements_small _ = tt
+
+held_small : (op : BinaryOp) (operands : Operands) → AllSmall (held_form op operands)
+held_small op (Numbers kind) = left_small op (Numbers kind) held_low held_high
+held_small op (PointerFirst size) = option_small (size == 1) (held_elements op) None (held_elements_small op) tt
+held_small op (PointerLast size) = tt
+held_small ops.Sub (Pointers size) = tt
+held_small _ (Pointers size) = tt
+
+held_unused : (A B : Type 0) (is : Bool) (x : Option Form) → AllSmall x → Unused (held_if is x) A B
+held_unused A B true (Some form) small = small
+held_unused A B true None small = tt
+held_unused A B false x small = tt
+
+or_held_unused : (A B : Type 0) (how held : Operating) → Unused how A B → Unused held A B → Unused (operators.or_held how held) A B
+or_held_unused A B (operating.Left form) held p q = p
+or_held_unused A B (operating.Right form) held p q = p
+or_held_unused A B (operating.Held form) held p q = p
+or_held_unused A B operating.Stacked held p q = q
+
+reading_unused : {A B : Type 0} (f : Framed) (pushed : ℕ) (op : BinaryOp) (operands : Operands) (a b : Typed) → (Idle f a → A) → (Idle f b → B) → Unused (reading_of f pushed op operands a b) A B
+reading_unused {A = A} {B = B} f pushed op operands a b left right =
     right_unused A B (constant_right op operands b) _ (constant_taken op operands (constant_in b) (λ z h. right (constant_idle f b z h)))
     (right_unused A B (direct_right op operands (direct_of f pushed b)) _ (word_taken (right_form op operands) (direct_of f pushed b) (right_small op operands) (λ d h. right (direct_idle f pushed b d h)))
     (left_unused A B (is_fixed (direct_of f pushed a) || is_pure b) (direct_left op operands (direct_of f pushed a)) (word_taken (left_form op operands) (direct_of f pushed a) (left_small op operands) (λ d h. left (direct_idle f pushed a d h)))))
+
+unused_by : {A B : Type 0} (f : Framed) (pushed : ℕ) (op : BinaryOp) (operands : Operands) (a b : Typed) → (Idle f a → A) → (Idle f b → B) → Unused (operating_of f pushed op operands a b) A B
+unused_by {A = A} {B = B} f pushed op operands a b left right =
+    or_held_unused A B (reading_of f pushed op operands a b) _ (reading_unused f pushed op operands a b left right) (held_unused A B (is_light f pushed b) (held_form op operands) (held_small op operands))
 
 pub operating_uses : (f : Framed) (pushed : ℕ) (op : BinaryOp) (operands : Operands) (a b : Typed) → Unused (operating_of f pushed op operands a b) (uses None a ≡ 0) (uses None b ≡ 0)
 operating_uses f pushed op operands a b = unused_by f pushed op operands a b (λ idle. idle.uses) (λ idle. idle.uses)

@@ -15,6 +15,7 @@ use Rattle.c65_genexpr.specs.declared.operands.Operands.{Operands}
 use Rattle.c65_genexpr.specs.declared.operands.Operands.TheVariants.{Numbers, PointerFirst, PointerLast, Pointers}
 use Rattle.c65_genexpr.specs.declared.operating.Form.{Form}
 use Rattle.c65_genexpr.specs.declared.operating.Form.TheVariants.{Sum, LongSum, Mask, Constant, Word, Under, Indexed, Distance, DistanceUnder}
+use Rattle.c65_genexpr.specs.Held.{keep_code}
 use Rattle.c65_genexpr.specs.Operands.{computes}
 use Rattle.c65_genexpr.specs.Operating.{placed, form_code, waiting_code, stacked_code}
 use Rattle.c65_gen_law_lines.proofs.Made.{nowhere, once_at, stretch_piece, Stretch, stretch_then, stretch_as}
@@ -58,6 +59,9 @@ form_quiet (Distance size low high) label passes small = quiet_wider (quiet_as (
 form_quiet (DistanceUnder size low high) label passes small = labelled_quiet label (quiet_wider (quiet_as (λ l. refl) (quiet_then (taken_quiet low high) (quiet_piece (divide_piece size) (divide_still size)))) (omega arith))
 
 -- ---- a left operand that waits
+
+pub keep_quiet : {ok : ℕ → Bool} → Quiet ok nowhere 4 keep_code
+keep_quiet = quiet_piece (record { plain = refl; fit = refl; size = omega arith }) (λ v. record { to = λ calls. refl })
 
 abbrev pub before_size : Operands → ℕ
 before_size (PointerLast size) = 94

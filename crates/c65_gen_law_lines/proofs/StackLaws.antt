@@ -33,6 +33,7 @@ use Rattle.c65_genload.specs.Places as loads
 use Rattle.c65_genload.specs.Conversions.{waiting}
 use Rattle.c65_gendirect.specs.declared.bytes.OperandByte.{OperandByte}
 use Rattle.c65_gendirect.specs.declared.direct.Direct.{Direct}
+use Rattle.c65_gendirect.specs.declared.compare.Sides.TheVariants.{Word}
 use Rattle.c65_gendirect.specs.declared.relation.Relation.{Relation}
 use Rattle.c65_gendirect.specs.Compare.{relation_of}
 use Rattle.c65_genexpr.specs.declared.comparing.Side.TheVariants as side
@@ -54,6 +55,7 @@ use Rattle.c65_genexpr.specs.Places.{more, has_base, added_bytes, sum_has_base, 
 use Rattle.c65_genexpr.specs.Operands.{residue_of, constant_in, operands_of, computes, unary_code, same_truth, conversion_by}
 use Rattle.c65_genexpr.specs.Direct.{kept_at, own_bytes}
 use Rattle.c65_genexpr.specs.Wanted.{decided_code, wanted_by, handed, branch_code, wanted, aimed, sense, inner, truth_by, is_straight, way, way_labels, joined as both_joined}
+use Rattle.c65_genexpr.specs.Held.{held_low, held_high}
 use Rattle.c65_genexpr.specs.Comparing.{relation_by, tested_by, comparing_of, low_code, below_side, comparison_by}
 use Rattle.c65_genexpr.specs.Operating.{operating_of, below_operand, operator_by}
 use Rattle.c65_genexpr.specs.Storing.{target_code, storing_of, below_value, assigned_by}
@@ -67,7 +69,7 @@ use Rattle.c65_gen_law_lines.specs.Stack.{bytes_in, Waiting, waiting_by, taken, 
 use Rattle.c65_gen_law_lines.specs.Laws.{ExpressionsKeepTheStack, CallsAreCounted}
 use Rattle.c65_gen_law_lines.proofs.Directs.{loaded_quiet, compare_quiet, compare_byte_quiet, zero_test_quiet, truth_quiet}
 use Rattle.c65_gen_law_lines.proofs.Drops.{kept_known, known_calls, IfRead, Unread, comparing_calls, Unstored, storing_calls, sum_calls, Unused, operating_calls}
-use Rattle.c65_gen_law_lines.proofs.Forms.{form_quiet, waiting_leaves, stacked_leaves}
+use Rattle.c65_gen_law_lines.proofs.Forms.{form_quiet, waiting_leaves, stacked_leaves, keep_quiet}
 use Rattle.c65_gen_law_lines.proofs.StackPieces.{waits_append, Leaves, leaves_then, leaves_none, leaves_if, Still, narrow_still, number_still, object_still, further_still, offset_still, conversion_still, push_leaves, argument_leaves, test_still, holding, hold_leaves, bytes_still, load_still, stored_leaves, read_store_still, byte_through_still, word_through_still, copy_leaves, spill_still, unary_still, between_leaves, behind_leaves, step_still, open_leaves, close_leaves}
 
 -- lines lead from some values that wait to others by these calls
@@ -177,6 +179,8 @@ comparison_does (comparing.Byte side.Left low r d) op operands right s to own qu
 comparison_does (comparing.Byte side.Right low r d) op operands right s to own quiet da db v = right_alone quiet.1 (does_behind (does_behind (low_does low quiet.0 (db v)) ((compare_byte_quiet {ok = λ l. true} r d to refl).still v)) (one_label own))
 comparison_does (comparing.Whole side.Left r is_signed sides) op operands right s to own quiet da db v = left_alone quiet (does_behind (da v) ((compare_quiet {ok = λ l. true} r is_signed sides own to refl refl).still v))
 comparison_does (comparing.Whole side.Right r is_signed sides) op operands right s to own quiet da db v = right_alone quiet (does_behind (db v) ((compare_quiet {ok = λ l. true} r is_signed sides own to refl refl).still v))
+comparison_does (comparing.Held r is_signed) op operands right s to own quiet da db v =
+    does_then (da v) (does_before ((keep_quiet {ok = λ l. true}).still v) (does_behind (db v) ((compare_quiet {ok = λ l. true} r is_signed (Word held_low held_high) own to refl refl).still v)))
 comparison_does comparing.Stacked op operands right s to own quiet da db v =
     let last : Leaves v (implied Tay ∷ branch_code s to) v = record { to = λ calls. refl } in
     does_behind (does_then (da v) (does_before (between_leaves operands v) (does_behind (db (waiting (width_of (computes operands)) ∷ v)) (leaves_then (behind_leaves op operands right v) last)))) (one_label own)
@@ -184,6 +188,8 @@ comparison_does comparing.Stacked op operands right s to own quiet da db v =
 operator_does : {cs ds : List (List ℕ)} {a b : List Line} (how : Operating) (op : BinaryOp) (operands : Operands) (right : IntType) (own : ℕ) → Unused how (cs ≡ []) (ds ≡ []) → Doing cs a → Doing ds b → Doing (cs ++ ds) (operator_by how op operands right own a b)
 operator_does (operating.Left form) op operands right own small da db v = left_alone small.1 (does_behind (da v) ((form_quiet {ok = λ l. true} form own refl small.0).still v))
 operator_does (operating.Right form) op operands right own small da db v = right_alone small.1 (does_behind (db v) ((form_quiet {ok = λ l. true} form own refl small.0).still v))
+operator_does (operating.Held form) op operands right own small da db v =
+    does_then (da v) (does_before ((keep_quiet {ok = λ l. true}).still v) (does_behind (db v) ((form_quiet {ok = λ l. true} form own refl small).still v)))
 operator_does operating.Stacked op operands right own small da db v =
     does_behind (does_then (da v) (does_before (waiting_leaves operands v) (does_behind (db (waiting (width_of (computes operands)) ∷ v)) (stacked_leaves op operands right v)))) (one_label own)
 

@@ -33,6 +33,7 @@ use Rattle.c65_genexpr.specs.declared.wanted.Wanted.{Wanted}
 use Rattle.c65_genexpr.specs.declared.wanted.Wanted.TheVariants.{Value, Test}
 use Rattle.c65_genexpr.specs.Types.{kind_of}
 use Rattle.c65_genexpr.specs.Direct.{sides_of, listed, alone, own_bytes}
+use Rattle.c65_genexpr.specs.Held.{held_low, held_high}
 use Rattle.c65_genexpr.specs.Operands.{conversion_by}
 use Rattle.c65_genexpr.specs.Wanted.{decided_code, sense_of, handed, by_sense, wanted, aimed, truth_labels, inner, truth_by, way, way_labels, joined}
 use Rattle.c65_genexpr.specs.Comparing.{low_code, comparison_by}
@@ -43,7 +44,7 @@ use Rattle.c65_gen_law_lines.proofs.Made.{among_split, among_one, among_none, Pi
 use Rattle.c65_gen_law_lines.proofs.Pieces.{number_piece, conversion_piece, test_piece, between_piece, behind_piece}
 use Rattle.c65_gen_law_lines.proofs.Directs.{loaded_quiet, compare_quiet, compare_byte_quiet, zero_test_quiet, truth_quiet}
 use Rattle.c65_gen_law_lines.proofs.Drops.{IfRead, Unread, Unused}
-use Rattle.c65_gen_law_lines.proofs.Forms.{stacked_sizes, form_quiet, waiting_part, stacked_part}
+use Rattle.c65_gen_law_lines.proofs.Forms.{keep_quiet, stacked_sizes, form_quiet, waiting_part, stacked_part}
 
 -- the same labels, from a number that is the same
 pub made_from : {outside : List ℕ} {lo to n k : ℕ} {a : List Line} → lo ≡ to → Made outside lo n k a → Made outside to n k a
@@ -137,7 +138,7 @@ abbrev both_sides : ℕ → ℕ → ℕ → ℕ → ℕ → ℕ → ℕ
 both_sides own la na lb nb l = once_at own l + (among la na l + among lb nb l)
 
 comparison_part : {ok : ℕ → Bool} {j k : ℕ} {a b : List Line} (na nb : ℕ) (how : Comparing) (op : BinaryOp) (operands : Operands) (right : IntType) (s : Bool) (to own la lb : ℕ) → Unread how (na ≡ 0) (nb ≡ 0) → ok own ≡ true → ok to ≡ true
-    → Stretch ok (among la na) j a → Stretch ok (among lb nb) k b → Stretch ok (both_sides own la na lb nb) (j + k + 46) (comparison_by how op operands right s to own a b)
+    → Stretch ok (among la na) j a → Stretch ok (among lb nb) k b → Stretch ok (both_sides own la na lb nb) (j + k + 50) (comparison_by how op operands right s to own a b)
 comparison_part na nb (comparing.Truth side.Left) op operands right s to own la lb none mine other p q = stretch_wider (stretch_as (λ l. omega (arith, none_among lb nb l none)) (stretch_then p (stretch_label own))) (omega arith)
 comparison_part na nb (comparing.Truth side.Right) op operands right s to own la lb none mine other p q = stretch_wider (stretch_as (λ l. omega (arith, none_among la na l none)) (stretch_then q (stretch_label own))) (omega arith)
 comparison_part na nb (comparing.Byte side.Left low r d) op operands right s to own la lb none mine other p q =
@@ -148,6 +149,8 @@ comparison_part na nb (comparing.Whole side.Left r is_signed sides) op operands 
     stretch_wider (stretch_as (λ l. omega (arith, none_among lb nb l none)) (stretch_then p (compare_quiet r is_signed sides own to mine other).part)) (omega arith)
 comparison_part na nb (comparing.Whole side.Right r is_signed sides) op operands right s to own la lb none mine other p q =
     stretch_wider (stretch_as (λ l. omega (arith, none_among la na l none)) (stretch_then q (compare_quiet r is_signed sides own to mine other).part)) (omega arith)
+comparison_part na nb (comparing.Held r is_signed) op operands right s to own la lb none mine other p q =
+    stretch_wider (stretch_as (λ l. omega arith) (stretch_then p (stretch_then keep_quiet.part (stretch_then q (compare_quiet r is_signed (Word held_low held_high) own to mine other).part)))) (omega arith)
 comparison_part na nb comparing.Stacked op operands right s to own la lb none mine other p q =
     let result : Piece 1 (implied Tay ∷ []) = record { plain = refl; fit = refl; size = omega arith } in
     stretch_wider (stretch_as (λ l. omega arith) (stretch_then
@@ -162,7 +165,7 @@ outer_stays : (own n to : ℕ) → list_all (may_lead own n (to ∷ [])) (to ∷
 outer_stays own n to = and_from (may_lead own n (to ∷ []) to) true (leads_outer own n to) refl
 
 pub comparison_made : {na nb j k : ℕ} {a b : List Line} (how : Comparing) (op : BinaryOp) (operands : Operands) (right : IntType) (s : Bool) (to own : ℕ) → Unread how (na ≡ 0) (nb ≡ 0)
-    → Made (to ∷ []) (own + 1) na j a → Made (to ∷ []) (own + 1 + na) nb k b → Made (to ∷ []) own (1 + (na + nb)) (j + k + 46) (comparison_by how op operands right s to own a b)
+    → Made (to ∷ []) (own + 1) na j a → Made (to ∷ []) (own + 1 + na) nb k b → Made (to ∷ []) own (1 + (na + nb)) (j + k + 50) (comparison_by how op operands right s to own a b)
 comparison_made {na = na} {nb = nb} how op operands right s to own none ma mb =
     let n : ℕ = 1 + (na + nb) in
     made_stretch (comparison_part na nb how op operands right s to own (own + 1) (own + 1 + na) none (leads_inner (to ∷ []) own n own (omega arith) (omega arith)) (leads_outer own n to)
@@ -176,6 +179,8 @@ operator_part : {ok : ℕ → Bool} {j k : ℕ} {a b : List Line} (na nb : ℕ) 
     → Stretch ok (among la na) j a → Stretch ok (among lb nb) k b → Stretch ok (both_sides own la na lb nb) (j + k + 113) (operator_by how op operands right own a b)
 operator_part na nb (operating.Left form) op operands right own la lb small mine p q = stretch_wider (stretch_as (λ l. omega (arith, none_among lb nb l small.1)) (stretch_then p (form_quiet form own mine small.0).part)) (omega arith)
 operator_part na nb (operating.Right form) op operands right own la lb small mine p q = stretch_wider (stretch_as (λ l. omega (arith, none_among la na l small.1)) (stretch_then q (form_quiet form own mine small.0).part)) (omega arith)
+operator_part na nb (operating.Held form) op operands right own la lb small mine p q =
+    stretch_wider (stretch_as (λ l. omega arith) (stretch_then p (stretch_then keep_quiet.part (stretch_then q (form_quiet form own mine small).part)))) (omega arith)
 operator_part na nb operating.Stacked op operands right own la lb small mine p q =
     stretch_wider (stretch_as (λ l. omega arith) (stretch_then (stretch_then p (stretch_then (waiting_part operands) (stretch_then q (stacked_part op operands right)))) (stretch_label own))) (omega (arith, stacked_sizes operands))
 

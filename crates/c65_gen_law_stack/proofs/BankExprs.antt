@@ -27,6 +27,7 @@ use Rattle.c65_genload.specs.Places.{type_in as type_at, extent_of, extent_by}
 use Rattle.c65_genload.specs.Conversions.{waiting}
 use Rattle.c65_gendirect.specs.declared.bytes.OperandByte.{OperandByte}
 use Rattle.c65_gendirect.specs.declared.direct.Direct.{Direct}
+use Rattle.c65_gendirect.specs.declared.compare.Sides.TheVariants.{Word}
 use Rattle.c65_gendirect.specs.declared.relation.Relation.{Relation}
 use Rattle.c65_gendirect.specs.Compare.{relation_of}
 use Rattle.c65_genshift.specs.Shifts.{labelled}
@@ -37,7 +38,7 @@ use Rattle.c65_genexpr.specs.declared.operating.Operating.TheVariants as operati
 use Rattle.c65_genexpr.specs.declared.comparing.Side.{Side}
 use Rattle.c65_genexpr.specs.declared.comparing.Side.TheVariants.{Left, Right}
 use Rattle.c65_genexpr.specs.declared.comparing.Comparing.{Comparing}
-use Rattle.c65_genexpr.specs.declared.comparing.Comparing.TheVariants.{Truth, Byte, Whole, Stacked}
+use Rattle.c65_genexpr.specs.declared.comparing.Comparing.TheVariants.{Truth, Byte, Whole, Stacked, Held}
 use Rattle.c65_genexpr.specs.declared.storing.Storing.{Storing}
 use Rattle.c65_genexpr.specs.declared.storing.Storing.TheVariants as storing
 use Rattle.c65_genexpr.specs.declared.wanted.Wanted.{Wanted}
@@ -49,6 +50,7 @@ use Rattle.c65_genexpr.specs.Wanted.{wanted_by, handed, wanted, sense, aimed, in
 use Rattle.c65_genexpr.specs.Operands.{residue_of, constant_in, operands_of, computes, same_truth, conversion_by}
 use Rattle.c65_genexpr.specs.Direct.{kept_at, own_bytes}
 use Rattle.c65_genexpr.specs.Comparing.{relation_by, tested_by, comparing_of, on, low_code, below_side, comparison_by}
+use Rattle.c65_genexpr.specs.Held.{held_low, held_high}
 use Rattle.c65_genexpr.specs.Operating.{operating_of, waiting_code, stacked_code, below_operand, operator_by}
 use Rattle.c65_genexpr.specs.Storing.{target_code, storing_of, below_value, assigned_by}
 use Rattle.c65_genexpr.specs.Steps.{amount_of}
@@ -60,7 +62,7 @@ use Rattle.c65_gen_law_stack.proofs.FrameOrder.{NotBank}
 use Rattle.c65_gen_law_stack.proofs.EvenLines.{No, One}
 use Rattle.c65_gen_law_stack.proofs.EvenShifts.{elements_even}
 use Rattle.c65_gen_law_stack.proofs.EvenDirects.{byte_even, compare_even, compare_byte_even, zero_test_even, truth_even}
-use Rattle.c65_gen_law_stack.proofs.EvenForms.{value_test_even, routine_test_even, constant_even, form_even}
+use Rattle.c65_gen_law_stack.proofs.EvenForms.{value_test_even, routine_test_even, constant_even, form_even, keep_even}
 use Rattle.c65_gen_law_stack.proofs.BankPieces.{narrow_clear, read_store_clear, byte_through_clear, word_through_clear, Clear, clear_then, clear_if, clear_none, IsOff, symbol_clear, offset_clear, object_clear, further_clear, conversion_clear, push_clear, argument_clear, hold_clear, bytes_clear, load_clear, store_clear, copy_clear, spill_clear, unary_clear, wide_clear, between_clear, behind_clear, step_clear, open_clear, close_clear, named_clear, direct_clear, pointer_clear}
 
 -- no home of a frame is in regbank
@@ -146,6 +148,7 @@ stacked_clear op (Pointers size) right = behind_clear op (Pointers size) right
 operator_clear : {a b : List Line} (how : Operating) (op : BinaryOp) (operands : Operands) (right : IntType) (label : ℕ) → Clear a → Clear b → Clear (operator_by how op operands right label a b)
 operator_clear (operating.Left form) op operands right label ca cb = clear_then ca (form_even {X = No} form label).clear
 operator_clear (operating.Right form) op operands right label ca cb = clear_then cb (form_even {X = No} form label).clear
+operator_clear (operating.Held form) op operands right label ca cb = clear_then ca (clear_then (keep_even {X = No}).clear (clear_then cb (form_even {X = No} form label).clear))
 operator_clear operating.Stacked op operands right label ca cb = labelled_clear label (clear_then ca (clear_then (waiting_clear operands) (clear_then cb (stacked_clear op operands right))))
 
 side_clear : {a b : List Line} (side : Side) → Clear a → Clear b → Clear (on side a b)
@@ -160,6 +163,7 @@ comparison_clear : {a b : List Line} (how : Comparing) (op : BinaryOp) (operands
 comparison_clear (Truth side) op operands right s to m ca cb = labelled_clear m (side_clear side ca cb)
 comparison_clear (Byte side low r d) op operands right s to m ca cb = labelled_clear m (clear_then (low_clear low (side_clear side ca cb)) (compare_byte_even {X = One to} r d to refl).clear)
 comparison_clear (Whole side r is_signed sides) op operands right s to m ca cb = clear_then (side_clear side ca cb) (compare_even {X = One to} r is_signed sides m to refl).clear
+comparison_clear (Held r is_signed) op operands right s to m ca cb = clear_then ca (clear_then (keep_even {X = No}).clear (clear_then cb (compare_even {X = One to} r is_signed (Word held_low held_high) m to refl).clear))
 comparison_clear Stacked op operands right s to m ca cb = labelled_clear m (clear_then ca (clear_then (between_clear operands) (clear_then cb (clear_then (behind_clear op operands right) (routine_test_even {X = One to} s to refl).clear))))
 
 relation_clear : (o : Option Relation) {other : List Line} {f : Relation → List Line} → Clear other → ((r : Relation) → Clear (f r)) → Clear (by_relation o other f)

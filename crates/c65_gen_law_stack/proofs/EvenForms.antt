@@ -16,6 +16,7 @@ use Rattle.c65_genexpr.specs.Code.{constant_code}
 use Rattle.c65_gen_law_lines.proofs.Pieces.{number_piece, test_piece, divide_piece}
 use Rattle.c65_gen_law_lines.proofs.StackPieces.{number_still, test_still, divide_still}
 use Rattle.c65_gen_law_stack.proofs.BankPieces.{number_clear, test_clear, divide_clear}
+use Rattle.c65_genexpr.specs.Held.{keep_code}
 use Rattle.c65_gen_law_stack.proofs.EvenLines.{Labels, No, One, Even, even_piece, even_on, even_jump, even_lines, even_labelled}
 use Rattle.c65_gen_law_stack.proofs.EvenShifts.{quick_even, elements_even}
 use Rattle.c65_gen_law_stack.proofs.EvenDirects.{word_even, added_even, taken_even, long_mask_even, sense_even}
@@ -50,6 +51,10 @@ constant_even (Test to s) width n = decided_even (not (n == 0)) s to refl
 
 divide_even : {X : Labels} (n : ℕ) → Even No X (divide_code n)
 divide_even n = even_piece (divide_still n) (divide_piece n).plain (divide_clear n)
+
+-- a word that begins to wait in ptr2
+pub keep_even : {X : Labels} → Even No X keep_code
+keep_even = even_lines keep_code refl
 
 placed_even : {X : Labels} (op : BinaryOp) (label : ℕ) → Even No X (placed op label)
 placed_even ops.Add label = even_lines [] refl

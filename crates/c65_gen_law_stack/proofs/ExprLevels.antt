@@ -34,6 +34,7 @@ use Rattle.c65_genload.specs.Places.{type_in as type_at, extent_of, extent_by}
 use Rattle.c65_genload.specs.Conversions.{waiting}
 use Rattle.c65_gendirect.specs.declared.bytes.OperandByte.{OperandByte}
 use Rattle.c65_gendirect.specs.declared.direct.Direct.{Direct}
+use Rattle.c65_gendirect.specs.declared.compare.Sides.TheVariants.{Word}
 use Rattle.c65_gendirect.specs.declared.relation.Relation.{Relation}
 use Rattle.c65_gendirect.specs.Compare.{relation_of}
 use Rattle.c65_genshift.specs.Shifts.{labelled}
@@ -44,7 +45,7 @@ use Rattle.c65_genexpr.specs.declared.operating.Operating.TheVariants as operati
 use Rattle.c65_genexpr.specs.declared.comparing.Side.{Side}
 use Rattle.c65_genexpr.specs.declared.comparing.Side.TheVariants.{Left, Right}
 use Rattle.c65_genexpr.specs.declared.comparing.Comparing.{Comparing}
-use Rattle.c65_genexpr.specs.declared.comparing.Comparing.TheVariants.{Truth, Byte, Whole, Stacked}
+use Rattle.c65_genexpr.specs.declared.comparing.Comparing.TheVariants.{Truth, Byte, Whole, Stacked, Held}
 use Rattle.c65_genexpr.specs.declared.storing.Storing.{Storing}
 use Rattle.c65_genexpr.specs.declared.storing.Storing.TheVariants as storing
 use Rattle.c65_genexpr.specs.declared.wanted.Wanted.{Wanted}
@@ -57,9 +58,10 @@ use Rattle.c65_genexpr.specs.Places.{more, has_base, added_bytes, sum_has_base, 
 use Rattle.c65_genexpr.specs.Wanted.{wanted_by, handed, wanted, sense, aimed, inner, truth_by, way, way_labels, joined, branch_code}
 use Rattle.c65_genexpr.specs.Operands.{residue_of, constant_in, operands_of, computes, between_code, behind_code, same_truth, conversion_by}
 use Rattle.c65_genexpr.specs.Direct.{kept_at, own_bytes, direct_of, is_pure, is_byte}
-use Rattle.c65_genexpr.specs.Comparing.{relation_by, tested_by, compared_by, comparing_of, on, low_code, below_side, comparison_by}
-use Rattle.c65_genexpr.specs.Operating.{operating_of, waiting_code, stacked_code, below_operand, operator_by}
+use Rattle.c65_genexpr.specs.Comparing.{relation_by, tested_by, compared_by, comparing_of, on, low_code, below_side, comparison_by, held_by, or_held}
+use Rattle.c65_genexpr.specs.Operating.{operating_of, waiting_code, stacked_code, below_operand, operator_by, is_light}
 use Rattle.c65_genexpr.specs.Storing.{target_code, storing_of, below_value, assigned_by}
+use Rattle.c65_genexpr.specs.Held.{held_low, held_high}
 use Rattle.c65_genexpr.specs.Steps.{amount_of}
 use Rattle.c65_genexpr.specs.Arguments.{is_fast, is_counted, stays, passed_size, passed_of, reads_of}
 use Rattle.c65_genexpr.specs.Arguments as arguments
@@ -77,8 +79,8 @@ use Rattle.c65_gen_law_stack.proofs.Levels.{Level, Nowhere, level_then, level_en
 use Rattle.c65_gen_law_stack.proofs.EvenLines.{Labels, No, One, Both, At, Even, even_end, even_label, even_jump, even_lines}
 use Rattle.c65_gen_law_stack.proofs.EvenShifts.{elements_even}
 use Rattle.c65_gen_law_stack.proofs.EvenDirects.{byte_even, compare_even, compare_byte_even, zero_test_even, truth_even}
-use Rattle.c65_gen_law_stack.proofs.EvenForms.{Aim, value_test_even, routine_test_even, constant_even, form_even}
-use Rattle.c65_gen_law_stack.proofs.ReadSides.{Reaches, known_reached, kept_known, direct_reached, First, Compared, compared_reached, tested_reached, Operated, operating_reached}
+use Rattle.c65_gen_law_stack.proofs.EvenForms.{Aim, value_test_even, routine_test_even, constant_even, keep_even, form_even}
+use Rattle.c65_gen_law_stack.proofs.ReadSides.{Reaches, known_reached, kept_known, direct_reached, First, Compared, compared_reached, or_held_reached, tested_reached, Operated, operating_reached}
 
 -- a piece of lines behind closed ones, and before
 behind : {cs : List (List ℕ)} {v u t : List ℕ} {a b : List Line} → Closed cs v a u → Leaves u b t → list_all is_plain b ≡ true → Closed cs v (a ++ b) t
@@ -307,6 +309,8 @@ operator_level : {cs ds : List (List ℕ)} {v : List ℕ} {a b : List Line} (how
     → Closed (cs ++ ds) v (operator_by how op operands right label a b) v
 operator_level {cs = cs} {ds = ds} {v = v} (operating.Left form) op operands right label empty da db = closed_as (left_calls cs ds empty) (closed_value (leading_behind (leading_closed (da v)) (form_even form label)))
 operator_level {cs = cs} {ds = ds} {v = v} (operating.Right form) op operands right label empty da db = closed_as (right_calls cs ds empty) (closed_value (leading_behind (leading_closed (db v)) (form_even form label)))
+operator_level {v = v} (operating.Held form) op operands right label empty da db =
+    closed_value (leading_then (leading_closed (da v)) (leading_then (leading_even keep_even) (leading_behind (leading_closed (db v)) (form_even form label))))
 operator_level {v = v} operating.Stacked op operands right label empty da db =
     closed_value (leading_labelled label (leading_closed (closed_then (da v) (closed_then (waiting_level operands v) (closed_behind (db (waiting (width_of (computes operands)) ∷ v)) (stacked_level op operands right v))))))
 
@@ -329,6 +333,8 @@ plain_comparison_level : {cs ds : List (List ℕ)} {v : List ℕ} {a b : List Li
 plain_comparison_level {v = v} (Truth side) op operands right s to m given da db = leading_labelled m (leading_closed (side_level side given (da v) (db v)))
 plain_comparison_level {v = v} (Byte side low r d) op operands right s to m given da db = leading_labelled m (leading_behind (leading_closed (low_level side low given.0 given.1 (da v) (db v))) (compare_byte_even r d to refl))
 plain_comparison_level {v = v} (Whole side r is_signed sides) op operands right s to m given da db = leading_behind (leading_closed (side_level side given (da v) (db v))) (compare_even r is_signed sides m to refl)
+plain_comparison_level {v = v} (Held r is_signed) op operands right s to m given da db =
+    leading_then (leading_closed (da v)) (leading_then (leading_even keep_even) (leading_behind (leading_closed (db v)) (compare_even r is_signed (Word held_low held_high) m to refl)))
 plain_comparison_level {v = v} Stacked op operands right s to m given da db =
     let w : ℕ = waiting (width_of (computes operands)) in
     let test : Leading (One to) [] v (implied Tay ∷ branch_code s to) = leading_even (routine_test_even s to refl) in
@@ -429,8 +435,9 @@ mutual
       let how : Comparing = comparing_of f pushed q kind a b in
       let to : ℕ = aimed w lo in
       let own : ℕ = inner w lo in
-      let compared : Comparing = compared_by q (is_byte a && is_byte b) kind (is_pure b) (direct_of f pushed a) (direct_of f pushed b) in
-      let given : Compared (calls_of f a ≡ []) (calls_of f b ≡ []) compared = compared_reached (calls_of f a ≡ []) (calls_of f b ≡ []) q (is_byte a && is_byte b) kind (is_pure b) (direct_of f pushed a) (direct_of f pushed b) (direct_reached (no_calls f) f pushed a) (direct_reached (no_calls f) f pushed b) in
+      let plain : Comparing = compared_by q (is_byte a && is_byte b) kind (is_pure b) (direct_of f pushed a) (direct_of f pushed b) in
+      let compared : Comparing = or_held plain (held_by (is_light f pushed b) (width_of kind) q kind) in
+      let given : Compared (calls_of f a ≡ []) (calls_of f b ≡ []) compared = or_held_reached (calls_of f a ≡ []) (calls_of f b ≡ []) plain (is_light f pushed b) (width_of kind) q kind (compared_reached (calls_of f a ≡ []) (calls_of f b ≡ []) q (is_byte a && is_byte b) kind (is_pure b) (direct_of f pushed a) (direct_of f pushed b) (direct_reached (no_calls f) f pushed a) (direct_reached (no_calls f) f pushed b)) in
       truth_level w lo (comparison_level (tested_by q b) (tested_by q a) compared op operands (kind_in b) (sense w) to own (tested_reached (no_calls f) q b) (tested_reached (no_calls f) q a) given
       (expr_level f pushed (own + 1) (wanted_by (tested_by q b) to) a) (expr_level f (below_side how pushed bytes) (own + 1 + uses (tested_by q b) a) (wanted_by (tested_by q a) to) b)))
   node_level f pushed lo w t (both a b) v =

@@ -23,3 +23,6 @@ pub mod BankExprs
 pub mod BankStmts
 pub mod BankMoves
 pub mod WalkLaws
+pub mod LightPieces
+pub mod LightExprs
+pub mod LightMoves

@@ -7,6 +7,8 @@ use Rattle.c65_ctype.specs.Trees.{QTy, type_in}
 use Rattle.c65_ctype.specs.Views.{types_of}
 use Rattle.c65_csem.specs.Trees.{Typed, node, constant, null, literal, object, func, deref, member, load, address, decay, convert}
 use Rattle.c65_genframe.specs.Frames.{Framed}
+use Rattle.c65_code.specs.declared.routine.Width.{Width}
+use Rattle.c65_code.specs.declared.routine.Width.TheVariants.{Ax, Eax}
 use Rattle.c65_genwide.specs.Wide.{width_of}
 use Rattle.c65_genload.specs.declared.places.Place.{Place}
 use Rattle.c65_genload.specs.declared.places.Place.TheVariants as places
@@ -19,7 +21,7 @@ use Rattle.c65_gendirect.specs.Compare.{mirrored}
 use Rattle.c65_genexpr.specs.declared.comparing.Side.{Side}
 use Rattle.c65_genexpr.specs.declared.comparing.Side.TheVariants as sides
 use Rattle.c65_genexpr.specs.declared.comparing.Comparing.{Comparing}
-use Rattle.c65_genexpr.specs.declared.comparing.Comparing.TheVariants.{Truth, Byte, Whole, Stacked}
+use Rattle.c65_genexpr.specs.declared.comparing.Comparing.TheVariants.{Truth, Byte, Whole, Held, Stacked}
 use Rattle.c65_genexpr.specs.declared.operands.Operands.{Operands}
 use Rattle.c65_genexpr.specs.declared.operating.Form.{Form}
 use Rattle.c65_genexpr.specs.declared.operating.Operating.{Operating}
@@ -29,9 +31,10 @@ use Rattle.c65_genexpr.specs.Places.{has_base, added_bytes, sum_has_base, place_
 use Rattle.c65_genexpr.specs.Storing.{pointer_of, unless_changed, storing_of}
 use Rattle.c65_genexpr.specs.Operands.{residue_of, constant_in}
 use Rattle.c65_genexpr.specs.Direct.{kept_at, address_at, address_of, takes_bytes, converted_if, sides_of, direct_of, is_fixed, is_pure, is_byte}
-use Rattle.c65_genexpr.specs.Comparing.{is_zero, zero_sense, tested_by, is_raised, raised, one_more, range_of, meeting, beside, changes, compared_by, comparing_of}
-use Rattle.c65_genexpr.specs.Operating.{constant_form, word_in, right_form, left_form, constant_right, direct_right, direct_left, by_left, by_right, operating_of}
+use Rattle.c65_genexpr.specs.Comparing.{is_zero, zero_sense, tested_by, is_raised, raised, one_more, range_of, meeting, beside, changes, compared_by, comparing_of, held_by}
+use Rattle.c65_genexpr.specs.Operating.{constant_form, word_in, right_form, left_form, constant_right, direct_right, direct_left, by_left, by_right, operating_of, reading_of, is_light, held_form, held_if, or_held}
 use Rattle.c65_gen_law_lines.proofs.Drops.{moved_known, Unstored, some_if, stored_by, sum_constant}
+use Rattle.c65_genexpr.specs.Comparing as comparisons
 
 -- what holds of objects, constants and addresses, and with a tree of its parts, conversions and addresses, and of what it names
 pub record Reaches (P : Typed → Type 0) : Type 0 where
@@ -130,6 +133,7 @@ abbrev pub Compared : Type 0 → Type 0 → Comparing → Type 0
 Compared A B (Truth side) = First side B A
 Compared A B (Byte side low r d) = First side B A × (IsSome low → First side A B)
 Compared A B (Whole side r is_signed d) = First side B A
+Compared A B (Held r is_signed) = Unit {0}
 Compared A B Stacked = Unit {0}
 
 option_reached : {A B : Type 0} {C : Type 0} (g : A → Option B) (o : Option A) → ((x : A) → o ≡ Some x → C) → IsSome (option_and_then g o) → C
@@ -156,6 +160,18 @@ compared_reached A B r bytes kind pure a b pa pb =
     compared_if A B (changes kind pure a b) (beside sides.Right (mirrored r) bytes kind b a) (beside sides.Left r bytes kind a b)
     (beside_reached A B sides.Right (mirrored r) bytes kind b a pb pa) (beside_reached A B sides.Left r bytes kind a b pa pb)
 
+held_by_reached : (A B : Type 0) (is : Bool) (w : Width) (r : Relation) (kind : IntType) → Compared A B (held_by is w r kind)
+held_by_reached A B true Ax r kind = tt
+held_by_reached A B true Eax r kind = tt
+held_by_reached A B false w r kind = tt
+
+pub or_held_reached : (A B : Type 0) (how : Comparing) (is : Bool) (w : Width) (r : Relation) (kind : IntType) → Compared A B how → Compared A B (comparisons.or_held how (held_by is w r kind))
+or_held_reached A B (Truth side) is w r kind p = p
+or_held_reached A B (Byte side low q d) is w r kind p = p
+or_held_reached A B (Whole side q is_signed d) is w r kind p = p
+or_held_reached A B (Held q is_signed) is w r kind p = p
+or_held_reached A B Stacked is w r kind p = held_by_reached A B is w r kind
+
 pub tested_reached : {P : Typed → Type 0} → Reaches P → (r : Relation) (e : Typed) → is_some (tested_by r e) ≡ true → P e
 tested_reached {P = P} p r e h = by (is_zero e) refl h
   where
@@ -172,10 +188,10 @@ comparing_reached {P = P} p f pushed r kind a b = by (is_some (tested_by r b)) (
     right : Option Direct
     right = direct_of f pushed b
 
-    by : (x y : Bool) → is_some (tested_by r b) ≡ x → is_some (tested_by r a) ≡ y → Compared (P a) (P b) (if x then Truth sides.Left else (if y then Truth sides.Right else compared_by r (is_byte a && is_byte b) kind (is_pure b) left right))
+    by : (x y : Bool) → is_some (tested_by r b) ≡ x → is_some (tested_by r a) ≡ y → Compared (P a) (P b) (if x then Truth sides.Left else (if y then Truth sides.Right else comparisons.or_held (compared_by r (is_byte a && is_byte b) kind (is_pure b) left right) (held_by (is_light f pushed b) (width_of kind) r kind)))
     by true y h k = tested_reached p r b h
     by false true h k = tested_reached p r a k
-    by false false h k = compared_reached (P a) (P b) r (is_byte a && is_byte b) kind (is_pure b) left right (direct_reached p f pushed a) (direct_reached p f pushed b)
+    by false false h k = or_held_reached (P a) (P b) (compared_by r (is_byte a && is_byte b) kind (is_pure b) left right) (is_light f pushed b) (width_of kind) r kind (compared_reached (P a) (P b) r (is_byte a && is_byte b) kind (is_pure b) left right (direct_reached p f pushed a) (direct_reached p f pushed b))
 
 -- ---- operators
 
@@ -183,6 +199,7 @@ comparing_reached {P = P} p f pushed r kind a b = by (is_some (tested_by r b)) (
 abbrev pub Operated : Type 0 → Type 0 → Operating → Type 0
 Operated A B (operating.Left form) = B
 Operated A B (operating.Right form) = A
+Operated A B (operating.Held form) = Unit {0}
 Operated A B operating.Stacked = Unit {0}
 
 right_reached : (A B : Type 0) (o : Option Form) (other : Operating) → ((x : Form) → o ≡ Some x → B) → Operated A B other → Operated A B (by_right o other)
@@ -203,10 +220,25 @@ constant_right_reached p op operands e x h =
     let z = some_then (λ (z : ℤ). constant_form op operands (residue_of z)) (constant_in e) x h in
     constant_reached p e z.0 z.1
 
-pub operating_reached : {P : Typed → Type 0} → Reaches P → (f : Framed) (pushed : ℕ) (op : BinaryOp) (operands : Operands) (a b : Typed) → Operated (P a) (P b) (operating_of f pushed op operands a b)
-operating_reached {P = P} p f pushed op operands a b =
+held_reached : (A B : Type 0) (is : Bool) (o : Option Form) → Operated A B (held_if is o)
+held_reached A B true (Some x) = tt
+held_reached A B true None = tt
+held_reached A B false o = tt
+
+or_held_operated : (A B : Type 0) (how held : Operating) → Operated A B how → Operated A B held → Operated A B (or_held how held)
+or_held_operated A B (operating.Left form) held p q = p
+or_held_operated A B (operating.Right form) held p q = p
+or_held_operated A B (operating.Held form) held p q = p
+or_held_operated A B operating.Stacked held p q = q
+
+reading_reached : {P : Typed → Type 0} → Reaches P → (f : Framed) (pushed : ℕ) (op : BinaryOp) (operands : Operands) (a b : Typed) → Operated (P a) (P b) (reading_of f pushed op operands a b)
+reading_reached {P = P} p f pushed op operands a b =
     let left : Option Direct = direct_of f pushed a in
     let right : Option Direct = direct_of f pushed b in
     right_reached (P a) (P b) (constant_right op operands b) (by_right (direct_right op operands right) (by_left (is_fixed left || is_pure b) (direct_left op operands left))) (constant_right_reached p op operands b)
     (right_reached (P a) (P b) (direct_right op operands right) (by_left (is_fixed left || is_pure b) (direct_left op operands left)) (operand_reached (λ w. right_form op operands w.0 w.1) word_in right (direct_reached p f pushed b))
     (left_reached (P a) (P b) (is_fixed left || is_pure b) (direct_left op operands left) (operand_reached (λ w. left_form op operands w.0 w.1) word_in left (direct_reached p f pushed a))))
+
+pub operating_reached : {P : Typed → Type 0} → Reaches P → (f : Framed) (pushed : ℕ) (op : BinaryOp) (operands : Operands) (a b : Typed) → Operated (P a) (P b) (operating_of f pushed op operands a b)
+operating_reached {P = P} p f pushed op operands a b =
+    or_held_operated (P a) (P b) (reading_of f pushed op operands a b) _ (reading_reached p f pushed op operands a b) (held_reached (P a) (P b) (is_light f pushed b) (held_form op operands))

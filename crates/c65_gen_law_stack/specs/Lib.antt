@@ -5,3 +5,4 @@ pub mod Going
 pub mod Parameters
 pub mod Bank
 pub mod Walks
+pub mod Light

@@ -2,6 +2,7 @@
 ghost use Rattle.c65_gen_law_stack.specs.Calls.{EntriesLowerSp, EndsRaiseSp, EndsUndoEntries};
 ghost use Rattle.c65_gen_law_stack.specs.Heights.{ExpressionsAreLevel, TestsAreLevel, FunctionsAreLevel};
 ghost use Rattle.c65_gen_law_stack.specs.Bank.{FunctionsLeaveRegbank, MovesLeaveRegbank};
+ghost use Rattle.c65_gen_law_stack.specs.Light.{LightLinesLeavePtr2, MovesLeavePtr2};
 ghost use Rattle.c65_gen_law_stack.specs.Walks.{WalksKeepHeights};
 ghost use Rattle.c65_gen_law_stack.specs.Parameters.{CallsPassWhatIsTaken, CallsPassTheirParameters};
 ghost use Rattle.c65_gen_law_stack.specs.Going.{MovesKeepHeights, FunctionsKeepHeights, CallsKeepHeights};
@@ -75,4 +76,14 @@ pub fn moves_leave_regbank()
 /// On a way from one line of a function to another sp and what waits have the same sum at each line, with all calls on it and in these.
 pub fn walks_keep_heights()
     ensures { WalksKeepHeights }
+{}
+
+/// No line of a light expression writes ptr2, where a word may wait, or calls what may change it.
+pub fn light_lines_leave_ptr2()
+    ensures { LightLinesLeavePtr2 }
+{}
+
+/// And a move by such a line, as of any that neither writes ptr2 nor calls what may change it, leaves the word there.
+pub fn moves_leave_ptr2()
+    ensures { MovesLeavePtr2 }
 {}

@@ -7,6 +7,8 @@ use Rattle.c65_ints.specs.declared.types.IntType.{IntType}
 use Rattle.c65_ctype.specs.Trees.{QTy, type_in}
 use Rattle.c65_ctype.specs.Views.{types_of}
 use Rattle.c65_csem.specs.Trees.{Typed, node, constant, null, literal, object, func, deref, member, load, address, decay, convert, unary, binary, both, either, choice, comma, assign, assign_op, assign_step, step, copy, call, pack, spill, rest}
+use Rattle.c65_code.specs.declared.routine.Width.{Width}
+use Rattle.c65_code.specs.declared.routine.Width.TheVariants.{Ax, Eax}
 use Rattle.c65_genframe.specs.Frames.{Framed}
 use Rattle.c65_genload.specs.declared.places.Access.{Access}
 use Rattle.c65_genload.specs.declared.places.Access.TheVariants.{Whole, Part}
@@ -25,9 +27,10 @@ use Rattle.c65_gendirect.specs.Compare.{mirrored, relation_of}
 use Rattle.c65_genwide.specs.Wide.{width_of}
 use Rattle.c65_genexpr.specs.declared.comparing.Side.TheVariants.{Left, Right}
 use Rattle.c65_genexpr.specs.declared.comparing.Comparing.{Comparing}
-use Rattle.c65_genexpr.specs.declared.comparing.Comparing.TheVariants.{Truth, Byte}
+use Rattle.c65_genexpr.specs.declared.comparing.Comparing.TheVariants.{Truth, Byte, Whole, Held, Stacked}
 use Rattle.c65_genexpr.specs.declared.operating.Form.{Form}
 use Rattle.c65_genexpr.specs.declared.operating.Operating.{Operating}
+use Rattle.c65_genexpr.specs.declared.operating.Operating.TheVariants as operating
 use Rattle.c65_genexpr.specs.declared.operands.Operands.{Operands}
 use Rattle.c65_genexpr.specs.declared.operands.Operands.TheVariants.{Numbers, PointerFirst, PointerLast, Pointers}
 use Rattle.c65_genexpr.specs.declared.storing.Storing.{Storing}
@@ -35,8 +38,9 @@ use Rattle.c65_genexpr.specs.Types.{kind_of, bare, offset_at, access_of}
 use Rattle.c65_genexpr.specs.Places.{IsKnown, moved, has_base, added_bytes, sum_has_base, place_of}
 use Rattle.c65_genexpr.specs.Operands.{constant_in}
 use Rattle.c65_genexpr.specs.Direct.{kept_at, address_at, address_of, takes_bytes, converted_if, direct_of, is_fixed, is_pure, is_byte, sides_of}
-use Rattle.c65_genexpr.specs.Comparing.{is_zero, zero_sense, tested_by, lowest, range_of, is_raised, raised, one_more, meeting, beside, changes, compared_by, comparing_of}
-use Rattle.c65_genexpr.specs.Operating.{word_in, direct_right, direct_left, by_left, by_right, operating_of}
+use Rattle.c65_genexpr.specs.Comparing.{is_zero, zero_sense, tested_by, lowest, range_of, is_raised, raised, one_more, meeting, beside, changes, compared_by, comparing_of, held_by, or_held}
+use Rattle.c65_genexpr.specs.Operating.{word_in, direct_right, direct_left, by_left, by_right, operating_of, reading_of, is_light, held_form, held_if}
+use Rattle.c65_genexpr.specs.Operating as operators
 use Rattle.c65_genexpr.specs.Uses.{uses}
 use Rattle.c65_genexpr.specs.Leaving.{ComparesFree, OperatesFree, StoresFree}
 use Rattle.c65_genexpr.specs.Storing.{pointer_of, through, by_value, by_pointer, storing_by, storing_of}
@@ -237,8 +241,19 @@ after_there : {A B : Type 0} (g : A → Option B) (o : Option A) → IsThere (op
 after_there g (Some x) h = tt
 after_there g None h = h
 
-pub operates_free : (f : Framed) (pushed : ℕ) (op : BinaryOp) (operands : Operands) (a b : Typed) → OperatesFree (operating_of f pushed op operands a b) a b
-operates_free f pushed op operands a b =
+held_free : (a b : Typed) (is : Bool) (form : Option Form) → OperatesFree (held_if is form) a b
+held_free a b true (Some form) = tt
+held_free a b true None = tt
+held_free a b false form = tt
+
+or_held_operates : (a b : Typed) (how held : Operating) → OperatesFree how a b → OperatesFree held a b → OperatesFree (operators.or_held how held) a b
+or_held_operates a b (operating.Left form) held p q = p
+or_held_operates a b (operating.Right form) held p q = p
+or_held_operates a b (operating.Held form) held p q = p
+or_held_operates a b operating.Stacked held p q = q
+
+reads_free : (f : Framed) (pushed : ℕ) (op : BinaryOp) (operands : Operands) (a b : Typed) → OperatesFree (reading_of f pushed op operands a b) a b
+reads_free f pushed op operands a b =
     right_free a b _ _ (λ h. constant_uses b (after_there _ (constant_in b) h))
     (right_free a b _ _ (λ h. direct_uses f pushed b (right_there op operands (direct_of f pushed b) h))
     (left_free a b _ _ (λ h. direct_uses f pushed a (left_there op operands (direct_of f pushed a) h))))
@@ -352,6 +367,9 @@ pub sum_uses : (at : ℕ) (op : BinaryOp) (operands : Operands) (t : QTy) (a b :
 sum_uses at op operands t a b h =
     rw (sum_alone at op operands (constant_in b) h, constant_uses b (added_there at op operands (constant_in b) h), add-zero) refl
 
+pub operates_free : (f : Framed) (pushed : ℕ) (op : BinaryOp) (operands : Operands) (a b : Typed) → OperatesFree (operating_of f pushed op operands a b) a b
+operates_free f pushed op operands a b = or_held_operates a b (reading_of f pushed op operands a b) _ (reads_free f pushed op operands a b) (held_free a b (is_light f pushed b) (held_form op operands))
+
 -- ---- comparisons
 
 low_left : (a b : Typed) (r : Relation) (low : Option OperandByte) (d : OperandByte) → uses None a ≡ 0 → uses None b ≡ 0 → ComparesFree (Byte Left low r d) None a None b
@@ -389,14 +407,28 @@ beside_right a b r bytes kind x None first other = tt
 beside_right a b r bytes kind x (Some d) first other =
     either_free a b (is_raised r (range_of bytes kind) d) _ _ (meets_right a b (raised r) bytes kind x (sides_of (width_of kind) (one_more d)) first (other tt)) (meets_right a b r bytes kind x (sides_of (width_of kind) d) first (other tt))
 
-compared_free : (f : Framed) (pushed : ℕ) (r : Relation) (kind : IntType) (a b : Typed) → ComparesFree (compared_by r (is_byte a && is_byte b) kind (is_pure b) (direct_of f pushed a) (direct_of f pushed b)) None a None b
+held_by_free : (a b : Typed) (is : Bool) (w : Width) (r : Relation) (kind : IntType) → ComparesFree (held_by is w r kind) None a None b
+held_by_free a b true Ax r kind = tt
+held_by_free a b true Eax r kind = tt
+held_by_free a b false w r kind = tt
+
+or_held_free : (a b : Typed) (how held : Comparing) → ComparesFree how None a None b → ComparesFree held None a None b → ComparesFree (or_held how held) None a None b
+or_held_free a b (Truth side) held p q = p
+or_held_free a b (Byte side None r d) held p q = p
+or_held_free a b (Byte side (Some low) r d) held p q = p
+or_held_free a b (Whole side r is_signed sides) held p q = p
+or_held_free a b (Held r is_signed) held p q = p
+or_held_free a b Stacked held p q = q
+
+compared_free : (f : Framed) (pushed : ℕ) (r : Relation) (kind : IntType) (a b : Typed) → ComparesFree (or_held (compared_by r (is_byte a && is_byte b) kind (is_pure b) (direct_of f pushed a) (direct_of f pushed b)) (held_by (is_light f pushed b) (width_of kind) r kind)) None a None b
 compared_free f pushed r kind a b =
-    either_free a b (changes kind (is_pure b) (direct_of f pushed a) (direct_of f pushed b)) _ _
+    or_held_free a b (compared_by r (is_byte a && is_byte b) kind (is_pure b) (direct_of f pushed a) (direct_of f pushed b)) _ (either_free a b (changes kind (is_pure b) (direct_of f pushed a) (direct_of f pushed b)) _ _
     (beside_right a b (mirrored r) (is_byte a && is_byte b) kind (direct_of f pushed b) (direct_of f pushed a) (direct_uses f pushed b) (direct_uses f pushed a))
-    (beside_left a b r (is_byte a && is_byte b) kind (direct_of f pushed a) (direct_of f pushed b) (direct_uses f pushed a) (direct_uses f pushed b))
+    (beside_left a b r (is_byte a && is_byte b) kind (direct_of f pushed a) (direct_of f pushed b) (direct_uses f pushed a) (direct_uses f pushed b)))
+    (held_by_free a b (is_light f pushed b) (width_of kind) r kind)
 
 -- by which of the sides is 0
-zero_free : (f : Framed) (pushed : ℕ) (r : Relation) (kind : IntType) (a b : Typed) (za zb : Bool) (s : Option Bool) → is_zero a ≡ za → is_zero b ≡ zb → ComparesFree (if is_some (if zb then s else None) then Truth Left else (if is_some (if za then s else None) then Truth Right else compared_by r (is_byte a && is_byte b) kind (is_pure b) (direct_of f pushed a) (direct_of f pushed b))) (if zb then s else None) a (if za then s else None) b
+zero_free : (f : Framed) (pushed : ℕ) (r : Relation) (kind : IntType) (a b : Typed) (za zb : Bool) (s : Option Bool) → is_zero a ≡ za → is_zero b ≡ zb → ComparesFree (if is_some (if zb then s else None) then Truth Left else (if is_some (if za then s else None) then Truth Right else or_held (compared_by r (is_byte a && is_byte b) kind (is_pure b) (direct_of f pushed a) (direct_of f pushed b)) (held_by (is_light f pushed b) (width_of kind) r kind))) (if zb then s else None) a (if za then s else None) b
 zero_free f pushed r kind a b true true None is_a is_b = compared_free f pushed r kind a b
 zero_free f pushed r kind a b true false None is_a is_b = compared_free f pushed r kind a b
 zero_free f pushed r kind a b false true None is_a is_b = compared_free f pushed r kind a b

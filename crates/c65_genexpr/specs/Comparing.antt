@@ -7,6 +7,8 @@ use Rattle.c65_ints.specs.Ranges.{is_signed_of, greatest_of}
 use Rattle.c65_csem.specs.Trees.{Typed, node, constant, null}
 use Rattle.c65_mach.specs.declared.rows.Op.TheVariants.{Lda, Tay}
 use Rattle.c65_code.specs.declared.line.Line.{Line}
+use Rattle.c65_code.specs.declared.routine.Width.{Width}
+use Rattle.c65_code.specs.declared.routine.Width.TheVariants.{Ax}
 use Rattle.c65_genframe.specs.Frames.{Framed}
 use Rattle.c65_genwide.specs.Wide.{width_of}
 use Rattle.c65_genload.specs.Words.{implied}
@@ -23,11 +25,13 @@ use Rattle.c65_genshift.specs.Shifts.{labelled}
 use Rattle.c65_genexpr.specs.declared.comparing.Side.{Side}
 use Rattle.c65_genexpr.specs.declared.comparing.Side.TheVariants.{Left, Right}
 use Rattle.c65_genexpr.specs.declared.comparing.Comparing.{Comparing}
-use Rattle.c65_genexpr.specs.declared.comparing.Comparing.TheVariants.{Truth, Byte, Whole, Stacked}
+use Rattle.c65_genexpr.specs.declared.comparing.Comparing.TheVariants.{Truth, Byte, Whole, Held, Stacked}
 use Rattle.c65_genexpr.specs.declared.operands.Operands.{Operands}
 use Rattle.c65_genexpr.specs.Operands.{residue_of, between_code, behind_code}
 use Rattle.c65_genexpr.specs.Places.{more}
 use Rattle.c65_genexpr.specs.Direct.{sides_of, direct_of, is_fixed, is_pure, is_byte}
+use Rattle.c65_genexpr.specs.Held.{held_low, held_high, keep_code}
+use Rattle.c65_genexpr.specs.Operating.{is_light}
 use Rattle.c65_genexpr.specs.Wanted.{branch_code}
 
 -- the relation that holds where a comparison has this truth
@@ -101,12 +105,21 @@ changes kind pure a b = is_fixed a || (is_read kind a && (not (is_read kind b) &
 abbrev pub compared_by : Relation → Bool → IntType → Bool → Option Direct → Option Direct → Comparing
 compared_by r bytes kind pure a b = if changes kind pure a b then beside Right (mirrored r) bytes kind b a else beside Left r bytes kind a b
 
+-- no side is read, and the right one is light: the left one waits in ptr2
+abbrev pub held_by : Bool → Width → Relation → IntType → Comparing
+held_by true Ax r kind = Held (mirrored r) (is_signed_of kind)
+held_by is_light width r kind = Stacked
+
+abbrev pub or_held : Comparing → Comparing → Comparing
+or_held Stacked held = held
+or_held how held = how
+
 -- how two sides are compared in a type
 abbrev pub comparing_of : Framed → ℕ → Relation → IntType → Typed → Typed → Comparing
 comparing_of f pushed r kind a b =
     if is_some (tested_by r b) then Truth Left
     else (if is_some (tested_by r a) then Truth Right
-    else compared_by r (is_byte a && is_byte b) kind (is_pure b) (direct_of f pushed a) (direct_of f pushed b))
+    else or_held (compared_by r (is_byte a && is_byte b) kind (is_pure b) (direct_of f pushed a) (direct_of f pushed b)) (held_by (is_light f pushed b) (width_of kind) r kind))
 
 -- ---- lines
 
@@ -129,5 +142,6 @@ abbrev pub comparison_by : Comparing → BinaryOp → Operands → IntType → B
 comparison_by (Truth side) op operands right s to m a b = labelled m (on side a b)
 comparison_by (Byte side low r d) op operands right s to m a b = labelled m (low_code low (on side a b) ++ compare_byte_code r d to)
 comparison_by (Whole side r is_signed sides) op operands right s to m a b = on side a b ++ compare_code r is_signed sides m to
+comparison_by (Held r is_signed) op operands right s to m a b = a ++ (keep_code ++ (b ++ compare_code r is_signed (Word held_low held_high) m to))
 comparison_by Stacked op operands right s to m a b =
     labelled m (a ++ (between_code operands ++ (b ++ (behind_code op operands right ++ (implied Tay ∷ branch_code s to)))))

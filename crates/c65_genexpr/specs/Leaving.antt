@@ -22,6 +22,7 @@ ComparesFree (comparing.Truth side) s a r b = IsFree side s a r b
 ComparesFree (comparing.Byte side None q d) s a r b = IsFree side s a r b
 ComparesFree (comparing.Byte side (Some low) q d) s a r b = (uses s a ≡ 0) × (uses r b ≡ 0)
 ComparesFree (comparing.Whole side q is_signed sides) s a r b = IsFree side s a r b
+ComparesFree (comparing.Held q is_signed) s a r b = Unit {0}
 ComparesFree comparing.Stacked s a r b = Unit {0}
 
 -- the side that an assignment leaves out
@@ -35,4 +36,5 @@ StoresFree storing.Stacked a b = Unit {0}
 abbrev pub OperatesFree : Operating → Typed → Typed → Type 0
 OperatesFree (operating.Left form) a b = uses None b ≡ 0
 OperatesFree (operating.Right form) a b = uses None a ≡ 0
+OperatesFree (operating.Held form) a b = Unit {0}
 OperatesFree operating.Stacked a b = Unit {0}

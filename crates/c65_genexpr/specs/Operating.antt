@@ -1,11 +1,13 @@
 -- The operators that give a number or a pointer (C90 6.3.5 to 6.3.7, 6.3.10 to 6.3.12): their forms, and the lines of each from
 -- the lines of its two operands.
-use Rattle.std.specs.Prelude.{ℕ, ◌*◌, ◌%◌, ◌==◌, ◌||◌, Bool, true, false, if◌then◌else◌, Option, Some, None, option_map, option_and_then, List, [], ◌∷◌, ◌++◌}
+use Rattle.std.specs.Prelude.{ℕ, ◌*◌, ◌%◌, nat_le, ◌==◌, ◌&&◌, ◌||◌, not, Bool, true, false, if◌then◌else◌, Option, Some, None, option_map, option_and_then, List, [], ◌∷◌, ◌++◌}
 use Rattle.c65_base.specs.declared.operators.BinaryOp.{BinaryOp}
 use Rattle.c65_base.specs.declared.operators.BinaryOp.TheVariants.{Add, Sub, BitAnd, BitXor, BitOr}
 use Rattle.c65_ints.specs.declared.types.IntType.{IntType}
-use Rattle.c65_ints.specs.declared.types.IntType.TheVariants.{UInt}
-use Rattle.c65_csem.specs.Trees.{Typed}
+use Rattle.c65_ints.specs.declared.types.IntType.TheVariants.{SChar, UInt}
+use Rattle.c65_ctype.specs.Trees.{Ty, void, type_in}
+use Rattle.c65_ctype.specs.Views.{types_of}
+use Rattle.c65_csem.specs.Trees.{Typed, node, constant, null, literal, object, func, deref, member, load, address, decay, convert, binary}
 use Rattle.c65_code.specs.declared.line.Line.{Line}
 use Rattle.c65_code.specs.declared.line.Line.TheVariants.{Label}
 use Rattle.c65_code.specs.declared.routine.Width.{Width}
@@ -13,7 +15,11 @@ use Rattle.c65_code.specs.declared.routine.Width.TheVariants.{Ax, Eax}
 use Rattle.c65_genframe.specs.Frames.{Framed}
 use Rattle.c65_genwide.specs.Wide.{width_of, wide_code}
 use Rattle.c65_genload.specs.Numbers.{add_long_code, divide_code}
-use Rattle.c65_genload.specs.Conversions.{push_code}
+use Rattle.c65_genload.specs.declared.places.Place.{Place}
+use Rattle.c65_genload.specs.declared.places.Place.TheVariants.{Far}
+use Rattle.c65_genload.specs.declared.places.Access.{Access}
+use Rattle.c65_genload.specs.declared.places.Access.TheVariants.{Whole, Part}
+use Rattle.c65_genload.specs.Conversions.{size_of, push_code}
 use Rattle.c65_gendirect.specs.declared.bytes.OperandByte.{OperandByte}
 use Rattle.c65_gendirect.specs.declared.direct.Direct.{Direct}
 use Rattle.c65_gendirect.specs.Bytes.{byte_of}
@@ -25,10 +31,12 @@ use Rattle.c65_genexpr.specs.declared.operands.Operands.TheVariants.{Numbers, Po
 use Rattle.c65_genexpr.specs.declared.operating.Form.{Form}
 use Rattle.c65_genexpr.specs.declared.operating.Form.TheVariants.{Sum, LongSum, Mask, Constant, Word, Under, Indexed, Distance, DistanceUnder}
 use Rattle.c65_genexpr.specs.declared.operating.Operating.{Operating}
-use Rattle.c65_genexpr.specs.declared.operating.Operating.TheVariants.{Left, Right, Stacked}
-use Rattle.c65_genexpr.specs.Operands.{residue_of, negative, constant_in, between_code, behind_code}
-use Rattle.c65_genexpr.specs.Places.{more}
+use Rattle.c65_genexpr.specs.declared.operating.Operating.TheVariants.{Left, Right, Held, Stacked}
+use Rattle.c65_genexpr.specs.Operands.{residue_of, negative, constant_in, operands_of, between_code, behind_code}
+use Rattle.c65_genexpr.specs.Types.{kind_of, kind_in, bare, access_of}
+use Rattle.c65_genexpr.specs.Places.{more, object_place, place_of}
 use Rattle.c65_genexpr.specs.Direct.{direct_of, is_fixed, is_pure}
+use Rattle.c65_genexpr.specs.Held.{held_low, held_high, keep_code}
 
 -- ---- a constant on the right
 
@@ -116,7 +124,7 @@ direct_right op operands b = option_and_then (λ w. right_form op operands w.0 w
 abbrev pub direct_left : BinaryOp → Operands → Option Direct → Option Form
 direct_left op operands a = option_and_then (λ w. left_form op operands w.0 w.1) (option_and_then word_in a)
 
--- ---- the form
+-- ---- the form, where an operand is read
 
 -- the left operand is read behind the right one only where that leaves it as it is
 abbrev pub by_left : Bool → Option Form → Operating
@@ -127,12 +135,93 @@ abbrev pub by_right : Option Form → Operating → Operating
 by_right (Some form) other = Left form
 by_right None other = other
 
--- how an operator is computed on two operands
-abbrev pub operating_of : Framed → ℕ → BinaryOp → Operands → Typed → Typed → Operating
-operating_of f pushed op operands a b =
+-- how an operator is computed on two operands, if one of them is read where it lies
+abbrev pub reading_of : Framed → ℕ → BinaryOp → Operands → Typed → Typed → Operating
+reading_of f pushed op operands a b =
     by_right (constant_right op operands b)
     (by_right (direct_right op operands (direct_of f pushed b))
     (by_left (is_fixed (direct_of f pushed a) || is_pure b) (direct_left op operands (direct_of f pushed a))))
+
+-- ---- light trees: their lines leave ptr2 as it is, and call no routine that may change it
+
+abbrev pub is_signed_char : IntType → Bool
+is_signed_char SChar = true
+is_signed_char kind = false
+
+abbrev pub is_light_form : Form → Bool
+is_light_form (Constant kind quick) = false
+is_light_form (Indexed size low high) = size == 1
+is_light_form (Distance size low high) = size == 1
+is_light_form (DistanceUnder size low high) = size == 1
+is_light_form form = true
+
+abbrev pub is_light_place : Place → Bool
+is_light_place Far = false
+is_light_place place = true
+
+abbrev pub is_light_access : Access → Bool
+is_light_access (Whole kind) = not (is_signed_char kind)
+is_light_access (Part field) = false
+
+abbrev pub is_light_to : Width → IntType → IntType → Bool
+is_light_to Ax from to = not (is_signed_char to)
+is_light_to Eax from to = nat_le 4 (size_of from)
+
+abbrev pub is_light_conversion : Ty → IntType → Bool
+is_light_conversion void from = true
+is_light_conversion to from = is_light_to (width_of (kind_of to)) from (kind_of to)
+
+-- an operator, by whether its operands are light
+abbrev pub is_light_operator : Operating → Bool → Bool → Bool
+is_light_operator (Left form) a b = is_light_form form && a
+is_light_operator (Right form) a b = is_light_form form && b
+is_light_operator how a b = false
+
+abbrev mutual
+  pub is_light : Framed → ℕ → Typed → Bool
+  is_light f pushed (node t (constant z)) = true
+  is_light f pushed (node t null) = true
+  is_light f pushed (node t (literal n)) = true
+  is_light f pushed (node t (func i)) = true
+  is_light f pushed (node t (object i)) = is_light_place (object_place f pushed i)
+  is_light f pushed (node t (deref e)) = is_light f pushed e
+  is_light f pushed (node t (member e m)) = is_light f pushed e
+  is_light f pushed (node t (address e)) = is_light f pushed e
+  is_light f pushed (node t (decay e)) = is_light f pushed e
+  is_light f pushed (node t (load e)) = is_light_place (place_of f pushed e) && is_light_access (access_of (types_of f.parts.types) e)
+  is_light f pushed (node t (convert e)) = is_light_conversion (type_in t) (kind_in e) && is_light f pushed e
+  is_light f pushed (node t (binary op a b)) =
+      takes_bytes op && is_light_operator (reading_of f pushed op (operands_of f (bare a) (bare b)) a b) (is_light f pushed a) (is_light f pushed b)
+  is_light f pushed (node t _) = false
+
+-- ---- a left operand that waits in ptr2 while the right one comes, which is light
+
+-- a number of elements of one byte
+abbrev pub held_elements : BinaryOp → Option Form
+held_elements Add = Some (Word Add held_low held_high)
+held_elements Sub = Some (Under held_low held_high)
+held_elements op = None
+
+-- the right operand is in AX; elements of more bytes than one would take routines
+abbrev pub held_form : BinaryOp → Operands → Option Form
+held_form op (Numbers kind) = left_form op (Numbers kind) held_low held_high
+held_form op (PointerFirst size) = if size == 1 then held_elements op else None
+held_form Sub (Pointers size) = Some (DistanceUnder size held_low held_high)
+held_form op operands = None
+
+abbrev pub held_if : Bool → Option Form → Operating
+held_if true (Some form) = Held form
+held_if is_light form = Stacked
+
+-- ---- the form
+
+abbrev pub or_held : Operating → Operating → Operating
+or_held Stacked held = held
+or_held how held = how
+
+-- how an operator is computed on two operands
+abbrev pub operating_of : Framed → ℕ → BinaryOp → Operands → Typed → Typed → Operating
+operating_of f pushed op operands a b = or_held (reading_of f pushed op operands a b) (held_if (is_light f pushed b) (held_form op operands))
 
 -- ---- lines
 
@@ -173,4 +262,5 @@ below_operand _ pushed bytes = pushed
 abbrev pub operator_by : Operating → BinaryOp → Operands → IntType → ℕ → List Line → List Line → List Line
 operator_by (Left form) op operands right label a b = a ++ form_code form label
 operator_by (Right form) op operands right label a b = b ++ form_code form label
+operator_by (Held form) op operands right label a b = a ++ (keep_code ++ (b ++ form_code form label))
 operator_by Stacked op operands right label a b = labelled label (a ++ (waiting_code operands ++ (b ++ stacked_code op operands right)))

@@ -3,10 +3,14 @@ ghost use Rattle.std.specs.Prelude.{◌≡◌, ◌&&◌};
 ghost use Rattle.c65_csem.specs.Views.{typed_of};
 ghost use Rattle.c65_genexpr.specs.Leaving.{ComparesFree};
 ghost use Rattle.c65_genexpr.specs.Direct.{direct_of, is_pure, is_byte};
-ghost use Rattle.c65_genexpr.specs.Comparing.{relation_by, is_zero, tested_by, lowest, is_raised, raised, one_more, range_of, meeting, beside, is_read, compared_by, comparing_of};
+ghost use Rattle.c65_genexpr.specs.Comparing.{relation_by, is_zero, tested_by, lowest, is_raised, raised, one_more, range_of, meeting, beside, is_read, compared_by, held_by, comparing_of};
+ghost use Rattle.c65_genexpr.specs.Operating.{is_light};
+ghost use Rattle.c65_genwide.specs.Wide.{width_of};
 
 use crate::constants::residue_of;
 use crate::direct::{direct_of, is_byte, is_fixed, is_pure, sides_of};
+use crate::light::is_light;
+use c65_code::Width;
 use c65_csem::{TExpr, TKind};
 use c65_gendirect::{Direct, OperandByte, Relation, Sides, byte_of};
 use c65_genframe::Frame;
@@ -29,6 +33,8 @@ pub enum Comparing {
     Byte(Side, Option<OperandByte>, Relation, OperandByte),
     /// A side in the primary register, signed or not, with bytes that are read where they lie.
     Whole(Side, Relation, bool, Sides),
+    /// The left side waits in ptr2: how the right one, signed or not, stands to it.
+    Held(Relation, bool),
     /// The left side waits on the software stack.
     Stacked,
 }
@@ -186,6 +192,24 @@ fn compared_by(
     }
 }
 
+// No side is read: the left one waits in ptr2 where the right one is light.
+fn held_by(
+    frame: &Frame<'_>,
+    pushed: u16,
+    relation: Relation,
+    kind: IntType,
+    b: &TExpr,
+) -> Comparing
+    ensures { result ≡ held_by (is_light frame.now pushed (typed_of b.now)) (width_of kind) relation kind }
+{
+    match width_of(kind) {
+        Width::Ax if is_light(frame, pushed, b) => {
+            Comparing::Held(relation.mirrored(), kind.is_signed())
+        }
+        _ => Comparing::Stacked,
+    }
+}
+
 fn form_of(
     frame: &Frame<'_>,
     pushed: u16,
@@ -201,7 +225,10 @@ fn form_of(
     } else if tested_by(relation, a).is_some() {
         Comparing::Truth(Side::Right)
     } else {
-        compared_by(frame, pushed, relation, kind, a, b)
+        match compared_by(frame, pushed, relation, kind, a, b) {
+            Comparing::Stacked => held_by(frame, pushed, relation, kind, b),
+            how => how,
+        }
     }
 }
 

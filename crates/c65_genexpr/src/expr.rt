@@ -1,6 +1,5 @@
 // Expressions (C90 6.3).
-ghost use Rattle.std.specs.Prelude.{◌≡◌, [], ◌+◌, ◌≤◌, true, false, not, Some, None, OnOk, IfOk, OnErr, IfErr};
-ghost use Rattle.c65_base.specs.declared.refusal.Refusal.TheVariants.{OutOfMemory};
+ghost use Rattle.std.specs.Prelude.{◌≡◌, [], ◌+◌, true, false, not, Some, None, OnOk, IfOk, OnErr};
 ghost use Rattle.c65_csem.specs.Views.{typed_of, nodes_of};
 ghost use Rattle.c65_genwide.specs.Lines.{grown, Keeps};
 ghost use Rattle.c65_genexpr.specs.Arguments.{passed_of};
@@ -20,6 +19,7 @@ use crate::calls::{named, put_direct, put_named, put_pointer};
 use crate::comparing::{Comparing, Side, comparing_of, relation_by, tested_by};
 use crate::constants::residue_of;
 use crate::direct::{kept_at, put_own_test};
+use crate::held::{held_word, put_keep};
 use crate::leaving::{leave_out, leave_place};
 use crate::operands::{
     Operands, computes, operands_of, put_behind, put_between, put_conversion, put_unary, same_truth,
@@ -33,7 +33,7 @@ use crate::types::{Outcome, access_of, kind_of, offset_at, outcome_of, target_by
 use crate::wanted::{
     Wanted, is_straight, put_decided, put_outcome_test, put_value_test, truth_labels, wanted_by,
 };
-use c65_base::{BinaryOp, Refusal, UnaryOp};
+use c65_base::{BinaryOp, UnaryOp};
 use c65_code::Line::{Do, Label};
 use c65_code::Operand::To;
 use c65_code::{Draft, Width};
@@ -52,27 +52,7 @@ use c65_mach::Mode::Absolute;
 use c65_mach::Op::{Jmp, Lda};
 use std::alloc::AllocError;
 
-/// Puts the lines of an expression behind those of the draft, where so many bytes of values wait on
-/// the software stack. The value then stands in the primary register: in A and X, or in A, X and
-/// sreg; of a place, and of a structure or union, the address. Of a structure or union that is passed
-/// or returned its bytes stand there, the first in A. Refuses for want of memory alone, of labels too;
-/// the draft then has its old lines, and perhaps new ones behind them.
-pub fn gen_expr(
-    expr: &TExpr,
-    frame: &Frame<'_>,
-    pushed: u32,
-    draft: &mut Draft,
-) -> Result<(), Refusal>
-    requires { pushed ≤ 65535 }
-    ensures lines { OnOk result (draft.new ≡ grown draft.old (expr_code frame.now pushed draft.old.labels Value (typed_of expr.now)) (uses None (typed_of expr.now))) }
-    ensures refused { IfErr result (λ e. e ≡ OutOfMemory) }
-    ensures kept { OnErr result (Keeps draft.old draft.new) }
-{
-    put_expr(expr, frame, pushed as u16, draft)?;
-    Ok(())
-}
-
-/// The same, for callers that only lack memory.
+/// Puts the lines of the value of an expression, where so many bytes wait, for callers that only lack memory.
 #[cycle(expression)]
 pub fn put_expr(
     e: &TExpr,
@@ -424,6 +404,12 @@ fn put_operator(
             put_expr(b, frame, pushed, draft)?;
             put_form(form, label, draft)
         }
+        Operating::Held(form) => {
+            put_expr(a, frame, pushed, draft)?;
+            put_keep(draft)?;
+            put_expr(b, frame, pushed, draft)?;
+            put_form(form, label, draft)
+        }
         Operating::Stacked => {
             let wait = waiting(width_of(computes(operands)));
             put_expr(a, frame, pushed, draft)?;
@@ -477,6 +463,12 @@ fn put_comparison(
             put_side(side, a, left, b, right, frame, pushed, draft)?;
             put_compare(relation, is_signed, sides, own, to, draft)
         }
+        Comparing::Held(relation, is_signed) => {
+            put_wanted(a, left, frame, pushed, draft)?;
+            put_keep(draft)?;
+            put_wanted(b, right, frame, pushed, draft)?;
+            put_compare(relation, is_signed, held_word(), own, to, draft)
+        }
         Comparing::Stacked => {
             let wait = waiting(width_of(computes(operands)));
             put_wanted(a, left, frame, pushed, draft)?;
@@ -517,8 +509,7 @@ fn put_side(
     }
 }
 
-// `&&` and `||`: a left side of this truth decides. Where the truth of the whole is that of the test,
-// they lead to its label.
+// `&&` and `||`, which a left side of this truth decides.
 #[cycle(expression)]
 fn put_joint(
     a: &TExpr,

@@ -3,10 +3,12 @@ ghost use Rattle.std.specs.Prelude.{◌≡◌, OnOk, OnErr};
 ghost use Rattle.c65_csem.specs.Views.{typed_of};
 ghost use Rattle.c65_genwide.specs.Lines.{with_lines, Keeps};
 ghost use Rattle.c65_genexpr.specs.Leaving.{OperatesFree};
-ghost use Rattle.c65_genexpr.specs.Operating.{sum_by, mask_by, number_form, offset_form, constant_form, word_in, takes_bytes, word_if, element_form, right_form, under_if, left_form, constant_right, direct_right, direct_left, operating_of, placed, form_code, waiting_code, stacked_code};
+ghost use Rattle.c65_genexpr.specs.Operating.{sum_by, mask_by, number_form, offset_form, constant_form, word_in, takes_bytes, word_if, element_form, right_form, under_if, left_form, constant_right, direct_right, direct_left, reading_of, held_elements, held_form, operating_of, placed, form_code, waiting_code, stacked_code};
 
 use crate::constants::{constant_in, negative, residue_of};
 use crate::direct::{direct_of, is_fixed, is_pure};
+use crate::held::{held_high, held_low};
+use crate::light::is_light;
 use crate::operands::{Operands, put_behind, put_between};
 use c65_base::BinaryOp;
 use c65_code::Line::Label;
@@ -52,6 +54,8 @@ pub enum Operating {
     Left(Form),
     /// The right operand, and what is done to it.
     Right(Form),
+    /// The left operand waits in ptr2, and what is done to the right one.
+    Held(Form),
     /// The left operand waits on the software stack.
     Stacked,
 }
@@ -212,8 +216,9 @@ fn direct_left(op: BinaryOp, operands: Operands, a: Option<Direct>) -> Option<Fo
     left_form(op, operands, low, high)
 }
 
-// The left operand is read behind the right one only where that leaves it as it is.
-fn form_of(
+/// How an operator is computed on two operands, if one of them is read where it lies: the left one behind
+/// the right one only where that leaves it as it is.
+pub fn reading_of(
     frame: &Frame<'_>,
     pushed: u16,
     op: BinaryOp,
@@ -221,7 +226,7 @@ fn form_of(
     a: &TExpr,
     b: &TExpr,
 ) -> Operating
-    ensures { result ≡ operating_of frame.now pushed op operands (typed_of a.now) (typed_of b.now) }
+    ensures { result ≡ reading_of frame.now pushed op operands (typed_of a.now) (typed_of b.now) }
 {
     if let Some(form) = constant_right(op, operands, b) {
         return Operating::Left(form);
@@ -233,6 +238,51 @@ fn form_of(
     match direct_left(op, operands, left) {
         Some(form) if is_fixed(left) || is_pure(b) => Operating::Right(form),
         _ => Operating::Stacked,
+    }
+}
+
+// A number of elements of one byte behind a pointer that waits in ptr2.
+fn held_elements(op: BinaryOp) -> Option<Form>
+    ensures { result ≡ held_elements op }
+{
+    match op {
+        BinaryOp::Add => Some(Form::Word(op, held_low(), held_high())),
+        BinaryOp::Sub => Some(Form::Under(held_low(), held_high())),
+        _ => None,
+    }
+}
+
+// The left operand waits in ptr2: the right one is in AX.
+fn held_form(op: BinaryOp, operands: Operands) -> Option<Form>
+    ensures { result ≡ held_form op operands }
+{
+    match operands {
+        Operands::Numbers(_) => left_form(op, operands, held_low(), held_high()),
+        Operands::PointerFirst(size) if size == 1 => held_elements(op),
+        Operands::PointerFirst(_) | Operands::PointerLast(_) => None,
+        Operands::Pointers(size) => match op {
+            BinaryOp::Sub => Some(Form::DistanceUnder(size, held_low(), held_high())),
+            _ => None,
+        },
+    }
+}
+
+fn form_of(
+    frame: &Frame<'_>,
+    pushed: u16,
+    op: BinaryOp,
+    operands: Operands,
+    a: &TExpr,
+    b: &TExpr,
+) -> Operating
+    ensures { result ≡ operating_of frame.now pushed op operands (typed_of a.now) (typed_of b.now) }
+{
+    match reading_of(frame, pushed, op, operands, a, b) {
+        Operating::Stacked => match held_form(op, operands) {
+            Some(form) if is_light(frame, pushed, b) => Operating::Held(form),
+            _ => Operating::Stacked,
+        },
+        how => how,
     }
 }
 

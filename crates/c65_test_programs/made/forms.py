@@ -217,6 +217,52 @@ def nested():
     return ''.join(out), ' '.join(str(n) for n in wanted) + ' \n'
 
 
+# right sides that take no routine, and one within another
+LIGHT = ['(y + z)', '(y - z)', '(y & z)', '(y | z)', '(y ^ z)', '(y - 7)', '(y + 1000)', '(y & 15)', '(y - (z + 5))', '((y ^ z) - s)']
+WAITING = '+-&|^'
+VALUES = [-32768, -1, 0, 200, 32767]
+
+
+def light(right, y, z):
+    s = 77
+    return eval(right, {'y': y, 'z': z, 's': s})
+
+
+def waiting():
+    """Operators and comparisons of a value that a call gives and one that is computed from objects: a sum of what comes for all values."""
+    out, calls, wanted = [SHOW, 'static int s = 77;\nstatic const int values[] = { %s };\n' % ', '.join('-32767 - 1' if v == -32768 else str(v) for v in VALUES)], [], []
+    for kind, name in (('i', 'int'), ('u', 'unsigned int')):
+        out.append('static %s same_%s(%s x) { return x; }\n' % (name, kind, name))
+        for nth, right in enumerate(LIGHT):
+            forms = ['h = h * 31 + (unsigned) (same_%s(x) %s %s);' % (kind, op, right) for op in WAITING]
+            forms += ['if (same_%s(x) %s %s) h = h * 31 + %d;' % (kind, op, right, at + 1) for at, op in enumerate(sorted(COMPARISONS))]
+            forms += ['h = h * 31 + (same_%s(x) %s %s);' % (kind, op, right) for op in sorted(COMPARISONS)]
+            called = 'waiting_%s_%d' % (kind, nth)
+            out.append('static unsigned %s(unsigned h, %s x, %s y, %s z)\n{\n    %s\n    return h;\n}\n' % (called, name, name, name, '\n    '.join(forms)))
+            calls.append(called)
+            h = 0
+            for x in VALUES:
+                for y in VALUES:
+                    for z in VALUES[::2]:
+                        x, y, z = within(kind, x), within(kind, y), within(kind, z)
+                        other = within(kind, light(right, y, z))
+                        for op in WAITING:
+                            h = within('u', h * 31 + binary(op, kind, x, kind, other))
+                        for at, op in enumerate(sorted(COMPARISONS)):
+                            h = within('u', h * 31 + at + 1) if binary(op, kind, x, kind, other) else h
+                        for op in sorted(COMPARISONS):
+                            h = within('u', h * 31 + binary(op, kind, x, kind, other))
+            wanted.append(h)
+    out.append('static char text[20];\nstatic int numbers[20];\nstatic char *letter(int n) { return text + n; }\nstatic int *number_at(int n) { return numbers + n; }\n')
+    out.append('static void pointers(int y)\n{\n    item(letter(3) + (y + 4) - text); item(letter(9) - (y + 4) - text); item(letter(9) - (text + 2)); item(number_at(9) - (numbers + 2));\n')
+    out.append('    item(letter(3) < text + y); item(letter(3) == text + y); item(number_at(7) >= numbers + 7); item(number_at(6) != numbers + 7); end();\n}\n')
+    out.append('int main(void)\n{\n    int i, j, k; unsigned h;\n')
+    for called in calls:
+        out.append('    h = 0; for (i = 0; i < %d; i++) for (j = 0; j < %d; j++) for (k = 0; k < %d; k += 2) h = %s(h, values[i], values[j], values[k]); item(h);\n' % (len(VALUES), len(VALUES), len(VALUES), called))
+    out.append('    end(); pointers(3);\n    return 0;\n}\n')
+    return ''.join(out), ' '.join(str(n) for n in wanted) + ' \n10 2 7 7 0 1 1 1 \n'
+
+
 REFUSED = [
     ('frame_1025', 'int f(int a, char b) { char c[1022]; c[0] = a; return c[0] + b; }\nint main(void) { return f(1, 2); }\n', 'c65: too large: Frame 1025\nstatus 107\n'),
     ('frame_1025_again', 'int main(void) { register int r = 1; int i; char c[500], d[521]; c[0] = d[0] = i = r; return c[0]; }\n', 'c65: too large: Frame 1025\nstatus 107\n'),

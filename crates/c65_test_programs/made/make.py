@@ -34,7 +34,8 @@ def programs():
     for name, made in [('folded', operators.folded()), ('conversions', operators.conversions()), ('steps_narrow', operators.steps(KINDS[:4])),
                        ('steps_wide', operators.steps(KINDS[4:])), ('pointers_1', shapes.pointers(shapes.ELEMENTS[:3])), ('pointers_2', shapes.pointers(shapes.ELEMENTS[3:])),
                        ('switches', shapes.switches()), ('calls_1', shapes.calls_program(1)), ('calls_2', shapes.calls_program(2)),
-                       ('long_bodies', forms.long_bodies()), ('frames', forms.frames()), ('nested', forms.nested())]:
+                       ('long_bodies', forms.long_bodies()), ('frames', forms.frames()), ('nested', forms.nested()),
+                       ('waiting', forms.waiting())]:
         yield name, *ended(made)
     for nth, widths in enumerate((range(1, 5), range(5, 9), range(9, 12), range(12, 17))):
         yield 'fields_signed_%d' % nth, *ended(shapes.fields(True, widths))

@@ -149,6 +149,18 @@ put_comparison-returns-in_err-put_side-in-Whole-clause-kept t c = refused_then c
 pub put_comparison-returns-in_ok-put_side-in-Whole-clause-kept : goal.put_comparison-returns-in_ok-put_side-in-Whole-clause-kept
 put_comparison-returns-in_ok-put_side-in-Whole-clause-kept t c = label_last _ _ _ _ c.in_ok-own.ensures.draft (grown_last _ _ _ _ _ _ c.in_ok-put_side-in-Whole.ensures.lines c.put_compare.ensures.kept)
 
+pub put_comparison-returns-in_err-put_wanted-in-Held-clause-kept : goal.put_comparison-returns-in_err-put_wanted-in-Held-clause-kept
+put_comparison-returns-in_err-put_wanted-in-Held-clause-kept t c = refused_then c.from_residual-in_err-put_wanted-in-Held.result (label_then _ _ _ c.in_ok-own.ensures.draft c.in_err-put_wanted-in-Held.ensures.kept)
+
+pub put_comparison-returns-in_err-put_keep-in-Held-clause-kept : goal.put_comparison-returns-in_err-put_keep-in-Held-clause-kept
+put_comparison-returns-in_err-put_keep-in-Held-clause-kept t c = refused_then c.from_residual-in_err-put_keep-in-Held.result (label_then _ _ _ c.in_ok-own.ensures.draft (grown_then _ _ _ _ _ c.in_ok-put_wanted-in-Held.ensures.lines c.in_err-put_keep-in-Held.ensures.kept))
+
+pub put_comparison-returns-in_err-put_wanted-in-Held-2-clause-kept : goal.put_comparison-returns-in_err-put_wanted-in-Held-2-clause-kept
+put_comparison-returns-in_err-put_wanted-in-Held-2-clause-kept t c = refused_then c.from_residual-in_err-put_wanted-in-Held-2.result (label_then _ _ _ c.in_ok-own.ensures.draft (grown_then _ _ _ _ _ c.in_ok-put_wanted-in-Held.ensures.lines (kept_then _ _ _ _ c.in_ok-put_keep-in-Held.ensures.lines c.in_err-put_wanted-in-Held-2.ensures.kept)))
+
+pub put_comparison-returns-in_ok-put_wanted-in-Held-2-clause-kept : goal.put_comparison-returns-in_ok-put_wanted-in-Held-2-clause-kept
+put_comparison-returns-in_ok-put_wanted-in-Held-2-clause-kept t c = label_last _ _ _ _ c.in_ok-own.ensures.draft (grown_last _ _ _ _ _ _ c.in_ok-put_wanted-in-Held.ensures.lines (kept_last _ _ _ _ _ c.in_ok-put_keep-in-Held.ensures.lines (grown_last _ _ _ _ _ _ c.in_ok-put_wanted-in-Held-2.ensures.lines c.put_compare-in-Held.ensures.kept)))
+
 pub put_comparison-returns-in_err-put_wanted-in-Stacked-clause-kept : goal.put_comparison-returns-in_err-put_wanted-in-Stacked-clause-kept
 put_comparison-returns-in_err-put_wanted-in-Stacked-clause-kept t c = refused_then c.from_residual-in_err-put_wanted-in-Stacked.result (label_then _ _ _ c.in_ok-own.ensures.draft c.in_err-put_wanted-in-Stacked.ensures.kept)
 
@@ -184,6 +196,18 @@ put_operator-returns-in_err-put_expr-in-Right-clause-kept t c = refused_then c.f
 
 pub put_operator-returns-in_ok-put_expr-in-Right-clause-kept : goal.put_operator-returns-in_ok-put_expr-in-Right-clause-kept
 put_operator-returns-in_ok-put_expr-in-Right-clause-kept t c = label_last _ _ _ _ c.in_ok-label.ensures.draft (grown_last _ _ _ _ _ _ c.in_ok-leave_out-in-Right.ensures.lines (grown_last _ _ _ _ _ _ c.in_ok-put_expr-in-Right.ensures.lines c.put_form-in-Right.ensures.kept))
+
+pub put_operator-returns-in_err-put_expr-in-Held-clause-kept : goal.put_operator-returns-in_err-put_expr-in-Held-clause-kept
+put_operator-returns-in_err-put_expr-in-Held-clause-kept t c = refused_then c.from_residual-in_err-put_expr-in-Held.result (label_then _ _ _ c.in_ok-label.ensures.draft c.in_err-put_expr-in-Held.ensures.kept)
+
+pub put_operator-returns-in_err-put_keep-in-Held-clause-kept : goal.put_operator-returns-in_err-put_keep-in-Held-clause-kept
+put_operator-returns-in_err-put_keep-in-Held-clause-kept t c = refused_then c.from_residual-in_err-put_keep-in-Held.result (label_then _ _ _ c.in_ok-label.ensures.draft (grown_then _ _ _ _ _ c.in_ok-put_expr-in-Held.ensures.lines c.in_err-put_keep-in-Held.ensures.kept))
+
+pub put_operator-returns-in_err-put_expr-in-Held-2-clause-kept : goal.put_operator-returns-in_err-put_expr-in-Held-2-clause-kept
+put_operator-returns-in_err-put_expr-in-Held-2-clause-kept t c = refused_then c.from_residual-in_err-put_expr-in-Held-2.result (label_then _ _ _ c.in_ok-label.ensures.draft (grown_then _ _ _ _ _ c.in_ok-put_expr-in-Held.ensures.lines (kept_then _ _ _ _ c.in_ok-put_keep-in-Held.ensures.lines c.in_err-put_expr-in-Held-2.ensures.kept)))
+
+pub put_operator-returns-in_ok-put_expr-in-Held-2-clause-kept : goal.put_operator-returns-in_ok-put_expr-in-Held-2-clause-kept
+put_operator-returns-in_ok-put_expr-in-Held-2-clause-kept t c = label_last _ _ _ _ c.in_ok-label.ensures.draft (grown_last _ _ _ _ _ _ c.in_ok-put_expr-in-Held.ensures.lines (kept_last _ _ _ _ _ c.in_ok-put_keep-in-Held.ensures.lines (grown_last _ _ _ _ _ _ c.in_ok-put_expr-in-Held-2.ensures.lines c.put_form-in-Held.ensures.kept)))
 
 pub put_operator-returns-in_err-put_expr-in-Stacked-clause-kept : goal.put_operator-returns-in_err-put_expr-in-Stacked-clause-kept
 put_operator-returns-in_err-put_expr-in-Stacked-clause-kept t c = refused_then c.from_residual-in_err-put_expr-in-Stacked.result (label_then _ _ _ c.in_ok-label.ensures.draft c.in_err-put_expr-in-Stacked.ensures.kept)

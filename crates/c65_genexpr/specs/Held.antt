@@ -1,0 +1,21 @@
+-- A word that waits in ptr2 while the lines of another value come, which have to leave it there.
+use Rattle.std.specs.Prelude.{ℕ, ◌+◌, List, [], ◌∷◌}
+use Rattle.c65_mach.specs.declared.rows.Op.TheVariants.{Sta, Stx}
+use Rattle.c65_code.specs.declared.line.Line.{Line}
+use Rattle.c65_genload.specs.Words.{zero_page}
+use Rattle.c65_gendirect.specs.declared.bytes.OperandByte.{OperandByte}
+use Rattle.c65_gendirect.specs.declared.bytes.OperandByte.TheVariants.{Zero}
+
+abbrev pub ptr2 : ℕ
+ptr2 = 10
+
+-- its two bytes
+abbrev pub held_low : OperandByte
+held_low = Zero ptr2
+
+abbrev pub held_high : OperandByte
+held_high = Zero (ptr2 + 1)
+
+-- AX begins to wait
+abbrev pub keep_code : List Line
+keep_code = zero_page Sta ptr2 ∷ zero_page Stx (ptr2 + 1) ∷ []

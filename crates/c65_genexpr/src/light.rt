@@ -1,0 +1,117 @@
+// Light trees: their lines leave ptr2 as it is, and call no routine that may change it.
+ghost use Rattle.std.specs.Prelude.{◌≡◌};
+ghost use Rattle.c65_ctype.specs.Views.{ty_of};
+ghost use Rattle.c65_csem.specs.Views.{typed_of};
+ghost use Rattle.c65_genexpr.specs.Operating.{takes_bytes, is_signed_char, is_light_form, is_light_place, is_light_access, is_light_conversion, is_light};
+
+use crate::operands::operands_of;
+use crate::operating::{Form, Operating, reading_of};
+use crate::places::{object_place, place_of};
+use crate::types::{access_of, kind_of};
+use c65_base::BinaryOp;
+use c65_code::Width;
+use c65_csem::{TExpr, TKind};
+use c65_ctype::CType;
+use c65_genframe::Frame;
+use c65_genload::{Access, Place, bytes_of};
+use c65_genwide::width_of;
+use c65_ints::IntType;
+
+// `+`, `-`, `&`, `^` and `|`.
+fn takes_bytes(op: BinaryOp) -> bool
+    ensures { result ≡ takes_bytes op }
+{
+    match op {
+        BinaryOp::Add | BinaryOp::Sub | BinaryOp::BitAnd | BinaryOp::BitXor | BinaryOp::BitOr => {
+            true
+        }
+        _ => false,
+    }
+}
+
+fn is_signed_char(kind: IntType) -> bool
+    ensures { result ≡ is_signed_char kind }
+{
+    match kind {
+        IntType::SChar => true,
+        _ => false,
+    }
+}
+
+fn is_light_form(form: Form) -> bool
+    ensures { result ≡ is_light_form form }
+{
+    match form {
+        Form::Constant(_, _) => false,
+        Form::Indexed(size, _, _) | Form::Distance(size, _, _) | Form::DistanceUnder(size, _, _) =>
+            size == 1,
+        Form::Sum(_)
+        | Form::LongSum(_)
+        | Form::Mask(_, _)
+        | Form::Word(_, _, _)
+        | Form::Under(_, _) => true,
+    }
+}
+
+fn is_light_place(place: Place) -> bool
+    ensures { result ≡ is_light_place place }
+{
+    match place {
+        Place::Bank(_) | Place::Near(_) | Place::Data(_, _) => true,
+        Place::Far => false,
+    }
+}
+
+fn is_light_access(access: Access) -> bool
+    ensures { result ≡ is_light_access access }
+{
+    match access {
+        Access::Whole(kind) => !is_signed_char(kind),
+        Access::Part(_) => false,
+    }
+}
+
+fn is_light_conversion(to: &CType, from: IntType) -> bool
+    ensures { result ≡ is_light_conversion (ty_of to.now) from }
+{
+    match to {
+        CType::Void => true,
+        _ => {
+            let kind = kind_of(to);
+            match width_of(kind) {
+                Width::Ax => !is_signed_char(kind),
+                Width::Eax => bytes_of(from) >= 4,
+            }
+        }
+    }
+}
+
+/// Whether an expression is light, where so many bytes wait.
+pub fn is_light(frame: &Frame<'_>, pushed: u16, e: &TExpr) -> bool
+    ensures { result ≡ is_light frame.now pushed (typed_of e.now) }
+{
+    match &e.kind {
+        TKind::Const(_) | TKind::Null | TKind::Literal(_) | TKind::Func(_) => true,
+        TKind::Object(object) => is_light_place(object_place(frame, pushed, *object)),
+        TKind::Deref(a) | TKind::Member(a, _) | TKind::Address(a) | TKind::Decay(a) => {
+            is_light(frame, pushed, a)
+        }
+        TKind::Load(a) => {
+            is_light_place(place_of(frame, pushed, a))
+                && is_light_access(access_of(&frame.parts().types, a))
+        }
+        TKind::Convert(a) => {
+            is_light_conversion(&e.ty.ty, kind_of(&a.ty.ty)) && is_light(frame, pushed, a)
+        }
+        TKind::Binary(op, a, b) => {
+            let operands = operands_of(frame, &a.ty.ty, &b.ty.ty);
+            takes_bytes(*op)
+                && match reading_of(frame, pushed, *op, operands, a, b) {
+                    Operating::Left(form) => is_light_form(form) && is_light(frame, pushed, a),
+                    Operating::Right(form) => is_light_form(form) && is_light(frame, pushed, b),
+                    Operating::Held(_) | Operating::Stacked => false,
+                }
+        }
+        _ => false,
+    }
+}
