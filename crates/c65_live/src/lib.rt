@@ -1,0 +1,7 @@
+//! What is live after each line of a function: the registers, flags and zero-page bytes that may be read behind it
+//! before they are set.
+#![tactic(auto)]
+
+mod table;
+
+pub use table::LiveTable;
