@@ -1,0 +1,6 @@
+mod Sets
+mod Sound
+mod Closed
+mod Rises
+mod Labels
+mod Tables

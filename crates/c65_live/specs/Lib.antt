@@ -1,2 +1,4 @@
 pub mod Live
 pub mod Tables
+pub mod Flows
+pub mod Sweeps

@@ -1,5 +1,5 @@
 -- What is live after the lines of a function (docs/MACHINE.md, "Zero page"): what may be read behind a line before it is set.
-use Rattle.std.specs.Prelude.{◌≡◌, ℕ, suc, false, IsTrue, List, [], ◌∷◌, Some, slice_get}
+use Rattle.std.specs.Prelude.{◌≡◌, ℕ, ◌+◌, false, IsTrue, List, [], ◌∷◌, Some, slice_get}
 use Rattle.c65_mach.specs.declared.rows.Op.TheVariants as ops
 use Rattle.c65_mach.specs.declared.rows.Mode.TheVariants.{Indirect}
 use Rattle.c65_code.specs.declared.parts.Part.{Part}
@@ -14,7 +14,7 @@ use Rattle.c65_code.specs.Moves.{labelled}
 
 -- Line r may come behind line q: the next one, unless q is RTS or JMP, and the label to which q jumps or branches.
 pub data Next (lines : List Line) : ℕ → ℕ → Type 0 where
-  onward : {q : ℕ} {l : Line} → slice_get lines q ≡ Some l → is_closing l ≡ false → Next lines q (suc q)
+  onward : {q : ℕ} {l : Line} → slice_get lines q ≡ Some l → is_closing l ≡ false → Next lines q (q + 1)
   goes : {q label : ℕ} {l : Line} → slice_get lines q ≡ Some l → target_of l ≡ label ∷ [] → Next lines q (labelled lines label)
 
 -- What may be read once a line has left its function: behind RTS what the function gives, and sp and regbank, which its

@@ -2,6 +2,8 @@
 //! before they are set.
 #![tactic(auto)]
 
+mod flow;
+mod sweep;
 mod table;
 
 pub use table::LiveTable;
