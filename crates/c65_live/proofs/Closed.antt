@@ -1,5 +1,5 @@
 -- A table in which a sweep changes nothing has each part that is live.
-use Rattle.std.proofs.Common.{◌≡◌, ℕ, ◌+◌, not, Bool, true, false, IsTrue, if◌then◌else◌, List, [], ◌∷◌, get_or, Option, Some, None, slice_get, map, refl, sym, ◌∙◌, ap, subst}
+use Rattle.std.proofs.Common.{◌≡◌, ℕ, ◌+◌, not, IsTrue, if◌then◌else◌, List, get_or, Some, slice_get, sym, ◌∙◌, ap, subst}
 use Rattle.std.specs.Option.{option_map}
 use Rattle.std.proofs.lemmas.Option.{slice_get-map}
 use Rattle.c65_code.specs.declared.parts.Part.{Part}
@@ -9,7 +9,7 @@ use Rattle.c65_code.specs.Parts.{has_part, no_parts, union_of, minus_of}
 use Rattle.c65_code.specs.Access.{line_reads, line_sets}
 use Rattle.c65_code.specs.Segments.{target_of, is_closing}
 use Rattle.c65_live.specs.Live.{Next, onward, goes, left_parts, IsLive, left, read, kept}
-use Rattle.c65_live.specs.Flows.{flow_of, flows_of, labelled_at, before_of, before_at, before_to, joined_of, joined_at, IsClosed}
+use Rattle.c65_live.specs.Flows.{flow_of, flows_of, labelled_at, before_of, before_at, before_to, joined_of, IsClosed}
 use Rattle.c65_live.proofs.Sets.{union_left, union_right, minus_in}
 
 module _ (lines : List Line) (out : RegSet) (live : List RegSet) (closed : IsClosed (flows_of lines out) live) where

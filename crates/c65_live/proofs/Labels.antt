@@ -1,5 +1,5 @@
 -- Labels are found where they stand.
-use Rattle.std.proofs.Common.{◌≡◌, ℕ, suc, ◌+◌, ◌||◌, ◌&&◌, not, Bool, true, false, IsTrue, List, [], ◌∷◌, ◌++◌, Option, Some, cond, refl, sym, ◌∙◌, ap, subst, nat_eq, eqb-true, eq-eqb, map, arith}
+use Rattle.std.proofs.Common.{◌≡◌, ℕ, suc, ◌+◌, ◌||◌, not, Bool, true, false, IsTrue, List, [], ◌∷◌, ◌++◌, Some, cond, refl, sym, ◌∙◌, ap, subst, nat_eq, eqb-true, eq-eqb, map, arith}
 use Rattle.std.specs.Map.{lookup}
 use Rattle.std.specs.List.{list_all}
 use Rattle.std.proofs.lemmas.Bool.{or_parts, and_parts, and_from}
@@ -85,7 +85,6 @@ flow_found all out line apart (l ∷ ls) e h =
   where
     from_none : 0 + labelled all l ≡ labelled all l
     from_none = omega arith
-
 
 all_found : (all lines : List Line) (out : RegSet) → IsTrue (is_distinct (labels_of all)) → IsTrue (list_all (is_among (labels_of all)) (targets_of lines)) → map (flow_in out (labels_from [] 0 all)) lines ≡ map (flow_of all out) lines
 all_found all [] out apart h = refl

@@ -1,6 +1,5 @@
 -- A set that rises has less room left.
-use Rattle.std.proofs.Common.{◌≡◌, ℕ, ◌+◌, ◌-◌, ◌^◌, ◌<◌, ◌≤◌, ◌||◌, ◌⊎◌, not, Bool, true, false, IsTrue, if◌then◌else◌, List, length, get_or, set, Option, None, Some, slice_get, bit_or, refl, sym, ◌∙◌, ap, subst, inl, inr, arith}
-use Rattle.std.specs.List.{sum_by}
+use Rattle.std.proofs.Common.{◌≡◌, ℕ, ◌+◌, ◌^◌, ◌<◌, ◌≤◌, ◌||◌, not, Bool, true, false, if◌then◌else◌, List, length, get_or, set, Option, None, Some, slice_get, bit_or, refl, sym, ◌∙◌, ap, subst, inl, inr, arith}
 use Rattle.std.proofs.lemmas.Bool.{cases_lt}
 use Rattle.std.proofs.lemmas.Nat.{le_or_l}
 use Rattle.std.proofs.lemmas.List.Sums.{sum_by-set}
@@ -78,8 +77,8 @@ rises_of flows live q next s None e small h = absurd (h e)
 rises_of flows live q next s (Some flow) e small h =
     subst (λ u. lacks u < lacks (get_or live q no_parts)) (sym e)
     (falls (get_or live q no_parts) (union_of flow.left (union_of (if flow.onward then next else no_parts) (before_to flows live flow.to)))
-      (subst (λ (u : RegSet). u.zero_page < 2 ^ 32) e small)
-      (λ same. h (e ∙ same)))
+    (subst (λ (u : RegSet). u.zero_page < 2 ^ 32) e small)
+    (λ same. h (e ∙ same)))
 
 -- a set that a sweep changes leaves less room
 pub joined_rises : (flows : List Flow) (live : List RegSet) (q : ℕ) (s : RegSet) → q < length live → s ≡ joined_at flows live q → s.zero_page < 2 ^ 32 → (s ≡ get_or live q no_parts → ⊥) → room (set live q s) < room live

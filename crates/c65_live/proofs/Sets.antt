@@ -1,5 +1,5 @@
 -- The parts of sets that are joined and taken away.
-use Rattle.std.proofs.Common.{◌≡◌, ◌&&◌, ◌||◌, ◌⊎◌, not, Bool, true, false, IsTrue, ℕ, List, get_or, slice_get, refl, sym, ◌∙◌, ap, inl, inr}
+use Rattle.std.proofs.Common.{◌≡◌, ◌&&◌, ◌||◌, ◌⊎◌, not, Bool, true, false, IsTrue, ℕ, List, get_or, slice_get, refl, sym, ◌∙◌, inl, inr}
 use Rattle.std.specs.Option.{unwrap_or}
 use Rattle.std.proofs.lemmas.Option.{unwrap_or-slice_get}
 use Rattle.c65_code.proofs.PartLaws.{has_part-union, has_part-minus, has_part-empty}

@@ -1,5 +1,5 @@
 -- A sweep sets only what is live.
-use Rattle.std.proofs.Common.{◌≡◌, ℕ, ◌+◌, ◌<◌, ◌⊎◌, not, Bool, true, false, IsTrue, if◌then◌else◌, List, [], ◌∷◌, length, get_or, set, Option, Some, None, slice_get, map, refl, sym, ◌∙◌, ap, subst, inl, inr}
+use Rattle.std.proofs.Common.{◌≡◌, ℕ, ◌+◌, ◌<◌, not, Bool, true, false, IsTrue, if◌then◌else◌, List, [], ◌∷◌, length, get_or, set, Option, Some, None, slice_get, refl, sym, ap, subst, inl, inr}
 use Rattle.std.specs.Option.{option_map}
 use Rattle.std.proofs.lemmas.Bool.{cases_eq}
 use Rattle.std.proofs.lemmas.Option.{slice_get-map}
@@ -61,12 +61,12 @@ module _ (lines : List Line) (out : RegSet) (live : List RegSet) (sound : AreSou
   joined_by q p (Some l) e h = elim (in_union (get_or live q no_parts) (union_of (left_parts out l) (union_of (straight q l) (jumped l))) p h) as (λ _. IsLive lines out q p) [
     | inl old ↦ sound q p old
     | inr new ↦ elim (in_union (left_parts out l) (union_of (straight q l) (jumped l)) p new) as (λ _. IsLive lines out q p) [
-        | inl gone ↦ left e gone
-        | inr on ↦ elim (in_union (straight q l) (jumped l) p on) as (λ _. IsLive lines out q p) [
-            | inl next ↦ onward_live q l p e (is_closing l) refl next
-            | inr to ↦ to_live q l p e (target_of l) refl to
-          ]
+      | inl gone ↦ left e gone
+      | inr on ↦ elim (in_union (straight q l) (jumped l) p on) as (λ _. IsLive lines out q p) [
+        | inl next ↦ onward_live q l p e (is_closing l) refl next
+        | inr to ↦ to_live q l p e (target_of l) refl to
       ]
+    ]
   ]
 
   joined_live : (q : ℕ) (p : Part) → IsTrue (has_part (joined_at (flows_of lines out) live q) p) → IsLive lines out q p

@@ -15,11 +15,7 @@ fn joined(flows: &[Flow], live: &[RegSet], at: usize, next: RegSet) -> RegSet
     ensures { result ≡ joined_at flows.now live.now at }
 {
     let flow = flows[at];
-    let straight = if flow.onward {
-        next
-    } else {
-        RegSet::empty()
-    };
+    let straight = if flow.onward { next } else { RegSet::empty() };
     let jumped = match flow.to {
         Some(to) => before(flows, live, to),
         None => RegSet::empty(),

@@ -58,13 +58,7 @@ impl LiveTable {
 
     /// The table of the segment after `count` lines at a place were replaced by `now` others. After a refusal the table is
     /// as before.
-    pub fn renew(
-        &mut self,
-        seg: &Seg,
-        at: usize,
-        count: usize,
-        now: usize,
-    ) -> Result<(), Refusal>
+    pub fn renew(&mut self, seg: &Seg, at: usize, count: usize, now: usize) -> Result<(), Refusal>
         ensures ok { OnOk result (IsLiveTable seg.now.lines seg.now.out self.new) }
         ensures err { OnErr result (self.new ≡ self.old) }
         ensures refused { IfErr result (λ refusal. refusal ≡ OutOfMemory) }

@@ -1,6 +1,4 @@
-use Rattle.std.proofs.Common.{◌≡◌, ◌∙◌, sym, ℕ, get_or, arith}
-use Rattle.c65_code.specs.Parts.{no_parts}
-use Rattle.c65_live.specs.Flows.{joined_at}
+use Rattle.std.proofs.Common.{◌∙◌, sym, arith}
 use Rattle.c65_live.proofs.Rises.{alike, apart, joined_rises}
 use Rattle.c65_live.proofs.sweep.raise.Goals as goal
 
