@@ -1,6 +1,7 @@
-mod Sets
+pub mod Sets
 mod Sound
 mod Closed
 mod Rises
 mod Labels
 mod Tables
+pub mod Samples

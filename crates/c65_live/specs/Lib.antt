@@ -2,3 +2,4 @@ pub mod Live
 pub mod Tables
 pub mod Flows
 pub mod Sweeps
+pub mod Samples

@@ -3,7 +3,9 @@
 #![tactic(auto)]
 
 mod flow;
+mod laws;
 mod sweep;
 mod table;
 
+pub use laws::{dead_is_not_live, live_samples};
 pub use table::LiveTable;
