@@ -40,6 +40,12 @@ abbrev pub ways_of : Line → Note → List Way
 ways_of (Do op mode (To l)) n = record { label = l; note = leap op n } ∷ []
 ways_of _ n = []
 
+-- the ways to labels from lines with these notes
+abbrev pub all_ways : List Line → List Note → List Way
+all_ways [] notes = []
+all_ways (line ∷ lines) [] = []
+all_ways (line ∷ lines) (n ∷ notes) = ways_of line n ++ all_ways lines notes
+
 -- what all ways so far know, and another one
 abbrev pub joined : Option Note → Note → Note
 joined None n = n

@@ -1,6 +1,6 @@
 -- What is known of the registers, of five bytes of the zero page, and of the flags: for each its value, where that is one number
 -- whichever way a run comes.
-use Rattle.std.specs.Prelude.{◌≡◌, ℕ, ◌==◌, ◌/◌, ◌%◌, Bool, true, false, ◌&&◌, if◌then◌else◌, Option, Some, None, is_some}
+use Rattle.std.specs.Prelude.{ℕ, ◌==◌, Bool, true, false, ◌&&◌, if◌then◌else◌, List, [], ◌∷◌, Option, Some, None}
 use Rattle.c65_mach.specs.State.{State, read}
 use Rattle.c65_code.specs.declared.parts.RegSet.{RegSet}
 use Rattle.c65_code.specs.declared.parts.Part.TheVariants as parts
@@ -26,6 +26,13 @@ known_flag n N = n.n
 known_flag n V = n.v
 known_flag n Z = n.z
 known_flag n C = n.c
+
+-- all that a note says, byte by byte and flag by flag
+abbrev pub bytes_of : Note → List (Option ℕ)
+bytes_of n = n.a ∷ n.x ∷ n.y ∷ n.s0 ∷ n.s1 ∷ n.p0 ∷ n.p1 ∷ n.t1 ∷ []
+
+abbrev pub flags_of : Note → List (Option Bool)
+flags_of n = n.n ∷ n.v ∷ n.z ∷ n.c ∷ []
 
 abbrev pub with_flag : Flag → Bool → Note → Note
 with_flag N b n = record n { n = Some b }

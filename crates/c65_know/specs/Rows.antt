@@ -1,6 +1,6 @@
 -- What is known after a line that goes on to the next one. The values are those of the processor's own operations; the parts that
 -- an operation reads and sets are those of the lines' own tables.
-use Rattle.std.specs.Prelude.{ℕ, ◌==◌, Bool, true, false, ◌&&◌, if◌then◌else◌, List, [], ◌∷◌, Option, Some, None, is_some, unwrap_or}
+use Rattle.std.specs.Prelude.{ℕ, ◌==◌, Bool, true, false, ◌&&◌, ◌||◌, if◌then◌else◌, List, [], ◌∷◌, Option, Some, None, is_some, unwrap_or}
 use Rattle.std.specs.List.{list_all}
 use Rattle.c65_mach.specs.declared.rows.Op.{Op}
 use Rattle.c65_mach.specs.declared.rows.Op.TheVariants as ops
@@ -21,6 +21,7 @@ use Rattle.c65_code.specs.Effects.{routine_sets}
 use Rattle.c65_know.specs.declared.note.Note.{Note}
 use Rattle.c65_know.specs.declared.note.Flag.{Flag}
 use Rattle.c65_know.specs.declared.note.Flag.TheVariants as flags
+use Rattle.c65_know.specs.declared.registers.RegisterFile.{RegisterFile}
 use Rattle.c65_know.specs.Notes.{nothing_known, zero_byte, with_zero_byte, without_zero_page, forgetting, known_flag, with_flag, same}
 
 -- The operand of an operation: a literal, A, or a tracked byte addressed as zero page. Bytes of symbols, bytes found by an index
@@ -41,6 +42,9 @@ taken_in _ mode operand n = Some 0
 -- the registers, where what is not known is 0
 abbrev pub regs_of : Note → Regs
 regs_of n = record { a = unwrap_or n.a 0; x = unwrap_or n.x 0; y = unwrap_or n.y 0; n = unwrap_or n.n false; v = unwrap_or n.v false; z = unwrap_or n.z false; c = unwrap_or n.c false }
+
+abbrev pub seen : RegisterFile → Regs
+seen r = record { a = r.a; x = r.x; y = r.y; n = r.n; v = r.v; z = r.z; c = r.c }
 
 -- the registers and flags after an operation, and the byte that it writes
 abbrev pub worked : Kind → Op → Mode → ℕ → Regs → Regs × ℕ
@@ -116,13 +120,20 @@ writes op = is_writing (kind_of op)
     is_writing Changes = true
     is_writing _ = false
 
--- a row that acts on parts of the machine, the value of its operand being known or not
+-- whether all that is read for a part is known
+abbrev pub is_read_known : Op → Mode → Operand → Option ℕ → Note → Part → Bool
+is_read_known op mode operand v n part = is_some v && (is_constant op mode operand || are_known n (part_reads op mode part))
+
+-- the registers and flags that a row sets, the value of its operand being known or not
+abbrev pub with_results : Op → Mode → Operand → Option ℕ → Note → Note
+with_results op mode operand v n = set_parts (is_read_known op mode operand v n) (worked (kind_of op) op mode (unwrap_or v 0) (regs_of n)).0 (register_sets op mode) n
+
+-- the byte that it writes
+abbrev pub written_by : Op → Mode → Option ℕ → Note → Option ℕ
+written_by op mode v n = given (is_some v && are_known n (register_reads op mode)) (worked (kind_of op) op mode (unwrap_or v 0) (regs_of n)).1
+
 abbrev pub row_by : Op → Mode → Operand → Option ℕ → Note → Note
-row_by op mode operand v n =
-    let made = worked (kind_of op) op mode (unwrap_or v 0) (regs_of n) in
-    let knows = λ (part : Part). is_some v && (if is_constant op mode operand then true else are_known n (part_reads op mode part)) in
-    let set = set_parts knows made.0 (register_sets op mode) n in
-    if writes op then set_byte mode operand (given (is_some v && are_known n (register_reads op mode)) made.1) set else set
+row_by op mode operand v n = if writes op then set_byte mode operand (written_by op mode v n) (with_results op mode operand v n) else with_results op mode operand v n
 
 abbrev pub after_row : Op → Mode → Operand → Note → Note
 after_row op mode operand n = row_by op mode operand (taken_in (kind_of op) mode operand n) n

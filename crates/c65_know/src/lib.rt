@@ -2,5 +2,6 @@
 #![tactic(auto)]
 
 mod note;
+mod registers;
 
 pub use note::{Flag, Note, Tracked};
