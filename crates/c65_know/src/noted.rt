@@ -78,10 +78,12 @@ fn grow(alloc: Global, notes: &mut Vec<Note>, more: usize) -> Result<(), AllocEr
 }
 
 impl Noted {
-    /// The segment.
+    /// The segment, whose lines keep what a segment's lines keep, with what is known at them.
     pub fn seg(&self) -> &Seg
         ensures lines { result.now.lines ≡ self.now.lines }
         ensures out { result.now.out ≡ self.now.out }
+        ensures kept { IsSegment self.now.lines }
+        ensures noted { self.now.notes ≡ known_of self.now.lines }
     {
         &self.seg
     }
