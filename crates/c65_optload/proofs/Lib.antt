@@ -1,0 +1,3 @@
+mod Quiet
+mod Others
+pub mod Good

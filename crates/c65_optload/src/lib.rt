@@ -1,0 +1,2 @@
+//! The rules on loads, stores and transfers: those that change nothing, and those for which a shorter line stands.
+#![tactic(auto)]
