@@ -12,19 +12,30 @@ use Rattle.c65_code.specs.declared.line.Line.{Line}
 use Rattle.c65_code.specs.declared.line.Line.TheVariants.{Label, Do, Call}
 use Rattle.c65_code.specs.Segments.{target_of, targets_of, is_among, IsSegment}
 use Rattle.c65_know.specs.declared.note.Note.{Note}
+use Rattle.c65_know.specs.declared.ways.Flow.{Flow}
+use Rattle.c65_know.specs.declared.ways.Flow.TheVariants.{Ends, Splits, Goes}
 use Rattle.c65_know.specs.Notes.{nothing_known, meet}
 use Rattle.c65_know.specs.Rows.{after_row, after_call, tested_by, takes_at, branched_by, passed_by}
 
+-- whether the next line follows: after JMP and RTS it does not
+abbrev pub flow_by : Kind → Flow
+flow_by Branches = Splits
+flow_by _ = Goes
+
+abbrev pub flow_of : Op → Flow
+flow_of ops.Jmp = Ends
+flow_of ops.Rts = Ends
+flow_of op = flow_by (kind_of op)
+
 -- what is known on the way from a line to the next one; none where none leads there
-abbrev pub after_kind : Kind → Op → Mode → Operand → Note → Option Note
-after_kind Branches op mode operand n = passed_by (tested_by op) (takes_at op) n
-after_kind _ ops.Jmp mode operand n = None
-after_kind _ ops.Rts mode operand n = None
-after_kind _ op mode operand n = Some (after_row op mode operand n)
+abbrev pub after_flow : Flow → Op → Mode → Operand → Note → Option Note
+after_flow Splits op mode operand n = passed_by (tested_by op) (takes_at op) n
+after_flow Ends op mode operand n = None
+after_flow Goes op mode operand n = Some (after_row op mode operand n)
 
 abbrev pub after_line : Line → Note → Option Note
 after_line (Label l) n = Some n
-after_line (Do op mode operand) n = after_kind (kind_of op) op mode operand n
+after_line (Do op mode operand) n = after_flow (flow_of op) op mode operand n
 after_line (Call callee) n = Some (after_call callee n)
 
 -- what is known on the way from a line to a label that it refers to
@@ -45,6 +56,12 @@ abbrev pub all_ways : List Line → List Note → List Way
 all_ways [] notes = []
 all_ways (line ∷ lines) [] = []
 all_ways (line ∷ lines) (n ∷ notes) = ways_of line n ++ all_ways lines notes
+
+-- what is known on the way on from the last of some lines with these notes; before the first one, on this way
+abbrev pub way_after : Option Note → List Line → List Note → Option Note
+way_after way [] notes = way
+way_after way (line ∷ lines) [] = way
+way_after way (line ∷ lines) (n ∷ notes) = way_after (after_line line n) lines notes
 
 -- what all ways so far know, and another one
 abbrev pub joined : Option Note → Note → Note

@@ -2,6 +2,11 @@
 #![tactic(auto)]
 
 mod note;
+mod noted;
 mod registers;
+mod rows;
+mod ways;
 
 pub use note::{Flag, Note, Tracked};
+pub use noted::{Noted, annotate};
+pub use ways::update;
