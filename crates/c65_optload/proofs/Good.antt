@@ -13,7 +13,7 @@ use Rattle.c65_pass.specs.Rewriting.{Rewriting, Keeps}
 use Rattle.c65_pass.specs.Rules.{made_by, match_there, match_at}
 use Rattle.c65_pass.proofs.Replaced.{gone_keeps, first_keeps, second_keeps, other_keeps, both_keeps}
 use Rattle.c65_optload.proofs.Quiet.{idle_load_quiet, dead_load_quiet, dead_store_quiet, reload_quiet, restore_quiet, overwritten_quiet, dead_transfer_quiet, idle_transfer_quiet, back_quiet, idle_byte_load_quiet, idle_store_quiet}
-use Rattle.c65_optload.proofs.Others.{transferred_smaller, stepped_smaller, loaded_on_both}
+use Rattle.c65_optload.proofs.Shorter.{transferred_smaller, stepped_smaller, loaded_on_both}
 
 at_line : (rule : ℕ) (literals : List (Sym × List ℕ)) (noted : Annotated) (table : Table) (at : ℕ) (w : Rewriting)
     → ((line : Line) (post : List Line) → drop at noted.lines ≡ line ∷ post → made_by rule noted table at line post ≡ Some w → Keeps noted.lines w)

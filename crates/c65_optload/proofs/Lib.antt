@@ -1,3 +1,3 @@
 mod Quiet
-mod Others
+mod Shorter
 pub mod Good
