@@ -2,3 +2,4 @@ pub mod Ranks
 pub mod Chains
 pub mod Hops
 pub mod Windows
+pub mod Replaced

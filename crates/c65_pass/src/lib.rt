@@ -2,11 +2,13 @@
 #![tactic(auto)]
 
 mod labels;
+mod register;
 mod rewrite;
 mod run;
 
 pub use labels::{
     begins_with, branch_target, chain_end, hop, is_label, jump_target, retargeted, threaded,
 };
+pub use register::{loaded_by, stored_by, transfer_by, Register, Transfer};
 pub use rewrite::{Pass, Rewrite};
 pub use run::run_pass;

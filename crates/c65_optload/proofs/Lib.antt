@@ -1,0 +1,3 @@
+mod Quiet
+mod Shorter
+pub mod Good
