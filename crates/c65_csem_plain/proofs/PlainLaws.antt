@@ -172,9 +172,10 @@ module _ (names : List (List ℕ)) (u : UnitTy) where
   says_apart ns = record { yes = λ h. once_yes [] ns (record { once = λ i j x p q. cc }) h; only = λ s w. once_only [] ns w }
 
   says_plain : (main : ℕ) → Says (b.is_plain names u main) (IsPlain names u main)
-  says_plain main = like (both (four (says_objects u.objects) (says_literals u.literals) (says_starts names (slice_get u.funcs main)) (says_le (length u.objects + length u.literals + length u.funcs) (2 ^ 32))) (both (says_apart (all_own_objects u.funcs)) (says_funcs u.funcs)))
-      (λ h. record { objects = h.0.0; literals = h.0.1; start = h.0.2; few = h.0.3; apart = h.1.0; funcs = h.1.1 })
-      (λ w. ((w.objects, w.literals, w.start, w.few), (w.apart, w.funcs)))
+  says_plain main =
+      like (both (both (four (says_objects u.objects) (says_literals u.literals) (says_starts names (slice_get u.funcs main)) (says_le (length u.objects + length u.literals + length u.funcs) (2 ^ 32))) (says_apart (all_own_objects u.funcs))) (says_funcs u.funcs))
+      (λ h. record { objects = h.0.0.0; literals = h.0.0.1; start = h.0.0.2; few = h.0.0.3; apart = h.0.1; funcs = h.1 })
+      (λ w. (((w.objects, w.literals, w.start, w.few), w.apart), w.funcs))
 
   pub plain_yes : (main : ℕ) → b.is_plain names u main ≡ true → IsPlain names u main
   plain_yes main h = (says_plain main).yes h
