@@ -1,12 +1,13 @@
 -- The pass over lines, one line after another, and from a line in their midst.
-use Rattle.std.proofs.Common.{◌≡◌, ℕ, zero, suc, ◌+◌, ◌-◌, ◌<◌, ◌≤◌, ◌==◌, if◌then◌else◌, List, [], ◌∷◌, ◌++◌, length, take, drop, get_or, set, Option, Some, unwrap_or, refl, ap, sym, ◌∙◌, subst, arith, append_assoc, append-nil, length-append, length-drop, replicate}
-use Rattle.std.proofs.lemmas.List.{drop_more, take_more, take_more_set, length-take-le, take_all, take_rest, drop_all, take-append-drop, drop-drop, take-take, take-append-le, take_at, length-replicate}
+use Rattle.std.proofs.Common.{◌≡◌, ℕ, zero, suc, ◌+◌, ◌-◌, ◌<◌, ◌≤◌, ◌==◌, if◌then◌else◌, List, [], ◌∷◌, ◌++◌, length, take, drop, get_or, set, Option, Some, unwrap_or, refl, ap, sym, ◌∙◌, subst, arith, append_assoc, append-nil, length-append, length-drop}
+use Rattle.std.proofs.lemmas.List.{drop_more, take_more, take_more_set, length-take-le, take_all, take_rest, drop_all, take-append-drop, drop-drop, drop-take, take-take, drop-set-lt, take_at}
 use Rattle.c65_code.specs.declared.line.Line.{Line}
 use Rattle.c65_code.specs.declared.line.Line.TheVariants.{Label, Do, Call}
+use Rattle.c65_code.specs.declared.line.Operand.TheVariants.{Nothing, Byte, Low, High, Zero, At, To}
 use Rattle.c65_code.specs.Segments.{target_of, targets_of, is_among, replaced}
 use Rattle.c65_know.specs.declared.note.Note.{Note}
 use Rattle.c65_know.specs.Notes.{nothing_known}
-use Rattle.c65_know.specs.Known.{Way, after_line, ways_of, all_ways, way_after, joined, met, note_at, known_from, known_of}
+use Rattle.c65_know.specs.Known.{Way, after_line, ways_of, all_ways, way_after, joined, met, note_at, known_from, known_of, IsNotedTo, IsPassed}
 
 pub met_append : (l : ℕ) (ws vs : List Way) (way : Option Note) → met l way (ws ++ vs) ≡ met l (met l way ws) vs
 met_append l [] vs way = refl
@@ -34,13 +35,9 @@ all_push (l ∷ lines) [] line n e = absurd (omega arith)
 all_push (l ∷ lines) (m ∷ notes) line n e =
     ap (λ x. ways_of l m ++ x) (all_push lines notes line n (omega arith)) ∙ sym (append_assoc (ways_of l m) (all_ways lines notes) (ways_of line n))
 
--- the notes are right up to a line, and with what is known on the way there the pass goes on
-abbrev pub IsAt : List Line → List Note → Option Note → ℕ → Type 0
-IsAt lines notes way at = known_of lines ≡ take at notes ++ known_from way (all_ways (take at lines) (take at notes)) (drop at lines)
-
 pub pass_more : (lines : List Line) (notes : List Note) (way next : Option Note) (at : ℕ) (line : Line) (n : Note) → at < length lines → length lines ≡ length notes
     → n ≡ note_at way (all_ways (take at lines) (take at notes)) (get_or lines at line) (take (length lines - (at + 1)) (drop (at + 1) lines)) → next ≡ after_line (get_or lines at line) n
-    → IsAt lines notes way at → IsAt lines (set notes at n) next (at + 1)
+    → IsNotedTo lines notes way at → IsNotedTo lines (set notes at n) next (at + 1)
 pass_more lines notes way next at line n a b e' f h =
     let e : n ≡ note_at way (all_ways (take at lines) (take at notes)) (get_or lines at line) (drop (at + 1) lines) = e' ∙ ap (note_at way (all_ways (take at lines) (take at notes)) (get_or lines at line)) (take_rest lines (at + 1)) in
     let this : Line = get_or lines at line in
@@ -58,7 +55,7 @@ pass_more lines notes way next at line n a b e' f h =
     ∙ (ap (λ x. (old ++ n ∷ []) ++ known_from next x rest) (sym pushed)
     ∙ ap (λ x. x ++ known_from next (all_ways (take (at + 1) lines) x) rest) (sym now))))
 
-pub pass_end : (lines : List Line) (notes : List Note) (way : Option Note) (at : ℕ) → length lines ≤ at → length lines ≡ length notes → IsAt lines notes way at → notes ≡ known_of lines
+pub pass_end : (lines : List Line) (notes : List Note) (way : Option Note) (at : ℕ) → length lines ≤ at → length lines ≡ length notes → IsNotedTo lines notes way at → notes ≡ known_of lines
 pass_end lines notes way at a b h =
     sym (h ∙ (ap (λ x. take at notes ++ known_from way (all_ways (take at lines) (take at notes)) x) (drop_all at lines a)
     ∙ (append-nil (take at notes) ∙ take_all at notes (omega arith))))
@@ -68,7 +65,7 @@ known_length way ways [] = refl
 known_length way ways (line ∷ lines) = let n = note_at way ways line lines in ap suc (known_length (after_line line n) (ways ++ ways_of line n) lines)
 
 -- where the notes before a line are right, the pass stands there
-split : (p : ℕ) (lines : List Line) (way : Option Note) (ways : List Way)
+pub split : (p : ℕ) (lines : List Line) (way : Option Note) (ways : List Way)
     → known_from way ways lines ≡ take p (known_from way ways lines) ++ known_from (way_after way (take p lines) (take p (known_from way ways lines))) (ways ++ all_ways (take p lines) (take p (known_from way ways lines))) (drop p lines)
 split zero lines way ways = ap (λ x. known_from way x lines) (sym (append-nil ways))
 split (suc p) [] way ways = refl
@@ -80,7 +77,7 @@ split (suc p) (line ∷ lines) way ways =
     ap (λ x. n ∷ x) (split p lines next more
     ∙ ap (λ x. later ++ known_from (way_after next (take p lines) later) x (drop p lines)) (append_assoc ways (ways_of line n) (all_ways (take p lines) later)))
 
-pub pass_from : (lines : List Line) (notes : List Note) (way : Option Note) (from : ℕ) → take from notes ≡ take from (known_of lines) → way ≡ way_after (Some nothing_known) (take from lines) (take from notes) → IsAt lines notes way from
+pub pass_from : (lines : List Line) (notes : List Note) (way : Option Note) (from : ℕ) → take from notes ≡ take from (known_of lines) → way ≡ way_after (Some nothing_known) (take from lines) (take from notes) → IsNotedTo lines notes way from
 pass_from lines notes way from e f =
     split from lines (Some nothing_known) []
     ∙ (ap (λ x. x ++ known_from (way_after (Some nothing_known) (take from lines) x) (all_ways (take from lines) x) (drop from lines)) (sym e)
@@ -140,34 +137,115 @@ same_before_window lines new at count a e' f =
     let named : take at (known_of (pre ++ drop at lines)) ≡ take at (known_of (pre ++ (new ++ post))) = subst (λ (k : ℕ). take k (known_of (pre ++ drop at lines)) ≡ take k (known_of (pre ++ (new ++ post)))) len same in
     subst (λ (x : List Line). take at (known_of x) ≡ take at (known_of (pre ++ (new ++ post)))) (take-append-drop at lines) named
 
-replaced_length : (lines new : List Line) (at count : ℕ) → at + count ≤ length lines → length (replaced lines at count new) ≡ at + (length new + (length lines - (at + count)))
+pub replaced_length : (lines new : List Line) (at count : ℕ) → at + count ≤ length lines → length (replaced lines at count new) ≡ at + (length new + (length lines - (at + count)))
 replaced_length lines new at count a = grind (arith, length-append, length-take-le, length-drop)
 
--- the notes with room for more of them, and cut off at the end of the new lines
-room_length : (lines new : List Line) (notes : List Note) (at count n k : ℕ) → at + count ≤ length lines → notes ≡ known_of lines → k ≡ length new - count → n ≡ length (replaced lines at count new)
-    → n ≤ length (notes ++ replicate k nothing_known)
-room_length lines new notes at count n k a e f g =
-    let l : length (notes ++ replicate k nothing_known) ≡ length notes + length (replicate k nothing_known) = length-append notes (replicate k nothing_known) in
-    let r : length (replicate k nothing_known) ≡ k = length-replicate k nothing_known in
-    let m : length notes ≡ length lines = ap length e ∙ known_length (Some nothing_known) [] lines in
-    let s : length (replaced lines at count new) ≡ at + (length new + (length lines - (at + count))) = replaced_length lines new at count a in
-    omega arith
+-- where the pass stands at a line, the notes before it are right
+pub right_before : (lines : List Line) (notes : List Note) (way : Option Note) (at : ℕ) → at ≤ length notes → IsNotedTo lines notes way at → take at notes ≡ take at (known_of lines)
+right_before lines notes way at a h =
+    sym (ap (take at) h ∙ take_at (take at notes) (known_from way (all_ways (take at lines) (take at notes)) (drop at lines)) at (length-take-le at notes a))
 
-pub cut_length : (lines new now : List Line) (notes more shown : List Note) (at count n k : ℕ) → at + count ≤ length lines → notes ≡ known_of lines → k ≡ length new - count → n ≡ length now
-    → now ≡ replaced lines at count new → more ≡ notes ++ replicate k nothing_known → shown ≡ take n more → length shown ≡ length now
-cut_length lines new now notes more shown at count n k a e f g h i j =
-    ap length (j ∙ ap (take n) i) ∙ (length-take-le n (notes ++ replicate k nothing_known) (room_length lines new notes at count n k a e f (g ∙ ap length h)) ∙ g)
+no_way : (line : Line) (n : Note) → target_of line ≡ [] → ways_of line n ≡ []
+no_way (Label l) n e = refl
+no_way (Do op mode (To l)) n e = let k : length (l ∷ []) ≡ 0 = ap length e in absurd (omega arith)
+no_way (Do op mode Nothing) n e = refl
+no_way (Do op mode (Byte v)) n e = refl
+no_way (Do op mode (Low s o)) n e = refl
+no_way (Do op mode (High s o)) n e = refl
+no_way (Do op mode (Zero i)) n e = refl
+no_way (Do op mode (At s o)) n e = refl
+no_way (Call callee) n e = refl
 
-pub cut_before : (lines new now : List Line) (notes more shown : List Note) (at count from n k : ℕ) → at + count ≤ length lines → from ≤ at → notes ≡ known_of lines → n ≡ length now
-    → now ≡ replaced lines at count new → more ≡ notes ++ replicate k nothing_known → shown ≡ take n more → take from (known_of lines) ≡ take from (known_of (replaced lines at count new))
-    → take from shown ≡ take from (known_of now)
-cut_before lines new now notes more shown at count from n k a b e g h i j same =
-    let m : length notes ≡ length lines = ap length e ∙ known_length (Some nothing_known) [] lines in
-    let s : length (replaced lines at count new) ≡ at + (length new + (length lines - (at + count))) = replaced_length lines new at count a in
-    let t : length now ≡ length (replaced lines at count new) = ap length h in
-    ap (take from) (j ∙ ap (take n) i) ∙ (take-take from n (notes ++ replicate k nothing_known) (omega arith)
-    ∙ (take-append-le from notes (replicate k nothing_known) (omega arith) ∙ (ap (take from) e ∙ (same ∙ ap (λ x. take from (known_of x)) (sym h)))))
+-- one line on, where the notes from there on are those of another pass
+passed_step : (lines : List Line) (notes : List Note) (ways : List Way) (way : Option Note) (at : ℕ) (line : Line) (m : Note) → at < length lines → at < length notes
+    → drop at notes ≡ known_from way ways (drop at lines)
+    → get_or notes at m ∷ drop (at + 1) notes ≡ known_from way ways (get_or lines at line ∷ drop (at + 1) lines)
+passed_step lines notes ways way at line m a b e = sym (drop_more notes at m b) ∙ (e ∙ ap (known_from way ways) (drop_more lines at line a))
 
--- at a refusal: what was added is cut off again
-pub cut_back : (notes more shown : List Note) (n k : ℕ) → n ≡ length notes → more ≡ notes ++ replicate k nothing_known → shown ≡ take n more → shown ≡ notes
-cut_back notes more shown n k e f g = g ∙ (ap (take n) f ∙ take_at notes (replicate k nothing_known) n (sym e))
+-- the first note that stands: so do all behind it
+pub all_stand : (lines : List Line) (notes : List Note) (way : Option Note) (at : ℕ) (line : Line) (m n : Note) → at < length lines → length lines ≡ length notes
+    → n ≡ note_at way (all_ways (take at lines) (take at notes)) (get_or lines at line) (take (length lines - (at + 1)) (drop (at + 1) lines)) → n ≡ get_or notes at m
+    → IsNotedTo lines notes way at → IsPassed lines notes (all_ways (take at lines) (take at notes)) at → notes ≡ known_of lines
+all_stand lines notes way at line m n a b e' s h p =
+    let this : Line = get_or lines at line in
+    let rest : List Line = drop (at + 1) lines in
+    let ways : List Way = all_ways (take at lines) (take at notes) in
+    let c : at < length notes = omega arith in
+    let e : n ≡ note_at way ways this rest = e' ∙ ap (note_at way ways this) (take_rest lines (at + 1)) in
+    let old : Note = note_at p.0 ways this rest in
+    let whole : get_or notes at m ∷ drop (at + 1) notes ≡ old ∷ known_from (after_line this old) (ways ++ ways_of this old) rest = passed_step lines notes ways p.0 at line m a c p.1 in
+    let head : get_or notes at m ≡ old = ap (λ x. get_or x 0 m) whole in
+    let same : note_at way ways this rest ≡ old = sym e ∙ (s ∙ head) in
+    let tail : known_from way ways (drop at lines) ≡ drop at notes =
+    ap (known_from way ways) (drop_more lines at line a) ∙ (ap (λ x. x ∷ known_from (after_line this x) (ways ++ ways_of this x) rest) same
+    ∙ (sym whole ∙ sym (drop_more notes at m c))) in
+    sym (h ∙ (ap (λ x. take at notes ++ x) tail ∙ take-append-drop at notes))
+
+ways_pushed : (lines : List Line) (notes : List Note) (at : ℕ) (line : Line) (n : Note) → at < length lines → length lines ≡ length notes
+    → all_ways (take (at + 1) lines) (take (at + 1) (set notes at n)) ≡ all_ways (take at lines) (take at notes) ++ ways_of (get_or lines at line) n
+ways_pushed lines notes at line n a b =
+    ap (all_ways (take (at + 1) lines)) (take_more_set notes at n (omega arith))
+    ∙ (ap (λ x. all_ways x (take at notes ++ n ∷ [])) (take_more lines at line a)
+    ∙ all_push (take at lines) (take at notes) (get_or lines at line) n (length-take-le at lines (omega arith) ∙ sym (length-take-le at notes (omega arith))))
+
+-- a line that refers to no label leaves the ways to labels as they are
+pub passed_more : (lines : List Line) (notes : List Note) (at : ℕ) (line : Line) (m n : Note) → at < length lines → length lines ≡ length notes → target_of (get_or lines at line) ≡ []
+    → IsPassed lines notes (all_ways (take at lines) (take at notes)) at
+    → IsPassed lines (set notes at n) (all_ways (take (at + 1) lines) (take (at + 1) (set notes at n))) (at + 1)
+passed_more lines notes at line m n a b t p =
+    let this : Line = get_or lines at line in
+    let rest : List Line = drop (at + 1) lines in
+    let ways : List Way = all_ways (take at lines) (take at notes) in
+    let old : Note = note_at p.0 ways this rest in
+    let whole : get_or notes at m ∷ drop (at + 1) notes ≡ old ∷ known_from (after_line this old) (ways ++ ways_of this old) rest = passed_step lines notes ways p.0 at line m a (omega arith) p.1 in
+    let tail : drop (at + 1) notes ≡ known_from (after_line this old) (ways ++ ways_of this old) rest = ap (drop (suc zero)) whole in
+    let both : ways ++ ways_of this old ≡ all_ways (take (at + 1) lines) (take (at + 1) (set notes at n)) =
+    ap (λ x. ways ++ x) (no_way this old t ∙ sym (no_way this n t)) ∙ sym (ways_pushed lines notes at line n a b) in
+    (after_line this old, drop-set-lt (at + 1) notes at n (omega arith) ∙ (tail ∙ ap (λ x. known_from (after_line this old) x rest) both))
+
+all_append : (a b : List Line) (m n : List Note) → length a ≡ length m → all_ways (a ++ b) (m ++ n) ≡ all_ways a m ++ all_ways b n
+all_append [] b [] n e = refl
+all_append [] b (x ∷ m) n e = absurd (omega arith)
+all_append (line ∷ a) b [] n e = absurd (omega arith)
+all_append (line ∷ a) b (x ∷ m) n e =
+    ap (λ ws. ways_of line x ++ ws) (all_append a b m n (omega arith)) ∙ sym (append_assoc (ways_of line x) (all_ways a m) (all_ways b n))
+
+empty : {A : Type 0} → (xs : List A) → length xs ≡ 0 → xs ≡ []
+empty [] e = refl
+empty (x ∷ xs) e = absurd (omega arith)
+
+targets_empty : (line : Line) (lines : List Line) → target_of line ++ targets_of lines ≡ [] → target_of line ≡ []
+targets_empty line lines e = empty (target_of line) (let k : length (target_of line) + length (targets_of lines) ≡ 0 = sym (length-append (target_of line) (targets_of lines)) ∙ ap length e in omega arith)
+
+rest_empty : (line : Line) (lines : List Line) → target_of line ++ targets_of lines ≡ [] → targets_of lines ≡ []
+rest_empty line lines e = empty (targets_of lines) (let k : length (target_of line) + length (targets_of lines) ≡ 0 = sym (length-append (target_of line) (targets_of lines)) ∙ ap length e in omega arith)
+
+no_ways : (lines : List Line) (notes : List Note) → targets_of lines ≡ [] → all_ways lines notes ≡ []
+no_ways [] notes e = refl
+no_ways (line ∷ lines) [] e = refl
+no_ways (line ∷ lines) (n ∷ notes) e =
+    ap (λ x. x ++ all_ways lines notes) (no_way line n (targets_empty line lines e)) ∙ no_ways lines notes (rest_empty line lines e)
+
+take_split : {A : Type 0} → (xs : List A) (from to : ℕ) → from ≤ to → take to xs ≡ take from xs ++ take (to - from) (drop from xs)
+take_split xs from to a =
+    let m : to ≡ from + (to - from) = omega arith in
+    let d : drop from (take to xs) ≡ take (to - from) (drop from xs) = ap (λ k. drop from (take k xs)) m ∙ drop-take from (to - from) xs in
+    sym (take-append-drop from (take to xs)) ∙ (ap (λ x. x ++ drop from (take to xs)) (take-take from to xs a) ∙ ap (λ x. take from xs ++ x) d)
+
+-- lines that refer to no label add no ways
+pub straight_ways : (lines : List Line) (notes : List Note) (from to : ℕ) → from ≤ to → to ≤ length lines → length lines ≡ length notes → targets_of (take (to - from) (drop from lines)) ≡ []
+    → all_ways (take to lines) (take to notes) ≡ all_ways (take from lines) (take from notes)
+straight_ways lines notes from to a b l e =
+    ap (λ x. all_ways x (take to notes)) (take_split lines from to a)
+    ∙ (ap (all_ways (take from lines ++ take (to - from) (drop from lines))) (take_split notes from to a)
+    ∙ (all_append (take from lines) (take (to - from) (drop from lines)) (take from notes) (take (to - from) (drop from notes)) (length-take-le from lines (omega arith) ∙ sym (length-take-le from notes (omega arith)))
+    ∙ (ap (λ x. all_ways (take from lines) (take from notes) ++ x) (no_ways (take (to - from) (drop from lines)) (take (to - from) (drop from notes)) e)
+    ∙ append-nil (all_ways (take from lines) (take from notes)))))
+
+-- the same behind such lines, once their notes are made
+pub passed_straight : (lines : List Line) (notes now : List Note) (from to : ℕ) → from ≤ to → to ≤ length lines → length lines ≡ length now → targets_of (take (to - from) (drop from lines)) ≡ []
+    → take from now ≡ take from notes → drop to now ≡ drop to notes → IsPassed lines notes (all_ways (take from lines) (take from notes)) to
+    → IsPassed lines now (all_ways (take to lines) (take to now)) to
+passed_straight lines notes now from to a b l e f d p =
+    let both : all_ways (take to lines) (take to now) ≡ all_ways (take from lines) (take from notes) = straight_ways lines now from to a b l e ∙ ap (all_ways (take from lines)) f in
+    (p.0, d ∙ (p.1 ∙ ap (λ x. known_from p.0 x (drop to lines)) (sym both)))

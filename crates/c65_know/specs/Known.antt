@@ -1,6 +1,6 @@
 -- What is known at each line of a function, at its beginning: one pass over the lines, with what is known on the way to the next
 -- line, and on the ways to labels so far.
-use Rattle.std.specs.Prelude.{◌≡◌, ℕ, ◌==◌, if◌then◌else◌, List, [], ◌∷◌, ◌++◌, Option, Some, None, map, unwrap_or}
+use Rattle.std.specs.Prelude.{◌≡◌, ℕ, ◌==◌, if◌then◌else◌, List, [], ◌∷◌, ◌++◌, Option, Some, None, unwrap_or, take, drop}
 use Rattle.c65_mach.specs.declared.rows.Op.{Op}
 use Rattle.c65_mach.specs.declared.rows.Op.TheVariants as ops
 use Rattle.c65_mach.specs.declared.rows.Mode.{Mode}
@@ -10,7 +10,7 @@ use Rattle.c65_code.specs.declared.line.Operand.{Operand}
 use Rattle.c65_code.specs.declared.line.Operand.TheVariants.{To}
 use Rattle.c65_code.specs.declared.line.Line.{Line}
 use Rattle.c65_code.specs.declared.line.Line.TheVariants.{Label, Do, Call}
-use Rattle.c65_code.specs.Segments.{target_of, targets_of, is_among, IsSegment}
+use Rattle.c65_code.specs.Segments.{targets_of, is_among}
 use Rattle.c65_know.specs.declared.note.Note.{Note}
 use Rattle.c65_know.specs.declared.ways.Flow.{Flow}
 use Rattle.c65_know.specs.declared.ways.Flow.TheVariants.{Ends, Splits, Goes}
@@ -85,6 +85,14 @@ known_from way ways (line ∷ later) = let n = note_at way ways line later in n 
 -- before the first line nothing is known
 abbrev pub known_of : List Line → List Note
 known_of lines = known_from (Some nothing_known) [] lines
+
+-- the notes are right up to a line, and this is known on the way there
+abbrev pub IsNotedTo : List Line → List Note → Option Note → ℕ → Type 0
+IsNotedTo lines notes way at = known_of lines ≡ take at notes ++ known_from way (all_ways (take at lines) (take at notes)) (drop at lines)
+
+-- from a line on the notes are those of a pass that came there on some way, with these ways to labels
+abbrev pub IsPassed : List Line → List Note → List Way → ℕ → Type 0
+IsPassed lines notes ways at = (way : Option Note) × (drop at notes ≡ known_from way ways (drop at lines))
 
 -- what a segment with its notes is seen as
 pub record Annotated : Type 0 where

@@ -7,7 +7,7 @@ use Rattle.c65_mach.specs.declared.rows.Op.TheVariants as ops
 use Rattle.c65_mach.specs.declared.rows.Mode.{Mode}
 use Rattle.c65_mach.specs.declared.rows.Mode.TheVariants.{Accumulator, Immediate, ZeroPage, ZeroPageX, ZeroPageY}
 use Rattle.c65_mach.specs.State.{Regs}
-use Rattle.c65_mach.specs.Step.{signed, with_a, apply, stored, changed, is_taken, is_not, Kind, Reads, Stores, Changes, Branches, Registers, Moves, kind_of}
+use Rattle.c65_mach.specs.Step.{signed, with_a, apply, stored, changed, is_taken, is_not, Kind, Reads, Stores, Changes, Registers, Moves, kind_of}
 use Rattle.c65_code.specs.declared.parts.Part.{Part}
 use Rattle.c65_code.specs.declared.parts.Part.TheVariants as parts
 use Rattle.c65_code.specs.declared.line.Operand.{Operand}

@@ -1,5 +1,5 @@
 // What is known of the tracked registers, bytes and flags.
-ghost use Rattle.std.specs.Prelude.{◌≡◌};
+ghost use Rattle.std.specs.Prelude.{◌≡◌, true};
 ghost use Rattle.c65_code.specs.Parts.{IsPart};
 ghost use Rattle.c65_know.specs.Notes.{known_byte, known_flag, bytes_of, flags_of, nothing_known, zero_byte, with_zero_byte, without_zero_page, with_flag, agreed, agreed_flag, meet, unless, forgetting};
 
@@ -64,6 +64,26 @@ fn agreed_flag(one: Option<bool>, other: Option<bool>) -> Option<bool>
     match (one, other) {
         (Some(value), Some(same)) if value == same => Some(value),
         _ => None,
+    }
+}
+
+fn is_same_byte(one: Option<u8>, other: Option<u8>) -> bool
+    ensures { result ≡ true → one ≡ other }
+{
+    match (one, other) {
+        (Some(value), Some(same)) => value == same,
+        (None, None) => true,
+        _ => false,
+    }
+}
+
+fn is_same_flag(one: Option<bool>, other: Option<bool>) -> bool
+    ensures { result ≡ true → one ≡ other }
+{
+    match (one, other) {
+        (Some(value), Some(same)) => value == same,
+        (None, None) => true,
+        _ => false,
     }
 }
 
@@ -208,6 +228,48 @@ impl Note {
                 ..self
             },
         }
+    }
+
+    fn has_same_registers(&self, other: &Note) -> bool
+        ensures { result ≡ true → (self.now.a ≡ other.now.a) × (self.now.x ≡ other.now.x) × (self.now.y ≡ other.now.y) }
+    {
+        is_same_byte(self.a, other.a)
+            && is_same_byte(self.x, other.x)
+            && is_same_byte(self.y, other.y)
+    }
+
+    fn has_same_bytes(&self, other: &Note) -> bool
+        ensures { result ≡ true → (self.now.s0 ≡ other.now.s0) × (self.now.s1 ≡ other.now.s1) × (self.now.p0 ≡ other.now.p0) × (self.now.p1 ≡ other.now.p1) × (self.now.t1 ≡ other.now.t1) }
+    {
+        is_same_byte(self.s0, other.s0)
+            && is_same_byte(self.s1, other.s1)
+            && is_same_byte(self.p0, other.p0)
+            && is_same_byte(self.p1, other.p1)
+            && is_same_byte(self.t1, other.t1)
+    }
+
+    fn has_same_flags(&self, other: &Note) -> bool
+        ensures { result ≡ true → (self.now.n ≡ other.now.n) × (self.now.v ≡ other.now.v) × (self.now.z ≡ other.now.z) × (self.now.c ≡ other.now.c) }
+    {
+        is_same_flag(self.n, other.n)
+            && is_same_flag(self.v, other.v)
+            && is_same_flag(self.z, other.z)
+            && is_same_flag(self.c, other.c)
+    }
+
+    /// Whether the notes are the same.
+    pub(crate) fn is_same(&self, other: &Note) -> bool
+        ensures { result ≡ true → self.now ≡ other.now }
+    {
+        let registers = self.has_same_registers(other);
+        let bytes = self.has_same_bytes(other);
+        let flags = self.has_same_flags(other);
+        if registers {
+            if bytes {
+                return flags;
+            }
+        }
+        false
     }
 
     /// What both notes know.

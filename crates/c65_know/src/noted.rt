@@ -1,14 +1,14 @@
 // A segment with what is known at each of its lines.
-ghost use Rattle.std.specs.Prelude.{◌≡◌, ◌+◌, ◌-◌, ◌<◌, ◌≤◌, ◌++◌, [], false, length, take, replicate, slice_get, option_map, OnOk, OnErr, IfOk, IfErr};
+ghost use Rattle.std.specs.Prelude.{◌≡◌, ◌+◌, ◌≤◌, ◌++◌, length, take, drop, replicate, slice_get, option_map, OnOk, OnErr, IfOk, IfErr};
 ghost use Rattle.c65_base.specs.declared.refusal.Refusal.TheVariants.{OutOfMemory};
-ghost use Rattle.c65_code.specs.Segments.{IsSegment, replaced, targets_of};
+ghost use Rattle.c65_code.specs.Segments.{IsSegment, replaced};
 ghost use Rattle.c65_know.specs.Notes.{nothing_known, holds_of};
 ghost use Rattle.c65_know.specs.Known.{known_of, annotated};
 
 use crate::note::Note;
-use crate::ways::update;
+use crate::ways::{are_straight, renew_straight, update};
 use c65_base::Refusal;
-use c65_code::{Line, Operand, Seg};
+use c65_code::{Line, Seg};
 use c65_mach::Machine;
 use std::alloc::{AllocError, Global};
 use std::marker::Model;
@@ -43,38 +43,23 @@ pub fn annotate(alloc: Global, seg: Seg) -> Result<Noted, Refusal>
     Ok(Noted { alloc, seg, notes })
 }
 
-fn has_targets(lines: &[Line]) -> bool
-    ensures { result ≡ false → targets_of lines.now ≡ [] }
+// The notes with others in place of some, which are still to be made.
+fn with_gap(
+    alloc: Global,
+    notes: &[Note],
+    at: usize,
+    count: usize,
+    new: usize,
+) -> Result<Vec<Note>, AllocError>
+    requires { at + count ≤ length notes.now }
+    ensures { IfOk result (λ gap. gap.items ≡ take at notes.now ++ (replicate new nothing_known ++ drop (at + count) notes.now)) }
 {
-    for line in lines {
-        if let Line::Do(_, _, Operand::To(_)) = line {
-            return true;
-        }
-    }
-    false
-}
-
-// A line up to which other lines in place of some leave the notes as they are.
-fn first_changed(lines: &[Line], at: usize, count: usize, new: &[Line]) -> usize
-    requires { at + count ≤ length lines.now }
-    ensures place { result ≤ at }
-    ensures same { take result (known_of lines.now) ≡ take result (known_of (replaced lines.now at count new.now)) }
-{
-    if has_targets(&lines[at..at + count]) {
-        return 0;
-    }
-    if has_targets(new) {
-        return 0;
-    }
-    at
-}
-
-fn grow(alloc: Global, notes: &mut Vec<Note>, more: usize) -> Result<(), AllocError>
-    ensures ok { OnOk result (notes.new.items ≡ notes.old.items ++ replicate more nothing_known) }
-    ensures err { OnErr result (notes.new.items ≡ notes.old.items) }
-{
-    let rest = vec![in alloc; Note::nothing(); more]?;
-    notes.extend_from_slice(&rest)
+    let fill = vec![in alloc; Note::nothing(); new]?;
+    let mut gap = Vec::new(alloc);
+    gap.extend_from_slice(&notes[..at])?;
+    gap.extend_from_slice(&fill)?;
+    gap.extend_from_slice(&notes[at + count..])?;
+    Ok(gap)
 }
 
 impl Noted {
@@ -113,19 +98,18 @@ impl Noted {
         ensures err { OnErr result (self.new ≡ self.old) }
         ensures refused { IfErr result (λ refusal. refusal ≡ OutOfMemory) }
     {
-        let from = first_changed(self.seg.lines(), at, count, lines);
-        let length = self.notes.len();
-        grow(
-            self.alloc,
-            &mut self.notes,
-            lines.len().saturating_sub(count),
-        )?;
-        if let Err(refusal) = self.seg.replace(at, count, lines) {
-            self.notes.truncate(length);
-            return Err(refusal);
+        let old = self.seg.lines();
+        let straight = are_straight(&old[at..at + count], lines);
+        let rest = old.len() - (at + count);
+        let mut notes = with_gap(self.alloc, &self.notes, at, count, lines.len())?;
+        self.seg.replace(at, count, lines)?;
+        let now = self.seg.lines();
+        if straight {
+            renew_straight(now, &mut notes, at, now.len() - rest);
+        } else {
+            update(&self.seg, &mut notes, 0);
         }
-        self.notes.truncate(self.seg.lines().len());
-        update(&self.seg, &mut self.notes, from);
+        self.notes = notes;
         Ok(())
     }
 

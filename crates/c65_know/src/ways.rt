@@ -1,8 +1,8 @@
 // What is known at each line: the ways on which a line comes, and the pass over the lines.
-ghost use Rattle.std.specs.Prelude.{◌≡◌, ◌+◌, ◌<◌, ◌≤◌, Some, length, take, drop};
-ghost use Rattle.c65_code.specs.Segments.{is_among, targets_of};
+ghost use Rattle.std.specs.Prelude.{◌≡◌, ◌-◌, ◌≤◌, [], false, true, Some, length, take, drop};
+ghost use Rattle.c65_code.specs.Segments.{is_among, target_of, targets_of};
 ghost use Rattle.c65_know.specs.Notes.{nothing_known};
-ghost use Rattle.c65_know.specs.Known.{flow_of, after_flow, after_line, ways_of, all_ways, way_after, met, joined, note_at, known_of};
+ghost use Rattle.c65_know.specs.Known.{flow_of, after_flow, after_line, ways_of, all_ways, way_after, met, joined, note_at, known_of, IsNotedTo, IsPassed};
 
 use crate::note::Note;
 use crate::rows::{after_call, after_row, leap, passed};
@@ -126,14 +126,18 @@ fn way_to(lines: &[Line], notes: &[Note], at: usize) -> Option<Note>
     after_line(&lines[at - 1], notes[at - 1])
 }
 
-fn renew(lines: &[Line], notes: &mut [Note], from: usize)
-    requires place { from ≤ length lines.now }
+// Makes the notes from one line up to another right, and answers what is known on the way on.
+fn renew_to(lines: &[Line], notes: &mut [Note], from: usize, to: usize) -> Option<Note>
+    requires order { from ≤ to }
+    requires place { to ≤ length lines.now }
     requires lengths { length lines.now ≡ length notes.old }
     requires before { take from notes.old ≡ take from (known_of lines.now) }
-    ensures { notes.new ≡ known_of lines.now }
+    ensures right { IsNotedTo lines.now notes.new result to }
+    ensures first { take from notes.new ≡ take from notes.old }
+    ensures rest { drop to notes.new ≡ drop to notes.old }
 {
     let mut way = way_to(lines, notes, from);
-    for at in from..lines.len() {
+    for at in from..to {
         let note = note_at(
             way,
             &lines[..at],
@@ -144,6 +148,90 @@ fn renew(lines: &[Line], notes: &mut [Note], from: usize)
         notes[at] = note;
         way = after_line(&lines[at], note);
     }
+    way
+}
+
+fn renew(lines: &[Line], notes: &mut [Note], from: usize)
+    requires place { from ≤ length lines.now }
+    requires lengths { length lines.now ≡ length notes.old }
+    requires before { take from notes.old ≡ take from (known_of lines.now) }
+    ensures { notes.new ≡ known_of lines.now }
+{
+    let end = lines.len();
+    let _ = renew_to(lines, notes, from, end);
+}
+
+fn refers(line: &Line) -> bool
+    ensures { result ≡ false → target_of line.now ≡ [] }
+{
+    matches!(line, Line::Do(_, _, Operand::To(_)))
+}
+
+// Whether some lines refer to no label.
+fn is_straight(lines: &[Line]) -> bool
+    ensures { result ≡ true → targets_of lines.now ≡ [] }
+{
+    for line in lines {
+        if refers(line) {
+            return false;
+        }
+    }
+    true
+}
+
+/// Whether neither of some lines refer to a label.
+pub(crate) fn are_straight(some: &[Line], others: &[Line]) -> bool
+    ensures { result ≡ true → (targets_of some.now ≡ []) × (targets_of others.now ≡ []) }
+{
+    if !is_straight(some) {
+        return false;
+    }
+    is_straight(others)
+}
+
+// Makes the notes from a line on right, which are those of a pass that came there with the same ways to labels: from the
+// first one that stands on, all do.
+fn settle(lines: &[Line], notes: &mut [Note], way: Option<Note>, from: usize)
+    requires place { from ≤ length lines.now }
+    requires lengths { length lines.now ≡ length notes.old }
+    requires right { IsNotedTo lines.now notes.old way from }
+    requires passed { IsPassed lines.now notes.old (all_ways (take from lines.now) (take from notes.old)) from }
+    ensures { notes.new ≡ known_of lines.now }
+{
+    let mut way = way;
+    for at in from..lines.len() {
+        let note = note_at(
+            way,
+            &lines[..at],
+            &notes[..at],
+            &lines[at],
+            &lines[at + 1..],
+        );
+        if note.is_same(&notes[at]) {
+            return;
+        }
+        if refers(&lines[at]) {
+            renew(lines, notes, at);
+            return;
+        }
+        notes[at] = note;
+        way = after_line(&lines[at], note);
+    }
+}
+
+/// Makes the notes from one line on right where no line from there up to another refers to a label, and those behind are
+/// those of a pass that had the same ways to labels.
+pub(crate) fn renew_straight(lines: &[Line], notes: &mut [Note], from: usize, to: usize)
+    requires order { from ≤ to }
+    requires place { to ≤ length lines.now }
+    requires lengths { length lines.now ≡ length notes.old }
+    requires before { take from notes.old ≡ take from (known_of lines.now) }
+    requires straight { targets_of (take (to - from) (drop from lines.now)) ≡ [] }
+    requires passed { IsPassed lines.now notes.old (all_ways (take from lines.now) (take from notes.old)) to }
+    ensures { notes.new ≡ known_of lines.now }
+{
+    let way = renew_to(lines, notes, from, to);
+    settle(lines, notes, way, to);
 }
 
 /// Makes the notes of a segment right from a line on, where they are right before it.

@@ -1,4 +1,3 @@
-use Rattle.std.proofs.Common.{sym, ◌∙◌, arith, rules, ◌≤◌, length}
 use Rattle.c65_know.proofs.Passes.{all_right}
 use Rattle.c65_know.proofs.ways.update.Goals as goal
 

@@ -1,19 +1,27 @@
-use Rattle.std.proofs.Common.{◌≡◌, ◌+◌, ◌≤◌, List, length, take, ap, subst, ◌∙◌, arith}
-use Rattle.c65_code.specs.declared.line.Line.{Line}
-use Rattle.c65_code.specs.Segments.{replaced}
-use Rattle.c65_know.specs.Known.{known_of}
-use Rattle.c65_know.proofs.Passes.{cut_length, cut_before}
+use Rattle.std.proofs.Common.{[], Some, length, ap, sym, ◌∙◌, arith}
+use Rattle.c65_know.specs.Notes.{nothing_known}
+use Rattle.c65_know.proofs.Passes.{known_length}
+use Rattle.c65_know.proofs.Gaps.{gap_of, gap_order, gap_place, gap_lengths, gap_before, gap_straight, gap_passed}
 use Rattle.c65_know.proofs.noted.Noted.replace.Goals as goal
+
+pub with_gap-requires : goal.with_gap-requires
+with_gap-requires c = omega (arith, c.requires.place, ap (λ s. length s.lines) c.self.view_is, ap length c.deref.ensures.value, ap length c.self.invariant.1, known_length (Some nothing_known) [] c.self.inside.seg.lines)
+
+pub renew_straight-requires : goal.renew_straight-requires
+renew_straight-requires c =
+    let g = (gap_of c.self.inside.seg.lines c.lines-old.result.now c.args.lines.now c.lines-now.result.now c.replace.new.self.lines c.self.inside.notes.items c.deref.result.now c.in_ok-notes.notes.items c.deref_mut.result.now c.args.at c.args.count
+    (omega (arith, c.requires.place, ap (λ s. length s.lines) c.self.view_is)) c.lines-old.ensures.lines c.lines-now.ensures.lines (ap (λ s. s.lines) c.in_ok-replace.ensures.ok) c.deref.ensures.value c.self.invariant.1 c.in_ok-notes.ensures c.deref_mut.ensures.value) in
+    record {
+      order = gap_order _ _ _ _ _ _ _ _ g;
+      place = gap_place _ _ _ _ _ _ _ _ g;
+      lengths = gap_lengths _ _ _ _ _ _ _ _ g;
+      before = gap_before _ _ _ _ _ _ _ _ g (c.are_straight-straight.ensures c.if-straight.true).0 (c.are_straight-straight.ensures c.if-straight.true).1;
+      straight = gap_straight _ _ _ _ _ _ _ _ g (c.are_straight-straight.ensures c.if-straight.true).1;
+      passed = gap_passed _ _ _ _ _ _ _ _ g (c.are_straight-straight.ensures c.if-straight.true).0;
+    }
 
 pub update-requires-clause-lengths : goal.update-requires-clause-lengths
 update-requires-clause-lengths c =
-    let fits : c.args.at + c.args.count ≤ length c.self.inside.seg.lines = omega (arith, c.requires.place, ap (λ s. length s.lines) c.self.view_is) in
-    cut_length c.self.inside.seg.lines c.args.lines.now c.replace.new.self.lines c.self.inside.notes.items c.grow.new.notes.items c.deref_mut.result.now c.args.at c.args.count (length c.lines-2.result.now) c.saturating_sub.result
-    fits c.self.invariant.1 c.saturating_sub.ensures (ap length c.lines-2.ensures.lines) (ap (λ s. s.lines) c.in_default.ensures.ok) c.in_ok-grow.ensures.ok (c.deref_mut.ensures.value ∙ c.truncate-2.ensures.items)
-
-pub update-requires-clause-before : goal.update-requires-clause-before
-update-requires-clause-before c =
-    let fits : c.args.at + c.args.count ≤ length c.self.inside.seg.lines = omega (arith, c.requires.place, ap (λ s. length s.lines) c.self.view_is) in
-    cut_before c.self.inside.seg.lines c.args.lines.now c.replace.new.self.lines c.self.inside.notes.items c.grow.new.notes.items c.deref_mut.result.now c.args.at c.args.count c.first_changed-from.result (length c.lines-2.result.now) c.saturating_sub.result
-    fits c.first_changed-from.ensures.place c.self.invariant.1 (ap length c.lines-2.ensures.lines) (ap (λ s. s.lines) c.in_default.ensures.ok) c.in_ok-grow.ensures.ok (c.deref_mut.ensures.value ∙ c.truncate-2.ensures.items)
-    (subst (λ (x : List Line). take c.first_changed-from.result (known_of x) ≡ take c.first_changed-from.result (known_of (replaced x c.args.at c.args.count c.args.lines.now))) c.lines.ensures.lines c.first_changed-from.ensures.same)
+    let g = (gap_of c.self.inside.seg.lines c.lines-old.result.now c.args.lines.now c.lines-now.result.now c.replace.new.self.lines c.self.inside.notes.items c.deref.result.now c.in_ok-notes.notes.items c.deref_mut-else-straight.result.now c.args.at c.args.count
+    (omega (arith, c.requires.place, ap (λ s. length s.lines) c.self.view_is)) c.lines-old.ensures.lines c.lines-now.ensures.lines (ap (λ s. s.lines) c.in_ok-replace.ensures.ok) c.deref.ensures.value c.self.invariant.1 c.in_ok-notes.ensures c.deref_mut-else-straight.ensures.value) in
+    sym (gap_lengths _ _ _ _ _ _ _ _ g) ∙ ap length c.lines-now.ensures.lines

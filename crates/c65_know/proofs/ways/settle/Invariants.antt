@@ -1,0 +1,9 @@
+use Rattle.std.proofs.Common.{take}
+use Rattle.c65_know.specs.Known.{all_ways, IsNotedTo, IsPassed}
+use Rattle.c65_know.proofs.ways.settle.Given as goal
+
+abbrev pub invariant-loop-at : goal.invariant-loop-at
+invariant-loop-at l = record {
+  right : IsNotedTo l.lines l.notes l.way l.at;
+  passed : IsPassed l.lines l.notes (all_ways (take l.at l.lines) (take l.at l.notes)) l.at;
+}
