@@ -5,5 +5,7 @@ mod branches;
 mod find;
 mod flow;
 mod pass;
+mod samples;
 
 pub use flow::optimise_flow;
+pub use samples::worked_rules;
