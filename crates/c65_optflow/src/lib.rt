@@ -9,3 +9,6 @@ mod samples;
 
 pub use flow::optimise_flow;
 pub use samples::worked_rules;
+
+#[cfg(test)]
+mod tests;
