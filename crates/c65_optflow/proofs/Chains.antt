@@ -1,9 +1,9 @@
 -- Chains of JMPs in a segment: where they end, and that a line that goes to their end goes to no JMP.
-use Rattle.std.proofs.Common.{◌≡◌, ◌&&◌, ◌==◌, ℕ, zero, suc, ◌+◌, ◌<◌, Bool, true, false, List, [], ◌∷◌, ◌++◌, Option, Some, None, is_some, refl, sym, subst, ap, ◌∙◌, arith, if◌then◌else◌}
+use Rattle.std.proofs.Common.{◌≡◌, ◌==◌, ℕ, zero, suc, ◌+◌, ◌<◌, Bool, true, false, List, [], ◌∷◌, ◌++◌, Option, Some, None, is_some, refl, sym, subst, ap, ◌∙◌, arith, if◌then◌else◌}
 use Rattle.std.specs.List.{list_all}
 use Rattle.std.proofs.lemmas.Bool.{and_parts}
 use Rattle.c65_mach.specs.declared.rows.Op.TheVariants as ops
-use Rattle.c65_mach.specs.declared.rows.Mode.TheVariants.{Absolute, Relative}
+use Rattle.c65_mach.specs.declared.rows.Mode.TheVariants.{Absolute}
 use Rattle.c65_code.specs.declared.line.Operand.TheVariants as operands
 use Rattle.c65_code.specs.declared.line.Operand.TheVariants.{To}
 use Rattle.c65_code.specs.declared.line.Line.{Line}

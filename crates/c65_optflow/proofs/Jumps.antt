@@ -1,8 +1,7 @@
 -- What jumps, branches and labels are in a segment.
-use Rattle.std.proofs.Common.{◌≡◌, ◌&&◌, ◌||◌, ◌==◌, ℕ, Bool, true, false, List, [], ◌∷◌, ◌++◌, Option, Some, None, refl, sym, subst, ap, ◌∙◌}
+use Rattle.std.proofs.Common.{◌≡◌, ℕ, Bool, true, false, List, [], ◌∷◌, ◌++◌, Some, refl, sym, ap, ◌∙◌}
 use Rattle.std.specs.Prelude.{not}
 use Rattle.std.specs.List.{list_all}
-use Rattle.std.proofs.lemmas.Bool.{and_from, and_parts}
 use Rattle.c65_mach.specs.declared.rows.Op.{Op}
 use Rattle.c65_mach.specs.declared.rows.Op.TheVariants as ops
 use Rattle.c65_mach.specs.declared.rows.Mode.{Mode}
@@ -11,7 +10,7 @@ use Rattle.c65_code.specs.declared.line.Operand.{Operand}
 use Rattle.c65_code.specs.declared.line.Operand.TheVariants.{To}
 use Rattle.c65_code.specs.declared.line.Line.{Line}
 use Rattle.c65_code.specs.declared.line.Line.TheVariants.{Label, Do, Call}
-use Rattle.c65_code.specs.Segments.{IsSegment, is_fit, labels_of, target_of, targets_of, is_among, is_closing, closed_by}
+use Rattle.c65_code.specs.Segments.{IsSegment, is_fit, labels_of, targets_of, is_among, is_closing, closed_by}
 use Rattle.c65_pass.specs.FlowRules.{opposite}
 use Rattle.c65_pass.specs.Labels.{jump_target, branch_target, is_label, begins_with}
 use Rattle.c65_pass.proofs.Windows.{all_parts, targets-append}

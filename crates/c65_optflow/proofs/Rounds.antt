@@ -1,5 +1,5 @@
 -- What rewriting by these rules keeps, over all rounds.
-use Rattle.std.proofs.Common.{◌≡◌, ◌⊎◌, inl, inr, ℕ, zero, suc, ◌+◌, ◌<◌, ◌≤◌, List, [], refl, sym, subst, ap, ◌∙◌, arith}
+use Rattle.std.proofs.Common.{◌≡◌, ◌⊎◌, inl, inr, ℕ, ◌+◌, ◌<◌, ◌≤◌, List, [], sym, subst, arith}
 use Rattle.std.specs.Prelude.{All, min}
 use Rattle.std.proofs.Math.Nat.{eq-or-lt_of_le}
 use Rattle.c65_code.specs.declared.line.Line.{Line}
@@ -12,8 +12,7 @@ use Rattle.c65_know.specs.Known.{Annotated}
 use Rattle.c65_pass.specs.Passes.{IsGood, Rewrites, IsFree}
 use Rattle.c65_pass.specs.Rewriting.{bulk}
 use Rattle.c65_pass.proofs.Chains.{Kept, kept}
-use Rattle.c65_pass.proofs.Ranks.{rank}
-use Rattle.c65_optflow.specs.Flow.{IsFlowRule, IsFlowFree, FlowRewrites, none, by}
+use Rattle.c65_optflow.specs.Flow.{IsFlowRule, FlowRewrites, none, by}
 use Rattle.c65_optflow.proofs.Good.{idle_jump_good, idle_branch_good, unreached_good, long_jump_good, long_branch_good, round_branch_good, unused_label_good, passed_branch_good, passed_over_good}
 
 module _ (literals : List (Sym × List ℕ)) (rule : ℕ) (first : 1 ≤ rule) where

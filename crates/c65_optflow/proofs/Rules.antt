@@ -1,6 +1,6 @@
 -- What the rewritings of each rule keep.
-use Rattle.std.proofs.Common.{◌≡◌, ◌⊎◌, inl, inr, ◌&&◌, ℕ, ◌+◌, ◌<◌, ◌≤◌, Bool, true, false, List, [], ◌∷◌, ◌++◌, take, drop, Option, Some, None, is_some, length, refl, sym, subst, ap, ◌∙◌, arith}
-use Rattle.std.specs.Prelude.{All, not}
+use Rattle.std.proofs.Common.{◌≡◌, inr, ◌&&◌, ℕ, Bool, true, false, List, [], ◌∷◌, ◌++◌, take, drop, Option, Some, None, is_some, length, refl, sym, subst, ap, ◌∙◌, arith}
+use Rattle.std.specs.Prelude.{not}
 use Rattle.std.specs.List.{list_all}
 use Rattle.std.proofs.lemmas.Bool.{and_from, and_parts}
 use Rattle.std.proofs.lemmas.List.Elements.{All-head, All-tail, All-cons}
@@ -8,19 +8,17 @@ use Rattle.c65_mach.specs.declared.rows.Op.{Op}
 use Rattle.c65_mach.specs.declared.rows.Op.TheVariants as ops
 use Rattle.c65_mach.specs.declared.rows.Mode.{Mode}
 use Rattle.c65_mach.specs.declared.rows.Mode.TheVariants.{Absolute, Relative}
-use Rattle.c65_code.specs.declared.line.Operand.{Operand}
 use Rattle.c65_code.specs.declared.line.Operand.TheVariants.{To}
 use Rattle.c65_code.specs.declared.line.Line.{Line}
-use Rattle.c65_code.specs.declared.line.Line.TheVariants.{Label, Do, Call}
+use Rattle.c65_code.specs.declared.line.Line.TheVariants.{Do}
 use Rattle.c65_code.specs.Segments.{IsSegment, is_fit, labels_of, target_of, targets_of, is_among, is_closing, closed_by}
-use Rattle.c65_code.specs.Weights.{lines_size}
 use Rattle.c65_code.specs.Writable.{IsLineWritable}
 use Rattle.c65_know.specs.declared.note.Note.{Note}
-use Rattle.c65_pass.specs.FlowRules.{gone_if, alone_if, sent_to, begins_plainly, goes_on_plainly, threaded, opposite, inverted_if, inverted, is_taken, is_passed, idle_jump, idle_branch, unreached, long_jump, long_branch, passed_branch, passed_over}
-use Rattle.c65_pass.specs.Labels.{jump_target, branch_target, retargeted, is_label, begins_with, begins_with_target, hop, chain_end, target_hop, chained}
-use Rattle.c65_pass.specs.Rewriting.{Rewriting, bulk, Keeps}
+use Rattle.c65_pass.specs.FlowRules.{gone_if, alone_if, sent_to, threaded, opposite, inverted_if, inverted, is_taken, is_passed, idle_jump, idle_branch, unreached, long_jump, long_branch, passed_branch, passed_over}
+use Rattle.c65_pass.specs.Labels.{jump_target, branch_target, retargeted, is_label, begins_with, begins_with_target, hop, chain_end}
+use Rattle.c65_pass.specs.Rewriting.{Rewriting, Keeps}
 use Rattle.c65_pass.proofs.Windows.{all_parts, all_from, Fits, keeps_window, keeps_from, window_segment, whole_window, bulk-append}
-use Rattle.c65_optflow.proofs.Jumps.{jump_is, branch_is, branch_closes, branch_open, opposite_fit, begins_closed, closed_anyhow, closed_still, no_label, drop_plain, is_plain, window_fit, window_targets}
+use Rattle.c65_optflow.proofs.Jumps.{jump_is, branch_is, branch_closes, branch_open, opposite_fit, begins_closed, closed_anyhow, closed_still, drop_plain, is_plain, window_fit, window_targets}
 use Rattle.c65_optflow.proofs.Chains.{hop_there, ends, fewer_chained}
 
 -- the segment, from the lines before a place and those from there on

@@ -1,14 +1,14 @@
 -- A label to which no line refers goes.
-use Rattle.std.proofs.Common.{◌≡◌, ◌&&◌, ◌||◌, inl, ℕ, ◌+◌, ◌<◌, Bool, true, false, List, [], ◌∷◌, ◌++◌, take, drop, Some, refl, sym, subst, ap, ◌∙◌, arith}
-use Rattle.std.specs.Prelude.{All, not, nat_eq}
+use Rattle.std.proofs.Common.{◌≡◌, ◌||◌, inl, ℕ, Bool, true, false, List, [], ◌∷◌, ◌++◌, take, drop, Some, refl, sym, subst, ap, ◌∙◌, arith}
+use Rattle.std.specs.Prelude.{not, nat_eq}
 use Rattle.std.specs.List.{list_all}
 use Rattle.std.proofs.lemmas.Bool.{and_from, and_parts, or_parts, eq-eqb, ne_eqb}
 use Rattle.std.proofs.lemmas.List.Elements.{All-tail}
 use Rattle.c65_code.specs.declared.line.Line.{Line}
-use Rattle.c65_code.specs.declared.line.Line.TheVariants.{Label, Do, Call}
-use Rattle.c65_code.specs.Segments.{IsSegment, labels_of, targets_of, is_among, is_distinct, closed_by}
+use Rattle.c65_code.specs.declared.line.Line.TheVariants.{Label}
+use Rattle.c65_code.specs.Segments.{IsSegment, labels_of, targets_of, is_among, is_distinct}
 use Rattle.c65_code.specs.Writable.{IsLineWritable}
-use Rattle.c65_pass.specs.FlowRules.{gone_if, is_unused, unused_label}
+use Rattle.c65_pass.specs.FlowRules.{gone_if, unused_label}
 use Rattle.c65_pass.specs.Rewriting.{Rewriting, Keeps}
 use Rattle.c65_pass.proofs.Windows.{labels-append, targets-append, kept_fit, kept_closed, keeps_from, lower_bulk_of, whole_window}
 use Rattle.c65_optflow.proofs.Jumps.{closed_anyhow}

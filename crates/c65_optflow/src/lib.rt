@@ -5,5 +5,10 @@ mod branches;
 mod find;
 mod flow;
 mod pass;
+mod samples;
 
 pub use flow::optimise_flow;
+pub use samples::worked_rules;
+
+#[cfg(test)]
+mod tests;

@@ -1,5 +1,5 @@
 -- Chains of JMPs, step by step.
-use Rattle.std.proofs.Common.{◌≡◌, ℕ, zero, suc, ◌-◌, ◌<◌, List, Option, Some, None, refl, arith}
+use Rattle.std.proofs.Common.{◌≡◌, ℕ, zero, suc, ◌-◌, ◌<◌, List, Some, None, refl, arith}
 use Rattle.c65_code.specs.declared.line.Line.{Line}
 use Rattle.c65_pass.specs.Labels.{hop, chain_from}
 

@@ -1,5 +1,5 @@
 -- Lines in the place of others: what a segment's lines keep where new lines have the labels of the old ones.
-use Rattle.std.proofs.Common.{◌≡◌, ◌⊎◌, inl, inr, ℕ, zero, suc, ◌+◌, ◌-◌, ◌*◌, ◌<◌, ◌≤◌, ◌&&◌, Bool, true, false, List, [], ◌∷◌, ◌++◌, take, drop, length, length-append, length-drop, length-take-le, refl, sym, subst, arith, ap, ◌∙◌}
+use Rattle.std.proofs.Common.{◌≡◌, inl, ℕ, ◌+◌, ◌<◌, ◌≤◌, Bool, true, false, List, [], ◌∷◌, ◌++◌, take, drop, length, length-append, length-drop, refl, sym, subst, arith, ap, ◌∙◌}
 use Rattle.std.specs.Prelude.{All}
 use Rattle.std.specs.List.{list_all}
 use Rattle.std.proofs.lemmas.Bool.{and_from, and_parts}
@@ -7,14 +7,12 @@ use Rattle.std.proofs.lemmas.List.{take-append-drop, drop-drop}
 use Rattle.std.proofs.lemmas.List.Elements.{All-append, All-take, All-drop}
 use Rattle.std.proofs.lemmas.List.Folds.{list_all-append}
 use Rattle.std.proofs.Math.Seq.{drop-append_seam}
-use Rattle.c65_code.specs.declared.line.Operand.TheVariants.{Nothing, Byte, Low, High, Zero, At, To}
 use Rattle.c65_code.specs.declared.line.Line.{Line}
 use Rattle.c65_code.specs.declared.line.Line.TheVariants.{Label, Do, Call}
-use Rattle.c65_code.specs.Segments.{IsSegment, is_fit, labels_of, target_of, targets_of, is_among, is_distinct, is_closing, closed_by, replaced}
-use Rattle.c65_code.specs.Weights.{line_size, lines_size}
+use Rattle.c65_code.specs.Segments.{IsSegment, is_fit, labels_of, target_of, targets_of, is_among, is_distinct, is_closing, closed_by}
+use Rattle.c65_code.specs.Weights.{lines_size}
 use Rattle.c65_code.specs.Writable.{IsLineWritable}
-use Rattle.c65_pass.specs.Labels.{chained}
-use Rattle.c65_pass.specs.Rewriting.{Rewriting, rewritten, bulk, IsLower, Keeps}
+use Rattle.c65_pass.specs.Rewriting.{rewritten, bulk, IsLower, Keeps}
 
 -- ---- lists of lines
 

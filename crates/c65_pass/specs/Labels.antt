@@ -1,10 +1,7 @@
 -- Where jumps and branches go: labels that follow at once, and chains of jumps.
 use Rattle.std.specs.Prelude.{◌+◌, ◌||◌, ◌==◌, ℕ, zero, suc, Bool, true, false, if◌then◌else◌, is_some, List, [], ◌∷◌, Option, Some, None, length}
-use Rattle.c65_mach.specs.declared.rows.Op.{Op}
 use Rattle.c65_mach.specs.declared.rows.Op.TheVariants as ops
-use Rattle.c65_mach.specs.declared.rows.Mode.{Mode}
 use Rattle.c65_mach.specs.declared.rows.Mode.TheVariants.{Absolute, Relative}
-use Rattle.c65_code.specs.declared.line.Operand.{Operand}
 use Rattle.c65_code.specs.declared.line.Operand.TheVariants.{To}
 use Rattle.c65_code.specs.declared.line.Line.{Line}
 use Rattle.c65_code.specs.declared.line.Line.TheVariants.{Label, Do}

@@ -1,4 +1,4 @@
-use Rattle.std.proofs.Common.{◌≡◌, ℕ, sym, subst}
+use Rattle.std.proofs.Common.{sym, subst}
 use Rattle.c65_pass.specs.Passes.{IsGood}
 use Rattle.c65_optflow.proofs.Good.{idle_jump_good}
 use Rattle.c65_optflow.proofs.pass.idle_jump.Goals as goal

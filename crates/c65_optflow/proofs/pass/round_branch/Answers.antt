@@ -1,4 +1,4 @@
-use Rattle.std.proofs.Common.{◌≡◌, ℕ, sym, subst}
+use Rattle.std.proofs.Common.{sym, subst}
 use Rattle.c65_pass.specs.Passes.{IsGood}
 use Rattle.c65_optflow.proofs.Good.{round_branch_good}
 use Rattle.c65_optflow.proofs.pass.round_branch.Goals as goal

@@ -1,6 +1,6 @@
-use Rattle.std.proofs.Common.{rules, ◌≡◌, ℕ, ◌+◌, ◌-◌, ◌^◌, refl, arith, sym, ◌∙◌}
+use Rattle.std.proofs.Common.{rules, ◌+◌, ◌-◌, ◌^◌, refl, arith, sym, ◌∙◌}
 use Rattle.c65_pass.specs.Rewriting.{bulk}
-use Rattle.c65_pass.proofs.Chains.{Done, Kept, done_none, done_more, kept, count_more, some_made, some_more, first_segment}
+use Rattle.c65_pass.proofs.Chains.{done_none, done_more, kept, count_more, some_made, some_more, first_segment}
 use Rattle.c65_pass.proofs.run.run_pass.Goals as goal
 
 pub loop-more-init : goal.loop-more-init

@@ -1,7 +1,6 @@
-use Rattle.std.proofs.Common.{rules, ◌≡◌, ℕ, List, ◌+◌, ◌-◌, ◌^◌, ◌<◌, ◌≤◌, suc, length, refl, arith, ap, sym, subst, ◌∙◌}
+use Rattle.std.proofs.Common.{rules, ◌≡◌, List, ◌-◌, ◌^◌, ◌≤◌, suc, length, refl, arith, ap, sym, subst, ◌∙◌}
 use Rattle.c65_code.specs.declared.line.Line.{Line}
 use Rattle.c65_code.specs.declared.parts.RegSet.{RegSet}
-use Rattle.c65_know.specs.Known.{annotated}
 use Rattle.c65_live.specs.Tables.{Table, IsLiveTable}
 use Rattle.c65_pass.specs.Passes.{none}
 use Rattle.c65_pass.proofs.Chains.{keeps_next, next_chain, next_noted, next_smaller, count_one, not_none, nowhere}

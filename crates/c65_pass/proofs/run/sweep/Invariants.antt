@@ -1,4 +1,4 @@
-use Rattle.std.proofs.Common.{◌≡◌, ℕ, ◌+◌, ◌-◌, ◌*◌, ◌<◌, ◌≤◌, length, None}
+use Rattle.std.proofs.Common.{◌≡◌, ℕ, ◌+◌, ◌-◌, ◌*◌, ◌<◌, length, None}
 use Rattle.c65_code.specs.Segments.{IsSegment}
 use Rattle.c65_know.specs.Known.{annotated}
 use Rattle.c65_pass.specs.Passes.{Rewrites, IsTableOf, counted}
