@@ -1,6 +1,6 @@
 //! The optimiser over a whole code: the rules that are built, function by function.
 #![tactic(auto)]
 
-mod optimise;
+mod functions;
 
-pub use optimise::optimise;
+pub use functions::optimise;

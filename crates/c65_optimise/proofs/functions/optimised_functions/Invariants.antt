@@ -1,6 +1,6 @@
 use Rattle.std.proofs.Common.{drop, length}
 use Rattle.c65_optimise.proofs.FunctionLaws.{AreDone}
-use Rattle.c65_optimise.proofs.optimise.optimised_functions.Given as goal
+use Rattle.c65_optimise.proofs.functions.optimised_functions.Given as goal
 
 abbrev pub invariant-loop-sym : goal.invariant-loop-sym
 invariant-loop-sym l = record {
