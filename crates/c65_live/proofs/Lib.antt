@@ -1,0 +1,7 @@
+pub mod Sets
+mod Sound
+mod Closed
+mod Rises
+mod Labels
+mod Tables
+pub mod Samples

@@ -1,0 +1,5 @@
+pub mod Live
+pub mod Tables
+pub mod Flows
+pub mod Sweeps
+pub mod Samples

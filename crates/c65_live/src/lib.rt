@@ -1,0 +1,11 @@
+//! What is live after each line of a function: the registers, flags and zero-page bytes that may be read behind it
+//! before they are set.
+#![tactic(auto)]
+
+mod flow;
+mod laws;
+mod sweep;
+mod table;
+
+pub use laws::{dead_is_not_live, live_samples};
+pub use table::LiveTable;

@@ -1,0 +1,4 @@
+pub mod Ranks
+pub mod Chains
+pub mod Hops
+pub mod Windows

@@ -1,0 +1,12 @@
+//! Rewriting the lines of a function by one rule: lines that stand for others, and passes.
+#![tactic(auto)]
+
+mod labels;
+mod rewrite;
+mod run;
+
+pub use labels::{
+    begins_with, branch_target, chain_end, hop, is_label, jump_target, retargeted, threaded,
+};
+pub use rewrite::{Pass, Rewrite};
+pub use run::run_pass;
