@@ -1,6 +1,6 @@
 -- A code is read from its text.
-use Rattle.std.proofs.Common.{◌≡◌, ℕ, zero, suc, ◌<◌, ◌≤◌, not, Bool, true, false, List, [], ◌∷◌, ◌++◌, Option, Some, None, map, codes, length, nat_eq, refl, sym, ap, ◌∙◌, subst, arith, inl, inr, get_or}
-use Rattle.std.specs.Prelude.{unwrap_or, slice_get, if◌then◌else◌, ◌⊎◌}
+use Rattle.std.proofs.Common.{◌≡◌, ℕ, zero, suc, ◌<◌, ◌≤◌, not, Bool, true, false, List, [], ◌∷◌, ◌++◌, Option, Some, None, Result, Ok, Err, map, codes, length, nat_eq, refl, sym, ap, ◌∙◌, subst, arith, inl, inr, get_or}
+use Rattle.std.specs.Prelude.{unwrap_or, slice_get, MatchResult, if◌then◌else◌, ◌⊎◌}
 use Rattle.std.specs.List.{list_all}
 use Rattle.std.proofs.lemmas.Bool.{and_parts, and_from, or_parts, or_from, ne_eqb}
 use Rattle.std.proofs.lemmas.Option.{slice_get_cases}
@@ -25,6 +25,7 @@ use Rattle.c65_code.specs.Segments.{Segment, is_fit, is_among}
 use Rattle.c65_code.specs.Writable.{IsSpelling, IsKnown, IsOperandKnown, IsCalleeKnown, AreCallLetters, IsLineWritable, IsCellKnown, IsShaped, IsWritable}
 use Rattle.c65_asm.specs.declared.reader.Open.{Open}
 use Rattle.c65_asm.specs.declared.reader.Open.TheVariants as opens
+use Rattle.c65_asm.specs.declared.reading.Answer.{Answer}
 use Rattle.c65_asm.specs.declared.reading.Answer.TheVariants as answers
 use Rattle.c65_asm.specs.Text.{spelling_of, sym_text, head_text, functions_text, datums_text, text_of}
 use Rattle.c65_asm.specs.Reading.{start}
@@ -33,6 +34,7 @@ use Rattle.c65_base.specs.declared.refusal.Refusal.TheVariants as refusals
 use Rattle.c65_base.specs.declared.refusal.Refusal.TheVariants.{OutOfMemory}
 use Rattle.c65_asm.specs.Read.{lines_in, code_of, compared, read_text, RefusesText}
 use Rattle.c65_asm.specs.Renumbered.{naming, naming_function, naming_functions, naming_datum, naming_datums, names_of, renamed, renamed_function, renamed_datum, renumbered, IsOperandOfTypes, IsLineOfTypes, IsCellOfTypes, IsOfTypes}
+use Rattle.c65_asm.specs.Back.{ReadsBack}
 use Rattle.c65_asm.proofs.OperandLaws.{IsWellOperand}
 use Rattle.c65_asm.proofs.RowLaws.{IsWellCallee, IsWellLine}
 use Rattle.c65_asm.proofs.FeedLaws.{Reads, reads_both, reads_line}
@@ -262,3 +264,8 @@ back_err code text (refusals.Source fault file line) w t e h =
     let k : answers.Code (renumbered code) ≡ answers.Line line = sym (text_read code w t) ∙ ap read_text e ∙ h.2 in
     absurd cc
 back_err code text _ w t e h = absurd h
+
+pub back_is : (text : List ℕ) (a : Answer) (r : Result Code Refusal) → a ≡ read_text text → MatchResult r (λ code. a ≡ answers.Code code) (λ refusal. RefusesText a refusal)
+    → (code : Code) → IsWritable code → IsOfTypes code → text_of code ≡ text → ReadsBack code r
+back_is text a (Ok c) e h code w t same = back_ok code c text w t same (sym e ∙ h)
+back_is text a (Err refusal) e h code w t same = back_err code text refusal w t same (subst (λ (x : Answer). RefusesText x refusal) e h)

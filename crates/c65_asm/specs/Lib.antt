@@ -8,3 +8,4 @@ pub mod Reading
 pub mod Read
 pub mod Renumbered
 pub mod Back
+pub mod Alike

@@ -1,6 +1,7 @@
 //! The assembly text of a code: written, and read back.
 #![tactic(auto)]
 
+mod alike;
 mod mnemonic;
 mod printing;
 mod reader;
@@ -10,4 +11,4 @@ mod table;
 mod words;
 
 pub use printing::print;
-pub use reading::{Answer, read};
+pub use reading::{Answer, read, read_printed};

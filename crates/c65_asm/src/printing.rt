@@ -58,7 +58,7 @@ fn put_label(out: &mut Vec<u8>, label: u32) -> Result<(), AllocError>
     put_number(out, label)
 }
 
-fn opening(mode: Mode) -> &'static [u8]
+pub fn opening(mode: Mode) -> &'static [u8]
     ensures { result.now ≡ before mode }
 {
     match mode {
@@ -70,7 +70,7 @@ fn opening(mode: Mode) -> &'static [u8]
     }
 }
 
-fn closing(mode: Mode) -> &'static [u8]
+pub fn closing(mode: Mode) -> &'static [u8]
     ensures { result.now ≡ behind mode }
 {
     match mode {

@@ -7,6 +7,7 @@ ghost use Rattle.c65_asm.specs.Back.{ReadsBack};
 ghost use Rattle.c65_asm.specs.Reading.{start, step};
 ghost use Rattle.c65_asm.specs.Read.{seen, finished, seen_first, with_rest, first_line, next_number, at_end, lines_in, compared, read_text, RefusesText};
 
+use crate::alike::are_alike;
 use crate::printing::printed;
 use crate::reader::Reader;
 use crate::words::cut;
@@ -113,6 +114,28 @@ fn answer_to(alloc: Global, text: &[u8]) -> Result<Answer, AllocError>
     compared(alloc, text, answer)
 }
 
+// The same of a text that is this code's: the answer is first held against that code, and is printed only where that differs.
+fn compared_with(
+    alloc: Global,
+    text: &[u8],
+    code: &Code,
+    answer: Answer,
+) -> Result<Answer, AllocError>
+    requires { text_of code.now ≡ text.now }
+    ensures { IfOk result (λ compared_answer. compared_answer ≡ compared text.now answer) }
+{
+    match answer {
+        Answer::Code(read) => {
+            if are_alike(code, &read) {
+                Ok(Answer::Code(read))
+            } else {
+                compared(alloc, text, Answer::Code(read))
+            }
+        }
+        Answer::Line(line) => Ok(Answer::Line(line)),
+    }
+}
+
 fn refused(alloc: Global, line: u32) -> Result<Refusal, AllocError>
     ensures { IfOk result (λ refusal. RefusesText (Answer.Line line) refusal) }
 {
@@ -124,17 +147,9 @@ fn refused(alloc: Global, line: u32) -> Result<Refusal, AllocError>
     })
 }
 
-/// The code of an assembly text (docs/TEXT.md), with the symbols numbered in the order in which the text first names them.
-/// So the text that `print` gives of a code is read as that code, with its symbols renumbered.
-///
-/// A text that `print` writes for no code is refused as `AssemblyText` of the file `<text>`, at the first line with which
-/// no such text goes on. Any other refusal is for want of memory.
-pub fn read(alloc: Global, text: &[u8]) -> Result<Code, Refusal>
-    ensures exact { MatchResult result (λ code. read_text text.now ≡ Answer.Code code) (λ refusal. RefusesText (read_text text.now) refusal) }
-    ensures text { IfOk result (λ code. text_of code ≡ text.now) }
-    ensures printed { (code : _) → IsWritable code → IsOfTypes code → text_of code ≡ text.now → ReadsBack code result }
+fn code_in(alloc: Global, answer: Answer) -> Result<Code, Refusal>
+    ensures { MatchResult result (λ code. answer ≡ Answer.Code code) (λ refusal. RefusesText answer refusal) }
 {
-    let answer = answer_to(alloc, text)?;
     match answer {
         Answer::Code(code) => Ok(code),
         Answer::Line(line) => {
@@ -142,4 +157,32 @@ pub fn read(alloc: Global, text: &[u8]) -> Result<Code, Refusal>
             Err(refusal)
         }
     }
+}
+
+/// The code of an assembly text (docs/TEXT.md), with the symbols numbered in the order in which the text first names them.
+/// So the text that `print` gives of a code is read as that code, with its symbols renumbered.
+///
+/// A text that `print` writes for no code is refused as `AssemblyText` of the file `<text>`, at the first line with which
+/// no such text goes on. Any other refusal is for want of memory.
+#[tactic(auto, using(crate::proofs::SoundLaws::text_is, crate::proofs::ReadLaws::back_is))]
+pub fn read(alloc: Global, text: &[u8]) -> Result<Code, Refusal>
+    ensures exact { MatchResult result (λ code. read_text text.now ≡ Answer.Code code) (λ refusal. RefusesText (read_text text.now) refusal) }
+    ensures text { IfOk result (λ code. text_of code ≡ text.now) }
+    ensures printed { (code : _) → IsWritable code → IsOfTypes code → text_of code ≡ text.now → ReadsBack code result }
+{
+    let answer = answer_to(alloc, text)?;
+    code_in(alloc, answer)
+}
+
+/// The same of a text that `print` gave of this code, in less time.
+#[tactic(auto, using(crate::proofs::SoundLaws::text_is, crate::proofs::ReadLaws::back_is))]
+pub fn read_printed(alloc: Global, text: &[u8], code: &Code) -> Result<Code, Refusal>
+    requires { text_of code.now ≡ text.now }
+    ensures exact { MatchResult result (λ code. read_text text.now ≡ Answer.Code code) (λ refusal. RefusesText (read_text text.now) refusal) }
+    ensures text { IfOk result (λ code. text_of code ≡ text.now) }
+    ensures printed { (code : _) → IsWritable code → IsOfTypes code → text_of code ≡ text.now → ReadsBack code result }
+{
+    let answer = read_lines(alloc, text)?;
+    let answer = compared_with(alloc, text, code, answer)?;
+    code_in(alloc, answer)
 }

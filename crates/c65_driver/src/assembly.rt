@@ -8,7 +8,7 @@ ghost use Rattle.c65_sim.specs.Runs.{WriteCause};
 
 use crate::compiled::write_bytes;
 use crate::outcome::Made;
-use c65_asm::{print, read};
+use c65_asm::{print, read_printed};
 use c65_base::{Refusal, Text};
 use c65_code::Code;
 use c65_driver_words::Command;
@@ -26,7 +26,7 @@ pub fn read_back(alloc: Global, code: &Code) -> Result<Code, Refusal>
         Ok(text) => text,
         Err(_) => return Err(Refusal::OutOfMemory),
     };
-    match read(alloc, &text) {
+    match read_printed(alloc, &text, code) {
         Ok(code) => Ok(code),
         Err(_) => Err(Refusal::OutOfMemory),
     }
