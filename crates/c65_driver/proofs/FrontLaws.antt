@@ -8,27 +8,28 @@ use Rattle.c65_code.specs.declared.code.Code.{Code}
 use Rattle.c65_io.specs.Contents.{Contents}
 use Rattle.c65_mach.specs.declared.image.Image.{Image}
 use Rattle.c65_lex.specs.declared.define.Define.{Define}
+use Rattle.c65_optimise.specs.Optimised.{OptimisedBy}
 use Rattle.c65_ppline.specs.Relations.{Answers, IsFree}
 use Rattle.c65_ppdir.specs.Units.{Held}
 use Rattle.c65_driver_chain.specs.Front.{command, compiled}
 use Rattle.c65_driver_words.specs.Commands.{Spelled}
 use Rattle.c65_driver.specs.Compiled.{ReadsAs, front, IsOfFront, IsOfSources}
 
-same_refusal : (A B : Type 0) (P : Answers Code) (code : Option Code) (r : Refusal) → IsOfFront {T = A} P code (Err r) → IsOfFront {T = B} P code (Err r)
-same_refusal A B P None r made = made
-same_refusal A B P (Some c) r made = made
+same_refusal : (A B : Type 0) (o : Options) (P : Answers Code) (code : Option Code) (r : Refusal) → IsOfFront {T = A} o P code (Err r) → IsOfFront {T = B} o P code (Err r)
+same_refusal A B o P None r made = made
+same_refusal A B o P (Some c) r made = made
 
-onward : (A B : Type 0) (P : Answers Code) (code : Option Code) (a : A) (r : Result B Refusal) → IsOfFront {T = A} P code (Ok a) → IsOfFront {T = B} P code r
-onward A B P None a r made = absurd made
-onward A B P (Some c) a r made = made
+onward : (A B : Type 0) (o : Options) (P : Answers Code) (code : Option Code) (a : A) (r : Result B Refusal) → IsOfFront {T = A} o P code (Ok a) → IsOfFront {T = B} o P code r
+onward A B o P None a r made = absurd made
+onward A B o P (Some c) a r made = made
 
 -- the refusal of a stage is the command's
 pub sources_stop : (A B : Type 0) (c : Spelled) (contents : Contents) (code : Option Code) (r : Refusal) → IsOfSources {T = A} c contents code (Err r) → IsOfSources {T = B} c contents code (Err r)
-sources_stop A B c contents code r made held told = same_refusal A B (front held c) code r (made held told)
+sources_stop A B c contents code r made held told = same_refusal A B c.options (front held c) code r (made held told)
 
 -- whatever comes behind the code
 pub sources_go : (A B : Type 0) (c : Spelled) (contents : Contents) (code : Option Code) (a : A) (r : Result B Refusal) → IsOfSources {T = A} c contents code (Ok a) → IsOfSources {T = B} c contents code r
-sources_go A B c contents code a r made held told = onward A B (front held c) code a r (made held told)
+sources_go A B c contents code a r made held told = onward A B c.options (front held c) code a r (made held told)
 
 -- want of memory
 pub sources_free : (T : Type 0) (c : Spelled) (contents : Contents) → IsOfSources {T = T} c contents None (Err OutOfMemory)
@@ -56,7 +57,8 @@ sources_not c contents code o ds folders files r none options defines is of give
     stopped held (inl free) = inl free
     stopped held (inr stops) = inr (from_parts c held o ds folders files (Err r) options defines is of stops)
 
--- a code, as its text reads
-pub sources_read : (c : Spelled) (contents : Contents) (code read : Code) (o : Options) (ds : List Define) (folders files : List (List ℕ)) (r : Result Image Refusal) → o ≡ c.options → ds ≡ c.defines → folders ≡ c.folders → files ≡ c.files
-    → ((held : Held) → contents ≡ Some held → compiled (command held o ds folders) files (Ok code)) → ReadsAs (text_of code) read → IsOfSources {T = Image} c contents (Some read) r
-sources_read c contents code read o ds folders files r options defines is of given reads held told = (code, from_parts c held o ds folders files (Ok code) options defines is of (given held told), reads)
+-- a code, rewritten, as its text reads
+pub sources_read : (c : Spelled) (contents : Contents) (code new read : Code) (o : Options) (ds : List Define) (folders files : List (List ℕ)) (r : Result Image Refusal) → o ≡ c.options → ds ≡ c.defines → folders ≡ c.folders → files ≡ c.files
+    → ((held : Held) → contents ≡ Some held → compiled (command held o ds folders) files (Ok code)) → OptimisedBy o code new → ReadsAs (text_of new) read → IsOfSources {T = Image} c contents (Some read) r
+sources_read c contents code new read o ds folders files r options defines is of given rewritten reads held told =
+    (code, new, from_parts c held o ds folders files (Ok code) options defines is of (given held told), subst (λ (x : Options). OptimisedBy x code new) options rewritten, reads)

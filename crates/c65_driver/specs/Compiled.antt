@@ -1,6 +1,7 @@
 -- What compiling and linking a command's files gives, and what writing the image does.
 use Rattle.std.specs.Prelude.{◌≡◌, ◌⊎◌, ℕ, List, length, codes, Option, Some, None, Result, Ok, Err, IfErr, ⊤}
 use Rattle.c65_base.specs.declared.options.Cpu.{Cpu}
+use Rattle.c65_base.specs.declared.options.Options.{Options}
 use Rattle.c65_base.specs.declared.refusal.Refusal.{Refusal}
 use Rattle.c65_base.specs.declared.refusal.Refusal.TheVariants.{OutOfMemory, WriteFault}
 use Rattle.c65_asm.specs.Text.{text_of}
@@ -14,6 +15,7 @@ use Rattle.c65_link.specs.Linked.{linked, linked_for, Fails}
 use Rattle.c65_ppfile.specs.Counts.{FaultCause, MissCause}
 use Rattle.c65_ppline.specs.Relations.{Answers, IsFree}
 use Rattle.c65_ppdir.specs.Units.{Held}
+use Rattle.c65_optimise.specs.Optimised.{OptimisedBy}
 use Rattle.c65_sim.specs.Runs.{WriteCause}
 use Rattle.c65_driver_chain.specs.Front.{command, compiled}
 use Rattle.c65_driver_chain.specs.Refused.{StopsChain, UnitsLimit}
@@ -60,15 +62,16 @@ pub record Compiles (cpu : Cpu) (folders files : List (List ℕ)) (old new : Fil
 abbrev pub front : Held → Spelled → Answers Code
 front held c = compiled (command held c.options c.defines c.folders) c.files
 
--- a code is what the assembly text of the front's code reads as; without one the refusal is the front's
-abbrev pub IsOfFront : {T : Type 0} → Answers Code → Option Code → Result T Refusal → Type 0
-IsOfFront P None (Ok x) = ⊥
-IsOfFront P None (Err e) = IsFree e ⊎ P (Err e)
-IsOfFront P (Some code) answer = (c : Code) × P (Ok c) × ReadsAs (text_of c) code
+-- a code is what the assembly text of the front's code reads as, which is rewritten first where that is asked for; without one the
+-- refusal is the front's
+abbrev pub IsOfFront : {T : Type 0} → Options → Answers Code → Option Code → Result T Refusal → Type 0
+IsOfFront options P None (Ok x) = ⊥
+IsOfFront options P None (Err e) = IsFree e ⊎ P (Err e)
+IsOfFront options P (Some code) answer = (compiled : Code) × (new : Code) × P (Ok compiled) × OptimisedBy options compiled new × ReadsAs (text_of new) code
 
 -- of files that tell nothing, nothing is said
 abbrev pub IsOfSources : {T : Type 0} → Spelled → Contents → Option Code → Result T Refusal → Type 0
-IsOfSources {T} c contents code answer = (held : Held) → contents ≡ Some held → IsOfFront {T = T} (front held c) code answer
+IsOfSources {T} c contents code answer = (held : Held) → contents ≡ Some held → IsOfFront {T = T} c.options (front held c) code answer
 
 -- the path of `-o`, or `a.out`
 abbrev pub output_of : Option (List ℕ) → List ℕ

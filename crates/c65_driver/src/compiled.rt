@@ -12,6 +12,7 @@ use c65_driver_words::Command;
 use c65_io::{Failed, Files};
 use c65_link::link_for;
 use c65_mach::Image;
+use c65_optimise::optimise;
 use std::alloc::Global;
 
 fn options(command: &Command) -> &Options
@@ -44,8 +45,8 @@ fn paths(command: &Command) -> &[Text]
     &command.files
 }
 
-/// The image of a command's files. The code goes through its assembly text to the linker; what the text reads as stays in
-/// `made`.
+/// The image of a command's files. The code is rewritten where that is asked for, and goes through its assembly text to the
+/// linker; what the text reads as stays in `made`.
 pub fn make_image<F: Files>(
     alloc: Global,
     files: &mut F,
@@ -70,6 +71,10 @@ pub fn make_image<F: Files>(
     ) {
         Ok(code) => code,
         Err(refusal) => return Err(refusal),
+    };
+    let code = match optimise(alloc, code, options(command)) {
+        Ok(code) => code,
+        Err(_) => return Err(Refusal::OutOfMemory),
     };
     let code = match read_back(alloc, &code) {
         Ok(code) => code,

@@ -13,6 +13,9 @@ abbrev pub is_file : List ℕ → Bool
 is_file [] = false
 is_file (byte ∷ bytes) = not (byte == 45)
 
+abbrev pub is_among : ℕ → List ℕ → Bool
+is_among byte bytes = list_any (λ other. other == byte) bytes
+
 -- the number of `-x`: 1 to 4,294,967,295, of at most ten digits
 abbrev pub is_digits : List ℕ → Bool
 is_digits word = nat_lt (length word) 11 && list_all is_ascii_digit word

@@ -1,6 +1,6 @@
 -- The words of the command line: `go` and `build` and `text` with options and files, `run` with options and an image, and
 -- behind `--` the arguments of `go` and `run`.
-use Rattle.std.specs.Prelude.{◌≡◌, ⊤, ℕ, ◌+◌, List, [], ◌∷◌, ◌++◌, Bool, true, false, not, ◌&&◌, if◌then◌else◌, ◌==◌, codes, bytes_eq, is_some, Option, Some, None, Result, Ok, Err}
+use Rattle.std.specs.Prelude.{◌≡◌, ⊤, ℕ, ◌+◌, List, [], ◌∷◌, ◌++◌, Bool, true, false, not, ◌&&◌, ◌||◌, if◌then◌else◌, ◌==◌, codes, bytes_eq, is_some, Option, Some, None, Result, Ok, Err}
 use Rattle.std.specs.List.{list_any}
 use Rattle.c65_base.specs.declared.options.Options.{Options}
 use Rattle.c65_base.specs.declared.options.Cpu.{Cpu}
@@ -15,7 +15,7 @@ use Rattle.c65_driver_words.specs.declared.value.Value.TheVariants as values
 use Rattle.c65_driver_words.specs.declared.value.Flag.{Flag}
 use Rattle.c65_driver_words.specs.declared.value.Flag.TheVariants as flags
 use Rattle.c65_driver_words.specs.Commands.{Spelled}
-use Rattle.c65_driver_words.specs.Values.{is_file, cycles_in, behind, define_in}
+use Rattle.c65_driver_words.specs.Values.{is_file, is_among, cycles_in, behind, define_in}
 
 -- what the words so far have told, and the option whose value is the next word
 pub record Told : Type 0 where
@@ -93,6 +93,23 @@ with_flag flags.SignedChars told = if compiles told.kind then Some (record told 
 with_flag flags.StaticLocals told = if compiles told.kind then Some (record told { options = record told.options { static_locals = true } }) else None
 with_flag flags.CheckStack told = if compiles told.kind then Some (record told { options = record told.options { check_stack = true } }) else None
 
+-- what follows `-O`: any of `i`, `r` and `s`, each at most once
+abbrev pub are_letters : List ℕ → Bool
+are_letters [] = true
+are_letters (letter ∷ letters) = is_among letter (codes "irs") && not (is_among letter letters) && are_letters letters
+
+-- `-O` asks for the optimiser, and each letter for one thing more
+abbrev pub optimised : List ℕ → Options → Options
+optimised letters asked = record asked {
+  optimise = true;
+  inline_more = asked.inline_more || is_among 105 letters;
+  register_vars = asked.register_vars || is_among 114 letters;
+  known_functions = asked.known_functions || is_among 115 letters;
+}
+
+abbrev pub with_letters : Told → List ℕ → Option Told
+with_letters told letters = if compiles told.kind && are_letters letters then Some (record told { options = optimised letters told.options }) else None
+
 -- the words that are an option by themselves
 abbrev pub flag_in : List ℕ → Option Flag
 flag_in word =
@@ -126,9 +143,13 @@ with_file told word = if is_file word && has_place told.kind told.files then Som
 abbrev pub with_joined : Value → Told → List ℕ → Option Told
 with_joined value told text = if may_stand told value then with_value value told text else None
 
+abbrev pub told_optimiser : Told → List ℕ → Option (List ℕ) → Option Told
+told_optimiser told word (Some letters) = with_letters told letters
+told_optimiser told word None = with_file told word
+
 abbrev pub told_processor : Told → List ℕ → Option (List ℕ) → Option Told
 told_processor told word (Some text) = with_joined values.Processor told text
-told_processor told word None = with_file told word
+told_processor told word None = told_optimiser told word (behind (codes "-O") word)
 
 abbrev pub told_folder : Told → List ℕ → Option (List ℕ) → Option Told
 told_folder told word (Some text) = with_joined values.Folder told text

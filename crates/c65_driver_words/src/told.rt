@@ -4,7 +4,9 @@ ghost use Rattle.c65_driver_words.specs.Words;
 ghost use Rattle.c65_driver_words.specs.Told.{GoesOn, Tells};
 
 use crate::command::{Command, CommandKind};
-use crate::value::{Flag, Value, behind, cycles, define, flag_of, is_file, processor, value_of};
+use crate::value::{
+    Flag, Value, are_letters, behind, cycles, define, flag_of, is_file, processor, value_of,
+};
 use c65_base::{Cpu, Options, Text};
 use c65_lex::Define;
 use std::alloc::{AllocError, Global};
@@ -217,6 +219,20 @@ impl Told {
         true
     }
 
+    /// What follows `-O`, in its word.
+    fn take_letters(&mut self, letters: &[u8]) -> bool
+        ensures { Tells result self.new (Words.with_letters self.old letters.now) }
+    {
+        if !self.kind.compiles() || !are_letters(letters) {
+            return false;
+        }
+        self.options.optimise = true;
+        self.options.inline_more |= letters.contains(&b'i');
+        self.options.register_vars |= letters.contains(&b'r');
+        self.options.known_functions |= letters.contains(&b's');
+        true
+    }
+
     fn take_option(&mut self, value: Value) -> bool
         ensures { Tells result self.new (Words.with_option value self.old) }
     {
@@ -287,6 +303,9 @@ impl Told {
         }
         if let Some(text) = behind(b"--cpu=", word) {
             return Ok(self.take_joined_processor(text));
+        }
+        if let Some(letters) = behind(b"-O", word) {
+            return Ok(self.take_letters(letters));
         }
         self.take_file(word)
     }

@@ -3,6 +3,7 @@ ghost use Rattle.std.specs.Prelude.{◌≡◌, ◌==◌, IsTrue, IfOk, if◌then
 ghost use Rattle.std.specs.List.{list_all, position};
 ghost use Rattle.std.specs.Char.{is_ascii_digit};
 ghost use Rattle.c65_driver_words.specs.Values;
+ghost use Rattle.c65_driver_words.specs.Words;
 ghost use Rattle.c65_driver_words.specs.Words.{flag_in, value_in, processor_in};
 ghost use Rattle.c65_driver_words.specs.Borrowed.{lent};
 
@@ -108,6 +109,16 @@ pub fn behind<'a>(beginning: &[u8], word: &'a [u8]) -> Option<&'a [u8]>
         Some((byte, rest)) if *byte == *first => behind(beginning, rest),
         _ => None,
     }
+}
+
+/// Whether a text may follow `-O`: any of `i`, `r` and `s`, each at most once.
+pub fn are_letters(text: &[u8]) -> bool
+    ensures { result ≡ Words.are_letters text.now }
+{
+    let Some((letter, letters)) = text.split_first() else {
+        return true;
+    };
+    b"irs".contains(letter) && !letters.contains(letter) && are_letters(letters)
 }
 
 fn are_digits(bytes: &[u8]) -> bool

@@ -1,4 +1,4 @@
--- What the words of a command leave: arguments that are bytes, few cycles, and no rewriting.
+-- What the words of a command leave: arguments that are bytes, and few cycles.
 use Rattle.std.proofs.Common.{◌≡◌, ℕ, ◌+◌, ◌^◌, ◌<◌, Bool, true, false, not, List, [], ◌∷◌, ◌++◌, Option, Some, None, refl, subst}
 use Rattle.std.specs.Prelude.{All, IsTrue, ◌&&◌, if◌then◌else◌, ◌==◌, nat_lt, bytes_eq, codes, is_some, take}
 use Rattle.std.specs.List.{list_any}
@@ -14,7 +14,7 @@ use Rattle.c65_driver_words.specs.declared.value.Value.{Value}
 use Rattle.c65_driver_words.specs.declared.value.Value.TheVariants as values
 use Rattle.c65_driver_words.specs.Commands.{Spelled}
 use Rattle.c65_driver_words.specs.Values.{is_file, is_digits, cycles_in, behind, define_in}
-use Rattle.c65_driver_words.specs.Words.{Told, nothing_told, compiles, may_stand, with_define, with_cycles, processor_in, with_processor, with_value, flag_in, value_in, has_place, with_file, with_joined, told_processor, told_folder, told_define, told_value, told_flag, told_by, told_more, Is, NoCommand, is_whole, takes_args, command_by, args_from, given_at, words_from, kind_in, spelling_by, spelling_of}
+use Rattle.c65_driver_words.specs.Words.{Told, nothing_told, compiles, may_stand, with_define, with_cycles, processor_in, with_processor, with_value, flag_in, value_in, has_place, with_file, with_joined, are_letters, with_letters, told_optimiser, told_processor, told_folder, told_define, told_value, told_flag, told_by, told_more, Is, NoCommand, is_whole, takes_args, command_by, args_from, given_at, words_from, kind_in, spelling_by, spelling_of}
 use Rattle.c65_headline.specs.Images.{AreBytes}
 use Rattle.c65_headline.specs.Planned.{WordsAreSpelled}
 use Rattle.c65_headline.proofs.Codes.{both}
@@ -23,7 +23,6 @@ use Rattle.c65_headline.proofs.Codes.{both}
 record IsTold (told : Told) : Type 0 where
   files : All AreBytes told.files
   cycles : (n : ℕ) → told.cycles ≡ Some n → n < 2 ^ 32
-  plain : told.options.optimise ≡ false
 
 is_told : (a b : Told) → (let x : Option Told = Some a in x ≡ Some b) → a ≡ b
 is_told a b h = cc
@@ -52,29 +51,29 @@ cycles_are_few word n h = few_cycles word (is_digits word && nat_lt 0 (digits_va
 
 define_told : (told more : Told) (o : Option Define) → IsTold told → with_define told o ≡ Some more → IsTold more
 define_told told more None i h = not_told more h
-define_told told more (Some d) i h = at_last _ more (record { files = i.files; cycles = i.cycles; plain = i.plain }) h
+define_told told more (Some d) i h = at_last _ more (record { files = i.files; cycles = i.cycles }) h
 
 cycles_told : (told more : Told) (o : Option ℕ) → ((n : ℕ) → o ≡ Some n → n < 2 ^ 32) → IsTold told → with_cycles told o ≡ Some more → IsTold more
 cycles_told told more None few i h = not_told more h
-cycles_told told more (Some c) few i h = at_last _ more (record { files = i.files; cycles = λ n e. few n e; plain = i.plain }) h
+cycles_told told more (Some c) few i h = at_last _ more (record { files = i.files; cycles = λ n e. few n e }) h
 
 processor_told : (told more : Told) (o : Option Cpu) → IsTold told → with_processor told o ≡ Some more → IsTold more
 processor_told told more None i h = not_told more h
-processor_told told more (Some cpu) i h = at_last _ more (record { files = i.files; cycles = i.cycles; plain = i.plain }) h
+processor_told told more (Some cpu) i h = at_last _ more (record { files = i.files; cycles = i.cycles }) h
 
 value_told : (v : Value) (told more : Told) (text : List ℕ) → IsTold told → with_value v told text ≡ Some more → IsTold more
 value_told values.Define told more text i h = define_told told more (define_in text) i h
-value_told values.Folder told more text i h = at_test (is_file text) _ more (record { files = i.files; cycles = i.cycles; plain = i.plain }) h
-value_told values.Target told more text i h = at_test (bytes_eq text (codes "sim6502")) _ more (record { files = i.files; cycles = i.cycles; plain = i.plain }) h
+value_told values.Folder told more text i h = at_test (is_file text) _ more (record { files = i.files; cycles = i.cycles }) h
+value_told values.Target told more text i h = at_test (bytes_eq text (codes "sim6502")) _ more (record { files = i.files; cycles = i.cycles }) h
 value_told values.Processor told more text i h = processor_told told more (processor_in text) i h
-value_told values.Out told more text i h = at_test (is_file text) _ more (record { files = i.files; cycles = i.cycles; plain = i.plain }) h
+value_told values.Out told more text i h = at_test (is_file text) _ more (record { files = i.files; cycles = i.cycles }) h
 value_told values.Cycles told more text i h = cycles_told told more (cycles_in text) (λ n e. cycles_are_few text n e) i h
 
 -- ---- words
 
 file_told : (told more : Told) (word : List ℕ) → AreBytes word → IsTold told → with_file told word ≡ Some more → IsTold more
 file_told told more word bytes i h = at_test (is_file word && has_place told.kind told.files) _ more
-    (record { files = All-push AreBytes told.files word i.files bytes; cycles = i.cycles; plain = i.plain }) h
+    (record { files = All-push AreBytes told.files word i.files bytes; cycles = i.cycles }) h
 
 joined_told : (v : Value) (told more : Told) (text : List ℕ) → IsTold told → with_joined v told text ≡ Some more → IsTold more
 joined_told v told more text i h = at (may_stand told v) h
@@ -83,9 +82,16 @@ joined_told v told more text i h = at (may_stand told v) h
     at true k = value_told v told more text i k
     at false k = not_told more k
 
+letters_told : (told more : Told) (letters : List ℕ) → IsTold told → with_letters told letters ≡ Some more → IsTold more
+letters_told told more letters i h = at_test (compiles told.kind && are_letters letters) _ more (record { files = i.files; cycles = i.cycles }) h
+
+optimiser_word : (told more : Told) (word : List ℕ) (o : Option (List ℕ)) → AreBytes word → IsTold told → told_optimiser told word o ≡ Some more → IsTold more
+optimiser_word told more word (Some letters) bytes i h = letters_told told more letters i h
+optimiser_word told more word None bytes i h = file_told told more word bytes i h
+
 processor_word : (told more : Told) (word : List ℕ) (o : Option (List ℕ)) → AreBytes word → IsTold told → told_processor told word o ≡ Some more → IsTold more
 processor_word told more word (Some text) bytes i h = joined_told values.Processor told more text i h
-processor_word told more word None bytes i h = file_told told more word bytes i h
+processor_word told more word None bytes i h = optimiser_word told more word (behind (codes "-O") word) bytes i h
 
 folder_word : (told more : Told) (word : List ℕ) (o : Option (List ℕ)) → AreBytes word → IsTold told → told_folder told word o ≡ Some more → IsTold more
 folder_word told more word (Some text) bytes i h = joined_told values.Folder told more text i h
@@ -96,14 +102,14 @@ define_word told more word (Some text) bytes i h = joined_told values.Define tol
 define_word told more word None bytes i h = folder_word told more word (behind (codes "-I") word) bytes i h
 
 value_word : (told more : Told) (word : List ℕ) (o : Option Value) → AreBytes word → IsTold told → told_value told word o ≡ Some more → IsTold more
-value_word told more word (Some v) bytes i h = at_test (may_stand told v) _ more (record { files = i.files; cycles = i.cycles; plain = i.plain }) h
+value_word told more word (Some v) bytes i h = at_test (may_stand told v) _ more (record { files = i.files; cycles = i.cycles }) h
 value_word told more word None bytes i h = define_word told more word (behind (codes "-D") word) bytes i h
 
 flag_word : (told more : Told) (word : List ℕ) (o : Option Flag) → AreBytes word → IsTold told → told_flag told word o ≡ Some more → IsTold more
-flag_word told more word (Some flags.RegisterVars) bytes i h = at_test (compiles told.kind) _ more (record { files = i.files; cycles = i.cycles; plain = i.plain }) h
-flag_word told more word (Some flags.SignedChars) bytes i h = at_test (compiles told.kind) _ more (record { files = i.files; cycles = i.cycles; plain = i.plain }) h
-flag_word told more word (Some flags.StaticLocals) bytes i h = at_test (compiles told.kind) _ more (record { files = i.files; cycles = i.cycles; plain = i.plain }) h
-flag_word told more word (Some flags.CheckStack) bytes i h = at_test (compiles told.kind) _ more (record { files = i.files; cycles = i.cycles; plain = i.plain }) h
+flag_word told more word (Some flags.RegisterVars) bytes i h = at_test (compiles told.kind) _ more (record { files = i.files; cycles = i.cycles }) h
+flag_word told more word (Some flags.SignedChars) bytes i h = at_test (compiles told.kind) _ more (record { files = i.files; cycles = i.cycles }) h
+flag_word told more word (Some flags.StaticLocals) bytes i h = at_test (compiles told.kind) _ more (record { files = i.files; cycles = i.cycles }) h
+flag_word told more word (Some flags.CheckStack) bytes i h = at_test (compiles told.kind) _ more (record { files = i.files; cycles = i.cycles }) h
 flag_word told more word None bytes i h = value_word told more word (value_in word) bytes i h
 
 word_told : (told more : Told) (word : List ℕ) (o : Option Value) → AreBytes word → IsTold told → told_by o told word ≡ Some more → IsTold more
@@ -112,12 +118,11 @@ word_told told more word None bytes i h = flag_word told more word (flag_in word
 
 -- ---- a command
 
--- what is asked of it, and that it asks for no rewriting
+-- what is asked of it
 record IsWell (command : Spelled) : Type 0 where
   files : All AreBytes command.files
   args : All AreBytes command.args
   cycles : (n : ℕ) → command.cycles ≡ Some n → n < 2 ^ 32
-  plain : command.options.optimise ≡ false
 
 is_command : (a b : Spelled) → Is a ≡ Is b → a ≡ b
 is_command a b h = cc
@@ -126,7 +131,7 @@ no_command : {A : Type 0} (at : ℕ) (b : Spelled) → NoCommand at ≡ Is b →
 no_command at b h = absurd (let k : NoCommand at ≡ Is b = h in cc)
 
 well : (told : Told) (args : List (List ℕ)) (c : Spelled) → IsTold told → All AreBytes args → Is (command_by told args) ≡ Is c → IsWell c
-well told args c i a h = subst IsWell (is_command (command_by told args) c h) (record { files = i.files; args = a; cycles = i.cycles; plain = i.plain })
+well told args c i a h = subst IsWell (is_command (command_by told args) c h) (record { files = i.files; args = a; cycles = i.cycles })
 
 args_well : (at : ℕ) (told : Told) (args words : List (List ℕ)) (c : Spelled) → IsTold told → All AreBytes args → All AreBytes words → args_from at told args words ≡ Is c → IsWell c
 args_well at told args [] c i a w h = well told args c i a h
@@ -165,7 +170,7 @@ words_well at told (word ∷ words) c i w h =
     by false k f = next (told_more told word) refl k f
 
 nothing_is_told : (kind : CommandKind) → IsTold (nothing_told kind)
-nothing_is_told kind = record { files = All-nil AreBytes; cycles = λ n e. absurd (let k : (let x : Option ℕ = None in x ≡ Some n) = e in cc); plain = refl }
+nothing_is_told kind = record { files = All-nil AreBytes; cycles = λ n e. absurd (let k : (let x : Option ℕ = None in x ≡ Some n) = e in cc) }
 
 kind_well : (o : Option CommandKind) (words : List (List ℕ)) (c : Spelled) → All AreBytes words → spelling_by o words ≡ Is c → IsWell c
 kind_well None words c w h = no_command 0 c h
@@ -179,7 +184,3 @@ pub words_are_spelled : WordsAreSpelled
 words_are_spelled words c w h =
     let i : IsWell c = command_well words c w h in
     record { args = All-append AreBytes (take 1 c.files) c.args (All-take AreBytes 1 c.files i.files) i.args; cycles = i.cycles }
-
--- no word asks for rewriting
-pub never_rewritten : (words : List (List ℕ)) (c : Spelled) → All AreBytes words → spelling_of words ≡ Is c → c.options.optimise ≡ false
-never_rewritten words c w h = (command_well words c w h).plain

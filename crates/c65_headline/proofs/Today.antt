@@ -16,6 +16,7 @@ use Rattle.c65_csem.specs.Views.{unit_of}
 use Rattle.c65_genframe.specs.Modes.{modes_of}
 use Rattle.c65_genstmt.specs.Programs.{program_of}
 use Rattle.c65_init_join.specs.Joined.{joined}
+use Rattle.c65_optimise.specs.Optimised as Rewriting
 use Rattle.c65_ppline.specs.Relations.{Answers, just, by_test, ◌then◌}
 use Rattle.c65_ppdir.specs.Units.{Held}
 use Rattle.c65_ppdir_law.specs.Once.{UnitsAreOne}
@@ -29,11 +30,10 @@ use Rattle.c65_driver_words.specs.declared.command.CommandKind.TheVariants as ki
 use Rattle.c65_driver.specs.Compiled.{ReadsAs, IsOfSources, front}
 use Rattle.c65_driver.specs.Outside.{Outside}
 use Rattle.c65_driver.specs.Tool.{Serves, Performs}
-use Rattle.c65_headline.specs.Lines.{OptimisedIf}
+use Rattle.c65_headline.specs.Planned.{RewritingsFollow}
 use Rattle.c65_headline.specs.Fronts.{command_of, programs, IsMadeOf}
 use Rattle.c65_headline.specs.Headline.{IsMade}
 use Rattle.c65_headline.specs.Laws.{HeadlineHoldsToday}
-use Rattle.c65_headline.proofs.Spelled.{never_rewritten}
 use Rattle.c65_headline.proofs.Top.{holds}
 use Rattle.c65_headline.proofs.Uniqueness.{no_value}
 
@@ -61,13 +61,9 @@ stems_by false r P o code (x, h, (p, j, (parts, u, good, g))) =
       generates = g;
     }
 
-not_asked : (b : Bool) (cpu : Cpu) (c : Code) → b ≡ false → OptimisedIf b cpu c c
-not_asked true cpu c e = absurd (let h : true ≡ false = e in cc)
-not_asked false cpu c e = refl
-
-made_of : (held : Held) (command : Spelled) (code : Code) → command.options.optimise ≡ false
-    → (c : Code) × front held command (Ok c) × ReadsAs (text_of c) code → IsMadeOf held command code
-made_of held command code off (c, h, r) =
+made_of : (rewriting : RewritingsFollow) (held : Held) (command : Spelled) (code : Code)
+    → (c : Code) × (new : Code) × front held command (Ok c) × Rewriting.OptimisedBy command.options c new × ReadsAs (text_of new) code → IsMadeOf held command code
+made_of rewriting held command code (c, new, h, w, r) =
     let s : Stems command.options (programs (command_of held command) command.files) c =
     stems_by (nat_lt (limit_of sizes.Units) (length command.files)) (refusals.TooLarge sizes.Units (length command.files)) (units_typed (command_of held command) command.files) command.options c h in
     record {
@@ -78,30 +74,30 @@ made_of held command code off (c, h, r) =
       good = s.good;
       generated = c;
       generates = s.generates;
-      rewritten = c;
-      rewrites = not_asked command.options.optimise command.options.cpu c off;
+      rewritten = new;
+      rewrites = rewriting held command s.parts s.main s.names c new code s.front s.generates w r;
       reads = r;
     }
 
-from_sources : (command : Spelled) (old : Outside) (code : Option Code) (answer : Result ℕ Refusal) → command.options.optimise ≡ false
+from_sources : (rewriting : RewritingsFollow) (command : Spelled) (old : Outside) (code : Option Code) (answer : Result ℕ Refusal)
     → IsOfSources command old.files.contents code answer → (held : Held) (c : Code) → old.files.contents ≡ Some held → code ≡ Some c → IsMadeOf held command c
-from_sources command old None answer off s held c told e = absurd (let h : (let x : Option Code = None in x ≡ Some c) = e in cc)
-from_sources command old (Some k) answer off s held c told e =
+from_sources rewriting command old None answer s held c told e = absurd (let h : (let x : Option Code = None in x ≡ Some c) = e in cc)
+from_sources rewriting command old (Some k) answer s held c told e =
     let same : k ≡ c = let h : (let x : Option Code = Some k in x ≡ Some c) = e in cc in
-    subst (λ (x : Code). IsMadeOf held command x) same (made_of held command k off (s held told))
+    subst (λ (x : Code). IsMadeOf held command x) same (made_of rewriting held command k (s held told))
 
-made_by : (kind : CommandKind) (command : Spelled) (old new : Outside) (code : Option Code) (image : Option Image) (answer : Result ℕ Refusal) → command.options.optimise ≡ false
+made_by : (rewriting : RewritingsFollow) (kind : CommandKind) (command : Spelled) (old new : Outside) (code : Option Code) (image : Option Image) (answer : Result ℕ Refusal)
     → Serves kind command old new code image answer → (held : Held) (c : Code) → old.files.contents ≡ Some held → code ≡ Some c → IsMadeOf held command c
-made_by kinds.Go command old new code image answer off s held c told e = from_sources command old code answer off s.from_files held c told e
-made_by kinds.Build command old new code image answer off s held c told e = from_sources command old code answer off s.builds.from_files held c told e
-made_by kinds.Text command old new code image answer off s held c told e = from_sources command old code answer off s.texts.from_files held c told e
-made_by kinds.Run command old new code image answer off s held c told e = absurd (let h : (let x : Option Code = None in x ≡ Some c) = sym s.no_code ∙ e in cc)
+made_by rewriting kinds.Go command old new code image answer s held c told e = from_sources rewriting command old code answer s.from_files held c told e
+made_by rewriting kinds.Build command old new code image answer s held c told e = from_sources rewriting command old code answer s.builds.from_files held c told e
+made_by rewriting kinds.Text command old new code image answer s held c told e = from_sources rewriting command old code answer s.texts.from_files held c told e
+made_by rewriting kinds.Run command old new code image answer s held c told e = absurd (let h : (let x : Option Code = None in x ≡ Some c) = sym s.no_code ∙ e in cc)
 
-made_today : (spelling : Spelling) (old new : Outside) (code : Option Code) (image : Option Image) (answer : Result ℕ Refusal) → ((command : Spelled) → spelling ≡ Is command → command.options.optimise ≡ false)
+made_today : (rewriting : RewritingsFollow) (spelling : Spelling) (old new : Outside) (code : Option Code) (image : Option Image) (answer : Result ℕ Refusal)
     → Performs spelling old new code image answer → IsMade spelling old code
-made_today (NoCommand word) old new code image answer off s = tt
-made_today (Is command) old new code image answer off s = λ held c told e. made_by command.kind command old new code image answer (off command refl) s held c told e
+made_today rewriting (NoCommand word) old new code image answer s = tt
+made_today rewriting (Is command) old new code image answer s = λ held c told e. made_by rewriting command.kind command old new code image answer s held c told e
 
 pub holds_today : UnitsAreOne → TurnsGoOn → HeadlineHoldsToday
 holds_today units turns notes laws words old new code image answer bytes s =
-    holds units turns notes laws words old new code image answer bytes s (made_today (spelling_of words) old new code image answer (λ command e. never_rewritten words command bytes e) s)
+    holds units turns notes laws words old new code image answer bytes s (made_today laws.rewriting (spelling_of words) old new code image answer s)

@@ -7,7 +7,7 @@ use Rattle.c65_driver_words.specs.Words.{spelling_of}
 use Rattle.c65_driver.specs.Outside.{Outside}
 use Rattle.c65_driver.specs.Tool.{Performs}
 use Rattle.c65_headline.specs.Images.{Recorded, AreBytes}
-use Rattle.c65_headline.specs.Planned.{ProgramsAgree, ProgramsAreNmos, FrontsAreWritable, ImagesFollow}
+use Rattle.c65_headline.specs.Planned.{ProgramsAgree, ProgramsAreNmos, FrontsAreWritable, RewritingsFollow, ImagesFollow}
 use Rattle.c65_headline.specs.Headline.{IsMade, Headline}
 
 -- What is not proved yet. Each field is a law of the crate that it names; docs/LADDER.md has them as a table.
@@ -20,6 +20,8 @@ pub record Laws (notes : Recorded) : Type 0 where
   -- The code of a program that the front gives can be written as text, where its text was read: c65_asm_law with c65_init_join, or
   -- a test where files are compiled.
   pub writable : FrontsAreWritable
+  -- What the optimiser makes of a program's code does what that code does: laws above c65_pass and c65_optflow.
+  pub rewriting : RewritingsFollow
   -- What the lines of a code come to within a weight, its image comes to within as many rows and 96 more, while the stack's guard
   -- lets it: a law above c65_link.
   pub images : ImagesFollow notes
@@ -30,7 +32,7 @@ HeadlineHolds = (notes : Recorded) → Laws notes
     → (words : List (List ℕ)) (old new : Outside) (code : Option Code) (image : Option Image) (answer : Result ℕ Refusal) → All AreBytes words
     → Performs (spelling_of words) old new code image answer → IsMade (spelling_of words) old code → Headline notes (spelling_of words) old new code image answer
 
--- No word asks for rewriting yet: so the tool's clause alone is enough.
+-- The tool's clause says how the code was made: so it alone is enough.
 abbrev pub HeadlineHoldsToday : Type 0
 HeadlineHoldsToday = (notes : Recorded) → Laws notes
     → (words : List (List ℕ)) (old new : Outside) (code : Option Code) (image : Option Image) (answer : Result ℕ Refusal) → All AreBytes words

@@ -13,7 +13,7 @@ pub fn headline_holds()
     turns_go_on();
 }
 
-/// Of the tool without rewriting it follows from the laws that are left and the tool's clause.
+/// It follows from the laws that are left and the tool's clause, which says how the code was made.
 pub fn headline_holds_today()
     ensures { HeadlineHoldsToday }
 {

@@ -1,5 +1,5 @@
-use Rattle.std.proofs.Common.{◌≡◌, ◌+◌, ◌∷◌, ◌∙◌, map, drop, string_bytes, ap, sym, subst, arith}
-use Rattle.c65_driver_words.specs.Words.{Spelling, Spells, given_at, words_from}
+use Rattle.std.proofs.Common.{◌+◌, ◌∷◌, ◌∙◌, map, drop, string_bytes, ap, sym, subst, arith}
+use Rattle.c65_driver_words.specs.Words.{Spelling, Spells}
 use Rattle.c65_driver_words.proofs.WordLaws.{next_word, stops, words_given, words_more, words_stop, goes_some, goes_none}
 use Rattle.c65_driver_words.proofs.spelling.spell_rest.Goals as goal
 

@@ -1,6 +1,5 @@
-use Rattle.std.proofs.Common.{◌≡◌, ◌∷◌, ◌∙◌, map, drop, [], string_bytes, ◌==◌, ap, arith}
+use Rattle.std.proofs.Common.{◌∙◌, string_bytes, ◌==◌, ap, arith}
 use Rattle.std.specs.List.{list_any}
-use Rattle.c65_driver_words.specs.Words.{args_from}
 use Rattle.c65_driver_words.proofs.WordLaws.{next_word, stops, args_stop, args_more}
 use Rattle.c65_driver_words.proofs.spelling.with_args.Goals as goal
 
