@@ -371,10 +371,13 @@ module _ (s : Setting) (others : ℕ → Setting) (count : ℕ) (r : Setting) (n
           let from = alike_from s r number Known n (form_of l) (form_of other.line) other.alike p t q3 u3 known only (callee_there s r number Known n (form_of l) t steady.within) m3.goes in
           let move : Moves s l p t from.place from.state = record { running = m3.running; goes = from.goes; bytes = bytes_back number from.state (subst (λ (x : State). IsBytes x) from.state_is m3.bytes) } in
           let after = known_after s r number Known n (form_of l) (form_of other.line) other.alike p t from.place from.state known frames only from.goes in
-          let next = go from.place from.state move (λ j b. ((all j b).weight, (all j b).rest from.place from.state
-              (subst (λ (x : Line). Moves (others j) x p t from.place from.state) (sym (same j b))
-              (also j l p t from.place from.state known (subst (λ (x : Line). slice_get ((others j).lines p.0) p.1 ≡ Some x) (same j b) (all j b).there) only steady.within (within j b) move))))
-              after.0 after.1 (seen_at (moved_place number from.place) later) (below_on number from.place seen later below) in
+          let next = go from.place from.state move (λ j b. (
+            (all j b).weight,
+            (all j b).rest from.place from.state
+                (subst (λ (x : Line). Moves (others j) x p t from.place from.state) (sym (same j b))
+                (also j l p t from.place from.state known (subst (λ (x : Line). slice_get ((others j).lines p.0) p.1 ≡ Some x) (same j b) (all j b).there) only steady.within (within j b) move)),
+          ))
+          after.0 after.1 (seen_at (moved_place number from.place) later) (below_on number from.place seen later below) in
           subst (λ (x : Place). Comes r (Shows renamed_test) less x u3 (seen_at x later)) (sym from.place_is) (subst (λ (x : State). Comes r (Shows renamed_test) less (moved_place number from.place) x (seen_at (moved_place number from.place) later)) (sym from.state_is) next)
 
   pub comes : {w : ℕ} {p : Place} {t : State} {seen : Seen} → Comes s (Shows test) w p t seen → AllCome p t seen → Known p.0 → AreKnown Known t.frames

@@ -262,7 +262,6 @@ module _ (code : Code) (w : IsWritable code) where
       constant = constant;
     }
 
-
   module _ (place other : Placement) (addressed : (f : ℕ) → Known f → place.address f ≡ other.address f) where
     located_same : (x : Sym) (offset : ℕ) → IsPart code x → located other x offset ≡ located place x offset
     located_same x offset part = ap (λ (m : ℕ). (m + offset) % 65536) (sym (addressed x.0 part))

@@ -167,9 +167,10 @@ functions_named symbols [] names k f at = absurd (none-some f at)
 functions_named symbols (g ∷ fs) names zero f at =
     let same : g ≡ f = same_Some g f at in
     let more : Grows (naming_function symbols g names) (naming_functions symbols (g ∷ fs) names) = grows_functions symbols fs (naming_function symbols g names) in
-    let own : Grows (naming symbols g.0 names) (naming_functions symbols (g ∷ fs) names) = grows_on _ _ _ (grows_lines symbols g.1.lines (naming symbols g.0 names)) more in
-    (named_later _ _ (sym_text symbols f.0) own (named_at symbols g.0 f.0 names (ap (λ (h : Sym × Segment). h.0) same)),
-      λ j l x here e. named_later _ _ (sym_text symbols x) more (lines_named symbols g.1.lines (naming symbols g.0 names) j l x (subst (λ (h : Sym × Segment). slice_get h.1.lines j ≡ Some l) (sym same) here) e))
+    let own : Grows (naming symbols g.0 names) (naming_functions symbols (g ∷ fs) names) = grows_on _ _ _ (grows_lines symbols g.1.lines (naming symbols g.0 names)) more in (
+      named_later _ _ (sym_text symbols f.0) own (named_at symbols g.0 f.0 names (ap (λ (h : Sym × Segment). h.0) same)),
+      λ j l x here e. named_later _ _ (sym_text symbols x) more (lines_named symbols g.1.lines (naming symbols g.0 names) j l x (subst (λ (h : Sym × Segment). slice_get h.1.lines j ≡ Some l) (sym same) here) e),
+    )
 functions_named symbols (g ∷ fs) names (suc k) f at = functions_named symbols fs (naming_function symbols g names) k f at
 
 cell_named : (symbols : List Symbol) (c : DataCell) (names : List (List ℕ)) (x : Sym) → cell_symbol c ≡ Some x → IsNamed (naming_cell symbols c names) (sym_text symbols x)
@@ -189,9 +190,10 @@ datums_named symbols [] names k d at = absurd (none-some d at)
 datums_named symbols (g ∷ ds) names zero d at =
     let same : g ≡ d = same_Some g d at in
     let more : Grows (naming_datum symbols g names) (naming_datums symbols (g ∷ ds) names) = grows_datums symbols ds (naming_datum symbols g names) in
-    let own : Grows (naming symbols g.sym names) (naming_datums symbols (g ∷ ds) names) = grows_on _ _ _ (grows_cells symbols g.cells (naming symbols g.sym names)) more in
-    (named_later _ _ (sym_text symbols d.sym) own (named_at symbols g.sym d.sym names (ap (λ (h : Datum). h.sym) same)),
-      λ j c x here e. named_later _ _ (sym_text symbols x) more (cells_named symbols g.cells (naming symbols g.sym names) j c x (subst (λ (h : Datum). slice_get h.cells j ≡ Some c) (sym same) here) e))
+    let own : Grows (naming symbols g.sym names) (naming_datums symbols (g ∷ ds) names) = grows_on _ _ _ (grows_cells symbols g.cells (naming symbols g.sym names)) more in (
+      named_later _ _ (sym_text symbols d.sym) own (named_at symbols g.sym d.sym names (ap (λ (h : Datum). h.sym) same)),
+      λ j c x here e. named_later _ _ (sym_text symbols x) more (cells_named symbols g.cells (naming symbols g.sym names) j c x (subst (λ (h : Datum). slice_get h.cells j ≡ Some c) (sym same) here) e),
+    )
 datums_named symbols (g ∷ ds) names (suc k) d at = datums_named symbols ds (naming_datum symbols g names) k d at
 
 pub part_named : (code : Code) (x : Sym) → IsPart code x → IsNamed (names_of code) (sym_text code.symbols x)

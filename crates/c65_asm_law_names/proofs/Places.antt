@@ -325,9 +325,15 @@ module _ (code : Code) (w : IsWritable code) (closed : IsClosed code) (own : IsP
         let c = own.constant_of b v h in
         let o = old_datum code w c.0 c.2 c.3 in
         let a = datum_address out c.0 o.old o.there in
-        let first : b ≡ address_in (renumbered code) (new_datum o.old).sym.0 + c.1 = c.5 ∙ ap (λ (x : Datum). address_in (renumbered code) x.sym.0 + c.1) o.is in
-        (c.0, c.1, o.old, o.there, sym (ap (λ (x : Datum). x.kind) o.is) ∙ c.4, first ∙ ap (λ (m : ℕ). m + c.1) (sym a),
-          initial_same out c.0 c.1 o.old o.there ∙ sym (ap (λ (x : Datum). initial_byte (place_in (renumbered code)) x c.1) o.is) ∙ c.6);
+        let first : b ≡ address_in (renumbered code) (new_datum o.old).sym.0 + c.1 = c.5 ∙ ap (λ (x : Datum). address_in (renumbered code) x.sym.0 + c.1) o.is in (
+          c.0,
+          c.1,
+          o.old,
+          o.there,
+          sym (ap (λ (x : Datum). x.kind) o.is) ∙ c.4,
+          first ∙ ap (λ (m : ℕ). m + c.1) (sym a),
+          initial_same out c.0 c.1 o.old o.there ∙ sym (ap (λ (x : Datum). initial_byte (place_in (renumbered code)) x c.1) o.is) ∙ c.6,
+        );
   }
     where
       low_by : (f : ℕ) → IsFunction code f → Known code w f ⊎ (name_in f ≡ None) → program_start ≤ (placing code out).address f

@@ -58,11 +58,11 @@ module _ (code : Code) (w : IsWritable code) (closed : IsClosed code) (own : IsP
       by : IsUnnamed code w closed own behind f → unnamed_index code f < 10 → (g : ℕ) → IsCallee (others (unnamed_index code f)) t g → Known code w g ⊎ (name_in code w closed own behind g ≡ None) → ⊥
       by u few g there (inl known) =
           let same : program_start + past 10 (unnamed_index code f) ≡ linked_at code w closed own behind g =
-              sym (unknown_address code w closed own behind 10 f none) ∙ is.1 ∙ sym there.1 ∙ known_address code w closed own behind (unnamed_index code f) g known in
+          sym (unknown_address code w closed own behind 10 f none) ∙ is.1 ∙ sym there.1 ∙ known_address code w closed own behind (unnamed_index code f) g known in
           unnamed_low code w closed own behind 10 f g u known there.0 same
       by u few g there (inr lacks) =
           let same : program_start + unnamed_index code f ≡ program_start + past (unnamed_index code f) (unnamed_index code g) =
-              sym (at few) ∙ is.1 ∙ sym there.1 ∙ unknown_address code w closed own behind (unnamed_index code f) g lacks in
+          sym (at few) ∙ is.1 ∙ sym there.1 ∙ unknown_address code w closed own behind (unnamed_index code f) g lacks in
           past_not (unnamed_index code f) (unnamed_index code g) (omega (arith, same))
 
   among : Among first others count (Known code w)

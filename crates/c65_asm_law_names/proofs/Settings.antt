@@ -114,13 +114,18 @@ module _ (s r : Setting) (number : ℕ → ℕ) (Known : ℕ → Type 0) (n : Re
       → (place : Place) × (state : State) × (q ≡ at place) × (u ≡ new state) × Enters s f reads gives p t place state
   enter_from f reads gives p t q u k kp e =
       let frame : Frame = record { back = (p.0, settle (s.lines p.0) (suc p.1)); pushed = t.pushed; gives = gives } in
-      let back : u.frames ≡ map new_frame (frame ∷ t.frames) = e.frames ∙ ap (λ (i : ℕ). let first : Frame = record { back = (number p.0, i); pushed = t.pushed; gives = gives } in first ∷ map new_frame t.frames) (n.settles p.0 (suc p.1) kp) in
-      ((f, settle (s.lines f) 0), with_frames number u (frame ∷ t.frames), to_place (f, 0) q (settle (r.lines (number f)) 0) (settle (s.lines f) 0) e.to (n.settles f 0 k), framed u (frame ∷ t.frames) back, record {
-        to = refl;
-        keeps = keeps_back number (union_of reads kept_at_calls) t u (frame ∷ t.frames) e.keeps;
-        pushed = e.pushed;
-        frames = refl;
-      })
+      let back : u.frames ≡ map new_frame (frame ∷ t.frames) = e.frames ∙ ap (λ (i : ℕ). let first : Frame = record { back = (number p.0, i); pushed = t.pushed; gives = gives } in first ∷ map new_frame t.frames) (n.settles p.0 (suc p.1) kp) in (
+        (f, settle (s.lines f) 0),
+        with_frames number u (frame ∷ t.frames),
+        to_place (f, 0) q (settle (r.lines (number f)) 0) (settle (s.lines f) 0) e.to (n.settles f 0 k),
+        framed u (frame ∷ t.frames) back,
+        record {
+          to = refl;
+          keeps = keeps_back number (union_of reads kept_at_calls) t u (frame ∷ t.frames) e.keeps;
+          pushed = e.pushed;
+          frames = refl;
+        },
+      )
 
   call_from : (o : Option Library) (f : ℕ) (reads gives : RegSet) (p : Place) (t : State) (q : Place) (u : State) → Known f → Known p.0 → Calls r o (number f) reads gives (at p) (new t) q u
       → (place : Place) × (state : State) × (q ≡ at place) × (u ≡ new state) × Calls s o f reads gives p t place state
@@ -133,9 +138,19 @@ module _ (s r : Setting) (number : ℕ → ℕ) (Known : ℕ → Type 0) (n : Re
       → (place : Place) × (state : State) × (q ≡ at place) × (u ≡ new state) × Returns s fs p t place state
   return_from [] p t q u k e (v, a, small, pushed, to, is) =
       (p, record t { ended = Some v }, to, is, (v, λ h. a (subst (λ (x : RegSet). IsTrue (has_part x A)) (sym (n.gives p.0 k)) h), small, pushed, refl, refl))
-  return_from (f ∷ fs) p t q u k e (pushed, to, keeps, later, frames) =
-      (f.back, with_frames number u fs, to, framed u fs frames, (pushed, refl,
-      keeps_back number (union_of (common_of f.gives (s.gives p.0)) kept_at_calls) t u fs (subst (λ (x : RegSet). Keeps (union_of (common_of f.gives x) kept_at_calls) (new t) u) (n.gives p.0 k) keeps), later, refl))
+  return_from (f ∷ fs) p t q u k e (pushed, to, keeps, later, frames) = (
+    f.back,
+    with_frames number u fs,
+    to,
+    framed u fs frames,
+    (
+      pushed,
+      refl,
+      keeps_back number (union_of (common_of f.gives (s.gives p.0)) kept_at_calls) t u fs (subst (λ (x : RegSet). Keeps (union_of (common_of f.gives x) kept_at_calls) (new t) u) (n.gives p.0 k) keeps),
+      later,
+      refl,
+    ),
+  )
 
   -- a line that stays in the function
   local_from : (form : Form) (p : Place) (t : State) (q : Place) (u : State) → Known p.0 → q ≡ (number p.0, next (r.lines (number p.0)) form p.1 t.regs) → q ≡ at (p.0, next (s.lines p.0) form p.1 t.regs)
@@ -175,8 +190,13 @@ module _ (s r : Setting) (number : ℕ → ℕ) (Known : ℕ → Type 0) (n : Re
   goes_from Pull x p t q u k c h (to, (v, rest, pushed, is)) =
       record { place = (p.0, next (s.lines p.0) Pull p.1 t.regs); state = record t { regs = with_a v t.regs; pushed = rest }; place_is = local_from Pull p t q u k to; state_is = is; goes = (refl, (v, rest, pushed, refl)) }
   goes_from Depth x p t q u k c h g =
-      record { place = (p.0, next (s.lines p.0) Depth p.1 t.regs); state = record t { regs = with_x (s_of t) t.regs }; place_is = local_from Depth p t q u k g.0;
-        state_is = g.1 ∙ ap (λ (m : ℕ). record (new t) { regs = with_x m t.regs }) (s_same number t); goes = (refl, refl) }
+      record {
+        place = (p.0, next (s.lines p.0) Depth p.1 t.regs);
+        state = record t { regs = with_x (s_of t) t.regs };
+        place_is = local_from Depth p t q u k g.0;
+        state_is = g.1 ∙ ap (λ (m : ℕ). record (new t) { regs = with_x m t.regs }) (s_same number t);
+        goes = (refl, refl);
+      }
   goes_from (Run a) x p t q u k c h g =
       let m = run_from a t u g.1 in
       record { place = (p.0, next (s.lines p.0) (Run a) p.1 t.regs); state = m.0; place_is = local_from (Run a) p t q u k g.0; state_is = m.2; goes = (refl, m.1) }
