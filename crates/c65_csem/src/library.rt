@@ -1,6 +1,6 @@
 // The prototypes of the library's functions (C90 7.7, 7.9, 7.10, 7.11).
 ghost use Rattle.std.specs.Prelude.{◌≡◌, [], ◌∷◌, IfOk, find, bytes_eq};
-ghost use Rattle.c65_ctype.specs.Trees.{Ty, QTy, qual};
+ghost use Rattle.c65_ctype.specs.Trees.{Ty, QTy, qual, end, more};
 ghost use Rattle.c65_ctype.specs.Views.{ty_of, qty_of, qtys_of, fn_of};
 ghost use Rattle.c65_base.specs.Library.{library_name};
 ghost use Rattle.c65_csem.specs.Library as library;
@@ -100,7 +100,7 @@ fn size() -> QType
     int_type(IntType::UInt)
 }
 
-fn one(alloc: Global, a: QType) -> Result<Vec<QType>, AllocError>
+fn one<T: Drop>(alloc: Global, a: T) -> Result<Vec<T>, AllocError>
     ensures { IfOk result (λ v. v.items ≡ a ∷ []) }
 {
     let mut types = Vec::new(alloc);
@@ -108,7 +108,7 @@ fn one(alloc: Global, a: QType) -> Result<Vec<QType>, AllocError>
     Ok(types)
 }
 
-fn two(alloc: Global, a: QType, b: QType) -> Result<Vec<QType>, AllocError>
+fn two<T: Drop>(alloc: Global, a: T, b: T) -> Result<Vec<T>, AllocError>
     ensures { IfOk result (λ v. v.items ≡ a ∷ b ∷ []) }
 {
     let mut types = Vec::new(alloc);
@@ -117,7 +117,7 @@ fn two(alloc: Global, a: QType, b: QType) -> Result<Vec<QType>, AllocError>
     Ok(types)
 }
 
-fn three(alloc: Global, a: QType, b: QType, c: QType) -> Result<Vec<QType>, AllocError>
+fn three<T: Drop>(alloc: Global, a: T, b: T, c: T) -> Result<Vec<T>, AllocError>
     ensures { IfOk result (λ v. v.items ≡ a ∷ b ∷ c ∷ []) }
 {
     let mut types = Vec::new(alloc);
@@ -140,6 +140,34 @@ fn library_result(alloc: Global, signed_chars: bool, function: Library) -> Resul
     }
 }
 
+/// Two texts, the second one of which is const.
+fn texts(alloc: Global, is_const: bool, signed_chars: bool) -> Result<Vec<QType>, AllocError>
+    ensures { IfOk result (λ v. qtys_of v.items ≡ more (library.to is_const (Ty.int (library.plain_char signed_chars))) (more (library.const_text signed_chars) end)) }
+{
+    let from = text(alloc, true, signed_chars)?;
+    match text(alloc, is_const, signed_chars) {
+        Ok(to) => two(alloc, to, from),
+        Err(refused) => {
+            drop(from);
+            Err(refused)
+        }
+    }
+}
+
+/// Bytes, const bytes and their number.
+fn copied(alloc: Global) -> Result<Vec<QType>, AllocError>
+    ensures { IfOk result (λ v. qtys_of v.items ≡ more library.bytes (more library.const_bytes (more library.size end))) }
+{
+    let from = bytes(alloc, true)?;
+    match bytes(alloc, false) {
+        Ok(to) => three(alloc, to, from, size()),
+        Err(refused) => {
+            drop(from);
+            Err(refused)
+        }
+    }
+}
+
 fn library_params(
     alloc: Global,
     signed_chars: bool,
@@ -153,16 +181,10 @@ fn library_params(
         Library::Puts | Library::Strlen | Library::Printf => {
             one(alloc, text(alloc, true, signed_chars)?)
         }
-        Library::Memcpy => three(alloc, bytes(alloc, false)?, bytes(alloc, true)?, size()),
+        Library::Memcpy => copied(alloc),
         Library::Memset => three(alloc, bytes(alloc, false)?, number(), size()),
-        Library::Strcmp => {
-            let other = text(alloc, true, signed_chars)?;
-            two(alloc, text(alloc, true, signed_chars)?, other)
-        }
-        Library::Strcpy => {
-            let from = text(alloc, true, signed_chars)?;
-            two(alloc, text(alloc, false, signed_chars)?, from)
-        }
+        Library::Strcmp => texts(alloc, true, signed_chars),
+        Library::Strcpy => texts(alloc, false, signed_chars),
     }
 }
 

@@ -6,6 +6,3 @@ mod types;
 
 pub use arithmetic::{add, convert, div, mul, rem, shl, shr, sub, wrap};
 pub use types::IntType;
-
-#[cfg(test)]
-mod tests;

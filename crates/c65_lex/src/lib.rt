@@ -10,8 +10,6 @@ mod lexer;
 mod place;
 mod scan;
 mod spelling;
-#[cfg(test)]
-mod tests;
 mod token;
 
 pub use define::Define;

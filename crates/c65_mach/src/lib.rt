@@ -5,8 +5,6 @@ mod image;
 mod machine;
 mod registers;
 mod rows;
-#[cfg(test)]
-mod tests;
 
 pub use image::Image;
 pub use machine::{Machine, step};

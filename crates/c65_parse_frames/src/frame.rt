@@ -67,8 +67,13 @@ pub fn enter(frames: Vec<Frame>, frame: Frame) -> Result<Vec<Frame>, AllocError>
     ensures { IfOk result (λ r. stack_of r.items ≡ frame_of frame ∷ stack_of frames.items) }
 {
     let mut frames = frames;
-    push_last(&mut frames, frame)?;
-    Ok(frames)
+    match push_last(&mut frames, frame) {
+        Ok(()) => Ok(frames),
+        Err(refused) => {
+            drop(frames);
+            Err(refused)
+        }
+    }
 }
 
 fn is_block(frame: &Frame) -> bool
@@ -117,9 +122,15 @@ pub fn complete(alloc: Global, head: Head, stmt: Stmt) -> Result<Stmt, AllocErro
     ensures { IfOk result (λ r. stmt_of r ≡ Frames.completed (head_of head) (stmt_of stmt)) }
 {
     match head {
-        Head::Label(pos, name) => Stmt::label(alloc, pos, name, stmt),
+        Head::Label(pos, name) => {
+            drop(head);
+            Stmt::label(alloc, pos, name, stmt)
+        }
         Head::Case(pos, e) => Stmt::case(alloc, pos, e, stmt),
-        Head::Default(pos) => Stmt::default(alloc, pos, stmt),
+        Head::Default(pos) => {
+            drop(head);
+            Stmt::default(alloc, pos, stmt)
+        }
         Head::Else(pos, e, s) => Stmt::if_else(alloc, pos, e, s, stmt),
         Head::Switch(pos, e) => Stmt::switch(alloc, pos, e, stmt),
         Head::While(pos, e) => Stmt::while_loop(alloc, pos, e, stmt),
@@ -146,10 +157,20 @@ fn declare_in(frame: Frame, decl: Decl) -> Result<Frame, AllocError>
     match frame {
         Frame::Block(pos, decls, stmts) => {
             let mut decls = decls;
-            push_last(&mut decls, decl)?;
-            Ok(Frame::Block(pos, decls, stmts))
+            let pushed = push_last(&mut decls, decl);
+            match pushed {
+                Ok(()) => Ok(Frame::Block(pos, decls, stmts)),
+                Err(refused) => {
+                    drop(decls);
+                    drop(stmts);
+                    Err(refused)
+                }
+            }
         }
-        other => Ok(other),
+        other => {
+            drop(decl);
+            Ok(other)
+        }
     }
 }
 
@@ -158,11 +179,17 @@ pub fn with_declaration(frames: Vec<Frame>, decl: Decl) -> Result<Vec<Frame>, Al
     ensures { IfOk result (λ r. stack_of r.items ≡ Frames.with_declaration (stack_of frames.items) (decl_of decl)) }
 {
     let mut frames = frames;
-    if let Some(frame) = frames.pop() {
-        let frame = declare_in(frame, decl)?;
-        push_last(&mut frames, frame)?;
+    let Some(frame) = frames.pop() else {
+        drop(decl);
+        return Ok(frames);
+    };
+    match declare_in(frame, decl) {
+        Ok(frame) => enter(frames, frame),
+        Err(refused) => {
+            drop(frames);
+            Err(refused)
+        }
     }
-    Ok(frames)
 }
 
 /// The block that a frame is, where it is one.

@@ -4,6 +4,3 @@
 mod scope;
 
 pub use scope::Scope;
-
-#[cfg(test)]
-mod tests;

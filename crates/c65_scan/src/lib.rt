@@ -13,6 +13,3 @@ mod words;
 pub use c65_base::Text as Bytes;
 pub use scanner::scan;
 pub use token::{Keyword, Punct, Token, TokenKind, Tokens};
-
-#[cfg(test)]
-mod tests;

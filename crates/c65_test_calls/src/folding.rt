@@ -1,5 +1,5 @@
 // Constants that operators are folded to.
-use c65_base::BinaryOp;
+use c65_base::{BinaryOp, boxed_pair};
 use c65_csem::{TExpr, TKind, int_type};
 use c65_fold::{constant, fold};
 use c65_ints::IntType;
@@ -14,8 +14,7 @@ fn number(value: i64) -> TExpr {
 
 /// An operator on two values of type int.
 fn binary(alloc: Global, op: BinaryOp, a: TExpr, b: TExpr) -> Result<TExpr, AllocError> {
-    let a = Box::new(alloc, a)?;
-    let b = Box::new(alloc, b)?;
+    let (a, b) = boxed_pair(alloc, a, b)?;
     Ok(TExpr {
         ty: int_type(IntType::Int),
         kind: TKind::Binary(op, a, b),
@@ -46,24 +45,38 @@ fn left_of(e: &TExpr) -> Option<i64> {
     }
 }
 
+/// The left operand of an operator behind folding, where it is a constant.
+fn left_folded(e: TExpr) -> Option<i64> {
+    let mut e = e;
+    fold(&mut e);
+    let left = left_of(&e);
+    drop(e);
+    left
+}
+
 /// `2*3+x`, of which the product is left as a constant.
 fn product_and_object(alloc: Global) -> Result<Option<i64>, AllocError> {
     let product = binary(alloc, BinaryOp::Mul, number(2), number(3))?;
-    let mut sum = binary(alloc, BinaryOp::Add, product, loaded(alloc)?)?;
-    fold(&mut sum);
-    Ok(left_of(&sum))
+    match loaded(alloc) {
+        Ok(object) => Ok(left_folded(binary(alloc, BinaryOp::Add, product, object)?)),
+        Err(refused) => {
+            drop(product);
+            Err(refused)
+        }
+    }
 }
 
 /// `1/0`, which stays.
 fn quotient_by_zero(alloc: Global) -> Result<Option<i64>, AllocError> {
-    let mut quotient = binary(alloc, BinaryOp::Div, number(1), number(0))?;
-    fold(&mut quotient);
-    Ok(left_of(&quotient))
+    let quotient = binary(alloc, BinaryOp::Div, number(1), number(0))?;
+    Ok(left_folded(quotient))
 }
 
 fn folded(alloc: Global, op: BinaryOp, a: i64, b: i64) -> Result<Option<i64>, AllocError> {
     let e = binary(alloc, op, number(a), number(b))?;
-    Ok(constant(&e))
+    let value = constant(&e);
+    drop(e);
+    Ok(value)
 }
 
 const ROWS: [(BinaryOp, i64, i64); 12] = [

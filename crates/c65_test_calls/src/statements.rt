@@ -10,7 +10,9 @@ fn places(alloc: Global) -> Result<[Place; 2], Refusal> {
     let frames = enter(Vec::new(alloc), block)?;
     let first = place_in(&frames);
     let frames = enter(frames, Frame::Head(Head::Default(pos)))?;
-    Ok([first, place_in(&frames)])
+    let second = place_in(&frames);
+    drop(frames);
+    Ok([first, second])
 }
 
 pub fn show_places(rt: &HostRuntime) -> Result<(), anyhow::Error> {

@@ -19,7 +19,7 @@ fn name() -> Expr {
 }
 
 /// The least depth within which an expression is, if it is within 300.
-fn depth_of(e: &Expr) -> u16 {
+fn least_depth(e: &Expr) -> u16 {
     for depth in 0..300 {
         if is_within(e, depth) {
             return depth;
@@ -28,11 +28,30 @@ fn depth_of(e: &Expr) -> u16 {
     300
 }
 
+fn depth_of(e: Expr) -> u16 {
+    let depth = least_depth(&e);
+    drop(e);
+    depth
+}
+
 fn int(alloc: Global) -> Result<Specifiers, AllocError> {
-    let mut items = Vec::new(alloc);
     let kind = SpecifierKind::Int;
-    items.push(Specifier { pos: AT, kind })?;
+    let items = Vec::from_array(alloc, [Specifier { pos: AT, kind }])?;
     Ok(Specifiers::new(AT, items))
+}
+
+/// A type name of specifiers and the declarator that was made for them.
+fn named(
+    specifiers: Specifiers,
+    declarator: Result<Declarator, AllocError>,
+) -> Result<TypeName, AllocError> {
+    match declarator {
+        Ok(declarator) => Ok(TypeName::new(specifiers, declarator)),
+        Err(refused) => {
+            drop(specifiers);
+            Err(refused)
+        }
+    }
 }
 
 /// `((..1..))`, 255 pairs.
@@ -44,33 +63,54 @@ fn parentheses(alloc: Global) -> Result<Expr, AllocError> {
     Ok(e)
 }
 
+/// `x[(1)]`
+fn indexed(alloc: Global) -> Result<Expr, AllocError> {
+    let inner = Expr::paren(alloc, AT, one())?;
+    Expr::index(alloc, AT, name(), inner)
+}
+
 /// `x(1, x[(1)])`
 fn call(alloc: Global) -> Result<Expr, AllocError> {
-    let inner = Expr::paren(alloc, AT, one())?;
-    let second = Expr::index(alloc, AT, name(), inner)?;
     let arguments = with_expr(Vec::new(alloc), one())?;
-    let arguments = with_expr(arguments, second)?;
-    Expr::call(alloc, AT, name(), arguments)
+    match indexed(alloc) {
+        Ok(second) => Expr::call(alloc, AT, name(), with_expr(arguments, second)?),
+        Err(refused) => {
+            drop(arguments);
+            Err(refused)
+        }
+    }
 }
 
 /// `int [1]`
 fn int_array(alloc: Global) -> Result<TypeName, AllocError> {
-    let array = Declarator::array(alloc, AT, Declarator::nameless(AT), one())?;
-    Ok(TypeName::new(int(alloc)?, array))
+    let specifiers = int(alloc)?;
+    named(
+        specifiers,
+        Declarator::array(alloc, AT, Declarator::nameless(AT), one()),
+    )
 }
 
-/// `enum { x = 1 + 1, x } (*)()`
-fn enum_pointer(alloc: Global) -> Result<TypeName, AllocError> {
+/// `enum { x = 1 + 1, x }`
+fn enumeration(alloc: Global) -> Result<Specifiers, AllocError> {
     let two = Expr::binary(alloc, AT, BinaryOp::Add, one(), one())?;
     let first = Enumerator::new(AT, Name(7), Some(two));
     let items = with_enumerator(Vec::new(alloc), first)?;
     let items = with_enumerator(items, Enumerator::new(AT, Name(7), None))?;
-    let mut specifiers = Vec::new(alloc);
-    specifiers.push(Specifier::enumeration(AT, None, items))?;
+    let specifiers = Vec::from_array(alloc, [Specifier::enumeration(AT, None, items)])?;
+    Ok(Specifiers::new(AT, specifiers))
+}
+
+/// `(*)()`
+fn function_pointer(alloc: Global) -> Result<Declarator, AllocError> {
     let pointer = Declarator::pointer(alloc, AT, false, false, Declarator::nameless(AT))?;
     let group = Declarator::grouped(alloc, AT, pointer)?;
-    let function = Declarator::function(alloc, AT, group, Params::empty())?;
-    Ok(TypeName::new(Specifiers::new(AT, specifiers), function))
+    Declarator::function(alloc, AT, group, Params::empty())
+}
+
+/// `enum { x = 1 + 1, x } (*)()`
+fn enum_pointer(alloc: Global) -> Result<TypeName, AllocError> {
+    let specifiers = enumeration(alloc)?;
+    named(specifiers, function_pointer(alloc))
 }
 
 /// The size of `int [1]`.
@@ -85,17 +125,20 @@ fn pointer_size(alloc: Global) -> Result<Expr, AllocError> {
 
 /// The depths of these trees.
 fn depths(alloc: Global) -> Result<[u16; 5], AllocError> {
-    let leaf = depth_of(&one());
-    let pairs = depth_of(&parentheses(alloc)?);
-    let call = depth_of(&call(alloc)?);
-    let array = depth_of(&array_size(alloc)?);
-    let pointer = depth_of(&pointer_size(alloc)?);
+    let leaf = depth_of(one());
+    let pairs = depth_of(parentheses(alloc)?);
+    let call = depth_of(call(alloc)?);
+    let array = depth_of(array_size(alloc)?);
+    let pointer = depth_of(pointer_size(alloc)?);
     Ok([leaf, pairs, call, array, pointer])
 }
 
 fn empty_nodes(alloc: Global) -> u64 {
     let items = Vec::new(alloc);
-    nodes(&Unit { items })
+    let unit = Unit { items };
+    let count = nodes(&unit);
+    drop(unit);
+    count
 }
 
 pub fn show_depths(rt: &HostRuntime) -> Result<(), anyhow::Error> {

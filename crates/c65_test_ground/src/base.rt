@@ -1,4 +1,4 @@
-use crate::{Code, LinkKind, Name, Names, Options, Pos, Refusal, Size, Text};
+use c65_base::{Code, LinkKind, Name, Names, Options, Pos, Refusal, Size, Text};
 use std::alloc::{AllocError, Global};
 use std::test::Fail;
 

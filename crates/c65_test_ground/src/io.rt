@@ -1,4 +1,4 @@
-use crate::{
+use c65_io::{
     Failed, FileFault, Files, HostFiles, HostSink, HostSource, MemFiles, MemSink, MemSource, Sink,
     Source, mem_files, mem_sink, mem_source, write_all,
 };

@@ -1,6 +1,6 @@
 // Rows against values worked by hand from the manual, and images against their form.
-use crate::{Image, Machine, Op, Regs, step};
 use c65_base::{Cpu, Refusal, Text};
+use c65_mach::{Image, Machine, Op, Regs, step};
 use std::alloc::Global;
 use std::test::Fail;
 

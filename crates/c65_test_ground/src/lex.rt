@@ -1,7 +1,5 @@
-use crate::lexer::Lexer;
-use crate::spelling::class_of;
-use crate::token::PpKind;
 use c65_base::{Code, Names, Refusal, Size};
+use c65_lex::{Lexer, PpKind, class_of};
 use std::alloc::Global;
 use std::test::Fail;
 

@@ -1,8 +1,8 @@
 // Values at the edges of the eight types, by arithmetic on whole numbers.
 ghost use Rattle.c65_ints.specs.Ranges.{InRange};
 
-use super::*;
 use IntType::{Int, Long, SChar, Short, UChar, UInt, ULong, UShort};
+use c65_ints::{IntType, add, convert, div, mul, rem, shl, shr, sub, wrap};
 
 #[test]
 fn types_have_their_ranges(rt: HostRuntime) {

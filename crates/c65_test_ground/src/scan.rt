@@ -1,9 +1,9 @@
 // Tokens as C90 writes them, with types and values by its tables.
-use super::*;
 use IntType::{Int, Long, UInt, ULong};
 use c65_base::{Code, Names, Pos, Refusal, Size};
 use c65_ints::IntType;
 use c65_lex::{Paths, PpKind, PpToken, PpTokens, PpUnit};
+use c65_scan::{Keyword, Punct, Token, TokenKind, Tokens, scan};
 use std::alloc::Global;
 
 // The tokens of a unit of these, each on a line of its own.

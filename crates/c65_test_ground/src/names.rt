@@ -1,5 +1,5 @@
-use crate::Scope;
 use c65_base::Name;
+use c65_parse_names::Scope;
 use std::test::Fail;
 
 #[test]
