@@ -13,7 +13,7 @@ struct node {
     char name[9];
     long wide;
     unsigned low : 3;
-    int signed_part : 5;
+    signed int signed_part : 5;
     unsigned high : 8;
     struct inner many[3];
 };
@@ -31,6 +31,7 @@ int table[20];
 
 static int count;
 static int next_count(void) { return ++count; }
+/* operands go from left to right */
 static struct node *pick(struct node *p) { count += 10; return p; }
 
 static void links(struct node *p)
