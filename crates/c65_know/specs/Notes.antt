@@ -119,9 +119,18 @@ abbrev pub is_set_so : Option Bool → Bool → Bool
 is_set_so None b = true
 is_set_so (Some d) b = same d b
 
--- whether all that is known holds of a machine
-abbrev pub holds : Note → State → Bool
-holds n t =
+abbrev pub are_bytes_so : Note → State → Bool
+are_bytes_so n t =
     is_so n.a t.regs.a && is_so n.x t.regs.x && is_so n.y t.regs.y
     && is_so n.s0 (read t.mem 2) && is_so n.s1 (read t.mem 3) && is_so n.p0 (read t.mem 8) && is_so n.p1 (read t.mem 9) && is_so n.t1 (read t.mem 16)
-    && is_set_so n.n t.regs.n && is_set_so n.v t.regs.v && is_set_so n.z t.regs.z && is_set_so n.c t.regs.c
+
+abbrev pub are_flags_so : Note → State → Bool
+are_flags_so n t = is_set_so n.n t.regs.n && is_set_so n.v t.regs.v && is_set_so n.z t.regs.z && is_set_so n.c t.regs.c
+
+-- whether all that is known holds of a machine
+abbrev pub holds : Note → State → Bool
+holds n t = are_bytes_so n t && are_flags_so n t
+
+abbrev pub holds_of : Option Note → State → Bool
+holds_of None t = true
+holds_of (Some n) t = holds n t

@@ -2,13 +2,14 @@
 ghost use Rattle.std.specs.Prelude.{◌≡◌, ◌+◌, ◌-◌, ◌<◌, ◌≤◌, ◌++◌, [], false, length, take, replicate, slice_get, option_map, OnOk, OnErr, IfOk, IfErr};
 ghost use Rattle.c65_base.specs.declared.refusal.Refusal.TheVariants.{OutOfMemory};
 ghost use Rattle.c65_code.specs.Segments.{IsSegment, replaced, targets_of};
-ghost use Rattle.c65_know.specs.Notes.{nothing_known, holds};
+ghost use Rattle.c65_know.specs.Notes.{nothing_known, holds_of};
 ghost use Rattle.c65_know.specs.Known.{known_of, annotated};
 
 use crate::note::Note;
 use crate::ways::update;
 use c65_base::Refusal;
 use c65_code::{Line, Operand, Seg};
+use c65_mach::Machine;
 use std::alloc::{AllocError, Global};
 use std::marker::Model;
 
@@ -77,10 +78,12 @@ fn grow(alloc: Global, notes: &mut Vec<Note>, more: usize) -> Result<(), AllocEr
 }
 
 impl Noted {
-    /// The segment.
+    /// The segment, whose lines keep what a segment's lines keep, with what is known at them.
     pub fn seg(&self) -> &Seg
         ensures lines { result.now.lines ≡ self.now.lines }
         ensures out { result.now.out ≡ self.now.out }
+        ensures kept { IsSegment self.now.lines }
+        ensures noted { self.now.notes ≡ known_of self.now.lines }
     {
         &self.seg
     }
@@ -90,6 +93,16 @@ impl Noted {
         ensures { option_map (λ note. note.now) result ≡ slice_get self.now.notes at }
     {
         self.notes.get(at)
+    }
+
+    /// Whether each value that is known before a line is the machine's. Past the end nothing is known.
+    pub fn holds_at(&self, at: usize, machine: &Machine) -> bool
+        ensures { result ≡ holds_of (slice_get self.now.notes at) machine.now }
+    {
+        match self.notes.get(at) {
+            Some(note) => note.holds(machine),
+            None => true,
+        }
     }
 
     /// Other lines in place of some, and what is known then. After a refusal all is as before.

@@ -1,0 +1,6 @@
+pub mod Jumps
+pub mod Chains
+pub mod Rules
+pub mod Unused
+pub mod Good
+pub mod Rounds

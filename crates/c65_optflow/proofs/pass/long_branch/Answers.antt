@@ -1,0 +1,10 @@
+use Rattle.std.proofs.Common.{◌≡◌, ℕ, sym, subst}
+use Rattle.c65_pass.specs.Passes.{IsGood}
+use Rattle.c65_optflow.proofs.Good.{long_branch_good}
+use Rattle.c65_optflow.proofs.pass.long_branch.Goals as goal
+
+pub new-pass-requires-clause-good : goal.new-pass-requires-clause-good
+new-pass-requires-clause-good c = long_branch_good c.args.literals.now.items
+
+pub run_pass-requires-clause-good : goal.run_pass-requires-clause-good
+run_pass-requires-clause-good c = subst (λ r. IsGood r c.new-pass.result.literals.now.items) (sym c.new-pass.ensures.rule) (long_branch_good c.new-pass.result.literals.now.items)

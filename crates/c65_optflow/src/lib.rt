@@ -1,0 +1,9 @@
+//! The rules on jumps, branches and labels: lines that are never reached or lead nowhere else, and chains of jumps.
+#![tactic(auto)]
+
+mod branches;
+mod find;
+mod flow;
+mod pass;
+
+pub use flow::optimise_flow;
