@@ -1,5 +1,5 @@
 -- What rewriting by these rules keeps, over all rounds.
-use Rattle.std.proofs.Common.{◌≡◌, ◌⊎◌, inl, inr, ℕ, zero, suc, ◌+◌, ◌<◌, ◌≤◌, List, [], refl, sym, subst, ap, ◌∙◌, arith}
+use Rattle.std.proofs.Common.{◌≡◌, ◌⊎◌, inl, inr, ℕ, ◌+◌, ◌<◌, ◌≤◌, List, [], sym, subst, arith}
 use Rattle.std.specs.Prelude.{All, min}
 use Rattle.std.proofs.Math.Nat.{eq-or-lt_of_le}
 use Rattle.c65_code.specs.declared.line.Line.{Line}
@@ -12,8 +12,7 @@ use Rattle.c65_know.specs.Known.{Annotated}
 use Rattle.c65_pass.specs.Passes.{IsGood, Rewrites, IsFree}
 use Rattle.c65_pass.specs.Rewriting.{bulk}
 use Rattle.c65_pass.proofs.Chains.{Kept, kept}
-use Rattle.c65_pass.proofs.Ranks.{rank}
-use Rattle.c65_optload.specs.Load.{IsLoadRule, IsLoadFree, LoadRewrites, none, by}
+use Rattle.c65_optload.specs.Load.{IsLoadRule, LoadRewrites, none, by}
 use Rattle.c65_optload.proofs.Good.{idle_load_good, dead_load_good, dead_store_good, reload_good, restore_good, overwritten_good, dead_transfer_good, idle_transfer_good, back_good, transferred_good, idle_byte_load_good, idle_store_good, stepped_good, moved_on_good}
 
 module _ (literals : List (Sym × List ℕ)) (rule : ℕ) (first : 10 ≤ rule) where

@@ -1,12 +1,10 @@
 -- Rewriting by the rules on loads, stores and transfers.
-use Rattle.std.specs.Prelude.{◌≡◌, ◌≤◌, ℕ, ◌+◌, IfOk, IfErr, All, List, [], Result}
+use Rattle.std.specs.Prelude.{◌≡◌, ◌≤◌, ℕ, ◌+◌, IfOk, IfErr, List, [], Result}
 use Rattle.c65_base.specs.declared.refusal.Refusal.{Refusal}
 use Rattle.c65_base.specs.declared.refusal.Refusal.TheVariants.{OutOfMemory}
 use Rattle.c65_code.specs.declared.line.Line.{Line}
 use Rattle.c65_code.specs.declared.parts.RegSet.{RegSet}
 use Rattle.c65_code.specs.Segments.{IsSegment}
-use Rattle.c65_code.specs.Weights.{lines_size}
-use Rattle.c65_code.specs.Writable.{IsLineWritable}
 use Rattle.c65_know.specs.Known.{Annotated}
 use Rattle.c65_pass.specs.Passes.{Rewrites, IsFree, counted}
 

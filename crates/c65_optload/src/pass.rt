@@ -5,7 +5,9 @@ ghost use Rattle.c65_pass.specs.Passes.{Answers};
 ghost use Rattle.c65_pass.specs.Rules.{match_at};
 
 use crate::find::{
-    find_back, find_dead_load, find_dead_store, find_dead_transfer, find_idle_byte_load, find_idle_load, find_idle_store, find_idle_transfer, find_moved_on, find_overwritten, find_reload, find_restore, find_stepped, find_transferred,
+    find_back, find_dead_load, find_dead_store, find_dead_transfer, find_idle_byte_load,
+    find_idle_load, find_idle_store, find_idle_transfer, find_moved_on, find_overwritten,
+    find_reload, find_restore, find_stepped, find_transferred,
 };
 use c65_base::Refusal;
 use c65_code::Literals;
@@ -18,11 +20,13 @@ fn idle_load(alloc: Global, code: &mut Noted, literals: &Literals) -> Result<usi
     requires { literals.now.items ≡ [] }
     ensures { IsPassed 10 code.old code.new result }
 {
-    let pass = Pass::new(10, literals, |n: &Noted, l: &LiveTable, at: usize|
-        ensures { (literals : _) → Answers (match_at 10 literals n.now l.now at) result }
-    {
-        find_idle_load(alloc, n, l, at)
-    });
+    let pass = Pass::new(
+        10,
+        literals,
+        |n: &Noted, l: &LiveTable, at: usize|
+            ensures { (literals : _) → Answers (match_at 10 literals n.now l.now at) result }
+        { find_idle_load(alloc, n, l, at) },
+    );
     run_pass(alloc, code, &pass)
 }
 
@@ -30,11 +34,13 @@ fn dead_load(alloc: Global, code: &mut Noted, literals: &Literals) -> Result<usi
     requires { literals.now.items ≡ [] }
     ensures { IsPassed 11 code.old code.new result }
 {
-    let pass = Pass::new(11, literals, |n: &Noted, l: &LiveTable, at: usize|
-        ensures { (literals : _) → Answers (match_at 11 literals n.now l.now at) result }
-    {
-        find_dead_load(alloc, n, l, at)
-    });
+    let pass = Pass::new(
+        11,
+        literals,
+        |n: &Noted, l: &LiveTable, at: usize|
+            ensures { (literals : _) → Answers (match_at 11 literals n.now l.now at) result }
+        { find_dead_load(alloc, n, l, at) },
+    );
     run_pass(alloc, code, &pass)
 }
 
@@ -42,11 +48,13 @@ fn dead_store(alloc: Global, code: &mut Noted, literals: &Literals) -> Result<us
     requires { literals.now.items ≡ [] }
     ensures { IsPassed 12 code.old code.new result }
 {
-    let pass = Pass::new(12, literals, |n: &Noted, l: &LiveTable, at: usize|
-        ensures { (literals : _) → Answers (match_at 12 literals n.now l.now at) result }
-    {
-        find_dead_store(alloc, n, l, at)
-    });
+    let pass = Pass::new(
+        12,
+        literals,
+        |n: &Noted, l: &LiveTable, at: usize|
+            ensures { (literals : _) → Answers (match_at 12 literals n.now l.now at) result }
+        { find_dead_store(alloc, n, l, at) },
+    );
     run_pass(alloc, code, &pass)
 }
 
@@ -54,11 +62,13 @@ fn reload(alloc: Global, code: &mut Noted, literals: &Literals) -> Result<usize,
     requires { literals.now.items ≡ [] }
     ensures { IsPassed 13 code.old code.new result }
 {
-    let pass = Pass::new(13, literals, |n: &Noted, l: &LiveTable, at: usize|
-        ensures { (literals : _) → Answers (match_at 13 literals n.now l.now at) result }
-    {
-        find_reload(alloc, n, l, at)
-    });
+    let pass = Pass::new(
+        13,
+        literals,
+        |n: &Noted, l: &LiveTable, at: usize|
+            ensures { (literals : _) → Answers (match_at 13 literals n.now l.now at) result }
+        { find_reload(alloc, n, l, at) },
+    );
     run_pass(alloc, code, &pass)
 }
 
@@ -66,11 +76,13 @@ fn restore(alloc: Global, code: &mut Noted, literals: &Literals) -> Result<usize
     requires { literals.now.items ≡ [] }
     ensures { IsPassed 14 code.old code.new result }
 {
-    let pass = Pass::new(14, literals, |n: &Noted, l: &LiveTable, at: usize|
-        ensures { (literals : _) → Answers (match_at 14 literals n.now l.now at) result }
-    {
-        find_restore(alloc, n, l, at)
-    });
+    let pass = Pass::new(
+        14,
+        literals,
+        |n: &Noted, l: &LiveTable, at: usize|
+            ensures { (literals : _) → Answers (match_at 14 literals n.now l.now at) result }
+        { find_restore(alloc, n, l, at) },
+    );
     run_pass(alloc, code, &pass)
 }
 
@@ -78,11 +90,13 @@ fn overwritten(alloc: Global, code: &mut Noted, literals: &Literals) -> Result<u
     requires { literals.now.items ≡ [] }
     ensures { IsPassed 15 code.old code.new result }
 {
-    let pass = Pass::new(15, literals, |n: &Noted, l: &LiveTable, at: usize|
-        ensures { (literals : _) → Answers (match_at 15 literals n.now l.now at) result }
-    {
-        find_overwritten(alloc, n, l, at)
-    });
+    let pass = Pass::new(
+        15,
+        literals,
+        |n: &Noted, l: &LiveTable, at: usize|
+            ensures { (literals : _) → Answers (match_at 15 literals n.now l.now at) result }
+        { find_overwritten(alloc, n, l, at) },
+    );
     run_pass(alloc, code, &pass)
 }
 
@@ -90,11 +104,13 @@ fn dead_transfer(alloc: Global, code: &mut Noted, literals: &Literals) -> Result
     requires { literals.now.items ≡ [] }
     ensures { IsPassed 16 code.old code.new result }
 {
-    let pass = Pass::new(16, literals, |n: &Noted, l: &LiveTable, at: usize|
-        ensures { (literals : _) → Answers (match_at 16 literals n.now l.now at) result }
-    {
-        find_dead_transfer(alloc, n, l, at)
-    });
+    let pass = Pass::new(
+        16,
+        literals,
+        |n: &Noted, l: &LiveTable, at: usize|
+            ensures { (literals : _) → Answers (match_at 16 literals n.now l.now at) result }
+        { find_dead_transfer(alloc, n, l, at) },
+    );
     run_pass(alloc, code, &pass)
 }
 
@@ -102,11 +118,13 @@ fn idle_transfer(alloc: Global, code: &mut Noted, literals: &Literals) -> Result
     requires { literals.now.items ≡ [] }
     ensures { IsPassed 17 code.old code.new result }
 {
-    let pass = Pass::new(17, literals, |n: &Noted, l: &LiveTable, at: usize|
-        ensures { (literals : _) → Answers (match_at 17 literals n.now l.now at) result }
-    {
-        find_idle_transfer(alloc, n, l, at)
-    });
+    let pass = Pass::new(
+        17,
+        literals,
+        |n: &Noted, l: &LiveTable, at: usize|
+            ensures { (literals : _) → Answers (match_at 17 literals n.now l.now at) result }
+        { find_idle_transfer(alloc, n, l, at) },
+    );
     run_pass(alloc, code, &pass)
 }
 
@@ -114,11 +132,13 @@ fn back(alloc: Global, code: &mut Noted, literals: &Literals) -> Result<usize, R
     requires { literals.now.items ≡ [] }
     ensures { IsPassed 18 code.old code.new result }
 {
-    let pass = Pass::new(18, literals, |n: &Noted, l: &LiveTable, at: usize|
-        ensures { (literals : _) → Answers (match_at 18 literals n.now l.now at) result }
-    {
-        find_back(alloc, n, l, at)
-    });
+    let pass = Pass::new(
+        18,
+        literals,
+        |n: &Noted, l: &LiveTable, at: usize|
+            ensures { (literals : _) → Answers (match_at 18 literals n.now l.now at) result }
+        { find_back(alloc, n, l, at) },
+    );
     run_pass(alloc, code, &pass)
 }
 
@@ -126,11 +146,13 @@ fn transferred(alloc: Global, code: &mut Noted, literals: &Literals) -> Result<u
     requires { literals.now.items ≡ [] }
     ensures { IsPassed 19 code.old code.new result }
 {
-    let pass = Pass::new(19, literals, |n: &Noted, l: &LiveTable, at: usize|
-        ensures { (literals : _) → Answers (match_at 19 literals n.now l.now at) result }
-    {
-        find_transferred(alloc, n, l, at)
-    });
+    let pass = Pass::new(
+        19,
+        literals,
+        |n: &Noted, l: &LiveTable, at: usize|
+            ensures { (literals : _) → Answers (match_at 19 literals n.now l.now at) result }
+        { find_transferred(alloc, n, l, at) },
+    );
     run_pass(alloc, code, &pass)
 }
 
@@ -138,11 +160,13 @@ fn idle_byte_load(alloc: Global, code: &mut Noted, literals: &Literals) -> Resul
     requires { literals.now.items ≡ [] }
     ensures { IsPassed 20 code.old code.new result }
 {
-    let pass = Pass::new(20, literals, |n: &Noted, l: &LiveTable, at: usize|
-        ensures { (literals : _) → Answers (match_at 20 literals n.now l.now at) result }
-    {
-        find_idle_byte_load(alloc, n, l, at)
-    });
+    let pass = Pass::new(
+        20,
+        literals,
+        |n: &Noted, l: &LiveTable, at: usize|
+            ensures { (literals : _) → Answers (match_at 20 literals n.now l.now at) result }
+        { find_idle_byte_load(alloc, n, l, at) },
+    );
     run_pass(alloc, code, &pass)
 }
 
@@ -150,11 +174,13 @@ fn idle_store(alloc: Global, code: &mut Noted, literals: &Literals) -> Result<us
     requires { literals.now.items ≡ [] }
     ensures { IsPassed 21 code.old code.new result }
 {
-    let pass = Pass::new(21, literals, |n: &Noted, l: &LiveTable, at: usize|
-        ensures { (literals : _) → Answers (match_at 21 literals n.now l.now at) result }
-    {
-        find_idle_store(alloc, n, l, at)
-    });
+    let pass = Pass::new(
+        21,
+        literals,
+        |n: &Noted, l: &LiveTable, at: usize|
+            ensures { (literals : _) → Answers (match_at 21 literals n.now l.now at) result }
+        { find_idle_store(alloc, n, l, at) },
+    );
     run_pass(alloc, code, &pass)
 }
 
@@ -162,11 +188,13 @@ fn stepped(alloc: Global, code: &mut Noted, literals: &Literals) -> Result<usize
     requires { literals.now.items ≡ [] }
     ensures { IsPassed 22 code.old code.new result }
 {
-    let pass = Pass::new(22, literals, |n: &Noted, l: &LiveTable, at: usize|
-        ensures { (literals : _) → Answers (match_at 22 literals n.now l.now at) result }
-    {
-        find_stepped(alloc, n, l, at)
-    });
+    let pass = Pass::new(
+        22,
+        literals,
+        |n: &Noted, l: &LiveTable, at: usize|
+            ensures { (literals : _) → Answers (match_at 22 literals n.now l.now at) result }
+        { find_stepped(alloc, n, l, at) },
+    );
     run_pass(alloc, code, &pass)
 }
 
@@ -174,11 +202,13 @@ fn moved_on(alloc: Global, code: &mut Noted, literals: &Literals) -> Result<usiz
     requires { literals.now.items ≡ [] }
     ensures { IsPassed 23 code.old code.new result }
 {
-    let pass = Pass::new(23, literals, |n: &Noted, l: &LiveTable, at: usize|
-        ensures { (literals : _) → Answers (match_at 23 literals n.now l.now at) result }
-    {
-        find_moved_on(alloc, n, l, at)
-    });
+    let pass = Pass::new(
+        23,
+        literals,
+        |n: &Noted, l: &LiveTable, at: usize|
+            ensures { (literals : _) → Answers (match_at 23 literals n.now l.now at) result }
+        { find_moved_on(alloc, n, l, at) },
+    );
     run_pass(alloc, code, &pass)
 }
 

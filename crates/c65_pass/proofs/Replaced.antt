@@ -53,7 +53,7 @@ all_first p line rest h = all_from p (target_of line) [] (all_parts p (target_of
 gone : (lines : List Line) (at : ℕ) (line : Line) (post : List Line) → drop at lines ≡ line ∷ post → IsSegment lines → IsQuiet line → Keeps lines (record { at = at; count = 1; lines = [] })
 gone lines at line post e s quiet =
     keeps_window lines at 1 (line ∷ []) [] post e (omega arith) (omega arith) s (record { fit = refl; labels = sym quiet.plain; targets = refl; closed = λ b k. past line post b b quiet k })
-      (omega arith) (omega arith) (λ n all. All-tail (IsLineWritable n) line post all)
+    (omega arith) (omega arith) (λ n all. All-tail (IsLineWritable n) line post all)
 
 pub gone_keeps : (lines : List Line) (at : ℕ) (line : Line) (post : List Line) (w : Rewriting) (b : Bool) → drop at lines ≡ line ∷ post → IsSegment lines
     → (b ≡ true → IsQuiet line) → gone_if b at ≡ Some w → Keeps lines w
@@ -71,11 +71,14 @@ first lines at line next post e s quiet after =
     let p = is_among (labels_of (take at lines ++ (line ∷ next ∷ post))) in
     let fit = (and_parts (is_fit line) (list_all is_fit (next ∷ [])) (fit_there (take at lines) (line ∷ next ∷ []) post s2)).0 in
     keeps_window lines at 2 (line ∷ next ∷ []) (line ∷ []) post e (omega arith) (omega arith) s
-      (record { fit = and_from (is_fit line) true fit refl; labels = quiet.plain ∙ sym (joined_labels line (next ∷ []) quiet.plain ∙ after.plain);
-        targets = all_first p line (next ∷ []) (targets_there (take at lines) (line ∷ next ∷ []) post s2);
-        closed = λ b k. past next post (is_closing line) (is_closing line) after k })
-      (omega arith) (omega arith) (λ n all. All-cons (IsLineWritable n) line post (All-head (IsLineWritable n) line (next ∷ post) all)
-        (All-tail (IsLineWritable n) next post (All-tail (IsLineWritable n) line (next ∷ post) all)))
+    (record {
+      fit = and_from (is_fit line) true fit refl;
+      labels = quiet.plain ∙ sym (joined_labels line (next ∷ []) quiet.plain ∙ after.plain);
+      targets = all_first p line (next ∷ []) (targets_there (take at lines) (line ∷ next ∷ []) post s2);
+      closed = λ b k. past next post (is_closing line) (is_closing line) after k;
+    })
+    (omega arith) (omega arith) (λ n all. All-cons (IsLineWritable n) line post (All-head (IsLineWritable n) line (next ∷ post) all)
+    (All-tail (IsLineWritable n) next post (All-tail (IsLineWritable n) line (next ∷ post) all)))
 
 pub first_keeps : (lines : List Line) (at : ℕ) (line next : Line) (post : List Line) (w : Rewriting) (b : Bool) → drop at lines ≡ line ∷ next ∷ post → IsSegment lines
     → (b ≡ true → IsQuiet line × IsQuiet next) → alone_if b at line ≡ Some w → Keeps lines w
@@ -91,10 +94,13 @@ second lines at line next post e s quiet =
     let p = is_among (labels_of (take at lines ++ (line ∷ next ∷ post))) in
     let fit = (and_parts (is_fit line) (list_all is_fit (next ∷ [])) (fit_there (take at lines) (line ∷ next ∷ []) post s2)).1 in
     keeps_window lines at 2 (line ∷ next ∷ []) (next ∷ []) post e (omega arith) (omega arith) s
-      (record { fit = fit; labels = sym (joined_labels line (next ∷ []) quiet.plain);
-        targets = (all_parts p (target_of line) (targets_of (next ∷ [])) (targets_there (take at lines) (line ∷ next ∷ []) post s2)).1;
-        closed = λ b k. k })
-      (omega arith) (omega arith) (λ n all. All-tail (IsLineWritable n) line (next ∷ post) all)
+    (record {
+      fit = fit;
+      labels = sym (joined_labels line (next ∷ []) quiet.plain);
+      targets = (all_parts p (target_of line) (targets_of (next ∷ [])) (targets_there (take at lines) (line ∷ next ∷ []) post s2)).1;
+      closed = λ b k. k;
+    })
+    (omega arith) (omega arith) (λ n all. All-tail (IsLineWritable n) line (next ∷ post) all)
 
 pub second_keeps : (lines : List Line) (at : ℕ) (line next : Line) (post : List Line) (w : Rewriting) (b : Bool) → drop at lines ≡ line ∷ next ∷ post → IsSegment lines
     → (b ≡ true → IsQuiet line) → alone_if b at next ≡ Some w → Keeps lines w
@@ -119,10 +125,13 @@ other lines at line new post e s quiet small =
     let size = small.size in
     let p = is_among (labels_of (take at lines ++ (line ∷ post))) in
     keeps_window lines at 1 (line ∷ []) (new ∷ []) post e (omega arith) (omega arith) s
-      (record { fit = and_from (is_fit new) true small.fit refl; labels = small.quiet.plain ∙ sym quiet.plain;
-        targets = ap (λ ls. list_all p (ls ++ [])) small.still;
-        closed = λ b k. ap (λ c. closed_by c post) (small.quiet.onward ∙ sym quiet.onward) ∙ k })
-      (omega arith) (omega arith) (λ n all. All-cons (IsLineWritable n) new post (small.writable n) (All-tail (IsLineWritable n) line post all))
+    (record {
+      fit = and_from (is_fit new) true small.fit refl;
+      labels = small.quiet.plain ∙ sym quiet.plain;
+      targets = ap (λ ls. list_all p (ls ++ [])) small.still;
+      closed = λ b k. ap (λ c. closed_by c post) (small.quiet.onward ∙ sym quiet.onward) ∙ k;
+    })
+    (omega arith) (omega arith) (λ n all. All-cons (IsLineWritable n) new post (small.writable n) (All-tail (IsLineWritable n) line post all))
 
 pub other_keeps : (lines : List Line) (at : ℕ) (line : Line) (post : List Line) (w : Rewriting) (new : Option Line) → drop at lines ≡ line ∷ post → IsSegment lines
     → ((l : Line) → new ≡ Some l → IsQuiet line × IsSmaller line l) → instead 1 at new ≡ Some w → Keeps lines w
@@ -152,11 +161,14 @@ both lines at line next new post e s h =
     let fit = (and_parts (is_fit line) (list_all is_fit (next ∷ [])) (fit_there (take at lines) (line ∷ next ∷ []) post s2)).0 in
     let size = h.size in
     keeps_window lines at 2 (line ∷ next ∷ []) (new ∷ []) post e (omega arith) (omega arith) s
-      (record { fit = and_from (is_fit new) true (h.fit fit) refl; labels = h.quiet.plain ∙ sym (joined_labels line (next ∷ []) h.first.plain ∙ h.second.plain);
-        targets = ap (λ ls. list_all p (ls ++ [])) h.same ∙ all_first p line (next ∷ []) (targets_there (take at lines) (line ∷ next ∷ []) post s2);
-        closed = λ b k. ap (λ c. closed_by c post) (h.quiet.onward ∙ sym h.second.onward) ∙ k })
-      (omega arith) (omega arith) (λ n all. All-cons (IsLineWritable n) new post (h.writable n (All-head (IsLineWritable n) line (next ∷ post) all))
-        (All-tail (IsLineWritable n) next post (All-tail (IsLineWritable n) line (next ∷ post) all)))
+    (record {
+      fit = and_from (is_fit new) true (h.fit fit) refl;
+      labels = h.quiet.plain ∙ sym (joined_labels line (next ∷ []) h.first.plain ∙ h.second.plain);
+      targets = ap (λ ls. list_all p (ls ++ [])) h.same ∙ all_first p line (next ∷ []) (targets_there (take at lines) (line ∷ next ∷ []) post s2);
+      closed = λ b k. ap (λ c. closed_by c post) (h.quiet.onward ∙ sym h.second.onward) ∙ k;
+    })
+    (omega arith) (omega arith) (λ n all. All-cons (IsLineWritable n) new post (h.writable n (All-head (IsLineWritable n) line (next ∷ post) all))
+    (All-tail (IsLineWritable n) next post (All-tail (IsLineWritable n) line (next ∷ post) all)))
 
 pub both_keeps : (lines : List Line) (at : ℕ) (line next : Line) (post : List Line) (w : Rewriting) (new : Option Line) → drop at lines ≡ line ∷ next ∷ post → IsSegment lines
     → ((l : Line) → new ≡ Some l → IsBoth line next l) → instead 2 at new ≡ Some w → Keeps lines w

@@ -9,6 +9,6 @@ mod run;
 pub use labels::{
     begins_with, branch_target, chain_end, hop, is_label, jump_target, retargeted, threaded,
 };
-pub use register::{loaded_by, stored_by, transfer_by, Register, Transfer};
+pub use register::{Register, Transfer, loaded_by, stored_by, transfer_by};
 pub use rewrite::{Pass, Rewrite};
 pub use run::run_pass;

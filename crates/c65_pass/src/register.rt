@@ -27,9 +27,8 @@ impl Register {
         ensures { result ≡ is_same_register self other }
     {
         match (self, other) {
-            (Register::A, Register::A) | (Register::X, Register::X) | (Register::Y, Register::Y) => {
-                true
-            }
+            (Register::A, Register::A) | (Register::X, Register::X) | (Register::Y, Register::Y) =>
+                { true }
             _ => false,
         }
     }

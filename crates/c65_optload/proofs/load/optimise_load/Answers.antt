@@ -1,4 +1,4 @@
-use Rattle.std.proofs.Common.{rules, ◌≡◌, ℕ, ◌+◌, ◌-◌, ◌^◌, refl, arith, sym, ◌∙◌}
+use Rattle.std.proofs.Common.{rules, ◌+◌, ◌-◌, ◌^◌, refl, arith, ◌∙◌}
 use Rattle.c65_pass.specs.Rewriting.{bulk}
 use Rattle.c65_pass.proofs.Chains.{count_more, some_made}
 use Rattle.c65_optload.proofs.Rounds.{done_none, done_more, load_kept, none_more}

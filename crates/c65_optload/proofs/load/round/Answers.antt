@@ -1,4 +1,4 @@
-use Rattle.std.proofs.Common.{rules, ◌≡◌, ℕ, ◌+◌, ◌-◌, ◌^◌, ◌<◌, ◌≤◌, refl, arith, sym, ◌∙◌}
+use Rattle.std.proofs.Common.{rules, ◌≡◌, ◌+◌, ◌-◌, ◌^◌, refl, arith, sym, ◌∙◌}
 use Rattle.c65_optload.specs.Load.{IsLoadRule, none}
 use Rattle.c65_pass.proofs.Chains.{count_more, first_segment}
 use Rattle.c65_optload.proofs.Rounds.{passed_on, both_none, free_so_far}

@@ -1,4 +1,4 @@
-use Rattle.std.proofs.Common.{rules, ◌≡◌, ℕ, sym, subst}
+use Rattle.std.proofs.Common.{rules, sym, subst}
 use Rattle.c65_pass.specs.Passes.{IsGood, Answers}
 use Rattle.c65_pass.specs.Rules.{match_at}
 use Rattle.c65_optload.proofs.Good.{restore_good}
