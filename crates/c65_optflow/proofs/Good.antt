@@ -5,15 +5,14 @@ use Rattle.c65_code.specs.declared.line.Line.{Line}
 use Rattle.c65_code.specs.declared.line.Sym.{Sym}
 use Rattle.c65_know.specs.Known.{Annotated}
 use Rattle.c65_live.specs.Tables.{Table}
-use Rattle.c65_pass.specs.FlowRules.{flow_rule}
 use Rattle.c65_pass.specs.Passes.{IsGood}
 use Rattle.c65_pass.specs.Rewriting.{Rewriting, Keeps}
-use Rattle.c65_pass.specs.Rules.{match_there, match_at}
+use Rattle.c65_pass.specs.Rules.{made_by, match_there, match_at}
 use Rattle.c65_optflow.proofs.Rules.{idle_jump_keeps, idle_branch_keeps, unreached_keeps, long_jump_keeps, long_branch_keeps, round_branch_keeps, passed_branch_keeps, passed_over_keeps}
 use Rattle.c65_optflow.proofs.Unused.{unused_label_keeps}
 
 at_line : (rule : ℕ) (literals : List (Sym × List ℕ)) (noted : Annotated) (table : Table) (at : ℕ) (w : Rewriting)
-    → ((line : Line) (post : List Line) → drop at noted.lines ≡ line ∷ post → flow_rule rule noted.lines (slice_get noted.notes at) at line post ≡ Some w → Keeps noted.lines w)
+    → ((line : Line) (post : List Line) → drop at noted.lines ≡ line ∷ post → made_by rule noted table at line post ≡ Some w → Keeps noted.lines w)
     → match_at rule literals noted table at ≡ Some w → Keeps noted.lines w
 at_line rule literals noted table at w keeps m = go (drop at noted.lines) refl m
   where

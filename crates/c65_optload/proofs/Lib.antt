@@ -1,3 +1,4 @@
 mod Quiet
 mod Shorter
-pub mod Good
+mod Good
+mod Rounds

@@ -1,20 +1,20 @@
 -- Loads, stores and transfers go on to the next line.
-use Rattle.std.proofs.Common.{◌≡◌, ◌&&◌, ℕ, Bool, true, false, List, [], ◌∷◌, Option, Some, None, is_some, refl, sym, subst, ap, ◌∙◌}
+use Rattle.std.proofs.Common.{◌≡◌, ℕ, true, Option, Some, None, is_some, refl}
 use Rattle.std.proofs.lemmas.Bool.{and_parts}
 use Rattle.c65_mach.specs.declared.rows.Op.{Op}
 use Rattle.c65_mach.specs.declared.rows.Op.TheVariants as ops
 use Rattle.c65_mach.specs.declared.rows.Mode.{Mode}
-use Rattle.c65_mach.specs.declared.rows.Mode.TheVariants.{Immediate, ZeroPage, Absolute}
+use Rattle.c65_mach.specs.declared.rows.Mode.TheVariants.{Immediate, ZeroPage}
 use Rattle.c65_code.specs.declared.line.Operand.{Operand}
-use Rattle.c65_code.specs.declared.line.Operand.TheVariants.{Byte, Zero, At}
+use Rattle.c65_code.specs.declared.line.Operand.TheVariants.{Byte, Zero}
 use Rattle.c65_code.specs.declared.line.Line.{Line}
-use Rattle.c65_code.specs.declared.line.Line.TheVariants.{Label, Do, Call}
+use Rattle.c65_code.specs.declared.line.Line.TheVariants.{Do}
 use Rattle.c65_know.specs.declared.note.Note.{Note}
 use Rattle.c65_live.specs.Tables.{Table}
 use Rattle.c65_pass.specs.declared.register.Register.{Register}
 use Rattle.c65_pass.specs.declared.register.Transfer.{Transfer}
 use Rattle.c65_pass.specs.Registers.{loaded_by, stored_by, transfer_by}
-use Rattle.c65_pass.specs.LoadRules.{has, is_free, is_register_dead, is_scratch, is_one_place, are_one, are_flags_dead, is_idle_load, is_dead_load, is_dead_store, is_reload, is_restore, is_overwritten, target, is_dead_transfer, is_value_free, carried, is_idle_transfer, are_back, is_back, shared, is_idle_byte_load, is_idle_store}
+use Rattle.c65_pass.specs.LoadRules.{has, is_free, is_register_dead, are_one, is_idle_load, is_dead_load, is_dead_store, is_reload, is_restore, is_overwritten, target, is_dead_transfer, is_value_free, carried, is_idle_transfer, are_back, is_back, shared, is_idle_byte_load, is_idle_store}
 use Rattle.c65_pass.proofs.Replaced.{IsQuiet}
 
 pub load_quiet : (op : Op) (mode : Mode) (operand : Operand) → is_some (loaded_by op) ≡ true → IsQuiet (Do op mode operand)

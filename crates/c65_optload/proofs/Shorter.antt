@@ -1,7 +1,6 @@
 -- The lines that stand for loads.
-use Rattle.std.proofs.Common.{◌≡◌, ◌&&◌, ◌+◌, ◌%◌, ◌≤◌, ℕ, Bool, true, false, List, [], ◌∷◌, Option, Some, None, is_some, refl, sym, subst, ap, ◌∙◌, arith}
+use Rattle.std.proofs.Common.{◌≡◌, ◌&&◌, ◌+◌, ◌%◌, ℕ, Bool, true, false, [], ◌∷◌, Option, Some, None, is_some, refl, sym, subst, ap, ◌∙◌, arith}
 use Rattle.std.specs.Prelude.{if◌then◌else◌}
-use Rattle.std.proofs.lemmas.Bool.{and_parts}
 use Rattle.c65_mach.specs.declared.rows.Op.{Op}
 use Rattle.c65_mach.specs.declared.rows.Op.TheVariants as ops
 use Rattle.c65_mach.specs.declared.rows.Mode.{Mode}
@@ -9,11 +8,9 @@ use Rattle.c65_mach.specs.declared.rows.Mode.TheVariants.{Immediate, ZeroPage, A
 use Rattle.c65_code.specs.declared.line.Operand.{Operand}
 use Rattle.c65_code.specs.declared.line.Operand.TheVariants.{Nothing, Byte, Low, High, Zero, At, To}
 use Rattle.c65_code.specs.declared.line.Line.{Line}
-use Rattle.c65_code.specs.declared.line.Line.TheVariants.{Label, Do, Call}
+use Rattle.c65_code.specs.declared.line.Line.TheVariants.{Do}
 use Rattle.c65_code.specs.Parts.{set_of}
 use Rattle.c65_code.specs.Segments.{is_fit, target_of}
-use Rattle.c65_code.specs.Weights.{line_size}
-use Rattle.c65_code.specs.Writable.{IsLineWritable}
 use Rattle.c65_know.specs.declared.note.Note.{Note}
 use Rattle.c65_live.specs.Tables.{Table, is_dead}
 use Rattle.c65_pass.specs.declared.register.Register.{Register}

@@ -88,7 +88,14 @@ fn shows(code: &Noted, at: usize, flag: Flag, value: bool) -> bool
 }
 
 // Whether a flag is dead after a line, or has this value before it.
-fn is_flag_free(code: &Noted, live: &LiveTable, at: usize, part: Part, flag: Flag, value: bool) -> bool
+fn is_flag_free(
+    code: &Noted,
+    live: &LiveTable,
+    at: usize,
+    part: Part,
+    flag: Flag,
+    value: bool,
+) -> bool
     requires { IsPart part }
     ensures { result ≡ is_flag_free (slice_get code.now.notes at) live.now at part flag value }
 {

@@ -7,8 +7,8 @@ ghost use Rattle.c65_pass.specs.Rules.{match_at};
 
 use crate::others::{loaded_on, stepped, transferred};
 use crate::tests::{
-    is_back, is_dead_load, is_dead_store, is_dead_transfer, is_idle_byte_load, is_idle_load, is_idle_store,
-    is_idle_transfer, is_overwritten, is_reload, is_restore,
+    is_back, is_dead_load, is_dead_store, is_dead_transfer, is_idle_byte_load, is_idle_load,
+    is_idle_store, is_idle_transfer, is_overwritten, is_reload, is_restore,
 };
 use c65_base::Refusal;
 use c65_code::Line;

@@ -3,11 +3,9 @@
 
 mod facts;
 mod find;
+mod load;
 mod others;
+mod pass;
 mod tests;
 
-pub use find::{
-    find_back, find_dead_load, find_dead_store, find_dead_transfer, find_idle_byte_load,
-    find_idle_load, find_idle_store, find_idle_transfer, find_moved_on, find_overwritten,
-    find_reload, find_restore, find_stepped, find_transferred,
-};
+pub use load::optimise_load;

@@ -105,10 +105,7 @@ fn load_for(
     let (Some(register), Some(transfer)) = (register, transfer) else {
         return None;
     };
-    if is_common_load(mode)
-        && register.is(transfer.from)
-        && live.is_dead(at, only(register))
-    {
+    if is_common_load(mode) && register.is(transfer.from) && live.is_dead(at, only(register)) {
         Some(Line::Do(transfer.to.load(), mode, operand))
     } else {
         None
@@ -121,7 +118,14 @@ pub fn loaded_on(live: &LiveTable, at: usize, line: &Line, next: &Line) -> Optio
 {
     match (line, next) {
         (Line::Do(op, mode, operand), Line::Do(other, _, _)) => {
-            load_for(live, at, *mode, *operand, loaded_by(*op), transfer_by(*other))
+            load_for(
+                live,
+                at,
+                *mode,
+                *operand,
+                loaded_by(*op),
+                transfer_by(*other),
+            )
         }
         _ => None,
     }

@@ -141,7 +141,10 @@ fn carried(code: &Noted, at: usize, transfer: Option<Transfer>) -> Option<u8>
     ensures { result ≡ carried (slice_get code.now.notes at) transfer }
 {
     match transfer {
-        Some(transfer) => agreed(known_of(code, at, transfer.from), known_of(code, at, transfer.to)),
+        Some(transfer) => agreed(
+            known_of(code, at, transfer.from),
+            known_of(code, at, transfer.to),
+        ),
         None => None,
     }
 }
