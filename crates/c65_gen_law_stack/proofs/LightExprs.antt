@@ -1,5 +1,5 @@
 -- The lines of a light expression leave ptr2.
-use Rattle.std.proofs.Common.{◌≡◌, ℕ, ◌+◌, ◌&&◌, Bool, true, false, Option, None, Some, List, [], ◌++◌, refl}
+use Rattle.std.proofs.Common.{◌≡◌, ℕ, ◌+◌, Bool, true, None, List}
 use Rattle.std.proofs.lemmas.Bool.{and_parts}
 use Rattle.c65_base.specs.declared.operators.BinaryOp.{BinaryOp}
 use Rattle.c65_base.specs.declared.operators.BinaryOp.TheVariants as ops
@@ -23,7 +23,7 @@ use Rattle.c65_genexpr.specs.declared.operating.Operating.{Operating}
 use Rattle.c65_genexpr.specs.declared.operating.Operating.TheVariants as operating
 use Rattle.c65_genexpr.specs.declared.wanted.Wanted.TheVariants.{Value}
 use Rattle.c65_genexpr.specs.Types.{kind_in, bare, offset_at, access_of}
-use Rattle.c65_genexpr.specs.Places.{place_of, object_place}
+use Rattle.c65_genexpr.specs.Places.{place_of}
 use Rattle.c65_genexpr.specs.Operands.{residue_of, operands_of, computes}
 use Rattle.c65_genexpr.specs.Operating.{takes_bytes, is_light_form, is_light_place, is_light_access, is_light_conversion, is_light_operator, is_light, reading_of, held_form, held_if, or_held, below_operand, operator_by}
 use Rattle.c65_genexpr.specs.Uses.{by_relation, uses}

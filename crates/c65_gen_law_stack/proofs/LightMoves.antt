@@ -17,7 +17,7 @@ use Rattle.c65_code.specs.declared.line.Line.{Line}
 use Rattle.c65_code.specs.declared.line.Line.TheVariants.{Label, Do, Call}
 use Rattle.c65_code.specs.Parts.{has_part}
 use Rattle.c65_code.specs.Access.{is_written}
-use Rattle.c65_code.specs.LineState.{write, Place, State, zero_word}
+use Rattle.c65_code.specs.LineState.{Place, State, zero_word}
 use Rattle.c65_code.specs.Placement.{Placement, Setting, word_of}
 use Rattle.c65_code.specs.Rows.{Row, Meets, row_of}
 use Rattle.c65_code.specs.Forms.{Form, Mark, Plain, Branch, Jump, Far, Push, Pull, Depth, Return, Run, Enter, Through, Stray, branch_form, jump_form, move_form, op_form, form_of}

@@ -10,7 +10,7 @@ use Rattle.c65_ints.specs.declared.types.IntType.{IntType}
 use Rattle.c65_ints.specs.declared.types.IntType.TheVariants as ints
 use Rattle.c65_ctype.specs.Trees.{Ty, void, int, pointer, array, tag, function}
 use Rattle.c65_mach.specs.declared.rows.Op.{Op}
-use Rattle.c65_mach.specs.declared.rows.Op.TheVariants.{Bcc, Bcs, Clc, Dex, Inx, Lda, Ldx, Ldy, Pha, Pla, Sbc, Sec, Sta, Stx, Tax, Tay, Txa, Tya}
+use Rattle.c65_mach.specs.declared.rows.Op.TheVariants.{Lda, Ldy, Pha, Pla, Sbc, Sec, Sta, Stx, Tax, Tay, Txa, Tya}
 use Rattle.c65_mach.specs.declared.rows.Mode.{Mode}
 use Rattle.c65_mach.specs.declared.rows.Mode.TheVariants.{Absolute, Immediate, IndirectY, ZeroPage}
 use Rattle.c65_mach.specs.Step.{kind_of}
@@ -34,11 +34,11 @@ use Rattle.c65_genload.specs.declared.places.Place.{Place}
 use Rattle.c65_genload.specs.declared.places.Place.TheVariants as places
 use Rattle.c65_genload.specs.declared.places.Access.{Access}
 use Rattle.c65_genload.specs.declared.places.Access.TheVariants.{Whole, Part}
-use Rattle.c65_genload.specs.Words.{sp, sreg, tmp1, tmp2, implied, zero_page, branch}
+use Rattle.c65_genload.specs.Words.{sp, sreg, tmp1, tmp2, implied, zero_page}
 use Rattle.c65_genload.specs.Places.{extent_of}
 use Rattle.c65_genload.specs.Numbers.{first, second, third, fourth, number_code, add_word_code, add_long_code, divide_code}
-use Rattle.c65_genload.specs.Conversions.{widen_code, convert_code, convert_to, size_of}
-use Rattle.c65_genload.specs.Addresses.{symbol_code, address_code, offset_code}
+use Rattle.c65_genload.specs.Conversions.{widen_code, convert_to}
+use Rattle.c65_genload.specs.Addresses.{symbol_code, offset_code}
 use Rattle.c65_genload.specs.Loads.{bytes_code, load_code}
 use Rattle.c65_gendirect.specs.declared.bytes.OperandByte.{OperandByte}
 use Rattle.c65_gendirect.specs.declared.bytes.OperandByte.TheVariants.{Number, Low, High, Near, Data, Zero}
@@ -46,7 +46,7 @@ use Rattle.c65_gendirect.specs.Bytes.{op_of, takes_y, aside, back}
 use Rattle.c65_gendirect.specs.Words.{instruction, carry_code, first_byte_code, both_bytes_code, onward_code, end_label, is_and, is_number, word_code, add_number_code, taken_from_code, long_mask_code}
 use Rattle.c65_genshift.specs.Shifts.{labelled}
 use Rattle.c65_genshift.specs.Quick.{elements_code}
-use Rattle.c65_genexpr.specs.Places.{more, soft_code, soft_place, near, code_at, place_at, object_code, object_place}
+use Rattle.c65_genexpr.specs.Places.{more, soft_code, soft_place, code_at, place_at, object_code, object_place}
 use Rattle.c65_genexpr.specs.Operands.{conversion_code}
 use Rattle.c65_genexpr.specs.declared.operating.Form.{Form}
 use Rattle.c65_genexpr.specs.declared.operating.Form.TheVariants as forms
