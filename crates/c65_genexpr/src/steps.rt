@@ -11,7 +11,9 @@ use c65_base::{BinaryOp, StepKind};
 use c65_code::Draft;
 use c65_ctype::CType;
 use c65_genframe::Frame;
-use c65_genload::{Access, Place, add, convert, hold, in_field, load, push, settled, store, value_type};
+use c65_genload::{
+    Access, Place, add, convert, hold, in_field, load, push, settled, store, value_type,
+};
 use c65_genwide::{put, width_of};
 use c65_ints::IntType;
 use std::alloc::AllocError;

@@ -40,7 +40,6 @@ put_args-returns-in_err-put_argument-in-len1-up-clause-kept t c = refused_then c
 pub put_args-returns-in_err-passed-in-len1-up-clause-kept : goal.put_args-returns-in_err-passed-in-len1-up-clause-kept
 put_args-returns-in_err-passed-in-len1-up-clause-kept t c = refused_then c.from_residual-in_err-passed-in-len1-up.result (grown_then _ _ _ _ _ c.in_ok-put_expr-in-len1-up.ensures.lines (kept_then _ _ _ _ c.in_ok-put_argument-in-len1-up.ensures.lines c.in_err-passed-in-len1-up.ensures.kept))
 
-
 pub put_call-returns-in_err-push-in-len1-up-clause-kept : goal.put_call-returns-in_err-push-in-len1-up-clause-kept
 put_call-returns-in_err-push-in-len1-up-clause-kept t c = refused_then c.from_residual-in_err-push-in-len1-up.result (grown_then _ _ _ _ _ c.in_ok-put_expr-in-None.ensures.lines c.in_err-push-in-len1-up.ensures.kept)
 
