@@ -17,7 +17,7 @@ use Rattle.c65_code.specs.declared.code.DataCell.{DataCell}
 use Rattle.c65_code.specs.declared.code.DataCell.TheVariants.{Byte, Address}
 use Rattle.c65_code.specs.Placement.{Placement, cell_bytes, bytes_of_cells, cell_size, cells_size, size_of_datum, IsIn, initial_byte, IsDatumOf, IsFunction, program_start, stack_start}
 use Rattle.c65_code.specs.Segments.{Segment}
-use Rattle.c65_link_law.specs.Placed.{address_of, routines_in}
+use Rattle.c65_link_law.specs.Placed.{first_address, address_of, routines_in}
 use Rattle.c65_link_law_spots.specs.Places.{address_in, code_end, is_in, is_const, constant_at, addresses_in, place_in}
 use Rattle.c65_link_law_spots.specs.Sound.{IsSound}
 use Rattle.c65_link_law_spots.specs.Laws.{PlacesArePlacements}
