@@ -4,8 +4,10 @@ use Rattle.std.specs.List.{list_any}
 use Rattle.std.proofs.lemmas.Bool.{cases_order, or_cases, or_left, or_right, and_parts, and_from, false_from_ne_true, both_ways, le-leb, leb-true, lt-ltb}
 use Rattle.std.proofs.lemmas.List.{length-append}
 use Rattle.std.proofs.lemmas.Option.{slice_get_within}
+use Rattle.c65_base.specs.declared.options.Cpu.{Cpu}
 use Rattle.c65_base.specs.declared.library.Library.{Library}
 use Rattle.c65_base.specs.Library.{library_name}
+use Rattle.c65_mach.specs.declared.image.Image.{Image}
 use Rattle.c65_code.specs.declared.routine.Routine.{Routine}
 use Rattle.c65_code.specs.declared.routine.Routine.TheVariants as routines
 use Rattle.c65_code.specs.declared.line.Sym.{Sym}
@@ -17,6 +19,7 @@ use Rattle.c65_code.specs.declared.code.DataCell.{DataCell}
 use Rattle.c65_code.specs.declared.code.DataCell.TheVariants.{Byte, Address}
 use Rattle.c65_code.specs.Placement.{Placement, cell_bytes, bytes_of_cells, cell_size, cells_size, size_of_datum, IsIn, initial_byte, IsDatumOf, IsFunction, program_start, stack_start}
 use Rattle.c65_code.specs.Segments.{Segment}
+use Rattle.c65_link.specs.Linked.{linked_for}
 use Rattle.c65_link_law.specs.Placed.{first_address, address_of, routines_in}
 use Rattle.c65_link_law_spots.specs.Places.{address_in, code_end, is_in, is_const, constant_at, addresses_in, place_in}
 use Rattle.c65_link_law_spots.specs.Sound.{IsSound}
