@@ -15,7 +15,6 @@ mod operating;
 mod places;
 mod spills;
 mod steps;
-mod storing;
 mod types;
 mod value;
 mod wanted;
