@@ -1,6 +1,6 @@
 -- What the lines of a code come to, they come to with other numbers of functions.
-use Rattle.std.proofs.Common.{◌≡◌, ℕ, zero, suc, ◌+◌, ◌<◌, ◌≤◌, ◌==◌, ◌&&◌, Bool, true, false, if◌then◌else◌, List, [], ◌∷◌, Option, Some, None, map, slice_get, refl, sym, ap, ◌∙◌, subst, IsTrue, inl, inr, arith}
-use Rattle.std.specs.Prelude.{◌⊎◌, All, max, min, nat_lt}
+use Rattle.std.proofs.Common.{◌≡◌, ℕ, zero, suc, ◌+◌, ◌<◌, ◌≤◌, ◌==◌, ◌&&◌, Bool, true, false, if◌then◌else◌, List, [], ◌∷◌, Option, Some, None, map, slice_get, refl, sym, ap, ◌∙◌, subst, inl, inr, arith}
+use Rattle.std.specs.Prelude.{◌⊎◌, max, min, nat_lt}
 use Rattle.std.proofs.lemmas.List.Elements.{All-weaker}
 use Rattle.std.proofs.lemmas.Option.{same_Some}
 use Rattle.std.proofs.lemmas.Bool.{and_parts, and_from, eqb-true, ltb-true, ltb-false}
@@ -15,18 +15,18 @@ use Rattle.c65_code.specs.declared.routine.Routine.{Routine}
 use Rattle.c65_code.specs.declared.routine.Routine.TheVariants as routines
 use Rattle.c65_code.specs.declared.line.Line.{Line}
 use Rattle.c65_code.specs.Parts.{union_of}
-use Rattle.c65_code.specs.Effects.{kept_at_calls, ptr4_bytes}
-use Rattle.c65_code.specs.LineState.{Place, Frame, State, sp_of, s_of, IsBytes}
-use Rattle.c65_code.specs.Placement.{Placement, Setting, word_of, stack_start, stack_end}
+use Rattle.c65_code.specs.Effects.{ptr4_bytes}
+use Rattle.c65_code.specs.LineState.{Place, Frame, State, sp_of, IsBytes}
+use Rattle.c65_code.specs.Placement.{Setting, word_of}
 use Rattle.c65_code.specs.Forms.{Form, Mark, Plain, Branch, Jump, Far, Push, Pull, Depth, Return, Run, Enter, Through, Stray, form_of}
-use Rattle.c65_code.specs.Rows.{Row, Meets, row_of}
-use Rattle.c65_code.specs.Moves.{Ref, Given, ZeroAt, MemAt, ref_of, put, change, effect, next, MeetsRow, Returns, IsCallee, Calls, Goes, Moves}
-use Rattle.c65_code.specs.Steady.{IsCalm, IsOpen, IsAllowed, HasRoom, RowHasRoom, IsCallable, IsWithin, IsSteady}
+use Rattle.c65_code.specs.Rows.{Row, row_of}
+use Rattle.c65_code.specs.Moves.{Ref, Given, ZeroAt, MemAt, ref_of, put, change, effect, MeetsRow, Returns, IsCallee, Calls, Goes, Moves}
+use Rattle.c65_code.specs.Steady.{IsCalm, IsOpen, IsAllowed, RowHasRoom, IsCallable, IsWithin, IsSteady}
 use Rattle.c65_code.specs.Weights.{row_cost, call_weight, Weighs}
 use Rattle.c65_code.specs.Comes.{Seen, seen_at, Comes, here, on, Shown, shown_by, Shows}
 use Rattle.c65_code.specs.Follows.{IsBelow, Grows}
 use Rattle.c65_asm_law_names.proofs.Moved.{moved_place, moved_frame, moved, ref_same, s_same, row_same, bytes_to, bytes_back}
-use Rattle.c65_asm_law_names.proofs.Settings.{NamesNone, Alike, as_it_is, by_operand, by_function, Other, Renames, AreKnown, From, OnlyKnown, HasCallee, alike_from, alike_to}
+use Rattle.c65_asm_law_names.proofs.Settings.{NamesNone, Alike, as_it_is, by_operand, by_function, Other, Renames, AreKnown, OnlyKnown, HasCallee, alike_from, alike_to}
 
 -- ---- frames that a line leaves
 

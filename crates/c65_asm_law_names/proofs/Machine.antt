@@ -1,15 +1,14 @@
 -- The machine on the lines of a code is that on the lines of the renumbered code, but for the numbers of functions.
-use Rattle.std.proofs.Common.{◌≡◌, ℕ, zero, suc, ◌+◌, ◌<◌, ◌%◌, ◌/◌, ◌==◌, ◌&&◌, not, Bool, true, false, if◌then◌else◌, List, [], ◌∷◌, Option, Some, None, map, length, slice_get, refl, sym, ap, ◌∙◌, subst, IsTrue, nat_lt, arith}
-use Rattle.std.proofs.lemmas.Bool.{eqb-true, ne_eqb, eqb-false, lt-ltb, and_parts, and_from}
+use Rattle.std.proofs.Common.{◌≡◌, ℕ, zero, suc, ◌+◌, ◌%◌, ◌/◌, ◌==◌, ◌&&◌, not, Bool, true, false, if◌then◌else◌, List, [], ◌∷◌, Option, Some, None, map, length, slice_get, refl, sym, ap, ◌∙◌, subst, nat_lt}
+use Rattle.std.proofs.lemmas.Bool.{eqb-true, ne_eqb, eqb-false, lt-ltb}
 use Rattle.std.proofs.lemmas.Bool.Decides.{Decides-eqb}
-use Rattle.std.proofs.lemmas.Option.{none-some, same_Some}
+use Rattle.std.proofs.lemmas.Option.{none-some}
 use Rattle.c65_base.specs.declared.library.Library.{Library}
 use Rattle.c65_base.specs.Library.{library_functions}
 use Rattle.c65_mach.specs.declared.rows.Op.{Op}
 use Rattle.c65_mach.specs.declared.rows.Op.TheVariants as ops
 use Rattle.c65_mach.specs.declared.rows.Mode.{Mode}
 use Rattle.c65_mach.specs.Step.{Kind, Reads, Stores, Changes, Branches, Registers, Moves, kind_of}
-use Rattle.c65_code.specs.declared.parts.RegSet.{RegSet}
 use Rattle.c65_code.specs.declared.line.Sym.{Sym}
 use Rattle.c65_code.specs.declared.line.Operand.{Operand}
 use Rattle.c65_code.specs.declared.line.Operand.TheVariants as operands
@@ -22,10 +21,9 @@ use Rattle.c65_code.specs.declared.code.Symbol.{Symbol}
 use Rattle.c65_code.specs.declared.code.Datum.{Datum}
 use Rattle.c65_code.specs.Segments.{Segment}
 use Rattle.c65_code.specs.Writable.{IsWritable}
-use Rattle.c65_code.specs.LineState.{State}
-use Rattle.c65_code.specs.Placement.{Placement, Setting, located, word_of, segment_of, is_nothing, library_named, library_of, has_datum, is_function_of, IsFunction, IsPlacement, setting_of}
-use Rattle.c65_code.specs.Forms.{Form, Mark, Plain, Run, Through, branch_form, jump_form, move_form, op_form, callee_form, form_of}
-use Rattle.c65_code.specs.Moves.{labelled, settle, IsCallee}
+use Rattle.c65_code.specs.Placement.{Placement, located, word_of, segment_of, is_nothing, library_named, library_of, has_datum, is_function_of, IsPlacement, setting_of}
+use Rattle.c65_code.specs.Forms.{Form, Mark, Run, Through, branch_form, jump_form, move_form, op_form, callee_form, form_of}
+use Rattle.c65_code.specs.Moves.{labelled, settle}
 use Rattle.c65_code.specs.Steady.{HasLines}
 use Rattle.c65_asm.specs.Text.{sym_text}
 use Rattle.c65_asm.specs.Symbols.{symbol_of, symbols_of}
@@ -33,8 +31,8 @@ use Rattle.c65_asm.specs.Renumbered.{names_of, renamed, renamed_operand, renamed
 use Rattle.c65_link.specs.Symbols.{operand_symbol, callee_symbol, line_symbol}
 use Rattle.c65_asm_law_names.specs.Numbers.{number_in}
 use Rattle.c65_asm_law_names.proofs.Naming.{IsPart, function, datum, line, placed}
-use Rattle.c65_asm_law_names.proofs.Writable.{to_map, IsThere, part_there, part_known, part_numbered, part_same}
-use Rattle.c65_asm_law_names.proofs.Settings.{NamesNone, Alike, as_it_is, by_operand, by_function, Other, Renames}
+use Rattle.c65_asm_law_names.proofs.Writable.{to_map, part_there, part_known, part_numbered, part_same}
+use Rattle.c65_asm_law_names.proofs.Settings.{NamesNone, Alike, as_it_is, by_operand, by_function, Renames}
 
 -- ---- lines with other numbers lead to the same places
 

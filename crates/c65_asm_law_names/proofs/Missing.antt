@@ -1,15 +1,12 @@
 -- The linker misses nothing of a renumbered code whose symbols had bodies.
-use Rattle.std.proofs.Common.{◌≡◌, ℕ, zero, suc, ◌+◌, ◌<◌, ◌-◌, ◌==◌, Bool, true, false, if◌then◌else◌, List, [], ◌∷◌, codes, bytes_eq, Option, Some, None, Result, Ok, Err, length, slice_get, slice_set, refl, ap, sym, ◌∙◌, subst, arith, inl, inr, nat_lt}
-use Rattle.std.specs.Prelude.{◌⊎◌, is_some}
+use Rattle.std.proofs.Common.{◌≡◌, ℕ, zero, suc, ◌+◌, ◌<◌, ◌==◌, Bool, true, false, if◌then◌else◌, List, [], ◌∷◌, codes, bytes_eq, Option, Some, None, Ok, Err, length, slice_get, slice_set, refl, ap, sym, ◌∙◌, subst, arith, inl, inr}
+use Rattle.std.specs.Prelude.{is_some}
 use Rattle.std.proofs.lemmas.Bool.{eqb-true}
-use Rattle.std.proofs.lemmas.List.{length-set, length-map}
-use Rattle.std.proofs.lemmas.Option.{none-some, same_Some, slice_get_within}
+use Rattle.std.proofs.lemmas.List.{length-set}
+use Rattle.std.proofs.lemmas.Option.{none-some, same_Some}
 use Rattle.std.proofs.lemmas.Slice.Eq.{bytes_eq-Decides}
 use Rattle.c65_base.specs.declared.library.Library.{Library}
-use Rattle.c65_base.specs.declared.refusal.Size.TheVariants as sizes
 use Rattle.c65_base.specs.Library.{library_functions}
-use Rattle.c65_base.specs.Limits.{limit_of}
-use Rattle.c65_mach.specs.declared.image.Image.{Image}
 use Rattle.c65_code.specs.declared.line.Sym.{Sym}
 use Rattle.c65_code.specs.declared.line.Operand.{Operand}
 use Rattle.c65_code.specs.declared.line.Operand.TheVariants as operands
@@ -28,16 +25,15 @@ use Rattle.c65_code.specs.Starts.{IsMain}
 use Rattle.c65_code.specs.Writable.{IsWritable}
 use Rattle.c65_asm.specs.Text.{sym_text, spelling_of}
 use Rattle.c65_asm.specs.Symbols.{symbol_of, symbols_of}
-use Rattle.c65_asm.specs.Renumbered.{IsOfTypes, names_of, renamed, renamed_operand, renamed_callee, renamed_line, renamed_function, renamed_cell, renamed_datum, renumbered}
+use Rattle.c65_asm.specs.Renumbered.{names_of, renamed, renamed_operand, renamed_callee, renamed_line, renamed_function, renamed_cell, renamed_datum, renumbered}
 use Rattle.c65_link.specs.declared.symbols.Target.{Target}
-use Rattle.c65_link.specs.declared.symbols.Target.TheVariants.{Nowhere, Own, Runtime}
+use Rattle.c65_link.specs.declared.symbols.Target.TheVariants.{Own}
 use Rattle.c65_link.specs.Symbols.{target_by, named_target, named_targets, with_functions, with_datums, targets_of, operand_symbol, callee_symbol, line_symbol, cell_symbol, is_nowhere, missing, missing_in_lines, missing_in_functions, missing_in_cells, missing_in_datums, missing_in_code, or_else, name_of, missing_of, is_main_missing, main_in}
-use Rattle.c65_link.specs.Layouts.{Layout}
-use Rattle.c65_link.specs.Linked.{Fault, undefined, large, entry_of, parts_of, image_of, payload_of, fitted, placed as placed_code, named_or_placed, linked}
-use Rattle.c65_asm_law_names.specs.Numbers.{HasSegment, HasBody, IsClosed, number_in}
+use Rattle.c65_link.specs.Linked.{undefined, large, parts_of, image_of, placed as placed_code, named_or_placed, linked}
+use Rattle.c65_asm_law_names.specs.Numbers.{HasBody, IsClosed, number_in}
 use Rattle.c65_asm_law_names.specs.Laws.{NothingIsUndefined}
-use Rattle.c65_asm_law_names.proofs.Naming.{IsPart, function, datum, line, cell, names_of_parts, names_distinct, placed, number_at}
-use Rattle.c65_asm_law_names.proofs.Writable.{from_map, to_map, IsThere, part_there, part_numbered, part_same, old_function, old_datum, old_line, old_cell}
+use Rattle.c65_asm_law_names.proofs.Naming.{IsPart, function, datum, line, cell, placed, number_at}
+use Rattle.c65_asm_law_names.proofs.Writable.{from_map, to_map, IsThere, part_there, part_numbered, old_function, old_datum, old_line, old_cell}
 
 -- ---- targets
 

@@ -1,5 +1,5 @@
 -- A state of the machine on lines whose functions have other numbers: only the places that frames go back to differ.
-use Rattle.std.proofs.Common.{◌≡◌, ℕ, ◌+◌, ◌<◌, ◌%◌, Bool, false, ◌||◌, List, [], ◌∷◌, Some, map, length, refl, sym, ap, ◌∙◌}
+use Rattle.std.proofs.Common.{◌≡◌, ℕ, ◌+◌, ◌<◌, Bool, false, ◌||◌, List, [], ◌∷◌, Some, map, length, refl, ap, ◌∙◌}
 use Rattle.std.specs.Prelude.{All, fold, nat_lt, ◌-◌}
 use Rattle.std.proofs.lemmas.List.Elements.{All-nil, All-cons, All-head, All-tail}
 use Rattle.c65_base.specs.declared.library.Library.{Library}

@@ -4,7 +4,7 @@ use Rattle.std.specs.Prelude.{slice_get, unwrap_or, ◌⊎◌}
 use Rattle.std.proofs.Common.{inl, inr}
 use Rattle.std.proofs.lemmas.Option.{none-some, same_Some}
 use Rattle.c65_base.specs.Names.{name_of, with_spelling, IsDistinct}
-use Rattle.c65_base.proofs.NameLaws.{name_of-at, at-name_of, with_known, with_new, distinct_more}
+use Rattle.c65_base.proofs.NameLaws.{name_of-at, with_known, with_new, distinct_more}
 use Rattle.c65_code.specs.declared.line.Sym.{Sym}
 use Rattle.c65_code.specs.declared.line.Operand.{Operand}
 use Rattle.c65_code.specs.declared.line.Operand.TheVariants as operands
@@ -20,7 +20,7 @@ use Rattle.c65_code.specs.declared.code.DataCell.TheVariants.{Byte, Address}
 use Rattle.c65_code.specs.Segments.{Segment}
 use Rattle.c65_asm.specs.Text.{sym_text}
 use Rattle.c65_asm.specs.Renumbered.{naming, naming_operand, naming_callee, naming_line, naming_lines, naming_function, naming_functions, naming_cell, naming_cells, naming_datum, naming_datums, names_of, renamed}
-use Rattle.c65_asm.proofs.NumberLaws.{Grows, grows_same, grows_on, grows_naming, grows_lines, grows_functions, grows_cells, grows_datums, grows_line, grows_cell, grows_function, grows_datum, IsNamed, named_now, named_later}
+use Rattle.c65_asm.proofs.NumberLaws.{Grows, grows_on, grows_lines, grows_functions, grows_cells, grows_datums, IsNamed, named_now, named_later}
 use Rattle.c65_link.specs.Symbols.{operand_symbol, callee_symbol, line_symbol, cell_symbol}
 
 -- ---- what holds of the names behind each part

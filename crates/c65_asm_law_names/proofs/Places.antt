@@ -1,8 +1,8 @@
 -- Placements of a code, from the linker's of the renumbered code: a symbol that nothing names stands in the bytes of the start.
-use Rattle.std.proofs.Common.{◌≡◌, ℕ, zero, suc, ◌+◌, ◌-◌, ◌<◌, ◌≤◌, ◌%◌, ◌/◌, ◌&&◌, not, Bool, true, false, if◌then◌else◌, List, [], ◌∷◌, ◌++◌, Option, Some, None, map, length, slice_get, refl, sym, ap, ◌∙◌, subst, IsTrue, nat_lt, nat_le, inl, inr, arith, codes, get_or}
+use Rattle.std.proofs.Common.{◌≡◌, ℕ, zero, suc, ◌+◌, ◌<◌, ◌≤◌, ◌%◌, ◌/◌, not, Bool, true, false, if◌then◌else◌, List, [], ◌∷◌, ◌++◌, Option, Some, None, map, length, slice_get, refl, sym, ap, ◌∙◌, subst, nat_lt, inl, inr, arith, codes, get_or}
 use Rattle.std.specs.Prelude.{◌⊎◌, is_some}
-use Rattle.std.proofs.lemmas.Bool.{and_parts, ltb-true, lt-ltb, ltb-false, leb-true, eqb-true}
-use Rattle.std.proofs.lemmas.Option.{none-some, same_Some, slice_get_within, slice_get-get_or}
+use Rattle.std.proofs.lemmas.Bool.{and_parts, ltb-true, lt-ltb, ltb-false, leb-true}
+use Rattle.std.proofs.lemmas.Option.{none-some, slice_get-get_or}
 use Rattle.c65_base.specs.Names.{name_of}
 use Rattle.c65_base.proofs.NameLaws.{name_of-at}
 use Rattle.c65_base.specs.declared.library.Library.{Library}
@@ -12,29 +12,27 @@ use Rattle.c65_code.specs.declared.line.Sym.{Sym}
 use Rattle.c65_code.specs.declared.code.Code.{Code}
 use Rattle.c65_code.specs.declared.code.Symbol.{Symbol}
 use Rattle.c65_code.specs.declared.code.Datum.{Datum}
-use Rattle.c65_code.specs.declared.code.DatumKind.TheVariants.{Const}
 use Rattle.c65_code.specs.declared.code.DataCell.{DataCell}
 use Rattle.c65_code.specs.declared.code.DataCell.TheVariants.{Byte, Address}
 use Rattle.c65_code.specs.declared.routine.Routine.TheVariants.{Start, StartArgs}
 use Rattle.c65_code.specs.Writable.{IsWritable}
 use Rattle.c65_code.specs.Starts.{IsStart}
 use Rattle.c65_code.specs.LineState.{State}
-use Rattle.c65_code.specs.Placement.{Placement, program_start, stack_start, located, library_named, library_of, has_datum, is_function_of, IsFunction, IsDatumOf, IsIn, IsPlacement, cell_bytes, bytes_of_cells, cell_size, cells_size, size_of_datum, initial_byte}
+use Rattle.c65_code.specs.Placement.{Placement, program_start, stack_start, library_named, library_of, has_datum, IsFunction, IsDatumOf, IsIn, IsPlacement, cell_bytes, bytes_of_cells, cell_size, cells_size, size_of_datum, initial_byte}
 use Rattle.c65_asm.specs.Text.{sym_text, spelling_of}
-use Rattle.c65_asm.specs.Renumbered.{names_of, renamed, renamed_cell, renamed_datum, renumbered}
-use Rattle.c65_link.specs.Bodies.{body_of, plus}
+use Rattle.c65_asm.specs.Renumbered.{names_of, renamed_cell, renamed_datum, renumbered}
+use Rattle.c65_link.specs.Bodies.{body_of}
 use Rattle.c65_link.specs.Runtime.{routine_lines}
-use Rattle.c65_link.specs.Linked.{entry_of}
 use Rattle.c65_link.specs.Symbols.{cell_symbol}
 use Rattle.c65_link_law.specs.Placed.{first_address}
 use Rattle.c65_link_law_spots.specs.Places.{place_in, address_in}
 use Rattle.c65_link_law_spots.proofs.Places.{AreBehindStart}
 use Rattle.c65_link_law_spots.proofs.Targets.{spelled}
-use Rattle.c65_asm_law_names.specs.Numbers.{HasSegment, HasBody, IsClosed, number_in}
+use Rattle.c65_asm_law_names.specs.Numbers.{HasBody, IsClosed, number_in}
 use Rattle.c65_asm_law_names.proofs.Naming.{IsPart, function, datum, cell, names_of_parts, part_named, number_is}
-use Rattle.c65_asm_law_names.proofs.Writable.{IsFrom, from_map, to_map, IsThere, part_there, part_known, part_same, old_datum}
+use Rattle.c65_asm_law_names.proofs.Writable.{to_map, part_there, part_same, old_datum}
 use Rattle.c65_asm_law_names.proofs.Missing.{found}
-use Rattle.c65_asm_law_names.proofs.Machine.{Known, datum_new, function_new}
+use Rattle.c65_asm_law_names.proofs.Machine.{Known, function_new}
 
 -- ---- ten numbers for the functions of the library, one left out
 

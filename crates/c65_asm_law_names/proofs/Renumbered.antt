@@ -1,24 +1,20 @@
 -- What a code comes to at every placement, it comes to with its symbols numbered anew, at the linker's.
-use Rattle.std.proofs.Common.{◌≡◌, ℕ, suc, ◌+◌, ◌<◌, ◌≤◌, ◌==◌, ◌&&◌, Bool, List, [], ◌∷◌, Some, None, Ok, map, refl, sym, ap, ◌∙◌, subst, IsTrue, nat_lt, inl, inr, arith, get_or}
+use Rattle.std.proofs.Common.{◌≡◌, ℕ, ◌+◌, ◌<◌, Bool, List, [], None, Ok, map, refl, sym, ap, ◌∙◌, subst, inl, inr, arith}
 use Rattle.std.specs.Prelude.{◌⊎◌}
-use Rattle.std.proofs.lemmas.Bool.{and_parts, ltb-true}
 use Rattle.c65_base.specs.declared.options.Cpu.TheVariants.{Nmos}
-use Rattle.c65_mach.specs.declared.image.Image.{Image}
 use Rattle.c65_code.specs.declared.line.Sym.{Sym}
-use Rattle.c65_code.specs.declared.line.Line.{Line}
 use Rattle.c65_code.specs.declared.code.Code.{Code}
 use Rattle.c65_code.specs.Writable.{IsWritable}
 use Rattle.c65_code.specs.LineState.{Place, Frame, State}
-use Rattle.c65_code.specs.Placement.{Placement, Setting, setting_of, program_start, IsPlacement, IsFunction}
-use Rattle.c65_code.specs.Moves.{settle, IsCallee}
+use Rattle.c65_code.specs.Placement.{Setting, setting_of, program_start, IsPlacement}
+use Rattle.c65_code.specs.Moves.{IsCallee}
 use Rattle.c65_code.specs.Comes.{Seen, none_seen, seen_at, Comes, Shown, Shows, first_place, ComesFrom}
 use Rattle.c65_code.specs.Follows.{Grows}
-use Rattle.c65_asm.specs.Renumbered.{IsOfTypes, names_of, renumbered}
-use Rattle.c65_link.specs.Linked.{linked, linked_for, image_for}
-use Rattle.c65_link_law_spots.specs.Sound.{IsSound}
+use Rattle.c65_asm.specs.Renumbered.{renumbered}
+use Rattle.c65_link.specs.Linked.{linked_for, image_for}
 use Rattle.c65_link_law_spots.specs.Places.{place_in}
 use Rattle.c65_link_law_spots.proofs.Places.{AreBehindStart, all_behind_start, places_are_placements}
-use Rattle.c65_asm_law_names.specs.Numbers.{HasSegment, IsClosed, number_in, by_number}
+use Rattle.c65_asm_law_names.specs.Numbers.{IsClosed, number_in, by_number}
 use Rattle.c65_asm_law_names.specs.Laws.{RenumberedComes}
 use Rattle.c65_asm_law_names.proofs.Naming.{IsPart, function}
 use Rattle.c65_asm_law_names.proofs.Moved.{moved_place, moved_frame, moved}

@@ -1,5 +1,5 @@
 -- Two settings of the machine on lines that differ in the numbers of functions: a move of one is a move of the other.
-use Rattle.std.proofs.Common.{◌≡◌, ℕ, suc, ◌+◌, ◌<◌, Bool, true, false, if◌then◌else◌, List, [], ◌∷◌, Option, Some, None, map, slice_get, refl, sym, ap, ◌∙◌, subst, IsTrue}
+use Rattle.std.proofs.Common.{◌≡◌, ℕ, suc, if◌then◌else◌, List, [], ◌∷◌, Option, Some, None, map, slice_get, refl, sym, ap, ◌∙◌, subst, IsTrue}
 use Rattle.c65_base.specs.declared.library.Library.{Library}
 use Rattle.c65_mach.specs.declared.rows.Op.{Op}
 use Rattle.c65_mach.specs.declared.rows.Mode.{Mode}
@@ -16,8 +16,8 @@ use Rattle.c65_code.specs.Effects.{kept_at_calls, ptr4_bytes}
 use Rattle.c65_code.specs.LineState.{Place, Frame, State, s_of}
 use Rattle.c65_code.specs.Placement.{Placement, Setting, word_of}
 use Rattle.c65_code.specs.Forms.{Form, Mark, Plain, Branch, Jump, Far, Push, Pull, Depth, Return, Run, Enter, Through, Stray, form_of}
-use Rattle.c65_code.specs.Rows.{Row, Meets, row_of}
-use Rattle.c65_code.specs.Moves.{effect, labelled, settle, next, MeetsRow, Does, Keeps, Enters, common_of, Returns, IsCallee, Calls, Goes, Moves}
+use Rattle.c65_code.specs.Rows.{Row, row_of}
+use Rattle.c65_code.specs.Moves.{effect, labelled, settle, next, MeetsRow, Keeps, Enters, common_of, Returns, IsCallee, Calls, Goes}
 use Rattle.c65_code.specs.Steady.{HasLines}
 use Rattle.c65_asm_law_names.proofs.Moved.{moved_place, moved_frame, moved, with_frames, effect_same, s_same, row_same, met_back, keeps_back, met_on, keeps_on}
 

@@ -1,5 +1,5 @@
 -- A code that can be written can be linked once its symbols are numbered anew.
-use Rattle.std.proofs.Common.{◌≡◌, ℕ, Bool, true, false, List, [], ◌∷◌, Some, map, refl, sym, ap, ◌∙◌, subst, codes, ◌&&◌}
+use Rattle.std.proofs.Common.{◌≡◌, ℕ, false, List, [], ◌∷◌, Some, map, refl, sym, ap, ◌∙◌, subst, codes, ◌&&◌}
 use Rattle.std.specs.Prelude.{slice_get}
 use Rattle.std.specs.List.{list_all}
 use Rattle.c65_code.specs.declared.line.Sym.{Sym}
@@ -7,14 +7,12 @@ use Rattle.c65_code.specs.declared.line.Line.{Line}
 use Rattle.c65_code.specs.declared.code.Code.{Code}
 use Rattle.c65_code.specs.declared.code.Symbol.{Symbol}
 use Rattle.c65_code.specs.Segments.{Segment, IsSegment, is_fit, is_among, is_distinct, labels_of, targets_of}
-use Rattle.c65_code.specs.Starts.{IsMain}
-use Rattle.c65_code.specs.Writable.{IsWritable}
 use Rattle.c65_asm.specs.Text.{sym_text, spelling_of}
 use Rattle.c65_asm.specs.Symbols.{symbol_of}
-use Rattle.c65_asm.specs.Renumbered.{IsOfTypes, names_of, renamed, renamed_line, renamed_function, renamed_cell, renamed_datum, renumbered}
+use Rattle.c65_asm.specs.Renumbered.{names_of, renamed, renamed_line, renamed_function, renamed_cell, renamed_datum, renumbered}
 use Rattle.c65_asm.proofs.FunctionLaws.{same_fit, same_labels, same_targets, same_closed}
-use Rattle.c65_link_law_spots.specs.Sound.{IsNamed, by_function, by_datum, by_line, by_cell, IsSound}
-use Rattle.c65_asm_law_names.specs.Numbers.{HasSegment, number_in}
+use Rattle.c65_link_law_spots.specs.Sound.{IsNamed, by_function, by_datum, by_line, by_cell}
+use Rattle.c65_asm_law_names.specs.Numbers.{number_in}
 use Rattle.c65_asm_law_names.specs.Laws.{RenumberedIsSound, MainIsNumbered}
 use Rattle.c65_asm_law_names.proofs.Naming.{IsPart, function, datum, line, cell, names_of_parts, placed, number_at}
 use Rattle.c65_asm_law_names.proofs.Writable.{from_map, to_map, line_renamed, cell_renamed, old_function, renumbered_writable}
