@@ -26,3 +26,4 @@ pub mod WalkLaws
 pub mod LightPieces
 pub mod LightExprs
 pub mod LightMoves
+pub mod ZeroMoves

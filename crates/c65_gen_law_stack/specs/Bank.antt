@@ -4,11 +4,9 @@ use Rattle.std.specs.List.{list_all}
 use Rattle.c65_csem.specs.declared.items.Parts.{Parts}
 use Rattle.c65_csem.specs.Trees.{Stmt, FuncTy}
 use Rattle.c65_mach.specs.declared.rows.Mode.{Mode}
-use Rattle.c65_mach.specs.declared.rows.Mode.TheVariants.{ZeroPage, ZeroPageX, ZeroPageY}
 use Rattle.c65_mach.specs.Step.{kind_of}
 use Rattle.c65_code.specs.declared.parts.RegSet.{RegSet}
 use Rattle.c65_code.specs.declared.line.Operand.{Operand}
-use Rattle.c65_code.specs.declared.line.Operand.TheVariants.{Zero}
 use Rattle.c65_code.specs.declared.line.Callee.TheVariants as callees
 use Rattle.c65_code.specs.declared.line.Line.{Line}
 use Rattle.c65_code.specs.declared.line.Line.TheVariants.{Do, Call}
@@ -23,21 +21,15 @@ use Rattle.c65_genframe.specs.declared.modes.Modes.{Modes}
 use Rattle.c65_genframe.specs.Frames.{frame_of, Framed}
 use Rattle.c65_genstmt.specs.Functions.{no_lines, with_function}
 use Rattle.c65_gen_law_stack.specs.Going.{IsOwn}
+use Rattle.c65_gen_law_stack.specs.ZeroPage.{lies_within}
 
 -- a byte of the zero page that is none of regbank
 abbrev pub is_outside : ℕ → Bool
 is_outside i = nat_lt i 20 || nat_le 26 i
 
-abbrev pub is_elsewhere : Operand → Bool
-is_elsewhere (Zero i) = is_outside i
-is_elsewhere _ = false
-
 -- what an operation writes lies outside regbank
 abbrev pub lies_outside : Mode → Operand → Bool
-lies_outside ZeroPage operand = is_elsewhere operand
-lies_outside ZeroPageX operand = false
-lies_outside ZeroPageY operand = false
-lies_outside _ operand = true
+lies_outside = lies_within is_outside
 
 -- a line that does not write regbank
 abbrev pub leaves_bank : Line → Bool

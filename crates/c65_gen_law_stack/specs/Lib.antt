@@ -6,3 +6,4 @@ pub mod Parameters
 pub mod Bank
 pub mod Walks
 pub mod Light
+pub mod ZeroPage

@@ -1,13 +1,11 @@
 -- Which lines leave ptr2, where a word may wait (docs/MACHINE.md, "Zero page" and "Routines").
-use Rattle.std.specs.Prelude.{◌≡◌, ℕ, ◌||◌, not, nat_lt, nat_le, Bool, true, false, IsTrue}
+use Rattle.std.specs.Prelude.{◌≡◌, ℕ, ◌||◌, not, nat_lt, nat_le, Bool, true, IsTrue}
 use Rattle.std.specs.List.{list_all}
 use Rattle.c65_csem.specs.Trees.{Typed}
 use Rattle.c65_mach.specs.declared.rows.Mode.{Mode}
-use Rattle.c65_mach.specs.declared.rows.Mode.TheVariants.{ZeroPage, ZeroPageX, ZeroPageY}
 use Rattle.c65_mach.specs.Step.{kind_of}
 use Rattle.c65_code.specs.declared.parts.Part.TheVariants.{Zp}
 use Rattle.c65_code.specs.declared.line.Operand.{Operand}
-use Rattle.c65_code.specs.declared.line.Operand.TheVariants.{Zero}
 use Rattle.c65_code.specs.declared.line.Line.{Line}
 use Rattle.c65_code.specs.declared.line.Line.TheVariants.{Label, Do, Call}
 use Rattle.c65_code.specs.Parts.{has_part}
@@ -21,21 +19,15 @@ use Rattle.c65_genexpr.specs.declared.wanted.Wanted.TheVariants.{Value}
 use Rattle.c65_genexpr.specs.Operating.{is_light}
 use Rattle.c65_genexpr.specs.Code.{expr_code}
 use Rattle.c65_gen_law_stack.specs.Going.{IsOwn}
+use Rattle.c65_gen_law_stack.specs.ZeroPage.{lies_within}
 
 -- a byte of the zero page that is none of ptr2
 abbrev pub is_apart : ℕ → Bool
 is_apart i = nat_lt i 10 || nat_le 12 i
 
-abbrev pub is_beside : Operand → Bool
-is_beside (Zero i) = is_apart i
-is_beside _ = false
-
 -- what an operation writes lies outside ptr2
 abbrev pub lies_beside : Mode → Operand → Bool
-lies_beside ZeroPage operand = is_beside operand
-lies_beside ZeroPageX operand = false
-lies_beside ZeroPageY operand = false
-lies_beside _ operand = true
+lies_beside = lies_within is_apart
 
 -- a line that neither writes ptr2 nor calls what may change it
 abbrev pub leaves_ptr2 : Line → Bool
