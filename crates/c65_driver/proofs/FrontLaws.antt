@@ -59,6 +59,6 @@ sources_not c contents code o ds folders files r none options defines is of give
 
 -- a code, rewritten, as its text reads
 pub sources_read : (c : Spelled) (contents : Contents) (code new read : Code) (o : Options) (ds : List Define) (folders files : List (List ℕ)) (r : Result Image Refusal) → o ≡ c.options → ds ≡ c.defines → folders ≡ c.folders → files ≡ c.files
-    → ((held : Held) → contents ≡ Some held → compiled (command held o ds folders) files (Ok code)) → OptimisedBy o code new → ReadsAs (text_of new) read → IsOfSources {T = Image} c contents (Some read) r
+    → ((held : Held) → contents ≡ Some held → compiled (command held o ds folders) files (Ok code)) → OptimisedBy c.options code new → ReadsAs (text_of new) read → IsOfSources {T = Image} c contents (Some read) r
 sources_read c contents code new read o ds folders files r options defines is of given rewritten reads held told =
-    (code, new, from_parts c held o ds folders files (Ok code) options defines is of (given held told), subst (λ (x : Options). OptimisedBy x code new) options rewritten, reads)
+    (code, new, from_parts c held o ds folders files (Ok code) options defines is of (given held told), rewritten, reads)

@@ -1,5 +1,7 @@
-use Rattle.std.proofs.Common.{Some, Err, refl}
+use Rattle.std.proofs.Common.{Some, Err, refl, subst}
+use Rattle.c65_base.specs.declared.options.Options.{Options}
 use Rattle.c65_base.specs.declared.refusal.Refusal.TheVariants.{OutOfMemory}
+use Rattle.c65_optimise.specs.Optimised.{OptimisedBy}
 use Rattle.c65_driver.specs.Outside.{files_side}
 use Rattle.c65_driver.proofs.LinkLaws.{compiles_linked, compiles_not, compiles_as}
 use Rattle.c65_driver.proofs.FrontLaws.{sources_short, sources_not, sources_read}
@@ -59,4 +61,5 @@ returns-in-Err-read_back-clause-sources g c = sources_short c.args.command.now (
 pub returns-clause-sources : goal.returns-clause-sources
 returns-clause-sources g c =
     sources_read c.args.command.now (g.F.Files.contents c.args.files.now) c.in-Ok.code c.in-Ok-optimise.code c.in-Ok-read_back.code c.options.result.now c.defines.result.now c.folders.result.now c.paths.result.now c.link_for-linked.result
-    c.options.ensures c.defines.ensures c.folders.ensures c.paths.ensures c.in-Ok.ensures.exact c.in-Ok-optimise.ensures.rewritten c.in-Ok-read_back.ensures.read
+    c.options.ensures c.defines.ensures c.folders.ensures c.paths.ensures c.in-Ok.ensures.exact
+    (subst (λ (x : Options). OptimisedBy x c.in-Ok.code c.in-Ok-optimise.code) c.options-2.ensures c.in-Ok-optimise.ensures.rewritten) c.in-Ok-read_back.ensures.read
