@@ -234,7 +234,7 @@ module _ (units : UnitsAreOne) (notes : Recorded) (laws : Laws notes) (held : He
   CauseIn old new (Ok status) = Unit {0}
   CauseIn old new (Err e) = CauseOf old new e
 
-  pub hindered : (p : ProgramTy) → IsFront held command p → (old new : Outside) (code : Option Code) (image : Option Image) (answer : Result ℕ Refusal) → IsLinked command.options.cpu code image answer → IsOfFront (front held command) code answer
+  pub hindered : (p : ProgramTy) → IsFront held command p → (old new : Outside) (code : Option Code) (image : Option Image) (answer : Result ℕ Refusal) → IsLinked command.options.cpu code image answer → IsOfFront command.options (front held command) code answer
       → ((c : Code) → code ≡ Some c → IsMadeOf held command c) → CauseIn old new answer → image ≡ None → IsHindered p (modes_of command.options) code old new answer
   hindered p f old new None None (Ok status) l g m c e = absurd l
   hindered p f old new None None (Err r) l g m c e = front_hinders units held command p None old new r c f g
