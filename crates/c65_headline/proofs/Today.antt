@@ -1,7 +1,6 @@
 -- The clause of the tool as it is today.
 use Rattle.std.proofs.Common.{◌≡◌, ◌∙◌, ℕ, Bool, true, false, List, Option, Some, None, Result, Ok, Err, refl, ap, sym, subst}
 use Rattle.std.specs.Prelude.{length, nat_lt}
-use Rattle.c65_base.specs.declared.options.Cpu.{Cpu}
 use Rattle.c65_base.specs.declared.options.Options.{Options}
 use Rattle.c65_base.specs.declared.refusal.Refusal.{Refusal}
 use Rattle.c65_base.specs.declared.refusal.Refusal.TheVariants as refusals
@@ -21,7 +20,7 @@ use Rattle.c65_ppline.specs.Relations.{Answers, just, by_test, ◌then◌}
 use Rattle.c65_ppdir.specs.Units.{Held}
 use Rattle.c65_ppdir_law.specs.Once.{UnitsAreOne}
 use Rattle.c65_meaning_law_turns.specs.Turns.{TurnsGoOn}
-use Rattle.c65_driver_chain.specs.Front.{Command, IsGood, units_typed, joining, generated, compiled}
+use Rattle.c65_driver_chain.specs.Front.{IsGood, units_typed, joining, generated}
 use Rattle.c65_driver_chain.specs.Front as chain
 use Rattle.c65_driver_words.specs.Commands.{Spelled}
 use Rattle.c65_driver_words.specs.Words.{Spelling, Is, NoCommand, spelling_of}

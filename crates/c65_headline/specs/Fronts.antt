@@ -1,5 +1,5 @@
 -- The program that told files are, and the code that is made of it.
-use Rattle.std.specs.Prelude.{◌≡◌, ℕ, Bool, List, length, nat_lt, Ok, Err}
+use Rattle.std.specs.Prelude.{◌≡◌, ℕ, List, length, nat_lt, Ok, Err}
 use Rattle.c65_base.specs.declared.refusal.Refusal.TheVariants as refusals
 use Rattle.c65_base.specs.declared.refusal.Size.TheVariants as sizes
 use Rattle.c65_base.specs.Limits.{limit_of}

@@ -1,5 +1,5 @@
 -- The main theorem as a clause of the tool: what it does and answers where told files are a well formed program.
-use Rattle.std.specs.Prelude.{◌≡◌, ◌≢◌, ◌⊎◌, ℕ, ◌+◌, ◌*◌, ◌≤◌, ◌<◌, Bool, true, List, Option, Some, None, Result, Ok, Err, ⊤}
+use Rattle.std.specs.Prelude.{◌≡◌, ◌≢◌, ◌⊎◌, ℕ, ◌+◌, ◌*◌, ◌≤◌, ◌<◌, true, List, Option, Some, None, Result, Ok, Err, ⊤}
 use Rattle.c65_genframe.specs.declared.modes.Modes.{Modes}
 use Rattle.c65_genframe.specs.Modes.{modes_of}
 use Rattle.c65_base.specs.declared.refusal.Refusal.{Refusal}

@@ -7,11 +7,10 @@ use Rattle.c65_mach.specs.declared.image.Image.{Image}
 use Rattle.c65_mach.specs.Run.{Setting, Progress, cycles_after}
 use Rattle.c65_code.specs.declared.code.Code.{Code}
 use Rattle.c65_code.specs.LineState.{State}
-use Rattle.c65_code.specs.Placement.{Placement, IsPlacement, setting_of}
+use Rattle.c65_code.specs.Placement.{setting_of}
 use Rattle.c65_code.specs.Processors.{IsNmos, RunsOn}
 use Rattle.c65_code.specs.Starts.{IsStart, IsMain}
 use Rattle.c65_code.specs.Comes.{Seen, Shown, ComesFrom}
-use Rattle.c65_code.specs.Follows.{Grows}
 use Rattle.c65_code.specs.Writable.{IsWritable}
 use Rattle.c65_asm.specs.Renumbered.{IsOfTypes, renumbered}
 use Rattle.c65_asm.specs.Read.{read_text}
@@ -22,7 +21,7 @@ use Rattle.c65_csem.specs.Views.{unit_of}
 use Rattle.c65_genframe.specs.declared.modes.Modes.{Modes}
 use Rattle.c65_genframe.specs.Modes.{modes_of}
 use Rattle.c65_genstmt.specs.Programs.{program_of}
-use Rattle.c65_link.specs.Linked.{linked, linked_for}
+use Rattle.c65_link.specs.Linked.{linked_for}
 use Rattle.c65_link_law_spots.specs.Places.{place_in}
 use Rattle.c65_link_law_spots.specs.Sound.{IsSound}
 use Rattle.c65_meaning.specs.Program.{ProgramTy}
