@@ -1,7 +1,7 @@
 -- Each unit of a linked code stands as rows ask for it.
-use Rattle.std.proofs.Common.{◌≡◌, ℕ, zero, suc, ◌+◌, ◌-◌, ◌<◌, ◌≤◌, ◌==◌, ◌&&◌, ◌||◌, ◌⊎◌, inl, inr, not, Bool, true, false, nat_le, nat_lt, if◌then◌else◌, IsTrue, List, [], ◌∷◌, ◌++◌, codes, map, replicate, Option, Some, None, unwrap_or, Result, Ok, length, slice_get, slice_index, slice_set, refl, ap, sym, ◌∙◌, subst, arith, ltb-true, leb-true}
+use Rattle.std.proofs.Common.{◌≡◌, ℕ, zero, suc, ◌+◌, ◌-◌, ◌<◌, ◌≤◌, ◌==◌, ◌&&◌, not, Bool, true, false, nat_le, nat_lt, if◌then◌else◌, IsTrue, List, [], ◌∷◌, ◌++◌, codes, map, replicate, Option, Some, None, unwrap_or, Ok, length, slice_get, slice_index, refl, ap, sym, ◌∙◌, subst, arith, ltb-true, leb-true}
 use Rattle.std.specs.List.{list_all}
-use Rattle.std.proofs.lemmas.Bool.{and_parts, and_from, or_cases, lt-ltb, le-ltb, le-leb, eq-eqb, ne_eqb}
+use Rattle.std.proofs.lemmas.Bool.{and_parts, and_from, lt-ltb, le-ltb, le-leb, eq-eqb, ne_eqb}
 use Rattle.std.proofs.lemmas.List.{get_or-set_other}
 use Rattle.std.proofs.lemmas.List.Folds.{list_all-append}
 use Rattle.c65_base.specs.declared.options.Cpu.{Cpu}
@@ -22,21 +22,17 @@ use Rattle.c65_code.specs.declared.line.Callee.TheVariants as callees
 use Rattle.c65_code.specs.declared.line.Line.{Line}
 use Rattle.c65_code.specs.declared.line.Line.TheVariants.{Label, Do, Call}
 use Rattle.c65_code.specs.declared.code.Code.{Code}
-use Rattle.c65_code.specs.declared.code.Symbol.{Symbol}
-use Rattle.c65_code.specs.declared.code.Datum.{Datum}
-use Rattle.c65_code.specs.LineState.{Place}
 use Rattle.c65_code.specs.Placement.{IsPlacement, is_function_of, is_nothing, segment_of, library_named, library_of, has_datum, program_start, stack_start}
 use Rattle.c65_code.specs.Segments.{Segment, IsSegment, is_fit, labels_of, targets_of, target_of as line_target, is_among}
 use Rattle.c65_code.specs.Processors.{RunsOn, is_nmos_line}
-use Rattle.c65_code.specs.Moves.{labelled, settle}
-use Rattle.c65_code.specs.RawMachine.{RawSetting, target_of, entry_of as entry_place}
+use Rattle.c65_code.specs.Moves.{labelled}
+use Rattle.c65_code.specs.RawMachine.{target_of, entry_of as entry_place}
 use Rattle.c65_link.specs.Bytes.{Spot}
-use Rattle.c65_link.specs.Layouts.{Layout, empty_layout, hook_addresses, with_lines, with_function, with_functions, with_routine, with_routines}
+use Rattle.c65_link.specs.Layouts.{Layout, hook_addresses, with_function, with_functions, with_routine, with_routines}
 use Rattle.c65_link.specs.Runtime.{has_lines, routine_lines}
-use Rattle.c65_link.specs.Symbols.{targets_of as marks_of, missing_of}
-use Rattle.c65_link.specs.Linked.{entry_of, linked, linked_for, main_address}
+use Rattle.c65_link.specs.Linked.{entry_of, linked_for, main_address}
 use Rattle.c65_link_law.specs.Coded.{Memory, Stands, IsCoded, AreCoded}
-use Rattle.c65_link_law.specs.Placed.{layout_in, routine_address, routines_in, function_number}
+use Rattle.c65_link_law.specs.Placed.{layout_in, routines_in, function_number}
 use Rattle.c65_link_law_spots.specs.Places.{address_in, code_end, routine_count, lines_by, runtime_lines, lines_in, runtime_base, base_in, symbols_in, spot_in, place_in}
 use Rattle.c65_link_law_spots.specs.Sound.{IsSound}
 use Rattle.c65_link_law_spots.specs.Laws.{IsChosen, CallsRoutine, AreUsesChosen, IsUnit, function, routine, start, end_in, IsUnitPlaced}
@@ -44,15 +40,14 @@ use Rattle.c65_link_law_spots.proofs.Marks.{numbered}
 use Rattle.c65_link_law_spots.proofs.Numbers.{Has, has, found, nowhere}
 use Rattle.c65_link_law_spots.proofs.Uses.{whole_in, uses_are_chosen}
 use Rattle.c65_link_law_spots.proofs.Targets.{IsMade, made}
-use Rattle.c65_link_law_spots.proofs.Spots.{begun, coded, last_routines, Ends, ends, routine_called, Stood, own, library, stood}
+use Rattle.c65_link_law_spots.proofs.Spots.{begun, last_routines, Ends, ends, routine_called, Stood, own, library, stood}
 use Rattle.c65_link_law_spots.proofs.Places.{places_are_placements, Within, within, lies}
 use Rattle.c65_link_law_spots.proofs.Units.{units_stand}
 use Rattle.c65_link_law_spots.proofs.Loaded.{data_are_loaded}
-use Rattle.c65_link_law_follow.specs.Agree.{Ground}
 use Rattle.c65_link_law_follow.specs.Laid.{IsLineOf, IsLineNumber, IsTargetKnown, LineLeadsWell, hook_address, IsLaid, IsGround}
 use Rattle.c65_link_law_laid.specs.Linked.{line_at, with_main, main_number, start_number, unit_lines, raw_in, kept_in, place_at, ground_in}
 use Rattle.c65_link_law_laid.specs.Laws.{AreLineNumbers, IsNoStart, LinkedCodesAreLaid}
-use Rattle.c65_link_law_laid.proofs.Walk.{same_there, first_at, from_at, upto_at, coded_at, settled_at, labels_at, among, names_none, is_start_line, same_lines, main_lines}
+use Rattle.c65_link_law_laid.proofs.Walk.{same_there, first_at, from_at, upto_at, coded_at, settled_at, labels_at, among, is_start_line, same_lines, main_lines}
 use Rattle.c65_link_law_laid.proofs.Tables.{all_there, is_line_number, line_number, numbers_there, nmos_there, is_start, none_named, lined, low_number}
 
 none_there : {A P : Type 0} (x : A) → ◌≡◌ {A = Option A} None (Some x) → P

@@ -1,20 +1,19 @@
 -- What holds of the lines of every routine.
-use Rattle.std.proofs.Common.{◌≡◌, ℕ, zero, suc, ◌+◌, ◌<◌, ◌≤◌, ◌==◌, ◌&&◌, ◌||◌, ◌⊎◌, inl, inr, not, Bool, true, false, nat_lt, List, [], ◌∷◌, Option, Some, None, slice_get, slice_index, slice_set, refl, ap, sym, ◌∙◌, subst, arith, ltb-true}
+use Rattle.std.proofs.Common.{◌≡◌, ℕ, zero, suc, ◌<◌, ◌||◌, not, Bool, true, false, nat_lt, List, [], ◌∷◌, Option, Some, None, slice_get, refl, ap, sym, ◌∙◌, ltb-true}
 use Rattle.std.specs.List.{list_all}
-use Rattle.std.proofs.lemmas.Bool.{and_parts, or_cases}
+use Rattle.std.proofs.lemmas.Bool.{and_parts}
 use Rattle.c65_code.specs.declared.routine.Routine.{Routine}
-use Rattle.c65_code.specs.declared.routine.Routine.TheVariants as routines
 use Rattle.c65_code.specs.declared.routine.TheConstants.Routine.{ALL}
 use Rattle.c65_code.specs.Numbering.{number_of}
 use Rattle.c65_code.proofs.RoutineNumbers.{routines_are_numbered}
 use Rattle.c65_code.specs.declared.line.Operand.{Operand}
 use Rattle.c65_code.specs.declared.line.Operand.TheVariants as operands
 use Rattle.c65_code.specs.declared.line.Line.{Line}
-use Rattle.c65_code.specs.declared.line.Line.TheVariants.{Label, Do, Call}
+use Rattle.c65_code.specs.declared.line.Line.TheVariants.{Do}
 use Rattle.c65_code.specs.Processors.{is_nmos_line}
 use Rattle.c65_link.specs.Runtime.{has_lines, routine_lines}
 use Rattle.c65_link_law_follow.specs.Laid.{IsOperandNumber, IsLineNumber, hook_address}
-use Rattle.c65_link_law_laid.proofs.Walk.{same_there, names_none, is_start_line}
+use Rattle.c65_link_law_laid.proofs.Walk.{same_there, names_none}
 
 pub all_there : {A : Type 0} (test : A → Bool) (xs : List A) (i : ℕ) (x : A) → list_all test xs ≡ true → slice_get xs i ≡ Some x → test x ≡ true
 all_there test [] i x h here = absurd cc

@@ -1,15 +1,14 @@
 -- Lines stand where the bytes of those before them put them.
-use Rattle.std.proofs.Common.{◌≡◌, ℕ, zero, suc, ◌+◌, ◌<◌, ◌≤◌, ◌==◌, ◌&&◌, ◌||◌, ◌⊎◌, inl, inr, not, Bool, true, false, nat_eq, if◌then◌else◌, List, [], ◌∷◌, map, Option, Some, None, slice_get, slice_index, refl, ap, sym, ◌∙◌, subst, arith, eqb-true}
+use Rattle.std.proofs.Common.{◌≡◌, ℕ, zero, suc, ◌+◌, ◌≤◌, ◌==◌, ◌&&◌, ◌⊎◌, inl, inr, not, Bool, true, false, nat_eq, if◌then◌else◌, List, [], ◌∷◌, map, Option, Some, None, slice_get, slice_index, refl, ap, sym, ◌∙◌, subst, arith, eqb-true}
 use Rattle.std.specs.List.{list_all}
 use Rattle.std.proofs.lemmas.Bool.{and_parts, or_cases, eq-eqb, ne_eqb}
 use Rattle.c65_mach.specs.declared.rows.Op.{Op}
 use Rattle.c65_mach.specs.declared.rows.Op.TheVariants as ops
 use Rattle.c65_mach.specs.declared.rows.Mode.{Mode}
-use Rattle.c65_mach.specs.declared.rows.Mode.TheVariants.{Implied, Accumulator, Immediate, ZeroPage, ZeroPageX, ZeroPageY, Absolute, AbsoluteX, AbsoluteY, IndirectX, IndirectY, Indirect, Relative, ZeroPageIndirect, AbsoluteIndirectX}
+use Rattle.c65_mach.specs.declared.rows.Mode.TheVariants.{Absolute, Relative}
 use Rattle.c65_code.specs.declared.line.Sym.{Sym}
 use Rattle.c65_code.specs.declared.line.Operand.{Operand}
 use Rattle.c65_code.specs.declared.line.Operand.TheVariants as operands
-use Rattle.c65_code.specs.declared.line.Callee.{Callee}
 use Rattle.c65_code.specs.declared.line.Callee.TheVariants as callees
 use Rattle.c65_code.specs.declared.line.Line.{Line}
 use Rattle.c65_code.specs.declared.line.Line.TheVariants.{Label, Do, Call}
@@ -18,7 +17,7 @@ use Rattle.c65_code.specs.Moves.{labelled, settle}
 use Rattle.c65_link.specs.Opcodes.{opcode_of, opposite_of}
 use Rattle.c65_link.specs.Bytes.{Spot, instruction}
 use Rattle.c65_link.specs.Symbols.{operand_symbol, line_symbol}
-use Rattle.c65_link_law.specs.Coded.{Memory, Stands, label_at, word_at, IsBranch, short, long, IsInstruction, IsCoded, AreCoded}
+use Rattle.c65_link_law.specs.Coded.{Memory, Stands, label_at, word_at, short, long, IsInstruction, IsCoded, AreCoded}
 use Rattle.c65_link_law_laid.specs.Linked.{line_end, line_at, with_main}
 
 none_there : {A P : Type 0} (x : A) → ◌≡◌ {A = Option A} None (Some x) → P
