@@ -313,7 +313,7 @@ far_line g s setting bounds f p i t now ground laid here small within a =
     (fars g setting (g.at (f, p)) i (g.at q) t now a h st.coded.0.1 small to)
 
 -- S has room for as many bytes as the machine on lines has
-room_for : (g : Ground) (s : RawSetting) (at n bound : ℕ) (t : State) (now : Moment) → IsGround g s → Agrees g at t now → bound + n ≤ s_of t → n ≤ now.machine.s
+pub room_for : (g : Ground) (s : RawSetting) (at n bound : ℕ) (t : State) (now : Moment) → IsGround g s → Agrees g at t now → bound + n ≤ s_of t → n ≤ now.machine.s
 room_for g s at n bound t now ground a le = let sum = a.s in let bottom = ground.bottom in omega (arith, sum, bottom, le)
 
 -- an instruction of one byte
@@ -379,17 +379,17 @@ return_line g s setting bounds f p mode operand t now ground laid here within a 
         let upto = ground.to frame.back in let high = ground.high in
         let u : State = record t { pushed = frame.pushed; frames = frames } in
         let goes : RawGoes s Return (f, p) t frame.back u = subst (λ (fs : List Frame). RawReturns fs t frame.back u) (sym e) (within.0, refl, refl) in
-        one g setting 1 now (RawGoes s Return (f, p) t) frame.back u (omega arith) goes (returns g setting (g.at (f, p)) frame frames t now a ground.page (omega (arith, upto, high)) h.0 within.0 e)
+        one g setting 1 now (RawGoes s Return (f, p) t) frame.back u (omega arith) goes (returns g setting (g.at (f, p)) frame frames t now a (omega (arith, upto, high)) h.0 within.0 e)
 
 -- Calls
 
-call_moves : (g : Ground) (s : RawSetting) (setting : Setting) (f p : ℕ) (callee : Callee) (q : Place) (t : State) (now : Moment) → IsGround g s → (laid : IsLaid g s f) → slice_get (s.lines f) p ≡ Some (Call callee) → callee_address laid.spot callee ≡ g.at q → 2 ≤ now.machine.s
-    → Agrees g (g.at (f, p)) t now → Moved g setting (g.at q) (called (line_after s (f, p)) t) now
-call_moves g s setting f p callee q t now ground laid here leads deep a =
+pub call_moves : (g : Ground) (s : RawSetting) (setting : Setting) (f p : ℕ) (callee : Callee) (to : ℕ) (t : State) (now : Moment) → IsGround g s → (laid : IsLaid g s f) → slice_get (s.lines f) p ≡ Some (Call callee) → callee_address laid.spot callee ≡ to → 2 ≤ now.machine.s
+    → Agrees g (g.at (f, p)) t now → Moved g setting to (called (line_after s (f, p)) t) now
+call_moves g s setting f p callee to t now ground laid here leads deep a =
     let c = laid.coded p (Call callee) here in
     let after_it = c.1 in
     let h : Here g (g.at (f, p)) ops.Jsr Absolute = here_at g s (g.at (f, p)) (g.at (f, suc p)) ops.Jsr Absolute ground (both_have g.cpu ops.Jsr Absolute refl) c.0.0 (ground.from (f, p)) (omega (arith, after_it)) (ground.to (f, suc p)) in
-    enters g setting (g.at (f, p)) (g.at q) (line_after s (f, p)) t now a ground.page h (subst (λ (n : ℕ). Stands g.byte (g.at (f, p) + 1) (word_bytes n)) leads c.0.1) (laid.settled (suc p) ∙ after_it) deep
+    enters g setting (g.at (f, p)) to (line_after s (f, p)) t now a ground.page h (subst (λ (n : ℕ). Stands g.byte (g.at (f, p) + 1) (word_bytes n)) leads c.0.1) (laid.settled (suc p) ∙ after_it) deep
 
 no_hook_there : (s : RawSetting) (r : Routine) (t : State) → hook_row s.args r t ≡ None → hook_address r ≡ None
 no_hook_there s routines.HookOpen t h = absurd cc
@@ -409,7 +409,7 @@ run_line g s setting bounds f p r t now ground laid here no_hook within a =
     let leads : callee_address laid.spot (callees.Routine r) ≡ g.at q = laid.calls p (Call (callees.Routine r)) here ∙ ap (λ (o : Option ℕ). unwrap_or o (g.at q)) unhooked in
     let goes : RawGoes s (Run r) (f, p) t q (called (line_after s (f, p)) t) = subst (λ (o : Option Row). RawRuns s o r (f, p) t q (called (line_after s (f, p)) t)) (sym no_hook) (refl, refl) in
     one g setting 2 now (RawGoes s (Run r) (f, p) t) q (called (line_after s (f, p)) t) (omega arith) goes
-    (call_moves g s setting f p (callees.Routine r) q t now ground laid here leads (room_for g s (g.at (f, p)) 2 bounds.hard t now ground a le) a)
+    (call_moves g s setting f p (callees.Routine r) (g.at q) t now ground laid here leads (room_for g s (g.at (f, p)) 2 bounds.hard t now ground a le) a)
 
 call_line : (g : Ground) (s : RawSetting) (setting : Setting) (bounds : Bounds) (f p : ℕ) (callee : Callee) (t : State) (now : Moment) → IsGround g s → (laid : IsLaid g s f) → slice_get (s.lines f) p ≡ Some (Call callee) → IsNoHook s (callee_form callee) t → IsCounted g s (callee_form callee) → IsRawWithin s bounds (callee_form callee) t → Agrees g (g.at (f, p)) t now
     → Arrives g setting (raw_weight (callee_form callee)) now (RawGoes s (callee_form callee) (f, p) t)
@@ -417,11 +417,11 @@ call_line g s setting bounds f p (callees.Routine r) t now ground laid here no_h
 call_line g s setting bounds f p (callees.Function callee reads gives) t now ground laid here no_hook counted within a =
     let q : Place = entry_of s (target_of s (s.library callee.0) callee.0) in
     one g setting 1 now (RawGoes s (Enter callee.0 reads gives) (f, p) t) q (called (line_after s (f, p)) t) (omega arith) (refl, refl)
-    (call_moves g s setting f p (callees.Function callee reads gives) q t now ground laid here (laid.calls p (Call (callees.Function callee reads gives)) here counted) (room_for g s (g.at (f, p)) 2 bounds.hard t now ground a within) a)
+    (call_moves g s setting f p (callees.Function callee reads gives) (g.at q) t now ground laid here (laid.calls p (Call (callees.Function callee reads gives)) here counted) (room_for g s (g.at (f, p)) 2 bounds.hard t now ground a within) a)
 call_line g s setting bounds f p (callees.Pointer reads gives) t now ground laid here no_hook counted within a =
     let q : Place = entry_of s (s.routine routines.CallPtr4) in
     one g setting 1 now (RawGoes s (Through reads gives) (f, p) t) q (called (line_after s (f, p)) t) (omega arith) (refl, refl)
-    (call_moves g s setting f p (callees.Pointer reads gives) q t now ground laid here (laid.calls p (Call (callees.Pointer reads gives)) here) (room_for g s (g.at (f, p)) 2 bounds.hard t now ground a within) a)
+    (call_moves g s setting f p (callees.Pointer reads gives) (g.at q) t now ground laid here (laid.calls p (Call (callees.Pointer reads gives)) here) (room_for g s (g.at (f, p)) 2 bounds.hard t now ground a within) a)
 
 -- All lines
 
