@@ -1,3 +1,6 @@
 pub mod Straight
 pub mod Moves
 pub mod Loads
+pub mod Kept
+pub mod Pops
+pub mod Beside

@@ -22,6 +22,7 @@ abbrev pub weight_of : Routine → Row → ℕ
 weight_of (routines.IncSp One) row = 5
 weight_of (routines.IncSp Four) row = 11
 weight_of routines.PopA row = 7
+weight_of routines.PopAx row = 15
 weight_of routines.LdAxYSp row = 5
 weight_of _ row = 0
 
@@ -30,4 +31,4 @@ abbrev pub IsMetIn : Routine → Type 0
 IsMetIn r = (s : RawSetting) → s.lines (s.routine r) ≡ lines_of r → MeetsIn s (below_of r) (pushed_of r) (weight_of r) r
 
 abbrev pub InnerRowsAreMet : Type 0
-InnerRowsAreMet = IsMetIn (routines.IncSp One) × IsMetIn (routines.IncSp Four) × IsMetIn routines.PopA × IsMetIn routines.LdAxYSp
+InnerRowsAreMet = IsMetIn (routines.IncSp One) × IsMetIn (routines.IncSp Four) × IsMetIn routines.PopA × IsMetIn routines.PopAx × IsMetIn routines.LdAxYSp
