@@ -4,3 +4,5 @@ pub mod Loads
 pub mod Kept
 pub mod Pops
 pub mod Beside
+pub mod Pushes
+pub mod Longs
