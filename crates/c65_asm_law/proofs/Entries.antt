@@ -2,7 +2,7 @@
 use Rattle.std.proofs.Common.{◌≡◌, ℕ, zero, suc, ◌+◌, ◌/◌, ◌%◌, ◌<◌, ◌≤◌, ◌^◌, ◌==◌, ℤ, Bool, true, false, Option, None, Some, List, [], ◌∷◌, ◌++◌, length, refl, arith, rules}
 use Rattle.std.specs.Prelude.{if◌then◌else◌, nat_lt}
 use Rattle.std.proofs.lemmas.Bool.{ltb-true}
-use Rattle.c65_mach.specs.declared.rows.Op.TheVariants.{Adc, Clc, Tax, Bne, Cpy, Dex, Iny, Inc, Lda, Ldx, Ldy, Sta, Stx, Pha, Pla, Rts, Tay, Txa, Tya}
+use Rattle.c65_mach.specs.declared.rows.Op.TheVariants.{Adc, Clc, Tax, Bne, Cpy, Dex, Iny, Inc, Lda, Ldx, Ldy, Sta, Stx, Pha, Pla, Rts, Tay, Txa, Tya, Beq, Cmp, Cpx}
 use Rattle.c65_code.specs.declared.line.Line.{Line}
 use Rattle.c65_code.specs.declared.line.Line.TheVariants.{Label}
 use Rattle.c65_code.specs.declared.routine.Count.{Count}
@@ -21,7 +21,7 @@ use Rattle.c65_genentry.specs.Entry.{pushed_code, bank_store, kept_code, saved_c
 use Rattle.c65_genentry.specs.Pointers as pointers
 use Rattle.c65_genentry.specs.Bytes.{pages_code, rest_code, loop_labels, block_code, block_labels}
 use Rattle.c65_genentry.specs.Bytes as blocks
-use Rattle.c65_genentry.specs.Choice.{bits_of, test_code, case_code, choice_code}
+use Rattle.c65_genentry.specs.Choice.{bits_of, byte_of, test_code, case_code, case_codes, by_bytes, byte_tests, byte_choice, choice_code, choice_labels}
 use Rattle.c65_asm_law.proofs.Well.{AllWell, well_append, well_none, well_more, well_if}
 use Rattle.c65_asm_law.proofs.Loads.{pass_well}
 
@@ -198,9 +198,24 @@ test_well : (n : ℕ) (w : Width) (bits other at : ℕ) → other < 2 ^ 32 → a
 test_well n Ax bits other at first second = record { all = search (rules, first, second) }
 test_well n Eax bits other at first second = record { all = search (rules, first, second) }
 
-pub choice_well : (n : ℕ) (w : Width) (at l : ℕ) (zs : List ℤ) → at < 2 ^ 32 → l + length zs ≤ 2 ^ 32 → AllWell n (choice_code w at l zs)
-choice_well n w at l [] low room = well_none n
-choice_well n w at l (z ∷ zs) low room =
+cases_well : (n : ℕ) (w : Width) (at l : ℕ) (zs : List ℤ) → at < 2 ^ 32 → l + length zs ≤ 2 ^ 32 → AllWell n (case_codes w at l zs)
+cases_well n w at l [] low room = well_none n
+cases_well n w at l (z ∷ zs) low room =
     let here : l < 2 ^ 32 = omega (arith, room) in
     let case : AllWell n (case_code w z at l) = well_append n (test_code w (bits_of z) l at) (Label l ∷ []) (test_well n w (bits_of z) l at here low) (record { all = (here, tt) }) in
-    well_append n (case_code w z at l) _ case (choice_well n w ((at + 1) % 4294967296) (l + 1) zs (omega arith) (omega (arith, room)))
+    well_append n (case_code w z at l) _ case (cases_well n w ((at + 1) % 4294967296) (l + 1) zs (omega arith) (omega (arith, room)))
+
+bytes_well : (n at : ℕ) (zs : List ℤ) → at < 2 ^ 32 → AllWell n (byte_tests at zs)
+bytes_well n at [] low = well_none n
+bytes_well n at (z ∷ zs) low =
+    let first : AllWell n (value Cmp (byte_of (bits_of z) 1) ∷ branch Beq at ∷ []) = record { all = search (rules, low) } in
+    well_append n _ (byte_tests ((at + 1) % 4294967296) zs) first (bytes_well n ((at + 1) % 4294967296) zs (omega arith))
+
+pub choice_well : (n : ℕ) (w : Width) (other at l : ℕ) (zs : List ℤ) → other < 2 ^ 32 → at < 2 ^ 32 → l + choice_labels w zs ≤ 2 ^ 32 → AllWell n (choice_code w other at l zs)
+choice_well n w other at l zs out low room = by (by_bytes w zs) room
+  where
+    by : (b : Bool) → l + (if b then 0 else length zs) ≤ 2 ^ 32 → AllWell n (if b then byte_choice other at zs else case_codes w at l zs)
+    by true room =
+        let first : AllWell n (value Cpx 0 ∷ branch Bne other ∷ []) = record { all = search (rules, out) } in
+        well_append n _ (byte_tests at zs) first (bytes_well n at zs low)
+    by false room = cases_well n w at l zs low room

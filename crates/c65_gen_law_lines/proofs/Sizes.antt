@@ -1,7 +1,7 @@
 -- The bytes of the lines at the entry and the end of functions, and about objects.
 use Rattle.std.proofs.Common.{ℕ, zero, suc, ◌+◌, ◌*◌, ◌/◌, ◌%◌, ◌≤◌, ◌==◌, Bool, true, false, Option, None, Some, ℤ, List, [], ◌∷◌, ◌++◌, length, arith}
 use Rattle.std.specs.Prelude.{if◌then◌else◌, nat_lt, nat_le}
-use Rattle.c65_mach.specs.declared.rows.Op.TheVariants.{Adc, Bne, Clc, Cpy, Dex, Iny, Inc, Lda, Ldx, Ldy, Sta, Stx, Pha, Pla, Rts, Tax, Tay, Txa, Tya}
+use Rattle.c65_mach.specs.declared.rows.Op.TheVariants.{Adc, Bne, Clc, Cpy, Dex, Iny, Inc, Lda, Ldx, Ldy, Sta, Stx, Pha, Pla, Rts, Tax, Tay, Txa, Tya, Beq, Cmp, Cpx}
 use Rattle.c65_code.specs.declared.line.Line.{Line}
 use Rattle.c65_code.specs.declared.line.Line.TheVariants.{Label}
 use Rattle.c65_code.specs.declared.routine.Count.{Count}
@@ -23,7 +23,7 @@ use Rattle.c65_genentry.specs.Entry.{pushed_code, bank_store, kept_code, near_lo
 use Rattle.c65_genentry.specs.Pointers as pointers
 use Rattle.c65_genentry.specs.Bytes.{pages_code, rest_code, loop_labels, block_code}
 use Rattle.c65_genentry.specs.Bytes as blocks
-use Rattle.c65_genentry.specs.Choice.{bits_of, test_code, choice_code}
+use Rattle.c65_genentry.specs.Choice.{bits_of, byte_of, test_code, case_codes, by_bytes, byte_tests, byte_choice, choice_code}
 use Rattle.c65_genload.specs.declared.places.Access.TheVariants.{Whole}
 use Rattle.c65_genload.specs.declared.places.Place.TheVariants as places
 use Rattle.c65_genload.specs.Stores.{store_code}
@@ -264,8 +264,23 @@ test_size : (w : Width) (bits other at : ℕ) → Takes 32 (test_code w bits oth
 test_size Ax bits other at = record { size = omega arith }
 test_size Eax bits other at = record { size = omega arith }
 
-pub choice_size : (w : Width) (at l : ℕ) (zs : List ℤ) → Takes (32 * length zs) (choice_code w at l zs)
-choice_size w at l [] = record { size = omega arith }
-choice_size w at l (z ∷ zs) =
+cases_size : (w : Width) (at l : ℕ) (zs : List ℤ) → Takes (32 * length zs) (case_codes w at l zs)
+cases_size w at l [] = record { size = omega arith }
+cases_size w at l (z ∷ zs) =
     let label : Takes 0 (Label l ∷ []) = record { size = omega arith } in
-    takes_wider (takes_append (takes_append (test_size w (bits_of z) l at) label) (choice_size w ((at + 1) % 4294967296) (l + 1) zs)) (omega arith)
+    takes_wider (takes_append (takes_append (test_size w (bits_of z) l at) label) (cases_size w ((at + 1) % 4294967296) (l + 1) zs)) (omega arith)
+
+bytes_size : (at : ℕ) (zs : List ℤ) → Takes (7 * length zs) (byte_tests at zs)
+bytes_size at [] = record { size = omega arith }
+bytes_size at (z ∷ zs) =
+    let first : Takes 7 (value Cmp (byte_of (bits_of z) 1) ∷ branch Beq at ∷ []) = record { size = omega arith } in
+    takes_wider (takes_append first (bytes_size ((at + 1) % 4294967296) zs)) (omega arith)
+
+pub choice_size : (w : Width) (other at l : ℕ) (zs : List ℤ) → Takes (7 + 32 * length zs) (choice_code w other at l zs)
+choice_size w other at l zs = by (by_bytes w zs)
+  where
+    by : (b : Bool) → Takes (7 + 32 * length zs) (if b then byte_choice other at zs else case_codes w at l zs)
+    by true =
+        let first : Takes 7 (value Cpx 0 ∷ branch Bne other ∷ []) = record { size = omega arith } in
+        takes_wider (takes_append first (bytes_size at zs)) (omega arith)
+    by false = takes_wider (cases_size w at l zs) (omega arith)
