@@ -167,7 +167,7 @@ bytes_level at (z ∷ zs) =
     level_end (level_then (byte_level z at (length zs)) rest) (λ k h x. absurd x) (λ k h x. inr x)
 
 -- the labels of the cases, and that to which it goes where there is none
-pub Chosen : ℕ → ℕ → ℕ → ℕ → List ℕ → Type 0
+abbrev pub Chosen : ℕ → ℕ → ℕ → ℕ → List ℕ → Type 0
 Chosen other at n l h = There other [] l h ⊎ Cases at n l h
 
 pub choice_level : (w : Width) (other at l : ℕ) (zs : List ℤ) → Level Nowhere (Chosen other at (length zs)) [] [] (choice_code w other at l zs) []
