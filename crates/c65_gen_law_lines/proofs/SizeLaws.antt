@@ -102,9 +102,9 @@ guard_grows : (f : Framed) (to : ℕ) (e : MaybeTyped) (d : Drafted) → Grows (
 guard_grows f to absent d = grows_same
 guard_grows f to (present e) d = test_grows f to false e d
 
--- the bytes of a statement, while its case labels keep room for their tests
+-- the bytes of a statement, while its case labels keep room for their tests, and the function for its entry and its end
 record Within (s : Stmt) (d e : Drafted) : Type 0 where
-  size : lines_size e.lines + 32 * length (cases_of s) ≤ lines_size d.lines + 128 * statement_nodes s
+  size : lines_size e.lines + 32 * length (cases_of s) + 71 ≤ lines_size d.lines + 128 * statement_nodes s
 
 record AllWithin (ss : Stmts) (d e : Drafted) : Type 0 where
   size : lines_size e.lines + 32 * length (cases_in ss) ≤ lines_size d.lines + 128 * statements_nodes ss
@@ -183,4 +183,4 @@ functions_are_small parts modes g body f is_main out framed =
     let m1 : Drafted = with_stmt f (ways 0 0 0) 0 body m0 in
     let m2 : Drafted = with_lines m1 (main_code is_main) in
     let m3 : Drafted = with_label 0 m2 in
-    omega (arith, (grows_lines (69 + 19 * length f.moved) d (entry_code f) (entry_size f frame.0)).size, (stmt_small f (ways 0 0 0) 0 body m0).size, (grows_lines 4 m1 (main_code is_main) (main_size is_main)).size, (label_grows 0 m2).size, (grows_lines 54 m3 (end_code f) (end_size f frame.0 (omega (arith, frame.1)))).size, frame.2)
+    omega (arith, (grows_lines (105 + 19 * length f.moved) d (entry_code f) (entry_size f frame.0)).size, (stmt_small f (ways 0 0 0) 0 body m0).size, (grows_lines 4 m1 (main_code is_main) (main_size is_main)).size, (label_grows 0 m2).size, (grows_lines 90 m3 (end_code f) (end_size f frame.0 (omega (arith, frame.1)))).size, frame.2)

@@ -44,7 +44,7 @@ use Rattle.c65_genstmt.specs.Stmts.{case_behind, with_label, with_jump, two_give
 use Rattle.c65_genstmt.specs.Functions.{main_code, no_lines}
 use Rattle.c65_gen_law_stack.specs.Bank.{FunctionsLeaveRegbank}
 use Rattle.c65_gen_law_stack.proofs.EntryWay.{IsOrderly}
-use Rattle.c65_gen_law_stack.proofs.FrameOrder.{NotBank, frames_are_orderly, frames_without_bank}
+use Rattle.c65_gen_law_stack.proofs.FrameOrder.{NotBank, frames_are_orderly, frames_without_bank, unkept, unmoved}
 use Rattle.c65_gen_law_stack.proofs.BankPieces.{pass_clear, Clear, clear_then, clear_if, clear_none, store_clear}
 use Rattle.c65_gen_law_stack.proofs.BankExprs.{IsBankless, label_clear, expr_clear}
 
@@ -255,9 +255,6 @@ count_clear : (variadic : Bool) → Clear (count_code variadic)
 count_clear true = record { all = refl }
 count_clear false = clear_none
 
-saved_clear : (bank : ℕ) → Clear (saved_code bank)
-saved_clear bank = clear_if (nat_lt 0 bank) (record { all = refl }) clear_none
-
 nothing_clear : (a : List Line) → a ≡ [] → Clear a
 nothing_clear a e = subst (λ (x : List Line). Clear x) (sym e) clear_none
 
@@ -272,24 +269,21 @@ early_clear : (v : Bool) (soft stacked : ℕ) (ms : List Moved) → ms ≡ [] �
 early_clear true soft stacked ms e = nothing_clear (raised_moves soft stacked ms) (ap (raised_moves soft stacked) e)
 early_clear false soft stacked ms e = clear_none
 
-restored_clear : (b : Bool) → b ≡ false → Clear (if b then call RestRegs ∷ [] else [])
-restored_clear true e = absurd cc
-restored_clear false e = clear_none
-
 checked_clear : (check : Option ℕ) → Clear (checked_code check)
 checked_clear None = clear_none
 checked_clear (Some c) = record { all = refl }
 
-entry_clear : (f : Framed) → IsOrderly f → nat_lt 0 f.bank ≡ false → Clear (entry_code f)
-entry_clear f o e =
-    clear_then (checked_clear f.check) (clear_then (pushed_clear f.last) (clear_then (counted_clear f.variadic) (clear_then (saved_clear f.bank) (clear_then (early_clear f.variadic f.soft f.stacked f.moved (o.unkept e).1) (clear_then (nothing_clear (kept_code f.last) (o.unkept e).0) (clear_then (lower_clear (taken_bytes f.variadic f.soft)) (clear_then (count_clear f.variadic) (late_clear f.variadic f.moved (o.unkept e).1))))))))
+entry_clear : (f : Framed) → IsOrderly f → f.bank ≡ 0 → Clear (entry_code f)
+entry_clear f o none =
+    let moved : f.moved ≡ [] = unmoved f.bank f.moved none o.moved in
+    clear_then (checked_clear f.check) (clear_then (pushed_clear f.last) (clear_then (counted_clear f.variadic) (clear_then (nothing_clear (saved_code f.bank) (ap saved_code none)) (clear_then (early_clear f.variadic f.soft f.stacked f.moved moved) (clear_then (nothing_clear (kept_code f.last) (unkept f.bank f.last none o.kept)) (clear_then (lower_clear (taken_bytes f.variadic f.soft)) (clear_then (count_clear f.variadic) (late_clear f.variadic f.moved moved))))))))
 
-end_clear : (f : Framed) → nat_lt 0 f.bank ≡ false → Clear (end_code f)
-end_clear f e =
+end_clear : (f : Framed) → f.bank ≡ 0 → Clear (end_code f)
+end_clear f none =
     let front : Clear (zero_page Sta tmp1 ∷ value Ldy 0 ∷ by_y Lda sp ∷ implied Pha ∷ zero_page Lda tmp1 ∷ []) = record { all = refl } in
     let back : Clear (zero_page Sta tmp1 ∷ implied Pla ∷ implied Tay ∷ zero_page Lda tmp1 ∷ call AddYSp ∷ implied Rts ∷ []) = record { all = refl } in
     let last : Clear (implied Rts ∷ []) = record { all = refl } in
-    let restored : Clear (restored_code f.bank) = restored_clear (nat_lt 0 f.bank) e in
+    let restored : Clear (restored_code f.bank) = nothing_clear (restored_code f.bank) (ap restored_code none) in
     clear_if f.variadic (clear_then front (clear_then (raise_clear f.soft) (clear_then restored back))) (clear_then (raise_clear f.soft) (clear_then restored (clear_then (raise_clear f.stacked) last)))
 
 main_clear : (is_main : Bool) → Clear (main_code is_main)
@@ -298,9 +292,8 @@ main_clear false = clear_none
 
 pub functions_leave_regbank : FunctionsLeaveRegbank
 functions_leave_regbank parts modes g body f is_main out framed nothing =
-    let e : nat_lt 0 f.bank ≡ false = ap (nat_lt 0) nothing in
     let o : IsOrderly f = frames_are_orderly parts modes g f framed in
     let b : IsBankless f = frames_without_bank parts modes g f framed nothing in
     let d : Drafted = with_lines (with_labels (room_of body) (with_labels 1 (no_lines out))) (entry_code f) in
-    let all : Clear (with_stmt f (ways 0 0 0) 0 body d).lines = stmt_kept f (ways 0 0 0) 0 body d b (entry_clear f o e) in
-    (clear_then (clear_then (clear_then all (main_clear is_main)) (label_clear 0)) (end_clear f e)).all
+    let all : Clear (with_stmt f (ways 0 0 0) 0 body d).lines = stmt_kept f (ways 0 0 0) 0 body d b (entry_clear f o nothing) in
+    (clear_then (clear_then (clear_then all (main_clear is_main)) (label_clear 0)) (end_clear f nothing)).all
