@@ -14,7 +14,7 @@ use Rattle.c65_rtl.proofs.Pushes.{write_same}
 -- state t.
 pub record Aside (t : State) (count low high : ℕ) (bytes : Bytes) (stack unread told : List ℕ) (status : Option ℕ) : Type 0 where
   pub sp : low + 256 * high ≡ sp_of t + count
-  pub mem : (b : ℕ) → (b + 64 < sp_of t) ⊎ ((sp_of t ≤ b) ⊎ (sp_of t + count ≤ b)) → bytes b ≡ t.mem b
+  pub mem : (b : ℕ) → bytes b ≡ t.mem b
   pub pushed : stack ≡ []
   pub input : unread ≡ t.input
   pub output : told ≡ t.output

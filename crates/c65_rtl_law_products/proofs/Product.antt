@@ -26,8 +26,7 @@ use Rattle.c65_rtl_law_walks.specs.Inside.{MayRunIn, MeetsIn}
 use Rattle.c65_rtl_law_walks.proofs.Walks.{Takes, Calls}
 use Rattle.c65_rtl_law_walks.proofs.Turning.{leads_turn, turn_weight, TurnsIn}
 use Rattle.c65_rtl_law_walks.proofs.Meets.{Leads, turning_meets, met_within}
-use Rattle.c65_rtl_law_inner.specs.Inner.{weight_of}
-use Rattle.c65_rtl_law_inner.proofs.Pops.{popax_row, pop_word_in, Popped, popped}
+use Rattle.c65_rtl_law_inner.proofs.Pops.{popax_row, pop_word_comes, Popped, popped}
 use Rattle.c65_rtl_law_inner.proofs.Beside.{Aside, Beside, returns, outside, values, rewritten}
 use Rattle.c65_rtl_law_products.specs.Rows.{Holds, WordsAreMultiplied}
 use Rattle.c65_rtl_law_products.proofs.Numbers.{odd_round, even_round, first_round, last_round, fewer_bits}
@@ -112,7 +111,7 @@ begun u n z = record u { regs = record u.regs { x = 0; y = 0; n = n; z = z }; zp
 loop_at : (s : RawSetting) (bounds : Bounds) (P : State → Type 0) (B : ℕ → State → Type 0) (u : State) → ((n z : Bool) → leads_turn s bounds 2 takes P B (2 ∷ 1 ∷ 0 ∷ []) test_lines None (begun u n z))
     → leads_turn s bounds 2 takes P B [] loop_lines None u
 unfolding leads_turn
-loop_at s bounds P B u follows = elim [ | true ↦ λ e. follows false false | false ↦ λ e. cc ]
+loop_at s bounds P B u follows = elim [ true ↦ λ e. follows false false | false ↦ λ e. cc ]
 
 abbrev pointed : State → State
 pointed u = record u { zp = write (write u.zp 8 u.regs.a) 9 u.regs.x }
@@ -256,7 +255,7 @@ multiplied t = λ u low high number beside rest.
       sreg = tt;
       pointers = tt;
       bank = tt;
-      mem = beside.mem;
+      mem = λ b h. beside.mem b;
       input = beside.input;
       output = beside.output ∙ sym (append-nil t.output);
       ended = beside.ended;
@@ -292,10 +291,7 @@ leads s pops bounds back t may = record {
   round = round s bounds (Ends (product_row t) t) t (product_of t) (multiplied t);
   leads = head_at s bounds (Ends (product_row t) t) (λ j v. Going t (product_of t) j 350 v) (called back t) (record {
     row = popax_row (pointed (called back t));
-    row_is = refl;
-    weight = weight_of routines.PopAx;
-    meets = pop_word_in s pops;
-    light = omega arith;
+    comes = λ may_in from. pop_word_comes s pops bounds from (pointed (called back t)) may_in;
     goes_on = refl;
     ready = refl;
     near = may.near;

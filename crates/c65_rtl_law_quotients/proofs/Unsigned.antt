@@ -16,8 +16,7 @@ use Rattle.c65_rtl.proofs.Meeting.{eq_false, write_other}
 use Rattle.c65_rtl_law_walks.specs.Inside.{MayRunIn, MeetsIn}
 use Rattle.c65_rtl_law_walks.proofs.Turning.{leads_turn, turn_weight, TurnsIn}
 use Rattle.c65_rtl_law_walks.proofs.Meets.{Leads, turning_meets, met_within}
-use Rattle.c65_rtl_law_inner.specs.Inner.{weight_of}
-use Rattle.c65_rtl_law_inner.proofs.Pops.{popax_row, pop_word_in, Popped, popped}
+use Rattle.c65_rtl_law_inner.proofs.Pops.{popax_row, pop_word_comes, Popped, popped}
 use Rattle.c65_rtl_law_inner.proofs.Beside.{Beside, outside}
 use Rattle.c65_rtl_law_quotients.specs.Rows.{Holds, IsMet}
 use Rattle.c65_rtl_law_quotients.proofs.Rounds.{Divided, after_all}
@@ -87,10 +86,7 @@ leads s pops rest light op result bounds back t may behind =
       round = round s bounds (Ends (result_row op result t) t) rest t small light behind;
       leads = terms_at s bounds (Ends (result_row op result t) t) (λ j v. Going t j 360 v) (divide_on rest) (called back t) (record {
         row = popax_row (pointed (called back t));
-        row_is = refl;
-        weight = weight_of routines.PopAx;
-        meets = pop_word_in s pops;
-        light = omega arith;
+        comes = λ may_in from. pop_word_comes s pops bounds from (pointed (called back t)) may_in;
         goes_on = refl;
         ready = refl;
         near = near_of (IsReachable s.place bounds) op result t may.near;
