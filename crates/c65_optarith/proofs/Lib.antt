@@ -1,0 +1,4 @@
+mod Quiet
+mod Pairs
+mod Good
+mod Rounds

@@ -1,0 +1,14 @@
+use Rattle.std.proofs.Common.{rules, sym, subst}
+use Rattle.c65_pass.specs.Passes.{IsGood, Answers}
+use Rattle.c65_pass.specs.Rules.{match_at}
+use Rattle.c65_optarith.proofs.Good.{idle_carry_good}
+use Rattle.c65_optarith.proofs.pass.idle_carry.Goals as goal
+
+pub new-pass-requires-clause-good : goal.new-pass-requires-clause-good
+new-pass-requires-clause-good c = idle_carry_good c.args.literals.now.items
+
+pub run_pass-requires-clause-good : goal.run_pass-requires-clause-good
+run_pass-requires-clause-good c = subst (λ r. IsGood r c.new-pass.result.literals.now.items) (sym c.new-pass.ensures.rule) (idle_carry_good c.new-pass.result.literals.now.items)
+
+pub run_pass-requires-clause-exact : goal.run_pass-requires-clause-exact
+run_pass-requires-clause-exact c = λ n l at r t e. subst (λ rule. Answers (match_at rule c.new-pass.result.literals.now.items n.now l.now at) r) (sym c.new-pass.ensures.rule) (search rules)
