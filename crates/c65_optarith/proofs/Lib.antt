@@ -1,4 +1,3 @@
 mod Quiet
 mod Pairs
-mod Good
-mod Rounds
+pub mod Good

@@ -6,7 +6,6 @@ mod facts;
 mod find;
 mod joined;
 mod operations;
-mod pass;
 mod samples;
 mod windows;
 
