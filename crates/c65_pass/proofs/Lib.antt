@@ -3,3 +3,5 @@ pub mod Chains
 pub mod Hops
 pub mod Windows
 pub mod Replaced
+pub mod Walks
+pub mod Plain

@@ -8,3 +8,4 @@ pub mod StackRules
 pub mod LibraryRules
 pub mod Rules
 pub mod Passes
+pub mod Once

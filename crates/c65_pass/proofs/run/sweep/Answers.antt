@@ -1,8 +1,12 @@
-use Rattle.std.proofs.Common.{rules, ◌≡◌, List, ◌-◌, ◌^◌, ◌≤◌, suc, length, refl, arith, ap, sym, subst, ◌∙◌}
+use Rattle.std.proofs.Common.{rules, ◌≡◌, ◌⊎◌, inl, inr, ℕ, List, None, ◌+◌, ◌-◌, ◌^◌, ◌<◌, ◌≤◌, suc, length, refl, arith, ap, sym, subst, ◌∙◌}
+use Rattle.std.proofs.Math.Nat.{eq-or-lt_of_le}
 use Rattle.c65_code.specs.declared.line.Line.{Line}
+use Rattle.c65_code.specs.declared.line.Sym.{Sym}
 use Rattle.c65_code.specs.declared.parts.RegSet.{RegSet}
+use Rattle.c65_know.specs.Known.{Annotated}
 use Rattle.c65_live.specs.Tables.{Table, IsLiveTable}
 use Rattle.c65_pass.specs.Passes.{none}
+use Rattle.c65_pass.specs.Rules.{match_at}
 use Rattle.c65_pass.proofs.Chains.{keeps_next, next_chain, next_noted, next_smaller, count_one, not_none, nowhere}
 use Rattle.c65_pass.proofs.run.sweep.Goals as goal
 
@@ -24,6 +28,30 @@ loop-at-init g c =
         live = same_table _ _ _ _ _ c.seg.ensures.lines c.seg.ensures.out c.in_ok-live.ensures.ok;
         same = λ e. refl;
         clean = λ e k h. absurd (omega (arith, h));
+      },
+    )
+
+-- a place more at which the rule does not match
+one_more : (rule : ℕ) (literals : List (Sym × List ℕ)) (code : Annotated) (table : Table) (at : ℕ) → ((k : ℕ) → k < at → match_at rule literals code table k ≡ None)
+    → match_at rule literals code table at ≡ None → (k : ℕ) → k < at + 1 → match_at rule literals code table k ≡ None
+one_more rule literals code table at before here k less = let last : k ≤ at = omega (arith, less) in go (eq-or-lt_of_le last)
+  where
+    go : (k ≡ at) ⊎ (k < at) → match_at rule literals code table k ≡ None
+    go (inl e) = subst (λ q. match_at rule literals code table q ≡ None) (sym e) here
+    go (inr earlier) = before k earlier
+
+pub loop-at-preserved-in_default : goal.loop-at-preserved-in_default
+loop-at-preserved-in_default g c =
+    let i = c.loop-at.invariant in (
+      i.0,
+      record {
+        chain = i.1.chain;
+        made = i.1.made;
+        noted = i.1.noted;
+        segment = i.1.segment;
+        live = i.1.live;
+        same = i.1.same;
+        clean = λ e. one_more c.args.pass.now.rule c.args.pass.now.literals.now.items c.loop-at.code c.loop-at.live c.loop-at.at (i.1.clean e) (sym c.in_ok-found.ensures.0 ∙ c.in_default.is);
       },
     )
 
