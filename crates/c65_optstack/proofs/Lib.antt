@@ -1,0 +1,3 @@
+mod Shorter
+mod Unstacked
+mod Good
