@@ -5,7 +5,6 @@ mod facts;
 mod find;
 mod load;
 mod others;
-mod pass;
 mod tests;
 
 pub use load::optimise_load;

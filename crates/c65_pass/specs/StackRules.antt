@@ -132,9 +132,16 @@ abbrev pub undone : Table → ℕ → Line → List Line → Option Rewriting
 undone table at line [] = None
 undone table at line (next ∷ after) = in_place (nothing_if (is_taken_back line next)) (is_settled table (at + 1) next) 2 at
 
-abbrev pub called_once : (Line → Line → Option Routine) → Table → ℕ → Line → List Line → Option Rewriting
-called_once made table at line [] = None
-called_once made table at line (next ∷ after) = in_place (one_call (made line next)) (is_settled table (at + 1) next) 2 at
+-- rules 34 to 37
+abbrev pub one_routine : ℕ → Line → Line → Option Routine
+one_routine rule line next =
+    if rule == 34 then moved_at_once line next else (
+    if rule == 35 then moved_by_byte line next else (
+    if rule == 36 then zero_pushed line next else word_at_sp line next))
+
+abbrev pub called_once : ℕ → Table → ℕ → Line → List Line → Option Rewriting
+called_once rule table at line [] = None
+called_once rule table at line (next ∷ after) = in_place (one_call (one_routine rule line next)) (is_settled table (at + 1) next) 2 at
 
 abbrev pub done_in_line : Table → ℕ → Line → List Line → Option Rewriting
 done_in_line table at line (one ∷ other ∷ last ∷ after) = in_place (unstacked line one other last) (is_settled table (at + 3) last) 4 at
@@ -142,10 +149,4 @@ done_in_line table at line _ = None
 
 -- Rules 33 to 38. `after` are the lines after the line.
 abbrev pub stack_rule : ℕ → Table → ℕ → Line → List Line → Option Rewriting
-stack_rule rule table at line after =
-    if rule == 33 then undone table at line after else (
-    if rule == 34 then called_once moved_at_once table at line after else (
-    if rule == 35 then called_once moved_by_byte table at line after else (
-    if rule == 36 then called_once zero_pushed table at line after else (
-    if rule == 37 then called_once word_at_sp table at line after else (
-    if rule == 38 then done_in_line table at line after else None)))))
+stack_rule rule table at line after = if rule == 33 then undone table at line after else (if rule == 38 then done_in_line table at line after else called_once rule table at line after)

@@ -1,5 +1,5 @@
 // What the rules on calls ask of the lines from a place on.
-ghost use Rattle.std.specs.Prelude.{◌≡◌, ◌+◌, ◌^◌, ◌<◌, drop, length, true, Some};
+ghost use Rattle.std.specs.Prelude.{◌≡◌, true, Some};
 ghost use Rattle.c65_pass.specs.Passes.{Answers};
 ghost use Rattle.c65_pass.specs.Registers.{alone};
 ghost use Rattle.c65_pass.specs.StackRules.{is_settled, in_place, word_loaded};
@@ -7,19 +7,9 @@ ghost use Rattle.c65_pass.specs.StackRules.{is_settled, in_place, word_loaded};
 use crate::rewrite::Rewrite;
 use c65_base::Refusal;
 use c65_code::{Line, Operand, Part, RegSet};
-use c65_know::Noted;
 use c65_live::LiveTable;
 use c65_mach::{Mode, Op};
 use std::alloc::Global;
-
-/// The lines from a place on.
-pub fn lines_from(code: &Noted, at: usize) -> &[Line]
-    ensures lines { result.now ≡ drop at code.now.lines }
-    ensures end { 0 < length result.now → at + length result.now < 2 ^ 64 }
-{
-    let lines = code.seg().lines();
-    if at < lines.len() { &lines[at..] } else { &[] }
-}
 
 /// Whether all that a call leaves open is dead after a line: what it may change but A, X and sp, which it gives or keeps.
 pub fn is_settled(live: &LiveTable, at: usize, line: &Line) -> bool

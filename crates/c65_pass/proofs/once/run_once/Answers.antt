@@ -3,6 +3,7 @@ use Rattle.std.specs.Prelude.{All}
 use Rattle.c65_code.specs.declared.line.Line.{Line}
 use Rattle.c65_code.specs.declared.parts.RegSet.{RegSet}
 use Rattle.c65_code.specs.Writable.{IsLineWritable}
+use Rattle.c65_know.specs.Known.{annotated}
 use Rattle.c65_live.specs.Tables.{Table, IsLiveTable}
 use Rattle.c65_pass.specs.Passes.{none}
 use Rattle.c65_pass.proofs.Chains.{next_chain, count_one}
@@ -18,7 +19,7 @@ returns-in_err-live-clause-chain g c = (0, none, search rules)
 pub loop-at-init : goal.loop-at-init
 loop-at-init g c =
     let code = c.args.code.now in
-    let noted = ap (λ notes. record { lines = code.lines; out = code.out; notes = notes }) c.seg.ensures.noted in
+    let noted : code ≡ annotated code.lines code.out = ap (λ notes. record { lines = code.lines; out = code.out; notes = notes }) c.seg.ensures.noted in
     (0, walk_none _ _ _ _ _ noted c.seg.ensures.kept (same_table _ _ _ _ _ c.seg.ensures.lines c.seg.ensures.out c.in_ok-live.ensures.ok), omega arith)
 
 pub loop-at-preserved-in_default : goal.loop-at-preserved-in_default
@@ -50,6 +51,16 @@ loop-at-smaller g c =
     let i = c.loop-at.invariant in
     let keeps = walk_keeps _ _ _ _ i.0 c.loop-at.at _ _ _ c.requires.good i.1 (sym c.in_ok-found.ensures.0 ∙ c.in-Some.is) in
     walk_nearer _ _ _ c.loop-at.at _ _ keeps (ap (λ a. a.lines) c.in_ok-put.ensures.ok) c.at-in-loop-at.ensures c.lines-in-loop-at-2.ensures
+
+pub loop-at-preserved-in_ok-renew : goal.loop-at-preserved-in_ok-renew
+loop-at-preserved-in_ok-renew g c =
+    let i = c.loop-at.invariant in
+    let live = same_table _ _ _ _ _ c.seg-in-loop-at-2.ensures.lines c.seg-in-loop-at-2.ensures.out c.in_ok-renew.ensures.ok in (
+      suc i.0,
+      walk_placed _ _ _ _ _ _ _ _ _ c.in-Some.found c.at-in-loop-at.ensures c.lines-in-loop-at-2.ensures
+          (walk_more _ _ _ _ i.0 c.loop-at.at _ _ _ _ _ c.requires.good i.1 (sym c.in_ok-found.ensures.0 ∙ c.in-Some.is) c.in_ok-put.ensures.ok live),
+      c.saturating_add-made.ensures ∙ count_one (2 ^ 64 - 1) _ i.0 i.2,
+    )
 
 pub loop-at-preserved : goal.loop-at-preserved
 loop-at-preserved g c =
