@@ -4,24 +4,16 @@ use Rattle.c65_code.specs.declared.line.Line.{Line}
 use Rattle.c65_code.specs.declared.line.Sym.{Sym}
 use Rattle.c65_code.specs.declared.routine.Routine.{Routine}
 use Rattle.c65_code.specs.Segments.{IsSegment}
-use Rattle.c65_know.specs.Known.{Annotated}
 use Rattle.c65_live.specs.Tables.{Table}
-use Rattle.c65_pass.specs.StackRules.{is_settled, in_place, call_of, one_call, nothing_if, is_taken_back, moved_at_once, moved_by_byte, zero_pushed, word_at_sp, unstacked, undone, called_once, done_in_line}
+use Rattle.c65_pass.specs.StackRules.{is_settled, in_place, call_of, one_call, nothing_if, is_taken_back, one_routine, unstacked, undone, called_once, done_in_line}
 use Rattle.c65_pass.specs.Passes.{IsGood}
 use Rattle.c65_pass.specs.Rewriting.{Rewriting, Keeps}
-use Rattle.c65_pass.specs.Rules.{made_by, match_there, match_at}
+use Rattle.c65_pass.specs.Rounds.{IsRuleOf, AreGood}
+use Rattle.c65_pass.proofs.Places.{at_line}
 use Rattle.c65_pass.proofs.Plain.{keeps_plain}
+use Rattle.c65_pass.proofs.Turns.{good_one, good_more}
 use Rattle.c65_optstack.proofs.Shorter.{IsLess, taken_back_less, moved_at_once_less, moved_by_byte_less, zero_pushed_less, word_at_sp_less}
 use Rattle.c65_optstack.proofs.Unstacked.{unstacked_less}
-
-at_line : (rule : ℕ) (literals : List (Sym × List ℕ)) (noted : Annotated) (table : Table) (at : ℕ) (w : Rewriting)
-    → ((line : Line) (post : List Line) → drop at noted.lines ≡ line ∷ post → made_by rule literals noted table at line post ≡ Some w → Keeps noted.lines w)
-    → match_at rule literals noted table at ≡ Some w → Keeps noted.lines w
-at_line rule literals noted table at w keeps m = go (drop at noted.lines) refl m
-  where
-    go : (rest : List Line) → drop at noted.lines ≡ rest → match_there rule literals noted table at rest ≡ Some w → Keeps noted.lines w
-    go [] e k = absurd cc
-    go (line ∷ post) e k = keeps line post e k
 
 -- ---- two lines
 
@@ -48,12 +40,12 @@ call_keeps lines at line next post w (Some r) true e s less m =
     keeps_plain lines at 2 (line ∷ next ∷ []) (call_of r ∷ []) post w e refl (omega arith) s k.stand k.less is
 call_keeps lines at line next post w (Some r) false e s less m = absurd cc
 
-once_keeps : (made : Line → Line → Option Routine) (lines : List Line) (table : Table) (at : ℕ) (line : Line) (post : List Line) (w : Rewriting)
-    → ((one next : Line) (r : Routine) → made one next ≡ Some r → IsLess (one ∷ next ∷ []) (call_of r ∷ [])) → drop at lines ≡ line ∷ post → IsSegment lines
-    → called_once made table at line post ≡ Some w → Keeps lines w
-once_keeps made lines table at line [] w less e s m = absurd cc
-once_keeps made lines table at line (next ∷ post) w less e s m =
-    call_keeps lines at line next post w (made line next) (is_settled table (at + 1) next) e s (less line next) m
+once_keeps : (rule : ℕ) (lines : List Line) (table : Table) (at : ℕ) (line : Line) (post : List Line) (w : Rewriting)
+    → ((one next : Line) (r : Routine) → one_routine rule one next ≡ Some r → IsLess (one ∷ next ∷ []) (call_of r ∷ [])) → drop at lines ≡ line ∷ post → IsSegment lines
+    → called_once rule table at line post ≡ Some w → Keeps lines w
+once_keeps rule lines table at line [] w less e s m = absurd cc
+once_keeps rule lines table at line (next ∷ post) w less e s m =
+    call_keeps lines at line next post w (one_routine rule line next) (is_settled table (at + 1) next) e s (less line next) m
 
 -- ---- four lines
 
@@ -75,20 +67,29 @@ in_line_keeps lines table at line _ w e s m = absurd cc
 
 -- ---- the rules
 
-pub undone_good : (literals : List (Sym × List ℕ)) → IsGood 33 literals
+undone_good : (literals : List (Sym × List ℕ)) → IsGood 33 literals
 undone_good literals noted table at w s notes live m = at_line 33 literals noted table at w (λ line post e k. undone_keeps noted.lines table at line post w e s k) m
 
-pub moved_at_once_good : (literals : List (Sym × List ℕ)) → IsGood 34 literals
-moved_at_once_good literals noted table at w s notes live m = at_line 34 literals noted table at w (λ line post e k. once_keeps moved_at_once noted.lines table at line post w moved_at_once_less e s k) m
+moved_at_once_good : (literals : List (Sym × List ℕ)) → IsGood 34 literals
+moved_at_once_good literals noted table at w s notes live m = at_line 34 literals noted table at w (λ line post e k. once_keeps 34 noted.lines table at line post w moved_at_once_less e s k) m
 
-pub moved_by_byte_good : (literals : List (Sym × List ℕ)) → IsGood 35 literals
-moved_by_byte_good literals noted table at w s notes live m = at_line 35 literals noted table at w (λ line post e k. once_keeps moved_by_byte noted.lines table at line post w moved_by_byte_less e s k) m
+moved_by_byte_good : (literals : List (Sym × List ℕ)) → IsGood 35 literals
+moved_by_byte_good literals noted table at w s notes live m = at_line 35 literals noted table at w (λ line post e k. once_keeps 35 noted.lines table at line post w moved_by_byte_less e s k) m
 
-pub zero_pushed_good : (literals : List (Sym × List ℕ)) → IsGood 36 literals
-zero_pushed_good literals noted table at w s notes live m = at_line 36 literals noted table at w (λ line post e k. once_keeps zero_pushed noted.lines table at line post w zero_pushed_less e s k) m
+zero_pushed_good : (literals : List (Sym × List ℕ)) → IsGood 36 literals
+zero_pushed_good literals noted table at w s notes live m = at_line 36 literals noted table at w (λ line post e k. once_keeps 36 noted.lines table at line post w zero_pushed_less e s k) m
 
-pub word_at_sp_good : (literals : List (Sym × List ℕ)) → IsGood 37 literals
-word_at_sp_good literals noted table at w s notes live m = at_line 37 literals noted table at w (λ line post e k. once_keeps word_at_sp noted.lines table at line post w word_at_sp_less e s k) m
+word_at_sp_good : (literals : List (Sym × List ℕ)) → IsGood 37 literals
+word_at_sp_good literals noted table at w s notes live m = at_line 37 literals noted table at w (λ line post e k. once_keeps 37 noted.lines table at line post w word_at_sp_less e s k) m
 
-pub done_in_line_good : (literals : List (Sym × List ℕ)) → IsGood 38 literals
+done_in_line_good : (literals : List (Sym × List ℕ)) → IsGood 38 literals
 done_in_line_good literals noted table at w s notes live m = at_line 38 literals noted table at w (λ line post e k. in_line_keeps noted.lines table at line post w e s k) m
+
+pub stack_good : AreGood (IsRuleOf 33 38)
+stack_good =
+    let to_33 = good_one 33 (undone_good []) in
+    let to_34 = good_more 33 33 to_33 (moved_at_once_good []) in
+    let to_35 = good_more 33 34 to_34 (moved_by_byte_good []) in
+    let to_36 = good_more 33 35 to_35 (zero_pushed_good []) in
+    let to_37 = good_more 33 36 to_36 (word_at_sp_good []) in
+    good_more 33 37 to_37 (done_in_line_good [])

@@ -1,3 +1,4 @@
 mod Shorter
 mod Unstacked
-mod Good
+pub mod Good
+mod Turns

@@ -119,8 +119,8 @@ carry_less carry op one other h l o first fits word = let size = word.size in re
     onward = λ b post k. k;
     size = omega (arith, size);
     writable = λ n all.
-      let p = loads_known n one other o all in
-      All-cons (IsLineWritable n) (alone carry) (by_bytes op h l) (tt, tt) (bytes_known n op h l (word.known_high n p.0 p.1) (word.known_low n p.0 p.1));
+        let p = loads_known n one other o all in
+        All-cons (IsLineWritable n) (alone carry) (by_bytes op h l) (tt, tt) (bytes_known n op h l (word.known_high n p.0 p.1) (word.known_low n p.0 p.1));
   };
   less = omega (arith, size);
 }

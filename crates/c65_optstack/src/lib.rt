@@ -3,4 +3,7 @@
 
 mod calls;
 mod find;
+mod stack;
 mod words;
+
+pub use stack::optimise_stack;

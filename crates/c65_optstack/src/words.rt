@@ -4,14 +4,11 @@ ghost use Rattle.c65_pass.specs.Passes.{Answers};
 ghost use Rattle.c65_pass.specs.Registers.{alone};
 ghost use Rattle.c65_pass.specs.StackRules.{is_settled, in_place, by_bytes, operated, unstacked};
 
-use c65_base::Refusal;
 use c65_code::{Callee, Line, Operand, Routine, TosOp, Width};
 use c65_live::LiveTable;
 use c65_mach::{Mode, Op};
-use c65_pass::{Rewrite, alone, in_place, is_settled, word_loaded};
+use c65_pass::{Found, alone, in_place, is_settled, word_loaded};
 use std::alloc::Global;
-
-type Found = Result<Option<Rewrite>, Refusal>;
 
 // An operation on the low byte in A and then on the high byte in X, in place of four lines.
 fn by_bytes(alloc: Global, at: usize, op: Op, high: Operand, low: Operand) -> Found
@@ -29,14 +26,7 @@ fn by_bytes(alloc: Global, at: usize, op: Op, high: Operand, low: Operand) -> Fo
 }
 
 // The same behind an operation on the carry.
-fn with_carry(
-    alloc: Global,
-    at: usize,
-    carry: Op,
-    op: Op,
-    high: Operand,
-    low: Operand,
-) -> Found
+fn with_carry(alloc: Global, at: usize, carry: Op, op: Op, high: Operand, low: Operand) -> Found
     ensures { Answers (in_place (Some (alone carry ∷ by_bytes op high low)) true 4 at) result }
 {
     let lines = [
