@@ -1,0 +1,4 @@
+pub mod Units
+pub mod Steps
+pub mod Local
+pub mod Calls
