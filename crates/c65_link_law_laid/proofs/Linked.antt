@@ -186,6 +186,35 @@ leads_in cpu code image m args s linked_is stands = record { functions = lead; r
     lead : (f : ℕ) → IsTrue (is_function_of code f) → address_in code f ≡ place_at code m (entry_place (raw_in code args) (target_of (raw_in code args) ((raw_in code args).library f) f))
     lead f h = by f h (has function_number code.functions f)
 
+-- a library function that a symbol stands for stands in the image
+pub library_chosen : (cpu : Cpu) (code : Code) (image : Image) (args : List (List ℕ)) (f : ℕ) (l : Library) → IsSound code → linked_for cpu code ≡ Ok image → IsTrue (is_function_of code f) → (raw_in code args).library f ≡ Some l → IsChosen code (routines.Library l)
+library_chosen cpu code image args f l s linked_is h some = by (has function_number code.functions f)
+  where
+    it : IsMade code image
+    it = made code cpu image linked_is
+
+    lines : List Line
+    lines = (segment_of code.functions f).lines
+
+    asked : (b : Bool) → is_nothing lines ≡ b → (if b then library_of (slice_get code.symbols f) else None) ≡ Some l
+    asked b e =
+        sym (ap (λ (x : Bool). if x && is_nothing lines then library_of (slice_get code.symbols f) else None) h ∙ ap (λ (x : Bool). if x then library_of (slice_get code.symbols f) else None) e) ∙ some
+
+    at : Stood code f → ((k : ℕ) (g : Sym × Segment) → slice_get code.functions k ≡ Some g → g.0.0 ≡ f → ⊥) → IsChosen code (routines.Library l)
+    at (own k g here is) no_function = absurd (no_function k g here is)
+    at (library k q symbol there spelling chosen address) no_function =
+        let named : library_of (slice_get code.symbols f) ≡ Some q = ap library_of there ∙ ap (library_named library_functions) spelling ∙ named_library q in
+        let same : q ≡ l = same_there q l (sym named ∙ asked true (ap is_nothing (no_segment code.functions f no_function))) in
+        subst (λ (x : Library). IsChosen code (routines.Library x)) same (record { place = k; there = chosen })
+
+    by : Has function_number code.functions f → IsChosen code (routines.Library l)
+    by (found k g here is) =
+        let u : IsUnitPlaced code (read (loaded_memory image)) f = units_stand code cpu image (read (loaded_memory image)) s linked_is (data_are_loaded code cpu image s linked_is).file f (function k g here is) in
+        let inside : nat_lt f (length code.symbols) ≡ true = (and_parts (nat_lt f (length code.symbols)) (not (has_datum code.datums f)) h).0 in
+        let lines_is : lines_in code f ≡ lines = ap (λ (b : Bool). if b then (segment_of code.functions f).lines else runtime_lines code (f - length code.symbols)) inside in
+        absurd (let z : ◌≡◌ {A = Option Library} None (Some l) = asked false (closed_lines lines (subst IsSegment lines_is u.segment)) in cc)
+    by (nowhere no_function) = at (stood code it.plain f s it.is it.missing h) no_function
+
 -- A unit by its lines
 
 record Sits (code : Code) (cpu : Cpu) (m : Memory) (base : ℕ) (lines : List Line) : Type 0 where

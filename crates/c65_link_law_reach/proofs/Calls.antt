@@ -72,21 +72,21 @@ use Rattle.c65_link.specs.Bytes.{callee_address}
 use Rattle.c65_link_law_reach.proofs.Local.{keeps_all}
 
 -- where a call goes back to
-abbrev back_of : Code → Place → Place
+abbrev pub back_of : Code → Place → Place
 back_of code p = (p.0, settle ((lines_setting code).lines p.0) (suc p.1))
 
 same_back : (code : Code) (args : List (List ℕ)) (l : Line) (p : Place) → LineOf code args p l → line_after (raw_in code args) p ≡ back_of code p
 same_back code args l p lo = ap (λ (ls : List Line). (p.0, settle ls (suc p.1))) lo.same
 
 -- what the function's line is laid as
-laid_at : (cpu : Cpu) (code : Code) (image : Image) (args : List (List ℕ)) (setting : Setting) (l : Line) (p : Place) → Image_ cpu code image args setting → LineOf code args p l → IsLaid (code_ground cpu code image) (raw_in code args) p.0
+pub laid_at : (cpu : Cpu) (code : Code) (image : Image) (args : List (List ℕ)) (setting : Setting) (l : Line) (p : Place) → Image_ cpu code image args setting → LineOf code args p l → IsLaid (code_ground cpu code image) (raw_in code args) p.0
 laid_at cpu code image args setting l p i lo = (let inside = lo.inside in i.laid p.0 (function lo.number lo.unit lo.there lo.is) (λ e. omega (arith, inside, e), λ e. omega (arith, inside, e)))
 
-line_at : (code : Code) (args : List (List ℕ)) (l : Line) (p : Place) → LineOf code args p l → slice_get ((raw_in code args).lines p.0) p.1 ≡ Some l
+pub line_at : (code : Code) (args : List (List ℕ)) (l : Line) (p : Place) → LineOf code args p l → slice_get ((raw_in code args).lines p.0) p.1 ≡ Some l
 line_at code args l p lo = ap (λ (ls : List Line). slice_get ls p.1) lo.same ∙ lo.own
 
 -- the call itself
-called_at : (cpu : Cpu) (code : Code) (image : Image) (args : List (List ℕ)) (setting : Setting) (callee : Callee) (p : Place) (to : ℕ) (t : State) (now : Moment) → (i : Image_ cpu code image args setting) → (lo : LineOf code args p (Call callee)) → callee_address (laid_at cpu code image args setting (Call callee) p i lo).spot callee ≡ to → 3 ≤ s_of t
+pub called_at : (cpu : Cpu) (code : Code) (image : Image) (args : List (List ℕ)) (setting : Setting) (callee : Callee) (p : Place) (to : ℕ) (t : State) (now : Moment) → (i : Image_ cpu code image args setting) → (lo : LineOf code args p (Call callee)) → callee_address (laid_at cpu code image args setting (Call callee) p i lo).spot callee ≡ to → 3 ≤ s_of t
     → Agrees (code_ground cpu code image) ((code_ground cpu code image).at p) t now → Moved (code_ground cpu code image) setting to (called (back_of code p) t) now
 called_at cpu code image args setting callee p to t now i lo leads deep a =
     let g : Ground = code_ground cpu code image in
@@ -96,10 +96,10 @@ called_at cpu code image args setting callee p to t now i lo leads deep a =
 
 -- Functions
 
-abbrev entered : Code → RegSet → Place → State → State
+abbrev pub entered : Code → RegSet → Place → State → State
 entered code gives p t = record t { pushed = []; frames = record { back = back_of code p; pushed = t.pushed; gives = gives } ∷ t.frames }
 
-on_entered : (g : Ground) (code : Code) (gives : RegSet) (at : ℕ) (p : Place) (t : State) (m : Moment) → Agrees g at (called (back_of code p) t) m → Agrees g at (entered code gives p t) m
+pub on_entered : (g : Ground) (code : Code) (gives : RegSet) (at : ℕ) (p : Place) (t : State) (m : Moment) → Agrees g at (called (back_of code p) t) m → Agrees g at (entered code gives p t) m
 on_entered g code gives at p t m a =
     let one = frames_bytes (record { back = back_of code p; pushed = t.pushed; gives = no_parts }) t.frames in
     let two = frames_bytes (record { back = back_of code p; pushed = t.pushed; gives = gives }) t.frames in
@@ -120,7 +120,7 @@ on_entered g code gives at p t m a =
       output = a.output;
     }
 
-entered_running : (code : Code) (gives : RegSet) (p : Place) (t : State) → IsRunning t → IsRunning (entered code gives p t)
+pub entered_running : (code : Code) (gives : RegSet) (p : Place) (t : State) → IsRunning t → IsRunning (entered code gives p t)
 entered_running code gives p t r =
     let b = r.bytes in
     record {
@@ -137,14 +137,14 @@ entered_running code gives p t r =
       input = r.input;
     }
 
-entered_callers : (code : Code) (args : List (List ℕ)) (l : Line) (gives : RegSet) (p : Place) (t : State) → LineOf code args p l → AreCallers code t.frames → AreCallers code (entered code gives p t).frames
+pub entered_callers : (code : Code) (args : List (List ℕ)) (l : Line) (gives : RegSet) (p : Place) (t : State) → LineOf code args p l → AreCallers code t.frames → AreCallers code (entered code gives p t).frames
 entered_callers code args l gives p t lo callers = All-cons (λ (f : Frame). f.back.0 < length code.symbols) (record { back = back_of code p; pushed = t.pushed; gives = gives }) t.frames lo.inside callers
 
-enters_function : (code : Code) (f : ℕ) (reads gives : RegSet) (p : Place) (t : State) → Enters (lines_setting code) f reads gives p t (f, settle ((lines_setting code).lines f) 0) (entered code gives p t)
+pub enters_function : (code : Code) (f : ℕ) (reads gives : RegSet) (p : Place) (t : State) → Enters (lines_setting code) f reads gives p t (f, settle ((lines_setting code).lines f) 0) (entered code gives p t)
 enters_function code f reads gives p t = record { to = refl; keeps = keeps_all _ t [] (record { back = back_of code p; pushed = t.pushed; gives = gives } ∷ t.frames); pushed = refl; frames = refl }
 
 -- a function with lines
-function_there : (code : Code) (f : ℕ) → IsSound code → HasLines ((lines_setting code).lines f) → (f < length code.symbols) × IsTrue (is_function_of code f)
+pub function_there : (code : Code) (f : ℕ) → IsSound code → HasLines ((lines_setting code).lines f) → (f < length code.symbols) × IsTrue (is_function_of code f)
 function_there code f s has = by ((lines_setting code).lines f) refl has
   where
     clear : (k : ℕ) (u : Sym × Segment) → slice_get code.functions k ≡ Some u → u.0.0 ≡ f → (ds : List Datum) → ((j : ℕ) (d : Datum) → slice_get ds j ≡ Some d → u.0.0 ≡ d.sym.0 → ⊥) → has_datum ds f ≡ false
@@ -163,14 +163,14 @@ function_there code f s has = by ((lines_setting code).lines f) refl has
         (ap not (clear it.0 it.1 it.2 it.4 code.datums (λ j d there same. s.writable.apart it.0 j it.1 d it.2 there same))))
 
 -- a function's first line, where its symbol is called
-function_entry : (cpu : Cpu) (code : Code) (image : Image) (args : List (List ℕ)) (f : ℕ) → f < length code.symbols → (raw_in code args).library f ≡ None
+pub function_entry : (cpu : Cpu) (code : Code) (image : Image) (args : List (List ℕ)) (f : ℕ) → f < length code.symbols → (raw_in code args).library f ≡ None
     → (code_ground cpu code image).at (entry_of (raw_in code args) (target_of (raw_in code args) ((raw_in code args).library f) f)) ≡ (code_ground cpu code image).at (f, settle ((lines_setting code).lines f) 0)
 function_entry cpu code image args f inside none_there =
     ap (λ (o : Option Library). (code_ground cpu code image).at (entry_of (raw_in code args) (target_of (raw_in code args) o f))) none_there
     ∙ ap (λ (ls : List Line). (code_ground cpu code image).at (f, settle ls 0)) (same_lines code args f inside)
 
 -- a call of a function with lines
-enter_steps : (cpu : Cpu) (code : Code) (image : Image) (args : List (List ℕ)) (setting : Setting) (c : ℕ) (f : Sym) (reads gives : RegSet) (p : Place) (t : State) (now : Moment) → Image_ cpu code image args setting → LineOf code args p (Call (callees.Function f reads gives)) → IsRunning t → AreCallers code t.frames → IsCalm (lines_setting code) t
+pub enter_steps : (cpu : Cpu) (code : Code) (image : Image) (args : List (List ℕ)) (setting : Setting) (c : ℕ) (f : Sym) (reads gives : RegSet) (p : Place) (t : State) (now : Moment) → Image_ cpu code image args setting → LineOf code args p (Call (callees.Function f reads gives)) → IsRunning t → AreCallers code t.frames → IsCalm (lines_setting code) t
     → (lines_setting code).library f.0 ≡ None → HasLines ((lines_setting code).lines f.0) → 1 ≤ c → Agrees (code_ground cpu code image) ((code_ground cpu code image).at p) t now → Steps (code_ground cpu code image) setting c now code (Call (callees.Function f reads gives)) p t
 enter_steps cpu code image args setting c f reads gives p t now i lo r callers calm none_there has le a =
     let g : Ground = code_ground cpu code image in
@@ -211,7 +211,7 @@ no_start_row r t row h = by (number_of r) refl
     by (suc (suc n)) e = le-ltb (number_of r) 2 (omega (arith, e))
 
 -- From the first line of a routine, called from a line of a function, its row is followed.
-routine_steps : (cpu : Cpu) (code : Code) (image : Image) (args : List (List ℕ)) (setting : Setting) (j c : ℕ) (l : Line) (r : Routine) (row : Row) (p : Place) (t : State) (now n : Moment) → Image_ cpu code image args setting → LineOf code args p l → IsRunning t → AreCallers code t.frames → IsCalm (lines_setting code) t
+pub routine_steps : (cpu : Cpu) (code : Code) (image : Image) (args : List (List ℕ)) (setting : Setting) (j c : ℕ) (l : Line) (r : Routine) (row : Row) (p : Place) (t : State) (now n : Moment) → Image_ cpu code image args setting → LineOf code args p l → IsRunning t → AreCallers code t.frames → IsCalm (lines_setting code) t
     → IsChosen code r → row_of r t ≡ Some row → HasRoom (place_in code) row t → 1 ≤ j → j + row.cost ≤ c + 1
     → ((u : State) → Meets row t u → LineGoes (lines_setting code) (form_of l) p t (back_of code p) u)
     → (wq : Place) (wu : State) → LineMoves (lines_setting code) l p t wq wu → Meets row t wu
@@ -274,7 +274,7 @@ routine_steps cpu code image args setting j c l r row p t now n i lo run callers
     by (has_ended rows status last q u some within rest free turn_is holds ended output) = at_end row.ends refl rows status last q u within rest free turn_is holds.holds ended output
 
 -- a call of a routine
-run_steps : (o : Option Row) (cpu : Cpu) (code : Code) (image : Image) (args : List (List ℕ)) (setting : Setting) (c : ℕ) (r : Routine) (p : Place) (t : State) (now : Moment) (wq : Place) (wu : State) → row_of r t ≡ o → Image_ cpu code image args setting → LineOf code args p (Call (callees.Routine r)) → IsRunning t → AreCallers code t.frames → IsCalm (lines_setting code) t
+pub run_steps : (o : Option Row) (cpu : Cpu) (code : Code) (image : Image) (args : List (List ℕ)) (setting : Setting) (c : ℕ) (r : Routine) (p : Place) (t : State) (now : Moment) (wq : Place) (wu : State) → row_of r t ≡ o → Image_ cpu code image args setting → LineOf code args p (Call (callees.Routine r)) → IsRunning t → AreCallers code t.frames → IsCalm (lines_setting code) t
     → RowHasRoom (place_in code) o t → c ≡ row_cost o → MeetsRow o t wu → LineMoves (lines_setting code) (Call (callees.Routine r)) p t wq wu
     → Agrees (code_ground cpu code image) ((code_ground cpu code image).at p) t now → Steps (code_ground cpu code image) setting c now code (Call (callees.Routine r)) p t
 run_steps None cpu code image args setting c r p t now wq wu e i lo run callers calm room weighs met moves a = absurd room
@@ -298,7 +298,7 @@ function_of_library code f l h = by (is_function_of code f) refl
     by true e = e
     by false e = (let z : ◌≡◌ {A = Option Library} None (Some l) = sym (ap (λ (b : Bool). if b && is_nothing (segment_of code.functions f).lines then library_of (slice_get code.symbols f) else None) e) ∙ h in absurd cc)
 
-library_steps : (o : Option Row) (cpu : Cpu) (code : Code) (image : Image) (args : List (List ℕ)) (setting : Setting) (c : ℕ) (f : Sym) (reads gives : RegSet) (lib : Library) (p : Place) (t : State) (now : Moment) (wq : Place) (wu : State) → row_of (routines.Library lib) t ≡ o → Image_ cpu code image args setting → LineOf code args p (Call (callees.Function f reads gives)) → IsRunning t → AreCallers code t.frames → IsCalm (lines_setting code) t
+pub library_steps : (o : Option Row) (cpu : Cpu) (code : Code) (image : Image) (args : List (List ℕ)) (setting : Setting) (c : ℕ) (f : Sym) (reads gives : RegSet) (lib : Library) (p : Place) (t : State) (now : Moment) (wq : Place) (wu : State) → row_of (routines.Library lib) t ≡ o → Image_ cpu code image args setting → LineOf code args p (Call (callees.Function f reads gives)) → IsRunning t → AreCallers code t.frames → IsCalm (lines_setting code) t
     → (lines_setting code).library f.0 ≡ Some lib → RowHasRoom (place_in code) o t → c ≡ 8 + row_cost o → MeetsRow o t wu → LineMoves (lines_setting code) (Call (callees.Function f reads gives)) p t wq wu
     → Agrees (code_ground cpu code image) ((code_ground cpu code image).at p) t now → Steps (code_ground cpu code image) setting c now code (Call (callees.Function f reads gives)) p t
 library_steps None cpu code image args setting c f reads gives lib p t now wq wu e i lo run callers calm is room weighs met moves a = absurd room
