@@ -138,7 +138,7 @@ after_step cpu code image setting test c v w l p t now seen le next rest (steps_
     (same_shown test (seen_at q seen) u last.output (Some status) output ended (at_end code test v status q u (seen_at q seen) ended (next q u moves)))
     (λ f h. (let b = one_more q seen f h in omega (arith, b)))
 
-reach : (cpu : Cpu) (code : Code) (image : Image) (args : List (List ℕ)) (setting : Setting) (test : Shown → Seen → Bool) (w : ℕ) (p : Place) (t : State) (now : Moment) (seen : Seen) → Image_ cpu code image args setting → Comes (lines_setting code) (Shows test) w p t seen → IsRunning t → AreCallers code t.frames
+pub reach : (cpu : Cpu) (code : Code) (image : Image) (args : List (List ℕ)) (setting : Setting) (test : Shown → Seen → Bool) (w : ℕ) (p : Place) (t : State) (now : Moment) (seen : Seen) → Image_ cpu code image args setting → Comes (lines_setting code) (Shows test) w p t seen → IsRunning t → AreCallers code t.frames
     → Agrees (code_ground cpu code image) ((code_ground cpu code image).at p) t now → Passes setting (w + 2) now test seen
 reach cpu code image args setting test w p t now seen i (here holds calm) r callers a =
     goes_on 0 now seen (omega arith) none (same_shown test seen t now.output None (sym a.output) r.running holds) (λ f h. omega arith)
