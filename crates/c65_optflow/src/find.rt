@@ -12,8 +12,8 @@ use c65_know::Noted;
 use c65_live::LiveTable;
 use c65_mach::{Mode, Op};
 use c65_pass::{
-    Found, Rewrite, alone_if, begins_with, branch_target, gone_if, is_label, jump_target, lines_from,
-    retargeted, threaded,
+    Found, Rewrite, alone_if, begins_with, branch_target, gone_if, is_label, jump_target,
+    lines_from, retargeted, threaded,
 };
 use std::alloc::Global;
 

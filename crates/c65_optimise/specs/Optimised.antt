@@ -1,5 +1,5 @@
 -- What the optimiser makes of a code: each function by itself, its lines by rewritings, until no rule matches anywhere in it.
-use Rattle.std.specs.Prelude.{◌≡◌, ⊤, ℕ, ◌≤◌, Bool, true, false, All, List, [], ◌∷◌}
+use Rattle.std.specs.Prelude.{◌≡◌, ◌==◌, if◌then◌else◌, ⊤, ℕ, ◌≤◌, Bool, true, false, All, List, [], ◌∷◌}
 use Rattle.c65_base.specs.declared.options.Options.{Options}
 use Rattle.c65_code.specs.declared.line.Sym.{Sym}
 use Rattle.c65_code.specs.declared.code.Code.{Code}
@@ -18,8 +18,7 @@ rules_of Load = IsRuleOf 10 23
 
 -- the order of the families in a round
 abbrev pub family_at : ℕ → Family
-family_at 0 = Flow
-family_at _ = Load
+family_at turn = if turn == 0 then Flow else Load
 
 -- a rule of a family that is built
 abbrev pub IsBuilt : ℕ → Type 0

@@ -1,5 +1,5 @@
 // The families of rules in turn, until no rule of any of them matches anywhere.
-ghost use Rattle.std.specs.Prelude.{◌≡◌};
+ghost use Rattle.std.specs.Prelude.{◌≡◌, ⊤};
 ghost use Rattle.c65_optimise.specs.Optimised.{family_at, rules_of, IsBuilt};
 ghost use Rattle.c65_pass.specs.Rounds.{IsPassed};
 
@@ -29,6 +29,7 @@ fn family_at(turn: u8) -> Family
     }
 }
 
+#[derive(Drop)]
 struct Families<'a> {
     options: &'a Options,
 }
@@ -40,7 +41,9 @@ impl Rules for Families<'_> {
 
     ghost among = { λ turn. rules_of (family_at turn) };
 
-    fn run(&self, alloc: Global, code: &mut Noted, turn: u8) -> Result<usize, Refusal> {
+    ghost ready = { λ families code. ⊤ };
+
+    fn run(&mut self, alloc: Global, code: &mut Noted, turn: u8) -> Result<usize, Refusal> {
         match family_at(turn) {
             Family::Flow => optimise_flow(alloc, code, self.options),
             Family::Load => optimise_load(alloc, code, self.options),
@@ -52,5 +55,5 @@ impl Rules for Families<'_> {
 pub fn rewrite(alloc: Global, code: &mut Noted, options: &Options) -> Result<usize, Refusal>
     ensures { IsPassed IsBuilt code.old code.new result }
 {
-    run_rules(alloc, code, &Families { options }, 0, 2)
+    run_rules(alloc, code, &mut Families { options }, 0, 2)
 }

@@ -4,11 +4,11 @@ ghost use Rattle.c65_pass.specs.LoadRules.{reload, restore, overwritten, back, m
 ghost use Rattle.c65_pass.specs.Passes.{Answers};
 ghost use Rattle.c65_pass.specs.Rules.{match_at};
 
-use crate::others::{loaded_on, stepped, transferred};
-use crate::tests::{
+use crate::conditions::{
     is_back, is_dead_load, is_dead_store, is_dead_transfer, is_idle_byte_load, is_idle_load,
     is_idle_store, is_idle_transfer, is_overwritten, is_reload, is_restore,
 };
+use crate::others::{loaded_on, stepped, transferred};
 use c65_code::Line;
 use c65_know::Noted;
 use c65_live::LiveTable;
