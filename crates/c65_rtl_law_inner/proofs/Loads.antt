@@ -23,7 +23,7 @@ use Rattle.c65_rtl_law_inner.specs.Inner.{IsMetIn}
 use Rattle.c65_rtl_law_inner.proofs.Straight.{straight_meets}
 
 -- what may be reached lies below the end of the software stack
-low_enough : (place : Placement) (bounds : Bounds) (b : ℕ) → LieLow place → IsReachable place bounds b → b < 65520
+pub low_enough : (place : Placement) (bounds : Bounds) (b : ℕ) → LieLow place → IsReachable place bounds b → b < 65520
 low_enough place bounds b low (inl data_of) = let h = low b data_of in omega arith
 low_enough place bounds b low (inr within) = within.1
 

@@ -138,7 +138,7 @@ operand_parts s bounds (MemAt b) P h = h
 module _ (s : RawSetting) (bounds : Bounds) (deepest : ℕ) (takes : Routine → Takes) (Q : Place → State → Type 0) (P : State → Type 0) (f : ℕ) (whole : List Line) (frame : Frame) (frames : List Frame) (used : ℕ)
     (has : s.lines f ≡ whole) (room : bounds.hard + deepest ≤ 253 - used) (ends : (u : State) → P u → IsBytes (record u { pushed = frame.pushed; frames = frames }) → Q frame.back (record u { pushed = frame.pushed; frames = frames })) where
   -- what is known of the lines behind a line
-  record Goes (rest : Way) (v p : ℕ) (passed : List ℕ) : Type 0 where
+  pub record Goes (rest : Way) (v p : ℕ) (passed : List ℕ) : Type 0 where
     pub by : (skip : Option ℕ) (u : State) → IsSought passed skip → IsBytes u → IsOwn frame frames used u → rest skip u → RawComes s bounds Q v (f, place_at whole p skip) u
 
   stands : (p : ℕ) (l : Line) → slice_get whole p ≡ Some l → slice_get (s.lines f) p ≡ Some l
@@ -171,7 +171,7 @@ module _ (s : RawSetting) (bounds : Bounds) (deepest : ℕ) (takes : Routine →
   at_branch rest passed v p l t sought bytes own after true h = after.by (Some l) t sought bytes own h
   at_branch rest passed v p l t sought bytes own after false h = after.by None t tt bytes own h
 
-  deep_line : (form : Form) (rest : Way) (passed : List ℕ) (l : Line) (v p : ℕ) (t : State) → form_of l ≡ form → slice_get whole p ≡ Some l → IsTrue (is_onward passed form)
+  pub deep_line : (form : Form) (rest : Way) (passed : List ℕ) (l : Line) (v p : ℕ) (t : State) → form_of l ≡ form → slice_get whole p ≡ Some l → IsTrue (is_onward passed form)
       → IsOwn frame frames used t → Goes rest v (suc p) passed → by_deep s bounds deepest P form rest None t → RawComes s bounds Q (raw_weight form + v) (f, p) t
   deep_line (Plain op mode operand) rest passed l v p t e is onward own after h =
       let to : State = effect (kind_of op) op mode (word_of s.place operand) t in
@@ -232,20 +232,20 @@ module _ (s : RawSetting) (bounds : Bounds) (deepest : ℕ) (takes : Routine →
       moved_to s bounds Q v q (f, settle whole (suc p)) u u (back.0 ∙ ap (λ (ls : List Line). let q' : Place = (f, settle ls (suc p)) in q') has) refl
       (after.by None u tt bytes (still_own frame frames used t u (record { frames = m.frames; ended = m.ended ∙ (c.goes_on ∙ sym own.ended) }) own) (c.follows u m bytes)))
 
-  call_line : (callee : Callee) (rest : Way) (passed : List ℕ) (v p : ℕ) (t : State) → slice_get whole p ≡ Some (Call callee) → IsBytes t → IsOwn frame frames used t → Goes rest v (suc p) passed
+  pub call_line : (callee : Callee) (rest : Way) (passed : List ℕ) (v p : ℕ) (t : State) → slice_get whole p ≡ Some (Call callee) → IsBytes t → IsOwn frame frames used t → Goes rest v (suc p) passed
       → by_call s bounds deepest takes callee rest None t → RawComes s bounds Q (call_weight takes callee + v) (f, p) t
   call_line (callees.Routine r) rest passed v p t is bytes own after h = row_line r rest passed v p t is bytes own after (hook_row s.args r t) refl h
   call_line (callees.Function g reads gives) rest passed v p t is bytes own after h = absurd h
   call_line (callees.Pointer reads gives) rest passed v p t is bytes own after h = absurd h
 
   -- a label is passed
-  past_label : (p k : ℕ) (lines : List Line) (passed : List ℕ) → IsAt whole p (Label k ∷ lines) passed → settle whole p ≡ settle whole (suc p)
+  pub past_label : (p k : ℕ) (lines : List Line) (passed : List ℕ) → IsAt whole p (Label k ∷ lines) passed → settle whole p ≡ settle whole (suc p)
   past_label p k lines passed at =
       let e : p ≡ p + 0 = omega arith in
       let g : p + 1 ≡ suc p = omega arith in
       ap (settle whole) e ∙ (at.settles 0 ∙ (sym (at.settles 1) ∙ ap (settle whole) g))
 
-  at_label : (p k l : ℕ) (v : ℕ) (lines : List Line) (passed : List ℕ) (t : State) → IsAt whole p (Label k ∷ lines) passed → is_among passed l ≡ false
+  pub at_label : (p k l : ℕ) (v : ℕ) (lines : List Line) (passed : List ℕ) (t : State) → IsAt whole p (Label k ∷ lines) passed → is_among passed l ≡ false
       → (rest : Way) → Goes rest v (suc p) (k ∷ passed) → IsBytes t → IsOwn frame frames used t
       → (b : Bool) → (k == l) ≡ b → either b (rest None t) (rest (Some l) t) → RawComes s bounds Q v (f, settle whole (labelled whole l)) t
   at_label p k l v lines passed t at sought rest after bytes own true e h =
@@ -289,7 +289,7 @@ module _ (s : RawSetting) (bounds : Bounds) (deepest : ℕ) (takes : Routine →
       weaken s bounds Q (weight_in takes lines) (call_weight takes callee + weight_in takes lines) (f, settle whole (labelled whole l)) t (omega arith)
       (walk lines (suc p) passed (Some l) t (next_call whole p callee lines passed at) onward sought bytes own h)
 
-called_bytes : (back : Place) (t : State) → IsBytes t → IsBytes (called back t)
+pub called_bytes : (back : Place) (t : State) → IsBytes t → IsBytes (called back t)
 called_bytes back t bytes = record {
   a = bytes.a;
   x = bytes.x;
