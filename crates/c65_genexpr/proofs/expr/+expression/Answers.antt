@@ -40,15 +40,6 @@ put_args-returns-in_err-put_argument-in-len1-up-clause-kept t c = refused_then c
 pub put_args-returns-in_err-passed-in-len1-up-clause-kept : goal.put_args-returns-in_err-passed-in-len1-up-clause-kept
 put_args-returns-in_err-passed-in-len1-up-clause-kept t c = refused_then c.from_residual-in_err-passed-in-len1-up.result (grown_then _ _ _ _ _ c.in_ok-put_expr-in-len1-up.ensures.lines (kept_then _ _ _ _ c.in_ok-put_argument-in-len1-up.ensures.lines c.in_err-passed-in-len1-up.ensures.kept))
 
-pub put_assign-returns-in_err-hold-clause-kept : goal.put_assign-returns-in_err-hold-clause-kept
-put_assign-returns-in_err-hold-clause-kept t c = refused_then c.from_residual-in_err-hold.result (grown_then _ _ _ _ _ c.in_ok-put_target.ensures.lines c.in_err-hold.ensures.kept)
-
-pub put_assign-returns-in_err-put_expr-clause-kept : goal.put_assign-returns-in_err-put_expr-clause-kept
-put_assign-returns-in_err-put_expr-clause-kept t c = refused_then c.from_residual-in_err-put_expr.result (grown_then _ _ _ _ _ c.in_ok-put_target.ensures.lines (kept_then _ _ _ _ c.in_ok-hold.ensures.lines c.in_err-put_expr.ensures.kept))
-
-pub put_assign-returns-clause-kept : goal.put_assign-returns-clause-kept
-put_assign-returns-clause-kept t c = grown_last _ _ _ _ _ _ c.in_ok-put_target.ensures.lines (kept_last _ _ _ _ _ c.in_ok-hold.ensures.lines (grown_last _ _ _ _ _ _ c.in_ok-put_expr.ensures.lines c.store.ensures.kept))
-
 pub put_call-returns-in_err-push-in-len1-up-clause-kept : goal.put_call-returns-in_err-push-in-len1-up-clause-kept
 put_call-returns-in_err-push-in-len1-up-clause-kept t c = refused_then c.from_residual-in_err-push-in-len1-up.result (grown_then _ _ _ _ _ c.in_ok-put_expr-in-None.ensures.lines c.in_err-push-in-len1-up.ensures.kept)
 
