@@ -5,3 +5,5 @@ pub mod Windows
 pub mod Replaced
 pub mod Turns
 pub mod Places
+pub mod Walks
+pub mod Plain

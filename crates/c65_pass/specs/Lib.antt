@@ -9,3 +9,4 @@ pub mod LibraryRules
 pub mod Rules
 pub mod Passes
 pub mod Rounds
+pub mod Once

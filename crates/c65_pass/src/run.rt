@@ -13,8 +13,8 @@ use c65_know::Noted;
 use c65_live::LiveTable;
 use std::alloc::Global;
 
-// What the rule makes at a place.
-fn find_at<F: Fn(&Noted, &LiveTable, usize) -> Result<Option<Rewrite>, Refusal>>(
+/// What the rule makes at a place.
+pub(crate) fn find_at<F: Fn(&Noted, &LiveTable, usize) -> Result<Option<Rewrite>, Refusal>>(
     code: &Noted,
     live: &LiveTable,
     at: usize,

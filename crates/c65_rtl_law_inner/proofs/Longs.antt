@@ -1,5 +1,5 @@
 -- `popeax` and `negeax`, and what they leave.
-use Rattle.std.proofs.Common.{◌≡◌, ℕ, ◌+◌, ◌-◌, ◌*◌, ◌/◌, ◌%◌, ◌<◌, ◌≤◌, ◌⊎◌, Bool, List, [], ◌∷◌, None, refl, sym, subst, ◌∙◌, arith}
+use Rattle.std.proofs.Common.{◌≡◌, ℕ, ◌+◌, ◌-◌, ◌*◌, ◌/◌, ◌%◌, ◌<◌, ◌≤◌, List, [], ◌∷◌, None, refl, sym, subst, ◌∙◌, arith}
 use Rattle.std.proofs.lemmas.List.{append-nil}
 use Rattle.c65_mach.specs.declared.rows.Op.TheVariants.{Adc, Clc, Eor, Lda, Ldy, Rts, Sta, Tax, Tay, Txa, Tya}
 use Rattle.c65_code.specs.declared.routine.Width.TheVariants.{Eax}
@@ -8,9 +8,10 @@ use Rattle.c65_code.specs.declared.routine.Routine.TheVariants as routines
 use Rattle.c65_code.specs.declared.line.Line.{Line}
 use Rattle.c65_code.specs.LineState.{State, write, sp_of, eax_of}
 use Rattle.c65_code.specs.Rows.{Row, Meets, row_by, popping, giving, long_at, unary_row}
-use Rattle.c65_code.specs.RawMachine.{IsReachable, called}
+use Rattle.c65_code.specs.RawMachine.{RawSetting, IsReachable, called}
 use Rattle.c65_rtl.specs.Assembly.{sreg, implied, value, zero_page}
 use Rattle.c65_rtl.specs.Stack.{raise_by_y}
+use Rattle.c65_rtl.specs.Routines.{lines_of}
 use Rattle.c65_rtl.proofs.Ways.{Ends}
 use Rattle.c65_rtl.proofs.Meeting.{ends_by}
 use Rattle.c65_rtl.proofs.SpPieces.{left}
@@ -22,18 +23,19 @@ use Rattle.c65_rtl.proofs.UnaryWords.{AreLongBytes}
 use Rattle.c65_rtl.proofs.UnaryLongs.{negeax_at, negated_bytes}
 use Rattle.c65_rtl_law_walks.proofs.Ranges.{all_in_range}
 use Rattle.c65_rtl_law_inner.specs.Inner.{IsMetIn}
-use Rattle.c65_rtl_law_inner.proofs.Straight.{straight_meets}
+use Rattle.c65_rtl_law_inner.proofs.Straight.{ComesIn, straight_comes, meets_loud}
 use Rattle.c65_rtl_law_inner.proofs.Loads.{low_enough}
 use Rattle.c65_rtl_law_inner.proofs.Kept.{kept_from}
+use Rattle.c65_rtl_law_inner.proofs.Pops.{above_or_below}
 
 abbrev pub popeax_row : State → Row
-popeax_row t = giving Eax (long_at t.mem (sp_of t)) (popping 4 t (row_by routines.PopEax t))
+popeax_row t = record (giving Eax (long_at t.mem (sp_of t)) (popping 4 t (row_by routines.PopEax t))) { room = 0 }
 
 abbrev popeax_lines : List Line
 popeax_lines = value Ldy 3 ∷ load_sreg_on (load_word_on (value Ldy 4 ∷ raise_by_y))
 
-pub pop_long_in : IsMetIn routines.PopEax
-pop_long_in s has = straight_meets s 0 routines.PopEax popeax_row popeax_lines (λ t. refl) (λ t. refl) has refl
+pub pop_long_comes : (s : RawSetting) → s.lines (s.routine routines.PopEax) ≡ lines_of routines.PopEax → ComesIn s 0 1 22 popeax_row routines.PopEax
+pop_long_comes s has = straight_comes s 0 routines.PopEax popeax_row popeax_lines (λ t. refl) has refl
     (λ bounds back t may. let P : State → Type 0 = Ends (popeax_row t) t in
     let opens = all_in_range (IsReachable s.place bounds) 4 (sp_of t) may.near in
     let e : sp_of t + 0 ≡ sp_of t = omega arith in
@@ -69,14 +71,17 @@ pop_long_in s has = straight_meets s 0 routines.PopEax popeax_row popeax_lines (
       ended = may.running;
     }))))))
 
--- A number of 32 bits popped to EAX: all else is as before, but Y, the flags and what lies below the sp.
+pub pop_long_in : IsMetIn routines.PopEax
+pop_long_in s has = meets_loud s 0 1 22 popeax_row routines.PopEax (λ t. refl) (λ t. refl) (λ t. omega arith) (pop_long_comes s has)
+
+-- A number of 32 bits popped to EAX: all else is as before, but Y and the flags.
 pub record PoppedLong (t u : State) : Type 0 where
   pub sp : sp_of u ≡ sp_of t + 4
   pub a : u.regs.a ≡ long_at t.mem (sp_of t) % 256
   pub x : u.regs.x ≡ long_at t.mem (sp_of t) / 256 % 256
   pub sreg : u.zp 2 + 256 * u.zp 3 ≡ long_at t.mem (sp_of t) / 65536
   pub zp : (i : ℕ) → 4 ≤ i → u.zp i ≡ t.zp i
-  pub mem : (b : ℕ) → (b + 64 < sp_of t) ⊎ ((sp_of t ≤ b) ⊎ (sp_of t + 4 ≤ b)) → u.mem b ≡ t.mem b
+  pub mem : (b : ℕ) → u.mem b ≡ t.mem b
   pub pushed : u.pushed ≡ t.pushed
   pub input : u.input ≡ t.input
   pub output : u.output ≡ t.output
@@ -89,7 +94,7 @@ popped_long t u m = record {
   x = m.x;
   sreg = m.sreg;
   zp = kept_from (popeax_row t) t u 4 m refl;
-  mem = m.mem;
+  mem = λ b. m.mem b (above_or_below (sp_of t) b);
   pushed = m.pushed;
   input = m.input;
   output = m.output ∙ append-nil t.output;
@@ -97,13 +102,13 @@ popped_long t u m = record {
 }
 
 abbrev pub negeax_row : State → Row
-negeax_row t = unary_row Neg Eax t
+negeax_row t = record (unary_row Neg Eax t) { room = 0 }
 
 abbrev negeax_lines : List Line
 negeax_lines = implied Clc ∷ value Eor 0xFF ∷ value Adc 1 ∷ implied Tay ∷ implied Txa ∷ value Eor 0xFF ∷ value Adc 0 ∷ implied Tax ∷ zero_page Lda sreg ∷ value Eor 0xFF ∷ value Adc 0 ∷ zero_page Sta sreg ∷ zero_page Lda (sreg + 1) ∷ value Eor 0xFF ∷ value Adc 0 ∷ zero_page Sta (sreg + 1) ∷ implied Tya ∷ implied Rts ∷ []
 
-pub negate_long_in : IsMetIn (routines.Unary Neg Eax)
-negate_long_in s has = straight_meets s 0 (routines.Unary Neg Eax) negeax_row negeax_lines (λ t. refl) (λ t. refl) has refl
+pub negate_long_comes : (s : RawSetting) → s.lines (s.routine (routines.Unary Neg Eax)) ≡ lines_of (routines.Unary Neg Eax) → ComesIn s 0 0 18 negeax_row (routines.Unary Neg Eax)
+negate_long_comes s has = straight_comes s 0 (routines.Unary Neg Eax) negeax_row negeax_lines (λ t. refl) has refl
     (λ bounds back t may. negeax_at s.place bounds (Ends (negeax_row t) t) (called back t)
     (λ a x l h y n v z c is_a is_x is_l is_h.
     let bytes : AreLongBytes ((4294967296 - eax_of t) % 4294967296) a x l h = negated_bytes t may.bytes a x l h is_a is_x is_l is_h in
@@ -126,3 +131,6 @@ negate_long_in s has = straight_meets s 0 (routines.Unary Neg Eax) negeax_row ne
       output = sym (append-nil t.output);
       ended = may.running;
     })))
+
+pub negate_long_in : IsMetIn (routines.Unary Neg Eax)
+negate_long_in s has = meets_loud s 0 0 18 negeax_row (routines.Unary Neg Eax) (λ t. refl) (λ t. refl) (λ t. omega arith) (negate_long_comes s has)

@@ -1,10 +1,9 @@
 -- `tosmulax` (C90 6.3.5)
-use Rattle.std.proofs.Common.{◌≡◌, ◌≢◌, ℕ, zero, suc, ◌+◌, ◌-◌, ◌*◌, ◌/◌, ◌%◌, ◌^◌, ◌<◌, ◌≤◌, Bool, true, false, List, [], ◌∷◌, None, nat_eq, refl, sym, ap, subst, ◌∙◌, arith}
+use Rattle.std.proofs.Common.{◌≡◌, ◌≢◌, ℕ, zero, suc, ◌+◌, ◌*◌, ◌/◌, ◌%◌, ◌^◌, ◌<◌, ◌≤◌, Bool, true, false, List, [], ◌∷◌, None, nat_eq, refl, sym, ap, ◌∙◌, arith}
 use Rattle.std.specs.Prelude.{nat_lt, bit_or}
 use Rattle.std.specs.Int.Bits.{or_add_and}
 use Rattle.std.proofs.lemmas.Nat.{le_or_l, le_or_r}
 use Rattle.std.proofs.lemmas.List.{append-nil}
-use Rattle.std.proofs.lemmas.List.Elements.{All-nil}
 use Rattle.c65_mach.specs.Step.{bit}
 use Rattle.c65_mach.specs.declared.rows.Op.TheVariants.{Adc, Asl, Bcc, Beq, Bne, Clc, Lda, Ldx, Ldy, Lsr, Ora, Rol, Ror, Rts, Sta, Stx, Tax, Tay, Txa, Tya}
 use Rattle.c65_code.specs.declared.routine.Routine.{Routine}
@@ -13,11 +12,11 @@ use Rattle.c65_code.specs.declared.routine.TosOp.TheVariants as tos
 use Rattle.c65_code.specs.declared.routine.Width.TheVariants.{Ax}
 use Rattle.c65_code.specs.declared.line.Line.{Line}
 use Rattle.c65_code.specs.declared.line.Line.TheVariants.{Label}
-use Rattle.c65_code.specs.LineState.{Place, Bytes, write, word_at, State, sp_of, ax_of, IsBytes}
+use Rattle.c65_code.specs.LineState.{Place, write, word_at, State, sp_of, ax_of, IsBytes}
 use Rattle.c65_code.specs.Segments.{is_among}
 use Rattle.c65_code.specs.Moves.{settle, labelled}
 use Rattle.c65_code.specs.Rows.{Row, tos_row}
-use Rattle.c65_code.specs.RawMachine.{RawSetting, Bounds, called, MeetsRow}
+use Rattle.c65_code.specs.RawMachine.{RawSetting, Bounds, called}
 use Rattle.c65_rtl.specs.Assembly.{ptr1, ptr2, implied, value, zero_page, branch, call}
 use Rattle.c65_rtl.proofs.Ways.{Ends}
 use Rattle.c65_rtl.proofs.Meeting.{eq_true, eq_false, not_true, not_false, write_other, ends_by}
@@ -26,9 +25,8 @@ use Rattle.c65_rtl_law_walks.specs.Inside.{MayRunIn, MeetsIn}
 use Rattle.c65_rtl_law_walks.proofs.Walks.{Takes, Calls}
 use Rattle.c65_rtl_law_walks.proofs.Turning.{leads_turn, turn_weight, TurnsIn}
 use Rattle.c65_rtl_law_walks.proofs.Meets.{Leads, turning_meets, met_within}
-use Rattle.c65_rtl_law_inner.specs.Inner.{weight_of}
-use Rattle.c65_rtl_law_inner.proofs.Pops.{popax_row, pop_word_in, Popped, popped}
-use Rattle.c65_rtl_law_inner.proofs.Beside.{Aside, Beside, returns, outside, values, rewritten}
+use Rattle.c65_rtl_law_inner.proofs.Pops.{popax_row, pop_word_comes, Popped, popped}
+use Rattle.c65_rtl_law_inner.proofs.Beside.{Beside, returns, outside, values, rewritten}
 use Rattle.c65_rtl_law_products.specs.Rows.{Holds, WordsAreMultiplied}
 use Rattle.c65_rtl_law_products.proofs.Numbers.{odd_round, even_round, first_round, last_round, fewer_bits}
 
@@ -112,7 +110,7 @@ begun u n z = record u { regs = record u.regs { x = 0; y = 0; n = n; z = z }; zp
 loop_at : (s : RawSetting) (bounds : Bounds) (P : State → Type 0) (B : ℕ → State → Type 0) (u : State) → ((n z : Bool) → leads_turn s bounds 2 takes P B (2 ∷ 1 ∷ 0 ∷ []) test_lines None (begun u n z))
     → leads_turn s bounds 2 takes P B [] loop_lines None u
 unfolding leads_turn
-loop_at s bounds P B u follows = elim [ | true ↦ λ e. follows false false | false ↦ λ e. cc ]
+loop_at s bounds P B u follows = elim [ true ↦ λ e. follows false false | false ↦ λ e. cc ]
 
 abbrev pointed : State → State
 pointed u = record u { zp = write (write u.zp 8 u.regs.a) 9 u.regs.x }
@@ -256,7 +254,7 @@ multiplied t = λ u low high number beside rest.
       sreg = tt;
       pointers = tt;
       bank = tt;
-      mem = beside.mem;
+      mem = λ b h. beside.mem b;
       input = beside.input;
       output = beside.output ∙ sym (append-nil t.output);
       ended = beside.ended;
@@ -292,10 +290,7 @@ leads s pops bounds back t may = record {
   round = round s bounds (Ends (product_row t) t) t (product_of t) (multiplied t);
   leads = head_at s bounds (Ends (product_row t) t) (λ j v. Going t (product_of t) j 350 v) (called back t) (record {
     row = popax_row (pointed (called back t));
-    row_is = refl;
-    weight = weight_of routines.PopAx;
-    meets = pop_word_in s pops;
-    light = omega arith;
+    comes = λ may_in from. pop_word_comes s pops bounds from (pointed (called back t)) may_in;
     goes_on = refl;
     ready = refl;
     near = may.near;

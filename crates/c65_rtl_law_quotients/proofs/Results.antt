@@ -1,5 +1,5 @@
 -- From what the lines of a division leave to its row, and the loop's rounds within a routine's lines.
-use Rattle.std.proofs.Common.{◌≡◌, ◌≢◌, ℕ, suc, ◌+◌, ◌*◌, ◌/◌, ◌%◌, ◌<◌, ◌≤◌, ◌⊎◌, inl, inr, Bool, true, false, List, [], ◌∷◌, All, Option, Some, None, nat_eq, refl, sym, ap, subst, ◌∙◌, arith}
+use Rattle.std.proofs.Common.{◌≡◌, ◌≢◌, ℕ, suc, ◌+◌, ◌*◌, ◌<◌, ◌≤◌, ◌⊎◌, inl, inr, Bool, true, false, All, Option, Some, None, nat_eq, refl, sym, subst, ◌∙◌, arith}
 use Rattle.std.specs.Prelude.{◌==◌, if◌then◌else◌}
 use Rattle.std.proofs.lemmas.List.{append-nil}
 use Rattle.std.proofs.lemmas.Bool.Decides.{eqb_tells}
@@ -53,7 +53,7 @@ result_ends op None t u beside rest is = ends_by (result_row op None t) t u (val
   sreg = tt;
   pointers = tt;
   bank = tt;
-  mem = beside.mem;
+  mem = λ b h. beside.mem b;
   input = beside.input;
   output = beside.output ∙ sym (append-nil t.output);
   ended = beside.ended;
@@ -72,7 +72,7 @@ result_ends op (Some v) t u beside rest is = ends_by (result_row op (Some v) t) 
   sreg = tt;
   pointers = tt;
   bank = tt;
-  mem = beside.mem;
+  mem = λ b h. beside.mem b;
   input = beside.input;
   output = beside.output ∙ sym (append-nil t.output);
   ended = beside.ended;

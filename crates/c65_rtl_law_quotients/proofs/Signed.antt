@@ -1,5 +1,5 @@
 -- `tosdivax` and `tosmodax` (C90 6.3.5)
-use Rattle.std.proofs.Common.{◌≡◌, ◌≢◌, ℕ, suc, ◌+◌, ◌-◌, ◌*◌, ◌/◌, ◌%◌, ◌<◌, ◌≤◌, Bool, true, false, not, List, [], ◌∷◌, Option, None, refl, sym, ap, subst, ◌∙◌, arith}
+use Rattle.std.proofs.Common.{◌≡◌, ◌≢◌, ℕ, suc, ◌+◌, ◌*◌, ◌<◌, ◌≤◌, Bool, true, not, List, [], ◌∷◌, Option, refl, sym, ap, ◌∙◌, arith}
 use Rattle.std.specs.Prelude.{nat_lt, bit_xor}
 use Rattle.std.specs.Bool.{beq}
 use Rattle.std.proofs.lemmas.List.Elements.{All-nil}
@@ -10,7 +10,7 @@ use Rattle.c65_code.specs.declared.routine.TosOp.TheVariants as tos
 use Rattle.c65_code.specs.declared.routine.Width.TheVariants.{Ax}
 use Rattle.c65_code.specs.declared.line.Line.{Line}
 use Rattle.c65_code.specs.LineState.{Place, Bytes, State, write, word_at, sp_of, ax_of, IsBytes}
-use Rattle.c65_code.specs.Numbers.{divided, is_negative, magnitude, minus_word, with_sign, signed_quotient, signed_remainder}
+use Rattle.c65_code.specs.Numbers.{divided, is_negative, magnitude, with_sign, signed_quotient, signed_remainder}
 use Rattle.c65_code.specs.Moves.{settle, labelled}
 use Rattle.c65_code.specs.RawMachine.{RawSetting, Bounds, IsReachable, called}
 use Rattle.c65_rtl.proofs.Ways.{Ends}
@@ -18,8 +18,7 @@ use Rattle.c65_rtl.proofs.Meeting.{eq_false, write_other}
 use Rattle.c65_rtl_law_walks.specs.Inside.{MayRunIn}
 use Rattle.c65_rtl_law_walks.proofs.Turning.{turn_weight, TurnsIn}
 use Rattle.c65_rtl_law_walks.proofs.Meets.{Leads, turning_meets, met_within}
-use Rattle.c65_rtl_law_inner.specs.Inner.{weight_of}
-use Rattle.c65_rtl_law_inner.proofs.Pops.{popax_row, pop_word_in, Popped, popped}
+use Rattle.c65_rtl_law_inner.proofs.Pops.{popax_row, pop_word_comes, Popped, popped}
 use Rattle.c65_rtl_law_inner.proofs.Beside.{Beside, outside}
 use Rattle.c65_rtl_law_quotients.specs.Rows.{Holds, IsMet}
 use Rattle.c65_rtl_law_quotients.proofs.Rounds.{Divided, after_all}
@@ -172,10 +171,7 @@ leads s pops rest light op result bounds back t may behind =
       round = round s bounds P rest t small light behind;
       leads = terms_at s bounds P B (signs_on (first_on (second_on (divide_on rest)))) (called back t) (record {
         row = popax_row (pointed (called back t));
-        row_is = refl;
-        weight = weight_of routines.PopAx;
-        meets = pop_word_in s pops;
-        light = omega arith;
+        comes = λ may_in from. pop_word_comes s pops bounds from (pointed (called back t)) may_in;
         goes_on = refl;
         ready = refl;
         near = near_of (IsReachable s.place bounds) op result t may.near;

@@ -18,15 +18,14 @@ use Rattle.c65_code.specs.LineState.{Place, State, Frame, s_of, sp_of, IsBytes}
 use Rattle.c65_code.specs.Parts.{no_parts}
 use Rattle.c65_code.specs.Placement.{word_of, stack_end}
 use Rattle.c65_code.specs.Forms.{Form, Mark, Plain, Branch, Jump, Far, Push, Pull, Depth, Return, Run, Enter, Through, Stray, form_of, op_form}
-use Rattle.c65_code.specs.Rows.{Row, Meets, row_of}
+use Rattle.c65_code.specs.Rows.{Row, Meets}
 use Rattle.c65_code.specs.Moves.{Ref, Given, ZeroAt, MemAt, ref_of, value_at, put, change, effect, settle, labelled}
 use Rattle.c65_code.specs.Segments.{is_among}
-use Rattle.c65_code.specs.RawMachine.{RawSetting, Bounds, IsReachable, IsRawOpen, IsHookWithin, RawComes, here, raw_weight, HasFrame, RawReturns, RawRuns, HasDone, called, entry_of, hook_row, LieLow}
+use Rattle.c65_code.specs.RawMachine.{RawSetting, Bounds, IsReachable, IsRawOpen, IsHookWithin, RawComes, here, raw_weight, HasFrame, RawReturns, RawRuns, HasDone, called, entry_of, line_after, hook_row, LieLow}
 use Rattle.c65_rtl.specs.Short.{is_onward, push_of, pushed_by}
 use Rattle.c65_rtl.proofs.Ways.{leads, Way, Ends, when, either, whole_at, at_operand, pulling, returning, by_form, by_label, IsAt, IsOwn, IsSought, place_at, next_do, next_call, next_label, weaken, on_form, moved_to, still_own, and_parts, or_none, eq_flip, not_parts}
-use Rattle.c65_rtl_law_walks.specs.Inside.{MayRunIn, MeetsIn, IsBack}
+use Rattle.c65_rtl_law_walks.specs.Inside.{MayRunIn}
 use Rattle.c65_rtl_law_walks.proofs.Joins.{bind}
-use Rattle.c65_rtl_law_walks.proofs.Calls.{calls_come_back}
 
 -- what an inner routine takes: bytes of the software stack and of the hard stack, and instructions
 pub record Takes : Type 0 where
@@ -34,13 +33,11 @@ pub record Takes : Type 0 where
   pub pushed : ℕ
   pub weight : ℕ
 
--- what a call of a routine wants here, at most so many bytes being pushed
+-- What a call of a routine wants here, at most so many bytes being pushed: that it comes back with a row met, and what the row
+-- wants.
 pub record Calls (s : RawSetting) (bounds : Bounds) (deepest : ℕ) (takes : Routine → Takes) (r : Routine) (rest : Way) (t : State) : Type 0 where
   pub row : Row
-  pub row_is : row_of r t ≡ Some row
-  pub weight : Row → ℕ
-  pub meets : MeetsIn s (takes r).below (takes r).pushed weight r
-  pub light : weight row ≤ (takes r).weight
+  pub comes : MayRunIn s bounds (takes r).below (takes r).pushed row t → (back : Place) → RawComes s bounds (HasDone row.ends row back t) (takes r).weight (entry_of s (s.routine r)) (called back t)
   pub goes_on : row.ends ≡ None
   pub ready : IsTrue row.ready
   pub near : All (IsReachable s.place bounds) row.near
@@ -213,14 +210,19 @@ module _ (s : RawSetting) (bounds : Bounds) (deepest : ℕ) (takes : Routine →
       let calls = own.used in
       let hard = c.hard in
       let may : MayRunIn s bounds (takes r).below (takes r).pushed c.row t = record { ready = c.ready; near = c.near; far = c.far; soft = c.soft; hard = omega arith; high = c.high; bytes = bytes; running = own.ended; data_low = c.data_low } in
+      let room_for : bounds.hard + 2 ≤ s_of t = omega arith in
       let start : Place = (f, p) in
-      let light = c.light in
-      weaken s bounds Q (2 + c.weight c.row + v) (2 + (takes r).weight + v) start t (omega arith)
-      (bind s bounds (IsBack s c.row start t) Q (2 + c.weight c.row) v start t
-      (calls_come_back s bounds (takes r).below (takes r).pushed c.weight r c.row start t c.meets (stands p (Call (callees.Routine r)) is) e c.row_is c.goes_on may)
+      let behind : Place = line_after s start in
+      let weight : ℕ = (takes r).weight in
+      on_form s bounds Q (Call (callees.Routine r)) (Run r) (weight + v) (2 + weight + v) start t refl (stands p (Call (callees.Routine r)) is) own.ended
+      (subst (λ (k : Option Row). IsHookWithin s.place bounds k t) (sym e) room_for) (omega arith)
+      (λ q u g after_call. let enters = subst (λ (k : Option Row). RawRuns s k r start t q u) e g in
+      moved_to s bounds Q (weight + v) q (entry_of s (s.routine r)) u (called behind t) enters.0 enters.1
+      (bind s bounds (HasDone None c.row behind t) Q weight v (entry_of s (s.routine r)) (called behind t)
+      (subst (λ (k : Option ℕ). RawComes s bounds (HasDone k c.row behind t) weight (entry_of s (s.routine r)) (called behind t)) c.goes_on (c.comes may behind))
       (λ q u back. let m = back.1 in
       moved_to s bounds Q v q (f, settle whole (suc p)) u u (back.0 ∙ ap (λ (ls : List Line). let q' : Place = (f, settle ls (suc p)) in q') has) refl
-      (after.by None u tt back.2 (still_own frame frames used t u (record { frames = m.frames; ended = m.ended ∙ (c.goes_on ∙ sym own.ended) }) own) (c.follows u m back.2))))
+      (after.by None u tt back.2 (still_own frame frames used t u (record { frames = m.frames; ended = m.ended ∙ (c.goes_on ∙ sym own.ended) }) own) (c.follows u m back.2)))))
   row_line r rest passed v p t is bytes own after (Some row) e c =
       let calls = own.used in
       let hard = c.hard in
@@ -331,14 +333,14 @@ operand_more s bounds (ZeroAt i) P Q more h = when_more (nat_lt i 256) P Q more 
 operand_more s bounds (MemAt b) P Q more h = (h.0, more h.1)
 
 module _ (s : RawSetting) (bounds : Bounds) (deepest : ℕ) (takes : Routine → Takes) (P : State → Type 0) where
-  abbrev Deeper : ℕ → Way → Way → Type 0
+  abbrev pub Deeper : ℕ → Way → Way → Type 0
   Deeper n a b = (skip : Option ℕ) (u : State) → length u.pushed + n ≤ deepest → a skip u → b skip u
 
   pull_in : (n : ℕ) (a b : Way) → Deeper n a b → (ps : List ℕ) (t : State) → length ps + n ≤ deepest → pulling a ps t → pulling b ps t
   pull_in n a b more [] t few h = h
   pull_in n a b more (v ∷ vs) t few h = more None (record t { regs = with_a v t.regs; pushed = vs }) (omega arith) h
 
-  form_in : (form : Form) (n : ℕ) (a b : Way) → Deeper n a b → (t : State) → length t.pushed + (push_of form + n) ≤ deepest → by_form s.place bounds P form a None t → by_deep s bounds deepest P form b None t
+  pub form_in : (form : Form) (n : ℕ) (a b : Way) → Deeper n a b → (t : State) → length t.pushed + (push_of form + n) ≤ deepest → by_form s.place bounds P form a None t → by_deep s bounds deepest P form b None t
   form_in (Plain op mode operand) n a b more t few h =
       let to : State = effect (kind_of op) op mode (word_of s.place operand) t in
       let same = ap (λ (ps : List ℕ). length ps) (effect_stacks (kind_of op) op mode (word_of s.place operand) t).pushed in
@@ -362,7 +364,7 @@ module _ (s : RawSetting) (bounds : Bounds) (deepest : ℕ) (takes : Routine →
   line_in form n a b more (Some l) t few h = more (Some l) t (omega arith) h
   line_in form n a b more None t few h = form_in form n a b more t few h
 
-  label_in : (k n : ℕ) (a b : Way) → Deeper n a b → Deeper n (by_label k a) (by_label k b)
+  pub label_in : (k n : ℕ) (a b : Way) → Deeper n a b → Deeper n (by_label k a) (by_label k b)
   label_in k n a b more None t few h = more None t few h
   label_in k n a b more (Some l) t few h = chosen (k == l) h
     where
@@ -370,7 +372,7 @@ module _ (s : RawSetting) (bounds : Bounds) (deepest : ℕ) (takes : Routine →
       chosen true h = more None t few h
       chosen false h = more (Some l) t few h
 
-  stray_in : (callee : Callee) (n : ℕ) (a b : Way) → Deeper n a b → Deeper n (by_form s.place bounds P Stray a) (by_call s bounds deepest takes callee b)
+  pub stray_in : (callee : Callee) (n : ℕ) (a b : Way) → Deeper n a b → Deeper n (by_form s.place bounds P Stray a) (by_call s bounds deepest takes callee b)
   stray_in callee n a b more (Some l) t few h = more (Some l) t few h
   stray_in callee n a b more None t few h = absurd h
 

@@ -1,0 +1,11 @@
+//! The rules on the software stack: calls of its routines that one call stands for, and operators done without it.
+#![tactic(auto)]
+
+mod calls;
+mod find;
+mod samples;
+mod stack;
+mod words;
+
+pub use samples::worked_rules;
+pub use stack::optimise_stack;
