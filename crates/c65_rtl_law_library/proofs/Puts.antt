@@ -1,5 +1,5 @@
 -- `puts` (C90 7.9.7.10)
-use Rattle.std.proofs.Common.{◌≡◌, ◌≢◌, ℕ, zero, suc, ◌+◌, ◌-◌, ◌*◌, ◌/◌, ◌%◌, ◌<◌, ◌≤◌, ◌⊎◌, inl, inr, Bool, true, false, IsTrue, List, [], ◌∷◌, ◌++◌, All, Option, Some, None, nat_eq, length, refl, sym, ap, subst, ◌∙◌, arith}
+use Rattle.std.proofs.Common.{◌≡◌, ◌≢◌, ℕ, zero, suc, ◌+◌, ◌-◌, ◌*◌, ◌/◌, ◌%◌, ◌<◌, ◌≤◌, ◌⊎◌, inl, inr, Bool, true, false, IsTrue, List, [], ◌∷◌, ◌++◌, All, None, nat_eq, length, refl, sym, ap, subst, ◌∙◌, arith}
 use Rattle.std.specs.Prelude.{◌==◌, if◌then◌else◌, nat_lt, max, drop}
 use Rattle.std.proofs.lemmas.List.{append-nil, append_assoc}
 use Rattle.std.proofs.lemmas.List.Elements.{All-nil, All-cons}
@@ -13,19 +13,17 @@ use Rattle.c65_code.specs.declared.routine.Routine.TheVariants as routines
 use Rattle.c65_code.specs.declared.routine.Width.TheVariants.{Ax}
 use Rattle.c65_code.specs.declared.line.Line.{Line}
 use Rattle.c65_code.specs.LineState.{Place, State, Bytes, write, word_at, sp_of, ax_of, IsBytes}
-use Rattle.c65_code.specs.Placement.{Placement, stack_end}
 use Rattle.c65_code.specs.Segments.{is_among}
 use Rattle.c65_code.specs.Steady.{IsOpen}
 use Rattle.c65_code.specs.Texts.{bytes_at, range_of, length_within, text_length}
 use Rattle.c65_code.specs.Rows.{Row, Meets, row_by, giving, popping, costing, by_bytes}
-use Rattle.c65_code.specs.RawMachine.{RawSetting, Bounds, IsReachable, LieLow, called, HasDone, entry_of, quiet, write_hook, MayRun, Runs, MeetsRow, reach_of}
+use Rattle.c65_code.specs.RawMachine.{RawSetting, Bounds, IsReachable, called, HasDone, entry_of, quiet, write_hook, MayRun, Runs, reach_of}
 use Rattle.c65_rtl.specs.Assembly.{implied, value, call}
 use Rattle.c65_rtl.proofs.Ways.{Ends, weaken}
 use Rattle.c65_rtl.proofs.Meeting.{write_other, ends_by}
 use Rattle.c65_rtl.proofs.Opens.{OpenBytes, opens_far}
 use Rattle.c65_rtl.proofs.Pushes.{write_same, meets_by}
 use Rattle.c65_rtl.proofs.Stores.{write_like}
-use Rattle.c65_rtl_law_walks.specs.Inside.{MayRunIn}
 use Rattle.c65_rtl_law_walks.proofs.Ranges.{range_length, all_in_range}
 use Rattle.c65_rtl_law_walks.proofs.Walks.{Takes, Calls, Hooks, leads_in, weight_in, walks_calling}
 use Rattle.c65_rtl_law_inner.proofs.Kept.{keeps, kept_from}
