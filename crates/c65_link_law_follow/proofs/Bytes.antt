@@ -1,21 +1,19 @@
 -- Rows of the processor, where its state agrees with that of the machine on lines.
-use Rattle.std.proofs.Common.{◌≡◌, ◌≢◌, ℕ, zero, suc, ◌+◌, ◌*◌, ◌/◌, ◌%◌, ◌-◌, ◌<◌, ◌≤◌, ◌==◌, ◌&&◌, ◌⊎◌, inl, inr, Bool, true, false, nat_lt, nat_le, if◌then◌else◌, IsTrue, List, [], ◌∷◌, length, Option, Some, None, ap, sym, refl, subst, ◌∙◌, arith}
+use Rattle.std.proofs.Common.{◌≡◌, ◌≢◌, ℕ, ◌+◌, ◌/◌, ◌%◌, ◌<◌, ◌≤◌, ◌==◌, ◌&&◌, inl, inr, Bool, false, nat_lt, nat_le, if◌then◌else◌, List, [], ◌∷◌, length, Option, Some, None, ap, sym, refl, subst, ◌∙◌, arith}
 use Rattle.std.proofs.lemmas.Bool.{ne_eqb, lt-leb, le-ltb}
 use Rattle.std.proofs.lemmas.Bool.Decides.{eqb_tells}
-use Rattle.std.proofs.lemmas.List.{get_or-set_same, get_or-set_other, length-set}
+use Rattle.std.proofs.lemmas.List.{get_or-set_same, get_or-set_other}
 use Rattle.c65_base.specs.declared.options.Cpu.{Cpu}
 use Rattle.c65_mach.specs.declared.rows.Op.{Op}
-use Rattle.c65_mach.specs.declared.rows.Op.TheVariants as ops
 use Rattle.c65_mach.specs.declared.rows.Mode.{Mode}
 use Rattle.c65_mach.specs.declared.rows.Mode.TheVariants.{Implied, Accumulator, Immediate, ZeroPage, ZeroPageX, ZeroPageY, Absolute, AbsoluteX, AbsoluteY, IndirectX, IndirectY, Indirect, Relative, ZeroPageIndirect, AbsoluteIndirectX}
 use Rattle.c65_mach.specs.declared.rows.Row.{Row}
-use Rattle.c65_mach.specs.Table.{row_for}
 use Rattle.c65_mach.specs.State.{Regs, read, write as write_byte, State as Machine}
-use Rattle.c65_mach.specs.Step.{after, word_at, zero_word, size_of, place_of, Kind, Reads, Stores, Changes, Branches, Registers, Moves, kind_of, act, act_by, row_at, step, step_by, pushes}
-use Rattle.c65_mach.specs.Run.{Setting, Moment, Running, turn, is_hook, row_done}
+use Rattle.c65_mach.specs.Step.{after, word_at, zero_word, size_of, place_of, Kind, kind_of, act, act_by, row_at, step, step_by, pushes}
+use Rattle.c65_mach.specs.Run.{Setting, Moment, Running, turn}
 use Rattle.c65_sim.specs.Budgets.{is_too_deep, row_pushes}
-use Rattle.c65_code.specs.LineState.{State, Frame, write, zero_word as zero_of}
-use Rattle.c65_code.specs.Placement.{stack_start, stack_end}
+use Rattle.c65_code.specs.LineState.{State, Frame, zero_word as zero_of}
+use Rattle.c65_code.specs.Placement.{stack_start}
 use Rattle.c65_code.specs.Moves.{Ref, Given, ZeroAt, MemAt, ref_of, value_at}
 use Rattle.c65_code.specs.RawMachine.{Bounds, IsReachable, IsRawOpen, RawSetting}
 use Rattle.c65_link.specs.Opcodes.{opcode_of}

@@ -1,5 +1,5 @@
 -- The lines of the example stand in memory.
-use Rattle.std.proofs.Common.{◌≡◌, ℕ, zero, suc, ◌+◌, ◌<◌, ◌≤◌, ◌⊎◌, inl, inr, Bool, true, false, nat_eq, IsTrue, List, [], ◌∷◌, Option, Some, None, slice_get, slice_index, refl, ap, sym, ◌∙◌, subst, arith, eqb-true}
+use Rattle.std.proofs.Common.{◌≡◌, ℕ, zero, suc, ◌≤◌, ◌⊎◌, inl, inr, true, false, nat_eq, IsTrue, [], Some, slice_get, refl, sym, subst, arith, eqb-true}
 use Rattle.std.proofs.lemmas.Bool.{or_cases}
 use Rattle.c65_base.specs.declared.options.Cpu.{Cpu}
 use Rattle.c65_base.specs.declared.options.Cpu.TheVariants.{Nmos, Cmos}
@@ -8,17 +8,15 @@ use Rattle.c65_mach.specs.declared.rows.Mode.TheVariants.{Implied, Immediate, Re
 use Rattle.c65_code.specs.declared.line.Operand.TheVariants as operands
 use Rattle.c65_code.specs.declared.line.Line.{Line}
 use Rattle.c65_code.specs.declared.line.Line.TheVariants.{Label, Do}
-use Rattle.c65_code.specs.declared.line.Sym.{Sym}
 use Rattle.c65_code.specs.LineState.{Place}
 use Rattle.c65_code.specs.Processors.{is_nmos_line}
 use Rattle.c65_code.specs.Segments.{is_fit, labels_of, is_among}
 use Rattle.c65_code.specs.Moves.{labelled, settle}
 use Rattle.c65_link.specs.Bytes.{Spot}
-use Rattle.c65_link.specs.Symbols.{line_symbol}
-use Rattle.c65_link_law.specs.Coded.{spot_for, label_at, IsBranch, short, IsCoded}
+use Rattle.c65_link_law.specs.Coded.{spot_for, label_at, short, IsCoded}
 use Rattle.c65_link_law_follow.specs.Agree.{Ground}
-use Rattle.c65_link_law_follow.specs.Laid.{IsLineOf, IsLineNumber, IsTargetKnown, LineLeadsWell, IsLaid, IsGround}
-use Rattle.c65_link_law_follow.specs.Example.{counting, counting_bytes, counting_ground, counting_setting, CountingIsLaid}
+use Rattle.c65_link_law_follow.specs.Laid.{IsLineOf, IsLineNumber, IsTargetKnown, LineLeadsWell}
+use Rattle.c65_link_law_follow.specs.Example.{counting, counting_ground, counting_setting, CountingIsLaid}
 
 same_line : (a b : Line) → Some a ≡ Some b → a ≡ b
 same_line a b h = cc

@@ -1,12 +1,12 @@
 -- Which modes the operations of each kind have, and what numbers their operands are.
-use Rattle.std.proofs.Common.{◌≡◌, ℕ, ◌+◌, ◌%◌, ◌/◌, ◌<◌, ◌||◌, ◌⊎◌, inl, inr, Bool, true, false, List, Option, Some, None, slice_index, refl, ap, sym, ◌∙◌, arith}
+use Rattle.std.proofs.Common.{◌≡◌, ℕ, ◌+◌, ◌%◌, ◌/◌, ◌<◌, ◌⊎◌, inl, inr, Bool, true, Some, slice_index, refl, ap, arith}
 use Rattle.std.proofs.lemmas.Bool.{or_cases}
 use Rattle.c65_mach.specs.declared.rows.Op.{Op}
 use Rattle.c65_mach.specs.declared.rows.Op.TheVariants as ops
 use Rattle.c65_mach.specs.declared.rows.Mode.{Mode}
 use Rattle.c65_mach.specs.declared.rows.Mode.TheVariants.{Implied, Accumulator, Immediate, ZeroPage, ZeroPageX, ZeroPageY, Absolute, AbsoluteX, AbsoluteY, IndirectX, IndirectY, Indirect, Relative, ZeroPageIndirect, AbsoluteIndirectX}
 use Rattle.c65_mach.specs.State.{Regs}
-use Rattle.c65_mach.specs.Step.{size_of, Kind, Reads, Stores, Changes, Branches, Registers, Moves, kind_of, apply, read_by, pushes}
+use Rattle.c65_mach.specs.Step.{size_of, Reads, Stores, Changes, Registers, Moves, kind_of, apply, read_by, pushes}
 use Rattle.c65_code.specs.declared.line.Sym.{Sym}
 use Rattle.c65_code.specs.declared.line.Operand.{Operand}
 use Rattle.c65_code.specs.declared.line.Operand.TheVariants as operands

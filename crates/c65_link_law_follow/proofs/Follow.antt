@@ -1,14 +1,13 @@
 -- Each line that stays within its bounds is followed by one row or two.
-use Rattle.std.proofs.Common.{◌≡◌, ◌≢◌, ℕ, suc, ◌+◌, ◌*◌, ◌%◌, ◌/◌, ◌-◌, ◌<◌, ◌≤◌, ◌&&◌, ◌||◌, ◌⊎◌, inl, inr, Bool, true, false, not, if◌then◌else◌, IsTrue, List, [], ◌∷◌, length, Option, Some, None, unwrap_or, slice_get, slice_index, ap, sym, refl, subst, ◌∙◌, arith}
+use Rattle.std.proofs.Common.{◌≡◌, ℕ, suc, ◌+◌, ◌<◌, ◌≤◌, ◌&&◌, ◌⊎◌, inl, inr, Bool, true, false, not, if◌then◌else◌, List, [], ◌∷◌, Option, Some, None, unwrap_or, slice_get, slice_index, ap, sym, refl, subst, ◌∙◌, arith}
 use Rattle.std.proofs.lemmas.Bool.{and_parts, or_cases}
 use Rattle.c65_base.specs.declared.options.Cpu.{Cpu}
 use Rattle.c65_base.specs.declared.options.Cpu.TheVariants.{Nmos, Cmos}
 use Rattle.c65_mach.specs.declared.rows.Op.{Op}
 use Rattle.c65_mach.specs.declared.rows.Op.TheVariants as ops
 use Rattle.c65_mach.specs.declared.rows.Mode.{Mode}
-use Rattle.c65_mach.specs.declared.rows.Mode.TheVariants.{Implied, Accumulator, Immediate, ZeroPage, ZeroPageX, ZeroPageY, Absolute, AbsoluteX, AbsoluteY, IndirectX, IndirectY, Indirect, Relative, ZeroPageIndirect, AbsoluteIndirectX}
-use Rattle.c65_mach.specs.State.{Regs, State as Machine}
-use Rattle.c65_mach.specs.Step.{after, size_of, branched, is_taken, Kind, Reads, Stores, Changes, Branches, Registers, Moves, kind_of, with_a}
+use Rattle.c65_mach.specs.declared.rows.Mode.TheVariants.{Implied, Accumulator, Absolute, Indirect, Relative}
+use Rattle.c65_mach.specs.Step.{size_of, branched, is_taken, Kind, Reads, Stores, Changes, Branches, Registers, Moves, kind_of, with_a}
 use Rattle.c65_mach.specs.Run.{Setting, Moment}
 use Rattle.c65_code.specs.declared.routine.Routine.{Routine}
 use Rattle.c65_code.specs.declared.routine.Routine.TheVariants as routines
@@ -19,21 +18,20 @@ use Rattle.c65_code.specs.declared.line.Callee.{Callee}
 use Rattle.c65_code.specs.declared.line.Callee.TheVariants as callees
 use Rattle.c65_code.specs.declared.line.Line.{Line}
 use Rattle.c65_code.specs.declared.line.Line.TheVariants.{Label, Do, Call}
-use Rattle.c65_code.specs.LineState.{Place, State, Frame, s_of, zero_word, IsBytes}
+use Rattle.c65_code.specs.LineState.{Place, State, Frame, s_of, zero_word}
 use Rattle.c65_code.specs.Placement.{Placement, word_of, stack_start}
-use Rattle.c65_code.specs.Segments.{is_nmos_row, is_added_row, has_row, is_barred, takes, is_fit, is_implied, is_branched, is_jumped, is_to, is_zero, labels_of, is_among}
-use Rattle.c65_code.specs.Processors.{is_nmos_line}
-use Rattle.c65_code.specs.Forms.{Form, Mark, Plain, Branch, Jump, Far, Push, Pull, Depth, Return, Run, Enter, Through, Stray, op_form, move_form, jump_form, branch_form, callee_form, form_of}
+use Rattle.c65_code.specs.Segments.{is_nmos_row, is_added_row, has_row, is_barred, takes, is_implied}
+use Rattle.c65_code.specs.Forms.{Form, Plain, Branch, Jump, Far, Push, Pull, Depth, Return, Run, Enter, Through, op_form, move_form, jump_form, branch_form, callee_form, form_of}
 use Rattle.c65_code.specs.Rows.{Row}
 use Rattle.c65_code.specs.Moves.{ref_of, effect, labelled, settle, next}
-use Rattle.c65_code.specs.RawMachine.{RawSetting, Bounds, IsRawOpen, HasFrame, IsHookWithin, IsRawWithin, RawGoes, RawRuns, RawEnters, RawReturns, raw_weight, hook_row, called, line_after, entry_of, target_of}
+use Rattle.c65_code.specs.RawMachine.{RawSetting, Bounds, IsRawOpen, HasFrame, IsHookWithin, IsRawWithin, RawGoes, RawRuns, RawReturns, raw_weight, hook_row, called, line_after, entry_of, target_of}
 use Rattle.c65_link.specs.Opcodes.{opcode_of, opposite_of}
 use Rattle.c65_link.specs.Bytes.{Spot, instruction, operand_bytes, word_bytes, callee_address}
 use Rattle.c65_link.specs.Symbols.{operand_symbol}
 use Rattle.c65_link.proofs.TableLaws.{opposites_differ}
-use Rattle.c65_link_law.specs.Coded.{Memory, Stands, label_at, word_at, IsBranch, short, long, IsInstruction, IsCoded}
-use Rattle.c65_link_law_follow.specs.Agree.{Ground, Agrees, Goes, none, more, Arrives}
-use Rattle.c65_link_law_follow.specs.Laid.{IsLaid, IsGround, IsLineOf, IsOperandNumber, IsLineNumber, IsTargetKnown, hook_address, LeadsWell, LineLeadsWell}
+use Rattle.c65_link_law.specs.Coded.{Memory, Stands, label_at, word_at, IsBranch, short, long, IsInstruction}
+use Rattle.c65_link_law_follow.specs.Agree.{Ground, Agrees, none, more, Arrives}
+use Rattle.c65_link_law_follow.specs.Laid.{IsLaid, IsGround, IsLineOf, IsOperandNumber, hook_address}
 use Rattle.c65_link_law_follow.specs.Laws.{IsNoHook, IsCounted, LinesAreFollowed}
 use Rattle.c65_link_law_follow.proofs.Rows.{HasRowOn, rowed, both_have, row_on, opposite_row}
 use Rattle.c65_link_law_follow.proofs.Bytes.{Here, Moved, moved_to, HasOperand}

@@ -1,11 +1,11 @@
 -- One row for a line of registers, of memory or of both.
-use Rattle.std.proofs.Common.{◌≡◌, ◌≢◌, ℕ, ◌+◌, ◌%◌, ◌/◌, ◌-◌, ◌<◌, ◌≤◌, ◌==◌, ◌⊎◌, inl, inr, Bool, true, false, if◌then◌else◌, List, length, Option, Some, None, ap, sym, refl, subst, ◌∙◌, arith}
+use Rattle.std.proofs.Common.{◌≡◌, ℕ, ◌+◌, ◌<◌, ◌≤◌, ◌==◌, Bool, true, false, if◌then◌else◌, List, length, ap, sym, refl, subst, ◌∙◌, arith}
 use Rattle.std.proofs.lemmas.List.{length-set}
 use Rattle.c65_mach.specs.declared.rows.Op.{Op}
 use Rattle.c65_mach.specs.declared.rows.Mode.{Mode}
 use Rattle.c65_mach.specs.declared.rows.Mode.TheVariants.{Implied, Accumulator, Immediate, ZeroPage, ZeroPageX, ZeroPageY, Absolute, AbsoluteX, AbsoluteY, IndirectX, IndirectY, Indirect, Relative, ZeroPageIndirect, AbsoluteIndirectX}
 use Rattle.c65_mach.specs.State.{Regs, read, write as write_byte, State as Machine}
-use Rattle.c65_mach.specs.Step.{after, size_of, place_of, Kind, Reads, Stores, Changes, Branches, Registers, Moves, kind_of, act_by, apply, read_by, stored, changed, signed, with_a, pushes}
+use Rattle.c65_mach.specs.Step.{after, size_of, place_of, Kind, Reads, Stores, Changes, Registers, Moves, kind_of, apply, read_by, stored, changed, signed, with_a, pushes}
 use Rattle.c65_mach.specs.Step.{change as change_bytes}
 use Rattle.c65_mach.specs.Run.{Setting, Moment}
 use Rattle.c65_code.specs.LineState.{State, write}

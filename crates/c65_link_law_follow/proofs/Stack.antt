@@ -1,25 +1,23 @@
 -- One row for a line that moves pc or the hard stack.
-use Rattle.std.proofs.Common.{◌≡◌, ◌≢◌, ℕ, suc, ◌+◌, ◌*◌, ◌%◌, ◌/◌, ◌-◌, ◌<◌, ◌≤◌, ◌==◌, ◌⊎◌, inl, inr, Bool, true, false, not, if◌then◌else◌, List, [], ◌∷◌, length, Option, Some, None, ap, sym, refl, subst, ◌∙◌, arith}
+use Rattle.std.proofs.Common.{◌≡◌, ℕ, suc, ◌+◌, ◌*◌, ◌%◌, ◌/◌, ◌-◌, ◌<◌, ◌≤◌, ◌==◌, Bool, true, false, if◌then◌else◌, List, [], ◌∷◌, length, Option, Some, None, ap, sym, refl, subst, ◌∙◌, arith}
 use Rattle.std.specs.List.{sum_by}
 use Rattle.std.proofs.lemmas.List.Sums.{sum_by-cons}
-use Rattle.std.proofs.lemmas.Bool.{ne_eqb, eq-eqb, cases_eq}
+use Rattle.std.proofs.lemmas.Bool.{ne_eqb}
 use Rattle.std.proofs.lemmas.List.{length-set, get_or-set_same}
 use Rattle.c65_base.specs.declared.options.Cpu.{Cpu}
 use Rattle.c65_base.specs.declared.options.Cpu.TheVariants.{Nmos, Cmos}
 use Rattle.c65_mach.specs.declared.rows.Op.{Op}
 use Rattle.c65_mach.specs.declared.rows.Op.TheVariants as ops
-use Rattle.c65_mach.specs.declared.rows.Mode.{Mode}
 use Rattle.c65_mach.specs.declared.rows.Mode.TheVariants.{Implied, Absolute, Indirect, Relative}
 use Rattle.c65_mach.specs.State.{Regs, read, write as write_byte, State as Machine}
-use Rattle.c65_mach.specs.Step.{after, word_at, size_of, place_of, jump_next, branched, branch, is_taken, Kind, Branches, Moves, kind_of, act_by, push, returned, with_a, with_x, pushes}
+use Rattle.c65_mach.specs.Step.{after, word_at, jump_next, branched, branch, is_taken, Branches, Moves, kind_of, push, returned, with_a, with_x}
 use Rattle.c65_mach.specs.Run.{Setting, Moment}
-use Rattle.c65_code.specs.declared.parts.RegSet.{RegSet}
 use Rattle.c65_code.specs.Parts.{no_parts}
 use Rattle.c65_code.specs.LineState.{Place, State, Frame, hard_bytes, zero_word}
 use Rattle.c65_link.specs.Bytes.{word_bytes}
 use Rattle.c65_link_law.specs.Coded.{Stands}
 use Rattle.c65_link_law_follow.specs.Agree.{Ground, Pushed, LeadsTo, IsLast, Points, Agrees}
-use Rattle.c65_link_law_follow.proofs.Bytes.{Here, Moved, moved_by, moved_into, code_byte, byte_is, word_is, zero_is, elsewhere, pushed_same, points_same}
+use Rattle.c65_link_law_follow.proofs.Bytes.{Here, Moved, moved_by, moved_into, byte_is, word_is, elsewhere, pushed_same, points_same}
 use Rattle.c65_link_law_follow.proofs.Fits.{pushes_none}
 use Rattle.c65_link_law_follow.proofs.Local.{next_pc, on_pc, on_regs}
 

@@ -1,8 +1,7 @@
 -- What it is for a program's lines to stand in memory, so that the processor can follow them.
-use Rattle.std.specs.Prelude.{◌≡◌, ℕ, suc, ◌+◌, ◌<◌, ◌≤◌, Bool, true, IsTrue, List, [], ◌∷◌, Option, Some, None, unwrap_or, slice_get, slice_index}
+use Rattle.std.specs.Prelude.{◌≡◌, ℕ, suc, ◌<◌, ◌≤◌, IsTrue, List, Option, Some, None, unwrap_or, slice_get, slice_index}
 use Rattle.c65_base.specs.declared.options.Cpu.{Cpu}
 use Rattle.c65_base.specs.declared.options.Cpu.TheVariants.{Nmos, Cmos}
-use Rattle.c65_base.specs.declared.library.Library.{Library}
 use Rattle.c65_code.specs.declared.routine.Routine.{Routine}
 use Rattle.c65_code.specs.declared.routine.Routine.TheVariants as routines
 use Rattle.c65_code.specs.declared.line.Sym.{Sym}

@@ -1,9 +1,9 @@
 -- The arguments lie on the software stack as `args` writes them.
-use Rattle.std.proofs.Common.{◌≡◌, ℕ, zero, suc, ◌+◌, ◌-◌, ◌*◌, ◌/◌, ◌%◌, ◌<◌, ◌≤◌, ◌==◌, ◌⊎◌, inl, inr, Bool, true, false, if◌then◌else◌, List, [], ◌∷◌, ◌++◌, Option, Some, None, length, slice_get, refl, ap, sym, ◌∙◌, subst, arith}
+use Rattle.std.proofs.Common.{◌≡◌, ℕ, zero, suc, ◌+◌, ◌-◌, ◌*◌, ◌/◌, ◌%◌, ◌<◌, ◌≤◌, ◌⊎◌, inl, inr, Bool, if◌then◌else◌, List, [], ◌∷◌, ◌++◌, Some, length, slice_get, refl, ap, sym, ◌∙◌, subst, arith}
 use Rattle.std.proofs.lemmas.Bool.{ne_eqb, eq-eqb}
 use Rattle.std.proofs.lemmas.List.{length-append}
 use Rattle.c65_code.specs.Texts.{listed}
-use Rattle.c65_code.specs.LineState.{Bytes, write, word_at}
+use Rattle.c65_code.specs.LineState.{Bytes, write}
 use Rattle.c65_code.specs.Rows.{written, word_bytes}
 use Rattle.c65_code.specs.Starts.{IsTextAt, AreLaid}
 use Rattle.c65_code.specs.RawMachine.{arg_writes, args_size}
@@ -102,8 +102,8 @@ lie (arg ∷ args) at lowest m room list low =
     let two : whole (at + 1) ≡ start / 256 % 256 =
     untouched args (at + 2) start (at + 1) second (omega (arith, room)) (inr (omega (arith, list))) (inl (omega arith)) ∙ own_byte (word_bytes start) at 1 (start / 256 % 256) first refl in
     let text : IsTextAt whole start arg = text_by arg whole start (λ k v e. (let less = within_text (arg ++ 0 ∷ []) k v e in
-        untouched args (at + 2) start (start + k) second (omega (arith, room)) (inr (omega arith)) (inl (omega (arith, less, size, list, room)))
-        ∙ other_bytes (word_bytes start) at (start + k) first (inl (omega (arith, less, size, list, room))) ∙ own_byte (arg ++ 0 ∷ []) start k v m e)) in
+    untouched args (at + 2) start (start + k) second (omega (arith, room)) (inr (omega arith)) (inl (omega (arith, less, size, list, room)))
+    ∙ other_bytes (word_bytes start) at (start + k) first (inl (omega (arith, less, size, list, room))) ∙ own_byte (arg ++ 0 ∷ []) start k v m e)) in
     let last : start - args_size args ≡ lowest - args_size (arg ∷ args) = omega arith in
     subst (λ (f : Bytes). AreLaid f (arg ∷ args) at lowest (lowest - args_size (arg ∷ args))) (sym (split args arg at start m))
     (omega (arith, one, two, low), text, subst (λ (k : ℕ). AreLaid whole args (at + 2) start k) last rest)

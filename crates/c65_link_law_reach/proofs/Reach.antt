@@ -1,76 +1,27 @@
 -- The runs of the lines of a code are followed.
-use Rattle.std.proofs.Common.{◌≡◌, ℕ, zero, suc, ◌+◌, ◌-◌, ◌*◌, ◌<◌, ◌≤◌, ◌==◌, ◌&&◌, ◌||◌, ◌⊎◌, inl, inr, not, Bool, true, false, nat_lt, if◌then◌else◌, IsTrue, List, [], ◌∷◌, ◌++◌, All, map, Option, Some, None, unwrap_or, Ok, length, slice_get, slice_index, refl, ap, sym, ◌∙◌, subst, arith, ltb-true, eqb-true}
-use Rattle.std.specs.List.{sum_by}
-use Rattle.std.proofs.lemmas.Bool.{and_parts, and_from, lt-ltb, le-ltb, eq-eqb, ne_eqb}
-use Rattle.std.proofs.lemmas.List.{append-nil}
-use Rattle.std.proofs.lemmas.List.Elements.{All-nil, All-cons, All-head, All-tail}
+use Rattle.std.proofs.Common.{◌≡◌, ℕ, suc, ◌+◌, ◌≤◌, ◌==◌, ◌&&◌, Bool, true, false, if◌then◌else◌, IsTrue, List, Option, Some, None, Ok, refl, sym, ◌∙◌, subst, arith}
 use Rattle.c65_base.specs.declared.options.Cpu.{Cpu}
-use Rattle.c65_base.specs.declared.library.Library.{Library}
 use Rattle.c65_mach.specs.declared.image.Image.{Image}
 use Rattle.c65_mach.specs.State.{read, loaded_memory}
-use Rattle.c65_mach.specs.Step.{Kind, kind_of}
-use Rattle.c65_mach.specs.Run.{Setting, Moment, Ended, turn}
-use Rattle.c65_sim.specs.Budgets.{is_too_deep}
-use Rattle.c65_code.specs.declared.parts.Part.{Part}
-use Rattle.c65_code.specs.declared.parts.Part.TheVariants.{A, X, Y, Zp, N, V, Z, C}
-use Rattle.c65_code.specs.declared.parts.RegSet.{RegSet}
-use Rattle.c65_code.specs.declared.routine.Routine.{Routine}
-use Rattle.c65_code.specs.declared.routine.Routine.TheVariants as routines
-use Rattle.c65_code.specs.Numbering.{number_of}
-use Rattle.c65_code.specs.declared.line.Sym.{Sym}
-use Rattle.c65_code.specs.declared.line.Callee.{Callee}
-use Rattle.c65_code.specs.declared.line.Callee.TheVariants as callees
+use Rattle.c65_mach.specs.Run.{Setting, Moment}
 use Rattle.c65_code.specs.declared.line.Line.{Line}
-use Rattle.c65_code.specs.declared.line.Line.TheVariants.{Label, Do, Call}
 use Rattle.c65_code.specs.declared.code.Code.{Code}
-use Rattle.c65_code.specs.declared.code.Datum.{Datum}
-use Rattle.c65_code.specs.Parts.{no_parts, union_of, has_part}
-use Rattle.c65_code.specs.Effects.{ptr4_bytes}
-use Rattle.c65_code.specs.LineState.{Place, State, Frame, s_of, sp_of, hard_bytes, zero_word, Same, IsBytes}
-use Rattle.c65_code.specs.Placement.{Setting as LineSetting, Placement, IsPlacement, setting_of, segment_of, is_function_of, is_nothing, library_of, has_datum, program_start, stack_start, stack_end, word_of}
-use Rattle.c65_code.specs.Segments.{Segment}
+use Rattle.c65_code.specs.LineState.{Place, State}
 use Rattle.c65_code.specs.Processors.{RunsOn}
-use Rattle.c65_code.specs.Forms.{Form, Mark, Plain, Branch, Jump, Far, Push, Pull, Depth, Return, Run, Enter, Through, Stray, form_of}
-use Rattle.c65_code.specs.Rows.{Row, Meets, row_of}
-use Rattle.c65_code.specs.Moves.{Ref, Given, ZeroAt, MemAt, ref_of, settle, next, effect, Does, Keeps, Enters, Returns, IsCallee, Calls, MeetsRow, Goes as LineGoes, Moves as LineMoves}
-use Rattle.c65_code.specs.Weights.{Weighs, call_weight, row_cost}
-use Rattle.c65_code.specs.Steady.{IsCalm, IsAllowed, IsWithin, IsSteady, HasRoom, RowHasRoom, HasLines, IsCallable}
-use Rattle.c65_code.specs.RawMachine.{RawSetting, Bounds, IsReachable, IsRawOpen, IsRawWithin, RawGoes, RawReturns, RawComes, HasDone, IsRuntime, MayRun, Runs, LieLow, reach_of, raw_weight, HasFrame, hook_row, called, line_after, entry_of, target_of}
+use Rattle.c65_code.specs.Moves.{next, Moves as LineMoves}
+use Rattle.c65_code.specs.RawMachine.{IsRuntime}
 use Rattle.c65_link.specs.Linked.{linked_for}
-use Rattle.c65_link.specs.Runtime.{routine_lines}
-use Rattle.c65_link_law_spots.specs.Places.{place_in, address_in, runtime_lines}
 use Rattle.c65_link_law_spots.specs.Sound.{IsSound}
-use Rattle.c65_link_law_spots.specs.Laws.{IsChosen, CallsRoutine, AreUsesChosen, IsUnit, function, routine}
-use Rattle.c65_link_law_spots.proofs.Uses.{uses_are_chosen}
-use Rattle.c65_link_law_follow.specs.Agree.{Ground, Agrees, Arrives, Points, none, more}
+use Rattle.c65_link_law_follow.specs.Agree.{Agrees, none}
 use Rattle.c65_link_law_follow.specs.Agree.{Goes}
-use Rattle.c65_link_law_follow.specs.Laid.{IsLaid, IsGround, hook_address, LineLeadsWell}
-use Rattle.c65_link_law_follow.specs.Laws.{IsNoHook, IsCounted}
-use Rattle.c65_link_law_follow.proofs.Bytes.{Moved}
-use Rattle.c65_link_law_follow.proofs.Stack.{frames_bytes}
-use Rattle.c65_link_law_follow.proofs.Follow.{lines_are_followed, call_moves, room_for, last_line}
-use Rattle.c65_link_law_laid.specs.Linked.{start_number, with_main, main_number, unit_lines, raw_in, place_at, ground_in}
-use Rattle.c65_link_law_laid.specs.Laws.{AreLineNumbers, IsNoStart}
-use Rattle.c65_link_law_laid.proofs.Tables.{is_start, lined}
-use Rattle.c65_link_law_laid.proofs.Linked.{segment_from, not_the_start, the_start}
-use Rattle.c65_link_law_runs.specs.Follows.{Follows, IsSetFor, IsRunning}
+use Rattle.c65_link_law_laid.specs.Linked.{start_number, raw_in, place_at}
+use Rattle.c65_link_law_laid.specs.Laws.{AreLineNumbers}
+use Rattle.c65_link_law_runs.specs.Follows.{IsSetFor, IsRunning}
 use Rattle.c65_link_law.specs.Coded.{Memory}
-use Rattle.c65_link_law_runs.specs.Laws.{Leads, AreUnits, IsAmong, HasCome}
-use Rattle.c65_link_law_runs.proofs.Kept.{IsKeptBy, kept_by, Stays, effect_stays, called_kept}
-use Rattle.c65_link_law_runs.proofs.Moves.{moves_are_followed, quiet_line}
-use Rattle.c65_link_law_runs.proofs.Runs.{goes_both, runs_are_followed}
+use Rattle.c65_link_law_runs.proofs.Runs.{goes_both}
 use Rattle.c65_link_law_reach.specs.Reach.{runtime_in, exit_place, code_ground, AreCallers}
-use Rattle.c65_link_law_reach.proofs.Units.{units_in, routine_at, runtime_ground, entry_same, are_units, chosen_unit, function_unit}
-use Rattle.c65_link_law_reach.proofs.Units.{op_calls, is_call}
-use Rattle.c65_link_law_reach.proofs.Steps.{Image_, lines_setting, LineOf, same_lines, line_there, Steps, steps_on, steps_out, Turned, step_by}
-use Rattle.c65_code.specs.RawMachine.{RawRuns, RawMoves}
-use Rattle.c65_code.specs.declared.line.Operand.TheVariants as operands
-use Rattle.c65_mach.specs.declared.rows.Op.TheVariants as ops
-use Rattle.c65_mach.specs.declared.rows.Mode.TheVariants.{Indirect}
-use Rattle.c65_link_law_spots.proofs.Marks.{same_number}
-use Rattle.c65_link_law_laid.proofs.Linked.{routine_there}
-use Rattle.c65_link.specs.Bytes.{callee_address}
-use Rattle.c65_link_law_reach.proofs.Local.{keeps_all}
+use Rattle.c65_link_law_reach.proofs.Units.{are_units}
+use Rattle.c65_link_law_reach.proofs.Steps.{Image_, lines_setting, line_there, Steps, steps_on, steps_out}
 use Rattle.c65_code.specs.Comes.{Seen, Shown, shown_by, seen_at, Shows, Comes, here, on}
 use Rattle.c65_link_law_spots.proofs.Places.{places_are_placements}
 use Rattle.c65_link_law_laid.proofs.Linked.{linked_codes_are_laid, library_chosen}

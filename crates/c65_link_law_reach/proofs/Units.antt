@@ -1,12 +1,12 @@
 -- The runtime of a linked code, by itself.
-use Rattle.std.proofs.Common.{◌≡◌, ℕ, zero, suc, ◌+◌, ◌-◌, ◌<◌, ◌≤◌, ◌==◌, ◌&&◌, ◌||◌, ◌⊎◌, inl, inr, not, Bool, true, false, nat_lt, nat_eq, if◌then◌else◌, IsTrue, List, [], ◌∷◌, Option, Some, None, unwrap_or, length, slice_get, slice_index, refl, ap, sym, ◌∙◌, subst, arith, ltb-true, eqb-true}
+use Rattle.std.proofs.Common.{◌≡◌, ℕ, zero, suc, ◌+◌, ◌-◌, ◌<◌, ◌≤◌, ◌==◌, ◌&&◌, ◌||◌, ◌⊎◌, inl, inr, not, Bool, true, false, nat_lt, nat_eq, if◌then◌else◌, IsTrue, List, [], ◌∷◌, Option, Some, None, unwrap_or, length, slice_get, refl, ap, sym, ◌∙◌, subst, arith, ltb-true, eqb-true}
 use Rattle.std.specs.List.{list_all, list_any}
 use Rattle.std.proofs.lemmas.Bool.{cases_lt, ne_eqb, and_parts, and_from, or_cases, or_left, or_right, lt-ltb, le-ltb, eq-eqb, not-true}
 use Rattle.c65_base.specs.declared.library.Library.{Library}
 use Rattle.c65_mach.specs.declared.rows.Op.{Op}
 use Rattle.c65_mach.specs.declared.rows.Op.TheVariants as ops
 use Rattle.c65_mach.specs.declared.rows.Mode.{Mode}
-use Rattle.c65_mach.specs.Step.{Kind, Reads, Stores, Changes, Branches, Registers, Moves, kind_of}
+use Rattle.c65_mach.specs.Step.{Kind, Branches, Moves, kind_of}
 use Rattle.c65_code.specs.declared.parts.RegSet.{RegSet}
 use Rattle.c65_code.specs.declared.routine.Routine.{Routine}
 use Rattle.c65_code.specs.declared.routine.Routine.TheVariants as routines
@@ -14,18 +14,17 @@ use Rattle.c65_code.specs.declared.routine.TheConstants.Routine.{ALL}
 use Rattle.c65_code.specs.Numbering.{number_of}
 use Rattle.c65_code.specs.declared.line.Operand.{Operand}
 use Rattle.c65_code.specs.declared.line.Operand.TheVariants as operands
-use Rattle.c65_code.specs.declared.line.Callee.{Callee}
 use Rattle.c65_code.specs.declared.line.Callee.TheVariants as callees
 use Rattle.c65_code.specs.declared.line.Line.{Line}
 use Rattle.c65_code.specs.declared.line.Line.TheVariants.{Label, Do, Call}
 use Rattle.c65_code.specs.declared.code.Code.{Code}
-use Rattle.c65_code.specs.LineState.{Place, State}
+use Rattle.c65_code.specs.LineState.{Place}
 use Rattle.c65_code.specs.Placement.{is_function_of, segment_of}
 use Rattle.c65_code.specs.Segments.{labels_of, is_among}
 use Rattle.c65_code.specs.Moves.{labelled, settle}
-use Rattle.c65_code.specs.Forms.{Form, Run, Enter, Through, Plain, op_form, move_form, jump_form, branch_form, form_of}
+use Rattle.c65_code.specs.Forms.{Form, Run, Enter, Through, op_form, move_form, jump_form, branch_form, form_of}
 use Rattle.c65_code.specs.RawMachine.{RawSetting, entry_of, target_of}
-use Rattle.c65_link.specs.Bytes.{Spot, callee_address}
+use Rattle.c65_link.specs.Bytes.{Spot}
 use Rattle.c65_link.specs.Runtime.{has_lines, routine_lines}
 use Rattle.c65_link_law.specs.Coded.{Memory}
 use Rattle.c65_link_law.specs.Placed.{routines_in}
@@ -290,9 +289,9 @@ entry_same code args m n = by (nat_lt n (length code.symbols)) refl (n == start_
         let other : n ≡ start_number code → ⊥ = λ same. (let z : true ≡ false = sym (eq-eqb n (start_number code) same) ∙ f in absurd cc) in
         let beyond : n - length code.symbols ≡ routine_count → ⊥ = λ h. (let low = not_less n (length code.symbols) e in other (omega (arith, low, h))) in
         let own : unit_lines code n ≡ (runtime_in code args).lines n = not_the_start code n other
-            ∙ ap (λ (b : Bool). if b then (segment_of code.functions n).lines else runtime_lines code (n - length code.symbols)) e
-            ∙ ap (λ (b : Bool). if b then routine_lines (entry_routine code) else lines_by (slice_get ALL (n - length code.symbols))) (ne_eqb (n - length code.symbols) routine_count beyond)
-            ∙ sym (ap (λ (b : Bool). if b then [] else lines_by (slice_get ALL (n - length code.symbols))) e) in
+        ∙ ap (λ (b : Bool). if b then (segment_of code.functions n).lines else runtime_lines code (n - length code.symbols)) e
+        ∙ ap (λ (b : Bool). if b then routine_lines (entry_routine code) else lines_by (slice_get ALL (n - length code.symbols))) (ne_eqb (n - length code.symbols) routine_count beyond)
+        ∙ sym (ap (λ (b : Bool). if b then [] else lines_by (slice_get ALL (n - length code.symbols))) e) in
         ap (λ (ls : List Line). place_at code m (n, settle ls 0)) own
 
 pub no_start : (code : Code) (r : Routine) → is_start r ≡ false → IsNoStart code (length code.symbols + number_of r)

@@ -12,7 +12,7 @@ use Rattle.c65_code.specs.RawMachine.{IsRuntime}
 use Rattle.c65_link.specs.Linked.{linked_for}
 use Rattle.c65_link_law_spots.specs.Places.{place_in}
 use Rattle.c65_link_law_spots.specs.Sound.{IsSound}
-use Rattle.c65_link_law_follow.specs.Agree.{Ground, Agrees}
+use Rattle.c65_link_law_follow.specs.Agree.{Agrees}
 use Rattle.c65_link_law_laid.specs.Linked.{raw_in}
 use Rattle.c65_link_law_laid.specs.Laws.{AreLineNumbers}
 use Rattle.c65_link_law_runs.specs.Follows.{IsSetFor, IsRunning}

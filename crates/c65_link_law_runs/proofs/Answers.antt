@@ -1,27 +1,26 @@
 -- What the simulator does at a hook, where its state agrees with that of the lines.
-use Rattle.std.proofs.Common.{◌≡◌, ℕ, zero, suc, ◌+◌, ◌*◌, ◌%◌, ◌/◌, ◌-◌, ◌<◌, ◌≤◌, ◌==◌, ◌&&◌, ◌⊎◌, inl, inr, Bool, true, false, nat_lt, nat_le, if◌then◌else◌, IsTrue, List, [], ◌∷◌, ◌++◌, length, take, drop, All, Option, Some, None, refl, ap, sym, ◌∙◌, subst, arith}
+use Rattle.std.proofs.Common.{◌≡◌, ℕ, zero, suc, ◌+◌, ◌%◌, ◌/◌, ◌<◌, ◌≤◌, ◌==◌, ◌⊎◌, inl, inr, Bool, true, false, nat_lt, if◌then◌else◌, IsTrue, List, [], ◌∷◌, ◌++◌, length, take, drop, All, None, refl, ap, sym, ◌∙◌, subst, arith}
 use Rattle.std.proofs.lemmas.Bool.{ne_eqb}
-use Rattle.std.proofs.lemmas.List.Elements.{All-nil, All-cons, All-head, All-tail, All-append}
+use Rattle.std.proofs.lemmas.List.Elements.{All-nil, All-cons, All-head, All-tail}
 use Rattle.c65_mach.specs.State.{Regs, read, write as write_byte, State as Machine}
-use Rattle.c65_mach.specs.Step.{after, word_at as word_in, returned, row_at}
+use Rattle.c65_mach.specs.Step.{after, word_at as word_in, row_at}
 use Rattle.c65_mach.specs.Hooks.{put_word, put_bytes, bytes_from, hooked, opened, closed, given_args}
-use Rattle.c65_mach.specs.Run.{Setting, Moment, Progress, Running, Ended, turn, with_machine, reads, writes, row_done, is_hook}
+use Rattle.c65_mach.specs.Run.{Setting, Moment, Progress, Ended, turn, with_machine, reads, writes, row_done, is_hook}
 use Rattle.c65_mach.specs.Step.{step}
 use Rattle.c65_sim.specs.Budgets.{is_too_deep, row_pushes}
 use Rattle.c65_code.specs.declared.parts.Part.{Part}
 use Rattle.c65_code.specs.declared.parts.Part.TheVariants.{A, X, Y, Zp, N, V, Z, C}
 use Rattle.c65_code.specs.declared.parts.RegSet.{RegSet}
 use Rattle.c65_code.specs.declared.routine.Routine.{Routine}
-use Rattle.c65_code.specs.declared.routine.Routine.TheVariants as routines
 use Rattle.c65_code.specs.declared.routine.Width.TheVariants.{Ax}
 use Rattle.c65_code.specs.Parts.{no_parts, has_part, union_of}
 use Rattle.c65_code.specs.Effects.{ax as ax_parts, sp_bytes}
 use Rattle.c65_code.specs.Texts.{bytes_at, range_of, listed}
-use Rattle.c65_code.specs.LineState.{Place, State, Frame, Bytes, write, word_at, sp_of, ax_of, Same, IsBytes}
+use Rattle.c65_code.specs.LineState.{Place, State, Frame, Bytes, write, word_at, sp_of, Same, IsBytes}
 use Rattle.c65_code.specs.Placement.{stack_start, stack_end}
 use Rattle.c65_code.specs.Rows.{Row, Meets, written, giving}
-use Rattle.c65_code.specs.Moves.{Ref, ZeroAt, MemAt, put}
-use Rattle.c65_code.specs.RawMachine.{RawSetting, Bounds, IsReachable, quiet, called}
+use Rattle.c65_code.specs.Moves.{ZeroAt, MemAt, put}
+use Rattle.c65_code.specs.RawMachine.{RawSetting, Bounds, IsReachable, quiet}
 use Rattle.c65_link_law_follow.specs.Agree.{Ground, Agrees}
 use Rattle.c65_link_law_follow.specs.Laid.{IsGround}
 use Rattle.c65_link_law_follow.proofs.Local.{on_regs, on_put}

@@ -1,38 +1,24 @@
 -- `args` lays the arguments on the software stack.
-use Rattle.std.proofs.Common.{◌≡◌, ℕ, zero, suc, ◌+◌, ◌*◌, ◌%◌, ◌/◌, ◌-◌, ◌<◌, ◌≤◌, ◌==◌, ◌&&◌, Bool, true, false, if◌then◌else◌, IsTrue, List, [], ◌∷◌, ◌++◌, length, take, drop, All, Option, Some, None, slice_get, refl, ap, sym, ◌∙◌, subst, arith}
-use Rattle.std.proofs.lemmas.List.{append-nil, length-append}
-use Rattle.std.proofs.lemmas.List.Elements.{All-nil, All-cons, All-head, All-tail, All-append, All-take, All-drop}
-use Rattle.c65_mach.specs.State.{Regs, read, State as Machine}
+use Rattle.std.proofs.Common.{◌≡◌, ℕ, ◌+◌, ◌*◌, ◌%◌, ◌/◌, ◌-◌, ◌<◌, ◌≤◌, List, [], ◌∷◌, ◌++◌, length, All, refl, ap, sym, ◌∙◌, subst, arith}
+use Rattle.std.proofs.lemmas.List.{length-append}
+use Rattle.std.proofs.lemmas.List.Elements.{All-nil, All-cons, All-head, All-tail, All-append}
+use Rattle.c65_mach.specs.State.{State as Machine}
 use Rattle.c65_mach.specs.Step.{after, word_at as word_in}
-use Rattle.c65_mach.specs.Hooks.{ax as ax_in, put_word, put_bytes, bytes_from, hooked, opened, closed, buffer_of, descriptor_of, read_into, not_served, laid_args, below, given_args}
-use Rattle.c65_mach.specs.Hooks.{written as served}
-use Rattle.c65_mach.specs.Run.{Setting, Moment, Progress, Running, Ended, turn, with_machine, reads, writes, is_hook}
-use Rattle.c65_sim.specs.Budgets.{is_too_deep}
-use Rattle.c65_code.specs.declared.routine.Routine.{Routine}
+use Rattle.c65_mach.specs.Hooks.{ax as ax_in, put_word, put_bytes, hooked, laid_args, below, given_args}
+use Rattle.c65_mach.specs.Run.{Setting, Moment, Running, with_machine}
 use Rattle.c65_code.specs.declared.routine.Routine.TheVariants as routines
 use Rattle.c65_code.specs.declared.routine.Width.TheVariants.{Ax}
-use Rattle.c65_code.specs.declared.line.Callee.TheVariants as callees
-use Rattle.c65_code.specs.declared.line.Line.{Line}
-use Rattle.c65_code.specs.declared.line.Line.TheVariants.{Call}
-use Rattle.c65_code.specs.Parts.{has_part}
-use Rattle.c65_code.specs.declared.parts.Part.{Part}
-use Rattle.c65_code.specs.declared.parts.Part.TheVariants.{A, X, Y, Zp, N, V, Z, C}
-use Rattle.c65_code.specs.Effects.{ax as ax_parts}
-use Rattle.c65_code.specs.Texts.{bytes_at, range_of, listed}
-use Rattle.c65_code.specs.LineState.{Place, State, write, word_at, sp_of, ax_of, s_of, Same, IsBytes}
+use Rattle.c65_code.specs.Texts.{listed}
+use Rattle.c65_code.specs.LineState.{Place, State, write, sp_of, ax_of}
 use Rattle.c65_code.specs.Placement.{stack_start, stack_end}
-use Rattle.c65_code.specs.Forms.{Form, Run, form_of}
-use Rattle.c65_code.specs.Rows.{Row, Meets, written, giving, popping, word_bytes}
-use Rattle.c65_code.specs.RawMachine.{RawSetting, Bounds, IsReachable, IsHookWithin, IsRawWithin, RawMoves, quiet, called, line_after, arg_writes, args_size}
-use Rattle.c65_link.specs.Bytes.{callee_address}
-use Rattle.c65_link_law_follow.specs.Agree.{Ground, Agrees, none, more}
-use Rattle.c65_link_law_follow.specs.Laid.{IsLaid, IsGround}
-use Rattle.c65_link_law_follow.proofs.Bytes.{Moved}
-use Rattle.c65_link_law_follow.proofs.Follow.{call_moves, room_for}
-use Rattle.c65_link_law_runs.specs.Follows.{Follows, goes_on, has_ended, IsSetFor, IsRunning, HasArgumentRoom}
-use Rattle.c65_link_law_runs.specs.Laws.{Leads}
-use Rattle.c65_link_law_runs.proofs.Answers.{turn_at, turn_there, hooks_are_free, IsOpenAt, all_open, range_open, on_bytes, on_word, on_sp, on_streams, sp_there, word_there, bytes_there, on_answer, hook_row_by, answered, met, IsByte, IsByteWrite, listed_bytes, answered_bytes, taken_most, drop_taken, on_both}
-use Rattle.c65_link_law_runs.proofs.Hooks.{Served, ends_well, no_output, Four, four, buffer_there, descriptor_there, popped_to, ax_there, ax_low, refuses, IsMetBy}
+use Rattle.c65_code.specs.Forms.{Run}
+use Rattle.c65_code.specs.Rows.{Row, written, giving, word_bytes}
+use Rattle.c65_code.specs.RawMachine.{RawSetting, quiet, called, arg_writes, args_size}
+use Rattle.c65_link_law_follow.specs.Agree.{Ground, Agrees}
+use Rattle.c65_link_law_follow.specs.Laid.{IsGround}
+use Rattle.c65_link_law_runs.specs.Follows.{IsSetFor, IsRunning, HasArgumentRoom}
+use Rattle.c65_link_law_runs.proofs.Answers.{turn_there, range_open, on_bytes, on_word, on_sp, sp_there, answered, met, IsByte, IsByteWrite, listed_bytes, answered_bytes, on_both}
+use Rattle.c65_link_law_runs.proofs.Hooks.{Served, ends_well, no_output, ax_there, IsMetBy}
 
 -- The arguments, one below the other
 
@@ -106,8 +92,8 @@ args_served g s setting back t n ground set room a fits =
     record {
       next = record n3 { machine = hooked (length args) n3.machine; input = n.input; output = n.output };
       turn_is = turn_there setting n 0xFFF8 a.pc ∙ ap (λ (x : ℕ). with_machine n (given_args x setting.args m)) set.sp ∙ ap (λ (xs : List (List ℕ)). with_machine n (given_args 0 xs m)) set.args
-        ∙ ap (λ (w : ℕ). Running (record n { machine = hooked (length args) (record m { mem = put_word (put_word (laid_args args b b m.mem).0 0 w) (ax_in m) b }) })) to_is
-        ∙ ap (λ (w : ℕ). Running (record n { machine = hooked (length args) (record m { mem = put_word n2.machine.mem (ax_in m) w }) })) list_is;
+          ∙ ap (λ (w : ℕ). Running (record n { machine = hooked (length args) (record m { mem = put_word (put_word (laid_args args b b m.mem).0 0 w) (ax_in m) b }) })) to_is
+          ∙ ap (λ (w : ℕ). Running (record n { machine = hooked (length args) (record m { mem = put_word n2.machine.mem (ax_in m) w }) })) list_is;
       agrees = ends_well g 0xFFF8 back t n3 (length args) (list - args_size args) (arg_writes args list list ++ listed (word_bytes list) (ax_of t)) 0 [] n.input n.output fits four_ a.input (no_output n t a.output);
     }
 

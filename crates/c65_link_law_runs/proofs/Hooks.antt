@@ -1,37 +1,23 @@
 -- Calls of hooks are followed by two rows: the call, and the hook, which returns.
-use Rattle.std.proofs.Common.{◌≡◌, ℕ, zero, suc, ◌+◌, ◌*◌, ◌%◌, ◌/◌, ◌-◌, ◌<◌, ◌≤◌, ◌==◌, ◌&&◌, Bool, true, false, if◌then◌else◌, IsTrue, List, [], ◌∷◌, ◌++◌, length, take, drop, All, Option, Some, None, slice_get, refl, ap, sym, ◌∙◌, subst, arith}
+use Rattle.std.proofs.Common.{◌≡◌, ℕ, ◌+◌, ◌*◌, ◌%◌, ◌/◌, ◌<◌, ◌≤◌, ◌==◌, Bool, true, false, if◌then◌else◌, List, [], ◌++◌, length, take, drop, All, Some, None, refl, ap, sym, ◌∙◌, subst, arith}
 use Rattle.std.proofs.lemmas.List.{append-nil}
-use Rattle.std.proofs.lemmas.List.Elements.{All-nil, All-cons, All-head, All-tail, All-append, All-take, All-drop}
-use Rattle.c65_mach.specs.State.{Regs, read, State as Machine}
+use Rattle.std.proofs.lemmas.List.Elements.{All-nil, All-head, All-tail, All-take, All-drop}
+use Rattle.c65_mach.specs.State.{Regs, State as Machine}
 use Rattle.c65_mach.specs.Step.{after, word_at as word_in}
-use Rattle.c65_mach.specs.Hooks.{ax as ax_in, put_word, put_bytes, bytes_from, hooked, opened, closed, buffer_of, descriptor_of, read_into, not_served, laid_args, below, given_args}
-use Rattle.c65_mach.specs.Hooks.{written as served}
-use Rattle.c65_mach.specs.Run.{Setting, Moment, Progress, Running, Ended, turn, with_machine, reads, writes, is_hook}
-use Rattle.c65_sim.specs.Budgets.{is_too_deep}
-use Rattle.c65_code.specs.declared.routine.Routine.{Routine}
+use Rattle.c65_mach.specs.Hooks.{ax as ax_in, put_word, put_bytes, hooked, buffer_of, descriptor_of, read_into, not_served}
+use Rattle.c65_mach.specs.Run.{Setting, Moment, Progress, Running, turn, with_machine, reads, is_hook}
 use Rattle.c65_code.specs.declared.routine.Routine.TheVariants as routines
 use Rattle.c65_code.specs.declared.routine.Width.TheVariants.{Ax}
-use Rattle.c65_code.specs.declared.line.Callee.TheVariants as callees
-use Rattle.c65_code.specs.declared.line.Line.{Line}
-use Rattle.c65_code.specs.declared.line.Line.TheVariants.{Call}
-use Rattle.c65_code.specs.Parts.{has_part}
-use Rattle.c65_code.specs.declared.parts.Part.{Part}
-use Rattle.c65_code.specs.declared.parts.Part.TheVariants.{A, X, Y, Zp, N, V, Z, C}
-use Rattle.c65_code.specs.Effects.{ax as ax_parts}
-use Rattle.c65_code.specs.Texts.{bytes_at, range_of, listed}
-use Rattle.c65_code.specs.LineState.{Place, State, write, word_at, sp_of, ax_of, s_of, Same, IsBytes}
+use Rattle.c65_code.specs.Texts.{range_of, listed}
+use Rattle.c65_code.specs.LineState.{Place, State, write, word_at, sp_of, ax_of, IsBytes}
 use Rattle.c65_code.specs.Placement.{stack_start, stack_end}
-use Rattle.c65_code.specs.Forms.{Form, Run, form_of}
-use Rattle.c65_code.specs.Rows.{Row, Meets, written, giving, popping, word_bytes}
-use Rattle.c65_code.specs.RawMachine.{RawSetting, Bounds, IsReachable, IsHookWithin, IsRawWithin, RawMoves, quiet, called, line_after, arg_writes, args_size}
-use Rattle.c65_link.specs.Bytes.{callee_address}
+use Rattle.c65_code.specs.Rows.{Row, Meets, written, giving, popping}
+use Rattle.c65_code.specs.RawMachine.{RawSetting, Bounds, IsReachable, IsHookWithin, quiet, called}
 use Rattle.c65_link_law_follow.specs.Agree.{Ground, Agrees, none, more}
-use Rattle.c65_link_law_follow.specs.Laid.{IsLaid, IsGround}
+use Rattle.c65_link_law_follow.specs.Laid.{IsGround}
 use Rattle.c65_link_law_follow.proofs.Bytes.{Moved}
-use Rattle.c65_link_law_follow.proofs.Follow.{call_moves, room_for}
-use Rattle.c65_link_law_runs.specs.Follows.{Follows, goes_on, has_ended, IsSetFor, IsRunning, HasArgumentRoom}
-use Rattle.c65_link_law_runs.specs.Laws.{Leads}
-use Rattle.c65_link_law_runs.proofs.Answers.{turn_at, turn_there, hooks_are_free, IsOpenAt, all_open, range_open, on_bytes, on_word, on_sp, on_streams, sp_there, word_there, bytes_there, on_answer, hook_row_by, answered, met, IsByte, IsByteWrite, listed_bytes, answered_bytes, taken_most, drop_taken, on_both}
+use Rattle.c65_link_law_runs.specs.Follows.{Follows, goes_on, IsSetFor, IsRunning}
+use Rattle.c65_link_law_runs.proofs.Answers.{turn_there, hooks_are_free, IsOpenAt, all_open, on_bytes, on_sp, on_streams, sp_there, word_there, on_answer, answered, met, IsByte, IsByteWrite, listed_bytes, answered_bytes, taken_most, drop_taken}
 
 -- a hook's turn: what it leads to, where the states agree again behind the call
 pub record Served (g : Ground) (setting : Setting) (back : Place) (u : State) (n : Moment) : Type 0 where
@@ -139,9 +125,9 @@ into_buffer g setting back t n a f fits all is =
     record {
       next = record done { machine = hooked (length bytes) done.machine; input = drop (ax_of t) t.input; output = n.output };
       turn_is = is
-        ∙ ap (λ (w : ℕ). Running (record n { machine = hooked (length (take (ax_in m) n.input)) (record m { mem = put_bytes (put_word m.mem 0 w) (buffer_of 0 m) (take (ax_in m) n.input) }); input = drop (ax_in m) n.input })) (popped_to g 0xFFF6 t1 n a f1)
-        ∙ ap (λ (k : ℕ). Running (record n { machine = hooked (length (take k n.input)) (record m { mem = put_bytes (put_word m.mem 0 (sp_of t + 4)) (buffer_of 0 m) (take k n.input) }); input = drop k n.input })) (ax_there g 0xFFF6 t1 n a)
-        ∙ ap (λ (xs : List ℕ). Running (record n { machine = hooked (length (take (ax_of t) xs)) (record m { mem = put_bytes (put_word m.mem 0 (sp_of t + 4)) (buffer_of 0 m) (take (ax_of t) xs) }); input = drop (ax_of t) xs })) a.input;
+          ∙ ap (λ (w : ℕ). Running (record n { machine = hooked (length (take (ax_in m) n.input)) (record m { mem = put_bytes (put_word m.mem 0 w) (buffer_of 0 m) (take (ax_in m) n.input) }); input = drop (ax_in m) n.input })) (popped_to g 0xFFF6 t1 n a f1)
+          ∙ ap (λ (k : ℕ). Running (record n { machine = hooked (length (take k n.input)) (record m { mem = put_bytes (put_word m.mem 0 (sp_of t + 4)) (buffer_of 0 m) (take k n.input) }); input = drop k n.input })) (ax_there g 0xFFF6 t1 n a)
+          ∙ ap (λ (xs : List ℕ). Running (record n { machine = hooked (length (take (ax_of t) xs)) (record m { mem = put_bytes (put_word m.mem 0 (sp_of t + 4)) (buffer_of 0 m) (take (ax_of t) xs) }); input = drop (ax_of t) xs })) a.input;
       agrees = ends_well g 0xFFF6 back t done (length bytes) (sp_of t + 4) (listed bytes (word_at t.mem (sp_of t))) (length bytes) [] (drop (ax_of t) t.input) n.output fits agrees (sym (drop_taken (ax_of t) t.input)) (no_output n t a.output);
     }
 

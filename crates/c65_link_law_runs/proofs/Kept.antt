@@ -1,25 +1,23 @@
 -- Lines that call no hook leave bytes, the input and a run that goes on.
-use Rattle.std.proofs.Common.{◌≡◌, ℕ, suc, ◌+◌, ◌*◌, ◌%◌, ◌/◌, ◌-◌, ◌<◌, ◌≤◌, ◌==◌, ◌&&◌, not, Bool, true, false, if◌then◌else◌, bit_and, List, [], ◌∷◌, length, All, Option, Some, None, slice_get, refl, ap, sym, ◌∙◌, subst, arith}
-use Rattle.std.proofs.lemmas.Bool.{and_parts}
+use Rattle.std.proofs.Common.{◌≡◌, ℕ, ◌+◌, ◌*◌, ◌%◌, ◌/◌, ◌<◌, ◌==◌, Bool, true, false, if◌then◌else◌, bit_and, List, [], ◌∷◌, All, Option, refl, sym, subst, arith}
 use Rattle.std.proofs.lemmas.Nat.{or_of_8, xor_of_8, and_le_l}
 use Rattle.std.proofs.lemmas.List.Elements.{All-nil, All-cons, All-head, All-tail}
 use Rattle.c65_mach.specs.declared.rows.Op.{Op}
 use Rattle.c65_mach.specs.declared.rows.Op.TheVariants as ops
 use Rattle.c65_mach.specs.declared.rows.Mode.{Mode}
-use Rattle.c65_mach.specs.declared.rows.Mode.TheVariants.{Implied, Accumulator, Immediate, ZeroPage, ZeroPageX, ZeroPageY, Absolute, AbsoluteX, AbsoluteY, IndirectX, IndirectY, Indirect, Relative, ZeroPageIndirect, AbsoluteIndirectX}
+use Rattle.c65_mach.specs.declared.rows.Mode.TheVariants.{Accumulator, Immediate, ZeroPage, ZeroPageX, ZeroPageY, Absolute, AbsoluteX, AbsoluteY, IndirectX, IndirectY, ZeroPageIndirect}
 use Rattle.c65_mach.specs.State.{Regs}
-use Rattle.c65_mach.specs.Step.{bit, apply, stored, changed, signed, with_a, with_x, Kind, Reads, Stores, Changes, Branches, Registers, Moves, kind_of}
-use Rattle.c65_code.specs.declared.parts.RegSet.{RegSet}
+use Rattle.c65_mach.specs.Step.{bit, apply, stored, changed, signed, with_a, Kind, Reads, Stores, Changes, Registers, kind_of}
 use Rattle.c65_code.specs.declared.line.Operand.{Operand}
 use Rattle.c65_code.specs.declared.line.Operand.TheVariants as operands
 use Rattle.c65_code.specs.Parts.{no_parts}
-use Rattle.c65_code.specs.LineState.{Place, Bytes, write, State, Frame, s_of, IsBytes}
+use Rattle.c65_code.specs.LineState.{Place, Bytes, write, State, Frame, IsBytes}
 use Rattle.c65_code.specs.Placement.{Placement, word_of}
 use Rattle.c65_code.specs.Segments.{takes}
 use Rattle.c65_code.specs.Forms.{Form, Mark, Plain, Branch, Jump, Far, Push, Pull, Depth, Return, Run, Enter, Through, Stray}
 use Rattle.c65_code.specs.Rows.{Row}
-use Rattle.c65_code.specs.Moves.{Ref, Given, ZeroAt, MemAt, ref_of, value_at, put, change, effect, Does}
-use Rattle.c65_code.specs.RawMachine.{RawSetting, RawGoes, RawRuns, RawReturns, hook_row, called}
+use Rattle.c65_code.specs.Moves.{Ref, Given, ZeroAt, MemAt, ref_of, value_at, put, change, effect}
+use Rattle.c65_code.specs.RawMachine.{RawSetting, RawGoes, RawRuns, RawReturns, called}
 use Rattle.c65_link_law_follow.specs.Laws.{IsNoHook}
 
 -- Registers

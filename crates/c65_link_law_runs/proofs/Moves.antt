@@ -1,13 +1,12 @@
 -- Each line that stays within its bounds is followed, calls of hooks too.
-use Rattle.std.proofs.Common.{◌≡◌, ℕ, suc, ◌+◌, ◌*◌, ◌<◌, ◌≤◌, ◌==◌, ◌&&◌, not, Bool, true, false, List, [], ◌∷◌, ◌++◌, length, All, Option, Some, None, slice_get, refl, ap, sym, ◌∙◌, subst, arith}
+use Rattle.std.proofs.Common.{◌≡◌, ℕ, ◌+◌, ◌<◌, ◌≤◌, ◌==◌, ◌&&◌, not, Bool, true, false, List, All, Option, Some, slice_get, refl, ap, sym, ◌∙◌, subst, arith}
 use Rattle.std.proofs.lemmas.Bool.{and_parts}
 use Rattle.std.proofs.lemmas.List.{append-nil}
-use Rattle.std.proofs.lemmas.List.Elements.{All-nil}
 use Rattle.c65_mach.specs.declared.rows.Op.{Op}
 use Rattle.c65_mach.specs.declared.rows.Op.TheVariants as ops
 use Rattle.c65_mach.specs.declared.rows.Mode.{Mode}
 use Rattle.c65_mach.specs.State.{Regs}
-use Rattle.c65_mach.specs.Step.{Kind, Reads, Stores, Changes, Branches, Registers, Moves, kind_of}
+use Rattle.c65_mach.specs.Step.{Kind, Branches, Moves, kind_of}
 use Rattle.c65_mach.specs.Run.{Setting, Moment, Ended, is_hook}
 use Rattle.c65_code.specs.declared.parts.Part.{Part}
 use Rattle.c65_code.specs.declared.parts.Part.TheVariants.{A, X, Y, Zp, N, V, Z, C}
@@ -19,14 +18,14 @@ use Rattle.c65_code.specs.declared.line.Callee.{Callee}
 use Rattle.c65_code.specs.declared.line.Callee.TheVariants as callees
 use Rattle.c65_code.specs.declared.line.Line.{Line}
 use Rattle.c65_code.specs.declared.line.Line.TheVariants.{Label, Do, Call}
-use Rattle.c65_code.specs.LineState.{Place, State, word_at, sp_of, s_of, Same, IsBytes}
+use Rattle.c65_code.specs.LineState.{Place, State, word_at, sp_of, s_of, Same}
 use Rattle.c65_code.specs.Placement.{stack_start}
 use Rattle.c65_code.specs.Segments.{has_row, takes, is_barred}
 use Rattle.c65_code.specs.Forms.{Form, Run, op_form, move_form, jump_form, branch_form, form_of}
 use Rattle.c65_code.specs.Rows.{Row, Meets}
 use Rattle.c65_code.specs.RawMachine.{RawSetting, Bounds, IsHookWithin, IsRawWithin, RawRuns, raw_weight, hook_row, quiet, called, line_after}
 use Rattle.c65_link.specs.Bytes.{callee_address}
-use Rattle.c65_link_law_follow.specs.Agree.{Ground, Agrees, Arrives, none, more}
+use Rattle.c65_link_law_follow.specs.Agree.{Ground, Agrees, none, more}
 use Rattle.c65_link_law_follow.specs.Laid.{IsLaid, IsGround, IsOperandNumber}
 use Rattle.c65_link_law_follow.specs.Laws.{IsNoHook, IsCounted}
 use Rattle.c65_link_law_follow.proofs.Bytes.{Moved}

@@ -1,15 +1,13 @@
 -- Runs of lines are followed, by induction on how they come to what they come to.
-use Rattle.std.proofs.Common.{◌≡◌, ℕ, zero, suc, ◌+◌, ◌<◌, ◌≤◌, Bool, true, false, IsTrue, List, [], ◌∷◌, All, Option, Some, None, slice_get, refl, ap, sym, ◌∙◌, subst, arith}
+use Rattle.std.proofs.Common.{◌≡◌, ℕ, zero, suc, ◌+◌, ◌≤◌, Bool, IsTrue, List, [], ◌∷◌, All, Option, Some, None, slice_get, refl, ap, sym, ◌∙◌, subst, arith}
 use Rattle.std.proofs.lemmas.List.Elements.{All-cons, All-head, All-tail}
-use Rattle.c65_mach.specs.declared.rows.Op.{Op}
 use Rattle.c65_mach.specs.Step.{kind_of}
-use Rattle.c65_mach.specs.Run.{Setting, Moment, Ended, turn}
-use Rattle.c65_sim.specs.Budgets.{is_too_deep}
+use Rattle.c65_mach.specs.Run.{Setting, Moment}
 use Rattle.c65_code.specs.declared.routine.Routine.{Routine}
 use Rattle.c65_code.specs.declared.routine.Routine.TheVariants as routines
 use Rattle.c65_code.specs.declared.line.Line.{Line}
 use Rattle.c65_code.specs.Parts.{no_parts}
-use Rattle.c65_code.specs.LineState.{Place, State, Frame, IsBytes}
+use Rattle.c65_code.specs.LineState.{Place, State, Frame}
 use Rattle.c65_code.specs.Placement.{stack_start, word_of}
 use Rattle.c65_code.specs.Forms.{Form, Mark, Plain, Branch, Jump, Far, Push, Pull, Depth, Return, Run, Enter, Through, Stray, form_of}
 use Rattle.c65_code.specs.Rows.{Row, Meets}

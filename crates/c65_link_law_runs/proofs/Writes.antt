@@ -1,37 +1,27 @@
 -- `write`, `open` and `close`.
-use Rattle.std.proofs.Common.{◌≡◌, ℕ, zero, suc, ◌+◌, ◌*◌, ◌%◌, ◌/◌, ◌-◌, ◌<◌, ◌≤◌, ◌==◌, ◌&&◌, Bool, true, false, if◌then◌else◌, IsTrue, List, [], ◌∷◌, ◌++◌, length, take, drop, All, Option, Some, None, slice_get, refl, ap, sym, ◌∙◌, subst, arith}
+use Rattle.std.proofs.Common.{◌≡◌, ℕ, ◌+◌, ◌%◌, ◌/◌, ◌<◌, ◌≤◌, ◌==◌, Bool, true, false, if◌then◌else◌, List, [], ◌++◌, All, Some, refl, ap, sym, ◌∙◌, arith}
 use Rattle.std.proofs.lemmas.List.{append-nil}
-use Rattle.std.proofs.lemmas.List.Elements.{All-nil, All-cons, All-head, All-tail, All-append, All-take, All-drop}
-use Rattle.c65_mach.specs.State.{Regs, read, State as Machine}
+use Rattle.std.proofs.lemmas.List.Elements.{All-nil}
+use Rattle.c65_mach.specs.State.{Regs, State as Machine}
 use Rattle.c65_mach.specs.Step.{after, word_at as word_in}
-use Rattle.c65_mach.specs.Hooks.{ax as ax_in, put_word, put_bytes, bytes_from, hooked, opened, closed, buffer_of, descriptor_of, read_into, not_served, laid_args, below, given_args}
+use Rattle.c65_mach.specs.Hooks.{ax as ax_in, put_word, bytes_from, hooked, opened, buffer_of, not_served}
 use Rattle.c65_mach.specs.Hooks.{written as served}
-use Rattle.c65_mach.specs.Run.{Setting, Moment, Progress, Running, Ended, turn, with_machine, reads, writes, is_hook}
-use Rattle.c65_sim.specs.Budgets.{is_too_deep}
-use Rattle.c65_code.specs.declared.routine.Routine.{Routine}
+use Rattle.c65_mach.specs.Run.{Setting, Moment, Progress, Running, turn, with_machine, writes}
 use Rattle.c65_code.specs.declared.routine.Routine.TheVariants as routines
 use Rattle.c65_code.specs.declared.routine.Width.TheVariants.{Ax}
-use Rattle.c65_code.specs.declared.line.Callee.TheVariants as callees
-use Rattle.c65_code.specs.declared.line.Line.{Line}
-use Rattle.c65_code.specs.declared.line.Line.TheVariants.{Call}
 use Rattle.c65_code.specs.Parts.{has_part}
 use Rattle.c65_code.specs.declared.parts.Part.{Part}
 use Rattle.c65_code.specs.declared.parts.Part.TheVariants.{A, X, Y, Zp, N, V, Z, C}
 use Rattle.c65_code.specs.Effects.{ax as ax_parts}
-use Rattle.c65_code.specs.Texts.{bytes_at, range_of, listed}
-use Rattle.c65_code.specs.LineState.{Place, State, write, word_at, sp_of, ax_of, s_of, Same, IsBytes}
-use Rattle.c65_code.specs.Placement.{stack_start, stack_end}
-use Rattle.c65_code.specs.Forms.{Form, Run, form_of}
-use Rattle.c65_code.specs.Rows.{Row, Meets, written, giving, popping, word_bytes}
-use Rattle.c65_code.specs.RawMachine.{RawSetting, Bounds, IsReachable, IsHookWithin, IsRawWithin, RawMoves, quiet, called, line_after, arg_writes, args_size}
-use Rattle.c65_link.specs.Bytes.{callee_address}
-use Rattle.c65_link_law_follow.specs.Agree.{Ground, Agrees, none, more}
-use Rattle.c65_link_law_follow.specs.Laid.{IsLaid, IsGround}
-use Rattle.c65_link_law_follow.proofs.Bytes.{Moved}
-use Rattle.c65_link_law_follow.proofs.Follow.{call_moves, room_for}
-use Rattle.c65_link_law_runs.specs.Follows.{Follows, goes_on, has_ended, IsSetFor, IsRunning, HasArgumentRoom}
-use Rattle.c65_link_law_runs.specs.Laws.{Leads}
-use Rattle.c65_link_law_runs.proofs.Answers.{turn_at, turn_there, hooks_are_free, IsOpenAt, all_open, range_open, on_bytes, on_word, on_sp, on_streams, sp_there, word_there, bytes_there, on_answer, hook_row_by, answered, met, IsByte, IsByteWrite, listed_bytes, answered_bytes, taken_most, drop_taken, on_both}
+use Rattle.c65_code.specs.Texts.{bytes_at, range_of}
+use Rattle.c65_code.specs.LineState.{Place, State, write, word_at, sp_of, ax_of, Same}
+use Rattle.c65_code.specs.Placement.{stack_start}
+use Rattle.c65_code.specs.Rows.{Row, giving, popping}
+use Rattle.c65_code.specs.RawMachine.{RawSetting, Bounds, IsHookWithin, quiet, called}
+use Rattle.c65_link_law_follow.specs.Agree.{Ground, Agrees}
+use Rattle.c65_link_law_follow.specs.Laid.{IsGround}
+use Rattle.c65_link_law_runs.specs.Follows.{IsSetFor, IsRunning}
+use Rattle.c65_link_law_runs.proofs.Answers.{turn_there, IsOpenAt, all_open, on_sp, sp_there, bytes_there, on_answer, answered, met, IsByteWrite, answered_bytes}
 use Rattle.c65_link_law_runs.proofs.Hooks.{Served, ends_well, no_output, Four, four, buffer_there, descriptor_there, popped_to, ax_there, ax_low, refuses, IsMetBy}
 
 -- `write`
@@ -66,8 +56,8 @@ from_buffer g setting back t n a f fits all is =
     record {
       next = record done { machine = hooked (ax_of t) done.machine; input = n.input; output = n.output ++ out };
       turn_is = is
-        ∙ ap (λ (w : ℕ). Running (record n { machine = hooked (ax_in m) (record m { mem = put_word m.mem 0 w }); output = n.output ++ bytes_from (put_word m.mem 0 w) (buffer_of 0 m) (ax_in m) })) (popped_to g 0xFFF7 t1 n a f1)
-        ∙ ap (λ (k : ℕ). Running (record n { machine = hooked k (record m { mem = put_word m.mem 0 (sp_of t + 4) }); output = n.output ++ bytes_from (put_word m.mem 0 (sp_of t + 4)) (buffer_of 0 m) k })) (ax_there g 0xFFF7 t1 n a);
+          ∙ ap (λ (w : ℕ). Running (record n { machine = hooked (ax_in m) (record m { mem = put_word m.mem 0 w }); output = n.output ++ bytes_from (put_word m.mem 0 w) (buffer_of 0 m) (ax_in m) })) (popped_to g 0xFFF7 t1 n a f1)
+          ∙ ap (λ (k : ℕ). Running (record n { machine = hooked k (record m { mem = put_word m.mem 0 (sp_of t + 4) }); output = n.output ++ bytes_from (put_word m.mem 0 (sp_of t + 4)) (buffer_of 0 m) k })) (ax_there g 0xFFF7 t1 n a);
       agrees = ends_well g 0xFFF7 back t done (ax_of t) (sp_of t + 4) [] 0 (bytes_at (ax_of t) (word_at t.mem (sp_of t)) t.mem) n.input (n.output ++ out) fits agrees a.input
           (ap (λ (xs : List ℕ). xs ++ out) a.output ∙ ap (λ (xs : List ℕ). t.output ++ xs) bytes);
     }

@@ -1,5 +1,5 @@
 -- What the processor has come to where lines have moved on.
-use Rattle.std.specs.Prelude.{◌≡◌, ℕ, ◌+◌, ◌*◌, ◌<◌, ◌≤◌, false, All, List, length, Option, Some, None}
+use Rattle.std.specs.Prelude.{◌≡◌, ℕ, ◌+◌, ◌*◌, ◌<◌, ◌≤◌, false, All, List, length, Some, None}
 use Rattle.c65_mach.specs.Run.{Setting, Moment, Ended, turn}
 use Rattle.c65_sim.specs.Budgets.{is_too_deep}
 use Rattle.c65_code.specs.declared.routine.Routine.TheVariants as routines
