@@ -25,6 +25,9 @@ use Rattle.c65_gendirect.specs.declared.direct.Direct.TheVariants as directs
 use Rattle.c65_gendirect.specs.declared.compare.Sides.{Sides}
 use Rattle.c65_gendirect.specs.declared.compare.Sides.TheVariants.{Word, Long}
 use Rattle.c65_gendirect.specs.declared.relation.Relation.{Relation}
+use Rattle.c65_gendirect.specs.declared.through.Stored.{Stored}
+use Rattle.c65_gendirect.specs.declared.through.Stored.TheVariants as stores
+use Rattle.c65_gendirect.specs.Through.{read_bytes_code, read_store_code, point_code, byte_through_code, word_through_code}
 use Rattle.c65_gendirect.specs.declared.relation.Relation.TheVariants as relations
 use Rattle.c65_gendirect.specs.Bytes.{op_of, takes_y, aside, back, number_byte, place_byte, byte_above, byte_of, converted}
 use Rattle.c65_gendirect.specs.Words.{instruction, carry_code, first_byte_code, both_bytes_code, onward_code, end_label, is_and, is_number, word_code, add_number_code, taken_from_code, long_mask_code}
@@ -34,9 +37,10 @@ use Rattle.c65_genshift.specs.declared.quick.Quick.{Quick}
 use Rattle.c65_genshift.specs.declared.quick.Quick.TheVariants.{Shift, Mask}
 use Rattle.c65_genshift.specs.Shifts.{calls_code, turns_code, left_turn, right_turn, shift_a, left_byte_code, right_byte_code, left_one_code, left_two_code, left_three_code, right_one_code, right_two_code, right_three_code, labelled, left_word_code, right_word_code, left_long_code, right_long_code, shift_code}
 use Rattle.c65_genshift.specs.Quick.{power_of, mask_word_code, mask_long_code, mask_by_width, quick_lines, quick_code, elements_by, elements_code}
-use Rattle.c65_mach.specs.declared.rows.Op.TheVariants.{Asl, Bne, Cmp, Cpx, Dey, Lda, Ldx, Ldy, Lsr, Ora, Sbc, Sec, Stx, Sty, Tax}
+use Rattle.c65_mach.specs.declared.rows.Op.TheVariants.{Asl, Bne, Cmp, Cpx, Dey, Lda, Ldx, Ldy, Lsr, Ora, Pla, Sbc, Sec, Sta, Stx, Sty, Tax, Txa}
 use Rattle.c65_genwide.specs.Lines.{value}
-use Rattle.c65_genload.specs.Words.{sreg, tmp1, tmp2, implied, zero_page, branch}
+use Rattle.c65_genload.specs.Words.{sreg, ptr1, tmp1, tmp2, implied, zero_page, by_y, branch}
+use Rattle.c65_genload.specs.Places.{byte_more}
 use Rattle.c65_asm_law.proofs.Well.{Well, AllWell, well_append, well_none, well_more, well_if}
 use Rattle.c65_asm_law.proofs.Loads.{WellPlace, narrow_well, mask_well, scale_well}
 
@@ -78,7 +82,7 @@ place_byte_well : (n : ℕ) (p : Place) (i : ℕ) → WellPlace n p → WellMayb
 place_byte_well n (places.Bank at) i h = omega arith
 place_byte_well n (places.Near at) i h = omega arith
 place_byte_well n (places.Data s at) i h = (h.0, omega arith)
-place_byte_well n places.Far i h = tt
+place_byte_well n (places.Far at) i h = tt
 
 above_well : (n : ℕ) (kind : IntType) → WellMaybe n (byte_above kind)
 above_well n kind = maybe_if n (is_signed_of kind) None (Some (bytes.Number 0)) tt (omega arith)
@@ -88,7 +92,7 @@ byte_well n (directs.Number m) i h = number_byte_well n m i
 byte_well n (directs.Address s at) i h = maybe_if n (i == 0) (Some (bytes.Low s at)) _ h (maybe_if n (i == 1) (Some (bytes.High s at)) None h tt)
 byte_well n (directs.Kept p kind) i h = maybe_if n (nat_lt i (size_of kind)) (place_byte p i) (byte_above kind) (place_byte_well n p i h) (above_well n kind)
 
-read_if : (n : ℕ) (b : Bool) (x y : Option Direct) → WellRead n x → WellRead n y → WellRead n (if b then x else y)
+pub read_if : (n : ℕ) (b : Bool) (x y : Option Direct) → WellRead n x → WellRead n y → WellRead n (if b then x else y)
 read_if n true x y p q = p
 read_if n false x y p q = q
 
@@ -104,6 +108,43 @@ op_well n op (bytes.High s at) h = record { all = ((tt, h), tt) }
 op_well n op (bytes.Near at) h = record { all = search (rules, h) }
 op_well n op (bytes.Data s at) h = record { all = ((tt, h), tt) }
 op_well n op (bytes.Zero at) h = record { all = ((tt, h), tt) }
+
+-- ---- stores through a pointer
+
+abbrev pub WellStored : ℕ → Stored → Type 0
+WellStored n (stores.Single low) = WellByte n low
+WellStored n (stores.Word low high) = WellByte n low × WellByte n high
+WellStored n (stores.Fixed low high) = WellByte n low × WellByte n high
+
+read_bytes_well : (n at : ℕ) (stored : Stored) → at < 2 ^ 8 → WellStored n stored → AllWell n (read_bytes_code at stored)
+read_bytes_well n at (stores.Single low) few h = well_append n (op_of Lda low) _ (op_well n Lda low h) (record { all = search (rules, few) })
+read_bytes_well n at (stores.Word low high) few h =
+    well_append n (op_of Lda low) _ (op_well n Lda low h.0) (well_more n _ _ (tt, tt) (well_append n (op_of Lda high) _ (op_well n Lda high h.1) (record { all = search rules })))
+read_bytes_well n at (stores.Fixed low high) few h =
+    let first : AllWell n (value Ldy (byte_more at 1) ∷ by_y Sta ptr1 ∷ implied Tax ∷ []) = record { all = search rules } in
+    let last : AllWell n (value Ldy at ∷ by_y Sta ptr1 ∷ []) = record { all = search (rules, few) } in
+    well_append n (op_of Lda high) _ (op_well n Lda high h.1) (well_append n (value Ldy (byte_more at 1) ∷ by_y Sta ptr1 ∷ implied Tax ∷ []) _ first (well_append n (op_of Lda low) _ (op_well n Lda low h.0) last))
+
+pub read_store_well : (n at : ℕ) (stored : Stored) → at < 2 ^ 8 → WellStored n stored → AllWell n (read_store_code at stored)
+read_store_well n at stored few h =
+    let to : AllWell n (zero_page Sta ptr1 ∷ zero_page Stx (ptr1 + 1) ∷ []) = record { all = search rules } in
+    well_append n (zero_page Sta ptr1 ∷ zero_page Stx (ptr1 + 1) ∷ []) (read_bytes_code at stored) to (read_bytes_well n at stored few h)
+
+point_well : (n : ℕ) (low high : OperandByte) → WellByte n low → WellByte n high → AllWell n (point_code low high)
+point_well n low high h k =
+    let first : AllWell n (zero_page Sta ptr1 ∷ []) = record { all = search rules } in
+    let second : AllWell n (zero_page Sta (ptr1 + 1) ∷ []) = record { all = search rules } in
+    well_append n (op_of Lda low) _ (op_well n Lda low h) (well_append n (zero_page Sta ptr1 ∷ []) _ first (well_append n (op_of Lda high) _ (op_well n Lda high k) second))
+
+pub byte_through_well : (n at : ℕ) (low high : OperandByte) → at < 2 ^ 8 → WellByte n low → WellByte n high → AllWell n (byte_through_code at low high)
+byte_through_well n at low high few h k =
+    let last : AllWell n (implied Txa ∷ value Ldy at ∷ by_y Sta ptr1 ∷ []) = record { all = search (rules, few) } in
+    well_more n _ _ (tt, tt) (well_append n (point_code low high) _ (point_well n low high h k) last)
+
+pub word_through_well : (n at : ℕ) (low high : OperandByte) → WellByte n low → WellByte n high → AllWell n (word_through_code at low high)
+word_through_well n at low high h k =
+    let last : AllWell n (value Ldy (byte_more at 1) ∷ implied Txa ∷ by_y Sta ptr1 ∷ implied Dey ∷ implied Pla ∷ by_y Sta ptr1 ∷ []) = record { all = search rules } in
+    well_more n _ _ (tt, tt) (well_append n (point_code low high) _ (point_well n low high h k) last)
 
 label_one : (n l : ℕ) → l < 2 ^ 32 → AllWell n (Label l ∷ [])
 label_one n l low = record { all = (low, tt) }

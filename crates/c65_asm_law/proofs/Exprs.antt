@@ -1,6 +1,6 @@
 -- The lines of a well typed expression can be written, and their numbers are of their types.
 use Rattle.std.proofs.Common.{◌≡◌, ℕ, ◌+◌, ◌<◌, ◌≤◌, ◌^◌, ◌==◌, Bool, true, false, Option, None, Some, List, [], ◌∷◌, ◌++◌, refl, subst, arith}
-use Rattle.std.specs.Prelude.{not}
+use Rattle.std.specs.Prelude.{not, if◌then◌else◌}
 use Rattle.std.proofs.lemmas.Option.{slice_get_within}
 use Rattle.c65_base.specs.declared.operators.UnaryOp.TheVariants.{Not}
 use Rattle.c65_base.specs.declared.operators.BinaryOp.{BinaryOp}
@@ -22,14 +22,18 @@ use Rattle.c65_genwide.specs.Wide.{width_of}
 use Rattle.c65_genload.specs.declared.places.Place.{Place}
 use Rattle.c65_genload.specs.declared.places.Place.TheVariants as places
 use Rattle.c65_genload.specs.declared.places.Access.{Access}
-use Rattle.c65_genload.specs.Places.{held, extent_of, extent_by}
+use Rattle.c65_genload.specs.Places.{extent_of, extent_by}
 use Rattle.c65_genload.specs.Places as kept
 use Rattle.c65_genload.specs.Conversions.{push_code, test_code, waiting}
+use Rattle.c65_genload.specs.Addresses.{offset_code}
 use Rattle.c65_genload.specs.Loads.{hold_code}
 use Rattle.c65_genload.specs.Stores.{store_code}
 use Rattle.c65_gendirect.specs.declared.direct.Direct.{Direct}
 use Rattle.c65_gendirect.specs.declared.relation.Relation.{Relation}
 use Rattle.c65_gendirect.specs.Compare.{relation_of}
+use Rattle.c65_gendirect.specs.Through.{read_store_code, byte_through_code, word_through_code}
+use Rattle.c65_genexpr.specs.declared.storing.Storing.{Storing}
+use Rattle.c65_genexpr.specs.declared.storing.Storing.TheVariants as storing
 use Rattle.c65_genexpr.specs.declared.wanted.Wanted.{Wanted}
 use Rattle.c65_genexpr.specs.declared.wanted.Wanted.TheVariants.{Value, Test}
 use Rattle.c65_genexpr.specs.Wanted.{sense_of, decided_code, wanted_by, handed, handed_sense, value_test_code, branch_code, wanted, aimed, sense, truth_labels, inner, truth_by, is_straight, way, way_labels}
@@ -46,22 +50,24 @@ use Rattle.c65_genexpr.specs.declared.operands.Operands.TheVariants.{Numbers, Po
 use Rattle.c65_genexpr.specs.declared.arguments.Passed.{Passed}
 use Rattle.c65_genexpr.specs.declared.types.Outcome.{Outcome}
 use Rattle.c65_genexpr.specs.Types.{kind_of, outcome_of, kind_in, bare, offset_at, access_of, target_bytes}
-use Rattle.c65_genexpr.specs.Places.{more, place_of, object_code}
-use Rattle.c65_genexpr.specs.Operands.{residue_of, operands_of, computes, same_truth, conversion_code, conversion_by}
+use Rattle.c65_genexpr.specs.Places.{more, has_base, added_bytes, sum_has_base, place_of, offset_of, object_code}
+use Rattle.c65_genexpr.specs.Operands.{residue_of, constant_in, operands_of, computes, same_truth, conversion_code, conversion_by}
+use Rattle.c65_genexpr.specs.Storing.{target_code, storing_of, below_value, assigned_by}
 use Rattle.c65_genexpr.specs.Steps.{amount_of, open_code, close_code}
 use Rattle.c65_genexpr.specs.Arguments.{is_fast, is_counted, stays, passed_size, joined, passed_of, argument_bytes, argument_code}
 use Rattle.c65_genexpr.specs.Calls.{named_in, named}
 use Rattle.c65_genexpr.specs.Uses.{unless_named, by_relation, uses, node_uses, args_uses, comparison_uses}
-use Rattle.c65_genexpr.specs.Code.{target_code, width_in, constant_code, tested_load, load_by, behind_open, compound, call_by, expr_code, node_code, args_code, operator_code, comparison_code, joint_code}
-use Rattle.c65_asm_law.proofs.Well.{AllWell, well_append, well_none, well_more}
-use Rattle.c65_asm_law.proofs.Loads.{WellPlace, bytes_well, number_well, symbol_well, offset_well, push_well, test_well, hold_well, load_well, store_well, copy_well}
+use Rattle.c65_genexpr.specs.Code.{width_in, constant_code, tested_load, load_by, behind_open, compound, call_by, base_by, expr_code, node_code, base_code, pointer_base_code, args_code, operator_code, comparison_code, joint_code}
+use Rattle.c65_gen_law_lines.proofs.Drops.{sum_uses}
+use Rattle.c65_asm_law.proofs.Well.{AllWell, well_append, well_none, well_more, well_if}
+use Rattle.c65_asm_law.proofs.Loads.{WellPlace, narrow_well, bytes_well, number_well, symbol_well, offset_well, push_well, test_well, hold_well, load_well, store_well, copy_well}
 use Rattle.c65_asm_law.proofs.Known.{Knows}
 use Rattle.c65_asm_law.proofs.Places.{place_well, object_well, further_well, spill_well, conversion_well, unary_well, step_well, open_well, close_well, named_well, direct_well, pointer_well, argument_well}
-use Rattle.c65_asm_law.proofs.Directs.{WellRead, zero_test_well, truth_well}
-use Rattle.c65_asm_law.proofs.Forms.{kept_well, own_well, comparing_well, comparison_well, operating_well, operator_well}
+use Rattle.c65_asm_law.proofs.Directs.{WellRead, read_store_well, byte_through_well, word_through_well, zero_test_well, truth_well}
+use Rattle.c65_asm_law.proofs.Forms.{WellStoring, storing_well, kept_well, own_well, comparing_well, comparison_well, operating_well, operator_well}
 
 target_well : (n : ℕ) (p : Place) (code : List Line) → AllWell n code → AllWell n (target_code p code)
-target_well n places.Far code h = h
+target_well n (places.Far at) code h = h
 target_well n (places.Bank b) code h = well_none n
 target_well n (places.Near at) code h = well_none n
 target_well n (places.Data s at) code h = well_none n
@@ -158,8 +164,29 @@ choice_well n lo c a b room hc ha hb =
     let second : AllWell n (b ++ Label (lo + 1) ∷ []) = well_append n b (Label (lo + 1) ∷ []) hb (record { all = (room, tt) }) in
     well_append n c _ hc (well_append n a _ ha (well_more n _ _ (tt, room) (well_more n _ _ first second)))
 
-assign_well : (n : ℕ) (place : Place) (access : Access) (a b : List Line) → WellPlace n place → AllWell n a → AllWell n b → AllWell n (a ++ (hold_code place ++ (b ++ store_code place access)))
-assign_well n place access a b h ha hb = well_append n a _ ha (well_append n (hold_code place) _ (hold_well n place) (well_append n b (store_code place access) hb (store_well n place access h)))
+assigned_well : (n : ℕ) (how : Storing) (place : Place) (access : Access) (a b : List Line) → WellStoring n how → WellPlace n place → AllWell n a → AllWell n b → AllWell n (assigned_by how place access a b)
+assigned_well n (storing.Left at stored) place access a b k h ha hb = well_append n a _ ha (well_append n (read_store_code at stored) _ (read_store_well n at stored k.0 k.1) (narrow_well n (kept.type_in access)))
+assigned_well n (storing.RightByte at low high) place access a b k h ha hb = well_append n b _ hb (well_append n (byte_through_code at low high) _ (byte_through_well n at low high k.0 k.1.0 k.1.1) (narrow_well n (kept.type_in access)))
+assigned_well n (storing.RightWord at low high) place access a b k h ha hb = well_append n b _ hb (word_through_well n at low high k.0 k.1)
+assigned_well n storing.Stacked place access a b k h ha hb =
+    well_append n (target_code place a) _ (target_well n place a ha) (well_append n (hold_code place) _ (hold_well n place) (well_append n b (store_code place access) hb (store_well n place access h)))
+
+below_value_few : (how : Storing) (pushed : ℕ) (place : Place) → pushed < 2 ^ 16 → below_value how pushed place < 2 ^ 16
+below_value_few storing.Stacked pushed place few = omega arith
+below_value_few _ pushed place few = few
+
+-- ---- the bases of places
+
+based_well : (n : ℕ) (place : Place) (a b : List Line) → AllWell n a → AllWell n b → AllWell n (base_by place a b)
+based_well n (places.Far at) a b ha hb = ha
+based_well n (places.Bank at) a b ha hb = hb
+based_well n (places.Near at) a b ha hb = hb
+based_well n (places.Data s at) a b ha hb = hb
+
+-- a sum that is left out has its label
+sum_well : (n lo : ℕ) (c : Bool) (a b : List Line) → (c ≡ true → lo < 2 ^ 32) → (c ≡ true → AllWell n a) → AllWell n b → AllWell n (if c then Label lo ∷ a else b)
+sum_well n lo true a b low ha hb = well_more n _ _ (low refl) (ha refl)
+sum_well n lo false a b low ha hb = hb
 
 compound_well : (n : ℕ) (f : Framed) (pushed : ℕ) (op : BinaryOp) (operands : Operands) (a b : Typed) (left right : List Line) → WellPlace n (place_of f pushed a) → AllWell n left → AllWell n right → AllWell n (compound f pushed op operands a b left right)
 compound_well n f pushed op operands a b left right h ha hb =
@@ -253,7 +280,7 @@ mutual
   node_well n u f pushed lo w t (member e m) knows h few aim room = wanted_well n w (width_in t) _ aim (well_append n (expr_code f pushed lo Value e) _ (expr_well n u f pushed lo Value e knows h.0 few tt room) (offset_well n (offset_at (types_of f.parts.types) (bare e) m)))
   node_well n u f pushed lo w t (load e) knows h few aim room =
       let place : Place = place_of f pushed e in
-      load_by_well n w place (access_of (types_of f.parts.types) e) _ (place_well n u f pushed e knows h.0) aim (target_well n place (expr_code f pushed lo Value e) (expr_well n u f pushed lo Value e knows h.0 few tt room))
+      load_by_well n w place (access_of (types_of f.parts.types) e) _ (place_well n u f pushed e knows h.0) aim (target_well n place (base_code f pushed lo e) (base_well n u f pushed lo e knows h.0 few room))
   node_well n u f pushed lo w t (address e) knows h few aim room = wanted_well n w (width_in t) _ aim (expr_well n u f pushed lo Value e knows h.0 few tt room)
   node_well n u f pushed lo w t (decay e) knows h few aim room = wanted_well n w (width_in t) _ aim (expr_well n u f pushed lo Value e knows h.0 few tt room)
   node_well n u f pushed lo w t (convert e) knows h few aim room =
@@ -274,15 +301,16 @@ mutual
       well_append n (expr_code f pushed lo Value a) _ (expr_well n u f pushed lo Value a knows h.0 few tt (omega (arith, room))) (expr_well n u f pushed (lo + uses None a) w b knows h.1 few aim (omega (arith, room)))
   node_well n u f pushed lo w t (assign a b) knows h few aim room =
       let place : Place = place_of f pushed a in
-      wanted_well n w (width_in t) _ aim (assign_well n place (access_of (types_of f.parts.types) a) _ _ (place_well n u f pushed a knows h.0) (target_well n place _ (expr_well n u f pushed lo Value a knows h.0 few tt (omega (arith, room)))) (expr_well n u f (more pushed (held place)) (lo + uses None a) Value b knows h.1 (omega arith) tt (omega (arith, room))))
+      let how : Storing = storing_of f pushed a b in
+      wanted_well n w (width_in t) _ aim (assigned_well n how place (access_of (types_of f.parts.types) a) _ _ (storing_well n u f pushed a b knows h.0 h.1) (place_well n u f pushed a knows h.0) (base_well n u f pushed lo a knows h.0 few (omega (arith, room))) (expr_well n u f (below_value how pushed place) (lo + uses None a) Value b knows h.1 (below_value_few how pushed place few) tt (omega (arith, room))))
   node_well n u f pushed lo w t (assign_op op k a b) knows h few aim room =
-      wanted_well n w (width_in t) _ aim (compound_well n f pushed op (Numbers k) a b _ _ (place_well n u f pushed a knows h.0) (expr_well n u f pushed lo Value a knows h.0 few tt (omega (arith, room))) (expr_well n u f (behind_open f pushed (Numbers k) a) (lo + uses None a) Value b knows h.1 (omega arith) tt (omega (arith, room))))
+      wanted_well n w (width_in t) _ aim (compound_well n f pushed op (Numbers k) a b _ _ (place_well n u f pushed a knows h.0) (base_well n u f pushed lo a knows h.0 few (omega (arith, room))) (expr_well n u f (behind_open f pushed (Numbers k) a) (lo + uses None a) Value b knows h.1 (omega arith) tt (omega (arith, room))))
   node_well n u f pushed lo w t (assign_step op a b) knows h few aim room =
       let operands : Operands = PointerFirst (target_bytes f (bare a)) in
-      wanted_well n w (width_in t) _ aim (compound_well n f pushed op operands a b _ _ (place_well n u f pushed a knows h.0) (expr_well n u f pushed lo Value a knows h.0 few tt (omega (arith, room))) (expr_well n u f (behind_open f pushed operands a) (lo + uses None a) Value b knows h.1 (omega arith) tt (omega (arith, room))))
+      wanted_well n w (width_in t) _ aim (compound_well n f pushed op operands a b _ _ (place_well n u f pushed a knows h.0) (base_well n u f pushed lo a knows h.0 few (omega (arith, room))) (expr_well n u f (behind_open f pushed operands a) (lo + uses None a) Value b knows h.1 (omega arith) tt (omega (arith, room))))
   node_well n u f pushed lo w t (step how e) knows h few aim room =
       let place : Place = place_of f pushed e in
-      wanted_well n w (width_in t) _ aim (well_append n (target_code place (expr_code f pushed lo Value e)) _ (target_well n place (expr_code f pushed lo Value e) (expr_well n u f pushed lo Value e knows h.0 few tt room)) (step_well n how place (access_of (types_of f.parts.types) e) (amount_of f how (bare e)) (place_well n u f pushed e knows h.0)))
+      wanted_well n w (width_in t) _ aim (well_append n (target_code place (base_code f pushed lo e)) _ (target_well n place (base_code f pushed lo e) (base_well n u f pushed lo e knows h.0 few room)) (step_well n how place (access_of (types_of f.parts.types) e) (amount_of f how (bare e)) (place_well n u f pushed e knows h.0)))
   node_well n u f pushed lo w t (copy a b) knows h few aim room =
       wanted_well n w (width_in t) _ aim (well_append n (expr_code f pushed lo Value a) _ (expr_well n u f pushed lo Value a knows h.0 few tt (omega (arith, room))) (well_append n (push_code Ax) _ (push_well n Ax) (well_append n (expr_code f (more pushed 2) (lo + uses None a) Value b) _ (expr_well n u f (more pushed 2) (lo + uses None a) Value b knows h.1 (omega arith) tt (omega (arith, room))) (copy_well n (type_bytes f (type_in t))))))
   node_well n u f pushed lo w t (call g es) knows h few aim room =
@@ -294,6 +322,24 @@ mutual
   node_well n u f pushed lo w t (spill i e) knows h few aim room =
       wanted_well n w (width_in t) _ aim (well_append n (expr_code f pushed lo Value e) _ (called_well n u f pushed lo t e knows h.0 few room) (spill_well n (object_code f pushed i) (extent_by (type_bytes f (type_in t))) (object_well n f pushed i few (knows.objects i (slice_get_within u.objects i h.1.object h.1.there)))))
   node_well n u f pushed lo w t further knows h few aim room = wanted_well n w (width_in t) _ aim (further_well n f pushed few)
+
+  base_well : (n : ℕ) (u : UnitTy) (f : Framed) (pushed lo : ℕ) (e : Typed) → Knows f u n → IsTyped u e → pushed < 2 ^ 16 → lo + uses None e ≤ 2 ^ 32 → AllWell n (base_code f pushed lo e)
+  base_well n u f pushed lo (node t (deref e)) knows h few room = pointer_base_well n u f pushed lo e knows h.0 few room
+  base_well n u f pushed lo (node t (member e m)) knows h few room =
+      let k : ℕ = offset_at (types_of f.parts.types) (bare e) m in
+      well_if n (has_base (place_of f pushed e) k) (base_code f pushed lo e) (expr_code f pushed lo Value e ++ offset_code k) (base_well n u f pushed lo e knows h.0 few room)
+      (well_append n (expr_code f pushed lo Value e) (offset_code k) (expr_well n u f pushed lo Value e knows h.0 few tt room) (offset_well n k))
+  base_well n u f pushed lo (node t e) knows h few room = node_well n u f pushed lo Value t e knows h few tt room
+
+  pointer_base_well : (n : ℕ) (u : UnitTy) (f : Framed) (pushed lo : ℕ) (e : Typed) → Knows f u n → IsTyped u e → pushed < 2 ^ 16 → lo + uses None e ≤ 2 ^ 32 → AllWell n (pointer_base_code f pushed lo e)
+  pointer_base_well n u f pushed lo (node t (binary op a b)) knows h few room =
+      let operands : Operands = operands_of f (bare a) (bare b) in
+      let at : ℕ = offset_of f pushed a in
+      sum_well n lo (sum_has_base at (added_bytes op operands (constant_in b))) (pointer_base_code f pushed (lo + 1) a) (node_code f pushed lo Value t (binary op a b)) (λ told. omega (arith, room, sum_uses f at op operands t a b told))
+      (λ told. pointer_base_well n u f pushed (lo + 1) a knows h.0 few (omega (arith, room, sum_uses f at op operands t a b told))) (node_well n u f pushed lo Value t (binary op a b) knows h few tt room)
+  pointer_base_well n u f pushed lo (node t (decay e)) knows h few room =
+      based_well n (place_of f pushed e) (base_code f pushed lo e) (expr_code f pushed lo Value e) (base_well n u f pushed lo e knows h.0 few room) (expr_well n u f pushed lo Value e knows h.0 few tt room)
+  pointer_base_well n u f pushed lo (node t e) knows h few room = node_well n u f pushed lo Value t e knows h few tt room
 
   -- one that gives a structure
   called_well : (n : ℕ) (u : UnitTy) (f : Framed) (pushed lo : ℕ) (t : QTy) (e : Typed) → Knows f u n → IsCalled u t e → pushed < 2 ^ 16 → lo + uses None e ≤ 2 ^ 32 → AllWell n (expr_code f pushed lo Value e)
@@ -308,7 +354,7 @@ mutual
   pub given_well : (n : ℕ) (u : UnitTy) (f : Framed) (pushed lo : ℕ) (e : Typed) → Knows f u n → IsGiven u e → pushed < 2 ^ 16 → lo + uses None e ≤ 2 ^ 32 → AllWell n (expr_code f pushed lo Value e)
   given_well n u f pushed lo (node t (pack e)) knows h few room =
       let place : Place = place_of f pushed e in
-      well_append n (target_code place (expr_code f pushed lo Value e)) _ (target_well n place (expr_code f pushed lo Value e) (expr_well n u f pushed lo Value e knows h.0 few tt room)) (bytes_well n place (extent_by (type_bytes f (type_in t))) (place_well n u f pushed e knows h.0))
+      well_append n (target_code place (base_code f pushed lo e)) _ (target_well n place (base_code f pushed lo e) (base_well n u f pushed lo e knows h.0 few room)) (bytes_well n place (extent_by (type_bytes f (type_in t))) (place_well n u f pushed e knows h.0))
   given_well n u f pushed lo (node t e) knows h few room = node_well n u f pushed lo Value t e knows h.0 few tt room
 
   args_well : (n : ℕ) (u : UnitTy) (f : Framed) (pushed lo : ℕ) (fast : Bool) (es : Nodes) → Knows f u n → AreTyped u es → pushed < 2 ^ 16 → lo + args_uses es ≤ 2 ^ 32 → AllWell n (args_code f pushed lo fast es)

@@ -7,7 +7,7 @@ use Rattle.c65_ints.specs.declared.types.IntType.{IntType}
 use Rattle.c65_ints.specs.declared.types.IntType.TheVariants.{UInt}
 use Rattle.c65_ctype.specs.Trees.{type_in}
 use Rattle.c65_ctype.specs.Views.{types_of}
-use Rattle.c65_csem.specs.Trees.{Typed, node, constant, null, literal, object, func, member, load, address, decay, convert, UnitTy}
+use Rattle.c65_csem.specs.Trees.{Typed, node, constant, null, literal, object, func, deref, member, load, address, decay, convert, UnitTy}
 use Rattle.c65_csem.specs.Typed.{IsTyped}
 use Rattle.c65_code.specs.declared.line.Line.{Line}
 use Rattle.c65_code.specs.declared.routine.Width.{Width}
@@ -16,7 +16,8 @@ use Rattle.c65_genframe.specs.Frames.{Framed}
 use Rattle.c65_genwide.specs.Wide.{width_of}
 use Rattle.c65_genload.specs.Words.{implied}
 use Rattle.c65_genload.specs.declared.places.Extent.{Extent}
-use Rattle.c65_genload.specs.declared.places.Extent.TheVariants.{One, Two}
+use Rattle.c65_genload.specs.declared.places.Extent.TheVariants.{One, Two, Three, Four}
+use Rattle.c65_genload.specs.Places.{extent_of}
 use Rattle.c65_genload.specs.declared.places.Place.{Place}
 use Rattle.c65_genload.specs.declared.places.Place.TheVariants as places
 use Rattle.c65_genload.specs.declared.places.Access.{Access}
@@ -33,6 +34,11 @@ use Rattle.c65_gendirect.specs.Compare.{mirrored}
 use Rattle.c65_genshift.specs.Quick.{quick_of, elements_code}
 use Rattle.c65_genexpr.specs.declared.operands.Operands.{Operands}
 use Rattle.c65_genexpr.specs.declared.operands.Operands.TheVariants.{Numbers, PointerFirst, PointerLast, Pointers}
+use Rattle.c65_genexpr.specs.declared.storing.Storing.{Storing}
+use Rattle.c65_genexpr.specs.declared.storing.Storing.TheVariants as storing
+use Rattle.c65_gendirect.specs.declared.through.Stored.{Stored}
+use Rattle.c65_gendirect.specs.declared.through.Stored.TheVariants as stores
+use Rattle.c65_genexpr.specs.Storing.{pointer_of, word_stored, bytes_stored, through, by_value, by_pointer, storing_by, storing_of}
 use Rattle.c65_genexpr.specs.declared.operating.Form.{Form}
 use Rattle.c65_genexpr.specs.declared.operating.Form.TheVariants as forms
 use Rattle.c65_genexpr.specs.declared.operating.Operating.{Operating}
@@ -41,12 +47,12 @@ use Rattle.c65_genexpr.specs.declared.comparing.Side.{Side}
 use Rattle.c65_genexpr.specs.declared.comparing.Side.TheVariants.{Left, Right}
 use Rattle.c65_genexpr.specs.declared.comparing.Comparing.{Comparing}
 use Rattle.c65_genexpr.specs.declared.comparing.Comparing.TheVariants as compared
-use Rattle.c65_genexpr.specs.Types.{kind_of, bare, access_of}
-use Rattle.c65_genexpr.specs.Places.{place_of}
+use Rattle.c65_genexpr.specs.Types.{kind_of, bare, offset_at, access_of}
+use Rattle.c65_genexpr.specs.Places.{has_base, place_of}
 use Rattle.c65_genexpr.specs.Operands.{residue_of, between_code, behind_code, negative}
 use Rattle.c65_genexpr.specs.Direct.{kept_at, address_at, address_of, takes_bytes, converted_if, direct_of, own_bytes, is_fixed, is_pure, is_byte, both_bytes, all_bytes, sides_of, listed, alone}
-use Rattle.c65_genexpr.specs.Comparing.{tested_by, lowest, is_raised, raised, one_more, range_of, meeting, beside, changes, compared_by, held_by, comparing_of, on, low_code, comparison_by}
-use Rattle.c65_genexpr.specs.Operating.{sum_by, mask_by, number_form, offset_form, constant_form, pair_of, word_if, element_form, right_form, under_if, left_form, constant_right, direct_right, direct_left, by_left, by_right, reading_of, is_light, held_elements, held_form, held_if, operating_of, placed, form_code, waiting_code, stacked_code, operator_by}
+use Rattle.c65_genexpr.specs.Comparing.{tested_by, lowest, is_raised, raised, one_more, range_of, meeting, beside, changes, compared_by, comparing_of, on, low_code, comparison_by, held_by}
+use Rattle.c65_genexpr.specs.Operating.{sum_by, mask_by, number_form, offset_form, constant_form, pair_of, word_in, word_if, element_form, right_form, under_if, left_form, constant_right, direct_right, direct_left, by_left, by_right, operating_of, placed, form_code, waiting_code, stacked_code, operator_by, reading_of, is_light, held_elements, held_form, held_if}
 use Rattle.c65_genexpr.specs.Operating as operators
 use Rattle.c65_genexpr.specs.Comparing as comparisons
 use Rattle.c65_genexpr.specs.Held.{held_low, held_high, keep_code}
@@ -55,13 +61,13 @@ use Rattle.c65_asm_law.proofs.Well.{AllWell, well_append, well_none}
 use Rattle.c65_asm_law.proofs.Known.{Knows}
 use Rattle.c65_asm_law.proofs.Loads.{WellPlace, push_well, wide_well, divide_well}
 use Rattle.c65_asm_law.proofs.Places.{place_well, between_well, behind_well}
-use Rattle.c65_asm_law.proofs.Directs.{WellByte, WellMaybe, WellDirect, WellRead, byte_well, converted_well, op_well, labelled_well, word_well, add_number_well, taken_from_well, long_mask_well, add_long_well, WellSides, compare_well, compare_byte_well, AreBytes, quick_well, elements_well}
+use Rattle.c65_asm_law.proofs.Directs.{WellStored, read_if, WellByte, WellMaybe, WellDirect, WellRead, byte_well, converted_well, op_well, labelled_well, word_well, add_number_well, taken_from_well, long_mask_well, add_long_well, WellSides, compare_well, compare_byte_well, AreBytes, quick_well, elements_well}
 use Rattle.std.proofs.lemmas.Option.{slice_get_within}
 
 -- ---- values that are read where they lie
 
 pub kept_well : (n : ℕ) (p : Place) (access : Access) → WellPlace n p → WellRead n (kept_at p access)
-kept_well n places.Far access h = tt
+kept_well n (places.Far at) access h = tt
 kept_well n (places.Bank at) (Whole kind) h = h
 kept_well n (places.Near at) (Whole kind) h = h
 kept_well n (places.Data s at) (Whole kind) h = h
@@ -73,7 +79,7 @@ address_at_well : (n : ℕ) (p : Place) → WellPlace n p → WellRead n (addres
 address_at_well n (places.Data s at) h = h
 address_at_well n (places.Bank at) h = tt
 address_at_well n (places.Near at) h = tt
-address_at_well n places.Far h = tt
+address_at_well n (places.Far at) h = tt
 
 address_of_well : (n : ℕ) (u : UnitTy) (f : Framed) (pushed : ℕ) (e : Typed) → Knows f u n → IsTyped u e → WellRead n (address_of f pushed e)
 address_of_well n u f pushed (node t (literal i)) knows h = (knows.literals i (slice_get_within u.literals i h.0 h.1), omega arith)
@@ -95,6 +101,88 @@ read_well n u f pushed (node t (address e)) knows h = address_of_well n u f push
 read_well n u f pushed (node t (decay e)) knows h = address_of_well n u f pushed e knows h.0
 read_well n u f pushed (node t (convert e)) knows h = converted_if_well n (takes_bytes (type_in t) (bare e)) (kind_of (type_in t)) (direct_of f pushed e) (read_well n u f pushed e knows h.0)
 read_well n u f pushed (node t _) knows h = tt
+
+-- ---- assignments
+
+abbrev pub WellStoring : ℕ → Storing → Type 0
+WellStoring n (storing.Left at stored) = (at < 2 ^ 8) × WellStored n stored
+WellStoring n (storing.RightByte at low high) = (at < 2 ^ 8) × (WellByte n low × WellByte n high)
+WellStoring n (storing.RightWord at low high) = WellByte n low × WellByte n high
+WellStoring n storing.Stacked = Unit {0}
+
+-- a pointer that is read
+pointer_well : (n : ℕ) (u : UnitTy) (f : Framed) (pushed : ℕ) (e : Typed) → Knows f u n → IsTyped u e → WellRead n (pointer_of f pushed e)
+pointer_well n u f pushed (node t (deref e)) knows h = read_well n u f pushed e knows h.0
+pointer_well n u f pushed (node t (member e m)) knows h = read_if n (has_base (place_of f pushed e) (offset_at (types_of f.parts.types) (bare e) m)) (pointer_of f pushed e) None (pointer_well n u f pushed e knows h.0) tt
+pointer_well n u f pushed (node t _) knows h = tt
+
+abbrev MaybeStored : ℕ → Option Stored → Type 0
+MaybeStored n None = Unit {0}
+MaybeStored n (Some stored) = WellStored n stored
+
+abbrev MaybePair : ℕ → Option (OperandByte × OperandByte) → Type 0
+MaybePair n None = Unit {0}
+MaybePair n (Some w) = WellByte n w.0 × WellByte n w.1
+
+pair_well : (n : ℕ) (low high : Option OperandByte) → WellMaybe n low → WellMaybe n high → MaybePair n (pair_of low high)
+pair_well n (Some low) (Some high) h k = (h, k)
+pair_well n None high h k = tt
+pair_well n (Some low) None h k = tt
+
+word_in_well : (n : ℕ) (d : Direct) → WellDirect n d → MaybePair n (word_in d)
+word_in_well n d h = pair_well n (byte_of d 0) (byte_of d 1) (byte_well n d 0 h) (byte_well n d 1 h)
+
+word_read_well : (n : ℕ) (d : Option Direct) → WellRead n d → MaybePair n (option_and_then word_in d)
+word_read_well n None h = tt
+word_read_well n (Some d) h = word_in_well n d h
+
+fixed_well : (n : ℕ) (fixed : Bool) (w : OperandByte × OperandByte) → WellByte n w.0 × WellByte n w.1 → WellStored n (word_stored fixed w)
+fixed_well n true w h = h
+fixed_well n false w h = h
+
+single_well : (n : ℕ) (low : Option OperandByte) → WellMaybe n low → MaybeStored n (option_map stores.Single low)
+single_well n None h = tt
+single_well n (Some low) h = h
+
+double_well : (n : ℕ) (fixed : Bool) (w : Option (OperandByte × OperandByte)) → MaybePair n w → MaybeStored n (option_map (word_stored fixed) w)
+double_well n fixed None h = tt
+double_well n fixed (Some w) h = fixed_well n fixed w h
+
+bytes_stored_well : (n : ℕ) (extent : Extent) (d : Direct) → WellDirect n d → MaybeStored n (bytes_stored extent d)
+bytes_stored_well n One d h = single_well n (byte_of d 0) (byte_well n d 0 h)
+bytes_stored_well n Two d h = double_well n (is_fixed (Some d)) (word_in d) (word_in_well n d h)
+bytes_stored_well n Three d h = tt
+bytes_stored_well n Four d h = tt
+
+value_stored_well : (n : ℕ) (extent : Extent) (d : Option Direct) → WellRead n d → MaybeStored n (option_and_then (bytes_stored extent) d)
+value_stored_well n extent None h = tt
+value_stored_well n extent (Some d) h = bytes_stored_well n extent d h
+
+through_well : (n at : ℕ) (extent : Extent) (w : OperandByte × OperandByte) → at < 2 ^ 8 → WellByte n w.0 × WellByte n w.1 → WellStoring n (through at extent w)
+through_well n at One w few h = (few, h)
+through_well n at Two w few h = h
+through_well n at Three w few h = tt
+through_well n at Four w few h = tt
+
+by_pointer_well : (n at : ℕ) (extent : Extent) (w : Option (OperandByte × OperandByte)) → at < 2 ^ 8 → MaybePair n w → WellStoring n (by_pointer at extent w)
+by_pointer_well n at extent None few h = tt
+by_pointer_well n at extent (Some w) few h = through_well n at extent w few h
+
+by_value_well : (n at : ℕ) (stored : Option Stored) (other : Storing) → at < 2 ^ 8 → MaybeStored n stored → WellStoring n other → WellStoring n (by_value at stored other)
+by_value_well n at None other few h k = k
+by_value_well n at (Some stored) other few h k = (few, h)
+
+storing_by_well : (n : ℕ) (place : Place) (access : Access) (x y : Option Direct) → WellPlace n place → WellRead n x → WellRead n y → WellStoring n (storing_by place access x y)
+storing_by_well n (places.Far at) (Whole kind) x y few h k = by_value_well n at _ _ few (value_stored_well n (extent_of kind) y k) (by_pointer_well n at (extent_of kind) _ few (word_read_well n x h))
+storing_by_well n (places.Far at) (Part field) x y few h k = tt
+storing_by_well n (places.Bank at) access x y few h k = tt
+storing_by_well n (places.Near at) access x y few h k = tt
+storing_by_well n (places.Data s at) access x y few h k = tt
+
+pub storing_well : (n : ℕ) (u : UnitTy) (f : Framed) (pushed : ℕ) (a b : Typed) → Knows f u n → IsTyped u a → IsTyped u b → WellStoring n (storing_of f pushed a b)
+storing_well n u f pushed a b knows h k =
+    storing_by_well n (place_of f pushed a) (access_of (types_of f.parts.types) a) _ (direct_of f pushed b) (place_well n u f pushed a knows h)
+    (read_if n (is_fixed (pointer_of f pushed a) || is_pure b) (pointer_of f pushed a) None (pointer_well n u f pushed a knows h) tt) (read_well n u f pushed b knows k)
 
 -- ---- comparisons
 

@@ -6,7 +6,7 @@ use Rattle.c65_ints.specs.declared.types.IntType.{IntType}
 use Rattle.c65_ints.specs.declared.types.IntType.TheVariants as ints
 use Rattle.c65_ints.specs.Ranges.{is_signed_of}
 use Rattle.c65_code.specs.declared.line.Sym.{Sym}
-use Rattle.c65_code.specs.declared.routine.Routine.TheVariants.{PushA, PushAx, PushEax, LdAi, Tos, Unary}
+use Rattle.c65_code.specs.declared.routine.Routine.TheVariants.{PushA, PushAx, PushEax, LdAi, LdEaxi, Tos, Unary}
 use Rattle.c65_code.specs.declared.routine.UnaryRoutine.TheVariants.{Shl1}
 use Rattle.c65_code.specs.declared.routine.TosOp.{TosOp}
 use Rattle.c65_code.specs.declared.routine.TosOp.TheVariants as tos
@@ -22,7 +22,7 @@ use Rattle.c65_genload.specs.declared.places.Place.{Place}
 use Rattle.c65_genload.specs.declared.places.Place.TheVariants as places
 use Rattle.c65_genload.specs.declared.places.Access.{Access}
 use Rattle.c65_genload.specs.declared.places.Access.TheVariants.{Whole, Part}
-use Rattle.c65_genload.specs.Places.{byte_more, extent_of}
+use Rattle.c65_genload.specs.Places.{byte_more, extent_of, settled}
 use Rattle.c65_genload.specs.Numbers.{number_code, add_word_code, add_by_width, add_code, mask_code, by_code, shift_code, scale_code, is_divisor, divide_code}
 use Rattle.c65_genload.specs.Conversions.{widen_code, convert_code, convert_to, push_code, test_code}
 use Rattle.c65_genload.specs.Addresses.{symbol_code, address_code, above_code, raised_code, offset_code}
@@ -36,7 +36,7 @@ abbrev pub WellPlace : ℕ → Place → Type 0
 WellPlace n (places.Bank at) = Unit {0}
 WellPlace n (places.Near at) = at < 2 ^ 8
 WellPlace n (places.Data sym at) = (sym.0 < n) × (at < 2 ^ 16)
-WellPlace n places.Far = Unit {0}
+WellPlace n (places.Far at) = at < 2 ^ 8
 
 -- ---- numbers
 
@@ -142,7 +142,13 @@ pub hold_well : (n : ℕ) (place : Place) → AllWell n (hold_code place)
 hold_well n (places.Bank at) = well_none n
 hold_well n (places.Near at) = well_none n
 hold_well n (places.Data s at) = well_none n
-hold_well n places.Far = record { all = search rules }
+hold_well n (places.Far at) = well_append n (offset_code at) (call PushAx ∷ []) (offset_well n at) (record { all = search rules })
+
+pub settled_well : (n : ℕ) (place : Place) → WellPlace n place → WellPlace n (settled place)
+settled_well n (places.Bank at) h = h
+settled_well n (places.Near at) h = h
+settled_well n (places.Data s at) h = h
+settled_well n (places.Far at) h = omega arith
 
 pub bytes_well : (n : ℕ) (place : Place) (e : Extent) → WellPlace n place → AllWell n (bytes_code place e)
 bytes_well n (places.Bank at) One h = record { all = search rules }
@@ -157,10 +163,10 @@ bytes_well n (places.Data s at) One h = record { all = search (rules, h) }
 bytes_well n (places.Data s at) Two h = record { all = search (rules, h) }
 bytes_well n (places.Data s at) Three h = record { all = search (rules, h) }
 bytes_well n (places.Data s at) Four h = record { all = search (rules, h) }
-bytes_well n places.Far One h = record { all = search rules }
-bytes_well n places.Far Two h = record { all = search rules }
-bytes_well n places.Far Three h = record { all = search rules }
-bytes_well n places.Far Four h = record { all = search rules }
+bytes_well n (places.Far at) One h = record { all = search (rules, h) }
+bytes_well n (places.Far at) Two h = record { all = search rules }
+bytes_well n (places.Far at) Three h = record { all = search rules }
+bytes_well n (places.Far at) Four h = well_append n (offset_code at) (call LdEaxi ∷ []) (offset_well n at) (record { all = search rules })
 
 pub extract_well : (n : ℕ) (g : Field) → AllWell n (extract_code g)
 extract_well n g =
@@ -187,22 +193,22 @@ bytes_store_well n (places.Data s at) One h = record { all = search (rules, h) }
 bytes_store_well n (places.Data s at) Two h = record { all = search (rules, h) }
 bytes_store_well n (places.Data s at) Three h = record { all = search (rules, h) }
 bytes_store_well n (places.Data s at) Four h = record { all = search (rules, h) }
-bytes_store_well n places.Far One h = record { all = search rules }
-bytes_store_well n places.Far Two h = record { all = search rules }
-bytes_store_well n places.Far Three h = record { all = search rules }
-bytes_store_well n places.Far Four h = record { all = search rules }
+bytes_store_well n (places.Far at) One h = record { all = search rules }
+bytes_store_well n (places.Far at) Two h = record { all = search rules }
+bytes_store_well n (places.Far at) Three h = record { all = search rules }
+bytes_store_well n (places.Far at) Four h = record { all = search rules }
 
 after_store_well : (n : ℕ) (place : Place) (kind : IntType) → AllWell n (after_store place kind)
 after_store_well n (places.Bank at) kind = well_none n
 after_store_well n (places.Near at) kind = well_none n
 after_store_well n (places.Data s at) kind = well_none n
-after_store_well n places.Far kind = narrow_well n kind
+after_store_well n (places.Far at) kind = narrow_well n kind
 
 under_well : (n : ℕ) (place : Place) → WellPlace n place → AllWell n (under_code place)
 under_well n (places.Bank at) h = bytes_well n (places.Bank at) Two h
 under_well n (places.Near at) h = bytes_well n (places.Near (byte_more at 2)) Two (omega arith)
 under_well n (places.Data s at) h = bytes_well n (places.Data s at) Two h
-under_well n places.Far h = record { all = search rules }
+under_well n (places.Far at) h = record { all = search rules }
 
 aligned_well : (n : ℕ) (g : Field) → AllWell n (aligned_code g)
 aligned_well n g = well_append n _ _ (mask_well n (ones g.width)) (shift_well n tos.Shl g.low)

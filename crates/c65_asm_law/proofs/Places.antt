@@ -1,7 +1,7 @@
 -- Where places lie, and the pieces of which the lines of expressions are made.
 use Rattle.std.proofs.Common.{◌≡◌, ℕ, zero, suc, ◌+◌, ◌-◌, ◌%◌, ◌<◌, ◌^◌, Bool, true, false, Option, None, Some, List, [], refl, arith, rules}
 use Rattle.std.specs.Prelude.{if◌then◌else◌, nat_le, nat_eq}
-use Rattle.std.proofs.lemmas.Bool.{leb-true}
+use Rattle.std.proofs.lemmas.Bool.{and_parts, leb-true}
 use Rattle.std.proofs.lemmas.Option.{slice_get_within}
 use Rattle.c65_base.specs.declared.operators.UnaryOp.{UnaryOp}
 use Rattle.c65_base.specs.declared.operators.UnaryOp.TheVariants as unary
@@ -13,7 +13,7 @@ use Rattle.c65_ints.specs.declared.types.IntType.TheVariants as ints
 use Rattle.c65_ctype.specs.Trees.{Ty, void, int, pointer, array, tag, function}
 use Rattle.c65_ctype.specs.Views.{types_of}
 use Rattle.c65_base.specs.declared.library.Library.{Library}
-use Rattle.c65_csem.specs.Trees.{Typed, node, object, member, UnitTy}
+use Rattle.c65_csem.specs.Trees.{Typed, node, object, deref, member, decay, binary, UnitTy}
 use Rattle.c65_csem.specs.Typed.{IsTyped}
 use Rattle.c65_code.specs.declared.line.Line.{Line}
 use Rattle.c65_code.specs.declared.routine.Width.{Width}
@@ -31,7 +31,7 @@ use Rattle.c65_genload.specs.declared.places.Place.{Place}
 use Rattle.c65_genload.specs.declared.places.Place.TheVariants as places
 use Rattle.c65_genload.specs.declared.places.Access.{Access}
 use Rattle.c65_genload.specs.declared.places.Access.TheVariants.{Whole, Part}
-use Rattle.c65_genload.specs.Places.{type_in}
+use Rattle.c65_genload.specs.Places.{type_in, settled}
 use Rattle.c65_genload.specs.Numbers.{scale_code}
 use Rattle.c65_genload.specs.Conversions.{push_code, convert_code}
 use Rattle.c65_genexpr.specs.declared.operands.Operands.{Operands}
@@ -40,27 +40,27 @@ use Rattle.c65_genexpr.specs.declared.arguments.Passed.{Passed}
 use Rattle.c65_genexpr.specs.declared.types.Outcome.{Outcome}
 use Rattle.c65_genexpr.specs.declared.types.Outcome.TheVariants.{Nothing, Number, Area}
 use Rattle.c65_genexpr.specs.Types.{bare, offset_at, given_bytes}
-use Rattle.c65_genexpr.specs.Places.{more, near, soft_place, place_at, moved, place_of, soft_code, code_at, object_code, rest_code}
-use Rattle.c65_genexpr.specs.Operands.{computes, between_code, difference_code, behind_code, unary_code, conversion_code, negative}
+use Rattle.c65_genexpr.specs.Places.{more, near, soft_place, place_at, within, farther, added_bytes, sum_offset, from_base, moved, place_of, offset_of, soft_code, code_at, object_code, rest_code}
+use Rattle.c65_genexpr.specs.Operands.{operands_of, constant_in, computes, between_code, difference_code, behind_code, unary_code, conversion_code, negative}
 use Rattle.c65_genexpr.specs.Steps.{is_post, back_code, after_code, step_code, open_code, close_code}
 use Rattle.c65_genexpr.specs.Spills.{kept_code, first_code, further_code, again_code, spill_code}
 use Rattle.c65_genexpr.specs.Arguments.{reads_of, argument_code}
 use Rattle.c65_genexpr.specs.Calls.{count_code, fetch_code, result_code, library_at, named_by, named_code, pointer_code, direct_code, ptr4_code}
 use Rattle.c65_asm_law.proofs.Well.{AllWell, well_append, well_none, well_more, well_if, letters_none, letters_a, letters_y, letters_ax, letters_eax}
 use Rattle.c65_asm_law.proofs.Known.{Knows}
-use Rattle.c65_asm_law.proofs.Loads.{WellPlace, narrow_well, add_well, scale_well, divide_well, symbol_well, address_well, raised_well, convert_well, push_well, pass_well, hold_well, extract_well, load_well, store_well, wide_well}
+use Rattle.c65_asm_law.proofs.Loads.{WellPlace, settled_well, narrow_well, add_well, scale_well, divide_well, symbol_well, address_well, raised_well, convert_well, push_well, pass_well, hold_well, extract_well, load_well, store_well, wide_well}
 
 -- ---- places
 
-near_when : (n at : ℕ) (b : Bool) → nat_le at 252 ≡ b → WellPlace n (if b then places.Near at else places.Far)
+near_when : (n at : ℕ) (b : Bool) → nat_le at 252 ≡ b → WellPlace n (if b then places.Near at else places.Far 0)
 near_when n at true h = omega (arith, leb-true at 252 h)
-near_when n at false h = tt
+near_when n at false h = omega arith
 
 near_well : (n at : ℕ) → WellPlace n (near at)
 near_well n at = near_when n at (nat_le at 252) refl
 
 soft_place_well : (n : ℕ) (raised : Bool) (at : ℕ) → WellPlace n (soft_place raised at)
-soft_place_well n true at = tt
+soft_place_well n true at = omega arith
 soft_place_well n false at = near_well n at
 
 place_at_well : (n : ℕ) (f : Framed) (pushed i : ℕ) (home : Option Home) → (object_symbol (numbers_of f.parts) i).0 < n → WellPlace n (place_at f pushed i home)
@@ -68,24 +68,78 @@ place_at_well n f pushed i None known = (known, omega arith)
 place_at_well n f pushed i (Some (homes.Bank b)) known = tt
 place_at_well n f pushed i (Some (homes.Soft d)) known = soft_place_well n (is_raised f i) (more d pushed)
 
-moved_when : (n at m : ℕ) (b : Bool) → WellPlace n (if b then near (at + m) else places.Far)
-moved_when n at m true = near_well n (at + m)
-moved_when n at m false = tt
+farther_few : (at m : ℕ) → farther at m < 2 ^ 8
+farther_few at m = by (within at m) refl
+  where
+    by : (b : Bool) → within at m ≡ b → (if b then at + m else 0) < 2 ^ 8
+    by true h = let parts = and_parts (nat_le m 250) (nat_le (at + m) 250) h in omega (arith, leb-true (at + m) 250 parts.1)
+    by false h = omega arith
 
-banked_when : (n at : ℕ) (b : Bool) → WellPlace n (if b then places.Bank at else places.Far)
+sum_few : (at : ℕ) (bytes : Option ℕ) → sum_offset at bytes < 2 ^ 8
+sum_few at None = omega arith
+sum_few at (Some m) = farther_few at m
+
+near_base : (at : ℕ) → from_base (near at) < 2 ^ 8
+near_base at = by (nat_le at 252)
+  where
+    by : (b : Bool) → from_base (if b then places.Near at else places.Far 0) < 2 ^ 8
+    by true = omega arith
+    by false = omega arith
+
+soft_base : (raised : Bool) (at : ℕ) → from_base (soft_place raised at) < 2 ^ 8
+soft_base true at = omega arith
+soft_base false at = near_base at
+
+home_base : (f : Framed) (pushed i : ℕ) (home : Option Home) → from_base (place_at f pushed i home) < 2 ^ 8
+home_base f pushed i None = omega arith
+home_base f pushed i (Some (homes.Bank b)) = omega arith
+home_base f pushed i (Some (homes.Soft d)) = soft_base (is_raised f i) (more d pushed)
+
+moved_base : (p : Place) (m : ℕ) → from_base (moved p m) < 2 ^ 8
+moved_base (places.Near at) m = by (nat_le m 252)
+  where
+    by : (b : Bool) → from_base (if b then near (at + m) else places.Far 0) < 2 ^ 8
+    by true = near_base (at + m)
+    by false = omega arith
+moved_base (places.Data s at) m = omega arith
+moved_base (places.Bank at) m = by (nat_eq m 0)
+  where
+    by : (b : Bool) → from_base (if b then places.Bank at else places.Far 0) < 2 ^ 8
+    by true = omega arith
+    by false = omega arith
+moved_base (places.Far at) m = farther_few at m
+
+mutual
+  base_few : (f : Framed) (pushed : ℕ) (e : Typed) → from_base (place_of f pushed e) < 2 ^ 8
+  base_few f pushed (node t (object i)) = home_base f pushed i (home_of f i)
+  base_few f pushed (node t (member e m)) = moved_base (place_of f pushed e) (offset_at (types_of f.parts.types) (bare e) m)
+  base_few f pushed (node t (deref e)) = offset_few f pushed e
+  base_few f pushed (node t _) = omega arith
+
+  offset_few : (f : Framed) (pushed : ℕ) (e : Typed) → offset_of f pushed e < 2 ^ 8
+  offset_few f pushed (node t (binary op a b)) = sum_few (offset_of f pushed a) (added_bytes op (operands_of f (bare a) (bare b)) (constant_in b))
+  offset_few f pushed (node t (decay e)) = base_few f pushed e
+  offset_few f pushed (node t _) = omega arith
+
+moved_when : (n at m : ℕ) (b : Bool) → WellPlace n (if b then near (at + m) else places.Far 0)
+moved_when n at m true = near_well n (at + m)
+moved_when n at m false = omega arith
+
+banked_when : (n at : ℕ) (b : Bool) → WellPlace n (if b then places.Bank at else places.Far 0)
 banked_when n at true = tt
-banked_when n at false = tt
+banked_when n at false = omega arith
 
 moved_well : (n : ℕ) (p : Place) (m : ℕ) → WellPlace n p → WellPlace n (moved p m)
 moved_well n (places.Near at) m h = moved_when n at m (nat_le m 252)
 moved_well n (places.Data sym at) m h = (h.0, omega arith)
 moved_well n (places.Bank b) m h = banked_when n b (nat_eq m 0)
-moved_well n places.Far m h = tt
+moved_well n (places.Far at) m h = farther_few at m
 
 pub place_well : (n : ℕ) (u : UnitTy) (f : Framed) (pushed : ℕ) (e : Typed) → Knows f u n → IsTyped u e → WellPlace n (place_of f pushed e)
 place_well n u f pushed (node t (object i)) knows h = place_at_well n f pushed i (home_of f i) (knows.objects i (slice_get_within u.objects i h.0 h.1))
 place_well n u f pushed (node t (member e m)) knows h = moved_well n (place_of f pushed e) (offset_at (types_of f.parts.types) (bare e) m) (place_well n u f pushed e knows h.0)
-place_well n u f pushed (node t _) knows h = tt
+place_well n u f pushed (node t (deref e)) knows h = offset_few f pushed e
+place_well n u f pushed (node t _) knows h = omega arith
 
 soft_well : (n : ℕ) (raised : Bool) (pushed at stacked : ℕ) → pushed < 2 ^ 16 → at < 2 ^ 16 → AllWell n (soft_code raised pushed at stacked)
 soft_well n true pushed at stacked few room = raised_well n pushed ((at + 65536 - stacked) % 65536) few
@@ -158,10 +212,10 @@ after_well : (n : ℕ) (how : StepKind) (access : Access) (m : ℕ) → AllWell 
 after_well n how access m = well_if n (is_post how) (back_code access m) [] (back_well n access m) (well_none n)
 
 pub step_well : (n : ℕ) (how : StepKind) (place : Place) (access : Access) (m : ℕ) → WellPlace n place → AllWell n (step_code how place access m)
-step_well n how place access m h = well_append n _ _ (hold_well n place) (well_append n _ _ (load_well n place access h) (well_append n _ _ (add_well n (type_in access) m) (well_append n _ _ (store_well n place access h) (after_well n how access m))))
+step_well n how place access m h = well_append n _ _ (hold_well n place) (well_append n _ _ (load_well n (settled place) access (settled_well n place h)) (well_append n _ _ (add_well n (type_in access) m) (well_append n _ _ (store_well n place access h) (after_well n how access m))))
 
 pub open_well : (n : ℕ) (place : Place) (access : Access) (kind : IntType) → WellPlace n place → AllWell n (open_code place access kind)
-open_well n place access kind h = well_append n _ _ (hold_well n place) (well_append n _ _ (load_well n place access h) (well_append n _ _ (convert_well n (type_in access) kind) (push_well n (width_of kind))))
+open_well n place access kind h = well_append n _ _ (hold_well n place) (well_append n _ _ (load_well n (settled place) access (settled_well n place h)) (well_append n _ _ (convert_well n (type_in access) kind) (push_well n (width_of kind))))
 
 pub close_well : (n : ℕ) (op : BinaryOp) (operands : Operands) (right : IntType) (place : Place) (access : Access) → WellPlace n place → AllWell n (close_code op operands right place access)
 close_well n op operands right place access h = well_append n _ _ (behind_well n op operands right) (well_append n _ _ (convert_well n (computes operands) (type_in access)) (store_well n place access h))

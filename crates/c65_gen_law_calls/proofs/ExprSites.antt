@@ -24,7 +24,7 @@ use Rattle.c65_genwide.specs.Wide.{width_of}
 use Rattle.c65_genload.specs.declared.places.Place.{Place}
 use Rattle.c65_genload.specs.declared.places.Place.TheVariants as places
 use Rattle.c65_genload.specs.declared.places.Access.{Access}
-use Rattle.c65_genload.specs.Places.{type_in as type_at, held, extent_of, extent_by}
+use Rattle.c65_genload.specs.Places.{type_in as type_at, extent_of, extent_by}
 use Rattle.c65_genload.specs.Conversions.{waiting}
 use Rattle.c65_gendirect.specs.declared.bytes.OperandByte.{OperandByte}
 use Rattle.c65_gendirect.specs.declared.direct.Direct.{Direct}
@@ -39,32 +39,36 @@ use Rattle.c65_genexpr.specs.declared.operating.Operating.TheVariants as operati
 use Rattle.c65_genexpr.specs.declared.comparing.Side.{Side}
 use Rattle.c65_genexpr.specs.declared.comparing.Side.TheVariants.{Left, Right}
 use Rattle.c65_genexpr.specs.declared.comparing.Comparing.{Comparing}
-use Rattle.c65_genexpr.specs.declared.comparing.Comparing.TheVariants.{Truth, Byte, Whole, Held, Stacked}
+use Rattle.c65_genexpr.specs.declared.comparing.Comparing.TheVariants.{Truth, Byte, Whole, Stacked, Held}
+use Rattle.c65_genexpr.specs.declared.storing.Storing.{Storing}
+use Rattle.c65_genexpr.specs.declared.storing.Storing.TheVariants as storing
 use Rattle.c65_genexpr.specs.declared.wanted.Wanted.{Wanted}
 use Rattle.c65_genexpr.specs.declared.wanted.Wanted.TheVariants.{Value, Test}
 use Rattle.c65_genexpr.specs.declared.arguments.Passed.{Passed}
 use Rattle.c65_genexpr.specs.declared.types.Outcome.{Outcome}
 use Rattle.c65_genexpr.specs.declared.types.Outcome.TheVariants.{Nothing, Number, Area}
 use Rattle.c65_genexpr.specs.Types.{kind_of, outcome_of, kind_in, bare, offset_at, access_of, target_bytes}
-use Rattle.c65_genexpr.specs.Places.{more, place_of, object_code, IsKnown}
+use Rattle.c65_genexpr.specs.Places.{more, has_base, added_bytes, sum_has_base, place_of, offset_of, object_code, IsKnown}
 use Rattle.c65_genexpr.specs.Wanted.{wanted_by, handed, wanted, sense, aimed, inner, truth_by, way, way_labels, joined}
-use Rattle.c65_genexpr.specs.Operands.{residue_of, operands_of, computes, same_truth, conversion_by}
+use Rattle.c65_genexpr.specs.Operands.{residue_of, constant_in, operands_of, computes, same_truth, conversion_by}
 use Rattle.c65_genexpr.specs.Direct.{kept_at, own_bytes}
 use Rattle.c65_genexpr.specs.Comparing.{relation_by, tested_by, comparing_of, on, low_code, below_side, comparison_by}
 use Rattle.c65_genexpr.specs.Held.{held_low, held_high}
 use Rattle.c65_genexpr.specs.Operating.{operating_of, waiting_code, stacked_code, below_operand, operator_by}
+use Rattle.c65_genexpr.specs.Storing.{target_code, storing_of, below_value, assigned_by}
 use Rattle.c65_genexpr.specs.Steps.{amount_of}
 use Rattle.c65_genexpr.specs.Arguments.{is_fast, is_counted, stays, passed_size, passed_of}
 use Rattle.c65_genexpr.specs.Arguments as arguments
 use Rattle.c65_genexpr.specs.Calls.{named, library_at, count_code, fetch_code, result_code, named_by, pointer_code, direct_code, ptr4_code}
 use Rattle.c65_genexpr.specs.Uses.{uses, by_relation}
-use Rattle.c65_genexpr.specs.Code.{target_code, width_in, tested_load, load_by, behind_open, compound, call_by, expr_code, node_code, args_code}
-use Rattle.c65_gen_law_lines.proofs.StackPieces.{narrow_still, object_still, further_still, offset_still, conversion_still, push_leaves, argument_leaves, hold_leaves, bytes_still, load_still, stored_leaves, copy_leaves, spill_still, unary_still, between_leaves, behind_leaves, wide_leaves, step_still, open_leaves, close_leaves}
+use Rattle.c65_genexpr.specs.Code.{width_in, tested_load, load_by, behind_open, compound, call_by, base_by, expr_code, node_code, base_code, pointer_base_code, args_code}
+use Rattle.c65_gen_law_lines.proofs.Drops.{Unstored}
+use Rattle.c65_gen_law_lines.proofs.StackPieces.{narrow_still, read_store_still, byte_through_still, word_through_still, object_still, further_still, offset_still, conversion_still, push_leaves, argument_leaves, hold_leaves, bytes_still, load_still, stored_leaves, copy_leaves, spill_still, unary_still, between_leaves, behind_leaves, wide_leaves, step_still, open_leaves, close_leaves}
 use Rattle.c65_gen_law_stack.proofs.EvenLines.{Labels, No, One, Even, even_label, even_leaves}
 use Rattle.c65_gen_law_stack.proofs.EvenShifts.{elements_even}
 use Rattle.c65_gen_law_stack.proofs.EvenDirects.{byte_even, compare_even, compare_byte_even, zero_test_even, truth_even}
-use Rattle.c65_gen_law_stack.proofs.EvenForms.{value_test_even, routine_test_even, constant_even, keep_even, form_even}
-use Rattle.c65_gen_law_stack.proofs.ReadSides.{Reaches, known_reached, kept_known, First, Compared, comparing_reached, Operated, operating_reached}
+use Rattle.c65_gen_law_stack.proofs.EvenForms.{value_test_even, routine_test_even, constant_even, form_even, keep_even}
+use Rattle.c65_gen_law_stack.proofs.ReadSides.{Reaches, storing_reached, sum_reached, known_reached, kept_known, First, Compared, comparing_reached, Operated, operating_reached}
 use Rattle.c65_gen_law_calls.specs.Sites.{Site, site_by, unless_named, sites_of, node_sites, args_sites}
 use Rattle.c65_gen_law_calls.specs.Lines.{is_calling, named_line, line_by, line_of}
 use Rattle.c65_gen_law_calls.specs.Found.{ExpressionsCallInOrder}
@@ -79,6 +83,7 @@ no_site = record {
   literal = λ t n. refl;
   object = λ t i. refl;
   func = λ t i. refl;
+  deref = λ t e h. h;
   member = λ t e m h. h;
   load = λ t e h. h;
   address = λ t e h. h;
@@ -90,7 +95,7 @@ known_sites : (f : Framed) (pushed : ℕ) (e : Typed) → IsKnown (place_of f pu
 known_sites f pushed e h = known_reached no_site f pushed e h
 
 target_has : {f : Framed} {ss : List Site} {code : List Line} (p : Place) → (IsKnown p → ss ≡ []) → Has f ss code → Has f ss (target_code p code)
-target_has places.Far h d = d
+target_has (places.Far at) h d = d
 target_has (places.Bank b) h d = has_as (sym (h tt)) has_none
 target_has (places.Near at) h d = has_as (sym (h tt)) has_none
 target_has (places.Data s at) h d = has_as (sym (h tt)) has_none
@@ -157,6 +162,29 @@ operator_has {ss = ss} {ts = ts} (operating.Left form) op operands right label e
 operator_has {ss = ss} {ts = ts} (operating.Right form) op operands right label empty da db = has_as (right_sites ss ts empty) (has_behind db (even_free (form_even {X = No} form label)))
 operator_has (operating.Held form) op operands right label empty da db = has_then da (has_before (even_free (keep_even {X = No})) (has_behind db (even_free (form_even {X = No} form label))))
 operator_has operating.Stacked op operands right label empty da db = labelled_has label (has_then da (has_before (waiting_free operands) (has_behind db (stacked_free op operands right))))
+
+-- ---- assignments
+
+assigned_has : {f : Framed} {ss ts : List Site} {a b : List Line} (how : Storing) (place : Place) (access : Access) → Unstored how (ss ≡ []) (ts ≡ []) → (IsKnown place → ss ≡ []) → Has f ss a → Has f ts b → Has f (ss ++ ts) (assigned_by how place access a b)
+assigned_has {ss = ss} {ts = ts} (storing.Left at stored) place access empty known da db = has_as (left_sites ss ts empty) (has_behind da (free_append (free_leaves (read_store_still at stored [])) (free_leaves (narrow_still (type_at access) []))))
+assigned_has {ss = ss} {ts = ts} (storing.RightByte at low high) place access empty known da db =
+    has_as (right_sites ss ts empty) (has_behind db (free_append (free_leaves (byte_through_still at low high [])) (free_leaves (narrow_still (type_at access) []))))
+assigned_has {ss = ss} {ts = ts} (storing.RightWord at low high) place access empty known da db = has_as (right_sites ss ts empty) (has_behind db (free_leaves (word_through_still at low high [])))
+assigned_has storing.Stacked place access empty known da db = has_then (target_has place known da) (has_before (free_leaves (hold_leaves place [])) (has_behind db (free_leaves (stored_leaves place access []))))
+
+either_has : {f : Framed} {ss : List Site} {a b : List Line} (c : Bool) → Has f ss a → Has f ss b → Has f ss (if c then a else b)
+either_has true da db = da
+either_has false da db = db
+
+based_has : {f : Framed} {ss : List Site} {a b : List Line} (place : Place) → Has f ss a → Has f ss b → Has f ss (base_by place a b)
+based_has (places.Far at) da db = da
+based_has (places.Bank b) da db = db
+based_has (places.Near at) da db = db
+based_has (places.Data s at) da db = db
+
+sum_has : {f : Framed} {ss ts : List Site} {a b : List Line} (c : Bool) (lo : ℕ) → (c ≡ true → ts ≡ []) → Has f ss a → Has f (ss ++ ts) b → Has f (ss ++ ts) (if c then Label lo ∷ a else b)
+sum_has {ss = ss} {ts = ts} true lo empty da db = has_as (left_sites ss ts (empty refl)) (has_line (Label lo) refl da)
+sum_has false lo empty da db = db
 
 -- ---- comparisons
 
@@ -249,7 +277,7 @@ mutual
   node_has f pushed lo w t (func i) = wanted_has w (width_in t) (record { is = refl })
   node_has f pushed lo w t (deref e) = wanted_has w (width_in t) (expr_has f pushed lo Value e)
   node_has f pushed lo w t (member e m) = wanted_has w (width_in t) (has_behind (expr_has f pushed lo Value e) (free_leaves (offset_still (offset_at (types_of f.parts.types) (bare e) m) [])))
-  node_has f pushed lo w t (load e) = load_has w (place_of f pushed e) (access_of (types_of f.parts.types) e) (known_sites f pushed e) (target_has (place_of f pushed e) (known_sites f pushed e) (expr_has f pushed lo Value e))
+  node_has f pushed lo w t (load e) = load_has w (place_of f pushed e) (access_of (types_of f.parts.types) e) (known_sites f pushed e) (target_has (place_of f pushed e) (known_sites f pushed e) (base_has f pushed lo e))
   node_has f pushed lo w t (address e) = wanted_has w (width_in t) (expr_has f pushed lo Value e)
   node_has f pushed lo w t (decay e) = wanted_has w (width_in t) (expr_has f pushed lo Value e)
   node_has f pushed lo w t (convert e) =
@@ -286,21 +314,37 @@ mutual
   node_has f pushed lo w t (comma a b) = has_then (expr_has f pushed lo Value a) (expr_has f pushed (lo + uses None a) w b)
   node_has f pushed lo w t (assign a b) =
       let place : Place = place_of f pushed a in
-      wanted_has w (width_in t) (has_then (target_has place (known_sites f pushed a) (expr_has f pushed lo Value a)) (has_before (free_leaves (hold_leaves place [])) (has_behind (expr_has f (more pushed (held place)) (lo + uses None a) Value b) (free_leaves (stored_leaves place (access_of (types_of f.parts.types) a) [])))))
-  node_has f pushed lo w t (assign_op op k a b) = wanted_has w (width_in t) (compound_has pushed op (Numbers k) a b (expr_has f pushed lo Value a) (expr_has f (behind_open f pushed (Numbers k) a) (lo + uses None a) Value b))
+      let how : Storing = storing_of f pushed a b in
+      wanted_has w (width_in t) (assigned_has how place (access_of (types_of f.parts.types) a) (storing_reached no_site f pushed a b) (known_sites f pushed a) (base_has f pushed lo a) (expr_has f (below_value how pushed place) (lo + uses None a) Value b))
+  node_has f pushed lo w t (assign_op op k a b) = wanted_has w (width_in t) (compound_has pushed op (Numbers k) a b (base_has f pushed lo a) (expr_has f (behind_open f pushed (Numbers k) a) (lo + uses None a) Value b))
   node_has f pushed lo w t (assign_step op a b) =
       let operands : Operands = PointerFirst (target_bytes f (bare a)) in
-      wanted_has w (width_in t) (compound_has pushed op operands a b (expr_has f pushed lo Value a) (expr_has f (behind_open f pushed operands a) (lo + uses None a) Value b))
+      wanted_has w (width_in t) (compound_has pushed op operands a b (base_has f pushed lo a) (expr_has f (behind_open f pushed operands a) (lo + uses None a) Value b))
   node_has f pushed lo w t (step how e) =
       let place : Place = place_of f pushed e in
-      wanted_has w (width_in t) (has_behind (target_has place (known_sites f pushed e) (expr_has f pushed lo Value e)) (free_leaves (step_still how place (access_of (types_of f.parts.types) e) (amount_of f how (bare e)) [])))
+      wanted_has w (width_in t) (has_behind (target_has place (known_sites f pushed e) (base_has f pushed lo e)) (free_leaves (step_still how place (access_of (types_of f.parts.types) e) (amount_of f how (bare e)) [])))
   node_has f pushed lo w t (copy a b) =
       wanted_has w (width_in t) (has_then (expr_has f pushed lo Value a) (has_before (free_leaves (push_leaves Ax [])) (has_behind (expr_has f (more pushed 2) (lo + uses None a) Value b) (free_leaves (copy_leaves (type_bytes f (type_in t)) [])))))
   node_has f pushed lo w t (call g es) =
       wanted_has w (width_in t) (call_has (named g) t g es refl (expr_has f pushed lo Value g) (args_has f pushed lo (is_fast (bare g)) es) (args_has f (more pushed 2) (lo + uses None g) (is_fast (bare g)) es))
-  node_has f pushed lo w t (pack e) = wanted_has w (width_in t) (has_behind (target_has (place_of f pushed e) (known_sites f pushed e) (expr_has f pushed lo Value e)) (free_leaves (bytes_still (place_of f pushed e) (extent_by (type_bytes f (type_in t))) [])))
+  node_has f pushed lo w t (pack e) = wanted_has w (width_in t) (has_behind (target_has (place_of f pushed e) (known_sites f pushed e) (base_has f pushed lo e)) (free_leaves (bytes_still (place_of f pushed e) (extent_by (type_bytes f (type_in t))) [])))
   node_has f pushed lo w t (spill i e) = wanted_has w (width_in t) (has_behind (expr_has f pushed lo Value e) (free_leaves (spill_still (object_code f pushed i) (extent_by (type_bytes f (type_in t))) (object_still f pushed i) [])))
   node_has f pushed lo w t further = wanted_has w (width_in t) (has_free (free_leaves (further_still f pushed [])))
+
+  base_has : (f : Framed) (pushed lo : ℕ) (e : Typed) → Has f (sites_of e) (base_code f pushed lo e)
+  base_has f pushed lo (node t (deref e)) = pointer_base_has f pushed lo e
+  base_has f pushed lo (node t (member e m)) =
+      let n : ℕ = offset_at (types_of f.parts.types) (bare e) m in
+      either_has (has_base (place_of f pushed e) n) (base_has f pushed lo e) (has_behind (expr_has f pushed lo Value e) (free_leaves (offset_still n [])))
+  base_has f pushed lo (node t n) = node_has f pushed lo Value t n
+
+  pointer_base_has : (f : Framed) (pushed lo : ℕ) (e : Typed) → Has f (sites_of e) (pointer_base_code f pushed lo e)
+  pointer_base_has f pushed lo (node t (binary op a b)) =
+      let operands : Operands = operands_of f (bare a) (bare b) in
+      let at : ℕ = offset_of f pushed a in
+      sum_has (sum_has_base at (added_bytes op operands (constant_in b))) lo (λ h. sum_reached no_site at op operands b h) (pointer_base_has f pushed (lo + 1) a) (node_has f pushed lo Value t (binary op a b))
+  pointer_base_has f pushed lo (node t (decay e)) = based_has (place_of f pushed e) (base_has f pushed lo e) (expr_has f pushed lo Value e)
+  pointer_base_has f pushed lo (node t n) = node_has f pushed lo Value t n
 
   args_has : (f : Framed) (pushed lo : ℕ) (fast : Bool) (es : Nodes) → Has f (args_sites es) (args_code f pushed lo fast es)
   args_has f pushed lo fast none = has_none

@@ -1,12 +1,12 @@
 -- Sides that an operator reads where they lie have no labels and call nothing.
-use Rattle.std.proofs.Common.{◌≡◌, ℕ, ◌==◌, Bool, true, false, Option, Some, None, ℤ, [], refl}
+use Rattle.std.proofs.Common.{◌≡◌, ◌+◌, ℕ, ◌==◌, add-zero, Bool, true, false, Option, Some, None, ℤ, [], refl}
 use Rattle.std.specs.Prelude.{◌&&◌, ◌||◌, if◌then◌else◌, is_some, option_and_then, option_map}
 use Rattle.c65_base.specs.declared.operators.BinaryOp.{BinaryOp}
 use Rattle.c65_base.specs.declared.operators.BinaryOp.TheVariants as ops
 use Rattle.c65_ints.specs.declared.types.IntType.{IntType}
-use Rattle.c65_ctype.specs.Trees.{type_in}
+use Rattle.c65_ctype.specs.Trees.{QTy, type_in}
 use Rattle.c65_ctype.specs.Views.{types_of}
-use Rattle.c65_csem.specs.Trees.{Typed, node, constant, null, literal, object, func, member, load, address, decay, convert}
+use Rattle.c65_csem.specs.Trees.{Typed, node, constant, null, literal, object, func, deref, member, load, address, decay, convert, binary}
 use Rattle.c65_code.specs.declared.routine.Width.{Width}
 use Rattle.c65_code.specs.declared.routine.Width.TheVariants.{Ax, Eax}
 use Rattle.c65_genframe.specs.Frames.{Framed}
@@ -14,12 +14,17 @@ use Rattle.c65_genwide.specs.Wide.{width_of}
 use Rattle.c65_genload.specs.declared.places.Place.{Place}
 use Rattle.c65_genload.specs.declared.places.Place.TheVariants as places
 use Rattle.c65_genload.specs.declared.places.Access.{Access}
+use Rattle.c65_genload.specs.declared.places.Access.TheVariants.{Whole, Part}
+use Rattle.c65_genload.specs.declared.places.Extent.{Extent}
+use Rattle.c65_genload.specs.declared.places.Extent.TheVariants.{One, Two, Three, Four}
+use Rattle.c65_genload.specs.Places.{extent_of}
 use Rattle.c65_gendirect.specs.declared.bytes.OperandByte.{OperandByte}
 use Rattle.c65_gendirect.specs.declared.direct.Direct.{Direct}
 use Rattle.c65_gendirect.specs.declared.compare.Sides.{Sides}
 use Rattle.c65_gendirect.specs.declared.relation.Relation.{Relation}
 use Rattle.c65_gendirect.specs.Bytes.{byte_of}
-use Rattle.c65_gendirect.specs.Compare.{mirrored}
+use Rattle.c65_gendirect.specs.declared.through.Stored.{Stored}
+use Rattle.c65_gendirect.specs.Compare.{mirrored, relation_of}
 use Rattle.c65_genshift.specs.declared.quick.Quick.{Quick}
 use Rattle.c65_genshift.specs.Quick.{quick_of}
 use Rattle.c65_genexpr.specs.declared.comparing.Side.TheVariants as side
@@ -32,7 +37,10 @@ use Rattle.c65_genexpr.specs.declared.operating.Operating.TheVariants as operati
 use Rattle.c65_genexpr.specs.declared.operands.Operands.{Operands}
 use Rattle.c65_genexpr.specs.declared.operands.Operands.TheVariants.{Numbers, PointerFirst, PointerLast, Pointers}
 use Rattle.c65_genexpr.specs.Types.{kind_of, bare, offset_at, access_of}
-use Rattle.c65_genexpr.specs.Places.{moved, place_of, IsKnown}
+use Rattle.c65_genexpr.specs.declared.storing.Storing.{Storing}
+use Rattle.c65_genexpr.specs.declared.storing.Storing.TheVariants as storing
+use Rattle.c65_genexpr.specs.Places.{moved, has_base, added_bytes, sum_has_base, place_of, IsKnown}
+use Rattle.c65_genexpr.specs.Storing.{pointer_of, bytes_stored, through, unless_changed, by_value, by_pointer, storing_by, storing_of}
 use Rattle.c65_genexpr.specs.Operands.{residue_of, negative, constant_in}
 use Rattle.c65_genexpr.specs.Direct.{kept_at, address_at, address_of, takes_bytes, converted_if, sides_of, direct_of, is_fixed, is_pure, is_byte}
 use Rattle.c65_genexpr.specs.Comparing.{is_zero, zero_sense, tested_by, is_raised, raised, one_more, range_of, meeting, beside, changes, compared_by, held_by, or_held, comparing_of}
@@ -49,7 +57,7 @@ pub moved_known : (p : Place) (n : ℕ) → IsKnown (moved p n) → IsKnown p
 moved_known (places.Bank b) n h = tt
 moved_known (places.Near at) n h = tt
 moved_known (places.Data s at) n h = tt
-moved_known places.Far n h = h
+moved_known (places.Far at) n h = h
 
 -- the lines of a known place would have no labels and no calls
 pub known_uses : (f : Framed) (pushed : ℕ) (e : Typed) → IsKnown (place_of f pushed e) → uses None e ≡ 0
@@ -73,13 +81,13 @@ pub kept_known : (p : Place) (access : Access) (d : Direct) → kept_at p access
 kept_known (places.Bank b) access d h = tt
 kept_known (places.Near at) access d h = tt
 kept_known (places.Data s at) access d h = tt
-kept_known places.Far access d h = absurd cc
+kept_known (places.Far at) access d h = absurd cc
 
 address_known : (p : Place) (d : Direct) → address_at p ≡ Some d → IsKnown p
 address_known (places.Data s at) d h = tt
 address_known (places.Bank b) d h = tt
 address_known (places.Near at) d h = tt
-address_known places.Far d h = absurd cc
+address_known (places.Far at) d h = absurd cc
 
 address_idle : (f : Framed) (pushed : ℕ) (e : Typed) (d : Direct) → address_of f pushed e ≡ Some d → Idle f e
 address_idle f pushed (node t (literal n)) d h = record { uses = refl; calls = refl }
@@ -210,6 +218,97 @@ comparing_calls f pushed q kind a b = go (tested_by q b) refl (tested_by q a) re
     go (Some s) e y h = zero_calls f b (tested_zero q b s e)
     go None e (Some s) h = zero_calls f a (tested_zero q a s h)
     go None e None h = or_held_unread _ _ (compared_by q (is_byte a && is_byte b) kind (is_pure b) (direct_of f pushed a) (direct_of f pushed b)) _ (compared_unread q (is_byte a && is_byte b) kind (is_pure b) (direct_of f pushed a) (direct_of f pushed b) (λ d found. (direct_idle f pushed a d found).calls) (λ d found. (direct_idle f pushed b d found).calls)) (held_by_unread _ _ (is_light f pushed b) (width_of kind) q kind)
+
+-- ---- assignments
+
+-- what is so of the side whose lines are not taken
+abbrev pub Unstored : Storing → Type 0 → Type 0 → Type 0
+Unstored (storing.Left at stored) A B = B
+Unstored (storing.RightByte at low high) A B = A
+Unstored (storing.RightWord at low high) A B = A
+Unstored storing.Stacked A B = Unit {0}
+
+pub some_if : (b : Bool) (x : Option Direct) (d : Direct) → (if b then x else None) ≡ Some d → x ≡ Some d
+some_if true x d h = h
+some_if false x d h = absurd cc
+
+-- a pointer that is read has no lines
+pointer_idle : (f : Framed) (pushed : ℕ) (e : Typed) (d : Direct) → pointer_of f pushed e ≡ Some d → Idle f e
+pointer_idle f pushed (node t (deref e)) d h = let idle : Idle f e = direct_idle f pushed e d h in record { uses = idle.uses; calls = idle.calls }
+pointer_idle f pushed (node t (member e m)) d h =
+    let idle : Idle f e = pointer_idle f pushed e d (some_if (has_base (place_of f pushed e) (offset_at (types_of f.parts.types) (bare e) m)) (pointer_of f pushed e) d h) in
+    record { uses = idle.uses; calls = idle.calls }
+pointer_idle f pushed (node t _) d h = absurd cc
+
+through_unstored : (A B : Type 0) (at : ℕ) (extent : Extent) (w : OperandByte × OperandByte) → A → Unstored (through at extent w) A B
+through_unstored A B at One w a = a
+through_unstored A B at Two w a = a
+through_unstored A B at Three w a = tt
+through_unstored A B at Four w a = tt
+
+word_unstored : (A B : Type 0) (at : ℕ) (extent : Extent) (w : Option (OperandByte × OperandByte)) → A → Unstored (by_pointer at extent w) A B
+word_unstored A B at extent None a = tt
+word_unstored A B at extent (Some w) a = through_unstored A B at extent w a
+
+pointer_unstored : (A B : Type 0) (at : ℕ) (extent : Extent) (x : Option Direct) → ((d : Direct) → x ≡ Some d → A) → Unstored (by_pointer at extent (option_and_then word_in x)) A B
+pointer_unstored A B at extent None found = tt
+pointer_unstored A B at extent (Some d) found = word_unstored A B at extent (word_in d) (found d refl)
+
+read_unstored : (A B : Type 0) (at : ℕ) (stored : Option Stored) (other : Storing) → B → Unstored other A B → Unstored (by_value at stored other) A B
+read_unstored A B at None other b before = before
+read_unstored A B at (Some stored) other b before = b
+
+value_unstored : (A B : Type 0) (at : ℕ) (extent : Extent) (y : Option Direct) (other : Storing) → ((d : Direct) → y ≡ Some d → B) → Unstored other A B → Unstored (by_value at (option_and_then (bytes_stored extent) y) other) A B
+value_unstored A B at extent None other found before = before
+value_unstored A B at extent (Some d) other found before = read_unstored A B at (bytes_stored extent d) other (found d refl) before
+
+pub stored_by : (A B : Type 0) (place : Place) (access : Access) (x y : Option Direct) → ((d : Direct) → x ≡ Some d → A) → ((d : Direct) → y ≡ Some d → B) → Unstored (storing_by place access x y) A B
+stored_by A B (places.Far at) (Whole kind) x y left right = value_unstored A B at (extent_of kind) y _ right (pointer_unstored A B at (extent_of kind) x left)
+stored_by A B (places.Far at) (Part field) x y left right = tt
+stored_by A B (places.Bank b) access x y left right = tt
+stored_by A B (places.Near at) access x y left right = tt
+stored_by A B (places.Data s at) access x y left right = tt
+
+unstored_by : (A B : Type 0) (f : Framed) (pushed : ℕ) (a b : Typed) → (Idle f a → A) → (Idle f b → B) → Unstored (storing_of f pushed a b) A B
+unstored_by A B f pushed a b left right =
+    stored_by A B (place_of f pushed a) (access_of (types_of f.parts.types) a) (unless_changed (is_pure b) (pointer_of f pushed a)) (direct_of f pushed b)
+    (λ d h. left (pointer_idle f pushed a d (some_if (is_fixed (pointer_of f pushed a) || is_pure b) (pointer_of f pushed a) d h))) (λ d h. right (direct_idle f pushed b d h))
+
+pub storing_uses : (f : Framed) (pushed : ℕ) (a b : Typed) → Unstored (storing_of f pushed a b) (uses None a ≡ 0) (uses None b ≡ 0)
+storing_uses f pushed a b = unstored_by _ _ f pushed a b (λ idle. idle.uses) (λ idle. idle.uses)
+
+pub storing_calls : (f : Framed) (pushed : ℕ) (a b : Typed) → Unstored (storing_of f pushed a b) (calls_of f a ≡ []) (calls_of f b ≡ [])
+storing_calls f pushed a b = unstored_by _ _ f pushed a b (λ idle. idle.calls) (λ idle. idle.calls)
+
+-- ---- sums that are told with their pointer
+
+sum_alone : (at : ℕ) (op : BinaryOp) (operands : Operands) (z : Option ℤ) → sum_has_base at (added_bytes op operands z) ≡ true → relation_of op ≡ None
+sum_alone at ops.Add operands z h = refl
+sum_alone at _ operands z h = absurd cc
+
+none_added : (op : BinaryOp) (operands : Operands) → added_bytes op operands None ≡ None
+none_added ops.Add (Numbers kind) = refl
+none_added ops.Add (PointerFirst size) = refl
+none_added ops.Add (PointerLast size) = refl
+none_added ops.Add (Pointers size) = refl
+none_added _ operands = refl
+
+pub sum_constant : (at : ℕ) (op : BinaryOp) (operands : Operands) (b : Typed) → sum_has_base at (added_bytes op operands (constant_in b)) ≡ true → (z : ℤ) × (constant_in b ≡ Some z)
+sum_constant at op operands b h = go (constant_in b) refl h
+  where
+    go : (z : Option ℤ) → constant_in b ≡ z → sum_has_base at (added_bytes op operands z) ≡ true → (y : ℤ) × (z ≡ Some y)
+    go (Some z) e more = (z, refl)
+    go None e more = absurd (cc (more, none_added op operands))
+
+sum_idle : (f : Framed) (at : ℕ) (op : BinaryOp) (operands : Operands) (b : Typed) → sum_has_base at (added_bytes op operands (constant_in b)) ≡ true → Idle f b
+sum_idle f at op operands b h = let z = sum_constant at op operands b h in constant_idle f b z.0 z.1
+
+-- one label beside those of the pointer, and its calls
+pub sum_uses : (f : Framed) (at : ℕ) (op : BinaryOp) (operands : Operands) (t : QTy) (a b : Typed) → sum_has_base at (added_bytes op operands (constant_in b)) ≡ true → uses None (node t (binary op a b)) ≡ 1 + uses None a
+sum_uses f at op operands t a b h = rw (sum_alone at op operands (constant_in b) h, (sum_idle f at op operands b h).uses, add-zero) refl
+
+pub sum_calls : (f : Framed) (at : ℕ) (op : BinaryOp) (operands : Operands) (b : Typed) → sum_has_base at (added_bytes op operands (constant_in b)) ≡ true → calls_of f b ≡ []
+sum_calls f at op operands b h = (sum_idle f at op operands b h).calls
 
 -- ---- operators that give a number or a pointer
 

@@ -11,12 +11,13 @@ use Rattle.c65_ints.specs.declared.types.IntType.TheVariants as ints
 use Rattle.c65_ints.specs.Ranges.{is_signed_of}
 use Rattle.c65_ctype.specs.Trees.{Ty, void, int, pointer, array, tag, function}
 use Rattle.c65_base.specs.declared.library.Library.{Library}
+use Rattle.c65_mach.specs.declared.rows.Op.TheVariants.{Dey, Lda, Ldy, Pha, Pla, Sta, Stx, Tax, Txa}
 use Rattle.c65_code.specs.declared.line.Sym.{Sym}
 use Rattle.c65_code.specs.declared.line.Line.{Line}
 use Rattle.c65_code.specs.declared.line.Line.TheVariants.{Call}
 use Rattle.c65_code.specs.declared.line.Callee.TheVariants.{Function, Pointer}
 use Rattle.c65_code.specs.declared.routine.Count.TheVariants.{Two as two_bytes}
-use Rattle.c65_code.specs.declared.routine.Routine.TheVariants.{PushA, PushAx, PushEax, LdAi, Tos, Unary, IncSp, Library as library_routine}
+use Rattle.c65_code.specs.declared.routine.Routine.TheVariants.{PushA, PushAx, PushEax, LdAi, LdEaxi, Tos, Unary, IncSp, Library as library_routine}
 use Rattle.c65_code.specs.declared.routine.UnaryRoutine.TheVariants.{Shl1}
 use Rattle.c65_code.specs.declared.routine.TosOp.{TosOp}
 use Rattle.c65_code.specs.declared.routine.TosOp.TheVariants as tos
@@ -27,7 +28,7 @@ use Rattle.c65_genframe.specs.declared.home.Home.TheVariants as homes
 use Rattle.c65_genframe.specs.Registers.{registers}
 use Rattle.c65_genframe.specs.Frames.{Framed, home_of, is_raised, saved_bytes}
 use Rattle.c65_genframe.specs.Symbols.{numbers_of, object_symbol, function_symbol}
-use Rattle.c65_genwide.specs.Lines.{call}
+use Rattle.c65_genwide.specs.Lines.{value, call}
 use Rattle.c65_genwide.specs.Passing.{three_code, pass_bytes}
 use Rattle.c65_genwide.specs.Wide.{width_of, narrow_code, wide_code, tos_of, is_comparison}
 use Rattle.c65_genload.specs.declared.places.Extent.{Extent}
@@ -37,13 +38,20 @@ use Rattle.c65_genload.specs.declared.places.Place.{Place}
 use Rattle.c65_genload.specs.declared.places.Place.TheVariants as places
 use Rattle.c65_genload.specs.declared.places.Access.{Access}
 use Rattle.c65_genload.specs.declared.places.Access.TheVariants.{Whole, Part}
-use Rattle.c65_genload.specs.Places.{type_in, byte_more, extent_of}
+use Rattle.c65_genload.specs.Words.{ptr1, implied, zero_page, by_y}
+use Rattle.c65_genload.specs.Places.{type_in, byte_more, extent_of, settled}
 use Rattle.c65_genload.specs.Numbers.{number_code, add_word_code, add_by_width, add_code, mask_code, by_code, shift_code, scale_code, is_divisor, divide_code}
 use Rattle.c65_genload.specs.Conversions.{widen_code, convert_code, convert_to, push_code, test_code}
 use Rattle.c65_genload.specs.Addresses.{symbol_code, address_code, above_code, raised_code, offset_code}
 use Rattle.c65_genload.specs.Fields.{ones, others, extract_code, aligned_code}
 use Rattle.c65_genload.specs.Loads.{hold_code, bytes_code, load_code}
 use Rattle.c65_genload.specs.Stores.{bytes_store, after_store, under_code, field_store, store_code, copy_code}
+use Rattle.c65_gendirect.specs.declared.bytes.OperandByte.{OperandByte}
+use Rattle.c65_gendirect.specs.declared.bytes.OperandByte.TheVariants as operand
+use Rattle.c65_gendirect.specs.declared.through.Stored.{Stored}
+use Rattle.c65_gendirect.specs.declared.through.Stored.TheVariants as stores
+use Rattle.c65_gendirect.specs.Bytes.{op_of}
+use Rattle.c65_gendirect.specs.Through.{read_bytes_code, read_store_code, point_code, byte_through_code, word_through_code}
 use Rattle.c65_genexpr.specs.declared.operands.Operands.{Operands}
 use Rattle.c65_genexpr.specs.declared.operands.Operands.TheVariants.{Numbers, PointerFirst, PointerLast, Pointers}
 use Rattle.c65_genexpr.specs.declared.arguments.Passed.{Passed}
@@ -193,11 +201,13 @@ test_piece Eax = record { plain = refl; fit = refl; size = omega arith }
 
 -- ---- loads and stores
 
-pub hold_piece : (place : Place) → Piece 3 (hold_code place)
-hold_piece (places.Bank b) = piece_none 3
-hold_piece (places.Near at) = piece_none 3
-hold_piece (places.Data s at) = piece_none 3
-hold_piece places.Far = record { plain = refl; fit = refl; size = omega arith }
+pub hold_piece : (place : Place) → Piece 12 (hold_code place)
+hold_piece (places.Bank b) = piece_none 12
+hold_piece (places.Near at) = piece_none 12
+hold_piece (places.Data s at) = piece_none 12
+hold_piece (places.Far at) =
+    let push : Piece 3 (call PushAx ∷ []) = record { plain = refl; fit = refl; size = omega arith } in
+    piece_append 9 3 (offset_code at) (call PushAx ∷ []) (offset_piece at) push
 
 -- the lines that take so many bytes: three have no routine
 abbrev pub taking : Extent → ℕ
@@ -217,10 +227,12 @@ bytes_piece (places.Data s at) One = record { plain = refl; fit = refl; size = o
 bytes_piece (places.Data s at) Two = record { plain = refl; fit = refl; size = omega arith }
 bytes_piece (places.Data s at) Three = record { plain = refl; fit = refl; size = omega arith }
 bytes_piece (places.Data s at) Four = record { plain = refl; fit = refl; size = omega arith }
-bytes_piece places.Far One = record { plain = refl; fit = refl; size = omega arith }
-bytes_piece places.Far Two = record { plain = refl; fit = refl; size = omega arith }
-bytes_piece places.Far Three = record { plain = refl; fit = refl; size = omega arith }
-bytes_piece places.Far Four = record { plain = refl; fit = refl; size = omega arith }
+bytes_piece (places.Far at) One = record { plain = refl; fit = refl; size = omega arith }
+bytes_piece (places.Far at) Two = record { plain = refl; fit = refl; size = omega arith }
+bytes_piece (places.Far at) Three = record { plain = refl; fit = refl; size = omega arith }
+bytes_piece (places.Far at) Four =
+    let whole : Piece 3 (call LdEaxi ∷ []) = record { plain = refl; fit = refl; size = omega arith } in
+    piece_wider 12 16 _ (piece_append 9 3 (offset_code at) (call LdEaxi ∷ []) (offset_piece at) whole) (omega arith)
 
 taking_few : (e : Extent) → taking e ≤ 20
 taking_few One = omega arith
@@ -273,22 +285,22 @@ bytes_store_piece (places.Data s at) One = record { plain = refl; fit = refl; si
 bytes_store_piece (places.Data s at) Two = record { plain = refl; fit = refl; size = omega arith }
 bytes_store_piece (places.Data s at) Three = record { plain = refl; fit = refl; size = omega arith }
 bytes_store_piece (places.Data s at) Four = record { plain = refl; fit = refl; size = omega arith }
-bytes_store_piece places.Far One = record { plain = refl; fit = refl; size = omega arith }
-bytes_store_piece places.Far Two = record { plain = refl; fit = refl; size = omega arith }
-bytes_store_piece places.Far Three = record { plain = refl; fit = refl; size = omega arith }
-bytes_store_piece places.Far Four = record { plain = refl; fit = refl; size = omega arith }
+bytes_store_piece (places.Far at) One = record { plain = refl; fit = refl; size = omega arith }
+bytes_store_piece (places.Far at) Two = record { plain = refl; fit = refl; size = omega arith }
+bytes_store_piece (places.Far at) Three = record { plain = refl; fit = refl; size = omega arith }
+bytes_store_piece (places.Far at) Four = record { plain = refl; fit = refl; size = omega arith }
 
 after_store_piece : (place : Place) (kind : IntType) → Piece 3 (after_store place kind)
 after_store_piece (places.Bank b) kind = piece_none 3
 after_store_piece (places.Near at) kind = piece_none 3
 after_store_piece (places.Data s at) kind = piece_none 3
-after_store_piece places.Far kind = narrow_piece kind
+after_store_piece (places.Far at) kind = narrow_piece kind
 
 under_piece : (place : Place) → Piece 18 (under_code place)
 under_piece (places.Bank b) = piece_wider 16 18 _ (bytes_piece (places.Bank b) Two) (omega arith)
 under_piece (places.Near at) = piece_wider 16 18 _ (bytes_piece (places.Near (byte_more at 2)) Two) (omega arith)
 under_piece (places.Data s at) = piece_wider 16 18 _ (bytes_piece (places.Data s at) Two) (omega arith)
-under_piece places.Far = record { plain = refl; fit = refl; size = omega arith }
+under_piece (places.Far at) = record { plain = refl; fit = refl; size = omega arith }
 
 aligned_piece : (g : Field) → Piece 18 (aligned_code g)
 aligned_piece g = piece_append 8 10 _ _ (mask_piece (ones g.width)) (shift_piece tos.Shl g.low)
@@ -345,6 +357,50 @@ behind_piece op (Pointers size) right = piece_wider 16 19 _ (piece_append 6 10 _
 
 -- ---- assignments
 
+loaded_piece : (d : OperandByte) → Piece 4 (op_of Lda d)
+loaded_piece (operand.Number n) = record { plain = refl; fit = refl; size = omega arith }
+loaded_piece (operand.Low s at) = record { plain = refl; fit = refl; size = omega arith }
+loaded_piece (operand.High s at) = record { plain = refl; fit = refl; size = omega arith }
+loaded_piece (operand.Near at) = record { plain = refl; fit = refl; size = omega arith }
+loaded_piece (operand.Data s at) = record { plain = refl; fit = refl; size = omega arith }
+loaded_piece (operand.Zero at) = record { plain = refl; fit = refl; size = omega arith }
+
+read_bytes_piece : (at : ℕ) (stored : Stored) → Piece 18 (read_bytes_code at stored)
+read_bytes_piece at (stores.Single low) =
+    let last : Piece 14 (value Ldy at ∷ by_y Sta ptr1 ∷ []) = record { plain = refl; fit = refl; size = omega arith } in
+    piece_append 4 14 (op_of Lda low) _ (loaded_piece low) last
+read_bytes_piece at (stores.Word low high) =
+    let aside : Piece 1 (implied Pha ∷ []) = record { plain = refl; fit = refl; size = omega arith } in
+    let last : Piece 9 (value Ldy (byte_more at 1) ∷ by_y Sta ptr1 ∷ implied Tax ∷ implied Dey ∷ implied Pla ∷ by_y Sta ptr1 ∷ []) = record { plain = refl; fit = refl; size = omega arith } in
+    piece_append 4 14 (op_of Lda low) _ (loaded_piece low) (piece_append 1 13 (implied Pha ∷ []) _ aside (piece_append 4 9 (op_of Lda high) _ (loaded_piece high) last))
+read_bytes_piece at (stores.Fixed low high) =
+    let first : Piece 5 (value Ldy (byte_more at 1) ∷ by_y Sta ptr1 ∷ implied Tax ∷ []) = record { plain = refl; fit = refl; size = omega arith } in
+    let last : Piece 5 (value Ldy at ∷ by_y Sta ptr1 ∷ []) = record { plain = refl; fit = refl; size = omega arith } in
+    piece_append 4 14 (op_of Lda high) _ (loaded_piece high) (piece_append 5 9 (value Ldy (byte_more at 1) ∷ by_y Sta ptr1 ∷ implied Tax ∷ []) _ first (piece_append 4 5 (op_of Lda low) _ (loaded_piece low) last))
+
+pub read_store_piece : (at : ℕ) (stored : Stored) → Piece 22 (read_store_code at stored)
+read_store_piece at stored =
+    let to : Piece 4 (zero_page Sta ptr1 ∷ zero_page Stx (ptr1 + 1) ∷ []) = record { plain = refl; fit = refl; size = omega arith } in
+    piece_append 4 18 (zero_page Sta ptr1 ∷ zero_page Stx (ptr1 + 1) ∷ []) (read_bytes_code at stored) to (read_bytes_piece at stored)
+
+point_piece : (low high : OperandByte) → Piece 12 (point_code low high)
+point_piece low high =
+    let first : Piece 2 (zero_page Sta ptr1 ∷ []) = record { plain = refl; fit = refl; size = omega arith } in
+    let second : Piece 2 (zero_page Sta (ptr1 + 1) ∷ []) = record { plain = refl; fit = refl; size = omega arith } in
+    piece_append 4 8 (op_of Lda low) _ (loaded_piece low) (piece_append 2 6 (zero_page Sta ptr1 ∷ []) _ first (piece_append 4 2 (op_of Lda high) _ (loaded_piece high) second))
+
+pub byte_through_piece : (at : ℕ) (low high : OperandByte) → Piece 22 (byte_through_code at low high)
+byte_through_piece at low high =
+    let aside : Piece 1 (implied Tax ∷ []) = record { plain = refl; fit = refl; size = omega arith } in
+    let last : Piece 9 (implied Txa ∷ value Ldy at ∷ by_y Sta ptr1 ∷ []) = record { plain = refl; fit = refl; size = omega arith } in
+    piece_append 1 21 (implied Tax ∷ []) _ aside (piece_append 12 9 (point_code low high) _ (point_piece low high) last)
+
+pub word_through_piece : (at : ℕ) (low high : OperandByte) → Piece 22 (word_through_code at low high)
+word_through_piece at low high =
+    let aside : Piece 1 (implied Pha ∷ []) = record { plain = refl; fit = refl; size = omega arith } in
+    let last : Piece 9 (value Ldy (byte_more at 1) ∷ implied Txa ∷ by_y Sta ptr1 ∷ implied Dey ∷ implied Pla ∷ by_y Sta ptr1 ∷ []) = record { plain = refl; fit = refl; size = omega arith } in
+    piece_append 1 21 (implied Pha ∷ []) _ aside (piece_append 12 9 (point_code low high) _ (point_piece low high) last)
+
 back_piece : (access : Access) (n : ℕ) → Piece (by_access 21 41 access) (back_code access n)
 back_piece (Whole kind) n = add_piece kind (negative n)
 back_piece (Part field) n = piece_append 21 20 _ _ (add_piece field.kind (negative n)) (extract_piece (record field { low = 0 }))
@@ -352,21 +408,21 @@ back_piece (Part field) n = piece_append 21 20 _ _ (add_piece field.kind (negati
 after_piece : (how : StepKind) (access : Access) (n : ℕ) → Piece (by_access 21 41 access) (after_code how access n)
 after_piece how access n = piece_if _ (is_post how) (back_code access n) [] (back_piece access n) (piece_none _)
 
-step_sizes : (access : Access) → 3 + (by_access 19 36 access + (21 + (by_access 19 86 access + by_access 21 41 access))) ≤ by_access 83 187 access
+step_sizes : (access : Access) → 12 + (by_access 19 36 access + (21 + (by_access 19 86 access + by_access 21 41 access))) ≤ by_access 92 196 access
 step_sizes (Whole kind) = omega arith
 step_sizes (Part field) = omega arith
 
-pub step_piece : (how : StepKind) (place : Place) (access : Access) (n : ℕ) → Piece (by_access 83 187 access) (step_code how place access n)
+pub step_piece : (how : StepKind) (place : Place) (access : Access) (n : ℕ) → Piece (by_access 92 196 access) (step_code how place access n)
 step_piece how place access n =
-    piece_wider _ _ _ (piece_append 3 _ _ _ (hold_piece place) (piece_append _ _ _ _ (load_piece place access) (piece_append 21 _ _ _ (add_piece (type_in access) n) (piece_append _ _ _ _ (store_piece place access) (after_piece how access n))))) (step_sizes access)
+    piece_wider _ _ _ (piece_append 12 _ _ _ (hold_piece place) (piece_append _ _ _ _ (load_piece (settled place) access) (piece_append 21 _ _ _ (add_piece (type_in access) n) (piece_append _ _ _ _ (store_piece place access) (after_piece how access n))))) (step_sizes access)
 
-open_sizes : (access : Access) → 3 + (by_access 19 36 access + (3 + 3)) ≤ by_access 28 45 access
+open_sizes : (access : Access) → 12 + (by_access 19 36 access + (3 + 3)) ≤ by_access 37 54 access
 open_sizes (Whole kind) = omega arith
 open_sizes (Part field) = omega arith
 
-pub open_piece : (place : Place) (access : Access) (kind : IntType) → Piece (by_access 28 45 access) (open_code place access kind)
+pub open_piece : (place : Place) (access : Access) (kind : IntType) → Piece (by_access 37 54 access) (open_code place access kind)
 open_piece place access kind =
-    piece_wider _ _ _ (piece_append 3 _ _ _ (hold_piece place) (piece_append _ _ _ _ (load_piece place access) (piece_append 3 3 _ _ (convert_piece (type_in access) kind) (push_piece (width_of kind))))) (open_sizes access)
+    piece_wider _ _ _ (piece_append 12 _ _ _ (hold_piece place) (piece_append _ _ _ _ (load_piece (settled place) access) (piece_append 3 3 _ _ (convert_piece (type_in access) kind) (push_piece (width_of kind))))) (open_sizes access)
 
 close_sizes : (access : Access) → 19 + (3 + by_access 19 86 access) ≤ by_access 41 108 access
 close_sizes (Whole kind) = omega arith

@@ -28,7 +28,7 @@ use Rattle.c65_genload.specs.declared.places.Place.{Place}
 use Rattle.c65_genload.specs.declared.places.Place.TheVariants as places
 use Rattle.c65_genload.specs.declared.places.Access.{Access}
 use Rattle.c65_genload.specs.Words.{implied}
-use Rattle.c65_genload.specs.Places.{held, extent_by, extent_of}
+use Rattle.c65_genload.specs.Places.{extent_by, extent_of}
 use Rattle.c65_genload.specs.Places as loads
 use Rattle.c65_genload.specs.Conversions.{waiting}
 use Rattle.c65_gendirect.specs.declared.bytes.OperandByte.{OperandByte}
@@ -41,6 +41,8 @@ use Rattle.c65_genexpr.specs.declared.comparing.Comparing.{Comparing}
 use Rattle.c65_genexpr.specs.declared.comparing.Comparing.TheVariants as comparing
 use Rattle.c65_genexpr.specs.declared.operating.Operating.{Operating}
 use Rattle.c65_genexpr.specs.declared.operating.Operating.TheVariants as operating
+use Rattle.c65_genexpr.specs.declared.storing.Storing.{Storing}
+use Rattle.c65_genexpr.specs.declared.storing.Storing.TheVariants as storing
 use Rattle.c65_genexpr.specs.declared.wanted.Wanted.{Wanted}
 use Rattle.c65_genexpr.specs.declared.wanted.Wanted.TheVariants.{Value, Test}
 use Rattle.c65_genexpr.specs.declared.operands.Operands.{Operands}
@@ -49,25 +51,26 @@ use Rattle.c65_genexpr.specs.declared.arguments.Passed.{Passed}
 use Rattle.c65_genexpr.specs.declared.types.Outcome.{Outcome}
 use Rattle.c65_genexpr.specs.declared.types.Outcome.TheVariants.{Nothing, Number, Area}
 use Rattle.c65_genexpr.specs.Types.{kind_of, outcome_of, given_bytes, kind_in, bare, offset_at, access_of, target_bytes}
-use Rattle.c65_genexpr.specs.Places.{more, place_of, object_code, IsKnown}
-use Rattle.c65_genexpr.specs.Operands.{residue_of, operands_of, computes, unary_code, same_truth, conversion_by}
+use Rattle.c65_genexpr.specs.Places.{more, has_base, added_bytes, sum_has_base, place_of, offset_of, object_code, IsKnown}
+use Rattle.c65_genexpr.specs.Operands.{residue_of, constant_in, operands_of, computes, unary_code, same_truth, conversion_by}
 use Rattle.c65_genexpr.specs.Direct.{kept_at, own_bytes}
 use Rattle.c65_genexpr.specs.Wanted.{decided_code, wanted_by, handed, branch_code, wanted, aimed, sense, inner, truth_by, is_straight, way, way_labels, joined as both_joined}
 use Rattle.c65_genexpr.specs.Held.{held_low, held_high}
 use Rattle.c65_genexpr.specs.Comparing.{relation_by, tested_by, comparing_of, low_code, below_side, comparison_by}
 use Rattle.c65_genexpr.specs.Operating.{operating_of, below_operand, operator_by}
+use Rattle.c65_genexpr.specs.Storing.{target_code, storing_of, below_value, assigned_by}
 use Rattle.c65_genexpr.specs.Steps.{amount_of}
 use Rattle.c65_genexpr.specs.Arguments.{is_fast, is_counted, stays, passed_size, passed_of, reads_of}
 use Rattle.c65_genexpr.specs.Arguments as arguments
 use Rattle.c65_genexpr.specs.Calls.{named, count_code, fetch_code, result_code, library_at, named_by, pointer_code, direct_code, ptr4_code}
 use Rattle.c65_genexpr.specs.Uses.{by_relation, uses}
-use Rattle.c65_genexpr.specs.Code.{target_code, width_in, constant_code, tested_load, load_by, behind_open, compound, call_by, expr_code, node_code, args_code, operator_code, comparison_code}
+use Rattle.c65_genexpr.specs.Code.{width_in, constant_code, tested_load, load_by, behind_open, compound, call_by, base_by, expr_code, node_code, base_code, pointer_base_code, args_code, operator_code, comparison_code}
 use Rattle.c65_gen_law_lines.specs.Stack.{bytes_in, Waiting, waiting_by, taken, left, waits, argument_bytes, passed, unless_named, calls_of, node_calls, args_calls}
 use Rattle.c65_gen_law_lines.specs.Laws.{ExpressionsKeepTheStack, CallsAreCounted}
 use Rattle.c65_gen_law_lines.proofs.Directs.{loaded_quiet, compare_quiet, compare_byte_quiet, zero_test_quiet, truth_quiet}
-use Rattle.c65_gen_law_lines.proofs.Drops.{kept_known, known_calls, IfRead, Unread, comparing_calls, Unused, operating_calls}
-use Rattle.c65_gen_law_lines.proofs.Forms.{keep_quiet, form_quiet, waiting_leaves, stacked_leaves}
-use Rattle.c65_gen_law_lines.proofs.StackPieces.{waits_append, Leaves, leaves_then, leaves_none, leaves_if, Still, narrow_still, number_still, object_still, further_still, offset_still, conversion_still, push_leaves, argument_leaves, test_still, holding, hold_leaves, bytes_still, load_still, stored_leaves, copy_leaves, spill_still, unary_still, between_leaves, behind_leaves, step_still, open_leaves, close_leaves}
+use Rattle.c65_gen_law_lines.proofs.Drops.{kept_known, known_calls, IfRead, Unread, comparing_calls, Unstored, storing_calls, sum_calls, Unused, operating_calls}
+use Rattle.c65_gen_law_lines.proofs.Forms.{form_quiet, waiting_leaves, stacked_leaves, keep_quiet}
+use Rattle.c65_gen_law_lines.proofs.StackPieces.{waits_append, Leaves, leaves_then, leaves_none, leaves_if, Still, narrow_still, number_still, object_still, further_still, offset_still, conversion_still, push_leaves, argument_leaves, test_still, holding, hold_leaves, bytes_still, load_still, stored_leaves, read_store_still, byte_through_still, word_through_still, copy_leaves, spill_still, unary_still, between_leaves, behind_leaves, step_still, open_leaves, close_leaves}
 
 -- lines lead from some values that wait to others by these calls
 record Does (cs : List (List ℕ)) (v : List ℕ) (a : List Line) (u : List ℕ) : Type 0 where
@@ -108,7 +111,7 @@ nothing_more (x ∷ xs) = ap (λ l. x ∷ l) (nothing_more xs)
 -- ---- places that are known
 
 target_does : {cs : List (List ℕ)} {v : List ℕ} {code : List Line} (p : Place) → (IsKnown p → cs ≡ []) → Does cs v code v → Does cs v (target_code p code) v
-target_does places.Far h d = d
+target_does (places.Far at) h d = d
 target_does (places.Bank b) h d = does_as (sym (h tt)) does_none
 target_does (places.Near at) h d = does_as (sym (h tt)) does_none
 target_does (places.Data s at) h d = does_as (sym (h tt)) does_none
@@ -189,6 +192,28 @@ operator_does (operating.Held form) op operands right own small da db v =
     does_then (da v) (does_before ((keep_quiet {ok = λ l. true}).still v) (does_behind (db v) ((form_quiet {ok = λ l. true} form own refl small).still v)))
 operator_does operating.Stacked op operands right own small da db v =
     does_behind (does_then (da v) (does_before (waiting_leaves operands v) (does_behind (db (waiting (width_of (computes operands)) ∷ v)) (stacked_leaves op operands right v)))) (one_label own)
+
+-- ---- assignments
+
+assigned_does : {cs ds : List (List ℕ)} {a b : List Line} (how : Storing) (place : Place) (access : Access) → Unstored how (cs ≡ []) (ds ≡ []) → (IsKnown place → cs ≡ []) → Doing cs a → Doing ds b → Doing (cs ++ ds) (assigned_by how place access a b)
+assigned_does (storing.Left at stored) place access unread known da db v = left_alone unread (does_behind (da v) (leaves_then (read_store_still at stored v) (narrow_still (loads.type_in access) v)))
+assigned_does (storing.RightByte at low high) place access unread known da db v = right_alone unread (does_behind (db v) (leaves_then (byte_through_still at low high v) (narrow_still (loads.type_in access) v)))
+assigned_does (storing.RightWord at low high) place access unread known da db v = right_alone unread (does_behind (db v) (word_through_still at low high v))
+assigned_does storing.Stacked place access unread known da db v = does_then (target_does place known (da v)) (does_before (hold_leaves place v) (does_behind (db (holding place v)) (stored_leaves place access v)))
+
+either_does : {cs : List (List ℕ)} {v : List ℕ} {a b : List Line} (c : Bool) → Does cs v a v → Does cs v b v → Does cs v (if c then a else b) v
+either_does true da db = da
+either_does false da db = db
+
+based_does : {cs : List (List ℕ)} {v : List ℕ} {a b : List Line} (place : Place) → Does cs v a v → Does cs v b v → Does cs v (base_by place a b) v
+based_does (places.Far at) da db = da
+based_does (places.Bank b) da db = db
+based_does (places.Near at) da db = db
+based_does (places.Data s at) da db = db
+
+sum_does : {cs ds : List (List ℕ)} {v : List ℕ} {a b : List Line} (c : Bool) (lo : ℕ) → (c ≡ true → ds ≡ []) → Does cs v a v → Does (cs ++ ds) v b v → Does (cs ++ ds) v (if c then Label lo ∷ a else b) v
+sum_does true lo quiet da db = left_alone (quiet refl) (does_line (Label lo) (λ w. refl) da)
+sum_does false lo quiet da db = db
 
 -- ---- calls
 
@@ -292,7 +317,7 @@ mutual
   node_does f pushed lo w t (func i) v = wanted_does w (width_in t) (record { to = λ rest. refl })
   node_does f pushed lo w t (deref e) v = wanted_does w (width_in t) (expr_does f pushed lo Value e v)
   node_does f pushed lo w t (member e m) v = wanted_does w (width_in t) (does_behind (expr_does f pushed lo Value e v) (offset_still (offset_at (types_of f.parts.types) (bare e) m) v))
-  node_does f pushed lo w t (load e) v = load_does w (place_of f pushed e) (access_of (types_of f.parts.types) e) (known_calls f pushed e) (target_does (place_of f pushed e) (known_calls f pushed e) (expr_does f pushed lo Value e v))
+  node_does f pushed lo w t (load e) v = load_does w (place_of f pushed e) (access_of (types_of f.parts.types) e) (known_calls f pushed e) (target_does (place_of f pushed e) (known_calls f pushed e) (base_does f pushed lo e v))
   node_does f pushed lo w t (address e) v = wanted_does w (width_in t) (expr_does f pushed lo Value e v)
   node_does f pushed lo w t (decay e) v = wanted_does w (width_in t) (expr_does f pushed lo Value e v)
   node_does f pushed lo w t (convert e) v =
@@ -322,22 +347,38 @@ mutual
   node_does f pushed lo w t (comma a b) v = does_then (expr_does f pushed lo Value a v) (expr_does f pushed (lo + uses None a) w b v)
   node_does f pushed lo w t (assign a b) v =
       let place : Place = place_of f pushed a in
-      wanted_does w (width_in t) (does_then (target_does place (known_calls f pushed a) (expr_does f pushed lo Value a v)) (does_before (hold_leaves place v) (does_behind (expr_does f (more pushed (held place)) (lo + uses None a) Value b (holding place v)) (stored_leaves place (access_of (types_of f.parts.types) a) v))))
+      let how : Storing = storing_of f pushed a b in
+      wanted_does w (width_in t) (assigned_does how place (access_of (types_of f.parts.types) a) (storing_calls f pushed a b) (known_calls f pushed a) (base_does f pushed lo a) (expr_does f (below_value how pushed place) (lo + uses None a) Value b) v)
   node_does f pushed lo w t (assign_op op k a b) v =
-      wanted_does w (width_in t) (compound_does f pushed op (Numbers k) a b v (expr_does f pushed lo Value a v) (expr_does f (behind_open f pushed (Numbers k) a) (lo + uses None a) Value b (waiting (width_of k) ∷ holding (place_of f pushed a) v)))
+      wanted_does w (width_in t) (compound_does f pushed op (Numbers k) a b v (base_does f pushed lo a v) (expr_does f (behind_open f pushed (Numbers k) a) (lo + uses None a) Value b (waiting (width_of k) ∷ holding (place_of f pushed a) v)))
   node_does f pushed lo w t (assign_step op a b) v =
       let operands : Operands = PointerFirst (target_bytes f (bare a)) in
-      wanted_does w (width_in t) (compound_does f pushed op operands a b v (expr_does f pushed lo Value a v) (expr_does f (behind_open f pushed operands a) (lo + uses None a) Value b (2 ∷ holding (place_of f pushed a) v)))
+      wanted_does w (width_in t) (compound_does f pushed op operands a b v (base_does f pushed lo a v) (expr_does f (behind_open f pushed operands a) (lo + uses None a) Value b (2 ∷ holding (place_of f pushed a) v)))
   node_does f pushed lo w t (step how e) v =
       let place : Place = place_of f pushed e in
-      wanted_does w (width_in t) (does_behind (target_does place (known_calls f pushed e) (expr_does f pushed lo Value e v)) (step_still how place (access_of (types_of f.parts.types) e) (amount_of f how (bare e)) v))
+      wanted_does w (width_in t) (does_behind (target_does place (known_calls f pushed e) (base_does f pushed lo e v)) (step_still how place (access_of (types_of f.parts.types) e) (amount_of f how (bare e)) v))
   node_does f pushed lo w t (copy a b) v =
       wanted_does w (width_in t) (does_then (expr_does f pushed lo Value a v) (does_before (push_leaves Ax v) (does_behind (expr_does f (more pushed 2) (lo + uses None a) Value b (2 ∷ v)) (copy_leaves (type_bytes f (type_in t)) v))))
   node_does f pushed lo w t (call g es) v =
       wanted_does w (width_in t) (call_does f (named g) (outcome_of f (type_in t)) g es (expr_does f pushed lo Value g v) (args_does f pushed lo (is_fast (bare g)) es v) (args_does f (more pushed 2) (lo + uses None g) (is_fast (bare g)) es (2 ∷ v)))
-  node_does f pushed lo w t (pack e) v = wanted_does w (width_in t) (does_behind (target_does (place_of f pushed e) (known_calls f pushed e) (expr_does f pushed lo Value e v)) (bytes_still (place_of f pushed e) (extent_by (type_bytes f (type_in t))) v))
+  node_does f pushed lo w t (pack e) v = wanted_does w (width_in t) (does_behind (target_does (place_of f pushed e) (known_calls f pushed e) (base_does f pushed lo e v)) (bytes_still (place_of f pushed e) (extent_by (type_bytes f (type_in t))) v))
   node_does f pushed lo w t (spill i e) v = wanted_does w (width_in t) (does_behind (expr_does f pushed lo Value e v) (spill_still (object_code f pushed i) (extent_by (type_bytes f (type_in t))) (object_still f pushed i) v))
   node_does f pushed lo w t further v = wanted_does w (width_in t) (does_leaves (further_still f pushed v))
+
+  base_does : (f : Framed) (pushed lo : ℕ) (e : Typed) (v : List ℕ) → Does (calls_of f e) v (base_code f pushed lo e) v
+  base_does f pushed lo (node t (deref e)) v = pointer_base_does f pushed lo e v
+  base_does f pushed lo (node t (member e m)) v =
+      let n : ℕ = offset_at (types_of f.parts.types) (bare e) m in
+      either_does (has_base (place_of f pushed e) n) (base_does f pushed lo e v) (does_behind (expr_does f pushed lo Value e v) (offset_still n v))
+  base_does f pushed lo (node t n) v = node_does f pushed lo Value t n v
+
+  pointer_base_does : (f : Framed) (pushed lo : ℕ) (e : Typed) (v : List ℕ) → Does (calls_of f e) v (pointer_base_code f pushed lo e) v
+  pointer_base_does f pushed lo (node t (binary op a b)) v =
+      let operands : Operands = operands_of f (bare a) (bare b) in
+      let at : ℕ = offset_of f pushed a in
+      sum_does (sum_has_base at (added_bytes op operands (constant_in b))) lo (λ h. sum_calls f at op operands b h) (pointer_base_does f pushed (lo + 1) a v) (node_does f pushed lo Value t (binary op a b) v)
+  pointer_base_does f pushed lo (node t (decay e)) v = based_does (place_of f pushed e) (base_does f pushed lo e v) (expr_does f pushed lo Value e v)
+  pointer_base_does f pushed lo (node t n) v = node_does f pushed lo Value t n v
 
   args_does : (f : Framed) (pushed lo : ℕ) (fast : Bool) (es : Nodes) (v : List ℕ) → Does (args_calls f es) v (args_code f pushed lo fast es) (passed f fast es ++ v)
   args_does f pushed lo fast none v = does_none

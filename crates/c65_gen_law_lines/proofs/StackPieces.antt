@@ -13,8 +13,9 @@ use Rattle.c65_ints.specs.Ranges.{is_signed_of}
 use Rattle.c65_ctype.specs.Trees.{Ty, void, int, pointer, array, tag, function}
 use Rattle.c65_ctype.specs.Trees as types
 use Rattle.c65_csem.specs.Trees.{Typed, node, pack}
+use Rattle.c65_mach.specs.declared.rows.Op.TheVariants.{Lda, Ldy, Pha, Sta, Stx, Tax}
 use Rattle.c65_code.specs.declared.line.Line.{Line}
-use Rattle.c65_code.specs.declared.routine.Routine.TheVariants.{PushAx, LdAi, Tos, Unary}
+use Rattle.c65_code.specs.declared.routine.Routine.TheVariants.{PushAx, LdAi, LdEaxi, Tos, Unary}
 use Rattle.c65_code.specs.declared.routine.UnaryRoutine.TheVariants.{Shl1}
 use Rattle.c65_code.specs.declared.routine.TosOp.{TosOp}
 use Rattle.c65_code.specs.declared.routine.TosOp.TheVariants as tos
@@ -23,7 +24,7 @@ use Rattle.c65_code.specs.declared.routine.Width.TheVariants.{Ax, Eax}
 use Rattle.c65_genframe.specs.declared.home.Home.{Home}
 use Rattle.c65_genframe.specs.declared.home.Home.TheVariants as homes
 use Rattle.c65_genframe.specs.Frames.{Framed, home_of, is_raised, saved_bytes, type_bytes}
-use Rattle.c65_genwide.specs.Lines.{call}
+use Rattle.c65_genwide.specs.Lines.{value, call}
 use Rattle.c65_genwide.specs.Passing.{pass_bytes}
 use Rattle.c65_genwide.specs.Wide.{width_of, narrow_code, wide_code, tos_of, is_comparison}
 use Rattle.c65_genload.specs.declared.places.Extent.{Extent}
@@ -33,13 +34,20 @@ use Rattle.c65_genload.specs.declared.places.Place.{Place}
 use Rattle.c65_genload.specs.declared.places.Place.TheVariants as places
 use Rattle.c65_genload.specs.declared.places.Access.{Access}
 use Rattle.c65_genload.specs.declared.places.Access.TheVariants.{Whole, Part}
-use Rattle.c65_genload.specs.Places.{type_in, byte_more, extent_of}
+use Rattle.c65_genload.specs.Words.{ptr1, implied, zero_page, by_y}
+use Rattle.c65_genload.specs.Places.{type_in, byte_more, extent_of, settled}
 use Rattle.c65_genload.specs.Numbers.{number_code, add_word_code, add_by_width, add_code, mask_code, by_code, shift_code, scale_code, is_divisor, divide_code}
 use Rattle.c65_genload.specs.Conversions.{widen_code, convert_code, convert_to, push_code, test_code, waiting, size_of}
 use Rattle.c65_genload.specs.Addresses.{address_code, above_code, offset_code}
 use Rattle.c65_genload.specs.Fields.{ones, others, extract_code}
 use Rattle.c65_genload.specs.Loads.{hold_code, bytes_code, load_code}
 use Rattle.c65_genload.specs.Stores.{bytes_store, after_store, under_code, field_store, store_code, copy_code}
+use Rattle.c65_gendirect.specs.declared.bytes.OperandByte.{OperandByte}
+use Rattle.c65_gendirect.specs.declared.bytes.OperandByte.TheVariants as operand
+use Rattle.c65_gendirect.specs.declared.through.Stored.{Stored}
+use Rattle.c65_gendirect.specs.declared.through.Stored.TheVariants as stores
+use Rattle.c65_gendirect.specs.Bytes.{op_of}
+use Rattle.c65_gendirect.specs.Through.{read_bytes_code, read_store_code, point_code, byte_through_code, word_through_code}
 use Rattle.c65_genexpr.specs.declared.operands.Operands.{Operands}
 use Rattle.c65_genexpr.specs.declared.operands.Operands.TheVariants.{Numbers, PointerFirst, PointerLast, Pointers}
 use Rattle.c65_genexpr.specs.Places.{more, soft_code, code_at, object_code, rest_code}
@@ -198,14 +206,20 @@ test_still Eax v = record { to = λ calls. refl }
 
 -- the address of a place that is anywhere waits
 abbrev pub holding : Place → List ℕ → List ℕ
-holding places.Far v = 2 ∷ v
+holding (places.Far at) v = 2 ∷ v
 holding _ v = v
+
+push_one : (v : List ℕ) → Leaves v (call PushAx ∷ []) (2 ∷ v)
+push_one v = record { to = λ calls. refl }
+
+take_four : (v : List ℕ) → Leaves v (call LdEaxi ∷ []) v
+take_four v = record { to = λ calls. refl }
 
 pub hold_leaves : (place : Place) (v : List ℕ) → Leaves v (hold_code place) (holding place v)
 hold_leaves (places.Bank b) v = leaves_none
 hold_leaves (places.Near at) v = leaves_none
 hold_leaves (places.Data s at) v = leaves_none
-hold_leaves places.Far v = record { to = λ calls. refl }
+hold_leaves (places.Far at) v = leaves_then (offset_still at v) (push_one v)
 
 pub bytes_still : (place : Place) (e : Extent) → Still (bytes_code place e)
 bytes_still (places.Bank b) One v = record { to = λ calls. refl }
@@ -220,10 +234,10 @@ bytes_still (places.Data s at) One v = record { to = λ calls. refl }
 bytes_still (places.Data s at) Two v = record { to = λ calls. refl }
 bytes_still (places.Data s at) Three v = record { to = λ calls. refl }
 bytes_still (places.Data s at) Four v = record { to = λ calls. refl }
-bytes_still places.Far One v = record { to = λ calls. refl }
-bytes_still places.Far Two v = record { to = λ calls. refl }
-bytes_still places.Far Three v = record { to = λ calls. refl }
-bytes_still places.Far Four v = record { to = λ calls. refl }
+bytes_still (places.Far at) One v = record { to = λ calls. refl }
+bytes_still (places.Far at) Two v = record { to = λ calls. refl }
+bytes_still (places.Far at) Three v = record { to = λ calls. refl }
+bytes_still (places.Far at) Four v = leaves_then (offset_still at v) (take_four v)
 
 extract_still : (g : Field) → Still (extract_code g)
 extract_still g v =
@@ -246,25 +260,22 @@ store_leaves (places.Data s at) One v = record { to = λ calls. refl }
 store_leaves (places.Data s at) Two v = record { to = λ calls. refl }
 store_leaves (places.Data s at) Three v = record { to = λ calls. refl }
 store_leaves (places.Data s at) Four v = record { to = λ calls. refl }
-store_leaves places.Far One v = record { to = λ calls. refl }
-store_leaves places.Far Two v = record { to = λ calls. refl }
-store_leaves places.Far Three v = record { to = λ calls. refl }
-store_leaves places.Far Four v = record { to = λ calls. refl }
+store_leaves (places.Far at) One v = record { to = λ calls. refl }
+store_leaves (places.Far at) Two v = record { to = λ calls. refl }
+store_leaves (places.Far at) Three v = record { to = λ calls. refl }
+store_leaves (places.Far at) Four v = record { to = λ calls. refl }
 
 after_store_still : (place : Place) (kind : IntType) → Still (after_store place kind)
 after_store_still (places.Bank b) kind v = leaves_none
 after_store_still (places.Near at) kind v = leaves_none
 after_store_still (places.Data s at) kind v = leaves_none
-after_store_still places.Far kind v = narrow_still kind v
+after_store_still (places.Far at) kind v = narrow_still kind v
 
 under_still : (place : Place) → Still (under_code place)
 under_still (places.Bank b) v = bytes_still (places.Bank b) Two v
 under_still (places.Near at) v = bytes_still (places.Near (byte_more at 2)) Two v
 under_still (places.Data s at) v = bytes_still (places.Data s at) Two v
-under_still places.Far v = record { to = λ calls. refl }
-
-push_one : (v : List ℕ) → Leaves v (call PushAx ∷ []) (2 ∷ v)
-push_one v = record { to = λ calls. refl }
+under_still (places.Far at) v = record { to = λ calls. refl }
 
 join_one : (v : List ℕ) → Leaves (2 ∷ v) (call (Tos tos.Or Ax) ∷ []) v
 join_one v = record { to = λ calls. refl }
@@ -329,6 +340,43 @@ behind_leaves op (Pointers size) right v = leaves_then (wide_leaves op ints.UInt
 
 -- ---- assignments
 
+loaded_still : (d : OperandByte) → Still (op_of Lda d)
+loaded_still (operand.Number n) v = record { to = λ calls. refl }
+loaded_still (operand.Low s at) v = record { to = λ calls. refl }
+loaded_still (operand.High s at) v = record { to = λ calls. refl }
+loaded_still (operand.Near at) v = record { to = λ calls. refl }
+loaded_still (operand.Data s at) v = record { to = λ calls. refl }
+loaded_still (operand.Zero at) v = record { to = λ calls. refl }
+
+read_bytes_still : (at : ℕ) (stored : Stored) → Still (read_bytes_code at stored)
+read_bytes_still at (stores.Single low) v = leaves_then (loaded_still low v) (record { to = λ calls. refl })
+read_bytes_still at (stores.Word low high) v =
+    let aside : Leaves v (implied Pha ∷ []) v = record { to = λ calls. refl } in
+    leaves_then (loaded_still low v) (leaves_then aside (leaves_then (loaded_still high v) (record { to = λ calls. refl })))
+read_bytes_still at (stores.Fixed low high) v =
+    let first : Leaves v (value Ldy (byte_more at 1) ∷ by_y Sta ptr1 ∷ implied Tax ∷ []) v = record { to = λ calls. refl } in
+    leaves_then (loaded_still high v) (leaves_then first (leaves_then (loaded_still low v) (record { to = λ calls. refl })))
+
+pub read_store_still : (at : ℕ) (stored : Stored) → Still (read_store_code at stored)
+read_store_still at stored v =
+    let to : Leaves v (zero_page Sta ptr1 ∷ zero_page Stx (ptr1 + 1) ∷ []) v = record { to = λ calls. refl } in
+    leaves_then to (read_bytes_still at stored v)
+
+point_still : (low high : OperandByte) → Still (point_code low high)
+point_still low high v =
+    let first : Leaves v (zero_page Sta ptr1 ∷ []) v = record { to = λ calls. refl } in
+    leaves_then (loaded_still low v) (leaves_then first (leaves_then (loaded_still high v) (record { to = λ calls. refl })))
+
+pub byte_through_still : (at : ℕ) (low high : OperandByte) → Still (byte_through_code at low high)
+byte_through_still at low high v =
+    let aside : Leaves v (implied Tax ∷ []) v = record { to = λ calls. refl } in
+    leaves_then aside (leaves_then (point_still low high v) (record { to = λ calls. refl }))
+
+pub word_through_still : (at : ℕ) (low high : OperandByte) → Still (word_through_code at low high)
+word_through_still at low high v =
+    let aside : Leaves v (implied Pha ∷ []) v = record { to = λ calls. refl } in
+    leaves_then aside (leaves_then (point_still low high v) (record { to = λ calls. refl }))
+
 back_still : (access : Access) (n : ℕ) → Still (back_code access n)
 back_still (Whole kind) n v = add_still kind (negative n) v
 back_still (Part field) n v = leaves_then (add_still field.kind (negative n) v) (extract_still (record field { low = 0 }) v)
@@ -339,12 +387,12 @@ after_still how access n v = leaves_if (is_post how) (back_still access n v) lea
 pub step_still : (how : StepKind) (place : Place) (access : Access) (n : ℕ) → Still (step_code how place access n)
 step_still how place access n v =
     let h : List ℕ = holding place v in
-    leaves_then (hold_leaves place v) (leaves_then (load_still place access h) (leaves_then (add_still (type_in access) n h) (leaves_then (stored_leaves place access v) (after_still how access n v))))
+    leaves_then (hold_leaves place v) (leaves_then (load_still (settled place) access h) (leaves_then (add_still (type_in access) n h) (leaves_then (stored_leaves place access v) (after_still how access n v))))
 
 pub open_leaves : (place : Place) (access : Access) (kind : IntType) (v : List ℕ) → Leaves v (open_code place access kind) (waiting (width_of kind) ∷ holding place v)
 open_leaves place access kind v =
     let h : List ℕ = holding place v in
-    leaves_then (hold_leaves place v) (leaves_then (load_still place access h) (leaves_then (convert_still (type_in access) kind h) (push_leaves (width_of kind) h)))
+    leaves_then (hold_leaves place v) (leaves_then (load_still (settled place) access h) (leaves_then (convert_still (type_in access) kind h) (push_leaves (width_of kind) h)))
 
 pub close_leaves : (op : BinaryOp) (operands : Operands) (right : IntType) (place : Place) (access : Access) (v : List ℕ) → Leaves (waiting (width_of (computes operands)) ∷ holding place v) (close_code op operands right place access) v
 close_leaves op operands right place access v =

@@ -1,27 +1,25 @@
 -- What entries take beside their objects.
 use Rattle.std.proofs.Common.{◌≡◌, ℕ, zero, suc, ◌+◌, ◌-◌, ◌≤◌, Bool, true, false, Option, None, Some, List, [], ◌∷◌, ◌++◌, length, take, slice_get, slice_set, refl, sym, ap, subst, ◌∙◌, arith}
 use Rattle.std.specs.Prelude.{if◌then◌else◌, nat_lt, nat_le, Ok, Err}
-use Rattle.std.proofs.lemmas.Bool.{ltb-true, ltb-false, leb-false}
+use Rattle.std.proofs.lemmas.Bool.{ltb-false}
 use Rattle.c65_base.specs.declared.refusal.Size.TheVariants as sizes
 use Rattle.c65_base.specs.Answers.{large}
 use Rattle.c65_csem.specs.declared.items.Parts.{Parts}
 use Rattle.c65_csem.specs.Trees.{FuncTy}
 use Rattle.c65_ctype.specs.Views.{types_of}
-use Rattle.c65_genframe.specs.declared.modes.Modes.{Modes}
 use Rattle.c65_genframe.specs.declared.home.Home.{Home}
 use Rattle.c65_genframe.specs.declared.home.Home.TheVariants.{Bank, Soft}
 use Rattle.c65_genframe.specs.declared.home.Arrival.{Arrival}
-use Rattle.c65_genframe.specs.declared.home.Arrival.TheVariants.{Passed, Pushed, Kept}
 use Rattle.c65_genframe.specs.declared.home.Moved.{Moved}
 use Rattle.c65_genframe.specs.Places.{Places, none_placed}
 use Rattle.c65_genframe.specs.Arrivals.{Arrivals, arrive, with_slot, arrived}
 use Rattle.c65_genframe.specs.Sizes.{object_in, slot_bytes, bank_bytes}
 use Rattle.c65_genframe.specs.Marks.{lowest, all_marks}
 use Rattle.c65_genframe.specs.Objects.{locals_of}
-use Rattle.c65_genframe.specs.Frames.{Framed, has_prototype, is_variadic, takes_stack, register_param, flat, home_at, arrival_at, arrival, is_kept, last_bytes, without_last, bytes_without, saved_bytes, first_arrivals, check_of, settled, passed_bytes, placed_in, frame_of, all_bytes}
+use Rattle.c65_genframe.specs.Frames.{Framed, has_prototype, is_variadic, takes_stack, register_param, flat, home_at, arrival_at, arrival, is_kept, last_bytes, without_last, bytes_without, saved_bytes, first_arrivals, check_of, settled, passed_bytes, placed_in, all_bytes}
 use Rattle.c65_gen_law_room.specs.Room.{kept_bytes, moved_bytes, EntriesTakeTheirObjects}
-use Rattle.c65_gen_law_room.proofs.Placed.{bytes_there, spent, banked, Placed, all_placed}
-use Rattle.c65_gen_law_room.proofs.Marked.{AreFrom, params_from, in_bank, all_spent, all_banked}
+use Rattle.c65_gen_law_room.proofs.Placed.{bytes_there, banked, Placed, all_placed}
+use Rattle.c65_gen_law_room.proofs.Marked.{in_bank, all_spent, all_banked}
 
 -- ---- parameters that move
 
@@ -132,5 +130,5 @@ entries_take_their_objects parts modes g f h =
     let params = all_banked parts (locals_of g) g.params p.homes in
     let there = ap (λ (hs : List (Option Home)). banked parts low (all_marks (locals_of g) g.params) hs) same in
     let all : saved_bytes p.bank + p.soft ≤ all_bytes parts (locals_of g) + (kept_bytes last + moved_bytes (arrived parts prototype low (p.soft + saved_bytes p.bank) (without_last (is_kept last) g.params) arrivals).moved) + (if is_variadic g.ty then 1 else 0) =
-        omega (arith, saved_within p.bank, placed.bytes, all_spent parts (locals_of g) g.params, params, there, keeps, moves) in
+    omega (arith, saved_within p.bank, placed.bytes, all_spent parts (locals_of g) g.params, params, there, keeps, moves) in
     subst (λ (x : Framed). saved_bytes x.bank + x.soft ≤ all_bytes parts (locals_of g) + (kept_bytes x.last + moved_bytes x.moved) + (if x.variadic then 1 else 0)) is all

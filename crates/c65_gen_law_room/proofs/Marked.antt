@@ -1,5 +1,5 @@
 -- The bytes of the objects that are marked.
-use Rattle.std.proofs.Common.{◌≡◌, ℕ, zero, suc, ◌+◌, ◌-◌, ◌≤◌, true, Option, None, Some, List, [], ◌∷◌, min, replicate, slice_get, slice_set, refl, ap, arith}
+use Rattle.std.proofs.Common.{◌≡◌, ℕ, zero, suc, ◌+◌, ◌-◌, ◌≤◌, true, Option, List, [], ◌∷◌, min, replicate, slice_get, slice_set, refl, ap, arith}
 use Rattle.std.proofs.Math.Nat.{min-le_left, min-le_right}
 use Rattle.c65_csem.specs.declared.items.Parts.{Parts}
 use Rattle.c65_genframe.specs.declared.home.Home.{Home}

@@ -23,7 +23,7 @@ use Rattle.c65_genwide.specs.Wide.{width_of}
 use Rattle.c65_genload.specs.declared.places.Place.{Place}
 use Rattle.c65_genload.specs.declared.places.Place.TheVariants as places
 use Rattle.c65_genload.specs.declared.places.Access.{Access}
-use Rattle.c65_genload.specs.Places.{type_in as type_at, held, extent_of, extent_by}
+use Rattle.c65_genload.specs.Places.{type_in as type_at, extent_of, extent_by}
 use Rattle.c65_genload.specs.Conversions.{waiting}
 use Rattle.c65_gendirect.specs.declared.bytes.OperandByte.{OperandByte}
 use Rattle.c65_gendirect.specs.declared.direct.Direct.{Direct}
@@ -38,29 +38,32 @@ use Rattle.c65_genexpr.specs.declared.operating.Operating.TheVariants as operati
 use Rattle.c65_genexpr.specs.declared.comparing.Side.{Side}
 use Rattle.c65_genexpr.specs.declared.comparing.Side.TheVariants.{Left, Right}
 use Rattle.c65_genexpr.specs.declared.comparing.Comparing.{Comparing}
-use Rattle.c65_genexpr.specs.declared.comparing.Comparing.TheVariants.{Truth, Byte, Whole, Held, Stacked}
+use Rattle.c65_genexpr.specs.declared.comparing.Comparing.TheVariants.{Truth, Byte, Whole, Stacked, Held}
+use Rattle.c65_genexpr.specs.declared.storing.Storing.{Storing}
+use Rattle.c65_genexpr.specs.declared.storing.Storing.TheVariants as storing
 use Rattle.c65_genexpr.specs.declared.wanted.Wanted.{Wanted}
 use Rattle.c65_genexpr.specs.declared.wanted.Wanted.TheVariants.{Value, Test}
 use Rattle.c65_genexpr.specs.declared.types.Outcome.{Outcome}
 use Rattle.c65_genexpr.specs.Types.{kind_of, outcome_of, kind_in, bare, offset_at, access_of, target_bytes}
-use Rattle.c65_genexpr.specs.Places.{more, near, soft_place, place_at, moved, place_of, object_code}
+use Rattle.c65_genexpr.specs.Places.{more, has_base, added_bytes, sum_has_base, offset_of, near, soft_place, place_at, moved, place_of, object_code}
 use Rattle.c65_genexpr.specs.Wanted.{wanted_by, handed, wanted, sense, aimed, inner, truth_by, way, way_labels, joined}
-use Rattle.c65_genexpr.specs.Operands.{residue_of, operands_of, computes, same_truth, conversion_by}
+use Rattle.c65_genexpr.specs.Operands.{residue_of, constant_in, operands_of, computes, same_truth, conversion_by}
 use Rattle.c65_genexpr.specs.Direct.{kept_at, own_bytes}
 use Rattle.c65_genexpr.specs.Comparing.{relation_by, tested_by, comparing_of, on, low_code, below_side, comparison_by}
 use Rattle.c65_genexpr.specs.Held.{held_low, held_high}
 use Rattle.c65_genexpr.specs.Operating.{operating_of, waiting_code, stacked_code, below_operand, operator_by}
+use Rattle.c65_genexpr.specs.Storing.{target_code, storing_of, below_value, assigned_by}
 use Rattle.c65_genexpr.specs.Steps.{amount_of}
 use Rattle.c65_genexpr.specs.Arguments.{is_fast, is_counted, stays, passed_size, passed_of, argument_bytes}
 use Rattle.c65_genexpr.specs.Calls.{named}
 use Rattle.c65_genexpr.specs.Uses.{uses, by_relation}
-use Rattle.c65_genexpr.specs.Code.{target_code, width_in, tested_load, load_by, behind_open, compound, call_by, expr_code, node_code, args_code}
+use Rattle.c65_genexpr.specs.Code.{width_in, tested_load, load_by, behind_open, compound, call_by, base_by, expr_code, node_code, base_code, pointer_base_code, args_code}
 use Rattle.c65_gen_law_stack.proofs.FrameOrder.{NotBank}
 use Rattle.c65_gen_law_stack.proofs.EvenLines.{No, One}
 use Rattle.c65_gen_law_stack.proofs.EvenShifts.{elements_even}
 use Rattle.c65_gen_law_stack.proofs.EvenDirects.{byte_even, compare_even, compare_byte_even, zero_test_even, truth_even}
-use Rattle.c65_gen_law_stack.proofs.EvenForms.{value_test_even, routine_test_even, constant_even, keep_even, form_even}
-use Rattle.c65_gen_law_stack.proofs.BankPieces.{Clear, clear_then, clear_if, clear_none, IsOff, symbol_clear, offset_clear, object_clear, further_clear, conversion_clear, push_clear, argument_clear, hold_clear, bytes_clear, load_clear, store_clear, copy_clear, spill_clear, unary_clear, wide_clear, between_clear, behind_clear, step_clear, open_clear, close_clear, named_clear, direct_clear, pointer_clear}
+use Rattle.c65_gen_law_stack.proofs.EvenForms.{value_test_even, routine_test_even, constant_even, form_even, keep_even}
+use Rattle.c65_gen_law_stack.proofs.BankPieces.{narrow_clear, read_store_clear, byte_through_clear, word_through_clear, Clear, clear_then, clear_if, clear_none, IsOff, symbol_clear, offset_clear, object_clear, further_clear, conversion_clear, push_clear, argument_clear, hold_clear, bytes_clear, load_clear, store_clear, copy_clear, spill_clear, unary_clear, wide_clear, between_clear, behind_clear, step_clear, open_clear, close_clear, named_clear, direct_clear, pointer_clear}
 
 -- no home of a frame is in regbank
 abbrev pub IsBankless : Framed → Type 0
@@ -69,7 +72,7 @@ IsBankless f = (i : ℕ) → NotBank (home_of f i)
 near_off : (at : ℕ) → IsOff (near at)
 near_off at = by (nat_le at 252)
   where
-    by : (b : Bool) → IsOff (if b then places.Near at else places.Far)
+    by : (b : Bool) → IsOff (if b then places.Near at else places.Far 0)
     by true = tt
     by false = tt
 
@@ -86,11 +89,11 @@ moved_off : (p : Place) (n : ℕ) → IsOff p → IsOff (moved p n)
 moved_off (places.Bank b) n h = absurd h
 moved_off (places.Near at) n h = by (nat_le n 252)
   where
-    by : (b : Bool) → IsOff (if b then near (at + n) else places.Far)
+    by : (b : Bool) → IsOff (if b then near (at + n) else places.Far 0)
     by true = near_off (at + n)
     by false = tt
 moved_off (places.Data s at) n h = tt
-moved_off places.Far n h = tt
+moved_off (places.Far at) n h = tt
 
 place_off : (f : Framed) (pushed : ℕ) (e : Typed) → IsBankless f → IsOff (place_of f pushed e)
 place_off f pushed (node t (object i)) b = home_off f pushed i (home_of f i) (b i)
@@ -98,7 +101,7 @@ place_off f pushed (node t (member e m)) b = moved_off (place_of f pushed e) (of
 place_off f pushed (node t _) b = tt
 
 target_clear : (p : Place) {code : List Line} → Clear code → Clear (target_code p code)
-target_clear places.Far c = c
+target_clear (places.Far at) c = c
 target_clear (places.Bank b) c = clear_none
 target_clear (places.Near at) c = clear_none
 target_clear (places.Data s at) c = clear_none
@@ -181,6 +184,18 @@ call_clear f (Some i) given g es cc ca cb = clear_then ca (named_clear f i (is_c
 call_clear f None given g none cc ca cb = clear_then cc (direct_clear (is_counted (bare g)) (passed_of f (is_fast (bare g)) none) given)
 call_clear f None given g (some e es) cc ca cb = clear_then cc (clear_then (push_clear Ax) (clear_then cb (pointer_clear (is_counted (bare g)) (passed_of f (is_fast (bare g)) (some e es)) given)))
 
+assigned_clear : {a b : List Line} (how : Storing) (place : Place) (access : Access) → IsOff place → Clear a → Clear b → Clear (assigned_by how place access a b)
+assigned_clear (storing.Left at stored) place access off ca cb = clear_then ca (clear_then (read_store_clear at stored) (narrow_clear (type_at access)))
+assigned_clear (storing.RightByte at low high) place access off ca cb = clear_then cb (clear_then (byte_through_clear at low high) (narrow_clear (type_at access)))
+assigned_clear (storing.RightWord at low high) place access off ca cb = clear_then cb (word_through_clear at low high)
+assigned_clear storing.Stacked place access off ca cb = clear_then (target_clear place ca) (clear_then (hold_clear place) (clear_then cb (store_clear place access off)))
+
+based_clear : {a b : List Line} (place : Place) → Clear a → Clear b → Clear (base_by place a b)
+based_clear (places.Far at) ca cb = ca
+based_clear (places.Bank b) ca cb = cb
+based_clear (places.Near at) ca cb = cb
+based_clear (places.Data s at) ca cb = cb
+
 jump_clear : (l : ℕ) → Clear (Do Jmp Absolute (To l) ∷ [])
 jump_clear l = record { all = refl }
 
@@ -196,7 +211,7 @@ mutual
   node_clear f pushed lo w t (func i) k = wanted_clear w (width_in t) (symbol_clear (function_symbol (numbers_of f.parts) i) 0)
   node_clear f pushed lo w t (deref e) k = wanted_clear w (width_in t) (expr_clear f pushed lo Value e k)
   node_clear f pushed lo w t (member e m) k = wanted_clear w (width_in t) (clear_then (expr_clear f pushed lo Value e k) (offset_clear (offset_at (types_of f.parts.types) (bare e) m)))
-  node_clear f pushed lo w t (load e) k = load_by_clear w (place_of f pushed e) (access_of (types_of f.parts.types) e) (target_clear (place_of f pushed e) (expr_clear f pushed lo Value e k))
+  node_clear f pushed lo w t (load e) k = load_by_clear w (place_of f pushed e) (access_of (types_of f.parts.types) e) (target_clear (place_of f pushed e) (base_clear f pushed lo e k))
   node_clear f pushed lo w t (address e) k = wanted_clear w (width_in t) (expr_clear f pushed lo Value e k)
   node_clear f pushed lo w t (decay e) k = wanted_clear w (width_in t) (expr_clear f pushed lo Value e k)
   node_clear f pushed lo w t (convert e) k =
@@ -232,20 +247,34 @@ mutual
   node_clear f pushed lo w t (comma a b) k = clear_then (expr_clear f pushed lo Value a k) (expr_clear f pushed (lo + uses None a) w b k)
   node_clear f pushed lo w t (assign a b) k =
       let place : Place = place_of f pushed a in
-      wanted_clear w (width_in t) (clear_then (target_clear place (expr_clear f pushed lo Value a k)) (clear_then (hold_clear place) (clear_then (expr_clear f (more pushed (held place)) (lo + uses None a) Value b k) (store_clear place (access_of (types_of f.parts.types) a) (place_off f pushed a k)))))
-  node_clear f pushed lo w t (assign_op op kind a b) k = wanted_clear w (width_in t) (compound_clear f pushed op (Numbers kind) a b k (expr_clear f pushed lo Value a k) (expr_clear f (behind_open f pushed (Numbers kind) a) (lo + uses None a) Value b k))
+      let how : Storing = storing_of f pushed a b in
+      wanted_clear w (width_in t) (assigned_clear how place (access_of (types_of f.parts.types) a) (place_off f pushed a k) (base_clear f pushed lo a k) (expr_clear f (below_value how pushed place) (lo + uses None a) Value b k))
+  node_clear f pushed lo w t (assign_op op kind a b) k = wanted_clear w (width_in t) (compound_clear f pushed op (Numbers kind) a b k (base_clear f pushed lo a k) (expr_clear f (behind_open f pushed (Numbers kind) a) (lo + uses None a) Value b k))
   node_clear f pushed lo w t (assign_step op a b) k =
       let operands : Operands = PointerFirst (target_bytes f (bare a)) in
-      wanted_clear w (width_in t) (compound_clear f pushed op operands a b k (expr_clear f pushed lo Value a k) (expr_clear f (behind_open f pushed operands a) (lo + uses None a) Value b k))
+      wanted_clear w (width_in t) (compound_clear f pushed op operands a b k (base_clear f pushed lo a k) (expr_clear f (behind_open f pushed operands a) (lo + uses None a) Value b k))
   node_clear f pushed lo w t (step how e) k =
       let place : Place = place_of f pushed e in
-      wanted_clear w (width_in t) (clear_then (target_clear place (expr_clear f pushed lo Value e k)) (step_clear how place (access_of (types_of f.parts.types) e) (amount_of f how (bare e)) (place_off f pushed e k)))
+      wanted_clear w (width_in t) (clear_then (target_clear place (base_clear f pushed lo e k)) (step_clear how place (access_of (types_of f.parts.types) e) (amount_of f how (bare e)) (place_off f pushed e k)))
   node_clear f pushed lo w t (copy a b) k = wanted_clear w (width_in t) (clear_then (expr_clear f pushed lo Value a k) (clear_then (push_clear Ax) (clear_then (expr_clear f (more pushed 2) (lo + uses None a) Value b k) (copy_clear (type_bytes f (type_in t))))))
   node_clear f pushed lo w t (call g es) k =
       wanted_clear w (width_in t) (call_clear f (named g) (outcome_of f (type_in t)) g es (expr_clear f pushed lo Value g k) (args_clear f pushed lo (is_fast (bare g)) es k) (args_clear f (more pushed 2) (lo + uses None g) (is_fast (bare g)) es k))
-  node_clear f pushed lo w t (pack e) k = wanted_clear w (width_in t) (clear_then (target_clear (place_of f pushed e) (expr_clear f pushed lo Value e k)) (bytes_clear (place_of f pushed e) (extent_by (type_bytes f (type_in t)))))
+  node_clear f pushed lo w t (pack e) k = wanted_clear w (width_in t) (clear_then (target_clear (place_of f pushed e) (base_clear f pushed lo e k)) (bytes_clear (place_of f pushed e) (extent_by (type_bytes f (type_in t)))))
   node_clear f pushed lo w t (spill i e) k = wanted_clear w (width_in t) (clear_then (expr_clear f pushed lo Value e k) (spill_clear (object_code f pushed i) (extent_by (type_bytes f (type_in t))) (object_clear f pushed i)))
   node_clear f pushed lo w t further k = wanted_clear w (width_in t) (further_clear f pushed)
+
+  base_clear : (f : Framed) (pushed lo : ℕ) (e : Typed) → IsBankless f → Clear (base_code f pushed lo e)
+  base_clear f pushed lo (node t (deref e)) k = pointer_base_clear f pushed lo e k
+  base_clear f pushed lo (node t (member e m)) k =
+      let n : ℕ = offset_at (types_of f.parts.types) (bare e) m in
+      clear_if (has_base (place_of f pushed e) n) (base_clear f pushed lo e k) (clear_then (expr_clear f pushed lo Value e k) (offset_clear n))
+  base_clear f pushed lo (node t n) k = node_clear f pushed lo Value t n k
+
+  pointer_base_clear : (f : Framed) (pushed lo : ℕ) (e : Typed) → IsBankless f → Clear (pointer_base_code f pushed lo e)
+  pointer_base_clear f pushed lo (node t (binary op a b)) k =
+      clear_if (sum_has_base (offset_of f pushed a) (added_bytes op (operands_of f (bare a) (bare b)) (constant_in b))) (clear_then (label_clear lo) (pointer_base_clear f pushed (lo + 1) a k)) (node_clear f pushed lo Value t (binary op a b) k)
+  pointer_base_clear f pushed lo (node t (decay e)) k = based_clear (place_of f pushed e) (base_clear f pushed lo e k) (expr_clear f pushed lo Value e k)
+  pointer_base_clear f pushed lo (node t n) k = node_clear f pushed lo Value t n k
 
   args_clear : (f : Framed) (pushed lo : ℕ) (fast : Bool) (es : Nodes) → IsBankless f → Clear (args_code f pushed lo fast es)
   args_clear f pushed lo fast none k = clear_none

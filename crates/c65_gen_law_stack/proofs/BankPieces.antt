@@ -14,12 +14,13 @@ use Rattle.c65_ints.specs.declared.types.IntType.TheVariants as ints
 use Rattle.c65_ints.specs.Ranges.{is_signed_of}
 use Rattle.c65_ctype.specs.Trees.{Ty, void, int, pointer, array, tag, function}
 use Rattle.c65_base.specs.declared.library.Library.{Library}
+use Rattle.c65_mach.specs.declared.rows.Op.TheVariants.{Lda, Ldy, Pha, Sta, Stx, Tax}
 use Rattle.c65_code.specs.declared.line.Sym.{Sym}
 use Rattle.c65_code.specs.declared.line.Line.{Line}
 use Rattle.c65_code.specs.declared.line.Line.TheVariants.{Call}
 use Rattle.c65_code.specs.declared.line.Callee.TheVariants.{Function, Pointer}
 use Rattle.c65_code.specs.declared.routine.Count.TheVariants.{Two as two_bytes}
-use Rattle.c65_code.specs.declared.routine.Routine.TheVariants.{PushA, PushAx, PushEax, LdAi, Tos, Unary, IncSp, Library as library_routine}
+use Rattle.c65_code.specs.declared.routine.Routine.TheVariants.{PushA, PushAx, PushEax, LdAi, LdEaxi, Tos, Unary, IncSp, Library as library_routine}
 use Rattle.c65_code.specs.declared.routine.UnaryRoutine.TheVariants.{Shl1}
 use Rattle.c65_code.specs.declared.routine.TosOp.{TosOp}
 use Rattle.c65_code.specs.declared.routine.TosOp.TheVariants as tos
@@ -30,7 +31,7 @@ use Rattle.c65_genframe.specs.declared.home.Home.TheVariants as homes
 use Rattle.c65_genframe.specs.Registers.{registers}
 use Rattle.c65_genframe.specs.Frames.{Framed, home_of, is_raised, saved_bytes}
 use Rattle.c65_genframe.specs.Symbols.{numbers_of, object_symbol, function_symbol}
-use Rattle.c65_genwide.specs.Lines.{call}
+use Rattle.c65_genwide.specs.Lines.{value, call}
 use Rattle.c65_genwide.specs.Passing.{three_code, pass_bytes}
 use Rattle.c65_genwide.specs.Wide.{width_of, narrow_code, wide_code, tos_of, is_comparison}
 use Rattle.c65_genload.specs.declared.places.Extent.{Extent}
@@ -40,13 +41,20 @@ use Rattle.c65_genload.specs.declared.places.Place.{Place}
 use Rattle.c65_genload.specs.declared.places.Place.TheVariants as places
 use Rattle.c65_genload.specs.declared.places.Access.{Access}
 use Rattle.c65_genload.specs.declared.places.Access.TheVariants.{Whole, Part}
-use Rattle.c65_genload.specs.Places.{type_in, byte_more, extent_of}
+use Rattle.c65_genload.specs.Words.{ptr1, implied, zero_page, by_y}
+use Rattle.c65_genload.specs.Places.{type_in, byte_more, extent_of, settled}
 use Rattle.c65_genload.specs.Numbers.{number_code, add_word_code, add_by_width, add_code, mask_code, by_code, shift_code, scale_code, is_divisor, divide_code}
 use Rattle.c65_genload.specs.Conversions.{widen_code, convert_code, convert_to, push_code, test_code}
 use Rattle.c65_genload.specs.Addresses.{symbol_code, address_code, above_code, raised_code, offset_code}
 use Rattle.c65_genload.specs.Fields.{ones, others, extract_code}
 use Rattle.c65_genload.specs.Loads.{hold_code, bytes_code, load_code}
 use Rattle.c65_genload.specs.Stores.{bytes_store, after_store, under_code, field_store, store_code, copy_code}
+use Rattle.c65_gendirect.specs.declared.bytes.OperandByte.{OperandByte}
+use Rattle.c65_gendirect.specs.declared.bytes.OperandByte.TheVariants as operand
+use Rattle.c65_gendirect.specs.declared.through.Stored.{Stored}
+use Rattle.c65_gendirect.specs.declared.through.Stored.TheVariants as stores
+use Rattle.c65_gendirect.specs.Bytes.{op_of}
+use Rattle.c65_gendirect.specs.Through.{read_bytes_code, read_store_code, point_code, byte_through_code, word_through_code}
 use Rattle.c65_genexpr.specs.declared.operands.Operands.{Operands}
 use Rattle.c65_genexpr.specs.declared.operands.Operands.TheVariants.{Numbers, PointerFirst, PointerLast, Pointers}
 use Rattle.c65_genexpr.specs.declared.arguments.Passed.{Passed}
@@ -195,7 +203,9 @@ pub hold_clear : (place : Place) → Clear (hold_code place)
 hold_clear (places.Bank b) = clear_none
 hold_clear (places.Near at) = clear_none
 hold_clear (places.Data s at) = clear_none
-hold_clear places.Far = record { all = refl }
+hold_clear (places.Far at) =
+    let push : Clear (call PushAx ∷ []) = record { all = refl } in
+    clear_then (offset_clear at) push
 
 pub bytes_clear : (place : Place) (e : Extent) → Clear (bytes_code place e)
 bytes_clear (places.Bank b) One = record { all = refl }
@@ -210,10 +220,12 @@ bytes_clear (places.Data s at) One = record { all = refl }
 bytes_clear (places.Data s at) Two = record { all = refl }
 bytes_clear (places.Data s at) Three = record { all = refl }
 bytes_clear (places.Data s at) Four = record { all = refl }
-bytes_clear places.Far One = record { all = refl }
-bytes_clear places.Far Two = record { all = refl }
-bytes_clear places.Far Three = record { all = refl }
-bytes_clear places.Far Four = record { all = refl }
+bytes_clear (places.Far at) One = record { all = refl }
+bytes_clear (places.Far at) Two = record { all = refl }
+bytes_clear (places.Far at) Three = record { all = refl }
+bytes_clear (places.Far at) Four =
+    let whole : Clear (call LdEaxi ∷ []) = record { all = refl } in
+    clear_then (offset_clear at) whole
 
 extract_clear : (g : Field) → Clear (extract_code g)
 extract_clear g = clear_if (is_signed_of g.kind) (clear_then (shift_clear tos.Shl (16 - min (g.low + g.width) 16)) (shift_clear tos.Asr (16 - min g.width 16))) (clear_then (shift_clear tos.Shr g.low) (mask_clear (ones g.width)))
@@ -232,22 +244,22 @@ bytes_store_clear (places.Data s at) One off = record { all = refl }
 bytes_store_clear (places.Data s at) Two off = record { all = refl }
 bytes_store_clear (places.Data s at) Three off = record { all = refl }
 bytes_store_clear (places.Data s at) Four off = record { all = refl }
-bytes_store_clear places.Far One off = record { all = refl }
-bytes_store_clear places.Far Two off = record { all = refl }
-bytes_store_clear places.Far Three off = record { all = refl }
-bytes_store_clear places.Far Four off = record { all = refl }
+bytes_store_clear (places.Far at) One off = record { all = refl }
+bytes_store_clear (places.Far at) Two off = record { all = refl }
+bytes_store_clear (places.Far at) Three off = record { all = refl }
+bytes_store_clear (places.Far at) Four off = record { all = refl }
 
 after_store_clear : (place : Place) (kind : IntType) → Clear (after_store place kind)
 after_store_clear (places.Bank b) kind = clear_none
 after_store_clear (places.Near at) kind = clear_none
 after_store_clear (places.Data s at) kind = clear_none
-after_store_clear places.Far kind = narrow_clear kind
+after_store_clear (places.Far at) kind = narrow_clear kind
 
 under_clear : (place : Place) → Clear (under_code place)
 under_clear (places.Bank b) = bytes_clear (places.Bank b) Two
 under_clear (places.Near at) = bytes_clear (places.Near (byte_more at 2)) Two
 under_clear (places.Data s at) = bytes_clear (places.Data s at) Two
-under_clear places.Far = record { all = refl }
+under_clear (places.Far at) = record { all = refl }
 
 field_store_clear : (place : Place) (g : Field) → IsOff place → Clear (field_store place g)
 field_store_clear place g off =
@@ -292,15 +304,52 @@ behind_clear op (Pointers size) right = clear_then (wide_clear op ints.UInt) (di
 
 -- ---- assignments
 
+loaded_clear : (d : OperandByte) → Clear (op_of Lda d)
+loaded_clear (operand.Number n) = record { all = refl }
+loaded_clear (operand.Low s at) = record { all = refl }
+loaded_clear (operand.High s at) = record { all = refl }
+loaded_clear (operand.Near at) = record { all = refl }
+loaded_clear (operand.Data s at) = record { all = refl }
+loaded_clear (operand.Zero at) = record { all = refl }
+
+read_bytes_clear : (at : ℕ) (stored : Stored) → Clear (read_bytes_code at stored)
+read_bytes_clear at (stores.Single low) = clear_then (loaded_clear low) (record { all = refl })
+read_bytes_clear at (stores.Word low high) =
+    let aside : Clear (implied Pha ∷ []) = record { all = refl } in
+    clear_then (loaded_clear low) (clear_then aside (clear_then (loaded_clear high) (record { all = refl })))
+read_bytes_clear at (stores.Fixed low high) =
+    let first : Clear (value Ldy (byte_more at 1) ∷ by_y Sta ptr1 ∷ implied Tax ∷ []) = record { all = refl } in
+    clear_then (loaded_clear high) (clear_then first (clear_then (loaded_clear low) (record { all = refl })))
+
+pub read_store_clear : (at : ℕ) (stored : Stored) → Clear (read_store_code at stored)
+read_store_clear at stored =
+    let to : Clear (zero_page Sta ptr1 ∷ zero_page Stx (ptr1 + 1) ∷ []) = record { all = refl } in
+    clear_then to (read_bytes_clear at stored)
+
+point_clear : (low high : OperandByte) → Clear (point_code low high)
+point_clear low high =
+    let first : Clear (zero_page Sta ptr1 ∷ []) = record { all = refl } in
+    clear_then (loaded_clear low) (clear_then first (clear_then (loaded_clear high) (record { all = refl })))
+
+pub byte_through_clear : (at : ℕ) (low high : OperandByte) → Clear (byte_through_code at low high)
+byte_through_clear at low high =
+    let aside : Clear (implied Tax ∷ []) = record { all = refl } in
+    clear_then aside (clear_then (point_clear low high) (record { all = refl }))
+
+pub word_through_clear : (at : ℕ) (low high : OperandByte) → Clear (word_through_code at low high)
+word_through_clear at low high =
+    let aside : Clear (implied Pha ∷ []) = record { all = refl } in
+    clear_then aside (clear_then (point_clear low high) (record { all = refl }))
+
 back_clear : (access : Access) (n : ℕ) → Clear (back_code access n)
 back_clear (Whole kind) n = add_clear kind (negative n)
 back_clear (Part field) n = clear_then (add_clear field.kind (negative n)) (extract_clear (record field { low = 0 }))
 
 pub step_clear : (how : StepKind) (place : Place) (access : Access) (n : ℕ) → IsOff place → Clear (step_code how place access n)
-step_clear how place access n off = clear_then (hold_clear place) (clear_then (load_clear place access) (clear_then (add_clear (type_in access) n) (clear_then (store_clear place access off) (clear_if (is_post how) (back_clear access n) clear_none))))
+step_clear how place access n off = clear_then (hold_clear place) (clear_then (load_clear (settled place) access) (clear_then (add_clear (type_in access) n) (clear_then (store_clear place access off) (clear_if (is_post how) (back_clear access n) clear_none))))
 
 pub open_clear : (place : Place) (access : Access) (kind : IntType) → Clear (open_code place access kind)
-open_clear place access kind = clear_then (hold_clear place) (clear_then (load_clear place access) (clear_then (convert_clear (type_in access) kind) (push_clear (width_of kind))))
+open_clear place access kind = clear_then (hold_clear place) (clear_then (load_clear (settled place) access) (clear_then (convert_clear (type_in access) kind) (push_clear (width_of kind))))
 
 pub close_clear : (op : BinaryOp) (operands : Operands) (right : IntType) (place : Place) (access : Access) → IsOff place → Clear (close_code op operands right place access)
 close_clear op operands right place access off = clear_then (behind_clear op operands right) (clear_then (convert_clear (computes operands) (type_in access)) (store_clear place access off))

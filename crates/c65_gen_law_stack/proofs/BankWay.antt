@@ -26,9 +26,9 @@ bytes_as (suc n) a b m k h =
     let there : b + 0 ≡ b = omega arith in
     let first : m a ≡ k b = ap m here ∙ (h 0 (omega arith) ∙ ap k there) in
     let next : (j : ℕ) → j < n → m (a + 1 + j) ≡ k (b + 1 + j) = λ j l.
-        let one : a + 1 + j ≡ a + suc j = omega arith in
-        let other : b + suc j ≡ b + 1 + j = omega arith in
-        ap m one ∙ (h (suc j) (omega (arith, l)) ∙ ap k other) in
+    let one : a + 1 + j ≡ a + suc j = omega arith in
+    let other : b + suc j ≡ b + 1 + j = omega arith in
+    ap m one ∙ (h (suc j) (omega (arith, l)) ∙ ap k other) in
     let rest : bytes_at n (a + 1) m ≡ bytes_at n (b + 1) k = bytes_as n (a + 1) (b + 1) m k next in
     cc
 
@@ -128,13 +128,14 @@ saves_way (suc n) s p q t u few high h =
     let byte : (20 + n) % 256 ≡ 20 + n = omega (arith, few) in
     let at : ℕ = sp_of t + n in
     let new : (b : ℕ) → u.mem b ≡ write v.mem at (t.zp (20 + n)) b = λ b.
-        ap (λ (x : State). x.mem b) e ∙ (ap (λ (k : ℕ). write v.mem k (v.zp ((20 + n) % 256)) b) place ∙ (ap (λ (k : ℕ). write v.mem at (v.zp k) b) byte ∙ ap (λ (z : Bytes). write v.mem at (z (20 + n)) b) first.zp)) in
+    ap (λ (x : State). x.mem b) e ∙ (ap (λ (k : ℕ). write v.mem k (v.zp ((20 + n) % 256)) b) place ∙ (ap (λ (k : ℕ). write v.mem at (v.zp k) b) byte ∙ ap (λ (z : Bytes). write v.mem at (z (20 + n)) b) first.zp)) in
     record {
       sp = ap sp_of e ∙ first.sp;
       zp = ap (λ (x : State). x.zp) e ∙ first.zp;
       there = λ j l. elim (below_next j n l) [
-        inl low ↦ new (sp_of t + j) ∙ (write_other v.mem at (t.zp (20 + n)) (sp_of t + j) (λ z. omega (arith, z, low)) ∙ first.there j low)
-      | inr same ↦ ap (λ (k : ℕ). u.mem (sp_of t + k)) same ∙ (new at ∙ (write_same v.mem at (t.zp (20 + n)) ∙ ap (λ (k : ℕ). t.zp (20 + k)) (sym same))) ];
+        | inl low ↦ new (sp_of t + j) ∙ (write_other v.mem at (t.zp (20 + n)) (sp_of t + j) (λ z. omega (arith, z, low)) ∙ first.there j low)
+        | inr same ↦ ap (λ (k : ℕ). u.mem (sp_of t + k)) same ∙ (new at ∙ (write_same v.mem at (t.zp (20 + n)) ∙ ap (λ (k : ℕ). t.zp (20 + k)) (sym same)))
+      ];
       mem = λ b l. new b ∙ (write_other v.mem at (t.zp (20 + n)) b (λ z. omega (arith, z, l)) ∙ first.mem b (omega (arith, l)));
       pushed = ap (λ (x : State). x.pushed) e ∙ first.pushed;
       frames = ap (λ (x : State). x.frames) e ∙ first.frames;
@@ -173,7 +174,7 @@ loads_way (suc n) s p q t u few high h =
     let byte : (20 + n) % 256 ≡ 20 + n = omega (arith, few) in
     let got : ℕ = t.mem (sp_of t + n) in
     let new : (i : ℕ) → u.zp i ≡ write v.zp (20 + n) got i = λ i.
-        ap (λ (x : State). x.zp i) e ∙ (ap (λ (k : ℕ). write v.zp k (v.mem ((sp_of v + n) % 65536)) i) byte ∙ (ap (λ (k : ℕ). write v.zp (20 + n) (v.mem k) i) place ∙ ap (λ (w : ℕ). write v.zp (20 + n) w i) (first.mem (sp_of t + n)))) in
+    ap (λ (x : State). x.zp i) e ∙ (ap (λ (k : ℕ). write v.zp k (v.mem ((sp_of v + n) % 65536)) i) byte ∙ (ap (λ (k : ℕ). write v.zp (20 + n) (v.mem k) i) place ∙ ap (λ (w : ℕ). write v.zp (20 + n) w i) (first.mem (sp_of t + n)))) in
     let under : (i : ℕ) → i < 20 → u.zp i ≡ t.zp i = λ i l. new i ∙ (write_other v.zp (20 + n) got i (λ z. omega (arith, z, l)) ∙ first.below i l) in
     let low : u.zp 0 ≡ t.zp 0 = under 0 (omega arith) in
     let high : u.zp 1 ≡ t.zp 1 = under 1 (omega arith) in
@@ -182,8 +183,9 @@ loads_way (suc n) s p q t u few high h =
       mem = λ b. ap (λ (x : State). x.mem b) e ∙ first.mem b;
       below = under;
       back = λ j l. elim (below_next j n l) [
-        inl small ↦ new (20 + j) ∙ (write_other v.zp (20 + n) got (20 + j) (λ z. omega (arith, z, small)) ∙ first.back j small)
-      | inr same ↦ ap (λ (k : ℕ). u.zp (20 + k)) same ∙ (new (20 + n) ∙ (write_same v.zp (20 + n) got ∙ ap (λ (k : ℕ). t.mem (sp_of t + k)) (sym same))) ];
+        | inl small ↦ new (20 + j) ∙ (write_other v.zp (20 + n) got (20 + j) (λ z. omega (arith, z, small)) ∙ first.back j small)
+        | inr same ↦ ap (λ (k : ℕ). u.zp (20 + k)) same ∙ (new (20 + n) ∙ (write_same v.zp (20 + n) got ∙ ap (λ (k : ℕ). t.mem (sp_of t + k)) (sym same)))
+      ];
       rest = λ j l. new (20 + j) ∙ (write_other v.zp (20 + n) got (20 + j) (λ z. omega (arith, z, l)) ∙ first.rest j (omega (arith, l)));
       pushed = ap (λ (x : State). x.pushed) e ∙ first.pushed;
       frames = ap (λ (x : State). x.frames) e ∙ first.frames;
@@ -194,7 +196,7 @@ pub loaded : (n : ℕ) (t u : State) → n ≤ 6 → Loads n t u → bank_of u �
 loaded n t u few l =
     let first : bytes_at n 20 u.zp ≡ bytes_at n (sp_of t) t.mem = bytes_as n 20 (sp_of t) u.zp t.mem l.back in
     let above : (j : ℕ) → j < 6 - n → u.zp (20 + n + j) ≡ t.zp (20 + n + j) = λ j less.
-        let at : 20 + n + j ≡ 20 + (n + j) = omega arith in
-        ap u.zp at ∙ (l.rest (n + j) (omega arith) ∙ ap t.zp (sym at)) in
+    let at : 20 + n + j ≡ 20 + (n + j) = omega arith in
+    ap u.zp at ∙ (l.rest (n + j) (omega arith) ∙ ap t.zp (sym at)) in
     let second : bytes_at (6 - n) (20 + n) u.zp ≡ bytes_at (6 - n) (20 + n) t.zp = bytes_as (6 - n) (20 + n) (20 + n) u.zp t.zp above in
     bank_halves n u few ∙ (ap (λ (l : List ℕ). l ++ bytes_at (6 - n) (20 + n) u.zp) first ∙ ap (λ (l : List ℕ). bytes_at n (sp_of t) t.mem ++ l) second)

@@ -483,7 +483,7 @@ entry_bank f {t0 = t0} {t1 = t1} {t2 = t2} {t3 = t3} {te = te} {t4 = t4} {t5 = t
     let below : Sinks f.soft t3 t7 = below_saved f o e in
     let first : bank_of t2 ≡ bank_of t0 = e.count.bank ∙ e.push.bank in
     let there : bytes_at k (sp_of t7 + f.soft) t7.mem ≡ bytes_at k 20 t0.zp =
-        ap (λ (n : ℕ). bytes_at k n t7.mem) below.sp ∙ (bytes_same k (sp_of t3) t3.mem t7.mem below.mem ∙ (e.saved ∙ first_same k t0 t2 few first)) in
+    ap (λ (n : ℕ). bytes_at k n t7.mem) below.sp ∙ (bytes_same k (sp_of t3) t3.mem t7.mem below.mem ∙ (e.saved ∙ first_same k t0 t2 few first)) in
     let rest : Rest k t0 t7 = e.move.rest ∙ (rest_same k t5 t6 few e.counts.quiet.bank ∙ (rest_same k t4 t5 few e.lower.bank ∙ (e.keep.rest ∙ (e.early.rest ∙ rest_same k t0 t3 few (e.save.bank ∙ first))))) in
     ap (λ (l : List ℕ). l ++ bytes_at (6 - k) (20 + k) t7.zp) there ∙ (ap (λ (l : List ℕ). bytes_at k 20 t0.zp ++ l) rest ∙ sym (bank_halves k t0 few))
 

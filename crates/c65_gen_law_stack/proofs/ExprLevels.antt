@@ -30,7 +30,7 @@ use Rattle.c65_genload.specs.declared.places.Place.TheVariants as places
 use Rattle.c65_genload.specs.declared.places.Access.{Access}
 use Rattle.c65_genload.specs.declared.places.Extent.{Extent}
 use Rattle.c65_genload.specs.Words.{implied}
-use Rattle.c65_genload.specs.Places.{type_in as type_at, held, extent_of, extent_by}
+use Rattle.c65_genload.specs.Places.{type_in as type_at, extent_of, extent_by}
 use Rattle.c65_genload.specs.Conversions.{waiting}
 use Rattle.c65_gendirect.specs.declared.bytes.OperandByte.{OperandByte}
 use Rattle.c65_gendirect.specs.declared.direct.Direct.{Direct}
@@ -45,31 +45,35 @@ use Rattle.c65_genexpr.specs.declared.operating.Operating.TheVariants as operati
 use Rattle.c65_genexpr.specs.declared.comparing.Side.{Side}
 use Rattle.c65_genexpr.specs.declared.comparing.Side.TheVariants.{Left, Right}
 use Rattle.c65_genexpr.specs.declared.comparing.Comparing.{Comparing}
-use Rattle.c65_genexpr.specs.declared.comparing.Comparing.TheVariants.{Truth, Byte, Whole, Held, Stacked}
+use Rattle.c65_genexpr.specs.declared.comparing.Comparing.TheVariants.{Truth, Byte, Whole, Stacked, Held}
+use Rattle.c65_genexpr.specs.declared.storing.Storing.{Storing}
+use Rattle.c65_genexpr.specs.declared.storing.Storing.TheVariants as storing
 use Rattle.c65_genexpr.specs.declared.wanted.Wanted.{Wanted}
 use Rattle.c65_genexpr.specs.declared.wanted.Wanted.TheVariants.{Value, Test}
 use Rattle.c65_genexpr.specs.declared.arguments.Passed.{Passed}
 use Rattle.c65_genexpr.specs.declared.types.Outcome.{Outcome}
 use Rattle.c65_genexpr.specs.declared.types.Outcome.TheVariants.{Nothing, Number, Area}
 use Rattle.c65_genexpr.specs.Types.{kind_of, outcome_of, given_bytes, kind_in, bare, offset_at, access_of, target_bytes}
-use Rattle.c65_genexpr.specs.Places.{more, place_of, object_code, IsKnown}
+use Rattle.c65_genexpr.specs.Places.{more, has_base, added_bytes, sum_has_base, place_of, offset_of, object_code, IsKnown}
 use Rattle.c65_genexpr.specs.Wanted.{wanted_by, handed, wanted, sense, aimed, inner, truth_by, way, way_labels, joined, branch_code}
-use Rattle.c65_genexpr.specs.Operands.{residue_of, operands_of, computes, between_code, behind_code, same_truth, conversion_by}
+use Rattle.c65_genexpr.specs.Operands.{residue_of, constant_in, operands_of, computes, between_code, behind_code, same_truth, conversion_by}
 use Rattle.c65_genexpr.specs.Direct.{kept_at, own_bytes, direct_of, is_pure, is_byte}
-use Rattle.c65_genexpr.specs.Comparing.{relation_by, tested_by, compared_by, held_by, or_held, comparing_of, on, low_code, below_side, comparison_by}
+use Rattle.c65_genexpr.specs.Comparing.{relation_by, tested_by, compared_by, comparing_of, on, low_code, below_side, comparison_by, held_by, or_held}
+use Rattle.c65_genexpr.specs.Operating.{operating_of, waiting_code, stacked_code, below_operand, operator_by, is_light}
+use Rattle.c65_genexpr.specs.Storing.{target_code, storing_of, below_value, assigned_by}
 use Rattle.c65_genexpr.specs.Held.{held_low, held_high}
-use Rattle.c65_genexpr.specs.Operating.{is_light, operating_of, waiting_code, stacked_code, below_operand, operator_by}
 use Rattle.c65_genexpr.specs.Steps.{amount_of}
 use Rattle.c65_genexpr.specs.Arguments.{is_fast, is_counted, stays, passed_size, passed_of, reads_of}
 use Rattle.c65_genexpr.specs.Arguments as arguments
 use Rattle.c65_genexpr.specs.Calls.{named, count_code, fetch_code, result_code, library_at, named_by, named_code, pointer_code, direct_code, ptr4_code}
 use Rattle.c65_genexpr.specs.Uses.{uses, by_relation}
-use Rattle.c65_genexpr.specs.Code.{target_code, width_in, tested_load, load_by, behind_open, compound, call_by, expr_code, node_code, args_code}
+use Rattle.c65_genexpr.specs.Code.{width_in, tested_load, load_by, behind_open, compound, call_by, base_by, expr_code, node_code, base_code, pointer_base_code, args_code}
 use Rattle.c65_gen_law_lines.specs.Stack.{waiting_by, taken, left, waits, argument_bytes, passed, unless_named, calls_of, node_calls, args_calls}
-use Rattle.c65_gen_law_lines.proofs.Made.{is_plain}
-use Rattle.c65_gen_law_lines.proofs.Pieces.{symbol_piece, offset_piece, object_piece, conversion_piece, push_piece, argument_piece, hold_piece, part_piece, load_piece, store_piece, copy_piece, spill_piece, further_piece, unary_piece, between_piece, behind_piece, wide_piece, step_piece, open_piece, close_piece, named_piece, pointer_piece, direct_piece}
+use Rattle.c65_gen_law_lines.proofs.Made.{is_plain, piece_append}
+use Rattle.c65_gen_law_lines.proofs.Pieces.{narrow_piece, read_store_piece, byte_through_piece, word_through_piece, symbol_piece, offset_piece, object_piece, conversion_piece, push_piece, argument_piece, hold_piece, part_piece, load_piece, store_piece, copy_piece, spill_piece, further_piece, unary_piece, between_piece, behind_piece, wide_piece, step_piece, open_piece, close_piece, named_piece, pointer_piece, direct_piece}
 use Rattle.c65_gen_law_lines.proofs.Leaves.{waits_append, Leaves, leaves_then, leaves_none, Still}
-use Rattle.c65_gen_law_lines.proofs.StackPieces.{narrow_still, object_still, further_still, offset_still, conversion_still, push_leaves, argument_leaves, holding, hold_leaves, bytes_still, load_still, stored_leaves, copy_leaves, spill_still, unary_still, between_leaves, behind_leaves, wide_leaves, step_still, open_leaves, close_leaves}
+use Rattle.c65_gen_law_lines.proofs.StackPieces.{narrow_still, read_store_still, byte_through_still, word_through_still, object_still, further_still, offset_still, conversion_still, push_leaves, argument_leaves, holding, hold_leaves, bytes_still, load_still, stored_leaves, copy_leaves, spill_still, unary_still, between_leaves, behind_leaves, wide_leaves, step_still, open_leaves, close_leaves}
+use Rattle.c65_gen_law_lines.proofs.Drops.{Unstored, storing_calls, sum_calls}
 use Rattle.c65_gen_law_lines.proofs.StackLaws.{nothing_more}
 use Rattle.c65_gen_law_stack.proofs.Levels.{Level, Nowhere, level_then, level_end, level_behind, level_plain, level_piece, level_none, Closed, closed_open, closed_then, closed_behind, closed_as}
 use Rattle.c65_gen_law_stack.proofs.EvenLines.{Labels, No, One, Both, At, Even, even_end, even_label, even_jump, even_lines}
@@ -94,6 +98,7 @@ no_calls f = record {
   literal = λ t n. refl;
   object = λ t i. refl;
   func = λ t i. refl;
+  deref = λ t e h. h;
   member = λ t e m h. h;
   load = λ t e h. h;
   address = λ t e h. h;
@@ -105,7 +110,7 @@ known_calls : (f : Framed) (pushed : ℕ) (e : Typed) → IsKnown (place_of f pu
 known_calls f pushed e h = known_reached (no_calls f) f pushed e h
 
 target_level : {cs : List (List ℕ)} {v : List ℕ} {code : List Line} (p : Place) → (IsKnown p → cs ≡ []) → Closed cs v code v → Closed cs v (target_code p code) v
-target_level places.Far h d = d
+target_level (places.Far at) h d = d
 target_level (places.Bank b) h d = closed_as (sym (h tt)) level_none
 target_level (places.Near at) h d = closed_as (sym (h tt)) level_none
 target_level (places.Data s at) h d = closed_as (sym (h tt)) level_none
@@ -349,6 +354,37 @@ relation_level : (w : Wanted) {cs : List (List ℕ)} {v : List ℕ} (o : Option 
 relation_level w None p q = p
 relation_level w (Some r) p q = q r
 
+-- ---- assignments
+
+assigned_level : {cs ds : List (List ℕ)} {v : List ℕ} {a b : List Line} (how : Storing) (place : Place) (access : Access) → Unstored how (cs ≡ []) (ds ≡ []) → (IsKnown place → cs ≡ []) → ((u : List ℕ) → Closed cs u a u) → ((u : List ℕ) → Closed ds u b u)
+    → Closed (cs ++ ds) v (assigned_by how place access a b) v
+assigned_level {cs = cs} {ds = ds} {v = v} (storing.Left at stored) place access unread known da db =
+    closed_as (left_calls cs ds unread) (behind (da v) (leaves_then (read_store_still at stored v) (narrow_still (type_at access) v)) (piece_append 22 3 _ _ (read_store_piece at stored) (narrow_piece (type_at access))).plain)
+assigned_level {cs = cs} {ds = ds} {v = v} (storing.RightByte at low high) place access unread known da db =
+    closed_as (right_calls cs ds unread) (behind (db v) (leaves_then (byte_through_still at low high v) (narrow_still (type_at access) v)) (piece_append 22 3 _ _ (byte_through_piece at low high) (narrow_piece (type_at access))).plain)
+assigned_level {cs = cs} {ds = ds} {v = v} (storing.RightWord at low high) place access unread known da db = closed_as (right_calls cs ds unread) (behind (db v) (word_through_still at low high v) (word_through_piece at low high).plain)
+assigned_level {v = v} storing.Stacked place access unread known da db =
+    closed_then (target_level place known (da v)) (before (hold_leaves place v) (hold_piece place).plain (behind (db (holding place v)) (stored_leaves place access v) (store_piece place access).plain))
+
+-- ---- the bases of places
+
+either_level : {cs : List (List ℕ)} {v : List ℕ} {a b : List Line} (c : Bool) → Closed cs v a v → Closed cs v b v → Closed cs v (if c then a else b) v
+either_level true da db = da
+either_level false da db = db
+
+based_level : {cs : List (List ℕ)} {v : List ℕ} {a b : List Line} (place : Place) → Closed cs v a v → Closed cs v b v → Closed cs v (base_by place a b) v
+based_level (places.Far at) da db = da
+based_level (places.Bank b) da db = db
+based_level (places.Near at) da db = db
+based_level (places.Data s at) da db = db
+
+label_level : {cs : List (List ℕ)} {v : List ℕ} {a : List Line} (m : ℕ) → Closed cs v a v → Closed cs v (Label m ∷ a) v
+label_level {v = v} m d = level_end (level_then ((even_label {X = No} m).level v) (closed_open d)) (λ l h z. absurd z) (λ l h z. absurd z.0)
+
+sum_level : {cs ds : List (List ℕ)} {v : List ℕ} {a b : List Line} (c : Bool) (m : ℕ) → (c ≡ true → ds ≡ []) → Closed cs v a v → Closed (cs ++ ds) v b v → Closed (cs ++ ds) v (if c then Label m ∷ a else b) v
+sum_level {cs = cs} {ds = ds} true m quiet da db = closed_as (left_calls cs ds (quiet refl)) (label_level m da)
+sum_level false m quiet da db = db
+
 -- ---- the whole tree
 
 closed_to : {cs : List (List ℕ)} {v u t : List ℕ} {a : List Line} → u ≡ t → Closed cs v a u → Closed cs v a t
@@ -379,7 +415,7 @@ mutual
   node_level f pushed lo w t (member e m) v = wanted_level w (width_in t) (behind (value_level f pushed lo e v) (offset_still (offset_at (types_of f.parts.types) (bare e) m) v) (offset_piece (offset_at (types_of f.parts.types) (bare e) m)).plain)
   node_level f pushed lo w t (load e) v =
       let place : Place = place_of f pushed e in
-      load_level w place (access_of (types_of f.parts.types) e) (known_calls f pushed e) (target_level place (known_calls f pushed e) (value_level f pushed lo e v))
+      load_level w place (access_of (types_of f.parts.types) e) (known_calls f pushed e) (target_level place (known_calls f pushed e) (base_level f pushed lo e v))
   node_level f pushed lo w t (address e) v = wanted_level w (width_in t) (value_level f pushed lo e v)
   node_level f pushed lo w t (decay e) v = wanted_level w (width_in t) (value_level f pushed lo e v)
   node_level f pushed lo w t (convert e) v =
@@ -421,15 +457,16 @@ mutual
   node_level f pushed lo w t (assign a b) v =
       let place : Place = place_of f pushed a in
       let access : Access = access_of (types_of f.parts.types) a in
-      wanted_level w (width_in t) (closed_then (target_level place (known_calls f pushed a) (value_level f pushed lo a v)) (before (hold_leaves place v) (hold_piece place).plain (behind (value_level f (more pushed (held place)) (lo + uses None a) b (holding place v)) (stored_leaves place access v) (store_piece place access).plain)))
-  node_level f pushed lo w t (assign_op op k a b) v = wanted_level w (width_in t) (compound_level f pushed op (Numbers k) a b v (value_level f pushed lo a v) (value_level f (behind_open f pushed (Numbers k) a) (lo + uses None a) b (waiting (width_of k) ∷ holding (place_of f pushed a) v)))
+      let how : Storing = storing_of f pushed a b in
+      wanted_level w (width_in t) (assigned_level how place access (storing_calls f pushed a b) (known_calls f pushed a) (base_level f pushed lo a) (value_level f (below_value how pushed place) (lo + uses None a) b))
+  node_level f pushed lo w t (assign_op op k a b) v = wanted_level w (width_in t) (compound_level f pushed op (Numbers k) a b v (base_level f pushed lo a v) (value_level f (behind_open f pushed (Numbers k) a) (lo + uses None a) b (waiting (width_of k) ∷ holding (place_of f pushed a) v)))
   node_level f pushed lo w t (assign_step op a b) v =
       let operands : Operands = PointerFirst (target_bytes f (bare a)) in
-      wanted_level w (width_in t) (compound_level f pushed op operands a b v (value_level f pushed lo a v) (value_level f (behind_open f pushed operands a) (lo + uses None a) b (2 ∷ holding (place_of f pushed a) v)))
+      wanted_level w (width_in t) (compound_level f pushed op operands a b v (base_level f pushed lo a v) (value_level f (behind_open f pushed operands a) (lo + uses None a) b (2 ∷ holding (place_of f pushed a) v)))
   node_level f pushed lo w t (step how e) v =
       let place : Place = place_of f pushed e in
       let access : Access = access_of (types_of f.parts.types) e in
-      wanted_level w (width_in t) (behind (target_level place (known_calls f pushed e) (value_level f pushed lo e v)) (step_still how place access (amount_of f how (bare e)) v) (step_piece how place access (amount_of f how (bare e))).plain)
+      wanted_level w (width_in t) (behind (target_level place (known_calls f pushed e) (base_level f pushed lo e v)) (step_still how place access (amount_of f how (bare e)) v) (step_piece how place access (amount_of f how (bare e))).plain)
   node_level f pushed lo w t (copy a b) v =
       wanted_level w (width_in t) (closed_then (value_level f pushed lo a v) (before (push_leaves Ax v) (push_piece Ax).plain (behind (value_level f (more pushed 2) (lo + uses None a) b (2 ∷ v)) (copy_leaves (type_bytes f (type_in t)) v) (copy_piece (type_bytes f (type_in t))).plain)))
   node_level f pushed lo w t (call g es) v =
@@ -437,11 +474,26 @@ mutual
   node_level f pushed lo w t (pack e) v =
       let place : Place = place_of f pushed e in
       let extent : Extent = extent_by (type_bytes f (type_in t)) in
-      wanted_level w (width_in t) (behind (target_level place (known_calls f pushed e) (value_level f pushed lo e v)) (bytes_still place extent v) (part_piece place extent).plain)
+      wanted_level w (width_in t) (behind (target_level place (known_calls f pushed e) (base_level f pushed lo e v)) (bytes_still place extent v) (part_piece place extent).plain)
   node_level f pushed lo w t (spill i e) v =
       let extent : Extent = extent_by (type_bytes f (type_in t)) in
       wanted_level w (width_in t) (behind (value_level f pushed lo e v) (spill_still (object_code f pushed i) extent (object_still f pushed i) v) (spill_piece (object_code f pushed i) extent (object_piece f pushed i)).plain)
   node_level f pushed lo w t further v = wanted_level w (width_in t) (level_piece (further_still f pushed v) (further_piece f pushed).plain)
+
+  base_level : (f : Framed) (pushed lo : ℕ) (e : Typed) (v : List ℕ) → Closed (calls_of f e) v (base_code f pushed lo e) v
+  base_level f pushed lo (node t (deref e)) v = pointer_base_level f pushed lo e v
+  base_level f pushed lo (node t (member e m)) v =
+      let n : ℕ = offset_at (types_of f.parts.types) (bare e) m in
+      either_level (has_base (place_of f pushed e) n) (base_level f pushed lo e v) (behind (value_level f pushed lo e v) (offset_still n v) (offset_piece n).plain)
+  base_level f pushed lo (node t n) v = closed_value (node_level f pushed lo Value t n v)
+
+  pointer_base_level : (f : Framed) (pushed lo : ℕ) (e : Typed) (v : List ℕ) → Closed (calls_of f e) v (pointer_base_code f pushed lo e) v
+  pointer_base_level f pushed lo (node t (binary op a b)) v =
+      let operands : Operands = operands_of f (bare a) (bare b) in
+      let at : ℕ = offset_of f pushed a in
+      sum_level (sum_has_base at (added_bytes op operands (constant_in b))) lo (λ h. sum_calls f at op operands b h) (pointer_base_level f pushed (lo + 1) a v) (closed_value (node_level f pushed lo Value t (binary op a b) v))
+  pointer_base_level f pushed lo (node t (decay e)) v = based_level (place_of f pushed e) (base_level f pushed lo e v) (value_level f pushed lo e v)
+  pointer_base_level f pushed lo (node t n) v = closed_value (node_level f pushed lo Value t n v)
 
   args_level : (f : Framed) (pushed lo : ℕ) (fast : Bool) (es : Nodes) (v : List ℕ) → Closed (args_calls f es) v (args_code f pushed lo fast es) (passed f fast es ++ v)
   args_level f pushed lo fast none v = level_none

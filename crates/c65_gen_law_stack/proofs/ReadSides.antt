@@ -5,7 +5,7 @@ use Rattle.c65_base.specs.declared.operators.BinaryOp.{BinaryOp}
 use Rattle.c65_ints.specs.declared.types.IntType.{IntType}
 use Rattle.c65_ctype.specs.Trees.{QTy, type_in}
 use Rattle.c65_ctype.specs.Views.{types_of}
-use Rattle.c65_csem.specs.Trees.{Typed, node, constant, null, literal, object, func, member, load, address, decay, convert}
+use Rattle.c65_csem.specs.Trees.{Typed, node, constant, null, literal, object, func, deref, member, load, address, decay, convert}
 use Rattle.c65_genframe.specs.Frames.{Framed}
 use Rattle.c65_code.specs.declared.routine.Width.{Width}
 use Rattle.c65_code.specs.declared.routine.Width.TheVariants.{Ax, Eax}
@@ -27,21 +27,23 @@ use Rattle.c65_genexpr.specs.declared.operating.Form.{Form}
 use Rattle.c65_genexpr.specs.declared.operating.Operating.{Operating}
 use Rattle.c65_genexpr.specs.declared.operating.Operating.TheVariants as operating
 use Rattle.c65_genexpr.specs.Types.{kind_of, bare, offset_at, access_of}
-use Rattle.c65_genexpr.specs.Places.{place_of, IsKnown}
+use Rattle.c65_genexpr.specs.Places.{has_base, added_bytes, sum_has_base, place_of, IsKnown}
+use Rattle.c65_genexpr.specs.Storing.{pointer_of, unless_changed, storing_of}
 use Rattle.c65_genexpr.specs.Operands.{residue_of, constant_in}
 use Rattle.c65_genexpr.specs.Direct.{kept_at, address_at, address_of, takes_bytes, converted_if, sides_of, direct_of, is_fixed, is_pure, is_byte}
-use Rattle.c65_genexpr.specs.Comparing.{is_zero, zero_sense, tested_by, is_raised, raised, one_more, range_of, meeting, beside, changes, compared_by, held_by, comparing_of}
+use Rattle.c65_genexpr.specs.Comparing.{is_zero, zero_sense, tested_by, is_raised, raised, one_more, range_of, meeting, beside, changes, compared_by, comparing_of, held_by}
+use Rattle.c65_genexpr.specs.Operating.{constant_form, word_in, right_form, left_form, constant_right, direct_right, direct_left, by_left, by_right, operating_of, reading_of, is_light, held_form, held_if, or_held}
+use Rattle.c65_gen_law_lines.proofs.Drops.{moved_known, Unstored, some_if, stored_by, sum_constant}
 use Rattle.c65_genexpr.specs.Comparing as comparisons
-use Rattle.c65_genexpr.specs.Operating.{constant_form, word_in, right_form, left_form, constant_right, direct_right, direct_left, by_left, by_right, reading_of, is_light, held_form, held_if, or_held, operating_of}
-use Rattle.c65_gen_law_lines.proofs.Drops.{moved_known}
 
--- what holds of objects, constants and addresses, and with a tree of its parts, conversions and addresses
+-- what holds of objects, constants and addresses, and with a tree of its parts, conversions and addresses, and of what it names
 pub record Reaches (P : Typed → Type 0) : Type 0 where
   pub constant : (t : QTy) (z : ℤ) → P (node t (constant z))
   pub null : (t : QTy) → P (node t null)
   pub literal : (t : QTy) (n : ℕ) → P (node t (literal n))
   pub object : (t : QTy) (i : ℕ) → P (node t (object i))
   pub func : (t : QTy) (i : ℕ) → P (node t (func i))
+  pub deref : (t : QTy) (e : Typed) → P e → P (node t (deref e))
   pub member : (t : QTy) (e : Typed) (m : ℕ) → P e → P (node t (member e m))
   pub load : (t : QTy) (e : Typed) → P e → P (node t (load e))
   pub address : (t : QTy) (e : Typed) → P e → P (node t (address e))
@@ -60,13 +62,13 @@ known_reached p f pushed (node t (member e m)) h = p.member t e m (known_reached
 known_reached p f pushed (node t _) h = absurd h
 
 pub kept_known : (place : Place) (access : Access) (d : Direct) → kept_at place access ≡ Some d → IsKnown place
-kept_known places.Far access d e = absurd cc
+kept_known (places.Far at) access d e = absurd cc
 kept_known (places.Bank b) access d e = tt
 kept_known (places.Near at) access d e = tt
 kept_known (places.Data s at) access d e = tt
 
 address_known : (place : Place) (d : Direct) → address_at place ≡ Some d → IsKnown place
-address_known places.Far d e = absurd cc
+address_known (places.Far at) d e = absurd cc
 address_known (places.Bank b) d e = absurd cc
 address_known (places.Near at) d e = absurd cc
 address_known (places.Data s at) d e = tt
@@ -101,6 +103,24 @@ zero_reached : {P : Typed → Type 0} → Reaches P → (e : Typed) → is_zero 
 zero_reached p (node t (constant z)) e = p.constant t z
 zero_reached p (node t null) e = p.null t
 zero_reached p (node t _) e = absurd cc
+
+-- ---- assignments
+
+-- a pointer that is read
+pointer_reached : {P : Typed → Type 0} → Reaches P → (f : Framed) (pushed : ℕ) (e : Typed) (d : Direct) → pointer_of f pushed e ≡ Some d → P e
+pointer_reached p f pushed (node t (deref a)) d e = p.deref t a (direct_reached p f pushed a d e)
+pointer_reached p f pushed (node t (member a m)) d e =
+    p.member t a m (pointer_reached p f pushed a d (some_if (has_base (place_of f pushed a) (offset_at (types_of f.parts.types) (bare a) m)) (pointer_of f pushed a) d e))
+pointer_reached p f pushed (node t _) d e = absurd cc
+
+pub storing_reached : {P : Typed → Type 0} → Reaches P → (f : Framed) (pushed : ℕ) (a b : Typed) → Unstored (storing_of f pushed a b) (P a) (P b)
+storing_reached {P = P} p f pushed a b =
+    stored_by (P a) (P b) (place_of f pushed a) (access_of (types_of f.parts.types) a) (unless_changed (is_pure b) (pointer_of f pushed a)) (direct_of f pushed b)
+    (λ d e. pointer_reached p f pushed a d (some_if (is_fixed (pointer_of f pushed a) || is_pure b) (pointer_of f pushed a) d e)) (direct_reached p f pushed b)
+
+-- the constant of a sum that is told with its pointer
+pub sum_reached : {P : Typed → Type 0} → Reaches P → (at : ℕ) (op : BinaryOp) (operands : Operands) (b : Typed) → sum_has_base at (added_bytes op operands (constant_in b)) ≡ true → P b
+sum_reached p at op operands b h = let z = sum_constant at op operands b h in constant_reached p b z.0 z.1
 
 -- ---- comparisons
 

@@ -50,7 +50,7 @@ abbrev pub place_byte : Place → ℕ → Option OperandByte
 place_byte (places.Bank at) i = Some (Zero (byte_more (byte_more regbank at) i))
 place_byte (places.Near at) i = Some (Near (byte_more at i))
 place_byte (places.Data sym at) i = Some (Data sym (word_more at i))
-place_byte places.Far i = None
+place_byte (places.Far at) i = None
 
 -- above its own bytes a value has zeros, or its sign, which lies nowhere
 abbrev pub byte_above : IntType → Option OperandByte

@@ -1,4 +1,5 @@
 pub mod Bytes
 pub mod Compare
 pub mod Tests
+pub mod Through
 pub mod Words

@@ -56,7 +56,7 @@ fn place_byte(place: Place, index: u8) -> Option<OperandByte>
         }
         Place::Near(at) => Some(OperandByte::Near(at.wrapping_add(index))),
         Place::Data(sym, at) => Some(OperandByte::Data(sym, at.wrapping_add(index as u16))),
-        Place::Far => None,
+        Place::Far(_) => None,
     }
 }
 

@@ -1,4 +1,4 @@
-//! Operators, comparisons and tests whose operand is read where it lies, in place of one that waits on
+//! Operators, comparisons, tests and stores whose operand is read where it lies, in place of one that waits on
 //! the software stack.
 #![tactic(auto, using(c65_genwide::proofs::Kept::kept_then, c65_genwide::proofs::Kept::kept_last))]
 
@@ -6,6 +6,7 @@ mod bytes;
 mod compare;
 mod direct;
 mod relation;
+mod through;
 mod truth;
 mod words;
 
@@ -13,5 +14,6 @@ pub use bytes::{OperandByte, put_op};
 pub use compare::{Sides, put_compare, put_compare_byte};
 pub use direct::{Direct, byte_of, converted};
 pub use relation::{Relation, relation_of};
+pub use through::{Stored, put_byte_through, put_read_store, put_word_through};
 pub use truth::{put_truth, put_zero_test};
 pub use words::{put_add_number, put_long_mask, put_sum, put_taken_from, put_word};

@@ -1,15 +1,20 @@
 -- Trees that are read where they lie have no labels.
-use Rattle.std.proofs.Common.{◌≡◌, ℕ, Bool, true, false, Option, Some, None, refl}
-use Rattle.std.specs.Prelude.{option_and_then, is_some, ◌&&◌, if◌then◌else◌}
+use Rattle.std.proofs.Common.{◌≡◌, ◌+◌, ℕ, ℤ, add-zero, Bool, true, false, Option, Some, None, refl}
+use Rattle.std.specs.Prelude.{option_and_then, is_some, ◌&&◌, ◌||◌, if◌then◌else◌}
 use Rattle.c65_base.specs.declared.operators.BinaryOp.{BinaryOp}
+use Rattle.c65_base.specs.declared.operators.BinaryOp.TheVariants.{Mul, Div, Rem, Add, Sub, Shl, Shr, Lt, Gt, Le, Ge, Eq, Ne, BitAnd, BitXor, BitOr}
 use Rattle.c65_ints.specs.declared.types.IntType.{IntType}
-use Rattle.c65_ctype.specs.Trees.{type_in}
+use Rattle.c65_ctype.specs.Trees.{QTy, type_in}
 use Rattle.c65_ctype.specs.Views.{types_of}
 use Rattle.c65_csem.specs.Trees.{Typed, node, constant, null, literal, object, func, deref, member, load, address, decay, convert, unary, binary, both, either, choice, comma, assign, assign_op, assign_step, step, copy, call, pack, spill, rest}
 use Rattle.c65_code.specs.declared.routine.Width.{Width}
 use Rattle.c65_code.specs.declared.routine.Width.TheVariants.{Ax, Eax}
 use Rattle.c65_genframe.specs.Frames.{Framed}
 use Rattle.c65_genload.specs.declared.places.Access.{Access}
+use Rattle.c65_genload.specs.declared.places.Access.TheVariants.{Whole, Part}
+use Rattle.c65_genload.specs.declared.places.Extent.{Extent}
+use Rattle.c65_genload.specs.declared.places.Extent.TheVariants.{One, Two, Three, Four}
+use Rattle.c65_genload.specs.Places.{extent_of}
 use Rattle.c65_genload.specs.declared.places.Place.{Place}
 use Rattle.c65_genload.specs.declared.places.Place.TheVariants.{Bank, Near, Data, Far}
 use Rattle.c65_gendirect.specs.declared.bytes.OperandByte.{OperandByte}
@@ -17,7 +22,8 @@ use Rattle.c65_gendirect.specs.declared.compare.Sides.{Sides}
 use Rattle.c65_gendirect.specs.declared.direct.Direct.{Direct}
 use Rattle.c65_gendirect.specs.declared.relation.Relation.{Relation}
 use Rattle.c65_gendirect.specs.Bytes.{byte_of}
-use Rattle.c65_gendirect.specs.Compare.{mirrored}
+use Rattle.c65_gendirect.specs.declared.through.Stored.{Stored}
+use Rattle.c65_gendirect.specs.Compare.{mirrored, relation_of}
 use Rattle.c65_genwide.specs.Wide.{width_of}
 use Rattle.c65_genexpr.specs.declared.comparing.Side.TheVariants.{Left, Right}
 use Rattle.c65_genexpr.specs.declared.comparing.Comparing.{Comparing}
@@ -26,15 +32,18 @@ use Rattle.c65_genexpr.specs.declared.operating.Form.{Form}
 use Rattle.c65_genexpr.specs.declared.operating.Operating.{Operating}
 use Rattle.c65_genexpr.specs.declared.operating.Operating.TheVariants as operating
 use Rattle.c65_genexpr.specs.declared.operands.Operands.{Operands}
+use Rattle.c65_genexpr.specs.declared.operands.Operands.TheVariants.{Numbers, PointerFirst, PointerLast, Pointers}
+use Rattle.c65_genexpr.specs.declared.storing.Storing.{Storing}
 use Rattle.c65_genexpr.specs.Types.{kind_of, bare, offset_at, access_of}
-use Rattle.c65_genexpr.specs.Places.{IsKnown, moved, place_of}
+use Rattle.c65_genexpr.specs.Places.{IsKnown, moved, has_base, added_bytes, sum_has_base, place_of}
 use Rattle.c65_genexpr.specs.Operands.{constant_in}
-use Rattle.c65_genexpr.specs.Direct.{kept_at, address_at, address_of, takes_bytes, converted_if, direct_of, is_pure, is_byte, sides_of}
-use Rattle.c65_genexpr.specs.Comparing.{is_zero, zero_sense, tested_by, lowest, range_of, is_raised, raised, one_more, meeting, beside, changes, compared_by, held_by, or_held, comparing_of}
-use Rattle.c65_genexpr.specs.Operating.{direct_right, direct_left, by_left, by_right, reading_of, is_light, held_form, held_if, operating_of}
+use Rattle.c65_genexpr.specs.Direct.{kept_at, address_at, address_of, takes_bytes, converted_if, direct_of, is_fixed, is_pure, is_byte, sides_of}
+use Rattle.c65_genexpr.specs.Comparing.{is_zero, zero_sense, tested_by, lowest, range_of, is_raised, raised, one_more, meeting, beside, changes, compared_by, comparing_of, held_by, or_held}
+use Rattle.c65_genexpr.specs.Operating.{word_in, direct_right, direct_left, by_left, by_right, operating_of, reading_of, is_light, held_form, held_if}
 use Rattle.c65_genexpr.specs.Operating as operators
 use Rattle.c65_genexpr.specs.Uses.{uses}
-use Rattle.c65_genexpr.specs.Leaving.{ComparesFree, OperatesFree}
+use Rattle.c65_genexpr.specs.Leaving.{ComparesFree, OperatesFree, StoresFree}
+use Rattle.c65_genexpr.specs.Storing.{pointer_of, through, by_value, by_pointer, storing_by, storing_of}
 
 -- ---- places
 
@@ -42,7 +51,7 @@ known_before : (place : Place) (n : ℕ) → IsKnown (moved place n) → IsKnown
 known_before (Bank b) n h = tt
 known_before (Near at) n h = tt
 known_before (Data sym at) n h = tt
-known_before Far n h = h
+known_before (Far at) n h = h
 
 pub known_uses : (f : Framed) (pushed : ℕ) (e : Typed) → IsKnown (place_of f pushed e) → uses None e ≡ 0
 known_uses f pushed (node t (object i)) h = refl
@@ -140,13 +149,13 @@ kept_known : (place : Place) (access : Access) → IsThere (kept_at place access
 kept_known (Bank b) access h = tt
 kept_known (Near at) access h = tt
 kept_known (Data sym at) access h = tt
-kept_known Far access h = h
+kept_known (Far at) access h = h
 
 address_known : (place : Place) → IsThere (address_at place) → IsKnown place
 address_known (Bank b) h = tt
 address_known (Near at) h = tt
 address_known (Data sym at) h = tt
-address_known Far h = h
+address_known (Far at) h = h
 
 address_uses : (f : Framed) (pushed : ℕ) (e : Typed) → IsThere (address_of f pushed e) → uses None e ≡ 0
 address_uses f pushed (node t (literal n)) h = refl
@@ -248,6 +257,115 @@ reads_free f pushed op operands a b =
     right_free a b _ _ (λ h. constant_uses b (after_there _ (constant_in b) h))
     (right_free a b _ _ (λ h. direct_uses f pushed b (right_there op operands (direct_of f pushed b) h))
     (left_free a b _ _ (λ h. direct_uses f pushed a (left_there op operands (direct_of f pushed a) h))))
+
+-- ---- assignments
+
+if_there : {A : Type 0} (b : Bool) (o : Option A) → IsThere (if b then o else None) → IsThere o
+if_there true o h = h
+if_there false o h = absurd h
+
+pointer_uses : (f : Framed) (pushed : ℕ) (e : Typed) → IsThere (pointer_of f pushed e) → uses None e ≡ 0
+pointer_uses f pushed (node t (deref e)) h = direct_uses f pushed e h
+pointer_uses f pushed (node t (member e m)) h = pointer_uses f pushed e (if_there (has_base (place_of f pushed e) (offset_at (types_of f.parts.types) (bare e) m)) (pointer_of f pushed e) h)
+pointer_uses f pushed (node t (constant z)) h = refl
+pointer_uses f pushed (node t null) h = refl
+pointer_uses f pushed (node t (literal n)) h = refl
+pointer_uses f pushed (node t (object i)) h = refl
+pointer_uses f pushed (node t (func i)) h = refl
+pointer_uses f pushed (node t (load e)) h = absurd h
+pointer_uses f pushed (node t (address e)) h = absurd h
+pointer_uses f pushed (node t (decay e)) h = absurd h
+pointer_uses f pushed (node t (convert e)) h = absurd h
+pointer_uses f pushed (node t (unary op e)) h = absurd h
+pointer_uses f pushed (node t (binary op a b)) h = absurd h
+pointer_uses f pushed (node t (both a b)) h = absurd h
+pointer_uses f pushed (node t (either a b)) h = absurd h
+pointer_uses f pushed (node t (choice c a b)) h = absurd h
+pointer_uses f pushed (node t (comma a b)) h = absurd h
+pointer_uses f pushed (node t (assign a b)) h = absurd h
+pointer_uses f pushed (node t (assign_op op k a b)) h = absurd h
+pointer_uses f pushed (node t (assign_step op a b)) h = absurd h
+pointer_uses f pushed (node t (step how e)) h = absurd h
+pointer_uses f pushed (node t (copy a b)) h = absurd h
+pointer_uses f pushed (node t (call g es)) h = absurd h
+pointer_uses f pushed (node t (pack e)) h = absurd h
+pointer_uses f pushed (node t (spill i e)) h = absurd h
+pointer_uses f pushed (node t rest) h = absurd h
+
+through_free : (a b : Typed) (at : ℕ) (extent : Extent) (w : OperandByte × OperandByte) → uses None a ≡ 0 → StoresFree (through at extent w) a b
+through_free a b at One w free = free
+through_free a b at Two w free = free
+through_free a b at Three w free = tt
+through_free a b at Four w free = tt
+
+pointer_free : (a b : Typed) (at : ℕ) (extent : Extent) (w : Option (OperandByte × OperandByte)) → (IsThere w → uses None a ≡ 0) → StoresFree (by_pointer at extent w) a b
+pointer_free a b at extent (Some w) free = through_free a b at extent w (free tt)
+pointer_free a b at extent None free = tt
+
+value_free : (a b : Typed) (at : ℕ) (stored : Option Stored) (other : Storing) → (IsThere stored → uses None b ≡ 0) → StoresFree other a b → StoresFree (by_value at stored other) a b
+value_free a b at (Some stored) other free before = free tt
+value_free a b at None other free before = before
+
+stored_free : (a b : Typed) (place : Place) (access : Access) (x y : Option Direct) → (IsThere x → uses None a ≡ 0) → (IsThere y → uses None b ≡ 0) → StoresFree (storing_by place access x y) a b
+stored_free a b (Far at) (Whole kind) x y left right =
+    value_free a b at _ _ (λ h. right (after_there _ y h)) (pointer_free a b at (extent_of kind) _ (λ h. left (after_there word_in x h)))
+stored_free a b (Far at) (Part field) x y left right = tt
+stored_free a b (Bank at) access x y left right = tt
+stored_free a b (Near at) access x y left right = tt
+stored_free a b (Data sym at) access x y left right = tt
+
+pub stores_free : (f : Framed) (pushed : ℕ) (a b : Typed) → StoresFree (storing_of f pushed a b) a b
+stores_free f pushed a b =
+    stored_free a b (place_of f pushed a) (access_of (types_of f.parts.types) a) _ _
+    (λ h. pointer_uses f pushed a (if_there (is_fixed (pointer_of f pushed a) || is_pure b) (pointer_of f pushed a) h))
+    (direct_uses f pushed b)
+
+-- ---- sums that are left out
+
+sum_alone : (at : ℕ) (op : BinaryOp) (operands : Operands) (z : Option ℤ) → sum_has_base at (added_bytes op operands z) ≡ true → relation_of op ≡ None
+sum_alone at Add operands z h = refl
+sum_alone at Mul operands z h = cc
+sum_alone at Div operands z h = cc
+sum_alone at Rem operands z h = cc
+sum_alone at Sub operands z h = cc
+sum_alone at Shl operands z h = cc
+sum_alone at Shr operands z h = cc
+sum_alone at Lt operands z h = cc
+sum_alone at Gt operands z h = cc
+sum_alone at Le operands z h = cc
+sum_alone at Ge operands z h = cc
+sum_alone at Eq operands z h = cc
+sum_alone at Ne operands z h = cc
+sum_alone at BitAnd operands z h = cc
+sum_alone at BitXor operands z h = cc
+sum_alone at BitOr operands z h = cc
+
+added_there : (at : ℕ) (op : BinaryOp) (operands : Operands) (z : Option ℤ) → sum_has_base at (added_bytes op operands z) ≡ true → IsThere z
+added_there at op operands (Some z) h = tt
+added_there at Add (PointerFirst size) None h = cc
+added_there at Add (PointerLast size) None h = cc
+added_there at Add (Numbers kind) None h = cc
+added_there at Add (Pointers size) None h = cc
+added_there at Mul operands None h = cc
+added_there at Div operands None h = cc
+added_there at Rem operands None h = cc
+added_there at Sub operands None h = cc
+added_there at Shl operands None h = cc
+added_there at Shr operands None h = cc
+added_there at Lt operands None h = cc
+added_there at Gt operands None h = cc
+added_there at Le operands None h = cc
+added_there at Ge operands None h = cc
+added_there at Eq operands None h = cc
+added_there at Ne operands None h = cc
+added_there at BitAnd operands None h = cc
+added_there at BitXor operands None h = cc
+added_there at BitOr operands None h = cc
+
+-- one label beside those of the pointer
+pub sum_uses : (at : ℕ) (op : BinaryOp) (operands : Operands) (t : QTy) (a b : Typed) → sum_has_base at (added_bytes op operands (constant_in b)) ≡ true → uses None (node t (binary op a b)) ≡ 1 + uses None a
+sum_uses at op operands t a b h =
+    rw (sum_alone at op operands (constant_in b) h, constant_uses b (added_there at op operands (constant_in b) h), add-zero) refl
 
 pub operates_free : (f : Framed) (pushed : ℕ) (op : BinaryOp) (operands : Operands) (a b : Typed) → OperatesFree (operating_of f pushed op operands a b) a b
 operates_free f pushed op operands a b = or_held_operates a b (reading_of f pushed op operands a b) _ (reads_free f pushed op operands a b) (held_free a b (is_light f pushed b) (held_form op operands))

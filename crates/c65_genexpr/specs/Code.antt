@@ -2,7 +2,7 @@
 -- is free. A value stands in AX, or in EAX; of a place, and of a structure or
 -- union, the address. Of one that is passed or returned the bytes stand in A, X and sreg, as many as there are, the first in A.
 -- A test leads to its label where the truth is the one that is asked for, and else goes on.
-use Rattle.std.specs.Prelude.{ℕ, ◌+◌, ◌==◌, not, Bool, true, false, Option, Some, None, List, [], ◌∷◌, ◌++◌}
+use Rattle.std.specs.Prelude.{ℕ, ◌+◌, ◌==◌, not, if◌then◌else◌, Bool, true, false, Option, Some, None, List, [], ◌∷◌, ◌++◌}
 use Rattle.c65_base.specs.declared.operators.UnaryOp.{UnaryOp}
 use Rattle.c65_base.specs.declared.operators.BinaryOp.{BinaryOp}
 use Rattle.c65_ints.specs.declared.types.IntType.{IntType}
@@ -27,8 +27,8 @@ use Rattle.c65_genload.specs.Places.{held, type_in, extent_of, extent_by}
 use Rattle.c65_genload.specs.Numbers.{number_code}
 use Rattle.c65_genload.specs.Conversions.{push_code, waiting}
 use Rattle.c65_genload.specs.Addresses.{symbol_code, offset_code}
-use Rattle.c65_genload.specs.Loads.{hold_code, bytes_code, load_code}
-use Rattle.c65_genload.specs.Stores.{store_code, copy_code}
+use Rattle.c65_genload.specs.Loads.{bytes_code, load_code}
+use Rattle.c65_genload.specs.Stores.{copy_code}
 use Rattle.c65_gendirect.specs.declared.direct.Direct.{Direct}
 use Rattle.c65_gendirect.specs.declared.relation.Relation.{Relation}
 use Rattle.c65_gendirect.specs.Compare.{relation_of}
@@ -39,22 +39,18 @@ use Rattle.c65_genexpr.specs.declared.operands.Operands.{Operands}
 use Rattle.c65_genexpr.specs.declared.operands.Operands.TheVariants.{Numbers, PointerFirst}
 use Rattle.c65_genexpr.specs.declared.types.Outcome.{Outcome}
 use Rattle.c65_genexpr.specs.Types.{kind_of, outcome_of, kind_in, bare, offset_at, access_of, target_bytes}
-use Rattle.c65_genexpr.specs.Places.{more, place_of, object_code, rest_code}
+use Rattle.c65_genexpr.specs.Places.{more, has_base, added_bytes, sum_has_base, place_of, offset_of, object_code, rest_code}
 use Rattle.c65_genexpr.specs.Wanted.{decided_code, wanted_by, handed, wanted, sense, aimed, inner, truth_by, is_straight, way, way_labels, joined}
 use Rattle.c65_genexpr.specs.Spills.{spill_code}
-use Rattle.c65_genexpr.specs.Operands.{residue_of, operands_of, computes, unary_code, same_truth, conversion_by}
+use Rattle.c65_genexpr.specs.Operands.{residue_of, constant_in, operands_of, computes, unary_code, same_truth, conversion_by}
 use Rattle.c65_genexpr.specs.Direct.{kept_at, own_bytes}
 use Rattle.c65_genexpr.specs.Comparing.{relation_by, tested_by, comparing_of, below_side, comparison_by}
 use Rattle.c65_genexpr.specs.Operating.{operating_of, below_operand, operator_by}
+use Rattle.c65_genexpr.specs.Storing.{target_code, storing_of, below_value, assigned_by}
 use Rattle.c65_genexpr.specs.Steps.{amount_of, step_code, open_code, close_code}
 use Rattle.c65_genexpr.specs.Arguments.{is_fast, is_counted, stays, passed_size, passed_of, argument_code, argument_bytes}
 use Rattle.c65_genexpr.specs.Calls.{named, named_code, pointer_code, direct_code}
-use Rattle.c65_genexpr.specs.Uses.{uses, by_operator, by_relation}
-
--- the address of a place, where it takes lines of code
-abbrev pub target_code : Place → List Line → List Line
-target_code Far code = code
-target_code _ code = []
+use Rattle.c65_genexpr.specs.Uses.{uses, node_uses, by_operator, by_relation}
 
 -- where the values of a type stand
 abbrev pub width_in : QTy → Width
@@ -93,6 +89,11 @@ call_by f (Some i) given g es callee args above = args ++ named_code f i (is_cou
 call_by f None given g none callee args above = callee ++ direct_code (is_counted (bare g)) (passed_of f (is_fast (bare g)) none) given
 call_by f None given g (some e es) callee args above = callee ++ (push_code Ax ++ (above ++ pointer_code (is_counted (bare g)) (passed_of f (is_fast (bare g)) (some e es)) given))
 
+-- the lines of a base, or else of the whole address
+abbrev pub base_by : Place → List Line → List Line → List Line
+base_by (Far at) base whole = base
+base_by place base whole = whole
+
 abbrev mutual
   pub expr_code : Framed → ℕ → ℕ → Wanted → Typed → List Line
   expr_code f pushed fresh w (node t n) = node_code f pushed fresh w t n
@@ -105,7 +106,7 @@ abbrev mutual
   node_code f pushed fresh w t (func i) = wanted w (width_in t) (symbol_code (function_symbol (numbers_of f.parts) i) 0)
   node_code f pushed fresh w t (deref e) = wanted w (width_in t) (expr_code f pushed fresh Value e)
   node_code f pushed fresh w t (member e m) = wanted w (width_in t) (expr_code f pushed fresh Value e ++ offset_code (offset_at (types_of f.parts.types) (bare e) m))
-  node_code f pushed fresh w t (load e) = load_by w (place_of f pushed e) (access_of (types_of f.parts.types) e) (target_code (place_of f pushed e) (expr_code f pushed fresh Value e))
+  node_code f pushed fresh w t (load e) = load_by w (place_of f pushed e) (access_of (types_of f.parts.types) e) (target_code (place_of f pushed e) (base_code f pushed fresh e))
   node_code f pushed fresh w t (address e) = wanted w (width_in t) (expr_code f pushed fresh Value e)
   node_code f pushed fresh w t (decay e) = wanted w (width_in t) (expr_code f pushed fresh Value e)
   node_code f pushed fresh w t (convert e) =
@@ -143,21 +144,38 @@ abbrev mutual
   node_code f pushed fresh w t (comma a b) = expr_code f pushed fresh Value a ++ expr_code f pushed (fresh + uses None a) w b
   node_code f pushed fresh w t (assign a b) =
       let place = place_of f pushed a in
-      wanted w (width_in t) (target_code place (expr_code f pushed fresh Value a) ++ (hold_code place ++ (expr_code f (more pushed (held place)) (fresh + uses None a) Value b ++ store_code place (access_of (types_of f.parts.types) a))))
-  node_code f pushed fresh w t (assign_op op k a b) = wanted w (width_in t) (compound f pushed op (Numbers k) a b (expr_code f pushed fresh Value a) (expr_code f (behind_open f pushed (Numbers k) a) (fresh + uses None a) Value b))
+      let how = storing_of f pushed a b in
+      wanted w (width_in t) (assigned_by how place (access_of (types_of f.parts.types) a) (base_code f pushed fresh a) (expr_code f (below_value how pushed place) (fresh + uses None a) Value b))
+  node_code f pushed fresh w t (assign_op op k a b) = wanted w (width_in t) (compound f pushed op (Numbers k) a b (base_code f pushed fresh a) (expr_code f (behind_open f pushed (Numbers k) a) (fresh + uses None a) Value b))
   node_code f pushed fresh w t (assign_step op a b) =
       let operands = PointerFirst (target_bytes f (bare a)) in
-      wanted w (width_in t) (compound f pushed op operands a b (expr_code f pushed fresh Value a) (expr_code f (behind_open f pushed operands a) (fresh + uses None a) Value b))
+      wanted w (width_in t) (compound f pushed op operands a b (base_code f pushed fresh a) (expr_code f (behind_open f pushed operands a) (fresh + uses None a) Value b))
   node_code f pushed fresh w t (step how e) =
-      wanted w (width_in t) (target_code (place_of f pushed e) (expr_code f pushed fresh Value e) ++ step_code how (place_of f pushed e) (access_of (types_of f.parts.types) e) (amount_of f how (bare e)))
+      wanted w (width_in t) (target_code (place_of f pushed e) (base_code f pushed fresh e) ++ step_code how (place_of f pushed e) (access_of (types_of f.parts.types) e) (amount_of f how (bare e)))
   node_code f pushed fresh w t (copy a b) =
       wanted w (width_in t) (expr_code f pushed fresh Value a ++ (push_code Ax ++ (expr_code f (more pushed 2) (fresh + uses None a) Value b ++ copy_code (type_bytes f (types.type_in t)))))
   node_code f pushed fresh w t (call g es) =
       wanted w (width_in t) (call_by f (named g) (outcome_of f (types.type_in t)) g es (expr_code f pushed fresh Value g) (args_code f pushed fresh (is_fast (bare g)) es) (args_code f (more pushed 2) (fresh + uses None g) (is_fast (bare g)) es))
   node_code f pushed fresh w t (pack e) =
-      wanted w (width_in t) (target_code (place_of f pushed e) (expr_code f pushed fresh Value e) ++ bytes_code (place_of f pushed e) (extent_by (type_bytes f (types.type_in t))))
+      wanted w (width_in t) (target_code (place_of f pushed e) (base_code f pushed fresh e) ++ bytes_code (place_of f pushed e) (extent_by (type_bytes f (types.type_in t))))
   node_code f pushed fresh w t (spill i e) = wanted w (width_in t) (expr_code f pushed fresh Value e ++ spill_code (object_code f pushed i) (extent_by (type_bytes f (types.type_in t))))
   node_code f pushed fresh w t rest = wanted w (width_in t) (rest_code f pushed)
+
+  -- the address behind which a place lies, as far as it tells
+  pub base_code : Framed → ℕ → ℕ → Typed → List Line
+  base_code f pushed fresh (node t (deref e)) = pointer_base_code f pushed fresh e
+  base_code f pushed fresh (node t (member e m)) =
+      let n = offset_at (types_of f.parts.types) (bare e) m in
+      if has_base (place_of f pushed e) n then base_code f pushed fresh e else expr_code f pushed fresh Value e ++ offset_code n
+  base_code f pushed fresh (node t n) = node_code f pushed fresh Value t n
+
+  -- the same of a pointer; the label of a sum that is left out is placed all the same
+  pub pointer_base_code : Framed → ℕ → ℕ → Typed → List Line
+  pointer_base_code f pushed fresh (node t (binary op a b)) =
+      if sum_has_base (offset_of f pushed a) (added_bytes op (operands_of f (bare a) (bare b)) (constant_in b)) then Label fresh ∷ pointer_base_code f pushed (fresh + 1) a
+      else node_code f pushed fresh Value t (binary op a b)
+  pointer_base_code f pushed fresh (node t (decay e)) = base_by (place_of f pushed e) (base_code f pushed fresh e) (expr_code f pushed fresh Value e)
+  pointer_base_code f pushed fresh (node t n) = node_code f pushed fresh Value t n
 
   -- arguments from left to right
   pub args_code : Framed → ℕ → ℕ → Bool → Nodes → List Line
@@ -200,7 +218,37 @@ joint_code f pushed own to s stop a b =
     joined straight own (expr_code f pushed first (Test (way straight to own) stop) a) (expr_code f pushed (first + uses (Some stop) a) (Test to s) b)
 
 abbrev pub load_test_code : Framed → ℕ → ℕ → ℕ → Bool → Typed → List Line
-load_test_code f pushed fresh to s e = load_by (Test to s) (place_of f pushed e) (access_of (types_of f.parts.types) e) (target_code (place_of f pushed e) (expr_code f pushed fresh Value e))
+load_test_code f pushed fresh to s e = load_by (Test to s) (place_of f pushed e) (access_of (types_of f.parts.types) e) (target_code (place_of f pushed e) (base_code f pushed fresh e))
+
+-- the base of a part, so far behind the beginning
+abbrev pub part_base_code : Framed → ℕ → ℕ → ℕ → Typed → List Line
+part_base_code f pushed fresh n e = if has_base (place_of f pushed e) n then base_code f pushed fresh e else expr_code f pushed fresh Value e ++ offset_code n
+
+abbrev pub node_base_code : Framed → ℕ → ℕ → QTy → Node → List Line
+node_base_code f pushed fresh t (deref e) = pointer_base_code f pushed fresh e
+node_base_code f pushed fresh t (member e m) = part_base_code f pushed fresh (offset_at (types_of f.parts.types) (bare e) m) e
+node_base_code f pushed fresh t n = node_code f pushed fresh Value t n
+
+abbrev pub base_lines : Framed → ℕ → ℕ → Typed → List Line
+base_lines f pushed fresh (node t n) = node_base_code f pushed fresh t n
+
+-- the base of a pointer, and how many labels it has
+abbrev pub node_pointer_code : Framed → ℕ → ℕ → QTy → Node → List Line
+node_pointer_code f pushed fresh t (binary op a b) =
+    if sum_has_base (offset_of f pushed a) (added_bytes op (operands_of f (bare a) (bare b)) (constant_in b)) then Label fresh ∷ pointer_base_code f pushed (fresh + 1) a else node_code f pushed fresh Value t (binary op a b)
+node_pointer_code f pushed fresh t (decay e) = base_by (place_of f pushed e) (base_code f pushed fresh e) (expr_code f pushed fresh Value e)
+node_pointer_code f pushed fresh t n = node_code f pushed fresh Value t n
+
+abbrev pub pointer_lines : Framed → ℕ → ℕ → Typed → List Line
+pointer_lines f pushed fresh (node t n) = node_pointer_code f pushed fresh t n
+
+abbrev pub node_pointer_uses : Framed → ℕ → QTy → Node → ℕ
+node_pointer_uses f pushed t (binary op a b) =
+    if sum_has_base (offset_of f pushed a) (added_bytes op (operands_of f (bare a) (bare b)) (constant_in b)) then 1 + uses None a else node_uses None t (binary op a b)
+node_pointer_uses f pushed t n = node_uses None t n
+
+abbrev pub pointer_labels : Framed → ℕ → Typed → ℕ
+pointer_labels f pushed (node t n) = node_pointer_uses f pushed t n
 
 abbrev pub choice_code : Framed → ℕ → ℕ → Typed → Typed → Typed → List Line
 choice_code f pushed fresh c a b =
@@ -210,10 +258,11 @@ choice_code f pushed fresh c a b =
 abbrev pub assign_code : Framed → ℕ → ℕ → Typed → Typed → List Line
 assign_code f pushed fresh a b =
     let place = place_of f pushed a in
-    target_code place (expr_code f pushed fresh Value a) ++ (hold_code place ++ (expr_code f (more pushed (held place)) (fresh + uses None a) Value b ++ store_code place (access_of (types_of f.parts.types) a)))
+    let how = storing_of f pushed a b in
+    assigned_by how place (access_of (types_of f.parts.types) a) (base_code f pushed fresh a) (expr_code f (below_value how pushed place) (fresh + uses None a) Value b)
 
 abbrev pub compound_code : Framed → ℕ → ℕ → BinaryOp → Operands → Typed → Typed → List Line
-compound_code f pushed fresh op operands a b = compound f pushed op operands a b (expr_code f pushed fresh Value a) (expr_code f (behind_open f pushed operands a) (fresh + uses None a) Value b)
+compound_code f pushed fresh op operands a b = compound f pushed op operands a b (base_code f pushed fresh a) (expr_code f (behind_open f pushed operands a) (fresh + uses None a) Value b)
 
 abbrev pub call_code : Framed → ℕ → ℕ → Outcome → Typed → Nodes → List Line
 call_code f pushed fresh given g es = call_by f (named g) given g es (expr_code f pushed fresh Value g) (args_code f pushed fresh (is_fast (bare g)) es) (args_code f (more pushed 2) (fresh + uses None g) (is_fast (bare g)) es)

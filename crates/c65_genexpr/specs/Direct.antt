@@ -28,7 +28,7 @@ use Rattle.c65_genexpr.specs.Operands.{residue_of}
 
 -- a number that is kept at a known place
 abbrev pub kept_at : Place → Access → Option Direct
-kept_at Far access = None
+kept_at (Far at) access = None
 kept_at place (Whole kind) = Some (Kept place kind)
 kept_at place (Part field) = None
 

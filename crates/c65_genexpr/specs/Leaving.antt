@@ -7,6 +7,8 @@ use Rattle.c65_genexpr.specs.declared.comparing.Comparing.{Comparing}
 use Rattle.c65_genexpr.specs.declared.comparing.Comparing.TheVariants as comparing
 use Rattle.c65_genexpr.specs.declared.operating.Operating.{Operating}
 use Rattle.c65_genexpr.specs.declared.operating.Operating.TheVariants as operating
+use Rattle.c65_genexpr.specs.declared.storing.Storing.{Storing}
+use Rattle.c65_genexpr.specs.declared.storing.Storing.TheVariants as storing
 use Rattle.c65_genexpr.specs.Uses.{uses}
 
 -- the side that is left out has no labels
@@ -22,6 +24,13 @@ ComparesFree (comparing.Byte side (Some low) q d) s a r b = (uses s a ≡ 0) × 
 ComparesFree (comparing.Whole side q is_signed sides) s a r b = IsFree side s a r b
 ComparesFree (comparing.Held q is_signed) s a r b = Unit {0}
 ComparesFree comparing.Stacked s a r b = Unit {0}
+
+-- the side that an assignment leaves out
+abbrev pub StoresFree : Storing → Typed → Typed → Type 0
+StoresFree (storing.Left at stored) a b = uses None b ≡ 0
+StoresFree (storing.RightByte at low high) a b = uses None a ≡ 0
+StoresFree (storing.RightWord at low high) a b = uses None a ≡ 0
+StoresFree storing.Stacked a b = Unit {0}
 
 -- the operand that an operator leaves out
 abbrev pub OperatesFree : Operating → Typed → Typed → Type 0

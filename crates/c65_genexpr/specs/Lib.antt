@@ -10,6 +10,7 @@ pub mod Operating
 pub mod Places
 pub mod Spills
 pub mod Steps
+pub mod Storing
 pub mod Types
 pub mod Uses
 pub mod Wanted

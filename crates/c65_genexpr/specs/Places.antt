@@ -1,7 +1,9 @@
 -- Where the places of an expression lie.
-use Rattle.std.specs.Prelude.{ℕ, ◌+◌, ◌-◌, ◌%◌, ◌==◌, nat_le, if◌then◌else◌, Bool, true, false, Option, Some, None, List, []}
+use Rattle.std.specs.Prelude.{ℕ, ℤ, ◌+◌, ◌-◌, ◌*◌, ◌%◌, ◌==◌, ◌&&◌, nat_le, if◌then◌else◌, Bool, true, false, Option, Some, None, List, []}
+use Rattle.c65_base.specs.declared.operators.BinaryOp.{BinaryOp}
+use Rattle.c65_base.specs.declared.operators.BinaryOp.TheVariants.{Add}
 use Rattle.c65_ctype.specs.Views.{types_of}
-use Rattle.c65_csem.specs.Trees.{Typed, node, object, member}
+use Rattle.c65_csem.specs.Trees.{Typed, node, object, deref, member, decay, binary}
 use Rattle.c65_code.specs.declared.line.Line.{Line}
 use Rattle.c65_genframe.specs.declared.home.Home.{Home}
 use Rattle.c65_genframe.specs.declared.home.Home.TheVariants as homes
@@ -10,7 +12,10 @@ use Rattle.c65_genframe.specs.Frames.{Framed, home_of, is_raised, saved_bytes}
 use Rattle.c65_genload.specs.declared.places.Place.{Place}
 use Rattle.c65_genload.specs.declared.places.Place.TheVariants.{Bank, Near, Data, Far}
 use Rattle.c65_genload.specs.Addresses.{symbol_code, address_code, raised_code}
+use Rattle.c65_genexpr.specs.declared.operands.Operands.{Operands}
+use Rattle.c65_genexpr.specs.declared.operands.Operands.TheVariants.{PointerFirst}
 use Rattle.c65_genexpr.specs.Types.{bare, offset_at}
+use Rattle.c65_genexpr.specs.Operands.{residue_of, operands_of, constant_in}
 
 -- so many bytes more wait; addresses are taken modulo 65,536
 abbrev pub more : ℕ → ℕ → ℕ
@@ -18,11 +23,11 @@ more pushed n = (pushed + n) % 65536
 
 -- so far above sp, where one byte can say so for four bytes
 abbrev pub near : ℕ → Place
-near at = if nat_le at 252 then Near at else Far
+near at = if nat_le at 252 then Near at else Far 0
 
 -- a parameter of a variadic function lies higher by the bytes of further arguments
 abbrev pub soft_place : Bool → ℕ → Place
-soft_place true at = Far
+soft_place true at = Far 0
 soft_place false at = near at
 
 abbrev pub place_at : Framed → ℕ → ℕ → Option Home → Place
@@ -33,24 +38,62 @@ place_at f pushed i (Some (homes.Soft d)) = soft_place (is_raised f i) (more d p
 abbrev pub object_place : Framed → ℕ → ℕ → Place
 object_place f pushed i = place_at f pushed i (home_of f i)
 
+-- whether one byte can tell what lies so far behind such an offset, for two bytes
+abbrev pub within : ℕ → ℕ → Bool
+within at n = nat_le n 250 && nat_le (at + n) 250
+
+-- where it cannot, the offset is added to the address
+abbrev pub farther : ℕ → ℕ → ℕ
+farther at n = if within at n then at + n else 0
+
 -- a part, so far behind the beginning
 abbrev pub moved : Place → ℕ → Place
-moved (Near at) n = if nat_le n 252 then near (at + n) else Far
+moved (Near at) n = if nat_le n 252 then near (at + n) else Far 0
 moved (Data sym at) n = Data sym (more at (n % 65536))
-moved (Bank b) n = if n == 0 then Bank b else Far
-moved Far n = Far
+moved (Bank b) n = if n == 0 then Bank b else Far 0
+moved (Far at) n = Far (farther at n)
 
 -- a place whose address takes no lines of code
 abbrev pub IsKnown : Place → Type 0
-IsKnown Far = ⊥
+IsKnown (Far at) = ⊥
 IsKnown _ = Unit {0}
 
--- where a place lies, if that is known without lines of code; so many bytes wait
+-- whether a part of what lies at a place is told from the same address
+abbrev pub has_base : Place → ℕ → Bool
+has_base (Far at) n = within at n
+has_base place n = false
+
+-- the bytes of a constant that is added to a pointer
+abbrev pub added_bytes : BinaryOp → Operands → Option ℤ → Option ℕ
+added_bytes Add (PointerFirst size) (Some z) = Some (residue_of z * size % 4294967296)
+added_bytes op operands z = None
+
+-- the same of a pointer and so many bytes
+abbrev pub sum_has_base : ℕ → Option ℕ → Bool
+sum_has_base at (Some n) = within at n
+sum_has_base at None = false
+
+abbrev pub sum_offset : ℕ → Option ℕ → ℕ
+sum_offset at (Some n) = farther at n
+sum_offset at None = 0
+
+abbrev pub from_base : Place → ℕ
+from_base (Far at) = at
+from_base place = 0
+
+-- Where a place lies; so many bytes wait. One whose address takes lines of code lies so far behind what its base's lines give.
 abbrev mutual
   pub place_of : Framed → ℕ → Typed → Place
   place_of f pushed (node t (object i)) = object_place f pushed i
   place_of f pushed (node t (member e m)) = moved (place_of f pushed e) (offset_at (types_of f.parts.types) (bare e) m)
-  place_of f pushed (node t _) = Far
+  place_of f pushed (node t (deref e)) = Far (offset_of f pushed e)
+  place_of f pushed (node t _) = Far 0
+
+  -- how far behind its base a pointer is
+  pub offset_of : Framed → ℕ → Typed → ℕ
+  offset_of f pushed (node t (binary op a b)) = sum_offset (offset_of f pushed a) (added_bytes op (operands_of f (bare a) (bare b)) (constant_in b))
+  offset_of f pushed (node t (decay e)) = from_base (place_of f pushed e)
+  offset_of f pushed (node t _) = 0
 
 -- the number of bytes that the call pushed lies at the sp that stands while no value waits
 abbrev pub soft_code : Bool → ℕ → ℕ → ℕ → List Line

@@ -11,7 +11,7 @@ use Rattle.c65_genwide.specs.Wide.{width_of}
 use Rattle.c65_genload.specs.declared.places.Place.{Place}
 use Rattle.c65_genload.specs.declared.places.Access.{Access}
 use Rattle.c65_genload.specs.declared.places.Access.TheVariants.{Whole, Part}
-use Rattle.c65_genload.specs.Places.{type_in}
+use Rattle.c65_genload.specs.Places.{type_in, settled}
 use Rattle.c65_genload.specs.Numbers.{add_code}
 use Rattle.c65_genload.specs.Conversions.{convert_code, push_code}
 use Rattle.c65_genload.specs.Fields.{range_code}
@@ -47,11 +47,11 @@ after_code how access n = if is_post how then back_code access n else []
 
 -- behind the address of a place that is anywhere
 abbrev pub step_code : StepKind → Place → Access → ℕ → List Line
-step_code how place access n = hold_code place ++ (load_code place access ++ (add_code (type_in access) n ++ (store_code place access ++ after_code how access n)))
+step_code how place access n = hold_code place ++ (load_code (settled place) access ++ (add_code (type_in access) n ++ (store_code place access ++ after_code how access n)))
 
 -- the value waits, in the type in which the operator computes
 abbrev pub open_code : Place → Access → IntType → List Line
-open_code place access kind = hold_code place ++ (load_code place access ++ (convert_code (type_in access) kind ++ push_code (width_of kind)))
+open_code place access kind = hold_code place ++ (load_code (settled place) access ++ (convert_code (type_in access) kind ++ push_code (width_of kind)))
 
 abbrev pub close_code : BinaryOp → Operands → IntType → Place → Access → List Line
 close_code op operands right place access = behind_code op operands right ++ (convert_code (computes operands) (type_in access) ++ store_code place access)

@@ -24,7 +24,7 @@ pub fn kept_at(place: Place, access: Access) -> Option<Direct>
     ensures { result ≡ kept_at place access }
 {
     match (place, access) {
-        (Place::Far, _) | (_, Access::Part(_)) => None,
+        (Place::Far(_), _) | (_, Access::Part(_)) => None,
         (_, Access::Whole(kind)) => Some(Direct::Kept(place, kind)),
     }
 }

@@ -8,8 +8,9 @@ ghost use Rattle.c65_genexpr.specs.Wanted.{sense_of, is_straight, way_labels};
 ghost use Rattle.c65_genexpr.specs.declared.wanted.Wanted.TheVariants.{Value, Test};
 ghost use Rattle.c65_genexpr.specs.Comparing.{on, relation_by};
 ghost use Rattle.c65_genexpr.specs.Leaving.{IsFree};
+ghost use Rattle.c65_genexpr.specs.Storing.{target_code};
 ghost use Rattle.c65_genexpr.specs.Uses.{uses, head_uses, args_uses, unary_uses, comparison_uses};
-ghost use Rattle.c65_genexpr.specs.Code.{target_code, expr_code, load_test_code, plain_test_code, unary_value_code, operator_code, comparison_code, joint_code, choice_code, assign_code, compound_code, call_code, args_code};
+ghost use Rattle.c65_genexpr.specs.Code.{expr_code, base_by, base_code, base_lines, part_base_code, pointer_base_code, pointer_lines, pointer_labels, load_test_code, plain_test_code, unary_value_code, operator_code, comparison_code, joint_code, choice_code, assign_code, compound_code, call_code, args_code};
 
 use crate::arguments::{
     Passed, argument_bytes, is_counted, is_fast, joined, passed_size, put_argument, stays,
@@ -19,30 +20,33 @@ use crate::comparing::{Comparing, Side, comparing_of, relation_by, tested_by};
 use crate::constants::residue_of;
 use crate::direct::{kept_at, put_own_test};
 use crate::held::{held_word, put_keep};
-use crate::leaving::{leave_out, leave_place};
 use crate::operands::{
     Operands, computes, operands_of, put_behind, put_between, put_conversion, put_unary, same_truth,
 };
 use crate::operating::{Operating, operating_of, put_form, put_stacked, put_waiting};
-use crate::places::{more, place_of, put_object, put_rest};
+use crate::places::{has_base, is_told, more, place_of, put_object, put_rest};
 use crate::spills::put_spill;
-use crate::steps::{amount_of, put_close, put_open, put_step};
+use crate::storing::{Storing, storing_of};
 use crate::types::{Outcome, access_of, kind_of, offset_at, outcome_of, target_bytes};
 use crate::wanted::{
     Wanted, is_straight, put_decided, put_outcome_test, put_value_test, truth_labels, wanted_by,
 };
+use crate::{leaving, steps};
 use c65_base::{BinaryOp, UnaryOp};
 use c65_code::Line::{Do, Label};
 use c65_code::Operand::To;
 use c65_code::{Draft, Width};
 use c65_csem::{TExpr, TKind};
-use c65_gendirect::{Relation, put_compare, put_compare_byte, put_op, put_truth, relation_of};
+use c65_gendirect::{
+    Relation, put_byte_through, put_compare, put_compare_byte, put_op, put_read_store, put_truth,
+    put_word_through, relation_of,
+};
 use c65_genframe::Frame;
 use c65_genload::{
     Place, copy, extent_by, held, hold, load, load_bytes, number, push, put_offset, put_symbol,
     store, value_type, waiting,
 };
-use c65_genwide::{next_label, put, width_of};
+use c65_genwide::{narrow, next_label, put, width_of};
 use c65_mach::Mode::Absolute;
 use c65_mach::Op::{Jmp, Lda};
 use std::alloc::AllocError;
@@ -122,8 +126,8 @@ pub fn put_expr(
             let place = place_of(frame, pushed, a);
             put_target(a, place, frame, pushed, draft)?;
             let access = access_of(&frame.parts().types, a);
-            let amount = amount_of(frame, *how, &a.ty.ty);
-            put_step(*how, place, access, amount, draft)
+            let amount = steps::amount_of(frame, *how, &a.ty.ty);
+            steps::put_step(*how, place, access, amount, draft)
         }
         TKind::Copy(a, b) => {
             put_expr(a, frame, pushed, draft)?;
@@ -255,14 +259,172 @@ fn put_target(
     draft: &mut Draft,
 ) -> Result<(), AllocError>
     requires { place ≡ place_of frame.now pushed (typed_of a.now) }
-    ensures lines { OnOk result (draft.new ≡ grown draft.old (target_code place (expr_code frame.now pushed draft.old.labels Value (typed_of a.now))) (uses None (typed_of a.now))) }
+    ensures lines { OnOk result (draft.new ≡ grown draft.old (target_code place (base_code frame.now pushed draft.old.labels (typed_of a.now))) (uses None (typed_of a.now))) }
     ensures kept { OnErr result (Keeps draft.old draft.new) }
 {
     match place {
-        Place::Far => put_expr(a, frame, pushed, draft),
-        Place::Bank(_) | Place::Near(_) | Place::Data(_, _) => leave_place(
+        Place::Far(_) => put_base(a, frame, pushed, draft),
+        Place::Bank(_) | Place::Near(_) | Place::Data(_, _) => leaving::leave_place(
             a, place, frame, pushed, draft,
         ),
+    }
+}
+
+// The address behind which a place lies, as far as it tells.
+#[cycle(expression)]
+fn put_base(a: &TExpr, frame: &Frame<'_>, pushed: u16, draft: &mut Draft) -> Result<(), AllocError>
+    ensures lines { OnOk result (draft.new ≡ grown draft.old (base_code frame.now pushed draft.old.labels (typed_of a.now)) (uses None (typed_of a.now))) }
+    ensures kept { OnErr result (Keeps draft.old draft.new) }
+{
+    put_base_by(a, frame, pushed, draft)
+}
+
+// The same by what the place is.
+#[cycle(expression)]
+fn put_base_by(
+    a: &TExpr,
+    frame: &Frame<'_>,
+    pushed: u16,
+    draft: &mut Draft,
+) -> Result<(), AllocError>
+    ensures lines { OnOk result (draft.new ≡ grown draft.old (base_lines frame.now pushed draft.old.labels (typed_of a.now)) (uses None (typed_of a.now))) }
+    ensures kept { OnErr result (Keeps draft.old draft.new) }
+{
+    match &a.kind {
+        TKind::Deref(pointer) => put_pointer_base(pointer, frame, pushed, draft),
+        TKind::Member(e, member) => {
+            let offset = offset_at(&frame.parts().types, &e.ty.ty, *member);
+            put_part_base(e, offset, frame, pushed, draft)
+        }
+        TKind::Const(_)
+        | TKind::Null
+        | TKind::Literal(_)
+        | TKind::Object(_)
+        | TKind::Func(_)
+        | TKind::Load(_)
+        | TKind::Address(_)
+        | TKind::Decay(_)
+        | TKind::Convert(_)
+        | TKind::Unary(_, _)
+        | TKind::Binary(_, _, _)
+        | TKind::And(_, _)
+        | TKind::Or(_, _)
+        | TKind::Cond(_, _, _)
+        | TKind::Comma(_, _)
+        | TKind::Assign(_, _)
+        | TKind::AssignOp(_, _, _, _)
+        | TKind::AssignStep(_, _, _)
+        | TKind::Step(_, _)
+        | TKind::Copy(_, _)
+        | TKind::Call(_, _)
+        | TKind::Pack(_)
+        | TKind::Spill(_, _)
+        | TKind::Rest => put_expr(a, frame, pushed, draft),
+    }
+}
+
+// The same of a part, so far behind the beginning.
+#[cycle(expression)]
+fn put_part_base(
+    e: &TExpr,
+    offset: u32,
+    frame: &Frame<'_>,
+    pushed: u16,
+    draft: &mut Draft,
+) -> Result<(), AllocError>
+    ensures lines { OnOk result (draft.new ≡ grown draft.old (part_base_code frame.now pushed draft.old.labels offset (typed_of e.now)) (uses None (typed_of e.now))) }
+    ensures kept { OnErr result (Keeps draft.old draft.new) }
+{
+    if has_base(place_of(frame, pushed, e), offset) {
+        put_base(e, frame, pushed, draft)
+    } else {
+        put_expr(e, frame, pushed, draft)?;
+        put_offset(offset, draft)
+    }
+}
+
+// The same of a pointer. A sum that is left out has its label all the same.
+#[cycle(expression)]
+fn put_pointer_base(
+    e: &TExpr,
+    frame: &Frame<'_>,
+    pushed: u16,
+    draft: &mut Draft,
+) -> Result<(), AllocError>
+    ensures lines { OnOk result (draft.new ≡ grown draft.old (pointer_base_code frame.now pushed draft.old.labels (typed_of e.now)) (uses None (typed_of e.now))) }
+    ensures kept { OnErr result (Keeps draft.old draft.new) }
+{
+    put_pointer_by(e, frame, pushed, draft)
+}
+
+// The same by what the pointer is.
+#[cycle(expression)]
+fn put_pointer_by(
+    e: &TExpr,
+    frame: &Frame<'_>,
+    pushed: u16,
+    draft: &mut Draft,
+) -> Result<(), AllocError>
+    ensures lines { OnOk result (draft.new ≡ grown draft.old (pointer_lines frame.now pushed draft.old.labels (typed_of e.now)) (pointer_labels frame.now pushed (typed_of e.now))) }
+    ensures kept { OnErr result (Keeps draft.old draft.new) }
+{
+    match &e.kind {
+        TKind::Binary(op, pointer, number) => {
+            if is_told(frame, pushed, *op, pointer, number) {
+                leaving::leave_sum(draft)?;
+                put_pointer_base(pointer, frame, pushed, draft)
+            } else {
+                put_expr(e, frame, pushed, draft)
+            }
+        }
+        TKind::Decay(array) => {
+            let place = place_of(frame, pushed, array);
+            put_array_base(array, place, frame, pushed, draft)
+        }
+        TKind::Const(_)
+        | TKind::Null
+        | TKind::Literal(_)
+        | TKind::Object(_)
+        | TKind::Func(_)
+        | TKind::Load(_)
+        | TKind::Address(_)
+        | TKind::Convert(_)
+        | TKind::Unary(_, _)
+        | TKind::And(_, _)
+        | TKind::Or(_, _)
+        | TKind::Cond(_, _, _)
+        | TKind::Comma(_, _)
+        | TKind::Assign(_, _)
+        | TKind::AssignOp(_, _, _, _)
+        | TKind::AssignStep(_, _, _)
+        | TKind::Step(_, _)
+        | TKind::Copy(_, _)
+        | TKind::Call(_, _)
+        | TKind::Pack(_)
+        | TKind::Spill(_, _)
+        | TKind::Rest
+        | TKind::Deref(_)
+        | TKind::Member(_, _) => put_expr(e, frame, pushed, draft),
+    }
+}
+
+// The same of an array; one that is known has its whole address.
+#[cycle(expression)]
+fn put_array_base(
+    array: &TExpr,
+    place: Place,
+    frame: &Frame<'_>,
+    pushed: u16,
+    draft: &mut Draft,
+) -> Result<(), AllocError>
+    ensures lines { OnOk result (draft.new ≡ grown draft.old (base_by place (base_code frame.now pushed draft.old.labels (typed_of array.now)) (expr_code frame.now pushed draft.old.labels Value (typed_of array.now))) (uses None (typed_of array.now))) }
+    ensures kept { OnErr result (Keeps draft.old draft.new) }
+{
+    match place {
+        Place::Far(_) => put_base(array, frame, pushed, draft),
+        Place::Bank(_) | Place::Near(_) | Place::Data(_, _) => {
+            put_expr(array, frame, pushed, draft)
+        }
     }
 }
 
@@ -283,7 +445,7 @@ fn put_load_test(
     let access = access_of(&frame.parts().types, a);
     match kept_at(place, access) {
         Some(direct) => {
-            leave_place(a, place, frame, pushed, draft)?;
+            leaving::leave_place(a, place, frame, pushed, draft)?;
             put_own_test(direct, value_type(access), sense, to, draft)
         }
         None => {
@@ -335,11 +497,11 @@ fn put_operator(
     match operating_of(frame, pushed, op, operands, a, b) {
         Operating::Left(form) => {
             put_expr(a, frame, pushed, draft)?;
-            leave_out(b, Wanted::Value, draft)?;
+            leaving::leave_out(b, Wanted::Value, draft)?;
             put_form(form, label, draft)
         }
         Operating::Right(form) => {
-            leave_out(a, Wanted::Value, draft)?;
+            leaving::leave_out(a, Wanted::Value, draft)?;
             put_expr(b, frame, pushed, draft)?;
             put_form(form, label, draft)
         }
@@ -392,8 +554,8 @@ fn put_comparison(
             put(draft, &[Label(own)])
         }
         Comparing::Byte(_, Some(low), relation, byte) => {
-            leave_out(a, left, draft)?;
-            leave_out(b, right, draft)?;
+            leaving::leave_out(a, left, draft)?;
+            leaving::leave_out(b, right, draft)?;
             put_op(Lda, low, draft)?;
             put_compare_byte(relation, byte, to, draft)?;
             put(draft, &[Label(own)])
@@ -439,10 +601,10 @@ fn put_side(
     match side {
         Side::Left => {
             put_wanted(a, left, frame, pushed, draft)?;
-            leave_out(b, right, draft)
+            leaving::leave_out(b, right, draft)
         }
         Side::Right => {
-            leave_out(a, left, draft)?;
+            leaving::leave_out(a, left, draft)?;
             put_wanted(b, right, frame, pushed, draft)
         }
     }
@@ -509,10 +671,32 @@ fn put_assign(
     ensures kept { OnErr result (Keeps draft.old draft.new) }
 {
     let place = place_of(frame, pushed, a);
-    put_target(a, place, frame, pushed, draft)?;
-    hold(place, draft)?;
-    put_expr(b, frame, more(pushed, held(place)), draft)?;
-    store(place, access_of(&frame.parts().types, a), draft)
+    let access = access_of(&frame.parts().types, a);
+    match storing_of(frame, pushed, a, b) {
+        Storing::Left(at, stored) => {
+            put_base(a, frame, pushed, draft)?;
+            leaving::leave_out(b, Wanted::Value, draft)?;
+            put_read_store(at, stored, draft)?;
+            narrow(value_type(access), draft)
+        }
+        Storing::RightByte(at, low, high) => {
+            leaving::leave_out(a, Wanted::Value, draft)?;
+            put_expr(b, frame, pushed, draft)?;
+            put_byte_through(at, low, high, draft)?;
+            narrow(value_type(access), draft)
+        }
+        Storing::RightWord(at, low, high) => {
+            leaving::leave_out(a, Wanted::Value, draft)?;
+            put_expr(b, frame, pushed, draft)?;
+            put_word_through(at, low, high, draft)
+        }
+        Storing::Stacked => {
+            put_target(a, place, frame, pushed, draft)?;
+            hold(place, draft)?;
+            put_expr(b, frame, more(pushed, held(place)), draft)?;
+            store(place, access, draft)
+        }
+    }
 }
 
 // The other assignments to scalars: the address of the left side is had once.
@@ -534,9 +718,9 @@ fn put_compound(
     let kind = computes(operands);
     let wait = more(held(place), waiting(width_of(kind)));
     put_target(a, place, frame, pushed, draft)?;
-    put_open(place, access, kind, draft)?;
+    steps::put_open(place, access, kind, draft)?;
     put_expr(b, frame, more(pushed, wait), draft)?;
-    put_close(op, operands, kind_of(&b.ty.ty), place, access, draft)
+    steps::put_close(op, operands, kind_of(&b.ty.ty), place, access, draft)
 }
 
 #[cycle(expression)]

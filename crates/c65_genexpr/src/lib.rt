@@ -15,6 +15,7 @@ mod operating;
 mod places;
 mod spills;
 mod steps;
+mod storing;
 mod types;
 mod value;
 mod wanted;

@@ -118,8 +118,8 @@ fn constant_form(op: BinaryOp, operands: Operands, number: u32) -> Option<Form>
     }
 }
 
-// The two bytes of a word that is read where it lies.
-fn word_in(direct: Direct) -> Option<(OperandByte, OperandByte)>
+/// The two bytes of a word that is read where it lies.
+pub fn word_in(direct: Direct) -> Option<(OperandByte, OperandByte)>
     ensures { result ≡ word_in direct }
 {
     Some((byte_of(direct, 0)?, byte_of(direct, 1)?))

@@ -2,9 +2,14 @@
 ghost use Rattle.std.specs.Prelude.{◌≡◌, OnOk, OnErr};
 ghost use Rattle.c65_csem.specs.Views.{typed_of};
 ghost use Rattle.c65_genwide.specs.Lines.{with_lines, Keeps};
-ghost use Rattle.c65_genexpr.specs.Places.{more, near, object_place, moved, place_of, object_code, rest_code};
+ghost use Rattle.c65_genexpr.specs.Types.{bare};
+ghost use Rattle.c65_genexpr.specs.Operands.{operands_of, constant_in};
+ghost use Rattle.c65_genexpr.specs.Places.{more, near, object_place, within, farther, moved, has_base, added_bytes, sum_has_base, sum_offset, from_base, place_of, offset_of, object_code, rest_code};
 
+use crate::constants::{constant_in, residue_of};
+use crate::operands::{Operands, operands_of};
 use crate::types::offset_at;
+use c65_base::BinaryOp;
 use c65_code::Draft;
 use c65_csem::{TExpr, TKind};
 use c65_genframe::{Frame, Home};
@@ -26,7 +31,7 @@ fn near(at: u32) -> Place
     if at <= 252 {
         Place::Near(at as u8)
     } else {
-        Place::Far
+        Place::Far(0)
     }
 }
 
@@ -38,12 +43,30 @@ pub fn object_place(frame: &Frame<'_>, pushed: u16, object: u32) -> Place
         Some(Home::Bank(byte)) => Place::Bank(byte),
         Some(Home::Soft(above)) => {
             if frame.is_raised(object) {
-                Place::Far
+                Place::Far(0)
             } else {
                 near(more(above, pushed) as u32)
             }
         }
         None => Place::Data(frame.numbers().object(object), 0),
+    }
+}
+
+// Whether one byte can tell what lies so far behind such an offset, for two bytes.
+fn within(at: u8, offset: u32) -> bool
+    ensures { result ≡ within at offset }
+{
+    offset <= 250 && at as u32 + offset <= 250
+}
+
+// Where it cannot, the offset is added to the address.
+fn farther(at: u8, offset: u32) -> u8
+    ensures { result ≡ farther at offset }
+{
+    if within(at, offset) {
+        (at as u32 + offset) as u8
+    } else {
+        0
     }
 }
 
@@ -56,16 +79,83 @@ pub fn moved(place: Place, offset: u32) -> Place
             if offset <= 252 {
                 near(at as u32 + offset)
             } else {
-                Place::Far
+                Place::Far(0)
             }
         }
         Place::Data(sym, at) => Place::Data(sym, more(at, (offset % 65_536) as u16)),
         Place::Bank(_) if offset == 0 => place,
-        Place::Bank(_) | Place::Far => Place::Far,
+        Place::Bank(_) => Place::Far(0),
+        Place::Far(at) => Place::Far(farther(at, offset)),
     }
 }
 
-/// Where a place lies, if that is known without lines of code; so many bytes wait.
+/// Whether a part of what lies at a place is told from the same address.
+pub fn has_base(place: Place, offset: u32) -> bool
+    ensures { result ≡ has_base place offset }
+{
+    match place {
+        Place::Far(at) => within(at, offset),
+        Place::Bank(_) | Place::Near(_) | Place::Data(_, _) => false,
+    }
+}
+
+// The bytes of a constant that is added to a pointer.
+fn added_bytes(op: BinaryOp, operands: Operands, constant: Option<i64>) -> Option<u32>
+    ensures { result ≡ added_bytes op operands constant }
+{
+    match (op, operands, constant) {
+        (BinaryOp::Add, Operands::PointerFirst(size), Some(number)) => {
+            Some((residue_of(number) as u64 * size as u64 % 0x1_0000_0000) as u32)
+        }
+        (_, _, _) => None,
+    }
+}
+
+fn sum_has_base(at: u8, added: Option<u32>) -> bool
+    ensures { result ≡ sum_has_base at added }
+{
+    match added {
+        Some(bytes) => within(at, bytes),
+        None => false,
+    }
+}
+
+fn sum_offset(at: u8, added: Option<u32>) -> u8
+    ensures { result ≡ sum_offset at added }
+{
+    match added {
+        Some(bytes) => farther(at, bytes),
+        None => 0,
+    }
+}
+
+fn from_base(place: Place) -> u8
+    ensures { result ≡ from_base place }
+{
+    match place {
+        Place::Far(at) => at,
+        Place::Bank(_) | Place::Near(_) | Place::Data(_, _) => 0,
+    }
+}
+
+/// Whether the sum of a pointer and a number is told from the same address.
+pub fn is_told(
+    frame: &Frame<'_>,
+    pushed: u16,
+    op: BinaryOp,
+    pointer: &TExpr,
+    number: &TExpr,
+) -> bool
+    ensures { result ≡ sum_has_base (offset_of frame.now pushed (typed_of pointer.now)) (added_bytes op (operands_of frame.now (bare (typed_of pointer.now)) (bare (typed_of number.now))) (constant_in (typed_of number.now))) }
+{
+    let operands = operands_of(frame, &pointer.ty.ty, &number.ty.ty);
+    let added = added_bytes(op, operands, constant_in(number));
+    sum_has_base(offset_of(frame, pushed, pointer), added)
+}
+
+/// Where a place lies; so many bytes wait. One whose address takes lines of code lies so far behind what
+/// its base's lines give.
+#[cycle(places)]
 pub fn place_of(frame: &Frame<'_>, pushed: u16, e: &TExpr) -> Place
     ensures { result ≡ place_of frame.now pushed (typed_of e.now) }
 {
@@ -75,7 +165,24 @@ pub fn place_of(frame: &Frame<'_>, pushed: u16, e: &TExpr) -> Place
             let offset = offset_at(&frame.parts().types, &base.ty.ty, *member);
             moved(place_of(frame, pushed, base), offset)
         }
-        _ => Place::Far,
+        TKind::Deref(pointer) => Place::Far(offset_of(frame, pushed, pointer)),
+        _ => Place::Far(0),
+    }
+}
+
+// How far behind its base a pointer is.
+#[cycle(places)]
+fn offset_of(frame: &Frame<'_>, pushed: u16, e: &TExpr) -> u8
+    ensures { result ≡ offset_of frame.now pushed (typed_of e.now) }
+{
+    match &e.kind {
+        TKind::Binary(op, pointer, number) => {
+            let operands = operands_of(frame, &pointer.ty.ty, &number.ty.ty);
+            let added = added_bytes(*op, operands, constant_in(number));
+            sum_offset(offset_of(frame, pushed, pointer), added)
+        }
+        TKind::Decay(array) => from_base(place_of(frame, pushed, array)),
+        _ => 0,
     }
 }
 

@@ -11,7 +11,9 @@ use c65_base::{BinaryOp, StepKind};
 use c65_code::Draft;
 use c65_ctype::CType;
 use c65_genframe::Frame;
-use c65_genload::{Access, Place, add, convert, hold, in_field, load, push, store, value_type};
+use c65_genload::{
+    Access, Place, add, convert, hold, in_field, load, push, settled, store, value_type,
+};
 use c65_genwide::{put, width_of};
 use c65_ints::IntType;
 use std::alloc::AllocError;
@@ -85,7 +87,7 @@ pub fn put_step(
     ensures kept { OnErr result (Keeps draft.old draft.new) }
 {
     hold(place, draft)?;
-    load(place, access, draft)?;
+    load(settled(place), access, draft)?;
     add(value_type(access), amount, draft)?;
     store(place, access, draft)?;
     put_after(how, access, amount, draft)
@@ -103,7 +105,7 @@ pub fn put_open(
     ensures kept { OnErr result (Keeps draft.old draft.new) }
 {
     hold(place, draft)?;
-    load(place, access, draft)?;
+    load(settled(place), access, draft)?;
     convert(value_type(access), kind, draft)?;
     push(width_of(kind), draft)
 }

@@ -3,7 +3,7 @@ use Rattle.std.specs.Prelude.{ℕ, ◌+◌, List, [], ◌∷◌, ◌++◌}
 use Rattle.c65_mach.specs.declared.rows.Op.TheVariants.{Dey, Lda, Ldx, Ldy, Sta, Stx, Tax}
 use Rattle.c65_code.specs.declared.line.Sym.{Sym}
 use Rattle.c65_code.specs.declared.line.Line.{Line}
-use Rattle.c65_code.specs.declared.routine.Routine.TheVariants.{PushAx, LdAxYSp, LdEaxYSp, LdAi, LdAxi, LdEaxi}
+use Rattle.c65_code.specs.declared.routine.Routine.TheVariants.{PushAx, LdAxYSp, LdEaxYSp, LdEaxi}
 use Rattle.c65_genwide.specs.Lines.{value, call}
 use Rattle.c65_genwide.specs.Wide.{narrow_code}
 use Rattle.c65_genload.specs.declared.places.Extent.{Extent}
@@ -14,11 +14,12 @@ use Rattle.c65_genload.specs.declared.places.Access.{Access}
 use Rattle.c65_genload.specs.declared.places.Access.TheVariants.{Whole, Part}
 use Rattle.c65_genload.specs.Words.{sp, sreg, ptr1, regbank, implied, zero_page, by_y, absolute}
 use Rattle.c65_genload.specs.Places.{byte_more, word_more, extent_of}
+use Rattle.c65_genload.specs.Addresses.{offset_code}
 use Rattle.c65_genload.specs.Fields.{extract_code}
 
--- the address of a place that is anywhere waits
+-- behind the base of a place that is anywhere: the address waits
 abbrev pub hold_code : Place → List Line
-hold_code Far = call PushAx ∷ []
+hold_code (Far at) = offset_code at ++ (call PushAx ∷ [])
 hold_code _ = []
 
 -- of regbank at most two bytes
@@ -40,19 +41,19 @@ data_code sym at Two = absolute Lda sym at ∷ absolute Ldx sym (word_more at 1)
 data_code sym at Three = absolute Lda sym (word_more at 2) ∷ zero_page Sta sreg ∷ absolute Lda sym at ∷ absolute Ldx sym (word_more at 1) ∷ []
 data_code sym at Four = absolute Lda sym (word_more at 2) ∷ zero_page Sta sreg ∷ absolute Lda sym (word_more at 3) ∷ zero_page Sta (sreg + 1) ∷ absolute Lda sym at ∷ absolute Ldx sym (word_more at 1) ∷ []
 
--- from the address in AX
-abbrev pub far_code : Extent → List Line
-far_code One = call LdAi ∷ []
-far_code Two = call LdAxi ∷ []
-far_code Three = zero_page Sta ptr1 ∷ zero_page Stx (ptr1 + 1) ∷ value Ldy 2 ∷ by_y Lda ptr1 ∷ zero_page Sta sreg ∷ implied Dey ∷ by_y Lda ptr1 ∷ implied Tax ∷ implied Dey ∷ by_y Lda ptr1 ∷ []
-far_code Four = call LdEaxi ∷ []
+-- so far behind the address in AX, at most 250
+abbrev pub far_code : ℕ → Extent → List Line
+far_code at One = zero_page Sta ptr1 ∷ zero_page Stx (ptr1 + 1) ∷ value Ldy at ∷ by_y Lda ptr1 ∷ []
+far_code at Two = zero_page Sta ptr1 ∷ zero_page Stx (ptr1 + 1) ∷ value Ldy (byte_more at 1) ∷ by_y Lda ptr1 ∷ implied Tax ∷ implied Dey ∷ by_y Lda ptr1 ∷ []
+far_code at Three = zero_page Sta ptr1 ∷ zero_page Stx (ptr1 + 1) ∷ value Ldy (byte_more at 2) ∷ by_y Lda ptr1 ∷ zero_page Sta sreg ∷ implied Dey ∷ by_y Lda ptr1 ∷ implied Tax ∷ implied Dey ∷ by_y Lda ptr1 ∷ []
+far_code at Four = offset_code at ++ (call LdEaxi ∷ [])
 
 -- to A, AX, AX and the low byte of sreg, or EAX
 abbrev pub bytes_code : Place → Extent → List Line
 bytes_code (Bank at) extent = bank_code at extent
 bytes_code (Near at) extent = near_code at extent
 bytes_code (Data sym at) extent = data_code sym at extent
-bytes_code Far extent = far_code extent
+bytes_code (Far at) extent = far_code at extent
 
 abbrev pub load_code : Place → Access → List Line
 load_code place (Whole kind) = bytes_code place (extent_of kind) ++ narrow_code kind

@@ -16,8 +16,13 @@ type_in (Part field) = field.kind
 
 -- the bytes that wait for a place
 abbrev pub held : Place → ℕ
-held Far = 2
+held (Far at) = 2
 held _ = 0
+
+-- once the address waits, it is that of the first byte
+abbrev pub settled : Place → Place
+settled (Far at) = Far 0
+settled place = place
 
 -- sums of one byte, and of an address
 abbrev pub byte_more : ℕ → ℕ → ℕ

@@ -53,17 +53,17 @@ abbrev pub bytes_store : Place → Extent → List Line
 bytes_store (Bank at) extent = bank_store at extent
 bytes_store (Near at) extent = near_store at extent
 bytes_store (Data sym at) extent = data_store sym at extent
-bytes_store Far extent = far_store extent
+bytes_store (Far at) extent = far_store extent
 
 -- a store through an address leaves A alone in place of a character
 abbrev pub after_store : Place → IntType → List Line
-after_store Far kind = narrow_code kind
+after_store (Far at) kind = narrow_code kind
 after_store _ kind = []
 
 -- the word at a place, above whose address one word more waits
 abbrev pub under_code : Place → List Line
 under_code (Near at) = bytes_code (Near (byte_more at 2)) Two
-under_code Far = value Ldy 3 ∷ call LdAxYSp ∷ call LdAxi ∷ []
+under_code (Far at) = value Ldy 3 ∷ call LdAxYSp ∷ call LdAxi ∷ []
 under_code place = bytes_code place Two
 
 -- the other bits of the unit stay

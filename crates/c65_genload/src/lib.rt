@@ -16,5 +16,5 @@ pub use conversions::{bytes_of, convert, push, test, waiting};
 pub use fields::{extract, in_field};
 pub use loads::{hold, load, load_bytes};
 pub use numbers::{add, divide, first, fourth, mask, number, scale, second, third};
-pub use places::{Access, Extent, Field, Place, extent_by, extent_of, held, value_type};
+pub use places::{Access, Extent, Field, Place, extent_by, extent_of, held, settled, value_type};
 pub use stores::{copy, store};

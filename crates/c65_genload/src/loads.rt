@@ -4,6 +4,7 @@ ghost use Rattle.c65_genwide.specs.Lines.{with_lines, Keeps};
 ghost use Rattle.c65_genload.specs.declared.places.Extent.TheVariants.{Three};
 ghost use Rattle.c65_genload.specs.Loads.{hold_code, bank_code, near_code, data_code, far_code, bytes_code, load_code};
 
+use crate::address::put_offset;
 use crate::fields::extract;
 use crate::places::{Access, Extent, Place, extent_of};
 use crate::zero_page::{PTR1, REGBANK, SP, SREG};
@@ -15,13 +16,17 @@ use c65_mach::Mode::{Absolute, Immediate, Implied, IndirectY, ZeroPage};
 use c65_mach::Op::{Dey, Lda, Ldx, Ldy, Sta, Stx, Tax};
 use std::alloc::AllocError;
 
-/// The address of a place that is anywhere goes onto the software stack, and stays in AX.
+/// The address of a place that is anywhere goes onto the software stack, and stays in AX. Before, AX is
+/// the address from which the place tells how far.
 pub fn hold(place: Place, draft: &mut Draft) -> Result<(), AllocError>
     ensures lines { OnOk result (draft.new ≡ with_lines draft.old (hold_code place)) }
     ensures kept { OnErr result (Keeps draft.old draft.new) }
 {
     match place {
-        Place::Far => run(draft, Routine::PushAx),
+        Place::Far(at) => {
+            put_offset(at as u32, draft)?;
+            run(draft, Routine::PushAx)
+        }
         Place::Bank(_) | Place::Near(_) | Place::Data(_, _) => put(draft, &[]),
     }
 }
@@ -113,16 +118,17 @@ fn load_data(sym: Sym, at: u16, extent: Extent, draft: &mut Draft) -> Result<(),
 }
 
 // No byte behind the third one is read.
-fn load_three(draft: &mut Draft) -> Result<(), AllocError>
-    ensures lines { OnOk result (draft.new ≡ with_lines draft.old (far_code Three)) }
+fn load_three(at: u8, draft: &mut Draft) -> Result<(), AllocError>
+    ensures lines { OnOk result (draft.new ≡ with_lines draft.old (far_code at Three)) }
     ensures kept { OnErr result (Keeps draft.old draft.new) }
 {
+    let third = at.wrapping_add(2);
     put(
         draft,
         &[
             Do(Sta, ZeroPage, Zero(PTR1)),
             Do(Stx, ZeroPage, Zero(PTR1 + 1)),
-            Do(Ldy, Immediate, Byte(2)),
+            Do(Ldy, Immediate, Byte(third)),
             Do(Lda, IndirectY, Zero(PTR1)),
             Do(Sta, ZeroPage, Zero(SREG)),
             Do(Dey, Implied, Nothing),
@@ -134,20 +140,42 @@ fn load_three(draft: &mut Draft) -> Result<(), AllocError>
     )
 }
 
-fn load_far(extent: Extent, draft: &mut Draft) -> Result<(), AllocError>
-    ensures lines { OnOk result (draft.new ≡ with_lines draft.old (far_code extent)) }
+fn load_far(at: u8, extent: Extent, draft: &mut Draft) -> Result<(), AllocError>
+    ensures lines { OnOk result (draft.new ≡ with_lines draft.old (far_code at extent)) }
     ensures kept { OnErr result (Keeps draft.old draft.new) }
 {
     match extent {
-        Extent::One => run(draft, Routine::LdAi),
-        Extent::Two => run(draft, Routine::LdAxi),
-        Extent::Three => load_three(draft),
-        Extent::Four => run(draft, Routine::LdEaxi),
+        Extent::One => put(
+            draft,
+            &[
+                Do(Sta, ZeroPage, Zero(PTR1)),
+                Do(Stx, ZeroPage, Zero(PTR1 + 1)),
+                Do(Ldy, Immediate, Byte(at)),
+                Do(Lda, IndirectY, Zero(PTR1)),
+            ],
+        ),
+        Extent::Two => put(
+            draft,
+            &[
+                Do(Sta, ZeroPage, Zero(PTR1)),
+                Do(Stx, ZeroPage, Zero(PTR1 + 1)),
+                Do(Ldy, Immediate, Byte(at.wrapping_add(1))),
+                Do(Lda, IndirectY, Zero(PTR1)),
+                Do(Tax, Implied, Nothing),
+                Do(Dey, Implied, Nothing),
+                Do(Lda, IndirectY, Zero(PTR1)),
+            ],
+        ),
+        Extent::Three => load_three(at, draft),
+        Extent::Four => {
+            put_offset(at as u32, draft)?;
+            run(draft, Routine::LdEaxi)
+        }
     }
 }
 
 /// The bytes at a place come into A, into A and X, or into A, X and sreg; three of them leave the high
-/// byte of sreg. The address of a place that is anywhere is in AX before.
+/// byte of sreg. Before, AX is the address from which a place that is anywhere tells how far.
 pub fn load_bytes(place: Place, extent: Extent, draft: &mut Draft) -> Result<(), AllocError>
     ensures lines { OnOk result (draft.new ≡ with_lines draft.old (bytes_code place extent)) }
     ensures kept { OnErr result (Keeps draft.old draft.new) }
@@ -156,12 +184,12 @@ pub fn load_bytes(place: Place, extent: Extent, draft: &mut Draft) -> Result<(),
         Place::Bank(at) => load_bank(at, extent, draft),
         Place::Near(at) => load_near(at, extent, draft),
         Place::Data(sym, at) => load_data(sym, at, extent, draft),
-        Place::Far => load_far(extent, draft),
+        Place::Far(at) => load_far(at, extent, draft),
     }
 }
 
-/// The value that is kept at a place comes into the primary register. The address of a place that is
-/// anywhere is in AX before.
+/// The value that is kept at a place comes into the primary register. Before, AX is the
+/// address from which a place that is anywhere tells how far.
 pub fn load(place: Place, access: Access, draft: &mut Draft) -> Result<(), AllocError>
     ensures lines { OnOk result (draft.new ≡ with_lines draft.old (load_code place access)) }
     ensures kept { OnErr result (Keeps draft.old draft.new) }

@@ -1,6 +1,6 @@
 // Where objects lie, and what is kept there.
 ghost use Rattle.std.specs.Prelude.{◌≡◌};
-ghost use Rattle.c65_genload.specs.Places.{held, type_in, extent_of, extent_by};
+ghost use Rattle.c65_genload.specs.Places.{held, settled, type_in, extent_of, extent_by};
 
 use c65_code::Sym;
 use c65_ints::IntType;
@@ -14,8 +14,9 @@ pub enum Place {
     Near(u8),
     /// So far behind a symbol.
     Data(Sym, u16),
-    /// Anywhere. Its address is in AX, and waits on the software stack while more is computed.
-    Far,
+    /// So far behind an address that is in AX, at most 250. The address of its first byte waits on the
+    /// software stack while more is computed.
+    Far(u8),
 }
 
 /// The bits of a unit of 16 bits that are a bit-field: the type of its value, its lowest bit and
@@ -49,8 +50,18 @@ pub fn held(place: Place) -> u16
     ensures { result ≡ held place }
 {
     match place {
-        Place::Far => 2,
+        Place::Far(_) => 2,
         Place::Bank(_) | Place::Near(_) | Place::Data(_, _) => 0,
+    }
+}
+
+/// The place, once its address waits and is in AX: that is the address of its first byte.
+pub fn settled(place: Place) -> Place
+    ensures { result ≡ settled place }
+{
+    match place {
+        Place::Far(_) => Place::Far(0),
+        Place::Bank(_) | Place::Near(_) | Place::Data(_, _) => place,
     }
 }
 

@@ -94,7 +94,7 @@ fn store_bytes(place: Place, extent: Extent, draft: &mut Draft) -> Result<(), Al
         Place::Bank(at) => store_bank(at, extent, draft),
         Place::Near(at) => store_near(at, extent, draft),
         Place::Data(sym, at) => store_data(sym, at, extent, draft),
-        Place::Far => store_far(extent, draft),
+        Place::Far(_) => store_far(extent, draft),
     }
 }
 
@@ -104,7 +104,7 @@ fn restore(place: Place, kind: IntType, draft: &mut Draft) -> Result<(), AllocEr
     ensures kept { OnErr result (Keeps draft.old draft.new) }
 {
     match place {
-        Place::Far => narrow(kind, draft),
+        Place::Far(_) => narrow(kind, draft),
         Place::Bank(_) | Place::Near(_) | Place::Data(_, _) => put(draft, &[]),
     }
 }
@@ -116,7 +116,7 @@ fn load_under(place: Place, draft: &mut Draft) -> Result<(), AllocError>
 {
     match place {
         Place::Near(at) => load_bytes(Place::Near(at.wrapping_add(2)), Extent::Two, draft),
-        Place::Far => {
+        Place::Far(_) => {
             put(draft, &[Do(Ldy, Immediate, Byte(3))])?;
             run(draft, Routine::LdAxYSp)?;
             run(draft, Routine::LdAxi)

@@ -3,5 +3,7 @@
 
 mod inline;
 mod opened;
+mod samples;
 
 pub use inline::inline_calls;
+pub use samples::worked_calls;

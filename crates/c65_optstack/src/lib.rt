@@ -3,7 +3,9 @@
 
 mod calls;
 mod find;
+mod samples;
 mod stack;
 mod words;
 
+pub use samples::worked_rules;
 pub use stack::optimise_stack;

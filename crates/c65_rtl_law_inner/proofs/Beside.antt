@@ -1,12 +1,10 @@
 -- States beside the registers and the zero page, once a word is popped.
-use Rattle.std.proofs.Common.{◌≡◌, ◌≢◌, ℕ, ◌+◌, ◌*◌, ◌<◌, ◌≤◌, ◌⊎◌, inl, inr, Bool, true, false, List, [], ◌∷◌, Option, None, nat_eq, refl, sym, ap, ◌∙◌}
-use Rattle.std.specs.Prelude.{◌||◌}
+use Rattle.std.proofs.Common.{◌≡◌, ◌≢◌, ℕ, ◌+◌, ◌*◌, ◌⊎◌, inl, inr, true, false, List, [], ◌∷◌, Option, None, nat_eq, refl, sym, ap, ◌∙◌}
 use Rattle.std.proofs.lemmas.Bool.Decides.{eqb_tells}
-use Rattle.c65_code.specs.LineState.{Place, State, Bytes, write, sp_of}
+use Rattle.c65_code.specs.LineState.{State, Bytes, write, sp_of}
 use Rattle.c65_code.specs.Rows.{written}
-use Rattle.c65_code.specs.RawMachine.{called}
 use Rattle.c65_code.specs.Segments.{is_among}
-use Rattle.c65_rtl.proofs.Ways.{returning, or_parts, or_none}
+use Rattle.c65_rtl.proofs.Ways.{returning, or_none}
 use Rattle.c65_rtl.proofs.Meeting.{write_other}
 use Rattle.c65_rtl.proofs.Pushes.{write_same}
 

@@ -1,5 +1,5 @@
 -- `popeax` and `negeax`, and what they leave.
-use Rattle.std.proofs.Common.{◌≡◌, ℕ, ◌+◌, ◌-◌, ◌*◌, ◌/◌, ◌%◌, ◌<◌, ◌≤◌, ◌⊎◌, Bool, List, [], ◌∷◌, None, refl, sym, subst, ◌∙◌, arith}
+use Rattle.std.proofs.Common.{◌≡◌, ℕ, ◌+◌, ◌-◌, ◌*◌, ◌/◌, ◌%◌, ◌<◌, ◌≤◌, List, [], ◌∷◌, None, refl, sym, subst, ◌∙◌, arith}
 use Rattle.std.proofs.lemmas.List.{append-nil}
 use Rattle.c65_mach.specs.declared.rows.Op.TheVariants.{Adc, Clc, Eor, Lda, Ldy, Rts, Sta, Tax, Tay, Txa, Tya}
 use Rattle.c65_code.specs.declared.routine.Width.TheVariants.{Eax}

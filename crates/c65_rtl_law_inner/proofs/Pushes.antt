@@ -1,5 +1,5 @@
 -- `pusha`, `pushax` and `push0`
-use Rattle.std.proofs.Common.{◌≡◌, ℕ, ◌+◌, ◌-◌, ◌≤◌, [], ◌∷◌, Some, refl, subst, arith}
+use Rattle.std.proofs.Common.{◌≡◌, ℕ, ◌+◌, ◌-◌, [], ◌∷◌, Some, refl, subst, arith}
 use Rattle.c65_mach.specs.declared.rows.Op.TheVariants.{Lda, Tax}
 use Rattle.c65_code.specs.declared.routine.Routine.TheVariants as routines
 use Rattle.c65_code.specs.LineState.{State, write, sp_of}

@@ -1,10 +1,9 @@
 -- `tosmulax` (C90 6.3.5)
-use Rattle.std.proofs.Common.{◌≡◌, ◌≢◌, ℕ, zero, suc, ◌+◌, ◌-◌, ◌*◌, ◌/◌, ◌%◌, ◌^◌, ◌<◌, ◌≤◌, Bool, true, false, List, [], ◌∷◌, None, nat_eq, refl, sym, ap, subst, ◌∙◌, arith}
+use Rattle.std.proofs.Common.{◌≡◌, ◌≢◌, ℕ, zero, suc, ◌+◌, ◌*◌, ◌/◌, ◌%◌, ◌^◌, ◌<◌, ◌≤◌, Bool, true, false, List, [], ◌∷◌, None, nat_eq, refl, sym, ap, ◌∙◌, arith}
 use Rattle.std.specs.Prelude.{nat_lt, bit_or}
 use Rattle.std.specs.Int.Bits.{or_add_and}
 use Rattle.std.proofs.lemmas.Nat.{le_or_l, le_or_r}
 use Rattle.std.proofs.lemmas.List.{append-nil}
-use Rattle.std.proofs.lemmas.List.Elements.{All-nil}
 use Rattle.c65_mach.specs.Step.{bit}
 use Rattle.c65_mach.specs.declared.rows.Op.TheVariants.{Adc, Asl, Bcc, Beq, Bne, Clc, Lda, Ldx, Ldy, Lsr, Ora, Rol, Ror, Rts, Sta, Stx, Tax, Tay, Txa, Tya}
 use Rattle.c65_code.specs.declared.routine.Routine.{Routine}
@@ -13,11 +12,11 @@ use Rattle.c65_code.specs.declared.routine.TosOp.TheVariants as tos
 use Rattle.c65_code.specs.declared.routine.Width.TheVariants.{Ax}
 use Rattle.c65_code.specs.declared.line.Line.{Line}
 use Rattle.c65_code.specs.declared.line.Line.TheVariants.{Label}
-use Rattle.c65_code.specs.LineState.{Place, Bytes, write, word_at, State, sp_of, ax_of, IsBytes}
+use Rattle.c65_code.specs.LineState.{Place, write, word_at, State, sp_of, ax_of, IsBytes}
 use Rattle.c65_code.specs.Segments.{is_among}
 use Rattle.c65_code.specs.Moves.{settle, labelled}
 use Rattle.c65_code.specs.Rows.{Row, tos_row}
-use Rattle.c65_code.specs.RawMachine.{RawSetting, Bounds, called, MeetsRow}
+use Rattle.c65_code.specs.RawMachine.{RawSetting, Bounds, called}
 use Rattle.c65_rtl.specs.Assembly.{ptr1, ptr2, implied, value, zero_page, branch, call}
 use Rattle.c65_rtl.proofs.Ways.{Ends}
 use Rattle.c65_rtl.proofs.Meeting.{eq_true, eq_false, not_true, not_false, write_other, ends_by}
@@ -27,7 +26,7 @@ use Rattle.c65_rtl_law_walks.proofs.Walks.{Takes, Calls}
 use Rattle.c65_rtl_law_walks.proofs.Turning.{leads_turn, turn_weight, TurnsIn}
 use Rattle.c65_rtl_law_walks.proofs.Meets.{Leads, turning_meets, met_within}
 use Rattle.c65_rtl_law_inner.proofs.Pops.{popax_row, pop_word_comes, Popped, popped}
-use Rattle.c65_rtl_law_inner.proofs.Beside.{Aside, Beside, returns, outside, values, rewritten}
+use Rattle.c65_rtl_law_inner.proofs.Beside.{Beside, returns, outside, values, rewritten}
 use Rattle.c65_rtl_law_products.specs.Rows.{Holds, WordsAreMultiplied}
 use Rattle.c65_rtl_law_products.proofs.Numbers.{odd_round, even_round, first_round, last_round, fewer_bits}
 

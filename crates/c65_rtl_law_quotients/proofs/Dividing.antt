@@ -1,5 +1,5 @@
 -- The loop of a division, for any lines behind it.
-use Rattle.std.proofs.Common.{◌≡◌, ◌≢◌, ℕ, zero, suc, ◌+◌, ◌-◌, ◌*◌, ◌/◌, ◌%◌, ◌^◌, ◌<◌, ◌≤◌, ◌⊎◌, inl, inr, Bool, true, false, List, [], ◌∷◌, None, nat_eq, refl, sym, ap, subst, ◌∙◌, arith}
+use Rattle.std.proofs.Common.{◌≡◌, ◌≢◌, ℕ, zero, suc, ◌+◌, ◌-◌, ◌*◌, ◌%◌, ◌^◌, ◌<◌, ◌≤◌, ◌⊎◌, inl, inr, Bool, true, false, List, [], ◌∷◌, refl, sym, ap, subst, ◌∙◌, arith}
 use Rattle.std.specs.Prelude.{nat_lt}
 use Rattle.std.proofs.Math.Nat.{pow-suc}
 use Rattle.std.proofs.lemmas.Bool.Decides.{leb_tells}
@@ -11,10 +11,9 @@ use Rattle.c65_code.specs.Segments.{is_among}
 use Rattle.c65_code.specs.RawMachine.{RawSetting, Bounds}
 use Rattle.c65_rtl.proofs.Meeting.{eq_false, write_other}
 use Rattle.c65_rtl.proofs.UnaryWords.{bit_sign}
-use Rattle.c65_rtl.proofs.Widenings.{below_is, not_below}
 use Rattle.c65_rtl_law_inner.proofs.Beside.{Beside, outside}
 use Rattle.c65_rtl_law_quotients.proofs.Rounds.{Divides, Pending, Doubles, shift_step, fits_step, other_step, before_all}
-use Rattle.c65_rtl_law_quotients.proofs.Pieces.{Ways, gone, tail_on, take_on, compare_on, round_on, divide_on, shifted, shift_at, difference, compared, compare_at, taken, take_at, counted, tail_at, begun, begin_at}
+use Rattle.c65_rtl_law_quotients.proofs.Pieces.{Ways, gone, tail_on, round_on, shifted, shift_at, difference, compared, compare_at, taken, take_at, counted, tail_at, begun}
 
 -- the addresses that the divisions write: both terms, the remainder's high byte and the signs
 abbrev pub places : List ℕ

@@ -7,7 +7,7 @@ use Rattle.c65_code.specs.declared.routine.Routine.{Routine}
 use Rattle.c65_code.specs.declared.routine.Routine.TheVariants as routines
 use Rattle.c65_code.specs.declared.line.Line.{Line}
 use Rattle.c65_code.specs.declared.line.Line.TheVariants.{Label}
-use Rattle.c65_code.specs.LineState.{Bytes, write, State}
+use Rattle.c65_code.specs.LineState.{write, State}
 use Rattle.c65_code.specs.RawMachine.{RawSetting, Bounds}
 use Rattle.c65_rtl.specs.Assembly.{ptr1, ptr2, ptr3, implied, on_a, value, zero_page, branch, call}
 use Rattle.c65_rtl.proofs.Meeting.{eq_true, eq_false, lt_true, lt_false, not_true, not_false}

@@ -1,12 +1,12 @@
 -- Words without their signs, and with that of a result.
-use Rattle.std.proofs.Common.{◌≡◌, ℕ, ◌+◌, ◌-◌, ◌*◌, ◌/◌, ◌%◌, ◌<◌, ◌≤◌, ◌⊎◌, inl, inr, Bool, true, false, not, refl, sym, ap, subst, ◌∙◌, arith}
+use Rattle.std.proofs.Common.{◌≡◌, ℕ, ◌+◌, ◌-◌, ◌*◌, ◌/◌, ◌%◌, ◌<◌, ◌≤◌, ◌⊎◌, inl, inr, Bool, true, false, not, sym, ap, subst, ◌∙◌, arith}
 use Rattle.std.specs.Prelude.{if◌then◌else◌, nat_lt, nat_le, bit_xor}
 use Rattle.std.specs.Bool.{beq}
 use Rattle.std.proofs.lemmas.Nat.{xor_shr}
 use Rattle.std.proofs.lemmas.Bool.Decides.{leb_tells}
 use Rattle.c65_mach.specs.Step.{bit}
 use Rattle.c65_code.specs.declared.routine.Width.TheVariants.{Ax}
-use Rattle.c65_code.specs.Numbers.{is_negative, magnitude, minus_word, with_sign}
+use Rattle.c65_code.specs.Numbers.{is_negative, magnitude, minus_word}
 use Rattle.c65_rtl.proofs.UnaryWords.{bit_carry}
 use Rattle.c65_rtl.proofs.SpPieces.{xor_ones}
 use Rattle.c65_rtl.proofs.Flags.{le_same}

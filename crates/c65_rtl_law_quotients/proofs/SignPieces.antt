@@ -1,12 +1,11 @@
 -- The pieces of lines that take the signs of words away and put that of the result on.
-use Rattle.std.proofs.Common.{◌≡◌, ℕ, ◌+◌, ◌-◌, ◌%◌, Bool, true, false, List, [], ◌∷◌, None, refl}
+use Rattle.std.proofs.Common.{◌≡◌, ℕ, ◌+◌, ◌-◌, ◌%◌, Bool, true, false, List, [], ◌∷◌}
 use Rattle.std.specs.Prelude.{nat_lt, bit_xor}
 use Rattle.c65_mach.specs.Step.{bit}
-use Rattle.c65_mach.specs.State.{Regs}
-use Rattle.c65_mach.specs.declared.rows.Op.TheVariants.{Adc, Bpl, Clc, Eor, Lda, Ldy, Rts, Sbc, Sec, Sta, Stx, Tax, Tay, Txa, Tya}
+use Rattle.c65_mach.specs.declared.rows.Op.TheVariants.{Adc, Bpl, Clc, Eor, Lda, Ldy, Sbc, Sec, Sta, Stx, Tax, Tay, Txa, Tya}
 use Rattle.c65_code.specs.declared.line.Line.{Line}
 use Rattle.c65_code.specs.declared.line.Line.TheVariants.{Label}
-use Rattle.c65_code.specs.LineState.{Bytes, write, State}
+use Rattle.c65_code.specs.LineState.{write, State}
 use Rattle.c65_code.specs.RawMachine.{RawSetting, Bounds}
 use Rattle.c65_rtl.specs.Assembly.{ptr1, ptr2, tmp1, tmp2, implied, value, zero_page, branch}
 use Rattle.c65_rtl.proofs.Meeting.{not_true, not_false}

@@ -1,5 +1,5 @@
 -- `tosdivax` and `tosmodax` (C90 6.3.5)
-use Rattle.std.proofs.Common.{◌≡◌, ◌≢◌, ℕ, suc, ◌+◌, ◌-◌, ◌*◌, ◌/◌, ◌%◌, ◌<◌, ◌≤◌, Bool, true, false, not, List, [], ◌∷◌, Option, None, refl, sym, ap, subst, ◌∙◌, arith}
+use Rattle.std.proofs.Common.{◌≡◌, ◌≢◌, ℕ, suc, ◌+◌, ◌*◌, ◌<◌, ◌≤◌, Bool, true, not, List, [], ◌∷◌, Option, refl, sym, ap, ◌∙◌, arith}
 use Rattle.std.specs.Prelude.{nat_lt, bit_xor}
 use Rattle.std.specs.Bool.{beq}
 use Rattle.std.proofs.lemmas.List.Elements.{All-nil}
@@ -10,7 +10,7 @@ use Rattle.c65_code.specs.declared.routine.TosOp.TheVariants as tos
 use Rattle.c65_code.specs.declared.routine.Width.TheVariants.{Ax}
 use Rattle.c65_code.specs.declared.line.Line.{Line}
 use Rattle.c65_code.specs.LineState.{Place, Bytes, State, write, word_at, sp_of, ax_of, IsBytes}
-use Rattle.c65_code.specs.Numbers.{divided, is_negative, magnitude, minus_word, with_sign, signed_quotient, signed_remainder}
+use Rattle.c65_code.specs.Numbers.{divided, is_negative, magnitude, with_sign, signed_quotient, signed_remainder}
 use Rattle.c65_code.specs.Moves.{settle, labelled}
 use Rattle.c65_code.specs.RawMachine.{RawSetting, Bounds, IsReachable, called}
 use Rattle.c65_rtl.proofs.Ways.{Ends}

@@ -1,5 +1,5 @@
 -- `tosudivax` and `tosumodax` (C90 6.3.5)
-use Rattle.std.proofs.Common.{◌≡◌, ℕ, suc, ◌+◌, ◌*◌, ◌/◌, ◌%◌, ◌<◌, ◌≤◌, Bool, false, List, [], ◌∷◌, Option, None, refl, sym, ap, subst, ◌∙◌, arith}
+use Rattle.std.proofs.Common.{◌≡◌, ℕ, suc, ◌+◌, ◌*◌, ◌/◌, ◌%◌, ◌<◌, ◌≤◌, Bool, false, List, [], ◌∷◌, Option, refl, ap, ◌∙◌, arith}
 use Rattle.std.proofs.lemmas.List.Elements.{All-nil}
 use Rattle.c65_code.specs.declared.routine.Routine.TheVariants as routines
 use Rattle.c65_code.specs.declared.routine.TosOp.{TosOp}
@@ -9,19 +9,18 @@ use Rattle.c65_code.specs.declared.line.Line.{Line}
 use Rattle.c65_code.specs.LineState.{Place, State, write, word_at, sp_of, ax_of, IsBytes}
 use Rattle.c65_code.specs.Numbers.{divided}
 use Rattle.c65_code.specs.Moves.{settle, labelled}
-use Rattle.c65_code.specs.Rows.{Row, row_of}
-use Rattle.c65_code.specs.RawMachine.{RawSetting, Bounds, IsReachable, called, MeetsRow}
+use Rattle.c65_code.specs.RawMachine.{RawSetting, Bounds, IsReachable, called}
 use Rattle.c65_rtl.proofs.Ways.{Ends}
-use Rattle.c65_rtl.proofs.Meeting.{eq_false, write_other}
-use Rattle.c65_rtl_law_walks.specs.Inside.{MayRunIn, MeetsIn}
-use Rattle.c65_rtl_law_walks.proofs.Turning.{leads_turn, turn_weight, TurnsIn}
+use Rattle.c65_rtl.proofs.Meeting.{write_other}
+use Rattle.c65_rtl_law_walks.specs.Inside.{MayRunIn}
+use Rattle.c65_rtl_law_walks.proofs.Turning.{turn_weight, TurnsIn}
 use Rattle.c65_rtl_law_walks.proofs.Meets.{Leads, turning_meets, met_within}
 use Rattle.c65_rtl_law_inner.proofs.Pops.{popax_row, pop_word_comes, Popped, popped}
-use Rattle.c65_rtl_law_inner.proofs.Beside.{Beside, outside}
+use Rattle.c65_rtl_law_inner.proofs.Beside.{outside}
 use Rattle.c65_rtl_law_quotients.specs.Rows.{Holds, IsMet}
 use Rattle.c65_rtl_law_quotients.proofs.Rounds.{Divided, after_all}
-use Rattle.c65_rtl_law_quotients.proofs.Pieces.{takes, Ways, round_on, divide_on, terms_on, begun, begin_at, pointed, dividend_on, terms_at, held, dividend_at, quotient_on, remainder_on, back_lines, back_at, quotient_at, remainder_at}
-use Rattle.c65_rtl_law_quotients.proofs.Dividing.{places, Terms, Dividing, Behind, divide_go, before}
+use Rattle.c65_rtl_law_quotients.proofs.Pieces.{takes, divide_on, terms_on, begun, begin_at, pointed, terms_at, held, dividend_at, quotient_on, remainder_on, back_lines, back_at, quotient_at, remainder_at}
+use Rattle.c65_rtl_law_quotients.proofs.Dividing.{places, Dividing, Behind, divide_go, before}
 use Rattle.c65_rtl_law_quotients.proofs.Results.{result_row, goes_on, near_of, modest, result_ends, result_by}
 
 abbrev dividend_of : State → ℕ

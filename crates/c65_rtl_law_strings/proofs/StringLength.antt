@@ -1,5 +1,5 @@
 -- `strlen`
-use Rattle.std.proofs.Common.{◌≡◌, ◌≢◌, ℕ, suc, ◌+◌, ◌-◌, ◌*◌, ◌%◌, ◌<◌, ◌≤◌, inl, inr, Bool, true, false, List, [], ◌∷◌, None, length, refl, sym, ap, subst, ◌∙◌, arith}
+use Rattle.std.proofs.Common.{◌≡◌, ◌≢◌, ℕ, suc, ◌+◌, ◌-◌, ◌*◌, ◌%◌, ◌<◌, ◌≤◌, inl, inr, Bool, true, false, List, [], ◌∷◌, Some, None, length, refl, sym, ap, subst, ◌∙◌, arith}
 use Rattle.std.proofs.lemmas.List.{append-nil}
 use Rattle.std.proofs.lemmas.Bool.{cases_lt}
 use Rattle.std.proofs.lemmas.Bool.Decides.{eqb_tells}
@@ -14,10 +14,11 @@ use Rattle.c65_code.specs.Placement.{Placement}
 use Rattle.c65_code.specs.Moves.{settle, labelled}
 use Rattle.c65_code.specs.Texts.{text_length, range_of}
 use Rattle.c65_code.specs.Rows.{Row, row_by, giving, far_reading, costing, by_bytes}
-use Rattle.c65_code.specs.RawMachine.{RawSetting, Bounds, IsReachable, called, MayRun, Runs, MeetsRow, reach_of}
+use Rattle.c65_code.specs.declared.routine.Routine.{Routine}
+use Rattle.c65_code.specs.RawMachine.{RawSetting, Bounds, IsReachable, RawComes, HasDone, LieLow, called, entry_of, MayRun, Runs, MeetsRow, reach_of}
 use Rattle.c65_rtl.specs.Assembly.{ptr1, implied, value, zero_page, by_y, branch}
 use Rattle.c65_rtl.specs.Routines.{lines_of}
-use Rattle.c65_rtl.proofs.Ways.{Ends}
+use Rattle.c65_rtl.proofs.Ways.{Ends, weaken}
 use Rattle.c65_rtl.proofs.Rounds.{leads_round}
 use Rattle.c65_rtl.proofs.Meeting.{eq_true, eq_false, not_true, not_false, write_other, ends_by}
 use Rattle.c65_rtl.proofs.Opens.{OpenBytes, opens_far}
@@ -25,7 +26,12 @@ use Rattle.c65_rtl.proofs.SpPieces.{left}
 use Rattle.c65_rtl.proofs.Pushes.{meets_by, write_same}
 use Rattle.c65_rtl.proofs.Stores.{reach_as}
 use Rattle.c65_rtl_law_walks.proofs.Loops.{Round, runs_loops}
-use Rattle.c65_rtl_law_walks.proofs.Ranges.{range_length}
+use Rattle.c65_rtl_law_walks.specs.Inside.{MayRunIn}
+use Rattle.c65_rtl_law_walks.proofs.Ranges.{range_length, all_in_range}
+use Rattle.c65_rtl_law_walks.proofs.Walks.{Takes}
+use Rattle.c65_rtl_law_walks.proofs.Turning.{turn_weight, walks_turning}
+use Rattle.c65_rtl_law_walks.proofs.RoundsIn.{round_in}
+use Rattle.c65_rtl_law_strings.specs.Rows.{StringsAreMeasuredWithin}
 use Rattle.c65_rtl_law_strings.proofs.Lengths.{IsText, text_is}
 
 abbrev round_on : List Line → List Line
@@ -216,18 +222,22 @@ round place bounds row back t at count k ends l n u g =
           (λ v few counting. (refl, (suc i, few, (omega arith), counting))));
     }
 
-abbrev strlen_row : ℕ → State → Row
+abbrev pub strlen_row : ℕ → State → Row
 strlen_row count t = by_bytes (giving Ax count (far_reading (count + 1) (ax_of t) (costing 256 (row_by (Library Strlen) t))))
 
-counted : (count : ℕ) (back : Place) (t : State) → count < 65520 → t.ended ≡ None → Counted count (strlen_row count t) back t
-counted count back t small running = λ x y n v z c zp low index rest.
+-- whatever room the row leaves below the sp
+abbrev pub roomy_row : ℕ → ℕ → State → Row
+roomy_row room count t = record (strlen_row count t) { room = room }
+
+counted : (room count : ℕ) (back : Place) (t : State) → count < 65520 → t.ended ≡ None → Counted count (roomy_row room count t) back t
+counted room count back t small running = λ x y n v z c zp low index rest.
     let zp_is : (i : ℕ) → 2 ≤ i → zp i ≡ write (write t.zp 8 t.regs.a) 9 (zp 9) i = λ i two. elim (eqb_tells i 9) [
       | inl same ↦ ap zp same.1 ∙ sym (write_same (write t.zp 8 t.regs.a) 9 (zp 9) i same.1)
       | inr other ↦ rest i other.1 ∙ (write_other (write t.zp 8 t.regs.a) 9 t.regs.x i other.1 ∙ sym (write_other (write t.zp 8 t.regs.a) 9 (zp 9) i other.1))
     ] in
     let zero : zp 0 ≡ t.zp 0 = rest 0 (let other : 0 ≢ 9 = omega arith in other) in
     let one : zp 1 ≡ t.zp 1 = rest 1 (let other : 1 ≢ 9 = omega arith in other) in
-    ends_by (strlen_row count t) t (left (called back t) y x y n v z c zp t.mem) ((8, t.regs.a) ∷ (9, zp 9) ∷ []) (record {
+    ends_by (roomy_row room count t) t (left (called back t) y x y n v z c zp t.mem) ((8, t.regs.a) ∷ (9, zp 9) ∷ []) (record {
       zp = zp_is;
       fit = refl;
       small = (refl, refl, refl, refl, refl);
@@ -247,6 +257,21 @@ counted count back t small running = λ x y n v z c zp low index rest.
       ended = running;
     })
 
+begun : (back : Place) (t : State) (n z : Bool) → t.regs.a < 256 → Counting (pointed back t) 0 (record (pointed back t) { regs = record t.regs { x = 0; y = 0; n = n; z = z } })
+begun back t n z low = record {
+  a = t.regs.a;
+  x = 0;
+  y = 0;
+  nf = n;
+  zf = z;
+  zp = write (write t.zp 8 t.regs.a) 9 t.regs.x;
+  is = refl;
+  rest = λ k other. refl;
+  low = omega arith;
+  index = refl;
+  pages = (let e : t.regs.x ≡ t.regs.x + 0 = omega arith in e);
+}
+
 strlen_runs : (s : RawSetting) → s.lines (s.routine (Library Strlen)) ≡ strlen_lines → (back : Place) (t : State) (count : ℕ) → count ≡ text_length (ax_of t) t.mem → MayRun s (strlen_row count t) t → Runs s (Library Strlen) (strlen_row count t) back t
 strlen_runs s has back t count is may =
     let at : ℕ = ax_of t in
@@ -256,26 +281,76 @@ strlen_runs s has back t count is may =
     let text : IsText t.mem at count = subst (λ (n : ℕ). IsText t.mem at n) (sym is) (text_is at t.mem small) in
     let low : t.regs.a < 256 = may.bytes.a in
     let known : Known s.place (reach_of t) (pointed back t) at count = record { low = low; base = refl; text = text; bytes = bytes; end = end } in
-    let ends : Counted count (strlen_row count t) back t = counted count back t (omega arith) may.running in
+    let ends : Counted count (strlen_row count t) back t = counted 64 count back t (omega arith) may.running in
     let many : length (range_of (count + 1) at) ≡ count + 1 = range_length (count + 1) at in
-    let begun : (n z : Bool) → Counting (pointed back t) 0 (record (pointed back t) { regs = record t.regs { x = 0; y = 0; n = n; z = z } }) = λ n z. record {
-      a = t.regs.a;
-      x = 0;
-      y = 0;
-      nf = n;
-      zf = z;
-      zp = write (write t.zp 8 t.regs.a) 9 t.regs.x;
-      is = refl;
-      rest = λ k other. refl;
-      low = omega arith;
-      index = refl;
-      pages = (let e : t.regs.x ≡ t.regs.x + 0 = omega arith in e);
-    } in
     runs_loops s (Library Strlen) (strlen_row count t) back t strlen_lines has (Going back t count)
     (round s.place (reach_of t) (strlen_row count t) back t at count known ends) (12 * count + 26) (omega arith) refl may
     (head_at s.place (reach_of t) (Ends (strlen_row count t) t) (λ j u. Going back t count j (12 * count + 26) u) (round_on exit_lines) (called back t)
-    (λ n z. body_at s.place (reach_of t) (strlen_row count t) back t at count 0 (record (pointed back t) { regs = record t.regs { x = 0; y = 0; n = n; z = z } }) (λ j u. Going back t count j (12 * count + 26) u) known ends (omega arith) (begun n z)
+    (λ n z. body_at s.place (reach_of t) (strlen_row count t) back t at count 0 (record (pointed back t) { regs = record t.regs { x = 0; y = 0; n = n; z = z } }) (λ j u. Going back t count j (12 * count + 26) u) known ends (omega arith) (begun back t n z low)
     (λ v few counting. (refl, (1, (omega arith), (omega arith), counting)))))
 
 pub strlen : (s : RawSetting) → s.lines (s.routine (Library Strlen)) ≡ lines_of (Library Strlen) → MeetsRow s (Library Strlen)
 strlen s has = meets_by s (Library Strlen) (λ t. strlen_row (text_length (ax_of t) t.mem) t) (λ t. refl) (λ back t may. strlen_runs s has back t (text_length (ax_of t) t.mem) refl may)
+
+-- what may be reached lies below the end of the software stack
+low_enough : (place : Placement) (bounds : Bounds) (b : ℕ) → LieLow place → IsReachable place bounds b → b < 65520
+low_enough place bounds b low (inl data_of) = let h = low b data_of in omega arith
+low_enough place bounds b low (inr within) = within.1
+
+-- it calls nothing
+abbrev nothing : Routine → Takes
+nothing r = record { below = 0; pushed = 0; weight = 0 }
+
+-- Within bounds, with whatever room its row leaves below the sp: it writes no memory.
+pub strlen_comes : (s : RawSetting) → s.lines (s.routine (Library Strlen)) ≡ lines_of (Library Strlen) → (room : ℕ) (bounds : Bounds) (back : Place) (t : State) → MayRunIn s bounds 0 0 (roomy_row room (text_length (ax_of t) t.mem) t) t
+    → RawComes s bounds (HasDone None (roomy_row room (text_length (ax_of t) t.mem) t) back t) (12 * text_length (ax_of t) t.mem + 44) (entry_of s (s.routine (Library Strlen))) (called back t)
+strlen_comes s has room bounds back t may =
+    let count : ℕ = text_length (ax_of t) t.mem in
+    let at : ℕ = ax_of t in
+    let row : Row = roomy_row room count t in
+    let P : State → Type 0 = Ends row t in
+    let opens : (k : ℕ) → k < count + 1 → IsReachable s.place bounds (at + k) = all_in_range (IsReachable s.place bounds) (count + 1) at may.far in
+    let e : at + 0 ≡ at = omega arith in
+    let bytes : OpenBytes s.place bounds (count + 1) at = record {
+      first = λ some. subst (λ (b : ℕ). IsReachable s.place bounds b) e (opens 0 some);
+      reach = opens;
+      below = λ k few. low_enough s.place bounds (at + k) may.data_low (opens k few);
+    } in
+    let end : at + count < 65520 = bytes.below count (omega arith) in
+    let small : text_length at t.mem < 65536 = omega arith in
+    let text : IsText t.mem at count = text_is at t.mem small in
+    let low : t.regs.a < 256 = may.bytes.a in
+    let known : Known s.place bounds (pointed back t) at count = record { low = low; base = refl; text = text; bytes = bytes; end = end } in
+    let ends : Counted count row back t = counted room count back t (omega arith) may.running in
+    let hard = may.hard in
+    let most : ℕ = 12 * count + 26 in
+    weaken s bounds (HasDone None row back t) (turn_weight nothing most [] strlen_lines) (12 * count + 44) (entry_of s (s.routine (Library Strlen))) (called back t) (omega arith)
+    (walks_turning s bounds 0 nothing (Library Strlen) row back t strlen_lines has (Going back t count)
+    (λ l n u inner g. let i : ℕ = g.1.0 in let le = g.1.1 in let left_over = g.1.2 in let pushed : length u.pushed ≡ 0 = ap (λ (k : State). length k.pushed) g.1.3.is in let less : ℕ = 12 * (count - i) + 14 in record {
+      k = 4;
+      less = less;
+      stands = ap (λ (j : ℕ). settle strlen_lines (labelled strlen_lines j)) g.0;
+      fewer = omega arith;
+      weighs = omega arith;
+      leads = round_in s bounds 0 nothing P (λ j v. Going back t count j less v) (Label 2 ∷ round_on exit_lines) [] None u (omega arith)
+          (label_at s.place bounds P (λ j v. Going back t count j less v) (round_on exit_lines) u
+          (body_at s.place bounds row back t at count i u (λ j v. Going back t count j less v) known ends le g.1.3 (λ v few counting. (refl, (suc i, few, (omega arith), counting)))));
+    })
+    most hard may.bytes may.running refl
+    (round_in s bounds 0 nothing P (λ j v. Going back t count j most v) strlen_lines [] None (called back t) (omega arith)
+    (head_at s.place bounds P (λ j v. Going back t count j most v) (round_on exit_lines) (called back t)
+    (λ n z. body_at s.place bounds row back t at count 0 (record (pointed back t) { regs = record t.regs { x = 0; y = 0; n = n; z = z } }) (λ j v. Going back t count j most v) known ends (omega arith) (begun back t n z low)
+    (λ v few counting. (refl, (1, (omega arith), (omega arith), counting)))))))
+
+some_is : {A : Type 0} (x y : A) → Some x ≡ Some y → x ≡ y
+some_is x y e = cc
+
+pub strlen_in : StringsAreMeasuredWithin
+strlen_in s has bounds given back t e may =
+    let count : ℕ = text_length (ax_of t) t.mem in
+    let same : roomy_row 64 count t ≡ given = some_is (roomy_row 64 count t) given e in
+    let many : length (range_of (count + 1) (ax_of t)) ≡ count + 1 = range_length (count + 1) (ax_of t) in
+    let enough : 12 * count + 44 ≤ 12 * length (range_of (count + 1) (ax_of t)) + 32 = omega arith in
+    subst (λ (w : Row). RawComes s bounds (HasDone w.ends w back t) (12 * length w.far + 32) (entry_of s (s.routine (Library Strlen))) (called back t)) same
+    (weaken s bounds (HasDone None (roomy_row 64 count t) back t) (12 * count + 44) (12 * length (range_of (count + 1) (ax_of t)) + 32) (entry_of s (s.routine (Library Strlen))) (called back t) enough
+    (strlen_comes s has 64 bounds back t (subst (λ (w : Row). MayRunIn s bounds 0 0 w t) (sym same) may)))

@@ -3,4 +3,4 @@
 
 mod laws;
 
-pub use laws::{strings_are_compared, strings_are_measured};
+pub use laws::{strings_are_compared, strings_are_measured, strings_are_measured_within};

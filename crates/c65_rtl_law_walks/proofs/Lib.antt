@@ -6,3 +6,4 @@ pub mod Pages
 pub mod Walks
 pub mod Turning
 pub mod Meets
+pub mod RoundsIn

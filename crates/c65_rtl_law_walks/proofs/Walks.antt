@@ -333,14 +333,14 @@ operand_more s bounds (ZeroAt i) P Q more h = when_more (nat_lt i 256) P Q more 
 operand_more s bounds (MemAt b) P Q more h = (h.0, more h.1)
 
 module _ (s : RawSetting) (bounds : Bounds) (deepest : ℕ) (takes : Routine → Takes) (P : State → Type 0) where
-  abbrev Deeper : ℕ → Way → Way → Type 0
+  abbrev pub Deeper : ℕ → Way → Way → Type 0
   Deeper n a b = (skip : Option ℕ) (u : State) → length u.pushed + n ≤ deepest → a skip u → b skip u
 
   pull_in : (n : ℕ) (a b : Way) → Deeper n a b → (ps : List ℕ) (t : State) → length ps + n ≤ deepest → pulling a ps t → pulling b ps t
   pull_in n a b more [] t few h = h
   pull_in n a b more (v ∷ vs) t few h = more None (record t { regs = with_a v t.regs; pushed = vs }) (omega arith) h
 
-  form_in : (form : Form) (n : ℕ) (a b : Way) → Deeper n a b → (t : State) → length t.pushed + (push_of form + n) ≤ deepest → by_form s.place bounds P form a None t → by_deep s bounds deepest P form b None t
+  pub form_in : (form : Form) (n : ℕ) (a b : Way) → Deeper n a b → (t : State) → length t.pushed + (push_of form + n) ≤ deepest → by_form s.place bounds P form a None t → by_deep s bounds deepest P form b None t
   form_in (Plain op mode operand) n a b more t few h =
       let to : State = effect (kind_of op) op mode (word_of s.place operand) t in
       let same = ap (λ (ps : List ℕ). length ps) (effect_stacks (kind_of op) op mode (word_of s.place operand) t).pushed in
@@ -364,7 +364,7 @@ module _ (s : RawSetting) (bounds : Bounds) (deepest : ℕ) (takes : Routine →
   line_in form n a b more (Some l) t few h = more (Some l) t (omega arith) h
   line_in form n a b more None t few h = form_in form n a b more t few h
 
-  label_in : (k n : ℕ) (a b : Way) → Deeper n a b → Deeper n (by_label k a) (by_label k b)
+  pub label_in : (k n : ℕ) (a b : Way) → Deeper n a b → Deeper n (by_label k a) (by_label k b)
   label_in k n a b more None t few h = more None t few h
   label_in k n a b more (Some l) t few h = chosen (k == l) h
     where
@@ -372,7 +372,7 @@ module _ (s : RawSetting) (bounds : Bounds) (deepest : ℕ) (takes : Routine →
       chosen true h = more None t few h
       chosen false h = more (Some l) t few h
 
-  stray_in : (callee : Callee) (n : ℕ) (a b : Way) → Deeper n a b → Deeper n (by_form s.place bounds P Stray a) (by_call s bounds deepest takes callee b)
+  pub stray_in : (callee : Callee) (n : ℕ) (a b : Way) → Deeper n a b → Deeper n (by_form s.place bounds P Stray a) (by_call s bounds deepest takes callee b)
   stray_in callee n a b more (Some l) t few h = more (Some l) t few h
   stray_in callee n a b more None t few h = absurd h
 

@@ -1,0 +1,9 @@
+use Rattle.c65_csem.specs.Views.{typed_of}
+use Rattle.c65_genexpr.specs.Uses.{count}
+use Rattle.c65_genexpr.proofs.places.+places.Given as goal
+
+abbrev pub decreases-place_of : goal.decreases-place_of
+decreases-place_of l = count (typed_of l.e.now)
+
+abbrev pub decreases-offset_of : goal.decreases-offset_of
+decreases-offset_of l = count (typed_of l.e.now)

@@ -1,0 +1,94 @@
+-- Assignments to scalars (C90 6.3.16.1): their forms, and the lines of each from the lines of its two sides.
+use Rattle.std.specs.Prelude.{ℕ, ◌||◌, Bool, true, false, if◌then◌else◌, Option, Some, None, option_map, option_and_then, List, [], ◌++◌}
+use Rattle.c65_ctype.specs.Views.{types_of}
+use Rattle.c65_csem.specs.Trees.{Typed, node, deref, member}
+use Rattle.c65_code.specs.declared.line.Line.{Line}
+use Rattle.c65_genframe.specs.Frames.{Framed}
+use Rattle.c65_genwide.specs.Wide.{narrow_code}
+use Rattle.c65_genload.specs.declared.places.Extent.{Extent}
+use Rattle.c65_genload.specs.declared.places.Extent.TheVariants.{One, Two}
+use Rattle.c65_genload.specs.declared.places.Place.{Place}
+use Rattle.c65_genload.specs.declared.places.Place.TheVariants.{Far}
+use Rattle.c65_genload.specs.declared.places.Access.{Access}
+use Rattle.c65_genload.specs.declared.places.Access.TheVariants.{Whole}
+use Rattle.c65_genload.specs.Places.{held, type_in, extent_of}
+use Rattle.c65_genload.specs.Loads.{hold_code}
+use Rattle.c65_genload.specs.Stores.{store_code}
+use Rattle.c65_gendirect.specs.declared.bytes.OperandByte.{OperandByte}
+use Rattle.c65_gendirect.specs.declared.direct.Direct.{Direct}
+use Rattle.c65_gendirect.specs.declared.through.Stored.{Stored}
+use Rattle.c65_gendirect.specs.declared.through.Stored.TheVariants as stores
+use Rattle.c65_gendirect.specs.Bytes.{byte_of}
+use Rattle.c65_gendirect.specs.Through.{read_store_code, byte_through_code, word_through_code}
+use Rattle.c65_genexpr.specs.declared.storing.Storing.{Storing}
+use Rattle.c65_genexpr.specs.declared.storing.Storing.TheVariants.{Left, RightByte, RightWord, Stacked}
+use Rattle.c65_genexpr.specs.Types.{bare, offset_at, access_of}
+use Rattle.c65_genexpr.specs.Places.{more, has_base, place_of}
+use Rattle.c65_genexpr.specs.Direct.{direct_of, is_fixed, is_pure}
+use Rattle.c65_genexpr.specs.Operating.{word_in}
+
+-- the address of a place, where it takes lines of code
+abbrev pub target_code : Place → List Line → List Line
+target_code (Far at) code = code
+target_code _ code = []
+
+-- the pointer behind which a place lies, where it is read where it lies
+abbrev mutual
+  pub pointer_of : Framed → ℕ → Typed → Option Direct
+  pointer_of f pushed (node t (deref e)) = direct_of f pushed e
+  pointer_of f pushed (node t (member e m)) = if has_base (place_of f pushed e) (offset_at (types_of f.parts.types) (bare e) m) then pointer_of f pushed e else None
+  pointer_of f pushed (node t _) = None
+
+-- ---- the value is read behind the address
+
+abbrev pub word_stored : Bool → OperandByte × OperandByte → Stored
+word_stored fixed w = if fixed then stores.Fixed w.0 w.1 else stores.Word w.0 w.1
+
+abbrev pub bytes_stored : Extent → Direct → Option Stored
+bytes_stored One d = option_map stores.Single (byte_of d 0)
+bytes_stored Two d = option_map (word_stored (is_fixed (Some d))) (word_in d)
+bytes_stored _ d = None
+
+-- ---- the pointer is read behind the value
+
+abbrev pub through : ℕ → Extent → OperandByte × OperandByte → Storing
+through at One w = RightByte at w.0 w.1
+through at Two w = RightWord at w.0 w.1
+through at _ w = Stacked
+
+-- which it is only where the value leaves it as it is
+abbrev pub unless_changed : Bool → Option Direct → Option Direct
+unless_changed pure d = if is_fixed d || pure then d else None
+
+-- ---- the form
+
+abbrev pub by_value : ℕ → Option Stored → Storing → Storing
+by_value at (Some stored) other = Left at stored
+by_value at None other = other
+
+abbrev pub by_pointer : ℕ → Extent → Option (OperandByte × OperandByte) → Storing
+by_pointer at extent (Some w) = through at extent w
+by_pointer at extent None = Stacked
+
+-- of a pointer and a value that can be read
+abbrev pub storing_by : Place → Access → Option Direct → Option Direct → Storing
+storing_by (Far at) (Whole kind) a b = by_value at (option_and_then (bytes_stored (extent_of kind)) b) (by_pointer at (extent_of kind) (option_and_then word_in a))
+storing_by place access a b = Stacked
+
+-- how a value is assigned
+abbrev pub storing_of : Framed → ℕ → Typed → Typed → Storing
+storing_of f pushed a b = storing_by (place_of f pushed a) (access_of (types_of f.parts.types) a) (unless_changed (is_pure b) (pointer_of f pushed a)) (direct_of f pushed b)
+
+-- ---- lines
+
+-- the bytes that wait while the value is computed
+abbrev pub below_value : Storing → ℕ → Place → ℕ
+below_value Stacked pushed place = more pushed (held place)
+below_value _ pushed place = pushed
+
+-- an assignment, from the lines of the place's base and of the value
+abbrev pub assigned_by : Storing → Place → Access → List Line → List Line → List Line
+assigned_by (Left at stored) place access a b = a ++ (read_store_code at stored ++ narrow_code (type_in access))
+assigned_by (RightByte at low high) place access a b = b ++ (byte_through_code at low high ++ narrow_code (type_in access))
+assigned_by (RightWord at low high) place access a b = b ++ word_through_code at low high
+assigned_by Stacked place access a b = target_code place a ++ (hold_code place ++ (b ++ store_code place access))
