@@ -9,7 +9,7 @@ use Rattle.c65_code.specs.declared.line.Line.{Line}
 use Rattle.c65_code.specs.declared.routine.Count.{Count}
 use Rattle.c65_code.specs.declared.routine.Width.{Width}
 use Rattle.c65_code.specs.declared.routine.Width.TheVariants.{Ax, Eax}
-use Rattle.c65_code.specs.declared.routine.Routine.TheVariants.{RestRegs, AddYSp}
+use Rattle.c65_code.specs.declared.routine.Routine.TheVariants.{AddYSp}
 use Rattle.c65_code.specs.Segments.{Drafted}
 use Rattle.c65_genframe.specs.declared.home.Home.{Home}
 use Rattle.c65_genframe.specs.declared.home.Home.TheVariants as homes
@@ -26,7 +26,7 @@ use Rattle.c65_genload.specs.declared.places.Place.TheVariants as places
 use Rattle.c65_genexpr.specs.declared.wanted.Wanted.TheVariants.{Value, Test}
 use Rattle.c65_genexpr.specs.Types.{kind_in, bare}
 use Rattle.c65_genentry.specs.Drafts.{with_labels}
-use Rattle.c65_genentry.specs.Words.{sp, ptr1, ptr2, tmp1, tmp2, implied, zero_page, by_y, branch, jump, with_code}
+use Rattle.c65_genentry.specs.Words.{sp, ptr1, ptr2, tmp1, tmp2, implied, zero_page, by_y, branch, jump}
 use Rattle.c65_genentry.specs.Bytes.{pages_code, rest_code, loop_labels, block_code}
 use Rattle.c65_genentry.specs.Bytes as blocks
 use Rattle.c65_genentry.specs.Pointers as pointers

@@ -105,7 +105,7 @@ use Rattle.c65_link_law_laid.proofs.Linked.{kept}
 use Rattle.c65_link_law_reach.proofs.Reach.{image_known, reach}
 use Rattle.c65_link_law_reach.proofs.Calls.{function_there, function_entry, called_at}
 use Rattle.c65_link_law_images.specs.Reaches.{Reaches, IsShownBy}
-use Rattle.c65_link_law_images.specs.Laws.{AreBytes, PlainImagesFollow}
+use Rattle.c65_link_law_images.specs.Laws.{AreBytes}
 
 -- Memory
 
@@ -190,12 +190,13 @@ pub record Went (g : Ground) (setting : Setting) (k : ℕ) (p : Place) (u : Stat
   pub rows : ℕ
   pub within : rows ≤ k
   pub goes : Goes setting rows now then_at
+  pub bytes : IsBytes u
   pub agrees : Agrees g (g.at p) u then_at
 
 pub plain_went : (cpu : Cpu) (code : Code) (image : Image) (args : List (List ℕ)) (setting : Setting) (n j : ℕ) (op : Op) (mode : Mode) (operand : Operand) (first : Moment) (t : State) → Image_ cpu code image args setting → slice_get ((raw_in code args).lines (start_number code)) j ≡ Some (Do op mode operand)
-    → form_of (Do op mode operand) ≡ Plain op mode operand → IsRawOpen (place_in code) (record { soft = stack_start; hard = 0 }) (ref_of mode (word_of (place_in code) operand) t) → IsBytes t
+    → form_of (Do op mode operand) ≡ Plain op mode operand → IsRawOpen (place_in code) (record { soft = stack_start; hard = 0 }) (ref_of mode (word_of (place_in code) operand) t)
     → Went (ground_in cpu code image 255 None) setting n (start_number code, j) t first → Went (ground_in cpu code image 255 None) setting (n + 1) (start_number code, suc j) (effect (kind_of op) op mode (word_of (place_in code) operand) t) first
-plain_went cpu code image args setting n j op mode operand first t i there_is form is_open bytes w =
+plain_went cpu code image args setting n j op mode operand first t i there_is form is_open w =
     let h : Ground = ground_in cpu code image 255 None in
     let s : RawSetting = raw_in code args in
     let f : ℕ = start_number code in
@@ -203,8 +204,9 @@ plain_went cpu code image args setting n j op mode operand first t i there_is fo
     let to : State = effect (kind_of op) op mode (word_of (place_in code) operand) t in
     let quiet = quiet_line l h s f j t i.start_laid there_is (λ r e. no_run_form r (sym form ∙ e)) in
     let v : Arrives h setting (raw_weight (form_of l)) w.then_at (RawGoes s (form_of l) (f, j) t) = lines_are_followed h s setting (record { soft = stack_start; hard = 0 }) f j l t w.then_at i.start_ground i.start_laid there_is quiet.0
-    (subst (λ (x : Form). IsCounted h s x) (sym form) tt) bytes (omega arith) (subst (λ (x : Form). IsRawWithin s (record { soft = stack_start; hard = 0 }) x t) (sym form) is_open) w.agrees in
+    (subst (λ (x : Form). IsCounted h s x) (sym form) tt) w.bytes (omega arith) (subst (λ (x : Form). IsRawWithin s (record { soft = stack_start; hard = 0 }) x t) (sym form) is_open) w.agrees in
     let goes : RawGoes s (Plain op mode operand) (f, j) t v.place v.state = subst (λ (x : Form). RawGoes s x (f, j) t v.place v.state) form v.holds in
+    let k : IsKeptBy t v.state = kept_by (form_of l) s (f, j) t v.place v.state quiet.0 quiet.1 w.bytes v.holds in
     let weight = ap raw_weight form in let one = v.within in let all = w.within in
     let there : h.at v.place ≡ h.at (f, suc j) = ap h.at goes.0 ∙ i.start_laid.settled (suc j) in
     record {
@@ -212,6 +214,7 @@ plain_went cpu code image args setting n j op mode operand first t i there_is fo
       rows = w.rows + v.rows;
       within = omega (arith, weight, one, all);
       goes = goes_both setting w.rows v.rows (w.rows + v.rows) first w.then_at v.then_at refl w.goes v.goes;
+      bytes = subst IsBytes goes.1 k.bytes;
       agrees = subst (λ (k : ℕ). Agrees h k to v.then_at) there (subst (λ (x : State). Agrees h (h.at v.place) x v.then_at) goes.1 v.agrees);
     }
   where

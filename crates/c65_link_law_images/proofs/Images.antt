@@ -105,24 +105,32 @@ use Rattle.c65_link_law_laid.proofs.Linked.{kept}
 use Rattle.c65_link_law_reach.proofs.Reach.{image_known, reach}
 use Rattle.c65_link_law_reach.proofs.Calls.{function_there, function_entry, called_at}
 use Rattle.c65_link_law_images.specs.Reaches.{Reaches, IsShownBy}
-use Rattle.c65_link_law_images.specs.Laws.{AreBytes, PlainImagesFollow}
+use Rattle.c65_link_law_images.specs.Laws.{AreBytes}
 use Rattle.c65_code.specs.Effects.{ax as ax_parts}
+use Rattle.c65_rtl.specs.Library.{stack_top}
 use Rattle.c65_link_law_runs.proofs.Kept.{one_written}
 use Rattle.c65_link_law_reach.specs.Reach.{goes_on as goes_further, has_ended as has_stopped}
 use Rattle.c65_link_law_images.proofs.First.{memory_bytes, first_state, first_agrees, Went, plain_went, onward_goes, onward_ends, free_all, main_is}
 
+-- codes whose main takes no arguments
+abbrev pub PlainImagesFollow : Type 0
+PlainImagesFollow = (cpu : Cpu) (code : Code) (image : Image) → RunsOn cpu code → IsSound code → AreLineNumbers code → linked_for cpu code ≡ Ok image → AreBytes image.payload → code.main_args ≡ false → (main : ℕ) → IsMain code main
+    → (args : List (List ℕ)) (input : List ℕ) (test : Shown → Seen → Bool) (w : ℕ) → All AreBytes args → AreBytes input → IsRuntime (runtime_in code args)
+    → ((t : State) → IsStart code (place_in code) args input t → ComesFrom (setting_of code (place_in code)) main test w t)
+    → Reaches image args input test w
+
 -- The states of the start: the sp is $FFF0
 
-abbrev state_1 : Image → List ℕ → State
+abbrev pub state_1 : Image → List ℕ → State
 state_1 image input = effect (kind_of ops.Lda) ops.Lda modes.Immediate 0xF0 (first_state image input)
 
-abbrev state_2 : Image → List ℕ → State
+abbrev pub state_2 : Image → List ℕ → State
 state_2 image input = effect (kind_of ops.Sta) ops.Sta modes.ZeroPage 0 (state_1 image input)
 
-abbrev state_3 : Image → List ℕ → State
+abbrev pub state_3 : Image → List ℕ → State
 state_3 image input = effect (kind_of ops.Lda) ops.Lda modes.Immediate 0xFF (state_2 image input)
 
-abbrev state_4 : Image → List ℕ → State
+abbrev pub state_4 : Image → List ℕ → State
 state_4 image input = effect (kind_of ops.Sta) ops.Sta modes.ZeroPage 1 (state_3 image input)
 
 no_bytes : All (λ v. v < 256) []
@@ -134,19 +142,10 @@ no_frames = All-nil (λ (f : Frame). All (λ v. v < 256) f.pushed)
 first_bytes : (image : Image) (input : List ℕ) → AreBytes image.payload → IsBytes (first_state image input)
 first_bytes image input h = record { a = omega arith; x = omega arith; y = omega arith; zp = λ j. omega arith; mem = λ c. memory_bytes image c h; pushed = no_bytes; frames = no_frames }
 
-bytes_1 : (image : Image) (input : List ℕ) → AreBytes image.payload → IsBytes (state_1 image input)
-bytes_1 image input h = record { a = omega arith; x = omega arith; y = omega arith; zp = λ j. omega arith; mem = λ c. memory_bytes image c h; pushed = no_bytes; frames = no_frames }
-
 zp_2 : (j : ℕ) → write (λ k. 0) 0 0xF0 j < 256
 zp_2 = one_written (λ k. 0) 0 0xF0 (λ k. omega arith) (omega arith)
 
-bytes_2 : (image : Image) (input : List ℕ) → AreBytes image.payload → IsBytes (state_2 image input)
-bytes_2 image input h = record { a = omega arith; x = omega arith; y = omega arith; zp = zp_2; mem = λ c. memory_bytes image c h; pushed = no_bytes; frames = no_frames }
-
-bytes_3 : (image : Image) (input : List ℕ) → AreBytes image.payload → IsBytes (state_3 image input)
-bytes_3 image input h = record { a = omega arith; x = omega arith; y = omega arith; zp = zp_2; mem = λ c. memory_bytes image c h; pushed = no_bytes; frames = no_frames }
-
-bytes_4 : (image : Image) (input : List ℕ) → AreBytes image.payload → IsBytes (state_4 image input)
+pub bytes_4 : (image : Image) (input : List ℕ) → AreBytes image.payload → IsBytes (state_4 image input)
 bytes_4 image input h = record { a = omega arith; x = omega arith; y = omega arith; zp = one_written (write (λ k. 0) 0 0xF0) 1 0xFF zp_2 (omega arith); mem = λ c. memory_bytes image c h; pushed = no_bytes; frames = no_frames }
 
 -- The lines of the start
@@ -156,22 +155,38 @@ plain_start code args main s m plain =
     the_start code ∙ ap (λ (n : ℕ). map (with_main n) (routine_lines (entry_routine code))) (main_is code main s m)
     ∙ ap (λ (b : Bool). map (with_main main) (routine_lines (if b then routines.StartArgs else routines.Start))) plain
 
-started : (cpu : Cpu) (code : Code) (image : Image) (args : List (List ℕ)) (setting : Setting) (input : List ℕ) (main : ℕ) → Image_ cpu code image args setting → linked_for cpu code ≡ Ok image → AreBytes image.payload → (raw_in code args).lines (start_number code) ≡ map (with_main main) (routine_lines routines.Start)
+-- the first four lines set the sp
+pub first_lines : (r : Routine) (main : ℕ) (lines : List Line) → lines ≡ map (with_main main) (routine_lines r) → ((j : ℕ) → j < 4 → slice_get (map (with_main main) (routine_lines r)) j ≡ slice_get stack_top j) → (j : ℕ) → j < 4 → slice_get lines j ≡ slice_get stack_top j
+first_lines r main lines e h j less = ap (λ (ls : List Line). slice_get ls j) e ∙ h j less
+
+pub four_of : (b : Bool) (main j : ℕ) → j < 4 → slice_get (map (with_main main) (routine_lines (if b then routines.StartArgs else routines.Start))) j ≡ slice_get stack_top j
+four_of true main zero less = refl
+four_of true main (suc zero) less = refl
+four_of true main (suc (suc zero)) less = refl
+four_of true main (suc (suc (suc zero))) less = refl
+four_of true main (suc (suc (suc (suc j)))) less = absurd (omega (arith, less))
+four_of false main zero less = refl
+four_of false main (suc zero) less = refl
+four_of false main (suc (suc zero)) less = refl
+four_of false main (suc (suc (suc zero))) less = refl
+four_of false main (suc (suc (suc (suc j)))) less = absurd (omega (arith, less))
+
+pub started : (cpu : Cpu) (code : Code) (image : Image) (args : List (List ℕ)) (setting : Setting) (input : List ℕ) (main : ℕ) → Image_ cpu code image args setting → linked_for cpu code ≡ Ok image → AreBytes image.payload → ((j : ℕ) → j < 4 → slice_get ((raw_in code args).lines (start_number code)) j ≡ slice_get stack_top j)
     → Went (ground_in cpu code image 255 None) setting 4 (start_number code, 4) (state_4 image input) (begins image input)
 started cpu code image args setting input main i linked_is h lines =
     let first : Moment = begins image input in
-    let w0 : Went (ground_in cpu code image 255 None) setting 0 (start_number code, 0) (first_state image input) first = record { then_at = first; rows = 0; within = omega arith; goes = none; agrees = first_agrees cpu code image input linked_is } in
+    let w0 : Went (ground_in cpu code image 255 None) setting 0 (start_number code, 0) (first_state image input) first = record { then_at = first; rows = 0; within = omega arith; goes = none; bytes = first_bytes image input h; agrees = first_agrees cpu code image input linked_is } in
     let w1 : Went (ground_in cpu code image 255 None) setting 1 (start_number code, 1) (state_1 image input) first =
-    plain_went cpu code image args setting 0 0 ops.Lda modes.Immediate (operands.Byte 0xF0) first (first_state image input) i (ap (λ (ls : List Line). slice_get ls 0) lines) refl tt (first_bytes image input h) w0 in
+    plain_went cpu code image args setting 0 0 ops.Lda modes.Immediate (operands.Byte 0xF0) first (first_state image input) i (lines 0 (omega arith)) refl tt w0 in
     let w2 : Went (ground_in cpu code image 255 None) setting 2 (start_number code, 2) (state_2 image input) first =
-    plain_went cpu code image args setting 1 1 ops.Sta modes.ZeroPage (operands.Zero 0) first (state_1 image input) i (ap (λ (ls : List Line). slice_get ls 1) lines) refl (omega arith) (bytes_1 image input h) w1 in
+    plain_went cpu code image args setting 1 1 ops.Sta modes.ZeroPage (operands.Zero 0) first (state_1 image input) i (lines 1 (omega arith)) refl (omega arith) w1 in
     let w3 : Went (ground_in cpu code image 255 None) setting 3 (start_number code, 3) (state_3 image input) first =
-    plain_went cpu code image args setting 2 2 ops.Lda modes.Immediate (operands.Byte 0xFF) first (state_2 image input) i (ap (λ (ls : List Line). slice_get ls 2) lines) refl tt (bytes_2 image input h) w2 in
-    plain_went cpu code image args setting 3 3 ops.Sta modes.ZeroPage (operands.Zero 1) first (state_3 image input) i (ap (λ (ls : List Line). slice_get ls 3) lines) refl (omega arith) (bytes_3 image input h) w3
+    plain_went cpu code image args setting 2 2 ops.Lda modes.Immediate (operands.Byte 0xFF) first (state_2 image input) i (lines 2 (omega arith)) refl tt w2 in
+    plain_went cpu code image args setting 3 3 ops.Sta modes.ZeroPage (operands.Zero 1) first (state_3 image input) i (lines 3 (omega arith)) refl (omega arith) w3
 
 -- Main is called
 
-on_main : (cpu : Cpu) (code : Code) (image : Image) (at : ℕ) (back : Place) (t : State) (m : Moment) → t.pushed ≡ [] → t.frames ≡ [] → place_at code (read (loaded_memory image)) back ≡ place_at code (read (loaded_memory image)) (exit_place code) → Agrees (ground_in cpu code image 255 None) at (called back t) m
+pub on_main : (cpu : Cpu) (code : Code) (image : Image) (at : ℕ) (back : Place) (t : State) (m : Moment) → t.pushed ≡ [] → t.frames ≡ [] → place_at code (read (loaded_memory image)) back ≡ place_at code (read (loaded_memory image)) (exit_place code) → Agrees (ground_in cpu code image 255 None) at (called back t) m
     → Agrees (code_ground cpu code image) at t m
 on_main cpu code image at back t m none_pushed no_calls back_is a =
     let frame : Frame = record { back = back; pushed = t.pushed; gives = no_parts } in
@@ -206,7 +221,7 @@ one_arrival q f p = by ((f == q.0) && (p == q.1))
     by true = omega arith
     by false = omega arith
 
-at_once : (image : Image) (args : List (List ℕ)) (input : List ℕ) (test : Shown → Seen → Bool) (w : ℕ) (q : Place) → IsTrue (test (record { output = []; ended = None }) (seen_at q none_seen)) → Reaches image args input test w
+pub at_once : (image : Image) (args : List (List ℕ)) (input : List ℕ) (test : Shown → Seen → Bool) (w : ℕ) (q : Place) → IsTrue (test (record { output = []; ended = None }) (seen_at q none_seen)) → Reaches image args input test w
 at_once image args input test w q holds = record {
   rows = 0;
   within = omega arith;
@@ -218,7 +233,7 @@ at_once image args input test w q holds = record {
   free = λ k l. absurd (omega (arith, l));
 }
 
-in_time : (image : Image) (args : List (List ℕ)) (input : List ℕ) (test : Shown → Seen → Bool) (w j : ℕ) (q : Place) (n : Moment) → j ≤ 5 → Goes (setting_for image args) j (begins image input) n → Passes (setting_for image args) (w + 2) n test (seen_at q none_seen) → Reaches image args input test w
+pub in_time : (image : Image) (args : List (List ℕ)) (input : List ℕ) (test : Shown → Seen → Bool) (w j : ℕ) (q : Place) (n : Moment) → j ≤ 93 → Goes (setting_for image args) j (begins image input) n → Passes (setting_for image args) (w + 2) n test (seen_at q none_seen) → Reaches image args input test w
 in_time image args input test w j q n small first (goes_further rows m arrivals within goes holds few) =
     let setting : Setting = setting_for image args in
     let all : Goes setting (j + rows) (begins image input) m = goes_both setting j rows (j + rows) (begins image input) n m refl first goes in
@@ -256,11 +271,11 @@ in_time image args input test w j q n small first (has_stopped rows status last 
 
 -- All of it
 
-has_some : (lines : List Line) (k : ℕ) (l : Line) → slice_get lines k ≡ Some l → HasLines lines
+pub has_some : (lines : List Line) (k : ℕ) (l : Line) → slice_get lines k ≡ Some l → HasLines lines
 has_some [] k l h = (let z : ◌≡◌ {A = Option Line} None (Some l) = h in absurd cc)
 has_some (x ∷ lines) k l h = tt
 
-no_library : (code : Code) (f : ℕ) → HasLines ((lines_setting code).lines f) → (lines_setting code).library f ≡ None
+pub no_library : (code : Code) (f : ℕ) → HasLines ((lines_setting code).lines f) → (lines_setting code).library f ≡ None
 no_library code f has = by ((lines_setting code).lines f) refl has (is_function_of code f)
   where
     asked : (b c : Bool) → c ≡ false → (if b && c then library_of (slice_get code.symbols f) else None) ≡ None
@@ -284,7 +299,7 @@ main_called cpu code image args input test w main i linked_is h plain given line
     let known = function_there code main i.sound has in
     let call : Line = Call (callees.Function (record { 0 = main }) ax_parts ax_parts) in
     let there_is : slice_get (s.lines f) 4 ≡ Some call = ap (λ (ls : List Line). slice_get ls 4) lines in
-    let w4 : Went g setting 4 (f, 4) t (begins image input) = started cpu code image args setting input main i linked_is h lines in
+    let w4 : Went g setting 4 (f, 4) t (begins image input) = started cpu code image args setting input main i linked_is h (first_lines routines.Start main (s.lines f) lines (four_of false main)) in
     let leads : callee_address i.start_laid.spot (callees.Function (record { 0 = main }) ax_parts ax_parts) ≡ g.at to = i.start_laid.calls 4 call there_is known.1 ∙ function_entry cpu code image args main known.0 (no_library code main has) in
     let m : Moved g setting (g.at to) (called (line_after s (f, 4)) t) w4.then_at = call_moves g s setting f 4 (callees.Function (record { 0 = main }) ax_parts ax_parts) (g.at to) t w4.then_at i.start_ground i.start_laid there_is leads
     (room_for g s (g.at (f, 4)) 2 0 t w4.then_at i.start_ground w4.agrees (omega arith)) w4.agrees in

@@ -1,2 +1,5 @@
 pub mod First
 pub mod Images
+pub mod Lie
+pub mod Push
+pub mod WithArguments

@@ -1,5 +1,5 @@
 -- The image follows the lines.
-use Rattle.std.specs.Prelude.{◌≡◌, ℕ, ◌<◌, Bool, false, All, List, Ok}
+use Rattle.std.specs.Prelude.{◌≡◌, ℕ, ◌<◌, ◌≤◌, Bool, All, List, Ok}
 use Rattle.c65_base.specs.declared.options.Cpu.{Cpu}
 use Rattle.c65_mach.specs.declared.image.Image.{Image}
 use Rattle.c65_code.specs.declared.code.Code.{Code}
@@ -9,6 +9,7 @@ use Rattle.c65_code.specs.Processors.{RunsOn}
 use Rattle.c65_code.specs.Starts.{IsMain, IsStart}
 use Rattle.c65_code.specs.Comes.{Seen, Shown, ComesFrom}
 use Rattle.c65_code.specs.RawMachine.{IsRuntime}
+use Rattle.c65_sim.specs.View.{arguments_size}
 use Rattle.c65_link.specs.Linked.{linked_for}
 use Rattle.c65_link_law_spots.specs.Places.{place_in}
 use Rattle.c65_link_law_spots.specs.Sound.{IsSound}
@@ -19,9 +20,9 @@ use Rattle.c65_link_law_images.specs.Reaches.{Reaches}
 abbrev pub AreBytes : List ℕ → Type 0
 AreBytes bytes = All (λ v. v < 256) bytes
 
--- Of codes whose main takes no arguments, whose numbers and whose file's bytes are bytes.
-abbrev pub PlainImagesFollow : Type 0
-PlainImagesFollow = (cpu : Cpu) (code : Code) (image : Image) → RunsOn cpu code → IsSound code → AreLineNumbers code → linked_for cpu code ≡ Ok image → AreBytes image.payload → code.main_args ≡ false → (main : ℕ) → IsMain code main
-    → (args : List (List ℕ)) (input : List ℕ) (test : Shown → Seen → Bool) (w : ℕ) → All AreBytes args → AreBytes input → IsRuntime (runtime_in code args)
+-- Of codes whose numbers are bytes, and images whose file's bytes are.
+abbrev pub ImagesFollow : Type 0
+ImagesFollow = (cpu : Cpu) (code : Code) (image : Image) → RunsOn cpu code → IsSound code → AreLineNumbers code → linked_for cpu code ≡ Ok image → AreBytes image.payload → (main : ℕ) → IsMain code main
+    → (args : List (List ℕ)) (input : List ℕ) (test : Shown → Seen → Bool) (w : ℕ) → All AreBytes args → AreBytes input → arguments_size args ≤ 1024 → IsRuntime (runtime_in code args)
     → ((t : State) → IsStart code (place_in code) args input t → ComesFrom (setting_of code (place_in code)) main test w t)
     → Reaches image args input test w

@@ -3,4 +3,4 @@
 
 mod laws;
 
-pub use laws::plain_images_follow;
+pub use laws::images_follow;

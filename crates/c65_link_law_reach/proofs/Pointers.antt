@@ -71,15 +71,12 @@ use Rattle.c65_link_law_laid.proofs.Linked.{routine_there}
 use Rattle.c65_link.specs.Bytes.{callee_address}
 use Rattle.c65_link_law_reach.proofs.Local.{keeps_all}
 use Rattle.c65_link_law_reach.proofs.Calls.{back_of, laid_at, line_at, called_at, entered, on_entered, entered_running, entered_callers, enters_function, function_there, function_entry, enter_steps, routine_steps, run_steps, library_steps}
-use Rattle.c65_link_law_reach.proofs.Units.{runtime_same}
+use Rattle.c65_link_law_reach.proofs.Units.{raw_routine}
 use Rattle.c65_link_law_reach.proofs.Local.{local_steps}
 
 -- two functions at one address are one
 same_callee : (code : Code) (t : State) (f h : ℕ) → IsPlacement code (place_in code) → IsCallee (lines_setting code) t f → IsCallee (lines_setting code) t h → h ≡ f
 same_callee code t f h place one other = place.function_own h f other.0 one.0 (other.1 ∙ sym one.1)
-
-raw_routine : (code : Code) (args : List (List ℕ)) (r : Routine) → (raw_in code args).lines (length code.symbols + number_of r) ≡ routine_lines r
-raw_routine code args r = sym (runtime_same code args r) ∙ routine_at code args r
 
 -- where the jump through ptr4 has led
 record Jumped (cpu : Cpu) (code : Code) (image : Image) (args : List (List ℕ)) (setting : Setting) (f : ℕ) (p : Place) (t : State) (now : Moment) : Type 0 where

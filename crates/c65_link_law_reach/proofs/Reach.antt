@@ -94,6 +94,7 @@ image_known cpu code image args setting runs s numbers linked_is set runtime =
       ground = main.0;
       laid = main.1;
       start_ground = first.0;
+      start_units = first.1;
       start_laid = first.1 (start_number code) (start refl) (λ e. omega (arith, e), λ e. omega (arith, e));
       units = are_units code args m (code_ground cpu code image) refl refl main.1 (λ f l h e. library_chosen cpu code image args f l s linked_is h e);
       library = λ f l h e. library_chosen cpu code image args f l s linked_is h e;
@@ -109,7 +110,7 @@ one_more q seen f p = by ((f == q.0) && (p == q.1))
     by false = omega arith
 
 -- a test that holds of what is shown
-same_shown : (test : Shown → Seen → Bool) (seen : Seen) (t : State) (output : List ℕ) (ended : Option ℕ) → t.output ≡ output → t.ended ≡ ended → IsTrue (test (shown_by t) seen) → IsTrue (test (record { output = output; ended = ended }) seen)
+pub same_shown : (test : Shown → Seen → Bool) (seen : Seen) (t : State) (output : List ℕ) (ended : Option ℕ) → t.output ≡ output → t.ended ≡ ended → IsTrue (test (shown_by t) seen) → IsTrue (test (record { output = output; ended = ended }) seen)
 same_shown test seen t output ended e f h =
     subst (λ (o : Option ℕ). IsTrue (test (record { output = output; ended = o }) seen)) f (subst (λ (xs : List ℕ). IsTrue (test (record { output = xs; ended = t.ended }) seen)) e h)
 

@@ -68,6 +68,7 @@ pub record Image_ (cpu : Cpu) (code : Code) (image : Image) (args : List (List �
   pub ground : IsGround (code_ground cpu code image) (raw_in code args)
   pub laid : (f : ℕ) → IsUnit code f → IsNoStart code f → IsLaid (code_ground cpu code image) (raw_in code args) f
   pub start_ground : IsGround (ground_in cpu code image 255 None) (raw_in code args)
+  pub start_units : (f : ℕ) → IsUnit code f → IsNoStart code f → IsLaid (ground_in cpu code image 255 None) (raw_in code args) f
   pub start_laid : IsLaid (ground_in cpu code image 255 None) (raw_in code args) (start_number code)
   pub units : AreUnits (code_ground cpu code image) (runtime_in code args) (units_in code)
   pub library : (f : ℕ) (l : Library) → IsTrue (is_function_of code f) → (raw_in code args).library f ≡ Some l → IsChosen code (routines.Library l)

@@ -1,7 +1,7 @@
 -- The runtime of a linked code, by itself.
-use Rattle.std.proofs.Common.{◌≡◌, ℕ, zero, suc, ◌+◌, ◌<◌, ◌≤◌, ◌==◌, ◌&&◌, ◌||◌, ◌⊎◌, inl, inr, not, Bool, true, false, nat_lt, nat_eq, if◌then◌else◌, IsTrue, List, [], ◌∷◌, Option, Some, None, unwrap_or, length, slice_get, slice_index, refl, ap, sym, ◌∙◌, subst, arith, ltb-true, eqb-true}
+use Rattle.std.proofs.Common.{◌≡◌, ℕ, zero, suc, ◌+◌, ◌-◌, ◌<◌, ◌≤◌, ◌==◌, ◌&&◌, ◌||◌, ◌⊎◌, inl, inr, not, Bool, true, false, nat_lt, nat_eq, if◌then◌else◌, IsTrue, List, [], ◌∷◌, Option, Some, None, unwrap_or, length, slice_get, slice_index, refl, ap, sym, ◌∙◌, subst, arith, ltb-true, eqb-true}
 use Rattle.std.specs.List.{list_all, list_any}
-use Rattle.std.proofs.lemmas.Bool.{and_parts, and_from, or_cases, or_left, or_right, lt-ltb, le-ltb, eq-eqb, not-true}
+use Rattle.std.proofs.lemmas.Bool.{cases_lt, ne_eqb, and_parts, and_from, or_cases, or_left, or_right, lt-ltb, le-ltb, eq-eqb, not-true}
 use Rattle.c65_base.specs.declared.library.Library.{Library}
 use Rattle.c65_mach.specs.declared.rows.Op.{Op}
 use Rattle.c65_mach.specs.declared.rows.Op.TheVariants as ops
@@ -20,7 +20,7 @@ use Rattle.c65_code.specs.declared.line.Line.{Line}
 use Rattle.c65_code.specs.declared.line.Line.TheVariants.{Label, Do, Call}
 use Rattle.c65_code.specs.declared.code.Code.{Code}
 use Rattle.c65_code.specs.LineState.{Place, State}
-use Rattle.c65_code.specs.Placement.{is_function_of}
+use Rattle.c65_code.specs.Placement.{is_function_of, segment_of}
 use Rattle.c65_code.specs.Segments.{labels_of, is_among}
 use Rattle.c65_code.specs.Moves.{labelled, settle}
 use Rattle.c65_code.specs.Forms.{Form, Run, Enter, Through, Plain, op_form, move_form, jump_form, branch_form, form_of}
@@ -29,7 +29,9 @@ use Rattle.c65_link.specs.Bytes.{Spot, callee_address}
 use Rattle.c65_link.specs.Runtime.{has_lines, routine_lines}
 use Rattle.c65_link_law.specs.Coded.{Memory}
 use Rattle.c65_link_law.specs.Placed.{routines_in}
-use Rattle.c65_link_law_spots.specs.Places.{base_in, spot_in}
+use Rattle.c65_link_law_spots.specs.Places.{routine_count, lines_by, runtime_lines, base_in, spot_in}
+use Rattle.c65_link.specs.Linked.{entry_of as entry_routine}
+use Rattle.c65_code.proofs.RoutineNumbers.{routines_are_numbered}
 use Rattle.c65_link_law_spots.specs.Laws.{IsChosen, CallsRoutine, AreUsesChosen, IsUnit, routine}
 use Rattle.c65_link_law_spots.proofs.Marks.{numbered}
 use Rattle.c65_link_law_spots.proofs.Uses.{uses_are_chosen}
@@ -53,7 +55,7 @@ leads_same g s lines spot (Call (callees.Routine r)) same h = h ∙ ap (unwrap_o
 leads_same g s lines spot (Call (callees.Function f reads gives)) same h = λ i. h i ∙ same (target_of s (s.library f.0) f.0)
 leads_same g s lines spot (Call (callees.Pointer reads gives)) same h = h ∙ same (s.routine routines.CallPtr4)
 
-laid_same : (g : Ground) (s : RawSetting) (lines : ℕ → List Line) (f : ℕ) → lines f ≡ s.lines f → ((n : ℕ) → g.at (entry_of s n) ≡ g.at (n, settle (lines n) 0)) → IsLaid g s f → IsLaid g (record s { lines = lines }) f
+pub laid_same : (g : Ground) (s : RawSetting) (lines : ℕ → List Line) (f : ℕ) → lines f ≡ s.lines f → ((n : ℕ) → g.at (entry_of s n) ≡ g.at (n, settle (lines n) 0)) → IsLaid g s f → IsLaid g (record s { lines = lines }) f
 laid_same g s lines f e same laid =
     record {
       spot = laid.spot;
@@ -72,10 +74,10 @@ laid_same g s lines f e same laid =
     back p l here = ap (λ (ls : List Line). slice_get ls p) (sym e) ∙ here
 
 -- a unit without lines
-nothing_there : {P : Type 0} (lines : List Line) (p : ℕ) (l : Line) → lines ≡ [] → slice_get lines p ≡ Some l → P
+pub nothing_there : {P : Type 0} (lines : List Line) (p : ℕ) (l : Line) → lines ≡ [] → slice_get lines p ≡ Some l → P
 nothing_there lines p l e h = (let z : ◌≡◌ {A = Option Line} None (Some l) = ap (λ (ls : List Line). slice_get ls p) (sym e) ∙ h in absurd cc)
 
-empty_laid : (g : Ground) (s : RawSetting) (spot : Spot) (f : ℕ) → s.lines f ≡ [] → IsLaid g s f
+pub empty_laid : (g : Ground) (s : RawSetting) (spot : Spot) (f : ℕ) → s.lines f ≡ [] → IsLaid g s f
 empty_laid g s spot f e = record {
   spot = spot;
   coded = λ p l here. nothing_there (s.lines f) p l e here;
@@ -255,25 +257,45 @@ known code f h = by (or_cases (nat_lt f (length code.symbols)) (list_any (is_uni
 pub routine_at : (code : Code) (args : List (List ℕ)) (r : Routine) → (runtime_in code args).lines (length code.symbols + number_of r) ≡ routine_lines r
 routine_at code args r =
     let f : ℕ = length code.symbols + number_of r in
-    let low = numbered r in
-    ap (λ (b : Bool). if b then [] else unit_lines code f) (le-ltb f (length code.symbols) (omega arith)) ∙ not_the_start code f (λ h. omega (arith, low, h)) ∙ routine_there code r
+    ap (λ (b : Bool). if b then [] else lines_by (slice_get ALL (f - length code.symbols))) (le-ltb f (length code.symbols) (omega arith))
+    ∙ ap (λ (n : ℕ). lines_by (slice_get ALL n)) (let e : f - length code.symbols ≡ number_of r = omega arith in e) ∙ ap lines_by (routines_are_numbered r)
 
-pub runtime_same : (code : Code) (args : List (List ℕ)) (r : Routine) → (runtime_in code args).lines (length code.symbols + number_of r) ≡ (raw_in code args).lines (length code.symbols + number_of r)
-runtime_same code args r =
-    let f : ℕ = length code.symbols + number_of r in
-    ap (λ (b : Bool). if b then [] else unit_lines code f) (le-ltb f (length code.symbols) (omega arith))
+pub raw_routine : (code : Code) (args : List (List ℕ)) (r : Routine) → (raw_in code args).lines (length code.symbols + number_of r) ≡ routine_lines r
+raw_routine code args r = (let low = numbered r in not_the_start code (length code.symbols + number_of r) (λ h. omega (arith, low, h)) ∙ routine_there code r)
+
+-- a number that is not below another
+not_less : (a b : ℕ) → nat_lt a b ≡ false → b ≤ a
+not_less a b e = by (cases_lt a b)
+  where
+    by : (a < b) ⊎ (b ≤ a) → b ≤ a
+    by (inl l) = (let z : true ≡ false = sym (lt-ltb a b l) ∙ e in absurd cc)
+    by (inr l) = l
 
 -- a unit's first line has one address
 pub entry_same : (code : Code) (args : List (List ℕ)) (m : Memory) (n : ℕ) → place_at code m (entry_of (raw_in code args) n) ≡ place_at code m (n, settle ((runtime_in code args).lines n) 0)
-entry_same code args m n = by (nat_lt n (length code.symbols)) refl
+entry_same code args m n = by (nat_lt n (length code.symbols)) refl (n == start_number code) refl
   where
-    by : (b : Bool) → nat_lt n (length code.symbols) ≡ b → place_at code m (entry_of (raw_in code args) n) ≡ place_at code m (n, settle ((runtime_in code args).lines n) 0)
-    by true e =
-        let first : place_at code m (n, settle (unit_lines code n) 0) ≡ place_at code m (n, 0) = ap (kept_in code) (settled_at (unit_lines code n) m (base_in code n) 0) in
-        first ∙ ap (λ (b : Bool). place_at code m (n, settle (if b then [] else unit_lines code n) 0)) (sym e)
-    by false e = ap (λ (b : Bool). place_at code m (n, settle (if b then [] else unit_lines code n) 0)) (sym e)
+    first : place_at code m (n, settle (unit_lines code n) 0) ≡ place_at code m (n, 0)
+    first = ap (kept_in code) (settled_at (unit_lines code n) m (base_in code n) 0)
 
-no_start : (code : Code) (r : Routine) → is_start r ≡ false → IsNoStart code (length code.symbols + number_of r)
+    lineless : (runtime_in code args).lines n ≡ [] → place_at code m (entry_of (raw_in code args) n) ≡ place_at code m (n, settle ((runtime_in code args).lines n) 0)
+    lineless e = first ∙ ap (λ (ls : List Line). place_at code m (n, settle ls 0)) (sym e)
+
+    by : (b : Bool) → nat_lt n (length code.symbols) ≡ b → (c : Bool) → (n == start_number code) ≡ c → place_at code m (entry_of (raw_in code args) n) ≡ place_at code m (n, settle ((runtime_in code args).lines n) 0)
+    by true e c f = lineless (ap (λ (b : Bool). if b then [] else lines_by (slice_get ALL (n - length code.symbols))) e)
+    by false e true f =
+        let same : n ≡ start_number code = eqb-true n (start_number code) f in
+        lineless (ap (λ (b : Bool). if b then [] else lines_by (slice_get ALL (n - length code.symbols))) e ∙ ap (λ (k : ℕ). lines_by (slice_get ALL k)) (let z : n - length code.symbols ≡ 123 = omega (arith, same) in z))
+    by false e false f =
+        let other : n ≡ start_number code → ⊥ = λ same. (let z : true ≡ false = sym (eq-eqb n (start_number code) same) ∙ f in absurd cc) in
+        let beyond : n - length code.symbols ≡ routine_count → ⊥ = λ h. (let low = not_less n (length code.symbols) e in other (omega (arith, low, h))) in
+        let own : unit_lines code n ≡ (runtime_in code args).lines n = not_the_start code n other
+            ∙ ap (λ (b : Bool). if b then (segment_of code.functions n).lines else runtime_lines code (n - length code.symbols)) e
+            ∙ ap (λ (b : Bool). if b then routine_lines (entry_routine code) else lines_by (slice_get ALL (n - length code.symbols))) (ne_eqb (n - length code.symbols) routine_count beyond)
+            ∙ sym (ap (λ (b : Bool). if b then [] else lines_by (slice_get ALL (n - length code.symbols))) e) in
+        ap (λ (ls : List Line). place_at code m (n, settle ls 0)) own
+
+pub no_start : (code : Code) (r : Routine) → is_start r ≡ false → IsNoStart code (length code.symbols + number_of r)
 no_start code r h = (λ e. other (number_of r) h (omega (arith, e)), λ e. one (number_of r) h (omega (arith, e)))
   where
     other : (n : ℕ) → nat_lt n 2 ≡ false → n ≡ 0 → ⊥
@@ -290,7 +312,7 @@ line_of : (code : Code) (args : List (List ℕ)) (f p : ℕ) (l : Line) → IsTr
 line_of code args f p l unit here = by (known code f unit)
   where
     by : Known code f → (r : Routine) × IsChosen code r × (is_start r ≡ false) × (slice_get (routine_lines r) p ≡ Some l)
-    by (of_function e) = nothing_there ((runtime_in code args).lines f) p l (ap (λ (b : Bool). if b then [] else unit_lines code f) e) here
+    by (of_function e) = nothing_there ((runtime_in code args).lines f) p l (ap (λ (b : Bool). if b then [] else lines_by (slice_get ALL (f - length code.symbols))) e) here
     by (of_routine r chosen inner is) = (r, chosen, inner, ap (λ (ls : List Line). slice_get ls p) (sym (ap (runtime_in code args).lines is ∙ routine_at code args r)) ∙ here)
 
 pub are_units : (code : Code) (args : List (List ℕ)) (m : Memory) (g : Ground) → g.at ≡ place_at code m → g.top ≡ 253 → ((f : ℕ) → IsUnit code f → IsNoStart code f → IsLaid g (raw_in code args) f)
@@ -303,17 +325,17 @@ are_units code args m g at top laid library =
           let c = inner_call l routines.HookArgs (inner_lines k.0 p l k.2 k.3) (run_calls l routines.HookArgs is) in let z : true ≡ false = c.1 in absurd cc);
       called = λ f p l r h here is lines. (let k = line_of code args f p l h here in called_by l r k.0 p k.1 k.2 k.3 (run_calls l r is) (lined r lines));
       through = λ f p l reads gives h here is. (let k = line_of code args f p l h here in called_by l routines.CallPtr4 k.0 p k.1 k.2 k.3 (through_calls l reads gives is) refl);
-      functions = λ f h. function_by f h ((raw_in code args).library f) refl;
+      functions = λ f p h l unit here goes is. function_by h is ((raw_in code args).library h) refl;
     }
   where
     same : (n : ℕ) → g.at (entry_of (raw_in code args) n) ≡ g.at (n, settle ((runtime_in code args).lines n) 0)
     same n = subst (λ (f : Place → ℕ). f (entry_of (raw_in code args) n) ≡ f (n, settle ((runtime_in code args).lines n) 0)) (sym at) (entry_same code args m n)
 
     laid_by : (f : ℕ) → Known code f → IsLaid g (runtime_in code args) f
-    laid_by f (of_function e) = empty_laid g (runtime_in code args) (spot_in code f) f (ap (λ (b : Bool). if b then [] else unit_lines code f) e)
+    laid_by f (of_function e) = empty_laid g (runtime_in code args) (spot_in code f) f (ap (λ (b : Bool). if b then [] else lines_by (slice_get ALL (f - length code.symbols))) e)
     laid_by f (of_routine r chosen inner is) =
         let n : ℕ = length code.symbols + number_of r in
-        subst (λ (k : ℕ). IsLaid g (runtime_in code args) k) (sym is) (laid_same g (raw_in code args) (runtime_in code args).lines n (runtime_same code args r) same (laid n (routine r chosen refl) (no_start code r inner)))
+        subst (λ (k : ℕ). IsLaid g (runtime_in code args) k) (sym is) (laid_same g (raw_in code args) (runtime_in code args).lines n (routine_at code args r ∙ sym (raw_routine code args r)) same (laid n (routine r chosen refl) (no_start code r inner)))
 
     called_by : (l : Line) (r q : Routine) (p : ℕ) → IsChosen code q → is_start q ≡ false → slice_get (routine_lines q) p ≡ Some l → CallsRoutine l r → IsTrue (has_lines r) → IsTrue (units_in code (length code.symbols + number_of r))
     called_by l r q p chosen inner here calls lines =

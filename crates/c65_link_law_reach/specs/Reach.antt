@@ -1,20 +1,22 @@
 -- What the image of a code comes to.
-use Rattle.std.specs.Prelude.{◌≡◌, ℕ, ◌+◌, ◌<◌, ◌≤◌, Bool, false, IsTrue, nat_lt, if◌then◌else◌, All, List, [], length, Some, None}
+use Rattle.std.specs.Prelude.{◌≡◌, ℕ, ◌+◌, ◌-◌, ◌<◌, ◌≤◌, Bool, false, IsTrue, nat_lt, if◌then◌else◌, All, List, [], length, slice_get, Some, None}
 use Rattle.c65_base.specs.declared.options.Cpu.{Cpu}
 use Rattle.c65_mach.specs.declared.image.Image.{Image}
 use Rattle.c65_mach.specs.State.{read, loaded_memory}
 use Rattle.c65_mach.specs.Run.{Setting, Moment, Ended, turn}
 use Rattle.c65_sim.specs.Budgets.{is_too_deep}
+use Rattle.c65_code.specs.declared.routine.TheConstants.Routine.{ALL}
 use Rattle.c65_code.specs.declared.code.Code.{Code}
 use Rattle.c65_code.specs.LineState.{Place, Frame}
 use Rattle.c65_code.specs.Comes.{Seen, Shown}
 use Rattle.c65_code.specs.RawMachine.{RawSetting}
 use Rattle.c65_link_law_follow.specs.Agree.{Ground, Goes}
-use Rattle.c65_link_law_laid.specs.Linked.{start_number, unit_lines, raw_in, place_at, ground_in}
+use Rattle.c65_link_law_spots.specs.Places.{lines_by}
+use Rattle.c65_link_law_laid.specs.Linked.{start_number, raw_in, place_at, ground_in}
 
--- The runtime alone: functions have no lines here, so that a run of a routine ends where it leaves the runtime.
+-- The runtime alone: functions and the start have no lines here, so that a run of a routine ends where it leaves the runtime.
 abbrev pub runtime_in : Code → List (List ℕ) → RawSetting
-runtime_in code args = record (raw_in code args) { lines = λ f. if nat_lt f (length code.symbols) then [] else unit_lines code f }
+runtime_in code args = record (raw_in code args) { lines = λ f. if nat_lt f (length code.symbols) then [] else lines_by (slice_get ALL (f - length code.symbols)) }
 
 -- the call of `exit` in the start, behind that of main
 abbrev pub exit_place : Code → Place

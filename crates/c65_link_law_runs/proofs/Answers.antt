@@ -239,7 +239,7 @@ drop_taken zero xs = refl
 drop_taken (suc n) [] = refl
 drop_taken (suc n) (x ∷ xs) = drop_taken n xs
 
-written_both : (xs ys : List (ℕ × ℕ)) (m : Bytes) → written m (xs ++ ys) ≡ written (written m xs) ys
+pub written_both : (xs ys : List (ℕ × ℕ)) (m : Bytes) → written m (xs ++ ys) ≡ written (written m xs) ys
 written_both [] ys m = refl
 written_both (x ∷ xs) ys m = written_both xs ys (write m x.0 x.1)
 

@@ -19,7 +19,7 @@ use Rattle.c65_link_law_follow.specs.Agree.{Ground, Agrees, Goes, none, more}
 use Rattle.c65_link_law_follow.specs.Laid.{IsLaid, IsGround, hook_address}
 use Rattle.c65_link_law_follow.specs.Laws.{IsCounted}
 use Rattle.c65_link_law_runs.specs.Follows.{Follows, goes_on, has_ended, IsSetFor, IsRunning, HasArgumentRoom}
-use Rattle.c65_link_law_runs.specs.Laws.{Leads, AreUnits, IsAmong, HasCome, RunsAreFollowed}
+use Rattle.c65_link_law_runs.specs.Laws.{Leads, LeadsToFunction, AreUnits, IsAmong, HasCome, RunsAreFollowed}
 use Rattle.c65_link_law_runs.proofs.Kept.{Stays, effect_stays}
 use Rattle.c65_link_law_runs.proofs.Moves.{moves_are_followed}
 
@@ -131,7 +131,7 @@ form_unit (Plain op mode operand) g s units p q t u l are a at is h =
 form_unit (Branch op k) g s units p q t u l are a at is h = same_frames units p q t u a (ap (λ (x : Place). x.0) h.0) (ap (λ (x : State). x.frames) h.1)
 form_unit (Jump k) g s units p q t u l are a at is h = same_frames units p q t u a (ap (λ (x : Place). x.0) h.0) (ap (λ (x : State). x.frames) h.1)
 form_unit (Far i) g s units p q t u l are a at is h = record {
-  place = subst (λ (x : Place). IsTrue (units x.0)) (sym h.3) (are.functions h.0 h.1);
+  place = subst (λ (x : Place). IsTrue (units x.0)) (sym h.3) (are.functions p.0 p.1 h.0 l a.place at (subst LeadsToFunction (sym is) tt) h.1);
   frames = subst (λ (x : State). All (IsOneOf units) x.frames) (sym h.4) a.frames;
 }
 form_unit Push g s units p q t u l are a at is h = same_frames units p q t u a (ap (λ (x : Place). x.0) h.0) (ap (λ (x : State). x.frames) h.1)
@@ -139,7 +139,7 @@ form_unit Pull g s units p q t u l are a at is h = same_frames units p q t u a (
 form_unit Depth g s units p q t u l are a at is h = same_frames units p q t u a (ap (λ (x : Place). x.0) h.0) (ap (λ (x : State). x.frames) h.1)
 form_unit Return g s units p q t u l are a at is h = returns_unit units t.frames t q u a.frames h
 form_unit (Enter f reads gives) g s units p q t u l are a at is h =
-    calls_unit units s (target_of s (s.library f) f) p q t u a (are.functions f (subst (λ (x : Form). IsCounted g s x) is (are.counted p.0 p.1 l a.place at))) h
+    calls_unit units s (target_of s (s.library f) f) p q t u a (are.functions p.0 p.1 f l a.place at (subst LeadsToFunction (sym is) tt) (subst (λ (x : Form). IsCounted g s x) is (are.counted p.0 p.1 l a.place at))) h
 form_unit (Through reads gives) g s units p q t u l are a at is h = calls_unit units s (s.routine routines.CallPtr4) p q t u a (are.through p.0 p.1 l reads gives a.place at is) h
 form_unit (Run r) g s units p q t u l are a at is h = runs_unit g s units p q t u l r are a at is h
 

@@ -7,7 +7,7 @@ use Rattle.c65_code.specs.declared.routine.Routine.TheVariants as routines
 use Rattle.c65_code.specs.declared.line.Line.{Line}
 use Rattle.c65_code.specs.LineState.{Place, State, Frame, IsBytes}
 use Rattle.c65_code.specs.Placement.{stack_start}
-use Rattle.c65_code.specs.Forms.{Run, Through, form_of}
+use Rattle.c65_code.specs.Forms.{Form, Far, Run, Enter, Through, form_of}
 use Rattle.c65_code.specs.Rows.{Row}
 use Rattle.c65_code.specs.RawMachine.{RawSetting, Bounds, RawMoves, RawComes, IsRawWithin, HasDone, raw_weight, target_of}
 use Rattle.c65_link_law_follow.specs.Agree.{Ground, Agrees}
@@ -27,6 +27,12 @@ MovesAreFollowed = (g : Ground) (s : RawSetting) (setting : Setting) (bounds : B
     → IsRunning t → stack_start ≤ bounds.soft → IsRawWithin s bounds (form_of l) t → Agrees g (g.at (f, p)) t now
     → Follows g setting 1 (raw_weight (form_of l)) now (Leads s l (f, p) t)
 
+-- a line that leads to a function by its address or its symbol
+abbrev pub LeadsToFunction : Form → Type 0
+LeadsToFunction (Far i) = Unit {0}
+LeadsToFunction (Enter f reads gives) = Unit {0}
+LeadsToFunction _ = ⊥
+
 -- The units that a run may come to: their lines stand in memory and ask for nothing beside the bounds, and what they call is
 -- among them.
 pub record AreUnits (g : Ground) (s : RawSetting) (units : ℕ → Bool) : Type 0 where
@@ -35,7 +41,7 @@ pub record AreUnits (g : Ground) (s : RawSetting) (units : ℕ → Bool) : Type 
   pub no_arguments : (f p : ℕ) (l : Line) → IsTrue (units f) → slice_get (s.lines f) p ≡ Some l → form_of l ≡ Run routines.HookArgs → ⊥
   pub called : (f p : ℕ) (l : Line) (r : Routine) → IsTrue (units f) → slice_get (s.lines f) p ≡ Some l → form_of l ≡ Run r → hook_address r ≡ None → IsTrue (units (s.routine r))
   pub through : (f p : ℕ) (l : Line) (reads gives : RegSet) → IsTrue (units f) → slice_get (s.lines f) p ≡ Some l → form_of l ≡ Through reads gives → IsTrue (units (s.routine routines.CallPtr4))
-  pub functions : (f : ℕ) → IsTrue (s.is_function f) → IsTrue (units (target_of s (s.library f) f))
+  pub functions : (f p h : ℕ) (l : Line) → IsTrue (units f) → slice_get (s.lines f) p ≡ Some l → LeadsToFunction (form_of l) → IsTrue (s.is_function h) → IsTrue (units (target_of s (s.library h) h))
 
 -- the machine stands in one of the units, and each active call goes back to one
 pub record IsAmong (units : ℕ → Bool) (q : Place) (u : State) : Type 0 where

@@ -1,5 +1,5 @@
 -- The families of rules, and their turns.
-use Rattle.std.proofs.Common.{◌≡◌, ℕ, ◌+◌, ◌<◌, ◌≤◌, arith}
+use Rattle.std.proofs.Common.{ℕ, arith}
 use Rattle.c65_pass.specs.Rounds.{InTurn, AreGood}
 use Rattle.c65_optarith.proofs.Good.{arith_good}
 use Rattle.c65_optflow.proofs.Good.{flow_good}

@@ -1,10 +1,9 @@
 -- Each of the rules keeps what rewritings keep.
-use Rattle.std.proofs.Common.{◌≡◌, ℕ, ◌+◌, List, [], ◌∷◌, drop, Some, refl}
+use Rattle.std.proofs.Common.{◌≡◌, ℕ, ◌+◌, List, [], ◌∷◌, drop, Some}
 use Rattle.std.specs.Prelude.{slice_get}
 use Rattle.c65_code.specs.declared.line.Line.{Line}
 use Rattle.c65_code.specs.declared.line.Sym.{Sym}
 use Rattle.c65_code.specs.Segments.{IsSegment}
-use Rattle.c65_know.specs.Known.{Annotated}
 use Rattle.c65_live.specs.Tables.{Table}
 use Rattle.c65_pass.specs.LoadRules.{is_idle_load, is_dead_load, is_dead_store, is_reload, is_restore, is_overwritten, is_dead_transfer, is_idle_transfer, is_back, transferred, is_idle_byte_load, is_idle_store, stepped, loaded_on, reload, restore, overwritten, back, moved_on}
 use Rattle.c65_pass.specs.Passes.{IsGood}

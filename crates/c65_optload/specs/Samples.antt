@@ -9,7 +9,6 @@ use Rattle.c65_code.specs.declared.line.Line.{Line}
 use Rattle.c65_code.specs.declared.line.Line.TheVariants.{Do}
 use Rattle.c65_code.specs.Parts.{no_parts, all_parts}
 use Rattle.c65_know.specs.Known.{annotated}
-use Rattle.c65_live.specs.Tables.{Table}
 use Rattle.c65_pass.specs.Rewriting.{Rewriting}
 use Rattle.c65_pass.specs.Rules.{match_at}
 

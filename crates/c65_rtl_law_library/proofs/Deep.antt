@@ -1,13 +1,12 @@
 -- States within a routine that pushes: how far the sp is below that of the call, and what memory is.
-use Rattle.std.proofs.Common.{◌≡◌, ◌≢◌, ℕ, ◌+◌, ◌-◌, ◌*◌, ◌<◌, ◌≤◌, ◌⊎◌, inl, inr, List, [], ◌∷◌, ◌++◌, All, Option, None, refl, sym, ap, subst, ◌∙◌, arith}
+use Rattle.std.proofs.Common.{◌≡◌, ◌≢◌, ℕ, ◌+◌, ◌-◌, ◌≤◌, inr, List, [], ◌∷◌, ◌++◌, All, None, refl, ◌∙◌, arith}
 use Rattle.std.proofs.lemmas.List.{append-nil}
 use Rattle.std.proofs.lemmas.List.Elements.{All-nil, All-cons}
 use Rattle.c65_code.specs.declared.routine.Count.TheVariants.{One}
-use Rattle.c65_code.specs.LineState.{Place, State, Bytes, write, sp_of, IsBytes}
+use Rattle.c65_code.specs.LineState.{State, Bytes, write, sp_of}
 use Rattle.c65_code.specs.Placement.{Placement, stack_end}
-use Rattle.c65_code.specs.Rows.{Row, Meets}
+use Rattle.c65_code.specs.Rows.{Meets}
 use Rattle.c65_code.specs.RawMachine.{Bounds, IsReachable}
-use Rattle.c65_rtl.proofs.Pushes.{write_where, write_cong}
 use Rattle.c65_rtl.proofs.Stores.{write_like}
 use Rattle.c65_rtl_law_inner.proofs.Kept.{kept_from}
 use Rattle.c65_rtl_law_inner.proofs.Pops.{above_or_below}

@@ -2,3 +2,4 @@ pub mod Deep
 pub mod Steps
 pub mod Putchar
 pub mod Getchar
+pub mod Puts

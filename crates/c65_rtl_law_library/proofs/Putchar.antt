@@ -1,32 +1,25 @@
 -- `putchar` (C90 7.9.7.9)
-use Rattle.std.proofs.Common.{◌≡◌, ◌≢◌, ℕ, suc, ◌+◌, ◌-◌, ◌*◌, ◌/◌, ◌%◌, ◌<◌, ◌≤◌, ◌⊎◌, inl, inr, Bool, true, false, List, [], ◌∷◌, ◌++◌, All, Option, Some, None, nat_eq, length, refl, sym, ap, subst, ◌∙◌, arith}
-use Rattle.std.specs.Prelude.{◌==◌, if◌then◌else◌, nat_lt}
+use Rattle.std.proofs.Common.{◌≡◌, ℕ, ◌+◌, ◌-◌, ◌*◌, ◌≤◌, Bool, List, [], ◌∷◌, ◌++◌, length, refl, sym, ap, subst, ◌∙◌, arith}
+use Rattle.std.specs.Prelude.{◌==◌, if◌then◌else◌}
 use Rattle.std.proofs.lemmas.List.{append-nil}
-use Rattle.std.proofs.lemmas.List.Elements.{All-nil}
 use Rattle.c65_base.specs.declared.library.Library.TheVariants.{Putchar}
-use Rattle.c65_mach.specs.declared.rows.Op.TheVariants.{Lda, Ldx, Rts, Sta}
-use Rattle.c65_code.specs.declared.routine.Routine.{Routine}
 use Rattle.c65_code.specs.declared.routine.Routine.TheVariants as routines
 use Rattle.c65_code.specs.declared.routine.Width.TheVariants.{Ax}
 use Rattle.c65_code.specs.declared.line.Line.{Line}
-use Rattle.c65_code.specs.LineState.{Place, State, Bytes, write, word_at, sp_of, ax_of, IsBytes}
-use Rattle.c65_code.specs.Placement.{stack_end}
+use Rattle.c65_code.specs.LineState.{Place, State, write, word_at, sp_of, ax_of, IsBytes}
 use Rattle.c65_code.specs.Texts.{bytes_at, range_of}
-use Rattle.c65_code.specs.Rows.{Row, Meets, row_by, giving, popping, costing}
-use Rattle.c65_code.specs.RawMachine.{RawSetting, Bounds, IsReachable, LieLow, called, quiet, write_hook, RawComes, HasDone, entry_of}
-use Rattle.c65_rtl.specs.Assembly.{sp, ptr1, implied, value, zero_page, call}
+use Rattle.c65_code.specs.Rows.{Row, row_by, giving, popping, costing}
+use Rattle.c65_code.specs.RawMachine.{RawSetting, Bounds, IsReachable, called, quiet, write_hook}
+use Rattle.c65_rtl.specs.Assembly.{call}
 use Rattle.c65_rtl.proofs.Ways.{Ends}
 use Rattle.c65_rtl.proofs.Meeting.{write_other, ends_by}
-use Rattle.c65_rtl.proofs.Pushes.{write_same}
-use Rattle.c65_rtl_law_walks.specs.Inside.{MayRunIn}
-use Rattle.c65_rtl_law_walks.proofs.Walks.{Takes, Calls, Hooks, leads_in, weight_in, walks_calling}
+use Rattle.c65_rtl_law_walks.proofs.Walks.{Hooks, leads_in, weight_in, walks_calling}
 use Rattle.c65_rtl_law_walks.proofs.Meets.{met_within}
 use Rattle.c65_rtl_law_inner.proofs.Straight.{ComesIn, meets_loud}
 use Rattle.c65_rtl_law_inner.proofs.Kept.{kept_from}
 use Rattle.c65_rtl_law_inner.proofs.Pops.{above_or_below}
-use Rattle.c65_rtl_law_inner.proofs.Beside.{returns, outside, values, rewritten}
-use Rattle.c65_rtl_law_inner.proofs.Pushes.{pusha_row, pushax_row, push_byte_comes, push_word_comes}
-use Rattle.c65_rtl_law_inner.proofs.Loads.{popa_row, pop_byte_comes}
+use Rattle.c65_rtl_law_inner.proofs.Beside.{outside, values, rewritten}
+use Rattle.c65_rtl_law_inner.proofs.Pushes.{pushax_row}
 use Rattle.c65_rtl_law_library.specs.Rows.{Holds, CharactersAreWritten}
 use Rattle.c65_rtl_law_library.proofs.Deep.{Deep, open_below, all_one, all_four}
 use Rattle.c65_rtl_law_library.proofs.Steps.{takes, Forward, one_on, one, one_at, pointed_on, pointing, pointed_at, noted_on, noted, noted_at, end_on, end_at, with_byte, with_file, with_all, Found, found, spoken_of, Within, word_calls, byte_calls, pop_calls}

@@ -1,5 +1,5 @@
 // Laws, each the contract of a function that does nothing.
-ghost use Rattle.c65_rtl_law_library.specs.Rows.{CharactersAreRead, CharactersAreWritten};
+ghost use Rattle.c65_rtl_law_library.specs.Rows.{CharactersAreRead, CharactersAreWritten, LinesAreWritten};
 
 /// Wherever the lines of `putchar`, `pusha`, `pushax` and `popa` stand under their numbers, each call of `putchar` that its row
 /// admits does what the row says: it writes the byte by the simulator's hook and comes back with it, in fewer instructions than
@@ -12,4 +12,10 @@ pub fn characters_are_written()
 /// with -1 where none is left.
 pub fn characters_are_read()
     ensures { CharactersAreRead }
+{}
+
+/// So it is with `puts`, which calls `strlen`, `ldaxysp`, `incsp4` and `putchar` too: it writes the text and a line feed, and comes
+/// back with 0.
+pub fn lines_are_written()
+    ensures { LinesAreWritten }
 {}

@@ -3,4 +3,4 @@
 
 mod laws;
 
-pub use laws::{characters_are_read, characters_are_written};
+pub use laws::{characters_are_read, characters_are_written, lines_are_written};

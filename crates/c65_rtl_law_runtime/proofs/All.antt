@@ -2,7 +2,7 @@
 use Rattle.std.proofs.Common.{◌≡◌, IsTrue, false, Some, None, refl}
 use Rattle.c65_base.specs.declared.library.Library.{Library}
 use Rattle.c65_base.specs.declared.library.Library.TheVariants.{Putchar, Getchar, Puts, Exit, Memcpy, Memset, Strcmp, Strcpy, Strlen, Printf}
-use Rattle.c65_code.specs.declared.routine.Count.TheVariants.{One}
+use Rattle.c65_code.specs.declared.routine.Count.TheVariants.{One, Four}
 use Rattle.c65_code.specs.declared.routine.Routine.TheVariants as routines
 use Rattle.c65_code.specs.declared.routine.TosOp.{TosOp}
 use Rattle.c65_code.specs.declared.routine.TosOp.TheVariants as tos
@@ -26,6 +26,7 @@ use Rattle.c65_rtl_law_wide.proofs.Unsigned.{tosudiveax, tosumodeax}
 use Rattle.c65_rtl_law_wide.proofs.Signed.{tosdiveax, tosmodeax}
 use Rattle.c65_rtl_law_library.proofs.Putchar.{putchar}
 use Rattle.c65_rtl_law_library.proofs.Getchar.{getchar}
+use Rattle.c65_rtl_law_library.proofs.Puts.{puts}
 use Rattle.c65_rtl_law_runtime.specs.Runtime.{HoldsRuntime, is_met, RuntimeIsMet}
 
 not_met : IsTrue false → ⊥
@@ -87,7 +88,7 @@ operator_of_longs s has tos.UMod = tosumodeax s (has (routines.Tos tos.UMod Eax)
 library_function : (s : RawSetting) → HoldsRuntime s → (f : Library) → IsTrue (is_met (routines.Library f)) → MeetsRow s (routines.Library f)
 library_function s has Putchar met = putchar s (has (routines.Library Putchar) refl) (has routines.PushA refl) (has routines.PushAx refl) (has routines.PopA refl)
 library_function s has Getchar met = getchar s (has (routines.Library Getchar) refl) (has routines.PushA refl) (has routines.Push0 refl) (has routines.PushAx refl) (has routines.PopA refl) (has (routines.IncSp One) refl)
-library_function s has Puts met = absurd (not_met met)
+library_function s has Puts met = puts s (has (routines.Library Puts) refl) (has routines.PushAx refl) (has (routines.Library Strlen) refl) (has routines.LdAxYSp refl) (has (routines.IncSp Four) refl) (has (routines.Library Putchar) refl) (has routines.PushA refl) (has routines.PopA refl)
 library_function s has Exit met = exit s (has (routines.Library Exit) refl)
 library_function s has Memcpy met = memcpy s (has (routines.Library Memcpy) refl)
 library_function s has Memset met = memset s (has (routines.Library Memset) refl)

@@ -1,5 +1,5 @@
 -- The loop of a division of 32 bits, for any lines behind it.
-use Rattle.std.proofs.Common.{◌≡◌, ◌≢◌, ℕ, zero, suc, ◌+◌, ◌-◌, ◌*◌, ◌%◌, ◌^◌, ◌<◌, ◌≤◌, Bool, true, false, List, [], ◌∷◌, None, refl, sym, ap, subst, ◌∙◌, arith}
+use Rattle.std.proofs.Common.{◌≡◌, ◌≢◌, ℕ, zero, suc, ◌+◌, ◌-◌, ◌*◌, ◌%◌, ◌^◌, ◌<◌, ◌≤◌, Bool, false, List, ◌∷◌, refl, sym, ap, subst, ◌∙◌, arith}
 use Rattle.std.specs.Prelude.{nat_lt}
 use Rattle.c65_mach.specs.Step.{bit}
 use Rattle.c65_code.specs.declared.line.Line.{Line}
@@ -13,8 +13,8 @@ use Rattle.c65_rtl_law_quotients.proofs.Rounds.{Divides, fits_step, other_step, 
 use Rattle.c65_rtl_law_quotients.proofs.Pieces.{gone}
 use Rattle.c65_rtl_law_wide.proofs.Numbers.{number}
 use Rattle.c65_rtl_law_wide.proofs.Terms.{Ways, places, four, kept_write, kept_four}
-use Rattle.c65_rtl_law_wide.proofs.Pieces.{tail_on, take_on, compare_on, remainder_shift_on, round_on, place_shifted, place_at, remainder_shifted, remainder_shift_at, difference_1, difference_2, difference_3, compared, compare_at, left_0, left_1, left_2, taken, take_at, counted, tail_at, begun}
-use Rattle.c65_rtl_law_wide.proofs.Differences.{place_on, remainder_on, waits, is_less, Fits, does_fit, same_borrow}
+use Rattle.c65_rtl_law_wide.proofs.Pieces.{tail_on, compare_on, remainder_shift_on, round_on, place_shifted, place_at, remainder_shifted, remainder_shift_at, difference_1, difference_2, difference_3, compared, compare_at, left_0, left_1, left_2, taken, take_at, counted, tail_at, begun}
+use Rattle.c65_rtl_law_wide.proofs.Differences.{place_on, waits, is_less, Fits, does_fit, same_borrow}
 
 -- four bytes
 pub record AreBytes (zp : Bytes) (a b c d : ℕ) : Type 0 where

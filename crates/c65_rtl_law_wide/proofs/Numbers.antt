@@ -1,8 +1,7 @@
 -- Numbers of 32 bits, on whole numbers: the rounds of a product, and four bytes shifted, halved and added.
-use Rattle.std.proofs.Common.{◌≡◌, ℕ, suc, ◌+◌, ◌*◌, ◌/◌, ◌%◌, ◌^◌, ◌<◌, Bool, nat_eq, sym, ap, ◌∙◌, arith}
+use Rattle.std.proofs.Common.{◌≡◌, ℕ, ◌+◌, ◌*◌, ◌/◌, ◌%◌, ◌<◌, nat_eq, sym, ap, ◌∙◌, arith}
 use Rattle.std.specs.Prelude.{nat_lt}
 use Rattle.c65_mach.specs.Step.{bit}
-use Rattle.c65_code.specs.LineState.{Bytes}
 use Rattle.c65_rtl.proofs.UnaryWords.{bit_carry, bit_sign, bit_odd}
 use Rattle.c65_rtl.proofs.UnaryLongs.{four_sums}
 use Rattle.c65_rtl.proofs.Sums.{plus_0, plus_1, plus_2, plus_3}

@@ -1,17 +1,17 @@
 -- The pieces of lines that divide numbers of 32 bits.
-use Rattle.std.proofs.Common.{◌≡◌, ◌≢◌, ℕ, ◌+◌, ◌-◌, ◌*◌, ◌%◌, ◌<◌, ◌≤◌, Bool, true, false, List, [], ◌∷◌, None, refl}
+use Rattle.std.proofs.Common.{◌≡◌, ◌≢◌, ℕ, ◌+◌, ◌-◌, ◌*◌, ◌%◌, ◌<◌, ◌≤◌, Bool, true, false, List, [], ◌∷◌, refl}
 use Rattle.std.specs.Prelude.{nat_lt}
 use Rattle.c65_mach.specs.Step.{bit}
 use Rattle.c65_mach.specs.declared.rows.Op.TheVariants.{Asl, Bcc, Bne, Cmp, Dex, Inc, Lda, Ldx, Rol, Sbc, Sta}
 use Rattle.c65_code.specs.declared.line.Line.{Line}
 use Rattle.c65_code.specs.declared.line.Line.TheVariants.{Label}
-use Rattle.c65_code.specs.LineState.{Bytes, write, State}
+use Rattle.c65_code.specs.LineState.{write, State}
 use Rattle.c65_code.specs.RawMachine.{RawSetting, Bounds}
 use Rattle.c65_rtl.specs.Assembly.{sreg, regsave, ptr1, ptr2, ptr3, ptr4, implied, value, zero_page, branch}
 use Rattle.c65_rtl.proofs.Meeting.{eq_true, eq_false, lt_true, lt_false, not_true, not_false}
 use Rattle.c65_rtl_law_walks.proofs.Turning.{leads_turn}
 use Rattle.c65_rtl_law_quotients.proofs.Pieces.{gone}
-use Rattle.c65_rtl_law_wide.proofs.Terms.{takes, Ways}
+use Rattle.c65_rtl_law_wide.proofs.Terms.{Ways}
 
 abbrev pub tail_on : List Line → List Line
 tail_on rest = Label 3 ∷ implied Dex ∷ branch Bne 2 ∷ rest

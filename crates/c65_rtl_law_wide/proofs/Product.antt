@@ -1,5 +1,5 @@
 -- `tosmuleax` (C90 6.3.5)
-use Rattle.std.proofs.Common.{◌≡◌, ◌≢◌, ℕ, zero, suc, ◌+◌, ◌-◌, ◌*◌, ◌/◌, ◌%◌, ◌^◌, ◌<◌, ◌≤◌, Bool, true, false, List, [], ◌∷◌, Some, None, nat_eq, refl, sym, ap, subst, ◌∙◌, arith}
+use Rattle.std.proofs.Common.{◌≡◌, ◌≢◌, ℕ, zero, suc, ◌+◌, ◌*◌, ◌/◌, ◌%◌, ◌^◌, ◌<◌, ◌≤◌, Bool, true, false, List, [], ◌∷◌, Some, nat_eq, refl, ap, ◌∙◌, arith}
 use Rattle.std.specs.Prelude.{nat_lt, bit_or}
 use Rattle.std.specs.Int.Bits.{or_add_and}
 use Rattle.std.proofs.Math.Nat.{pow-suc}
@@ -11,25 +11,24 @@ use Rattle.c65_code.specs.declared.routine.TosOp.TheVariants as tos
 use Rattle.c65_code.specs.declared.routine.Width.TheVariants.{Eax}
 use Rattle.c65_code.specs.declared.line.Line.{Line}
 use Rattle.c65_code.specs.declared.line.Line.TheVariants.{Label}
-use Rattle.c65_code.specs.LineState.{Place, Bytes, write, State, sp_of, eax_of, IsBytes}
+use Rattle.c65_code.specs.LineState.{Place, write, State, sp_of, eax_of, IsBytes}
 use Rattle.c65_code.specs.Segments.{is_among}
 use Rattle.c65_code.specs.Moves.{settle, labelled}
 use Rattle.c65_code.specs.Rows.{Row, long_at}
-use Rattle.c65_code.specs.RawMachine.{RawSetting, Bounds, IsReachable, called}
+use Rattle.c65_code.specs.RawMachine.{RawSetting, Bounds, called}
 use Rattle.c65_rtl.specs.Assembly.{regsave, ptr1, ptr2, ptr3, ptr4, implied, zero_page, branch}
 use Rattle.c65_rtl.proofs.Ways.{Ends}
 use Rattle.c65_rtl.proofs.Meeting.{eq_true, eq_false, not_true, not_false}
-use Rattle.c65_rtl.proofs.UnaryWords.{bit_odd}
-use Rattle.c65_rtl.proofs.Sums.{plus_0, plus_1, plus_2, plus_3}
+use Rattle.c65_rtl.proofs.Sums.{plus_0, plus_1}
 use Rattle.c65_rtl_law_walks.specs.Inside.{MayRunIn}
 use Rattle.c65_rtl_law_walks.proofs.Turning.{leads_turn, turn_weight, TurnsIn}
 use Rattle.c65_rtl_law_walks.proofs.Meets.{Leads, turning_meets, met_within}
 use Rattle.c65_rtl_law_inner.proofs.Longs.{popeax_row, pop_long_comes, popped_long}
 use Rattle.c65_rtl_law_inner.proofs.Beside.{Beside}
-use Rattle.c65_rtl_law_wide.specs.Rows.{Holds, HoldsInner, LongsAreMultiplied}
+use Rattle.c65_rtl_law_wide.specs.Rows.{HoldsInner, LongsAreMultiplied}
 use Rattle.c65_rtl_law_wide.proofs.Numbers.{number, odd_round, even_round, first_round, last_round, twice, half, sums}
-use Rattle.c65_rtl_law_wide.proofs.Terms.{takes, Ways, places, four, kept_four, dividend_on, terms_on, nothing_on, pointed, terms_at, held, dividend_at, cleared, nothing_at, remainder_on, from_regsave, remainder_at, back_lines, back_at, kept_write, Ready, ready}
-use Rattle.c65_rtl_law_wide.proofs.Results.{result_row, goes_on, near_of, modest, result_ends, some_result}
+use Rattle.c65_rtl_law_wide.proofs.Terms.{takes, Ways, places, four, kept_four, terms_on, nothing_on, pointed, terms_at, held, dividend_at, cleared, nothing_at, remainder_on, from_regsave, remainder_at, back_lines, back_at, kept_write, Ready, ready}
+use Rattle.c65_rtl_law_wide.proofs.Results.{result_row, modest, result_ends, some_result}
 
 abbrev test_on : List Line → List Line
 test_on rest = zero_page Lda ptr3 ∷ zero_page Ora (ptr3 + 1) ∷ zero_page Ora ptr4 ∷ zero_page Ora (ptr4 + 1) ∷ branch Bne 0 ∷ rest

@@ -1,8 +1,7 @@
 -- Numbers of 32 bits without their signs, and with that of a result.
-use Rattle.std.proofs.Common.{◌≡◌, ℕ, ◌+◌, ◌-◌, ◌*◌, ◌/◌, ◌%◌, ◌<◌, ◌≤◌, ◌⊎◌, inl, inr, Bool, true, false, refl, sym, ap, subst, ◌∙◌, arith}
+use Rattle.std.proofs.Common.{◌≡◌, ℕ, ◌+◌, ◌-◌, ◌*◌, ◌/◌, ◌%◌, ◌<◌, ◌≤◌, ◌⊎◌, inl, inr, Bool, true, false, sym, ap, subst, ◌∙◌, arith}
 use Rattle.std.specs.Prelude.{if◌then◌else◌, nat_lt, nat_le}
 use Rattle.std.proofs.lemmas.Bool.Decides.{leb_tells}
-use Rattle.c65_mach.specs.Step.{bit}
 use Rattle.c65_code.specs.declared.routine.Width.TheVariants.{Eax}
 use Rattle.c65_code.specs.Numbers.{is_negative, magnitude}
 use Rattle.c65_rtl.proofs.UnaryWords.{bit_carry}

@@ -1,5 +1,5 @@
 -- The pieces of lines that take the signs of numbers of 32 bits away and put that of the result on.
-use Rattle.std.proofs.Common.{◌≡◌, ℕ, ◌+◌, ◌-◌, ◌%◌, Bool, true, false, List, [], ◌∷◌, None, refl}
+use Rattle.std.proofs.Common.{◌≡◌, ℕ, ◌+◌, ◌-◌, ◌%◌, Bool, true, false, List, [], ◌∷◌}
 use Rattle.std.specs.Prelude.{nat_lt, bit_xor}
 use Rattle.c65_mach.specs.Step.{bit}
 use Rattle.c65_mach.specs.declared.rows.Op.TheVariants.{Bpl, Eor, Lda, Ldy, Sbc, Sec, Sta}
@@ -8,7 +8,7 @@ use Rattle.c65_code.specs.declared.routine.UnaryRoutine.TheVariants.{Neg}
 use Rattle.c65_code.specs.declared.routine.Width.TheVariants.{Eax}
 use Rattle.c65_code.specs.declared.line.Line.{Line}
 use Rattle.c65_code.specs.declared.line.Line.TheVariants.{Label}
-use Rattle.c65_code.specs.LineState.{Bytes, write, State}
+use Rattle.c65_code.specs.LineState.{write, State}
 use Rattle.c65_code.specs.RawMachine.{RawSetting, Bounds}
 use Rattle.c65_rtl.specs.Assembly.{ptr1, ptr2, ptr3, ptr4, tmp1, tmp2, implied, value, zero_page, branch, call}
 use Rattle.c65_rtl.proofs.Meeting.{not_true, not_false}

@@ -1,5 +1,5 @@
 -- `tosdiveax` and `tosmodeax` (C90 6.3.5)
-use Rattle.std.proofs.Common.{◌≡◌, ◌≢◌, ℕ, suc, ◌+◌, ◌-◌, ◌*◌, ◌/◌, ◌%◌, ◌<◌, ◌≤◌, Bool, true, false, not, List, [], ◌∷◌, Option, None, length, refl, sym, ap, subst, ◌∙◌, arith}
+use Rattle.std.proofs.Common.{◌≡◌, ℕ, suc, ◌+◌, ◌*◌, ◌<◌, ◌≤◌, Bool, true, false, not, List, [], ◌∷◌, Option, length, refl, sym, ap, subst, ◌∙◌, arith}
 use Rattle.std.specs.Prelude.{nat_lt, bit_xor}
 use Rattle.std.specs.Bool.{beq}
 use Rattle.std.proofs.lemmas.List.{append-nil}
@@ -10,7 +10,7 @@ use Rattle.c65_code.specs.declared.routine.TosOp.TheVariants as tos
 use Rattle.c65_code.specs.declared.routine.UnaryRoutine.TheVariants.{Neg}
 use Rattle.c65_code.specs.declared.routine.Width.TheVariants.{Eax}
 use Rattle.c65_code.specs.declared.line.Line.{Line}
-use Rattle.c65_code.specs.LineState.{Place, Bytes, State, write, sp_of, eax_of, IsBytes}
+use Rattle.c65_code.specs.LineState.{Place, State, write, sp_of, eax_of, IsBytes}
 use Rattle.c65_code.specs.Placement.{stack_end}
 use Rattle.c65_code.specs.Numbers.{divided, is_negative, magnitude, minus_word, with_sign, signed_quotient, signed_remainder}
 use Rattle.c65_code.specs.Moves.{settle, labelled}
@@ -26,7 +26,7 @@ use Rattle.c65_rtl_law_inner.proofs.Kept.{kept_from}
 use Rattle.c65_rtl_law_inner.proofs.Loads.{low_enough}
 use Rattle.c65_rtl_law_inner.proofs.Longs.{popeax_row, pop_long_comes, popped_long, negeax_row, negate_long_comes}
 use Rattle.c65_rtl_law_inner.proofs.Pops.{above_or_below}
-use Rattle.c65_rtl_law_inner.proofs.Beside.{Aside, Beside, outside}
+use Rattle.c65_rtl_law_inner.proofs.Beside.{Beside, outside}
 use Rattle.c65_rtl_law_quotients.proofs.Rounds.{Divided, after_all}
 use Rattle.c65_rtl_law_quotients.proofs.SignNumbers.{signs_differ}
 use Rattle.c65_rtl_law_wide.specs.Rows.{HoldsInner, IsSignedDivided}

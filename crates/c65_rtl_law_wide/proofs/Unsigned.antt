@@ -1,5 +1,5 @@
 -- `tosudiveax` and `tosumodeax` (C90 6.3.5)
-use Rattle.std.proofs.Common.{◌≡◌, ℕ, suc, ◌+◌, ◌*◌, ◌/◌, ◌%◌, ◌<◌, ◌≤◌, Bool, false, List, [], ◌∷◌, Option, None, refl, ap, ◌∙◌, arith}
+use Rattle.std.proofs.Common.{◌≡◌, ℕ, suc, ◌+◌, ◌*◌, ◌/◌, ◌%◌, ◌<◌, ◌≤◌, Bool, false, List, [], ◌∷◌, Option, refl, ap, ◌∙◌, arith}
 use Rattle.std.proofs.lemmas.List.Elements.{All-nil}
 use Rattle.c65_code.specs.declared.routine.Routine.TheVariants as routines
 use Rattle.c65_code.specs.declared.routine.TosOp.{TosOp}
@@ -16,13 +16,12 @@ use Rattle.c65_rtl_law_walks.specs.Inside.{MayRunIn}
 use Rattle.c65_rtl_law_walks.proofs.Turning.{turn_weight, TurnsIn}
 use Rattle.c65_rtl_law_walks.proofs.Meets.{Leads, turning_meets, met_within}
 use Rattle.c65_rtl_law_inner.proofs.Longs.{popeax_row, pop_long_comes, popped_long}
-use Rattle.c65_rtl_law_inner.proofs.Beside.{Beside}
 use Rattle.c65_rtl_law_quotients.proofs.Rounds.{Divided, after_all}
 use Rattle.c65_rtl_law_wide.specs.Rows.{HoldsInner, IsDivided}
-use Rattle.c65_rtl_law_wide.proofs.Terms.{takes, Ways, four, kept_four, kept_write, nothing_on, terms_on, pointed, terms_at, held, dividend_at, cleared, nothing_at, remainder_on, from_regsave, remainder_at, back_lines, back_at, Ready, ready}
+use Rattle.c65_rtl_law_wide.proofs.Terms.{takes, four, kept_four, kept_write, nothing_on, terms_on, pointed, terms_at, held, dividend_at, cleared, nothing_at, remainder_on, from_regsave, remainder_at, back_lines, back_at, Ready, ready}
 use Rattle.c65_rtl_law_wide.proofs.Results.{result_row, goes_on, near_of, modest, result_ends, result_by}
 use Rattle.c65_rtl_law_wide.proofs.Pieces.{divide_on, begun, begin_at, quotient_on, from_place, quotient_at}
-use Rattle.c65_rtl_law_wide.proofs.Dividing.{Terms, Dividing, Behind, divide_go, before}
+use Rattle.c65_rtl_law_wide.proofs.Dividing.{Dividing, Behind, divide_go, before}
 
 abbrev dividend_of : State → ℕ
 dividend_of t = long_at t.mem (sp_of t)

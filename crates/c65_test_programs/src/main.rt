@@ -1,12 +1,15 @@
 //! Does `c65 go` for each file that is named, and prints its name, what the program writes, and what the tool answers. Then it
-//! does so under `-O`, and says where that answers otherwise.
+//! does so under `-O` for files that are not long, and says where that answers otherwise.
 #![tactic(auto)]
 
 use c65_base::Refusal;
 use c65_driver::{Made, tool};
 use c65_io::{Files, HostFiles, HostSink, MemSink, mem_sink, mem_source, write_all};
 use std::alloc::Global;
-use std::env;
+use std::{env, fs};
+
+/// The longest file that is put through the optimiser: it makes the table of what is live in a function again at each rewriting.
+const LONGEST: usize = 8192;
 
 /// What a command left.
 #[derive(Drop)]
@@ -62,8 +65,11 @@ fn main(rt: HostRuntime) -> Result<(), anyhow::Error> {
         let _ = write_all(&mut console, left.out.written());
         let _ = write_all(&mut console, left.err.written());
         println!(rt; "status {}", left.status)?;
-        let rewritten = go(alloc, &mut files, Some("-O"), &path)?;
-        if !rewritten.is(&left) {
+        let is_short = match fs::read(&rt, path.as_str()) {
+            Ok(text) => text.len() <= LONGEST,
+            Err(_) => false,
+        };
+        if is_short && !go(alloc, &mut files, Some("-O"), &path)?.is(&left) {
             println!(rt; "-O: otherwise")?;
         }
     }
