@@ -1,6 +1,7 @@
 -- What the optimiser makes of a code: each function by itself, its lines by rewritings, until no rule matches anywhere in it.
 use Rattle.std.specs.Prelude.{◌≡◌, ◌==◌, if◌then◌else◌, ⊤, ℕ, ◌≤◌, Bool, true, false, All, List, [], ◌∷◌}
 use Rattle.c65_base.specs.declared.options.Options.{Options}
+use Rattle.c65_code.specs.declared.line.Line.{Line}
 use Rattle.c65_code.specs.declared.line.Sym.{Sym}
 use Rattle.c65_code.specs.declared.code.Code.{Code}
 use Rattle.c65_code.specs.Segments.{Segment}
