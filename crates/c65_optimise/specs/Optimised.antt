@@ -1,54 +1,61 @@
 -- What the optimiser makes of a code: each function by itself, its lines by rewritings, until no rule matches anywhere in it.
 use Rattle.std.specs.Prelude.{◌≡◌, ◌==◌, if◌then◌else◌, ⊤, ℕ, ◌≤◌, Bool, true, false, All, List, [], ◌∷◌}
 use Rattle.c65_base.specs.declared.options.Options.{Options}
+use Rattle.c65_code.specs.declared.line.Line.{Line}
 use Rattle.c65_code.specs.declared.line.Sym.{Sym}
 use Rattle.c65_code.specs.declared.code.Code.{Code}
 use Rattle.c65_code.specs.Segments.{Segment}
 use Rattle.c65_code.specs.Weights.{lines_size}
 use Rattle.c65_code.specs.Writable.{IsLineWritable}
 use Rattle.c65_know.specs.Known.{annotated}
+use Rattle.c65_optlib.specs.Library.{OnceIf}
 use Rattle.c65_pass.specs.Rounds.{IsRuleOf, AreFree, RulesRewrite}
 use Rattle.c65_optimise.specs.declared.families.Family.{Family}
-use Rattle.c65_optimise.specs.declared.families.Family.TheVariants.{Flow, Load}
+use Rattle.c65_optimise.specs.declared.families.Family.TheVariants.{Stack, Flow, Load, Arith}
 
 -- the rules of a family
 abbrev pub rules_of : Family → ℕ → Type 0
+rules_of Stack = IsRuleOf 33 38
 rules_of Flow = IsRuleOf 1 9
 rules_of Load = IsRuleOf 10 23
+rules_of Arith = IsRuleOf 24 32
 
--- the order of the families in a round
+-- the order of the families in a round: the others take windows of the rules on the software stack apart
 abbrev pub family_at : ℕ → Family
-family_at turn = if turn == 0 then Flow else Load
+family_at turn = if turn == 0 then Stack else (if turn == 1 then Flow else (if turn == 2 then Load else Arith))
 
 -- a rule of a family that is built
 abbrev pub IsBuilt : ℕ → Type 0
 IsBuilt rule = (family : Family) × rules_of family rule
 
--- The new lines come from the old ones by rewritings of the rules that are built, each where its rule matches, and none matches in
--- them. They are no longer in bytes, and can be written where the old ones can.
-pub record IsRewritten (old new : Segment) : Type 0 where
+-- First calls of routines are opened in one walk, where that is asked for. From what stands then the new lines come by rewritings
+-- of the rules that are built, each where its rule matches, and none matches in them. They are no longer in bytes, where a call that
+-- may be opened counts as its lines, and can be written where the old ones can.
+pub record IsRewritten (is_opened : Bool) (old new : Segment) : Type 0 where
   pub out : new.out ≡ old.out
-  pub chain : (count : ℕ) × RulesRewrite IsBuilt old.out old.lines count new.lines
+  pub opened : List Line
+  pub once : (count : ℕ) × OnceIf is_opened 39 [] old.out old.lines opened count
+  pub chain : (count : ℕ) × RulesRewrite IsBuilt old.out opened count new.lines
   pub free : AreFree IsBuilt (annotated new.lines new.out)
   pub extent : lines_size new.lines ≤ lines_size old.lines
   pub writable : (symbols : ℕ) → All (IsLineWritable symbols) old.lines → All (IsLineWritable symbols) new.lines
 
 -- functions one by one, each under its name
-abbrev pub AreRewritten : List (Sym × Segment) → List (Sym × Segment) → Type 0
-AreRewritten [] [] = ⊤
-AreRewritten (f ∷ fs) (g ∷ gs) = ((g.0 ≡ f.0) × IsRewritten f.1 g.1) × AreRewritten fs gs
-AreRewritten _ _ = ⊥
+abbrev pub AreRewritten : Bool → List (Sym × Segment) → List (Sym × Segment) → Type 0
+AreRewritten is_opened [] [] = ⊤
+AreRewritten is_opened (f ∷ fs) (g ∷ gs) = ((g.0 ≡ f.0) × IsRewritten is_opened f.1 g.1) × AreRewritten is_opened fs gs
+AreRewritten is_opened _ _ = ⊥
 
-pub record IsOptimised (old new : Code) : Type 0 where
+pub record IsOptimised (is_opened : Bool) (old new : Code) : Type 0 where
   pub symbols : new.symbols ≡ old.symbols
-  pub functions : AreRewritten old.functions new.functions
+  pub functions : AreRewritten is_opened old.functions new.functions
   pub datums : new.datums ≡ old.datums
   pub main_args : new.main_args ≡ old.main_args
 
-abbrev pub OptimisedIf : Bool → Code → Code → Type 0
-OptimisedIf false old new = new ≡ old
-OptimisedIf true old new = IsOptimised old new
+abbrev pub OptimisedIf : Bool → Bool → Code → Code → Type 0
+OptimisedIf false is_opened old new = new ≡ old
+OptimisedIf true is_opened old new = IsOptimised is_opened old new
 
 -- without `-O` the code stays as it is
 abbrev pub OptimisedBy : Options → Code → Code → Type 0
-OptimisedBy options old new = OptimisedIf options.optimise old new
+OptimisedBy options old new = OptimisedIf options.optimise options.inline_more old new

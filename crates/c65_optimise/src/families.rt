@@ -5,18 +5,24 @@ ghost use Rattle.c65_pass.specs.Rounds.{IsPassed};
 
 use c65_base::{Options, Refusal};
 use c65_know::Noted;
+use c65_optarith::optimise_arith;
 use c65_optflow::optimise_flow;
 use c65_optload::optimise_load;
+use c65_optstack::optimise_stack;
 use c65_pass::{Rules, run_rules};
 use std::alloc::Global;
 
 /// Rules that are of one kind.
 #[derive(Clone, Copy, Debug, PartialEq, Eq)]
 pub enum Family {
+    /// On the software stack.
+    Stack,
     /// On jumps, branches and labels.
     Flow,
     /// On loads, stores and transfers.
     Load,
+    /// On arithmetic, comparisons and flags.
+    Arith,
 }
 
 // The family whose turn it is in a round.
@@ -24,8 +30,10 @@ fn family_at(turn: u8) -> Family
     ensures { result ≡ family_at turn }
 {
     match turn {
-        0 => Family::Flow,
-        _ => Family::Load,
+        0 => Family::Stack,
+        1 => Family::Flow,
+        2 => Family::Load,
+        _ => Family::Arith,
     }
 }
 
@@ -37,7 +45,7 @@ struct Families<'a> {
 impl Rules for Families<'_> {
     ghost first = { 0 };
 
-    ghost end = { 2 };
+    ghost end = { 4 };
 
     ghost among = { λ turn. rules_of (family_at turn) };
 
@@ -45,8 +53,10 @@ impl Rules for Families<'_> {
 
     fn run(&mut self, alloc: Global, code: &mut Noted, turn: u8) -> Result<usize, Refusal> {
         match family_at(turn) {
+            Family::Stack => optimise_stack(alloc, code, self.options),
             Family::Flow => optimise_flow(alloc, code, self.options),
             Family::Load => optimise_load(alloc, code, self.options),
+            Family::Arith => optimise_arith(alloc, code, self.options),
         }
     }
 }
@@ -55,5 +65,5 @@ impl Rules for Families<'_> {
 pub fn rewrite(alloc: Global, code: &mut Noted, options: &Options) -> Result<usize, Refusal>
     ensures { IsPassed IsBuilt code.old code.new result }
 {
-    run_rules(alloc, code, &mut Families { options }, 0, 2)
+    run_rules(alloc, code, &mut Families { options }, 0, 4)
 }
