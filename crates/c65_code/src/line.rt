@@ -47,3 +47,10 @@ pub enum Line {
     /// A call.
     Call(Callee),
 }
+
+/// The label 0, which fills the places of a list that no line has yet.
+impl Default for Line {
+    fn default() -> Line {
+        Line::Label(0)
+    }
+}

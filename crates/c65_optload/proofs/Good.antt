@@ -15,7 +15,7 @@ use Rattle.c65_optload.proofs.Quiet.{idle_load_quiet, dead_load_quiet, dead_stor
 use Rattle.c65_optload.proofs.Shorter.{transferred_smaller, stepped_smaller, loaded_on_both}
 
 at_line : (rule : ℕ) (literals : List (Sym × List ℕ)) (noted : Annotated) (table : Table) (at : ℕ) (w : Rewriting)
-    → ((line : Line) (post : List Line) → drop at noted.lines ≡ line ∷ post → made_by rule noted table at line post ≡ Some w → Keeps noted.lines w)
+    → ((line : Line) (post : List Line) → drop at noted.lines ≡ line ∷ post → made_by rule literals noted table at line post ≡ Some w → Keeps noted.lines w)
     → match_at rule literals noted table at ≡ Some w → Keeps noted.lines w
 at_line rule literals noted table at w keeps m = go (drop at noted.lines) refl m
   where

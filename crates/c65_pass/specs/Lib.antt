@@ -3,5 +3,8 @@ pub mod Rewriting
 pub mod FlowRules
 pub mod Registers
 pub mod LoadRules
+pub mod ArithRules
+pub mod StackRules
+pub mod LibraryRules
 pub mod Rules
 pub mod Passes
