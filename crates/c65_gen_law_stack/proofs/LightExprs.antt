@@ -27,12 +27,13 @@ use Rattle.c65_genexpr.specs.Places.{place_of}
 use Rattle.c65_genexpr.specs.Operands.{residue_of, operands_of, computes}
 use Rattle.c65_genexpr.specs.Operating.{takes_bytes, is_light_form, is_light_place, is_light_access, is_light_conversion, is_light_operator, is_light, reading_of, held_form, held_if, or_held, below_operand, operator_by}
 use Rattle.c65_genexpr.specs.Uses.{by_relation, uses}
-use Rattle.c65_genexpr.specs.Code.{target_code, width_in, expr_code}
+use Rattle.c65_genexpr.specs.Storing.{target_code}
+use Rattle.c65_genexpr.specs.Code.{width_in, expr_code, base_code}
 use Rattle.c65_gen_law_stack.specs.Light.{LightLinesLeavePtr2}
 use Rattle.c65_gen_law_stack.proofs.LightPieces.{Spares, spares_then, spares_none, number_spares, symbol_spares, offset_spares, load_spares, object_spares, conversion_spares, form_spares}
 
 target_spares : (code : List Line) (place : Place) → is_light_place place ≡ true → Spares (target_code place code)
-target_spares code places.Far h = absurd cc
+target_spares code (places.Far at) h = absurd cc
 target_spares code (places.Bank b) h = spares_none
 target_spares code (places.Near at) h = spares_none
 target_spares code (places.Data s at) h = spares_none
@@ -68,7 +69,7 @@ light_spares f pushed lo (node t (load e)) h =
     let place : Place = place_of f pushed e in
     let access : Access = access_of (types_of f.parts.types) e in
     let both = and_parts (is_light_place place) (is_light_access access) h in
-    spares_then (target_spares (expr_code f pushed lo Value e) place both.0) (load_spares place access both.0 both.1)
+    spares_then (target_spares (base_code f pushed lo e) place both.0) (load_spares place access both.0 both.1)
 light_spares f pushed lo (node t (convert e)) h =
     let both = and_parts (is_light_conversion (type_in t) (kind_in e)) (is_light f pushed e) h in
     spares_then (light_spares f pushed lo e both.1) (conversion_spares (type_in t) (kind_in e) both.0)

@@ -96,7 +96,7 @@ narrow_spares ints.Long h = spares_none
 narrow_spares ints.ULong h = spares_none
 
 bytes_spares : (place : Place) (extent : Extent) → is_light_place place ≡ true → Spares (bytes_code place extent)
-bytes_spares places.Far extent h = absurd cc
+bytes_spares (places.Far at) extent h = absurd cc
 bytes_spares (places.Bank at) One h = record { all = refl }
 bytes_spares (places.Bank at) Two h = record { all = refl }
 bytes_spares (places.Bank at) Three h = record { all = refl }

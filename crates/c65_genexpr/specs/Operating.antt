@@ -156,7 +156,7 @@ is_light_form (DistanceUnder size low high) = size == 1
 is_light_form form = true
 
 abbrev pub is_light_place : Place → Bool
-is_light_place Far = false
+is_light_place (Far at) = false
 is_light_place place = true
 
 abbrev pub is_light_access : Access → Bool

@@ -58,7 +58,7 @@ fn is_light_place(place: Place) -> bool
 {
     match place {
         Place::Bank(_) | Place::Near(_) | Place::Data(_, _) => true,
-        Place::Far => false,
+        Place::Far(_) => false,
     }
 }
 
