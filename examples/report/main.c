@@ -20,14 +20,10 @@ static void read_words(void)
 int main(void)
 {
     const struct tally *tally;
-    char digits[6];
     int count;
 
     read_words();
-    for (tally = tally_sorted(&count); count; --count, ++tally) {
-        fputs(utoa(tally->count, digits, 10), stdout);
-        fputs(" ", stdout);
-        puts(tally->word);
-    }
+    for (tally = tally_sorted(&count); count; --count, ++tally)
+        printf("%3u %s\n", tally->count, tally->word);
     return EXIT_SUCCESS;
 }

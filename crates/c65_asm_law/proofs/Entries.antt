@@ -2,7 +2,7 @@
 use Rattle.std.proofs.Common.{◌≡◌, ℕ, zero, suc, ◌+◌, ◌/◌, ◌%◌, ◌<◌, ◌≤◌, ◌^◌, ◌==◌, ℤ, Bool, true, false, Option, None, Some, List, [], ◌∷◌, ◌++◌, length, refl, arith, rules}
 use Rattle.std.specs.Prelude.{if◌then◌else◌, nat_lt}
 use Rattle.std.proofs.lemmas.Bool.{ltb-true}
-use Rattle.c65_mach.specs.declared.rows.Op.TheVariants.{Adc, Clc, Tax, Bne, Cpy, Dex, Iny, Inc, Lda, Ldx, Ldy, Sta, Stx, Pha, Pla, Rts, Tay, Txa, Tya}
+use Rattle.c65_mach.specs.declared.rows.Op.TheVariants.{Adc, Clc, Tax, Bne, Cpy, Dex, Iny, Inc, Lda, Ldx, Ldy, Sta, Stx, Pha, Pla, Rts, Tay, Txa, Tya, Beq, Cmp, Cpx}
 use Rattle.c65_code.specs.declared.line.Line.{Line}
 use Rattle.c65_code.specs.declared.line.Line.TheVariants.{Label}
 use Rattle.c65_code.specs.declared.routine.Count.{Count}
@@ -16,12 +16,12 @@ use Rattle.c65_genframe.specs.Frames.{Framed}
 use Rattle.c65_genwide.specs.Lines.{value, call}
 use Rattle.c65_genentry.specs.Words.{sp, tmp1, tmp2, ptr1, ptr2, regbank, implied, zero_page, by_y, branch}
 use Rattle.c65_genentry.specs.Stack.{count_of, raise_by, lower_by, small_raise, small_lower, repeated, raise_code, lower_code}
-use Rattle.c65_genentry.specs.Ends.{restored_code, plain_end, variadic_end, end_code}
-use Rattle.c65_genentry.specs.Entry.{pushed_code, bank_store, kept_code, saved_code, counted_code, count_code, near_load, far_load, load_code, moved_code, all_moved, counted_at, counted_store, counted_move, all_counted, raised_moves, early_moves, late_moves, taken_bytes, checked_code, taking_code, entry_code}
+use Rattle.c65_genentry.specs.Ends.{bank_loads, few_loads, few_restored, restored_code, plain_end, variadic_end, end_code}
+use Rattle.c65_genentry.specs.Entry.{pushed_code, bank_store, kept_code, bank_saves, few_saved, saved_code, counted_code, count_code, near_load, far_load, load_code, moved_code, all_moved, counted_at, counted_store, counted_move, all_counted, raised_moves, early_moves, late_moves, taken_bytes, checked_code, taking_code, entry_code}
 use Rattle.c65_genentry.specs.Pointers as pointers
 use Rattle.c65_genentry.specs.Bytes.{pages_code, rest_code, loop_labels, block_code, block_labels}
 use Rattle.c65_genentry.specs.Bytes as blocks
-use Rattle.c65_genentry.specs.Choice.{bits_of, test_code, case_code, choice_code}
+use Rattle.c65_genentry.specs.Choice.{bits_of, byte_of, test_code, case_code, case_codes, by_bytes, byte_tests, byte_choice, choice_code, choice_labels}
 use Rattle.c65_asm_law.proofs.Well.{AllWell, well_append, well_none, well_more, well_if}
 use Rattle.c65_asm_law.proofs.Loads.{pass_well}
 
@@ -66,8 +66,24 @@ kept_well n Passed = well_none n
 kept_well n (Pushed bytes) = well_none n
 kept_well n (Kept bank bytes) = bank_store_well n bank bytes
 
+bank_saves_well : (n bank : ℕ) → bank ≤ 6 → AllWell n (bank_saves bank)
+bank_saves_well n zero few = well_none n
+bank_saves_well n (suc k) few =
+    let one : AllWell n (value Ldy k ∷ zero_page Lda ((regbank + k) % 256) ∷ by_y Sta sp ∷ []) = record { all = search (rules, few) } in
+    well_append n (bank_saves k) _ (bank_saves_well n k (omega (arith, few))) one
+
+few_saved_well : (n bank : ℕ) → bank ≤ 6 → AllWell n (few_saved bank)
+few_saved_well n bank few =
+    let wait : AllWell n (zero_page Sta tmp1 ∷ []) = record { all = search rules } in
+    let last : AllWell n (zero_page Lda tmp1 ∷ []) = record { all = search rules } in
+    well_append n (lower_code bank) _ (lower_well n bank) (well_append n (zero_page Sta tmp1 ∷ []) (bank_saves bank ++ zero_page Lda tmp1 ∷ []) wait (well_append n (bank_saves bank) _ (bank_saves_well n bank few) last))
+
 saved_well : (n bank : ℕ) → AllWell n (saved_code bank)
-saved_well n bank = well_if n (nat_lt 0 bank) (call SaveRegs ∷ []) [] (record { all = (tt, tt) }) (well_none n)
+saved_well n bank = well_if n (bank == 0) [] (if nat_lt bank 6 then few_saved bank else call SaveRegs ∷ []) (well_none n) (by (nat_lt bank 6) refl)
+  where
+    by : (b : Bool) → nat_lt bank 6 ≡ b → AllWell n (if b then few_saved bank else call SaveRegs ∷ [])
+    by true e = few_saved_well n bank (omega (arith, ltb-true bank 6 e))
+    by false e = record { all = (tt, tt) }
 
 near_load_well : (n at bytes : ℕ) → at < 255 → AllWell n (near_load at bytes)
 near_load_well n at bytes few = well_if n (nat_lt bytes 2) (value Ldy at ∷ by_y Lda sp ∷ []) (value Ldy (at + 1) ∷ call LdAxYSp ∷ []) (record { all = ((tt, omega (arith, few)), ((tt, omega arith), tt)) }) (record { all = ((tt, omega (arith, few)), (tt, tt)) })
@@ -120,8 +136,25 @@ taking_well n f near =
 pub entry_well : (n : ℕ) (f : Framed) → Near 2055 f.moved → AllWell n (entry_code f)
 entry_well n f near = well_append n (checked_code f.check) (taking_code f) (checked_well n f.check) (taking_well n f near)
 
+bank_loads_well : (n bank : ℕ) → bank ≤ 6 → AllWell n (bank_loads bank)
+bank_loads_well n zero few = well_none n
+bank_loads_well n (suc k) few =
+    let one : AllWell n (value Ldy k ∷ by_y Lda sp ∷ zero_page Sta ((regbank + k) % 256) ∷ []) = record { all = search (rules, few) } in
+    well_append n (bank_loads k) _ (bank_loads_well n k (omega (arith, few))) one
+
+few_restored_well : (n bank : ℕ) → bank ≤ 6 → AllWell n (few_restored bank)
+few_restored_well n bank few =
+    let wait : AllWell n (zero_page Sta tmp1 ∷ []) = record { all = search rules } in
+    let last : AllWell n (zero_page Lda tmp1 ∷ []) = record { all = search rules } in
+    let loads : AllWell n (few_loads bank) = well_append n (zero_page Sta tmp1 ∷ []) (bank_loads bank ++ zero_page Lda tmp1 ∷ []) wait (well_append n (bank_loads bank) _ (bank_loads_well n bank few) last) in
+    well_append n (few_loads bank) (raise_code bank) loads (raise_well n bank)
+
 restored_well : (n bank : ℕ) → AllWell n (restored_code bank)
-restored_well n bank = well_if n (nat_lt 0 bank) (call RestRegs ∷ []) [] (record { all = (tt, tt) }) (well_none n)
+restored_well n bank = well_if n (bank == 0) [] (if nat_lt bank 6 then few_restored bank else call RestRegs ∷ []) (well_none n) (by (nat_lt bank 6) refl)
+  where
+    by : (b : Bool) → nat_lt bank 6 ≡ b → AllWell n (if b then few_restored bank else call RestRegs ∷ [])
+    by true e = few_restored_well n bank (omega (arith, ltb-true bank 6 e))
+    by false e = record { all = (tt, tt) }
 
 variadic_well : (n soft bank : ℕ) → AllWell n (variadic_end soft bank)
 variadic_well n soft bank =
@@ -198,9 +231,24 @@ test_well : (n : ℕ) (w : Width) (bits other at : ℕ) → other < 2 ^ 32 → a
 test_well n Ax bits other at first second = record { all = search (rules, first, second) }
 test_well n Eax bits other at first second = record { all = search (rules, first, second) }
 
-pub choice_well : (n : ℕ) (w : Width) (at l : ℕ) (zs : List ℤ) → at < 2 ^ 32 → l + length zs ≤ 2 ^ 32 → AllWell n (choice_code w at l zs)
-choice_well n w at l [] low room = well_none n
-choice_well n w at l (z ∷ zs) low room =
+cases_well : (n : ℕ) (w : Width) (at l : ℕ) (zs : List ℤ) → at < 2 ^ 32 → l + length zs ≤ 2 ^ 32 → AllWell n (case_codes w at l zs)
+cases_well n w at l [] low room = well_none n
+cases_well n w at l (z ∷ zs) low room =
     let here : l < 2 ^ 32 = omega (arith, room) in
     let case : AllWell n (case_code w z at l) = well_append n (test_code w (bits_of z) l at) (Label l ∷ []) (test_well n w (bits_of z) l at here low) (record { all = (here, tt) }) in
-    well_append n (case_code w z at l) _ case (choice_well n w ((at + 1) % 4294967296) (l + 1) zs (omega arith) (omega (arith, room)))
+    well_append n (case_code w z at l) _ case (cases_well n w ((at + 1) % 4294967296) (l + 1) zs (omega arith) (omega (arith, room)))
+
+bytes_well : (n at : ℕ) (zs : List ℤ) → at < 2 ^ 32 → AllWell n (byte_tests at zs)
+bytes_well n at [] low = well_none n
+bytes_well n at (z ∷ zs) low =
+    let first : AllWell n (value Cmp (byte_of (bits_of z) 1) ∷ branch Beq at ∷ []) = record { all = search (rules, low) } in
+    well_append n _ (byte_tests ((at + 1) % 4294967296) zs) first (bytes_well n ((at + 1) % 4294967296) zs (omega arith))
+
+pub choice_well : (n : ℕ) (w : Width) (other at l : ℕ) (zs : List ℤ) → other < 2 ^ 32 → at < 2 ^ 32 → l + choice_labels w zs ≤ 2 ^ 32 → AllWell n (choice_code w other at l zs)
+choice_well n w other at l zs out low room = by (by_bytes w zs) room
+  where
+    by : (b : Bool) → l + (if b then 0 else length zs) ≤ 2 ^ 32 → AllWell n (if b then byte_choice other at zs else case_codes w at l zs)
+    by true room =
+        let first : AllWell n (value Cpx 0 ∷ branch Bne other ∷ []) = record { all = search (rules, out) } in
+        well_append n _ (byte_tests at zs) first (bytes_well n at zs low)
+    by false room = cases_well n w at l zs low room

@@ -1,7 +1,7 @@
 -- How far above sp the parameters stand that move to regbank.
-use Rattle.std.proofs.Common.{◌≡◌, ℕ, ◌+◌, ◌-◌, ◌≤◌, Bool, true, false, Option, None, Some, List, [], ◌∷◌, ◌++◌, slice_get, subst, arith}
+use Rattle.std.proofs.Common.{◌≡◌, refl, ℕ, ◌+◌, ◌-◌, ◌≤◌, Bool, true, false, Option, None, Some, List, [], ◌∷◌, ◌++◌, slice_get, subst, arith}
 use Rattle.std.specs.Prelude.{if◌then◌else◌, nat_lt, Ok}
-use Rattle.std.proofs.lemmas.Bool.{ltb-false}
+use Rattle.std.proofs.lemmas.Bool.{ltb-true, ltb-false}
 use Rattle.c65_base.specs.declared.refusal.Size.TheVariants as sizes
 use Rattle.c65_base.specs.Answers.{large}
 use Rattle.c65_ctype.specs.Views.{types_of}
@@ -53,9 +53,12 @@ first_few : (variadic : Bool) → (if variadic then 1 else 0) ≤ 1
 first_few true = omega arith
 first_few false = omega arith
 
-saved_few : (bank : ℕ) (b : Bool) → (if b then 6 else 0) ≤ 6
-saved_few bank true = omega arith
-saved_few bank false = omega arith
+saved_few : (bank : ℕ) → saved_bytes bank ≤ 6
+saved_few bank = by (nat_lt bank 6) refl
+  where
+    by : (b : Bool) → nat_lt bank 6 ≡ b → (if b then bank else 6) ≤ 6
+    by true e = omega (arith, ltb-true bank 6 e)
+    by false e = omega arith
 
 -- at most 1,024 bytes of parameters, 1,025 of the frame, and 6 for regbank
 pub frames_move : (parts : Parts) (modes : Modes) (g : FuncTy) (f : Framed) → frame_of parts modes g ≡ Ok f → Near 2055 f.moved
@@ -68,5 +71,5 @@ frames_move parts modes g f h =
     let given : (nat_lt 1024 p.total ≡ false) × (settled parts (check_of parts modes g) g low passed p ≡ f) = answered (nat_lt 1024 p.total) (large sizes.Frame p.total) (settled parts (check_of parts modes g) g low passed p) f h in
     let few : p.total ≤ 1024 = ltb-false 1024 p.total given.0 in
     let room : Room (none_placed (is_variadic g.ty) passed) p = all_room parts modes low (all_marks (locals_of g) g.params) (none_placed (is_variadic g.ty) passed) few in
-    let all : Near 2055 (settled parts (check_of parts modes g) g low passed p).moved = arrived_near parts (has_prototype g.ty) low (p.soft + saved_bytes p.bank) 2055 (without_last (is_kept last) g.params) (first_arrivals p stacked) (omega (arith, few, room.few, room.soft, first_few (is_variadic g.ty), saved_few p.bank (nat_lt 0 p.bank), fewer_bytes (is_kept last) passed (last_bytes parts (has_prototype g.ty) (register_param g)))) tt in
+    let all : Near 2055 (settled parts (check_of parts modes g) g low passed p).moved = arrived_near parts (has_prototype g.ty) low (p.soft + saved_bytes p.bank) 2055 (without_last (is_kept last) g.params) (first_arrivals p stacked) (omega (arith, few, room.few, room.soft, first_few (is_variadic g.ty), saved_few p.bank, fewer_bytes (is_kept last) passed (last_bytes parts (has_prototype g.ty) (register_param g)))) tt in
     subst (λ (z : Framed). Near 2055 z.moved) given.1 all

@@ -18,7 +18,7 @@ use Rattle.c65_genstmt.specs.declared.jumps.Ways.{Ways}
 use Rattle.c65_genstmt.specs.Jumps.{following, with_value, with_effect, with_test}
 use Rattle.c65_genstmt.specs.Objects.{spot_of, object_bytes}
 use Rattle.c65_genstmt.specs.Cases.{has_default}
-use Rattle.c65_genstmt.specs.Stmts.{case_behind, case_behind_all, with_label, with_jump, two_given, three_given, with_maybe, with_effects, with_guard, ways, default_way, with_choice, with_stmt, with_stmts}
+use Rattle.c65_genstmt.specs.Stmts.{case_behind, case_behind_all, with_label, with_jump, two_given, three_given, with_maybe, with_effects, with_guard, ways, default_way, with_choice, with_stmt, with_stmts, with_cases}
 use Rattle.c65_asm_law.proofs.Well.{AllWell, well_append}
 use Rattle.c65_asm_law.proofs.Known.{Knows}
 use Rattle.c65_asm_law.proofs.Entries.{choice_well}
@@ -116,10 +116,11 @@ default_low end false few = omega (arith, few)
 head_well : (n : ℕ) (u : UnitTy) (f : Framed) (e : Typed) (a : Stmt) (d : Drafted) → Knows f u n → IsTyped u e → d.labels + 1 + 1 + length (cases_of a) ≤ 2 ^ 32 → (with_choice f e a d).labels ≤ 2 ^ 32 → d.labels + 1 + 1 < 2 ^ 32 → AllWell n d.lines → AllWell n (with_choice f e a d).lines
 head_well n u f e a d knows typed room few low h =
     let g : Drafted = with_value f e (with_labels (length (cases_of a)) (two_given d)) in
-    let c : Drafted = with_code (length (cases_of a)) (choice_code (width_of (kind_in e)) (d.labels + 1 + 1) g.labels (cases_of a)) g in
+    let c : Drafted = with_cases (width_of (kind_in e)) (default_way a d.labels) (d.labels + 1 + 1) (cases_of a) g in
+    let way : default_way a d.labels < 2 ^ 32 = default_low d.labels (has_default a) (omega (arith, low)) in
     let first : AllWell n g.lines = value_well n u f e (with_labels (length (cases_of a)) (two_given d)) knows typed (omega (arith, few)) h in
-    let chosen : AllWell n c.lines = well_append n g.lines _ first (choice_well n (width_of (kind_in e)) (d.labels + 1 + 1) g.labels (cases_of a) low few) in
-    jump_well n (default_way a d.labels) c (default_low d.labels (has_default a) (omega (arith, low))) chosen
+    let chosen : AllWell n c.lines = well_append n g.lines _ first (choice_well n (width_of (kind_in e)) (default_way a d.labels) (d.labels + 1 + 1) g.labels (cases_of a) way low few) in
+    jump_well n (default_way a d.labels) c way chosen
 
 -- ---- statements
 

@@ -1,10 +1,10 @@
 -- The lines of a statement call as its calls do, in their order.
 use Rattle.std.proofs.Common.{◌≡◌, ℕ, ◌+◌, ◌/◌, ◌%◌, ◌==◌, Bool, true, false, ℤ, List, [], ◌∷◌, ◌++◌, length, refl, sym, ap, ◌∙◌}
-use Rattle.std.specs.Prelude.{nat_lt, nat_le}
+use Rattle.std.specs.Prelude.{nat_lt, nat_le, if◌then◌else◌}
 use Rattle.c65_csem.specs.Trees.{Typed, MaybeTyped, absent, present, Stmt, empty, eval, set_part, clear, block, if_stmt, while, do_while, for_loop, switch, case, default, label, goto, break, continue, return, Stmts, no_stmts, and_stmts}
 use Rattle.c65_csem.specs.Places.{is_tag}
 use Rattle.c65_csem.specs.Statements.{cases_of}
-use Rattle.c65_mach.specs.declared.rows.Op.TheVariants.{Bne, Jmp, Sta, Stx, Iny, Cpy, Dex, Lda, Ldx, Ldy, Inc}
+use Rattle.c65_mach.specs.declared.rows.Op.TheVariants.{Bne, Jmp, Sta, Stx, Iny, Cpy, Dex, Lda, Ldx, Ldy, Inc, Beq, Cmp, Cpx}
 use Rattle.c65_code.specs.declared.line.Line.{Line}
 use Rattle.c65_code.specs.declared.line.Line.TheVariants.{Label}
 use Rattle.c65_code.specs.declared.routine.Width.{Width}
@@ -25,14 +25,14 @@ use Rattle.c65_genentry.specs.Words.{ptr1, ptr2, tmp1, tmp2, regbank, implied, z
 use Rattle.c65_genentry.specs.Bytes.{pages_code, rest_code, loop_labels, block_code, block_labels}
 use Rattle.c65_genentry.specs.Bytes as blocks
 use Rattle.c65_genentry.specs.Pointers as pointers
-use Rattle.c65_genentry.specs.Choice.{bits_of, test_code, choice_code}
+use Rattle.c65_genentry.specs.Choice.{bits_of, byte_of, test_code, case_codes, by_bytes, byte_tests, byte_choice, choice_code, choice_labels}
 use Rattle.c65_genstmt.specs.declared.jumps.Ways.{Ways}
 use Rattle.c65_genstmt.specs.declared.objects.Spot.{Spot}
 use Rattle.c65_genstmt.specs.declared.objects.Spot.TheVariants.{Bank, Soft, Data}
 use Rattle.c65_geneffect.specs.Effects.{effect_code}
 use Rattle.c65_genstmt.specs.Jumps.{following, with_value, with_effect, with_test}
 use Rattle.c65_genstmt.specs.Objects.{spot_of, object_bytes, point_code, stored_code, with_copied, with_kept, with_zeros}
-use Rattle.c65_genstmt.specs.Stmts.{case_behind, with_label, with_jump, two_given, three_given, with_maybe, with_effects, with_guard, ways, default_way, with_stmt, with_stmts}
+use Rattle.c65_genstmt.specs.Stmts.{case_behind, with_label, with_jump, two_given, three_given, with_maybe, with_effects, with_guard, ways, default_way, with_stmt, with_stmts, with_cases}
 use Rattle.c65_gen_law_lines.proofs.StackPieces.{stored_leaves}
 use Rattle.c65_gen_law_calls.specs.Sites.{Site, sites_of, maybe_sites, statement_sites, statements_sites}
 use Rattle.c65_gen_law_calls.proofs.Callings.{Free, free_leaves, free_append, free_none, free_if, Has, has_then, has_free, has_as}
@@ -174,11 +174,26 @@ test_lines : (w : Width) (bits other at : ℕ) → Free (test_code w bits other 
 test_lines Ax bits other at = record { none = refl }
 test_lines Eax bits other at = record { none = refl }
 
-choice_free : (w : Width) (at l : ℕ) (zs : List ℤ) → Free (choice_code w at l zs)
-choice_free w at l [] = free_none
-choice_free w at l (z ∷ zs) =
+cases_free : (w : Width) (at l : ℕ) (zs : List ℤ) → Free (case_codes w at l zs)
+cases_free w at l [] = free_none
+cases_free w at l (z ∷ zs) =
     let last : Free (Label l ∷ []) = record { none = refl } in
-    free_append (free_append (test_lines w (bits_of z) l at) last) (choice_free w ((at + 1) % 4294967296) (l + 1) zs)
+    free_append (free_append (test_lines w (bits_of z) l at) last) (cases_free w ((at + 1) % 4294967296) (l + 1) zs)
+
+bytes_free : (at : ℕ) (zs : List ℤ) → Free (byte_tests at zs)
+bytes_free at [] = free_none
+bytes_free at (z ∷ zs) =
+    let first : Free (value Cmp (byte_of (bits_of z) 1) ∷ branch Beq at ∷ []) = record { none = refl } in
+    free_append first (bytes_free ((at + 1) % 4294967296) zs)
+
+choice_free : (w : Width) (other at l : ℕ) (zs : List ℤ) → Free (choice_code w other at l zs)
+choice_free w other at l zs = by (by_bytes w zs)
+  where
+    by : (b : Bool) → Free (if b then byte_choice other at zs else case_codes w at l zs)
+    by true =
+        let first : Free (value Cpx 0 ∷ branch Bne other ∷ []) = record { none = refl } in
+        free_append first (bytes_free at zs)
+    by false = cases_free w at l zs
 
 -- ---- statements
 
@@ -246,11 +261,11 @@ mutual
       let cases : List ℤ = cases_of a in
       let m0 : Drafted = with_labels (length cases) (two_given d) in
       let g : Drafted = with_value f e m0 in
-      let m1 : Drafted = with_code (length cases) (choice_code (width_of (kind_in e)) (d.labels + 1 + 1) g.labels cases) g in
+      let m1 : Drafted = with_cases (width_of (kind_in e)) (default_way a d.labels) (d.labels + 1 + 1) cases g in
       let m2 : Drafted = with_jump (default_way a d.labels) m1 in
       let inner : Ways = ways d.labels w.onward (d.labels + 1) in
       let m3 : Drafted = with_stmt f inner (d.labels + 1 + 1) a m2 in
-      given_adds {e = m0} refl (adds_then (value_adds f e m0) (adds_before (free_code (length cases) g (choice_code (width_of (kind_in e)) (d.labels + 1 + 1) g.labels cases) (choice_free (width_of (kind_in e)) (d.labels + 1 + 1) g.labels cases))
+      given_adds {e = m0} refl (adds_then (value_adds f e m0) (adds_before (free_code (choice_labels (width_of (kind_in e)) cases) g (choice_code (width_of (kind_in e)) (default_way a d.labels) (d.labels + 1 + 1) g.labels cases) (choice_free (width_of (kind_in e)) (default_way a d.labels) (d.labels + 1 + 1) g.labels cases))
       (adds_before (jump_adds (default_way a d.labels) m1) (adds_behind (stmt_adds f inner (d.labels + 1 + 1) a m2) (label_adds d.labels m3)))))
   stmt_adds f w l (case z a) d = adds_before (label_adds l d) (stmt_adds f w (following l) a (with_label l d))
   stmt_adds f w l (default a) d = adds_before (label_adds w.other d) (stmt_adds f w l a (with_label w.other d))

@@ -16,8 +16,8 @@ use Rattle.c65_genframe.specs.Frames.{Framed}
 use Rattle.c65_genwide.specs.Lines.{value, call}
 use Rattle.c65_genentry.specs.Words.{sp, tmp1, tmp2, ptr1, ptr2, regbank, implied, zero_page, by_y, branch}
 use Rattle.c65_genentry.specs.Stack.{count_of, raise_by, lower_by, small_raise, small_lower, repeated, raise_code, lower_code}
-use Rattle.c65_genentry.specs.Ends.{restored_code, plain_end, variadic_end, end_code}
-use Rattle.c65_genentry.specs.Entry.{pushed_code, bank_store, kept_code, saved_code, counted_code, count_code, near_load, far_load, load_code, moved_code, all_moved, counted_at, counted_store, counted_move, all_counted, raised_moves, early_moves, late_moves, taken_bytes, checked_code, taking_code, entry_code}
+use Rattle.c65_genentry.specs.Ends.{bank_loads, few_loads, few_restored, restored_code, plain_end, variadic_end, end_code}
+use Rattle.c65_genentry.specs.Entry.{pushed_code, bank_store, kept_code, bank_saves, few_saved, saved_code, counted_code, count_code, near_load, far_load, load_code, moved_code, all_moved, counted_at, counted_store, counted_move, all_counted, raised_moves, early_moves, late_moves, taken_bytes, checked_code, taking_code, entry_code}
 use Rattle.c65_genentry.specs.Pointers as pointers
 use Rattle.c65_genentry.specs.Bytes.{pages_code, rest_code, loop_labels, block_code, block_labels}
 use Rattle.c65_genentry.specs.Bytes as blocks
@@ -115,8 +115,18 @@ kept_flat Passed = flat_none
 kept_flat (Pushed bytes) = flat_none
 kept_flat (Kept bank bytes) = bank_store_flat bank bytes
 
+bank_saves_flat : (n : ℕ) → Flat (bank_saves n)
+bank_saves_flat zero = flat_none
+bank_saves_flat (suc n) = flat_append (bank_saves n) (value Ldy n ∷ zero_page Lda ((regbank + n) % 256) ∷ by_y Sta sp ∷ []) (bank_saves_flat n) (record { plain = refl; fit = refl })
+
+few_saved_flat : (bank : ℕ) → Flat (few_saved bank)
+few_saved_flat bank =
+    let wait : Flat (zero_page Sta tmp1 ∷ []) = record { plain = refl; fit = refl } in
+    let last : Flat (zero_page Lda tmp1 ∷ []) = record { plain = refl; fit = refl } in
+    flat_append (lower_code bank) (zero_page Sta tmp1 ∷ (bank_saves bank ++ zero_page Lda tmp1 ∷ [])) (lower_flat bank) (flat_append (zero_page Sta tmp1 ∷ []) (bank_saves bank ++ zero_page Lda tmp1 ∷ []) wait (flat_append (bank_saves bank) (zero_page Lda tmp1 ∷ []) (bank_saves_flat bank) last))
+
 saved_flat : (bank : ℕ) → Flat (saved_code bank)
-saved_flat bank = flat_if (nat_lt 0 bank) (call SaveRegs ∷ []) [] (record { plain = refl; fit = refl }) flat_none
+saved_flat bank = flat_if (bank == 0) [] (if nat_lt bank 6 then few_saved bank else call SaveRegs ∷ []) flat_none (flat_if (nat_lt bank 6) (few_saved bank) (call SaveRegs ∷ []) (few_saved_flat bank) (record { plain = refl; fit = refl }))
 
 near_load_flat : (at bytes : ℕ) → Flat (near_load at bytes)
 near_load_flat at bytes = flat_if (nat_lt bytes 2) (value Ldy at ∷ by_y Lda sp ∷ []) (value Ldy (at + 1) ∷ call LdAxYSp ∷ []) (record { plain = refl; fit = refl }) (record { plain = refl; fit = refl })
@@ -161,8 +171,21 @@ taking_flat f =
 pub entry_flat : (f : Framed) → Flat (entry_code f)
 entry_flat f = flat_append (checked_code f.check) (taking_code f) (checked_flat f.check) (taking_flat f)
 
+bank_loads_flat : (n : ℕ) → Flat (bank_loads n)
+bank_loads_flat zero = flat_none
+bank_loads_flat (suc n) = flat_append (bank_loads n) (value Ldy n ∷ by_y Lda sp ∷ zero_page Sta ((regbank + n) % 256) ∷ []) (bank_loads_flat n) (record { plain = refl; fit = refl })
+
+few_loads_flat : (bank : ℕ) → Flat (few_loads bank)
+few_loads_flat bank =
+    let wait : Flat (zero_page Sta tmp1 ∷ []) = record { plain = refl; fit = refl } in
+    let last : Flat (zero_page Lda tmp1 ∷ []) = record { plain = refl; fit = refl } in
+    flat_append (zero_page Sta tmp1 ∷ []) (bank_loads bank ++ zero_page Lda tmp1 ∷ []) wait (flat_append (bank_loads bank) (zero_page Lda tmp1 ∷ []) (bank_loads_flat bank) last)
+
+few_restored_flat : (bank : ℕ) → Flat (few_restored bank)
+few_restored_flat bank = flat_append (few_loads bank) (raise_code bank) (few_loads_flat bank) (raise_flat bank)
+
 restored_flat : (bank : ℕ) → Flat (restored_code bank)
-restored_flat bank = flat_if (nat_lt 0 bank) (call RestRegs ∷ []) [] (record { plain = refl; fit = refl }) flat_none
+restored_flat bank = flat_if (bank == 0) [] (if nat_lt bank 6 then few_restored bank else call RestRegs ∷ []) flat_none (flat_if (nat_lt bank 6) (few_restored bank) (call RestRegs ∷ []) (few_restored_flat bank) (record { plain = refl; fit = refl }))
 
 variadic_flat : (soft bank : ℕ) → Flat (variadic_end soft bank)
 variadic_flat soft bank =

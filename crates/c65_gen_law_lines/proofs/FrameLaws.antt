@@ -64,7 +64,7 @@ pub all_room : (parts : Parts) (modes : Modes) (i : ℕ) (marks : List Mark) (p 
 all_room parts modes i [] p h = record { few = h; soft = omega arith }
 all_room parts modes i (mark ∷ marks) p h =
     let q : Places = with_marked parts modes i mark p in
-    let rest : Room q (placed_all parts modes ((i + 1) % 4294967296) marks q) = all_room parts modes ((i + 1) % 4294967296) marks q h in
+    let rest : Room q (placed_all parts modes (i + 1) marks q) = all_room parts modes (i + 1) marks q h in
     let first : Room p q = step_room parts modes i mark p rest.few in
     record { few = first.few; soft = omega (arith, first.soft, rest.soft) }
 

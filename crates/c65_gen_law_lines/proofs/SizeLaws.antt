@@ -24,14 +24,14 @@ use Rattle.c65_genentry.specs.Bytes as blocks
 use Rattle.c65_genentry.specs.Pointers as pointers
 use Rattle.c65_genentry.specs.Entry.{entry_code}
 use Rattle.c65_genentry.specs.Ends.{end_code}
-use Rattle.c65_genentry.specs.Choice.{choice_code}
+use Rattle.c65_genentry.specs.Choice.{choice_code, choice_labels}
 use Rattle.c65_genstmt.specs.declared.jumps.Ways.{Ways}
 use Rattle.c65_genstmt.specs.declared.objects.Spot.{Spot}
 use Rattle.c65_genstmt.specs.declared.objects.Spot.TheVariants.{Bank, Soft, Data}
 use Rattle.c65_geneffect.specs.Effects.{effect_code}
 use Rattle.c65_genstmt.specs.Jumps.{following, with_value, with_effect, with_test}
 use Rattle.c65_genstmt.specs.Objects.{spot_of, object_bytes, point_code, stored_code, with_copied, with_kept, with_zeros}
-use Rattle.c65_genstmt.specs.Stmts.{case_behind, with_label, with_jump, two_given, three_given, with_maybe, with_effects, with_guard, ways, default_way, with_stmt, with_stmts}
+use Rattle.c65_genstmt.specs.Stmts.{case_behind, with_label, with_jump, two_given, three_given, with_maybe, with_effects, with_guard, ways, default_way, with_stmt, with_stmts, with_cases}
 use Rattle.c65_genstmt.specs.Cases.{room_of}
 use Rattle.c65_genstmt.specs.Functions.{main_code, no_lines}
 use Rattle.c65_gen_law_lines.specs.Bulk.{nodes, maybe_nodes, statement_nodes, statements_nodes}
@@ -111,9 +111,9 @@ guard_grows : (f : Framed) (to : ℕ) (e : MaybeTyped) (d : Drafted) → Grows (
 guard_grows f to absent d = grows_same
 guard_grows f to (present e) d = test_grows f to false e d
 
--- the bytes of a statement, while its case labels keep room for their tests
+-- the bytes of a statement, while its case labels keep room for their tests, and the function for its entry and its end
 record Within (s : Stmt) (d e : Drafted) : Type 0 where
-  size : lines_size e.lines + 32 * length (cases_of s) ≤ lines_size d.lines + 128 * statement_nodes s
+  size : lines_size e.lines + 32 * length (cases_of s) + 71 ≤ lines_size d.lines + 128 * statement_nodes s
 
 record AllWithin (ss : Stmts) (d e : Drafted) : Type 0 where
   size : lines_size e.lines + 32 * length (cases_in ss) ≤ lines_size d.lines + 128 * statements_nodes ss
@@ -162,11 +162,11 @@ mutual
       let cases : List ℤ = cases_of a in
       let m0 : Drafted = with_labels (length cases) (two_given d) in
       let g : Drafted = with_value f e m0 in
-      let m1 : Drafted = with_code (length cases) (choice_code (width_of (kind_in e)) (d.labels + 1 + 1) g.labels cases) g in
+      let m1 : Drafted = with_cases (width_of (kind_in e)) (default_way a d.labels) (d.labels + 1 + 1) cases g in
       let m2 : Drafted = with_jump (default_way a d.labels) m1 in
       let inner : Ways = ways d.labels w.onward (d.labels + 1) in
       let m3 : Drafted = with_stmt f inner (d.labels + 1 + 1) a m2 in
-      let choice : Grows (32 * length cases) g m1 = grows_code (32 * length cases) (length cases) g (choice_code (width_of (kind_in e)) (d.labels + 1 + 1) g.labels cases) (choice_size (width_of (kind_in e)) (d.labels + 1 + 1) g.labels cases) in
+      let choice : Grows (7 + 32 * length cases) g m1 = grows_code (7 + 32 * length cases) (choice_labels (width_of (kind_in e)) cases) g (choice_code (width_of (kind_in e)) (default_way a d.labels) (d.labels + 1 + 1) g.labels cases) (choice_size (width_of (kind_in e)) (default_way a d.labels) (d.labels + 1 + 1) g.labels cases) in
       record { size = omega (arith, (value_grows f e m0).size, choice.size, (jump_grows (default_way a d.labels) m1).size, (stmt_small f inner (d.labels + 1 + 1) a m2).size, (label_grows d.labels m3).size) }
   stmt_small f w l (case z a) d = record { size = omega (arith, (label_grows l d).size, (stmt_small f w (following l) a (with_label l d)).size) }
   stmt_small f w l (default a) d = record { size = omega (arith, (label_grows w.other d).size, (stmt_small f w l a (with_label w.other d)).size) }
@@ -192,4 +192,4 @@ functions_are_small parts modes g body f is_main out framed =
     let m1 : Drafted = with_stmt f (ways 0 0 0) 0 body m0 in
     let m2 : Drafted = with_lines m1 (main_code is_main) in
     let m3 : Drafted = with_label 0 m2 in
-    omega (arith, (grows_lines (69 + 19 * length f.moved) d (entry_code f) (entry_size f frame.0)).size, (stmt_small f (ways 0 0 0) 0 body m0).size, (grows_lines 4 m1 (main_code is_main) (main_size is_main)).size, (label_grows 0 m2).size, (grows_lines 54 m3 (end_code f) (end_size f frame.0 (omega (arith, frame.1)))).size, frame.2)
+    omega (arith, (grows_lines (105 + 19 * length f.moved) d (entry_code f) (entry_size f frame.0)).size, (stmt_small f (ways 0 0 0) 0 body m0).size, (grows_lines 4 m1 (main_code is_main) (main_size is_main)).size, (label_grows 0 m2).size, (grows_lines 90 m3 (end_code f) (end_size f frame.0 (omega (arith, frame.1)))).size, frame.2)

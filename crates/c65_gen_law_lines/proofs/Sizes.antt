@@ -1,7 +1,8 @@
 -- The bytes of the lines at the entry and the end of functions, and about objects.
-use Rattle.std.proofs.Common.{ℕ, zero, suc, ◌+◌, ◌*◌, ◌/◌, ◌%◌, ◌≤◌, ◌==◌, Bool, true, false, Option, None, Some, ℤ, List, [], ◌∷◌, ◌++◌, length, arith}
+use Rattle.std.proofs.Common.{◌≡◌, refl, ℕ, zero, suc, ◌+◌, ◌*◌, ◌/◌, ◌%◌, ◌≤◌, ◌==◌, Bool, true, false, Option, None, Some, ℤ, List, [], ◌∷◌, ◌++◌, length, arith}
 use Rattle.std.specs.Prelude.{if◌then◌else◌, nat_lt, nat_le}
-use Rattle.c65_mach.specs.declared.rows.Op.TheVariants.{Adc, Bne, Clc, Cpy, Dex, Iny, Inc, Lda, Ldx, Ldy, Sta, Stx, Pha, Pla, Rts, Tax, Tay, Txa, Tya}
+use Rattle.std.proofs.lemmas.Bool.{ltb-true}
+use Rattle.c65_mach.specs.declared.rows.Op.TheVariants.{Adc, Bne, Clc, Cpy, Dex, Iny, Inc, Lda, Ldx, Ldy, Sta, Stx, Pha, Pla, Rts, Tax, Tay, Txa, Tya, Beq, Cmp, Cpx}
 use Rattle.c65_code.specs.declared.line.Line.{Line}
 use Rattle.c65_code.specs.declared.line.Line.TheVariants.{Label}
 use Rattle.c65_code.specs.declared.routine.Count.{Count}
@@ -18,12 +19,12 @@ use Rattle.c65_genwide.specs.Lines.{value, call}
 use Rattle.c65_genwide.specs.Passing.{three_code, pass_bytes}
 use Rattle.c65_genentry.specs.Words.{sp, tmp1, tmp2, ptr1, ptr2, regbank, implied, zero_page, by_y, branch}
 use Rattle.c65_genentry.specs.Stack.{count_of, raise_by, lower_by, small_raise, small_lower, repeated, raise_code, lower_code}
-use Rattle.c65_genentry.specs.Ends.{restored_code, plain_end, variadic_end, end_code}
-use Rattle.c65_genentry.specs.Entry.{pushed_code, bank_store, kept_code, near_load, far_load, load_code, all_moved, counted_at, counted_store, all_counted, raised_moves, taken_bytes, checked_code, taking_code, entry_code}
+use Rattle.c65_genentry.specs.Ends.{bank_loads, few_restored, restored_code, plain_end, variadic_end, end_code}
+use Rattle.c65_genentry.specs.Entry.{pushed_code, bank_store, kept_code, near_load, far_load, load_code, all_moved, counted_at, counted_store, all_counted, raised_moves, taken_bytes, checked_code, taking_code, entry_code, bank_saves, few_saved, saved_code}
 use Rattle.c65_genentry.specs.Pointers as pointers
 use Rattle.c65_genentry.specs.Bytes.{pages_code, rest_code, loop_labels, block_code}
 use Rattle.c65_genentry.specs.Bytes as blocks
-use Rattle.c65_genentry.specs.Choice.{bits_of, test_code, choice_code}
+use Rattle.c65_genentry.specs.Choice.{bits_of, byte_of, test_code, case_codes, by_bytes, byte_tests, byte_choice, choice_code}
 use Rattle.c65_genload.specs.declared.places.Access.TheVariants.{Whole}
 use Rattle.c65_genload.specs.declared.places.Place.TheVariants as places
 use Rattle.c65_genload.specs.Stores.{store_code}
@@ -162,34 +163,72 @@ checked_size : (check : Option ℕ) → Takes 15 (checked_code check)
 checked_size None = record { size = omega arith }
 checked_size (Some c) = record { size = omega arith }
 
-taking_size : (f : Framed) → f.soft ≤ 1025 → Takes (54 + 19 * length f.moved) (taking_code f)
+few_size : (n : ℕ) → n ≤ 254 → Takes 5 (lower_code n)
+few_size n le = takes_wider (takes_append (repeated_size (n / 255) (small_lower 255) (small_lower_size 255).size) (small_lower_size (n % 255))) (omega (arith, le))
+
+few_raise_size : (n : ℕ) → n ≤ 254 → Takes 5 (raise_code n)
+few_raise_size n le = takes_wider (takes_append (repeated_size (n / 255) (small_raise 255) (small_raise_size 255).size) (small_raise_size (n % 255))) (omega (arith, le))
+
+bank_saves_size : (n : ℕ) → Takes (6 * n) (bank_saves n)
+bank_saves_size zero = record { size = omega arith }
+bank_saves_size (suc n) =
+    let one : Takes 6 (value Ldy n ∷ zero_page Lda ((regbank + n) % 256) ∷ by_y Sta sp ∷ []) = record { size = omega arith } in
+    takes_wider (takes_append (bank_saves_size n) one) (omega arith)
+
+few_saved_size : (bank : ℕ) → bank ≤ 5 → Takes 39 (few_saved bank)
+few_saved_size bank few =
+    let wait : Takes 2 (zero_page Sta tmp1 ∷ []) = record { size = omega arith } in
+    let last : Takes 2 (zero_page Lda tmp1 ∷ []) = record { size = omega arith } in
+    takes_wider (takes_append (few_size bank (omega (arith, few))) (takes_append wait (takes_append (bank_saves_size bank) last))) (omega (arith, few))
+
+saved_size : (bank : ℕ) → Takes 39 (saved_code bank)
+saved_size bank = takes_if (bank == 0) takes_none (by (nat_lt bank 6) refl)
+  where
+    by : (b : Bool) → nat_lt bank 6 ≡ b → Takes 39 (if b then few_saved bank else call SaveRegs ∷ [])
+    by true e = few_saved_size bank (omega (arith, ltb-true bank 6 e))
+    by false e = record { size = omega arith }
+
+taking_size : (f : Framed) → f.soft ≤ 1025 → Takes (90 + 19 * length f.moved) (taking_code f)
 taking_size f le =
     let tya : Takes 1 (implied Tya ∷ []) = record { size = omega arith } in
-    let save : Takes 3 (call SaveRegs ∷ []) = record { size = omega arith } in
     let push : Takes 3 (call PushA ∷ []) = record { size = omega arith } in
-    takes_wider (takes_append (pushed_size f.last) (takes_append (takes_if f.variadic tya takes_none) (takes_append (takes_if (nat_lt 0 f.bank) save takes_none) (takes_append (early_size f.variadic f.soft f.stacked f.moved) (takes_append (kept_size f.last)
+    takes_wider (takes_append (pushed_size f.last) (takes_append (takes_if f.variadic tya takes_none) (takes_append (saved_size f.bank) (takes_append (early_size f.variadic f.soft f.stacked f.moved) (takes_append (kept_size f.last)
     (takes_append (lower_size (taken_bytes f.variadic f.soft) (taken_few f.variadic f.soft le)) (takes_append (takes_if f.variadic push takes_none) (late_size f.variadic f.moved)))))))) (omega (arith, moves_sum f.variadic (length f.moved)))
 
-pub entry_size : (f : Framed) → f.soft ≤ 1025 → Takes (69 + 19 * length f.moved) (entry_code f)
+pub entry_size : (f : Framed) → f.soft ≤ 1025 → Takes (105 + 19 * length f.moved) (entry_code f)
 entry_size f le = takes_wider (takes_append (checked_size f.check) (taking_size f le)) (omega arith)
 
-restored_size : (bank : ℕ) → Takes 3 (restored_code bank)
-restored_size bank =
-    let restore : Takes 3 (call RestRegs ∷ []) = record { size = omega arith } in
-    takes_if (nat_lt 0 bank) restore takes_none
+bank_loads_size : (n : ℕ) → Takes (6 * n) (bank_loads n)
+bank_loads_size zero = record { size = omega arith }
+bank_loads_size (suc n) =
+    let one : Takes 6 (value Ldy n ∷ by_y Lda sp ∷ zero_page Sta ((regbank + n) % 256) ∷ []) = record { size = omega arith } in
+    takes_wider (takes_append (bank_loads_size n) one) (omega arith)
 
-variadic_size : (soft bank : ℕ) → soft ≤ 1025 → Takes 54 (variadic_end soft bank)
+few_restored_size : (bank : ℕ) → bank ≤ 5 → Takes 39 (few_restored bank)
+few_restored_size bank few =
+    let wait : Takes 2 (zero_page Sta tmp1 ∷ []) = record { size = omega arith } in
+    let last : Takes 2 (zero_page Lda tmp1 ∷ []) = record { size = omega arith } in
+    takes_wider (takes_append (takes_append wait (takes_append (bank_loads_size bank) last)) (few_raise_size bank (omega (arith, few)))) (omega (arith, few))
+
+restored_size : (bank : ℕ) → Takes 39 (restored_code bank)
+restored_size bank = takes_if (bank == 0) takes_none (by (nat_lt bank 6) refl)
+  where
+    by : (b : Bool) → nat_lt bank 6 ≡ b → Takes 39 (if b then few_restored bank else call RestRegs ∷ [])
+    by true e = few_restored_size bank (omega (arith, ltb-true bank 6 e))
+    by false e = record { size = omega arith }
+
+variadic_size : (soft bank : ℕ) → soft ≤ 1025 → Takes 90 (variadic_end soft bank)
 variadic_size soft bank le =
     let first : Takes 9 (zero_page Sta tmp1 ∷ value Ldy 0 ∷ by_y Lda sp ∷ implied Pha ∷ zero_page Lda tmp1 ∷ []) = record { size = omega arith } in
     let last : Takes 10 (zero_page Sta tmp1 ∷ implied Pla ∷ implied Tay ∷ zero_page Lda tmp1 ∷ call AddYSp ∷ implied Rts ∷ []) = record { size = omega arith } in
     takes_wider (takes_append first (takes_append (raise_size soft le) (takes_append (restored_size bank) last))) (omega arith)
 
-plain_size : (soft bank stacked : ℕ) → soft ≤ 1025 → stacked ≤ 1025 → Takes 54 (plain_end soft bank stacked)
+plain_size : (soft bank stacked : ℕ) → soft ≤ 1025 → stacked ≤ 1025 → Takes 90 (plain_end soft bank stacked)
 plain_size soft bank stacked le few =
     let last : Takes 1 (implied Rts ∷ []) = record { size = omega arith } in
     takes_wider (takes_append (raise_size soft le) (takes_append (restored_size bank) (takes_append (raise_size stacked few) last))) (omega arith)
 
-pub end_size : (f : Framed) → f.soft ≤ 1025 → f.stacked ≤ 1025 → Takes 54 (end_code f)
+pub end_size : (f : Framed) → f.soft ≤ 1025 → f.stacked ≤ 1025 → Takes 90 (end_code f)
 end_size f le few = takes_if f.variadic (variadic_size f.soft f.bank le) (plain_size f.soft f.bank f.stacked le few)
 
 pub main_size : (is_main : Bool) → Takes 4 (main_code is_main)
@@ -264,8 +303,23 @@ test_size : (w : Width) (bits other at : ℕ) → Takes 32 (test_code w bits oth
 test_size Ax bits other at = record { size = omega arith }
 test_size Eax bits other at = record { size = omega arith }
 
-pub choice_size : (w : Width) (at l : ℕ) (zs : List ℤ) → Takes (32 * length zs) (choice_code w at l zs)
-choice_size w at l [] = record { size = omega arith }
-choice_size w at l (z ∷ zs) =
+cases_size : (w : Width) (at l : ℕ) (zs : List ℤ) → Takes (32 * length zs) (case_codes w at l zs)
+cases_size w at l [] = record { size = omega arith }
+cases_size w at l (z ∷ zs) =
     let label : Takes 0 (Label l ∷ []) = record { size = omega arith } in
-    takes_wider (takes_append (takes_append (test_size w (bits_of z) l at) label) (choice_size w ((at + 1) % 4294967296) (l + 1) zs)) (omega arith)
+    takes_wider (takes_append (takes_append (test_size w (bits_of z) l at) label) (cases_size w ((at + 1) % 4294967296) (l + 1) zs)) (omega arith)
+
+bytes_size : (at : ℕ) (zs : List ℤ) → Takes (7 * length zs) (byte_tests at zs)
+bytes_size at [] = record { size = omega arith }
+bytes_size at (z ∷ zs) =
+    let first : Takes 7 (value Cmp (byte_of (bits_of z) 1) ∷ branch Beq at ∷ []) = record { size = omega arith } in
+    takes_wider (takes_append first (bytes_size ((at + 1) % 4294967296) zs)) (omega arith)
+
+pub choice_size : (w : Width) (other at l : ℕ) (zs : List ℤ) → Takes (7 + 32 * length zs) (choice_code w other at l zs)
+choice_size w other at l zs = by (by_bytes w zs)
+  where
+    by : (b : Bool) → Takes (7 + 32 * length zs) (if b then byte_choice other at zs else case_codes w at l zs)
+    by true =
+        let first : Takes 7 (value Cpx 0 ∷ branch Bne other ∷ []) = record { size = omega arith } in
+        takes_wider (takes_append first (bytes_size at zs)) (omega arith)
+    by false = takes_wider (cases_size w at l zs) (omega arith)

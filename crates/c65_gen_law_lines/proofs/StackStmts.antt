@@ -1,10 +1,10 @@
 -- The lines of statements leave what waits on the software stack.
 use Rattle.std.proofs.Common.{◌≡◌, ℕ, ◌+◌, ◌/◌, ◌%◌, ◌==◌, Bool, true, false, Some, ℤ, List, [], ◌∷◌, ◌++◌, length, refl, sym, ◌∙◌, ap}
-use Rattle.std.specs.Prelude.{nat_lt, nat_le, Option}
+use Rattle.std.specs.Prelude.{nat_lt, nat_le, Option, if◌then◌else◌}
 use Rattle.c65_csem.specs.Trees.{Typed, MaybeTyped, absent, present, Stmt, empty, eval, set_part, clear, block, if_stmt, while, do_while, for_loop, switch, case, default, label, goto, break, continue, return, Stmts, no_stmts, and_stmts}
 use Rattle.c65_csem.specs.Places.{is_tag}
 use Rattle.c65_csem.specs.Statements.{cases_of}
-use Rattle.c65_mach.specs.declared.rows.Op.TheVariants.{Bne, Jmp, Sta, Stx, Iny, Cpy, Dex, Lda, Ldx, Ldy, Inc}
+use Rattle.c65_mach.specs.declared.rows.Op.TheVariants.{Bne, Jmp, Sta, Stx, Iny, Cpy, Dex, Lda, Ldx, Ldy, Inc, Beq, Cmp, Cpx}
 use Rattle.c65_code.specs.declared.line.Line.{Line}
 use Rattle.c65_code.specs.declared.line.Line.TheVariants.{Label}
 use Rattle.c65_code.specs.declared.routine.Width.{Width}
@@ -25,14 +25,14 @@ use Rattle.c65_genentry.specs.Words.{ptr1, ptr2, tmp1, tmp2, regbank, implied, z
 use Rattle.c65_genentry.specs.Bytes.{pages_code, rest_code, loop_labels, block_code, block_labels}
 use Rattle.c65_genentry.specs.Bytes as blocks
 use Rattle.c65_genentry.specs.Pointers as pointers
-use Rattle.c65_genentry.specs.Choice.{bits_of, test_code, choice_code}
+use Rattle.c65_genentry.specs.Choice.{bits_of, byte_of, test_code, case_codes, by_bytes, byte_tests, byte_choice, choice_code, choice_labels}
 use Rattle.c65_genstmt.specs.declared.jumps.Ways.{Ways}
 use Rattle.c65_genstmt.specs.declared.objects.Spot.{Spot}
 use Rattle.c65_genstmt.specs.declared.objects.Spot.TheVariants.{Bank, Soft, Data}
 use Rattle.c65_geneffect.specs.Effects.{effect_code}
 use Rattle.c65_genstmt.specs.Jumps.{following, with_value, with_effect, with_test}
 use Rattle.c65_genstmt.specs.Objects.{spot_of, object_bytes, point_code, stored_code, with_copied, with_kept, with_zeros}
-use Rattle.c65_genstmt.specs.Stmts.{case_behind, with_label, with_jump, two_given, three_given, with_maybe, with_effects, with_guard, ways, default_way, with_stmt, with_stmts}
+use Rattle.c65_genstmt.specs.Stmts.{case_behind, with_label, with_jump, two_given, three_given, with_maybe, with_effects, with_guard, ways, default_way, with_stmt, with_stmts, with_cases}
 use Rattle.c65_gen_law_lines.specs.Stack.{Waiting, waiting_by, waits, calls_of, maybe_calls, statement_calls, statements_calls}
 use Rattle.c65_gen_law_lines.specs.Laws.{StatementsKeepTheStack}
 use Rattle.c65_gen_law_lines.proofs.StackPieces.{waits_append, Leaves, leaves_then, leaves_none, leaves_if, Still, stored_leaves}
@@ -172,9 +172,20 @@ test_lines : (w : Width) (bits other at : ℕ) → Still (test_code w bits other
 test_lines Ax bits other at v = record { to = λ calls. refl }
 test_lines Eax bits other at v = record { to = λ calls. refl }
 
-choice_still : (w : Width) (at l : ℕ) (zs : List ℤ) → Still (choice_code w at l zs)
-choice_still w at l [] v = leaves_none
-choice_still w at l (z ∷ zs) v = leaves_then (leaves_then (test_lines w (bits_of z) l at v) (one_label l v)) (choice_still w ((at + 1) % 4294967296) (l + 1) zs v)
+cases_still : (w : Width) (at l : ℕ) (zs : List ℤ) → Still (case_codes w at l zs)
+cases_still w at l [] v = leaves_none
+cases_still w at l (z ∷ zs) v = leaves_then (leaves_then (test_lines w (bits_of z) l at v) (one_label l v)) (cases_still w ((at + 1) % 4294967296) (l + 1) zs v)
+
+bytes_still : (at : ℕ) (zs : List ℤ) → Still (byte_tests at zs)
+bytes_still at [] v = leaves_none
+bytes_still at (z ∷ zs) v = leaves_then {a = value Cmp (byte_of (bits_of z) 1) ∷ branch Beq at ∷ []} (record { to = λ calls. refl }) (bytes_still ((at + 1) % 4294967296) zs v)
+
+choice_still : (w : Width) (other at l : ℕ) (zs : List ℤ) → Still (choice_code w other at l zs)
+choice_still w other at l zs v = by (by_bytes w zs)
+  where
+    by : (b : Bool) → Leaves v (if b then byte_choice other at zs else case_codes w at l zs) v
+    by true = leaves_then {a = value Cpx 0 ∷ branch Bne other ∷ []} (record { to = λ calls. refl }) (bytes_still at zs v)
+    by false = cases_still w at l zs v
 
 -- ---- statements
 
@@ -242,11 +253,11 @@ mutual
       let cases : List ℤ = cases_of a in
       let m0 : Drafted = with_labels (length cases) (two_given d) in
       let g : Drafted = with_value f e m0 in
-      let m1 : Drafted = with_code (length cases) (choice_code (width_of (kind_in e)) (d.labels + 1 + 1) g.labels cases) g in
+      let m1 : Drafted = with_cases (width_of (kind_in e)) (default_way a d.labels) (d.labels + 1 + 1) cases g in
       let m2 : Drafted = with_jump (default_way a d.labels) m1 in
       let inner : Ways = ways d.labels w.onward (d.labels + 1) in
       let m3 : Drafted = with_stmt f inner (d.labels + 1 + 1) a m2 in
-      given_keeps {e = m0} refl (keeps_then (value_keeps f e m0) (keeps_before (still_code (length cases) g (choice_code (width_of (kind_in e)) (d.labels + 1 + 1) g.labels cases) (choice_still (width_of (kind_in e)) (d.labels + 1 + 1) g.labels cases))
+      given_keeps {e = m0} refl (keeps_then (value_keeps f e m0) (keeps_before (still_code (choice_labels (width_of (kind_in e)) cases) g (choice_code (width_of (kind_in e)) (default_way a d.labels) (d.labels + 1 + 1) g.labels cases) (choice_still (width_of (kind_in e)) (default_way a d.labels) (d.labels + 1 + 1) g.labels cases))
       (keeps_before (jump_keeps (default_way a d.labels) m1) (keeps_behind (stmt_keeps f inner (d.labels + 1 + 1) a m2) (label_keeps d.labels m3)))))
   stmt_keeps f w l (case z a) d = keeps_before (label_keeps l d) (stmt_keeps f w (following l) a (with_label l d))
   stmt_keeps f w l (default a) d = keeps_before (label_keeps w.other d) (stmt_keeps f w l a (with_label w.other d))

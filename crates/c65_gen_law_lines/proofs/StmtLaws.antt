@@ -23,14 +23,14 @@ use Rattle.c65_genentry.specs.Words.{ptr1, ptr2, zero_page, with_code}
 use Rattle.c65_genentry.specs.Bytes.{block_labels}
 use Rattle.c65_genentry.specs.Bytes as blocks
 use Rattle.c65_genentry.specs.Pointers as pointers
-use Rattle.c65_genentry.specs.Choice.{bits_of, test_code, case_code, choice_code}
+use Rattle.c65_genentry.specs.Choice.{bits_of, test_code, case_code, case_codes, by_bytes, byte_tests, byte_choice}
 use Rattle.c65_genstmt.specs.declared.jumps.Ways.{Ways}
 use Rattle.c65_genstmt.specs.declared.objects.Spot.{Spot}
 use Rattle.c65_genstmt.specs.declared.objects.Spot.TheVariants.{Bank, Soft, Data}
 use Rattle.c65_genstmt.specs.Jumps.{following, with_value, with_test}
 use Rattle.c65_genstmt.specs.Objects.{spot_of, object_bytes, point_code, stored_code, with_copied, with_kept, with_set, with_zeros}
 use Rattle.c65_genstmt.specs.Cases.{has_default}
-use Rattle.c65_genstmt.specs.Stmts.{case_behind, with_label, with_jump, two_given, three_given, with_maybe, with_effects, with_guard, ways, default_way, with_stmt, with_stmts}
+use Rattle.c65_genstmt.specs.Stmts.{case_behind, with_label, with_jump, two_given, three_given, with_maybe, with_effects, with_guard, ways, default_way, with_stmt, with_stmts, with_cases}
 use Rattle.c65_gen_law_lines.specs.Labels.{times, is_within, among}
 use Rattle.c65_gen_law_lines.proofs.Made.{times-append, within, within_wider, among_inside, among_split, among_none, among_one, all_append}
 use Rattle.c65_gen_law_lines.proofs.Flat.{Flat, point_flat, stored_flat, bank_clear_flat, clear_own, copy_own}
@@ -76,37 +76,63 @@ test_leads : (ok : ℕ → Bool) (w : Width) (bits other at : ℕ) → ok other 
 test_leads ok Ax bits other at first second = and_from (ok other) _ first (and_from (ok at) true second refl)
 test_leads ok Eax bits other at first second = and_from (ok other) _ first (and_from (ok other) _ first (and_from (ok other) _ first (and_from (ok at) true second refl)))
 
-choice_times : (w : Width) (at l : ℕ) (zs : List ℤ) (x : ℕ) → times x (choice_code w at l zs) ≡ among l (length zs) x
-choice_times w at l [] x = sym (among_none l x)
-choice_times w at l (z ∷ zs) x =
+cases_times : (w : Width) (at l : ℕ) (zs : List ℤ) (x : ℕ) → times x (case_codes w at l zs) ≡ among l (length zs) x
+cases_times w at l [] x = sym (among_none l x)
+cases_times w at l (z ∷ zs) x =
     let n : suc (length zs) ≡ 1 + length zs = omega arith in
     let sum : among l (suc (length zs)) x ≡ among l (1 + length zs) x = ap (λ k. among l k x) n in
-    omega (arith, sum, times-append x (case_code w z at l) (choice_code w ((at + 1) % 4294967296) (l + 1) zs), times-append x (test_code w (bits_of z) l at) (Label l ∷ []), test_times w (bits_of z) l at x, choice_times w ((at + 1) % 4294967296) (l + 1) zs x, among_split l 1 (length zs) x, among_one l x)
+    omega (arith, sum, times-append x (case_code w z at l) (case_codes w ((at + 1) % 4294967296) (l + 1) zs), times-append x (test_code w (bits_of z) l at) (Label l ∷ []), test_times w (bits_of z) l at x, cases_times w ((at + 1) % 4294967296) (l + 1) zs x, among_split l 1 (length zs) x, among_one l x)
 
-choice_fit : (w : Width) (at l : ℕ) (zs : List ℤ) → list_all is_fit (choice_code w at l zs) ≡ true
-choice_fit w at l [] = refl
-choice_fit w at l (z ∷ zs) = all_append is_fit (case_code w z at l) _ (all_append is_fit (test_code w (bits_of z) l at) (Label l ∷ []) (test_fit w (bits_of z) l at) refl) (choice_fit w ((at + 1) % 4294967296) (l + 1) zs)
+cases_fit : (w : Width) (at l : ℕ) (zs : List ℤ) → list_all is_fit (case_codes w at l zs) ≡ true
+cases_fit w at l [] = refl
+cases_fit w at l (z ∷ zs) = all_append is_fit (case_code w z at l) _ (all_append is_fit (test_code w (bits_of z) l at) (Label l ∷ []) (test_fit w (bits_of z) l at) refl) (cases_fit w ((at + 1) % 4294967296) (l + 1) zs)
 
 -- the labels of cases pass a test
 abbrev CasesPass : ℕ → ℕ → (ℕ → Bool) → Type 0
 CasesPass l n ok = (x : ℕ) → 1 ≤ laid l n x → ok x ≡ true
 
-choice_leads : (ok : ℕ → Bool) (w : Width) (at l : ℕ) (zs : List ℤ) → CasesPass at (length zs) ok → ((x : ℕ) → is_within l (length zs) x ≡ true → ok x ≡ true) → list_all ok (targets_of (choice_code w at l zs)) ≡ true
-choice_leads ok w at l [] cases labels = refl
-choice_leads ok w at l (z ∷ zs) cases labels =
+cases_lead : (ok : ℕ → Bool) (w : Width) (at l : ℕ) (zs : List ℤ) → CasesPass at (length zs) ok → ((x : ℕ) → is_within l (length zs) x ≡ true → ok x ≡ true) → list_all ok (targets_of (case_codes w at l zs)) ≡ true
+cases_lead ok w at l [] cases labels = refl
+cases_lead ok w at l (z ∷ zs) cases labels =
     let here : ok l ≡ true = labels l (within l (suc (length zs)) l (omega arith) (omega arith)) in
     let there : ok at ≡ true = cases at (omega (arith, one_same at)) in
-    let rest : list_all ok (targets_of (choice_code w ((at + 1) % 4294967296) (l + 1) zs)) ≡ true = choice_leads ok w ((at + 1) % 4294967296) (l + 1) zs (λ x h. cases x (omega (arith, h))) (λ x h. labels x (within_wider (l + 1) (length zs) l (suc (length zs)) x (omega arith) (omega arith) h)) in
-    arrives_append ok (case_code w z at l) (choice_code w ((at + 1) % 4294967296) (l + 1) zs) (arrives_append ok (test_code w (bits_of z) l at) (Label l ∷ []) (test_leads ok w (bits_of z) l at here there) refl) rest
+    let rest : list_all ok (targets_of (case_codes w ((at + 1) % 4294967296) (l + 1) zs)) ≡ true = cases_lead ok w ((at + 1) % 4294967296) (l + 1) zs (λ x h. cases x (omega (arith, h))) (λ x h. labels x (within_wider (l + 1) (length zs) l (suc (length zs)) x (omega arith) (omega arith) h)) in
+    arrives_append ok (case_code w z at l) (case_codes w ((at + 1) % 4294967296) (l + 1) zs) (arrives_append ok (test_code w (bits_of z) l at) (Label l ∷ []) (test_leads ok w (bits_of z) l at here there) refl) rest
 
-choice_puts : (w : Width) (at : ℕ) (zs : List ℤ) (d : Drafted) → Puts d (with_code (length zs) (choice_code w at d.labels zs) d) no_others (CasesPass at (length zs))
-choice_puts w at zs d = record {
-  grows = omega arith;
-  most = λ x. omega (arith, times-append x d.lines (choice_code w at d.labels zs), choice_times w at d.labels zs x, below_more d.labels (length zs) x);
-  least = λ x. omega (arith, times-append x d.lines (choice_code w at d.labels zs));
-  fit = λ h. all_append is_fit d.lines (choice_code w at d.labels zs) h (choice_fit w at d.labels zs);
-  leads = λ ok ex covers h. arrives_append ok d.lines (choice_code w at d.labels zs) h (choice_leads ok w at d.labels zs ex (λ x inside. covers x (omega (arith, times-append x d.lines (choice_code w at d.labels zs), choice_times w at d.labels zs x, among_inside d.labels (length zs) x inside))));
-}
+bytes_times : (at : ℕ) (zs : List ℤ) (x : ℕ) → times x (byte_tests at zs) ≡ 0
+bytes_times at [] x = refl
+bytes_times at (z ∷ zs) x = bytes_times ((at + 1) % 4294967296) zs x
+
+bytes_fit : (at : ℕ) (zs : List ℤ) → list_all is_fit (byte_tests at zs) ≡ true
+bytes_fit at [] = refl
+bytes_fit at (z ∷ zs) = bytes_fit ((at + 1) % 4294967296) zs
+
+bytes_lead : (ok : ℕ → Bool) (at : ℕ) (zs : List ℤ) → CasesPass at (length zs) ok → list_all ok (targets_of (byte_tests at zs)) ≡ true
+bytes_lead ok at [] cases = refl
+bytes_lead ok at (z ∷ zs) cases = and_from (ok at) _ (cases at (omega (arith, one_same at))) (bytes_lead ok ((at + 1) % 4294967296) zs (λ x h. cases x (omega (arith, h))))
+
+-- the labels of the cases, and that to which it goes where there is none
+abbrev ChoicePasses : ℕ → ℕ → ℕ → (ℕ → Bool) → Type 0
+ChoicePasses other at n ok = (ok other ≡ true) × CasesPass at n ok
+
+choice_puts : (w : Width) (other at : ℕ) (zs : List ℤ) (d : Drafted) → Puts d (with_cases w other at zs d) no_others (ChoicePasses other at (length zs))
+choice_puts w other at zs d = by (by_bytes w zs)
+  where
+    by : (b : Bool) → Puts d (with_code (if b then 0 else length zs) (if b then byte_choice other at zs else case_codes w at d.labels zs) d) no_others (ChoicePasses other at (length zs))
+    by true = record {
+      grows = omega arith;
+      most = λ x. omega (arith, times-append x d.lines (byte_choice other at zs), bytes_times at zs x, below_more d.labels 0 x);
+      least = λ x. omega (arith, times-append x d.lines (byte_choice other at zs));
+      fit = λ h. all_append is_fit d.lines (byte_choice other at zs) h (bytes_fit at zs);
+      leads = λ ok ex covers h. arrives_append ok d.lines (byte_choice other at zs) h (and_from (ok other) _ ex.0 (bytes_lead ok at zs ex.1));
+    }
+    by false = record {
+      grows = omega arith;
+      most = λ x. omega (arith, times-append x d.lines (case_codes w at d.labels zs), cases_times w at d.labels zs x, below_more d.labels (length zs) x);
+      least = λ x. omega (arith, times-append x d.lines (case_codes w at d.labels zs));
+      fit = λ h. all_append is_fit d.lines (case_codes w at d.labels zs) h (cases_fit w at d.labels zs);
+      leads = λ ok ex covers h. arrives_append ok d.lines (case_codes w at d.labels zs) h (cases_lead ok w at d.labels zs ex.1 (λ x inside. covers x (omega (arith, times-append x d.lines (case_codes w at d.labels zs), cases_times w at d.labels zs x, among_inside d.labels (length zs) x inside))));
+    }
 
 -- ---- statements
 
@@ -210,15 +236,15 @@ mutual
       let cases : List ℤ = cases_of a in
       let m0 : Drafted = with_labels (length cases) (two_given d) in
       let g : Drafted = with_value f e m0 in
-      let m1 : Drafted = with_code (length cases) (choice_code (width_of (kind_in e)) (d.labels + 1 + 1) g.labels cases) g in
+      let m1 : Drafted = with_cases (width_of (kind_in e)) (default_way a d.labels) (d.labels + 1 + 1) cases g in
       let m2 : Drafted = with_jump (default_way a d.labels) m1 in
       let inner : Ways = ways d.labels w.onward (d.labels + 1) in
       let m3 : Drafted = with_stmt f inner (d.labels + 1 + 1) a m2 in
       let body : Puts m2 m3 (others (d.labels + 1) (d.labels + 1 + 1) a) (Exits inner c.labels) = stmt_puts u (switching h.0 c) f inner (d.labels + 1 + 1) a m2 h.2 few in
       switch_labels d (with_label d.labels m3) a _ _ (Exits w c.labels)
-      (puts_then (puts_value f e m0) (puts_then (choice_puts (width_of (kind_in e)) (d.labels + 1 + 1) cases g) (puts_then (puts_jump m1 (default_way a d.labels)) (puts_then body (puts_label m3 d.labels)))))
+      (puts_then (puts_value f e m0) (puts_then (choice_puts (width_of (kind_in e)) (default_way a d.labels) (d.labels + 1 + 1) cases g) (puts_then (puts_jump m1 (default_way a d.labels)) (puts_then body (puts_label m3 d.labels)))))
       (λ x. omega arith) h.1.one_default few
-      (λ ok first second third ex. (tt, (third, (default_passes a d.labels ok (has_default a) refl first second, (through d.labels w.onward (d.labels + 1) first ex.onward ex, tt)))))
+      (λ ok first second third ex. (tt, ((default_passes a d.labels ok (has_default a) refl first second, third), (default_passes a d.labels ok (has_default a) refl first second, (through d.labels w.onward (d.labels + 1) first ex.onward ex, tt)))))
   stmt_puts u c f w l (case z a) d h few = puts_end (puts_then (puts_label d l) (stmt_puts u c f w (following l) a (with_label l d) h.1 few)) (λ x. refl) (λ ok ex. (tt, ex))
   stmt_puts u c f w l (default a) d h few = puts_end (puts_then (puts_label d w.other) (stmt_puts u c f w l a (with_label w.other d) h.1 few)) (λ x. refl) (λ ok ex. (tt, ex))
   stmt_puts u c f w l (label n a) d h few = puts_end (puts_then (puts_label d (following n)) (stmt_puts u c f w l a (with_label (following n) d) h few)) (λ x. refl) (λ ok ex. (tt, ex))

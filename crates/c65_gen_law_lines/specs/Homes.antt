@@ -1,5 +1,5 @@
 -- Which homes a byte is part of (docs/MACHINE.md, "Calls").
-use Rattle.std.specs.Prelude.{ℕ, ◌+◌, ◌%◌, Bool, true, Option, Some, List, [], ◌∷◌}
+use Rattle.std.specs.Prelude.{ℕ, ◌+◌, Bool, true, Option, Some, List, [], ◌∷◌}
 use Rattle.c65_ctype.specs.Views.{types_of}
 use Rattle.c65_csem.specs.declared.items.Parts.{Parts}
 use Rattle.c65_genframe.specs.declared.home.Home.{Home}
@@ -11,7 +11,7 @@ use Rattle.c65_genframe.specs.Frames.{home_at}
 use Rattle.c65_gen_law_lines.specs.Labels.{among}
 
 abbrev pub next : ℕ → ℕ
-next i = (i + 1) % 4294967296
+next i = i + 1
 
 -- how many homes in regbank byte x is part of; the first home is that of the object with number i
 abbrev pub in_bank : Parts → ℕ → ℕ → List (Option Home) → ℕ

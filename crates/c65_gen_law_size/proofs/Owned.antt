@@ -53,7 +53,7 @@ gives_home parts i Parameter = true
 
 abbrev give_homes : Parts → ℕ → List Mark → List Bool
 give_homes parts i [] = []
-give_homes parts i (m ∷ ms) = gives_home parts i m ∷ give_homes parts ((i + 1) % 4294967296) ms
+give_homes parts i (m ∷ ms) = gives_home parts i m ∷ give_homes parts (i + 1) ms
 
 marked_home : (parts : Parts) (modes : Modes) (i : ℕ) (m : Mark) (p : Places) → (with_marked parts modes i m p).total ≤ 1024 → map has_home (with_marked parts modes i m p).homes ≡ map has_home p.homes ++ gives_home parts i m ∷ []
 marked_home parts modes i Other p h = one_more p.homes None
@@ -64,7 +64,7 @@ placed_homes : (parts : Parts) (modes : Modes) (i : ℕ) (ms : List Mark) (p : P
 placed_homes parts modes i [] p h = sym (append-nil (map has_home p.homes))
 placed_homes parts modes i (m ∷ ms) p h =
     let q : Places = with_marked parts modes i m p in
-    let next : ℕ = (i + 1) % 4294967296 in
+    let next : ℕ = i + 1 in
     let rest : map has_home (placed_all parts modes next ms q).homes ≡ map has_home q.homes ++ give_homes parts next ms = placed_homes parts modes next ms q h in
     let room : Room q (placed_all parts modes next ms q) = all_room parts modes next ms q h in
     rest ∙ (ap (λ bs. bs ++ give_homes parts next ms) (marked_home parts modes i m p room.few) ∙ append_assoc (map has_home p.homes) (gives_home parts i m ∷ []) (give_homes parts next ms))
@@ -105,16 +105,15 @@ given_at parts low zero (x ∷ ms) m few h =
     let here : low ≡ low + 0 = omega arith in
     ap (gives_home parts low) same ∙ ap (λ (n : ℕ). gives_home parts n m) here
 given_at parts low (suc k) (x ∷ ms) m few h =
-    let next : (low + 1) % 4294967296 ≡ low + 1 = omega (arith, few) in
-    let there : (low + 1) % 4294967296 + k ≡ low + suc k = omega (arith, next) in
-    given_at parts ((low + 1) % 4294967296) k ms m (omega (arith, there, few)) h ∙ ap (λ (n : ℕ). gives_home parts n m) there
+    let there : low + 1 + k ≡ low + suc k = omega arith in
+    given_at parts (low + 1) k ms m (omega (arith, there, few)) h ∙ ap (λ (n : ℕ). gives_home parts n m) there
 
 none_given : (parts : Parts) (low k : ℕ) (ms : List Mark) → bit (map has_mark ms) k ≡ false → bit (give_homes parts low ms) k ≡ false
 none_given parts low k [] h = refl
 none_given parts low zero (Other ∷ ms) h = refl
 none_given parts low zero (Local ∷ ms) h = absurd (let x : true ≡ false = h in cc)
 none_given parts low zero (Parameter ∷ ms) h = absurd (let x : true ≡ false = h in cc)
-none_given parts low (suc k) (m ∷ ms) h = none_given parts ((low + 1) % 4294967296) k ms h
+none_given parts low (suc k) (m ∷ ms) h = none_given parts (low + 1) k ms h
 
 -- the objects that are marked, from their numbers on
 given_own : (parts : Parts) (locals params : List ℕ) (i : ℕ) → i < 4294967296 → lowest locals params ≤ i

@@ -4,7 +4,7 @@ use Rattle.std.specs.Prelude.{if◌then◌else◌, nat_lt, nat_le}
 use Rattle.c65_csem.specs.Trees.{Typed, MaybeTyped, absent, present, Stmt, empty, eval, set_part, clear, block, if_stmt, while, do_while, for_loop, switch, case, default, label, goto, break, continue, return, Stmts, no_stmts, and_stmts}
 use Rattle.c65_csem.specs.Places.{is_tag}
 use Rattle.c65_csem.specs.Statements.{cases_of}
-use Rattle.c65_mach.specs.declared.rows.Op.TheVariants.{Bne, Jmp, Sta, Stx, Iny, Cpy, Dex, Lda, Ldx, Ldy, Inc, Rts, Pha, Pla, Tay}
+use Rattle.c65_mach.specs.declared.rows.Op.TheVariants.{Bne, Jmp, Sta, Stx, Iny, Cpy, Dex, Lda, Ldx, Ldy, Inc, Rts, Pha, Pla, Tay, Beq, Cmp, Cpx}
 use Rattle.c65_code.specs.declared.line.Line.{Line}
 use Rattle.c65_code.specs.declared.routine.Count.{Count}
 use Rattle.c65_code.specs.declared.routine.Width.{Width}
@@ -30,7 +30,7 @@ use Rattle.c65_genentry.specs.Words.{sp, ptr1, ptr2, tmp1, tmp2, implied, zero_p
 use Rattle.c65_genentry.specs.Bytes.{pages_code, rest_code, loop_labels, block_code}
 use Rattle.c65_genentry.specs.Bytes as blocks
 use Rattle.c65_genentry.specs.Pointers as pointers
-use Rattle.c65_genentry.specs.Choice.{bits_of, test_code, choice_code}
+use Rattle.c65_genentry.specs.Choice.{bits_of, byte_of, test_code, case_codes, by_bytes, byte_tests, byte_choice, choice_code}
 use Rattle.c65_genentry.specs.Stack.{count_of, raise_by, lower_by, small_raise, small_lower, repeated, raise_code, lower_code}
 use Rattle.c65_genentry.specs.Entry.{pushed_code, kept_code, saved_code, counted_code, count_code, all_moved, raised_moves, taken_bytes, checked_code, entry_code}
 use Rattle.c65_genentry.specs.Ends.{restored_code, end_code}
@@ -40,11 +40,11 @@ use Rattle.c65_genstmt.specs.declared.objects.Spot.TheVariants.{Bank, Soft, Data
 use Rattle.c65_genstmt.specs.Jumps.{following, with_value, with_effect, with_test}
 use Rattle.c65_genstmt.specs.Objects.{spot_at, spot_of, object_bytes, point_code, stored_code, with_copied, with_kept, with_zeros}
 use Rattle.c65_genstmt.specs.Cases.{room_of}
-use Rattle.c65_genstmt.specs.Stmts.{case_behind, with_label, with_jump, two_given, three_given, with_maybe, with_effects, with_guard, ways, default_way, with_stmt, with_stmts}
+use Rattle.c65_genstmt.specs.Stmts.{case_behind, with_label, with_jump, two_given, three_given, with_maybe, with_effects, with_guard, ways, default_way, with_stmt, with_stmts, with_cases}
 use Rattle.c65_genstmt.specs.Functions.{main_code, no_lines}
 use Rattle.c65_gen_law_stack.specs.Bank.{FunctionsLeaveRegbank}
 use Rattle.c65_gen_law_stack.proofs.EntryWay.{IsOrderly}
-use Rattle.c65_gen_law_stack.proofs.FrameOrder.{NotBank, frames_are_orderly, frames_without_bank}
+use Rattle.c65_gen_law_stack.proofs.FrameOrder.{NotBank, frames_are_orderly, frames_without_bank, unkept, unmoved}
 use Rattle.c65_gen_law_stack.proofs.BankPieces.{pass_clear, Clear, clear_then, clear_if, clear_none, store_clear}
 use Rattle.c65_gen_law_stack.proofs.BankExprs.{IsBankless, label_clear, expr_clear}
 use Rattle.c65_gen_law_stack.proofs.EffectClears.{effect_clear}
@@ -153,9 +153,24 @@ tests_clear : (w : Width) (bits other at : ℕ) → Clear (test_code w bits othe
 tests_clear Ax bits other at = record { all = refl }
 tests_clear Eax bits other at = record { all = refl }
 
-choice_clear : (w : Width) (at l : ℕ) (zs : List ℤ) → Clear (choice_code w at l zs)
-choice_clear w at l [] = clear_none
-choice_clear w at l (z ∷ zs) = clear_then (clear_then (tests_clear w (bits_of z) l at) (label_clear l)) (choice_clear w ((at + 1) % 4294967296) (l + 1) zs)
+cases_clear : (w : Width) (at l : ℕ) (zs : List ℤ) → Clear (case_codes w at l zs)
+cases_clear w at l [] = clear_none
+cases_clear w at l (z ∷ zs) = clear_then (clear_then (tests_clear w (bits_of z) l at) (label_clear l)) (cases_clear w ((at + 1) % 4294967296) (l + 1) zs)
+
+bytes_clear : (at : ℕ) (zs : List ℤ) → Clear (byte_tests at zs)
+bytes_clear at [] = clear_none
+bytes_clear at (z ∷ zs) =
+    let first : Clear (value Cmp (byte_of (bits_of z) 1) ∷ branch Beq at ∷ []) = record { all = refl } in
+    clear_then first (bytes_clear ((at + 1) % 4294967296) zs)
+
+choice_clear : (w : Width) (other at l : ℕ) (zs : List ℤ) → Clear (choice_code w other at l zs)
+choice_clear w other at l zs = by (by_bytes w zs)
+  where
+    by : (b : Bool) → Clear (if b then byte_choice other at zs else case_codes w at l zs)
+    by true =
+        let first : Clear (value Cpx 0 ∷ branch Bne other ∷ []) = record { all = refl } in
+        clear_then first (bytes_clear at zs)
+    by false = cases_clear w at l zs
 
 mutual
   stmt_kept : (f : Framed) (w : Ways) (l : ℕ) (s : Stmt) (d : Drafted) → IsBankless f → Clear d.lines → Clear (with_stmt f w l s d).lines
@@ -193,9 +208,9 @@ mutual
   stmt_kept f w l (switch e x) d b c =
       let m0 : Drafted = with_labels (length (cases_of x)) (two_given d) in
       let g : Drafted = with_value f e m0 in
-      let m1 : Drafted = with_code (length (cases_of x)) (choice_code (width_of (kind_in e)) (d.labels + 1 + 1) g.labels (cases_of x)) g in
+      let m1 : Drafted = with_cases (width_of (kind_in e)) (default_way x d.labels) (d.labels + 1 + 1) (cases_of x) g in
       let m2 : Drafted = with_jump (default_way x d.labels) m1 in
-      let c1 : Clear m1.lines = clear_then (value_kept f e m0 b c) (choice_clear (width_of (kind_in e)) (d.labels + 1 + 1) g.labels (cases_of x)) in
+      let c1 : Clear m1.lines = clear_then (value_kept f e m0 b c) (choice_clear (width_of (kind_in e)) (default_way x d.labels) (d.labels + 1 + 1) g.labels (cases_of x)) in
       clear_then (stmt_kept f (ways d.labels w.onward (d.labels + 1)) (d.labels + 1 + 1) x m2 b (clear_then c1 (jmp (default_way x d.labels)))) (label_clear d.labels)
   stmt_kept f w l (case z x) d b c = stmt_kept f w (following l) x (with_label l d) b (clear_then c (label_clear l))
   stmt_kept f w l (default x) d b c = stmt_kept f w l x (with_label w.other d) b (clear_then c (label_clear w.other))
@@ -248,9 +263,6 @@ count_clear : (variadic : Bool) → Clear (count_code variadic)
 count_clear true = record { all = refl }
 count_clear false = clear_none
 
-saved_clear : (bank : ℕ) → Clear (saved_code bank)
-saved_clear bank = clear_if (nat_lt 0 bank) (record { all = refl }) clear_none
-
 nothing_clear : (a : List Line) → a ≡ [] → Clear a
 nothing_clear a e = subst (λ (x : List Line). Clear x) (sym e) clear_none
 
@@ -265,24 +277,21 @@ early_clear : (v : Bool) (soft stacked : ℕ) (ms : List Moved) → ms ≡ [] �
 early_clear true soft stacked ms e = nothing_clear (raised_moves soft stacked ms) (ap (raised_moves soft stacked) e)
 early_clear false soft stacked ms e = clear_none
 
-restored_clear : (b : Bool) → b ≡ false → Clear (if b then call RestRegs ∷ [] else [])
-restored_clear true e = absurd cc
-restored_clear false e = clear_none
-
 checked_clear : (check : Option ℕ) → Clear (checked_code check)
 checked_clear None = clear_none
 checked_clear (Some c) = record { all = refl }
 
-entry_clear : (f : Framed) → IsOrderly f → nat_lt 0 f.bank ≡ false → Clear (entry_code f)
-entry_clear f o e =
-    clear_then (checked_clear f.check) (clear_then (pushed_clear f.last) (clear_then (counted_clear f.variadic) (clear_then (saved_clear f.bank) (clear_then (early_clear f.variadic f.soft f.stacked f.moved (o.unkept e).1) (clear_then (nothing_clear (kept_code f.last) (o.unkept e).0) (clear_then (lower_clear (taken_bytes f.variadic f.soft)) (clear_then (count_clear f.variadic) (late_clear f.variadic f.moved (o.unkept e).1))))))))
+entry_clear : (f : Framed) → IsOrderly f → f.bank ≡ 0 → Clear (entry_code f)
+entry_clear f o none =
+    let moved : f.moved ≡ [] = unmoved f.bank f.moved none o.moved in
+    clear_then (checked_clear f.check) (clear_then (pushed_clear f.last) (clear_then (counted_clear f.variadic) (clear_then (nothing_clear (saved_code f.bank) (ap saved_code none)) (clear_then (early_clear f.variadic f.soft f.stacked f.moved moved) (clear_then (nothing_clear (kept_code f.last) (unkept f.bank f.last none o.kept)) (clear_then (lower_clear (taken_bytes f.variadic f.soft)) (clear_then (count_clear f.variadic) (late_clear f.variadic f.moved moved))))))))
 
-end_clear : (f : Framed) → nat_lt 0 f.bank ≡ false → Clear (end_code f)
-end_clear f e =
+end_clear : (f : Framed) → f.bank ≡ 0 → Clear (end_code f)
+end_clear f none =
     let front : Clear (zero_page Sta tmp1 ∷ value Ldy 0 ∷ by_y Lda sp ∷ implied Pha ∷ zero_page Lda tmp1 ∷ []) = record { all = refl } in
     let back : Clear (zero_page Sta tmp1 ∷ implied Pla ∷ implied Tay ∷ zero_page Lda tmp1 ∷ call AddYSp ∷ implied Rts ∷ []) = record { all = refl } in
     let last : Clear (implied Rts ∷ []) = record { all = refl } in
-    let restored : Clear (restored_code f.bank) = restored_clear (nat_lt 0 f.bank) e in
+    let restored : Clear (restored_code f.bank) = nothing_clear (restored_code f.bank) (ap restored_code none) in
     clear_if f.variadic (clear_then front (clear_then (raise_clear f.soft) (clear_then restored back))) (clear_then (raise_clear f.soft) (clear_then restored (clear_then (raise_clear f.stacked) last)))
 
 main_clear : (is_main : Bool) → Clear (main_code is_main)
@@ -291,9 +300,8 @@ main_clear false = clear_none
 
 pub functions_leave_regbank : FunctionsLeaveRegbank
 functions_leave_regbank parts modes g body f is_main out framed nothing =
-    let e : nat_lt 0 f.bank ≡ false = ap (nat_lt 0) nothing in
     let o : IsOrderly f = frames_are_orderly parts modes g f framed in
     let b : IsBankless f = frames_without_bank parts modes g f framed nothing in
     let d : Drafted = with_lines (with_labels (room_of body) (with_labels 1 (no_lines out))) (entry_code f) in
-    let all : Clear (with_stmt f (ways 0 0 0) 0 body d).lines = stmt_kept f (ways 0 0 0) 0 body d b (entry_clear f o e) in
-    (clear_then (clear_then (clear_then all (main_clear is_main)) (label_clear 0)) (end_clear f e)).all
+    let all : Clear (with_stmt f (ways 0 0 0) 0 body d).lines = stmt_kept f (ways 0 0 0) 0 body d b (entry_clear f o nothing) in
+    (clear_then (clear_then (clear_then all (main_clear is_main)) (label_clear 0)) (end_clear f nothing)).all

@@ -15,7 +15,7 @@ use Rattle.c65_genentry.specs.Words.{sreg, ptr1, ptr2, tmp1, tmp2, regbank, impl
 use Rattle.c65_genentry.specs.Bytes.{pages_code, rest_code, loop_labels, block_code}
 use Rattle.c65_genentry.specs.Bytes as blocks
 use Rattle.c65_genentry.specs.Pointers as pointers
-use Rattle.c65_genentry.specs.Choice.{bits_of, byte_of, test_code, case_code, choice_code}
+use Rattle.c65_genentry.specs.Choice.{bits_of, byte_of, test_code, case_code, case_codes, by_bytes, byte_tests, byte_choice, choice_code}
 use Rattle.c65_genstmt.specs.declared.objects.Spot.{Spot}
 use Rattle.c65_genstmt.specs.declared.objects.Spot.TheVariants.{Bank, Soft, Data}
 use Rattle.c65_genstmt.specs.Objects.{point_code, stored_code}
@@ -150,8 +150,33 @@ case_level : (w : Width) (z : ℤ) (at l n : ℕ) → Level Nowhere (Cases at (s
 case_level w z at l n =
     level_end (level_then (test_level w (bits_of z) l at) (level_label l [])) (λ k h x. absurd x) (λ k h x. elim x [ inl p ↦ inl (inr p) | inr q ↦ inr (first_case at n k h q) ])
 
-pub choice_level : (w : Width) (at l : ℕ) (zs : List ℤ) → Level Nowhere (Cases at (length zs)) [] [] (choice_code w at l zs) []
-choice_level w at l [] = level_none
-choice_level w at l (z ∷ zs) =
-    let rest : Level Nowhere (Cases at (suc (length zs))) [] [] (choice_code w ((at + 1) % 4294967296) (l + 1) zs) [] = level_end (choice_level w ((at + 1) % 4294967296) (l + 1) zs) (λ k h x. x) (λ k h x. inr (later_case at (length zs) k h x)) in
+cases_level : (w : Width) (at l : ℕ) (zs : List ℤ) → Level Nowhere (Cases at (length zs)) [] [] (case_codes w at l zs) []
+cases_level w at l [] = level_none
+cases_level w at l (z ∷ zs) =
+    let rest : Level Nowhere (Cases at (suc (length zs))) [] [] (case_codes w ((at + 1) % 4294967296) (l + 1) zs) [] = level_end (cases_level w ((at + 1) % 4294967296) (l + 1) zs) (λ k h x. x) (λ k h x. inr (later_case at (length zs) k h x)) in
     level_end (level_then (case_level w z at l (length zs)) rest) (λ k h x. absurd x) (λ k h x. inr x)
+
+byte_level : (z : ℤ) (at n : ℕ) → Level Nowhere (Cases at (suc n)) [] [] (value Cmp (byte_of (bits_of z) 1) ∷ branch Beq at ∷ []) []
+byte_level z at n =
+    level_end (level_then (one_line at at (value Cmp (byte_of (bits_of z) 1)) (λ v. record { to = λ calls. refl }) refl) (to_case at at)) (λ k h x. absurd x) (λ k h x. inr (first_case at n k h (elim x [ inl p ↦ p | inr q ↦ q ])))
+
+bytes_level : (at : ℕ) (zs : List ℤ) → Level Nowhere (Cases at (length zs)) [] [] (byte_tests at zs) []
+bytes_level at [] = level_none
+bytes_level at (z ∷ zs) =
+    let rest : Level Nowhere (Cases at (suc (length zs))) [] [] (byte_tests ((at + 1) % 4294967296) zs) [] = level_end (bytes_level ((at + 1) % 4294967296) zs) (λ k h x. x) (λ k h x. inr (later_case at (length zs) k h x)) in
+    level_end (level_then (byte_level z at (length zs)) rest) (λ k h x. absurd x) (λ k h x. inr x)
+
+-- the labels of the cases, and that to which it goes where there is none
+abbrev pub Chosen : ℕ → ℕ → ℕ → ℕ → List ℕ → Type 0
+Chosen other at n l h = There other [] l h ⊎ Cases at n l h
+
+pub choice_level : (w : Width) (other at l : ℕ) (zs : List ℤ) → Level Nowhere (Chosen other at (length zs)) [] [] (choice_code w other at l zs) []
+choice_level w other at l zs = by (by_bytes w zs)
+  where
+    by : (b : Bool) → Level Nowhere (Chosen other at (length zs)) [] [] (if b then byte_choice other at zs else case_codes w at l zs) []
+    by true =
+        let high : Level Nowhere (Tests other other) [] [] (value Cpx 0 ∷ branch Bne other ∷ []) [] = level_end (level_then (one_line other other (value Cpx 0) (λ v. record { to = λ calls. refl }) refl) (to_other other other)) (λ k h x. absurd x) (λ k h x. inr x) in
+        let first : Level Nowhere (Chosen other at (length zs)) [] [] (value Cpx 0 ∷ branch Bne other ∷ []) [] = level_end high (λ k h x. x) (λ k h x. inr (inl (elim x [ inl p ↦ p | inr q ↦ q ]))) in
+        let rest : Level Nowhere (Chosen other at (length zs)) [] [] (byte_tests at zs) [] = level_end (bytes_level at zs) (λ k h x. x) (λ k h x. inr (inr x)) in
+        level_end (level_then first rest) (λ k h x. absurd x) (λ k h x. inr x)
+    by false = level_end (cases_level w at l zs) (λ k h x. x) (λ k h x. inr (inr x))

@@ -1,7 +1,7 @@
 -- The end of a function.
-use Rattle.std.proofs.Common.{◌≡◌, ℕ, zero, suc, ◌+◌, ◌*◌, ◌/◌, ◌%◌, ◌==◌, ◌≤◌, ◌||◌, Bool, true, false, Option, None, Some, List, [], ◌∷◌, ◌++◌, refl, sym, ap, subst, ◌∙◌, arith}
+use Rattle.std.proofs.Common.{◌≡◌, ℕ, zero, suc, ◌+◌, ◌-◌, ◌*◌, ◌/◌, ◌%◌, ◌==◌, ◌≤◌, ◌||◌, Bool, true, false, Option, None, Some, List, [], ◌∷◌, ◌++◌, refl, sym, ap, subst, ◌∙◌, arith}
 use Rattle.std.specs.Prelude.{if◌then◌else◌, nat_lt}
-use Rattle.std.proofs.lemmas.Bool.{eqb-true}
+use Rattle.std.proofs.lemmas.Bool.{eqb-true, ltb-true, ltb-false}
 use Rattle.c65_mach.specs.State.{Regs}
 use Rattle.c65_mach.specs.declared.rows.Op.TheVariants.{Ldy, Lda, Sta, Pha, Pla, Rts, Tay}
 use Rattle.c65_code.specs.declared.parts.Part.TheVariants.{Zp}
@@ -22,11 +22,12 @@ use Rattle.c65_genframe.specs.Frames.{Framed, saved_bytes}
 use Rattle.c65_genwide.specs.Lines.{value, call}
 use Rattle.c65_genentry.specs.Words.{sp, tmp1, implied, zero_page, by_y}
 use Rattle.c65_genentry.specs.Stack.{count_of, raise_by, small_raise, repeated, raise_code}
-use Rattle.c65_genentry.specs.Ends.{restored_code, plain_end, variadic_end, end_code}
+use Rattle.c65_genentry.specs.Ends.{bank_loads, few_loads, few_restored, restored_code, plain_end, variadic_end, end_code}
 use Rattle.c65_gen_law_stack.specs.Passing.{Passes}
 use Rattle.c65_gen_law_stack.specs.Calls.{caller_bank, parameter_bytes, IsLeft}
 use Rattle.c65_gen_law_stack.proofs.Steps.{bytes_same, Lifts, lifts_same, lifts_then, lifts_some, lifts_y, Restores, restores}
 use Rattle.c65_gen_law_stack.proofs.Ways.{calm_at, halves, single, simple_way}
+use Rattle.c65_gen_law_stack.proofs.BankWay.{rest_same, saved_few, Loads, loads_way, loaded}
 use Rattle.c65_gen_law_stack.proofs.EntryWay.{counted_of}
 
 -- ---- sp is raised
@@ -82,20 +83,6 @@ record Ends (n : ℕ) (given : List ℕ) (t u : State) : Type 0 where
   a : u.regs.a ≡ t.regs.a
   bank : bank_of u ≡ given
 
-restored_way : (taken : ℕ) (b : Bool) (s : Setting) (p q : Place) (t u : State) → nat_lt 0 taken ≡ b → Passes s (restored_code taken) p t q u → Ends (saved_bytes taken) (if b then bytes_at 6 (sp_of t) t.mem else bank_of t) t u
-restored_way taken b s p q t u e h = by (nat_lt 0 taken) b e h
-  where
-    by : (c b : Bool) → c ≡ b → Passes s (if c then call RestRegs ∷ [] else []) p t q u → Ends (if c then 6 else 0) (if b then bytes_at 6 (sp_of t) t.mem else bank_of t) t u
-    by true true e h =
-        let one = single s (call RestRegs) p q t u h in
-        let r : Restores t u = restores s p q t u one.1 in
-        record { sp = r.sp; mem = r.mem; pushed = r.pushed; frames = r.frames; a = r.a; bank = r.bank }
-    by false false e h =
-        let l : Lifts 0 t u = same_lifts t u h.1 in
-        record { sp = l.sp; mem = l.mem; pushed = l.pushed; frames = l.frames; a = l.a; bank = l.bank }
-    by true false e h = absurd cc
-    by false true e h = absurd cc
-
 -- sp is raised before
 ends_behind : {m n : ℕ} {bank : List ℕ} {t u v : State} → Lifts m t u → Ends n bank u v → Ends (m + n) bank t v
 ends_behind p q = record {
@@ -121,10 +108,57 @@ ends_before p q = record {
 ends_as : {m n : ℕ} {bank new : List ℕ} {t u : State} → m ≡ n → bank ≡ new → Ends m bank t u → Ends n new t u
 ends_as {bank = bank} {t = t} {u = u} e g p = record { sp = p.sp ∙ ap (λ (k : ℕ). sp_of t + k) e; mem = p.mem; pushed = p.pushed; frames = p.frames; a = p.a; bank = p.bank ∙ g }
 
+few_loads_way : (n : ℕ) (s : Setting) (p q : Place) (t u : State) → n ≤ 6 → Passes s (few_loads n) p t q u → Ends 0 (bytes_at n (sp_of t) t.mem ++ bytes_at (6 - n) (20 + n) t.zp) t u
+few_loads_way n s p q t u few h =
+    let h1 = halves s (zero_page Sta tmp1 ∷ []) (bank_loads n ++ zero_page Lda tmp1 ∷ []) p q t u h in
+    let h2 = halves s (bank_loads n) (zero_page Lda tmp1 ∷ []) h1.0 q h1.1 u h1.3 in
+    let t1 : State = h1.1 in
+    let t2 : State = h2.1 in
+    let calm : IsCalm s t = calm_at s (few_loads n) p q t u h in
+    let e1 = simple_way s (zero_page Sta tmp1 ∷ []) p h1.0 t t1 refl h1.2 in
+    let sp1 : sp_of t1 ≡ sp_of t = ap sp_of e1 in
+    let mem1 : (b : ℕ) → t1.mem b ≡ t.mem b = λ b. ap (λ (x : State). x.mem b) e1 in
+    let loads : Loads n t1 t2 = loads_way n s h1.0 h2.0 t1 t2 few (omega (arith, sp1, calm.high, few)) h2.2 in
+    let e3 = simple_way s (zero_page Lda tmp1 ∷ []) h2.0 q t2 u refl h2.3 in
+    let bank1 : bank_of t1 ≡ bank_of t = ap bank_of e1 in
+    let there : bytes_at n (sp_of t1) t1.mem ≡ bytes_at n (sp_of t) t.mem = bytes_same n (sp_of t1) t.mem t1.mem (λ b l. mem1 b) ∙ ap (λ (b : ℕ). bytes_at n b t.mem) sp1 in
+    record {
+      sp = omega (arith, ap sp_of e3, loads.sp, sp1);
+      mem = λ b l. ap (λ (x : State). x.mem b) e3 ∙ (loads.mem b ∙ mem1 b);
+      pushed = ap (λ (x : State). x.pushed) e3 ∙ (loads.pushed ∙ ap (λ (x : State). x.pushed) e1);
+      frames = ap (λ (x : State). x.frames) e3 ∙ (loads.frames ∙ ap (λ (x : State). x.frames) e1);
+      a = ap (λ (x : State). x.regs.a) e3 ∙ (loads.below 16 (omega arith) ∙ ap (λ (x : State). x.zp 16) e1);
+      bank = ap bank_of e3 ∙ (loaded n t1 t2 few loads ∙ (ap (λ (l : List ℕ). l ++ bytes_at (6 - n) (20 + n) t1.zp) there ∙ ap (λ (l : List ℕ). bytes_at n (sp_of t) t.mem ++ l) (rest_same n t t1 few bank1)));
+    }
+
+-- the bytes at sp, and above them regbank as it is
+abbrev given_back : ℕ → ℕ → State → List ℕ
+given_back k at t = bytes_at k at t.mem ++ bytes_at (6 - k) (20 + k) t.zp
+
+restored_way : (taken : ℕ) (s : Setting) (p q : Place) (t u : State) → Passes s (restored_code taken) p t q u → Ends (saved_bytes taken) (given_back (saved_bytes taken) (sp_of t) t) t u
+restored_way taken s p q t u h = by (taken == 0) (nat_lt taken 6) refl refl h
+  where
+    by : (z b : Bool) → (taken == 0) ≡ z → nat_lt taken 6 ≡ b → Passes s (if z then [] else (if b then few_restored taken else call RestRegs ∷ [])) p t q u → Ends (if b then taken else 6) (given_back (if b then taken else 6) (sp_of t) t) t u
+    by true true e f h =
+        let none : taken ≡ 0 = eqb-true taken 0 e in
+        let l : Lifts 0 t u = same_lifts t u h.1 in
+        let same : Ends 0 (given_back 0 (sp_of t) t) t u = record { sp = l.sp; mem = l.mem; pushed = l.pushed; frames = l.frames; a = l.a; bank = l.bank } in
+        ends_as (sym none) (sym (ap (λ (n : ℕ). given_back n (sp_of t) t) none)) same
+    by true false e f h = absurd (omega (arith, eqb-true taken 0 e, ltb-false taken 6 f))
+    by false true e f h =
+        let two = halves s (few_loads taken) (raise_code taken) p q t u h in
+        let first = few_loads_way taken s p two.0 t two.1 (omega (arith, ltb-true taken 6 f)) two.2 in
+        ends_as (omega arith) refl (ends_before first (raise_way taken s two.0 q two.1 u two.3))
+    by false false e f h =
+        let one = single s (call RestRegs) p q t u h in
+        let r : Restores t u = restores s p q t u one.1 in
+        record { sp = r.sp; mem = r.mem; pushed = r.pushed; frames = r.frames; a = r.a; bank = r.bank }
+
 -- what was saved lies so many bytes above sp
-raised_bank : (b : Bool) (soft : ℕ) (t u : State) → Lifts soft t u → (if b then bytes_at 6 (sp_of u) u.mem else bank_of u) ≡ (if b then bytes_at 6 (sp_of t + soft) t.mem else bank_of t)
-raised_bank true soft t u l = bytes_same 6 (sp_of u) t.mem u.mem l.mem ∙ ap (λ (n : ℕ). bytes_at 6 n t.mem) l.sp
-raised_bank false soft t u l = l.bank
+raised_bank : (k soft : ℕ) (t u : State) → k ≤ 6 → Lifts soft t u → given_back k (sp_of u) u ≡ given_back k (sp_of t + soft) t
+raised_bank k soft t u few l =
+    let first : bytes_at k (sp_of u) u.mem ≡ bytes_at k (sp_of t + soft) t.mem = bytes_same k (sp_of u) t.mem u.mem l.mem ∙ ap (λ (n : ℕ). bytes_at k n t.mem) l.sp in
+    ap (λ (x : List ℕ). x ++ bytes_at (6 - k) (20 + k) u.zp) first ∙ ap (λ (x : List ℕ). bytes_at k (sp_of t + soft) t.mem ++ x) (rest_same k t u few l.bank)
 
 -- ---- the return
 
@@ -190,11 +224,11 @@ plain_left s f frame frames p q t u fixed e h =
     let h2 = halves s (restored_code f.bank) (raise_code f.stacked ++ implied Rts ∷ []) h1.0 q h1.1 u h1.3 in
     let h3 = halves s (raise_code f.stacked) (implied Rts ∷ []) h2.0 q h2.1 u h2.3 in
     let first : Lifts f.soft t h1.1 = raise_way f.soft s p h1.0 t h1.1 h1.2 in
-    let second = restored_way f.bank (nat_lt 0 f.bank) s h1.0 h2.0 h1.1 h2.1 refl h2.2 in
+    let second = restored_way f.bank s h1.0 h2.0 h1.1 h2.1 h2.2 in
     let third : Lifts f.stacked h2.1 h3.1 = raise_way f.stacked s h2.0 h3.0 h2.1 h3.1 h3.2 in
     let all = ends_behind first (ends_before second third) in
     let number : f.stacked ≡ parameter_bytes f t = sym (ap (λ (b : Bool). if b then t.mem (sp_of t) else f.stacked) fixed) in
-    let ends : Ends (f.soft + (saved_bytes f.bank + parameter_bytes f t)) (caller_bank f t) t h3.1 = ends_as (ap (λ (n : ℕ). f.soft + (saved_bytes f.bank + n)) number) (raised_bank (nat_lt 0 f.bank) f.soft t h1.1 first) all in
+    let ends : Ends (f.soft + (saved_bytes f.bank + parameter_bytes f t)) (caller_bank f t) t h3.1 = ends_as (ap (λ (n : ℕ). f.soft + (saved_bytes f.bank + n)) number) (raised_bank (saved_bytes f.bank) f.soft t h1.1 (saved_few f.bank) first) all in
     left_by s f frame frames p q t h3.1 u e ends (return_way s frame frames h3.0 q h3.1 u (all.frames ∙ e) h3.3)
 
 -- ---- the end of a variadic function
@@ -276,11 +310,12 @@ back_way c rest s p q t u stack h =
       y = ap (λ (x : State). x.regs.y) e3 ∙ (ap (λ (x : State). x.regs.a) e2 ∙ sym (same_head c pull.0 rest pull.1 same));
     }
 
-same_bank : (b : Bool) (soft : ℕ) (t u : State) → Front t u → (if b then bytes_at 6 (sp_of u + soft) u.mem else bank_of u) ≡ (if b then bytes_at 6 (sp_of t + soft) t.mem else bank_of t)
-same_bank true soft t u h = bytes_same 6 (sp_of u + soft) t.mem u.mem (λ b l. h.mem b) ∙ ap (λ (n : ℕ). bytes_at 6 (n + soft) t.mem) h.sp
-same_bank false soft t u h = h.bank
+same_bank : (k soft : ℕ) (t u : State) → k ≤ 6 → Front t u → given_back k (sp_of u + soft) u ≡ given_back k (sp_of t + soft) t
+same_bank k soft t u few h =
+    let first : bytes_at k (sp_of u + soft) u.mem ≡ bytes_at k (sp_of t + soft) t.mem = bytes_same k (sp_of u + soft) t.mem u.mem (λ b l. h.mem b) ∙ ap (λ (n : ℕ). bytes_at k (n + soft) t.mem) h.sp in
+    ap (λ (x : List ℕ). x ++ bytes_at (6 - k) (20 + k) u.zp) first ∙ ap (λ (x : List ℕ). bytes_at k (sp_of t + soft) t.mem ++ x) (rest_same k t u few h.bank)
 
-variadic_ends : (f : Framed) {t t5 t7 t8 t9 : State} → f.variadic ≡ true → Front t t5 → Ends (f.soft + saved_bytes f.bank) (if nat_lt 0 f.bank then bytes_at 6 (sp_of t5 + f.soft) t5.mem else bank_of t5) t5 t7
+variadic_ends : (f : Framed) {t t5 t7 t8 t9 : State} → f.variadic ≡ true → Front t t5 → Ends (f.soft + saved_bytes f.bank) (given_back (saved_bytes f.bank) (sp_of t5 + f.soft) t5) t5 t7
     → Back (t.mem (sp_of t)) t.pushed t7 t8 → Lifts t8.regs.y t8 t9 → Ends (f.soft + (saved_bytes f.bank + parameter_bytes f t)) (caller_bank f t) t t9
 variadic_ends f {t = t} {t5 = t5} {t7 = t7} {t8 = t8} {t9 = t9} is first second third fourth =
     let number : t.mem (sp_of t) ≡ parameter_bytes f t = sym (ap (λ (b : Bool). if b then t.mem (sp_of t) else f.stacked) is) in
@@ -290,7 +325,7 @@ variadic_ends f {t = t} {t5 = t5} {t7 = t7} {t8 = t8} {t9 = t9} is first second 
       pushed = fourth.pushed ∙ third.pushed;
       frames = fourth.frames ∙ (third.frames ∙ (second.frames ∙ first.frames));
       a = fourth.a ∙ (third.a ∙ (second.a ∙ first.a));
-      bank = fourth.bank ∙ (third.bank ∙ (second.bank ∙ same_bank (nat_lt 0 f.bank) f.soft t t5 first));
+      bank = fourth.bank ∙ (third.bank ∙ (second.bank ∙ same_bank (saved_bytes f.bank) f.soft t t5 (saved_few f.bank) first));
     }
 
 variadic_left : (s : Setting) (f : Framed) (frame : Frame) (frames : List Frame) (p q : Place) (t u : State) → f.variadic ≡ true → t.frames ≡ frame ∷ frames → Passes s (variadic_end f.soft f.bank) p t q u → IsLeft s f frame p t q u
@@ -302,8 +337,8 @@ variadic_left s f frame frames p q t u is e h =
     let h5 = halves s (call AddYSp ∷ []) (implied Rts ∷ []) h4.0 q h4.1 u h4.3 in
     let first : Front t h1.1 = front_way s p h1.0 t h1.1 h1.2 in
     let lift : Lifts f.soft h1.1 h2.1 = raise_way f.soft s h1.0 h2.0 h1.1 h2.1 h2.2 in
-    let rest = restored_way f.bank (nat_lt 0 f.bank) s h2.0 h3.0 h2.1 h3.1 refl h3.2 in
-    let second = ends_as refl (raised_bank (nat_lt 0 f.bank) f.soft h1.1 h2.1 lift) (ends_behind lift rest) in
+    let rest = restored_way f.bank s h2.0 h3.0 h2.1 h3.1 h3.2 in
+    let second = ends_as refl (raised_bank (saved_bytes f.bank) f.soft h1.1 h2.1 (saved_few f.bank) lift) (ends_behind lift rest) in
     let third : Back (t.mem (sp_of t)) t.pushed h3.1 h4.1 = back_way (t.mem (sp_of t)) t.pushed s h3.0 h4.0 h3.1 h4.1 (second.pushed ∙ first.pushed) h4.2 in
     let one = single s (call AddYSp) h4.0 h5.0 h4.1 h5.1 h5.2 in
     let fourth : Lifts h4.1.regs.y h4.1 h5.1 = lifts_y s h4.0 h5.0 h4.1 h5.1 one.0.calm one.2 one.1 in

@@ -1,7 +1,7 @@
 -- The entry of a function.
-use Rattle.std.proofs.Common.{◌≡◌, ℕ, zero, suc, ◌+◌, ◌*◌, ◌/◌, ◌%◌, ◌==◌, ◌≤◌, inl, inr, Bool, true, false, Option, None, Some, List, [], ◌∷◌, ◌++◌, length, refl, sym, ap, subst, ◌∙◌, arith}
+use Rattle.std.proofs.Common.{◌≡◌, ℕ, zero, suc, ◌+◌, ◌-◌, ◌<◌, ◌*◌, ◌/◌, ◌%◌, ◌==◌, ◌≤◌, inl, inr, Bool, true, false, Option, None, Some, List, [], ◌∷◌, ◌++◌, length, refl, sym, ap, subst, ◌∙◌, arith}
 use Rattle.std.specs.Prelude.{if◌then◌else◌, nat_lt, IsTrue}
-use Rattle.std.proofs.lemmas.Bool.{eqb-true}
+use Rattle.std.proofs.lemmas.Bool.{eqb-true, ltb-true, ltb-false}
 use Rattle.c65_mach.specs.State.{Regs}
 use Rattle.c65_mach.specs.Step.{after}
 use Rattle.c65_mach.specs.declared.rows.Op.TheVariants.{Adc, Clc, Iny, Ldy, Lda, Sta, Stx, Tax, Tay, Txa, Tya}
@@ -15,19 +15,21 @@ use Rattle.c65_code.specs.Placement.{Setting}
 use Rattle.c65_code.specs.declared.parts.Part.TheVariants.{Y}
 use Rattle.c65_code.specs.Rows.{Meets, number_of, bank_of, row_by, costing, is_too_deep, check_row}
 use Rattle.c65_code.specs.Moves.{Moves}
+use Rattle.c65_code.specs.Steady.{IsCalm}
 use Rattle.c65_genframe.specs.declared.home.Arrival.{Arrival}
 use Rattle.c65_genframe.specs.declared.home.Arrival.TheVariants.{Passed, Pushed, Kept}
 use Rattle.c65_genframe.specs.declared.home.Moved.{Moved}
 use Rattle.c65_genframe.specs.Frames.{Framed, saved_bytes}
 use Rattle.c65_genwide.specs.Lines.{value, call}
 use Rattle.c65_genwide.specs.Passing.{three_code}
-use Rattle.c65_genentry.specs.Words.{sp, sreg, tmp2, tmp3, tmp4, regbank, implied, zero_page, by_y}
+use Rattle.c65_genentry.specs.Words.{sp, sreg, tmp1, tmp2, tmp3, tmp4, regbank, implied, zero_page, by_y}
 use Rattle.c65_genentry.specs.Stack.{count_of, lower_by, small_lower, repeated, lower_code}
-use Rattle.c65_genentry.specs.Entry.{pushed_code, bank_store, kept_code, saved_code, counted_code, count_code, near_load, far_load, load_code, moved_code, all_moved, counted_at, counted_store, counted_move, all_counted, raised_moves, early_moves, late_moves, taken_bytes, checked_code, taking_code, entry_code}
+use Rattle.c65_genentry.specs.Entry.{pushed_code, bank_store, kept_code, bank_saves, few_saved, saved_code, counted_code, count_code, near_load, far_load, load_code, moved_code, all_moved, counted_at, counted_store, counted_move, all_counted, raised_moves, early_moves, late_moves, taken_bytes, checked_code, taking_code, entry_code}
 use Rattle.c65_gen_law_stack.specs.Passing.{Passes}
-use Rattle.c65_gen_law_stack.specs.Calls.{pushed_bytes, entry_bytes, IsEntered}
+use Rattle.c65_gen_law_stack.specs.Calls.{pushed_bytes, entry_bytes, caller_bank, IsEntered}
 use Rattle.c65_gen_law_stack.proofs.Steps.{write_other, bytes_same, Sinks, Quiet, sinks_same, sinks_then, quiet_same, quiet_then, pushes_a, pushes_ax, pushes_eax, saves, lowers, lowers_y, bank_kept}
-use Rattle.c65_gen_law_stack.proofs.Ways.{halves, single, simple_way}
+use Rattle.c65_gen_law_stack.proofs.Ways.{calm_at, halves, single, simple_way}
+use Rattle.c65_gen_law_stack.proofs.BankWay.{bytes_as, Rest, bank_halves, first_same, rest_same, rest_stored, saved_is, saved_few, Saves, saves_way}
 
 -- ---- the last parameter
 
@@ -89,11 +91,14 @@ pushed_way (Pushed bytes) s p q t u h = push_way (nat_lt bytes 2) (nat_lt bytes 
 pushed_way Passed s p q t u h = lowers_quiet (same_quiet t u h.1)
 pushed_way (Kept bank bytes) s p q t u h = lowers_quiet (same_quiet t u h.1)
 
--- ---- lines that change registers alone
+-- ---- lines that change registers alone, and what lies below sp
 
 record Registers (t u : State) : Type 0 where
   sinks : Sinks 0 t u
   bank : bank_of u ≡ bank_of t
+
+registers_then : {t u v : State} → Registers t u → Registers u v → Registers t v
+registers_then p q = record { sinks = sinks_then p.sinks q.sinks; bank = q.bank ∙ p.bank }
 
 registers_only : (t u : State) (r : Regs) → u ≡ record t { regs = r } → Registers t u
 registers_only t u r e = subst (λ (x : State). Registers t x) (sym e) (record { sinks = record { sp = omega arith; mem = λ b h. refl; pushed = refl; frames = refl }; bank = refl })
@@ -104,49 +109,72 @@ counted_way true s p q t u h =
     (registers_only t u _ e, λ v. ap (λ (x : State). x.regs.a) e)
 counted_way false s p q t u h = (record { sinks = same_sinks t u h.1; bank = ap bank_of h.1 }, λ v. absurd cc)
 
--- ---- regbank is saved
-
-saved_way : (bank : ℕ) (b : Bool) (s : Setting) (p q : Place) (t u : State) → nat_lt 0 bank ≡ b → Passes s (saved_code bank) p t q u → Quiet (saved_bytes bank) t u × (b ≡ true → bytes_at 6 (sp_of u) u.mem ≡ bank_of t)
-saved_way bank b s p q t u e h = by (nat_lt 0 bank) e h
-  where
-    by : (c : Bool) → c ≡ b → Passes s (if c then call SaveRegs ∷ [] else []) p t q u → Quiet (if c then 6 else 0) t u × (b ≡ true → bytes_at 6 (sp_of u) u.mem ≡ bank_of t)
-    by true e h =
-        let one = single s (call SaveRegs) p q t u h in
-        let both = saves s p q t u one.0.calm one.1 in
-        (both.1, λ yes. both.0.there)
-    by false e h = (same_quiet t u h.1, λ yes. absurd cc)
-
 -- ---- stores to regbank
 
-store_sinks : (t u : State) (i v : ℕ) → 2 ≤ i → u ≡ record t { zp = write t.zp i v } → Sinks 0 t u
-store_sinks t u i v h e =
+-- sp and what lies at it and above stay, and so do the bytes of regbank from one on
+record Moving (k : ℕ) (t u : State) : Type 0 where
+  sinks : Sinks 0 t u
+  rest : Rest k t u
+
+moving_same : (k : ℕ) (t u : State) → u ≡ t → Moving k t u
+moving_same k t u e = record { sinks = same_sinks t u e; rest = ap (λ (x : State). bytes_at (6 - k) (20 + k) x.zp) e }
+
+moving_then : {k : ℕ} {t u v : State} → Moving k t u → Moving k u v → Moving k t v
+moving_then p q = record { sinks = sinks_then p.sinks q.sinks; rest = q.rest ∙ p.rest }
+
+moving_by : (n : ℕ) {t u : State} → Sinks 0 t u → bank_of u ≡ bank_of t → Moving (saved_bytes n) t u
+moving_by n {t = t} {u = u} s e = record { sinks = s; rest = rest_same (saved_bytes n) t u (saved_few n) e }
+
+-- a store of so many bytes from byte bank of regbank on takes one or two
+abbrev pub stored_bytes : ℕ → ℕ
+stored_bytes bytes = if nat_lt bytes 2 then 1 else 2
+
+-- the first n bytes of regbank are taken, and those from there on, as many as are not saved, do not lie at byte b
+apart : (n b : ℕ) → b < n → (j : ℕ) → j < 6 - saved_bytes n → 20 + saved_bytes n + j ≡ (20 + b) % 256 → ⊥
+apart n b l j less z = elim (saved_is n) [ inl x ↦ omega (arith, x.0, x.1, l, less, z) | inr x ↦ omega (arith, x.1, less) ]
+
+apart_next : (n b : ℕ) → b + 2 ≤ n → (j : ℕ) → j < 6 - saved_bytes n → 20 + saved_bytes n + j ≡ ((20 + b) % 256 + 1) % 256 → ⊥
+apart_next n b l j less z = elim (saved_is n) [ inl x ↦ omega (arith, x.0, x.1, l, less, z) | inr x ↦ omega (arith, x.1, less) ]
+
+store_moves : (k : ℕ) (t u : State) (i v : ℕ) → 2 ≤ i → ((j : ℕ) → j < 6 - k → 20 + k + j ≡ i → ⊥) → u ≡ record t { zp = write t.zp i v } → Moving k t u
+store_moves k t u i v h off e =
     let low : write t.zp i v 0 ≡ t.zp 0 = write_other t.zp i v 0 (λ z. omega (arith, z, h)) in
     let high : write t.zp i v 1 ≡ t.zp 1 = write_other t.zp i v 1 (λ z. omega (arith, z, h)) in
-    subst (λ (x : State). Sinks 0 t x) (sym e) (record { sp = omega (arith, low, high); mem = λ b h. refl; pushed = refl; frames = refl })
+    subst (λ (x : State). Moving k t x) (sym e) (record { sinks = record { sp = omega (arith, low, high); mem = λ b h. refl; pushed = refl; frames = refl }; rest = rest_stored k i v t.zp off })
 
-sta_way : (s : Setting) (i : ℕ) (p q : Place) (t u : State) → Passes s (zero_page Sta i ∷ []) p t q u → Sinks 0 t u
-sta_way s i p q t u h =
+sta_way : (k : ℕ) (s : Setting) (i : ℕ) (p q : Place) (t u : State) → ((j : ℕ) → j < 6 - k → 20 + k + j ≡ i → ⊥) → Passes s (zero_page Sta i ∷ []) p t q u → Moving k t u
+sta_way k s i p q t u off h =
     let one = single s (zero_page Sta i) p q t u h in
-    store_sinks t u i t.regs.a (one.0.within.1 tt) one.1.goes.1
+    store_moves k t u i t.regs.a (one.0.within.1 tt) off one.1.goes.1
 
-stx_way : (s : Setting) (i : ℕ) (p q : Place) (t u : State) → Passes s (zero_page Stx i ∷ []) p t q u → Sinks 0 t u
-stx_way s i p q t u h =
+stx_way : (k : ℕ) (s : Setting) (i : ℕ) (p q : Place) (t u : State) → ((j : ℕ) → j < 6 - k → 20 + k + j ≡ i → ⊥) → Passes s (zero_page Stx i ∷ []) p t q u → Moving k t u
+stx_way k s i p q t u off h =
     let one = single s (zero_page Stx i) p q t u h in
-    store_sinks t u i t.regs.x (one.0.within.1 tt) one.1.goes.1
+    store_moves k t u i t.regs.x (one.0.within.1 tt) off one.1.goes.1
 
-bank_way : (s : Setting) (bank bytes : ℕ) (p q : Place) (t u : State) → Passes s (bank_store bank bytes) p t q u → Sinks 0 t u
-bank_way s bank bytes p q t u h = by (nat_lt bytes 2) h
+bank_way : (n : ℕ) (s : Setting) (bank bytes : ℕ) (p q : Place) (t u : State) → bank + stored_bytes bytes ≤ n → Passes s (bank_store bank bytes) p t q u → Moving (saved_bytes n) t u
+bank_way n s bank bytes p q t u fits h = by (nat_lt bytes 2) fits h
   where
-    by : (b : Bool) → Passes s (if b then zero_page Sta ((regbank + bank) % 256) ∷ [] else zero_page Sta ((regbank + bank) % 256) ∷ zero_page Stx (((regbank + bank) % 256 + 1) % 256) ∷ []) p t q u → Sinks 0 t u
-    by true h = sta_way s ((regbank + bank) % 256) p q t u h
-    by false h =
+    by : (b : Bool) → bank + (if b then 1 else 2) ≤ n → Passes s (if b then zero_page Sta ((regbank + bank) % 256) ∷ [] else zero_page Sta ((regbank + bank) % 256) ∷ zero_page Stx (((regbank + bank) % 256 + 1) % 256) ∷ []) p t q u → Moving (saved_bytes n) t u
+    by true fits h = sta_way (saved_bytes n) s ((regbank + bank) % 256) p q t u (apart n bank (omega (arith, fits))) h
+    by false fits h =
         let two = halves s (zero_page Sta ((regbank + bank) % 256) ∷ []) (zero_page Stx (((regbank + bank) % 256 + 1) % 256) ∷ []) p q t u h in
-        sinks_then (sta_way s ((regbank + bank) % 256) p two.0 t two.1 two.2) (stx_way s (((regbank + bank) % 256 + 1) % 256) two.0 q two.1 u two.3)
+        moving_then (sta_way (saved_bytes n) s ((regbank + bank) % 256) p two.0 t two.1 (apart n bank (omega (arith, fits))) two.2) (stx_way (saved_bytes n) s (((regbank + bank) % 256 + 1) % 256) two.0 q two.1 u (apart_next n bank fits) two.3)
 
-kept_way : (a : Arrival) (s : Setting) (p q : Place) (t u : State) → Passes s (kept_code a) p t q u → Sinks 0 t u
-kept_way (Kept bank bytes) s p q t u h = bank_way s bank bytes p q t u h
-kept_way Passed s p q t u h = same_sinks t u h.1
-kept_way (Pushed bytes) s p q t u h = same_sinks t u h.1
+-- what arrives in registers and is kept lies among the first bytes of regbank
+abbrev pub KeptWithin : ℕ → Arrival → Type 0
+KeptWithin n (Kept bank bytes) = bank + stored_bytes bytes ≤ n
+KeptWithin n _ = Unit {0}
+
+-- and so do parameters that move there
+abbrev pub MovedWithin : ℕ → List Moved → Type 0
+MovedWithin n [] = Unit {0}
+MovedWithin n (m ∷ ms) = (m.bank + stored_bytes m.bytes ≤ n) × MovedWithin n ms
+
+kept_way : (n : ℕ) (a : Arrival) (s : Setting) (p q : Place) (t u : State) → KeptWithin n a → Passes s (kept_code a) p t q u → Moving (saved_bytes n) t u
+kept_way n (Kept bank bytes) s p q t u fits h = bank_way n s bank bytes p q t u fits h
+kept_way n Passed s p q t u fits h = moving_same (saved_bytes n) t u h.1
+kept_way n (Pushed bytes) s p q t u fits h = moving_same (saved_bytes n) t u h.1
 
 -- ---- sp is lowered
 
@@ -215,6 +243,52 @@ lower_way n s p q t u h =
     let two = halves s (repeated (n / 255) (small_lower 255)) (small_lower (n % 255)) p q t u h in
     quiet_as (omega arith) (quiet_then (repeated_way (n / 255) 255 s p two.0 t two.1 two.2) (small_way (n % 255) s two.0 q two.1 u two.3))
 
+-- ---- the bytes of regbank that are taken are saved
+
+few_saved_way : (n : ℕ) (s : Setting) (p q : Place) (t u : State) → n ≤ 6 → Passes s (few_saved n) p t q u → Quiet n t u × (bytes_at n (sp_of u) u.mem ≡ bytes_at n 20 t.zp)
+few_saved_way n s p q t u few h =
+    let h1 = halves s (lower_code n) (zero_page Sta tmp1 ∷ (bank_saves n ++ zero_page Lda tmp1 ∷ [])) p q t u h in
+    let h2 = halves s (zero_page Sta tmp1 ∷ []) (bank_saves n ++ zero_page Lda tmp1 ∷ []) h1.0 q h1.1 u h1.3 in
+    let h3 = halves s (bank_saves n) (zero_page Lda tmp1 ∷ []) h2.0 q h2.1 u h2.3 in
+    let t1 : State = h1.1 in
+    let t2 : State = h2.1 in
+    let t3 : State = h3.1 in
+    let low : Quiet n t t1 = lower_way n s p h1.0 t t1 h1.2 in
+    let calm : IsCalm s t = calm_at s (lower_code n) p h1.0 t t1 h1.2 in
+    let e2 = simple_way s (zero_page Sta tmp1 ∷ []) h1.0 h2.0 t1 t2 refl h2.2 in
+    let sp2 : sp_of t2 ≡ sp_of t1 = ap sp_of e2 in
+    let saves : Saves n t2 t3 = saves_way n s h2.0 h3.0 t2 t3 few (omega (arith, sp2, low.sinks.sp, calm.high)) h3.2 in
+    let e4 = simple_way s (zero_page Lda tmp1 ∷ []) h3.0 q t3 u refl h3.3 in
+    let sp4 : sp_of u ≡ sp_of t2 = ap sp_of e4 ∙ saves.sp in
+    let bank2 : bank_of t2 ≡ bank_of t = ap bank_of e2 ∙ low.bank in
+    let saved : (j : ℕ) → j < n → u.mem (sp_of u + j) ≡ t2.zp (20 + j) = λ j l. ap (λ (x : State). x.mem (sp_of u + j)) e4 ∙ (ap (λ (b : ℕ). t3.mem (b + j)) sp4 ∙ saves.there j l) in (
+      record {
+        sinks = record {
+          sp = omega (arith, sp4, sp2, low.sinks.sp);
+          mem = λ b l. ap (λ (x : State). x.mem b) e4 ∙ (saves.mem b (omega (arith, sp2, low.sinks.sp, l)) ∙ (ap (λ (x : State). x.mem b) e2 ∙ low.sinks.mem b l));
+          pushed = ap (λ (x : State). x.pushed) e4 ∙ (saves.pushed ∙ (ap (λ (x : State). x.pushed) e2 ∙ low.sinks.pushed));
+          frames = ap (λ (x : State). x.frames) e4 ∙ (saves.frames ∙ (ap (λ (x : State). x.frames) e2 ∙ low.sinks.frames));
+        };
+        a = ap (λ (x : State). x.regs.a) e4 ∙ (ap (λ (z : Bytes). z 16) saves.zp ∙ (ap (λ (x : State). x.zp 16) e2 ∙ low.a));
+        bank = ap bank_of e4 ∙ (ap (λ (z : Bytes). bytes_at 6 20 z) saves.zp ∙ bank2);
+      },
+      bytes_as n (sp_of u) 20 u.mem t2.zp saved ∙ first_same n t t2 few bank2,
+    )
+
+saved_way : (bank : ℕ) (s : Setting) (p q : Place) (t u : State) → Passes s (saved_code bank) p t q u → Quiet (saved_bytes bank) t u × (bytes_at (saved_bytes bank) (sp_of u) u.mem ≡ bytes_at (saved_bytes bank) 20 t.zp)
+saved_way bank s p q t u h = by (bank == 0) (nat_lt bank 6) refl refl h
+  where
+    by : (z b : Bool) → (bank == 0) ≡ z → nat_lt bank 6 ≡ b → Passes s (if z then [] else (if b then few_saved bank else call SaveRegs ∷ [])) p t q u → Quiet (if b then bank else 6) t u × (bytes_at (if b then bank else 6) (sp_of u) u.mem ≡ bytes_at (if b then bank else 6) 20 t.zp)
+    by true true e f h =
+        let none : bank ≡ 0 = eqb-true bank 0 e in
+        (quiet_as (sym none) (same_quiet t u h.1), ap (λ (n : ℕ). bytes_at n (sp_of u) u.mem) none ∙ sym (ap (λ (n : ℕ). bytes_at n 20 t.zp) none))
+    by true false e f h = absurd (omega (arith, eqb-true bank 0 e, ltb-false bank 6 f))
+    by false true e f h = few_saved_way bank s p q t u (omega (arith, ltb-true bank 6 f)) h
+    by false false e f h =
+        let one = single s (call SaveRegs) p q t u h in
+        let both = saves s p q t u one.0.calm one.1 in
+        (both.1, both.0.there)
+
 -- ---- the number of bytes that a variadic call pushed
 
 record Counts (variadic : Bool) (t u : State) : Type 0 where
@@ -233,131 +307,121 @@ count_way false s p q t u h = record { quiet = same_quiet t u h.1; there = λ v.
 
 -- ---- parameters that move to regbank
 
-ldaxysp_way : (s : Setting) (p q : Place) (t u : State) → Moves s (call LdAxYSp) p t q u → Sinks 0 t u
-ldaxysp_way s p q t u m = let meets = m.goes.1 in record { sp = omega (arith, meets.sp); mem = λ b h. meets.mem b (inr (inl h)); pushed = meets.pushed; frames = meets.frames }
+ldaxysp_way : (s : Setting) (p q : Place) (t u : State) → Moves s (call LdAxYSp) p t q u → Registers t u
+ldaxysp_way s p q t u m = let meets = m.goes.1 in record { sinks = record { sp = omega (arith, meets.sp); mem = λ b h. meets.mem b (inr (inl h)); pushed = meets.pushed; frames = meets.frames }; bank = bank_kept _ t u meets refl refl refl refl refl refl }
 
-ldai_way : (s : Setting) (p q : Place) (t u : State) → Moves s (call LdAi) p t q u → Sinks 0 t u
-ldai_way s p q t u m = let meets = m.goes.1 in record { sp = omega (arith, meets.sp); mem = λ b h. meets.mem b (inr (inl h)); pushed = meets.pushed; frames = meets.frames }
+ldai_way : (s : Setting) (p q : Place) (t u : State) → Moves s (call LdAi) p t q u → Registers t u
+ldai_way s p q t u m = let meets = m.goes.1 in record { sinks = record { sp = omega (arith, meets.sp); mem = λ b h. meets.mem b (inr (inl h)); pushed = meets.pushed; frames = meets.frames }; bank = bank_kept _ t u meets refl refl refl refl refl refl }
 
-ldaxi_way : (s : Setting) (p q : Place) (t u : State) → Moves s (call LdAxi) p t q u → Sinks 0 t u
-ldaxi_way s p q t u m = let meets = m.goes.1 in record { sp = omega (arith, meets.sp); mem = λ b h. meets.mem b (inr (inl h)); pushed = meets.pushed; frames = meets.frames }
+ldaxi_way : (s : Setting) (p q : Place) (t u : State) → Moves s (call LdAxi) p t q u → Registers t u
+ldaxi_way s p q t u m = let meets = m.goes.1 in record { sinks = record { sp = omega (arith, meets.sp); mem = λ b h. meets.mem b (inr (inl h)); pushed = meets.pushed; frames = meets.frames }; bank = bank_kept _ t u meets refl refl refl refl refl refl }
 
-near_way : (b : Bool) (at : ℕ) (s : Setting) (p q : Place) (t u : State) → Passes s (if b then value Ldy at ∷ by_y Lda sp ∷ [] else value Ldy (at + 1) ∷ call LdAxYSp ∷ []) p t q u → Sinks 0 t u
-near_way true at s p q t u h = (registers_only t u _ (simple_way s (value Ldy at ∷ by_y Lda sp ∷ []) p q t u refl h)).sinks
+near_way : (b : Bool) (at : ℕ) (s : Setting) (p q : Place) (t u : State) → Passes s (if b then value Ldy at ∷ by_y Lda sp ∷ [] else value Ldy (at + 1) ∷ call LdAxYSp ∷ []) p t q u → Registers t u
+near_way true at s p q t u h = registers_only t u _ (simple_way s (value Ldy at ∷ by_y Lda sp ∷ []) p q t u refl h)
 near_way false at s p q t u h =
     let two = halves s (value Ldy (at + 1) ∷ []) (call LdAxYSp ∷ []) p q t u h in
     let one = single s (call LdAxYSp) two.0 q two.1 u two.3 in
-    sinks_then (registers_only t two.1 _ (simple_way s (value Ldy (at + 1) ∷ []) p two.0 t two.1 refl two.2)).sinks (ldaxysp_way s two.0 q two.1 u one.1)
+    registers_then (registers_only t two.1 _ (simple_way s (value Ldy (at + 1) ∷ []) p two.0 t two.1 refl two.2)) (ldaxysp_way s two.0 q two.1 u one.1)
 
 -- the address so far above sp
 abbrev address_code : ℕ → List Line
 address_code at = implied Clc ∷ zero_page Lda sp ∷ value Adc (at % 256) ∷ implied Tay ∷ zero_page Lda (sp + 1) ∷ value Adc (at / 256) ∷ implied Tax ∷ implied Tya ∷ []
 
-load_last_way : (b : Bool) (s : Setting) (p q : Place) (t u : State) → Passes s (if b then call LdAi ∷ [] else call LdAxi ∷ []) p t q u → Sinks 0 t u
+load_last_way : (b : Bool) (s : Setting) (p q : Place) (t u : State) → Passes s (if b then call LdAi ∷ [] else call LdAxi ∷ []) p t q u → Registers t u
 load_last_way true s p q t u h = let one = single s (call LdAi) p q t u h in ldai_way s p q t u one.1
 load_last_way false s p q t u h = let one = single s (call LdAxi) p q t u h in ldaxi_way s p q t u one.1
 
-far_way : (at bytes : ℕ) (s : Setting) (p q : Place) (t u : State) → Passes s (far_load at bytes) p t q u → Sinks 0 t u
+far_way : (at bytes : ℕ) (s : Setting) (p q : Place) (t u : State) → Passes s (far_load at bytes) p t q u → Registers t u
 far_way at bytes s p q t u h =
     let two = halves s (address_code at) (if nat_lt bytes 2 then call LdAi ∷ [] else call LdAxi ∷ []) p q t u h in
-    sinks_then (registers_only t two.1 _ (simple_way s (address_code at) p two.0 t two.1 refl two.2)).sinks (load_last_way (nat_lt bytes 2) s two.0 q two.1 u two.3)
+    registers_then (registers_only t two.1 _ (simple_way s (address_code at) p two.0 t two.1 refl two.2)) (load_last_way (nat_lt bytes 2) s two.0 q two.1 u two.3)
 
-load_way : (b : Bool) (at bytes : ℕ) (s : Setting) (p q : Place) (t u : State) → Passes s (if b then near_load at bytes else far_load at bytes) p t q u → Sinks 0 t u
+load_way : (b : Bool) (at bytes : ℕ) (s : Setting) (p q : Place) (t u : State) → Passes s (if b then near_load at bytes else far_load at bytes) p t q u → Registers t u
 load_way true at bytes s p q t u h = near_way (nat_lt bytes 2) at s p q t u h
 load_way false at bytes s p q t u h = far_way at bytes s p q t u h
 
-moved_way : (ms : List Moved) (s : Setting) (p q : Place) (t u : State) → Passes s (all_moved ms) p t q u → Sinks 0 t u
-moved_way [] s p q t u h = same_sinks t u h.1
-moved_way (m ∷ ms) s p q t u h =
+moved_way : (n : ℕ) (ms : List Moved) (s : Setting) (p q : Place) (t u : State) → MovedWithin n ms → Passes s (all_moved ms) p t q u → Moving (saved_bytes n) t u
+moved_way n [] s p q t u fits h = moving_same (saved_bytes n) t u h.1
+moved_way n (m ∷ ms) s p q t u fits h =
     let rest = halves s (moved_code m) (all_moved ms) p q t u h in
     let two = halves s (load_code m.from m.bytes) (bank_store m.bank m.bytes) p rest.0 t rest.1 rest.2 in
-    sinks_then (sinks_then (load_way (nat_lt m.from 255) m.from m.bytes s p two.0 t two.1 two.2) (bank_way s m.bank m.bytes two.0 rest.0 two.1 rest.1 two.3)) (moved_way ms s rest.0 q rest.1 u rest.3)
-
-moved_none : (s : Setting) (ms : List Moved) (p q : Place) (t u : State) → ms ≡ [] → Passes s (all_moved ms) p t q u → u ≡ t
-moved_none s [] p q t u e h = h.1
-moved_none s (m ∷ ms) p q t u e h = absurd cc
+    let loaded = load_way (nat_lt m.from 255) m.from m.bytes s p two.0 t two.1 two.2 in
+    moving_then (moving_then (moving_by n loaded.sinks loaded.bank) (bank_way n s m.bank m.bytes two.0 rest.0 two.1 rest.1 fits.0 two.3)) (moved_way n ms s rest.0 q rest.1 u fits.1 rest.3)
 
 -- behind the frame's lines only where the function is not variadic
-late_way : (v : Bool) (ms : List Moved) (s : Setting) (p q : Place) (t u : State) → Passes s (if v then [] else all_moved ms) p t q u → Sinks 0 t u
-late_way true ms s p q t u h = same_sinks t u h.1
-late_way false ms s p q t u h = moved_way ms s p q t u h
-
-late_none : (v : Bool) (s : Setting) (ms : List Moved) (p q : Place) (t u : State) → ms ≡ [] → Passes s (if v then [] else all_moved ms) p t q u → u ≡ t
-late_none true s ms p q t u e h = h.1
-late_none false s ms p q t u e h = moved_none s ms p q t u e h
+late_way : (n : ℕ) (v : Bool) (ms : List Moved) (s : Setting) (p q : Place) (t u : State) → MovedWithin n ms → Passes s (if v then [] else all_moved ms) p t q u → Moving (saved_bytes n) t u
+late_way n true ms s p q t u fits h = moving_same (saved_bytes n) t u h.1
+late_way n false ms s p q t u fits h = moved_way n ms s p q t u fits h
 
 -- ---- parameters of a variadic function that move to regbank, where X holds the number of bytes that the call pushed
 
-record Held (t u : State) : Type 0 where
-  sinks : Sinks 0 t u
+record Held (k : ℕ) (t u : State) : Type 0 where
+  moves : Moving k t u
   x : u.regs.x ≡ t.regs.x
 
-held_then : {t u v : State} → Held t u → Held u v → Held t v
-held_then a b = record { sinks = sinks_then a.sinks b.sinks; x = b.x ∙ a.x }
+held_then : {k : ℕ} {t u v : State} → Held k t u → Held k u v → Held k t v
+held_then a b = record { moves = moving_then a.moves b.moves; x = b.x ∙ a.x }
 
-sta_held : (s : Setting) (i : ℕ) (p q : Place) (t u : State) → Passes s (zero_page Sta i ∷ []) p t q u → Held t u
-sta_held s i p q t u h =
+sta_held : (k : ℕ) (s : Setting) (i : ℕ) (p q : Place) (t u : State) → ((j : ℕ) → j < 6 - k → 20 + k + j ≡ i → ⊥) → Passes s (zero_page Sta i ∷ []) p t q u → Held k t u
+sta_held k s i p q t u off h =
     let one = single s (zero_page Sta i) p q t u h in
-    record { sinks = sta_way s i p q t u h; x = ap (λ (z : State). z.regs.x) one.1.goes.1 }
+    record { moves = sta_way k s i p q t u off h; x = ap (λ (z : State). z.regs.x) one.1.goes.1 }
+
+held_registers : (n : ℕ) (t u : State) → Registers t u → u.regs.x ≡ t.regs.x → Held (saved_bytes n) t u
+held_registers n t u r x = record { moves = moving_by n r.sinks r.bank; x = x }
 
 abbrev next_byte : List Line
 next_byte = implied Iny ∷ by_y Lda sp ∷ []
 
-next_held : (s : Setting) (p q : Place) (t u : State) → Passes s next_byte p t q u → Held t u
-next_held s p q t u h =
+next_held : (n : ℕ) (s : Setting) (p q : Place) (t u : State) → Passes s next_byte p t q u → Held (saved_bytes n) t u
+next_held n s p q t u h =
     let e = simple_way s next_byte p q t u refl h in
-    record { sinks = (registers_only t u _ e).sinks; x = ap (λ (z : State). z.regs.x) e }
+    held_registers n t u (registers_only t u _ e) (ap (λ (z : State). z.regs.x) e)
 
-counted_store_way : (s : Setting) (bank bytes : ℕ) (p q : Place) (t u : State) → Passes s (counted_store bank bytes) p t q u → Held t u
-counted_store_way s bank bytes p q t u h = by (nat_lt bytes 2) h
+counted_store_way : (n : ℕ) (s : Setting) (bank bytes : ℕ) (p q : Place) (t u : State) → bank + stored_bytes bytes ≤ n → Passes s (counted_store bank bytes) p t q u → Held (saved_bytes n) t u
+counted_store_way n s bank bytes p q t u fits h = by (nat_lt bytes 2) fits h
   where
-    by : (b : Bool) → Passes s (if b then zero_page Sta ((regbank + bank) % 256) ∷ [] else zero_page Sta ((regbank + bank) % 256) ∷ implied Iny ∷ by_y Lda sp ∷ zero_page Sta (((regbank + bank) % 256 + 1) % 256) ∷ []) p t q u → Held t u
-    by true h = sta_held s ((regbank + bank) % 256) p q t u h
-    by false h =
+    by : (b : Bool) → bank + (if b then 1 else 2) ≤ n → Passes s (if b then zero_page Sta ((regbank + bank) % 256) ∷ [] else zero_page Sta ((regbank + bank) % 256) ∷ implied Iny ∷ by_y Lda sp ∷ zero_page Sta (((regbank + bank) % 256 + 1) % 256) ∷ []) p t q u → Held (saved_bytes n) t u
+    by true fits h = sta_held (saved_bytes n) s ((regbank + bank) % 256) p q t u (apart n bank (omega (arith, fits))) h
+    by false fits h =
         let two = halves s (zero_page Sta ((regbank + bank) % 256) ∷ []) (implied Iny ∷ by_y Lda sp ∷ zero_page Sta (((regbank + bank) % 256 + 1) % 256) ∷ []) p q t u h in
         let three = halves s next_byte (zero_page Sta (((regbank + bank) % 256 + 1) % 256) ∷ []) two.0 q two.1 u two.3 in
-        held_then (sta_held s ((regbank + bank) % 256) p two.0 t two.1 two.2) (held_then (next_held s two.0 three.0 two.1 three.1 three.2) (sta_held s (((regbank + bank) % 256 + 1) % 256) three.0 q three.1 u three.3))
+        held_then (sta_held (saved_bytes n) s ((regbank + bank) % 256) p two.0 t two.1 (apart n bank (omega (arith, fits))) two.2) (held_then (next_held n s two.0 three.0 two.1 three.1 three.2) (sta_held (saved_bytes n) s (((regbank + bank) % 256 + 1) % 256) three.0 q three.1 u (apart_next n bank fits) three.3))
 
 abbrev found_byte : ℕ → List Line
 found_byte at = implied Txa ∷ implied Clc ∷ value Adc at ∷ implied Tay ∷ by_y Lda sp ∷ []
 
-counted_move_way : (s : Setting) (soft stacked : ℕ) (m : Moved) (p q : Place) (t u : State) → Passes s (counted_move soft stacked m) p t q u → Held t u
-counted_move_way s soft stacked m p q t u h =
+counted_move_way : (n : ℕ) (s : Setting) (soft stacked : ℕ) (m : Moved) (p q : Place) (t u : State) → m.bank + stored_bytes m.bytes ≤ n → Passes s (counted_move soft stacked m) p t q u → Held (saved_bytes n) t u
+counted_move_way n s soft stacked m p q t u fits h =
     let two = halves s (found_byte (counted_at soft stacked m.from)) (counted_store m.bank m.bytes) p q t u h in
     let e = simple_way s (found_byte (counted_at soft stacked m.from)) p two.0 t two.1 refl two.2 in
-    held_then (record { sinks = (registers_only t two.1 _ e).sinks; x = ap (λ (z : State). z.regs.x) e }) (counted_store_way s m.bank m.bytes two.0 q two.1 u two.3)
+    held_then (held_registers n t two.1 (registers_only t two.1 _ e) (ap (λ (z : State). z.regs.x) e)) (counted_store_way n s m.bank m.bytes two.0 q two.1 u fits two.3)
 
-all_counted_way : (s : Setting) (soft stacked : ℕ) (ms : List Moved) (p q : Place) (t u : State) → Passes s (all_counted soft stacked ms) p t q u → Held t u
-all_counted_way s soft stacked [] p q t u h = record { sinks = same_sinks t u h.1; x = ap (λ (z : State). z.regs.x) h.1 }
-all_counted_way s soft stacked (m ∷ ms) p q t u h =
+all_counted_way : (n : ℕ) (s : Setting) (soft stacked : ℕ) (ms : List Moved) (p q : Place) (t u : State) → MovedWithin n ms → Passes s (all_counted soft stacked ms) p t q u → Held (saved_bytes n) t u
+all_counted_way n s soft stacked [] p q t u fits h = record { moves = moving_same (saved_bytes n) t u h.1; x = ap (λ (z : State). z.regs.x) h.1 }
+all_counted_way n s soft stacked (m ∷ ms) p q t u fits h =
     let two = halves s (counted_move soft stacked m) (all_counted soft stacked ms) p q t u h in
-    held_then (counted_move_way s soft stacked m p two.0 t two.1 two.2) (all_counted_way s soft stacked ms two.0 q two.1 u two.3)
+    held_then (counted_move_way n s soft stacked m p two.0 t two.1 fits.0 two.2) (all_counted_way n s soft stacked ms two.0 q two.1 u fits.1 two.3)
 
 -- A is as before
-raised_way : (s : Setting) (soft stacked : ℕ) (ms : List Moved) (p q : Place) (t u : State) → Passes s (raised_moves soft stacked ms) p t q u → Sinks 0 t u × (u.regs.a ≡ t.regs.a)
-raised_way s soft stacked ms p q t u h = by (length ms == 0) h
+raised_way : (n : ℕ) (s : Setting) (soft stacked : ℕ) (ms : List Moved) (p q : Place) (t u : State) → MovedWithin n ms → Passes s (raised_moves soft stacked ms) p t q u → Moving (saved_bytes n) t u × (u.regs.a ≡ t.regs.a)
+raised_way n s soft stacked ms p q t u fits h = by (length ms == 0) h
   where
-    by : (b : Bool) → Passes s (if b then [] else implied Tax ∷ (all_counted soft stacked ms ++ implied Txa ∷ [])) p t q u → Sinks 0 t u × (u.regs.a ≡ t.regs.a)
-    by true h = (same_sinks t u h.1, ap (λ (z : State). z.regs.a) h.1)
+    by : (b : Bool) → Passes s (if b then [] else implied Tax ∷ (all_counted soft stacked ms ++ implied Txa ∷ [])) p t q u → Moving (saved_bytes n) t u × (u.regs.a ≡ t.regs.a)
+    by true h = (moving_same (saved_bytes n) t u h.1, ap (λ (z : State). z.regs.a) h.1)
     by false h =
         let two = halves s (implied Tax ∷ []) (all_counted soft stacked ms ++ implied Txa ∷ []) p q t u h in
         let three = halves s (all_counted soft stacked ms) (implied Txa ∷ []) two.0 q two.1 u two.3 in
         let to = simple_way s (implied Tax ∷ []) p two.0 t two.1 refl two.2 in
-        let held = all_counted_way s soft stacked ms two.0 three.0 two.1 three.1 three.2 in
+        let held = all_counted_way n s soft stacked ms two.0 three.0 two.1 three.1 fits three.2 in
         let back = simple_way s (implied Txa ∷ []) three.0 q three.1 u refl three.3 in
-        (sinks_then (registers_only t two.1 _ to).sinks (sinks_then held.sinks (registers_only three.1 u _ back).sinks), ap (λ (z : State). z.regs.a) back ∙ (held.x ∙ ap (λ (z : State). z.regs.x) to))
+        let first = registers_only t two.1 _ to in
+        let last = registers_only three.1 u _ back in
+        (moving_then (moving_by n first.sinks first.bank) (moving_then held.moves (moving_by n last.sinks last.bank)), ap (λ (z : State). z.regs.a) back ∙ (held.x ∙ ap (λ (z : State). z.regs.x) to))
 
-early_way : (v : Bool) (s : Setting) (soft stacked : ℕ) (ms : List Moved) (p q : Place) (t u : State) → Passes s (if v then raised_moves soft stacked ms else []) p t q u → Sinks 0 t u × (u.regs.a ≡ t.regs.a)
-early_way true s soft stacked ms p q t u h = raised_way s soft stacked ms p q t u h
-early_way false s soft stacked ms p q t u h = (same_sinks t u h.1, ap (λ (z : State). z.regs.a) h.1)
-
-raised_none : (s : Setting) (soft stacked : ℕ) (ms : List Moved) (p q : Place) (t u : State) → ms ≡ [] → Passes s (raised_moves soft stacked ms) p t q u → u ≡ t
-raised_none s soft stacked [] p q t u e h = h.1
-raised_none s soft stacked (m ∷ ms) p q t u e h = absurd cc
-
-early_none : (v : Bool) (s : Setting) (soft stacked : ℕ) (ms : List Moved) (p q : Place) (t u : State) → ms ≡ [] → Passes s (if v then raised_moves soft stacked ms else []) p t q u → u ≡ t
-early_none true s soft stacked ms p q t u e h = raised_none s soft stacked ms p q t u e h
-early_none false s soft stacked ms p q t u e h = h.1
+early_way : (n : ℕ) (v : Bool) (s : Setting) (soft stacked : ℕ) (ms : List Moved) (p q : Place) (t u : State) → MovedWithin n ms → Passes s (if v then raised_moves soft stacked ms else []) p t q u → Moving (saved_bytes n) t u × (u.regs.a ≡ t.regs.a)
+early_way n true s soft stacked ms p q t u fits h = raised_way n s soft stacked ms p q t u fits h
+early_way n false s soft stacked ms p q t u fits h = (moving_same (saved_bytes n) t u h.1, ap (λ (z : State). z.regs.a) h.1)
 
 -- ---- the whole entry
 
@@ -366,17 +430,13 @@ pub record IsOrderly (f : Framed) : Type 0 where
   -- the parameters of a variadic function are all on the stack
   pub passed : IsTrue f.variadic → f.last ≡ Passed
   pub counted : IsTrue f.variadic → 1 ≤ f.soft
-  -- where nothing is taken of regbank, no parameter goes there
-  pub unkept : nat_lt 0 f.bank ≡ false → (kept_code f.last ≡ []) × (f.moved ≡ [])
+  -- parameters go to no other bytes of regbank than those that are taken
+  pub kept : KeptWithin f.bank f.last
+  pub moved : MovedWithin f.bank f.moved
 
 taken_sum : (variadic : Bool) (soft : ℕ) → (IsTrue variadic → 1 ≤ soft) → taken_bytes variadic soft + (if variadic then 1 else 0) ≡ soft
 taken_sum true soft h = omega (arith, h refl)
 taken_sum false soft h = omega arith
-
--- lines that are none
-no_way : (s : Setting) (lines : List Line) (p q : Place) (t u : State) → lines ≡ [] → Passes s lines p t q u → u ≡ t
-no_way s [] p q t u e h = h.1
-no_way s (line ∷ lines) p q t u e h = absurd cc
 
 no_push : (a : Arrival) (s : Setting) (p q : Place) (t u : State) → a ≡ Passed → Passes s (pushed_code a) p t q u → u ≡ t
 no_push Passed s p q t u e h = h.1
@@ -394,45 +454,44 @@ record Entry (f : Framed) (t0 t1 t2 t3 te t4 t5 t6 t7 : State) : Type 0 where
   count : Registers t1 t2
   counted : IsTrue f.variadic → t2.regs.a ≡ t1.regs.y
   save : Quiet (saved_bytes f.bank) t2 t3
-  saved : nat_lt 0 f.bank ≡ true → bytes_at 6 (sp_of t3) t3.mem ≡ bank_of t2
-  early : Sinks 0 t3 te
+  saved : bytes_at (saved_bytes f.bank) (sp_of t3) t3.mem ≡ bytes_at (saved_bytes f.bank) 20 t2.zp
+  early : Moving (saved_bytes f.bank) t3 te
   held : te.regs.a ≡ t3.regs.a
-  keep : Sinks 0 te t4
+  keep : Moving (saved_bytes f.bank) te t4
   lower : Quiet (taken_bytes f.variadic f.soft) t4 t5
   counts : Counts f.variadic t5 t6
-  move : Sinks 0 t6 t7
+  move : Moving (saved_bytes f.bank) t6 t7
   -- nothing in between
   unpushed : IsTrue f.variadic → t1 ≡ t0
   unkept : IsTrue f.variadic → t4 ≡ te
-  unraised : nat_lt 0 f.bank ≡ false → te ≡ t3
-  unstored : nat_lt 0 f.bank ≡ false → t4 ≡ te
-  unmoved : nat_lt 0 f.bank ≡ false → t7 ≡ t6
 
 below_all : (f : Framed) {t0 t1 t2 t3 te t4 t5 t6 t7 : State} → IsOrderly f → Entry f t0 t1 t2 t3 te t4 t5 t6 t7 → Sinks (entry_bytes f) t0 t7
 below_all f {t0 = t0} {t7 = t7} o e =
     let sum : pushed_bytes f.last + (0 + (saved_bytes f.bank + (0 + (0 + (taken_bytes f.variadic f.soft + ((if f.variadic then 1 else 0) + 0)))))) ≡ entry_bytes f = omega (arith, taken_sum f.variadic f.soft o.counted) in
-    subst (λ (n : ℕ). Sinks n t0 t7) sum (sinks_then e.push.sinks (sinks_then e.count.sinks (sinks_then e.save.sinks (sinks_then e.early (sinks_then e.keep (sinks_then e.lower.sinks (sinks_then e.counts.quiet.sinks e.move)))))))
+    subst (λ (n : ℕ). Sinks n t0 t7) sum (sinks_then e.push.sinks (sinks_then e.count.sinks (sinks_then e.save.sinks (sinks_then e.early.sinks (sinks_then e.keep.sinks (sinks_then e.lower.sinks (sinks_then e.counts.quiet.sinks e.move.sinks)))))))
 
 -- from where regbank is saved on
 below_saved : (f : Framed) {t0 t1 t2 t3 te t4 t5 t6 t7 : State} → IsOrderly f → Entry f t0 t1 t2 t3 te t4 t5 t6 t7 → Sinks f.soft t3 t7
 below_saved f {t3 = t3} {t7 = t7} o e =
     let sum : 0 + (0 + (taken_bytes f.variadic f.soft + ((if f.variadic then 1 else 0) + 0))) ≡ f.soft = omega (arith, taken_sum f.variadic f.soft o.counted) in
-    subst (λ (n : ℕ). Sinks n t3 t7) sum (sinks_then e.early (sinks_then e.keep (sinks_then e.lower.sinks (sinks_then e.counts.quiet.sinks e.move))))
+    subst (λ (n : ℕ). Sinks n t3 t7) sum (sinks_then e.early.sinks (sinks_then e.keep.sinks (sinks_then e.lower.sinks (sinks_then e.counts.quiet.sinks e.move.sinks))))
 
-entry_bank : (f : Framed) (b : Bool) {t0 t1 t2 t3 te t4 t5 t6 t7 : State} → nat_lt 0 f.bank ≡ b → IsOrderly f → Entry f t0 t1 t2 t3 te t4 t5 t6 t7
-    → (if b then bytes_at 6 (sp_of t7 + f.soft) t7.mem else bank_of t7) ≡ bank_of t0
-entry_bank f true {t0 = t0} {t2 = t2} {t3 = t3} {t7 = t7} h o e =
+entry_bank : (f : Framed) {t0 t1 t2 t3 te t4 t5 t6 t7 : State} → IsOrderly f → Entry f t0 t1 t2 t3 te t4 t5 t6 t7 → caller_bank f t7 ≡ bank_of t0
+entry_bank f {t0 = t0} {t1 = t1} {t2 = t2} {t3 = t3} {te = te} {t4 = t4} {t5 = t5} {t6 = t6} {t7 = t7} o e =
+    let k : ℕ = saved_bytes f.bank in
+    let few : k ≤ 6 = saved_few f.bank in
     let below : Sinks f.soft t3 t7 = below_saved f o e in
-    let there : bytes_at 6 (sp_of t7 + f.soft) t7.mem ≡ bytes_at 6 (sp_of t3) t7.mem = ap (λ (n : ℕ). bytes_at 6 n t7.mem) below.sp in
-    there ∙ (bytes_same 6 (sp_of t3) t3.mem t7.mem below.mem ∙ (e.saved h ∙ (e.count.bank ∙ e.push.bank)))
-entry_bank f false {t3 = t3} {t4 = t4} {t6 = t6} {t7 = t7} h o e =
-    ap bank_of (e.unmoved h) ∙ (e.counts.quiet.bank ∙ (e.lower.bank ∙ (ap bank_of (e.unstored h) ∙ (ap bank_of (e.unraised h) ∙ (e.save.bank ∙ (e.count.bank ∙ e.push.bank))))))
+    let first : bank_of t2 ≡ bank_of t0 = e.count.bank ∙ e.push.bank in
+    let there : bytes_at k (sp_of t7 + f.soft) t7.mem ≡ bytes_at k 20 t0.zp =
+        ap (λ (n : ℕ). bytes_at k n t7.mem) below.sp ∙ (bytes_same k (sp_of t3) t3.mem t7.mem below.mem ∙ (e.saved ∙ first_same k t0 t2 few first)) in
+    let rest : Rest k t0 t7 = e.move.rest ∙ (rest_same k t5 t6 few e.counts.quiet.bank ∙ (rest_same k t4 t5 few e.lower.bank ∙ (e.keep.rest ∙ (e.early.rest ∙ rest_same k t0 t3 few (e.save.bank ∙ first))))) in
+    ap (λ (l : List ℕ). l ++ bytes_at (6 - k) (20 + k) t7.zp) there ∙ (ap (λ (l : List ℕ). bytes_at k 20 t0.zp ++ l) rest ∙ sym (bank_halves k t0 few))
 
 entry_count : (f : Framed) (v : Bool) {t0 t1 t2 t3 te t4 t5 t6 t7 : State} → f.variadic ≡ v → Entry f t0 t1 t2 t3 te t4 t5 t6 t7
     → (if v then t7.mem (sp_of t7) else f.stacked) ≡ (if v then t0.regs.y else f.stacked)
 entry_count f true {t0 = t0} {t1 = t1} {t3 = t3} {t4 = t4} {t5 = t5} {t6 = t6} {t7 = t7} h e =
-    let same : sp_of t7 ≡ sp_of t6 = omega (arith, e.move.sp) in
-    let there : t7.mem (sp_of t7) ≡ t6.mem (sp_of t6) = ap (λ (b : ℕ). t7.mem b) same ∙ e.move.mem (sp_of t6) (omega arith) in
+    let same : sp_of t7 ≡ sp_of t6 = omega (arith, e.move.sinks.sp) in
+    let there : t7.mem (sp_of t7) ≡ t6.mem (sp_of t6) = ap (λ (b : ℕ). t7.mem b) same ∙ e.move.sinks.mem (sp_of t6) (omega arith) in
     there ∙ (e.counts.there h ∙ (e.lower.a ∙ (ap (λ (x : State). x.regs.a) (e.unkept h) ∙ (e.held ∙ (e.save.a ∙ (e.counted h ∙ ap (λ (x : State). x.regs.y) (e.unpushed h)))))))
 entry_count f false h e = refl
 
@@ -441,7 +500,7 @@ entered_by f {t0 = t0} {t7 = t7} o e =
     let all : Sinks (entry_bytes f) t0 t7 = below_all f o e in
     record {
       sp = all.sp;
-      bank = entry_bank f (nat_lt 0 f.bank) refl o e;
+      bank = entry_bank f o e;
       parameters = entry_count f f.variadic refl e;
       above = all.mem;
       pushed = all.pushed;
@@ -462,9 +521,9 @@ taken_in f s p q t u o h =
     let h4 = halves s (kept_code f.last) behind4 he.0 q he.1 u he.3 in
     let h5 = halves s (lower_code (taken_bytes f.variadic f.soft)) behind5 h4.0 q h4.1 u h4.3 in
     let h6 = halves s (count_code f.variadic) (late_moves f) h5.0 q h5.1 u h5.3 in
-    let raised = early_way f.variadic s f.soft f.stacked f.moved h3.0 he.0 h3.1 he.1 he.2 in
+    let raised = early_way f.bank f.variadic s f.soft f.stacked f.moved h3.0 he.0 h3.1 he.1 o.moved he.2 in
     let second = counted_way f.variadic s h1.0 h2.0 h1.1 h2.1 h2.2 in
-    let third = saved_way f.bank (nat_lt 0 f.bank) s h2.0 h3.0 h2.1 h3.1 refl h3.2 in
+    let third = saved_way f.bank s h2.0 h3.0 h2.1 h3.1 h3.2 in
     let e : Entry f t h1.1 h2.1 h3.1 he.1 h4.1 h5.1 h6.1 u = record {
       push = pushed_way f.last s p h1.0 t h1.1 h1.2;
       count = second.0;
@@ -473,15 +532,12 @@ taken_in f s p q t u o h =
       saved = third.1;
       early = raised.0;
       held = raised.1;
-      keep = kept_way f.last s he.0 h4.0 he.1 h4.1 h4.2;
+      keep = kept_way f.bank f.last s he.0 h4.0 he.1 h4.1 o.kept h4.2;
       lower = lower_way (taken_bytes f.variadic f.soft) s h4.0 h5.0 h4.1 h5.1 h5.2;
       counts = count_way f.variadic s h5.0 h6.0 h5.1 h6.1 h6.2;
-      move = late_way f.variadic f.moved s h6.0 q h6.1 u h6.3;
+      move = late_way f.bank f.variadic f.moved s h6.0 q h6.1 u o.moved h6.3;
       unpushed = λ v. no_push f.last s p h1.0 t h1.1 (o.passed v) h1.2;
       unkept = λ v. no_keep f.last s he.0 h4.0 he.1 h4.1 (o.passed v) h4.2;
-      unraised = λ b. early_none f.variadic s f.soft f.stacked f.moved h3.0 he.0 h3.1 he.1 (o.unkept b).1 he.2;
-      unstored = λ b. no_way s (kept_code f.last) he.0 h4.0 he.1 h4.1 (o.unkept b).0 h4.2;
-      unmoved = λ b. late_none f.variadic s f.moved h6.0 q h6.1 u (o.unkept b).1 h6.3;
     } in
     entered_by f o e
 

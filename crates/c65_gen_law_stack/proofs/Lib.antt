@@ -1,5 +1,6 @@
 pub mod Steps
 pub mod Ways
+pub mod BankWay
 pub mod EntryWay
 pub mod EndWay
 pub mod FrameOrder

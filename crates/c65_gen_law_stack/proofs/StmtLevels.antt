@@ -33,7 +33,7 @@ use Rattle.c65_geneffect.specs.Effects.{effect_code}
 use Rattle.c65_genstmt.specs.Jumps.{following, with_value, with_effect, with_test}
 use Rattle.c65_genstmt.specs.Objects.{spot_of, object_bytes, point_code, stored_code, with_copied, with_kept, with_zeros}
 use Rattle.c65_genstmt.specs.Cases.{has_default}
-use Rattle.c65_genstmt.specs.Stmts.{case_behind, with_label, with_jump, two_given, three_given, with_maybe, with_effects, with_guard, ways, default_way, with_stmt, with_stmts}
+use Rattle.c65_genstmt.specs.Stmts.{case_behind, with_label, with_jump, two_given, three_given, with_maybe, with_effects, with_guard, ways, default_way, with_stmt, with_stmts, with_cases}
 use Rattle.c65_gen_law_lines.specs.Stack.{calls_of, maybe_calls, statement_calls, statements_calls}
 use Rattle.c65_gen_law_lines.proofs.Made.{is_plain}
 use Rattle.c65_gen_law_lines.proofs.Flat.{point_flat, stored_flat, bank_clear_flat}
@@ -175,8 +175,12 @@ grows_zeros (Data sym at) bytes d = grows_cleared (pointers.symbol_code ptr1 sym
 
 -- ---- the choice of a case
 
-grows_choice : (w : Width) (at : ℕ) (zs : List ℤ) (d : Drafted) → Grows none (λ l. 1 ≤ laid at (length zs) l) [] d (with_code (length zs) (choice_code w at d.labels zs) d)
-grows_choice w at zs d = record { added = choice_code w at d.labels zs; lines = refl; level = level_end (choice_level w at d.labels zs) (λ l h z. absurd (omega (arith, z.0))) (λ l h z. inr z) }
+-- the labels of the cases, and that to which it goes where there is none
+abbrev Chosen : ℕ → ℕ → ℕ → ℕ → Type 0
+Chosen other at n l = (l ≡ other) ⊎ (1 ≤ laid at n l)
+
+grows_choice : (w : Width) (other at : ℕ) (zs : List ℤ) (d : Drafted) → Grows none (Chosen other at (length zs)) [] d (with_cases w other at zs d)
+grows_choice w other at zs d = record { added = choice_code w other at d.labels zs; lines = refl; level = level_end (choice_level w other at d.labels zs) (λ l h z. absurd (omega (arith, z.0))) (λ l h z. inr (elim z [ inl p ↦ (inl p.0, p.1) | inr q ↦ (inr q.0, q.1) ])) }
 
 -- ---- statements
 
@@ -338,12 +342,12 @@ mutual
       let cases : List ℤ = cases_of a in
       let m0 : Drafted = with_labels (length cases) (two_given d) in
       let g : Drafted = with_value f e m0 in
-      let m1 : Drafted = with_code (length cases) (choice_code (width_of (kind_in e)) (d.labels + 1 + 1) g.labels cases) g in
+      let m1 : Drafted = with_cases (width_of (kind_in e)) (default_way a d.labels) (d.labels + 1 + 1) cases g in
       let m2 : Drafted = with_jump (default_way a d.labels) m1 in
       let inner : Ways = ways d.labels w.onward (d.labels + 1) in
       let m3 : Drafted = with_stmt f inner (d.labels + 1 + 1) a m2 in
       let X : ℕ → Type 0 = Switched d.labels a (Exits w c.labels) in
-      let choice : Grows none X [] g m1 = grows_open (λ x z. inr (inr (inl z))) (grows_choice (width_of (kind_in e)) (d.labels + 1 + 1) cases g) in
+      let choice : Grows none X [] g m1 = grows_open (λ x z. elim z [ inl p ↦ default_out a d.labels (Exits w c.labels) x p | inr q ↦ inr (inr (inl q)) ]) (grows_choice (width_of (kind_in e)) (default_way a d.labels) (d.labels + 1 + 1) cases g) in
       let over : Grows none X [] m1 m2 = grows_open (λ x z. default_out a d.labels (Exits w c.labels) x z) (grows_jump (default_way a d.labels) m1) in
       let body : Grows (others (d.labels + 1) (d.labels + 1 + 1) a) X (statement_calls f a) m2 m3 = grows_open (λ x z. body_out a w c.labels d.labels x z) (stmt_grows u (switching h.0 c) f inner (d.labels + 1 + 1) a m2 h.2) in
       grows_given {e = m0} refl (close_switch d.labels a (λ x. omega arith) (grows_then (grows_value f e m0) (grows_then choice (grows_then over (grows_behind body (grows_label d.labels m3))))))

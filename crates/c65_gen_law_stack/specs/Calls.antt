@@ -1,5 +1,5 @@
 -- What a function's entry and its end do to the software stack and to regbank (docs/MACHINE.md, "Calls").
-use Rattle.std.specs.Prelude.{◌≡◌, ℕ, ◌+◌, ◌≤◌, nat_lt, if◌then◌else◌, Ok, List, ◌∷◌}
+use Rattle.std.specs.Prelude.{◌≡◌, ℕ, ◌+◌, ◌-◌, ◌≤◌, nat_lt, if◌then◌else◌, Ok, List, ◌∷◌, ◌++◌}
 use Rattle.c65_csem.specs.declared.items.Parts.{Parts}
 use Rattle.c65_csem.specs.Trees.{FuncTy}
 use Rattle.c65_code.specs.Texts.{bytes_at}
@@ -10,6 +10,7 @@ use Rattle.c65_genframe.specs.declared.modes.Modes.{Modes}
 use Rattle.c65_genframe.specs.declared.home.Arrival.{Arrival}
 use Rattle.c65_genframe.specs.declared.home.Arrival.TheVariants.{Pushed}
 use Rattle.c65_genframe.specs.Frames.{Framed, saved_bytes, frame_of}
+use Rattle.c65_genentry.specs.Words.{regbank}
 use Rattle.c65_genentry.specs.Entry.{entry_code}
 use Rattle.c65_genentry.specs.Ends.{end_code}
 use Rattle.c65_gen_law_stack.specs.Passing.{Passes}
@@ -23,9 +24,10 @@ pushed_bytes _ = 0
 abbrev pub entry_bytes : Framed → ℕ
 entry_bytes f = pushed_bytes f.last + (saved_bytes f.bank + f.soft)
 
--- Behind the entry: regbank as the caller had it. It stands above the automatic objects, where the function takes any of it.
+-- Behind the entry: regbank as the caller had it. The bytes that the function takes stand above the automatic objects, the others
+-- where they were.
 abbrev pub caller_bank : Framed → State → List ℕ
-caller_bank f t = if nat_lt 0 f.bank then bytes_at 6 (sp_of t + f.soft) t.mem else bank_of t
+caller_bank f t = let taken = saved_bytes f.bank in bytes_at taken (sp_of t + f.soft) t.mem ++ bytes_at (6 - taken) (regbank + taken) t.zp
 
 -- and the bytes of all parameters on the software stack
 abbrev pub parameter_bytes : Framed → State → ℕ

@@ -1,5 +1,5 @@
 -- The entry of a function (docs/MACHINE.md, "Calls").
-use Rattle.std.specs.Prelude.{ℕ, ◌+◌, ◌-◌, ◌/◌, ◌%◌, ◌==◌, nat_lt, Bool, if◌then◌else◌, List, [], ◌∷◌, ◌++◌, length, Option, None, Some}
+use Rattle.std.specs.Prelude.{ℕ, zero, suc, ◌+◌, ◌-◌, ◌/◌, ◌%◌, ◌==◌, nat_lt, Bool, if◌then◌else◌, List, [], ◌∷◌, ◌++◌, length, Option, None, Some}
 use Rattle.c65_mach.specs.declared.rows.Op.TheVariants.{Adc, Clc, Iny, Lda, Ldy, Sta, Stx, Tax, Tay, Txa, Tya}
 use Rattle.c65_code.specs.declared.line.Line.{Line}
 use Rattle.c65_code.specs.declared.routine.Routine.TheVariants.{PushA, LdAxYSp, LdAi, LdAxi, SaveRegs, StkChk}
@@ -9,7 +9,7 @@ use Rattle.c65_genframe.specs.declared.home.Moved.{Moved}
 use Rattle.c65_genframe.specs.Frames.{Framed}
 use Rattle.c65_genwide.specs.Lines.{value, call}
 use Rattle.c65_genwide.specs.Passing.{pass_bytes}
-use Rattle.c65_genentry.specs.Words.{sp, tmp2, tmp3, tmp4, regbank, implied, zero_page, by_y}
+use Rattle.c65_genentry.specs.Words.{sp, tmp1, tmp2, tmp3, tmp4, regbank, implied, zero_page, by_y}
 use Rattle.c65_genentry.specs.Stack.{lower_code}
 
 -- the last parameter goes from the registers onto the software stack
@@ -25,9 +25,17 @@ abbrev pub kept_code : Arrival → List Line
 kept_code (Kept bank bytes) = bank_store bank bytes
 kept_code _ = []
 
--- regbank is saved where any of it is taken
+-- the first bytes of regbank go to those at sp
+abbrev pub bank_saves : ℕ → List Line
+bank_saves zero = []
+bank_saves (suc n) = bank_saves n ++ (value Ldy n ∷ zero_page Lda ((regbank + n) % 256) ∷ by_y Sta sp ∷ [])
+
+abbrev pub few_saved : ℕ → List Line
+few_saved bank = lower_code bank ++ (zero_page Sta tmp1 ∷ (bank_saves bank ++ zero_page Lda tmp1 ∷ []))
+
+-- the bytes of regbank that are taken are saved
 abbrev pub saved_code : ℕ → List Line
-saved_code bank = if nat_lt 0 bank then call SaveRegs ∷ [] else []
+saved_code bank = if bank == 0 then [] else (if nat_lt bank 6 then few_saved bank else call SaveRegs ∷ [])
 
 -- the number of bytes that a variadic call pushed goes from Y to A, and from there to the byte at sp
 abbrev pub counted_code : Bool → List Line

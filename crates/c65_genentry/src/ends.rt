@@ -1,9 +1,9 @@
 // The end of a function (MACHINE.md, "Calls").
 ghost use Rattle.std.specs.Prelude.{◌≡◌, OnOk, OnErr};
 ghost use Rattle.c65_genwide.specs.Lines.{with_lines, Keeps};
-ghost use Rattle.c65_genentry.specs.Ends.{restored_code, plain_end, variadic_end, end_code};
+ghost use Rattle.c65_genentry.specs.Ends.{bank_loads, few_loads, few_restored, restored_code, plain_end, variadic_end, end_code};
 
-use crate::places::{SP, TMP1};
+use crate::places::{REGBANK, SP, TMP1};
 use crate::stack::raise;
 use c65_code::Line::Do;
 use c65_code::Operand::{Byte, Nothing, Zero};
@@ -14,15 +14,53 @@ use c65_mach::Mode::{Immediate, Implied, IndirectY, ZeroPage};
 use c65_mach::Op::{Lda, Ldy, Pha, Pla, Rts, Sta, Tay};
 use std::alloc::AllocError;
 
-/// Regbank is as it was where any of it was taken; the primary register stays.
+/// The bytes at sp go to the first ones of regbank.
+#[tactic(auto, using(crate::proofs::Repeats::loads_next))]
+fn put_bank_loads(bank: u8, draft: &mut Draft) -> Result<(), AllocError>
+    ensures lines { OnOk result (draft.new ≡ with_lines draft.old (bank_loads bank)) }
+    ensures kept { OnErr result (Keeps draft.old draft.new) }
+{
+    for byte in 0..bank {
+        put(
+            draft,
+            &[
+                Do(Ldy, Immediate, Byte(byte)),
+                Do(Lda, IndirectY, Zero(SP)),
+                Do(Sta, ZeroPage, Zero(REGBANK.wrapping_add(byte))),
+            ],
+        )?;
+    }
+    Ok(())
+}
+
+fn put_few_loads(bank: u8, draft: &mut Draft) -> Result<(), AllocError>
+    ensures lines { OnOk result (draft.new ≡ with_lines draft.old (few_loads bank)) }
+    ensures kept { OnErr result (Keeps draft.old draft.new) }
+{
+    put(draft, &[Do(Sta, ZeroPage, Zero(TMP1))])?;
+    put_bank_loads(bank, draft)?;
+    put(draft, &[Do(Lda, ZeroPage, Zero(TMP1))])
+}
+
+fn put_few_restored(bank: u8, draft: &mut Draft) -> Result<(), AllocError>
+    ensures lines { OnOk result (draft.new ≡ with_lines draft.old (few_restored bank)) }
+    ensures kept { OnErr result (Keeps draft.old draft.new) }
+{
+    put_few_loads(bank, draft)?;
+    raise(u16::from(bank), draft)
+}
+
+/// The bytes of regbank that were taken are as they were; the primary register stays.
 fn put_restored(bank: u8, draft: &mut Draft) -> Result<(), AllocError>
     ensures lines { OnOk result (draft.new ≡ with_lines draft.old (restored_code bank)) }
     ensures kept { OnErr result (Keeps draft.old draft.new) }
 {
-    if bank > 0 {
-        run(draft, Routine::RestRegs)
-    } else {
+    if bank == 0 {
         put(draft, &[])
+    } else if bank < 6 {
+        put_few_restored(bank, draft)
+    } else {
+        run(draft, Routine::RestRegs)
     }
 }
 

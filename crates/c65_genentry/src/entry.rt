@@ -1,9 +1,9 @@
 // The entry of a function (MACHINE.md, "Calls").
 ghost use Rattle.std.specs.Prelude.{◌≡◌, ◌<◌, OnOk, OnErr};
 ghost use Rattle.c65_genwide.specs.Lines.{with_lines, Keeps};
-ghost use Rattle.c65_genentry.specs.Entry.{pushed_code, counted_code, saved_code, kept_code, bank_store, near_load, far_load, load_code, moved_code, all_moved, counted_at, counted_store, counted_move, all_counted, raised_moves, early_moves, late_moves, taken_bytes, count_code, checked_code, taking_code, entry_code};
+ghost use Rattle.c65_genentry.specs.Entry.{pushed_code, counted_code, bank_saves, few_saved, saved_code, kept_code, bank_store, near_load, far_load, load_code, moved_code, all_moved, counted_at, counted_store, counted_move, all_counted, raised_moves, early_moves, late_moves, taken_bytes, count_code, checked_code, taking_code, entry_code};
 
-use crate::places::{REGBANK, SP, TMP2, TMP3, TMP4};
+use crate::places::{REGBANK, SP, TMP1, TMP2, TMP3, TMP4};
 use crate::stack::lower;
 use c65_code::Line::Do;
 use c65_code::Operand::{Byte, Nothing, Zero};
@@ -54,15 +54,46 @@ fn put_kept(last: Arrival, draft: &mut Draft) -> Result<(), AllocError>
     }
 }
 
-/// Regbank is saved where any of it is taken; the primary register stays.
+/// The first bytes of regbank go to those at sp.
+#[tactic(auto, using(crate::proofs::Repeats::saves_next))]
+fn put_bank_saves(bank: u8, draft: &mut Draft) -> Result<(), AllocError>
+    ensures lines { OnOk result (draft.new ≡ with_lines draft.old (bank_saves bank)) }
+    ensures kept { OnErr result (Keeps draft.old draft.new) }
+{
+    for byte in 0..bank {
+        put(
+            draft,
+            &[
+                Do(Ldy, Immediate, Byte(byte)),
+                Do(Lda, ZeroPage, Zero(REGBANK.wrapping_add(byte))),
+                Do(Sta, IndirectY, Zero(SP)),
+            ],
+        )?;
+    }
+    Ok(())
+}
+
+fn put_few_saved(bank: u8, draft: &mut Draft) -> Result<(), AllocError>
+    ensures lines { OnOk result (draft.new ≡ with_lines draft.old (few_saved bank)) }
+    ensures kept { OnErr result (Keeps draft.old draft.new) }
+{
+    lower(u16::from(bank), draft)?;
+    put(draft, &[Do(Sta, ZeroPage, Zero(TMP1))])?;
+    put_bank_saves(bank, draft)?;
+    put(draft, &[Do(Lda, ZeroPage, Zero(TMP1))])
+}
+
+/// The bytes of regbank that are taken are saved; the primary register stays.
 fn put_saved(bank: u8, draft: &mut Draft) -> Result<(), AllocError>
     ensures lines { OnOk result (draft.new ≡ with_lines draft.old (saved_code bank)) }
     ensures kept { OnErr result (Keeps draft.old draft.new) }
 {
-    if bank > 0 {
-        run(draft, Routine::SaveRegs)
-    } else {
+    if bank == 0 {
         put(draft, &[])
+    } else if bank < 6 {
+        put_few_saved(bank, draft)
+    } else {
+        run(draft, Routine::SaveRegs)
     }
 }
 

@@ -24,7 +24,7 @@ use Rattle.c65_genframe.specs.Arrivals.{slots, Arrivals, arrived}
 -- What a frame is seen as: the parts of its program; the homes of objects, the first of which is that of the object
 -- with number low; the parameters that move from the software stack to regbank; whether the byte at sp holds the
 -- number of bytes that the call pushed; how many bytes of regbank are taken, lowest first; how many bytes at sp the
--- entry takes, beside six for regbank where any of it is taken; how many bytes of parameters stand on the software
+-- entry takes, beside those of regbank that are taken; how many bytes of parameters stand on the software
 -- stack above these; how many bytes of the last parameter arrive in registers; and for how many bytes of the software
 -- stack the entry asks, where it checks the stacks.
 pub record Framed : Type 0 where
@@ -116,8 +116,9 @@ abbrev pub bytes_without : Bool → ℕ → ℕ → ℕ
 bytes_without false passed last = passed
 bytes_without true passed last = passed - last
 
+-- as many bytes of regbank are saved as are taken
 abbrev pub saved_bytes : ℕ → ℕ
-saved_bytes bank = if nat_lt 0 bank then 6 else 0
+saved_bytes bank = if nat_lt bank 6 then bank else 6
 
 abbrev pub first_arrivals : Places → ℕ → Arrivals
 first_arrivals p stacked = record { homes = p.homes; moved = []; left = stacked }

@@ -1,5 +1,5 @@
 -- Each object of a function gets its home, in the order of their numbers.
-use Rattle.std.specs.Prelude.{ℕ, ◌+◌, ◌%◌, min, ◌&&◌, Bool, nat_lt, nat_le, if◌then◌else◌, List, [], ◌∷◌, ◌++◌, Option, None, Some}
+use Rattle.std.specs.Prelude.{ℕ, ◌+◌, min, ◌&&◌, Bool, nat_lt, nat_le, if◌then◌else◌, List, [], ◌∷◌, ◌++◌, Option, None, Some}
 use Rattle.c65_ctype.specs.Views.{types_of}
 use Rattle.c65_csem.specs.declared.items.Parts.{Parts}
 use Rattle.c65_csem.specs.Places.{is_fixed_object}
@@ -66,4 +66,4 @@ with_marked parts modes i Parameter p = with_parameter (bank_bytes modes.honoure
 -- the object with number i has the first mark
 abbrev pub placed_all : Parts → Modes → ℕ → List Mark → Places → Places
 placed_all parts modes i [] p = p
-placed_all parts modes i (mark ∷ marks) p = placed_all parts modes ((i + 1) % 4294967296) marks (with_marked parts modes i mark p)
+placed_all parts modes i (mark ∷ marks) p = placed_all parts modes (i + 1) marks (with_marked parts modes i mark p)

@@ -91,7 +91,7 @@ impl Arrived {
         for object in params {
             let at = object.saturating_sub(low) as usize;
             let slot = slot_bytes(parts, prototype, *object);
-            self.add(base, at, slot, bank_bytes(parts, true, *object))?;
+            self.add(base, at, slot, bank_bytes(parts, true, *object as usize))?;
         }
         Ok(())
     }

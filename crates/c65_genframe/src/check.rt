@@ -11,10 +11,10 @@ use c65_csem_need::greatest_need;
 fn framed_bytes(parts: &Parts, object: u32) -> u32
     ensures { result ≡ framed_bytes parts.now object }
 {
-    if is_fixed(parts, object) {
+    if is_fixed(parts, object as usize) {
         0
     } else {
-        object_bytes(parts, object)
+        object_bytes(parts, object as usize)
     }
 }
 

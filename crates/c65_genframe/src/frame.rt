@@ -113,7 +113,7 @@ fn arrival(
 {
     match last {
         Some(object) => match home_at(homes, low, object) {
-            Some(Home::Bank(bank)) => Arrival::Kept(bank, bank_bytes(parts, true, object)),
+            Some(Home::Bank(bank)) => Arrival::Kept(bank, bank_bytes(parts, true, object as usize)),
             Some(Home::Soft(_)) | None => Arrival::Pushed(slot_bytes(parts, prototype, object)),
         },
         None => Arrival::Passed,
@@ -162,7 +162,7 @@ fn saved_bytes(bank: u8) -> u16
     ensures exact { result ≡ saved_bytes bank }
     ensures small { result ≤ 6 }
 {
-    if bank > 0 { 6 } else { 0 }
+    if bank < 6 { u16::from(bank) } else { 6 }
 }
 
 /// For how many bytes the entry asks, where it checks the stacks.
@@ -317,8 +317,8 @@ impl<'a> Frame<'a> {
         self.variadic
     }
 
-    /// How many bytes of regbank are taken, lowest first. Where there are any, regbank is saved
-    /// above the bytes of `soft`.
+    /// How many bytes of regbank are taken, lowest first. They are saved above the
+    /// bytes of `soft`.
     pub fn bank(&self) -> u8
         ensures { result ≡ self.now.bank }
     {
@@ -333,7 +333,7 @@ impl<'a> Frame<'a> {
         self.soft
     }
 
-    /// How many bytes above those regbank is saved in.
+    /// In how many bytes above those regbank is saved.
     pub fn saved(&self) -> u16
         ensures exact { result ≡ saved_bytes self.now.bank }
         ensures small { result ≤ 6 }

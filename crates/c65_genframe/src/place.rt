@@ -155,7 +155,7 @@ impl Placed {
     }
 
     /// An object of a block. One that has one place for the whole run has no home.
-    fn add_object(&mut self, parts: &Parts, modes: Modes, object: u32) -> Result<(), AllocError>
+    fn add_object(&mut self, parts: &Parts, modes: Modes, object: usize) -> Result<(), AllocError>
         ensures same { OnOk result (self.new ≡ with_object parts.now modes object self.old) }
         ensures grows { OnOk result (self.old.total ≤ self.new.total) }
     {
@@ -170,7 +170,7 @@ impl Placed {
         &mut self,
         parts: &Parts,
         modes: Modes,
-        object: u32,
+        object: usize,
         mark: Mark,
     ) -> Result<(), AllocError>
         ensures same { OnOk result (self.new ≡ with_marked parts.now modes object mark self.old) }
@@ -194,10 +194,8 @@ impl Placed {
         ensures same { OnOk result (self.new ≡ placed_all parts.now modes low marks.now self.old) }
         ensures grows { OnOk result (self.old.total ≤ self.new.total) }
     {
-        let mut object = low;
-        for mark in marks {
-            self.add(parts, modes, object, *mark)?;
-            object = object.wrapping_add(1);
+        for (index, mark) in marks.iter().enumerate() {
+            self.add(parts, modes, low as usize + index, *mark)?;
         }
         Ok(())
     }

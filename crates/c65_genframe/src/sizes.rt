@@ -67,11 +67,11 @@ pub fn bytes_or(types: &Types, ty: &CType, other: u32) -> u32
 }
 
 /// The bytes of an object, 65,536 where there are more.
-pub fn object_bytes(parts: &Parts, object: u32) -> u32
+pub fn object_bytes(parts: &Parts, object: usize) -> u32
     ensures exact { result ≡ object_bytes (types_of parts.now.types) (object_in parts.now object) }
     ensures small { result ≤ 65536 }
 {
-    match parts.objects.get(object as usize) {
+    match parts.objects.get(object) {
         Some(found) => bytes_or(&parts.types, &found.ty.ty, 65_536),
         None => 0,
     }
@@ -107,21 +107,21 @@ fn bank_size(ty: &CType) -> u8
 }
 
 /// Whether an object of a block has one place for the whole run.
-pub fn is_fixed(parts: &Parts, object: u32) -> bool
+pub fn is_fixed(parts: &Parts, object: usize) -> bool
     ensures { result ≡ is_fixed_object (object_in parts.now object) }
 {
-    match parts.objects.get(object as usize) {
+    match parts.objects.get(object) {
         Some(found) => found.class == Class::Fixed,
         None => false,
     }
 }
 
 /// The bytes that an object takes in regbank where it is marked `register` and that is honoured.
-pub fn bank_bytes(parts: &Parts, honoured: bool, object: u32) -> u8
+pub fn bank_bytes(parts: &Parts, honoured: bool, object: usize) -> u8
     ensures exact { result ≡ bank_bytes honoured (object_in parts.now object) }
     ensures small { result ≤ 2 }
 {
-    match parts.objects.get(object as usize) {
+    match parts.objects.get(object) {
         Some(found) if honoured && found.class == Class::Register => bank_size(&found.ty.ty),
         _ => 0,
     }

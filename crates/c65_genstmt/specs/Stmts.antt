@@ -1,10 +1,11 @@
 -- Statements as lines (C90 6.6): what becomes of a draft. Where jumps lead is given; l is the label of the next case of the
 -- innermost switch.
-use Rattle.std.specs.Prelude.{ℕ, ◌+◌, true, false, if◌then◌else◌, [], ◌∷◌, length}
+use Rattle.std.specs.Prelude.{ℕ, ℤ, ◌+◌, List, true, false, if◌then◌else◌, [], ◌∷◌, length}
 use Rattle.c65_csem.specs.Trees.{Typed, MaybeTyped, absent, present, Stmt, empty, eval, set_part, clear, block, if_stmt, while, do_while, for_loop, switch, case, default, label, goto, break, continue, return, Stmts, no_stmts, and_stmts}
 use Rattle.c65_csem.specs.Statements.{cases_of}
 use Rattle.c65_mach.specs.declared.rows.Op.TheVariants.{Jmp}
 use Rattle.c65_code.specs.declared.line.Line.TheVariants.{Label}
+use Rattle.c65_code.specs.declared.routine.Width.{Width}
 use Rattle.c65_code.specs.Segments.{Drafted}
 use Rattle.c65_genframe.specs.Frames.{Framed}
 use Rattle.c65_genwide.specs.Lines.{with_lines}
@@ -12,7 +13,7 @@ use Rattle.c65_genwide.specs.Wide.{width_of}
 use Rattle.c65_genexpr.specs.Types.{kind_in}
 use Rattle.c65_genentry.specs.Drafts.{with_labels}
 use Rattle.c65_genentry.specs.Words.{jump, with_code}
-use Rattle.c65_genentry.specs.Choice.{choice_code}
+use Rattle.c65_genentry.specs.Choice.{choice_code, choice_labels}
 use Rattle.c65_genstmt.specs.declared.jumps.Ways.{Ways}
 use Rattle.c65_genstmt.specs.Jumps.{following, with_value, with_effect, with_test}
 use Rattle.c65_genstmt.specs.Objects.{with_set, with_cleared}
@@ -71,11 +72,15 @@ ways behind onward other = record { behind = behind; onward = onward; other = ot
 abbrev pub default_way : Stmt → ℕ → ℕ
 default_way a end = if has_default a then end + 1 else end
 
+-- the tests of its cases
+abbrev pub with_cases : Width → ℕ → ℕ → List ℤ → Drafted → Drafted
+with_cases width other first zs d = with_code (choice_labels width zs) (choice_code width other first d.labels zs) d
+
 -- the head of a switch: its first labels are that of its end and that of its default, and those of its cases follow
 abbrev pub with_choice : Framed → Typed → Stmt → Drafted → Drafted
 with_choice f e a d =
     let g = with_value f e (with_labels (length (cases_of a)) (two_given d)) in
-    with_jump (default_way a d.labels) (with_code (length (cases_of a)) (choice_code (width_of (kind_in e)) (d.labels + 1 + 1) g.labels (cases_of a)) g)
+    with_jump (default_way a d.labels) (with_cases (width_of (kind_in e)) (default_way a d.labels) (d.labels + 1 + 1) (cases_of a) g)
 
 -- the end of a loop that tests behind its body
 abbrev pub with_bottom : Framed → ℕ → ℕ → ℕ → Typed → Drafted → Drafted

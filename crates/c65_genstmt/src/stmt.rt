@@ -89,8 +89,9 @@ fn put_choice(
     let values = case_values(alloc, body)?;
     let case = reserve(draft, values.len())?;
     put_value(value, frame, draft)?;
-    choose(width_of(kind_of(&value.ty.ty)), case, &values, draft)?;
-    put_jump(default_way(body, end, other), draft)?;
+    let way = default_way(body, end, other);
+    choose(width_of(kind_of(&value.ty.ty)), way, case, &values, draft)?;
+    put_jump(way, draft)?;
     Ok(Exits { end, other, case })
 }
 

@@ -17,7 +17,7 @@ use Rattle.c65_code.specs.Placement.{Placement, IsPlacement, setting_of}
 use Rattle.c65_code.specs.Starts.{IsStart}
 use Rattle.c65_code.specs.Comes.{Seen, Shown, Shows}
 use Rattle.c65_code.specs.Follows.{IsBelow, Grows, FollowsEverywhere, through}
-use Rattle.c65_headline.specs.Lines.{same_end, has_turned, shows, LineAgrees, shows_state, CodeAgrees, Optimised, OptimisedIf}
+use Rattle.c65_headline.specs.Lines.{same_end, has_turned, shows, LineAgrees, shows_state, CodeAgrees, StandsFor, StandsForIf}
 use Rattle.c65_headline.proofs.Ways.{onto, weaken}
 
 pub both : (a b : Bool) → IsTrue (a && b) → IsTrue a × IsTrue b
@@ -121,7 +121,7 @@ start_of r s datums f g a place args input t p = record {
   bytes = p.bytes;
 }
 
-module _ (cpu : Cpu) (old new : Code) (o : Optimised cpu old new) where
+module _ (cpu : Cpu) (old new : Code) (o : StandsFor cpu old new) where
   same : new ≡ record { symbols = old.symbols; functions = new.functions; datums = old.datums; main_args = old.main_args }
   same = ap (λ (x : List Symbol). let c : Code = record { symbols = x; functions = new.functions; datums = new.datums; main_args = new.main_args } in c) o.symbols
       ∙ (ap (λ (x : List Datum). let c : Code = record { symbols = old.symbols; functions = new.functions; datums = x; main_args = new.main_args } in c) o.datums
@@ -148,7 +148,7 @@ shown_through map places most (Ends out status turns) s seen = ap (λ b. bytes_e
 shown_through map places most (HasNone why) s seen = refl
 shown_through map places most IsDeep s seen = refl
 
-pub rewritten : (cpu : Cpu) (p : ProgramTy) (old new : Code) (main : ℕ) → Optimised cpu old new → CodeAgrees p old main → CodeAgrees p new main
+pub rewritten : (cpu : Cpu) (p : ProgramTy) (old new : Code) (main : ℕ) → StandsFor cpu old new → CodeAgrees p old main → CodeAgrees p new main
 rewritten cpu p old new main o a =
     let f : FollowsEverywhere old new main = o.follows main in
     record {
@@ -167,6 +167,6 @@ rewritten cpu p old new main o a =
           ((f.at place before).turns (shows a.places (jumps p) (sem p args input n)) (shows_grow a.places (jumps p) (sem p args input n)) (4000 * (n + 1) + a.more) t begun.frames begun.pushed (a.late place args input n t before b begun d)));
     }
 
-pub rewritten_if : (asked : Bool) (cpu : Cpu) (p : ProgramTy) (old new : Code) (main : ℕ) → OptimisedIf asked cpu old new → CodeAgrees p old main → CodeAgrees p new main
+pub rewritten_if : (asked : Bool) (cpu : Cpu) (p : ProgramTy) (old new : Code) (main : ℕ) → StandsForIf asked cpu old new → CodeAgrees p old main → CodeAgrees p new main
 rewritten_if false cpu p old new main e a = subst (λ (c : Code). CodeAgrees p c main) (sym e) a
 rewritten_if true cpu p old new main o a = rewritten cpu p old new main o a

@@ -42,7 +42,7 @@ use Rattle.c65_driver_words.specs.Commands.{Spelled}
 use Rattle.c65_driver.specs.Compiled.{IsLinked, IsOfFront, ReadsAs, front}
 use Rattle.c65_driver.specs.Outside.{Outside}
 use Rattle.c65_headline.specs.Images.{Recorded, ImageAgrees}
-use Rattle.c65_headline.specs.Lines.{OptimisedIf, Optimised}
+use Rattle.c65_headline.specs.Lines.{StandsForIf, StandsFor}
 use Rattle.c65_asm_law_names.specs.Numbers.{HasSegment, HasBody, IsClosed}
 use Rattle.c65_asm_law_names.proofs.Missing.{nothing_is_undefined}
 use Rattle.c65_headline.specs.Fronts.{command_of, programs, IsFront, IsMadeOf, HasLargeFrame}
@@ -146,11 +146,11 @@ front_hinders units held command p code old new e c f (inr h) = elim (late units
 answer_is : (a b : Code) → answers.Code a ≡ answers.Code b → a ≡ b
 answer_is a b h = cc
 
-writable_if : (asked : Bool) (cpu : Cpu) (old new : Code) → OptimisedIf asked cpu old new → (new ≡ old → IsWritable old × IsOfTypes old) → IsWritable new × IsOfTypes new
+writable_if : (asked : Bool) (cpu : Cpu) (old new : Code) → StandsForIf asked cpu old new → (new ≡ old → IsWritable old × IsOfTypes old) → IsWritable new × IsOfTypes new
 writable_if false cpu old new e w = subst (λ (c : Code). IsWritable c × IsOfTypes c) (sym e) (w e)
 writable_if true cpu old new o w = (o.writable, o.of_types)
 
-runs_if : (asked : Bool) (cpu : Cpu) (old new : Code) → OptimisedIf asked cpu old new → RunsOn cpu old → RunsOn cpu new
+runs_if : (asked : Bool) (cpu : Cpu) (old new : Code) → StandsForIf asked cpu old new → RunsOn cpu old → RunsOn cpu new
 runs_if false cpu old new e r = subst (λ (c : Code). RunsOn cpu c) (sym e) r
 runs_if true cpu old new o r = o.runs r
 
@@ -158,21 +158,21 @@ runs_on : (cpu : Cpu) (code : Code) → IsNmos code → RunsOn cpu code
 runs_on Nmos code n = n
 runs_on Cmos code n = tt
 
-defined_if : (asked : Bool) (cpu : Cpu) (old new : Code) (main : ℕ) → OptimisedIf asked cpu old new → HasSegment old main → HasSegment new main
+defined_if : (asked : Bool) (cpu : Cpu) (old new : Code) (main : ℕ) → StandsForIf asked cpu old new → HasSegment old main → HasSegment new main
 defined_if false cpu old new main e h = subst (λ (c : Code). HasSegment c main) (sym e) h
 defined_if true cpu old new main o h = o.defined main h
 
 -- a code with the same symbols and data whose functions have lines where they had lines
-body_in : (cpu : Cpu) (old new : Code) (i : ℕ) (symbol : Symbol) → Optimised cpu old new → HasBody old i symbol → HasBody new i symbol
+body_in : (cpu : Cpu) (old new : Code) (i : ℕ) (symbol : Symbol) → StandsFor cpu old new → HasBody old i symbol → HasBody new i symbol
 body_in cpu old new i symbol o (inl h) = inl (o.defined i h)
 body_in cpu old new i symbol o (inr (inl h)) = inr (inl (subst (λ (d : List Datum). IsTrue (has_datum d i)) (sym o.datums) h))
 body_in cpu old new i symbol o (inr (inr h)) = inr (inr h)
 
-closed_if : (asked : Bool) (cpu : Cpu) (old new : Code) → OptimisedIf asked cpu old new → IsClosed old → IsClosed new
+closed_if : (asked : Bool) (cpu : Cpu) (old new : Code) → StandsForIf asked cpu old new → IsClosed old → IsClosed new
 closed_if false cpu old new e c = subst (λ (x : Code). IsClosed x) (sym e) c
 closed_if true cpu old new o c = λ i symbol there. body_in cpu old new i symbol o (c i symbol (subst (λ (s : List Symbol). slice_get s i ≡ Some symbol) o.symbols there))
 
-main_if : (asked : Bool) (cpu : Cpu) (old new : Code) (main : ℕ) → OptimisedIf asked cpu old new → IsMain old main → IsMain new main
+main_if : (asked : Bool) (cpu : Cpu) (old new : Code) (main : ℕ) → StandsForIf asked cpu old new → IsMain old main → IsMain new main
 main_if false cpu old new main e h = subst (λ (c : Code). IsMain c main) (sym e) h
 main_if true cpu old new main o (symbol, there, spelled) = (symbol, subst (λ (s : List Symbol). slice_get s main ≡ Some symbol) (sym o.symbols) there, spelled)
 

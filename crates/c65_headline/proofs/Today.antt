@@ -15,7 +15,7 @@ use Rattle.c65_csem.specs.Views.{unit_of}
 use Rattle.c65_genframe.specs.Modes.{modes_of}
 use Rattle.c65_genstmt.specs.Programs.{program_of}
 use Rattle.c65_init_join.specs.Joined.{joined}
-use Rattle.c65_optimise.specs.Optimised as Rewriting
+use Rattle.c65_optimise.specs.Optimised.{OptimisedBy}
 use Rattle.c65_ppline.specs.Relations.{Answers, just, by_test, ◌then◌}
 use Rattle.c65_ppdir.specs.Units.{Held}
 use Rattle.c65_ppdir_law.specs.Once.{UnitsAreOne}
@@ -61,7 +61,7 @@ stems_by false r P o code (x, h, (p, j, (parts, u, good, g))) =
     }
 
 made_of : (rewriting : RewritingsFollow) (held : Held) (command : Spelled) (code : Code)
-    → (c : Code) × (new : Code) × front held command (Ok c) × Rewriting.OptimisedBy command.options c new × ReadsAs (text_of new) code → IsMadeOf held command code
+    → (c : Code) × (new : Code) × front held command (Ok c) × OptimisedBy command.options c new × ReadsAs (text_of new) code → IsMadeOf held command code
 made_of rewriting held command code (c, new, h, w, r) =
     let s : Stems command.options (programs (command_of held command) command.files) c =
     stems_by (nat_lt (limit_of sizes.Units) (length command.files)) (refusals.TooLarge sizes.Units (length command.files)) (units_typed (command_of held command) command.files) command.options c h in

@@ -19,7 +19,7 @@ use Rattle.c65_asm.specs.Text.{text_of}
 use Rattle.c65_driver_chain.specs.Front.{Command, command, units_typed, joining, IsGood}
 use Rattle.c65_driver_words.specs.Commands.{Spelled}
 use Rattle.c65_driver.specs.Compiled.{ReadsAs}
-use Rattle.c65_headline.specs.Lines.{OptimisedBy}
+use Rattle.c65_headline.specs.Lines.{StandsForBy}
 
 abbrev pub command_of : Held → Spelled → Command
 command_of held c = command held c.options c.defines c.folders
@@ -45,7 +45,7 @@ pub record IsMadeOf (held : Held) (c : Spelled) (code : Code) : Type 0 where
   pub generated : Code
   pub generates : program_of parts main names (modes_of c.options) ≡ Ok generated
   pub rewritten : Code
-  pub rewrites : OptimisedBy c.options generated rewritten
+  pub rewrites : StandsForBy c.options generated rewritten
   pub reads : ReadsAs (text_of rewritten) code
 
 -- the limit Frame: the generator refuses the program

@@ -63,8 +63,9 @@ pub record CodeAgrees (p : ProgramTy) (code : Code) (main : ℕ) : Type 0 where
       → IsPlacement code place → All (λ b. b < 256) input → IsStart code place args input t → IsDefined (sem p args input n)
       → ComesFrom (setting_of code place) main (shows places (jumps p) (sem p args input n)) (4000 * (n + 1) + more) t
 
--- What a rewriting keeps. The new code can be written, as the old one could be that was given to it.
-pub record Optimised (cpu : Cpu) (old new : Code) : Type 0 where
+-- A new code that can stand for the old one: its functions do what the old ones do. It can be written, as the old one could be
+-- that was given to the optimiser.
+pub record StandsFor (cpu : Cpu) (old new : Code) : Type 0 where
   pub symbols : new.symbols ≡ old.symbols
   pub datums : new.datums ≡ old.datums
   pub main_args : new.main_args ≡ old.main_args
@@ -74,9 +75,9 @@ pub record Optimised (cpu : Cpu) (old new : Code) : Type 0 where
   pub of_types : IsOfTypes new
   pub runs : RunsOn cpu old → RunsOn cpu new
 
-abbrev pub OptimisedIf : Bool → Cpu → Code → Code → Type 0
-OptimisedIf false cpu old new = new ≡ old
-OptimisedIf true cpu old new = Optimised cpu old new
+abbrev pub StandsForIf : Bool → Cpu → Code → Code → Type 0
+StandsForIf false cpu old new = new ≡ old
+StandsForIf true cpu old new = StandsFor cpu old new
 
-abbrev pub OptimisedBy : Options → Code → Code → Type 0
-OptimisedBy options old new = OptimisedIf options.optimise options.cpu old new
+abbrev pub StandsForBy : Options → Code → Code → Type 0
+StandsForBy options old new = StandsForIf options.optimise options.cpu old new

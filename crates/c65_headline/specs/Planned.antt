@@ -34,9 +34,9 @@ use Rattle.c65_driver.specs.Compiled.{ReadsAs}
 use Rattle.c65_driver.specs.Setups.{setup_of}
 use Rattle.c65_headline.specs.Fronts.{command_of, programs}
 use Rattle.c65_headline.specs.Images.{Recorded, AreBytes}
-use Rattle.c65_optimise.specs.Optimised as Rewriting
+use Rattle.c65_optimise.specs.Optimised.{OptimisedBy}
 use Rattle.c65_asm_law_names.specs.Numbers.{HasSegment, IsClosed}
-use Rattle.c65_headline.specs.Lines.{LineAgrees, OptimisedBy}
+use Rattle.c65_headline.specs.Lines.{LineAgrees, StandsForBy}
 use Rattle.c65_headline.specs.Placed.{Reaches}
 
 -- ---- words
@@ -85,7 +85,7 @@ FrontsAreWritable = (held : Held) (command : Spelled) (parts : Parts) (main : �
 abbrev pub RewritingsFollow : Type 0
 RewritingsFollow = (held : Held) (command : Spelled) (parts : Parts) (main : ℕ) (names : List (List ℕ)) (code new read : Code)
     → programs (command_of held command) command.files (Ok ((unit_of parts, main), names)) → program_of parts main names (modes_of command.options) ≡ Ok code
-    → Rewriting.OptimisedBy command.options code new → ReadsAs (text_of new) read → OptimisedBy command.options code new
+    → OptimisedBy command.options code new → ReadsAs (text_of new) read → StandsForBy command.options code new
 
 -- the text of a code that can be written reads as this code with its symbols numbered anew
 abbrev pub CodesReadBack : Type 0

@@ -1,5 +1,5 @@
 -- Each line that stays within its bounds is followed by one row or two.
-use Rattle.std.proofs.Common.{◌≡◌, ◌≢◌, ℕ, suc, ◌+◌, ◌*◌, ◌%◌, ◌/◌, ◌-◌, ◌<◌, ◌≤◌, ◌&&◌, ◌||◌, ◌⊎◌, inl, inr, Bool, true, false, not, if◌then◌else◌, IsTrue, List, [], ◌∷◌, length, Option, Some, None, slice_get, slice_index, ap, sym, refl, subst, ◌∙◌, arith}
+use Rattle.std.proofs.Common.{◌≡◌, ◌≢◌, ℕ, suc, ◌+◌, ◌*◌, ◌%◌, ◌/◌, ◌-◌, ◌<◌, ◌≤◌, ◌&&◌, ◌||◌, ◌⊎◌, inl, inr, Bool, true, false, not, if◌then◌else◌, IsTrue, List, [], ◌∷◌, length, Option, Some, None, unwrap_or, slice_get, slice_index, ap, sym, refl, subst, ◌∙◌, arith}
 use Rattle.std.proofs.lemmas.Bool.{and_parts, or_cases}
 use Rattle.c65_base.specs.declared.options.Cpu.{Cpu}
 use Rattle.c65_base.specs.declared.options.Cpu.TheVariants.{Nmos, Cmos}
@@ -33,7 +33,7 @@ use Rattle.c65_link.specs.Symbols.{operand_symbol}
 use Rattle.c65_link.proofs.TableLaws.{opposites_differ}
 use Rattle.c65_link_law.specs.Coded.{Memory, Stands, label_at, word_at, IsBranch, short, long, IsInstruction, IsCoded}
 use Rattle.c65_link_law_follow.specs.Agree.{Ground, Agrees, Goes, none, more, Arrives}
-use Rattle.c65_link_law_follow.specs.Laid.{IsLaid, IsGround, IsLineOf, IsOperandNumber, IsLineNumber, IsTargetKnown, LeadsWell, LineLeadsWell}
+use Rattle.c65_link_law_follow.specs.Laid.{IsLaid, IsGround, IsLineOf, IsOperandNumber, IsLineNumber, IsTargetKnown, hook_address, LeadsWell, LineLeadsWell}
 use Rattle.c65_link_law_follow.specs.Laws.{IsNoHook, IsCounted, LinesAreFollowed}
 use Rattle.c65_link_law_follow.proofs.Rows.{HasRowOn, rowed, both_have, row_on, opposite_row}
 use Rattle.c65_link_law_follow.proofs.Bytes.{Here, Moved, moved_to, HasOperand}
@@ -313,7 +313,7 @@ far_line g s setting bounds f p i t now ground laid here small within a =
     (fars g setting (g.at (f, p)) i (g.at q) t now a h st.coded.0.1 small to)
 
 -- S has room for as many bytes as the machine on lines has
-room_for : (g : Ground) (s : RawSetting) (at n bound : ℕ) (t : State) (now : Moment) → IsGround g s → Agrees g at t now → bound + n ≤ s_of t → n ≤ now.machine.s
+pub room_for : (g : Ground) (s : RawSetting) (at n bound : ℕ) (t : State) (now : Moment) → IsGround g s → Agrees g at t now → bound + n ≤ s_of t → n ≤ now.machine.s
 room_for g s at n bound t now ground a le = let sum = a.s in let bottom = ground.bottom in omega (arith, sum, bottom, le)
 
 -- an instruction of one byte
@@ -379,42 +379,53 @@ return_line g s setting bounds f p mode operand t now ground laid here within a 
         let upto = ground.to frame.back in let high = ground.high in
         let u : State = record t { pushed = frame.pushed; frames = frames } in
         let goes : RawGoes s Return (f, p) t frame.back u = subst (λ (fs : List Frame). RawReturns fs t frame.back u) (sym e) (within.0, refl, refl) in
-        one g setting 1 now (RawGoes s Return (f, p) t) frame.back u (omega arith) goes (returns g setting (g.at (f, p)) frame frames t now a ground.page (omega (arith, upto, high)) h.0 within.0 e)
+        one g setting 1 now (RawGoes s Return (f, p) t) frame.back u (omega arith) goes (returns g setting (g.at (f, p)) frame frames t now a (omega (arith, upto, high)) h.0 within.0 e)
 
 -- Calls
 
-call_moves : (g : Ground) (s : RawSetting) (setting : Setting) (f p : ℕ) (callee : Callee) (q : Place) (t : State) (now : Moment) → IsGround g s → (laid : IsLaid g s f) → slice_get (s.lines f) p ≡ Some (Call callee) → callee_address laid.spot callee ≡ g.at q → 2 ≤ now.machine.s
-    → Agrees g (g.at (f, p)) t now → Moved g setting (g.at q) (called (line_after s (f, p)) t) now
-call_moves g s setting f p callee q t now ground laid here leads deep a =
+pub call_moves : (g : Ground) (s : RawSetting) (setting : Setting) (f p : ℕ) (callee : Callee) (to : ℕ) (t : State) (now : Moment) → IsGround g s → (laid : IsLaid g s f) → slice_get (s.lines f) p ≡ Some (Call callee) → callee_address laid.spot callee ≡ to → 2 ≤ now.machine.s
+    → Agrees g (g.at (f, p)) t now → Moved g setting to (called (line_after s (f, p)) t) now
+call_moves g s setting f p callee to t now ground laid here leads deep a =
     let c = laid.coded p (Call callee) here in
     let after_it = c.1 in
     let h : Here g (g.at (f, p)) ops.Jsr Absolute = here_at g s (g.at (f, p)) (g.at (f, suc p)) ops.Jsr Absolute ground (both_have g.cpu ops.Jsr Absolute refl) c.0.0 (ground.from (f, p)) (omega (arith, after_it)) (ground.to (f, suc p)) in
-    enters g setting (g.at (f, p)) (g.at q) (line_after s (f, p)) t now a ground.page h (subst (λ (n : ℕ). Stands g.byte (g.at (f, p) + 1) (word_bytes n)) leads c.0.1) (laid.settled (suc p) ∙ after_it) deep
+    enters g setting (g.at (f, p)) to (line_after s (f, p)) t now a ground.page h (subst (λ (n : ℕ). Stands g.byte (g.at (f, p) + 1) (word_bytes n)) leads c.0.1) (laid.settled (suc p) ∙ after_it) deep
+
+no_hook_there : (s : RawSetting) (r : Routine) (t : State) → hook_row s.args r t ≡ None → hook_address r ≡ None
+no_hook_there s routines.HookOpen t h = absurd cc
+no_hook_there s routines.HookClose t h = absurd cc
+no_hook_there s routines.HookRead t h = absurd cc
+no_hook_there s routines.HookWrite t h = absurd cc
+no_hook_there s routines.HookArgs t h = absurd cc
+no_hook_there s routines.HookExit t h = absurd cc
+no_hook_there s _ t h = refl
 
 run_line : (g : Ground) (s : RawSetting) (setting : Setting) (bounds : Bounds) (f p : ℕ) (r : Routine) (t : State) (now : Moment) → IsGround g s → (laid : IsLaid g s f) → slice_get (s.lines f) p ≡ Some (Call (callees.Routine r)) → hook_row s.args r t ≡ None → IsRawWithin s bounds (Run r) t → Agrees g (g.at (f, p)) t now
     → Arrives g setting 2 now (RawGoes s (Run r) (f, p) t)
 run_line g s setting bounds f p r t now ground laid here no_hook within a =
     let le : bounds.hard + 2 ≤ s_of t = subst (λ (o : Option Row). IsHookWithin s.place bounds o t) no_hook within in
     let q : Place = entry_of s (s.routine r) in
+    let unhooked : hook_address r ≡ None = no_hook_there s r t no_hook in
+    let leads : callee_address laid.spot (callees.Routine r) ≡ g.at q = laid.calls p (Call (callees.Routine r)) here ∙ ap (λ (o : Option ℕ). unwrap_or o (g.at q)) unhooked in
     let goes : RawGoes s (Run r) (f, p) t q (called (line_after s (f, p)) t) = subst (λ (o : Option Row). RawRuns s o r (f, p) t q (called (line_after s (f, p)) t)) (sym no_hook) (refl, refl) in
     one g setting 2 now (RawGoes s (Run r) (f, p) t) q (called (line_after s (f, p)) t) (omega arith) goes
-    (call_moves g s setting f p (callees.Routine r) q t now ground laid here (laid.calls p (Call (callees.Routine r)) here) (room_for g s (g.at (f, p)) 2 bounds.hard t now ground a le) a)
+    (call_moves g s setting f p (callees.Routine r) (g.at q) t now ground laid here leads (room_for g s (g.at (f, p)) 2 bounds.hard t now ground a le) a)
 
-call_line : (g : Ground) (s : RawSetting) (setting : Setting) (bounds : Bounds) (f p : ℕ) (callee : Callee) (t : State) (now : Moment) → IsGround g s → (laid : IsLaid g s f) → slice_get (s.lines f) p ≡ Some (Call callee) → IsNoHook s (callee_form callee) t → IsRawWithin s bounds (callee_form callee) t → Agrees g (g.at (f, p)) t now
+call_line : (g : Ground) (s : RawSetting) (setting : Setting) (bounds : Bounds) (f p : ℕ) (callee : Callee) (t : State) (now : Moment) → IsGround g s → (laid : IsLaid g s f) → slice_get (s.lines f) p ≡ Some (Call callee) → IsNoHook s (callee_form callee) t → IsCounted g s (callee_form callee) → IsRawWithin s bounds (callee_form callee) t → Agrees g (g.at (f, p)) t now
     → Arrives g setting (raw_weight (callee_form callee)) now (RawGoes s (callee_form callee) (f, p) t)
-call_line g s setting bounds f p (callees.Routine r) t now ground laid here no_hook within a = run_line g s setting bounds f p r t now ground laid here no_hook within a
-call_line g s setting bounds f p (callees.Function callee reads gives) t now ground laid here no_hook within a =
+call_line g s setting bounds f p (callees.Routine r) t now ground laid here no_hook counted within a = run_line g s setting bounds f p r t now ground laid here no_hook within a
+call_line g s setting bounds f p (callees.Function callee reads gives) t now ground laid here no_hook counted within a =
     let q : Place = entry_of s (target_of s (s.library callee.0) callee.0) in
     one g setting 1 now (RawGoes s (Enter callee.0 reads gives) (f, p) t) q (called (line_after s (f, p)) t) (omega arith) (refl, refl)
-    (call_moves g s setting f p (callees.Function callee reads gives) q t now ground laid here (laid.calls p (Call (callees.Function callee reads gives)) here) (room_for g s (g.at (f, p)) 2 bounds.hard t now ground a within) a)
-call_line g s setting bounds f p (callees.Pointer reads gives) t now ground laid here no_hook within a =
+    (call_moves g s setting f p (callees.Function callee reads gives) (g.at q) t now ground laid here (laid.calls p (Call (callees.Function callee reads gives)) here counted) (room_for g s (g.at (f, p)) 2 bounds.hard t now ground a within) a)
+call_line g s setting bounds f p (callees.Pointer reads gives) t now ground laid here no_hook counted within a =
     let q : Place = entry_of s (s.routine routines.CallPtr4) in
     one g setting 1 now (RawGoes s (Through reads gives) (f, p) t) q (called (line_after s (f, p)) t) (omega arith) (refl, refl)
-    (call_moves g s setting f p (callees.Pointer reads gives) q t now ground laid here (laid.calls p (Call (callees.Pointer reads gives)) here) (room_for g s (g.at (f, p)) 2 bounds.hard t now ground a within) a)
+    (call_moves g s setting f p (callees.Pointer reads gives) (g.at q) t now ground laid here (laid.calls p (Call (callees.Pointer reads gives)) here) (room_for g s (g.at (f, p)) 2 bounds.hard t now ground a within) a)
 
 -- All lines
 
-jump_by : (g : Ground) (s : RawSetting) (setting : Setting) (bounds : Bounds) (f p : ℕ) (mode : Mode) (operand : Operand) (t : State) (now : Moment) → IsGround g s → (laid : IsLaid g s f) → slice_get (s.lines f) p ≡ Some (Do ops.Jmp mode operand) → (has_row ops.Jmp mode ≡ true) × (takes ops.Jmp mode operand ≡ true) → IsCounted g (jump_form operand) → IsRawWithin s bounds (jump_form operand) t → Agrees g (g.at (f, p)) t now
+jump_by : (g : Ground) (s : RawSetting) (setting : Setting) (bounds : Bounds) (f p : ℕ) (mode : Mode) (operand : Operand) (t : State) (now : Moment) → IsGround g s → (laid : IsLaid g s f) → slice_get (s.lines f) p ≡ Some (Do ops.Jmp mode operand) → (has_row ops.Jmp mode ≡ true) × (takes ops.Jmp mode operand ≡ true) → IsCounted g s (jump_form operand) → IsRawWithin s bounds (jump_form operand) t → Agrees g (g.at (f, p)) t now
     → Arrives g setting (raw_weight (jump_form operand)) now (RawGoes s (jump_form operand) (f, p) t)
 jump_by g s setting bounds f p Absolute (operands.To l) t now ground laid here fits counted within a = jump_line g s setting f p l t now ground laid here a
 jump_by g s setting bounds f p Indirect (operands.Zero i) t now ground laid here fits counted within a = far_line g s setting bounds f p i t now ground laid here counted within a
@@ -422,7 +433,7 @@ jump_by g s setting bounds f p _ (operands.To l) t now ground laid here fits cou
 jump_by g s setting bounds f p _ (operands.Zero i) t now ground laid here fits counted within a = (let e = fits.0 in let z = fits.1 in absurd cc)
 jump_by g s setting bounds f p _ _ t now ground laid here fits counted within a = absurd within
 
-moves_line : (g : Ground) (s : RawSetting) (setting : Setting) (bounds : Bounds) (f p : ℕ) (op : Op) (mode : Mode) (operand : Operand) (t : State) (now : Moment) → IsGround g s → (laid : IsLaid g s f) → slice_get (s.lines f) p ≡ Some (Do op mode operand) → IsCounted g (move_form op operand) → IsRawWithin s bounds (move_form op operand) t → Agrees g (g.at (f, p)) t now
+moves_line : (g : Ground) (s : RawSetting) (setting : Setting) (bounds : Bounds) (f p : ℕ) (op : Op) (mode : Mode) (operand : Operand) (t : State) (now : Moment) → IsGround g s → (laid : IsLaid g s f) → slice_get (s.lines f) p ≡ Some (Do op mode operand) → IsCounted g s (move_form op operand) → IsRawWithin s bounds (move_form op operand) t → Agrees g (g.at (f, p)) t now
     → Arrives g setting (raw_weight (move_form op operand)) now (RawGoes s (move_form op operand) (f, p) t)
 moves_line g s setting bounds f p ops.Jmp mode operand t now ground laid here counted within a =
     let st : Stood g s f p laid.spot ops.Jmp mode operand = stood g s f p ops.Jmp mode operand laid here in
@@ -439,7 +450,7 @@ branches_line g s setting bounds f p op mode (operands.To l) t now ground laid h
 branches_line g s setting bounds f p op mode _ t now ground laid here k within a = absurd within
 
 do_line : (g : Ground) (s : RawSetting) (setting : Setting) (bounds : Bounds) (f p : ℕ) (k : Kind) (op : Op) (mode : Mode) (operand : Operand) (t : State) (now : Moment) → IsGround g s → (laid : IsLaid g s f) → slice_get (s.lines f) p ≡ Some (Do op mode operand) → kind_of op ≡ k → stack_start ≤ bounds.soft
-    → IsCounted g (op_form k op mode operand) → IsRawWithin s bounds (op_form k op mode operand) t → Agrees g (g.at (f, p)) t now
+    → IsCounted g s (op_form k op mode operand) → IsRawWithin s bounds (op_form k op mode operand) t → Agrees g (g.at (f, p)) t now
     → Arrives g setting (raw_weight (op_form k op mode operand)) now (RawGoes s (op_form k op mode operand) (f, p) t)
 do_line g s setting bounds f p Reads op mode operand t now ground laid here k soft counted within a =
     plain_goes g s setting f p Reads op mode operand t now ground laid k (plain_line g s setting bounds f p Reads op mode operand t now ground laid soft (stood g s f p op mode operand laid here) it_reads k (subst (λ (x : Placement). IsRawOpen x bounds (ref_of mode (word_of x operand) t)) ground.place within) a)
@@ -455,4 +466,4 @@ do_line g s setting bounds f p Moves op mode operand t now ground laid here k so
 pub lines_are_followed : LinesAreFollowed
 lines_are_followed g s setting bounds f p (Label l) t now ground laid here no_hook counted bytes soft within a = absurd within
 lines_are_followed g s setting bounds f p (Do op mode operand) t now ground laid here no_hook counted bytes soft within a = do_line g s setting bounds f p (kind_of op) op mode operand t now ground laid here refl soft counted within a
-lines_are_followed g s setting bounds f p (Call callee) t now ground laid here no_hook counted bytes soft within a = call_line g s setting bounds f p callee t now ground laid here no_hook within a
+lines_are_followed g s setting bounds f p (Call callee) t now ground laid here no_hook counted bytes soft within a = call_line g s setting bounds f p callee t now ground laid here no_hook counted within a

@@ -11,7 +11,7 @@ use Rattle.c65_mach.specs.declared.rows.Op.TheVariants as ops
 use Rattle.c65_mach.specs.declared.rows.Mode.{Mode}
 use Rattle.c65_mach.specs.declared.rows.Mode.TheVariants.{Implied, Absolute, Indirect, Relative}
 use Rattle.c65_mach.specs.State.{Regs, read, write as write_byte, State as Machine}
-use Rattle.c65_mach.specs.Step.{after, word_at, size_of, place_of, jump_next, branched, branch, is_taken, Kind, Branches, Moves, kind_of, act_by, push, with_a, with_x, pushes}
+use Rattle.c65_mach.specs.Step.{after, word_at, size_of, place_of, jump_next, branched, branch, is_taken, Kind, Branches, Moves, kind_of, act_by, push, returned, with_a, with_x, pushes}
 use Rattle.c65_mach.specs.Run.{Setting, Moment}
 use Rattle.c65_code.specs.declared.parts.RegSet.{RegSet}
 use Rattle.c65_code.specs.Parts.{no_parts}
@@ -179,9 +179,9 @@ enters g setting at to back t now a page h rest point deep =
     })
 
 -- a return leads to the point on top
-pub returns : (g : Ground) (setting : Setting) (at : ℕ) (frame : Frame) (frames : List Frame) (t : State) (now : Moment) → Agrees g at t now → g.top ≤ 255 → g.at frame.back ≤ 65535 → Here g at ops.Rts Implied → t.pushed ≡ [] → t.frames ≡ frame ∷ frames
-    → Moved g setting (g.at frame.back) (record t { pushed = frame.pushed; frames = frames }) now
-returns g setting at frame frames t now a page fits h none is =
+pub on_return : (g : Ground) (at : ℕ) (frame : Frame) (frames : List Frame) (t : State) (now : Moment) → Agrees g at t now → g.at frame.back ≤ 65535 → t.pushed ≡ [] → t.frames ≡ frame ∷ frames
+    → Agrees g (g.at frame.back) (record t { pushed = frame.pushed; frames = frames }) (record now { machine = returned 1 now.machine })
+on_return g at frame frames t now a fits none is =
     let m : Machine = now.machine in
     let s = a.s in
     let start : m.s + length t.pushed ≡ m.s = (let z : length t.pushed ≡ 0 = ap length none in omega (arith, z)) in
@@ -198,8 +198,7 @@ returns g setting at frame frames t now a page fits h none is =
     let two : read m.mem (256 + (m.s + 2) % 256) ≡ read m.mem (258 + m.s) = ap (read m.mem) e2 in
     let pc : ℕ = after (read m.mem (256 + (m.s + 1) % 256) + 256 * read m.mem (256 + (m.s + 2) % 256)) 1 in
     let pc_is : pc ≡ g.at frame.back = omega (arith, one, two, leads, fits) in
-    moved_by g setting at (g.at frame.back) t (record t { pushed = frame.pushed; frames = frames }) now ops.Rts Implied Moves (record m { s = (m.s + 2) % 256; pc = pc }) a h refl (omega arith) refl
-    (record {
+    record {
       cpu = a.cpu;
       pc = pc_is;
       regs = a.regs;
@@ -213,7 +212,12 @@ returns g setting at frame frames t now a page fits h none is =
       points = subst (λ (k : ℕ). Points g.at g.last (read m.mem) (k + length frame.pushed) frames) (sym e3) points.2;
       input = a.input;
       output = a.output;
-    })
+    }
+
+pub returns : (g : Ground) (setting : Setting) (at : ℕ) (frame : Frame) (frames : List Frame) (t : State) (now : Moment) → Agrees g at t now → g.at frame.back ≤ 65535 → Here g at ops.Rts Implied → t.pushed ≡ [] → t.frames ≡ frame ∷ frames
+    → Moved g setting (g.at frame.back) (record t { pushed = frame.pushed; frames = frames }) now
+returns g setting at frame frames t now a fits h none is =
+    moved_by g setting at (g.at frame.back) t (record t { pushed = frame.pushed; frames = frames }) now ops.Rts Implied Moves (returned 1 now.machine) a h refl (omega arith) refl (on_return g at frame frames t now a fits none is)
 
 -- a byte is pulled into A
 pub do_pull : (g : Ground) (setting : Setting) (at to v : ℕ) (rest : List ℕ) (t : State) (now : Moment) → Agrees g at t now → Here g at ops.Pla Implied → to ≡ at + 1 → t.pushed ≡ v ∷ rest

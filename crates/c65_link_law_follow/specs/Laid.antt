@@ -1,8 +1,9 @@
 -- What it is for a program's lines to stand in memory, so that the processor can follow them.
-use Rattle.std.specs.Prelude.{◌≡◌, ℕ, suc, ◌+◌, ◌<◌, ◌≤◌, Bool, true, IsTrue, List, [], ◌∷◌, Option, Some, None, slice_get, slice_index}
+use Rattle.std.specs.Prelude.{◌≡◌, ℕ, suc, ◌+◌, ◌<◌, ◌≤◌, Bool, true, IsTrue, List, [], ◌∷◌, Option, Some, None, unwrap_or, slice_get, slice_index}
 use Rattle.c65_base.specs.declared.options.Cpu.{Cpu}
 use Rattle.c65_base.specs.declared.options.Cpu.TheVariants.{Nmos, Cmos}
 use Rattle.c65_base.specs.declared.library.Library.{Library}
+use Rattle.c65_code.specs.declared.routine.Routine.{Routine}
 use Rattle.c65_code.specs.declared.routine.Routine.TheVariants as routines
 use Rattle.c65_code.specs.declared.line.Sym.{Sym}
 use Rattle.c65_code.specs.declared.line.Operand.{Operand}
@@ -37,10 +38,20 @@ abbrev pub IsLineOf : Cpu → Line → Type 0
 IsLineOf Nmos line = IsTrue (is_nmos_line line)
 IsLineOf Cmos line = Unit {0}
 
--- where a call goes on: at the first line of the unit that stands for it
+-- where the simulator takes over: the hooks have no lines (docs/MACHINE.md, "Runs")
+abbrev pub hook_address : Routine → Option ℕ
+hook_address routines.HookOpen = Some 0xFFF4
+hook_address routines.HookClose = Some 0xFFF5
+hook_address routines.HookRead = Some 0xFFF6
+hook_address routines.HookWrite = Some 0xFFF7
+hook_address routines.HookArgs = Some 0xFFF8
+hook_address routines.HookExit = Some 0xFFF9
+hook_address _ = None
+
+-- where a call goes on: at its hook, or at the first line of the unit that stands for it
 abbrev pub LeadsWell : Ground → RawSetting → Spot → Callee → Type 0
-LeadsWell g s spot (callees.Routine r) = callee_address spot (callees.Routine r) ≡ g.at (entry_of s (s.routine r))
-LeadsWell g s spot (callees.Function f reads gives) = callee_address spot (callees.Function f reads gives) ≡ g.at (entry_of s (target_of s (s.library f.0) f.0))
+LeadsWell g s spot (callees.Routine r) = callee_address spot (callees.Routine r) ≡ unwrap_or (hook_address r) (g.at (entry_of s (s.routine r)))
+LeadsWell g s spot (callees.Function f reads gives) = IsTrue (s.is_function f.0) → callee_address spot (callees.Function f reads gives) ≡ g.at (entry_of s (target_of s (s.library f.0) f.0))
 LeadsWell g s spot (callees.Pointer reads gives) = callee_address spot (callees.Pointer reads gives) ≡ g.at (entry_of s (s.routine routines.CallPtr4))
 
 abbrev pub LineLeadsWell : Ground → RawSetting → Spot → Line → Type 0

@@ -3,4 +3,3 @@ pub mod Chains
 pub mod Rules
 pub mod Unused
 pub mod Good
-pub mod Rounds

@@ -1,41 +1,21 @@
-// What each rule makes at a place.
-ghost use Rattle.std.specs.Prelude.{◌≡◌, drop, Some};
+// What the rules make at a place.
+ghost use Rattle.std.specs.Prelude.{◌≡◌, ◌≤◌, [], Some};
 ghost use Rattle.c65_code.specs.Segments.{is_closing, is_among, targets_of};
-ghost use Rattle.c65_pass.specs.FlowRules.{gone_if, alone_if, sent_to, begins_plainly, goes_on_plainly, inverted, is_unused};
+ghost use Rattle.c65_pass.specs.FlowRules.{sent_to, begins_plainly, goes_on_plainly, inverted, is_unused};
 ghost use Rattle.c65_pass.specs.Labels.{begins_with_target};
 ghost use Rattle.c65_pass.specs.Passes.{Answers};
 ghost use Rattle.c65_pass.specs.Rules.{match_at};
 
 use crate::branches::{is_passed, is_taken, opposite};
-use c65_base::Refusal;
-use c65_code::{Line, Literals, Operand};
+use c65_code::{Line, Operand};
 use c65_know::Noted;
 use c65_live::LiveTable;
 use c65_mach::{Mode, Op};
-use c65_pass::{Rewrite, begins_with, branch_target, is_label, jump_target, retargeted, threaded};
+use c65_pass::{
+    Found, Rewrite, alone_if, begins_with, branch_target, gone_if, is_label, jump_target,
+    lines_from, retargeted, threaded,
+};
 use std::alloc::Global;
-
-type Found = Result<Option<Rewrite>, Refusal>;
-
-// The line goes.
-fn gone_if(alloc: Global, gone: bool, at: usize) -> Found
-    ensures { Answers (gone_if gone at) result }
-{
-    if !gone {
-        return Ok(None);
-    }
-    Ok(Some(Rewrite::new(alloc, at, 1, &[])?))
-}
-
-// The line after this one goes.
-fn alone_if(alloc: Global, alone: bool, at: usize, line: &Line) -> Found
-    ensures { Answers (alone_if alone at line.now) result }
-{
-    if !alone {
-        return Ok(None);
-    }
-    Ok(Some(Rewrite::new(alloc, at, 2, &[*line])?))
-}
 
 // The line goes to this label in place of its own.
 fn sent_to(alloc: Global, target: Option<u32>, at: usize, line: &Line) -> Found
@@ -48,13 +28,6 @@ fn sent_to(alloc: Global, target: Option<u32>, at: usize, line: &Line) -> Found
             Ok(Some(new))
         }
     }
-}
-
-fn lines_from(code: &Noted, at: usize) -> &[Line]
-    ensures { result.now ≡ drop at code.now.lines }
-{
-    let lines = code.seg().lines();
-    if at < lines.len() { &lines[at..] } else { &[] }
 }
 
 fn begins_with_target(target: Option<u32>, lines: &[Line]) -> bool
@@ -134,161 +107,35 @@ fn inverted(alloc: Global, at: usize, line: &Line, after: &[Line]) -> Found
     Ok(Some(Rewrite::new(alloc, at, 2, &[branch])?))
 }
 
-/// Rule 1: JMP to a label that follows at once.
-pub fn find_idle_jump(
-    alloc: Global,
-    _literals: &Literals,
-    code: &Noted,
-    _live: &LiveTable,
-    at: usize,
-) -> Found
-    ensures { Answers (match_at 1 _literals.now.items code.now _live.now at) result }
+/// What one of the rules makes at a place.
+pub fn find(alloc: Global, code: &Noted, _live: &LiveTable, at: usize, rule: u8) -> Found
+    requires first { 1 ≤ rule }
+    requires last { rule ≤ 9 }
+    ensures { Answers (match_at rule [] code.now _live.now at) result }
 {
-    match lines_from(code, at) {
-        [line, after @ ..] => { gone_if(alloc, begins_with_target(jump_target(line), after), at) }
-        [] => Ok(None),
-    }
-}
-
-/// Rule 2: a branch to a label that follows at once.
-pub fn find_idle_branch(
-    alloc: Global,
-    _literals: &Literals,
-    code: &Noted,
-    _live: &LiveTable,
-    at: usize,
-) -> Found
-    ensures { Answers (match_at 2 _literals.now.items code.now _live.now at) result }
-{
-    match lines_from(code, at) {
-        [line, after @ ..] => { gone_if(alloc, begins_with_target(branch_target(line), after), at) }
-        [] => Ok(None),
-    }
-}
-
-/// Rule 3: a line that is no label after JMP or RTS.
-pub fn find_unreached(
-    alloc: Global,
-    _literals: &Literals,
-    code: &Noted,
-    _live: &LiveTable,
-    at: usize,
-) -> Found
-    ensures { Answers (match_at 3 _literals.now.items code.now _live.now at) result }
-{
-    match lines_from(code, at) {
-        [line, after @ ..] => {
-            alone_if(alloc, is_closing(line) && begins_plainly(after), at, line)
+    let lines = code.seg().lines();
+    let [line, after @ ..] = lines_from(code, at) else {
+        return Ok(None);
+    };
+    match rule {
+        // JMP, or a branch, to a label that follows at once
+        1 => gone_if(alloc, begins_with_target(jump_target(line), after), at),
+        2 => gone_if(alloc, begins_with_target(branch_target(line), after), at),
+        // a line that is no label after JMP or RTS
+        3 => alone_if(alloc, is_closing(line) && begins_plainly(after), at, line),
+        // JMP, or a branch, to a chain of JMPs
+        4 => sent_to(alloc, threaded(lines, jump_target(line)), at, line),
+        5 => sent_to(alloc, threaded(lines, branch_target(line)), at, line),
+        // a branch round a JMP
+        6 => inverted(alloc, at, line, after),
+        // a label to which no line refers
+        7 => gone_if(alloc, is_unused(lines, line), at),
+        // a branch that is not taken, as the note before it shows
+        8 => gone_if(alloc, is_passed(code, at, line), at),
+        // a line that is no label and not the last, after a branch that is taken, as the note before it shows
+        _ => {
+            let passed = is_taken(code, at, line) && goes_on_plainly(after);
+            alone_if(alloc, passed, at, line)
         }
-        [] => Ok(None),
-    }
-}
-
-/// Rule 4: JMP to a chain of JMPs.
-pub fn find_long_jump(
-    alloc: Global,
-    _literals: &Literals,
-    code: &Noted,
-    _live: &LiveTable,
-    at: usize,
-) -> Found
-    ensures { Answers (match_at 4 _literals.now.items code.now _live.now at) result }
-{
-    match lines_from(code, at) {
-        [line, ..] => {
-            let target = threaded(code.seg().lines(), jump_target(line));
-            sent_to(alloc, target, at, line)
-        }
-        [] => Ok(None),
-    }
-}
-
-/// Rule 5: a branch to a chain of JMPs.
-pub fn find_long_branch(
-    alloc: Global,
-    _literals: &Literals,
-    code: &Noted,
-    _live: &LiveTable,
-    at: usize,
-) -> Found
-    ensures { Answers (match_at 5 _literals.now.items code.now _live.now at) result }
-{
-    match lines_from(code, at) {
-        [line, ..] => {
-            let target = threaded(code.seg().lines(), branch_target(line));
-            sent_to(alloc, target, at, line)
-        }
-        [] => Ok(None),
-    }
-}
-
-/// Rule 6: a branch round a JMP.
-pub fn find_round_branch(
-    alloc: Global,
-    _literals: &Literals,
-    code: &Noted,
-    _live: &LiveTable,
-    at: usize,
-) -> Found
-    ensures { Answers (match_at 6 _literals.now.items code.now _live.now at) result }
-{
-    match lines_from(code, at) {
-        [line, after @ ..] => inverted(alloc, at, line, after),
-        [] => Ok(None),
-    }
-}
-
-/// Rule 7: a label to which no line refers.
-pub fn find_unused_label(
-    alloc: Global,
-    _literals: &Literals,
-    code: &Noted,
-    _live: &LiveTable,
-    at: usize,
-) -> Found
-    ensures { Answers (match_at 7 _literals.now.items code.now _live.now at) result }
-{
-    match lines_from(code, at) {
-        [line, ..] => gone_if(alloc, is_unused(code.seg().lines(), line), at),
-        [] => Ok(None),
-    }
-}
-
-/// Rule 8: a branch that is not taken, as the note before it shows.
-pub fn find_passed_branch(
-    alloc: Global,
-    _literals: &Literals,
-    code: &Noted,
-    _live: &LiveTable,
-    at: usize,
-) -> Found
-    ensures { Answers (match_at 8 _literals.now.items code.now _live.now at) result }
-{
-    match lines_from(code, at) {
-        [line, ..] => gone_if(alloc, is_passed(code, at, line), at),
-        [] => Ok(None),
-    }
-}
-
-/// Rule 9: a line that is no label and not the last, after a branch that is taken, as the note before it shows.
-pub fn find_passed_over(
-    alloc: Global,
-    _literals: &Literals,
-    code: &Noted,
-    _live: &LiveTable,
-    at: usize,
-) -> Found
-    ensures { Answers (match_at 9 _literals.now.items code.now _live.now at) result }
-{
-    match lines_from(code, at) {
-        [line, after @ ..] => {
-            alone_if(
-                alloc,
-                is_taken(code, at, line) && goes_on_plainly(after),
-                at,
-                line,
-            )
-        }
-        [] => Ok(None),
     }
 }

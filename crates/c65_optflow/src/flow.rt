@@ -1,54 +1,40 @@
 // The rules on jumps, branches and labels in turn, until none of them matches anywhere.
-ghost use Rattle.std.specs.Prelude.{◌≡◌, ◌≤◌, ℕ, [], IfOk, IfErr, All};
-ghost use Rattle.c65_base.specs.declared.refusal.Refusal.TheVariants.{OutOfMemory};
-ghost use Rattle.c65_code.specs.Segments.{IsSegment};
-ghost use Rattle.c65_code.specs.Weights.{lines_size};
-ghost use Rattle.c65_code.specs.Writable.{IsLineWritable};
-ghost use Rattle.c65_optflow.specs.Flow.{IsFlowFree, FlowRewrites};
-ghost use Rattle.c65_pass.specs.Passes.{counted};
+ghost use Rattle.c65_pass.specs.Passes.{IsTableOf};
+ghost use Rattle.c65_pass.specs.Rounds.{Only, IsRuleOf, IsPassed};
 
-use crate::pass::pass_of;
+use crate::find::find;
 use c65_base::{Options, Refusal};
-use c65_code::{Items, Literals};
 use c65_know::Noted;
+use c65_live::LiveTable;
+use c65_pass::{Rules, run_rule, run_rules};
 use std::alloc::Global;
 
-// Rules 1 to 9, a pass of each.
-fn round(alloc: Global, code: &mut Noted, literals: &Literals) -> Result<usize, Refusal>
-    requires { literals.now.items ≡ [] }
-    ensures none { IfOk result (λ made. made ≡ 0 → IsFlowFree code.new) }
-    ensures chain { (n : ℕ) × FlowRewrites code.old.out code.old.lines n code.new.lines × IfOk result (λ made. made ≡ counted n) }
-    ensures segment { IsSegment code.old.lines }
-    ensures out { code.new.out ≡ code.old.out }
-    ensures refused { IfErr result (λ refusal. refusal ≡ OutOfMemory) }
-{
-    let mut made: usize = 0;
-    'rules: for rule in 1..10 {
-        let now = pass_of(alloc, code, literals, rule)?;
-        made = made.saturating_add(now);
-    }
-    Ok(made)
+// The rules by their numbers, with what is live in the lines that they rewrite.
+#[derive(Drop)]
+struct FlowRules {
+    live: LiveTable,
 }
 
-/// Rewrites by the rules on jumps, branches and labels until none of them matches anywhere, and answers how often. After a
-/// refusal some of the rewritings are made.
-pub fn optimise_flow(alloc: Global, code: &mut Noted, _options: &Options) -> Result<usize, Refusal>
-    ensures none { IfOk result (λ _. IsFlowFree code.new) }
-    ensures chain { (n : ℕ) × FlowRewrites code.old.out code.old.lines n code.new.lines × IfOk result (λ made. made ≡ counted n) }
-    ensures extent { lines_size code.new.lines ≤ lines_size code.old.lines }
-    ensures writable { (n : ℕ) → All (IsLineWritable n) code.old.lines → All (IsLineWritable n) code.new.lines }
-    ensures out { code.new.out ≡ code.old.out }
-    ensures refused { IfErr result (λ refusal. refusal ≡ OutOfMemory) }
-{
-    let literals = Literals {
-        items: Items::from_vec(Vec::new(alloc)),
-    };
-    let mut made: usize = 0;
-    'rounds: loop {
-        let now = round(alloc, code, &literals)?;
-        if now == 0 {
-            return Ok(made);
-        }
-        made = made.saturating_add(now);
+impl Rules for FlowRules {
+    ghost first = { 1 };
+
+    ghost end = { 10 };
+
+    ghost among = { Only };
+
+    ghost ready = { λ rules code. IsTableOf code rules.live };
+
+    fn run(&mut self, alloc: Global, code: &mut Noted, turn: u8) -> Result<usize, Refusal> {
+        let find = |n: &Noted, l: &LiveTable, at: usize| find(alloc, n, l, at, turn);
+        run_rule(alloc, code, &mut self.live, turn, find)
     }
+}
+
+/// Rewrites by the rules on jumps, branches and labels, 1 to 9, until none of them matches anywhere, and answers how
+/// often. After a refusal some of the rewritings are made.
+pub fn optimise_flow(alloc: Global, code: &mut Noted, _options: &Options) -> Result<usize, Refusal>
+    ensures { IsPassed (IsRuleOf 1 9) code.old code.new result }
+{
+    let live = LiveTable::new(alloc, code.seg())?;
+    run_rules(alloc, code, &mut FlowRules { live }, 1, 10)
 }

@@ -4,7 +4,6 @@
 mod branches;
 mod find;
 mod flow;
-mod pass;
 mod samples;
 
 pub use flow::optimise_flow;

@@ -7,8 +7,8 @@ use Rattle.c65_code.specs.Weights.{lines_size}
 use Rattle.c65_code.specs.Writable.{IsLineWritable}
 use Rattle.c65_know.specs.declared.note.Note.{Note}
 use Rattle.c65_know.specs.Known.{Annotated, known_of, annotated}
-use Rattle.c65_optflow.specs.Flow.{IsFlowFree, FlowRewrites}
-use Rattle.c65_optimise.specs.Optimised.{IsRewritten, AreRewritten}
+use Rattle.c65_pass.specs.Rounds.{AreFree, RulesRewrite}
+use Rattle.c65_optimise.specs.Optimised.{IsBuilt, IsRewritten, AreRewritten}
 
 -- whatever the functions that are left become, it stands behind those that are done
 abbrev pub AreDone : List (Sym × Segment) → List (Sym × Segment) → List (Sym × Segment) → Type 0
@@ -31,7 +31,7 @@ drop_end (x ∷ xs) (suc n) h = drop_end xs n (omega arith)
 
 -- the lines of a segment whose notes were rewritten
 pub rewritten_of : (old new : Segment) (noted made : Annotated) (count : ℕ) → noted ≡ annotated old.lines old.out → made.notes ≡ known_of made.lines → new.lines ≡ made.lines → new.out ≡ made.out → made.out ≡ noted.out
-    → FlowRewrites noted.out noted.lines count made.lines → IsFlowFree made → lines_size made.lines ≤ lines_size noted.lines
+    → RulesRewrite IsBuilt noted.out noted.lines count made.lines → AreFree IsBuilt made → lines_size made.lines ≤ lines_size noted.lines
     → ((n : ℕ) → All (IsLineWritable n) noted.lines → All (IsLineWritable n) made.lines) → IsRewritten old new
 rewritten_of old new noted made count is known lines out kept chain free extent writable =
     let before : noted.lines ≡ old.lines = ap (λ (a : Annotated). a.lines) is in
@@ -40,7 +40,7 @@ rewritten_of old new noted made count is known lines out kept chain free extent 
     record {
       out = out ∙ kept ∙ gives;
       chain = (count, rw (sym gives, sym before, lines) chain);
-      free = rw (lines, out) (subst IsFlowFree whole free);
+      free = rw (lines, out) (subst (AreFree IsBuilt) whole free);
       extent = rw (sym before, lines) extent;
       writable = λ n. rw (sym before, lines) (writable n);
     }

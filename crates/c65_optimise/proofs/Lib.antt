@@ -1,1 +1,2 @@
 mod FunctionLaws
+mod FamilyLaws

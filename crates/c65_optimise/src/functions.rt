@@ -3,10 +3,10 @@ ghost use Rattle.std.specs.Prelude.{◌≡◌, IfOk, IfErr};
 ghost use Rattle.c65_base.specs.declared.refusal.Refusal.TheVariants.{OutOfMemory};
 ghost use Rattle.c65_optimise.specs.Optimised.{IsRewritten, AreRewritten, OptimisedBy};
 
+use crate::families::rewrite;
 use c65_base::{Options, Refusal};
 use c65_code::{Code, Items, Seg, Sym};
 use c65_know::annotate;
-use c65_optflow::optimise_flow;
 use std::alloc::Global;
 
 /// The lines of a function, rewritten.
@@ -15,7 +15,7 @@ fn optimised(alloc: Global, seg: Seg, options: &Options) -> Result<Seg, Refusal>
     ensures refused { IfErr result (λ refusal. refusal ≡ OutOfMemory) }
 {
     let mut noted = annotate(alloc, seg)?;
-    optimise_flow(alloc, &mut noted, options)?;
+    rewrite(alloc, &mut noted, options)?;
     Ok(noted.into_seg())
 }
 

@@ -1,4 +1,3 @@
 mod Quiet
 mod Shorter
-mod Good
-mod Rounds
+pub mod Good

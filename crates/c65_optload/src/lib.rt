@@ -1,11 +1,13 @@
 //! The rules on loads, stores and transfers: those that change nothing, and those for which a shorter line stands.
 #![tactic(auto)]
 
+mod conditions;
 mod facts;
 mod find;
 mod load;
 mod others;
-mod pass;
-mod tests;
 
 pub use load::optimise_load;
+
+#[cfg(test)]
+mod tests;

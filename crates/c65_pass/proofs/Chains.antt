@@ -1,7 +1,10 @@
 -- What a chain of rewritings keeps.
 use Rattle.std.proofs.Common.{◌≡◌, ◌⊎◌, inl, inr, ℕ, zero, suc, ◌+◌, ◌-◌, ◌*◌, ◌<◌, ◌≤◌, List, [], ◌∷◌, Some, None, drop, length, refl, sym, subst, arith, ap, ◌∙◌}
 use Rattle.std.proofs.lemmas.Bool.{cases_lt}
-use Rattle.std.specs.Prelude.{All, min}
+use Rattle.std.specs.Prelude.{All, IfErr, IsErr, Result, min}
+use Rattle.std.proofs.lemmas.Result.{IfOk-from_err}
+use Rattle.c65_base.specs.declared.refusal.Refusal.{Refusal}
+use Rattle.c65_base.specs.declared.refusal.Refusal.TheVariants.{OutOfMemory}
 use Rattle.c65_code.specs.declared.line.Line.{Line}
 use Rattle.c65_code.specs.declared.line.Sym.{Sym}
 use Rattle.c65_code.specs.declared.parts.RegSet.{RegSet}
@@ -12,7 +15,7 @@ use Rattle.c65_know.specs.Known.{Annotated, annotated}
 use Rattle.c65_live.specs.Tables.{Table}
 use Rattle.c65_pass.specs.Rewriting.{Rewriting, bulk, Keeps, rewritten}
 use Rattle.c65_pass.specs.Rules.{match_there, match_at}
-use Rattle.c65_pass.specs.Passes.{IsTableOf, IsGood, Rewrites, none, more}
+use Rattle.c65_pass.specs.Passes.{IsTableOf, IsGood, Rewrites, none, more, IsFree, IsRun, counted}
 use Rattle.c65_pass.proofs.Ranks.{rank, lower_rank, lower_bulk, turn}
 
 pub record Kept (old : List Line) (n : ℕ) (new : List Line) : Type 0 where
@@ -93,6 +96,9 @@ count_one most made n h = omega (arith, h)
 pub not_none : {A : Type 0} (most made : ℕ) → 0 < most → min (made + 1) most ≡ 0 → A
 not_none most made h e = absurd (omega (arith, h, e))
 
+pub none_more : (most made now n m : ℕ) → made ≡ min n most → now ≡ min m most → now ≡ 0 → made ≡ min (m + n) most
+none_more most made now n m h k e = omega (arith, h, k, e)
+
 pub some_made : (most now m : ℕ) → now ≡ min m most → (now ≡ 0 → ⊥) → 0 < m
 some_made most now m h k = omega (arith, h, k)
 
@@ -129,6 +135,29 @@ next_smaller rule literals out old n code new table at w good s chain noted live
     let less : rank (bulk old) (rewritten code.lines w) < rank (bulk old) code.lines = lower_rank (bulk old) (rewritten code.lines w) code.lines k.no_bulkier keeps.lower in
     let few : length (rewritten code.lines w) ≤ bulk old = omega (arith, k.no_bulkier, lower_bulk (rewritten code.lines w) code.lines keeps.lower) in
     rw lines (turn (bulk old) (rank (bulk old) (rewritten code.lines w)) (rank (bulk old) code.lines) (length (rewritten code.lines w) - at) (length code.lines - at) less (omega (arith, few)))
+
+-- the lines as they were, where nothing could be begun
+pub refused_early : (rule : ℕ) (literals : List (Sym × List ℕ)) (code : Annotated) (result : Result ℕ Refusal) → IsSegment code.lines → IsErr result
+    → IfErr result (λ refusal. refusal ≡ OutOfMemory) → IsRun rule literals code code result
+refused_early rule literals code result s failed e = record {
+  none = IfOk-from_err result (λ _. IsFree rule literals code) failed;
+  chain = (0, none, IfOk-from_err result (λ made. made ≡ counted 0) failed);
+  same = IfOk-from_err result (λ made. made ≡ 0 → code ≡ code) failed;
+  segments = (s, s);
+  extent = omega arith;
+  writable = λ n all. all;
+  out = refl;
+  refused = e;
+}
+
+-- one place more at which a rule does not match
+pub clean_more : (rule : ℕ) (literals : List (Sym × List ℕ)) (code : Annotated) (table : Table) (at : ℕ) → ((k : ℕ) → k < at → match_at rule literals code table k ≡ None)
+    → match_at rule literals code table at ≡ None → (k : ℕ) → k < at + 1 → match_at rule literals code table k ≡ None
+clean_more rule literals code table at before here k less = go (cases_lt k at)
+  where
+    go : (k < at) ⊎ (at ≤ k) → match_at rule literals code table k ≡ None
+    go (inl earlier) = before k earlier
+    go (inr no_less) = let e : k ≡ at = omega (arith, less, no_less) in rw e here
 
 -- past the end no rule matches
 past : (lines : List Line) (at : ℕ) → length lines ≤ at → drop at lines ≡ []

@@ -3,3 +3,7 @@ pub mod Chains
 pub mod Hops
 pub mod Windows
 pub mod Replaced
+pub mod Turns
+pub mod Places
+pub mod Walks
+pub mod Plain

@@ -1,6 +1,5 @@
 -- What rewritings of one line or two keep.
-use Rattle.std.proofs.Common.{◌≡◌, ℕ, ◌<◌, ◌≤◌, ◌&&◌, Bool, true, false, List, [], ◌∷◌, ◌++◌, take, drop, Option, Some, None, refl, sym, subst, ap, ◌∙◌, arith}
-use Rattle.std.specs.Prelude.{All}
+use Rattle.std.proofs.Common.{◌≡◌, ℕ, ◌<◌, ◌≤◌, Bool, true, false, List, [], ◌∷◌, ◌++◌, take, drop, Option, Some, None, refl, sym, subst, ap, ◌∙◌, arith}
 use Rattle.std.specs.List.{list_all}
 use Rattle.std.proofs.lemmas.Bool.{and_from, and_parts}
 use Rattle.std.proofs.lemmas.List.Elements.{All-head, All-tail, All-cons}
@@ -12,7 +11,7 @@ use Rattle.c65_code.specs.Writable.{IsLineWritable}
 use Rattle.c65_pass.specs.FlowRules.{gone_if, alone_if}
 use Rattle.c65_pass.specs.LoadRules.{instead}
 use Rattle.c65_pass.specs.Rewriting.{Rewriting, Keeps}
-use Rattle.c65_pass.proofs.Windows.{all_parts, all_from, targets-append, Fits, keeps_window, whole_window}
+use Rattle.c65_pass.proofs.Windows.{all_parts, all_from, targets-append, keeps_window, whole_window}
 
 -- a line that is no label, and after which the next one comes
 pub record IsQuiet (line : Line) : Type 0 where

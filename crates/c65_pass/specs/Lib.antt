@@ -8,3 +8,5 @@ pub mod StackRules
 pub mod LibraryRules
 pub mod Rules
 pub mod Passes
+pub mod Rounds
+pub mod Once

@@ -1,11 +1,13 @@
 -- Rewriting by one rule.
-use Rattle.std.specs.Prelude.{◌≡◌, ℕ, suc, ◌^◌, ◌-◌, min, IfOk, IfErr, List, Option, Some, None, Result}
+use Rattle.std.specs.Prelude.{◌≡◌, ◌≤◌, ℕ, suc, All, ◌^◌, ◌-◌, min, IfOk, IfErr, List, Option, Some, None, Result}
 use Rattle.c65_base.specs.declared.refusal.Refusal.{Refusal}
 use Rattle.c65_base.specs.declared.refusal.Refusal.TheVariants.{OutOfMemory}
 use Rattle.c65_code.specs.declared.line.Line.{Line}
 use Rattle.c65_code.specs.declared.line.Sym.{Sym}
 use Rattle.c65_code.specs.declared.parts.RegSet.{RegSet}
 use Rattle.c65_code.specs.Segments.{IsSegment}
+use Rattle.c65_code.specs.Weights.{lines_size}
+use Rattle.c65_code.specs.Writable.{IsLineWritable}
 use Rattle.c65_know.specs.Known.{Annotated, known_of, annotated}
 use Rattle.c65_live.specs.Tables.{Table, IsLiveTable}
 use Rattle.c65_pass.specs.Rewriting.{Rewriting, rewritten, Keeps}
@@ -39,3 +41,14 @@ pub record IsFree (rule : ℕ) (literals : List (Sym × List ℕ)) (noted : Anno
 -- a count that stands still at the end of its type
 abbrev pub counted : ℕ → ℕ
 counted n = min n (2 ^ 64 - 1)
+
+-- What stands after rewriting by a rule until it matches nowhere. After a refusal some of the rewritings are made.
+pub record IsRun (rule : ℕ) (literals : List (Sym × List ℕ)) (old new : Annotated) (result : Result ℕ Refusal) : Type 0 where
+  pub none : IfOk result (λ _. IsFree rule literals new)
+  pub chain : (n : ℕ) × Rewrites rule literals old.out old.lines n new.lines × IfOk result (λ made. made ≡ counted n)
+  pub same : IfOk result (λ made. made ≡ 0 → new ≡ old)
+  pub segments : IsSegment old.lines × IsSegment new.lines
+  pub extent : lines_size new.lines ≤ lines_size old.lines
+  pub writable : (symbols : ℕ) → All (IsLineWritable symbols) old.lines → All (IsLineWritable symbols) new.lines
+  pub out : new.out ≡ old.out
+  pub refused : IfErr result (λ refusal. refusal ≡ OutOfMemory)

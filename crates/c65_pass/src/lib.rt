@@ -1,14 +1,22 @@
-//! Rewriting the lines of a function by one rule: lines that stand for others, and passes.
+//! Rewriting the lines of a function by rules: lines that stand for others, passes of one rule, and rounds of several.
 #![tactic(auto)]
 
+mod answer;
 mod labels;
+mod once;
 mod register;
 mod rewrite;
+mod rounds;
 mod run;
+mod window;
 
+pub use answer::{Found, alone_if, gone_if, instead, lines_from};
 pub use labels::{
     begins_with, branch_target, chain_end, hop, is_label, jump_target, retargeted, threaded,
 };
+pub use once::run_once;
 pub use register::{Register, Transfer, loaded_by, stored_by, transfer_by};
 pub use rewrite::{Pass, Rewrite};
-pub use run::run_pass;
+pub use rounds::{Rules, run_rule, run_rules};
+pub use run::{run_pass, run_pass_on};
+pub use window::{alone, in_place, is_settled, word_loaded};

@@ -8,6 +8,7 @@ use c65_base::Refusal;
 use c65_code::{Line, Literals};
 use c65_know::Noted;
 use c65_live::LiveTable;
+use smallvec::SmallVec;
 use std::alloc::Global;
 use std::marker::Model;
 
@@ -16,7 +17,7 @@ use std::marker::Model;
 pub struct Rewrite {
     pub at: usize,
     pub count: usize,
-    pub lines: Vec<Line>,
+    pub lines: SmallVec<Line, 8, Global>,
 }
 
 impl Model for Rewrite {
@@ -33,12 +34,10 @@ impl Rewrite {
         ensures ok { IfOk result (λ w. w ≡ record { at = at; count = count; lines = lines.now }) }
         ensures refused { IfErr result (λ refusal. refusal ≡ OutOfMemory) }
     {
-        let mut new = Vec::new(alloc);
-        new.extend_from_slice(lines)?;
         Ok(Rewrite {
             at,
             count,
-            lines: new,
+            lines: SmallVec::from_slice(alloc, lines)?,
         })
     }
 
@@ -60,7 +59,7 @@ impl Rewrite {
     pub fn lines(&self) -> &[Line]
         ensures { result.now ≡ self.now.lines }
     {
-        &self.lines
+        self.lines.as_slice()
     }
 }
 

@@ -1,11 +1,9 @@
 // A rule over the lines of a function, until it matches nowhere.
-ghost use Rattle.std.specs.Prelude.{◌≡◌, ◌≤◌, ℕ, IfOk, IfErr, OnOk, OnErr, All};
+ghost use Rattle.std.specs.Prelude.{◌≡◌, ℕ, IfOk, IfErr, OnOk, OnErr};
 ghost use Rattle.c65_base.specs.declared.refusal.Refusal.TheVariants.{OutOfMemory};
 ghost use Rattle.c65_code.specs.Segments.{IsSegment};
-ghost use Rattle.c65_code.specs.Weights.{lines_size};
-ghost use Rattle.c65_code.specs.Writable.{IsLineWritable};
 ghost use Rattle.c65_know.specs.Known.{annotated};
-ghost use Rattle.c65_pass.specs.Passes.{Answers, IsTableOf, IsGood, Rewrites, IsFree, counted};
+ghost use Rattle.c65_pass.specs.Passes.{Answers, IsTableOf, IsGood, Rewrites, IsFree, IsRun, counted};
 ghost use Rattle.c65_pass.specs.Rewriting.{Keeps, rewritten};
 ghost use Rattle.c65_pass.specs.Rules.{match_at};
 
@@ -15,8 +13,8 @@ use c65_know::Noted;
 use c65_live::LiveTable;
 use std::alloc::Global;
 
-// What the rule makes at a place.
-fn find_at<F: Fn(&Noted, &LiveTable, usize) -> Result<Option<Rewrite>, Refusal>>(
+/// What the rule makes at a place.
+pub(crate) fn find_at<F: Fn(&Noted, &LiveTable, usize) -> Result<Option<Rewrite>, Refusal>>(
     code: &Noted,
     live: &LiveTable,
     at: usize,
@@ -39,15 +37,25 @@ fn rewrite(code: &mut Noted, rewrite: &Rewrite) -> Result<(), Refusal>
     code.replace(rewrite.at(), rewrite.count(), rewrite.lines())
 }
 
-// From the first line to the last, each line again after a rewriting.
+// The table after a rewriting that is made.
+fn renew(code: &Noted, live: &mut LiveTable, made: Rewrite) -> Result<(), Refusal>
+    ensures ok { OnOk result (IsTableOf code.now live.new) }
+    ensures refused { IfErr result (λ refusal. refusal ≡ OutOfMemory) }
+{
+    live.renew(code.seg(), made.at(), made.count(), made.lines().len())
+}
+
+// From the first line to the last, each line again after a rewriting. The table goes along.
 fn sweep<F: Fn(&Noted, &LiveTable, usize) -> Result<Option<Rewrite>, Refusal>>(
-    alloc: Global,
     code: &mut Noted,
+    live: &mut LiveTable,
     pass: &Pass<F>,
 ) -> Result<usize, Refusal>
     requires callable { (n : _) (l : _) (at : ℕ) → F.pre pass.now.find n l at }
     requires exact { (n : _) (l : _) (at : ℕ) (r : _) → IsTableOf n.now l.now → F.post pass.now.find n l at r → Answers (match_at pass.now.rule pass.now.literals.now.items n.now l.now at) r }
     requires good { IsGood pass.now.rule pass.now.literals.now.items }
+    requires table { IsTableOf code.old live.old }
+    ensures table { IfOk result (λ _. IsTableOf code.new live.new) }
     ensures chain { (n : ℕ) × Rewrites pass.now.rule pass.now.literals.now.items code.old.out code.old.lines n code.new.lines × IfOk result (λ made. made ≡ counted n) }
     ensures none { IfOk result (λ made. made ≡ 0 → IsFree pass.now.rule pass.now.literals.now.items code.new) }
     ensures same { IfOk result (λ made. made ≡ 0 → code.new ≡ code.old) }
@@ -55,19 +63,42 @@ fn sweep<F: Fn(&Noted, &LiveTable, usize) -> Result<Option<Rewrite>, Refusal>>(
     ensures out { code.new.out ≡ code.old.out }
     ensures refused { IfErr result (λ refusal. refusal ≡ OutOfMemory) }
 {
-    let mut live = LiveTable::new(alloc, code.seg())?;
+    let _kept = code.seg();
     let mut made: usize = 0;
     let mut at = 0;
     while at < code.seg().lines().len() {
-        let Some(found) = find_at(code, &live, at, pass)? else {
+        let Some(found) = find_at(code, live, at, pass)? else {
             at += 1;
             continue;
         };
         rewrite(code, &found)?;
-        live.renew(code.seg(), found.at(), found.count(), found.lines().len())?;
+        renew(code, live, found)?;
         made = made.saturating_add(1);
     }
     Ok(made)
+}
+
+/// The same as `run_pass`, where the table is there: it goes along.
+pub fn run_pass_on<F: Fn(&Noted, &LiveTable, usize) -> Result<Option<Rewrite>, Refusal>>(
+    code: &mut Noted,
+    live: &mut LiveTable,
+    pass: &Pass<F>,
+) -> Result<usize, Refusal>
+    requires callable { (n : _) (l : _) (at : ℕ) → F.pre pass.now.find n l at }
+    requires exact { (n : _) (l : _) (at : ℕ) (r : _) → IsTableOf n.now l.now → F.post pass.now.find n l at r → Answers (match_at pass.now.rule pass.now.literals.now.items n.now l.now at) r }
+    requires good { IsGood pass.now.rule pass.now.literals.now.items }
+    requires table { IsTableOf code.old live.old }
+    ensures run { IsRun pass.now.rule pass.now.literals.now.items code.old code.new result }
+    ensures table { IfOk result (λ _. IsTableOf code.new live.new) }
+{
+    let mut made: usize = 0;
+    loop {
+        let more = sweep(code, live, pass)?;
+        if more == 0 {
+            return Ok(made);
+        }
+        made = made.saturating_add(more);
+    }
 }
 
 /// Rewrites by a rule until it matches nowhere, and answers how often. After a refusal some of the rewritings are made.
@@ -79,21 +110,8 @@ pub fn run_pass<F: Fn(&Noted, &LiveTable, usize) -> Result<Option<Rewrite>, Refu
     requires callable { (n : _) (l : _) (at : ℕ) → F.pre pass.now.find n l at }
     requires exact { (n : _) (l : _) (at : ℕ) (r : _) → IsTableOf n.now l.now → F.post pass.now.find n l at r → Answers (match_at pass.now.rule pass.now.literals.now.items n.now l.now at) r }
     requires good { IsGood pass.now.rule pass.now.literals.now.items }
-    ensures none { IfOk result (λ _. IsFree pass.now.rule pass.now.literals.now.items code.new) }
-    ensures chain { (n : ℕ) × Rewrites pass.now.rule pass.now.literals.now.items code.old.out code.old.lines n code.new.lines × IfOk result (λ made. made ≡ counted n) }
-    ensures same { IfOk result (λ made. made ≡ 0 → code.new ≡ code.old) }
-    ensures segments { IsSegment code.old.lines × IsSegment code.new.lines }
-    ensures extent { lines_size code.new.lines ≤ lines_size code.old.lines }
-    ensures writable { (n : ℕ) → All (IsLineWritable n) code.old.lines → All (IsLineWritable n) code.new.lines }
-    ensures out { code.new.out ≡ code.old.out }
-    ensures refused { IfErr result (λ refusal. refusal ≡ OutOfMemory) }
+    ensures { IsRun pass.now.rule pass.now.literals.now.items code.old code.new result }
 {
-    let mut made: usize = 0;
-    loop {
-        let more = sweep(alloc, code, pass)?;
-        if more == 0 {
-            return Ok(made);
-        }
-        made = made.saturating_add(more);
-    }
+    let mut live = LiveTable::new(alloc, code.seg())?;
+    run_pass_on(code, &mut live, pass)
 }

@@ -40,7 +40,7 @@ sreg_kept at old new moved =
     let high : new 3 ≡ old 3 = moved.rest 3 (omega arith) in
     omega arith
 
-push_byte_at : (place : Placement) (bounds : Bounds) (P : State → Type 0) (u : State) → u.zp 0 < 256 → u.zp 1 < 256 → 1 ≤ sp_of u → IsReachable place bounds (sp_of u - 1)
+pub push_byte_at : (place : Placement) (bounds : Bounds) (P : State → Type 0) (u : State) → u.zp 0 < 256 → u.zp 1 < 256 → 1 ≤ sp_of u → IsReachable place bounds (sp_of u - 1)
     → Stored P (sp_of u - 1) (write u.mem (sp_of u - 1) u.regs.a) u → leads place bounds P push_byte None (record u { pushed = [] })
 unfolding leads
 push_byte_at place bounds P u low high fits open_at follows = elim [
@@ -129,7 +129,7 @@ word_to place bounds P at v u is fits low high follows =
       ),
     )
 
-push_word_at : (place : Placement) (bounds : Bounds) (P : State → Type 0) (u : State) → u.zp 0 < 256 → u.zp 1 < 256 → 2 ≤ sp_of u → IsReachable place bounds (sp_of u - 2) → IsReachable place bounds (sp_of u - 2 + 1)
+pub push_word_at : (place : Placement) (bounds : Bounds) (P : State → Type 0) (u : State) → u.zp 0 < 256 → u.zp 1 < 256 → 2 ≤ sp_of u → IsReachable place bounds (sp_of u - 2) → IsReachable place bounds (sp_of u - 2 + 1)
     → Stored P (sp_of u - 2) (write (write u.mem (sp_of u - 2) u.regs.a) (sp_of u - 2 + 1) u.regs.x) u → leads place bounds P push_word None (record u { pushed = [] })
 push_word_at place bounds P u low high fits open_low open_high follows =
     lowers_by place bounds P 2 word_lines u low high (omega arith) (omega arith) fits (λ a n v z c zp moved.
@@ -137,7 +137,7 @@ push_word_at place bounds P u low high fits open_low open_high follows =
     (λ m w mem stored. follows 0 m v w c zp mem moved stored))
 
 -- what a push leaves
-pushed_ends : (row : Row) (back : Place) (t : State) (m : Bytes) (a x : ℕ) → IsTrue (has_part row.changes (Zp 0)) → IsTrue (has_part row.changes (Zp 1))
+pub pushed_ends : (row : Row) (back : Place) (t : State) (m : Bytes) (a x : ℕ) → IsTrue (has_part row.changes (Zp 0)) → IsTrue (has_part row.changes (Zp 1))
     → IsTrue (has_part row.changes Y) × IsTrue (has_part row.changes N) × IsTrue (has_part row.changes V) × IsTrue (has_part row.changes Z) × IsTrue (has_part row.changes C)
     → KeptUnless (has_part row.changes A) t.regs.a a → KeptUnless (has_part row.changes X) t.regs.x x → Gives row.a a → Gives row.x x → row.sreg ≡ Some (sreg_of t) → row.pointers ≡ None → row.bank ≡ None
     → row.taken ≡ 0 → row.out ≡ [] → row.ends ≡ None → t.ended ≡ None → ((b : ℕ) → m b ≡ written t.mem row.writes b)
@@ -212,7 +212,7 @@ pushes_a0 s has back t may =
 abbrev push0_row : State → Row
 push0_row t = record (push_row routines.Push0 (0 ∷ 0 ∷ []) t) { a = Some 0; x = Some 0 }
 
-zero_ax_at : (place : Placement) (bounds : Bounds) (P : State → Type 0) (rest : List Line) (u : State)
+pub zero_ax_at : (place : Placement) (bounds : Bounds) (P : State → Type 0) (rest : List Line) (u : State)
     → ((n z : Bool) → leads place bounds P rest None (record u { regs = record u.regs { a = 0; x = 0; n = n; z = z } }))
     → leads place bounds P (value Lda 0 ∷ implied Tax ∷ rest) None u
 unfolding leads

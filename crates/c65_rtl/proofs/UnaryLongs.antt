@@ -11,7 +11,7 @@ use Rattle.c65_code.specs.declared.routine.UnaryRoutine.{UnaryRoutine}
 use Rattle.c65_code.specs.declared.routine.UnaryRoutine.TheVariants.{Neg, Compl, Shl1, Shr1, Asr1, BNeg}
 use Rattle.c65_code.specs.declared.routine.Width.TheVariants.{Eax}
 use Rattle.c65_code.specs.declared.line.Line.{Line}
-use Rattle.c65_code.specs.LineState.{Place, write, State, eax_of}
+use Rattle.c65_code.specs.LineState.{Place, write, State, eax_of, IsBytes}
 use Rattle.c65_code.specs.Placement.{Placement}
 use Rattle.c65_code.specs.Numbers.{shifted_right, truth}
 use Rattle.c65_code.specs.Rows.{Row, unary_row}
@@ -32,24 +32,22 @@ four_sums p0 p1 p2 p3 s1 s2 s3 e1 e2 e3 = omega arith
 abbrev negeax_lines : List Line
 negeax_lines = implied Clc ∷ value Eor 0xFF ∷ value Adc 1 ∷ implied Tay ∷ implied Txa ∷ value Eor 0xFF ∷ value Adc 0 ∷ implied Tax ∷ zero_page Lda sreg ∷ value Eor 0xFF ∷ value Adc 0 ∷ zero_page Sta sreg ∷ zero_page Lda (sreg + 1) ∷ value Eor 0xFF ∷ value Adc 0 ∷ zero_page Sta (sreg + 1) ∷ implied Tya ∷ implied Rts ∷ []
 
-negeax_at : (place : Placement) (bounds : Bounds) (P : State → Type 0) (u : State)
+pub negeax_at : (place : Placement) (bounds : Bounds) (P : State → Type 0) (u : State)
     → ((a x l h y : ℕ) (n v z c : Bool) → a ≡ (bit_xor u.regs.a 255 + 1 + 0) % 256 → x ≡ (bit_xor u.regs.x 255 + 0 + bit (nat_lt 255 (bit_xor u.regs.a 255 + 1 + 0))) % 256 → l ≡ (bit_xor (u.zp 2) 255 + 0 + bit (nat_lt 255 (bit_xor u.regs.x 255 + 0 + bit (nat_lt 255 (bit_xor u.regs.a 255 + 1 + 0))))) % 256 → h ≡ (bit_xor (u.zp 3) 255 + 0 + bit (nat_lt 255 (bit_xor (u.zp 2) 255 + 0 + bit (nat_lt 255 (bit_xor u.regs.x 255 + 0 + bit (nat_lt 255 (bit_xor u.regs.a 255 + 1 + 0))))))) % 256 → P (left u a x y n v z c (write (write u.zp 2 l) 3 h) u.mem))
     → leads place bounds P negeax_lines None (record u { pushed = [] })
 unfolding leads
 negeax_at place bounds P u follows = follows _ _ _ _ _ _ _ _ _ refl refl refl refl
 
-abbrev negeax_row : State → Row
-negeax_row t = unary_row Neg Eax t
-
-negeax_runs : (s : RawSetting) → s.lines (s.routine (routines.Unary Neg Eax)) ≡ negeax_lines → (back : Place) (t : State) → MayRun s (negeax_row t) t → Runs s (routines.Unary Neg Eax) (negeax_row t) back t
-negeax_runs s has back t may =
-    let byte_a = may.bytes.a in
-    let byte_x = may.bytes.x in
-    let byte_l = may.bytes.zp 2 in
-    let byte_h = may.bytes.zp 3 in
-    runs s (routines.Unary Neg Eax) (negeax_row t) back t negeax_lines has (record { onward = refl; weight = refl; depth = refl }) refl may
-    (negeax_at s.place (reach_of t) (Ends (negeax_row t) t) (called back t)
-    (λ a x l h y n v z c is_a is_x is_l is_h.
+-- the bytes of what it gives
+pub negated_bytes : (t : State) → IsBytes t → (a x l h : ℕ) → a ≡ (bit_xor t.regs.a 255 + 1 + 0) % 256 → x ≡ (bit_xor t.regs.x 255 + 0 + bit (nat_lt 255 (bit_xor t.regs.a 255 + 1 + 0))) % 256
+    → l ≡ (bit_xor (t.zp 2) 255 + 0 + bit (nat_lt 255 (bit_xor t.regs.x 255 + 0 + bit (nat_lt 255 (bit_xor t.regs.a 255 + 1 + 0))))) % 256
+    → h ≡ (bit_xor (t.zp 3) 255 + 0 + bit (nat_lt 255 (bit_xor (t.zp 2) 255 + 0 + bit (nat_lt 255 (bit_xor t.regs.x 255 + 0 + bit (nat_lt 255 (bit_xor t.regs.a 255 + 1 + 0))))))) % 256
+    → AreLongBytes ((4294967296 - eax_of t) % 4294967296) a x l h
+negated_bytes t all_bytes a x l h is_a is_x is_l is_h =
+    let byte_a = all_bytes.a in
+    let byte_x = all_bytes.x in
+    let byte_l = all_bytes.zp 2 in
+    let byte_h = all_bytes.zp 3 in
     let ones_a = xor_ones t.regs.a byte_a in
     let ones_x = xor_ones t.regs.x byte_x in
     let ones_l = xor_ones (t.zp 2) byte_l in
@@ -70,7 +68,17 @@ negeax_runs s has back t may =
     let sum : a + 256 * x + 65536 * (l + 256 * h) ≡ (256 - t.regs.a + 256 * (255 - t.regs.x) + 65536 * (255 - t.zp 2) + 16777216 * (255 - t.zp 3)) % 4294967296 = omega (arith, all) in
     let number : 256 - t.regs.a + 256 * (255 - t.regs.x) + 65536 * (255 - t.zp 2) + 16777216 * (255 - t.zp 3) ≡ 4294967296 - eax_of t = omega arith in
     let whole : a + 256 * x + 65536 * (l + 256 * h) ≡ (4294967296 - eax_of t) % 4294967296 = sum ∙ ap (λ (k : ℕ). k % 4294967296) number in
-    let bytes : AreLongBytes ((4294967296 - eax_of t) % 4294967296) a x l h = long_bytes_of _ a x l h low high whole in
+    long_bytes_of _ a x l h low high whole
+
+abbrev negeax_row : State → Row
+negeax_row t = unary_row Neg Eax t
+
+negeax_runs : (s : RawSetting) → s.lines (s.routine (routines.Unary Neg Eax)) ≡ negeax_lines → (back : Place) (t : State) → MayRun s (negeax_row t) t → Runs s (routines.Unary Neg Eax) (negeax_row t) back t
+negeax_runs s has back t may =
+    runs s (routines.Unary Neg Eax) (negeax_row t) back t negeax_lines has (record { onward = refl; weight = refl; depth = refl }) refl may
+    (negeax_at s.place (reach_of t) (Ends (negeax_row t) t) (called back t)
+    (λ a x l h y n v z c is_a is_x is_l is_h.
+    let bytes : AreLongBytes ((4294967296 - eax_of t) % 4294967296) a x l h = negated_bytes t may.bytes a x l h is_a is_x is_l is_h in
     ends_by (negeax_row t) t (left (called back t) a x y n v z c (write (write t.zp 2 l) 3 h) t.mem) ((2, l) ∷ (3, h) ∷ []) (record {
       zp = λ i two. refl;
       fit = refl;

@@ -9,9 +9,10 @@ use Rattle.c65_code.specs.declared.line.Line.{Line}
 use Rattle.c65_code.specs.LineState.{State, sp_of, word_at}
 use Rattle.c65_code.specs.Placement.{Placement}
 use Rattle.c65_code.specs.Rows.{Row, row_by, keeping, popping, reading, giving, needing}
-use Rattle.c65_code.specs.RawMachine.{Bounds, IsReachable, LieLow, called}
+use Rattle.c65_code.specs.RawMachine.{RawSetting, Bounds, IsReachable, LieLow, called}
 use Rattle.c65_rtl.specs.Assembly.{sp, implied, value, by_y}
 use Rattle.c65_rtl.specs.Stack.{raise_one}
+use Rattle.c65_rtl.specs.Routines.{lines_of}
 use Rattle.c65_rtl.proofs.Ways.{leads, Ends}
 use Rattle.c65_rtl.proofs.Meeting.{ends_by}
 use Rattle.c65_rtl.proofs.SpPieces.{left, raise_one_at}
@@ -20,10 +21,10 @@ use Rattle.c65_rtl.proofs.Stores.{le_true}
 use Rattle.c65_rtl.proofs.Loads.{load_word_on, load_word_at, returns_at, word_low, word_high}
 use Rattle.c65_rtl_law_walks.proofs.Ranges.{all_in_range}
 use Rattle.c65_rtl_law_inner.specs.Inner.{IsMetIn}
-use Rattle.c65_rtl_law_inner.proofs.Straight.{straight_meets}
+use Rattle.c65_rtl_law_inner.proofs.Straight.{ComesIn, straight_comes, meets_loud}
 
 -- what may be reached lies below the end of the software stack
-low_enough : (place : Placement) (bounds : Bounds) (b : ℕ) → LieLow place → IsReachable place bounds b → b < 65520
+pub low_enough : (place : Placement) (bounds : Bounds) (b : ℕ) → LieLow place → IsReachable place bounds b → b < 65520
 low_enough place bounds b low (inl data_of) = let h = low b data_of in omega arith
 low_enough place bounds b low (inr within) = within.1
 
@@ -33,11 +34,11 @@ top_byte_at : (place : Placement) (bounds : Bounds) (P : State → Type 0) (rest
 unfolding leads
 top_byte_at place bounds P rest u at reach follows = (subst (λ (b : ℕ). IsReachable place bounds b) (sym at) reach, follows _ _ _ (ap u.mem at))
 
-abbrev popa_row : State → Row
-popa_row t = record (keeping t (popping 1 t (row_by routines.PopA t))) { a = Some (t.mem (sp_of t)) }
+abbrev pub popa_row : State → Row
+popa_row t = record (keeping t (popping 1 t (row_by routines.PopA t))) { a = Some (t.mem (sp_of t)); room = 0 }
 
-pub pop_byte_in : IsMetIn routines.PopA
-pop_byte_in s has = straight_meets s 0 routines.PopA popa_row (value Ldy 0 ∷ by_y Lda sp ∷ raise_one) (λ t. refl) (λ t. refl) has refl
+pub pop_byte_comes : (s : RawSetting) → s.lines (s.routine routines.PopA) ≡ lines_of routines.PopA → ComesIn s 0 0 7 popa_row routines.PopA
+pop_byte_comes s has = straight_comes s 0 routines.PopA popa_row (value Ldy 0 ∷ by_y Lda sp ∷ raise_one) (λ t. refl) has refl
     (λ bounds back t may. let high = may.high in
     let e : sp_of t + 0 ≡ sp_of t = omega arith in
     let open_top : IsReachable s.place bounds (sp_of t) = subst (λ (b : ℕ). IsReachable s.place bounds b) e (all_in_range (IsReachable s.place bounds) 1 (sp_of t) may.near 0 (omega arith)) in
@@ -63,11 +64,11 @@ pop_byte_in s has = straight_meets s 0 routines.PopA popa_row (value Ldy 0 ∷ b
       ended = may.running;
     }))))
 
-abbrev ldaxysp_row : State → Row
-ldaxysp_row t = let at = sp_of t + t.regs.y - 1 in needing (nat_le 1 t.regs.y) (giving Ax (word_at t.mem at) (keeping t (reading 2 at (row_by routines.LdAxYSp t))))
+abbrev pub ldaxysp_row : State → Row
+ldaxysp_row t = let at = sp_of t + t.regs.y - 1 in record (needing (nat_le 1 t.regs.y) (giving Ax (word_at t.mem at) (keeping t (reading 2 at (row_by routines.LdAxYSp t))))) { room = 0 }
 
-pub load_word_in : IsMetIn routines.LdAxYSp
-load_word_in s has = straight_meets s 0 routines.LdAxYSp ldaxysp_row (load_word_on (implied Rts ∷ [])) (λ t. refl) (λ t. refl) has refl
+pub load_word_comes : (s : RawSetting) → s.lines (s.routine routines.LdAxYSp) ≡ lines_of routines.LdAxYSp → ComesIn s 0 0 5 ldaxysp_row routines.LdAxYSp
+load_word_comes s has = straight_comes s 0 routines.LdAxYSp ldaxysp_row (load_word_on (implied Rts ∷ [])) (λ t. refl) has refl
     (λ bounds back t may. let at : ℕ = sp_of t + t.regs.y - 1 in
     let some : 1 ≤ t.regs.y = le_true 1 t.regs.y may.ready in
     let byte = may.bytes.y in
@@ -98,3 +99,9 @@ load_word_in s has = straight_meets s 0 routines.LdAxYSp ldaxysp_row (load_word_
       output = sym (append-nil t.output);
       ended = may.running;
     }))))
+
+pub pop_byte_in : IsMetIn routines.PopA
+pop_byte_in s has = meets_loud s 0 0 7 popa_row routines.PopA (λ t. refl) (λ t. refl) (λ t. omega arith) (pop_byte_comes s has)
+
+pub load_word_in : IsMetIn routines.LdAxYSp
+load_word_in s has = meets_loud s 0 0 5 ldaxysp_row routines.LdAxYSp (λ t. refl) (λ t. refl) (λ t. omega arith) (load_word_comes s has)

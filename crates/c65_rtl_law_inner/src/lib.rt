@@ -3,4 +3,4 @@
 
 mod laws;
 
-pub use laws::inner_rows_are_met;
+pub use laws::{inner_pushes_are_met, inner_rows_are_met};

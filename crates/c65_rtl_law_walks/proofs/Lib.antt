@@ -4,3 +4,5 @@ pub mod Calls
 pub mod Ranges
 pub mod Pages
 pub mod Walks
+pub mod Turning
+pub mod Meets

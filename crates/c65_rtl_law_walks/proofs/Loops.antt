@@ -17,7 +17,7 @@ use Rattle.c65_code.specs.Rows.{Row}
 use Rattle.c65_rtl.proofs.Ways.{IsAt, IsOwn, whole_at, next_do, next_call, next_label, weaken, moved_to, Ends}
 use Rattle.c65_rtl.proofs.Rounds.{leads_round, round_weight, rounds, behind, place_behind, passed_behind}
 
-advance : (whole : List Line) (k : ℕ) (lines : List Line) (p : ℕ) (passed : List ℕ) → IsAt whole p lines passed → IsAt whole (place_behind k lines p) (behind k lines) (passed_behind k lines passed)
+pub advance : (whole : List Line) (k : ℕ) (lines : List Line) (p : ℕ) (passed : List ℕ) → IsAt whole p lines passed → IsAt whole (place_behind k lines p) (behind k lines) (passed_behind k lines passed)
 advance whole zero lines p passed at = at
 advance whole (suc k) [] p passed at = at
 advance whole (suc k) (Label j ∷ lines) p passed at = advance whole k lines (suc p) (j ∷ passed) (next_label whole p j lines passed at)

@@ -18,15 +18,14 @@ use Rattle.c65_code.specs.LineState.{Place, State, Frame, s_of, sp_of, IsBytes}
 use Rattle.c65_code.specs.Parts.{no_parts}
 use Rattle.c65_code.specs.Placement.{word_of, stack_end}
 use Rattle.c65_code.specs.Forms.{Form, Mark, Plain, Branch, Jump, Far, Push, Pull, Depth, Return, Run, Enter, Through, Stray, form_of, op_form}
-use Rattle.c65_code.specs.Rows.{Row, Meets, row_of}
+use Rattle.c65_code.specs.Rows.{Row, Meets}
 use Rattle.c65_code.specs.Moves.{Ref, Given, ZeroAt, MemAt, ref_of, value_at, put, change, effect, settle, labelled}
 use Rattle.c65_code.specs.Segments.{is_among}
-use Rattle.c65_code.specs.RawMachine.{RawSetting, Bounds, IsReachable, IsRawOpen, IsHookWithin, RawComes, here, raw_weight, HasFrame, RawReturns, RawRuns, HasDone, called, entry_of, hook_row, LieLow}
+use Rattle.c65_code.specs.RawMachine.{RawSetting, Bounds, IsReachable, IsRawOpen, IsHookWithin, RawComes, here, raw_weight, HasFrame, RawReturns, RawRuns, HasDone, called, entry_of, line_after, hook_row, LieLow}
 use Rattle.c65_rtl.specs.Short.{is_onward, push_of, pushed_by}
 use Rattle.c65_rtl.proofs.Ways.{leads, Way, Ends, when, either, whole_at, at_operand, pulling, returning, by_form, by_label, IsAt, IsOwn, IsSought, place_at, next_do, next_call, next_label, weaken, on_form, moved_to, still_own, and_parts, or_none, eq_flip, not_parts}
-use Rattle.c65_rtl_law_walks.specs.Inside.{MayRunIn, MeetsIn, IsBack}
+use Rattle.c65_rtl_law_walks.specs.Inside.{MayRunIn}
 use Rattle.c65_rtl_law_walks.proofs.Joins.{bind}
-use Rattle.c65_rtl_law_walks.proofs.Calls.{calls_come_back}
 
 -- what an inner routine takes: bytes of the software stack and of the hard stack, and instructions
 pub record Takes : Type 0 where
@@ -34,13 +33,11 @@ pub record Takes : Type 0 where
   pub pushed : ℕ
   pub weight : ℕ
 
--- what a call of a routine wants here, at most so many bytes being pushed
+-- What a call of a routine wants here, at most so many bytes being pushed: that it comes back with a row met, and what the row
+-- wants.
 pub record Calls (s : RawSetting) (bounds : Bounds) (deepest : ℕ) (takes : Routine → Takes) (r : Routine) (rest : Way) (t : State) : Type 0 where
   pub row : Row
-  pub row_is : row_of r t ≡ Some row
-  pub weight : Row → ℕ
-  pub meets : MeetsIn s (takes r).below (takes r).pushed weight r
-  pub light : weight row ≤ (takes r).weight
+  pub comes : MayRunIn s bounds (takes r).below (takes r).pushed row t → (back : Place) → RawComes s bounds (HasDone row.ends row back t) (takes r).weight (entry_of s (s.routine r)) (called back t)
   pub goes_on : row.ends ≡ None
   pub ready : IsTrue row.ready
   pub near : All (IsReachable s.place bounds) row.near
@@ -138,7 +135,7 @@ operand_parts s bounds (MemAt b) P h = h
 module _ (s : RawSetting) (bounds : Bounds) (deepest : ℕ) (takes : Routine → Takes) (Q : Place → State → Type 0) (P : State → Type 0) (f : ℕ) (whole : List Line) (frame : Frame) (frames : List Frame) (used : ℕ)
     (has : s.lines f ≡ whole) (room : bounds.hard + deepest ≤ 253 - used) (ends : (u : State) → P u → IsBytes (record u { pushed = frame.pushed; frames = frames }) → Q frame.back (record u { pushed = frame.pushed; frames = frames })) where
   -- what is known of the lines behind a line
-  record Goes (rest : Way) (v p : ℕ) (passed : List ℕ) : Type 0 where
+  pub record Goes (rest : Way) (v p : ℕ) (passed : List ℕ) : Type 0 where
     pub by : (skip : Option ℕ) (u : State) → IsSought passed skip → IsBytes u → IsOwn frame frames used u → rest skip u → RawComes s bounds Q v (f, place_at whole p skip) u
 
   stands : (p : ℕ) (l : Line) → slice_get whole p ≡ Some l → slice_get (s.lines f) p ≡ Some l
@@ -171,7 +168,7 @@ module _ (s : RawSetting) (bounds : Bounds) (deepest : ℕ) (takes : Routine →
   at_branch rest passed v p l t sought bytes own after true h = after.by (Some l) t sought bytes own h
   at_branch rest passed v p l t sought bytes own after false h = after.by None t tt bytes own h
 
-  deep_line : (form : Form) (rest : Way) (passed : List ℕ) (l : Line) (v p : ℕ) (t : State) → form_of l ≡ form → slice_get whole p ≡ Some l → IsTrue (is_onward passed form)
+  pub deep_line : (form : Form) (rest : Way) (passed : List ℕ) (l : Line) (v p : ℕ) (t : State) → form_of l ≡ form → slice_get whole p ≡ Some l → IsTrue (is_onward passed form)
       → IsOwn frame frames used t → Goes rest v (suc p) passed → by_deep s bounds deepest P form rest None t → RawComes s bounds Q (raw_weight form + v) (f, p) t
   deep_line (Plain op mode operand) rest passed l v p t e is onward own after h =
       let to : State = effect (kind_of op) op mode (word_of s.place operand) t in
@@ -213,14 +210,19 @@ module _ (s : RawSetting) (bounds : Bounds) (deepest : ℕ) (takes : Routine →
       let calls = own.used in
       let hard = c.hard in
       let may : MayRunIn s bounds (takes r).below (takes r).pushed c.row t = record { ready = c.ready; near = c.near; far = c.far; soft = c.soft; hard = omega arith; high = c.high; bytes = bytes; running = own.ended; data_low = c.data_low } in
+      let room_for : bounds.hard + 2 ≤ s_of t = omega arith in
       let start : Place = (f, p) in
-      let light = c.light in
-      weaken s bounds Q (2 + c.weight c.row + v) (2 + (takes r).weight + v) start t (omega arith)
-      (bind s bounds (IsBack s c.row start t) Q (2 + c.weight c.row) v start t
-      (calls_come_back s bounds (takes r).below (takes r).pushed c.weight r c.row start t c.meets (stands p (Call (callees.Routine r)) is) e c.row_is c.goes_on may)
+      let behind : Place = line_after s start in
+      let weight : ℕ = (takes r).weight in
+      on_form s bounds Q (Call (callees.Routine r)) (Run r) (weight + v) (2 + weight + v) start t refl (stands p (Call (callees.Routine r)) is) own.ended
+      (subst (λ (k : Option Row). IsHookWithin s.place bounds k t) (sym e) room_for) (omega arith)
+      (λ q u g after_call. let enters = subst (λ (k : Option Row). RawRuns s k r start t q u) e g in
+      moved_to s bounds Q (weight + v) q (entry_of s (s.routine r)) u (called behind t) enters.0 enters.1
+      (bind s bounds (HasDone None c.row behind t) Q weight v (entry_of s (s.routine r)) (called behind t)
+      (subst (λ (k : Option ℕ). RawComes s bounds (HasDone k c.row behind t) weight (entry_of s (s.routine r)) (called behind t)) c.goes_on (c.comes may behind))
       (λ q u back. let m = back.1 in
       moved_to s bounds Q v q (f, settle whole (suc p)) u u (back.0 ∙ ap (λ (ls : List Line). let q' : Place = (f, settle ls (suc p)) in q') has) refl
-      (after.by None u tt back.2 (still_own frame frames used t u (record { frames = m.frames; ended = m.ended ∙ (c.goes_on ∙ sym own.ended) }) own) (c.follows u m back.2))))
+      (after.by None u tt back.2 (still_own frame frames used t u (record { frames = m.frames; ended = m.ended ∙ (c.goes_on ∙ sym own.ended) }) own) (c.follows u m back.2)))))
   row_line r rest passed v p t is bytes own after (Some row) e c =
       let calls = own.used in
       let hard = c.hard in
@@ -232,20 +234,20 @@ module _ (s : RawSetting) (bounds : Bounds) (deepest : ℕ) (takes : Routine →
       moved_to s bounds Q v q (f, settle whole (suc p)) u u (back.0 ∙ ap (λ (ls : List Line). let q' : Place = (f, settle ls (suc p)) in q') has) refl
       (after.by None u tt bytes (still_own frame frames used t u (record { frames = m.frames; ended = m.ended ∙ (c.goes_on ∙ sym own.ended) }) own) (c.follows u m bytes)))
 
-  call_line : (callee : Callee) (rest : Way) (passed : List ℕ) (v p : ℕ) (t : State) → slice_get whole p ≡ Some (Call callee) → IsBytes t → IsOwn frame frames used t → Goes rest v (suc p) passed
+  pub call_line : (callee : Callee) (rest : Way) (passed : List ℕ) (v p : ℕ) (t : State) → slice_get whole p ≡ Some (Call callee) → IsBytes t → IsOwn frame frames used t → Goes rest v (suc p) passed
       → by_call s bounds deepest takes callee rest None t → RawComes s bounds Q (call_weight takes callee + v) (f, p) t
   call_line (callees.Routine r) rest passed v p t is bytes own after h = row_line r rest passed v p t is bytes own after (hook_row s.args r t) refl h
   call_line (callees.Function g reads gives) rest passed v p t is bytes own after h = absurd h
   call_line (callees.Pointer reads gives) rest passed v p t is bytes own after h = absurd h
 
   -- a label is passed
-  past_label : (p k : ℕ) (lines : List Line) (passed : List ℕ) → IsAt whole p (Label k ∷ lines) passed → settle whole p ≡ settle whole (suc p)
+  pub past_label : (p k : ℕ) (lines : List Line) (passed : List ℕ) → IsAt whole p (Label k ∷ lines) passed → settle whole p ≡ settle whole (suc p)
   past_label p k lines passed at =
       let e : p ≡ p + 0 = omega arith in
       let g : p + 1 ≡ suc p = omega arith in
       ap (settle whole) e ∙ (at.settles 0 ∙ (sym (at.settles 1) ∙ ap (settle whole) g))
 
-  at_label : (p k l : ℕ) (v : ℕ) (lines : List Line) (passed : List ℕ) (t : State) → IsAt whole p (Label k ∷ lines) passed → is_among passed l ≡ false
+  pub at_label : (p k l : ℕ) (v : ℕ) (lines : List Line) (passed : List ℕ) (t : State) → IsAt whole p (Label k ∷ lines) passed → is_among passed l ≡ false
       → (rest : Way) → Goes rest v (suc p) (k ∷ passed) → IsBytes t → IsOwn frame frames used t
       → (b : Bool) → (k == l) ≡ b → either b (rest None t) (rest (Some l) t) → RawComes s bounds Q v (f, settle whole (labelled whole l)) t
   at_label p k l v lines passed t at sought rest after bytes own true e h =
@@ -289,7 +291,7 @@ module _ (s : RawSetting) (bounds : Bounds) (deepest : ℕ) (takes : Routine →
       weaken s bounds Q (weight_in takes lines) (call_weight takes callee + weight_in takes lines) (f, settle whole (labelled whole l)) t (omega arith)
       (walk lines (suc p) passed (Some l) t (next_call whole p callee lines passed at) onward sought bytes own h)
 
-called_bytes : (back : Place) (t : State) → IsBytes t → IsBytes (called back t)
+pub called_bytes : (back : Place) (t : State) → IsBytes t → IsBytes (called back t)
 called_bytes back t bytes = record {
   a = bytes.a;
   x = bytes.x;

@@ -1,4 +1,5 @@
-//! Does `c65 go` for each file that is named, and prints its name, what the program writes, and what the tool answers.
+//! Does `c65 go` for each file that is named, and prints its name, what the program writes, and what the tool answers. Then it
+//! does so under `-O`, and says where that answers otherwise.
 #![tactic(auto)]
 
 use c65_base::Refusal;
@@ -15,11 +16,28 @@ struct Left {
     err: MemSink,
 }
 
-/// `go` for a file of the host.
-fn go<F: Files>(alloc: Global, files: &mut F, path: String) -> Result<Left, Refusal> {
+impl Left {
+    /// Whether another command left the same.
+    fn is(&self, other: &Left) -> bool {
+        self.status == other.status
+            && self.out.written() == other.out.written()
+            && self.err.written() == other.err.written()
+    }
+}
+
+/// `go` with an option, if one is given, for a file of the host.
+fn go<F: Files>(
+    alloc: Global,
+    files: &mut F,
+    option: Option<&str>,
+    path: &str,
+) -> Result<Left, Refusal> {
     let mut words = Vec::new(alloc);
     words.push(String::from_str(alloc, "go")?)?;
-    words.push(path)?;
+    if let Some(option) = option {
+        words.push(String::from_str(alloc, option)?)?;
+    }
+    words.push(String::from_str(alloc, path)?)?;
     let mut input = mem_source(Vec::new(alloc), Vec::new(alloc));
     let mut out = mem_sink(alloc, Vec::new(alloc));
     let mut err = mem_sink(alloc, Vec::new(alloc));
@@ -39,11 +57,15 @@ fn main(rt: HostRuntime) -> Result<(), anyhow::Error> {
     let mut files = HostFiles::new(&rt);
     for path in env::args(&rt)?.skip(1) {
         println!(rt; "== {path}")?;
-        let left = go(alloc, &mut files, path)?;
+        let left = go(alloc, &mut files, None, &path)?;
         let mut console = HostSink::new(rt.stdout());
         let _ = write_all(&mut console, left.out.written());
         let _ = write_all(&mut console, left.err.written());
         println!(rt; "status {}", left.status)?;
+        let rewritten = go(alloc, &mut files, Some("-O"), &path)?;
+        if !rewritten.is(&left) {
+            println!(rt; "-O: otherwise")?;
+        }
     }
     Ok(())
 }

@@ -1,16 +1,7 @@
 use Rattle.std.proofs.Common.{rules, ◌≡◌, List, ◌-◌, ◌^◌, ◌≤◌, suc, length, refl, arith, ap, sym, subst, ◌∙◌}
-use Rattle.c65_code.specs.declared.line.Line.{Line}
-use Rattle.c65_code.specs.declared.parts.RegSet.{RegSet}
-use Rattle.c65_live.specs.Tables.{Table, IsLiveTable}
 use Rattle.c65_pass.specs.Passes.{none}
-use Rattle.c65_pass.proofs.Chains.{keeps_next, next_chain, next_noted, next_smaller, count_one, not_none, nowhere}
+use Rattle.c65_pass.proofs.Chains.{clean_more, keeps_next, next_chain, next_noted, next_smaller, count_one, not_none, nowhere}
 use Rattle.c65_pass.proofs.run.sweep.Goals as goal
-
-same_table : (lines lines2 : List Line) (out out2 : RegSet) (table : Table) → lines ≡ lines2 → out ≡ out2 → IsLiveTable lines out table → IsLiveTable lines2 out2 table
-same_table lines lines2 out out2 table e f live = subst (λ o. IsLiveTable lines2 o table) f (subst (λ ls. IsLiveTable ls out table) e live)
-
-pub returns-in_err-live-clause-chain : goal.returns-in_err-live-clause-chain
-returns-in_err-live-clause-chain g c = (0, none, search rules)
 
 pub loop-at-init : goal.loop-at-init
 loop-at-init g c =
@@ -19,9 +10,9 @@ loop-at-init g c =
       record {
         chain = none;
         made = omega arith;
-        noted = ap (λ notes. record { lines = code.lines; out = code.out; notes = notes }) c.seg.ensures.noted;
-        segment = c.seg.ensures.kept;
-        live = same_table _ _ _ _ _ c.seg.ensures.lines c.seg.ensures.out c.in_ok-live.ensures.ok;
+        noted = ap (λ notes. record { lines = code.lines; out = code.out; notes = notes }) c.seg-kept.ensures.noted;
+        segment = c.seg-kept.ensures.kept;
+        live = c.requires.table;
         same = λ e. refl;
         clean = λ e k h. absurd (omega (arith, h));
       },
@@ -52,14 +43,29 @@ loop-at-preserved g c =
         made = c.saturating_add-made.ensures ∙ count_one (2 ^ 64 - 1) _ i.0 i.1.made;
         noted = next_noted _ c.loop-at.code _ c.in-Some.found i.1.noted c.in_ok-rewrite.ensures.ok;
         segment = i.1.segment;
-        live = same_table _ _ _ _ _ c.seg-in-loop-at-2.ensures.lines c.seg-in-loop-at-2.ensures.out c.in_ok-renew.ensures.ok;
+        live = c.in_ok-renew.ensures.ok;
         same = λ e. not_none (2 ^ 64 - 1) c.loop-at.made (omega arith) (sym c.saturating_add-made.ensures ∙ e);
         clean = λ e k h. not_none (2 ^ 64 - 1) c.loop-at.made (omega arith) (sym c.saturating_add-made.ensures ∙ e);
+      },
+    )
+
+pub loop-at-preserved-in_default : goal.loop-at-preserved-in_default
+loop-at-preserved-in_default g c =
+    let i = c.loop-at.invariant in (
+      i.0,
+      record {
+        chain = i.1.chain;
+        made = i.1.made;
+        noted = i.1.noted;
+        segment = i.1.segment;
+        live = i.1.live;
+        same = i.1.same;
+        clean = λ e. clean_more c.args.pass.now.rule c.args.pass.now.literals.now.items c.loop-at.code c.loop-at.live c.loop-at.at (i.1.clean e) (sym c.in_ok-found.ensures.0 ∙ c.in_default.is);
       },
     )
 
 pub returns-clause-none : goal.returns-clause-none
 returns-clause-none g c = λ e.
     let i = c.loop-at.invariant in
-    let end = subst (λ ls. length ls ≤ c.loop-at.at) (c.lines.ensures.lines ∙ c.seg-in-loop-at.ensures.lines) c.loop-at-test.false in
+    let end = subst (λ ls. length ls ≤ c.loop-at.at) (c.lines.ensures.lines ∙ c.seg.ensures.lines) c.loop-at-test.false in
     record { table = c.loop-at.live; live = i.1.live; nowhere = nowhere c.args.pass.now.rule c.args.pass.now.literals.now.items c.loop-at.code c.loop-at.live c.loop-at.at end (i.1.clean e) }

@@ -33,6 +33,7 @@ int putc(int c, FILE *stream);
 int putchar(int c);
 int puts(const char *s);
 int sprintf(char *s, const char *format, ...);
+int sscanf(const char *s, const char *format, ...);
 
 /* The list is a va_list. */
 int vprintf(const char *format, unsigned char *list);

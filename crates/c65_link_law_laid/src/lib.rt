@@ -1,0 +1,6 @@
+//! Laws of a linked image: the units of a code stand in its memory as the rows that follow them ask for it.
+#![tactic(auto)]
+
+mod laws;
+
+pub use laws::linked_codes_are_laid;

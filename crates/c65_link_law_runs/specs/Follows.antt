@@ -1,0 +1,34 @@
+-- What the processor has come to where lines have moved on.
+use Rattle.std.specs.Prelude.{◌≡◌, ℕ, ◌+◌, ◌*◌, ◌<◌, ◌≤◌, false, All, List, length, Option, Some, None}
+use Rattle.c65_mach.specs.Run.{Setting, Moment, Ended, turn}
+use Rattle.c65_sim.specs.Budgets.{is_too_deep}
+use Rattle.c65_code.specs.declared.routine.Routine.TheVariants as routines
+use Rattle.c65_code.specs.LineState.{Place, State, sp_of, ax_of, IsBytes}
+use Rattle.c65_code.specs.Placement.{stack_start, stack_end}
+use Rattle.c65_code.specs.Forms.{Form, Run}
+use Rattle.c65_code.specs.RawMachine.{RawSetting, args_size}
+use Rattle.c65_link_law_follow.specs.Agree.{Ground, Agrees, Goes}
+
+-- At most so many rows lead to a moment that agrees with a place and state of Q, or to the end of the run, with the status and the
+-- output of one.
+pub data Follows (g : Ground) (setting : Setting) (most : ℕ) (now : Moment) (Q : Place → State → Type 0) : Type 0 where
+  goes_on : (rows : ℕ) (then_at : Moment) (q : Place) (u : State) → rows ≤ most → Goes setting rows now then_at → Q q u → u.ended ≡ None → Agrees g (g.at q) u then_at → Follows g setting most now Q
+  has_ended : (rows status : ℕ) (last : Moment) (q : Place) (u : State) → rows + 1 ≤ most → Goes setting rows now last → is_too_deep last.machine ≡ false → turn setting last ≡ Ended last status
+      → Q q u → u.ended ≡ Some status → u.output ≡ last.output → Follows g setting most now Q
+
+-- the simulator has the software stack's pointer at 0, and gives the arguments of the machine on lines, which are bytes
+pub record IsSetFor (s : RawSetting) (setting : Setting) : Type 0 where
+  pub sp : setting.sp ≡ 0
+  pub args : setting.args ≡ s.args
+  pub bytes : All (λ (arg : List ℕ). All (λ v. v < 256) arg) s.args
+
+-- a state of a run that goes on: its bytes and those of its input are bytes
+pub record IsRunning (t : State) : Type 0 where
+  pub running : t.ended ≡ None
+  pub bytes : IsBytes t
+  pub input : All (λ v. v < 256) t.input
+
+-- the arguments have room on the software stack, and the word that takes the address of their list lies in it
+abbrev pub HasArgumentRoom : RawSetting → Form → State → Type 0
+HasArgumentRoom s (Run routines.HookArgs) t = (stack_start + args_size s.args + 2 * (length s.args + 1) ≤ sp_of t) × (sp_of t ≤ stack_end) × (stack_start ≤ ax_of t) × (ax_of t + 2 ≤ stack_end)
+HasArgumentRoom s _ t = Unit {0}

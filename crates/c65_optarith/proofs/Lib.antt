@@ -1,0 +1,3 @@
+mod Quiet
+mod Pairs
+pub mod Good

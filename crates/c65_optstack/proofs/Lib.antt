@@ -1,0 +1,4 @@
+mod Shorter
+mod Unstacked
+pub mod Good
+mod Turns

@@ -1,0 +1,112 @@
+// Rules in turn, until none of them matches anywhere.
+ghost use Rattle.std.specs.Prelude.{◌≡◌, ◌≤◌, ◌<◌, ℕ, [], IfOk, IfErr};
+ghost use Rattle.c65_base.specs.declared.refusal.Refusal.TheVariants.{OutOfMemory};
+ghost use Rattle.c65_code.specs.Segments.{IsSegment};
+ghost use Rattle.c65_know.specs.Known.{Annotated};
+ghost use Rattle.c65_pass.specs.Passes.{Answers, IsTableOf, IsGood, counted};
+ghost use Rattle.c65_pass.specs.Rounds.{Only, InTurn, AreFree, AreGood, RulesRewrite, IsPassed};
+ghost use Rattle.c65_pass.specs.Rules.{match_at};
+
+use crate::rewrite::{Pass, Rewrite};
+use crate::run::run_pass_on;
+use c65_base::Refusal;
+use c65_code::{Items, Literals};
+use c65_know::Noted;
+use c65_live::LiveTable;
+use std::alloc::Global;
+
+/// Rules that are run in turns.
+pub trait Rules {
+    ghost first: { ℕ };
+
+    ghost end: { ℕ };
+
+    ghost among: { ℕ → ℕ → Type 0 };
+
+    /// What the object keeps about the lines, from one turn to the next.
+    ghost ready: { Self → Annotated → Type 0 };
+
+    /// Rewrites by the rules of a turn until none of them matches anywhere, and answers how often.
+    fn run(&mut self, alloc: Global, code: &mut Noted, turn: u8) -> Result<usize, Refusal>
+        requires first { first ≤ turn }
+        requires before { turn < end }
+        requires ready { ready self.old code.old }
+        ensures passed { IsPassed (among turn) code.old code.new result }
+        ensures ready { IfOk result (λ _. ready self.new code.new) };
+}
+
+/// A pass of one rule that asks no literals, with the table of what is live, which goes along. Its function answers exactly what
+/// the rule makes at a place, or that memory is wanted.
+pub fn run_rule<F: Fn(&Noted, &LiveTable, usize) -> Result<Option<Rewrite>, Refusal> + Drop>(
+    alloc: Global,
+    code: &mut Noted,
+    live: &mut LiveTable,
+    rule: u8,
+    find: F,
+) -> Result<usize, Refusal>
+    requires callable { (n : _) (l : _) (at : ℕ) → F.pre find n l at }
+    requires exact { (n : _) (l : _) (at : ℕ) (r : _) → IsTableOf n.now l.now → F.post find n l at r → Answers (match_at rule [] n.now l.now at) r }
+    requires good { IsGood rule [] }
+    requires table { IsTableOf code.old live.old }
+    ensures passed { IsPassed (Only rule) code.old code.new result }
+    ensures table { IfOk result (λ _. IsTableOf code.new live.new) }
+{
+    let literals = Literals {
+        items: Items::from_vec(Vec::new(alloc)),
+    };
+    let pass = Pass::new(rule, &literals, find);
+    run_pass_on(code, live, &pass)
+}
+
+// Each turn once.
+fn round<R: Rules>(
+    alloc: Global,
+    code: &mut Noted,
+    rules: &mut R,
+    first: u8,
+    end: u8,
+) -> Result<usize, Refusal>
+    requires first { first ≡ R.first }
+    requires end { end ≡ R.end }
+    requires some { first < end }
+    requires ready { R.ready rules.old code.old }
+    ensures ready { IfOk result (λ _. R.ready rules.new code.new) }
+    ensures none { IfOk result (λ made. made ≡ 0 → AreFree (InTurn R.first R.end R.among) code.new) }
+    ensures chain { (n : ℕ) × RulesRewrite (InTurn R.first R.end R.among) code.old.out code.old.lines n code.new.lines × IfOk result (λ made. made ≡ counted n) }
+    ensures same { IfOk result (λ made. made ≡ 0 → code.new ≡ code.old) }
+    ensures segment { IsSegment code.old.lines }
+    ensures out { code.new.out ≡ code.old.out }
+    ensures refused { IfErr result (λ refusal. refusal ≡ OutOfMemory) }
+{
+    let mut made: usize = 0;
+    'turns: for turn in first..end {
+        let now = rules.run(alloc, code, turn)?;
+        made = made.saturating_add(now);
+    }
+    Ok(made)
+}
+
+/// Rewrites by the rules of the turns from `first` on and before `end`, in rounds until one makes nothing, and answers how often.
+pub fn run_rules<R: Rules>(
+    alloc: Global,
+    code: &mut Noted,
+    rules: &mut R,
+    first: u8,
+    end: u8,
+) -> Result<usize, Refusal>
+    requires first { first ≡ R.first }
+    requires end { end ≡ R.end }
+    requires some { first < end }
+    requires ready { R.ready rules.old code.old }
+    requires good { AreGood (InTurn R.first R.end R.among) }
+    ensures { IsPassed (InTurn R.first R.end R.among) code.old code.new result }
+{
+    let mut made: usize = 0;
+    'rounds: loop {
+        let now = round(alloc, code, rules, first, end)?;
+        if now == 0 {
+            return Ok(made);
+        }
+        made = made.saturating_add(now);
+    }
+}

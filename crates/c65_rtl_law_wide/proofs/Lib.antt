@@ -1,0 +1,11 @@
+pub mod Numbers
+pub mod Terms
+pub mod Results
+pub mod Product
+pub mod Pieces
+pub mod Differences
+pub mod Dividing
+pub mod Unsigned
+pub mod SignPieces
+pub mod SignNumbers
+pub mod Signed

@@ -1,0 +1,93 @@
+-- From what the lines of 32 bits leave to their rows.
+use Rattle.std.proofs.Common.{◌≡◌, ◌≢◌, ℕ, suc, ◌+◌, ◌*◌, ◌/◌, ◌%◌, ◌<◌, ◌≤◌, ◌⊎◌, inl, inr, Bool, true, false, List, [], ◌∷◌, All, Option, Some, None, nat_eq, refl, sym, subst, ◌∙◌, arith}
+use Rattle.std.specs.Prelude.{◌==◌, if◌then◌else◌}
+use Rattle.std.proofs.lemmas.List.{append-nil}
+use Rattle.std.proofs.lemmas.Bool.Decides.{eqb_tells}
+use Rattle.c65_code.specs.declared.routine.Routine.TheVariants as routines
+use Rattle.c65_code.specs.declared.routine.TosOp.{TosOp}
+use Rattle.c65_code.specs.declared.routine.Width.TheVariants.{Eax}
+use Rattle.c65_code.specs.LineState.{State, sp_of}
+use Rattle.c65_code.specs.Numbers.{divided}
+use Rattle.c65_code.specs.Segments.{is_among}
+use Rattle.c65_code.specs.Texts.{range_of}
+use Rattle.c65_code.specs.Rows.{Row, low_byte, high_byte, upper_word, giving_if, costing, popping, row_by, tos_cost}
+use Rattle.c65_rtl.proofs.Ways.{Ends}
+use Rattle.c65_rtl.proofs.Meeting.{ends_by}
+use Rattle.c65_rtl.proofs.UnaryWords.{AreLongBytes, long_bytes_of}
+use Rattle.c65_rtl_law_inner.proofs.Beside.{Beside, values, rewritten}
+use Rattle.c65_rtl_law_wide.proofs.Numbers.{number}
+use Rattle.c65_rtl_law_wide.proofs.Terms.{places}
+
+-- the row of an operator that pops four bytes, with its result
+abbrev pub result_row : TosOp → Option ℕ → State → Row
+result_row op result t = giving_if Eax result (costing (tos_cost op) (popping 4 t (row_by (routines.Tos op Eax) t)))
+
+-- what of the row is the same whatever the result
+pub goes_on : (op : TosOp) (result : Option ℕ) (t : State) → (result_row op result t).ends ≡ None
+goes_on op None t = refl
+goes_on op (Some v) t = refl
+
+pub near_of : (P : ℕ → Type 0) (op : TosOp) (result : Option ℕ) (t : State) → All P (result_row op result t).near → All P (range_of 4 (sp_of t))
+near_of P op None t h = h
+near_of P op (Some v) t h = h
+
+pub modest : (op : TosOp) (result : Option ℕ) (t : State) (weight : ℕ) → suc weight ≤ tos_cost op → (suc weight ≤ (result_row op result t).cost) × (sp_of t ≤ (result_row op result t).sp + 64)
+modest op None t weight less = (less, omega arith)
+modest op (Some v) t weight less = (less, omega arith)
+
+abbrev pub IsResult : Option ℕ → ℕ → ℕ → ℕ → ℕ → Type 0
+IsResult None a x l h = Unit {0}
+IsResult (Some v) a x l h = (a ≡ low_byte v) × (x ≡ high_byte v) × (l + 256 * h ≡ upper_word v)
+
+pub result_ends : (op : TosOp) (result : Option ℕ) (t u : State) → Beside t 4 u → ((i : ℕ) → 2 ≤ i → is_among places i ≡ false → u.zp i ≡ t.zp i) → IsResult result u.regs.a u.regs.x (u.zp 2) (u.zp 3) → Ends (result_row op result t) t u
+result_ends op None t u beside rest is = ends_by (result_row op None t) t u (values u.zp places) (record {
+  zp = λ i two. rewritten t.zp u.zp places i (rest i two);
+  fit = refl;
+  small = (refl, refl, refl, refl, refl);
+  low_kept = tt;
+  high_kept = tt;
+  a_kept = tt;
+  x_kept = tt;
+  sp = beside.sp;
+  a = tt;
+  x = tt;
+  sreg = tt;
+  pointers = tt;
+  bank = tt;
+  mem = λ b h. beside.mem b;
+  input = beside.input;
+  output = beside.output ∙ sym (append-nil t.output);
+  ended = beside.ended;
+})
+result_ends op (Some v) t u beside rest is = ends_by (result_row op (Some v) t) t u (values u.zp places) (record {
+  zp = λ i two. rewritten t.zp u.zp places i (rest i two);
+  fit = refl;
+  small = (refl, refl, refl, refl, refl);
+  low_kept = tt;
+  high_kept = tt;
+  a_kept = tt;
+  x_kept = tt;
+  sp = beside.sp;
+  a = is.0;
+  x = is.1;
+  sreg = is.2;
+  pointers = tt;
+  bank = tt;
+  mem = λ b h. beside.mem b;
+  input = beside.input;
+  output = beside.output ∙ sym (append-nil t.output);
+  ended = beside.ended;
+})
+
+pub some_result : (v a x l h : ℕ) → a < 256 → x < 256 → number a x l h ≡ v → IsResult (Some v) a x l h
+some_result v a x l h low high is = let bytes : AreLongBytes v a x l h = long_bytes_of v a x l h low high is in (bytes.a, bytes.x, bytes.sreg)
+
+-- a result that is given where the divisor is not 0
+pub result_by : (divisor v a x l h : ℕ) → a < 256 → x < 256 → (0 < divisor → number a x l h ≡ v) → IsResult (divided divisor v) a x l h
+result_by divisor v a x l h low high is = by (eqb_tells divisor 0)
+  where
+    by : ((nat_eq divisor 0 ≡ true) × (divisor ≡ 0)) ⊎ ((nat_eq divisor 0 ≡ false) × (divisor ≢ 0)) → IsResult (if divisor == 0 then None else Some v) a x l h
+    by (inl none) = subst (λ (b : Bool). IsResult (if b then None else Some v) a x l h) (sym none.0) tt
+    by (inr some) =
+        let apart = some.1 in
+        subst (λ (b : Bool). IsResult (if b then None else Some v) a x l h) (sym some.0) (some_result v a x l h low high (is (omega arith)))
