@@ -50,7 +50,7 @@ use Rattle.c65_genexpr.specs.Storing.{target_code, storing_of, below_value, assi
 use Rattle.c65_genexpr.specs.Steps.{amount_of, step_code, open_code, close_code}
 use Rattle.c65_genexpr.specs.Arguments.{is_fast, is_counted, stays, passed_size, passed_of, argument_code, argument_bytes}
 use Rattle.c65_genexpr.specs.Calls.{named, named_code, pointer_code, direct_code}
-use Rattle.c65_genexpr.specs.Uses.{uses, by_operator, by_relation}
+use Rattle.c65_genexpr.specs.Uses.{uses, node_uses, by_operator, by_relation}
 
 -- where the values of a type stand
 abbrev pub width_in : QTy → Width
@@ -219,6 +219,36 @@ joint_code f pushed own to s stop a b =
 
 abbrev pub load_test_code : Framed → ℕ → ℕ → ℕ → Bool → Typed → List Line
 load_test_code f pushed fresh to s e = load_by (Test to s) (place_of f pushed e) (access_of (types_of f.parts.types) e) (target_code (place_of f pushed e) (base_code f pushed fresh e))
+
+-- the base of a part, so far behind the beginning
+abbrev pub part_base_code : Framed → ℕ → ℕ → ℕ → Typed → List Line
+part_base_code f pushed fresh n e = if has_base (place_of f pushed e) n then base_code f pushed fresh e else expr_code f pushed fresh Value e ++ offset_code n
+
+abbrev pub node_base_code : Framed → ℕ → ℕ → QTy → Node → List Line
+node_base_code f pushed fresh t (deref e) = pointer_base_code f pushed fresh e
+node_base_code f pushed fresh t (member e m) = part_base_code f pushed fresh (offset_at (types_of f.parts.types) (bare e) m) e
+node_base_code f pushed fresh t n = node_code f pushed fresh Value t n
+
+abbrev pub base_lines : Framed → ℕ → ℕ → Typed → List Line
+base_lines f pushed fresh (node t n) = node_base_code f pushed fresh t n
+
+-- the base of a pointer, and how many labels it has
+abbrev pub node_pointer_code : Framed → ℕ → ℕ → QTy → Node → List Line
+node_pointer_code f pushed fresh t (binary op a b) =
+    if sum_has_base (offset_of f pushed a) (added_bytes op (operands_of f (bare a) (bare b)) (constant_in b)) then Label fresh ∷ pointer_base_code f pushed (fresh + 1) a else node_code f pushed fresh Value t (binary op a b)
+node_pointer_code f pushed fresh t (decay e) = base_by (place_of f pushed e) (base_code f pushed fresh e) (expr_code f pushed fresh Value e)
+node_pointer_code f pushed fresh t n = node_code f pushed fresh Value t n
+
+abbrev pub pointer_lines : Framed → ℕ → ℕ → Typed → List Line
+pointer_lines f pushed fresh (node t n) = node_pointer_code f pushed fresh t n
+
+abbrev pub node_pointer_uses : Framed → ℕ → QTy → Node → ℕ
+node_pointer_uses f pushed t (binary op a b) =
+    if sum_has_base (offset_of f pushed a) (added_bytes op (operands_of f (bare a) (bare b)) (constant_in b)) then 1 + uses None a else node_uses None t (binary op a b)
+node_pointer_uses f pushed t n = node_uses None t n
+
+abbrev pub pointer_labels : Framed → ℕ → Typed → ℕ
+pointer_labels f pushed (node t n) = node_pointer_uses f pushed t n
 
 abbrev pub choice_code : Framed → ℕ → ℕ → Typed → Typed → Typed → List Line
 choice_code f pushed fresh c a b =

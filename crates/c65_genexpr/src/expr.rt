@@ -10,7 +10,7 @@ ghost use Rattle.c65_genexpr.specs.Comparing.{on, relation_by};
 ghost use Rattle.c65_genexpr.specs.Leaving.{IsFree};
 ghost use Rattle.c65_genexpr.specs.Storing.{target_code};
 ghost use Rattle.c65_genexpr.specs.Uses.{uses, head_uses, args_uses, unary_uses, comparison_uses};
-ghost use Rattle.c65_genexpr.specs.Code.{expr_code, base_code, pointer_base_code, load_test_code, plain_test_code, unary_value_code, operator_code, comparison_code, joint_code, choice_code, assign_code, compound_code, call_code, args_code};
+ghost use Rattle.c65_genexpr.specs.Code.{expr_code, base_by, base_code, base_lines, part_base_code, pointer_base_code, pointer_lines, pointer_labels, load_test_code, plain_test_code, unary_value_code, operator_code, comparison_code, joint_code, choice_code, assign_code, compound_code, call_code, args_code};
 
 use crate::arguments::{
     Passed, argument_bytes, is_counted, is_fast, joined, passed_size, put_argument, stays,
@@ -276,17 +276,70 @@ fn put_base(a: &TExpr, frame: &Frame<'_>, pushed: u16, draft: &mut Draft) -> Res
     ensures lines { OnOk result (draft.new ≡ grown draft.old (base_code frame.now pushed draft.old.labels (typed_of a.now)) (uses None (typed_of a.now))) }
     ensures kept { OnErr result (Keeps draft.old draft.new) }
 {
+    put_base_by(a, frame, pushed, draft)
+}
+
+// The same by what the place is.
+#[cycle(expression)]
+fn put_base_by(
+    a: &TExpr,
+    frame: &Frame<'_>,
+    pushed: u16,
+    draft: &mut Draft,
+) -> Result<(), AllocError>
+    ensures lines { OnOk result (draft.new ≡ grown draft.old (base_lines frame.now pushed draft.old.labels (typed_of a.now)) (uses None (typed_of a.now))) }
+    ensures kept { OnErr result (Keeps draft.old draft.new) }
+{
     match &a.kind {
         TKind::Deref(pointer) => put_pointer_base(pointer, frame, pushed, draft),
         TKind::Member(e, member) => {
             let offset = offset_at(&frame.parts().types, &e.ty.ty, *member);
-            if has_base(place_of(frame, pushed, e), offset) {
-                put_base(e, frame, pushed, draft)
-            } else {
-                put_expr(a, frame, pushed, draft)
-            }
+            put_part_base(e, offset, frame, pushed, draft)
         }
-        _ => put_expr(a, frame, pushed, draft),
+        TKind::Const(_)
+        | TKind::Null
+        | TKind::Literal(_)
+        | TKind::Object(_)
+        | TKind::Func(_)
+        | TKind::Load(_)
+        | TKind::Address(_)
+        | TKind::Decay(_)
+        | TKind::Convert(_)
+        | TKind::Unary(_, _)
+        | TKind::Binary(_, _, _)
+        | TKind::And(_, _)
+        | TKind::Or(_, _)
+        | TKind::Cond(_, _, _)
+        | TKind::Comma(_, _)
+        | TKind::Assign(_, _)
+        | TKind::AssignOp(_, _, _, _)
+        | TKind::AssignStep(_, _, _)
+        | TKind::Step(_, _)
+        | TKind::Copy(_, _)
+        | TKind::Call(_, _)
+        | TKind::Pack(_)
+        | TKind::Spill(_, _)
+        | TKind::Rest => put_expr(a, frame, pushed, draft),
+    }
+}
+
+// The same of a part, so far behind the beginning.
+#[cycle(expression)]
+fn put_part_base(
+    e: &TExpr,
+    offset: u32,
+    frame: &Frame<'_>,
+    pushed: u16,
+    draft: &mut Draft,
+) -> Result<(), AllocError>
+    ensures lines { OnOk result (draft.new ≡ grown draft.old (part_base_code frame.now pushed draft.old.labels offset (typed_of e.now)) (uses None (typed_of e.now))) }
+    ensures kept { OnErr result (Keeps draft.old draft.new) }
+{
+    if has_base(place_of(frame, pushed, e), offset) {
+        put_base(e, frame, pushed, draft)
+    } else {
+        put_expr(e, frame, pushed, draft)?;
+        put_offset(offset, draft)
     }
 }
 
@@ -301,6 +354,20 @@ fn put_pointer_base(
     ensures lines { OnOk result (draft.new ≡ grown draft.old (pointer_base_code frame.now pushed draft.old.labels (typed_of e.now)) (uses None (typed_of e.now))) }
     ensures kept { OnErr result (Keeps draft.old draft.new) }
 {
+    put_pointer_by(e, frame, pushed, draft)
+}
+
+// The same by what the pointer is.
+#[cycle(expression)]
+fn put_pointer_by(
+    e: &TExpr,
+    frame: &Frame<'_>,
+    pushed: u16,
+    draft: &mut Draft,
+) -> Result<(), AllocError>
+    ensures lines { OnOk result (draft.new ≡ grown draft.old (pointer_lines frame.now pushed draft.old.labels (typed_of e.now)) (pointer_labels frame.now pushed (typed_of e.now))) }
+    ensures kept { OnErr result (Keeps draft.old draft.new) }
+{
     match &e.kind {
         TKind::Binary(op, pointer, number) => {
             if is_told(frame, pushed, *op, pointer, number) {
@@ -310,13 +377,54 @@ fn put_pointer_base(
                 put_expr(e, frame, pushed, draft)
             }
         }
-        TKind::Decay(array) => match place_of(frame, pushed, array) {
-            Place::Far(_) => put_base(array, frame, pushed, draft),
-            Place::Bank(_) | Place::Near(_) | Place::Data(_, _) => {
-                put_expr(array, frame, pushed, draft)
-            }
-        },
-        _ => put_expr(e, frame, pushed, draft),
+        TKind::Decay(array) => {
+            let place = place_of(frame, pushed, array);
+            put_array_base(array, place, frame, pushed, draft)
+        }
+        TKind::Const(_)
+        | TKind::Null
+        | TKind::Literal(_)
+        | TKind::Object(_)
+        | TKind::Func(_)
+        | TKind::Load(_)
+        | TKind::Address(_)
+        | TKind::Convert(_)
+        | TKind::Unary(_, _)
+        | TKind::And(_, _)
+        | TKind::Or(_, _)
+        | TKind::Cond(_, _, _)
+        | TKind::Comma(_, _)
+        | TKind::Assign(_, _)
+        | TKind::AssignOp(_, _, _, _)
+        | TKind::AssignStep(_, _, _)
+        | TKind::Step(_, _)
+        | TKind::Copy(_, _)
+        | TKind::Call(_, _)
+        | TKind::Pack(_)
+        | TKind::Spill(_, _)
+        | TKind::Rest
+        | TKind::Deref(_)
+        | TKind::Member(_, _) => put_expr(e, frame, pushed, draft),
+    }
+}
+
+// The same of an array; one that is known has its whole address.
+#[cycle(expression)]
+fn put_array_base(
+    array: &TExpr,
+    place: Place,
+    frame: &Frame<'_>,
+    pushed: u16,
+    draft: &mut Draft,
+) -> Result<(), AllocError>
+    ensures lines { OnOk result (draft.new ≡ grown draft.old (base_by place (base_code frame.now pushed draft.old.labels (typed_of array.now)) (expr_code frame.now pushed draft.old.labels Value (typed_of array.now))) (uses None (typed_of array.now))) }
+    ensures kept { OnErr result (Keeps draft.old draft.new) }
+{
+    match place {
+        Place::Far(_) => put_base(array, frame, pushed, draft),
+        Place::Bank(_) | Place::Near(_) | Place::Data(_, _) => {
+            put_expr(array, frame, pushed, draft)
+        }
     }
 }
 

@@ -42,7 +42,7 @@ pub fn leave_place(
 }
 
 /// The label of a sum that is left out.
-#[tactic(auto, using(c65_genwide::proofs::Kept::label_then, c65_genwide::proofs::Kept::label_last, c65_genwide::proofs::Kept::refused_then))]
+#[tactic(auto, using(c65_genwide::proofs::Kept::label_last, c65_genwide::proofs::Kept::label_then, c65_genwide::proofs::Kept::refused_then))]
 pub fn leave_sum(draft: &mut Draft) -> Result<(), AllocError>
     ensures lines { OnOk result (draft.new ≡ grown draft.old (Label draft.old.labels ∷ []) 1) }
     ensures kept { OnErr result (Keeps draft.old draft.new) }

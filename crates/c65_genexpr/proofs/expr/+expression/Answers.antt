@@ -5,6 +5,8 @@ use Rattle.c65_csem.specs.Views.{typed_of, nodes_of, node_of}
 use Rattle.c65_csem.proofs.RowLaws.{node_of_call}
 use Rattle.c65_genexpr.specs.Uses.{count, node_count, args_count}
 use Rattle.c65_genwide.proofs.Kept.{kept_then, kept_last, grown_then, grown_last, label_then, label_last, refused_then}
+use Rattle.c65_genexpr.proofs.Bases.{based, pointed}
+use Rattle.c65_genexpr.proofs.Chains.{joint_lines, choice_lines}
 use Rattle.c65_genexpr.proofs.expr.+expression.Goals as goal
 
 pub put_expr-put_call-requires : goal.put_expr-put_call-requires
@@ -279,3 +281,52 @@ put_expr-returns-in_err-put_comparison-in-Some-clause-kept t c = refused_then c.
 
 pub put_expr-returns-in_ok-put_comparison-in-Some-clause-kept : goal.put_expr-returns-in_ok-put_comparison-in-Some-clause-kept
 put_expr-returns-in_ok-put_comparison-in-Some-clause-kept t c = grown_last _ _ _ _ _ _ c.in_ok-truth-in-Some.ensures.draft (grown_last _ _ _ _ _ _ c.in_ok-put_comparison-in-Some.ensures.lines c.put_truth.ensures.kept)
+
+pub put_assign-returns-in_err-leave_out-in-Left-clause-kept : goal.put_assign-returns-in_err-leave_out-in-Left-clause-kept
+put_assign-returns-in_err-leave_out-in-Left-clause-kept t c = refused_then c.from_residual-in_err-leave_out-in-Left.result (grown_then _ _ _ _ _ c.in_ok-put_base-in-Left.ensures.lines c.in_err-leave_out-in-Left.ensures.kept)
+
+pub put_assign-returns-in_err-put_read_store-in-Left-clause-kept : goal.put_assign-returns-in_err-put_read_store-in-Left-clause-kept
+put_assign-returns-in_err-put_read_store-in-Left-clause-kept t c = refused_then c.from_residual-in_err-put_read_store-in-Left.result (grown_then _ _ _ _ _ c.in_ok-put_base-in-Left.ensures.lines (grown_then _ _ _ _ _ c.in_ok-leave_out-in-Left.ensures.lines c.in_err-put_read_store-in-Left.ensures.kept))
+
+pub put_assign-returns-in_ok-put_read_store-in-Left-clause-kept : goal.put_assign-returns-in_ok-put_read_store-in-Left-clause-kept
+put_assign-returns-in_ok-put_read_store-in-Left-clause-kept t c = grown_last _ _ _ _ _ _ c.in_ok-put_base-in-Left.ensures.lines (grown_last _ _ _ _ _ _ c.in_ok-leave_out-in-Left.ensures.lines (kept_last _ _ _ _ _ c.in_ok-put_read_store-in-Left.ensures.lines c.narrow.ensures.kept))
+
+pub put_assign-returns-in_err-put_byte_through-in-RightByte-clause-kept : goal.put_assign-returns-in_err-put_byte_through-in-RightByte-clause-kept
+put_assign-returns-in_err-put_byte_through-in-RightByte-clause-kept t c = refused_then c.from_residual-in_err-put_byte_through-in-RightByte.result (grown_then _ _ _ _ _ c.in_ok-leave_out-in-RightByte.ensures.lines (grown_then _ _ _ _ _ c.in_ok-put_expr-in-RightByte.ensures.lines c.in_err-put_byte_through-in-RightByte.ensures.kept))
+
+pub put_assign-returns-in_ok-put_byte_through-in-RightByte-clause-kept : goal.put_assign-returns-in_ok-put_byte_through-in-RightByte-clause-kept
+put_assign-returns-in_ok-put_byte_through-in-RightByte-clause-kept t c = grown_last _ _ _ _ _ _ c.in_ok-leave_out-in-RightByte.ensures.lines (grown_last _ _ _ _ _ _ c.in_ok-put_expr-in-RightByte.ensures.lines (kept_last _ _ _ _ _ c.in_ok-put_byte_through-in-RightByte.ensures.lines c.narrow-in-RightByte.ensures.kept))
+
+pub put_assign-returns-in_ok-put_expr-in-RightWord-clause-kept : goal.put_assign-returns-in_ok-put_expr-in-RightWord-clause-kept
+put_assign-returns-in_ok-put_expr-in-RightWord-clause-kept t c = grown_last _ _ _ _ _ _ c.in_ok-leave_out-in-RightWord.ensures.lines (grown_last _ _ _ _ _ _ c.in_ok-put_expr-in-RightWord.ensures.lines c.put_word_through.ensures.kept)
+
+pub put_assign-returns-in_err-hold-in-Stacked-clause-kept : goal.put_assign-returns-in_err-hold-in-Stacked-clause-kept
+put_assign-returns-in_err-hold-in-Stacked-clause-kept t c = refused_then c.from_residual-in_err-hold-in-Stacked.result (grown_then _ _ _ _ _ c.in_ok-put_target-in-Stacked.ensures.lines c.in_err-hold-in-Stacked.ensures.kept)
+
+pub put_assign-returns-in_err-put_expr-in-Stacked-clause-kept : goal.put_assign-returns-in_err-put_expr-in-Stacked-clause-kept
+put_assign-returns-in_err-put_expr-in-Stacked-clause-kept t c = refused_then c.from_residual-in_err-put_expr-in-Stacked.result (grown_then _ _ _ _ _ c.in_ok-put_target-in-Stacked.ensures.lines (kept_then _ _ _ _ c.in_ok-hold-in-Stacked.ensures.lines c.in_err-put_expr-in-Stacked.ensures.kept))
+
+pub put_assign-returns-in_ok-put_expr-in-Stacked-clause-kept : goal.put_assign-returns-in_ok-put_expr-in-Stacked-clause-kept
+put_assign-returns-in_ok-put_expr-in-Stacked-clause-kept t c = grown_last _ _ _ _ _ _ c.in_ok-put_target-in-Stacked.ensures.lines (kept_last _ _ _ _ _ c.in_ok-hold-in-Stacked.ensures.lines (grown_last _ _ _ _ _ _ c.in_ok-put_expr-in-Stacked.ensures.lines c.store.ensures.kept))
+
+pub put_base-returns-clause-lines : goal.put_base-returns-clause-lines
+put_base-returns-clause-lines t c = based c.put_base_by.result c.args.draft.now c.put_base_by.new.draft c.args.frame.now c.args.pushed c.args.draft.now.labels (typed_of c.args.a.now) c.put_base_by.ensures.lines
+
+pub put_pointer_base-returns-clause-lines : goal.put_pointer_base-returns-clause-lines
+put_pointer_base-returns-clause-lines t c = pointed c.put_pointer_by.result c.args.draft.now c.put_pointer_by.new.draft c.args.frame.now c.args.pushed c.args.draft.now.labels (typed_of c.args.e.now) c.put_pointer_by.ensures.lines
+
+pub put_part_base-returns-in_ok-put_expr-clause-kept : goal.put_part_base-returns-in_ok-put_expr-clause-kept
+put_part_base-returns-in_ok-put_expr-clause-kept t c = grown_last _ _ _ _ _ _ c.in_ok-put_expr.ensures.lines c.put_offset.ensures.kept
+
+pub put_pointer_by-returns-in_ok-leave_sum-in-Binary-clause-kept : goal.put_pointer_by-returns-in_ok-leave_sum-in-Binary-clause-kept
+put_pointer_by-returns-in_ok-leave_sum-in-Binary-clause-kept t c = grown_last _ _ _ _ _ _ c.in_ok-leave_sum-in-Binary.ensures.lines c.put_pointer_base.ensures.kept
+
+pub put_joint-returns-in_ok-put_test-clause-lines : goal.put_joint-returns-in_ok-put_test-clause-lines
+put_joint-returns-in_ok-put_test-clause-lines t c =
+    joint_lines c.put_test-then-is_straight.result c.args.draft.now c.put_test.new.draft c.put_test-then-is_straight.new.draft c.args.frame.now c.args.pushed c.args.to c.args.sense c.args.stop (typed_of c.args.a.now) (typed_of c.args.b.now)
+    (sym c.is_straight.ensures ∙ c.if-is_straight.true) c.in_ok-put_test.ensures.lines c.put_test-then-is_straight.ensures.lines
+
+pub put_choice-returns-clause-lines : goal.put_choice-returns-clause-lines
+put_choice-returns-clause-lines t c =
+    choice_lines c.put-2.result c.args.draft.now c.next_label.new.draft c.next_label-2.new.draft c.put_test.new.draft c.put_expr.new.draft c.put.new.draft c.put_expr-2.new.draft c.put-2.new.draft c.args.frame.now c.args.pushed c.in_ok-other.other c.in_ok-end.end (typed_of c.args.c.now) (typed_of c.args.a.now) (typed_of c.args.b.now)
+    c.in_ok-other.ensures.label c.in_ok-end.ensures.label c.in_ok-other.ensures.draft c.in_ok-end.ensures.draft c.in_ok-put_test.ensures.lines c.in_ok-put_expr.ensures.lines c.in_ok-put.ensures.lines c.in_ok-put_expr-2.ensures.lines c.put-2.ensures.lines
