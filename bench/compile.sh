@@ -1,8 +1,9 @@
 #!/usr/bin/env bash
 # Prints how long ./c65 (or the program that C65 names) takes to compile, and how much memory it needs.
 # Usage, at the top of the repository: bench/compile.sh
-#   1. a program of 255 functions: compiled, linked and started
-#   2. sources of 1 KB to 1 MB: declarations alone, and functions up to what fits an image, in nanoseconds a byte
+#   1. a program of 255 functions: compiled, linked and started, without the optimiser and under -O and -Oirs
+#   2. sources of 1 KB to 1 MB: declarations alone, and functions up to what fits an image, in nanoseconds a byte; the functions
+#      under -O as well
 #   3. a unit of 100,000 declarations of 50,000 names
 #   4. the least of some bounds of memory within which 1 MiB of source compiles
 set -eu
@@ -58,13 +59,15 @@ report() {
 }
 
 functions 255 > "$folder/big.c"
-status=0
-"$c65" go "$folder/big.c" > /dev/null || status=$?
-echo "the program of 255 functions ends with status $status"
 size=$(wc -c < "$folder/big.c")
-report "compiled and linked" "$size" "$(milliseconds "$c65" build -o "$folder/big" "$folder/big.c")"
-report "compiled, linked and started" "$size" "$(milliseconds "$c65" go -x 1 "$folder/big.c")"
-report "compiled, linked and run to its end" "$size" "$(milliseconds "$c65" go "$folder/big.c")"
+for option in '' -O -Oirs; do
+    status=0
+    "$c65" go $option "$folder/big.c" > /dev/null || status=$?
+    echo "the program of 255 functions ${option:+under $option }ends with status $status"
+    report "compiled and linked" "$size" "$(milliseconds "$c65" build $option -o "$folder/big" "$folder/big.c")"
+    report "compiled, linked and started" "$size" "$(milliseconds "$c65" go $option -x 1 "$folder/big.c")"
+    report "compiled, linked and run to its end" "$size" "$(milliseconds "$c65" go $option "$folder/big.c")"
+done
 
 for size in 1000 4000 16000 64000 250000 1000000; do
     declarations "$size" > "$folder/made.c"
@@ -73,9 +76,11 @@ for size in 1000 4000 16000 64000 250000 1000000; do
 done
 for count in 8 32 128 512; do
     functions "$count" > "$folder/made.c"
-    status=0
-    "$c65" build -o "$folder/made" "$folder/made.c" 2> "$folder/line" || status=$?
-    report "$count functions (status $status)" "$(wc -c < "$folder/made.c")" "$(milliseconds "$c65" build -o "$folder/made" "$folder/made.c")"
+    for option in '' -O; do
+        status=0
+        "$c65" build $option -o "$folder/made" "$folder/made.c" 2> "$folder/line" || status=$?
+        report "$count functions${option:+ under $option} (status $status)" "$(wc -c < "$folder/made.c")" "$(milliseconds "$c65" build $option -o "$folder/made" "$folder/made.c")"
+    done
 done
 
 twice_declared "$folder"

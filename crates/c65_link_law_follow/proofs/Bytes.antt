@@ -83,19 +83,25 @@ pub record Moved (g : Ground) (setting : Setting) (to : ℕ) (u : State) (now : 
   pub free : is_too_deep now.machine ≡ false
   pub agrees : Agrees g to u next
 
-pub moved_by : (g : Ground) (setting : Setting) (at to : ℕ) (t u : State) (now : Moment) (op : Op) (mode : Mode) (k : Kind) (n : Machine) → Agrees g at t now → Here g at op mode → kind_of op ≡ k → pushes op ≤ now.machine.s
+-- a row after which the bytes above S lead elsewhere
+pub moved_into : (g h : Ground) (setting : Setting) (at to : ℕ) (t u : State) (now : Moment) (op : Op) (mode : Mode) (k : Kind) (n : Machine) → Agrees g at t now → Here g at op mode → kind_of op ≡ k → pushes op ≤ now.machine.s
     → act_by k op mode (place_of mode now.machine).0 (record now.machine { pc = after now.machine.pc (size_of mode) }) ≡ n
-    → Agrees g to u (record now { machine = n }) → Moved g setting to u now
-moved_by g setting at to t u now op mode k n a h is room does agrees =
-    let full = size_positive mode in let upto = h.to in let high = h.high in let pc = a.pc in
+    → Agrees h to u (record now { machine = n }) → Moved h setting to u now
+moved_into g h setting at to t u now op mode k n a there is room does agrees =
+    let full = size_positive mode in let upto = there.to in let high = there.high in let pc = a.pc in
     let low : now.machine.pc < 63472 = omega (arith, full, upto, high, pc) in
-    let r : Rowed now.machine.cpu (read now.machine.mem now.machine.pc) op mode = rowed_at g at t now op mode a h in
+    let r : Rowed now.machine.cpu (read now.machine.mem now.machine.pc) op mode = rowed_at g at t now op mode a there in
     record {
       next = record now { machine = n };
       turn_is = turned setting now n low (stepped now.machine op mode k r is ∙ ap Some does);
       free = is_free now.machine op mode r low room;
       agrees = agrees;
     }
+
+pub moved_by : (g : Ground) (setting : Setting) (at to : ℕ) (t u : State) (now : Moment) (op : Op) (mode : Mode) (k : Kind) (n : Machine) → Agrees g at t now → Here g at op mode → kind_of op ≡ k → pushes op ≤ now.machine.s
+    → act_by k op mode (place_of mode now.machine).0 (record now.machine { pc = after now.machine.pc (size_of mode) }) ≡ n
+    → Agrees g to u (record now { machine = n }) → Moved g setting to u now
+moved_by g setting at to t u now op mode k n a h is room does agrees = moved_into g g setting at to t u now op mode k n a h is room does agrees
 
 pub moved_to : (g : Ground) (setting : Setting) (at to : ℕ) (u : State) (now : Moment) → at ≡ to → Moved g setting at u now → Moved g setting to u now
 moved_to g setting at to u now e m = subst (λ (n : ℕ). Moved g setting n u now) e m

@@ -39,7 +39,7 @@ use Rattle.c65_link_law_follow.proofs.Rows.{HasRowOn, rowed, both_have, row_on, 
 use Rattle.c65_link_law_follow.proofs.Bytes.{Here, Moved, moved_to, HasOperand}
 use Rattle.c65_link_law_follow.proofs.Fits.{IsStorable, reads_fit, stores_fit, changes_fit, registers_fit, IsGiven, given, operand_word}
 use Rattle.c65_link_law_follow.proofs.Local.{Given_, do_reads, do_stores, do_changes, do_accumulator, do_registers, has_operand}
-use Rattle.c65_link_law_follow.proofs.Stack.{jumps, fars, branch_row, do_push, enters, returns, do_pull, do_depth}
+use Rattle.c65_link_law_follow.proofs.Stack.{jumps, fars, branch_row, do_push, enters, returns, last_return, do_pull, do_depth}
 
 -- one row
 one : (g : Ground) (setting : Setting) (most : ℕ) (now : Moment) (Q : Place → State → Type 0) (q : Place) (u : State) → 1 ≤ most → Q q u → Moved g setting (g.at q) u now → Arrives g setting most now Q
@@ -380,6 +380,54 @@ return_line g s setting bounds f p mode operand t now ground laid here within a 
         let u : State = record t { pushed = frame.pushed; frames = frames } in
         let goes : RawGoes s Return (f, p) t frame.back u = subst (λ (fs : List Frame). RawReturns fs t frame.back u) (sym e) (within.0, refl, refl) in
         one g setting 1 now (RawGoes s Return (f, p) t) frame.back u (omega arith) goes (returns g setting (g.at (f, p)) frame frames t now a (omega (arith, upto, high)) h.0 within.0 e)
+
+-- the return of the last call
+pub last_line : (g : Ground) (s : RawSetting) (setting : Setting) (f p to top : ℕ) (l : Line) (t : State) (now : Moment) → IsGround g s → IsLaid g s f → slice_get (s.lines f) p ≡ Some l → form_of l ≡ Return → g.last ≡ Some to → to ≤ 65535 → top ≡ g.top + 2 → t.pushed ≡ [] → t.frames ≡ []
+    → Agrees g (g.at (f, p)) t now → Moved (record g { top = top; last = None }) setting to t now
+last_line g s setting f p to top (Label k) t now ground laid here is last fits above empty frames a = absurd cc
+last_line g s setting f p to top (Call callee) t now ground laid here is last fits above empty frames a = absurd (no_callee callee is)
+  where
+    no_callee : (callee : Callee) → callee_form callee ≡ Return → ⊥
+    no_callee (callees.Routine r) e = absurd cc
+    no_callee (callees.Function h reads gives) e = absurd cc
+    no_callee (callees.Pointer reads gives) e = absurd cc
+last_line g s setting f p to top (Do op mode operand) t now ground laid here is last fits above empty frames a = by (kind_of op) refl is
+  where
+    implied : (mode : Mode) → has_row ops.Rts mode ≡ true → is_implied mode ≡ true
+    implied Implied e = refl
+    implied _ e = absurd cc
+
+    jump : (operand : Operand) → jump_form operand ≡ Return → ⊥
+    jump (operands.To l) e = absurd cc
+    jump (operands.Zero i) e = absurd cc
+    jump _ e = absurd cc
+
+    branch : (operand : Operand) → branch_form op operand ≡ Return → ⊥
+    branch (operands.To l) e = absurd cc
+    branch _ e = absurd cc
+
+    moves : (x : Op) → move_form x operand ≡ Return → x ≡ ops.Rts
+    moves ops.Rts e = refl
+    moves ops.Jmp e = absurd (jump operand e)
+    moves ops.Pha e = absurd cc
+    moves ops.Pla e = absurd cc
+    moves ops.Tsx e = absurd cc
+    moves _ e = absurd cc
+
+    at : op ≡ ops.Rts → Moved (record g { top = top; last = None }) setting to t now
+    at e =
+        let it : slice_get (s.lines f) p ≡ Some (Do ops.Rts mode operand) = here ∙ ap (λ (x : Op). Some (Do x mode operand)) e in
+        let st : Stood g s f p laid.spot ops.Rts mode operand = stood g s f p ops.Rts mode operand laid it in
+        let h = implied_here g s f p ops.Rts mode operand ground laid st (implied_is mode (implied mode st.row)) in
+        last_return g setting (g.at (f, p)) to top t now a h.0 last fits above empty frames
+
+    by : (k : Kind) → kind_of op ≡ k → op_form k op mode operand ≡ Return → Moved (record g { top = top; last = None }) setting to t now
+    by Moves k e = at (moves op e)
+    by Branches k e = absurd (branch operand e)
+    by Reads k e = absurd cc
+    by Stores k e = absurd cc
+    by Changes k e = absurd cc
+    by Registers k e = absurd cc
 
 -- Calls
 

@@ -18,8 +18,8 @@ use Rattle.c65_code.specs.Parts.{no_parts}
 use Rattle.c65_code.specs.LineState.{Place, State, Frame, hard_bytes, zero_word}
 use Rattle.c65_link.specs.Bytes.{word_bytes}
 use Rattle.c65_link_law.specs.Coded.{Stands}
-use Rattle.c65_link_law_follow.specs.Agree.{Ground, Pushed, LeadsTo, Points, Agrees}
-use Rattle.c65_link_law_follow.proofs.Bytes.{Here, Moved, moved_by, code_byte, byte_is, word_is, zero_is, elsewhere, pushed_same, points_same}
+use Rattle.c65_link_law_follow.specs.Agree.{Ground, Pushed, LeadsTo, IsLast, Points, Agrees}
+use Rattle.c65_link_law_follow.proofs.Bytes.{Here, Moved, moved_by, moved_into, code_byte, byte_is, word_is, zero_is, elsewhere, pushed_same, points_same}
 use Rattle.c65_link_law_follow.proofs.Fits.{pushes_none}
 use Rattle.c65_link_law_follow.proofs.Local.{next_pc, on_pc, on_regs}
 
@@ -218,6 +218,43 @@ pub returns : (g : Ground) (setting : Setting) (at : ℕ) (frame : Frame) (frame
     → Moved g setting (g.at frame.back) (record t { pushed = frame.pushed; frames = frames }) now
 returns g setting at frame frames t now a fits h none is =
     moved_by g setting at (g.at frame.back) t (record t { pushed = frame.pushed; frames = frames }) now ops.Rts Implied Moves (returned 1 now.machine) a h refl (omega arith) refl (on_return g at frame frames t now a fits none is)
+
+-- the return of the last call leads to where the bytes above it lead
+on_last : (g : Ground) (at to top : ℕ) (t : State) (now : Moment) → Agrees g at t now → g.last ≡ Some to → to ≤ 65535 → top ≡ g.top + 2 → t.pushed ≡ [] → t.frames ≡ []
+    → Agrees (record g { top = top; last = None }) to t (record now { machine = returned 1 now.machine })
+on_last g at to top t now a last fits more none is =
+    let m : Machine = now.machine in
+    let s = a.s in
+    let start : m.s + length t.pushed ≡ m.s = (let z : length t.pushed ≡ 0 = ap length none in omega (arith, z)) in
+    let points : Points g.at g.last (read m.mem) m.s [] = subst (λ (fs : List Frame). Points g.at g.last (read m.mem) m.s fs) is (subst (λ (k : ℕ). Points g.at g.last (read m.mem) k t.frames) start a.points) in
+    let there : LeadsTo (read m.mem) m.s to = subst (λ (o : Option ℕ). IsLast o (read m.mem) m.s) last points in
+    let deep = there.0 in let leads = there.1 in
+    let e1 : 256 + (m.s + 1) % 256 ≡ 257 + m.s = omega (arith, deep) in
+    let e2 : 256 + (m.s + 2) % 256 ≡ 258 + m.s = omega (arith, deep) in
+    let e3 : (m.s + 2) % 256 ≡ m.s + 2 = omega (arith, deep) in
+    let one : read m.mem (256 + (m.s + 1) % 256) ≡ read m.mem (257 + m.s) = ap (read m.mem) e1 in
+    let two : read m.mem (256 + (m.s + 2) % 256) ≡ read m.mem (258 + m.s) = ap (read m.mem) e2 in
+    let pc : ℕ = after (read m.mem (256 + (m.s + 1) % 256) + 256 * read m.mem (256 + (m.s + 2) % 256)) 1 in
+    let pc_is : pc ≡ to = omega (arith, one, two, leads, fits) in
+    record {
+      cpu = a.cpu;
+      pc = pc_is;
+      regs = a.regs;
+      d = a.d;
+      s = omega (arith, e3, s, more);
+      size = a.size;
+      zp = a.zp;
+      mem = a.mem;
+      code = a.code;
+      pushed = subst (λ (vs : List ℕ). Pushed (read m.mem) ((m.s + 2) % 256) vs) (sym none) tt;
+      points = subst (λ (fs : List Frame). Points g.at None (read m.mem) ((m.s + 2) % 256 + length t.pushed) fs) (sym is) tt;
+      input = a.input;
+      output = a.output;
+    }
+
+pub last_return : (g : Ground) (setting : Setting) (at to top : ℕ) (t : State) (now : Moment) → Agrees g at t now → Here g at ops.Rts Implied → g.last ≡ Some to → to ≤ 65535 → top ≡ g.top + 2 → t.pushed ≡ [] → t.frames ≡ [] → Moved (record g { top = top; last = None }) setting to t now
+last_return g setting at to top t now a h last fits more none is =
+    moved_into g (record g { top = top; last = None }) setting at to t t now ops.Rts Implied Moves (returned 1 now.machine) a h refl (omega arith) refl (on_last g at to top t now a last fits more none is)
 
 -- a byte is pulled into A
 pub do_pull : (g : Ground) (setting : Setting) (at to v : ℕ) (rest : List ℕ) (t : State) (now : Moment) → Agrees g at t now → Here g at ops.Pla Implied → to ≡ at + 1 → t.pushed ≡ v ∷ rest

@@ -1,5 +1,5 @@
 -- Each unit of a linked code stands as rows ask for it.
-use Rattle.std.proofs.Common.{◌≡◌, ℕ, zero, suc, ◌+◌, ◌-◌, ◌<◌, ◌≤◌, ◌==◌, ◌&&◌, not, Bool, true, false, nat_le, nat_lt, if◌then◌else◌, IsTrue, List, [], ◌∷◌, ◌++◌, codes, map, replicate, Option, Some, None, unwrap_or, Ok, length, slice_get, slice_index, refl, ap, sym, ◌∙◌, subst, arith, ltb-true, leb-true}
+use Rattle.std.proofs.Common.{◌≡◌, ℕ, zero, suc, ◌+◌, ◌-◌, ◌<◌, ◌≤◌, ◌==◌, ◌&&◌, not, Bool, true, false, nat_le, nat_lt, if◌then◌else◌, IsTrue, List, [], ◌∷◌, ◌++◌, codes, map, replicate, Option, Some, None, unwrap_or, Ok, length, slice_get, slice_index, refl, ap, sym, ◌∙◌, subst, arith, ltb-true, leb-true, eqb-true}
 use Rattle.std.specs.List.{list_all}
 use Rattle.std.proofs.lemmas.Bool.{and_parts, and_from, lt-ltb, le-ltb, le-leb, eq-eqb, ne_eqb}
 use Rattle.std.proofs.lemmas.List.{get_or-set_other}
@@ -55,7 +55,7 @@ none_there x h = absurd cc
 
 -- Addresses that are kept
 
-kept : (code : Code) (at : ℕ) → program_start ≤ at → at ≤ code_end code → kept_in code at ≡ at
+pub kept : (code : Code) (at : ℕ) → program_start ≤ at → at ≤ code_end code → kept_in code at ≡ at
 kept code at low high = ap (λ (b : Bool). if b then at else program_start) (and_from (nat_le program_start at) (nat_le at (code_end code)) (le-leb program_start at low) (le-leb at (code_end code) high))
 
 kept_low : (code : Code) (at : ℕ) → program_start ≤ kept_in code at
@@ -84,7 +84,7 @@ entry_at code m args f u =
     let upto = u.to in
     ap (kept_in code) (settled_at (unit_lines code f) m (base_in code f) 0 ∙ first_at (unit_lines code f) m (base_in code f)) ∙ kept code (base_in code f) u.from (omega (arith, upto))
 
-routine_base : (code : Code) (r : Routine) → base_in code (length code.symbols + number_of r) ≡ slice_index (layout_in code).routines (number_of r)
+pub routine_base : (code : Code) (r : Routine) → base_in code (length code.symbols + number_of r) ≡ slice_index (layout_in code).routines (number_of r)
 routine_base code r =
     let f : ℕ = length code.symbols + number_of r in
     let low = numbered r in
@@ -145,7 +145,7 @@ closed_lines (line ∷ lines) s = refl
 chosen_by : Bool → Bool → Option Library → Option Library
 chosen_by a b o = if a && b then o else None
 
-leads_in : (cpu : Cpu) (code : Code) (image : Image) (m : Memory) (args : List (List ℕ)) → IsSound code → linked_for cpu code ≡ Ok image → Stands m program_start image.payload → Leads code m args
+pub leads_in : (cpu : Cpu) (code : Code) (image : Image) (m : Memory) (args : List (List ℕ)) → IsSound code → linked_for cpu code ≡ Ok image → Stands m program_start image.payload → Leads code m args
 leads_in cpu code image m args s linked_is stands = record { functions = lead; routines = lead_routine; hooks = hook_there code }
   where
     it : IsMade code image
@@ -185,6 +185,35 @@ leads_in cpu code image m args s linked_is stands = record { functions = lead; r
 
     lead : (f : ℕ) → IsTrue (is_function_of code f) → address_in code f ≡ place_at code m (entry_place (raw_in code args) (target_of (raw_in code args) ((raw_in code args).library f) f))
     lead f h = by f h (has function_number code.functions f)
+
+-- a library function that a symbol stands for stands in the image
+pub library_chosen : (cpu : Cpu) (code : Code) (image : Image) (args : List (List ℕ)) (f : ℕ) (l : Library) → IsSound code → linked_for cpu code ≡ Ok image → IsTrue (is_function_of code f) → (raw_in code args).library f ≡ Some l → IsChosen code (routines.Library l)
+library_chosen cpu code image args f l s linked_is h some = by (has function_number code.functions f)
+  where
+    it : IsMade code image
+    it = made code cpu image linked_is
+
+    lines : List Line
+    lines = (segment_of code.functions f).lines
+
+    asked : (b : Bool) → is_nothing lines ≡ b → (if b then library_of (slice_get code.symbols f) else None) ≡ Some l
+    asked b e =
+        sym (ap (λ (x : Bool). if x && is_nothing lines then library_of (slice_get code.symbols f) else None) h ∙ ap (λ (x : Bool). if x then library_of (slice_get code.symbols f) else None) e) ∙ some
+
+    at : Stood code f → ((k : ℕ) (g : Sym × Segment) → slice_get code.functions k ≡ Some g → g.0.0 ≡ f → ⊥) → IsChosen code (routines.Library l)
+    at (own k g here is) no_function = absurd (no_function k g here is)
+    at (library k q symbol there spelling chosen address) no_function =
+        let named : library_of (slice_get code.symbols f) ≡ Some q = ap library_of there ∙ ap (library_named library_functions) spelling ∙ named_library q in
+        let same : q ≡ l = same_there q l (sym named ∙ asked true (ap is_nothing (no_segment code.functions f no_function))) in
+        subst (λ (x : Library). IsChosen code (routines.Library x)) same (record { place = k; there = chosen })
+
+    by : Has function_number code.functions f → IsChosen code (routines.Library l)
+    by (found k g here is) =
+        let u : IsUnitPlaced code (read (loaded_memory image)) f = units_stand code cpu image (read (loaded_memory image)) s linked_is (data_are_loaded code cpu image s linked_is).file f (function k g here is) in
+        let inside : nat_lt f (length code.symbols) ≡ true = (and_parts (nat_lt f (length code.symbols)) (not (has_datum code.datums f)) h).0 in
+        let lines_is : lines_in code f ≡ lines = ap (λ (b : Bool). if b then (segment_of code.functions f).lines else runtime_lines code (f - length code.symbols)) inside in
+        absurd (let z : ◌≡◌ {A = Option Library} None (Some l) = asked false (closed_lines lines (subst IsSegment lines_is u.segment)) in cc)
+    by (nowhere no_function) = at (stood code it.plain f s it.is it.missing h) no_function
 
 -- A unit by its lines
 
@@ -264,14 +293,14 @@ laid cpu code image args top last f leads u =
 
 -- Functions
 
-segment_from : (fs : List (Sym × Segment)) (f p : ℕ) (l : Line) → slice_get (segment_of fs f).lines p ≡ Some l → (k : ℕ) × (g : Sym × Segment) × (slice_get fs k ≡ Some g) × (slice_get g.1.lines p ≡ Some l)
+pub segment_from : (fs : List (Sym × Segment)) (f p : ℕ) (l : Line) → slice_get (segment_of fs f).lines p ≡ Some l → (k : ℕ) × (g : Sym × Segment) × (slice_get fs k ≡ Some g) × (slice_get g.1.lines p ≡ Some l) × (g.0.0 ≡ f)
 segment_from [] f p l h = none_there l h
-segment_from (g ∷ fs) f p l h = by (g.0.0 == f) h (λ e. segment_from fs f p l e)
+segment_from (g ∷ fs) f p l h = by (g.0.0 == f) refl h (λ e. segment_from fs f p l e)
   where
-    by : (b : Bool) → slice_get (if b then g.1 else segment_of fs f).lines p ≡ Some l → (slice_get (segment_of fs f).lines p ≡ Some l → (k : ℕ) × (x : Sym × Segment) × (slice_get fs k ≡ Some x) × (slice_get x.1.lines p ≡ Some l))
-        → (k : ℕ) × (x : Sym × Segment) × (slice_get (g ∷ fs) k ≡ Some x) × (slice_get x.1.lines p ≡ Some l)
-    by true e rest = (0, g, refl, e)
-    by false e rest = let r = rest e in (suc r.0, r.1, r.2, r.3)
+    by : (b : Bool) → (g.0.0 == f) ≡ b → slice_get (if b then g.1 else segment_of fs f).lines p ≡ Some l → (slice_get (segment_of fs f).lines p ≡ Some l → (k : ℕ) × (x : Sym × Segment) × (slice_get fs k ≡ Some x) × (slice_get x.1.lines p ≡ Some l) × (x.0.0 ≡ f))
+        → (k : ℕ) × (x : Sym × Segment) × (slice_get (g ∷ fs) k ≡ Some x) × (slice_get x.1.lines p ≡ Some l) × (x.0.0 ≡ f)
+    by true is e rest = (0, g, refl, e, eqb-true g.0.0 f is)
+    by false is e rest = let r = rest e in (suc r.0, r.1, r.2, r.3, r.4)
 
 own_line : (cpu : Cpu) (l : Line) → is_nmos_line l ≡ true → IsLineOf cpu l
 own_line Nmos l h = h
@@ -303,7 +332,7 @@ function_sits cpu code m f runs numbers inside u =
 
 -- Routines
 
-routine_there : (code : Code) (r : Routine) → lines_in code (length code.symbols + number_of r) ≡ routine_lines r
+pub routine_there : (code : Code) (r : Routine) → lines_in code (length code.symbols + number_of r) ≡ routine_lines r
 routine_there code r =
     let f : ℕ = length code.symbols + number_of r in
     let low = numbered r in
@@ -396,10 +425,10 @@ start_sits cpu code m u =
 
 -- All units
 
-not_the_start : (code : Code) (f : ℕ) → (f ≡ start_number code → ⊥) → unit_lines code f ≡ lines_in code f
+pub not_the_start : (code : Code) (f : ℕ) → (f ≡ start_number code → ⊥) → unit_lines code f ≡ lines_in code f
 not_the_start code f h = ap (λ (b : Bool). if b then map (with_main (main_number code)) (lines_in code f) else lines_in code f) (ne_eqb f (start_number code) h)
 
-the_start : (code : Code) → unit_lines code (start_number code) ≡ map (with_main (main_number code)) (routine_lines (entry_of code))
+pub the_start : (code : Code) → unit_lines code (start_number code) ≡ map (with_main (main_number code)) (routine_lines (entry_of code))
 the_start code =
     ap (λ (b : Bool). if b then map (with_main (main_number code)) (lines_in code (start_number code)) else lines_in code (start_number code)) (eq-eqb (start_number code) (start_number code) refl)
     ∙ ap (map (with_main (main_number code))) (start_there code)

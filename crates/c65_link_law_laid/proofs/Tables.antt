@@ -21,7 +21,7 @@ all_there test (y ∷ xs) zero x h here = ap test (sym (same_there y x here)) �
 all_there test (y ∷ xs) (suc i) x h here = all_there test xs i x (and_parts (test y) (list_all test xs) h).1 here
 
 -- a test that all routines pass
-of_all : (test : Routine → Bool) (r : Routine) → list_all test ALL ≡ true → test r ≡ true
+pub of_all : (test : Routine → Bool) (r : Routine) → list_all test ALL ≡ true → test r ≡ true
 of_all test r h = all_there test ALL (number_of r) r h (routines_are_numbered r)
 
 abbrev is_operand_number : Operand → Bool
@@ -52,7 +52,7 @@ nmos_there r p l here = all_there is_nmos_line (routine_lines r) p l (of_all (λ
 abbrev pub is_start : Routine → Bool
 is_start r = nat_lt (number_of r) 2
 
-either : (a b : Bool) → (a || b) ≡ true → a ≡ false → b ≡ true
+pub either : (a b : Bool) → (a || b) ≡ true → a ≡ false → b ≡ true
 either true b h e = absurd cc
 either false b h e = h
 

@@ -40,9 +40,9 @@ pub record Served (g : Ground) (setting : Setting) (back : Place) (u : State) (n
   pub agrees : Agrees g (g.at back) u next
 
 -- the call and the hook
-pub two_rows : (g : Ground) (setting : Setting) (hook : ℕ) (back : Place) (t1 u : State) (now : Moment) (Q : Place → State → Type 0) → is_hook hook ≡ true → (m : Moved g setting hook t1 now) → Served g setting back u m.next → Q back u → u.ended ≡ None → Follows g setting 2 now Q
+pub two_rows : (g : Ground) (setting : Setting) (hook : ℕ) (back : Place) (t1 u : State) (now : Moment) (Q : Place → State → Type 0) → is_hook hook ≡ true → (m : Moved g setting hook t1 now) → Served g setting back u m.next → Q back u → u.ended ≡ None → Follows g setting 1 2 now Q
 two_rows g setting hook back t1 u now Q is m v holds running =
-    goes_on 2 v.next back u (omega arith) (more m.turn_is m.free (more v.turn_is (hooks_are_free m.next.machine hook m.agrees.pc is) none)) holds running v.agrees
+    goes_on 2 v.next back u (omega arith) (omega arith) (more m.turn_is m.free (more v.turn_is (hooks_are_free m.next.machine hook m.agrees.pc is) none)) holds running v.agrees
 
 -- the end of a hook that moves the sp
 pub ends_well : (g : Ground) (hook : ℕ) (back : Place) (t : State) (n : Moment) (answer to : ℕ) (ws : List (ℕ × ℕ)) (taken : ℕ) (out i o : List ℕ) → g.at back ≤ 65535

@@ -42,11 +42,11 @@ use Rattle.c65_link_law_runs.proofs.Arguments.{args_row, args_state, args_served
 -- Lines that call no hook
 
 followed : (g : Ground) (s : RawSetting) (setting : Setting) (bounds : Bounds) (f p : ℕ) (l : Line) (t : State) (now : Moment) → IsGround g s → IsLaid g s f → slice_get (s.lines f) p ≡ Some l → IsCounted g s (form_of l) → IsNoHook s (form_of l) t → HasByteOperand (form_of l)
-    → IsRunning t → stack_start ≤ bounds.soft → IsRawWithin s bounds (form_of l) t → Agrees g (g.at (f, p)) t now → Follows g setting (raw_weight (form_of l)) now (Leads s l (f, p) t)
+    → IsRunning t → stack_start ≤ bounds.soft → IsRawWithin s bounds (form_of l) t → Agrees g (g.at (f, p)) t now → Follows g setting 1 (raw_weight (form_of l)) now (Leads s l (f, p) t)
 followed g s setting bounds f p l t now ground laid here counted no_hook has r soft within a =
     let v = lines_are_followed g s setting bounds f p l t now ground laid here no_hook counted r.bytes soft within a in
     let k : IsKeptBy t v.state = kept_by (form_of l) s (f, p) t v.place v.state no_hook has r.bytes v.holds in
-    goes_on v.rows v.then_at v.place v.state v.within v.goes
+    goes_on v.rows v.then_at v.place v.state v.least v.within v.goes
     (record { moves = record { running = r.running; goes = v.holds; bytes = k.bytes }; input = subst (λ (xs : List ℕ). All (λ v. v < 256) xs) (sym k.input) r.input })
     (k.ended ∙ r.running) v.agrees
 
@@ -87,6 +87,14 @@ do_line g s f p op mode operand t laid here =
     let taken = and_parts (takes op mode operand) (not (is_barred op)) fit.1 in
     op_quiet (kind_of op) op mode operand s t taken.0 (byte_number operand (laid.numbers p (Do op mode operand) here))
 
+-- a line that calls no routine
+pub quiet_line : (l : Line) (g : Ground) (s : RawSetting) (f p : ℕ) (t : State) → IsLaid g s f → slice_get (s.lines f) p ≡ Some l → ((r : Routine) → form_of l ≡ Run r → ⊥) → IsNoHook s (form_of l) t × HasByteOperand (form_of l)
+quiet_line (Label k) g s f p t laid here other = (tt, tt)
+quiet_line (Do op mode operand) g s f p t laid here other = do_line g s f p op mode operand t laid here
+quiet_line (Call (callees.Routine r)) g s f p t laid here other = absurd (other r refl)
+quiet_line (Call (callees.Function h reads gives)) g s f p t laid here other = (tt, tt)
+quiet_line (Call (callees.Pointer reads gives)) g s f p t laid here other = (tt, tt)
+
 -- Calls of hooks
 
 -- the call itself
@@ -98,7 +106,7 @@ low_back : (g : Ground) (s : RawSetting) (q : Place) → IsGround g s → g.at q
 low_back g s q ground = (let to = ground.to q in let high = ground.high in omega (arith, to, high))
 
 hook_done : (g : Ground) (s : RawSetting) (setting : Setting) (f p : ℕ) (r : Routine) (hook : ℕ) (row : Row) (t u : State) (now : Moment) → hook_row s.args r t ≡ Some row → is_hook hook ≡ true → (m : Moved g setting hook (called (line_after s (f, p)) t) now) → Served g setting (line_after s (f, p)) u m.next → IsMetBy row t u → IsRunning t
-    → Follows g setting 2 now (Leads s (Call (callees.Routine r)) (f, p) t)
+    → Follows g setting 1 2 now (Leads s (Call (callees.Routine r)) (f, p) t)
 hook_done g s setting f p r hook row t u now is hooked m served met running =
     let back : Place = line_after s (f, p) in
     two_rows g setting hook back (called back t) u now (Leads s (Call (callees.Routine r)) (f, p) t) hooked m served
@@ -140,11 +148,11 @@ exit_met t = record {
   ended = refl;
 }
 
-exit_line : (g : Ground) (s : RawSetting) (setting : Setting) (f p : ℕ) (t : State) (now : Moment) → Moved g setting 0xFFF9 (called (line_after s (f, p)) t) now → IsRunning t → Follows g setting 2 now (Leads s (Call (callees.Routine routines.HookExit)) (f, p) t)
+exit_line : (g : Ground) (s : RawSetting) (setting : Setting) (f p : ℕ) (t : State) (now : Moment) → Moved g setting 0xFFF9 (called (line_after s (f, p)) t) now → IsRunning t → Follows g setting 1 2 now (Leads s (Call (callees.Routine routines.HookExit)) (f, p) t)
 exit_line g s setting f p t now m r =
     let b = r.bytes in
     let n : Moment = m.next in
-    has_ended 1 t.regs.a n (line_after s (f, p)) (exit_state t) (omega arith) (more m.turn_is m.free none) (hooks_are_free n.machine 0xFFF9 m.agrees.pc refl)
+    has_ended 1 t.regs.a n (line_after s (f, p)) (exit_state t) (omega arith) (omega arith) (more m.turn_is m.free none) (hooks_are_free n.machine 0xFFF9 m.agrees.pc refl)
     (turn_there setting n 0xFFF9 m.agrees.pc ∙ ap (λ (x : Regs). Ended n x.a) m.agrees.regs)
     (record {
       moves = record { running = r.running; goes = (refl, exit_met t); bytes = record { a = b.a; x = b.x; y = b.y; zp = b.zp; mem = b.mem; pushed = b.pushed; frames = b.frames } };
@@ -153,31 +161,31 @@ exit_line g s setting f p t now m r =
     refl (sym m.agrees.output)
 
 read_line : (g : Ground) (s : RawSetting) (setting : Setting) (bounds : Bounds) (f p : ℕ) (t : State) (now : Moment) → IsGround g s → IsSetFor s setting → stack_start ≤ bounds.soft → Moved g setting 0xFFF6 (called (line_after s (f, p)) t) now → IsRunning t
-    → IsHookWithin s.place bounds (Some (read_row (word_at t.mem (sp_of t + 2) == 0) t)) t → Follows g setting 2 now (Leads s (Call (callees.Routine routines.HookRead)) (f, p) t)
+    → IsHookWithin s.place bounds (Some (read_row (word_at t.mem (sp_of t + 2) == 0) t)) t → Follows g setting 1 2 now (Leads s (Call (callees.Routine routines.HookRead)) (f, p) t)
 read_line g s setting bounds f p t now ground set soft m r within = by (word_at t.mem (sp_of t + 2) == 0) refl within
   where
     low : (b : Bool) → IsHookWithin s.place bounds (Some (read_row b t)) t → sp_of t + 4 < 65536
     low true w = sp_low s bounds g t ground soft w.1
     low false w = sp_low s bounds g t ground soft w.1
 
-    by : (b : Bool) → (word_at t.mem (sp_of t + 2) == 0) ≡ b → IsHookWithin s.place bounds (Some (read_row b t)) t → Follows g setting 2 now (Leads s (Call (callees.Routine routines.HookRead)) (f, p) t)
+    by : (b : Bool) → (word_at t.mem (sp_of t + 2) == 0) ≡ b → IsHookWithin s.place bounds (Some (read_row b t)) t → Follows g setting 1 2 now (Leads s (Call (callees.Routine routines.HookRead)) (f, p) t)
     by b e w = hook_done g s setting f p routines.HookRead 0xFFF6 (read_row b t) t (read_state b t) now (ap (λ (c : Bool). Some (read_row c t)) e) refl m
         (read_served g s setting bounds (line_after s (f, p)) t m.next b ground set soft m.agrees (low_back g s (line_after s (f, p)) ground) e w) (read_met b t r (low b w)) r
 
 write_line : (g : Ground) (s : RawSetting) (setting : Setting) (bounds : Bounds) (f p : ℕ) (t : State) (now : Moment) → IsGround g s → IsSetFor s setting → stack_start ≤ bounds.soft → Moved g setting 0xFFF7 (called (line_after s (f, p)) t) now → IsRunning t
-    → IsHookWithin s.place bounds (Some (write_row (word_at t.mem (sp_of t + 2) == 1) t)) t → Follows g setting 2 now (Leads s (Call (callees.Routine routines.HookWrite)) (f, p) t)
+    → IsHookWithin s.place bounds (Some (write_row (word_at t.mem (sp_of t + 2) == 1) t)) t → Follows g setting 1 2 now (Leads s (Call (callees.Routine routines.HookWrite)) (f, p) t)
 write_line g s setting bounds f p t now ground set soft m r within = by (word_at t.mem (sp_of t + 2) == 1) refl within
   where
     low : (b : Bool) → IsHookWithin s.place bounds (Some (write_row b t)) t → sp_of t + 4 < 65536
     low true w = sp_low s bounds g t ground soft w.1
     low false w = sp_low s bounds g t ground soft w.1
 
-    by : (b : Bool) → (word_at t.mem (sp_of t + 2) == 1) ≡ b → IsHookWithin s.place bounds (Some (write_row b t)) t → Follows g setting 2 now (Leads s (Call (callees.Routine routines.HookWrite)) (f, p) t)
+    by : (b : Bool) → (word_at t.mem (sp_of t + 2) == 1) ≡ b → IsHookWithin s.place bounds (Some (write_row b t)) t → Follows g setting 1 2 now (Leads s (Call (callees.Routine routines.HookWrite)) (f, p) t)
     by b e w = hook_done g s setting f p routines.HookWrite 0xFFF7 (write_row b t) t (write_state b t) now (ap (λ (c : Bool). Some (write_row c t)) e) refl m
         (write_served g s setting bounds (line_after s (f, p)) t m.next b ground set soft m.agrees (low_back g s (line_after s (f, p)) ground) e w) (write_met b t r (low b w)) r
 
 call_line : (callee : Callee) (g : Ground) (s : RawSetting) (setting : Setting) (bounds : Bounds) (f p : ℕ) (t : State) (now : Moment) → IsGround g s → IsLaid g s f → IsSetFor s setting → slice_get (s.lines f) p ≡ Some (Call callee) → IsCounted g s (form_of (Call callee)) → HasArgumentRoom s (form_of (Call callee)) t
-    → IsRunning t → stack_start ≤ bounds.soft → IsRawWithin s bounds (form_of (Call callee)) t → Agrees g (g.at (f, p)) t now → Follows g setting (raw_weight (form_of (Call callee))) now (Leads s (Call callee) (f, p) t)
+    → IsRunning t → stack_start ≤ bounds.soft → IsRawWithin s bounds (form_of (Call callee)) t → Agrees g (g.at (f, p)) t now → Follows g setting 1 (raw_weight (form_of (Call callee))) now (Leads s (Call callee) (f, p) t)
 call_line (callees.Function h reads gives) g s setting bounds f p t now ground laid set here counted room r soft within a = followed g s setting bounds f p (Call (callees.Function h reads gives)) t now ground laid here counted tt tt r soft within a
 call_line (callees.Pointer reads gives) g s setting bounds f p t now ground laid set here counted room r soft within a = followed g s setting bounds f p (Call (callees.Pointer reads gives)) t now ground laid here counted tt tt r soft within a
 call_line (callees.Routine routines.HookOpen) g s setting bounds f p t now ground laid set here counted room r soft within a =

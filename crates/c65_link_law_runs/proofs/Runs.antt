@@ -31,10 +31,11 @@ goes_both setting j k zero a b c e (more {k = i} is free rest) more_rows = absur
 goes_both setting j k (suc n) a b c e (more {k = i} {n = m} is free rest) more_rows = more {n = m} is free (goes_both setting i k n m b c (omega (arith, e)) rest more_rows)
 
 -- rows that come before
-pub first_rows : (g : Ground) (setting : Setting) (j w most : ℕ) (now m : Moment) (Q : Place → State → Type 0) → j + w ≤ most → Goes setting j now m → Follows g setting w m Q → Follows g setting most now Q
-first_rows g setting j w most now m Q le first (goes_on rows then_at q u within goes holds running agrees) = goes_on (j + rows) then_at q u (omega (arith, within, le)) (goes_both setting j rows (j + rows) now m then_at refl first goes) holds running agrees
-first_rows g setting j w most now m Q le first (has_ended rows status last q u within goes free turn_is holds ended output) =
-    has_ended (j + rows) status last q u (omega (arith, within, le)) (goes_both setting j rows (j + rows) now m last refl first goes) free turn_is holds ended output
+pub first_rows : (g : Ground) (setting : Setting) (j least w most : ℕ) (now m : Moment) (Q : Place → State → Type 0) → least ≤ j → j + w ≤ most → Goes setting j now m → Follows g setting 0 w m Q → Follows g setting least most now Q
+first_rows g setting j least w most now m Q few le first (goes_on rows then_at q u some within goes holds running agrees) =
+    goes_on (j + rows) then_at q u (omega (arith, few)) (omega (arith, within, le)) (goes_both setting j rows (j + rows) now m then_at refl first goes) holds running agrees
+first_rows g setting j least w most now m Q few le first (has_ended rows status last q u some within goes free turn_is holds ended output) =
+    has_ended (j + rows) status last q u (omega (arith, few)) (omega (arith, within, le)) (goes_both setting j rows (j + rows) now m last refl first goes) free turn_is holds ended output
 
 -- What each move within the bounds keeps: the lines stand where they lead, and what a line asks for holds.
 pub record IsKept (g : Ground) (s : RawSetting) (bounds : Bounds) (Inv : Place → State → Type 0) : Type 0 where
@@ -50,19 +51,19 @@ at_end s bounds Q v status q u ended (on l at running within le next) = absurd (
 
 after_move : (g : Ground) (s : RawSetting) (setting : Setting) (bounds : Bounds) (Q Inv : Place → State → Type 0) (c v w : ℕ) (l : Line) (p : Place) (t : State) (now : Moment) → c + v ≤ w
     → ((q : Place) (u : State) → RawMoves s l p t q u → Inv q u) → ((q : Place) (u : State) → RawMoves s l p t q u → RawComes s bounds Q v q u)
-    → ((m : Moment) (q : Place) (u : State) → RawMoves s l p t q u → IsRunning u → Agrees g (g.at q) u m → Follows g setting v m (HasCome Q Inv))
-    → Follows g setting c now (Leads s l p t) → Follows g setting w now (HasCome Q Inv)
-after_move g s setting bounds Q Inv c v w l p t now le kept next rest (goes_on rows m q u within goes leads running agrees) =
-    first_rows g setting rows v w now m (HasCome Q Inv) (omega (arith, within, le)) goes (rest m q u leads.moves (record { running = running; bytes = leads.moves.bytes; input = leads.input }) agrees)
-after_move g s setting bounds Q Inv c v w l p t now le kept next rest (has_ended rows status last q u within goes free turn_is leads ended output) =
-    has_ended rows status last q u (omega (arith, within, le)) goes free turn_is
+    → ((m : Moment) (q : Place) (u : State) → RawMoves s l p t q u → IsRunning u → Agrees g (g.at q) u m → Follows g setting 0 v m (HasCome Q Inv))
+    → Follows g setting 1 c now (Leads s l p t) → Follows g setting 0 w now (HasCome Q Inv)
+after_move g s setting bounds Q Inv c v w l p t now le kept next rest (goes_on rows m q u some within goes leads running agrees) =
+    first_rows g setting rows 0 v w now m (HasCome Q Inv) (omega arith) (omega (arith, within, le)) goes (rest m q u leads.moves (record { running = running; bytes = leads.moves.bytes; input = leads.input }) agrees)
+after_move g s setting bounds Q Inv c v w l p t now le kept next rest (has_ended rows status last q u some within goes free turn_is leads ended output) =
+    has_ended rows status last q u (omega arith) (omega (arith, within, le)) goes free turn_is
     (record { holds = at_end s bounds Q v status q u ended (next q u leads.moves); kept = kept q u leads.moves; bytes = leads.moves.bytes; input = leads.input }) ended output
 
 -- where lines come to Q within a weight, at most so many rows come to it, over an invariant that each move keeps
 pub follow_raw : (g : Ground) (s : RawSetting) (setting : Setting) (bounds : Bounds) (Q Inv : Place → State → Type 0) (w : ℕ) (p : Place) (t : State) (now : Moment) → IsGround g s → IsSetFor s setting → stack_start ≤ bounds.soft → IsKept g s bounds Inv
-    → RawComes s bounds Q w p t → Inv p t → IsRunning t → Agrees g (g.at p) t now → Follows g setting w now (HasCome Q Inv)
+    → RawComes s bounds Q w p t → Inv p t → IsRunning t → Agrees g (g.at p) t now → Follows g setting 0 w now (HasCome Q Inv)
 follow_raw g s setting bounds Q Inv w p t now ground set soft kept (here holds) inv r a =
-    goes_on 0 now p t (omega arith) none (record { holds = holds; kept = inv; bytes = r.bytes; input = r.input }) r.running a
+    goes_on 0 now p t (omega arith) (omega arith) none (record { holds = holds; kept = inv; bytes = r.bytes; input = r.input }) r.running a
 follow_raw g s setting bounds Q Inv w p t now ground set soft kept (on {v = v} l at running within le next) inv r a =
     after_move g s setting bounds Q Inv (raw_weight (form_of l)) v w l p t now le
     (λ q u m. kept.on p q t u l inv at within m) next

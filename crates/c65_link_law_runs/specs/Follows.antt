@@ -9,12 +9,13 @@ use Rattle.c65_code.specs.Forms.{Form, Run}
 use Rattle.c65_code.specs.RawMachine.{RawSetting, args_size}
 use Rattle.c65_link_law_follow.specs.Agree.{Ground, Agrees, Goes}
 
--- At most so many rows lead to a moment that agrees with a place and state of Q, or to the end of the run, with the status and the
+-- At least and at most so many rows lead to a moment that agrees with a place and state of Q, or to the end of the run, with the status and the
 -- output of one.
-pub data Follows (g : Ground) (setting : Setting) (most : ℕ) (now : Moment) (Q : Place → State → Type 0) : Type 0 where
-  goes_on : (rows : ℕ) (then_at : Moment) (q : Place) (u : State) → rows ≤ most → Goes setting rows now then_at → Q q u → u.ended ≡ None → Agrees g (g.at q) u then_at → Follows g setting most now Q
-  has_ended : (rows status : ℕ) (last : Moment) (q : Place) (u : State) → rows + 1 ≤ most → Goes setting rows now last → is_too_deep last.machine ≡ false → turn setting last ≡ Ended last status
-      → Q q u → u.ended ≡ Some status → u.output ≡ last.output → Follows g setting most now Q
+pub data Follows (g : Ground) (setting : Setting) (least most : ℕ) (now : Moment) (Q : Place → State → Type 0) : Type 0 where
+  goes_on : (rows : ℕ) (then_at : Moment) (q : Place) (u : State) → least ≤ rows → rows ≤ most → Goes setting rows now then_at → Q q u → u.ended ≡ None → Agrees g (g.at q) u then_at
+      → Follows g setting least most now Q
+  has_ended : (rows status : ℕ) (last : Moment) (q : Place) (u : State) → least ≤ rows + 1 → rows + 1 ≤ most → Goes setting rows now last → is_too_deep last.machine ≡ false → turn setting last ≡ Ended last status
+      → Q q u → u.ended ≡ Some status → u.output ≡ last.output → Follows g setting least most now Q
 
 -- the simulator has the software stack's pointer at 0, and gives the arguments of the machine on lines, which are bytes
 pub record IsSetFor (s : RawSetting) (setting : Setting) : Type 0 where

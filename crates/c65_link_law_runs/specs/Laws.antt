@@ -20,12 +20,12 @@ pub record Leads (s : RawSetting) (l : Line) (p : Place) (t : State) (q : Place)
   pub moves : RawMoves s l p t q u
   pub input : All (λ v. v < 256) u.input
 
--- A line that stays within its bounds is followed by at most as many rows as it weighs.
+-- A line that stays within its bounds is followed by at least one row and at most as many as it weighs.
 abbrev pub MovesAreFollowed : Type 0
 MovesAreFollowed = (g : Ground) (s : RawSetting) (setting : Setting) (bounds : Bounds) (f p : ℕ) (l : Line) (t : State) (now : Moment)
     → IsGround g s → IsLaid g s f → IsSetFor s setting → slice_get (s.lines f) p ≡ Some l → IsCounted g s (form_of l) → HasArgumentRoom s (form_of l) t
     → IsRunning t → stack_start ≤ bounds.soft → IsRawWithin s bounds (form_of l) t → Agrees g (g.at (f, p)) t now
-    → Follows g setting (raw_weight (form_of l)) now (Leads s l (f, p) t)
+    → Follows g setting 1 (raw_weight (form_of l)) now (Leads s l (f, p) t)
 
 -- The units that a run may come to: their lines stand in memory and ask for nothing beside the bounds, and what they call is
 -- among them.
@@ -53,4 +53,4 @@ pub record HasCome (Q Inv : Place → State → Type 0) (q : Place) (u : State) 
 abbrev pub RunsAreFollowed : Type 0
 RunsAreFollowed = (g : Ground) (s : RawSetting) (setting : Setting) (bounds : Bounds) (units : ℕ → Bool) (row : Row) (back : Place) (first : State) (w : ℕ) (p : Place) (t : State) (now : Moment)
     → IsGround g s → IsSetFor s setting → stack_start ≤ bounds.soft → AreUnits g s units → RawComes s bounds (HasDone row.ends row back first) w p t → IsAmong units p t → IsRunning t → Agrees g (g.at p) t now
-    → Follows g setting w now (HasCome (HasDone row.ends row back first) (IsAmong units))
+    → Follows g setting 0 w now (HasCome (HasDone row.ends row back first) (IsAmong units))

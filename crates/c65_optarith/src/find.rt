@@ -4,11 +4,11 @@ ghost use Rattle.c65_pass.specs.ArithRules.{both_gone_if, idle_compare, stepped_
 ghost use Rattle.c65_pass.specs.Passes.{Answers};
 ghost use Rattle.c65_pass.specs.Rules.{match_at};
 
-use crate::joined::joined_masks;
-use crate::windows::{
+use crate::conditions::{
     is_dead_arithmetic, is_dead_carry, is_dead_compare, is_idle_carry, is_idle_compare,
     is_idle_mask, is_idle_sum, is_stepped_back,
 };
+use crate::joined::joined_masks;
 use c65_code::Line;
 use c65_know::Noted;
 use c65_live::LiveTable;

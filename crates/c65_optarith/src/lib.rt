@@ -2,12 +2,12 @@
 #![tactic(auto)]
 
 mod arith;
+mod conditions;
 mod facts;
 mod find;
 mod joined;
 mod operations;
 mod samples;
-mod windows;
 
 pub use arith::optimise_arith;
 pub use samples::{worked_bytes, worked_flags};

@@ -1,13 +1,9 @@
 -- Each of the rules keeps what rewritings keep.
-use Rattle.std.proofs.Common.{◌≡◌, ℕ, List, [], ◌∷◌, drop, Some, refl}
+use Rattle.std.proofs.Common.{ℕ, List, []}
 use Rattle.std.specs.Prelude.{slice_get}
-use Rattle.c65_code.specs.declared.line.Line.{Line}
 use Rattle.c65_code.specs.declared.line.Sym.{Sym}
-use Rattle.c65_know.specs.Known.{Annotated}
-use Rattle.c65_live.specs.Tables.{Table}
 use Rattle.c65_pass.specs.Passes.{IsGood}
 use Rattle.c65_pass.specs.Rounds.{IsRuleOf, AreGood}
-use Rattle.c65_pass.specs.Rewriting.{Rewriting, Keeps}
 use Rattle.c65_pass.proofs.Places.{at_line}
 use Rattle.c65_pass.proofs.Turns.{good_one, good_more}
 use Rattle.c65_optflow.proofs.Rules.{idle_jump_keeps, idle_branch_keeps, unreached_keeps, long_jump_keeps, long_branch_keeps, round_branch_keeps, passed_branch_keeps, passed_over_keeps}

@@ -6,8 +6,10 @@ mod facts;
 mod find;
 mod load;
 mod others;
+mod samples;
 
 pub use load::optimise_load;
+pub use samples::worked_rules;
 
 #[cfg(test)]
 mod tests;

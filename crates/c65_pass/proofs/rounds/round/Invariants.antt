@@ -1,4 +1,4 @@
-use Rattle.std.proofs.Common.{◌≡◌, ℕ, ◌<◌, ◌≤◌, []}
+use Rattle.std.proofs.Common.{◌≡◌, ℕ, ◌<◌, ◌≤◌}
 use Rattle.c65_code.specs.Segments.{IsSegment}
 use Rattle.c65_pass.specs.Passes.{counted}
 use Rattle.c65_pass.specs.Rounds.{InTurn, AreFree, RulesRewrite}

@@ -1,4 +1,4 @@
-use Rattle.std.proofs.Common.{rules, sym, subst}
+use Rattle.std.proofs.Common.{rules}
 use Rattle.c65_pass.proofs.Chains.{refused_early}
 use Rattle.c65_pass.proofs.run.run_pass.Goals as goal
 

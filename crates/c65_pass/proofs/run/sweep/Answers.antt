@@ -1,4 +1,4 @@
-use Rattle.std.proofs.Common.{rules, ◌≡◌, List, ◌-◌, ◌^◌, ◌≤◌, suc, length, refl, arith, ap, sym, subst, ◌∙◌}
+use Rattle.std.proofs.Common.{rules, ◌-◌, ◌^◌, ◌≤◌, suc, length, refl, arith, ap, sym, subst, ◌∙◌}
 use Rattle.c65_pass.specs.Passes.{none}
 use Rattle.c65_pass.proofs.Chains.{clean_more, keeps_next, next_chain, next_noted, next_smaller, count_one, not_none, nowhere}
 use Rattle.c65_pass.proofs.run.sweep.Goals as goal

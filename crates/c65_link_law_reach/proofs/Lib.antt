@@ -1,0 +1,6 @@
+pub mod Units
+pub mod Steps
+pub mod Local
+pub mod Calls
+pub mod Pointers
+pub mod Reach

@@ -1,0 +1,4 @@
+pub mod Deep
+pub mod Steps
+pub mod Putchar
+pub mod Getchar
