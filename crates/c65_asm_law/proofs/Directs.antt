@@ -146,7 +146,7 @@ word_through_well n at low high h k =
     let last : AllWell n (value Ldy (byte_more at 1) ∷ implied Txa ∷ by_y Sta ptr1 ∷ implied Dey ∷ implied Pla ∷ by_y Sta ptr1 ∷ []) = record { all = search rules } in
     well_more n _ _ (tt, tt) (well_append n (point_code low high) _ (point_well n low high h k) last)
 
-label_one : (n l : ℕ) → l < 2 ^ 32 → AllWell n (Label l ∷ [])
+pub label_one : (n l : ℕ) → l < 2 ^ 32 → AllWell n (Label l ∷ [])
 label_one n l low = record { all = (low, tt) }
 
 pub labelled_well : (n l : ℕ) (lines : List Line) → l < 2 ^ 32 → AllWell n lines → AllWell n (labelled l lines)
@@ -154,7 +154,7 @@ labelled_well n l lines low h = well_append n lines _ h (label_one n l low)
 
 -- ---- operators on words
 
-carry_well : (n : ℕ) (op : BinaryOp) → AllWell n (carry_code op)
+pub carry_well : (n : ℕ) (op : BinaryOp) → AllWell n (carry_code op)
 carry_well n ops.Add = record { all = ((tt, tt), tt) }
 carry_well n ops.Sub = record { all = ((tt, tt), tt) }
 carry_well n _ = well_none n

@@ -66,7 +66,7 @@ use Rattle.c65_asm_law.proofs.Places.{place_well, object_well, further_well, spi
 use Rattle.c65_asm_law.proofs.Directs.{WellRead, read_store_well, byte_through_well, word_through_well, zero_test_well, truth_well}
 use Rattle.c65_asm_law.proofs.Forms.{WellStoring, storing_well, kept_well, own_well, comparing_well, comparison_well, operating_well, operator_well}
 
-target_well : (n : ℕ) (p : Place) (code : List Line) → AllWell n code → AllWell n (target_code p code)
+pub target_well : (n : ℕ) (p : Place) (code : List Line) → AllWell n code → AllWell n (target_code p code)
 target_well n (places.Far at) code h = h
 target_well n (places.Bank b) code h = well_none n
 target_well n (places.Near at) code h = well_none n
@@ -323,7 +323,7 @@ mutual
       wanted_well n w (width_in t) _ aim (well_append n (expr_code f pushed lo Value e) _ (called_well n u f pushed lo t e knows h.0 few room) (spill_well n (object_code f pushed i) (extent_by (type_bytes f (type_in t))) (object_well n f pushed i few (knows.objects i (slice_get_within u.objects i h.1.object h.1.there)))))
   node_well n u f pushed lo w t further knows h few aim room = wanted_well n w (width_in t) _ aim (further_well n f pushed few)
 
-  base_well : (n : ℕ) (u : UnitTy) (f : Framed) (pushed lo : ℕ) (e : Typed) → Knows f u n → IsTyped u e → pushed < 2 ^ 16 → lo + uses None e ≤ 2 ^ 32 → AllWell n (base_code f pushed lo e)
+  pub base_well : (n : ℕ) (u : UnitTy) (f : Framed) (pushed lo : ℕ) (e : Typed) → Knows f u n → IsTyped u e → pushed < 2 ^ 16 → lo + uses None e ≤ 2 ^ 32 → AllWell n (base_code f pushed lo e)
   base_well n u f pushed lo (node t (deref e)) knows h few room = pointer_base_well n u f pushed lo e knows h.0 few room
   base_well n u f pushed lo (node t (member e m)) knows h few room =
       let k : ℕ = offset_at (types_of f.parts.types) (bare e) m in

@@ -36,7 +36,7 @@ use Rattle.c65_genstmt.specs.declared.objects.Spot.TheVariants.{Bank, Soft, Data
 use Rattle.c65_genstmt.specs.Cases.{room_of}
 use Rattle.c65_genstmt.specs.Jumps.{following, with_value, with_test}
 use Rattle.c65_genstmt.specs.Objects.{spot_of, object_bytes, with_kept, with_zeros}
-use Rattle.c65_genstmt.specs.Stmts.{case_behind, with_label, with_jump, two_given, three_given, with_maybe, with_guard, ways, with_choice, with_stmt, with_stmts}
+use Rattle.c65_genstmt.specs.Stmts.{case_behind, with_label, with_jump, two_given, three_given, with_maybe, with_effects, with_guard, ways, with_choice, with_stmt, with_stmts}
 use Rattle.c65_genstmt.specs.Functions.{gives_of, main_code, no_lines, with_function, segment_of, function_of}
 use Rattle.c65_genstmt.specs.Programs.{one_more, function_added, functions_from}
 use Rattle.c65_gen_law_lines.proofs.FrameLaws.{answered}
@@ -64,6 +64,10 @@ maybe_out : (f : Framed) (e : MaybeTyped) (d : Drafted) → (with_maybe f e d).o
 maybe_out f absent d = refl
 maybe_out f (present e) d = refl
 
+effects_out : (f : Framed) (e : MaybeTyped) (d : Drafted) → (with_effects f e d).out ≡ d.out
+effects_out f absent d = refl
+effects_out f (present e) d = refl
+
 guard_out : (f : Framed) (to : ℕ) (e : MaybeTyped) (d : Drafted) → (with_guard f to e d).out ≡ d.out
 guard_out f to absent d = refl
 guard_out f to (present e) d = refl
@@ -82,12 +86,12 @@ mutual
   stmt_out f w l (while e a) d = stmt_out f (ways (d.labels + 1) d.labels w.other) l a (with_test f (d.labels + 1) false e (with_label d.labels (two_given d)))
   stmt_out f w l (do_while a e) d = stmt_out f (ways (d.labels + 1 + 1) (d.labels + 1) w.other) l a (with_label d.labels (three_given d))
   stmt_out f w l (for_loop i c n a) d =
-      let g : Drafted = with_maybe f i d in
+      let g : Drafted = with_effects f i d in
       let m1 : Drafted = with_label g.labels (three_given g) in
       let m2 : Drafted = with_guard f (g.labels + 1 + 1) c m1 in
       let inner : Ways = ways (g.labels + 1 + 1) (g.labels + 1) w.other in
       let m3 : Drafted = with_stmt f inner l a m2 in
-      maybe_out f n (with_label (g.labels + 1) m3) ∙ (stmt_out f inner l a m2 ∙ (guard_out f (g.labels + 1 + 1) c m1 ∙ maybe_out f i d))
+      effects_out f n (with_label (g.labels + 1) m3) ∙ (stmt_out f inner l a m2 ∙ (guard_out f (g.labels + 1 + 1) c m1 ∙ effects_out f i d))
   stmt_out f w l (switch e a) d = stmt_out f (ways d.labels w.onward (d.labels + 1)) (d.labels + 1 + 1) a (with_choice f e a d)
   stmt_out f w l (case z a) d = stmt_out f w (following l) a (with_label l d)
   stmt_out f w l (default a) d = stmt_out f w l a (with_label w.other d)

@@ -7,6 +7,7 @@ pub mod Places
 pub mod Directs
 pub mod Forms
 pub mod Exprs
+pub mod Effects
 pub mod Moves
 pub mod Objects
 pub mod Stmts

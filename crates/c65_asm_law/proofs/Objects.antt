@@ -26,20 +26,25 @@ use Rattle.c65_genentry.specs.Words.{ptr1, ptr2, zero_page, with_code}
 use Rattle.c65_genentry.specs.Pointers as pointers
 use Rattle.c65_genentry.specs.Bytes.{block_labels}
 use Rattle.c65_genentry.specs.Bytes as blocks
+use Rattle.c65_geneffect.specs.Effects.{effect_code}
 use Rattle.c65_genstmt.specs.declared.objects.Spot.{Spot}
 use Rattle.c65_genstmt.specs.declared.objects.Spot.TheVariants.{Bank, Soft, Data}
-use Rattle.c65_genstmt.specs.Jumps.{with_value, with_test}
+use Rattle.c65_genstmt.specs.Jumps.{with_value, with_effect, with_test}
 use Rattle.c65_genstmt.specs.Objects.{spot_at, spot_of, point_code, stored_code, with_copied, with_kept, with_set, with_zeros}
 use Rattle.c65_asm_law.proofs.Well.{AllWell, well_append, well_none}
 use Rattle.c65_asm_law.proofs.Loads.{store_well}
 use Rattle.c65_asm_law.proofs.Known.{Knows}
 use Rattle.c65_asm_law.proofs.Exprs.{expr_well, given_well}
+use Rattle.c65_asm_law.proofs.Effects.{effect_well}
 use Rattle.c65_asm_law.proofs.Entries.{near_well, far_store_well, bank_clear_well, clear_well, copy_well}
 
 -- ---- values
 
 pub value_well : (n : ℕ) (u : UnitTy) (f : Framed) (e : Typed) (d : Drafted) → Knows f u n → IsTyped u e → (with_value f e d).labels ≤ 2 ^ 32 → AllWell n d.lines → AllWell n (with_value f e d).lines
 value_well n u f e d knows typed few h = well_append n d.lines (expr_code f 0 d.labels Value e) h (expr_well n u f 0 d.labels Value e knows typed (omega arith) tt few)
+
+pub effect_put_well : (n : ℕ) (u : UnitTy) (f : Framed) (e : Typed) (d : Drafted) → Knows f u n → IsTyped u e → (with_effect f e d).labels ≤ 2 ^ 32 → AllWell n d.lines → AllWell n (with_effect f e d).lines
+effect_put_well n u f e d knows typed few h = well_append n d.lines (effect_code f 0 d.labels e) h (effect_well n u f 0 d.labels e knows typed (omega arith) few)
 
 pub returned_well : (n : ℕ) (u : UnitTy) (f : Framed) (e : Typed) (d : Drafted) → Knows f u n → IsGiven u e → (with_value f e d).labels ≤ 2 ^ 32 → AllWell n d.lines → AllWell n (with_value f e d).lines
 returned_well n u f e d knows given few h = well_append n d.lines (expr_code f 0 d.labels Value e) h (given_well n u f 0 d.labels e knows given (omega arith) few)

@@ -15,14 +15,14 @@ use Rattle.c65_genentry.specs.Drafts.{with_labels}
 use Rattle.c65_genentry.specs.Words.{jump, with_code}
 use Rattle.c65_genentry.specs.Choice.{choice_code}
 use Rattle.c65_genstmt.specs.declared.jumps.Ways.{Ways}
-use Rattle.c65_genstmt.specs.Jumps.{following, with_value, with_test}
+use Rattle.c65_genstmt.specs.Jumps.{following, with_value, with_effect, with_test}
 use Rattle.c65_genstmt.specs.Objects.{spot_of, object_bytes}
 use Rattle.c65_genstmt.specs.Cases.{has_default}
-use Rattle.c65_genstmt.specs.Stmts.{case_behind, case_behind_all, with_label, with_jump, two_given, three_given, with_maybe, with_guard, ways, default_way, with_choice, with_stmt, with_stmts, with_cases}
+use Rattle.c65_genstmt.specs.Stmts.{case_behind, case_behind_all, with_label, with_jump, two_given, three_given, with_maybe, with_effects, with_guard, ways, default_way, with_choice, with_stmt, with_stmts, with_cases}
 use Rattle.c65_asm_law.proofs.Well.{AllWell, well_append}
 use Rattle.c65_asm_law.proofs.Known.{Knows}
 use Rattle.c65_asm_law.proofs.Entries.{choice_well}
-use Rattle.c65_asm_law.proofs.Objects.{value_well, returned_well, test_well, spot_well, set_grows, set_well, zeros_grow, zeros_well}
+use Rattle.c65_asm_law.proofs.Objects.{value_well, effect_put_well, returned_well, test_well, spot_well, set_grows, set_well, zeros_grow, zeros_well}
 
 -- where jumps lead
 pub record WellWays (w : Ways) : Type 0 where
@@ -42,6 +42,10 @@ maybe_grows : (f : Framed) (e : MaybeTyped) (d : Drafted) → d.labels ≤ (with
 maybe_grows f absent d = omega arith
 maybe_grows f (present e) d = omega arith
 
+effects_grow : (f : Framed) (e : MaybeTyped) (d : Drafted) → d.labels ≤ (with_effects f e d).labels
+effects_grow f absent d = omega arith
+effects_grow f (present e) d = omega arith
+
 guard_grows : (f : Framed) (to : ℕ) (e : MaybeTyped) (d : Drafted) → d.labels ≤ (with_guard f to e d).labels
 guard_grows f to absent d = omega arith
 guard_grows f to (present e) d = omega arith
@@ -60,10 +64,10 @@ mutual
   stmt_grows f w l (while e a) d = omega (arith, stmt_grows f (ways (d.labels + 1) d.labels w.other) l a (with_test f (d.labels + 1) false e (with_label d.labels (two_given d))))
   stmt_grows f w l (do_while a e) d = omega (arith, stmt_grows f (ways (d.labels + 1 + 1) (d.labels + 1) w.other) l a (with_label d.labels (three_given d)))
   stmt_grows f w l (for_loop i c n a) d =
-      let g : Drafted = with_maybe f i d in
+      let g : Drafted = with_effects f i d in
       let t : Drafted = with_guard f (g.labels + 1 + 1) c (with_label g.labels (three_given g)) in
       let body : Drafted = with_stmt f (ways (g.labels + 1 + 1) (g.labels + 1) w.other) l a t in
-      omega (arith, maybe_grows f i d, guard_grows f (g.labels + 1 + 1) c (with_label g.labels (three_given g)), stmt_grows f (ways (g.labels + 1 + 1) (g.labels + 1) w.other) l a t, maybe_grows f n (with_label (g.labels + 1) body))
+      omega (arith, effects_grow f i d, guard_grows f (g.labels + 1 + 1) c (with_label g.labels (three_given g)), stmt_grows f (ways (g.labels + 1 + 1) (g.labels + 1) w.other) l a t, effects_grow f n (with_label (g.labels + 1) body))
   stmt_grows f w l (switch e a) d = omega (arith, stmt_grows f (ways d.labels w.onward (d.labels + 1)) (d.labels + 1 + 1) a (with_choice f e a d))
   stmt_grows f w l (case z a) d = stmt_grows f w (following l) a (with_label l d)
   stmt_grows f w l (default a) d = stmt_grows f w l a (with_label w.other d)
@@ -97,9 +101,9 @@ mutual
 
 -- ---- parts of statements
 
-maybe_well : (n : ℕ) (u : UnitTy) (f : Framed) (e : MaybeTyped) (d : Drafted) → Knows f u n → IsMaybe u e → (with_maybe f e d).labels ≤ 2 ^ 32 → AllWell n d.lines → AllWell n (with_maybe f e d).lines
-maybe_well n u f absent d knows typed few h = h
-maybe_well n u f (present e) d knows typed few h = value_well n u f e d knows typed few h
+effects_well : (n : ℕ) (u : UnitTy) (f : Framed) (e : MaybeTyped) (d : Drafted) → Knows f u n → IsMaybe u e → (with_effects f e d).labels ≤ 2 ^ 32 → AllWell n d.lines → AllWell n (with_effects f e d).lines
+effects_well n u f absent d knows typed few h = h
+effects_well n u f (present e) d knows typed few h = effect_put_well n u f e d knows typed few h
 
 guard_well : (n : ℕ) (u : UnitTy) (f : Framed) (to : ℕ) (e : MaybeTyped) (d : Drafted) → Knows f u n → IsMaybeCondition u e → to < 2 ^ 32 → (with_guard f to e d).labels ≤ 2 ^ 32 → AllWell n d.lines → AllWell n (with_guard f to e d).lines
 guard_well n u f to absent d knows typed low few h = h
@@ -123,7 +127,7 @@ head_well n u f e a d knows typed room few low h =
 mutual
   pub stmt_well : (n : ℕ) (u : UnitTy) (c : Context) (f : Framed) (w : Ways) (l : ℕ) (s : Stmt) (d : Drafted) → Knows f u n → IsStmt u c s → WellWays w → l < 2 ^ 32 → (with_stmt f w l s d).labels < 2 ^ 32 → AllWell n d.lines → AllWell n (with_stmt f w l s d).lines
   stmt_well n u c f w l empty d knows typed go low few h = h
-  stmt_well n u c f w l (eval e) d knows typed go low few h = value_well n u f e d knows typed (omega (arith, few)) h
+  stmt_well n u c f w l (eval e) d knows typed go low few h = effect_put_well n u f e d knows typed (omega (arith, few)) h
   stmt_well n u c f w l (set_part i o e) d knows typed go low few h = set_well n u f i o e d knows (knows.objects i (slice_get_within u.objects i typed.object typed.automatic.0)) typed.typed (omega (arith, few)) h
   stmt_well n u c f w l (clear i) d knows typed go low few h = zeros_well n (spot_of f i 0) (object_bytes f i) d (spot_well n f i 0 (knows.objects i (slice_get_within u.objects i typed.0 typed.1.0))) (omega (arith, few)) h
   stmt_well n u c f w l (block os ss) d knows typed go low few h = stmts_well n u c f w l ss d knows typed.1 go low few h
@@ -165,23 +169,23 @@ mutual
       let h4 : AllWell n m4.lines = test_well n u f d.labels true e m3 knows typed.1.0 head (omega (arith, few)) (label_well n (d.labels + 1) m2 onward h2) in
       label_well n (d.labels + 1 + 1) m4 end h4
   stmt_well n u c f w l (for_loop i t s a) d knows typed go low few h =
-      let g : Drafted = with_maybe f i d in
+      let g : Drafted = with_effects f i d in
       let m1 : Drafted = with_label g.labels (three_given g) in
       let m2 : Drafted = with_guard f (g.labels + 1 + 1) t m1 in
       let inner : Ways = ways (g.labels + 1 + 1) (g.labels + 1) w.other in
       let m3 : Drafted = with_stmt f inner l a m2 in
       let m4 : Drafted = with_label (g.labels + 1) m3 in
-      let m5 : Drafted = with_maybe f s m4 in
+      let m5 : Drafted = with_effects f s m4 in
       let first : m1.labels ≤ m2.labels = guard_grows f (g.labels + 1 + 1) t m1 in
       let second : m2.labels ≤ m3.labels = stmt_grows f inner l a m2 in
-      let third : m4.labels ≤ m5.labels = maybe_grows f s m4 in
+      let third : m4.labels ≤ m5.labels = effects_grow f s m4 in
       let end : g.labels + 1 + 1 < 2 ^ 32 = omega (arith, few, first, second, third) in
       let onward : g.labels + 1 < 2 ^ 32 = omega (arith, end) in
       let head : g.labels < 2 ^ 32 = omega (arith, end) in
-      let h0 : AllWell n g.lines = maybe_well n u f i d knows typed.0 (omega (arith, head)) h in
+      let h0 : AllWell n g.lines = effects_well n u f i d knows typed.0 (omega (arith, head)) h in
       let h2 : AllWell n m2.lines = guard_well n u f (g.labels + 1 + 1) t m1 knows typed.1 end (omega (arith, few, second, third)) (label_well n g.labels (three_given g) head h0) in
       let h3 : AllWell n m3.lines = stmt_well n u (looping c) f inner l a m2 knows typed.3 (record { behind = end; onward = onward; other = go.other }) low (omega (arith, few, third)) h2 in
-      let h5 : AllWell n m5.lines = maybe_well n u f s m4 knows typed.2 (omega (arith, few)) (label_well n (g.labels + 1) m3 onward h3) in
+      let h5 : AllWell n m5.lines = effects_well n u f s m4 knows typed.2 (omega (arith, few)) (label_well n (g.labels + 1) m3 onward h3) in
       label_well n (g.labels + 1 + 1) (with_jump g.labels m5) end (jump_well n g.labels m5 head h5)
   stmt_well n u c f w l (switch e a) d knows typed go low few h =
       let m1 : Drafted = with_choice f e a d in

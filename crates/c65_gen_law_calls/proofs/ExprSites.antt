@@ -91,10 +91,10 @@ no_site = record {
   convert = λ t e h. h;
 }
 
-known_sites : (f : Framed) (pushed : ℕ) (e : Typed) → IsKnown (place_of f pushed e) → sites_of e ≡ []
+pub known_sites : (f : Framed) (pushed : ℕ) (e : Typed) → IsKnown (place_of f pushed e) → sites_of e ≡ []
 known_sites f pushed e h = known_reached no_site f pushed e h
 
-target_has : {f : Framed} {ss : List Site} {code : List Line} (p : Place) → (IsKnown p → ss ≡ []) → Has f ss code → Has f ss (target_code p code)
+pub target_has : {f : Framed} {ss : List Site} {code : List Line} (p : Place) → (IsKnown p → ss ≡ []) → Has f ss code → Has f ss (target_code p code)
 target_has (places.Far at) h d = d
 target_has (places.Bank b) h d = has_as (sym (h tt)) has_none
 target_has (places.Near at) h d = has_as (sym (h tt)) has_none
@@ -105,10 +105,10 @@ no_sites [] = refl
 no_sites (x ∷ xs) = ap (λ (l : List Site). x ∷ l) (no_sites xs)
 
 -- the calls of one operand alone, where the other has none
-left_sites : (ss ts : List Site) → ts ≡ [] → ss ≡ ss ++ ts
+pub left_sites : (ss ts : List Site) → ts ≡ [] → ss ≡ ss ++ ts
 left_sites ss ts h = sym (no_sites ss) ∙ ap (λ (x : List Site). ss ++ x) (sym h)
 
-right_sites : (ss ts : List Site) → ss ≡ [] → ts ≡ ss ++ ts
+pub right_sites : (ss ts : List Site) → ss ≡ [] → ts ≡ ss ++ ts
 right_sites ss ts h = ap (λ (x : List Site). x ++ ts) (sym h)
 
 -- ---- what is wanted
@@ -331,7 +331,7 @@ mutual
   node_has f pushed lo w t (spill i e) = wanted_has w (width_in t) (has_behind (expr_has f pushed lo Value e) (free_leaves (spill_still (object_code f pushed i) (extent_by (type_bytes f (type_in t))) (object_still f pushed i) [])))
   node_has f pushed lo w t further = wanted_has w (width_in t) (has_free (free_leaves (further_still f pushed [])))
 
-  base_has : (f : Framed) (pushed lo : ℕ) (e : Typed) → Has f (sites_of e) (base_code f pushed lo e)
+  pub base_has : (f : Framed) (pushed lo : ℕ) (e : Typed) → Has f (sites_of e) (base_code f pushed lo e)
   base_has f pushed lo (node t (deref e)) = pointer_base_has f pushed lo e
   base_has f pushed lo (node t (member e m)) =
       let n : ℕ = offset_at (types_of f.parts.types) (bare e) m in

@@ -1,5 +1,6 @@
 pub mod Callings
 pub mod ExprSites
+pub mod EffectSites
 pub mod StmtSites
 pub mod SiteLaws
 pub mod FoundLaws

@@ -29,13 +29,15 @@ use Rattle.c65_genentry.specs.Choice.{bits_of, byte_of, test_code, case_codes, b
 use Rattle.c65_genstmt.specs.declared.jumps.Ways.{Ways}
 use Rattle.c65_genstmt.specs.declared.objects.Spot.{Spot}
 use Rattle.c65_genstmt.specs.declared.objects.Spot.TheVariants.{Bank, Soft, Data}
-use Rattle.c65_genstmt.specs.Jumps.{following, with_value, with_test}
+use Rattle.c65_geneffect.specs.Effects.{effect_code}
+use Rattle.c65_genstmt.specs.Jumps.{following, with_value, with_effect, with_test}
 use Rattle.c65_genstmt.specs.Objects.{spot_of, object_bytes, point_code, stored_code, with_copied, with_kept, with_zeros}
-use Rattle.c65_genstmt.specs.Stmts.{case_behind, with_label, with_jump, two_given, three_given, with_maybe, with_guard, ways, default_way, with_stmt, with_stmts, with_cases}
+use Rattle.c65_genstmt.specs.Stmts.{case_behind, with_label, with_jump, two_given, three_given, with_maybe, with_effects, with_guard, ways, default_way, with_stmt, with_stmts, with_cases}
 use Rattle.c65_gen_law_lines.proofs.StackPieces.{stored_leaves}
 use Rattle.c65_gen_law_calls.specs.Sites.{Site, sites_of, maybe_sites, statement_sites, statements_sites}
 use Rattle.c65_gen_law_calls.proofs.Callings.{Free, free_leaves, free_append, free_none, free_if, Has, has_then, has_free, has_as}
 use Rattle.c65_gen_law_calls.proofs.ExprSites.{has_expression, no_sites}
+use Rattle.c65_gen_law_calls.proofs.EffectSites.{effect_has}
 
 -- between two drafts stand lines that call as these calls do
 pub record Adds (f : Framed) (ss : List Site) (d e : Drafted) : Type 0 where
@@ -80,6 +82,9 @@ free_code n d a free = record { added = a; lines = refl; has = has_free free }
 
 value_adds : (f : Framed) (e : Typed) (d : Drafted) → Adds f (sites_of e) d (with_value f e d)
 value_adds f e d = record { added = expr_code f 0 d.labels Value e; lines = refl; has = has_expression f 0 d.labels Value e }
+
+effect_adds : (f : Framed) (e : Typed) (d : Drafted) → Adds f (sites_of e) d (with_effect f e d)
+effect_adds f e d = record { added = effect_code f 0 d.labels e; lines = refl; has = effect_has f 0 d.labels e }
 
 pub label_adds : {f : Framed} (l : ℕ) (d : Drafted) → Adds f [] d (with_label l d)
 label_adds l d = free_lines d (Label l ∷ []) (record { none = refl })
@@ -196,6 +201,10 @@ maybe_adds : (f : Framed) (e : MaybeTyped) (d : Drafted) → Adds f (maybe_sites
 maybe_adds f absent d = adds_same d
 maybe_adds f (present e) d = value_adds f e d
 
+effects_add : (f : Framed) (e : MaybeTyped) (d : Drafted) → Adds f (maybe_sites e) d (with_effects f e d)
+effects_add f absent d = adds_same d
+effects_add f (present e) d = effect_adds f e d
+
 guard_adds : (f : Framed) (to : ℕ) (e : MaybeTyped) (d : Drafted) → Adds f (maybe_sites e) d (with_guard f to e d)
 guard_adds f to absent d = adds_same d
 guard_adds f to (present e) d = test_adds f to false e d
@@ -207,7 +216,7 @@ given_adds same p = record { added = p.added; lines = p.lines ∙ ap (λ (l : Li
 mutual
   pub stmt_adds : (f : Framed) (w : Ways) (l : ℕ) (s : Stmt) (d : Drafted) → Adds f (statement_sites s) d (with_stmt f w l s d)
   stmt_adds f w l empty d = adds_same d
-  stmt_adds f w l (eval e) d = value_adds f e d
+  stmt_adds f w l (eval e) d = effect_adds f e d
   stmt_adds f w l (set_part i o e) d = adds_behind (value_adds f e d) (kept_adds (is_tag (bare e)) f (spot_of f i o) e (with_value f e d))
   stmt_adds f w l (clear i) d = zeros_adds (spot_of f i 0) (object_bytes f i) d
   stmt_adds f w l (block os ss) d = stmts_add f w l ss d
@@ -236,18 +245,18 @@ mutual
       given_adds {e = three_given d} refl (adds_before (label_adds d.labels (three_given d)) (adds_then (stmt_adds f inner l a m1)
       (adds_before (label_adds (d.labels + 1) m2) (adds_behind (test_adds f d.labels true e m3) (label_adds (d.labels + 1 + 1) m4)))))
   stmt_adds f w l (for_loop i t n a) d =
-      let g : Drafted = with_maybe f i d in
+      let g : Drafted = with_effects f i d in
       let m1 : Drafted = with_label g.labels (three_given g) in
       let m2 : Drafted = with_guard f (g.labels + 1 + 1) t m1 in
       let inner : Ways = ways (g.labels + 1 + 1) (g.labels + 1) w.other in
       let m3 : Drafted = with_stmt f inner l a m2 in
       let m4 : Drafted = with_label (g.labels + 1) m3 in
-      let m5 : Drafted = with_maybe f n m4 in
+      let m5 : Drafted = with_effects f n m4 in
       let m6 : Drafted = with_jump g.labels m5 in
       let loop : Adds f (maybe_sites t ++ (statement_sites a ++ maybe_sites n)) g (with_label (g.labels + 1 + 1) m6) =
       given_adds {e = three_given g} refl (adds_before (label_adds g.labels (three_given g)) (adds_then (guard_adds f (g.labels + 1 + 1) t m1) (adds_then (stmt_adds f inner l a m2)
-      (adds_before (label_adds (g.labels + 1) m3) (adds_behind (adds_behind (maybe_adds f n m4) (jump_adds g.labels m5)) (label_adds (g.labels + 1 + 1) m6)))))) in
-      adds_then (maybe_adds f i d) loop
+      (adds_before (label_adds (g.labels + 1) m3) (adds_behind (adds_behind (effects_add f n m4) (jump_adds g.labels m5)) (label_adds (g.labels + 1 + 1) m6)))))) in
+      adds_then (effects_add f i d) loop
   stmt_adds f w l (switch e a) d =
       let cases : List ℤ = cases_of a in
       let m0 : Drafted = with_labels (length cases) (two_given d) in

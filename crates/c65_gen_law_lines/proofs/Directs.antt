@@ -106,7 +106,7 @@ reads_instruction ops.BitAnd = reads_and
 reads_instruction ops.BitXor = reads_eor
 reads_instruction _ = reads_ora
 
-carry_quiet : {ok : ℕ → Bool} (op : BinaryOp) → Quiet ok nowhere 1 (carry_code op)
+pub carry_quiet : {ok : ℕ → Bool} (op : BinaryOp) → Quiet ok nowhere 1 (carry_code op)
 carry_quiet ops.Add = quiet_piece (record { plain = refl; fit = refl; size = omega arith }) (λ v. record { to = λ calls. refl })
 carry_quiet ops.Sub = quiet_piece (record { plain = refl; fit = refl; size = omega arith }) (λ v. record { to = λ calls. refl })
 carry_quiet _ = quiet_none

@@ -117,7 +117,7 @@ direct_idle f pushed (node t (convert e)) d h =
     record { uses = idle.uses; calls = idle.calls }
 direct_idle f pushed (node t _) d h = absurd cc
 
-constant_idle : (f : Framed) (e : Typed) (z : ℤ) → constant_in e ≡ Some z → Idle f e
+pub constant_idle : (f : Framed) (e : Typed) (z : ℤ) → constant_in e ≡ Some z → Idle f e
 constant_idle f (node t (constant z)) y h = record { uses = refl; calls = refl }
 constant_idle f (node t _) y h = absurd cc
 

@@ -57,7 +57,7 @@ use Rattle.c65_gen_law_lines.proofs.Wants.{made_from, made_closed, wanted_made, 
 -- ---- places that are known
 
 -- the address of a place, where it takes lines
-target_made : {outside : List ℕ} {lo n k : ℕ} {code : List Line} (p : Place) → (IsKnown p → n ≡ 0) → Made outside lo n k code → Made outside lo n k (target_code p code)
+pub target_made : {outside : List ℕ} {lo n k : ℕ} {code : List Line} (p : Place) → (IsKnown p → n ≡ 0) → Made outside lo n k code → Made outside lo n k (target_code p code)
 target_made (places.Far at) h made = made
 target_made (places.Bank b) h made = made_as (sym (h tt)) made_none
 target_made (places.Near at) h made = made_as (sym (h tt)) made_none
@@ -65,7 +65,7 @@ target_made (places.Data s at) h made = made_as (sym (h tt)) made_none
 
 -- ---- sizes
 
-some_nodes : (e : Typed) → 1 ≤ nodes e
+pub some_nodes : (e : Typed) → 1 ≤ nodes e
 some_nodes (node t (constant z)) = omega arith
 some_nodes (node t null) = omega arith
 some_nodes (node t (literal n)) = omega arith
@@ -95,13 +95,13 @@ some_nodes (node t further) = omega arith
 
 -- A member takes few lines, which leaves room for the lines of a bit-field; and so do the bytes of a structure, which leaves room
 -- to push three of them.
-abbrev slack : Typed → ℕ
+abbrev pub slack : Typed → ℕ
 slack (node t (member e m)) = 104
 slack (node t (pack e)) = 13
 slack _ = 0
 
 -- a member has at least two nodes
-slack_fits : (e : Typed) → 3 + slack e ≤ 128 * nodes e
+pub slack_fits : (e : Typed) → 3 + slack e ≤ 128 * nodes e
 slack_fits (node t (member e m)) = omega (arith, some_nodes e)
 slack_fits (node t (pack e)) = omega (arith, some_nodes e)
 slack_fits (node t n) = omega (arith, some_nodes (node t n))
@@ -302,7 +302,7 @@ mutual
       made_wider (wanted_made w (width_in t) (made_behind (expr_made f pushed lo Value e) (spill_piece (object_code f pushed i) (extent_by (type_bytes f (type_in t))) (object_piece f pushed i)))) (omega (arith, some_nodes e))
   node_made f pushed lo w t further = leaf (node t further) (omega arith) refl (wanted_made w (width_in t) (made_piece (further_piece f pushed)))
 
-  base_made : (f : Framed) (pushed lo : ℕ) (e : Typed) → Made [] lo (uses None e) (room e) (base_code f pushed lo e)
+  pub base_made : (f : Framed) (pushed lo : ℕ) (e : Typed) → Made [] lo (uses None e) (room e) (base_code f pushed lo e)
   base_made f pushed lo (node t (deref e)) = made_wider (pointer_base_made f pushed lo e) (omega (arith, some_nodes e))
   base_made f pushed lo (node t (member e m)) =
       let n : ℕ = offset_at (types_of f.parts.types) (bare e) m in

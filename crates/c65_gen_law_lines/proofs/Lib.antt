@@ -15,6 +15,9 @@ pub mod Others
 pub mod StmtLaws
 pub mod FunctionLaws
 pub mod StackLaws
+pub mod EffectForms
+pub mod EffectFacts
+pub mod EffectLaws
 pub mod StackStmts
 pub mod Sizes
 pub mod SizeLaws

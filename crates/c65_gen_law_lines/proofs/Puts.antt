@@ -15,11 +15,13 @@ use Rattle.c65_genexpr.specs.declared.wanted.Wanted.TheVariants.{Value, Test}
 use Rattle.c65_genexpr.specs.Code.{expr_code}
 use Rattle.c65_genexpr.specs.Uses.{uses}
 use Rattle.c65_genentry.specs.Words.{jump, with_code}
-use Rattle.c65_genstmt.specs.Jumps.{with_value, with_test}
+use Rattle.c65_geneffect.specs.Effects.{effect_code, effect_uses}
+use Rattle.c65_genstmt.specs.Jumps.{with_value, with_effect, with_test}
 use Rattle.c65_genstmt.specs.Stmts.{with_label, with_jump, two_given, three_given}
 use Rattle.c65_gen_law_lines.specs.Labels.{times, is_within, among}
 use Rattle.c65_gen_law_lines.proofs.Made.{times-append, plain_times, targets-append, plain_targets, among_inside, among_in, among_low, among_high, among_one, all_append, all_passes, Stretch, Made, stretch_made}
 use Rattle.c65_gen_law_lines.proofs.ExprLaws.{expr_made}
+use Rattle.c65_gen_law_lines.proofs.EffectLaws.{effect_made}
 use Rattle.c65_gen_law_lines.proofs.Flat.{Flat, Own}
 
 -- 1 for one label
@@ -191,6 +193,9 @@ puts_made {k = k} d n outside a made = record {
 
 pub puts_value : (f : Framed) (e : Typed) (d : Drafted) → Puts d (with_value f e d) no_others Free
 puts_value f e d = puts_end (puts_made d (uses None e) [] (expr_code f 0 d.labels Value e) (expr_made f 0 d.labels Value e)) (λ x. refl) (λ ok ex. refl)
+
+pub puts_effect : (f : Framed) (e : Typed) (d : Drafted) → Puts d (with_effect f e d) no_others Free
+puts_effect f e d = puts_end (puts_made d (effect_uses e) [] (effect_code f 0 d.labels e) (effect_made f 0 d.labels e)) (λ x. refl) (λ ok ex. refl)
 
 pub puts_test : (f : Framed) (to : ℕ) (s : Bool) (e : Typed) (d : Drafted) → Puts d (with_test f to s e d) no_others (Passes to)
 puts_test f to s e d = puts_end (puts_made d (uses (Some s) e) (to ∷ []) (expr_code f 0 d.labels (Test to s) e) (expr_made f 0 d.labels (Test to s) e)) (λ x. refl) (λ ok ex. and_from (ok to) true ex refl)

@@ -28,15 +28,17 @@ use Rattle.c65_genentry.specs.Choice.{choice_code, choice_labels}
 use Rattle.c65_genstmt.specs.declared.jumps.Ways.{Ways}
 use Rattle.c65_genstmt.specs.declared.objects.Spot.{Spot}
 use Rattle.c65_genstmt.specs.declared.objects.Spot.TheVariants.{Bank, Soft, Data}
-use Rattle.c65_genstmt.specs.Jumps.{following, with_value, with_test}
+use Rattle.c65_geneffect.specs.Effects.{effect_code}
+use Rattle.c65_genstmt.specs.Jumps.{following, with_value, with_effect, with_test}
 use Rattle.c65_genstmt.specs.Objects.{spot_of, object_bytes, point_code, stored_code, with_copied, with_kept, with_zeros}
-use Rattle.c65_genstmt.specs.Stmts.{case_behind, with_label, with_jump, two_given, three_given, with_maybe, with_guard, ways, default_way, with_stmt, with_stmts, with_cases}
+use Rattle.c65_genstmt.specs.Stmts.{case_behind, with_label, with_jump, two_given, three_given, with_maybe, with_effects, with_guard, ways, default_way, with_stmt, with_stmts, with_cases}
 use Rattle.c65_genstmt.specs.Cases.{room_of}
 use Rattle.c65_genstmt.specs.Functions.{main_code, no_lines}
 use Rattle.c65_gen_law_lines.specs.Bulk.{nodes, maybe_nodes, statement_nodes, statements_nodes}
 use Rattle.c65_gen_law_lines.specs.Laws.{FunctionsAreSmall}
 use Rattle.c65_gen_law_lines.proofs.Made.{size-append}
 use Rattle.c65_gen_law_lines.proofs.ExprLaws.{expr_made}
+use Rattle.c65_gen_law_lines.proofs.EffectLaws.{effect_made}
 use Rattle.c65_gen_law_lines.proofs.FrameLaws.{frames_are_small}
 use Rattle.c65_gen_law_lines.proofs.Sizes.{Takes, choice_size, point_size, stored_size, bank_clear_size, clear_size, copy_size, entry_size, end_size, main_size}
 
@@ -61,6 +63,9 @@ grows_code k n d a p = record { size = omega (arith, size-append d.lines a, p.si
 
 value_grows : (f : Framed) (e : Typed) (d : Drafted) → Grows (128 * nodes e) d (with_value f e d)
 value_grows f e d = record { size = omega (arith, size-append d.lines (expr_code f 0 d.labels Value e), (expr_made f 0 d.labels Value e).size) }
+
+effect_grows : (f : Framed) (e : Typed) (d : Drafted) → Grows (128 * nodes e) d (with_effect f e d)
+effect_grows f e d = record { size = omega (arith, size-append d.lines (effect_code f 0 d.labels e), (effect_made f 0 d.labels e).size) }
 
 label_grows : (l : ℕ) (d : Drafted) → Grows 0 d (with_label l d)
 label_grows l d = record { size = omega (arith, size-append d.lines (Label l ∷ [])) }
@@ -98,6 +103,10 @@ maybe_grows : (f : Framed) (e : MaybeTyped) (d : Drafted) → Grows (128 * maybe
 maybe_grows f absent d = grows_same
 maybe_grows f (present e) d = value_grows f e d
 
+effects_grows : (f : Framed) (e : MaybeTyped) (d : Drafted) → Grows (128 * maybe_nodes e) d (with_effects f e d)
+effects_grows f absent d = grows_same
+effects_grows f (present e) d = effect_grows f e d
+
 guard_grows : (f : Framed) (to : ℕ) (e : MaybeTyped) (d : Drafted) → Grows (128 * maybe_nodes e) d (with_guard f to e d)
 guard_grows f to absent d = grows_same
 guard_grows f to (present e) d = test_grows f to false e d
@@ -112,7 +121,7 @@ record AllWithin (ss : Stmts) (d e : Drafted) : Type 0 where
 mutual
   stmt_small : (f : Framed) (w : Ways) (l : ℕ) (s : Stmt) (d : Drafted) → Within s d (with_stmt f w l s d)
   stmt_small f w l empty d = record { size = omega arith }
-  stmt_small f w l (eval e) d = record { size = omega (arith, (value_grows f e d).size) }
+  stmt_small f w l (eval e) d = record { size = omega (arith, (effect_grows f e d).size) }
   stmt_small f w l (set_part i o e) d =
       let v : Drafted = with_value f e d in
       record { size = omega (arith, (value_grows f e d).size, (kept_grows (is_tag (bare e)) f (spot_of f i o) e v).size) }
@@ -140,15 +149,15 @@ mutual
       let m4 : Drafted = with_test f d.labels true e m3 in
       record { size = omega (arith, (label_grows d.labels (three_given d)).size, (stmt_small f inner l a m1).size, (label_grows (d.labels + 1) m2).size, (test_grows f d.labels true e m3).size, (label_grows (d.labels + 1 + 1) m4).size) }
   stmt_small f w l (for_loop i t n a) d =
-      let g : Drafted = with_maybe f i d in
+      let g : Drafted = with_effects f i d in
       let m1 : Drafted = with_label g.labels (three_given g) in
       let m2 : Drafted = with_guard f (g.labels + 1 + 1) t m1 in
       let inner : Ways = ways (g.labels + 1 + 1) (g.labels + 1) w.other in
       let m3 : Drafted = with_stmt f inner l a m2 in
       let m4 : Drafted = with_label (g.labels + 1) m3 in
-      let m5 : Drafted = with_maybe f n m4 in
+      let m5 : Drafted = with_effects f n m4 in
       let m6 : Drafted = with_jump g.labels m5 in
-      record { size = omega (arith, (maybe_grows f i d).size, (label_grows g.labels (three_given g)).size, (guard_grows f (g.labels + 1 + 1) t m1).size, (stmt_small f inner l a m2).size, (label_grows (g.labels + 1) m3).size, (maybe_grows f n m4).size, (jump_grows g.labels m5).size, (label_grows (g.labels + 1 + 1) m6).size) }
+      record { size = omega (arith, (effects_grows f i d).size, (label_grows g.labels (three_given g)).size, (guard_grows f (g.labels + 1 + 1) t m1).size, (stmt_small f inner l a m2).size, (label_grows (g.labels + 1) m3).size, (effects_grows f n m4).size, (jump_grows g.labels m5).size, (label_grows (g.labels + 1 + 1) m6).size) }
   stmt_small f w l (switch e a) d =
       let cases : List ℤ = cases_of a in
       let m0 : Drafted = with_labels (length cases) (two_given d) in

@@ -73,22 +73,22 @@ use Rattle.c65_gen_law_lines.proofs.Forms.{form_quiet, waiting_leaves, stacked_l
 use Rattle.c65_gen_law_lines.proofs.StackPieces.{waits_append, Leaves, leaves_then, leaves_none, leaves_if, Still, narrow_still, number_still, object_still, further_still, offset_still, conversion_still, push_leaves, argument_leaves, test_still, holding, hold_leaves, bytes_still, load_still, stored_leaves, read_store_still, byte_through_still, word_through_still, copy_leaves, spill_still, unary_still, between_leaves, behind_leaves, step_still, open_leaves, close_leaves}
 
 -- lines lead from some values that wait to others by these calls
-record Does (cs : List (List ℕ)) (v : List ℕ) (a : List Line) (u : List ℕ) : Type 0 where
-  to : (rest : List (List ℕ)) → waits (Some (waiting_by v (cs ++ rest))) a ≡ Some (waiting_by u rest)
+pub record Does (cs : List (List ℕ)) (v : List ℕ) (a : List Line) (u : List ℕ) : Type 0 where
+  pub to : (rest : List (List ℕ)) → waits (Some (waiting_by v (cs ++ rest))) a ≡ Some (waiting_by u rest)
 
 pub joined : (xs ys zs : List (List ℕ)) → (xs ++ ys) ++ zs ≡ xs ++ (ys ++ zs)
 joined [] ys zs = refl
 joined (x ∷ xs) ys zs = ap (λ l. x ∷ l) (joined xs ys zs)
 
-does_leaves : {v u : List ℕ} {a : List Line} → Leaves v a u → Does [] v a u
+pub does_leaves : {v u : List ℕ} {a : List Line} → Leaves v a u → Does [] v a u
 does_leaves p = record { to = p.to }
 
-does_then : {cs ds : List (List ℕ)} {v u t : List ℕ} {a b : List Line} → Does cs v a u → Does ds u b t → Does (cs ++ ds) v (a ++ b) t
+pub does_then : {cs ds : List (List ℕ)} {v u t : List ℕ} {a b : List Line} → Does cs v a u → Does ds u b t → Does (cs ++ ds) v (a ++ b) t
 does_then {cs = cs} {ds = ds} {v = v} {a = a} {b = b} p q = record {
   to = λ rest. ap (λ calls. waits (Some (waiting_by v calls)) (a ++ b)) (joined cs ds rest) ∙ (waits_append a b (Some (waiting_by v (cs ++ (ds ++ rest)))) ∙ (ap (λ w. waits w b) (p.to (ds ++ rest)) ∙ q.to rest));
 }
 
-does_behind : {cs : List (List ℕ)} {v u t : List ℕ} {a b : List Line} → Does cs v a u → Leaves u b t → Does cs v (a ++ b) t
+pub does_behind : {cs : List (List ℕ)} {v u t : List ℕ} {a b : List Line} → Does cs v a u → Leaves u b t → Does cs v (a ++ b) t
 does_behind {cs = cs} {v = v} {a = a} {b = b} p q = record { to = λ rest. waits_append a b (Some (waiting_by v (cs ++ rest))) ∙ (ap (λ w. waits w b) (p.to rest) ∙ q.to rest) }
 
 does_before : {cs : List (List ℕ)} {v u t : List ℕ} {a b : List Line} → Leaves v a u → Does cs u b t → Does cs v (a ++ b) t
@@ -101,7 +101,7 @@ does_line {cs = cs} {v = v} {a = a} line still p = record { to = λ rest. waits_
 does_none : {v : List ℕ} → Does [] v [] v
 does_none = record { to = λ rest. refl }
 
-does_as : {cs ds : List (List ℕ)} {v u : List ℕ} {a : List Line} → cs ≡ ds → Does cs v a u → Does ds v a u
+pub does_as : {cs ds : List (List ℕ)} {v u : List ℕ} {a : List Line} → cs ≡ ds → Does cs v a u → Does ds v a u
 does_as {v = v} {u = u} {a = a} e p = subst (λ (x : List (List ℕ)). Does x v a u) e p
 
 pub nothing_more : (xs : List (List ℕ)) → xs ++ [] ≡ xs
@@ -110,7 +110,7 @@ nothing_more (x ∷ xs) = ap (λ l. x ∷ l) (nothing_more xs)
 
 -- ---- places that are known
 
-target_does : {cs : List (List ℕ)} {v : List ℕ} {code : List Line} (p : Place) → (IsKnown p → cs ≡ []) → Does cs v code v → Does cs v (target_code p code) v
+pub target_does : {cs : List (List ℕ)} {v : List ℕ} {code : List Line} (p : Place) → (IsKnown p → cs ≡ []) → Does cs v code v → Does cs v (target_code p code) v
 target_does (places.Far at) h d = d
 target_does (places.Bank b) h d = does_as (sym (h tt)) does_none
 target_does (places.Near at) h d = does_as (sym (h tt)) does_none
@@ -118,7 +118,7 @@ target_does (places.Data s at) h d = does_as (sym (h tt)) does_none
 
 -- ---- values and tests
 
-one_label : {v : List ℕ} (l : ℕ) → Leaves v (Label l ∷ []) v
+pub one_label : {v : List ℕ} (l : ℕ) → Leaves v (Label l ∷ []) v
 one_label l = record { to = λ calls. refl }
 
 wanted_does : {cs : List (List ℕ)} {v : List ℕ} {a : List Line} (w : Wanted) (width : Width) → Does cs v a v → Does cs v (wanted w width a) v
@@ -158,14 +158,14 @@ joined_does straight own da db = does_then da (does_behind db (leaves_if straigh
 -- ---- comparisons and operators
 
 -- lines that leave whatever waits, by these calls
-abbrev Doing : List (List ℕ) → List Line → Type 0
+abbrev pub Doing : List (List ℕ) → List Line → Type 0
 Doing cs a = (v : List ℕ) → Does cs v a v
 
 -- one of the two sides calls nothing
-left_alone : {cs ds : List (List ℕ)} {v : List ℕ} {a : List Line} → ds ≡ [] → Does cs v a v → Does (cs ++ ds) v a v
+pub left_alone : {cs ds : List (List ℕ)} {v : List ℕ} {a : List Line} → ds ≡ [] → Does cs v a v → Does (cs ++ ds) v a v
 left_alone {cs = cs} quiet d = does_as (sym (nothing_more cs) ∙ ap (λ l. cs ++ l) (sym quiet)) d
 
-right_alone : {cs ds : List (List ℕ)} {v : List ℕ} {a : List Line} → cs ≡ [] → Does ds v a v → Does (cs ++ ds) v a v
+pub right_alone : {cs ds : List (List ℕ)} {v : List ℕ} {a : List Line} → cs ≡ [] → Does ds v a v → Does (cs ++ ds) v a v
 right_alone {ds = ds} quiet d = does_as (ap (λ l. l ++ ds) (sym quiet)) d
 
 low_does : {cs : List (List ℕ)} {v : List ℕ} {a : List Line} (low : Option OperandByte) → IfRead low (cs ≡ []) → Does cs v a v → Does cs v (low_code low a) v
@@ -306,7 +306,7 @@ unary_does : {cs : List (List ℕ)} {v : List ℕ} {a : List Line} (w : Wanted) 
 unary_does {v = v} w t op width d = wanted_does w (width_in t) (does_behind d (unary_still op width v))
 
 mutual
-  expr_does : (f : Framed) (pushed lo : ℕ) (w : Wanted) (e : Typed) (v : List ℕ) → Does (calls_of f e) v (expr_code f pushed lo w e) v
+  pub expr_does : (f : Framed) (pushed lo : ℕ) (w : Wanted) (e : Typed) (v : List ℕ) → Does (calls_of f e) v (expr_code f pushed lo w e) v
   expr_does f pushed lo w (node t n) v = node_does f pushed lo w t n v
 
   node_does : (f : Framed) (pushed lo : ℕ) (w : Wanted) (t : QTy) (n : Node) (v : List ℕ) → Does (node_calls f n) v (node_code f pushed lo w t n) v
@@ -365,7 +365,7 @@ mutual
   node_does f pushed lo w t (spill i e) v = wanted_does w (width_in t) (does_behind (expr_does f pushed lo Value e v) (spill_still (object_code f pushed i) (extent_by (type_bytes f (type_in t))) (object_still f pushed i) v))
   node_does f pushed lo w t further v = wanted_does w (width_in t) (does_leaves (further_still f pushed v))
 
-  base_does : (f : Framed) (pushed lo : ℕ) (e : Typed) (v : List ℕ) → Does (calls_of f e) v (base_code f pushed lo e) v
+  pub base_does : (f : Framed) (pushed lo : ℕ) (e : Typed) (v : List ℕ) → Does (calls_of f e) v (base_code f pushed lo e) v
   base_does f pushed lo (node t (deref e)) v = pointer_base_does f pushed lo e v
   base_does f pushed lo (node t (member e m)) v =
       let n : ℕ = offset_at (types_of f.parts.types) (bare e) m in

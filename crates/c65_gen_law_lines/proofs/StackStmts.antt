@@ -29,13 +29,15 @@ use Rattle.c65_genentry.specs.Choice.{bits_of, byte_of, test_code, case_codes, b
 use Rattle.c65_genstmt.specs.declared.jumps.Ways.{Ways}
 use Rattle.c65_genstmt.specs.declared.objects.Spot.{Spot}
 use Rattle.c65_genstmt.specs.declared.objects.Spot.TheVariants.{Bank, Soft, Data}
-use Rattle.c65_genstmt.specs.Jumps.{following, with_value, with_test}
+use Rattle.c65_geneffect.specs.Effects.{effect_code}
+use Rattle.c65_genstmt.specs.Jumps.{following, with_value, with_effect, with_test}
 use Rattle.c65_genstmt.specs.Objects.{spot_of, object_bytes, point_code, stored_code, with_copied, with_kept, with_zeros}
-use Rattle.c65_genstmt.specs.Stmts.{case_behind, with_label, with_jump, two_given, three_given, with_maybe, with_guard, ways, default_way, with_stmt, with_stmts, with_cases}
+use Rattle.c65_genstmt.specs.Stmts.{case_behind, with_label, with_jump, two_given, three_given, with_maybe, with_effects, with_guard, ways, default_way, with_stmt, with_stmts, with_cases}
 use Rattle.c65_gen_law_lines.specs.Stack.{Waiting, waiting_by, waits, calls_of, maybe_calls, statement_calls, statements_calls}
 use Rattle.c65_gen_law_lines.specs.Laws.{StatementsKeepTheStack}
 use Rattle.c65_gen_law_lines.proofs.StackPieces.{waits_append, Leaves, leaves_then, leaves_none, leaves_if, Still, stored_leaves}
 use Rattle.c65_gen_law_lines.proofs.StackLaws.{joined, expressions_keep_the_stack}
+use Rattle.c65_gen_law_lines.proofs.EffectLaws.{effect_does}
 
 -- between two drafts stand lines that leave what waits, by these calls
 record Keeps (cs : List (List ℕ)) (d e : Drafted) : Type 0 where
@@ -60,6 +62,9 @@ still_lines d a still = record { keeps = λ start v rest h. waits_append d.lines
 
 still_code : (n : ℕ) (d : Drafted) (a : List Line) → Still a → Keeps [] d (with_code n a d)
 still_code n d a still = record { keeps = λ start v rest h. waits_append d.lines a start ∙ (ap (λ w. waits w a) h ∙ (still v).to rest) }
+
+effect_keeps : (f : Framed) (e : Typed) (d : Drafted) → Keeps (calls_of f e) d (with_effect f e d)
+effect_keeps f e d = record { keeps = λ start v rest h. waits_append d.lines (effect_code f 0 d.labels e) start ∙ (ap (λ w. waits w (effect_code f 0 d.labels e)) h ∙ (effect_does f 0 d.labels e v).to rest) }
 
 value_keeps : (f : Framed) (e : Typed) (d : Drafted) → Keeps (calls_of f e) d (with_value f e d)
 value_keeps f e d = record { keeps = λ start v rest h. waits_append d.lines (expr_code f 0 d.labels Value e) start ∙ (ap (λ w. waits w (expr_code f 0 d.labels Value e)) h ∙ expressions_keep_the_stack f 0 d.labels Value e v rest) }
@@ -188,6 +193,10 @@ maybe_keeps : (f : Framed) (e : MaybeTyped) (d : Drafted) → Keeps (maybe_calls
 maybe_keeps f absent d = keeps_same
 maybe_keeps f (present e) d = value_keeps f e d
 
+effects_keep : (f : Framed) (e : MaybeTyped) (d : Drafted) → Keeps (maybe_calls f e) d (with_effects f e d)
+effects_keep f absent d = keeps_same
+effects_keep f (present e) d = effect_keeps f e d
+
 guard_keeps : (f : Framed) (to : ℕ) (e : MaybeTyped) (d : Drafted) → Keeps (maybe_calls f e) d (with_guard f to e d)
 guard_keeps f to absent d = keeps_same
 guard_keeps f to (present e) d = test_keeps f to false e d
@@ -199,7 +208,7 @@ given_keeps same p = record { keeps = λ start v rest h. p.keeps start v rest (a
 mutual
   stmt_keeps : (f : Framed) (w : Ways) (l : ℕ) (s : Stmt) (d : Drafted) → Keeps (statement_calls f s) d (with_stmt f w l s d)
   stmt_keeps f w l empty d = keeps_same
-  stmt_keeps f w l (eval e) d = value_keeps f e d
+  stmt_keeps f w l (eval e) d = effect_keeps f e d
   stmt_keeps f w l (set_part i o e) d = keeps_behind (value_keeps f e d) (kept_keeps (is_tag (bare e)) f (spot_of f i o) e (with_value f e d))
   stmt_keeps f w l (clear i) d = zeros_keeps (spot_of f i 0) (object_bytes f i) d
   stmt_keeps f w l (block os ss) d = stmts_keep f w l ss d
@@ -228,18 +237,18 @@ mutual
       given_keeps {e = three_given d} refl (keeps_before (label_keeps d.labels (three_given d)) (keeps_then (stmt_keeps f inner l a m1)
       (keeps_before (label_keeps (d.labels + 1) m2) (keeps_behind (test_keeps f d.labels true e m3) (label_keeps (d.labels + 1 + 1) m4)))))
   stmt_keeps f w l (for_loop i t n a) d =
-      let g : Drafted = with_maybe f i d in
+      let g : Drafted = with_effects f i d in
       let m1 : Drafted = with_label g.labels (three_given g) in
       let m2 : Drafted = with_guard f (g.labels + 1 + 1) t m1 in
       let inner : Ways = ways (g.labels + 1 + 1) (g.labels + 1) w.other in
       let m3 : Drafted = with_stmt f inner l a m2 in
       let m4 : Drafted = with_label (g.labels + 1) m3 in
-      let m5 : Drafted = with_maybe f n m4 in
+      let m5 : Drafted = with_effects f n m4 in
       let m6 : Drafted = with_jump g.labels m5 in
       let loop : Keeps (maybe_calls f t ++ (statement_calls f a ++ maybe_calls f n)) g (with_label (g.labels + 1 + 1) m6) =
       given_keeps {e = three_given g} refl (keeps_before (label_keeps g.labels (three_given g)) (keeps_then (guard_keeps f (g.labels + 1 + 1) t m1) (keeps_then (stmt_keeps f inner l a m2)
-      (keeps_before (label_keeps (g.labels + 1) m3) (keeps_behind (keeps_behind (maybe_keeps f n m4) (jump_keeps g.labels m5)) (label_keeps (g.labels + 1 + 1) m6)))))) in
-      keeps_then (maybe_keeps f i d) loop
+      (keeps_before (label_keeps (g.labels + 1) m3) (keeps_behind (keeps_behind (effects_keep f n m4) (jump_keeps g.labels m5)) (label_keeps (g.labels + 1 + 1) m6)))))) in
+      keeps_then (effects_keep f i d) loop
   stmt_keeps f w l (switch e a) d =
       let cases : List ℤ = cases_of a in
       let m0 : Drafted = with_labels (length cases) (two_given d) in

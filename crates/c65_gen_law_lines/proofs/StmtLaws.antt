@@ -30,11 +30,11 @@ use Rattle.c65_genstmt.specs.declared.objects.Spot.TheVariants.{Bank, Soft, Data
 use Rattle.c65_genstmt.specs.Jumps.{following, with_value, with_test}
 use Rattle.c65_genstmt.specs.Objects.{spot_of, object_bytes, point_code, stored_code, with_copied, with_kept, with_set, with_zeros}
 use Rattle.c65_genstmt.specs.Cases.{has_default}
-use Rattle.c65_genstmt.specs.Stmts.{case_behind, with_label, with_jump, two_given, three_given, with_maybe, with_guard, ways, default_way, with_stmt, with_stmts, with_cases}
+use Rattle.c65_genstmt.specs.Stmts.{case_behind, with_label, with_jump, two_given, three_given, with_maybe, with_effects, with_guard, ways, default_way, with_stmt, with_stmts, with_cases}
 use Rattle.c65_gen_law_lines.specs.Labels.{times, is_within, among}
 use Rattle.c65_gen_law_lines.proofs.Made.{times-append, within, within_wider, among_inside, among_split, among_none, among_one, all_append}
 use Rattle.c65_gen_law_lines.proofs.Flat.{Flat, point_flat, stored_flat, bank_clear_flat, clear_own, copy_own}
-use Rattle.c65_gen_law_lines.proofs.Puts.{one, below_next, below_more, one_same, Puts, no_others, Free, Passes, puts_same, puts_then, puts_end, two_labels, three_labels, puts_flat, puts_label, puts_jump, puts_own, puts_value, puts_test, arrives_append}
+use Rattle.c65_gen_law_lines.proofs.Puts.{one, below_next, below_more, one_same, Puts, no_others, Free, Passes, puts_same, puts_then, puts_end, two_labels, three_labels, puts_flat, puts_label, puts_jump, puts_own, puts_value, puts_effect, puts_test, arrives_append}
 use Rattle.c65_gen_law_lines.proofs.Others.{names, others, others_in, laid, others_are, laid_among, few_defaults, default_counts, some_default}
 
 -- ---- objects
@@ -140,6 +140,10 @@ maybe_puts : (f : Framed) (e : MaybeTyped) (d : Drafted) → Puts d (with_maybe 
 maybe_puts f absent d = puts_same d
 maybe_puts f (present e) d = puts_value f e d
 
+effects_puts : (f : Framed) (e : MaybeTyped) (d : Drafted) → Puts d (with_effects f e d) no_others Free
+effects_puts f absent d = puts_same d
+effects_puts f (present e) d = puts_effect f e d
+
 guard_puts : (f : Framed) (to : ℕ) (e : MaybeTyped) (d : Drafted) → Puts d (with_guard f to e d) no_others (Passes to)
 guard_puts f to absent d = puts_end (puts_same d) (λ x. refl) (λ ok ex. tt)
 guard_puts f to (present e) d = puts_test f to false e d
@@ -180,7 +184,7 @@ mutual
   -- where there are few enough labels
   pub stmt_puts : (u : UnitTy) (c : Context) (f : Framed) (w : Ways) (l : ℕ) (s : Stmt) (d : Drafted) → IsStmt u c s → (with_stmt f w l s d).labels ≤ 4294967296 → Puts d (with_stmt f w l s d) (others w.other l s) (Exits w c.labels)
   stmt_puts u c f w l empty d h few = puts_end (puts_same d) (λ x. refl) (λ ok ex. tt)
-  stmt_puts u c f w l (eval e) d h few = puts_end (puts_value f e d) (λ x. refl) (λ ok ex. tt)
+  stmt_puts u c f w l (eval e) d h few = puts_end (puts_effect f e d) (λ x. refl) (λ ok ex. tt)
   stmt_puts u c f w l (set_part i o e) d h few = puts_end (set_puts f i o e d) (λ x. refl) (λ ok ex. tt)
   stmt_puts u c f w l (clear i) d h few = puts_end (zeros_puts (spot_of f i 0) (object_bytes f i) d) (λ x. refl) (λ ok ex. tt)
   stmt_puts u c f w l (block os ss) d h few = stmts_puts u c f w l ss d h.1 few
@@ -214,20 +218,20 @@ mutual
       three_labels (puts_then (puts_label (three_given d) d.labels) (puts_then body (puts_then (puts_label m2 (d.labels + 1)) (puts_then test (puts_label m4 (d.labels + 1 + 1))))))
       (λ x. omega arith) (λ ok one two three ex. (tt, (through (d.labels + 1 + 1) (d.labels + 1) w.other three two ex, (tt, (one, tt)))))
   stmt_puts u c f w l (for_loop i t n a) d h few =
-      let g : Drafted = with_maybe f i d in
+      let g : Drafted = with_effects f i d in
       let m1 : Drafted = with_label g.labels (three_given g) in
       let m2 : Drafted = with_guard f (g.labels + 1 + 1) t m1 in
       let inner : Ways = ways (g.labels + 1 + 1) (g.labels + 1) w.other in
       let m3 : Drafted = with_stmt f inner l a m2 in
       let m4 : Drafted = with_label (g.labels + 1) m3 in
-      let m5 : Drafted = with_maybe f n m4 in
+      let m5 : Drafted = with_effects f n m4 in
       let m6 : Drafted = with_jump g.labels m5 in
-      let next : Puts m4 m5 no_others Free = maybe_puts f n m4 in
+      let next : Puts m4 m5 no_others Free = effects_puts f n m4 in
       let body : Puts m2 m3 (others w.other l a) (Exits inner c.labels) = stmt_puts u (looping c) f inner l a m2 h.3 (omega (arith, next.grows, few)) in
       let loop : Puts g (with_label (g.labels + 1 + 1) m6) (others w.other l a) (Exits w c.labels) =
       three_labels (puts_then (puts_label (three_given g) g.labels) (puts_then (guard_puts f (g.labels + 1 + 1) t m1) (puts_then body (puts_then (puts_label m3 (g.labels + 1)) (puts_then next (puts_then (puts_jump m5 g.labels) (puts_label m6 (g.labels + 1 + 1))))))))
       (λ x. omega arith) (λ ok one two three ex. (tt, (three, (through (g.labels + 1 + 1) (g.labels + 1) w.other three two ex, (tt, (tt, (one, tt))))))) in
-      puts_end (puts_then (maybe_puts f i d) loop) (λ x. omega arith) (λ ok ex. (tt, ex))
+      puts_end (puts_then (effects_puts f i d) loop) (λ x. omega arith) (λ ok ex. (tt, ex))
   stmt_puts u c f w l (switch e a) d h few =
       let cases : List ℤ = cases_of a in
       let m0 : Drafted = with_labels (length cases) (two_given d) in

@@ -95,12 +95,12 @@ moved_off (places.Near at) n h = by (nat_le n 252)
 moved_off (places.Data s at) n h = tt
 moved_off (places.Far at) n h = tt
 
-place_off : (f : Framed) (pushed : ℕ) (e : Typed) → IsBankless f → IsOff (place_of f pushed e)
+pub place_off : (f : Framed) (pushed : ℕ) (e : Typed) → IsBankless f → IsOff (place_of f pushed e)
 place_off f pushed (node t (object i)) b = home_off f pushed i (home_of f i) (b i)
 place_off f pushed (node t (member e m)) b = moved_off (place_of f pushed e) (offset_at (types_of f.parts.types) (bare e) m) (place_off f pushed e b)
 place_off f pushed (node t _) b = tt
 
-target_clear : (p : Place) {code : List Line} → Clear code → Clear (target_code p code)
+pub target_clear : (p : Place) {code : List Line} → Clear code → Clear (target_code p code)
 target_clear (places.Far at) c = c
 target_clear (places.Bank b) c = clear_none
 target_clear (places.Near at) c = clear_none
@@ -263,7 +263,7 @@ mutual
   node_clear f pushed lo w t (spill i e) k = wanted_clear w (width_in t) (clear_then (expr_clear f pushed lo Value e k) (spill_clear (object_code f pushed i) (extent_by (type_bytes f (type_in t))) (object_clear f pushed i)))
   node_clear f pushed lo w t further k = wanted_clear w (width_in t) (further_clear f pushed)
 
-  base_clear : (f : Framed) (pushed lo : ℕ) (e : Typed) → IsBankless f → Clear (base_code f pushed lo e)
+  pub base_clear : (f : Framed) (pushed lo : ℕ) (e : Typed) → IsBankless f → Clear (base_code f pushed lo e)
   base_clear f pushed lo (node t (deref e)) k = pointer_base_clear f pushed lo e k
   base_clear f pushed lo (node t (member e m)) k =
       let n : ℕ = offset_at (types_of f.parts.types) (bare e) m in

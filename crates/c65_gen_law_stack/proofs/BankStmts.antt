@@ -37,16 +37,17 @@ use Rattle.c65_genentry.specs.Ends.{restored_code, end_code}
 use Rattle.c65_genstmt.specs.declared.jumps.Ways.{Ways}
 use Rattle.c65_genstmt.specs.declared.objects.Spot.{Spot}
 use Rattle.c65_genstmt.specs.declared.objects.Spot.TheVariants.{Bank, Soft, Data}
-use Rattle.c65_genstmt.specs.Jumps.{following, with_value, with_test}
+use Rattle.c65_genstmt.specs.Jumps.{following, with_value, with_effect, with_test}
 use Rattle.c65_genstmt.specs.Objects.{spot_at, spot_of, object_bytes, point_code, stored_code, with_copied, with_kept, with_zeros}
 use Rattle.c65_genstmt.specs.Cases.{room_of}
-use Rattle.c65_genstmt.specs.Stmts.{case_behind, with_label, with_jump, two_given, three_given, with_maybe, with_guard, ways, default_way, with_stmt, with_stmts, with_cases}
+use Rattle.c65_genstmt.specs.Stmts.{case_behind, with_label, with_jump, two_given, three_given, with_maybe, with_effects, with_guard, ways, default_way, with_stmt, with_stmts, with_cases}
 use Rattle.c65_genstmt.specs.Functions.{main_code, no_lines}
 use Rattle.c65_gen_law_stack.specs.Bank.{FunctionsLeaveRegbank}
 use Rattle.c65_gen_law_stack.proofs.EntryWay.{IsOrderly}
 use Rattle.c65_gen_law_stack.proofs.FrameOrder.{NotBank, frames_are_orderly, frames_without_bank, unkept, unmoved}
 use Rattle.c65_gen_law_stack.proofs.BankPieces.{pass_clear, Clear, clear_then, clear_if, clear_none, store_clear}
 use Rattle.c65_gen_law_stack.proofs.BankExprs.{IsBankless, label_clear, expr_clear}
+use Rattle.c65_gen_law_stack.proofs.EffectClears.{effect_clear}
 
 -- ---- objects
 
@@ -112,6 +113,9 @@ copy_block bytes l =
 value_kept : (f : Framed) (e : Typed) (d : Drafted) → IsBankless f → Clear d.lines → Clear (with_value f e d).lines
 value_kept f e d b c = clear_then c (expr_clear f 0 d.labels Value e b)
 
+effect_kept : (f : Framed) (e : Typed) (d : Drafted) → IsBankless f → Clear d.lines → Clear (with_effect f e d).lines
+effect_kept f e d b c = clear_then c (effect_clear f 0 d.labels e b)
+
 tested_kept : (f : Framed) (to : ℕ) (s : Bool) (e : Typed) (d : Drafted) → IsBankless f → Clear d.lines → Clear (with_test f to s e d).lines
 tested_kept f to s e d b c = clear_then c (expr_clear f 0 d.labels (Test to s) e b)
 
@@ -121,6 +125,10 @@ jmp l = record { all = refl }
 maybe_kept : (f : Framed) (e : MaybeTyped) (d : Drafted) → IsBankless f → Clear d.lines → Clear (with_maybe f e d).lines
 maybe_kept f absent d b c = c
 maybe_kept f (present e) d b c = value_kept f e d b c
+
+effects_kept : (f : Framed) (e : MaybeTyped) (d : Drafted) → IsBankless f → Clear d.lines → Clear (with_effects f e d).lines
+effects_kept f absent d b c = c
+effects_kept f (present e) d b c = effect_kept f e d b c
 
 guard_kept : (f : Framed) (to : ℕ) (e : MaybeTyped) (d : Drafted) → IsBankless f → Clear d.lines → Clear (with_guard f to e d).lines
 guard_kept f to absent d b c = c
@@ -167,7 +175,7 @@ choice_clear w other at l zs = by (by_bytes w zs)
 mutual
   stmt_kept : (f : Framed) (w : Ways) (l : ℕ) (s : Stmt) (d : Drafted) → IsBankless f → Clear d.lines → Clear (with_stmt f w l s d).lines
   stmt_kept f w l empty d b c = c
-  stmt_kept f w l (eval e) d b c = value_kept f e d b c
+  stmt_kept f w l (eval e) d b c = effect_kept f e d b c
   stmt_kept f w l (set_part i o e) d b c = set_kept (is_tag (bare e)) f (spot_of f i o) e (with_value f e d) (spot_off f i o (home_of f i) (b i)) (value_kept f e d b c)
   stmt_kept f w l (clear i) d b c = zeros_kept (spot_of f i 0) (object_bytes f i) d (spot_off f i 0 (home_of f i) (b i)) c
   stmt_kept f w l (block os ss) d b c = stmts_kept f w l ss d b c
@@ -189,14 +197,14 @@ mutual
       let c2 : Clear m2.lines = stmt_kept f (ways (d.labels + 1 + 1) (d.labels + 1) w.other) l x m1 b (clear_then c (label_clear d.labels)) in
       clear_then (tested_kept f d.labels true e m3 b (clear_then c2 (label_clear (d.labels + 1)))) (label_clear (d.labels + 1 + 1))
   stmt_kept f w l (for_loop i t n x) d b c =
-      let g : Drafted = with_maybe f i d in
+      let g : Drafted = with_effects f i d in
       let m1 : Drafted = with_label g.labels (three_given g) in
       let m2 : Drafted = with_guard f (g.labels + 1 + 1) t m1 in
       let m3 : Drafted = with_stmt f (ways (g.labels + 1 + 1) (g.labels + 1) w.other) l x m2 in
       let m4 : Drafted = with_label (g.labels + 1) m3 in
-      let c2 : Clear m2.lines = guard_kept f (g.labels + 1 + 1) t m1 b (clear_then (maybe_kept f i d b c) (label_clear g.labels)) in
+      let c2 : Clear m2.lines = guard_kept f (g.labels + 1 + 1) t m1 b (clear_then (effects_kept f i d b c) (label_clear g.labels)) in
       let c3 : Clear m3.lines = stmt_kept f (ways (g.labels + 1 + 1) (g.labels + 1) w.other) l x m2 b c2 in
-      clear_then (clear_then (maybe_kept f n m4 b (clear_then c3 (label_clear (g.labels + 1)))) (jmp g.labels)) (label_clear (g.labels + 1 + 1))
+      clear_then (clear_then (effects_kept f n m4 b (clear_then c3 (label_clear (g.labels + 1)))) (jmp g.labels)) (label_clear (g.labels + 1 + 1))
   stmt_kept f w l (switch e x) d b c =
       let m0 : Drafted = with_labels (length (cases_of x)) (two_given d) in
       let g : Drafted = with_value f e m0 in

@@ -106,20 +106,20 @@ no_calls f = record {
   convert = λ t e h. h;
 }
 
-known_calls : (f : Framed) (pushed : ℕ) (e : Typed) → IsKnown (place_of f pushed e) → calls_of f e ≡ []
+pub known_calls : (f : Framed) (pushed : ℕ) (e : Typed) → IsKnown (place_of f pushed e) → calls_of f e ≡ []
 known_calls f pushed e h = known_reached (no_calls f) f pushed e h
 
-target_level : {cs : List (List ℕ)} {v : List ℕ} {code : List Line} (p : Place) → (IsKnown p → cs ≡ []) → Closed cs v code v → Closed cs v (target_code p code) v
+pub target_level : {cs : List (List ℕ)} {v : List ℕ} {code : List Line} (p : Place) → (IsKnown p → cs ≡ []) → Closed cs v code v → Closed cs v (target_code p code) v
 target_level (places.Far at) h d = d
 target_level (places.Bank b) h d = closed_as (sym (h tt)) level_none
 target_level (places.Near at) h d = closed_as (sym (h tt)) level_none
 target_level (places.Data s at) h d = closed_as (sym (h tt)) level_none
 
 -- the calls of one operand alone, where the other has none
-left_calls : (cs ds : List (List ℕ)) → ds ≡ [] → cs ≡ cs ++ ds
+pub left_calls : (cs ds : List (List ℕ)) → ds ≡ [] → cs ≡ cs ++ ds
 left_calls cs ds h = sym (nothing_more cs) ∙ ap (λ (x : List (List ℕ)). cs ++ x) (sym h)
 
-right_calls : (cs ds : List (List ℕ)) → cs ≡ [] → ds ≡ cs ++ ds
+pub right_calls : (cs ds : List (List ℕ)) → cs ≡ [] → ds ≡ cs ++ ds
 right_calls cs ds h = ap (λ (x : List (List ℕ)). x ++ ds) (sym h)
 
 -- ---- calls
@@ -480,7 +480,7 @@ mutual
       wanted_level w (width_in t) (behind (value_level f pushed lo e v) (spill_still (object_code f pushed i) extent (object_still f pushed i) v) (spill_piece (object_code f pushed i) extent (object_piece f pushed i)).plain)
   node_level f pushed lo w t further v = wanted_level w (width_in t) (level_piece (further_still f pushed v) (further_piece f pushed).plain)
 
-  base_level : (f : Framed) (pushed lo : ℕ) (e : Typed) (v : List ℕ) → Closed (calls_of f e) v (base_code f pushed lo e) v
+  pub base_level : (f : Framed) (pushed lo : ℕ) (e : Typed) (v : List ℕ) → Closed (calls_of f e) v (base_code f pushed lo e) v
   base_level f pushed lo (node t (deref e)) v = pointer_base_level f pushed lo e v
   base_level f pushed lo (node t (member e m)) v =
       let n : ℕ = offset_at (types_of f.parts.types) (bare e) m in

@@ -12,6 +12,7 @@ pub mod EvenDirects
 pub mod EvenForms
 pub mod ReadSides
 pub mod ExprLevels
+pub mod EffectLevels
 pub mod BlockLevels
 pub mod StmtLevels
 pub mod FunctionLevels
@@ -21,6 +22,7 @@ pub mod ParameterLaws
 pub mod CallMoves
 pub mod BankPieces
 pub mod BankExprs
+pub mod EffectClears
 pub mod BankStmts
 pub mod BankMoves
 pub mod WalkLaws

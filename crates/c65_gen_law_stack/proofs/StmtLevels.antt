@@ -29,10 +29,11 @@ use Rattle.c65_genentry.specs.Choice.{choice_code}
 use Rattle.c65_genstmt.specs.declared.jumps.Ways.{Ways}
 use Rattle.c65_genstmt.specs.declared.objects.Spot.{Spot}
 use Rattle.c65_genstmt.specs.declared.objects.Spot.TheVariants.{Bank, Soft, Data}
-use Rattle.c65_genstmt.specs.Jumps.{following, with_value, with_test}
+use Rattle.c65_geneffect.specs.Effects.{effect_code}
+use Rattle.c65_genstmt.specs.Jumps.{following, with_value, with_effect, with_test}
 use Rattle.c65_genstmt.specs.Objects.{spot_of, object_bytes, point_code, stored_code, with_copied, with_kept, with_zeros}
 use Rattle.c65_genstmt.specs.Cases.{has_default}
-use Rattle.c65_genstmt.specs.Stmts.{case_behind, with_label, with_jump, two_given, three_given, with_maybe, with_guard, ways, default_way, with_stmt, with_stmts, with_cases}
+use Rattle.c65_genstmt.specs.Stmts.{case_behind, with_label, with_jump, two_given, three_given, with_maybe, with_effects, with_guard, ways, default_way, with_stmt, with_stmts, with_cases}
 use Rattle.c65_gen_law_lines.specs.Stack.{calls_of, maybe_calls, statement_calls, statements_calls}
 use Rattle.c65_gen_law_lines.proofs.Made.{is_plain}
 use Rattle.c65_gen_law_lines.proofs.Flat.{point_flat, stored_flat, bank_clear_flat}
@@ -42,6 +43,7 @@ use Rattle.c65_gen_law_lines.proofs.Leaves.{Still}
 use Rattle.c65_gen_law_lines.proofs.StackLaws.{nothing_more}
 use Rattle.c65_gen_law_stack.proofs.Levels.{Level, Nowhere, level_then, level_end, level_piece, level_none, level_label, level_leads, Closed}
 use Rattle.c65_gen_law_stack.proofs.ExprLevels.{expr_level, value_level}
+use Rattle.c65_gen_law_stack.proofs.EffectLevels.{effect_level}
 use Rattle.c65_gen_law_stack.proofs.BlockLevels.{clear_level, copy_level, point_still, stored_still, bank_clear_still, choice_level}
 
 -- labels that m counts, where nothing waits; and labels of X
@@ -121,6 +123,9 @@ grows_code n d a closed = record { added = a; lines = refl; level = closed_level
 grows_value : {X : ℕ → Type 0} (f : Framed) (e : Typed) (d : Drafted) → Grows none X (calls_of f e) d (with_value f e d)
 grows_value f e d = record { added = expr_code f 0 d.labels Value e; lines = refl; level = closed_level (value_level f 0 d.labels e []) }
 
+grows_effect : {X : ℕ → Type 0} (f : Framed) (e : Typed) (d : Drafted) → Grows none X (calls_of f e) d (with_effect f e d)
+grows_effect f e d = record { added = effect_code f 0 d.labels e; lines = refl; level = closed_level (effect_level f 0 d.labels e []) }
+
 same_label : (k l : ℕ) → 1 ≤ one k l → l ≡ k
 same_label k l h = by (k == l) refl h
   where
@@ -182,6 +187,10 @@ grows_choice w other at zs d = record { added = choice_code w other at d.labels 
 grows_maybe : {X : ℕ → Type 0} (f : Framed) (e : MaybeTyped) (d : Drafted) → Grows none X (maybe_calls f e) d (with_maybe f e d)
 grows_maybe f absent d = grows_same d
 grows_maybe f (present e) d = grows_value f e d
+
+grows_effects : {X : ℕ → Type 0} (f : Framed) (e : MaybeTyped) (d : Drafted) → Grows none X (maybe_calls f e) d (with_effects f e d)
+grows_effects f absent d = grows_same d
+grows_effects f (present e) d = grows_effect f e d
 
 grows_guard : (f : Framed) (to : ℕ) (e : MaybeTyped) (d : Drafted) → Grows none (To_label to) (maybe_calls f e) d (with_guard f to e d)
 grows_guard f to absent d = grows_same d
@@ -272,7 +281,7 @@ turned X j k l (inr (inr x)) = inr (inr x)
 mutual
   pub stmt_grows : (u : UnitTy) (c : Context) (f : Framed) (w : Ways) (l : ℕ) (s : Stmt) (d : Drafted) → IsStmt u c s → Grows (others w.other l s) (Exits w c.labels) (statement_calls f s) d (with_stmt f w l s d)
   stmt_grows u c f w l empty d h = grows_same d
-  stmt_grows u c f w l (eval e) d h = grows_value f e d
+  stmt_grows u c f w l (eval e) d h = grows_effect f e d
   stmt_grows u c f w l (set_part i o e) d h = none_left (grows_behind (grows_value f e d) (grows_kept (is_tag (bare e)) f (spot_of f i o) e (with_value f e d)))
   stmt_grows u c f w l (clear i) d h = grows_zeros (spot_of f i 0) (object_bytes f i) d
   stmt_grows u c f w l (block os ss) d h = stmts_grow u c f w l ss d h.1
@@ -313,13 +322,13 @@ mutual
       grows_given {e = three_given d} refl (close_three d.labels (d.labels + 1) (d.labels + 1 + 1) (omega (arith, one_same d.labels)) (omega (arith, one_same (d.labels + 1))) (omega (arith, one_same (d.labels + 1 + 1))) (λ x z. omega (arith, z))
       (grows_then (grows_label d.labels (three_given d)) (grows_then body (grows_then (grows_label (d.labels + 1) m2) (grows_behind test (grows_label (d.labels + 1 + 1) m4))))))
   stmt_grows u c f w l (for_loop i t n a) d h =
-      let g : Drafted = with_maybe f i d in
+      let g : Drafted = with_effects f i d in
       let m1 : Drafted = with_label g.labels (three_given g) in
       let m2 : Drafted = with_guard f (g.labels + 1 + 1) t m1 in
       let inner : Ways = ways (g.labels + 1 + 1) (g.labels + 1) w.other in
       let m3 : Drafted = with_stmt f inner l a m2 in
       let m4 : Drafted = with_label (g.labels + 1) m3 in
-      let m5 : Drafted = with_maybe f n m4 in
+      let m5 : Drafted = with_effects f n m4 in
       let m6 : Drafted = with_jump g.labels m5 in
       let X : ℕ → Type 0 = Three g.labels (g.labels + 1) (g.labels + 1 + 1) (Exits w c.labels) in
       let test : Grows none X (maybe_calls f t) m1 m2 = grows_open (λ x z. inr (inr (inl z))) (grows_guard f (g.labels + 1 + 1) t m1) in
@@ -327,8 +336,8 @@ mutual
       let over : Grows none X [] m5 m6 = grows_open (λ x z. inl z) (grows_jump g.labels m5) in
       let loop : Grows (others w.other l a) (Exits w c.labels) (maybe_calls f t ++ (statement_calls f a ++ maybe_calls f n)) g (with_label (g.labels + 1 + 1) m6) =
       grows_given {e = three_given g} refl (close_three g.labels (g.labels + 1) (g.labels + 1 + 1) (omega (arith, one_same g.labels)) (omega (arith, one_same (g.labels + 1))) (omega (arith, one_same (g.labels + 1 + 1))) (λ x z. omega (arith, z))
-      (grows_then (grows_label g.labels (three_given g)) (grows_then test (grows_then body (grows_then (grows_label (g.labels + 1) m3) (grows_behind (grows_behind (grows_maybe f n m4) over) (grows_label (g.labels + 1 + 1) m6))))))) in
-      grows_end (grows_then (grows_maybe f i d) loop) (λ x z. omega (arith, z)) (λ x z. inr z)
+      (grows_then (grows_label g.labels (three_given g)) (grows_then test (grows_then body (grows_then (grows_label (g.labels + 1) m3) (grows_behind (grows_behind (grows_effects f n m4) over) (grows_label (g.labels + 1 + 1) m6))))))) in
+      grows_end (grows_then (grows_effects f i d) loop) (λ x z. omega (arith, z)) (λ x z. inr z)
   stmt_grows u c f w l (switch e a) d h =
       let cases : List ℤ = cases_of a in
       let m0 : Drafted = with_labels (length cases) (two_given d) in

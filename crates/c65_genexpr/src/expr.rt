@@ -782,3 +782,19 @@ fn put_args(
         }
     }
 }
+
+/// Puts the address behind which a place lies, where it takes lines of code. The place is that of the tree, where so many
+/// bytes wait.
+pub fn put_place(
+    a: &TExpr,
+    place: Place,
+    frame: &Frame<'_>,
+    pushed: u16,
+    draft: &mut Draft,
+) -> Result<(), AllocError>
+    requires { place ≡ place_of frame.now pushed (typed_of a.now) }
+    ensures lines { OnOk result (draft.new ≡ grown draft.old (target_code place (base_code frame.now pushed draft.old.labels (typed_of a.now))) (uses None (typed_of a.now))) }
+    ensures kept { OnErr result (Keeps draft.old draft.new) }
+{
+    put_target(a, place, frame, pushed, draft)
+}

@@ -21,5 +21,12 @@ mod value;
 mod wanted;
 
 pub use c65_genframe::{Frame, Home};
-pub use expr::{put_expr, put_test};
+pub use constants::{constant_in, residue_of};
+pub use direct::is_pure;
+pub use expr::{put_expr, put_place, put_test};
+pub use leaving::leave_out;
+pub use places::place_of;
+pub use steps::{amount_of, put_step};
+pub use types::{access_of, target_bytes};
 pub use value::gen_expr;
+pub use wanted::Wanted;

@@ -15,7 +15,7 @@ use Rattle.c65_genentry.specs.Drafts.{with_labels}
 use Rattle.c65_genentry.specs.Words.{jump, with_code}
 use Rattle.c65_genentry.specs.Choice.{choice_code, choice_labels}
 use Rattle.c65_genstmt.specs.declared.jumps.Ways.{Ways}
-use Rattle.c65_genstmt.specs.Jumps.{following, with_value, with_test}
+use Rattle.c65_genstmt.specs.Jumps.{following, with_value, with_effect, with_test}
 use Rattle.c65_genstmt.specs.Objects.{with_set, with_cleared}
 use Rattle.c65_genstmt.specs.Cases.{has_default}
 
@@ -56,6 +56,10 @@ abbrev pub with_maybe : Framed → MaybeTyped → Drafted → Drafted
 with_maybe f absent d = d
 with_maybe f (present e) d = with_value f e d
 
+abbrev pub with_effects : Framed → MaybeTyped → Drafted → Drafted
+with_effects f absent d = d
+with_effects f (present e) d = with_effect f e d
+
 -- the test of a loop, where there is one, which leaves it where it fails
 abbrev pub with_guard : Framed → ℕ → MaybeTyped → Drafted → Drafted
 with_guard f end absent d = d
@@ -85,7 +89,7 @@ with_bottom f head onward end e d = with_label end (with_test f head true e (wit
 abbrev mutual
   pub with_stmt : Framed → Ways → ℕ → Stmt → Drafted → Drafted
   with_stmt f w l empty d = d
-  with_stmt f w l (eval e) d = with_value f e d
+  with_stmt f w l (eval e) d = with_effect f e d
   with_stmt f w l (set_part i o e) d = with_set f i o e d
   with_stmt f w l (clear i) d = with_cleared f i d
   with_stmt f w l (block os ss) d = with_stmts f w l ss d
@@ -100,9 +104,9 @@ abbrev mutual
       let body = with_stmt f (ways (d.labels + 1 + 1) (d.labels + 1) w.other) l a (with_label d.labels (three_given d)) in
       with_bottom f d.labels (d.labels + 1) (d.labels + 1 + 1) e body
   with_stmt f w l (for_loop i c n a) d =
-      let g = with_maybe f i d in
+      let g = with_effects f i d in
       let body = with_stmt f (ways (g.labels + 1 + 1) (g.labels + 1) w.other) l a (with_guard f (g.labels + 1 + 1) c (with_label g.labels (three_given g))) in
-      with_label (g.labels + 1 + 1) (with_jump g.labels (with_maybe f n (with_label (g.labels + 1) body)))
+      with_label (g.labels + 1 + 1) (with_jump g.labels (with_effects f n (with_label (g.labels + 1) body)))
   with_stmt f w l (switch e a) d =
       with_label d.labels (with_stmt f (ways d.labels w.onward (d.labels + 1)) (d.labels + 1 + 1) a (with_choice f e a d))
   with_stmt f w l (case z a) d = with_stmt f w (following l) a (with_label l d)
@@ -135,4 +139,4 @@ with_switch f w e a d = with_stmt f w 0 (switch e a) d
 abbrev pub with_for : Framed → Ways → ℕ → MaybeTyped → MaybeTyped → Stmt → Drafted → Drafted
 with_for f w l c n a g =
     let body = with_stmt f (ways (g.labels + 1 + 1) (g.labels + 1) w.other) l a (with_guard f (g.labels + 1 + 1) c (with_label g.labels (three_given g))) in
-    with_label (g.labels + 1 + 1) (with_jump g.labels (with_maybe f n (with_label (g.labels + 1) body)))
+    with_label (g.labels + 1 + 1) (with_jump g.labels (with_effects f n (with_label (g.labels + 1) body)))

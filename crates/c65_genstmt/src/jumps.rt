@@ -1,4 +1,4 @@
-// Jumps, values and tests.
+// Jumps, values, effects and tests.
 ghost use Rattle.std.specs.Prelude.{◌≡◌, ◌∷◌, [], OnOk};
 ghost use Rattle.c65_mach.specs.declared.rows.Op.TheVariants.{Jmp};
 ghost use Rattle.c65_ctype.specs.Views.{ty_of};
@@ -6,11 +6,12 @@ ghost use Rattle.c65_csem.specs.Views.{typed_of};
 ghost use Rattle.c65_genexpr.specs.Types.{kind_of};
 ghost use Rattle.c65_genwide.specs.Lines.{with_lines};
 ghost use Rattle.c65_genentry.specs.Words.{jump};
-ghost use Rattle.c65_genstmt.specs.Jumps.{following, with_value, with_test};
+ghost use Rattle.c65_genstmt.specs.Jumps.{following, with_value, with_effect, with_test};
 
 use c65_code::{Draft, Line, Operand};
 use c65_csem::TExpr;
 use c65_ctype::CType;
+use c65_geneffect as effects;
 use c65_genexpr::{put_expr, put_test};
 use c65_genframe::Frame;
 use c65_genwide::put;
@@ -61,6 +62,13 @@ pub fn put_value(expr: &TExpr, frame: &Frame<'_>, draft: &mut Draft) -> Result<(
     ensures { OnOk result (draft.new ≡ with_value frame.now (typed_of expr.now) draft.old) }
 {
     put_expr(expr, frame, 0, draft)
+}
+
+/// Those of one whose value is not used.
+pub fn put_effect(expr: &TExpr, frame: &Frame<'_>, draft: &mut Draft) -> Result<(), AllocError>
+    ensures { OnOk result (draft.new ≡ with_effect frame.now (typed_of expr.now) draft.old) }
+{
+    effects::put_effect(expr, frame, 0, draft)
 }
 
 /// A test where no value waits: it leads to a label where the truth of the expression is this.

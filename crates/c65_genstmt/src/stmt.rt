@@ -2,10 +2,10 @@
 ghost use Rattle.std.specs.Prelude.{◌≡◌, ◌+◌, IfOk, OnOk};
 ghost use Rattle.c65_csem.specs.Statements.{cases_of};
 ghost use Rattle.c65_csem.specs.Views.{typed_of, maybe_of, stmt_of, stmts_of};
-ghost use Rattle.c65_genstmt.specs.Stmts.{case_behind, case_behind_all, with_maybe, with_guard, default_way, with_choice, with_label, three_given, with_bottom, with_stmt, with_stmts, with_if, with_while, with_do, with_for, with_switch};
+ghost use Rattle.c65_genstmt.specs.Stmts.{case_behind, case_behind_all, with_maybe, with_effects, with_guard, default_way, with_choice, with_label, three_given, with_bottom, with_stmt, with_stmts, with_if, with_while, with_do, with_for, with_switch};
 
 use crate::cases::{add_cases, has_default};
-use crate::jumps::{Ways, following, kind_of, put_jump, put_truth, put_value};
+use crate::jumps::{Ways, following, kind_of, put_effect, put_jump, put_truth, put_value};
 use crate::objects::{put_clear, put_set};
 use c65_code::Draft;
 use c65_csem::{TExpr, TStmt};
@@ -19,6 +19,15 @@ fn put_maybe(expr: &Option<TExpr>, frame: &Frame<'_>, draft: &mut Draft) -> Resu
 {
     match expr {
         Some(expr) => put_value(expr, frame, draft),
+        None => Ok(()),
+    }
+}
+
+fn put_effects(expr: &Option<TExpr>, frame: &Frame<'_>, draft: &mut Draft) -> Result<(), AllocError>
+    ensures { OnOk result (draft.new ≡ with_effects frame.now (maybe_of expr.now) draft.old) }
+{
+    match expr {
+        Some(expr) => put_effect(expr, frame, draft),
         None => Ok(()),
     }
 }
@@ -139,7 +148,7 @@ pub fn put_stmt(
     match stmt {
         TStmt::Empty => Ok(()),
         TStmt::Eval(expr) => {
-            put_value(expr, frame, draft)?;
+            put_effect(expr, frame, draft)?;
             Ok(())
         }
         TStmt::Set(object, offset, expr) => {
@@ -155,7 +164,7 @@ pub fn put_stmt(
         TStmt::While(test, body) => put_while(alloc, test, body, frame, ways, case, draft),
         TStmt::DoWhile(body, test) => put_do(alloc, body, test, frame, ways, case, draft),
         TStmt::For(first, test, next, body) => {
-            put_maybe(first, frame, draft)?;
+            put_effects(first, frame, draft)?;
             put_for(alloc, test, next, body, frame, ways, case, draft)?;
             Ok(())
         }
@@ -321,7 +330,7 @@ fn put_for(
     };
     put_stmt(alloc, body, frame, inner, case, draft)?;
     label(draft, onward)?;
-    put_maybe(next, frame, draft)?;
+    put_effects(next, frame, draft)?;
     put_jump(head, draft)?;
     label(draft, end)?;
     Ok(())

@@ -1,0 +1,205 @@
+-- What is so of the forms for effects: sides that take no lines are idle, and instructions count where they reach.
+use Rattle.std.proofs.Common.{◌≡◌, ℕ, ℤ, ◌==◌, Bool, true, false, Option, Some, None, refl}
+use Rattle.std.specs.Prelude.{◌&&◌, if◌then◌else◌, option_map, option_and_then}
+use Rattle.c65_base.specs.declared.operators.BinaryOp.{BinaryOp}
+use Rattle.c65_base.specs.declared.operators.StepKind.{StepKind}
+use Rattle.c65_base.specs.declared.operators.StepKind.TheVariants.{PreInc, PreDec, PostInc, PostDec}
+use Rattle.c65_csem.specs.Trees.{Typed, node, constant, null}
+use Rattle.c65_genframe.specs.Frames.{Framed}
+use Rattle.c65_genload.specs.declared.places.Place.{Place}
+use Rattle.c65_genload.specs.declared.places.Place.TheVariants as places
+use Rattle.c65_genload.specs.declared.places.Access.{Access}
+use Rattle.c65_genload.specs.Numbers.{first, second}
+use Rattle.c65_genexpr.specs.Places.{IsKnown}
+use Rattle.c65_genexpr.specs.Operands.{constant_in}
+use Rattle.c65_genexpr.specs.Operating.{takes_bytes}
+use Rattle.c65_genexpr.specs.Direct.{is_pure}
+use Rattle.c65_geneffect.specs.declared.spots.Target.{Target}
+use Rattle.c65_geneffect.specs.declared.spots.Target.TheVariants.{Byte, Word}
+use Rattle.c65_geneffect.specs.declared.changes.Change.{Change}
+use Rattle.c65_geneffect.specs.declared.changes.Change.TheVariants.{Up, Down, Number, Operand}
+use Rattle.c65_geneffect.specs.declared.changing.Changing.{Changing}
+use Rattle.c65_geneffect.specs.declared.changing.Changing.TheVariants.{Fixed, Loaded, Otherwise}
+use Rattle.c65_geneffect.specs.declared.changing.Fill.{Fill}
+use Rattle.c65_geneffect.specs.Spots.{all_counted, target_of}
+use Rattle.c65_geneffect.specs.Changing.{counting, step_op, step_by, stepping_of, loaded_by, fixed_or, changing_at, changing_of, number_in, fill_by, filling_at, filling_of}
+use Rattle.c65_gen_law_lines.proofs.Drops.{Idle}
+use Rattle.c65_gen_law_lines.proofs.EffectForms.{IsSound}
+
+-- ---- `++` and `--`
+
+abbrev pub IsStep : Option Change → Type 0
+IsStep None = Unit {0}
+IsStep (Some change) = IsSound change
+
+counting_sound : (how : StepKind) (target : Target) → all_counted target ≡ true → IsSound (counting how target)
+counting_sound PreInc target h = h
+counting_sound PreDec target h = h
+counting_sound PostInc target h = h
+counting_sound PostDec target h = h
+
+step_sound : (how : StepKind) (size : ℕ) (target : Target) → IsSound (step_by how size target)
+step_sound how size target = go (all_counted target) refl
+  where
+    go : (b : Bool) → all_counted target ≡ b → IsSound (if (size == 1) && b then counting how target else Number (step_op how) size target)
+    go false h = if_second (size == 1)
+      where
+        if_second : (c : Bool) → IsSound (if c && false then counting how target else Number (step_op how) size target)
+        if_second true = tt
+        if_second false = tt
+    go true h = if_first (size == 1)
+      where
+        if_first : (c : Bool) → IsSound (if c && true then counting how target else Number (step_op how) size target)
+        if_first true = counting_sound how target h
+        if_first false = tt
+
+stepped : (how : StepKind) (size : ℕ) (t : Option Target) → IsStep (option_map (step_by how size) t)
+stepped how size None = tt
+stepped how size (Some target) = step_sound how size target
+
+pub stepping_sound : (how : StepKind) (size : ℕ) (place : Place) (access : Access) → IsStep (stepping_of how size place access)
+stepping_sound how size place access = stepped how size (target_of place access)
+
+-- ---- assignments with an operator
+
+-- what is so of a side whose lines are not taken, and of the form
+abbrev pub Unneeded : Changing → Type 0 → Type 0 → Type 0
+Unneeded (Fixed change) A B = IsSound change × B
+Unneeded (Loaded change) A B = IsSound change × A
+Unneeded Otherwise A B = Unit {0}
+
+loaded_if : (A B : Type 0) (c : Bool) (op : BinaryOp) (target : Target) → A → Unneeded (if c then Loaded (Operand op target) else Otherwise) A B
+loaded_if A B true op target a = (tt, a)
+loaded_if A B false op target a = tt
+
+loaded_unneeded : (A B : Type 0) (pure : Bool) (op : BinaryOp) (size : ℕ) (place : Place) (target : Target) → (IsKnown place → A) → Unneeded (loaded_by pure op size place target) A B
+loaded_unneeded A B pure op size (places.Far at) target known = tt
+loaded_unneeded A B pure op size (places.Bank b) target known = loaded_if A B (pure && (size == 1)) op target (known tt)
+loaded_unneeded A B pure op size (places.Near at) target known = loaded_if A B (pure && (size == 1)) op target (known tt)
+loaded_unneeded A B pure op size (places.Data s at) target known = loaded_if A B (pure && (size == 1)) op target (known tt)
+
+fixed_unneeded : (A B : Type 0) (op : BinaryOp) (size : ℕ) (target : Target) (z : Option ℤ) (other : Changing) → ((y : ℤ) → z ≡ Some y → B) → Unneeded other A B → Unneeded (fixed_or op size target z other) A B
+fixed_unneeded A B op size target None other b p = p
+fixed_unneeded A B op size target (Some z) other b p = (tt, b z refl)
+
+at_unneeded : (A B : Type 0) (op : BinaryOp) (size : ℕ) (place : Place) (e : Typed) (t : Option Target) → (IsKnown place → A) → ((z : ℤ) → constant_in e ≡ Some z → B) → Unneeded (changing_at op size place e t) A B
+at_unneeded A B op size place e None known b = tt
+at_unneeded A B op size place e (Some target) known b = fixed_unneeded A B op size target (constant_in e) (loaded_by (is_pure e) op size place target) b (loaded_unneeded A B (is_pure e) op size place target known)
+
+unneeded_if : (A B : Type 0) (c : Bool) (how : Changing) → Unneeded how A B → Unneeded (if c then how else Otherwise) A B
+unneeded_if A B true how p = p
+unneeded_if A B false how p = tt
+
+pub changing_unneeded : (A B : Type 0) (op : BinaryOp) (size : ℕ) (place : Place) (access : Access) (e : Typed) → (IsKnown place → A) → ((z : ℤ) → constant_in e ≡ Some z → B) → Unneeded (changing_of op size place access e) A B
+changing_unneeded A B op size place access e known b = unneeded_if A B (takes_bytes op) (changing_at op size place e (target_of place access)) (at_unneeded A B op size place e (target_of place access) known b)
+
+-- ---- `=`
+
+abbrev pub Unfilled : Option Fill → Type 0 → Type 0 → Type 0
+Unfilled (Some fill) A B = A × B
+Unfilled None A B = Unit {0}
+
+any_fill : (A B : Type 0) (fill : Option Fill) → A → B → Unfilled fill A B
+any_fill A B None a b = tt
+any_fill A B (Some fill) a b = (a, b)
+
+filled_at : (A B : Type 0) (place : Place) (access : Access) (n : Option ℕ) → A → ((m : ℕ) → n ≡ Some m → B) → Unfilled (filling_at place access n) A B
+filled_at A B place access None a b = tt
+filled_at A B place access (Some n) a b = any_fill A B (option_and_then (fill_by n) (target_of place access)) a (b n refl)
+
+pub number_idle : (f : Framed) (e : Typed) (n : ℕ) → number_in e ≡ Some n → Idle f e
+number_idle f (node t (constant z)) n h = record { uses = refl; calls = refl }
+number_idle f (node t null) n h = record { uses = refl; calls = refl }
+number_idle f (node t _) n h = absurd cc
+
+pub filling_unneeded : (A B : Type 0) (place : Place) (access : Access) (e : Typed) → (IsKnown place → A) → ((n : ℕ) → number_in e ≡ Some n → B) → Unfilled (filling_of place access e) A B
+filling_unneeded A B (places.Far at) access e known b = tt
+filling_unneeded A B (places.Bank x) access e known b = filled_at A B (places.Bank x) access (number_in e) (known tt) b
+filling_unneeded A B (places.Near at) access e known b = filled_at A B (places.Near at) access (number_in e) (known tt) b
+filling_unneeded A B (places.Data s at) access e known b = filled_at A B (places.Data s at) access (number_in e) (known tt) b
+
+-- ---- what is so of the bytes at a place is so of those that are changed
+
+abbrev pub target_in : Change → Target
+target_in (Up target) = target
+target_in (Down target) = target
+target_in (Number op n target) = target
+target_in (Operand op target) = target
+
+abbrev pub OfAny : (Target → Type 0) → Option Target → Type 0
+OfAny P None = Unit {0}
+OfAny P (Some target) = P target
+
+abbrev pub OfStep : (Target → Type 0) → Option Change → Type 0
+OfStep P None = Unit {0}
+OfStep P (Some change) = P (target_in change)
+
+abbrev pub OfChanging : (Target → Type 0) → Changing → Type 0
+OfChanging P (Fixed change) = P (target_in change)
+OfChanging P (Loaded change) = P (target_in change)
+OfChanging P Otherwise = Unit {0}
+
+abbrev pub OfFill : (Target → Type 0) → Option Fill → Type 0
+OfFill P None = Unit {0}
+OfFill P (Some fill) = P (Word fill.low fill.high)
+
+counting_target : (P : Target → Type 0) (how : StepKind) (target : Target) → P target → P (target_in (counting how target))
+counting_target P PreInc target p = p
+counting_target P PreDec target p = p
+counting_target P PostInc target p = p
+counting_target P PostDec target p = p
+
+either_target : (P : Target → Type 0) (b : Bool) (x y : Change) → P (target_in x) → P (target_in y) → P (target_in (if b then x else y))
+either_target P true x y p q = p
+either_target P false x y p q = q
+
+stepped_target : (P : Target → Type 0) (how : StepKind) (size : ℕ) (t : Option Target) → OfAny P t → OfStep P (option_map (step_by how size) t)
+stepped_target P how size None p = tt
+stepped_target P how size (Some target) p = either_target P ((size == 1) && all_counted target) (counting how target) (Number (step_op how) size target) (counting_target P how target p) p
+
+pub stepping_target : (P : Target → Type 0) (how : StepKind) (size : ℕ) (place : Place) (access : Access) → OfAny P (target_of place access) → OfStep P (stepping_of how size place access)
+stepping_target P how size place access p = stepped_target P how size (target_of place access) p
+
+loaded_target : (P : Target → Type 0) (b : Bool) (op : BinaryOp) (target : Target) → P target → OfChanging P (if b then Loaded (Operand op target) else Otherwise)
+loaded_target P true op target p = p
+loaded_target P false op target p = tt
+
+loading_target : (P : Target → Type 0) (pure : Bool) (op : BinaryOp) (size : ℕ) (place : Place) (target : Target) → P target → OfChanging P (loaded_by pure op size place target)
+loading_target P pure op size (places.Far at) target p = tt
+loading_target P pure op size (places.Bank b) target p = loaded_target P (pure && (size == 1)) op target p
+loading_target P pure op size (places.Near at) target p = loaded_target P (pure && (size == 1)) op target p
+loading_target P pure op size (places.Data s at) target p = loaded_target P (pure && (size == 1)) op target p
+
+fixed_target : (P : Target → Type 0) (op : BinaryOp) (size : ℕ) (target : Target) (z : Option ℤ) (other : Changing) → P target → OfChanging P other → OfChanging P (fixed_or op size target z other)
+fixed_target P op size target None other p q = q
+fixed_target P op size target (Some z) other p q = p
+
+changed_target : (P : Target → Type 0) (op : BinaryOp) (size : ℕ) (place : Place) (e : Typed) (t : Option Target) → OfAny P t → OfChanging P (changing_at op size place e t)
+changed_target P op size place e None p = tt
+changed_target P op size place e (Some target) p = fixed_target P op size target (constant_in e) (loaded_by (is_pure e) op size place target) p (loading_target P (is_pure e) op size place target p)
+
+changing_if : (P : Target → Type 0) (b : Bool) (how : Changing) → OfChanging P how → OfChanging P (if b then how else Otherwise)
+changing_if P true how p = p
+changing_if P false how p = tt
+
+pub changing_target : (P : Target → Type 0) (op : BinaryOp) (size : ℕ) (place : Place) (access : Access) (e : Typed) → OfAny P (target_of place access) → OfChanging P (changing_of op size place access e)
+changing_target P op size place access e p = changing_if P (takes_bytes op) (changing_at op size place e (target_of place access)) (changed_target P op size place e (target_of place access) p)
+
+fill_if : (P : Target → Type 0) (b : Bool) (fill : Fill) → P (Word fill.low fill.high) → OfFill P (if b then Some fill else None)
+fill_if P true fill p = p
+fill_if P false fill p = tt
+
+fill_target : (P : Target → Type 0) (n : ℕ) (t : Option Target) → OfAny P t → OfFill P (option_and_then (fill_by n) t)
+fill_target P n None p = tt
+fill_target P n (Some (Byte low)) p = tt
+fill_target P n (Some (Word low high)) p = fill_if P (first n == second n) (record { byte = first n; low = low; high = high }) p
+
+filled_target : (P : Target → Type 0) (place : Place) (access : Access) (n : Option ℕ) → OfAny P (target_of place access) → OfFill P (filling_at place access n)
+filled_target P place access None p = tt
+filled_target P place access (Some n) p = fill_target P n (target_of place access) p
+
+pub filling_target : (P : Target → Type 0) (place : Place) (access : Access) (e : Typed) → OfAny P (target_of place access) → OfFill P (filling_of place access e)
+filling_target P (places.Far at) access e p = tt
+filling_target P (places.Bank b) access e p = filled_target P (places.Bank b) access (number_in e) p
+filling_target P (places.Near at) access e p = filled_target P (places.Near at) access (number_in e) p
+filling_target P (places.Data s at) access e p = filled_target P (places.Data s at) access (number_in e) p

@@ -1,0 +1,147 @@
+// Expressions whose value is not used (C90 6.3.2.4, 6.3.3.1, 6.3.16, 6.3.17, 6.6.3).
+ghost use Rattle.std.specs.Prelude.{◌≡◌, ◌+◌, None, OnOk, OnErr};
+ghost use Rattle.c65_csem.specs.Views.{typed_of};
+ghost use Rattle.c65_ctype.specs.Views.{types_of};
+ghost use Rattle.c65_genwide.specs.Lines.{grown, Keeps};
+ghost use Rattle.c65_genexpr.specs.declared.wanted.Wanted.TheVariants.{Value};
+ghost use Rattle.c65_genexpr.specs.Code.{expr_code};
+ghost use Rattle.c65_genexpr.specs.Places.{place_of};
+ghost use Rattle.c65_genexpr.specs.Types.{access_of};
+ghost use Rattle.c65_genexpr.specs.Uses.{uses};
+ghost use Rattle.c65_geneffect.specs.Changing.{filling_of};
+ghost use Rattle.c65_geneffect.specs.Effects.{changed_code, filled_or, step_effect, effect_code, effect_uses};
+
+use crate::changes::{put_change, put_fill};
+use crate::changing::{Changing, changing_of, filling_of, in_front, stepping_of};
+use crate::spots::put_point;
+use c65_base::{BinaryOp, StepKind};
+use c65_code::Draft;
+use c65_code::Line::Label;
+use c65_csem::{TExpr, TKind};
+use c65_genexpr::{
+    Wanted, access_of, amount_of, leave_out, place_of, put_expr, put_step, put_place, target_bytes,
+};
+use c65_genframe::Frame;
+use c65_genwide::{next_label, put};
+use std::alloc::AllocError;
+
+/// Puts the lines of an expression whose value is not used, where so many bytes wait.
+#[tactic(auto, using(c65_genwide::proofs::Kept::kept_then, c65_genwide::proofs::Kept::kept_last, c65_genwide::proofs::Kept::grown_then, c65_genwide::proofs::Kept::grown_last, c65_genwide::proofs::Kept::label_then, c65_genwide::proofs::Kept::label_last, c65_genwide::proofs::Kept::refused_then))]
+pub fn put_effect(
+    e: &TExpr,
+    frame: &Frame<'_>,
+    pushed: u16,
+    draft: &mut Draft,
+) -> Result<(), AllocError>
+    ensures lines { OnOk result (draft.new ≡ grown draft.old (effect_code frame.now pushed draft.old.labels (typed_of e.now)) (effect_uses (typed_of e.now))) }
+    ensures kept { OnErr result (Keeps draft.old draft.new) }
+{
+    match &e.kind {
+        TKind::Convert(a) => put_effect(a, frame, pushed, draft),
+        TKind::Comma(a, b) => {
+            put_effect(a, frame, pushed, draft)?;
+            put_effect(b, frame, pushed, draft)
+        }
+        TKind::Assign(a, b) => put_filled(e, a, b, frame, pushed, draft),
+        TKind::AssignOp(op, _, a, b) => put_changed(e, a, b, *op, 1, frame, pushed, draft),
+        TKind::AssignStep(op, a, b) => {
+            let size = target_bytes(frame, &a.ty.ty);
+            put_changed(e, a, b, *op, size, frame, pushed, draft)
+        }
+        TKind::Step(how, a) => put_stepped(*how, a, frame, pushed, draft),
+        _ => put_expr(e, frame, pushed, draft),
+    }
+}
+
+// `=` on scalars
+#[tactic(auto, using(c65_genwide::proofs::Kept::kept_then, c65_genwide::proofs::Kept::kept_last, c65_genwide::proofs::Kept::grown_then, c65_genwide::proofs::Kept::grown_last, c65_genwide::proofs::Kept::label_then, c65_genwide::proofs::Kept::label_last, c65_genwide::proofs::Kept::refused_then))]
+fn put_filled(
+    e: &TExpr,
+    a: &TExpr,
+    b: &TExpr,
+    frame: &Frame<'_>,
+    pushed: u16,
+    draft: &mut Draft,
+) -> Result<(), AllocError>
+    requires { uses None (typed_of e.now) ≡ uses None (typed_of a.now) + uses None (typed_of b.now) }
+    ensures lines { OnOk result (draft.new ≡ grown draft.old (filled_or (filling_of (place_of frame.now pushed (typed_of a.now)) (access_of (types_of frame.now.parts.types) (typed_of a.now)) (typed_of b.now)) (expr_code frame.now pushed draft.old.labels Value (typed_of e.now))) (uses None (typed_of e.now))) }
+    ensures kept { OnErr result (Keeps draft.old draft.new) }
+{
+    let access = access_of(&frame.parts().types, a);
+    match filling_of(frame, pushed, access, a, b) {
+        Some(fill) => {
+            leave_out(a, Wanted::Value, draft)?;
+            leave_out(b, Wanted::Value, draft)?;
+            put_fill(fill.byte, fill.low, fill.high, draft)
+        }
+        None => put_expr(e, frame, pushed, draft),
+    }
+}
+
+// An assignment with an operator; elements have so many bytes.
+#[tactic(auto, using(c65_genwide::proofs::Kept::kept_then, c65_genwide::proofs::Kept::kept_last, c65_genwide::proofs::Kept::grown_then, c65_genwide::proofs::Kept::grown_last, c65_genwide::proofs::Kept::label_then, c65_genwide::proofs::Kept::label_last, c65_genwide::proofs::Kept::refused_then))]
+fn put_changed(
+    e: &TExpr,
+    a: &TExpr,
+    b: &TExpr,
+    op: BinaryOp,
+    size: u32,
+    frame: &Frame<'_>,
+    pushed: u16,
+    draft: &mut Draft,
+) -> Result<(), AllocError>
+    requires { uses None (typed_of e.now) ≡ uses None (typed_of a.now) + uses None (typed_of b.now) }
+    ensures lines { OnOk result (draft.new ≡ grown draft.old (changed_code frame.now pushed draft.old.labels op size (typed_of a.now) (typed_of b.now) (expr_code frame.now pushed (draft.old.labels + 1) Value (typed_of e.now))) (1 + (uses None (typed_of a.now) + uses None (typed_of b.now)))) }
+    ensures kept { OnErr result (Keeps draft.old draft.new) }
+{
+    let label = next_label(draft)?;
+    let place = place_of(frame, pushed, a);
+    let access = access_of(&frame.parts().types, a);
+    match changing_of(op, size, frame, pushed, access, a, b) {
+        Changing::Fixed(change) => {
+            put_place(a, place, frame, pushed, draft)?;
+            leave_out(b, Wanted::Value, draft)?;
+            put_point(place, draft)?;
+            put_change(change, label, draft)
+        }
+        Changing::Loaded(change) => {
+            leave_out(a, Wanted::Value, draft)?;
+            put_expr(b, frame, pushed, draft)?;
+            put_change(change, label, draft)
+        }
+        Changing::Otherwise => {
+            put_expr(e, frame, pushed, draft)?;
+            put(draft, &[Label(label)])
+        }
+    }
+}
+
+// `++` and `--`
+#[tactic(auto, using(c65_genwide::proofs::Kept::kept_then, c65_genwide::proofs::Kept::kept_last, c65_genwide::proofs::Kept::grown_then, c65_genwide::proofs::Kept::grown_last, c65_genwide::proofs::Kept::label_then, c65_genwide::proofs::Kept::label_last, c65_genwide::proofs::Kept::refused_then))]
+fn put_stepped(
+    how: StepKind,
+    a: &TExpr,
+    frame: &Frame<'_>,
+    pushed: u16,
+    draft: &mut Draft,
+) -> Result<(), AllocError>
+    ensures lines { OnOk result (draft.new ≡ grown draft.old (step_effect frame.now pushed draft.old.labels how (typed_of a.now)) (1 + uses None (typed_of a.now))) }
+    ensures kept { OnErr result (Keeps draft.old draft.new) }
+{
+    let label = next_label(draft)?;
+    let place = place_of(frame, pushed, a);
+    let access = access_of(&frame.parts().types, a);
+    put_place(a, place, frame, pushed, draft)?;
+    match stepping_of(how, target_bytes(frame, &a.ty.ty), place, access) {
+        Some(change) => {
+            put_point(place, draft)?;
+            put_change(change, label, draft)
+        }
+        None => {
+            let front = in_front(how);
+            let amount = amount_of(frame, front, &a.ty.ty);
+            put_step(front, place, access, amount, draft)?;
+            put(draft, &[Label(label)])
+        }
+    }
+}
