@@ -1,5 +1,5 @@
 //! Does `c65 go` for each file that is named, and prints its name, what the program writes, and what the tool answers. Then it
-//! does so under `-O` for files that are not long, and says where that answers otherwise.
+//! does so under `-Oirs` for files that are not long, and says where that answers otherwise.
 #![tactic(auto)]
 
 use c65_base::Refusal;
@@ -69,8 +69,8 @@ fn main(rt: HostRuntime) -> Result<(), anyhow::Error> {
             Ok(text) => text.len() <= LONGEST,
             Err(_) => false,
         };
-        if is_short && !go(alloc, &mut files, Some("-O"), &path)?.is(&left) {
-            println!(rt; "-O: otherwise")?;
+        if is_short && !go(alloc, &mut files, Some("-Oirs"), &path)?.is(&left) {
+            println!(rt; "-Oirs: otherwise")?;
         }
     }
     Ok(())
