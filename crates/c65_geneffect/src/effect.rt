@@ -19,7 +19,7 @@ use c65_code::Draft;
 use c65_code::Line::Label;
 use c65_csem::{TExpr, TKind};
 use c65_genexpr::{
-    Wanted, access_of, amount_of, leave_out, place_of, put_expr, put_step, put_place, target_bytes,
+    Wanted, access_of, amount_of, leave_out, place_of, put_expr, put_place, put_step, target_bytes,
 };
 use c65_genframe::Frame;
 use c65_genwide::{next_label, put};
