@@ -15,3 +15,6 @@ pub mod DataLaws
 pub mod TextLaws
 pub mod ReadLaws
 pub mod SoundLaws
+pub mod NoteLaws
+pub mod KnownLaws
+pub mod NotedLaws

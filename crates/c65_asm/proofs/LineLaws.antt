@@ -12,7 +12,7 @@ abbrev Pair : Type 0
 Pair = List ℕ × List ℕ
 
 -- one byte more at the front of the line
-abbrev longer : ℕ → Bool → List ℕ → Option Pair → Option Pair
+abbrev pub longer : ℕ → Bool → List ℕ → Option Pair → Option Pair
 longer c b text o = if b then Some ([], text) else option_map (λ (p : Pair). (c ∷ p.0, p.1)) o
 
 -- what the first line leaves to do
@@ -86,7 +86,7 @@ comes_to_end r n (c ∷ text) h = absurd (omega arith)
 
 -- what is left is shorter
 
-cut_shorter : (text : List ℕ) (p : Pair) → cut_at 10 text ≡ Some p → length p.1 < length text
+pub cut_shorter : (text : List ℕ) (p : Pair) → cut_at 10 text ≡ Some p → length p.1 < length text
 cut_shorter [] p e = absurd cc
 cut_shorter (c ∷ text) p e = by_byte (λ q g. cut_shorter text q g) (c == 10) refl
   where

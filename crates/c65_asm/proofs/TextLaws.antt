@@ -20,7 +20,7 @@ use Rattle.c65_asm.specs.Symbols.{symbols_of}
 use Rattle.c65_asm.specs.Renumbered.{naming, naming_operand, naming_callee, naming_line, naming_lines, naming_function, naming_functions, naming_cells, naming_datum, naming_datums, names_of, renamed, renamed_operand, renamed_callee, renamed_line, renamed_function, renamed_cell, renamed_datum, renumbered}
 use Rattle.c65_asm.proofs.NumberLaws.{Grows, grows_same, grows_on, grows_lines, grows_functions, grows_cells, grows_datums, named_now, named_later, renamed_text}
 
-sym_same : (symbols : List Symbol) (final names : List (List ℕ)) (sym : Sym) → Grows (naming symbols sym names) final → sym_text (symbols_of final) (renamed symbols final sym) ≡ sym_text symbols sym
+pub sym_same : (symbols : List Symbol) (final names : List (List ℕ)) (sym : Sym) → Grows (naming symbols sym names) final → sym_text (symbols_of final) (renamed symbols final sym) ≡ sym_text symbols sym
 sym_same symbols final names sym g = renamed_text symbols final sym (named_later (naming symbols sym names) final (sym_text symbols sym) g (named_now names (sym_text symbols sym)))
 
 operand_same : (symbols : List Symbol) (final names : List (List ℕ)) (o : Operand) → Grows (naming_operand symbols o names) final → operand_text (symbols_of final) (renamed_operand symbols final o) ≡ operand_text symbols o
@@ -37,7 +37,7 @@ callee_same symbols final names (callees.Routine r) g = refl
 callee_same symbols final names (callees.Function f reads gives) g = ap (λ t. t ++ passed_text reads gives) (sym_same symbols final names f g)
 callee_same symbols final names (callees.Pointer reads gives) g = refl
 
-line_same : (symbols : List Symbol) (final names : List (List ℕ)) (line : Line) → Grows (naming_line symbols line names) final → line_text (symbols_of final) (renamed_line symbols final line) ≡ line_text symbols line
+pub line_same : (symbols : List Symbol) (final names : List (List ℕ)) (line : Line) → Grows (naming_line symbols line names) final → line_text (symbols_of final) (renamed_line symbols final line) ≡ line_text symbols line
 line_same symbols final names (lines.Label l) g = refl
 line_same symbols final names (lines.Do op mode o) g = ap (λ t. codes "\t" ++ mnemonic_of op ++ before mode ++ t ++ behind mode ++ codes "\n") (operand_same symbols final names o g)
 line_same symbols final names (lines.Call c) g = ap (λ t. codes "\tJSR " ++ t ++ codes "\n") (callee_same symbols final names c g)
@@ -89,7 +89,7 @@ datum_same symbols final names kind d g = by_kind kind
     by_kind Const = headed (codes ".const ")
     by_kind Zero = ap (λ t. codes ".zero " ++ t ++ codes "," ++ decimal d.zeros ++ codes "\n") own
 
-datums_same : (symbols : List Symbol) (final : List (List ℕ)) (ds : List Datum) (names : List (List ℕ)) → Grows (naming_datums symbols ds names) final → datums_text (symbols_of final) (map (renamed_datum symbols final) ds) ≡ datums_text symbols ds
+pub datums_same : (symbols : List Symbol) (final : List (List ℕ)) (ds : List Datum) (names : List (List ℕ)) → Grows (naming_datums symbols ds names) final → datums_text (symbols_of final) (map (renamed_datum symbols final) ds) ≡ datums_text symbols ds
 datums_same symbols final [] names g = refl
 datums_same symbols final (d ∷ ds) names g =
     let next = naming_datum symbols d names in

@@ -9,3 +9,5 @@ pub mod Read
 pub mod Renumbered
 pub mod Back
 pub mod Alike
+pub mod Known
+pub mod Noted

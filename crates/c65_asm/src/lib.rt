@@ -2,7 +2,9 @@
 #![tactic(auto)]
 
 mod alike;
+mod known;
 mod mnemonic;
+mod notes;
 mod printing;
 mod reader;
 mod reading;
@@ -10,5 +12,6 @@ mod row;
 mod table;
 mod words;
 
+pub use known::print_known;
 pub use printing::print;
 pub use reading::{Answer, read, read_printed};

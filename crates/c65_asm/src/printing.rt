@@ -14,7 +14,7 @@ use c65_mach::Mode;
 use itoa::Buffer;
 use std::alloc::{AllocError, Global};
 
-fn hex(value: u8) -> u8
+pub fn hex(value: u8) -> u8
     requires { value < 16 }
     ensures { result ≡ hex_digit value }
 {
@@ -34,7 +34,7 @@ fn put_number(out: &mut Vec<u8>, number: u32) -> Result<(), AllocError>
     out.extend_from_slice(buffer.format(number).as_bytes())
 }
 
-fn put_sym(out: &mut Vec<u8>, symbols: &[Symbol], sym: Sym) -> Result<(), AllocError>
+pub fn put_sym(out: &mut Vec<u8>, symbols: &[Symbol], sym: Sym) -> Result<(), AllocError>
     ensures { OnOk result (out.new.items ≡ out.old.items ++ sym_text symbols.now sym) }
 {
     match symbols.get(sym.0 as usize) {
@@ -125,7 +125,7 @@ fn letters(alloc: Global, set: RegSet) -> Result<Vec<u8>, AllocError>
     Ok(text)
 }
 
-fn put_set(out: &mut Vec<u8>, alloc: Global, set: RegSet) -> Result<(), AllocError>
+pub fn put_set(out: &mut Vec<u8>, alloc: Global, set: RegSet) -> Result<(), AllocError>
     ensures { OnOk result (out.new.items ≡ out.old.items ++ set_text set) }
 {
     let text = letters(alloc, set)?;
@@ -171,7 +171,7 @@ fn put_callee(
     }
 }
 
-fn put_line(
+pub fn put_line(
     out: &mut Vec<u8>,
     alloc: Global,
     symbols: &[Symbol],
@@ -336,7 +336,7 @@ fn put_datum(out: &mut Vec<u8>, symbols: &[Symbol], datum: &Datum) -> Result<(),
     }
 }
 
-fn put_datums(out: &mut Vec<u8>, symbols: &[Symbol], datums: &[Datum]) -> Result<(), AllocError>
+pub fn put_datums(out: &mut Vec<u8>, symbols: &[Symbol], datums: &[Datum]) -> Result<(), AllocError>
     ensures { OnOk result (out.new.items ≡ out.old.items ++ datums_text symbols.now datums.now) }
 {
     for datum in datums {
@@ -345,7 +345,7 @@ fn put_datums(out: &mut Vec<u8>, symbols: &[Symbol], datums: &[Datum]) -> Result
     Ok(())
 }
 
-fn head(main_args: bool) -> &'static [u8]
+pub fn head(main_args: bool) -> &'static [u8]
     ensures { result.now ≡ head_text main_args }
 {
     if main_args {

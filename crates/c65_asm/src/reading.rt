@@ -5,9 +5,12 @@ ghost use Rattle.c65_asm.specs.Text.{text_of};
 ghost use Rattle.c65_asm.specs.Renumbered.{IsOfTypes};
 ghost use Rattle.c65_asm.specs.Back.{ReadsBack};
 ghost use Rattle.c65_asm.specs.Reading.{start, step};
-ghost use Rattle.c65_asm.specs.Read.{seen, finished, seen_first, with_rest, first_line, next_number, at_end, lines_in, compared, read_text, RefusesText};
+ghost use Rattle.c65_asm.specs.Noted.{noted_answer, read_noted, IsTextOf};
+ghost use Rattle.c65_asm.specs.Read.{seen, finished, seen_first, with_rest, first_line, at_end, lines_in, compared, read_text, RefusesText};
 
 use crate::alike::are_alike;
+use crate::known::known_printed;
+use crate::notes::{counted, has_notes, next_number, parting, without_notes};
 use crate::printing::printed;
 use crate::reader::Reader;
 use crate::words::cut;
@@ -47,16 +50,6 @@ fn with_first_line<'a>(
     match cut(text, b'\n') {
         Some((line, rest)) => behind(reader, line, rest),
         None => Ok(None),
-    }
-}
-
-fn next_number(line: u32) -> u32
-    ensures { result ≡ next_number line }
-{
-    if line == 4_294_967_295 {
-        line
-    } else {
-        line + 1
     }
 }
 
@@ -114,7 +107,37 @@ fn answer_to(alloc: Global, text: &[u8]) -> Result<Answer, AllocError>
     compared(alloc, text, answer)
 }
 
-// The same of a text that is this code's: the answer is first held against that code, and is printed only where that differs.
+// The answer to a text with note lines, by that to its other lines: where those are a code's, it must be what is printed of that
+// code with its notes.
+fn noted_answer(alloc: Global, text: &[u8], answer: Answer) -> Result<Answer, AllocError>
+    ensures { IfOk result (λ noted. noted ≡ noted_answer text.now answer) }
+{
+    match answer {
+        Answer::Code(code) => {
+            let print = known_printed(alloc, &code)?;
+            if text == print.as_slice() {
+                Ok(Answer::Code(code))
+            } else {
+                Ok(Answer::Line(parting(text, &print)))
+            }
+        }
+        Answer::Line(line) => Ok(Answer::Line(counted(line, text))),
+    }
+}
+
+fn noted_answer_to(alloc: Global, text: &[u8]) -> Result<Answer, AllocError>
+    ensures { IfOk result (λ answer. answer ≡ read_noted text.now) }
+{
+    if !has_notes(text) {
+        return answer_to(alloc, text);
+    }
+    let others = without_notes(alloc, text)?;
+    let answer = answer_to(alloc, &others)?;
+    noted_answer(alloc, text, answer)
+}
+
+// The answer to a text without note lines that is this code's: it is first held against that code, and is printed only where
+// that differs.
 fn compared_with(
     alloc: Global,
     text: &[u8],
@@ -160,17 +183,17 @@ fn code_in(alloc: Global, answer: Answer) -> Result<Code, Refusal>
 }
 
 /// The code of an assembly text (docs/TEXT.md), with the symbols numbered in the order in which the text first names them.
-/// So the text that `print` gives of a code is read as that code, with its symbols renumbered.
+/// So the text that `print` or `print_known` gives of a code is read as that code, with its symbols renumbered.
 ///
-/// A text that `print` writes for no code is refused as `AssemblyText` of the file `<text>`, at the first line with which
-/// no such text goes on. Any other refusal is for want of memory.
-#[tactic(auto, using(crate::proofs::SoundLaws::text_is, crate::proofs::ReadLaws::back_is))]
+/// A text that neither writes for any code is refused as `AssemblyText` of the file `<text>`. Note lines are passed over and
+/// counted, and the line is the first one with which no text of `print` goes on; where the other lines are such a text, it is the
+/// first one at which the text is not that of `print_known`. Any other refusal is for want of memory.
 pub fn read(alloc: Global, text: &[u8]) -> Result<Code, Refusal>
-    ensures exact { MatchResult result (λ code. read_text text.now ≡ Answer.Code code) (λ refusal. RefusesText (read_text text.now) refusal) }
-    ensures text { IfOk result (λ code. text_of code ≡ text.now) }
-    ensures printed { (code : _) → IsWritable code → IsOfTypes code → text_of code ≡ text.now → ReadsBack code result }
+    ensures exact { MatchResult result (λ code. read_noted text.now ≡ Answer.Code code) (λ refusal. RefusesText (read_noted text.now) refusal) }
+    ensures text { IfOk result (λ code. IsTextOf code text.now) }
+    ensures printed { (code : _) → IsWritable code → IsOfTypes code → IsTextOf code text.now → ReadsBack code result }
 {
-    let answer = answer_to(alloc, text)?;
+    let answer = noted_answer_to(alloc, text)?;
     code_in(alloc, answer)
 }
 

@@ -1,6 +1,6 @@
 -- The pieces of which the lines of operands that are read where they lie, of shifts by constants and of tests are made.
 use Rattle.std.proofs.Common.{◌≡◌, ℕ, zero, suc, ◌+◌, ◌-◌, ◌%◌, ◌<◌, ◌^◌, ◌==◌, Bool, true, false, Option, None, Some, List, [], ◌∷◌, ◌++◌, refl, arith, rules}
-use Rattle.std.specs.Prelude.{if◌then◌else◌, nat_lt, ◌&&◌, not, replicate}
+use Rattle.std.specs.Prelude.{if◌then◌else◌, nat_lt, ◌&&◌, replicate}
 use Rattle.std.proofs.lemmas.Bool.{ltb-true}
 use Rattle.c65_base.specs.declared.operators.BinaryOp.{BinaryOp}
 use Rattle.c65_base.specs.declared.operators.BinaryOp.TheVariants as ops

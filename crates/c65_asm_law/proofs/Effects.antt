@@ -24,7 +24,6 @@ use Rattle.c65_gendirect.specs.Words.{instruction, carry_code}
 use Rattle.c65_genexpr.specs.declared.wanted.Wanted.TheVariants.{Value}
 use Rattle.c65_genexpr.specs.Types.{bare, access_of, target_bytes}
 use Rattle.c65_genexpr.specs.Places.{place_of}
-use Rattle.c65_genexpr.specs.Storing.{target_code}
 use Rattle.c65_genexpr.specs.Steps.{amount_of}
 use Rattle.c65_genexpr.specs.Uses.{uses}
 use Rattle.c65_genexpr.specs.Code.{base_code}
@@ -47,7 +46,7 @@ use Rattle.c65_asm_law.proofs.Loads.{WellPlace}
 use Rattle.c65_asm_law.proofs.Known.{Knows}
 use Rattle.c65_asm_law.proofs.Places.{place_well, step_well}
 use Rattle.c65_asm_law.proofs.Directs.{carry_well, label_one}
-use Rattle.c65_asm_law.proofs.Exprs.{target_well, expr_well, base_well}
+use Rattle.c65_asm_law.proofs.Exprs.{expr_well, base_well}
 
 -- ---- bytes
 
@@ -156,7 +155,7 @@ fill_well n m low high few h k = well_more n _ _ (tt, few) (well_append n (reach
 -- ---- the whole tree
 
 fixed_well : (n : ℕ) (change : Change) (place : Place) (label : ℕ) (base : List Line) → WellTarget n (target_in change) → label < 2 ^ 32 → AllWell n base → AllWell n (fixed_code change place label base)
-fixed_well n change place label base h few w = well_append n (target_code place base) _ (target_well n place base w) (well_append n (point_code place) _ (point_well n place) (change_well n change label h few))
+fixed_well n change place label base h few w = well_append n base _ w (well_append n (point_code place) _ (point_well n place) (change_well n change label h few))
 
 closed_well : (n label : ℕ) (lines : List Line) → label < 2 ^ 32 → AllWell n lines → AllWell n (closed label lines)
 closed_well n label lines few w = well_append n lines _ w (label_one n label few)
@@ -167,7 +166,7 @@ stepped_well n None place label base whole h few wb ww = closed_well n label who
 
 changed_well : (n : ℕ) (how : Changing) (place : Place) (label : ℕ) (left right whole : List Line) → OfChanging (WellTarget n) how → label < 2 ^ 32 → AllWell n left → AllWell n right → AllWell n whole → AllWell n (changed_by how place label left right whole)
 changed_well n (Fixed change) place label left right whole h few wl wr ww = fixed_well n change place label left h few wl
-changed_well n (Loaded change) place label left right whole h few wl wr ww = well_append n right _ wr (change_well n change label h few)
+changed_well n (Loaded change) place label left right whole h few wl wr ww = well_append n left _ wl (well_append n right _ wr (change_well n change label h few))
 changed_well n Otherwise place label left right whole h few wl wr ww = closed_well n label whole few ww
 
 -- the byte of a fill is one
@@ -194,9 +193,9 @@ filling_byte (places.Bank b) access e = filled_byte (places.Bank b) access (numb
 filling_byte (places.Near at) access e = filled_byte (places.Near at) access (number_in e)
 filling_byte (places.Data s at) access e = filled_byte (places.Data s at) access (number_in e)
 
-filled_well : (n : ℕ) (fill : Option Fill) (whole : List Line) → OneByte fill → OfFill (WellTarget n) fill → AllWell n whole → AllWell n (filled_or fill whole)
-filled_well n (Some fill) whole few h ww = fill_well n fill.byte fill.low fill.high few h.0 h.1
-filled_well n None whole few h ww = ww
+filled_well : (n : ℕ) (fill : Option Fill) (base whole : List Line) → OneByte fill → OfFill (WellTarget n) fill → AllWell n base → AllWell n whole → AllWell n (filled_or fill base whole)
+filled_well n (Some fill) base whole few h wb ww = well_append n base _ wb (fill_well n fill.byte fill.low fill.high few h.0 h.1)
+filled_well n None base whole few h wb ww = ww
 
 op_well : (n : ℕ) (u : UnitTy) (f : Framed) (pushed lo : ℕ) (op : BinaryOp) (size : ℕ) (a b : Typed) (whole : List Line) → Knows f u n → IsTyped u a → IsTyped u b → pushed < 2 ^ 16 → lo + (1 + (uses None a + uses None b)) ≤ 2 ^ 32 → AllWell n whole
     → AllWell n (changed_code f pushed lo op size a b whole)
@@ -217,7 +216,7 @@ mutual
   node_effect_well n u f pushed lo t (assign a b) knows h few room =
       let place : Place = place_of f pushed a in
       let access : Access = access_of (types_of f.parts.types) a in
-      filled_well n (filling_of place access b) _ (filling_byte place access b) (filling_target (WellTarget n) place access b (spot_well n place access (place_well n u f pushed a knows h.0))) (expr_well n u f pushed lo Value (node t (assign a b)) knows h few tt room)
+      filled_well n (filling_of place access b) _ _ (filling_byte place access b) (filling_target (WellTarget n) place access b (spot_well n place access (place_well n u f pushed a knows h.0))) (base_well n u f pushed lo a knows h.0 few (omega (arith, room))) (expr_well n u f pushed lo Value (node t (assign a b)) knows h few tt room)
   node_effect_well n u f pushed lo t (assign_op op k a b) knows h few room =
       op_well n u f pushed lo op 1 a b _ knows h.0 h.1 few room (expr_well n u f pushed (lo + 1) Value (node t (assign_op op k a b)) knows h few tt (omega (arith, room)))
   node_effect_well n u f pushed lo t (assign_step op a b) knows h few room =
@@ -228,5 +227,5 @@ mutual
       let base : AllWell n (base_code f pushed (lo + 1) e) = base_well n u f pushed (lo + 1) e knows h.0 few (omega (arith, room)) in
       let here : WellPlace n place = place_well n u f pushed e knows h.0 in
       stepped_well n (stepping_of how (target_bytes f (bare e)) place access) place lo _ _ (stepping_target (WellTarget n) how (target_bytes f (bare e)) place access (spot_well n place access here)) (omega (arith, room)) base
-      (well_append n (target_code place (base_code f pushed (lo + 1) e)) _ (target_well n place (base_code f pushed (lo + 1) e) base) (step_well n (in_front how) place access (amount_of f (in_front how) (bare e)) here))
+      (well_append n (base_code f pushed (lo + 1) e) _ base (step_well n (in_front how) place access (amount_of f (in_front how) (bare e)) here))
   node_effect_well n u f pushed lo t e knows h few room = expr_well n u f pushed lo Value (node t e) knows h few tt room

@@ -31,7 +31,7 @@ use Rattle.c65_genload.specs.Stores.{store_code}
 use Rattle.c65_gendirect.specs.declared.direct.Direct.{Direct}
 use Rattle.c65_gendirect.specs.declared.relation.Relation.{Relation}
 use Rattle.c65_gendirect.specs.Compare.{relation_of}
-use Rattle.c65_gendirect.specs.Through.{read_store_code, byte_through_code, word_through_code}
+use Rattle.c65_gendirect.specs.Through.{read_store_code, byte_through_code}
 use Rattle.c65_genexpr.specs.declared.storing.Storing.{Storing}
 use Rattle.c65_genexpr.specs.declared.storing.Storing.TheVariants as storing
 use Rattle.c65_genexpr.specs.declared.wanted.Wanted.{Wanted}
@@ -50,14 +50,14 @@ use Rattle.c65_genexpr.specs.declared.operands.Operands.TheVariants.{Numbers, Po
 use Rattle.c65_genexpr.specs.declared.arguments.Passed.{Passed}
 use Rattle.c65_genexpr.specs.declared.types.Outcome.{Outcome}
 use Rattle.c65_genexpr.specs.Types.{kind_of, outcome_of, kind_in, bare, offset_at, access_of, target_bytes}
-use Rattle.c65_genexpr.specs.Places.{more, has_base, added_bytes, sum_has_base, place_of, offset_of, object_code}
+use Rattle.c65_genexpr.specs.Places.{more, has_base, added_bytes, sum_has_base, object_place, place_of, target_of, object_code, target_code}
 use Rattle.c65_genexpr.specs.Operands.{residue_of, constant_in, operands_of, computes, same_truth, conversion_code, conversion_by}
-use Rattle.c65_genexpr.specs.Storing.{target_code, storing_of, below_value, assigned_by}
+use Rattle.c65_genexpr.specs.Storing.{storing_of, below_value, assigned_by}
 use Rattle.c65_genexpr.specs.Steps.{amount_of, open_code, close_code}
 use Rattle.c65_genexpr.specs.Arguments.{is_fast, is_counted, stays, passed_size, joined, passed_of, argument_bytes, argument_code}
 use Rattle.c65_genexpr.specs.Calls.{named_in, named}
 use Rattle.c65_genexpr.specs.Uses.{unless_named, by_relation, uses, node_uses, args_uses, comparison_uses}
-use Rattle.c65_genexpr.specs.Code.{width_in, constant_code, tested_load, load_by, behind_open, compound, call_by, base_by, expr_code, node_code, base_code, pointer_base_code, args_code, operator_code, comparison_code, joint_code}
+use Rattle.c65_genexpr.specs.Code.{width_in, constant_code, tested_load, load_by, behind_open, compound, call_by, expr_code, node_code, base_code, pointer_base_code, args_code, operator_code, comparison_code, joint_code}
 use Rattle.c65_gen_law_lines.proofs.Drops.{sum_uses}
 use Rattle.c65_asm_law.proofs.Well.{AllWell, well_append, well_none, well_more, well_if}
 use Rattle.c65_asm_law.proofs.Loads.{WellPlace, narrow_well, bytes_well, number_well, symbol_well, offset_well, push_well, test_well, hold_well, load_well, store_well, copy_well}
@@ -66,7 +66,7 @@ use Rattle.c65_asm_law.proofs.Places.{place_well, object_well, further_well, spi
 use Rattle.c65_asm_law.proofs.Directs.{WellRead, read_store_well, byte_through_well, word_through_well, zero_test_well, truth_well}
 use Rattle.c65_asm_law.proofs.Forms.{WellStoring, storing_well, kept_well, own_well, comparing_well, comparison_well, operating_well, operator_well}
 
-pub target_well : (n : ℕ) (p : Place) (code : List Line) → AllWell n code → AllWell n (target_code p code)
+target_well : (n : ℕ) (p : Place) (code : List Line) → AllWell n code → AllWell n (target_code p code)
 target_well n (places.Far at) code h = h
 target_well n (places.Bank b) code h = well_none n
 target_well n (places.Near at) code h = well_none n
@@ -109,13 +109,13 @@ constant_well : (n : ℕ) (w : Wanted) (width : Width) (m : ℕ) → WellWanted 
 constant_well n Value width m aim = number_well n width m
 constant_well n (Test to s) width m aim = decided_well n (not (m == 0)) s to aim
 
-tested_load_well : (n : ℕ) (d : Option Direct) (kind : IntType) (s : Bool) (to : ℕ) (lines : List Line) → WellRead n d → to < 2 ^ 32 → AllWell n lines → AllWell n (tested_load d kind s to lines)
-tested_load_well n (Some d) kind s to lines h aim k = zero_test_well n (own_bytes d (extent_of kind)) s to (own_well n d (extent_of kind) h) aim
-tested_load_well n None kind s to lines h aim k = wanted_well n (Test to s) (width_of kind) lines aim k
+tested_load_well : (n : ℕ) (d : Option Direct) (kind : IntType) (s : Bool) (to : ℕ) (base lines : List Line) → WellRead n d → to < 2 ^ 32 → AllWell n base → AllWell n lines → AllWell n (tested_load d kind s to base lines)
+tested_load_well n (Some d) kind s to base lines h aim b k = well_append n base _ b (zero_test_well n (own_bytes d (extent_of kind)) s to (own_well n d (extent_of kind) h) aim)
+tested_load_well n None kind s to base lines h aim b k = wanted_well n (Test to s) (width_of kind) lines aim k
 
 load_by_well : (n : ℕ) (w : Wanted) (place : Place) (access : Access) (lines : List Line) → WellPlace n place → WellWanted w → AllWell n lines → AllWell n (load_by w place access lines)
 load_by_well n Value place access lines h aim k = well_append n lines _ k (load_well n place access h)
-load_by_well n (Test to s) place access lines h aim k = tested_load_well n (kept_at place access) (kept.type_in access) s to _ (kept_well n place access h) aim (well_append n lines _ k (load_well n place access h))
+load_by_well n (Test to s) place access lines h aim k = tested_load_well n (kept_at place access) (kept.type_in access) s to lines _ (kept_well n place access h) aim k (well_append n lines _ k (load_well n place access h))
 
 converted_well : (n : ℕ) (w : Wanted) (same : Bool) (t : Ty) (from : IntType) (lines : List Line) → WellWanted w → AllWell n lines → AllWell n (conversion_by w same t from lines)
 converted_well n Value same t from lines aim h = well_append n lines _ h (conversion_well n t from)
@@ -169,19 +169,13 @@ assigned_well n (storing.Left at stored) place access a b k h ha hb = well_appen
 assigned_well n (storing.RightByte at low high) place access a b k h ha hb = well_append n b _ hb (well_append n (byte_through_code at low high) _ (byte_through_well n at low high k.0 k.1.0 k.1.1) (narrow_well n (kept.type_in access)))
 assigned_well n (storing.RightWord at low high) place access a b k h ha hb = well_append n b _ hb (word_through_well n at low high k.0 k.1)
 assigned_well n storing.Stacked place access a b k h ha hb =
-    well_append n (target_code place a) _ (target_well n place a ha) (well_append n (hold_code place) _ (hold_well n place) (well_append n b (store_code place access) hb (store_well n place access h)))
+    well_append n a _ ha (well_append n (hold_code place) _ (hold_well n place) (well_append n b (store_code place access) hb (store_well n place access h)))
 
 below_value_few : (how : Storing) (pushed : ℕ) (place : Place) → pushed < 2 ^ 16 → below_value how pushed place < 2 ^ 16
 below_value_few storing.Stacked pushed place few = omega arith
 below_value_few _ pushed place few = few
 
 -- ---- the bases of places
-
-based_well : (n : ℕ) (place : Place) (a b : List Line) → AllWell n a → AllWell n b → AllWell n (base_by place a b)
-based_well n (places.Far at) a b ha hb = ha
-based_well n (places.Bank at) a b ha hb = hb
-based_well n (places.Near at) a b ha hb = hb
-based_well n (places.Data s at) a b ha hb = hb
 
 -- a sum that is left out has its label
 sum_well : (n lo : ℕ) (c : Bool) (a b : List Line) → (c ≡ true → lo < 2 ^ 32) → (c ≡ true → AllWell n a) → AllWell n b → AllWell n (if c then Label lo ∷ a else b)
@@ -192,7 +186,7 @@ compound_well : (n : ℕ) (f : Framed) (pushed : ℕ) (op : BinaryOp) (operands 
 compound_well n f pushed op operands a b left right h ha hb =
     let place : Place = place_of f pushed a in
     let access : Access = access_of (types_of f.parts.types) a in
-    well_append n (target_code place left) _ (target_well n place left ha) (well_append n (open_code place access (computes operands)) _ (open_well n place access (computes operands) h) (well_append n right (close_code op operands (kind_in b) place access) hb (close_well n op operands (kind_in b) place access h)))
+    well_append n left _ ha (well_append n (open_code place access (computes operands)) _ (open_well n place access (computes operands) h) (well_append n right (close_code op operands (kind_in b) place access) hb (close_well n op operands (kind_in b) place access h)))
 
 call_well : (n : ℕ) (f : Framed) (i : Option ℕ) (given : Outcome) (g : Typed) (es : Nodes) (callee args above : List Line) → ((k : ℕ) → i ≡ Some k → (function_symbol (numbers_of f.parts) k).0 < n) → (i ≡ None → AllWell n callee) → AllWell n args → (i ≡ None → AllWell n above) → AllWell n (call_by f i given g es callee args above)
 call_well n f (Some k) given g es callee args above known hc ha hb = well_append n args _ ha (named_well n f k (is_counted (bare g)) (passed_of f (is_fast (bare g)) es) given (known k refl) (passed_few f (is_fast (bare g)) es))
@@ -280,7 +274,7 @@ mutual
   node_well n u f pushed lo w t (member e m) knows h few aim room = wanted_well n w (width_in t) _ aim (well_append n (expr_code f pushed lo Value e) _ (expr_well n u f pushed lo Value e knows h.0 few tt room) (offset_well n (offset_at (types_of f.parts.types) (bare e) m)))
   node_well n u f pushed lo w t (load e) knows h few aim room =
       let place : Place = place_of f pushed e in
-      load_by_well n w place (access_of (types_of f.parts.types) e) _ (place_well n u f pushed e knows h.0) aim (target_well n place (base_code f pushed lo e) (base_well n u f pushed lo e knows h.0 few room))
+      load_by_well n w place (access_of (types_of f.parts.types) e) _ (place_well n u f pushed e knows h.0) aim (base_well n u f pushed lo e knows h.0 few room)
   node_well n u f pushed lo w t (address e) knows h few aim room = wanted_well n w (width_in t) _ aim (expr_well n u f pushed lo Value e knows h.0 few tt room)
   node_well n u f pushed lo w t (decay e) knows h few aim room = wanted_well n w (width_in t) _ aim (expr_well n u f pushed lo Value e knows h.0 few tt room)
   node_well n u f pushed lo w t (convert e) knows h few aim room =
@@ -310,7 +304,7 @@ mutual
       wanted_well n w (width_in t) _ aim (compound_well n f pushed op operands a b _ _ (place_well n u f pushed a knows h.0) (base_well n u f pushed lo a knows h.0 few (omega (arith, room))) (expr_well n u f (behind_open f pushed operands a) (lo + uses None a) Value b knows h.1 (omega arith) tt (omega (arith, room))))
   node_well n u f pushed lo w t (step how e) knows h few aim room =
       let place : Place = place_of f pushed e in
-      wanted_well n w (width_in t) _ aim (well_append n (target_code place (base_code f pushed lo e)) _ (target_well n place (base_code f pushed lo e) (base_well n u f pushed lo e knows h.0 few room)) (step_well n how place (access_of (types_of f.parts.types) e) (amount_of f how (bare e)) (place_well n u f pushed e knows h.0)))
+      wanted_well n w (width_in t) _ aim (well_append n (base_code f pushed lo e) _ (base_well n u f pushed lo e knows h.0 few room) (step_well n how place (access_of (types_of f.parts.types) e) (amount_of f how (bare e)) (place_well n u f pushed e knows h.0)))
   node_well n u f pushed lo w t (copy a b) knows h few aim room =
       wanted_well n w (width_in t) _ aim (well_append n (expr_code f pushed lo Value a) _ (expr_well n u f pushed lo Value a knows h.0 few tt (omega (arith, room))) (well_append n (push_code Ax) _ (push_well n Ax) (well_append n (expr_code f (more pushed 2) (lo + uses None a) Value b) _ (expr_well n u f (more pushed 2) (lo + uses None a) Value b knows h.1 (omega arith) tt (omega (arith, room))) (copy_well n (type_bytes f (type_in t))))))
   node_well n u f pushed lo w t (call g es) knows h few aim room =
@@ -324,6 +318,8 @@ mutual
   node_well n u f pushed lo w t further knows h few aim room = wanted_well n w (width_in t) _ aim (further_well n f pushed few)
 
   pub base_well : (n : ℕ) (u : UnitTy) (f : Framed) (pushed lo : ℕ) (e : Typed) → Knows f u n → IsTyped u e → pushed < 2 ^ 16 → lo + uses None e ≤ 2 ^ 32 → AllWell n (base_code f pushed lo e)
+  base_well n u f pushed lo (node t (literal i)) knows h few room = well_none n
+  base_well n u f pushed lo (node t (object i)) knows h few room = target_well n (object_place f pushed i) (object_code f pushed i) (object_well n f pushed i few (knows.objects i (slice_get_within u.objects i h.0 h.1)))
   base_well n u f pushed lo (node t (deref e)) knows h few room = pointer_base_well n u f pushed lo e knows h.0 few room
   base_well n u f pushed lo (node t (member e m)) knows h few room =
       let k : ℕ = offset_at (types_of f.parts.types) (bare e) m in
@@ -334,11 +330,11 @@ mutual
   pointer_base_well : (n : ℕ) (u : UnitTy) (f : Framed) (pushed lo : ℕ) (e : Typed) → Knows f u n → IsTyped u e → pushed < 2 ^ 16 → lo + uses None e ≤ 2 ^ 32 → AllWell n (pointer_base_code f pushed lo e)
   pointer_base_well n u f pushed lo (node t (binary op a b)) knows h few room =
       let operands : Operands = operands_of f (bare a) (bare b) in
-      let at : ℕ = offset_of f pushed a in
-      sum_well n lo (sum_has_base at (added_bytes op operands (constant_in b))) (pointer_base_code f pushed (lo + 1) a) (node_code f pushed lo Value t (binary op a b)) (λ told. omega (arith, room, sum_uses f at op operands t a b told))
-      (λ told. pointer_base_well n u f pushed (lo + 1) a knows h.0 few (omega (arith, room, sum_uses f at op operands t a b told))) (node_well n u f pushed lo Value t (binary op a b) knows h few tt room)
-  pointer_base_well n u f pushed lo (node t (decay e)) knows h few room =
-      based_well n (place_of f pushed e) (base_code f pushed lo e) (expr_code f pushed lo Value e) (base_well n u f pushed lo e knows h.0 few room) (expr_well n u f pushed lo Value e knows h.0 few tt room)
+      let place : Place = target_of f pushed a in
+      sum_well n lo (sum_has_base place (added_bytes op operands (constant_in b))) (pointer_base_code f pushed (lo + 1) a) (node_code f pushed lo Value t (binary op a b)) (λ told. omega (arith, room, sum_uses f place op operands t a b told))
+      (λ told. pointer_base_well n u f pushed (lo + 1) a knows h.0 few (omega (arith, room, sum_uses f place op operands t a b told))) (node_well n u f pushed lo Value t (binary op a b) knows h few tt room)
+  pointer_base_well n u f pushed lo (node t (address e)) knows h few room = base_well n u f pushed lo e knows h.0 few room
+  pointer_base_well n u f pushed lo (node t (decay e)) knows h few room = base_well n u f pushed lo e knows h.0 few room
   pointer_base_well n u f pushed lo (node t e) knows h few room = node_well n u f pushed lo Value t e knows h few tt room
 
   -- one that gives a structure
@@ -354,7 +350,7 @@ mutual
   pub given_well : (n : ℕ) (u : UnitTy) (f : Framed) (pushed lo : ℕ) (e : Typed) → Knows f u n → IsGiven u e → pushed < 2 ^ 16 → lo + uses None e ≤ 2 ^ 32 → AllWell n (expr_code f pushed lo Value e)
   given_well n u f pushed lo (node t (pack e)) knows h few room =
       let place : Place = place_of f pushed e in
-      well_append n (target_code place (base_code f pushed lo e)) _ (target_well n place (base_code f pushed lo e) (base_well n u f pushed lo e knows h.0 few room)) (bytes_well n place (extent_by (type_bytes f (type_in t))) (place_well n u f pushed e knows h.0))
+      well_append n (base_code f pushed lo e) _ (base_well n u f pushed lo e knows h.0 few room) (bytes_well n place (extent_by (type_bytes f (type_in t))) (place_well n u f pushed e knows h.0))
   given_well n u f pushed lo (node t e) knows h few room = node_well n u f pushed lo Value t e knows h.0 few tt room
 
   args_well : (n : ℕ) (u : UnitTy) (f : Framed) (pushed lo : ℕ) (fast : Bool) (es : Nodes) → Knows f u n → AreTyped u es → pushed < 2 ^ 16 → lo + args_uses es ≤ 2 ^ 32 → AllWell n (args_code f pushed lo fast es)

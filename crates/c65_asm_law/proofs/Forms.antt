@@ -1,5 +1,5 @@
 -- The forms of operators and comparisons: the bytes that they read can be written.
-use Rattle.std.proofs.Common.{ℕ, ◌*◌, ◌%◌, ◌<◌, ◌^◌, ◌==◌, Bool, true, false, Option, None, Some, List, [], ◌∷◌, arith}
+use Rattle.std.proofs.Common.{ℕ, ◌*◌, ◌%◌, ◌<◌, ◌^◌, ◌==◌, Bool, true, false, Option, None, Some, List, ◌∷◌, arith}
 use Rattle.std.specs.Prelude.{if◌then◌else◌, ◌&&◌, ◌||◌, is_some, option_map, option_and_then}
 use Rattle.c65_base.specs.declared.operators.BinaryOp.{BinaryOp}
 use Rattle.c65_base.specs.declared.operators.BinaryOp.TheVariants as ops
@@ -7,7 +7,7 @@ use Rattle.c65_ints.specs.declared.types.IntType.{IntType}
 use Rattle.c65_ints.specs.declared.types.IntType.TheVariants.{UInt}
 use Rattle.c65_ctype.specs.Trees.{type_in}
 use Rattle.c65_ctype.specs.Views.{types_of}
-use Rattle.c65_csem.specs.Trees.{Typed, node, constant, null, literal, object, func, deref, member, load, address, decay, convert, UnitTy}
+use Rattle.c65_csem.specs.Trees.{Typed, node, constant, null, func, deref, member, load, address, decay, convert, UnitTy}
 use Rattle.c65_csem.specs.Typed.{IsTyped}
 use Rattle.c65_code.specs.declared.line.Line.{Line}
 use Rattle.c65_code.specs.declared.routine.Width.{Width}
@@ -48,7 +48,7 @@ use Rattle.c65_genexpr.specs.declared.comparing.Side.TheVariants.{Left, Right}
 use Rattle.c65_genexpr.specs.declared.comparing.Comparing.{Comparing}
 use Rattle.c65_genexpr.specs.declared.comparing.Comparing.TheVariants as compared
 use Rattle.c65_genexpr.specs.Types.{kind_of, bare, offset_at, access_of}
-use Rattle.c65_genexpr.specs.Places.{has_base, place_of}
+use Rattle.c65_genexpr.specs.Places.{has_base, place_of, is_plain}
 use Rattle.c65_genexpr.specs.Operands.{residue_of, between_code, behind_code, negative}
 use Rattle.c65_genexpr.specs.Direct.{kept_at, address_at, address_of, takes_bytes, converted_if, direct_of, own_bytes, is_fixed, is_pure, is_byte, both_bytes, all_bytes, sides_of, listed, alone}
 use Rattle.c65_genexpr.specs.Comparing.{tested_by, lowest, is_raised, raised, one_more, range_of, meeting, beside, changes, compared_by, comparing_of, on, low_code, comparison_by, held_by}
@@ -82,11 +82,8 @@ address_at_well n (places.Near at) h = tt
 address_at_well n (places.Far at) h = tt
 
 address_of_well : (n : ℕ) (u : UnitTy) (f : Framed) (pushed : ℕ) (e : Typed) → Knows f u n → IsTyped u e → WellRead n (address_of f pushed e)
-address_of_well n u f pushed (node t (literal i)) knows h = (knows.literals i (slice_get_within u.literals i h.0 h.1), omega arith)
 address_of_well n u f pushed (node t (func i)) knows h = (knows.funcs i (slice_get_within u.funcs i h.0 h.1), omega arith)
-address_of_well n u f pushed (node t (object i)) knows h = address_at_well n (place_of f pushed (node t (object i))) (place_well n u f pushed (node t (object i)) knows h)
-address_of_well n u f pushed (node t (member e m)) knows h = address_at_well n (place_of f pushed (node t (member e m))) (place_well n u f pushed (node t (member e m)) knows h)
-address_of_well n u f pushed (node t _) knows h = tt
+address_of_well n u f pushed (node t e) knows h = read_if n (is_plain (node t e)) (address_at (place_of f pushed (node t e))) None (address_at_well n (place_of f pushed (node t e)) (place_well n u f pushed (node t e) knows h)) tt
 
 converted_if_well : (n : ℕ) (b : Bool) (to : IntType) (d : Option Direct) → WellRead n d → WellRead n (converted_if b to d)
 converted_if_well n true to None h = tt
@@ -96,7 +93,8 @@ converted_if_well n false to d h = tt
 pub read_well : (n : ℕ) (u : UnitTy) (f : Framed) (pushed : ℕ) (e : Typed) → Knows f u n → IsTyped u e → WellRead n (direct_of f pushed e)
 read_well n u f pushed (node t (constant z)) knows h = tt
 read_well n u f pushed (node t null) knows h = tt
-read_well n u f pushed (node t (load e)) knows h = kept_well n (place_of f pushed e) (access_of (types_of f.parts.types) e) (place_well n u f pushed e knows h.0)
+read_well n u f pushed (node t (load e)) knows h =
+    read_if n (is_plain e) (kept_at (place_of f pushed e) (access_of (types_of f.parts.types) e)) None (kept_well n (place_of f pushed e) (access_of (types_of f.parts.types) e) (place_well n u f pushed e knows h.0)) tt
 read_well n u f pushed (node t (address e)) knows h = address_of_well n u f pushed e knows h.0
 read_well n u f pushed (node t (decay e)) knows h = address_of_well n u f pushed e knows h.0
 read_well n u f pushed (node t (convert e)) knows h = converted_if_well n (takes_bytes (type_in t) (bare e)) (kind_of (type_in t)) (direct_of f pushed e) (read_well n u f pushed e knows h.0)

@@ -13,7 +13,7 @@ use Rattle.c65_ints.specs.declared.types.IntType.TheVariants as ints
 use Rattle.c65_ctype.specs.Trees.{Ty, void, int, pointer, array, tag, function}
 use Rattle.c65_ctype.specs.Views.{types_of}
 use Rattle.c65_base.specs.declared.library.Library.{Library}
-use Rattle.c65_csem.specs.Trees.{Typed, node, object, deref, member, decay, binary, UnitTy}
+use Rattle.c65_csem.specs.Trees.{Typed, node, literal, object, deref, member, address, decay, binary, UnitTy}
 use Rattle.c65_csem.specs.Typed.{IsTyped}
 use Rattle.c65_code.specs.declared.line.Line.{Line}
 use Rattle.c65_code.specs.declared.routine.Width.{Width}
@@ -40,7 +40,7 @@ use Rattle.c65_genexpr.specs.declared.arguments.Passed.{Passed}
 use Rattle.c65_genexpr.specs.declared.types.Outcome.{Outcome}
 use Rattle.c65_genexpr.specs.declared.types.Outcome.TheVariants.{Nothing, Number, Area}
 use Rattle.c65_genexpr.specs.Types.{bare, offset_at, given_bytes}
-use Rattle.c65_genexpr.specs.Places.{more, near, soft_place, place_at, within, farther, added_bytes, sum_offset, from_base, moved, place_of, offset_of, soft_code, code_at, object_code, rest_code}
+use Rattle.c65_genexpr.specs.Places.{more, near, soft_place, place_at, within, farther, added_bytes, sum_place, moved, place_of, target_of, soft_code, code_at, object_code, rest_code}
 use Rattle.c65_genexpr.specs.Operands.{operands_of, constant_in, computes, between_code, difference_code, behind_code, unary_code, conversion_code, negative}
 use Rattle.c65_genexpr.specs.Steps.{is_post, back_code, after_code, step_code, open_code, close_code}
 use Rattle.c65_genexpr.specs.Spills.{kept_code, first_code, further_code, again_code, spill_code}
@@ -75,52 +75,6 @@ farther_few at m = by (within at m) refl
     by true h = let parts = and_parts (nat_le m 250) (nat_le (at + m) 250) h in omega (arith, leb-true (at + m) 250 parts.1)
     by false h = omega arith
 
-sum_few : (at : ℕ) (bytes : Option ℕ) → sum_offset at bytes < 2 ^ 8
-sum_few at None = omega arith
-sum_few at (Some m) = farther_few at m
-
-near_base : (at : ℕ) → from_base (near at) < 2 ^ 8
-near_base at = by (nat_le at 252)
-  where
-    by : (b : Bool) → from_base (if b then places.Near at else places.Far 0) < 2 ^ 8
-    by true = omega arith
-    by false = omega arith
-
-soft_base : (raised : Bool) (at : ℕ) → from_base (soft_place raised at) < 2 ^ 8
-soft_base true at = omega arith
-soft_base false at = near_base at
-
-home_base : (f : Framed) (pushed i : ℕ) (home : Option Home) → from_base (place_at f pushed i home) < 2 ^ 8
-home_base f pushed i None = omega arith
-home_base f pushed i (Some (homes.Bank b)) = omega arith
-home_base f pushed i (Some (homes.Soft d)) = soft_base (is_raised f i) (more d pushed)
-
-moved_base : (p : Place) (m : ℕ) → from_base (moved p m) < 2 ^ 8
-moved_base (places.Near at) m = by (nat_le m 252)
-  where
-    by : (b : Bool) → from_base (if b then near (at + m) else places.Far 0) < 2 ^ 8
-    by true = near_base (at + m)
-    by false = omega arith
-moved_base (places.Data s at) m = omega arith
-moved_base (places.Bank at) m = by (nat_eq m 0)
-  where
-    by : (b : Bool) → from_base (if b then places.Bank at else places.Far 0) < 2 ^ 8
-    by true = omega arith
-    by false = omega arith
-moved_base (places.Far at) m = farther_few at m
-
-mutual
-  base_few : (f : Framed) (pushed : ℕ) (e : Typed) → from_base (place_of f pushed e) < 2 ^ 8
-  base_few f pushed (node t (object i)) = home_base f pushed i (home_of f i)
-  base_few f pushed (node t (member e m)) = moved_base (place_of f pushed e) (offset_at (types_of f.parts.types) (bare e) m)
-  base_few f pushed (node t (deref e)) = offset_few f pushed e
-  base_few f pushed (node t _) = omega arith
-
-  offset_few : (f : Framed) (pushed : ℕ) (e : Typed) → offset_of f pushed e < 2 ^ 8
-  offset_few f pushed (node t (binary op a b)) = sum_few (offset_of f pushed a) (added_bytes op (operands_of f (bare a) (bare b)) (constant_in b))
-  offset_few f pushed (node t (decay e)) = base_few f pushed e
-  offset_few f pushed (node t _) = omega arith
-
 moved_when : (n at m : ℕ) (b : Bool) → WellPlace n (if b then near (at + m) else places.Far 0)
 moved_when n at m true = near_well n (at + m)
 moved_when n at m false = omega arith
@@ -135,11 +89,24 @@ moved_well n (places.Data sym at) m h = (h.0, omega arith)
 moved_well n (places.Bank b) m h = banked_when n b (nat_eq m 0)
 moved_well n (places.Far at) m h = farther_few at m
 
-pub place_well : (n : ℕ) (u : UnitTy) (f : Framed) (pushed : ℕ) (e : Typed) → Knows f u n → IsTyped u e → WellPlace n (place_of f pushed e)
-place_well n u f pushed (node t (object i)) knows h = place_at_well n f pushed i (home_of f i) (knows.objects i (slice_get_within u.objects i h.0 h.1))
-place_well n u f pushed (node t (member e m)) knows h = moved_well n (place_of f pushed e) (offset_at (types_of f.parts.types) (bare e) m) (place_well n u f pushed e knows h.0)
-place_well n u f pushed (node t (deref e)) knows h = offset_few f pushed e
-place_well n u f pushed (node t _) knows h = omega arith
+sum_well : (n : ℕ) (p : Place) (bytes : Option ℕ) → WellPlace n p → WellPlace n (sum_place p bytes)
+sum_well n p None h = omega arith
+sum_well n p (Some m) h = moved_well n p m h
+
+mutual
+  pub place_well : (n : ℕ) (u : UnitTy) (f : Framed) (pushed : ℕ) (e : Typed) → Knows f u n → IsTyped u e → WellPlace n (place_of f pushed e)
+  place_well n u f pushed (node t (literal i)) knows h = (knows.literals i (slice_get_within u.literals i h.0 h.1), omega arith)
+  place_well n u f pushed (node t (object i)) knows h = place_at_well n f pushed i (home_of f i) (knows.objects i (slice_get_within u.objects i h.0 h.1))
+  place_well n u f pushed (node t (member e m)) knows h = moved_well n (place_of f pushed e) (offset_at (types_of f.parts.types) (bare e) m) (place_well n u f pushed e knows h.0)
+  place_well n u f pushed (node t (deref e)) knows h = pointed_well n u f pushed e knows h.0
+  place_well n u f pushed (node t _) knows h = omega arith
+
+  -- what an address names
+  pointed_well : (n : ℕ) (u : UnitTy) (f : Framed) (pushed : ℕ) (e : Typed) → Knows f u n → IsTyped u e → WellPlace n (target_of f pushed e)
+  pointed_well n u f pushed (node t (binary op a b)) knows h = sum_well n (target_of f pushed a) (added_bytes op (operands_of f (bare a) (bare b)) (constant_in b)) (pointed_well n u f pushed a knows h.0)
+  pointed_well n u f pushed (node t (address e)) knows h = place_well n u f pushed e knows h.0
+  pointed_well n u f pushed (node t (decay e)) knows h = place_well n u f pushed e knows h.0
+  pointed_well n u f pushed (node t _) knows h = omega arith
 
 soft_well : (n : ℕ) (raised : Bool) (pushed at stacked : ℕ) → pushed < 2 ^ 16 → at < 2 ^ 16 → AllWell n (soft_code raised pushed at stacked)
 soft_well n true pushed at stacked few room = raised_well n pushed ((at + 65536 - stacked) % 65536) few
@@ -164,12 +131,12 @@ further_bytes_well n Two = record { all = search rules }
 further_bytes_well n Three = record { all = search rules }
 further_bytes_well n Four = record { all = search rules }
 
-pub spill_well : (n : ℕ) (address : List Line) (e : Extent) → AllWell n address → AllWell n (spill_code address e)
-spill_well n address e h =
+pub spill_well : (n : ℕ) (lines : List Line) (e : Extent) → AllWell n lines → AllWell n (spill_code lines e)
+spill_well n lines e h =
     let kept : AllWell n kept_code = record { all = search rules } in
     let first : AllWell n first_code = record { all = search rules } in
     let again : AllWell n again_code = record { all = search rules } in
-    well_append n kept_code _ kept (well_append n address _ h (well_append n first_code _ first (well_append n (further_code e) again_code (further_bytes_well n e) again)))
+    well_append n kept_code _ kept (well_append n lines _ h (well_append n first_code _ first (well_append n (further_code e) again_code (further_bytes_well n e) again)))
 
 -- ---- operators
 

@@ -12,10 +12,9 @@ use Rattle.c65_genframe.specs.Frames.{Framed}
 use Rattle.c65_genwide.specs.Wide.{width_of}
 use Rattle.c65_genexpr.specs.Types.{kind_in}
 use Rattle.c65_genentry.specs.Drafts.{with_labels}
-use Rattle.c65_genentry.specs.Words.{jump, with_code}
-use Rattle.c65_genentry.specs.Choice.{choice_code}
+use Rattle.c65_genentry.specs.Words.{jump}
 use Rattle.c65_genstmt.specs.declared.jumps.Ways.{Ways}
-use Rattle.c65_genstmt.specs.Jumps.{following, with_value, with_effect, with_test}
+use Rattle.c65_genstmt.specs.Jumps.{following, with_value, with_test}
 use Rattle.c65_genstmt.specs.Objects.{spot_of, object_bytes}
 use Rattle.c65_genstmt.specs.Cases.{has_default}
 use Rattle.c65_genstmt.specs.Stmts.{case_behind, case_behind_all, with_label, with_jump, two_given, three_given, with_maybe, with_effects, with_guard, ways, default_way, with_choice, with_stmt, with_stmts, with_cases}

@@ -3,6 +3,7 @@ pub mod TextLaws
 pub mod AnswerLaws
 pub mod RunLaws
 pub mod FrontLaws
+pub mod GenLaws
 pub mod GoLaws
 pub mod LinkLaws
 pub mod BuildLaws

@@ -1,5 +1,5 @@
 -- What `text` answers.
-use Rattle.std.proofs.Common.{◌≡◌, ℕ, ◌≤◌, List, length, None, Some, Option, Result, Ok, Err, sym, subst, ap, refl, ◌∙◌, arith}
+use Rattle.std.proofs.Common.{◌≡◌, ℕ, ◌≤◌, Bool, List, length, None, Some, Option, Result, Ok, Err, sym, subst, ap, refl, ◌∙◌, arith}
 use Rattle.c65_base.specs.declared.refusal.Refusal.{Refusal}
 use Rattle.c65_base.specs.declared.refusal.Refusal.TheVariants.{OutOfMemory}
 use Rattle.c65_asm.specs.Text.{text_of}
@@ -9,7 +9,7 @@ use Rattle.c65_io.specs.Contents.{Contents}
 use Rattle.c65_mach.specs.declared.image.Image.{Image}
 use Rattle.c65_sim.specs.Runs.{WriteCause}
 use Rattle.c65_driver_words.specs.Commands.{Spelled}
-use Rattle.c65_driver.specs.Assembly.{IsTextOf, AppendsBytes, TextTo, WritesText, Unwritten, MadeText}
+use Rattle.c65_driver.specs.Assembly.{printed, IsTextOf, AppendsBytes, TextTo, WritesText, Unwritten, MadeText}
 use Rattle.c65_driver.specs.Compiled.{ReadsAs, IsRead, Compiles, IsOfSources, WritesBytes, WriteServes, WritesImage}
 use Rattle.c65_driver.specs.Outside.{FilesSide, TextSide, Outside}
 use Rattle.c65_driver.specs.Tool.{Texts, TextsAlone}
@@ -19,9 +19,9 @@ use Rattle.c65_driver.proofs.BuildLaws.{stop_served, faults_of, wrote_served, wr
 
 -- Before there is an image.
 
-unwritten : (out : Option (List ℕ)) (code : Option Code) (old new : TextSide) (answer : Result ℕ Refusal) → Unwritten old new → MadeText out code None old new answer
-unwritten out None old new answer still = still
-unwritten out (Some code) old new answer still = still
+unwritten : (known : Bool) (out : Option (List ℕ)) (code : Option Code) (old new : TextSide) (answer : Result ℕ Refusal) → Unwritten old new → MadeText known out code None old new answer
+unwritten known out None old new answer still = still
+unwritten known out (Some code) old new answer still = still
 
 stopped : (command : Spelled) (old new : FilesSide) (w : Option (List ℕ)) (o : ℕ) (code : Option Code) (r : Refusal) → Compiles command.options.cpu command.folders command.files old new code (Err r) → IsOfSources {T = Image} command old.contents code (Err r)
     → Texts command (record { files = old; written = w; out_faults = o }) (record { files = new; written = w; out_faults = o }) code None (Err r)
@@ -31,7 +31,7 @@ stopped command old new w o code r stops sources = record {
   read = faults_of old.faults new.faults r stops.read;
   missing = headers_of Image ℕ command.folders old.misses new.misses r stops.missing;
   with_image = tt;
-  text = unwritten command.out code (record { files = old; written = w; out_faults = o }) (record { files = new; written = w; out_faults = o }) (Err r)
+  text = unwritten command.known command.out code (record { files = old; written = w; out_faults = o }) (record { files = new; written = w; out_faults = o }) (Err r)
       (record { contents = stops.same; writes = stops.written; written = refl; out_faults = refl });
   from_text = stops.from_text;
   from_code = linked_stop command.options.cpu code r stops.from_code;
@@ -82,13 +82,13 @@ to_from (Some path) bytes old mid new w o r same writes to = record {
   out_faults = to.out_faults;
 }
 
-made : (out : Option (List ℕ)) (code : Option Code) (image : Image) (bytes : List ℕ) (old new : TextSide) (r : Result ℕ Refusal)
-    → IsTextOf code bytes → TextTo out bytes old new r → MadeText out code (Some image) old new r
-made out None image bytes old new r is to = absurd is
-made out (Some code) image bytes old new r is to = subst (λ (bs : List ℕ). TextTo out bs old new r) is to
+made : (known : Bool) (out : Option (List ℕ)) (code : Option Code) (image : Image) (bytes : List ℕ) (old new : TextSide) (r : Result ℕ Refusal)
+    → IsTextOf known code bytes → TextTo out bytes old new r → MadeText known out code (Some image) old new r
+made known out None image bytes old new r is to = absurd is
+made known out (Some code) image bytes old new r is to = subst (λ (bs : List ℕ). TextTo out bs old new r) is to
 
 pub texts_wrote : (command : Spelled) (old mid : FilesSide) (new : TextSide) (w : Option (List ℕ)) (o : ℕ) (code : Option Code) (image : Image) (bytes : List ℕ) (r : Result ℕ Refusal)
-    → Compiles command.options.cpu command.folders command.files old mid code (Ok image) → IsOfSources command old.contents code (Ok image) → IsTextOf code bytes → WritesText command.out bytes (record { files = mid; written = w; out_faults = o }) new r
+    → Compiles command.options.cpu command.folders command.files old mid code (Ok image) → IsOfSources command old.contents code (Ok image) → IsTextOf command.known code bytes → WritesText command.out bytes (record { files = mid; written = w; out_faults = o }) new r
     → Texts command (record { files = old; written = w; out_faults = o }) new code (Some image) r
 texts_wrote command old mid new w o code image bytes r compiles sources is wrote = record {
   served = wrote_served r wrote.served;
@@ -96,7 +96,7 @@ texts_wrote command old mid new w o code image bytes r compiles sources is wrote
   read = wrote_faults old.faults new.files.faults r (wrote.faults ∙ compiles.read) wrote.served;
   missing = wrote_headers command.folders old.misses new.files.misses r (subst (λ n. old.misses ≤ n) (sym wrote.misses) compiles.missing) wrote.served;
   with_image = wrote.served;
-  text = made command.out code image bytes (record { files = old; written = w; out_faults = o }) new r is
+  text = made command.known command.out code image bytes (record { files = old; written = w; out_faults = o }) new r is
       (to_from command.out bytes old mid new w o r compiles.same compiles.written wrote.to);
   from_text = compiles.from_text;
   from_code = linked_wrote command.options.cpu code image r compiles.from_code;
@@ -108,10 +108,10 @@ kept : (out : Option (List ℕ)) (bytes : List ℕ) (old new : FilesSide) (w : O
 kept None bytes old new w o same writes = record { contents = same; writes = writes; written = refl; cause = refl }
 kept (Some path) bytes old new w o same writes = record { contents = same; cause = writes; written = refl; out_faults = refl }
 
-kept_made : (out : Option (List ℕ)) (code : Option Code) (image : Image) (old new : FilesSide) (w : Option (List ℕ)) (o : ℕ) → new.contents ≡ old.contents → new.writes ≡ old.writes
-    → MadeText out code (Some image) (record { files = old; written = w; out_faults = o }) (record { files = new; written = w; out_faults = o }) (Err OutOfMemory)
-kept_made out None image old new w o same writes = record { contents = same; writes = writes; written = refl; out_faults = refl }
-kept_made out (Some code) image old new w o same writes = kept out (text_of code) old new w o same writes
+kept_made : (known : Bool) (out : Option (List ℕ)) (code : Option Code) (image : Image) (old new : FilesSide) (w : Option (List ℕ)) (o : ℕ) → new.contents ≡ old.contents → new.writes ≡ old.writes
+    → MadeText known out code (Some image) (record { files = old; written = w; out_faults = o }) (record { files = new; written = w; out_faults = o }) (Err OutOfMemory)
+kept_made known out None image old new w o same writes = record { contents = same; writes = writes; written = refl; out_faults = refl }
+kept_made known out (Some code) image old new w o same writes = kept out (printed known code) old new w o same writes
 
 -- no memory for the text
 pub texts_short : (command : Spelled) (old new : FilesSide) (w : Option (List ℕ)) (o : ℕ) (code : Option Code) (image : Image) → Compiles command.options.cpu command.folders command.files old new code (Ok image) → IsOfSources command old.contents code (Ok image)
@@ -122,7 +122,7 @@ texts_short command old new w o code image compiles sources = record {
   read = compiles.read;
   missing = compiles.missing;
   with_image = tt;
-  text = kept_made command.out code image old new w o compiles.same compiles.written;
+  text = kept_made command.known command.out code image old new w o compiles.same compiles.written;
   from_text = compiles.from_text;
   from_code = linked_wrote command.options.cpu code image (Err OutOfMemory) compiles.from_code;
   from_files = sources_go Image ℕ command old.contents code image (Err OutOfMemory) sources;

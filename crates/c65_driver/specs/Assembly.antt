@@ -1,8 +1,9 @@
 -- What the command `text` writes.
-use Rattle.std.specs.Prelude.{◌≡◌, ℕ, List, take, Option, Some, None, Result, Ok, Err}
+use Rattle.std.specs.Prelude.{◌≡◌, ℕ, Bool, true, false, List, take, Option, Some, None, Result, Ok, Err}
 use Rattle.c65_base.specs.declared.refusal.Refusal.{Refusal}
 use Rattle.c65_base.specs.declared.refusal.Refusal.TheVariants.{WriteFault}
 use Rattle.c65_code.specs.declared.code.Code.{Code}
+use Rattle.c65_asm.specs.Known.{known_text_of}
 use Rattle.c65_asm.specs.Text.{text_of}
 use Rattle.c65_io.specs.Told.{append_told}
 use Rattle.c65_mach.specs.declared.image.Image.{Image}
@@ -10,10 +11,15 @@ use Rattle.c65_sim.specs.Runs.{WriteCause}
 use Rattle.c65_driver.specs.Compiled.{WritesBytes, WriteServes}
 use Rattle.c65_driver.specs.Outside.{TextSide}
 
+-- the assembly text of a code, where it is asked for with what is known before its instructions
+abbrev pub printed : Bool → Code → List ℕ
+printed false code = text_of code
+printed true code = known_text_of code
+
 -- this is the assembly text of the code that was made
-abbrev pub IsTextOf : Option Code → List ℕ → Type 0
-IsTextOf None text = ⊥
-IsTextOf (Some code) text = text ≡ text_of code
+abbrev pub IsTextOf : Bool → Option Code → List ℕ → Type 0
+IsTextOf known None text = ⊥
+IsTextOf known (Some code) text = text ≡ printed known code
 
 -- the output gained the bytes, or some of them from the front where a write failed, and nothing elsewhere
 abbrev pub AppendsBytes : List ℕ → Option (List ℕ) → Option (List ℕ) → Result ℕ Refusal → Type 0
@@ -54,6 +60,6 @@ pub record Unwritten (old new : TextSide) : Type 0 where
   pub out_faults : new.out_faults ≡ old.out_faults
 
 -- the text of the code that was made; without an image nothing was written
-abbrev pub MadeText : Option (List ℕ) → Option Code → Option Image → TextSide → TextSide → Result ℕ Refusal → Type 0
-MadeText out (Some code) (Some image) old new answer = TextTo out (text_of code) old new answer
-MadeText out code image old new answer = Unwritten old new
+abbrev pub MadeText : Bool → Option (List ℕ) → Option Code → Option Image → TextSide → TextSide → Result ℕ Refusal → Type 0
+MadeText known out (Some code) (Some image) old new answer = TextTo out (printed known code) old new answer
+MadeText known out code image old new answer = Unwritten old new

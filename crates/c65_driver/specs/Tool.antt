@@ -19,6 +19,7 @@ use Rattle.c65_driver_chain.specs.Refused.{StopsChain, UnitsLimit}
 use Rattle.c65_driver.specs.Assembly.{MadeText}
 use Rattle.c65_driver.specs.Causes.{ReadCauses, MissCause}
 use Rattle.c65_driver.specs.Compiled.{IsRead, IsLinked, IsOfSources, ServesWith, output_of, BuildsFile}
+use Rattle.c65_driver.specs.Generated.{Generates}
 use Rattle.c65_driver.specs.Outside.{FilesSide, TextSide, Outside, text_part}
 use Rattle.c65_driver.specs.Setups.{setup_of, MadeRuns}
 use Rattle.c65_driver.specs.Told.{ToldRun, MadeOf, first_of}
@@ -99,7 +100,7 @@ pub record Texts (command : Spelled) (old new : TextSide) (code : Option Code) (
   pub read : FaultCause old.files.faults new.files.faults answer
   pub missing : HeaderCause command.folders old.files.misses new.files.misses answer
   pub with_image : ServesWith image answer
-  pub text : MadeText command.out code image old new answer
+  pub text : MadeText command.known command.out code image old new answer
   pub from_text : IsRead code
   pub from_code : IsLinked command.options.cpu code image answer
   pub from_files : IsOfSources command old.files.contents code answer
@@ -123,6 +124,14 @@ pub record Runs (command : Spelled) (old new : Outside) (code : Option Code) (im
   pub told_made : MadeOf old.files.contents (first_of command.files) image
   pub no_code : code ≡ None
 
+-- `gen`: the image is linked from the code of the generated source, and the line of its run is written; files and input are as
+-- they were
+pub record Gens (command : Spelled) (old new : Outside) (code : Option Code) (image : Option Image) (answer : Result ℕ Refusal) : Type 0 where
+  pub generates : Generates command old.written new.written old.out_faults new.out_faults code image answer
+  pub files : new.files ≡ old.files
+  pub left : new.left ≡ old.left
+  pub input_faults : new.input_faults ≡ old.input_faults
+
 -- Usage with this word; want of memory may come in its place
 abbrev pub IsUsage : ℕ → Result ℕ Refusal → Type 0
 IsUsage word (Err OutOfMemory) = ⊤
@@ -141,6 +150,7 @@ Serves kinds.Go command old new code image answer = Goes command old new code im
 Serves kinds.Build command old new code image answer = BuildsAlone command old new code image answer
 Serves kinds.Run command old new code image answer = Runs command old new code image answer
 Serves kinds.Text command old new code image answer = TextsAlone command old new code image answer
+Serves kinds.Gen command old new code image answer = Gens command old new code image answer
 
 abbrev pub Performs : Spelling → Outside → Outside → Option Code → Option Image → Result ℕ Refusal → Type 0
 Performs (Is command) old new code image answer = Serves command.kind command old new code image answer

@@ -1,6 +1,7 @@
 // The assembly text on the way to the linker, and where the command `text` writes it.
 ghost use Rattle.std.specs.Prelude.{◌≡◌, Some, IfOk, IfErr};
 ghost use Rattle.c65_asm.specs.Text.{text_of};
+ghost use Rattle.c65_driver.specs.Assembly;
 ghost use Rattle.c65_driver.specs.Assembly.{IsTextOf, AppendsBytes, WritesText};
 ghost use Rattle.c65_driver.specs.Compiled.{ReadsAs, IsRead, WriteServes};
 ghost use Rattle.c65_driver.specs.Outside.{text_side};
@@ -8,7 +9,7 @@ ghost use Rattle.c65_sim.specs.Runs.{WriteCause};
 
 use crate::compiled::write_bytes;
 use crate::outcome::Made;
-use c65_asm::{print, read_printed};
+use c65_asm::{print, print_known, read_printed};
 use c65_base::{Refusal, Text};
 use c65_code::Code;
 use c65_driver_words::Command;
@@ -32,22 +33,41 @@ pub fn read_back(alloc: Global, code: &Code) -> Result<Code, Refusal>
     }
 }
 
+/// Whether the text is to say what is known.
+pub fn is_known(command: &Command) -> bool
+    ensures { result ≡ command.now.known }
+{
+    command.known
+}
+
+/// The assembly text of a code, with what is known before its instructions or without it.
+fn printed(alloc: Global, known: bool, code: &Code) -> Result<Vec<u8>, Refusal>
+    ensures ok { IfOk result (λ text. text.items ≡ Assembly.printed known code.now) }
+    ensures refused { IfErr result (λ refusal. refusal ≡ Refusal.OutOfMemory) }
+{
+    if known {
+        print_known(alloc, code)
+    } else {
+        print(alloc, code)
+    }
+}
+
 /// The assembly text of the code that was made.
-pub fn made_text(alloc: Global, made: &Made) -> Result<Text, Refusal>
-    ensures ok { IfOk result (IsTextOf made.now.code) }
+pub fn made_text(alloc: Global, known: bool, made: &Made) -> Result<Text, Refusal>
+    ensures ok { IfOk result (IsTextOf known made.now.code) }
     ensures refused { IfErr result (λ refusal. refusal ≡ Refusal.OutOfMemory) }
 {
     let Some(code) = &made.code else {
         return Err(Refusal::OutOfMemory);
     };
-    match print(alloc, code) {
+    match printed(alloc, known, code) {
         Ok(text) => Ok(Text::from_vec(text)),
         Err(_) => Err(Refusal::OutOfMemory),
     }
 }
 
 /// Writes bytes to the output.
-fn append_bytes<O: Sink>(out: &mut O, bytes: &[u8]) -> Result<u8, Refusal>
+pub fn append_bytes<O: Sink>(out: &mut O, bytes: &[u8]) -> Result<u8, Refusal>
     ensures served { WriteServes result }
     ensures written { AppendsBytes bytes.now (O.written out.old) (O.written out.new) result }
     ensures cause { WriteCause (O.faults out.old) (O.faults out.new) result }

@@ -6,8 +6,9 @@ ghost use Rattle.c65_driver.specs.Outside.{files_side, text_side, outside};
 ghost use Rattle.c65_driver.specs.Told.{first_of};
 ghost use Rattle.c65_driver.specs.Outcome.{answer_of};
 
-use crate::assembly::{made_text, write_text};
+use crate::assembly::{is_known, made_text, write_text};
 use crate::compiled::{make_image, output, write_image};
+use crate::generated::generate;
 use crate::load::spelled_image;
 use crate::outcome::{Made, Outcome};
 use crate::report::write_line;
@@ -69,7 +70,7 @@ fn build<F: Files>(
     answer
 }
 
-/// Compiles and links the files, and writes the assembly text of their code.
+/// Compiles and links the files, and writes the assembly text of their code, with what is known where that is asked for.
 fn text<F: Files, O: Sink>(
     alloc: Global,
     command: &Command,
@@ -89,7 +90,7 @@ fn text<F: Files, O: Sink>(
         Err(refusal) => return Err(refusal),
     };
     made.image = Some(image);
-    let text = match made_text(alloc, made) {
+    let text = match made_text(alloc, is_known(command), made) {
         Ok(text) => text,
         Err(_) => return Err(Refusal::OutOfMemory),
     };
@@ -166,11 +167,13 @@ fn perform<F: Files, I: Source, O: Sink>(
         CommandKind::Build => build(alloc, &command, files, made),
         CommandKind::Run => run_image(alloc, &command, files, input, out, made),
         CommandKind::Text => text(alloc, &command, files, out, made),
+        CommandKind::Gen => generate(alloc, &command, out, made),
     }
 }
 
 /// Does what the words after the program's name say: `go` compiles, links and runs files, `build` writes their image, `text`
-/// writes the assembly text of their code, and `run` runs an image. What was made is left in `made`.
+/// writes the assembly text of their code, `run` runs an image, and `gen` compiles, links and runs a program that it makes, and
+/// writes a line of its sizes. What was made is left in `made`.
 ///
 /// The line of a refusal goes to `err`, all of it unless `err` fails.
 pub fn tool<F: Files, I: Source, O: Sink, E: Sink>(

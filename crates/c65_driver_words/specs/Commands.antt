@@ -1,5 +1,5 @@
 -- A command with its options.
-use Rattle.std.specs.Prelude.{ℕ, List, Option}
+use Rattle.std.specs.Prelude.{ℕ, Bool, List, Option}
 use Rattle.c65_base.specs.declared.options.Options.{Options}
 use Rattle.c65_lex.specs.declared.define.Define.{Define}
 use Rattle.c65_driver_words.specs.declared.command.CommandKind.{CommandKind}
@@ -13,3 +13,5 @@ pub record Spelled : Type 0 where
   pub args : List (List ℕ)
   pub out : Option (List ℕ)
   pub cycles : Option ℕ
+  pub known : Bool
+  pub number : ℕ

@@ -1,5 +1,5 @@
 -- Values of options.
-use Rattle.std.specs.Prelude.{ℕ, ◌+◌, ◌^◌, List, [], ◌∷◌, Bool, true, false, not, ◌&&◌, if◌then◌else◌, ◌==◌, nat_lt, length, take, drop, Option, Some, None}
+use Rattle.std.specs.Prelude.{ℕ, ◌+◌, ◌^◌, List, [], ◌∷◌, Bool, true, false, not, ◌&&◌, if◌then◌else◌, ◌==◌, nat_lt, nat_le, length, take, drop, Option, Some, None}
 use Rattle.std.specs.List.{list_all, list_any, position}
 use Rattle.std.specs.Char.{is_ascii_digit}
 use Rattle.std.specs.Str.Parse.{digits_value}
@@ -16,14 +16,28 @@ is_file (byte ∷ bytes) = not (byte == 45)
 abbrev pub is_among : ℕ → List ℕ → Bool
 is_among byte bytes = list_any (λ other. other == byte) bytes
 
--- the number of `-x`: 1 to 4,294,967,295, of at most ten digits
-abbrev pub is_digits : List ℕ → Bool
-is_digits word = nat_lt (length word) 11 && list_all is_ascii_digit word
+-- the number that digits write: 1 to 4,294,967,295
+abbrev pub whole_by : List ℕ → Option ℕ
+whole_by word = if nat_lt 0 (digits_value 10 word) && nat_lt (digits_value 10 word) (2 ^ 32) then Some (digits_value 10 word) else None
 
+abbrev pub is_digits : ℕ → List ℕ → Bool
+is_digits most word = nat_le (length word) most && list_all is_ascii_digit word
+
+-- such a number, of at most so many digits
+abbrev pub whole_in : ℕ → List ℕ → Option ℕ
+whole_in most word = if is_digits most word then whole_by word else None
+
+-- the number of `-x`
 abbrev pub cycles_in : List ℕ → Option ℕ
-cycles_in word =
-    if is_digits word && nat_lt 0 (digits_value 10 word) && nat_lt (digits_value 10 word) (2 ^ 32)
-    then Some (digits_value 10 word) else None
+cycles_in word = whole_in 10 word
+
+abbrev pub byte_of : Option ℕ → Option ℕ
+byte_of None = None
+byte_of (Some number) = if nat_lt number 256 then Some number else None
+
+-- the number of `gen`: 1 to 255
+abbrev pub number_in : List ℕ → Option ℕ
+number_in word = byte_of (whole_in 3 word)
 
 -- what stands behind a beginning
 abbrev pub behind : List ℕ → List ℕ → Option (List ℕ)

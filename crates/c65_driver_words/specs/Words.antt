@@ -1,5 +1,5 @@
--- The words of the command line: `go` and `build` and `text` with options and files, `run` with options and an image, and
--- behind `--` the arguments of `go` and `run`.
+-- The words of the command line: `go` and `build` and `text` with options and files, `run` with options and an image, `gen` with
+-- options and a number, and behind `--` the arguments of `go` and `run`.
 use Rattle.std.specs.Prelude.{◌≡◌, ⊤, ℕ, ◌+◌, List, [], ◌∷◌, ◌++◌, Bool, true, false, not, ◌&&◌, ◌||◌, if◌then◌else◌, ◌==◌, codes, bytes_eq, is_some, Option, Some, None, Result, Ok, Err}
 use Rattle.std.specs.List.{list_any}
 use Rattle.c65_base.specs.declared.options.Options.{Options}
@@ -15,7 +15,7 @@ use Rattle.c65_driver_words.specs.declared.value.Value.TheVariants as values
 use Rattle.c65_driver_words.specs.declared.value.Flag.{Flag}
 use Rattle.c65_driver_words.specs.declared.value.Flag.TheVariants as flags
 use Rattle.c65_driver_words.specs.Commands.{Spelled}
-use Rattle.c65_driver_words.specs.Values.{is_file, is_among, cycles_in, behind, define_in}
+use Rattle.c65_driver_words.specs.Values.{is_file, is_among, cycles_in, number_in, behind, define_in}
 
 -- what the words so far have told, and the option whose value is the next word
 pub record Told : Type 0 where
@@ -26,6 +26,8 @@ pub record Told : Type 0 where
   pub files : List (List ℕ)
   pub out : Option (List ℕ)
   pub cycles : Option ℕ
+  pub known : Bool
+  pub number : Option ℕ
   pub has_target : Bool
   pub has_processor : Bool
   pub waits : Option Value
@@ -34,31 +36,50 @@ abbrev pub no_options : Options
 no_options = record { optimise = false; inline_more = false; register_vars = false; known_functions = false; signed_chars = false; static_locals = false; check_stack = false; cpu = Nmos }
 
 abbrev pub nothing_told : CommandKind → Told
-nothing_told kind = record { kind = kind; options = no_options; defines = []; folders = []; files = []; out = None; cycles = None; has_target = false; has_processor = false; waits = None }
+nothing_told kind = record { kind = kind; options = no_options; defines = []; folders = []; files = []; out = None; cycles = None; known = false; number = None; has_target = false; has_processor = false; waits = None }
 
--- which command takes which option
+-- which command takes which option: those of the compiler,
 abbrev pub compiles : CommandKind → Bool
 compiles kinds.Run = false
 compiles _ = true
 
-abbrev pub runs : CommandKind → Bool
-runs kinds.Go = true
-runs kinds.Run = true
-runs _ = false
+-- `-D` and `-I`,
+abbrev pub reads_sources : CommandKind → Bool
+reads_sources kinds.Run = false
+reads_sources kinds.Gen = false
+reads_sources _ = true
 
+-- `-o`,
 abbrev pub writes : CommandKind → Bool
 writes kinds.Build = true
 writes kinds.Text = true
 writes _ = false
 
+-- `-x`,
+abbrev pub counts_cycles : CommandKind → Bool
+counts_cycles kinds.Go = true
+counts_cycles kinds.Run = true
+counts_cycles _ = false
+
+-- `--known`,
+abbrev pub prints : CommandKind → Bool
+prints kinds.Text = true
+prints _ = false
+
+-- and which one arguments
+abbrev pub passes_args : CommandKind → Bool
+passes_args kinds.Go = true
+passes_args kinds.Run = true
+passes_args _ = false
+
 -- whether an option with a value may stand now: four of them stand at most once
 abbrev pub may_stand : Told → Value → Bool
-may_stand told values.Define = compiles told.kind
-may_stand told values.Folder = compiles told.kind
+may_stand told values.Define = reads_sources told.kind
+may_stand told values.Folder = reads_sources told.kind
 may_stand told values.Target = compiles told.kind && not told.has_target
 may_stand told values.Processor = compiles told.kind && not told.has_processor
 may_stand told values.Out = writes told.kind && not (is_some told.out)
-may_stand told values.Cycles = runs told.kind && not (is_some told.cycles)
+may_stand told values.Cycles = counts_cycles told.kind && not (is_some told.cycles)
 
 abbrev pub with_define : Told → Option Define → Option Told
 with_define told None = None
@@ -87,11 +108,19 @@ with_value values.Processor told text = with_processor told (processor_in text)
 with_value values.Out told text = if is_file text then Some (record told { out = Some text; waits = None }) else None
 with_value values.Cycles told text = with_cycles told (cycles_in text)
 
+abbrev pub takes_flag : CommandKind → Flag → Bool
+takes_flag kind flags.Known = prints kind
+takes_flag kind _ = compiles kind
+
+abbrev pub set_flag : Flag → Told → Told
+set_flag flags.RegisterVars told = record told { options = record told.options { register_vars = true } }
+set_flag flags.SignedChars told = record told { options = record told.options { signed_chars = true } }
+set_flag flags.StaticLocals told = record told { options = record told.options { static_locals = true } }
+set_flag flags.CheckStack told = record told { options = record told.options { check_stack = true } }
+set_flag flags.Known told = record told { known = true }
+
 abbrev pub with_flag : Flag → Told → Option Told
-with_flag flags.RegisterVars told = if compiles told.kind then Some (record told { options = record told.options { register_vars = true } }) else None
-with_flag flags.SignedChars told = if compiles told.kind then Some (record told { options = record told.options { signed_chars = true } }) else None
-with_flag flags.StaticLocals told = if compiles told.kind then Some (record told { options = record told.options { static_locals = true } }) else None
-with_flag flags.CheckStack told = if compiles told.kind then Some (record told { options = record told.options { check_stack = true } }) else None
+with_flag flag told = if takes_flag told.kind flag then Some (set_flag flag told) else None
 
 -- what follows `-O`: any of `i`, `r` and `s`, each at most once
 abbrev pub are_letters : List ℕ → Bool
@@ -119,7 +148,8 @@ flag_in word =
     if bytes_eq word (codes "--signed-chars") then Some flags.SignedChars else
     if bytes_eq word (codes "-Cl") then Some flags.StaticLocals else
     if bytes_eq word (codes "--static-locals") then Some flags.StaticLocals else
-    if bytes_eq word (codes "--check-stack") then Some flags.CheckStack else None
+    if bytes_eq word (codes "--check-stack") then Some flags.CheckStack else
+    if bytes_eq word (codes "--known") then Some flags.Known else None
 
 -- the options whose value is the next word
 abbrev pub value_in : List ℕ → Option Value
@@ -139,13 +169,23 @@ has_place _ files = true
 abbrev pub with_file : Told → List ℕ → Option Told
 with_file told word = if is_file word && has_place told.kind told.files then Some (record told { files = told.files ++ word ∷ [] }) else None
 
+-- the number of `gen`
+abbrev pub with_number : Told → Option ℕ → Option Told
+with_number told None = None
+with_number told (Some number) = if is_some told.number then None else Some (record told { number = Some number })
+
+-- a word that is no option
+abbrev pub with_operand : CommandKind → Told → List ℕ → Option Told
+with_operand kinds.Gen told word = with_number told (number_in word)
+with_operand _ told word = with_file told word
+
 -- an option with its value in one word
 abbrev pub with_joined : Value → Told → List ℕ → Option Told
 with_joined value told text = if may_stand told value then with_value value told text else None
 
 abbrev pub told_optimiser : Told → List ℕ → Option (List ℕ) → Option Told
 told_optimiser told word (Some letters) = with_letters told letters
-told_optimiser told word None = with_file told word
+told_optimiser told word None = with_operand told.kind told word
 
 abbrev pub told_processor : Told → List ℕ → Option (List ℕ) → Option Told
 told_processor told word (Some text) = with_joined values.Processor told text
@@ -191,15 +231,24 @@ abbrev pub has_files : List (List ℕ) → Bool
 has_files [] = false
 has_files (file ∷ files) = true
 
+abbrev pub has_operand : CommandKind → Told → Bool
+has_operand kinds.Gen told = is_some told.number
+has_operand _ told = has_files told.files
+
 -- whether the words may end here, or `--` may follow
 abbrev pub is_whole : Told → Bool
-is_whole told = not (is_some told.waits) && has_files told.files
+is_whole told = not (is_some told.waits) && has_operand told.kind told
 
 abbrev pub takes_args : Told → Bool
-takes_args told = is_whole told && runs told.kind
+takes_args told = is_whole told && passes_args told.kind
+
+-- 0 where there is none
+abbrev pub number_of : Option ℕ → ℕ
+number_of None = 0
+number_of (Some number) = number
 
 abbrev pub command_by : Told → List (List ℕ) → Spelled
-command_by told args = record { kind = told.kind; options = told.options; defines = told.defines; folders = told.folders; files = told.files; args = args; out = told.out; cycles = told.cycles }
+command_by told args = record { kind = told.kind; options = told.options; defines = told.defines; folders = told.folders; files = told.files; args = args; out = told.out; cycles = told.cycles; known = told.known; number = number_of told.number }
 
 abbrev pub ended_at : ℕ → Told → Spelling
 ended_at at told = if is_whole told then Is (command_by told []) else NoCommand at
@@ -226,7 +275,8 @@ kind_in word =
     if bytes_eq word (codes "go") then Some kinds.Go else
     if bytes_eq word (codes "build") then Some kinds.Build else
     if bytes_eq word (codes "run") then Some kinds.Run else
-    if bytes_eq word (codes "text") then Some kinds.Text else None
+    if bytes_eq word (codes "text") then Some kinds.Text else
+    if bytes_eq word (codes "gen") then Some kinds.Gen else None
 
 abbrev pub spelling_by : Option CommandKind → List (List ℕ) → Spelling
 spelling_by None words = NoCommand 0

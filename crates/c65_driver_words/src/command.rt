@@ -14,6 +14,8 @@ pub enum CommandKind {
     Run,
     /// Writes the assembly text of files.
     Text,
+    /// Makes a program of so many functions, compiles, links and runs it.
+    Gen,
 }
 
 /// A command with its options. Definitions, folders, files and arguments stand in the order of the words.
@@ -33,6 +35,10 @@ pub struct Command {
     pub out: Option<Text>,
     /// `-x`
     pub cycles: Option<u32>,
+    /// `--known`
+    pub known: bool,
+    /// The number of `gen`, 1 to 255; 0 for the others.
+    pub number: u8,
 }
 
 impl Model for Command {
@@ -40,5 +46,5 @@ impl Model for Command {
 
     ghost Value = { Spelled };
 
-    ghost view = { λ c. record { kind = c.kind; options = c.options; defines = c.defines.items; folders = c.folders.items; files = c.files.items; args = c.args.items; out = c.out; cycles = c.cycles } };
+    ghost view = { λ c. record { kind = c.kind; options = c.options; defines = c.defines.items; folders = c.folders.items; files = c.files.items; args = c.args.items; out = c.out; cycles = c.cycles; known = c.known; number = c.number } };
 }

@@ -22,6 +22,9 @@ fn kind_of(word: &str) -> Option<CommandKind>
     if word == "text" {
         return Some(CommandKind::Text);
     }
+    if word == "gen" {
+        return Some(CommandKind::Gen);
+    }
     None
 }
 

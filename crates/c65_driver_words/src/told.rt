@@ -5,7 +5,7 @@ ghost use Rattle.c65_driver_words.specs.Told.{GoesOn, Tells};
 
 use crate::command::{Command, CommandKind};
 use crate::value::{
-    Flag, Value, are_letters, behind, cycles, define, flag_of, is_file, processor, value_of,
+    Flag, Value, are_letters, behind, cycles, define, flag_of, is_file, number, processor, value_of,
 };
 use c65_base::{Cpu, Options, Text};
 use c65_lex::Define;
@@ -22,6 +22,8 @@ pub struct Told {
     files: Vec<Text>,
     out: Option<Text>,
     cycles: Option<u32>,
+    known: bool,
+    number: Option<u8>,
     has_target: bool,
     has_processor: bool,
     waits: Option<Value>,
@@ -33,34 +35,78 @@ impl Model for Told {
 
     ghost Value = { words.Told };
 
-    ghost view = { λ t. record { kind = t.kind; options = t.options; defines = t.defines.items; folders = t.folders.items; files = t.files.items; out = t.out; cycles = t.cycles; has_target = t.has_target; has_processor = t.has_processor; waits = t.waits } };
+    ghost view = { λ t. record { kind = t.kind; options = t.options; defines = t.defines.items; folders = t.folders.items; files = t.files.items; out = t.out; cycles = t.cycles; known = t.known; number = t.number; has_target = t.has_target; has_processor = t.has_processor; waits = t.waits } };
 }
 
 impl CommandKind {
+    /// Whether the compiler's options may stand.
     fn compiles(self) -> bool
         ensures { result ≡ Words.compiles self }
     {
         match self {
             CommandKind::Run => false,
+            CommandKind::Go | CommandKind::Build | CommandKind::Text | CommandKind::Gen => true,
+        }
+    }
+
+    /// Whether `-D` and `-I` may stand.
+    fn reads_sources(self) -> bool
+        ensures { result ≡ Words.reads_sources self }
+    {
+        match self {
+            CommandKind::Run | CommandKind::Gen => false,
             CommandKind::Go | CommandKind::Build | CommandKind::Text => true,
         }
     }
 
-    fn runs(self) -> bool
-        ensures { result ≡ Words.runs self }
-    {
-        match self {
-            CommandKind::Go | CommandKind::Run => true,
-            CommandKind::Build | CommandKind::Text => false,
-        }
-    }
-
+    /// Whether `-o` may stand.
     fn writes(self) -> bool
         ensures { result ≡ Words.writes self }
     {
         match self {
             CommandKind::Build | CommandKind::Text => true,
-            CommandKind::Go | CommandKind::Run => false,
+            CommandKind::Go | CommandKind::Run | CommandKind::Gen => false,
+        }
+    }
+
+    /// Whether `-x` may stand.
+    fn counts_cycles(self) -> bool
+        ensures { result ≡ Words.counts_cycles self }
+    {
+        match self {
+            CommandKind::Go | CommandKind::Run => true,
+            CommandKind::Build | CommandKind::Text | CommandKind::Gen => false,
+        }
+    }
+
+    /// Whether arguments may stand.
+    fn passes_args(self) -> bool
+        ensures { result ≡ Words.passes_args self }
+    {
+        match self {
+            CommandKind::Go | CommandKind::Run => true,
+            CommandKind::Build | CommandKind::Text | CommandKind::Gen => false,
+        }
+    }
+
+    /// Whether `--known` may stand.
+    fn prints(self) -> bool
+        ensures { result ≡ Words.prints self }
+    {
+        match self {
+            CommandKind::Text => true,
+            CommandKind::Go | CommandKind::Build | CommandKind::Run | CommandKind::Gen => false,
+        }
+    }
+
+    fn takes_flag(self, flag: Flag) -> bool
+        ensures { result ≡ Words.takes_flag self flag }
+    {
+        match flag {
+            Flag::Known => self.prints(),
+            Flag::RegisterVars | Flag::SignedChars | Flag::StaticLocals | Flag::CheckStack => {
+                self.compiles()
+            }
         }
     }
 }
@@ -78,6 +124,8 @@ impl Told {
             files: Vec::new(alloc),
             out: None,
             cycles: None,
+            known: false,
+            number: None,
             has_target: false,
             has_processor: false,
             waits: None,
@@ -92,29 +140,41 @@ impl Told {
         self.waits.is_some()
     }
 
+    /// Whether the number of `gen`, or a file, stands.
+    fn has_operand(&self) -> bool
+        ensures { result ≡ Words.has_operand self.now.kind self.now }
+    {
+        match self.kind {
+            CommandKind::Gen => self.number.is_some(),
+            CommandKind::Go | CommandKind::Build | CommandKind::Run | CommandKind::Text => {
+                !self.files.is_empty()
+            }
+        }
+    }
+
     /// Whether the words may end here.
     pub fn is_whole(&self) -> bool
         ensures { result ≡ Words.is_whole self.now }
     {
-        self.waits.is_none() && !self.files.is_empty()
+        self.waits.is_none() && self.has_operand()
     }
 
     /// Whether arguments may follow.
     pub fn takes_args(&self) -> bool
         ensures { result ≡ Words.takes_args self.now }
     {
-        self.is_whole() && self.kind.runs()
+        self.is_whole() && self.kind.passes_args()
     }
 
     fn may_stand(&self, value: Value) -> bool
         ensures { result ≡ Words.may_stand self.now value }
     {
         match value {
-            Value::Define | Value::Folder => self.kind.compiles(),
+            Value::Define | Value::Folder => self.kind.reads_sources(),
             Value::Target => self.kind.compiles() && !self.has_target,
             Value::Processor => self.kind.compiles() && !self.has_processor,
             Value::Out => self.kind.writes() && self.out.is_none(),
-            Value::Cycles => self.kind.runs() && self.cycles.is_none(),
+            Value::Cycles => self.kind.counts_cycles() && self.cycles.is_none(),
         }
     }
 
@@ -207,7 +267,7 @@ impl Told {
     fn take_flag(&mut self, flag: Flag) -> bool
         ensures { Tells result self.new (Words.with_flag flag self.old) }
     {
-        if !self.kind.compiles() {
+        if !self.kind.takes_flag(flag) {
             return false;
         }
         match flag {
@@ -215,6 +275,7 @@ impl Told {
             Flag::SignedChars => self.options.signed_chars = true,
             Flag::StaticLocals => self.options.static_locals = true,
             Flag::CheckStack => self.options.check_stack = true,
+            Flag::Known => self.known = true,
         }
         true
     }
@@ -248,7 +309,7 @@ impl Told {
     {
         match self.kind {
             CommandKind::Run => self.files.is_empty(),
-            CommandKind::Go | CommandKind::Build | CommandKind::Text => true,
+            CommandKind::Go | CommandKind::Build | CommandKind::Text | CommandKind::Gen => true,
         }
     }
 
@@ -261,6 +322,31 @@ impl Told {
         let file = Text::copy_of(self.alloc, word)?;
         self.files.push(file)?;
         Ok(true)
+    }
+
+    fn take_number(&mut self, number: Option<u8>) -> bool
+        ensures { Tells result self.new (Words.with_number self.old number) }
+    {
+        let Some(number) = number else {
+            return false;
+        };
+        if self.number.is_some() {
+            return false;
+        }
+        self.number = Some(number);
+        true
+    }
+
+    /// A word that is no option.
+    fn take_operand(&mut self, word: &str) -> Result<bool, AllocError>
+        ensures { GoesOn result self.new (Words.with_operand self.old.kind self.old word.now) }
+    {
+        match self.kind {
+            CommandKind::Gen => Ok(self.take_number(number(word))),
+            CommandKind::Go | CommandKind::Build | CommandKind::Run | CommandKind::Text => {
+                self.take_file(word.as_bytes())
+            }
+        }
     }
 
     /// A definition in the word of its option.
@@ -291,23 +377,24 @@ impl Told {
         self.may_stand(Value::Processor) && self.take_processor(processor(text))
     }
 
-    /// A word that is an option with its value, or the name of a file.
-    fn take_joined(&mut self, word: &[u8]) -> Result<bool, AllocError>
+    /// A word that is an option with its value, or no option.
+    fn take_joined(&mut self, word: &str) -> Result<bool, AllocError>
         ensures { GoesOn result self.new (Words.told_joined self.old word.now) }
     {
-        if let Some(text) = behind(b"-D", word) {
+        let bytes = word.as_bytes();
+        if let Some(text) = behind(b"-D", bytes) {
             return self.take_joined_define(text);
         }
-        if let Some(text) = behind(b"-I", word) {
+        if let Some(text) = behind(b"-I", bytes) {
             return self.take_joined_folder(text);
         }
-        if let Some(text) = behind(b"--cpu=", word) {
+        if let Some(text) = behind(b"--cpu=", bytes) {
             return Ok(self.take_joined_processor(text));
         }
-        if let Some(letters) = behind(b"-O", word) {
+        if let Some(letters) = behind(b"-O", bytes) {
             return Ok(self.take_letters(letters));
         }
-        self.take_file(word)
+        self.take_operand(word)
     }
 
     /// Takes one word more; whether the words go on so.
@@ -323,7 +410,7 @@ impl Told {
         if let Some(value) = value_of(word) {
             return Ok(self.take_option(value));
         }
-        self.take_joined(word.as_bytes())
+        self.take_joined(word)
     }
 
     /// The command of these words with arguments.
@@ -338,6 +425,8 @@ impl Told {
             files,
             out,
             cycles,
+            known,
+            number,
             ..
         } = self;
         Command {
@@ -349,6 +438,8 @@ impl Told {
             args,
             out,
             cycles,
+            known,
+            number: number.unwrap_or(0),
         }
     }
 }

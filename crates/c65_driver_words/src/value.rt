@@ -18,6 +18,7 @@ pub enum Flag {
     SignedChars,
     StaticLocals,
     CheckStack,
+    Known,
 }
 
 /// An option with a value.
@@ -46,6 +47,9 @@ pub fn flag_of(word: &str) -> Option<Flag>
     }
     if word == "--check-stack" {
         return Some(Flag::CheckStack);
+    }
+    if word == "--known" {
+        return Some(Flag::Known);
     }
     None
 }
@@ -127,12 +131,12 @@ fn are_digits(bytes: &[u8]) -> bool
     bytes.iter().all(|byte| byte.is_ascii_digit())
 }
 
-/// At most ten digits.
-fn is_digits(word: &str) -> bool
-    ensures { result ≡ Values.is_digits word.now }
+/// At most so many digits.
+fn is_digits(most: usize, word: &str) -> bool
+    ensures { result ≡ Values.is_digits most word.now }
 {
     let bytes = word.as_bytes();
-    bytes.len() < 11 && are_digits(bytes)
+    bytes.len() <= most && are_digits(bytes)
 }
 
 fn above_zero(number: u32) -> Option<u32>
@@ -142,9 +146,9 @@ fn above_zero(number: u32) -> Option<u32>
 }
 
 /// The number that digits write.
-fn number(word: &str) -> Option<u32>
-    requires { IsTrue (Values.is_digits word.now) }
-    ensures { result ≡ Values.cycles_in word.now }
+fn whole_by(word: &str) -> Option<u32>
+    requires { IsTrue (list_all is_ascii_digit word.now) }
+    ensures { result ≡ Values.whole_by word.now }
 {
     match word.parse::<u32>() {
         Ok(number) => above_zero(number),
@@ -152,11 +156,32 @@ fn number(word: &str) -> Option<u32>
     }
 }
 
+/// The number that at most so many digits write.
+fn whole(most: usize, word: &str) -> Option<u32>
+    ensures { result ≡ Values.whole_in most word.now }
+{
+    if is_digits(most, word) {
+        whole_by(word)
+    } else {
+        None
+    }
+}
+
 /// The number of `-x`.
 pub fn cycles(word: &str) -> Option<u32>
     ensures { result ≡ Values.cycles_in word.now }
 {
-    if is_digits(word) { number(word) } else { None }
+    whole(10, word)
+}
+
+/// The number of `gen`.
+pub fn number(word: &str) -> Option<u8>
+    ensures { result ≡ Values.number_in word.now }
+{
+    match whole(3, word) {
+        Some(number) if number < 256 => Some(number as u8),
+        _ => None,
+    }
 }
 
 fn is_name(word: &[u8]) -> bool

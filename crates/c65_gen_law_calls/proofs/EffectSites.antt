@@ -1,5 +1,5 @@
 -- The lines of an expression whose value is not used that call functions are those of its calls.
-use Rattle.std.proofs.Common.{◌≡◌, ℕ, ◌+◌, ℤ, Option, Some, None, true, List, [], ◌∷◌, ◌++◌, refl, sym}
+use Rattle.std.proofs.Common.{◌≡◌, ℕ, ◌+◌, ℤ, Option, Some, None, true, List, [], ◌∷◌, ◌++◌, refl}
 use Rattle.c65_base.specs.declared.operators.BinaryOp.{BinaryOp}
 use Rattle.c65_base.specs.declared.operators.StepKind.{StepKind}
 use Rattle.c65_base.specs.declared.operators.StepKind.TheVariants.{PreInc, PreDec, PostInc, PostDec}
@@ -13,7 +13,7 @@ use Rattle.c65_genload.specs.declared.places.Place.{Place}
 use Rattle.c65_genload.specs.declared.places.Access.{Access}
 use Rattle.c65_genexpr.specs.declared.wanted.Wanted.TheVariants.{Value}
 use Rattle.c65_genexpr.specs.Types.{bare, access_of, target_bytes}
-use Rattle.c65_genexpr.specs.Places.{place_of, IsKnown}
+use Rattle.c65_genexpr.specs.Places.{place_of}
 use Rattle.c65_genexpr.specs.Operands.{constant_in}
 use Rattle.c65_genexpr.specs.Uses.{uses}
 use Rattle.c65_genexpr.specs.Code.{node_code}
@@ -28,8 +28,8 @@ use Rattle.c65_geneffect.specs.Effects.{fixed_code, stepped_by, changed_by, fill
 use Rattle.c65_gen_law_lines.proofs.EffectForms.{IsSound, change_quiet, point_quiet, fill_still}
 use Rattle.c65_gen_law_lines.proofs.EffectFacts.{IsStep, stepping_sound, Unneeded, changing_unneeded, Unfilled, filling_unneeded}
 use Rattle.c65_gen_law_calls.specs.Sites.{Site, sites_of, node_sites}
-use Rattle.c65_gen_law_calls.proofs.Callings.{Free, free_leaves, free_append, Has, has_then, has_behind, has_free, has_as}
-use Rattle.c65_gen_law_calls.proofs.ExprSites.{known_sites, target_has, left_sites, right_sites, base_has, has_expression}
+use Rattle.c65_gen_law_calls.proofs.Callings.{Free, free_leaves, free_append, Has, has_then, has_behind, has_as}
+use Rattle.c65_gen_law_calls.proofs.ExprSites.{left_sites, base_has, has_expression}
 
 constant_sites : (e : Typed) (z : ℤ) → constant_in e ≡ Some z → sites_of e ≡ []
 constant_sites (node t (constant y)) z h = refl
@@ -53,35 +53,35 @@ label_free l = record { none = refl }
 
 -- ---- the whole tree
 
-fixed_has : {f : Framed} {ss : List Site} {base : List Line} (change : Change) (place : Place) (label : ℕ) → IsSound change → (IsKnown place → ss ≡ []) → Has f ss base → Has f ss (fixed_code change place label base)
-fixed_has change place label sound known d = has_behind (target_has place known d) (free_append (point_free place) (change_free change label sound))
+fixed_has : {f : Framed} {ss : List Site} {base : List Line} (change : Change) (place : Place) (label : ℕ) → IsSound change → Has f ss base → Has f ss (fixed_code change place label base)
+fixed_has change place label sound d = has_behind d (free_append (point_free place) (change_free change label sound))
 
-stepped_has : {f : Framed} {ss : List Site} {base whole : List Line} (form : Option Change) (place : Place) (label : ℕ) → IsStep form → (IsKnown place → ss ≡ []) → Has f ss base → Has f ss whole → Has f ss (stepped_by form place label base whole)
-stepped_has (Some change) place label sound known db dw = fixed_has change place label sound known db
-stepped_has None place label sound known db dw = has_behind dw (label_free label)
+stepped_has : {f : Framed} {ss : List Site} {base whole : List Line} (form : Option Change) (place : Place) (label : ℕ) → IsStep form → Has f ss base → Has f ss whole → Has f ss (stepped_by form place label base whole)
+stepped_has (Some change) place label sound db dw = fixed_has change place label sound db
+stepped_has None place label sound db dw = has_behind dw (label_free label)
 
-changed_has : {f : Framed} {ss ts : List Site} {left right whole : List Line} (how : Changing) (place : Place) (label : ℕ) → Unneeded how (ss ≡ []) (ts ≡ []) → (IsKnown place → ss ≡ []) → Has f ss left → Has f ts right → Has f (ss ++ ts) whole
+changed_has : {f : Framed} {ss ts : List Site} {left right whole : List Line} (how : Changing) (place : Place) (label : ℕ) → Unneeded how (ts ≡ []) → Has f ss left → Has f ts right → Has f (ss ++ ts) whole
     → Has f (ss ++ ts) (changed_by how place label left right whole)
-changed_has {ss = ss} {ts = ts} (Fixed change) place label unneeded known dl dr dw = has_as (left_sites ss ts unneeded.1) (fixed_has change place label unneeded.0 known dl)
-changed_has {ss = ss} {ts = ts} (Loaded change) place label unneeded known dl dr dw = has_as (right_sites ss ts unneeded.1) (has_behind dr (change_free change label unneeded.0))
-changed_has Otherwise place label unneeded known dl dr dw = has_behind dw (label_free label)
+changed_has {ss = ss} {ts = ts} (Fixed change) place label unneeded dl dr dw = has_as (left_sites ss ts unneeded.1) (fixed_has change place label unneeded.0 dl)
+changed_has (Loaded change) place label unneeded dl dr dw = has_then dl (has_behind dr (change_free change label unneeded))
+changed_has Otherwise place label unneeded dl dr dw = has_behind dw (label_free label)
 
-filled_has : {f : Framed} {whole : List Line} (ss ts : List Site) (fill : Option Fill) → Unfilled fill (ss ≡ []) (ts ≡ []) → Has f (ss ++ ts) whole → Has f (ss ++ ts) (filled_or fill whole)
-filled_has ss ts (Some fill) unneeded dw = has_as (left_sites ss ts unneeded.1) (has_as (sym unneeded.0) (has_free (free_leaves (fill_still fill.byte fill.low fill.high []))))
-filled_has ss ts None unneeded dw = dw
+filled_has : {f : Framed} {ss : List Site} {base whole : List Line} (ts : List Site) (fill : Option Fill) → Unfilled fill (ts ≡ []) → Has f ss base → Has f (ss ++ ts) whole → Has f (ss ++ ts) (filled_or fill base whole)
+filled_has {ss = ss} ts (Some fill) unneeded db dw = has_as (left_sites ss ts unneeded) (has_behind db (free_leaves (fill_still fill.byte fill.low fill.high [])))
+filled_has ts None unneeded db dw = dw
 
 step_has : (f : Framed) (pushed lo : ℕ) (t : QTy) (how : StepKind) (e : Typed) → Has f (sites_of e) (node_code f pushed (lo + 1) Value t (step (in_front how) e)) → Has f (sites_of e) (step_effect f pushed lo how e)
 step_has f pushed lo t how e whole =
     let place : Place = place_of f pushed e in
     let access : Access = access_of (types_of f.parts.types) e in
-    stepped_has (stepping_of how (target_bytes f (bare e)) place access) place lo (stepping_sound how (target_bytes f (bare e)) place access) (known_sites f pushed e) (base_has f pushed (lo + 1) e) whole
+    stepped_has (stepping_of how (target_bytes f (bare e)) place access) place lo (stepping_sound how (target_bytes f (bare e)) place access) (base_has f pushed (lo + 1) e) whole
 
 op_has : (f : Framed) (pushed lo : ℕ) (op : BinaryOp) (size : ℕ) (a b : Typed) (whole : List Line) → Has f (sites_of a ++ sites_of b) whole → Has f (sites_of a ++ sites_of b) (changed_code f pushed lo op size a b whole)
 op_has f pushed lo op size a b whole dw =
     let place : Place = place_of f pushed a in
     let access : Access = access_of (types_of f.parts.types) a in
-    let unneeded : Unneeded (changing_of op size place access b) (sites_of a ≡ []) (sites_of b ≡ []) = changing_unneeded _ _ op size place access b (known_sites f pushed a) (λ z h. constant_sites b z h) in
-    changed_has (changing_of op size place access b) place lo unneeded (known_sites f pushed a) (base_has f pushed (lo + 1) a) (has_expression f pushed (lo + 1 + uses None a) Value b) dw
+    let unneeded : Unneeded (changing_of op size place access b) (sites_of b ≡ []) = changing_unneeded _ op size place access b (λ z h. constant_sites b z h) in
+    changed_has (changing_of op size place access b) place lo unneeded (base_has f pushed (lo + 1) a) (has_expression f pushed (lo + 1 + uses None a) Value b) dw
 
 mutual
   pub effect_has : (f : Framed) (pushed lo : ℕ) (e : Typed) → Has f (sites_of e) (effect_code f pushed lo e)
@@ -93,7 +93,7 @@ mutual
   node_effect_has f pushed lo t (assign a b) =
       let place : Place = place_of f pushed a in
       let access : Access = access_of (types_of f.parts.types) a in
-      filled_has (sites_of a) (sites_of b) (filling_of place access b) (filling_unneeded _ _ place access b (known_sites f pushed a) (λ n h. number_sites b n h)) (has_expression f pushed lo Value (node t (assign a b)))
+      filled_has (sites_of b) (filling_of place access b) (filling_unneeded _ place access b (λ n h. number_sites b n h)) (base_has f pushed lo a) (has_expression f pushed lo Value (node t (assign a b)))
   node_effect_has f pushed lo t (assign_op op k a b) = op_has f pushed lo op 1 a b (node_code f pushed (lo + 1) Value t (assign_op op k a b)) (has_expression f pushed (lo + 1) Value (node t (assign_op op k a b)))
   node_effect_has f pushed lo t (assign_step op a b) = op_has f pushed lo op (target_bytes f (bare a)) a b (node_code f pushed (lo + 1) Value t (assign_step op a b)) (has_expression f pushed (lo + 1) Value (node t (assign_step op a b)))
   node_effect_has f pushed lo t (step PreInc e) = step_has f pushed lo t PreInc e (has_expression f pushed (lo + 1) Value (node t (step PreInc e)))

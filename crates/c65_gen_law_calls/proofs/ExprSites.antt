@@ -48,27 +48,27 @@ use Rattle.c65_genexpr.specs.declared.arguments.Passed.{Passed}
 use Rattle.c65_genexpr.specs.declared.types.Outcome.{Outcome}
 use Rattle.c65_genexpr.specs.declared.types.Outcome.TheVariants.{Nothing, Number, Area}
 use Rattle.c65_genexpr.specs.Types.{kind_of, outcome_of, kind_in, bare, offset_at, access_of, target_bytes}
-use Rattle.c65_genexpr.specs.Places.{more, has_base, added_bytes, sum_has_base, place_of, offset_of, object_code, IsKnown}
+use Rattle.c65_genexpr.specs.Places.{more, has_base, added_bytes, sum_has_base, object_place, place_of, target_of, object_code, target_code}
 use Rattle.c65_genexpr.specs.Wanted.{wanted_by, handed, wanted, sense, aimed, inner, truth_by, way, way_labels, joined}
 use Rattle.c65_genexpr.specs.Operands.{residue_of, constant_in, operands_of, computes, same_truth, conversion_by}
 use Rattle.c65_genexpr.specs.Direct.{kept_at, own_bytes}
 use Rattle.c65_genexpr.specs.Comparing.{relation_by, tested_by, comparing_of, on, low_code, below_side, comparison_by}
 use Rattle.c65_genexpr.specs.Held.{held_low, held_high}
 use Rattle.c65_genexpr.specs.Operating.{operating_of, waiting_code, stacked_code, below_operand, operator_by}
-use Rattle.c65_genexpr.specs.Storing.{target_code, storing_of, below_value, assigned_by}
+use Rattle.c65_genexpr.specs.Storing.{storing_of, below_value, assigned_by}
 use Rattle.c65_genexpr.specs.Steps.{amount_of}
 use Rattle.c65_genexpr.specs.Arguments.{is_fast, is_counted, stays, passed_size, passed_of}
 use Rattle.c65_genexpr.specs.Arguments as arguments
 use Rattle.c65_genexpr.specs.Calls.{named, library_at, count_code, fetch_code, result_code, named_by, pointer_code, direct_code, ptr4_code}
 use Rattle.c65_genexpr.specs.Uses.{uses, by_relation}
-use Rattle.c65_genexpr.specs.Code.{width_in, tested_load, load_by, behind_open, compound, call_by, base_by, expr_code, node_code, base_code, pointer_base_code, args_code}
+use Rattle.c65_genexpr.specs.Code.{width_in, tested_load, load_by, behind_open, compound, call_by, expr_code, node_code, base_code, pointer_base_code, args_code}
 use Rattle.c65_gen_law_lines.proofs.Drops.{Unstored}
 use Rattle.c65_gen_law_lines.proofs.StackPieces.{narrow_still, read_store_still, byte_through_still, word_through_still, object_still, further_still, offset_still, conversion_still, push_leaves, argument_leaves, hold_leaves, bytes_still, load_still, stored_leaves, copy_leaves, spill_still, unary_still, between_leaves, behind_leaves, wide_leaves, step_still, open_leaves, close_leaves}
 use Rattle.c65_gen_law_stack.proofs.EvenLines.{Labels, No, One, Even, even_label, even_leaves}
 use Rattle.c65_gen_law_stack.proofs.EvenShifts.{elements_even}
 use Rattle.c65_gen_law_stack.proofs.EvenDirects.{byte_even, compare_even, compare_byte_even, zero_test_even, truth_even}
 use Rattle.c65_gen_law_stack.proofs.EvenForms.{value_test_even, routine_test_even, constant_even, form_even, keep_even}
-use Rattle.c65_gen_law_stack.proofs.ReadSides.{Reaches, storing_reached, sum_reached, known_reached, kept_known, First, Compared, comparing_reached, Operated, operating_reached}
+use Rattle.c65_gen_law_stack.proofs.ReadSides.{Reaches, storing_reached, sum_reached, First, Compared, comparing_reached, Operated, operating_reached}
 use Rattle.c65_gen_law_calls.specs.Sites.{Site, site_by, unless_named, sites_of, node_sites, args_sites}
 use Rattle.c65_gen_law_calls.specs.Lines.{is_calling, named_line, line_by, line_of}
 use Rattle.c65_gen_law_calls.specs.Found.{ExpressionsCallInOrder}
@@ -91,14 +91,11 @@ no_site = record {
   convert = λ t e h. h;
 }
 
-pub known_sites : (f : Framed) (pushed : ℕ) (e : Typed) → IsKnown (place_of f pushed e) → sites_of e ≡ []
-known_sites f pushed e h = known_reached no_site f pushed e h
-
-pub target_has : {f : Framed} {ss : List Site} {code : List Line} (p : Place) → (IsKnown p → ss ≡ []) → Has f ss code → Has f ss (target_code p code)
-target_has (places.Far at) h d = d
-target_has (places.Bank b) h d = has_as (sym (h tt)) has_none
-target_has (places.Near at) h d = has_as (sym (h tt)) has_none
-target_has (places.Data s at) h d = has_as (sym (h tt)) has_none
+target_has : {f : Framed} {code : List Line} (p : Place) → Has f [] code → Has f [] (target_code p code)
+target_has (places.Far at) d = d
+target_has (places.Bank b) d = has_none
+target_has (places.Near at) d = has_none
+target_has (places.Data s at) d = has_none
 
 pub no_sites : (xs : List Site) → xs ++ [] ≡ xs
 no_sites [] = refl
@@ -127,13 +124,13 @@ truth_has (Test to s) fresh d = d
 labelled_has : {f : Framed} {ss : List Site} {a : List Line} (label : ℕ) → Has f ss a → Has f ss (labelled label a)
 labelled_has label d = has_behind d (even_free (even_label {X = No} label))
 
-tested_has : {f : Framed} {ss : List Site} {a : List Line} (o : Option Direct) (kind : IntType) (s : Bool) (to : ℕ) → ((d : Direct) → o ≡ Some d → ss ≡ []) → Has f ss a → Has f ss (tested_load o kind s to a)
-tested_has (Some d) kind s to known p = has_as (sym (known d refl)) (has_free (even_free (zero_test_even {X = One to} (own_bytes d (extent_of kind)) s to refl)))
-tested_has None kind s to known p = wanted_has (Test to s) (width_of kind) p
+tested_has : {f : Framed} {ss : List Site} {base a : List Line} (o : Option Direct) (kind : IntType) (s : Bool) (to : ℕ) → Has f ss base → Has f ss a → Has f ss (tested_load o kind s to base a)
+tested_has (Some d) kind s to pb p = has_behind pb (even_free (zero_test_even {X = One to} (own_bytes d (extent_of kind)) s to refl))
+tested_has None kind s to pb p = wanted_has (Test to s) (width_of kind) p
 
-load_has : {f : Framed} {ss : List Site} {a : List Line} (w : Wanted) (place : Place) (access : Access) → (IsKnown place → ss ≡ []) → Has f ss a → Has f ss (load_by w place access a)
-load_has Value place access known p = has_behind p (free_leaves (load_still place access []))
-load_has (Test to s) place access known p = tested_has (kept_at place access) (type_at access) s to (λ d e. known (kept_known place access d e)) (has_behind p (free_leaves (load_still place access [])))
+load_has : {f : Framed} {ss : List Site} {a : List Line} (w : Wanted) (place : Place) (access : Access) → Has f ss a → Has f ss (load_by w place access a)
+load_has Value place access p = has_behind p (free_leaves (load_still place access []))
+load_has (Test to s) place access p = tested_has (kept_at place access) (type_at access) s to p (has_behind p (free_leaves (load_still place access [])))
 
 conversion_has : {f : Framed} {ss : List Site} {a : List Line} (w : Wanted) (same : Bool) (t : Ty) (from : IntType) → Has f ss a → Has f ss (conversion_by w same t from a)
 conversion_has Value same t from p = has_behind p (free_leaves (conversion_still t from []))
@@ -165,22 +162,16 @@ operator_has operating.Stacked op operands right label empty da db = labelled_ha
 
 -- ---- assignments
 
-assigned_has : {f : Framed} {ss ts : List Site} {a b : List Line} (how : Storing) (place : Place) (access : Access) → Unstored how (ss ≡ []) (ts ≡ []) → (IsKnown place → ss ≡ []) → Has f ss a → Has f ts b → Has f (ss ++ ts) (assigned_by how place access a b)
-assigned_has {ss = ss} {ts = ts} (storing.Left at stored) place access empty known da db = has_as (left_sites ss ts empty) (has_behind da (free_append (free_leaves (read_store_still at stored [])) (free_leaves (narrow_still (type_at access) []))))
-assigned_has {ss = ss} {ts = ts} (storing.RightByte at low high) place access empty known da db =
+assigned_has : {f : Framed} {ss ts : List Site} {a b : List Line} (how : Storing) (place : Place) (access : Access) → Unstored how (ss ≡ []) (ts ≡ []) → Has f ss a → Has f ts b → Has f (ss ++ ts) (assigned_by how place access a b)
+assigned_has {ss = ss} {ts = ts} (storing.Left at stored) place access empty da db = has_as (left_sites ss ts empty) (has_behind da (free_append (free_leaves (read_store_still at stored [])) (free_leaves (narrow_still (type_at access) []))))
+assigned_has {ss = ss} {ts = ts} (storing.RightByte at low high) place access empty da db =
     has_as (right_sites ss ts empty) (has_behind db (free_append (free_leaves (byte_through_still at low high [])) (free_leaves (narrow_still (type_at access) []))))
-assigned_has {ss = ss} {ts = ts} (storing.RightWord at low high) place access empty known da db = has_as (right_sites ss ts empty) (has_behind db (free_leaves (word_through_still at low high [])))
-assigned_has storing.Stacked place access empty known da db = has_then (target_has place known da) (has_before (free_leaves (hold_leaves place [])) (has_behind db (free_leaves (stored_leaves place access []))))
+assigned_has {ss = ss} {ts = ts} (storing.RightWord at low high) place access empty da db = has_as (right_sites ss ts empty) (has_behind db (free_leaves (word_through_still at low high [])))
+assigned_has storing.Stacked place access empty da db = has_then da (has_before (free_leaves (hold_leaves place [])) (has_behind db (free_leaves (stored_leaves place access []))))
 
 either_has : {f : Framed} {ss : List Site} {a b : List Line} (c : Bool) → Has f ss a → Has f ss b → Has f ss (if c then a else b)
 either_has true da db = da
 either_has false da db = db
-
-based_has : {f : Framed} {ss : List Site} {a b : List Line} (place : Place) → Has f ss a → Has f ss b → Has f ss (base_by place a b)
-based_has (places.Far at) da db = da
-based_has (places.Bank b) da db = db
-based_has (places.Near at) da db = db
-based_has (places.Data s at) da db = db
 
 sum_has : {f : Framed} {ss ts : List Site} {a b : List Line} (c : Bool) (lo : ℕ) → (c ≡ true → ts ≡ []) → Has f ss a → Has f (ss ++ ts) b → Has f (ss ++ ts) (if c then Label lo ∷ a else b)
 sum_has {ss = ss} {ts = ts} true lo empty da db = has_as (left_sites ss ts (empty refl)) (has_line (Label lo) refl da)
@@ -263,7 +254,7 @@ compound_has : {f : Framed} {ts : List Site} {left right : List Line} (pushed : 
 compound_has {f = f} pushed op operands a b da db =
     let place : Place = place_of f pushed a in
     let access : Access = access_of (types_of f.parts.types) a in
-    has_then (target_has place (known_sites f pushed a) da) (has_before (free_leaves (open_leaves place access (computes operands) [])) (has_behind db (free_leaves (close_leaves op operands (kind_in b) place access []))))
+    has_then da (has_before (free_leaves (open_leaves place access (computes operands) [])) (has_behind db (free_leaves (close_leaves op operands (kind_in b) place access []))))
 
 mutual
   expr_has : (f : Framed) (pushed lo : ℕ) (w : Wanted) (e : Typed) → Has f (sites_of e) (expr_code f pushed lo w e)
@@ -277,7 +268,7 @@ mutual
   node_has f pushed lo w t (func i) = wanted_has w (width_in t) (record { is = refl })
   node_has f pushed lo w t (deref e) = wanted_has w (width_in t) (expr_has f pushed lo Value e)
   node_has f pushed lo w t (member e m) = wanted_has w (width_in t) (has_behind (expr_has f pushed lo Value e) (free_leaves (offset_still (offset_at (types_of f.parts.types) (bare e) m) [])))
-  node_has f pushed lo w t (load e) = load_has w (place_of f pushed e) (access_of (types_of f.parts.types) e) (known_sites f pushed e) (target_has (place_of f pushed e) (known_sites f pushed e) (base_has f pushed lo e))
+  node_has f pushed lo w t (load e) = load_has w (place_of f pushed e) (access_of (types_of f.parts.types) e) (base_has f pushed lo e)
   node_has f pushed lo w t (address e) = wanted_has w (width_in t) (expr_has f pushed lo Value e)
   node_has f pushed lo w t (decay e) = wanted_has w (width_in t) (expr_has f pushed lo Value e)
   node_has f pushed lo w t (convert e) =
@@ -315,23 +306,25 @@ mutual
   node_has f pushed lo w t (assign a b) =
       let place : Place = place_of f pushed a in
       let how : Storing = storing_of f pushed a b in
-      wanted_has w (width_in t) (assigned_has how place (access_of (types_of f.parts.types) a) (storing_reached no_site f pushed a b) (known_sites f pushed a) (base_has f pushed lo a) (expr_has f (below_value how pushed place) (lo + uses None a) Value b))
+      wanted_has w (width_in t) (assigned_has how place (access_of (types_of f.parts.types) a) (storing_reached no_site f pushed a b) (base_has f pushed lo a) (expr_has f (below_value how pushed place) (lo + uses None a) Value b))
   node_has f pushed lo w t (assign_op op k a b) = wanted_has w (width_in t) (compound_has pushed op (Numbers k) a b (base_has f pushed lo a) (expr_has f (behind_open f pushed (Numbers k) a) (lo + uses None a) Value b))
   node_has f pushed lo w t (assign_step op a b) =
       let operands : Operands = PointerFirst (target_bytes f (bare a)) in
       wanted_has w (width_in t) (compound_has pushed op operands a b (base_has f pushed lo a) (expr_has f (behind_open f pushed operands a) (lo + uses None a) Value b))
   node_has f pushed lo w t (step how e) =
       let place : Place = place_of f pushed e in
-      wanted_has w (width_in t) (has_behind (target_has place (known_sites f pushed e) (base_has f pushed lo e)) (free_leaves (step_still how place (access_of (types_of f.parts.types) e) (amount_of f how (bare e)) [])))
+      wanted_has w (width_in t) (has_behind (base_has f pushed lo e) (free_leaves (step_still how place (access_of (types_of f.parts.types) e) (amount_of f how (bare e)) [])))
   node_has f pushed lo w t (copy a b) =
       wanted_has w (width_in t) (has_then (expr_has f pushed lo Value a) (has_before (free_leaves (push_leaves Ax [])) (has_behind (expr_has f (more pushed 2) (lo + uses None a) Value b) (free_leaves (copy_leaves (type_bytes f (type_in t)) [])))))
   node_has f pushed lo w t (call g es) =
       wanted_has w (width_in t) (call_has (named g) t g es refl (expr_has f pushed lo Value g) (args_has f pushed lo (is_fast (bare g)) es) (args_has f (more pushed 2) (lo + uses None g) (is_fast (bare g)) es))
-  node_has f pushed lo w t (pack e) = wanted_has w (width_in t) (has_behind (target_has (place_of f pushed e) (known_sites f pushed e) (base_has f pushed lo e)) (free_leaves (bytes_still (place_of f pushed e) (extent_by (type_bytes f (type_in t))) [])))
+  node_has f pushed lo w t (pack e) = wanted_has w (width_in t) (has_behind (base_has f pushed lo e) (free_leaves (bytes_still (place_of f pushed e) (extent_by (type_bytes f (type_in t))) [])))
   node_has f pushed lo w t (spill i e) = wanted_has w (width_in t) (has_behind (expr_has f pushed lo Value e) (free_leaves (spill_still (object_code f pushed i) (extent_by (type_bytes f (type_in t))) (object_still f pushed i) [])))
   node_has f pushed lo w t further = wanted_has w (width_in t) (has_free (free_leaves (further_still f pushed [])))
 
   pub base_has : (f : Framed) (pushed lo : ℕ) (e : Typed) → Has f (sites_of e) (base_code f pushed lo e)
+  base_has f pushed lo (node t (literal n)) = has_none
+  base_has f pushed lo (node t (object i)) = target_has (object_place f pushed i) (node_has f pushed lo Value t (object i))
   base_has f pushed lo (node t (deref e)) = pointer_base_has f pushed lo e
   base_has f pushed lo (node t (member e m)) =
       let n : ℕ = offset_at (types_of f.parts.types) (bare e) m in
@@ -341,9 +334,10 @@ mutual
   pointer_base_has : (f : Framed) (pushed lo : ℕ) (e : Typed) → Has f (sites_of e) (pointer_base_code f pushed lo e)
   pointer_base_has f pushed lo (node t (binary op a b)) =
       let operands : Operands = operands_of f (bare a) (bare b) in
-      let at : ℕ = offset_of f pushed a in
-      sum_has (sum_has_base at (added_bytes op operands (constant_in b))) lo (λ h. sum_reached no_site at op operands b h) (pointer_base_has f pushed (lo + 1) a) (node_has f pushed lo Value t (binary op a b))
-  pointer_base_has f pushed lo (node t (decay e)) = based_has (place_of f pushed e) (base_has f pushed lo e) (expr_has f pushed lo Value e)
+      let place : Place = target_of f pushed a in
+      sum_has (sum_has_base place (added_bytes op operands (constant_in b))) lo (λ h. sum_reached no_site place op operands b h) (pointer_base_has f pushed (lo + 1) a) (node_has f pushed lo Value t (binary op a b))
+  pointer_base_has f pushed lo (node t (address e)) = base_has f pushed lo e
+  pointer_base_has f pushed lo (node t (decay e)) = base_has f pushed lo e
   pointer_base_has f pushed lo (node t n) = node_has f pushed lo Value t n
 
   args_has : (f : Framed) (pushed lo : ℕ) (fast : Bool) (es : Nodes) → Has f (args_sites es) (args_code f pushed lo fast es)

@@ -39,7 +39,7 @@ use Rattle.c65_genexpr.specs.declared.operands.Operands.TheVariants.{Numbers, Po
 use Rattle.c65_genexpr.specs.Types.{kind_of, bare, offset_at, access_of}
 use Rattle.c65_genexpr.specs.declared.storing.Storing.{Storing}
 use Rattle.c65_genexpr.specs.declared.storing.Storing.TheVariants as storing
-use Rattle.c65_genexpr.specs.Places.{moved, has_base, added_bytes, sum_has_base, place_of, IsKnown}
+use Rattle.c65_genexpr.specs.Places.{has_base, added_bytes, sum_has_base, place_of, is_plain}
 use Rattle.c65_genexpr.specs.Storing.{pointer_of, bytes_stored, through, unless_changed, by_value, by_pointer, storing_by, storing_of}
 use Rattle.c65_genexpr.specs.Operands.{residue_of, negative, constant_in}
 use Rattle.c65_genexpr.specs.Direct.{kept_at, address_at, address_of, takes_bytes, converted_if, sides_of, direct_of, is_fixed, is_pure, is_byte}
@@ -51,25 +51,6 @@ use Rattle.c65_genexpr.specs.Uses.{uses}
 use Rattle.c65_gen_law_lines.specs.Stack.{calls_of}
 use Rattle.c65_gen_law_lines.proofs.Shifts.{IsQuick, quick_is_quick}
 
--- ---- places that are known
-
-pub moved_known : (p : Place) (n : ℕ) → IsKnown (moved p n) → IsKnown p
-moved_known (places.Bank b) n h = tt
-moved_known (places.Near at) n h = tt
-moved_known (places.Data s at) n h = tt
-moved_known (places.Far at) n h = h
-
--- the lines of a known place would have no labels and no calls
-pub known_uses : (f : Framed) (pushed : ℕ) (e : Typed) → IsKnown (place_of f pushed e) → uses None e ≡ 0
-known_uses f pushed (node t (object i)) h = refl
-known_uses f pushed (node t (member e m)) h = known_uses f pushed e (moved_known (place_of f pushed e) (offset_at (types_of f.parts.types) (bare e) m) h)
-known_uses f pushed (node t _) h = absurd h
-
-pub known_calls : (f : Framed) (pushed : ℕ) (e : Typed) → IsKnown (place_of f pushed e) → calls_of f e ≡ []
-known_calls f pushed (node t (object i)) h = refl
-known_calls f pushed (node t (member e m)) h = known_calls f pushed e (moved_known (place_of f pushed e) (offset_at (types_of f.parts.types) (bare e) m) h)
-known_calls f pushed (node t _) h = absurd h
-
 -- ---- values that are read where they lie
 
 -- no labels, and no calls
@@ -77,26 +58,23 @@ pub record Idle (f : Framed) (e : Typed) : Type 0 where
   pub uses : uses None e ≡ 0
   pub calls : calls_of f e ≡ []
 
-pub kept_known : (p : Place) (access : Access) (d : Direct) → kept_at p access ≡ Some d → IsKnown p
-kept_known (places.Bank b) access d h = tt
-kept_known (places.Near at) access d h = tt
-kept_known (places.Data s at) access d h = tt
-kept_known (places.Far at) access d h = absurd cc
+-- a place that is told without a sum
+plain_idle : (f : Framed) (e : Typed) → is_plain e ≡ true → Idle f e
+plain_idle f (node t (literal n)) h = record { uses = refl; calls = refl }
+plain_idle f (node t (object i)) h = record { uses = refl; calls = refl }
+plain_idle f (node t (deref e)) h = let idle : Idle f e = plain_idle f e h in record { uses = idle.uses; calls = idle.calls }
+plain_idle f (node t (member e m)) h = let idle : Idle f e = plain_idle f e h in record { uses = idle.uses; calls = idle.calls }
+plain_idle f (node t (address e)) h = let idle : Idle f e = plain_idle f e h in record { uses = idle.uses; calls = idle.calls }
+plain_idle f (node t (decay e)) h = let idle : Idle f e = plain_idle f e h in record { uses = idle.uses; calls = idle.calls }
+plain_idle f (node t _) h = absurd cc
 
-address_known : (p : Place) (d : Direct) → address_at p ≡ Some d → IsKnown p
-address_known (places.Data s at) d h = tt
-address_known (places.Bank b) d h = tt
-address_known (places.Near at) d h = tt
-address_known (places.Far at) d h = absurd cc
+pub plain_if : {A : Type 0} (plain : Bool) (o : Option A) (x : A) → (if plain then o else None) ≡ Some x → plain ≡ true
+plain_if true o x h = refl
+plain_if false o x h = absurd cc
 
 address_idle : (f : Framed) (pushed : ℕ) (e : Typed) (d : Direct) → address_of f pushed e ≡ Some d → Idle f e
-address_idle f pushed (node t (literal n)) d h = record { uses = refl; calls = refl }
 address_idle f pushed (node t (func i)) d h = record { uses = refl; calls = refl }
-address_idle f pushed (node t (object i)) d h = record { uses = refl; calls = refl }
-address_idle f pushed (node t (member e m)) d h =
-    let known : IsKnown (place_of f pushed (node t (member e m))) = address_known (place_of f pushed (node t (member e m))) d h in
-    record { uses = known_uses f pushed (node t (member e m)) known; calls = known_calls f pushed (node t (member e m)) known }
-address_idle f pushed (node t _) d h = absurd cc
+address_idle f pushed (node t n) d h = plain_idle f (node t n) (plain_if (is_plain (node t n)) (address_at (place_of f pushed (node t n))) d h)
 
 -- what is converted is direct
 converted_from : (b : Bool) (to : IntType) (x : Option Direct) (d : Direct) {A : Type 0} → ((c : Direct) → x ≡ Some c → A) → converted_if b to x ≡ Some d → A
@@ -108,8 +86,8 @@ pub direct_idle : (f : Framed) (pushed : ℕ) (e : Typed) (d : Direct) → direc
 direct_idle f pushed (node t (constant z)) d h = record { uses = refl; calls = refl }
 direct_idle f pushed (node t null) d h = record { uses = refl; calls = refl }
 direct_idle f pushed (node t (load e)) d h =
-    let known : IsKnown (place_of f pushed e) = kept_known (place_of f pushed e) (access_of (types_of f.parts.types) e) d h in
-    record { uses = known_uses f pushed e known; calls = known_calls f pushed e known }
+    let idle : Idle f e = plain_idle f e (plain_if (is_plain e) (kept_at (place_of f pushed e) (access_of (types_of f.parts.types) e)) d h) in
+    record { uses = idle.uses; calls = idle.calls }
 direct_idle f pushed (node t (address e)) d h = let idle : Idle f e = address_idle f pushed e d h in record { uses = idle.uses; calls = idle.calls }
 direct_idle f pushed (node t (decay e)) d h = let idle : Idle f e = address_idle f pushed e d h in record { uses = idle.uses; calls = idle.calls }
 direct_idle f pushed (node t (convert e)) d h =
@@ -282,9 +260,9 @@ storing_calls f pushed a b = unstored_by _ _ f pushed a b (λ idle. idle.calls) 
 
 -- ---- sums that are told with their pointer
 
-sum_alone : (at : ℕ) (op : BinaryOp) (operands : Operands) (z : Option ℤ) → sum_has_base at (added_bytes op operands z) ≡ true → relation_of op ≡ None
-sum_alone at ops.Add operands z h = refl
-sum_alone at _ operands z h = absurd cc
+sum_alone : (place : Place) (op : BinaryOp) (operands : Operands) (z : Option ℤ) → sum_has_base place (added_bytes op operands z) ≡ true → relation_of op ≡ None
+sum_alone place ops.Add operands z h = refl
+sum_alone place _ operands z h = absurd cc
 
 none_added : (op : BinaryOp) (operands : Operands) → added_bytes op operands None ≡ None
 none_added ops.Add (Numbers kind) = refl
@@ -293,22 +271,22 @@ none_added ops.Add (PointerLast size) = refl
 none_added ops.Add (Pointers size) = refl
 none_added _ operands = refl
 
-pub sum_constant : (at : ℕ) (op : BinaryOp) (operands : Operands) (b : Typed) → sum_has_base at (added_bytes op operands (constant_in b)) ≡ true → (z : ℤ) × (constant_in b ≡ Some z)
-sum_constant at op operands b h = go (constant_in b) refl h
+pub sum_constant : (place : Place) (op : BinaryOp) (operands : Operands) (b : Typed) → sum_has_base place (added_bytes op operands (constant_in b)) ≡ true → (z : ℤ) × (constant_in b ≡ Some z)
+sum_constant place op operands b h = go (constant_in b) refl h
   where
-    go : (z : Option ℤ) → constant_in b ≡ z → sum_has_base at (added_bytes op operands z) ≡ true → (y : ℤ) × (z ≡ Some y)
+    go : (z : Option ℤ) → constant_in b ≡ z → sum_has_base place (added_bytes op operands z) ≡ true → (y : ℤ) × (z ≡ Some y)
     go (Some z) e more = (z, refl)
     go None e more = absurd (cc (more, none_added op operands))
 
-sum_idle : (f : Framed) (at : ℕ) (op : BinaryOp) (operands : Operands) (b : Typed) → sum_has_base at (added_bytes op operands (constant_in b)) ≡ true → Idle f b
-sum_idle f at op operands b h = let z = sum_constant at op operands b h in constant_idle f b z.0 z.1
+sum_idle : (f : Framed) (place : Place) (op : BinaryOp) (operands : Operands) (b : Typed) → sum_has_base place (added_bytes op operands (constant_in b)) ≡ true → Idle f b
+sum_idle f place op operands b h = let z = sum_constant place op operands b h in constant_idle f b z.0 z.1
 
 -- one label beside those of the pointer, and its calls
-pub sum_uses : (f : Framed) (at : ℕ) (op : BinaryOp) (operands : Operands) (t : QTy) (a b : Typed) → sum_has_base at (added_bytes op operands (constant_in b)) ≡ true → uses None (node t (binary op a b)) ≡ 1 + uses None a
-sum_uses f at op operands t a b h = rw (sum_alone at op operands (constant_in b) h, (sum_idle f at op operands b h).uses, add-zero) refl
+pub sum_uses : (f : Framed) (place : Place) (op : BinaryOp) (operands : Operands) (t : QTy) (a b : Typed) → sum_has_base place (added_bytes op operands (constant_in b)) ≡ true → uses None (node t (binary op a b)) ≡ 1 + uses None a
+sum_uses f place op operands t a b h = rw (sum_alone place op operands (constant_in b) h, (sum_idle f place op operands b h).uses, add-zero) refl
 
-pub sum_calls : (f : Framed) (at : ℕ) (op : BinaryOp) (operands : Operands) (b : Typed) → sum_has_base at (added_bytes op operands (constant_in b)) ≡ true → calls_of f b ≡ []
-sum_calls f at op operands b h = (sum_idle f at op operands b h).calls
+pub sum_calls : (f : Framed) (place : Place) (op : BinaryOp) (operands : Operands) (b : Typed) → sum_has_base place (added_bytes op operands (constant_in b)) ≡ true → calls_of f b ≡ []
+sum_calls f place op operands b h = (sum_idle f place op operands b h).calls
 
 -- ---- operators that give a number or a pointer
 

@@ -10,7 +10,6 @@ use Rattle.c65_genload.specs.declared.places.Place.{Place}
 use Rattle.c65_genload.specs.declared.places.Place.TheVariants as places
 use Rattle.c65_genload.specs.declared.places.Access.{Access}
 use Rattle.c65_genload.specs.Numbers.{first, second}
-use Rattle.c65_genexpr.specs.Places.{IsKnown}
 use Rattle.c65_genexpr.specs.Operands.{constant_in}
 use Rattle.c65_genexpr.specs.Operating.{takes_bytes}
 use Rattle.c65_genexpr.specs.Direct.{is_pure}
@@ -62,61 +61,61 @@ stepping_sound how size place access = stepped how size (target_of place access)
 
 -- ---- assignments with an operator
 
--- what is so of a side whose lines are not taken, and of the form
-abbrev pub Unneeded : Changing → Type 0 → Type 0 → Type 0
-Unneeded (Fixed change) A B = IsSound change × B
-Unneeded (Loaded change) A B = IsSound change × A
-Unneeded Otherwise A B = Unit {0}
+-- what is so of a right side whose lines are not taken, and of the form
+abbrev pub Unneeded : Changing → Type 0 → Type 0
+Unneeded (Fixed change) B = IsSound change × B
+Unneeded (Loaded change) B = IsSound change
+Unneeded Otherwise B = Unit {0}
 
-loaded_if : (A B : Type 0) (c : Bool) (op : BinaryOp) (target : Target) → A → Unneeded (if c then Loaded (Operand op target) else Otherwise) A B
-loaded_if A B true op target a = (tt, a)
-loaded_if A B false op target a = tt
+loaded_if : (B : Type 0) (c : Bool) (op : BinaryOp) (target : Target) → Unneeded (if c then Loaded (Operand op target) else Otherwise) B
+loaded_if B true op target = tt
+loaded_if B false op target = tt
 
-loaded_unneeded : (A B : Type 0) (pure : Bool) (op : BinaryOp) (size : ℕ) (place : Place) (target : Target) → (IsKnown place → A) → Unneeded (loaded_by pure op size place target) A B
-loaded_unneeded A B pure op size (places.Far at) target known = tt
-loaded_unneeded A B pure op size (places.Bank b) target known = loaded_if A B (pure && (size == 1)) op target (known tt)
-loaded_unneeded A B pure op size (places.Near at) target known = loaded_if A B (pure && (size == 1)) op target (known tt)
-loaded_unneeded A B pure op size (places.Data s at) target known = loaded_if A B (pure && (size == 1)) op target (known tt)
+loaded_unneeded : (B : Type 0) (pure : Bool) (op : BinaryOp) (size : ℕ) (place : Place) (target : Target) → Unneeded (loaded_by pure op size place target) B
+loaded_unneeded B pure op size (places.Far at) target = tt
+loaded_unneeded B pure op size (places.Bank b) target = loaded_if B (pure && (size == 1)) op target
+loaded_unneeded B pure op size (places.Near at) target = loaded_if B (pure && (size == 1)) op target
+loaded_unneeded B pure op size (places.Data s at) target = loaded_if B (pure && (size == 1)) op target
 
-fixed_unneeded : (A B : Type 0) (op : BinaryOp) (size : ℕ) (target : Target) (z : Option ℤ) (other : Changing) → ((y : ℤ) → z ≡ Some y → B) → Unneeded other A B → Unneeded (fixed_or op size target z other) A B
-fixed_unneeded A B op size target None other b p = p
-fixed_unneeded A B op size target (Some z) other b p = (tt, b z refl)
+fixed_unneeded : (B : Type 0) (op : BinaryOp) (size : ℕ) (target : Target) (z : Option ℤ) (other : Changing) → ((y : ℤ) → z ≡ Some y → B) → Unneeded other B → Unneeded (fixed_or op size target z other) B
+fixed_unneeded B op size target None other b p = p
+fixed_unneeded B op size target (Some z) other b p = (tt, b z refl)
 
-at_unneeded : (A B : Type 0) (op : BinaryOp) (size : ℕ) (place : Place) (e : Typed) (t : Option Target) → (IsKnown place → A) → ((z : ℤ) → constant_in e ≡ Some z → B) → Unneeded (changing_at op size place e t) A B
-at_unneeded A B op size place e None known b = tt
-at_unneeded A B op size place e (Some target) known b = fixed_unneeded A B op size target (constant_in e) (loaded_by (is_pure e) op size place target) b (loaded_unneeded A B (is_pure e) op size place target known)
+at_unneeded : (B : Type 0) (op : BinaryOp) (size : ℕ) (place : Place) (e : Typed) (t : Option Target) → ((z : ℤ) → constant_in e ≡ Some z → B) → Unneeded (changing_at op size place e t) B
+at_unneeded B op size place e None b = tt
+at_unneeded B op size place e (Some target) b = fixed_unneeded B op size target (constant_in e) (loaded_by (is_pure e) op size place target) b (loaded_unneeded B (is_pure e) op size place target)
 
-unneeded_if : (A B : Type 0) (c : Bool) (how : Changing) → Unneeded how A B → Unneeded (if c then how else Otherwise) A B
-unneeded_if A B true how p = p
-unneeded_if A B false how p = tt
+unneeded_if : (B : Type 0) (c : Bool) (how : Changing) → Unneeded how B → Unneeded (if c then how else Otherwise) B
+unneeded_if B true how p = p
+unneeded_if B false how p = tt
 
-pub changing_unneeded : (A B : Type 0) (op : BinaryOp) (size : ℕ) (place : Place) (access : Access) (e : Typed) → (IsKnown place → A) → ((z : ℤ) → constant_in e ≡ Some z → B) → Unneeded (changing_of op size place access e) A B
-changing_unneeded A B op size place access e known b = unneeded_if A B (takes_bytes op) (changing_at op size place e (target_of place access)) (at_unneeded A B op size place e (target_of place access) known b)
+pub changing_unneeded : (B : Type 0) (op : BinaryOp) (size : ℕ) (place : Place) (access : Access) (e : Typed) → ((z : ℤ) → constant_in e ≡ Some z → B) → Unneeded (changing_of op size place access e) B
+changing_unneeded B op size place access e b = unneeded_if B (takes_bytes op) (changing_at op size place e (target_of place access)) (at_unneeded B op size place e (target_of place access) b)
 
 -- ---- `=`
 
-abbrev pub Unfilled : Option Fill → Type 0 → Type 0 → Type 0
-Unfilled (Some fill) A B = A × B
-Unfilled None A B = Unit {0}
+abbrev pub Unfilled : Option Fill → Type 0 → Type 0
+Unfilled (Some fill) B = B
+Unfilled None B = Unit {0}
 
-any_fill : (A B : Type 0) (fill : Option Fill) → A → B → Unfilled fill A B
-any_fill A B None a b = tt
-any_fill A B (Some fill) a b = (a, b)
+any_fill : (B : Type 0) (fill : Option Fill) → B → Unfilled fill B
+any_fill B None b = tt
+any_fill B (Some fill) b = b
 
-filled_at : (A B : Type 0) (place : Place) (access : Access) (n : Option ℕ) → A → ((m : ℕ) → n ≡ Some m → B) → Unfilled (filling_at place access n) A B
-filled_at A B place access None a b = tt
-filled_at A B place access (Some n) a b = any_fill A B (option_and_then (fill_by n) (target_of place access)) a (b n refl)
+filled_at : (B : Type 0) (place : Place) (access : Access) (n : Option ℕ) → ((m : ℕ) → n ≡ Some m → B) → Unfilled (filling_at place access n) B
+filled_at B place access None b = tt
+filled_at B place access (Some n) b = any_fill B (option_and_then (fill_by n) (target_of place access)) (b n refl)
 
 pub number_idle : (f : Framed) (e : Typed) (n : ℕ) → number_in e ≡ Some n → Idle f e
 number_idle f (node t (constant z)) n h = record { uses = refl; calls = refl }
 number_idle f (node t null) n h = record { uses = refl; calls = refl }
 number_idle f (node t _) n h = absurd cc
 
-pub filling_unneeded : (A B : Type 0) (place : Place) (access : Access) (e : Typed) → (IsKnown place → A) → ((n : ℕ) → number_in e ≡ Some n → B) → Unfilled (filling_of place access e) A B
-filling_unneeded A B (places.Far at) access e known b = tt
-filling_unneeded A B (places.Bank x) access e known b = filled_at A B (places.Bank x) access (number_in e) (known tt) b
-filling_unneeded A B (places.Near at) access e known b = filled_at A B (places.Near at) access (number_in e) (known tt) b
-filling_unneeded A B (places.Data s at) access e known b = filled_at A B (places.Data s at) access (number_in e) (known tt) b
+pub filling_unneeded : (B : Type 0) (place : Place) (access : Access) (e : Typed) → ((n : ℕ) → number_in e ≡ Some n → B) → Unfilled (filling_of place access e) B
+filling_unneeded B (places.Far at) access e b = tt
+filling_unneeded B (places.Bank x) access e b = filled_at B (places.Bank x) access (number_in e) b
+filling_unneeded B (places.Near at) access e b = filled_at B (places.Near at) access (number_in e) b
+filling_unneeded B (places.Data s at) access e b = filled_at B (places.Data s at) access (number_in e) b
 
 -- ---- what is so of the bytes at a place is so of those that are changed
 

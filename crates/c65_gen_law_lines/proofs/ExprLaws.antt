@@ -34,34 +34,34 @@ use Rattle.c65_genexpr.specs.declared.storing.Storing.TheVariants as storing
 use Rattle.c65_genexpr.specs.declared.wanted.Wanted.{Wanted}
 use Rattle.c65_genexpr.specs.declared.wanted.Wanted.TheVariants.{Value, Test}
 use Rattle.c65_genexpr.specs.Types.{kind_of, outcome_of, kind_in, bare, offset_at, bits_at, field_or, access_of, target_bytes}
-use Rattle.c65_genexpr.specs.Places.{more, has_base, added_bytes, sum_has_base, place_of, offset_of, object_code, IsKnown}
+use Rattle.c65_genexpr.specs.Places.{more, has_base, added_bytes, sum_has_base, object_place, place_of, target_of, object_code, target_code}
 use Rattle.c65_genexpr.specs.Operands.{residue_of, constant_in, operands_of, computes, unary_code, same_truth}
 use Rattle.c65_genexpr.specs.Direct.{kept_at}
 use Rattle.c65_genexpr.specs.Wanted.{sense_of, wanted_by, handed, handed_sense, wanted, aimed, sense, truth_labels, inner, truth_by, is_straight, way, way_labels}
 use Rattle.c65_genexpr.specs.Comparing.{relation_by, tested_by, comparing_of, below_side}
 use Rattle.c65_genexpr.specs.Operating.{operating_of, below_operand}
-use Rattle.c65_genexpr.specs.Storing.{target_code, storing_of, below_value, assigned_by}
+use Rattle.c65_genexpr.specs.Storing.{storing_of, below_value, assigned_by}
 use Rattle.c65_genexpr.specs.Steps.{amount_of}
 use Rattle.c65_genexpr.specs.Arguments.{is_fast, is_counted, stays, passed_size, passed_of, argument_bytes}
 use Rattle.c65_genexpr.specs.Calls.{named}
 use Rattle.c65_genexpr.specs.Uses.{unless_named, by_relation, uses, node_uses, args_uses, comparison_uses}
-use Rattle.c65_genexpr.specs.Code.{width_in, load_by, behind_open, compound, call_by, base_by, expr_code, node_code, base_code, pointer_base_code, args_code, operator_code, comparison_code}
+use Rattle.c65_genexpr.specs.Code.{width_in, load_by, behind_open, compound, call_by, expr_code, node_code, base_code, pointer_base_code, args_code, operator_code, comparison_code}
 use Rattle.c65_gen_law_lines.specs.Bulk.{nodes, nodes_in}
 use Rattle.c65_gen_law_lines.specs.Labels.{aims}
 use Rattle.c65_gen_law_lines.specs.Laws.{ExpressionsOwnTheirLabels, ExpressionsAreSmall, ExpressionsAreFit}
 use Rattle.c65_gen_law_lines.proofs.Made.{among_split, among_one, piece_append, stretch_then, stretch_label, stretch_made, made_stretch, leads_within, Made, made_piece, made_append, made_behind, made_before, made_wider, made_as, made_none}
 use Rattle.c65_gen_law_lines.proofs.Pieces.{narrow_piece, read_store_piece, byte_through_piece, word_through_piece, by_access, passing_by, passing, part_piece, spill_piece, further_piece, symbol_piece, object_piece, offset_piece, load_piece, unary_piece, push_piece, hold_piece, store_piece, copy_piece, step_piece, open_piece, close_piece, named_piece, pointer_piece, argument_piece, direct_piece}
-use Rattle.c65_gen_law_lines.proofs.Drops.{kept_known, known_uses, comparing_uses, Unstored, storing_uses, sum_uses, operating_uses}
+use Rattle.c65_gen_law_lines.proofs.Drops.{comparing_uses, Unstored, storing_uses, sum_uses, operating_uses}
 use Rattle.c65_gen_law_lines.proofs.Wants.{made_from, made_closed, wanted_made, constant_made, tested_made, converted_made, truth_made, joined_made, comparison_made, operator_made, choice_made}
 
 -- ---- places that are known
 
--- the address of a place, where it takes lines
-pub target_made : {outside : List ℕ} {lo n k : ℕ} {code : List Line} (p : Place) → (IsKnown p → n ≡ 0) → Made outside lo n k code → Made outside lo n k (target_code p code)
-target_made (places.Far at) h made = made
-target_made (places.Bank b) h made = made_as (sym (h tt)) made_none
-target_made (places.Near at) h made = made_as (sym (h tt)) made_none
-target_made (places.Data s at) h made = made_as (sym (h tt)) made_none
+-- the address of an object, where it takes lines
+target_made : {outside : List ℕ} {lo k : ℕ} {code : List Line} (p : Place) → Made outside lo 0 k code → Made outside lo 0 k (target_code p code)
+target_made (places.Far at) made = made
+target_made (places.Bank b) made = made_none
+target_made (places.Near at) made = made_none
+target_made (places.Data s at) made = made_none
 
 -- ---- sizes
 
@@ -144,13 +144,13 @@ access_fits whole part types (node t _) le most = omega arith
 
 -- ---- nodes over lines that are given
 
-assigned_made : {lo n m j k w : ℕ} {a b : List Line} (how : Storing) (place : Place) (access : Access) → Unstored how (n ≡ 0) (m ≡ 0) → (IsKnown place → n ≡ 0) → by_access 19 86 access ≤ w → Made [] lo n j a → Made [] (lo + n) m k b
+assigned_made : {lo n m j k w : ℕ} {a b : List Line} (how : Storing) (place : Place) (access : Access) → Unstored how (n ≡ 0) (m ≡ 0) → by_access 19 86 access ≤ w → Made [] lo n j a → Made [] (lo + n) m k b
     → Made [] lo (n + m) (j + k + (25 + w)) (assigned_by how place access a b)
-assigned_made (storing.Left at stored) place access unread known le ma mb = made_as (omega (arith, unread)) (made_wider (made_behind ma (piece_append 22 3 _ _ (read_store_piece at stored) (narrow_piece (loads.type_in access)))) (omega arith))
-assigned_made (storing.RightByte at low high) place access unread known le ma mb =
+assigned_made (storing.Left at stored) place access unread le ma mb = made_as (omega (arith, unread)) (made_wider (made_behind ma (piece_append 22 3 _ _ (read_store_piece at stored) (narrow_piece (loads.type_in access)))) (omega arith))
+assigned_made (storing.RightByte at low high) place access unread le ma mb =
     made_as (omega (arith, unread)) (made_from (omega (arith, unread)) (made_wider (made_behind mb (piece_append 22 3 _ _ (byte_through_piece at low high) (narrow_piece (loads.type_in access)))) (omega arith)))
-assigned_made (storing.RightWord at low high) place access unread known le ma mb = made_as (omega (arith, unread)) (made_from (omega (arith, unread)) (made_wider (made_behind mb (word_through_piece at low high)) (omega arith)))
-assigned_made storing.Stacked place access unread known le ma mb = made_wider (made_append (target_made place known ma) (made_before (hold_piece place) (made_behind mb (store_piece place access)))) (omega (arith, le))
+assigned_made (storing.RightWord at low high) place access unread le ma mb = made_as (omega (arith, unread)) (made_from (omega (arith, unread)) (made_wider (made_behind mb (word_through_piece at low high)) (omega arith)))
+assigned_made storing.Stacked place access unread le ma mb = made_wider (made_append ma (made_before (hold_piece place) (made_behind mb (store_piece place access)))) (omega (arith, le))
 
 -- a part, or a whole
 either_made : {lo n k : ℕ} {a b : List Line} (c : Bool) → Made [] lo n k a → Made [] lo n k b → Made [] lo n k (if c then a else b)
@@ -164,12 +164,6 @@ labelled_made {lo = lo} {n = n} m = made_wider (made_stretch
     (λ l. omega (arith, among_split lo 1 n l, among_one lo l)))
     (omega arith)
 
-based_made : {lo n k : ℕ} {a b : List Line} (place : Place) → Made [] lo n k a → Made [] lo n k b → Made [] lo n k (base_by place a b)
-based_made (places.Far at) ma mb = ma
-based_made (places.Bank b) ma mb = mb
-based_made (places.Near at) ma mb = mb
-based_made (places.Data s at) ma mb = mb
-
 sum_made : {lo n m k : ℕ} {a b : List Line} (c : Bool) → (c ≡ true → n ≡ 1 + m) → Made [] (lo + 1) m k a → Made [] lo n k b → Made [] lo n k (if c then Label lo ∷ a else b)
 sum_made true same ma mb = made_as (sym (same refl)) (labelled_made ma)
 sum_made false same ma mb = mb
@@ -182,7 +176,7 @@ compound_made : {lo m j k : ℕ} {left right : List Line} (f : Framed) (pushed :
 compound_made f pushed op operands a b ma mb =
     let place : Place = place_of f pushed a in
     let access : Access = access_of (types_of f.parts.types) a in
-    made_wider (made_append (target_made place (known_uses f pushed a) ma) (made_before (open_piece place access (computes operands)) (made_behind mb (close_piece op operands (kind_in b) place access))))
+    made_wider (made_append ma (made_before (open_piece place access (computes operands)) (made_behind mb (close_piece op operands (kind_in b) place access))))
     (omega (arith, open_and_close access, access_fits 78 162 (types_of f.parts.types) a (omega arith) (omega arith)))
 
 call_made : {lo u j k : ℕ} {callee args above : List Line} (f : Framed) (n : Option ℕ) (given : Outcome) (g : Typed) (es : Nodes) → Made [] lo u j callee → Made [] lo (args_uses es) k args → Made [] (lo + u) (args_uses es) k above → Made [] lo (unless_named n u + args_uses es) (j + k + 65) (call_by f n given g es callee args above)
@@ -193,9 +187,9 @@ call_made f None given g (some e more_args) mc ma mb =
     made_wider (made_append mc (made_before (push_piece Ax) (made_behind mb (pointer_piece (is_counted (bare g)) (passed_of f (is_fast (bare g)) es) given)))) (omega arith)
 
 -- a load, or a test of what is kept
-load_made : {lo n k w : ℕ} {a : List Line} (wants : Wanted) (place : Place) (access : Access) → (IsKnown place → n ≡ 0) → by_access 19 36 access ≤ w → Made [] lo n k a → Made (aims wants) lo n (k + w + 23) (load_by wants place access a)
-load_made Value place access known le m = made_wider (made_behind m (load_piece place access)) (omega (arith, le))
-load_made (Test to s) place access known le m = made_wider (tested_made (kept_at place access) (loads.type_in access) s to (λ d h. known (kept_known place access d h)) (made_behind m (load_piece place access))) (omega (arith, le))
+load_made : {lo n k w : ℕ} {a : List Line} (wants : Wanted) (place : Place) (access : Access) → by_access 19 36 access ≤ w → Made [] lo n k a → Made (aims wants) lo n (k + w + 23) (load_by wants place access a)
+load_made Value place access le m = made_wider (made_behind m (load_piece place access)) (omega (arith, le))
+load_made (Test to s) place access le m = made_wider (tested_made (kept_at place access) (loads.type_in access) s to (omega arith) m (made_behind m (load_piece place access))) (omega (arith, le))
 
 -- ---- the whole tree
 
@@ -250,7 +244,7 @@ mutual
   node_made f pushed lo w t (load e) =
       let place : Place = place_of f pushed e in
       let access : Access = access_of (types_of f.parts.types) e in
-      made_wider (load_made w place access (known_uses f pushed e) (access_fits 19 36 (types_of f.parts.types) e (omega arith) (omega arith)) (target_made place (known_uses f pushed e) (base_made f pushed lo e))) (omega (arith, some_nodes e, slack_fits e))
+      made_wider (load_made w place access (access_fits 19 36 (types_of f.parts.types) e (omega arith) (omega arith)) (base_made f pushed lo e)) (omega (arith, some_nodes e, slack_fits e))
   node_made f pushed lo w t (address e) = made_wider (wanted_made w (width_in t) (expr_made f pushed lo Value e)) (omega (arith, some_nodes e))
   node_made f pushed lo w t (decay e) = made_wider (wanted_made w (width_in t) (expr_made f pushed lo Value e)) (omega (arith, some_nodes e))
   node_made f pushed lo w t (convert e) =
@@ -281,7 +275,7 @@ mutual
       let place : Place = place_of f pushed a in
       let access : Access = access_of (types_of f.parts.types) a in
       let how : Storing = storing_of f pushed a b in
-      made_wider (wanted_made w (width_in t) (assigned_made how place access (storing_uses f pushed a b) (known_uses f pushed a) (access_fits 19 86 (types_of f.parts.types) a (omega arith) (omega arith)) (base_made f pushed lo a) (expr_made f (below_value how pushed place) (lo + uses None a) Value b))) (omega (arith, some_nodes a, some_nodes b, slack_fits a))
+      made_wider (wanted_made w (width_in t) (assigned_made how place access (storing_uses f pushed a b) (access_fits 19 86 (types_of f.parts.types) a (omega arith) (omega arith)) (base_made f pushed lo a) (expr_made f (below_value how pushed place) (lo + uses None a) Value b))) (omega (arith, some_nodes a, some_nodes b, slack_fits a))
   node_made f pushed lo w t (assign_op op k a b) =
       made_wider (wanted_made w (width_in t) (compound_made f pushed op (Numbers k) a b (base_made f pushed lo a) (expr_made f (behind_open f pushed (Numbers k) a) (lo + uses None a) Value b))) (omega (arith, some_nodes a, some_nodes b, slack_fits a))
   node_made f pushed lo w t (assign_step op a b) =
@@ -290,19 +284,21 @@ mutual
   node_made f pushed lo w t (step how e) =
       let place : Place = place_of f pushed e in
       let access : Access = access_of (types_of f.parts.types) e in
-      made_wider (wanted_made w (width_in t) (made_behind (target_made place (known_uses f pushed e) (base_made f pushed lo e)) (step_piece how place access (amount_of f how (bare e))))) (omega (arith, some_nodes e, access_fits 92 196 (types_of f.parts.types) e (omega arith) (omega arith), slack_fits e))
+      made_wider (wanted_made w (width_in t) (made_behind (base_made f pushed lo e) (step_piece how place access (amount_of f how (bare e))))) (omega (arith, some_nodes e, access_fits 92 196 (types_of f.parts.types) e (omega arith) (omega arith), slack_fits e))
   node_made f pushed lo w t (copy a b) =
       made_wider (wanted_made w (width_in t) (made_append (expr_made f pushed lo Value a) (made_before (push_piece Ax) (made_behind (expr_made f (more pushed 2) (lo + uses None a) Value b) (copy_piece (type_bytes f (type_in t))))))) (omega (arith, some_nodes a, some_nodes b))
   node_made f pushed lo w t (call g es) =
       made_wider (wanted_made w (width_in t) (call_made f (named g) (outcome_of f (type_in t)) g es (expr_made f pushed lo Value g) (args_made f pushed lo (is_fast (bare g)) es) (args_made f (more pushed 2) (lo + uses None g) (is_fast (bare g)) es))) (omega (arith, some_nodes g))
   node_made f pushed lo w t (pack e) =
       let place : Place = place_of f pushed e in
-      made_wider (wanted_made w (width_in t) (made_behind (target_made place (known_uses f pushed e) (base_made f pushed lo e)) (part_piece place (extent_by (type_bytes f (type_in t)))))) (omega (arith, some_nodes e))
+      made_wider (wanted_made w (width_in t) (made_behind (base_made f pushed lo e) (part_piece place (extent_by (type_bytes f (type_in t)))))) (omega (arith, some_nodes e))
   node_made f pushed lo w t (spill i e) =
       made_wider (wanted_made w (width_in t) (made_behind (expr_made f pushed lo Value e) (spill_piece (object_code f pushed i) (extent_by (type_bytes f (type_in t))) (object_piece f pushed i)))) (omega (arith, some_nodes e))
   node_made f pushed lo w t further = leaf (node t further) (omega arith) refl (wanted_made w (width_in t) (made_piece (further_piece f pushed)))
 
   pub base_made : (f : Framed) (pushed lo : ℕ) (e : Typed) → Made [] lo (uses None e) (room e) (base_code f pushed lo e)
+  base_made f pushed lo (node t (literal n)) = made_none
+  base_made f pushed lo (node t (object i)) = made_wider (target_made (object_place f pushed i) (made_piece (object_piece f pushed i))) (omega arith)
   base_made f pushed lo (node t (deref e)) = made_wider (pointer_base_made f pushed lo e) (omega (arith, some_nodes e))
   base_made f pushed lo (node t (member e m)) =
       let n : ℕ = offset_at (types_of f.parts.types) (bare e) m in
@@ -312,9 +308,10 @@ mutual
   pointer_base_made : (f : Framed) (pushed lo : ℕ) (e : Typed) → Made [] lo (uses None e) (room e) (pointer_base_code f pushed lo e)
   pointer_base_made f pushed lo (node t (binary op a b)) =
       let operands : Operands = operands_of f (bare a) (bare b) in
-      let at : ℕ = offset_of f pushed a in
-      sum_made (sum_has_base at (added_bytes op operands (constant_in b))) (λ h. sum_uses f at op operands t a b h) (made_wider (pointer_base_made f pushed (lo + 1) a) (omega (arith, some_nodes a, some_nodes b))) (node_made f pushed lo Value t (binary op a b))
-  pointer_base_made f pushed lo (node t (decay e)) = based_made (place_of f pushed e) (made_wider (base_made f pushed lo e) (omega (arith, some_nodes e))) (made_wider (expr_made f pushed lo Value e) (omega (arith, some_nodes e)))
+      let place : Place = target_of f pushed a in
+      sum_made (sum_has_base place (added_bytes op operands (constant_in b))) (λ h. sum_uses f place op operands t a b h) (made_wider (pointer_base_made f pushed (lo + 1) a) (omega (arith, some_nodes a, some_nodes b))) (node_made f pushed lo Value t (binary op a b))
+  pointer_base_made f pushed lo (node t (address e)) = made_wider (base_made f pushed lo e) (omega (arith, some_nodes e))
+  pointer_base_made f pushed lo (node t (decay e)) = made_wider (base_made f pushed lo e) (omega (arith, some_nodes e))
   pointer_base_made f pushed lo (node t n) = node_made f pushed lo Value t n
 
   args_made : (f : Framed) (pushed lo : ℕ) (fast : Bool) (es : Nodes) → Made [] lo (args_uses es) (128 * nodes_in es) (args_code f pushed lo fast es)

@@ -51,24 +51,24 @@ use Rattle.c65_genexpr.specs.declared.arguments.Passed.{Passed}
 use Rattle.c65_genexpr.specs.declared.types.Outcome.{Outcome}
 use Rattle.c65_genexpr.specs.declared.types.Outcome.TheVariants.{Nothing, Number, Area}
 use Rattle.c65_genexpr.specs.Types.{kind_of, outcome_of, given_bytes, kind_in, bare, offset_at, access_of, target_bytes}
-use Rattle.c65_genexpr.specs.Places.{more, has_base, added_bytes, sum_has_base, place_of, offset_of, object_code, IsKnown}
+use Rattle.c65_genexpr.specs.Places.{more, has_base, added_bytes, sum_has_base, object_place, place_of, target_of, object_code, target_code}
 use Rattle.c65_genexpr.specs.Operands.{residue_of, constant_in, operands_of, computes, unary_code, same_truth, conversion_by}
 use Rattle.c65_genexpr.specs.Direct.{kept_at, own_bytes}
 use Rattle.c65_genexpr.specs.Wanted.{decided_code, wanted_by, handed, branch_code, wanted, aimed, sense, inner, truth_by, is_straight, way, way_labels, joined as both_joined}
 use Rattle.c65_genexpr.specs.Held.{held_low, held_high}
 use Rattle.c65_genexpr.specs.Comparing.{relation_by, tested_by, comparing_of, low_code, below_side, comparison_by}
 use Rattle.c65_genexpr.specs.Operating.{operating_of, below_operand, operator_by}
-use Rattle.c65_genexpr.specs.Storing.{target_code, storing_of, below_value, assigned_by}
+use Rattle.c65_genexpr.specs.Storing.{storing_of, below_value, assigned_by}
 use Rattle.c65_genexpr.specs.Steps.{amount_of}
 use Rattle.c65_genexpr.specs.Arguments.{is_fast, is_counted, stays, passed_size, passed_of, reads_of}
 use Rattle.c65_genexpr.specs.Arguments as arguments
 use Rattle.c65_genexpr.specs.Calls.{named, count_code, fetch_code, result_code, library_at, named_by, pointer_code, direct_code, ptr4_code}
 use Rattle.c65_genexpr.specs.Uses.{by_relation, uses}
-use Rattle.c65_genexpr.specs.Code.{width_in, constant_code, tested_load, load_by, behind_open, compound, call_by, base_by, expr_code, node_code, base_code, pointer_base_code, args_code, operator_code, comparison_code}
+use Rattle.c65_genexpr.specs.Code.{width_in, constant_code, tested_load, load_by, behind_open, compound, call_by, expr_code, node_code, base_code, pointer_base_code, args_code, operator_code, comparison_code}
 use Rattle.c65_gen_law_lines.specs.Stack.{bytes_in, Waiting, waiting_by, taken, left, waits, argument_bytes, passed, unless_named, calls_of, node_calls, args_calls}
 use Rattle.c65_gen_law_lines.specs.Laws.{ExpressionsKeepTheStack, CallsAreCounted}
 use Rattle.c65_gen_law_lines.proofs.Directs.{loaded_quiet, compare_quiet, compare_byte_quiet, zero_test_quiet, truth_quiet}
-use Rattle.c65_gen_law_lines.proofs.Drops.{kept_known, known_calls, IfRead, Unread, comparing_calls, Unstored, storing_calls, sum_calls, Unused, operating_calls}
+use Rattle.c65_gen_law_lines.proofs.Drops.{IfRead, Unread, comparing_calls, Unstored, storing_calls, sum_calls, Unused, operating_calls}
 use Rattle.c65_gen_law_lines.proofs.Forms.{form_quiet, waiting_leaves, stacked_leaves, keep_quiet}
 use Rattle.c65_gen_law_lines.proofs.StackPieces.{waits_append, Leaves, leaves_then, leaves_none, leaves_if, Still, narrow_still, number_still, object_still, further_still, offset_still, conversion_still, push_leaves, argument_leaves, test_still, holding, hold_leaves, bytes_still, load_still, stored_leaves, read_store_still, byte_through_still, word_through_still, copy_leaves, spill_still, unary_still, between_leaves, behind_leaves, step_still, open_leaves, close_leaves}
 
@@ -110,11 +110,11 @@ nothing_more (x ∷ xs) = ap (λ l. x ∷ l) (nothing_more xs)
 
 -- ---- places that are known
 
-pub target_does : {cs : List (List ℕ)} {v : List ℕ} {code : List Line} (p : Place) → (IsKnown p → cs ≡ []) → Does cs v code v → Does cs v (target_code p code) v
-target_does (places.Far at) h d = d
-target_does (places.Bank b) h d = does_as (sym (h tt)) does_none
-target_does (places.Near at) h d = does_as (sym (h tt)) does_none
-target_does (places.Data s at) h d = does_as (sym (h tt)) does_none
+target_does : {v : List ℕ} {code : List Line} (p : Place) → Does [] v code v → Does [] v (target_code p code) v
+target_does (places.Far at) d = d
+target_does (places.Bank b) d = does_none
+target_does (places.Near at) d = does_none
+target_does (places.Data s at) d = does_none
 
 -- ---- values and tests
 
@@ -135,13 +135,13 @@ constant_leaves : (w : Wanted) (width : Width) (n : ℕ) (v : List ℕ) → Leav
 constant_leaves Value width n v = number_still width n v
 constant_leaves (Test to s) width n v = decided_leaves (not (n == 0)) s to v
 
-tested_does : {cs : List (List ℕ)} {v : List ℕ} {a : List Line} (d : Option Direct) (kind : IntType) (s : Bool) (to : ℕ) → ((c : Direct) → d ≡ Some c → cs ≡ []) → Does cs v a v → Does cs v (tested_load d kind s to a) v
-tested_does {v = v} (Some d) kind s to idle da = does_as (sym (idle d refl)) (does_leaves ((zero_test_quiet {ok = λ l. true} (own_bytes d (extent_of kind)) s to refl).still v))
-tested_does None kind s to idle da = wanted_does (Test to s) (width_of kind) da
+tested_does : {cs : List (List ℕ)} {v : List ℕ} {base a : List Line} (d : Option Direct) (kind : IntType) (s : Bool) (to : ℕ) → Does cs v base v → Does cs v a v → Does cs v (tested_load d kind s to base a) v
+tested_does {v = v} (Some d) kind s to db da = does_behind db ((zero_test_quiet {ok = λ l. true} (own_bytes d (extent_of kind)) s to refl).still v)
+tested_does None kind s to db da = wanted_does (Test to s) (width_of kind) da
 
-load_does : {cs : List (List ℕ)} {v : List ℕ} {a : List Line} (w : Wanted) (place : Place) (access : Access) → (IsKnown place → cs ≡ []) → Does cs v a v → Does cs v (load_by w place access a) v
-load_does {v = v} Value place access known d = does_behind d (load_still place access v)
-load_does {v = v} (Test to s) place access known d = tested_does (kept_at place access) (loads.type_in access) s to (λ c h. known (kept_known place access c h)) (does_behind d (load_still place access v))
+load_does : {cs : List (List ℕ)} {v : List ℕ} {a : List Line} (w : Wanted) (place : Place) (access : Access) → Does cs v a v → Does cs v (load_by w place access a) v
+load_does {v = v} Value place access d = does_behind d (load_still place access v)
+load_does {v = v} (Test to s) place access d = tested_does (kept_at place access) (loads.type_in access) s to d (does_behind d (load_still place access v))
 
 converted_does : {cs : List (List ℕ)} {v : List ℕ} {a : List Line} (w : Wanted) (same : Bool) (to : Ty) (from : IntType) → Does cs v a v → Does cs v (conversion_by w same to from a) v
 converted_does {v = v} Value same to from d = does_behind d (conversion_still to from v)
@@ -195,21 +195,15 @@ operator_does operating.Stacked op operands right own small da db v =
 
 -- ---- assignments
 
-assigned_does : {cs ds : List (List ℕ)} {a b : List Line} (how : Storing) (place : Place) (access : Access) → Unstored how (cs ≡ []) (ds ≡ []) → (IsKnown place → cs ≡ []) → Doing cs a → Doing ds b → Doing (cs ++ ds) (assigned_by how place access a b)
-assigned_does (storing.Left at stored) place access unread known da db v = left_alone unread (does_behind (da v) (leaves_then (read_store_still at stored v) (narrow_still (loads.type_in access) v)))
-assigned_does (storing.RightByte at low high) place access unread known da db v = right_alone unread (does_behind (db v) (leaves_then (byte_through_still at low high v) (narrow_still (loads.type_in access) v)))
-assigned_does (storing.RightWord at low high) place access unread known da db v = right_alone unread (does_behind (db v) (word_through_still at low high v))
-assigned_does storing.Stacked place access unread known da db v = does_then (target_does place known (da v)) (does_before (hold_leaves place v) (does_behind (db (holding place v)) (stored_leaves place access v)))
+assigned_does : {cs ds : List (List ℕ)} {a b : List Line} (how : Storing) (place : Place) (access : Access) → Unstored how (cs ≡ []) (ds ≡ []) → Doing cs a → Doing ds b → Doing (cs ++ ds) (assigned_by how place access a b)
+assigned_does (storing.Left at stored) place access unread da db v = left_alone unread (does_behind (da v) (leaves_then (read_store_still at stored v) (narrow_still (loads.type_in access) v)))
+assigned_does (storing.RightByte at low high) place access unread da db v = right_alone unread (does_behind (db v) (leaves_then (byte_through_still at low high v) (narrow_still (loads.type_in access) v)))
+assigned_does (storing.RightWord at low high) place access unread da db v = right_alone unread (does_behind (db v) (word_through_still at low high v))
+assigned_does storing.Stacked place access unread da db v = does_then (da v) (does_before (hold_leaves place v) (does_behind (db (holding place v)) (stored_leaves place access v)))
 
 either_does : {cs : List (List ℕ)} {v : List ℕ} {a b : List Line} (c : Bool) → Does cs v a v → Does cs v b v → Does cs v (if c then a else b) v
 either_does true da db = da
 either_does false da db = db
-
-based_does : {cs : List (List ℕ)} {v : List ℕ} {a b : List Line} (place : Place) → Does cs v a v → Does cs v b v → Does cs v (base_by place a b) v
-based_does (places.Far at) da db = da
-based_does (places.Bank b) da db = db
-based_does (places.Near at) da db = db
-based_does (places.Data s at) da db = db
 
 sum_does : {cs ds : List (List ℕ)} {v : List ℕ} {a b : List Line} (c : Bool) (lo : ℕ) → (c ≡ true → ds ≡ []) → Does cs v a v → Does (cs ++ ds) v b v → Does (cs ++ ds) v (if c then Label lo ∷ a else b) v
 sum_does true lo quiet da db = left_alone (quiet refl) (does_line (Label lo) (λ w. refl) da)
@@ -281,7 +275,7 @@ compound_does : {ds : List (List ℕ)} {left right : List Line} (f : Framed) (pu
 compound_does f pushed op operands a b v da db =
     let place : Place = place_of f pushed a in
     let access : Access = access_of (types_of f.parts.types) a in
-    does_then (target_does place (known_calls f pushed a) da) (does_before (open_leaves place access (computes operands) v) (does_behind db (close_leaves op operands (kind_in b) place access v)))
+    does_then da (does_before (open_leaves place access (computes operands) v) (does_behind db (close_leaves op operands (kind_in b) place access v)))
 
 -- the lines of an expression wherever they stand
 abbrev Acts : Framed → Typed → Type 0
@@ -317,7 +311,7 @@ mutual
   node_does f pushed lo w t (func i) v = wanted_does w (width_in t) (record { to = λ rest. refl })
   node_does f pushed lo w t (deref e) v = wanted_does w (width_in t) (expr_does f pushed lo Value e v)
   node_does f pushed lo w t (member e m) v = wanted_does w (width_in t) (does_behind (expr_does f pushed lo Value e v) (offset_still (offset_at (types_of f.parts.types) (bare e) m) v))
-  node_does f pushed lo w t (load e) v = load_does w (place_of f pushed e) (access_of (types_of f.parts.types) e) (known_calls f pushed e) (target_does (place_of f pushed e) (known_calls f pushed e) (base_does f pushed lo e v))
+  node_does f pushed lo w t (load e) v = load_does w (place_of f pushed e) (access_of (types_of f.parts.types) e) (base_does f pushed lo e v)
   node_does f pushed lo w t (address e) v = wanted_does w (width_in t) (expr_does f pushed lo Value e v)
   node_does f pushed lo w t (decay e) v = wanted_does w (width_in t) (expr_does f pushed lo Value e v)
   node_does f pushed lo w t (convert e) v =
@@ -348,7 +342,7 @@ mutual
   node_does f pushed lo w t (assign a b) v =
       let place : Place = place_of f pushed a in
       let how : Storing = storing_of f pushed a b in
-      wanted_does w (width_in t) (assigned_does how place (access_of (types_of f.parts.types) a) (storing_calls f pushed a b) (known_calls f pushed a) (base_does f pushed lo a) (expr_does f (below_value how pushed place) (lo + uses None a) Value b) v)
+      wanted_does w (width_in t) (assigned_does how place (access_of (types_of f.parts.types) a) (storing_calls f pushed a b) (base_does f pushed lo a) (expr_does f (below_value how pushed place) (lo + uses None a) Value b) v)
   node_does f pushed lo w t (assign_op op k a b) v =
       wanted_does w (width_in t) (compound_does f pushed op (Numbers k) a b v (base_does f pushed lo a v) (expr_does f (behind_open f pushed (Numbers k) a) (lo + uses None a) Value b (waiting (width_of k) ∷ holding (place_of f pushed a) v)))
   node_does f pushed lo w t (assign_step op a b) v =
@@ -356,16 +350,18 @@ mutual
       wanted_does w (width_in t) (compound_does f pushed op operands a b v (base_does f pushed lo a v) (expr_does f (behind_open f pushed operands a) (lo + uses None a) Value b (2 ∷ holding (place_of f pushed a) v)))
   node_does f pushed lo w t (step how e) v =
       let place : Place = place_of f pushed e in
-      wanted_does w (width_in t) (does_behind (target_does place (known_calls f pushed e) (base_does f pushed lo e v)) (step_still how place (access_of (types_of f.parts.types) e) (amount_of f how (bare e)) v))
+      wanted_does w (width_in t) (does_behind (base_does f pushed lo e v) (step_still how place (access_of (types_of f.parts.types) e) (amount_of f how (bare e)) v))
   node_does f pushed lo w t (copy a b) v =
       wanted_does w (width_in t) (does_then (expr_does f pushed lo Value a v) (does_before (push_leaves Ax v) (does_behind (expr_does f (more pushed 2) (lo + uses None a) Value b (2 ∷ v)) (copy_leaves (type_bytes f (type_in t)) v))))
   node_does f pushed lo w t (call g es) v =
       wanted_does w (width_in t) (call_does f (named g) (outcome_of f (type_in t)) g es (expr_does f pushed lo Value g v) (args_does f pushed lo (is_fast (bare g)) es v) (args_does f (more pushed 2) (lo + uses None g) (is_fast (bare g)) es (2 ∷ v)))
-  node_does f pushed lo w t (pack e) v = wanted_does w (width_in t) (does_behind (target_does (place_of f pushed e) (known_calls f pushed e) (base_does f pushed lo e v)) (bytes_still (place_of f pushed e) (extent_by (type_bytes f (type_in t))) v))
+  node_does f pushed lo w t (pack e) v = wanted_does w (width_in t) (does_behind (base_does f pushed lo e v) (bytes_still (place_of f pushed e) (extent_by (type_bytes f (type_in t))) v))
   node_does f pushed lo w t (spill i e) v = wanted_does w (width_in t) (does_behind (expr_does f pushed lo Value e v) (spill_still (object_code f pushed i) (extent_by (type_bytes f (type_in t))) (object_still f pushed i) v))
   node_does f pushed lo w t further v = wanted_does w (width_in t) (does_leaves (further_still f pushed v))
 
   pub base_does : (f : Framed) (pushed lo : ℕ) (e : Typed) (v : List ℕ) → Does (calls_of f e) v (base_code f pushed lo e) v
+  base_does f pushed lo (node t (literal n)) v = does_none
+  base_does f pushed lo (node t (object i)) v = target_does (object_place f pushed i) (does_leaves (object_still f pushed i v))
   base_does f pushed lo (node t (deref e)) v = pointer_base_does f pushed lo e v
   base_does f pushed lo (node t (member e m)) v =
       let n : ℕ = offset_at (types_of f.parts.types) (bare e) m in
@@ -375,9 +371,10 @@ mutual
   pointer_base_does : (f : Framed) (pushed lo : ℕ) (e : Typed) (v : List ℕ) → Does (calls_of f e) v (pointer_base_code f pushed lo e) v
   pointer_base_does f pushed lo (node t (binary op a b)) v =
       let operands : Operands = operands_of f (bare a) (bare b) in
-      let at : ℕ = offset_of f pushed a in
-      sum_does (sum_has_base at (added_bytes op operands (constant_in b))) lo (λ h. sum_calls f at op operands b h) (pointer_base_does f pushed (lo + 1) a v) (node_does f pushed lo Value t (binary op a b) v)
-  pointer_base_does f pushed lo (node t (decay e)) v = based_does (place_of f pushed e) (base_does f pushed lo e v) (expr_does f pushed lo Value e v)
+      let place : Place = target_of f pushed a in
+      sum_does (sum_has_base place (added_bytes op operands (constant_in b))) lo (λ h. sum_calls f place op operands b h) (pointer_base_does f pushed (lo + 1) a v) (node_does f pushed lo Value t (binary op a b) v)
+  pointer_base_does f pushed lo (node t (address e)) v = base_does f pushed lo e v
+  pointer_base_does f pushed lo (node t (decay e)) v = base_does f pushed lo e v
   pointer_base_does f pushed lo (node t n) v = node_does f pushed lo Value t n v
 
   args_does : (f : Framed) (pushed lo : ℕ) (fast : Bool) (es : Nodes) (v : List ℕ) → Does (args_calls f es) v (args_code f pushed lo fast es) (passed f fast es ++ v)

@@ -89,12 +89,14 @@ few_bytes d Two = listed_few (sides_of Ax d)
 few_bytes d Three = listed_few (sides_of Eax d)
 few_bytes d Four = listed_few (sides_of Eax d)
 
--- of a value that is read where it lies the lines are not taken
-pub tested_made : {lo n k : ℕ} {a : List Line} (d : Option Direct) (kind : IntType) (s : Bool) (to : ℕ) → ((c : Direct) → d ≡ Some c → n ≡ 0) → Made [] lo n k a → Made (to ∷ []) lo n (k + 23) (tested_load d kind s to a)
-tested_made (Some d) kind s to idle m =
+-- of a value that is read where it lies only the base's lines are taken
+pub tested_made : {lo n j k : ℕ} {base a : List Line} (d : Option Direct) (kind : IntType) (s : Bool) (to : ℕ) → j ≤ k → Made [] lo n j base → Made [] lo n k a → Made (to ∷ []) lo n (k + 23) (tested_load d kind s to base a)
+tested_made {lo = lo} {n = n} (Some d) kind s to le mb m =
     let few : length (own_bytes d (extent_of kind)) ≤ 4 = few_bytes d (extent_of kind) in
-    made_as (sym (idle d refl)) (made_wider (made_stretch (zero_test_quiet (own_bytes d (extent_of kind)) s to (leads_outer _ 0 to)).part (λ l. sym (among_none _ l))) (omega (arith, few)))
-tested_made None kind s to idle m = made_wider (wanted_made (Test to s) (width_of kind) m) (omega arith)
+    made_wider (made_stretch
+    (stretch_then (stretch_made mb (leads_within (to ∷ []) lo n lo n (omega arith) (omega arith)) refl) (zero_test_quiet (own_bytes d (extent_of kind)) s to (leads_outer lo n to)).part)
+    (λ l. omega arith)) (omega (arith, few, le))
+tested_made None kind s to le mb m = made_wider (wanted_made (Test to s) (width_of kind) m) (omega arith)
 
 pub converted_made : {lo n k : ℕ} {a : List Line} (w : Wanted) (same : Bool) (to : Ty) (from : IntType) → Made (aims (handed same w)) lo n k a → Made (aims w) lo n (k + 16) (conversion_by w same to from a)
 converted_made Value same to from m = made_wider (made_behind m (conversion_piece to from)) (omega arith)

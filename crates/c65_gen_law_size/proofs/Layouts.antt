@@ -21,7 +21,7 @@ use Rattle.c65_code.specs.declared.routine.TheConstants.Routine.{ALL}
 use Rattle.c65_link.specs.Bodies.{Body, with_line, body_of, far_labels, far_size, line_size, plus}
 use Rattle.c65_link.specs.Bodies.{with_lines as body_with}
 use Rattle.c65_link.specs.Runtime.{with_calls, routine_lines, no_marks}
-use Rattle.c65_link.specs.Layouts.{Layout, empty_layout, with_lines, with_function, with_functions, with_target, with_targets, cells_end, with_data, with_zeros, with_all_data, with_all_zeros, code_layout, layout_of}
+use Rattle.c65_link.specs.Layouts.{Layout, empty_layout, with_lines, with_function, with_functions, with_target, with_targets, cells_end, with_data, with_zeros, with_all_data, with_all_zeros, layout_of}
 use Rattle.c65_link.specs.Layouts as layouts
 use Rattle.c65_link.specs.Symbols.{targets_of, missing_of, with_code_uses}
 use Rattle.c65_link.specs.Linked.{Fault, undefined, large, entry_of, parts_of, payload_of, image_of, named_or_placed, linked}

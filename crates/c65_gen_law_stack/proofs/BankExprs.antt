@@ -45,19 +45,19 @@ use Rattle.c65_genexpr.specs.declared.wanted.Wanted.{Wanted}
 use Rattle.c65_genexpr.specs.declared.wanted.Wanted.TheVariants.{Value, Test}
 use Rattle.c65_genexpr.specs.declared.types.Outcome.{Outcome}
 use Rattle.c65_genexpr.specs.Types.{kind_of, outcome_of, kind_in, bare, offset_at, access_of, target_bytes}
-use Rattle.c65_genexpr.specs.Places.{more, has_base, added_bytes, sum_has_base, offset_of, near, soft_place, place_at, moved, place_of, object_code}
+use Rattle.c65_genexpr.specs.Places.{more, has_base, added_bytes, sum_has_base, sum_place, near, soft_place, place_at, moved, object_place, place_of, target_of, object_code, target_code}
 use Rattle.c65_genexpr.specs.Wanted.{wanted_by, handed, wanted, sense, aimed, inner, truth_by, way, way_labels, joined}
 use Rattle.c65_genexpr.specs.Operands.{residue_of, constant_in, operands_of, computes, same_truth, conversion_by}
 use Rattle.c65_genexpr.specs.Direct.{kept_at, own_bytes}
 use Rattle.c65_genexpr.specs.Comparing.{relation_by, tested_by, comparing_of, on, low_code, below_side, comparison_by}
 use Rattle.c65_genexpr.specs.Held.{held_low, held_high}
 use Rattle.c65_genexpr.specs.Operating.{operating_of, waiting_code, stacked_code, below_operand, operator_by}
-use Rattle.c65_genexpr.specs.Storing.{target_code, storing_of, below_value, assigned_by}
+use Rattle.c65_genexpr.specs.Storing.{storing_of, below_value, assigned_by}
 use Rattle.c65_genexpr.specs.Steps.{amount_of}
 use Rattle.c65_genexpr.specs.Arguments.{is_fast, is_counted, stays, passed_size, passed_of, argument_bytes}
 use Rattle.c65_genexpr.specs.Calls.{named}
 use Rattle.c65_genexpr.specs.Uses.{uses, by_relation}
-use Rattle.c65_genexpr.specs.Code.{width_in, tested_load, load_by, behind_open, compound, call_by, base_by, expr_code, node_code, base_code, pointer_base_code, args_code}
+use Rattle.c65_genexpr.specs.Code.{width_in, tested_load, load_by, behind_open, compound, call_by, expr_code, node_code, base_code, pointer_base_code, args_code}
 use Rattle.c65_gen_law_stack.proofs.FrameOrder.{NotBank}
 use Rattle.c65_gen_law_stack.proofs.EvenLines.{No, One}
 use Rattle.c65_gen_law_stack.proofs.EvenShifts.{elements_even}
@@ -95,12 +95,25 @@ moved_off (places.Near at) n h = by (nat_le n 252)
 moved_off (places.Data s at) n h = tt
 moved_off (places.Far at) n h = tt
 
-pub place_off : (f : Framed) (pushed : ℕ) (e : Typed) → IsBankless f → IsOff (place_of f pushed e)
-place_off f pushed (node t (object i)) b = home_off f pushed i (home_of f i) (b i)
-place_off f pushed (node t (member e m)) b = moved_off (place_of f pushed e) (offset_at (types_of f.parts.types) (bare e) m) (place_off f pushed e b)
-place_off f pushed (node t _) b = tt
+sum_off : (p : Place) (n : Option ℕ) → IsOff p → IsOff (sum_place p n)
+sum_off p (Some n) h = moved_off p n h
+sum_off p None h = tt
 
-pub target_clear : (p : Place) {code : List Line} → Clear code → Clear (target_code p code)
+mutual
+  pub place_off : (f : Framed) (pushed : ℕ) (e : Typed) → IsBankless f → IsOff (place_of f pushed e)
+  place_off f pushed (node t (object i)) b = home_off f pushed i (home_of f i) (b i)
+  place_off f pushed (node t (member e m)) b = moved_off (place_of f pushed e) (offset_at (types_of f.parts.types) (bare e) m) (place_off f pushed e b)
+  place_off f pushed (node t (deref e)) b = named_off f pushed e b
+  place_off f pushed (node t _) b = tt
+
+  -- what an address names
+  named_off : (f : Framed) (pushed : ℕ) (e : Typed) → IsBankless f → IsOff (target_of f pushed e)
+  named_off f pushed (node t (binary op x y)) b = sum_off (target_of f pushed x) (added_bytes op (operands_of f (bare x) (bare y)) (constant_in y)) (named_off f pushed x b)
+  named_off f pushed (node t (address e)) b = place_off f pushed e b
+  named_off f pushed (node t (decay e)) b = place_off f pushed e b
+  named_off f pushed (node t _) b = tt
+
+target_clear : (p : Place) {code : List Line} → Clear code → Clear (target_code p code)
 target_clear (places.Far at) c = c
 target_clear (places.Bank b) c = clear_none
 target_clear (places.Near at) c = clear_none
@@ -117,13 +130,13 @@ truth_clear : (w : Wanted) (fresh : ℕ) {code : List Line} → Clear code → C
 truth_clear Value fresh c = clear_then c (truth_even fresh).clear
 truth_clear (Test to s) fresh c = c
 
-tested_clear : (o : Option Direct) (kind : IntType) (s : Bool) (to : ℕ) {code : List Line} → Clear code → Clear (tested_load o kind s to code)
-tested_clear (Some d) kind s to c = (zero_test_even {X = One to} (own_bytes d (extent_of kind)) s to refl).clear
-tested_clear None kind s to c = wanted_clear (Test to s) (width_of kind) c
+tested_clear : (o : Option Direct) (kind : IntType) (s : Bool) (to : ℕ) {base code : List Line} → Clear base → Clear code → Clear (tested_load o kind s to base code)
+tested_clear (Some d) kind s to cb c = clear_then cb (zero_test_even {X = One to} (own_bytes d (extent_of kind)) s to refl).clear
+tested_clear None kind s to cb c = wanted_clear (Test to s) (width_of kind) c
 
 load_by_clear : (w : Wanted) (place : Place) (access : Access) {code : List Line} → Clear code → Clear (load_by w place access code)
 load_by_clear Value place access c = clear_then c (load_clear place access)
-load_by_clear (Test to s) place access c = tested_clear (kept_at place access) (type_at access) s to (clear_then c (load_clear place access))
+load_by_clear (Test to s) place access c = tested_clear (kept_at place access) (type_at access) s to c (clear_then c (load_clear place access))
 
 conversion_by_clear : (w : Wanted) (same : Bool) (t : Ty) (from : IntType) {code : List Line} → Clear code → Clear (conversion_by w same t from code)
 conversion_by_clear Value same t from c = clear_then c (conversion_clear t from)
@@ -177,7 +190,7 @@ compound_clear : {left right : List Line} (f : Framed) (pushed : ℕ) (op : Bina
 compound_clear f pushed op operands a b bankless ca cb =
     let place : Place = place_of f pushed a in
     let access : Access = access_of (types_of f.parts.types) a in
-    clear_then (target_clear place ca) (clear_then (open_clear place access (computes operands)) (clear_then cb (close_clear op operands (kind_in b) place access (place_off f pushed a bankless))))
+    clear_then ca (clear_then (open_clear place access (computes operands)) (clear_then cb (close_clear op operands (kind_in b) place access (place_off f pushed a bankless))))
 
 call_clear : {callee args above : List Line} (f : Framed) (n : Option ℕ) (given : Outcome) (g : Typed) (es : Nodes) → Clear callee → Clear args → Clear above → Clear (call_by f n given g es callee args above)
 call_clear f (Some i) given g es cc ca cb = clear_then ca (named_clear f i (is_counted (bare g)) (passed_of f (is_fast (bare g)) es) given)
@@ -188,13 +201,7 @@ assigned_clear : {a b : List Line} (how : Storing) (place : Place) (access : Acc
 assigned_clear (storing.Left at stored) place access off ca cb = clear_then ca (clear_then (read_store_clear at stored) (narrow_clear (type_at access)))
 assigned_clear (storing.RightByte at low high) place access off ca cb = clear_then cb (clear_then (byte_through_clear at low high) (narrow_clear (type_at access)))
 assigned_clear (storing.RightWord at low high) place access off ca cb = clear_then cb (word_through_clear at low high)
-assigned_clear storing.Stacked place access off ca cb = clear_then (target_clear place ca) (clear_then (hold_clear place) (clear_then cb (store_clear place access off)))
-
-based_clear : {a b : List Line} (place : Place) → Clear a → Clear b → Clear (base_by place a b)
-based_clear (places.Far at) ca cb = ca
-based_clear (places.Bank b) ca cb = cb
-based_clear (places.Near at) ca cb = cb
-based_clear (places.Data s at) ca cb = cb
+assigned_clear storing.Stacked place access off ca cb = clear_then ca (clear_then (hold_clear place) (clear_then cb (store_clear place access off)))
 
 jump_clear : (l : ℕ) → Clear (Do Jmp Absolute (To l) ∷ [])
 jump_clear l = record { all = refl }
@@ -211,7 +218,7 @@ mutual
   node_clear f pushed lo w t (func i) k = wanted_clear w (width_in t) (symbol_clear (function_symbol (numbers_of f.parts) i) 0)
   node_clear f pushed lo w t (deref e) k = wanted_clear w (width_in t) (expr_clear f pushed lo Value e k)
   node_clear f pushed lo w t (member e m) k = wanted_clear w (width_in t) (clear_then (expr_clear f pushed lo Value e k) (offset_clear (offset_at (types_of f.parts.types) (bare e) m)))
-  node_clear f pushed lo w t (load e) k = load_by_clear w (place_of f pushed e) (access_of (types_of f.parts.types) e) (target_clear (place_of f pushed e) (base_clear f pushed lo e k))
+  node_clear f pushed lo w t (load e) k = load_by_clear w (place_of f pushed e) (access_of (types_of f.parts.types) e) (base_clear f pushed lo e k)
   node_clear f pushed lo w t (address e) k = wanted_clear w (width_in t) (expr_clear f pushed lo Value e k)
   node_clear f pushed lo w t (decay e) k = wanted_clear w (width_in t) (expr_clear f pushed lo Value e k)
   node_clear f pushed lo w t (convert e) k =
@@ -255,15 +262,17 @@ mutual
       wanted_clear w (width_in t) (compound_clear f pushed op operands a b k (base_clear f pushed lo a k) (expr_clear f (behind_open f pushed operands a) (lo + uses None a) Value b k))
   node_clear f pushed lo w t (step how e) k =
       let place : Place = place_of f pushed e in
-      wanted_clear w (width_in t) (clear_then (target_clear place (base_clear f pushed lo e k)) (step_clear how place (access_of (types_of f.parts.types) e) (amount_of f how (bare e)) (place_off f pushed e k)))
+      wanted_clear w (width_in t) (clear_then (base_clear f pushed lo e k) (step_clear how place (access_of (types_of f.parts.types) e) (amount_of f how (bare e)) (place_off f pushed e k)))
   node_clear f pushed lo w t (copy a b) k = wanted_clear w (width_in t) (clear_then (expr_clear f pushed lo Value a k) (clear_then (push_clear Ax) (clear_then (expr_clear f (more pushed 2) (lo + uses None a) Value b k) (copy_clear (type_bytes f (type_in t))))))
   node_clear f pushed lo w t (call g es) k =
       wanted_clear w (width_in t) (call_clear f (named g) (outcome_of f (type_in t)) g es (expr_clear f pushed lo Value g k) (args_clear f pushed lo (is_fast (bare g)) es k) (args_clear f (more pushed 2) (lo + uses None g) (is_fast (bare g)) es k))
-  node_clear f pushed lo w t (pack e) k = wanted_clear w (width_in t) (clear_then (target_clear (place_of f pushed e) (base_clear f pushed lo e k)) (bytes_clear (place_of f pushed e) (extent_by (type_bytes f (type_in t)))))
+  node_clear f pushed lo w t (pack e) k = wanted_clear w (width_in t) (clear_then (base_clear f pushed lo e k) (bytes_clear (place_of f pushed e) (extent_by (type_bytes f (type_in t)))))
   node_clear f pushed lo w t (spill i e) k = wanted_clear w (width_in t) (clear_then (expr_clear f pushed lo Value e k) (spill_clear (object_code f pushed i) (extent_by (type_bytes f (type_in t))) (object_clear f pushed i)))
   node_clear f pushed lo w t further k = wanted_clear w (width_in t) (further_clear f pushed)
 
   pub base_clear : (f : Framed) (pushed lo : ℕ) (e : Typed) → IsBankless f → Clear (base_code f pushed lo e)
+  base_clear f pushed lo (node t (literal n)) k = clear_none
+  base_clear f pushed lo (node t (object i)) k = target_clear (object_place f pushed i) (object_clear f pushed i)
   base_clear f pushed lo (node t (deref e)) k = pointer_base_clear f pushed lo e k
   base_clear f pushed lo (node t (member e m)) k =
       let n : ℕ = offset_at (types_of f.parts.types) (bare e) m in
@@ -272,8 +281,9 @@ mutual
 
   pointer_base_clear : (f : Framed) (pushed lo : ℕ) (e : Typed) → IsBankless f → Clear (pointer_base_code f pushed lo e)
   pointer_base_clear f pushed lo (node t (binary op a b)) k =
-      clear_if (sum_has_base (offset_of f pushed a) (added_bytes op (operands_of f (bare a) (bare b)) (constant_in b))) (clear_then (label_clear lo) (pointer_base_clear f pushed (lo + 1) a k)) (node_clear f pushed lo Value t (binary op a b) k)
-  pointer_base_clear f pushed lo (node t (decay e)) k = based_clear (place_of f pushed e) (base_clear f pushed lo e k) (expr_clear f pushed lo Value e k)
+      clear_if (sum_has_base (target_of f pushed a) (added_bytes op (operands_of f (bare a) (bare b)) (constant_in b))) (clear_then (label_clear lo) (pointer_base_clear f pushed (lo + 1) a k)) (node_clear f pushed lo Value t (binary op a b) k)
+  pointer_base_clear f pushed lo (node t (address e)) k = base_clear f pushed lo e k
+  pointer_base_clear f pushed lo (node t (decay e)) k = base_clear f pushed lo e k
   pointer_base_clear f pushed lo (node t n) k = node_clear f pushed lo Value t n k
 
   args_clear : (f : Framed) (pushed lo : ℕ) (fast : Bool) (es : Nodes) → IsBankless f → Clear (args_code f pushed lo fast es)

@@ -41,7 +41,7 @@ use Rattle.c65_geneffect.specs.Changing.{in_front, stepping_of, changing_of, fil
 use Rattle.c65_geneffect.specs.Effects.{fixed_code, stepped_by, changed_by, filled_or, changed_code, step_effect, effect_code, node_effect, effect_uses}
 use Rattle.c65_gen_law_lines.proofs.EffectFacts.{target_in, OfAny, OfStep, OfChanging, OfFill, stepping_target, changing_target, filling_target}
 use Rattle.c65_gen_law_stack.proofs.BankPieces.{Clear, clear_then, clear_if, clear_none, IsOff}
-use Rattle.c65_gen_law_stack.proofs.BankExprs.{IsBankless, place_off, target_clear, label_clear, expr_clear, base_clear}
+use Rattle.c65_gen_law_stack.proofs.BankExprs.{IsBankless, place_off, label_clear, expr_clear, base_clear}
 
 -- ---- bytes that are not in regbank
 
@@ -200,7 +200,7 @@ target_off place (Part field) off = tt
 -- ---- the whole tree
 
 fixed_clear : {base : List Line} (change : Change) (place : Place) (label : ℕ) → IsOffTarget (target_in change) → Clear base → Clear (fixed_code change place label base)
-fixed_clear change place label off c = clear_then (target_clear place c) (clear_then (point_clear place) (change_clear change label off))
+fixed_clear change place label off c = clear_then c (clear_then (point_clear place) (change_clear change label off))
 
 stepped_clear : {base whole : List Line} (form : Option Change) (place : Place) (label : ℕ) → OfStep IsOffTarget form → Clear base → Clear whole → Clear (stepped_by form place label base whole)
 stepped_clear (Some change) place label off cb cw = fixed_clear change place label off cb
@@ -208,12 +208,12 @@ stepped_clear None place label off cb cw = clear_then cw (label_clear label)
 
 changed_clear : {left right whole : List Line} (how : Changing) (place : Place) (label : ℕ) → OfChanging IsOffTarget how → Clear left → Clear right → Clear whole → Clear (changed_by how place label left right whole)
 changed_clear (Fixed change) place label off cl cr cw = fixed_clear change place label off cl
-changed_clear (Loaded change) place label off cl cr cw = clear_then cr (change_clear change label off)
+changed_clear (Loaded change) place label off cl cr cw = clear_then cl (clear_then cr (change_clear change label off))
 changed_clear Otherwise place label off cl cr cw = clear_then cw (label_clear label)
 
-filled_clear : {whole : List Line} (fill : Option Fill) → OfFill IsOffTarget fill → Clear whole → Clear (filled_or fill whole)
-filled_clear (Some fill) off cw = fill_clear fill.byte fill.low fill.high off.0 off.1
-filled_clear None off cw = cw
+filled_clear : {base whole : List Line} (fill : Option Fill) → OfFill IsOffTarget fill → Clear base → Clear whole → Clear (filled_or fill base whole)
+filled_clear (Some fill) off cb cw = clear_then cb (fill_clear fill.byte fill.low fill.high off.0 off.1)
+filled_clear None off cb cw = cw
 
 step_clear : (f : Framed) (pushed lo : ℕ) (t : QTy) (how : StepKind) (e : Typed) → IsBankless f → Clear (node_code f pushed (lo + 1) Value t (step (in_front how) e)) → Clear (step_effect f pushed lo how e)
 step_clear f pushed lo t how e k whole =
@@ -237,7 +237,7 @@ mutual
   node_effect_clear f pushed lo t (assign a b) k =
       let place : Place = place_of f pushed a in
       let access : Access = access_of (types_of f.parts.types) a in
-      filled_clear (filling_of place access b) (filling_target IsOffTarget place access b (target_off place access (place_off f pushed a k))) (expr_clear f pushed lo Value (node t (assign a b)) k)
+      filled_clear (filling_of place access b) (filling_target IsOffTarget place access b (target_off place access (place_off f pushed a k))) (base_clear f pushed lo a k) (expr_clear f pushed lo Value (node t (assign a b)) k)
   node_effect_clear f pushed lo t (assign_op op kind a b) k = op_clear f pushed lo op 1 a b (node_code f pushed (lo + 1) Value t (assign_op op kind a b)) k (expr_clear f pushed (lo + 1) Value (node t (assign_op op kind a b)) k)
   node_effect_clear f pushed lo t (assign_step op a b) k = op_clear f pushed lo op (target_bytes f (bare a)) a b (node_code f pushed (lo + 1) Value t (assign_step op a b)) k (expr_clear f pushed (lo + 1) Value (node t (assign_step op a b)) k)
   node_effect_clear f pushed lo t (step PreInc e) k = step_clear f pushed lo t PreInc e k (expr_clear f pushed (lo + 1) Value (node t (step PreInc e)) k)

@@ -24,7 +24,7 @@ use Rattle.c65_genload.specs.Numbers.{first, second}
 use Rattle.c65_gendirect.specs.Words.{instruction, carry_code}
 use Rattle.c65_genexpr.specs.declared.wanted.Wanted.TheVariants.{Value}
 use Rattle.c65_genexpr.specs.Types.{bare, access_of, target_bytes}
-use Rattle.c65_genexpr.specs.Places.{place_of, IsKnown}
+use Rattle.c65_genexpr.specs.Places.{place_of}
 use Rattle.c65_genexpr.specs.Uses.{uses}
 use Rattle.c65_genexpr.specs.Code.{node_code}
 use Rattle.c65_geneffect.specs.declared.spots.Spot.{Spot}
@@ -48,7 +48,7 @@ use Rattle.c65_gen_law_lines.proofs.EffectForms.{fill_piece, fill_still}
 use Rattle.c65_gen_law_lines.proofs.EffectFacts.{Unneeded, changing_unneeded, Unfilled, number_idle, filling_unneeded}
 use Rattle.c65_gen_law_stack.proofs.Levels.{Level, level_then, level_end, level_piece, level_label, level_leads, level_none, Closed, closed_then, closed_behind, closed_as}
 use Rattle.c65_gen_law_stack.proofs.EvenLines.{Labels, No, One, Both, At}
-use Rattle.c65_gen_law_stack.proofs.ExprLevels.{known_calls, target_level, left_calls, right_calls, value_level, base_level}
+use Rattle.c65_gen_law_stack.proofs.ExprLevels.{left_calls, value_level, base_level}
 
 -- ---- lines that leave what waits
 
@@ -194,38 +194,38 @@ point_level (places.Data s at) v = level_none
 abbrev Lasting : List (List ℕ) → List Line → Type 0
 Lasting cs a = (v : List ℕ) → Closed cs v a v
 
-fixed_level : {cs : List (List ℕ)} {base : List Line} (change : Change) (place : Place) (label : ℕ) → (IsKnown place → cs ≡ []) → Lasting cs base → Lasting cs (fixed_code change place label base)
-fixed_level change place label known d v = closed_behind (target_level place known (d v)) (closed_behind (point_level place v) (change_level change label v))
+fixed_level : {cs : List (List ℕ)} {base : List Line} (change : Change) (place : Place) (label : ℕ) → Lasting cs base → Lasting cs (fixed_code change place label base)
+fixed_level change place label d v = closed_behind (d v) (closed_behind (point_level place v) (change_level change label v))
 
 closed_level : {cs : List (List ℕ)} {a : List Line} (label : ℕ) → Lasting cs a → Lasting cs (closed label a)
 closed_level label d v = closed_behind (d v) (steady_closed (steady_close label refl (steady_label label)) v)
 
-stepped_level : {cs : List (List ℕ)} {base whole : List Line} (form : Option Change) (place : Place) (label : ℕ) → (IsKnown place → cs ≡ []) → Lasting cs base → Lasting cs whole → Lasting cs (stepped_by form place label base whole)
-stepped_level (Some change) place label known db dw = fixed_level change place label known db
-stepped_level None place label known db dw = closed_level label dw
+stepped_level : {cs : List (List ℕ)} {base whole : List Line} (form : Option Change) (place : Place) (label : ℕ) → Lasting cs base → Lasting cs whole → Lasting cs (stepped_by form place label base whole)
+stepped_level (Some change) place label db dw = fixed_level change place label db
+stepped_level None place label db dw = closed_level label dw
 
-changed_level : {cs ds : List (List ℕ)} {left right whole : List Line} (how : Changing) (place : Place) (label : ℕ) → Unneeded how (cs ≡ []) (ds ≡ []) → (IsKnown place → cs ≡ []) → Lasting cs left → Lasting ds right → Lasting (cs ++ ds) whole
+changed_level : {cs ds : List (List ℕ)} {left right whole : List Line} (how : Changing) (place : Place) (label : ℕ) → Unneeded how (ds ≡ []) → Lasting cs left → Lasting ds right → Lasting (cs ++ ds) whole
     → Lasting (cs ++ ds) (changed_by how place label left right whole)
-changed_level {cs = cs} {ds = ds} (Fixed change) place label unneeded known dl dr dw v = closed_as (left_calls cs ds unneeded.1) (fixed_level change place label known dl v)
-changed_level {cs = cs} {ds = ds} (Loaded change) place label unneeded known dl dr dw v = closed_as (right_calls cs ds unneeded.1) (closed_behind (dr v) (change_level change label v))
-changed_level Otherwise place label unneeded known dl dr dw v = closed_level label dw v
+changed_level {cs = cs} {ds = ds} (Fixed change) place label unneeded dl dr dw v = closed_as (left_calls cs ds unneeded.1) (fixed_level change place label dl v)
+changed_level (Loaded change) place label unneeded dl dr dw v = closed_then (dl v) (closed_behind (dr v) (change_level change label v))
+changed_level Otherwise place label unneeded dl dr dw v = closed_level label dw v
 
-filled_level : {whole : List Line} (cs ds : List (List ℕ)) (fill : Option Fill) → Unfilled fill (cs ≡ []) (ds ≡ []) → Lasting (cs ++ ds) whole → Lasting (cs ++ ds) (filled_or fill whole)
-filled_level cs ds (Some fill) unneeded dw v =
-    closed_as (left_calls cs ds unneeded.1) (closed_as (sym unneeded.0) (level_piece (fill_still fill.byte fill.low fill.high v) (fill_piece fill.byte fill.low fill.high).plain))
-filled_level cs ds None unneeded dw v = dw v
+filled_level : {cs : List (List ℕ)} {base whole : List Line} (ds : List (List ℕ)) (fill : Option Fill) → Unfilled fill (ds ≡ []) → Lasting cs base → Lasting (cs ++ ds) whole → Lasting (cs ++ ds) (filled_or fill base whole)
+filled_level {cs = cs} ds (Some fill) unneeded db dw v =
+    closed_as (left_calls cs ds unneeded) (closed_behind (db v) (level_piece (fill_still fill.byte fill.low fill.high v) (fill_piece fill.byte fill.low fill.high).plain))
+filled_level ds None unneeded db dw v = dw v
 
 step_level : (f : Framed) (pushed lo : ℕ) (t : QTy) (how : StepKind) (e : Typed) → Lasting (calls_of f e) (node_code f pushed (lo + 1) Value t (step (in_front how) e)) → Lasting (calls_of f e) (step_effect f pushed lo how e)
 step_level f pushed lo t how e whole =
     let place : Place = place_of f pushed e in
-    stepped_level (stepping_of how (target_bytes f (bare e)) place (access_of (types_of f.parts.types) e)) place lo (known_calls f pushed e) (base_level f pushed (lo + 1) e) whole
+    stepped_level (stepping_of how (target_bytes f (bare e)) place (access_of (types_of f.parts.types) e)) place lo (base_level f pushed (lo + 1) e) whole
 
 op_level : (f : Framed) (pushed lo : ℕ) (op : BinaryOp) (size : ℕ) (a b : Typed) (whole : List Line) → Lasting (calls_of f a ++ calls_of f b) whole → Lasting (calls_of f a ++ calls_of f b) (changed_code f pushed lo op size a b whole)
 op_level f pushed lo op size a b whole dw =
     let place : Place = place_of f pushed a in
     let access : Access = access_of (types_of f.parts.types) a in
-    let unneeded : Unneeded (changing_of op size place access b) (calls_of f a ≡ []) (calls_of f b ≡ []) = changing_unneeded _ _ op size place access b (known_calls f pushed a) (λ z h. (constant_idle f b z h).calls) in
-    changed_level (changing_of op size place access b) place lo unneeded (known_calls f pushed a) (base_level f pushed (lo + 1) a) (value_level f pushed (lo + 1 + uses None a) b) dw
+    let unneeded : Unneeded (changing_of op size place access b) (calls_of f b ≡ []) = changing_unneeded _ op size place access b (λ z h. (constant_idle f b z h).calls) in
+    changed_level (changing_of op size place access b) place lo unneeded (base_level f pushed (lo + 1) a) (value_level f pushed (lo + 1 + uses None a) b) dw
 
 mutual
   pub effect_level : (f : Framed) (pushed lo : ℕ) (e : Typed) → Lasting (calls_of f e) (effect_code f pushed lo e)
@@ -237,7 +237,7 @@ mutual
   node_effect_level f pushed lo t (assign a b) =
       let place : Place = place_of f pushed a in
       let access : Access = access_of (types_of f.parts.types) a in
-      filled_level (calls_of f a) (calls_of f b) (filling_of place access b) (filling_unneeded _ _ place access b (known_calls f pushed a) (λ n h. (number_idle f b n h).calls)) (value_level f pushed lo (node t (assign a b)))
+      filled_level (calls_of f b) (filling_of place access b) (filling_unneeded _ place access b (λ n h. (number_idle f b n h).calls)) (base_level f pushed lo a) (value_level f pushed lo (node t (assign a b)))
   node_effect_level f pushed lo t (assign_op op k a b) = op_level f pushed lo op 1 a b (node_code f pushed (lo + 1) Value t (assign_op op k a b)) (value_level f pushed (lo + 1) (node t (assign_op op k a b)))
   node_effect_level f pushed lo t (assign_step op a b) = op_level f pushed lo op (target_bytes f (bare a)) a b (node_code f pushed (lo + 1) Value t (assign_step op a b)) (value_level f pushed (lo + 1) (node t (assign_step op a b)))
   node_effect_level f pushed lo t (step PreInc e) = step_level f pushed lo t PreInc e (value_level f pushed (lo + 1) (node t (step PreInc e)))

@@ -54,20 +54,20 @@ use Rattle.c65_genexpr.specs.declared.arguments.Passed.{Passed}
 use Rattle.c65_genexpr.specs.declared.types.Outcome.{Outcome}
 use Rattle.c65_genexpr.specs.declared.types.Outcome.TheVariants.{Nothing, Number, Area}
 use Rattle.c65_genexpr.specs.Types.{kind_of, outcome_of, given_bytes, kind_in, bare, offset_at, access_of, target_bytes}
-use Rattle.c65_genexpr.specs.Places.{more, has_base, added_bytes, sum_has_base, place_of, offset_of, object_code, IsKnown}
+use Rattle.c65_genexpr.specs.Places.{more, has_base, added_bytes, sum_has_base, object_place, place_of, target_of, object_code, target_code}
 use Rattle.c65_genexpr.specs.Wanted.{wanted_by, handed, wanted, sense, aimed, inner, truth_by, way, way_labels, joined, branch_code}
 use Rattle.c65_genexpr.specs.Operands.{residue_of, constant_in, operands_of, computes, between_code, behind_code, same_truth, conversion_by}
 use Rattle.c65_genexpr.specs.Direct.{kept_at, own_bytes, direct_of, is_pure, is_byte}
 use Rattle.c65_genexpr.specs.Comparing.{relation_by, tested_by, compared_by, comparing_of, on, low_code, below_side, comparison_by, held_by, or_held}
 use Rattle.c65_genexpr.specs.Operating.{operating_of, waiting_code, stacked_code, below_operand, operator_by, is_light}
-use Rattle.c65_genexpr.specs.Storing.{target_code, storing_of, below_value, assigned_by}
+use Rattle.c65_genexpr.specs.Storing.{storing_of, below_value, assigned_by}
 use Rattle.c65_genexpr.specs.Held.{held_low, held_high}
 use Rattle.c65_genexpr.specs.Steps.{amount_of}
 use Rattle.c65_genexpr.specs.Arguments.{is_fast, is_counted, stays, passed_size, passed_of, reads_of}
 use Rattle.c65_genexpr.specs.Arguments as arguments
 use Rattle.c65_genexpr.specs.Calls.{named, count_code, fetch_code, result_code, library_at, named_by, named_code, pointer_code, direct_code, ptr4_code}
 use Rattle.c65_genexpr.specs.Uses.{uses, by_relation}
-use Rattle.c65_genexpr.specs.Code.{width_in, tested_load, load_by, behind_open, compound, call_by, base_by, expr_code, node_code, base_code, pointer_base_code, args_code}
+use Rattle.c65_genexpr.specs.Code.{width_in, tested_load, load_by, behind_open, compound, call_by, expr_code, node_code, base_code, pointer_base_code, args_code}
 use Rattle.c65_gen_law_lines.specs.Stack.{waiting_by, taken, left, waits, argument_bytes, passed, unless_named, calls_of, node_calls, args_calls}
 use Rattle.c65_gen_law_lines.proofs.Made.{is_plain, piece_append}
 use Rattle.c65_gen_law_lines.proofs.Pieces.{narrow_piece, read_store_piece, byte_through_piece, word_through_piece, symbol_piece, offset_piece, object_piece, conversion_piece, push_piece, argument_piece, hold_piece, part_piece, load_piece, store_piece, copy_piece, spill_piece, further_piece, unary_piece, between_piece, behind_piece, wide_piece, step_piece, open_piece, close_piece, named_piece, pointer_piece, direct_piece}
@@ -80,7 +80,7 @@ use Rattle.c65_gen_law_stack.proofs.EvenLines.{Labels, No, One, Both, At, Even, 
 use Rattle.c65_gen_law_stack.proofs.EvenShifts.{elements_even}
 use Rattle.c65_gen_law_stack.proofs.EvenDirects.{byte_even, compare_even, compare_byte_even, zero_test_even, truth_even}
 use Rattle.c65_gen_law_stack.proofs.EvenForms.{Aim, value_test_even, routine_test_even, constant_even, keep_even, form_even}
-use Rattle.c65_gen_law_stack.proofs.ReadSides.{Reaches, known_reached, kept_known, direct_reached, First, Compared, compared_reached, or_held_reached, tested_reached, Operated, operating_reached}
+use Rattle.c65_gen_law_stack.proofs.ReadSides.{Reaches, direct_reached, First, Compared, compared_reached, or_held_reached, tested_reached, Operated, operating_reached}
 
 -- a piece of lines behind closed ones, and before
 behind : {cs : List (List ℕ)} {v u t : List ℕ} {a b : List Line} → Closed cs v a u → Leaves u b t → list_all is_plain b ≡ true → Closed cs v (a ++ b) t
@@ -106,14 +106,11 @@ no_calls f = record {
   convert = λ t e h. h;
 }
 
-pub known_calls : (f : Framed) (pushed : ℕ) (e : Typed) → IsKnown (place_of f pushed e) → calls_of f e ≡ []
-known_calls f pushed e h = known_reached (no_calls f) f pushed e h
-
-pub target_level : {cs : List (List ℕ)} {v : List ℕ} {code : List Line} (p : Place) → (IsKnown p → cs ≡ []) → Closed cs v code v → Closed cs v (target_code p code) v
-target_level (places.Far at) h d = d
-target_level (places.Bank b) h d = closed_as (sym (h tt)) level_none
-target_level (places.Near at) h d = closed_as (sym (h tt)) level_none
-target_level (places.Data s at) h d = closed_as (sym (h tt)) level_none
+target_level : {v : List ℕ} {code : List Line} (p : Place) → Closed [] v code v → Closed [] v (target_code p code) v
+target_level (places.Far at) d = d
+target_level (places.Bank b) d = level_none
+target_level (places.Near at) d = level_none
+target_level (places.Data s at) d = level_none
 
 -- the calls of one operand alone, where the other has none
 pub left_calls : (cs ds : List (List ℕ)) → ds ≡ [] → cs ≡ cs ++ ds
@@ -264,14 +261,14 @@ choice_level {v = v} j k dc da db =
     (λ l h z. elim z.0 [ inl x ↦ inl (inr (inr (inr (inl (x, z.1))))) | inr y ↦ inl (inr (inr (inr (inr (inr (y, z.1)))))) ])
 
 -- a value that is tested where it lies, or when it is loaded
-tested_level : {cs : List (List ℕ)} {v : List ℕ} {a : List Line} (o : Option Direct) (kind : IntType) (s : Bool) (to : ℕ) → ((d : Direct) → o ≡ Some d → cs ≡ []) → Closed cs v a v → Leading (One to) cs v (tested_load o kind s to a)
-tested_level (Some d) kind s to known p = leading_as (sym (known d refl)) (leading_even (zero_test_even (own_bytes d (extent_of kind)) s to refl))
-tested_level None kind s to known p = wanted_level (Test to s) (width_of kind) p
+tested_level : {cs : List (List ℕ)} {v : List ℕ} {base a : List Line} (o : Option Direct) (kind : IntType) (s : Bool) (to : ℕ) → Closed cs v base v → Closed cs v a v → Leading (One to) cs v (tested_load o kind s to base a)
+tested_level (Some d) kind s to pb p = leading_behind (leading_closed pb) (zero_test_even (own_bytes d (extent_of kind)) s to refl)
+tested_level None kind s to pb p = wanted_level (Test to s) (width_of kind) p
 
-load_level : {cs : List (List ℕ)} {v : List ℕ} {a : List Line} (w : Wanted) (place : Place) (access : Access) → (IsKnown place → cs ≡ []) → Closed cs v a v → Aimed w cs v (load_by w place access a)
-load_level {v = v} Value place access known p = leading_closed (behind p (load_still place access v) (load_piece place access).plain)
-load_level {v = v} (Test to s) place access known p =
-    tested_level (kept_at place access) (type_at access) s to (λ d e. known (kept_known place access d e)) (behind p (load_still place access v) (load_piece place access).plain)
+load_level : {cs : List (List ℕ)} {v : List ℕ} {a : List Line} (w : Wanted) (place : Place) (access : Access) → Closed cs v a v → Aimed w cs v (load_by w place access a)
+load_level {v = v} Value place access p = leading_closed (behind p (load_still place access v) (load_piece place access).plain)
+load_level {v = v} (Test to s) place access p =
+    tested_level (kept_at place access) (type_at access) s to p (behind p (load_still place access v) (load_piece place access).plain)
 
 converted_level : {cs : List (List ℕ)} {v : List ℕ} {a : List Line} (t : Ty) (from : IntType) → Closed cs v a v → Closed cs v (conversion_by Value true t from a) v
 converted_level {v = v} t from p = behind p (conversion_still t from v) (conversion_piece t from).plain
@@ -356,27 +353,21 @@ relation_level w (Some r) p q = q r
 
 -- ---- assignments
 
-assigned_level : {cs ds : List (List ℕ)} {v : List ℕ} {a b : List Line} (how : Storing) (place : Place) (access : Access) → Unstored how (cs ≡ []) (ds ≡ []) → (IsKnown place → cs ≡ []) → ((u : List ℕ) → Closed cs u a u) → ((u : List ℕ) → Closed ds u b u)
+assigned_level : {cs ds : List (List ℕ)} {v : List ℕ} {a b : List Line} (how : Storing) (place : Place) (access : Access) → Unstored how (cs ≡ []) (ds ≡ []) → ((u : List ℕ) → Closed cs u a u) → ((u : List ℕ) → Closed ds u b u)
     → Closed (cs ++ ds) v (assigned_by how place access a b) v
-assigned_level {cs = cs} {ds = ds} {v = v} (storing.Left at stored) place access unread known da db =
+assigned_level {cs = cs} {ds = ds} {v = v} (storing.Left at stored) place access unread da db =
     closed_as (left_calls cs ds unread) (behind (da v) (leaves_then (read_store_still at stored v) (narrow_still (type_at access) v)) (piece_append 22 3 _ _ (read_store_piece at stored) (narrow_piece (type_at access))).plain)
-assigned_level {cs = cs} {ds = ds} {v = v} (storing.RightByte at low high) place access unread known da db =
+assigned_level {cs = cs} {ds = ds} {v = v} (storing.RightByte at low high) place access unread da db =
     closed_as (right_calls cs ds unread) (behind (db v) (leaves_then (byte_through_still at low high v) (narrow_still (type_at access) v)) (piece_append 22 3 _ _ (byte_through_piece at low high) (narrow_piece (type_at access))).plain)
-assigned_level {cs = cs} {ds = ds} {v = v} (storing.RightWord at low high) place access unread known da db = closed_as (right_calls cs ds unread) (behind (db v) (word_through_still at low high v) (word_through_piece at low high).plain)
-assigned_level {v = v} storing.Stacked place access unread known da db =
-    closed_then (target_level place known (da v)) (before (hold_leaves place v) (hold_piece place).plain (behind (db (holding place v)) (stored_leaves place access v) (store_piece place access).plain))
+assigned_level {cs = cs} {ds = ds} {v = v} (storing.RightWord at low high) place access unread da db = closed_as (right_calls cs ds unread) (behind (db v) (word_through_still at low high v) (word_through_piece at low high).plain)
+assigned_level {v = v} storing.Stacked place access unread da db =
+    closed_then (da v) (before (hold_leaves place v) (hold_piece place).plain (behind (db (holding place v)) (stored_leaves place access v) (store_piece place access).plain))
 
 -- ---- the bases of places
 
 either_level : {cs : List (List ℕ)} {v : List ℕ} {a b : List Line} (c : Bool) → Closed cs v a v → Closed cs v b v → Closed cs v (if c then a else b) v
 either_level true da db = da
 either_level false da db = db
-
-based_level : {cs : List (List ℕ)} {v : List ℕ} {a b : List Line} (place : Place) → Closed cs v a v → Closed cs v b v → Closed cs v (base_by place a b) v
-based_level (places.Far at) da db = da
-based_level (places.Bank b) da db = db
-based_level (places.Near at) da db = db
-based_level (places.Data s at) da db = db
 
 label_level : {cs : List (List ℕ)} {v : List ℕ} {a : List Line} (m : ℕ) → Closed cs v a v → Closed cs v (Label m ∷ a) v
 label_level {v = v} m d = level_end (level_then ((even_label {X = No} m).level v) (closed_open d)) (λ l h z. absurd z) (λ l h z. absurd z.0)
@@ -395,7 +386,7 @@ compound_level : {ds : List (List ℕ)} {left right : List Line} (f : Framed) (p
 compound_level f pushed op operands a b v da db =
     let place : Place = place_of f pushed a in
     let access : Access = access_of (types_of f.parts.types) a in
-    closed_then (target_level place (known_calls f pushed a) da) (before (open_leaves place access (computes operands) v) (open_piece place access (computes operands)).plain (behind db (close_leaves op operands (kind_in b) place access v) (close_piece op operands (kind_in b) place access).plain))
+    closed_then da (before (open_leaves place access (computes operands) v) (open_piece place access (computes operands)).plain (behind db (close_leaves op operands (kind_in b) place access v) (close_piece op operands (kind_in b) place access).plain))
 
 mutual
   pub expr_level : (f : Framed) (pushed lo : ℕ) (w : Wanted) (e : Typed) (v : List ℕ) → Aimed w (calls_of f e) v (expr_code f pushed lo w e)
@@ -415,7 +406,7 @@ mutual
   node_level f pushed lo w t (member e m) v = wanted_level w (width_in t) (behind (value_level f pushed lo e v) (offset_still (offset_at (types_of f.parts.types) (bare e) m) v) (offset_piece (offset_at (types_of f.parts.types) (bare e) m)).plain)
   node_level f pushed lo w t (load e) v =
       let place : Place = place_of f pushed e in
-      load_level w place (access_of (types_of f.parts.types) e) (known_calls f pushed e) (target_level place (known_calls f pushed e) (base_level f pushed lo e v))
+      load_level w place (access_of (types_of f.parts.types) e) (base_level f pushed lo e v)
   node_level f pushed lo w t (address e) v = wanted_level w (width_in t) (value_level f pushed lo e v)
   node_level f pushed lo w t (decay e) v = wanted_level w (width_in t) (value_level f pushed lo e v)
   node_level f pushed lo w t (convert e) v =
@@ -458,7 +449,7 @@ mutual
       let place : Place = place_of f pushed a in
       let access : Access = access_of (types_of f.parts.types) a in
       let how : Storing = storing_of f pushed a b in
-      wanted_level w (width_in t) (assigned_level how place access (storing_calls f pushed a b) (known_calls f pushed a) (base_level f pushed lo a) (value_level f (below_value how pushed place) (lo + uses None a) b))
+      wanted_level w (width_in t) (assigned_level how place access (storing_calls f pushed a b) (base_level f pushed lo a) (value_level f (below_value how pushed place) (lo + uses None a) b))
   node_level f pushed lo w t (assign_op op k a b) v = wanted_level w (width_in t) (compound_level f pushed op (Numbers k) a b v (base_level f pushed lo a v) (value_level f (behind_open f pushed (Numbers k) a) (lo + uses None a) b (waiting (width_of k) ∷ holding (place_of f pushed a) v)))
   node_level f pushed lo w t (assign_step op a b) v =
       let operands : Operands = PointerFirst (target_bytes f (bare a)) in
@@ -466,7 +457,7 @@ mutual
   node_level f pushed lo w t (step how e) v =
       let place : Place = place_of f pushed e in
       let access : Access = access_of (types_of f.parts.types) e in
-      wanted_level w (width_in t) (behind (target_level place (known_calls f pushed e) (base_level f pushed lo e v)) (step_still how place access (amount_of f how (bare e)) v) (step_piece how place access (amount_of f how (bare e))).plain)
+      wanted_level w (width_in t) (behind (base_level f pushed lo e v) (step_still how place access (amount_of f how (bare e)) v) (step_piece how place access (amount_of f how (bare e))).plain)
   node_level f pushed lo w t (copy a b) v =
       wanted_level w (width_in t) (closed_then (value_level f pushed lo a v) (before (push_leaves Ax v) (push_piece Ax).plain (behind (value_level f (more pushed 2) (lo + uses None a) b (2 ∷ v)) (copy_leaves (type_bytes f (type_in t)) v) (copy_piece (type_bytes f (type_in t))).plain)))
   node_level f pushed lo w t (call g es) v =
@@ -474,13 +465,15 @@ mutual
   node_level f pushed lo w t (pack e) v =
       let place : Place = place_of f pushed e in
       let extent : Extent = extent_by (type_bytes f (type_in t)) in
-      wanted_level w (width_in t) (behind (target_level place (known_calls f pushed e) (base_level f pushed lo e v)) (bytes_still place extent v) (part_piece place extent).plain)
+      wanted_level w (width_in t) (behind (base_level f pushed lo e v) (bytes_still place extent v) (part_piece place extent).plain)
   node_level f pushed lo w t (spill i e) v =
       let extent : Extent = extent_by (type_bytes f (type_in t)) in
       wanted_level w (width_in t) (behind (value_level f pushed lo e v) (spill_still (object_code f pushed i) extent (object_still f pushed i) v) (spill_piece (object_code f pushed i) extent (object_piece f pushed i)).plain)
   node_level f pushed lo w t further v = wanted_level w (width_in t) (level_piece (further_still f pushed v) (further_piece f pushed).plain)
 
   pub base_level : (f : Framed) (pushed lo : ℕ) (e : Typed) (v : List ℕ) → Closed (calls_of f e) v (base_code f pushed lo e) v
+  base_level f pushed lo (node t (literal n)) v = level_none
+  base_level f pushed lo (node t (object i)) v = target_level (object_place f pushed i) (closed_value (node_level f pushed lo Value t (object i) v))
   base_level f pushed lo (node t (deref e)) v = pointer_base_level f pushed lo e v
   base_level f pushed lo (node t (member e m)) v =
       let n : ℕ = offset_at (types_of f.parts.types) (bare e) m in
@@ -490,9 +483,10 @@ mutual
   pointer_base_level : (f : Framed) (pushed lo : ℕ) (e : Typed) (v : List ℕ) → Closed (calls_of f e) v (pointer_base_code f pushed lo e) v
   pointer_base_level f pushed lo (node t (binary op a b)) v =
       let operands : Operands = operands_of f (bare a) (bare b) in
-      let at : ℕ = offset_of f pushed a in
-      sum_level (sum_has_base at (added_bytes op operands (constant_in b))) lo (λ h. sum_calls f at op operands b h) (pointer_base_level f pushed (lo + 1) a v) (closed_value (node_level f pushed lo Value t (binary op a b) v))
-  pointer_base_level f pushed lo (node t (decay e)) v = based_level (place_of f pushed e) (base_level f pushed lo e v) (value_level f pushed lo e v)
+      let place : Place = target_of f pushed a in
+      sum_level (sum_has_base place (added_bytes op operands (constant_in b))) lo (λ h. sum_calls f place op operands b h) (pointer_base_level f pushed (lo + 1) a v) (closed_value (node_level f pushed lo Value t (binary op a b) v))
+  pointer_base_level f pushed lo (node t (address e)) v = base_level f pushed lo e v
+  pointer_base_level f pushed lo (node t (decay e)) v = base_level f pushed lo e v
   pointer_base_level f pushed lo (node t n) v = closed_value (node_level f pushed lo Value t n v)
 
   args_level : (f : Framed) (pushed lo : ℕ) (fast : Bool) (es : Nodes) (v : List ℕ) → Closed (args_calls f es) v (args_code f pushed lo fast es) (passed f fast es ++ v)

@@ -1,5 +1,6 @@
 -- The lines of a light expression leave ptr2.
-use Rattle.std.proofs.Common.{◌≡◌, ℕ, ◌+◌, Bool, true, None, List}
+use Rattle.std.proofs.Common.{◌≡◌, ℕ, ◌+◌, ◌==◌, Bool, true, false, Option, Some, None, List, refl}
+use Rattle.std.specs.Prelude.{nat_le, ◌&&◌, if◌then◌else◌}
 use Rattle.std.proofs.lemmas.Bool.{and_parts}
 use Rattle.c65_base.specs.declared.operators.BinaryOp.{BinaryOp}
 use Rattle.c65_base.specs.declared.operators.BinaryOp.TheVariants as ops
@@ -14,6 +15,7 @@ use Rattle.c65_genframe.specs.Symbols.{numbers_of, literal_symbol, function_symb
 use Rattle.c65_genwide.specs.Wide.{width_of}
 use Rattle.c65_genload.specs.declared.places.Place.{Place}
 use Rattle.c65_genload.specs.declared.places.Place.TheVariants as places
+use Rattle.c65_genload.specs.declared.places.Place.TheVariants.{Far}
 use Rattle.c65_genload.specs.declared.places.Access.{Access}
 use Rattle.c65_genload.specs.Conversions.{waiting}
 use Rattle.c65_gendirect.specs.declared.relation.Relation.{Relation}
@@ -23,20 +25,74 @@ use Rattle.c65_genexpr.specs.declared.operating.Operating.{Operating}
 use Rattle.c65_genexpr.specs.declared.operating.Operating.TheVariants as operating
 use Rattle.c65_genexpr.specs.declared.wanted.Wanted.TheVariants.{Value}
 use Rattle.c65_genexpr.specs.Types.{kind_in, bare, offset_at, access_of}
-use Rattle.c65_genexpr.specs.Places.{place_of}
-use Rattle.c65_genexpr.specs.Operands.{residue_of, operands_of, computes}
+use Rattle.c65_genexpr.specs.Places.{moved, has_base, added_bytes, sum_has_base, sum_place, object_place, place_of, target_of, object_code, target_code}
+use Rattle.c65_genexpr.specs.Operands.{residue_of, constant_in, operands_of, computes}
 use Rattle.c65_genexpr.specs.Operating.{takes_bytes, is_light_form, is_light_place, is_light_access, is_light_conversion, is_light_operator, is_light, reading_of, held_form, held_if, or_held, below_operand, operator_by}
 use Rattle.c65_genexpr.specs.Uses.{by_relation, uses}
-use Rattle.c65_genexpr.specs.Storing.{target_code}
-use Rattle.c65_genexpr.specs.Code.{width_in, expr_code, base_code}
+use Rattle.c65_genexpr.specs.Code.{width_in, expr_code, base_code, pointer_base_code}
 use Rattle.c65_gen_law_stack.specs.Light.{LightLinesLeavePtr2}
-use Rattle.c65_gen_law_stack.proofs.LightPieces.{Spares, spares_then, spares_none, number_spares, symbol_spares, offset_spares, load_spares, object_spares, conversion_spares, form_spares}
+use Rattle.c65_gen_law_stack.proofs.LightPieces.{Spares, spares_then, spares_none, spares_label, number_spares, symbol_spares, offset_spares, load_spares, object_spares, conversion_spares, form_spares}
 
 target_spares : (code : List Line) (place : Place) → is_light_place place ≡ true → Spares (target_code place code)
 target_spares code (places.Far at) h = absurd cc
 target_spares code (places.Bank b) h = spares_none
 target_spares code (places.Near at) h = spares_none
 target_spares code (places.Data s at) h = spares_none
+
+-- a part of a known place is known where it is told with it
+part_light : (near told : Bool) (place : Place) → is_light_place (if near then (if told then place else Far 0) else Far 0) ≡ true → near && told ≡ true
+part_light true true place h = refl
+part_light true false place h = absurd cc
+part_light false told place h = absurd cc
+
+zero_light : (first : Bool) (place : Place) → is_light_place (if first then place else Far 0) ≡ true → first ≡ true
+zero_light true place h = refl
+zero_light false place h = absurd cc
+
+moved_told : (place : Place) (n : ℕ) → is_light_place (moved place n) ≡ true → has_base place n ≡ true
+moved_told (places.Far at) n h = absurd cc
+moved_told (places.Bank b) n h = zero_light (n == 0) (places.Bank b) h
+moved_told (places.Near at) n h = part_light (nat_le n 252) (nat_le (at + n) 252) (places.Near (at + n)) h
+moved_told (places.Data s at) n h = refl
+
+moved_light : (place : Place) (n : ℕ) → is_light_place (moved place n) ≡ true → is_light_place place ≡ true
+moved_light (places.Far at) n h = absurd cc
+moved_light (places.Bank b) n h = refl
+moved_light (places.Near at) n h = refl
+moved_light (places.Data s at) n h = refl
+
+sum_told : (place : Place) (n : Option ℕ) → is_light_place (sum_place place n) ≡ true → sum_has_base place n ≡ true
+sum_told place (Some n) h = moved_told place n h
+sum_told place None h = absurd cc
+
+sum_light : (place : Place) (n : Option ℕ) → is_light_place (sum_place place n) ≡ true → is_light_place place ≡ true
+sum_light place (Some n) h = moved_light place n h
+sum_light place None h = absurd cc
+
+-- the first of two
+first_spares : {a : List Line} (b : List Line) (c : Bool) → c ≡ true → Spares a → Spares (if c then a else b)
+first_spares b true h p = p
+first_spares b false h p = absurd cc
+
+-- the base of a known place has labels alone
+mutual
+  base_spares : (f : Framed) (pushed lo : ℕ) (e : Typed) → is_light_place (place_of f pushed e) ≡ true → Spares (base_code f pushed lo e)
+  base_spares f pushed lo (node t (literal n)) h = spares_none
+  base_spares f pushed lo (node t (object i)) h = target_spares (object_code f pushed i) (object_place f pushed i) h
+  base_spares f pushed lo (node t (member e m)) h =
+      let n : ℕ = offset_at (types_of f.parts.types) (bare e) m in
+      first_spares _ (has_base (place_of f pushed e) n) (moved_told (place_of f pushed e) n h) (base_spares f pushed lo e (moved_light (place_of f pushed e) n h))
+  base_spares f pushed lo (node t (deref e)) h = pointer_spares f pushed lo e h
+  base_spares f pushed lo (node t _) h = absurd cc
+
+  pointer_spares : (f : Framed) (pushed lo : ℕ) (e : Typed) → is_light_place (target_of f pushed e) ≡ true → Spares (pointer_base_code f pushed lo e)
+  pointer_spares f pushed lo (node t (binary op a b)) h =
+      let place : Place = target_of f pushed a in
+      let added : Option ℕ = added_bytes op (operands_of f (bare a) (bare b)) (constant_in b) in
+      first_spares _ (sum_has_base place added) (sum_told place added h) (spares_then (spares_label lo) (pointer_spares f pushed (lo + 1) a (sum_light place added h)))
+  pointer_spares f pushed lo (node t (address e)) h = base_spares f pushed lo e h
+  pointer_spares f pushed lo (node t (decay e)) h = base_spares f pushed lo e h
+  pointer_spares f pushed lo (node t _) h = absurd cc
 
 -- an operator, from the lines of its operands; those of the right one are as many bytes wait
 operator_spares : {a : List Line} (b : ℕ → List Line) (reading held : Operating) (op : BinaryOp) (operands : Operands) (right : IntType) (label pushed bytes : ℕ) (la lb : Bool) → is_light_operator reading la lb ≡ true → (la ≡ true → Spares a) → (lb ≡ true → Spares (b pushed))
@@ -69,7 +125,7 @@ light_spares f pushed lo (node t (load e)) h =
     let place : Place = place_of f pushed e in
     let access : Access = access_of (types_of f.parts.types) e in
     let both = and_parts (is_light_place place) (is_light_access access) h in
-    spares_then (target_spares (base_code f pushed lo e) place both.0) (load_spares place access both.0 both.1)
+    spares_then (base_spares f pushed lo e both.0) (load_spares place access both.0 both.1)
 light_spares f pushed lo (node t (convert e)) h =
     let both = and_parts (is_light_conversion (type_in t) (kind_in e)) (is_light f pushed e) h in
     spares_then (light_spares f pushed lo e both.1) (conversion_spares (type_in t) (kind_in e) both.0)

@@ -67,7 +67,7 @@ spares_if false p q = q
 pub spares_none : Spares []
 spares_none = record { all = refl }
 
-spares_label : (l : ℕ) → Spares (Label l ∷ [])
+pub spares_label : (l : ℕ) → Spares (Label l ∷ [])
 spares_label l = record { all = refl }
 
 spares_labelled : {a : List Line} (l : ℕ) → Spares a → Spares (labelled l a)

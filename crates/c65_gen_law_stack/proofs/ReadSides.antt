@@ -12,7 +12,6 @@ use Rattle.c65_code.specs.declared.routine.Width.TheVariants.{Ax, Eax}
 use Rattle.c65_genwide.specs.Wide.{width_of}
 use Rattle.c65_genload.specs.declared.places.Place.{Place}
 use Rattle.c65_genload.specs.declared.places.Place.TheVariants as places
-use Rattle.c65_genload.specs.declared.places.Access.{Access}
 use Rattle.c65_gendirect.specs.declared.direct.Direct.{Direct}
 use Rattle.c65_gendirect.specs.declared.relation.Relation.{Relation}
 use Rattle.c65_gendirect.specs.declared.compare.Sides.{Sides}
@@ -27,13 +26,13 @@ use Rattle.c65_genexpr.specs.declared.operating.Form.{Form}
 use Rattle.c65_genexpr.specs.declared.operating.Operating.{Operating}
 use Rattle.c65_genexpr.specs.declared.operating.Operating.TheVariants as operating
 use Rattle.c65_genexpr.specs.Types.{kind_of, bare, offset_at, access_of}
-use Rattle.c65_genexpr.specs.Places.{has_base, added_bytes, sum_has_base, place_of, IsKnown}
+use Rattle.c65_genexpr.specs.Places.{has_base, added_bytes, sum_has_base, place_of, is_plain}
 use Rattle.c65_genexpr.specs.Storing.{pointer_of, unless_changed, storing_of}
 use Rattle.c65_genexpr.specs.Operands.{residue_of, constant_in}
 use Rattle.c65_genexpr.specs.Direct.{kept_at, address_at, address_of, takes_bytes, converted_if, sides_of, direct_of, is_fixed, is_pure, is_byte}
 use Rattle.c65_genexpr.specs.Comparing.{is_zero, zero_sense, tested_by, is_raised, raised, one_more, range_of, meeting, beside, changes, compared_by, comparing_of, held_by}
 use Rattle.c65_genexpr.specs.Operating.{constant_form, word_in, right_form, left_form, constant_right, direct_right, direct_left, by_left, by_right, operating_of, reading_of, is_light, held_form, held_if, or_held}
-use Rattle.c65_gen_law_lines.proofs.Drops.{moved_known, Unstored, some_if, stored_by, sum_constant}
+use Rattle.c65_gen_law_lines.proofs.Drops.{plain_if, Unstored, some_if, stored_by, sum_constant}
 use Rattle.c65_genexpr.specs.Comparing as comparisons
 
 -- what holds of objects, constants and addresses, and with a tree of its parts, conversions and addresses, and of what it names
@@ -56,29 +55,18 @@ some_then g (Some x) y e = (x, refl)
 
 -- ---- a value that is read where it lies
 
-pub known_reached : {P : Typed → Type 0} → Reaches P → (f : Framed) (pushed : ℕ) (e : Typed) → IsKnown (place_of f pushed e) → P e
-known_reached p f pushed (node t (object i)) h = p.object t i
-known_reached p f pushed (node t (member e m)) h = p.member t e m (known_reached p f pushed e (moved_known (place_of f pushed e) (offset_at (types_of f.parts.types) (bare e) m) h))
-known_reached p f pushed (node t _) h = absurd h
-
-pub kept_known : (place : Place) (access : Access) (d : Direct) → kept_at place access ≡ Some d → IsKnown place
-kept_known (places.Far at) access d e = absurd cc
-kept_known (places.Bank b) access d e = tt
-kept_known (places.Near at) access d e = tt
-kept_known (places.Data s at) access d e = tt
-
-address_known : (place : Place) (d : Direct) → address_at place ≡ Some d → IsKnown place
-address_known (places.Far at) d e = absurd cc
-address_known (places.Bank b) d e = absurd cc
-address_known (places.Near at) d e = absurd cc
-address_known (places.Data s at) d e = tt
+plain_reached : {P : Typed → Type 0} → Reaches P → (e : Typed) → is_plain e ≡ true → P e
+plain_reached p (node t (literal n)) h = p.literal t n
+plain_reached p (node t (object i)) h = p.object t i
+plain_reached p (node t (deref e)) h = p.deref t e (plain_reached p e h)
+plain_reached p (node t (member e m)) h = p.member t e m (plain_reached p e h)
+plain_reached p (node t (address e)) h = p.address t e (plain_reached p e h)
+plain_reached p (node t (decay e)) h = p.decay t e (plain_reached p e h)
+plain_reached p (node t _) h = absurd cc
 
 address_reached : {P : Typed → Type 0} → Reaches P → (f : Framed) (pushed : ℕ) (e : Typed) (d : Direct) → address_of f pushed e ≡ Some d → P e
-address_reached p f pushed (node t (literal n)) d e = p.literal t n
 address_reached p f pushed (node t (func i)) d e = p.func t i
-address_reached p f pushed (node t (object i)) d e = p.object t i
-address_reached p f pushed (node t (member a m)) d e = known_reached p f pushed (node t (member a m)) (address_known (place_of f pushed (node t (member a m))) d e)
-address_reached p f pushed (node t _) d e = absurd cc
+address_reached p f pushed (node t n) d e = plain_reached p (node t n) (plain_if (is_plain (node t n)) (address_at (place_of f pushed (node t n))) d e)
 
 conversion_some : (b : Bool) (kind : IntType) (o : Option Direct) (d : Direct) → converted_if b kind o ≡ Some d → (x : Direct) × (o ≡ Some x)
 conversion_some true kind o d e = some_then (converted kind) o d e
@@ -87,7 +75,7 @@ conversion_some false kind o d e = absurd cc
 pub direct_reached : {P : Typed → Type 0} → Reaches P → (f : Framed) (pushed : ℕ) (e : Typed) (d : Direct) → direct_of f pushed e ≡ Some d → P e
 direct_reached p f pushed (node t (constant z)) d e = p.constant t z
 direct_reached p f pushed (node t null) d e = p.null t
-direct_reached p f pushed (node t (load a)) d e = p.load t a (known_reached p f pushed a (kept_known (place_of f pushed a) (access_of (types_of f.parts.types) a) d e))
+direct_reached p f pushed (node t (load a)) d e = p.load t a (plain_reached p a (plain_if (is_plain a) (kept_at (place_of f pushed a) (access_of (types_of f.parts.types) a)) d e))
 direct_reached p f pushed (node t (address a)) d e = p.address t a (address_reached p f pushed a d e)
 direct_reached p f pushed (node t (decay a)) d e = p.decay t a (address_reached p f pushed a d e)
 direct_reached p f pushed (node t (convert a)) d e =
@@ -119,8 +107,8 @@ storing_reached {P = P} p f pushed a b =
     (λ d e. pointer_reached p f pushed a d (some_if (is_fixed (pointer_of f pushed a) || is_pure b) (pointer_of f pushed a) d e)) (direct_reached p f pushed b)
 
 -- the constant of a sum that is told with its pointer
-pub sum_reached : {P : Typed → Type 0} → Reaches P → (at : ℕ) (op : BinaryOp) (operands : Operands) (b : Typed) → sum_has_base at (added_bytes op operands (constant_in b)) ≡ true → P b
-sum_reached p at op operands b h = let z = sum_constant at op operands b h in constant_reached p b z.0 z.1
+pub sum_reached : {P : Typed → Type 0} → Reaches P → (place : Place) (op : BinaryOp) (operands : Operands) (b : Typed) → sum_has_base place (added_bytes op operands (constant_in b)) ≡ true → P b
+sum_reached p place op operands b h = let z = sum_constant place op operands b h in constant_reached p b z.0 z.1
 
 -- ---- comparisons
 

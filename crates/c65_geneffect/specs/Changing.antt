@@ -95,11 +95,11 @@ filling_of place access b = filling_at place access (number_in b)
 
 -- ---- sides that take no lines have no labels
 
-abbrev pub ChangesFree : Changing → Typed → Typed → Type 0
-ChangesFree (Fixed change) a b = uses None b ≡ 0
-ChangesFree (Loaded change) a b = uses None a ≡ 0
-ChangesFree Otherwise a b = Unit {0}
+abbrev pub ChangesFree : Changing → Typed → Type 0
+ChangesFree (Fixed change) b = uses None b ≡ 0
+ChangesFree (Loaded change) b = Unit {0}
+ChangesFree Otherwise b = Unit {0}
 
-abbrev pub FillsFree : Option Fill → Typed → Typed → Type 0
-FillsFree (Some fill) a b = (uses None a ≡ 0) × (uses None b ≡ 0)
-FillsFree None a b = Unit {0}
+abbrev pub FillsFree : Option Fill → Typed → Type 0
+FillsFree (Some fill) b = uses None b ≡ 0
+FillsFree None b = Unit {0}

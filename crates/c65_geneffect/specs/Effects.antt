@@ -14,7 +14,6 @@ use Rattle.c65_genload.specs.declared.places.Access.{Access}
 use Rattle.c65_genexpr.specs.declared.wanted.Wanted.TheVariants.{Value}
 use Rattle.c65_genexpr.specs.Types.{bare, access_of, target_bytes}
 use Rattle.c65_genexpr.specs.Places.{place_of}
-use Rattle.c65_genexpr.specs.Storing.{target_code}
 use Rattle.c65_genexpr.specs.Steps.{amount_of, step_code}
 use Rattle.c65_genexpr.specs.Uses.{uses, node_uses}
 use Rattle.c65_genexpr.specs.Code.{expr_code, node_code, base_code}
@@ -32,7 +31,7 @@ closed label lines = lines ++ (Label label ∷ [])
 
 -- from the lines of the place's base
 abbrev pub fixed_code : Change → Place → ℕ → List Line → List Line
-fixed_code change place label base = target_code place base ++ (point_code place ++ change_code change label)
+fixed_code change place label base = base ++ (point_code place ++ change_code change label)
 
 -- or of the whole for its value
 abbrev pub stepped_by : Option Change → Place → ℕ → List Line → List Line → List Line
@@ -42,7 +41,7 @@ stepped_by None place label base whole = closed label whole
 -- and of the right side
 abbrev pub changed_by : Changing → Place → ℕ → List Line → List Line → List Line → List Line
 changed_by (Fixed change) place label left right whole = fixed_code change place label left
-changed_by (Loaded change) place label left right whole = right ++ change_code change label
+changed_by (Loaded change) place label left right whole = left ++ (right ++ change_code change label)
 changed_by Otherwise place label left right whole = closed label whole
 
 -- elements have so many bytes; a number has one
@@ -51,16 +50,17 @@ changed_code f pushed fresh op size a b whole =
     let place = place_of f pushed a in
     changed_by (changing_of op size place (access_of (types_of f.parts.types) a) b) place fresh (base_code f pushed (fresh + 1) a) (expr_code f pushed (fresh + 1 + uses None a) Value b) whole
 
-abbrev pub filled_or : Option Fill → List Line → List Line
-filled_or (Some fill) whole = fill_code fill.byte fill.low fill.high
-filled_or None whole = whole
+-- from the lines of the place's base, or of the whole for its value
+abbrev pub filled_or : Option Fill → List Line → List Line → List Line
+filled_or (Some fill) base whole = base ++ fill_code fill.byte fill.low fill.high
+filled_or None base whole = whole
 
 abbrev pub step_effect : Framed → ℕ → ℕ → StepKind → Typed → List Line
 step_effect f pushed fresh how e =
     let place = place_of f pushed e in
     let access = access_of (types_of f.parts.types) e in
     let base = base_code f pushed (fresh + 1) e in
-    stepped_by (stepping_of how (target_bytes f (bare e)) place access) place fresh base (target_code place base ++ step_code (in_front how) place access (amount_of f (in_front how) (bare e)))
+    stepped_by (stepping_of how (target_bytes f (bare e)) place access) place fresh base (base ++ step_code (in_front how) place access (amount_of f (in_front how) (bare e)))
 
 abbrev mutual
   pub effect_code : Framed → ℕ → ℕ → Typed → List Line
@@ -69,7 +69,7 @@ abbrev mutual
   pub node_effect : Framed → ℕ → ℕ → QTy → Node → List Line
   node_effect f pushed fresh t (convert e) = effect_code f pushed fresh e
   node_effect f pushed fresh t (comma a b) = effect_code f pushed fresh a ++ effect_code f pushed (fresh + effect_uses a) b
-  node_effect f pushed fresh t (assign a b) = filled_or (filling_of (place_of f pushed a) (access_of (types_of f.parts.types) a) b) (node_code f pushed fresh Value t (assign a b))
+  node_effect f pushed fresh t (assign a b) = filled_or (filling_of (place_of f pushed a) (access_of (types_of f.parts.types) a) b) (base_code f pushed fresh a) (node_code f pushed fresh Value t (assign a b))
   node_effect f pushed fresh t (assign_op op k a b) = changed_code f pushed fresh op 1 a b (node_code f pushed (fresh + 1) Value t (assign_op op k a b))
   node_effect f pushed fresh t (assign_step op a b) = changed_code f pushed fresh op (target_bytes f (bare a)) a b (node_code f pushed (fresh + 1) Value t (assign_step op a b))
   node_effect f pushed fresh t (step how e) = step_effect f pushed fresh how e

@@ -127,7 +127,7 @@ fn form_of(
 }
 
 /// How an assignment with an operator changes what is kept at the place of its left side, where so many
-/// bytes wait and an element has so many. A side that is left out has no labels.
+/// bytes wait and an element has so many. A right side that is left out has no labels.
 pub fn changing_of(
     op: BinaryOp,
     size: u32,
@@ -138,7 +138,7 @@ pub fn changing_of(
     b: &TExpr,
 ) -> Changing
     ensures exact { result ≡ changing_of op size (place_of frame.now pushed (typed_of a.now)) access (typed_of b.now) }
-    ensures free { ChangesFree result (typed_of a.now) (typed_of b.now) }
+    ensures free { ChangesFree result (typed_of b.now) }
 {
     form_of(op, size, frame, pushed, access, a, b)
 }
@@ -182,7 +182,7 @@ fn filling_by(frame: &Frame<'_>, pushed: u16, access: Access, a: &TExpr, b: &TEx
     }
 }
 
-/// What an assignment of a number fills with one byte, if it does. Its sides have no labels then.
+/// What an assignment of a number fills with one byte, if it does. Its right side has no labels then.
 pub fn filling_of(
     frame: &Frame<'_>,
     pushed: u16,
@@ -191,7 +191,7 @@ pub fn filling_of(
     b: &TExpr,
 ) -> Option<Fill>
     ensures exact { result ≡ filling_of (place_of frame.now pushed (typed_of a.now)) access (typed_of b.now) }
-    ensures free { FillsFree result (typed_of a.now) (typed_of b.now) }
+    ensures free { FillsFree result (typed_of b.now) }
 {
     filling_by(frame, pushed, access, a, b)
 }

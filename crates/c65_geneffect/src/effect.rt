@@ -4,7 +4,7 @@ ghost use Rattle.c65_csem.specs.Views.{typed_of};
 ghost use Rattle.c65_ctype.specs.Views.{types_of};
 ghost use Rattle.c65_genwide.specs.Lines.{grown, Keeps};
 ghost use Rattle.c65_genexpr.specs.declared.wanted.Wanted.TheVariants.{Value};
-ghost use Rattle.c65_genexpr.specs.Code.{expr_code};
+ghost use Rattle.c65_genexpr.specs.Code.{expr_code, base_code};
 ghost use Rattle.c65_genexpr.specs.Places.{place_of};
 ghost use Rattle.c65_genexpr.specs.Types.{access_of};
 ghost use Rattle.c65_genexpr.specs.Uses.{uses};
@@ -19,7 +19,7 @@ use c65_code::Draft;
 use c65_code::Line::Label;
 use c65_csem::{TExpr, TKind};
 use c65_genexpr::{
-    Wanted, access_of, amount_of, leave_out, place_of, put_expr, put_place, put_step, target_bytes,
+    Wanted, access_of, amount_of, leave_out, place_of, put_base, put_expr, put_step, target_bytes,
 };
 use c65_genframe::Frame;
 use c65_genwide::{next_label, put};
@@ -64,13 +64,13 @@ fn put_filled(
     draft: &mut Draft,
 ) -> Result<(), AllocError>
     requires { uses None (typed_of e.now) ≡ uses None (typed_of a.now) + uses None (typed_of b.now) }
-    ensures lines { OnOk result (draft.new ≡ grown draft.old (filled_or (filling_of (place_of frame.now pushed (typed_of a.now)) (access_of (types_of frame.now.parts.types) (typed_of a.now)) (typed_of b.now)) (expr_code frame.now pushed draft.old.labels Value (typed_of e.now))) (uses None (typed_of e.now))) }
+    ensures lines { OnOk result (draft.new ≡ grown draft.old (filled_or (filling_of (place_of frame.now pushed (typed_of a.now)) (access_of (types_of frame.now.parts.types) (typed_of a.now)) (typed_of b.now)) (base_code frame.now pushed draft.old.labels (typed_of a.now)) (expr_code frame.now pushed draft.old.labels Value (typed_of e.now))) (uses None (typed_of e.now))) }
     ensures kept { OnErr result (Keeps draft.old draft.new) }
 {
     let access = access_of(&frame.parts().types, a);
     match filling_of(frame, pushed, access, a, b) {
         Some(fill) => {
-            leave_out(a, Wanted::Value, draft)?;
+            put_base(a, frame, pushed, draft)?;
             leave_out(b, Wanted::Value, draft)?;
             put_fill(fill.byte, fill.low, fill.high, draft)
         }
@@ -99,13 +99,13 @@ fn put_changed(
     let access = access_of(&frame.parts().types, a);
     match changing_of(op, size, frame, pushed, access, a, b) {
         Changing::Fixed(change) => {
-            put_place(a, place, frame, pushed, draft)?;
+            put_base(a, frame, pushed, draft)?;
             leave_out(b, Wanted::Value, draft)?;
             put_point(place, draft)?;
             put_change(change, label, draft)
         }
         Changing::Loaded(change) => {
-            leave_out(a, Wanted::Value, draft)?;
+            put_base(a, frame, pushed, draft)?;
             put_expr(b, frame, pushed, draft)?;
             put_change(change, label, draft)
         }
@@ -131,7 +131,7 @@ fn put_stepped(
     let label = next_label(draft)?;
     let place = place_of(frame, pushed, a);
     let access = access_of(&frame.parts().types, a);
-    put_place(a, place, frame, pushed, draft)?;
+    put_base(a, frame, pushed, draft)?;
     match stepping_of(how, target_bytes(frame, &a.ty.ty), place, access) {
         Some(change) => {
             put_point(place, draft)?;

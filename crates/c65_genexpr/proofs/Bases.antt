@@ -9,7 +9,7 @@ use Rattle.c65_genframe.specs.Frames.{Framed}
 use Rattle.c65_genwide.specs.Lines.{grown}
 use Rattle.c65_genexpr.specs.Types.{bare}
 use Rattle.c65_genexpr.specs.Operands.{operands_of, constant_in}
-use Rattle.c65_genexpr.specs.Places.{added_bytes, sum_has_base, offset_of}
+use Rattle.c65_genexpr.specs.Places.{added_bytes, sum_has_base, target_of}
 use Rattle.c65_genexpr.specs.Uses.{uses}
 use Rattle.c65_genexpr.specs.Code.{base_code, base_lines, pointer_base_code, pointer_lines, pointer_labels}
 use Rattle.c65_genexpr.proofs.Known.{sum_uses}
@@ -76,7 +76,7 @@ if_same false m n same = refl
 
 labels_are : (f : Framed) (pushed : ℕ) (e : Typed) → pointer_labels f pushed e ≡ uses None e
 labels_are f pushed (node t (binary op a b)) =
-    if_same (sum_has_base (offset_of f pushed a) (added_bytes op (operands_of f (bare a) (bare b)) (constant_in b))) (1 + uses None a) (uses None (node t (binary op a b))) (sum_uses (offset_of f pushed a) op (operands_of f (bare a) (bare b)) t a b)
+    if_same (sum_has_base (target_of f pushed a) (added_bytes op (operands_of f (bare a) (bare b)) (constant_in b))) (1 + uses None a) (uses None (node t (binary op a b))) (sum_uses (target_of f pushed a) op (operands_of f (bare a) (bare b)) t a b)
 labels_are f pushed (node t (constant z)) = refl
 labels_are f pushed (node t null) = refl
 labels_are f pushed (node t (literal n)) = refl

@@ -35,7 +35,7 @@ use Rattle.c65_genexpr.specs.declared.operands.Operands.{Operands}
 use Rattle.c65_genexpr.specs.declared.operands.Operands.TheVariants.{Numbers, PointerFirst, PointerLast, Pointers}
 use Rattle.c65_genexpr.specs.declared.storing.Storing.{Storing}
 use Rattle.c65_genexpr.specs.Types.{kind_of, bare, offset_at, access_of}
-use Rattle.c65_genexpr.specs.Places.{IsKnown, moved, has_base, added_bytes, sum_has_base, place_of}
+use Rattle.c65_genexpr.specs.Places.{is_plain, has_base, added_bytes, sum_has_base, place_of}
 use Rattle.c65_genexpr.specs.Operands.{constant_in}
 use Rattle.c65_genexpr.specs.Direct.{kept_at, address_at, address_of, takes_bytes, converted_if, direct_of, is_fixed, is_pure, is_byte, sides_of}
 use Rattle.c65_genexpr.specs.Comparing.{is_zero, zero_sense, tested_by, lowest, range_of, is_raised, raised, one_more, meeting, beside, changes, compared_by, comparing_of, held_by, or_held}
@@ -44,42 +44,6 @@ use Rattle.c65_genexpr.specs.Operating as operators
 use Rattle.c65_genexpr.specs.Uses.{uses}
 use Rattle.c65_genexpr.specs.Leaving.{ComparesFree, OperatesFree, StoresFree}
 use Rattle.c65_genexpr.specs.Storing.{pointer_of, through, by_value, by_pointer, storing_by, storing_of}
-
--- ---- places
-
-known_before : (place : Place) (n : ℕ) → IsKnown (moved place n) → IsKnown place
-known_before (Bank b) n h = tt
-known_before (Near at) n h = tt
-known_before (Data sym at) n h = tt
-known_before (Far at) n h = h
-
-pub known_uses : (f : Framed) (pushed : ℕ) (e : Typed) → IsKnown (place_of f pushed e) → uses None e ≡ 0
-known_uses f pushed (node t (object i)) h = refl
-known_uses f pushed (node t (member e m)) h = known_uses f pushed e (known_before (place_of f pushed e) (offset_at (types_of f.parts.types) (bare e) m) h)
-known_uses f pushed (node t (constant z)) h = refl
-known_uses f pushed (node t null) h = refl
-known_uses f pushed (node t (literal n)) h = refl
-known_uses f pushed (node t (func i)) h = refl
-known_uses f pushed (node t (deref e)) h = absurd h
-known_uses f pushed (node t (load e)) h = absurd h
-known_uses f pushed (node t (address e)) h = absurd h
-known_uses f pushed (node t (decay e)) h = absurd h
-known_uses f pushed (node t (convert e)) h = absurd h
-known_uses f pushed (node t (unary op e)) h = absurd h
-known_uses f pushed (node t (binary op a b)) h = absurd h
-known_uses f pushed (node t (both a b)) h = absurd h
-known_uses f pushed (node t (either a b)) h = absurd h
-known_uses f pushed (node t (choice c a b)) h = absurd h
-known_uses f pushed (node t (comma a b)) h = absurd h
-known_uses f pushed (node t (assign a b)) h = absurd h
-known_uses f pushed (node t (assign_op op k a b)) h = absurd h
-known_uses f pushed (node t (assign_step op a b)) h = absurd h
-known_uses f pushed (node t (step how e)) h = absurd h
-known_uses f pushed (node t (copy a b)) h = absurd h
-known_uses f pushed (node t (call g es)) h = absurd h
-known_uses f pushed (node t (pack e)) h = absurd h
-known_uses f pushed (node t (spill i e)) h = absurd h
-known_uses f pushed (node t rest) h = absurd h
 
 -- ---- constants
 
@@ -143,47 +107,48 @@ zero_uses s (node t (pack e)) h = cc
 zero_uses s (node t (spill i e)) h = cc
 zero_uses s (node t rest) h = cc
 
+-- ---- places
+
+pub plain_uses : (e : Typed) → is_plain e ≡ true → uses None e ≡ 0
+plain_uses (node t (constant z)) h = cc
+plain_uses (node t null) h = cc
+plain_uses (node t (literal n)) h = refl
+plain_uses (node t (object i)) h = refl
+plain_uses (node t (func i)) h = cc
+plain_uses (node t (deref e)) h = plain_uses e h
+plain_uses (node t (member e m)) h = plain_uses e h
+plain_uses (node t (load e)) h = cc
+plain_uses (node t (address e)) h = plain_uses e h
+plain_uses (node t (decay e)) h = plain_uses e h
+plain_uses (node t (convert e)) h = cc
+plain_uses (node t (unary op e)) h = cc
+plain_uses (node t (binary op a b)) h = cc
+plain_uses (node t (both a b)) h = cc
+plain_uses (node t (either a b)) h = cc
+plain_uses (node t (choice c a b)) h = cc
+plain_uses (node t (comma a b)) h = cc
+plain_uses (node t (assign a b)) h = cc
+plain_uses (node t (assign_op op k a b)) h = cc
+plain_uses (node t (assign_step op a b)) h = cc
+plain_uses (node t (step how e)) h = cc
+plain_uses (node t (copy a b)) h = cc
+plain_uses (node t (call g es)) h = cc
+plain_uses (node t (pack e)) h = cc
+plain_uses (node t (spill i e)) h = cc
+plain_uses (node t rest) h = cc
+
+chosen : {A : Type 0} (b : Bool) (o : Option A) → IsThere (if b then o else None) → b ≡ true
+chosen true o h = refl
+chosen false o h = absurd h
+
+when_plain : {A : Type 0} (e : Typed) (o : Option A) → IsThere (if is_plain e then o else None) → uses None e ≡ 0
+when_plain e o h = plain_uses e (chosen (is_plain e) o h)
+
 -- ---- direct values
 
-kept_known : (place : Place) (access : Access) → IsThere (kept_at place access) → IsKnown place
-kept_known (Bank b) access h = tt
-kept_known (Near at) access h = tt
-kept_known (Data sym at) access h = tt
-kept_known (Far at) access h = h
-
-address_known : (place : Place) → IsThere (address_at place) → IsKnown place
-address_known (Bank b) h = tt
-address_known (Near at) h = tt
-address_known (Data sym at) h = tt
-address_known (Far at) h = h
-
 address_uses : (f : Framed) (pushed : ℕ) (e : Typed) → IsThere (address_of f pushed e) → uses None e ≡ 0
-address_uses f pushed (node t (literal n)) h = refl
 address_uses f pushed (node t (func i)) h = refl
-address_uses f pushed (node t (object i)) h = refl
-address_uses f pushed (node t (member e m)) h = known_uses f pushed (node t (member e m)) (address_known (place_of f pushed (node t (member e m))) h)
-address_uses f pushed (node t (constant z)) h = refl
-address_uses f pushed (node t null) h = refl
-address_uses f pushed (node t (deref e)) h = absurd h
-address_uses f pushed (node t (load e)) h = absurd h
-address_uses f pushed (node t (address e)) h = absurd h
-address_uses f pushed (node t (decay e)) h = absurd h
-address_uses f pushed (node t (convert e)) h = absurd h
-address_uses f pushed (node t (unary op e)) h = absurd h
-address_uses f pushed (node t (binary op a b)) h = absurd h
-address_uses f pushed (node t (both a b)) h = absurd h
-address_uses f pushed (node t (either a b)) h = absurd h
-address_uses f pushed (node t (choice c a b)) h = absurd h
-address_uses f pushed (node t (comma a b)) h = absurd h
-address_uses f pushed (node t (assign a b)) h = absurd h
-address_uses f pushed (node t (assign_op op k a b)) h = absurd h
-address_uses f pushed (node t (assign_step op a b)) h = absurd h
-address_uses f pushed (node t (step how e)) h = absurd h
-address_uses f pushed (node t (copy a b)) h = absurd h
-address_uses f pushed (node t (call g es)) h = absurd h
-address_uses f pushed (node t (pack e)) h = absurd h
-address_uses f pushed (node t (spill i e)) h = absurd h
-address_uses f pushed (node t rest) h = absurd h
+address_uses f pushed (node t n) h = when_plain (node t n) (address_at (place_of f pushed (node t n))) h
 
 converted_there : (same : Bool) (to : IntType) (d : Option Direct) → IsThere (converted_if same to d) → IsThere d
 converted_there true to (Some d) h = tt
@@ -193,7 +158,7 @@ converted_there false to d h = absurd h
 pub direct_uses : (f : Framed) (pushed : ℕ) (e : Typed) → IsThere (direct_of f pushed e) → uses None e ≡ 0
 direct_uses f pushed (node t (constant z)) h = refl
 direct_uses f pushed (node t null) h = refl
-direct_uses f pushed (node t (load e)) h = known_uses f pushed e (kept_known (place_of f pushed e) (access_of (types_of f.parts.types) e) h)
+direct_uses f pushed (node t (load e)) h = when_plain e (kept_at (place_of f pushed e) (access_of (types_of f.parts.types) e)) h
 direct_uses f pushed (node t (address e)) h = address_uses f pushed e h
 direct_uses f pushed (node t (decay e)) h = address_uses f pushed e h
 direct_uses f pushed (node t (convert e)) h = direct_uses f pushed e (converted_there (takes_bytes (type_in t) (bare e)) (kind_of (type_in t)) (direct_of f pushed e) h)
@@ -322,50 +287,50 @@ stores_free f pushed a b =
 
 -- ---- sums that are left out
 
-sum_alone : (at : ℕ) (op : BinaryOp) (operands : Operands) (z : Option ℤ) → sum_has_base at (added_bytes op operands z) ≡ true → relation_of op ≡ None
-sum_alone at Add operands z h = refl
-sum_alone at Mul operands z h = cc
-sum_alone at Div operands z h = cc
-sum_alone at Rem operands z h = cc
-sum_alone at Sub operands z h = cc
-sum_alone at Shl operands z h = cc
-sum_alone at Shr operands z h = cc
-sum_alone at Lt operands z h = cc
-sum_alone at Gt operands z h = cc
-sum_alone at Le operands z h = cc
-sum_alone at Ge operands z h = cc
-sum_alone at Eq operands z h = cc
-sum_alone at Ne operands z h = cc
-sum_alone at BitAnd operands z h = cc
-sum_alone at BitXor operands z h = cc
-sum_alone at BitOr operands z h = cc
+sum_alone : (place : Place) (op : BinaryOp) (operands : Operands) (z : Option ℤ) → sum_has_base place (added_bytes op operands z) ≡ true → relation_of op ≡ None
+sum_alone place Add operands z h = refl
+sum_alone place Mul operands z h = cc
+sum_alone place Div operands z h = cc
+sum_alone place Rem operands z h = cc
+sum_alone place Sub operands z h = cc
+sum_alone place Shl operands z h = cc
+sum_alone place Shr operands z h = cc
+sum_alone place Lt operands z h = cc
+sum_alone place Gt operands z h = cc
+sum_alone place Le operands z h = cc
+sum_alone place Ge operands z h = cc
+sum_alone place Eq operands z h = cc
+sum_alone place Ne operands z h = cc
+sum_alone place BitAnd operands z h = cc
+sum_alone place BitXor operands z h = cc
+sum_alone place BitOr operands z h = cc
 
-added_there : (at : ℕ) (op : BinaryOp) (operands : Operands) (z : Option ℤ) → sum_has_base at (added_bytes op operands z) ≡ true → IsThere z
-added_there at op operands (Some z) h = tt
-added_there at Add (PointerFirst size) None h = cc
-added_there at Add (PointerLast size) None h = cc
-added_there at Add (Numbers kind) None h = cc
-added_there at Add (Pointers size) None h = cc
-added_there at Mul operands None h = cc
-added_there at Div operands None h = cc
-added_there at Rem operands None h = cc
-added_there at Sub operands None h = cc
-added_there at Shl operands None h = cc
-added_there at Shr operands None h = cc
-added_there at Lt operands None h = cc
-added_there at Gt operands None h = cc
-added_there at Le operands None h = cc
-added_there at Ge operands None h = cc
-added_there at Eq operands None h = cc
-added_there at Ne operands None h = cc
-added_there at BitAnd operands None h = cc
-added_there at BitXor operands None h = cc
-added_there at BitOr operands None h = cc
+added_there : (place : Place) (op : BinaryOp) (operands : Operands) (z : Option ℤ) → sum_has_base place (added_bytes op operands z) ≡ true → IsThere z
+added_there place op operands (Some z) h = tt
+added_there place Add (PointerFirst size) None h = cc
+added_there place Add (PointerLast size) None h = cc
+added_there place Add (Numbers kind) None h = cc
+added_there place Add (Pointers size) None h = cc
+added_there place Mul operands None h = cc
+added_there place Div operands None h = cc
+added_there place Rem operands None h = cc
+added_there place Sub operands None h = cc
+added_there place Shl operands None h = cc
+added_there place Shr operands None h = cc
+added_there place Lt operands None h = cc
+added_there place Gt operands None h = cc
+added_there place Le operands None h = cc
+added_there place Ge operands None h = cc
+added_there place Eq operands None h = cc
+added_there place Ne operands None h = cc
+added_there place BitAnd operands None h = cc
+added_there place BitXor operands None h = cc
+added_there place BitOr operands None h = cc
 
 -- one label beside those of the pointer
-pub sum_uses : (at : ℕ) (op : BinaryOp) (operands : Operands) (t : QTy) (a b : Typed) → sum_has_base at (added_bytes op operands (constant_in b)) ≡ true → uses None (node t (binary op a b)) ≡ 1 + uses None a
-sum_uses at op operands t a b h =
-    rw (sum_alone at op operands (constant_in b) h, constant_uses b (added_there at op operands (constant_in b) h), add-zero) refl
+pub sum_uses : (place : Place) (op : BinaryOp) (operands : Operands) (t : QTy) (a b : Typed) → sum_has_base place (added_bytes op operands (constant_in b)) ≡ true → uses None (node t (binary op a b)) ≡ 1 + uses None a
+sum_uses place op operands t a b h =
+    rw (sum_alone place op operands (constant_in b) h, constant_uses b (added_there place op operands (constant_in b) h), add-zero) refl
 
 pub operates_free : (f : Framed) (pushed : ℕ) (op : BinaryOp) (operands : Operands) (a b : Typed) → OperatesFree (operating_of f pushed op operands a b) a b
 operates_free f pushed op operands a b = or_held_operates a b (reading_of f pushed op operands a b) _ (reads_free f pushed op operands a b) (held_free a b (is_light f pushed b) (held_form op operands))

@@ -21,7 +21,6 @@ use Rattle.c65_genframe.specs.Symbols.{numbers_of, literal_symbol, function_symb
 use Rattle.c65_genframe.specs.Frames.{Framed, type_bytes}
 use Rattle.c65_genwide.specs.Wide.{width_of}
 use Rattle.c65_genload.specs.declared.places.Place.{Place}
-use Rattle.c65_genload.specs.declared.places.Place.TheVariants.{Far}
 use Rattle.c65_genload.specs.declared.places.Access.{Access}
 use Rattle.c65_genload.specs.Places.{held, type_in, extent_of, extent_by}
 use Rattle.c65_genload.specs.Numbers.{number_code}
@@ -39,14 +38,14 @@ use Rattle.c65_genexpr.specs.declared.operands.Operands.{Operands}
 use Rattle.c65_genexpr.specs.declared.operands.Operands.TheVariants.{Numbers, PointerFirst}
 use Rattle.c65_genexpr.specs.declared.types.Outcome.{Outcome}
 use Rattle.c65_genexpr.specs.Types.{kind_of, outcome_of, kind_in, bare, offset_at, access_of, target_bytes}
-use Rattle.c65_genexpr.specs.Places.{more, has_base, added_bytes, sum_has_base, place_of, offset_of, object_code, rest_code}
+use Rattle.c65_genexpr.specs.Places.{more, has_base, added_bytes, sum_has_base, object_place, place_of, target_of, object_code, target_code, rest_code}
 use Rattle.c65_genexpr.specs.Wanted.{decided_code, wanted_by, handed, wanted, sense, aimed, inner, truth_by, is_straight, way, way_labels, joined}
 use Rattle.c65_genexpr.specs.Spills.{spill_code}
 use Rattle.c65_genexpr.specs.Operands.{residue_of, constant_in, operands_of, computes, unary_code, same_truth, conversion_by}
 use Rattle.c65_genexpr.specs.Direct.{kept_at, own_bytes}
 use Rattle.c65_genexpr.specs.Comparing.{relation_by, tested_by, comparing_of, below_side, comparison_by}
 use Rattle.c65_genexpr.specs.Operating.{operating_of, below_operand, operator_by}
-use Rattle.c65_genexpr.specs.Storing.{target_code, storing_of, below_value, assigned_by}
+use Rattle.c65_genexpr.specs.Storing.{storing_of, below_value, assigned_by}
 use Rattle.c65_genexpr.specs.Steps.{amount_of, step_code, open_code, close_code}
 use Rattle.c65_genexpr.specs.Arguments.{is_fast, is_counted, stays, passed_size, passed_of, argument_code, argument_bytes}
 use Rattle.c65_genexpr.specs.Calls.{named, named_code, pointer_code, direct_code}
@@ -61,15 +60,15 @@ abbrev pub constant_code : Wanted → Width → ℕ → List Line
 constant_code Value width n = number_code width n
 constant_code (Test to s) width n = decided_code (not (n == 0)) s to
 
--- a number that is kept at a known place is tested where it lies; else it is loaded
-abbrev pub tested_load : Option Direct → IntType → Bool → ℕ → List Line → List Line
-tested_load (Some d) kind s to lines = zero_test_code (own_bytes d (extent_of kind)) s to
-tested_load None kind s to lines = wanted (Test to s) (width_of kind) lines
+-- a number that is kept at a known place is tested where it lies, behind the lines of its base; else it is loaded
+abbrev pub tested_load : Option Direct → IntType → Bool → ℕ → List Line → List Line → List Line
+tested_load (Some d) kind s to base lines = base ++ zero_test_code (own_bytes d (extent_of kind)) s to
+tested_load None kind s to base lines = wanted (Test to s) (width_of kind) lines
 
--- behind the address of a place that is anywhere
+-- behind the base of a place
 abbrev pub load_by : Wanted → Place → Access → List Line → List Line
-load_by Value place access lines = lines ++ load_code place access
-load_by (Test to s) place access lines = tested_load (kept_at place access) (type_in access) s to (lines ++ load_code place access)
+load_by Value place access base = base ++ load_code place access
+load_by (Test to s) place access base = tested_load (kept_at place access) (type_in access) s to base (base ++ load_code place access)
 
 -- the bytes that wait for the right side of a compound assignment
 abbrev pub behind_open : Framed → ℕ → Operands → Typed → ℕ
@@ -80,7 +79,7 @@ abbrev pub compound : Framed → ℕ → BinaryOp → Operands → Typed → Typ
 compound f pushed op operands a b left right =
     let place = place_of f pushed a in
     let access = access_of (types_of f.parts.types) a in
-    target_code place left ++ (open_code place access (computes operands) ++ (right ++ close_code op operands (kind_in b) place access))
+    left ++ (open_code place access (computes operands) ++ (right ++ close_code op operands (kind_in b) place access))
 
 -- a call, from the lines of the called pointer and of the arguments: without a pointer that waits, and above one; below
 -- arguments alone it waits
@@ -88,11 +87,6 @@ abbrev pub call_by : Framed → Option ℕ → Outcome → Typed → Nodes → L
 call_by f (Some i) given g es callee args above = args ++ named_code f i (is_counted (bare g)) (passed_of f (is_fast (bare g)) es) given
 call_by f None given g none callee args above = callee ++ direct_code (is_counted (bare g)) (passed_of f (is_fast (bare g)) none) given
 call_by f None given g (some e es) callee args above = callee ++ (push_code Ax ++ (above ++ pointer_code (is_counted (bare g)) (passed_of f (is_fast (bare g)) (some e es)) given))
-
--- the lines of a base, or else of the whole address
-abbrev pub base_by : Place → List Line → List Line → List Line
-base_by (Far at) base whole = base
-base_by place base whole = whole
 
 abbrev mutual
   pub expr_code : Framed → ℕ → ℕ → Wanted → Typed → List Line
@@ -106,7 +100,7 @@ abbrev mutual
   node_code f pushed fresh w t (func i) = wanted w (width_in t) (symbol_code (function_symbol (numbers_of f.parts) i) 0)
   node_code f pushed fresh w t (deref e) = wanted w (width_in t) (expr_code f pushed fresh Value e)
   node_code f pushed fresh w t (member e m) = wanted w (width_in t) (expr_code f pushed fresh Value e ++ offset_code (offset_at (types_of f.parts.types) (bare e) m))
-  node_code f pushed fresh w t (load e) = load_by w (place_of f pushed e) (access_of (types_of f.parts.types) e) (target_code (place_of f pushed e) (base_code f pushed fresh e))
+  node_code f pushed fresh w t (load e) = load_by w (place_of f pushed e) (access_of (types_of f.parts.types) e) (base_code f pushed fresh e)
   node_code f pushed fresh w t (address e) = wanted w (width_in t) (expr_code f pushed fresh Value e)
   node_code f pushed fresh w t (decay e) = wanted w (width_in t) (expr_code f pushed fresh Value e)
   node_code f pushed fresh w t (convert e) =
@@ -151,18 +145,20 @@ abbrev mutual
       let operands = PointerFirst (target_bytes f (bare a)) in
       wanted w (width_in t) (compound f pushed op operands a b (base_code f pushed fresh a) (expr_code f (behind_open f pushed operands a) (fresh + uses None a) Value b))
   node_code f pushed fresh w t (step how e) =
-      wanted w (width_in t) (target_code (place_of f pushed e) (base_code f pushed fresh e) ++ step_code how (place_of f pushed e) (access_of (types_of f.parts.types) e) (amount_of f how (bare e)))
+      wanted w (width_in t) (base_code f pushed fresh e ++ step_code how (place_of f pushed e) (access_of (types_of f.parts.types) e) (amount_of f how (bare e)))
   node_code f pushed fresh w t (copy a b) =
       wanted w (width_in t) (expr_code f pushed fresh Value a ++ (push_code Ax ++ (expr_code f (more pushed 2) (fresh + uses None a) Value b ++ copy_code (type_bytes f (types.type_in t)))))
   node_code f pushed fresh w t (call g es) =
       wanted w (width_in t) (call_by f (named g) (outcome_of f (types.type_in t)) g es (expr_code f pushed fresh Value g) (args_code f pushed fresh (is_fast (bare g)) es) (args_code f (more pushed 2) (fresh + uses None g) (is_fast (bare g)) es))
   node_code f pushed fresh w t (pack e) =
-      wanted w (width_in t) (target_code (place_of f pushed e) (base_code f pushed fresh e) ++ bytes_code (place_of f pushed e) (extent_by (type_bytes f (types.type_in t))))
+      wanted w (width_in t) (base_code f pushed fresh e ++ bytes_code (place_of f pushed e) (extent_by (type_bytes f (types.type_in t))))
   node_code f pushed fresh w t (spill i e) = wanted w (width_in t) (expr_code f pushed fresh Value e ++ spill_code (object_code f pushed i) (extent_by (type_bytes f (types.type_in t))))
   node_code f pushed fresh w t rest = wanted w (width_in t) (rest_code f pushed)
 
-  -- the address behind which a place lies, as far as it tells
+  -- the address behind which a place lies, as far as it tells; of one that is known only the labels of the sums that tell it
   pub base_code : Framed → ℕ → ℕ → Typed → List Line
+  base_code f pushed fresh (node t (literal n)) = []
+  base_code f pushed fresh (node t (object i)) = target_code (object_place f pushed i) (object_code f pushed i)
   base_code f pushed fresh (node t (deref e)) = pointer_base_code f pushed fresh e
   base_code f pushed fresh (node t (member e m)) =
       let n = offset_at (types_of f.parts.types) (bare e) m in
@@ -172,9 +168,10 @@ abbrev mutual
   -- the same of a pointer; the label of a sum that is left out is placed all the same
   pub pointer_base_code : Framed → ℕ → ℕ → Typed → List Line
   pointer_base_code f pushed fresh (node t (binary op a b)) =
-      if sum_has_base (offset_of f pushed a) (added_bytes op (operands_of f (bare a) (bare b)) (constant_in b)) then Label fresh ∷ pointer_base_code f pushed (fresh + 1) a
+      if sum_has_base (target_of f pushed a) (added_bytes op (operands_of f (bare a) (bare b)) (constant_in b)) then Label fresh ∷ pointer_base_code f pushed (fresh + 1) a
       else node_code f pushed fresh Value t (binary op a b)
-  pointer_base_code f pushed fresh (node t (decay e)) = base_by (place_of f pushed e) (base_code f pushed fresh e) (expr_code f pushed fresh Value e)
+  pointer_base_code f pushed fresh (node t (address e)) = base_code f pushed fresh e
+  pointer_base_code f pushed fresh (node t (decay e)) = base_code f pushed fresh e
   pointer_base_code f pushed fresh (node t n) = node_code f pushed fresh Value t n
 
   -- arguments from left to right
@@ -218,13 +215,15 @@ joint_code f pushed own to s stop a b =
     joined straight own (expr_code f pushed first (Test (way straight to own) stop) a) (expr_code f pushed (first + uses (Some stop) a) (Test to s) b)
 
 abbrev pub load_test_code : Framed → ℕ → ℕ → ℕ → Bool → Typed → List Line
-load_test_code f pushed fresh to s e = load_by (Test to s) (place_of f pushed e) (access_of (types_of f.parts.types) e) (target_code (place_of f pushed e) (base_code f pushed fresh e))
+load_test_code f pushed fresh to s e = load_by (Test to s) (place_of f pushed e) (access_of (types_of f.parts.types) e) (base_code f pushed fresh e)
 
 -- the base of a part, so far behind the beginning
 abbrev pub part_base_code : Framed → ℕ → ℕ → ℕ → Typed → List Line
 part_base_code f pushed fresh n e = if has_base (place_of f pushed e) n then base_code f pushed fresh e else expr_code f pushed fresh Value e ++ offset_code n
 
 abbrev pub node_base_code : Framed → ℕ → ℕ → QTy → Node → List Line
+node_base_code f pushed fresh t (literal n) = []
+node_base_code f pushed fresh t (object i) = target_code (object_place f pushed i) (object_code f pushed i)
 node_base_code f pushed fresh t (deref e) = pointer_base_code f pushed fresh e
 node_base_code f pushed fresh t (member e m) = part_base_code f pushed fresh (offset_at (types_of f.parts.types) (bare e) m) e
 node_base_code f pushed fresh t n = node_code f pushed fresh Value t n
@@ -235,8 +234,9 @@ base_lines f pushed fresh (node t n) = node_base_code f pushed fresh t n
 -- the base of a pointer, and how many labels it has
 abbrev pub node_pointer_code : Framed → ℕ → ℕ → QTy → Node → List Line
 node_pointer_code f pushed fresh t (binary op a b) =
-    if sum_has_base (offset_of f pushed a) (added_bytes op (operands_of f (bare a) (bare b)) (constant_in b)) then Label fresh ∷ pointer_base_code f pushed (fresh + 1) a else node_code f pushed fresh Value t (binary op a b)
-node_pointer_code f pushed fresh t (decay e) = base_by (place_of f pushed e) (base_code f pushed fresh e) (expr_code f pushed fresh Value e)
+    if sum_has_base (target_of f pushed a) (added_bytes op (operands_of f (bare a) (bare b)) (constant_in b)) then Label fresh ∷ pointer_base_code f pushed (fresh + 1) a else node_code f pushed fresh Value t (binary op a b)
+node_pointer_code f pushed fresh t (address e) = base_code f pushed fresh e
+node_pointer_code f pushed fresh t (decay e) = base_code f pushed fresh e
 node_pointer_code f pushed fresh t n = node_code f pushed fresh Value t n
 
 abbrev pub pointer_lines : Framed → ℕ → ℕ → Typed → List Line
@@ -244,7 +244,7 @@ pointer_lines f pushed fresh (node t n) = node_pointer_code f pushed fresh t n
 
 abbrev pub node_pointer_uses : Framed → ℕ → QTy → Node → ℕ
 node_pointer_uses f pushed t (binary op a b) =
-    if sum_has_base (offset_of f pushed a) (added_bytes op (operands_of f (bare a) (bare b)) (constant_in b)) then 1 + uses None a else node_uses None t (binary op a b)
+    if sum_has_base (target_of f pushed a) (added_bytes op (operands_of f (bare a) (bare b)) (constant_in b)) then 1 + uses None a else node_uses None t (binary op a b)
 node_pointer_uses f pushed t n = node_uses None t n
 
 abbrev pub pointer_labels : Framed → ℕ → Typed → ℕ

@@ -1,14 +1,14 @@
 -- Values whose bytes are read where they lie, trees that change nothing, and values of one byte.
-use Rattle.std.specs.Prelude.{ℕ, ◌==◌, nat_lt, ◌&&◌, ◌||◌, Bool, true, false, Option, Some, None, option_and_then, List, [], ◌∷◌}
+use Rattle.std.specs.Prelude.{ℕ, ◌==◌, nat_lt, ◌&&◌, ◌||◌, if◌then◌else◌, Bool, true, false, Option, Some, None, option_and_then, List, [], ◌∷◌}
 use Rattle.c65_ints.specs.declared.types.IntType.{IntType}
 use Rattle.c65_ints.specs.declared.types.IntType.TheVariants.{SChar, UChar}
 use Rattle.c65_ctype.specs.Trees.{Ty, int, pointer, type_in}
 use Rattle.c65_ctype.specs.Views.{types_of}
-use Rattle.c65_csem.specs.Trees.{Typed, node, Node, constant, null, literal, func, deref, member, load, address, decay, convert, unary, binary, both, either, choice, comma, assign, assign_op, assign_step, step, copy, call, pack, spill}
+use Rattle.c65_csem.specs.Trees.{Typed, node, Node, constant, null, func, deref, member, load, address, decay, convert, unary, binary, both, either, choice, comma, assign, assign_op, assign_step, step, copy, call, pack, spill}
 use Rattle.c65_code.specs.declared.routine.Width.{Width}
 use Rattle.c65_code.specs.declared.routine.Width.TheVariants.{Ax, Eax}
 use Rattle.c65_genframe.specs.Frames.{Framed}
-use Rattle.c65_genframe.specs.Symbols.{numbers_of, literal_symbol, function_symbol}
+use Rattle.c65_genframe.specs.Symbols.{numbers_of, function_symbol}
 use Rattle.c65_genload.specs.Conversions.{size_of}
 use Rattle.c65_genload.specs.declared.places.Extent.{Extent}
 use Rattle.c65_genload.specs.declared.places.Extent.TheVariants.{One, Two}
@@ -23,7 +23,7 @@ use Rattle.c65_gendirect.specs.declared.compare.Sides.{Sides}
 use Rattle.c65_gendirect.specs.declared.compare.Sides.TheVariants.{Word, Long}
 use Rattle.c65_gendirect.specs.Bytes.{byte_of, converted}
 use Rattle.c65_genexpr.specs.Types.{kind_of, bare, access_of}
-use Rattle.c65_genexpr.specs.Places.{place_of}
+use Rattle.c65_genexpr.specs.Places.{place_of, is_plain}
 use Rattle.c65_genexpr.specs.Operands.{residue_of}
 
 -- a number that is kept at a known place
@@ -38,9 +38,8 @@ address_at place = None
 
 -- the address of a place, where it is known when the program is linked
 abbrev pub address_of : Framed → ℕ → Typed → Option Direct
-address_of f pushed (node t (literal n)) = Some (Address (literal_symbol (numbers_of f.parts) n) 0)
 address_of f pushed (node t (func i)) = Some (Address (function_symbol (numbers_of f.parts) i) 0)
-address_of f pushed e = address_at (place_of f pushed e)
+address_of f pushed e = if is_plain e then address_at (place_of f pushed e) else None
 
 -- conversions that take bytes as they are, and zeros above them
 abbrev pub takes_bytes : Ty → Ty → Bool
@@ -58,7 +57,7 @@ abbrev mutual
   pub direct_of : Framed → ℕ → Typed → Option Direct
   direct_of f pushed (node t (constant z)) = Some (Number (residue_of z))
   direct_of f pushed (node t null) = Some (Number 0)
-  direct_of f pushed (node t (load e)) = kept_at (place_of f pushed e) (access_of (types_of f.parts.types) e)
+  direct_of f pushed (node t (load e)) = if is_plain e then kept_at (place_of f pushed e) (access_of (types_of f.parts.types) e) else None
   direct_of f pushed (node t (address e)) = address_of f pushed e
   direct_of f pushed (node t (decay e)) = address_of f pushed e
   direct_of f pushed (node t (convert e)) = converted_if (takes_bytes (type_in t) (bare e)) (kind_of (type_in t)) (direct_of f pushed e)

@@ -3,11 +3,11 @@ use Rattle.std.specs.Prelude.{ℕ, ℤ, ◌+◌, ◌-◌, ◌*◌, ◌%◌, ◌=
 use Rattle.c65_base.specs.declared.operators.BinaryOp.{BinaryOp}
 use Rattle.c65_base.specs.declared.operators.BinaryOp.TheVariants.{Add}
 use Rattle.c65_ctype.specs.Views.{types_of}
-use Rattle.c65_csem.specs.Trees.{Typed, node, object, deref, member, decay, binary}
+use Rattle.c65_csem.specs.Trees.{Typed, node, literal, object, deref, member, address, decay, binary}
 use Rattle.c65_code.specs.declared.line.Line.{Line}
 use Rattle.c65_genframe.specs.declared.home.Home.{Home}
 use Rattle.c65_genframe.specs.declared.home.Home.TheVariants as homes
-use Rattle.c65_genframe.specs.Symbols.{numbers_of, object_symbol}
+use Rattle.c65_genframe.specs.Symbols.{numbers_of, literal_symbol, object_symbol}
 use Rattle.c65_genframe.specs.Frames.{Framed, home_of, is_raised, saved_bytes}
 use Rattle.c65_genload.specs.declared.places.Place.{Place}
 use Rattle.c65_genload.specs.declared.places.Place.TheVariants.{Bank, Near, Data, Far}
@@ -53,47 +53,53 @@ moved (Data sym at) n = Data sym (more at (n % 65536))
 moved (Bank b) n = if n == 0 then Bank b else Far 0
 moved (Far at) n = Far (farther at n)
 
--- a place whose address takes no lines of code
-abbrev pub IsKnown : Place → Type 0
-IsKnown (Far at) = ⊥
-IsKnown _ = Unit {0}
-
--- whether a part of what lies at a place is told from the same address
+-- whether a part of what lies at a place is told from the same address, or is known as the place is
 abbrev pub has_base : Place → ℕ → Bool
 has_base (Far at) n = within at n
-has_base place n = false
+has_base (Near at) n = nat_le n 252 && nat_le (at + n) 252
+has_base (Data sym at) n = true
+has_base (Bank b) n = n == 0
 
 -- the bytes of a constant that is added to a pointer
 abbrev pub added_bytes : BinaryOp → Operands → Option ℤ → Option ℕ
 added_bytes Add (PointerFirst size) (Some z) = Some (residue_of z * size % 4294967296)
 added_bytes op operands z = None
 
--- the same of a pointer and so many bytes
-abbrev pub sum_has_base : ℕ → Option ℕ → Bool
-sum_has_base at (Some n) = within at n
-sum_has_base at None = false
+-- the same of what a pointer names, and so many bytes behind it
+abbrev pub sum_has_base : Place → Option ℕ → Bool
+sum_has_base place (Some n) = has_base place n
+sum_has_base place None = false
 
-abbrev pub sum_offset : ℕ → Option ℕ → ℕ
-sum_offset at (Some n) = farther at n
-sum_offset at None = 0
-
-abbrev pub from_base : Place → ℕ
-from_base (Far at) = at
-from_base place = 0
+abbrev pub sum_place : Place → Option ℕ → Place
+sum_place place (Some n) = moved place n
+sum_place place None = Far 0
 
 -- Where a place lies; so many bytes wait. One whose address takes lines of code lies so far behind what its base's lines give.
 abbrev mutual
   pub place_of : Framed → ℕ → Typed → Place
+  place_of f pushed (node t (literal n)) = Data (literal_symbol (numbers_of f.parts) n) 0
   place_of f pushed (node t (object i)) = object_place f pushed i
   place_of f pushed (node t (member e m)) = moved (place_of f pushed e) (offset_at (types_of f.parts.types) (bare e) m)
-  place_of f pushed (node t (deref e)) = Far (offset_of f pushed e)
+  place_of f pushed (node t (deref e)) = target_of f pushed e
   place_of f pushed (node t _) = Far 0
 
-  -- how far behind its base a pointer is
-  pub offset_of : Framed → ℕ → Typed → ℕ
-  offset_of f pushed (node t (binary op a b)) = sum_offset (offset_of f pushed a) (added_bytes op (operands_of f (bare a) (bare b)) (constant_in b))
-  offset_of f pushed (node t (decay e)) = from_base (place_of f pushed e)
-  offset_of f pushed (node t _) = 0
+  -- the place that an address names: it is that of an object, or a constant behind it
+  pub target_of : Framed → ℕ → Typed → Place
+  target_of f pushed (node t (binary op a b)) = sum_place (target_of f pushed a) (added_bytes op (operands_of f (bare a) (bare b)) (constant_in b))
+  target_of f pushed (node t (address e)) = place_of f pushed e
+  target_of f pushed (node t (decay e)) = place_of f pushed e
+  target_of f pushed (node t _) = Far 0
+
+-- A place that is told without a sum. The label of a sum stands among lines, so a place that is told by one is not read beside others.
+abbrev mutual
+  pub is_plain : Typed → Bool
+  is_plain (node t (literal n)) = true
+  is_plain (node t (object i)) = true
+  is_plain (node t (deref e)) = is_plain e
+  is_plain (node t (member e m)) = is_plain e
+  is_plain (node t (address e)) = is_plain e
+  is_plain (node t (decay e)) = is_plain e
+  is_plain (node t _) = false
 
 -- the number of bytes that the call pushed lies at the sp that stands while no value waits
 abbrev pub soft_code : Bool → ℕ → ℕ → ℕ → List Line
@@ -108,6 +114,11 @@ code_at f pushed i (Some (homes.Soft d)) = soft_code (is_raised f i) pushed (mor
 
 abbrev pub object_code : Framed → ℕ → ℕ → List Line
 object_code f pushed i = code_at f pushed i (home_of f i)
+
+-- the address of a place, where it takes lines of code
+abbrev pub target_code : Place → List Line → List Line
+target_code (Far at) lines = lines
+target_code _ lines = []
 
 -- The address behind the further arguments, the first of which lies highest: they lie above the objects and the saved bytes of
 -- regbank, and all bytes that the call pushed are `stacked` more than they.

@@ -1,5 +1,5 @@
 -- Assignments to scalars (C90 6.3.16.1): their forms, and the lines of each from the lines of its two sides.
-use Rattle.std.specs.Prelude.{ℕ, ◌||◌, Bool, true, false, if◌then◌else◌, Option, Some, None, option_map, option_and_then, List, [], ◌++◌}
+use Rattle.std.specs.Prelude.{ℕ, ◌||◌, Bool, true, false, if◌then◌else◌, Option, Some, None, option_map, option_and_then, List, ◌++◌}
 use Rattle.c65_ctype.specs.Views.{types_of}
 use Rattle.c65_csem.specs.Trees.{Typed, node, deref, member}
 use Rattle.c65_code.specs.declared.line.Line.{Line}
@@ -26,11 +26,6 @@ use Rattle.c65_genexpr.specs.Types.{bare, offset_at, access_of}
 use Rattle.c65_genexpr.specs.Places.{more, has_base, place_of}
 use Rattle.c65_genexpr.specs.Direct.{direct_of, is_fixed, is_pure}
 use Rattle.c65_genexpr.specs.Operating.{word_in}
-
--- the address of a place, where it takes lines of code
-abbrev pub target_code : Place → List Line → List Line
-target_code (Far at) code = code
-target_code _ code = []
 
 -- the pointer behind which a place lies, where it is read where it lies
 abbrev mutual
@@ -91,4 +86,4 @@ abbrev pub assigned_by : Storing → Place → Access → List Line → List Lin
 assigned_by (Left at stored) place access a b = a ++ (read_store_code at stored ++ narrow_code (type_in access))
 assigned_by (RightByte at low high) place access a b = b ++ (byte_through_code at low high ++ narrow_code (type_in access))
 assigned_by (RightWord at low high) place access a b = b ++ word_through_code at low high
-assigned_by Stacked place access a b = target_code place a ++ (hold_code place ++ (b ++ store_code place access))
+assigned_by Stacked place access a b = a ++ (hold_code place ++ (b ++ store_code place access))

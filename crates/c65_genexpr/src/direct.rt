@@ -8,7 +8,7 @@ ghost use Rattle.c65_gendirect.specs.Tests.{zero_test_code};
 ghost use Rattle.c65_genexpr.specs.Direct.{kept_at, address_at, address_of, takes_bytes, direct_of, is_fixed, is_pure, is_unsigned_char, keeps_byte, is_byte, sides_of, listed, own_bytes};
 
 use crate::constants::residue_of;
-use crate::places::place_of;
+use crate::places::{is_plain, place_of};
 use crate::types::{access_of, kind_of};
 use c65_code::{Draft, Width};
 use c65_csem::{TExpr, TKind};
@@ -43,9 +43,9 @@ fn address_of(frame: &Frame<'_>, pushed: u16, e: &TExpr) -> Option<Direct>
     ensures { result ≡ address_of frame.now pushed (typed_of e.now) }
 {
     match &e.kind {
-        TKind::Literal(literal) => Some(Direct::Address(frame.numbers().literal(*literal), 0)),
         TKind::Func(function) => Some(Direct::Address(frame.numbers().function(*function), 0)),
-        _ => address_at(place_of(frame, pushed, e)),
+        _ if is_plain(e) => address_at(place_of(frame, pushed, e)),
+        _ => None,
     }
 }
 
@@ -67,10 +67,11 @@ pub fn direct_of(frame: &Frame<'_>, pushed: u16, e: &TExpr) -> Option<Direct>
     match &e.kind {
         TKind::Const(z) => Some(Direct::Number(residue_of(*z))),
         TKind::Null => Some(Direct::Number(0)),
-        TKind::Load(a) => kept_at(
+        TKind::Load(a) if is_plain(a) => kept_at(
             place_of(frame, pushed, a),
             access_of(&frame.parts().types, a),
         ),
+        TKind::Load(_) => None,
         TKind::Address(a) | TKind::Decay(a) => address_of(frame, pushed, a),
         TKind::Convert(a) => {
             if takes_bytes(&e.ty.ty, &a.ty.ty) {

@@ -3,14 +3,12 @@ ghost use Rattle.std.specs.Prelude.{◌≡◌, [], ◌+◌, true, false, not, So
 ghost use Rattle.c65_csem.specs.Views.{typed_of, nodes_of};
 ghost use Rattle.c65_genwide.specs.Lines.{grown, Keeps};
 ghost use Rattle.c65_genexpr.specs.Arguments.{passed_of};
-ghost use Rattle.c65_genexpr.specs.Places.{place_of};
 ghost use Rattle.c65_genexpr.specs.Wanted.{sense_of, is_straight, way_labels};
 ghost use Rattle.c65_genexpr.specs.declared.wanted.Wanted.TheVariants.{Value, Test};
 ghost use Rattle.c65_genexpr.specs.Comparing.{on, relation_by};
 ghost use Rattle.c65_genexpr.specs.Leaving.{IsFree};
-ghost use Rattle.c65_genexpr.specs.Storing.{target_code};
 ghost use Rattle.c65_genexpr.specs.Uses.{uses, head_uses, args_uses, unary_uses, comparison_uses};
-ghost use Rattle.c65_genexpr.specs.Code.{expr_code, base_by, base_code, base_lines, part_base_code, pointer_base_code, pointer_lines, pointer_labels, load_test_code, plain_test_code, unary_value_code, operator_code, comparison_code, joint_code, choice_code, assign_code, compound_code, call_code, args_code};
+ghost use Rattle.c65_genexpr.specs.Code.{expr_code, base_code, base_lines, part_base_code, pointer_base_code, pointer_lines, pointer_labels, load_test_code, plain_test_code, unary_value_code, operator_code, comparison_code, joint_code, choice_code, assign_code, compound_code, call_code, args_code};
 
 use crate::arguments::{
     Passed, argument_bytes, is_counted, is_fast, joined, passed_size, put_argument, stays,
@@ -24,7 +22,7 @@ use crate::operands::{
     Operands, computes, operands_of, put_behind, put_between, put_conversion, put_unary, same_truth,
 };
 use crate::operating::{Operating, operating_of, put_form, put_stacked, put_waiting};
-use crate::places::{has_base, is_told, more, place_of, put_object, put_rest};
+use crate::places::{has_base, is_told, more, place_of, put_object, put_rest, put_unless_known};
 use crate::spills::put_spill;
 use crate::storing::{Storing, storing_of};
 use crate::types::{Outcome, access_of, kind_of, offset_at, outcome_of, target_bytes};
@@ -43,8 +41,8 @@ use c65_gendirect::{
 };
 use c65_genframe::Frame;
 use c65_genload::{
-    Place, copy, extent_by, held, hold, load, load_bytes, number, push, put_offset, put_symbol,
-    store, value_type, waiting,
+    copy, extent_by, held, hold, load, load_bytes, number, push, put_offset, put_symbol, store,
+    value_type, waiting,
 };
 use c65_genwide::{narrow, next_label, put, width_of};
 use c65_mach::Mode::Absolute;
@@ -75,7 +73,7 @@ pub fn put_expr(
         }
         TKind::Load(a) => {
             let place = place_of(frame, pushed, a);
-            put_target(a, place, frame, pushed, draft)?;
+            put_base(a, frame, pushed, draft)?;
             load(place, access_of(&frame.parts().types, a), draft)
         }
         TKind::Convert(a) => {
@@ -124,7 +122,7 @@ pub fn put_expr(
         }
         TKind::Step(how, a) => {
             let place = place_of(frame, pushed, a);
-            put_target(a, place, frame, pushed, draft)?;
+            put_base(a, frame, pushed, draft)?;
             let access = access_of(&frame.parts().types, a);
             let amount = steps::amount_of(frame, *how, &a.ty.ty);
             steps::put_step(*how, place, access, amount, draft)
@@ -141,7 +139,7 @@ pub fn put_expr(
         }
         TKind::Pack(a) => {
             let place = place_of(frame, pushed, a);
-            put_target(a, place, frame, pushed, draft)?;
+            put_base(a, frame, pushed, draft)?;
             load_bytes(place, extent_by(frame.bytes(&e.ty.ty)), draft)
         }
         TKind::Spill(object, a) => {
@@ -249,30 +247,15 @@ fn put_wanted(
     }
 }
 
-// The address of a place, where it takes lines of code.
+/// Puts the address behind which a place lies, as far as it tells, where so many bytes wait. Of one that is known only the
+/// labels of the sums that tell it are put.
 #[cycle(expression)]
-fn put_target(
+pub fn put_base(
     a: &TExpr,
-    place: Place,
     frame: &Frame<'_>,
     pushed: u16,
     draft: &mut Draft,
 ) -> Result<(), AllocError>
-    requires { place ≡ place_of frame.now pushed (typed_of a.now) }
-    ensures lines { OnOk result (draft.new ≡ grown draft.old (target_code place (base_code frame.now pushed draft.old.labels (typed_of a.now))) (uses None (typed_of a.now))) }
-    ensures kept { OnErr result (Keeps draft.old draft.new) }
-{
-    match place {
-        Place::Far(_) => put_base(a, frame, pushed, draft),
-        Place::Bank(_) | Place::Near(_) | Place::Data(_, _) => leaving::leave_place(
-            a, place, frame, pushed, draft,
-        ),
-    }
-}
-
-// The address behind which a place lies, as far as it tells.
-#[cycle(expression)]
-fn put_base(a: &TExpr, frame: &Frame<'_>, pushed: u16, draft: &mut Draft) -> Result<(), AllocError>
     ensures lines { OnOk result (draft.new ≡ grown draft.old (base_code frame.now pushed draft.old.labels (typed_of a.now)) (uses None (typed_of a.now))) }
     ensures kept { OnErr result (Keeps draft.old draft.new) }
 {
@@ -291,6 +274,8 @@ fn put_base_by(
     ensures kept { OnErr result (Keeps draft.old draft.new) }
 {
     match &a.kind {
+        TKind::Literal(_) => put(draft, &[]),
+        TKind::Object(object) => put_unless_known(frame, pushed, *object, draft),
         TKind::Deref(pointer) => put_pointer_base(pointer, frame, pushed, draft),
         TKind::Member(e, member) => {
             let offset = offset_at(&frame.parts().types, &e.ty.ty, *member);
@@ -298,8 +283,6 @@ fn put_base_by(
         }
         TKind::Const(_)
         | TKind::Null
-        | TKind::Literal(_)
-        | TKind::Object(_)
         | TKind::Func(_)
         | TKind::Load(_)
         | TKind::Address(_)
@@ -377,17 +360,13 @@ fn put_pointer_by(
                 put_expr(e, frame, pushed, draft)
             }
         }
-        TKind::Decay(array) => {
-            let place = place_of(frame, pushed, array);
-            put_array_base(array, place, frame, pushed, draft)
-        }
+        TKind::Address(place) | TKind::Decay(place) => put_base(place, frame, pushed, draft),
         TKind::Const(_)
         | TKind::Null
         | TKind::Literal(_)
         | TKind::Object(_)
         | TKind::Func(_)
         | TKind::Load(_)
-        | TKind::Address(_)
         | TKind::Convert(_)
         | TKind::Unary(_, _)
         | TKind::And(_, _)
@@ -408,26 +387,6 @@ fn put_pointer_by(
     }
 }
 
-// The same of an array; one that is known has its whole address.
-#[cycle(expression)]
-fn put_array_base(
-    array: &TExpr,
-    place: Place,
-    frame: &Frame<'_>,
-    pushed: u16,
-    draft: &mut Draft,
-) -> Result<(), AllocError>
-    ensures lines { OnOk result (draft.new ≡ grown draft.old (base_by place (base_code frame.now pushed draft.old.labels (typed_of array.now)) (expr_code frame.now pushed draft.old.labels Value (typed_of array.now))) (uses None (typed_of array.now))) }
-    ensures kept { OnErr result (Keeps draft.old draft.new) }
-{
-    match place {
-        Place::Far(_) => put_base(array, frame, pushed, draft),
-        Place::Bank(_) | Place::Near(_) | Place::Data(_, _) => {
-            put_expr(array, frame, pushed, draft)
-        }
-    }
-}
-
 // A number that is kept at a known place is tested where it lies.
 #[cycle(expression)]
 fn put_load_test(
@@ -445,11 +404,11 @@ fn put_load_test(
     let access = access_of(&frame.parts().types, a);
     match kept_at(place, access) {
         Some(direct) => {
-            leaving::leave_place(a, place, frame, pushed, draft)?;
+            put_base(a, frame, pushed, draft)?;
             put_own_test(direct, value_type(access), sense, to, draft)
         }
         None => {
-            put_target(a, place, frame, pushed, draft)?;
+            put_base(a, frame, pushed, draft)?;
             load(place, access, draft)?;
             put_value_test(width_of(value_type(access)), sense, to, draft)
         }
@@ -691,7 +650,7 @@ fn put_assign(
             put_word_through(at, low, high, draft)
         }
         Storing::Stacked => {
-            put_target(a, place, frame, pushed, draft)?;
+            put_base(a, frame, pushed, draft)?;
             hold(place, draft)?;
             put_expr(b, frame, more(pushed, held(place)), draft)?;
             store(place, access, draft)
@@ -717,7 +676,7 @@ fn put_compound(
     let access = access_of(&frame.parts().types, a);
     let kind = computes(operands);
     let wait = more(held(place), waiting(width_of(kind)));
-    put_target(a, place, frame, pushed, draft)?;
+    put_base(a, frame, pushed, draft)?;
     steps::put_open(place, access, kind, draft)?;
     put_expr(b, frame, more(pushed, wait), draft)?;
     steps::put_close(op, operands, kind_of(&b.ty.ty), place, access, draft)
@@ -781,20 +740,4 @@ fn put_args(
             Ok(joined(kept, bytes, passed))
         }
     }
-}
-
-/// Puts the address behind which a place lies, where it takes lines of code. The place is that of the tree, where so many
-/// bytes wait.
-pub fn put_place(
-    a: &TExpr,
-    place: Place,
-    frame: &Frame<'_>,
-    pushed: u16,
-    draft: &mut Draft,
-) -> Result<(), AllocError>
-    requires { place ≡ place_of frame.now pushed (typed_of a.now) }
-    ensures lines { OnOk result (draft.new ≡ grown draft.old (target_code place (base_code frame.now pushed draft.old.labels (typed_of a.now))) (uses None (typed_of a.now))) }
-    ensures kept { OnErr result (Keeps draft.old draft.new) }
-{
-    put_target(a, place, frame, pushed, draft)
 }

@@ -1,9 +1,8 @@
 // Trees that take no lines, and so have no labels.
-ghost use Rattle.std.specs.Prelude.{◌≡◌, [], ◌∷◌, None, OnOk, OnErr};
+ghost use Rattle.std.specs.Prelude.{◌≡◌, [], ◌∷◌, OnOk, OnErr};
 ghost use Rattle.c65_csem.specs.Views.{typed_of};
 ghost use Rattle.c65_code.specs.declared.line.Line.TheVariants.{Label};
 ghost use Rattle.c65_genwide.specs.Lines.{grown, Keeps};
-ghost use Rattle.c65_genexpr.specs.Places.{IsKnown, place_of};
 ghost use Rattle.c65_genexpr.specs.Wanted.{sense_of};
 ghost use Rattle.c65_genexpr.specs.Uses.{uses};
 
@@ -11,8 +10,6 @@ use crate::wanted::Wanted;
 use c65_code::Draft;
 use c65_code::Line::Label;
 use c65_csem::TExpr;
-use c65_genframe::Frame;
-use c65_genload::Place;
 use c65_genwide::{next_label, put};
 use std::alloc::AllocError;
 
@@ -20,22 +17,6 @@ use std::alloc::AllocError;
 pub fn leave_out(e: &TExpr, wanted: Wanted, draft: &mut Draft) -> Result<(), AllocError>
     requires { uses (sense_of wanted) (typed_of e.now) ≡ 0 }
     ensures lines { OnOk result (draft.new ≡ grown draft.old [] (uses (sense_of wanted) (typed_of e.now))) }
-    ensures kept { OnErr result (Keeps draft.old draft.new) }
-{
-    put(draft, &[])
-}
-
-/// A place whose address takes no lines of code.
-pub fn leave_place(
-    a: &TExpr,
-    place: Place,
-    frame: &Frame<'_>,
-    pushed: u16,
-    draft: &mut Draft,
-) -> Result<(), AllocError>
-    requires at { place ≡ place_of frame.now pushed (typed_of a.now) }
-    requires known { IsKnown place }
-    ensures lines { OnOk result (draft.new ≡ grown draft.old [] (uses None (typed_of a.now))) }
     ensures kept { OnErr result (Keeps draft.old draft.new) }
 {
     put(draft, &[])

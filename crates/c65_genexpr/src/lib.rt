@@ -23,7 +23,7 @@ mod wanted;
 pub use c65_genframe::{Frame, Home};
 pub use constants::{constant_in, residue_of};
 pub use direct::is_pure;
-pub use expr::{put_expr, put_place, put_test};
+pub use expr::{put_base, put_expr, put_test};
 pub use leaving::leave_out;
 pub use places::place_of;
 pub use steps::{amount_of, put_step};

@@ -4,7 +4,7 @@ ghost use Rattle.c65_csem.specs.Views.{typed_of};
 ghost use Rattle.c65_genwide.specs.Lines.{with_lines, Keeps};
 ghost use Rattle.c65_genexpr.specs.Types.{bare};
 ghost use Rattle.c65_genexpr.specs.Operands.{operands_of, constant_in};
-ghost use Rattle.c65_genexpr.specs.Places.{more, near, object_place, within, farther, moved, has_base, added_bytes, sum_has_base, sum_offset, from_base, place_of, offset_of, object_code, rest_code};
+ghost use Rattle.c65_genexpr.specs.Places.{more, near, object_place, within, farther, moved, has_base, added_bytes, sum_has_base, sum_place, place_of, target_of, is_plain, object_code, target_code, rest_code};
 
 use crate::constants::{constant_in, residue_of};
 use crate::operands::{Operands, operands_of};
@@ -89,13 +89,15 @@ pub fn moved(place: Place, offset: u32) -> Place
     }
 }
 
-/// Whether a part of what lies at a place is told from the same address.
+/// Whether a part of what lies at a place is told from the same address, or is known as the place is.
 pub fn has_base(place: Place, offset: u32) -> bool
     ensures { result ≡ has_base place offset }
 {
     match place {
         Place::Far(at) => within(at, offset),
-        Place::Bank(_) | Place::Near(_) | Place::Data(_, _) => false,
+        Place::Near(at) => offset <= 252 && at as u32 + offset <= 252,
+        Place::Data(_, _) => true,
+        Place::Bank(_) => offset == 0,
     }
 }
 
@@ -111,34 +113,26 @@ fn added_bytes(op: BinaryOp, operands: Operands, constant: Option<i64>) -> Optio
     }
 }
 
-fn sum_has_base(at: u8, added: Option<u32>) -> bool
-    ensures { result ≡ sum_has_base at added }
+// The same of what a pointer names, and so many bytes behind it.
+fn sum_has_base(place: Place, added: Option<u32>) -> bool
+    ensures { result ≡ sum_has_base place added }
 {
     match added {
-        Some(bytes) => within(at, bytes),
+        Some(bytes) => has_base(place, bytes),
         None => false,
     }
 }
 
-fn sum_offset(at: u8, added: Option<u32>) -> u8
-    ensures { result ≡ sum_offset at added }
+fn sum_place(place: Place, added: Option<u32>) -> Place
+    ensures { result ≡ sum_place place added }
 {
     match added {
-        Some(bytes) => farther(at, bytes),
-        None => 0,
+        Some(bytes) => moved(place, bytes),
+        None => Place::Far(0),
     }
 }
 
-fn from_base(place: Place) -> u8
-    ensures { result ≡ from_base place }
-{
-    match place {
-        Place::Far(at) => at,
-        Place::Bank(_) | Place::Near(_) | Place::Data(_, _) => 0,
-    }
-}
-
-/// Whether the sum of a pointer and a number is told from the same address.
+/// Whether what the sum of a pointer and a number names is told from the same address, or is known.
 pub fn is_told(
     frame: &Frame<'_>,
     pushed: u16,
@@ -146,11 +140,11 @@ pub fn is_told(
     pointer: &TExpr,
     number: &TExpr,
 ) -> bool
-    ensures { result ≡ sum_has_base (offset_of frame.now pushed (typed_of pointer.now)) (added_bytes op (operands_of frame.now (bare (typed_of pointer.now)) (bare (typed_of number.now))) (constant_in (typed_of number.now))) }
+    ensures { result ≡ sum_has_base (target_of frame.now pushed (typed_of pointer.now)) (added_bytes op (operands_of frame.now (bare (typed_of pointer.now)) (bare (typed_of number.now))) (constant_in (typed_of number.now))) }
 {
     let operands = operands_of(frame, &pointer.ty.ty, &number.ty.ty);
     let added = added_bytes(op, operands, constant_in(number));
-    sum_has_base(offset_of(frame, pushed, pointer), added)
+    sum_has_base(target_of(frame, pushed, pointer), added)
 }
 
 /// Where a place lies; so many bytes wait. One whose address takes lines of code lies so far behind what
@@ -160,29 +154,41 @@ pub fn place_of(frame: &Frame<'_>, pushed: u16, e: &TExpr) -> Place
     ensures { result ≡ place_of frame.now pushed (typed_of e.now) }
 {
     match &e.kind {
+        TKind::Literal(literal) => Place::Data(frame.numbers().literal(*literal), 0),
         TKind::Object(object) => object_place(frame, pushed, *object),
         TKind::Member(base, member) => {
             let offset = offset_at(&frame.parts().types, &base.ty.ty, *member);
             moved(place_of(frame, pushed, base), offset)
         }
-        TKind::Deref(pointer) => Place::Far(offset_of(frame, pushed, pointer)),
+        TKind::Deref(pointer) => target_of(frame, pushed, pointer),
         _ => Place::Far(0),
     }
 }
 
-// How far behind its base a pointer is.
+// The place that an address names: it is that of an object, or a constant behind it.
 #[cycle(places)]
-fn offset_of(frame: &Frame<'_>, pushed: u16, e: &TExpr) -> u8
-    ensures { result ≡ offset_of frame.now pushed (typed_of e.now) }
+fn target_of(frame: &Frame<'_>, pushed: u16, e: &TExpr) -> Place
+    ensures { result ≡ target_of frame.now pushed (typed_of e.now) }
 {
     match &e.kind {
         TKind::Binary(op, pointer, number) => {
             let operands = operands_of(frame, &pointer.ty.ty, &number.ty.ty);
             let added = added_bytes(*op, operands, constant_in(number));
-            sum_offset(offset_of(frame, pushed, pointer), added)
+            sum_place(target_of(frame, pushed, pointer), added)
         }
-        TKind::Decay(array) => from_base(place_of(frame, pushed, array)),
-        _ => 0,
+        TKind::Address(place) | TKind::Decay(place) => place_of(frame, pushed, place),
+        _ => Place::Far(0),
+    }
+}
+
+/// Whether a place is told without a sum, so that no label stands for it.
+pub fn is_plain(e: &TExpr) -> bool
+    ensures { result ≡ is_plain (typed_of e.now) }
+{
+    match &e.kind {
+        TKind::Literal(_) | TKind::Object(_) => true,
+        TKind::Deref(a) | TKind::Member(a, _) | TKind::Address(a) | TKind::Decay(a) => is_plain(a),
+        _ => false,
     }
 }
 
@@ -207,6 +213,22 @@ pub fn put_object(
             }
         }
         None => put_symbol(frame.numbers().object(object), 0, draft),
+    }
+}
+
+/// The same where it takes lines of code: the object's place is known otherwise.
+pub fn put_unless_known(
+    frame: &Frame<'_>,
+    pushed: u16,
+    object: u32,
+    draft: &mut Draft,
+) -> Result<(), AllocError>
+    ensures lines { OnOk result (draft.new ≡ with_lines draft.old (target_code (object_place frame.now pushed object) (object_code frame.now pushed object))) }
+    ensures kept { OnErr result (Keeps draft.old draft.new) }
+{
+    match object_place(frame, pushed, object) {
+        Place::Far(_) => put_object(frame, pushed, object, draft),
+        Place::Bank(_) | Place::Near(_) | Place::Data(_, _) => put(draft, &[]),
     }
 }
 

@@ -8,13 +8,14 @@ use Rattle.std.proofs.lemmas.List.Elements.{All-nil, All-head, All-tail, All-pus
 use Rattle.c65_base.specs.declared.options.Cpu.{Cpu}
 use Rattle.c65_lex.specs.declared.define.Define.{Define}
 use Rattle.c65_driver_words.specs.declared.command.CommandKind.{CommandKind}
+use Rattle.c65_driver_words.specs.declared.command.CommandKind.TheVariants as kinds
 use Rattle.c65_driver_words.specs.declared.value.Flag.{Flag}
 use Rattle.c65_driver_words.specs.declared.value.Flag.TheVariants as flags
 use Rattle.c65_driver_words.specs.declared.value.Value.{Value}
 use Rattle.c65_driver_words.specs.declared.value.Value.TheVariants as values
 use Rattle.c65_driver_words.specs.Commands.{Spelled}
-use Rattle.c65_driver_words.specs.Values.{is_file, is_digits, cycles_in, behind, define_in}
-use Rattle.c65_driver_words.specs.Words.{Told, nothing_told, compiles, may_stand, with_define, with_cycles, processor_in, with_processor, with_value, flag_in, value_in, has_place, with_file, with_joined, are_letters, with_letters, told_optimiser, told_processor, told_folder, told_define, told_value, told_flag, told_by, told_more, Is, NoCommand, is_whole, takes_args, command_by, args_from, given_at, words_from, kind_in, spelling_by, spelling_of}
+use Rattle.c65_driver_words.specs.Values.{is_file, whole_by, is_digits, cycles_in, number_in, behind, define_in}
+use Rattle.c65_driver_words.specs.Words.{Told, nothing_told, compiles, may_stand, with_define, with_cycles, processor_in, with_processor, with_value, flag_in, value_in, has_place, with_file, with_number, with_operand, with_joined, takes_flag, set_flag, are_letters, with_letters, told_optimiser, told_processor, told_folder, told_define, told_value, told_flag, told_by, told_more, Is, NoCommand, is_whole, takes_args, command_by, args_from, given_at, words_from, kind_in, spelling_by, spelling_of}
 use Rattle.c65_headline.specs.Images.{AreBytes}
 use Rattle.c65_headline.specs.Planned.{WordsAreSpelled}
 use Rattle.c65_headline.proofs.Codes.{both}
@@ -45,9 +46,16 @@ few_cycles word true n f h =
     subst (λ x. x < 2 ^ 32) same (f refl)
 few_cycles word false n f h = absurd (let k : (let x : Option ℕ = None in x ≡ Some n) = h in cc)
 
+whole_is_few : (word : List ℕ) (n : ℕ) → whole_by word ≡ Some n → n < 2 ^ 32
+whole_is_few word n h = few_cycles word (nat_lt 0 (digits_value 10 word) && nat_lt (digits_value 10 word) (2 ^ 32)) n
+    (λ t. ltb-true (digits_value 10 word) (2 ^ 32) ((both (nat_lt 0 (digits_value 10 word)) (nat_lt (digits_value 10 word) (2 ^ 32)) t).1)) h
+
 cycles_are_few : (word : List ℕ) (n : ℕ) → cycles_in word ≡ Some n → n < 2 ^ 32
-cycles_are_few word n h = few_cycles word (is_digits word && nat_lt 0 (digits_value 10 word) && nat_lt (digits_value 10 word) (2 ^ 32)) n
-    (λ t. ltb-true (digits_value 10 word) (2 ^ 32) ((both (is_digits word && nat_lt 0 (digits_value 10 word)) (nat_lt (digits_value 10 word) (2 ^ 32)) t).1)) h
+cycles_are_few word n h = by (is_digits 10 word) h
+  where
+    by : (b : Bool) → (if b then whole_by word else None) ≡ Some n → n < 2 ^ 32
+    by true k = whole_is_few word n k
+    by false k = absurd (let none : (let x : Option ℕ = None in x ≡ Some n) = k in cc)
 
 define_told : (told more : Told) (o : Option Define) → IsTold told → with_define told o ≡ Some more → IsTold more
 define_told told more None i h = not_told more h
@@ -75,6 +83,21 @@ file_told : (told more : Told) (word : List ℕ) → AreBytes word → IsTold to
 file_told told more word bytes i h = at_test (is_file word && has_place told.kind told.files) _ more
     (record { files = All-push AreBytes told.files word i.files bytes; cycles = i.cycles }) h
 
+number_told : (told more : Told) (o : Option ℕ) → IsTold told → with_number told o ≡ Some more → IsTold more
+number_told told more None i h = not_told more h
+number_told told more (Some n) i h = by (is_some told.number) h
+  where
+    by : (b : Bool) → (if b then None else Some (record told { number = Some n })) ≡ Some more → IsTold more
+    by true k = not_told more k
+    by false k = at_last _ more (record { files = i.files; cycles = i.cycles }) k
+
+operand_told : (kind : CommandKind) (told more : Told) (word : List ℕ) → AreBytes word → IsTold told → with_operand kind told word ≡ Some more → IsTold more
+operand_told kinds.Gen told more word bytes i h = number_told told more (number_in word) i h
+operand_told kinds.Go told more word bytes i h = file_told told more word bytes i h
+operand_told kinds.Build told more word bytes i h = file_told told more word bytes i h
+operand_told kinds.Run told more word bytes i h = file_told told more word bytes i h
+operand_told kinds.Text told more word bytes i h = file_told told more word bytes i h
+
 joined_told : (v : Value) (told more : Told) (text : List ℕ) → IsTold told → with_joined v told text ≡ Some more → IsTold more
 joined_told v told more text i h = at (may_stand told v) h
   where
@@ -87,7 +110,7 @@ letters_told told more letters i h = at_test (compiles told.kind && are_letters 
 
 optimiser_word : (told more : Told) (word : List ℕ) (o : Option (List ℕ)) → AreBytes word → IsTold told → told_optimiser told word o ≡ Some more → IsTold more
 optimiser_word told more word (Some letters) bytes i h = letters_told told more letters i h
-optimiser_word told more word None bytes i h = file_told told more word bytes i h
+optimiser_word told more word None bytes i h = operand_told told.kind told more word bytes i h
 
 processor_word : (told more : Told) (word : List ℕ) (o : Option (List ℕ)) → AreBytes word → IsTold told → told_processor told word o ≡ Some more → IsTold more
 processor_word told more word (Some text) bytes i h = joined_told values.Processor told more text i h
@@ -105,11 +128,15 @@ value_word : (told more : Told) (word : List ℕ) (o : Option Value) → AreByte
 value_word told more word (Some v) bytes i h = at_test (may_stand told v) _ more (record { files = i.files; cycles = i.cycles }) h
 value_word told more word None bytes i h = define_word told more word (behind (codes "-D") word) bytes i h
 
+flag_told : (flag : Flag) (told : Told) → IsTold told → IsTold (set_flag flag told)
+flag_told flags.RegisterVars told i = record { files = i.files; cycles = i.cycles }
+flag_told flags.SignedChars told i = record { files = i.files; cycles = i.cycles }
+flag_told flags.StaticLocals told i = record { files = i.files; cycles = i.cycles }
+flag_told flags.CheckStack told i = record { files = i.files; cycles = i.cycles }
+flag_told flags.Known told i = record { files = i.files; cycles = i.cycles }
+
 flag_word : (told more : Told) (word : List ℕ) (o : Option Flag) → AreBytes word → IsTold told → told_flag told word o ≡ Some more → IsTold more
-flag_word told more word (Some flags.RegisterVars) bytes i h = at_test (compiles told.kind) _ more (record { files = i.files; cycles = i.cycles }) h
-flag_word told more word (Some flags.SignedChars) bytes i h = at_test (compiles told.kind) _ more (record { files = i.files; cycles = i.cycles }) h
-flag_word told more word (Some flags.StaticLocals) bytes i h = at_test (compiles told.kind) _ more (record { files = i.files; cycles = i.cycles }) h
-flag_word told more word (Some flags.CheckStack) bytes i h = at_test (compiles told.kind) _ more (record { files = i.files; cycles = i.cycles }) h
+flag_word told more word (Some flag) bytes i h = at_test (takes_flag told.kind flag) (set_flag flag told) more (flag_told flag told i) h
 flag_word told more word None bytes i h = value_word told more word (value_in word) bytes i h
 
 word_told : (told more : Told) (word : List ℕ) (o : Option Value) → AreBytes word → IsTold told → told_by o told word ≡ Some more → IsTold more

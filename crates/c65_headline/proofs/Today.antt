@@ -31,7 +31,7 @@ use Rattle.c65_driver.specs.Outside.{Outside}
 use Rattle.c65_driver.specs.Tool.{Serves, Performs}
 use Rattle.c65_headline.specs.Planned.{RewritingsFollow}
 use Rattle.c65_headline.specs.Fronts.{command_of, programs, IsMadeOf}
-use Rattle.c65_headline.specs.Headline.{IsMade}
+use Rattle.c65_headline.specs.Headline.{IsMade, IsMadeBy}
 use Rattle.c65_headline.specs.Laws.{HeadlineHoldsToday}
 use Rattle.c65_headline.proofs.Top.{holds}
 use Rattle.c65_headline.proofs.Uniqueness.{no_value}
@@ -86,16 +86,17 @@ from_sources rewriting command old (Some k) answer s held c told e =
     subst (λ (x : Code). IsMadeOf held command x) same (made_of rewriting held command k (s held told))
 
 made_by : (rewriting : RewritingsFollow) (kind : CommandKind) (command : Spelled) (old new : Outside) (code : Option Code) (image : Option Image) (answer : Result ℕ Refusal)
-    → Serves kind command old new code image answer → (held : Held) (c : Code) → old.files.contents ≡ Some held → code ≡ Some c → IsMadeOf held command c
-made_by rewriting kinds.Go command old new code image answer s held c told e = from_sources rewriting command old code answer s.from_files held c told e
-made_by rewriting kinds.Build command old new code image answer s held c told e = from_sources rewriting command old code answer s.builds.from_files held c told e
-made_by rewriting kinds.Text command old new code image answer s held c told e = from_sources rewriting command old code answer s.texts.from_files held c told e
-made_by rewriting kinds.Run command old new code image answer s held c told e = absurd (let h : (let x : Option Code = None in x ≡ Some c) = sym s.no_code ∙ e in cc)
+    → Serves kind command old new code image answer → IsMadeBy kind command old code
+made_by rewriting kinds.Go command old new code image answer s = λ held c told e. from_sources rewriting command old code answer s.from_files held c told e
+made_by rewriting kinds.Build command old new code image answer s = λ held c told e. from_sources rewriting command old code answer s.builds.from_files held c told e
+made_by rewriting kinds.Text command old new code image answer s = λ held c told e. from_sources rewriting command old code answer s.texts.from_files held c told e
+made_by rewriting kinds.Run command old new code image answer s = λ held c told e. absurd (let h : (let x : Option Code = None in x ≡ Some c) = sym s.no_code ∙ e in cc)
+made_by rewriting kinds.Gen command old new code image answer s = tt
 
 made_today : (rewriting : RewritingsFollow) (spelling : Spelling) (old new : Outside) (code : Option Code) (image : Option Image) (answer : Result ℕ Refusal)
     → Performs spelling old new code image answer → IsMade spelling old code
 made_today rewriting (NoCommand word) old new code image answer s = tt
-made_today rewriting (Is command) old new code image answer s = λ held c told e. made_by rewriting command.kind command old new code image answer s held c told e
+made_today rewriting (Is command) old new code image answer s = made_by rewriting command.kind command old new code image answer s
 
 pub holds_today : UnitsAreOne → TurnsGoOn → HeadlineHoldsToday
 holds_today units turns notes laws words old new code image answer bytes s =

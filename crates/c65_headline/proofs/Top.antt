@@ -1,5 +1,5 @@
 -- The clause of the tool.
-use Rattle.std.proofs.Common.{◌≡◌, ℕ, true, List, Option, Some, None, Result, Ok, Err, inl, inr, refl, subst}
+use Rattle.std.proofs.Common.{◌≡◌, ℕ, Bool, true, List, Option, Some, None, Result, Ok, Err, inl, inr, refl, subst}
 use Rattle.std.specs.Prelude.{All}
 use Rattle.c65_base.specs.declared.options.Cpu.{Cpu}
 use Rattle.c65_base.specs.declared.refusal.Refusal.{Refusal}
@@ -25,7 +25,7 @@ use Rattle.c65_driver.specs.Tool as tools
 use Rattle.c65_headline.specs.Images.{Recorded, AreBytes}
 use Rattle.c65_headline.specs.Fronts.{IsFront, IsMadeOf}
 use Rattle.c65_headline.specs.Planned.{IsSpelled}
-use Rattle.c65_headline.specs.Headline.{Means, IsWritten, Goes, Writes, Performs, IsMade, Headline}
+use Rattle.c65_headline.specs.Headline.{Means, IsWritten, Goes, Writes, Performs, IsMade, IsMadeBy, Headline}
 use Rattle.c65_headline.specs.Laws.{Laws, HeadlineHolds}
 use Rattle.c65_headline.proofs.Made.{CauseIn, hindered, agreeing}
 use Rattle.c65_headline.proofs.Spelled.{words_are_spelled}
@@ -62,12 +62,12 @@ to_written : (out : Option (List ℕ)) (bytes : List ℕ) (old new : Outside) (a
 to_written None bytes old new answer s t = text_written old new answer s t.cause
 to_written (Some path) bytes old new answer s t = build_written old new answer s t.cause
 
-made_written : (cpu : Cpu) (out : Option (List ℕ)) (code : Option Code) (image : Option Image) (old new : Outside) (answer : Result ℕ Refusal) (i : Image) → IsLinked cpu code image answer → MadeText out code image (text_part old) (text_part new) answer
+made_written : (cpu : Cpu) (known : Bool) (out : Option (List ℕ)) (code : Option Code) (image : Option Image) (old new : Outside) (answer : Result ℕ Refusal) (i : Image) → IsLinked cpu code image answer → MadeText known out code image (text_part old) (text_part new) answer
     → WriteServes answer → image ≡ Some i → IsWritten old new answer
-made_written cpu out None (Some j) old new answer i l t s e = absurd l
-made_written cpu out None None old new answer i l t s e = absurd (let h : (let x : Option Image = None in x ≡ Some i) = e in cc)
-made_written cpu out (Some c) None old new answer i l t s e = absurd (let h : (let x : Option Image = None in x ≡ Some i) = e in cc)
-made_written cpu out (Some c) (Some j) old new answer i l t s e = to_written out _ old new answer s t
+made_written cpu known out None (Some j) old new answer i l t s e = absurd l
+made_written cpu known out None None old new answer i l t s e = absurd (let h : (let x : Option Image = None in x ≡ Some i) = e in cc)
+made_written cpu known out (Some c) None old new answer i l t s e = absurd (let h : (let x : Option Image = None in x ≡ Some i) = e in cc)
+made_written cpu known out (Some c) (Some j) old new answer i l t s e = to_written out _ old new answer s t
 
 -- with an image, what is answered is what writing answers
 served_with : (image : Option Image) (answer : Result ℕ Refusal) (i : Image) → ServesWith image answer → image ≡ Some i → WriteServes answer
@@ -90,7 +90,7 @@ module _ (units : UnitsAreOne) (turns : TurnsGoOn) (notes : Recorded) (laws : La
     agrees = agreeing units notes laws held command p front code image answer linked made;
   }
 
-  goes : IsSpelled command → tools.Goes command old new code image answer → Goes notes command p old new code image answer
+  pub goes : IsSpelled command → tools.Goes command old new code image answer → Goes notes command p old new code image answer
   goes spelled g =
       let m : Means notes command p old new code image answer = means g.from_code g.from_files (read_cause units notes laws held command old new answer g.read) in
       record {
@@ -99,30 +99,33 @@ module _ (units : UnitsAreOne) (turns : TurnsGoOn) (notes : Recorded) (laws : La
             (runs_of (setup_of true command) image old.left new.left old.written new.written answer i g.made e) g.read g.write;
       }
 
-  builds : tools.BuildsAlone command old new code image answer → Writes notes command p old new code image answer
+  pub builds : tools.BuildsAlone command old new code image answer → Writes notes command p old new code image answer
   builds b = record {
     means = means b.builds.from_code b.builds.from_files (file_cause units notes laws held command old new answer b.builds.read);
     written = λ i e. build_written old new answer (served_with image answer i b.builds.with_image e) b.builds.write;
   }
 
-  texts : tools.TextsAlone command old new code image answer → Writes notes command p old new code image answer
+  pub texts : tools.TextsAlone command old new code image answer → Writes notes command p old new code image answer
   texts b = record {
     means = means b.texts.from_code b.texts.from_files (file_cause units notes laws held command old new answer b.texts.read);
-    written = λ i e. made_written command.options.cpu command.out code image old new answer i b.texts.from_code b.texts.text (served_with image answer i b.texts.with_image e) e;
+    written = λ i e. made_written command.options.cpu command.known command.out code image old new answer i b.texts.from_code b.texts.text (served_with image answer i b.texts.with_image e) e;
   }
 
-  pub performs : (kind : CommandKind) → IsSpelled command → tools.Serves kind command old new code image answer → Performs notes kind command p old new code image answer
-  performs kinds.Go spelled s = goes spelled s
-  performs kinds.Build spelled s = builds s
-  performs kinds.Text spelled s = texts s
-  performs kinds.Run spelled s = tt
+performs : (units : UnitsAreOne) (turns : TurnsGoOn) (notes : Recorded) (laws : Laws notes) (command : Spelled) (old new : Outside) (code : Option Code) (image : Option Image) (answer : Result ℕ Refusal)
+    (held : Held) (p : ProgramTy) → old.files.contents ≡ Some held → IsFront held command p → (kind : CommandKind) → IsSpelled command → tools.Serves kind command old new code image answer → IsMadeBy kind command old code
+    → Performs notes kind command p old new code image answer
+performs units turns notes laws command old new code image answer held p told front kinds.Go spelled s a = goes units turns notes laws command old new code image answer held p told front (λ c k. a held c told k) spelled s
+performs units turns notes laws command old new code image answer held p told front kinds.Build spelled s a = builds units turns notes laws command old new code image answer held p told front (λ c k. a held c told k) s
+performs units turns notes laws command old new code image answer held p told front kinds.Text spelled s a = texts units turns notes laws command old new code image answer held p told front (λ c k. a held c told k) s
+performs units turns notes laws command old new code image answer held p told front kinds.Run spelled s a = tt
+performs units turns notes laws command old new code image answer held p told front kinds.Gen spelled s a = tt
 
 by_spelling : UnitsAreOne → TurnsGoOn → (notes : Recorded) → Laws notes → (words : List (List ℕ)) → All AreBytes words → (spelling : Spelling) → spelling_of words ≡ spelling
     → (old new : Outside) (code : Option Code) (image : Option Image) (answer : Result ℕ Refusal)
     → tools.Performs spelling old new code image answer → IsMade spelling old code → Headline notes spelling old new code image answer
 by_spelling units turns notes laws words bytes (NoCommand word) e old new code image answer s a = tt
 by_spelling units turns notes laws words bytes (Is command) e old new code image answer s a = λ held p told front.
-    performs units turns notes laws command old new code image answer held p told front (λ c k. a held c told k) command.kind (words_are_spelled words command bytes e) s
+    performs units turns notes laws command old new code image answer held p told front command.kind (words_are_spelled words command bytes e) s a
 
 pub holds : UnitsAreOne → TurnsGoOn → HeadlineHolds
 holds units turns notes laws words old new code image answer bytes s a = by_spelling units turns notes laws words bytes (spelling_of words) refl old new code image answer s a

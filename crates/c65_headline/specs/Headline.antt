@@ -91,6 +91,7 @@ Performs notes kinds.Go command p old new code image answer = Goes notes command
 Performs notes kinds.Build command p old new code image answer = Writes notes command p old new code image answer
 Performs notes kinds.Text command p old new code image answer = Writes notes command p old new code image answer
 Performs notes kinds.Run command p old new code image answer = ⊤
+Performs notes kinds.Gen command p old new code image answer = ⊤
 
 abbrev pub Headline : Recorded → Spelling → Outside → Outside → Option Code → Option Image → Result ℕ Refusal → Type 0
 Headline notes (NoCommand word) old new code image answer = ⊤
@@ -99,7 +100,11 @@ Headline notes (Is command) old new code image answer = (held : Held) (p : Progr
 
 -- ---- how the code was made
 
--- of told files, the code that was made is that of the front's program
+-- of told files, the code that was made is that of the front's program; `gen` reads no files
+abbrev pub IsMadeBy : CommandKind → Spelled → Outside → Option Code → Type 0
+IsMadeBy kinds.Gen command old code = ⊤
+IsMadeBy kind command old code = (held : Held) (c : Code) → old.files.contents ≡ Some held → code ≡ Some c → IsMadeOf held command c
+
 abbrev pub IsMade : Spelling → Outside → Option Code → Type 0
 IsMade (NoCommand word) old code = ⊤
-IsMade (Is command) old code = (held : Held) (c : Code) → old.files.contents ≡ Some held → code ≡ Some c → IsMadeOf held command c
+IsMade (Is command) old code = IsMadeBy command.kind command old code

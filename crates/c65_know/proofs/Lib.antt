@@ -1,2 +1,4 @@
 pub mod Passes
 pub mod Gaps
+mod Meets
+pub mod IndexLaws

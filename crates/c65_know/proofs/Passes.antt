@@ -28,7 +28,7 @@ met_more l known next lines notes at line n a b e =
     ∙ (sym (met_append l (ways_of (get_or lines at line) (get_or notes at n)) (all_ways (drop (at + 1) lines) (drop (at + 1) notes)) known)
     ∙ ap (met l known) (sym (all_at lines notes at line n a (omega arith))))
 
-all_push : (lines : List Line) (notes : List Note) (line : Line) (n : Note) → length lines ≡ length notes → all_ways (lines ++ line ∷ []) (notes ++ n ∷ []) ≡ all_ways lines notes ++ ways_of line n
+pub all_push : (lines : List Line) (notes : List Note) (line : Line) (n : Note) → length lines ≡ length notes → all_ways (lines ++ line ∷ []) (notes ++ n ∷ []) ≡ all_ways lines notes ++ ways_of line n
 all_push [] [] line n e = append-nil (ways_of line n)
 all_push [] (m ∷ notes) line n e = absurd (omega arith)
 all_push (l ∷ lines) [] line n e = absurd (omega arith)

@@ -1,4 +1,5 @@
 pub mod Notes
 pub mod Rows
 pub mod Known
+pub mod Index
 pub mod Samples

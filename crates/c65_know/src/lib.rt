@@ -2,6 +2,7 @@
 #![tactic(auto)]
 
 mod holds;
+mod index;
 mod note;
 mod noted;
 mod registers;

@@ -5,8 +5,9 @@ ghost use Rattle.c65_code.specs.Segments.{IsSegment, replaced};
 ghost use Rattle.c65_know.specs.Notes.{nothing_known, holds_of};
 ghost use Rattle.c65_know.specs.Known.{known_of, annotated};
 
+use crate::index::noted;
 use crate::note::Note;
-use crate::ways::{are_straight, renew_straight, update};
+use crate::ways::{are_straight, renew_straight};
 use c65_base::Refusal;
 use c65_code::{Line, Seg};
 use c65_mach::Machine;
@@ -38,8 +39,7 @@ pub fn annotate(alloc: Global, seg: Seg) -> Result<Noted, Refusal>
     ensures notes { IfOk result (λ noted. noted ≡ annotated seg.lines seg.out) }
     ensures refused { IfErr result (λ refusal. refusal ≡ OutOfMemory) }
 {
-    let mut notes = vec![in alloc; Note::nothing(); seg.lines().len()]?;
-    update(&seg, &mut notes, 0);
+    let notes = noted(alloc, seg.lines())?;
     Ok(Noted { alloc, seg, notes })
 }
 
@@ -60,6 +60,24 @@ fn with_gap(
     gap.extend_from_slice(&fill)?;
     gap.extend_from_slice(&notes[at + count..])?;
     Ok(gap)
+}
+
+// What is known with other lines in place of some.
+fn noted_after(
+    alloc: Global,
+    old: &[Line],
+    at: usize,
+    count: usize,
+    new: &[Line],
+) -> Result<Vec<Note>, AllocError>
+    requires { at + count ≤ length old.now }
+    ensures { IfOk result (λ notes. notes.items ≡ known_of (replaced old.now at count new.now)) }
+{
+    let mut lines = Vec::new(alloc);
+    lines.extend_from_slice(&old[..at])?;
+    lines.extend_from_slice(new)?;
+    lines.extend_from_slice(&old[at + count..])?;
+    noted(alloc, &lines)
 }
 
 impl Noted {
@@ -100,16 +118,18 @@ impl Noted {
     {
         let old = self.seg.lines();
         let straight = are_straight(&old[at..at + count], lines);
-        let rest = old.len() - (at + count);
-        let mut notes = with_gap(self.alloc, &self.notes, at, count, lines.len())?;
-        self.seg.replace(at, count, lines)?;
-        let now = self.seg.lines();
         if straight {
+            let rest = old.len() - (at + count);
+            let mut notes = with_gap(self.alloc, &self.notes, at, count, lines.len())?;
+            self.seg.replace(at, count, lines)?;
+            let now = self.seg.lines();
             renew_straight(now, &mut notes, at, now.len() - rest);
-        } else {
-            update(&self.seg, &mut notes, 0);
+            self.notes = notes;
+            return Ok(());
         }
-        self.notes = notes;
+        let all = noted_after(self.alloc, old, at, count, lines)?;
+        self.seg.replace(at, count, lines)?;
+        self.notes = all;
         Ok(())
     }
 

@@ -42,7 +42,7 @@ fn after_op(note: Note, op: Op, mode: Mode, operand: Operand) -> Option<Note>
 }
 
 // On the way from a line to the next one; none where none leads there.
-fn after_line(line: &Line, note: Note) -> Option<Note>
+pub(crate) fn after_line(line: &Line, note: Note) -> Option<Note>
     ensures { result ≡ after_line line.now note }
 {
     match line {
@@ -74,7 +74,7 @@ fn met(label: u32, way: Option<Note>, lines: &[Line], notes: &[Note]) -> Option<
     known
 }
 
-fn joined(known: Option<Note>, note: Note) -> Note
+pub(crate) fn joined(known: Option<Note>, note: Note) -> Note
     ensures { result ≡ joined known note }
 {
     match known {

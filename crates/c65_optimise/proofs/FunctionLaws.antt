@@ -1,28 +1,29 @@
 -- Functions that are rewritten one after another.
 use Rattle.std.proofs.Common.{◌≡◌, ℕ, zero, suc, ◌≤◌, ◌∙◌, drop, length, refl, arith, List, [], ◌∷◌, ◌++◌, sym, ap, subst, ◌∙◌, append_assoc, append-nil}
-use Rattle.std.specs.Prelude.{Bool, All}
+use Rattle.std.specs.Prelude.{All}
+use Rattle.c65_base.specs.declared.options.Options.{Options}
 use Rattle.c65_code.specs.declared.line.Sym.{Sym}
 use Rattle.c65_code.specs.Segments.{Segment}
 use Rattle.c65_code.specs.Weights.{lines_size}
 use Rattle.c65_code.specs.Writable.{IsLineWritable}
 use Rattle.c65_know.specs.declared.note.Note.{Note}
 use Rattle.c65_know.specs.Known.{Annotated, known_of, annotated}
-use Rattle.c65_optlib.specs.Library.{OnceIf}
+use Rattle.c65_optlib.specs.Library.{BothWalks}
 use Rattle.c65_pass.specs.Rounds.{AreFree, RulesRewrite}
-use Rattle.c65_optimise.specs.Optimised.{IsBuilt, IsRewritten, AreRewritten}
+use Rattle.c65_optimise.specs.Optimised.{IsRuleFor, IsRewritten, AreRewritten}
 
 -- whatever the functions that are left become, it stands behind those that are done
-abbrev pub AreDone : Bool → List (Sym × Segment) → List (Sym × Segment) → List (Sym × Segment) → Type 0
-AreDone is_opened all rest done = (more : List (Sym × Segment)) → AreRewritten is_opened rest more → AreRewritten is_opened all (done ++ more)
+abbrev pub AreDone : Options → List (Sym × List ℕ) → List (Sym × Segment) → List (Sym × Segment) → List (Sym × Segment) → Type 0
+AreDone options literals all rest done = (more : List (Sym × Segment)) → AreRewritten options literals rest more → AreRewritten options literals all (done ++ more)
 
-pub one_more : (is_opened : Bool) (all rest rest' done done' : List (Sym × Segment)) (f g : Sym × Segment) → rest ≡ f ∷ rest' → done' ≡ done ++ g ∷ [] → (g.0 ≡ f.0) → IsRewritten is_opened f.1 g.1
-    → AreDone is_opened all rest done → AreDone is_opened all rest' done'
-one_more is_opened all rest rest' done done' f g is step name seg so more h =
-    subst (AreRewritten is_opened all) (sym (append_assoc done (g ∷ []) more) ∙ ap (λ (d : List (Sym × Segment)). d ++ more) (sym step))
-    (so (g ∷ more) (subst (λ (r : List (Sym × Segment)). AreRewritten is_opened r (g ∷ more)) (sym is) ((name, seg), h)))
+pub one_more : (options : Options) (literals : List (Sym × List ℕ)) (all rest rest' done done' : List (Sym × Segment)) (f g : Sym × Segment) → rest ≡ f ∷ rest' → done' ≡ done ++ g ∷ [] → (g.0 ≡ f.0) → IsRewritten options literals f.1 g.1
+    → AreDone options literals all rest done → AreDone options literals all rest' done'
+one_more options literals all rest rest' done done' f g is step name seg so more h =
+    subst (AreRewritten options literals all) (sym (append_assoc done (g ∷ []) more) ∙ ap (λ (d : List (Sym × Segment)). d ++ more) (sym step))
+    (so (g ∷ more) (subst (λ (r : List (Sym × Segment)). AreRewritten options literals r (g ∷ more)) (sym is) ((name, seg), h)))
 
-pub none_left : (is_opened : Bool) (all rest done : List (Sym × Segment)) → rest ≡ [] → AreDone is_opened all rest done → AreRewritten is_opened all done
-none_left is_opened all rest done is so = subst (AreRewritten is_opened all) (append-nil done) (so [] (subst (λ (r : List (Sym × Segment)). AreRewritten is_opened r []) (sym is) tt))
+pub none_left : (options : Options) (literals : List (Sym × List ℕ)) (all rest done : List (Sym × Segment)) → rest ≡ [] → AreDone options literals all rest done → AreRewritten options literals all done
+none_left options literals all rest done is so = subst (AreRewritten options literals all) (append-nil done) (so [] (subst (λ (r : List (Sym × Segment)). AreRewritten options literals r []) (sym is) tt))
 
 pub drop_end : {A : Type 0} (xs : List A) (n : ℕ) → length xs ≤ n → drop n xs ≡ []
 drop_end [] zero h = refl
@@ -31,11 +32,11 @@ drop_end (x ∷ xs) zero h = absurd (omega arith)
 drop_end (x ∷ xs) (suc n) h = drop_end xs n (omega arith)
 
 -- the lines of a segment whose calls were opened, and whose notes were then rewritten
-pub rewritten_of : (is_opened : Bool) (old new : Segment) (noted opened made : Annotated) (walked count : ℕ) → noted ≡ annotated old.lines old.out → made.notes ≡ known_of made.lines → new.lines ≡ made.lines → new.out ≡ made.out
-    → opened.out ≡ noted.out → made.out ≡ opened.out → OnceIf is_opened 39 [] noted.out noted.lines opened.lines walked
-    → RulesRewrite IsBuilt opened.out opened.lines count made.lines → AreFree IsBuilt made → lines_size opened.lines ≤ lines_size noted.lines → lines_size made.lines ≤ lines_size opened.lines
-    → ((n : ℕ) → All (IsLineWritable n) noted.lines → All (IsLineWritable n) opened.lines) → ((n : ℕ) → All (IsLineWritable n) opened.lines → All (IsLineWritable n) made.lines) → IsRewritten is_opened old new
-rewritten_of is_opened old new noted opened made walked count is known lines out kept stays once chain free less fewer written writable =
+pub rewritten_of : (options : Options) (literals : List (Sym × List ℕ)) (old new : Segment) (noted opened made : Annotated) (walked count : ℕ) → noted ≡ annotated old.lines old.out → made.notes ≡ known_of made.lines → new.lines ≡ made.lines → new.out ≡ made.out
+    → opened.out ≡ noted.out → made.out ≡ opened.out → BothWalks options.inline_more options.known_functions literals noted.out noted.lines opened.lines walked
+    → RulesRewrite (IsRuleFor options.cpu) opened.out opened.lines count made.lines → AreFree (IsRuleFor options.cpu) made → lines_size opened.lines ≤ lines_size noted.lines → lines_size made.lines ≤ lines_size opened.lines
+    → ((n : ℕ) → All (IsLineWritable n) noted.lines → All (IsLineWritable n) opened.lines) → ((n : ℕ) → All (IsLineWritable n) opened.lines → All (IsLineWritable n) made.lines) → IsRewritten options literals old new
+rewritten_of options literals old new noted opened made walked count is known lines out kept stays once chain free less fewer written writable =
     let before : noted.lines ≡ old.lines = ap (λ (a : Annotated). a.lines) is in
     let gives : noted.out ≡ old.out = ap (λ (a : Annotated). a.out) is in
     let whole : made ≡ annotated made.lines made.out = ap (λ (notes : List Note). let a : Annotated = record { lines = made.lines; out = made.out; notes = notes } in a) known in
@@ -44,7 +45,7 @@ rewritten_of is_opened old new noted opened made walked count is known lines out
       opened = opened.lines;
       once = (walked, rw (sym gives, sym before) once);
       chain = (count, rw (sym gives, sym kept, lines) chain);
-      free = rw (lines, out) (subst (AreFree IsBuilt) whole free);
+      free = rw (lines, out) (subst (AreFree (IsRuleFor options.cpu)) whole free);
       extent = rw (sym before, lines) (omega (arith, less, fewer));
       writable = λ n h. rw lines (writable n (written n (rw before h)));
     }

@@ -1,9 +1,10 @@
 // Opening calls of routines, as the options ask for it.
 ghost use Rattle.std.specs.Prelude.{true};
-ghost use Rattle.c65_optlib.specs.Library.{IsWalked};
+ghost use Rattle.c65_optlib.specs.Library.{IsWalked, AreOpened};
 ghost use Rattle.c65_pass.specs.Passes.{Answers};
 ghost use Rattle.c65_pass.specs.Rules.{match_at};
 
+use crate::known::find_known;
 use crate::opened::find_call;
 use c65_base::{Options, Refusal};
 use c65_code::Literals;
@@ -13,7 +14,7 @@ use c65_pass::{Pass, run_once};
 use std::alloc::Global;
 
 // Rule 39 in one walk.
-fn open_calls(alloc: Global, code: &mut Noted, literals: &Literals) -> Result<usize, Refusal>
+fn walk_calls(alloc: Global, code: &mut Noted, literals: &Literals) -> Result<usize, Refusal>
     ensures { IsWalked true 39 literals.now.items code.old code.new result }
 {
     let pass = Pass::once(
@@ -26,9 +27,22 @@ fn open_calls(alloc: Global, code: &mut Noted, literals: &Literals) -> Result<us
     run_once(alloc, code, &pass)
 }
 
-/// Puts lines in place of calls of routines that few lines stand for, where the options ask for it, in one walk, and answers
-/// how often. After a refusal some of the rewritings are made.
-pub fn inline_calls(
+// Rule 40 in one walk.
+fn walk_known(alloc: Global, code: &mut Noted, literals: &Literals) -> Result<usize, Refusal>
+    ensures { IsWalked true 40 literals.now.items code.old code.new result }
+{
+    let pass = Pass::once(
+        40,
+        literals,
+        |n: &Noted, l: &LiveTable, at: usize|
+            ensures { Answers (match_at 40 literals.entry.now.items n.now l.now at) result }
+        { find_known(alloc, n, l, literals, at) },
+    );
+    run_once(alloc, code, &pass)
+}
+
+// Calls of routines that a few lines stand for.
+fn open_calls(
     alloc: Global,
     code: &mut Noted,
     literals: &Literals,
@@ -39,5 +53,36 @@ pub fn inline_calls(
     if !options.inline_more {
         return Ok(0);
     }
-    open_calls(alloc, code, literals)
+    walk_calls(alloc, code, literals)
+}
+
+// Calls of functions of the library with arguments that are known.
+fn open_known(
+    alloc: Global,
+    code: &mut Noted,
+    literals: &Literals,
+    options: &Options,
+) -> Result<usize, Refusal>
+    ensures { IsWalked options.now.known_functions 40 literals.now.items code.old code.new result }
+{
+    if !options.known_functions {
+        return Ok(0);
+    }
+    walk_known(alloc, code, literals)
+}
+
+/// Puts lines in place of calls that few lines stand for, and answers how often: first, where the options ask for it with `i`,
+/// of calls of routines, in one walk, and then, where they ask for it with `s`, of calls of functions of the library with
+/// arguments that are known, in another. After a refusal some of the rewritings are made.
+pub fn inline_calls(
+    alloc: Global,
+    code: &mut Noted,
+    literals: &Literals,
+    options: &Options,
+) -> Result<usize, Refusal>
+    ensures { AreOpened options.now.inline_more options.now.known_functions literals.now.items code.old code.new result }
+{
+    let opened = open_calls(alloc, code, literals, options)?;
+    let known = open_known(alloc, code, literals, options)?;
+    Ok(opened.saturating_add(known))
 }

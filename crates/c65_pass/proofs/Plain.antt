@@ -22,7 +22,7 @@ pub record IsStandIn (old new : List Line) : Type 0 where
   pub size : lines_size new ≤ lines_size old
   pub writable : (n : ℕ) → All (IsLineWritable n) old → All (IsLineWritable n) new
 
-all_cut : (P : Line → Type 0) (xs ys : List Line) → All P (xs ++ ys) → All P xs × All P ys
+pub all_cut : (P : Line → Type 0) (xs ys : List Line) → All P (xs ++ ys) → All P xs × All P ys
 all_cut P [] ys h = (All-nil P, h)
 all_cut P (x ∷ xs) ys h =
     let rest = all_cut P xs ys (All-tail P x (xs ++ ys) h) in

@@ -5,7 +5,9 @@ pub mod Registers
 pub mod LoadRules
 pub mod ArithRules
 pub mod StackRules
+pub mod KnownCalls
 pub mod LibraryRules
+pub mod ProcessorRules
 pub mod Rules
 pub mod Passes
 pub mod Rounds

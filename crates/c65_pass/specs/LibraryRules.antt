@@ -13,6 +13,7 @@ use Rattle.c65_code.specs.declared.line.Line.{Line}
 use Rattle.c65_code.specs.declared.line.Line.TheVariants.{Do, Call}
 use Rattle.c65_code.specs.declared.line.Sym.{Sym}
 use Rattle.c65_live.specs.Tables.{Table}
+use Rattle.c65_pass.specs.KnownCalls.{known_call}
 use Rattle.c65_pass.specs.Registers.{alone}
 use Rattle.c65_pass.specs.Rewriting.{Rewriting}
 use Rattle.c65_pass.specs.StackRules.{is_settled, in_place}
@@ -49,4 +50,6 @@ call_opened _ = None
 
 -- Rules 39 and 40. `literals` are those of the code, `after` the lines after the line.
 abbrev pub library_rule : ℕ → List (Sym × List ℕ) → Table → ℕ → Line → List Line → Option Rewriting
-library_rule rule literals table at line after = if rule == 39 then in_place (call_opened line) (is_settled table at line) 1 at else None
+library_rule rule literals table at line after =
+    if rule == 39 then in_place (call_opened line) (is_settled table at line) 1 at else (
+    if rule == 40 then known_call literals table at line after else None)

@@ -8,6 +8,7 @@ use Rattle.c65_pass.specs.ArithRules.{arith_rule}
 use Rattle.c65_pass.specs.FlowRules.{flow_rule}
 use Rattle.c65_pass.specs.LibraryRules.{library_rule}
 use Rattle.c65_pass.specs.LoadRules.{load_rule}
+use Rattle.c65_pass.specs.ProcessorRules.{processor_rule}
 use Rattle.c65_pass.specs.StackRules.{stack_rule}
 use Rattle.c65_pass.specs.Rewriting.{Rewriting}
 
@@ -17,7 +18,8 @@ made_by rule literals noted table at line after =
     if nat_le rule 9 then flow_rule rule noted.lines (slice_get noted.notes at) at line after else (
     if nat_le rule 23 then load_rule rule (slice_get noted.notes at) table at line after else (
     if nat_le rule 32 then arith_rule rule (slice_get noted.notes at) table at line after else (
-    if nat_le rule 38 then stack_rule rule table at line after else library_rule rule literals table at line after)))
+    if nat_le rule 38 then stack_rule rule table at line after else (
+    if nat_le rule 40 then library_rule rule literals table at line after else processor_rule rule table at line after))))
 
 -- what a rule makes at a place of the lines that stand there: a line and those after it
 abbrev pub match_there : ℕ → List (Sym × List ℕ) → Annotated → Table → ℕ → List Line → Option Rewriting

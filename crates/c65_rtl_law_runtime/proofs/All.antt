@@ -11,6 +11,7 @@ use Rattle.c65_code.specs.declared.routine.Width.TheVariants.{Ax, Eax}
 use Rattle.c65_code.specs.Rows.{Row}
 use Rattle.c65_code.specs.RawMachine.{RawSetting, MeetsRow}
 use Rattle.c65_rtl.proofs.AllRows.{rows_are_met}
+use Rattle.c65_rtl_law_stack.proofs.Check.{stkchk}
 use Rattle.c65_rtl_law_strings.proofs.StringLength.{strlen}
 use Rattle.c65_rtl_law_strings.proofs.Strcmp.{strcmp}
 use Rattle.c65_rtl_law_copies.proofs.Copytos.{copytos}
@@ -102,7 +103,7 @@ runtime_is_met s has (routines.Tos op Ax) met = operator_of_words s has op
 runtime_is_met s has (routines.Tos op Eax) met = operator_of_longs s has op
 runtime_is_met s has (routines.Library f) met = library_function s has f met
 runtime_is_met s has routines.CopyTos met = copytos s (has routines.CopyTos refl)
-runtime_is_met s has routines.StkChk met = absurd (not_met met)
+runtime_is_met s has routines.StkChk met = stkchk s (has routines.StkChk refl)
 runtime_is_met s has routines.PushA met = rows_are_met s routines.PushA refl (has routines.PushA refl)
 runtime_is_met s has routines.PushAx met = rows_are_met s routines.PushAx refl (has routines.PushAx refl)
 runtime_is_met s has routines.PushA0 met = rows_are_met s routines.PushA0 refl (has routines.PushA0 refl)

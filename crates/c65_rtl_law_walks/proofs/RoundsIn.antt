@@ -39,7 +39,7 @@ module _ (s : RawSetting) (bounds : Bounds) (deepest : ℕ) (takes : Routine →
   form_turn Return passed n a b more t few h = h
   form_turn Mark passed n a b more t few h = h
   form_turn (Far at) passed n a b more t few h = h
-  form_turn Depth passed n a b more t few h = h
+  form_turn Depth passed n a b more t few h = absurd h
   form_turn (Run r) passed n a b more t few h = h
   form_turn (Enter g reads gives) passed n a b more t few h = h
   form_turn (Through reads gives) passed n a b more t few h = h

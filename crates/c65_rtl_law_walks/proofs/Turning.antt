@@ -93,7 +93,7 @@ module _ (s : RawSetting) (bounds : Bounds) (deepest : ℕ) (takes : Routine →
       deep_line s bounds deepest takes Q P f whole frame frames used has room ends (Jump k) rest passed l v p t e is parts.0 own after parts.1
   turn_line Mark rest passed l v p t e is own after h = absurd h
   turn_line (Far at) rest passed l v p t e is own after h = absurd h
-  turn_line Depth rest passed l v p t e is own after h = absurd h
+  turn_line Depth rest passed l v p t e is own after h = deep_line s bounds deepest takes Q P f whole frame frames used has room ends Depth rest passed l v p t e is refl own after h
   turn_line (Run r) rest passed l v p t e is own after h = absurd h
   turn_line (Enter g reads gives) rest passed l v p t e is own after h = absurd h
   turn_line (Through reads gives) rest passed l v p t e is own after h = absurd h

@@ -8,7 +8,7 @@ use Rattle.std.proofs.lemmas.List.Elements.{All-nil, All-cons}
 use Rattle.c65_mach.specs.declared.rows.Op.{Op}
 use Rattle.c65_mach.specs.declared.rows.Mode.{Mode}
 use Rattle.c65_mach.specs.declared.rows.Mode.TheVariants as modes
-use Rattle.c65_mach.specs.Step.{signed, changed, stored, with_a, is_taken, Kind, Reads, Stores, Changes, Branches, Registers, Moves, kind_of}
+use Rattle.c65_mach.specs.Step.{signed, changed, stored, with_a, with_x, is_taken, Kind, Reads, Stores, Changes, Branches, Registers, Moves, kind_of}
 use Rattle.c65_code.specs.declared.line.Callee.{Callee}
 use Rattle.c65_code.specs.declared.line.Callee.TheVariants as callees
 use Rattle.c65_code.specs.declared.line.Line.{Line}
@@ -65,10 +65,11 @@ by_call s bounds deepest takes callee rest (Some l) t = rest (Some l) t
 by_call s bounds deepest takes (callees.Routine r) rest None t = by_row s bounds deepest takes (hook_row s.args r t) r rest t
 by_call s bounds deepest takes _ rest None t = ⊥
 
--- as `by_form`, where a byte may be pushed on top of fewer than the deepest
+-- as `by_form`, where a byte may be pushed on top of fewer than the deepest, and TSX stands
 abbrev pub by_deep : RawSetting → Bounds → ℕ → (State → Type 0) → Form → Way → Way
 by_deep s bounds deepest P form rest (Some l) t = rest (Some l) t
 by_deep s bounds deepest P Push rest None t = (length t.pushed + 1 ≤ deepest) × rest None (record t { pushed = t.regs.a ∷ t.pushed })
+by_deep s bounds deepest P Depth rest None t = rest None (record t { regs = with_x (s_of t) t.regs })
 by_deep s bounds deepest P form rest None t = by_form s.place bounds P form rest None t
 
 unfoldable pub leads_in : RawSetting → Bounds → ℕ → (Routine → Takes) → (State → Type 0) → List Line → Way
@@ -198,7 +199,11 @@ module _ (s : RawSetting) (bounds : Bounds) (deepest : ℕ) (takes : Routine →
   deep_line Return rest passed l v p t e is onward own after h = at_return l v p t e is own t.pushed refl h
   deep_line Mark rest passed l v p t e is onward own after h = absurd h
   deep_line (Far at) rest passed l v p t e is onward own after h = absurd h
-  deep_line Depth rest passed l v p t e is onward own after h = absurd h
+  deep_line Depth rest passed l v p t e is onward own after h =
+      let to : State = record t { regs = with_x (s_of t) t.regs } in
+      on_form s bounds Q l Depth v (1 + v) (f, p) t e (stands p l is) own.ended tt (omega arith)
+      (λ q u g bytes. moved_to s bounds Q v q (f, settle whole (suc p)) u to (g.0 ∙ ap (λ (ls : List Line). let q' : Place = (f, settle ls (suc p)) in q') has) g.1
+      (after.by None to tt (subst IsBytes g.1 bytes) (still_own frame frames used t to (record { frames = refl; ended = refl }) own) h))
   deep_line (Run r) rest passed l v p t e is onward own after h = absurd h
   deep_line (Enter g reads gives) rest passed l v p t e is onward own after h = absurd h
   deep_line (Through reads gives) rest passed l v p t e is onward own after h = absurd h
@@ -354,7 +359,7 @@ module _ (s : RawSetting) (bounds : Bounds) (deepest : ℕ) (takes : Routine →
   form_in Return n a b more t few h = h
   form_in Mark n a b more t few h = h
   form_in (Far at) n a b more t few h = h
-  form_in Depth n a b more t few h = h
+  form_in Depth n a b more t few h = absurd h
   form_in (Run r) n a b more t few h = h
   form_in (Enter g reads gives) n a b more t few h = h
   form_in (Through reads gives) n a b more t few h = h

@@ -39,7 +39,7 @@ fn printed_as_read(rt: HostRuntime) -> Result<(), Fail> {
 }
 
 // The line at which a text is refused as none that is printed.
-fn refused_line(alloc: Global, text: &[u8]) -> Option<u32> {
+pub fn refused_line(alloc: Global, text: &[u8]) -> Option<u32> {
     match read(alloc, text) {
         Err(Refusal::Source { code, file, line }) => {
             if code == Fault::AssemblyText && file.as_slice() == b"<text>".as_slice() {

@@ -1,27 +1,30 @@
 // Commands over files and streams in memory.
+use crate::device::Device;
 use c65_base::Refusal;
 use c65_driver::{Made, tool};
-use c65_io::{MemFiles, MemSink, mem_files, mem_sink, mem_source};
+use c65_io::{MemSink, mem_files, mem_sink, mem_source};
 use std::alloc::Global;
 
-/// What a command is given beside its words: files, the input, and the calls of the input and of
-/// the output that fail, or 0.
+/// What a command is given beside its words: files, the input, and the calls of the input, of the output and of the errors
+/// that fail, or 0.
 #[derive(Drop)]
 pub struct Desk {
-    pub files: MemFiles,
+    pub device: Device,
     pub input: Vec<u8>,
     pub fail_in: u32,
     pub fail_out: u32,
+    pub fail_err: u32,
 }
 
 impl Desk {
     /// No files, of which this call fails, unless it is 0.
     pub fn new(alloc: Global, fail: u32) -> Result<Desk, Refusal> {
         Ok(Desk {
-            files: mem_files(alloc, Vec::from_slice(alloc, &[fail])?),
+            device: Device::new(mem_files(alloc, Vec::from_slice(alloc, &[fail])?)),
             input: Vec::new(alloc),
             fail_in: 0,
             fail_out: 0,
+            fail_err: 0,
         })
     }
 
@@ -33,11 +36,15 @@ impl Desk {
         count: u32,
         text: &[u8],
     ) -> Result<(), Refusal> {
-        let mut bytes = Vec::from_slice(alloc, self.files.get(path.as_bytes()).unwrap_or(&[]))?;
+        let mut bytes = Vec::from_slice(
+            alloc,
+            self.device.files.get(path.as_bytes()).unwrap_or(&[]),
+        )?;
         for _ in 0..count {
             bytes.extend_from_slice(text)?;
         }
-        self.files
+        self.device
+            .files
             .put(Vec::from_slice(alloc, path.as_bytes())?, bytes)
     }
 }
@@ -64,12 +71,12 @@ pub fn perform(alloc: Global, desk: &mut Desk, text: &str) -> Result<Left, Refus
     let input = Vec::from_slice(alloc, &desk.input)?;
     let mut input = mem_source(input, Vec::from_slice(alloc, &[desk.fail_in])?);
     let mut out = mem_sink(alloc, Vec::from_slice(alloc, &[desk.fail_out])?);
-    let mut err = mem_sink(alloc, Vec::new(alloc));
+    let mut err = mem_sink(alloc, Vec::from_slice(alloc, &[desk.fail_err])?);
     let mut made = Made::nothing();
     let outcome = tool(
         alloc,
         &words,
-        &mut desk.files,
+        &mut desk.device,
         &mut input,
         &mut out,
         &mut err,
@@ -82,9 +89,9 @@ pub fn perform(alloc: Global, desk: &mut Desk, text: &str) -> Result<Left, Refus
     })
 }
 
-/// `go` for these bytes as the file a.c.
-pub fn cut_to(alloc: Global, bytes: &[u8]) -> Result<Left, Refusal> {
+/// Does a command where the only file has these bytes.
+pub fn perform_with(alloc: Global, path: &str, bytes: &[u8], text: &str) -> Result<Left, Refusal> {
     let mut desk = Desk::new(alloc, 0)?;
-    desk.add(alloc, "a.c", 1, bytes)?;
-    perform(alloc, &mut desk, "go a.c")
+    desk.add(alloc, path, 1, bytes)?;
+    perform(alloc, &mut desk, text)
 }

@@ -40,8 +40,8 @@ returns-in-Run g c =
     (g.I.Source.left c.run_image.new.input) (g.I.Source.faults c.run_image.new.input) (g.O.Sink.written c.run_image.new.out) (g.O.Sink.faults c.run_image.new.out))
     c.run_image.new.made.code c.run_image.new.made.image c.run_image.result c.in-Ok.ensures (sym c.kind_of.ensures ∙ c.in-Run.is) c.run_image.ensures
 
-pub returns : goal.returns
-returns g c =
+pub returns-in-Text : goal.returns-in-Text
+returns-in-Text g c =
     performs_by (spelling_of (map string_bytes c.args.words.now)) c.in-Ok.command kinds.Text
     (outside (g.F.Files.contents c.args.files.now) (g.F.Files.faults c.args.files.now) (g.F.Files.write_faults c.args.files.now) (g.F.Files.misses c.args.files.now)
     (g.I.Source.left c.args.input.now) (g.I.Source.faults c.args.input.now) (g.O.Sink.written c.args.out.now) (g.O.Sink.faults c.args.out.now))
@@ -49,3 +49,13 @@ returns g c =
     (g.I.Source.left c.args.input.now) (g.I.Source.faults c.args.input.now) (g.O.Sink.written c.text.new.out) (g.O.Sink.faults c.text.new.out))
     c.text.new.made.code c.text.new.made.image c.text.result c.in-Ok.ensures (sym c.kind_of.ensures ∙ c.in-Text.is)
     (record { texts = c.text.ensures; left = refl; input_faults = refl })
+
+pub returns : goal.returns
+returns g c =
+    performs_by (spelling_of (map string_bytes c.args.words.now)) c.in-Ok.command kinds.Gen
+    (outside (g.F.Files.contents c.args.files.now) (g.F.Files.faults c.args.files.now) (g.F.Files.write_faults c.args.files.now) (g.F.Files.misses c.args.files.now)
+    (g.I.Source.left c.args.input.now) (g.I.Source.faults c.args.input.now) (g.O.Sink.written c.args.out.now) (g.O.Sink.faults c.args.out.now))
+    (outside (g.F.Files.contents c.args.files.now) (g.F.Files.faults c.args.files.now) (g.F.Files.write_faults c.args.files.now) (g.F.Files.misses c.args.files.now)
+    (g.I.Source.left c.args.input.now) (g.I.Source.faults c.args.input.now) (g.O.Sink.written c.generate.new.out) (g.O.Sink.faults c.generate.new.out))
+    c.generate.new.made.code c.generate.new.made.image c.generate.result c.in-Ok.ensures (sym c.kind_of.ensures ∙ c.in-Gen.is)
+    (record { generates = c.generate.ensures; files = refl; left = refl; input_faults = refl })

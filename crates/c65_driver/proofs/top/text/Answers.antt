@@ -1,4 +1,4 @@
-use Rattle.std.proofs.Common.{◌∙◌, sym, subst}
+use Rattle.std.proofs.Common.{◌∙◌, Bool, sym, subst}
 use Rattle.c65_driver.specs.Assembly.{IsTextOf}
 use Rattle.c65_driver.specs.Outside.{files_side, text_side}
 use Rattle.c65_driver.proofs.PrintLaws.{texts_stop, texts_short, texts_wrote}
@@ -30,4 +30,5 @@ returns g c =
     (g.O.Sink.written c.write_text.new.out) (g.O.Sink.faults c.write_text.new.out))
     (g.O.Sink.written c.args.out.now) (g.O.Sink.faults c.args.out.now)
     c.make_image.new.made.code c.in-Ok.image c.as_slice.result.now c.write_text.result
-    c.in-Ok.ensures.compiled c.in-Ok.ensures.sources (subst (IsTextOf c.make_image.new.made.code) (sym c.as_slice.ensures) c.in-Ok-made_text.ensures.ok) c.write_text.ensures
+    c.in-Ok.ensures.compiled c.in-Ok.ensures.sources (subst (λ (known : Bool). IsTextOf known c.make_image.new.made.code c.as_slice.result.now) c.is_known.ensures
+    (subst (IsTextOf c.is_known.result c.make_image.new.made.code) (sym c.as_slice.ensures) c.in-Ok-made_text.ensures.ok)) c.write_text.ensures

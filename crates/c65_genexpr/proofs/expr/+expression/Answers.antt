@@ -58,13 +58,13 @@ pub put_call-returns-in_ok-passed-in-Some-clause-kept : goal.put_call-returns-in
 put_call-returns-in_ok-passed-in-Some-clause-kept t c = grown_last _ _ _ _ _ _ c.in_ok-passed-in-Some.ensures.lines c.put_named.ensures.kept
 
 pub put_compound-returns-in_err-put_open-clause-kept : goal.put_compound-returns-in_err-put_open-clause-kept
-put_compound-returns-in_err-put_open-clause-kept t c = refused_then c.from_residual-in_err-put_open.result (grown_then _ _ _ _ _ c.in_ok-put_target.ensures.lines c.in_err-put_open.ensures.kept)
+put_compound-returns-in_err-put_open-clause-kept t c = refused_then c.from_residual-in_err-put_open.result (grown_then _ _ _ _ _ c.in_ok-put_base.ensures.lines c.in_err-put_open.ensures.kept)
 
 pub put_compound-returns-in_err-put_expr-clause-kept : goal.put_compound-returns-in_err-put_expr-clause-kept
-put_compound-returns-in_err-put_expr-clause-kept t c = refused_then c.from_residual-in_err-put_expr.result (grown_then _ _ _ _ _ c.in_ok-put_target.ensures.lines (kept_then _ _ _ _ c.in_ok-put_open.ensures.lines c.in_err-put_expr.ensures.kept))
+put_compound-returns-in_err-put_expr-clause-kept t c = refused_then c.from_residual-in_err-put_expr.result (grown_then _ _ _ _ _ c.in_ok-put_base.ensures.lines (kept_then _ _ _ _ c.in_ok-put_open.ensures.lines c.in_err-put_expr.ensures.kept))
 
 pub put_compound-returns-clause-kept : goal.put_compound-returns-clause-kept
-put_compound-returns-clause-kept t c = grown_last _ _ _ _ _ _ c.in_ok-put_target.ensures.lines (kept_last _ _ _ _ _ c.in_ok-put_open.ensures.lines (grown_last _ _ _ _ _ _ c.in_ok-put_expr.ensures.lines c.put_close.ensures.kept))
+put_compound-returns-clause-kept t c = grown_last _ _ _ _ _ _ c.in_ok-put_base.ensures.lines (kept_last _ _ _ _ _ c.in_ok-put_open.ensures.lines (grown_last _ _ _ _ _ _ c.in_ok-put_expr.ensures.lines c.put_close.ensures.kept))
 
 pub put_expr-returns-in_err-push-in-Copy-clause-kept : goal.put_expr-returns-in_err-push-in-Copy-clause-kept
 put_expr-returns-in_err-push-in-Copy-clause-kept t c = refused_then c.from_residual-in_err-push-in-Copy.result (grown_then _ _ _ _ _ c.in_ok-put_expr-in-Copy.ensures.lines c.in_err-push-in-Copy.ensures.kept)
@@ -75,8 +75,8 @@ put_expr-returns-in_err-put_expr-in-Copy-2-clause-kept t c = refused_then c.from
 pub put_expr-returns-in_ok-put_expr-in-Member-clause-kept : goal.put_expr-returns-in_ok-put_expr-in-Member-clause-kept
 put_expr-returns-in_ok-put_expr-in-Member-clause-kept t c = grown_last _ _ _ _ _ _ c.in_ok-put_expr-in-Member.ensures.lines c.put_offset.ensures.kept
 
-pub put_expr-returns-in_ok-put_target-in-Load-clause-kept : goal.put_expr-returns-in_ok-put_target-in-Load-clause-kept
-put_expr-returns-in_ok-put_target-in-Load-clause-kept t c = grown_last _ _ _ _ _ _ c.in_ok-put_target-in-Load.ensures.lines c.load.ensures.kept
+pub put_expr-returns-in_ok-put_base-in-Load-clause-kept : goal.put_expr-returns-in_ok-put_base-in-Load-clause-kept
+put_expr-returns-in_ok-put_base-in-Load-clause-kept t c = grown_last _ _ _ _ _ _ c.in_ok-put_base-in-Load.ensures.lines c.load.ensures.kept
 
 pub put_expr-returns-in_ok-put_expr-in-Convert-clause-kept : goal.put_expr-returns-in_ok-put_expr-in-Convert-clause-kept
 put_expr-returns-in_ok-put_expr-in-Convert-clause-kept t c = grown_last _ _ _ _ _ _ c.in_ok-put_expr-in-Convert.ensures.lines c.put_conversion.ensures.kept
@@ -84,14 +84,14 @@ put_expr-returns-in_ok-put_expr-in-Convert-clause-kept t c = grown_last _ _ _ _ 
 pub put_expr-returns-in_ok-put_expr-in-Comma-clause-kept : goal.put_expr-returns-in_ok-put_expr-in-Comma-clause-kept
 put_expr-returns-in_ok-put_expr-in-Comma-clause-kept t c = grown_last _ _ _ _ _ _ c.in_ok-put_expr-in-Comma.ensures.lines c.put_expr-in-Comma-2.ensures.kept
 
-pub put_expr-returns-in_ok-put_target-in-Step-clause-kept : goal.put_expr-returns-in_ok-put_target-in-Step-clause-kept
-put_expr-returns-in_ok-put_target-in-Step-clause-kept t c = grown_last _ _ _ _ _ _ c.in_ok-put_target-in-Step.ensures.lines c.put_step.ensures.kept
+pub put_expr-returns-in_ok-put_base-in-Step-clause-kept : goal.put_expr-returns-in_ok-put_base-in-Step-clause-kept
+put_expr-returns-in_ok-put_base-in-Step-clause-kept t c = grown_last _ _ _ _ _ _ c.in_ok-put_base-in-Step.ensures.lines c.put_step.ensures.kept
 
 pub put_expr-returns-in_ok-put_expr-in-Copy-2-clause-kept : goal.put_expr-returns-in_ok-put_expr-in-Copy-2-clause-kept
 put_expr-returns-in_ok-put_expr-in-Copy-2-clause-kept t c = grown_last _ _ _ _ _ _ c.in_ok-put_expr-in-Copy.ensures.lines (kept_last _ _ _ _ _ c.in_ok-push-in-Copy.ensures.lines (grown_last _ _ _ _ _ _ c.in_ok-put_expr-in-Copy-2.ensures.lines c.copy.ensures.kept))
 
-pub put_expr-returns-in_ok-put_target-in-Pack-clause-kept : goal.put_expr-returns-in_ok-put_target-in-Pack-clause-kept
-put_expr-returns-in_ok-put_target-in-Pack-clause-kept t c = grown_last _ _ _ _ _ _ c.in_ok-put_target-in-Pack.ensures.lines c.load_bytes.ensures.kept
+pub put_expr-returns-in_ok-put_base-in-Pack-clause-kept : goal.put_expr-returns-in_ok-put_base-in-Pack-clause-kept
+put_expr-returns-in_ok-put_base-in-Pack-clause-kept t c = grown_last _ _ _ _ _ _ c.in_ok-put_base-in-Pack.ensures.lines c.load_bytes.ensures.kept
 
 pub put_expr-returns-in_ok-put_expr-in-Spill-clause-kept : goal.put_expr-returns-in_ok-put_expr-in-Spill-clause-kept
 put_expr-returns-in_ok-put_expr-in-Spill-clause-kept t c = grown_last _ _ _ _ _ _ c.in_ok-put_expr-in-Spill.ensures.lines c.put_spill.ensures.kept
@@ -240,14 +240,14 @@ put_joint-returns-in_ok-put_test-3-clause-kept t c = label_last _ _ _ _ c.in_ok-
 pub put_side-returns-in_ok-put_wanted-in-Left-clause-kept : goal.put_side-returns-in_ok-put_wanted-in-Left-clause-kept
 put_side-returns-in_ok-put_wanted-in-Left-clause-kept t c = grown_last _ _ _ _ _ _ c.in_ok-put_wanted-in-Left.ensures.lines c.leave_out.ensures.kept
 
-pub put_load_test-returns-in_ok-leave_place-in-Some-clause-kept : goal.put_load_test-returns-in_ok-leave_place-in-Some-clause-kept
-put_load_test-returns-in_ok-leave_place-in-Some-clause-kept t c = grown_last _ _ _ _ _ _ c.in_ok-leave_place-in-Some.ensures.lines c.put_own_test.ensures.kept
+pub put_load_test-returns-in_ok-put_base-in-Some-clause-kept : goal.put_load_test-returns-in_ok-put_base-in-Some-clause-kept
+put_load_test-returns-in_ok-put_base-in-Some-clause-kept t c = grown_last _ _ _ _ _ _ c.in_ok-put_base-in-Some.ensures.lines c.put_own_test.ensures.kept
 
 pub put_load_test-returns-in_err-load-in-None-clause-kept : goal.put_load_test-returns-in_err-load-in-None-clause-kept
-put_load_test-returns-in_err-load-in-None-clause-kept t c = refused_then c.from_residual-in_err-load-in-None.result (grown_then _ _ _ _ _ c.in_ok-put_target-in-None.ensures.lines c.in_err-load-in-None.ensures.kept)
+put_load_test-returns-in_err-load-in-None-clause-kept t c = refused_then c.from_residual-in_err-load-in-None.result (grown_then _ _ _ _ _ c.in_ok-put_base-in-None.ensures.lines c.in_err-load-in-None.ensures.kept)
 
 pub put_load_test-returns-in_ok-load-in-None-clause-kept : goal.put_load_test-returns-in_ok-load-in-None-clause-kept
-put_load_test-returns-in_ok-load-in-None-clause-kept t c = grown_last _ _ _ _ _ _ c.in_ok-put_target-in-None.ensures.lines (kept_last _ _ _ _ _ c.in_ok-load-in-None.ensures.lines c.put_value_test.ensures.kept)
+put_load_test-returns-in_ok-load-in-None-clause-kept t c = grown_last _ _ _ _ _ _ c.in_ok-put_base-in-None.ensures.lines (kept_last _ _ _ _ _ c.in_ok-load-in-None.ensures.lines c.put_value_test.ensures.kept)
 
 pub put_test-returns-in_ok-put_expr-in-Comma-clause-kept : goal.put_test-returns-in_ok-put_expr-in-Comma-clause-kept
 put_test-returns-in_ok-put_expr-in-Comma-clause-kept t c = grown_last _ _ _ _ _ _ c.in_ok-put_expr-in-Comma.ensures.lines c.put_test-in-Comma.ensures.kept
@@ -301,13 +301,13 @@ pub put_assign-returns-in_ok-put_expr-in-RightWord-clause-kept : goal.put_assign
 put_assign-returns-in_ok-put_expr-in-RightWord-clause-kept t c = grown_last _ _ _ _ _ _ c.in_ok-leave_out-in-RightWord.ensures.lines (grown_last _ _ _ _ _ _ c.in_ok-put_expr-in-RightWord.ensures.lines c.put_word_through.ensures.kept)
 
 pub put_assign-returns-in_err-hold-in-Stacked-clause-kept : goal.put_assign-returns-in_err-hold-in-Stacked-clause-kept
-put_assign-returns-in_err-hold-in-Stacked-clause-kept t c = refused_then c.from_residual-in_err-hold-in-Stacked.result (grown_then _ _ _ _ _ c.in_ok-put_target-in-Stacked.ensures.lines c.in_err-hold-in-Stacked.ensures.kept)
+put_assign-returns-in_err-hold-in-Stacked-clause-kept t c = refused_then c.from_residual-in_err-hold-in-Stacked.result (grown_then _ _ _ _ _ c.in_ok-put_base-in-Stacked.ensures.lines c.in_err-hold-in-Stacked.ensures.kept)
 
 pub put_assign-returns-in_err-put_expr-in-Stacked-clause-kept : goal.put_assign-returns-in_err-put_expr-in-Stacked-clause-kept
-put_assign-returns-in_err-put_expr-in-Stacked-clause-kept t c = refused_then c.from_residual-in_err-put_expr-in-Stacked.result (grown_then _ _ _ _ _ c.in_ok-put_target-in-Stacked.ensures.lines (kept_then _ _ _ _ c.in_ok-hold-in-Stacked.ensures.lines c.in_err-put_expr-in-Stacked.ensures.kept))
+put_assign-returns-in_err-put_expr-in-Stacked-clause-kept t c = refused_then c.from_residual-in_err-put_expr-in-Stacked.result (grown_then _ _ _ _ _ c.in_ok-put_base-in-Stacked.ensures.lines (kept_then _ _ _ _ c.in_ok-hold-in-Stacked.ensures.lines c.in_err-put_expr-in-Stacked.ensures.kept))
 
 pub put_assign-returns-in_ok-put_expr-in-Stacked-clause-kept : goal.put_assign-returns-in_ok-put_expr-in-Stacked-clause-kept
-put_assign-returns-in_ok-put_expr-in-Stacked-clause-kept t c = grown_last _ _ _ _ _ _ c.in_ok-put_target-in-Stacked.ensures.lines (kept_last _ _ _ _ _ c.in_ok-hold-in-Stacked.ensures.lines (grown_last _ _ _ _ _ _ c.in_ok-put_expr-in-Stacked.ensures.lines c.store.ensures.kept))
+put_assign-returns-in_ok-put_expr-in-Stacked-clause-kept t c = grown_last _ _ _ _ _ _ c.in_ok-put_base-in-Stacked.ensures.lines (kept_last _ _ _ _ _ c.in_ok-hold-in-Stacked.ensures.lines (grown_last _ _ _ _ _ _ c.in_ok-put_expr-in-Stacked.ensures.lines c.store.ensures.kept))
 
 pub put_base-returns-clause-lines : goal.put_base-returns-clause-lines
 put_base-returns-clause-lines t c = based c.put_base_by.result c.args.draft.now c.put_base_by.new.draft c.args.frame.now c.args.pushed c.args.draft.now.labels (typed_of c.args.a.now) c.put_base_by.ensures.lines

@@ -15,17 +15,11 @@ decreases-put_test l = 8 * count (typed_of l.e.now) + 2
 abbrev pub decreases-put_wanted : goal.decreases-put_wanted
 decreases-put_wanted l = 8 * count (typed_of l.e.now) + 3
 
-abbrev pub decreases-put_target : goal.decreases-put_target
-decreases-put_target l = 8 * count (typed_of l.a.now) + 3
-
 abbrev pub decreases-put_base : goal.decreases-put_base
 decreases-put_base l = 8 * count (typed_of l.a.now) + 2
 
 abbrev pub decreases-put_part_base : goal.decreases-put_part_base
 decreases-put_part_base l = 8 * count (typed_of l.e.now) + 3
-
-abbrev pub decreases-put_array_base : goal.decreases-put_array_base
-decreases-put_array_base l = 8 * count (typed_of l.array.now) + 3
 
 abbrev pub decreases-put_pointer_base : goal.decreases-put_pointer_base
 decreases-put_pointer_base l = 8 * count (typed_of l.e.now) + 2

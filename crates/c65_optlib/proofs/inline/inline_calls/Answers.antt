@@ -1,21 +1,17 @@
-use Rattle.std.proofs.Common.{◌≡◌, ℕ, Bool, true, false, List, Ok, refl, arith}
-use Rattle.c65_code.specs.declared.line.Sym.{Sym}
-use Rattle.c65_know.specs.Known.{Annotated}
-use Rattle.c65_optlib.specs.Library.{IsWalked}
-use Rattle.c65_pass.specs.Passes.{none}
+use Rattle.std.proofs.Common.{arith}
+use Rattle.std.proofs.lemmas.Result.{err_from_is_err_and}
+use Rattle.c65_optlib.proofs.Walked.{first_refused, second_refused, both_walked}
 use Rattle.c65_optlib.proofs.inline.inline_calls.Goals as goal
 
-not_asked : (rule : ℕ) (literals : List (Sym × List ℕ)) (code : Annotated) (asked : Bool) → asked ≡ false → IsWalked asked rule literals code code (Ok 0)
-not_asked rule literals code true h = absurd cc
-not_asked rule literals code false h = record {
-  once = (0, (refl, refl), omega arith);
-  chain = (0, none, omega arith);
-  segment = λ s. s;
-  extent = omega arith;
-  writable = λ symbols all. all;
-  out = refl;
-  refused = tt;
-}
+pub returns-in_err-opened : goal.returns-in_err-opened
+returns-in_err-opened c =
+    let p = err_from_is_err_and c.from_residual.result c.from_residual.ensures.1 in
+    rw (p.1, p.2) (first_refused _ _ _ _ _ _ c.in_err-opened.ensures)
 
-pub returns-then-not-options : goal.returns-then-not-options
-returns-then-not-options c = not_asked 39 c.args.literals.now.items c.args.code.now c.args.options.now.inline_more c.if-not-options.true
+pub returns-in_err-known : goal.returns-in_err-known
+returns-in_err-known c =
+    let p = err_from_is_err_and c.from_residual-in_err-known.result c.from_residual-in_err-known.ensures.1 in
+    rw (p.1, p.2) (second_refused _ _ _ _ _ _ _ _ c.in_ok-opened.ensures c.in_err-known.ensures)
+
+pub returns : goal.returns
+returns c = both_walked _ _ _ _ _ _ _ _ _ (omega (arith, c.saturating_add.ensures)) c.in_ok-opened.ensures c.in_ok-known.ensures

@@ -3,6 +3,11 @@ use Rattle.c65_pass.specs.Passes.{IsGood, IsRun}
 use Rattle.c65_pass.proofs.Turns.{only_passed}
 use Rattle.c65_pass.proofs.rounds.run_rule.Goals as goal
 
+pub new-pass-requires-clause-good : goal.new-pass-requires-clause-good
+new-pass-requires-clause-good g c =
+    let none : c.from_vec.result ≡ [] = search rules in
+    subst (λ ls. IsGood c.args.rule ls) (sym none) c.requires.good
+
 pub run_pass_on-requires-clause-good : goal.run_pass_on-requires-clause-good
 run_pass_on-requires-clause-good g c =
     let none : c.new-pass.result.literals.now.items ≡ [] = search rules in

@@ -1,4 +1,4 @@
-use Rattle.std.proofs.Common.{[], Some, length, ap, sym, ◌∙◌, arith}
+use Rattle.std.proofs.Common.{[], Some, length, ap, arith}
 use Rattle.c65_know.specs.Notes.{nothing_known}
 use Rattle.c65_know.proofs.Passes.{known_length}
 use Rattle.c65_know.proofs.Gaps.{gap_of, gap_order, gap_place, gap_lengths, gap_before, gap_straight, gap_passed}
@@ -19,9 +19,3 @@ renew_straight-requires c =
       straight = gap_straight _ _ _ _ _ _ _ _ g (c.are_straight-straight.ensures c.if-straight.true).1;
       passed = gap_passed _ _ _ _ _ _ _ _ g (c.are_straight-straight.ensures c.if-straight.true).0;
     }
-
-pub update-requires-clause-lengths : goal.update-requires-clause-lengths
-update-requires-clause-lengths c =
-    let g = (gap_of c.self.inside.seg.lines c.lines-old.result.now c.args.lines.now c.lines-now.result.now c.replace.new.self.lines c.self.inside.notes.items c.deref.result.now c.in_ok-notes.notes.items c.deref_mut-else-straight.result.now c.args.at c.args.count
-    (omega (arith, c.requires.place, ap (λ s. length s.lines) c.self.view_is)) c.lines-old.ensures.lines c.lines-now.ensures.lines (ap (λ s. s.lines) c.in_ok-replace.ensures.ok) c.deref.ensures.value c.self.invariant.1 c.in_ok-notes.ensures c.deref_mut-else-straight.ensures.value) in
-    sym (gap_lengths _ _ _ _ _ _ _ _ g) ∙ ap length c.lines-now.ensures.lines

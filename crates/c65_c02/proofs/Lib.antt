@@ -1,0 +1,2 @@
+mod Shortened
+pub mod Good

@@ -1,0 +1,13 @@
+use Rattle.std.proofs.Common.{rules}
+use Rattle.c65_pass.proofs.Turns.{passed_early, passed_range, good_turns}
+use Rattle.c65_c02.proofs.Good.{processor_good}
+use Rattle.c65_c02.proofs.processor.optimise_c02.Goals as goal
+
+pub returns-in_err-live : goal.returns-in_err-live
+returns-in_err-live c = passed_early _ _ _ c.seg.ensures.kept (search rules) (search rules)
+
+pub run_rules-requires-clause-good : goal.run_rules-requires-clause-good
+run_rules-requires-clause-good c = good_turns 41 45 processor_good
+
+pub returns : goal.returns
+returns c = passed_range 41 45 _ _ _ c.run_rules.ensures

@@ -1,0 +1,10 @@
+use Rattle.std.proofs.Common.{take}
+use Rattle.c65_know.specs.Known.{all_ways, IsNotedTo}
+use Rattle.c65_know.specs.Index.{IsIndex}
+use Rattle.c65_know.proofs.index.pass.Given as goal
+
+abbrev pub invariant-loop-at : goal.invariant-loop-at
+invariant-loop-at l = record {
+  right : IsNotedTo l.lines l.notes l.way l.at;
+  index : IsIndex l.ways.entries (all_ways (take l.at l.lines) (take l.at l.notes));
+}

@@ -1,0 +1,6 @@
+pub mod Digits
+pub mod Reading
+pub mod Writing
+pub mod Arguments
+pub mod Format
+pub mod Widths
