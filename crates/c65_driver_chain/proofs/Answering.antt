@@ -29,7 +29,7 @@ use Rattle.c65_genstmt.specs.Programs.{program_of}
 use Rattle.c65_ppline.specs.Relations.{Answers, just, by_test, ◌then◌, IsFree, Comes}
 use Rattle.c65_ppdir.specs.Units.{preprocessed}
 use Rattle.c65_ppline.proofs.Relations.{goes, goes_on, stops_first}
-use Rattle.c65_driver_chain.specs.Front.{typed, in_file, Command, rest_spelling, rest_name, file_typed, files_typed, units_typed, joining, programs, IsGood, generated, compiled, Located, Passed}
+use Rattle.c65_driver_chain.specs.Front.{typed, in_file, Command, rest_spelling, rest_name, file_typed, files_typed, units_typed, joining, units_joined, programs, IsGood, generated, compiled, Located, Passed}
 
 -- the first answer is a refusal
 stops : {A B : Type 0} (P : Answers A) (f : A → Answers B) (e : Refusal) → IsFree e ⊎ P (Err e) → IsFree e ⊎ (P then f) (Err e)
@@ -139,22 +139,22 @@ begun_goes c paths n names z name known h =
     (subst (λ (l : List (List ℕ)). files_typed c n paths [] l (Ok z)) known h)
 
 pub too_many : (c : Command) (paths : List (List ℕ)) → nat_lt (limit_of sizes.Units) (length paths) ≡ true → programs c paths (Err (refusals.TooLarge sizes.Units (length paths)))
-too_many c paths h = subst (λ (b : Bool). by_test b (just (Err (refusals.TooLarge sizes.Units (length paths)))) (units_typed c paths then λ x. joining (joined x.1 x.0) then λ p. just (Ok (p, x.1))) (Err (refusals.TooLarge sizes.Units (length paths)))) (sym h) refl
+too_many c paths h = subst (λ (b : Bool). by_test b (just (Err (refusals.TooLarge sizes.Units (length paths)))) (units_typed c paths then units_joined) (Err (refusals.TooLarge sizes.Units (length paths)))) (sym h) refl
 
-few : (c : Command) (paths : List (List ℕ)) (z : Result ((UnitTy × ℕ) × List (List ℕ)) Refusal) → length paths ≤ limit_of sizes.Units → (units_typed c paths then λ x. joining (joined x.1 x.0) then λ p. just (Ok (p, x.1))) z → programs c paths z
-few c paths z h = subst (λ (b : Bool). (units_typed c paths then λ x. joining (joined x.1 x.0) then λ p. just (Ok (p, x.1))) z → by_test b (just (Err (refusals.TooLarge sizes.Units (length paths)))) (units_typed c paths then λ x. joining (joined x.1 x.0) then λ p. just (Ok (p, x.1))) z) (sym (le-ltb (limit_of sizes.Units) (length paths) h)) (λ x. x)
+few : (c : Command) (paths : List (List ℕ)) (z : Result ((UnitTy × ℕ) × List (List ℕ)) Refusal) → length paths ≤ limit_of sizes.Units → (units_typed c paths then units_joined) z → programs c paths z
+few c paths z h = subst (λ (b : Bool). (units_typed c paths then units_joined) z → by_test b (just (Err (refusals.TooLarge sizes.Units (length paths)))) (units_typed c paths then units_joined) z) (sym (le-ltb (limit_of sizes.Units) (length paths) h)) (λ x. x)
 
-few_err : (c : Command) (paths : List (List ℕ)) (e : Refusal) → length paths ≤ limit_of sizes.Units → IsFree e ⊎ (units_typed c paths then λ x. joining (joined x.1 x.0) then λ p. just (Ok (p, x.1))) (Err e) → IsFree e ⊎ programs c paths (Err e)
+few_err : (c : Command) (paths : List (List ℕ)) (e : Refusal) → length paths ≤ limit_of sizes.Units → IsFree e ⊎ (units_typed c paths then units_joined) (Err e) → IsFree e ⊎ programs c paths (Err e)
 few_err c paths e h (inl free) = inl free
-few_err c paths e h (inr stops) = inr (few c paths (Err e) h stops)
+few_err c paths e h (inr stopped) = inr (few c paths (Err e) h stopped)
 
 pub not_typed : (c : Command) (paths : List (List ℕ)) (e : Refusal) → length paths ≤ limit_of sizes.Units → IsFree e ⊎ units_typed c paths (Err e) → IsFree e ⊎ programs c paths (Err e)
-not_typed c paths e h stopped = few_err c paths e h (stops (units_typed c paths) (λ x. joining (joined x.1 x.0) then λ p. just (Ok (p, x.1))) e stopped)
+not_typed c paths e h stopped = few_err c paths e h (stops (units_typed c paths) units_joined e stopped)
 
 pub no_program : (c : Command) (paths : List (List ℕ)) (units : List UnitTy) (names : List (List ℕ)) (e r : Refusal) → length paths ≤ limit_of sizes.Units → units_typed c paths (Ok (units, names)) → IsFree e ⊎ joining (joined names units) (Err e) → Passed e r → IsFree r ⊎ programs c paths (Err r)
 no_program c paths units names e r h before stopped passed =
     let here : IsFree r ⊎ (joining (joined names units) then λ p. just (Ok (p, names))) (Err r) = stops (joining (joined names units)) (λ p. just (Ok (p, names))) r (passes (joining (joined names units)) e r stopped passed) in
-    few_err c paths r h (goes_on {X = (UnitTy × ℕ) × List (List ℕ)} (λ x. x) (units_typed c paths) (λ x. joining (joined x.1 x.0) then λ p. just (Ok (p, x.1))) (units, names) (Err r) before here)
+    few_err c paths r h (goes_on {X = (UnitTy × ℕ) × List (List ℕ)} (λ x. x) (units_typed c paths) units_joined (units, names) (Err r) before here)
 
 pub is_program : (c : Command) (paths : List (List ℕ)) (units : List UnitTy) (names : List (List ℕ)) (p : UnitTy × ℕ) → length paths ≤ limit_of sizes.Units → units_typed c paths (Ok (units, names)) → joining (joined names units) (Ok p) → programs c paths (Ok (p, names))
 is_program c paths units names p h before is = few c paths (Ok (p, names)) h ((units, names), before, (p, is, refl))

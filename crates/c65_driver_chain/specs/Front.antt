@@ -80,10 +80,14 @@ abbrev pub joining : {A : Type 0} → Result A JoinFault → Answers A
 joining (Ok x) = just (Ok x)
 joining (Err f) = just (Err (refusals.Link f.kind f.name))
 
--- the program of all files, its main function, and the spellings that are known behind it; no more files are joined than the limit
+-- the program of such parts, its main function, and the spellings that are known behind it
+abbrev pub units_joined : List UnitTy × List (List ℕ) → Answers ((UnitTy × ℕ) × List (List ℕ))
+units_joined x = joining (joined x.1 x.0) then λ p. just (Ok (p, x.1))
+
+-- that of all files; no more files are joined than the limit
 abbrev pub programs : Command → List (List ℕ) → Answers ((UnitTy × ℕ) × List (List ℕ))
 programs c paths = by_test (nat_lt (limit_of sizes.Units) (length paths)) (just (Err (refusals.TooLarge sizes.Units (length paths))))
-    (units_typed c paths then λ x. joining (joined x.1 x.0) then λ p. just (Ok (p, x.1)))
+    (units_typed c paths then units_joined)
 
 -- ---- its code
 

@@ -19,8 +19,8 @@ returns-in-Ok-program_of-clause-exact g c = λ held told.
     (begun_goes k c.args.paths.now c.in-Ok.rest c.in-Ok.names (units, c.typed_units.new.names) c.in-Ok.ensures.name c.in-Ok.ensures.names (c.in-Ok-typed_units.ensures.exact held told))
     c.in-Ok-program_of.ensures.exact
 
-pub returns-clause-exact : goal.returns-clause-exact
-returns-clause-exact g c = λ held told.
+pub returns-in-Err-program_of-clause-exact : goal.returns-in-Err-program_of-clause-exact
+returns-in-Err-program_of-clause-exact g c = λ held told.
     let k = command held c.args.options.now c.args.defines.now c.args.folders.now in
     let units : List UnitTy = map unit_of c.in-Ok-typed_units.units.items in
     no_program k c.args.paths.now units c.typed_units.new.names c.in-Err-program_of.refusal c.of_all.result c.if-paths-gt-UNITS.false
