@@ -112,4 +112,5 @@ try_each go -Oirs words.c
 try_each build -Oirs -o made.out words.c
 try_each text -Oirs words.c
 try_each gen 2
+try_each depth words.c
 try_each run image

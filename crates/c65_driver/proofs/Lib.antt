@@ -4,6 +4,7 @@ pub mod AnswerLaws
 pub mod RunLaws
 pub mod FrontLaws
 pub mod GenLaws
+pub mod DepthLaws
 pub mod GoLaws
 pub mod LinkLaws
 pub mod BuildLaws

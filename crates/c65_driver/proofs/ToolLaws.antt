@@ -10,6 +10,7 @@ use Rattle.c65_driver_words.specs.declared.command.CommandKind.{CommandKind}
 use Rattle.c65_driver_words.specs.declared.command.CommandKind.TheVariants as kinds
 use Rattle.c65_driver.specs.Outside.{Outside}
 use Rattle.c65_driver.specs.Tool.{Refuses, Serves, Performs}
+use Rattle.c65_driver.proofs.DepthLaws.{depths_free}
 use Rattle.c65_driver.proofs.GenLaws.{gens_free}
 use Rattle.c65_driver.proofs.GoLaws.{goes_free}
 use Rattle.c65_driver.proofs.BuildLaws.{builds_free}
@@ -25,6 +26,7 @@ serves_free kinds.Build command old = builds_free command old
 serves_free kinds.Run command old = runs_free command old
 serves_free kinds.Text command old = texts_free command old
 serves_free kinds.Gen command old = gens_free command old
+serves_free kinds.Depth command old = depths_free command old
 
 -- want of memory
 pub performs_free : (spelling : Spelling) (old : Outside) → Performs spelling old old None None (Err OutOfMemory)

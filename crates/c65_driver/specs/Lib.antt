@@ -1,6 +1,7 @@
 pub mod Assembly
 pub mod Causes
 pub mod Compiled
+pub mod Depth
 pub mod Generated
 pub mod Outcome
 pub mod Outside

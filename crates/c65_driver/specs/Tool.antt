@@ -19,6 +19,7 @@ use Rattle.c65_driver_chain.specs.Refused.{StopsChain, UnitsLimit}
 use Rattle.c65_driver.specs.Assembly.{MadeText}
 use Rattle.c65_driver.specs.Causes.{ReadCauses, MissCause}
 use Rattle.c65_driver.specs.Compiled.{IsRead, IsLinked, IsOfSources, ServesWith, output_of, BuildsFile}
+use Rattle.c65_driver.specs.Depth.{Depths}
 use Rattle.c65_driver.specs.Generated.{Generates}
 use Rattle.c65_driver.specs.Outside.{FilesSide, TextSide, Outside, text_part}
 use Rattle.c65_driver.specs.Setups.{setup_of, MadeRuns}
@@ -132,6 +133,14 @@ pub record Gens (command : Spelled) (old new : Outside) (code : Option Code) (im
   pub left : new.left ≡ old.left
   pub input_faults : new.input_faults ≡ old.input_faults
 
+-- `depth`: the lines of the program of files are written, and nothing is made; the input is as it was
+pub record DepthsAlone (command : Spelled) (old new : Outside) (code : Option Code) (image : Option Image) (answer : Result ℕ Refusal) : Type 0 where
+  pub depths : Depths command (text_part old) (text_part new) answer
+  pub left : new.left ≡ old.left
+  pub input_faults : new.input_faults ≡ old.input_faults
+  pub no_code : code ≡ None
+  pub no_image : image ≡ None
+
 -- Usage with this word; want of memory may come in its place
 abbrev pub IsUsage : ℕ → Result ℕ Refusal → Type 0
 IsUsage word (Err OutOfMemory) = ⊤
@@ -151,6 +160,7 @@ Serves kinds.Build command old new code image answer = BuildsAlone command old n
 Serves kinds.Run command old new code image answer = Runs command old new code image answer
 Serves kinds.Text command old new code image answer = TextsAlone command old new code image answer
 Serves kinds.Gen command old new code image answer = Gens command old new code image answer
+Serves kinds.Depth command old new code image answer = DepthsAlone command old new code image answer
 
 abbrev pub Performs : Spelling → Outside → Outside → Option Code → Option Image → Result ℕ Refusal → Type 0
 Performs (Is command) old new code image answer = Serves command.kind command old new code image answer

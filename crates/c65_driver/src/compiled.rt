@@ -15,7 +15,7 @@ use c65_mach::Image;
 use c65_optimise::optimise;
 use std::alloc::Global;
 
-fn options(command: &Command) -> &Options
+pub fn options(command: &Command) -> &Options
     ensures { result.now ≡ command.now.options }
 {
     &command.options
@@ -27,19 +27,19 @@ fn processor(command: &Command) -> Cpu
     command.options.cpu
 }
 
-fn defines(command: &Command) -> &[Define]
+pub fn defines(command: &Command) -> &[Define]
     ensures { result.now ≡ command.now.defines }
 {
     &command.defines
 }
 
-fn folders(command: &Command) -> &[Text]
+pub fn folders(command: &Command) -> &[Text]
     ensures { result.now ≡ command.now.folders }
 {
     &command.folders
 }
 
-fn paths(command: &Command) -> &[Text]
+pub fn paths(command: &Command) -> &[Text]
     ensures { result.now ≡ command.now.files }
 {
     &command.files

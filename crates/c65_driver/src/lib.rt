@@ -3,6 +3,7 @@
 
 mod assembly;
 mod compiled;
+mod depth;
 mod generated;
 mod load;
 mod outcome;

@@ -38,7 +38,7 @@ fn budget(cycles: Option<u32>) -> Budget
 }
 
 /// The name of the first file, and then the arguments.
-fn arguments(alloc: Global, files: &[Text], args: &[Text]) -> Result<Vec<Text>, Refusal>
+pub fn arguments(alloc: Global, files: &[Text], args: &[Text]) -> Result<Vec<Text>, Refusal>
     ensures ok { IfOk result (λ texts. texts.items ≡ take 1 files.now ++ args.now) }
     ensures refused { IfErr result (λ refusal. refusal ≡ Refusal.OutOfMemory) }
 {

@@ -8,6 +8,7 @@ ghost use Rattle.c65_driver.specs.Outcome.{answer_of};
 
 use crate::assembly::{is_known, made_text, write_text};
 use crate::compiled::{make_image, output, write_image};
+use crate::depth::depth;
 use crate::generated::generate;
 use crate::load::spelled_image;
 use crate::outcome::{Made, Outcome};
@@ -168,12 +169,14 @@ fn perform<F: Files, I: Source, O: Sink>(
         CommandKind::Run => run_image(alloc, &command, files, input, out, made),
         CommandKind::Text => text(alloc, &command, files, out, made),
         CommandKind::Gen => generate(alloc, &command, out, made),
+        CommandKind::Depth => depth(alloc, &command, files, out),
     }
 }
 
 /// Does what the words after the program's name say: `go` compiles, links and runs files, `build` writes their image, `text`
-/// writes the assembly text of their code, `run` runs an image, and `gen` compiles, links and runs a program that it makes, and
-/// writes a line of its sizes. What was made is left in `made`.
+/// writes the assembly text of their code, `run` runs an image, `gen` compiles, links and runs a program that it makes, and
+/// writes a line of its sizes, and `depth` writes how much of the stacks the functions of files take. What was made is left in
+/// `made`.
 ///
 /// The line of a refusal goes to `err`, all of it unless `err` fails.
 pub fn tool<F: Files, I: Source, O: Sink, E: Sink>(

@@ -29,7 +29,7 @@ use Rattle.c65_genstmt.specs.Programs.{program_of}
 use Rattle.c65_ppline.specs.Relations.{Answers, just, by_test, ◌then◌, IsFree, Comes}
 use Rattle.c65_ppdir.specs.Units.{preprocessed}
 use Rattle.c65_ppline.proofs.Relations.{goes, goes_on, stops_first}
-use Rattle.c65_driver_chain.specs.Front.{typed, in_file, Command, rest_spelling, rest_name, file_typed, files_typed, units_typed, joining, IsGood, generated, linked, compiled, Located, Passed}
+use Rattle.c65_driver_chain.specs.Front.{typed, in_file, Command, rest_spelling, rest_name, file_typed, files_typed, units_typed, joining, units_joined, programs, IsGood, generated, compiled, Located, Passed}
 
 -- the first answer is a refusal
 stops : {A B : Type 0} (P : Answers A) (f : A → Answers B) (e : Refusal) → IsFree e ⊎ P (Err e) → IsFree e ⊎ (P then f) (Err e)
@@ -108,15 +108,11 @@ joining_stops {A} y refusals.OutOfMemory h = inl tt
 joining_stops {A} y (refusals.Link kind name) h = inr (subst (λ (x : Result A joins.JoinFault). joining x (Err (refusals.Link kind name))) (sym h) refl)
 joining_stops {A} y e h = absurd h
 
-pub not_joined : (o : Options) (units : List UnitTy) (names : List (List ℕ)) (e : Refusal) → joins.Fails e (joined names units) → IsFree e ⊎ linked o units names (Err e)
-not_joined o units names e h = stops (joining (joined names units)) (generated o names) e (joining_stops (joined names units) e h)
+pub not_joined : (units : List UnitTy) (names : List (List ℕ)) (e : Refusal) → joins.Fails e (joined names units) → IsFree e ⊎ joining (joined names units) (Err e)
+not_joined units names e h = joining_stops (joined names units) e h
 
-generated_comes : (o : Options) (names : List (List ℕ)) (parts : Parts) (main : ℕ) (r : Result Code Refusal) → IsGood names (unit_of parts) main → Gives (λ c. c) r (program_of parts main names (modes_of o)) → Comes (λ c. c) (generated o names (unit_of parts, main)) r
-generated_comes o names parts main (Ok code) good h = (parts, refl, good, h)
-generated_comes o names parts main (Err e) good h = inr (parts, refl, good, h)
-
-pub linked_comes : (o : Options) (units : List UnitTy) (names : List (List ℕ)) (parts : Parts) (main : ℕ) (r : Result Code Refusal) → joined names units ≡ Ok (unit_of parts, main) → IsGood names (unit_of parts) main → Gives (λ c. c) r (program_of parts main names (modes_of o)) → Comes (λ c. c) (linked o units names) r
-linked_comes o units names parts main r joined_is good h = goes_on (λ c. c) (joining (joined names units)) (generated o names) (unit_of parts, main) r (joining_goes (joined names units) (unit_of parts, main) joined_is) (generated_comes o names parts main r good h)
+pub is_joined : (units : List UnitTy) (names : List (List ℕ)) (p : UnitTy × ℕ) → joined names units ≡ Ok p → joining (joined names units) (Ok p)
+is_joined units names p h = joining_goes (joined names units) p h
 
 pub tested_so : {E P : Type 0} (r : Result Bool E) (so : Bool) → r ≡ Ok so → so ≡ true → IfOk r (λ (b : Bool). IsTrue b ↔ P) → P
 tested_so {E} {P} r so is true_is both =
@@ -142,21 +138,42 @@ begun_goes c paths n names z name known h =
     subst (λ (m : Name). files_typed c m paths [] (rest_spelling ∷ []) (Ok z)) name
     (subst (λ (l : List (List ℕ)). files_typed c n paths [] l (Ok z)) known h)
 
-pub too_many : (c : Command) (paths : List (List ℕ)) → nat_lt (limit_of sizes.Units) (length paths) ≡ true → compiled c paths (Err (refusals.TooLarge sizes.Units (length paths)))
-too_many c paths h = subst (λ (b : Bool). by_test b (just (Err (refusals.TooLarge sizes.Units (length paths)))) (units_typed c paths then λ x. linked c.options x.0 x.1) (Err (refusals.TooLarge sizes.Units (length paths)))) (sym h) refl
+pub too_many : (c : Command) (paths : List (List ℕ)) → nat_lt (limit_of sizes.Units) (length paths) ≡ true → programs c paths (Err (refusals.TooLarge sizes.Units (length paths)))
+too_many c paths h = subst (λ (b : Bool). by_test b (just (Err (refusals.TooLarge sizes.Units (length paths)))) (units_typed c paths then units_joined) (Err (refusals.TooLarge sizes.Units (length paths)))) (sym h) refl
 
-few : (c : Command) (paths : List (List ℕ)) (z : Result Code Refusal) → length paths ≤ limit_of sizes.Units → (units_typed c paths then λ x. linked c.options x.0 x.1) z → compiled c paths z
-few c paths z h = subst (λ (b : Bool). (units_typed c paths then λ x. linked c.options x.0 x.1) z → by_test b (just (Err (refusals.TooLarge sizes.Units (length paths)))) (units_typed c paths then λ x. linked c.options x.0 x.1) z) (sym (le-ltb (limit_of sizes.Units) (length paths) h)) (λ x. x)
+few : (c : Command) (paths : List (List ℕ)) (z : Result ((UnitTy × ℕ) × List (List ℕ)) Refusal) → length paths ≤ limit_of sizes.Units → (units_typed c paths then units_joined) z → programs c paths z
+few c paths z h = subst (λ (b : Bool). (units_typed c paths then units_joined) z → by_test b (just (Err (refusals.TooLarge sizes.Units (length paths)))) (units_typed c paths then units_joined) z) (sym (le-ltb (limit_of sizes.Units) (length paths) h)) (λ x. x)
 
-few_err : (c : Command) (paths : List (List ℕ)) (e : Refusal) → length paths ≤ limit_of sizes.Units → IsFree e ⊎ (units_typed c paths then λ x. linked c.options x.0 x.1) (Err e) → IsFree e ⊎ compiled c paths (Err e)
+few_err : (c : Command) (paths : List (List ℕ)) (e : Refusal) → length paths ≤ limit_of sizes.Units → IsFree e ⊎ (units_typed c paths then units_joined) (Err e) → IsFree e ⊎ programs c paths (Err e)
 few_err c paths e h (inl free) = inl free
-few_err c paths e h (inr stops) = inr (few c paths (Err e) h stops)
+few_err c paths e h (inr stopped) = inr (few c paths (Err e) h stopped)
 
-pub not_typed : (c : Command) (paths : List (List ℕ)) (e : Refusal) → length paths ≤ limit_of sizes.Units → IsFree e ⊎ units_typed c paths (Err e) → IsFree e ⊎ compiled c paths (Err e)
-not_typed c paths e h stopped = few_err c paths e h (stops (units_typed c paths) (λ x. linked c.options x.0 x.1) e stopped)
+pub not_typed : (c : Command) (paths : List (List ℕ)) (e : Refusal) → length paths ≤ limit_of sizes.Units → IsFree e ⊎ units_typed c paths (Err e) → IsFree e ⊎ programs c paths (Err e)
+not_typed c paths e h stopped = few_err c paths e h (stops (units_typed c paths) units_joined e stopped)
 
-pub not_linked : (c : Command) (paths : List (List ℕ)) (units : List UnitTy) (names : List (List ℕ)) (e r : Refusal) → length paths ≤ limit_of sizes.Units → units_typed c paths (Ok (units, names)) → IsFree e ⊎ linked c.options units names (Err e) → Passed e r → IsFree r ⊎ compiled c paths (Err r)
-not_linked c paths units names e r h before stopped passed = few_err c paths r h (goes_on {X = Code} (λ x. x) (units_typed c paths) (λ x. linked c.options x.0 x.1) (units, names) (Err r) before (passes (linked c.options units names) e r stopped passed))
+pub no_program : (c : Command) (paths : List (List ℕ)) (units : List UnitTy) (names : List (List ℕ)) (e r : Refusal) → length paths ≤ limit_of sizes.Units → units_typed c paths (Ok (units, names)) → IsFree e ⊎ joining (joined names units) (Err e) → Passed e r → IsFree r ⊎ programs c paths (Err r)
+no_program c paths units names e r h before stopped passed =
+    let here : IsFree r ⊎ (joining (joined names units) then λ p. just (Ok (p, names))) (Err r) = stops (joining (joined names units)) (λ p. just (Ok (p, names))) r (passes (joining (joined names units)) e r stopped passed) in
+    few_err c paths r h (goes_on {X = (UnitTy × ℕ) × List (List ℕ)} (λ x. x) (units_typed c paths) units_joined (units, names) (Err r) before here)
 
-pub is_compiled : (c : Command) (paths : List (List ℕ)) (units : List UnitTy) (names : List (List ℕ)) (code : Code) → length paths ≤ limit_of sizes.Units → units_typed c paths (Ok (units, names)) → linked c.options units names (Ok code) → compiled c paths (Ok code)
-is_compiled c paths units names code h before is = few c paths (Ok code) h ((units, names), before, is)
+pub is_program : (c : Command) (paths : List (List ℕ)) (units : List UnitTy) (names : List (List ℕ)) (p : UnitTy × ℕ) → length paths ≤ limit_of sizes.Units → units_typed c paths (Ok (units, names)) → joining (joined names units) (Ok p) → programs c paths (Ok (p, names))
+is_program c paths units names p h before is = few c paths (Ok (p, names)) h ((units, names), before, (p, is, refl))
+
+-- ---- its code
+
+pub no_code : (c : Command) (paths : List (List ℕ)) (e : Refusal) → IsFree e ⊎ programs c paths (Err e) → IsFree e ⊎ compiled c paths (Err e)
+no_code c paths e h = stops (programs c paths) (λ x. generated c.options x.1 x.0) e h
+
+generated_comes : (o : Options) (names : List (List ℕ)) (parts : Parts) (main : ℕ) (r : Result Code Refusal) → IsGood names (unit_of parts) main → Gives (λ c. c) r (program_of parts main names (modes_of o)) → Comes (λ c. c) (generated o names (unit_of parts, main)) r
+generated_comes o names parts main (Ok code) good h = (parts, refl, good, h)
+generated_comes o names parts main (Err e) good h = inr (parts, refl, good, h)
+
+pub not_generated : (c : Command) (paths : List (List ℕ)) (names : List (List ℕ)) (parts : Parts) (main : ℕ) (e r : Refusal) → programs c paths (Ok ((unit_of parts, main), names)) → IsGood names (unit_of parts) main
+    → Fails e (program_of parts main names (modes_of c.options)) → Passed e r → IsFree r ⊎ compiled c paths (Err r)
+not_generated c paths names parts main e r front good h passed =
+    goes_on {X = Code} (λ x. x) (programs c paths) (λ x. generated c.options x.1 x.0) ((unit_of parts, main), names) (Err r) front
+    (passes (generated c.options names (unit_of parts, main)) e r (generated_comes c.options names parts main (Err e) good h) passed)
+
+pub is_compiled : (c : Command) (paths : List (List ℕ)) (names : List (List ℕ)) (parts : Parts) (main : ℕ) (code : Code) → programs c paths (Ok ((unit_of parts, main), names)) → IsGood names (unit_of parts) main
+    → program_of parts main names (modes_of c.options) ≡ Ok code → compiled c paths (Ok code)
+is_compiled c paths names parts main code front good h = (((unit_of parts, main), names), front, (parts, refl, good, h))

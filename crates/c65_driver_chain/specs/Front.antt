@@ -80,6 +80,17 @@ abbrev pub joining : {A : Type 0} → Result A JoinFault → Answers A
 joining (Ok x) = just (Ok x)
 joining (Err f) = just (Err (refusals.Link f.kind f.name))
 
+-- the program of such parts, its main function, and the spellings that are known behind it
+abbrev pub units_joined : List UnitTy × List (List ℕ) → Answers ((UnitTy × ℕ) × List (List ℕ))
+units_joined x = joining (joined x.1 x.0) then λ p. just (Ok (p, x.1))
+
+-- that of all files; no more files are joined than the limit
+abbrev pub programs : Command → List (List ℕ) → Answers ((UnitTy × ℕ) × List (List ℕ))
+programs c paths = by_test (nat_lt (limit_of sizes.Units) (length paths)) (just (Err (refusals.TooLarge sizes.Units (length paths))))
+    (units_typed c paths then units_joined)
+
+-- ---- its code
+
 -- what each program of the front meets, whose names are in this table
 pub record IsGood (names : List (List ℕ)) (program : UnitTy) (main : ℕ) : Type 0 where
   pub well_typed : IsProgram program main
@@ -90,12 +101,8 @@ pub record IsGood (names : List (List ℕ)) (program : UnitTy) (main : ℕ) : Ty
 abbrev pub generated : Options → List (List ℕ) → UnitTy × ℕ → Answers Code
 generated o names p z = (parts : Parts) × (unit_of parts ≡ p.0) × IsGood names p.0 p.1 × of (program_of parts p.1 names (modes_of o)) z
 
-abbrev pub linked : Options → List UnitTy → List (List ℕ) → Answers Code
-linked o units names = joining (joined names units) then generated o names
-
--- no more files are compiled than the limit
 abbrev pub compiled : Command → List (List ℕ) → Answers Code
-compiled c paths = by_test (nat_lt (limit_of sizes.Units) (length paths)) (just (Err (refusals.TooLarge sizes.Units (length paths)))) (units_typed c paths then λ x. linked c.options x.0 x.1)
+compiled c paths = programs c paths then λ x. generated c.options x.1 x.0
 
 -- ---- refusals of one stage, seen from outside
 

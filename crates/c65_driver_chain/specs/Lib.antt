@@ -1,3 +1,4 @@
 pub mod Compiled
 pub mod Front
+pub mod Joined
 pub mod Refused

@@ -7,4 +7,4 @@ mod refused;
 mod unit;
 
 pub use c65_ppdir::Define;
-pub use chain::compile;
+pub use chain::{Joined, compile, join_files};

@@ -60,7 +60,7 @@ pub fn located(alloc: Global, refusal: Refusal, paths: Paths) -> Refusal
 }
 
 /// A refusal of a stage that sees all units.
-pub fn joined(refusal: Refusal) -> Refusal
+pub fn of_all(refusal: Refusal) -> Refusal
     ensures stops { StopsLater result }
     ensures exact { Passed refusal result }
 {

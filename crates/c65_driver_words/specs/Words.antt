@@ -1,5 +1,5 @@
--- The words of the command line: `go` and `build` and `text` with options and files, `run` with options and an image, `gen` with
--- options and a number, and behind `--` the arguments of `go` and `run`.
+-- The words of the command line: `go` and `build` and `text` and `depth` with options and files, `run` with options and an image,
+-- `gen` with options and a number, and behind `--` the arguments of `go`, `run` and `depth`.
 use Rattle.std.specs.Prelude.{◌≡◌, ⊤, ℕ, ◌+◌, List, [], ◌∷◌, ◌++◌, Bool, true, false, not, ◌&&◌, ◌||◌, if◌then◌else◌, ◌==◌, codes, bytes_eq, is_some, Option, Some, None, Result, Ok, Err}
 use Rattle.std.specs.List.{list_any}
 use Rattle.c65_base.specs.declared.options.Options.{Options}
@@ -70,6 +70,7 @@ prints _ = false
 abbrev pub passes_args : CommandKind → Bool
 passes_args kinds.Go = true
 passes_args kinds.Run = true
+passes_args kinds.Depth = true
 passes_args _ = false
 
 -- whether an option with a value may stand now: four of them stand at most once
@@ -276,7 +277,8 @@ kind_in word =
     if bytes_eq word (codes "build") then Some kinds.Build else
     if bytes_eq word (codes "run") then Some kinds.Run else
     if bytes_eq word (codes "text") then Some kinds.Text else
-    if bytes_eq word (codes "gen") then Some kinds.Gen else None
+    if bytes_eq word (codes "gen") then Some kinds.Gen else
+    if bytes_eq word (codes "depth") then Some kinds.Depth else None
 
 abbrev pub spelling_by : Option CommandKind → List (List ℕ) → Spelling
 spelling_by None words = NoCommand 0

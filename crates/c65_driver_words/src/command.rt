@@ -16,6 +16,8 @@ pub enum CommandKind {
     Text,
     /// Makes a program of so many functions, compiles, links and runs it.
     Gen,
+    /// Writes how much of the stacks the functions of files take.
+    Depth,
 }
 
 /// A command with its options. Definitions, folders, files and arguments stand in the order of the words.

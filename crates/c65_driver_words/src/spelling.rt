@@ -25,6 +25,9 @@ fn kind_of(word: &str) -> Option<CommandKind>
     if word == "gen" {
         return Some(CommandKind::Gen);
     }
+    if word == "depth" {
+        return Some(CommandKind::Depth);
+    }
     None
 }
 

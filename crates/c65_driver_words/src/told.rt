@@ -45,7 +45,11 @@ impl CommandKind {
     {
         match self {
             CommandKind::Run => false,
-            CommandKind::Go | CommandKind::Build | CommandKind::Text | CommandKind::Gen => true,
+            CommandKind::Go
+            | CommandKind::Build
+            | CommandKind::Text
+            | CommandKind::Gen
+            | CommandKind::Depth => true,
         }
     }
 
@@ -55,7 +59,7 @@ impl CommandKind {
     {
         match self {
             CommandKind::Run | CommandKind::Gen => false,
-            CommandKind::Go | CommandKind::Build | CommandKind::Text => true,
+            CommandKind::Go | CommandKind::Build | CommandKind::Text | CommandKind::Depth => true,
         }
     }
 
@@ -65,7 +69,7 @@ impl CommandKind {
     {
         match self {
             CommandKind::Build | CommandKind::Text => true,
-            CommandKind::Go | CommandKind::Run | CommandKind::Gen => false,
+            CommandKind::Go | CommandKind::Run | CommandKind::Gen | CommandKind::Depth => false,
         }
     }
 
@@ -75,7 +79,7 @@ impl CommandKind {
     {
         match self {
             CommandKind::Go | CommandKind::Run => true,
-            CommandKind::Build | CommandKind::Text | CommandKind::Gen => false,
+            CommandKind::Build | CommandKind::Text | CommandKind::Gen | CommandKind::Depth => false,
         }
     }
 
@@ -84,7 +88,7 @@ impl CommandKind {
         ensures { result ≡ Words.passes_args self }
     {
         match self {
-            CommandKind::Go | CommandKind::Run => true,
+            CommandKind::Go | CommandKind::Run | CommandKind::Depth => true,
             CommandKind::Build | CommandKind::Text | CommandKind::Gen => false,
         }
     }
@@ -95,7 +99,11 @@ impl CommandKind {
     {
         match self {
             CommandKind::Text => true,
-            CommandKind::Go | CommandKind::Build | CommandKind::Run | CommandKind::Gen => false,
+            CommandKind::Go
+            | CommandKind::Build
+            | CommandKind::Run
+            | CommandKind::Gen
+            | CommandKind::Depth => false,
         }
     }
 
@@ -146,9 +154,11 @@ impl Told {
     {
         match self.kind {
             CommandKind::Gen => self.number.is_some(),
-            CommandKind::Go | CommandKind::Build | CommandKind::Run | CommandKind::Text => {
-                !self.files.is_empty()
-            }
+            CommandKind::Go
+            | CommandKind::Build
+            | CommandKind::Run
+            | CommandKind::Text
+            | CommandKind::Depth => !self.files.is_empty(),
         }
     }
 
@@ -309,7 +319,11 @@ impl Told {
     {
         match self.kind {
             CommandKind::Run => self.files.is_empty(),
-            CommandKind::Go | CommandKind::Build | CommandKind::Text | CommandKind::Gen => true,
+            CommandKind::Go
+            | CommandKind::Build
+            | CommandKind::Text
+            | CommandKind::Gen
+            | CommandKind::Depth => true,
         }
     }
 
@@ -343,9 +357,11 @@ impl Told {
     {
         match self.kind {
             CommandKind::Gen => Ok(self.take_number(number(word))),
-            CommandKind::Go | CommandKind::Build | CommandKind::Run | CommandKind::Text => {
-                self.take_file(word.as_bytes())
-            }
+            CommandKind::Go
+            | CommandKind::Build
+            | CommandKind::Run
+            | CommandKind::Text
+            | CommandKind::Depth => self.take_file(word.as_bytes()),
         }
     }
 

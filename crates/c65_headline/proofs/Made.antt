@@ -1,6 +1,6 @@
 -- The code and the image that are made of a program.
 use Rattle.std.proofs.Common.{◌≡◌, ◌⊎◌, ◌∙◌, ℕ, Bool, true, false, List, Option, Some, None, Result, Ok, Err, inl, inr, refl, ap, sym, subst}
-use Rattle.std.specs.Prelude.{IsTrue, length, nat_lt, slice_get}
+use Rattle.std.specs.Prelude.{IsTrue, slice_get}
 use Rattle.c65_base.specs.declared.options.Cpu.{Cpu}
 use Rattle.c65_base.specs.declared.options.Cpu.TheVariants.{Nmos, Cmos}
 use Rattle.c65_base.specs.declared.options.Options.{Options}
@@ -9,11 +9,10 @@ use Rattle.c65_base.specs.declared.refusal.Refusal.TheVariants as refusals
 use Rattle.c65_base.specs.declared.refusal.Size.{Size}
 use Rattle.c65_base.specs.declared.refusal.Size.TheVariants as sizes
 use Rattle.c65_base.specs.declared.refusal.LinkKind.TheVariants as linkkinds
-use Rattle.c65_base.specs.Limits.{limit_of}
 use Rattle.c65_base.specs.Answers.{at, large, Fails}
 use Rattle.c65_io.specs.Causes.{Rose}
 use Rattle.c65_mach.specs.declared.image.Image.{Image}
-use Rattle.c65_ppline.specs.Relations.{Answers, just, by_test, ◌then◌, IsFree}
+use Rattle.c65_ppline.specs.Relations.{Answers, ◌then◌, IsFree}
 use Rattle.c65_ppdir.specs.Units.{Held}
 use Rattle.c65_ppdir_law.specs.Once.{IsFinal, HasOne, UnitsAreOne}
 use Rattle.c65_csem.specs.Trees.{UnitTy}
@@ -34,10 +33,8 @@ use Rattle.c65_link.specs.Linked as linker
 use Rattle.c65_genframe.specs.declared.modes.Modes.{Modes}
 use Rattle.c65_genframe.specs.Modes.{modes_of}
 use Rattle.c65_genstmt.specs.Programs.{program_of}
-use Rattle.c65_init_join.specs.Joined.{joined}
 use Rattle.c65_meaning.specs.Program.{ProgramTy}
-use Rattle.c65_driver_chain.specs.Front.{Command, units_typed, joining, generated, compiled}
-use Rattle.c65_driver_chain.specs.Front as chain
+use Rattle.c65_driver_chain.specs.Front.{Command, programs, generated, compiled}
 use Rattle.c65_driver_words.specs.Commands.{Spelled}
 use Rattle.c65_driver.specs.Compiled.{IsLinked, IsOfFront, ReadsAs, front}
 use Rattle.c65_driver.specs.Outside.{Outside}
@@ -45,7 +42,7 @@ use Rattle.c65_headline.specs.Images.{Recorded, ImageAgrees}
 use Rattle.c65_headline.specs.Lines.{StandsForIf, StandsFor}
 use Rattle.c65_asm_law_names.specs.Numbers.{HasSegment, HasBody, IsClosed}
 use Rattle.c65_asm_law_names.proofs.Missing.{nothing_is_undefined}
-use Rattle.c65_headline.specs.Fronts.{command_of, programs, IsFront, IsMadeOf, HasLargeFrame}
+use Rattle.c65_headline.specs.Fronts.{command_of, IsFront, IsMadeOf, HasLargeFrame}
 use Rattle.c65_headline.specs.Planned.{Agreeing}
 use Rattle.c65_headline.specs.Headline.{Hinders, IsHindered}
 use Rattle.c65_headline.specs.Laws.{Laws}
@@ -53,7 +50,7 @@ use Rattle.c65_headline.proofs.Frames.{only_frames_are_refused}
 use Rattle.c65_headline.proofs.ReadBack.{codes_read_back}
 use Rattle.c65_headline.proofs.Codes.{two_moments, rewritten_if}
 use Rattle.c65_headline.proofs.Agreement.{image_agrees}
-use Rattle.c65_headline.proofs.Uniqueness.{is_value, no_value, one_units, one_program, one_joining}
+use Rattle.c65_headline.proofs.Uniqueness.{is_value, no_value, one_program}
 
 -- ---- refusals behind the front
 
@@ -65,36 +62,19 @@ free_or_final _ = inr tt
 pair_left : {A B E : Type 0} (a c : A) (b d : B) → (let x : Result (A × B) E = Ok (a, b) in x ≡ Ok (c, d)) → a ≡ c
 pair_left {A} {B} {E} a c b d h = let e : (a, b) ≡ (c, d) = is_value {A = A × B} {E = E} (a, b) (c, d) h in ap (λ (x : A × B). x.0) e
 
-pair_right : {A B E : Type 0} (a c : A) (b d : B) → (let x : Result (A × B) E = Ok (a, b) in x ≡ Ok (c, d)) → b ≡ d
-pair_right {A} {B} {E} a c b d h = let e : (a, b) ≡ (c, d) = is_value {A = A × B} {E = E} (a, b) (c, d) h in ap (λ (x : A × B). x.1) e
-
 -- where the front gives a program, what is refused is refused by the generator, or free
-late_by : (b : Bool) (r : Refusal) (P : Answers (List UnitTy × List (List ℕ))) (o : Options) (e : Refusal) (q : UnitTy × ℕ) (names : List (List ℕ)) → HasOne P
-    → by_test {A = (UnitTy × ℕ) × List (List ℕ)} b (just (Err r)) (P then λ x. joining (joined x.1 x.0) then λ p. just (Ok (p, x.1))) (Ok (q, names))
-    → by_test {A = Code} b (just (Err r)) (P then λ x. chain.linked o x.0 x.1) (Err e)
-    → IsFree e ⊎ generated o names q (Err e)
-late_by true r P o e q names one f g = absurd (no_value (q, names) r f)
-late_by false r P o e q names one (x, h, (p, j, k)) (inl g) = elim (free_or_final e) [
+late_by : (P : Answers ((UnitTy × ℕ) × List (List ℕ))) (o : Options) (e : Refusal) (q : UnitTy × ℕ) (names : List (List ℕ)) → HasOne P → P (Ok (q, names))
+    → (P then λ x. generated o x.1 x.0) (Err e) → IsFree e ⊎ generated o names q (Err e)
+late_by P o e q names one f (inl g) = elim (free_or_final e) [
   | inl free ↦ inl free
-  | inr final ↦ absurd (no_value x e (one (Ok x) (Err e) tt final h g))
+  | inr final ↦ absurd (no_value (q, names) e (one (Ok (q, names)) (Err e) tt final f g))
 ]
-late_by false r P o e q names one (x, h, (p, j, k)) (inr (y, i, l)) =
-    let same : y ≡ x = is_value y x (one (Ok y) (Ok x) tt tt i h) in
-    let l2 : (joining (joined x.1 x.0) then generated o x.1) (Err e) = subst (λ (z : List UnitTy × List (List ℕ)). (joining (joined z.1 z.0) then generated o z.1) (Err e)) same l in
-    elim l2 [
-      | inl m ↦ elim (free_or_final e) [
-        | inl free ↦ inl free
-        | inr final ↦ absurd (no_value p e (one_joining (joined x.1 x.0) (Ok p) (Err e) tt final j m))
-      ]
-      | inr m ↦
-          let ps : m.0 ≡ p = is_value m.0 p (one_joining (joined x.1 x.0) (Ok m.0) (Ok p) tt tt m.1 j) in
-          let pq : m.0 ≡ q = ps ∙ sym (pair_left q p names x.1 k) in
-          let ns : x.1 ≡ names = sym (pair_right q p names x.1 k) in
-          inr (subst (λ (z : UnitTy × ℕ). generated o names z (Err e)) pq (subst (λ ns. generated o ns m.0 (Err e)) ns m.2))
-    ]
+late_by P o e q names one f (inr (x, h, l)) =
+    let same : x ≡ (q, names) = is_value x (q, names) (one (Ok x) (Ok (q, names)) tt tt h f) in
+    inr (subst (λ (y : (UnitTy × ℕ) × List (List ℕ)). generated o y.1 y.0 (Err e)) same l)
 
 pub late : UnitsAreOne → (c : Command) (paths : List (List ℕ)) (e : Refusal) (q : UnitTy × ℕ) (names : List (List ℕ)) → programs c paths (Ok (q, names)) → compiled c paths (Err e) → IsFree e ⊎ generated c.options names q (Err e)
-late units c paths e q names f g = late_by (nat_lt (limit_of sizes.Units) (length paths)) (refusals.TooLarge sizes.Units (length paths)) (units_typed c paths) c.options e q names (one_units units c paths) f g
+late units c paths e q names f g = late_by (programs c paths) c.options e q names (one_program units c paths) f g
 
 -- ---- why there is no image
 

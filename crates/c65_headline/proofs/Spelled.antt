@@ -97,6 +97,7 @@ operand_told kinds.Go told more word bytes i h = file_told told more word bytes 
 operand_told kinds.Build told more word bytes i h = file_told told more word bytes i h
 operand_told kinds.Run told more word bytes i h = file_told told more word bytes i h
 operand_told kinds.Text told more word bytes i h = file_told told more word bytes i h
+operand_told kinds.Depth told more word bytes i h = file_told told more word bytes i h
 
 joined_told : (v : Value) (told more : Told) (text : List ℕ) → IsTold told → with_joined v told text ≡ Some more → IsTold more
 joined_told v told more text i h = at (may_stand told v) h

@@ -1,11 +1,7 @@
 -- The clause of the tool as it is today.
-use Rattle.std.proofs.Common.{◌≡◌, ◌∙◌, ℕ, Bool, true, false, List, Option, Some, None, Result, Ok, Err, refl, ap, sym, subst}
-use Rattle.std.specs.Prelude.{length, nat_lt}
+use Rattle.std.proofs.Common.{◌≡◌, ◌∙◌, ℕ, List, Option, Some, None, Result, Ok, Err, ap, sym, subst}
 use Rattle.c65_base.specs.declared.options.Options.{Options}
 use Rattle.c65_base.specs.declared.refusal.Refusal.{Refusal}
-use Rattle.c65_base.specs.declared.refusal.Refusal.TheVariants as refusals
-use Rattle.c65_base.specs.declared.refusal.Size.TheVariants as sizes
-use Rattle.c65_base.specs.Limits.{limit_of}
 use Rattle.c65_mach.specs.declared.image.Image.{Image}
 use Rattle.c65_code.specs.declared.code.Code.{Code}
 use Rattle.c65_asm.specs.Text.{text_of}
@@ -14,14 +10,12 @@ use Rattle.c65_csem.specs.declared.items.Parts.{Parts}
 use Rattle.c65_csem.specs.Views.{unit_of}
 use Rattle.c65_genframe.specs.Modes.{modes_of}
 use Rattle.c65_genstmt.specs.Programs.{program_of}
-use Rattle.c65_init_join.specs.Joined.{joined}
 use Rattle.c65_optimise.specs.Optimised.{OptimisedBy}
-use Rattle.c65_ppline.specs.Relations.{Answers, just, by_test, ◌then◌}
+use Rattle.c65_ppline.specs.Relations.{Answers, ◌then◌}
 use Rattle.c65_ppdir.specs.Units.{Held}
 use Rattle.c65_ppdir_law.specs.Once.{UnitsAreOne}
 use Rattle.c65_meaning_law_turns.specs.Turns.{TurnsGoOn}
-use Rattle.c65_driver_chain.specs.Front.{IsGood, units_typed, joining, generated}
-use Rattle.c65_driver_chain.specs.Front as chain
+use Rattle.c65_driver_chain.specs.Front.{programs, IsGood, generated}
 use Rattle.c65_driver_words.specs.Commands.{Spelled}
 use Rattle.c65_driver_words.specs.Words.{Spelling, Is, NoCommand, spelling_of}
 use Rattle.c65_driver_words.specs.declared.command.CommandKind.{CommandKind}
@@ -30,11 +24,10 @@ use Rattle.c65_driver.specs.Compiled.{ReadsAs, IsOfSources, front}
 use Rattle.c65_driver.specs.Outside.{Outside}
 use Rattle.c65_driver.specs.Tool.{Serves, Performs}
 use Rattle.c65_headline.specs.Planned.{RewritingsFollow}
-use Rattle.c65_headline.specs.Fronts.{command_of, programs, IsMadeOf}
+use Rattle.c65_headline.specs.Fronts.{command_of, IsMadeOf}
 use Rattle.c65_headline.specs.Headline.{IsMade, IsMadeBy}
 use Rattle.c65_headline.specs.Laws.{HeadlineHoldsToday}
 use Rattle.c65_headline.proofs.Top.{holds}
-use Rattle.c65_headline.proofs.Uniqueness.{no_value}
 
 -- what a code of the front is made of
 record Stems (o : Options) (P : Answers ((UnitTy × ℕ) × List (List ℕ))) (code : Code) : Type 0 where
@@ -45,18 +38,15 @@ record Stems (o : Options) (P : Answers ((UnitTy × ℕ) × List (List ℕ))) (c
   good : IsGood names (unit_of parts) main
   generates : program_of parts main names (modes_of o) ≡ Ok code
 
-stems_by : (b : Bool) (r : Refusal) (P : Answers (List UnitTy × List (List ℕ))) (o : Options) (code : Code)
-    → by_test {A = Code} b (just (Err r)) (P then λ x. chain.linked o x.0 x.1) (Ok code)
-    → Stems o (by_test {A = (UnitTy × ℕ) × List (List ℕ)} b (just (Err r)) (P then λ x. joining (joined x.1 x.0) then λ p. just (Ok (p, x.1)))) code
-stems_by true r P o code g = absurd (no_value code r g)
-stems_by false r P o code (x, h, (p, j, (parts, u, good, g))) =
-    let same : (unit_of parts, p.1) ≡ p = ap (λ (z : UnitTy). let y : UnitTy × ℕ = (z, p.1) in y) u in
+stems_by : (P : Answers ((UnitTy × ℕ) × List (List ℕ))) (o : Options) (code : Code) → (P then λ x. generated o x.1 x.0) (Ok code) → Stems o P code
+stems_by P o code (x, h, (parts, u, good, g)) =
+    let same : ((unit_of parts, x.0.1), x.1) ≡ x = ap (λ (z : UnitTy). let y : (UnitTy × ℕ) × List (List ℕ) = ((z, x.0.1), x.1) in y) u in
     record {
       parts = parts;
-      main = p.1;
+      main = x.0.1;
       names = x.1;
-      front = (x, h, ((unit_of parts, p.1), subst (λ (z : UnitTy × ℕ). joining (joined x.1 x.0) (Ok z)) (sym same) j, refl));
-      good = subst (λ (z : UnitTy). IsGood x.1 z p.1) (sym u) good;
+      front = subst (λ (y : (UnitTy × ℕ) × List (List ℕ)). P (Ok y)) (sym same) h;
+      good = subst (λ (z : UnitTy). IsGood x.1 z x.0.1) (sym u) good;
       generates = g;
     }
 
@@ -64,7 +54,7 @@ made_of : (rewriting : RewritingsFollow) (held : Held) (command : Spelled) (code
     → (c : Code) × (new : Code) × front held command (Ok c) × OptimisedBy command.options c new × ReadsAs (text_of new) code → IsMadeOf held command code
 made_of rewriting held command code (c, new, h, w, r) =
     let s : Stems command.options (programs (command_of held command) command.files) c =
-    stems_by (nat_lt (limit_of sizes.Units) (length command.files)) (refusals.TooLarge sizes.Units (length command.files)) (units_typed (command_of held command) command.files) command.options c h in
+    stems_by (programs (command_of held command) command.files) command.options c h in
     record {
       parts = s.parts;
       main = s.main;
@@ -92,6 +82,7 @@ made_by rewriting kinds.Build command old new code image answer s = λ held c to
 made_by rewriting kinds.Text command old new code image answer s = λ held c told e. from_sources rewriting command old code answer s.texts.from_files held c told e
 made_by rewriting kinds.Run command old new code image answer s = λ held c told e. absurd (let h : (let x : Option Code = None in x ≡ Some c) = sym s.no_code ∙ e in cc)
 made_by rewriting kinds.Gen command old new code image answer s = tt
+made_by rewriting kinds.Depth command old new code image answer s = λ held c told e. absurd (let h : (let x : Option Code = None in x ≡ Some c) = sym s.no_code ∙ e in cc)
 
 made_today : (rewriting : RewritingsFollow) (spelling : Spelling) (old new : Outside) (code : Option Code) (image : Option Image) (answer : Result ℕ Refusal)
     → Performs spelling old new code image answer → IsMade spelling old code

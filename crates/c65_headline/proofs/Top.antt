@@ -119,6 +119,7 @@ performs units turns notes laws command old new code image answer held p told fr
 performs units turns notes laws command old new code image answer held p told front kinds.Text spelled s a = texts units turns notes laws command old new code image answer held p told front (λ c k. a held c told k) s
 performs units turns notes laws command old new code image answer held p told front kinds.Run spelled s a = tt
 performs units turns notes laws command old new code image answer held p told front kinds.Gen spelled s a = tt
+performs units turns notes laws command old new code image answer held p told front kinds.Depth spelled s a = tt
 
 by_spelling : UnitsAreOne → TurnsGoOn → (notes : Recorded) → Laws notes → (words : List (List ℕ)) → All AreBytes words → (spelling : Spelling) → spelling_of words ≡ spelling
     → (old new : Outside) (code : Option Code) (image : Option Image) (answer : Result ℕ Refusal)

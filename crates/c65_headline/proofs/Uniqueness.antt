@@ -12,8 +12,7 @@ use Rattle.c65_ppdir_law.specs.Once.{HasOne, UnitsAreOne}
 use Rattle.c65_csem.specs.Trees.{UnitTy}
 use Rattle.c65_init_join.specs.Answers.{JoinFault}
 use Rattle.c65_init_join.specs.Joined.{joined}
-use Rattle.c65_driver_chain.specs.Front.{Command, in_file, typed, file_typed, files_typed, units_typed, rest_name, rest_spelling, joining}
-use Rattle.c65_headline.specs.Fronts.{programs}
+use Rattle.c65_driver_chain.specs.Front.{Command, in_file, typed, file_typed, files_typed, units_typed, rest_name, rest_spelling, joining, programs}
 
 pub is_value : {A E : Type 0} (a b : A) → (let x : Result A E = Ok a in x ≡ Ok b) → a ≡ b
 is_value a b h = cc

@@ -1,34 +1,23 @@
 -- The program that told files are, and the code that is made of it.
-use Rattle.std.specs.Prelude.{◌≡◌, ℕ, List, length, nat_lt, Ok, Err}
-use Rattle.c65_base.specs.declared.refusal.Refusal.TheVariants as refusals
+use Rattle.std.specs.Prelude.{◌≡◌, ℕ, List, Ok, Err}
 use Rattle.c65_base.specs.declared.refusal.Size.TheVariants as sizes
-use Rattle.c65_base.specs.Limits.{limit_of}
 use Rattle.c65_base.specs.Answers.{large}
-use Rattle.c65_ppline.specs.Relations.{Answers, just, by_test, ◌then◌}
 use Rattle.c65_ppdir.specs.Units.{Held}
 use Rattle.c65_csem.specs.declared.items.Parts.{Parts}
-use Rattle.c65_csem.specs.Trees.{UnitTy}
 use Rattle.c65_csem.specs.Views.{unit_of}
-use Rattle.c65_init_join.specs.Joined.{joined}
 use Rattle.c65_meaning.specs.Program.{ProgramTy}
 use Rattle.c65_code.specs.declared.code.Code.{Code}
 use Rattle.c65_genframe.specs.declared.modes.Modes.{Modes}
 use Rattle.c65_genframe.specs.Modes.{modes_of}
 use Rattle.c65_genstmt.specs.Programs.{program_of}
 use Rattle.c65_asm.specs.Text.{text_of}
-use Rattle.c65_driver_chain.specs.Front.{Command, command, units_typed, joining, IsGood}
+use Rattle.c65_driver_chain.specs.Front.{Command, command, programs, IsGood}
 use Rattle.c65_driver_words.specs.Commands.{Spelled}
 use Rattle.c65_driver.specs.Compiled.{ReadsAs}
 use Rattle.c65_headline.specs.Lines.{StandsForBy}
 
 abbrev pub command_of : Held → Spelled → Command
 command_of held c = command held c.options c.defines c.folders
-
--- the typed program of files and the spellings known behind it, or the first refusal: `compiled` of c65_driver_chain without its
--- last stage
-abbrev pub programs : Command → List (List ℕ) → Answers ((UnitTy × ℕ) × List (List ℕ))
-programs c paths = by_test (nat_lt (limit_of sizes.Units) (length paths)) (just (Err (refusals.TooLarge sizes.Units (length paths))))
-    (units_typed c paths then λ x. joining (joined x.1 x.0) then λ p. just (Ok (p, x.1)))
 
 -- the program is well formed: the front gives it
 pub record IsFront (held : Held) (c : Spelled) (p : ProgramTy) : Type 0 where

@@ -92,6 +92,7 @@ Performs notes kinds.Build command p old new code image answer = Writes notes co
 Performs notes kinds.Text command p old new code image answer = Writes notes command p old new code image answer
 Performs notes kinds.Run command p old new code image answer = ⊤
 Performs notes kinds.Gen command p old new code image answer = ⊤
+Performs notes kinds.Depth command p old new code image answer = ⊤
 
 abbrev pub Headline : Recorded → Spelling → Outside → Outside → Option Code → Option Image → Result ℕ Refusal → Type 0
 Headline notes (NoCommand word) old new code image answer = ⊤

@@ -27,12 +27,12 @@ use Rattle.c65_link_law_spots.specs.Sound.{IsSound}
 use Rattle.c65_meaning.specs.Program.{ProgramTy}
 use Rattle.c65_sim.specs.View.{arguments_size}
 use Rattle.c65_ppdir.specs.Units.{Held}
-use Rattle.c65_driver_chain.specs.Front.{IsGood}
+use Rattle.c65_driver_chain.specs.Front.{programs, IsGood}
 use Rattle.c65_driver_words.specs.Commands.{Spelled}
 use Rattle.c65_driver_words.specs.Words.{spelling_of, Is}
 use Rattle.c65_driver.specs.Compiled.{ReadsAs}
 use Rattle.c65_driver.specs.Setups.{setup_of}
-use Rattle.c65_headline.specs.Fronts.{command_of, programs}
+use Rattle.c65_headline.specs.Fronts.{command_of}
 use Rattle.c65_headline.specs.Images.{Recorded, AreBytes}
 use Rattle.c65_optimise.specs.Optimised.{OptimisedBy}
 use Rattle.c65_asm_law_names.specs.Numbers.{HasSegment, IsClosed}

@@ -9,4 +9,4 @@ mod stop;
 mod tests;
 
 pub use laws::two_runs_are_one;
-pub use run::{Budget, Run};
+pub use run::{Budget, Run, arguments_size};

@@ -125,8 +125,9 @@ fn answer(budget: Budget, pc: u16, stop: Stop) -> Result<u8, Refusal>
     }
 }
 
-/// The bytes that the arguments take on the software stack, up to the greatest u64.
-fn size(args: &[Text]) -> u64
+/// The bytes that arguments take on the software stack, with a zero byte behind each and the list of their addresses,
+/// up to the greatest u64.
+pub fn arguments_size(args: &[Text]) -> u64
     ensures { result ≡ min (arguments_size args.now) (2 ^ 64 - 1) }
 {
     let mut size = (args.len() as u64).saturating_add(1).saturating_mul(2);
@@ -171,7 +172,7 @@ impl Run {
     pub fn new(alloc: Global, image: &Image, args: &[Text]) -> Result<Run, Refusal>
         ensures { Starts image.now args.now result }
     {
-        let value = size(args);
+        let value = arguments_size(args);
         if value > ARGUMENTS {
             return Err(Refusal::TooLarge {
                 limit: Size::Arguments,

@@ -1,4 +1,4 @@
-use Rattle.std.proofs.Common.{◌∙◌, sym, map, string_bytes, refl}
+use Rattle.std.proofs.Common.{◌∙◌, None, sym, map, string_bytes, refl}
 use Rattle.c65_driver_words.specs.Words.{spelling_of}
 use Rattle.c65_driver_words.specs.declared.command.CommandKind.TheVariants as kinds
 use Rattle.c65_driver.specs.Outside.{outside}
@@ -50,8 +50,8 @@ returns-in-Text g c =
     c.text.new.made.code c.text.new.made.image c.text.result c.in-Ok.ensures (sym c.kind_of.ensures ∙ c.in-Text.is)
     (record { texts = c.text.ensures; left = refl; input_faults = refl })
 
-pub returns : goal.returns
-returns g c =
+pub returns-in-Gen : goal.returns-in-Gen
+returns-in-Gen g c =
     performs_by (spelling_of (map string_bytes c.args.words.now)) c.in-Ok.command kinds.Gen
     (outside (g.F.Files.contents c.args.files.now) (g.F.Files.faults c.args.files.now) (g.F.Files.write_faults c.args.files.now) (g.F.Files.misses c.args.files.now)
     (g.I.Source.left c.args.input.now) (g.I.Source.faults c.args.input.now) (g.O.Sink.written c.args.out.now) (g.O.Sink.faults c.args.out.now))
@@ -59,3 +59,13 @@ returns g c =
     (g.I.Source.left c.args.input.now) (g.I.Source.faults c.args.input.now) (g.O.Sink.written c.generate.new.out) (g.O.Sink.faults c.generate.new.out))
     c.generate.new.made.code c.generate.new.made.image c.generate.result c.in-Ok.ensures (sym c.kind_of.ensures ∙ c.in-Gen.is)
     (record { generates = c.generate.ensures; files = refl; left = refl; input_faults = refl })
+
+pub returns : goal.returns
+returns g c =
+    performs_by (spelling_of (map string_bytes c.args.words.now)) c.in-Ok.command kinds.Depth
+    (outside (g.F.Files.contents c.args.files.now) (g.F.Files.faults c.args.files.now) (g.F.Files.write_faults c.args.files.now) (g.F.Files.misses c.args.files.now)
+    (g.I.Source.left c.args.input.now) (g.I.Source.faults c.args.input.now) (g.O.Sink.written c.args.out.now) (g.O.Sink.faults c.args.out.now))
+    (outside (g.F.Files.contents c.depth.new.files) (g.F.Files.faults c.depth.new.files) (g.F.Files.write_faults c.depth.new.files) (g.F.Files.misses c.depth.new.files)
+    (g.I.Source.left c.args.input.now) (g.I.Source.faults c.args.input.now) (g.O.Sink.written c.depth.new.out) (g.O.Sink.faults c.depth.new.out))
+    None None c.depth.result c.in-Ok.ensures (sym c.kind_of.ensures ∙ c.in-Depth.is)
+    (record { depths = c.depth.ensures; left = refl; input_faults = refl; no_code = refl; no_image = refl })

@@ -1,28 +1,19 @@
-use Rattle.std.proofs.Common.{◌≡◌, ◌⊎◌, ℕ, [], ◌∷◌, List, map, Ok, Err}
-use Rattle.c65_csem.specs.Trees.{UnitTy}
-use Rattle.c65_csem.specs.Views.{unit_of}
 use Rattle.c65_driver_chain.specs.Front.{command}
-use Rattle.c65_driver_chain.proofs.Answering.{begun_stops, begun_goes, not_typed, not_linked, is_compiled}
+use Rattle.c65_driver_chain.proofs.Answering.{no_code, not_generated, is_compiled}
 use Rattle.c65_driver_chain.proofs.chain.compile.Goals as goal
 
 pub returns-in-Err-clause-exact : goal.returns-in-Err-clause-exact
 returns-in-Err-clause-exact g c = λ held told.
-    let k = command held c.args.options.now c.args.defines.now c.args.folders.now in
-    not_typed k c.args.paths.now c.in-Err.refusal c.if-paths-gt-UNITS.false
-    (begun_stops k c.args.paths.now c.in-Ok.rest c.in-Ok.names c.in-Err.refusal c.in-Ok.ensures.name c.in-Ok.ensures.names (c.in-Err.ensures.exact held told))
+    no_code (command held c.args.options.now c.args.defines.now c.args.folders.now) c.args.paths.now c.in-Err.refusal (c.in-Err.ensures.exact held told)
 
-pub returns-in-Ok-code_of-clause-exact : goal.returns-in-Ok-code_of-clause-exact
-returns-in-Ok-code_of-clause-exact g c = λ held told.
-    let k = command held c.args.options.now c.args.defines.now c.args.folders.now in
-    let units : List UnitTy = map unit_of c.in-Ok-typed_units.units.items in
-    is_compiled k c.args.paths.now units c.typed_units.new.names c.in-Ok-code_of.code c.if-paths-gt-UNITS.false
-    (begun_goes k c.args.paths.now c.in-Ok.rest c.in-Ok.names (units, c.typed_units.new.names) c.in-Ok.ensures.name c.in-Ok.ensures.names (c.in-Ok-typed_units.ensures.exact held told))
-    c.in-Ok-code_of.ensures
+pub returns-in-Ok-gen_program-clause-exact : goal.returns-in-Ok-gen_program-clause-exact
+returns-in-Ok-gen_program-clause-exact g c = λ held told.
+    is_compiled (command held c.args.options.now c.args.defines.now c.args.folders.now) c.args.paths.now
+    c.in-Ok.joined.names c.in-Ok.joined.program.0 c.in-Ok.joined.program.1 c.in-Ok-gen_program.code
+    (c.in-Ok.ensures.exact held told) c.in-Ok.ensures.good c.in-Ok-gen_program.ensures
 
 pub returns-clause-exact : goal.returns-clause-exact
 returns-clause-exact g c = λ held told.
-    let k = command held c.args.options.now c.args.defines.now c.args.folders.now in
-    let units : List UnitTy = map unit_of c.in-Ok-typed_units.units.items in
-    not_linked k c.args.paths.now units c.typed_units.new.names c.in-Err-code_of.refusal c.joined.result c.if-paths-gt-UNITS.false
-    (begun_goes k c.args.paths.now c.in-Ok.rest c.in-Ok.names (units, c.typed_units.new.names) c.in-Ok.ensures.name c.in-Ok.ensures.names (c.in-Ok-typed_units.ensures.exact held told))
-    c.in-Err-code_of.ensures c.joined.ensures.exact
+    not_generated (command held c.args.options.now c.args.defines.now c.args.folders.now) c.args.paths.now
+    c.in-Ok.joined.names c.in-Ok.joined.program.0 c.in-Ok.joined.program.1 c.in-Err-gen_program.refusal c.of_all.result
+    (c.in-Ok.ensures.exact held told) c.in-Ok.ensures.good c.in-Err-gen_program.ensures c.of_all.ensures.exact

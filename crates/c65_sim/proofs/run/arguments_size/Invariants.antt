@@ -1,7 +1,7 @@
 use Rattle.std.proofs.Common.{◌≡◌, ◌+◌, ◌-◌, ◌^◌, ◌≤◌, min, length, drop}
 use Rattle.std.specs.Prelude.{sum_by}
 use Rattle.c65_sim.specs.View.{arguments_size}
-use Rattle.c65_sim.proofs.run.size.Given as goal
+use Rattle.c65_sim.proofs.run.arguments_size.Given as goal
 
 abbrev pub invariant-loop-arg : goal.invariant-loop-arg
 invariant-loop-arg l =

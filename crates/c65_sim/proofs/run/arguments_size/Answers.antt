@@ -1,7 +1,7 @@
 use Rattle.std.proofs.Common.{◌≡◌, ◌+◌, ◌≤◌, ℕ, List, length, drop, ap, arith}
 use Rattle.std.proofs.lemmas.List.{drop_all}
 use Rattle.std.specs.Prelude.{sum_by}
-use Rattle.c65_sim.proofs.run.size.Goals as goal
+use Rattle.c65_sim.proofs.run.arguments_size.Goals as goal
 
 pub returns : goal.returns
 returns c =
