@@ -1,5 +1,5 @@
 -- The pieces of which the lines of loads, stores and conversions are made.
-use Rattle.std.proofs.Common.{ℕ, ◌+◌, ◌-◌, ◌<◌, ◌^◌, ◌==◌, [], ◌∷◌, ◌++◌, arith, rules, zero, suc, ◌%◌, ◌/◌, replicate, tt}
+use Rattle.std.proofs.Common.{ℕ, ◌+◌, ◌-◌, ◌<◌, ◌^◌, ◌==◌, [], ◌∷◌, ◌++◌, arith, rules, zero, suc, ◌%◌, ◌/◌, replicate}
 use Rattle.std.specs.Prelude.{min, nat_lt, nat_le, if◌then◌else◌}
 use Rattle.c65_base.specs.declared.operators.BinaryOp.{BinaryOp}
 use Rattle.c65_ints.specs.declared.types.IntType.{IntType}

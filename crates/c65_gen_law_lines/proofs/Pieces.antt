@@ -263,24 +263,21 @@ taking_number ints.ULong = omega arith
 number_bytes_piece : (place : Place) (kind : IntType) → Piece 16 (bytes_code place (extent_of kind))
 number_bytes_piece place kind = piece_wider (taking (extent_of kind)) 16 (bytes_code place (extent_of kind)) (bytes_piece place (extent_of kind)) (taking_number kind)
 
-one_shift : (op : Op) → Piece 1 (shift_a op ∷ [])
-one_shift op = record { plain = refl; fit = refl; size = omega arith }
-
-repeated_shift : (n : ℕ) (op : Op) → Piece n (replicate n (shift_a op))
-repeated_shift zero op = piece_none 0
-repeated_shift (suc n) op = piece_wider (1 + n) (suc n) _ (piece_append 1 n (shift_a op ∷ []) (replicate n (shift_a op)) (one_shift op) (repeated_shift n op)) (omega arith)
+repeated_shift : (n : ℕ) (op : Op) → Piece 1 (shift_a op ∷ []) → Piece n (replicate n (shift_a op))
+repeated_shift zero op one = piece_none 0
+repeated_shift (suc n) op one = piece_wider (1 + n) (suc n) _ (piece_append 1 n (shift_a op ∷ []) (replicate n (shift_a op)) one (repeated_shift n op one)) (omega arith)
 
 -- at most four to one side, and else round by the other
-turned_piece : (low : ℕ) (one first further : Op) (b : Bool) → nat_le low 4 ≡ b → Piece 4 (if b then replicate low (shift_a one) else shift_a first ∷ replicate (8 - low) (shift_a further))
-turned_piece low one first further true h = piece_wider low 4 _ (repeated_shift low one) (leb-true low 4 h)
-turned_piece low one first further false h =
-    piece_wider (1 + (8 - low)) 4 _ (piece_append 1 (8 - low) (shift_a first ∷ []) _ (one_shift first) (repeated_shift (8 - low) further)) (omega (arith, leb-false low 4 h))
+turned_piece : (low : ℕ) (one first further : Op) (b : Bool) → nat_le low 4 ≡ b → Piece 1 (shift_a one ∷ []) → Piece 1 (shift_a first ∷ []) → Piece 1 (shift_a further ∷ []) → Piece 4 (if b then replicate low (shift_a one) else shift_a first ∷ replicate (8 - low) (shift_a further))
+turned_piece low one first further true h x y z = piece_wider low 4 _ (repeated_shift low one x) (leb-true low 4 h)
+turned_piece low one first further false h x y z =
+    piece_wider (1 + (8 - low)) 4 _ (piece_append 1 (8 - low) (shift_a first ∷ []) _ y (repeated_shift (8 - low) further z)) (omega (arith, leb-false low 4 h))
 
 down_piece : (low : ℕ) → Piece 4 (down_code low)
-down_piece low = turned_piece low Lsr Asl Rol (nat_le low 4) refl
+down_piece low = turned_piece low Lsr Asl Rol (nat_le low 4) refl (record { plain = refl; fit = refl; size = omega arith }) (record { plain = refl; fit = refl; size = omega arith }) (record { plain = refl; fit = refl; size = omega arith })
 
 up_piece : (low : ℕ) → Piece 4 (up_code low)
-up_piece low = turned_piece low Asl Lsr Ror (nat_le low 4) refl
+up_piece low = turned_piece low Asl Lsr Ror (nat_le low 4) refl (record { plain = refl; fit = refl; size = omega arith }) (record { plain = refl; fit = refl; size = omega arith }) (record { plain = refl; fit = refl; size = omega arith })
 
 cut_piece : (g : Field) → Piece 2 (cut_code g)
 cut_piece g =
