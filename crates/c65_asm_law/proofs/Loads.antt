@@ -274,16 +274,16 @@ unit_store_well n place g h =
     let under : AllWell n (under_code place ++ (mask_code (others g) ++ (call (Tos tos.Or Ax) ∷ (bytes_store place Two ++ extract_code g)))) = well_append n (under_code place) _ (under_well n place h) masked in
     well_append n (aligned_code g) _ (aligned_well n g) (well_append n (call PushAx ∷ []) _ push under)
 
-merged_well : (n : ℕ) (mode : Mode) (operand : Operand) (mask : ℕ) → mask < 2 ^ 8 → Well n (Do Sta mode operand) → Well n (Do Eor mode operand) → AllWell n (merged_code mode operand mask)
-merged_well n mode operand mask few whole other =
-    well_if n (mask == 255) (Do Sta mode operand ∷ []) _ (record { all = search (rules, whole) }) (record { all = search (rules, few, whole, other) })
+merged_well : (n : ℕ) (mode : Mode) (operand : Operand) (mask : ℕ) → mask < 2 ^ 8 → Well n (Do Sta mode operand) → AllWell n (merged_code mode operand mask)
+merged_well n mode operand mask few whole =
+    well_if n (mask == 255) (Do Sta mode operand ∷ []) _ (record { all = search (rules, whole) }) (record { all = search (rules, few, whole) })
 
 bits_well : (n : ℕ) (place : Place) (mask : ℕ) → mask < 2 ^ 8 → WellPlace n place → AllWell n (bits_store place mask)
-bits_well n (places.Bank at) mask few h = merged_well n ZeroPage (Zero (byte_more regbank at)) mask few (search rules) (search rules)
-bits_well n (places.Near at) mask few h = well_append n (value Ldy at ∷ []) _ (record { all = search (rules, h) }) (merged_well n IndirectY (Zero sp) mask few (search rules) (search rules))
-bits_well n (places.Data s at) mask few h = merged_well n Absolute (At s at) mask few (search (rules, h)) (search (rules, h))
+bits_well n (places.Bank at) mask few h = merged_well n ZeroPage (Zero (byte_more regbank at)) mask few (search rules)
+bits_well n (places.Near at) mask few h = well_append n (value Ldy at ∷ []) _ (record { all = search (rules, h) }) (merged_well n IndirectY (Zero sp) mask few (search rules))
+bits_well n (places.Data s at) mask few h = merged_well n Absolute (At s at) mask few (search (rules, h))
 bits_well n (places.Far at) mask few h =
-    well_append n popped_code _ (record { all = search rules }) (well_append n (value Ldy at ∷ []) _ (record { all = search (rules, h) }) (merged_well n IndirectY (Zero ptr1) mask few (search rules) (search rules)))
+    well_append n popped_code _ (record { all = search rules }) (well_append n (value Ldy at ∷ []) _ (record { all = search (rules, h) }) (merged_well n IndirectY (Zero ptr1) mask few (search rules)))
 
 byte_store_well : (n : ℕ) (place : Place) (g : Field) → WellPlace n place → AllWell n (byte_store place g)
 byte_store_well n place g h =
