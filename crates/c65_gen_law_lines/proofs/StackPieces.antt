@@ -1,5 +1,5 @@
 -- What each piece of lines does to the values that wait.
-use Rattle.std.proofs.Common.{ℕ, zero, suc, ◌+◌, ◌-◌, ◌%◌, ◌≤◌, ◌==◌, Bool, true, false, Option, None, Some, List, [], ◌∷◌, ◌++◌, refl, arith, ◌≡◌, ◌/◌, replicate}
+use Rattle.std.proofs.Common.{ℕ, zero, suc, ◌+◌, ◌-◌, ◌%◌, ◌≤◌, ◌==◌, Bool, true, false, Option, None, Some, List, [], ◌∷◌, ◌++◌, refl, arith, ◌/◌, replicate}
 use Rattle.std.specs.Prelude.{min, if◌then◌else◌, nat_le}
 use Rattle.std.proofs.Math.Nat.{le-max_left, max-le, min-le_right}
 use Rattle.c65_base.specs.declared.operators.UnaryOp.{UnaryOp}
@@ -14,13 +14,10 @@ use Rattle.c65_ctype.specs.Trees.{Ty, void, int, pointer, array, tag, function}
 use Rattle.c65_ctype.specs.Trees as types
 use Rattle.c65_csem.specs.Trees.{Typed, node, pack}
 use Rattle.c65_mach.specs.declared.rows.Op.{Op}
-use Rattle.c65_mach.specs.declared.rows.Op.TheVariants.{Lda, Ldy, Pha, Sta, Stx, Tax, And, Asl, Eor, Lsr, Rol, Ror, Sbc, Sec}
+use Rattle.c65_mach.specs.declared.rows.Op.TheVariants.{Lda, Ldy, Pha, Sta, Stx, Tax, Asl, Lsr, Rol, Ror}
 use Rattle.c65_mach.specs.declared.rows.Mode.{Mode}
-use Rattle.c65_mach.specs.declared.rows.Mode.TheVariants.{ZeroPage, IndirectY, Absolute}
 use Rattle.c65_code.specs.declared.line.Operand.{Operand}
-use Rattle.c65_code.specs.declared.line.Operand.TheVariants.{Zero, At}
 use Rattle.c65_code.specs.declared.line.Line.{Line}
-use Rattle.c65_code.specs.declared.line.Line.TheVariants.{Do}
 use Rattle.c65_code.specs.declared.routine.Routine.TheVariants.{PushAx, LdAi, LdEaxi, Tos, Unary}
 use Rattle.c65_code.specs.declared.routine.UnaryRoutine.TheVariants.{Shl1}
 use Rattle.c65_code.specs.declared.routine.TosOp.{TosOp}
@@ -40,7 +37,7 @@ use Rattle.c65_genload.specs.declared.places.Place.{Place}
 use Rattle.c65_genload.specs.declared.places.Place.TheVariants as places
 use Rattle.c65_genload.specs.declared.places.Access.{Access}
 use Rattle.c65_genload.specs.declared.places.Access.TheVariants.{Whole, Part}
-use Rattle.c65_genload.specs.Words.{ptr1, implied, zero_page, by_y, sp, regbank, shift_a}
+use Rattle.c65_genload.specs.Words.{ptr1, implied, zero_page, by_y, shift_a}
 use Rattle.c65_genload.specs.Places.{type_in, byte_more, extent_of, settled, onward}
 use Rattle.c65_genload.specs.Numbers.{number_code, add_word_code, add_by_width, add_code, mask_code, by_code, shift_code, scale_code, is_divisor, divide_code}
 use Rattle.c65_genload.specs.Conversions.{widen_code, convert_code, convert_to, push_code, test_code, waiting, size_of}

@@ -1,7 +1,7 @@
 // Bit-fields in their units of 16 bits (C90 6.5.2.1).
 ghost use Rattle.std.specs.Prelude.{◌≡◌, ◌<◌, OnOk, OnErr};
 ghost use Rattle.c65_genwide.specs.Lines.{with_lines, Keeps};
-ghost use Rattle.c65_genload.specs.Fields.{ones, others, is_in_byte, own_bits, down_code, up_code, is_topmost, cut_code, sign_bit, spread_code, signed_code, byte_value_code, mask_unless_all, extract_code, lowest_code, range_code, aligned_code, is_unit};
+ghost use Rattle.c65_genload.specs.Fields.{ones, others, is_in_byte, own_bits, down_code, up_code, is_topmost, cut_code, sign_bit, spread_code, signed_code, byte_value_code, mask_unless_all, extract_code, range_code, aligned_code, is_unit};
 
 use crate::numbers::{first, mask, shift};
 use crate::places::Field;

@@ -1,7 +1,6 @@
 -- The primary register shifted by a number of bits that is known (C90 6.3.7). Shifts to the left bring in zeros, shifts to the
 -- right zeros or the sign: Shl, Shr and Asr.
 use Rattle.std.specs.Prelude.{ℕ, ◌+◌, ◌-◌, ◌%◌, nat_lt, nat_le, Bool, false, ◌&&◌, ◌||◌, if◌then◌else◌, List, [], ◌∷◌, ◌++◌, replicate}
-use Rattle.c65_mach.specs.declared.rows.Op.{Op}
 use Rattle.c65_mach.specs.declared.rows.Op.TheVariants.{Asl, Bne, Dey, Lda, Ldx, Ldy, Lsr, Rol, Ror, Sta, Stx, Sty, Tax, Txa}
 use Rattle.c65_code.specs.declared.line.Line.{Line}
 use Rattle.c65_code.specs.declared.line.Line.TheVariants.{Label}

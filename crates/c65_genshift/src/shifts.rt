@@ -1,5 +1,5 @@
 // The primary register shifted by a number of bits that is known (C90 6.3.7).
-ghost use Rattle.std.specs.Prelude.{◌≡◌, ◌+◌, ◌<◌, ◌∷◌, [], replicate, OnOk, OnErr};
+ghost use Rattle.std.specs.Prelude.{◌≡◌, ◌+◌, ◌<◌, ◌∷◌, [], OnOk, OnErr};
 ghost use Rattle.c65_code.specs.declared.line.Line.TheVariants as labels;
 ghost use Rattle.c65_genwide.specs.Lines.{with_lines, Keeps};
 ghost use Rattle.c65_genshift.specs.Shifts.{one_of, calls_code, turns_code, left_turn, right_turn, left_byte_code, right_byte_code, left_one_code, left_two_code, left_three_code, right_one_code, right_two_code, right_three_code, left_word_code, right_word_code, left_long_code, right_long_code, shift_code, is_short_long, is_short};
