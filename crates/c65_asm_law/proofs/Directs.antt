@@ -35,14 +35,14 @@ use Rattle.c65_gendirect.specs.Compare.{lowest_code, difference_code, order_code
 use Rattle.c65_gendirect.specs.Tests.{or_code, all_zero_code, zero_test_code, truth_code}
 use Rattle.c65_genshift.specs.declared.quick.Quick.{Quick}
 use Rattle.c65_genshift.specs.declared.quick.Quick.TheVariants.{Shift, Mask}
-use Rattle.c65_genshift.specs.Shifts.{calls_code, turns_code, left_turn, right_turn, shift_a, left_byte_code, right_byte_code, left_one_code, left_two_code, left_three_code, right_one_code, right_two_code, right_three_code, labelled, left_word_code, right_word_code, left_long_code, right_long_code, shift_code}
+use Rattle.c65_genshift.specs.Shifts.{calls_code, turns_code, left_turn, right_turn, left_byte_code, right_byte_code, left_one_code, left_two_code, left_three_code, right_one_code, right_two_code, right_three_code, labelled, left_word_code, right_word_code, left_long_code, right_long_code, shift_code}
 use Rattle.c65_genshift.specs.Quick.{power_of, mask_word_code, mask_long_code, mask_by_width, quick_lines, quick_code, elements_by, elements_code}
 use Rattle.c65_mach.specs.declared.rows.Op.TheVariants.{Asl, Bne, Cmp, Cpx, Dey, Lda, Ldx, Ldy, Lsr, Ora, Pla, Sbc, Sec, Sta, Stx, Sty, Tax, Txa}
 use Rattle.c65_genwide.specs.Lines.{value}
 use Rattle.c65_genload.specs.Words.{sreg, ptr1, tmp1, tmp2, implied, zero_page, by_y, branch}
 use Rattle.c65_genload.specs.Places.{byte_more}
 use Rattle.c65_asm_law.proofs.Well.{Well, AllWell, well_append, well_none, well_more, well_if}
-use Rattle.c65_asm_law.proofs.Loads.{WellPlace, narrow_well, mask_well, scale_well}
+use Rattle.c65_asm_law.proofs.Loads.{WellPlace, narrow_well, mask_well, shifts_well, scale_well}
 
 -- ---- bytes that are read where they lie
 
@@ -289,9 +289,6 @@ repeated_well n (suc m) line h = well_more n line _ h (repeated_well n m line h)
 
 calls_well : (n : ℕ) (op : TosOp) (w : Width) (m : ℕ) → AllWell n (calls_code op w m)
 calls_well n op w m = repeated_well n m _ tt
-
-shifts_well : (n m : ℕ) (op : Op) → AllWell n (replicate m (shift_a op))
-shifts_well n m op = repeated_well n m _ (tt, tt)
 
 tmp_low : tmp1 < 2 ^ 8
 tmp_low = omega arith

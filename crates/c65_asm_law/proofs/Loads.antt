@@ -1,18 +1,25 @@
 -- The pieces of which the lines of loads, stores and conversions are made.
-use Rattle.std.proofs.Common.{ℕ, ◌+◌, ◌-◌, ◌<◌, ◌^◌, ◌==◌, [], ◌∷◌, ◌++◌, arith, rules}
-use Rattle.std.specs.Prelude.{min, nat_lt}
+use Rattle.std.proofs.Common.{ℕ, ◌+◌, ◌-◌, ◌<◌, ◌^◌, ◌==◌, [], ◌∷◌, ◌++◌, arith, rules, zero, suc, ◌%◌, ◌/◌, replicate}
+use Rattle.std.specs.Prelude.{min, nat_lt, nat_le, if◌then◌else◌}
 use Rattle.c65_base.specs.declared.operators.BinaryOp.{BinaryOp}
 use Rattle.c65_ints.specs.declared.types.IntType.{IntType}
 use Rattle.c65_ints.specs.declared.types.IntType.TheVariants as ints
 use Rattle.c65_ints.specs.Ranges.{is_signed_of}
+use Rattle.c65_mach.specs.declared.rows.Op.{Op}
+use Rattle.c65_mach.specs.declared.rows.Op.TheVariants.{Asl, Ldy, Lsr, Rol, Ror, Sta}
+use Rattle.c65_mach.specs.declared.rows.Mode.{Mode}
+use Rattle.c65_mach.specs.declared.rows.Mode.TheVariants.{ZeroPage, IndirectY, Absolute}
 use Rattle.c65_code.specs.declared.line.Sym.{Sym}
+use Rattle.c65_code.specs.declared.line.Operand.{Operand}
+use Rattle.c65_code.specs.declared.line.Operand.TheVariants.{Zero, At}
+use Rattle.c65_code.specs.declared.line.Line.TheVariants.{Do}
 use Rattle.c65_code.specs.declared.routine.Routine.TheVariants.{PushA, PushAx, PushEax, LdAi, LdEaxi, Tos, Unary}
 use Rattle.c65_code.specs.declared.routine.UnaryRoutine.TheVariants.{Shl1}
 use Rattle.c65_code.specs.declared.routine.TosOp.{TosOp}
 use Rattle.c65_code.specs.declared.routine.TosOp.TheVariants as tos
 use Rattle.c65_code.specs.declared.routine.Width.{Width}
 use Rattle.c65_code.specs.declared.routine.Width.TheVariants.{Ax, Eax}
-use Rattle.c65_genwide.specs.Lines.{call}
+use Rattle.c65_genwide.specs.Lines.{value, call}
 use Rattle.c65_genwide.specs.Passing.{three_code, pass_bytes}
 use Rattle.c65_genwide.specs.Wide.{width_of, narrow_code, wide_code, is_comparison}
 use Rattle.c65_genload.specs.declared.places.Extent.{Extent}
@@ -22,14 +29,15 @@ use Rattle.c65_genload.specs.declared.places.Place.{Place}
 use Rattle.c65_genload.specs.declared.places.Place.TheVariants as places
 use Rattle.c65_genload.specs.declared.places.Access.{Access}
 use Rattle.c65_genload.specs.declared.places.Access.TheVariants.{Whole, Part}
-use Rattle.c65_genload.specs.Places.{byte_more, extent_of, settled}
+use Rattle.c65_genload.specs.Words.{sp, ptr1, regbank, shift_a}
+use Rattle.c65_genload.specs.Places.{byte_more, onward, extent_of, settled}
 use Rattle.c65_genload.specs.Numbers.{number_code, add_word_code, add_by_width, add_code, mask_code, by_code, shift_code, scale_code, is_divisor, divide_code}
 use Rattle.c65_genload.specs.Conversions.{widen_code, convert_code, convert_to, push_code, test_code}
 use Rattle.c65_genload.specs.Addresses.{symbol_code, address_code, above_code, raised_code, offset_code}
-use Rattle.c65_genload.specs.Fields.{ones, others, extract_code, aligned_code}
-use Rattle.c65_genload.specs.Loads.{hold_code, bytes_code, load_code}
-use Rattle.c65_genload.specs.Stores.{bytes_store, after_store, under_code, field_store, store_code, copy_code}
-use Rattle.c65_asm_law.proofs.Well.{AllWell, well_append, well_none, well_more, well_if}
+use Rattle.c65_genload.specs.Fields.{ones, others, is_in_byte, own_bits, down_code, up_code, is_topmost, cut_code, spread_code, signed_code, byte_value_code, mask_unless_all, extract_code, lowest_code, aligned_code, is_unit}
+use Rattle.c65_genload.specs.Loads.{hold_code, bytes_code, field_load, load_code}
+use Rattle.c65_genload.specs.Stores.{bytes_store, after_store, under_code, unit_store, popped_code, merged_code, bits_store, byte_store, field_store, store_code, copy_code}
+use Rattle.c65_asm_law.proofs.Well.{Well, AllWell, well_append, well_none, well_more, well_if}
 
 -- where a place lies, in numbers of their types
 abbrev pub WellPlace : ℕ → Place → Type 0
@@ -168,15 +176,58 @@ bytes_well n (places.Far at) Two h = record { all = search rules }
 bytes_well n (places.Far at) Three h = record { all = search rules }
 bytes_well n (places.Far at) Four h = well_append n (offset_code at) (call LdEaxi ∷ []) (offset_well n at) (record { all = search rules })
 
-pub extract_well : (n : ℕ) (g : Field) → AllWell n (extract_code g)
+-- so many shifts of A
+pub shifts_well : (n m : ℕ) (op : Op) → AllWell n (replicate m (shift_a op))
+shifts_well n zero op = well_none n
+shifts_well n (suc m) op = well_more n (shift_a op) _ (tt, tt) (shifts_well n m op)
+
+turned_well : (n low : ℕ) (one first further : Op) → AllWell n (if nat_le low 4 then replicate low (shift_a one) else shift_a first ∷ replicate (8 - low) (shift_a further))
+turned_well n low one first further =
+    well_if n (nat_le low 4) (replicate low (shift_a one)) _ (shifts_well n low one) (well_more n (shift_a first) _ (tt, tt) (shifts_well n (8 - low) further))
+
+cut_well : (n : ℕ) (g : Field) → AllWell n (cut_code g)
+cut_well n g = well_if n (is_topmost g) [] _ (well_none n) (record { all = search rules })
+
+spread_well : (n width : ℕ) → AllWell n (spread_code width)
+spread_well n width = well_if n (width == 8) [] _ (well_none n) (record { all = search rules })
+
+signed_well : (n : ℕ) (g : Field) → AllWell n (signed_code g)
+signed_well n g =
+    well_if n (is_signed_of g.kind) (spread_code g.width ++ narrow_code ints.SChar) (narrow_code ints.UChar)
+    (well_append n (spread_code g.width) (narrow_code ints.SChar) (spread_well n g.width) (narrow_well n ints.SChar))
+    (narrow_well n ints.UChar)
+
+byte_value_well : (n : ℕ) (g : Field) → AllWell n (byte_value_code g)
+byte_value_well n g = well_append n (down_code (g.low % 8)) _ (turned_well n (g.low % 8) Lsr Asl Rol) (well_append n (cut_code g) (signed_code g) (cut_well n g) (signed_well n g))
+
+unless_all_well : (n m : ℕ) → AllWell n (mask_unless_all m)
+unless_all_well n m = well_if n (m == 65535) [] (mask_code m) (well_none n) (mask_well n m)
+
+extract_well : (n : ℕ) (g : Field) → AllWell n (extract_code g)
 extract_well n g =
-    well_if n (is_signed_of g.kind) (shift_code tos.Shl (16 - min (g.low + g.width) 16) ++ shift_code tos.Asr (16 - min g.width 16)) (shift_code tos.Shr g.low ++ mask_code (ones g.width))
+    well_if n (is_signed_of g.kind) (shift_code tos.Shl (16 - min (g.low + g.width) 16) ++ shift_code tos.Asr (16 - min g.width 16)) (shift_code tos.Shr g.low ++ mask_unless_all (ones g.width))
     (well_append n _ _ (shift_well n tos.Shl (16 - min (g.low + g.width) 16)) (shift_well n tos.Asr (16 - min g.width 16)))
-    (well_append n _ _ (shift_well n tos.Shr g.low) (mask_well n (ones g.width)))
+    (well_append n _ _ (shift_well n tos.Shr g.low) (unless_all_well n (ones g.width)))
+
+pub lowest_well : (n : ℕ) (g : Field) → AllWell n (lowest_code g)
+lowest_well n g = well_if n (is_in_byte g) (byte_value_code g) (extract_code g) (byte_value_well n g) (extract_well n g)
+
+-- of a place and bytes on
+onward_well : (n : ℕ) (place : Place) (m : ℕ) → WellPlace n place → WellPlace n (onward place m)
+onward_well n (places.Bank at) m h = omega arith
+onward_well n (places.Near at) m h = omega arith
+onward_well n (places.Data s at) m h = (h.0, omega arith)
+onward_well n (places.Far at) m h = omega arith
+
+field_load_well : (n : ℕ) (place : Place) (g : Field) → WellPlace n place → AllWell n (field_load place g)
+field_load_well n place g h =
+    well_if n (is_in_byte g) (bytes_code (onward place (g.low / 8)) One ++ byte_value_code g) (bytes_code place Two ++ extract_code g)
+    (well_append n (bytes_code (onward place (g.low / 8)) One) (byte_value_code g) (bytes_well n (onward place (g.low / 8)) One (onward_well n place (g.low / 8) h)) (byte_value_well n g))
+    (well_append n (bytes_code place Two) (extract_code g) (bytes_well n place Two h) (extract_well n g))
 
 pub load_well : (n : ℕ) (place : Place) (access : Access) → WellPlace n place → AllWell n (load_code place access)
 load_well n place (Whole kind) h = well_append n (bytes_code place (extent_of kind)) (narrow_code kind) (bytes_well n place (extent_of kind) h) (narrow_well n kind)
-load_well n place (Part field) h = well_append n (bytes_code place Two) (extract_code field) (bytes_well n place Two h) (extract_well n field)
+load_well n place (Part field) h = field_load_well n place field h
 
 -- ---- stores
 
@@ -213,8 +264,8 @@ under_well n (places.Far at) h = record { all = search rules }
 aligned_well : (n : ℕ) (g : Field) → AllWell n (aligned_code g)
 aligned_well n g = well_append n _ _ (mask_well n (ones g.width)) (shift_well n tos.Shl g.low)
 
-field_store_well : (n : ℕ) (place : Place) (g : Field) → WellPlace n place → AllWell n (field_store place g)
-field_store_well n place g h =
+unit_store_well : (n : ℕ) (place : Place) (g : Field) → WellPlace n place → AllWell n (unit_store place g)
+unit_store_well n place g h =
     let push : AllWell n (call PushAx ∷ []) = record { all = search rules } in
     let join : AllWell n (call (Tos tos.Or Ax) ∷ []) = record { all = search rules } in
     let last : AllWell n (bytes_store place Two ++ extract_code g) = well_append n (bytes_store place Two) (extract_code g) (bytes_store_well n place Two h) (extract_well n g) in
@@ -222,6 +273,29 @@ field_store_well n place g h =
     let masked : AllWell n (mask_code (others g) ++ (call (Tos tos.Or Ax) ∷ (bytes_store place Two ++ extract_code g))) = well_append n (mask_code (others g)) _ (mask_well n (others g)) joined in
     let under : AllWell n (under_code place ++ (mask_code (others g) ++ (call (Tos tos.Or Ax) ∷ (bytes_store place Two ++ extract_code g)))) = well_append n (under_code place) _ (under_well n place h) masked in
     well_append n (aligned_code g) _ (aligned_well n g) (well_append n (call PushAx ∷ []) _ push under)
+
+merged_well : (n : ℕ) (mode : Mode) (operand : Operand) (mask : ℕ) → mask < 2 ^ 8 → Well n (Do Sta mode operand) → AllWell n (merged_code mode operand mask)
+merged_well n mode operand mask few whole =
+    well_if n (mask == 255) (Do Sta mode operand ∷ []) _ (record { all = search (rules, whole) }) (record { all = search (rules, few, whole) })
+
+bits_well : (n : ℕ) (place : Place) (mask : ℕ) → mask < 2 ^ 8 → WellPlace n place → AllWell n (bits_store place mask)
+bits_well n (places.Bank at) mask few h = merged_well n ZeroPage (Zero (byte_more regbank at)) mask few (search rules)
+bits_well n (places.Near at) mask few h = well_append n (value Ldy at ∷ []) _ (record { all = search (rules, h) }) (merged_well n IndirectY (Zero sp) mask few (search rules))
+bits_well n (places.Data s at) mask few h = merged_well n Absolute (At s at) mask few (search (rules, h))
+bits_well n (places.Far at) mask few h =
+    well_append n popped_code _ (record { all = search rules }) (well_append n (value Ldy at ∷ []) _ (record { all = search (rules, h) }) (merged_well n IndirectY (Zero ptr1) mask few (search rules)))
+
+byte_store_well : (n : ℕ) (place : Place) (g : Field) → WellPlace n place → AllWell n (byte_store place g)
+byte_store_well n place g h =
+    let own : own_bits g < 2 ^ 8 = omega arith in
+    let at : WellPlace n (onward (settled place) (g.low / 8)) = onward_well n (settled place) (g.low / 8) (settled_well n place h) in
+    well_append n (up_code (g.low % 8)) _ (turned_well n (g.low % 8) Asl Lsr Ror)
+    (well_append n (bits_store (onward (settled place) (g.low / 8)) (own_bits g)) _ (bits_well n (onward (settled place) (g.low / 8)) (own_bits g) own at) (byte_value_well n g))
+
+field_store_well : (n : ℕ) (place : Place) (g : Field) → WellPlace n place → AllWell n (field_store place g)
+field_store_well n place g h =
+    well_if n (is_in_byte g) (byte_store place g) _ (byte_store_well n place g h)
+    (well_if n (is_unit g) (bytes_store place Two) (unit_store place g) (bytes_store_well n place Two h) (unit_store_well n place g h))
 
 pub store_well : (n : ℕ) (place : Place) (access : Access) → WellPlace n place → AllWell n (store_code place access)
 store_well n place (Whole kind) h = well_append n (bytes_store place (extent_of kind)) (after_store place kind) (bytes_store_well n place (extent_of kind) h) (after_store_well n place kind)

@@ -48,7 +48,7 @@ use Rattle.c65_genexpr.specs.Arguments.{reads_of, argument_code}
 use Rattle.c65_genexpr.specs.Calls.{count_code, fetch_code, result_code, library_at, named_by, named_code, pointer_code, direct_code, ptr4_code}
 use Rattle.c65_asm_law.proofs.Well.{AllWell, well_append, well_none, well_more, well_if, letters_none, letters_a, letters_y, letters_ax, letters_eax}
 use Rattle.c65_asm_law.proofs.Known.{Knows}
-use Rattle.c65_asm_law.proofs.Loads.{WellPlace, settled_well, narrow_well, add_well, scale_well, divide_well, symbol_well, address_well, raised_well, convert_well, push_well, pass_well, hold_well, extract_well, load_well, store_well, wide_well}
+use Rattle.c65_asm_law.proofs.Loads.{WellPlace, settled_well, narrow_well, add_well, scale_well, divide_well, symbol_well, address_well, raised_well, convert_well, push_well, pass_well, hold_well, lowest_well, load_well, store_well, wide_well}
 
 -- ---- places
 
@@ -173,7 +173,7 @@ behind_well n op (Pointers size) right = well_append n (wide_code op ints.UInt) 
 
 back_well : (n : ℕ) (access : Access) (m : ℕ) → AllWell n (back_code access m)
 back_well n (Whole kind) m = add_well n kind (negative m)
-back_well n (Part field) m = well_append n _ _ (add_well n field.kind (negative m)) (extract_well n (record field { low = 0 }))
+back_well n (Part field) m = well_append n _ _ (add_well n field.kind (negative m)) (lowest_well n (record field { low = 0 }))
 
 after_well : (n : ℕ) (how : StepKind) (access : Access) (m : ℕ) → AllWell n (after_code how access m)
 after_well n how access m = well_if n (is_post how) (back_code access m) [] (back_well n access m) (well_none n)

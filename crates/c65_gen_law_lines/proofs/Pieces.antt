@@ -1,6 +1,7 @@
 -- The pieces of which lines are made: each with its greatest size.
-use Rattle.std.proofs.Common.{ℕ, ◌+◌, ◌-◌, ◌%◌, ◌≤◌, ◌==◌, Bool, true, false, Option, None, Some, List, [], ◌∷◌, ◌++◌, refl, arith}
-use Rattle.std.specs.Prelude.{min, if◌then◌else◌, nat_lt}
+use Rattle.std.proofs.Common.{ℕ, ◌+◌, ◌-◌, ◌%◌, ◌≤◌, ◌==◌, Bool, true, false, Option, None, Some, List, [], ◌∷◌, ◌++◌, refl, arith, zero, suc, ◌≡◌, ◌/◌, replicate}
+use Rattle.std.specs.Prelude.{min, if◌then◌else◌, nat_lt, nat_le}
+use Rattle.std.proofs.lemmas.Bool.{leb-true, leb-false}
 use Rattle.c65_base.specs.declared.operators.UnaryOp.{UnaryOp}
 use Rattle.c65_base.specs.declared.operators.UnaryOp.TheVariants as unary
 use Rattle.c65_base.specs.declared.operators.BinaryOp.{BinaryOp}
@@ -11,10 +12,15 @@ use Rattle.c65_ints.specs.declared.types.IntType.TheVariants as ints
 use Rattle.c65_ints.specs.Ranges.{is_signed_of}
 use Rattle.c65_ctype.specs.Trees.{Ty, void, int, pointer, array, tag, function}
 use Rattle.c65_base.specs.declared.library.Library.{Library}
-use Rattle.c65_mach.specs.declared.rows.Op.TheVariants.{Dey, Lda, Ldy, Pha, Pla, Sta, Stx, Tax, Txa}
+use Rattle.c65_mach.specs.declared.rows.Op.{Op}
+use Rattle.c65_mach.specs.declared.rows.Op.TheVariants.{Dey, Lda, Ldy, Pha, Pla, Sta, Stx, Tax, Txa, And, Asl, Eor, Lsr, Rol, Ror, Sbc, Sec}
+use Rattle.c65_mach.specs.declared.rows.Mode.{Mode}
+use Rattle.c65_mach.specs.declared.rows.Mode.TheVariants.{ZeroPage, IndirectY, Absolute}
 use Rattle.c65_code.specs.declared.line.Sym.{Sym}
+use Rattle.c65_code.specs.declared.line.Operand.{Operand}
+use Rattle.c65_code.specs.declared.line.Operand.TheVariants.{Zero, At}
 use Rattle.c65_code.specs.declared.line.Line.{Line}
-use Rattle.c65_code.specs.declared.line.Line.TheVariants.{Call}
+use Rattle.c65_code.specs.declared.line.Line.TheVariants.{Call, Do}
 use Rattle.c65_code.specs.declared.line.Callee.TheVariants.{Function, Pointer}
 use Rattle.c65_code.specs.declared.routine.Count.TheVariants.{Two as two_bytes}
 use Rattle.c65_code.specs.declared.routine.Routine.TheVariants.{PushA, PushAx, PushEax, LdAi, LdEaxi, Tos, Unary, IncSp, Library as library_routine}
@@ -38,14 +44,14 @@ use Rattle.c65_genload.specs.declared.places.Place.{Place}
 use Rattle.c65_genload.specs.declared.places.Place.TheVariants as places
 use Rattle.c65_genload.specs.declared.places.Access.{Access}
 use Rattle.c65_genload.specs.declared.places.Access.TheVariants.{Whole, Part}
-use Rattle.c65_genload.specs.Words.{ptr1, implied, zero_page, by_y}
-use Rattle.c65_genload.specs.Places.{type_in, byte_more, extent_of, settled}
-use Rattle.c65_genload.specs.Numbers.{number_code, add_word_code, add_by_width, add_code, mask_code, by_code, shift_code, scale_code, is_divisor, divide_code}
+use Rattle.c65_genload.specs.Words.{ptr1, implied, zero_page, by_y, sp, regbank, shift_a}
+use Rattle.c65_genload.specs.Places.{type_in, byte_more, extent_of, settled, onward}
+use Rattle.c65_genload.specs.Numbers.{first, number_code, add_word_code, add_by_width, add_code, mask_code, by_code, shift_code, scale_code, is_divisor, divide_code}
 use Rattle.c65_genload.specs.Conversions.{widen_code, convert_code, convert_to, push_code, test_code}
 use Rattle.c65_genload.specs.Addresses.{symbol_code, address_code, above_code, raised_code, offset_code}
-use Rattle.c65_genload.specs.Fields.{ones, others, extract_code, aligned_code}
-use Rattle.c65_genload.specs.Loads.{hold_code, bytes_code, load_code}
-use Rattle.c65_genload.specs.Stores.{bytes_store, after_store, under_code, field_store, store_code, copy_code}
+use Rattle.c65_genload.specs.Fields.{ones, others, is_in_byte, own_bits, down_code, up_code, is_topmost, cut_code, sign_bit, spread_code, signed_code, byte_value_code, mask_unless_all, extract_code, lowest_code, aligned_code, is_unit}
+use Rattle.c65_genload.specs.Loads.{hold_code, bytes_code, field_load, load_code}
+use Rattle.c65_genload.specs.Stores.{bytes_store, after_store, under_code, unit_store, popped_code, merged_code, bits_store, byte_store, field_store, store_code, copy_code}
 use Rattle.c65_gendirect.specs.declared.bytes.OperandByte.{OperandByte}
 use Rattle.c65_gendirect.specs.declared.bytes.OperandByte.TheVariants as operand
 use Rattle.c65_gendirect.specs.declared.through.Stored.{Stored}
@@ -257,11 +263,58 @@ taking_number ints.ULong = omega arith
 number_bytes_piece : (place : Place) (kind : IntType) → Piece 16 (bytes_code place (extent_of kind))
 number_bytes_piece place kind = piece_wider (taking (extent_of kind)) 16 (bytes_code place (extent_of kind)) (bytes_piece place (extent_of kind)) (taking_number kind)
 
+repeated_shift : (n : ℕ) (op : Op) → Piece 1 (shift_a op ∷ []) → Piece n (replicate n (shift_a op))
+repeated_shift zero op one = piece_none 0
+repeated_shift (suc n) op one = piece_wider (1 + n) (suc n) _ (piece_append 1 n (shift_a op ∷ []) (replicate n (shift_a op)) one (repeated_shift n op one)) (omega arith)
+
+-- at most four to one side, and else round by the other
+turned_piece : (low : ℕ) (one first further : Op) (b : Bool) → nat_le low 4 ≡ b → Piece 1 (shift_a one ∷ []) → Piece 1 (shift_a first ∷ []) → Piece 1 (shift_a further ∷ []) → Piece 4 (if b then replicate low (shift_a one) else shift_a first ∷ replicate (8 - low) (shift_a further))
+turned_piece low one first further true h x y z = piece_wider low 4 _ (repeated_shift low one x) (leb-true low 4 h)
+turned_piece low one first further false h x y z =
+    piece_wider (1 + (8 - low)) 4 _ (piece_append 1 (8 - low) (shift_a first ∷ []) _ y (repeated_shift (8 - low) further z)) (omega (arith, leb-false low 4 h))
+
+down_piece : (low : ℕ) → Piece 4 (down_code low)
+down_piece low = turned_piece low Lsr Asl Rol (nat_le low 4) refl (record { plain = refl; fit = refl; size = omega arith }) (record { plain = refl; fit = refl; size = omega arith }) (record { plain = refl; fit = refl; size = omega arith })
+
+up_piece : (low : ℕ) → Piece 4 (up_code low)
+up_piece low = turned_piece low Asl Lsr Ror (nat_le low 4) refl (record { plain = refl; fit = refl; size = omega arith }) (record { plain = refl; fit = refl; size = omega arith }) (record { plain = refl; fit = refl; size = omega arith })
+
+cut_piece : (g : Field) → Piece 2 (cut_code g)
+cut_piece g =
+    let kept : Piece 2 (value And (first (ones g.width)) ∷ []) = record { plain = refl; fit = refl; size = omega arith } in
+    piece_if 2 (is_topmost g) [] (value And (first (ones g.width)) ∷ []) (piece_none 2) kept
+
+spread_piece : (width : ℕ) → Piece 5 (spread_code width)
+spread_piece width =
+    let turned : Piece 5 (value Eor (sign_bit width) ∷ implied Sec ∷ value Sbc (sign_bit width) ∷ []) = record { plain = refl; fit = refl; size = omega arith } in
+    piece_if 5 (width == 8) [] _ (piece_none 5) turned
+
+signed_piece : (g : Field) → Piece 8 (signed_code g)
+signed_piece g =
+    piece_if 8 (is_signed_of g.kind) (spread_code g.width ++ narrow_code ints.SChar) (narrow_code ints.UChar)
+    (piece_append 5 3 _ _ (spread_piece g.width) (narrow_piece ints.SChar))
+    (piece_wider 3 8 _ (narrow_piece ints.UChar) (omega arith))
+
+byte_value_piece : (g : Field) → Piece 14 (byte_value_code g)
+byte_value_piece g = piece_append 4 10 _ _ (down_piece (g.low % 8)) (piece_append 2 8 _ _ (cut_piece g) (signed_piece g))
+
+mask_less_piece : (n : ℕ) → Piece 8 (mask_unless_all n)
+mask_less_piece n = piece_if 8 (n == 65535) [] (mask_code n) (piece_none 8) (mask_piece n)
+
 extract_piece : (g : Field) → Piece 20 (extract_code g)
 extract_piece g =
-    piece_if 20 (is_signed_of g.kind) (shift_code tos.Shl (16 - min (g.low + g.width) 16) ++ shift_code tos.Asr (16 - min g.width 16)) (shift_code tos.Shr g.low ++ mask_code (ones g.width))
+    piece_if 20 (is_signed_of g.kind) (shift_code tos.Shl (16 - min (g.low + g.width) 16) ++ shift_code tos.Asr (16 - min g.width 16)) (shift_code tos.Shr g.low ++ mask_unless_all (ones g.width))
     (piece_append 10 10 _ _ (shift_piece tos.Shl (16 - min (g.low + g.width) 16)) (shift_piece tos.Asr (16 - min g.width 16)))
-    (piece_wider 18 20 _ (piece_append 10 8 _ _ (shift_piece tos.Shr g.low) (mask_piece (ones g.width))) (omega arith))
+    (piece_wider 18 20 _ (piece_append 10 8 _ _ (shift_piece tos.Shr g.low) (mask_less_piece (ones g.width))) (omega arith))
+
+lowest_piece : (g : Field) → Piece 20 (lowest_code g)
+lowest_piece g = piece_if 20 (is_in_byte g) (byte_value_code g) (extract_code g) (piece_wider 14 20 _ (byte_value_piece g) (omega arith)) (extract_piece g)
+
+field_load_piece : (place : Place) (g : Field) → Piece 36 (field_load place g)
+field_load_piece place g =
+    piece_if 36 (is_in_byte g) (bytes_code (onward place (g.low / 8)) One ++ byte_value_code g) (bytes_code place Two ++ extract_code g)
+    (piece_wider 30 36 _ (piece_append 16 14 _ _ (bytes_piece (onward place (g.low / 8)) One) (byte_value_piece g)) (omega arith))
+    (piece_append 16 20 _ _ (bytes_piece place Two) (extract_piece g))
 
 -- a number by what is kept: a whole object, or a bit-field
 abbrev pub by_access : ℕ → ℕ → Access → ℕ
@@ -270,7 +323,7 @@ by_access whole part (Part field) = part
 
 pub load_piece : (place : Place) (access : Access) → Piece (by_access 19 36 access) (load_code place access)
 load_piece place (Whole kind) = piece_append 16 3 _ _ (number_bytes_piece place kind) (narrow_piece kind)
-load_piece place (Part field) = piece_append 16 20 _ _ (bytes_piece place Two) (extract_piece field)
+load_piece place (Part field) = field_load_piece place field
 
 bytes_store_piece : (place : Place) (e : Extent) → Piece 16 (bytes_store place e)
 bytes_store_piece (places.Bank b) One = record { plain = refl; fit = refl; size = omega arith }
@@ -308,8 +361,8 @@ aligned_piece g = piece_append 8 10 _ _ (mask_piece (ones g.width)) (shift_piece
 one_call : (k : ℕ) (line : Line) (rest : List Line) → Piece 3 (line ∷ []) → Piece k rest → Piece (3 + k) (line ∷ rest)
 one_call k line rest p q = piece_append 3 k (line ∷ []) rest p q
 
-field_store_piece : (place : Place) (g : Field) → Piece 86 (field_store place g)
-field_store_piece place g =
+unit_store_piece : (place : Place) (g : Field) → Piece 86 (unit_store place g)
+unit_store_piece place g =
     let push : Piece 3 (call PushAx ∷ []) = record { plain = refl; fit = refl; size = omega arith } in
     let join : Piece 3 (call (Tos tos.Or Ax) ∷ []) = record { plain = refl; fit = refl; size = omega arith } in
     let last : Piece 36 (bytes_store place Two ++ extract_code g) = piece_append 16 20 (bytes_store place Two) (extract_code g) (bytes_store_piece place Two) (extract_piece g) in
@@ -317,6 +370,31 @@ field_store_piece place g =
     let masked : Piece 47 (mask_code (others g) ++ (call (Tos tos.Or Ax) ∷ (bytes_store place Two ++ extract_code g))) = piece_append 8 39 (mask_code (others g)) (call (Tos tos.Or Ax) ∷ (bytes_store place Two ++ extract_code g)) (mask_piece (others g)) joined in
     let under : Piece 65 (under_code place ++ (mask_code (others g) ++ (call (Tos tos.Or Ax) ∷ (bytes_store place Two ++ extract_code g)))) = piece_append 18 47 (under_code place) _ (under_piece place) masked in
     piece_append 18 68 (aligned_code g) _ (aligned_piece g) (one_call 65 (call PushAx) _ push under)
+
+merged_piece : (mode : Mode) (operand : Operand) (mask : ℕ) → Piece 3 (Do Sta mode operand ∷ []) → Piece 3 (Do Eor mode operand ∷ []) → Piece 11 (merged_code mode operand mask)
+merged_piece mode operand mask whole other =
+    let own : Piece 2 (value And mask ∷ []) = record { plain = refl; fit = refl; size = omega arith } in
+    piece_if 11 (mask == 255) (Do Sta mode operand ∷ []) _ (piece_wider 3 11 _ whole (omega arith))
+    (piece_append 3 8 (Do Eor mode operand ∷ []) _ other (piece_append 2 6 (value And mask ∷ []) _ own (piece_append 3 3 (Do Eor mode operand ∷ []) _ other whole)))
+
+bits_piece : (place : Place) (mask : ℕ) → Piece 24 (bits_store place mask)
+bits_piece (places.Bank b) mask = piece_wider 11 24 _ (merged_piece ZeroPage (Zero (byte_more regbank b)) mask (record { plain = refl; fit = refl; size = omega arith }) (record { plain = refl; fit = refl; size = omega arith })) (omega arith)
+bits_piece (places.Near at) mask =
+    let way : Piece 2 (value Ldy at ∷ []) = record { plain = refl; fit = refl; size = omega arith } in
+    piece_wider 13 24 _ (piece_append 2 11 (value Ldy at ∷ []) _ way (merged_piece IndirectY (Zero sp) mask (record { plain = refl; fit = refl; size = omega arith }) (record { plain = refl; fit = refl; size = omega arith }))) (omega arith)
+bits_piece (places.Data s at) mask = piece_wider 11 24 _ (merged_piece Absolute (At s at) mask (record { plain = refl; fit = refl; size = omega arith }) (record { plain = refl; fit = refl; size = omega arith })) (omega arith)
+bits_piece (places.Far at) mask =
+    let way : Piece 13 (popped_code ++ (value Ldy at ∷ [])) = record { plain = refl; fit = refl; size = omega arith } in
+    piece_append 13 11 (popped_code ++ (value Ldy at ∷ [])) _ way (merged_piece IndirectY (Zero ptr1) mask (record { plain = refl; fit = refl; size = omega arith }) (record { plain = refl; fit = refl; size = omega arith }))
+
+byte_store_piece : (place : Place) (g : Field) → Piece 42 (byte_store place g)
+byte_store_piece place g =
+    piece_append 4 38 _ _ (up_piece (g.low % 8)) (piece_append 24 14 _ _ (bits_piece (onward (settled place) (g.low / 8)) (own_bits g)) (byte_value_piece g))
+
+field_store_piece : (place : Place) (g : Field) → Piece 86 (field_store place g)
+field_store_piece place g =
+    piece_if 86 (is_in_byte g) (byte_store place g) _ (piece_wider 42 86 _ (byte_store_piece place g) (omega arith))
+    (piece_if 86 (is_unit g) (bytes_store place Two) (unit_store place g) (piece_wider 16 86 _ (bytes_store_piece place Two) (omega arith)) (unit_store_piece place g))
 
 pub store_piece : (place : Place) (access : Access) → Piece (by_access 19 86 access) (store_code place access)
 store_piece place (Whole kind) = piece_append 16 3 _ _ (bytes_store_piece place (extent_of kind)) (after_store_piece place kind)
@@ -403,7 +481,7 @@ word_through_piece at low high =
 
 back_piece : (access : Access) (n : ℕ) → Piece (by_access 21 41 access) (back_code access n)
 back_piece (Whole kind) n = add_piece kind (negative n)
-back_piece (Part field) n = piece_append 21 20 _ _ (add_piece field.kind (negative n)) (extract_piece (record field { low = 0 }))
+back_piece (Part field) n = piece_append 21 20 _ _ (add_piece field.kind (negative n)) (lowest_piece (record field { low = 0 }))
 
 after_piece : (how : StepKind) (access : Access) (n : ℕ) → Piece (by_access 21 41 access) (after_code how access n)
 after_piece how access n = piece_if _ (is_post how) (back_code access n) [] (back_piece access n) (piece_none _)

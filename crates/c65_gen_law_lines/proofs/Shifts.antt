@@ -14,11 +14,11 @@ use Rattle.c65_code.specs.declared.routine.Width.TheVariants.{Ax, Eax}
 use Rattle.c65_code.specs.declared.routine.Routine.TheVariants.{Unary}
 use Rattle.c65_genwide.specs.Lines.{value, call}
 use Rattle.c65_genwide.specs.Wide.{width_of, tos_of}
-use Rattle.c65_genload.specs.Words.{sreg, tmp1, implied, zero_page}
+use Rattle.c65_genload.specs.Words.{sreg, tmp1, implied, zero_page, shift_a}
 use Rattle.c65_genload.specs.Numbers.{first, second, mask_code}
 use Rattle.c65_genshift.specs.declared.quick.Quick.{Quick}
 use Rattle.c65_genshift.specs.declared.quick.Quick.TheVariants.{Shift, Mask}
-use Rattle.c65_genshift.specs.Shifts.{shift_a, one_of, calls_code, turns_code, left_turn, right_turn, left_byte_code, right_byte_code, left_one_code, left_two_code, right_one_code, right_two_code, labelled, left_word_code, right_word_code, left_long_code, right_long_code, shift_code, is_short_long, is_short}
+use Rattle.c65_genshift.specs.Shifts.{one_of, calls_code, turns_code, left_turn, right_turn, left_byte_code, right_byte_code, left_one_code, left_two_code, right_one_code, right_two_code, labelled, left_word_code, right_word_code, left_long_code, right_long_code, shift_code, is_short_long, is_short}
 use Rattle.c65_genshift.specs.Quick.{power_of, scaled_if, rest_if, quick_by, quick_of, mask_word_code, mask_high_code, mask_by_width, quick_lines, quick_code, elements_by, elements_code}
 use Rattle.c65_gen_law_lines.proofs.Made.{nowhere, once_at}
 use Rattle.c65_gen_law_lines.proofs.Pieces.{narrow_piece, scale_piece}

@@ -1,6 +1,6 @@
 -- What each piece of lines does to the values that wait.
-use Rattle.std.proofs.Common.{ℕ, zero, suc, ◌+◌, ◌-◌, ◌%◌, ◌≤◌, ◌==◌, Bool, true, false, Option, None, Some, List, [], ◌∷◌, ◌++◌, refl, arith}
-use Rattle.std.specs.Prelude.{min}
+use Rattle.std.proofs.Common.{ℕ, zero, suc, ◌+◌, ◌-◌, ◌%◌, ◌≤◌, ◌==◌, Bool, true, false, Option, None, Some, List, [], ◌∷◌, ◌++◌, refl, arith, ◌/◌, replicate}
+use Rattle.std.specs.Prelude.{min, if◌then◌else◌, nat_le}
 use Rattle.std.proofs.Math.Nat.{le-max_left, max-le, min-le_right}
 use Rattle.c65_base.specs.declared.operators.UnaryOp.{UnaryOp}
 use Rattle.c65_base.specs.declared.operators.UnaryOp.TheVariants as unary
@@ -13,7 +13,10 @@ use Rattle.c65_ints.specs.Ranges.{is_signed_of}
 use Rattle.c65_ctype.specs.Trees.{Ty, void, int, pointer, array, tag, function}
 use Rattle.c65_ctype.specs.Trees as types
 use Rattle.c65_csem.specs.Trees.{Typed, node, pack}
-use Rattle.c65_mach.specs.declared.rows.Op.TheVariants.{Lda, Ldy, Pha, Sta, Stx, Tax}
+use Rattle.c65_mach.specs.declared.rows.Op.{Op}
+use Rattle.c65_mach.specs.declared.rows.Op.TheVariants.{Lda, Ldy, Pha, Sta, Stx, Tax, Asl, Lsr, Rol, Ror}
+use Rattle.c65_mach.specs.declared.rows.Mode.{Mode}
+use Rattle.c65_code.specs.declared.line.Operand.{Operand}
 use Rattle.c65_code.specs.declared.line.Line.{Line}
 use Rattle.c65_code.specs.declared.routine.Routine.TheVariants.{PushAx, LdAi, LdEaxi, Tos, Unary}
 use Rattle.c65_code.specs.declared.routine.UnaryRoutine.TheVariants.{Shl1}
@@ -34,14 +37,14 @@ use Rattle.c65_genload.specs.declared.places.Place.{Place}
 use Rattle.c65_genload.specs.declared.places.Place.TheVariants as places
 use Rattle.c65_genload.specs.declared.places.Access.{Access}
 use Rattle.c65_genload.specs.declared.places.Access.TheVariants.{Whole, Part}
-use Rattle.c65_genload.specs.Words.{ptr1, implied, zero_page, by_y}
-use Rattle.c65_genload.specs.Places.{type_in, byte_more, extent_of, settled}
+use Rattle.c65_genload.specs.Words.{ptr1, implied, zero_page, by_y, shift_a}
+use Rattle.c65_genload.specs.Places.{type_in, byte_more, extent_of, settled, onward}
 use Rattle.c65_genload.specs.Numbers.{number_code, add_word_code, add_by_width, add_code, mask_code, by_code, shift_code, scale_code, is_divisor, divide_code}
 use Rattle.c65_genload.specs.Conversions.{widen_code, convert_code, convert_to, push_code, test_code, waiting, size_of}
 use Rattle.c65_genload.specs.Addresses.{address_code, above_code, offset_code}
-use Rattle.c65_genload.specs.Fields.{ones, others, extract_code}
-use Rattle.c65_genload.specs.Loads.{hold_code, bytes_code, load_code}
-use Rattle.c65_genload.specs.Stores.{bytes_store, after_store, under_code, field_store, store_code, copy_code}
+use Rattle.c65_genload.specs.Fields.{ones, others, is_in_byte, own_bits, is_topmost, cut_code, spread_code, byte_value_code, extract_code, lowest_code, is_unit}
+use Rattle.c65_genload.specs.Loads.{hold_code, bytes_code, field_load, load_code}
+use Rattle.c65_genload.specs.Stores.{bytes_store, after_store, under_code, unit_store, popped_code, merged_code, bits_store, byte_store, field_store, store_code, copy_code}
 use Rattle.c65_gendirect.specs.declared.bytes.OperandByte.{OperandByte}
 use Rattle.c65_gendirect.specs.declared.bytes.OperandByte.TheVariants as operand
 use Rattle.c65_gendirect.specs.declared.through.Stored.{Stored}
@@ -239,13 +242,36 @@ bytes_still (places.Far at) Two v = record { to = λ calls. refl }
 bytes_still (places.Far at) Three v = record { to = λ calls. refl }
 bytes_still (places.Far at) Four v = leaves_then (offset_still at v) (take_four v)
 
+repeated_still : (n : ℕ) (op : Op) → Still (replicate n (shift_a op))
+repeated_still zero op v = leaves_none
+repeated_still (suc n) op v = leaves_then {a = shift_a op ∷ []} (record { to = λ calls. refl }) (repeated_still n op v)
+
+turned_still : (low : ℕ) (one first further : Op) → Still (if nat_le low 4 then replicate low (shift_a one) else shift_a first ∷ replicate (8 - low) (shift_a further))
+turned_still low one first further v = leaves_if (nat_le low 4) (repeated_still low one v) (leaves_then {a = shift_a first ∷ []} (record { to = λ calls. refl }) (repeated_still (8 - low) further v))
+
+cut_still : (g : Field) → Still (cut_code g)
+cut_still g v = leaves_if (is_topmost g) leaves_none (record { to = λ calls. refl })
+
+spread_still : (width : ℕ) → Still (spread_code width)
+spread_still width v = leaves_if (width == 8) leaves_none (record { to = λ calls. refl })
+
+byte_value_still : (g : Field) → Still (byte_value_code g)
+byte_value_still g v =
+    leaves_then (turned_still (g.low % 8) Lsr Asl Rol v) (leaves_then (cut_still g v) (leaves_if (is_signed_of g.kind) (leaves_then (spread_still g.width v) (narrow_still ints.SChar v)) (narrow_still ints.UChar v)))
+
 extract_still : (g : Field) → Still (extract_code g)
 extract_still g v =
-    leaves_if (is_signed_of g.kind) (leaves_then (shift_still tos.Shl (16 - min (g.low + g.width) 16) v) (shift_still tos.Asr (16 - min g.width 16) v)) (leaves_then (shift_still tos.Shr g.low v) (mask_still (ones g.width) v))
+    leaves_if (is_signed_of g.kind) (leaves_then (shift_still tos.Shl (16 - min (g.low + g.width) 16) v) (shift_still tos.Asr (16 - min g.width 16) v)) (leaves_then (shift_still tos.Shr g.low v) (leaves_if (ones g.width == 65535) leaves_none (mask_still (ones g.width) v)))
+
+lowest_still : (g : Field) → Still (lowest_code g)
+lowest_still g v = leaves_if (is_in_byte g) (byte_value_still g v) (extract_still g v)
+
+field_load_still : (place : Place) (g : Field) → Still (field_load place g)
+field_load_still place g v = leaves_if (is_in_byte g) (leaves_then (bytes_still (onward place (g.low / 8)) One v) (byte_value_still g v)) (leaves_then (bytes_still place Two v) (extract_still g v))
 
 pub load_still : (place : Place) (access : Access) → Still (load_code place access)
 load_still place (Whole kind) v = leaves_then (bytes_still place (extent_of kind) v) (narrow_still kind v)
-load_still place (Part field) v = leaves_then (bytes_still place Two v) (extract_still field v)
+load_still place (Part field) v = field_load_still place field v
 
 store_leaves : (place : Place) (e : Extent) (v : List ℕ) → Leaves (holding place v) (bytes_store place e) v
 store_leaves (places.Bank b) One v = record { to = λ calls. refl }
@@ -280,11 +306,26 @@ under_still (places.Far at) v = record { to = λ calls. refl }
 join_one : (v : List ℕ) → Leaves (2 ∷ v) (call (Tos tos.Or Ax) ∷ []) v
 join_one v = record { to = λ calls. refl }
 
-field_leaves : (place : Place) (g : Field) (v : List ℕ) → Leaves (holding place v) (field_store place g) v
-field_leaves place g v =
+unit_leaves : (place : Place) (g : Field) (v : List ℕ) → Leaves (holding place v) (unit_store place g) v
+unit_leaves place g v =
     let h : List ℕ = holding place v in
     leaves_then (leaves_then (mask_still (ones g.width) h) (shift_still tos.Shl g.low h))
     (leaves_then (push_one h) (leaves_then (under_still place (2 ∷ h)) (leaves_then (mask_still (others g) (2 ∷ h)) (leaves_then (join_one h) (leaves_then (store_leaves place Two v) (extract_still g v))))))
+
+merged_still : (mode : Mode) (operand : Operand) (mask : ℕ) → Still (merged_code mode operand mask)
+merged_still mode operand mask v = leaves_if (mask == 255) (record { to = λ calls. refl }) (record { to = λ calls. refl })
+
+bits_leaves : (place : Place) (n mask : ℕ) (v : List ℕ) → Leaves (holding place v) (bits_store (onward (settled place) n) mask) v
+bits_leaves (places.Bank b) n mask v = merged_still _ _ mask v
+bits_leaves (places.Near at) n mask v = leaves_then {a = value Ldy (byte_more at n) ∷ []} (record { to = λ calls. refl }) (merged_still _ _ mask v)
+bits_leaves (places.Data s at) n mask v = merged_still _ _ mask v
+bits_leaves (places.Far at) n mask v = leaves_then {a = popped_code} (record { to = λ calls. refl }) (leaves_then {a = value Ldy (byte_more 0 n) ∷ []} (record { to = λ calls. refl }) (merged_still _ _ mask v))
+
+byte_leaves : (place : Place) (g : Field) (v : List ℕ) → Leaves (holding place v) (byte_store place g) v
+byte_leaves place g v = leaves_then (turned_still (g.low % 8) Asl Lsr Ror (holding place v)) (leaves_then (bits_leaves place (g.low / 8) (own_bits g) v) (byte_value_still g v))
+
+field_leaves : (place : Place) (g : Field) (v : List ℕ) → Leaves (holding place v) (field_store place g) v
+field_leaves place g v = leaves_if (is_in_byte g) (byte_leaves place g v) (leaves_if (is_unit g) (store_leaves place Two v) (unit_leaves place g v))
 
 pub stored_leaves : (place : Place) (access : Access) (v : List ℕ) → Leaves (holding place v) (store_code place access) v
 stored_leaves place (Whole kind) v = leaves_then (store_leaves place (extent_of kind) v) (after_store_still place kind v)
@@ -379,7 +420,7 @@ word_through_still at low high v =
 
 back_still : (access : Access) (n : ℕ) → Still (back_code access n)
 back_still (Whole kind) n v = add_still kind (negative n) v
-back_still (Part field) n v = leaves_then (add_still field.kind (negative n) v) (extract_still (record field { low = 0 }) v)
+back_still (Part field) n v = leaves_then (add_still field.kind (negative n) v) (lowest_still (record field { low = 0 }) v)
 
 after_still : (how : StepKind) (access : Access) (n : ℕ) → Still (after_code how access n)
 after_still how access n v = leaves_if (is_post how) (back_still access n v) leaves_none

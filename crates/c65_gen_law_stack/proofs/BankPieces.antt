@@ -1,6 +1,6 @@
 -- The pieces of which lines are made write nothing of regbank, but for stores to a place in regbank.
-use Rattle.std.proofs.Common.{◌≡◌, ℕ, ◌+◌, ◌-◌, ◌%◌, ◌==◌, Bool, true, false, Option, None, Some, List, [], ◌∷◌, ◌++◌, refl, ◌∙◌}
-use Rattle.std.specs.Prelude.{min, if◌then◌else◌, nat_lt}
+use Rattle.std.proofs.Common.{◌≡◌, ℕ, ◌+◌, ◌-◌, ◌%◌, ◌==◌, Bool, true, false, Option, None, Some, List, [], ◌∷◌, ◌++◌, refl, ◌∙◌, zero, suc, ◌/◌, replicate}
+use Rattle.std.specs.Prelude.{min, if◌then◌else◌, nat_lt, nat_le}
 use Rattle.std.specs.List.{list_all}
 use Rattle.std.proofs.lemmas.Bool.{and_from}
 use Rattle.std.proofs.lemmas.List.Folds.{list_all-append}
@@ -14,10 +14,15 @@ use Rattle.c65_ints.specs.declared.types.IntType.TheVariants as ints
 use Rattle.c65_ints.specs.Ranges.{is_signed_of}
 use Rattle.c65_ctype.specs.Trees.{Ty, void, int, pointer, array, tag, function}
 use Rattle.c65_base.specs.declared.library.Library.{Library}
-use Rattle.c65_mach.specs.declared.rows.Op.TheVariants.{Lda, Ldy, Pha, Sta, Stx, Tax}
+use Rattle.c65_mach.specs.declared.rows.Op.{Op}
+use Rattle.c65_mach.specs.declared.rows.Op.TheVariants.{Lda, Ldy, Pha, Sta, Stx, Tax, And, Asl, Eor, Lsr, Rol, Ror}
 use Rattle.c65_code.specs.declared.line.Sym.{Sym}
+use Rattle.c65_mach.specs.declared.rows.Mode.{Mode}
+use Rattle.c65_mach.specs.declared.rows.Mode.TheVariants.{IndirectY, Absolute}
+use Rattle.c65_code.specs.declared.line.Operand.{Operand}
+use Rattle.c65_code.specs.declared.line.Operand.TheVariants.{Zero, At}
 use Rattle.c65_code.specs.declared.line.Line.{Line}
-use Rattle.c65_code.specs.declared.line.Line.TheVariants.{Call}
+use Rattle.c65_code.specs.declared.line.Line.TheVariants.{Call, Do}
 use Rattle.c65_code.specs.declared.line.Callee.TheVariants.{Function, Pointer}
 use Rattle.c65_code.specs.declared.routine.Count.TheVariants.{Two as two_bytes}
 use Rattle.c65_code.specs.declared.routine.Routine.TheVariants.{PushA, PushAx, PushEax, LdAi, LdEaxi, Tos, Unary, IncSp, Library as library_routine}
@@ -41,14 +46,14 @@ use Rattle.c65_genload.specs.declared.places.Place.{Place}
 use Rattle.c65_genload.specs.declared.places.Place.TheVariants as places
 use Rattle.c65_genload.specs.declared.places.Access.{Access}
 use Rattle.c65_genload.specs.declared.places.Access.TheVariants.{Whole, Part}
-use Rattle.c65_genload.specs.Words.{ptr1, implied, zero_page, by_y}
-use Rattle.c65_genload.specs.Places.{type_in, byte_more, extent_of, settled}
+use Rattle.c65_genload.specs.Words.{ptr1, implied, zero_page, by_y, sp, shift_a}
+use Rattle.c65_genload.specs.Places.{type_in, byte_more, extent_of, settled, onward, word_more}
 use Rattle.c65_genload.specs.Numbers.{number_code, add_word_code, add_by_width, add_code, mask_code, by_code, shift_code, scale_code, is_divisor, divide_code}
 use Rattle.c65_genload.specs.Conversions.{widen_code, convert_code, convert_to, push_code, test_code}
 use Rattle.c65_genload.specs.Addresses.{symbol_code, address_code, above_code, raised_code, offset_code}
-use Rattle.c65_genload.specs.Fields.{ones, others, extract_code}
-use Rattle.c65_genload.specs.Loads.{hold_code, bytes_code, load_code}
-use Rattle.c65_genload.specs.Stores.{bytes_store, after_store, under_code, field_store, store_code, copy_code}
+use Rattle.c65_genload.specs.Fields.{ones, others, is_in_byte, own_bits, down_code, up_code, is_topmost, cut_code, spread_code, byte_value_code, extract_code, lowest_code, is_unit}
+use Rattle.c65_genload.specs.Loads.{hold_code, bytes_code, field_load, load_code}
+use Rattle.c65_genload.specs.Stores.{bytes_store, after_store, under_code, unit_store, popped_code, merged_code, bits_store, byte_store, field_store, store_code, copy_code}
 use Rattle.c65_gendirect.specs.declared.bytes.OperandByte.{OperandByte}
 use Rattle.c65_gendirect.specs.declared.bytes.OperandByte.TheVariants as operand
 use Rattle.c65_gendirect.specs.declared.through.Stored.{Stored}
@@ -227,12 +232,41 @@ bytes_clear (places.Far at) Four =
     let whole : Clear (call LdEaxi ∷ []) = record { all = refl } in
     clear_then (offset_clear at) whole
 
+repeated_clear : (n : ℕ) (op : Op) → Clear (shift_a op ∷ []) → Clear (replicate n (shift_a op))
+repeated_clear zero op one = clear_none
+repeated_clear (suc n) op one = clear_then one (repeated_clear n op one)
+
+turned_clear : (low : ℕ) (one first further : Op) → Clear (shift_a one ∷ []) → Clear (shift_a first ∷ []) → Clear (shift_a further ∷ []) → Clear (if nat_le low 4 then replicate low (shift_a one) else shift_a first ∷ replicate (8 - low) (shift_a further))
+turned_clear low one first further a b c = clear_if (nat_le low 4) (repeated_clear low one a) (clear_then b (repeated_clear (8 - low) further c))
+
+down_clear : (low : ℕ) → Clear (down_code low)
+down_clear low = turned_clear low Lsr Asl Rol (record { all = refl }) (record { all = refl }) (record { all = refl })
+
+up_clear : (low : ℕ) → Clear (up_code low)
+up_clear low = turned_clear low Asl Lsr Ror (record { all = refl }) (record { all = refl }) (record { all = refl })
+
+cut_clear : (g : Field) → Clear (cut_code g)
+cut_clear g = clear_if (is_topmost g) clear_none (record { all = refl })
+
+spread_clear : (width : ℕ) → Clear (spread_code width)
+spread_clear width = clear_if (width == 8) clear_none (record { all = refl })
+
+byte_value_clear : (g : Field) → Clear (byte_value_code g)
+byte_value_clear g = clear_then (down_clear (g.low % 8)) (clear_then (cut_clear g) (clear_if (is_signed_of g.kind) (clear_then (spread_clear g.width) (narrow_clear ints.SChar)) (narrow_clear ints.UChar)))
+
 extract_clear : (g : Field) → Clear (extract_code g)
-extract_clear g = clear_if (is_signed_of g.kind) (clear_then (shift_clear tos.Shl (16 - min (g.low + g.width) 16)) (shift_clear tos.Asr (16 - min g.width 16))) (clear_then (shift_clear tos.Shr g.low) (mask_clear (ones g.width)))
+extract_clear g =
+    clear_if (is_signed_of g.kind) (clear_then (shift_clear tos.Shl (16 - min (g.low + g.width) 16)) (shift_clear tos.Asr (16 - min g.width 16))) (clear_then (shift_clear tos.Shr g.low) (clear_if (ones g.width == 65535) clear_none (mask_clear (ones g.width))))
+
+lowest_clear : (g : Field) → Clear (lowest_code g)
+lowest_clear g = clear_if (is_in_byte g) (byte_value_clear g) (extract_clear g)
+
+field_load_clear : (place : Place) (g : Field) → Clear (field_load place g)
+field_load_clear place g = clear_if (is_in_byte g) (clear_then (bytes_clear (onward place (g.low / 8)) One) (byte_value_clear g)) (clear_then (bytes_clear place Two) (extract_clear g))
 
 pub load_clear : (place : Place) (access : Access) → Clear (load_code place access)
 load_clear place (Whole kind) = clear_then (bytes_clear place (extent_of kind)) (narrow_clear kind)
-load_clear place (Part field) = clear_then (bytes_clear place Two) (extract_clear field)
+load_clear place (Part field) = field_load_clear place field
 
 bytes_store_clear : (place : Place) (e : Extent) → IsOff place → Clear (bytes_store place e)
 bytes_store_clear (places.Bank b) e off = absurd off
@@ -261,11 +295,32 @@ under_clear (places.Near at) = bytes_clear (places.Near (byte_more at 2)) Two
 under_clear (places.Data s at) = bytes_clear (places.Data s at) Two
 under_clear (places.Far at) = record { all = refl }
 
-field_store_clear : (place : Place) (g : Field) → IsOff place → Clear (field_store place g)
-field_store_clear place g off =
+unit_store_clear : (place : Place) (g : Field) → IsOff place → Clear (unit_store place g)
+unit_store_clear place g off =
     let push : Clear (call PushAx ∷ []) = record { all = refl } in
     let join : Clear (call (Tos tos.Or Ax) ∷ []) = record { all = refl } in
     clear_then (clear_then (mask_clear (ones g.width)) (shift_clear tos.Shl g.low)) (clear_then push (clear_then (under_clear place) (clear_then (mask_clear (others g)) (clear_then join (clear_then (bytes_store_clear place Two off) (extract_clear g))))))
+
+merged_clear : (mode : Mode) (operand : Operand) (mask : ℕ) → Clear (Do Sta mode operand ∷ []) → Clear (Do Eor mode operand ∷ []) → Clear (merged_code mode operand mask)
+merged_clear mode operand mask whole other =
+    let own : Clear (value And mask ∷ []) = record { all = refl } in
+    clear_if (mask == 255) whole (clear_then other (clear_then own (clear_then other whole)))
+
+bits_clear : (place : Place) (n mask : ℕ) → IsOff place → Clear (bits_store (onward (settled place) n) mask)
+bits_clear (places.Bank b) n mask off = absurd off
+bits_clear (places.Near at) n mask off =
+    let way : Clear (value Ldy (byte_more at n) ∷ []) = record { all = refl } in
+    clear_then way (merged_clear IndirectY (Zero sp) mask (record { all = refl }) (record { all = refl }))
+bits_clear (places.Data s at) n mask off = merged_clear Absolute (At s (word_more at n)) mask (record { all = refl }) (record { all = refl })
+bits_clear (places.Far at) n mask off =
+    let way : Clear (popped_code ++ (value Ldy (byte_more 0 n) ∷ [])) = record { all = refl } in
+    clear_then way (merged_clear IndirectY (Zero ptr1) mask (record { all = refl }) (record { all = refl }))
+
+byte_store_clear : (place : Place) (g : Field) → IsOff place → Clear (byte_store place g)
+byte_store_clear place g off = clear_then (up_clear (g.low % 8)) (clear_then (bits_clear place (g.low / 8) (own_bits g) off) (byte_value_clear g))
+
+field_store_clear : (place : Place) (g : Field) → IsOff place → Clear (field_store place g)
+field_store_clear place g off = clear_if (is_in_byte g) (byte_store_clear place g off) (clear_if (is_unit g) (bytes_store_clear place Two off) (unit_store_clear place g off))
 
 pub store_clear : (place : Place) (access : Access) → IsOff place → Clear (store_code place access)
 store_clear place (Whole kind) off = clear_then (bytes_store_clear place (extent_of kind) off) (after_store_clear place kind)
@@ -343,7 +398,7 @@ word_through_clear at low high =
 
 back_clear : (access : Access) (n : ℕ) → Clear (back_code access n)
 back_clear (Whole kind) n = add_clear kind (negative n)
-back_clear (Part field) n = clear_then (add_clear field.kind (negative n)) (extract_clear (record field { low = 0 }))
+back_clear (Part field) n = clear_then (add_clear field.kind (negative n)) (lowest_clear (record field { low = 0 }))
 
 pub step_clear : (how : StepKind) (place : Place) (access : Access) (n : ℕ) → IsOff place → Clear (step_code how place access n)
 step_clear how place access n off = clear_then (hold_clear place) (clear_then (load_clear (settled place) access) (clear_then (add_clear (type_in access) n) (clear_then (store_clear place access off) (clear_if (is_post how) (back_clear access n) clear_none))))

@@ -1,5 +1,5 @@
 -- Values taken from where they are kept (C90 6.2.2.1).
-use Rattle.std.specs.Prelude.{ℕ, ◌+◌, List, [], ◌∷◌, ◌++◌}
+use Rattle.std.specs.Prelude.{ℕ, ◌+◌, ◌/◌, if◌then◌else◌, List, [], ◌∷◌, ◌++◌}
 use Rattle.c65_mach.specs.declared.rows.Op.TheVariants.{Dey, Lda, Ldx, Ldy, Sta, Stx, Tax}
 use Rattle.c65_code.specs.declared.line.Sym.{Sym}
 use Rattle.c65_code.specs.declared.line.Line.{Line}
@@ -8,14 +8,15 @@ use Rattle.c65_genwide.specs.Lines.{value, call}
 use Rattle.c65_genwide.specs.Wide.{narrow_code}
 use Rattle.c65_genload.specs.declared.places.Extent.{Extent}
 use Rattle.c65_genload.specs.declared.places.Extent.TheVariants.{One, Two, Three, Four}
+use Rattle.c65_genload.specs.declared.places.Field.{Field}
 use Rattle.c65_genload.specs.declared.places.Place.{Place}
 use Rattle.c65_genload.specs.declared.places.Place.TheVariants.{Bank, Near, Data, Far}
 use Rattle.c65_genload.specs.declared.places.Access.{Access}
 use Rattle.c65_genload.specs.declared.places.Access.TheVariants.{Whole, Part}
 use Rattle.c65_genload.specs.Words.{sp, sreg, ptr1, regbank, implied, zero_page, by_y, absolute}
-use Rattle.c65_genload.specs.Places.{byte_more, word_more, extent_of}
+use Rattle.c65_genload.specs.Places.{byte_more, word_more, onward, extent_of}
 use Rattle.c65_genload.specs.Addresses.{offset_code}
-use Rattle.c65_genload.specs.Fields.{extract_code}
+use Rattle.c65_genload.specs.Fields.{is_in_byte, byte_value_code, extract_code}
 
 -- behind the base of a place that is anywhere: the address waits
 abbrev pub hold_code : Place → List Line
@@ -55,6 +56,10 @@ bytes_code (Near at) extent = near_code at extent
 bytes_code (Data sym at) extent = data_code sym at extent
 bytes_code (Far at) extent = far_code at extent
 
+-- of a field in one byte that byte alone
+abbrev pub field_load : Place → Field → List Line
+field_load place f = if is_in_byte f then bytes_code (onward place (f.low / 8)) One ++ byte_value_code f else bytes_code place Two ++ extract_code f
+
 abbrev pub load_code : Place → Access → List Line
 load_code place (Whole kind) = bytes_code place (extent_of kind) ++ narrow_code kind
-load_code place (Part field) = bytes_code place Two ++ extract_code field
+load_code place (Part field) = field_load place field

@@ -5,7 +5,7 @@ use Rattle.c65_ints.specs.declared.types.IntType.TheVariants.{SChar, UChar, Shor
 use Rattle.c65_genload.specs.declared.places.Extent.{Extent}
 use Rattle.c65_genload.specs.declared.places.Extent.TheVariants.{One, Two, Three, Four}
 use Rattle.c65_genload.specs.declared.places.Place.{Place}
-use Rattle.c65_genload.specs.declared.places.Place.TheVariants.{Far}
+use Rattle.c65_genload.specs.declared.places.Place.TheVariants.{Bank, Near, Data, Far}
 use Rattle.c65_genload.specs.declared.places.Access.{Access}
 use Rattle.c65_genload.specs.declared.places.Access.TheVariants.{Whole, Part}
 
@@ -30,6 +30,13 @@ byte_more at n = (at + n) % 256
 
 abbrev pub word_more : ℕ → ℕ → ℕ
 word_more at n = (at + n) % 65536
+
+-- so many bytes on
+abbrev pub onward : Place → ℕ → Place
+onward (Bank at) n = Bank (byte_more at n)
+onward (Near at) n = Near (byte_more at n)
+onward (Data sym at) n = Data sym (word_more at n)
+onward (Far at) n = Far (byte_more at n)
 
 abbrev pub extent_of : IntType → Extent
 extent_of SChar = One

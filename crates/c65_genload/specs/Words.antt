@@ -1,7 +1,7 @@
 -- Lines in the words of the assembler, and the zero page (docs/MACHINE.md, "Zero page").
 use Rattle.std.specs.Prelude.{ℕ}
 use Rattle.c65_mach.specs.declared.rows.Op.{Op}
-use Rattle.c65_mach.specs.declared.rows.Mode.TheVariants.{Implied, Immediate, ZeroPage, IndirectY, Absolute, Relative}
+use Rattle.c65_mach.specs.declared.rows.Mode.TheVariants.{Implied, Accumulator, Immediate, ZeroPage, IndirectY, Absolute, Relative}
 use Rattle.c65_code.specs.declared.line.Sym.{Sym}
 use Rattle.c65_code.specs.declared.line.Operand.TheVariants.{Nothing, Zero, At, Low, High, To}
 use Rattle.c65_code.specs.declared.line.Line.{Line}
@@ -30,6 +30,10 @@ regbank = 20
 
 abbrev pub implied : Op → Line
 implied op = Do op Implied Nothing
+
+-- A by one bit
+abbrev pub shift_a : Op → Line
+shift_a op = Do op Accumulator Nothing
 
 abbrev pub zero_page : Op → ℕ → Line
 zero_page op at = Do op ZeroPage (Zero at)

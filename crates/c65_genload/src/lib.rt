@@ -9,6 +9,7 @@ mod loads;
 mod numbers;
 mod places;
 mod stores;
+mod times;
 pub mod zero_page;
 
 pub use address::{put_address, put_offset, put_raised, put_symbol};
@@ -18,3 +19,4 @@ pub use loads::{hold, load, load_bytes};
 pub use numbers::{add, divide, first, fourth, mask, number, scale, second, third};
 pub use places::{Access, Extent, Field, Place, extent_by, extent_of, held, settled, value_type};
 pub use stores::{copy, store};
+pub use times::{put_times, shift_a};

@@ -2,11 +2,11 @@
 ghost use Rattle.std.specs.Prelude.{◌≡◌, OnOk, OnErr};
 ghost use Rattle.c65_genwide.specs.Lines.{with_lines, Keeps};
 ghost use Rattle.c65_genload.specs.declared.places.Extent.TheVariants.{Three};
-ghost use Rattle.c65_genload.specs.Loads.{hold_code, bank_code, near_code, data_code, far_code, bytes_code, load_code};
+ghost use Rattle.c65_genload.specs.Loads.{hold_code, bank_code, near_code, data_code, far_code, bytes_code, field_load, load_code};
 
 use crate::address::put_offset;
-use crate::fields::extract;
-use crate::places::{Access, Extent, Place, extent_of};
+use crate::fields::{byte_value, extract, is_in_byte};
+use crate::places::{Access, Extent, Field, Place, extent_of, onward};
 use crate::zero_page::{PTR1, REGBANK, SP, SREG};
 use c65_code::Line::Do;
 use c65_code::Operand::{At, Byte, Nothing, Zero};
@@ -188,6 +188,20 @@ pub fn load_bytes(place: Place, extent: Extent, draft: &mut Draft) -> Result<(),
     }
 }
 
+// Of a field in one byte that byte alone is read.
+fn load_field(place: Place, field: Field, draft: &mut Draft) -> Result<(), AllocError>
+    ensures lines { OnOk result (draft.new ≡ with_lines draft.old (field_load place field)) }
+    ensures kept { OnErr result (Keeps draft.old draft.new) }
+{
+    if is_in_byte(field) {
+        load_bytes(onward(place, field.low / 8), Extent::One, draft)?;
+        byte_value(field, draft)
+    } else {
+        load_bytes(place, Extent::Two, draft)?;
+        extract(field, draft)
+    }
+}
+
 /// The value that is kept at a place comes into the primary register. Before, AX is the
 /// address from which a place that is anywhere tells how far.
 pub fn load(place: Place, access: Access, draft: &mut Draft) -> Result<(), AllocError>
@@ -199,9 +213,6 @@ pub fn load(place: Place, access: Access, draft: &mut Draft) -> Result<(), Alloc
             load_bytes(place, extent_of(kind), draft)?;
             narrow(kind, draft)
         }
-        Access::Part(field) => {
-            load_bytes(place, Extent::Two, draft)?;
-            extract(field, draft)
-        }
+        Access::Part(field) => load_field(place, field, draft),
     }
 }

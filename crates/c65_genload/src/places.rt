@@ -1,6 +1,6 @@
 // Where objects lie, and what is kept there.
 ghost use Rattle.std.specs.Prelude.{◌≡◌};
-ghost use Rattle.c65_genload.specs.Places.{held, settled, type_in, extent_of, extent_by};
+ghost use Rattle.c65_genload.specs.Places.{held, settled, onward, type_in, extent_of, extent_by};
 
 use c65_code::Sym;
 use c65_ints::IntType;
@@ -62,6 +62,18 @@ pub fn settled(place: Place) -> Place
     match place {
         Place::Far(_) => Place::Far(0),
         Place::Bank(_) | Place::Near(_) | Place::Data(_, _) => place,
+    }
+}
+
+/// The place so many bytes on.
+pub fn onward(place: Place, bytes: u8) -> Place
+    ensures { result ≡ onward place bytes }
+{
+    match place {
+        Place::Bank(at) => Place::Bank(at.wrapping_add(bytes)),
+        Place::Near(at) => Place::Near(at.wrapping_add(bytes)),
+        Place::Data(sym, at) => Place::Data(sym, at.wrapping_add(bytes as u16)),
+        Place::Far(at) => Place::Far(at.wrapping_add(bytes)),
     }
 }
 

@@ -1,20 +1,21 @@
 // Values put where they are kept (C90 6.3.16).
 ghost use Rattle.std.specs.Prelude.{◌≡◌, OnOk, OnErr};
 ghost use Rattle.c65_genwide.specs.Lines.{with_lines, Keeps};
-ghost use Rattle.c65_genload.specs.Stores.{bank_store, near_store, data_store, far_store, bytes_store, after_store, under_code, field_store, store_code, copy_code};
+ghost use Rattle.c65_genload.specs.Stores.{bank_store, near_store, data_store, far_store, bytes_store, after_store, under_code, unit_store, popped_code, merged_code, bits_store, byte_store, field_store, store_code, copy_code};
 
-use crate::fields::{align, extract, others};
+use crate::fields::{align, byte_value, extract, is_in_byte, is_unit, others, own_bits, put_up};
 use crate::loads::load_bytes;
 use crate::numbers::mask;
-use crate::places::{Access, Extent, Field, Place, extent_of};
-use crate::zero_page::{PTR3, REGBANK, SP, SREG};
+use crate::places::{Access, Extent, Field, Place, extent_of, onward, settled};
+use crate::zero_page::{PTR1, PTR3, REGBANK, SP, SREG, TMP1};
 use c65_code::Line::Do;
 use c65_code::Operand::{At, Byte, Nothing, Zero};
-use c65_code::{Draft, Routine, Sym, TosOp, Width};
+use c65_code::{Draft, Operand, Routine, Sym, TosOp, Width};
 use c65_genwide::{narrow, put, run};
 use c65_ints::IntType;
+use c65_mach::Mode;
 use c65_mach::Mode::{Absolute, Immediate, Implied, IndirectY, ZeroPage};
-use c65_mach::Op::{Lda, Ldy, Sta, Stx, Sty, Tay, Tya};
+use c65_mach::Op::{And, Eor, Lda, Ldy, Sta, Stx, Sty, Tay, Tya};
 use std::alloc::AllocError;
 
 fn store_bank(at: u8, extent: Extent, draft: &mut Draft) -> Result<(), AllocError>
@@ -126,8 +127,8 @@ fn load_under(place: Place, draft: &mut Draft) -> Result<(), AllocError>
 }
 
 // The other bits of the unit stay.
-fn store_field(place: Place, field: Field, draft: &mut Draft) -> Result<(), AllocError>
-    ensures lines { OnOk result (draft.new ≡ with_lines draft.old (field_store place field)) }
+fn store_in_unit(place: Place, field: Field, draft: &mut Draft) -> Result<(), AllocError>
+    ensures lines { OnOk result (draft.new ≡ with_lines draft.old (unit_store place field)) }
     ensures kept { OnErr result (Keeps draft.old draft.new) }
 {
     align(field, draft)?;
@@ -137,6 +138,89 @@ fn store_field(place: Place, field: Field, draft: &mut Draft) -> Result<(), Allo
     run(draft, Routine::Tos(TosOp::Or, Width::Ax))?;
     store_bytes(place, Extent::Two, draft)?;
     extract(field, draft)
+}
+
+// The address that waits comes into ptr1, and A stays.
+fn pop_address(draft: &mut Draft) -> Result<(), AllocError>
+    ensures lines { OnOk result (draft.new ≡ with_lines draft.old popped_code) }
+    ensures kept { OnErr result (Keeps draft.old draft.new) }
+{
+    put(draft, &[Do(Sta, ZeroPage, Zero(TMP1))])?;
+    run(draft, Routine::PopAx)?;
+    put(
+        draft,
+        &[
+            Do(Sta, ZeroPage, Zero(PTR1)),
+            Do(Stx, ZeroPage, Zero(PTR1 + 1)),
+            Do(Lda, ZeroPage, Zero(TMP1)),
+        ],
+    )
+}
+
+// The bits of A that a mask has go into a byte, and A becomes that byte.
+fn merge(mode: Mode, operand: Operand, mask: u8, draft: &mut Draft) -> Result<(), AllocError>
+    ensures lines { OnOk result (draft.new ≡ with_lines draft.old (merged_code mode operand mask)) }
+    ensures kept { OnErr result (Keeps draft.old draft.new) }
+{
+    if mask == 255 {
+        put(draft, &[Do(Sta, mode, operand)])
+    } else {
+        put(
+            draft,
+            &[
+                Do(Eor, mode, operand),
+                Do(And, Immediate, Byte(mask)),
+                Do(Eor, mode, operand),
+                Do(Sta, mode, operand),
+            ],
+        )
+    }
+}
+
+fn store_bits(place: Place, mask: u8, draft: &mut Draft) -> Result<(), AllocError>
+    ensures lines { OnOk result (draft.new ≡ with_lines draft.old (bits_store place mask)) }
+    ensures kept { OnErr result (Keeps draft.old draft.new) }
+{
+    match place {
+        Place::Bank(at) => merge(ZeroPage, Zero(REGBANK.wrapping_add(at)), mask, draft),
+        Place::Near(at) => {
+            put(draft, &[Do(Ldy, Immediate, Byte(at))])?;
+            merge(IndirectY, Zero(SP), mask, draft)
+        }
+        Place::Data(sym, at) => merge(Absolute, At(sym, at), mask, draft),
+        Place::Far(at) => {
+            pop_address(draft)?;
+            put(draft, &[Do(Ldy, Immediate, Byte(at))])?;
+            merge(IndirectY, Zero(PTR1), mask, draft)
+        }
+    }
+}
+
+// The other bits of the byte stay.
+fn store_in_byte(place: Place, field: Field, draft: &mut Draft) -> Result<(), AllocError>
+    ensures lines { OnOk result (draft.new ≡ with_lines draft.old (byte_store place field)) }
+    ensures kept { OnErr result (Keeps draft.old draft.new) }
+{
+    put_up(field.low % 8, draft)?;
+    store_bits(
+        onward(settled(place), field.low / 8),
+        own_bits(field),
+        draft,
+    )?;
+    byte_value(field, draft)
+}
+
+fn store_field(place: Place, field: Field, draft: &mut Draft) -> Result<(), AllocError>
+    ensures lines { OnOk result (draft.new ≡ with_lines draft.old (field_store place field)) }
+    ensures kept { OnErr result (Keeps draft.old draft.new) }
+{
+    if is_in_byte(field) {
+        store_in_byte(place, field, draft)
+    } else if is_unit(field) {
+        store_bytes(place, Extent::Two, draft)
+    } else {
+        store_in_unit(place, field, draft)
+    }
 }
 
 /// The primary register goes to a place, and is what the place then holds. An address that waited is

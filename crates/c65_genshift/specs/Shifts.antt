@@ -1,12 +1,9 @@
 -- The primary register shifted by a number of bits that is known (C90 6.3.7). Shifts to the left bring in zeros, shifts to the
 -- right zeros or the sign: Shl, Shr and Asr.
 use Rattle.std.specs.Prelude.{ℕ, ◌+◌, ◌-◌, ◌%◌, nat_lt, nat_le, Bool, false, ◌&&◌, ◌||◌, if◌then◌else◌, List, [], ◌∷◌, ◌++◌, replicate}
-use Rattle.c65_mach.specs.declared.rows.Op.{Op}
 use Rattle.c65_mach.specs.declared.rows.Op.TheVariants.{Asl, Bne, Dey, Lda, Ldx, Ldy, Lsr, Rol, Ror, Sta, Stx, Sty, Tax, Txa}
-use Rattle.c65_mach.specs.declared.rows.Mode.TheVariants.{Accumulator}
-use Rattle.c65_code.specs.declared.line.Operand.TheVariants.{Nothing}
 use Rattle.c65_code.specs.declared.line.Line.{Line}
-use Rattle.c65_code.specs.declared.line.Line.TheVariants.{Label, Do}
+use Rattle.c65_code.specs.declared.line.Line.TheVariants.{Label}
 use Rattle.c65_code.specs.declared.routine.TosOp.{TosOp}
 use Rattle.c65_code.specs.declared.routine.TosOp.TheVariants as tos
 use Rattle.c65_code.specs.declared.routine.UnaryRoutine.{UnaryRoutine}
@@ -15,12 +12,9 @@ use Rattle.c65_code.specs.declared.routine.Width.{Width}
 use Rattle.c65_code.specs.declared.routine.Width.TheVariants.{Ax, Eax}
 use Rattle.c65_code.specs.declared.routine.Routine.TheVariants.{Unary}
 use Rattle.c65_genwide.specs.Lines.{value, call}
-use Rattle.c65_genload.specs.Words.{sreg, tmp1, implied, zero_page, branch}
+use Rattle.c65_genload.specs.Words.{sreg, tmp1, shift_a, implied, zero_page, branch}
 
--- by one bit: the operation on A, and the routine
-abbrev pub shift_a : Op → Line
-shift_a op = Do op Accumulator Nothing
-
+-- by one bit
 abbrev pub one_of : TosOp → UnaryRoutine
 one_of tos.Shl = Shl1
 one_of tos.Shr = Shr1

@@ -1,36 +1,18 @@
 // The primary register shifted by a number of bits that is known (C90 6.3.7).
-ghost use Rattle.std.specs.Prelude.{◌≡◌, ◌+◌, ◌<◌, ◌∷◌, [], replicate, OnOk, OnErr};
+ghost use Rattle.std.specs.Prelude.{◌≡◌, ◌+◌, ◌<◌, ◌∷◌, [], OnOk, OnErr};
 ghost use Rattle.c65_code.specs.declared.line.Line.TheVariants as labels;
 ghost use Rattle.c65_genwide.specs.Lines.{with_lines, Keeps};
-ghost use Rattle.c65_genshift.specs.Shifts.{shift_a, one_of, calls_code, turns_code, left_turn, right_turn, left_byte_code, right_byte_code, left_one_code, left_two_code, left_three_code, right_one_code, right_two_code, right_three_code, left_word_code, right_word_code, left_long_code, right_long_code, shift_code, is_short_long, is_short};
+ghost use Rattle.c65_genshift.specs.Shifts.{one_of, calls_code, turns_code, left_turn, right_turn, left_byte_code, right_byte_code, left_one_code, left_two_code, left_three_code, right_one_code, right_two_code, right_three_code, left_word_code, right_word_code, left_long_code, right_long_code, shift_code, is_short_long, is_short};
 
 use crate::zero_page::{SREG, TMP1};
 use c65_code::Line::{Call, Do, Label};
 use c65_code::Operand::{Byte, Nothing, To, Zero};
-use c65_code::{Callee, Draft, Line, Routine, TosOp, UnaryRoutine, Width};
+use c65_code::{Callee, Draft, Routine, TosOp, UnaryRoutine, Width};
+use c65_genload::{put_times, shift_a};
 use c65_genwide::put;
-use c65_mach::Mode::{Accumulator, Immediate, Implied, Relative, ZeroPage};
-use c65_mach::Op;
+use c65_mach::Mode::{Immediate, Implied, Relative, ZeroPage};
 use c65_mach::Op::{Asl, Bne, Dey, Lda, Ldx, Ldy, Lsr, Rol, Ror, Sta, Stx, Sty, Tax, Txa};
 use std::alloc::AllocError;
-
-fn shift_a(op: Op) -> Line
-    ensures { result ≡ shift_a op }
-{
-    Do(op, Accumulator, Nothing)
-}
-
-/// The same line so many times.
-#[tactic(auto, using(crate::proofs::Repeats::replicate_next))]
-fn put_times(line: Line, count: u32, draft: &mut Draft) -> Result<(), AllocError>
-    ensures lines { OnOk result (draft.new ≡ with_lines draft.old (replicate count line)) }
-    ensures kept { OnErr result (Keeps draft.old draft.new) }
-{
-    for _round in 0..count {
-        put(draft, &[line])?;
-    }
-    Ok(())
-}
 
 fn one_of(op: TosOp) -> UnaryRoutine
     ensures { result ≡ one_of op }

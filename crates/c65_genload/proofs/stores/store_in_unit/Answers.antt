@@ -1,5 +1,5 @@
 use Rattle.c65_genwide.proofs.Kept.{kept_last}
-use Rattle.c65_genload.proofs.stores.store_field.Goals as goal
+use Rattle.c65_genload.proofs.stores.store_in_unit.Goals as goal
 
 pub returns-clause-kept : goal.returns-clause-kept
 returns-clause-kept c =
