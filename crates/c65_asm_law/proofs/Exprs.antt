@@ -52,6 +52,7 @@ use Rattle.c65_genexpr.specs.declared.types.Outcome.{Outcome}
 use Rattle.c65_genexpr.specs.Types.{kind_of, outcome_of, kind_in, bare, offset_at, access_of, target_bytes}
 use Rattle.c65_genexpr.specs.Places.{more, has_base, added_bytes, sum_has_base, object_place, place_of, target_of, object_code, target_code}
 use Rattle.c65_genexpr.specs.Operands.{residue_of, constant_in, operands_of, computes, same_truth, conversion_code, conversion_by}
+use Rattle.c65_genexpr.specs.Held.{keep_code, byte_behind_code}
 use Rattle.c65_genexpr.specs.Storing.{storing_of, below_value, assigned_by}
 use Rattle.c65_genexpr.specs.Steps.{amount_of, open_code, close_code}
 use Rattle.c65_genexpr.specs.Arguments.{is_fast, is_counted, stays, passed_size, joined, passed_of, argument_bytes, argument_code}
@@ -62,9 +63,10 @@ use Rattle.c65_gen_law_lines.proofs.Drops.{sum_uses}
 use Rattle.c65_asm_law.proofs.Well.{AllWell, well_append, well_none, well_more, well_if}
 use Rattle.c65_asm_law.proofs.Loads.{WellPlace, narrow_well, bytes_well, number_well, symbol_well, offset_well, push_well, test_well, hold_well, load_well, store_well, copy_well}
 use Rattle.c65_asm_law.proofs.Known.{Knows}
-use Rattle.c65_asm_law.proofs.Places.{place_well, object_well, further_well, spill_well, conversion_well, unary_well, step_well, open_well, close_well, named_well, direct_well, pointer_well, argument_well}
+use Rattle.c65_asm_law.proofs.Places.{place_well, object_well, further_well, spill_well, conversion_well, unary_well, open_well, close_well, named_well, direct_well, pointer_well, argument_well}
 use Rattle.c65_asm_law.proofs.Directs.{WellRead, read_store_well, byte_through_well, word_through_well, zero_test_well, truth_well}
-use Rattle.c65_asm_law.proofs.Forms.{WellStoring, storing_well, kept_well, own_well, comparing_well, comparison_well, operating_well, operator_well}
+use Rattle.c65_asm_law.proofs.Steps.{step_well}
+use Rattle.c65_asm_law.proofs.Forms.{WellStoring, storing_well, keep_well, byte_behind_well, word_behind_well, kept_well, own_well, comparing_well, comparison_well, operating_well, operator_well}
 
 target_well : (n : ℕ) (p : Place) (code : List Line) → AllWell n code → AllWell n (target_code p code)
 target_well n (places.Far at) code h = h
@@ -168,6 +170,9 @@ assigned_well : (n : ℕ) (how : Storing) (place : Place) (access : Access) (a b
 assigned_well n (storing.Left at stored) place access a b k h ha hb = well_append n a _ ha (well_append n (read_store_code at stored) _ (read_store_well n at stored k.0 k.1) (narrow_well n (kept.type_in access)))
 assigned_well n (storing.RightByte at low high) place access a b k h ha hb = well_append n b _ hb (well_append n (byte_through_code at low high) _ (byte_through_well n at low high k.0 k.1.0 k.1.1) (narrow_well n (kept.type_in access)))
 assigned_well n (storing.RightWord at low high) place access a b k h ha hb = well_append n b _ hb (word_through_well n at low high k.0 k.1)
+assigned_well n (storing.HeldByte at) place access a b k h ha hb =
+    well_append n a _ ha (well_append n keep_code _ (keep_well n) (well_append n b _ hb (well_append n (byte_behind_code at) _ (byte_behind_well n at k) (narrow_well n (kept.type_in access)))))
+assigned_well n (storing.HeldWord at) place access a b k h ha hb = well_append n a _ ha (well_append n keep_code _ (keep_well n) (well_append n b _ hb (word_behind_well n at k)))
 assigned_well n storing.Stacked place access a b k h ha hb =
     well_append n a _ ha (well_append n (hold_code place) _ (hold_well n place) (well_append n b (store_code place access) hb (store_well n place access h)))
 
@@ -304,7 +309,8 @@ mutual
       wanted_well n w (width_in t) _ aim (compound_well n f pushed op operands a b _ _ (place_well n u f pushed a knows h.0) (base_well n u f pushed lo a knows h.0 few (omega (arith, room))) (expr_well n u f (behind_open f pushed operands a) (lo + uses None a) Value b knows h.1 (omega arith) tt (omega (arith, room))))
   node_well n u f pushed lo w t (step how e) knows h few aim room =
       let place : Place = place_of f pushed e in
-      wanted_well n w (width_in t) _ aim (well_append n (base_code f pushed lo e) _ (base_well n u f pushed lo e knows h.0 few room) (step_well n how place (access_of (types_of f.parts.types) e) (amount_of f how (bare e)) (place_well n u f pushed e knows h.0)))
+      wanted_well n w (width_in t) _ aim (well_append n (base_code f pushed (lo + 1) e) _ (base_well n u f pushed (lo + 1) e knows h.0 few (omega (arith, room)))
+      (step_well n how (target_bytes f (bare e)) (amount_of f how (bare e)) place (access_of (types_of f.parts.types) e) lo (place_well n u f pushed e knows h.0) (omega (arith, room))))
   node_well n u f pushed lo w t (copy a b) knows h few aim room =
       wanted_well n w (width_in t) _ aim (well_append n (expr_code f pushed lo Value a) _ (expr_well n u f pushed lo Value a knows h.0 few tt (omega (arith, room))) (well_append n (push_code Ax) _ (push_well n Ax) (well_append n (expr_code f (more pushed 2) (lo + uses None a) Value b) _ (expr_well n u f (more pushed 2) (lo + uses None a) Value b knows h.1 (omega arith) tt (omega (arith, room))) (copy_well n (type_bytes f (type_in t))))))
   node_well n u f pushed lo w t (call g es) knows h few aim room =

@@ -38,6 +38,7 @@ use Rattle.c65_genexpr.specs.declared.storing.Storing.{Storing}
 use Rattle.c65_genexpr.specs.declared.storing.Storing.TheVariants as storing
 use Rattle.c65_gendirect.specs.declared.through.Stored.{Stored}
 use Rattle.c65_gendirect.specs.declared.through.Stored.TheVariants as stores
+use Rattle.c65_genexpr.specs.Storing as storings
 use Rattle.c65_genexpr.specs.Storing.{pointer_of, word_stored, bytes_stored, through, by_value, by_pointer, storing_by, storing_of}
 use Rattle.c65_genexpr.specs.declared.operating.Form.{Form}
 use Rattle.c65_genexpr.specs.declared.operating.Form.TheVariants as forms
@@ -55,7 +56,7 @@ use Rattle.c65_genexpr.specs.Comparing.{tested_by, lowest, is_raised, raised, on
 use Rattle.c65_genexpr.specs.Operating.{sum_by, mask_by, number_form, offset_form, constant_form, pair_of, word_in, word_if, element_form, right_form, under_if, left_form, constant_right, direct_right, direct_left, by_left, by_right, operating_of, placed, form_code, waiting_code, stacked_code, operator_by, reading_of, is_light, held_elements, held_form, held_if}
 use Rattle.c65_genexpr.specs.Operating as operators
 use Rattle.c65_genexpr.specs.Comparing as comparisons
-use Rattle.c65_genexpr.specs.Held.{held_low, held_high, keep_code}
+use Rattle.c65_genexpr.specs.Held.{held_low, held_high, keep_code, byte_behind_code, word_behind_code}
 use Rattle.c65_genexpr.specs.Wanted.{branch_code}
 use Rattle.c65_asm_law.proofs.Well.{AllWell, well_append, well_none}
 use Rattle.c65_asm_law.proofs.Known.{Knows}
@@ -106,6 +107,8 @@ abbrev pub WellStoring : ℕ → Storing → Type 0
 WellStoring n (storing.Left at stored) = (at < 2 ^ 8) × WellStored n stored
 WellStoring n (storing.RightByte at low high) = (at < 2 ^ 8) × (WellByte n low × WellByte n high)
 WellStoring n (storing.RightWord at low high) = WellByte n low × WellByte n high
+WellStoring n (storing.HeldByte at) = at < 2 ^ 8
+WellStoring n (storing.HeldWord at) = at < 2 ^ 8
 WellStoring n storing.Stacked = Unit {0}
 
 -- a pointer that is read
@@ -177,10 +180,36 @@ storing_by_well n (places.Bank at) access x y few h k = tt
 storing_by_well n (places.Near at) access x y few h k = tt
 storing_by_well n (places.Data s at) access x y few h k = tt
 
+held_at_well : (n at : ℕ) (extent : Extent) → at < 2 ^ 8 → WellStoring n (storings.held_at at extent)
+held_at_well n at One few = few
+held_at_well n at Two few = few
+held_at_well n at Three few = tt
+held_at_well n at Four few = tt
+
+held_store_well : (n : ℕ) (is : Bool) (place : Place) (access : Access) → WellPlace n place → WellStoring n (storings.held_if is place access)
+held_store_well n true (places.Far at) (Whole kind) few = held_at_well n at (extent_of kind) few
+held_store_well n true (places.Far at) (Part field) few = tt
+held_store_well n true (places.Bank at) access few = tt
+held_store_well n true (places.Near at) access few = tt
+held_store_well n true (places.Data s at) access few = tt
+held_store_well n false place access few = tt
+
+or_held_store : (n : ℕ) (how held : Storing) → WellStoring n how → WellStoring n held → WellStoring n (storings.or_held how held)
+or_held_store n (storing.Left at stored) held p q = p
+or_held_store n (storing.RightByte at low high) held p q = p
+or_held_store n (storing.RightWord at low high) held p q = p
+or_held_store n (storing.HeldByte at) held p q = p
+or_held_store n (storing.HeldWord at) held p q = p
+or_held_store n storing.Stacked held p q = q
+
 pub storing_well : (n : ℕ) (u : UnitTy) (f : Framed) (pushed : ℕ) (a b : Typed) → Knows f u n → IsTyped u a → IsTyped u b → WellStoring n (storing_of f pushed a b)
 storing_well n u f pushed a b knows h k =
-    storing_by_well n (place_of f pushed a) (access_of (types_of f.parts.types) a) _ (direct_of f pushed b) (place_well n u f pushed a knows h)
-    (read_if n (is_fixed (pointer_of f pushed a) || is_pure b) (pointer_of f pushed a) None (pointer_well n u f pushed a knows h) tt) (read_well n u f pushed b knows k)
+    let place : Place = place_of f pushed a in
+    let access : Access = access_of (types_of f.parts.types) a in
+    or_held_store n _ _
+    (storing_by_well n place access _ (direct_of f pushed b) (place_well n u f pushed a knows h)
+    (read_if n (is_fixed (pointer_of f pushed a) || is_pure b) (pointer_of f pushed a) None (pointer_well n u f pushed a knows h) tt) (read_well n u f pushed b knows k))
+    (held_store_well n (is_light f pushed b) place access (place_well n u f pushed a knows h))
 
 -- ---- comparisons
 
@@ -283,7 +312,13 @@ low_well : (n : ℕ) (byte : Option OperandByte) (lines : List Line) → WellMay
 low_well n None lines h k = k
 low_well n (Some byte) lines h k = op_well n _ byte h
 
-keep_well : (n : ℕ) → AllWell n keep_code
+pub byte_behind_well : (n at : ℕ) → at < 2 ^ 8 → AllWell n (byte_behind_code at)
+byte_behind_well n at few = record { all = ((tt, few), ((tt, omega arith), tt)) }
+
+pub word_behind_well : (n at : ℕ) → at < 2 ^ 8 → AllWell n (word_behind_code at)
+word_behind_well n at few = record { all = ((tt, few), ((tt, omega arith), ((tt, tt), ((tt, tt), ((tt, omega arith), ((tt, omega arith), ((tt, tt), tt))))))) }
+
+pub keep_well : (n : ℕ) → AllWell n keep_code
 keep_well n = record { all = ((tt, omega arith), ((tt, omega arith), tt)) }
 
 pub comparison_well : (n : ℕ) (how : Comparing) (op : BinaryOp) (operands : Operands) (right : IntType) (s : Bool) (to own : ℕ) (a b : List Line) → WellComparing n how → to < 2 ^ 32 → own < 2 ^ 32 → AllWell n a → AllWell n b → AllWell n (comparison_by how op operands right s to own a b)

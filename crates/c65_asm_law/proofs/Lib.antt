@@ -6,6 +6,8 @@ pub mod Known
 pub mod Places
 pub mod Directs
 pub mod Forms
+pub mod Changes
+pub mod Steps
 pub mod Exprs
 pub mod Effects
 pub mod Moves

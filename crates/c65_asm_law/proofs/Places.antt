@@ -42,7 +42,8 @@ use Rattle.c65_genexpr.specs.declared.types.Outcome.TheVariants.{Nothing, Number
 use Rattle.c65_genexpr.specs.Types.{bare, offset_at, given_bytes}
 use Rattle.c65_genexpr.specs.Places.{more, near, soft_place, place_at, within, farther, added_bytes, sum_place, moved, place_of, target_of, soft_code, code_at, object_code, rest_code}
 use Rattle.c65_genexpr.specs.Operands.{operands_of, constant_in, computes, between_code, difference_code, behind_code, unary_code, conversion_code, negative}
-use Rattle.c65_genexpr.specs.Steps.{is_post, back_code, after_code, step_code, open_code, close_code}
+use Rattle.c65_genchange.specs.Stepping.{is_post}
+use Rattle.c65_genexpr.specs.Steps.{back_code, after_code, long_step_code, open_code, close_code}
 use Rattle.c65_genexpr.specs.Spills.{kept_code, first_code, further_code, again_code, spill_code}
 use Rattle.c65_genexpr.specs.Arguments.{reads_of, argument_code}
 use Rattle.c65_genexpr.specs.Calls.{count_code, fetch_code, result_code, library_at, named_by, named_code, pointer_code, direct_code, ptr4_code}
@@ -178,8 +179,8 @@ back_well n (Part field) m = well_append n _ _ (add_well n field.kind (negative 
 after_well : (n : ℕ) (how : StepKind) (access : Access) (m : ℕ) → AllWell n (after_code how access m)
 after_well n how access m = well_if n (is_post how) (back_code access m) [] (back_well n access m) (well_none n)
 
-pub step_well : (n : ℕ) (how : StepKind) (place : Place) (access : Access) (m : ℕ) → WellPlace n place → AllWell n (step_code how place access m)
-step_well n how place access m h = well_append n _ _ (hold_well n place) (well_append n _ _ (load_well n (settled place) access (settled_well n place h)) (well_append n _ _ (add_well n (type_in access) m) (well_append n _ _ (store_well n place access h) (after_well n how access m))))
+pub long_step_well : (n : ℕ) (how : StepKind) (place : Place) (access : Access) (m : ℕ) → WellPlace n place → AllWell n (long_step_code how place access m)
+long_step_well n how place access m h = well_append n _ _ (hold_well n place) (well_append n _ _ (load_well n (settled place) access (settled_well n place h)) (well_append n _ _ (add_well n (type_in access) m) (well_append n _ _ (store_well n place access h) (after_well n how access m))))
 
 pub open_well : (n : ℕ) (place : Place) (access : Access) (kind : IntType) → WellPlace n place → AllWell n (open_code place access kind)
 open_well n place access kind h = well_append n _ _ (hold_well n place) (well_append n _ _ (load_well n (settled place) access (settled_well n place h)) (well_append n _ _ (convert_well n (type_in access) kind) (push_well n (width_of kind))))

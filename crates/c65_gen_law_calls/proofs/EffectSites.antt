@@ -17,12 +17,12 @@ use Rattle.c65_genexpr.specs.Places.{place_of}
 use Rattle.c65_genexpr.specs.Operands.{constant_in}
 use Rattle.c65_genexpr.specs.Uses.{uses}
 use Rattle.c65_genexpr.specs.Code.{node_code}
-use Rattle.c65_geneffect.specs.declared.changes.Change.{Change}
+use Rattle.c65_genchange.specs.declared.changes.Change.{Change}
 use Rattle.c65_geneffect.specs.declared.changing.Changing.{Changing}
 use Rattle.c65_geneffect.specs.declared.changing.Changing.TheVariants.{Fixed, Loaded, Otherwise}
 use Rattle.c65_geneffect.specs.declared.changing.Fill.{Fill}
-use Rattle.c65_geneffect.specs.Changes.{change_code}
-use Rattle.c65_geneffect.specs.Spots.{point_code}
+use Rattle.c65_genchange.specs.Changes.{change_code}
+use Rattle.c65_genchange.specs.Spots.{point_code}
 use Rattle.c65_geneffect.specs.Changing.{in_front, stepping_of, changing_of, number_in, filling_of}
 use Rattle.c65_geneffect.specs.Effects.{fixed_code, stepped_by, changed_by, filled_or, changed_code, step_effect, effect_code, node_effect, effect_uses}
 use Rattle.c65_gen_law_lines.proofs.EffectForms.{IsSound, change_quiet, point_quiet, fill_still}
@@ -58,7 +58,7 @@ fixed_has change place label sound d = has_behind d (free_append (point_free pla
 
 stepped_has : {f : Framed} {ss : List Site} {base whole : List Line} (form : Option Change) (place : Place) (label : ℕ) → IsStep form → Has f ss base → Has f ss whole → Has f ss (stepped_by form place label base whole)
 stepped_has (Some change) place label sound db dw = fixed_has change place label sound db
-stepped_has None place label sound db dw = has_behind dw (label_free label)
+stepped_has None place label sound db dw = dw
 
 changed_has : {f : Framed} {ss ts : List Site} {left right whole : List Line} (how : Changing) (place : Place) (label : ℕ) → Unneeded how (ts ≡ []) → Has f ss left → Has f ts right → Has f (ss ++ ts) whole
     → Has f (ss ++ ts) (changed_by how place label left right whole)
@@ -70,7 +70,7 @@ filled_has : {f : Framed} {ss : List Site} {base whole : List Line} (ts : List S
 filled_has {ss = ss} ts (Some fill) unneeded db dw = has_as (left_sites ss ts unneeded) (has_behind db (free_leaves (fill_still fill.byte fill.low fill.high [])))
 filled_has ts None unneeded db dw = dw
 
-step_has : (f : Framed) (pushed lo : ℕ) (t : QTy) (how : StepKind) (e : Typed) → Has f (sites_of e) (node_code f pushed (lo + 1) Value t (step (in_front how) e)) → Has f (sites_of e) (step_effect f pushed lo how e)
+step_has : (f : Framed) (pushed lo : ℕ) (t : QTy) (how : StepKind) (e : Typed) → Has f (sites_of e) (node_code f pushed lo Value t (step (in_front how) e)) → Has f (sites_of e) (step_effect f pushed lo how e)
 step_has f pushed lo t how e whole =
     let place : Place = place_of f pushed e in
     let access : Access = access_of (types_of f.parts.types) e in
@@ -96,8 +96,8 @@ mutual
       filled_has (sites_of b) (filling_of place access b) (filling_unneeded _ place access b (λ n h. number_sites b n h)) (base_has f pushed lo a) (has_expression f pushed lo Value (node t (assign a b)))
   node_effect_has f pushed lo t (assign_op op k a b) = op_has f pushed lo op 1 a b (node_code f pushed (lo + 1) Value t (assign_op op k a b)) (has_expression f pushed (lo + 1) Value (node t (assign_op op k a b)))
   node_effect_has f pushed lo t (assign_step op a b) = op_has f pushed lo op (target_bytes f (bare a)) a b (node_code f pushed (lo + 1) Value t (assign_step op a b)) (has_expression f pushed (lo + 1) Value (node t (assign_step op a b)))
-  node_effect_has f pushed lo t (step PreInc e) = step_has f pushed lo t PreInc e (has_expression f pushed (lo + 1) Value (node t (step PreInc e)))
-  node_effect_has f pushed lo t (step PreDec e) = step_has f pushed lo t PreDec e (has_expression f pushed (lo + 1) Value (node t (step PreDec e)))
-  node_effect_has f pushed lo t (step PostInc e) = step_has f pushed lo t PostInc e (has_expression f pushed (lo + 1) Value (node t (step PreInc e)))
-  node_effect_has f pushed lo t (step PostDec e) = step_has f pushed lo t PostDec e (has_expression f pushed (lo + 1) Value (node t (step PreDec e)))
+  node_effect_has f pushed lo t (step PreInc e) = step_has f pushed lo t PreInc e (has_expression f pushed lo Value (node t (step PreInc e)))
+  node_effect_has f pushed lo t (step PreDec e) = step_has f pushed lo t PreDec e (has_expression f pushed lo Value (node t (step PreDec e)))
+  node_effect_has f pushed lo t (step PostInc e) = step_has f pushed lo t PostInc e (has_expression f pushed lo Value (node t (step PreInc e)))
+  node_effect_has f pushed lo t (step PostDec e) = step_has f pushed lo t PostDec e (has_expression f pushed lo Value (node t (step PreDec e)))
   node_effect_has f pushed lo t n = has_expression f pushed lo Value (node t n)

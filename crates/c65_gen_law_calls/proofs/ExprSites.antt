@@ -63,7 +63,8 @@ use Rattle.c65_genexpr.specs.Calls.{named, library_at, count_code, fetch_code, r
 use Rattle.c65_genexpr.specs.Uses.{uses, by_relation}
 use Rattle.c65_genexpr.specs.Code.{width_in, tested_load, load_by, behind_open, compound, call_by, expr_code, node_code, base_code, pointer_base_code, args_code}
 use Rattle.c65_gen_law_lines.proofs.Drops.{Unstored}
-use Rattle.c65_gen_law_lines.proofs.StackPieces.{narrow_still, read_store_still, byte_through_still, word_through_still, object_still, further_still, offset_still, conversion_still, push_leaves, argument_leaves, hold_leaves, bytes_still, load_still, stored_leaves, copy_leaves, spill_still, unary_still, between_leaves, behind_leaves, wide_leaves, step_still, open_leaves, close_leaves}
+use Rattle.c65_gen_law_lines.proofs.StepForms.{step_quiet}
+use Rattle.c65_gen_law_lines.proofs.StackPieces.{narrow_still, keep_still, byte_behind_still, word_behind_still, read_store_still, byte_through_still, word_through_still, object_still, further_still, offset_still, conversion_still, push_leaves, argument_leaves, hold_leaves, bytes_still, load_still, stored_leaves, copy_leaves, spill_still, unary_still, between_leaves, behind_leaves, wide_leaves, open_leaves, close_leaves}
 use Rattle.c65_gen_law_stack.proofs.EvenLines.{Labels, No, One, Even, even_label, even_leaves}
 use Rattle.c65_gen_law_stack.proofs.EvenShifts.{elements_even}
 use Rattle.c65_gen_law_stack.proofs.EvenDirects.{byte_even, compare_even, compare_byte_even, zero_test_even, truth_even}
@@ -167,6 +168,8 @@ assigned_has {ss = ss} {ts = ts} (storing.Left at stored) place access empty da 
 assigned_has {ss = ss} {ts = ts} (storing.RightByte at low high) place access empty da db =
     has_as (right_sites ss ts empty) (has_behind db (free_append (free_leaves (byte_through_still at low high [])) (free_leaves (narrow_still (type_at access) []))))
 assigned_has {ss = ss} {ts = ts} (storing.RightWord at low high) place access empty da db = has_as (right_sites ss ts empty) (has_behind db (free_leaves (word_through_still at low high [])))
+assigned_has (storing.HeldByte at) place access empty da db = has_then da (has_before (free_leaves (keep_still [])) (has_behind db (free_append (free_leaves (byte_behind_still at [])) (free_leaves (narrow_still (type_at access) [])))))
+assigned_has (storing.HeldWord at) place access empty da db = has_then da (has_before (free_leaves (keep_still [])) (has_behind db (free_leaves (word_behind_still at []))))
 assigned_has storing.Stacked place access empty da db = has_then da (has_before (free_leaves (hold_leaves place [])) (has_behind db (free_leaves (stored_leaves place access []))))
 
 either_has : {f : Framed} {ss : List Site} {a b : List Line} (c : Bool) → Has f ss a → Has f ss b → Has f ss (if c then a else b)
@@ -313,7 +316,7 @@ mutual
       wanted_has w (width_in t) (compound_has pushed op operands a b (base_has f pushed lo a) (expr_has f (behind_open f pushed operands a) (lo + uses None a) Value b))
   node_has f pushed lo w t (step how e) =
       let place : Place = place_of f pushed e in
-      wanted_has w (width_in t) (has_behind (base_has f pushed lo e) (free_leaves (step_still how place (access_of (types_of f.parts.types) e) (amount_of f how (bare e)) [])))
+      wanted_has w (width_in t) (has_behind (base_has f pushed (lo + 1) e) (free_leaves ((step_quiet {ok = λ l. true} how (target_bytes f (bare e)) (amount_of f how (bare e)) place (access_of (types_of f.parts.types) e) lo refl).still [])))
   node_has f pushed lo w t (copy a b) =
       wanted_has w (width_in t) (has_then (expr_has f pushed lo Value a) (has_before (free_leaves (push_leaves Ax [])) (has_behind (expr_has f (more pushed 2) (lo + uses None a) Value b) (free_leaves (copy_leaves (type_bytes f (type_in t)) [])))))
   node_has f pushed lo w t (call g es) =

@@ -40,6 +40,7 @@ use Rattle.c65_genexpr.specs.Types.{kind_of, bare, offset_at, access_of}
 use Rattle.c65_genexpr.specs.declared.storing.Storing.{Storing}
 use Rattle.c65_genexpr.specs.declared.storing.Storing.TheVariants as storing
 use Rattle.c65_genexpr.specs.Places.{has_base, added_bytes, sum_has_base, place_of, is_plain}
+use Rattle.c65_genexpr.specs.Storing as stores
 use Rattle.c65_genexpr.specs.Storing.{pointer_of, bytes_stored, through, unless_changed, by_value, by_pointer, storing_by, storing_of}
 use Rattle.c65_genexpr.specs.Operands.{residue_of, negative, constant_in}
 use Rattle.c65_genexpr.specs.Direct.{kept_at, address_at, address_of, takes_bytes, converted_if, sides_of, direct_of, is_fixed, is_pure, is_byte}
@@ -204,6 +205,8 @@ abbrev pub Unstored : Storing → Type 0 → Type 0 → Type 0
 Unstored (storing.Left at stored) A B = B
 Unstored (storing.RightByte at low high) A B = A
 Unstored (storing.RightWord at low high) A B = A
+Unstored (storing.HeldByte at) A B = Unit {0}
+Unstored (storing.HeldWord at) A B = Unit {0}
 Unstored storing.Stacked A B = Unit {0}
 
 pub some_if : (b : Bool) (x : Option Direct) (d : Direct) → (if b then x else None) ≡ Some d → x ≡ Some d
@@ -247,10 +250,36 @@ stored_by A B (places.Bank b) access x y left right = tt
 stored_by A B (places.Near at) access x y left right = tt
 stored_by A B (places.Data s at) access x y left right = tt
 
+held_at_unstored : (A B : Type 0) (at : ℕ) (extent : Extent) → Unstored (stores.held_at at extent) A B
+held_at_unstored A B at One = tt
+held_at_unstored A B at Two = tt
+held_at_unstored A B at Three = tt
+held_at_unstored A B at Four = tt
+
+pub held_unstored : (A B : Type 0) (is : Bool) (place : Place) (access : Access) → Unstored (stores.held_if is place access) A B
+held_unstored A B true (places.Far at) (Whole kind) = held_at_unstored A B at (extent_of kind)
+held_unstored A B true (places.Far at) (Part field) = tt
+held_unstored A B true (places.Bank b) access = tt
+held_unstored A B true (places.Near at) access = tt
+held_unstored A B true (places.Data s at) access = tt
+held_unstored A B false place access = tt
+
+pub or_held_unstored : (A B : Type 0) (how held : Storing) → Unstored how A B → Unstored held A B → Unstored (stores.or_held how held) A B
+or_held_unstored A B (storing.Left at stored) held p q = p
+or_held_unstored A B (storing.RightByte at low high) held p q = p
+or_held_unstored A B (storing.RightWord at low high) held p q = p
+or_held_unstored A B (storing.HeldByte at) held p q = p
+or_held_unstored A B (storing.HeldWord at) held p q = p
+or_held_unstored A B storing.Stacked held p q = q
+
 unstored_by : (A B : Type 0) (f : Framed) (pushed : ℕ) (a b : Typed) → (Idle f a → A) → (Idle f b → B) → Unstored (storing_of f pushed a b) A B
 unstored_by A B f pushed a b left right =
-    stored_by A B (place_of f pushed a) (access_of (types_of f.parts.types) a) (unless_changed (is_pure b) (pointer_of f pushed a)) (direct_of f pushed b)
-    (λ d h. left (pointer_idle f pushed a d (some_if (is_fixed (pointer_of f pushed a) || is_pure b) (pointer_of f pushed a) d h))) (λ d h. right (direct_idle f pushed b d h))
+    let place : Place = place_of f pushed a in
+    let access : Access = access_of (types_of f.parts.types) a in
+    or_held_unstored A B _ _
+    (stored_by A B place access (unless_changed (is_pure b) (pointer_of f pushed a)) (direct_of f pushed b)
+    (λ d h. left (pointer_idle f pushed a d (some_if (is_fixed (pointer_of f pushed a) || is_pure b) (pointer_of f pushed a) d h))) (λ d h. right (direct_idle f pushed b d h)))
+    (held_unstored A B (is_light f pushed b) place access)
 
 pub storing_uses : (f : Framed) (pushed : ℕ) (a b : Typed) → Unstored (storing_of f pushed a b) (uses None a ≡ 0) (uses None b ≡ 0)
 storing_uses f pushed a b = unstored_by _ _ f pushed a b (λ idle. idle.uses) (λ idle. idle.uses)

@@ -13,15 +13,16 @@ use Rattle.c65_genload.specs.Numbers.{first, second}
 use Rattle.c65_genexpr.specs.Operands.{constant_in}
 use Rattle.c65_genexpr.specs.Operating.{takes_bytes}
 use Rattle.c65_genexpr.specs.Direct.{is_pure}
-use Rattle.c65_geneffect.specs.declared.spots.Target.{Target}
-use Rattle.c65_geneffect.specs.declared.spots.Target.TheVariants.{Byte, Word}
-use Rattle.c65_geneffect.specs.declared.changes.Change.{Change}
-use Rattle.c65_geneffect.specs.declared.changes.Change.TheVariants.{Up, Down, Number, Operand}
+use Rattle.c65_genchange.specs.declared.spots.Target.{Target}
+use Rattle.c65_genchange.specs.declared.spots.Target.TheVariants.{Byte, Word}
+use Rattle.c65_genchange.specs.declared.changes.Change.{Change}
+use Rattle.c65_genchange.specs.declared.changes.Change.TheVariants.{Up, Down, Number, Operand}
 use Rattle.c65_geneffect.specs.declared.changing.Changing.{Changing}
 use Rattle.c65_geneffect.specs.declared.changing.Changing.TheVariants.{Fixed, Loaded, Otherwise}
 use Rattle.c65_geneffect.specs.declared.changing.Fill.{Fill}
-use Rattle.c65_geneffect.specs.Spots.{all_counted, target_of}
-use Rattle.c65_geneffect.specs.Changing.{counting, step_op, step_by, stepping_of, loaded_by, fixed_or, changing_at, changing_of, number_in, fill_by, filling_at, filling_of}
+use Rattle.c65_genchange.specs.Spots.{all_counted, target_of}
+use Rattle.c65_genchange.specs.Stepping.{step_op}
+use Rattle.c65_geneffect.specs.Changing.{counting, step_by, stepping_of, loaded_by, fixed_or, changing_at, changing_of, number_in, fill_by, filling_at, filling_of}
 use Rattle.c65_gen_law_lines.proofs.Drops.{Idle}
 use Rattle.c65_gen_law_lines.proofs.EffectForms.{IsSound}
 

@@ -13,14 +13,14 @@ use Rattle.c65_genload.specs.declared.places.Place.TheVariants as places
 use Rattle.c65_genload.specs.Words.{tmp1, tmp2, implied, zero_page, by_y, absolute}
 use Rattle.c65_genload.specs.Numbers.{first, second}
 use Rattle.c65_gendirect.specs.Words.{instruction}
-use Rattle.c65_geneffect.specs.declared.spots.Spot.{Spot}
-use Rattle.c65_geneffect.specs.declared.spots.Spot.TheVariants.{Behind, Data, Zero}
-use Rattle.c65_geneffect.specs.declared.spots.Target.{Target}
-use Rattle.c65_geneffect.specs.declared.spots.Target.TheVariants.{Byte, Word}
-use Rattle.c65_geneffect.specs.declared.changes.Change.{Change}
-use Rattle.c65_geneffect.specs.declared.changes.Change.TheVariants.{Up, Down, Number, Operand}
-use Rattle.c65_geneffect.specs.Spots.{point_code, reach_code, again_code, is_counted, all_counted}
-use Rattle.c65_geneffect.specs.Changes.{up_code, down_code, byte_code, first_code, next_code, is_neutral, skip_code, low_code, high_code, number_code, aside_code, taken_code, less_code, joined_code, more_code, operand_code, change_code, fill_code}
+use Rattle.c65_genchange.specs.declared.spots.Spot.{Spot}
+use Rattle.c65_genchange.specs.declared.spots.Spot.TheVariants.{Behind, Data, Zero}
+use Rattle.c65_genchange.specs.declared.spots.Target.{Target}
+use Rattle.c65_genchange.specs.declared.spots.Target.TheVariants.{Byte, Word}
+use Rattle.c65_genchange.specs.declared.changes.Change.{Change}
+use Rattle.c65_genchange.specs.declared.changes.Change.TheVariants.{Up, Down, Number, Operand}
+use Rattle.c65_genchange.specs.Spots.{point_code, reach_code, again_code, is_counted, all_counted}
+use Rattle.c65_genchange.specs.Changes.{up_code, down_code, byte_code, first_code, next_code, is_neutral, skip_code, low_code, high_code, number_code, aside_code, taken_code, less_code, joined_code, more_code, operand_code, change_code, fill_code}
 use Rattle.c65_gen_law_lines.proofs.Made.{Piece, nowhere, once_at}
 use Rattle.c65_gen_law_lines.proofs.Leaves.{Still}
 use Rattle.c65_gen_law_lines.proofs.Quiet.{Quiet, quiet_then, quiet_piece, quiet_label, quiet_branch, quiet_none, quiet_wider, quiet_as, quiet_if}
@@ -29,7 +29,7 @@ use Rattle.c65_gen_law_lines.proofs.Directs.{carry_quiet}
 -- ---- a byte
 
 -- an operation of which the table has each mode that reaches a byte
-record Reaches (op : Op) : Type 0 where
+pub record Reaches (op : Op) : Type 0 where
   zero : is_fit (zero_page op 0) ≡ true
   indirect : is_fit (by_y op 0) ≡ true
   absolute : (sym : Sym) (at : ℕ) → is_fit (absolute op sym at) ≡ true
@@ -37,7 +37,7 @@ record Reaches (op : Op) : Type 0 where
 reaches_lda : Reaches Lda
 reaches_lda = record { zero = refl; indirect = refl; absolute = λ sym at. refl }
 
-reaches_sta : Reaches Sta
+pub reaches_sta : Reaches Sta
 reaches_sta = record { zero = refl; indirect = refl; absolute = λ sym at. refl }
 
 reaches_instruction : (op : BinaryOp) → Reaches (instruction op)
@@ -67,7 +67,7 @@ again_still op (Behind pointer at) v = record { to = λ calls. refl }
 again_still op (Data sym at) v = record { to = λ calls. refl }
 again_still op (Zero at) v = record { to = λ calls. refl }
 
-reach_quiet : {ok : ℕ → Bool} (op : Op) (spot : Spot) → Reaches op → Quiet ok nowhere 4 (reach_code op spot)
+pub reach_quiet : {ok : ℕ → Bool} (op : Op) (spot : Spot) → Reaches op → Quiet ok nowhere 4 (reach_code op spot)
 reach_quiet op spot r = quiet_piece (reach_piece op spot r) (reach_still op spot)
 
 load_quiet : {ok : ℕ → Bool} (spot : Spot) → Quiet ok nowhere 4 (reach_code Lda spot)
@@ -77,25 +77,25 @@ store_quiet : {ok : ℕ → Bool} (spot : Spot) → Quiet ok nowhere 3 (again_co
 store_quiet spot = quiet_piece (again_piece Sta spot reaches_sta) (again_still Sta spot)
 
 -- counting instructions reach by no pointer
-up_quiet_at : {ok : ℕ → Bool} (spot : Spot) → is_counted spot ≡ true → Quiet ok nowhere 4 (reach_code Inc spot)
+pub up_quiet_at : {ok : ℕ → Bool} (spot : Spot) → is_counted spot ≡ true → Quiet ok nowhere 4 (reach_code Inc spot)
 up_quiet_at (Behind pointer at) h = absurd cc
 up_quiet_at (Data sym at) h = quiet_piece (record { plain = refl; fit = refl; size = omega arith }) (λ v. record { to = λ calls. refl })
 up_quiet_at (Zero at) h = quiet_piece (record { plain = refl; fit = refl; size = omega arith }) (λ v. record { to = λ calls. refl })
 
-down_quiet_at : {ok : ℕ → Bool} (spot : Spot) → is_counted spot ≡ true → Quiet ok nowhere 4 (reach_code Dec spot)
+pub down_quiet_at : {ok : ℕ → Bool} (spot : Spot) → is_counted spot ≡ true → Quiet ok nowhere 4 (reach_code Dec spot)
 down_quiet_at (Behind pointer at) h = absurd cc
 down_quiet_at (Data sym at) h = quiet_piece (record { plain = refl; fit = refl; size = omega arith }) (λ v. record { to = λ calls. refl })
 down_quiet_at (Zero at) h = quiet_piece (record { plain = refl; fit = refl; size = omega arith }) (λ v. record { to = λ calls. refl })
 
 -- ---- one more, and one less
 
-up_quiet : {ok : ℕ → Bool} (target : Target) (label : ℕ) → ok label ≡ true → all_counted target ≡ true → Quiet ok (once_at label) 13 (up_code target label)
+pub up_quiet : {ok : ℕ → Bool} (target : Target) (label : ℕ) → ok label ≡ true → all_counted target ≡ true → Quiet ok (once_at label) 13 (up_code target label)
 up_quiet (Byte low) label passes h = quiet_wider (quiet_as (λ l. omega arith) (quiet_then (up_quiet_at low h) (quiet_label label))) (omega arith)
 up_quiet (Word low high) label passes h =
     let both = and_parts (is_counted low) (is_counted high) h in
     quiet_as (λ l. omega arith) (quiet_then (up_quiet_at low both.0) (quiet_then (quiet_branch Bne label refl passes) (quiet_then (up_quiet_at high both.1) (quiet_label label))))
 
-down_quiet : {ok : ℕ → Bool} (target : Target) (label : ℕ) → ok label ≡ true → all_counted target ≡ true → Quiet ok (once_at label) 17 (down_code target label)
+pub down_quiet : {ok : ℕ → Bool} (target : Target) (label : ℕ) → ok label ≡ true → all_counted target ≡ true → Quiet ok (once_at label) 17 (down_code target label)
 down_quiet (Byte low) label passes h = quiet_wider (quiet_as (λ l. omega arith) (quiet_then (down_quiet_at low h) (quiet_label label))) (omega arith)
 down_quiet (Word low high) label passes h =
     let both = and_parts (is_counted low) (is_counted high) h in
@@ -103,7 +103,7 @@ down_quiet (Word low high) label passes h =
 
 -- ---- by a constant
 
-constant_quiet : {ok : ℕ → Bool} (op : BinaryOp) (n : ℕ) → Quiet ok nowhere 2 (value (instruction op) n ∷ [])
+pub constant_quiet : {ok : ℕ → Bool} (op : BinaryOp) (n : ℕ) → Quiet ok nowhere 2 (value (instruction op) n ∷ [])
 constant_quiet ops.Add n = quiet_piece (record { plain = refl; fit = refl; size = omega arith }) (λ v. record { to = λ calls. refl })
 constant_quiet ops.Sub n = quiet_piece (record { plain = refl; fit = refl; size = omega arith }) (λ v. record { to = λ calls. refl })
 constant_quiet ops.BitAnd n = quiet_piece (record { plain = refl; fit = refl; size = omega arith }) (λ v. record { to = λ calls. refl })
@@ -113,10 +113,10 @@ constant_quiet _ n = quiet_piece (record { plain = refl; fit = refl; size = omeg
 byte_quiet : {ok : ℕ → Bool} (op : BinaryOp) (n : ℕ) (spot : Spot) → Quiet ok nowhere 5 (byte_code op n spot)
 byte_quiet op n spot = quiet_as (λ l. refl) (quiet_then (constant_quiet op n) (store_quiet spot))
 
-first_quiet : {ok : ℕ → Bool} (op : BinaryOp) (n : ℕ) (spot : Spot) → Quiet ok nowhere 10 (first_code op n spot)
+pub first_quiet : {ok : ℕ → Bool} (op : BinaryOp) (n : ℕ) (spot : Spot) → Quiet ok nowhere 10 (first_code op n spot)
 first_quiet op n spot = quiet_as (λ l. refl) (quiet_then (load_quiet spot) (quiet_then (carry_quiet op) (byte_quiet op n spot)))
 
-next_quiet : {ok : ℕ → Bool} (op : BinaryOp) (n : ℕ) (spot : Spot) → Quiet ok nowhere 9 (next_code op n spot)
+pub next_quiet : {ok : ℕ → Bool} (op : BinaryOp) (n : ℕ) (spot : Spot) → Quiet ok nowhere 9 (next_code op n spot)
 next_quiet op n spot = quiet_as (λ l. refl) (quiet_then (load_quiet spot) (byte_quiet op n spot))
 
 skip_quiet : {ok : ℕ → Bool} (op : BinaryOp) (n label : ℕ) → ok label ≡ true → Quiet ok nowhere 5 (skip_code op n label)

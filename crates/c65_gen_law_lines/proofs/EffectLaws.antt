@@ -15,11 +15,11 @@ use Rattle.c65_genexpr.specs.Types.{bare, access_of, target_bytes}
 use Rattle.c65_genexpr.specs.Places.{place_of}
 use Rattle.c65_genexpr.specs.Uses.{uses}
 use Rattle.c65_genexpr.specs.Code.{node_code}
-use Rattle.c65_geneffect.specs.declared.changes.Change.{Change}
+use Rattle.c65_genchange.specs.declared.changes.Change.{Change}
 use Rattle.c65_geneffect.specs.declared.changing.Changing.{Changing}
 use Rattle.c65_geneffect.specs.declared.changing.Changing.TheVariants.{Fixed, Loaded, Otherwise}
 use Rattle.c65_geneffect.specs.declared.changing.Fill.{Fill}
-use Rattle.c65_geneffect.specs.Changes.{change_code}
+use Rattle.c65_genchange.specs.Changes.{change_code}
 use Rattle.c65_geneffect.specs.Changing.{in_front, stepping_of, changing_of, filling_of}
 use Rattle.c65_geneffect.specs.Effects.{closed, fixed_code, stepped_by, changed_by, filled_or, changed_code, step_effect, effect_code, node_effect, effect_uses, node_effect_uses}
 use Rattle.c65_gen_law_lines.specs.Bulk.{nodes}
@@ -51,9 +51,9 @@ closed_made {lo = lo} {n = n} made = made_wider (made_stretch
     (stretch_then (stretch_made made (leads_within [] (lo + 1) n lo (1 + n) (omega arith) (omega arith)) refl) (stretch_label lo))
     (λ l. omega (arith, among_split lo 1 n l, among_one lo l))) (omega arith)
 
-stepped_made : {lo n j k : ℕ} {base whole : List Line} (form : Option Change) (place : Place) → IsStep form → j + 28 ≤ k → Made [] (lo + 1) n j base → Made [] (lo + 1) n k whole → Made [] lo (1 + n) k (stepped_by form place lo base whole)
+stepped_made : {lo n j k : ℕ} {base whole : List Line} (form : Option Change) (place : Place) → IsStep form → j + 28 ≤ k → Made [] (lo + 1) n j base → Made [] lo (1 + n) k whole → Made [] lo (1 + n) k (stepped_by form place lo base whole)
 stepped_made (Some change) place sound le mb mw = made_wider (fixed_made change place sound mb) le
-stepped_made None place sound le mb mw = closed_made mw
+stepped_made None place sound le mb mw = mw
 
 changed_made : {lo n m i j k : ℕ} {left right whole : List Line} (how : Changing) (place : Place) → Unneeded how (m ≡ 0) → i + 28 ≤ k → i + j + 24 ≤ k → Made [] (lo + 1) n i left → Made [] (lo + 1 + n) m j right → Made [] (lo + 1) (n + m) k whole
     → Made [] lo (1 + (n + m)) k (changed_by how place lo left right whole)
@@ -65,7 +65,7 @@ filled_made : {lo n j k : ℕ} {base whole : List Line} (m : ℕ) (fill : Option
 filled_made m (Some fill) unneeded le mb mw = made_as (omega (arith, unneeded)) (made_wider (made_behind mb (fill_piece fill.byte fill.low fill.high)) le)
 filled_made m None unneeded le mb mw = mw
 
-step_made : (f : Framed) (pushed lo : ℕ) (t : QTy) (how : StepKind) (e : Typed) → Made [] (lo + 1) (uses None e) (room (node t (step (in_front how) e))) (node_code f pushed (lo + 1) Value t (step (in_front how) e))
+step_made : (f : Framed) (pushed lo : ℕ) (t : QTy) (how : StepKind) (e : Typed) → Made [] lo (1 + uses None e) (room (node t (step (in_front how) e))) (node_code f pushed lo Value t (step (in_front how) e))
     → Made [] lo (1 + uses None e) (128 * nodes (node t (step how e))) (step_effect f pushed lo how e)
 step_made f pushed lo t how e whole =
     let place : Place = place_of f pushed e in
@@ -93,10 +93,10 @@ mutual
       filled_made (uses None b) (filling_of place access b) (filling_unneeded _ place access b (λ n h. (number_idle f b n h).uses)) (omega (arith, some_nodes a, some_nodes b)) (base_made f pushed lo a) (made_wider (expr_made f pushed lo Value (node t (assign a b))) (omega arith))
   node_effect_made f pushed lo t (assign_op op k a b) = op_made f pushed lo op 1 a b (node_code f pushed (lo + 1) Value t (assign_op op k a b)) (made_wider (expr_made f pushed (lo + 1) Value (node t (assign_op op k a b))) (omega arith))
   node_effect_made f pushed lo t (assign_step op a b) = op_made f pushed lo op (target_bytes f (bare a)) a b (node_code f pushed (lo + 1) Value t (assign_step op a b)) (made_wider (expr_made f pushed (lo + 1) Value (node t (assign_step op a b))) (omega arith))
-  node_effect_made f pushed lo t (step PreInc e) = step_made f pushed lo t PreInc e (expr_made f pushed (lo + 1) Value (node t (step PreInc e)))
-  node_effect_made f pushed lo t (step PreDec e) = step_made f pushed lo t PreDec e (expr_made f pushed (lo + 1) Value (node t (step PreDec e)))
-  node_effect_made f pushed lo t (step PostInc e) = step_made f pushed lo t PostInc e (expr_made f pushed (lo + 1) Value (node t (step PreInc e)))
-  node_effect_made f pushed lo t (step PostDec e) = step_made f pushed lo t PostDec e (expr_made f pushed (lo + 1) Value (node t (step PreDec e)))
+  node_effect_made f pushed lo t (step PreInc e) = step_made f pushed lo t PreInc e (expr_made f pushed lo Value (node t (step PreInc e)))
+  node_effect_made f pushed lo t (step PreDec e) = step_made f pushed lo t PreDec e (expr_made f pushed lo Value (node t (step PreDec e)))
+  node_effect_made f pushed lo t (step PostInc e) = step_made f pushed lo t PostInc e (expr_made f pushed lo Value (node t (step PreInc e)))
+  node_effect_made f pushed lo t (step PostDec e) = step_made f pushed lo t PostDec e (expr_made f pushed lo Value (node t (step PreDec e)))
   node_effect_made f pushed lo t n = made_wider (expr_made f pushed lo Value (node t n)) (omega (arith, slack_fits (node t n)))
 
 -- ---- what waits
@@ -107,7 +107,7 @@ fixed_does change place label sound d v =
 
 stepped_does : {cs : List (List ℕ)} {base whole : List Line} (form : Option Change) (place : Place) (label : ℕ) → IsStep form → Doing cs base → Doing cs whole → Doing cs (stepped_by form place label base whole)
 stepped_does (Some change) place label sound db dw v = fixed_does change place label sound db v
-stepped_does None place label sound db dw v = does_behind (dw v) (one_label label)
+stepped_does None place label sound db dw v = dw v
 
 changed_does : {cs ds : List (List ℕ)} {left right whole : List Line} (how : Changing) (place : Place) (label : ℕ) → Unneeded how (ds ≡ []) → Doing cs left → Doing ds right → Doing (cs ++ ds) whole → Doing (cs ++ ds) (changed_by how place label left right whole)
 changed_does (Fixed change) place label unneeded dl dr dw v = left_alone unneeded.1 (fixed_does change place label unneeded.0 dl v)
@@ -118,7 +118,7 @@ filled_does : {cs : List (List ℕ)} {base whole : List Line} (ds : List (List �
 filled_does ds (Some fill) unneeded db dw v = left_alone unneeded (does_behind (db v) (fill_still fill.byte fill.low fill.high v))
 filled_does ds None unneeded db dw v = dw v
 
-step_does : (f : Framed) (pushed lo : ℕ) (t : QTy) (how : StepKind) (e : Typed) → Doing (calls_of f e) (node_code f pushed (lo + 1) Value t (step (in_front how) e)) → Doing (calls_of f e) (step_effect f pushed lo how e)
+step_does : (f : Framed) (pushed lo : ℕ) (t : QTy) (how : StepKind) (e : Typed) → Doing (calls_of f e) (node_code f pushed lo Value t (step (in_front how) e)) → Doing (calls_of f e) (step_effect f pushed lo how e)
 step_does f pushed lo t how e whole =
     let place : Place = place_of f pushed e in
     let access : Access = access_of (types_of f.parts.types) e in
@@ -144,8 +144,8 @@ mutual
       filled_does (calls_of f b) (filling_of place access b) (filling_unneeded _ place access b (λ n h. (number_idle f b n h).calls)) (base_does f pushed lo a) (expr_does f pushed lo Value (node t (assign a b)))
   node_effect_does f pushed lo t (assign_op op k a b) = op_does f pushed lo op 1 a b (node_code f pushed (lo + 1) Value t (assign_op op k a b)) (expr_does f pushed (lo + 1) Value (node t (assign_op op k a b)))
   node_effect_does f pushed lo t (assign_step op a b) = op_does f pushed lo op (target_bytes f (bare a)) a b (node_code f pushed (lo + 1) Value t (assign_step op a b)) (expr_does f pushed (lo + 1) Value (node t (assign_step op a b)))
-  node_effect_does f pushed lo t (step PreInc e) = step_does f pushed lo t PreInc e (expr_does f pushed (lo + 1) Value (node t (step PreInc e)))
-  node_effect_does f pushed lo t (step PreDec e) = step_does f pushed lo t PreDec e (expr_does f pushed (lo + 1) Value (node t (step PreDec e)))
-  node_effect_does f pushed lo t (step PostInc e) = step_does f pushed lo t PostInc e (expr_does f pushed (lo + 1) Value (node t (step PreInc e)))
-  node_effect_does f pushed lo t (step PostDec e) = step_does f pushed lo t PostDec e (expr_does f pushed (lo + 1) Value (node t (step PreDec e)))
+  node_effect_does f pushed lo t (step PreInc e) = step_does f pushed lo t PreInc e (expr_does f pushed lo Value (node t (step PreInc e)))
+  node_effect_does f pushed lo t (step PreDec e) = step_does f pushed lo t PreDec e (expr_does f pushed lo Value (node t (step PreDec e)))
+  node_effect_does f pushed lo t (step PostInc e) = step_does f pushed lo t PostInc e (expr_does f pushed lo Value (node t (step PreInc e)))
+  node_effect_does f pushed lo t (step PostDec e) = step_does f pushed lo t PostDec e (expr_does f pushed lo Value (node t (step PreDec e)))
   node_effect_does f pushed lo t n = expr_does f pushed lo Value (node t n)

@@ -47,10 +47,12 @@ use Rattle.c65_genexpr.specs.Calls.{named}
 use Rattle.c65_genexpr.specs.Uses.{unless_named, by_relation, uses, node_uses, args_uses, comparison_uses}
 use Rattle.c65_genexpr.specs.Code.{width_in, load_by, behind_open, compound, call_by, expr_code, node_code, base_code, pointer_base_code, args_code, operator_code, comparison_code}
 use Rattle.c65_gen_law_lines.specs.Bulk.{nodes, nodes_in}
-use Rattle.c65_gen_law_lines.specs.Labels.{aims}
+use Rattle.c65_gen_law_lines.specs.Labels.{aims, may_lead}
 use Rattle.c65_gen_law_lines.specs.Laws.{ExpressionsOwnTheirLabels, ExpressionsAreSmall, ExpressionsAreFit}
-use Rattle.c65_gen_law_lines.proofs.Made.{among_split, among_one, piece_append, stretch_then, stretch_label, stretch_made, made_stretch, leads_within, Made, made_piece, made_append, made_behind, made_before, made_wider, made_as, made_none}
-use Rattle.c65_gen_law_lines.proofs.Pieces.{narrow_piece, read_store_piece, byte_through_piece, word_through_piece, by_access, passing_by, passing, part_piece, spill_piece, further_piece, symbol_piece, object_piece, offset_piece, load_piece, unary_piece, push_piece, hold_piece, store_piece, copy_piece, step_piece, open_piece, close_piece, named_piece, pointer_piece, argument_piece, direct_piece}
+use Rattle.c65_gen_law_lines.proofs.Made.{among_split, among_one, piece_append, stretch_then, stretch_label, stretch_made, made_stretch, leads_within, leads_inner, once_at, Made, made_piece, made_append, made_behind, made_before, made_wider, made_as, made_none}
+use Rattle.c65_gen_law_lines.proofs.Pieces.{narrow_piece, keep_piece, byte_behind_piece, word_behind_piece, read_store_piece, byte_through_piece, word_through_piece, by_access, passing_by, passing, part_piece, spill_piece, further_piece, symbol_piece, object_piece, offset_piece, load_piece, unary_piece, push_piece, hold_piece, store_piece, copy_piece, open_piece, close_piece, named_piece, pointer_piece, argument_piece, direct_piece}
+use Rattle.c65_gen_law_lines.proofs.Quiet.{Quiet}
+use Rattle.c65_gen_law_lines.proofs.StepForms.{step_quiet}
 use Rattle.c65_gen_law_lines.proofs.Drops.{comparing_uses, Unstored, storing_uses, sum_uses, operating_uses}
 use Rattle.c65_gen_law_lines.proofs.Wants.{made_from, made_closed, wanted_made, constant_made, tested_made, converted_made, truth_made, joined_made, comparison_made, operator_made, choice_made}
 
@@ -150,7 +152,16 @@ assigned_made (storing.Left at stored) place access unread le ma mb = made_as (o
 assigned_made (storing.RightByte at low high) place access unread le ma mb =
     made_as (omega (arith, unread)) (made_from (omega (arith, unread)) (made_wider (made_behind mb (piece_append 22 3 _ _ (byte_through_piece at low high) (narrow_piece (loads.type_in access)))) (omega arith)))
 assigned_made (storing.RightWord at low high) place access unread le ma mb = made_as (omega (arith, unread)) (made_from (omega (arith, unread)) (made_wider (made_behind mb (word_through_piece at low high)) (omega arith)))
+assigned_made (storing.HeldByte at) place access unread le ma mb =
+    made_wider (made_append ma (made_before keep_piece (made_behind mb (piece_append 4 3 _ _ (byte_behind_piece at) (narrow_piece (loads.type_in access)))))) (omega arith)
+assigned_made (storing.HeldWord at) place access unread le ma mb = made_wider (made_append ma (made_before keep_piece (made_behind mb (word_behind_piece at)))) (omega arith)
 assigned_made storing.Stacked place access unread le ma mb = made_wider (made_append ma (made_before (hold_piece place) (made_behind mb (store_piece place access)))) (omega (arith, le))
+
+-- a step has a label of its own
+stepped_made : {lo n j k : ℕ} {base lines : List Line} → Made [] (lo + 1) n j base → Quiet (may_lead lo (1 + n) []) (once_at lo) k lines → Made [] lo (1 + n) (j + k) (base ++ lines)
+stepped_made {lo = lo} {n = n} made quiet = made_stretch
+    (stretch_then (stretch_made made (leads_within [] (lo + 1) n lo (1 + n) (omega arith) (omega arith)) refl) quiet.part)
+    (λ l. omega (arith, among_split lo 1 n l, among_one lo l))
 
 -- a part, or a whole
 either_made : {lo n k : ℕ} {a b : List Line} (c : Bool) → Made [] lo n k a → Made [] lo n k b → Made [] lo n k (if c then a else b)
@@ -284,7 +295,7 @@ mutual
   node_made f pushed lo w t (step how e) =
       let place : Place = place_of f pushed e in
       let access : Access = access_of (types_of f.parts.types) e in
-      made_wider (wanted_made w (width_in t) (made_behind (base_made f pushed lo e) (step_piece how place access (amount_of f how (bare e))))) (omega (arith, some_nodes e, access_fits 92 196 (types_of f.parts.types) e (omega arith) (omega arith), slack_fits e))
+      made_wider (wanted_made w (width_in t) (stepped_made (base_made f pushed (lo + 1) e) (step_quiet how (target_bytes f (bare e)) (amount_of f how (bare e)) place access lo (leads_inner [] lo (1 + uses None e) lo (omega arith) (omega arith))))) (omega (arith, some_nodes e, access_fits 92 196 (types_of f.parts.types) e (omega arith) (omega arith), slack_fits e))
   node_made f pushed lo w t (copy a b) =
       made_wider (wanted_made w (width_in t) (made_append (expr_made f pushed lo Value a) (made_before (push_piece Ax) (made_behind (expr_made f (more pushed 2) (lo + uses None a) Value b) (copy_piece (type_bytes f (type_in t))))))) (omega (arith, some_nodes a, some_nodes b))
   node_made f pushed lo w t (call g es) =

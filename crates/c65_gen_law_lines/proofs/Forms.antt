@@ -19,8 +19,8 @@ use Rattle.c65_genexpr.specs.Held.{keep_code}
 use Rattle.c65_genexpr.specs.Operands.{computes}
 use Rattle.c65_genexpr.specs.Operating.{placed, form_code, waiting_code, stacked_code}
 use Rattle.c65_gen_law_lines.proofs.Made.{nowhere, once_at, stretch_piece, Stretch, stretch_then, stretch_as}
-use Rattle.c65_gen_law_lines.proofs.Pieces.{divide_piece, push_piece, wide_piece, between_piece, behind_piece}
-use Rattle.c65_gen_law_lines.proofs.StackPieces.{Leaves, leaves_then, Still, divide_still, push_leaves, wide_leaves, between_leaves, behind_leaves}
+use Rattle.c65_gen_law_lines.proofs.Pieces.{keep_piece, divide_piece, push_piece, wide_piece, between_piece, behind_piece}
+use Rattle.c65_gen_law_lines.proofs.StackPieces.{keep_still, Leaves, leaves_then, Still, divide_still, push_leaves, wide_leaves, between_leaves, behind_leaves}
 use Rattle.c65_gen_law_lines.proofs.Quiet.{Quiet, quiet_then, quiet_piece, quiet_label, quiet_none, quiet_wider, quiet_as}
 use Rattle.c65_gen_law_lines.proofs.Directs.{word_label, word_quiet, added_quiet, taken_quiet, long_mask_quiet}
 use Rattle.c65_gen_law_lines.proofs.Shifts.{labelled_quiet, quick_quiet, elements_quiet}
@@ -61,7 +61,7 @@ form_quiet (DistanceUnder size low high) label passes small = labelled_quiet lab
 -- ---- a left operand that waits
 
 pub keep_quiet : {ok : ℕ → Bool} → Quiet ok nowhere 4 keep_code
-keep_quiet = quiet_piece (record { plain = refl; fit = refl; size = omega arith }) (λ v. record { to = λ calls. refl })
+keep_quiet = quiet_piece keep_piece keep_still
 
 abbrev pub before_size : Operands → ℕ
 before_size (PointerLast size) = 94

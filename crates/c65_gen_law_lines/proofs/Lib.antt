@@ -8,6 +8,8 @@ pub mod Shifts
 pub mod Drops
 pub mod Forms
 pub mod Wants
+pub mod EffectForms
+pub mod StepForms
 pub mod ExprLaws
 pub mod Flat
 pub mod Puts
@@ -15,7 +17,6 @@ pub mod Others
 pub mod StmtLaws
 pub mod FunctionLaws
 pub mod StackLaws
-pub mod EffectForms
 pub mod EffectFacts
 pub mod EffectLaws
 pub mod StackStmts

@@ -62,8 +62,10 @@ use Rattle.c65_genexpr.specs.declared.operands.Operands.{Operands}
 use Rattle.c65_genexpr.specs.declared.operands.Operands.TheVariants.{Numbers, PointerFirst, PointerLast, Pointers}
 use Rattle.c65_genexpr.specs.declared.arguments.Passed.{Passed}
 use Rattle.c65_genexpr.specs.Places.{more, soft_code, code_at, object_code, rest_code}
+use Rattle.c65_genexpr.specs.Held.{keep_code, byte_behind_code, word_behind_code}
 use Rattle.c65_genexpr.specs.Operands.{computes, between_code, difference_code, behind_code, unary_code, conversion_code, negative}
-use Rattle.c65_genexpr.specs.Steps.{is_post, back_code, after_code, step_code, open_code, close_code}
+use Rattle.c65_genchange.specs.Stepping.{is_post}
+use Rattle.c65_genexpr.specs.Steps.{back_code, after_code, long_step_code, open_code, close_code}
 use Rattle.c65_genexpr.specs.declared.types.Outcome.{Outcome}
 use Rattle.c65_genexpr.specs.declared.types.Outcome.TheVariants.{Nothing, Number, Area}
 use Rattle.c65_genexpr.specs.Types.{given_bytes}
@@ -479,6 +481,15 @@ word_through_piece at low high =
     let last : Piece 9 (value Ldy (byte_more at 1) ∷ implied Txa ∷ by_y Sta ptr1 ∷ implied Dey ∷ implied Pla ∷ by_y Sta ptr1 ∷ []) = record { plain = refl; fit = refl; size = omega arith } in
     piece_append 1 21 (implied Pha ∷ []) _ aside (piece_append 12 9 (point_code low high) _ (point_piece low high) last)
 
+pub keep_piece : Piece 4 keep_code
+keep_piece = record { plain = refl; fit = refl; size = omega arith }
+
+pub byte_behind_piece : (at : ℕ) → Piece 4 (byte_behind_code at)
+byte_behind_piece at = record { plain = refl; fit = refl; size = omega arith }
+
+pub word_behind_piece : (at : ℕ) → Piece 11 (word_behind_code at)
+word_behind_piece at = record { plain = refl; fit = refl; size = omega arith }
+
 back_piece : (access : Access) (n : ℕ) → Piece (by_access 21 41 access) (back_code access n)
 back_piece (Whole kind) n = add_piece kind (negative n)
 back_piece (Part field) n = piece_append 21 20 _ _ (add_piece field.kind (negative n)) (lowest_piece (record field { low = 0 }))
@@ -490,8 +501,8 @@ step_sizes : (access : Access) → 12 + (by_access 19 36 access + (21 + (by_acce
 step_sizes (Whole kind) = omega arith
 step_sizes (Part field) = omega arith
 
-pub step_piece : (how : StepKind) (place : Place) (access : Access) (n : ℕ) → Piece (by_access 92 196 access) (step_code how place access n)
-step_piece how place access n =
+pub long_step_piece : (how : StepKind) (place : Place) (access : Access) (n : ℕ) → Piece (by_access 92 196 access) (long_step_code how place access n)
+long_step_piece how place access n =
     piece_wider _ _ _ (piece_append 12 _ _ _ (hold_piece place) (piece_append _ _ _ _ (load_piece (settled place) access) (piece_append 21 _ _ _ (add_piece (type_in access) n) (piece_append _ _ _ _ (store_piece place access) (after_piece how access n))))) (step_sizes access)
 
 open_sizes : (access : Access) → 12 + (by_access 19 36 access + (3 + 3)) ≤ by_access 37 54 access

@@ -70,7 +70,8 @@ use Rattle.c65_gen_law_lines.specs.Laws.{ExpressionsKeepTheStack, CallsAreCounte
 use Rattle.c65_gen_law_lines.proofs.Directs.{loaded_quiet, compare_quiet, compare_byte_quiet, zero_test_quiet, truth_quiet}
 use Rattle.c65_gen_law_lines.proofs.Drops.{IfRead, Unread, comparing_calls, Unstored, storing_calls, sum_calls, Unused, operating_calls}
 use Rattle.c65_gen_law_lines.proofs.Forms.{form_quiet, waiting_leaves, stacked_leaves, keep_quiet}
-use Rattle.c65_gen_law_lines.proofs.StackPieces.{waits_append, Leaves, leaves_then, leaves_none, leaves_if, Still, narrow_still, number_still, object_still, further_still, offset_still, conversion_still, push_leaves, argument_leaves, test_still, holding, hold_leaves, bytes_still, load_still, stored_leaves, read_store_still, byte_through_still, word_through_still, copy_leaves, spill_still, unary_still, between_leaves, behind_leaves, step_still, open_leaves, close_leaves}
+use Rattle.c65_gen_law_lines.proofs.StepForms.{step_quiet}
+use Rattle.c65_gen_law_lines.proofs.StackPieces.{keep_still, byte_behind_still, word_behind_still, waits_append, Leaves, leaves_then, leaves_none, leaves_if, Still, narrow_still, number_still, object_still, further_still, offset_still, conversion_still, push_leaves, argument_leaves, test_still, holding, hold_leaves, bytes_still, load_still, stored_leaves, read_store_still, byte_through_still, word_through_still, copy_leaves, spill_still, unary_still, between_leaves, behind_leaves, open_leaves, close_leaves}
 
 -- lines lead from some values that wait to others by these calls
 pub record Does (cs : List (List ℕ)) (v : List ℕ) (a : List Line) (u : List ℕ) : Type 0 where
@@ -199,6 +200,8 @@ assigned_does : {cs ds : List (List ℕ)} {a b : List Line} (how : Storing) (pla
 assigned_does (storing.Left at stored) place access unread da db v = left_alone unread (does_behind (da v) (leaves_then (read_store_still at stored v) (narrow_still (loads.type_in access) v)))
 assigned_does (storing.RightByte at low high) place access unread da db v = right_alone unread (does_behind (db v) (leaves_then (byte_through_still at low high v) (narrow_still (loads.type_in access) v)))
 assigned_does (storing.RightWord at low high) place access unread da db v = right_alone unread (does_behind (db v) (word_through_still at low high v))
+assigned_does (storing.HeldByte at) place access unread da db v = does_then (da v) (does_before (keep_still v) (does_behind (db v) (leaves_then (byte_behind_still at v) (narrow_still (loads.type_in access) v))))
+assigned_does (storing.HeldWord at) place access unread da db v = does_then (da v) (does_before (keep_still v) (does_behind (db v) (word_behind_still at v)))
 assigned_does storing.Stacked place access unread da db v = does_then (da v) (does_before (hold_leaves place v) (does_behind (db (holding place v)) (stored_leaves place access v)))
 
 either_does : {cs : List (List ℕ)} {v : List ℕ} {a b : List Line} (c : Bool) → Does cs v a v → Does cs v b v → Does cs v (if c then a else b) v
@@ -350,7 +353,7 @@ mutual
       wanted_does w (width_in t) (compound_does f pushed op operands a b v (base_does f pushed lo a v) (expr_does f (behind_open f pushed operands a) (lo + uses None a) Value b (2 ∷ holding (place_of f pushed a) v)))
   node_does f pushed lo w t (step how e) v =
       let place : Place = place_of f pushed e in
-      wanted_does w (width_in t) (does_behind (base_does f pushed lo e v) (step_still how place (access_of (types_of f.parts.types) e) (amount_of f how (bare e)) v))
+      wanted_does w (width_in t) (does_behind (base_does f pushed (lo + 1) e v) ((step_quiet {ok = λ l. true} how (target_bytes f (bare e)) (amount_of f how (bare e)) place (access_of (types_of f.parts.types) e) lo refl).still v))
   node_does f pushed lo w t (copy a b) v =
       wanted_does w (width_in t) (does_then (expr_does f pushed lo Value a v) (does_before (push_leaves Ax v) (does_behind (expr_does f (more pushed 2) (lo + uses None a) Value b (2 ∷ v)) (copy_leaves (type_bytes f (type_in t)) v))))
   node_does f pushed lo w t (call g es) v =

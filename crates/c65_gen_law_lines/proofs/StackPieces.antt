@@ -54,8 +54,10 @@ use Rattle.c65_gendirect.specs.Through.{read_bytes_code, read_store_code, point_
 use Rattle.c65_genexpr.specs.declared.operands.Operands.{Operands}
 use Rattle.c65_genexpr.specs.declared.operands.Operands.TheVariants.{Numbers, PointerFirst, PointerLast, Pointers}
 use Rattle.c65_genexpr.specs.Places.{more, soft_code, code_at, object_code, rest_code}
+use Rattle.c65_genexpr.specs.Held.{keep_code, byte_behind_code, word_behind_code}
 use Rattle.c65_genexpr.specs.Operands.{computes, between_code, difference_code, behind_code, unary_code, conversion_code, negative}
-use Rattle.c65_genexpr.specs.Steps.{is_post, back_code, after_code, step_code, open_code, close_code}
+use Rattle.c65_genchange.specs.Stepping.{is_post}
+use Rattle.c65_genexpr.specs.Steps.{back_code, after_code, long_step_code, open_code, close_code}
 use Rattle.c65_genexpr.specs.Types.{kind_of}
 use Rattle.c65_genexpr.specs.Spills.{kept_code, first_code, further_code, again_code, spill_code}
 use Rattle.c65_genexpr.specs.Arguments.{clamped, passed_size, argument_code}
@@ -418,6 +420,15 @@ word_through_still at low high v =
     let aside : Leaves v (implied Pha ∷ []) v = record { to = λ calls. refl } in
     leaves_then aside (leaves_then (point_still low high v) (record { to = λ calls. refl }))
 
+pub keep_still : Still keep_code
+keep_still v = record { to = λ calls. refl }
+
+pub byte_behind_still : (at : ℕ) → Still (byte_behind_code at)
+byte_behind_still at v = record { to = λ calls. refl }
+
+pub word_behind_still : (at : ℕ) → Still (word_behind_code at)
+word_behind_still at v = record { to = λ calls. refl }
+
 back_still : (access : Access) (n : ℕ) → Still (back_code access n)
 back_still (Whole kind) n v = add_still kind (negative n) v
 back_still (Part field) n v = leaves_then (add_still field.kind (negative n) v) (lowest_still (record field { low = 0 }) v)
@@ -425,8 +436,8 @@ back_still (Part field) n v = leaves_then (add_still field.kind (negative n) v) 
 after_still : (how : StepKind) (access : Access) (n : ℕ) → Still (after_code how access n)
 after_still how access n v = leaves_if (is_post how) (back_still access n v) leaves_none
 
-pub step_still : (how : StepKind) (place : Place) (access : Access) (n : ℕ) → Still (step_code how place access n)
-step_still how place access n v =
+pub long_step_still : (how : StepKind) (place : Place) (access : Access) (n : ℕ) → Still (long_step_code how place access n)
+long_step_still how place access n v =
     let h : List ℕ = holding place v in
     leaves_then (hold_leaves place v) (leaves_then (load_still (settled place) access h) (leaves_then (add_still (type_in access) n h) (leaves_then (stored_leaves place access v) (after_still how access n v))))
 

@@ -12,7 +12,7 @@ use Rattle.c65_mach.specs.declared.rows.Op.TheVariants.{Jmp, Lda}
 use Rattle.c65_mach.specs.declared.rows.Mode.TheVariants.{Absolute}
 use Rattle.c65_code.specs.declared.line.Operand.TheVariants.{To}
 use Rattle.c65_code.specs.declared.line.Line.{Line}
-use Rattle.c65_code.specs.declared.line.Line.TheVariants.{Label, Do}
+use Rattle.c65_code.specs.declared.line.Line.TheVariants.{Do}
 use Rattle.c65_code.specs.declared.routine.Width.{Width}
 use Rattle.c65_code.specs.declared.routine.Width.TheVariants.{Ax}
 use Rattle.c65_genframe.specs.declared.home.Home.{Home}
@@ -63,7 +63,8 @@ use Rattle.c65_gen_law_stack.proofs.EvenLines.{No, One}
 use Rattle.c65_gen_law_stack.proofs.EvenShifts.{elements_even}
 use Rattle.c65_gen_law_stack.proofs.EvenDirects.{byte_even, compare_even, compare_byte_even, zero_test_even, truth_even}
 use Rattle.c65_gen_law_stack.proofs.EvenForms.{value_test_even, routine_test_even, constant_even, form_even, keep_even}
-use Rattle.c65_gen_law_stack.proofs.BankPieces.{narrow_clear, read_store_clear, byte_through_clear, word_through_clear, Clear, clear_then, clear_if, clear_none, IsOff, symbol_clear, offset_clear, object_clear, further_clear, conversion_clear, push_clear, argument_clear, hold_clear, bytes_clear, load_clear, store_clear, copy_clear, spill_clear, unary_clear, wide_clear, between_clear, behind_clear, step_clear, open_clear, close_clear, named_clear, direct_clear, pointer_clear}
+use Rattle.c65_gen_law_stack.proofs.StepClears.{step_clear}
+use Rattle.c65_gen_law_stack.proofs.BankPieces.{narrow_clear, label_clear, byte_behind_clear, word_behind_clear, read_store_clear, byte_through_clear, word_through_clear, Clear, clear_then, clear_if, clear_none, IsOff, symbol_clear, offset_clear, object_clear, further_clear, conversion_clear, push_clear, argument_clear, hold_clear, bytes_clear, load_clear, store_clear, copy_clear, spill_clear, unary_clear, wide_clear, between_clear, behind_clear, open_clear, close_clear, named_clear, direct_clear, pointer_clear}
 
 -- no home of a frame is in regbank
 abbrev pub IsBankless : Framed → Type 0
@@ -118,9 +119,6 @@ target_clear (places.Far at) c = c
 target_clear (places.Bank b) c = clear_none
 target_clear (places.Near at) c = clear_none
 target_clear (places.Data s at) c = clear_none
-
-pub label_clear : (l : ℕ) → Clear (Label l ∷ [])
-label_clear l = record { all = refl }
 
 wanted_clear : (w : Wanted) (width : Width) {code : List Line} → Clear code → Clear (wanted w width code)
 wanted_clear Value width c = c
@@ -201,6 +199,8 @@ assigned_clear : {a b : List Line} (how : Storing) (place : Place) (access : Acc
 assigned_clear (storing.Left at stored) place access off ca cb = clear_then ca (clear_then (read_store_clear at stored) (narrow_clear (type_at access)))
 assigned_clear (storing.RightByte at low high) place access off ca cb = clear_then cb (clear_then (byte_through_clear at low high) (narrow_clear (type_at access)))
 assigned_clear (storing.RightWord at low high) place access off ca cb = clear_then cb (word_through_clear at low high)
+assigned_clear (storing.HeldByte at) place access off ca cb = clear_then ca (clear_then (keep_even {X = No}).clear (clear_then cb (clear_then (byte_behind_clear at) (narrow_clear (type_at access)))))
+assigned_clear (storing.HeldWord at) place access off ca cb = clear_then ca (clear_then (keep_even {X = No}).clear (clear_then cb (word_behind_clear at)))
 assigned_clear storing.Stacked place access off ca cb = clear_then ca (clear_then (hold_clear place) (clear_then cb (store_clear place access off)))
 
 jump_clear : (l : ℕ) → Clear (Do Jmp Absolute (To l) ∷ [])
@@ -262,7 +262,7 @@ mutual
       wanted_clear w (width_in t) (compound_clear f pushed op operands a b k (base_clear f pushed lo a k) (expr_clear f (behind_open f pushed operands a) (lo + uses None a) Value b k))
   node_clear f pushed lo w t (step how e) k =
       let place : Place = place_of f pushed e in
-      wanted_clear w (width_in t) (clear_then (base_clear f pushed lo e k) (step_clear how place (access_of (types_of f.parts.types) e) (amount_of f how (bare e)) (place_off f pushed e k)))
+      wanted_clear w (width_in t) (clear_then (base_clear f pushed (lo + 1) e k) (step_clear how (target_bytes f (bare e)) (amount_of f how (bare e)) place (access_of (types_of f.parts.types) e) lo (place_off f pushed e k)))
   node_clear f pushed lo w t (copy a b) k = wanted_clear w (width_in t) (clear_then (expr_clear f pushed lo Value a k) (clear_then (push_clear Ax) (clear_then (expr_clear f (more pushed 2) (lo + uses None a) Value b k) (copy_clear (type_bytes f (type_in t))))))
   node_clear f pushed lo w t (call g es) k =
       wanted_clear w (width_in t) (call_clear f (named g) (outcome_of f (type_in t)) g es (expr_clear f pushed lo Value g k) (args_clear f pushed lo (is_fast (bare g)) es k) (args_clear f (more pushed 2) (lo + uses None g) (is_fast (bare g)) es k))

@@ -22,7 +22,7 @@ use Rattle.c65_mach.specs.declared.rows.Mode.TheVariants.{IndirectY, Absolute}
 use Rattle.c65_code.specs.declared.line.Operand.{Operand}
 use Rattle.c65_code.specs.declared.line.Operand.TheVariants.{Zero, At}
 use Rattle.c65_code.specs.declared.line.Line.{Line}
-use Rattle.c65_code.specs.declared.line.Line.TheVariants.{Call, Do}
+use Rattle.c65_code.specs.declared.line.Line.TheVariants.{Label, Call, Do}
 use Rattle.c65_code.specs.declared.line.Callee.TheVariants.{Function, Pointer}
 use Rattle.c65_code.specs.declared.routine.Count.TheVariants.{Two as two_bytes}
 use Rattle.c65_code.specs.declared.routine.Routine.TheVariants.{PushA, PushAx, PushEax, LdAi, LdEaxi, Tos, Unary, IncSp, Library as library_routine}
@@ -65,7 +65,9 @@ use Rattle.c65_genexpr.specs.declared.operands.Operands.TheVariants.{Numbers, Po
 use Rattle.c65_genexpr.specs.declared.arguments.Passed.{Passed}
 use Rattle.c65_genexpr.specs.Places.{more, soft_code, code_at, object_code, rest_code}
 use Rattle.c65_genexpr.specs.Operands.{computes, between_code, difference_code, behind_code, unary_code, conversion_code, negative}
-use Rattle.c65_genexpr.specs.Steps.{is_post, back_code, step_code, open_code, close_code}
+use Rattle.c65_genchange.specs.Stepping.{is_post}
+use Rattle.c65_genexpr.specs.Held.{byte_behind_code, word_behind_code}
+use Rattle.c65_genexpr.specs.Steps.{back_code, long_step_code, open_code, close_code}
 use Rattle.c65_genexpr.specs.declared.types.Outcome.{Outcome}
 use Rattle.c65_genexpr.specs.declared.types.Outcome.TheVariants.{Nothing, Number, Area}
 use Rattle.c65_genexpr.specs.Types.{given_bytes}
@@ -87,6 +89,9 @@ clear_if false p q = q
 
 pub clear_none : Clear []
 clear_none = record { all = refl }
+
+pub label_clear : (l : ℕ) → Clear (Label l ∷ [])
+label_clear l = record { all = refl }
 
 -- a place that is not in regbank
 abbrev pub IsOff : Place → Type 0
@@ -400,8 +405,14 @@ back_clear : (access : Access) (n : ℕ) → Clear (back_code access n)
 back_clear (Whole kind) n = add_clear kind (negative n)
 back_clear (Part field) n = clear_then (add_clear field.kind (negative n)) (lowest_clear (record field { low = 0 }))
 
-pub step_clear : (how : StepKind) (place : Place) (access : Access) (n : ℕ) → IsOff place → Clear (step_code how place access n)
-step_clear how place access n off = clear_then (hold_clear place) (clear_then (load_clear (settled place) access) (clear_then (add_clear (type_in access) n) (clear_then (store_clear place access off) (clear_if (is_post how) (back_clear access n) clear_none))))
+pub byte_behind_clear : (at : ℕ) → Clear (byte_behind_code at)
+byte_behind_clear at = record { all = refl }
+
+pub word_behind_clear : (at : ℕ) → Clear (word_behind_code at)
+word_behind_clear at = record { all = refl }
+
+pub long_step_clear : (how : StepKind) (place : Place) (access : Access) (n : ℕ) → IsOff place → Clear (long_step_code how place access n)
+long_step_clear how place access n off = clear_then (hold_clear place) (clear_then (load_clear (settled place) access) (clear_then (add_clear (type_in access) n) (clear_then (store_clear place access off) (clear_if (is_post how) (back_clear access n) clear_none))))
 
 pub open_clear : (place : Place) (access : Access) (kind : IntType) → Clear (open_code place access kind)
 open_clear place access kind = clear_then (hold_clear place) (clear_then (load_clear (settled place) access) (clear_then (convert_clear (type_in access) kind) (push_clear (width_of kind))))

@@ -45,8 +45,8 @@ use Rattle.c65_genstmt.specs.Functions.{main_code, no_lines}
 use Rattle.c65_gen_law_stack.specs.Bank.{FunctionsLeaveRegbank}
 use Rattle.c65_gen_law_stack.proofs.EntryWay.{IsOrderly}
 use Rattle.c65_gen_law_stack.proofs.FrameOrder.{NotBank, frames_are_orderly, frames_without_bank, unkept, unmoved}
-use Rattle.c65_gen_law_stack.proofs.BankPieces.{pass_clear, Clear, clear_then, clear_if, clear_none, store_clear}
-use Rattle.c65_gen_law_stack.proofs.BankExprs.{IsBankless, label_clear, expr_clear}
+use Rattle.c65_gen_law_stack.proofs.BankPieces.{label_clear, pass_clear, Clear, clear_then, clear_if, clear_none, store_clear}
+use Rattle.c65_gen_law_stack.proofs.BankExprs.{IsBankless, expr_clear}
 use Rattle.c65_gen_law_stack.proofs.EffectClears.{effect_clear}
 
 -- ---- objects

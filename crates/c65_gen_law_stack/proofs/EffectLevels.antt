@@ -1,195 +1,34 @@
 -- Where the lines of expressions whose value is not used lead, and what waits there.
-use Rattle.std.proofs.Common.{◌≡◌, ℕ, ◌+◌, ◌==◌, ◌⊎◌, inl, inr, Bool, true, false, Option, Some, None, List, [], ◌∷◌, ◌++◌, refl, sym, subst}
-use Rattle.std.specs.Prelude.{if◌then◌else◌}
-use Rattle.std.specs.List.{list_all}
+use Rattle.std.proofs.Common.{◌≡◌, ℕ, ◌+◌, Option, Some, None, List, [], ◌++◌, refl}
 use Rattle.c65_base.specs.declared.operators.BinaryOp.{BinaryOp}
-use Rattle.c65_base.specs.declared.operators.BinaryOp.TheVariants as ops
 use Rattle.c65_base.specs.declared.operators.StepKind.{StepKind}
 use Rattle.c65_base.specs.declared.operators.StepKind.TheVariants.{PreInc, PreDec, PostInc, PostDec}
 use Rattle.c65_ctype.specs.Trees.{QTy}
 use Rattle.c65_ctype.specs.Views.{types_of}
 use Rattle.c65_csem.specs.Trees.{Typed, node, Node, convert, comma, assign, assign_op, assign_step, step}
-use Rattle.c65_mach.specs.declared.rows.Op.{Op}
-use Rattle.c65_mach.specs.declared.rows.Op.TheVariants.{Bcc, Bcs, Bne, Dec, Inc, Lda, Sbc, Sec, Sta, Txa}
-use Rattle.c65_mach.specs.declared.rows.Mode.TheVariants.{Relative}
 use Rattle.c65_code.specs.declared.line.Line.{Line}
-use Rattle.c65_code.specs.declared.line.Line.TheVariants.{Label}
 use Rattle.c65_genframe.specs.Frames.{Framed}
 use Rattle.c65_genwide.specs.Lines.{value}
 use Rattle.c65_genload.specs.declared.places.Place.{Place}
-use Rattle.c65_genload.specs.declared.places.Place.TheVariants as places
 use Rattle.c65_genload.specs.declared.places.Access.{Access}
-use Rattle.c65_genload.specs.Words.{tmp1, tmp2, implied, zero_page, branch}
-use Rattle.c65_genload.specs.Numbers.{first, second}
-use Rattle.c65_gendirect.specs.Words.{instruction, carry_code}
 use Rattle.c65_genexpr.specs.declared.wanted.Wanted.TheVariants.{Value}
 use Rattle.c65_genexpr.specs.Types.{bare, access_of, target_bytes}
 use Rattle.c65_genexpr.specs.Places.{place_of}
 use Rattle.c65_genexpr.specs.Uses.{uses}
 use Rattle.c65_genexpr.specs.Code.{node_code}
-use Rattle.c65_geneffect.specs.declared.spots.Spot.{Spot}
-use Rattle.c65_geneffect.specs.declared.spots.Spot.TheVariants.{Behind, Data, Zero}
-use Rattle.c65_geneffect.specs.declared.spots.Target.{Target}
-use Rattle.c65_geneffect.specs.declared.spots.Target.TheVariants.{Byte, Word}
-use Rattle.c65_geneffect.specs.declared.changes.Change.{Change}
-use Rattle.c65_geneffect.specs.declared.changes.Change.TheVariants.{Up, Down, Number, Operand}
+use Rattle.c65_genchange.specs.declared.changes.Change.{Change}
 use Rattle.c65_geneffect.specs.declared.changing.Changing.{Changing}
 use Rattle.c65_geneffect.specs.declared.changing.Changing.TheVariants.{Fixed, Loaded, Otherwise}
 use Rattle.c65_geneffect.specs.declared.changing.Fill.{Fill}
-use Rattle.c65_geneffect.specs.Spots.{point_code, reach_code, again_code}
-use Rattle.c65_geneffect.specs.Changes.{up_code, down_code, byte_code, is_neutral, skip_code, low_code, high_code, number_code, aside_code, taken_code, less_code, joined_code, more_code, operand_code, change_code}
 use Rattle.c65_geneffect.specs.Changing.{in_front, stepping_of, changing_of, filling_of}
 use Rattle.c65_geneffect.specs.Effects.{closed, fixed_code, stepped_by, changed_by, filled_or, changed_code, step_effect, effect_code, node_effect, effect_uses}
 use Rattle.c65_gen_law_lines.specs.Stack.{calls_of, node_calls}
-use Rattle.c65_gen_law_lines.proofs.Made.{is_plain}
-use Rattle.c65_gen_law_lines.proofs.Leaves.{Still, leaves_none}
 use Rattle.c65_gen_law_lines.proofs.Drops.{constant_idle}
 use Rattle.c65_gen_law_lines.proofs.EffectForms.{fill_piece, fill_still}
 use Rattle.c65_gen_law_lines.proofs.EffectFacts.{Unneeded, changing_unneeded, Unfilled, number_idle, filling_unneeded}
-use Rattle.c65_gen_law_stack.proofs.Levels.{Level, level_then, level_end, level_piece, level_label, level_leads, level_none, Closed, closed_then, closed_behind, closed_as}
-use Rattle.c65_gen_law_stack.proofs.EvenLines.{Labels, No, One, Both, At}
+use Rattle.c65_gen_law_stack.proofs.Levels.{level_piece, Closed, closed_then, closed_behind, closed_as}
 use Rattle.c65_gen_law_stack.proofs.ExprLevels.{left_calls, value_level, base_level}
-
--- ---- lines that leave what waits
-
--- the labels of P stand where it waits, and branches lead to labels that stand so, or elsewhere to one of X
-record Steady (P X : Labels) (a : List Line) : Type 0 where
-  level : (v : List ℕ) → Level (At P v) (At X v) [] v a v
-
-steady_end : {P Q X Y : Labels} {a : List Line} → Steady P X a → ((l : ℕ) → Q l → P l) → ((l : ℕ) → X l → P l ⊎ Y l) → Steady Q Y a
-steady_end p fewer closes = record {
-  level = λ v. level_end (p.level v) (λ l h z. (fewer l z.0, z.1)) (λ l h z. elim (closes l z.0) [ inl a ↦ inl (a, z.1) | inr y ↦ inr (y, z.1) ]);
-}
-
-steady_then : {P Q X : Labels} {a b : List Line} → Steady P X a → Steady Q X b → Steady (Both P Q) X (a ++ b)
-steady_then p q = record {
-  level = λ v. level_end (level_then (p.level v) (q.level v)) (λ l h z. elim z.0 [ inl a ↦ inl (a, z.1) | inr b ↦ inr (b, z.1) ]) (λ l h z. inr z);
-}
-
-steady_piece : {X : Labels} {a : List Line} → Still a → list_all is_plain a ≡ true → Steady No X a
-steady_piece still plain = record { level = λ v. level_end (level_piece (still v) plain) (λ l h z. z.0) (λ l h z. inr z) }
-
-steady_none : {X : Labels} → Steady No X []
-steady_none = steady_piece (λ v. leaves_none) refl
-
-steady_label : {X : Labels} (k : ℕ) → Steady (One k) X (Label k ∷ [])
-steady_label k = record { level = λ v. level_label k v }
-
-steady_if : {P X : Labels} (b : Bool) {x y : List Line} → Steady P X x → Steady P X y → Steady P X (if b then x else y)
-steady_if true p q = p
-steady_if false p q = q
-
-steady_on : {X : Labels} {a b : List Line} → Steady No X a → Steady No X b → Steady No X (a ++ b)
-steady_on p q = steady_end (steady_then p q) (λ l z. absurd z) (λ l z. inr z)
-
--- a label that stands there is no longer open
-steady_close : {P X : Labels} {a : List Line} (k : ℕ) → P k → Steady P (Both (One k) X) a → Steady No X a
-steady_close {P = P} {X = X} k here p = steady_end p (λ l z. absurd z) by
-  where
-    by : (l : ℕ) → Both (One k) X l → P l ⊎ X l
-    by l (inl e) = inl (subst (λ (x : ℕ). P x) (sym e) here)
-    by l (inr x) = inr x
-
-steady_branch : {X : Labels} (op : Op) (k : ℕ) → X k → Steady No X (branch op k ∷ [])
-steady_branch {X = X} op k x = record {
-  level = λ v. level_end (level_leads op Relative k v) (λ l h z. z.0) (λ l h z. inr (subst (λ (y : ℕ). X y) (sym z.0) x, z.1));
-}
-
-steady_closed : {a : List Line} → Steady No No a → (v : List ℕ) → Closed [] v a v
-steady_closed p v = level_end (p.level v) (λ l h z. absurd z) (λ l h z. inr z.0)
-
--- ---- a byte
-
-reach_steady : {X : Labels} (op : Op) (spot : Spot) → Steady No X (reach_code op spot)
-reach_steady op (Behind pointer at) = steady_piece (λ v. record { to = λ calls. refl }) refl
-reach_steady op (Data sym at) = steady_piece (λ v. record { to = λ calls. refl }) refl
-reach_steady op (Zero at) = steady_piece (λ v. record { to = λ calls. refl }) refl
-
-again_steady : {X : Labels} (op : Op) (spot : Spot) → Steady No X (again_code op spot)
-again_steady op (Behind pointer at) = steady_piece (λ v. record { to = λ calls. refl }) refl
-again_steady op (Data sym at) = steady_piece (λ v. record { to = λ calls. refl }) refl
-again_steady op (Zero at) = steady_piece (λ v. record { to = λ calls. refl }) refl
-
-carry_steady : {X : Labels} (op : BinaryOp) → Steady No X (carry_code op)
-carry_steady ops.Add = steady_piece (λ v. record { to = λ calls. refl }) refl
-carry_steady ops.Sub = steady_piece (λ v. record { to = λ calls. refl }) refl
-carry_steady _ = steady_none
-
--- ---- forms
-
-up_steady : (target : Target) (label : ℕ) → Steady No No (up_code target label)
-up_steady (Byte low) label = steady_close label (inr refl) (steady_then (reach_steady Inc low) (steady_label label))
-up_steady (Word low high) label = steady_close label (inr (inr (inr refl))) (steady_then (reach_steady Inc low) (steady_then (steady_branch Bne label (inl refl)) (steady_then (reach_steady Inc high) (steady_label label))))
-
-down_steady : (target : Target) (label : ℕ) → Steady No No (down_code target label)
-down_steady (Byte low) label = steady_close label (inr refl) (steady_then (reach_steady Dec low) (steady_label label))
-down_steady (Word low high) label =
-    steady_close label (inr (inr (inr (inl refl)))) (steady_then (reach_steady Lda low) (steady_then (steady_branch Bne label (inl refl)) (steady_then (reach_steady Dec high) (steady_then (steady_label label) (reach_steady Dec low)))))
-
-byte_steady : {X : Labels} (op : BinaryOp) (n : ℕ) (spot : Spot) → Steady No X (byte_code op n spot)
-byte_steady {X = X} op n spot =
-    let own : Steady No X (value (instruction op) n ∷ []) = steady_piece (λ v. record { to = λ calls. refl }) refl in
-    steady_on own (again_steady Sta spot)
-
-low_steady : {X : Labels} (op : BinaryOp) (n : ℕ) (spot : Spot) → Steady No X (low_code op n spot)
-low_steady op n spot = steady_if (is_neutral op n) steady_none (steady_on (reach_steady Lda spot) (steady_on (carry_steady op) (byte_steady op n spot)))
-
-skip_steady : {X : Labels} (op : BinaryOp) (n label : ℕ) → X label → Steady No X (skip_code op n label)
-skip_steady ops.Add n label x = steady_if (n == 0) (steady_branch Bcc label x) steady_none
-skip_steady ops.Sub n label x = steady_if (n == 0) (steady_branch Bcs label x) steady_none
-skip_steady _ n label x = steady_none
-
-high_steady : {X : Labels} (op : BinaryOp) (n : ℕ) (spot : Spot) (label : ℕ) → X label → Steady No X (high_code op n spot label)
-high_steady op n spot label x = steady_if (is_neutral op n) steady_none (steady_on (skip_steady op n label x) (steady_on (reach_steady Lda spot) (byte_steady op n spot)))
-
-number_steady : (op : BinaryOp) (n : ℕ) (target : Target) (label : ℕ) → Steady No No (number_code op n target label)
-number_steady op n (Byte low) label = steady_close label (inr refl) (steady_then (low_steady op (first n) low) (steady_label label))
-number_steady op n (Word low high) label = steady_close label (inr (inr refl)) (steady_then (low_steady op (first n) low) (steady_then (high_steady op (second n) high label (inl refl)) (steady_label label)))
-
-taken_steady : {X : Labels} (at : ℕ) (spot : Spot) → Steady No X (taken_code at spot)
-taken_steady {X = X} at spot =
-    let own : Steady No X (zero_page Sbc at ∷ []) = steady_piece (λ v. record { to = λ calls. refl }) refl in
-    steady_on own (again_steady Sta spot)
-
-less_steady : {X : Labels} (target : Target) → Steady No X (less_code target)
-less_steady {X = X} (Byte low) =
-    let kept : Steady No X (zero_page Sta tmp1 ∷ []) = steady_piece (λ v. record { to = λ calls. refl }) refl in
-    let sec : Steady No X (implied Sec ∷ []) = steady_piece (λ v. record { to = λ calls. refl }) refl in
-    steady_on kept (steady_on (reach_steady Lda low) (steady_on sec (taken_steady tmp1 low)))
-less_steady {X = X} (Word low high) =
-    let kept : Steady No X aside_code = steady_piece (λ v. record { to = λ calls. refl }) refl in
-    let sec : Steady No X (implied Sec ∷ []) = steady_piece (λ v. record { to = λ calls. refl }) refl in
-    steady_on kept (steady_on (reach_steady Lda low) (steady_on sec (steady_on (taken_steady tmp1 low) (steady_on (reach_steady Lda high) (taken_steady tmp2 high)))))
-
-joined_steady : {X : Labels} (op : BinaryOp) (spot : Spot) → Steady No X (joined_code op spot)
-joined_steady op spot = steady_on (reach_steady (instruction op) spot) (again_steady Sta spot)
-
-more_steady : {X : Labels} (op : BinaryOp) (target : Target) → Steady No X (more_code op target)
-more_steady op (Byte low) = steady_on (carry_steady op) (joined_steady op low)
-more_steady {X = X} op (Word low high) =
-    let txa : Steady No X (implied Txa ∷ []) = steady_piece (λ v. record { to = λ calls. refl }) refl in
-    steady_on (carry_steady op) (steady_on (joined_steady op low) (steady_on txa (joined_steady op high)))
-
-operand_steady : {X : Labels} (op : BinaryOp) (target : Target) → Steady No X (operand_code op target)
-operand_steady ops.Sub target = less_steady target
-operand_steady op target = more_steady op target
-
-change_steady : (change : Change) (label : ℕ) → Steady No No (change_code change label)
-change_steady (Up target) label = up_steady target label
-change_steady (Down target) label = down_steady target label
-change_steady (Number op n target) label = number_steady op n target label
-change_steady (Operand op target) label = steady_close label (inr refl) (steady_then (operand_steady op target) (steady_label label))
-
-change_level : (change : Change) (label : ℕ) (v : List ℕ) → Closed [] v (change_code change label) v
-change_level change label v = steady_closed (change_steady change label) v
-
-point_level : (place : Place) (v : List ℕ) → Closed [] v (point_code place) v
-point_level (places.Far at) v = level_piece (record { to = λ calls. refl }) refl
-point_level (places.Bank b) v = level_none
-point_level (places.Near at) v = level_none
-point_level (places.Data s at) v = level_none
-
--- ---- the whole tree
+use Rattle.c65_gen_law_stack.proofs.ChangeLevels.{steady_label, steady_close, steady_closed, change_level, point_level}
 
 abbrev Lasting : List (List ℕ) → List Line → Type 0
 Lasting cs a = (v : List ℕ) → Closed cs v a v
@@ -202,7 +41,7 @@ closed_level label d v = closed_behind (d v) (steady_closed (steady_close label 
 
 stepped_level : {cs : List (List ℕ)} {base whole : List Line} (form : Option Change) (place : Place) (label : ℕ) → Lasting cs base → Lasting cs whole → Lasting cs (stepped_by form place label base whole)
 stepped_level (Some change) place label db dw = fixed_level change place label db
-stepped_level None place label db dw = closed_level label dw
+stepped_level None place label db dw = dw
 
 changed_level : {cs ds : List (List ℕ)} {left right whole : List Line} (how : Changing) (place : Place) (label : ℕ) → Unneeded how (ds ≡ []) → Lasting cs left → Lasting ds right → Lasting (cs ++ ds) whole
     → Lasting (cs ++ ds) (changed_by how place label left right whole)
@@ -215,7 +54,7 @@ filled_level {cs = cs} ds (Some fill) unneeded db dw v =
     closed_as (left_calls cs ds unneeded) (closed_behind (db v) (level_piece (fill_still fill.byte fill.low fill.high v) (fill_piece fill.byte fill.low fill.high).plain))
 filled_level ds None unneeded db dw v = dw v
 
-step_level : (f : Framed) (pushed lo : ℕ) (t : QTy) (how : StepKind) (e : Typed) → Lasting (calls_of f e) (node_code f pushed (lo + 1) Value t (step (in_front how) e)) → Lasting (calls_of f e) (step_effect f pushed lo how e)
+step_level : (f : Framed) (pushed lo : ℕ) (t : QTy) (how : StepKind) (e : Typed) → Lasting (calls_of f e) (node_code f pushed lo Value t (step (in_front how) e)) → Lasting (calls_of f e) (step_effect f pushed lo how e)
 step_level f pushed lo t how e whole =
     let place : Place = place_of f pushed e in
     stepped_level (stepping_of how (target_bytes f (bare e)) place (access_of (types_of f.parts.types) e)) place lo (base_level f pushed (lo + 1) e) whole
@@ -240,8 +79,8 @@ mutual
       filled_level (calls_of f b) (filling_of place access b) (filling_unneeded _ place access b (λ n h. (number_idle f b n h).calls)) (base_level f pushed lo a) (value_level f pushed lo (node t (assign a b)))
   node_effect_level f pushed lo t (assign_op op k a b) = op_level f pushed lo op 1 a b (node_code f pushed (lo + 1) Value t (assign_op op k a b)) (value_level f pushed (lo + 1) (node t (assign_op op k a b)))
   node_effect_level f pushed lo t (assign_step op a b) = op_level f pushed lo op (target_bytes f (bare a)) a b (node_code f pushed (lo + 1) Value t (assign_step op a b)) (value_level f pushed (lo + 1) (node t (assign_step op a b)))
-  node_effect_level f pushed lo t (step PreInc e) = step_level f pushed lo t PreInc e (value_level f pushed (lo + 1) (node t (step PreInc e)))
-  node_effect_level f pushed lo t (step PreDec e) = step_level f pushed lo t PreDec e (value_level f pushed (lo + 1) (node t (step PreDec e)))
-  node_effect_level f pushed lo t (step PostInc e) = step_level f pushed lo t PostInc e (value_level f pushed (lo + 1) (node t (step PreInc e)))
-  node_effect_level f pushed lo t (step PostDec e) = step_level f pushed lo t PostDec e (value_level f pushed (lo + 1) (node t (step PreDec e)))
+  node_effect_level f pushed lo t (step PreInc e) = step_level f pushed lo t PreInc e (value_level f pushed lo (node t (step PreInc e)))
+  node_effect_level f pushed lo t (step PreDec e) = step_level f pushed lo t PreDec e (value_level f pushed lo (node t (step PreDec e)))
+  node_effect_level f pushed lo t (step PostInc e) = step_level f pushed lo t PostInc e (value_level f pushed lo (node t (step PreInc e)))
+  node_effect_level f pushed lo t (step PostDec e) = step_level f pushed lo t PostDec e (value_level f pushed lo (node t (step PreDec e)))
   node_effect_level f pushed lo t n = value_level f pushed lo (node t n)

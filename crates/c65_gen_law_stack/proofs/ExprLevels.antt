@@ -70,9 +70,9 @@ use Rattle.c65_genexpr.specs.Uses.{uses, by_relation}
 use Rattle.c65_genexpr.specs.Code.{width_in, tested_load, load_by, behind_open, compound, call_by, expr_code, node_code, base_code, pointer_base_code, args_code}
 use Rattle.c65_gen_law_lines.specs.Stack.{waiting_by, taken, left, waits, argument_bytes, passed, unless_named, calls_of, node_calls, args_calls}
 use Rattle.c65_gen_law_lines.proofs.Made.{is_plain, piece_append}
-use Rattle.c65_gen_law_lines.proofs.Pieces.{narrow_piece, read_store_piece, byte_through_piece, word_through_piece, symbol_piece, offset_piece, object_piece, conversion_piece, push_piece, argument_piece, hold_piece, part_piece, load_piece, store_piece, copy_piece, spill_piece, further_piece, unary_piece, between_piece, behind_piece, wide_piece, step_piece, open_piece, close_piece, named_piece, pointer_piece, direct_piece}
+use Rattle.c65_gen_law_lines.proofs.Pieces.{narrow_piece, keep_piece, byte_behind_piece, word_behind_piece, read_store_piece, byte_through_piece, word_through_piece, symbol_piece, offset_piece, object_piece, conversion_piece, push_piece, argument_piece, hold_piece, part_piece, load_piece, store_piece, copy_piece, spill_piece, further_piece, unary_piece, between_piece, behind_piece, wide_piece, open_piece, close_piece, named_piece, pointer_piece, direct_piece}
 use Rattle.c65_gen_law_lines.proofs.Leaves.{waits_append, Leaves, leaves_then, leaves_none, Still}
-use Rattle.c65_gen_law_lines.proofs.StackPieces.{narrow_still, read_store_still, byte_through_still, word_through_still, object_still, further_still, offset_still, conversion_still, push_leaves, argument_leaves, holding, hold_leaves, bytes_still, load_still, stored_leaves, copy_leaves, spill_still, unary_still, between_leaves, behind_leaves, wide_leaves, step_still, open_leaves, close_leaves}
+use Rattle.c65_gen_law_lines.proofs.StackPieces.{narrow_still, keep_still, byte_behind_still, word_behind_still, read_store_still, byte_through_still, word_through_still, object_still, further_still, offset_still, conversion_still, push_leaves, argument_leaves, holding, hold_leaves, bytes_still, load_still, stored_leaves, copy_leaves, spill_still, unary_still, between_leaves, behind_leaves, wide_leaves, open_leaves, close_leaves}
 use Rattle.c65_gen_law_lines.proofs.Drops.{Unstored, storing_calls, sum_calls}
 use Rattle.c65_gen_law_lines.proofs.StackLaws.{nothing_more}
 use Rattle.c65_gen_law_stack.proofs.Levels.{Level, Nowhere, level_then, level_end, level_behind, level_plain, level_piece, level_none, Closed, closed_open, closed_then, closed_behind, closed_as}
@@ -80,6 +80,7 @@ use Rattle.c65_gen_law_stack.proofs.EvenLines.{Labels, No, One, Both, At, Even, 
 use Rattle.c65_gen_law_stack.proofs.EvenShifts.{elements_even}
 use Rattle.c65_gen_law_stack.proofs.EvenDirects.{byte_even, compare_even, compare_byte_even, zero_test_even, truth_even}
 use Rattle.c65_gen_law_stack.proofs.EvenForms.{Aim, value_test_even, routine_test_even, constant_even, keep_even, form_even}
+use Rattle.c65_gen_law_stack.proofs.StepLevels.{step_level}
 use Rattle.c65_gen_law_stack.proofs.ReadSides.{Reaches, direct_reached, First, Compared, compared_reached, or_held_reached, tested_reached, Operated, operating_reached}
 
 -- a piece of lines behind closed ones, and before
@@ -360,6 +361,10 @@ assigned_level {cs = cs} {ds = ds} {v = v} (storing.Left at stored) place access
 assigned_level {cs = cs} {ds = ds} {v = v} (storing.RightByte at low high) place access unread da db =
     closed_as (right_calls cs ds unread) (behind (db v) (leaves_then (byte_through_still at low high v) (narrow_still (type_at access) v)) (piece_append 22 3 _ _ (byte_through_piece at low high) (narrow_piece (type_at access))).plain)
 assigned_level {cs = cs} {ds = ds} {v = v} (storing.RightWord at low high) place access unread da db = closed_as (right_calls cs ds unread) (behind (db v) (word_through_still at low high v) (word_through_piece at low high).plain)
+assigned_level {v = v} (storing.HeldByte at) place access unread da db =
+    closed_then (da v) (before (keep_still v) keep_piece.plain (behind (db v) (leaves_then (byte_behind_still at v) (narrow_still (type_at access) v)) (piece_append 4 3 _ _ (byte_behind_piece at) (narrow_piece (type_at access))).plain))
+assigned_level {v = v} (storing.HeldWord at) place access unread da db =
+    closed_then (da v) (before (keep_still v) keep_piece.plain (behind (db v) (word_behind_still at v) (word_behind_piece at).plain))
 assigned_level {v = v} storing.Stacked place access unread da db =
     closed_then (da v) (before (hold_leaves place v) (hold_piece place).plain (behind (db (holding place v)) (stored_leaves place access v) (store_piece place access).plain))
 
@@ -457,7 +462,7 @@ mutual
   node_level f pushed lo w t (step how e) v =
       let place : Place = place_of f pushed e in
       let access : Access = access_of (types_of f.parts.types) e in
-      wanted_level w (width_in t) (behind (base_level f pushed lo e v) (step_still how place access (amount_of f how (bare e)) v) (step_piece how place access (amount_of f how (bare e))).plain)
+      wanted_level w (width_in t) (closed_behind (base_level f pushed (lo + 1) e v) (step_level how (target_bytes f (bare e)) (amount_of f how (bare e)) place access lo v))
   node_level f pushed lo w t (copy a b) v =
       wanted_level w (width_in t) (closed_then (value_level f pushed lo a v) (before (push_leaves Ax v) (push_piece Ax).plain (behind (value_level f (more pushed 2) (lo + uses None a) b (2 ∷ v)) (copy_leaves (type_bytes f (type_in t)) v) (copy_piece (type_bytes f (type_in t))).plain)))
   node_level f pushed lo w t (call g es) v =

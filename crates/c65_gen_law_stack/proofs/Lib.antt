@@ -11,6 +11,8 @@ pub mod EvenShifts
 pub mod EvenDirects
 pub mod EvenForms
 pub mod ReadSides
+pub mod ChangeLevels
+pub mod StepLevels
 pub mod ExprLevels
 pub mod EffectLevels
 pub mod BlockLevels
@@ -21,12 +23,15 @@ pub mod LineMoves
 pub mod ParameterLaws
 pub mod CallMoves
 pub mod BankPieces
+pub mod ChangeClears
+pub mod StepClears
 pub mod BankExprs
 pub mod EffectClears
 pub mod BankStmts
 pub mod BankMoves
 pub mod WalkLaws
 pub mod LightPieces
+pub mod StepSpares
 pub mod LightExprs
 pub mod LightMoves
 pub mod ZeroMoves

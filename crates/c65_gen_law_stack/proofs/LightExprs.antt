@@ -1,13 +1,13 @@
 -- The lines of a light expression leave ptr2.
-use Rattle.std.proofs.Common.{◌≡◌, ℕ, ◌+◌, ◌==◌, Bool, true, false, Option, Some, None, List, refl}
-use Rattle.std.specs.Prelude.{nat_le, ◌&&◌, if◌then◌else◌}
+use Rattle.std.proofs.Common.{◌≡◌, ℕ, ℤ, not, ◌+◌, ◌==◌, Bool, true, false, Option, Some, None, List, ◌++◌, refl}
+use Rattle.std.specs.Prelude.{nat_le, ◌&&◌, if◌then◌else◌, option_and_then}
 use Rattle.std.proofs.lemmas.Bool.{and_parts}
 use Rattle.c65_base.specs.declared.operators.BinaryOp.{BinaryOp}
 use Rattle.c65_base.specs.declared.operators.BinaryOp.TheVariants as ops
 use Rattle.c65_ints.specs.declared.types.IntType.{IntType}
-use Rattle.c65_ctype.specs.Trees.{type_in}
+use Rattle.c65_ctype.specs.Trees.{QTy, type_in}
 use Rattle.c65_ctype.specs.Views.{types_of}
-use Rattle.c65_csem.specs.Trees.{Typed, node, constant, null, literal, object, func, deref, member, load, address, decay, convert, binary}
+use Rattle.c65_csem.specs.Trees.{Typed, node, constant, null, literal, object, func, Node, deref, member, load, address, decay, convert, binary, step}
 use Rattle.c65_code.specs.declared.line.Line.{Line}
 use Rattle.c65_code.specs.declared.routine.Width.TheVariants.{Ax}
 use Rattle.c65_genframe.specs.Frames.{Framed}
@@ -17,21 +17,27 @@ use Rattle.c65_genload.specs.declared.places.Place.{Place}
 use Rattle.c65_genload.specs.declared.places.Place.TheVariants as places
 use Rattle.c65_genload.specs.declared.places.Place.TheVariants.{Far}
 use Rattle.c65_genload.specs.declared.places.Access.{Access}
+use Rattle.c65_genload.specs.declared.places.Access.TheVariants.{Whole, Part}
+use Rattle.c65_genload.specs.Places.{extent_of}
+use Rattle.c65_genload.specs.Loads.{load_code}
 use Rattle.c65_genload.specs.Conversions.{waiting}
 use Rattle.c65_gendirect.specs.declared.relation.Relation.{Relation}
 use Rattle.c65_gendirect.specs.Compare.{relation_of}
 use Rattle.c65_genexpr.specs.declared.operands.Operands.{Operands}
+use Rattle.c65_genexpr.specs.declared.operands.Operands.TheVariants.{Numbers, PointerFirst, PointerLast, Pointers}
 use Rattle.c65_genexpr.specs.declared.operating.Operating.{Operating}
 use Rattle.c65_genexpr.specs.declared.operating.Operating.TheVariants as operating
 use Rattle.c65_genexpr.specs.declared.wanted.Wanted.TheVariants.{Value}
-use Rattle.c65_genexpr.specs.Types.{kind_in, bare, offset_at, access_of}
+use Rattle.c65_genexpr.specs.Types.{kind_in, bare, offset_at, access_of, target_bytes}
 use Rattle.c65_genexpr.specs.Places.{moved, has_base, added_bytes, sum_has_base, sum_place, object_place, place_of, target_of, object_code, target_code}
 use Rattle.c65_genexpr.specs.Operands.{residue_of, constant_in, operands_of, computes}
-use Rattle.c65_genexpr.specs.Operating.{takes_bytes, is_light_form, is_light_place, is_light_access, is_light_conversion, is_light_operator, is_light, reading_of, held_form, held_if, or_held, below_operand, operator_by}
+use Rattle.c65_genexpr.specs.Operating.{takes_bytes, is_light_form, is_light_place, is_signed_char, is_light_extent, is_light_load, is_light_step, constant_form, by_right, is_light_conversion, is_light_operator, is_light, reading_of, held_form, held_if, or_held, below_operand, operator_by}
+use Rattle.c65_genexpr.specs.Steps.{amount_of}
 use Rattle.c65_genexpr.specs.Uses.{by_relation, uses}
-use Rattle.c65_genexpr.specs.Code.{width_in, expr_code, base_code, pointer_base_code}
+use Rattle.c65_genexpr.specs.Code.{width_in, expr_code, node_code, base_code, pointer_base_code}
 use Rattle.c65_gen_law_stack.specs.Light.{LightLinesLeavePtr2}
-use Rattle.c65_gen_law_stack.proofs.LightPieces.{Spares, spares_then, spares_none, spares_label, number_spares, symbol_spares, offset_spares, load_spares, object_spares, conversion_spares, form_spares}
+use Rattle.c65_gen_law_stack.proofs.StepSpares.{step_spares}
+use Rattle.c65_gen_law_stack.proofs.LightPieces.{Spares, spares_then, spares_if, narrow_spares, few_spares, spares_none, spares_label, number_spares, symbol_spares, offset_spares, load_spares, object_spares, conversion_spares, form_spares}
 
 target_spares : (code : List Line) (place : Place) → is_light_place place ≡ true → Spares (target_code place code)
 target_spares code (places.Far at) h = absurd cc
@@ -111,33 +117,94 @@ by_relation_spares ops.BitXor g h p = p
 by_relation_spares ops.BitOr g h p = p
 by_relation_spares _ g h p = absurd cc
 
-light_spares : (f : Framed) (pushed lo : ℕ) (e : Typed) → is_light f pushed e ≡ true → Spares (expr_code f pushed lo Value e)
-light_spares f pushed lo (node t (constant z)) h = number_spares (width_in t) (residue_of z)
-light_spares f pushed lo (node t null) h = number_spares Ax 0
-light_spares f pushed lo (node t (literal n)) h = symbol_spares (literal_symbol (numbers_of f.parts) n) 0
-light_spares f pushed lo (node t (func i)) h = symbol_spares (function_symbol (numbers_of f.parts) i) 0
-light_spares f pushed lo (node t (object i)) h = object_spares f pushed i h
-light_spares f pushed lo (node t (deref e)) h = light_spares f pushed lo e h
-light_spares f pushed lo (node t (address e)) h = light_spares f pushed lo e h
-light_spares f pushed lo (node t (decay e)) h = light_spares f pushed lo e h
-light_spares f pushed lo (node t (member e m)) h = spares_then (light_spares f pushed lo e h) (offset_spares (offset_at (types_of f.parts.types) (bare e) m))
-light_spares f pushed lo (node t (load e)) h =
-    let place : Place = place_of f pushed e in
-    let access : Access = access_of (types_of f.parts.types) e in
-    let both = and_parts (is_light_place place) (is_light_access access) h in
-    spares_then (base_spares f pushed lo e both.0) (load_spares place access both.0 both.1)
-light_spares f pushed lo (node t (convert e)) h =
-    let both = and_parts (is_light_conversion (type_in t) (kind_in e)) (is_light f pushed e) h in
-    spares_then (light_spares f pushed lo e both.1) (conversion_spares (type_in t) (kind_in e) both.0)
-light_spares f pushed lo (node t (binary op a b)) h =
-    let operands : Operands = operands_of f (bare a) (bare b) in
-    let reading : Operating = reading_of f pushed op operands a b in
-    let held : Operating = held_if (is_light f pushed b) (held_form op operands) in
-    let both = and_parts (takes_bytes op) (is_light_operator reading (is_light f pushed a) (is_light f pushed b)) h in
-    by_relation_spares op _ both.0
-    (operator_spares (λ n. expr_code f n (lo + 1 + uses None a) Value b) reading held op operands (kind_in b) lo pushed (waiting (width_of (computes operands))) (is_light f pushed a) (is_light f pushed b) both.1
-    (light_spares f pushed (lo + 1) a) (light_spares f pushed (lo + 1 + uses None a) b))
-light_spares f pushed lo (node t _) h = absurd cc
+-- where a sum is told with its pointer, that is the operand whose lines are taken
+pointer_light : (place : Place) (op : BinaryOp) (operands : Operands) (z : Option ℤ) (other : Operating) (la lb : Bool) → sum_has_base place (added_bytes op operands z) ≡ true
+    → is_light_operator (by_right (option_and_then (λ y. constant_form op operands (residue_of y)) z) other) la lb ≡ true → la ≡ true
+pointer_light place ops.Add (PointerFirst size) (Some z) other la lb told h = h
+pointer_light place ops.Add (PointerFirst size) None other la lb told h = absurd cc
+pointer_light place ops.Add (Numbers kind) z other la lb told h = absurd cc
+pointer_light place ops.Add (PointerLast size) z other la lb told h = absurd cc
+pointer_light place ops.Add (Pointers size) z other la lb told h = absurd cc
+pointer_light place _ operands z other la lb told h = absurd cc
+
+-- lines of one place or another
+placed_spares : {a b : List Line} (c : Bool) → (c ≡ true → Spares a) → Spares b → Spares (if c then a else b)
+placed_spares true p q = p refl
+placed_spares false p q = q
+
+-- the base of a step's place: its address is light, or it has labels alone
+stepping_spares : {a : List Line} (place : Place) (access : Access) (light : Bool) → is_light_step place access light ≡ true → (is_light_place place ≡ true → Spares a) → (light ≡ true → Spares a) → Spares a
+stepping_spares place (Part field) light h known far = absurd cc
+stepping_spares (places.Far at) (Whole kind) light h known far = far (and_parts (not (is_signed_char kind)) light (and_parts (is_light_extent (extent_of kind)) (not (is_signed_char kind) && light) h).1).1
+stepping_spares (places.Bank b) (Whole kind) light h known far = known refl
+stepping_spares (places.Near at) (Whole kind) light h known far = known refl
+stepping_spares (places.Data s at) (Whole kind) light h known far = known refl
+
+loading_spares : {a : List Line} (place : Place) (access : Access) (light : Bool) → is_light_load place access light ≡ true → (is_light_place place ≡ true → Spares a) → (light ≡ true → Spares a) → Spares (a ++ load_code place access)
+loading_spares (places.Far at) (Whole kind) light h known far =
+    let outer = and_parts (is_light_extent (extent_of kind)) (not (is_signed_char kind) && light) h in
+    let inner = and_parts (not (is_signed_char kind)) light outer.1 in
+    spares_then (far inner.1) (spares_then (few_spares (places.Far at) (extent_of kind) outer.0) (narrow_spares kind inner.0))
+loading_spares (places.Far at) (Part field) light h known far = absurd cc
+loading_spares (places.Bank b) access light h known far = spares_then (known refl) (load_spares (places.Bank b) access refl h)
+loading_spares (places.Near at) access light h known far = spares_then (known refl) (load_spares (places.Near at) access refl h)
+loading_spares (places.Data s at) access light h known far = spares_then (known refl) (load_spares (places.Data s at) access refl h)
+
+mutual
+  light_spares : (f : Framed) (pushed lo : ℕ) (e : Typed) → is_light f pushed e ≡ true → Spares (expr_code f pushed lo Value e)
+  light_spares f pushed lo (node t n) h = node_spares f pushed lo t n h
+
+  node_spares : (f : Framed) (pushed lo : ℕ) (t : QTy) (n : Node) → is_light f pushed (node t n) ≡ true → Spares (node_code f pushed lo Value t n)
+  node_spares f pushed lo t (constant z) h = number_spares (width_in t) (residue_of z)
+  node_spares f pushed lo t null h = number_spares Ax 0
+  node_spares f pushed lo t (literal n) h = symbol_spares (literal_symbol (numbers_of f.parts) n) 0
+  node_spares f pushed lo t (func i) h = symbol_spares (function_symbol (numbers_of f.parts) i) 0
+  node_spares f pushed lo t (object i) h = object_spares f pushed i h
+  node_spares f pushed lo t (deref e) h = light_spares f pushed lo e h
+  node_spares f pushed lo t (address e) h = light_spares f pushed lo e h
+  node_spares f pushed lo t (decay e) h = light_spares f pushed lo e h
+  node_spares f pushed lo t (member e m) h = spares_then (light_spares f pushed lo e h) (offset_spares (offset_at (types_of f.parts.types) (bare e) m))
+  node_spares f pushed lo t (load e) h =
+      loading_spares (place_of f pushed e) (access_of (types_of f.parts.types) e) (is_light f pushed e) h (base_spares f pushed lo e) (far_spares f pushed lo e)
+  node_spares f pushed lo t (step how e) h =
+      let place : Place = place_of f pushed e in
+      let access : Access = access_of (types_of f.parts.types) e in
+      spares_then (stepping_spares place access (is_light f pushed e) h (base_spares f pushed (lo + 1) e) (far_spares f pushed (lo + 1) e))
+      (step_spares how (target_bytes f (bare e)) (amount_of f how (bare e)) place access lo (is_light f pushed e) h)
+  node_spares f pushed lo t (convert e) h =
+      let both = and_parts (is_light_conversion (type_in t) (kind_in e)) (is_light f pushed e) h in
+      spares_then (light_spares f pushed lo e both.1) (conversion_spares (type_in t) (kind_in e) both.0)
+  node_spares f pushed lo t (binary op a b) h =
+      let operands : Operands = operands_of f (bare a) (bare b) in
+      let reading : Operating = reading_of f pushed op operands a b in
+      let held : Operating = held_if (is_light f pushed b) (held_form op operands) in
+      let both = and_parts (takes_bytes op) (is_light_operator reading (is_light f pushed a) (is_light f pushed b)) h in
+      by_relation_spares op _ both.0
+      (operator_spares (λ n. expr_code f n (lo + 1 + uses None a) Value b) reading held op operands (kind_in b) lo pushed (waiting (width_of (computes operands))) (is_light f pushed a) (is_light f pushed b) both.1
+      (light_spares f pushed (lo + 1) a) (light_spares f pushed (lo + 1 + uses None a) b))
+  node_spares f pushed lo t _ h = absurd cc
+
+  -- the base of a place whose address is light
+  far_spares : (f : Framed) (pushed lo : ℕ) (e : Typed) → is_light f pushed e ≡ true → Spares (base_code f pushed lo e)
+  far_spares f pushed lo (node t (literal n)) h = spares_none
+  far_spares f pushed lo (node t (object i)) h = target_spares (object_code f pushed i) (object_place f pushed i) h
+  far_spares f pushed lo (node t (deref e)) h = far_pointer_spares f pushed lo e h
+  far_spares f pushed lo (node t (member e m)) h =
+      let n : ℕ = offset_at (types_of f.parts.types) (bare e) m in
+      spares_if (has_base (place_of f pushed e) n) (far_spares f pushed lo e h) (spares_then (light_spares f pushed lo e h) (offset_spares n))
+  far_spares f pushed lo (node t n) h = node_spares f pushed lo t n h
+
+  far_pointer_spares : (f : Framed) (pushed lo : ℕ) (e : Typed) → is_light f pushed e ≡ true → Spares (pointer_base_code f pushed lo e)
+  far_pointer_spares f pushed lo (node t (binary op a b)) h =
+      let operands : Operands = operands_of f (bare a) (bare b) in
+      let place : Place = target_of f pushed a in
+      let both = and_parts (takes_bytes op) (is_light_operator (reading_of f pushed op operands a b) (is_light f pushed a) (is_light f pushed b)) h in
+      placed_spares (sum_has_base place (added_bytes op operands (constant_in b)))
+      (λ told. spares_then (spares_label lo) (far_pointer_spares f pushed (lo + 1) a (pointer_light place op operands (constant_in b) _ (is_light f pushed a) (is_light f pushed b) told both.1)))
+      (node_spares f pushed lo t (binary op a b) h)
+  far_pointer_spares f pushed lo (node t (address e)) h = far_spares f pushed lo e h
+  far_pointer_spares f pushed lo (node t (decay e)) h = far_spares f pushed lo e h
+  far_pointer_spares f pushed lo (node t n) h = node_spares f pushed lo t n h
 
 pub light_lines_leave_ptr2 : LightLinesLeavePtr2
 light_lines_leave_ptr2 f pushed lo e light = (light_spares f pushed lo e light).all

@@ -50,7 +50,7 @@ use Rattle.c65_genexpr.specs.Places.{more, soft_code, soft_place, code_at, place
 use Rattle.c65_genexpr.specs.Operands.{conversion_code}
 use Rattle.c65_genexpr.specs.declared.operating.Form.{Form}
 use Rattle.c65_genexpr.specs.declared.operating.Form.TheVariants as forms
-use Rattle.c65_genexpr.specs.Operating.{is_signed_char, is_light_form, is_light_place, is_light_access, is_light_to, is_light_conversion, placed, form_code}
+use Rattle.c65_genexpr.specs.Operating.{is_signed_char, is_light_form, is_light_place, is_light_extent, is_light_access, is_light_to, is_light_conversion, placed, form_code}
 use Rattle.c65_gen_law_stack.specs.Light.{leaves_ptr2, lies_beside}
 
 -- lines that leave ptr2
@@ -85,7 +85,7 @@ symbol_spares s at = record { all = refl }
 pub offset_spares : (n : ℕ) → Spares (offset_code n)
 offset_spares n = let one : Spares (add_word_code n) = record { all = refl } in spares_if (n == 0) spares_none (spares_then one spares_none)
 
-narrow_spares : (kind : IntType) → not (is_signed_char kind) ≡ true → Spares (narrow_code kind)
+pub narrow_spares : (kind : IntType) → not (is_signed_char kind) ≡ true → Spares (narrow_code kind)
 narrow_spares ints.SChar h = absurd cc
 narrow_spares ints.UChar h = record { all = refl }
 narrow_spares ints.Short h = spares_none
@@ -109,6 +109,16 @@ bytes_spares (places.Data s at) One h = record { all = refl }
 bytes_spares (places.Data s at) Two h = record { all = refl }
 bytes_spares (places.Data s at) Three h = record { all = refl }
 bytes_spares (places.Data s at) Four h = record { all = refl }
+
+-- one byte or two
+pub few_spares : (place : Place) (extent : Extent) → is_light_extent extent ≡ true → Spares (bytes_code place extent)
+few_spares (places.Far at) One h = record { all = refl }
+few_spares (places.Far at) Two h = record { all = refl }
+few_spares (places.Far at) Three h = absurd cc
+few_spares (places.Far at) Four h = absurd cc
+few_spares (places.Bank at) extent h = bytes_spares (places.Bank at) extent refl
+few_spares (places.Near at) extent h = bytes_spares (places.Near at) extent refl
+few_spares (places.Data s at) extent h = bytes_spares (places.Data s at) extent refl
 
 pub load_spares : (place : Place) (access : Access) → is_light_place place ≡ true → is_light_access access ≡ true → Spares (load_code place access)
 load_spares place (Whole kind) h k = spares_then (bytes_spares place (extent_of kind) h) (narrow_spares kind k)
@@ -153,7 +163,7 @@ conversion_spares (function g) from h = spares_none
 -- ---- operands that are read where they lie
 
 -- an operation that writes nothing
-reader_spares : (op : Op) (mode : Mode) (o : Operand) → is_written (kind_of op) ≡ false → Spares (Do op mode o ∷ [])
+pub reader_spares : (op : Op) (mode : Mode) (o : Operand) → is_written (kind_of op) ≡ false → Spares (Do op mode o ∷ [])
 reader_spares op mode o r = record { all = ap (λ (b : Bool). (not b || lies_beside mode o) && true) r }
 
 byte_spares : (op : Op) (d : OperandByte) → is_written (kind_of op) ≡ false → Spares (op_of op d)
@@ -178,14 +188,14 @@ back_spares d = by (takes_y d)
     by true = record { all = refl }
     by false = record { all = refl }
 
-instruction_reads : (op : BinaryOp) → is_written (kind_of (instruction op)) ≡ false
+pub instruction_reads : (op : BinaryOp) → is_written (kind_of (instruction op)) ≡ false
 instruction_reads ops.Add = refl
 instruction_reads ops.Sub = refl
 instruction_reads ops.BitAnd = refl
 instruction_reads ops.BitXor = refl
 instruction_reads _ = refl
 
-carry_spares : (op : BinaryOp) → Spares (carry_code op)
+pub carry_spares : (op : BinaryOp) → Spares (carry_code op)
 carry_spares ops.Add = record { all = refl }
 carry_spares ops.Sub = record { all = refl }
 carry_spares _ = spares_none

@@ -12,6 +12,7 @@ use Rattle.c65_code.specs.declared.routine.Width.TheVariants.{Ax, Eax}
 use Rattle.c65_genwide.specs.Wide.{width_of}
 use Rattle.c65_genload.specs.declared.places.Place.{Place}
 use Rattle.c65_genload.specs.declared.places.Place.TheVariants as places
+use Rattle.c65_genload.specs.declared.places.Access.{Access}
 use Rattle.c65_gendirect.specs.declared.direct.Direct.{Direct}
 use Rattle.c65_gendirect.specs.declared.relation.Relation.{Relation}
 use Rattle.c65_gendirect.specs.declared.compare.Sides.{Sides}
@@ -32,7 +33,7 @@ use Rattle.c65_genexpr.specs.Operands.{residue_of, constant_in}
 use Rattle.c65_genexpr.specs.Direct.{kept_at, address_at, address_of, takes_bytes, converted_if, sides_of, direct_of, is_fixed, is_pure, is_byte}
 use Rattle.c65_genexpr.specs.Comparing.{is_zero, zero_sense, tested_by, is_raised, raised, one_more, range_of, meeting, beside, changes, compared_by, comparing_of, held_by}
 use Rattle.c65_genexpr.specs.Operating.{constant_form, word_in, right_form, left_form, constant_right, direct_right, direct_left, by_left, by_right, operating_of, reading_of, is_light, held_form, held_if, or_held}
-use Rattle.c65_gen_law_lines.proofs.Drops.{plain_if, Unstored, some_if, stored_by, sum_constant}
+use Rattle.c65_gen_law_lines.proofs.Drops.{held_unstored, or_held_unstored, plain_if, Unstored, some_if, stored_by, sum_constant}
 use Rattle.c65_genexpr.specs.Comparing as comparisons
 
 -- what holds of objects, constants and addresses, and with a tree of its parts, conversions and addresses, and of what it names
@@ -103,8 +104,12 @@ pointer_reached p f pushed (node t _) d e = absurd cc
 
 pub storing_reached : {P : Typed → Type 0} → Reaches P → (f : Framed) (pushed : ℕ) (a b : Typed) → Unstored (storing_of f pushed a b) (P a) (P b)
 storing_reached {P = P} p f pushed a b =
-    stored_by (P a) (P b) (place_of f pushed a) (access_of (types_of f.parts.types) a) (unless_changed (is_pure b) (pointer_of f pushed a)) (direct_of f pushed b)
-    (λ d e. pointer_reached p f pushed a d (some_if (is_fixed (pointer_of f pushed a) || is_pure b) (pointer_of f pushed a) d e)) (direct_reached p f pushed b)
+    let place : Place = place_of f pushed a in
+    let access : Access = access_of (types_of f.parts.types) a in
+    or_held_unstored (P a) (P b) _ _
+    (stored_by (P a) (P b) place access (unless_changed (is_pure b) (pointer_of f pushed a)) (direct_of f pushed b)
+    (λ d e. pointer_reached p f pushed a d (some_if (is_fixed (pointer_of f pushed a) || is_pure b) (pointer_of f pushed a) d e)) (direct_reached p f pushed b))
+    (held_unstored (P a) (P b) (is_light f pushed b) place access)
 
 -- the constant of a sum that is told with its pointer
 pub sum_reached : {P : Typed → Type 0} → Reaches P → (place : Place) (op : BinaryOp) (operands : Operands) (b : Typed) → sum_has_base place (added_bytes op operands (constant_in b)) ≡ true → P b

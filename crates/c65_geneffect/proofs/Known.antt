@@ -10,12 +10,12 @@ use Rattle.c65_genexpr.specs.Operands.{constant_in}
 use Rattle.c65_genexpr.specs.Operating.{takes_bytes}
 use Rattle.c65_genexpr.specs.Direct.{is_pure}
 use Rattle.c65_genexpr.specs.Uses.{uses}
-use Rattle.c65_geneffect.specs.declared.spots.Target.{Target}
-use Rattle.c65_geneffect.specs.declared.changes.Change.TheVariants.{Operand}
+use Rattle.c65_genchange.specs.declared.spots.Target.{Target}
+use Rattle.c65_genchange.specs.declared.changes.Change.TheVariants.{Operand}
 use Rattle.c65_geneffect.specs.declared.changing.Changing.{Changing}
 use Rattle.c65_geneffect.specs.declared.changing.Changing.TheVariants.{Loaded, Otherwise}
 use Rattle.c65_geneffect.specs.declared.changing.Fill.{Fill}
-use Rattle.c65_geneffect.specs.Spots.{target_of}
+use Rattle.c65_genchange.specs.Spots.{target_of}
 use Rattle.c65_geneffect.specs.Changing.{loaded_by, fixed_or, changing_at, changing_of, number_in, fill_by, filling_at, filling_of, ChangesFree, FillsFree}
 
 -- ---- assignments with an operator

@@ -1,7 +1,6 @@
 -- How a number is changed where it lies, where its value is not used (C90 6.3.2.4, 6.3.3.1, 6.3.16).
-use Rattle.std.specs.Prelude.{◌≡◌, ℕ, ℤ, ◌*◌, ◌%◌, ◌==◌, ◌&&◌, Bool, true, false, if◌then◌else◌, Option, Some, None, option_map, option_and_then}
+use Rattle.std.specs.Prelude.{◌≡◌, ℕ, ℤ, ◌*◌, ◌%◌, ◌==◌, ◌&&◌, Bool, if◌then◌else◌, Option, Some, None, option_map, option_and_then}
 use Rattle.c65_base.specs.declared.operators.BinaryOp.{BinaryOp}
-use Rattle.c65_base.specs.declared.operators.BinaryOp.TheVariants.{Add, Sub}
 use Rattle.c65_base.specs.declared.operators.StepKind.{StepKind}
 use Rattle.c65_base.specs.declared.operators.StepKind.TheVariants.{PreInc, PreDec, PostInc, PostDec}
 use Rattle.c65_csem.specs.Trees.{Typed, node, constant, null}
@@ -13,15 +12,15 @@ use Rattle.c65_genexpr.specs.Operands.{residue_of, constant_in}
 use Rattle.c65_genexpr.specs.Operating.{takes_bytes}
 use Rattle.c65_genexpr.specs.Direct.{is_pure}
 use Rattle.c65_genexpr.specs.Uses.{uses}
-use Rattle.c65_geneffect.specs.declared.spots.Spot.{Spot}
-use Rattle.c65_geneffect.specs.declared.spots.Target.{Target}
-use Rattle.c65_geneffect.specs.declared.spots.Target.TheVariants.{Word}
-use Rattle.c65_geneffect.specs.declared.changes.Change.{Change}
-use Rattle.c65_geneffect.specs.declared.changes.Change.TheVariants.{Up, Down, Number, Operand}
+use Rattle.c65_genchange.specs.declared.spots.Target.{Target}
+use Rattle.c65_genchange.specs.declared.spots.Target.TheVariants.{Word}
+use Rattle.c65_genchange.specs.declared.changes.Change.{Change}
+use Rattle.c65_genchange.specs.declared.changes.Change.TheVariants.{Up, Down, Number, Operand}
 use Rattle.c65_geneffect.specs.declared.changing.Changing.{Changing}
 use Rattle.c65_geneffect.specs.declared.changing.Changing.TheVariants.{Fixed, Loaded, Otherwise}
 use Rattle.c65_geneffect.specs.declared.changing.Fill.{Fill}
-use Rattle.c65_geneffect.specs.Spots.{all_counted, target_of}
+use Rattle.c65_genchange.specs.Spots.{all_counted, target_of}
+use Rattle.c65_genchange.specs.Stepping.{step_op}
 
 -- ---- `++` and `--`
 
@@ -38,12 +37,6 @@ counting PreInc target = Up target
 counting PreDec target = Down target
 counting PostInc target = Up target
 counting PostDec target = Down target
-
-abbrev pub step_op : StepKind → BinaryOp
-step_op PreInc = Add
-step_op PreDec = Sub
-step_op PostInc = Add
-step_op PostDec = Sub
 
 -- a step by so many bytes
 abbrev pub step_by : StepKind → ℕ → Target → Change

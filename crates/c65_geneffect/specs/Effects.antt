@@ -10,19 +10,17 @@ use Rattle.c65_code.specs.declared.line.Line.{Line}
 use Rattle.c65_code.specs.declared.line.Line.TheVariants.{Label}
 use Rattle.c65_genframe.specs.Frames.{Framed}
 use Rattle.c65_genload.specs.declared.places.Place.{Place}
-use Rattle.c65_genload.specs.declared.places.Access.{Access}
 use Rattle.c65_genexpr.specs.declared.wanted.Wanted.TheVariants.{Value}
 use Rattle.c65_genexpr.specs.Types.{bare, access_of, target_bytes}
 use Rattle.c65_genexpr.specs.Places.{place_of}
-use Rattle.c65_genexpr.specs.Steps.{amount_of, step_code}
 use Rattle.c65_genexpr.specs.Uses.{uses, node_uses}
-use Rattle.c65_genexpr.specs.Code.{expr_code, node_code, base_code}
-use Rattle.c65_geneffect.specs.declared.changes.Change.{Change}
+use Rattle.c65_genexpr.specs.Code.{expr_code, node_code, base_code, step_value_code}
+use Rattle.c65_genchange.specs.declared.changes.Change.{Change}
 use Rattle.c65_geneffect.specs.declared.changing.Changing.{Changing}
 use Rattle.c65_geneffect.specs.declared.changing.Changing.TheVariants.{Fixed, Loaded, Otherwise}
 use Rattle.c65_geneffect.specs.declared.changing.Fill.{Fill}
-use Rattle.c65_geneffect.specs.Spots.{point_code}
-use Rattle.c65_geneffect.specs.Changes.{change_code, fill_code}
+use Rattle.c65_genchange.specs.Spots.{point_code}
+use Rattle.c65_genchange.specs.Changes.{change_code, fill_code}
 use Rattle.c65_geneffect.specs.Changing.{in_front, stepping_of, changing_of, filling_of}
 
 -- a label of its own, which is placed behind the lines where no form needs it
@@ -36,9 +34,9 @@ fixed_code change place label base = base ++ (point_code place ++ change_code ch
 -- or of the whole for its value
 abbrev pub stepped_by : Option Change → Place → ℕ → List Line → List Line → List Line
 stepped_by (Some change) place label base whole = fixed_code change place label base
-stepped_by None place label base whole = closed label whole
+stepped_by None place label base whole = whole
 
--- and of the right side
+-- and of the right side; the whole has a label less
 abbrev pub changed_by : Changing → Place → ℕ → List Line → List Line → List Line → List Line
 changed_by (Fixed change) place label left right whole = fixed_code change place label left
 changed_by (Loaded change) place label left right whole = left ++ (right ++ change_code change label)
@@ -58,9 +56,7 @@ filled_or None base whole = whole
 abbrev pub step_effect : Framed → ℕ → ℕ → StepKind → Typed → List Line
 step_effect f pushed fresh how e =
     let place = place_of f pushed e in
-    let access = access_of (types_of f.parts.types) e in
-    let base = base_code f pushed (fresh + 1) e in
-    stepped_by (stepping_of how (target_bytes f (bare e)) place access) place fresh base (base ++ step_code (in_front how) place access (amount_of f (in_front how) (bare e)))
+    stepped_by (stepping_of how (target_bytes f (bare e)) place (access_of (types_of f.parts.types) e)) place fresh (base_code f pushed (fresh + 1) e) (step_value_code f pushed fresh (in_front how) e)
 
 abbrev mutual
   pub effect_code : Framed → ℕ → ℕ → Typed → List Line
@@ -84,5 +80,4 @@ abbrev mutual
   node_effect_uses t (comma a b) = effect_uses a + effect_uses b
   node_effect_uses t (assign_op op k a b) = 1 + (uses None a + uses None b)
   node_effect_uses t (assign_step op a b) = 1 + (uses None a + uses None b)
-  node_effect_uses t (step how e) = 1 + uses None e
   node_effect_uses t n = node_uses None t n

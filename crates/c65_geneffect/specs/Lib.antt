@@ -1,4 +1,2 @@
-pub mod Changes
 pub mod Changing
 pub mod Effects
-pub mod Spots

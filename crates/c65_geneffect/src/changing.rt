@@ -4,12 +4,11 @@ ghost use Rattle.c65_csem.specs.Views.{typed_of};
 ghost use Rattle.c65_genexpr.specs.Direct.{is_pure};
 ghost use Rattle.c65_genexpr.specs.Operating.{takes_bytes};
 ghost use Rattle.c65_genexpr.specs.Places.{place_of};
-ghost use Rattle.c65_geneffect.specs.Changing.{in_front, step_op, step_by, stepping_of, counting, loaded_by, changing_of, number_in, fill_by, filling_of, ChangesFree, FillsFree};
+ghost use Rattle.c65_geneffect.specs.Changing.{in_front, step_by, stepping_of, counting, loaded_by, changing_of, number_in, fill_by, filling_of, ChangesFree, FillsFree};
 
-use crate::changes::Change;
-use crate::spots::{Spot, Target, all_counted, target_of};
 use c65_base::{BinaryOp, StepKind};
 use c65_csem::{TExpr, TKind};
+use c65_genchange::{Change, Spot, Target, all_counted, step_op, target_of};
 use c65_genexpr::{constant_in, is_pure, place_of, residue_of};
 use c65_genframe::Frame;
 use c65_genload::{Access, Place, first, second};
@@ -49,15 +48,6 @@ fn counting(how: StepKind, target: Target) -> Change
     match how {
         StepKind::PreInc | StepKind::PostInc => Change::Up(target),
         StepKind::PreDec | StepKind::PostDec => Change::Down(target),
-    }
-}
-
-fn step_op(how: StepKind) -> BinaryOp
-    ensures { result ≡ step_op how }
-{
-    match how {
-        StepKind::PreInc | StepKind::PostInc => BinaryOp::Add,
-        StepKind::PreDec | StepKind::PostDec => BinaryOp::Sub,
     }
 }
 

@@ -11,13 +11,12 @@ ghost use Rattle.c65_genexpr.specs.Uses.{uses};
 ghost use Rattle.c65_geneffect.specs.Changing.{filling_of};
 ghost use Rattle.c65_geneffect.specs.Effects.{changed_code, filled_or, step_effect, effect_code, effect_uses};
 
-use crate::changes::{put_change, put_fill};
 use crate::changing::{Changing, changing_of, filling_of, in_front, stepping_of};
-use crate::spots::put_point;
 use c65_base::{BinaryOp, StepKind};
 use c65_code::Draft;
 use c65_code::Line::Label;
 use c65_csem::{TExpr, TKind};
+use c65_genchange::{put_change, put_fill, put_point};
 use c65_genexpr::{
     Wanted, access_of, amount_of, leave_out, place_of, put_base, put_expr, put_step, target_bytes,
 };
@@ -131,8 +130,9 @@ fn put_stepped(
     let label = next_label(draft)?;
     let place = place_of(frame, pushed, a);
     let access = access_of(&frame.parts().types, a);
+    let size = target_bytes(frame, &a.ty.ty);
     put_base(a, frame, pushed, draft)?;
-    match stepping_of(how, target_bytes(frame, &a.ty.ty), place, access) {
+    match stepping_of(how, size, place, access) {
         Some(change) => {
             put_point(place, draft)?;
             put_change(change, label, draft)
@@ -140,8 +140,7 @@ fn put_stepped(
         None => {
             let front = in_front(how);
             let amount = amount_of(frame, front, &a.ty.ty);
-            put_step(front, place, access, amount, draft)?;
-            put(draft, &[Label(label)])
+            put_step(front, size, amount, place, access, label, draft)
         }
     }
 }

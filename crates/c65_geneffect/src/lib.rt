@@ -1,9 +1,7 @@
 //! Expressions whose value is not used, as lines of code: numbers are changed where they lie.
 #![tactic(auto, using(c65_genwide::proofs::Kept::kept_then, c65_genwide::proofs::Kept::kept_last))]
 
-mod changes;
 mod changing;
 mod effect;
-mod spots;
 
 pub use effect::put_effect;

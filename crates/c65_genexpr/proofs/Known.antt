@@ -34,6 +34,7 @@ use Rattle.c65_genexpr.specs.declared.operating.Operating.TheVariants as operati
 use Rattle.c65_genexpr.specs.declared.operands.Operands.{Operands}
 use Rattle.c65_genexpr.specs.declared.operands.Operands.TheVariants.{Numbers, PointerFirst, PointerLast, Pointers}
 use Rattle.c65_genexpr.specs.declared.storing.Storing.{Storing}
+use Rattle.c65_genexpr.specs.declared.storing.Storing.TheVariants as storing
 use Rattle.c65_genexpr.specs.Types.{kind_of, bare, offset_at, access_of}
 use Rattle.c65_genexpr.specs.Places.{is_plain, has_base, added_bytes, sum_has_base, place_of}
 use Rattle.c65_genexpr.specs.Operands.{constant_in}
@@ -43,7 +44,8 @@ use Rattle.c65_genexpr.specs.Operating.{word_in, direct_right, direct_left, by_l
 use Rattle.c65_genexpr.specs.Operating as operators
 use Rattle.c65_genexpr.specs.Uses.{uses}
 use Rattle.c65_genexpr.specs.Leaving.{ComparesFree, OperatesFree, StoresFree}
-use Rattle.c65_genexpr.specs.Storing.{pointer_of, through, by_value, by_pointer, storing_by, storing_of}
+use Rattle.c65_genexpr.specs.Storing.{pointer_of, through, by_value, by_pointer, held_at, storing_by, storing_of}
+use Rattle.c65_genexpr.specs.Storing as stores
 
 -- ---- constants
 
@@ -279,11 +281,37 @@ stored_free a b (Bank at) access x y left right = tt
 stored_free a b (Near at) access x y left right = tt
 stored_free a b (Data sym at) access x y left right = tt
 
+held_at_free : (a b : Typed) (at : ℕ) (extent : Extent) → StoresFree (held_at at extent) a b
+held_at_free a b at One = tt
+held_at_free a b at Two = tt
+held_at_free a b at Three = tt
+held_at_free a b at Four = tt
+
+held_stores_free : (a b : Typed) (is : Bool) (place : Place) (access : Access) → StoresFree (stores.held_if is place access) a b
+held_stores_free a b true (Far at) (Whole kind) = held_at_free a b at (extent_of kind)
+held_stores_free a b true (Far at) (Part field) = tt
+held_stores_free a b true (Bank at) access = tt
+held_stores_free a b true (Near at) access = tt
+held_stores_free a b true (Data sym at) access = tt
+held_stores_free a b false place access = tt
+
+or_held_stores : (a b : Typed) (how held : Storing) → StoresFree how a b → StoresFree held a b → StoresFree (stores.or_held how held) a b
+or_held_stores a b (storing.Left at stored) held p q = p
+or_held_stores a b (storing.RightByte at low high) held p q = p
+or_held_stores a b (storing.RightWord at low high) held p q = p
+or_held_stores a b (storing.HeldByte at) held p q = p
+or_held_stores a b (storing.HeldWord at) held p q = p
+or_held_stores a b storing.Stacked held p q = q
+
 pub stores_free : (f : Framed) (pushed : ℕ) (a b : Typed) → StoresFree (storing_of f pushed a b) a b
 stores_free f pushed a b =
-    stored_free a b (place_of f pushed a) (access_of (types_of f.parts.types) a) _ _
+    let place : Place = place_of f pushed a in
+    let access : Access = access_of (types_of f.parts.types) a in
+    or_held_stores a b _ _
+    (stored_free a b place access _ _
     (λ h. pointer_uses f pushed a (if_there (is_fixed (pointer_of f pushed a) || is_pure b) (pointer_of f pushed a) h))
-    (direct_uses f pushed b)
+    (direct_uses f pushed b))
+    (held_stores_free a b (is_light f pushed b) place access)
 
 -- ---- sums that are left out
 

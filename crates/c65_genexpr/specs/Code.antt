@@ -5,6 +5,7 @@
 use Rattle.std.specs.Prelude.{ℕ, ◌+◌, ◌==◌, not, if◌then◌else◌, Bool, true, false, Option, Some, None, List, [], ◌∷◌, ◌++◌}
 use Rattle.c65_base.specs.declared.operators.UnaryOp.{UnaryOp}
 use Rattle.c65_base.specs.declared.operators.BinaryOp.{BinaryOp}
+use Rattle.c65_base.specs.declared.operators.StepKind.{StepKind}
 use Rattle.c65_ints.specs.declared.types.IntType.{IntType}
 use Rattle.c65_ctype.specs.Trees.{QTy}
 use Rattle.c65_ctype.specs.Trees as types
@@ -145,7 +146,7 @@ abbrev mutual
       let operands = PointerFirst (target_bytes f (bare a)) in
       wanted w (width_in t) (compound f pushed op operands a b (base_code f pushed fresh a) (expr_code f (behind_open f pushed operands a) (fresh + uses None a) Value b))
   node_code f pushed fresh w t (step how e) =
-      wanted w (width_in t) (base_code f pushed fresh e ++ step_code how (place_of f pushed e) (access_of (types_of f.parts.types) e) (amount_of f how (bare e)))
+      wanted w (width_in t) (base_code f pushed (fresh + 1) e ++ step_code how (target_bytes f (bare e)) (amount_of f how (bare e)) (place_of f pushed e) (access_of (types_of f.parts.types) e) fresh)
   node_code f pushed fresh w t (copy a b) =
       wanted w (width_in t) (expr_code f pushed fresh Value a ++ (push_code Ax ++ (expr_code f (more pushed 2) (fresh + uses None a) Value b ++ copy_code (type_bytes f (types.type_in t)))))
   node_code f pushed fresh w t (call g es) =
@@ -260,6 +261,9 @@ assign_code f pushed fresh a b =
     let place = place_of f pushed a in
     let how = storing_of f pushed a b in
     assigned_by how place (access_of (types_of f.parts.types) a) (base_code f pushed fresh a) (expr_code f (below_value how pushed place) (fresh + uses None a) Value b)
+
+abbrev pub step_value_code : Framed → ℕ → ℕ → StepKind → Typed → List Line
+step_value_code f pushed fresh how e = base_code f pushed (fresh + 1) e ++ step_code how (target_bytes f (bare e)) (amount_of f how (bare e)) (place_of f pushed e) (access_of (types_of f.parts.types) e) fresh
 
 abbrev pub compound_code : Framed → ℕ → ℕ → BinaryOp → Operands → Typed → Typed → List Line
 compound_code f pushed fresh op operands a b = compound f pushed op operands a b (base_code f pushed fresh a) (expr_code f (behind_open f pushed operands a) (fresh + uses None a) Value b)

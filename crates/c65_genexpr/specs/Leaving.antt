@@ -30,6 +30,8 @@ abbrev pub StoresFree : Storing → Typed → Typed → Type 0
 StoresFree (storing.Left at stored) a b = uses None b ≡ 0
 StoresFree (storing.RightByte at low high) a b = uses None a ≡ 0
 StoresFree (storing.RightWord at low high) a b = uses None a ≡ 0
+StoresFree (storing.HeldByte at) a b = Unit {0}
+StoresFree (storing.HeldWord at) a b = Unit {0}
 StoresFree storing.Stacked a b = Unit {0}
 
 -- the operand that an operator leaves out

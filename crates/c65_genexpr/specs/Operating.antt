@@ -1,13 +1,13 @@
 -- The operators that give a number or a pointer (C90 6.3.5 to 6.3.7, 6.3.10 to 6.3.12): their forms, and the lines of each from
 -- the lines of its two operands.
-use Rattle.std.specs.Prelude.{ℕ, ◌*◌, ◌%◌, nat_le, ◌==◌, ◌&&◌, ◌||◌, not, Bool, true, false, if◌then◌else◌, Option, Some, None, option_map, option_and_then, List, [], ◌∷◌, ◌++◌}
+use Rattle.std.specs.Prelude.{ℕ, ◌*◌, ◌%◌, nat_lt, nat_le, ◌==◌, ◌&&◌, ◌||◌, not, Bool, true, false, if◌then◌else◌, Option, Some, None, option_map, option_and_then, List, [], ◌∷◌, ◌++◌}
 use Rattle.c65_base.specs.declared.operators.BinaryOp.{BinaryOp}
 use Rattle.c65_base.specs.declared.operators.BinaryOp.TheVariants.{Add, Sub, BitAnd, BitXor, BitOr}
 use Rattle.c65_ints.specs.declared.types.IntType.{IntType}
 use Rattle.c65_ints.specs.declared.types.IntType.TheVariants.{SChar, UInt}
 use Rattle.c65_ctype.specs.Trees.{Ty, void, type_in}
 use Rattle.c65_ctype.specs.Views.{types_of}
-use Rattle.c65_csem.specs.Trees.{Typed, node, constant, null, literal, object, func, deref, member, load, address, decay, convert, binary}
+use Rattle.c65_csem.specs.Trees.{Typed, node, constant, null, literal, object, func, deref, member, load, address, decay, convert, binary, step}
 use Rattle.c65_code.specs.declared.line.Line.{Line}
 use Rattle.c65_code.specs.declared.line.Line.TheVariants.{Label}
 use Rattle.c65_code.specs.declared.routine.Width.{Width}
@@ -16,9 +16,12 @@ use Rattle.c65_genframe.specs.Frames.{Framed}
 use Rattle.c65_genwide.specs.Wide.{width_of, wide_code}
 use Rattle.c65_genload.specs.Numbers.{add_long_code, divide_code}
 use Rattle.c65_genload.specs.declared.places.Place.{Place}
-use Rattle.c65_genload.specs.declared.places.Place.TheVariants.{Far}
+use Rattle.c65_genload.specs.declared.places.Place.TheVariants.{Bank, Far}
+use Rattle.c65_genload.specs.declared.places.Extent.{Extent}
+use Rattle.c65_genload.specs.declared.places.Extent.TheVariants.{One, Two}
 use Rattle.c65_genload.specs.declared.places.Access.{Access}
 use Rattle.c65_genload.specs.declared.places.Access.TheVariants.{Whole, Part}
+use Rattle.c65_genload.specs.Places.{extent_of}
 use Rattle.c65_genload.specs.Conversions.{size_of, push_code}
 use Rattle.c65_gendirect.specs.declared.bytes.OperandByte.{OperandByte}
 use Rattle.c65_gendirect.specs.declared.direct.Direct.{Direct}
@@ -163,6 +166,28 @@ abbrev pub is_light_access : Access → Bool
 is_light_access (Whole kind) = not (is_signed_char kind)
 is_light_access (Part field) = false
 
+-- one byte or two: they are read behind an address by Y, and changed where they lie
+abbrev pub is_light_extent : Extent → Bool
+is_light_extent One = true
+is_light_extent Two = true
+is_light_extent extent = false
+
+-- a load; of a place that is anywhere by whether the address is light
+abbrev pub is_light_load : Place → Access → Bool → Bool
+is_light_load (Far at) (Whole kind) base = is_light_extent (extent_of kind) && (not (is_signed_char kind) && base)
+is_light_load (Far at) (Part field) base = false
+is_light_load place access base = is_light_access access
+
+-- what is changed lies outside ptr2: regbank has six bytes
+abbrev pub is_light_target : Place → Bool → Bool
+is_light_target (Far at) base = base
+is_light_target (Bank at) base = nat_lt at 6
+is_light_target place base = true
+
+abbrev pub is_light_step : Place → Access → Bool → Bool
+is_light_step place (Whole kind) base = is_light_extent (extent_of kind) && (not (is_signed_char kind) && is_light_target place base)
+is_light_step place (Part field) base = false
+
 abbrev pub is_light_to : Width → IntType → IntType → Bool
 is_light_to Ax from to = not (is_signed_char to)
 is_light_to Eax from to = nat_le 4 (size_of from)
@@ -188,7 +213,8 @@ abbrev mutual
   is_light f pushed (node t (member e m)) = is_light f pushed e
   is_light f pushed (node t (address e)) = is_light f pushed e
   is_light f pushed (node t (decay e)) = is_light f pushed e
-  is_light f pushed (node t (load e)) = is_light_place (place_of f pushed e) && is_light_access (access_of (types_of f.parts.types) e)
+  is_light f pushed (node t (load e)) = is_light_load (place_of f pushed e) (access_of (types_of f.parts.types) e) (is_light f pushed e)
+  is_light f pushed (node t (step how e)) = is_light_step (place_of f pushed e) (access_of (types_of f.parts.types) e) (is_light f pushed e)
   is_light f pushed (node t (convert e)) = is_light_conversion (type_in t) (kind_in e) && is_light f pushed e
   is_light f pushed (node t (binary op a b)) =
       takes_bytes op && is_light_operator (reading_of f pushed op (operands_of f (bare a) (bare b)) a b) (is_light f pushed a) (is_light f pushed b)

@@ -1,11 +1,12 @@
 -- Values that are changed where they are kept (C90 6.3.2.4, 6.3.3.1, 6.3.16.2).
-use Rattle.std.specs.Prelude.{ℕ, Bool, true, false, if◌then◌else◌, List, [], ◌++◌}
+use Rattle.std.specs.Prelude.{ℕ, Bool, true, false, if◌then◌else◌, Option, Some, None, List, [], ◌∷◌, ◌++◌}
 use Rattle.c65_base.specs.declared.operators.BinaryOp.{BinaryOp}
 use Rattle.c65_base.specs.declared.operators.StepKind.{StepKind}
 use Rattle.c65_base.specs.declared.operators.StepKind.TheVariants.{PreInc, PreDec, PostInc, PostDec}
 use Rattle.c65_ints.specs.declared.types.IntType.{IntType}
 use Rattle.c65_ctype.specs.Trees.{Ty}
 use Rattle.c65_code.specs.declared.line.Line.{Line}
+use Rattle.c65_code.specs.declared.line.Line.TheVariants.{Label}
 use Rattle.c65_genframe.specs.Frames.{Framed}
 use Rattle.c65_genwide.specs.Wide.{width_of}
 use Rattle.c65_genload.specs.declared.places.Place.{Place}
@@ -17,6 +18,9 @@ use Rattle.c65_genload.specs.Conversions.{convert_code, push_code}
 use Rattle.c65_genload.specs.Fields.{range_code}
 use Rattle.c65_genload.specs.Loads.{hold_code, load_code}
 use Rattle.c65_genload.specs.Stores.{store_code}
+use Rattle.c65_genchange.specs.declared.spots.Target.{Target}
+use Rattle.c65_genchange.specs.Spots.{target_of}
+use Rattle.c65_genchange.specs.Stepping.{is_post, stepped_code}
 use Rattle.c65_genexpr.specs.declared.operands.Operands.{Operands}
 use Rattle.c65_genexpr.specs.Types.{target_bytes}
 use Rattle.c65_genexpr.specs.Operands.{negative, computes, behind_code}
@@ -26,12 +30,6 @@ is_up PreInc = true
 is_up PreDec = false
 is_up PostInc = true
 is_up PostDec = false
-
-abbrev pub is_post : StepKind → Bool
-is_post PreInc = false
-is_post PreDec = false
-is_post PostInc = true
-is_post PostDec = true
 
 -- one, or the bytes of an element
 abbrev pub amount_of : Framed → StepKind → Ty → ℕ
@@ -45,9 +43,18 @@ back_code (Part field) n = add_code field.kind (negative n) ++ range_code field
 abbrev pub after_code : StepKind → Access → ℕ → List Line
 after_code how access n = if is_post how then back_code access n else []
 
--- behind the address of a place that is anywhere
-abbrev pub step_code : StepKind → Place → Access → ℕ → List Line
-step_code how place access n = hold_code place ++ (load_code (settled place) access ++ (add_code (type_in access) n ++ (store_code place access ++ after_code how access n)))
+-- bit-fields, and numbers of four bytes: behind the address of a place that is anywhere
+abbrev pub long_step_code : StepKind → Place → Access → ℕ → List Line
+long_step_code how place access n = hold_code place ++ (load_code (settled place) access ++ (add_code (type_in access) n ++ (store_code place access ++ after_code how access n)))
+
+-- a number that is changed where it lies, by so many bytes; another one
+abbrev pub step_by : Option Target → StepKind → ℕ → ℕ → Place → Access → ℕ → List Line
+step_by (Some target) how size n place access label = stepped_code how size place (type_in access) target label
+step_by None how size n place access label = long_step_code how place access n ++ (Label label ∷ [])
+
+-- a step by so many bytes, which is this number, behind the base of a place; the label is placed once
+abbrev pub step_code : StepKind → ℕ → ℕ → Place → Access → ℕ → List Line
+step_code how size n place access label = step_by (target_of place access) how size n place access label
 
 -- the value waits, in the type in which the operator computes
 abbrev pub open_code : Place → Access → IntType → List Line

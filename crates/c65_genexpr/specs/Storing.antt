@@ -1,5 +1,5 @@
 -- Assignments to scalars (C90 6.3.16.1): their forms, and the lines of each from the lines of its two sides.
-use Rattle.std.specs.Prelude.{ℕ, ◌||◌, Bool, true, false, if◌then◌else◌, Option, Some, None, option_map, option_and_then, List, ◌++◌}
+use Rattle.std.specs.Prelude.{ℕ, ◌||◌, Bool, true, if◌then◌else◌, Option, Some, None, option_map, option_and_then, List, ◌++◌}
 use Rattle.c65_ctype.specs.Views.{types_of}
 use Rattle.c65_csem.specs.Trees.{Typed, node, deref, member}
 use Rattle.c65_code.specs.declared.line.Line.{Line}
@@ -21,11 +21,12 @@ use Rattle.c65_gendirect.specs.declared.through.Stored.TheVariants as stores
 use Rattle.c65_gendirect.specs.Bytes.{byte_of}
 use Rattle.c65_gendirect.specs.Through.{read_store_code, byte_through_code, word_through_code}
 use Rattle.c65_genexpr.specs.declared.storing.Storing.{Storing}
-use Rattle.c65_genexpr.specs.declared.storing.Storing.TheVariants.{Left, RightByte, RightWord, Stacked}
+use Rattle.c65_genexpr.specs.declared.storing.Storing.TheVariants.{Left, RightByte, RightWord, HeldByte, HeldWord, Stacked}
 use Rattle.c65_genexpr.specs.Types.{bare, offset_at, access_of}
 use Rattle.c65_genexpr.specs.Places.{more, has_base, place_of}
 use Rattle.c65_genexpr.specs.Direct.{direct_of, is_fixed, is_pure}
-use Rattle.c65_genexpr.specs.Operating.{word_in}
+use Rattle.c65_genexpr.specs.Held.{keep_code, byte_behind_code, word_behind_code}
+use Rattle.c65_genexpr.specs.Operating.{word_in, is_light}
 
 -- the pointer behind which a place lies, where it is read where it lies
 abbrev mutual
@@ -55,6 +56,21 @@ through at _ w = Stacked
 abbrev pub unless_changed : Bool → Option Direct → Option Direct
 unless_changed pure d = if is_fixed d || pure then d else None
 
+-- ---- the address waits in ptr2 while the value comes, which is light
+
+abbrev pub held_at : ℕ → Extent → Storing
+held_at at One = HeldByte at
+held_at at Two = HeldWord at
+held_at at _ = Stacked
+
+abbrev pub held_if : Bool → Place → Access → Storing
+held_if true (Far at) (Whole kind) = held_at at (extent_of kind)
+held_if is_light place access = Stacked
+
+abbrev pub or_held : Storing → Storing → Storing
+or_held Stacked held = held
+or_held how held = how
+
 -- ---- the form
 
 abbrev pub by_value : ℕ → Option Stored → Storing → Storing
@@ -72,7 +88,10 @@ storing_by place access a b = Stacked
 
 -- how a value is assigned
 abbrev pub storing_of : Framed → ℕ → Typed → Typed → Storing
-storing_of f pushed a b = storing_by (place_of f pushed a) (access_of (types_of f.parts.types) a) (unless_changed (is_pure b) (pointer_of f pushed a)) (direct_of f pushed b)
+storing_of f pushed a b =
+    let place = place_of f pushed a in
+    let access = access_of (types_of f.parts.types) a in
+    or_held (storing_by place access (unless_changed (is_pure b) (pointer_of f pushed a)) (direct_of f pushed b)) (held_if (is_light f pushed b) place access)
 
 -- ---- lines
 
@@ -86,4 +105,6 @@ abbrev pub assigned_by : Storing → Place → Access → List Line → List Lin
 assigned_by (Left at stored) place access a b = a ++ (read_store_code at stored ++ narrow_code (type_in access))
 assigned_by (RightByte at low high) place access a b = b ++ (byte_through_code at low high ++ narrow_code (type_in access))
 assigned_by (RightWord at low high) place access a b = b ++ word_through_code at low high
+assigned_by (HeldByte at) place access a b = a ++ (keep_code ++ (b ++ (byte_behind_code at ++ narrow_code (type_in access))))
+assigned_by (HeldWord at) place access a b = a ++ (keep_code ++ (b ++ word_behind_code at))
 assigned_by Stacked place access a b = a ++ (hold_code place ++ (b ++ store_code place access))

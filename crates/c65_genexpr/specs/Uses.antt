@@ -56,7 +56,7 @@ abbrev mutual
   node_uses s t (assign a b) = uses None a + uses None b
   node_uses s t (assign_op op k a b) = uses None a + uses None b
   node_uses s t (assign_step op a b) = uses None a + uses None b
-  node_uses s t (step how e) = uses None e
+  node_uses s t (step how e) = 1 + uses None e
   node_uses s t (copy a b) = uses None a + uses None b
   node_uses s t (call f es) = unless_named (named f) (uses None f) + args_uses es
   node_uses s t (pack e) = uses None e

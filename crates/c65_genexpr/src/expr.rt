@@ -8,45 +8,110 @@ ghost use Rattle.c65_genexpr.specs.declared.wanted.Wanted.TheVariants.{Value, Te
 ghost use Rattle.c65_genexpr.specs.Comparing.{on, relation_by};
 ghost use Rattle.c65_genexpr.specs.Leaving.{IsFree};
 ghost use Rattle.c65_genexpr.specs.Uses.{uses, head_uses, args_uses, unary_uses, comparison_uses};
-ghost use Rattle.c65_genexpr.specs.Code.{expr_code, base_code, base_lines, part_base_code, pointer_base_code, pointer_lines, pointer_labels, load_test_code, plain_test_code, unary_value_code, operator_code, comparison_code, joint_code, choice_code, assign_code, compound_code, call_code, args_code};
+ghost use Rattle.c65_genexpr.specs.Code.{expr_code, base_code, base_lines, part_base_code, pointer_base_code, pointer_lines, pointer_labels, load_test_code, plain_test_code, unary_value_code, operator_code, comparison_code, joint_code, choice_code, assign_code, step_value_code, compound_code, call_code, args_code};
 
-use crate::arguments::{
-    Passed, argument_bytes, is_counted, is_fast, joined, passed_size, put_argument, stays,
-};
-use crate::calls::{named, put_direct, put_named, put_pointer};
-use crate::comparing::{Comparing, Side, comparing_of, relation_by, tested_by};
+use crate::arguments::Passed;
+use crate::arguments::argument_bytes;
+use crate::arguments::is_counted;
+use crate::arguments::is_fast;
+use crate::arguments::joined;
+use crate::arguments::passed_size;
+use crate::arguments::put_argument;
+use crate::arguments::stays;
+use crate::calls::named;
+use crate::calls::put_direct;
+use crate::calls::put_named;
+use crate::calls::put_pointer;
+use crate::comparing::Comparing;
+use crate::comparing::Side;
+use crate::comparing::comparing_of;
+use crate::comparing::relation_by;
+use crate::comparing::tested_by;
 use crate::constants::residue_of;
-use crate::direct::{kept_at, put_own_test};
-use crate::held::{held_word, put_keep};
-use crate::operands::{
-    Operands, computes, operands_of, put_behind, put_between, put_conversion, put_unary, same_truth,
-};
-use crate::operating::{Operating, operating_of, put_form, put_stacked, put_waiting};
-use crate::places::{has_base, is_told, more, place_of, put_object, put_rest, put_unless_known};
+use crate::direct::kept_at;
+use crate::direct::put_own_test;
+use crate::held::held_word;
+use crate::held::put_byte_behind;
+use crate::held::put_keep;
+use crate::held::put_word_behind;
+use crate::leaving;
+use crate::operands::Operands;
+use crate::operands::computes;
+use crate::operands::operands_of;
+use crate::operands::put_behind;
+use crate::operands::put_between;
+use crate::operands::put_conversion;
+use crate::operands::put_unary;
+use crate::operands::same_truth;
+use crate::operating::Operating;
+use crate::operating::operating_of;
+use crate::operating::put_form;
+use crate::operating::put_stacked;
+use crate::operating::put_waiting;
+use crate::places::has_base;
+use crate::places::is_told;
+use crate::places::more;
+use crate::places::place_of;
+use crate::places::put_object;
+use crate::places::put_rest;
+use crate::places::put_unless_known;
 use crate::spills::put_spill;
-use crate::storing::{Storing, storing_of};
-use crate::types::{Outcome, access_of, kind_of, offset_at, outcome_of, target_bytes};
-use crate::wanted::{
-    Wanted, is_straight, put_decided, put_outcome_test, put_value_test, truth_labels, wanted_by,
-};
-use crate::{leaving, steps};
-use c65_base::{BinaryOp, UnaryOp};
-use c65_code::Line::{Do, Label};
+use crate::steps;
+use crate::storing::Storing;
+use crate::storing::storing_of;
+use crate::types::Outcome;
+use crate::types::access_of;
+use crate::types::kind_of;
+use crate::types::offset_at;
+use crate::types::outcome_of;
+use crate::types::target_bytes;
+use crate::wanted::Wanted;
+use crate::wanted::is_straight;
+use crate::wanted::put_decided;
+use crate::wanted::put_outcome_test;
+use crate::wanted::put_value_test;
+use crate::wanted::truth_labels;
+use crate::wanted::wanted_by;
+use c65_base::BinaryOp;
+use c65_base::StepKind;
+use c65_base::UnaryOp;
+use c65_code::Draft;
+use c65_code::Line::Do;
+use c65_code::Line::Label;
 use c65_code::Operand::To;
-use c65_code::{Draft, Width};
-use c65_csem::{TExpr, TKind};
-use c65_gendirect::{
-    Relation, put_byte_through, put_compare, put_compare_byte, put_op, put_read_store, put_truth,
-    put_word_through, relation_of,
-};
+use c65_code::Width;
+use c65_csem::TExpr;
+use c65_csem::TKind;
+use c65_gendirect::Relation;
+use c65_gendirect::put_byte_through;
+use c65_gendirect::put_compare;
+use c65_gendirect::put_compare_byte;
+use c65_gendirect::put_op;
+use c65_gendirect::put_read_store;
+use c65_gendirect::put_truth;
+use c65_gendirect::put_word_through;
+use c65_gendirect::relation_of;
 use c65_genframe::Frame;
-use c65_genload::{
-    copy, extent_by, held, hold, load, load_bytes, number, push, put_offset, put_symbol, store,
-    value_type, waiting,
-};
-use c65_genwide::{narrow, next_label, put, width_of};
+use c65_genload::copy;
+use c65_genload::extent_by;
+use c65_genload::held;
+use c65_genload::hold;
+use c65_genload::load;
+use c65_genload::load_bytes;
+use c65_genload::number;
+use c65_genload::push;
+use c65_genload::put_offset;
+use c65_genload::put_symbol;
+use c65_genload::store;
+use c65_genload::value_type;
+use c65_genload::waiting;
+use c65_genwide::narrow;
+use c65_genwide::next_label;
+use c65_genwide::put;
+use c65_genwide::width_of;
 use c65_mach::Mode::Absolute;
-use c65_mach::Op::{Jmp, Lda};
+use c65_mach::Op::Jmp;
+use c65_mach::Op::Lda;
 use std::alloc::AllocError;
 
 /// Puts the lines of the value of an expression, where so many bytes wait, for callers that only lack memory.
@@ -120,13 +185,7 @@ pub fn put_expr(
                 draft,
             )
         }
-        TKind::Step(how, a) => {
-            let place = place_of(frame, pushed, a);
-            put_base(a, frame, pushed, draft)?;
-            let access = access_of(&frame.parts().types, a);
-            let amount = steps::amount_of(frame, *how, &a.ty.ty);
-            steps::put_step(*how, place, access, amount, draft)
-        }
+        TKind::Step(how, a) => put_step_value(a, *how, frame, pushed, draft),
         TKind::Copy(a, b) => {
             put_expr(a, frame, pushed, draft)?;
             push(Width::Ax, draft)?;
@@ -649,6 +708,19 @@ fn put_assign(
             put_expr(b, frame, pushed, draft)?;
             put_word_through(at, low, high, draft)
         }
+        Storing::HeldByte(at) => {
+            put_base(a, frame, pushed, draft)?;
+            put_keep(draft)?;
+            put_expr(b, frame, pushed, draft)?;
+            put_byte_behind(at, draft)?;
+            narrow(value_type(access), draft)
+        }
+        Storing::HeldWord(at) => {
+            put_base(a, frame, pushed, draft)?;
+            put_keep(draft)?;
+            put_expr(b, frame, pushed, draft)?;
+            put_word_behind(at, draft)
+        }
         Storing::Stacked => {
             put_base(a, frame, pushed, draft)?;
             hold(place, draft)?;
@@ -680,6 +752,27 @@ fn put_compound(
     steps::put_open(place, access, kind, draft)?;
     put_expr(b, frame, more(pushed, wait), draft)?;
     steps::put_close(op, operands, kind_of(&b.ty.ty), place, access, draft)
+}
+
+// `++` and `--`
+#[cycle(expression)]
+fn put_step_value(
+    a: &TExpr,
+    how: StepKind,
+    frame: &Frame<'_>,
+    pushed: u16,
+    draft: &mut Draft,
+) -> Result<(), AllocError>
+    ensures lines { OnOk result (draft.new ≡ grown draft.old (step_value_code frame.now pushed draft.old.labels how (typed_of a.now)) (1 + uses None (typed_of a.now))) }
+    ensures kept { OnErr result (Keeps draft.old draft.new) }
+{
+    let label = next_label(draft)?;
+    let place = place_of(frame, pushed, a);
+    let access = access_of(&frame.parts().types, a);
+    let size = target_bytes(frame, &a.ty.ty);
+    let amount = steps::amount_of(frame, how, &a.ty.ty);
+    put_base(a, frame, pushed, draft)?;
+    steps::put_step(how, size, amount, place, access, label, draft)
 }
 
 #[cycle(expression)]

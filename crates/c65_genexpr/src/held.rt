@@ -2,15 +2,15 @@
 ghost use Rattle.std.specs.Prelude.{◌≡◌, OnOk, OnErr};
 ghost use Rattle.c65_gendirect.specs.declared.compare.Sides.TheVariants.{Word};
 ghost use Rattle.c65_genwide.specs.Lines.{with_lines, Keeps};
-ghost use Rattle.c65_genexpr.specs.Held.{held_low, held_high, keep_code};
+ghost use Rattle.c65_genexpr.specs.Held.{held_low, held_high, keep_code, byte_behind_code, word_behind_code};
 
 use c65_code::Draft;
 use c65_code::Line::Do;
-use c65_code::Operand::Zero;
+use c65_code::Operand::{Byte, Nothing, Zero};
 use c65_gendirect::{OperandByte, Sides};
 use c65_genwide::put;
-use c65_mach::Mode::ZeroPage;
-use c65_mach::Op::{Sta, Stx};
+use c65_mach::Mode::{Immediate, Implied, IndirectY, ZeroPage};
+use c65_mach::Op::{Ldy, Pha, Pla, Sta, Stx, Txa};
 use std::alloc::AllocError;
 
 const PTR2: u8 = 10;
@@ -46,6 +46,36 @@ pub fn put_keep(draft: &mut Draft) -> Result<(), AllocError>
         &[
             Do(Sta, ZeroPage, Zero(PTR2)),
             Do(Stx, ZeroPage, Zero(PTR2 + 1)),
+        ],
+    )
+}
+
+/// A goes so far behind the address that waits.
+pub fn put_byte_behind(at: u8, draft: &mut Draft) -> Result<(), AllocError>
+    ensures lines { OnOk result (draft.new ≡ with_lines draft.old (byte_behind_code at)) }
+    ensures kept { OnErr result (Keeps draft.old draft.new) }
+{
+    put(
+        draft,
+        &[Do(Ldy, Immediate, Byte(at)), Do(Sta, IndirectY, Zero(PTR2))],
+    )
+}
+
+/// AX goes so far behind the address that waits, and stays.
+pub fn put_word_behind(at: u8, draft: &mut Draft) -> Result<(), AllocError>
+    ensures lines { OnOk result (draft.new ≡ with_lines draft.old (word_behind_code at)) }
+    ensures kept { OnErr result (Keeps draft.old draft.new) }
+{
+    put(
+        draft,
+        &[
+            Do(Ldy, Immediate, Byte(at)),
+            Do(Sta, IndirectY, Zero(PTR2)),
+            Do(Pha, Implied, Nothing),
+            Do(Txa, Implied, Nothing),
+            Do(Ldy, Immediate, Byte(at.wrapping_add(1))),
+            Do(Sta, IndirectY, Zero(PTR2)),
+            Do(Pla, Implied, Nothing),
         ],
     )
 }

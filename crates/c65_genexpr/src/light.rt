@@ -2,7 +2,7 @@
 ghost use Rattle.std.specs.Prelude.{◌≡◌};
 ghost use Rattle.c65_ctype.specs.Views.{ty_of};
 ghost use Rattle.c65_csem.specs.Views.{typed_of};
-ghost use Rattle.c65_genexpr.specs.Operating.{takes_bytes, is_signed_char, is_light_form, is_light_place, is_light_access, is_light_conversion, is_light};
+ghost use Rattle.c65_genexpr.specs.Operating.{takes_bytes, is_signed_char, is_light_form, is_light_place, is_light_access, is_light_extent, is_light_load, is_light_target, is_light_step, is_light_conversion, is_light};
 
 use crate::operands::operands_of;
 use crate::operating::{Form, Operating, reading_of};
@@ -13,7 +13,7 @@ use c65_code::Width;
 use c65_csem::{TExpr, TKind};
 use c65_ctype::CType;
 use c65_genframe::Frame;
-use c65_genload::{Access, Place, bytes_of};
+use c65_genload::{Access, Extent, Place, bytes_of, extent_of};
 use c65_genwide::width_of;
 use c65_ints::IntType;
 
@@ -71,6 +71,53 @@ fn is_light_access(access: Access) -> bool
     }
 }
 
+// One byte or two: they are read behind an address by Y, and changed where they lie.
+fn is_light_extent(extent: Extent) -> bool
+    ensures { result ≡ is_light_extent extent }
+{
+    match extent {
+        Extent::One | Extent::Two => true,
+        Extent::Three | Extent::Four => false,
+    }
+}
+
+// A load; of a place that is anywhere by whether the address is light.
+fn is_light_load(place: Place, access: Access, base: bool) -> bool
+    ensures { result ≡ is_light_load place access base }
+{
+    match (place, access) {
+        (Place::Far(_), Access::Whole(kind)) => {
+            is_light_extent(extent_of(kind)) && !is_signed_char(kind) && base
+        }
+        (Place::Far(_), Access::Part(_)) => false,
+        (Place::Bank(_) | Place::Near(_) | Place::Data(_, _), _) => is_light_access(access),
+    }
+}
+
+// What is changed lies outside ptr2: regbank has six bytes.
+fn is_light_target(place: Place, base: bool) -> bool
+    ensures { result ≡ is_light_target place base }
+{
+    match place {
+        Place::Far(_) => base,
+        Place::Bank(at) => at < 6,
+        Place::Near(_) | Place::Data(_, _) => true,
+    }
+}
+
+fn is_light_step(place: Place, access: Access, base: bool) -> bool
+    ensures { result ≡ is_light_step place access base }
+{
+    match access {
+        Access::Whole(kind) => {
+            is_light_extent(extent_of(kind))
+                && !is_signed_char(kind)
+                && is_light_target(place, base)
+        }
+        Access::Part(_) => false,
+    }
+}
+
 fn is_light_conversion(to: &CType, from: IntType) -> bool
     ensures { result ≡ is_light_conversion (ty_of to.now) from }
 {
@@ -96,10 +143,16 @@ pub fn is_light(frame: &Frame<'_>, pushed: u16, e: &TExpr) -> bool
         TKind::Deref(a) | TKind::Member(a, _) | TKind::Address(a) | TKind::Decay(a) => {
             is_light(frame, pushed, a)
         }
-        TKind::Load(a) => {
-            is_light_place(place_of(frame, pushed, a))
-                && is_light_access(access_of(&frame.parts().types, a))
-        }
+        TKind::Load(a) => is_light_load(
+            place_of(frame, pushed, a),
+            access_of(&frame.parts().types, a),
+            is_light(frame, pushed, a),
+        ),
+        TKind::Step(_, a) => is_light_step(
+            place_of(frame, pushed, a),
+            access_of(&frame.parts().types, a),
+            is_light(frame, pushed, a),
+        ),
         TKind::Convert(a) => {
             is_light_conversion(&e.ty.ty, kind_of(&a.ty.ty)) && is_light(frame, pushed, a)
         }

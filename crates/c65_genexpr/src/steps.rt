@@ -2,14 +2,16 @@
 ghost use Rattle.std.specs.Prelude.{◌≡◌, OnOk, OnErr};
 ghost use Rattle.c65_ctype.specs.Views.{ty_of};
 ghost use Rattle.c65_genwide.specs.Lines.{with_lines, Keeps};
-ghost use Rattle.c65_genexpr.specs.Steps.{is_up, is_post, amount_of, back_code, after_code, step_code, open_code, close_code};
+ghost use Rattle.c65_genexpr.specs.Steps.{is_up, amount_of, back_code, after_code, long_step_code, step_code, open_code, close_code};
 
 use crate::constants::negative;
 use crate::operands::{Operands, computes, put_behind};
 use crate::types::target_bytes;
 use c65_base::{BinaryOp, StepKind};
 use c65_code::Draft;
+use c65_code::Line::Label;
 use c65_ctype::CType;
+use c65_genchange::{is_post, put_stepped, target_of};
 use c65_genframe::Frame;
 use c65_genload::{
     Access, Place, add, convert, hold, in_field, load, push, settled, store, value_type,
@@ -24,15 +26,6 @@ fn is_up(how: StepKind) -> bool
     match how {
         StepKind::PreInc | StepKind::PostInc => true,
         StepKind::PreDec | StepKind::PostDec => false,
-    }
-}
-
-fn is_post(how: StepKind) -> bool
-    ensures { result ≡ is_post how }
-{
-    match how {
-        StepKind::PostInc | StepKind::PostDec => true,
-        StepKind::PreInc | StepKind::PreDec => false,
     }
 }
 
@@ -74,16 +67,16 @@ fn put_after(
     }
 }
 
-/// `++` and `--`, behind the address of a place that is anywhere. The value behind the step is the
-/// one before it and an amount, modulo 2 to the width, so either is had from the other.
-pub fn put_step(
+// Of bit-fields, and of numbers of four bytes. The value behind the step is the one before it and an amount, modulo 2
+// to the width, so either is had from the other.
+fn put_long_step(
     how: StepKind,
     place: Place,
     access: Access,
     amount: u32,
     draft: &mut Draft,
 ) -> Result<(), AllocError>
-    ensures lines { OnOk result (draft.new ≡ with_lines draft.old (step_code how place access amount)) }
+    ensures lines { OnOk result (draft.new ≡ with_lines draft.old (long_step_code how place access amount)) }
     ensures kept { OnErr result (Keeps draft.old draft.new) }
 {
     hold(place, draft)?;
@@ -91,6 +84,28 @@ pub fn put_step(
     add(value_type(access), amount, draft)?;
     store(place, access, draft)?;
     put_after(how, access, amount, draft)
+}
+
+/// `++` and `--` by so many bytes, which add this amount, behind the base of a place. The label is placed.
+pub fn put_step(
+    how: StepKind,
+    size: u32,
+    amount: u32,
+    place: Place,
+    access: Access,
+    label: u32,
+    draft: &mut Draft,
+) -> Result<(), AllocError>
+    ensures lines { OnOk result (draft.new ≡ with_lines draft.old (step_code how size amount place access label)) }
+    ensures kept { OnErr result (Keeps draft.old draft.new) }
+{
+    match target_of(place, access) {
+        Some(target) => { put_stepped(how, size, place, value_type(access), target, label, draft) }
+        None => {
+            put_long_step(how, place, access, amount, draft)?;
+            put(draft, &[Label(label)])
+        }
+    }
 }
 
 /// Behind the address of the left side of a compound assignment: its value waits, in the type in

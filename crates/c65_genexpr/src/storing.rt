@@ -3,9 +3,10 @@ ghost use Rattle.std.specs.Prelude.{◌≡◌};
 ghost use Rattle.c65_csem.specs.Views.{typed_of};
 ghost use Rattle.c65_genexpr.specs.Direct.{is_pure};
 ghost use Rattle.c65_genexpr.specs.Leaving.{StoresFree};
-ghost use Rattle.c65_genexpr.specs.Storing.{pointer_of, bytes_stored, through, unless_changed, by_pointer, storing_by, storing_of};
+ghost use Rattle.c65_genexpr.specs.Storing.{pointer_of, bytes_stored, through, unless_changed, by_pointer, held_at, held_if, storing_by, storing_of};
 
 use crate::direct::{direct_of, is_fixed, is_pure};
+use crate::light::is_light;
 use crate::operating::word_in;
 use crate::places::{has_base, place_of};
 use crate::types::{access_of, offset_at};
@@ -23,6 +24,10 @@ pub enum Storing {
     RightByte(u8, OperandByte, OperandByte),
     /// The same as a word.
     RightWord(u8, OperandByte, OperandByte),
+    /// The address waits in ptr2 while the value comes, which goes so far behind it, as a byte.
+    HeldByte(u8),
+    /// The same as a word.
+    HeldWord(u8),
     /// The address of a place that is anywhere waits on the software stack.
     Stacked,
 }
@@ -113,13 +118,36 @@ fn storing_by(
     }
 }
 
+fn held_at(at: u8, extent: Extent) -> Storing
+    ensures { result ≡ held_at at extent }
+{
+    match extent {
+        Extent::One => Storing::HeldByte(at),
+        Extent::Two => Storing::HeldWord(at),
+        Extent::Three | Extent::Four => Storing::Stacked,
+    }
+}
+
+// The address waits in ptr2 where the value is light.
+fn held_if(light: bool, place: Place, access: Access) -> Storing
+    ensures { result ≡ held_if light place access }
+{
+    match (light, place, access) {
+        (true, Place::Far(at), Access::Whole(kind)) => held_at(at, extent_of(kind)),
+        (_, _, _) => Storing::Stacked,
+    }
+}
+
 fn form_of(frame: &Frame<'_>, pushed: u16, a: &TExpr, b: &TExpr) -> Storing
     ensures { result ≡ storing_of frame.now pushed (typed_of a.now) (typed_of b.now) }
 {
     let place = place_of(frame, pushed, a);
     let access = access_of(&frame.parts().types, a);
     let pointer = unless_changed(b, pointer_of(frame, pushed, a));
-    storing_by(place, access, pointer, direct_of(frame, pushed, b))
+    match storing_by(place, access, pointer, direct_of(frame, pushed, b)) {
+        Storing::Stacked => held_if(is_light(frame, pushed, b), place, access),
+        how => how,
+    }
 }
 
 /// How a value is assigned to a place, where so many bytes wait. A side that is left out has no labels.

@@ -84,8 +84,8 @@ put_expr-returns-in_ok-put_expr-in-Convert-clause-kept t c = grown_last _ _ _ _ 
 pub put_expr-returns-in_ok-put_expr-in-Comma-clause-kept : goal.put_expr-returns-in_ok-put_expr-in-Comma-clause-kept
 put_expr-returns-in_ok-put_expr-in-Comma-clause-kept t c = grown_last _ _ _ _ _ _ c.in_ok-put_expr-in-Comma.ensures.lines c.put_expr-in-Comma-2.ensures.kept
 
-pub put_expr-returns-in_ok-put_base-in-Step-clause-kept : goal.put_expr-returns-in_ok-put_base-in-Step-clause-kept
-put_expr-returns-in_ok-put_base-in-Step-clause-kept t c = grown_last _ _ _ _ _ _ c.in_ok-put_base-in-Step.ensures.lines c.put_step.ensures.kept
+pub put_step_value-returns-in_ok-put_base-clause-kept : goal.put_step_value-returns-in_ok-put_base-clause-kept
+put_step_value-returns-in_ok-put_base-clause-kept t c = label_last _ _ _ _ c.in_ok-label.ensures.draft (grown_last _ _ _ _ _ _ c.in_ok-put_base.ensures.lines c.put_step.ensures.kept)
 
 pub put_expr-returns-in_ok-put_expr-in-Copy-2-clause-kept : goal.put_expr-returns-in_ok-put_expr-in-Copy-2-clause-kept
 put_expr-returns-in_ok-put_expr-in-Copy-2-clause-kept t c = grown_last _ _ _ _ _ _ c.in_ok-put_expr-in-Copy.ensures.lines (kept_last _ _ _ _ _ c.in_ok-push-in-Copy.ensures.lines (grown_last _ _ _ _ _ _ c.in_ok-put_expr-in-Copy-2.ensures.lines c.copy.ensures.kept))
@@ -299,6 +299,27 @@ put_assign-returns-in_ok-put_byte_through-in-RightByte-clause-kept t c = grown_l
 
 pub put_assign-returns-in_ok-put_expr-in-RightWord-clause-kept : goal.put_assign-returns-in_ok-put_expr-in-RightWord-clause-kept
 put_assign-returns-in_ok-put_expr-in-RightWord-clause-kept t c = grown_last _ _ _ _ _ _ c.in_ok-leave_out-in-RightWord.ensures.lines (grown_last _ _ _ _ _ _ c.in_ok-put_expr-in-RightWord.ensures.lines c.put_word_through.ensures.kept)
+
+pub put_assign-returns-in_err-put_keep-in-HeldByte-clause-kept : goal.put_assign-returns-in_err-put_keep-in-HeldByte-clause-kept
+put_assign-returns-in_err-put_keep-in-HeldByte-clause-kept t c = refused_then c.from_residual-in_err-put_keep-in-HeldByte.result (grown_then _ _ _ _ _ c.in_ok-put_base-in-HeldByte.ensures.lines c.in_err-put_keep-in-HeldByte.ensures.kept)
+
+pub put_assign-returns-in_err-put_expr-in-HeldByte-clause-kept : goal.put_assign-returns-in_err-put_expr-in-HeldByte-clause-kept
+put_assign-returns-in_err-put_expr-in-HeldByte-clause-kept t c = refused_then c.from_residual-in_err-put_expr-in-HeldByte.result (grown_then _ _ _ _ _ c.in_ok-put_base-in-HeldByte.ensures.lines (kept_then _ _ _ _ c.in_ok-put_keep-in-HeldByte.ensures.lines c.in_err-put_expr-in-HeldByte.ensures.kept))
+
+pub put_assign-returns-in_err-put_byte_behind-in-HeldByte-clause-kept : goal.put_assign-returns-in_err-put_byte_behind-in-HeldByte-clause-kept
+put_assign-returns-in_err-put_byte_behind-in-HeldByte-clause-kept t c = refused_then c.from_residual-in_err-put_byte_behind-in-HeldByte.result (grown_then _ _ _ _ _ c.in_ok-put_base-in-HeldByte.ensures.lines (kept_then _ _ _ _ c.in_ok-put_keep-in-HeldByte.ensures.lines (grown_then _ _ _ _ _ c.in_ok-put_expr-in-HeldByte.ensures.lines c.in_err-put_byte_behind-in-HeldByte.ensures.kept)))
+
+pub put_assign-returns-in_ok-put_byte_behind-in-HeldByte-clause-kept : goal.put_assign-returns-in_ok-put_byte_behind-in-HeldByte-clause-kept
+put_assign-returns-in_ok-put_byte_behind-in-HeldByte-clause-kept t c = grown_last _ _ _ _ _ _ c.in_ok-put_base-in-HeldByte.ensures.lines (kept_last _ _ _ _ _ c.in_ok-put_keep-in-HeldByte.ensures.lines (grown_last _ _ _ _ _ _ c.in_ok-put_expr-in-HeldByte.ensures.lines (kept_last _ _ _ _ _ c.in_ok-put_byte_behind-in-HeldByte.ensures.lines c.narrow-in-HeldByte.ensures.kept)))
+
+pub put_assign-returns-in_err-put_keep-in-HeldWord-clause-kept : goal.put_assign-returns-in_err-put_keep-in-HeldWord-clause-kept
+put_assign-returns-in_err-put_keep-in-HeldWord-clause-kept t c = refused_then c.from_residual-in_err-put_keep-in-HeldWord.result (grown_then _ _ _ _ _ c.in_ok-put_base-in-HeldWord.ensures.lines c.in_err-put_keep-in-HeldWord.ensures.kept)
+
+pub put_assign-returns-in_err-put_expr-in-HeldWord-clause-kept : goal.put_assign-returns-in_err-put_expr-in-HeldWord-clause-kept
+put_assign-returns-in_err-put_expr-in-HeldWord-clause-kept t c = refused_then c.from_residual-in_err-put_expr-in-HeldWord.result (grown_then _ _ _ _ _ c.in_ok-put_base-in-HeldWord.ensures.lines (kept_then _ _ _ _ c.in_ok-put_keep-in-HeldWord.ensures.lines c.in_err-put_expr-in-HeldWord.ensures.kept))
+
+pub put_assign-returns-in_ok-put_expr-in-HeldWord-clause-kept : goal.put_assign-returns-in_ok-put_expr-in-HeldWord-clause-kept
+put_assign-returns-in_ok-put_expr-in-HeldWord-clause-kept t c = grown_last _ _ _ _ _ _ c.in_ok-put_base-in-HeldWord.ensures.lines (kept_last _ _ _ _ _ c.in_ok-put_keep-in-HeldWord.ensures.lines (grown_last _ _ _ _ _ _ c.in_ok-put_expr-in-HeldWord.ensures.lines c.put_word_behind.ensures.kept))
 
 pub put_assign-returns-in_err-hold-in-Stacked-clause-kept : goal.put_assign-returns-in_err-hold-in-Stacked-clause-kept
 put_assign-returns-in_err-hold-in-Stacked-clause-kept t c = refused_then c.from_residual-in_err-hold-in-Stacked.result (grown_then _ _ _ _ _ c.in_ok-put_base-in-Stacked.ensures.lines c.in_err-hold-in-Stacked.ensures.kept)

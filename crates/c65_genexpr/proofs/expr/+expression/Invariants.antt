@@ -54,6 +54,9 @@ decreases-put_choice l = 8 * (count (typed_of l.c.now) + (count (typed_of l.a.no
 abbrev pub decreases-put_assign : goal.decreases-put_assign
 decreases-put_assign l = 8 * (count (typed_of l.a.now) + count (typed_of l.b.now)) + 5
 
+abbrev pub decreases-put_step_value : goal.decreases-put_step_value
+decreases-put_step_value l = 8 * count (typed_of l.a.now) + 5
+
 abbrev pub decreases-put_compound : goal.decreases-put_compound
 decreases-put_compound l = 8 * (count (typed_of l.a.now) + count (typed_of l.b.now)) + 5
 

@@ -6,7 +6,7 @@ ghost use Rattle.c65_mach.specs.declared.rows.Op.TheVariants.{Bne};
 ghost use Rattle.c65_genload.specs.Words.{branch};
 ghost use Rattle.c65_gendirect.specs.Words.{instruction, carry_code};
 ghost use Rattle.c65_code.specs.declared.line.Line.TheVariants.{Label};
-ghost use Rattle.c65_geneffect.specs.Changes.{up_code, down_code, byte_code, first_code, next_code, is_neutral, skip_code, low_code, high_code, number_code, aside_code, taken_code, less_code, joined_code, more_code, operand_code, change_code, fill_code};
+ghost use Rattle.c65_genchange.specs.Changes.{up_code, down_code, byte_code, first_code, next_code, is_neutral, skip_code, low_code, high_code, number_code, aside_code, taken_code, less_code, joined_code, more_code, operand_code, change_code, fill_code};
 
 use crate::spots::{Spot, Target, put_again, put_reach};
 use c65_base::BinaryOp;
@@ -36,7 +36,8 @@ pub enum Change {
     Operand(BinaryOp, Target),
 }
 
-fn instruction(op: BinaryOp) -> Op
+/// The instruction of an operator on bytes.
+pub fn instruction(op: BinaryOp) -> Op
     ensures { result ≡ instruction op }
 {
     match op {
@@ -48,8 +49,8 @@ fn instruction(op: BinaryOp) -> Op
     }
 }
 
-// A sum begins with no carry, a difference with no borrow.
-fn put_carry(op: BinaryOp, draft: &mut Draft) -> Result<(), AllocError>
+/// A sum begins with no carry, a difference with no borrow.
+pub fn put_carry(op: BinaryOp, draft: &mut Draft) -> Result<(), AllocError>
     ensures lines { OnOk result (draft.new ≡ with_lines draft.old (carry_code op)) }
     ensures kept { OnErr result (Keeps draft.old draft.new) }
 {
@@ -60,23 +61,24 @@ fn put_carry(op: BinaryOp, draft: &mut Draft) -> Result<(), AllocError>
     }
 }
 
-fn put_label(label: u32, draft: &mut Draft) -> Result<(), AllocError>
+/// Places a label.
+pub fn put_label(label: u32, draft: &mut Draft) -> Result<(), AllocError>
     ensures lines { OnOk result (draft.new ≡ with_lines draft.old (Label label ∷ [])) }
     ensures kept { OnErr result (Keeps draft.old draft.new) }
 {
     put(draft, &[Label(label)])
 }
 
-// The high byte stays where the low one is not 0.
-fn put_over(label: u32, draft: &mut Draft) -> Result<(), AllocError>
+/// The high byte stays where the low one is not 0.
+pub fn put_over(label: u32, draft: &mut Draft) -> Result<(), AllocError>
     ensures lines { OnOk result (draft.new ≡ with_lines draft.old (branch Bne label ∷ [])) }
     ensures kept { OnErr result (Keeps draft.old draft.new) }
 {
     put(draft, &[Do(Bne, Relative, To(label))])
 }
 
-// The high byte goes up where the low one is 0 then.
-fn put_up(target: Target, label: u32, draft: &mut Draft) -> Result<(), AllocError>
+/// One more: the high byte goes up where the low one is 0 then.
+pub fn put_up(target: Target, label: u32, draft: &mut Draft) -> Result<(), AllocError>
     ensures lines { OnOk result (draft.new ≡ with_lines draft.old (up_code target label)) }
     ensures kept { OnErr result (Keeps draft.old draft.new) }
 {
@@ -94,8 +96,8 @@ fn put_up(target: Target, label: u32, draft: &mut Draft) -> Result<(), AllocErro
     }
 }
 
-// The high byte goes down where the low one is 0 before.
-fn put_down(target: Target, label: u32, draft: &mut Draft) -> Result<(), AllocError>
+/// One less: the high byte goes down where the low one is 0 before.
+pub fn put_down(target: Target, label: u32, draft: &mut Draft) -> Result<(), AllocError>
     ensures lines { OnOk result (draft.new ≡ with_lines draft.old (down_code target label)) }
     ensures kept { OnErr result (Keeps draft.old draft.new) }
 {
@@ -133,6 +135,25 @@ fn is_neutral(op: BinaryOp, number: u8) -> bool
     }
 }
 
+/// Reads the lower or only byte, and computes it.
+pub fn put_first(op: BinaryOp, number: u8, spot: Spot, draft: &mut Draft) -> Result<(), AllocError>
+    ensures lines { OnOk result (draft.new ≡ with_lines draft.old (first_code op number spot)) }
+    ensures kept { OnErr result (Keeps draft.old draft.new) }
+{
+    put_reach(Lda, spot, draft)?;
+    put_carry(op, draft)?;
+    put_byte(op, number, spot, draft)
+}
+
+/// The same of the higher byte, with the carry that stands.
+pub fn put_next(op: BinaryOp, number: u8, spot: Spot, draft: &mut Draft) -> Result<(), AllocError>
+    ensures lines { OnOk result (draft.new ≡ with_lines draft.old (next_code op number spot)) }
+    ensures kept { OnErr result (Keeps draft.old draft.new) }
+{
+    put_reach(Lda, spot, draft)?;
+    put_byte(op, number, spot, draft)
+}
+
 fn put_low(op: BinaryOp, number: u8, spot: Spot, draft: &mut Draft) -> Result<(), AllocError>
     ensures lines { OnOk result (draft.new ≡ with_lines draft.old (low_code op number spot)) }
     ensures kept { OnErr result (Keeps draft.old draft.new) }
@@ -140,9 +161,7 @@ fn put_low(op: BinaryOp, number: u8, spot: Spot, draft: &mut Draft) -> Result<()
     if is_neutral(op, number) {
         return put(draft, &[]);
     }
-    put_reach(Lda, spot, draft)?;
-    put_carry(op, draft)?;
-    put_byte(op, number, spot, draft)
+    put_first(op, number, spot, draft)
 }
 
 // The high byte stays where its part of the number is 0 and nothing is carried.
@@ -171,8 +190,7 @@ fn put_high(
         return put(draft, &[]);
     }
     put_skip(op, number, label, draft)?;
-    put_reach(Lda, spot, draft)?;
-    put_byte(op, number, spot, draft)
+    put_next(op, number, spot, draft)
 }
 
 fn put_number(

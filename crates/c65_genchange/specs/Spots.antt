@@ -12,10 +12,10 @@ use Rattle.c65_genload.specs.declared.places.Extent.{Extent}
 use Rattle.c65_genload.specs.declared.places.Extent.TheVariants.{One, Two}
 use Rattle.c65_genload.specs.Words.{sp, ptr1, regbank, zero_page, by_y, absolute}
 use Rattle.c65_genload.specs.Places.{byte_more, word_more, extent_of}
-use Rattle.c65_geneffect.specs.declared.spots.Spot.{Spot}
-use Rattle.c65_geneffect.specs.declared.spots.Spot.TheVariants.{Behind, Data, Zero}
-use Rattle.c65_geneffect.specs.declared.spots.Target.{Target}
-use Rattle.c65_geneffect.specs.declared.spots.Target.TheVariants.{Byte, Word}
+use Rattle.c65_genchange.specs.declared.spots.Spot.{Spot}
+use Rattle.c65_genchange.specs.declared.spots.Spot.TheVariants.{Behind, Data, Zero}
+use Rattle.c65_genchange.specs.declared.spots.Target.{Target}
+use Rattle.c65_genchange.specs.declared.spots.Target.TheVariants.{Byte, Word}
 
 -- so far behind the first byte of a place; of one that is anywhere the address is in ptr1
 abbrev pub spot_at : Place → ℕ → Spot

@@ -1,7 +1,7 @@
 // Bytes that are changed where they lie.
 ghost use Rattle.std.specs.Prelude.{◌≡◌, OnOk, OnErr};
 ghost use Rattle.c65_genwide.specs.Lines.{with_lines, Keeps};
-ghost use Rattle.c65_geneffect.specs.Spots.{spot_at, point_code, target_of, reach_code, again_code, is_counted, all_counted};
+ghost use Rattle.c65_genchange.specs.Spots.{spot_at, point_code, target_of, reach_code, again_code, is_counted, all_counted};
 
 use c65_code::Line::Do;
 use c65_code::Operand::{At, Byte, Zero};

@@ -1,9 +1,8 @@
 -- Numbers that are changed where they lie, where nothing needs their value then (C90 6.3.2.4, 6.3.3.1, 6.3.16). A byte that is
 -- stored is read before by the same lines alone, and no byte of the number is read again. The label is placed once in each form.
-use Rattle.std.specs.Prelude.{ℕ, ◌+◌, ◌==◌, Bool, true, false, if◌then◌else◌, List, [], ◌∷◌, ◌++◌}
+use Rattle.std.specs.Prelude.{ℕ, ◌+◌, ◌==◌, Bool, false, if◌then◌else◌, List, [], ◌∷◌, ◌++◌}
 use Rattle.c65_base.specs.declared.operators.BinaryOp.{BinaryOp}
 use Rattle.c65_base.specs.declared.operators.BinaryOp.TheVariants as ops
-use Rattle.c65_mach.specs.declared.rows.Op.{Op}
 use Rattle.c65_mach.specs.declared.rows.Op.TheVariants.{Bcc, Bcs, Bne, Dec, Inc, Lda, Sbc, Sec, Sta, Stx, Txa}
 use Rattle.c65_code.specs.declared.line.Line.{Line}
 use Rattle.c65_code.specs.declared.line.Line.TheVariants.{Label}
@@ -11,12 +10,12 @@ use Rattle.c65_genwide.specs.Lines.{value}
 use Rattle.c65_genload.specs.Words.{tmp1, tmp2, implied, zero_page, branch}
 use Rattle.c65_genload.specs.Numbers.{first, second}
 use Rattle.c65_gendirect.specs.Words.{instruction, carry_code}
-use Rattle.c65_geneffect.specs.declared.spots.Spot.{Spot}
-use Rattle.c65_geneffect.specs.declared.spots.Target.{Target}
-use Rattle.c65_geneffect.specs.declared.spots.Target.TheVariants.{Byte, Word}
-use Rattle.c65_geneffect.specs.declared.changes.Change.{Change}
-use Rattle.c65_geneffect.specs.declared.changes.Change.TheVariants.{Up, Down, Number, Operand}
-use Rattle.c65_geneffect.specs.Spots.{reach_code, again_code}
+use Rattle.c65_genchange.specs.declared.spots.Spot.{Spot}
+use Rattle.c65_genchange.specs.declared.spots.Target.{Target}
+use Rattle.c65_genchange.specs.declared.spots.Target.TheVariants.{Byte, Word}
+use Rattle.c65_genchange.specs.declared.changes.Change.{Change}
+use Rattle.c65_genchange.specs.declared.changes.Change.TheVariants.{Up, Down, Number, Operand}
+use Rattle.c65_genchange.specs.Spots.{reach_code, again_code}
 
 -- one more: the high byte goes up where the low one is 0 then
 abbrev pub up_code : Target → ℕ → List Line
