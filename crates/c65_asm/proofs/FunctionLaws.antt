@@ -23,7 +23,7 @@ use Rattle.c65_code.specs.Writable.{IsSpelling, IsLetters}
 use Rattle.c65_asm.specs.declared.reader.Open.{Open}
 use Rattle.c65_asm.specs.declared.reader.Open.TheVariants as opens
 use Rattle.c65_asm.specs.Opened.{OpenedFunction}
-use Rattle.c65_asm.specs.Text.{sym_text, set_text, lines_text, function_text, functions_text, line_text}
+use Rattle.c65_asm.specs.Text.{sym_text, set_text, lines_text, body_text, function_with, functions_with, line_text}
 use Rattle.c65_asm.specs.Words.{and_read, is_symbol}
 use Rattle.c65_asm.specs.Rows.{Told, Function, function_by, function_in, row_in}
 use Rattle.c65_asm.specs.Symbols.{with_number}
@@ -295,7 +295,7 @@ pub record IsWellFunction (symbols : List Symbol) (f : Sym × Segment) : Type 0 
   pub kept : IsSegment f.1.lines
   pub well : AreWell symbols f.1.lines
 
-pub function_reads : (symbols : List Symbol) (final names : List (List ℕ)) (bodies : List ℕ) (fs : List (Sym × Segment)) (ds : List Datum) (args : Bool) (f : Sym × Segment) → IsWellFunction symbols f → is_among bodies (renamed symbols final f.0).0 ≡ false → Grows (naming_function symbols f names) final → Reads (at_top names bodies fs ds args opens.Functions) (function_text symbols f) (at_top (naming_function symbols f names) (bodies ++ (renamed symbols final f.0).0 ∷ []) (fs ++ renamed_function symbols final f ∷ []) ds args opens.Functions)
+pub function_reads : (symbols : List Symbol) (final names : List (List ℕ)) (bodies : List ℕ) (fs : List (Sym × Segment)) (ds : List Datum) (args : Bool) (f : Sym × Segment) → IsWellFunction symbols f → is_among bodies (renamed symbols final f.0).0 ≡ false → Grows (naming_function symbols f names) final → Reads (at_top names bodies fs ds args opens.Functions) (function_with body_text symbols f) (at_top (naming_function symbols f names) (bodies ++ (renamed symbols final f.0).0 ∷ []) (fs ++ renamed_function symbols final f ∷ []) ds args opens.Functions)
 function_reads symbols final names bodies fs ds args f w fresh g =
     let own = renamed symbols final f.0 in
     let r = at_top names bodies fs ds args opens.Functions in
@@ -327,7 +327,7 @@ fresh bodies (n ∷ ns) = not (is_among bodies n) && fresh (bodies ++ n ∷ []) 
 abbrev pub function_numbers : List Symbol → List (List ℕ) → List (Sym × Segment) → List ℕ
 function_numbers symbols final fs = map (λ f. (renamed symbols final f.0).0) fs
 
-pub functions_reads : (symbols : List Symbol) (final : List (List ℕ)) (ds : List Datum) (args : Bool) (rest before : List (Sym × Segment)) (names : List (List ℕ)) (bodies : List ℕ) → ((k : ℕ) (f : Sym × Segment) → slice_get rest k ≡ Some f → IsWellFunction symbols f) → fresh bodies (function_numbers symbols final rest) ≡ true → Grows (naming_functions symbols rest names) final → Reads (at_top names bodies before ds args opens.Functions) (functions_text symbols rest) (at_top (naming_functions symbols rest names) (bodies ++ function_numbers symbols final rest) (before ++ map (renamed_function symbols final) rest) ds args opens.Functions)
+pub functions_reads : (symbols : List Symbol) (final : List (List ℕ)) (ds : List Datum) (args : Bool) (rest before : List (Sym × Segment)) (names : List (List ℕ)) (bodies : List ℕ) → ((k : ℕ) (f : Sym × Segment) → slice_get rest k ≡ Some f → IsWellFunction symbols f) → fresh bodies (function_numbers symbols final rest) ≡ true → Grows (naming_functions symbols rest names) final → Reads (at_top names bodies before ds args opens.Functions) (functions_with body_text symbols rest) (at_top (naming_functions symbols rest names) (bodies ++ function_numbers symbols final rest) (before ++ map (renamed_function symbols final) rest) ds args opens.Functions)
 functions_reads symbols final ds args [] before names bodies w free g =
     reads_to (at_top names bodies before ds args opens.Functions) _ _ [] (ap (λ b. at_top names b before ds args opens.Functions) (sym (append-nil bodies)) ∙ ap (λ fs. at_top names (bodies ++ []) fs ds args opens.Functions) (sym (append-nil before))) (reads_none _)
 functions_reads symbols final ds args (f ∷ rest) before names bodies w free g =
@@ -337,9 +337,9 @@ functions_reads symbols final ds args (f ∷ rest) before names bodies w free g 
     let s = at_top names bodies before ds args opens.Functions in
     let t = at_top next (bodies ++ n ∷ []) (before ++ renamed_function symbols final f ∷ []) ds args opens.Functions in
     let u = at_top (naming_functions symbols rest next) ((bodies ++ n ∷ []) ++ function_numbers symbols final rest) ((before ++ renamed_function symbols final f ∷ []) ++ map (renamed_function symbols final) rest) ds args opens.Functions in
-    let one : Reads s (function_text symbols f) t = function_reads symbols final names bodies before ds args f (w 0 f refl) (not_false _ p.0) (grows_on next (naming_functions symbols rest next) final (grows_functions symbols rest next) g) in
-    let more : Reads t (functions_text symbols rest) u = functions_reads symbols final ds args rest (before ++ renamed_function symbols final f ∷ []) next (bodies ++ n ∷ []) (λ k h e. w (suc k) h e) p.1 g in
-    reads_to s u _ (functions_text symbols (f ∷ rest))
+    let one : Reads s (function_with body_text symbols f) t = function_reads symbols final names bodies before ds args f (w 0 f refl) (not_false _ p.0) (grows_on next (naming_functions symbols rest next) final (grows_functions symbols rest next) g) in
+    let more : Reads t (functions_with body_text symbols rest) u = functions_reads symbols final ds args rest (before ++ renamed_function symbols final f ∷ []) next (bodies ++ n ∷ []) (λ k h e. w (suc k) h e) p.1 g in
+    reads_to s u _ (functions_with body_text symbols (f ∷ rest))
     (ap (λ b. at_top (naming_functions symbols rest next) b ((before ++ renamed_function symbols final f ∷ []) ++ map (renamed_function symbols final) rest) ds args opens.Functions) (append_assoc bodies (n ∷ []) (function_numbers symbols final rest))
     ∙ ap (λ fs. at_top (naming_functions symbols rest next) (bodies ++ n ∷ function_numbers symbols final rest) fs ds args opens.Functions) (append_assoc before (renamed_function symbols final f ∷ []) (map (renamed_function symbols final) rest)))
-    (reads_both s t u (function_text symbols f) (functions_text symbols rest) one more)
+    (reads_both s t u (function_with body_text symbols f) (functions_with body_text symbols rest) one more)

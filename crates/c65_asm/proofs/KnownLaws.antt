@@ -1,5 +1,5 @@
 -- What is known at lines does not depend on the numbers of their symbols, nor does the text with it.
-use Rattle.std.proofs.Common.{◌≡◌, ℕ, ◌+◌, ◌<◌, arith, append_assoc, length, drop, get_or, List, [], ◌∷◌, ◌++◌, Option, Some, Bool, map, codes, refl, sym, ap, ◌∙◌}
+use Rattle.std.proofs.Common.{◌≡◌, ℕ, ◌+◌, ◌<◌, arith, append_assoc, length, drop, get_or, List, [], ◌∷◌, ◌++◌, Option, Some, Bool, map, refl, sym, ap, ◌∙◌}
 use Rattle.std.proofs.lemmas.List.{drop_more}
 use Rattle.std.specs.Prelude.{if◌then◌else◌, ◌&&◌, ◌||◌, is_some, unwrap_or}
 use Rattle.c65_mach.specs.declared.rows.Op.{Op}
@@ -15,19 +15,18 @@ use Rattle.c65_code.specs.declared.line.Line.{Line}
 use Rattle.c65_code.specs.declared.line.Line.TheVariants as lines
 use Rattle.c65_code.specs.declared.code.Code.{Code}
 use Rattle.c65_code.specs.declared.code.Symbol.{Symbol}
-use Rattle.c65_code.specs.Segments.{Segment, is_among}
+use Rattle.c65_code.specs.Segments.{is_among}
 use Rattle.c65_code.specs.Access.{register_sets}
 use Rattle.c65_know.specs.declared.note.Note.{Note}
 use Rattle.c65_know.specs.Notes.{nothing_known}
 use Rattle.c65_know.specs.Rows.{operand_of, taken_in, is_constant, set_byte, set_parts, are_known, part_reads, worked, regs_of, with_results, written_by, writes, row_by, after_row}
 use Rattle.c65_know.specs.Known.{Way, after_line, ways_of, met, note_at, known_from, known_of}
-use Rattle.c65_asm.specs.Text.{sym_text, set_text, datums_text, head_text}
-use Rattle.c65_asm.specs.Known.{note_text, noted_text, noted_lines_text, known_function_text, known_functions_text, known_text_of}
+use Rattle.c65_asm.specs.Known.{note_text, noted_text, noted_lines_text, known_body_text, known_text_of}
 use Rattle.c65_asm.specs.Symbols.{symbols_of}
-use Rattle.c65_asm.specs.Renumbered.{naming, naming_line, naming_lines, naming_function, naming_functions, names_of, renamed, renamed_operand, renamed_line, renamed_function, renumbered}
-use Rattle.c65_asm.proofs.NumberLaws.{Grows, grows_same, grows_on, grows_lines, grows_functions, grows_datums}
+use Rattle.c65_asm.specs.Renumbered.{naming_line, naming_lines, renamed, renamed_operand, renamed_line, renumbered}
+use Rattle.c65_asm.proofs.NumberLaws.{Grows, grows_on, grows_lines}
 use Rattle.c65_asm.proofs.FunctionLaws.{same_targets}
-use Rattle.c65_asm.proofs.TextLaws.{sym_same, line_same, datums_same}
+use Rattle.c65_asm.proofs.TextLaws.{IsSame, same_by, line_same}
 
 -- what does not depend on the symbol of an operand is the same of the operand with another number
 abbrev Hides : {A : Type 0} → (Operand → A) → Type 0
@@ -135,27 +134,13 @@ noted_lines_same symbols final (line ∷ ls) (n ∷ notes) names g =
     ap (λ t. t ++ noted_lines_text (symbols_of final) (map (renamed_line symbols final) ls) notes) (noted_same symbols final names n line (grows_on next (naming_lines symbols ls next) final (grows_lines symbols ls next) g))
     ∙ ap (λ t. noted_text symbols n line ++ t) (noted_lines_same symbols final ls notes next g)
 
-function_same : (symbols : List Symbol) (final names : List (List ℕ)) (f : Sym × Segment) → Grows (naming_function symbols f names) final → known_function_text (symbols_of final) (renamed_function symbols final f) ≡ known_function_text symbols f
-function_same symbols final names f g =
-    let named = naming symbols f.0 names in
-    let others = map (renamed_line symbols final) f.1.lines in
-    ap (λ t. codes ".code " ++ t ++ codes "," ++ set_text f.1.out ++ codes "\n" ++ noted_lines_text (symbols_of final) others (known_of others) ++ codes ".end\n") (sym_same symbols final names f.0 (grows_on named (naming_function symbols f names) final (grows_lines symbols f.1.lines named) g))
-    ∙ ap (λ notes. codes ".code " ++ sym_text symbols f.0 ++ codes "," ++ set_text f.1.out ++ codes "\n" ++ noted_lines_text (symbols_of final) others notes ++ codes ".end\n") (same_known symbols final f.1.lines)
-    ∙ ap (λ t. codes ".code " ++ sym_text symbols f.0 ++ codes "," ++ set_text f.1.out ++ codes "\n" ++ t ++ codes ".end\n") (noted_lines_same symbols final f.1.lines (known_of f.1.lines) named g)
-
-functions_same : (symbols : List Symbol) (final : List (List ℕ)) (fs : List (Sym × Segment)) (names : List (List ℕ)) → Grows (naming_functions symbols fs names) final → known_functions_text (symbols_of final) (map (renamed_function symbols final) fs) ≡ known_functions_text symbols fs
-functions_same symbols final [] names g = refl
-functions_same symbols final (f ∷ fs) names g =
-    let next = naming_function symbols f names in
-    ap (λ t. t ++ known_functions_text (symbols_of final) (map (renamed_function symbols final) fs)) (function_same symbols final names f (grows_on next (naming_functions symbols fs next) final (grows_functions symbols fs next) g))
-    ∙ ap (λ t. known_function_text symbols f ++ t) (functions_same symbols final fs next g)
+body_same : IsSame known_body_text
+body_same symbols final names s g =
+    ap (λ notes. noted_lines_text (symbols_of final) (map (renamed_line symbols final) s.lines) notes) (same_known symbols final s.lines)
+    ∙ noted_lines_same symbols final s.lines (known_of s.lines) names g
 
 pub known_text_same : (code : Code) → known_text_of (renumbered code) ≡ known_text_of code
-known_text_same code =
-    let final = names_of code in
-    let named = naming_functions code.symbols code.functions [] in
-    ap (λ t. head_text code.main_args ++ t ++ datums_text (symbols_of final) (renumbered code).datums) (functions_same code.symbols final code.functions [] (grows_datums code.symbols code.datums named))
-    ∙ ap (λ t. head_text code.main_args ++ known_functions_text code.symbols code.functions ++ t) (datums_same code.symbols final code.datums named (grows_same final))
+known_text_same code = same_by known_body_text body_same code
 
 -- one line more of those that are written with their notes
 pub noted_more : (symbols : List Symbol) (out next : List ℕ) (ls : List Line) (notes : List Note) (at : ℕ) (line : Line) (n : Note) → at < length ls → length ls ≡ length notes

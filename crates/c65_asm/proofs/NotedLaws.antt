@@ -19,8 +19,8 @@ use Rattle.c65_know.specs.Notes.{nothing_known}
 use Rattle.c65_know.specs.Known.{Way, after_line, ways_of, note_at, known_from, known_of}
 use Rattle.c65_asm.specs.declared.reading.Answer.{Answer}
 use Rattle.c65_asm.specs.declared.reading.Answer.TheVariants as answers
-use Rattle.c65_asm.specs.Text.{mnemonic_of, before, behind, operand_text, callee_text, label_text, sym_text, set_text, line_text, lines_text, function_text, functions_text, datums_text, head_text, text_of}
-use Rattle.c65_asm.specs.Known.{byte_field, flag_field, bytes_text, flags_text, note_line, note_text, noted_text, noted_lines_text, known_function_text, known_functions_text, known_text_of}
+use Rattle.c65_asm.specs.Text.{mnemonic_of, before, behind, operand_text, callee_text, label_text, sym_text, set_text, line_text, lines_text, body_text, function_with, functions_with, datums_text, head_text, text_of}
+use Rattle.c65_asm.specs.Known.{byte_field, flag_field, bytes_text, flags_text, note_line, note_text, noted_text, noted_lines_text, known_body_text, known_text_of}
 use Rattle.c65_asm.specs.Reading.{start}
 use Rattle.c65_asm.specs.Read.{read_text, RefusesText}
 use Rattle.c65_asm.specs.Renumbered.{renumbered, IsOfTypes}
@@ -129,7 +129,7 @@ first_line symbols f = codes ".code " ++ sym_text symbols f.0 ++ codes "," ++ se
 first_ends : (symbols : List Symbol) (f : Sym × Segment) → EndsWhole (first_line symbols f)
 first_ends symbols f = ends_behind (codes ".code " ++ sym_text symbols f.0 ++ codes "," ++ set_text f.1.out) (codes "\n") (λ begun. refl)
 
-function_leaves : (symbols : List Symbol) (f : Sym × Segment) → has_notes (function_text symbols f) ≡ false → Leaves (known_function_text symbols f) (function_text symbols f)
+function_leaves : (symbols : List Symbol) (f : Sym × Segment) → has_notes (function_with body_text symbols f) ≡ false → Leaves (function_with known_body_text symbols f) (function_with body_text symbols f)
 function_leaves symbols f h =
     let first = first_line symbols f in
     let plain = lines_text symbols f.1.lines in
@@ -139,18 +139,18 @@ function_leaves symbols f h =
     (leaves_both first noted first plain (leaves_same first (first_ends symbols f []) p.0) (lines_leave symbols f.1.lines (Some nothing_known) [] (codes ".end\n") p.1))
     (leaves_same (codes ".end\n") refl refl)
 
-function_whole : (symbols : List Symbol) (f : Sym × Segment) → IsWhole (function_text symbols f)
+function_whole : (symbols : List Symbol) (f : Sym × Segment) → IsWhole (function_with body_text symbols f)
 function_whole symbols f = ends_behind (first_line symbols f ++ lines_text symbols f.1.lines) (codes ".end\n") (λ begun. refl) []
 
-functions_leave : (symbols : List Symbol) (fs : List (Sym × Segment)) → has_notes (functions_text symbols fs) ≡ false → Leaves (known_functions_text symbols fs) (functions_text symbols fs)
+functions_leave : (symbols : List Symbol) (fs : List (Sym × Segment)) → has_notes (functions_with body_text symbols fs) ≡ false → Leaves (functions_with known_body_text symbols fs) (functions_with body_text symbols fs)
 functions_leave symbols [] h = leaves_none
 functions_leave symbols (f ∷ fs) h =
-    let p = bare_both (function_text symbols f) (functions_text symbols fs) (function_whole symbols f) h in
-    leaves_both (known_function_text symbols f) (known_functions_text symbols fs) (function_text symbols f) (functions_text symbols fs) (function_leaves symbols f p.0) (functions_leave symbols fs p.1)
+    let p = bare_both (function_with body_text symbols f) (functions_with body_text symbols fs) (function_whole symbols f) h in
+    leaves_both (function_with known_body_text symbols f) (functions_with known_body_text symbols fs) (function_with body_text symbols f) (functions_with body_text symbols fs) (function_leaves symbols f p.0) (functions_leave symbols fs p.1)
 
-functions_whole : (symbols : List Symbol) (fs : List (Sym × Segment)) → IsWhole (functions_text symbols fs)
+functions_whole : (symbols : List Symbol) (fs : List (Sym × Segment)) → IsWhole (functions_with body_text symbols fs)
 functions_whole symbols [] = refl
-functions_whole symbols (f ∷ fs) = whole_both (function_text symbols f) (functions_text symbols fs) (function_whole symbols f) (functions_whole symbols fs)
+functions_whole symbols (f ∷ fs) = whole_both (function_with body_text symbols f) (functions_with body_text symbols fs) (function_whole symbols f) (functions_whole symbols fs)
 
 -- a whole text
 
@@ -166,8 +166,8 @@ head_whole false = refl
 pub known_leaves : (code : Code) → has_notes (text_of code) ≡ false → without_notes (known_text_of code) ≡ text_of code
 known_leaves code h =
     let head = head_text code.main_args in
-    let functions = functions_text code.symbols code.functions in
-    let known = known_functions_text code.symbols code.functions in
+    let functions = functions_with body_text code.symbols code.functions in
+    let known = functions_with known_body_text code.symbols code.functions in
     let datums = datums_text code.symbols code.datums in
     let whole = whole_both head functions (head_whole code.main_args) (functions_whole code.symbols code.functions) in
     let p = bare_both (head ++ functions) datums whole h in

@@ -27,7 +27,7 @@ use Rattle.c65_asm.specs.declared.reader.Open.{Open}
 use Rattle.c65_asm.specs.declared.reader.Open.TheVariants as opens
 use Rattle.c65_asm.specs.declared.reading.Answer.{Answer}
 use Rattle.c65_asm.specs.declared.reading.Answer.TheVariants as answers
-use Rattle.c65_asm.specs.Text.{spelling_of, sym_text, head_text, functions_text, datums_text, text_of}
+use Rattle.c65_asm.specs.Text.{spelling_of, sym_text, head_text, body_text, functions_with, datums_text, text_of}
 use Rattle.c65_asm.specs.Reading.{start}
 use Rattle.c65_base.specs.declared.refusal.Refusal.{Refusal}
 use Rattle.c65_base.specs.declared.refusal.Refusal.TheVariants as refusals
@@ -239,10 +239,10 @@ lines_read code w t =
     let fs = map (renamed_function code.symbols final) code.functions in
     let a = at_top [] [] [] [] code.main_args opens.Functions in
     let b = at_top named numbers fs [] code.main_args opens.Functions in
-    let f : Reads a (functions_text code.symbols code.functions) b = functions_reads code.symbols final [] code.main_args code.functions [] [] [] (λ k g e. function_well code w t k g e) (functions_fresh code w final grown) grown in
+    let f : Reads a (functions_with body_text code.symbols code.functions) b = functions_reads code.symbols final [] code.main_args code.functions [] [] [] (λ k g e. function_well code w t k g e) (functions_fresh code w final grown) grown in
     let d = datums_reads code.symbols final fs code.main_args code.datums [] named numbers opens.Functions tt (λ k x e. (datum_well code w t k x e, shape_so x.kind x.cells x.zeros (w.shaped k x e))) (datums_fresh code w) (grows_same final) in
     let c = at_top final (numbers ++ datum_numbers code.symbols final code.datums) fs (map (renamed_datum code.symbols final) code.datums) code.main_args d.0 in
-    let all : Reads start (text_of code) c = reads_both start b c (head_text code.main_args ++ functions_text code.symbols code.functions) (datums_text code.symbols code.datums) (reads_both start a b (head_text code.main_args) (functions_text code.symbols code.functions) (head_reads code.main_args) f) d.2 in
+    let all : Reads start (text_of code) c = reads_both start b c (head_text code.main_args ++ functions_with body_text code.symbols code.functions) (datums_text code.symbols code.datums) (reads_both start a b (head_text code.main_args) (functions_with body_text code.symbols code.functions) (head_reads code.main_args) f) d.2 in
     let last = all 1 [] in
     ap (lines_in start 1 []) (sym (append-nil (text_of code))) ∙ last.1
     ∙ ended final (numbers ++ datum_numbers code.symbols final code.datums) fs (map (renamed_datum code.symbols final) code.datums) code.main_args d.0 d.1 last.0

@@ -1,7 +1,6 @@
 -- A code as assembly text with what is known before each instruction (docs/TEXT.md).
 use Rattle.std.specs.Prelude.{ℕ, ◌/◌, ◌%◌, ◌++◌, Bool, if◌then◌else◌, List, [], ◌∷◌, Option, Some, None, codes}
 use Rattle.c65_base.specs.Lines.{hex_digit}
-use Rattle.c65_code.specs.declared.line.Sym.{Sym}
 use Rattle.c65_code.specs.declared.line.Line.{Line}
 use Rattle.c65_code.specs.declared.line.Line.TheVariants.{Label}
 use Rattle.c65_code.specs.declared.code.Code.{Code}
@@ -9,7 +8,7 @@ use Rattle.c65_code.specs.declared.code.Symbol.{Symbol}
 use Rattle.c65_code.specs.Segments.{Segment}
 use Rattle.c65_know.specs.declared.note.Note.{Note}
 use Rattle.c65_know.specs.Known.{known_of}
-use Rattle.c65_asm.specs.Text.{sym_text, set_text, line_text, datums_text, head_text}
+use Rattle.c65_asm.specs.Text.{line_text, body_text, text_with}
 
 -- NAME=HH, where the byte is known
 abbrev pub byte_field : List ℕ → Option ℕ → List ℕ
@@ -46,12 +45,13 @@ abbrev pub noted_lines_text : List Symbol → List Line → List Note → List �
 noted_lines_text symbols (line ∷ lines) (n ∷ notes) = noted_text symbols n line ++ noted_lines_text symbols lines notes
 noted_lines_text symbols _ _ = []
 
-abbrev pub known_function_text : List Symbol → Sym × Segment → List ℕ
-known_function_text symbols f = codes ".code " ++ sym_text symbols f.0 ++ codes "," ++ set_text f.1.out ++ codes "\n" ++ noted_lines_text symbols f.1.lines (known_of f.1.lines) ++ codes ".end\n"
-
-abbrev pub known_functions_text : List Symbol → List (Sym × Segment) → List ℕ
-known_functions_text symbols [] = []
-known_functions_text symbols (f ∷ functions) = known_function_text symbols f ++ known_functions_text symbols functions
+-- the lines with their notes
+abbrev pub known_body_text : List Symbol → Segment → List ℕ
+known_body_text symbols s = noted_lines_text symbols s.lines (known_of s.lines)
 
 abbrev pub known_text_of : Code → List ℕ
-known_text_of code = head_text code.main_args ++ known_functions_text code.symbols code.functions ++ datums_text code.symbols code.datums
+known_text_of code = text_with known_body_text code
+
+-- of either text
+abbrev pub body_by : Bool → List Symbol → Segment → List ℕ
+body_by noted symbols s = if noted then known_body_text symbols s else body_text symbols s

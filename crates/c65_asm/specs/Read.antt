@@ -22,6 +22,10 @@ use Rattle.c65_asm.specs.Reading.{Reading, start, step, named, symbol_now}
 abbrev pub seen : Reader → Reading
 seen r = record { names = r.table; bodies = r.bodies; functions = r.functions.items; datums = r.datums.items; args = r.main_args; opened = r.opened }
 
+-- the lines so far, where a text goes on so
+abbrev pub on_if : Bool → Reading → Option Reading
+on_if is_on r = if is_on then Some r else None
+
 -- what bytes with commas leave of cells
 abbrev pub PutsBytes : List DataCell → List DataCell → Option (List ℕ) → Bool → Type 0
 PutsBytes old new (Some values) true = new ≡ old ++ map (λ v. Byte v) values
@@ -69,8 +73,8 @@ lines_in r line begun (byte ∷ text) =
     else lines_in r line (begun ++ byte ∷ []) text
 
 -- behind the first line: what the lines so far say, and the text there
-abbrev pub seen_first : Reader × Bor (List ℕ) → Reading × List ℕ
-seen_first p = (seen p.0, p.1.now)
+abbrev pub seen_first : Reader → Bor (List ℕ) → Reading × List ℕ
+seen_first r rest = (seen r, rest.now)
 
 abbrev pub with_rest : List ℕ → Reading → Reading × List ℕ
 with_rest rest r = (r, rest)

@@ -176,12 +176,13 @@ abbrev pub lines_text : List Symbol → List Line → List ℕ
 lines_text symbols [] = []
 lines_text symbols (line ∷ lines) = line_text symbols line ++ lines_text symbols lines
 
-abbrev pub function_text : List Symbol → Sym × Segment → List ℕ
-function_text symbols f = codes ".code " ++ sym_text symbols f.0 ++ codes "," ++ set_text f.1.out ++ codes "\n" ++ lines_text symbols f.1.lines ++ codes ".end\n"
+-- a function, by what is put of its lines
+abbrev pub function_with : (List Symbol → Segment → List ℕ) → List Symbol → Sym × Segment → List ℕ
+function_with body symbols f = codes ".code " ++ sym_text symbols f.0 ++ codes "," ++ set_text f.1.out ++ codes "\n" ++ body symbols f.1 ++ codes ".end\n"
 
-abbrev pub functions_text : List Symbol → List (Sym × Segment) → List ℕ
-functions_text symbols [] = []
-functions_text symbols (f ∷ functions) = function_text symbols f ++ functions_text symbols functions
+abbrev pub functions_with : (List Symbol → Segment → List ℕ) → List Symbol → List (Sym × Segment) → List ℕ
+functions_with body symbols [] = []
+functions_with body symbols (f ∷ functions) = function_with body symbols f ++ functions_with body symbols functions
 
 -- bytes that follow one another stand on one line, at most 16 of them; `count` is how many stand on the line so far
 
@@ -215,5 +216,12 @@ datums_text symbols (datum ∷ datums) = datum_by symbols datum.kind datum ++ da
 abbrev pub head_text : Bool → List ℕ
 head_text args = if args then codes "; c65 text 1 args\n" else codes "; c65 text 1\n"
 
+abbrev pub text_with : (List Symbol → Segment → List ℕ) → Code → List ℕ
+text_with body code = head_text code.main_args ++ functions_with body code.symbols code.functions ++ datums_text code.symbols code.datums
+
+-- the lines alone
+abbrev pub body_text : List Symbol → Segment → List ℕ
+body_text symbols s = lines_text symbols s.lines
+
 abbrev pub text_of : Code → List ℕ
-text_of code = head_text code.main_args ++ functions_text code.symbols code.functions ++ datums_text code.symbols code.datums
+text_of code = text_with body_text code

@@ -2,7 +2,7 @@
 // the other. A code that was read is held so against the one that was printed, which takes a small part of the time that a
 // second text would.
 ghost use Rattle.std.specs.Prelude.{◌≡◌, IsTrue};
-ghost use Rattle.c65_asm.specs.Text.{mnemonic_of, before, behind, sym_text, operand_text, callee_text, line_text, lines_text, function_text, functions_text, datum_by, datums_text, text_of};
+ghost use Rattle.c65_asm.specs.Text.{mnemonic_of, before, behind, sym_text, operand_text, callee_text, line_text, lines_text, body_text, function_with, functions_with, datum_by, datums_text, text_of};
 ghost use Rattle.c65_asm.specs.Alike.{HaveOneCell, HaveOneCells};
 
 use crate::mnemonic::mnemonic;
@@ -120,7 +120,7 @@ fn have_one_function(
     theirs: &[Symbol],
     other: &(Sym, Seg),
 ) -> bool
-    ensures { IsTrue result → function_text ours.now function.now ≡ function_text theirs.now other.now }
+    ensures { IsTrue result → function_with body_text ours.now function.now ≡ function_with body_text theirs.now other.now }
 {
     are_one_symbol(ours, function.0, theirs, other.0)
         && are_one_set(function.1.out(), other.1.out())
@@ -133,7 +133,7 @@ fn have_one_functions(
     theirs: &[Symbol],
     others: &[(Sym, Seg)],
 ) -> bool
-    ensures { IsTrue result → functions_text ours.now functions.now ≡ functions_text theirs.now others.now }
+    ensures { IsTrue result → functions_with body_text ours.now functions.now ≡ functions_with body_text theirs.now others.now }
 {
     let mut rest = functions;
     let mut beside = others;

@@ -1,12 +1,9 @@
-// A code as assembly text with what is known before each instruction.
-ghost use Rattle.std.specs.Prelude.{◌≡◌, ◌++◌, length, OnOk, IfOk, IfErr};
-ghost use Rattle.c65_base.specs.declared.refusal.Refusal.TheVariants.{OutOfMemory};
-ghost use Rattle.c65_know.specs.Known.{known_of};
-ghost use Rattle.c65_asm.specs.Known.{byte_field, flag_field, bytes_text, flags_text, note_text, noted_text, noted_lines_text, known_function_text, known_functions_text, known_text_of};
+// Lines as assembly text with what is known before each instruction.
+ghost use Rattle.std.specs.Prelude.{◌≡◌, ◌++◌, length, OnOk, IfOk};
+ghost use Rattle.c65_asm.specs.Known.{byte_field, flag_field, bytes_text, flags_text, note_line, note_text, noted_text, noted_lines_text, known_body_text};
 
-use crate::printing::{head, hex, put_datums, put_line, put_set, put_sym};
-use c65_base::Refusal;
-use c65_code::{Code, Line, Seg, Sym, Symbol};
+use crate::printing::{hex, put_line};
+use c65_code::{Line, Seg, Symbol};
 use c65_know::{Note, update};
 use std::alloc::{AllocError, Global};
 
@@ -67,16 +64,22 @@ fn fields(alloc: Global, note: &Note) -> Result<Vec<u8>, AllocError>
     Ok(text)
 }
 
-fn put_note(out: &mut Vec<u8>, alloc: Global, note: &Note) -> Result<(), AllocError>
-    ensures { OnOk result (out.new.items ≡ out.old.items ++ note_text note.now) }
+fn put_fields(out: &mut Vec<u8>, text: &[u8]) -> Result<(), AllocError>
+    ensures { OnOk result (out.new.items ≡ out.old.items ++ note_line text.now) }
 {
-    let text = fields(alloc, note)?;
     if text.is_empty() {
         return Ok(());
     }
     out.extend_from_slice(b"\t;")?;
-    out.extend_from_slice(&text)?;
+    out.extend_from_slice(text)?;
     out.extend_from_slice(b"\n")
+}
+
+fn put_note(out: &mut Vec<u8>, alloc: Global, note: &Note) -> Result<(), AllocError>
+    ensures { OnOk result (out.new.items ≡ out.old.items ++ note_text note.now) }
+{
+    let text = fields(alloc, note)?;
+    put_fields(out, &text)
 }
 
 fn put_noted(
@@ -113,70 +116,16 @@ fn put_noted_lines(
     Ok(())
 }
 
-fn put_known_lines(
+pub fn put_known_lines(
     out: &mut Vec<u8>,
     alloc: Global,
     symbols: &[Symbol],
     seg: &Seg,
 ) -> Result<(), AllocError>
-    ensures { OnOk result (out.new.items ≡ out.old.items ++ noted_lines_text symbols.now seg.now.lines (known_of seg.now.lines)) }
+    ensures { OnOk result (out.new.items ≡ out.old.items ++ known_body_text symbols.now seg.now) }
 {
     let lines = seg.lines();
     let mut notes = vec![in alloc; Note::nothing(); lines.len()]?;
     update(seg, &mut notes, 0);
     put_noted_lines(out, alloc, symbols, lines, &notes)
-}
-
-fn put_known_function(
-    out: &mut Vec<u8>,
-    alloc: Global,
-    symbols: &[Symbol],
-    function: &(Sym, Seg),
-) -> Result<(), AllocError>
-    ensures { OnOk result (out.new.items ≡ out.old.items ++ known_function_text symbols.now function.now) }
-{
-    out.extend_from_slice(b".code ")?;
-    put_sym(out, symbols, function.0)?;
-    out.extend_from_slice(b",")?;
-    put_set(out, alloc, function.1.out())?;
-    out.extend_from_slice(b"\n")?;
-    put_known_lines(out, alloc, symbols, &function.1)?;
-    out.extend_from_slice(b".end\n")
-}
-
-fn put_known_functions(
-    out: &mut Vec<u8>,
-    alloc: Global,
-    symbols: &[Symbol],
-    functions: &[(Sym, Seg)],
-) -> Result<(), AllocError>
-    ensures { OnOk result (out.new.items ≡ out.old.items ++ known_functions_text symbols.now functions.now) }
-{
-    for function in functions {
-        put_known_function(out, alloc, symbols, function)?;
-    }
-    Ok(())
-}
-
-pub fn known_printed(alloc: Global, code: &Code) -> Result<Vec<u8>, AllocError>
-    ensures { IfOk result (λ text. text.items ≡ known_text_of code.now) }
-{
-    let mut text = Vec::from_slice(alloc, head(code.main_args))?;
-    put_known_functions(
-        &mut text,
-        alloc,
-        code.symbols.as_slice(),
-        code.functions.as_slice(),
-    )?;
-    put_datums(&mut text, code.symbols.as_slice(), code.datums.as_slice())?;
-    Ok(text)
-}
-
-/// The assembly text of a code with a note line before each instruction of which something is known (docs/TEXT.md). It
-/// refuses for want of memory alone.
-pub fn print_known(alloc: Global, code: &Code) -> Result<Vec<u8>, Refusal>
-    ensures ok { IfOk result (λ text. text.items ≡ known_text_of code.now) }
-    ensures refused { IfErr result (λ refusal. refusal ≡ OutOfMemory) }
-{
-    Ok(known_printed(alloc, code)?)
 }

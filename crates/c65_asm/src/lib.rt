@@ -3,6 +3,7 @@
 
 mod alike;
 mod known;
+mod lines;
 mod mnemonic;
 mod notes;
 mod printing;
@@ -10,8 +11,8 @@ mod reader;
 mod reading;
 mod row;
 mod table;
+mod texts;
 mod words;
 
-pub use known::print_known;
-pub use printing::print;
 pub use reading::{Answer, read, read_printed};
+pub use texts::{print, print_known};

@@ -180,7 +180,6 @@ fn likely_places(name: &[u8]) -> Range<usize>
 }
 
 /// The operation of a name.
-#[tactic(auto, using(crate::proofs::NameLaws::op_given))]
 pub fn op_of(name: &[u8]) -> Option<Op>
     ensures { result ≡ op_named name.now }
 {

@@ -1,15 +1,12 @@
-// A code as assembly text.
-ghost use Rattle.std.specs.Prelude.{◌≡◌, ◌++◌, ◌<◌, ◌≤◌, OnOk, IfOk, IfErr, decimal};
+// Lines and data as assembly text.
+ghost use Rattle.std.specs.Prelude.{◌≡◌, ◌++◌, ◌<◌, ◌≤◌, OnOk, IfOk, decimal};
 ghost use Rattle.c65_code.specs.Names.{name_of};
 ghost use Rattle.c65_base.specs.Lines.{hex_digit};
 ghost use Rattle.c65_code.specs.Parts.{IsPart};
-ghost use Rattle.c65_asm.specs.Text.{byte_text, spelling_of, sym_text, place_text, label_text, before, operand_text, behind, letter, letters_of, set_text, passed_text, callee_text, line_text, lines_text, function_text, functions_text, byte_start, line_end, cell_text, opened, cells_text, datum_by, datums_text, head_text, text_of};
+ghost use Rattle.c65_asm.specs.Text.{byte_text, spelling_of, sym_text, place_text, label_text, before, operand_text, behind, letter, letters_of, set_text, passed_text, callee_text, line_text, lines_text, byte_start, line_end, cell_text, opened, cells_text, datum_by, datums_text};
 
 use crate::mnemonic::mnemonic;
-use c65_base::Refusal;
-use c65_code::{
-    Callee, Code, DataCell, Datum, DatumKind, Line, Operand, Part, RegSet, Seg, Sym, Symbol,
-};
+use c65_code::{Callee, DataCell, Datum, DatumKind, Line, Operand, Part, RegSet, Sym, Symbol};
 use c65_mach::Mode;
 use itoa::Buffer;
 use std::alloc::{AllocError, Global};
@@ -200,7 +197,7 @@ pub fn put_line(
     }
 }
 
-fn put_lines(
+pub fn put_lines(
     out: &mut Vec<u8>,
     alloc: Global,
     symbols: &[Symbol],
@@ -210,37 +207,6 @@ fn put_lines(
 {
     for line in lines {
         put_line(out, alloc, symbols, line)?;
-    }
-    Ok(())
-}
-
-fn put_function(
-    out: &mut Vec<u8>,
-    alloc: Global,
-    symbols: &[Symbol],
-    function: &(Sym, Seg),
-) -> Result<(), AllocError>
-    ensures { OnOk result (out.new.items ≡ out.old.items ++ function_text symbols.now function.now) }
-{
-    out.extend_from_slice(b".code ")?;
-    put_sym(out, symbols, function.0)?;
-    out.extend_from_slice(b",")?;
-    put_set(out, alloc, function.1.out())?;
-    out.extend_from_slice(b"\n")?;
-    put_lines(out, alloc, symbols, function.1.lines())?;
-    out.extend_from_slice(b".end\n")
-}
-
-fn put_functions(
-    out: &mut Vec<u8>,
-    alloc: Global,
-    symbols: &[Symbol],
-    functions: &[(Sym, Seg)],
-) -> Result<(), AllocError>
-    ensures { OnOk result (out.new.items ≡ out.old.items ++ functions_text symbols.now functions.now) }
-{
-    for function in functions {
-        put_function(out, alloc, symbols, function)?;
     }
     Ok(())
 }
@@ -343,36 +309,4 @@ pub fn put_datums(out: &mut Vec<u8>, symbols: &[Symbol], datums: &[Datum]) -> Re
         put_datum(out, symbols, datum)?;
     }
     Ok(())
-}
-
-pub fn head(main_args: bool) -> &'static [u8]
-    ensures { result.now ≡ head_text main_args }
-{
-    if main_args {
-        b"; c65 text 1 args\n"
-    } else {
-        b"; c65 text 1\n"
-    }
-}
-
-pub fn printed(alloc: Global, code: &Code) -> Result<Vec<u8>, AllocError>
-    ensures { IfOk result (λ text. text.items ≡ text_of code.now) }
-{
-    let mut text = Vec::from_slice(alloc, head(code.main_args))?;
-    put_functions(
-        &mut text,
-        alloc,
-        code.symbols.as_slice(),
-        code.functions.as_slice(),
-    )?;
-    put_datums(&mut text, code.symbols.as_slice(), code.datums.as_slice())?;
-    Ok(text)
-}
-
-/// The assembly text of a code (docs/TEXT.md). It refuses for want of memory alone.
-pub fn print(alloc: Global, code: &Code) -> Result<Vec<u8>, Refusal>
-    ensures ok { IfOk result (λ text. text.items ≡ text_of code.now) }
-    ensures refused { IfErr result (λ refusal. refusal ≡ Refusal.OutOfMemory) }
-{
-    Ok(printed(alloc, code)?)
 }

@@ -1,18 +1,19 @@
 // A text line by line: what is finished, and what is open.
-ghost use Rattle.std.specs.Prelude.{◌≡◌, ◌++◌, ◌∷◌, [], map, true, Some, None, option_map, IfOk, OnOk, IsTrue};
+ghost use Rattle.std.specs.Prelude.{◌≡◌, ◌++◌, ◌∷◌, [], map, true, Some, None, if◌then◌else◌, option_map, IfOk, OnOk, IsTrue};
 ghost use Rattle.std.specs.List.{list_all};
 ghost use Rattle.c65_code.specs.Segments.{is_among, labels_of, targets_of, is_closing, closed_by, is_closed};
-ghost use Rattle.c65_asm.specs.Rows.{spelled, called, told};
+ghost use Rattle.c65_asm.specs.Rows.{told};
 ghost use Rattle.c65_asm.specs.Opened.{OpenedFunction};
 ghost use Rattle.c65_asm.specs.Symbols.{symbols_of};
-ghost use Rattle.c65_asm.specs.Read.{seen, PutsBytes, Begins, finished};
-ghost use Rattle.c65_asm.specs.Reading.{start, with_operand, operand_of, with_called, callee_of, with_row, line_of, is_new, with_line, may_end, closed, bytes_in, with_values, with_bytes, with_address, datum_of, begun, named, symbol_now, begin_function, begin_data, zero_datum, with_datum, put_zeros, head, top, with_function, opened_function, put_row, in_function, opened_datum, put_address, in_data, step_in, step, new_function, new_datum};
+ghost use Rattle.c65_asm.specs.Read.{seen, on_if, PutsBytes, Begins, finished_at, finished};
+ghost use Rattle.c65_asm.specs.Reading.{start, is_new, with_line, may_end, closed, bytes_in, with_values, with_bytes, with_address, datum_of, begun, named, symbol_now, begin_function, begin_data, zero_datum, with_datum, put_zeros, head, top, with_function, opened_function, put_row, in_function, opened_datum, put_address, in_data, step_in, step, new_function, new_datum};
 
-use crate::row::{Call, Row, Value, row_of};
+use crate::lines::line_of;
+use crate::row::{Row, row_of};
 use crate::table::{Numbers, Table};
 use crate::words::byte;
 use c65_code::{
-    Callee, Code, DataCell, Datum, DatumKind, Draft, Items, Line, Operand, RegSet, Seg, Sym,
+    Code, DataCell, Datum, DatumKind, Draft, Items, Line, Operand, RegSet, Seg, Sym, Symbol,
 };
 use c65_mach::Op;
 use std::alloc::{AllocError, Global};
@@ -79,63 +80,6 @@ pub struct Reader {
     datums: Vec<Datum>,
     main_args: bool,
     opened: Open,
-}
-
-fn operand_of(table: &mut Table, value: Value<'_>) -> Result<Operand, AllocError>
-    ensures table { OnOk result (table.new ≡ with_operand table.old (spelled value.entry)) }
-    ensures operand { IfOk result (λ operand. operand ≡ operand_of table.new (spelled value.entry)) }
-{
-    match value {
-        Value::Nothing => Ok(Operand::Nothing),
-        Value::Byte(value) => Ok(Operand::Byte(value)),
-        Value::Low(symbol, offset) => {
-            let sym = table.symbol(symbol)?;
-            Ok(Operand::Low(sym, offset))
-        }
-        Value::High(symbol, offset) => {
-            let sym = table.symbol(symbol)?;
-            Ok(Operand::High(sym, offset))
-        }
-        Value::Zero(at) => Ok(Operand::Zero(at)),
-        Value::At(symbol, offset) => {
-            let sym = table.symbol(symbol)?;
-            Ok(Operand::At(sym, offset))
-        }
-        Value::To(label) => Ok(Operand::To(label)),
-    }
-}
-
-fn callee_of(table: &mut Table, call: Call<'_>) -> Result<Callee, AllocError>
-    ensures table { OnOk result (table.new ≡ with_called table.old (called call.entry)) }
-    ensures callee { IfOk result (λ callee. callee ≡ callee_of table.new (called call.entry)) }
-{
-    match call {
-        Call::Routine(which) => Ok(Callee::Routine(which)),
-        Call::Function(symbol, reads, gives) => {
-            let sym = table.symbol(symbol)?;
-            Ok(Callee::Function(sym, reads, gives))
-        }
-        Call::Pointer(reads, gives) => Ok(Callee::Pointer(reads, gives)),
-    }
-}
-
-// The line of a function that a row says; none where it says another thing.
-fn line_of(table: &mut Table, row: Row<'_>) -> Result<Option<Line>, AllocError>
-    ensures table { OnOk result (table.new ≡ with_row table.old (told row.entry)) }
-    ensures line { IfOk result (λ line. line ≡ line_of table.new (told row.entry)) }
-{
-    match row {
-        Row::Label(label) => Ok(Some(Line::Label(label))),
-        Row::Do(op, mode, value) => {
-            let operand = operand_of(table, value)?;
-            Ok(Some(Line::Do(op, mode, operand)))
-        }
-        Row::Call(call) => {
-            let callee = callee_of(table, call)?;
-            Ok(Some(Line::Call(callee)))
-        }
-        _ => Ok(None),
-    }
 }
 
 // Whether each label that the lines name is one of these.
@@ -215,12 +159,26 @@ impl OpenFunction {
             mut labels,
         } = self;
         if !line.is_fit() || !is_new(&labels, &line) {
+            drop(draft);
+            drop(labels);
             return Ok(None);
         }
-        add_label(&mut labels, &line)?;
+        match add_label(&mut labels, &line) {
+            Ok(()) => {}
+            Err(error) => {
+                drop(draft);
+                drop(labels);
+                return Err(error);
+            }
+        }
         match draft.push(line) {
             Ok(()) => Ok(Some(OpenFunction { sym, draft, labels })),
-            Err(_) => Err(AllocError),
+            Err(refusal) => {
+                drop(refusal);
+                drop(draft);
+                drop(labels);
+                Err(AllocError)
+            }
         }
     }
 
@@ -354,176 +312,207 @@ impl Reader {
         Ok((sym, is_new))
     }
 
-    fn begin_function(mut self, symbol: &[u8], out: RegSet) -> Result<Option<Reader>, AllocError>
-        ensures { IfOk result (λ next. option_map seen next ≡ begin_function (seen self) symbol.now out) }
+    // Opens this. What was open is dropped here and nowhere else.
+    fn set_opened(&mut self, opened: Open)
+        ensures { seen self.new ≡ record (seen self.old) { opened = opened } }
     {
-        let (sym, is_new) = self.begin(symbol)?;
-        if !is_new {
-            return Ok(None);
-        }
-        self.opened = Open::Function(OpenFunction::new(self.alloc, sym, out));
-        Ok(Some(self))
+        self.opened = opened;
     }
 
-    fn begin_data(mut self, kind: DatumKind, symbol: &[u8]) -> Result<Option<Reader>, AllocError>
-        ensures { IfOk result (λ next. option_map seen next ≡ begin_data (seen self) kind symbol.now) }
+    fn begin_function(&mut self, symbol: &[u8], out: RegSet) -> Result<bool, AllocError>
+        ensures { IfOk result (λ is_on. on_if is_on (seen self.new) ≡ begin_function (seen self.old) symbol.now out) }
     {
         let (sym, is_new) = self.begin(symbol)?;
-        if !is_new {
-            return Ok(None);
+        if is_new {
+            self.set_opened(Open::Function(OpenFunction::new(self.alloc, sym, out)));
         }
-        self.opened = Open::Datum(OpenData {
-            sym,
-            kind,
-            cells: Vec::new(self.alloc),
-            has_room: false,
-        });
-        Ok(Some(self))
+        Ok(is_new)
     }
 
-    fn with_datum(mut self, datum: Datum) -> Result<Reader, AllocError>
-        ensures { IfOk result (λ next. seen next ≡ with_datum (seen self) datum) }
+    fn begin_data(&mut self, kind: DatumKind, symbol: &[u8]) -> Result<bool, AllocError>
+        ensures { IfOk result (λ is_on. on_if is_on (seen self.new) ≡ begin_data (seen self.old) kind symbol.now) }
+    {
+        let (sym, is_new) = self.begin(symbol)?;
+        if is_new {
+            let cells = Vec::new(self.alloc);
+            self.set_opened(Open::Datum(OpenData {
+                sym,
+                kind,
+                cells,
+                has_room: false,
+            }));
+        }
+        Ok(is_new)
+    }
+
+    fn put_datum(&mut self, datum: Datum) -> Result<(), AllocError>
+        ensures { OnOk result (seen self.new ≡ with_datum (seen self.old) datum) }
     {
         self.datums.push(datum)?;
-        self.opened = Open::Data;
-        Ok(self)
+        self.set_opened(Open::Data);
+        Ok(())
     }
 
-    fn put_zeros(mut self, symbol: &[u8], zeros: u32) -> Result<Option<Reader>, AllocError>
-        ensures { IfOk result (λ next. option_map seen next ≡ put_zeros (seen self) symbol.now zeros) }
+    fn put_zeros(&mut self, symbol: &[u8], zeros: u32) -> Result<bool, AllocError>
+        ensures { IfOk result (λ is_on. on_if is_on (seen self.new) ≡ put_zeros (seen self.old) symbol.now zeros) }
     {
         let (sym, is_new) = self.begin(symbol)?;
         if !is_new {
-            return Ok(None);
+            return Ok(false);
         }
         let cells = Items::from_vec(Vec::new(self.alloc));
-        let datum = Datum {
+        self.put_datum(Datum {
             sym,
             kind: DatumKind::Zero,
             cells,
             zeros,
-        };
-        let next = self.with_datum(datum)?;
-        Ok(Some(next))
+        })?;
+        Ok(true)
     }
 
-    fn head(mut self, row: Row<'_>) -> Option<Reader>
-        ensures { option_map seen result ≡ head (seen self) (told row.entry) }
+    fn head(&mut self, row: Row<'_>) -> bool
+        ensures { on_if result (seen self.new) ≡ head (seen self.old) (told row.entry) }
     {
         match row {
             Row::Head(main_args) => {
                 self.main_args = main_args;
-                self.opened = Open::Functions;
-                Some(self)
+                self.set_opened(Open::Functions);
+                true
             }
-            _ => None,
+            _ => false,
         }
     }
 
     // A row where nothing is open.
-    fn top(self, functions_too: bool, row: Row<'_>) -> Result<Option<Reader>, AllocError>
-        ensures { IfOk result (λ next. option_map seen next ≡ top (seen self) functions_too (told row.entry)) }
+    fn top(&mut self, functions_too: bool, row: Row<'_>) -> Result<bool, AllocError>
+        ensures { IfOk result (λ is_on. on_if is_on (seen self.new) ≡ top (seen self.old) functions_too (told row.entry)) }
     {
         match row {
             Row::Function(symbol, out) => {
                 if functions_too {
                     self.begin_function(symbol, out)
                 } else {
-                    Ok(None)
+                    Ok(false)
                 }
             }
             Row::Data(kind, symbol) => self.begin_data(kind, symbol),
             Row::Zeros(symbol, zeros) => self.put_zeros(symbol, zeros),
-            _ => Ok(None),
+            _ => Ok(false),
         }
     }
 
-    fn end_function(mut self, opened: OpenFunction) -> Result<Option<Reader>, AllocError>
-        ensures { IfOk result (λ next. option_map seen next ≡ option_map (with_function (seen self)) (closed opened)) }
+    fn end_function(&mut self, opened: OpenFunction) -> Result<bool, AllocError>
+        ensures { IfOk result (λ is_on. on_if is_on (seen self.new) ≡ option_map (with_function (seen self.old)) (closed opened)) }
     {
         let Some(function) = opened.closed() else {
-            return Ok(None);
+            return Ok(false);
         };
         self.functions.push(function)?;
-        self.opened = Open::Functions;
-        Ok(Some(self))
+        self.set_opened(Open::Functions);
+        Ok(true)
     }
 
-    fn put_row(mut self, opened: OpenFunction, row: Row<'_>) -> Result<Option<Reader>, AllocError>
-        ensures { IfOk result (λ next. option_map seen next ≡ put_row (seen self) opened (told row.entry)) }
+    fn put_code(&mut self, opened: OpenFunction, line: Line) -> Result<bool, AllocError>
+        ensures { IfOk result (λ is_on. on_if is_on (seen self.new) ≡ option_map (opened_function (seen self.old) (seen self.old).names) (with_line opened line)) }
     {
-        let Some(line) = line_of(&mut self.table, row)? else {
-            return Ok(None);
-        };
         let Some(opened) = opened.with_line(line)? else {
-            return Ok(None);
+            return Ok(false);
         };
-        self.opened = Open::Function(opened);
-        Ok(Some(self))
+        self.set_opened(Open::Function(opened));
+        Ok(true)
     }
 
-    fn in_function(self, opened: OpenFunction, row: Row<'_>) -> Result<Option<Reader>, AllocError>
-        ensures { IfOk result (λ next. option_map seen next ≡ in_function (seen self) opened (told row.entry)) }
+    fn put_row(&mut self, opened: OpenFunction, row: Row<'_>) -> Result<bool, AllocError>
+        ensures { IfOk result (λ is_on. on_if is_on (seen self.new) ≡ put_row (seen self.old) opened (told row.entry)) }
+    {
+        match line_of(&mut self.table, row) {
+            Ok(Some(line)) => self.put_code(opened, line),
+            Ok(None) => {
+                drop(opened);
+                Ok(false)
+            }
+            Err(error) => {
+                drop(opened);
+                Err(error)
+            }
+        }
+    }
+
+    fn in_function(&mut self, opened: OpenFunction, row: Row<'_>) -> Result<bool, AllocError>
+        ensures { IfOk result (λ is_on. on_if is_on (seen self.new) ≡ in_function (seen self.old) opened (told row.entry)) }
     {
         match row {
             Row::End => self.end_function(opened),
             Row::Label(_) => self.put_row(opened, row),
             Row::Do(_, _, _) => self.put_row(opened, row),
             Row::Call(_) => self.put_row(opened, row),
-            _ => Ok(None),
+            _ => {
+                drop(opened);
+                Ok(false)
+            }
         }
     }
 
-    fn end_data(self, opened: OpenData) -> Result<Option<Reader>, AllocError>
-        ensures { IfOk result (λ next. option_map seen next ≡ option_map (with_datum (seen self)) (datum_of opened)) }
+    fn end_data(&mut self, opened: OpenData) -> Result<bool, AllocError>
+        ensures { IfOk result (λ is_on. on_if is_on (seen self.new) ≡ option_map (with_datum (seen self.old)) (datum_of opened)) }
     {
         let Some(datum) = opened.closed() else {
-            return Ok(None);
+            return Ok(false);
         };
-        let next = self.with_datum(datum)?;
-        Ok(Some(next))
+        self.put_datum(datum)?;
+        Ok(true)
     }
 
-    fn put_bytes(mut self, opened: OpenData, text: &[u8]) -> Result<Option<Reader>, AllocError>
-        ensures { IfOk result (λ next. option_map seen next ≡ option_map (opened_datum (seen self)) (with_bytes opened text.now)) }
+    fn put_bytes(&mut self, opened: OpenData, text: &[u8]) -> Result<bool, AllocError>
+        ensures { IfOk result (λ is_on. on_if is_on (seen self.new) ≡ option_map (opened_datum (seen self.old)) (with_bytes opened text.now)) }
     {
         let Some(opened) = opened.with_bytes(text)? else {
-            return Ok(None);
+            return Ok(false);
         };
-        self.opened = Open::Datum(opened);
-        Ok(Some(self))
+        self.set_opened(Open::Datum(opened));
+        Ok(true)
     }
 
     fn put_address(
-        mut self,
+        &mut self,
         opened: OpenData,
         symbol: &[u8],
         offset: u16,
-    ) -> Result<Reader, AllocError>
-        ensures { IfOk result (λ next. seen next ≡ put_address (seen self) opened symbol.now offset) }
+    ) -> Result<(), AllocError>
+        ensures { OnOk result (seen self.new ≡ put_address (seen self.old) opened symbol.now offset) }
     {
-        let sym = self.table.symbol(symbol)?;
-        let opened = opened.with_address(sym, offset)?;
-        self.opened = Open::Datum(opened);
-        Ok(self)
+        match self.table.symbol(symbol) {
+            Ok(sym) => {
+                let opened = opened.with_address(sym, offset)?;
+                self.set_opened(Open::Datum(opened));
+                Ok(())
+            }
+            Err(error) => {
+                drop(opened);
+                Err(error)
+            }
+        }
     }
 
-    fn in_data(self, opened: OpenData, row: Row<'_>) -> Result<Option<Reader>, AllocError>
-        ensures { IfOk result (λ next. option_map seen next ≡ in_data (seen self) opened (told row.entry)) }
+    fn in_data(&mut self, opened: OpenData, row: Row<'_>) -> Result<bool, AllocError>
+        ensures { IfOk result (λ is_on. on_if is_on (seen self.new) ≡ in_data (seen self.old) opened (told row.entry)) }
     {
         match row {
             Row::End => self.end_data(opened),
             Row::Bytes(text) => self.put_bytes(opened, text),
             Row::Address(symbol, offset) => {
-                let next = self.put_address(opened, symbol, offset)?;
-                Ok(Some(next))
+                self.put_address(opened, symbol, offset)?;
+                Ok(true)
             }
-            _ => Ok(None),
+            _ => {
+                drop(opened);
+                Ok(false)
+            }
         }
     }
 
-    fn with_row(mut self, row: Row<'_>) -> Result<Option<Reader>, AllocError>
-        ensures { IfOk result (λ next. option_map seen next ≡ step_in (seen self) (seen self).opened (told row.entry)) }
+    fn put_told(&mut self, row: Row<'_>) -> Result<bool, AllocError>
+        ensures { IfOk result (λ is_on. on_if is_on (seen self.new) ≡ step_in (seen self.old) (seen self.old).opened (told row.entry)) }
     {
         match mem::replace(&mut self.opened, Open::Start) {
             Open::Start => Ok(self.head(row)),
@@ -534,13 +523,43 @@ impl Reader {
         }
     }
 
-    /// With one line more, without its line feed; none where no text goes on so.
-    pub fn with_line(self, line: &[u8]) -> Result<Option<Reader>, AllocError>
-        ensures { IfOk result (λ next. option_map seen next ≡ step (seen self) line.now) }
+    /// Takes one line more, without its line feed, and says whether a text goes on so. Where none does, the reader is of no
+    /// more use.
+    pub fn put_line(&mut self, line: &[u8]) -> Result<bool, AllocError>
+        ensures { IfOk result (λ is_on. on_if is_on (seen self.new) ≡ step (seen self.old) line.now) }
     {
         match row_of(line) {
-            Some(row) => self.with_row(row),
-            None => Ok(None),
+            Some(row) => self.put_told(row),
+            None => Ok(false),
+        }
+    }
+
+    fn may_end(&self) -> bool
+        ensures { (code : _) → finished_at self.now.opened code ≡ if result then Some code else None }
+    {
+        matches!(self.opened, Open::Functions | Open::Data)
+    }
+
+    fn into_code(self, symbols: Vec<Symbol>) -> Code
+        ensures { result ≡ record { symbols = symbols.items; functions = self.functions.items; datums = self.datums.items; main_args = self.main_args } }
+    {
+        let Reader {
+            table,
+            bodies,
+            functions,
+            datums,
+            main_args,
+            opened,
+            ..
+        } = self;
+        drop(table);
+        drop(bodies);
+        drop(opened);
+        Code {
+            symbols: Items::from_vec(symbols),
+            functions: Items::from_vec(functions),
+            datums: Items::from_vec(datums),
+            main_args,
         }
     }
 
@@ -548,26 +567,16 @@ impl Reader {
     pub fn finish(self) -> Result<Option<Code>, AllocError>
         ensures { IfOk result (λ code. code ≡ finished (seen self)) }
     {
-        let Reader {
-            alloc,
-            table,
-            functions,
-            datums,
-            main_args,
-            opened,
-            ..
-        } = self;
-        match opened {
-            Open::Functions | Open::Data => {
-                let symbols = table.symbols(alloc)?;
-                Ok(Some(Code {
-                    symbols: Items::from_vec(symbols),
-                    functions: Items::from_vec(functions),
-                    datums: Items::from_vec(datums),
-                    main_args,
-                }))
+        if !self.may_end() {
+            drop(self);
+            return Ok(None);
+        }
+        match self.table.symbols(self.alloc) {
+            Ok(symbols) => Ok(Some(self.into_code(symbols))),
+            Err(error) => {
+                drop(self);
+                Err(error)
             }
-            Open::Start | Open::Function(_) | Open::Datum(_) => Ok(None),
         }
     }
 }

@@ -1,18 +1,18 @@
 // Assembly text back to its code.
-ghost use Rattle.std.specs.Prelude.{◌≡◌, [], IfOk, MatchResult, option_map};
+ghost use Rattle.std.specs.Prelude.{◌≡◌, [], Some, None, if◌then◌else◌, bytes_eq, IfOk, MatchResult, option_map};
 ghost use Rattle.c65_code.specs.Writable.{IsWritable};
 ghost use Rattle.c65_asm.specs.Text.{text_of};
+ghost use Rattle.c65_asm.specs.Known.{known_text_of};
 ghost use Rattle.c65_asm.specs.Renumbered.{IsOfTypes};
 ghost use Rattle.c65_asm.specs.Back.{ReadsBack};
 ghost use Rattle.c65_asm.specs.Reading.{start, step};
-ghost use Rattle.c65_asm.specs.Noted.{noted_answer, read_noted, IsTextOf};
+ghost use Rattle.c65_asm.specs.Noted.{parting, noted_answer, read_noted, IsTextOf};
 ghost use Rattle.c65_asm.specs.Read.{seen, finished, seen_first, with_rest, first_line, at_end, lines_in, compared, read_text, RefusesText};
 
 use crate::alike::are_alike;
-use crate::known::known_printed;
 use crate::notes::{counted, has_notes, next_number, parting, without_notes};
-use crate::printing::printed;
 use crate::reader::Reader;
+use crate::texts::printed;
 use crate::words::cut;
 use c65_base::{Code as Fault, Refusal, Text};
 use c65_code::Code;
@@ -26,26 +26,24 @@ pub enum Answer {
     Line(u32),
 }
 
+// The text behind a line; none where no text goes on with it.
 fn behind<'a>(
-    reader: Reader,
+    reader: &mut Reader,
     line: &[u8],
     rest: &'a [u8],
-) -> Result<Option<(Reader, &'a [u8])>, AllocError>
-    ensures { IfOk result (λ first. option_map seen_first first ≡ option_map (with_rest rest.now) (step (seen reader) line.now)) }
+) -> Result<Option<&'a [u8]>, AllocError>
+    ensures { IfOk result (λ first. option_map (seen_first reader.new) first ≡ option_map (with_rest rest.now) (step (seen reader.old) line.now)) }
 {
-    let next = reader.with_line(line)?;
-    match next {
-        Some(next) => Ok(Some((next, rest))),
-        None => Ok(None),
+    if reader.put_line(line)? {
+        Ok(Some(rest))
+    } else {
+        Ok(None)
     }
 }
 
-// The reader behind the first line, and the text there; none where no text begins so.
-fn with_first_line<'a>(
-    reader: Reader,
-    text: &'a [u8],
-) -> Result<Option<(Reader, &'a [u8])>, AllocError>
-    ensures { IfOk result (λ first. option_map seen_first first ≡ first_line (seen reader) text.now) }
+// The text behind the first line; none where no text begins so.
+fn put_first_line<'a>(reader: &mut Reader, text: &'a [u8]) -> Result<Option<&'a [u8]>, AllocError>
+    ensures { IfOk result (λ first. option_map (seen_first reader.new) first ≡ first_line (seen reader.old) text.now) }
 {
     match cut(text, b'\n') {
         Some((line, rest)) => behind(reader, line, rest),
@@ -70,17 +68,29 @@ fn read_lines(alloc: Global, text: &[u8]) -> Result<Answer, AllocError>
     let mut line = 1_u32;
     let mut rest = text;
     while rest.len() > 0 {
-        let first = with_first_line(reader, rest)?;
-        match first {
-            Some((next, after)) => {
-                reader = next;
+        match put_first_line(&mut reader, rest) {
+            Ok(Some(after)) => {
                 line = next_number(line);
                 rest = after;
             }
-            None => return Ok(Answer::Line(line)),
+            Ok(None) => {
+                drop(reader);
+                return Ok(Answer::Line(line));
+            }
+            Err(error) => {
+                drop(reader);
+                return Err(error);
+            }
         }
     }
     at_end(reader, line)
+}
+
+fn is_text_of(alloc: Global, text: &[u8], code: &Code) -> Result<bool, AllocError>
+    ensures { IfOk result (λ is_same. is_same ≡ bytes_eq (text_of code.now) text.now) }
+{
+    let print = printed(alloc, code, false)?;
+    Ok(print.as_slice() == text)
 }
 
 // The answer, where its code has this text.
@@ -88,14 +98,17 @@ fn compared(alloc: Global, text: &[u8], answer: Answer) -> Result<Answer, AllocE
     ensures { IfOk result (λ compared_answer. compared_answer ≡ compared text.now answer) }
 {
     match answer {
-        Answer::Code(code) => {
-            let print = printed(alloc, &code)?;
-            if print.as_slice() == text {
-                Ok(Answer::Code(code))
-            } else {
+        Answer::Code(code) => match is_text_of(alloc, text, &code) {
+            Ok(true) => Ok(Answer::Code(code)),
+            Ok(false) => {
+                drop(code);
                 Ok(Answer::Line(1))
             }
-        }
+            Err(error) => {
+                drop(code);
+                Err(error)
+            }
+        },
         Answer::Line(line) => Ok(Answer::Line(line)),
     }
 }
@@ -107,20 +120,35 @@ fn answer_to(alloc: Global, text: &[u8]) -> Result<Answer, AllocError>
     compared(alloc, text, answer)
 }
 
+// The number of the first line at which the text is not what is printed of the code with its notes; none where it is that.
+fn parted(alloc: Global, text: &[u8], code: &Code) -> Result<Option<u32>, AllocError>
+    ensures { IfOk result (λ line. line ≡ if bytes_eq text.now (known_text_of code.now) then None else Some (parting 1 text.now (known_text_of code.now))) }
+{
+    let print = printed(alloc, code, true)?;
+    if text == print.as_slice() {
+        Ok(None)
+    } else {
+        Ok(Some(parting(text, &print)))
+    }
+}
+
 // The answer to a text with note lines, by that to its other lines: where those are a code's, it must be what is printed of that
 // code with its notes.
 fn noted_answer(alloc: Global, text: &[u8], answer: Answer) -> Result<Answer, AllocError>
     ensures { IfOk result (λ noted. noted ≡ noted_answer text.now answer) }
 {
     match answer {
-        Answer::Code(code) => {
-            let print = known_printed(alloc, &code)?;
-            if text == print.as_slice() {
-                Ok(Answer::Code(code))
-            } else {
-                Ok(Answer::Line(parting(text, &print)))
+        Answer::Code(code) => match parted(alloc, text, &code) {
+            Ok(None) => Ok(Answer::Code(code)),
+            Ok(Some(line)) => {
+                drop(code);
+                Ok(Answer::Line(line))
             }
-        }
+            Err(error) => {
+                drop(code);
+                Err(error)
+            }
+        },
         Answer::Line(line) => Ok(Answer::Line(counted(line, text))),
     }
 }

@@ -11,8 +11,8 @@ invariant_of-result c =
     let line = c.args.line in
     let kept = c.self.invariant in
     let n : IsTrue (is_new ls line) = sym (c.is_new.ensures ls kept.0) ∙ c.if-not-is_new.false in
-    let labels : c.add_label.new.labels ≡ labels_of (ls ++ line ∷ []) = c.in_ok-add_label.ensures ls kept.0 n in
-    let pushed : c.push.new.self.lines ≡ ls ++ line ∷ [] = ap (λ (d : Drafted). d.lines) c.in-Ok.ensures.ok in
+    let labels : c.add_label.new.labels ≡ labels_of (ls ++ line ∷ []) = c.in-Ok.ensures ls kept.0 n in
+    let pushed : c.push.new.self.lines ≡ ls ++ line ∷ [] = ap (λ (d : Drafted). d.lines) c.in-Ok-push.ensures.ok in
     let fit : is_fit line ≡ true = sym c.is_fit.ensures ∙ c.if-not-is_fit.false in
     let distinct : is_distinct (labels_of ls) ≡ true = ap is_distinct (sym kept.0) ∙ kept.2 in (
       labels ∙ ap labels_of (sym pushed),

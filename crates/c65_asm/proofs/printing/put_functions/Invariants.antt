@@ -1,6 +1,0 @@
-use Rattle.std.proofs.Common.{◌≡◌, ◌++◌, drop}
-use Rattle.c65_asm.specs.Text.{functions_text}
-use Rattle.c65_asm.proofs.printing.put_functions.Given as goal
-
-abbrev pub invariant-loop-function : goal.invariant-loop-function
-invariant-loop-function l = l.out.items ++ functions_text l.symbols (drop l.function-index l.functions) ≡ l.initial.out.items ++ functions_text l.symbols l.functions
