@@ -139,10 +139,10 @@ begun_goes c paths n names z name known h =
     (subst (λ (l : List (List ℕ)). files_typed c n paths [] l (Ok z)) known h)
 
 pub too_many : (c : Command) (paths : List (List ℕ)) → nat_lt (limit_of sizes.Units) (length paths) ≡ true → programs c paths (Err (refusals.TooLarge sizes.Units (length paths)))
-too_many c paths h = subst (λ (b : Bool). by_test {A = (UnitTy × ℕ) × List (List ℕ)} b (just (Err (refusals.TooLarge sizes.Units (length paths)))) (units_typed c paths then units_joined) (Err (refusals.TooLarge sizes.Units (length paths)))) (sym h) refl
+too_many c paths h = subst (λ (b : Bool). by_test b (just (Err (refusals.TooLarge sizes.Units (length paths)))) (units_typed c paths then units_joined) (Err (refusals.TooLarge sizes.Units (length paths)))) (sym h) refl
 
 few : (c : Command) (paths : List (List ℕ)) (z : Result ((UnitTy × ℕ) × List (List ℕ)) Refusal) → length paths ≤ limit_of sizes.Units → (units_typed c paths then units_joined) z → programs c paths z
-few c paths z h = subst (λ (b : Bool). (units_typed c paths then units_joined) z → by_test {A = (UnitTy × ℕ) × List (List ℕ)} b (just (Err (refusals.TooLarge sizes.Units (length paths)))) (units_typed c paths then units_joined) z) (sym (le-ltb (limit_of sizes.Units) (length paths) h)) (λ x. x)
+few c paths z h = subst (λ (b : Bool). (units_typed c paths then units_joined) z → by_test b (just (Err (refusals.TooLarge sizes.Units (length paths)))) (units_typed c paths then units_joined) z) (sym (le-ltb (limit_of sizes.Units) (length paths) h)) (λ x. x)
 
 few_err : (c : Command) (paths : List (List ℕ)) (e : Refusal) → length paths ≤ limit_of sizes.Units → IsFree e ⊎ (units_typed c paths then units_joined) (Err e) → IsFree e ⊎ programs c paths (Err e)
 few_err c paths e h (inl free) = inl free
