@@ -1,5 +1,5 @@
 -- What `depth` does and answers.
-use Rattle.std.proofs.Common.{◌≡◌, ℕ, ◌+◌, ◌^◌, ◌-◌, ◌<◌, ◌≤◌, ◌⊎◌, inl, min, true, false, List, ◌++◌, map, length, drop, get_or, None, Some, Option, Result, Ok, Err, refl, ap, sym, subst, ◌∙◌, arith, append_assoc}
+use Rattle.std.proofs.Common.{◌≡◌, ℕ, ◌+◌, ◌<◌, ◌≤◌, inl, true, false, List, ◌++◌, map, length, drop, get_or, None, Some, Option, Result, Ok, Err, refl, ap, sym, subst, ◌∙◌, arith, append_assoc}
 use Rattle.std.specs.Prelude.{IfOk, IfErr}
 use Rattle.std.proofs.Math.Seq.{drop-cons}
 use Rattle.c65_base.specs.Lines.{joined}
@@ -10,7 +10,6 @@ use Rattle.c65_base.specs.declared.refusal.Size.TheVariants.{Arguments}
 use Rattle.c65_csem.specs.Views.{unit_of}
 use Rattle.c65_depth.specs.Numbers.{certificate_of}
 use Rattle.c65_io.specs.Contents.{Contents}
-use Rattle.c65_io.specs.Told.{append_told}
 use Rattle.c65_lex.specs.declared.define.Define.{Define}
 use Rattle.c65_ppfile.specs.Counts.{FaultCause, MissCause}
 use Rattle.c65_ppline.specs.Relations.{Comes}

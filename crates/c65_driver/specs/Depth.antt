@@ -1,5 +1,5 @@
 -- The command `depth`: the program of its files, and the lines that say what its functions take of the two stacks.
-use Rattle.std.specs.Prelude.{◌≡◌, ◌⊎◌, ℕ, ◌^◌, ◌-◌, ◌<◌, ◌≤◌, Bool, true, false, min, List, [], ◌++◌, length, take, map, codes, decimal, slice_get, unwrap_or, Option, Some, None, Result, Ok, Err, IfErr}
+use Rattle.std.specs.Prelude.{◌≡◌, ◌⊎◌, ℕ, ◌^◌, ◌-◌, ◌<◌, ◌≤◌, Bool, true, false, min, List, [], ◌++◌, length, take, map, codes, decimal, slice_get, unwrap_or, Option, Some, None, Result, Ok, Err}
 use Rattle.c65_base.specs.Lines.{joined}
 use Rattle.c65_base.specs.declared.refusal.Refusal.{Refusal}
 use Rattle.c65_base.specs.declared.refusal.Refusal.TheVariants as refusals

@@ -150,7 +150,7 @@ fn without_certificate(alloc: Global, joined: &Joined, size: u32) -> Result<Repo
 }
 
 /// What the command says of a program with so many bytes of arguments.
-fn report(alloc: Global, joined: &Joined, size: u32) -> Result<Report, Refusal>
+fn reported(alloc: Global, joined: &Joined, size: u32) -> Result<Report, Refusal>
     ensures ok { IfOk result (λ r. IsReport joined.now.names (unit_of joined.now.program.0) joined.now.program.1 size (certificate_of (unit_of joined.now.program.0) joined.now.program.1) r.text.items r.status) }
     ensures refused { IfErr result (λ refusal. refusal ≡ Refusal.OutOfMemory) }
 {
@@ -213,7 +213,7 @@ pub fn depth<F: Files, O: Sink>(
             value: size,
         });
     }
-    match report(alloc, &joined, size as u32) {
+    match reported(alloc, &joined, size as u32) {
         Ok(report) => write_report(out, &report),
         Err(_) => Err(Refusal::OutOfMemory),
     }

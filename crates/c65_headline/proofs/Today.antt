@@ -1,5 +1,5 @@
 -- The clause of the tool as it is today.
-use Rattle.std.proofs.Common.{◌≡◌, ◌∙◌, ℕ, List, Option, Some, None, Result, Ok, Err, ap, sym, subst}
+use Rattle.std.proofs.Common.{◌≡◌, ◌∙◌, ℕ, List, Option, Some, None, Result, Ok, ap, sym, subst}
 use Rattle.c65_base.specs.declared.options.Options.{Options}
 use Rattle.c65_base.specs.declared.refusal.Refusal.{Refusal}
 use Rattle.c65_mach.specs.declared.image.Image.{Image}

@@ -1,4 +1,4 @@
-use Rattle.std.proofs.Common.{◌≡◌, ◌⊎◌, ℕ, [], ◌∷◌, List, map, Ok, Err}
+use Rattle.std.proofs.Common.{List, map}
 use Rattle.c65_csem.specs.Trees.{UnitTy}
 use Rattle.c65_csem.specs.Views.{unit_of}
 use Rattle.c65_driver_chain.specs.Front.{command}
