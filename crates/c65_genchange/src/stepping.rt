@@ -1,6 +1,8 @@
 // `++` and `--` whose value is used (C90 6.3.2.4, 6.3.3.1), of numbers that are changed where they lie.
-ghost use Rattle.std.specs.Prelude.{◌≡◌, ◌++◌, if◌then◌else◌, OnOk, OnErr};
+ghost use Rattle.std.specs.Prelude.{◌≡◌, ◌∷◌, [], ◌++◌, if◌then◌else◌, OnOk, OnErr};
 ghost use Rattle.c65_genwide.specs.Lines.{with_lines, Keeps};
+ghost use Rattle.c65_mach.specs.declared.rows.Op.TheVariants.{Pla};
+ghost use Rattle.c65_genload.specs.Words.{implied};
 ghost use Rattle.c65_genload.specs.Loads.{load_code, bytes_code};
 ghost use Rattle.c65_genload.specs.Places.{extent_of};
 ghost use Rattle.c65_genload.specs.declared.places.Access.TheVariants.{Whole};
@@ -110,6 +112,13 @@ fn put_front(op: BinaryOp, size: u32, target: Target, draft: &mut Draft) -> Resu
     }
 }
 
+fn put_pull(draft: &mut Draft) -> Result<(), AllocError>
+    ensures lines { OnOk result (draft.new ≡ with_lines draft.old (implied Pla ∷ [])) }
+    ensures kept { OnErr result (Keeps draft.old draft.new) }
+{
+    put(draft, &[Do(Pla, Implied, Nothing)])
+}
+
 // From the value before the step, which is there and stays.
 fn put_behind(op: BinaryOp, size: u32, target: Target, draft: &mut Draft) -> Result<(), AllocError>
     ensures lines { OnOk result (draft.new ≡ with_lines draft.old (behind_code op size target)) }
@@ -119,7 +128,10 @@ fn put_behind(op: BinaryOp, size: u32, target: Target, draft: &mut Draft) -> Res
     put_carry(op, draft)?;
     put(draft, &[Do(instruction(op), Immediate, Byte(first(size)))])?;
     match target {
-        Target::Byte(low) => put_reach(Sta, low, draft)?,
+        Target::Byte(low) => {
+            put_reach(Sta, low, draft)?;
+            put_pull(draft)
+        }
         Target::Word(low, high) => {
             put_reach(Sta, low, draft)?;
             put(
@@ -129,10 +141,10 @@ fn put_behind(op: BinaryOp, size: u32, target: Target, draft: &mut Draft) -> Res
                     Do(instruction(op), Immediate, Byte(second(size))),
                 ],
             )?;
-            put_reach(Sta, high, draft)?
+            put_reach(Sta, high, draft)?;
+            put_pull(draft)
         }
     }
-    put(draft, &[Do(Pla, Implied, Nothing)])
 }
 
 // By so many bytes. The address of a place that is anywhere goes from AX to ptr1.

@@ -87,7 +87,7 @@ fn is_light_load(place: Place, access: Access, base: bool) -> bool
 {
     match (place, access) {
         (Place::Far(_), Access::Whole(kind)) => {
-            is_light_extent(extent_of(kind)) && !is_signed_char(kind) && base
+            is_light_extent(extent_of(kind)) && (!is_signed_char(kind) && base)
         }
         (Place::Far(_), Access::Part(_)) => false,
         (Place::Bank(_) | Place::Near(_) | Place::Data(_, _), _) => is_light_access(access),
@@ -111,8 +111,7 @@ fn is_light_step(place: Place, access: Access, base: bool) -> bool
     match access {
         Access::Whole(kind) => {
             is_light_extent(extent_of(kind))
-                && !is_signed_char(kind)
-                && is_light_target(place, base)
+                && (!is_signed_char(kind) && is_light_target(place, base))
         }
         Access::Part(_) => false,
     }
