@@ -1,8 +1,6 @@
 -- What `depth` does and answers.
-use Rattle.std.proofs.Common.{◌≡◌, ℕ, ◌+◌, ◌<◌, ◌≤◌, inl, true, false, List, ◌++◌, map, length, drop, get_or, None, Some, Option, Result, Ok, Err, refl, ap, sym, subst, ◌∙◌, arith, append_assoc}
+use Rattle.std.proofs.Common.{◌≡◌, ℕ, ◌<◌, ◌≤◌, inl, true, false, List, length, None, Some, Option, Result, Ok, Err, refl, sym, subst, arith}
 use Rattle.std.specs.Prelude.{IfOk, IfErr}
-use Rattle.std.proofs.Math.Seq.{drop-cons}
-use Rattle.c65_base.specs.Lines.{joined}
 use Rattle.c65_base.specs.declared.options.Options.{Options}
 use Rattle.c65_base.specs.declared.refusal.Refusal.{Refusal}
 use Rattle.c65_base.specs.declared.refusal.Refusal.TheVariants.{OutOfMemory, ReadFault, WriteFault, TooLarge}
@@ -54,16 +52,6 @@ joins_by c o ds folders files old new r options defines is of refused units read
   units = subst (λ (xs : List (List ℕ)). UnitsLimit (length xs) r) of units;
   program = program_by c old.contents r refused good (λ held told. front_of c held o ds folders files r options defines is of (exact held told));
 }
-
--- ---- its lines
-
--- the line of a row more
-pub one_line : {A : Type 0} (line : A → List ℕ) (rows : List A) (i : ℕ) (row : A) (done next : List ℕ) → i < length rows → row ≡ get_or rows i row
-    → done ++ joined (map line (drop i rows)) ≡ joined (map line rows) → next ≡ done ++ line row → next ++ joined (map line (drop (i + 1) rows)) ≡ joined (map line rows)
-one_line line rows i row done next below is before more =
-    let one : drop i rows ≡ row ∷ drop (i + 1) rows = drop-cons rows i row below ∙ ap (λ x. x ∷ drop (i + 1) rows) (sym is) in
-    ap (λ (xs : List ℕ). xs ++ joined (map line (drop (i + 1) rows))) more ∙ append_assoc done (line row) (joined (map line (drop (i + 1) rows)))
-    ∙ ap (λ xs. done ++ joined (map line xs)) (sym one) ∙ before
 
 -- ---- what is written
 

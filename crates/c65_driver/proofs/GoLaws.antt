@@ -52,7 +52,7 @@ fault_reads f f' i ReadFault cause = (cause.0, omega arith, inl cause.1)
 fault_reads f f' i r cause = (cause, refl)
 
 -- nothing was written
-no_write : (n : ℕ) (r : Refusal) → StopsChain r → WriteCause {T = ℕ} n n (Err r)
+pub no_write : (n : ℕ) (r : Refusal) → StopsChain r → WriteCause {T = ℕ} n n (Err r)
 no_write n WriteFault stops = absurd stops
 no_write n r stops = refl
 
