@@ -164,6 +164,18 @@ pub fn is_light(frame: &Frame<'_>, pushed: u16, e: &TExpr) -> bool
                     Operating::Held(_) | Operating::Stacked => false,
                 }
         }
-        _ => false,
+        TKind::Unary(_, _)
+        | TKind::And(_, _)
+        | TKind::Or(_, _)
+        | TKind::Cond(_, _, _)
+        | TKind::Comma(_, _)
+        | TKind::Assign(_, _)
+        | TKind::AssignOp(_, _, _, _)
+        | TKind::AssignStep(_, _, _)
+        | TKind::Copy(_, _)
+        | TKind::Call(_, _)
+        | TKind::Pack(_)
+        | TKind::Spill(_, _)
+        | TKind::Rest => false,
     }
 }

@@ -84,8 +84,11 @@ put_expr-returns-in_ok-put_expr-in-Convert-clause-kept t c = grown_last _ _ _ _ 
 pub put_expr-returns-in_ok-put_expr-in-Comma-clause-kept : goal.put_expr-returns-in_ok-put_expr-in-Comma-clause-kept
 put_expr-returns-in_ok-put_expr-in-Comma-clause-kept t c = grown_last _ _ _ _ _ _ c.in_ok-put_expr-in-Comma.ensures.lines c.put_expr-in-Comma-2.ensures.kept
 
-pub put_step_value-returns-in_ok-put_base-clause-kept : goal.put_step_value-returns-in_ok-put_base-clause-kept
-put_step_value-returns-in_ok-put_base-clause-kept t c = label_last _ _ _ _ c.in_ok-label.ensures.draft (grown_last _ _ _ _ _ _ c.in_ok-put_base.ensures.lines c.put_step.ensures.kept)
+pub put_step_value-returns-in_err-put_base-clause-kept : goal.put_step_value-returns-in_err-put_base-clause-kept
+put_step_value-returns-in_err-put_base-clause-kept t c = refused_then c.from_residual-in_err-put_base.result (label_then _ _ _ c.in_ok-label.ensures.draft c.in_err-put_base.ensures.kept)
+
+pub put_step_value-returns-clause-kept : goal.put_step_value-returns-clause-kept
+put_step_value-returns-clause-kept t c = label_last _ _ _ _ c.in_ok-label.ensures.draft (grown_last _ _ _ _ _ _ c.in_ok-put_base.ensures.lines c.put_step.ensures.kept)
 
 pub put_expr-returns-in_ok-put_expr-in-Copy-2-clause-kept : goal.put_expr-returns-in_ok-put_expr-in-Copy-2-clause-kept
 put_expr-returns-in_ok-put_expr-in-Copy-2-clause-kept t c = grown_last _ _ _ _ _ _ c.in_ok-put_expr-in-Copy.ensures.lines (kept_last _ _ _ _ _ c.in_ok-push-in-Copy.ensures.lines (grown_last _ _ _ _ _ _ c.in_ok-put_expr-in-Copy-2.ensures.lines c.copy.ensures.kept))
