@@ -7,5 +7,5 @@ returns-in_err-put_point-in-Some-clause-kept c = refused_then c.from_residual-in
 pub returns-in_ok-put_point-in-Some-clause-kept : goal.returns-in_ok-put_point-in-Some-clause-kept
 returns-in_ok-put_point-in-Some-clause-kept c = label_last _ _ _ _ c.in_ok-label.ensures.draft (grown_last _ _ _ _ _ _ c.in_ok-put_base.ensures.lines (kept_last _ _ _ _ _ c.in_ok-put_point-in-Some.ensures.lines c.put_change.ensures.kept))
 
-pub returns-in_ok-put_base-in-None-clause-kept : goal.returns-in_ok-put_base-in-None-clause-kept
-returns-in_ok-put_base-in-None-clause-kept c = label_last _ _ _ _ c.in_ok-label.ensures.draft (grown_last _ _ _ _ _ _ c.in_ok-put_base.ensures.lines c.put_step.ensures.kept)
+pub returns-in-None-clause-kept : goal.returns-in-None-clause-kept
+returns-in-None-clause-kept c = label_last _ _ _ _ c.in_ok-label.ensures.draft (grown_last _ _ _ _ _ _ c.in_ok-put_base.ensures.lines c.put_step.ensures.kept)
