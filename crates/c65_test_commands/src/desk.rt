@@ -28,6 +28,14 @@ impl Desk {
         })
     }
 
+    /// What a file has; nothing where there is none.
+    pub fn held(&self, path: &str) -> &[u8] {
+        match self.device.files.get(path.as_bytes()) {
+            Some(bytes) => bytes,
+            None => &[],
+        }
+    }
+
     /// Adds a text, so many times, to what a file has.
     pub fn add(
         &mut self,
@@ -36,10 +44,7 @@ impl Desk {
         count: u32,
         text: &[u8],
     ) -> Result<(), Refusal> {
-        let mut bytes = Vec::from_slice(
-            alloc,
-            self.device.files.get(path.as_bytes()).unwrap_or(&[]),
-        )?;
+        let mut bytes = Vec::from_slice(alloc, self.held(path))?;
         for _ in 0..count {
             bytes.extend_from_slice(text)?;
         }

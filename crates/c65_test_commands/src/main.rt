@@ -109,7 +109,7 @@ fn show_cuts(
     most: usize,
     words: &str,
 ) -> Result<(), anyhow::Error> {
-    let bytes = desk.device.files.get(path.as_bytes()).unwrap_or(&[]);
+    let bytes = desk.held(path);
     for length in 0..bytes.len().min(most) {
         let left = perform_with(rt.alloc(), path, &bytes[..length], words)?;
         show(rt, &left)?;
@@ -125,7 +125,7 @@ fn try_rest(
     least: usize,
     words: &str,
 ) -> Result<(), anyhow::Error> {
-    let bytes = desk.device.files.get(path.as_bytes()).unwrap_or(&[]);
+    let bytes = desk.held(path);
     for length in least..bytes.len() {
         let _ = perform_with(rt.alloc(), path, &bytes[..length], words)?;
     }

@@ -30,25 +30,28 @@ fn name<'a>(program: &TProgram, names: &'a Names, func: u32) -> &'a str {
     }
 }
 
-fn copy_of(alloc: Global, cert: &Cert) -> Result<Cert, AllocError> {
-    let rows = Vec::from_slice(alloc, &cert.rows)?;
+/// A certificate with another row at a place.
+fn with_row(alloc: Global, cert: &Cert, at: usize, row: CertRow) -> Result<Cert, AllocError> {
+    let mut rows = Vec::new(alloc);
+    for (i, other) in cert.rows.iter().enumerate() {
+        rows.push(if i == at { row } else { *other })?;
+    }
     Ok(Cert { rows })
 }
 
 /// Whether a program takes no certificate of which one number is less by one.
 fn is_least(alloc: Global, program: &TProgram, cert: &Cert) -> Result<bool, Refusal> {
-    for i in 0..cert.rows.len() {
-        let row = cert.rows[i];
-        let mut softer = copy_of(alloc, cert)?;
-        softer.rows[i] = CertRow {
+    for (i, row) in cert.rows.iter().enumerate() {
+        let softer = CertRow {
             soft: row.soft.saturating_sub(1),
-            ..row
+            ..*row
         };
-        let mut harder = copy_of(alloc, cert)?;
-        harder.rows[i] = CertRow {
+        let harder = CertRow {
             hard: row.hard.saturating_sub(1),
-            ..row
+            ..*row
         };
+        let softer = with_row(alloc, cert, i, softer)?;
+        let harder = with_row(alloc, cert, i, harder)?;
         if check(alloc, program, &softer, 0)? || check(alloc, program, &harder, 0)? {
             return Ok(false);
         }
