@@ -4,4 +4,7 @@ mod Closed
 mod Rises
 mod Labels
 mod Tables
+mod Renewed
+mod Edges
+mod Replacing
 pub mod Samples

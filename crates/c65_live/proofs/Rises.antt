@@ -59,6 +59,9 @@ pub room_set : (live : List RegSet) (q : ℕ) (s : RegSet) → q < length live �
 room_set live q s within h = let e = sum_by-set lacks live q s no_parts within in omega arith
 
 -- what the comparison of two sets says
+pub equal : (r : Bool) (s t : RegSet) → r ≡ are_same s t → r ≡ true → s ≡ t
+equal r s t e h = are_same-equal s t (sym e ∙ h)
+
 pub alike : (r : Bool) (s t : RegSet) → r ≡ not (are_same s t) → r ≡ false → s ≡ t
 alike r s t e h = are_same-equal s t (not_false (are_same s t) (sym e ∙ h))
   where

@@ -47,5 +47,9 @@ in_minus s t p h = without (has_part s p) (has_part t p) (sym (has_part-minus s 
 pub minus_in : (s t : RegSet) (p : Part) → IsTrue (has_part s p) → has_part t p ≡ false → IsTrue (has_part (minus_of s t) p)
 minus_in s t p h e = has_part-minus s t p ∙ with_out (has_part s p) (has_part t p) h e
 
+pub yes_or_no : (b : Bool) → IsTrue b ⊎ (b ≡ false)
+yes_or_no true = inl refl
+yes_or_no false = inr refl
+
 pub set_or_none : (sets : List RegSet) (q : ℕ) → unwrap_or (slice_get sets q) no_parts ≡ get_or sets q no_parts
 set_or_none sets q = unwrap_or-slice_get sets q no_parts

@@ -2,4 +2,5 @@ pub mod Live
 pub mod Tables
 pub mod Flows
 pub mod Sweeps
+pub mod Renewals
 pub mod Samples

@@ -1,13 +1,11 @@
 // What each line does to the parts, and which lines may come behind it.
-ghost use Rattle.std.specs.Prelude.{◌≡◌, [], map, Some, OnOk, IfOk, IfErr};
-ghost use Rattle.c65_base.specs.declared.refusal.Refusal.TheVariants.{OutOfMemory};
+ghost use Rattle.std.specs.Prelude.{◌≡◌, [], map, Some, OnOk, IfOk};
 ghost use Rattle.c65_code.specs.Effects.{kept_at_calls};
-ghost use Rattle.c65_code.specs.Segments.{is_closing, target_of};
+ghost use Rattle.c65_code.specs.Segments.{IsSegment, is_closing, target_of};
 ghost use Rattle.c65_live.specs.Live.{left_parts};
 ghost use Rattle.c65_live.specs.Flows.{with_label, labels_from, found, flow_in, flows_of, before_of};
 
-use c65_base::Refusal;
-use c65_code::{Line, Operand, RegSet, Seg};
+use c65_code::{Line, Operand, RegSet};
 use c65_mach::{Mode, Op};
 use indexmap::IndexMap;
 use std::alloc::{AllocError, Global};
@@ -53,7 +51,7 @@ fn left(out: RegSet, line: &Line) -> RegSet
     }
 }
 
-fn closes(line: &Line) -> bool
+pub(crate) fn closes(line: &Line) -> bool
     ensures { result ≡ is_closing line.now }
 {
     matches!(line, Line::Do(Op::Rts | Op::Jmp, _, _))
@@ -116,11 +114,10 @@ fn flows_in(
 
 /// The flow of each line.
 #[tactic(auto, using(crate::proofs::Labels::flows_found))]
-pub(crate) fn flows(alloc: Global, seg: &Seg) -> Result<Vec<Flow>, Refusal>
-    ensures ok { IfOk result (λ flows. flows.items ≡ flows_of seg.now.lines seg.now.out) }
-    ensures refused { IfErr result (λ refusal. refusal ≡ OutOfMemory) }
+pub(crate) fn flows(alloc: Global, out: RegSet, lines: &[Line]) -> Result<Vec<Flow>, AllocError>
+    requires { IsSegment lines.now }
+    ensures { IfOk result (λ flows. flows.items ≡ flows_of lines.now out) }
 {
-    let lines = seg.lines();
     let labels = marked(alloc, lines)?;
-    Ok(flows_in(alloc, seg.out(), &labels, lines)?)
+    flows_in(alloc, out, &labels, lines)
 }

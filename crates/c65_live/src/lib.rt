@@ -4,6 +4,7 @@
 
 mod flow;
 mod laws;
+mod renew;
 mod sweep;
 mod table;
 

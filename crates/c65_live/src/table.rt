@@ -1,13 +1,15 @@
 // The table of what is live after each line of a segment.
-ghost use Rattle.std.specs.Prelude.{◌≡◌, slice_get, IfOk, IfErr, OnOk, OnErr};
+ghost use Rattle.std.specs.Prelude.{◌≡◌, ◌+◌, ◌≤◌, [], ◌++◌, length, slice_get, IfOk, IfErr, OnOk, OnErr};
 ghost use Rattle.c65_base.specs.declared.refusal.Refusal.TheVariants.{OutOfMemory};
+ghost use Rattle.c65_code.specs.Segments.{IsSegment, replaced};
 ghost use Rattle.c65_live.specs.Tables.{Table, IsLiveTable, is_dead};
 ghost use Rattle.c65_live.specs.Sweeps.{IsSettled};
 
 use crate::flow::{Flow, flows};
+use crate::renew::{afters, before_rest, edge};
 use crate::sweep::sweep;
 use c65_base::Refusal;
-use c65_code::{RegSet, Seg};
+use c65_code::{Line, RegSet, Seg};
 use std::alloc::{AllocError, Global};
 use std::marker::Model;
 
@@ -27,17 +29,23 @@ impl Model for LiveTable {
 }
 
 impl LiveTable {
+    /// The table of no lines.
+    pub fn empty(alloc: Global) -> LiveTable
+        ensures { result ≡ record { after = [] } }
+    {
+        LiveTable {
+            alloc,
+            live: Vec::new(alloc),
+        }
+    }
+
     /// The table of a segment's lines.
-    #[tactic(auto, using(crate::proofs::Tables::settled_table))]
     pub fn new(alloc: Global, seg: &Seg) -> Result<LiveTable, Refusal>
         ensures ok { IfOk result (λ table. IsLiveTable seg.now.lines seg.now.out table) }
         ensures refused { IfErr result (λ refusal. refusal ≡ OutOfMemory) }
     {
-        let flows = flows(alloc, seg)?;
-        Ok(LiveTable {
-            alloc,
-            live: settled(alloc, &flows)?,
-        })
+        let live = made(alloc, seg.out(), seg.lines())?;
+        Ok(LiveTable { alloc, live })
     }
 
     /// What is live after a line; None exactly past the end.
@@ -56,17 +64,76 @@ impl LiveTable {
         parts.minus(live) == parts
     }
 
-    /// The table of the segment after `count` lines at a place were replaced by `now` others. After a refusal the table is
-    /// as before.
-    pub fn renew(&mut self, seg: &Seg, at: usize, count: usize, now: usize) -> Result<(), Refusal>
-        ensures ok { OnOk result (IsLiveTable seg.now.lines seg.now.out self.new) }
+    /// The table of the segment's lines with others in place of some, where this is the table of its lines. It is made anew only near
+    /// them, where all ways through their place go straight. After a refusal the table is as before.
+    pub fn replace(
+        &mut self,
+        seg: &Seg,
+        at: usize,
+        count: usize,
+        lines: &[Line],
+    ) -> Result<(), Refusal>
+        requires place { at + count ≤ length seg.now.lines }
+        requires kept { IsSegment (replaced seg.now.lines at count lines.now) }
+        requires table { IsLiveTable seg.now.lines seg.now.out self.old }
+        ensures ok { OnOk result (IsLiveTable (replaced seg.now.lines at count lines.now) seg.now.out self.new) }
         ensures err { OnErr result (self.new ≡ self.old) }
         ensures refused { IfErr result (λ refusal. refusal ≡ OutOfMemory) }
     {
-        let table = LiveTable::new(self.alloc, seg)?;
-        self.live = table.live;
+        let live = replaced(self.alloc, seg, &self.live, at, count, lines)?;
+        self.live = live;
         Ok(())
     }
+}
+
+// The sets after the segment's lines with others in place of some.
+fn replaced(
+    alloc: Global,
+    seg: &Seg,
+    live: &[RegSet],
+    at: usize,
+    count: usize,
+    new: &[Line],
+) -> Result<Vec<RegSet>, AllocError>
+    requires place { at + count ≤ length seg.now.lines }
+    requires kept { IsSegment (replaced seg.now.lines at count new.now) }
+    requires table { IsLiveTable seg.now.lines seg.now.out (record { after = live.now }) }
+    ensures { IfOk result (λ sets. IsLiveTable (replaced seg.now.lines at count new.now) seg.now.out (record { after = sets.items })) }
+{
+    let (out, lines, rest) = (seg.out(), seg.lines(), at + count);
+    let after = before_rest(out, &lines[rest..], &live[rest..]);
+    let Some(first) = edge(out, lines, at, count, new, after) else {
+        let all = joined(alloc, &lines[..at], new, &lines[rest..])?;
+        return made(alloc, out, &all);
+    };
+    let near = joined(alloc, &lines[first..at], new, &[])?;
+    let sets = afters(alloc, out, &near, after)?;
+    joined(alloc, &live[..first], &sets, &live[rest..])
+}
+
+fn joined<T: Copy>(
+    alloc: Global,
+    first: &[T],
+    second: &[T],
+    third: &[T],
+) -> Result<Vec<T>, AllocError>
+    ensures { IfOk result (λ all. all.items ≡ first.now ++ (second.now ++ third.now)) }
+{
+    let mut all = Vec::new(alloc);
+    all.extend_from_slice(first)?;
+    all.extend_from_slice(second)?;
+    all.extend_from_slice(third)?;
+    Ok(all)
+}
+
+// The sets after the lines of a segment.
+#[tactic(auto, using(crate::proofs::Tables::settled_table))]
+fn made(alloc: Global, out: RegSet, lines: &[Line]) -> Result<Vec<RegSet>, AllocError>
+    requires { IsSegment lines.now }
+    ensures { IfOk result (λ live. IsLiveTable lines.now out (record { after = live.items })) }
+{
+    let flows = flows(alloc, out, lines)?;
+    settled(alloc, &flows)
 }
 
 // The sets in which no sweep changes anything any more, from nothing on.

@@ -1,19 +1,17 @@
 // The rules on jumps, branches and labels in turn, until none of them matches anywhere.
-ghost use Rattle.c65_pass.specs.Passes.{IsTableOf};
+ghost use Rattle.std.specs.Prelude.{⊤};
 ghost use Rattle.c65_pass.specs.Rounds.{Only, IsRuleOf, IsPassed};
 
 use crate::find::find;
 use c65_base::{Options, Refusal};
 use c65_know::Noted;
 use c65_live::LiveTable;
-use c65_pass::{Rules, run_rule, run_rules};
+use c65_pass::{Rules, run_flow_rule, run_rules};
 use std::alloc::Global;
 
-// The rules by their numbers, with what is live in the lines that they rewrite.
+// The rules by their numbers.
 #[derive(Drop)]
-struct FlowRules {
-    live: LiveTable,
-}
+struct FlowRules;
 
 impl Rules for FlowRules {
     ghost first = { 1 };
@@ -22,11 +20,11 @@ impl Rules for FlowRules {
 
     ghost among = { Only };
 
-    ghost ready = { λ rules code. IsTableOf code rules.live };
+    ghost ready = { λ rules code. ⊤ };
 
     fn run(&mut self, alloc: Global, code: &mut Noted, turn: u8) -> Result<usize, Refusal> {
         let find = |n: &Noted, l: &LiveTable, at: usize| find(alloc, n, l, at, turn);
-        run_rule(alloc, code, &mut self.live, turn, find)
+        run_flow_rule(alloc, code, turn, find)
     }
 }
 
@@ -35,6 +33,5 @@ impl Rules for FlowRules {
 pub fn optimise_flow(alloc: Global, code: &mut Noted, _options: &Options) -> Result<usize, Refusal>
     ensures { IsPassed (IsRuleOf 1 9) code.old code.new result }
 {
-    let live = LiveTable::new(alloc, code.seg())?;
-    run_rules(alloc, code, &mut FlowRules { live }, 1, 10)
+    run_rules(alloc, code, &mut FlowRules, 1, 10)
 }

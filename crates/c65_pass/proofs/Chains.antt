@@ -12,10 +12,10 @@ use Rattle.c65_code.specs.Segments.{IsSegment}
 use Rattle.c65_code.specs.Weights.{lines_size}
 use Rattle.c65_code.specs.Writable.{IsLineWritable}
 use Rattle.c65_know.specs.Known.{Annotated, annotated}
-use Rattle.c65_live.specs.Tables.{Table}
+use Rattle.c65_live.specs.Tables.{Table, IsLiveTable}
 use Rattle.c65_pass.specs.Rewriting.{Rewriting, bulk, Keeps, rewritten}
 use Rattle.c65_pass.specs.Rules.{match_there, match_at}
-use Rattle.c65_pass.specs.Passes.{IsTableOf, IsGood, Rewrites, none, more, IsFree, IsRun, counted}
+use Rattle.c65_pass.specs.Passes.{IsTableOf, IsTableFor, IsGood, Rewrites, none, more, IsFree, IsRun, counted}
 use Rattle.c65_pass.proofs.Ranks.{rank, lower_rank, lower_bulk, turn}
 
 pub record Kept (old : List Line) (n : ℕ) (new : List Line) : Type 0 where
@@ -54,16 +54,16 @@ joined rule literals out old mid _ n (suc m) first (more {lines = lines} {w = w}
 
 -- one more rewriting, where the rule matches
 pub keeps_next : (rule : ℕ) (literals : List (Sym × List ℕ)) (out : RegSet) (old : List Line) (n : ℕ) (code : Annotated) (table : Table) (at : ℕ) (w : Rewriting)
-    → IsGood rule literals → IsSegment old → Rewrites rule literals out old n code.lines → code ≡ annotated code.lines out → IsTableOf code table
+    → IsGood rule literals → IsSegment old → Rewrites rule literals out old n code.lines → code ≡ annotated code.lines out → IsTableFor rule code table
     → match_at rule literals code table at ≡ Some w → Keeps code.lines w
 keeps_next rule literals out old n code table at w good s chain noted live matches =
     good code table at w (kept rule literals out old code.lines n good s chain).segment (ap (λ a. a.notes) noted) live matches
 
 pub next : (rule : ℕ) (literals : List (Sym × List ℕ)) (out : RegSet) (old : List Line) (n : ℕ) (code : Annotated) (table : Table) (at : ℕ) (w : Rewriting)
-    → Rewrites rule literals out old n code.lines → code ≡ annotated code.lines out → IsTableOf code table
+    → Rewrites rule literals out old n code.lines → code ≡ annotated code.lines out → IsTableFor rule code table
     → match_at rule literals code table at ≡ Some w → Rewrites rule literals out old (suc n) (rewritten code.lines w)
 next rule literals out old n code table at w chain noted live matches =
-    more table at chain (subst (λ a. IsTableOf a table) noted live) (subst (λ a. match_at rule literals a table at ≡ Some w) noted matches)
+    more table at chain (subst (λ a. IsTableFor rule a table) noted live) (subst (λ a. match_at rule literals a table at ≡ Some w) noted matches)
 
 -- what holds after some rewritings, beside their chain
 pub record Done (rule : ℕ) (literals : List (Sym × List ℕ)) (out : RegSet) (old : List Line) (n : ℕ) (new : List Line) : Type 0 where
@@ -112,7 +112,7 @@ first_segment (suc made) first now same since s = since (λ e. absurd (omega (ar
 
 -- after one more rewriting: its chain, its notes, and that the sweep comes nearer to its end
 pub next_chain : (rule : ℕ) (literals : List (Sym × List ℕ)) (out : RegSet) (old : List Line) (n : ℕ) (code new : Annotated) (table : Table) (at : ℕ) (w : Rewriting)
-    → Rewrites rule literals out old n code.lines → code ≡ annotated code.lines out → IsTableOf code table
+    → Rewrites rule literals out old n code.lines → code ≡ annotated code.lines out → IsTableFor rule code table
     → match_at rule literals code table at ≡ Some w → new ≡ annotated (rewritten code.lines w) code.out → Rewrites rule literals out old (suc n) new.lines
 next_chain rule literals out old n code new table at w chain noted live matches e =
     subst (λ a. Rewrites rule literals out old (suc n) a.lines) (sym e) (next rule literals out old n code table at w chain noted live matches)
@@ -124,8 +124,11 @@ next_noted out code new w noted e =
     let there : annotated (rewritten code.lines w) out ≡ annotated new.lines out = ap (λ a. annotated a.lines out) (sym e) in
     (e ∙ same) ∙ there
 
+pub next_table : (code new : Annotated) (w : Rewriting) (table : Table) → new ≡ annotated (rewritten code.lines w) code.out → IsLiveTable (rewritten code.lines w) code.out table → IsTableOf new table
+next_table code new w table e live = subst (λ a. IsLiveTable a.lines a.out table) (sym e) live
+
 pub next_smaller : (rule : ℕ) (literals : List (Sym × List ℕ)) (out : RegSet) (old : List Line) (n : ℕ) (code new : Annotated) (table : Table) (at : ℕ) (w : Rewriting)
-    → IsGood rule literals → IsSegment old → Rewrites rule literals out old n code.lines → code ≡ annotated code.lines out → IsTableOf code table
+    → IsGood rule literals → IsSegment old → Rewrites rule literals out old n code.lines → code ≡ annotated code.lines out → IsTableFor rule code table
     → match_at rule literals code table at ≡ Some w → new ≡ annotated (rewritten code.lines w) code.out
     → rank (bulk old) new.lines * (bulk old + 1) + (length new.lines - at) < rank (bulk old) code.lines * (bulk old + 1) + (length code.lines - at)
 next_smaller rule literals out old n code new table at w good s chain noted live matches e =

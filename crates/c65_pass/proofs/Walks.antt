@@ -70,7 +70,7 @@ walk_more rule literals out old n at code new table now w good walk matches e li
           let next : Once rule literals out final at code.lines (suc k) = makes table tabled matched (subst (λ ls. Once rule literals out final (w.at + length w.lines) ls k) lines once) in
           let same : k + suc n ≡ suc k + n = omega arith in
           rw same (walk.rest (suc k) final next);
-      chain = next_chain rule literals out old n code new table at w walk.chain walk.noted walk.live matches e;
+      chain = next_chain rule literals out old n code new table at w walk.chain walk.noted (λ asks. walk.live) matches e;
       noted = next_noted out code new w walk.noted e;
       first = walk.first;
       segment = subst IsSegment (sym lines) keeps.segment;

@@ -17,6 +17,6 @@ pub use labels::{
 pub use once::run_once;
 pub use register::{Register, Transfer, loaded_by, stored_by, transfer_by};
 pub use rewrite::{Pass, Rewrite};
-pub use rounds::{Rules, run_rule, run_rules};
+pub use rounds::{Rules, run_flow_rule, run_rule, run_rules};
 pub use run::{run_pass, run_pass_on};
 pub use window::{alone, in_place, is_settled, word_loaded};

@@ -5,6 +5,7 @@ ghost use Rattle.c65_code.specs.Segments.{IsSegment};
 ghost use Rattle.c65_code.specs.Weights.{lines_size};
 ghost use Rattle.c65_code.specs.Writable.{IsLineWritable};
 ghost use Rattle.c65_know.specs.Known.{annotated};
+ghost use Rattle.c65_live.specs.Tables.{IsLiveTable};
 ghost use Rattle.c65_pass.specs.Once.{Stays, IsGoodOnce, Once};
 ghost use Rattle.c65_pass.specs.Passes.{Answers, IsTableOf, Rewrites, counted};
 ghost use Rattle.c65_pass.specs.Rewriting.{rewritten};
@@ -22,7 +23,7 @@ impl<'a, F: Fn(&Noted, &LiveTable, usize) -> Result<Option<Rewrite>, Refusal>> P
     /// The pass of a rule that walks once. Its function answers exactly what the rule makes there, or that memory is wanted.
     pub fn once(rule: u8, literals: &'a Literals, find: F) -> Pass<'a, F>
         requires callable { (n : _) (l : _) (at : ℕ) → F.pre find n l at }
-        requires exact { (n : _) (l : _) (at : ℕ) (r : _) → IsTableOf n.now l.now → F.post find n l at r → Answers (match_at rule literals.now.items n.now l.now at) r }
+        requires exact { (n : _) (l : _) (at : ℕ) (r : _) → F.post find n l at r → Answers (match_at rule literals.now.items n.now l.now at) r }
         requires good { IsGoodOnce rule literals.now.items }
         ensures rule { result.rule ≡ rule }
         ensures literals { result.literals.now ≡ literals.now }
@@ -45,6 +46,16 @@ fn put(code: &mut Noted, rewrite: &Rewrite) -> Result<(), Refusal>
     code.replace(rewrite.at(), rewrite.count(), rewrite.lines())
 }
 
+// The table of the lines that a rewriting makes.
+fn follow(code: &Noted, live: &mut LiveTable, rewrite: &Rewrite) -> Result<(), Refusal>
+    requires stays { (at : ℕ) × Stays code.now.lines at rewrite.now }
+    requires table { IsTableOf code.now live.old }
+    ensures ok { OnOk result (IsLiveTable (rewritten code.now.lines rewrite.now) code.now.out live.new) }
+    ensures refused { IfErr result (λ refusal. refusal ≡ OutOfMemory) }
+{
+    live.replace(code.seg(), rewrite.at(), rewrite.count(), rewrite.lines())
+}
+
 /// Rewrites by a rule in one walk from the first line to the last, and answers how often. Lines that it puts in are not looked
 /// at again. After a refusal some of the rewritings are made.
 pub fn run_once<F: Fn(&Noted, &LiveTable, usize) -> Result<Option<Rewrite>, Refusal>>(
@@ -53,7 +64,7 @@ pub fn run_once<F: Fn(&Noted, &LiveTable, usize) -> Result<Option<Rewrite>, Refu
     pass: &Pass<F>,
 ) -> Result<usize, Refusal>
     requires callable { (n : _) (l : _) (at : ℕ) → F.pre pass.now.find n l at }
-    requires exact { (n : _) (l : _) (at : ℕ) (r : _) → IsTableOf n.now l.now → F.post pass.now.find n l at r → Answers (match_at pass.now.rule pass.now.literals.now.items n.now l.now at) r }
+    requires exact { (n : _) (l : _) (at : ℕ) (r : _) → F.post pass.now.find n l at r → Answers (match_at pass.now.rule pass.now.literals.now.items n.now l.now at) r }
     requires good { IsGoodOnce pass.now.rule pass.now.literals.now.items }
     ensures once { IfOk result (λ made. (n : ℕ) × Once pass.now.rule pass.now.literals.now.items code.old.out code.new.lines 0 code.old.lines n × (made ≡ counted n)) }
     ensures chain { (n : ℕ) × Rewrites pass.now.rule pass.now.literals.now.items code.old.out code.old.lines n code.new.lines × IfOk result (λ made. made ≡ counted n) }
@@ -71,8 +82,9 @@ pub fn run_once<F: Fn(&Noted, &LiveTable, usize) -> Result<Option<Rewrite>, Refu
             at += 1;
             continue;
         };
+        follow(code, &mut live, &found)?;
         put(code, &found)?;
-        live.renew(code.seg(), found.at(), found.count(), found.lines().len())?;
+        let _now = code.seg();
         made = made.saturating_add(1);
         at = found.at() + found.lines().len();
     }

@@ -1,7 +1,7 @@
 // Lines that stand for others, and a rule with the function that finds them.
 ghost use Rattle.std.specs.Prelude.{◌≡◌, ℕ, ◌∷◌, [], None, Some, IfOk, IfErr};
 ghost use Rattle.c65_base.specs.declared.refusal.Refusal.TheVariants.{OutOfMemory};
-ghost use Rattle.c65_pass.specs.Passes.{Answers, IsTableOf, IsGood};
+ghost use Rattle.c65_pass.specs.Passes.{Answers, IsGood};
 ghost use Rattle.c65_pass.specs.Rules.{match_at};
 
 use c65_base::Refusal;
@@ -75,7 +75,7 @@ impl<'a, F: Fn(&Noted, &LiveTable, usize) -> Result<Option<Rewrite>, Refusal>> P
     /// The pass of a rule. Its function answers exactly what the rule makes there, or that memory is wanted.
     pub fn new(rule: u8, literals: &'a Literals, find: F) -> Pass<'a, F>
         requires callable { (n : _) (l : _) (at : ℕ) → F.pre find n l at }
-        requires exact { (n : _) (l : _) (at : ℕ) (r : _) → IsTableOf n.now l.now → F.post find n l at r → Answers (match_at rule literals.now.items n.now l.now at) r }
+        requires exact { (n : _) (l : _) (at : ℕ) (r : _) → F.post find n l at r → Answers (match_at rule literals.now.items n.now l.now at) r }
         requires good { IsGood rule literals.now.items }
         ensures rule { result.rule ≡ rule }
         ensures literals { result.literals.now ≡ literals.now }

@@ -3,7 +3,7 @@ ghost use Rattle.std.specs.Prelude.{◌≡◌, ◌≤◌, ◌<◌, ℕ, [], IfOk
 ghost use Rattle.c65_base.specs.declared.refusal.Refusal.TheVariants.{OutOfMemory};
 ghost use Rattle.c65_code.specs.Segments.{IsSegment};
 ghost use Rattle.c65_know.specs.Known.{Annotated};
-ghost use Rattle.c65_pass.specs.Passes.{Answers, IsTableOf, IsGood, counted};
+ghost use Rattle.c65_pass.specs.Passes.{Answers, IsTableOf, IsGood, counted, last_flow_rule};
 ghost use Rattle.c65_pass.specs.Rounds.{Only, InTurn, AreFree, AreGood, RulesRewrite, IsPassed};
 ghost use Rattle.c65_pass.specs.Rules.{match_at};
 
@@ -45,8 +45,9 @@ pub fn run_rule<F: Fn(&Noted, &LiveTable, usize) -> Result<Option<Rewrite>, Refu
     find: F,
 ) -> Result<usize, Refusal>
     requires callable { (n : _) (l : _) (at : ℕ) → F.pre find n l at }
-    requires exact { (n : _) (l : _) (at : ℕ) (r : _) → IsTableOf n.now l.now → F.post find n l at r → Answers (match_at rule [] n.now l.now at) r }
+    requires exact { (n : _) (l : _) (at : ℕ) (r : _) → F.post find n l at r → Answers (match_at rule [] n.now l.now at) r }
     requires good { IsGood rule [] }
+    requires asks { last_flow_rule < rule }
     requires table { IsTableOf code.old live.old }
     ensures passed { IsPassed (Only rule) code.old code.new result }
     ensures table { IfOk result (λ _. IsTableOf code.new live.new) }
@@ -56,6 +57,27 @@ pub fn run_rule<F: Fn(&Noted, &LiveTable, usize) -> Result<Option<Rewrite>, Refu
     };
     let pass = Pass::new(rule, &literals, find);
     run_pass_on(code, live, &pass)
+}
+
+/// A pass of one of the rules on jumps, branches and labels, which ask neither literals nor what is live. Its function answers exactly
+/// what the rule makes at a place, or that memory is wanted.
+pub fn run_flow_rule<F: Fn(&Noted, &LiveTable, usize) -> Result<Option<Rewrite>, Refusal> + Drop>(
+    alloc: Global,
+    code: &mut Noted,
+    rule: u8,
+    find: F,
+) -> Result<usize, Refusal>
+    requires callable { (n : _) (l : _) (at : ℕ) → F.pre find n l at }
+    requires exact { (n : _) (l : _) (at : ℕ) (r : _) → F.post find n l at r → Answers (match_at rule [] n.now l.now at) r }
+    requires good { IsGood rule [] }
+    requires flow { rule ≤ last_flow_rule }
+    ensures { IsPassed (Only rule) code.old code.new result }
+{
+    let literals = Literals {
+        items: Items::from_vec(Vec::new(alloc)),
+    };
+    let pass = Pass::new(rule, &literals, find);
+    run_pass_on(code, &mut LiveTable::empty(alloc), &pass)
 }
 
 // Each turn once.

@@ -1,9 +1,10 @@
 // A rule over the lines of a function, until it matches nowhere.
-ghost use Rattle.std.specs.Prelude.{◌≡◌, ℕ, IfOk, IfErr, OnOk, OnErr};
+ghost use Rattle.std.specs.Prelude.{◌≡◌, ◌<◌, ℕ, IfOk, IfErr, OnOk, OnErr};
 ghost use Rattle.c65_base.specs.declared.refusal.Refusal.TheVariants.{OutOfMemory};
 ghost use Rattle.c65_code.specs.Segments.{IsSegment};
 ghost use Rattle.c65_know.specs.Known.{annotated};
-ghost use Rattle.c65_pass.specs.Passes.{Answers, IsTableOf, IsGood, Rewrites, IsFree, IsRun, counted};
+ghost use Rattle.c65_pass.specs.Passes.{Answers, IsTableFor, IsGood, Rewrites, IsFree, IsRun, counted, last_flow_rule};
+ghost use Rattle.c65_live.specs.Tables.{IsLiveTable};
 ghost use Rattle.c65_pass.specs.Rewriting.{Keeps, rewritten};
 ghost use Rattle.c65_pass.specs.Rules.{match_at};
 
@@ -13,6 +14,9 @@ use c65_know::Noted;
 use c65_live::LiveTable;
 use std::alloc::Global;
 
+// The last of the rules on jumps, branches and labels: none of them asks what is live.
+const LAST_FLOW_RULE: u8 = 9;
+
 /// What the rule makes at a place.
 pub(crate) fn find_at<F: Fn(&Noted, &LiveTable, usize) -> Result<Option<Rewrite>, Refusal>>(
     code: &Noted,
@@ -21,28 +25,32 @@ pub(crate) fn find_at<F: Fn(&Noted, &LiveTable, usize) -> Result<Option<Rewrite>
     pass: &Pass<F>,
 ) -> Result<Option<Rewrite>, Refusal>
     requires callable { (n : _) (l : _) (at : ℕ) → F.pre pass.now.find n l at }
-    requires exact { (n : _) (l : _) (at : ℕ) (r : _) → IsTableOf n.now l.now → F.post pass.now.find n l at r → Answers (match_at pass.now.rule pass.now.literals.now.items n.now l.now at) r }
-    requires table { IsTableOf code.now live.now }
+    requires exact { (n : _) (l : _) (at : ℕ) (r : _) → F.post pass.now.find n l at r → Answers (match_at pass.now.rule pass.now.literals.now.items n.now l.now at) r }
     ensures { Answers (match_at pass.now.rule pass.now.literals.now.items code.now live.now at) result }
 {
     (pass.find)(code, live, at)
 }
 
-fn rewrite(code: &mut Noted, rewrite: &Rewrite) -> Result<(), Refusal>
-    requires { Keeps code.old.lines rewrite.now }
-    ensures ok { OnOk result (code.new ≡ annotated (rewritten code.old.lines rewrite.now) code.old.out) }
+fn rewrite(code: &mut Noted, rewrite: Rewrite) -> Result<(), Refusal>
+    requires { Keeps code.old.lines rewrite }
+    ensures ok { OnOk result (code.new ≡ annotated (rewritten code.old.lines rewrite) code.old.out) }
     ensures err { OnErr result (code.new ≡ code.old) }
     ensures refused { IfErr result (λ refusal. refusal ≡ OutOfMemory) }
 {
     code.replace(rewrite.at(), rewrite.count(), rewrite.lines())
 }
 
-// The table after a rewriting that is made.
-fn renew(code: &Noted, live: &mut LiveTable, made: Rewrite) -> Result<(), Refusal>
-    ensures ok { OnOk result (IsTableOf code.now live.new) }
+// The table of the lines that a rewriting by a rule makes, where the rule asks for one.
+fn follow(code: &Noted, live: &mut LiveTable, found: &Rewrite, rule: u8) -> Result<(), Refusal>
+    requires keeps { Keeps code.now.lines found.now }
+    requires table { IsTableFor rule code.now live.old }
+    ensures ok { OnOk result (last_flow_rule < rule → IsLiveTable (rewritten code.now.lines found.now) code.now.out live.new) }
     ensures refused { IfErr result (λ refusal. refusal ≡ OutOfMemory) }
 {
-    live.renew(code.seg(), made.at(), made.count(), made.lines().len())
+    if rule <= LAST_FLOW_RULE {
+        return Ok(());
+    }
+    live.replace(code.seg(), found.at(), found.count(), found.lines())
 }
 
 // From the first line to the last, each line again after a rewriting. The table goes along.
@@ -52,10 +60,10 @@ fn sweep<F: Fn(&Noted, &LiveTable, usize) -> Result<Option<Rewrite>, Refusal>>(
     pass: &Pass<F>,
 ) -> Result<usize, Refusal>
     requires callable { (n : _) (l : _) (at : ℕ) → F.pre pass.now.find n l at }
-    requires exact { (n : _) (l : _) (at : ℕ) (r : _) → IsTableOf n.now l.now → F.post pass.now.find n l at r → Answers (match_at pass.now.rule pass.now.literals.now.items n.now l.now at) r }
+    requires exact { (n : _) (l : _) (at : ℕ) (r : _) → F.post pass.now.find n l at r → Answers (match_at pass.now.rule pass.now.literals.now.items n.now l.now at) r }
     requires good { IsGood pass.now.rule pass.now.literals.now.items }
-    requires table { IsTableOf code.old live.old }
-    ensures table { IfOk result (λ _. IsTableOf code.new live.new) }
+    requires table { IsTableFor pass.now.rule code.old live.old }
+    ensures table { IfOk result (λ _. IsTableFor pass.now.rule code.new live.new) }
     ensures chain { (n : ℕ) × Rewrites pass.now.rule pass.now.literals.now.items code.old.out code.old.lines n code.new.lines × IfOk result (λ made. made ≡ counted n) }
     ensures none { IfOk result (λ made. made ≡ 0 → IsFree pass.now.rule pass.now.literals.now.items code.new) }
     ensures same { IfOk result (λ made. made ≡ 0 → code.new ≡ code.old) }
@@ -71,8 +79,8 @@ fn sweep<F: Fn(&Noted, &LiveTable, usize) -> Result<Option<Rewrite>, Refusal>>(
             at += 1;
             continue;
         };
-        rewrite(code, &found)?;
-        renew(code, live, found)?;
+        follow(code, live, &found, pass.rule)?;
+        rewrite(code, found)?;
         made = made.saturating_add(1);
     }
     Ok(made)
@@ -85,11 +93,11 @@ pub fn run_pass_on<F: Fn(&Noted, &LiveTable, usize) -> Result<Option<Rewrite>, R
     pass: &Pass<F>,
 ) -> Result<usize, Refusal>
     requires callable { (n : _) (l : _) (at : ℕ) → F.pre pass.now.find n l at }
-    requires exact { (n : _) (l : _) (at : ℕ) (r : _) → IsTableOf n.now l.now → F.post pass.now.find n l at r → Answers (match_at pass.now.rule pass.now.literals.now.items n.now l.now at) r }
+    requires exact { (n : _) (l : _) (at : ℕ) (r : _) → F.post pass.now.find n l at r → Answers (match_at pass.now.rule pass.now.literals.now.items n.now l.now at) r }
     requires good { IsGood pass.now.rule pass.now.literals.now.items }
-    requires table { IsTableOf code.old live.old }
+    requires table { IsTableFor pass.now.rule code.old live.old }
     ensures run { IsRun pass.now.rule pass.now.literals.now.items code.old code.new result }
-    ensures table { IfOk result (λ _. IsTableOf code.new live.new) }
+    ensures table { IfOk result (λ _. IsTableFor pass.now.rule code.new live.new) }
 {
     let mut made: usize = 0;
     loop {
@@ -108,7 +116,7 @@ pub fn run_pass<F: Fn(&Noted, &LiveTable, usize) -> Result<Option<Rewrite>, Refu
     pass: &Pass<F>,
 ) -> Result<usize, Refusal>
     requires callable { (n : _) (l : _) (at : ℕ) → F.pre pass.now.find n l at }
-    requires exact { (n : _) (l : _) (at : ℕ) (r : _) → IsTableOf n.now l.now → F.post pass.now.find n l at r → Answers (match_at pass.now.rule pass.now.literals.now.items n.now l.now at) r }
+    requires exact { (n : _) (l : _) (at : ℕ) (r : _) → F.post pass.now.find n l at r → Answers (match_at pass.now.rule pass.now.literals.now.items n.now l.now at) r }
     requires good { IsGood pass.now.rule pass.now.literals.now.items }
     ensures { IsRun pass.now.rule pass.now.literals.now.items code.old code.new result }
 {

@@ -1,10 +1,6 @@
-use Rattle.std.proofs.Common.{rules}
-use Rattle.c65_pass.proofs.Turns.{passed_early, passed_range, good_turns}
+use Rattle.c65_pass.proofs.Turns.{passed_range, good_turns}
 use Rattle.c65_optflow.proofs.Good.{flow_good}
 use Rattle.c65_optflow.proofs.flow.optimise_flow.Goals as goal
-
-pub returns-in_err-live : goal.returns-in_err-live
-returns-in_err-live c = passed_early _ _ _ c.seg.ensures.kept (search rules) (search rules)
 
 pub run_rules-requires-clause-good : goal.run_rules-requires-clause-good
 run_rules-requires-clause-good c = good_turns 1 9 flow_good

@@ -12,4 +12,4 @@ pub run_once-requires-clause-good : goal.run_once-requires-clause-good
 run_once-requires-clause-good c = subst (λ r. IsGoodOnce r c.once-pass.result.literals.now.items) (sym c.once-pass.ensures.rule) (known_good c.once-pass.result.literals.now.items)
 
 pub run_once-requires-clause-exact : goal.run_once-requires-clause-exact
-run_once-requires-clause-exact c = λ n l at r t e. subst (λ rule. Answers (match_at rule c.once-pass.result.literals.now.items n.now l.now at) r) (sym c.once-pass.ensures.rule) (rw c.once-pass.ensures.literals (search rules))
+run_once-requires-clause-exact c = λ n l at r e. subst (λ rule. Answers (match_at rule c.once-pass.result.literals.now.items n.now l.now at) r) (sym c.once-pass.ensures.rule) (rw c.once-pass.ensures.literals (search rules))

@@ -6,7 +6,7 @@ use Rattle.c65_code.specs.Writable.{IsLineWritable}
 use Rattle.c65_know.specs.Known.{annotated}
 use Rattle.c65_live.specs.Tables.{Table, IsLiveTable}
 use Rattle.c65_pass.specs.Passes.{none}
-use Rattle.c65_pass.proofs.Chains.{next_chain, count_one}
+use Rattle.c65_pass.proofs.Chains.{next_table, count_one}
 use Rattle.c65_pass.proofs.Walks.{walk_none, walk_on, walk_keeps, walk_more, walk_nearer, walk_placed, walk_writable, walk_end}
 use Rattle.c65_pass.proofs.once.run_once.Goals as goal
 
@@ -28,6 +28,11 @@ loop-at-preserved-in_default g c =
     let less = subst (λ ls. c.loop-at.at < length ls) (c.lines.ensures.lines ∙ c.seg-in-loop-at.ensures.lines) c.loop-at-test.true in
     (i.0, walk_on _ _ _ _ i.0 c.loop-at.at _ _ i.1 less (sym c.in_ok-found.ensures.0 ∙ c.in_default.is), i.2)
 
+pub follow-requires-clause-stays : goal.follow-requires-clause-stays
+follow-requires-clause-stays g c =
+    let i = c.loop-at.invariant in
+    (c.loop-at.at, walk_keeps _ _ _ _ i.0 c.loop-at.at _ _ _ c.requires.good i.1 (sym c.in_ok-found.ensures.0 ∙ c.in-Some.is))
+
 pub put-requires : goal.put-requires
 put-requires g c =
     let i = c.loop-at.invariant in
@@ -36,28 +41,24 @@ put-requires g c =
 pub returns-in_err-put-clause-writable : goal.returns-in_err-put-clause-writable
 returns-in_err-put-clause-writable g c = λ count all. subst (λ a. All (IsLineWritable count) a.lines) (sym c.in_err-put.ensures.err) (c.loop-at.invariant.1.writable count all)
 
-pub returns-in_err-renew-clause-chain : goal.returns-in_err-renew-clause-chain
-returns-in_err-renew-clause-chain g c =
-    let i = c.loop-at.invariant in
-    (suc i.0, next_chain _ _ _ _ i.0 _ _ _ c.loop-at.at _ i.1.chain i.1.noted i.1.live (sym c.in_ok-found.ensures.0 ∙ c.in-Some.is) c.in_ok-put.ensures.ok, search rules)
-
-pub returns-in_err-renew-clause-writable : goal.returns-in_err-renew-clause-writable
-returns-in_err-renew-clause-writable g c =
-    let i = c.loop-at.invariant in
-    walk_writable _ _ _ _ i.0 c.loop-at.at _ _ _ _ c.requires.good i.1 (sym c.in_ok-found.ensures.0 ∙ c.in-Some.is) c.in_ok-put.ensures.ok
-
 pub loop-at-smaller : goal.loop-at-smaller
 loop-at-smaller g c =
     let i = c.loop-at.invariant in
     let keeps = walk_keeps _ _ _ _ i.0 c.loop-at.at _ _ _ c.requires.good i.1 (sym c.in_ok-found.ensures.0 ∙ c.in-Some.is) in
-    walk_nearer _ _ _ c.loop-at.at _ _ keeps (ap (λ a. a.lines) c.in_ok-put.ensures.ok) c.at-in-loop-at.ensures c.lines-in-loop-at-2.ensures
+    walk_nearer _ _ _ c.loop-at.at _ _ keeps (ap (λ a. a.lines) c.in_ok-put.ensures.ok) c.at.ensures c.lines-in-loop-at.ensures
 
-pub loop-at-preserved-in_ok-renew : goal.loop-at-preserved-in_ok-renew
-loop-at-preserved-in_ok-renew g c =
+pub loop-at-smaller-in_ok-put : goal.loop-at-smaller-in_ok-put
+loop-at-smaller-in_ok-put g c =
     let i = c.loop-at.invariant in
-    let live = same_table _ _ _ _ _ c.seg-in-loop-at-2.ensures.lines c.seg-in-loop-at-2.ensures.out c.in_ok-renew.ensures.ok in (
+    let keeps = walk_keeps _ _ _ _ i.0 c.loop-at.at _ _ _ c.requires.good i.1 (sym c.in_ok-found.ensures.0 ∙ c.in-Some.is) in
+    walk_nearer _ _ _ c.loop-at.at _ _ keeps (ap (λ a. a.lines) c.in_ok-put.ensures.ok) c.at.ensures c.lines-in-loop-at.ensures
+
+pub loop-at-preserved-in_ok-put : goal.loop-at-preserved-in_ok-put
+loop-at-preserved-in_ok-put g c =
+    let i = c.loop-at.invariant in
+    let live = next_table c.loop-at.code _ c.in-Some.found _ c.in_ok-put.ensures.ok c.in_ok-follow.ensures.ok in (
       suc i.0,
-      walk_placed _ _ _ _ _ _ _ _ _ c.in-Some.found c.at-in-loop-at.ensures c.lines-in-loop-at-2.ensures
+      walk_placed _ _ _ _ _ _ _ _ _ c.in-Some.found c.at.ensures c.lines-in-loop-at.ensures
           (walk_more _ _ _ _ i.0 c.loop-at.at _ _ _ _ _ c.requires.good i.1 (sym c.in_ok-found.ensures.0 ∙ c.in-Some.is) c.in_ok-put.ensures.ok live),
       c.saturating_add-made.ensures ∙ count_one (2 ^ 64 - 1) _ i.0 i.2,
     )
@@ -65,9 +66,9 @@ loop-at-preserved-in_ok-renew g c =
 pub loop-at-preserved : goal.loop-at-preserved
 loop-at-preserved g c =
     let i = c.loop-at.invariant in
-    let live = same_table _ _ _ _ _ c.seg-in-loop-at-2.ensures.lines c.seg-in-loop-at-2.ensures.out c.in_ok-renew.ensures.ok in (
+    let live = next_table c.loop-at.code _ c.in-Some.found _ c.in_ok-put.ensures.ok c.in_ok-follow.ensures.ok in (
       suc i.0,
-      walk_placed _ _ _ _ _ _ _ _ _ c.in-Some.found c.at-in-loop-at.ensures c.lines-in-loop-at-2.ensures
+      walk_placed _ _ _ _ _ _ _ _ _ c.in-Some.found c.at.ensures c.lines-in-loop-at.ensures
           (walk_more _ _ _ _ i.0 c.loop-at.at _ _ _ _ _ c.requires.good i.1 (sym c.in_ok-found.ensures.0 ∙ c.in-Some.is) c.in_ok-put.ensures.ok live),
       c.saturating_add-made.ensures ∙ count_one (2 ^ 64 - 1) _ i.0 i.2,
     )

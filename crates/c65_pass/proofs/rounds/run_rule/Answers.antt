@@ -1,5 +1,6 @@
-use Rattle.std.proofs.Common.{rules, ◌≡◌, [], sym, subst}
-use Rattle.c65_pass.specs.Passes.{IsGood, IsRun}
+use Rattle.std.proofs.Common.{rules, ◌≡◌, [], sym, subst, arith}
+use Rattle.std.proofs.lemmas.Result.{IfOk-weaker}
+use Rattle.c65_pass.specs.Passes.{IsGood, IsRun, IsTableOf, IsTableFor}
 use Rattle.c65_pass.proofs.Turns.{only_passed}
 use Rattle.c65_pass.proofs.rounds.run_rule.Goals as goal
 
@@ -12,6 +13,13 @@ pub run_pass_on-requires-clause-good : goal.run_pass_on-requires-clause-good
 run_pass_on-requires-clause-good g c =
     let none : c.new-pass.result.literals.now.items ≡ [] = search rules in
     subst (λ ls. IsGood c.new-pass.result.rule ls) (sym none) (subst (λ r. IsGood r []) (sym c.new-pass.ensures.rule) c.requires.good)
+
+pub run_pass_on-requires-clause-table : goal.run_pass_on-requires-clause-table
+run_pass_on-requires-clause-table g c = λ asks. c.requires.table
+
+pub returns-clause-table : goal.returns-clause-table
+returns-clause-table g c = IfOk-weaker c.run_pass_on.result (λ made. IsTableFor c.new-pass.result.rule c.run_pass_on.new.code c.run_pass_on.new.live) (λ made. IsTableOf c.run_pass_on.new.code c.run_pass_on.new.live)
+    (λ made live. live (omega (arith, c.new-pass.ensures.rule, c.requires.asks))) c.run_pass_on.ensures.table
 
 pub returns-clause-passed : goal.returns-clause-passed
 returns-clause-passed g c =

@@ -1,6 +1,6 @@
 use Rattle.std.proofs.Common.{rules, ◌-◌, ◌^◌, ◌≤◌, suc, length, refl, arith, ap, sym, subst, ◌∙◌}
 use Rattle.c65_pass.specs.Passes.{none}
-use Rattle.c65_pass.proofs.Chains.{clean_more, keeps_next, next_chain, next_noted, next_smaller, count_one, not_none, nowhere}
+use Rattle.c65_pass.proofs.Chains.{clean_more, keeps_next, next_chain, next_noted, next_smaller, next_table, count_one, not_none, nowhere}
 use Rattle.c65_pass.proofs.run.sweep.Goals as goal
 
 pub loop-at-init : goal.loop-at-init
@@ -18,15 +18,15 @@ loop-at-init g c =
       },
     )
 
+pub follow-requires-clause-keeps : goal.follow-requires-clause-keeps
+follow-requires-clause-keeps g c =
+    let i = c.loop-at.invariant in
+    keeps_next _ _ _ _ i.0 _ _ c.loop-at.at _ c.requires.good i.1.segment i.1.chain i.1.noted i.1.live (sym c.in_ok-found.ensures.0 ∙ c.in-Some.is)
+
 pub rewrite-requires : goal.rewrite-requires
 rewrite-requires g c =
     let i = c.loop-at.invariant in
     keeps_next _ _ _ _ i.0 _ _ c.loop-at.at _ c.requires.good i.1.segment i.1.chain i.1.noted i.1.live (sym c.in_ok-found.ensures.0 ∙ c.in-Some.is)
-
-pub returns-in_err-renew-clause-chain : goal.returns-in_err-renew-clause-chain
-returns-in_err-renew-clause-chain g c =
-    let i = c.loop-at.invariant in
-    (suc i.0, next_chain _ _ _ _ i.0 _ _ _ c.loop-at.at _ i.1.chain i.1.noted i.1.live (sym c.in_ok-found.ensures.0 ∙ c.in-Some.is) c.in_ok-rewrite.ensures.ok, search rules)
 
 pub loop-at-smaller : goal.loop-at-smaller
 loop-at-smaller g c =
@@ -43,7 +43,7 @@ loop-at-preserved g c =
         made = c.saturating_add-made.ensures ∙ count_one (2 ^ 64 - 1) _ i.0 i.1.made;
         noted = next_noted _ c.loop-at.code _ c.in-Some.found i.1.noted c.in_ok-rewrite.ensures.ok;
         segment = i.1.segment;
-        live = c.in_ok-renew.ensures.ok;
+        live = λ asks. next_table c.loop-at.code _ c.in-Some.found _ c.in_ok-rewrite.ensures.ok (c.in_ok-follow.ensures.ok asks);
         same = λ e. not_none (2 ^ 64 - 1) c.loop-at.made (omega arith) (sym c.saturating_add-made.ensures ∙ e);
         clean = λ e k h. not_none (2 ^ 64 - 1) c.loop-at.made (omega arith) (sym c.saturating_add-made.ensures ∙ e);
       },

@@ -1,7 +1,7 @@
 use Rattle.std.proofs.Common.{◌≡◌, ℕ, ◌+◌, ◌-◌, ◌*◌, ◌<◌, length, None}
 use Rattle.c65_code.specs.Segments.{IsSegment}
 use Rattle.c65_know.specs.Known.{annotated}
-use Rattle.c65_pass.specs.Passes.{Rewrites, IsTableOf, counted}
+use Rattle.c65_pass.specs.Passes.{Rewrites, IsTableFor, counted}
 use Rattle.c65_pass.specs.Rewriting.{bulk}
 use Rattle.c65_pass.specs.Rules.{match_at}
 use Rattle.c65_pass.proofs.Ranks.{rank}
@@ -16,7 +16,7 @@ invariant-loop-at g l =
       made : l.made ≡ counted n;
       noted : l.code ≡ annotated l.code.lines l.fn.code.out;
       segment : IsSegment l.fn.code.lines;
-      live : IsTableOf l.code l.live;
+      live : IsTableFor l.pass.rule l.code l.live;
       same : l.made ≡ 0 → l.code ≡ l.fn.code;
       clean : l.made ≡ 0 → (k : ℕ) → k < l.at → match_at l.pass.rule literals l.code l.live k ≡ None;
     }
