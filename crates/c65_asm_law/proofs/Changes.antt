@@ -29,7 +29,7 @@ use Rattle.c65_asm_law.proofs.Directs.{carry_well, label_one}
 
 -- ---- bytes
 
-abbrev WellSpot : ℕ → Spot → Type 0
+abbrev pub WellSpot : ℕ → Spot → Type 0
 WellSpot n (Behind pointer at) = (pointer < 2 ^ 8) × (at < 2 ^ 8)
 WellSpot n (Data sym at) = (sym.0 < n) × (at < 2 ^ 16)
 WellSpot n (Zero at) = at < 2 ^ 8
@@ -59,7 +59,7 @@ reach_well n op (Behind pointer at) h = record { all = ((tt, h.1), ((tt, h.0), t
 reach_well n op (Data sym at) h = record { all = ((tt, h), tt) }
 reach_well n op (Zero at) h = record { all = ((tt, h), tt) }
 
-again_well : (n : ℕ) (op : Op) (spot : Spot) → WellSpot n spot → AllWell n (again_code op spot)
+pub again_well : (n : ℕ) (op : Op) (spot : Spot) → WellSpot n spot → AllWell n (again_code op spot)
 again_well n op (Behind pointer at) h = record { all = ((tt, h.0), tt) }
 again_well n op (Data sym at) h = record { all = ((tt, h), tt) }
 again_well n op (Zero at) h = record { all = ((tt, h), tt) }

@@ -27,10 +27,17 @@ use Rattle.c65_geneffect.specs.declared.changing.Changing.TheVariants.{Fixed, Lo
 use Rattle.c65_geneffect.specs.declared.changing.Fill.{Fill}
 use Rattle.c65_genchange.specs.Spots.{point_code, target_of}
 use Rattle.c65_geneffect.specs.Changing.{in_front, stepping_of, changing_of, number_in, fill_by, filling_at, filling_of}
-use Rattle.c65_geneffect.specs.Effects.{closed, fixed_code, stepped_by, changed_by, filled_or, changed_code, effect_code, node_effect, effect_uses, node_effect_uses}
+use Rattle.c65_geneffect.specs.declared.setting.Setting.{Setting}
+use Rattle.c65_geneffect.specs.declared.setting.Setting.TheVariants as settings
+use Rattle.c65_geneffect.specs.Setting.{setting_of, below_value, set_by}
+use Rattle.c65_genload.specs.Loads.{hold_code}
+use Rattle.c65_genexpr.specs.Held.{keep_code}
+use Rattle.c65_geneffect.specs.Effects.{closed, fixed_code, stepped_by, changed_by, filled_or, set_code, changed_code, effect_code, node_effect, effect_uses, node_effect_uses}
 use Rattle.c65_gen_law_lines.proofs.EffectFacts.{target_in, OfStep, OfChanging, OfFill, stepping_target, changing_target, filling_target}
 use Rattle.c65_asm_law.proofs.Well.{AllWell, well_append}
-use Rattle.c65_asm_law.proofs.Loads.{WellPlace}
+use Rattle.c65_asm_law.proofs.Loads.{WellPlace, hold_well}
+use Rattle.c65_asm_law.proofs.Forms.{keep_well}
+use Rattle.c65_asm_law.proofs.Fields.{number_well, behind_well, set_well}
 use Rattle.c65_asm_law.proofs.Known.{Knows}
 use Rattle.c65_asm_law.proofs.Places.{place_well}
 use Rattle.c65_asm_law.proofs.Directs.{label_one}
@@ -89,6 +96,24 @@ op_well n u f pushed lo op size a b whole knows ta tb few room ww =
     changed_well n (changing_of op size place access b) place lo _ _ whole (changing_target (WellTarget n) op size place access b (spot_well n place access (place_well n u f pushed a knows ta))) (omega (arith, room))
     (base_well n u f pushed (lo + 1) a knows ta few (omega (arith, room))) (expr_well n u f pushed (lo + 1 + uses None a) Value b knows tb few tt (omega (arith, room))) ww
 
+set_by_well : (n : ℕ) (how : Setting) (place : Place) (left right whole : List Line) → WellPlace n place → AllWell n left → AllWell n right → AllWell n whole → AllWell n (set_by how place left right whole)
+set_by_well n (settings.Number g m) place left right whole h wl wr ww = well_append n left _ wl (well_append n (point_code place) _ (point_well n place) (number_well n place g m h))
+set_by_well n (settings.Held g at) place left right whole h wl wr ww = well_append n left _ wl (well_append n keep_code _ (keep_well n) (well_append n right _ wr (behind_well n at g)))
+set_by_well n (settings.Loaded g) place left right whole h wl wr ww = well_append n left _ wl (well_append n (hold_code place) _ (hold_well n place) (well_append n right _ wr (set_well n place g h)))
+set_by_well n settings.Otherwise place left right whole h wl wr ww = ww
+
+below_few : (how : Setting) (pushed : ℕ) (place : Place) → pushed < 2 ^ 16 → below_value how pushed place < 2 ^ 16
+below_few (settings.Loaded g) pushed place few = omega arith
+below_few _ pushed place few = few
+
+field_well : (n : ℕ) (u : UnitTy) (f : Framed) (pushed lo : ℕ) (a b : Typed) (whole : List Line) → Knows f u n → IsTyped u a → IsTyped u b → pushed < 2 ^ 16 → lo + (uses None a + uses None b) ≤ 2 ^ 32 → AllWell n whole
+    → AllWell n (set_code f pushed lo a b whole)
+field_well n u f pushed lo a b whole knows ta tb few room ww =
+    let place : Place = place_of f pushed a in
+    let how : Setting = setting_of f pushed place (access_of (types_of f.parts.types) a) b in
+    set_by_well n how place _ _ whole (place_well n u f pushed a knows ta) (base_well n u f pushed lo a knows ta few (omega (arith, room)))
+    (expr_well n u f (below_value how pushed place) (lo + uses None a) Value b knows tb (below_few how pushed place few) tt (omega (arith, room))) ww
+
 mutual
   pub effect_well : (n : ℕ) (u : UnitTy) (f : Framed) (pushed lo : ℕ) (e : Typed) → Knows f u n → IsTyped u e → pushed < 2 ^ 16 → lo + effect_uses e ≤ 2 ^ 32 → AllWell n (effect_code f pushed lo e)
   effect_well n u f pushed lo (node t e) knows h few room = node_effect_well n u f pushed lo t e knows h few room
@@ -100,7 +125,7 @@ mutual
   node_effect_well n u f pushed lo t (assign a b) knows h few room =
       let place : Place = place_of f pushed a in
       let access : Access = access_of (types_of f.parts.types) a in
-      filled_well n (filling_of place access b) _ _ (filling_byte place access b) (filling_target (WellTarget n) place access b (spot_well n place access (place_well n u f pushed a knows h.0))) (base_well n u f pushed lo a knows h.0 few (omega (arith, room))) (expr_well n u f pushed lo Value (node t (assign a b)) knows h few tt room)
+      filled_well n (filling_of place access b) _ _ (filling_byte place access b) (filling_target (WellTarget n) place access b (spot_well n place access (place_well n u f pushed a knows h.0))) (base_well n u f pushed lo a knows h.0 few (omega (arith, room))) (field_well n u f pushed lo a b _ knows h.0 h.1 few room (expr_well n u f pushed lo Value (node t (assign a b)) knows h few tt room))
   node_effect_well n u f pushed lo t (assign_op op k a b) knows h few room =
       op_well n u f pushed lo op 1 a b _ knows h.0 h.1 few room (expr_well n u f pushed (lo + 1) Value (node t (assign_op op k a b)) knows h few tt (omega (arith, room)))
   node_effect_well n u f pushed lo t (assign_step op a b) knows h few room =

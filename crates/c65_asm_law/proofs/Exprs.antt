@@ -58,6 +58,7 @@ use Rattle.c65_genexpr.specs.Steps.{amount_of, open_code, close_code}
 use Rattle.c65_genexpr.specs.Arguments.{is_fast, is_counted, stays, passed_size, joined, passed_of, argument_bytes, argument_code}
 use Rattle.c65_genexpr.specs.Calls.{named_in, named}
 use Rattle.c65_genexpr.specs.Uses.{unless_named, by_relation, uses, node_uses, args_uses, comparison_uses}
+use Rattle.c65_genfield.specs.Bits.{byte_field}
 use Rattle.c65_genexpr.specs.Code.{width_in, constant_code, tested_load, load_by, behind_open, compound, call_by, expr_code, node_code, base_code, pointer_base_code, args_code, operator_code, comparison_code, joint_code}
 use Rattle.c65_gen_law_lines.proofs.Drops.{sum_uses}
 use Rattle.c65_asm_law.proofs.Well.{AllWell, well_append, well_none, well_more, well_if}
@@ -66,6 +67,7 @@ use Rattle.c65_asm_law.proofs.Known.{Knows}
 use Rattle.c65_asm_law.proofs.Places.{place_well, object_well, further_well, spill_well, conversion_well, unary_well, open_well, close_well, named_well, direct_well, pointer_well, argument_well}
 use Rattle.c65_asm_law.proofs.Directs.{WellRead, read_store_well, byte_through_well, word_through_well, zero_test_well, truth_well}
 use Rattle.c65_asm_law.proofs.Steps.{step_well}
+use Rattle.c65_asm_law.proofs.Fields.{loaded_test_well}
 use Rattle.c65_asm_law.proofs.Forms.{WellStoring, storing_well, keep_well, byte_behind_well, word_behind_well, kept_well, own_well, comparing_well, comparison_well, operating_well, operator_well}
 
 target_well : (n : ℕ) (p : Place) (code : List Line) → AllWell n code → AllWell n (target_code p code)
@@ -111,13 +113,13 @@ constant_well : (n : ℕ) (w : Wanted) (width : Width) (m : ℕ) → WellWanted 
 constant_well n Value width m aim = number_well n width m
 constant_well n (Test to s) width m aim = decided_well n (not (m == 0)) s to aim
 
-tested_load_well : (n : ℕ) (d : Option Direct) (kind : IntType) (s : Bool) (to : ℕ) (base lines : List Line) → WellRead n d → to < 2 ^ 32 → AllWell n base → AllWell n lines → AllWell n (tested_load d kind s to base lines)
-tested_load_well n (Some d) kind s to base lines h aim b k = well_append n base _ b (zero_test_well n (own_bytes d (extent_of kind)) s to (own_well n d (extent_of kind) h) aim)
-tested_load_well n None kind s to base lines h aim b k = wanted_well n (Test to s) (width_of kind) lines aim k
+tested_load_well : (n : ℕ) (d : Option Direct) (kind : IntType) (s : Bool) (to : ℕ) (base test : List Line) → WellRead n d → to < 2 ^ 32 → AllWell n base → AllWell n test → AllWell n (tested_load d kind s to base test)
+tested_load_well n (Some d) kind s to base test h aim b k = well_append n base _ b (zero_test_well n (own_bytes d (extent_of kind)) s to (own_well n d (extent_of kind) h) aim)
+tested_load_well n None kind s to base test h aim b k = well_append n base test b k
 
 load_by_well : (n : ℕ) (w : Wanted) (place : Place) (access : Access) (lines : List Line) → WellPlace n place → WellWanted w → AllWell n lines → AllWell n (load_by w place access lines)
 load_by_well n Value place access lines h aim k = well_append n lines _ k (load_well n place access h)
-load_by_well n (Test to s) place access lines h aim k = tested_load_well n (kept_at place access) (kept.type_in access) s to lines _ (kept_well n place access h) aim k (well_append n lines _ k (load_well n place access h))
+load_by_well n (Test to s) place access lines h aim k = tested_load_well n (kept_at place access) (kept.type_in access) s to lines _ (kept_well n place access h) aim k (loaded_test_well n (byte_field access) place access s to h aim)
 
 converted_well : (n : ℕ) (w : Wanted) (same : Bool) (t : Ty) (from : IntType) (lines : List Line) → WellWanted w → AllWell n lines → AllWell n (conversion_by w same t from lines)
 converted_well n Value same t from lines aim h = well_append n lines _ h (conversion_well n t from)

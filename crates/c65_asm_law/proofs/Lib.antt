@@ -7,6 +7,7 @@ pub mod Places
 pub mod Directs
 pub mod Forms
 pub mod Changes
+pub mod Fields
 pub mod Steps
 pub mod Exprs
 pub mod Effects

@@ -1,17 +1,18 @@
 -- The pieces of which the lines of loads, stores and conversions are made.
-use Rattle.std.proofs.Common.{ℕ, ◌+◌, ◌-◌, ◌<◌, ◌^◌, ◌==◌, [], ◌∷◌, ◌++◌, arith, rules, zero, suc, ◌%◌, ◌/◌, replicate}
+use Rattle.std.proofs.Common.{ℕ, ◌+◌, ◌-◌, ◌<◌, ◌^◌, ◌==◌, [], ◌∷◌, ◌++◌, arith, rules, zero, suc, ◌%◌, ◌/◌, replicate, Bool}
 use Rattle.std.specs.Prelude.{min, nat_lt, nat_le, if◌then◌else◌}
 use Rattle.c65_base.specs.declared.operators.BinaryOp.{BinaryOp}
 use Rattle.c65_ints.specs.declared.types.IntType.{IntType}
 use Rattle.c65_ints.specs.declared.types.IntType.TheVariants as ints
 use Rattle.c65_ints.specs.Ranges.{is_signed_of}
 use Rattle.c65_mach.specs.declared.rows.Op.{Op}
-use Rattle.c65_mach.specs.declared.rows.Op.TheVariants.{Asl, Ldy, Lsr, Rol, Ror, Sta}
+use Rattle.c65_mach.specs.declared.rows.Op.TheVariants.{And, Asl, Lda, Ldy, Lsr, Rol, Ror, Sta, Stx}
 use Rattle.c65_mach.specs.declared.rows.Mode.{Mode}
 use Rattle.c65_mach.specs.declared.rows.Mode.TheVariants.{ZeroPage, IndirectY, Absolute}
 use Rattle.c65_code.specs.declared.line.Sym.{Sym}
 use Rattle.c65_code.specs.declared.line.Operand.{Operand}
 use Rattle.c65_code.specs.declared.line.Operand.TheVariants.{Zero, At}
+use Rattle.c65_code.specs.declared.line.Line.{Line}
 use Rattle.c65_code.specs.declared.line.Line.TheVariants.{Do}
 use Rattle.c65_code.specs.declared.routine.Routine.TheVariants.{PushA, PushAx, PushEax, LdAi, LdEaxi, Tos, Unary}
 use Rattle.c65_code.specs.declared.routine.UnaryRoutine.TheVariants.{Shl1}
@@ -29,14 +30,14 @@ use Rattle.c65_genload.specs.declared.places.Place.{Place}
 use Rattle.c65_genload.specs.declared.places.Place.TheVariants as places
 use Rattle.c65_genload.specs.declared.places.Access.{Access}
 use Rattle.c65_genload.specs.declared.places.Access.TheVariants.{Whole, Part}
-use Rattle.c65_genload.specs.Words.{sp, ptr1, regbank, shift_a}
+use Rattle.c65_genload.specs.Words.{sp, ptr1, tmp1, regbank, shift_a, zero_page}
 use Rattle.c65_genload.specs.Places.{byte_more, onward, extent_of, settled}
-use Rattle.c65_genload.specs.Numbers.{number_code, add_word_code, add_by_width, add_code, mask_code, by_code, shift_code, scale_code, is_divisor, divide_code}
+use Rattle.c65_genload.specs.Numbers.{first, number_code, add_word_code, add_by_width, add_code, mask_code, by_code, shift_code, scale_code, is_divisor, divide_code}
 use Rattle.c65_genload.specs.Conversions.{widen_code, convert_code, convert_to, push_code, test_code}
 use Rattle.c65_genload.specs.Addresses.{symbol_code, address_code, above_code, raised_code, offset_code}
-use Rattle.c65_genload.specs.Fields.{ones, others, is_in_byte, own_bits, down_code, up_code, is_topmost, cut_code, spread_code, signed_code, byte_value_code, mask_unless_all, extract_code, lowest_code, aligned_code, is_unit}
+use Rattle.c65_genload.specs.Fields.{ones, others, is_in_byte, own_bits, down_code, up_code, is_topmost, cut_code, spread_code, signed_code, byte_value_code, mask_unless_all, once, rounds, both_down_code, is_astride, astride_code, wide_value_code, extract_code, lowest_code, aligned_code, is_unit}
 use Rattle.c65_genload.specs.Loads.{hold_code, bytes_code, field_load, load_code}
-use Rattle.c65_genload.specs.Stores.{bytes_store, after_store, under_code, unit_store, popped_code, merged_code, bits_store, byte_store, field_store, store_code, copy_code}
+use Rattle.c65_genload.specs.Stores.{bytes_store, after_store, under_code, unit_set, unit_store, popped_code, merged_code, bits_store, byte_store, field_store, store_code, copy_code}
 use Rattle.c65_asm_law.proofs.Well.{Well, AllWell, well_append, well_none, well_more, well_if}
 
 -- where a place lies, in numbers of their types
@@ -181,7 +182,7 @@ pub shifts_well : (n m : ℕ) (op : Op) → AllWell n (replicate m (shift_a op))
 shifts_well n zero op = well_none n
 shifts_well n (suc m) op = well_more n (shift_a op) _ (tt, tt) (shifts_well n m op)
 
-turned_well : (n low : ℕ) (one first further : Op) → AllWell n (if nat_le low 4 then replicate low (shift_a one) else shift_a first ∷ replicate (8 - low) (shift_a further))
+pub turned_well : (n low : ℕ) (one first further : Op) → AllWell n (if nat_le low 4 then replicate low (shift_a one) else shift_a first ∷ replicate (8 - low) (shift_a further))
 turned_well n low one first further =
     well_if n (nat_le low 4) (replicate low (shift_a one)) _ (shifts_well n low one) (well_more n (shift_a first) _ (tt, tt) (shifts_well n (8 - low) further))
 
@@ -203,17 +204,39 @@ byte_value_well n g = well_append n (down_code (g.low % 8)) _ (turned_well n (g.
 unless_all_well : (n m : ℕ) → AllWell n (mask_unless_all m)
 unless_all_well n m = well_if n (m == 65535) [] (mask_code m) (well_none n) (mask_well n m)
 
-extract_well : (n : ℕ) (g : Field) → AllWell n (extract_code g)
-extract_well n g =
+wide_value_well : (n : ℕ) (g : Field) → AllWell n (wide_value_code g)
+wide_value_well n g =
     well_if n (is_signed_of g.kind) (shift_code tos.Shl (16 - min (g.low + g.width) 16) ++ shift_code tos.Asr (16 - min g.width 16)) (shift_code tos.Shr g.low ++ mask_unless_all (ones g.width))
     (well_append n _ _ (shift_well n tos.Shl (16 - min (g.low + g.width) 16)) (shift_well n tos.Asr (16 - min g.width 16)))
     (well_append n _ _ (shift_well n tos.Shr g.low) (unless_all_well n (ones g.width)))
+
+once_well : (n : ℕ) (b : Bool) (first next : Line) → AllWell n (first ∷ next ∷ []) → AllWell n (once b first next)
+once_well n b first next w = well_if n b (first ∷ next ∷ []) [] w (well_none n)
+
+rounds_well : (n m : ℕ) (first next : Line) → AllWell n (first ∷ next ∷ []) → AllWell n (rounds m first next)
+rounds_well n m first next w =
+    well_append n (once (nat_le 1 m) first next) _ (once_well n (nat_le 1 m) first next w) (well_append n (once (nat_le 2 m) first next) _ (once_well n (nat_le 2 m) first next w)
+    (well_append n (once (nat_le 3 m) first next) _ (once_well n (nat_le 3 m) first next w) (once_well n (nat_le 4 m) first next w)))
+
+both_down_well : (n low : ℕ) → AllWell n (both_down_code low)
+both_down_well n low =
+    well_if n (nat_le low 4) (rounds low (zero_page Lsr tmp1) (shift_a Ror)) _ (rounds_well n low (zero_page Lsr tmp1) (shift_a Ror) (record { all = search rules }))
+    (well_append n (rounds (8 - low) (shift_a Asl) (zero_page Rol tmp1)) _ (rounds_well n (8 - low) (shift_a Asl) (zero_page Rol tmp1) (record { all = search rules })) (record { all = search rules }))
+
+astride_well : (n : ℕ) (g : Field) → AllWell n (astride_code g)
+astride_well n g =
+    let cut : first (ones g.width) < 2 ^ 8 = omega arith in
+    well_append n (zero_page Stx tmp1 ∷ []) _ (record { all = search rules }) (well_append n (both_down_code g.low) _ (both_down_well n g.low)
+    (well_append n (value And (first (ones g.width)) ∷ []) _ (record { all = ((tt, cut), tt) }) (narrow_well n ints.UChar)))
+
+extract_well : (n : ℕ) (g : Field) → AllWell n (extract_code g)
+extract_well n g = well_if n (is_astride g) (astride_code g) (wide_value_code g) (astride_well n g) (wide_value_well n g)
 
 pub lowest_well : (n : ℕ) (g : Field) → AllWell n (lowest_code g)
 lowest_well n g = well_if n (is_in_byte g) (byte_value_code g) (extract_code g) (byte_value_well n g) (extract_well n g)
 
 -- of a place and bytes on
-onward_well : (n : ℕ) (place : Place) (m : ℕ) → WellPlace n place → WellPlace n (onward place m)
+pub onward_well : (n : ℕ) (place : Place) (m : ℕ) → WellPlace n place → WellPlace n (onward place m)
 onward_well n (places.Bank at) m h = omega arith
 onward_well n (places.Near at) m h = omega arith
 onward_well n (places.Data s at) m h = (h.0, omega arith)
@@ -231,7 +254,7 @@ load_well n place (Part field) h = field_load_well n place field h
 
 -- ---- stores
 
-bytes_store_well : (n : ℕ) (place : Place) (e : Extent) → WellPlace n place → AllWell n (bytes_store place e)
+pub bytes_store_well : (n : ℕ) (place : Place) (e : Extent) → WellPlace n place → AllWell n (bytes_store place e)
 bytes_store_well n (places.Bank at) One h = record { all = search rules }
 bytes_store_well n (places.Bank at) Two h = record { all = search rules }
 bytes_store_well n (places.Bank at) Three h = record { all = search rules }
@@ -264,21 +287,23 @@ under_well n (places.Far at) h = record { all = search rules }
 aligned_well : (n : ℕ) (g : Field) → AllWell n (aligned_code g)
 aligned_well n g = well_append n _ _ (mask_well n (ones g.width)) (shift_well n tos.Shl g.low)
 
-unit_store_well : (n : ℕ) (place : Place) (g : Field) → WellPlace n place → AllWell n (unit_store place g)
-unit_store_well n place g h =
+pub unit_set_well : (n : ℕ) (place : Place) (g : Field) → WellPlace n place → AllWell n (unit_set place g)
+unit_set_well n place g h =
     let push : AllWell n (call PushAx ∷ []) = record { all = search rules } in
     let join : AllWell n (call (Tos tos.Or Ax) ∷ []) = record { all = search rules } in
-    let last : AllWell n (bytes_store place Two ++ extract_code g) = well_append n (bytes_store place Two) (extract_code g) (bytes_store_well n place Two h) (extract_well n g) in
-    let joined : AllWell n (call (Tos tos.Or Ax) ∷ (bytes_store place Two ++ extract_code g)) = well_append n (call (Tos tos.Or Ax) ∷ []) (bytes_store place Two ++ extract_code g) join last in
-    let masked : AllWell n (mask_code (others g) ++ (call (Tos tos.Or Ax) ∷ (bytes_store place Two ++ extract_code g))) = well_append n (mask_code (others g)) _ (mask_well n (others g)) joined in
-    let under : AllWell n (under_code place ++ (mask_code (others g) ++ (call (Tos tos.Or Ax) ∷ (bytes_store place Two ++ extract_code g)))) = well_append n (under_code place) _ (under_well n place h) masked in
+    let joined : AllWell n (call (Tos tos.Or Ax) ∷ bytes_store place Two) = well_append n (call (Tos tos.Or Ax) ∷ []) (bytes_store place Two) join (bytes_store_well n place Two h) in
+    let masked : AllWell n (mask_code (others g) ++ (call (Tos tos.Or Ax) ∷ bytes_store place Two)) = well_append n (mask_code (others g)) _ (mask_well n (others g)) joined in
+    let under : AllWell n (under_code place ++ (mask_code (others g) ++ (call (Tos tos.Or Ax) ∷ bytes_store place Two))) = well_append n (under_code place) _ (under_well n place h) masked in
     well_append n (aligned_code g) _ (aligned_well n g) (well_append n (call PushAx ∷ []) _ push under)
 
-merged_well : (n : ℕ) (mode : Mode) (operand : Operand) (mask : ℕ) → mask < 2 ^ 8 → Well n (Do Sta mode operand) → AllWell n (merged_code mode operand mask)
+unit_store_well : (n : ℕ) (place : Place) (g : Field) → WellPlace n place → AllWell n (unit_store place g)
+unit_store_well n place g h = well_append n (unit_set place g) (extract_code g) (unit_set_well n place g h) (extract_well n g)
+
+pub merged_well : (n : ℕ) (mode : Mode) (operand : Operand) (mask : ℕ) → mask < 2 ^ 8 → Well n (Do Sta mode operand) → AllWell n (merged_code mode operand mask)
 merged_well n mode operand mask few whole =
     well_if n (mask == 255) (Do Sta mode operand ∷ []) _ (record { all = search (rules, whole) }) (record { all = search (rules, few, whole) })
 
-bits_well : (n : ℕ) (place : Place) (mask : ℕ) → mask < 2 ^ 8 → WellPlace n place → AllWell n (bits_store place mask)
+pub bits_well : (n : ℕ) (place : Place) (mask : ℕ) → mask < 2 ^ 8 → WellPlace n place → AllWell n (bits_store place mask)
 bits_well n (places.Bank at) mask few h = merged_well n ZeroPage (Zero (byte_more regbank at)) mask few (search rules)
 bits_well n (places.Near at) mask few h = well_append n (value Ldy at ∷ []) _ (record { all = search (rules, h) }) (merged_well n IndirectY (Zero sp) mask few (search rules))
 bits_well n (places.Data s at) mask few h = merged_well n Absolute (At s at) mask few (search (rules, h))

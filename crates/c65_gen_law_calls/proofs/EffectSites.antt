@@ -24,11 +24,17 @@ use Rattle.c65_geneffect.specs.declared.changing.Fill.{Fill}
 use Rattle.c65_genchange.specs.Changes.{change_code}
 use Rattle.c65_genchange.specs.Spots.{point_code}
 use Rattle.c65_geneffect.specs.Changing.{in_front, stepping_of, changing_of, number_in, filling_of}
-use Rattle.c65_geneffect.specs.Effects.{fixed_code, stepped_by, changed_by, filled_or, changed_code, step_effect, effect_code, node_effect, effect_uses}
+use Rattle.c65_geneffect.specs.declared.setting.Setting.{Setting}
+use Rattle.c65_geneffect.specs.declared.setting.Setting.TheVariants as settings
+use Rattle.c65_geneffect.specs.Setting.{setting_of, below_value, set_by}
+use Rattle.c65_genexpr.specs.Held.{ptr2}
+use Rattle.c65_geneffect.specs.Effects.{fixed_code, stepped_by, changed_by, filled_or, set_code, changed_code, step_effect, effect_code, node_effect, effect_uses}
 use Rattle.c65_gen_law_lines.proofs.EffectForms.{IsSound, change_quiet, point_quiet, fill_still}
-use Rattle.c65_gen_law_lines.proofs.EffectFacts.{IsStep, stepping_sound, Unneeded, changing_unneeded, Unfilled, filling_unneeded}
+use Rattle.c65_gen_law_lines.proofs.EffectFacts.{IsStep, stepping_sound, Unneeded, changing_unneeded, Unfilled, filling_unneeded, Unset, setting_unset}
+use Rattle.c65_gen_law_lines.proofs.StackPieces.{hold_leaves, keep_still}
+use Rattle.c65_gen_law_lines.proofs.FieldForms.{number_still, behind_still, set_leaves}
 use Rattle.c65_gen_law_calls.specs.Sites.{Site, sites_of, node_sites}
-use Rattle.c65_gen_law_calls.proofs.Callings.{Free, free_leaves, free_append, Has, has_then, has_behind, has_as}
+use Rattle.c65_gen_law_calls.proofs.Callings.{Free, free_leaves, free_append, Has, has_then, has_before, has_behind, has_as}
 use Rattle.c65_gen_law_calls.proofs.ExprSites.{left_sites, base_has, has_expression}
 
 constant_sites : (e : Typed) (z : ℤ) → constant_in e ≡ Some z → sites_of e ≡ []
@@ -70,6 +76,19 @@ filled_has : {f : Framed} {ss : List Site} {base whole : List Line} (ts : List S
 filled_has {ss = ss} ts (Some fill) unneeded db dw = has_as (left_sites ss ts unneeded) (has_behind db (free_leaves (fill_still fill.byte fill.low fill.high [])))
 filled_has ts None unneeded db dw = dw
 
+set_has : {f : Framed} {ss ts : List Site} {left right whole : List Line} (how : Setting) (place : Place) → Unset how (ts ≡ []) → Has f ss left → Has f ts right → Has f (ss ++ ts) whole → Has f (ss ++ ts) (set_by how place left right whole)
+set_has {ss = ss} {ts = ts} (settings.Number g n) place unset dl dr dw = has_as (left_sites ss ts unset) (has_behind dl (free_append (point_free place) (free_leaves (number_still place g n []))))
+set_has (settings.Held g at) place unset dl dr dw = has_then dl (has_before (free_leaves (keep_still [])) (has_behind dr (free_leaves (behind_still ptr2 at g []))))
+set_has (settings.Loaded g) place unset dl dr dw = has_then dl (has_before (free_leaves (hold_leaves place [])) (has_behind dr (free_leaves (set_leaves place g []))))
+set_has settings.Otherwise place unset dl dr dw = dw
+
+field_has : (f : Framed) (pushed lo : ℕ) (a b : Typed) (whole : List Line) → Has f (sites_of a ++ sites_of b) whole → Has f (sites_of a ++ sites_of b) (set_code f pushed lo a b whole)
+field_has f pushed lo a b whole dw =
+    let place : Place = place_of f pushed a in
+    let access : Access = access_of (types_of f.parts.types) a in
+    let how : Setting = setting_of f pushed place access b in
+    set_has how place (setting_unset _ f pushed place access b (λ n h. number_sites b n h)) (base_has f pushed lo a) (has_expression f (below_value how pushed place) (lo + uses None a) Value b) dw
+
 step_has : (f : Framed) (pushed lo : ℕ) (t : QTy) (how : StepKind) (e : Typed) → Has f (sites_of e) (node_code f pushed lo Value t (step (in_front how) e)) → Has f (sites_of e) (step_effect f pushed lo how e)
 step_has f pushed lo t how e whole =
     let place : Place = place_of f pushed e in
@@ -93,7 +112,7 @@ mutual
   node_effect_has f pushed lo t (assign a b) =
       let place : Place = place_of f pushed a in
       let access : Access = access_of (types_of f.parts.types) a in
-      filled_has (sites_of b) (filling_of place access b) (filling_unneeded _ place access b (λ n h. number_sites b n h)) (base_has f pushed lo a) (has_expression f pushed lo Value (node t (assign a b)))
+      filled_has (sites_of b) (filling_of place access b) (filling_unneeded _ place access b (λ n h. number_sites b n h)) (base_has f pushed lo a) (field_has f pushed lo a b (node_code f pushed lo Value t (assign a b)) (has_expression f pushed lo Value (node t (assign a b))))
   node_effect_has f pushed lo t (assign_op op k a b) = op_has f pushed lo op 1 a b (node_code f pushed (lo + 1) Value t (assign_op op k a b)) (has_expression f pushed (lo + 1) Value (node t (assign_op op k a b)))
   node_effect_has f pushed lo t (assign_step op a b) = op_has f pushed lo op (target_bytes f (bare a)) a b (node_code f pushed (lo + 1) Value t (assign_step op a b)) (has_expression f pushed (lo + 1) Value (node t (assign_step op a b)))
   node_effect_has f pushed lo t (step PreInc e) = step_has f pushed lo t PreInc e (has_expression f pushed lo Value (node t (step PreInc e)))

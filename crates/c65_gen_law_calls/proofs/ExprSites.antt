@@ -61,6 +61,7 @@ use Rattle.c65_genexpr.specs.Arguments.{is_fast, is_counted, stays, passed_size,
 use Rattle.c65_genexpr.specs.Arguments as arguments
 use Rattle.c65_genexpr.specs.Calls.{named, library_at, count_code, fetch_code, result_code, named_by, pointer_code, direct_code, ptr4_code}
 use Rattle.c65_genexpr.specs.Uses.{uses, by_relation}
+use Rattle.c65_genfield.specs.Bits.{byte_field}
 use Rattle.c65_genexpr.specs.Code.{width_in, tested_load, load_by, behind_open, compound, call_by, expr_code, node_code, base_code, pointer_base_code, args_code}
 use Rattle.c65_gen_law_lines.proofs.Drops.{Unstored}
 use Rattle.c65_gen_law_lines.proofs.StepForms.{step_quiet}
@@ -68,7 +69,7 @@ use Rattle.c65_gen_law_lines.proofs.StackPieces.{narrow_still, keep_still, byte_
 use Rattle.c65_gen_law_stack.proofs.EvenLines.{Labels, No, One, Even, even_label, even_leaves}
 use Rattle.c65_gen_law_stack.proofs.EvenShifts.{elements_even}
 use Rattle.c65_gen_law_stack.proofs.EvenDirects.{byte_even, compare_even, compare_byte_even, zero_test_even, truth_even}
-use Rattle.c65_gen_law_stack.proofs.EvenForms.{value_test_even, routine_test_even, constant_even, form_even, keep_even}
+use Rattle.c65_gen_law_stack.proofs.EvenForms.{loaded_test_even, value_test_even, routine_test_even, constant_even, form_even, keep_even}
 use Rattle.c65_gen_law_stack.proofs.ReadSides.{Reaches, storing_reached, sum_reached, First, Compared, comparing_reached, Operated, operating_reached}
 use Rattle.c65_gen_law_calls.specs.Sites.{Site, site_by, unless_named, sites_of, node_sites, args_sites}
 use Rattle.c65_gen_law_calls.specs.Lines.{is_calling, named_line, line_by, line_of}
@@ -125,13 +126,13 @@ truth_has (Test to s) fresh d = d
 labelled_has : {f : Framed} {ss : List Site} {a : List Line} (label : ℕ) → Has f ss a → Has f ss (labelled label a)
 labelled_has label d = has_behind d (even_free (even_label {X = No} label))
 
-tested_has : {f : Framed} {ss : List Site} {base a : List Line} (o : Option Direct) (kind : IntType) (s : Bool) (to : ℕ) → Has f ss base → Has f ss a → Has f ss (tested_load o kind s to base a)
-tested_has (Some d) kind s to pb p = has_behind pb (even_free (zero_test_even {X = One to} (own_bytes d (extent_of kind)) s to refl))
-tested_has None kind s to pb p = wanted_has (Test to s) (width_of kind) p
+tested_has : {f : Framed} {ss : List Site} {base test : List Line} (o : Option Direct) (kind : IntType) (s : Bool) (to : ℕ) → Has f ss base → Free test → Has f ss (tested_load o kind s to base test)
+tested_has (Some d) kind s to pb free = has_behind pb (even_free (zero_test_even {X = One to} (own_bytes d (extent_of kind)) s to refl))
+tested_has None kind s to pb free = has_behind pb free
 
 load_has : {f : Framed} {ss : List Site} {a : List Line} (w : Wanted) (place : Place) (access : Access) → Has f ss a → Has f ss (load_by w place access a)
 load_has Value place access p = has_behind p (free_leaves (load_still place access []))
-load_has (Test to s) place access p = tested_has (kept_at place access) (type_at access) s to p (has_behind p (free_leaves (load_still place access [])))
+load_has (Test to s) place access p = tested_has (kept_at place access) (type_at access) s to p (even_free (loaded_test_even {X = One to} (byte_field access) place access s to refl))
 
 conversion_has : {f : Framed} {ss : List Site} {a : List Line} (w : Wanted) (same : Bool) (t : Ty) (from : IntType) → Has f ss a → Has f ss (conversion_by w same t from a)
 conversion_has Value same t from p = has_behind p (free_leaves (conversion_still t from []))

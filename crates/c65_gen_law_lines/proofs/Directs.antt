@@ -10,7 +10,6 @@ use Rattle.c65_mach.specs.declared.rows.Mode.TheVariants.{Relative}
 use Rattle.c65_code.specs.declared.line.Sym.{Sym}
 use Rattle.c65_code.specs.declared.line.Operand.TheVariants.{To}
 use Rattle.c65_code.specs.declared.line.Line.TheVariants.{Do}
-use Rattle.c65_code.specs.Segments.{is_fit}
 use Rattle.c65_genwide.specs.Lines.{value}
 use Rattle.c65_genload.specs.Words.{sreg, tmp1, tmp2, implied, zero_page, by_y, absolute, branch}
 use Rattle.c65_genload.specs.Numbers.{first, second}
@@ -24,7 +23,7 @@ use Rattle.c65_gendirect.specs.Bytes.{op_of, aside, back}
 use Rattle.c65_gendirect.specs.Compare.{lowest_code, difference_code, by_carry, by_sign, order_code, second_code, same_code, compare_code, compare_byte_code}
 use Rattle.c65_gendirect.specs.Tests.{or_code, all_zero_code, zero_test_code, truth_code}
 use Rattle.c65_gendirect.specs.Words.{instruction, carry_code, first_byte_code, both_bytes_code, onward_code, end_label, is_and, is_number, word_code, sum_code, add_number_code, taken_from_code, long_mask_code}
-use Rattle.c65_gen_law_lines.proofs.Made.{Piece, nowhere, once_at}
+use Rattle.c65_gen_law_lines.proofs.Made.{is_early, Piece, nowhere, once_at}
 use Rattle.c65_gen_law_lines.proofs.Leaves.{Still}
 use Rattle.c65_gen_law_lines.proofs.Quiet.{Quiet, quiet_then, quiet_piece, quiet_label, quiet_branch, quiet_none, quiet_wider, quiet_as, quiet_if}
 
@@ -32,10 +31,10 @@ use Rattle.c65_gen_law_lines.proofs.Quiet.{Quiet, quiet_then, quiet_piece, quiet
 
 -- an operation of which the table has each mode that reads a byte
 record Reads (op : Op) : Type 0 where
-  immediate : is_fit (value op 0) ≡ true
-  zero : is_fit (zero_page op 0) ≡ true
-  indirect : is_fit (by_y op 0) ≡ true
-  absolute : (sym : Sym) (at : ℕ) → is_fit (absolute op sym at) ≡ true
+  immediate : is_early (value op 0) ≡ true
+  zero : is_early (zero_page op 0) ≡ true
+  indirect : is_early (by_y op 0) ≡ true
+  absolute : (sym : Sym) (at : ℕ) → is_early (absolute op sym at) ≡ true
 
 reads_adc : Reads Adc
 reads_adc = record { immediate = refl; zero = refl; indirect = refl; absolute = λ sym at. refl }
@@ -59,12 +58,12 @@ reads_lda : Reads Lda
 reads_lda = record { immediate = refl; zero = refl; indirect = refl; absolute = λ sym at. refl }
 
 byte_piece : (op : Op) (d : OperandByte) → Reads op → Piece 4 (op_of op d)
-byte_piece op (Number n) r = record { plain = refl; fit = and_from (is_fit (value op 0)) true r.immediate refl; size = omega arith }
-byte_piece op (Low sym at) r = record { plain = refl; fit = and_from (is_fit (value op 0)) true r.immediate refl; size = omega arith }
-byte_piece op (High sym at) r = record { plain = refl; fit = and_from (is_fit (value op 0)) true r.immediate refl; size = omega arith }
-byte_piece op (Near at) r = record { plain = refl; fit = and_from (is_fit (by_y op 0)) true r.indirect refl; size = omega arith }
-byte_piece op (Data sym at) r = record { plain = refl; fit = and_from (is_fit (absolute op sym at)) true (r.absolute sym at) refl; size = omega arith }
-byte_piece op (Zero at) r = record { plain = refl; fit = and_from (is_fit (zero_page op 0)) true r.zero refl; size = omega arith }
+byte_piece op (Number n) r = record { plain = refl; fit = and_from (is_early (value op 0)) true r.immediate refl; size = omega arith }
+byte_piece op (Low sym at) r = record { plain = refl; fit = and_from (is_early (value op 0)) true r.immediate refl; size = omega arith }
+byte_piece op (High sym at) r = record { plain = refl; fit = and_from (is_early (value op 0)) true r.immediate refl; size = omega arith }
+byte_piece op (Near at) r = record { plain = refl; fit = and_from (is_early (by_y op 0)) true r.indirect refl; size = omega arith }
+byte_piece op (Data sym at) r = record { plain = refl; fit = and_from (is_early (absolute op sym at)) true (r.absolute sym at) refl; size = omega arith }
+byte_piece op (Zero at) r = record { plain = refl; fit = and_from (is_early (zero_page op 0)) true r.zero refl; size = omega arith }
 
 byte_still : (op : Op) (d : OperandByte) → Still (op_of op d)
 byte_still op (Number n) v = record { to = λ calls. refl }
@@ -172,8 +171,8 @@ taken_quiet {ok = ok} low high =
 
 long_mask_fit : (op : Op) (a b c d : ℕ) → Reads op → Piece 20 (value op a ∷ implied Tay ∷ implied Txa ∷ value op b ∷ implied Tax ∷ zero_page Lda sreg ∷ value op c ∷ zero_page Sta sreg ∷ zero_page Lda (sreg + 1) ∷ value op d ∷ zero_page Sta (sreg + 1) ∷ implied Tya ∷ [])
 long_mask_fit op a b c d r =
-    let own : is_fit (value op 0) ≡ true = r.immediate in
-    record { plain = refl; fit = and_from (is_fit (value op 0)) _ own (and_from (is_fit (value op 0)) _ own (and_from (is_fit (value op 0)) _ own (and_from (is_fit (value op 0)) _ own refl))); size = omega arith }
+    let own : is_early (value op 0) ≡ true = r.immediate in
+    record { plain = refl; fit = and_from (is_early (value op 0)) _ own (and_from (is_early (value op 0)) _ own (and_from (is_early (value op 0)) _ own (and_from (is_early (value op 0)) _ own refl))); size = omega arith }
 
 pub long_mask_quiet : {ok : ℕ → Bool} (op : BinaryOp) (n : ℕ) → Quiet ok nowhere 20 (long_mask_code op n)
 long_mask_quiet op n = quiet_piece (long_mask_fit (instruction op) _ _ _ _ (reads_instruction op)) (λ v. record { to = λ calls. refl })
@@ -202,7 +201,7 @@ difference_quiet {ok = ok} r (Long d0 d1 d2 d3) =
     let fourth : Quiet ok nowhere 2 (zero_page Lda (sreg + 1) ∷ []) = quiet_piece (record { plain = refl; fit = refl; size = omega arith }) (λ v. record { to = λ calls. refl }) in
     quiet_as (λ l. refl) (quiet_then (lowest_quiet r d0) (quiet_then txa (quiet_then (byte_quiet Sbc d1 reads_sbc) (quiet_then third (quiet_then (byte_quiet Sbc d2 reads_sbc) (quiet_then fourth (byte_quiet Sbc d3 reads_sbc)))))))
 
-carry_fits : (r : Relation) → is_fit (Do (by_carry r) Relative (To 0)) ≡ true
+carry_fits : (r : Relation) → is_early (Do (by_carry r) Relative (To 0)) ≡ true
 carry_fits Less = refl
 carry_fits NotLess = refl
 carry_fits Greater = refl
@@ -210,7 +209,7 @@ carry_fits NotGreater = refl
 carry_fits Equal = refl
 carry_fits Unequal = refl
 
-sign_fits : (r : Relation) → is_fit (Do (by_sign r) Relative (To 0)) ≡ true
+sign_fits : (r : Relation) → is_early (Do (by_sign r) Relative (To 0)) ≡ true
 sign_fits Less = refl
 sign_fits NotLess = refl
 sign_fits Greater = refl
@@ -272,7 +271,7 @@ zero_quiet : {ok : ℕ → Bool} (ds : List OperandByte) → Quiet ok nowhere (2
 zero_quiet [] = quiet_piece (record { plain = refl; fit = refl; size = omega arith }) (λ v. record { to = λ calls. refl })
 zero_quiet (d ∷ ds) = quiet_wider (quiet_as (λ l. refl) (quiet_then (loaded_quiet d) (or_quiet ds))) (omega arith)
 
-sense_fits : (s : Bool) → is_fit (Do (if s then Bne else Beq) Relative (To 0)) ≡ true
+sense_fits : (s : Bool) → is_early (Do (if s then Bne else Beq) Relative (To 0)) ≡ true
 sense_fits true = refl
 sense_fits false = refl
 

@@ -22,6 +22,13 @@ use Rattle.c65_geneffect.specs.declared.changing.Changing.TheVariants.{Fixed, Lo
 use Rattle.c65_geneffect.specs.declared.changing.Fill.{Fill}
 use Rattle.c65_genchange.specs.Spots.{all_counted, target_of}
 use Rattle.c65_genchange.specs.Stepping.{step_op}
+use Rattle.c65_geneffect.specs.declared.setting.Setting.{Setting}
+use Rattle.c65_geneffect.specs.declared.setting.Setting.TheVariants as settings
+use Rattle.c65_genload.specs.declared.places.Field.{Field}
+use Rattle.c65_genload.specs.declared.places.Access.TheVariants.{Whole, Part}
+use Rattle.c65_genload.specs.Fields.{is_in_byte}
+use Rattle.c65_genexpr.specs.Operating.{is_light}
+use Rattle.c65_geneffect.specs.Setting.{setting_at, setting_by, setting_of}
 use Rattle.c65_geneffect.specs.Changing.{counting, step_by, stepping_of, loaded_by, fixed_or, changing_at, changing_of, number_in, fill_by, filling_at, filling_of}
 use Rattle.c65_gen_law_lines.proofs.Drops.{Idle}
 use Rattle.c65_gen_law_lines.proofs.EffectForms.{IsSound}
@@ -117,6 +124,33 @@ filling_unneeded B (places.Far at) access e b = tt
 filling_unneeded B (places.Bank x) access e b = filled_at B (places.Bank x) access (number_in e) b
 filling_unneeded B (places.Near at) access e b = filled_at B (places.Near at) access (number_in e) b
 filling_unneeded B (places.Data s at) access e b = filled_at B (places.Data s at) access (number_in e) b
+
+-- ---- `=` on a bit-field
+
+-- what is so of a right side whose lines are not taken
+abbrev pub Unset : Setting → Type 0 → Type 0
+Unset (settings.Number g n) B = B
+Unset (settings.Held g at) B = Unit {0}
+Unset (settings.Loaded g) B = Unit {0}
+Unset settings.Otherwise B = Unit {0}
+
+value_unset : (B : Type 0) (place : Place) (g : Field) (light : Bool) → Unset (setting_at place g None light) B
+value_unset B (places.Far at) g true = tt
+value_unset B (places.Far at) g false = tt
+value_unset B (places.Bank b) g light = tt
+value_unset B (places.Near at) g light = tt
+value_unset B (places.Data s at) g light = tt
+
+field_unset : (B : Type 0) (place : Place) (g : Field) (n : Option ℕ) (near : Bool) → ((m : ℕ) → n ≡ Some m → B) → Unset (setting_at place g n near) B
+field_unset B place g None near b = value_unset B place g near
+field_unset B place g (Some n) near b = b n refl
+
+set_unset : (B : Type 0) (place : Place) (access : Access) (n : Option ℕ) (light : Bool) → ((m : ℕ) → n ≡ Some m → B) → Unset (setting_by access place n light) B
+set_unset B place (Whole kind) n light b = tt
+set_unset B place (Part g) n light b = field_unset B place g n (is_in_byte g && light) b
+
+pub setting_unset : (B : Type 0) (f : Framed) (pushed : ℕ) (place : Place) (access : Access) (e : Typed) → ((n : ℕ) → number_in e ≡ Some n → B) → Unset (setting_of f pushed place access e) B
+setting_unset B f pushed place access e b = set_unset B place access (number_in e) (is_light f pushed e) b
 
 -- ---- what is so of the bytes at a place is so of those that are changed
 

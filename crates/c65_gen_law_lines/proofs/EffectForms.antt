@@ -6,7 +6,6 @@ use Rattle.c65_base.specs.declared.operators.BinaryOp.TheVariants as ops
 use Rattle.c65_mach.specs.declared.rows.Op.{Op}
 use Rattle.c65_mach.specs.declared.rows.Op.TheVariants.{Bcc, Bcs, Bne, Dec, Inc, Lda, Sbc, Sec, Sta, Txa}
 use Rattle.c65_code.specs.declared.line.Sym.{Sym}
-use Rattle.c65_code.specs.Segments.{is_fit}
 use Rattle.c65_genwide.specs.Lines.{value}
 use Rattle.c65_genload.specs.declared.places.Place.{Place}
 use Rattle.c65_genload.specs.declared.places.Place.TheVariants as places
@@ -21,7 +20,7 @@ use Rattle.c65_genchange.specs.declared.changes.Change.{Change}
 use Rattle.c65_genchange.specs.declared.changes.Change.TheVariants.{Up, Down, Number, Operand}
 use Rattle.c65_genchange.specs.Spots.{point_code, reach_code, again_code, is_counted, all_counted}
 use Rattle.c65_genchange.specs.Changes.{up_code, down_code, byte_code, first_code, next_code, is_neutral, skip_code, low_code, high_code, number_code, aside_code, taken_code, less_code, joined_code, more_code, operand_code, change_code, fill_code}
-use Rattle.c65_gen_law_lines.proofs.Made.{Piece, nowhere, once_at}
+use Rattle.c65_gen_law_lines.proofs.Made.{is_early, Piece, nowhere, once_at}
 use Rattle.c65_gen_law_lines.proofs.Leaves.{Still}
 use Rattle.c65_gen_law_lines.proofs.Quiet.{Quiet, quiet_then, quiet_piece, quiet_label, quiet_branch, quiet_none, quiet_wider, quiet_as, quiet_if}
 use Rattle.c65_gen_law_lines.proofs.Directs.{carry_quiet}
@@ -30,11 +29,11 @@ use Rattle.c65_gen_law_lines.proofs.Directs.{carry_quiet}
 
 -- an operation of which the table has each mode that reaches a byte
 pub record Reaches (op : Op) : Type 0 where
-  zero : is_fit (zero_page op 0) ≡ true
-  indirect : is_fit (by_y op 0) ≡ true
-  absolute : (sym : Sym) (at : ℕ) → is_fit (absolute op sym at) ≡ true
+  zero : is_early (zero_page op 0) ≡ true
+  indirect : is_early (by_y op 0) ≡ true
+  absolute : (sym : Sym) (at : ℕ) → is_early (absolute op sym at) ≡ true
 
-reaches_lda : Reaches Lda
+pub reaches_lda : Reaches Lda
 reaches_lda = record { zero = refl; indirect = refl; absolute = λ sym at. refl }
 
 pub reaches_sta : Reaches Sta
@@ -47,22 +46,22 @@ reaches_instruction ops.BitAnd = record { zero = refl; indirect = refl; absolute
 reaches_instruction ops.BitXor = record { zero = refl; indirect = refl; absolute = λ sym at. refl }
 reaches_instruction _ = record { zero = refl; indirect = refl; absolute = λ sym at. refl }
 
-reach_piece : (op : Op) (spot : Spot) → Reaches op → Piece 4 (reach_code op spot)
-reach_piece op (Behind pointer at) r = record { plain = refl; fit = and_from (is_fit (by_y op 0)) true r.indirect refl; size = omega arith }
-reach_piece op (Data sym at) r = record { plain = refl; fit = and_from (is_fit (absolute op sym at)) true (r.absolute sym at) refl; size = omega arith }
-reach_piece op (Zero at) r = record { plain = refl; fit = and_from (is_fit (zero_page op 0)) true r.zero refl; size = omega arith }
+pub reach_piece : (op : Op) (spot : Spot) → Reaches op → Piece 4 (reach_code op spot)
+reach_piece op (Behind pointer at) r = record { plain = refl; fit = and_from (is_early (by_y op 0)) true r.indirect refl; size = omega arith }
+reach_piece op (Data sym at) r = record { plain = refl; fit = and_from (is_early (absolute op sym at)) true (r.absolute sym at) refl; size = omega arith }
+reach_piece op (Zero at) r = record { plain = refl; fit = and_from (is_early (zero_page op 0)) true r.zero refl; size = omega arith }
 
-again_piece : (op : Op) (spot : Spot) → Reaches op → Piece 3 (again_code op spot)
-again_piece op (Behind pointer at) r = record { plain = refl; fit = and_from (is_fit (by_y op 0)) true r.indirect refl; size = omega arith }
-again_piece op (Data sym at) r = record { plain = refl; fit = and_from (is_fit (absolute op sym at)) true (r.absolute sym at) refl; size = omega arith }
-again_piece op (Zero at) r = record { plain = refl; fit = and_from (is_fit (zero_page op 0)) true r.zero refl; size = omega arith }
+pub again_piece : (op : Op) (spot : Spot) → Reaches op → Piece 3 (again_code op spot)
+again_piece op (Behind pointer at) r = record { plain = refl; fit = and_from (is_early (by_y op 0)) true r.indirect refl; size = omega arith }
+again_piece op (Data sym at) r = record { plain = refl; fit = and_from (is_early (absolute op sym at)) true (r.absolute sym at) refl; size = omega arith }
+again_piece op (Zero at) r = record { plain = refl; fit = and_from (is_early (zero_page op 0)) true r.zero refl; size = omega arith }
 
 pub reach_still : (op : Op) (spot : Spot) → Still (reach_code op spot)
 reach_still op (Behind pointer at) v = record { to = λ calls. refl }
 reach_still op (Data sym at) v = record { to = λ calls. refl }
 reach_still op (Zero at) v = record { to = λ calls. refl }
 
-again_still : (op : Op) (spot : Spot) → Still (again_code op spot)
+pub again_still : (op : Op) (spot : Spot) → Still (again_code op spot)
 again_still op (Behind pointer at) v = record { to = λ calls. refl }
 again_still op (Data sym at) v = record { to = λ calls. refl }
 again_still op (Zero at) v = record { to = λ calls. refl }

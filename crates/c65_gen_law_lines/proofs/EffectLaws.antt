@@ -21,16 +21,25 @@ use Rattle.c65_geneffect.specs.declared.changing.Changing.TheVariants.{Fixed, Lo
 use Rattle.c65_geneffect.specs.declared.changing.Fill.{Fill}
 use Rattle.c65_genchange.specs.Changes.{change_code}
 use Rattle.c65_geneffect.specs.Changing.{in_front, stepping_of, changing_of, filling_of}
-use Rattle.c65_geneffect.specs.Effects.{closed, fixed_code, stepped_by, changed_by, filled_or, changed_code, step_effect, effect_code, node_effect, effect_uses, node_effect_uses}
+use Rattle.c65_geneffect.specs.declared.setting.Setting.{Setting}
+use Rattle.c65_geneffect.specs.declared.setting.Setting.TheVariants as settings
+use Rattle.c65_genchange.specs.Spots.{point_code}
+use Rattle.c65_genfield.specs.Setting.{number_code}
+use Rattle.c65_geneffect.specs.Setting.{setting_of, below_value, set_by}
+use Rattle.c65_genexpr.specs.Held.{ptr2}
+use Rattle.c65_geneffect.specs.Effects.{closed, fixed_code, stepped_by, changed_by, filled_or, set_code, changed_code, step_effect, effect_code, node_effect, effect_uses, node_effect_uses}
 use Rattle.c65_gen_law_lines.specs.Bulk.{nodes}
 use Rattle.c65_gen_law_lines.specs.Stack.{calls_of, node_calls}
-use Rattle.c65_gen_law_lines.proofs.Made.{among_split, among_one, stretch_then, stretch_label, stretch_made, made_stretch, leads_within, leads_inner, Made, made_append, made_wider, made_as, made_behind}
+use Rattle.c65_gen_law_lines.proofs.Made.{piece_append, among_split, among_one, stretch_then, stretch_label, stretch_made, made_stretch, leads_within, leads_inner, Made, made_append, made_wider, made_as, made_behind, made_before}
 use Rattle.c65_gen_law_lines.proofs.Leaves.{leaves_then}
 use Rattle.c65_gen_law_lines.proofs.Drops.{constant_idle}
 use Rattle.c65_gen_law_lines.proofs.ExprLaws.{room, some_nodes, slack_fits, expr_made, base_made}
-use Rattle.c65_gen_law_lines.proofs.StackLaws.{Doing, does_then, does_behind, left_alone, one_label, expr_does, base_does}
+use Rattle.c65_gen_law_lines.proofs.StackLaws.{Doing, does_then, does_before, does_behind, left_alone, one_label, expr_does, base_does}
 use Rattle.c65_gen_law_lines.proofs.EffectForms.{IsSound, change_quiet, point_quiet, fill_piece, fill_still}
-use Rattle.c65_gen_law_lines.proofs.EffectFacts.{IsStep, stepping_sound, Unneeded, changing_unneeded, Unfilled, number_idle, filling_unneeded}
+use Rattle.c65_gen_law_lines.proofs.EffectFacts.{IsStep, stepping_sound, Unneeded, changing_unneeded, Unfilled, number_idle, filling_unneeded, Unset, setting_unset}
+use Rattle.c65_gen_law_lines.proofs.Pieces.{hold_piece, keep_piece}
+use Rattle.c65_gen_law_lines.proofs.StackPieces.{holding, hold_leaves, keep_still}
+use Rattle.c65_gen_law_lines.proofs.FieldForms.{point_piece, number_piece, number_still, behind_piece, behind_still, set_piece, set_leaves}
 
 -- ---- labels, sizes and forms
 
@@ -65,6 +74,21 @@ filled_made : {lo n j k : ℕ} {base whole : List Line} (m : ℕ) (fill : Option
 filled_made m (Some fill) unneeded le mb mw = made_as (omega (arith, unneeded)) (made_wider (made_behind mb (fill_piece fill.byte fill.low fill.high)) le)
 filled_made m None unneeded le mb mw = mw
 
+set_made : {lo n m i j k : ℕ} {left right whole : List Line} (how : Setting) (place : Place) → Unset how (m ≡ 0) → i + 26 ≤ k → i + j + 78 ≤ k → Made [] lo n i left → Made [] (lo + n) m j right → Made [] lo (n + m) k whole
+    → Made [] lo (n + m) k (set_by how place left right whole)
+set_made (settings.Number g x) place unset first second ml mr mw = made_as (omega (arith, unset)) (made_wider (made_behind ml (piece_append 4 22 (point_code place) (number_code place g x) (point_piece place) (number_piece place g x))) first)
+set_made (settings.Held g at) place unset first second ml mr mw = made_wider (made_append ml (made_before keep_piece (made_behind mr (behind_piece ptr2 at g)))) (omega (arith, second))
+set_made (settings.Loaded g) place unset first second ml mr mw = made_wider (made_append ml (made_before (hold_piece place) (made_behind mr (set_piece place g)))) (omega (arith, second))
+set_made settings.Otherwise place unset first second ml mr mw = mw
+
+field_made : (f : Framed) (pushed lo : ℕ) (a b : Typed) (whole : List Line) → Made [] lo (uses None a + uses None b) (128 * (1 + (nodes a + nodes b))) whole → Made [] lo (uses None a + uses None b) (128 * (1 + (nodes a + nodes b))) (set_code f pushed lo a b whole)
+field_made f pushed lo a b whole mw =
+    let place : Place = place_of f pushed a in
+    let access : Access = access_of (types_of f.parts.types) a in
+    let how : Setting = setting_of f pushed place access b in
+    set_made how place (setting_unset _ f pushed place access b (λ n h. (number_idle f b n h).uses)) (omega (arith, some_nodes a, some_nodes b)) (omega (arith, some_nodes a, some_nodes b))
+    (base_made f pushed lo a) (expr_made f (below_value how pushed place) (lo + uses None a) Value b) mw
+
 step_made : (f : Framed) (pushed lo : ℕ) (t : QTy) (how : StepKind) (e : Typed) → Made [] lo (1 + uses None e) (room (node t (step (in_front how) e))) (node_code f pushed lo Value t (step (in_front how) e))
     → Made [] lo (1 + uses None e) (128 * nodes (node t (step how e))) (step_effect f pushed lo how e)
 step_made f pushed lo t how e whole =
@@ -90,7 +114,7 @@ mutual
   node_effect_made f pushed lo t (assign a b) =
       let place : Place = place_of f pushed a in
       let access : Access = access_of (types_of f.parts.types) a in
-      filled_made (uses None b) (filling_of place access b) (filling_unneeded _ place access b (λ n h. (number_idle f b n h).uses)) (omega (arith, some_nodes a, some_nodes b)) (base_made f pushed lo a) (made_wider (expr_made f pushed lo Value (node t (assign a b))) (omega arith))
+      filled_made (uses None b) (filling_of place access b) (filling_unneeded _ place access b (λ n h. (number_idle f b n h).uses)) (omega (arith, some_nodes a, some_nodes b)) (base_made f pushed lo a) (field_made f pushed lo a b (node_code f pushed lo Value t (assign a b)) (made_wider (expr_made f pushed lo Value (node t (assign a b))) (omega arith)))
   node_effect_made f pushed lo t (assign_op op k a b) = op_made f pushed lo op 1 a b (node_code f pushed (lo + 1) Value t (assign_op op k a b)) (made_wider (expr_made f pushed (lo + 1) Value (node t (assign_op op k a b))) (omega arith))
   node_effect_made f pushed lo t (assign_step op a b) = op_made f pushed lo op (target_bytes f (bare a)) a b (node_code f pushed (lo + 1) Value t (assign_step op a b)) (made_wider (expr_made f pushed (lo + 1) Value (node t (assign_step op a b))) (omega arith))
   node_effect_made f pushed lo t (step PreInc e) = step_made f pushed lo t PreInc e (expr_made f pushed lo Value (node t (step PreInc e)))
@@ -118,6 +142,19 @@ filled_does : {cs : List (List ℕ)} {base whole : List Line} (ds : List (List �
 filled_does ds (Some fill) unneeded db dw v = left_alone unneeded (does_behind (db v) (fill_still fill.byte fill.low fill.high v))
 filled_does ds None unneeded db dw v = dw v
 
+set_does : {cs ds : List (List ℕ)} {left right whole : List Line} (how : Setting) (place : Place) → Unset how (ds ≡ []) → Doing cs left → Doing ds right → Doing (cs ++ ds) whole → Doing (cs ++ ds) (set_by how place left right whole)
+set_does (settings.Number g n) place unset dl dr dw v = left_alone unset (does_behind (dl v) (leaves_then ((point_quiet {ok = λ l. true} place).still v) (number_still place g n v)))
+set_does (settings.Held g at) place unset dl dr dw v = does_then (dl v) (does_before (keep_still v) (does_behind (dr v) (behind_still ptr2 at g v)))
+set_does (settings.Loaded g) place unset dl dr dw v = does_then (dl v) (does_before (hold_leaves place v) (does_behind (dr (holding place v)) (set_leaves place g v)))
+set_does settings.Otherwise place unset dl dr dw v = dw v
+
+field_does : (f : Framed) (pushed lo : ℕ) (a b : Typed) (whole : List Line) → Doing (calls_of f a ++ calls_of f b) whole → Doing (calls_of f a ++ calls_of f b) (set_code f pushed lo a b whole)
+field_does f pushed lo a b whole dw =
+    let place : Place = place_of f pushed a in
+    let access : Access = access_of (types_of f.parts.types) a in
+    let how : Setting = setting_of f pushed place access b in
+    set_does how place (setting_unset _ f pushed place access b (λ n h. (number_idle f b n h).calls)) (base_does f pushed lo a) (expr_does f (below_value how pushed place) (lo + uses None a) Value b) dw
+
 step_does : (f : Framed) (pushed lo : ℕ) (t : QTy) (how : StepKind) (e : Typed) → Doing (calls_of f e) (node_code f pushed lo Value t (step (in_front how) e)) → Doing (calls_of f e) (step_effect f pushed lo how e)
 step_does f pushed lo t how e whole =
     let place : Place = place_of f pushed e in
@@ -141,7 +178,7 @@ mutual
   node_effect_does f pushed lo t (assign a b) =
       let place : Place = place_of f pushed a in
       let access : Access = access_of (types_of f.parts.types) a in
-      filled_does (calls_of f b) (filling_of place access b) (filling_unneeded _ place access b (λ n h. (number_idle f b n h).calls)) (base_does f pushed lo a) (expr_does f pushed lo Value (node t (assign a b)))
+      filled_does (calls_of f b) (filling_of place access b) (filling_unneeded _ place access b (λ n h. (number_idle f b n h).calls)) (base_does f pushed lo a) (field_does f pushed lo a b (node_code f pushed lo Value t (assign a b)) (expr_does f pushed lo Value (node t (assign a b))))
   node_effect_does f pushed lo t (assign_op op k a b) = op_does f pushed lo op 1 a b (node_code f pushed (lo + 1) Value t (assign_op op k a b)) (expr_does f pushed (lo + 1) Value (node t (assign_op op k a b)))
   node_effect_does f pushed lo t (assign_step op a b) = op_does f pushed lo op (target_bytes f (bare a)) a b (node_code f pushed (lo + 1) Value t (assign_step op a b)) (expr_does f pushed (lo + 1) Value (node t (assign_step op a b)))
   node_effect_does f pushed lo t (step PreInc e) = step_does f pushed lo t PreInc e (expr_does f pushed lo Value (node t (step PreInc e)))

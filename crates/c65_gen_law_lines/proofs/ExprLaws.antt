@@ -19,6 +19,7 @@ use Rattle.c65_genload.specs.declared.places.Place.{Place}
 use Rattle.c65_genload.specs.declared.places.Place.TheVariants as places
 use Rattle.c65_genload.specs.declared.places.Access.{Access}
 use Rattle.c65_genload.specs.declared.places.Access.TheVariants.{Whole, Part}
+use Rattle.c65_genfield.specs.Bits.{byte_field}
 use Rattle.c65_genload.specs.Places.{extent_by}
 use Rattle.c65_genload.specs.Places as loads
 use Rattle.c65_genload.specs.Conversions.{waiting, size_of}
@@ -49,12 +50,12 @@ use Rattle.c65_genexpr.specs.Code.{width_in, load_by, behind_open, compound, cal
 use Rattle.c65_gen_law_lines.specs.Bulk.{nodes, nodes_in}
 use Rattle.c65_gen_law_lines.specs.Labels.{aims, may_lead}
 use Rattle.c65_gen_law_lines.specs.Laws.{ExpressionsOwnTheirLabels, ExpressionsAreSmall, ExpressionsAreFit}
-use Rattle.c65_gen_law_lines.proofs.Made.{among_split, among_one, piece_append, stretch_then, stretch_label, stretch_made, made_stretch, leads_within, leads_inner, once_at, Made, made_piece, made_append, made_behind, made_before, made_wider, made_as, made_none}
+use Rattle.c65_gen_law_lines.proofs.Made.{all_fit, among_split, among_one, piece_append, stretch_then, stretch_label, stretch_made, made_stretch, leads_within, leads_inner, once_at, Made, made_piece, made_append, made_behind, made_before, made_wider, made_as, made_none, leads_outer}
 use Rattle.c65_gen_law_lines.proofs.Pieces.{narrow_piece, keep_piece, byte_behind_piece, word_behind_piece, read_store_piece, byte_through_piece, word_through_piece, by_access, passing_by, passing, part_piece, spill_piece, further_piece, symbol_piece, object_piece, offset_piece, load_piece, unary_piece, push_piece, hold_piece, store_piece, copy_piece, open_piece, close_piece, named_piece, pointer_piece, argument_piece, direct_piece}
 use Rattle.c65_gen_law_lines.proofs.Quiet.{Quiet}
 use Rattle.c65_gen_law_lines.proofs.StepForms.{step_quiet}
 use Rattle.c65_gen_law_lines.proofs.Drops.{comparing_uses, Unstored, storing_uses, sum_uses, operating_uses}
-use Rattle.c65_gen_law_lines.proofs.Wants.{made_from, made_closed, wanted_made, constant_made, tested_made, converted_made, truth_made, joined_made, comparison_made, operator_made, choice_made}
+use Rattle.c65_gen_law_lines.proofs.Wants.{made_from, made_closed, wanted_made, constant_made, test_part, tested_made, converted_made, truth_made, joined_made, comparison_made, operator_made, choice_made}
 
 -- ---- places that are known
 
@@ -200,7 +201,8 @@ call_made f None given g (some e more_args) mc ma mb =
 -- a load, or a test of what is kept
 load_made : {lo n k w : ℕ} {a : List Line} (wants : Wanted) (place : Place) (access : Access) → by_access 19 36 access ≤ w → Made [] lo n k a → Made (aims wants) lo n (k + w + 23) (load_by wants place access a)
 load_made Value place access le m = made_wider (made_behind m (load_piece place access)) (omega (arith, le))
-load_made (Test to s) place access le m = made_wider (tested_made (kept_at place access) (loads.type_in access) s to (omega arith) m (made_behind m (load_piece place access))) (omega (arith, le))
+load_made {lo = lo} {n = n} (Test to s) place access le m =
+    tested_made (kept_at place access) (loads.type_in access) s to (omega (arith, le)) (omega (arith, le)) m (test_part (byte_field access) place access s to (leads_outer lo n to))
 
 -- ---- the whole tree
 
@@ -341,4 +343,4 @@ pub expressions_are_small : ExpressionsAreSmall
 expressions_are_small f pushed fresh w e = omega (arith, (expr_made f pushed fresh w e).size)
 
 pub expressions_are_fit : ExpressionsAreFit
-expressions_are_fit f pushed fresh w e = (expr_made f pushed fresh w e).fit
+expressions_are_fit f pushed fresh w e = all_fit (expr_code f pushed fresh w e) (expr_made f pushed fresh w e).fit

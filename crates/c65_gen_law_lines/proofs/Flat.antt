@@ -8,7 +8,6 @@ use Rattle.c65_code.specs.declared.line.Line.{Line}
 use Rattle.c65_code.specs.declared.line.Line.TheVariants.{Label}
 use Rattle.c65_code.specs.declared.routine.Count.{Count}
 use Rattle.c65_code.specs.declared.routine.Routine.TheVariants.{PushA, AddYSp, SaveRegs, RestRegs, LdAxYSp, LdAi, LdAxi}
-use Rattle.c65_code.specs.Segments.{is_fit}
 use Rattle.c65_genframe.specs.declared.home.Arrival.{Arrival}
 use Rattle.c65_genframe.specs.declared.home.Arrival.TheVariants.{Passed, Pushed, Kept}
 use Rattle.c65_genframe.specs.declared.home.Moved.{Moved}
@@ -28,18 +27,18 @@ use Rattle.c65_genstmt.specs.declared.objects.Spot.{Spot}
 use Rattle.c65_genstmt.specs.declared.objects.Spot.TheVariants.{Bank, Soft, Data}
 use Rattle.c65_genstmt.specs.Objects.{point_code, stored_code}
 use Rattle.c65_gen_law_lines.specs.Labels.{times, among}
-use Rattle.c65_gen_law_lines.proofs.Made.{is_plain, times-append, plain_times, among_split, among_none, among_one, Leads, leads_wider, leads_append, leads_plain, leads_to, all_append, Piece}
+use Rattle.c65_gen_law_lines.proofs.Made.{is_early, is_plain, times-append, plain_times, among_split, among_none, among_one, Leads, leads_wider, leads_append, leads_plain, leads_to, all_append, Piece}
 use Rattle.c65_gen_law_lines.proofs.Pieces.{pass_piece, store_piece}
 
 pub record Flat (lines : List Line) : Type 0 where
   pub plain : list_all is_plain lines ≡ true
-  pub fit : list_all is_fit lines ≡ true
+  pub fit : list_all is_early lines ≡ true
 
 -- the labels from lo on, so many
 pub record Own (lo n : ℕ) (lines : List Line) : Type 0 where
   pub once : (l : ℕ) → times l lines ≡ among lo n l
   pub leads : Leads lo n lines
-  pub fit : list_all is_fit lines ≡ true
+  pub fit : list_all is_early lines ≡ true
 
 pub flat_piece : (k : ℕ) (a : List Line) → Piece k a → Flat a
 flat_piece k a p = record { plain = p.plain; fit = p.fit }
@@ -48,7 +47,7 @@ pub flat_none : Flat []
 flat_none = record { plain = refl; fit = refl }
 
 pub flat_append : (a b : List Line) → Flat a → Flat b → Flat (a ++ b)
-flat_append a b fa fb = record { plain = all_append is_plain a b fa.plain fb.plain; fit = all_append is_fit a b fa.fit fb.fit }
+flat_append a b fa fb = record { plain = all_append is_plain a b fa.plain fb.plain; fit = all_append is_early a b fa.fit fb.fit }
 
 pub flat_if : (b : Bool) (x y : List Line) → Flat x → Flat y → Flat (if b then x else y)
 flat_if true x y fx fy = fx
@@ -61,14 +60,14 @@ pub own_append : (lo m n : ℕ) (a b : List Line) → Own lo m a → Own (lo + m
 own_append lo m n a b ma mb = record {
   once = λ l. omega (arith, times-append l a b, ma.once l, mb.once l, among_split lo m n l);
   leads = leads_append lo (m + n) a b (leads_wider lo m lo (m + n) a (omega arith) (omega arith) ma.leads) (leads_wider (lo + m) n lo (m + n) b (omega arith) (omega arith) mb.leads);
-  fit = all_append is_fit a b ma.fit mb.fit;
+  fit = all_append is_early a b ma.fit mb.fit;
 }
 
 pub own_before : (lo n : ℕ) (p a : List Line) → Flat p → Own lo n a → Own lo n (p ++ a)
 own_before lo n p a pp ma = record {
   once = λ l. omega (arith, times-append l p a, ma.once l, plain_times l p pp.plain);
   leads = leads_append lo n p a (leads_plain lo n p pp.plain) ma.leads;
-  fit = all_append is_fit p a pp.fit ma.fit;
+  fit = all_append is_early p a pp.fit ma.fit;
 }
 
 own_as : (lo n m : ℕ) (a : List Line) → n ≡ m → Own lo n a → Own lo m a
@@ -253,7 +252,7 @@ pages_own each after n l false fe fa =
     record {
       once = λ k. omega (arith, times-append k each turn, times-append k after last, plain_times k each fe.plain, plain_times k after fa.plain, among_one l k);
       leads = record { all = body.all };
-      fit = all_append is_fit each turn fe.fit (all_append is_fit after last fa.fit refl);
+      fit = all_append is_early each turn fe.fit (all_append is_early after last fa.fit refl);
     }
 
 rest_own : (each : List Line) (bytes l : ℕ) (b : Bool) → Flat each → Own l (if b then 0 else 1) (if b then [] else Label l ∷ (each ++ (implied Iny ∷ value Cpy bytes ∷ branch Bne l ∷ [])))
@@ -266,7 +265,7 @@ rest_own each bytes l false fe =
     record {
       once = λ k. omega (arith, times-append k each turn, plain_times k each fe.plain, among_one l k);
       leads = record { all = body.all };
-      fit = all_append is_fit each turn fe.fit refl;
+      fit = all_append is_early each turn fe.fit refl;
     }
 
 block_own : (each after : List Line) (bytes l : ℕ) → Flat each → Flat after → Own l (block_labels bytes) (block_code each after bytes l)

@@ -10,7 +10,7 @@ use Rattle.c65_csem.specs.Units.{context_of, IsBody}
 use Rattle.c65_code.specs.declared.line.Line.{Line}
 use Rattle.c65_code.specs.declared.line.Line.TheVariants.{Label, Do, Call}
 use Rattle.c65_code.specs.declared.parts.RegSet.{RegSet}
-use Rattle.c65_code.specs.Segments.{Drafted, IsSegment, is_fit, is_among, is_distinct, is_closing, closed_by, is_closed, targets_of}
+use Rattle.c65_code.specs.Segments.{Drafted, IsSegment, is_among, is_distinct, is_closing, closed_by, is_closed, targets_of}
 use Rattle.c65_code.specs.Segments as segments
 use Rattle.c65_genframe.specs.Frames.{Framed}
 use Rattle.c65_genwide.specs.Lines.{with_lines}
@@ -24,7 +24,7 @@ use Rattle.c65_genstmt.specs.Stmts.{with_label, ways, with_stmt}
 use Rattle.c65_genstmt.specs.Functions.{main_code, no_lines}
 use Rattle.c65_gen_law_lines.specs.Labels.{times, among}
 use Rattle.c65_gen_law_lines.specs.Laws.{FunctionsAreSegments}
-use Rattle.c65_gen_law_lines.proofs.Made.{within, among_inside, or_left, or_right}
+use Rattle.c65_gen_law_lines.proofs.Made.{all_fit, within, among_inside, or_left, or_right}
 use Rattle.c65_gen_law_lines.proofs.Flat.{Flat, flat_none, entry_flat, end_flat}
 use Rattle.c65_gen_law_lines.proofs.Puts.{one, below_next, below_more, at_most_one, one_same, one_other, Puts, puts_then, puts_end, puts_flat, puts_label}
 use Rattle.c65_gen_law_lines.proofs.Others.{names, names_in, others, laid, times_one, others_are}
@@ -234,7 +234,7 @@ end_closes false f b = closed_append b (raise_code f.soft) _ ∙ (closed_append 
 
 -- ---- the function
 
-main_flat : (is_main : Bool) → Flat (main_code is_main)
+pub main_flat : (is_main : Bool) → Flat (main_code is_main)
 main_flat true = record { plain = refl; fit = refl }
 main_flat false = flat_none
 
@@ -282,7 +282,7 @@ functions_are_segments u g body f is_main out well few =
     let goto_passes : (n : ℕ) → Contains (labels_of body) n → stands f is_main body out (following n) ≡ true =
     λ n h. is_there (following n) (segments.labels_of lines) (omega (arith, all.least (following n), known u g body (following n) well, stated_some n h.0 (labels_of body) h.1 h.2, times_occurs (following n) lines)) in
     record {
-      fit = all.fit refl;
+      fit = all_fit lines (all.fit refl);
       labels = distinct_list (segments.labels_of lines) (λ x. omega (arith, once x, times_occurs x lines));
       targets = all.leads (stands f is_main body out) (record { behind = ending; onward = ending; ending = ending; gotos = goto_passes }) (λ x more. is_there x (segments.labels_of lines) (omega (arith, more, times_occurs x lines))) refl;
       closed = closed_append false (ended f is_main body out).lines (end_code f) ∙ end_closes f.variadic f (closed_by false (ended f is_main body out).lines);

@@ -9,6 +9,7 @@ pub mod Drops
 pub mod Forms
 pub mod Wants
 pub mod EffectForms
+pub mod FieldForms
 pub mod StepForms
 pub mod ExprLaws
 pub mod Flat
@@ -25,3 +26,4 @@ pub mod SizeLaws
 pub mod FrameLaws
 pub mod HomeLaws
 pub mod ProgramLaws
+pub mod RowLaws

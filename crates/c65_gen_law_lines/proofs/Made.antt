@@ -1,5 +1,5 @@
 -- Lines made of pieces: their labels, their targets, their forms and their size.
-use Rattle.std.proofs.Common.{◌≡◌, ℕ, ◌+◌, ◌<◌, ◌≤◌, ◌==◌, ◌||◌, ◌⊎◌, inl, inr, Bool, true, false, not, List, [], ◌∷◌, ◌++◌, refl, sym, ◌∙◌, ap, subst, arith}
+use Rattle.std.proofs.Common.{◌≡◌, ℕ, ◌+◌, ◌<◌, ◌≤◌, ◌==◌, ◌||◌, ◌&&◌, ◌⊎◌, inl, inr, Bool, true, false, not, List, [], ◌∷◌, ◌++◌, refl, sym, ◌∙◌, ap, subst, arith}
 use Rattle.std.specs.Prelude.{if◌then◌else◌, nat_le, nat_lt, nat_eq}
 use Rattle.std.specs.List.{list_all}
 use Rattle.std.proofs.lemmas.Bool.{and_parts, and_from, and_left, and_right, le-leb, lt-leb, lt-ltb, le-ltb, leb-true, ltb-true, eq-eqb, eqb-true, ne_eqb, cases_lt, cases_order}
@@ -13,6 +13,7 @@ use Rattle.c65_code.specs.declared.line.Operand.TheVariants.{Nothing, Byte, Low,
 use Rattle.c65_code.specs.declared.line.Line.{Line}
 use Rattle.c65_code.specs.declared.line.Line.TheVariants.{Label, Do, Call}
 use Rattle.c65_code.specs.Segments.{is_to, is_fit, is_among, target_of, targets_of}
+use Rattle.c65_code.specs.Processors.{is_nmos_line}
 use Rattle.c65_code.specs.Weights.{lines_size}
 use Rattle.c65_gen_law_lines.specs.Labels.{times, is_within, among, may_lead}
 
@@ -140,10 +141,26 @@ leads_to lo n l op mode a low high h = record { all = and_from (is_within lo n l
 
 -- ---- pieces
 
+-- a line that may stand in a segment, and has a row of the 6502
+abbrev pub is_early : Line → Bool
+is_early line = is_fit line && is_nmos_line line
+
+pub all_fit : (lines : List Line) → list_all is_early lines ≡ true → list_all is_fit lines ≡ true
+all_fit [] h = refl
+all_fit (line ∷ lines) h =
+    let parts = and_parts (is_early line) (list_all is_early lines) h in
+    and_from (is_fit line) (list_all is_fit lines) (and_parts (is_fit line) (is_nmos_line line) parts.0).0 (all_fit lines parts.1)
+
+pub all_nmos : (lines : List Line) → list_all is_early lines ≡ true → list_all is_nmos_line lines ≡ true
+all_nmos [] h = refl
+all_nmos (line ∷ lines) h =
+    let parts = and_parts (is_early line) (list_all is_early lines) h in
+    and_from (is_nmos_line line) (list_all is_nmos_line lines) (and_parts (is_fit line) (is_nmos_line line) parts.0).1 (all_nmos lines parts.1)
+
 -- at most so many bytes, with no label and no target
 pub record Piece (k : ℕ) (lines : List Line) : Type 0 where
   pub plain : list_all is_plain lines ≡ true
-  pub fit : list_all is_fit lines ≡ true
+  pub fit : list_all is_early lines ≡ true
   pub size : lines_size lines ≤ k
 
 pub all_append : (p : Line → Bool) (a b : List Line) → list_all p a ≡ true → list_all p b ≡ true → list_all p (a ++ b) ≡ true
@@ -152,7 +169,7 @@ all_append p a b ha hb = list_all-append p a b ∙ and_from (list_all p a) (list
 pub piece_append : (j k : ℕ) (a b : List Line) → Piece j a → Piece k b → Piece (j + k) (a ++ b)
 piece_append j k a b pa pb = record {
   plain = all_append is_plain a b pa.plain pb.plain;
-  fit = all_append is_fit a b pa.fit pb.fit;
+  fit = all_append is_early a b pa.fit pb.fit;
   size = omega (arith, size-append a b, pa.size, pb.size);
 }
 
@@ -201,14 +218,14 @@ among_passes ok (k ∷ ls) l h there =
 pub record Stretch (ok : ℕ → Bool) (own : ℕ → ℕ) (k : ℕ) (lines : List Line) : Type 0 where
   pub once : (l : ℕ) → times l lines ≡ own l
   pub leads : list_all ok (targets_of lines) ≡ true
-  pub fit : list_all is_fit lines ≡ true
+  pub fit : list_all is_early lines ≡ true
   pub size : lines_size lines ≤ k
 
 -- the labels from lo on, so many; the lines lead to these and to those outside
 pub record Made (outside : List ℕ) (lo n k : ℕ) (lines : List Line) : Type 0 where
   pub once : (l : ℕ) → times l lines ≡ among lo n l
   pub leads : list_all (may_lead lo n outside) (targets_of lines) ≡ true
-  pub fit : list_all is_fit lines ≡ true
+  pub fit : list_all is_early lines ≡ true
   pub size : lines_size lines ≤ k
 
 abbrev pub nowhere : ℕ → ℕ
@@ -221,7 +238,7 @@ pub stretch_then : {ok : ℕ → Bool} {f g : ℕ → ℕ} {j k : ℕ} {a b : Li
 stretch_then {ok = ok} {a = a} {b = b} p q = record {
   once = λ l. omega (arith, times-append l a b, p.once l, q.once l);
   leads = ap (list_all ok) (targets-append a b) ∙ (list_all-append ok (targets_of a) (targets_of b) ∙ and_from (list_all ok (targets_of a)) (list_all ok (targets_of b)) p.leads q.leads);
-  fit = all_append is_fit a b p.fit q.fit;
+  fit = all_append is_early a b p.fit q.fit;
   size = omega (arith, size-append a b, p.size, q.size);
 }
 
@@ -231,8 +248,8 @@ stretch_piece {ok = ok} {a = a} p = record { once = λ l. plain_times l a p.plai
 pub stretch_label : {ok : ℕ → Bool} (l : ℕ) → Stretch ok (once_at l) 0 (Label l ∷ [])
 stretch_label l = record { once = λ x. omega arith; leads = refl; fit = refl; size = omega arith }
 
-pub stretch_branch : {ok : ℕ → Bool} (op : Op) (l : ℕ) → is_fit (Do op Relative (To 0)) ≡ true → ok l ≡ true → Stretch ok nowhere 5 (Do op Relative (To l) ∷ [])
-stretch_branch {ok = ok} op l fits passes = record { once = λ x. refl; leads = and_from (ok l) true passes refl; fit = and_from (is_fit (Do op Relative (To 0))) true fits refl; size = omega arith }
+pub stretch_branch : {ok : ℕ → Bool} (op : Op) (l : ℕ) → is_early (Do op Relative (To 0)) ≡ true → ok l ≡ true → Stretch ok nowhere 5 (Do op Relative (To l) ∷ [])
+stretch_branch {ok = ok} op l fits passes = record { once = λ x. refl; leads = and_from (ok l) true passes refl; fit = and_from (is_early (Do op Relative (To 0))) true fits refl; size = omega arith }
 
 pub stretch_jump : {ok : ℕ → Bool} (l : ℕ) → ok l ≡ true → Stretch ok nowhere 3 (Do Jmp Absolute (To l) ∷ [])
 stretch_jump {ok = ok} l passes = record { once = λ x. refl; leads = and_from (ok l) true passes refl; fit = refl; size = omega arith }

@@ -44,14 +44,14 @@ use Rattle.c65_genload.specs.declared.places.Place.{Place}
 use Rattle.c65_genload.specs.declared.places.Place.TheVariants as places
 use Rattle.c65_genload.specs.declared.places.Access.{Access}
 use Rattle.c65_genload.specs.declared.places.Access.TheVariants.{Whole, Part}
-use Rattle.c65_genload.specs.Words.{ptr1, implied, zero_page, by_y, sp, regbank, shift_a}
+use Rattle.c65_genload.specs.Words.{ptr1, tmp1, implied, zero_page, by_y, sp, regbank, shift_a}
 use Rattle.c65_genload.specs.Places.{type_in, byte_more, extent_of, settled, onward}
 use Rattle.c65_genload.specs.Numbers.{first, number_code, add_word_code, add_by_width, add_code, mask_code, by_code, shift_code, scale_code, is_divisor, divide_code}
 use Rattle.c65_genload.specs.Conversions.{widen_code, convert_code, convert_to, push_code, test_code}
 use Rattle.c65_genload.specs.Addresses.{symbol_code, address_code, above_code, raised_code, offset_code}
-use Rattle.c65_genload.specs.Fields.{ones, others, is_in_byte, own_bits, down_code, up_code, is_topmost, cut_code, sign_bit, spread_code, signed_code, byte_value_code, mask_unless_all, extract_code, lowest_code, aligned_code, is_unit}
+use Rattle.c65_genload.specs.Fields.{ones, others, is_in_byte, own_bits, down_code, up_code, is_topmost, cut_code, sign_bit, spread_code, signed_code, byte_value_code, mask_unless_all, once, rounds, both_down_code, is_astride, astride_code, wide_value_code, extract_code, lowest_code, aligned_code, is_unit}
 use Rattle.c65_genload.specs.Loads.{hold_code, bytes_code, field_load, load_code}
-use Rattle.c65_genload.specs.Stores.{bytes_store, after_store, under_code, unit_store, popped_code, merged_code, bits_store, byte_store, field_store, store_code, copy_code}
+use Rattle.c65_genload.specs.Stores.{bytes_store, after_store, under_code, unit_set, unit_store, popped_code, merged_code, bits_store, byte_store, field_store, store_code, copy_code}
 use Rattle.c65_gendirect.specs.declared.bytes.OperandByte.{OperandByte}
 use Rattle.c65_gendirect.specs.declared.bytes.OperandByte.TheVariants as operand
 use Rattle.c65_gendirect.specs.declared.through.Stored.{Stored}
@@ -278,7 +278,7 @@ turned_piece low one first further false h x y z =
 down_piece : (low : ℕ) → Piece 4 (down_code low)
 down_piece low = turned_piece low Lsr Asl Rol (nat_le low 4) refl (record { plain = refl; fit = refl; size = omega arith }) (record { plain = refl; fit = refl; size = omega arith }) (record { plain = refl; fit = refl; size = omega arith })
 
-up_piece : (low : ℕ) → Piece 4 (up_code low)
+pub up_piece : (low : ℕ) → Piece 4 (up_code low)
 up_piece low = turned_piece low Asl Lsr Ror (nat_le low 4) refl (record { plain = refl; fit = refl; size = omega arith }) (record { plain = refl; fit = refl; size = omega arith }) (record { plain = refl; fit = refl; size = omega arith })
 
 cut_piece : (g : Field) → Piece 2 (cut_code g)
@@ -303,11 +303,35 @@ byte_value_piece g = piece_append 4 10 _ _ (down_piece (g.low % 8)) (piece_appen
 mask_less_piece : (n : ℕ) → Piece 8 (mask_unless_all n)
 mask_less_piece n = piece_if 8 (n == 65535) [] (mask_code n) (piece_none 8) (mask_piece n)
 
-extract_piece : (g : Field) → Piece 20 (extract_code g)
-extract_piece g =
+once_piece : (b : Bool) (first next : Line) → Piece 3 (first ∷ next ∷ []) → Piece 3 (once b first next)
+once_piece b first next p = piece_if 3 b (first ∷ next ∷ []) [] p (piece_none 3)
+
+rounds_piece : (n : ℕ) (first next : Line) → Piece 3 (first ∷ next ∷ []) → Piece 12 (rounds n first next)
+rounds_piece n first next p =
+    piece_append 3 9 (once (nat_le 1 n) first next) _ (once_piece (nat_le 1 n) first next p) (piece_append 3 6 (once (nat_le 2 n) first next) _ (once_piece (nat_le 2 n) first next p)
+    (piece_append 3 3 (once (nat_le 3 n) first next) (once (nat_le 4 n) first next) (once_piece (nat_le 3 n) first next p) (once_piece (nat_le 4 n) first next p)))
+
+both_down_piece : (low : ℕ) → Piece 14 (both_down_code low)
+both_down_piece low =
+    let last : Piece 2 (zero_page Lda tmp1 ∷ []) = record { plain = refl; fit = refl; size = omega arith } in
+    piece_if 14 (nat_le low 4) (rounds low (zero_page Lsr tmp1) (shift_a Ror)) (rounds (8 - low) (shift_a Asl) (zero_page Rol tmp1) ++ zero_page Lda tmp1 ∷ [])
+    (piece_wider 12 14 _ (rounds_piece low (zero_page Lsr tmp1) (shift_a Ror) (record { plain = refl; fit = refl; size = omega arith })) (omega arith))
+    (piece_append 12 2 (rounds (8 - low) (shift_a Asl) (zero_page Rol tmp1)) (zero_page Lda tmp1 ∷ []) (rounds_piece (8 - low) (shift_a Asl) (zero_page Rol tmp1) (record { plain = refl; fit = refl; size = omega arith })) last)
+
+astride_piece : (g : Field) → Piece 20 (astride_code g)
+astride_piece g =
+    let high : Piece 2 (zero_page Stx tmp1 ∷ []) = record { plain = refl; fit = refl; size = omega arith } in
+    let cut : Piece 4 (value And (first (ones g.width)) ∷ narrow_code ints.UChar) = record { plain = refl; fit = refl; size = omega arith } in
+    piece_append 2 18 (zero_page Stx tmp1 ∷ []) _ high (piece_append 14 4 (both_down_code g.low) (value And (first (ones g.width)) ∷ narrow_code ints.UChar) (both_down_piece g.low) cut)
+
+wide_value_piece : (g : Field) → Piece 20 (wide_value_code g)
+wide_value_piece g =
     piece_if 20 (is_signed_of g.kind) (shift_code tos.Shl (16 - min (g.low + g.width) 16) ++ shift_code tos.Asr (16 - min g.width 16)) (shift_code tos.Shr g.low ++ mask_unless_all (ones g.width))
     (piece_append 10 10 _ _ (shift_piece tos.Shl (16 - min (g.low + g.width) 16)) (shift_piece tos.Asr (16 - min g.width 16)))
     (piece_wider 18 20 _ (piece_append 10 8 _ _ (shift_piece tos.Shr g.low) (mask_less_piece (ones g.width))) (omega arith))
+
+extract_piece : (g : Field) → Piece 20 (extract_code g)
+extract_piece g = piece_if 20 (is_astride g) (astride_code g) (wide_value_code g) (astride_piece g) (wide_value_piece g)
 
 lowest_piece : (g : Field) → Piece 20 (lowest_code g)
 lowest_piece g = piece_if 20 (is_in_byte g) (byte_value_code g) (extract_code g) (piece_wider 14 20 _ (byte_value_piece g) (omega arith)) (extract_piece g)
@@ -327,7 +351,7 @@ pub load_piece : (place : Place) (access : Access) → Piece (by_access 19 36 ac
 load_piece place (Whole kind) = piece_append 16 3 _ _ (number_bytes_piece place kind) (narrow_piece kind)
 load_piece place (Part field) = field_load_piece place field
 
-bytes_store_piece : (place : Place) (e : Extent) → Piece 16 (bytes_store place e)
+pub bytes_store_piece : (place : Place) (e : Extent) → Piece 16 (bytes_store place e)
 bytes_store_piece (places.Bank b) One = record { plain = refl; fit = refl; size = omega arith }
 bytes_store_piece (places.Bank b) Two = record { plain = refl; fit = refl; size = omega arith }
 bytes_store_piece (places.Bank b) Three = record { plain = refl; fit = refl; size = omega arith }
@@ -363,23 +387,25 @@ aligned_piece g = piece_append 8 10 _ _ (mask_piece (ones g.width)) (shift_piece
 one_call : (k : ℕ) (line : Line) (rest : List Line) → Piece 3 (line ∷ []) → Piece k rest → Piece (3 + k) (line ∷ rest)
 one_call k line rest p q = piece_append 3 k (line ∷ []) rest p q
 
-unit_store_piece : (place : Place) (g : Field) → Piece 86 (unit_store place g)
-unit_store_piece place g =
+pub unit_set_piece : (place : Place) (g : Field) → Piece 66 (unit_set place g)
+unit_set_piece place g =
     let push : Piece 3 (call PushAx ∷ []) = record { plain = refl; fit = refl; size = omega arith } in
     let join : Piece 3 (call (Tos tos.Or Ax) ∷ []) = record { plain = refl; fit = refl; size = omega arith } in
-    let last : Piece 36 (bytes_store place Two ++ extract_code g) = piece_append 16 20 (bytes_store place Two) (extract_code g) (bytes_store_piece place Two) (extract_piece g) in
-    let joined : Piece 39 (call (Tos tos.Or Ax) ∷ (bytes_store place Two ++ extract_code g)) = one_call 36 (call (Tos tos.Or Ax)) (bytes_store place Two ++ extract_code g) join last in
-    let masked : Piece 47 (mask_code (others g) ++ (call (Tos tos.Or Ax) ∷ (bytes_store place Two ++ extract_code g))) = piece_append 8 39 (mask_code (others g)) (call (Tos tos.Or Ax) ∷ (bytes_store place Two ++ extract_code g)) (mask_piece (others g)) joined in
-    let under : Piece 65 (under_code place ++ (mask_code (others g) ++ (call (Tos tos.Or Ax) ∷ (bytes_store place Two ++ extract_code g)))) = piece_append 18 47 (under_code place) _ (under_piece place) masked in
-    piece_append 18 68 (aligned_code g) _ (aligned_piece g) (one_call 65 (call PushAx) _ push under)
+    let joined : Piece 19 (call (Tos tos.Or Ax) ∷ bytes_store place Two) = one_call 16 (call (Tos tos.Or Ax)) (bytes_store place Two) join (bytes_store_piece place Two) in
+    let masked : Piece 27 (mask_code (others g) ++ (call (Tos tos.Or Ax) ∷ bytes_store place Two)) = piece_append 8 19 (mask_code (others g)) (call (Tos tos.Or Ax) ∷ bytes_store place Two) (mask_piece (others g)) joined in
+    let under : Piece 45 (under_code place ++ (mask_code (others g) ++ (call (Tos tos.Or Ax) ∷ bytes_store place Two))) = piece_append 18 27 (under_code place) _ (under_piece place) masked in
+    piece_append 18 48 (aligned_code g) _ (aligned_piece g) (one_call 45 (call PushAx) _ push under)
 
-merged_piece : (mode : Mode) (operand : Operand) (mask : ℕ) → Piece 3 (Do Sta mode operand ∷ []) → Piece 3 (Do Eor mode operand ∷ []) → Piece 11 (merged_code mode operand mask)
+unit_store_piece : (place : Place) (g : Field) → Piece 86 (unit_store place g)
+unit_store_piece place g = piece_append 66 20 (unit_set place g) (extract_code g) (unit_set_piece place g) (extract_piece g)
+
+pub merged_piece : (mode : Mode) (operand : Operand) (mask : ℕ) → Piece 3 (Do Sta mode operand ∷ []) → Piece 3 (Do Eor mode operand ∷ []) → Piece 11 (merged_code mode operand mask)
 merged_piece mode operand mask whole other =
     let own : Piece 2 (value And mask ∷ []) = record { plain = refl; fit = refl; size = omega arith } in
     piece_if 11 (mask == 255) (Do Sta mode operand ∷ []) _ (piece_wider 3 11 _ whole (omega arith))
     (piece_append 3 8 (Do Eor mode operand ∷ []) _ other (piece_append 2 6 (value And mask ∷ []) _ own (piece_append 3 3 (Do Eor mode operand ∷ []) _ other whole)))
 
-bits_piece : (place : Place) (mask : ℕ) → Piece 24 (bits_store place mask)
+pub bits_piece : (place : Place) (mask : ℕ) → Piece 24 (bits_store place mask)
 bits_piece (places.Bank b) mask = piece_wider 11 24 _ (merged_piece ZeroPage (Zero (byte_more regbank b)) mask (record { plain = refl; fit = refl; size = omega arith }) (record { plain = refl; fit = refl; size = omega arith })) (omega arith)
 bits_piece (places.Near at) mask =
     let way : Piece 2 (value Ldy at ∷ []) = record { plain = refl; fit = refl; size = omega arith } in

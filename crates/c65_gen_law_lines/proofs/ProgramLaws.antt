@@ -24,12 +24,12 @@ size_sum [] gs = omega arith
 size_sum (f ∷ fs) gs = omega (arith, size_sum fs gs)
 
 -- what comes of two steps comes of both
-bound : {A B : Type 0} (r : Result A Fault) (k : A → Result B Fault) (y : B) → (r >>= k) ≡ Ok y → (x : A) × (r ≡ Ok x) × (k x ≡ Ok y)
+pub bound : {A B : Type 0} (r : Result A Fault) (k : A → Result B Fault) (y : B) → (r >>= k) ≡ Ok y → (x : A) × (r ≡ Ok x) × (k x ≡ Ok y)
 bound (Ok x) k y h = (x, refl, h)
 bound (Err e) k y h = absurd cc
 
 -- two answers that are the same are of the same
-answer : {A : Type 0} (x y : A) → ◌≡◌ {A = Result A Fault} (Ok x) (Ok y) → x ≡ y
+pub answer : {A : Type 0} (x y : A) → ◌≡◌ {A = Result A Fault} (Ok x) (Ok y) → x ≡ y
 answer x y h = cc
 
 segment_small : (parts : Parts) (is_main : Bool) (modes : Modes) (g : FuncTy) (body : Stmt) (s : Segment) → g.body ≡ Some body → function_of parts is_main modes g ≡ Ok s → lines_size s.lines ≤ 128 * function_nodes g

@@ -8,7 +8,7 @@ use Rattle.c65_mach.specs.declared.rows.Op.TheVariants.{Jmp}
 use Rattle.c65_csem.specs.Trees.{Typed}
 use Rattle.c65_code.specs.declared.line.Line.{Line}
 use Rattle.c65_code.specs.declared.line.Line.TheVariants.{Label}
-use Rattle.c65_code.specs.Segments.{Drafted, is_fit, targets_of}
+use Rattle.c65_code.specs.Segments.{Drafted, targets_of}
 use Rattle.c65_genframe.specs.Frames.{Framed}
 use Rattle.c65_genwide.specs.Lines.{with_lines, grown}
 use Rattle.c65_genexpr.specs.declared.wanted.Wanted.TheVariants.{Value, Test}
@@ -19,7 +19,7 @@ use Rattle.c65_geneffect.specs.Effects.{effect_code, effect_uses}
 use Rattle.c65_genstmt.specs.Jumps.{with_value, with_effect, with_test}
 use Rattle.c65_genstmt.specs.Stmts.{with_label, with_jump, two_given, three_given}
 use Rattle.c65_gen_law_lines.specs.Labels.{times, is_within, among}
-use Rattle.c65_gen_law_lines.proofs.Made.{times-append, plain_times, targets-append, plain_targets, among_inside, among_in, among_low, among_high, among_one, all_append, all_passes, Stretch, Made, stretch_made}
+use Rattle.c65_gen_law_lines.proofs.Made.{is_early, times-append, plain_times, targets-append, plain_targets, among_inside, among_in, among_low, among_high, among_one, all_append, all_passes, Stretch, Made, stretch_made}
 use Rattle.c65_gen_law_lines.proofs.ExprLaws.{expr_made}
 use Rattle.c65_gen_law_lines.proofs.EffectLaws.{effect_made}
 use Rattle.c65_gen_law_lines.proofs.Flat.{Flat, Own}
@@ -81,7 +81,7 @@ pub record Puts (d e : Drafted) (others : ℕ → ℕ) (E : (ℕ → Bool) → T
   pub grows : d.labels ≤ e.labels
   pub most : (x : ℕ) → times x e.lines + below d.labels x ≤ times x d.lines + (below e.labels x + others x)
   pub least : (x : ℕ) → times x d.lines + others x ≤ times x e.lines
-  pub fit : list_all is_fit d.lines ≡ true → list_all is_fit e.lines ≡ true
+  pub fit : list_all is_early d.lines ≡ true → list_all is_early e.lines ≡ true
   pub leads : (ok : ℕ → Bool) → E ok → Covers ok d e → Arrives ok d → Arrives ok e
 
 abbrev pub no_others : ℕ → ℕ
@@ -148,7 +148,7 @@ puts_flat d a p = record {
   grows = omega arith;
   most = λ x. omega (arith, times-append x d.lines a, plain_times x a p.plain);
   least = λ x. omega (arith, times-append x d.lines a, plain_times x a p.plain);
-  fit = λ h. all_append is_fit d.lines a h p.fit;
+  fit = λ h. all_append is_early d.lines a h p.fit;
   leads = λ ok ex covers h. arrives_append ok d.lines a h (ap (list_all ok) (plain_targets a p.plain));
 }
 
@@ -157,7 +157,7 @@ puts_label d l = record {
   grows = omega arith;
   most = λ x. omega (arith, times-append x d.lines (Label l ∷ []));
   least = λ x. omega (arith, times-append x d.lines (Label l ∷ []));
-  fit = λ h. all_append is_fit d.lines (Label l ∷ []) h refl;
+  fit = λ h. all_append is_early d.lines (Label l ∷ []) h refl;
   leads = λ ok ex covers h. arrives_append ok d.lines (Label l ∷ []) h refl;
 }
 
@@ -166,7 +166,7 @@ puts_jump d l = record {
   grows = omega arith;
   most = λ x. omega (arith, times-append x d.lines (jump Jmp l ∷ []));
   least = λ x. omega (arith, times-append x d.lines (jump Jmp l ∷ []));
-  fit = λ h. all_append is_fit d.lines (jump Jmp l ∷ []) h refl;
+  fit = λ h. all_append is_early d.lines (jump Jmp l ∷ []) h refl;
   leads = λ ok ex covers h. arrives_append ok d.lines (jump Jmp l ∷ []) h (and_from (ok l) true ex refl);
 }
 
@@ -175,7 +175,7 @@ puts_own d n a own = record {
   grows = omega arith;
   most = λ x. omega (arith, times-append x d.lines a, own.once x, below_more d.labels n x);
   least = λ x. omega (arith, times-append x d.lines a);
-  fit = λ h. all_append is_fit d.lines a h own.fit;
+  fit = λ h. all_append is_early d.lines a h own.fit;
   leads = λ ok ex covers h. arrives_append ok d.lines a h (all_passes (is_within d.labels n) ok (targets_of a) (λ x inside. covers x (omega (arith, times-append x d.lines a, own.once x, among_inside d.labels n x inside))) own.leads.all);
 }
 
@@ -185,7 +185,7 @@ puts_made {k = k} d n outside a made = record {
   grows = omega arith;
   most = λ x. omega (arith, times-append x d.lines a, made.once x, below_more d.labels n x);
   least = λ x. omega (arith, times-append x d.lines a);
-  fit = λ h. all_append is_fit d.lines a h made.fit;
+  fit = λ h. all_append is_early d.lines a h made.fit;
   leads = λ ok ex covers h.
       let part : Stretch ok (among d.labels n) k a = stretch_made made (λ x inside. covers x (omega (arith, times-append x d.lines a, made.once x, among_inside d.labels n x inside))) ex in
       arrives_append ok d.lines a h part.leads;

@@ -7,8 +7,7 @@ use Rattle.c65_mach.specs.declared.rows.Mode.TheVariants.{Absolute, Relative}
 use Rattle.c65_code.specs.declared.line.Operand.TheVariants.{To}
 use Rattle.c65_code.specs.declared.line.Line.{Line}
 use Rattle.c65_code.specs.declared.line.Line.TheVariants.{Label, Do}
-use Rattle.c65_code.specs.Segments.{is_fit}
-use Rattle.c65_gen_law_lines.proofs.Made.{Piece, Stretch, nowhere, once_at, stretch_then, stretch_piece, stretch_label, stretch_branch, stretch_jump, stretch_wider}
+use Rattle.c65_gen_law_lines.proofs.Made.{is_early, Piece, Stretch, nowhere, once_at, stretch_then, stretch_piece, stretch_label, stretch_branch, stretch_jump, stretch_wider}
 use Rattle.c65_gen_law_lines.proofs.Leaves.{leaves_then, leaves_none, Still}
 
 pub record Quiet (ok : ℕ → Bool) (own : ℕ → ℕ) (k : ℕ) (lines : List Line) : Type 0 where
@@ -24,7 +23,7 @@ quiet_piece p still = record { part = stretch_piece p; still = still }
 pub quiet_label : {ok : ℕ → Bool} (l : ℕ) → Quiet ok (once_at l) 0 (Label l ∷ [])
 quiet_label l = record { part = stretch_label l; still = λ v. record { to = λ calls. refl } }
 
-pub quiet_branch : {ok : ℕ → Bool} (op : Op) (l : ℕ) → is_fit (Do op Relative (To 0)) ≡ true → ok l ≡ true → Quiet ok nowhere 5 (Do op Relative (To l) ∷ [])
+pub quiet_branch : {ok : ℕ → Bool} (op : Op) (l : ℕ) → is_early (Do op Relative (To 0)) ≡ true → ok l ≡ true → Quiet ok nowhere 5 (Do op Relative (To l) ∷ [])
 quiet_branch op l fits passes = record { part = stretch_branch op l fits passes; still = λ v. record { to = λ calls. refl } }
 
 pub quiet_jump : {ok : ℕ → Bool} (l : ℕ) → ok l ≡ true → Quiet ok nowhere 3 (Do Jmp Absolute (To l) ∷ [])

@@ -28,6 +28,7 @@ use Rattle.c65_genload.specs.declared.places.Place.{Place}
 use Rattle.c65_genload.specs.declared.places.Place.TheVariants as places
 use Rattle.c65_genload.specs.declared.places.Access.{Access}
 use Rattle.c65_genload.specs.Words.{implied}
+use Rattle.c65_genload.specs.declared.places.Field.{Field}
 use Rattle.c65_genload.specs.Places.{extent_by, extent_of}
 use Rattle.c65_genload.specs.Places as loads
 use Rattle.c65_genload.specs.Conversions.{waiting}
@@ -64,6 +65,8 @@ use Rattle.c65_genexpr.specs.Arguments.{is_fast, is_counted, stays, passed_size,
 use Rattle.c65_genexpr.specs.Arguments as arguments
 use Rattle.c65_genexpr.specs.Calls.{named, count_code, fetch_code, result_code, library_at, named_by, pointer_code, direct_code, ptr4_code}
 use Rattle.c65_genexpr.specs.Uses.{by_relation, uses}
+use Rattle.c65_genfield.specs.Bits.{byte_field}
+use Rattle.c65_genexpr.specs.Fields.{loaded_test}
 use Rattle.c65_genexpr.specs.Code.{width_in, constant_code, tested_load, load_by, behind_open, compound, call_by, expr_code, node_code, base_code, pointer_base_code, args_code, operator_code, comparison_code}
 use Rattle.c65_gen_law_lines.specs.Stack.{bytes_in, Waiting, waiting_by, taken, left, waits, argument_bytes, passed, unless_named, calls_of, node_calls, args_calls}
 use Rattle.c65_gen_law_lines.specs.Laws.{ExpressionsKeepTheStack, CallsAreCounted}
@@ -71,6 +74,7 @@ use Rattle.c65_gen_law_lines.proofs.Directs.{loaded_quiet, compare_quiet, compar
 use Rattle.c65_gen_law_lines.proofs.Drops.{IfRead, Unread, comparing_calls, Unstored, storing_calls, sum_calls, Unused, operating_calls}
 use Rattle.c65_gen_law_lines.proofs.Forms.{form_quiet, waiting_leaves, stacked_leaves, keep_quiet}
 use Rattle.c65_gen_law_lines.proofs.StepForms.{step_quiet}
+use Rattle.c65_gen_law_lines.proofs.FieldForms.{own_bits_still}
 use Rattle.c65_gen_law_lines.proofs.StackPieces.{keep_still, byte_behind_still, word_behind_still, waits_append, Leaves, leaves_then, leaves_none, leaves_if, Still, narrow_still, number_still, object_still, further_still, offset_still, conversion_still, push_leaves, argument_leaves, test_still, holding, hold_leaves, bytes_still, load_still, stored_leaves, read_store_still, byte_through_still, word_through_still, copy_leaves, spill_still, unary_still, between_leaves, behind_leaves, open_leaves, close_leaves}
 
 -- lines lead from some values that wait to others by these calls
@@ -92,7 +96,7 @@ does_then {cs = cs} {ds = ds} {v = v} {a = a} {b = b} p q = record {
 pub does_behind : {cs : List (List ℕ)} {v u t : List ℕ} {a b : List Line} → Does cs v a u → Leaves u b t → Does cs v (a ++ b) t
 does_behind {cs = cs} {v = v} {a = a} {b = b} p q = record { to = λ rest. waits_append a b (Some (waiting_by v (cs ++ rest))) ∙ (ap (λ w. waits w b) (p.to rest) ∙ q.to rest) }
 
-does_before : {cs : List (List ℕ)} {v u t : List ℕ} {a b : List Line} → Leaves v a u → Does cs u b t → Does cs v (a ++ b) t
+pub does_before : {cs : List (List ℕ)} {v u t : List ℕ} {a b : List Line} → Leaves v a u → Does cs u b t → Does cs v (a ++ b) t
 does_before {cs = cs} {v = v} {a = a} {b = b} p q = record { to = λ rest. waits_append a b (Some (waiting_by v (cs ++ rest))) ∙ (ap (λ w. waits w b) (p.to (cs ++ rest)) ∙ q.to rest) }
 
 -- a label, a branch or a jump
@@ -136,13 +140,17 @@ constant_leaves : (w : Wanted) (width : Width) (n : ℕ) (v : List ℕ) → Leav
 constant_leaves Value width n v = number_still width n v
 constant_leaves (Test to s) width n v = decided_leaves (not (n == 0)) s to v
 
-tested_does : {cs : List (List ℕ)} {v : List ℕ} {base a : List Line} (d : Option Direct) (kind : IntType) (s : Bool) (to : ℕ) → Does cs v base v → Does cs v a v → Does cs v (tested_load d kind s to base a) v
-tested_does {v = v} (Some d) kind s to db da = does_behind db ((zero_test_quiet {ok = λ l. true} (own_bytes d (extent_of kind)) s to refl).still v)
-tested_does None kind s to db da = wanted_does (Test to s) (width_of kind) da
+test_still_by : (field : Option Field) (place : Place) (access : Access) (s : Bool) (to : ℕ) → Still (loaded_test field place access s to)
+test_still_by (Some g) place access s to v = leaves_then (own_bits_still place g v) (record { to = λ calls. refl })
+test_still_by None place access s to v = leaves_then (load_still place access v) (leaves_then (test_still (width_of (loads.type_in access)) v) (record { to = λ calls. refl }))
+
+tested_does : {cs : List (List ℕ)} {v : List ℕ} {base test : List Line} (d : Option Direct) (kind : IntType) (s : Bool) (to : ℕ) → Does cs v base v → Leaves v test v → Does cs v (tested_load d kind s to base test) v
+tested_does {v = v} (Some d) kind s to db still = does_behind db ((zero_test_quiet {ok = λ l. true} (own_bytes d (extent_of kind)) s to refl).still v)
+tested_does None kind s to db still = does_behind db still
 
 load_does : {cs : List (List ℕ)} {v : List ℕ} {a : List Line} (w : Wanted) (place : Place) (access : Access) → Does cs v a v → Does cs v (load_by w place access a) v
 load_does {v = v} Value place access d = does_behind d (load_still place access v)
-load_does {v = v} (Test to s) place access d = tested_does (kept_at place access) (loads.type_in access) s to d (does_behind d (load_still place access v))
+load_does {v = v} (Test to s) place access d = tested_does (kept_at place access) (loads.type_in access) s to d (test_still_by (byte_field access) place access s to v)
 
 converted_does : {cs : List (List ℕ)} {v : List ℕ} {a : List Line} (w : Wanted) (same : Bool) (to : Ty) (from : IntType) → Does cs v a v → Does cs v (conversion_by w same to from a) v
 converted_does {v = v} Value same to from d = does_behind d (conversion_still to from v)

@@ -37,14 +37,14 @@ use Rattle.c65_genload.specs.declared.places.Place.{Place}
 use Rattle.c65_genload.specs.declared.places.Place.TheVariants as places
 use Rattle.c65_genload.specs.declared.places.Access.{Access}
 use Rattle.c65_genload.specs.declared.places.Access.TheVariants.{Whole, Part}
-use Rattle.c65_genload.specs.Words.{ptr1, implied, zero_page, by_y, shift_a}
+use Rattle.c65_genload.specs.Words.{ptr1, tmp1, implied, zero_page, by_y, shift_a}
 use Rattle.c65_genload.specs.Places.{type_in, byte_more, extent_of, settled, onward}
 use Rattle.c65_genload.specs.Numbers.{number_code, add_word_code, add_by_width, add_code, mask_code, by_code, shift_code, scale_code, is_divisor, divide_code}
 use Rattle.c65_genload.specs.Conversions.{widen_code, convert_code, convert_to, push_code, test_code, waiting, size_of}
 use Rattle.c65_genload.specs.Addresses.{address_code, above_code, offset_code}
-use Rattle.c65_genload.specs.Fields.{ones, others, is_in_byte, own_bits, is_topmost, cut_code, spread_code, byte_value_code, extract_code, lowest_code, is_unit}
+use Rattle.c65_genload.specs.Fields.{ones, others, is_in_byte, own_bits, is_topmost, cut_code, spread_code, byte_value_code, once, rounds, both_down_code, is_astride, astride_code, wide_value_code, extract_code, lowest_code, is_unit}
 use Rattle.c65_genload.specs.Loads.{hold_code, bytes_code, field_load, load_code}
-use Rattle.c65_genload.specs.Stores.{bytes_store, after_store, under_code, unit_store, popped_code, merged_code, bits_store, byte_store, field_store, store_code, copy_code}
+use Rattle.c65_genload.specs.Stores.{bytes_store, after_store, under_code, unit_set, unit_store, popped_code, merged_code, bits_store, byte_store, field_store, store_code, copy_code}
 use Rattle.c65_gendirect.specs.declared.bytes.OperandByte.{OperandByte}
 use Rattle.c65_gendirect.specs.declared.bytes.OperandByte.TheVariants as operand
 use Rattle.c65_gendirect.specs.declared.through.Stored.{Stored}
@@ -248,7 +248,7 @@ repeated_still : (n : ℕ) (op : Op) → Still (replicate n (shift_a op))
 repeated_still zero op v = leaves_none
 repeated_still (suc n) op v = leaves_then {a = shift_a op ∷ []} (record { to = λ calls. refl }) (repeated_still n op v)
 
-turned_still : (low : ℕ) (one first further : Op) → Still (if nat_le low 4 then replicate low (shift_a one) else shift_a first ∷ replicate (8 - low) (shift_a further))
+pub turned_still : (low : ℕ) (one first further : Op) → Still (if nat_le low 4 then replicate low (shift_a one) else shift_a first ∷ replicate (8 - low) (shift_a further))
 turned_still low one first further v = leaves_if (nat_le low 4) (repeated_still low one v) (leaves_then {a = shift_a first ∷ []} (record { to = λ calls. refl }) (repeated_still (8 - low) further v))
 
 cut_still : (g : Field) → Still (cut_code g)
@@ -261,9 +261,27 @@ byte_value_still : (g : Field) → Still (byte_value_code g)
 byte_value_still g v =
     leaves_then (turned_still (g.low % 8) Lsr Asl Rol v) (leaves_then (cut_still g v) (leaves_if (is_signed_of g.kind) (leaves_then (spread_still g.width v) (narrow_still ints.SChar v)) (narrow_still ints.UChar v)))
 
-extract_still : (g : Field) → Still (extract_code g)
-extract_still g v =
+wide_value_still : (g : Field) → Still (wide_value_code g)
+wide_value_still g v =
     leaves_if (is_signed_of g.kind) (leaves_then (shift_still tos.Shl (16 - min (g.low + g.width) 16) v) (shift_still tos.Asr (16 - min g.width 16) v)) (leaves_then (shift_still tos.Shr g.low v) (leaves_if (ones g.width == 65535) leaves_none (mask_still (ones g.width) v)))
+
+once_still : (b : Bool) (first next : Line) → Still (first ∷ next ∷ []) → Still (once b first next)
+once_still b first next p v = leaves_if b (p v) leaves_none
+
+rounds_still : (n : ℕ) (first next : Line) → Still (first ∷ next ∷ []) → Still (rounds n first next)
+rounds_still n first next p v =
+    leaves_then (once_still (nat_le 1 n) first next p v) (leaves_then (once_still (nat_le 2 n) first next p v) (leaves_then (once_still (nat_le 3 n) first next p v) (once_still (nat_le 4 n) first next p v)))
+
+both_down_still : (low : ℕ) → Still (both_down_code low)
+both_down_still low v =
+    leaves_if (nat_le low 4) (rounds_still low (zero_page Lsr tmp1) (shift_a Ror) (λ u. record { to = λ calls. refl }) v)
+    (leaves_then (rounds_still (8 - low) (shift_a Asl) (zero_page Rol tmp1) (λ u. record { to = λ calls. refl }) v) (record { to = λ calls. refl }))
+
+astride_still : (g : Field) → Still (astride_code g)
+astride_still g v = leaves_then {a = zero_page Stx tmp1 ∷ []} (record { to = λ calls. refl }) (leaves_then (both_down_still g.low v) (record { to = λ calls. refl }))
+
+extract_still : (g : Field) → Still (extract_code g)
+extract_still g v = leaves_if (is_astride g) (astride_still g v) (wide_value_still g v)
 
 lowest_still : (g : Field) → Still (lowest_code g)
 lowest_still g v = leaves_if (is_in_byte g) (byte_value_still g v) (extract_still g v)
@@ -275,7 +293,7 @@ pub load_still : (place : Place) (access : Access) → Still (load_code place ac
 load_still place (Whole kind) v = leaves_then (bytes_still place (extent_of kind) v) (narrow_still kind v)
 load_still place (Part field) v = field_load_still place field v
 
-store_leaves : (place : Place) (e : Extent) (v : List ℕ) → Leaves (holding place v) (bytes_store place e) v
+pub store_leaves : (place : Place) (e : Extent) (v : List ℕ) → Leaves (holding place v) (bytes_store place e) v
 store_leaves (places.Bank b) One v = record { to = λ calls. refl }
 store_leaves (places.Bank b) Two v = record { to = λ calls. refl }
 store_leaves (places.Bank b) Three v = record { to = λ calls. refl }
@@ -308,16 +326,19 @@ under_still (places.Far at) v = record { to = λ calls. refl }
 join_one : (v : List ℕ) → Leaves (2 ∷ v) (call (Tos tos.Or Ax) ∷ []) v
 join_one v = record { to = λ calls. refl }
 
-unit_leaves : (place : Place) (g : Field) (v : List ℕ) → Leaves (holding place v) (unit_store place g) v
-unit_leaves place g v =
+pub unit_set_leaves : (place : Place) (g : Field) (v : List ℕ) → Leaves (holding place v) (unit_set place g) v
+unit_set_leaves place g v =
     let h : List ℕ = holding place v in
     leaves_then (leaves_then (mask_still (ones g.width) h) (shift_still tos.Shl g.low h))
-    (leaves_then (push_one h) (leaves_then (under_still place (2 ∷ h)) (leaves_then (mask_still (others g) (2 ∷ h)) (leaves_then (join_one h) (leaves_then (store_leaves place Two v) (extract_still g v))))))
+    (leaves_then (push_one h) (leaves_then (under_still place (2 ∷ h)) (leaves_then (mask_still (others g) (2 ∷ h)) (leaves_then (join_one h) (store_leaves place Two v)))))
 
-merged_still : (mode : Mode) (operand : Operand) (mask : ℕ) → Still (merged_code mode operand mask)
+unit_leaves : (place : Place) (g : Field) (v : List ℕ) → Leaves (holding place v) (unit_store place g) v
+unit_leaves place g v = leaves_then (unit_set_leaves place g v) (extract_still g v)
+
+pub merged_still : (mode : Mode) (operand : Operand) (mask : ℕ) → Still (merged_code mode operand mask)
 merged_still mode operand mask v = leaves_if (mask == 255) (record { to = λ calls. refl }) (record { to = λ calls. refl })
 
-bits_leaves : (place : Place) (n mask : ℕ) (v : List ℕ) → Leaves (holding place v) (bits_store (onward (settled place) n) mask) v
+pub bits_leaves : (place : Place) (n mask : ℕ) (v : List ℕ) → Leaves (holding place v) (bits_store (onward (settled place) n) mask) v
 bits_leaves (places.Bank b) n mask v = merged_still _ _ mask v
 bits_leaves (places.Near at) n mask v = leaves_then {a = value Ldy (byte_more at n) ∷ []} (record { to = λ calls. refl }) (merged_still _ _ mask v)
 bits_leaves (places.Data s at) n mask v = merged_still _ _ mask v

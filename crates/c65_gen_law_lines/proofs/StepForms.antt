@@ -1,5 +1,5 @@
 -- Steps whose value is used: their labels, their size, and that they leave what waits.
-use Rattle.std.proofs.Common.{◌≡◌, ℕ, ◌+◌, ◌≤◌, ◌==◌, Bool, true, false, Option, None, Some, [], ◌∷◌, ◌++◌, refl, arith}
+use Rattle.std.proofs.Common.{◌≡◌, ℕ, ◌≤◌, ◌==◌, Bool, true, false, Option, None, Some, [], ◌∷◌, ◌++◌, refl, arith}
 use Rattle.std.specs.Prelude.{◌&&◌, if◌then◌else◌}
 use Rattle.std.proofs.lemmas.Bool.{and_from, and_parts}
 use Rattle.c65_base.specs.declared.operators.BinaryOp.{BinaryOp}
@@ -9,7 +9,6 @@ use Rattle.c65_ints.specs.declared.types.IntType.{IntType}
 use Rattle.c65_mach.specs.declared.rows.Op.{Op}
 use Rattle.c65_mach.specs.declared.rows.Op.TheVariants.{Bne, Pha, Pla, Sta, Tax, Tay, Txa}
 use Rattle.c65_code.specs.declared.line.Line.TheVariants.{Label}
-use Rattle.c65_code.specs.Segments.{is_fit}
 use Rattle.c65_genload.specs.declared.places.Place.{Place}
 use Rattle.c65_genload.specs.declared.places.Access.{Access}
 use Rattle.c65_genload.specs.declared.places.Access.TheVariants.{Whole, Part}
@@ -23,15 +22,15 @@ use Rattle.c65_genchange.specs.declared.spots.Target.TheVariants.{Byte, Word}
 use Rattle.c65_genchange.specs.Spots.{is_counted, all_counted, target_of, reach_code}
 use Rattle.c65_genchange.specs.Stepping.{is_post, step_op, down_behind_code, counted_code, front_code, behind_code, summed_code, stepped_code}
 use Rattle.c65_genexpr.specs.Steps.{step_by, step_code}
-use Rattle.c65_gen_law_lines.proofs.Made.{nowhere, once_at}
+use Rattle.c65_gen_law_lines.proofs.Made.{is_early, nowhere, once_at}
 use Rattle.c65_gen_law_lines.proofs.Quiet.{Quiet, quiet_then, quiet_piece, quiet_label, quiet_branch, quiet_wider, quiet_as, quiet_if}
 use Rattle.c65_gen_law_lines.proofs.Pieces.{narrow_piece, part_piece, by_access, load_piece, long_step_piece}
 use Rattle.c65_gen_law_lines.proofs.StackPieces.{narrow_still, bytes_still, load_still, long_step_still}
 use Rattle.c65_gen_law_lines.proofs.Directs.{carry_quiet}
 use Rattle.c65_gen_law_lines.proofs.EffectForms.{reaches_sta, reach_quiet, down_quiet_at, up_quiet, down_quiet, constant_quiet, first_quiet, next_quiet, point_quiet}
 
-implied_quiet : {ok : ℕ → Bool} (op : Op) → is_fit (implied op) ≡ true → Quiet ok nowhere 1 (implied op ∷ [])
-implied_quiet op fit = quiet_piece (record { plain = refl; fit = and_from (is_fit (implied op)) true fit refl; size = omega arith }) (λ v. record { to = λ calls. refl })
+implied_quiet : {ok : ℕ → Bool} (op : Op) → is_early (implied op) ≡ true → Quiet ok nowhere 1 (implied op ∷ [])
+implied_quiet op fit = quiet_piece (record { plain = refl; fit = and_from (is_early (implied op)) true fit refl; size = omega arith }) (λ v. record { to = λ calls. refl })
 
 -- ---- by one
 

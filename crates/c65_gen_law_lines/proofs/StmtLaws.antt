@@ -11,7 +11,7 @@ use Rattle.c65_code.specs.declared.line.Line.{Line}
 use Rattle.c65_code.specs.declared.line.Line.TheVariants.{Label}
 use Rattle.c65_code.specs.declared.routine.Width.{Width}
 use Rattle.c65_code.specs.declared.routine.Width.TheVariants.{Ax, Eax}
-use Rattle.c65_code.specs.Segments.{Drafted, is_fit, targets_of}
+use Rattle.c65_code.specs.Segments.{Drafted, targets_of}
 use Rattle.c65_genframe.specs.Frames.{Framed, type_bytes}
 use Rattle.c65_genwide.specs.Lines.{with_lines}
 use Rattle.c65_genwide.specs.Wide.{width_of}
@@ -32,7 +32,7 @@ use Rattle.c65_genstmt.specs.Objects.{spot_of, object_bytes, point_code, stored_
 use Rattle.c65_genstmt.specs.Cases.{has_default}
 use Rattle.c65_genstmt.specs.Stmts.{case_behind, with_label, with_jump, two_given, three_given, with_maybe, with_effects, with_guard, ways, default_way, with_stmt, with_stmts, with_cases}
 use Rattle.c65_gen_law_lines.specs.Labels.{times, is_within, among}
-use Rattle.c65_gen_law_lines.proofs.Made.{times-append, within, within_wider, among_inside, among_split, among_none, among_one, all_append}
+use Rattle.c65_gen_law_lines.proofs.Made.{is_early, times-append, within, within_wider, among_inside, among_split, among_none, among_one, all_append}
 use Rattle.c65_gen_law_lines.proofs.Flat.{Flat, point_flat, stored_flat, bank_clear_flat, clear_own, copy_own}
 use Rattle.c65_gen_law_lines.proofs.Puts.{one, below_next, below_more, one_same, Puts, no_others, Free, Passes, puts_same, puts_then, puts_end, two_labels, three_labels, puts_flat, puts_label, puts_jump, puts_own, puts_value, puts_effect, puts_test, arrives_append}
 use Rattle.c65_gen_law_lines.proofs.Others.{names, others, others_in, laid, others_are, laid_among, few_defaults, default_counts, some_default}
@@ -51,13 +51,13 @@ kept_puts : (tagged : Bool) (f : Framed) (spot : Spot) (e : Typed) (d : Drafted)
 kept_puts true f spot e d = copied_puts spot (type_bytes f (bare e)) d
 kept_puts false f spot e d = puts_flat d (stored_code spot (Whole (kind_in e)) (size_of (kind_in e))) (stored_flat spot (Whole (kind_in e)) (size_of (kind_in e)))
 
-set_puts : (f : Framed) (i offset : ℕ) (e : Typed) (d : Drafted) → Puts d (with_set f i offset e d) no_others Free
+pub set_puts : (f : Framed) (i offset : ℕ) (e : Typed) (d : Drafted) → Puts d (with_set f i offset e d) no_others Free
 set_puts f i offset e d = puts_end (puts_then (puts_value f e d) (kept_puts (is_tag (bare e)) f (spot_of f i offset) e (with_value f e d))) (λ x. omega arith) (λ ok ex. (tt, tt))
 
 cleared_puts : (pointer : List Line) (bytes : ℕ) (d : Drafted) → Flat pointer → Puts d (with_code (block_labels bytes) (blocks.clear_code bytes d.labels) (with_lines d pointer)) no_others Free
 cleared_puts pointer bytes d flat = puts_end (puts_then (puts_flat d pointer flat) (puts_own (with_lines d pointer) (block_labels bytes) (blocks.clear_code bytes d.labels) (clear_own bytes d.labels))) (λ x. omega arith) (λ ok ex. (tt, tt))
 
-zeros_puts : (spot : Spot) (bytes : ℕ) (d : Drafted) → Puts d (with_zeros spot bytes d) no_others Free
+pub zeros_puts : (spot : Spot) (bytes : ℕ) (d : Drafted) → Puts d (with_zeros spot bytes d) no_others Free
 zeros_puts (Bank bank) bytes d = puts_flat d (pointers.clear_code bank bytes) (bank_clear_flat bank bytes)
 zeros_puts (Soft at) bytes d = cleared_puts (pointers.near_code ptr1 at) (bytes % 65536) d (point_flat ptr1 (Soft at))
 zeros_puts (Data sym at) bytes d = cleared_puts (pointers.symbol_code ptr1 sym at) (bytes % 65536) d (point_flat ptr1 (Data sym at))
@@ -68,7 +68,7 @@ test_times : (w : Width) (bits other at x : ℕ) → times x (test_code w bits o
 test_times Ax bits other at x = refl
 test_times Eax bits other at x = refl
 
-test_fit : (w : Width) (bits other at : ℕ) → list_all is_fit (test_code w bits other at) ≡ true
+test_fit : (w : Width) (bits other at : ℕ) → list_all is_early (test_code w bits other at) ≡ true
 test_fit Ax bits other at = refl
 test_fit Eax bits other at = refl
 
@@ -83,9 +83,9 @@ cases_times w at l (z ∷ zs) x =
     let sum : among l (suc (length zs)) x ≡ among l (1 + length zs) x = ap (λ k. among l k x) n in
     omega (arith, sum, times-append x (case_code w z at l) (case_codes w ((at + 1) % 4294967296) (l + 1) zs), times-append x (test_code w (bits_of z) l at) (Label l ∷ []), test_times w (bits_of z) l at x, cases_times w ((at + 1) % 4294967296) (l + 1) zs x, among_split l 1 (length zs) x, among_one l x)
 
-cases_fit : (w : Width) (at l : ℕ) (zs : List ℤ) → list_all is_fit (case_codes w at l zs) ≡ true
+cases_fit : (w : Width) (at l : ℕ) (zs : List ℤ) → list_all is_early (case_codes w at l zs) ≡ true
 cases_fit w at l [] = refl
-cases_fit w at l (z ∷ zs) = all_append is_fit (case_code w z at l) _ (all_append is_fit (test_code w (bits_of z) l at) (Label l ∷ []) (test_fit w (bits_of z) l at) refl) (cases_fit w ((at + 1) % 4294967296) (l + 1) zs)
+cases_fit w at l (z ∷ zs) = all_append is_early (case_code w z at l) _ (all_append is_early (test_code w (bits_of z) l at) (Label l ∷ []) (test_fit w (bits_of z) l at) refl) (cases_fit w ((at + 1) % 4294967296) (l + 1) zs)
 
 -- the labels of cases pass a test
 abbrev CasesPass : ℕ → ℕ → (ℕ → Bool) → Type 0
@@ -103,7 +103,7 @@ bytes_times : (at : ℕ) (zs : List ℤ) (x : ℕ) → times x (byte_tests at zs
 bytes_times at [] x = refl
 bytes_times at (z ∷ zs) x = bytes_times ((at + 1) % 4294967296) zs x
 
-bytes_fit : (at : ℕ) (zs : List ℤ) → list_all is_fit (byte_tests at zs) ≡ true
+bytes_fit : (at : ℕ) (zs : List ℤ) → list_all is_early (byte_tests at zs) ≡ true
 bytes_fit at [] = refl
 bytes_fit at (z ∷ zs) = bytes_fit ((at + 1) % 4294967296) zs
 
@@ -115,7 +115,7 @@ bytes_lead ok at (z ∷ zs) cases = and_from (ok at) _ (cases at (omega (arith, 
 abbrev ChoicePasses : ℕ → ℕ → ℕ → (ℕ → Bool) → Type 0
 ChoicePasses other at n ok = (ok other ≡ true) × CasesPass at n ok
 
-choice_puts : (w : Width) (other at : ℕ) (zs : List ℤ) (d : Drafted) → Puts d (with_cases w other at zs d) no_others (ChoicePasses other at (length zs))
+pub choice_puts : (w : Width) (other at : ℕ) (zs : List ℤ) (d : Drafted) → Puts d (with_cases w other at zs d) no_others (ChoicePasses other at (length zs))
 choice_puts w other at zs d = by (by_bytes w zs)
   where
     by : (b : Bool) → Puts d (with_code (if b then 0 else length zs) (if b then byte_choice other at zs else case_codes w at d.labels zs) d) no_others (ChoicePasses other at (length zs))
@@ -123,28 +123,28 @@ choice_puts w other at zs d = by (by_bytes w zs)
       grows = omega arith;
       most = λ x. omega (arith, times-append x d.lines (byte_choice other at zs), bytes_times at zs x, below_more d.labels 0 x);
       least = λ x. omega (arith, times-append x d.lines (byte_choice other at zs));
-      fit = λ h. all_append is_fit d.lines (byte_choice other at zs) h (bytes_fit at zs);
+      fit = λ h. all_append is_early d.lines (byte_choice other at zs) h (bytes_fit at zs);
       leads = λ ok ex covers h. arrives_append ok d.lines (byte_choice other at zs) h (and_from (ok other) _ ex.0 (bytes_lead ok at zs ex.1));
     }
     by false = record {
       grows = omega arith;
       most = λ x. omega (arith, times-append x d.lines (case_codes w at d.labels zs), cases_times w at d.labels zs x, below_more d.labels (length zs) x);
       least = λ x. omega (arith, times-append x d.lines (case_codes w at d.labels zs));
-      fit = λ h. all_append is_fit d.lines (case_codes w at d.labels zs) h (cases_fit w at d.labels zs);
+      fit = λ h. all_append is_early d.lines (case_codes w at d.labels zs) h (cases_fit w at d.labels zs);
       leads = λ ok ex covers h. arrives_append ok d.lines (case_codes w at d.labels zs) h (cases_lead ok w at d.labels zs ex.1 (λ x inside. covers x (omega (arith, times-append x d.lines (case_codes w at d.labels zs), cases_times w at d.labels zs x, among_inside d.labels (length zs) x inside))));
     }
 
 -- ---- statements
 
-maybe_puts : (f : Framed) (e : MaybeTyped) (d : Drafted) → Puts d (with_maybe f e d) no_others Free
+pub maybe_puts : (f : Framed) (e : MaybeTyped) (d : Drafted) → Puts d (with_maybe f e d) no_others Free
 maybe_puts f absent d = puts_same d
 maybe_puts f (present e) d = puts_value f e d
 
-effects_puts : (f : Framed) (e : MaybeTyped) (d : Drafted) → Puts d (with_effects f e d) no_others Free
+pub effects_puts : (f : Framed) (e : MaybeTyped) (d : Drafted) → Puts d (with_effects f e d) no_others Free
 effects_puts f absent d = puts_same d
 effects_puts f (present e) d = puts_effect f e d
 
-guard_puts : (f : Framed) (to : ℕ) (e : MaybeTyped) (d : Drafted) → Puts d (with_guard f to e d) no_others (Passes to)
+pub guard_puts : (f : Framed) (to : ℕ) (e : MaybeTyped) (d : Drafted) → Puts d (with_guard f to e d) no_others (Passes to)
 guard_puts f to absent d = puts_end (puts_same d) (λ x. refl) (λ ok ex. tt)
 guard_puts f to (present e) d = puts_test f to false e d
 

@@ -12,11 +12,15 @@ use Rattle.c65_code.specs.declared.line.Line.{Line}
 use Rattle.c65_code.specs.declared.line.Line.TheVariants.{Label, Do}
 use Rattle.c65_code.specs.declared.routine.Width.{Width}
 use Rattle.c65_code.specs.declared.routine.Width.TheVariants.{Ax, Eax}
-use Rattle.c65_code.specs.Segments.{is_fit}
 use Rattle.c65_genload.specs.declared.places.Extent.{Extent}
 use Rattle.c65_genload.specs.declared.places.Extent.TheVariants.{One, Two, Three, Four}
 use Rattle.c65_genload.specs.Words.{implied}
+use Rattle.c65_genload.specs.declared.places.Field.{Field}
+use Rattle.c65_genload.specs.declared.places.Place.{Place}
+use Rattle.c65_genload.specs.declared.places.Access.{Access}
+use Rattle.c65_genload.specs.declared.places.Access.TheVariants.{Whole, Part}
 use Rattle.c65_genload.specs.Places.{extent_of}
+use Rattle.c65_genload.specs.Places as loads
 use Rattle.c65_genwide.specs.Wide.{width_of}
 use Rattle.c65_gendirect.specs.declared.bytes.OperandByte.{OperandByte}
 use Rattle.c65_gendirect.specs.declared.direct.Direct.{Direct}
@@ -38,11 +42,13 @@ use Rattle.c65_genexpr.specs.Operands.{conversion_by}
 use Rattle.c65_genexpr.specs.Wanted.{decided_code, sense_of, handed, by_sense, wanted, aimed, truth_labels, inner, truth_by, way, way_labels, joined}
 use Rattle.c65_genexpr.specs.Comparing.{low_code, comparison_by}
 use Rattle.c65_genexpr.specs.Operating.{operator_by}
+use Rattle.c65_genexpr.specs.Fields.{loaded_test}
 use Rattle.c65_genexpr.specs.Code.{constant_code, tested_load}
 use Rattle.c65_gen_law_lines.specs.Labels.{among, aims, may_lead}
-use Rattle.c65_gen_law_lines.proofs.Made.{among_split, among_one, among_none, Piece, piece_none, Stretch, Made, once_at, stretch_then, stretch_piece, stretch_label, stretch_branch, stretch_jump, stretch_wider, stretch_as, stretch_made, made_stretch, leads_inner, leads_within, leads_outer, made_piece, made_behind, made_wider, made_as, made_none}
-use Rattle.c65_gen_law_lines.proofs.Pieces.{number_piece, conversion_piece, test_piece, between_piece, behind_piece}
+use Rattle.c65_gen_law_lines.proofs.Made.{is_early, among_split, among_one, among_none, Piece, piece_none, Stretch, Made, once_at, stretch_then, stretch_piece, stretch_label, stretch_branch, stretch_jump, stretch_wider, stretch_as, stretch_made, made_stretch, leads_inner, leads_within, leads_outer, made_piece, made_behind, made_wider, made_as, made_none, nowhere}
+use Rattle.c65_gen_law_lines.proofs.Pieces.{number_piece, conversion_piece, test_piece, between_piece, behind_piece, by_access, load_piece}
 use Rattle.c65_gen_law_lines.proofs.Directs.{loaded_quiet, compare_quiet, compare_byte_quiet, zero_test_quiet, truth_quiet}
+use Rattle.c65_gen_law_lines.proofs.FieldForms.{own_bits_piece}
 use Rattle.c65_gen_law_lines.proofs.Drops.{IfRead, Unread, Unused}
 use Rattle.c65_gen_law_lines.proofs.Forms.{keep_quiet, stacked_sizes, form_quiet, waiting_part, stacked_part}
 
@@ -54,7 +60,7 @@ made_from {outside = outside} {n = n} {k = k} {a = a} e made = subst (λ (x : �
 pub made_closed : {lo n k : ℕ} {a : List Line} → (outside : List ℕ) → Made [] lo n k a → Made outside lo n k a
 made_closed {lo = lo} {n = n} outside m = made_stretch (stretch_made m (leads_within outside lo n lo n (omega arith) (omega arith)) refl) (λ l. refl)
 
-sense_fits : (s : Bool) → is_fit (Do (by_sense s) Relative (To 0)) ≡ true
+sense_fits : (s : Bool) → is_early (Do (by_sense s) Relative (To 0)) ≡ true
 sense_fits true = refl
 sense_fits false = refl
 
@@ -89,14 +95,26 @@ few_bytes d Two = listed_few (sides_of Ax d)
 few_bytes d Three = listed_few (sides_of Eax d)
 few_bytes d Four = listed_few (sides_of Eax d)
 
--- of a value that is read where it lies only the base's lines are taken
-pub tested_made : {lo n j k : ℕ} {base a : List Line} (d : Option Direct) (kind : IntType) (s : Bool) (to : ℕ) → j ≤ k → Made [] lo n j base → Made [] lo n k a → Made (to ∷ []) lo n (k + 23) (tested_load d kind s to base a)
-tested_made {lo = lo} {n = n} (Some d) kind s to le mb m =
+-- behind the base of a place
+test_sizes : (access : Access) → 27 ≤ by_access 19 36 access + 13
+test_sizes (Whole kind) = omega arith
+test_sizes (Part g) = omega arith
+
+pub test_part : {ok : ℕ → Bool} (field : Option Field) (place : Place) (access : Access) (s : Bool) (to : ℕ) → ok to ≡ true → Stretch ok nowhere (by_access 19 36 access + 13) (loaded_test field place access s to)
+test_part (Some g) place access s to passes =
+    stretch_wider (stretch_as (λ l. refl) (stretch_then (stretch_piece (own_bits_piece place g)) (stretch_branch (by_sense s) to (sense_fits s) passes))) (test_sizes access)
+test_part None place access s to passes =
+    stretch_wider (stretch_as (λ l. refl) (stretch_then (stretch_piece (load_piece place access)) (stretch_then (stretch_piece (test_piece (width_of (loads.type_in access)))) (stretch_branch (by_sense s) to (sense_fits s) passes)))) (omega arith)
+
+-- the test of a value that is read where it lies, or of one that is loaded
+pub tested_made : {lo n i j k : ℕ} {base test : List Line} (d : Option Direct) (kind : IntType) (s : Bool) (to : ℕ) → j + 23 ≤ k → j + i ≤ k → Made [] lo n j base → Stretch (may_lead lo n (to ∷ [])) nowhere i test → Made (to ∷ []) lo n k (tested_load d kind s to base test)
+tested_made {lo = lo} {n = n} (Some d) kind s to first second mb mt =
     let few : length (own_bytes d (extent_of kind)) ≤ 4 = few_bytes d (extent_of kind) in
     made_wider (made_stretch
     (stretch_then (stretch_made mb (leads_within (to ∷ []) lo n lo n (omega arith) (omega arith)) refl) (zero_test_quiet (own_bytes d (extent_of kind)) s to (leads_outer lo n to)).part)
-    (λ l. omega arith)) (omega (arith, few, le))
-tested_made None kind s to le mb m = made_wider (wanted_made (Test to s) (width_of kind) m) (omega arith)
+    (λ l. omega arith)) (omega (arith, few, first))
+tested_made {lo = lo} {n = n} None kind s to first second mb mt =
+    made_wider (made_stretch (stretch_then (stretch_made mb (leads_within (to ∷ []) lo n lo n (omega arith) (omega arith)) refl) mt) (λ l. omega arith)) second
 
 pub converted_made : {lo n k : ℕ} {a : List Line} (w : Wanted) (same : Bool) (to : Ty) (from : IntType) → Made (aims (handed same w)) lo n k a → Made (aims w) lo n (k + 16) (conversion_by w same to from a)
 converted_made Value same to from m = made_wider (made_behind m (conversion_piece to from)) (omega arith)

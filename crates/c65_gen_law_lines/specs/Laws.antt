@@ -7,6 +7,7 @@ use Rattle.c65_code.specs.declared.parts.RegSet.{RegSet}
 use Rattle.c65_code.specs.Segments.{Drafted, is_fit, IsSegment}
 use Rattle.c65_code.specs.Weights.{lines_size, extent_of}
 use Rattle.c65_code.specs.declared.code.Code.{Code}
+use Rattle.c65_code.specs.Processors.{IsNmos}
 use Rattle.c65_csem.specs.declared.items.Parts.{Parts}
 use Rattle.c65_csem.specs.Statements.{IsDistinct}
 use Rattle.c65_genframe.specs.declared.modes.Modes.{Modes}
@@ -80,3 +81,7 @@ HomesAreApart = (parts : Parts) (modes : Modes) (g : FuncTy) (f : Framed) → fr
 abbrev pub ProgramsAreSmall : Type 0
 ProgramsAreSmall = (parts : Parts) (main : ℕ) (names : List (List ℕ)) (modes : Modes) (code : Code)
     → program_of parts main names modes ≡ Ok code → extent_of code ≤ 128 * functions_nodes parts.funcs.items
+
+-- no line of a program has a row that the 65C02 adds
+abbrev pub ProgramsAreNmos : Type 0
+ProgramsAreNmos = (parts : Parts) (main : ℕ) (names : List (List ℕ)) (modes : Modes) (code : Code) → program_of parts main names modes ≡ Ok code → IsNmos code

@@ -1,5 +1,5 @@
 // Laws of the lines that the generator writes, each the contract of a function that does nothing.
-ghost use Rattle.c65_gen_law_lines.specs.Laws.{ExpressionsOwnTheirLabels, ExpressionsAreSmall, ExpressionsAreFit, ExpressionsKeepTheStack, StatementsKeepTheStack, CallsAreCounted, FramesAreSmall, HomesAreApart, FunctionsAreSmall, ProgramsAreSmall, FunctionsAreSegments};
+ghost use Rattle.c65_gen_law_lines.specs.Laws.{ExpressionsOwnTheirLabels, ExpressionsAreSmall, ExpressionsAreFit, ExpressionsKeepTheStack, StatementsKeepTheStack, CallsAreCounted, FramesAreSmall, HomesAreApart, FunctionsAreSmall, ProgramsAreSmall, ProgramsAreNmos, FunctionsAreSegments};
 
 /// An expression's lines, for its value or for a test of it, have the labels from the first free one on, as many as it uses, each once;
 /// their branches lead to these alone, and those of a test to its own label too.
@@ -55,4 +55,9 @@ pub fn homes_are_apart()
 /// The extent of a program's code is at most 128 bytes for each function that has a body, each of its parameters and each node of the body.
 pub fn programs_are_small()
     ensures { ProgramsAreSmall }
+{}
+
+/// The lines of a program run on the 6502: none has a row that the 65C02 adds.
+pub fn programs_are_nmos()
+    ensures { ProgramsAreNmos }
 {}

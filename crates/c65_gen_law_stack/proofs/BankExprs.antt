@@ -57,12 +57,13 @@ use Rattle.c65_genexpr.specs.Steps.{amount_of}
 use Rattle.c65_genexpr.specs.Arguments.{is_fast, is_counted, stays, passed_size, passed_of, argument_bytes}
 use Rattle.c65_genexpr.specs.Calls.{named}
 use Rattle.c65_genexpr.specs.Uses.{uses, by_relation}
+use Rattle.c65_genfield.specs.Bits.{byte_field}
 use Rattle.c65_genexpr.specs.Code.{width_in, tested_load, load_by, behind_open, compound, call_by, expr_code, node_code, base_code, pointer_base_code, args_code}
 use Rattle.c65_gen_law_stack.proofs.FrameOrder.{NotBank}
 use Rattle.c65_gen_law_stack.proofs.EvenLines.{No, One}
 use Rattle.c65_gen_law_stack.proofs.EvenShifts.{elements_even}
 use Rattle.c65_gen_law_stack.proofs.EvenDirects.{byte_even, compare_even, compare_byte_even, zero_test_even, truth_even}
-use Rattle.c65_gen_law_stack.proofs.EvenForms.{value_test_even, routine_test_even, constant_even, form_even, keep_even}
+use Rattle.c65_gen_law_stack.proofs.EvenForms.{loaded_test_even, value_test_even, routine_test_even, constant_even, form_even, keep_even}
 use Rattle.c65_gen_law_stack.proofs.StepClears.{step_clear}
 use Rattle.c65_gen_law_stack.proofs.BankPieces.{narrow_clear, label_clear, byte_behind_clear, word_behind_clear, read_store_clear, byte_through_clear, word_through_clear, Clear, clear_then, clear_if, clear_none, IsOff, symbol_clear, offset_clear, object_clear, further_clear, conversion_clear, push_clear, argument_clear, hold_clear, bytes_clear, load_clear, store_clear, copy_clear, spill_clear, unary_clear, wide_clear, between_clear, behind_clear, open_clear, close_clear, named_clear, direct_clear, pointer_clear}
 
@@ -128,13 +129,13 @@ truth_clear : (w : Wanted) (fresh : ℕ) {code : List Line} → Clear code → C
 truth_clear Value fresh c = clear_then c (truth_even fresh).clear
 truth_clear (Test to s) fresh c = c
 
-tested_clear : (o : Option Direct) (kind : IntType) (s : Bool) (to : ℕ) {base code : List Line} → Clear base → Clear code → Clear (tested_load o kind s to base code)
+tested_clear : (o : Option Direct) (kind : IntType) (s : Bool) (to : ℕ) {base test : List Line} → Clear base → Clear test → Clear (tested_load o kind s to base test)
 tested_clear (Some d) kind s to cb c = clear_then cb (zero_test_even {X = One to} (own_bytes d (extent_of kind)) s to refl).clear
-tested_clear None kind s to cb c = wanted_clear (Test to s) (width_of kind) c
+tested_clear None kind s to cb c = clear_then cb c
 
 load_by_clear : (w : Wanted) (place : Place) (access : Access) {code : List Line} → Clear code → Clear (load_by w place access code)
 load_by_clear Value place access c = clear_then c (load_clear place access)
-load_by_clear (Test to s) place access c = tested_clear (kept_at place access) (type_at access) s to c (clear_then c (load_clear place access))
+load_by_clear (Test to s) place access c = tested_clear (kept_at place access) (type_at access) s to c (loaded_test_even {X = One to} (byte_field access) place access s to refl).clear
 
 conversion_by_clear : (w : Wanted) (same : Bool) (t : Ty) (from : IntType) {code : List Line} → Clear code → Clear (conversion_by w same t from code)
 conversion_by_clear Value same t from c = clear_then c (conversion_clear t from)

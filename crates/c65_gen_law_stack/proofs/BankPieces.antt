@@ -46,14 +46,15 @@ use Rattle.c65_genload.specs.declared.places.Place.{Place}
 use Rattle.c65_genload.specs.declared.places.Place.TheVariants as places
 use Rattle.c65_genload.specs.declared.places.Access.{Access}
 use Rattle.c65_genload.specs.declared.places.Access.TheVariants.{Whole, Part}
-use Rattle.c65_genload.specs.Words.{ptr1, implied, zero_page, by_y, sp, shift_a}
+use Rattle.c65_genload.specs.Words.{ptr1, tmp1, implied, zero_page, by_y, sp, shift_a}
 use Rattle.c65_genload.specs.Places.{type_in, byte_more, extent_of, settled, onward, word_more}
-use Rattle.c65_genload.specs.Numbers.{number_code, add_word_code, add_by_width, add_code, mask_code, by_code, shift_code, scale_code, is_divisor, divide_code}
+use Rattle.c65_genload.specs.Numbers.{first, number_code, add_word_code, add_by_width, add_code, mask_code, by_code, shift_code, scale_code, is_divisor, divide_code}
 use Rattle.c65_genload.specs.Conversions.{widen_code, convert_code, convert_to, push_code, test_code}
 use Rattle.c65_genload.specs.Addresses.{symbol_code, address_code, above_code, raised_code, offset_code}
-use Rattle.c65_genload.specs.Fields.{ones, others, is_in_byte, own_bits, down_code, up_code, is_topmost, cut_code, spread_code, byte_value_code, extract_code, lowest_code, is_unit}
+use Rattle.c65_genload.specs.Fields.{ones, others, is_in_byte, own_bits, down_code, up_code, is_topmost, cut_code, spread_code, byte_value_code, once, rounds, both_down_code, is_astride, astride_code, wide_value_code, extract_code, lowest_code, is_unit}
 use Rattle.c65_genload.specs.Loads.{hold_code, bytes_code, field_load, load_code}
-use Rattle.c65_genload.specs.Stores.{bytes_store, after_store, under_code, unit_store, popped_code, merged_code, bits_store, byte_store, field_store, store_code, copy_code}
+use Rattle.c65_genfield.specs.Bits.{own_bits_code}
+use Rattle.c65_genload.specs.Stores.{bytes_store, after_store, under_code, unit_set, unit_store, popped_code, merged_code, bits_store, byte_store, field_store, store_code, copy_code}
 use Rattle.c65_gendirect.specs.declared.bytes.OperandByte.{OperandByte}
 use Rattle.c65_gendirect.specs.declared.bytes.OperandByte.TheVariants as operand
 use Rattle.c65_gendirect.specs.declared.through.Stored.{Stored}
@@ -247,7 +248,7 @@ turned_clear low one first further a b c = clear_if (nat_le low 4) (repeated_cle
 down_clear : (low : ℕ) → Clear (down_code low)
 down_clear low = turned_clear low Lsr Asl Rol (record { all = refl }) (record { all = refl }) (record { all = refl })
 
-up_clear : (low : ℕ) → Clear (up_code low)
+pub up_clear : (low : ℕ) → Clear (up_code low)
 up_clear low = turned_clear low Asl Lsr Ror (record { all = refl }) (record { all = refl }) (record { all = refl })
 
 cut_clear : (g : Field) → Clear (cut_code g)
@@ -259,9 +260,28 @@ spread_clear width = clear_if (width == 8) clear_none (record { all = refl })
 byte_value_clear : (g : Field) → Clear (byte_value_code g)
 byte_value_clear g = clear_then (down_clear (g.low % 8)) (clear_then (cut_clear g) (clear_if (is_signed_of g.kind) (clear_then (spread_clear g.width) (narrow_clear ints.SChar)) (narrow_clear ints.UChar)))
 
-extract_clear : (g : Field) → Clear (extract_code g)
-extract_clear g =
+wide_value_clear : (g : Field) → Clear (wide_value_code g)
+wide_value_clear g =
     clear_if (is_signed_of g.kind) (clear_then (shift_clear tos.Shl (16 - min (g.low + g.width) 16)) (shift_clear tos.Asr (16 - min g.width 16))) (clear_then (shift_clear tos.Shr g.low) (clear_if (ones g.width == 65535) clear_none (mask_clear (ones g.width))))
+
+once_clear : (b : Bool) (first next : Line) → Clear (first ∷ next ∷ []) → Clear (once b first next)
+once_clear b first next c = clear_if b c clear_none
+
+rounds_clear : (n : ℕ) (first next : Line) → Clear (first ∷ next ∷ []) → Clear (rounds n first next)
+rounds_clear n first next c =
+    clear_then (once_clear (nat_le 1 n) first next c) (clear_then (once_clear (nat_le 2 n) first next c) (clear_then (once_clear (nat_le 3 n) first next c) (once_clear (nat_le 4 n) first next c)))
+
+astride_clear : (g : Field) → Clear (astride_code g)
+astride_clear g =
+    let high : Clear (zero_page Stx tmp1 ∷ []) = record { all = refl } in
+    let back : Clear (zero_page Lda tmp1 ∷ []) = record { all = refl } in
+    let cut : Clear (value And (first (ones g.width)) ∷ narrow_code ints.UChar) = record { all = refl } in
+    clear_then high (clear_then
+    (clear_if (nat_le g.low 4) (rounds_clear g.low (zero_page Lsr tmp1) (shift_a Ror) (record { all = refl })) (clear_then (rounds_clear (8 - g.low) (shift_a Asl) (zero_page Rol tmp1) (record { all = refl })) back))
+    cut)
+
+extract_clear : (g : Field) → Clear (extract_code g)
+extract_clear g = clear_if (is_astride g) (astride_clear g) (wide_value_clear g)
 
 lowest_clear : (g : Field) → Clear (lowest_code g)
 lowest_clear g = clear_if (is_in_byte g) (byte_value_clear g) (extract_clear g)
@@ -269,11 +289,14 @@ lowest_clear g = clear_if (is_in_byte g) (byte_value_clear g) (extract_clear g)
 field_load_clear : (place : Place) (g : Field) → Clear (field_load place g)
 field_load_clear place g = clear_if (is_in_byte g) (clear_then (bytes_clear (onward place (g.low / 8)) One) (byte_value_clear g)) (clear_then (bytes_clear place Two) (extract_clear g))
 
+pub own_bits_clear : (place : Place) (g : Field) → Clear (own_bits_code place g)
+own_bits_clear place g = let cut : Clear (value And (own_bits g) ∷ []) = record { all = refl } in clear_then (bytes_clear (onward place (g.low / 8)) One) cut
+
 pub load_clear : (place : Place) (access : Access) → Clear (load_code place access)
 load_clear place (Whole kind) = clear_then (bytes_clear place (extent_of kind)) (narrow_clear kind)
 load_clear place (Part field) = field_load_clear place field
 
-bytes_store_clear : (place : Place) (e : Extent) → IsOff place → Clear (bytes_store place e)
+pub bytes_store_clear : (place : Place) (e : Extent) → IsOff place → Clear (bytes_store place e)
 bytes_store_clear (places.Bank b) e off = absurd off
 bytes_store_clear (places.Near at) One off = record { all = refl }
 bytes_store_clear (places.Near at) Two off = record { all = refl }
@@ -300,18 +323,21 @@ under_clear (places.Near at) = bytes_clear (places.Near (byte_more at 2)) Two
 under_clear (places.Data s at) = bytes_clear (places.Data s at) Two
 under_clear (places.Far at) = record { all = refl }
 
-unit_store_clear : (place : Place) (g : Field) → IsOff place → Clear (unit_store place g)
-unit_store_clear place g off =
+pub unit_set_clear : (place : Place) (g : Field) → IsOff place → Clear (unit_set place g)
+unit_set_clear place g off =
     let push : Clear (call PushAx ∷ []) = record { all = refl } in
     let join : Clear (call (Tos tos.Or Ax) ∷ []) = record { all = refl } in
-    clear_then (clear_then (mask_clear (ones g.width)) (shift_clear tos.Shl g.low)) (clear_then push (clear_then (under_clear place) (clear_then (mask_clear (others g)) (clear_then join (clear_then (bytes_store_clear place Two off) (extract_clear g))))))
+    clear_then (clear_then (mask_clear (ones g.width)) (shift_clear tos.Shl g.low)) (clear_then push (clear_then (under_clear place) (clear_then (mask_clear (others g)) (clear_then join (bytes_store_clear place Two off)))))
 
-merged_clear : (mode : Mode) (operand : Operand) (mask : ℕ) → Clear (Do Sta mode operand ∷ []) → Clear (Do Eor mode operand ∷ []) → Clear (merged_code mode operand mask)
+unit_store_clear : (place : Place) (g : Field) → IsOff place → Clear (unit_store place g)
+unit_store_clear place g off = clear_then (unit_set_clear place g off) (extract_clear g)
+
+pub merged_clear : (mode : Mode) (operand : Operand) (mask : ℕ) → Clear (Do Sta mode operand ∷ []) → Clear (Do Eor mode operand ∷ []) → Clear (merged_code mode operand mask)
 merged_clear mode operand mask whole other =
     let own : Clear (value And mask ∷ []) = record { all = refl } in
     clear_if (mask == 255) whole (clear_then other (clear_then own (clear_then other whole)))
 
-bits_clear : (place : Place) (n mask : ℕ) → IsOff place → Clear (bits_store (onward (settled place) n) mask)
+pub bits_clear : (place : Place) (n mask : ℕ) → IsOff place → Clear (bits_store (onward (settled place) n) mask)
 bits_clear (places.Bank b) n mask off = absurd off
 bits_clear (places.Near at) n mask off =
     let way : Clear (value Ldy (byte_more at n) ∷ []) = record { all = refl } in

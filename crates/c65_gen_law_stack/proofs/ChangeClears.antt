@@ -35,7 +35,7 @@ abbrev pub IsOffTarget : Target → Type 0
 IsOffTarget (Byte low) = IsOffByte low
 IsOffTarget (Word low high) = IsOffByte low × IsOffByte high
 
-load_clear : (spot : Spot) → IsOffByte spot → Clear (reach_code Lda spot)
+pub load_clear : (spot : Spot) → IsOffByte spot → Clear (reach_code Lda spot)
 load_clear (Behind pointer at) off = record { all = refl }
 load_clear (Data sym at) off = record { all = refl }
 load_clear (Zero at) off = absurd off
@@ -50,7 +50,7 @@ down_clear_at (Behind pointer at) off = record { all = refl }
 down_clear_at (Data sym at) off = record { all = refl }
 down_clear_at (Zero at) off = absurd off
 
-store_clear : (spot : Spot) → IsOffByte spot → Clear (again_code Sta spot)
+pub store_clear : (spot : Spot) → IsOffByte spot → Clear (again_code Sta spot)
 store_clear (Behind pointer at) off = record { all = refl }
 store_clear (Data sym at) off = record { all = refl }
 store_clear (Zero at) off = absurd off

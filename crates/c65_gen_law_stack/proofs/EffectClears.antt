@@ -21,9 +21,15 @@ use Rattle.c65_geneffect.specs.declared.changing.Changing.{Changing}
 use Rattle.c65_geneffect.specs.declared.changing.Changing.TheVariants.{Fixed, Loaded, Otherwise}
 use Rattle.c65_geneffect.specs.declared.changing.Fill.{Fill}
 use Rattle.c65_geneffect.specs.Changing.{in_front, stepping_of, changing_of, filling_of}
-use Rattle.c65_geneffect.specs.Effects.{fixed_code, stepped_by, changed_by, filled_or, changed_code, step_effect, effect_code, node_effect, effect_uses}
+use Rattle.c65_geneffect.specs.declared.setting.Setting.{Setting}
+use Rattle.c65_geneffect.specs.declared.setting.Setting.TheVariants as settings
+use Rattle.c65_geneffect.specs.Setting.{setting_of, below_value, set_by}
+use Rattle.c65_geneffect.specs.Effects.{fixed_code, stepped_by, changed_by, filled_or, set_code, changed_code, step_effect, effect_code, node_effect, effect_uses}
 use Rattle.c65_gen_law_lines.proofs.EffectFacts.{target_in, OfStep, OfChanging, OfFill, stepping_target, changing_target, filling_target}
-use Rattle.c65_gen_law_stack.proofs.BankPieces.{Clear, label_clear, clear_then}
+use Rattle.c65_gen_law_stack.proofs.BankPieces.{Clear, label_clear, clear_then, IsOff, hold_clear}
+use Rattle.c65_gen_law_stack.proofs.EvenLines.{No}
+use Rattle.c65_gen_law_stack.proofs.EvenForms.{keep_even}
+use Rattle.c65_gen_law_stack.proofs.FieldClears.{number_clear, behind_clear, set_clear}
 use Rattle.c65_gen_law_stack.proofs.BankExprs.{IsBankless, place_off, expr_clear, base_clear}
 use Rattle.c65_gen_law_stack.proofs.ChangeClears.{IsOffTarget, change_clear, point_clear, fill_clear, target_off}
 
@@ -42,6 +48,18 @@ changed_clear Otherwise place label off cl cr cw = clear_then cw (label_clear la
 filled_clear : {base whole : List Line} (fill : Option Fill) → OfFill IsOffTarget fill → Clear base → Clear whole → Clear (filled_or fill base whole)
 filled_clear (Some fill) off cb cw = clear_then cb (fill_clear fill.byte fill.low fill.high off.0 off.1)
 filled_clear None off cb cw = cw
+
+set_by_clear : {left right whole : List Line} (how : Setting) (place : Place) → IsOff place → Clear left → Clear right → Clear whole → Clear (set_by how place left right whole)
+set_by_clear (settings.Number g n) place off cl cr cw = clear_then cl (clear_then (point_clear place) (number_clear place g n off))
+set_by_clear (settings.Held g at) place off cl cr cw = clear_then cl (clear_then (keep_even {X = No}).clear (clear_then cr (behind_clear at g)))
+set_by_clear (settings.Loaded g) place off cl cr cw = clear_then cl (clear_then (hold_clear place) (clear_then cr (set_clear place g off)))
+set_by_clear settings.Otherwise place off cl cr cw = cw
+
+field_clear : (f : Framed) (pushed lo : ℕ) (a b : Typed) (whole : List Line) → IsBankless f → Clear whole → Clear (set_code f pushed lo a b whole)
+field_clear f pushed lo a b whole k cw =
+    let place : Place = place_of f pushed a in
+    let how : Setting = setting_of f pushed place (access_of (types_of f.parts.types) a) b in
+    set_by_clear how place (place_off f pushed a k) (base_clear f pushed lo a k) (expr_clear f (below_value how pushed place) (lo + uses None a) Value b k) cw
 
 step_clear : (f : Framed) (pushed lo : ℕ) (t : QTy) (how : StepKind) (e : Typed) → IsBankless f → Clear (node_code f pushed lo Value t (step (in_front how) e)) → Clear (step_effect f pushed lo how e)
 step_clear f pushed lo t how e k whole =
@@ -65,7 +83,7 @@ mutual
   node_effect_clear f pushed lo t (assign a b) k =
       let place : Place = place_of f pushed a in
       let access : Access = access_of (types_of f.parts.types) a in
-      filled_clear (filling_of place access b) (filling_target IsOffTarget place access b (target_off place access (place_off f pushed a k))) (base_clear f pushed lo a k) (expr_clear f pushed lo Value (node t (assign a b)) k)
+      filled_clear (filling_of place access b) (filling_target IsOffTarget place access b (target_off place access (place_off f pushed a k))) (base_clear f pushed lo a k) (field_clear f pushed lo a b (node_code f pushed lo Value t (assign a b)) k (expr_clear f pushed lo Value (node t (assign a b)) k))
   node_effect_clear f pushed lo t (assign_op op kind a b) k = op_clear f pushed lo op 1 a b (node_code f pushed (lo + 1) Value t (assign_op op kind a b)) k (expr_clear f pushed (lo + 1) Value (node t (assign_op op kind a b)) k)
   node_effect_clear f pushed lo t (assign_step op a b) k = op_clear f pushed lo op (target_bytes f (bare a)) a b (node_code f pushed (lo + 1) Value t (assign_step op a b)) k (expr_clear f pushed (lo + 1) Value (node t (assign_step op a b)) k)
   node_effect_clear f pushed lo t (step PreInc e) k = step_clear f pushed lo t PreInc e k (expr_clear f pushed lo Value (node t (step PreInc e)) k)

@@ -21,11 +21,18 @@ use Rattle.c65_geneffect.specs.declared.changing.Changing.{Changing}
 use Rattle.c65_geneffect.specs.declared.changing.Changing.TheVariants.{Fixed, Loaded, Otherwise}
 use Rattle.c65_geneffect.specs.declared.changing.Fill.{Fill}
 use Rattle.c65_geneffect.specs.Changing.{in_front, stepping_of, changing_of, filling_of}
-use Rattle.c65_geneffect.specs.Effects.{closed, fixed_code, stepped_by, changed_by, filled_or, changed_code, step_effect, effect_code, node_effect, effect_uses}
+use Rattle.c65_geneffect.specs.declared.setting.Setting.{Setting}
+use Rattle.c65_geneffect.specs.declared.setting.Setting.TheVariants as settings
+use Rattle.c65_geneffect.specs.Setting.{setting_of, below_value, set_by}
+use Rattle.c65_genexpr.specs.Held.{ptr2}
+use Rattle.c65_geneffect.specs.Effects.{closed, fixed_code, stepped_by, changed_by, filled_or, set_code, changed_code, step_effect, effect_code, node_effect, effect_uses}
 use Rattle.c65_gen_law_lines.specs.Stack.{calls_of, node_calls}
 use Rattle.c65_gen_law_lines.proofs.Drops.{constant_idle}
 use Rattle.c65_gen_law_lines.proofs.EffectForms.{fill_piece, fill_still}
-use Rattle.c65_gen_law_lines.proofs.EffectFacts.{Unneeded, changing_unneeded, Unfilled, number_idle, filling_unneeded}
+use Rattle.c65_gen_law_lines.proofs.EffectFacts.{Unneeded, changing_unneeded, Unfilled, number_idle, filling_unneeded, Unset, setting_unset}
+use Rattle.c65_gen_law_lines.proofs.Pieces.{hold_piece, keep_piece}
+use Rattle.c65_gen_law_lines.proofs.StackPieces.{holding, hold_leaves, keep_still}
+use Rattle.c65_gen_law_lines.proofs.FieldForms.{number_piece, number_still, behind_piece, behind_still, set_piece, set_leaves}
 use Rattle.c65_gen_law_stack.proofs.Levels.{level_piece, Closed, closed_then, closed_behind, closed_as}
 use Rattle.c65_gen_law_stack.proofs.ExprLevels.{left_calls, value_level, base_level}
 use Rattle.c65_gen_law_stack.proofs.ChangeLevels.{steady_label, steady_close, steady_closed, change_level, point_level}
@@ -54,6 +61,22 @@ filled_level {cs = cs} ds (Some fill) unneeded db dw v =
     closed_as (left_calls cs ds unneeded) (closed_behind (db v) (level_piece (fill_still fill.byte fill.low fill.high v) (fill_piece fill.byte fill.low fill.high).plain))
 filled_level ds None unneeded db dw v = dw v
 
+set_level : {cs ds : List (List ℕ)} {left right whole : List Line} (how : Setting) (place : Place) → Unset how (ds ≡ []) → Lasting cs left → Lasting ds right → Lasting (cs ++ ds) whole → Lasting (cs ++ ds) (set_by how place left right whole)
+set_level {cs = cs} {ds = ds} (settings.Number g n) place unset dl dr dw v =
+    closed_as (left_calls cs ds unset) (closed_behind (dl v) (closed_behind (point_level place v) (level_piece (number_still place g n v) (number_piece place g n).plain)))
+set_level (settings.Held g at) place unset dl dr dw v =
+    closed_then (dl v) (closed_then (level_piece (keep_still v) keep_piece.plain) (closed_behind (dr v) (level_piece (behind_still ptr2 at g v) (behind_piece ptr2 at g).plain)))
+set_level (settings.Loaded g) place unset dl dr dw v =
+    closed_then (dl v) (closed_then (level_piece (hold_leaves place v) (hold_piece place).plain) (closed_behind (dr (holding place v)) (level_piece (set_leaves place g v) (set_piece place g).plain)))
+set_level settings.Otherwise place unset dl dr dw v = dw v
+
+field_level : (f : Framed) (pushed lo : ℕ) (a b : Typed) (whole : List Line) → Lasting (calls_of f a ++ calls_of f b) whole → Lasting (calls_of f a ++ calls_of f b) (set_code f pushed lo a b whole)
+field_level f pushed lo a b whole dw =
+    let place : Place = place_of f pushed a in
+    let access : Access = access_of (types_of f.parts.types) a in
+    let how : Setting = setting_of f pushed place access b in
+    set_level how place (setting_unset _ f pushed place access b (λ n h. (number_idle f b n h).calls)) (base_level f pushed lo a) (value_level f (below_value how pushed place) (lo + uses None a) b) dw
+
 step_level : (f : Framed) (pushed lo : ℕ) (t : QTy) (how : StepKind) (e : Typed) → Lasting (calls_of f e) (node_code f pushed lo Value t (step (in_front how) e)) → Lasting (calls_of f e) (step_effect f pushed lo how e)
 step_level f pushed lo t how e whole =
     let place : Place = place_of f pushed e in
@@ -76,7 +99,7 @@ mutual
   node_effect_level f pushed lo t (assign a b) =
       let place : Place = place_of f pushed a in
       let access : Access = access_of (types_of f.parts.types) a in
-      filled_level (calls_of f b) (filling_of place access b) (filling_unneeded _ place access b (λ n h. (number_idle f b n h).calls)) (base_level f pushed lo a) (value_level f pushed lo (node t (assign a b)))
+      filled_level (calls_of f b) (filling_of place access b) (filling_unneeded _ place access b (λ n h. (number_idle f b n h).calls)) (base_level f pushed lo a) (field_level f pushed lo a b (node_code f pushed lo Value t (assign a b)) (value_level f pushed lo (node t (assign a b))))
   node_effect_level f pushed lo t (assign_op op k a b) = op_level f pushed lo op 1 a b (node_code f pushed (lo + 1) Value t (assign_op op k a b)) (value_level f pushed (lo + 1) (node t (assign_op op k a b)))
   node_effect_level f pushed lo t (assign_step op a b) = op_level f pushed lo op (target_bytes f (bare a)) a b (node_code f pushed (lo + 1) Value t (assign_step op a b)) (value_level f pushed (lo + 1) (node t (assign_step op a b)))
   node_effect_level f pushed lo t (step PreInc e) = step_level f pushed lo t PreInc e (value_level f pushed lo (node t (step PreInc e)))

@@ -1,10 +1,15 @@
 -- The forms of an expression's lines: their labels, and that they leave what waits, and regbank.
-use Rattle.std.proofs.Common.{ℕ, ◌==◌, Bool, true, false, not, [], ◌∷◌, refl}
+use Rattle.std.proofs.Common.{ℕ, ◌==◌, Bool, true, false, not, Option, Some, None, [], ◌∷◌, refl}
 use Rattle.c65_base.specs.declared.operators.BinaryOp.{BinaryOp}
 use Rattle.c65_base.specs.declared.operators.BinaryOp.TheVariants as ops
 use Rattle.c65_mach.specs.declared.rows.Op.TheVariants.{Tay}
 use Rattle.c65_code.specs.declared.routine.Width.{Width}
 use Rattle.c65_genload.specs.Numbers.{number_code, add_long_code, divide_code}
+use Rattle.c65_genwide.specs.Wide.{width_of}
+use Rattle.c65_genload.specs.declared.places.Field.{Field}
+use Rattle.c65_genload.specs.declared.places.Place.{Place}
+use Rattle.c65_genload.specs.declared.places.Access.{Access}
+use Rattle.c65_genload.specs.Places.{type_in}
 use Rattle.c65_genload.specs.Words.{implied}
 use Rattle.c65_genexpr.specs.declared.operating.Form.{Form}
 use Rattle.c65_genexpr.specs.declared.operating.Form.TheVariants.{Sum, LongSum, Mask, Constant, Word, Under, Indexed, Distance, DistanceUnder}
@@ -12,10 +17,12 @@ use Rattle.c65_genexpr.specs.declared.wanted.Wanted.{Wanted}
 use Rattle.c65_genexpr.specs.declared.wanted.Wanted.TheVariants.{Value, Test}
 use Rattle.c65_genexpr.specs.Wanted.{branch_code, value_test_code, decided_code}
 use Rattle.c65_genexpr.specs.Operating.{placed, form_code}
+use Rattle.c65_genexpr.specs.Fields.{loaded_test}
 use Rattle.c65_genexpr.specs.Code.{constant_code}
-use Rattle.c65_gen_law_lines.proofs.Pieces.{number_piece, test_piece, divide_piece}
-use Rattle.c65_gen_law_lines.proofs.StackPieces.{number_still, test_still, divide_still}
-use Rattle.c65_gen_law_stack.proofs.BankPieces.{number_clear, test_clear, divide_clear}
+use Rattle.c65_gen_law_lines.proofs.Pieces.{number_piece, load_piece, test_piece, divide_piece}
+use Rattle.c65_gen_law_lines.proofs.FieldForms.{own_bits_piece, own_bits_still}
+use Rattle.c65_gen_law_lines.proofs.StackPieces.{number_still, load_still, test_still, divide_still}
+use Rattle.c65_gen_law_stack.proofs.BankPieces.{number_clear, load_clear, own_bits_clear, test_clear, divide_clear}
 use Rattle.c65_genexpr.specs.Held.{keep_code}
 use Rattle.c65_gen_law_stack.proofs.EvenLines.{Labels, No, One, Even, even_piece, even_on, even_jump, even_lines, even_labelled}
 use Rattle.c65_gen_law_stack.proofs.EvenShifts.{quick_even, elements_even}
@@ -34,6 +41,11 @@ branch_even s to x = sense_even s to x
 
 pub value_test_even : {X : Labels} (width : Width) (s : Bool) (to : ℕ) → X to → Even No X (value_test_code width s to)
 value_test_even width s to x = even_on (even_piece (test_still width) (test_piece width).plain (test_clear width)) (branch_even s to x)
+
+-- behind the base of a place
+pub loaded_test_even : {X : Labels} (field : Option Field) (place : Place) (access : Access) (s : Bool) (to : ℕ) → X to → Even No X (loaded_test field place access s to)
+loaded_test_even (Some g) place access s to x = even_on (even_piece (own_bits_still place g) (own_bits_piece place g).plain (own_bits_clear place g)) (branch_even s to x)
+loaded_test_even None place access s to x = even_on (even_piece (load_still place access) (load_piece place access).plain (load_clear place access)) (value_test_even (width_of (type_in access)) s to x)
 
 -- behind a comparison by a routine
 pub routine_test_even : {X : Labels} (s : Bool) (to : ℕ) → X to → Even No X (implied Tay ∷ branch_code s to)

@@ -67,6 +67,7 @@ use Rattle.c65_genexpr.specs.Arguments.{is_fast, is_counted, stays, passed_size,
 use Rattle.c65_genexpr.specs.Arguments as arguments
 use Rattle.c65_genexpr.specs.Calls.{named, count_code, fetch_code, result_code, library_at, named_by, named_code, pointer_code, direct_code, ptr4_code}
 use Rattle.c65_genexpr.specs.Uses.{uses, by_relation}
+use Rattle.c65_genfield.specs.Bits.{byte_field}
 use Rattle.c65_genexpr.specs.Code.{width_in, tested_load, load_by, behind_open, compound, call_by, expr_code, node_code, base_code, pointer_base_code, args_code}
 use Rattle.c65_gen_law_lines.specs.Stack.{waiting_by, taken, left, waits, argument_bytes, passed, unless_named, calls_of, node_calls, args_calls}
 use Rattle.c65_gen_law_lines.proofs.Made.{is_plain, piece_append}
@@ -79,7 +80,7 @@ use Rattle.c65_gen_law_stack.proofs.Levels.{Level, Nowhere, level_then, level_en
 use Rattle.c65_gen_law_stack.proofs.EvenLines.{Labels, No, One, Both, At, Even, even_end, even_label, even_jump, even_lines}
 use Rattle.c65_gen_law_stack.proofs.EvenShifts.{elements_even}
 use Rattle.c65_gen_law_stack.proofs.EvenDirects.{byte_even, compare_even, compare_byte_even, zero_test_even, truth_even}
-use Rattle.c65_gen_law_stack.proofs.EvenForms.{Aim, value_test_even, routine_test_even, constant_even, keep_even, form_even}
+use Rattle.c65_gen_law_stack.proofs.EvenForms.{loaded_test_even, Aim, value_test_even, routine_test_even, constant_even, keep_even, form_even}
 use Rattle.c65_gen_law_stack.proofs.StepLevels.{step_level}
 use Rattle.c65_gen_law_stack.proofs.ReadSides.{Reaches, direct_reached, First, Compared, compared_reached, or_held_reached, tested_reached, Operated, operating_reached}
 
@@ -262,14 +263,13 @@ choice_level {v = v} j k dc da db =
     (λ l h z. elim z.0 [ inl x ↦ inl (inr (inr (inr (inl (x, z.1))))) | inr y ↦ inl (inr (inr (inr (inr (inr (y, z.1)))))) ])
 
 -- a value that is tested where it lies, or when it is loaded
-tested_level : {cs : List (List ℕ)} {v : List ℕ} {base a : List Line} (o : Option Direct) (kind : IntType) (s : Bool) (to : ℕ) → Closed cs v base v → Closed cs v a v → Leading (One to) cs v (tested_load o kind s to base a)
+tested_level : {cs : List (List ℕ)} {v : List ℕ} {base test : List Line} (o : Option Direct) (kind : IntType) (s : Bool) (to : ℕ) → Closed cs v base v → Even No (One to) test → Leading (One to) cs v (tested_load o kind s to base test)
 tested_level (Some d) kind s to pb p = leading_behind (leading_closed pb) (zero_test_even (own_bytes d (extent_of kind)) s to refl)
-tested_level None kind s to pb p = wanted_level (Test to s) (width_of kind) p
+tested_level None kind s to pb p = leading_behind (leading_closed pb) p
 
 load_level : {cs : List (List ℕ)} {v : List ℕ} {a : List Line} (w : Wanted) (place : Place) (access : Access) → Closed cs v a v → Aimed w cs v (load_by w place access a)
 load_level {v = v} Value place access p = leading_closed (behind p (load_still place access v) (load_piece place access).plain)
-load_level {v = v} (Test to s) place access p =
-    tested_level (kept_at place access) (type_at access) s to p (behind p (load_still place access v) (load_piece place access).plain)
+load_level (Test to s) place access p = tested_level (kept_at place access) (type_at access) s to p (loaded_test_even (byte_field access) place access s to refl)
 
 converted_level : {cs : List (List ℕ)} {v : List ℕ} {a : List Line} (t : Ty) (from : IntType) → Closed cs v a v → Closed cs v (conversion_by Value true t from a) v
 converted_level {v = v} t from p = behind p (conversion_still t from v) (conversion_piece t from).plain

@@ -24,6 +24,7 @@ pub mod ParameterLaws
 pub mod CallMoves
 pub mod BankPieces
 pub mod ChangeClears
+pub mod FieldClears
 pub mod StepClears
 pub mod BankExprs
 pub mod EffectClears

@@ -1,5 +1,5 @@
 -- The lines of a light expression leave ptr2.
-use Rattle.std.proofs.Common.{◌≡◌, ℕ, ℤ, not, ◌+◌, ◌==◌, Bool, true, false, Option, Some, None, List, ◌++◌, refl}
+use Rattle.std.proofs.Common.{◌≡◌, ℕ, ℤ, not, ◌+◌, ◌/◌, ◌==◌, Bool, true, false, Option, Some, None, List, ◌++◌, refl}
 use Rattle.std.specs.Prelude.{nat_le, ◌&&◌, if◌then◌else◌, option_and_then}
 use Rattle.std.proofs.lemmas.Bool.{and_parts}
 use Rattle.c65_base.specs.declared.operators.BinaryOp.{BinaryOp}
@@ -18,7 +18,8 @@ use Rattle.c65_genload.specs.declared.places.Place.TheVariants as places
 use Rattle.c65_genload.specs.declared.places.Place.TheVariants.{Far}
 use Rattle.c65_genload.specs.declared.places.Access.{Access}
 use Rattle.c65_genload.specs.declared.places.Access.TheVariants.{Whole, Part}
-use Rattle.c65_genload.specs.Places.{extent_of}
+use Rattle.c65_genload.specs.declared.places.Extent.TheVariants.{One, Two}
+use Rattle.c65_genload.specs.Places.{byte_more, extent_of}
 use Rattle.c65_genload.specs.Loads.{load_code}
 use Rattle.c65_genload.specs.Conversions.{waiting}
 use Rattle.c65_gendirect.specs.declared.relation.Relation.{Relation}
@@ -31,13 +32,13 @@ use Rattle.c65_genexpr.specs.declared.wanted.Wanted.TheVariants.{Value}
 use Rattle.c65_genexpr.specs.Types.{kind_in, bare, offset_at, access_of, target_bytes}
 use Rattle.c65_genexpr.specs.Places.{moved, has_base, added_bytes, sum_has_base, sum_place, object_place, place_of, target_of, object_code, target_code}
 use Rattle.c65_genexpr.specs.Operands.{residue_of, constant_in, operands_of, computes}
-use Rattle.c65_genexpr.specs.Operating.{takes_bytes, is_light_form, is_light_place, is_signed_char, is_light_extent, is_light_load, is_light_step, constant_form, by_right, is_light_conversion, is_light_operator, is_light, reading_of, held_form, held_if, or_held, below_operand, operator_by}
+use Rattle.c65_genexpr.specs.Operating.{takes_bytes, is_light_form, is_light_place, is_signed_char, is_light_extent, is_light_access, is_light_load, is_light_step, constant_form, by_right, is_light_conversion, is_light_operator, is_light, reading_of, held_form, held_if, or_held, below_operand, operator_by}
 use Rattle.c65_genexpr.specs.Steps.{amount_of}
 use Rattle.c65_genexpr.specs.Uses.{by_relation, uses}
 use Rattle.c65_genexpr.specs.Code.{width_in, expr_code, node_code, base_code, pointer_base_code}
 use Rattle.c65_gen_law_stack.specs.Light.{LightLinesLeavePtr2}
 use Rattle.c65_gen_law_stack.proofs.StepSpares.{step_spares}
-use Rattle.c65_gen_law_stack.proofs.LightPieces.{Spares, spares_then, spares_if, narrow_spares, few_spares, spares_none, spares_label, number_spares, symbol_spares, offset_spares, load_spares, object_spares, conversion_spares, form_spares}
+use Rattle.c65_gen_law_stack.proofs.LightPieces.{Spares, spares_then, spares_if, narrow_spares, few_spares, first_spares, field_spares, spares_none, spares_label, number_spares, symbol_spares, offset_spares, load_spares, object_spares, conversion_spares, form_spares}
 
 target_spares : (code : List Line) (place : Place) → is_light_place place ≡ true → Spares (target_code place code)
 target_spares code (places.Far at) h = absurd cc
@@ -74,11 +75,6 @@ sum_told place None h = absurd cc
 sum_light : (place : Place) (n : Option ℕ) → is_light_place (sum_place place n) ≡ true → is_light_place place ≡ true
 sum_light place (Some n) h = moved_light place n h
 sum_light place None h = absurd cc
-
--- the first of two
-first_spares : {a : List Line} (b : List Line) (c : Bool) → c ≡ true → Spares a → Spares (if c then a else b)
-first_spares b true h p = p
-first_spares b false h p = absurd cc
 
 -- the base of a known place has labels alone
 mutual
@@ -145,7 +141,9 @@ loading_spares (places.Far at) (Whole kind) light h known far =
     let outer = and_parts (is_light_extent (extent_of kind)) (not (is_signed_char kind) && light) h in
     let inner = and_parts (not (is_signed_char kind)) light outer.1 in
     spares_then (far inner.1) (spares_then (few_spares (places.Far at) (extent_of kind) outer.0) (narrow_spares kind inner.0))
-loading_spares (places.Far at) (Part field) light h known far = absurd cc
+loading_spares (places.Far at) (Part g) light h known far =
+    let both = and_parts (is_light_access (Part g)) light h in
+    spares_then (far both.1) (field_spares (places.Far at) g both.0 (few_spares (places.Far (byte_more at (g.low / 8))) One refl) (few_spares (places.Far at) Two refl))
 loading_spares (places.Bank b) access light h known far = spares_then (known refl) (load_spares (places.Bank b) access refl h)
 loading_spares (places.Near at) access light h known far = spares_then (known refl) (load_spares (places.Near at) access refl h)
 loading_spares (places.Data s at) access light h known far = spares_then (known refl) (load_spares (places.Data s at) access refl h)

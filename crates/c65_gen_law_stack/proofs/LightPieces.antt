@@ -1,8 +1,8 @@
 -- The pieces of which the lines of light expressions are made leave ptr2.
-use Rattle.std.proofs.Common.{◌≡◌, ℕ, ◌+◌, ◌-◌, ◌%◌, ◌==◌, ◌&&◌, ◌||◌, Bool, true, false, not, Option, None, Some, List, [], ◌∷◌, ◌++◌, refl, ◌∙◌, ap, sym, subst}
-use Rattle.std.specs.Prelude.{if◌then◌else◌, nat_lt}
+use Rattle.std.proofs.Common.{◌≡◌, ℕ, zero, suc, ◌+◌, ◌-◌, ◌/◌, ◌%◌, replicate, ◌==◌, ◌&&◌, ◌||◌, Bool, true, false, not, Option, None, Some, List, [], ◌∷◌, ◌++◌, refl, ◌∙◌, ap, sym, subst}
+use Rattle.std.specs.Prelude.{if◌then◌else◌, nat_lt, nat_le}
 use Rattle.std.specs.List.{list_all}
-use Rattle.std.proofs.lemmas.Bool.{and_from, eqb-true}
+use Rattle.std.proofs.lemmas.Bool.{and_from, and_parts, eqb-true}
 use Rattle.std.proofs.lemmas.List.Folds.{list_all-append}
 use Rattle.c65_base.specs.declared.operators.BinaryOp.{BinaryOp}
 use Rattle.c65_base.specs.declared.operators.BinaryOp.TheVariants as ops
@@ -10,7 +10,7 @@ use Rattle.c65_ints.specs.declared.types.IntType.{IntType}
 use Rattle.c65_ints.specs.declared.types.IntType.TheVariants as ints
 use Rattle.c65_ctype.specs.Trees.{Ty, void, int, pointer, array, tag, function}
 use Rattle.c65_mach.specs.declared.rows.Op.{Op}
-use Rattle.c65_mach.specs.declared.rows.Op.TheVariants.{Lda, Ldy, Pha, Pla, Sbc, Sec, Sta, Stx, Tax, Tay, Txa, Tya}
+use Rattle.c65_mach.specs.declared.rows.Op.TheVariants.{And, Asl, Lsr, Rol, Ror, Lda, Ldy, Pha, Pla, Sbc, Sec, Sta, Stx, Tax, Tay, Txa, Tya}
 use Rattle.c65_mach.specs.declared.rows.Mode.{Mode}
 use Rattle.c65_mach.specs.declared.rows.Mode.TheVariants.{Absolute, Immediate, IndirectY, ZeroPage}
 use Rattle.c65_mach.specs.Step.{kind_of}
@@ -34,12 +34,15 @@ use Rattle.c65_genload.specs.declared.places.Place.{Place}
 use Rattle.c65_genload.specs.declared.places.Place.TheVariants as places
 use Rattle.c65_genload.specs.declared.places.Access.{Access}
 use Rattle.c65_genload.specs.declared.places.Access.TheVariants.{Whole, Part}
-use Rattle.c65_genload.specs.Words.{sp, sreg, tmp1, tmp2, implied, zero_page}
-use Rattle.c65_genload.specs.Places.{extent_of}
+use Rattle.c65_genload.specs.declared.places.Field.{Field}
+use Rattle.c65_genload.specs.Words.{sp, sreg, tmp1, tmp2, implied, shift_a, zero_page}
+use Rattle.c65_ints.specs.Ranges.{is_signed_of}
+use Rattle.c65_genload.specs.Places.{onward, extent_of}
+use Rattle.c65_genload.specs.Fields.{ones, is_in_byte, down_code, is_topmost, cut_code, spread_code, byte_value_code, rounds, is_astride, astride_code, wide_value_code}
 use Rattle.c65_genload.specs.Numbers.{first, second, third, fourth, number_code, add_word_code, add_long_code, divide_code}
 use Rattle.c65_genload.specs.Conversions.{widen_code, convert_to}
 use Rattle.c65_genload.specs.Addresses.{symbol_code, offset_code}
-use Rattle.c65_genload.specs.Loads.{bytes_code, load_code}
+use Rattle.c65_genload.specs.Loads.{bytes_code, field_load, load_code}
 use Rattle.c65_gendirect.specs.declared.bytes.OperandByte.{OperandByte}
 use Rattle.c65_gendirect.specs.declared.bytes.OperandByte.TheVariants.{Number, Low, High, Near, Data, Zero}
 use Rattle.c65_gendirect.specs.Bytes.{op_of, takes_y, aside, back}
@@ -120,9 +123,60 @@ few_spares (places.Bank at) extent h = bytes_spares (places.Bank at) extent refl
 few_spares (places.Near at) extent h = bytes_spares (places.Near at) extent refl
 few_spares (places.Data s at) extent h = bytes_spares (places.Data s at) extent refl
 
+repeated_spares : (n : ℕ) (op : Op) → Spares (shift_a op ∷ []) → Spares (replicate n (shift_a op))
+repeated_spares zero op one = spares_none
+repeated_spares (suc n) op one = spares_then one (repeated_spares n op one)
+
+down_spares : (low : ℕ) → Spares (down_code low)
+down_spares low =
+    let right : Spares (shift_a Lsr ∷ []) = record { all = refl } in
+    let left : Spares (shift_a Asl ∷ []) = record { all = refl } in
+    let round : Spares (shift_a Rol ∷ []) = record { all = refl } in
+    spares_if (nat_le low 4) (repeated_spares low Lsr right) (spares_then left (repeated_spares (8 - low) Rol round))
+
+cut_spares : (g : Field) → Spares (cut_code g)
+cut_spares g = spares_if (is_topmost g) spares_none (record { all = refl })
+
+unsigned_spares : (g : Field) (b : Bool) → not b ≡ true → Spares (if b then spread_code g.width ++ narrow_code ints.SChar else narrow_code ints.UChar)
+unsigned_spares g true h = absurd cc
+unsigned_spares g false h = record { all = refl }
+
+rounds_spares : (n : ℕ) (first next : Line) → Spares (first ∷ next ∷ []) → Spares (rounds n first next)
+rounds_spares n first next p =
+    spares_then (spares_if (nat_le 1 n) p spares_none) (spares_then (spares_if (nat_le 2 n) p spares_none) (spares_then (spares_if (nat_le 3 n) p spares_none) (spares_if (nat_le 4 n) p spares_none)))
+
+astride_spares : (g : Field) → Spares (astride_code g)
+astride_spares g =
+    let high : Spares (zero_page Stx tmp1 ∷ []) = record { all = refl } in
+    let back_to : Spares (zero_page Lda tmp1 ∷ []) = record { all = refl } in
+    let cut : Spares (value And (first (ones g.width)) ∷ narrow_code ints.UChar) = record { all = refl } in
+    spares_then high (spares_then
+    (spares_if (nat_le g.low 4) (rounds_spares g.low (zero_page Lsr tmp1) (shift_a Ror) (record { all = refl })) (spares_then (rounds_spares (8 - g.low) (shift_a Asl) (zero_page Rol tmp1) (record { all = refl })) back_to))
+    cut)
+
+-- the first of two
+pub first_spares : {a : List Line} (b : List Line) (c : Bool) → c ≡ true → Spares a → Spares (if c then a else b)
+first_spares b true h p = p
+first_spares b false h p = absurd cc
+
+-- a bit-field without a sign that is brought down without a routine
+pub field_spares : (place : Place) (g : Field) → is_light_access (Part g) ≡ true → Spares (bytes_code (onward place (g.low / 8)) One) → Spares (bytes_code place Two) → Spares (field_load place g)
+field_spares place g k p q = go (is_in_byte g) (is_astride g) (and_parts (not (is_signed_of g.kind)) (is_in_byte g || is_astride g) k).1
+  where
+    go : (c d : Bool) → c || d ≡ true → Spares (if c then bytes_code (onward place (g.low / 8)) One ++ byte_value_code g else bytes_code place Two ++ (if d then astride_code g else wide_value_code g))
+    go true d h = spares_then p (spares_then (down_spares (g.low % 8)) (spares_then (cut_spares g) (unsigned_spares g (is_signed_of g.kind) (and_parts (not (is_signed_of g.kind)) (is_in_byte g || is_astride g) k).0)))
+    go false true h = spares_then q (astride_spares g)
+    go false false h = absurd cc
+
+onward_light : (place : Place) (n : ℕ) → is_light_place place ≡ true → is_light_place (onward place n) ≡ true
+onward_light (places.Far at) n h = absurd cc
+onward_light (places.Bank b) n h = refl
+onward_light (places.Near at) n h = refl
+onward_light (places.Data s at) n h = refl
+
 pub load_spares : (place : Place) (access : Access) → is_light_place place ≡ true → is_light_access access ≡ true → Spares (load_code place access)
 load_spares place (Whole kind) h k = spares_then (bytes_spares place (extent_of kind) h) (narrow_spares kind k)
-load_spares place (Part field) h k = absurd cc
+load_spares place (Part g) h k = field_spares place g k (bytes_spares (onward place (g.low / 8)) One (onward_light place (g.low / 8) h)) (bytes_spares place Two h)
 
 soft_spares : (raised : Bool) (pushed at stacked : ℕ) → is_light_place (soft_place raised at) ≡ true → Spares (soft_code raised pushed at stacked)
 soft_spares true pushed at stacked h = absurd cc
@@ -200,14 +254,14 @@ carry_spares ops.Add = record { all = refl }
 carry_spares ops.Sub = record { all = refl }
 carry_spares _ = spares_none
 
-first_spares : (op : BinaryOp) (low : OperandByte) → Spares (first_byte_code op low)
-first_spares op low = spares_then (carry_spares op) (byte_spares (instruction op) low (instruction_reads op))
+first_byte_spares : (op : BinaryOp) (low : OperandByte) → Spares (first_byte_code op low)
+first_byte_spares op low = spares_then (carry_spares op) (byte_spares (instruction op) low (instruction_reads op))
 
 both_spares : (op : BinaryOp) (low high : OperandByte) → Spares (both_bytes_code op low high)
 both_spares op low high =
     let over : Spares (implied Txa ∷ []) = record { all = refl } in
     let back_to : Spares (implied Tax ∷ []) = record { all = refl } in
-    spares_then (first_spares op low) (spares_then (aside_spares high) (spares_then over (spares_then (byte_spares (instruction op) high (instruction_reads op)) (spares_then back_to (back_spares high)))))
+    spares_then (first_byte_spares op low) (spares_then (aside_spares high) (spares_then over (spares_then (byte_spares (instruction op) high (instruction_reads op)) (spares_then back_to (back_spares high)))))
 
 onward_spares : (op : BinaryOp) (fresh : ℕ) → Spares (onward_code op fresh)
 onward_spares ops.Add fresh = record { all = refl }
@@ -222,8 +276,8 @@ end_spares _ fresh = spares_none
 
 word_spares : (op : BinaryOp) (low high : OperandByte) (fresh : ℕ) → Spares (word_code op low high fresh)
 word_spares op low high fresh =
-    spares_if (is_number 0 high) (spares_then (first_spares op low) (onward_spares op fresh))
-    (spares_if (is_and op && is_number 255 high) (first_spares op low) (spares_then (both_spares op low high) (end_spares op fresh)))
+    spares_if (is_number 0 high) (spares_then (first_byte_spares op low) (onward_spares op fresh))
+    (spares_if (is_and op && is_number 255 high) (first_byte_spares op low) (spares_then (both_spares op low high) (end_spares op fresh)))
 
 added_spares : (n fresh : ℕ) → Spares (add_number_code n fresh)
 added_spares n fresh =

@@ -6,5 +6,5 @@ mod spots;
 mod stepping;
 
 pub use changes::{Change, put_change, put_fill};
-pub use spots::{Spot, Target, all_counted, put_point, target_of};
+pub use spots::{Spot, Target, all_counted, put_again, put_point, put_reach, spot_at, target_of};
 pub use stepping::{is_post, put_stepped, step_op};

@@ -32,8 +32,8 @@ pub enum Target {
     Word(Spot, Spot),
 }
 
-// So far behind the first byte of a place; of one that is anywhere the address is in ptr1.
-fn spot_at(place: Place, index: u8) -> Spot
+/// So far behind the first byte of a place; of one that is anywhere the address is in ptr1.
+pub fn spot_at(place: Place, index: u8) -> Spot
     ensures { result ≡ spot_at place index }
 {
     match place {

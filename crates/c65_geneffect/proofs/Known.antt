@@ -7,7 +7,7 @@ use Rattle.c65_genload.specs.declared.places.Place.{Place}
 use Rattle.c65_genload.specs.declared.places.Place.TheVariants as places
 use Rattle.c65_genload.specs.declared.places.Access.{Access}
 use Rattle.c65_genexpr.specs.Operands.{constant_in}
-use Rattle.c65_genexpr.specs.Operating.{takes_bytes}
+use Rattle.c65_genexpr.specs.Operating.{takes_bytes, is_light}
 use Rattle.c65_genexpr.specs.Direct.{is_pure}
 use Rattle.c65_genexpr.specs.Uses.{uses}
 use Rattle.c65_genchange.specs.declared.spots.Target.{Target}
@@ -16,6 +16,11 @@ use Rattle.c65_geneffect.specs.declared.changing.Changing.{Changing}
 use Rattle.c65_geneffect.specs.declared.changing.Changing.TheVariants.{Loaded, Otherwise}
 use Rattle.c65_geneffect.specs.declared.changing.Fill.{Fill}
 use Rattle.c65_genchange.specs.Spots.{target_of}
+use Rattle.c65_genframe.specs.Frames.{Framed}
+use Rattle.c65_genload.specs.declared.places.Field.{Field}
+use Rattle.c65_genload.specs.declared.places.Access.TheVariants.{Whole, Part}
+use Rattle.c65_genload.specs.Fields.{is_in_byte}
+use Rattle.c65_geneffect.specs.Setting.{setting_at, setting_by, setting_of, SetsFree}
 use Rattle.c65_geneffect.specs.Changing.{loaded_by, fixed_or, changing_at, changing_of, number_in, fill_by, filling_at, filling_of, ChangesFree, FillsFree}
 
 -- ---- assignments with an operator
@@ -69,3 +74,23 @@ fills_free (places.Far at) access b = tt
 fills_free (places.Bank x) access b = filled_free (places.Bank x) access (number_in b) b (number_free b)
 fills_free (places.Near at) access b = filled_free (places.Near at) access (number_in b) b (number_free b)
 fills_free (places.Data s at) access b = filled_free (places.Data s at) access (number_in b) b (number_free b)
+
+-- ---- `=` on a bit-field
+
+value_set_free : (place : Place) (g : Field) (light : Bool) (b : Typed) → SetsFree (setting_at place g None light) b
+value_set_free (places.Far at) g true b = tt
+value_set_free (places.Far at) g false b = tt
+value_set_free (places.Bank x) g light b = tt
+value_set_free (places.Near at) g light b = tt
+value_set_free (places.Data s at) g light b = tt
+
+field_set_free : (place : Place) (g : Field) (n : Option ℕ) (near : Bool) (b : Typed) → ((m : ℕ) → n ≡ Some m → uses None b ≡ 0) → SetsFree (setting_at place g n near) b
+field_set_free place g None near b k = value_set_free place g near b
+field_set_free place g (Some n) near b k = k n refl
+
+set_free : (access : Access) (place : Place) (n : Option ℕ) (light : Bool) (b : Typed) → ((m : ℕ) → n ≡ Some m → uses None b ≡ 0) → SetsFree (setting_by access place n light) b
+set_free (Whole kind) place n light b k = tt
+set_free (Part g) place n light b k = field_set_free place g n (is_in_byte g && light) b k
+
+pub sets_free : (f : Framed) (pushed : ℕ) (place : Place) (access : Access) (b : Typed) → SetsFree (setting_of f pushed place access b) b
+sets_free f pushed place access b = set_free access place (number_in b) (is_light f pushed b) b (number_free b)

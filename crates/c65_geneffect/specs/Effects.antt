@@ -22,6 +22,7 @@ use Rattle.c65_geneffect.specs.declared.changing.Fill.{Fill}
 use Rattle.c65_genchange.specs.Spots.{point_code}
 use Rattle.c65_genchange.specs.Changes.{change_code, fill_code}
 use Rattle.c65_geneffect.specs.Changing.{in_front, stepping_of, changing_of, filling_of}
+use Rattle.c65_geneffect.specs.Setting.{setting_of, below_value, set_by}
 
 -- a label of its own, which is placed behind the lines where no form needs it
 abbrev pub closed : ℕ → List Line → List Line
@@ -53,6 +54,13 @@ abbrev pub filled_or : Option Fill → List Line → List Line → List Line
 filled_or (Some fill) base whole = base ++ fill_code fill.byte fill.low fill.high
 filled_or None base whole = whole
 
+-- a bit-field is set, or else the whole is had for its value
+abbrev pub set_code : Framed → ℕ → ℕ → Typed → Typed → List Line → List Line
+set_code f pushed fresh a b whole =
+    let place = place_of f pushed a in
+    let how = setting_of f pushed place (access_of (types_of f.parts.types) a) b in
+    set_by how place (base_code f pushed fresh a) (expr_code f (below_value how pushed place) (fresh + uses None a) Value b) whole
+
 abbrev pub step_effect : Framed → ℕ → ℕ → StepKind → Typed → List Line
 step_effect f pushed fresh how e =
     let place = place_of f pushed e in
@@ -65,7 +73,11 @@ abbrev mutual
   pub node_effect : Framed → ℕ → ℕ → QTy → Node → List Line
   node_effect f pushed fresh t (convert e) = effect_code f pushed fresh e
   node_effect f pushed fresh t (comma a b) = effect_code f pushed fresh a ++ effect_code f pushed (fresh + effect_uses a) b
-  node_effect f pushed fresh t (assign a b) = filled_or (filling_of (place_of f pushed a) (access_of (types_of f.parts.types) a) b) (base_code f pushed fresh a) (node_code f pushed fresh Value t (assign a b))
+  node_effect f pushed fresh t (assign a b) =
+      let place = place_of f pushed a in
+      let access = access_of (types_of f.parts.types) a in
+      let base = base_code f pushed fresh a in
+      filled_or (filling_of place access b) base (set_code f pushed fresh a b (node_code f pushed fresh Value t (assign a b)))
   node_effect f pushed fresh t (assign_op op k a b) = changed_code f pushed fresh op 1 a b (node_code f pushed (fresh + 1) Value t (assign_op op k a b))
   node_effect f pushed fresh t (assign_step op a b) = changed_code f pushed fresh op (target_bytes f (bare a)) a b (node_code f pushed (fresh + 1) Value t (assign_step op a b))
   node_effect f pushed fresh t (step how e) = step_effect f pushed fresh how e

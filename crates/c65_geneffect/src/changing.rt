@@ -133,8 +133,8 @@ pub fn changing_of(
     form_of(op, size, frame, pushed, access, a, b)
 }
 
-// A constant, or Null.
-fn number_in(e: &TExpr) -> Option<u32>
+/// A constant, or Null.
+pub fn number_in(e: &TExpr) -> Option<u32>
     ensures { result ≡ number_in (typed_of e.now) }
 {
     match &e.kind {

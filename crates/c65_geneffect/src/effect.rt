@@ -9,18 +9,22 @@ ghost use Rattle.c65_genexpr.specs.Places.{place_of};
 ghost use Rattle.c65_genexpr.specs.Types.{access_of};
 ghost use Rattle.c65_genexpr.specs.Uses.{uses};
 ghost use Rattle.c65_geneffect.specs.Changing.{filling_of};
-ghost use Rattle.c65_geneffect.specs.Effects.{changed_code, filled_or, step_effect, effect_code, effect_uses};
+ghost use Rattle.c65_geneffect.specs.Effects.{changed_code, filled_or, set_code, step_effect, effect_code, effect_uses};
 
 use crate::changing::{Changing, changing_of, filling_of, in_front, stepping_of};
+use crate::setting::{Setting, setting_of};
 use c65_base::{BinaryOp, StepKind};
 use c65_code::Draft;
 use c65_code::Line::Label;
 use c65_csem::{TExpr, TKind};
 use c65_genchange::{put_change, put_fill, put_point};
 use c65_genexpr::{
-    Wanted, access_of, amount_of, leave_out, place_of, put_base, put_expr, put_step, target_bytes,
+    PTR2, Wanted, access_of, amount_of, leave_out, more, place_of, put_base, put_expr, put_keep,
+    put_step, target_bytes,
 };
+use c65_genfield::{put_behind, put_set, put_set_number};
 use c65_genframe::Frame;
+use c65_genload::{held, hold};
 use c65_genwide::{next_label, put};
 use std::alloc::AllocError;
 
@@ -63,7 +67,7 @@ fn put_filled(
     draft: &mut Draft,
 ) -> Result<(), AllocError>
     requires { uses None (typed_of e.now) ≡ uses None (typed_of a.now) + uses None (typed_of b.now) }
-    ensures lines { OnOk result (draft.new ≡ grown draft.old (filled_or (filling_of (place_of frame.now pushed (typed_of a.now)) (access_of (types_of frame.now.parts.types) (typed_of a.now)) (typed_of b.now)) (base_code frame.now pushed draft.old.labels (typed_of a.now)) (expr_code frame.now pushed draft.old.labels Value (typed_of e.now))) (uses None (typed_of e.now))) }
+    ensures lines { OnOk result (draft.new ≡ grown draft.old (filled_or (filling_of (place_of frame.now pushed (typed_of a.now)) (access_of (types_of frame.now.parts.types) (typed_of a.now)) (typed_of b.now)) (base_code frame.now pushed draft.old.labels (typed_of a.now)) (set_code frame.now pushed draft.old.labels (typed_of a.now) (typed_of b.now) (expr_code frame.now pushed draft.old.labels Value (typed_of e.now)))) (uses None (typed_of e.now))) }
     ensures kept { OnErr result (Keeps draft.old draft.new) }
 {
     let access = access_of(&frame.parts().types, a);
@@ -73,7 +77,46 @@ fn put_filled(
             leave_out(b, Wanted::Value, draft)?;
             put_fill(fill.byte, fill.low, fill.high, draft)
         }
-        None => put_expr(e, frame, pushed, draft),
+        None => put_field_set(e, a, b, frame, pushed, draft),
+    }
+}
+
+// `=` on a bit-field, or else for its value
+#[tactic(auto, using(c65_genwide::proofs::Kept::kept_then, c65_genwide::proofs::Kept::kept_last, c65_genwide::proofs::Kept::grown_then, c65_genwide::proofs::Kept::grown_last, c65_genwide::proofs::Kept::label_then, c65_genwide::proofs::Kept::label_last, c65_genwide::proofs::Kept::refused_then))]
+fn put_field_set(
+    e: &TExpr,
+    a: &TExpr,
+    b: &TExpr,
+    frame: &Frame<'_>,
+    pushed: u16,
+    draft: &mut Draft,
+) -> Result<(), AllocError>
+    requires { uses None (typed_of e.now) ≡ uses None (typed_of a.now) + uses None (typed_of b.now) }
+    ensures lines { OnOk result (draft.new ≡ grown draft.old (set_code frame.now pushed draft.old.labels (typed_of a.now) (typed_of b.now) (expr_code frame.now pushed draft.old.labels Value (typed_of e.now))) (uses None (typed_of e.now))) }
+    ensures kept { OnErr result (Keeps draft.old draft.new) }
+{
+    let place = place_of(frame, pushed, a);
+    let access = access_of(&frame.parts().types, a);
+    match setting_of(frame, pushed, access, a, b) {
+        Setting::Number(field, number) => {
+            put_base(a, frame, pushed, draft)?;
+            leave_out(b, Wanted::Value, draft)?;
+            put_point(place, draft)?;
+            put_set_number(place, field, number, draft)
+        }
+        Setting::Held(field, at) => {
+            put_base(a, frame, pushed, draft)?;
+            put_keep(draft)?;
+            put_expr(b, frame, pushed, draft)?;
+            put_behind(PTR2, at, field, draft)
+        }
+        Setting::Loaded(field) => {
+            put_base(a, frame, pushed, draft)?;
+            hold(place, draft)?;
+            put_expr(b, frame, more(pushed, held(place)), draft)?;
+            put_set(place, field, draft)
+        }
+        Setting::Otherwise => put_expr(e, frame, pushed, draft),
     }
 }
 

@@ -3,5 +3,6 @@
 
 mod changing;
 mod effect;
+mod setting;
 
 pub use effect::put_effect;

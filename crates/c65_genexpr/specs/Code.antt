@@ -43,7 +43,9 @@ use Rattle.c65_genexpr.specs.Places.{more, has_base, added_bytes, sum_has_base, 
 use Rattle.c65_genexpr.specs.Wanted.{decided_code, wanted_by, handed, wanted, sense, aimed, inner, truth_by, is_straight, way, way_labels, joined}
 use Rattle.c65_genexpr.specs.Spills.{spill_code}
 use Rattle.c65_genexpr.specs.Operands.{residue_of, constant_in, operands_of, computes, unary_code, same_truth, conversion_by}
+use Rattle.c65_genfield.specs.Bits.{byte_field}
 use Rattle.c65_genexpr.specs.Direct.{kept_at, own_bytes}
+use Rattle.c65_genexpr.specs.Fields.{loaded_test}
 use Rattle.c65_genexpr.specs.Comparing.{relation_by, tested_by, comparing_of, below_side, comparison_by}
 use Rattle.c65_genexpr.specs.Operating.{operating_of, below_operand, operator_by}
 use Rattle.c65_genexpr.specs.Storing.{storing_of, below_value, assigned_by}
@@ -61,15 +63,15 @@ abbrev pub constant_code : Wanted → Width → ℕ → List Line
 constant_code Value width n = number_code width n
 constant_code (Test to s) width n = decided_code (not (n == 0)) s to
 
--- a number that is kept at a known place is tested where it lies, behind the lines of its base; else it is loaded
+-- a number that is kept at a known place is tested where it lies, behind the lines of its base; else what is loaded is tested
 abbrev pub tested_load : Option Direct → IntType → Bool → ℕ → List Line → List Line → List Line
-tested_load (Some d) kind s to base lines = base ++ zero_test_code (own_bytes d (extent_of kind)) s to
-tested_load None kind s to base lines = wanted (Test to s) (width_of kind) lines
+tested_load (Some d) kind s to base test = base ++ zero_test_code (own_bytes d (extent_of kind)) s to
+tested_load None kind s to base test = base ++ test
 
 -- behind the base of a place
 abbrev pub load_by : Wanted → Place → Access → List Line → List Line
 load_by Value place access base = base ++ load_code place access
-load_by (Test to s) place access base = tested_load (kept_at place access) (type_in access) s to base (base ++ load_code place access)
+load_by (Test to s) place access base = tested_load (kept_at place access) (type_in access) s to base (loaded_test (byte_field access) place access s to)
 
 -- the bytes that wait for the right side of a compound assignment
 abbrev pub behind_open : Framed → ℕ → Operands → Typed → ℕ

@@ -3,6 +3,7 @@ pub mod Calls
 pub mod Code
 pub mod Comparing
 pub mod Direct
+pub mod Fields
 pub mod Held
 pub mod Leaving
 pub mod Operands

@@ -5,6 +5,7 @@ use Rattle.c65_base.specs.declared.operators.BinaryOp.{BinaryOp}
 use Rattle.c65_base.specs.declared.operators.BinaryOp.TheVariants.{Add, Sub, BitAnd, BitXor, BitOr}
 use Rattle.c65_ints.specs.declared.types.IntType.{IntType}
 use Rattle.c65_ints.specs.declared.types.IntType.TheVariants.{SChar, UInt}
+use Rattle.c65_ints.specs.Ranges.{is_signed_of}
 use Rattle.c65_ctype.specs.Trees.{Ty, void, type_in}
 use Rattle.c65_ctype.specs.Views.{types_of}
 use Rattle.c65_csem.specs.Trees.{Typed, node, constant, null, literal, object, func, deref, member, load, address, decay, convert, binary, step}
@@ -22,6 +23,7 @@ use Rattle.c65_genload.specs.declared.places.Extent.TheVariants.{One, Two}
 use Rattle.c65_genload.specs.declared.places.Access.{Access}
 use Rattle.c65_genload.specs.declared.places.Access.TheVariants.{Whole, Part}
 use Rattle.c65_genload.specs.Places.{extent_of}
+use Rattle.c65_genload.specs.Fields.{is_in_byte, is_astride}
 use Rattle.c65_genload.specs.Conversions.{size_of, push_code}
 use Rattle.c65_gendirect.specs.declared.bytes.OperandByte.{OperandByte}
 use Rattle.c65_gendirect.specs.declared.direct.Direct.{Direct}
@@ -164,7 +166,7 @@ is_light_place place = true
 
 abbrev pub is_light_access : Access → Bool
 is_light_access (Whole kind) = not (is_signed_char kind)
-is_light_access (Part field) = false
+is_light_access (Part g) = not (is_signed_of g.kind) && (is_in_byte g || is_astride g)
 
 -- one byte or two: they are read behind an address by Y, and changed where they lie
 abbrev pub is_light_extent : Extent → Bool
@@ -175,7 +177,7 @@ is_light_extent extent = false
 -- a load; of a place that is anywhere by whether the address is light
 abbrev pub is_light_load : Place → Access → Bool → Bool
 is_light_load (Far at) (Whole kind) base = is_light_extent (extent_of kind) && (not (is_signed_char kind) && base)
-is_light_load (Far at) (Part field) base = false
+is_light_load (Far at) (Part g) base = is_light_access (Part g) && base
 is_light_load place access base = is_light_access access
 
 -- what is changed lies outside ptr2: regbank has six bytes

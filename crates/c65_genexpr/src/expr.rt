@@ -30,6 +30,7 @@ use crate::comparing::tested_by;
 use crate::constants::residue_of;
 use crate::direct::kept_at;
 use crate::direct::put_own_test;
+use crate::fields::put_loaded_test;
 use crate::held::held_word;
 use crate::held::put_byte_behind;
 use crate::held::put_keep;
@@ -468,8 +469,7 @@ fn put_load_test(
         }
         None => {
             put_base(a, frame, pushed, draft)?;
-            load(place, access, draft)?;
-            put_value_test(width_of(value_type(access)), sense, to, draft)
+            put_loaded_test(place, access, sense, to, draft)
         }
     }
 }

@@ -13,7 +13,8 @@ use c65_mach::Mode::{Immediate, Implied, IndirectY, ZeroPage};
 use c65_mach::Op::{Ldy, Pha, Pla, Sta, Stx, Txa};
 use std::alloc::AllocError;
 
-const PTR2: u8 = 10;
+/// Where the word waits.
+pub const PTR2: u8 = 10;
 
 /// The low byte of the word that waits.
 pub fn held_low() -> OperandByte

@@ -13,7 +13,7 @@ use c65_code::Width;
 use c65_csem::{TExpr, TKind};
 use c65_ctype::CType;
 use c65_genframe::Frame;
-use c65_genload::{Access, Extent, Place, bytes_of, extent_of};
+use c65_genload::{Access, Extent, Place, bytes_of, extent_of, is_astride, is_in_byte};
 use c65_genwide::width_of;
 use c65_ints::IntType;
 
@@ -67,7 +67,9 @@ fn is_light_access(access: Access) -> bool
 {
     match access {
         Access::Whole(kind) => !is_signed_char(kind),
-        Access::Part(_) => false,
+        Access::Part(field) => {
+            !field.kind.is_signed() && (is_in_byte(field) || is_astride(field))
+        }
     }
 }
 
@@ -89,7 +91,7 @@ fn is_light_load(place: Place, access: Access, base: bool) -> bool
         (Place::Far(_), Access::Whole(kind)) => {
             is_light_extent(extent_of(kind)) && (!is_signed_char(kind) && base)
         }
-        (Place::Far(_), Access::Part(_)) => false,
+        (Place::Far(_), Access::Part(_)) => is_light_access(access) && base,
         (Place::Bank(_) | Place::Near(_) | Place::Data(_, _), _) => is_light_access(access),
     }
 }

@@ -1,14 +1,14 @@
 -- Bit-fields in their units of 16 bits (C90 6.5.2.1).
-use Rattle.std.specs.Prelude.{ℕ, Bool, ◌+◌, ◌-◌, ◌*◌, ◌/◌, ◌%◌, ◌^◌, ◌==◌, ◌&&◌, nat_lt, nat_le, min, if◌then◌else◌, List, [], ◌∷◌, ◌++◌, replicate}
+use Rattle.std.specs.Prelude.{ℕ, Bool, ◌+◌, ◌-◌, ◌*◌, ◌/◌, ◌%◌, ◌^◌, ◌==◌, not, ◌&&◌, nat_lt, nat_le, min, if◌then◌else◌, List, [], ◌∷◌, ◌++◌, replicate}
 use Rattle.c65_ints.specs.declared.types.IntType.TheVariants.{SChar, UChar}
 use Rattle.c65_ints.specs.Ranges.{is_signed_of}
-use Rattle.c65_mach.specs.declared.rows.Op.TheVariants.{And, Asl, Eor, Lsr, Rol, Ror, Sbc, Sec}
+use Rattle.c65_mach.specs.declared.rows.Op.TheVariants.{And, Asl, Eor, Lda, Lsr, Rol, Ror, Sbc, Sec, Stx}
 use Rattle.c65_code.specs.declared.line.Line.{Line}
 use Rattle.c65_code.specs.declared.routine.TosOp.TheVariants.{Shl, Shr, Asr}
 use Rattle.c65_genwide.specs.Lines.{value}
 use Rattle.c65_genwide.specs.Wide.{narrow_code}
 use Rattle.c65_genload.specs.declared.places.Field.{Field}
-use Rattle.c65_genload.specs.Words.{implied, shift_a}
+use Rattle.c65_genload.specs.Words.{tmp1, implied, shift_a, zero_page}
 use Rattle.c65_genload.specs.Numbers.{first, mask_code, shift_code}
 
 -- so many ones, at most 16
@@ -64,9 +64,31 @@ byte_value_code f = down_code (f.low % 8) ++ (cut_code f ++ signed_code f)
 abbrev pub mask_unless_all : ℕ → List Line
 mask_unless_all n = if n == 65535 then [] else mask_code n
 
+-- two lines, or none
+abbrev pub once : Bool → Line → Line → List Line
+once b first next = if b then first ∷ next ∷ [] else []
+
+-- both lines so many times, at most four
+abbrev pub rounds : ℕ → Line → Line → List Line
+rounds n first next = once (nat_le 1 n) first next ++ (once (nat_le 2 n) first next ++ (once (nat_le 3 n) first next ++ once (nat_le 4 n) first next))
+
+-- the bit at a number of A and tmp1, its high byte, comes to the lowest of A: to the right, or by the left into tmp1
+abbrev pub both_down_code : ℕ → List Line
+both_down_code low = if nat_le low 4 then rounds low (zero_page Lsr tmp1) (shift_a Ror) else rounds (8 - low) (shift_a Asl) (zero_page Rol tmp1) ++ zero_page Lda tmp1 ∷ []
+
+-- a field without a sign that has room in one byte, and begins in the low one of the unit
+abbrev pub is_astride : Field → Bool
+is_astride f = not (is_signed_of f.kind) && (nat_lt f.low 8 && nat_le f.width 8)
+
+abbrev pub astride_code : Field → List Line
+astride_code f = zero_page Stx tmp1 ∷ (both_down_code f.low ++ (value And (first (ones f.width)) ∷ narrow_code UChar))
+
 -- from the unit in AX to the value: a signed one goes up to the top and down again
+abbrev pub wide_value_code : Field → List Line
+wide_value_code f = if is_signed_of f.kind then shift_code Shl (16 - min (f.low + f.width) 16) ++ shift_code Asr (16 - min f.width 16) else shift_code Shr f.low ++ mask_unless_all (ones f.width)
+
 abbrev pub extract_code : Field → List Line
-extract_code f = if is_signed_of f.kind then shift_code Shl (16 - min (f.low + f.width) 16) ++ shift_code Asr (16 - min f.width 16) else shift_code Shr f.low ++ mask_unless_all (ones f.width)
+extract_code f = if is_astride f then astride_code f else wide_value_code f
 
 -- from the lowest bits of AX to the value
 abbrev pub lowest_code : Field → List Line

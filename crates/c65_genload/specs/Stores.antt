@@ -72,8 +72,11 @@ under_code (Far at) = value Ldy 3 ∷ call LdAxYSp ∷ call LdAxi ∷ []
 under_code place = bytes_code place Two
 
 -- the other bits of the unit stay
+abbrev pub unit_set : Place → Field → List Line
+unit_set place f = aligned_code f ++ (call PushAx ∷ (under_code place ++ (mask_code (others f) ++ (call (Tos Or Ax) ∷ bytes_store place Two))))
+
 abbrev pub unit_store : Place → Field → List Line
-unit_store place f = aligned_code f ++ (call PushAx ∷ (under_code place ++ (mask_code (others f) ++ (call (Tos Or Ax) ∷ (bytes_store place Two ++ extract_code f)))))
+unit_store place f = unit_set place f ++ extract_code f
 
 -- the address that waits comes into ptr1, and A stays
 abbrev pub popped_code : List Line

@@ -1,18 +1,19 @@
 // Bit-fields in their units of 16 bits (C90 6.5.2.1).
-ghost use Rattle.std.specs.Prelude.{◌≡◌, ◌<◌, OnOk, OnErr};
+ghost use Rattle.std.specs.Prelude.{◌≡◌, ◌<◌, IsTrue, OnOk, OnErr};
 ghost use Rattle.c65_genwide.specs.Lines.{with_lines, Keeps};
-ghost use Rattle.c65_genload.specs.Fields.{ones, others, is_in_byte, own_bits, down_code, up_code, is_topmost, cut_code, sign_bit, spread_code, signed_code, byte_value_code, mask_unless_all, extract_code, range_code, aligned_code, is_unit};
+ghost use Rattle.c65_genload.specs.Fields.{ones, others, is_in_byte, own_bits, down_code, up_code, is_topmost, cut_code, sign_bit, spread_code, signed_code, byte_value_code, mask_unless_all, once, rounds, both_down_code, is_astride, astride_code, wide_value_code, extract_code, range_code, aligned_code, is_unit};
 
 use crate::numbers::{first, mask, shift};
 use crate::places::Field;
 use crate::times::{put_times, shift_a};
+use crate::zero_page::TMP1;
 use c65_code::Line::Do;
-use c65_code::Operand::{Byte, Nothing};
-use c65_code::{Draft, TosOp};
+use c65_code::Operand::{Byte, Nothing, Zero};
+use c65_code::{Draft, Line, TosOp};
 use c65_genwide::{narrow, put};
 use c65_ints::IntType;
-use c65_mach::Mode::{Immediate, Implied};
-use c65_mach::Op::{And, Asl, Eor, Lsr, Rol, Ror, Sbc, Sec};
+use c65_mach::Mode::{Immediate, Implied, ZeroPage};
+use c65_mach::Op::{And, Asl, Eor, Lda, Lsr, Rol, Ror, Sbc, Sec, Stx};
 use std::alloc::AllocError;
 
 // So many ones, at most 16.
@@ -158,9 +159,79 @@ fn mask_unless_all(number: u32, draft: &mut Draft) -> Result<(), AllocError>
     }
 }
 
+// Two lines, or none.
+fn put_once(wanted: bool, first: Line, next: Line, draft: &mut Draft) -> Result<(), AllocError>
+    ensures lines { OnOk result (draft.new ≡ with_lines draft.old (once wanted first next)) }
+    ensures kept { OnErr result (Keeps draft.old draft.new) }
+{
+    if wanted {
+        put(draft, &[first, next])
+    } else {
+        put(draft, &[])
+    }
+}
+
+// Both lines so many times, at most four.
+fn put_rounds(count: u8, first: Line, next: Line, draft: &mut Draft) -> Result<(), AllocError>
+    ensures lines { OnOk result (draft.new ≡ with_lines draft.old (rounds count first next)) }
+    ensures kept { OnErr result (Keeps draft.old draft.new) }
+{
+    put_once(1 <= count, first, next, draft)?;
+    put_once(2 <= count, first, next, draft)?;
+    put_once(3 <= count, first, next, draft)?;
+    put_once(4 <= count, first, next, draft)
+}
+
+// The bit at this number, at most 7, of A and tmp1, its high byte, comes to the lowest of A: to the right, or by the
+// left into tmp1.
+fn put_both_down(low: u8, draft: &mut Draft) -> Result<(), AllocError>
+    requires { low < 8 }
+    ensures lines { OnOk result (draft.new ≡ with_lines draft.old (both_down_code low)) }
+    ensures kept { OnErr result (Keeps draft.old draft.new) }
+{
+    if low <= 4 {
+        put_rounds(low, Do(Lsr, ZeroPage, Zero(TMP1)), shift_a(Ror), draft)
+    } else {
+        put_rounds(8 - low, shift_a(Asl), Do(Rol, ZeroPage, Zero(TMP1)), draft)?;
+        put(draft, &[Do(Lda, ZeroPage, Zero(TMP1))])
+    }
+}
+
+/// Whether a field without a sign has room in one byte, and begins in the low one of its unit.
+pub fn is_astride(field: Field) -> bool
+    ensures exact { result ≡ is_astride field }
+    ensures low { IsTrue result → field.low < 8 }
+{
+    !field.kind.is_signed() && field.low < 8 && field.width <= 8
+}
+
+// AX is a unit, and becomes the value of such a field in it.
+fn put_astride(field: Field, draft: &mut Draft) -> Result<(), AllocError>
+    requires { field.low < 8 }
+    ensures lines { OnOk result (draft.new ≡ with_lines draft.old (astride_code field)) }
+    ensures kept { OnErr result (Keeps draft.old draft.new) }
+{
+    put(draft, &[Do(Stx, ZeroPage, Zero(TMP1))])?;
+    put_both_down(field.low, draft)?;
+    put(draft, &[Do(And, Immediate, Byte(first(ones(field.width))))])?;
+    narrow(IntType::UChar, draft)
+}
+
 /// AX is a unit, and becomes the value of the field in it.
 pub fn extract(field: Field, draft: &mut Draft) -> Result<(), AllocError>
     ensures lines { OnOk result (draft.new ≡ with_lines draft.old (extract_code field)) }
+    ensures kept { OnErr result (Keeps draft.old draft.new) }
+{
+    if is_astride(field) {
+        put_astride(field, draft)
+    } else {
+        put_wide_value(field, draft)
+    }
+}
+
+// The same of any other field: a signed one goes up to the top and down again.
+fn put_wide_value(field: Field, draft: &mut Draft) -> Result<(), AllocError>
+    ensures lines { OnOk result (draft.new ≡ with_lines draft.old (wide_value_code field)) }
     ensures kept { OnErr result (Keeps draft.old draft.new) }
 {
     if field.kind.is_signed() {

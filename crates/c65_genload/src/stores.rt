@@ -1,7 +1,7 @@
 // Values put where they are kept (C90 6.3.16).
 ghost use Rattle.std.specs.Prelude.{◌≡◌, OnOk, OnErr};
 ghost use Rattle.c65_genwide.specs.Lines.{with_lines, Keeps};
-ghost use Rattle.c65_genload.specs.Stores.{bank_store, near_store, data_store, far_store, bytes_store, after_store, under_code, unit_store, popped_code, merged_code, bits_store, byte_store, field_store, store_code, copy_code};
+ghost use Rattle.c65_genload.specs.Stores.{bank_store, near_store, data_store, far_store, bytes_store, after_store, under_code, unit_set, unit_store, popped_code, merged_code, bits_store, byte_store, field_store, store_code, copy_code};
 
 use crate::fields::{align, byte_value, extract, is_in_byte, is_unit, others, own_bits, put_up};
 use crate::loads::load_bytes;
@@ -87,7 +87,8 @@ fn store_far(extent: Extent, draft: &mut Draft) -> Result<(), AllocError>
 
 // A, AX or EAX goes to a place. An address that waited is popped. A number has no three bytes, and is
 // stored as of two then.
-fn store_bytes(place: Place, extent: Extent, draft: &mut Draft) -> Result<(), AllocError>
+/// A, AX or EAX goes to a place; an address that waited is popped.
+pub fn store_bytes(place: Place, extent: Extent, draft: &mut Draft) -> Result<(), AllocError>
     ensures lines { OnOk result (draft.new ≡ with_lines draft.old (bytes_store place extent)) }
     ensures kept { OnErr result (Keeps draft.old draft.new) }
 {
@@ -126,9 +127,9 @@ fn load_under(place: Place, draft: &mut Draft) -> Result<(), AllocError>
     }
 }
 
-// The other bits of the unit stay.
-fn store_in_unit(place: Place, field: Field, draft: &mut Draft) -> Result<(), AllocError>
-    ensures lines { OnOk result (draft.new ≡ with_lines draft.old (unit_store place field)) }
+/// AX goes into a field of the unit at a place, whose other bits stay. An address that waited is popped.
+pub fn set_in_unit(place: Place, field: Field, draft: &mut Draft) -> Result<(), AllocError>
+    ensures lines { OnOk result (draft.new ≡ with_lines draft.old (unit_set place field)) }
     ensures kept { OnErr result (Keeps draft.old draft.new) }
 {
     align(field, draft)?;
@@ -136,7 +137,14 @@ fn store_in_unit(place: Place, field: Field, draft: &mut Draft) -> Result<(), Al
     load_under(place, draft)?;
     mask(others(field), draft)?;
     run(draft, Routine::Tos(TosOp::Or, Width::Ax))?;
-    store_bytes(place, Extent::Two, draft)?;
+    store_bytes(place, Extent::Two, draft)
+}
+
+fn store_in_unit(place: Place, field: Field, draft: &mut Draft) -> Result<(), AllocError>
+    ensures lines { OnOk result (draft.new ≡ with_lines draft.old (unit_store place field)) }
+    ensures kept { OnErr result (Keeps draft.old draft.new) }
+{
+    set_in_unit(place, field, draft)?;
     extract(field, draft)
 }
 
@@ -157,8 +165,8 @@ fn pop_address(draft: &mut Draft) -> Result<(), AllocError>
     )
 }
 
-// The bits of A that a mask has go into a byte, and A becomes that byte.
-fn merge(mode: Mode, operand: Operand, mask: u8, draft: &mut Draft) -> Result<(), AllocError>
+/// The bits of A that a mask has go into a byte, and A becomes that byte.
+pub fn merge(mode: Mode, operand: Operand, mask: u8, draft: &mut Draft) -> Result<(), AllocError>
     ensures lines { OnOk result (draft.new ≡ with_lines draft.old (merged_code mode operand mask)) }
     ensures kept { OnErr result (Keeps draft.old draft.new) }
 {
@@ -177,7 +185,8 @@ fn merge(mode: Mode, operand: Operand, mask: u8, draft: &mut Draft) -> Result<()
     }
 }
 
-fn store_bits(place: Place, mask: u8, draft: &mut Draft) -> Result<(), AllocError>
+/// The same of the byte at a place; an address that waited is popped.
+pub fn store_bits(place: Place, mask: u8, draft: &mut Draft) -> Result<(), AllocError>
     ensures lines { OnOk result (draft.new ≡ with_lines draft.old (bits_store place mask)) }
     ensures kept { OnErr result (Keeps draft.old draft.new) }
 {

@@ -8,7 +8,7 @@ use c65_io::{Files, HostFiles, HostSink, MemSink, mem_sink, mem_source, write_al
 use std::alloc::Global;
 use std::{env, fs};
 
-/// The longest file that is put through the optimiser: it makes the table of what is live in a function again at each rewriting.
+/// The longest file that is put through the optimiser, so that all files together take seconds.
 const LONGEST: usize = 8192;
 
 /// What a command left.

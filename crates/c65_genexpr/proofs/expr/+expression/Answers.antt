@@ -246,11 +246,8 @@ put_side-returns-in_ok-put_wanted-in-Left-clause-kept t c = grown_last _ _ _ _ _
 pub put_load_test-returns-in_ok-put_base-in-Some-clause-kept : goal.put_load_test-returns-in_ok-put_base-in-Some-clause-kept
 put_load_test-returns-in_ok-put_base-in-Some-clause-kept t c = grown_last _ _ _ _ _ _ c.in_ok-put_base-in-Some.ensures.lines c.put_own_test.ensures.kept
 
-pub put_load_test-returns-in_err-load-in-None-clause-kept : goal.put_load_test-returns-in_err-load-in-None-clause-kept
-put_load_test-returns-in_err-load-in-None-clause-kept t c = refused_then c.from_residual-in_err-load-in-None.result (grown_then _ _ _ _ _ c.in_ok-put_base-in-None.ensures.lines c.in_err-load-in-None.ensures.kept)
-
-pub put_load_test-returns-in_ok-load-in-None-clause-kept : goal.put_load_test-returns-in_ok-load-in-None-clause-kept
-put_load_test-returns-in_ok-load-in-None-clause-kept t c = grown_last _ _ _ _ _ _ c.in_ok-put_base-in-None.ensures.lines (kept_last _ _ _ _ _ c.in_ok-load-in-None.ensures.lines c.put_value_test.ensures.kept)
+pub put_load_test-returns-in_ok-put_base-in-None-clause-kept : goal.put_load_test-returns-in_ok-put_base-in-None-clause-kept
+put_load_test-returns-in_ok-put_base-in-None-clause-kept t c = grown_last _ _ _ _ _ _ c.in_ok-put_base-in-None.ensures.lines c.put_loaded_test.ensures.kept
 
 pub put_test-returns-in_ok-put_expr-in-Comma-clause-kept : goal.put_test-returns-in_ok-put_expr-in-Comma-clause-kept
 put_test-returns-in_ok-put_expr-in-Comma-clause-kept t c = grown_last _ _ _ _ _ _ c.in_ok-put_expr-in-Comma.ensures.lines c.put_test-in-Comma.ensures.kept
