@@ -11,13 +11,13 @@ use Rattle.c65_depth.specs.Reached.{reachable_at}
 use Rattle.c65_depth.specs.Checks.{flat_numbers, given_at, covers, covers_if, covers_all, is_covered, meets, fits, is_met, are_met, soft_limit, hard_limit}
 use Rattle.c65_depth.specs.Tables.{every}
 use Rattle.c65_depth_law.specs.Least.{AnyNames, Costs}
-use Rattle.c65_depth_law.specs.Checked.{CoversCallee, IsCovered, HasRoom, IsTold}
+use Rattle.c65_depth_law.specs.Checked.{AnyPointer, CoversCallee, IsCovered, HasRoom, IsTold}
 
-both_true : (a b : Bool) → (a && b) ≡ true → (a ≡ true) × (b ≡ true)
+pub both_true : (a b : Bool) → (a && b) ≡ true → (a ≡ true) × (b ≡ true)
 both_true true b h = (refl, h)
 both_true false b h = cc
 
-last : (n f : ℕ) → f < suc n → (f < n) ⊎ (f ≡ n)
+pub last : (n f : ℕ) → f < suc n → (f < n) ⊎ (f ≡ n)
 last zero zero few = inr refl
 last zero (suc f) few = absurd (omega (arith, few))
 last (suc n) zero few = inl (omega arith)
@@ -59,6 +59,16 @@ module _ (g : List Facts) (costs : List (Option ℕ)) (given : List (Option Numb
       let parts = both_true (covers_if cost n (given_at given c.callee)) (covers_all cost n given calls) said in
       calls_tell cost n h calls parts.1 told
 
+  names_all : (cost : ℕ) (n : Numbers) (calls : List Call) → covers_all cost n given calls ≡ true → AnyPointer calls → ⊥
+  names_all cost n [] said told = told
+  names_all cost n (c ∷ calls) said (inl is) =
+      let parts = both_true (covers_if cost n (given_at given c.callee)) (covers_all cost n given calls) said in
+      let none : false ≡ true = sym (ap (λ (o : Option ℕ). covers_if cost n (given_at given o)) is) ∙ parts.0 in
+      cc
+  names_all cost n (c ∷ calls) said (inr told) =
+      let parts = both_true (covers_if cost n (given_at given c.callee)) (covers_all cost n given calls) said in
+      names_all cost n calls parts.1 told
+
   covered_tells : (f cost : ℕ) (o : Option Numbers) → flat_numbers (slice_get given f) ≡ o → is_covered cost (calls_at g f) given o ≡ true → IsCovered g costs given f cost
   covered_tells f cost None is said = cc
   covered_tells f cost (Some n) is said =
@@ -68,8 +78,10 @@ module _ (g : List Facts) (costs : List (Option ℕ)) (given : List (Option Numb
       record {
         numbers = n;
         is_given = is;
+        bounded = leb-true n.soft soft_limit more.0;
         own_soft = omega (arith, own.0);
         own_hard = omega (arith, own.1);
+        no_pointer = λ told. names_all cost n (calls_at g f) parts.1 told;
         callees = λ h told. calls_tell cost n h (calls_at g f) parts.1 told;
       }
 

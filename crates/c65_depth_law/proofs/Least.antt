@@ -10,7 +10,7 @@ use Rattle.c65_depth_law.specs.Least.{AnyNames, AreCovering, IsAtMost}
 
 -- ---- tables
 
-each_long : {A : Type 0} (n : ℕ) (h : ℕ → A) → length (each n h) ≡ n
+pub each_long : {A : Type 0} (n : ℕ) (h : ℕ → A) → length (each n h) ≡ n
 each_long zero h = refl
 each_long (suc n) h = snoc_long (each n h) (h n) ∙ ap suc (each_long n h)
   where
@@ -53,7 +53,7 @@ each_has n h f few = by_entry (each_get n h f)
 
 -- ---- bounds
 
-zero_least : (m : Numbers) → IsAtMost zero_numbers m
+pub zero_least : (m : Numbers) → IsAtMost zero_numbers m
 zero_least m = record { soft = omega arith; hard = omega arith }
 
 entry_least : (n : ℕ) (h : ℕ → Numbers) (f : ℕ) (m : Numbers) → IsAtMost (h f) m → IsAtMost (or_zero (slice_get (each n h) f)) m
@@ -64,7 +64,7 @@ entry_least n h f m least = by_entry (slice_get (each n h) f) (each_get n h f)
     by_entry o (inr e) = subst (λ (o : Option Numbers). IsAtMost (or_zero o) m) (sym e) least
 
 module _ (all : List Numbers) (numbers : ℕ → Numbers) (below : (h : ℕ) → IsAtMost (or_zero (slice_get all h)) (numbers h)) where
-  soft_bound : (cost n : ℕ) (calls : List Call) → cost ≤ n → ((h : ℕ) → AnyNames h calls → cost + (numbers h).soft ≤ n) → cost + greatest_soft all calls ≤ n
+  pub soft_bound : (cost n : ℕ) (calls : List Call) → cost ≤ n → ((h : ℕ) → AnyNames h calls → cost + (numbers h).soft ≤ n) → cost + greatest_soft all calls ≤ n
   soft_bound cost n [] own covers = omega (arith, own)
   soft_bound cost n (c ∷ calls) own covers =
       let rest = soft_bound cost n calls own (λ h told. covers h (inr told)) in
@@ -75,7 +75,7 @@ module _ (all : List Numbers) (numbers : ℕ → Numbers) (below : (h : ℕ) →
       one_soft None f = omega (arith, own)
       one_soft (Some h) f = let b = (below h).soft in let w = f h refl in omega (arith, b, w)
 
-  hard_bound : (n : ℕ) (calls : List Call) → 2 ≤ n → ((h : ℕ) → AnyNames h calls → 2 + (numbers h).hard ≤ n) → 2 + greatest_hard all calls ≤ n
+  pub hard_bound : (n : ℕ) (calls : List Call) → 2 ≤ n → ((h : ℕ) → AnyNames h calls → 2 + (numbers h).hard ≤ n) → 2 + greatest_hard all calls ≤ n
   hard_bound n [] own covers = omega (arith, own)
   hard_bound n (c ∷ calls) own covers =
       let rest = hard_bound n calls own (λ h told. covers h (inr told)) in

@@ -1,3 +1,3 @@
-mod Checked
-mod Least
-mod Settled
+pub mod Checked
+pub mod Least
+pub mod Settled

@@ -12,14 +12,14 @@ use Rattle.c65_depth_law.specs.Least.{AnyNames, AreCovering, IsCounted, number_i
 use Rattle.c65_depth_law.proofs.Least.{each_has}
 
 module _ (all : List Numbers) where
-  soft_above : (h : ℕ) (calls : List Call) → AnyNames h calls → (number_in all h).soft ≤ greatest_soft all calls
+  pub soft_above : (h : ℕ) (calls : List Call) → AnyNames h calls → (number_in all h).soft ≤ greatest_soft all calls
   soft_above h [] told = absurd told
   soft_above h (c ∷ calls) (inl is) =
       let e : (numbers_of all c.callee).soft ≡ (number_in all h).soft = ap (λ (o : Option ℕ). (numbers_of all o).soft) is in
       omega (arith, e)
   soft_above h (c ∷ calls) (inr told) = let rest = soft_above h calls told in omega (arith, rest)
 
-  hard_above : (h : ℕ) (calls : List Call) → AnyNames h calls → (number_in all h).hard ≤ greatest_hard all calls
+  pub hard_above : (h : ℕ) (calls : List Call) → AnyNames h calls → (number_in all h).hard ≤ greatest_hard all calls
   hard_above h [] told = absurd told
   hard_above h (c ∷ calls) (inl is) =
       let e : (numbers_of all c.callee).hard ≡ (number_in all h).hard = ap (λ (o : Option ℕ). (numbers_of all o).hard) is in

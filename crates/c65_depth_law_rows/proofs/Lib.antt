@@ -1,0 +1,6 @@
+mod Rows
+mod Order
+mod Least
+mod Ranks
+mod Settle
+mod Cover

@@ -1,0 +1,4 @@
+pub mod Calls
+pub mod Marks
+pub mod Ways
+pub mod First
