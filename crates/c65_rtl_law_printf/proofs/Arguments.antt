@@ -203,14 +203,14 @@ character_go s bounds rest t may =
 
 pub characters_are_taken : CharactersAreTaken
 characters_are_taken s bounds f t frame frames has frames_are may =
-    let Q : Place → State → Type 0 = λ q u. (q ≡ label_in s f width_label) × TakesCharacter t u in
+    let Q : Place → State → Type 0 = λ q u. (q ≡ label_in s f width_label) × (u.frames ≡ t.frames) × TakesCharacter t u in
     let used : ℕ = sum_by (λ (f : Frame). 2 + length f.pushed) t.frames in
     let hard = may.hard in
     let free : bounds.hard + 0 ≤ 253 - used = omega arith in
     moved_to s bounds Q 20 (label_in s f character_label) (f, settle printf_lines (labelled printf_lines character_label)) t t
     (ap (λ (ls : List Line). let q : Place = (f, settle ls (labelled ls character_label)) in q) has) refl
     (stops_in s bounds 0 takes Q (λ u. ⊥) f printf_lines frame frames used has free (λ u h bytes. absurd h) refl (CharacterExit t) (CharacterGoing t)
-    (λ k u bytes own e. (ap (λ (j : ℕ). let q : Place = (f, settle printf_lines (labelled printf_lines j)) in q) e.0 ∙ sym (ap (λ (ls : List Line). let q : Place = (f, settle ls (labelled ls width_label)) in q) has), e.1))
+    (λ k u bytes own e. (ap (λ (j : ℕ). let q : Place = (f, settle printf_lines (labelled printf_lines j)) in q) e.0 ∙ sym (ap (λ (ls : List Line). let q : Place = (f, settle ls (labelled ls width_label)) in q) has), own.frames ∙ sym frames_are, e.1))
     (λ l n u bytes g. let all = g.0 in record {
       k = 195;
       ahead = 8 ∷ 7 ∷ [];
@@ -395,13 +395,13 @@ pieces s bounds t place size text may y_is word place_is reach l n u bytes (inr 
 pub strings_are_taken : StringsAreTaken
 strings_are_taken s bounds f size t frame frames has frames_are may y_is word text reach =
     let place : ℕ = word_at t.mem (zero_word t 10 - 2) in
-    let Q : Place → State → Type 0 = λ q u. (q ≡ label_in s f width_label) × TakesString place size t u in
+    let Q : Place → State → Type 0 = λ q u. (q ≡ label_in s f width_label) × (u.frames ≡ t.frames) × TakesString place size t u in
     let used : ℕ = sum_by (λ (f : Frame). 2 + length f.pushed) t.frames in
     let hard = may.hard in
     let free : bounds.hard + 0 ≤ 253 - used = omega arith in
     moved_to s bounds Q (40 + 10 * size) (label_in s f string_label) (f, settle printf_lines (labelled printf_lines string_label)) t t
     (ap (λ (ls : List Line). let q : Place = (f, settle ls (labelled ls string_label)) in q) has) refl
     (stops_in s bounds 0 takes Q (λ u. ⊥) f printf_lines frame frames used has free (λ u h bytes. absurd h) refl (Exit t place size) (Going t place size)
-    (λ k u bytes own e. (ap (λ (j : ℕ). let q : Place = (f, settle printf_lines (labelled printf_lines j)) in q) e.0 ∙ sym (ap (λ (ls : List Line). let q : Place = (f, settle ls (labelled ls width_label)) in q) has), e.1))
+    (λ k u bytes own e. (ap (λ (j : ℕ). let q : Place = (f, settle printf_lines (labelled printf_lines j)) in q) e.0 ∙ sym (ap (λ (ls : List Line). let q : Place = (f, settle ls (labelled ls width_label)) in q) has), own.frames ∙ sym frames_are, e.1))
     (pieces s bounds t place size text may y_is word refl reach) (40 + 10 * size) string_label (40 + 10 * size) t (omega arith) may.bytes (record { frames = frames_are; ended = may.running; used = refl })
     (inl (refl, (let g : 40 + 10 * size ≤ 40 + 10 * size = omega arith in g), refl)))

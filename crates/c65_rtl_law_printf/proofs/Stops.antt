@@ -214,7 +214,7 @@ not_ahead : (ahead passed : List ℕ) (l : ℕ) → is_among (ahead ++ passed) l
 not_ahead [] passed l out = out
 not_ahead (a ∷ ahead) passed l out = not_ahead ahead passed l (or_parts (nat_eq l a) (is_among (ahead ++ passed) l) out).1
 
-more_stops : (whole : List Line) (p : ℕ) (lines : List Line) (ahead passed : List ℕ) → IsAt whole p lines passed → IsAt whole p lines (ahead ++ passed)
+pub more_stops : (whole : List Line) (p : ℕ) (lines : List Line) (ahead passed : List ℕ) → IsAt whole p lines passed → IsAt whole p lines (ahead ++ passed)
 more_stops whole p lines ahead passed at = record { get = at.get; settles = at.settles; labels = λ l out. at.labels l (not_ahead ahead passed l out) }
 
 from_either : (A B C : Type 0) → (A → C) → (B → C) → A ⊎ B → C

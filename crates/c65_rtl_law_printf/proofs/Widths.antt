@@ -144,14 +144,14 @@ module _ (s : RawSetting) (bounds : Bounds) (t : State) (may : MayRead s bounds 
 pub widths_are_read : WidthsAreRead
 widths_are_read s bounds f t frame frames has frames_are may y_is =
     let to : ℕ = after_digit (less_zero t) in
-    let Q : Place → State → Type 0 = λ q u. (q ≡ label_in s f to) × ReadsDigit t u in
+    let Q : Place → State → Type 0 = λ q u. (q ≡ label_in s f to) × (u.frames ≡ t.frames) × ReadsDigit t u in
     let used : ℕ = sum_by (λ (f : Frame). 2 + length f.pushed) t.frames in
     let hard = may.hard in
     let free : bounds.hard + 0 ≤ 253 - used = omega arith in
     moved_to s bounds Q 40 (label_in s f 1) (f, settle printf_lines (labelled printf_lines 1)) t t
     (ap (λ (ls : List Line). let q : Place = (f, settle ls (labelled ls 1)) in q) has) refl
     (stops_in s bounds 0 takes Q (λ u. ⊥) f printf_lines frame frames used has free (λ u h bytes. absurd h) refl (Exit t) (Going t)
-    (λ k u bytes own e. (ap (λ (j : ℕ). let q : Place = (f, settle printf_lines (labelled printf_lines j)) in q) e.0 ∙ sym (ap (λ (ls : List Line). let q : Place = (f, settle ls (labelled ls to)) in q) has), e.1))
+    (λ k u bytes own e. (ap (λ (j : ℕ). let q : Place = (f, settle printf_lines (labelled printf_lines j)) in q) e.0 ∙ sym (ap (λ (ls : List Line). let q : Place = (f, settle ls (labelled ls to)) in q) has), own.frames ∙ sym frames_are, e.1))
     (λ l n u bytes g. let all = g.0 in record {
       k = 45;
       ahead = 2 ∷ [];

@@ -64,7 +64,7 @@ text_on rest = value Lda 1 ∷ value Ldx 0 ∷ call routines.PushAx ∷ address_
 
 -- ---- the pieces
 
-abbrev with_ax : State → ℕ → ℕ → Bool → Bool → State
+abbrev pub with_ax : State → ℕ → ℕ → Bool → Bool → State
 with_ax u a x n z = record u { regs = record u.regs { a = a; x = x; n = n; z = z } }
 
 text_at : (s : RawSetting) (bounds : Bounds) (deepest : ℕ) (P : State → Type 0) (B : ℕ → State → Type 0) (rest : List Line) (u : State)
@@ -77,7 +77,7 @@ address_at : (s : RawSetting) (bounds : Bounds) (deepest : ℕ) (P : State → T
 unfolding leads_stop
 address_at s bounds deepest P B rest u follows = follows _ _
 
-abbrev write_row : State → Row
+abbrev pub write_row : State → Row
 write_row u = write_hook u (popping 4 u (quiet routines.HookWrite u))
 
 hook_at : (s : RawSetting) (bounds : Bounds) (deepest : ℕ) (P : State → Type 0) (B : ℕ → State → Type 0) (rest : List Line) (u : State)
@@ -110,10 +110,10 @@ next_at s bounds deepest P B rest u h = h
 
 -- ---- `addysp` within
 
-abbrev added_row : State → Row
+abbrev pub added_row : State → Row
 added_row t = record (sp_row routines.AddYSp ((sp_of t + t.regs.y) % 65536) t) { room = 0 }
 
-add_y_comes : (s : RawSetting) → s.lines (s.routine routines.AddYSp) ≡ lines_of routines.AddYSp → ComesIn s 0 1 10 added_row routines.AddYSp
+pub add_y_comes : (s : RawSetting) → s.lines (s.routine routines.AddYSp) ≡ lines_of routines.AddYSp → ComesIn s 0 1 10 added_row routines.AddYSp
 add_y_comes s has = straight_comes s 0 routines.AddYSp added_row raise_by_y (λ t. refl) has refl
     (λ bounds back t may. raise_by_y_at s.place bounds (Ends (added_row t) t) (called back t) (may.bytes.zp 0) (may.bytes.zp 1) may.bytes.y
     (λ y n v z c zp moved. ends_by (added_row t) t (left (called back t) t.regs.a t.regs.x y n v z c zp t.mem) [] (record {
@@ -139,7 +139,7 @@ add_y_comes s has = straight_comes s 0 routines.AddYSp added_row raise_by_y (λ 
 -- ---- states between
 
 -- So many bytes below the sp, with this memory, and these bytes told.
-record Below (t : State) (depth : ℕ) (memory : Bytes) (told : List ℕ) (u : State) : Type 0 where
+pub record Below (t : State) (depth : ℕ) (memory : Bytes) (told : List ℕ) (u : State) : Type 0 where
   pub sp : sp_of u + depth ≡ sp_of t
   pub mem : (b : ℕ) → u.mem b ≡ memory b
   pub zp : (i : ℕ) → 2 ≤ i → u.zp i ≡ t.zp i
@@ -148,7 +148,7 @@ record Below (t : State) (depth : ℕ) (memory : Bytes) (told : List ℕ) (u : S
   pub output : u.output ≡ t.output ++ told
   pub ended : u.ended ≡ None
 
-below_word : (t : State) (depth : ℕ) (memory : Bytes) (u w : State) → depth + 2 ≤ sp_of t → Below t depth memory [] u → Meets (pushax_row u) u w
+pub below_word : (t : State) (depth : ℕ) (memory : Bytes) (u w : State) → depth + 2 ≤ sp_of t → Below t depth memory [] u → Meets (pushax_row u) u w
     → Below t (depth + 2) (write (write memory (sp_of t - (depth + 2)) u.regs.a) (sp_of t - (depth + 2) + 1) u.regs.x) [] w
 below_word t depth memory u w fits k m =
     let sp_is = k.sp in
@@ -167,13 +167,13 @@ below_word t depth memory u w fits k m =
     }
 
 -- memory once the descriptor and the address are pushed
-abbrev with_file : State → Bytes
+abbrev pub with_file : State → Bytes
 with_file t = write (write t.mem (sp_of t - 2) 1) (sp_of t - 2 + 1) 0
 
-abbrev with_both : State → ℕ → ℕ → Bytes
+abbrev pub with_both : State → ℕ → ℕ → Bytes
 with_both t low high = write (write (with_file t) (sp_of t - 4) low) (sp_of t - 4 + 1) high
 
-record Found (t : State) (low high : ℕ) : Type 0 where
+pub record Found (t : State) (low high : ℕ) : Type 0 where
   pub low_is : with_both t low high (sp_of t - 4) ≡ low
   pub high_is : with_both t low high (sp_of t - 4 + 1) ≡ high
   pub file_is : with_both t low high (sp_of t - 2) ≡ 1
@@ -184,7 +184,7 @@ apart : (t : State) (b : ℕ) → (b + 4 < sp_of t) ⊎ (sp_of t ≤ b) → (a :
 apart t b (inl below) a under near = omega arith
 apart t b (inr above) a under near = omega arith
 
-found : (t : State) (low high : ℕ) → 4 ≤ sp_of t → Found t low high
+pub found : (t : State) (low high : ℕ) → 4 ≤ sp_of t → Found t low high
 found t low high fits =
     let n45 : sp_of t - 4 ≢ sp_of t - 4 + 1 = omega arith in
     let n24 : sp_of t - 2 ≢ sp_of t - 4 = omega arith in
@@ -204,23 +204,23 @@ found t low high fits =
           ∙ (write_other m1 (sp_of t - 2 + 1) 0 b (far (sp_of t - 2 + 1) (omega arith) (omega arith)) ∙ write_other t.mem (sp_of t - 2) 1 b (far (sp_of t - 2) (omega arith) (omega arith))));
     }
 
-same_bytes : (count at : ℕ) (m n : Bytes) → ((j : ℕ) → j < count → n (at + j) ≡ m (at + j)) → bytes_at count at n ≡ bytes_at count at m
+pub same_bytes : (count at : ℕ) (m n : Bytes) → ((j : ℕ) → j < count → n (at + j) ≡ m (at + j)) → bytes_at count at n ≡ bytes_at count at m
 same_bytes zero at m n same = refl
 same_bytes (suc count) at m n same =
     let e : at + 0 ≡ at = omega arith in
     let first : n at ≡ m at = subst (λ (b : ℕ). n b ≡ m b) e (same 0 (omega arith)) in
     ap (λ (v : ℕ). v ∷ bytes_at count (at + 1) n) first ∙ ap (λ (vs : List ℕ). m at ∷ vs) (same_bytes count (at + 1) m n (λ j few. let f : at + suc j ≡ at + 1 + j = omega arith in subst (λ (b : ℕ). n b ≡ m b) f (same (suc j) (omega arith))))
 
-all_two : (P : ℕ → Type 0) (a b : ℕ) → P a → P b → All P (a ∷ b ∷ [])
+pub all_two : (P : ℕ → Type 0) (a b : ℕ) → P a → P b → All P (a ∷ b ∷ [])
 all_two P a b ha hb = All-cons P a (b ∷ []) ha (All-cons P b [] hb (All-nil P))
 
-all_four : (P : ℕ → Type 0) (a b c d : ℕ) → P a → P b → P c → P d → All P (a ∷ b ∷ c ∷ d ∷ [])
+pub all_four : (P : ℕ → Type 0) (a b c d : ℕ) → P a → P b → P c → P d → All P (a ∷ b ∷ c ∷ d ∷ [])
 all_four P a b c d ha hb hc hd = All-cons P a (b ∷ c ∷ d ∷ []) ha (All-cons P b (c ∷ d ∷ []) hb (all_two P c d hc hd))
 
-abbrev told_row : State → Row
+abbrev pub told_row : State → Row
 told_row u = record (giving Ax (ax_of u) (popping 4 u (quiet routines.HookWrite u))) { out = bytes_at (ax_of u) (word_at u.mem (sp_of u)) u.mem; far = range_of (ax_of u) (word_at u.mem (sp_of u)) }
 
-told_is : (u : State) → word_at u.mem (sp_of u + 2) ≡ 1 → write_row u ≡ told_row u
+pub told_is : (u : State) → word_at u.mem (sp_of u + 2) ≡ 1 → write_row u ≡ told_row u
 told_is u e = ap (λ (k : ℕ). if k == 1 then told_row u else giving Ax 65535 (popping 4 u (quiet routines.HookWrite u))) e
 
 -- the sum of the bytes so far and these
@@ -231,7 +231,7 @@ sum_is low high a x ll lh la lx =
     let carry : bit (nat_lt 255 (low + a + 0)) ≡ (low + a + 0) / 256 = bit_carry (low + a + 0) small in
     omega arith
 
-kept_count : (zp : Bytes) (a b i : ℕ) → i ≢ 12 → i ≢ 13 → write (write zp 12 a) 13 b i ≡ zp i
+pub kept_count : (zp : Bytes) (a b i : ℕ) → i ≢ 12 → i ≢ 13 → write (write zp 12 a) 13 b i ≡ zp i
 kept_count zp a b i e f = write_other (write zp 12 a) 13 b i f ∙ write_other zp 12 a i e
 
 -- ---- from the label on
@@ -400,14 +400,14 @@ module _ (s : RawSetting) (bounds : Bounds) (f : ℕ) (t : State) (stand : Stand
 
 pub texts_are_written : TextsAreWritten
 texts_are_written s bounds f t frame frames stand frames_are may =
-    let Q : Place → State → Type 0 = λ q u. (q ≡ label_in s f next_label) × Writes t u in
+    let Q : Place → State → Type 0 = λ q u. (q ≡ label_in s f next_label) × (u.frames ≡ t.frames) × Writes t u in
     let used : ℕ = sum_by (λ (f : Frame). 2 + length f.pushed) t.frames in
     let hard = may.hard in
     let free : bounds.hard + (length t.pushed + 3) ≤ 253 - used = omega arith in
     moved_to s bounds Q 100 (label_in s f text_label) (f, settle printf_lines (labelled printf_lines text_label)) t t
     (ap (λ (ls : List Line). let q : Place = (f, settle ls (labelled ls text_label)) in q) stand.printf) refl
     (stops_in s bounds (length t.pushed + 3) takes Q (λ u. ⊥) f printf_lines frame frames used stand.printf free (λ u h bytes. absurd h) refl (Exit t) (Going t)
-    (λ k u bytes own e. (ap (λ (j : ℕ). let q : Place = (f, settle printf_lines (labelled printf_lines j)) in q) e.0 ∙ sym (ap (λ (ls : List Line). let q : Place = (f, settle ls (labelled ls next_label)) in q) stand.printf), e.1))
+    (λ k u bytes own e. (ap (λ (j : ℕ). let q : Place = (f, settle printf_lines (labelled printf_lines j)) in q) e.0 ∙ sym (ap (λ (ls : List Line). let q : Place = (f, settle ls (labelled ls next_label)) in q) stand.printf), own.frames ∙ sym frames_are, e.1))
     (λ l n u bytes g. let all = g.0 in record {
       k = 269;
       ahead = [];

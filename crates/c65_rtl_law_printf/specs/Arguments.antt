@@ -56,10 +56,10 @@ width_label = 8
 -- Wherever the lines stand, they take a character within 20 instructions,
 abbrev pub CharactersAreTaken : Type 0
 CharactersAreTaken = (s : RawSetting) (bounds : Bounds) (f : ℕ) (t : State) (frame : Frame) (frames : List Frame) → s.lines f ≡ printf_lines → t.frames ≡ frame ∷ frames → MayTake s bounds t
-    → RawComes s bounds (λ q u. (q ≡ label_in s f width_label) × TakesCharacter t u) 20 (label_in s f character_label) t
+    → RawComes s bounds (λ q u. (q ≡ label_in s f width_label) × (u.frames ≡ t.frames) × TakesCharacter t u) 20 (label_in s f character_label) t
 
 -- and a string within 40, and 10 for each of its bytes.
 abbrev pub StringsAreTaken : Type 0
 StringsAreTaken = (s : RawSetting) (bounds : Bounds) (f size : ℕ) (t : State) (frame : Frame) (frames : List Frame) → s.lines f ≡ printf_lines → t.frames ≡ frame ∷ frames → MayTake s bounds t → t.regs.y ≡ 0
     → All (IsReachable s.place bounds) (range_of 2 (zero_word t 10 - 2)) → (let place = word_at t.mem (zero_word t 10 - 2) in IsTextOf t.mem place size → All (IsReachable s.place bounds) (range_of (size + 1) place)
-    → RawComes s bounds (λ q u. (q ≡ label_in s f width_label) × TakesString place size t u) (40 + 10 * size) (label_in s f string_label) t)
+    → RawComes s bounds (λ q u. (q ≡ label_in s f width_label) × (u.frames ≡ t.frames) × TakesString place size t u) (40 + 10 * size) (label_in s f string_label) t)

@@ -41,4 +41,4 @@ pub record MayRead (s : RawSetting) (bounds : Bounds) (t : State) : Type 0 where
 -- Wherever the lines stand, they read a byte within 40 instructions.
 abbrev pub BytesAreRead : Type 0
 BytesAreRead = (s : RawSetting) (bounds : Bounds) (f : ℕ) (t : State) (frame : Frame) (frames : List Frame) → s.lines f ≡ printf_lines → t.frames ≡ frame ∷ frames → MayRead s bounds t
-    → RawComes s bounds (λ q u. (q ≡ label_in s f (after_byte (next_byte t))) × ReadsByte t u) 40 (label_in s f 0) t
+    → RawComes s bounds (λ q u. (q ≡ label_in s f (after_byte (next_byte t))) × (u.frames ≡ t.frames) × ReadsByte t u) 40 (label_in s f 0) t

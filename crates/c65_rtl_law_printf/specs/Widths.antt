@@ -26,4 +26,4 @@ pub record ReadsDigit (t u : State) : Type 0 where
 -- Wherever the lines stand, they read a digit, or what is behind the width, within 40 instructions.
 abbrev pub WidthsAreRead : Type 0
 WidthsAreRead = (s : RawSetting) (bounds : Bounds) (f : ℕ) (t : State) (frame : Frame) (frames : List Frame) → s.lines f ≡ printf_lines → t.frames ≡ frame ∷ frames → MayRead s bounds t → t.regs.y ≡ 0
-    → RawComes s bounds (λ q u. (q ≡ label_in s f (after_digit (less_zero t))) × ReadsDigit t u) 40 (label_in s f 1) t
+    → RawComes s bounds (λ q u. (q ≡ label_in s f (after_digit (less_zero t))) × (u.frames ≡ t.frames) × ReadsDigit t u) 40 (label_in s f 1) t

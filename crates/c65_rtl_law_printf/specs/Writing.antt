@@ -56,4 +56,4 @@ next_label = 0
 -- Wherever these lines stand, they come from the one to the other within 100 instructions.
 abbrev pub TextsAreWritten : Type 0
 TextsAreWritten = (s : RawSetting) (bounds : Bounds) (f : ℕ) (t : State) (frame : Frame) (frames : List Frame) → Stand s f → t.frames ≡ frame ∷ frames → MayWrite s bounds t
-    → RawComes s bounds (λ q u. (q ≡ label_in s f next_label) × Writes t u) 100 (label_in s f text_label) t
+    → RawComes s bounds (λ q u. (q ≡ label_in s f next_label) × (u.frames ≡ t.frames) × Writes t u) 100 (label_in s f text_label) t

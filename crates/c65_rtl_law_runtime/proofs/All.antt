@@ -1,8 +1,9 @@
 -- The law, from each routine's own.
-use Rattle.std.proofs.Common.{◌≡◌, IsTrue, false, Some, None, refl}
+use Rattle.std.proofs.Common.{◌≡◌, Some, None, refl}
 use Rattle.c65_base.specs.declared.library.Library.{Library}
 use Rattle.c65_base.specs.declared.library.Library.TheVariants.{Putchar, Getchar, Puts, Exit, Memcpy, Memset, Strcmp, Strcpy, Strlen, Printf}
 use Rattle.c65_code.specs.declared.routine.Count.TheVariants.{One, Four}
+use Rattle.c65_code.specs.declared.routine.Routine.{Routine}
 use Rattle.c65_code.specs.declared.routine.Routine.TheVariants as routines
 use Rattle.c65_code.specs.declared.routine.TosOp.{TosOp}
 use Rattle.c65_code.specs.declared.routine.TosOp.TheVariants as tos
@@ -28,10 +29,8 @@ use Rattle.c65_rtl_law_wide.proofs.Signed.{tosdiveax, tosmodeax}
 use Rattle.c65_rtl_law_library.proofs.Putchar.{putchar}
 use Rattle.c65_rtl_law_library.proofs.Getchar.{getchar}
 use Rattle.c65_rtl_law_library.proofs.Puts.{puts}
-use Rattle.c65_rtl_law_runtime.specs.Runtime.{HoldsRuntime, is_met, RuntimeIsMet}
-
-not_met : IsTrue false → ⊥
-not_met h = cc
+use Rattle.c65_rtl_law_printf_row.proofs.Row.{formats_are_written}
+use Rattle.c65_rtl_law_runtime.specs.Runtime.{HoldsRuntime, RuntimeIsMet}
 
 no_row : (row : Row) → None ≡ Some row → ⊥
 no_row row e = cc
@@ -86,62 +85,65 @@ operator_of_longs s has tos.Mod = tosmodeax s (has (routines.Tos tos.Mod Eax) re
 operator_of_longs s has tos.UDiv = tosudiveax s (has (routines.Tos tos.UDiv Eax) refl) (has routines.PopEax refl)
 operator_of_longs s has tos.UMod = tosumodeax s (has (routines.Tos tos.UMod Eax) refl) (has routines.PopEax refl)
 
-library_function : (s : RawSetting) → HoldsRuntime s → (f : Library) → IsTrue (is_met (routines.Library f)) → MeetsRow s (routines.Library f)
-library_function s has Putchar met = putchar s (has (routines.Library Putchar) refl) (has routines.PushA refl) (has routines.PushAx refl) (has routines.PopA refl)
-library_function s has Getchar met = getchar s (has (routines.Library Getchar) refl) (has routines.PushA refl) (has routines.Push0 refl) (has routines.PushAx refl) (has routines.PopA refl) (has (routines.IncSp One) refl)
-library_function s has Puts met = puts s (has (routines.Library Puts) refl) (has routines.PushAx refl) (has (routines.Library Strlen) refl) (has routines.LdAxYSp refl) (has (routines.IncSp Four) refl) (has (routines.Library Putchar) refl) (has routines.PushA refl) (has routines.PopA refl)
-library_function s has Exit met = exit s (has (routines.Library Exit) refl)
-library_function s has Memcpy met = memcpy s (has (routines.Library Memcpy) refl)
-library_function s has Memset met = memset s (has (routines.Library Memset) refl)
-library_function s has Strcmp met = strcmp s (has (routines.Library Strcmp) refl)
-library_function s has Strcpy met = strcpy s (has (routines.Library Strcpy) refl)
-library_function s has Strlen met = strlen s (has (routines.Library Strlen) refl)
-library_function s has Printf met = absurd (not_met met)
+library_function : (s : RawSetting) → HoldsRuntime s → (f : Library) → MeetsRow s (routines.Library f)
+library_function s has Putchar = putchar s (has (routines.Library Putchar) refl) (has routines.PushA refl) (has routines.PushAx refl) (has routines.PopA refl)
+library_function s has Getchar = getchar s (has (routines.Library Getchar) refl) (has routines.PushA refl) (has routines.Push0 refl) (has routines.PushAx refl) (has routines.PopA refl) (has (routines.IncSp One) refl)
+library_function s has Puts = puts s (has (routines.Library Puts) refl) (has routines.PushAx refl) (has (routines.Library Strlen) refl) (has routines.LdAxYSp refl) (has (routines.IncSp Four) refl) (has (routines.Library Putchar) refl) (has routines.PushA refl) (has routines.PopA refl)
+library_function s has Exit = exit s (has (routines.Library Exit) refl)
+library_function s has Memcpy = memcpy s (has (routines.Library Memcpy) refl)
+library_function s has Memset = memset s (has (routines.Library Memset) refl)
+library_function s has Strcmp = strcmp s (has (routines.Library Strcmp) refl)
+library_function s has Strcpy = strcpy s (has (routines.Library Strcpy) refl)
+library_function s has Strlen = strlen s (has (routines.Library Strlen) refl)
+library_function s has Printf = formats_are_written s (record { stand = record { printf = has (routines.Library Printf) refl; push = has routines.PushAx refl; add = has routines.AddYSp refl }; byte = has routines.PushA refl; raise = has (routines.IncSp One) refl })
+
+routine_is_met : (s : RawSetting) → HoldsRuntime s → (r : Routine) → MeetsRow s r
+routine_is_met s has (routines.Tos op Ax) = operator_of_words s has op
+routine_is_met s has (routines.Tos op Eax) = operator_of_longs s has op
+routine_is_met s has (routines.Library f) = library_function s has f
+routine_is_met s has routines.CopyTos = copytos s (has routines.CopyTos refl)
+routine_is_met s has routines.StkChk = stkchk s (has routines.StkChk refl)
+routine_is_met s has routines.PushA = rows_are_met s routines.PushA refl (has routines.PushA refl)
+routine_is_met s has routines.PushAx = rows_are_met s routines.PushAx refl (has routines.PushAx refl)
+routine_is_met s has routines.PushA0 = rows_are_met s routines.PushA0 refl (has routines.PushA0 refl)
+routine_is_met s has routines.Push0 = rows_are_met s routines.Push0 refl (has routines.Push0 refl)
+routine_is_met s has routines.PushEax = rows_are_met s routines.PushEax refl (has routines.PushEax refl)
+routine_is_met s has routines.PopA = rows_are_met s routines.PopA refl (has routines.PopA refl)
+routine_is_met s has routines.PopAx = rows_are_met s routines.PopAx refl (has routines.PopAx refl)
+routine_is_met s has routines.PopEax = rows_are_met s routines.PopEax refl (has routines.PopEax refl)
+routine_is_met s has routines.PopPtrs = rows_are_met s routines.PopPtrs refl (has routines.PopPtrs refl)
+routine_is_met s has routines.AddYSp = rows_are_met s routines.AddYSp refl (has routines.AddYSp refl)
+routine_is_met s has routines.SubYSp = rows_are_met s routines.SubYSp refl (has routines.SubYSp refl)
+routine_is_met s has routines.LdAxYSp = rows_are_met s routines.LdAxYSp refl (has routines.LdAxYSp refl)
+routine_is_met s has routines.LdAx0Sp = rows_are_met s routines.LdAx0Sp refl (has routines.LdAx0Sp refl)
+routine_is_met s has routines.LdEaxYSp = rows_are_met s routines.LdEaxYSp refl (has routines.LdEaxYSp refl)
+routine_is_met s has routines.StAxYSp = rows_are_met s routines.StAxYSp refl (has routines.StAxYSp refl)
+routine_is_met s has routines.StAx0Sp = rows_are_met s routines.StAx0Sp refl (has routines.StAx0Sp refl)
+routine_is_met s has routines.StEaxYSp = rows_are_met s routines.StEaxYSp refl (has routines.StEaxYSp refl)
+routine_is_met s has routines.LdAi = rows_are_met s routines.LdAi refl (has routines.LdAi refl)
+routine_is_met s has routines.LdAxi = rows_are_met s routines.LdAxi refl (has routines.LdAxi refl)
+routine_is_met s has routines.LdEaxi = rows_are_met s routines.LdEaxi refl (has routines.LdEaxi refl)
+routine_is_met s has routines.StATos = rows_are_met s routines.StATos refl (has routines.StATos refl)
+routine_is_met s has routines.StAxTos = rows_are_met s routines.StAxTos refl (has routines.StAxTos refl)
+routine_is_met s has routines.StEaxTos = rows_are_met s routines.StEaxTos refl (has routines.StEaxTos refl)
+routine_is_met s has routines.SaveRegs = rows_are_met s routines.SaveRegs refl (has routines.SaveRegs refl)
+routine_is_met s has routines.RestRegs = rows_are_met s routines.RestRegs refl (has routines.RestRegs refl)
+routine_is_met s has routines.SignA = rows_are_met s routines.SignA refl (has routines.SignA refl)
+routine_is_met s has routines.LongAx = rows_are_met s routines.LongAx refl (has routines.LongAx refl)
+routine_is_met s has routines.ULongAx = rows_are_met s routines.ULongAx refl (has routines.ULongAx refl)
+routine_is_met s has (routines.IncSp count) = rows_are_met s (routines.IncSp count) refl (has (routines.IncSp count) refl)
+routine_is_met s has (routines.DecSp count) = rows_are_met s (routines.DecSp count) refl (has (routines.DecSp count) refl)
+routine_is_met s has (routines.Unary op Ax) = rows_are_met s (routines.Unary op Ax) refl (has (routines.Unary op Ax) refl)
+routine_is_met s has (routines.Unary op Eax) = rows_are_met s (routines.Unary op Eax) refl (has (routines.Unary op Eax) refl)
+routine_is_met s has routines.CallPtr4 = λ row back t e may. absurd (no_row row e)
+routine_is_met s has routines.Start = λ row back t e may. absurd (no_row row e)
+routine_is_met s has routines.StartArgs = λ row back t e may. absurd (no_row row e)
+routine_is_met s has routines.HookOpen = λ row back t e may. absurd (no_row row e)
+routine_is_met s has routines.HookClose = λ row back t e may. absurd (no_row row e)
+routine_is_met s has routines.HookRead = λ row back t e may. absurd (no_row row e)
+routine_is_met s has routines.HookWrite = λ row back t e may. absurd (no_row row e)
+routine_is_met s has routines.HookArgs = λ row back t e may. absurd (no_row row e)
+routine_is_met s has routines.HookExit = λ row back t e may. absurd (no_row row e)
 
 pub runtime_is_met : RuntimeIsMet
-runtime_is_met s has (routines.Tos op Ax) met = operator_of_words s has op
-runtime_is_met s has (routines.Tos op Eax) met = operator_of_longs s has op
-runtime_is_met s has (routines.Library f) met = library_function s has f met
-runtime_is_met s has routines.CopyTos met = copytos s (has routines.CopyTos refl)
-runtime_is_met s has routines.StkChk met = stkchk s (has routines.StkChk refl)
-runtime_is_met s has routines.PushA met = rows_are_met s routines.PushA refl (has routines.PushA refl)
-runtime_is_met s has routines.PushAx met = rows_are_met s routines.PushAx refl (has routines.PushAx refl)
-runtime_is_met s has routines.PushA0 met = rows_are_met s routines.PushA0 refl (has routines.PushA0 refl)
-runtime_is_met s has routines.Push0 met = rows_are_met s routines.Push0 refl (has routines.Push0 refl)
-runtime_is_met s has routines.PushEax met = rows_are_met s routines.PushEax refl (has routines.PushEax refl)
-runtime_is_met s has routines.PopA met = rows_are_met s routines.PopA refl (has routines.PopA refl)
-runtime_is_met s has routines.PopAx met = rows_are_met s routines.PopAx refl (has routines.PopAx refl)
-runtime_is_met s has routines.PopEax met = rows_are_met s routines.PopEax refl (has routines.PopEax refl)
-runtime_is_met s has routines.PopPtrs met = rows_are_met s routines.PopPtrs refl (has routines.PopPtrs refl)
-runtime_is_met s has routines.AddYSp met = rows_are_met s routines.AddYSp refl (has routines.AddYSp refl)
-runtime_is_met s has routines.SubYSp met = rows_are_met s routines.SubYSp refl (has routines.SubYSp refl)
-runtime_is_met s has routines.LdAxYSp met = rows_are_met s routines.LdAxYSp refl (has routines.LdAxYSp refl)
-runtime_is_met s has routines.LdAx0Sp met = rows_are_met s routines.LdAx0Sp refl (has routines.LdAx0Sp refl)
-runtime_is_met s has routines.LdEaxYSp met = rows_are_met s routines.LdEaxYSp refl (has routines.LdEaxYSp refl)
-runtime_is_met s has routines.StAxYSp met = rows_are_met s routines.StAxYSp refl (has routines.StAxYSp refl)
-runtime_is_met s has routines.StAx0Sp met = rows_are_met s routines.StAx0Sp refl (has routines.StAx0Sp refl)
-runtime_is_met s has routines.StEaxYSp met = rows_are_met s routines.StEaxYSp refl (has routines.StEaxYSp refl)
-runtime_is_met s has routines.LdAi met = rows_are_met s routines.LdAi refl (has routines.LdAi refl)
-runtime_is_met s has routines.LdAxi met = rows_are_met s routines.LdAxi refl (has routines.LdAxi refl)
-runtime_is_met s has routines.LdEaxi met = rows_are_met s routines.LdEaxi refl (has routines.LdEaxi refl)
-runtime_is_met s has routines.StATos met = rows_are_met s routines.StATos refl (has routines.StATos refl)
-runtime_is_met s has routines.StAxTos met = rows_are_met s routines.StAxTos refl (has routines.StAxTos refl)
-runtime_is_met s has routines.StEaxTos met = rows_are_met s routines.StEaxTos refl (has routines.StEaxTos refl)
-runtime_is_met s has routines.SaveRegs met = rows_are_met s routines.SaveRegs refl (has routines.SaveRegs refl)
-runtime_is_met s has routines.RestRegs met = rows_are_met s routines.RestRegs refl (has routines.RestRegs refl)
-runtime_is_met s has routines.SignA met = rows_are_met s routines.SignA refl (has routines.SignA refl)
-runtime_is_met s has routines.LongAx met = rows_are_met s routines.LongAx refl (has routines.LongAx refl)
-runtime_is_met s has routines.ULongAx met = rows_are_met s routines.ULongAx refl (has routines.ULongAx refl)
-runtime_is_met s has (routines.IncSp count) met = rows_are_met s (routines.IncSp count) refl (has (routines.IncSp count) refl)
-runtime_is_met s has (routines.DecSp count) met = rows_are_met s (routines.DecSp count) refl (has (routines.DecSp count) refl)
-runtime_is_met s has (routines.Unary op Ax) met = rows_are_met s (routines.Unary op Ax) refl (has (routines.Unary op Ax) refl)
-runtime_is_met s has (routines.Unary op Eax) met = rows_are_met s (routines.Unary op Eax) refl (has (routines.Unary op Eax) refl)
-runtime_is_met s has routines.CallPtr4 met = λ row back t e may. absurd (no_row row e)
-runtime_is_met s has routines.Start met = λ row back t e may. absurd (no_row row e)
-runtime_is_met s has routines.StartArgs met = λ row back t e may. absurd (no_row row e)
-runtime_is_met s has routines.HookOpen met = λ row back t e may. absurd (no_row row e)
-runtime_is_met s has routines.HookClose met = λ row back t e may. absurd (no_row row e)
-runtime_is_met s has routines.HookRead met = λ row back t e may. absurd (no_row row e)
-runtime_is_met s has routines.HookWrite met = λ row back t e may. absurd (no_row row e)
-runtime_is_met s has routines.HookArgs met = λ row back t e may. absurd (no_row row e)
-runtime_is_met s has routines.HookExit met = λ row back t e may. absurd (no_row row e)
+runtime_is_met s has = record { meets = routine_is_met s has }

@@ -1,0 +1,4 @@
+pub mod Choosing
+pub mod Signs
+pub mod Numbers
+pub mod Spaces

@@ -1,0 +1,14 @@
+pub mod Blocks
+pub mod Numerals
+pub mod Letters
+pub mod Places
+pub mod Left
+pub mod Moments
+pub mod Context
+pub mod Bytes
+pub mod Choices
+pub mod Arguments
+pub mod Texts
+pub mod Ends
+pub mod Begins
+pub mod Row
