@@ -22,7 +22,8 @@ use Rattle.c65_know.specs.Rows.{is_flag}
 use Rattle.c65_live.specs.Samples.{DeadIsNotLive}
 use Rattle.c65_live.specs.Tables.{Table, live_after}
 use Rattle.c65_pass.specs.ArithRules.{has_carry, carry_of, is_idle_carry, is_dead_carry, is_idle_sum}
-use Rattle.c65_optarith_law.specs.Straight.{Steps, IsAs, IsTrueOf, Agree}
+use Rattle.c65_know_law.specs.Truth.{IsAs, IsTrueOf}
+use Rattle.c65_optarith_law.specs.Straight.{Steps, Agree}
 use Rattle.c65_optarith_law.proofs.Agreeing.{agree_same, agree_dead, in_carry, in_overflow, DifferIn}
 
 flag_is : (b : Bool) (c : Option Bool) (d : Bool) → is_flag b c ≡ true → IsAs c d → d ≡ b

@@ -10,8 +10,8 @@ use Rattle.c65_code.specs.Moves.{Does}
 use Rattle.c65_code.specs.Parts.{has_part}
 use Rattle.c65_code.specs.Placement.{Setting}
 use Rattle.c65_code.specs.Steady.{IsSteady}
-use Rattle.c65_know.specs.declared.note.Note.{Note}
 use Rattle.c65_know.specs.Known.{Annotated}
+use Rattle.c65_know_law.specs.Truth.{IsTrueOf}
 use Rattle.c65_live.specs.Tables.{Table, live_after}
 use Rattle.c65_pass.specs.Rewriting.{Rewriting}
 use Rattle.c65_pass.specs.Rules.{match_at}
@@ -37,30 +37,6 @@ pub record Steps (s : Setting) (line : Line) (t u : State) : Type 0 where
 pub data Straight (s : Setting) : List Line → State → State → Type 0 where
   done : {t : State} → Straight s [] t t
   by : {line : Line} {lines : List Line} {t u v : State} → Steps s line t u → Straight s lines u v → Straight s (line ∷ lines) t v
-
--- a value is as it is known, where it is known
-abbrev pub IsAs : {A : Type 0} → Option A → A → Type 0
-IsAs None v = Unit {0}
-IsAs (Some w) v = w ≡ v
-
-pub record IsNoted (note : Note) (t : State) : Type 0 where
-  pub a : IsAs note.a t.regs.a
-  pub x : IsAs note.x t.regs.x
-  pub y : IsAs note.y t.regs.y
-  pub s0 : IsAs note.s0 (t.zp 2)
-  pub s1 : IsAs note.s1 (t.zp 3)
-  pub p0 : IsAs note.p0 (t.zp 8)
-  pub p1 : IsAs note.p1 (t.zp 9)
-  pub t1 : IsAs note.t1 (t.zp 16)
-  pub n : IsAs note.n t.regs.n
-  pub v : IsAs note.v t.regs.v
-  pub z : IsAs note.z t.regs.z
-  pub c : IsAs note.c t.regs.c
-
--- the note at a place is true of a state
-abbrev pub IsTrueOf : Option Note → State → Type 0
-IsTrueOf None t = Unit {0}
-IsTrueOf (Some note) t = IsNoted note t
 
 -- two states with the same value of each of these parts, which differ in registers and flags at most
 pub record Agree (live : RegSet) (u v : State) : Type 0 where
