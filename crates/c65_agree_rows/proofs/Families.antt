@@ -1,7 +1,8 @@
 -- Families of routines.
 use Rattle.std.proofs.Common.{◌≡◌, ℕ, ◌+◌, ◌-◌, ◌*◌, ◌<◌, ◌≤◌, inl, inr, List, [], Some, true, refl, ap, ◌∙◌, subst, arith}
-use Rattle.std.specs.Prelude.{length, min, max}
+use Rattle.std.specs.Prelude.{length, min, max, All}
 use Rattle.std.proofs.lemmas.List.Elements.{All-nil}
+use Rattle.c65_code.specs.declared.routine.Routine.{Routine}
 use Rattle.c65_code.specs.declared.routine.Routine.TheVariants as routines
 use Rattle.c65_code.specs.declared.routine.Width.{Width}
 use Rattle.c65_code.specs.declared.routine.Width.TheVariants.{Ax, Eax}
@@ -9,11 +10,9 @@ use Rattle.c65_code.specs.declared.routine.TosOp.{TosOp}
 use Rattle.c65_code.specs.declared.routine.UnaryRoutine.{UnaryRoutine}
 use Rattle.c65_code.specs.LineState.{State, sp_of, IsBytes}
 use Rattle.c65_code.specs.Numbers.{words_of, result_width, unary_result, unary_width}
-use Rattle.c65_code.specs.Effects.{routine_sets}
 use Rattle.c65_code.specs.Placement.{IsPlacement}
 use Rattle.c65_code.specs.Texts.{range_of, listed}
 use Rattle.c65_code.specs.Rows.{Row, Meets, written, row_of, row_by, giving, giving_if, costing, popping, tos_row, tos_cost, primary_of, size_of, low_byte, high_byte, upper_word}
-use Rattle.c65_code.specs.Moves.{MeetsRow}
 use Rattle.c65_code.specs.Steady.{IsOpen, HasRoom}
 use Rattle.c65_meaning.specs.State.{Scene}
 use Rattle.c65_agree_store.specs.Stands.{Placing, Banks}
@@ -24,8 +23,8 @@ use Rattle.c65_agree_state.proofs.Followed.{ready_is_calm}
 use Rattle.c65_agree_state.proofs.Scratch.{scratch_changes}
 use Rattle.c65_agree_state.proofs.Leaves.{scratch_is_kept}
 use Rattle.c65_agree_rows.specs.Rows.{IsQuiet, Pushing, Byte, Word, ByteAsWord, Zero, Long, push_of, pushed_by, ArePushed}
-use Rattle.c65_agree_rows.specs.Laws.{PushesRun, OperatorsRun, OppositesRun}
-use Rattle.c65_agree_rows.proofs.Quiet.{written_other, listed_are_at, are_at_in, listed_below, in_range, leaves_bank, quiet_rows_scratch}
+use Rattle.c65_agree_rows.specs.Laws.{Runs, IsReadyPushed, PushesRun, OperatorsRun, IsKeptWith, OppositesRun}
+use Rattle.c65_agree_rows.proofs.Quiet.{written_other, listed_are_at, are_at_in, listed_below, in_range, quiet_row, runs_by, quiet_rows_scratch}
 
 -- ---- pushed
 
@@ -45,11 +44,11 @@ record HasPush (push : Pushing) (t : State) : Type 0 where
   pushes : IsPush (pushed_by push t) t row
 
 push_rows : (push : Pushing) (t : State) → HasPush push t
-push_rows Byte t = record { row = _; is = refl; pushes = record { quiet = record { taken = refl; out = refl; ends = refl; room = omega arith; bank = leaves_bank (routine_sets routines.PushA) refl refl refl refl refl refl }; ready = refl; sp = refl; writes = refl; near = refl; far = refl; few = omega arith } }
-push_rows Word t = record { row = _; is = refl; pushes = record { quiet = record { taken = refl; out = refl; ends = refl; room = omega arith; bank = leaves_bank (routine_sets routines.PushAx) refl refl refl refl refl refl }; ready = refl; sp = refl; writes = refl; near = refl; far = refl; few = omega arith } }
-push_rows ByteAsWord t = record { row = _; is = refl; pushes = record { quiet = record { taken = refl; out = refl; ends = refl; room = omega arith; bank = leaves_bank (routine_sets routines.PushA0) refl refl refl refl refl refl }; ready = refl; sp = refl; writes = refl; near = refl; far = refl; few = omega arith } }
-push_rows Zero t = record { row = _; is = refl; pushes = record { quiet = record { taken = refl; out = refl; ends = refl; room = omega arith; bank = leaves_bank (routine_sets routines.Push0) refl refl refl refl refl refl }; ready = refl; sp = refl; writes = refl; near = refl; far = refl; few = omega arith } }
-push_rows Long t = record { row = _; is = refl; pushes = record { quiet = record { taken = refl; out = refl; ends = refl; room = omega arith; bank = leaves_bank (routine_sets routines.PushEax) refl refl refl refl refl refl }; ready = refl; sp = refl; writes = refl; near = refl; far = refl; few = omega arith } }
+push_rows Byte t = record { row = _; is = refl; pushes = record { quiet = quiet_row _ refl refl refl refl refl; ready = refl; sp = refl; writes = refl; near = refl; far = refl; few = omega arith } }
+push_rows Word t = record { row = _; is = refl; pushes = record { quiet = quiet_row _ refl refl refl refl refl; ready = refl; sp = refl; writes = refl; near = refl; far = refl; few = omega arith } }
+push_rows ByteAsWord t = record { row = _; is = refl; pushes = record { quiet = quiet_row _ refl refl refl refl refl; ready = refl; sp = refl; writes = refl; near = refl; far = refl; few = omega arith } }
+push_rows Zero t = record { row = _; is = refl; pushes = record { quiet = quiet_row _ refl refl refl refl refl; ready = refl; sp = refl; writes = refl; near = refl; far = refl; few = omega arith } }
+push_rows Long t = record { row = _; is = refl; pushes = record { quiet = quiet_row _ refl refl refl refl refl; ready = refl; sp = refl; writes = refl; near = refl; far = refl; few = omega arith } }
 
 module _ (g : World) (a : Active) (pushed needs : ℕ) (c : Scene) (w : Placing) (k : Banks) (t : State) (bytes : List ℕ) (row : Row) (placed : IsPlacement g.code g.place) (r : Ready g a pushed (1 + needs) c w k t) (p : IsPush bytes t row) where
   abbrev at : ℕ
@@ -95,12 +94,8 @@ pub pushes_run : PushesRun
 pushes_run g a pushed needs c w k t push placed r =
     let h = push_rows push t in
     let bytes = pushed_by push t in
-    record {
-      room = rw h.is (push_room g a pushed needs c w k t bytes h.row placed r h.pushes);
-      behind = λ u meets b.
-          let m : Meets h.row t u = subst (λ o. MeetsRow o t u) h.is meets in
-          record { ready = push_ready g a pushed needs c w k t bytes h.row placed r h.pushes u m b; are = push_are g a pushed needs c w k t bytes h.row placed r h.pushes u m };
-    }
+    runs_by g (push_of push) t h.row (IsReadyPushed g a pushed needs c w k push t) h.is (push_room g a pushed needs c w k t bytes h.row placed r h.pushes) (λ u m b.
+    record { ready = push_ready g a pushed needs c w k t bytes h.row placed r h.pushes u m b; are = push_are g a pushed needs c w k t bytes h.row placed r h.pushes u m })
 
 -- ---- the primary register
 
@@ -135,8 +130,8 @@ record IsPop (count : ℕ) (t : State) (row : Row) : Type 0 where
   far : row.far ≡ []
 
 is_pop : (op : TosOp) (width to : Width) (v : ℕ) (t : State) → IsPop (size_of width) t (giving to v (popped op width t))
-is_pop op width Ax v t = record { quiet = record { taken = refl; out = refl; ends = refl; room = omega arith; bank = leaves_bank (routine_sets (routines.Tos op width)) refl refl refl refl refl refl }; ready = refl; sp = refl; writes = refl; near = refl; far = refl }
-is_pop op width Eax v t = record { quiet = record { taken = refl; out = refl; ends = refl; room = omega arith; bank = leaves_bank (routine_sets (routines.Tos op width)) refl refl refl refl refl refl }; ready = refl; sp = refl; writes = refl; near = refl; far = refl }
+is_pop op width Ax v t = record { quiet = quiet_row _ refl refl refl refl refl; ready = refl; sp = refl; writes = refl; near = refl; far = refl }
+is_pop op width Eax v t = record { quiet = quiet_row _ refl refl refl refl refl; ready = refl; sp = refl; writes = refl; near = refl; far = refl }
 
 module _ (g : World) (a : Active) (pushed needs count : ℕ) (c : Scene) (w : Placing) (k : Banks) (t : State) (row : Row) (placed : IsPlacement g.code g.place) (r : Ready g a (pushed + count) needs c w k t) (p : IsPop count t row) where
   held : HasStacks g t
@@ -194,12 +189,29 @@ module _ (g : World) (a : Active) (pushed needs : ℕ) (c : Scene) (w : Placing)
       let scratch : OnlyScratch (sp_of t) t u = quiet_rows_scratch (sp_of t) row t u p.quiet (rw p.writes tt) meets b r.joins.ended still_stacks.soft (omega arith) in
       scratch_is_kept g a pushed needs c w k t u placed r scratch (meets.sp ∙ p.sp)
 
-  pub no_access : row.ready ≡ true → row.near ≡ [] → row.far ≡ [] → HasRoom g.place row t
-  no_access ready near far = record { ready = ready; soft = still_stacks.soft; hard = still_stacks.hard; near = rw near (All-nil (IsOpen g.place (min (sp_of t) row.sp))); far = rw far (All-nil (IsOpen g.place (max (sp_of t) row.sp))) }
+-- a routine that keeps sp and writes nothing, with what it reads and what it leaves
+pub record HasRow (r : Routine) (counted others : List ℕ) (Result : State → Type 0) (t : State) : Type 0 where
+  pub row : Row
+  pub is : row_of r t ≡ Some row
+  pub still : IsStill t row
+  pub ready : row.ready ≡ true
+  pub near : row.near ≡ counted
+  pub far : row.far ≡ others
+  pub result : (u : State) → Meets row t u → Result u
+
+module _ (g : World) (a : Active) (pushed needs : ℕ) (c : Scene) (w : Placing) (k : Banks) (t : State) (placed : IsPlacement g.code g.place) (ready : Ready g a pushed needs c w k t) where
+  pub kept_runs : (r : Routine) (near far : List ℕ) (Result : State → Type 0) → HasRow r near far Result t → All (IsOpen g.place (sp_of t)) near → All (IsOpen g.place (sp_of t)) far
+      → Runs g r t (IsKeptWith g a c w k t Result)
+  kept_runs r near far Result h opened open_far =
+      let lower : min (sp_of t) h.row.sp ≡ sp_of t = omega (arith, h.still.sp) in
+      let upper : max (sp_of t) h.row.sp ≡ sp_of t = omega (arith, h.still.sp) in
+      let stacks : HasStacks g t = ready_is_calm g a pushed needs c w k t ready in
+      let access : HasRoom g.place h.row t = record { ready = h.ready; soft = stacks.soft; hard = stacks.hard; near = rw (h.near, lower) opened; far = rw (h.far, upper) open_far } in
+      runs_by g r t h.row (IsKeptWith g a c w k t Result) h.is access (λ u m b. record { kept = still_kept g a pushed needs c w k t h.row placed ready h.still u m b; result = h.result u m })
 
 still_unary : (op : UnaryRoutine) (width to : Width) (v : ℕ) (t : State) → IsStill t (giving to v (costing 256 (row_by (routines.Unary op width) t)))
-still_unary op width Ax v t = record { quiet = record { taken = refl; out = refl; ends = refl; room = omega arith; bank = leaves_bank (routine_sets (routines.Unary op width)) refl refl refl refl refl refl }; sp = refl; writes = refl }
-still_unary op width Eax v t = record { quiet = record { taken = refl; out = refl; ends = refl; room = omega arith; bank = leaves_bank (routine_sets (routines.Unary op width)) refl refl refl refl refl refl }; sp = refl; writes = refl }
+still_unary op width Ax v t = record { quiet = quiet_row _ refl refl refl refl refl; sp = refl; writes = refl }
+still_unary op width Eax v t = record { quiet = quiet_row _ refl refl refl refl refl; sp = refl; writes = refl }
 
 unary_access : (g : World) (op : UnaryRoutine) (width to : Width) (v : ℕ) (t : State) → HasStacks g t → HasRoom g.place (giving to v (costing 256 (row_by (routines.Unary op width) t))) t
 unary_access g op width Ax v t h = record { ready = refl; soft = h.soft; hard = h.hard; near = All-nil _; far = All-nil _ }

@@ -1,3 +1,4 @@
 pub mod Quiet
 pub mod Families
 pub mod Loads
+pub mod Moves

@@ -1,23 +1,18 @@
 -- Widenings and loads.
 use Rattle.std.proofs.Common.{◌≡◌, ℕ, ◌+◌, ◌-◌, ◌*◌, ◌%◌, ◌<◌, ◌≤◌, ◌⊎◌, inl, inr, [], Some, Bool, true, false, refl, sym, ap, ◌∙◌, subst, arith}
-use Rattle.std.specs.Prelude.{min, max, nat_lt, if◌then◌else◌}
+use Rattle.std.specs.Prelude.{nat_lt, if◌then◌else◌}
 use Rattle.std.proofs.lemmas.Bool.{cases_lt}
 use Rattle.std.proofs.lemmas.List.Elements.{All-nil}
-use Rattle.c65_code.specs.declared.routine.Routine.TheVariants as routines
 use Rattle.c65_code.specs.LineState.{State, word_at, sp_of, ax_of, IsBytes}
-use Rattle.c65_code.specs.Effects.{routine_sets}
 use Rattle.c65_code.specs.Texts.{range_of}
-use Rattle.c65_code.specs.Rows.{Row, Meets, row_of, long_at}
-use Rattle.c65_code.specs.Moves.{MeetsRow}
-use Rattle.c65_code.specs.Steady.{IsOpen, HasRoom}
-use Rattle.c65_agree_state.specs.Laws.{HasStacks}
-use Rattle.c65_agree_state.proofs.Followed.{ready_is_calm}
+use Rattle.c65_code.specs.Rows.{long_at}
+use Rattle.c65_code.specs.Steady.{IsOpen}
 use Rattle.c65_agree_numbers.specs.Words.{signed_byte, signed_long}
 use Rattle.c65_agree_numbers.proofs.Tests.{less, not_less, at_most}
 use Rattle.c65_agree_rows.specs.Rows.{Widening, SignedByte, SignedWord, UnsignedWord, widening_of, IsWidened, NearLoad, WordByY, WordAtSp, LongByY, near_load_of, near_width, IsOffset, IsNearLoaded, FarLoad, FarByte, FarWord, FarLong, far_load_of, far_width, IsFarLoaded}
 use Rattle.c65_agree_rows.specs.Laws.{WideningsRun, NearLoadsRun, FarLoadsRun}
-use Rattle.c65_agree_rows.proofs.Quiet.{in_range, leaves_bank}
-use Rattle.c65_agree_rows.proofs.Families.{IsStill, still_kept, no_access}
+use Rattle.c65_agree_rows.proofs.Quiet.{in_range, quiet_row}
+use Rattle.c65_agree_rows.proofs.Families.{HasRow, kept_runs}
 
 -- ---- widened
 
@@ -44,20 +39,11 @@ same_sign a x h = go (cases_lt 127 x)
 word_signed : (a x : ℕ) → a < 256 → a + 256 * x + 65536 * (if nat_lt 127 x then 65535 else 0) ≡ signed_long (a + 256 * x)
 word_signed a x h = long_by (nat_lt 127 x) (a + 256 * x) ∙ ap (λ b. if b then a + 256 * x + 4294901760 else a + 256 * x) (same_sign a x h)
 
-record HasWidening (widening : Widening) (t : State) : Type 0 where
-  row : Row
-  is : row_of (widening_of widening) t ≡ Some row
-  still : IsStill t row
-  ready : row.ready ≡ true
-  near : row.near ≡ []
-  far : row.far ≡ []
-  result : (u : State) → Meets row t u → IsWidened widening t u
-
-widening_rows : (widening : Widening) (t : State) → IsBytes t → HasWidening widening t
+widening_rows : (widening : Widening) (t : State) → IsBytes t → HasRow (widening_of widening) [] [] (IsWidened widening t) t
 widening_rows SignedByte t b = record {
   row = _;
   is = refl;
-  still = record { quiet = record { taken = refl; out = refl; ends = refl; room = omega arith; bank = leaves_bank (routine_sets routines.SignA) refl refl refl refl refl refl }; sp = refl; writes = refl };
+  still = record { quiet = quiet_row _ refl refl refl refl refl; sp = refl; writes = refl };
   ready = refl;
   near = refl;
   far = refl;
@@ -66,7 +52,7 @@ widening_rows SignedByte t b = record {
 widening_rows SignedWord t b = record {
   row = _;
   is = refl;
-  still = record { quiet = record { taken = refl; out = refl; ends = refl; room = omega arith; bank = leaves_bank (routine_sets routines.LongAx) refl refl refl refl refl refl }; sp = refl; writes = refl };
+  still = record { quiet = quiet_row _ refl refl refl refl refl; sp = refl; writes = refl };
   ready = refl;
   near = refl;
   far = refl;
@@ -75,7 +61,7 @@ widening_rows SignedWord t b = record {
 widening_rows UnsignedWord t b = record {
   row = _;
   is = refl;
-  still = record { quiet = record { taken = refl; out = refl; ends = refl; room = omega arith; bank = leaves_bank (routine_sets routines.ULongAx) refl refl refl refl refl refl }; sp = refl; writes = refl };
+  still = record { quiet = quiet_row _ refl refl refl refl refl; sp = refl; writes = refl };
   ready = refl;
   near = refl;
   far = refl;
@@ -84,11 +70,7 @@ widening_rows UnsignedWord t b = record {
 
 pub widenings_run : WideningsRun
 widenings_run g a pushed needs c w k t widening placed r =
-    let h = widening_rows widening t r.joins.bytes in
-    record {
-      room = rw h.is (no_access g a pushed needs c w k t h.row placed r h.ready h.near h.far);
-      behind = λ u meets b. let m : Meets h.row t u = subst (λ o. MeetsRow o t u) h.is meets in record { kept = still_kept g a pushed needs c w k t h.row placed r h.still u m b; result = h.result u m };
-    }
+    kept_runs g a pushed needs c w k t placed r (widening_of widening) [] [] (IsWidened widening t) (widening_rows widening t r.joins.bytes) (All-nil (IsOpen g.place (sp_of t))) (All-nil (IsOpen g.place (sp_of t)))
 
 -- ---- loaded
 
@@ -98,15 +80,9 @@ word_below t at b = omega (arith, b.mem at, b.mem (at + 1))
 long_below : (t : State) (at : ℕ) → IsBytes t → long_at t.mem at < 4294967296
 long_below t at b = omega (arith, word_below t at b, word_below t (at + 2) b)
 
--- the row of a load of bytes from `at` on that are counted from sp
-record HasNear (load : NearLoad) (at : ℕ) (t : State) : Type 0 where
-  row : Row
-  is : row_of (near_load_of load) t ≡ Some row
-  still : IsStill t row
-  ready : row.ready ≡ true
-  near : row.near ≡ range_of (near_width load) at
-  far : row.far ≡ []
-  result : (u : State) → Meets row t u → IsNearLoaded load at t u
+-- a load of bytes from `at` on that are counted from sp
+abbrev HasNear : NearLoad → ℕ → State → Type 0
+HasNear load at t = HasRow (near_load_of load) (range_of (near_width load) at) [] (IsNearLoaded load at t) t
 
 near_rows : (load : NearLoad) (o : ℕ) (t : State) → IsBytes t → IsOffset load o t.regs.y → HasNear load (sp_of t + o) t
 near_rows WordByY o t b e =
@@ -114,7 +90,7 @@ near_rows WordByY o t b e =
     record {
       row = _;
       is = refl;
-      still = record { quiet = record { taken = refl; out = refl; ends = refl; room = omega arith; bank = leaves_bank (routine_sets routines.LdAxYSp) refl refl refl refl refl refl }; sp = refl; writes = refl };
+      still = record { quiet = quiet_row _ refl refl refl refl refl; sp = refl; writes = refl };
       ready = at_most 1 t.regs.y (omega (arith, e));
       near = ap (range_of 2) at;
       far = refl;
@@ -125,7 +101,7 @@ near_rows WordAtSp o t b e =
     record {
       row = _;
       is = refl;
-      still = record { quiet = record { taken = refl; out = refl; ends = refl; room = omega arith; bank = leaves_bank (routine_sets routines.LdAx0Sp) refl refl refl refl refl refl }; sp = refl; writes = refl };
+      still = record { quiet = quiet_row _ refl refl refl refl refl; sp = refl; writes = refl };
       ready = refl;
       near = ap (range_of 2) at;
       far = refl;
@@ -136,7 +112,7 @@ near_rows LongByY o t b e =
     record {
       row = _;
       is = refl;
-      still = record { quiet = record { taken = refl; out = refl; ends = refl; room = omega arith; bank = leaves_bank (routine_sets routines.LdEaxYSp) refl refl refl refl refl refl }; sp = refl; writes = refl };
+      still = record { quiet = quiet_row _ refl refl refl refl refl; sp = refl; writes = refl };
       ready = at_most 3 t.regs.y (omega (arith, e));
       near = ap (range_of 4) at;
       far = refl;
@@ -145,34 +121,15 @@ near_rows LongByY o t b e =
 
 pub near_loads_run : NearLoadsRun
 near_loads_run g a pushed needs c w k t load o placed r e fits =
-    let h = near_rows load o t r.joins.bytes e in
-    let stacks : HasStacks g t = ready_is_calm g a pushed needs c w k t r in
-    let access : HasRoom g.place h.row t = record {
-      ready = h.ready;
-      soft = stacks.soft;
-      hard = stacks.hard;
-      near = rw (h.near, h.still.sp) (in_range (IsOpen g.place (min (sp_of t) (sp_of t))) (near_width load) (sp_of t + o) (λ i lt. inr (omega arith, omega (arith, lt, fits))));
-      far = rw h.far (All-nil (IsOpen g.place (max (sp_of t) h.row.sp)));
-    } in
-    record {
-      room = rw h.is access;
-      behind = λ u meets b. let m : Meets h.row t u = subst (λ o. MeetsRow o t u) h.is meets in record { kept = still_kept g a pushed needs c w k t h.row placed r h.still u m b; result = h.result u m };
-    }
+    kept_runs g a pushed needs c w k t placed r (near_load_of load) (range_of (near_width load) (sp_of t + o)) [] (IsNearLoaded load (sp_of t + o) t) (near_rows load o t r.joins.bytes e)
+    (in_range (IsOpen g.place (sp_of t)) (near_width load) (sp_of t + o) (λ i lt. inr (omega arith, omega (arith, lt, fits))))
+    (All-nil (IsOpen g.place (sp_of t)))
 
-record HasFar (load : FarLoad) (t : State) : Type 0 where
-  row : Row
-  is : row_of (far_load_of load) t ≡ Some row
-  still : IsStill t row
-  ready : row.ready ≡ true
-  near : row.near ≡ []
-  far : row.far ≡ range_of (far_width load) (ax_of t)
-  result : (u : State) → Meets row t u → IsFarLoaded load t u
-
-far_rows : (load : FarLoad) (t : State) → IsBytes t → HasFar load t
+far_rows : (load : FarLoad) (t : State) → IsBytes t → HasRow (far_load_of load) [] (range_of (far_width load) (ax_of t)) (IsFarLoaded load t) t
 far_rows FarByte t b = record {
   row = _;
   is = refl;
-  still = record { quiet = record { taken = refl; out = refl; ends = refl; room = omega arith; bank = leaves_bank (routine_sets routines.LdAi) refl refl refl refl refl refl }; sp = refl; writes = refl };
+  still = record { quiet = quiet_row _ refl refl refl refl refl; sp = refl; writes = refl };
   ready = refl;
   near = refl;
   far = refl;
@@ -181,7 +138,7 @@ far_rows FarByte t b = record {
 far_rows FarWord t b = record {
   row = _;
   is = refl;
-  still = record { quiet = record { taken = refl; out = refl; ends = refl; room = omega arith; bank = leaves_bank (routine_sets routines.LdAxi) refl refl refl refl refl refl }; sp = refl; writes = refl };
+  still = record { quiet = quiet_row _ refl refl refl refl refl; sp = refl; writes = refl };
   ready = refl;
   near = refl;
   far = refl;
@@ -190,7 +147,7 @@ far_rows FarWord t b = record {
 far_rows FarLong t b = record {
   row = _;
   is = refl;
-  still = record { quiet = record { taken = refl; out = refl; ends = refl; room = omega arith; bank = leaves_bank (routine_sets routines.LdEaxi) refl refl refl refl refl refl }; sp = refl; writes = refl };
+  still = record { quiet = quiet_row _ refl refl refl refl refl; sp = refl; writes = refl };
   ready = refl;
   near = refl;
   far = refl;
@@ -199,20 +156,6 @@ far_rows FarLong t b = record {
 
 pub far_loads_run : FarLoadsRun
 far_loads_run g a pushed needs c w k t load placed r fits =
-    let h = far_rows load t r.joins.bytes in
-    let stacks : HasStacks g t = ready_is_calm g a pushed needs c w k t r in
-    let access : HasRoom g.place h.row t = record {
-      ready = h.ready;
-      soft = stacks.soft;
-      hard = stacks.hard;
-      near = rw h.near (All-nil (IsOpen g.place (min (sp_of t) h.row.sp)));
-      far = rw (h.far, h.still.sp) (in_range (IsOpen g.place (max (sp_of t) (sp_of t))) (far_width load) (ax_of t) (λ i lt. higher (ax_of t + i) (fits i lt)));
-    } in
-    record {
-      room = rw h.is access;
-      behind = λ u meets b. let m : Meets h.row t u = subst (λ o. MeetsRow o t u) h.is meets in record { kept = still_kept g a pushed needs c w k t h.row placed r h.still u m b; result = h.result u m };
-    }
-  where
-    higher : (b : ℕ) → IsOpen g.place (sp_of t) b → IsOpen g.place (max (sp_of t) (sp_of t)) b
-    higher b (inl d) = inl d
-    higher b (inr o) = inr (omega (arith, o.0), o.1)
+    kept_runs g a pushed needs c w k t placed r (far_load_of load) [] (range_of (far_width load) (ax_of t)) (IsFarLoaded load t) (far_rows load t r.joins.bytes)
+    (All-nil (IsOpen g.place (sp_of t)))
+    (in_range (IsOpen g.place (sp_of t)) (far_width load) (ax_of t) fits)

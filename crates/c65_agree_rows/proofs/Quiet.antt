@@ -1,37 +1,43 @@
 -- Quiet rows, and routines under what is followed.
-use Rattle.std.proofs.Common.{◌≡◌, ℕ, zero, suc, ◌+◌, ◌*◌, ◌<◌, ◌≤◌, ◌⊎◌, inl, inr, List, [], ◌∷◌, ◌++◌, false, refl, sym, ap, ◌∙◌, arith}
-use Rattle.std.specs.Prelude.{drop, length}
-use Rattle.std.specs.Prelude.{All}
+use Rattle.std.proofs.Common.{◌≡◌, ℕ, zero, suc, ◌+◌, ◌*◌, ◌<◌, ◌≤◌, ◌⊎◌, inl, inr, List, [], ◌∷◌, ◌++◌, Bool, true, false, Some, None, refl, sym, ap, ◌∙◌, subst, arith}
+use Rattle.std.specs.Prelude.{drop, length, All, ◌||◌}
 use Rattle.std.proofs.lemmas.Bool.Decides.{nat_tests}
 use Rattle.std.proofs.lemmas.List.Elements.{All-nil, All-cons}
 use Rattle.c65_code.specs.declared.parts.Part.TheVariants.{Zp}
 use Rattle.c65_code.specs.declared.parts.RegSet.{RegSet}
+use Rattle.c65_code.specs.declared.routine.Routine.{Routine}
 use Rattle.c65_code.specs.Parts.{has_part}
-use Rattle.c65_code.specs.LineState.{Bytes, write, sp_of}
+use Rattle.c65_code.specs.LineState.{Place as Spot, Bytes, write, State, sp_of, IsBytes}
 use Rattle.c65_code.specs.Forms.{Run}
-use Rattle.c65_code.specs.Rows.{written, row_of}
+use Rattle.c65_code.specs.Rows.{Row, Meets, written, row_of}
+use Rattle.c65_code.specs.Moves.{MeetsRow}
+use Rattle.c65_code.specs.Steady.{HasRoom}
 use Rattle.c65_code.specs.Texts.{range_of, listed}
 use Rattle.c65_code.specs.Weights.{row_cost}
+use Rattle.c65_code.specs.Comes.{Seen}
 use Rattle.c65_genwide.specs.Lines.{call}
+use Rattle.c65_meaning.specs.Why.{Why}
+use Rattle.c65_meaning.specs.Sem.{IsDefined, outcome_of}
+use Rattle.c65_meaning.specs.State.{Undefined}
 use Rattle.c65_meaning.specs.Step.{steps}
 use Rattle.c65_agree_step.specs.Ways.{IsAtLine}
 use Rattle.c65_agree_step.proofs.Ways.{weaken, routines_go}
-use Rattle.c65_agree_state.specs.World.{program_in, setting_in}
-use Rattle.c65_agree_state.specs.Follows.{Agrees}
+use Rattle.c65_agree_state.specs.World.{World, program_in, setting_in}
+use Rattle.c65_agree_state.specs.Follows.{Agrees, Follows}
 use Rattle.c65_agree_state.proofs.Followed.{ready_is_calm}
-use Rattle.c65_agree_rows.specs.Rows.{WriteBelow, AreAt}
-use Rattle.c65_agree_rows.specs.Laws.{QuietRowsScratch, RoutinesAreFollowed}
+use Rattle.c65_agree_rows.specs.Rows.{IsQuiet, WriteBelow, AreAt}
+use Rattle.c65_agree_rows.specs.Laws.{QuietRowsScratch, RoutinesAreFollowed, Runs}
 
-append_nothing : (xs : List ℕ) → xs ++ [] ≡ xs
+pub append_nothing : (xs : List ℕ) → xs ++ [] ≡ xs
 append_nothing [] = refl
 append_nothing (x ∷ xs) = ap (λ ys. x ∷ ys) (append_nothing xs)
 
 -- ---- what is written
 
-write_other : (m : Bytes) (at v n : ℕ) → (n ≡ at → ⊥) → write m at v n ≡ m n
+pub write_other : (m : Bytes) (at v n : ℕ) → (n ≡ at → ⊥) → write m at v n ≡ m n
 write_other m at v n h = grind (arith, nat_tests)
 
-write_same : (m : Bytes) (at v : ℕ) → write m at v at ≡ v
+pub write_same : (m : Bytes) (at v : ℕ) → write m at v at ≡ v
 write_same m at v = grind (arith, nat_tests)
 
 pub written_other : (m : Bytes) (ws : List (ℕ × ℕ)) (bound n : ℕ) → WriteBelow bound ws → (n < 63472) ⊎ (bound ≤ n) → written m ws n ≡ m n
@@ -69,16 +75,31 @@ in_range P (suc count) at h =
     later : (i : ℕ) → i < count → P (at + 1 + i)
     later i lt = let e : at + 1 + i ≡ at + suc i = omega arith in rw e (h (suc i) (omega (arith, lt)))
 
--- the six bytes of regbank
-pub leaves_bank : (s : RegSet) → has_part s (Zp 20) ≡ false → has_part s (Zp 21) ≡ false → has_part s (Zp 22) ≡ false → has_part s (Zp 23) ≡ false → has_part s (Zp 24) ≡ false → has_part s (Zp 25) ≡ false
-    → (i : ℕ) → i < 6 → has_part s (Zp (20 + i)) ≡ false
-leaves_bank s a b c d e f zero lt = a
-leaves_bank s a b c d e f (suc zero) lt = b
-leaves_bank s a b c d e f (suc (suc zero)) lt = c
-leaves_bank s a b c d e f (suc (suc (suc zero))) lt = d
-leaves_bank s a b c d e f (suc (suc (suc (suc zero)))) lt = e
-leaves_bank s a b c d e f (suc (suc (suc (suc (suc zero))))) lt = f
-leaves_bank s a b c d e f (suc (suc (suc (suc (suc (suc i)))))) lt = absurd (omega arith)
+-- ---- rows
+
+-- whether one of so many bytes of the zero page is among the parts
+abbrev has_one : ℕ → ℕ → RegSet → Bool
+has_one zero at s = false
+has_one (suc n) at s = has_part s (Zp at) || has_one n (suc at) s
+
+neither : (x y : Bool) → x || y ≡ false → (x ≡ false) × (y ≡ false)
+neither true y e = cc
+neither false y e = (refl, e)
+
+has_none : (n at : ℕ) (s : RegSet) → has_one n at s ≡ false → (i : ℕ) → i < n → has_part s (Zp (at + i)) ≡ false
+has_none zero at s e i lt = absurd (omega arith)
+has_none (suc n) at s e zero lt = let here : at + 0 ≡ at = omega arith in rw here (neither (has_part s (Zp at)) (has_one n (suc at) s) e).0
+has_none (suc n) at s e (suc i) lt =
+    let onward : at + suc i ≡ suc at + i = omega arith in
+    rw onward (has_none n (suc at) s (neither (has_part s (Zp at)) (has_one n (suc at) s) e).1 i (omega (arith, lt)))
+
+-- a row of 64 bytes of room that takes, writes and ends nothing, of a routine that leaves the six bytes of regbank
+pub quiet_row : (row : Row) → row.taken ≡ 0 → row.out ≡ [] → row.ends ≡ None → row.room ≡ 64 → has_one 6 20 row.changes ≡ false → IsQuiet row
+quiet_row row taken out ends room none = record { taken = taken; out = out; ends = ends; room = omega (arith, room); bank = has_none 6 20 row.changes none }
+
+-- a routine by its row
+pub runs_by : (g : World) (r : Routine) (t : State) (row : Row) (Behind : State → Type 0) → row_of r t ≡ Some row → HasRoom g.place row t → ((u : State) → Meets row t u → IsBytes u → Behind u) → Runs g r t Behind
+runs_by g r t row Behind is access behind = record { room = rw is access; behind = λ u meets b. behind u (subst (λ o. MeetsRow o t u) is meets) b }
 
 -- ---- the laws
 
@@ -103,3 +124,13 @@ routines_are_followed g a pushed needs c w k t n v p m seen r ready there room b
     let q = Agrees g (steps (program_in g) n m) in
     let at : IsAtLine (setting_in g) a.symbol p t (Run r) = record { line = call r; there = there; formed = refl; calm = (ready_is_calm g a pushed needs c w k t ready).calm; within = room; running = ready.joins.ended } in
     weaken (setting_in g) q (4000 * n + (row_cost (row_of r t) + v)) (omega arith) (routines_go q (setting_in g) (4000 * n + v) a.symbol p t seen r at (λ u meets bytes. behind u meets bytes d))
+
+-- ---- undefined actions
+
+-- an undefined action stays
+undefined_stays : (g : World) (why : Why) (n : ℕ) → steps (program_in g) n (Undefined why) ≡ Undefined why
+undefined_stays g why zero = refl
+undefined_stays g why (suc n) = undefined_stays g why n
+
+pub nothing_follows : (g : World) (why : Why) (n v : ℕ) (q : Spot) (t : State) (seen : Seen) → Follows g n v (Undefined why) q t seen
+nothing_follows g why n v q t seen d = absurd (subst (λ m. IsDefined (outcome_of m)) (undefined_stays g why n) d)

@@ -1,11 +1,11 @@
 -- Calls of the runtime's routines in an expression: what their rows say as steps of the relation of scenes and states.
-use Rattle.std.specs.Prelude.{◌≡◌, ℕ, suc, ◌+◌, ◌<◌, ◌≤◌, Some, None, length, slice_get}
+use Rattle.std.specs.Prelude.{◌≡◌, ℕ, suc, ◌+◌, ◌*◌, ◌<◌, ◌≤◌, Some, None, length, slice_get}
 use Rattle.c65_code.specs.declared.routine.Routine.{Routine}
 use Rattle.c65_code.specs.declared.routine.Routine.TheVariants as routines
 use Rattle.c65_code.specs.declared.routine.Width.{Width}
 use Rattle.c65_code.specs.declared.routine.TosOp.{TosOp}
 use Rattle.c65_code.specs.declared.routine.UnaryRoutine.{UnaryRoutine}
-use Rattle.c65_code.specs.LineState.{State, sp_of, ax_of, IsBytes}
+use Rattle.c65_code.specs.LineState.{State, sp_of, ax_of, eax_of, IsBytes}
 use Rattle.c65_code.specs.Numbers.{words_of, tos_result, result_width, unary_result, unary_width}
 use Rattle.c65_code.specs.Placement.{IsPlacement, stack_start, stack_end}
 use Rattle.c65_code.specs.Rows.{Row, Meets, row_of, primary_of, number_at, size_of}
@@ -21,7 +21,7 @@ use Rattle.c65_agree_state.specs.World.{World, Active, lines_of, place_in}
 use Rattle.c65_agree_state.specs.Follows.{Follows}
 use Rattle.c65_agree_state.specs.Exprs.{Ready, Kept}
 use Rattle.c65_agree_state.specs.Laws.{OnlyScratch}
-use Rattle.c65_agree_rows.specs.Rows.{IsQuiet, WriteBelow, Pushing, push_of, pushed_by, ArePushed, ArePopped, Widening, widening_of, IsWidened, NearLoad, near_load_of, IsOffset, near_width, IsNearLoaded, FarLoad, far_load_of, far_width, IsFarLoaded}
+use Rattle.c65_agree_rows.specs.Rows.{IsQuiet, WriteBelow, Pushing, push_of, pushed_by, ArePushed, ArePopped, Moving, raising_of, lowering_of, moved_by, AreLeft, Widening, widening_of, IsWidened, NearLoad, near_load_of, IsOffset, near_width, IsNearLoaded, FarLoad, far_load_of, far_width, IsFarLoaded}
 
 -- ---- any routine
 
@@ -64,6 +64,26 @@ OperatorsRun = (g : World) (a : Active) (pushed needs : ℕ) (c : Scene) (w : Pl
     → IsPlacement g.code g.place → Ready g a (pushed + size_of width) needs c w k t
     → tos_result op width (number_at width t.mem (sp_of t)) (primary_of width t) ≡ Some v → v < words_of (result_width op width)
     → Runs g (routines.Tos op width) t (IsReadyPopped g a pushed needs c w k op width v t)
+
+-- sp is raised over bytes that wait; A, X and sreg stay
+pub record IsRaised (g : World) (a : Active) (pushed needs : ℕ) (c : Scene) (w : Placing) (k : Banks) (count : ℕ) (t u : State) : Type 0 where
+  pub ready : Ready g a pushed needs c w k u
+  pub are : ArePopped count t u
+  pub value : eax_of u ≡ eax_of t
+
+abbrev pub RaisesRun : Type 0
+RaisesRun = (g : World) (a : Active) (pushed needs : ℕ) (c : Scene) (w : Placing) (k : Banks) (t : State) (move : Moving)
+    → IsPlacement g.code g.place → Ready g a (pushed + moved_by move t) needs c w k t → Runs g (raising_of move) t (IsRaised g a pushed needs c w k (moved_by move t) t)
+
+-- sp is lowered, where as many bytes may still wait
+pub record IsLowered (g : World) (a : Active) (pushed needs : ℕ) (c : Scene) (w : Placing) (k : Banks) (count : ℕ) (t u : State) : Type 0 where
+  pub ready : Ready g a (pushed + count) needs c w k u
+  pub are : AreLeft count t u
+  pub value : eax_of u ≡ eax_of t
+
+abbrev pub LowersRun : Type 0
+LowersRun = (g : World) (a : Active) (pushed more needs : ℕ) (c : Scene) (w : Placing) (k : Banks) (t : State) (move : Moving)
+    → IsPlacement g.code g.place → Ready g a pushed (more + needs) c w k t → moved_by move t ≤ 8 * more → Runs g (lowering_of move) t (IsLowered g a pushed needs c w k (moved_by move t) t)
 
 -- all is kept that an expression keeps, and the primary register has the result
 pub record IsKeptWith (g : World) (a : Active) (c : Scene) (w : Placing) (k : Banks) (t : State) (Result : State → Type 0) (u : State) : Type 0 where

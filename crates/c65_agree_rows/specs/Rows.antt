@@ -1,12 +1,13 @@
 -- What the rows of the runtime's routines leave of a state in which an expression stands.
 use Rattle.std.specs.Prelude.{◌≡◌, ℕ, ◌+◌, ◌<◌, ◌≤◌, false, List, [], ◌∷◌, None, length}
 use Rattle.c65_code.specs.declared.parts.Part.TheVariants.{Zp}
+use Rattle.c65_code.specs.declared.routine.Count.{Count}
 use Rattle.c65_code.specs.declared.routine.Routine.{Routine}
 use Rattle.c65_code.specs.declared.routine.Routine.TheVariants as routines
 use Rattle.c65_code.specs.Parts.{has_part}
 use Rattle.c65_code.specs.LineState.{Bytes, word_at, State, sp_of, ax_of, eax_of}
 use Rattle.c65_code.specs.Placement.{stack_start}
-use Rattle.c65_code.specs.Rows.{Row, long_at}
+use Rattle.c65_code.specs.Rows.{Row, long_at, number_of}
 use Rattle.c65_agree_numbers.specs.Words.{signed_byte, signed_long}
 
 -- A row that takes no input, writes no output, does not end the run, and leaves regbank alone.
@@ -60,6 +61,28 @@ pub record ArePushed (bytes : List ℕ) (t u : State) : Type 0 where
 -- so many bytes at sp are taken off, and all from sp on is as before
 pub record ArePopped (count : ℕ) (t u : State) : Type 0 where
   pub sp : sp_of u ≡ sp_of t + count
+  pub mem : (n : ℕ) → sp_of t ≤ n → u.mem n ≡ t.mem n
+
+-- what moves sp: by a number of bytes, or by Y
+pub data Moving : Type 0 where
+  By : (count : Count) → Moving
+  ByY : Moving
+
+abbrev pub raising_of : Moving → Routine
+raising_of (By count) = routines.IncSp count
+raising_of ByY = routines.AddYSp
+
+abbrev pub lowering_of : Moving → Routine
+lowering_of (By count) = routines.DecSp count
+lowering_of ByY = routines.SubYSp
+
+abbrev pub moved_by : Moving → State → ℕ
+moved_by (By count) t = number_of count
+moved_by ByY t = t.regs.y
+
+-- so many bytes more wait, whatever they are, and all from the old sp on is as before
+pub record AreLeft (count : ℕ) (t u : State) : Type 0 where
+  pub sp : sp_of u + count ≡ sp_of t
   pub mem : (n : ℕ) → sp_of t ≤ n → u.mem n ≡ t.mem n
 
 -- ---- the primary register

@@ -1,5 +1,5 @@
 // Laws of the routines' rows, each the contract of a function that does nothing.
-ghost use Rattle.c65_agree_rows.specs.Laws.{FarLoadsRun, NearLoadsRun, OperatorsRun, OppositesRun, PushesRun, QuietRowsScratch, RoutinesAreFollowed, WideningsRun};
+ghost use Rattle.c65_agree_rows.specs.Laws.{FarLoadsRun, LowersRun, NearLoadsRun, OperatorsRun, OppositesRun, PushesRun, QuietRowsScratch, RaisesRun, RoutinesAreFollowed, WideningsRun};
 
 /// A quiet row that writes below a bound alone leaves only scratch bytes changed.
 pub fn quiet_rows_scratch()
@@ -14,6 +14,16 @@ pub fn routines_are_followed()
 /// A value that is to wait is pushed.
 pub fn pushes_run()
     ensures { PushesRun }
+{}
+
+/// The stack pointer is raised over bytes that wait.
+pub fn raises_run()
+    ensures { RaisesRun }
+{}
+
+/// The stack pointer is lowered.
+pub fn lowers_run()
+    ensures { LowersRun }
 {}
 
 /// An operator takes the value that waits, and gives its result.

@@ -4,6 +4,6 @@
 mod laws;
 
 pub use laws::{
-    far_loads_run, near_loads_run, operators_run, opposites_run, pushes_run, quiet_rows_scratch,
-    routines_are_followed, widenings_run,
+    far_loads_run, lowers_run, near_loads_run, operators_run, opposites_run, pushes_run,
+    quiet_rows_scratch, raises_run, routines_are_followed, widenings_run,
 };

@@ -60,7 +60,7 @@ scratch_is_kept g a pushed needs c w k t u placed r o sp = record {
     below = record { mem = mem; bank = o.bank; pushed = o.pushed; frames = o.frames; input = o.input; output = o.output; ended = o.ended; bytes = o.bytes }
 
 -- other registers alone
-with_regs : (base : ℕ) (t : State) (r : Regs) → IsBytes (record t { regs = r }) → OnlyScratch base t (record t { regs = r })
+pub with_regs : (base : ℕ) (t : State) (r : Regs) → IsBytes (record t { regs = r }) → OnlyScratch base t (record t { regs = r })
 with_regs base t r b = record { mem = λ n h. refl; bank = λ i lt. refl; pushed = refl; frames = refl; input = refl; output = refl; ended = refl; bytes = b }
 
 -- an operation under what is followed

@@ -16,7 +16,7 @@ use Rattle.c65_agree_state.specs.Laws.{OnlyScratch, ScratchChanges}
 
 -- ---- literals and const data lie below the software stack
 
-first_bytes : (place : Placement) (cells : List DataCell) (n v : ℕ) → slice_get (bytes_of_cells place cells) n ≡ Some v → n < cells_size cells
+pub first_bytes : (place : Placement) (cells : List DataCell) (n v : ℕ) → slice_get (bytes_of_cells place cells) n ≡ Some v → n < cells_size cells
 first_bytes place [] n v e = cc
 first_bytes place (Byte b ∷ cells) zero v e = omega arith
 first_bytes place (Byte b ∷ cells) (suc n) v e = omega (arith, first_bytes place cells n v e)
@@ -64,6 +64,7 @@ module _ (g : World) (a : Active) (placed : IsPlacement g.code g.place) (c : Sce
     few = j.few;
     few_calls = j.few_calls;
     counted = λ e. o.mem a.base (inr (omega arith)) ∙ j.counted e;
+    count_free = j.count_free;
     hard = hard;
     frames = o.frames ∙ j.frames;
     input = o.input ∙ j.input;

@@ -73,8 +73,9 @@ pub record Joins (g : World) (a : Active) (c : Scene) (w : Placing) (k : Banks) 
   pub few : soft_sum c.frames ≤ 1984
   pub hard : 255 ≤ s_of t + length t.pushed + hard_sum c.frames
   pub few_calls : hard_sum c.frames ≤ 224
-  -- in a variadic function the byte at the base says how many bytes the call passed
+  -- in a variadic function the byte at the base says how many bytes the call passed, and no live block has it
   pub counted : a.frame.variadic ≡ true → t.mem a.base ≡ a.frame.stacked + a.raised
+  pub count_free : a.frame.variadic ≡ true → IsFree c.store w (At a.base)
   pub frames : t.frames ≡ a.behind
   pub input : t.input ≡ c.input
   pub output : t.output ≡ c.out

@@ -1,0 +1,5 @@
+pub mod Steps
+pub mod States
+pub mod Stored
+pub mod Assigned
+pub mod Widened

@@ -1,0 +1,9 @@
+//! The lines of statements and functions are those of their parts.
+#![tactic(auto)]
+
+mod laws;
+
+pub use laws::{
+    all_stand, functions_are_listed, parts_stand, segments_are_placed, statements_are_listed,
+    turns_are_counted, turns_stand,
+};
