@@ -6,7 +6,7 @@ use Rattle.std.proofs.lemmas.Slice.Eq.{bytes_eq-Decides}
 use Rattle.std.proofs.Math.Nat.{mul-le-mul_left}
 use Rattle.c65_base.specs.declared.options.Cpu.{Cpu}
 use Rattle.c65_mach.specs.declared.image.Image.{Image}
-use Rattle.c65_mach.specs.Run.{Progress, Running, Ended, Stopped, run_of}
+use Rattle.c65_mach.specs.Run.{Moment, Progress, Running, Ended, Stopped, moment_of, run_of}
 use Rattle.c65_meaning.specs.Program.{ProgramTy}
 use Rattle.c65_meaning.specs.Sites.{jumps}
 use Rattle.c65_meaning.specs.Sem.{Outcome, Runs, Ends, HasNone, IsDeep, IsDefined, turns_of, sem, Matches}
@@ -15,16 +15,28 @@ use Rattle.c65_code.specs.LineState.{Place}
 use Rattle.c65_code.specs.Starts.{IsMain}
 use Rattle.c65_code.specs.Comes.{Seen, Shown}
 use Rattle.c65_code.specs.Processors.{RunsOn}
+use Rattle.c65_code.specs.RawMachine.{IsRuntime}
 use Rattle.c65_code.specs.Writable.{IsWritable}
 use Rattle.c65_asm.specs.Renumbered.{IsOfTypes, renumbered}
 use Rattle.c65_link.specs.Linked.{Fault, linked, image_for, linked_for}
-use Rattle.c65_headline.specs.Images.{Recorded, seen_of, Shows, ImageAgrees}
+use Rattle.c65_know_law.specs.Laws.{NotesAreTrue}
+use Rattle.c65_link_law_runtime.specs.Laws.{LinkedRuntimesAreMet}
+use Rattle.c65_link_law_spots.specs.Places.{place_in}
+use Rattle.c65_link_law_spots.specs.Sound.{IsSound}
+use Rattle.c65_link_law_laid.specs.Laws.{AreLineNumbers}
+use Rattle.c65_link_law_bytes.specs.Laws.{AreCellNumbers}
+use Rattle.c65_link_law_bytes.proofs.Files.{files_are_bytes}
+use Rattle.c65_link_law_bytes.proofs.Read.{read_codes_have_bytes}
+use Rattle.c65_link_law_reach.specs.Reach.{runtime_in, code_ground, Arrived, HasArrived}
+use Rattle.c65_link_law_images.specs.Reaches.{IsShownBy, Reaches}
+use Rattle.c65_link_law_images.specs.Laws.{IsRun}
+use Rattle.c65_link_law_images.proofs.WithArguments.{images_follow}
+use Rattle.c65_headline.specs.Images.{AreBytes, IsRecordedUpTo, seen_of, Shows, ImageAgrees}
 use Rattle.c65_headline.specs.Lines.{same_end, has_turned, shows, shows_state, CodeAgrees}
 use Rattle.c65_asm_law_names.specs.Numbers.{HasSegment, IsClosed, number_in, by_number}
 use Rattle.c65_asm_law_names.proofs.Sound.{renumbered_is_sound, main_is_numbered}
 use Rattle.c65_asm_law_names.proofs.Renumbered.{renumbered_comes}
-use Rattle.c65_headline.specs.Placed.{IsShownBy, Reaches}
-use Rattle.c65_headline.specs.Planned.{ImagesFollow}
+use Rattle.c65_headline.proofs.Notes.{notes_hold}
 use Rattle.c65_headline.proofs.Processors.{renumbered_runs}
 use Rattle.c65_headline.proofs.Codes.{both, either, shows_grow, state_shown}
 
@@ -87,12 +99,12 @@ turns_fit places most rows IsDeep s seen few h = cc
 
 -- ---- both moments together
 
-pub shown_twice : (notes : Recorded) (p : ProgramTy) (code : Code) (image : Image) (args : List (List ℕ)) (input : List ℕ) (n more : ℕ) (places : List Place)
-    → IsDefined (sem p args input n)
-    → Reaches notes image args input (λ shown seen. shows_state (sem p args input n) shown) (4000 * (n + 1))
-    → Reaches notes image args input (λ shown seen. shows places (jumps p) (sem p args input n) shown (by_number code seen)) (4000 * (n + 1) + more)
-    → Shows notes p image args input n
-shown_twice notes p code image args input n more places d a b = record {
+pub shown_twice : (made : Code) (p : ProgramTy) (code : Code) (image : Image) (args : List (List ℕ)) (input : List ℕ) (n more : ℕ) (places : List Place) (P : Moment → Type 0)
+    → IsDefined (sem p args input n) → ((m : ℕ) → ((k : ℕ) → k ≤ m → P (moment_of (run_of image args input k))) → IsRecordedUpTo made image args input m)
+    → Reaches P image args input (λ shown seen. shows_state (sem p args input n) shown) (4000 * (n + 1))
+    → Reaches P image args input (λ shown seen. shows places (jumps p) (sem p args input n) shown (by_number code seen)) (4000 * (n + 1) + more)
+    → Shows made p image args input n
+shown_twice made p code image args input n more places P d recorded a b = record {
   agrees = record {
     defined = d;
     early = a.rows;
@@ -104,8 +116,8 @@ shown_twice notes p code image args input n more places d a b = record {
   };
   free_early = a.free;
   free_late = b.free;
-  recorded_early = a.recorded;
-  recorded_late = b.recorded;
+  recorded_early = recorded a.rows a.recorded;
+  recorded_late = recorded b.rows b.recorded;
 }
 
 -- ---- the image of a code whose lines agree
@@ -115,20 +127,32 @@ any_image : (cpu : Cpu) (r : Result Image Fault) (image : Image) → image_for c
 any_image cpu (Ok i) image h = (i, refl)
 any_image cpu (Err fault) image h = absurd (let k : (let x : Result Image Fault = Err fault in x ≡ Ok image) = h in cc)
 
-pub image_agrees : (notes : Recorded) → ImagesFollow notes
+-- what is noted has held where the lines have come to each instruction that was reached
+noted : NotesAreTrue → (cpu : Cpu) (code : Code) (image : Image) (main : ℕ) (args : List (List ℕ)) (input : List ℕ) → IsSound code → linked_for cpu code ≡ Ok image → IsMain code main
+    → (m : ℕ) → ((k : ℕ) → k ≤ m → HasArrived (code_ground cpu code image) code (IsRun code main args input) (moment_of (run_of image args input k))) → IsRecordedUpTo code image args input m
+noted notes cpu code image main args input s l is_main m arrived k q line le there h pc =
+    let a : Arrived (code_ground cpu code image) (IsRun code main args input) q (moment_of (run_of image args input k)) = arrived k le q line (record { there = there; instruction = h }) pc in
+    notes_hold notes code (place_in code) main args input a.holds.0 a.state q (moment_of (run_of image args input k)).machine s a.holds.1 a.holds.2 a.running a.agrees.regs a.agrees.zp
+
+pub image_agrees : LinkedRuntimesAreMet → NotesAreTrue
     → (cpu : Cpu) (p : ProgramTy) (code : Code) (image : Image) (main : ℕ) → IsWritable code → IsOfTypes code → RunsOn cpu code → IsClosed code → IsMain code main → HasSegment code main
-    → linked_for cpu (renumbered code) ≡ Ok image → CodeAgrees p code main → ImageAgrees notes p image
-image_agrees notes follow cpu p code image main w ty runs closed is_main there l a args input n bytes given few d =
-    let s = renumbered_is_sound code w ty in
-    let r : RunsOn cpu (renumbered code) = renumbered_runs cpu code runs in
-    let m : IsMain (renumbered code) (number_in code main) = main_is_numbered code main w is_main there in
-    let i : (i : Image) × (linked (renumbered code) ≡ Ok i) = any_image cpu (linked (renumbered code)) image l in
-    let early : Reaches notes image args input (λ shown seen. shows_state (sem p args input n) shown) (4000 * (n + 1)) =
-    follow cpu (renumbered code) image r s l (number_in code main) m args input (λ shown seen. shows_state (sem p args input n) shown) (4000 * (n + 1)) bytes given few
+    → linked_for cpu (renumbered code) ≡ Ok image → CodeAgrees p code main → ImageAgrees (renumbered code) p image
+image_agrees runtime notes cpu p code image main w ty runs closed is_main there l a args input n bytes given few d =
+    let made : Code = renumbered code in
+    let s : IsSound made = renumbered_is_sound code w ty in
+    let r : RunsOn cpu made = renumbered_runs cpu code runs in
+    let m : IsMain made (number_in code main) = main_is_numbered code main w is_main there in
+    let i : (i : Image) × (linked made ≡ Ok i) = any_image cpu (linked made) image l in
+    let numbers : AreLineNumbers made × AreCellNumbers made = read_codes_have_bytes code ty in
+    let file : AreBytes image.payload = files_are_bytes cpu made image numbers.0 numbers.1 l in
+    let all : IsRuntime (runtime_in made args) = runtime made args in
+    let P : Moment → Type 0 = HasArrived (code_ground cpu made image) made (IsRun made (number_in code main) args input) in
+    let early : Reaches P image args input (λ shown seen. shows_state (sem p args input n) shown) (4000 * (n + 1)) =
+    images_follow cpu made image r s numbers.0 l file (number_in code main) m args input (λ shown seen. shows_state (sem p args input n) shown) (4000 * (n + 1)) bytes given few all
     (renumbered_comes code i.0 main args input (λ shown seen. shows_state (sem p args input n) shown) (4000 * (n + 1)) w ty i.1 closed is_main there (λ shown seen more b h. h)
     (λ place t pl st. a.early place args input n t pl given st d)) in
-    let late : Reaches notes image args input (λ shown seen. shows a.places (jumps p) (sem p args input n) shown (by_number code seen)) (4000 * (n + 1) + a.more) =
-    follow cpu (renumbered code) image r s l (number_in code main) m args input (λ shown seen. shows a.places (jumps p) (sem p args input n) shown (by_number code seen)) (4000 * (n + 1) + a.more) bytes given few
+    let late : Reaches P image args input (λ shown seen. shows a.places (jumps p) (sem p args input n) shown (by_number code seen)) (4000 * (n + 1) + a.more) =
+    images_follow cpu made image r s numbers.0 l file (number_in code main) m args input (λ shown seen. shows a.places (jumps p) (sem p args input n) shown (by_number code seen)) (4000 * (n + 1) + a.more) bytes given few all
     (renumbered_comes code i.0 main args input (shows a.places (jumps p) (sem p args input n)) (4000 * (n + 1) + a.more) w ty i.1 closed is_main there (shows_grow a.places (jumps p) (sem p args input n))
     (λ place t pl st. a.late place args input n t pl given st d)) in
-    shown_twice notes p code image args input n a.more a.places d early late
+    shown_twice made p code image args input n a.more a.places P d (λ k h. noted notes cpu made image (number_in code main) args input s l m k h) early late

@@ -4,6 +4,7 @@ pub mod Processors
 pub mod ReadBack
 pub mod Spelled
 pub mod Codes
+pub mod Notes
 pub mod Agreement
 pub mod Ends
 pub mod Never

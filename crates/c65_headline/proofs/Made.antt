@@ -28,17 +28,20 @@ use Rattle.c65_code.specs.Writable.{IsWritable}
 use Rattle.c65_asm.specs.Renumbered.{IsOfTypes, renumbered}
 use Rattle.c65_asm.specs.Text.{text_of}
 use Rattle.c65_asm.specs.declared.reading.Answer.TheVariants as answers
+use Rattle.c65_know_law.specs.Laws.{NotesAreTrue}
+use Rattle.c65_link_law_runtime.specs.Laws.{LinkedRuntimesAreMet}
 use Rattle.c65_link.specs.Linked.{linked, linked_for, undefined, Fails as LinkFails}
 use Rattle.c65_link.specs.Linked as linker
 use Rattle.c65_genframe.specs.declared.modes.Modes.{Modes}
 use Rattle.c65_genframe.specs.Modes.{modes_of}
 use Rattle.c65_genstmt.specs.Programs.{program_of}
+use Rattle.c65_gen_law_lines.proofs.RowLaws.{programs_are_nmos}
 use Rattle.c65_meaning.specs.Program.{ProgramTy}
 use Rattle.c65_driver_chain.specs.Front.{Command, programs, generated, compiled}
 use Rattle.c65_driver_words.specs.Commands.{Spelled}
 use Rattle.c65_driver.specs.Compiled.{IsLinked, IsOfFront, ReadsAs, front}
 use Rattle.c65_driver.specs.Outside.{Outside}
-use Rattle.c65_headline.specs.Images.{Recorded, ImageAgrees}
+use Rattle.c65_headline.specs.Images.{ImageAgrees}
 use Rattle.c65_headline.specs.Lines.{StandsForIf, StandsFor}
 use Rattle.c65_asm_law_names.specs.Numbers.{HasSegment, HasBody, IsClosed}
 use Rattle.c65_asm_law_names.proofs.Missing.{nothing_is_undefined}
@@ -156,7 +159,7 @@ main_if : (asked : Bool) (cpu : Cpu) (old new : Code) (main : ℕ) → StandsFor
 main_if false cpu old new main e h = subst (λ (c : Code). IsMain c main) (sym e) h
 main_if true cpu old new main o (symbol, there, spelled) = (symbol, subst (λ (s : List Symbol). slice_get s main ≡ Some symbol) (sym o.symbols) there, spelled)
 
-module _ (units : UnitsAreOne) (notes : Recorded) (laws : Laws notes) (held : Held) (command : Spelled) where
+module _ (units : UnitsAreOne) (runtime : LinkedRuntimesAreMet) (notes : NotesAreTrue) (laws : Laws) (held : Held) (command : Spelled) where
   pub program_in : (code : Code) → IsMadeOf held command code → ProgramTy
   program_in code m = record { unit = unit_of m.parts; main = m.main }
 
@@ -167,21 +170,22 @@ module _ (units : UnitsAreOne) (notes : Recorded) (laws : Laws notes) (held : He
 
   does_run : (code : Code) (m : IsMadeOf held command code) → RunsOn command.options.cpu m.rewritten
   does_run code m = runs_if command.options.optimise command.options.cpu m.generated m.rewritten m.rewrites
-      (runs_on command.options.cpu m.generated (laws.rows m.parts m.main m.names (modes_of command.options) m.generated m.generates))
+      (runs_on command.options.cpu m.generated (programs_are_nmos m.parts m.main m.names (modes_of command.options) m.generated m.generates))
 
   pub is_renumbered : (code : Code) (m : IsMadeOf held command code) → code ≡ renumbered m.rewritten
   is_renumbered code m = answer_is code (renumbered m.rewritten) (sym m.reads ∙ codes_read_back m.rewritten ((is_written code m).0) ((is_written code m).1))
 
-  pub made_agrees : (code : Code) (m : IsMadeOf held command code) (image : Image) → linked_for command.options.cpu code ≡ Ok image → ImageAgrees notes (program_in code m) image
+  pub made_agrees : (code : Code) (m : IsMadeOf held command code) (image : Image) → linked_for command.options.cpu code ≡ Ok image → ImageAgrees code (program_in code m) image
   unfolding program_in
   made_agrees code m image l =
       let a : Agreeing (record { unit = unit_of m.parts; main = m.main }) m.generated = laws.lines m.parts m.main m.names (modes_of command.options) m.generated m.good m.generates in
       let w = is_written code m in
-      image_agrees notes laws.images command.options.cpu (record { unit = unit_of m.parts; main = m.main }) m.rewritten image a.main w.0 w.1 (does_run code m) (closed_if command.options.optimise command.options.cpu m.generated m.rewritten m.rewrites a.closed)
+      subst (λ (c : Code). ImageAgrees c (record { unit = unit_of m.parts; main = m.main }) image) (sym (is_renumbered code m))
+      (image_agrees runtime notes command.options.cpu (record { unit = unit_of m.parts; main = m.main }) m.rewritten image a.main w.0 w.1 (does_run code m) (closed_if command.options.optimise command.options.cpu m.generated m.rewritten m.rewrites a.closed)
       (main_if command.options.optimise command.options.cpu m.generated m.rewritten a.main m.rewrites a.is_main)
       (defined_if command.options.optimise command.options.cpu m.generated m.rewritten a.main m.rewrites a.defined)
       (subst (λ (c : Code). linked_for command.options.cpu c ≡ Ok image) (is_renumbered code m) l)
-      (rewritten_if command.options.optimise command.options.cpu (record { unit = unit_of m.parts; main = m.main }) m.generated m.rewritten a.main m.rewrites (two_moments (record { unit = unit_of m.parts; main = m.main }) m.generated a.main a.agrees))
+      (rewritten_if command.options.optimise command.options.cpu (record { unit = unit_of m.parts; main = m.main }) m.generated m.rewritten a.main m.rewrites (two_moments (record { unit = unit_of m.parts; main = m.main }) m.generated a.main a.agrees)))
 
   program_is : (u v : UnitTy) (a b : ℕ) (names more : List (List ℕ)) → (let x : Result ((UnitTy × ℕ) × List (List ℕ)) Refusal = Ok ((u, a), names) in x ≡ Ok ((v, b), more)) → (let x : ProgramTy = record { unit = u; main = a } in x ≡ record { unit = v; main = b })
   program_is u v a b names more h = let e : (u, a) ≡ (v, b) = pair_left (u, a) (v, b) names more h in ap (λ (z : UnitTy × ℕ). let x : ProgramTy = record { unit = z.0; main = z.1 } in x) e
@@ -224,11 +228,11 @@ module _ (units : UnitsAreOne) (notes : Recorded) (laws : Laws notes) (held : He
   hindered p f old new (Some k) None (Err r) l g m c e = linker_hinders p k (m k refl) old new r l
 
   pub agreeing : (p : ProgramTy) → IsFront held command p → (code : Option Code) (image : Option Image) (answer : Result ℕ Refusal) → IsLinked command.options.cpu code image answer
-      → ((c : Code) → code ≡ Some c → IsMadeOf held command c) → (i : Image) → image ≡ Some i → ImageAgrees notes p i
+      → ((c : Code) → code ≡ Some c → IsMadeOf held command c) → (i : Image) → image ≡ Some i → (c : Code) × (code ≡ Some c) × ImageAgrees c p i
   agreeing p f None (Some j) answer l m i e = absurd l
   agreeing p f None None answer l m i e = absurd (let h : (let x : Option Image = None in x ≡ Some i) = e in cc)
   agreeing p f (Some k) None answer l m i e = absurd (let h : (let x : Option Image = None in x ≡ Some i) = e in cc)
   agreeing p f (Some k) (Some j) answer l m i e =
       let made : IsMadeOf held command k = m k refl in
       let same : j ≡ i = let h : (let x : Option Image = Some j in x ≡ Some i) = e in cc in
-      subst (λ (q : ProgramTy). ImageAgrees notes q i) (same_program k made p f) (made_agrees k made i (l ∙ ap (λ (x : Image). let y : Result Image linker.Fault = Ok x in y) same))
+      (k, refl, subst (λ (q : ProgramTy). ImageAgrees k q i) (same_program k made p f) (made_agrees k made i (l ∙ ap (λ (x : Image). let y : Result Image linker.Fault = Ok x in y) same)))

@@ -15,6 +15,8 @@ use Rattle.c65_ppline.specs.Relations.{Answers, ◌then◌}
 use Rattle.c65_ppdir.specs.Units.{Held}
 use Rattle.c65_ppdir_law.specs.Once.{UnitsAreOne}
 use Rattle.c65_meaning_law_turns.specs.Turns.{TurnsGoOn}
+use Rattle.c65_know_law.specs.Laws.{NotesAreTrue}
+use Rattle.c65_link_law_runtime.specs.Laws.{LinkedRuntimesAreMet}
 use Rattle.c65_driver_chain.specs.Front.{programs, IsGood, generated}
 use Rattle.c65_driver_words.specs.Commands.{Spelled}
 use Rattle.c65_driver_words.specs.Words.{Spelling, Is, NoCommand, spelling_of}
@@ -89,6 +91,6 @@ made_today : (rewriting : RewritingsFollow) (spelling : Spelling) (old new : Out
 made_today rewriting (NoCommand word) old new code image answer s = tt
 made_today rewriting (Is command) old new code image answer s = made_by rewriting command.kind command old new code image answer s
 
-pub holds_today : UnitsAreOne → TurnsGoOn → HeadlineHoldsToday
-holds_today units turns notes laws words old new code image answer bytes s =
-    holds units turns notes laws words old new code image answer bytes s (made_today laws.rewriting (spelling_of words) old new code image answer s)
+pub holds_today : UnitsAreOne → TurnsGoOn → LinkedRuntimesAreMet → NotesAreTrue → HeadlineHoldsToday
+holds_today units turns runtime notes laws words old new code image answer bytes s =
+    holds units turns runtime notes laws words old new code image answer bytes s (made_today laws.rewriting (spelling_of words) old new code image answer s)

@@ -22,7 +22,7 @@ use Rattle.c65_meaning.specs.Program.{ProgramTy}
 use Rattle.c65_meaning.specs.Sem.{Ends, IsDefined, sem}
 use Rattle.c65_driver.specs.Outside.{Outside}
 use Rattle.c65_driver.specs.Setups.{Setup, setup_of}
-use Rattle.c65_headline.specs.Images.{Recorded, AreBytes, ImageAgrees}
+use Rattle.c65_headline.specs.Images.{AreBytes, ImageAgrees}
 use Rattle.c65_headline.specs.Fronts.{IsFront, HasLargeFrame, IsMadeOf}
 
 -- ---- it builds
@@ -74,30 +74,30 @@ pub record RunsWell (p : ProgramTy) (setup : Setup) (input : List ℕ) (old new 
 
 -- ---- the clause
 
-pub record Means (notes : Recorded) (command : Spelled) (p : ProgramTy) (old new : Outside) (code : Option Code) (image : Option Image) (answer : Result ℕ Refusal) : Type 0 where
+pub record Means (command : Spelled) (p : ProgramTy) (old new : Outside) (code : Option Code) (image : Option Image) (answer : Result ℕ Refusal) : Type 0 where
   pub builds : image ≡ None → IsHindered p (modes_of command.options) code old new answer
-  pub agrees : (i : Image) → image ≡ Some i → ImageAgrees notes p i
+  pub agrees : (i : Image) → image ≡ Some i → (c : Code) × (code ≡ Some c) × ImageAgrees c p i
 
-pub record Goes (notes : Recorded) (command : Spelled) (p : ProgramTy) (old new : Outside) (code : Option Code) (image : Option Image) (answer : Result ℕ Refusal) : Type 0 where
-  pub means : Means notes command p old new code image answer
+pub record Goes (command : Spelled) (p : ProgramTy) (old new : Outside) (code : Option Code) (image : Option Image) (answer : Result ℕ Refusal) : Type 0 where
+  pub means : Means command p old new code image answer
   pub runs : (i : Image) (input : List ℕ) → image ≡ Some i → old.left ≡ Some input → AreBytes input → RunsWell p (setup_of true command) input old new answer
 
-pub record Writes (notes : Recorded) (command : Spelled) (p : ProgramTy) (old new : Outside) (code : Option Code) (image : Option Image) (answer : Result ℕ Refusal) : Type 0 where
-  pub means : Means notes command p old new code image answer
+pub record Writes (command : Spelled) (p : ProgramTy) (old new : Outside) (code : Option Code) (image : Option Image) (answer : Result ℕ Refusal) : Type 0 where
+  pub means : Means command p old new code image answer
   pub written : (i : Image) → image ≡ Some i → IsWritten old new answer
 
-abbrev pub Performs : Recorded → CommandKind → Spelled → ProgramTy → Outside → Outside → Option Code → Option Image → Result ℕ Refusal → Type 0
-Performs notes kinds.Go command p old new code image answer = Goes notes command p old new code image answer
-Performs notes kinds.Build command p old new code image answer = Writes notes command p old new code image answer
-Performs notes kinds.Text command p old new code image answer = Writes notes command p old new code image answer
-Performs notes kinds.Run command p old new code image answer = ⊤
-Performs notes kinds.Gen command p old new code image answer = ⊤
-Performs notes kinds.Depth command p old new code image answer = ⊤
+abbrev pub Performs : CommandKind → Spelled → ProgramTy → Outside → Outside → Option Code → Option Image → Result ℕ Refusal → Type 0
+Performs kinds.Go command p old new code image answer = Goes command p old new code image answer
+Performs kinds.Build command p old new code image answer = Writes command p old new code image answer
+Performs kinds.Text command p old new code image answer = Writes command p old new code image answer
+Performs kinds.Run command p old new code image answer = ⊤
+Performs kinds.Gen command p old new code image answer = ⊤
+Performs kinds.Depth command p old new code image answer = ⊤
 
-abbrev pub Headline : Recorded → Spelling → Outside → Outside → Option Code → Option Image → Result ℕ Refusal → Type 0
-Headline notes (NoCommand word) old new code image answer = ⊤
-Headline notes (Is command) old new code image answer = (held : Held) (p : ProgramTy) → old.files.contents ≡ Some held → IsFront held command p
-    → Performs notes command.kind command p old new code image answer
+abbrev pub Headline : Spelling → Outside → Outside → Option Code → Option Image → Result ℕ Refusal → Type 0
+Headline (NoCommand word) old new code image answer = ⊤
+Headline (Is command) old new code image answer = (held : Held) (p : ProgramTy) → old.files.contents ≡ Some held → IsFront held command p
+    → Performs command.kind command p old new code image answer
 
 -- ---- how the code was made
 

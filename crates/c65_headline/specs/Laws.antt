@@ -6,34 +6,29 @@ use Rattle.c65_code.specs.declared.code.Code.{Code}
 use Rattle.c65_driver_words.specs.Words.{spelling_of}
 use Rattle.c65_driver.specs.Outside.{Outside}
 use Rattle.c65_driver.specs.Tool.{Performs}
-use Rattle.c65_headline.specs.Images.{Recorded, AreBytes}
-use Rattle.c65_headline.specs.Planned.{ProgramsAgree, ProgramsAreNmos, FrontsAreWritable, RewritingsFollow, ImagesFollow}
+use Rattle.c65_headline.specs.Images.{AreBytes}
+use Rattle.c65_headline.specs.Planned.{ProgramsAgree, FrontsAreWritable, RewritingsFollow}
 use Rattle.c65_headline.specs.Headline.{IsMade, Headline}
 
 -- What is not proved yet. Each field is a law of the crate that it names; docs/LADDER.md has them as a table.
-pub record Laws (notes : Recorded) : Type 0 where
+pub record Laws : Type 0 where
   -- The lines of a good program's code, at every placement, show what its meaning shows, within 4,000 for each step and the start,
   -- and with a line reached for each turn; whatever the code names has a body: the simulation, a law above c65_genstmt.
   pub lines : ProgramsAgree
-  -- The generator makes no line with a row that the 65C02 adds: c65_gen_law_lines.
-  pub rows : ProgramsAreNmos
   -- The code of a program that the front gives can be written as text, where its text was read: c65_asm_law with c65_init_join, or
   -- a test where files are compiled.
   pub writable : FrontsAreWritable
   -- What the optimiser makes of a program's code does what that code does: laws above c65_pass and c65_optflow.
   pub rewriting : RewritingsFollow
-  -- What the lines of a code come to within a weight, its image comes to within as many rows and 96 more, while the stack's guard
-  -- lets it: a law above c65_link.
-  pub images : ImagesFollow notes
 
 -- From what is left, what the tool's clause says of words, and how the code was made, the main theorem follows.
 abbrev pub HeadlineHolds : Type 0
-HeadlineHolds = (notes : Recorded) → Laws notes
+HeadlineHolds = Laws
     → (words : List (List ℕ)) (old new : Outside) (code : Option Code) (image : Option Image) (answer : Result ℕ Refusal) → All AreBytes words
-    → Performs (spelling_of words) old new code image answer → IsMade (spelling_of words) old code → Headline notes (spelling_of words) old new code image answer
+    → Performs (spelling_of words) old new code image answer → IsMade (spelling_of words) old code → Headline (spelling_of words) old new code image answer
 
 -- The tool's clause says how the code was made: so it alone is enough.
 abbrev pub HeadlineHoldsToday : Type 0
-HeadlineHoldsToday = (notes : Recorded) → Laws notes
+HeadlineHoldsToday = Laws
     → (words : List (List ℕ)) (old new : Outside) (code : Option Code) (image : Option Image) (answer : Result ℕ Refusal) → All AreBytes words
-    → Performs (spelling_of words) old new code image answer → Headline notes (spelling_of words) old new code image answer
+    → Performs (spelling_of words) old new code image answer → Headline (spelling_of words) old new code image answer

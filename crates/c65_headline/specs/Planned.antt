@@ -1,16 +1,10 @@
 -- What the layers between the front and the simulator owe to the main theorem, each in words and as a type.
-use Rattle.std.specs.Prelude.{◌≡◌, ℕ, ◌*◌, ◌^◌, ◌<◌, ◌≤◌, Bool, true, List, All, Some, Ok, Err}
+use Rattle.std.specs.Prelude.{◌≡◌, ℕ, ◌*◌, ◌^◌, ◌<◌, ◌≤◌, true, List, All, Some, Ok, Err}
 use Rattle.c65_base.specs.Answers.{Fault, large}
-use Rattle.c65_base.specs.declared.options.Cpu.{Cpu}
 use Rattle.c65_base.specs.declared.refusal.Size.TheVariants as sizes
-use Rattle.c65_mach.specs.declared.image.Image.{Image}
 use Rattle.c65_mach.specs.Run.{Setting, Progress, cycles_after}
 use Rattle.c65_code.specs.declared.code.Code.{Code}
-use Rattle.c65_code.specs.LineState.{State}
-use Rattle.c65_code.specs.Placement.{setting_of}
-use Rattle.c65_code.specs.Processors.{IsNmos, RunsOn}
-use Rattle.c65_code.specs.Starts.{IsStart, IsMain}
-use Rattle.c65_code.specs.Comes.{Seen, Shown, ComesFrom}
+use Rattle.c65_code.specs.Starts.{IsMain}
 use Rattle.c65_code.specs.Writable.{IsWritable}
 use Rattle.c65_asm.specs.Renumbered.{IsOfTypes, renumbered}
 use Rattle.c65_asm.specs.Read.{read_text}
@@ -21,11 +15,7 @@ use Rattle.c65_csem.specs.Views.{unit_of}
 use Rattle.c65_genframe.specs.declared.modes.Modes.{Modes}
 use Rattle.c65_genframe.specs.Modes.{modes_of}
 use Rattle.c65_genstmt.specs.Programs.{program_of}
-use Rattle.c65_link.specs.Linked.{linked_for}
-use Rattle.c65_link_law_spots.specs.Places.{place_in}
-use Rattle.c65_link_law_spots.specs.Sound.{IsSound}
 use Rattle.c65_meaning.specs.Program.{ProgramTy}
-use Rattle.c65_sim.specs.View.{arguments_size}
 use Rattle.c65_ppdir.specs.Units.{Held}
 use Rattle.c65_driver_chain.specs.Front.{programs, IsGood}
 use Rattle.c65_driver_words.specs.Commands.{Spelled}
@@ -33,11 +23,10 @@ use Rattle.c65_driver_words.specs.Words.{spelling_of, Is}
 use Rattle.c65_driver.specs.Compiled.{ReadsAs}
 use Rattle.c65_driver.specs.Setups.{setup_of}
 use Rattle.c65_headline.specs.Fronts.{command_of}
-use Rattle.c65_headline.specs.Images.{Recorded, AreBytes}
+use Rattle.c65_headline.specs.Images.{AreBytes}
 use Rattle.c65_optimise.specs.Optimised.{OptimisedBy}
 use Rattle.c65_asm_law_names.specs.Numbers.{HasSegment, IsClosed}
 use Rattle.c65_headline.specs.Lines.{LineAgrees, StandsForBy}
-use Rattle.c65_headline.specs.Placed.{Reaches}
 
 -- ---- words
 
@@ -62,10 +51,6 @@ pub record Agreeing (p : ProgramTy) (code : Code) : Type 0 where
 abbrev pub ProgramsAgree : Type 0
 ProgramsAgree = (parts : Parts) (main : ℕ) (names : List (List ℕ)) (modes : Modes) (code : Code)
     → IsGood names (unit_of parts) main → program_of parts main names modes ≡ Ok code → Agreeing (record { unit = unit_of parts; main = main }) code
-
--- the generator makes no line with a row that the 65C02 adds
-abbrev pub ProgramsAreNmos : Type 0
-ProgramsAreNmos = (parts : Parts) (main : ℕ) (names : List (List ℕ)) (modes : Modes) (code : Code) → program_of parts main names modes ≡ Ok code → IsNmos code
 
 -- the generator refuses for the limit Frame alone
 abbrev pub OnlyFramesAreRefused : Type 0
@@ -92,13 +77,6 @@ abbrev pub CodesReadBack : Type 0
 CodesReadBack = (code : Code) → IsWritable code → IsOfTypes code → read_text (text_of code) ≡ answers.Code (renumbered code)
 
 -- ---- from a code to its image
-
--- where the lines of a code come to something within a weight, its image does so within as many rows and 96 more
-abbrev pub ImagesFollow : Recorded → Type 0
-ImagesFollow notes = (cpu : Cpu) (code : Code) (image : Image) → RunsOn cpu code → IsSound code → linked_for cpu code ≡ Ok image → (main : ℕ) → IsMain code main
-    → (args : List (List ℕ)) (input : List ℕ) (test : Shown → Seen → Bool) (w : ℕ) → All AreBytes args → AreBytes input → arguments_size args ≤ 1024
-    → ((t : State) → IsStart code (place_in code) args input t → ComesFrom (setting_of code (place_in code)) main test w t)
-    → Reaches notes image args input test w
 
 -- a row takes at most 7 cycles
 abbrev pub RowsTakeSeven : Type 0

@@ -2,6 +2,8 @@
 ghost use Rattle.c65_headline.specs.Planned.{RowsTakeSeven};
 ghost use Rattle.c65_headline.specs.Laws.{HeadlineHolds, HeadlineHoldsToday};
 
+use c65_know_law::notes_are_true;
+use c65_link_law_runtime::linked_runtimes_are_met;
 use c65_meaning_law_turns::turns_go_on;
 use c65_ppdir_law::units_are_one;
 
@@ -11,6 +13,8 @@ pub fn headline_holds()
 {
     units_are_one();
     turns_go_on();
+    linked_runtimes_are_met();
+    notes_are_true();
 }
 
 /// It follows from the laws that are left and the tool's clause, which says how the code was made.
@@ -19,6 +23,8 @@ pub fn headline_holds_today()
 {
     units_are_one();
     turns_go_on();
+    linked_runtimes_are_met();
+    notes_are_true();
 }
 
 /// A row takes at most 7 cycles, on either processor.

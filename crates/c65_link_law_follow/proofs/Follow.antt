@@ -30,7 +30,7 @@ use Rattle.c65_link.specs.Bytes.{Spot, instruction, operand_bytes, word_bytes, c
 use Rattle.c65_link.specs.Symbols.{operand_symbol}
 use Rattle.c65_link.proofs.TableLaws.{opposites_differ}
 use Rattle.c65_link_law.specs.Coded.{Memory, Stands, label_at, word_at, IsBranch, short, long, IsInstruction}
-use Rattle.c65_link_law_follow.specs.Agree.{Ground, Agrees, none, more, Arrives}
+use Rattle.c65_link_law_follow.specs.Agree.{Ground, Agrees, none, more, IsInside, Arrives}
 use Rattle.c65_link_law_follow.specs.Laid.{IsLaid, IsGround, IsLineOf, IsOperandNumber, hook_address}
 use Rattle.c65_link_law_follow.specs.Laws.{IsNoHook, IsCounted, LinesAreFollowed}
 use Rattle.c65_link_law_follow.proofs.Rows.{HasRowOn, rowed, both_have, row_on, opposite_row}
@@ -40,8 +40,8 @@ use Rattle.c65_link_law_follow.proofs.Local.{Given_, do_reads, do_stores, do_cha
 use Rattle.c65_link_law_follow.proofs.Stack.{jumps, fars, branch_row, do_push, enters, returns, last_return, do_pull, do_depth}
 
 -- one row
-one : (g : Ground) (setting : Setting) (most : ℕ) (now : Moment) (Q : Place → State → Type 0) (q : Place) (u : State) → 1 ≤ most → Q q u → Moved g setting (g.at q) u now → Arrives g setting most now Q
-one g setting most now Q q u le h m = record {
+one : (g : Ground) (setting : Setting) (most : ℕ) (now : Moment) (Later : ℕ → Type 0) (Q : Place → State → Type 0) (q : Place) (u : State) → 1 ≤ most → Q q u → Moved g setting (g.at q) u now → Arrives g setting most now Later Q
+one g setting most now Later Q q u le h m = record {
   rows = 1;
   least = omega arith;
   within = le;
@@ -49,7 +49,7 @@ one g setting most now Q q u le h m = record {
   place = q;
   state = u;
   holds = h;
-  goes = more m.turn_is m.free none;
+  goes = more m.turn_is m.free (inl refl) none;
   agrees = m.agrees;
 }
 
@@ -162,9 +162,9 @@ plain_line g s setting bounds f p _ op mode operand t now ground laid soft st it
 
 -- its place and state
 plain_goes : (g : Ground) (s : RawSetting) (setting : Setting) (f p : ℕ) (k : Kind) (op : Op) (mode : Mode) (operand : Operand) (t : State) (now : Moment) → IsGround g s → (laid : IsLaid g s f) → kind_of op ≡ k
-    → Moved g setting (g.at (f, suc p)) (effect k op mode (word_of g.place operand) t) now → Arrives g setting 1 now (RawGoes s (Plain op mode operand) (f, p) t)
+    → Moved g setting (g.at (f, suc p)) (effect k op mode (word_of g.place operand) t) now → Arrives g setting 1 now (IsInside g (f, p)) (RawGoes s (Plain op mode operand) (f, p) t)
 plain_goes g s setting f p k op mode operand t now ground laid is m =
-    one g setting 1 now (RawGoes s (Plain op mode operand) (f, p) t) (f, settle (s.lines f) (suc p)) (effect k op mode (word_of g.place operand) t) (omega arith)
+    one g setting 1 now (IsInside g (f, p)) (RawGoes s (Plain op mode operand) (f, p) t) (f, settle (s.lines f) (suc p)) (effect k op mode (word_of g.place operand) t) (omega arith)
     (refl, ap (λ (x : Kind). effect x op mode (word_of g.place operand) t) (sym is) ∙ ap (λ (x : Placement). effect (kind_of op) op mode (word_of x operand) t) (sym ground.place))
     (moved_to g setting (g.at (f, suc p)) (g.at (f, settle (s.lines f) (suc p))) _ now (sym (laid.settled (suc p))) m)
 
@@ -215,12 +215,12 @@ opposite_kind _ k h = absurd cc
 abbrev branch_place : RawSetting → ℕ → ℕ → ℕ → Bool → Place
 branch_place s f p l b = (f, settle (s.lines f) (if b then labelled (s.lines f) l else suc p))
 
-branch_goes : (g : Ground) (s : RawSetting) (setting : Setting) (f p : ℕ) (op : Op) (l : ℕ) (t : State) (now : Moment) (b : Bool) → is_taken op t.regs ≡ b → Moved g setting (g.at (branch_place s f p l b)) t now → Arrives g setting 2 now (RawGoes s (Branch op l) (f, p) t)
+branch_goes : (g : Ground) (s : RawSetting) (setting : Setting) (f p : ℕ) (op : Op) (l : ℕ) (t : State) (now : Moment) (b : Bool) → is_taken op t.regs ≡ b → Moved g setting (g.at (branch_place s f p l b)) t now → Arrives g setting 2 now (IsInside g (f, p)) (RawGoes s (Branch op l) (f, p) t)
 branch_goes g s setting f p op l t now b e m =
-    one g setting 2 now (RawGoes s (Branch op l) (f, p) t) (branch_place s f p l b) t (omega arith) (ap (branch_place s f p l) (sym e), refl) m
+    one g setting 2 now (IsInside g (f, p)) (RawGoes s (Branch op l) (f, p) t) (branch_place s f p l b) t (omega arith) (ap (branch_place s f p l) (sym e), refl) m
 
 short_line : (g : Ground) (s : RawSetting) (setting : Setting) (f p : ℕ) (op : Op) (l : ℕ) (t : State) (now : Moment) (b : Bool) → (laid : IsLaid g s f) → is_taken op t.regs ≡ b → kind_of op ≡ Branches → Here g (g.at (f, p)) op Relative
-    → branched (g.at (f, p) + 2) (g.byte (g.at (f, p) + 1)) ≡ g.at (f, labelled (s.lines f) l) → g.at (f, suc p) ≡ g.at (f, p) + 2 → Agrees g (g.at (f, p)) t now → Arrives g setting 2 now (RawGoes s (Branch op l) (f, p) t)
+    → branched (g.at (f, p) + 2) (g.byte (g.at (f, p) + 1)) ≡ g.at (f, labelled (s.lines f) l) → g.at (f, suc p) ≡ g.at (f, p) + 2 → Agrees g (g.at (f, p)) t now → Arrives g setting 2 now (IsInside g (f, p)) (RawGoes s (Branch op l) (f, p) t)
 short_line g s setting f p op l t now true laid e k h reach after_it a =
     branch_goes g s setting f p op l t now true e (branch_row g setting (g.at (f, p)) (g.at (branch_place s f p l true)) op t now true a k h e (laid.settled (labelled (s.lines f) l) ∙ sym reach))
 short_line g s setting f p op l t now false laid e k h reach after_it a =
@@ -232,7 +232,7 @@ over at h = omega (arith, h)
 
 long_line : (g : Ground) (s : RawSetting) (setting : Setting) (f p : ℕ) (op : Op) (l : ℕ) (t : State) (now : Moment) (b : Bool) → IsGround g s → (laid : IsLaid g s f) → is_taken op t.regs ≡ b → kind_of op ≡ Branches → is_nmos_row op Relative ≡ true
     → Stands g.byte (g.at (f, p)) (opcode_of (opposite_of op) Relative ∷ 3 ∷ opcode_of ops.Jmp Absolute ∷ word_bytes (g.at (f, labelled (s.lines f) l))) → g.at (f, suc p) ≡ g.at (f, p) + 5
-    → (has_row op Relative ≡ true) → Agrees g (g.at (f, p)) t now → Arrives g setting 2 now (RawGoes s (Branch op l) (f, p) t)
+    → (has_row op Relative ≡ true) → Agrees g (g.at (f, p)) t now → Arrives g setting 2 now (IsInside g (f, p)) (RawGoes s (Branch op l) (f, p) t)
 long_line g s setting f p op l t now false ground laid e k nmos c after_it rows a =
     let at : ℕ = g.at (f, p) in
     let high = ground.high in let upto = ground.to (f, suc p) in
@@ -258,12 +258,12 @@ long_line g s setting f p op l t now true ground laid e k nmos c after_it rows a
       place = branch_place s f p l true;
       state = t;
       holds = (ap (branch_place s f p l) (sym e), refl);
-      goes = more {o = there.next} first.turn_is first.free (more {o = there.next} there.turn_is there.free none);
+      goes = (let pc = first.agrees.pc in more {o = there.next} first.turn_is first.free (inl refl) (more {o = there.next} there.turn_is there.free (inr (omega (arith, pc), omega (arith, pc, after_it))) none));
       agrees = there.agrees;
     }
 
 branch_by : (g : Ground) (s : RawSetting) (setting : Setting) (f p : ℕ) (op : Op) (l : ℕ) (t : State) (now : Moment) → IsGround g s → (laid : IsLaid g s f) → kind_of op ≡ Branches → has_row op Relative ≡ true → is_nmos_row op Relative ≡ true
-    → label_at laid.spot l ≡ g.at (f, labelled (s.lines f) l) → IsBranch g.byte op (g.at (f, p)) (g.at (f, suc p)) (label_at laid.spot l) → Agrees g (g.at (f, p)) t now → Arrives g setting 2 now (RawGoes s (Branch op l) (f, p) t)
+    → label_at laid.spot l ≡ g.at (f, labelled (s.lines f) l) → IsBranch g.byte op (g.at (f, p)) (g.at (f, suc p)) (label_at laid.spot l) → Agrees g (g.at (f, p)) t now → Arrives g setting 2 now (IsInside g (f, p)) (RawGoes s (Branch op l) (f, p) t)
 branch_by g s setting f p op l t now ground laid k rows nmos label (short byte reach after_it) a =
     let h : Here g (g.at (f, p)) op Relative = here_at g s (g.at (f, p)) (g.at (f, suc p)) op Relative ground (both_have g.cpu op Relative nmos) byte (ground.from (f, p)) (omega (arith, after_it)) (ground.to (f, suc p)) in
     short_line g s setting f p op l t now (is_taken op t.regs) laid refl k h (reach ∙ label) after_it a
@@ -272,7 +272,7 @@ branch_by g s setting f p op l t now ground laid k rows nmos label (long bytes a
     (subst (λ (n : ℕ). Stands g.byte (g.at (f, p)) (opcode_of (opposite_of op) Relative ∷ 3 ∷ opcode_of ops.Jmp Absolute ∷ word_bytes n)) label bytes) after_it rows a
 
 branch_line : (g : Ground) (s : RawSetting) (setting : Setting) (f p : ℕ) (op : Op) (mode : Mode) (l : ℕ) (t : State) (now : Moment) → IsGround g s → (laid : IsLaid g s f) → slice_get (s.lines f) p ≡ Some (Do op mode (operands.To l)) → kind_of op ≡ Branches
-    → Agrees g (g.at (f, p)) t now → Arrives g setting 2 now (RawGoes s (Branch op l) (f, p) t)
+    → Agrees g (g.at (f, p)) t now → Arrives g setting 2 now (IsInside g (f, p)) (RawGoes s (Branch op l) (f, p) t)
 branch_line g s setting f p op mode l t now ground laid here k a =
     let st : Stood g s f p laid.spot op mode (operands.To l) = stood g s f p op mode (operands.To l) laid here in
     let nmos : is_nmos_row op mode ≡ true = branch_nmos op mode k st.row in
@@ -288,18 +288,18 @@ implied_is Implied h = refl
 implied_is _ h = absurd cc
 
 jump_line : (g : Ground) (s : RawSetting) (setting : Setting) (f p : ℕ) (l : ℕ) (t : State) (now : Moment) → IsGround g s → (laid : IsLaid g s f) → slice_get (s.lines f) p ≡ Some (Do ops.Jmp Absolute (operands.To l)) → Agrees g (g.at (f, p)) t now
-    → Arrives g setting 1 now (RawGoes s (Jump l) (f, p) t)
+    → Arrives g setting 1 now (IsInside g (f, p)) (RawGoes s (Jump l) (f, p) t)
 jump_line g s setting f p l t now ground laid here a =
     let st : Stood g s f p laid.spot ops.Jmp Absolute (operands.To l) = stood g s f p ops.Jmp Absolute (operands.To l) laid here in
     let label : label_at laid.spot l ≡ g.at (f, labelled (s.lines f) l) = laid.labels l (laid.targets p (Do ops.Jmp Absolute (operands.To l)) here) in
     let after_it = st.coded.1 in
     let h : Here g (g.at (f, p)) ops.Jmp Absolute = here_at g s (g.at (f, p)) (g.at (f, suc p)) ops.Jmp Absolute ground st.own st.coded.0.0 (ground.from (f, p)) (omega (arith, after_it)) (ground.to (f, suc p)) in
     let to : label_at laid.spot l ≡ g.at (f, settle (s.lines f) (labelled (s.lines f) l)) = label ∙ sym (laid.settled (labelled (s.lines f) l)) in
-    one g setting 1 now (RawGoes s (Jump l) (f, p) t) (f, settle (s.lines f) (labelled (s.lines f) l)) t (omega arith) (refl, refl)
+    one g setting 1 now (IsInside g (f, p)) (RawGoes s (Jump l) (f, p) t) (f, settle (s.lines f) (labelled (s.lines f) l)) t (omega arith) (refl, refl)
     (jumps g setting (g.at (f, p)) (g.at (f, settle (s.lines f) (labelled (s.lines f) l))) t now a h (subst (λ (n : ℕ). Stands g.byte (g.at (f, p) + 1) (word_bytes n)) to st.coded.0.1))
 
 far_line : (g : Ground) (s : RawSetting) (setting : Setting) (bounds : Bounds) (f p : ℕ) (i : ℕ) (t : State) (now : Moment) → IsGround g s → (laid : IsLaid g s f) → slice_get (s.lines f) p ≡ Some (Do ops.Jmp Indirect (operands.Zero i)) → i < 255 → IsRawWithin s bounds (Far i) t → Agrees g (g.at (f, p)) t now
-    → Arrives g setting 1 now (RawGoes s (Far i) (f, p) t)
+    → Arrives g setting 1 now (IsInside g (f, p)) (RawGoes s (Far i) (f, p) t)
 far_line g s setting bounds f p i t now ground laid here small within a =
     let st : Stood g s f p laid.spot ops.Jmp Indirect (operands.Zero i) = stood g s f p ops.Jmp Indirect (operands.Zero i) laid here in
     let after_it = st.coded.1 in
@@ -307,7 +307,7 @@ far_line g s setting bounds f p i t now ground laid here small within a =
     let callee : ℕ = within.1 in
     let q : Place = entry_of s (target_of s (s.library callee) callee) in
     let to : g.at q ≡ zero_word t i = sym (ground.functions callee within.2) ∙ ap (λ (x : Placement). x.address callee) (sym ground.place) ∙ within.3 in
-    one g setting 1 now (RawGoes s (Far i) (f, p) t) q t (omega arith) (callee, within.2, within.3, refl, refl)
+    one g setting 1 now (IsInside g (f, p)) (RawGoes s (Far i) (f, p) t) q t (omega arith) (callee, within.2, within.3, refl, refl)
     (fars g setting (g.at (f, p)) i (g.at q) t now a h st.coded.0.1 small to)
 
 -- S has room for as many bytes as the machine on lines has
@@ -322,12 +322,12 @@ implied_here g s f p op mode operand ground laid st is =
     let after_it = coded.1 in
     (here_at g s (g.at (f, p)) (g.at (f, suc p)) op Implied ground own coded.0.0 (ground.from (f, p)) (omega (arith, after_it)) (ground.to (f, suc p)), after_it)
 
-on_next : (g : Ground) (s : RawSetting) (setting : Setting) (f p : ℕ) (u : State) (now : Moment) (form : Form) (t : State) → IsLaid g s f → RawGoes s form (f, p) t (f, settle (s.lines f) (suc p)) u → Moved g setting (g.at (f, suc p)) u now → Arrives g setting 1 now (RawGoes s form (f, p) t)
+on_next : (g : Ground) (s : RawSetting) (setting : Setting) (f p : ℕ) (u : State) (now : Moment) (form : Form) (t : State) → IsLaid g s f → RawGoes s form (f, p) t (f, settle (s.lines f) (suc p)) u → Moved g setting (g.at (f, suc p)) u now → Arrives g setting 1 now (IsInside g (f, p)) (RawGoes s form (f, p) t)
 on_next g s setting f p u now form t laid h m =
-    one g setting 1 now (RawGoes s form (f, p) t) (f, settle (s.lines f) (suc p)) u (omega arith) h (moved_to g setting (g.at (f, suc p)) (g.at (f, settle (s.lines f) (suc p))) u now (sym (laid.settled (suc p))) m)
+    one g setting 1 now (IsInside g (f, p)) (RawGoes s form (f, p) t) (f, settle (s.lines f) (suc p)) u (omega arith) h (moved_to g setting (g.at (f, suc p)) (g.at (f, settle (s.lines f) (suc p))) u now (sym (laid.settled (suc p))) m)
 
 push_line : (g : Ground) (s : RawSetting) (setting : Setting) (bounds : Bounds) (f p : ℕ) (mode : Mode) (operand : Operand) (t : State) (now : Moment) → IsGround g s → (laid : IsLaid g s f) → slice_get (s.lines f) p ≡ Some (Do ops.Pha mode operand) → IsRawWithin s bounds Push t → Agrees g (g.at (f, p)) t now
-    → Arrives g setting 1 now (RawGoes s Push (f, p) t)
+    → Arrives g setting 1 now (IsInside g (f, p)) (RawGoes s Push (f, p) t)
 push_line g s setting bounds f p mode operand t now ground laid here within a =
     let st : Stood g s f p laid.spot ops.Pha mode operand = stood g s f p ops.Pha mode operand laid here in
     let h = implied_here g s f p ops.Pha mode operand ground laid st (implied_is mode (plain_row mode st.row)) in
@@ -339,7 +339,7 @@ push_line g s setting bounds f p mode operand t now ground laid here within a =
     plain_row _ e = absurd cc
 
 pull_line : (g : Ground) (s : RawSetting) (setting : Setting) (bounds : Bounds) (f p : ℕ) (mode : Mode) (operand : Operand) (t : State) (now : Moment) → IsGround g s → (laid : IsLaid g s f) → slice_get (s.lines f) p ≡ Some (Do ops.Pla mode operand) → IsRawWithin s bounds Pull t → Agrees g (g.at (f, p)) t now
-    → Arrives g setting 1 now (RawGoes s Pull (f, p) t)
+    → Arrives g setting 1 now (IsInside g (f, p)) (RawGoes s Pull (f, p) t)
 pull_line g s setting bounds f p mode operand t now ground laid here within a =
     let st : Stood g s f p laid.spot ops.Pla mode operand = stood g s f p ops.Pla mode operand laid here in
     let h = implied_here g s f p ops.Pla mode operand ground laid st (implied_is mode (plain_row mode st.row)) in
@@ -351,7 +351,7 @@ pull_line g s setting bounds f p mode operand t now ground laid here within a =
     plain_row _ e = absurd cc
 
 depth_line : (g : Ground) (s : RawSetting) (setting : Setting) (f p : ℕ) (mode : Mode) (operand : Operand) (t : State) (now : Moment) → IsGround g s → (laid : IsLaid g s f) → slice_get (s.lines f) p ≡ Some (Do ops.Tsx mode operand) → g.top ≡ 253 → Agrees g (g.at (f, p)) t now
-    → Arrives g setting 1 now (RawGoes s Depth (f, p) t)
+    → Arrives g setting 1 now (IsInside g (f, p)) (RawGoes s Depth (f, p) t)
 depth_line g s setting f p mode operand t now ground laid here top a =
     let st : Stood g s f p laid.spot ops.Tsx mode operand = stood g s f p ops.Tsx mode operand laid here in
     let h = implied_here g s f p ops.Tsx mode operand ground laid st (implied_is mode (plain_row mode st.row)) in
@@ -362,14 +362,14 @@ depth_line g s setting f p mode operand t now ground laid here top a =
     plain_row _ e = absurd cc
 
 return_line : (g : Ground) (s : RawSetting) (setting : Setting) (bounds : Bounds) (f p : ℕ) (mode : Mode) (operand : Operand) (t : State) (now : Moment) → IsGround g s → (laid : IsLaid g s f) → slice_get (s.lines f) p ≡ Some (Do ops.Rts mode operand) → IsRawWithin s bounds Return t → Agrees g (g.at (f, p)) t now
-    → Arrives g setting 1 now (RawGoes s Return (f, p) t)
+    → Arrives g setting 1 now (IsInside g (f, p)) (RawGoes s Return (f, p) t)
 return_line g s setting bounds f p mode operand t now ground laid here within a = by t.frames refl within.1
   where
     plain_row : (mode : Mode) → has_row ops.Rts mode ≡ true → is_implied mode ≡ true
     plain_row Implied e = refl
     plain_row _ e = absurd cc
 
-    by : (fs : List Frame) → t.frames ≡ fs → HasFrame fs → Arrives g setting 1 now (RawGoes s Return (f, p) t)
+    by : (fs : List Frame) → t.frames ≡ fs → HasFrame fs → Arrives g setting 1 now (IsInside g (f, p)) (RawGoes s Return (f, p) t)
     by [] e has = absurd (subst HasFrame e within.1)
     by (frame ∷ frames) e has =
         let st : Stood g s f p laid.spot ops.Rts mode operand = stood g s f p ops.Rts mode operand laid here in
@@ -377,7 +377,7 @@ return_line g s setting bounds f p mode operand t now ground laid here within a 
         let upto = ground.to frame.back in let high = ground.high in
         let u : State = record t { pushed = frame.pushed; frames = frames } in
         let goes : RawGoes s Return (f, p) t frame.back u = subst (λ (fs : List Frame). RawReturns fs t frame.back u) (sym e) (within.0, refl, refl) in
-        one g setting 1 now (RawGoes s Return (f, p) t) frame.back u (omega arith) goes (returns g setting (g.at (f, p)) frame frames t now a (omega (arith, upto, high)) h.0 within.0 e)
+        one g setting 1 now (IsInside g (f, p)) (RawGoes s Return (f, p) t) frame.back u (omega arith) goes (returns g setting (g.at (f, p)) frame frames t now a (omega (arith, upto, high)) h.0 within.0 e)
 
 -- the return of the last call
 pub last_line : (g : Ground) (s : RawSetting) (setting : Setting) (f p to top : ℕ) (l : Line) (t : State) (now : Moment) → IsGround g s → IsLaid g s f → slice_get (s.lines f) p ≡ Some l → form_of l ≡ Return → g.last ≡ Some to → to ≤ 65535 → top ≡ g.top + 2 → t.pushed ≡ [] → t.frames ≡ []
@@ -447,32 +447,32 @@ no_hook_there s routines.HookExit t h = absurd cc
 no_hook_there s _ t h = refl
 
 run_line : (g : Ground) (s : RawSetting) (setting : Setting) (bounds : Bounds) (f p : ℕ) (r : Routine) (t : State) (now : Moment) → IsGround g s → (laid : IsLaid g s f) → slice_get (s.lines f) p ≡ Some (Call (callees.Routine r)) → hook_row s.args r t ≡ None → IsRawWithin s bounds (Run r) t → Agrees g (g.at (f, p)) t now
-    → Arrives g setting 2 now (RawGoes s (Run r) (f, p) t)
+    → Arrives g setting 2 now (IsInside g (f, p)) (RawGoes s (Run r) (f, p) t)
 run_line g s setting bounds f p r t now ground laid here no_hook within a =
     let le : bounds.hard + 2 ≤ s_of t = subst (λ (o : Option Row). IsHookWithin s.place bounds o t) no_hook within in
     let q : Place = entry_of s (s.routine r) in
     let unhooked : hook_address r ≡ None = no_hook_there s r t no_hook in
     let leads : callee_address laid.spot (callees.Routine r) ≡ g.at q = laid.calls p (Call (callees.Routine r)) here ∙ ap (λ (o : Option ℕ). unwrap_or o (g.at q)) unhooked in
     let goes : RawGoes s (Run r) (f, p) t q (called (line_after s (f, p)) t) = subst (λ (o : Option Row). RawRuns s o r (f, p) t q (called (line_after s (f, p)) t)) (sym no_hook) (refl, refl) in
-    one g setting 2 now (RawGoes s (Run r) (f, p) t) q (called (line_after s (f, p)) t) (omega arith) goes
+    one g setting 2 now (IsInside g (f, p)) (RawGoes s (Run r) (f, p) t) q (called (line_after s (f, p)) t) (omega arith) goes
     (call_moves g s setting f p (callees.Routine r) (g.at q) t now ground laid here leads (room_for g s (g.at (f, p)) 2 bounds.hard t now ground a le) a)
 
 call_line : (g : Ground) (s : RawSetting) (setting : Setting) (bounds : Bounds) (f p : ℕ) (callee : Callee) (t : State) (now : Moment) → IsGround g s → (laid : IsLaid g s f) → slice_get (s.lines f) p ≡ Some (Call callee) → IsNoHook s (callee_form callee) t → IsCounted g s (callee_form callee) → IsRawWithin s bounds (callee_form callee) t → Agrees g (g.at (f, p)) t now
-    → Arrives g setting (raw_weight (callee_form callee)) now (RawGoes s (callee_form callee) (f, p) t)
+    → Arrives g setting (raw_weight (callee_form callee)) now (IsInside g (f, p)) (RawGoes s (callee_form callee) (f, p) t)
 call_line g s setting bounds f p (callees.Routine r) t now ground laid here no_hook counted within a = run_line g s setting bounds f p r t now ground laid here no_hook within a
 call_line g s setting bounds f p (callees.Function callee reads gives) t now ground laid here no_hook counted within a =
     let q : Place = entry_of s (target_of s (s.library callee.0) callee.0) in
-    one g setting 1 now (RawGoes s (Enter callee.0 reads gives) (f, p) t) q (called (line_after s (f, p)) t) (omega arith) (refl, refl)
+    one g setting 1 now (IsInside g (f, p)) (RawGoes s (Enter callee.0 reads gives) (f, p) t) q (called (line_after s (f, p)) t) (omega arith) (refl, refl)
     (call_moves g s setting f p (callees.Function callee reads gives) (g.at q) t now ground laid here (laid.calls p (Call (callees.Function callee reads gives)) here counted) (room_for g s (g.at (f, p)) 2 bounds.hard t now ground a within) a)
 call_line g s setting bounds f p (callees.Pointer reads gives) t now ground laid here no_hook counted within a =
     let q : Place = entry_of s (s.routine routines.CallPtr4) in
-    one g setting 1 now (RawGoes s (Through reads gives) (f, p) t) q (called (line_after s (f, p)) t) (omega arith) (refl, refl)
+    one g setting 1 now (IsInside g (f, p)) (RawGoes s (Through reads gives) (f, p) t) q (called (line_after s (f, p)) t) (omega arith) (refl, refl)
     (call_moves g s setting f p (callees.Pointer reads gives) (g.at q) t now ground laid here (laid.calls p (Call (callees.Pointer reads gives)) here) (room_for g s (g.at (f, p)) 2 bounds.hard t now ground a within) a)
 
 -- All lines
 
 jump_by : (g : Ground) (s : RawSetting) (setting : Setting) (bounds : Bounds) (f p : ℕ) (mode : Mode) (operand : Operand) (t : State) (now : Moment) → IsGround g s → (laid : IsLaid g s f) → slice_get (s.lines f) p ≡ Some (Do ops.Jmp mode operand) → (has_row ops.Jmp mode ≡ true) × (takes ops.Jmp mode operand ≡ true) → IsCounted g s (jump_form operand) → IsRawWithin s bounds (jump_form operand) t → Agrees g (g.at (f, p)) t now
-    → Arrives g setting (raw_weight (jump_form operand)) now (RawGoes s (jump_form operand) (f, p) t)
+    → Arrives g setting (raw_weight (jump_form operand)) now (IsInside g (f, p)) (RawGoes s (jump_form operand) (f, p) t)
 jump_by g s setting bounds f p Absolute (operands.To l) t now ground laid here fits counted within a = jump_line g s setting f p l t now ground laid here a
 jump_by g s setting bounds f p Indirect (operands.Zero i) t now ground laid here fits counted within a = far_line g s setting bounds f p i t now ground laid here counted within a
 jump_by g s setting bounds f p _ (operands.To l) t now ground laid here fits counted within a = (let e = fits.0 in let z = fits.1 in absurd cc)
@@ -480,7 +480,7 @@ jump_by g s setting bounds f p _ (operands.Zero i) t now ground laid here fits c
 jump_by g s setting bounds f p _ _ t now ground laid here fits counted within a = absurd within
 
 moves_line : (g : Ground) (s : RawSetting) (setting : Setting) (bounds : Bounds) (f p : ℕ) (op : Op) (mode : Mode) (operand : Operand) (t : State) (now : Moment) → IsGround g s → (laid : IsLaid g s f) → slice_get (s.lines f) p ≡ Some (Do op mode operand) → IsCounted g s (move_form op operand) → IsRawWithin s bounds (move_form op operand) t → Agrees g (g.at (f, p)) t now
-    → Arrives g setting (raw_weight (move_form op operand)) now (RawGoes s (move_form op operand) (f, p) t)
+    → Arrives g setting (raw_weight (move_form op operand)) now (IsInside g (f, p)) (RawGoes s (move_form op operand) (f, p) t)
 moves_line g s setting bounds f p ops.Jmp mode operand t now ground laid here counted within a =
     let st : Stood g s f p laid.spot ops.Jmp mode operand = stood g s f p ops.Jmp mode operand laid here in
     jump_by g s setting bounds f p mode operand t now ground laid here (st.row, st.fits) counted within a
@@ -491,13 +491,13 @@ moves_line g s setting bounds f p ops.Rts mode operand t now ground laid here co
 moves_line g s setting bounds f p _ mode operand t now ground laid here counted within a = absurd within
 
 branches_line : (g : Ground) (s : RawSetting) (setting : Setting) (bounds : Bounds) (f p : ℕ) (op : Op) (mode : Mode) (operand : Operand) (t : State) (now : Moment) → IsGround g s → (laid : IsLaid g s f) → slice_get (s.lines f) p ≡ Some (Do op mode operand) → kind_of op ≡ Branches → IsRawWithin s bounds (branch_form op operand) t → Agrees g (g.at (f, p)) t now
-    → Arrives g setting (raw_weight (branch_form op operand)) now (RawGoes s (branch_form op operand) (f, p) t)
+    → Arrives g setting (raw_weight (branch_form op operand)) now (IsInside g (f, p)) (RawGoes s (branch_form op operand) (f, p) t)
 branches_line g s setting bounds f p op mode (operands.To l) t now ground laid here k within a = branch_line g s setting f p op mode l t now ground laid here k a
 branches_line g s setting bounds f p op mode _ t now ground laid here k within a = absurd within
 
 do_line : (g : Ground) (s : RawSetting) (setting : Setting) (bounds : Bounds) (f p : ℕ) (k : Kind) (op : Op) (mode : Mode) (operand : Operand) (t : State) (now : Moment) → IsGround g s → (laid : IsLaid g s f) → slice_get (s.lines f) p ≡ Some (Do op mode operand) → kind_of op ≡ k → stack_start ≤ bounds.soft
     → IsCounted g s (op_form k op mode operand) → IsRawWithin s bounds (op_form k op mode operand) t → Agrees g (g.at (f, p)) t now
-    → Arrives g setting (raw_weight (op_form k op mode operand)) now (RawGoes s (op_form k op mode operand) (f, p) t)
+    → Arrives g setting (raw_weight (op_form k op mode operand)) now (IsInside g (f, p)) (RawGoes s (op_form k op mode operand) (f, p) t)
 do_line g s setting bounds f p Reads op mode operand t now ground laid here k soft counted within a =
     plain_goes g s setting f p Reads op mode operand t now ground laid k (plain_line g s setting bounds f p Reads op mode operand t now ground laid soft (stood g s f p op mode operand laid here) it_reads k (subst (λ (x : Placement). IsRawOpen x bounds (ref_of mode (word_of x operand) t)) ground.place within) a)
 do_line g s setting bounds f p Stores op mode operand t now ground laid here k soft counted within a =

@@ -1,5 +1,5 @@
 -- How the state of the processor agrees with that of the machine on lines.
-use Rattle.std.specs.Prelude.{◌≡◌, ℕ, suc, ◌+◌, ◌*◌, ◌<◌, ◌≤◌, false, List, [], ◌∷◌, length, Option, Some, None}
+use Rattle.std.specs.Prelude.{◌≡◌, ◌⊎◌, ℕ, suc, ◌+◌, ◌*◌, ◌<◌, ◌≤◌, false, List, [], ◌∷◌, length, Option, Some, None}
 use Rattle.c65_base.specs.declared.options.Cpu.{Cpu}
 use Rattle.c65_mach.specs.State.{read}
 use Rattle.c65_mach.specs.Run.{Setting, Moment, Running, turn}
@@ -53,13 +53,22 @@ pub record Agrees (g : Ground) (to : ℕ) (t : State) (now : Moment) : Type 0 wh
   pub input : now.input ≡ t.input
   pub output : now.output ≡ t.output
 
--- so many rows lead from one moment to another, and the guard refuses none of them
-pub data Goes (setting : Setting) : ℕ → Moment → Moment → Type 0 where
-  none : {m : Moment} → Goes setting 0 m m
-  more : {k : ℕ} {m n o : Moment} → turn setting m ≡ Running n → is_too_deep m.machine ≡ false → Goes setting k n o → Goes setting (suc k) m o
+-- So many rows lead from one moment to another: the guard refuses none of them, and P holds of each moment before a row.
+pub data Goes (P : Moment → Type 0) (setting : Setting) : ℕ → Moment → Moment → Type 0 where
+  none : {m : Moment} → Goes P setting 0 m m
+  more : {k : ℕ} {m n o : Moment} → turn setting m ≡ Running n → is_too_deep m.machine ≡ false → P m → Goes P setting k n o → Goes P setting (suc k) m o
 
--- The processor comes, in at least one row and at most so many, to a moment that agrees with a place and state of Q.
-pub record Arrives (g : Ground) (setting : Setting) (most : ℕ) (now : Moment) (Q : Place → State → Type 0) : Type 0 where
+-- the first moment, or one with pc at an address of these
+abbrev pub IsFirstOr : (ℕ → Type 0) → Moment → Moment → Type 0
+IsFirstOr Later first m = (m ≡ first) ⊎ Later m.machine.pc
+
+-- the address is behind a line's first byte, and of the line
+abbrev pub IsInside : Ground → Place → ℕ → Type 0
+IsInside g p a = (g.at p < a) × (a < g.at (p.0, suc p.1))
+
+-- The processor comes, in at least one row and at most so many, to a moment that agrees with a place and state of Q, and each row
+-- but the first is done at an address of these.
+pub record Arrives (g : Ground) (setting : Setting) (most : ℕ) (now : Moment) (Later : ℕ → Type 0) (Q : Place → State → Type 0) : Type 0 where
   pub rows : ℕ
   pub least : 1 ≤ rows
   pub within : rows ≤ most
@@ -67,5 +76,5 @@ pub record Arrives (g : Ground) (setting : Setting) (most : ℕ) (now : Moment) 
   pub place : Place
   pub state : State
   pub holds : Q place state
-  pub goes : Goes setting rows now then_at
+  pub goes : Goes (IsFirstOr Later now) setting rows now then_at
   pub agrees : Agrees g (g.at place) state then_at

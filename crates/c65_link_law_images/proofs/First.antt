@@ -1,5 +1,5 @@
 -- The first moment of a run of an image, and its first rows.
-use Rattle.std.proofs.Common.{bytes_eq, codes, ◌≡◌, ℕ, zero, suc, ◌+◌, ◌-◌, ◌<◌, ◌≤◌, Bool, true, false, if◌then◌else◌, List, [], ◌∷◌, ◌++◌, All, Option, Some, None, Ok, length, slice_get, slice_index, refl, ap, sym, ◌∙◌, subst, arith}
+use Rattle.std.proofs.Common.{bytes_eq, codes, ◌≡◌, ℕ, zero, suc, ◌+◌, ◌-◌, ◌<◌, ◌≤◌, inl, inr, Bool, true, false, if◌then◌else◌, List, [], ◌∷◌, ◌++◌, All, Option, Some, None, Ok, length, slice_get, slice_index, refl, ap, sym, ◌∙◌, subst, arith}
 use Rattle.std.proofs.lemmas.Slice.Eq.{bytes_eq-Decides}
 use Rattle.std.proofs.lemmas.Bool.{le-ltb}
 use Rattle.std.proofs.lemmas.List.Elements.{All-head, All-tail}
@@ -21,15 +21,17 @@ use Rattle.c65_code.specs.RawMachine.{RawSetting, IsRawOpen, IsRawWithin, RawGoe
 use Rattle.c65_link.specs.Linked.{linked_for}
 use Rattle.c65_link_law_spots.specs.Places.{place_in, address_in}
 use Rattle.c65_link_law_spots.specs.Sound.{IsSound}
-use Rattle.c65_link_law_follow.specs.Agree.{Ground, Agrees, Arrives, none, more}
+use Rattle.c65_link_law_spots.specs.Laws.{start}
+use Rattle.c65_link_law_follow.specs.Agree.{Ground, Agrees, IsFirstOr, IsInside, Arrives, none, more}
 use Rattle.c65_link_law_follow.specs.Agree.{Goes}
 use Rattle.c65_link_law_follow.specs.Laws.{IsCounted}
 use Rattle.c65_link_law_follow.proofs.Follow.{lines_are_followed}
-use Rattle.c65_link_law_laid.specs.Linked.{start_number, main_number, unit_lines, raw_in, place_at, ground_in}
+use Rattle.c65_link_law_laid.specs.Linked.{start_number, main_number, unit_lines, raw_in, place_at, ground_in, IsInstruction, IsByteOf}
 use Rattle.c65_link_law_runs.proofs.Kept.{IsKeptBy, kept_by}
-use Rattle.c65_link_law_runs.proofs.Moves.{quiet_line}
+use Rattle.c65_link_law_runs.proofs.Moves.{weaker, quiet_line}
 use Rattle.c65_link_law_runs.proofs.Runs.{goes_both}
-use Rattle.c65_link_law_reach.proofs.Steps.{Image_}
+use Rattle.c65_link_law_reach.proofs.Steps.{Image_, away_inside, away_outside}
+use Rattle.c65_link_law_reach.specs.Reach.{code_ground, IsElsewhere}
 use Rattle.std.proofs.Common.{replicate}
 use Rattle.std.proofs.lemmas.List.{length-take-le, length-append, length-replicate, get_or-take, get_or_append_left}
 use Rattle.std.proofs.lemmas.List.Elements.{All-take, All-append, All-replicate}
@@ -129,17 +131,33 @@ first_agrees cpu code image input linked_is =
 
 -- Steps of the start
 
-pub record Went (g : Ground) (setting : Setting) (k : ℕ) (p : Place) (u : State) (now : Moment) : Type 0 where
+-- no instruction of a function begins where pc is
+abbrev pub IsAway : Cpu → Code → Image → Moment → Type 0
+IsAway cpu code image m = IsElsewhere (code_ground cpu code image) code m.machine.pc
+
+pub record Went (P : Moment → Type 0) (g : Ground) (setting : Setting) (k : ℕ) (p : Place) (u : State) (now : Moment) : Type 0 where
   pub then_at : Moment
   pub rows : ℕ
   pub within : rows ≤ k
-  pub goes : Goes setting rows now then_at
+  pub goes : Goes P setting rows now then_at
   pub bytes : IsBytes u
   pub agrees : Agrees g (g.at p) u then_at
 
+-- at a line of the start
+pub start_away : (cpu : Cpu) (code : Code) (image : Image) (args : List (List ℕ)) (setting : Setting) (j : ℕ) (l : Line) (m : Moment) → Image_ cpu code image args setting → slice_get ((raw_in code args).lines (start_number code)) j ≡ Some l → IsInstruction l → m.machine.pc ≡ (code_ground cpu code image).at (start_number code, j) → IsAway cpu code image m
+start_away cpu code image args setting j l m i there_is h pc =
+    away_outside cpu code image args setting (start_number code, j) m.machine.pc i (start refl) (omega arith)
+    (subst (λ (b : ℕ). IsByteOf code (read (loaded_memory image)) (start_number code, j) b) (sym pc) (i.first (start_number code, j) l (start refl) there_is h))
+
+-- before the rows of a line of the start
+pub line_away : (cpu : Cpu) (code : Code) (image : Image) (args : List (List ℕ)) (setting : Setting) (j : ℕ) (l : Line) (now m : Moment) → Image_ cpu code image args setting → slice_get ((raw_in code args).lines (start_number code)) j ≡ Some l → IsInstruction l → now.machine.pc ≡ (code_ground cpu code image).at (start_number code, j)
+    → IsFirstOr (IsInside (ground_in cpu code image 255 None) (start_number code, j)) now m → IsAway cpu code image m
+line_away cpu code image args setting j l now m i there_is h pc (inl e) = start_away cpu code image args setting j l m i there_is h (ap (λ (x : Moment). x.machine.pc) e ∙ pc)
+line_away cpu code image args setting j l now m i there_is h pc (inr z) = away_inside cpu code image args setting (start_number code, j) m.machine.pc i (start refl) z
+
 pub plain_went : (cpu : Cpu) (code : Code) (image : Image) (args : List (List ℕ)) (setting : Setting) (n j : ℕ) (op : Op) (mode : Mode) (operand : Operand) (first : Moment) (t : State) → Image_ cpu code image args setting → slice_get ((raw_in code args).lines (start_number code)) j ≡ Some (Do op mode operand)
     → form_of (Do op mode operand) ≡ Plain op mode operand → IsRawOpen (place_in code) (record { soft = stack_start; hard = 0 }) (ref_of mode (word_of (place_in code) operand) t)
-    → Went (ground_in cpu code image 255 None) setting n (start_number code, j) t first → Went (ground_in cpu code image 255 None) setting (n + 1) (start_number code, suc j) (effect (kind_of op) op mode (word_of (place_in code) operand) t) first
+    → Went (IsAway cpu code image) (ground_in cpu code image 255 None) setting n (start_number code, j) t first → Went (IsAway cpu code image) (ground_in cpu code image 255 None) setting (n + 1) (start_number code, suc j) (effect (kind_of op) op mode (word_of (place_in code) operand) t) first
 plain_went cpu code image args setting n j op mode operand first t i there_is form is_open w =
     let h : Ground = ground_in cpu code image 255 None in
     let s : RawSetting = raw_in code args in
@@ -147,7 +165,7 @@ plain_went cpu code image args setting n j op mode operand first t i there_is fo
     let l : Line = Do op mode operand in
     let to : State = effect (kind_of op) op mode (word_of (place_in code) operand) t in
     let quiet = quiet_line l h s f j t i.start_laid there_is (λ r e. no_run_form r (sym form ∙ e)) in
-    let v : Arrives h setting (raw_weight (form_of l)) w.then_at (RawGoes s (form_of l) (f, j) t) = lines_are_followed h s setting (record { soft = stack_start; hard = 0 }) f j l t w.then_at i.start_ground i.start_laid there_is quiet.0
+    let v : Arrives h setting (raw_weight (form_of l)) w.then_at (IsInside h (f, j)) (RawGoes s (form_of l) (f, j) t) = lines_are_followed h s setting (record { soft = stack_start; hard = 0 }) f j l t w.then_at i.start_ground i.start_laid there_is quiet.0
     (subst (λ (x : Form). IsCounted h s x) (sym form) tt) w.bytes (omega arith) (subst (λ (x : Form). IsRawWithin s (record { soft = stack_start; hard = 0 }) x t) (sym form) is_open) w.agrees in
     let goes : RawGoes s (Plain op mode operand) (f, j) t v.place v.state = subst (λ (x : Form). RawGoes s x (f, j) t v.place v.state) form v.holds in
     let k : IsKeptBy t v.state = kept_by (form_of l) s (f, j) t v.place v.state quiet.0 quiet.1 w.bytes v.holds in
@@ -157,11 +175,14 @@ plain_went cpu code image args setting n j op mode operand first t i there_is fo
       then_at = v.then_at;
       rows = w.rows + v.rows;
       within = omega (arith, weight, one, all);
-      goes = goes_both setting w.rows v.rows (w.rows + v.rows) first w.then_at v.then_at refl w.goes v.goes;
+      goes = goes_both P setting w.rows v.rows (w.rows + v.rows) first w.then_at v.then_at refl w.goes (weaker (IsFirstOr (IsInside h (f, j)) w.then_at) P setting v.rows w.then_at v.then_at (λ m x. line_away cpu code image args setting j l w.then_at m i there_is tt w.agrees.pc x) v.goes);
       bytes = subst IsBytes goes.1 k.bytes;
       agrees = subst (λ (k : ℕ). Agrees h k to v.then_at) there (subst (λ (x : State). Agrees h (h.at v.place) x v.then_at) goes.1 v.agrees);
     }
   where
+    P : Moment → Type 0
+    P = IsAway cpu code image
+
     no_run_form : (r : Routine) → Plain op mode operand ≡ Run r → ⊥
     no_run_form r e = (let z : ◌≡◌ {A = Form} (Plain op mode operand) (Run r) = e in absurd cc)
 
@@ -172,23 +193,32 @@ unfolding onward
 onward_front setting zero p = refl
 onward_front setting (suc k) p = ap (next_of setting) (onward_front setting k p)
 
-pub onward_goes : (setting : Setting) (k : ℕ) (now m : Moment) → Goes setting k now m → onward setting k (Running now) ≡ Running m
+pub onward_goes : (P : Moment → Type 0) (setting : Setting) (k : ℕ) (now m : Moment) → Goes P setting k now m → onward setting k (Running now) ≡ Running m
 unfolding onward
-onward_goes setting zero now m none = refl
-onward_goes setting (suc k) now m (more {n = n} is free rest) = onward_front setting k (Running now) ∙ ap (onward setting k) is ∙ onward_goes setting k n m rest
+onward_goes P setting zero now m none = refl
+onward_goes P setting (suc k) now m (more {n = n} is free at rest) = onward_front setting k (Running now) ∙ ap (onward setting k) is ∙ onward_goes P setting k n m rest
 
-pub onward_ends : (setting : Setting) (k : ℕ) (now m : Moment) (status : ℕ) → Goes setting k now m → turn setting m ≡ Ended m status → onward setting (k + 1) (Running now) ≡ Ended m status
+pub onward_ends : (P : Moment → Type 0) (setting : Setting) (k : ℕ) (now m : Moment) (status : ℕ) → Goes P setting k now m → turn setting m ≡ Ended m status → onward setting (k + 1) (Running now) ≡ Ended m status
 unfolding onward
-onward_ends setting k now m status goes is =
+onward_ends P setting k now m status goes is =
     let e : k + 1 ≡ suc k = omega arith in
-    ap (λ (n : ℕ). onward setting n (Running now)) e ∙ ap (next_of setting) (onward_goes setting k now m goes) ∙ is
+    ap (λ (n : ℕ). onward setting n (Running now)) e ∙ ap (next_of setting) (onward_goes P setting k now m goes) ∙ is
 
-pub free_all : (setting : Setting) (j : ℕ) (now m : Moment) (k : ℕ) → Goes setting j now m → k < j → is_too_deep (moment_of (onward setting k (Running now))).machine ≡ false
+pub free_all : (P : Moment → Type 0) (setting : Setting) (j : ℕ) (now m : Moment) (k : ℕ) → Goes P setting j now m → k < j → is_too_deep (moment_of (onward setting k (Running now))).machine ≡ false
 unfolding onward
-free_all setting j now m k none l = absurd (omega (arith, l))
-free_all setting (suc j) now m zero (more {n = n} is free rest) l = free
-free_all setting (suc j) now m (suc k) (more {n = n} is free rest) l =
-    ap (λ (p : Progress). is_too_deep (moment_of p).machine) (onward_front setting k (Running now) ∙ ap (onward setting k) is) ∙ free_all setting j n m k rest (omega (arith, l))
+free_all P setting j now m k none l = absurd (omega (arith, l))
+free_all P setting (suc j) now m zero (more {n = n} is free at rest) l = free
+free_all P setting (suc j) now m (suc k) (more {n = n} is free at rest) l =
+    ap (λ (p : Progress). is_too_deep (moment_of p).machine) (onward_front setting k (Running now) ∙ ap (onward setting k) is) ∙ free_all P setting j n m k rest (omega (arith, l))
+
+-- what holds before each row, and behind the last
+pub holds_all : (P : Moment → Type 0) (setting : Setting) (j : ℕ) (now m : Moment) (k : ℕ) → Goes P setting j now m → P m → k ≤ j → P (moment_of (onward setting k (Running now)))
+unfolding onward
+holds_all P setting j now m zero none last l = last
+holds_all P setting j now m (suc k) none last l = absurd (omega (arith, l))
+holds_all P setting (suc j) now m zero (more {n = n} is free at rest) last l = at
+holds_all P setting (suc j) now m (suc k) (more {n = n} is free at rest) last l =
+    subst (λ (p : Progress). P (moment_of p)) (sym (onward_front setting k (Running now) ∙ ap (onward setting k) is)) (holds_all P setting j n m k rest last (omega (arith, l)))
 
 -- main's number
 

@@ -13,7 +13,7 @@ use Rattle.c65_code.specs.declared.routine.Routine.{Routine}
 use Rattle.c65_code.specs.declared.routine.Routine.TheVariants as routines
 use Rattle.c65_code.specs.declared.line.Callee.TheVariants as callees
 use Rattle.c65_code.specs.declared.line.Line.{Line}
-use Rattle.c65_code.specs.declared.line.Line.TheVariants.{Call}
+use Rattle.c65_code.specs.declared.line.Line.TheVariants.{Do, Call}
 use Rattle.c65_code.specs.declared.code.Code.{Code}
 use Rattle.c65_code.specs.Parts.{no_parts}
 use Rattle.c65_code.specs.LineState.{write, Place, State, Frame, IsBytes}
@@ -35,7 +35,7 @@ use Rattle.c65_link_law_laid.specs.Linked.{start_number, with_main, raw_in, plac
 use Rattle.c65_link_law_laid.specs.Laws.{AreLineNumbers}
 use Rattle.c65_link_law_laid.proofs.Linked.{the_start}
 use Rattle.c65_link_law_runs.proofs.Runs.{goes_both}
-use Rattle.c65_link_law_reach.specs.Reach.{runtime_in, exit_place, code_ground}
+use Rattle.c65_link_law_reach.specs.Reach.{runtime_in, exit_place, code_ground, IsAt, HasArrived, IsAtLine}
 use Rattle.c65_link_law_reach.proofs.Steps.{Image_, lines_setting}
 use Rattle.c65_code.specs.declared.line.Operand.TheVariants as operands
 use Rattle.c65_mach.specs.declared.rows.Op.TheVariants as ops
@@ -43,7 +43,7 @@ use Rattle.c65_mach.specs.declared.rows.Mode.TheVariants.{Indirect}
 use Rattle.c65_link.specs.Bytes.{callee_address}
 use Rattle.c65_code.specs.Comes.{Seen, Shown, seen_at, Shows, Comes, here, on}
 use Rattle.c65_link_law_reach.specs.Reach.{Passes}
-use Rattle.c65_mach.specs.Run.{Progress, Running, begins, onward, moment_of, setting_of as setting_for}
+use Rattle.c65_mach.specs.Run.{Progress, Running, Ended, begins, onward, moment_of, setting_of as setting_for}
 use Rattle.c65_mach.specs.declared.rows.Op.TheVariants as ops
 use Rattle.c65_mach.specs.declared.rows.Mode.TheVariants as modes
 use Rattle.c65_code.specs.declared.line.Operand.TheVariants as operands
@@ -52,7 +52,9 @@ use Rattle.c65_code.specs.Comes.{ComesFrom, first_place, none_seen}
 use Rattle.c65_link.specs.Linked.{entry_of as entry_routine}
 use Rattle.c65_link_law_spots.specs.Laws.{AreDataLoaded}
 use Rattle.c65_link_law_spots.proofs.Loaded.{IsShaped, shaped, data_are_loaded}
-use Rattle.c65_link_law_reach.proofs.Reach.{image_known, reach}
+use Rattle.c65_link_law_reach.proofs.Reach.{IsCarried, image_known, none_arrives, reach}
+use Rattle.c65_link_law_reach.proofs.Standing.{at_entry}
+use Rattle.c65_link_law_runs.proofs.Moves.{weaker}
 use Rattle.c65_link_law_reach.proofs.Calls.{function_there, function_entry}
 use Rattle.c65_link_law_images.specs.Reaches.{Reaches, IsShownBy}
 use Rattle.c65_link_law_images.specs.Laws.{AreBytes}
@@ -60,14 +62,15 @@ use Rattle.c65_code.specs.Effects.{ax as ax_parts}
 use Rattle.c65_rtl.specs.Library.{stack_top}
 use Rattle.c65_link_law_runs.proofs.Kept.{one_written}
 use Rattle.c65_link_law_reach.specs.Reach.{goes_on as goes_further, has_ended as has_stopped}
-use Rattle.c65_link_law_images.proofs.First.{memory_bytes, first_state, first_agrees, Went, plain_went, onward_goes, onward_ends, free_all, main_is}
+use Rattle.c65_link_law_images.proofs.First.{memory_bytes, first_state, first_agrees, IsAway, start_away, Went, plain_went, onward_goes, onward_ends, free_all, holds_all, main_is}
 
 -- codes whose main takes no arguments
-abbrev pub PlainImagesFollow : Type 0
+abbrev pub PlainImagesFollow : Type 1
 PlainImagesFollow = (cpu : Cpu) (code : Code) (image : Image) → RunsOn cpu code → IsSound code → AreLineNumbers code → linked_for cpu code ≡ Ok image → AreBytes image.payload → code.main_args ≡ false → (main : ℕ) → IsMain code main
     → (args : List (List ℕ)) (input : List ℕ) (test : Shown → Seen → Bool) (w : ℕ) → All AreBytes args → AreBytes input → IsRuntime (runtime_in code args)
     → ((t : State) → IsStart code (place_in code) args input t → ComesFrom (setting_of code (place_in code)) main test w t)
-    → Reaches image args input test w
+    → (Inv : Place → State → Type 0) → IsCarried code Inv → ((t : State) → IsStart code (place_in code) args input t → Inv (first_place (setting_of code (place_in code)) main) t)
+    → Reaches (HasArrived (code_ground cpu code image) code Inv) image args input test w
 
 -- The states of the start: the sp is $FFF0
 
@@ -122,15 +125,15 @@ four_of false main (suc (suc (suc zero))) less = refl
 four_of false main (suc (suc (suc (suc j)))) less = absurd (omega (arith, less))
 
 pub started : (cpu : Cpu) (code : Code) (image : Image) (args : List (List ℕ)) (setting : Setting) (input : List ℕ) (main : ℕ) → Image_ cpu code image args setting → linked_for cpu code ≡ Ok image → AreBytes image.payload → ((j : ℕ) → j < 4 → slice_get ((raw_in code args).lines (start_number code)) j ≡ slice_get stack_top j)
-    → Went (ground_in cpu code image 255 None) setting 4 (start_number code, 4) (state_4 image input) (begins image input)
+    → Went (IsAway cpu code image) (ground_in cpu code image 255 None) setting 4 (start_number code, 4) (state_4 image input) (begins image input)
 started cpu code image args setting input main i linked_is h lines =
     let first : Moment = begins image input in
-    let w0 : Went (ground_in cpu code image 255 None) setting 0 (start_number code, 0) (first_state image input) first = record { then_at = first; rows = 0; within = omega arith; goes = none; bytes = first_bytes image input h; agrees = first_agrees cpu code image input linked_is } in
-    let w1 : Went (ground_in cpu code image 255 None) setting 1 (start_number code, 1) (state_1 image input) first =
+    let w0 : Went (IsAway cpu code image) (ground_in cpu code image 255 None) setting 0 (start_number code, 0) (first_state image input) first = record { then_at = first; rows = 0; within = omega arith; goes = none; bytes = first_bytes image input h; agrees = first_agrees cpu code image input linked_is } in
+    let w1 : Went (IsAway cpu code image) (ground_in cpu code image 255 None) setting 1 (start_number code, 1) (state_1 image input) first =
     plain_went cpu code image args setting 0 0 ops.Lda modes.Immediate (operands.Byte 0xF0) first (first_state image input) i (lines 0 (omega arith)) refl tt w0 in
-    let w2 : Went (ground_in cpu code image 255 None) setting 2 (start_number code, 2) (state_2 image input) first =
+    let w2 : Went (IsAway cpu code image) (ground_in cpu code image 255 None) setting 2 (start_number code, 2) (state_2 image input) first =
     plain_went cpu code image args setting 1 1 ops.Sta modes.ZeroPage (operands.Zero 0) first (state_1 image input) i (lines 1 (omega arith)) refl (omega arith) w1 in
-    let w3 : Went (ground_in cpu code image 255 None) setting 3 (start_number code, 3) (state_3 image input) first =
+    let w3 : Went (IsAway cpu code image) (ground_in cpu code image 255 None) setting 3 (start_number code, 3) (state_3 image input) first =
     plain_went cpu code image args setting 2 2 ops.Lda modes.Immediate (operands.Byte 0xFF) first (state_2 image input) i (lines 2 (omega arith)) refl tt w2 in
     plain_went cpu code image args setting 3 3 ops.Sta modes.ZeroPage (operands.Zero 1) first (state_3 image input) i (lines 3 (omega arith)) refl (omega arith) w3
 
@@ -171,53 +174,72 @@ one_arrival q f p = by ((f == q.0) && (p == q.1))
     by true = omega arith
     by false = omega arith
 
-pub at_once : (image : Image) (args : List (List ℕ)) (input : List ℕ) (test : Shown → Seen → Bool) (w : ℕ) (q : Place) → IsTrue (test (record { output = []; ended = None }) (seen_at q none_seen)) → Reaches image args input test w
-at_once image args input test w q holds = record {
+-- before its first row the run stands at the start
+pub begins_away : (cpu : Cpu) (code : Code) (image : Image) (args : List (List ℕ)) (setting : Setting) (input : List ℕ) (main : ℕ) → Image_ cpu code image args setting → linked_for cpu code ≡ Ok image → ((j : ℕ) → j < 4 → slice_get ((raw_in code args).lines (start_number code)) j ≡ slice_get stack_top j) → IsAway cpu code image (begins image input)
+begins_away cpu code image args setting input main i linked_is lines =
+    start_away cpu code image args setting 0 (Do ops.Lda modes.Immediate (operands.Byte 0xF0)) (begins image input) i (lines 0 (omega arith)) tt (first_agrees cpu code image input linked_is).pc
+
+pub at_once : (P : Moment → Type 0) (image : Image) (args : List (List ℕ)) (input : List ℕ) (test : Shown → Seen → Bool) (w : ℕ) (q : Place) → P (begins image input) → IsTrue (test (record { output = []; ended = None }) (seen_at q none_seen)) → Reaches P image args input test w
+at_once P image args input test w q first holds = record {
   rows = 0;
   within = omega arith;
   seen = seen_at q none_seen;
   shown = record { output = []; ended = None };
-  shows = subst (IsShownBy (record { output = []; ended = None })) (sym (onward_goes (setting_for image args) 0 (begins image input) (begins image input) none)) refl;
+  shows = subst (IsShownBy (record { output = []; ended = None })) (sym (onward_goes P (setting_for image args) 0 (begins image input) (begins image input) none)) refl;
   passes = holds;
   few = λ f p. one_arrival q f p;
   free = λ k l. absurd (omega (arith, l));
+  recorded = λ k l. holds_all P (setting_for image args) 0 (begins image input) (begins image input) k none first l;
 }
 
-pub in_time : (image : Image) (args : List (List ℕ)) (input : List ℕ) (test : Shown → Seen → Bool) (w j : ℕ) (q : Place) (n : Moment) → j ≤ 93 → Goes (setting_for image args) j (begins image input) n → Passes (setting_for image args) (w + 2) n test (seen_at q none_seen) → Reaches image args input test w
-in_time image args input test w j q n small first (goes_further rows m arrivals within goes holds few) =
+pub in_time : (P : Moment → Type 0) (image : Image) (args : List (List ℕ)) (input : List ℕ) (test : Shown → Seen → Bool) (w j : ℕ) (q : Place) (n : Moment) → j ≤ 93 → Goes P (setting_for image args) j (begins image input) n → Passes P (setting_for image args) (w + 2) n test (seen_at q none_seen) → Reaches P image args input test w
+in_time P image args input test w j q n small first (goes_further rows m arrivals within goes last holds few) =
     let setting : Setting = setting_for image args in
-    let all : Goes setting (j + rows) (begins image input) m = goes_both setting j rows (j + rows) (begins image input) n m refl first goes in
+    let all : Goes P setting (j + rows) (begins image input) m = goes_both P setting j rows (j + rows) (begins image input) n m refl first goes in
     record {
       rows = j + rows;
       within = omega (arith, within, small);
       seen = arrivals;
       shown = record { output = m.output; ended = None };
-      shows = subst (IsShownBy (record { output = m.output; ended = None })) (sym (onward_goes setting (j + rows) (begins image input) m all)) refl;
+      shows = subst (IsShownBy (record { output = m.output; ended = None })) (sym (onward_goes P setting (j + rows) (begins image input) m all)) refl;
       passes = holds;
       few = λ f p. (let a = few f p in let b = one_arrival q f p in omega (arith, a, b));
-      free = λ k l. free_all setting (j + rows) (begins image input) m k all l;
+      free = λ k l. free_all P setting (j + rows) (begins image input) m k all l;
+      recorded = λ k l. holds_all P setting (j + rows) (begins image input) m k all last l;
     }
-in_time image args input test w j q n small first (has_stopped rows status last arrivals within goes free turn_is holds few) =
-    let setting : Setting = setting_for image args in
-    let all : Goes setting (j + rows) (begins image input) last = goes_both setting j rows (j + rows) (begins image input) n last refl first goes in
+in_time P image args input test w j q n small first (has_stopped rows status last arrivals within goes free at turn_is holds few) =
     record {
       rows = j + rows + 1;
       within = omega (arith, within, small);
       seen = arrivals;
       shown = record { output = last.output; ended = Some status };
-      shows = subst (IsShownBy (record { output = last.output; ended = Some status })) (sym (onward_ends setting (j + rows) (begins image input) last status all turn_is)) refl;
+      shows = subst (IsShownBy (record { output = last.output; ended = Some status })) (sym ended) refl;
       passes = holds;
       few = λ f p. (let a = few f p in let b = one_arrival q f p in omega (arith, a, b));
       free = λ k l. before k l (cases_order k (j + rows));
+      recorded = λ k l. then_holds k l (cases_order k (j + rows + 1));
     }
   where
-    before : (k : ℕ) → k < j + rows + 1 → (k ≡ j + rows) ⊎ ((k < j + rows) ⊎ (j + rows < k)) → is_too_deep (moment_of (onward (setting_for image args) k (Running (begins image input)))).machine ≡ false
+    setting : Setting
+    setting = setting_for image args
+
+    all : Goes P setting (j + rows) (begins image input) last
+    all = goes_both P setting j rows (j + rows) (begins image input) n last refl first goes
+
+    ended : onward setting (j + rows + 1) (Running (begins image input)) ≡ Ended last status
+    ended = onward_ends P setting (j + rows) (begins image input) last status all turn_is
+
+    before : (k : ℕ) → k < j + rows + 1 → (k ≡ j + rows) ⊎ ((k < j + rows) ⊎ (j + rows < k)) → is_too_deep (moment_of (onward setting k (Running (begins image input)))).machine ≡ false
     before k l (inl e) =
-        let setting : Setting = setting_for image args in
         ap (λ (x : ℕ). is_too_deep (moment_of (onward setting x (Running (begins image input)))).machine) e
-        ∙ ap (λ (p : Progress). is_too_deep (moment_of p).machine) (onward_goes setting (j + rows) (begins image input) last (goes_both setting j rows (j + rows) (begins image input) n last refl first goes)) ∙ free
-    before k l (inr (inl less)) = free_all (setting_for image args) (j + rows) (begins image input) last k (goes_both (setting_for image args) j rows (j + rows) (begins image input) n last refl first goes) less
+        ∙ ap (λ (p : Progress). is_too_deep (moment_of p).machine) (onward_goes P setting (j + rows) (begins image input) last all) ∙ free
+    before k l (inr (inl less)) = free_all P setting (j + rows) (begins image input) last k all less
     before k l (inr (inr above)) = absurd (omega (arith, l, above))
+
+    then_holds : (k : ℕ) → k ≤ j + rows + 1 → (k ≡ j + rows + 1) ⊎ ((k < j + rows + 1) ⊎ (j + rows + 1 < k)) → P (moment_of (onward setting k (Running (begins image input))))
+    then_holds k l (inl e) = subst (λ (x : ℕ). P (moment_of (onward setting x (Running (begins image input))))) (sym e) (subst (λ (p : Progress). P (moment_of p)) (sym ended) at)
+    then_holds k l (inr (inl less)) = holds_all P setting (j + rows) (begins image input) last k all at (omega (arith, less))
+    then_holds k l (inr (inr above)) = absurd (omega (arith, l, above))
 
 -- All of it
 
@@ -236,10 +258,16 @@ no_library code f has = by ((lines_setting code).lines f) refl has (is_function_
     by [] e h b = absurd h
     by (l ∷ lines) e h b = asked (is_function_of code f) (is_nothing (segment_of code.functions f).lines) (ap is_nothing e)
 
-main_called : (cpu : Cpu) (code : Code) (image : Image) (args : List (List ℕ)) (input : List ℕ) (test : Shown → Seen → Bool) (w main : ℕ) → Image_ cpu code image args (setting_for image args) → linked_for cpu code ≡ Ok image → AreBytes image.payload → code.main_args ≡ false → AreBytes input
+-- main's first line is one, and no call is active
+pub at_main : (code : Code) (main : ℕ) (t : State) → IsSound code → HasLines ((lines_setting code).lines main) → t.frames ≡ [] → IsAtLine code (first_place (lines_setting code) main) t
+at_main code main t s has no_calls =
+    let first = at_entry code main s has in
+    record { line = first.0; at = first.1; frames = subst (λ (fs : List Frame). All (λ (frame : Frame). (l : Line) × IsAt code frame.back l) fs) (sym no_calls) (All-nil (λ (frame : Frame). (l : Line) × IsAt code frame.back l)) }
+
+main_called : (cpu : Cpu) (code : Code) (image : Image) (args : List (List ℕ)) (input : List ℕ) (Inv : Place → State → Type 0) (test : Shown → Seen → Bool) (w main : ℕ) → Image_ cpu code image args (setting_for image args) → linked_for cpu code ≡ Ok image → AreBytes image.payload → code.main_args ≡ false → AreBytes input
     → (raw_in code args).lines (start_number code) ≡ map (with_main main) (routine_lines routines.Start) → HasLines ((lines_setting code).lines main)
-    → Comes (lines_setting code) (Shows test) w (first_place (lines_setting code) main) (state_4 image input) (seen_at (first_place (lines_setting code) main) none_seen) → Reaches image args input test w
-main_called cpu code image args input test w main i linked_is h plain given lines has comes =
+    → Comes (lines_setting code) (Shows test) w (first_place (lines_setting code) main) (state_4 image input) (seen_at (first_place (lines_setting code) main) none_seen) → IsCarried code Inv → Inv (first_place (lines_setting code) main) (state_4 image input) → Reaches (HasArrived (code_ground cpu code image) code Inv) image args input test w
+main_called cpu code image args input Inv test w main i linked_is h plain given lines has comes carried inv =
     let setting : Setting = setting_for image args in
     let g : Ground = ground_in cpu code image 255 None in
     let s : RawSetting = raw_in code args in
@@ -249,18 +277,22 @@ main_called cpu code image args input test w main i linked_is h plain given line
     let known = function_there code main i.sound has in
     let call : Line = Call (callees.Function (record { 0 = main }) ax_parts ax_parts) in
     let there_is : slice_get (s.lines f) 4 ≡ Some call = ap (λ (ls : List Line). slice_get ls 4) lines in
-    let w4 : Went g setting 4 (f, 4) t (begins image input) = started cpu code image args setting input main i linked_is h (first_lines routines.Start main (s.lines f) lines (four_of false main)) in
+    let away : Moment → Type 0 = IsAway cpu code image in
+    let P : Moment → Type 0 = HasArrived (code_ground cpu code image) code Inv in
+    let w4 : Went (IsAway cpu code image) g setting 4 (f, 4) t (begins image input) = started cpu code image args setting input main i linked_is h (first_lines routines.Start main (s.lines f) lines (four_of false main)) in
     let leads : callee_address i.start_laid.spot (callees.Function (record { 0 = main }) ax_parts ax_parts) ≡ g.at to = i.start_laid.calls 4 call there_is known.1 ∙ function_entry cpu code image args main known.0 (no_library code main has) in
     let m : Moved g setting (g.at to) (called (line_after s (f, 4)) t) w4.then_at = call_moves g s setting f 4 (callees.Function (record { 0 = main }) ax_parts ax_parts) (g.at to) t w4.then_at i.start_ground i.start_laid there_is leads
     (room_for g s (g.at (f, 4)) 2 0 t w4.then_at i.start_ground w4.agrees (omega arith)) w4.agrees in
     let back : g.at (line_after s (f, 4)) ≡ g.at (exit_place code) = i.start_laid.settled 5 ∙ ap (λ (b : Bool). g.at (f, if b then 16 else 5)) (sym plain) in
     let agrees : Agrees (code_ground cpu code image) (g.at to) t m.next = on_main cpu code image (g.at to) (line_after s (f, 4)) t m.next refl refl back m.agrees in
     let within = w4.within in
-    in_time image args input test w (w4.rows + 1) to m.next (omega (arith, within)) (goes_both setting w4.rows 1 (w4.rows + 1) (begins image input) w4.then_at m.next refl w4.goes (more {n = m.next} m.turn_is m.free none))
-    (reach cpu code image args setting test w to t m.next (seen_at to none_seen) i comes (record { running = refl; bytes = bytes_4 image input h; input = given }) (All-nil (λ (x : Frame). x.back.0 < length code.symbols)) agrees)
+    let called_away : away w4.then_at = start_away cpu code image args setting 4 call w4.then_at i there_is tt w4.agrees.pc in
+    let first : Goes away setting (w4.rows + 1) (begins image input) m.next = goes_both away setting w4.rows 1 (w4.rows + 1) (begins image input) w4.then_at m.next refl w4.goes (more {n = m.next} m.turn_is m.free called_away none) in
+    in_time P image args input test w (w4.rows + 1) to m.next (omega (arith, within)) (weaker away P setting (w4.rows + 1) (begins image input) m.next (λ x z. none_arrives (code_ground cpu code image) code Inv x z) first)
+    (reach cpu code image args setting Inv test w to t m.next (seen_at to none_seen) i carried comes (record { running = refl; bytes = bytes_4 image input h; input = given }) (All-nil (λ (x : Frame). x.back.0 < length code.symbols)) (at_main code main t i.sound has refl) inv agrees)
 
 pub plain_images_follow : PlainImagesFollow
-plain_images_follow cpu code image runs s numbers linked_is payload plain main is_main args input test w args_bytes given runtime all =
+plain_images_follow cpu code image runs s numbers linked_is payload plain main is_main args input test w args_bytes given runtime all Inv carried inv =
     by (all t begun_there)
   where
     t : State
@@ -288,8 +320,10 @@ plain_images_follow cpu code image runs s numbers linked_is payload plain main i
       bytes = bytes_4 image input payload;
     }
 
-    by : Comes (lines_setting code) (Shows test) w (first_place (lines_setting code) main) t (seen_at (first_place (lines_setting code) main) none_seen) → Reaches image args input test w
-    by (here holds calm) = at_once image args input test w (first_place (lines_setting code) main) holds
+    by : Comes (lines_setting code) (Shows test) w (first_place (lines_setting code) main) t (seen_at (first_place (lines_setting code) main) none_seen) → Reaches (HasArrived (code_ground cpu code image) code Inv) image args input test w
+    by (here holds calm) =
+        at_once (HasArrived (code_ground cpu code image) code Inv) image args input test w (first_place (lines_setting code) main)
+        (none_arrives (code_ground cpu code image) code Inv (begins image input) (begins_away cpu code image args (setting_for image args) input main i linked_is (first_lines routines.Start main ((raw_in code args).lines (start_number code)) (plain_start code args main s is_main plain) (four_of false main)))) holds
     by (on l at steady c weighs le wq wu moves next) =
-        main_called cpu code image args input test w main i linked_is payload plain given (plain_start code args main s is_main plain)
-        (has_some ((lines_setting code).lines main) (settle ((lines_setting code).lines main) 0) l at) (on l at steady c weighs le wq wu moves next)
+        main_called cpu code image args input Inv test w main i linked_is payload plain given (plain_start code args main s is_main plain)
+        (has_some ((lines_setting code).lines main) (settle ((lines_setting code).lines main) 0) l at) (on l at steady c weighs le wq wu moves next) carried (inv t begun_there)

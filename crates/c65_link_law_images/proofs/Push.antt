@@ -31,13 +31,14 @@ use Rattle.c65_link_law_follow.proofs.Bytes.{Moved}
 use Rattle.c65_link_law_follow.proofs.Follow.{call_moves, room_for}
 use Rattle.c65_link_law_laid.specs.Linked.{start_number, raw_in, ground_in}
 use Rattle.c65_link_law_runs.specs.Follows.{Follows}
-use Rattle.c65_link_law_runs.specs.Laws.{AreUnits, IsAmong, HasCome}
+use Rattle.c65_link_law_runs.specs.Laws.{AreUnits, IsAmong, HasCome, IsInUnits, in_line, in_hook}
+use Rattle.c65_link_law_runs.proofs.Moves.{weaker}
 use Rattle.c65_link_law_runs.proofs.Kept.{called_kept}
 use Rattle.c65_link_law_runs.proofs.Runs.{goes_both, runs_are_followed}
-use Rattle.c65_link_law_reach.specs.Reach.{runtime_in}
+use Rattle.c65_link_law_reach.specs.Reach.{runtime_in, code_ground, IsElsewhere}
 use Rattle.c65_link_law_reach.proofs.Units.{routine_at, runtime_ground, entry_same}
 use Rattle.c65_link_law_reach.proofs.Units.{is_call}
-use Rattle.c65_link_law_reach.proofs.Steps.{Image_}
+use Rattle.c65_link_law_reach.proofs.Steps.{Image_, away_outside, away_hook}
 use Rattle.c65_code.specs.declared.line.Operand.TheVariants as operands
 use Rattle.c65_mach.specs.declared.rows.Op.TheVariants as ops
 use Rattle.c65_link.specs.Bytes.{callee_address}
@@ -46,7 +47,7 @@ use Rattle.c65_mach.specs.declared.rows.Mode.{Mode}
 use Rattle.c65_mach.specs.declared.rows.Op.{Op}
 use Rattle.c65_code.specs.declared.line.Operand.{Operand}
 use Rattle.c65_code.specs.declared.line.Operand.TheVariants as operands
-use Rattle.c65_link_law_images.proofs.First.{Went}
+use Rattle.c65_link_law_images.proofs.First.{IsAway, Went, start_away}
 use Rattle.std.proofs.Common.{min, max}
 use Rattle.std.proofs.lemmas.Bool.{or_cases, or_left, or_right}
 use Rattle.c65_code.specs.Rows.{push_row}
@@ -138,6 +139,14 @@ push_line code args f p l unit held = by (known_unit code args f unit)
     by (lineless e) = nothing_there ((runtime_in code args).lines f) p l e held
     by (pushing_unit is) = flat_push p l (ap (λ (ls : List Line). slice_get ls p) (sym (ap (runtime_in code args).lines is ∙ routine_at code args routines.PushAx)) ∙ held)
 
+-- only pushax has lines
+push_unit : (code : Code) (args : List (List ℕ)) (f p : ℕ) (l : Line) → IsTrue (push_units code f) → slice_get ((runtime_in code args).lines f) p ≡ Some l → f ≡ length code.symbols + number_of routines.PushAx
+push_unit code args f p l unit held = by (known_unit code args f unit)
+  where
+    by : KnownUnit code args f → f ≡ length code.symbols + number_of routines.PushAx
+    by (lineless e) = nothing_there ((runtime_in code args).lines f) p l e held
+    by (pushing_unit is) = is
+
 push_are_units : (cpu : Cpu) (code : Code) (image : Image) (args : List (List ℕ)) (setting : Setting) → Image_ cpu code image args setting → IsChosen code routines.PushAx → AreUnits (ground_in cpu code image 255 None) (runtime_in code args) (push_units code)
 push_are_units cpu code image args setting i chosen =
     record {
@@ -168,14 +177,14 @@ push_are_units cpu code image args setting i chosen =
 abbrev pub push_row_at : State → Row
 push_row_at t = push_row routines.PushAx (t.regs.a ∷ t.regs.x ∷ []) t
 
-pub record Pushed_ (g : Ground) (setting : Setting) (k : ℕ) (p : Place) (t : State) (first : Moment) : Type 0 where
+pub record Pushed_ (P : Moment → Type 0) (g : Ground) (setting : Setting) (k : ℕ) (p : Place) (t : State) (first : Moment) : Type 0 where
   pub state : State
   pub meets : Meets (push_row_at t) t state
   pub input : All (λ v. v < 256) state.input
-  pub went : Went g setting k p state first
+  pub went : Went P g setting k p state first
 
 pub pushed_went : (cpu : Cpu) (code : Code) (image : Image) (args : List (List ℕ)) (setting : Setting) (k j : ℕ) (first : Moment) (t : State) → Image_ cpu code image args setting → IsChosen code routines.PushAx → slice_get ((raw_in code args).lines (start_number code)) j ≡ Some (Call (callees.Routine routines.PushAx))
-    → t.pushed ≡ [] → t.frames ≡ [] → t.ended ≡ None → All (λ v. v < 256) t.input → stack_start + 64 ≤ sp_of t → sp_of t ≤ stack_end → Went (ground_in cpu code image 255 None) setting k (start_number code, j) t first → Pushed_ (ground_in cpu code image 255 None) setting (k + 32) (start_number code, suc j) t first
+    → t.pushed ≡ [] → t.frames ≡ [] → t.ended ≡ None → All (λ v. v < 256) t.input → stack_start + 64 ≤ sp_of t → sp_of t ≤ stack_end → Went (IsAway cpu code image) (ground_in cpu code image 255 None) setting k (start_number code, j) t first → Pushed_ (IsAway cpu code image) (ground_in cpu code image 255 None) setting (k + 32) (start_number code, suc j) t first
 pushed_went cpu code image args setting k j first t i chosen held none_pushed no_calls going input_bytes soft high w = by f
   where
     h : Ground
@@ -233,15 +242,24 @@ pushed_went cpu code image args setting k j first t i chosen held none_pushed no
           (subst (λ (fs : List Frame). All (λ (frame : Frame). IsTrue (push_units code frame.back.0)) fs) (sym no_calls) (All-nil (λ (frame : Frame). IsTrue (push_units code frame.back.0))));
     }
 
+    InUnits : Moment → Type 0
+    InUnits x = IsInUnits h (runtime_in code args) (push_units code) x.machine.pc
+
+    in_pushax : (b : ℕ) → IsInUnits h (runtime_in code args) (push_units code) b → IsElsewhere (code_ground cpu code image) code b
+    in_pushax b (in_line q l unit there_is from to) =
+        let is = push_unit code args q.0 q.1 l unit there_is in
+        away_outside cpu code image args setting q b i (routine routines.PushAx chosen is) (omega (arith, is)) (record { from = from; to = to })
+    in_pushax b (in_hook far) = away_hook cpu code image args setting b i far
+
     there : Agrees h (h.at entry) (called back t) m.next
     there = subst (λ (x : ℕ). Agrees h x (called back t) m.next) (entry_same code args (read (loaded_memory image)) (s.routine routines.PushAx)) m.agrees
 
-    f : Follows h setting 0 runs.weight m.next (HasCome (HasDone row.ends row back t) (IsAmong (push_units code)))
+    f : Follows InUnits h setting 0 runs.weight m.next (HasCome (HasDone row.ends row back t) (IsAmong (push_units code)))
     f = runs_are_followed h (runtime_in code args) setting (reach_of t) (push_units code) row back t runs.weight entry (called back t) m.next (runtime_ground code args (read (loaded_memory image)) h refl i.start_ground) (record { sp = i.set.sp; args = i.set.args; bytes = i.set.bytes })
         (omega (arith, soft)) (push_are_units cpu code image args setting i chosen) runs.comes own (record { running = going; bytes = called_kept back t w.bytes; input = input_bytes }) there
 
-    by : Follows h setting 0 runs.weight m.next (HasCome (HasDone row.ends row back t) (IsAmong (push_units code))) → Pushed_ h setting (k + 32) (f0, suc j) t first
-    by (has_gone rows status last q u some within goes free turn_is holds ended output) = absurd (let z : ◌≡◌ {A = Option ℕ} None (Some status) = sym holds.holds.1.ended ∙ ended in cc)
+    by : Follows InUnits h setting 0 runs.weight m.next (HasCome (HasDone row.ends row back t) (IsAmong (push_units code))) → Pushed_ (IsAway cpu code image) h setting (k + 32) (f0, suc j) t first
+    by (has_gone rows status last q u some within goes free at turn_is holds ended output) = absurd (let z : ◌≡◌ {A = Option ℕ} None (Some status) = sym holds.holds.1.ended ∙ ended in cc)
     by (goes_still rows n q u some within goes holds running agrees) =
         let cost = runs.within in let before = w.within in
         let done : (q ≡ back) × Meets row t u × IsBytes u = holds.holds in
@@ -253,7 +271,8 @@ pushed_went cpu code image args setting k j first t i chosen held none_pushed no
             then_at = n;
             rows = w.rows + suc rows;
             within = omega (arith, cost, before, within);
-            goes = goes_both setting w.rows (suc rows) (w.rows + suc rows) first w.then_at n refl w.goes (more {n = m.next} m.turn_is m.free goes);
+            goes = goes_both (IsAway cpu code image) setting w.rows (suc rows) (w.rows + suc rows) first w.then_at n refl w.goes
+                (more {n = m.next} m.turn_is m.free (start_away cpu code image args setting j (Call (callees.Routine routines.PushAx)) w.then_at i held tt w.agrees.pc) (weaker InUnits (IsAway cpu code image) setting rows m.next n (λ x z. in_pushax x.machine.pc z) goes));
             bytes = holds.bytes;
             agrees = subst (λ (x : ℕ). Agrees h x u n) (i.start_laid.settled (suc j)) (subst (λ (x : Place). Agrees h (h.at x) u n) done.0 agrees);
           };

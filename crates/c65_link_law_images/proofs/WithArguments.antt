@@ -28,16 +28,17 @@ use Rattle.c65_link_law_spots.specs.Places.{place_in, address_in}
 use Rattle.c65_link_law_spots.specs.Sound.{IsSound}
 use Rattle.c65_link_law_spots.specs.Laws.{AreUsesChosen}
 use Rattle.c65_link_law_spots.proofs.Uses.{uses_are_chosen}
-use Rattle.c65_link_law_follow.specs.Agree.{Ground, Agrees, none, more}
+use Rattle.c65_link_law_follow.specs.Agree.{Ground, Agrees, Goes, none, more}
 use Rattle.c65_link_law_follow.proofs.Bytes.{Moved}
 use Rattle.c65_link_law_follow.proofs.Follow.{call_moves, room_for}
 use Rattle.c65_link_law_laid.specs.Linked.{start_number, with_main, raw_in, place_at, ground_in}
 use Rattle.c65_link_law_laid.specs.Laws.{AreLineNumbers}
 use Rattle.c65_link_law_laid.proofs.Linked.{the_start}
 use Rattle.c65_link_law_runs.specs.Follows.{IsRunning}
+use Rattle.c65_link_law_runs.proofs.Moves.{weaker}
 use Rattle.c65_link_law_runs.proofs.Runs.{goes_both}
-use Rattle.c65_link_law_reach.specs.Reach.{runtime_in, exit_place, code_ground, AreCallers}
-use Rattle.c65_link_law_reach.proofs.Steps.{Image_, lines_setting}
+use Rattle.c65_link_law_reach.specs.Reach.{runtime_in, exit_place, code_ground, HasArrived, at_first, by_move, AreCallers}
+use Rattle.c65_link_law_reach.proofs.Steps.{Image_, lines_setting, away_hook}
 use Rattle.c65_code.specs.declared.line.Operand.TheVariants as operands
 use Rattle.c65_mach.specs.declared.rows.Op.TheVariants as ops
 use Rattle.c65_mach.specs.declared.rows.Mode.TheVariants.{Indirect}
@@ -56,12 +57,12 @@ use Rattle.std.proofs.lemmas.List.Sums.{sum_by-cons}
 use Rattle.c65_link.specs.Linked.{entry_of as entry_routine}
 use Rattle.c65_link_law_spots.specs.Laws.{AreDataLoaded}
 use Rattle.c65_link_law_spots.proofs.Loaded.{IsShaped, shaped, data_are_loaded}
-use Rattle.c65_link_law_reach.proofs.Reach.{image_known, reach, same_shown}
+use Rattle.c65_link_law_reach.proofs.Reach.{IsCarried, image_known, none_arrives, reach, same_shown}
 use Rattle.c65_link_law_reach.proofs.Calls.{function_there, function_entry}
 use Rattle.c65_link_law_images.specs.Reaches.{Reaches}
 use Rattle.c65_link_law_images.specs.Laws.{AreBytes}
 use Rattle.c65_code.specs.Effects.{ax as ax_parts}
-use Rattle.c65_link_law_images.proofs.First.{Went, plain_went, main_is}
+use Rattle.c65_link_law_images.proofs.First.{IsAway, start_away, Went, plain_went, main_is}
 use Rattle.std.proofs.Common.{◌%◌, ◌/◌}
 use Rattle.c65_code.specs.Rows.{written}
 use Rattle.c65_code.specs.Texts.{listed}
@@ -75,8 +76,8 @@ use Rattle.c65_link_law_runs.specs.Follows.{HasArgumentRoom}
 use Rattle.c65_link_law_runs.proofs.Answers.{hooks_are_free, written_both}
 use Rattle.c65_link_law_runs.proofs.Hooks.{Served, IsMetBy}
 use Rattle.c65_link_law_runs.proofs.Arguments.{args_row, args_state, args_served, args_met}
-use Rattle.c65_link_law_images.specs.Laws.{ImagesFollow}
-use Rattle.c65_link_law_images.proofs.Images.{state_4, first_lines, four_of, started, on_main, at_once, in_time, has_some, no_library, plain_images_follow}
+use Rattle.c65_link_law_images.specs.Laws.{IsRun, ImagesFollow}
+use Rattle.c65_link_law_images.proofs.Images.{state_4, first_lines, four_of, started, on_main, begins_away, at_once, in_time, at_main, has_some, no_library, plain_images_follow}
 use Rattle.c65_link_law_images.proofs.Lie.{other_bytes, own_byte, untouched, lie, laid_same as laid_from}
 use Rattle.c65_link_law_images.proofs.Push.{push_row_at, Pushed_, pushed_went}
 
@@ -101,7 +102,7 @@ state_9 image args input = args_state args (state_8 image input)
 
 -- what main's call comes from: the state that pushax has left, and how it is loaded from
 record Ready (cpu : Cpu) (code : Code) (image : Image) (args : List (List ℕ)) (setting : Setting) (input : List ℕ) : Type 0 where
-  push : Pushed_ (ground_in cpu code image 255 None) setting 42 (start_number code, 10) (state_9 image args input) (begins image input)
+  push : Pushed_ (IsAway cpu code image) (ground_in cpu code image 255 None) setting 42 (start_number code, 10) (state_9 image args input) (begins image input)
   room : args_size args + 2 * (length args + 1) ≤ 1024
 
 ready : (cpu : Cpu) (code : Code) (image : Image) (args : List (List ℕ)) (setting : Setting) (input : List ℕ) (main : ℕ) → Image_ cpu code image args setting → linked_for cpu code ≡ Ok image → AreBytes image.payload → AreBytes input → arguments_size args ≤ 1024 → code.main_args ≡ true
@@ -113,14 +114,14 @@ ready cpu code image args setting input main i linked_is h given few with_args l
     let first : Moment = begins image input in
     let size = size_same args in
     let small : args_size args + 2 * (length args + 1) ≤ 1024 = omega (arith, few, size) in
-    let w4 : Went g setting 4 (f, 4) (state_4 image input) first = started cpu code image args setting input main i linked_is h (first_lines routines.StartArgs main (s.lines f) lines (four_of true main)) in
+    let w4 : Went (IsAway cpu code image) g setting 4 (f, 4) (state_4 image input) first = started cpu code image args setting input main i linked_is h (first_lines routines.StartArgs main (s.lines f) lines (four_of true main)) in
     let w5 = plain_went cpu code image args setting 4 4 ops.Lda modes.Immediate (operands.Byte 0xF0) first (state_4 image input) i (ap (λ (ls : List Line). slice_get ls 4) lines) refl tt w4 in
     let t5 : State = effect (kind_of ops.Lda) ops.Lda modes.Immediate 0xF0 (state_4 image input) in
     let w6 = plain_went cpu code image args setting 5 5 ops.Sta modes.ZeroPage (operands.Zero 8) first t5 i (ap (λ (ls : List Line). slice_get ls 5) lines) refl (omega arith) w5 in
     let t6 : State = effect (kind_of ops.Sta) ops.Sta modes.ZeroPage 8 t5 in
     let w7 = plain_went cpu code image args setting 6 6 ops.Ldx modes.Immediate (operands.Byte 0xF7) first t6 i (ap (λ (ls : List Line). slice_get ls 6) lines) refl tt w6 in
     let t7 : State = effect (kind_of ops.Ldx) ops.Ldx modes.Immediate 0xF7 t6 in
-    let w8 : Went g setting 8 (f, 8) (state_8 image input) first = plain_went cpu code image args setting 7 7 ops.Stx modes.ZeroPage (operands.Zero 9) first t7 i (ap (λ (ls : List Line). slice_get ls 7) lines) refl (omega arith) w7 in
+    let w8 : Went (IsAway cpu code image) g setting 8 (f, 8) (state_8 image input) first = plain_went cpu code image args setting 7 7 ops.Stx modes.ZeroPage (operands.Zero 9) first t7 i (ap (λ (ls : List Line). slice_get ls 7) lines) refl (omega arith) w7 in
     let t8 : State = state_8 image input in
     let sp8 : sp_of t8 ≡ 65520 = refl in
     let ax8 : ax_of t8 ≡ 63472 = refl in
@@ -131,12 +132,12 @@ ready cpu code image args setting input main i linked_is h given few with_args l
     let back_low : g.at (line_after s (f, 8)) ≤ 65535 = (let to = i.start_ground.to (line_after s (f, 8)) in let high = i.start_ground.high in omega (arith, to, high)) in
     let served : Served g setting (line_after s (f, 8)) (state_9 image args input) m.next = args_served g s setting (line_after s (f, 8)) t8 m.next i.start_ground i.set has_room m.agrees back_low in
     let met : IsMetBy (args_row args t8) t8 (state_9 image args input) = args_met s setting t8 i.set has_room (record { running = refl; bytes = w8.bytes; input = given }) in
-    let within = w8.within in
-    let w9 : Went g setting 10 (f, 9) (state_9 image args input) first = record {
+    let within = w8.within in let far = m.agrees.pc in
+    let w9 : Went (IsAway cpu code image) g setting 10 (f, 9) (state_9 image args input) first = record {
       then_at = served.next;
       rows = w8.rows + 2;
       within = omega (arith, within);
-      goes = goes_both setting w8.rows 2 (w8.rows + 2) first w8.then_at served.next refl w8.goes (more {n = m.next} m.turn_is m.free (more {n = served.next} served.turn_is (hooks_are_free m.next.machine 0xFFF8 m.agrees.pc refl) none));
+      goes = goes_both (IsAway cpu code image) setting w8.rows 2 (w8.rows + 2) first w8.then_at served.next refl w8.goes (more {n = m.next} {o = served.next} m.turn_is m.free (start_away cpu code image args setting 8 (Call (callees.Routine routines.HookArgs)) w8.then_at i hook tt w8.agrees.pc) (more {n = served.next} {o = served.next} served.turn_is (hooks_are_free m.next.machine 0xFFF8 m.agrees.pc refl) (away_hook cpu code image args setting m.next.machine.pc i (omega (arith, far))) none));
       bytes = met.bytes;
       agrees = subst (λ (k : ℕ). Agrees g k (state_9 image args input) served.next) (i.start_laid.settled 9) served.agrees;
     } in
@@ -228,10 +229,10 @@ kept_there image args input u small met =
     outside b less = met.mem b (inl (omega (arith, less, sp9, small))) ∙ other_bytes pair (sp_of t9 - 2) b t9.mem (inl (omega (arith, less, sp9, small))) ∙ split b
 
 -- the call of main
-call_main : (cpu : Cpu) (code : Code) (image : Image) (args : List (List ℕ)) (input : List ℕ) (test : Shown → Seen → Bool) (w main k j : ℕ) (t : State) → Image_ cpu code image args (setting_for image args) → slice_get ((raw_in code args).lines (start_number code)) j ≡ Some (Call (callees.Function (record { 0 = main }) ax_parts ax_parts))
-    → place_at code (read (loaded_memory image)) (start_number code, suc j) ≡ place_at code (read (loaded_memory image)) (exit_place code) → t.pushed ≡ [] → t.frames ≡ [] → IsRunning t → k ≤ 92 → Went (ground_in cpu code image 255 None) (setting_for image args) k (start_number code, j) t (begins image input)
-    → HasLines ((lines_setting code).lines main) → Comes (lines_setting code) (Shows test) w (first_place (lines_setting code) main) t (seen_at (first_place (lines_setting code) main) none_seen) → Reaches image args input test w
-call_main cpu code image args input test w main k j t i held exit_is none_pushed no_calls running small went has comes =
+call_main : (cpu : Cpu) (code : Code) (image : Image) (args : List (List ℕ)) (input : List ℕ) (Inv : Place → State → Type 0) (test : Shown → Seen → Bool) (w main k j : ℕ) (t : State) → Image_ cpu code image args (setting_for image args) → slice_get ((raw_in code args).lines (start_number code)) j ≡ Some (Call (callees.Function (record { 0 = main }) ax_parts ax_parts))
+    → place_at code (read (loaded_memory image)) (start_number code, suc j) ≡ place_at code (read (loaded_memory image)) (exit_place code) → t.pushed ≡ [] → t.frames ≡ [] → IsRunning t → k ≤ 92 → Went (IsAway cpu code image) (ground_in cpu code image 255 None) (setting_for image args) k (start_number code, j) t (begins image input)
+    → HasLines ((lines_setting code).lines main) → Comes (lines_setting code) (Shows test) w (first_place (lines_setting code) main) t (seen_at (first_place (lines_setting code) main) none_seen) → IsCarried code Inv → Inv (first_place (lines_setting code) main) t → Reaches (HasArrived (code_ground cpu code image) code Inv) image args input test w
+call_main cpu code image args input Inv test w main k j t i held exit_is none_pushed no_calls running small went has comes carried inv =
     let setting : Setting = setting_for image args in
     let g : Ground = ground_in cpu code image 255 None in
     let s : RawSetting = raw_in code args in
@@ -247,21 +248,25 @@ call_main cpu code image args input test w main k j t i held exit_is none_pushed
     let back : g.at (line_after s (f, j)) ≡ g.at (exit_place code) = i.start_laid.settled (suc j) ∙ exit_is in
     let agrees : Agrees (code_ground cpu code image) (g.at to) t m.next = on_main cpu code image (g.at to) (line_after s (f, j)) t m.next none_pushed no_calls back m.agrees in
     let within = went.within in
-    in_time image args input test w (went.rows + 1) to m.next (omega (arith, within, small)) (goes_both setting went.rows 1 (went.rows + 1) (begins image input) went.then_at m.next refl went.goes (more {n = m.next} m.turn_is m.free none))
-    (reach cpu code image args setting test w to t m.next (seen_at to none_seen) i comes running (subst (AreCallers code) (sym no_calls) (All-nil (λ (x : Frame). x.back.0 < length code.symbols))) agrees)
+    let away : Moment → Type 0 = IsAway cpu code image in
+    let P : Moment → Type 0 = HasArrived (code_ground cpu code image) code Inv in
+    let called_away : away went.then_at = start_away cpu code image args setting j call went.then_at i held tt went.agrees.pc in
+    let first : Goes away setting (went.rows + 1) (begins image input) m.next = goes_both away setting went.rows 1 (went.rows + 1) (begins image input) went.then_at m.next refl went.goes (more {n = m.next} m.turn_is m.free called_away none) in
+    in_time P image args input test w (went.rows + 1) to m.next (omega (arith, within, small)) (weaker away P setting (went.rows + 1) (begins image input) m.next (λ x z. none_arrives (code_ground cpu code image) code Inv x z) first)
+    (reach cpu code image args setting Inv test w to t m.next (seen_at to none_seen) i carried comes running (subst (AreCallers code) (sym no_calls) (All-nil (λ (x : Frame). x.back.0 < length code.symbols))) (at_main code main t i.sound has no_calls) inv agrees)
 
 -- the lines behind pushax
 loaded_went : (cpu : Cpu) (code : Code) (image : Image) (args : List (List ℕ)) (setting : Setting) (main : ℕ) (u : State) (first : Moment) → Image_ cpu code image args setting → (raw_in code args).lines (start_number code) ≡ map (with_main main) (routine_lines routines.StartArgs) → zero_word u 8 ≡ 63472
-    → Went (ground_in cpu code image 255 None) setting 42 (start_number code, 10) u first → Went (ground_in cpu code image 255 None) setting 47 (start_number code, 15) (loaded_5 u) first
+    → Went (IsAway cpu code image) (ground_in cpu code image 255 None) setting 42 (start_number code, 10) u first → Went (IsAway cpu code image) (ground_in cpu code image 255 None) setting 47 (start_number code, 15) (loaded_5 u) first
 loaded_went cpu code image args setting main u first i lines word w10 =
     let g : Ground = ground_in cpu code image 255 None in
     let f : ℕ = start_number code in
     let high : after (zero_word u 8) 1 ≡ 63473 = omega (arith, word) in
     let low : after (zero_word u 8) 0 ≡ 63472 = omega (arith, word) in
-    let w11 : Went g setting 43 (f, 11) (loaded_1 u) first = plain_went cpu code image args setting 42 10 ops.Ldy modes.Immediate (operands.Byte 1) first u i (ap (λ (ls : List Line). slice_get ls 10) lines) refl tt w10 in
-    let w12 : Went g setting 44 (f, 12) (loaded_2 u) first = plain_went cpu code image args setting 43 11 ops.Lda modes.IndirectY (operands.Zero 8) first (loaded_1 u) i (ap (λ (ls : List Line). slice_get ls 11) lines) refl (inr (omega (arith, high), omega (arith, high))) w11 in
-    let w13 : Went g setting 45 (f, 13) (loaded_3 u) first = plain_went cpu code image args setting 44 12 ops.Tax modes.Implied operands.Nothing first (loaded_2 u) i (ap (λ (ls : List Line). slice_get ls 12) lines) refl tt w12 in
-    let w14 : Went g setting 46 (f, 14) (loaded_4 u) first = plain_went cpu code image args setting 45 13 ops.Dey modes.Implied operands.Nothing first (loaded_3 u) i (ap (λ (ls : List Line). slice_get ls 13) lines) refl tt w13 in
+    let w11 : Went (IsAway cpu code image) g setting 43 (f, 11) (loaded_1 u) first = plain_went cpu code image args setting 42 10 ops.Ldy modes.Immediate (operands.Byte 1) first u i (ap (λ (ls : List Line). slice_get ls 10) lines) refl tt w10 in
+    let w12 : Went (IsAway cpu code image) g setting 44 (f, 12) (loaded_2 u) first = plain_went cpu code image args setting 43 11 ops.Lda modes.IndirectY (operands.Zero 8) first (loaded_1 u) i (ap (λ (ls : List Line). slice_get ls 11) lines) refl (inr (omega (arith, high), omega (arith, high))) w11 in
+    let w13 : Went (IsAway cpu code image) g setting 45 (f, 13) (loaded_3 u) first = plain_went cpu code image args setting 44 12 ops.Tax modes.Implied operands.Nothing first (loaded_2 u) i (ap (λ (ls : List Line). slice_get ls 12) lines) refl tt w12 in
+    let w14 : Went (IsAway cpu code image) g setting 46 (f, 14) (loaded_4 u) first = plain_went cpu code image args setting 45 13 ops.Dey modes.Implied operands.Nothing first (loaded_3 u) i (ap (λ (ls : List Line). slice_get ls 13) lines) refl tt w13 in
     plain_went cpu code image args setting 46 14 ops.Lda modes.IndirectY (operands.Zero 8) first (loaded_4 u) i (ap (λ (ls : List Line). slice_get ls 14) lines) refl (inr (omega (arith, low), omega (arith, low))) w14
 
 has_arguments : (image : Image) (args : List (List ℕ)) (input : List ℕ) (u : State) → args_size args + 2 * (length args + 1) ≤ 1024 → Kept_ image args input u → HasArguments args (loaded_5 u)
@@ -282,8 +287,9 @@ has_arguments image args input u small k =
 
 given_images_follow : (cpu : Cpu) (code : Code) (image : Image) → RunsOn cpu code → IsSound code → AreLineNumbers code → linked_for cpu code ≡ Ok image → AreBytes image.payload → code.main_args ≡ true → (main : ℕ) → IsMain code main
     → (args : List (List ℕ)) (input : List ℕ) (test : Shown → Seen → Bool) (w : ℕ) → All AreBytes args → AreBytes input → arguments_size args ≤ 1024 → IsRuntime (runtime_in code args)
-    → ((t : State) → IsStart code (place_in code) args input t → ComesFrom (setting_of code (place_in code)) main test w t) → Reaches image args input test w
-given_images_follow cpu code image runs s numbers linked_is payload given main is_main args input test w args_bytes input_bytes few runtime all = by (all t begun_there)
+    → ((t : State) → IsStart code (place_in code) args input t → ComesFrom (setting_of code (place_in code)) main test w t)
+    → (Inv : Place → State → Type 0) → IsCarried code Inv → ((t : State) → IsStart code (place_in code) args input t → Inv (first_place (setting_of code (place_in code)) main) t) → Reaches (HasArrived (code_ground cpu code image) code Inv) image args input test w
+given_images_follow cpu code image runs s numbers linked_is payload given main is_main args input test w args_bytes input_bytes few runtime all Inv carried inv = by (all t begun_there)
   where
     sh : IsShaped code cpu image
     sh = shaped code cpu image linked_is
@@ -306,7 +312,7 @@ given_images_follow cpu code image runs s numbers linked_is payload given main i
     t : State
     t = loaded_5 u
 
-    went : Went (ground_in cpu code image 255 None) (setting_for image args) 47 (start_number code, 15) t (begins image input)
+    went : Went (IsAway cpu code image) (ground_in cpu code image 255 None) (setting_for image args) 47 (start_number code, 15) t (begins image input)
     went = loaded_went cpu code image args (setting_for image args) main u (begins image input) i lines k.word r.push.went
 
     data_there : AreDataLoaded code image
@@ -331,16 +337,27 @@ given_images_follow cpu code image runs s numbers linked_is payload given main i
       bytes = went.bytes;
     }
 
-    by : Comes (lines_setting code) (Shows test) w (first_place (lines_setting code) main) t (seen_at (first_place (lines_setting code) main) none_seen) → Reaches image args input test w
-    by (here holds calm) = at_once image args input test w (first_place (lines_setting code) main) (same_shown test (seen_at (first_place (lines_setting code) main) none_seen) t [] None k.output k.ended holds)
+    by : Comes (lines_setting code) (Shows test) w (first_place (lines_setting code) main) t (seen_at (first_place (lines_setting code) main) none_seen) → Reaches (HasArrived (code_ground cpu code image) code Inv) image args input test w
+    by (here holds calm) =
+        at_once (HasArrived (code_ground cpu code image) code Inv) image args input test w (first_place (lines_setting code) main)
+        (none_arrives (code_ground cpu code image) code Inv (begins image input) (begins_away cpu code image args (setting_for image args) input main i linked_is (first_lines routines.StartArgs main ((raw_in code args).lines (start_number code)) lines (four_of true main)))) (same_shown test (seen_at (first_place (lines_setting code) main) none_seen) t [] None k.output k.ended holds)
     by (on l at steady c weighs le wq wu moves next) =
-        call_main cpu code image args input test w main 47 15 t i (ap (λ (ls : List Line). slice_get ls 15) lines) (ap (λ (b : Bool). place_at code (read (loaded_memory image)) (start_number code, if b then 16 else 5)) (sym given))
+        call_main cpu code image args input Inv test w main 47 15 t i (ap (λ (ls : List Line). slice_get ls 15) lines) (ap (λ (b : Bool). place_at code (read (loaded_memory image)) (start_number code, if b then 16 else 5)) (sym given))
         k.pushed k.frames (record { running = k.ended; bytes = went.bytes; input = subst (λ (xs : List ℕ). All (λ v. v < 256) xs) (sym k.input_is) input_bytes }) (omega arith) went
-        (has_some ((lines_setting code).lines main) (settle ((lines_setting code).lines main) 0) l at) (on l at steady c weighs le wq wu moves next)
+        (has_some ((lines_setting code).lines main) (settle ((lines_setting code).lines main) 0) l at) (on l at steady c weighs le wq wu moves next) carried (inv t begun_there)
 
 pub images_follow : ImagesFollow
 images_follow cpu code image runs s numbers linked_is payload main is_main args input test w args_bytes input_bytes few runtime all = by code.main_args refl
   where
-    by : (b : Bool) → code.main_args ≡ b → Reaches image args input test w
-    by true e = given_images_follow cpu code image runs s numbers linked_is payload e main is_main args input test w args_bytes input_bytes few runtime all
-    by false e = plain_images_follow cpu code image runs s numbers linked_is payload e main is_main args input test w args_bytes input_bytes runtime all
+    Inv : Place → State → Type 0
+    Inv = IsRun code main args input
+
+    carried : IsCarried code Inv
+    carried l p q t u run at steady moves = (run.0, run.1, by_move l run.2 at steady moves)
+
+    begun : (t : State) → IsStart code (place_in code) args input t → Inv (first_place (lines_setting code) main) t
+    begun t is = (t, is, at_first)
+
+    by : (b : Bool) → code.main_args ≡ b → Reaches (HasArrived (code_ground cpu code image) code Inv) image args input test w
+    by true e = given_images_follow cpu code image runs s numbers linked_is payload e main is_main args input test w args_bytes input_bytes few runtime all Inv carried begun
+    by false e = plain_images_follow cpu code image runs s numbers linked_is payload e main is_main args input test w args_bytes input_bytes runtime all Inv carried begun

@@ -1,3 +1,4 @@
 pub mod Walk
 pub mod Tables
 pub mod Linked
+pub mod Apart

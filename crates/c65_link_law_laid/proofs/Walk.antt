@@ -57,7 +57,7 @@ do_grows Relative m at op operand = by (m at == opcode_of op Relative)
     by false = omega arith
 do_grows _ m at op operand = omega arith
 
-line_grows : (line : Line) (m : Memory) (at : ℕ) → at ≤ line_end m at line
+pub line_grows : (line : Line) (m : Memory) (at : ℕ) → at ≤ line_end m at line
 line_grows (Label l) m at = omega arith
 line_grows (Do op mode operand) m at = do_grows mode m at op operand
 line_grows (Call callee) m at = omega arith

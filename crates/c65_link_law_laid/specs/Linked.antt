@@ -1,5 +1,5 @@
 -- A linked code as it stands in the memory of its image.
-use Rattle.std.specs.Prelude.{ℕ, zero, suc, ◌+◌, ◌==◌, ◌&&◌, nat_le, if◌then◌else◌, List, [], ◌∷◌, map, Option, length}
+use Rattle.std.specs.Prelude.{ℕ, zero, suc, ◌+◌, ◌<◌, ◌≤◌, ◌==◌, ◌&&◌, nat_le, if◌then◌else◌, List, [], ◌∷◌, map, Option, length}
 use Rattle.c65_base.specs.declared.options.Cpu.{Cpu}
 use Rattle.c65_mach.specs.declared.image.Image.{Image}
 use Rattle.c65_mach.specs.declared.rows.Mode.TheVariants.{Relative}
@@ -81,3 +81,13 @@ ground_in cpu code image top last = record {
   top = top;
   last = last;
 }
+
+-- a label has no byte
+abbrev pub IsInstruction : Line → Type 0
+IsInstruction (Label l) = ⊥
+IsInstruction line = Unit {0}
+
+-- the byte is one of those of a line
+pub record IsByteOf (code : Code) (m : Memory) (q : Place) (b : ℕ) : Type 0 where
+  pub from : place_at code m q ≤ b
+  pub to : b < place_at code m (q.0, suc q.1)

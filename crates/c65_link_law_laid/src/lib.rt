@@ -3,4 +3,4 @@
 
 mod laws;
 
-pub use laws::linked_codes_are_laid;
+pub use laws::{lines_are_apart, linked_codes_are_laid};

@@ -1,5 +1,5 @@
 -- Calls of functions and of routines.
-use Rattle.std.proofs.Common.{◌≡◌, ℕ, zero, suc, ◌+◌, ◌<◌, ◌≤◌, ◌&&◌, not, Bool, true, false, nat_lt, if◌then◌else◌, IsTrue, List, [], ◌∷◌, All, Option, Some, None, unwrap_or, length, slice_get, refl, ap, sym, ◌∙◌, subst, arith}
+use Rattle.std.proofs.Common.{◌≡◌, ℕ, zero, suc, ◌+◌, ◌<◌, ◌≤◌, ◌&&◌, inl, inr, not, Bool, true, false, nat_lt, if◌then◌else◌, IsTrue, List, [], ◌∷◌, All, Option, Some, None, unwrap_or, length, slice_get, refl, ap, sym, ◌∙◌, subst, arith}
 use Rattle.std.proofs.lemmas.Bool.{and_from, lt-ltb, le-ltb, ne_eqb}
 use Rattle.std.proofs.lemmas.List.Elements.{All-nil, All-cons, All-head, All-tail}
 use Rattle.c65_base.specs.declared.options.Cpu.{Cpu}
@@ -31,9 +31,9 @@ use Rattle.c65_code.specs.Steady.{IsCalm, HasRoom, RowHasRoom, HasLines}
 use Rattle.c65_code.specs.RawMachine.{RawSetting, HasDone, MayRun, Runs, reach_of, called, line_after, entry_of, target_of}
 use Rattle.c65_link_law_spots.specs.Places.{place_in}
 use Rattle.c65_link_law_spots.specs.Sound.{IsSound}
-use Rattle.c65_link_law_spots.specs.Laws.{IsChosen, AreUsesChosen, function}
+use Rattle.c65_link_law_spots.specs.Laws.{IsChosen, AreUsesChosen, function, routine}
 use Rattle.c65_link_law_spots.proofs.Uses.{uses_are_chosen}
-use Rattle.c65_link_law_follow.specs.Agree.{Ground, Agrees, none, more}
+use Rattle.c65_link_law_follow.specs.Agree.{Ground, Agrees, none, more, IsFirstOr}
 use Rattle.c65_link_law_follow.specs.Agree.{Goes}
 use Rattle.c65_link_law_follow.specs.Laid.{IsLaid, hook_address}
 use Rattle.c65_link_law_follow.proofs.Bytes.{Moved}
@@ -43,12 +43,13 @@ use Rattle.c65_link_law_laid.specs.Linked.{raw_in}
 use Rattle.c65_link_law_laid.proofs.Tables.{is_start, lined}
 use Rattle.c65_link_law_laid.proofs.Linked.{segment_from}
 use Rattle.c65_link_law_runs.specs.Follows.{Follows, goes_on, has_ended, IsRunning}
-use Rattle.c65_link_law_runs.specs.Laws.{IsAmong, HasCome}
+use Rattle.c65_link_law_runs.specs.Laws.{IsAmong, HasCome, IsInUnits, in_line, in_hook}
 use Rattle.c65_link_law_runs.proofs.Kept.{called_kept}
+use Rattle.c65_link_law_runs.proofs.Moves.{weaker}
 use Rattle.c65_link_law_runs.proofs.Runs.{goes_both, runs_are_followed}
-use Rattle.c65_link_law_reach.specs.Reach.{runtime_in, code_ground, AreCallers}
-use Rattle.c65_link_law_reach.proofs.Units.{units_in, runtime_ground, entry_same, chosen_unit, function_unit}
-use Rattle.c65_link_law_reach.proofs.Steps.{Image_, lines_setting, LineOf, same_lines, Steps, steps_on, steps_out}
+use Rattle.c65_link_law_reach.specs.Reach.{runtime_in, code_ground, IsElsewhere, AreCallers}
+use Rattle.c65_link_law_reach.proofs.Units.{units_in, runtime_line, runtime_ground, entry_same, chosen_unit, function_unit}
+use Rattle.c65_link_law_reach.proofs.Steps.{Image_, lines_setting, LineOf, same_lines, away_outside, away_hook, Steps, steps_on, steps_out}
 use Rattle.c65_link_law_spots.proofs.Marks.{same_number}
 use Rattle.c65_link.specs.Bytes.{callee_address}
 use Rattle.c65_link_law_reach.proofs.Local.{keeps_all}
@@ -164,7 +165,7 @@ enter_steps cpu code image args setting c f reads gives p t now i lo r callers c
     let leads : callee_address laid.spot (callees.Function f reads gives) ≡ g.at to = laid.calls p.1 (Call (callees.Function f reads gives)) (line_at code args (Call (callees.Function f reads gives)) p lo) known.1 ∙ function_entry cpu code image args f.0 known.0 none_there in
     let m : Moved g setting (g.at to) (called (back_of code p) t) now = called_at cpu code image args setting (callees.Function f reads gives) p (g.at to) t now i lo leads calm.hard a in
     let running : IsRunning (entered code gives p t) = entered_running code gives p t r in
-    steps_on 1 m.next to (entered code gives p t) (omega arith) le (more {n = m.next} m.turn_is m.free none)
+    steps_on 1 m.next to (entered code gives p t) (omega arith) le (more {n = m.next} m.turn_is m.free (inl refl) none)
     (record { running = r.running; goes = subst (λ (o : Option Library). Calls (lines_setting code) o f.0 reads gives p t to (entered code gives p t)) (sym none_there) (enters_function code f.0 reads gives p t); bytes = running.bytes })
     running (entered_callers code args (Call (callees.Function f reads gives)) gives p t lo callers) (on_entered g code gives (g.at to) p t m.next m.agrees)
 
@@ -199,7 +200,7 @@ pub routine_steps : (cpu : Cpu) (code : Code) (image : Image) (args : List (List
     → IsChosen code r → row_of r t ≡ Some row → HasRoom (place_in code) row t → 1 ≤ j → j + row.cost ≤ c + 1
     → ((u : State) → Meets row t u → LineGoes (lines_setting code) (form_of l) p t (back_of code p) u)
     → (wq : Place) (wu : State) → LineMoves (lines_setting code) l p t wq wu → Meets row t wu
-    → Goes setting j now n → Agrees (code_ground cpu code image) ((code_ground cpu code image).at (entry_of (raw_in code args) ((raw_in code args).routine r))) (called (back_of code p) t) n
+    → Goes (IsFirstOr (IsElsewhere (code_ground cpu code image) code) now) setting j now n → Agrees (code_ground cpu code image) ((code_ground cpu code image).at (entry_of (raw_in code args) ((raw_in code args).routine r))) (called (back_of code p) t) n
     → Steps (code_ground cpu code image) setting c now code l p t
 routine_steps cpu code image args setting j c l r row p t now n i lo run callers calm chosen row_is room least le gives wq wu moves met goes a = by f
   where
@@ -235,27 +236,40 @@ routine_steps cpu code image args setting j c l r row p t now n i lo run callers
     there : Agrees g (g.at entry) (called back t) n
     there = subst (λ (k : ℕ). Agrees g k (called back t) n) (entry_same code args (read (loaded_memory image)) (s.routine r)) a
 
-    f : Follows g setting 0 runs.weight n (HasCome (HasDone row.ends row back t) (IsAmong (units_in code)))
+    f : Follows (λ m. IsInUnits g s (units_in code) m.machine.pc) g setting 0 runs.weight n (HasCome (HasDone row.ends row back t) (IsAmong (units_in code)))
     f = runs_are_followed g s setting (reach_of t) (units_in code) row back t runs.weight entry (called back t) n (runtime_ground code args (read (loaded_memory image)) g refl i.ground) (record { sp = i.set.sp; args = i.set.args; bytes = i.set.bytes })
         (let soft = room.soft in omega (arith, soft)) i.units runs.comes own (record { running = run.running; bytes = called_kept back t run.bytes; input = run.input }) there
 
-    on_way : (o : Option ℕ) → row.ends ≡ o → (rows : ℕ) (m : Moment) (q : Place) (u : State) → rows ≤ runs.weight → Goes setting rows n m → HasDone o row back t q u → IsBytes u → All (λ v. v < 256) u.input → u.ended ≡ None → Agrees g (g.at q) u m → Steps g setting c now code l p t
+    P : Moment → Type 0
+    P = IsFirstOr (IsElsewhere g code) now
+
+    InUnits : Moment → Type 0
+    InUnits m = IsInUnits g s (units_in code) m.machine.pc
+
+    in_runtime : (b : ℕ) → IsInUnits g s (units_in code) b → IsElsewhere g code b
+    in_runtime b (in_line q l unit held from to) =
+        let it = runtime_line code args q.0 q.1 l unit held in
+        let is = it.2 in
+        away_outside cpu code image args setting q b i (routine it.0 it.1 it.2) (omega (arith, is)) (record { from = from; to = to })
+    in_runtime b (in_hook high) = away_hook cpu code image args setting b i high
+
+    on_way : (o : Option ℕ) → row.ends ≡ o → (rows : ℕ) (m : Moment) (q : Place) (u : State) → rows ≤ runs.weight → Goes (λ m. IsInUnits g s (units_in code) m.machine.pc) setting rows n m → HasDone o row back t q u → IsBytes u → All (λ v. v < 256) u.input → u.ended ≡ None → Agrees g (g.at q) u m → Steps g setting c now code l p t
     on_way None e rows m q u within rest done bytes input running agrees =
         let cost = runs.within in
-        steps_on (j + rows) m back u (omega (arith, least)) (omega (arith, within, cost, le)) (goes_both setting j rows (j + rows) now n m refl goes rest)
+        steps_on (j + rows) m back u (omega (arith, least)) (omega (arith, within, cost, le)) (goes_both P setting j rows (j + rows) now n m refl goes (weaker InUnits P setting rows n m (λ x h. inr (in_runtime x.machine.pc h)) rest))
         (record { running = run.running; goes = gives u done.1; bytes = bytes }) (record { running = running; bytes = bytes; input = input }) (subst (AreCallers code) (sym done.1.frames) callers)
         (subst (λ (x : Place). Agrees g (g.at x) u m) done.0 agrees)
     on_way (Some status) e rows m q u within rest done bytes input running agrees = absurd (let z : ◌≡◌ {A = Option ℕ} None (Some status) = sym running ∙ done.0 in cc)
 
-    at_end : (o : Option ℕ) → row.ends ≡ o → (rows status : ℕ) (last : Moment) (q : Place) (u : State) → rows + 1 ≤ runs.weight → Goes setting rows n last → is_too_deep last.machine ≡ false → turn setting last ≡ Ended last status → HasDone o row back t q u → u.ended ≡ Some status → u.output ≡ last.output → Steps g setting c now code l p t
-    at_end None e rows status last q u within rest free turn_is done ended output = absurd (let z : ◌≡◌ {A = Option ℕ} None (Some status) = sym (done.1.ended ∙ e) ∙ ended in cc)
-    at_end (Some other) e rows status last q u within rest free turn_is done ended output =
+    at_end : (o : Option ℕ) → row.ends ≡ o → (rows status : ℕ) (last : Moment) (q : Place) (u : State) → rows + 1 ≤ runs.weight → Goes (λ m. IsInUnits g s (units_in code) m.machine.pc) setting rows n last → is_too_deep last.machine ≡ false → IsInUnits g s (units_in code) last.machine.pc → turn setting last ≡ Ended last status → HasDone o row back t q u → u.ended ≡ Some status → u.output ≡ last.output → Steps g setting c now code l p t
+    at_end None e rows status last q u within rest free at_last turn_is done ended output = absurd (let z : ◌≡◌ {A = Option ℕ} None (Some status) = sym (done.1.ended ∙ e) ∙ ended in cc)
+    at_end (Some other) e rows status last q u within rest free at_last turn_is done ended output =
         let cost = runs.within in
-        steps_out (j + rows) status last wq wu (omega (arith, within, cost, le)) (goes_both setting j rows (j + rows) now n last refl goes rest) free turn_is moves (met.ended ∙ e ∙ sym done.0 ∙ ended) (met.output ∙ sym done.1 ∙ output)
+        steps_out (j + rows) status last wq wu (omega (arith, within, cost, le)) (goes_both P setting j rows (j + rows) now n last refl goes (weaker InUnits P setting rows n last (λ x h. inr (in_runtime x.machine.pc h)) rest)) free (in_runtime last.machine.pc at_last) turn_is moves (met.ended ∙ e ∙ sym done.0 ∙ ended) (met.output ∙ sym done.1 ∙ output)
 
-    by : Follows g setting 0 runs.weight n (HasCome (HasDone row.ends row back t) (IsAmong (units_in code))) → Steps g setting c now code l p t
+    by : Follows (λ m. IsInUnits g s (units_in code) m.machine.pc) g setting 0 runs.weight n (HasCome (HasDone row.ends row back t) (IsAmong (units_in code))) → Steps g setting c now code l p t
     by (goes_on rows m q u some within rest holds running agrees) = on_way row.ends refl rows m q u within rest holds.holds holds.bytes holds.input running agrees
-    by (has_ended rows status last q u some within rest free turn_is holds ended output) = at_end row.ends refl rows status last q u within rest free turn_is holds.holds ended output
+    by (has_ended rows status last q u some within rest free at_last turn_is holds ended output) = at_end row.ends refl rows status last q u within rest free at_last turn_is holds.holds ended output
 
 -- a call of a routine
 pub run_steps : (o : Option Row) (cpu : Cpu) (code : Code) (image : Image) (args : List (List ℕ)) (setting : Setting) (c : ℕ) (r : Routine) (p : Place) (t : State) (now : Moment) (wq : Place) (wu : State) → row_of r t ≡ o → Image_ cpu code image args setting → LineOf code args p (Call (callees.Routine r)) → IsRunning t → AreCallers code t.frames → IsCalm (lines_setting code) t
@@ -272,7 +286,7 @@ run_steps (Some row) cpu code image args setting c r p t now wq wu e i lo run ca
     let leads : callee_address laid.spot (callees.Routine r) ≡ to = laid.calls p.1 (Call (callees.Routine r)) (line_at code args (Call (callees.Routine r)) p lo) ∙ ap (λ (x : Option ℕ). unwrap_or x to) unhooked in
     let m : Moved g setting to (called (back_of code p) t) now = called_at cpu code image args setting (callees.Routine r) p to t now i lo leads calm.hard a in
     routine_steps cpu code image args setting 1 c (Call (callees.Routine r)) r row p t now m.next i lo run callers calm (uses.function lo.number p.1 lo.unit (Call (callees.Routine r)) r lo.there lo.here refl (lined r unhooked)) e room (omega arith) (omega (arith, weighs))
-    (λ u h. (refl, subst (λ (x : Option Row). MeetsRow x t u) (sym e) h)) wq wu moves met (more {n = m.next} m.turn_is m.free none) m.agrees
+    (λ u h. (refl, subst (λ (x : Option Row). MeetsRow x t u) (sym e) h)) wq wu moves met (more {n = m.next} m.turn_is m.free (inl refl) none) m.agrees
 
 -- a call of a library function under its symbol
 function_of_library : (code : Code) (f : ℕ) (l : Library) → (lines_setting code).library f ≡ Some l → IsTrue (is_function_of code f)
@@ -295,4 +309,4 @@ library_steps (Some row) cpu code image args setting c f reads gives lib p t now
     let leads : callee_address laid.spot (callees.Function f reads gives) ≡ to = laid.calls p.1 (Call (callees.Function f reads gives)) (line_at code args (Call (callees.Function f reads gives)) p lo) function_is ∙ ap (λ (o : Option Library). g.at (entry_of s (target_of s o f.0))) is in
     let m : Moved g setting to (called (back_of code p) t) now = called_at cpu code image args setting (callees.Function f reads gives) p to t now i lo leads calm.hard a in
     routine_steps cpu code image args setting 1 c (Call (callees.Function f reads gives)) (routines.Library lib) row p t now m.next i lo run callers calm (i.library f.0 lib function_is is) e room (omega arith) (omega (arith, weighs))
-    (λ u h. subst (λ (o : Option Library). Calls (lines_setting code) o f.0 reads gives p t (back_of code p) u) (sym is) (refl, subst (λ (x : Option Row). MeetsRow x t u) (sym e) h)) wq wu moves met (more {n = m.next} m.turn_is m.free none) m.agrees
+    (λ u h. subst (λ (o : Option Library). Calls (lines_setting code) o f.0 reads gives p t (back_of code p) u) (sym is) (refl, subst (λ (x : Option Row). MeetsRow x t u) (sym e) h)) wq wu moves met (more {n = m.next} m.turn_is m.free (inl refl) none) m.agrees

@@ -3,4 +3,5 @@ pub mod Steps
 pub mod Local
 pub mod Calls
 pub mod Pointers
+pub mod Standing
 pub mod Reach

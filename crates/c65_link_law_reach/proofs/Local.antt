@@ -5,6 +5,7 @@ use Rattle.std.proofs.lemmas.List.{append-nil}
 use Rattle.std.proofs.lemmas.List.Elements.{All-nil, All-tail}
 use Rattle.c65_base.specs.declared.options.Cpu.{Cpu}
 use Rattle.c65_mach.specs.declared.image.Image.{Image}
+use Rattle.c65_mach.specs.State.{read, loaded_memory}
 use Rattle.c65_mach.specs.Step.{Kind, kind_of}
 use Rattle.c65_mach.specs.Run.{Setting, Moment}
 use Rattle.c65_code.specs.declared.parts.Part.{Part}
@@ -25,20 +26,20 @@ use Rattle.c65_code.specs.Steady.{IsCalm, IsAllowed, IsWithin}
 use Rattle.c65_code.specs.RawMachine.{RawSetting, IsReachable, IsRawOpen, RawReturns, HasFrame}
 use Rattle.c65_link.specs.Runtime.{routine_lines}
 use Rattle.c65_link_law_spots.specs.Places.{place_in}
-use Rattle.c65_link_law_spots.specs.Laws.{function}
-use Rattle.c65_link_law_follow.specs.Agree.{Ground, Agrees, more}
+use Rattle.c65_link_law_spots.specs.Laws.{IsUnit, function, start}
+use Rattle.c65_link_law_follow.specs.Agree.{Ground, Agrees, more, IsFirstOr}
 use Rattle.c65_link_law_follow.specs.Laid.{IsLaid}
 use Rattle.c65_link_law_follow.proofs.Bytes.{Moved}
 use Rattle.c65_link_law_follow.proofs.Follow.{last_line}
-use Rattle.c65_link_law_laid.specs.Linked.{start_number, with_main, main_number, raw_in, ground_in}
+use Rattle.c65_link_law_laid.specs.Linked.{start_number, with_main, main_number, raw_in, ground_in, IsByteOf}
 use Rattle.c65_link_law_laid.proofs.Linked.{the_start}
-use Rattle.c65_link_law_runs.specs.Follows.{Follows, goes_on, has_ended, IsRunning}
+use Rattle.c65_link_law_runs.specs.Follows.{IsOnTheWay, Follows, goes_on, has_ended, IsRunning}
 use Rattle.c65_link_law_runs.specs.Laws.{Leads}
 use Rattle.c65_link_law_runs.proofs.Kept.{Stays, effect_stays}
-use Rattle.c65_link_law_runs.proofs.Moves.{moves_are_followed}
-use Rattle.c65_link_law_reach.specs.Reach.{exit_place, code_ground, AreCallers}
+use Rattle.c65_link_law_runs.proofs.Moves.{weaker, moves_are_followed}
+use Rattle.c65_link_law_reach.specs.Reach.{exit_place, code_ground, IsElsewhere, AreCallers}
 use Rattle.c65_link_law_reach.proofs.Units.{is_call}
-use Rattle.c65_link_law_reach.proofs.Steps.{Image_, lines_setting, LineOf, Steps, steps_out, Turned, step_by}
+use Rattle.c65_link_law_reach.proofs.Steps.{Image_, lines_setting, LineOf, away_outside, away_runtime, Steps, steps_out, Turned, step_by}
 
 -- where the lines may name an address
 allowed_open : (ref : Ref) (place : Placement) (kind : Kind) (t : State) → stack_start ≤ sp_of t → IsAllowed place kind ref t → IsRawOpen place (record { soft = stack_start; hard = 0 }) ref
@@ -120,20 +121,29 @@ main_returns cpu code image args setting c l p t now i lo is r none_pushed no_fr
     calls_exit : slice_get (s.lines (start_number code)) exit_at.1 ≡ Some (Call (callees.Routine routines.HookExit))
     calls_exit = ap (λ (ls : List Line). slice_get ls exit_at.1) (the_start code) ∙ exit_there code.main_args (main_number code)
 
+    unit : IsUnit code (start_number code)
+    unit = start refl
+
+    in_start : (m : Moment) → IsFirstOr (IsOnTheWay h exit_at) first.next m → IsElsewhere g code m.machine.pc
+    in_start m (inl e) =
+        away_outside cpu code image args setting exit_at m.machine.pc i unit (omega arith)
+        (subst (λ (b : ℕ). IsByteOf code (read (loaded_memory image)) exit_at b) (sym (ap (λ (x : Moment). x.machine.pc) e ∙ first.agrees.pc)) (i.first exit_at (Call (callees.Routine routines.HookExit)) unit calls_exit tt))
+    in_start m (inr z) = away_runtime cpu code image args setting exit_at m.machine.pc i unit (omega arith) z
+
     room : 2 ≤ s_of t
     room = (let one : length t.pushed ≡ 0 = ap length none_pushed in let two : sum_by (λ (f : Frame). 2 + length f.pushed) t.frames ≡ 0 = ap (sum_by (λ (f : Frame). 2 + length f.pushed)) no_frames in omega (arith, one, two))
 
-    v : Follows h setting 1 2 first.next (Leads s (Call (callees.Routine routines.HookExit)) exit_at t)
+    v : Follows (IsFirstOr (IsOnTheWay h exit_at) first.next) h setting 1 2 first.next (Leads s (Call (callees.Routine routines.HookExit)) exit_at t)
     v = moves_are_followed h s setting (record { soft = stack_start; hard = 0 }) (start_number code) exit_at.1 (Call (callees.Routine routines.HookExit)) t first.next i.start_ground i.start_laid i.set calls_exit tt tt r (omega arith)
         (omega (arith, room), All-nil (IsReachable s.place (record { soft = stack_start; hard = 0 })), All-nil (IsReachable s.place (record { soft = stack_start; hard = 0 }))) first.agrees
 
-    by : Follows h setting 1 2 first.next (Leads s (Call (callees.Routine routines.HookExit)) exit_at t) → Steps g setting c now code l p t
+    by : Follows (IsFirstOr (IsOnTheWay h exit_at) first.next) h setting 1 2 first.next (Leads s (Call (callees.Routine routines.HookExit)) exit_at t) → Steps g setting c now code l p t
     by (goes_on rows m q u some within goes leads running agrees) = absurd (let z : ◌≡◌ {A = Option ℕ} None (Some t.regs.a) = sym running ∙ leads.moves.goes.1.ended in cc)
-    by (has_ended rows status last q u some within goes free turn_is leads ended output) =
+    by (has_ended rows status last q u some within goes free at_last turn_is leads ended output) =
         let b = r.bytes in
         let u2 : State = record t { ended = Some t.regs.a } in
         let returns : Returns (lines_setting code) t.frames p t p u2 = subst (λ (fs : List Frame). Returns (lines_setting code) fs p t p u2) (sym no_frames) (t.regs.a, λ e. refl, b.a, none_pushed, refl, refl) in
-        steps_out (suc rows) status last p u2 (omega (arith, within, le)) (more {n = first.next} first.turn_is first.free goes) free turn_is
+        steps_out (suc rows) status last p u2 (omega (arith, within, le)) (more {n = first.next} first.turn_is first.free (inl refl) (weaker (IsFirstOr (IsOnTheWay h exit_at) first.next) (IsFirstOr (IsElsewhere g code) now) setting rows first.next last (λ m z. inr (in_start m z)) goes)) free (in_start last at_last) turn_is
         (record {
           running = r.running;
           goes = subst (λ (x : Form). LineGoes (lines_setting code) x p t p u2) (sym is) returns;

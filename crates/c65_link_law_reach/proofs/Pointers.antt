@@ -1,8 +1,9 @@
 -- Calls through ptr4, and so each move of the lines of a code.
-use Rattle.std.proofs.Common.{◌≡◌, ℕ, suc, ◌+◌, ◌≤◌, List, Option, Some, None, length, slice_get, refl, ap, sym, ◌∙◌, subst, arith}
+use Rattle.std.proofs.Common.{◌≡◌, ℕ, suc, ◌+◌, ◌≤◌, inl, inr, List, Option, Some, None, length, slice_get, refl, ap, sym, ◌∙◌, subst, arith}
 use Rattle.c65_base.specs.declared.options.Cpu.{Cpu}
 use Rattle.c65_base.specs.declared.library.Library.{Library}
 use Rattle.c65_mach.specs.declared.image.Image.{Image}
+use Rattle.c65_mach.specs.State.{read, loaded_memory}
 use Rattle.c65_mach.specs.Step.{kind_of}
 use Rattle.c65_mach.specs.Run.{Setting, Moment}
 use Rattle.c65_code.specs.declared.parts.RegSet.{RegSet}
@@ -24,19 +25,20 @@ use Rattle.c65_code.specs.Weights.{Weighs, call_weight, row_cost}
 use Rattle.c65_code.specs.Steady.{IsCalm, IsSteady, RowHasRoom, IsCallable}
 use Rattle.c65_code.specs.RawMachine.{RawSetting, RawGoes, called, entry_of, target_of}
 use Rattle.c65_link_law_spots.specs.Places.{place_in}
-use Rattle.c65_link_law_spots.specs.Laws.{IsChosen, AreUsesChosen, routine}
+use Rattle.c65_link_law_spots.specs.Laws.{IsChosen, AreUsesChosen, IsUnit, routine}
 use Rattle.c65_link_law_spots.proofs.Uses.{uses_are_chosen}
-use Rattle.c65_link_law_follow.specs.Agree.{Ground, Agrees, Arrives, more}
+use Rattle.c65_link_law_follow.specs.Agree.{Ground, Agrees, IsFirstOr, IsInside, Arrives, more}
 use Rattle.c65_link_law_follow.specs.Agree.{Goes}
 use Rattle.c65_link_law_follow.specs.Laid.{IsLaid}
 use Rattle.c65_link_law_follow.proofs.Bytes.{Moved}
 use Rattle.c65_link_law_follow.proofs.Follow.{lines_are_followed}
-use Rattle.c65_link_law_laid.specs.Linked.{raw_in}
+use Rattle.c65_link_law_laid.specs.Linked.{raw_in, IsByteOf}
 use Rattle.c65_link_law_runs.specs.Follows.{IsRunning}
+use Rattle.c65_link_law_runs.proofs.Moves.{weaker}
 use Rattle.c65_link_law_runs.proofs.Kept.{called_kept}
-use Rattle.c65_link_law_reach.specs.Reach.{code_ground, AreCallers}
+use Rattle.c65_link_law_reach.specs.Reach.{code_ground, IsElsewhere, AreCallers}
 use Rattle.c65_link_law_reach.proofs.Units.{op_calls}
-use Rattle.c65_link_law_reach.proofs.Steps.{Image_, lines_setting, LineOf, Steps, steps_on}
+use Rattle.c65_link_law_reach.proofs.Steps.{Image_, lines_setting, LineOf, away_inside, away_outside, Steps, steps_on}
 use Rattle.c65_code.specs.declared.line.Operand.TheVariants as operands
 use Rattle.c65_mach.specs.declared.rows.Op.TheVariants as ops
 use Rattle.c65_mach.specs.declared.rows.Mode.TheVariants.{Indirect}
@@ -54,8 +56,15 @@ record Jumped (cpu : Cpu) (code : Code) (image : Image) (args : List (List ℕ))
   least : 1 ≤ rows
   within : rows ≤ 2
   then_at : Moment
-  goes : Goes setting rows now then_at
+  goes : Goes (IsFirstOr (IsElsewhere (code_ground cpu code image) code) now) setting rows now then_at
   agrees : Agrees (code_ground cpu code image) ((code_ground cpu code image).at (entry_of (raw_in code args) (target_of (raw_in code args) ((raw_in code args).library f) f))) (called (back_of code p) t) then_at
+
+-- the rows of a line of the runtime
+callptr_row : (cpu : Cpu) (code : Code) (image : Image) (args : List (List ℕ)) (setting : Setting) (p : Place) (first m : Moment) → Image_ cpu code image args setting → IsUnit code p.0 → length code.symbols ≤ p.0 → IsByteOf code (read (loaded_memory image)) p ((code_ground cpu code image).at p)
+    → first.machine.pc ≡ (code_ground cpu code image).at p → IsFirstOr (IsInside (code_ground cpu code image) p) first m → IsElsewhere (code_ground cpu code image) code m.machine.pc
+callptr_row cpu code image args setting p first m i unit high byte is (inl e) =
+    away_outside cpu code image args setting p m.machine.pc i unit high (subst (λ (b : ℕ). IsByteOf code (read (loaded_memory image)) p b) (sym (ap (λ (x : Moment). x.machine.pc) e ∙ is)) byte)
+callptr_row cpu code image args setting p first m i unit high byte is (inr h) = away_inside cpu code image args setting p m.machine.pc i unit h
 
 jumped : (cpu : Cpu) (code : Code) (image : Image) (args : List (List ℕ)) (setting : Setting) (f : ℕ) (reads gives : RegSet) (p : Place) (t : State) (now : Moment) → Image_ cpu code image args setting → LineOf code args p (Call (callees.Pointer reads gives)) → IsRunning t → IsCalm (lines_setting code) t → IsCallee (lines_setting code) t f
     → Agrees (code_ground cpu code image) ((code_ground cpu code image).at p) t now → Jumped cpu code image args setting f p t now
@@ -72,17 +81,20 @@ jumped cpu code image args setting f reads gives p t now i lo r calm callee a =
     let entry : g.at (entry_of s n) ≡ g.at (n, 0) = ap (λ (ls : List Line). g.at (n, settle ls 0)) (raw_routine code args routines.CallPtr4) in
     let here : slice_get (s.lines n) 0 ≡ Some jump = ap (λ (ls : List Line). slice_get ls 0) (raw_routine code args routines.CallPtr4) in
     let t1 : State = called (back_of code p) t in
-    let v : Arrives g setting 1 m.next (RawGoes s (Far 14) (n, 0) t1) = lines_are_followed g s setting (record { soft = stack_start; hard = 0 }) n 0 jump t1 m.next i.ground (i.laid n (routine routines.CallPtr4 chosen refl) (λ e. omega (arith, e), λ e. omega (arith, e))) here tt (omega arith) (called_kept (back_of code p) t r.bytes) (omega arith)
+    let v : Arrives g setting 1 m.next (IsInside g (n, 0)) (RawGoes s (Far 14) (n, 0) t1) = lines_are_followed g s setting (record { soft = stack_start; hard = 0 }) n 0 jump t1 m.next i.ground (i.laid n (routine routines.CallPtr4 chosen refl) (λ e. omega (arith, e), λ e. omega (arith, e))) here tt (omega arith) (called_kept (back_of code p) t r.bytes) (omega arith)
     (omega arith, f, callee.0, callee.1) (subst (λ (k : ℕ). Agrees g k t1 m.next) entry m.agrees) in
     let same : v.holds.0 ≡ f = same_callee code t f v.holds.0 i.place callee (v.holds.1, v.holds.2) in
     let to : v.place ≡ entry_of s (target_of s (s.library f) f) = v.holds.3 ∙ ap (λ (k : ℕ). entry_of s (target_of s (s.library k) k)) same in
     let within = v.within in
+    let unit : IsUnit code n = routine routines.CallPtr4 chosen refl in
+    let byte : IsByteOf code (read (loaded_memory image)) (n, 0) (g.at (n, 0)) = i.first (n, 0) jump unit here tt in
+    let in_callptr : (x : Moment) → IsFirstOr (IsInside g (n, 0)) m.next x → IsElsewhere g code x.machine.pc = λ x h. callptr_row cpu code image args setting (n, 0) m.next x i unit (omega arith) byte (m.agrees.pc ∙ entry) h in
     record {
       rows = suc v.rows;
       least = omega arith;
       within = omega (arith, within);
       then_at = v.then_at;
-      goes = more {n = m.next} m.turn_is m.free v.goes;
+      goes = more {n = m.next} m.turn_is m.free (inl refl) (weaker (IsFirstOr (IsInside g (n, 0)) m.next) (IsFirstOr (IsElsewhere g code) now) setting v.rows m.next v.then_at (λ x h. inr (in_callptr x h)) v.goes);
       agrees = subst (λ (x : Place). Agrees g (g.at x) t1 v.then_at) to (subst (λ (x : State). Agrees g (g.at v.place) x v.then_at) v.holds.4 v.agrees);
     }
 

@@ -1,9 +1,10 @@
 -- One move of the lines of a code is followed.
-use Rattle.std.proofs.Common.{◌≡◌, ℕ, ◌+◌, ◌-◌, ◌<◌, ◌≤◌, Bool, false, if◌then◌else◌, IsTrue, List, All, Some, None, length, slice_get, ap, sym, ◌∙◌, subst, arith}
+use Rattle.std.proofs.Common.{◌≡◌, ℕ, ◌+◌, ◌-◌, ◌<◌, ◌≤◌, inl, inr, Bool, false, if◌then◌else◌, IsTrue, List, All, Some, None, length, slice_get, ap, sym, ◌∙◌, subst, arith}
 use Rattle.std.proofs.lemmas.Bool.{lt-ltb}
 use Rattle.c65_base.specs.declared.options.Cpu.{Cpu}
 use Rattle.c65_base.specs.declared.library.Library.{Library}
 use Rattle.c65_mach.specs.declared.image.Image.{Image}
+use Rattle.c65_mach.specs.State.{read, loaded_memory}
 use Rattle.c65_mach.specs.Run.{Setting, Moment, Ended, turn}
 use Rattle.c65_sim.specs.Budgets.{is_too_deep}
 use Rattle.c65_code.specs.declared.routine.Routine.{Routine}
@@ -20,18 +21,18 @@ use Rattle.c65_code.specs.RawMachine.{RawSetting, IsRawWithin, RawGoes, IsRuntim
 use Rattle.c65_link_law_spots.specs.Places.{place_in, runtime_lines}
 use Rattle.c65_link_law_spots.specs.Sound.{IsSound}
 use Rattle.c65_link_law_spots.specs.Laws.{IsChosen, IsUnit, function}
-use Rattle.c65_link_law_follow.specs.Agree.{Ground, Agrees, Goes, Arrives}
+use Rattle.c65_link_law_follow.specs.Agree.{Ground, Agrees, Goes, IsFirstOr, IsInside, Arrives}
 use Rattle.c65_link_law_follow.specs.Laid.{IsLaid, IsGround}
 use Rattle.c65_link_law_follow.specs.Laws.{IsCounted}
 use Rattle.c65_link_law_follow.proofs.Follow.{lines_are_followed}
-use Rattle.c65_link_law_laid.specs.Linked.{start_number, raw_in, ground_in}
+use Rattle.c65_link_law_laid.specs.Linked.{start_number, raw_in, ground_in, IsInstruction, IsByteOf}
 use Rattle.c65_link_law_laid.specs.Laws.{IsNoStart}
 use Rattle.c65_link_law_laid.proofs.Linked.{segment_from, not_the_start}
-use Rattle.c65_link_law_runs.specs.Follows.{IsSetFor, IsRunning}
+use Rattle.c65_link_law_runs.specs.Follows.{first_hook, IsOnTheWay, IsSetFor, IsRunning}
 use Rattle.c65_link_law_runs.specs.Laws.{AreUnits}
 use Rattle.c65_link_law_runs.proofs.Kept.{IsKeptBy, kept_by}
-use Rattle.c65_link_law_runs.proofs.Moves.{quiet_line}
-use Rattle.c65_link_law_reach.specs.Reach.{runtime_in, code_ground, AreCallers}
+use Rattle.c65_link_law_runs.proofs.Moves.{weaker, quiet_line}
+use Rattle.c65_link_law_reach.specs.Reach.{runtime_in, code_ground, IsAt, IsElsewhere, AreCallers}
 use Rattle.c65_link_law_reach.proofs.Units.{units_in}
 
 -- What is known of a linked code and its image
@@ -48,6 +49,8 @@ pub record Image_ (cpu : Cpu) (code : Code) (image : Image) (args : List (List �
   pub start_laid : IsLaid (ground_in cpu code image 255 None) (raw_in code args) (start_number code)
   pub units : AreUnits (code_ground cpu code image) (runtime_in code args) (units_in code)
   pub library : (f : ℕ) (l : Library) → IsTrue (is_function_of code f) → (raw_in code args).library f ≡ Some l → IsChosen code (routines.Library l)
+  pub first : (q : Place) (l : Line) → IsUnit code q.0 → slice_get ((raw_in code args).lines q.0) q.1 ≡ Some l → IsInstruction l → IsByteOf code (read (loaded_memory image)) q ((code_ground cpu code image).at q)
+  pub apart : (k : ℕ) (f : Sym × Segment) (p : ℕ) (q : Place) (b : ℕ) → slice_get code.functions k ≡ Some f → IsUnit code q.0 → IsByteOf code (read (loaded_memory image)) (f.0.0, p) b → IsByteOf code (read (loaded_memory image)) q b → (f.0.0, p) ≡ q
 
 -- the machine on lines of the code
 abbrev pub lines_setting : Code → LineSetting
@@ -77,12 +80,52 @@ line_there code args p l s h =
     let inside : p.0 < length code.symbols = omega (arith, known, is) in
     record { inside = inside; number = it.0; unit = it.1; there = it.2; here = it.3; is = is; same = same_lines code args p.0 inside; own = h }
 
+-- Addresses at which no instruction of a function begins
+
+-- the only instruction with a byte at its first one
+pub one_line : (cpu : Cpu) (code : Code) (image : Image) (args : List (List ℕ)) (setting : Setting) (p q : Place) (l : Line) (a : ℕ) → Image_ cpu code image args setting → IsUnit code p.0 → IsByteOf code (read (loaded_memory image)) p a → IsAt code q l → a ≡ (code_ground cpu code image).at q → q ≡ p
+one_line cpu code image args setting p q l a i unit byte at is =
+    let lo : LineOf code args q l = line_there code args q l i.sound at.there in
+    let own : IsByteOf code (read (loaded_memory image)) q ((code_ground cpu code image).at q) = i.first q l (function lo.number lo.unit lo.there lo.is) (ap (λ (ls : List Line). slice_get ls q.1) lo.same ∙ lo.own) at.instruction in
+    let there : IsByteOf code (read (loaded_memory image)) (lo.unit.0.0, q.1) a = subst (λ (n : ℕ). IsByteOf code (read (loaded_memory image)) (n, q.1) a) (sym lo.is) (subst (λ (n : ℕ). IsByteOf code (read (loaded_memory image)) q n) (sym is) own) in
+    ap (λ (n : ℕ). (n, q.1)) (sym lo.is) ∙ i.apart lo.number lo.unit q.1 p a lo.there unit there byte
+
+-- behind the first byte of a line
+pub away_inside : (cpu : Cpu) (code : Code) (image : Image) (args : List (List ℕ)) (setting : Setting) (p : Place) (a : ℕ) → Image_ cpu code image args setting → IsUnit code p.0 → IsInside (code_ground cpu code image) p a → IsElsewhere (code_ground cpu code image) code a
+away_inside cpu code image args setting p a i unit h q l at is =
+    let from = h.0 in
+    let same : q ≡ p = one_line cpu code image args setting p q l a i unit (record { from = omega (arith, from); to = h.1 }) at is in
+    let first : a ≡ (code_ground cpu code image).at p = is ∙ ap (code_ground cpu code image).at same in
+    omega (arith, from, first)
+
+-- in a unit of the runtime
+pub away_outside : (cpu : Cpu) (code : Code) (image : Image) (args : List (List ℕ)) (setting : Setting) (p : Place) (a : ℕ) → Image_ cpu code image args setting → IsUnit code p.0 → length code.symbols ≤ p.0 → IsByteOf code (read (loaded_memory image)) p a → IsElsewhere (code_ground cpu code image) code a
+away_outside cpu code image args setting p a i unit high byte q l at is =
+    let lo : LineOf code args q l = line_there code args q l i.sound at.there in
+    let less = lo.inside in
+    let same : q.0 ≡ p.0 = ap (λ (x : Place). x.0) (one_line cpu code image args setting p q l a i unit byte at is) in
+    omega (arith, less, same, high)
+
+-- at a hook
+pub away_hook : (cpu : Cpu) (code : Code) (image : Image) (args : List (List ℕ)) (setting : Setting) (a : ℕ) → Image_ cpu code image args setting → first_hook ≤ a → IsElsewhere (code_ground cpu code image) code a
+away_hook cpu code image args setting a i high q l at is = (let to = i.ground.to q in let end = i.ground.high in omega (arith, high, to, end, is))
+
+-- on the way of a line of the runtime
+pub away_runtime : (cpu : Cpu) (code : Code) (image : Image) (args : List (List ℕ)) (setting : Setting) (p : Place) (a : ℕ) → Image_ cpu code image args setting → IsUnit code p.0 → length code.symbols ≤ p.0 → IsOnTheWay (code_ground cpu code image) p a → IsElsewhere (code_ground cpu code image) code a
+away_runtime cpu code image args setting p a i unit high (inl h) = away_inside cpu code image args setting p a i unit h
+away_runtime cpu code image args setting p a i unit high (inr h) = away_hook cpu code image args setting a i h
+
 -- What a move of the lines of a code leads to
 
 pub data Steps (g : Ground) (setting : Setting) (c : ℕ) (now : Moment) (code : Code) (l : Line) (p : Place) (t : State) : Type 0 where
-  steps_on : (rows : ℕ) (m : Moment) (q : Place) (u : State) → 1 ≤ rows → rows ≤ c → Goes setting rows now m → LineMoves (lines_setting code) l p t q u → IsRunning u → AreCallers code u.frames → Agrees g (g.at q) u m → Steps g setting c now code l p t
-  steps_out : (rows status : ℕ) (last : Moment) (q : Place) (u : State) → rows + 1 ≤ c + 2 → Goes setting rows now last → is_too_deep last.machine ≡ false → turn setting last ≡ Ended last status
+  steps_on : (rows : ℕ) (m : Moment) (q : Place) (u : State) → 1 ≤ rows → rows ≤ c → Goes (IsFirstOr (IsElsewhere g code) now) setting rows now m → LineMoves (lines_setting code) l p t q u → IsRunning u → AreCallers code u.frames → Agrees g (g.at q) u m → Steps g setting c now code l p t
+  steps_out : (rows status : ℕ) (last : Moment) (q : Place) (u : State) → rows + 1 ≤ c + 2 → Goes (IsFirstOr (IsElsewhere g code) now) setting rows now last → is_too_deep last.machine ≡ false → IsElsewhere g code last.machine.pc → turn setting last ≡ Ended last status
       → LineMoves (lines_setting code) l p t q u → u.ended ≡ Some status → u.output ≡ last.output → Steps g setting c now code l p t
+
+-- what holds before the rows of a move
+pub later_by : (Later Other : ℕ → Type 0) (first m : Moment) → ((a : ℕ) → Later a → Other a) → IsFirstOr Later first m → IsFirstOr Other first m
+later_by Later Other first m h (inl e) = inl e
+later_by Later Other first m h (inr l) = inr (h m.machine.pc l)
 
 -- the state and place of the lines, where those of the machine without rows are known
 pub record Turned (g : Ground) (code : Code) (form : Form) (p : Place) (t : State) (m : Moment) : Type 0 where
@@ -106,12 +149,13 @@ step_by cpu code image args setting c form l p t now i lo is other counted withi
     let laid : IsLaid g s p.0 = i.laid p.0 unit (λ e. omega (arith, inside, e), λ e. omega (arith, inside, e)) in
     let here : slice_get (s.lines p.0) p.1 ≡ Some l = ap (λ (ls : List Line). slice_get ls p.1) lo.same ∙ lo.own in
     let quiet = quiet_line l g s p.0 p.1 t laid here (λ q e. other q (sym is ∙ e)) in
-    let v : Arrives g setting (raw_weight (form_of l)) now (RawGoes s (form_of l) (p.0, p.1) t) = lines_are_followed g s setting (record { soft = stack_start; hard = 0 }) p.0 p.1 l t now i.ground laid here quiet.0 (subst (λ (x : Form). IsCounted g s x) (sym is) counted) r.bytes (omega arith)
+    let v : Arrives g setting (raw_weight (form_of l)) now (IsInside g (p.0, p.1)) (RawGoes s (form_of l) (p.0, p.1) t) = lines_are_followed g s setting (record { soft = stack_start; hard = 0 }) p.0 p.1 l t now i.ground laid here quiet.0 (subst (λ (x : Form). IsCounted g s x) (sym is) counted) r.bytes (omega arith)
     (subst (λ (x : Form). IsRawWithin s (record { soft = stack_start; hard = 0 }) x t) (sym is) within) a in
     let k : IsKeptBy t v.state = kept_by (form_of l) s (p.0, p.1) t v.place v.state quiet.0 quiet.1 r.bytes v.holds in
     let goes : RawGoes s form p t v.place v.state = subst (λ (x : Form). RawGoes s x p t v.place v.state) is v.holds in
     let running : IsRunning v.state = record { running = k.ended ∙ r.running; bytes = k.bytes; input = subst (λ (xs : List ℕ). All (λ v. v < 256) xs) (sym k.input) r.input } in
     let to : Turned g code form p t v.then_at = turn_to v.place v.state v.then_at goes running v.agrees in
     let within_rows = v.within in let weight = ap raw_weight is in
-    steps_on v.rows v.then_at to.place to.state v.least (omega (arith, within_rows, weight, le)) v.goes
+    steps_on v.rows v.then_at to.place to.state v.least (omega (arith, within_rows, weight, le))
+    (weaker (IsFirstOr (IsInside g p) now) (IsFirstOr (IsElsewhere g code) now) setting v.rows now v.then_at (λ m h. later_by (IsInside g p) (IsElsewhere g code) now m (λ b at. away_inside cpu code image args setting p b i unit at) h) v.goes)
     (record { running = r.running; goes = subst (λ (x : Form). LineGoes (lines_setting code) x p t to.place to.state) (sym is) to.goes; bytes = to.running.bytes }) to.running to.callers to.agrees

@@ -314,6 +314,14 @@ line_of code args f p l unit here = by (known code f unit)
     by (of_function e) = nothing_there ((runtime_in code args).lines f) p l (ap (λ (b : Bool). if b then [] else lines_by (slice_get ALL (f - length code.symbols))) e) here
     by (of_routine r chosen inner is) = (r, chosen, inner, ap (λ (ls : List Line). slice_get ls p) (sym (ap (runtime_in code args).lines is ∙ routine_at code args r)) ∙ here)
 
+-- a line of the runtime is one of a routine
+pub runtime_line : (code : Code) (args : List (List ℕ)) (f p : ℕ) (l : Line) → IsTrue (units_in code f) → slice_get ((runtime_in code args).lines f) p ≡ Some l → (r : Routine) × IsChosen code r × (f ≡ length code.symbols + number_of r)
+runtime_line code args f p l unit here = by (known code f unit)
+  where
+    by : Known code f → (r : Routine) × IsChosen code r × (f ≡ length code.symbols + number_of r)
+    by (of_function e) = nothing_there ((runtime_in code args).lines f) p l (ap (λ (b : Bool). if b then [] else lines_by (slice_get ALL (f - length code.symbols))) e) here
+    by (of_routine r chosen inner is) = (r, chosen, is)
+
 pub are_units : (code : Code) (args : List (List ℕ)) (m : Memory) (g : Ground) → g.at ≡ place_at code m → g.top ≡ 253 → ((f : ℕ) → IsUnit code f → IsNoStart code f → IsLaid g (raw_in code args) f)
     → ((f : ℕ) (l : Library) → IsTrue (is_function_of code f) → (raw_in code args).library f ≡ Some l → IsChosen code (routines.Library l)) → AreUnits g (runtime_in code args) (units_in code)
 are_units code args m g at top laid library =

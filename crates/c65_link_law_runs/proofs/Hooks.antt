@@ -1,5 +1,6 @@
 -- Calls of hooks are followed by two rows: the call, and the hook, which returns.
-use Rattle.std.proofs.Common.{◌≡◌, ℕ, ◌+◌, ◌*◌, ◌%◌, ◌/◌, ◌<◌, ◌≤◌, ◌==◌, Bool, true, false, if◌then◌else◌, List, [], ◌++◌, length, take, drop, All, Some, None, refl, ap, sym, ◌∙◌, subst, arith}
+use Rattle.std.proofs.Common.{◌≡◌, ℕ, ◌+◌, ◌*◌, ◌%◌, ◌/◌, ◌<◌, ◌≤◌, ◌==◌, inl, inr, Bool, true, false, nat_le, if◌then◌else◌, List, [], ◌++◌, length, take, drop, All, Some, None, refl, ap, sym, ◌∙◌, subst, arith, leb-true}
+use Rattle.std.proofs.lemmas.Bool.{and_parts}
 use Rattle.std.proofs.lemmas.List.{append-nil}
 use Rattle.std.proofs.lemmas.List.Elements.{All-nil, All-head, All-tail, All-take, All-drop}
 use Rattle.c65_mach.specs.State.{Regs, State as Machine}
@@ -13,10 +14,10 @@ use Rattle.c65_code.specs.LineState.{Place, State, write, word_at, sp_of, ax_of,
 use Rattle.c65_code.specs.Placement.{stack_start, stack_end}
 use Rattle.c65_code.specs.Rows.{Row, Meets, written, giving, popping}
 use Rattle.c65_code.specs.RawMachine.{RawSetting, Bounds, IsReachable, IsHookWithin, quiet, called}
-use Rattle.c65_link_law_follow.specs.Agree.{Ground, Agrees, none, more}
+use Rattle.c65_link_law_follow.specs.Agree.{Ground, Agrees, none, more, IsFirstOr}
 use Rattle.c65_link_law_follow.specs.Laid.{IsGround}
 use Rattle.c65_link_law_follow.proofs.Bytes.{Moved}
-use Rattle.c65_link_law_runs.specs.Follows.{Follows, goes_on, IsSetFor, IsRunning}
+use Rattle.c65_link_law_runs.specs.Follows.{first_hook, IsOnTheWay, Follows, goes_on, IsSetFor, IsRunning}
 use Rattle.c65_link_law_runs.proofs.Answers.{turn_there, hooks_are_free, IsOpenAt, all_open, on_bytes, on_sp, on_streams, sp_there, word_there, on_answer, answered, met, IsByte, IsByteWrite, listed_bytes, answered_bytes, taken_most, drop_taken}
 
 -- a hook's turn: what it leads to, where the states agree again behind the call
@@ -25,10 +26,14 @@ pub record Served (g : Ground) (setting : Setting) (back : Place) (u : State) (n
   pub turn_is : turn setting n ≡ Running next
   pub agrees : Agrees g (g.at back) u next
 
+hook_high : (hook : ℕ) → is_hook hook ≡ true → first_hook ≤ hook
+hook_high hook h = leb-true first_hook hook (and_parts (nat_le first_hook hook) (nat_le hook 0xFFF9) h).0
+
 -- the call and the hook
-pub two_rows : (g : Ground) (setting : Setting) (hook : ℕ) (back : Place) (t1 u : State) (now : Moment) (Q : Place → State → Type 0) → is_hook hook ≡ true → (m : Moved g setting hook t1 now) → Served g setting back u m.next → Q back u → u.ended ≡ None → Follows g setting 1 2 now Q
-two_rows g setting hook back t1 u now Q is m v holds running =
-    goes_on 2 v.next back u (omega arith) (omega arith) (more m.turn_is m.free (more v.turn_is (hooks_are_free m.next.machine hook m.agrees.pc is) none)) holds running v.agrees
+pub two_rows : (g : Ground) (setting : Setting) (p : Place) (hook : ℕ) (back : Place) (t1 u : State) (now : Moment) (Q : Place → State → Type 0) → is_hook hook ≡ true → (m : Moved g setting hook t1 now) → Served g setting back u m.next → Q back u → u.ended ≡ None → Follows (IsFirstOr (IsOnTheWay g p) now) g setting 1 2 now Q
+two_rows g setting p hook back t1 u now Q is m v holds running =
+    let high = hook_high hook is in let pc = m.agrees.pc in
+    goes_on 2 v.next back u (omega arith) (omega arith) (more m.turn_is m.free (inl refl) (more v.turn_is (hooks_are_free m.next.machine hook m.agrees.pc is) (inr (inr (omega (arith, high, pc)))) none)) holds running v.agrees
 
 -- the end of a hook that moves the sp
 pub ends_well : (g : Ground) (hook : ℕ) (back : Place) (t : State) (n : Moment) (answer to : ℕ) (ws : List (ℕ × ℕ)) (taken : ℕ) (out i o : List ℕ) → g.at back ≤ 65535

@@ -1,5 +1,5 @@
 -- Each line that stays within its bounds is followed, calls of hooks too.
-use Rattle.std.proofs.Common.{◌≡◌, ℕ, ◌+◌, ◌<◌, ◌≤◌, ◌==◌, ◌&&◌, not, Bool, true, false, List, All, Option, Some, slice_get, refl, ap, sym, ◌∙◌, subst, arith}
+use Rattle.std.proofs.Common.{◌≡◌, ℕ, ◌+◌, ◌<◌, ◌≤◌, ◌==◌, ◌&&◌, inl, inr, not, Bool, true, false, List, All, Option, Some, slice_get, refl, ap, sym, ◌∙◌, subst, arith}
 use Rattle.std.proofs.lemmas.Bool.{and_parts}
 use Rattle.std.proofs.lemmas.List.{append-nil}
 use Rattle.c65_mach.specs.declared.rows.Op.{Op}
@@ -23,14 +23,14 @@ use Rattle.c65_code.specs.Placement.{stack_start}
 use Rattle.c65_code.specs.Segments.{has_row, takes, is_barred}
 use Rattle.c65_code.specs.Forms.{Form, Run, op_form, move_form, jump_form, branch_form, form_of}
 use Rattle.c65_code.specs.Rows.{Row, Meets}
-use Rattle.c65_code.specs.RawMachine.{RawSetting, Bounds, IsHookWithin, IsRawWithin, RawRuns, raw_weight, hook_row, quiet, called, line_after}
+use Rattle.c65_code.specs.RawMachine.{RawSetting, Bounds, IsHookWithin, IsRawWithin, RawGoes, RawRuns, raw_weight, hook_row, quiet, called, line_after}
 use Rattle.c65_link.specs.Bytes.{callee_address}
-use Rattle.c65_link_law_follow.specs.Agree.{Ground, Agrees, none, more}
+use Rattle.c65_link_law_follow.specs.Agree.{Ground, Agrees, Goes, none, more, IsFirstOr, IsInside, Arrives}
 use Rattle.c65_link_law_follow.specs.Laid.{IsLaid, IsGround, IsOperandNumber}
 use Rattle.c65_link_law_follow.specs.Laws.{IsNoHook, IsCounted}
 use Rattle.c65_link_law_follow.proofs.Bytes.{Moved}
 use Rattle.c65_link_law_follow.proofs.Follow.{lines_are_followed, call_moves, room_for}
-use Rattle.c65_link_law_runs.specs.Follows.{Follows, goes_on, has_ended, IsSetFor, IsRunning, HasArgumentRoom}
+use Rattle.c65_link_law_runs.specs.Follows.{IsOnTheWay, Follows, goes_on, has_ended, IsSetFor, IsRunning, HasArgumentRoom}
 use Rattle.c65_link_law_runs.specs.Laws.{Leads, MovesAreFollowed}
 use Rattle.c65_link_law_runs.proofs.Kept.{IsByteNumber, HasByteOperand, IsKeptBy, kept_by}
 use Rattle.c65_link_law_runs.proofs.Answers.{turn_there, hooks_are_free}
@@ -38,14 +38,24 @@ use Rattle.c65_link_law_runs.proofs.Hooks.{Served, two_rows, sp_low, IsMetBy, re
 use Rattle.c65_link_law_runs.proofs.Writes.{write_row, write_state, write_served, write_met, open_row, open_served, open_met, close_row, close_state, close_served, close_met}
 use Rattle.c65_link_law_runs.proofs.Arguments.{args_row, args_state, args_served, args_met}
 
+-- what holds before each row
+
+pub weaker : (P Q : Moment → Type 0) (setting : Setting) (k : ℕ) (a b : Moment) → ((m : Moment) → P m → Q m) → Goes P setting k a b → Goes Q setting k a b
+weaker P Q setting k a b h none = none
+weaker P Q setting k a b h (more {k = i} {n = n} is free at rest) = more {n = n} is free (h a at) (weaker P Q setting i n b h rest)
+
+on_way : (g : Ground) (p : Place) (now m : Moment) → IsFirstOr (IsInside g p) now m → IsFirstOr (IsOnTheWay g p) now m
+on_way g p now m (inl e) = inl e
+on_way g p now m (inr h) = inr (inl h)
+
 -- Lines that call no hook
 
 followed : (g : Ground) (s : RawSetting) (setting : Setting) (bounds : Bounds) (f p : ℕ) (l : Line) (t : State) (now : Moment) → IsGround g s → IsLaid g s f → slice_get (s.lines f) p ≡ Some l → IsCounted g s (form_of l) → IsNoHook s (form_of l) t → HasByteOperand (form_of l)
-    → IsRunning t → stack_start ≤ bounds.soft → IsRawWithin s bounds (form_of l) t → Agrees g (g.at (f, p)) t now → Follows g setting 1 (raw_weight (form_of l)) now (Leads s l (f, p) t)
+    → IsRunning t → stack_start ≤ bounds.soft → IsRawWithin s bounds (form_of l) t → Agrees g (g.at (f, p)) t now → Follows (IsFirstOr (IsOnTheWay g (f, p)) now) g setting 1 (raw_weight (form_of l)) now (Leads s l (f, p) t)
 followed g s setting bounds f p l t now ground laid here counted no_hook has r soft within a =
-    let v = lines_are_followed g s setting bounds f p l t now ground laid here no_hook counted r.bytes soft within a in
+    let v : Arrives g setting (raw_weight (form_of l)) now (IsInside g (f, p)) (RawGoes s (form_of l) (f, p) t) = lines_are_followed g s setting bounds f p l t now ground laid here no_hook counted r.bytes soft within a in
     let k : IsKeptBy t v.state = kept_by (form_of l) s (f, p) t v.place v.state no_hook has r.bytes v.holds in
-    goes_on v.rows v.then_at v.place v.state v.least v.within v.goes
+    goes_on v.rows v.then_at v.place v.state v.least v.within (weaker (IsFirstOr (IsInside g (f, p)) now) (IsFirstOr (IsOnTheWay g (f, p)) now) setting v.rows now v.then_at (λ m h. on_way g (f, p) now m h) v.goes)
     (record { moves = record { running = r.running; goes = v.holds; bytes = k.bytes }; input = subst (λ (xs : List ℕ). All (λ v. v < 256) xs) (sym k.input) r.input })
     (k.ended ∙ r.running) v.agrees
 
@@ -105,10 +115,10 @@ low_back : (g : Ground) (s : RawSetting) (q : Place) → IsGround g s → g.at q
 low_back g s q ground = (let to = ground.to q in let high = ground.high in omega (arith, to, high))
 
 hook_done : (g : Ground) (s : RawSetting) (setting : Setting) (f p : ℕ) (r : Routine) (hook : ℕ) (row : Row) (t u : State) (now : Moment) → hook_row s.args r t ≡ Some row → is_hook hook ≡ true → (m : Moved g setting hook (called (line_after s (f, p)) t) now) → Served g setting (line_after s (f, p)) u m.next → IsMetBy row t u → IsRunning t
-    → Follows g setting 1 2 now (Leads s (Call (callees.Routine r)) (f, p) t)
+    → Follows (IsFirstOr (IsOnTheWay g (f, p)) now) g setting 1 2 now (Leads s (Call (callees.Routine r)) (f, p) t)
 hook_done g s setting f p r hook row t u now is hooked m served met running =
     let back : Place = line_after s (f, p) in
-    two_rows g setting hook back (called back t) u now (Leads s (Call (callees.Routine r)) (f, p) t) hooked m served
+    two_rows g setting (f, p) hook back (called back t) u now (Leads s (Call (callees.Routine r)) (f, p) t) hooked m served
     (record { moves = record { running = running.running; goes = subst (λ (o : Option Row). RawRuns s o r (f, p) t back u) (sym is) (refl, met.meets); bytes = met.bytes }; input = met.input }) met.ended
 
 -- `exit`
@@ -147,11 +157,11 @@ exit_met t = record {
   ended = refl;
 }
 
-exit_line : (g : Ground) (s : RawSetting) (setting : Setting) (f p : ℕ) (t : State) (now : Moment) → Moved g setting 0xFFF9 (called (line_after s (f, p)) t) now → IsRunning t → Follows g setting 1 2 now (Leads s (Call (callees.Routine routines.HookExit)) (f, p) t)
+exit_line : (g : Ground) (s : RawSetting) (setting : Setting) (f p : ℕ) (t : State) (now : Moment) → Moved g setting 0xFFF9 (called (line_after s (f, p)) t) now → IsRunning t → Follows (IsFirstOr (IsOnTheWay g (f, p)) now) g setting 1 2 now (Leads s (Call (callees.Routine routines.HookExit)) (f, p) t)
 exit_line g s setting f p t now m r =
     let b = r.bytes in
-    let n : Moment = m.next in
-    has_ended 1 t.regs.a n (line_after s (f, p)) (exit_state t) (omega arith) (omega arith) (more m.turn_is m.free none) (hooks_are_free n.machine 0xFFF9 m.agrees.pc refl)
+    let n : Moment = m.next in let pc = m.agrees.pc in
+    has_ended 1 t.regs.a n (line_after s (f, p)) (exit_state t) (omega arith) (omega arith) (more m.turn_is m.free (inl refl) none) (hooks_are_free n.machine 0xFFF9 m.agrees.pc refl) (inr (inr (omega (arith, pc))))
     (turn_there setting n 0xFFF9 m.agrees.pc ∙ ap (λ (x : Regs). Ended n x.a) m.agrees.regs)
     (record {
       moves = record { running = r.running; goes = (refl, exit_met t); bytes = record { a = b.a; x = b.x; y = b.y; zp = b.zp; mem = b.mem; pushed = b.pushed; frames = b.frames } };
@@ -160,31 +170,31 @@ exit_line g s setting f p t now m r =
     refl (sym m.agrees.output)
 
 read_line : (g : Ground) (s : RawSetting) (setting : Setting) (bounds : Bounds) (f p : ℕ) (t : State) (now : Moment) → IsGround g s → IsSetFor s setting → stack_start ≤ bounds.soft → Moved g setting 0xFFF6 (called (line_after s (f, p)) t) now → IsRunning t
-    → IsHookWithin s.place bounds (Some (read_row (word_at t.mem (sp_of t + 2) == 0) t)) t → Follows g setting 1 2 now (Leads s (Call (callees.Routine routines.HookRead)) (f, p) t)
+    → IsHookWithin s.place bounds (Some (read_row (word_at t.mem (sp_of t + 2) == 0) t)) t → Follows (IsFirstOr (IsOnTheWay g (f, p)) now) g setting 1 2 now (Leads s (Call (callees.Routine routines.HookRead)) (f, p) t)
 read_line g s setting bounds f p t now ground set soft m r within = by (word_at t.mem (sp_of t + 2) == 0) refl within
   where
     low : (b : Bool) → IsHookWithin s.place bounds (Some (read_row b t)) t → sp_of t + 4 < 65536
     low true w = sp_low s bounds g t ground soft w.1
     low false w = sp_low s bounds g t ground soft w.1
 
-    by : (b : Bool) → (word_at t.mem (sp_of t + 2) == 0) ≡ b → IsHookWithin s.place bounds (Some (read_row b t)) t → Follows g setting 1 2 now (Leads s (Call (callees.Routine routines.HookRead)) (f, p) t)
+    by : (b : Bool) → (word_at t.mem (sp_of t + 2) == 0) ≡ b → IsHookWithin s.place bounds (Some (read_row b t)) t → Follows (IsFirstOr (IsOnTheWay g (f, p)) now) g setting 1 2 now (Leads s (Call (callees.Routine routines.HookRead)) (f, p) t)
     by b e w = hook_done g s setting f p routines.HookRead 0xFFF6 (read_row b t) t (read_state b t) now (ap (λ (c : Bool). Some (read_row c t)) e) refl m
         (read_served g s setting bounds (line_after s (f, p)) t m.next b ground set soft m.agrees (low_back g s (line_after s (f, p)) ground) e w) (read_met b t r (low b w)) r
 
 write_line : (g : Ground) (s : RawSetting) (setting : Setting) (bounds : Bounds) (f p : ℕ) (t : State) (now : Moment) → IsGround g s → IsSetFor s setting → stack_start ≤ bounds.soft → Moved g setting 0xFFF7 (called (line_after s (f, p)) t) now → IsRunning t
-    → IsHookWithin s.place bounds (Some (write_row (word_at t.mem (sp_of t + 2) == 1) t)) t → Follows g setting 1 2 now (Leads s (Call (callees.Routine routines.HookWrite)) (f, p) t)
+    → IsHookWithin s.place bounds (Some (write_row (word_at t.mem (sp_of t + 2) == 1) t)) t → Follows (IsFirstOr (IsOnTheWay g (f, p)) now) g setting 1 2 now (Leads s (Call (callees.Routine routines.HookWrite)) (f, p) t)
 write_line g s setting bounds f p t now ground set soft m r within = by (word_at t.mem (sp_of t + 2) == 1) refl within
   where
     low : (b : Bool) → IsHookWithin s.place bounds (Some (write_row b t)) t → sp_of t + 4 < 65536
     low true w = sp_low s bounds g t ground soft w.1
     low false w = sp_low s bounds g t ground soft w.1
 
-    by : (b : Bool) → (word_at t.mem (sp_of t + 2) == 1) ≡ b → IsHookWithin s.place bounds (Some (write_row b t)) t → Follows g setting 1 2 now (Leads s (Call (callees.Routine routines.HookWrite)) (f, p) t)
+    by : (b : Bool) → (word_at t.mem (sp_of t + 2) == 1) ≡ b → IsHookWithin s.place bounds (Some (write_row b t)) t → Follows (IsFirstOr (IsOnTheWay g (f, p)) now) g setting 1 2 now (Leads s (Call (callees.Routine routines.HookWrite)) (f, p) t)
     by b e w = hook_done g s setting f p routines.HookWrite 0xFFF7 (write_row b t) t (write_state b t) now (ap (λ (c : Bool). Some (write_row c t)) e) refl m
         (write_served g s setting bounds (line_after s (f, p)) t m.next b ground set soft m.agrees (low_back g s (line_after s (f, p)) ground) e w) (write_met b t r (low b w)) r
 
 call_line : (callee : Callee) (g : Ground) (s : RawSetting) (setting : Setting) (bounds : Bounds) (f p : ℕ) (t : State) (now : Moment) → IsGround g s → IsLaid g s f → IsSetFor s setting → slice_get (s.lines f) p ≡ Some (Call callee) → IsCounted g s (form_of (Call callee)) → HasArgumentRoom s (form_of (Call callee)) t
-    → IsRunning t → stack_start ≤ bounds.soft → IsRawWithin s bounds (form_of (Call callee)) t → Agrees g (g.at (f, p)) t now → Follows g setting 1 (raw_weight (form_of (Call callee))) now (Leads s (Call callee) (f, p) t)
+    → IsRunning t → stack_start ≤ bounds.soft → IsRawWithin s bounds (form_of (Call callee)) t → Agrees g (g.at (f, p)) t now → Follows (IsFirstOr (IsOnTheWay g (f, p)) now) g setting 1 (raw_weight (form_of (Call callee))) now (Leads s (Call callee) (f, p) t)
 call_line (callees.Function h reads gives) g s setting bounds f p t now ground laid set here counted room r soft within a = followed g s setting bounds f p (Call (callees.Function h reads gives)) t now ground laid here counted tt tt r soft within a
 call_line (callees.Pointer reads gives) g s setting bounds f p t now ground laid set here counted room r soft within a = followed g s setting bounds f p (Call (callees.Pointer reads gives)) t now ground laid here counted tt tt r soft within a
 call_line (callees.Routine routines.HookOpen) g s setting bounds f p t now ground laid set here counted room r soft within a =

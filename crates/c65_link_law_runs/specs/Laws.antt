@@ -1,5 +1,5 @@
 -- Moves and runs are followed by rows.
-use Rattle.std.specs.Prelude.{◌≡◌, ℕ, ◌<◌, ◌≤◌, Bool, IsTrue, All, Some, None, slice_get}
+use Rattle.std.specs.Prelude.{◌≡◌, ℕ, suc, ◌<◌, ◌≤◌, Bool, IsTrue, All, Some, None, slice_get}
 use Rattle.c65_mach.specs.Run.{Setting, Moment}
 use Rattle.c65_code.specs.declared.parts.RegSet.{RegSet}
 use Rattle.c65_code.specs.declared.routine.Routine.{Routine}
@@ -10,22 +10,23 @@ use Rattle.c65_code.specs.Placement.{stack_start}
 use Rattle.c65_code.specs.Forms.{Form, Far, Run, Enter, Through, form_of}
 use Rattle.c65_code.specs.Rows.{Row}
 use Rattle.c65_code.specs.RawMachine.{RawSetting, Bounds, RawMoves, RawComes, IsRawWithin, HasDone, raw_weight, target_of}
-use Rattle.c65_link_law_follow.specs.Agree.{Ground, Agrees}
+use Rattle.c65_link_law_follow.specs.Agree.{Ground, Agrees, IsFirstOr}
 use Rattle.c65_link_law_follow.specs.Laid.{IsLaid, IsGround, hook_address}
 use Rattle.c65_link_law_follow.specs.Laws.{IsCounted}
-use Rattle.c65_link_law_runs.specs.Follows.{Follows, IsSetFor, IsRunning, HasArgumentRoom}
+use Rattle.c65_link_law_runs.specs.Follows.{first_hook, IsOnTheWay, Follows, IsSetFor, IsRunning, HasArgumentRoom}
 
 -- a state that the line may lead to, of bytes with what is left of its input
 pub record Leads (s : RawSetting) (l : Line) (p : Place) (t : State) (q : Place) (u : State) : Type 0 where
   pub moves : RawMoves s l p t q u
   pub input : All (λ v. v < 256) u.input
 
--- A line that stays within its bounds is followed by at least one row and at most as many as it weighs.
+-- A line that stays within its bounds is followed by at least one row and at most as many as it weighs, of which only the first is done
+-- at its first byte, and those behind it inside of it or at a hook.
 abbrev pub MovesAreFollowed : Type 0
 MovesAreFollowed = (g : Ground) (s : RawSetting) (setting : Setting) (bounds : Bounds) (f p : ℕ) (l : Line) (t : State) (now : Moment)
     → IsGround g s → IsLaid g s f → IsSetFor s setting → slice_get (s.lines f) p ≡ Some l → IsCounted g s (form_of l) → HasArgumentRoom s (form_of l) t
     → IsRunning t → stack_start ≤ bounds.soft → IsRawWithin s bounds (form_of l) t → Agrees g (g.at (f, p)) t now
-    → Follows g setting 1 (raw_weight (form_of l)) now (Leads s l (f, p) t)
+    → Follows (IsFirstOr (IsOnTheWay g (f, p)) now) g setting 1 (raw_weight (form_of l)) now (Leads s l (f, p) t)
 
 -- a line that leads to a function by its address or its symbol
 abbrev pub LeadsToFunction : Form → Type 0
@@ -55,8 +56,14 @@ pub record HasCome (Q Inv : Place → State → Type 0) (q : Place) (u : State) 
   pub bytes : IsBytes u
   pub input : All (λ v. v < 256) u.input
 
--- Where the lines of units come to what a routine does within a weight, at most so many rows come to it.
+-- the address is of a byte of a line of one of the units, or of a hook
+pub data IsInUnits (g : Ground) (s : RawSetting) (units : ℕ → Bool) (a : ℕ) : Type 0 where
+  in_line : (q : Place) (l : Line) → IsTrue (units q.0) → slice_get (s.lines q.0) q.1 ≡ Some l → g.at q ≤ a → a < g.at (q.0, suc q.1) → IsInUnits g s units a
+  in_hook : first_hook ≤ a → IsInUnits g s units a
+
+-- Where the lines of units come to what a routine does within a weight, at most so many rows come to it, all done in these units or
+-- at hooks.
 abbrev pub RunsAreFollowed : Type 0
 RunsAreFollowed = (g : Ground) (s : RawSetting) (setting : Setting) (bounds : Bounds) (units : ℕ → Bool) (row : Row) (back : Place) (first : State) (w : ℕ) (p : Place) (t : State) (now : Moment)
     → IsGround g s → IsSetFor s setting → stack_start ≤ bounds.soft → AreUnits g s units → RawComes s bounds (HasDone row.ends row back first) w p t → IsAmong units p t → IsRunning t → Agrees g (g.at p) t now
-    → Follows g setting 0 w now (HasCome (HasDone row.ends row back first) (IsAmong units))
+    → Follows (λ m. IsInUnits g s units m.machine.pc) g setting 0 w now (HasCome (HasDone row.ends row back first) (IsAmong units))

@@ -43,7 +43,7 @@ use Rattle.c65_link_law.proofs.Symbols.{symbols_are_addresses}
 use Rattle.c65_link_law.proofs.Routines.{routines_are_coded}
 use Rattle.c65_link_law_spots.specs.Places.{address_in, code_end}
 use Rattle.c65_link_law_spots.specs.Sound.{IsSound}
-use Rattle.c65_link_law_spots.proofs.Sums.{none_there, same_there, sums, sums_grow, Room, room, begins_once}
+use Rattle.c65_link_law_spots.proofs.Sums.{none_there, same_there, sums, sums_grow, Room, room, ordered, begins_once}
 use Rattle.c65_link_law_spots.proofs.Chosen.{IsOf}
 use Rattle.c65_link_law_spots.proofs.Uses.{whole_in, not_nowhere_marks}
 use Rattle.c65_link_law_spots.proofs.Numbers.{numbers_once, map_there, Has, has, found, nowhere}
@@ -96,7 +96,7 @@ function_size f = (body_of f.1.lines).size
 abbrev pub routine_size : Routine → ℕ
 routine_size r = (body_of (routine_lines r)).size
 
-behind_sums : (fs : List (Sym × Segment)) (at : ℕ) → behind at fs ≡ sums at (map function_size fs)
+pub behind_sums : (fs : List (Sym × Segment)) (at : ℕ) → behind at fs ≡ sums at (map function_size fs)
 behind_sums [] at = refl
 behind_sums (f ∷ fs) at = behind_sums fs (plus at (function_size f))
 
@@ -234,6 +234,16 @@ function_once code j k f g s e here there same =
     begins_once (map function_size code.functions) (first_address code) j k (function_size f) (function_size g) (omega (arith, first, second, third, fourth, last)) (omega (arith, end, second, third, fourth, last))
     (map_there function_size code.functions j f here) (map_there function_size code.functions k g there) (segment_full f.1.lines (s.segment j f here)) (segment_full g.1.lines (s.segment k g there))
     (sym (function_at code j) ∙ same ∙ function_at code k)
+
+-- a function ends before the next one begins
+pub functions_apart : (code : Code) (i j : ℕ) (f : Sym × Segment) → Ends code → slice_get code.functions i ≡ Some f → i < j → address_of code i + function_size f ≤ address_of code j
+functions_apart code i j f e here less =
+    let end : functions_to code ≡ sums (first_address code) (map function_size code.functions) = behind_sums code.functions (first_address code) in
+    let first = e.functions in let second = e.routines in let third = e.stored in let fourth = e.zeros in let last = e.all in
+    let r : Room (first_address code) (map function_size code.functions) i (function_size f) = room (map function_size code.functions) (first_address code) i (function_size f) (omega (arith, first, second, third, fourth, last)) (omega (arith, end, first, second, third, fourth, last)) (map_there function_size code.functions i f here) in
+    let after_it = ordered (map function_size code.functions) (first_address code) (suc i) j (omega (arith, first, second, third, fourth, last)) (omega (arith, less)) in
+    let stop = r.end in let one = function_at code i in let two = function_at code j in
+    omega (arith, stop, after_it, one, two)
 
 -- Routines
 

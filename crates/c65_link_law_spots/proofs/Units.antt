@@ -33,7 +33,7 @@ use Rattle.c65_link_law_spots.proofs.Spots.{Ends, ends, FunctionAt, function_sta
 
 -- The start
 
-abbrev entry_lines : Code → List Line
+abbrev pub entry_lines : Code → List Line
 entry_lines code = routine_lines (entry_of code)
 
 routines_before : (rs : List Routine) (tables : Tables) (w : Written) (m : Memory) (at : ℕ) → Stands m at (with_routines tables w rs).bytes → Stands m at w.bytes
@@ -70,6 +70,14 @@ record Unit_ (code : Code) (m : Memory) (lines : List Line) (base : ℕ) (symbol
   segment : IsSegment lines
   from : program_start ≤ base
   to : base + (body_of lines).size ≤ code_end code
+
+-- the start ends where the first function begins
+pub start_ends : (code : Code) → Ends code → program_start + (body_of (entry_lines code)).size ≡ first_address code
+start_ends code e =
+    let first = e.functions in let second = e.routines in let third = e.stored in let fourth = e.zeros in let last = e.all in
+    let grown : Grows program_start (first_address code) = more program_start (body_of (entry_lines code)).size (omega arith) in
+    let room : Fits program_start (body_of (entry_lines code)).size = fits program_start (body_of (entry_lines code)).size (first_address code) (omega arith) (record { least = omega arith; most = grown.most }) (omega (arith, first, second, third, fourth, last)) in
+    sym room.sum
 
 entry_unit : (code : Code) (m : Memory) → Ends code → Stands m program_start (file_of code) → Unit_ code m (entry_lines code) program_start (main_address code (layout_in code) ∷ [])
 entry_unit code m e stands =
@@ -111,7 +119,7 @@ routine_unit code plain m k r is e stands here =
 
 -- Units by number
 
-segment_there : (fs : List (Sym × Segment)) (k : ℕ) (g : Sym × Segment) → ((i j : ℕ) (f h : Sym × Segment) → slice_get fs i ≡ Some f → slice_get fs j ≡ Some h → f.0.0 ≡ h.0.0 → i ≡ j) → slice_get fs k ≡ Some g → segment_of fs g.0.0 ≡ g.1
+pub segment_there : (fs : List (Sym × Segment)) (k : ℕ) (g : Sym × Segment) → ((i j : ℕ) (f h : Sym × Segment) → slice_get fs i ≡ Some f → slice_get fs j ≡ Some h → f.0.0 ≡ h.0.0 → i ≡ j) → slice_get fs k ≡ Some g → segment_of fs g.0.0 ≡ g.1
 segment_there [] k g once here = none_there g here
 segment_there (f ∷ fs) zero g once here =
     let same : f ≡ g = same_there f g here in
@@ -122,10 +130,10 @@ segment_there (f ∷ fs) (suc k) g once here =
     ∙ segment_there fs k g (λ i j x y a b e. (let z = once (suc i) (suc j) x y a b e in omega (arith, z))) here
 
 -- the parts of a unit by its number
-record Parts (code : Code) (f : ℕ) (lines : List Line) (base : ℕ) (symbols : List ℕ) : Type 0 where
-  lines_is : lines_in code f ≡ lines
-  base_is : base_in code f ≡ base
-  symbols_is : symbols_in code f ≡ symbols
+pub record Parts (code : Code) (f : ℕ) (lines : List Line) (base : ℕ) (symbols : List ℕ) : Type 0 where
+  pub lines_is : lines_in code f ≡ lines
+  pub base_is : base_in code f ≡ base
+  pub symbols_is : symbols_in code f ≡ symbols
 
 placed : (code : Code) (m : Memory) (f : ℕ) (lines : List Line) (base : ℕ) (symbols : List ℕ) → Parts code f lines base symbols → Unit_ code m lines base symbols → IsUnitPlaced code m f
 placed code m f lines base symbols p u =
@@ -137,7 +145,7 @@ placed code m f lines base symbols p u =
     let all : Unit_ code m (lines_in code f) (base_in code f) (symbols_in code f) = subst (λ (x : List ℕ). Unit_ code m (lines_in code f) (base_in code f) x) symbols_is two in
     record { coded = all.coded; segment = all.segment; from = all.from; to = all.to }
 
-function_parts : (code : Code) (k : ℕ) (g : Sym × Segment) → IsSound code → slice_get code.functions k ≡ Some g → Parts code g.0.0 g.1.lines (address_in code g.0.0) (layout_in code).symbols
+pub function_parts : (code : Code) (k : ℕ) (g : Sym × Segment) → IsSound code → slice_get code.functions k ≡ Some g → Parts code g.0.0 g.1.lines (address_in code g.0.0) (layout_in code).symbols
 function_parts code k g s here =
     let inside : nat_lt g.0.0 (length code.symbols) ≡ true = lt-ltb g.0.0 (length code.symbols) (s.writable.function_known k g here) in
     record {
@@ -157,7 +165,7 @@ runtime_parts code n =
       symbols_is = ap (λ (b : Bool). if b then (layout_in code).symbols else main_address code (layout_in code) ∷ []) outside;
     }
 
-routine_parts : (code : Code) (r : Routine) → Parts code (length code.symbols + number_of r) (routine_lines r) (slice_index (layout_in code).routines (number_of r)) (main_address code (layout_in code) ∷ [])
+pub routine_parts : (code : Code) (r : Routine) → Parts code (length code.symbols + number_of r) (routine_lines r) (slice_index (layout_in code).routines (number_of r)) (main_address code (layout_in code) ∷ [])
 routine_parts code r =
     let p = runtime_parts code (number_of r) in
     let low = numbered r in
@@ -168,7 +176,7 @@ routine_parts code r =
       symbols_is = p.symbols_is;
     }
 
-entry_parts : (code : Code) → Parts code (length code.symbols + routine_count) (entry_lines code) program_start (main_address code (layout_in code) ∷ [])
+pub entry_parts : (code : Code) → Parts code (length code.symbols + routine_count) (entry_lines code) program_start (main_address code (layout_in code) ∷ [])
 entry_parts code = let p = runtime_parts code routine_count in record { lines_is = p.lines_is; base_is = p.base_is; symbols_is = p.symbols_is }
 
 pub units_stand : UnitsStand

@@ -2,4 +2,4 @@ use Rattle.c65_headline.proofs.Top.{holds}
 use Rattle.c65_headline.proofs.laws.headline_holds.Goals as goal
 
 pub returns : goal.returns
-returns c = holds c.units_are_one.ensures c.turns_go_on.ensures
+returns c = holds c.units_are_one.ensures c.turns_go_on.ensures c.linked_runtimes_are_met.ensures c.notes_are_true.ensures

@@ -1,0 +1,4 @@
+pub mod Instructions
+pub mod Tables
+pub mod Files
+pub mod Read
