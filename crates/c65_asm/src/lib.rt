@@ -16,3 +16,4 @@ mod words;
 
 pub use reading::{Answer, read, read_printed};
 pub use texts::{print, print_known};
+pub use words::is_symbol;

@@ -27,17 +27,18 @@ use Rattle.c65_gendirect.specs.declared.compare.Sides.TheVariants.{Word, Long}
 use Rattle.c65_gendirect.specs.declared.relation.Relation.{Relation}
 use Rattle.c65_gendirect.specs.declared.through.Stored.{Stored}
 use Rattle.c65_gendirect.specs.declared.through.Stored.TheVariants as stores
-use Rattle.c65_gendirect.specs.Through.{read_bytes_code, read_store_code, point_code, byte_through_code, word_through_code}
+use Rattle.c65_gendirect.specs.Pointed.{pointer_code, pointed_sum_code}
+use Rattle.c65_gendirect.specs.Through.{read_bytes_code, point_code, byte_through_code, word_through_code}
 use Rattle.c65_gendirect.specs.declared.relation.Relation.TheVariants as relations
 use Rattle.c65_gendirect.specs.Bytes.{op_of, takes_y, aside, back, number_byte, place_byte, byte_above, byte_of, converted}
 use Rattle.c65_gendirect.specs.Words.{instruction, carry_code, first_byte_code, both_bytes_code, onward_code, end_label, is_and, is_number, word_code, add_number_code, taken_from_code, long_mask_code}
-use Rattle.c65_gendirect.specs.Compare.{lowest_code, difference_code, order_code, second_code, same_code, compare_code, compare_byte_code}
+use Rattle.c65_gendirect.specs.Compare.{lowest_code, difference_code, by_sign, order_code, second_code, same_code, is_sign_test, highest_code, ordered_code, compare_code, compare_byte_code}
 use Rattle.c65_gendirect.specs.Tests.{or_code, all_zero_code, zero_test_code, truth_code}
 use Rattle.c65_genshift.specs.declared.quick.Quick.{Quick}
 use Rattle.c65_genshift.specs.declared.quick.Quick.TheVariants.{Shift, Mask}
 use Rattle.c65_genshift.specs.Shifts.{calls_code, turns_code, left_turn, right_turn, left_byte_code, right_byte_code, left_one_code, left_two_code, left_three_code, right_one_code, right_two_code, right_three_code, labelled, left_word_code, right_word_code, left_long_code, right_long_code, shift_code}
 use Rattle.c65_genshift.specs.Quick.{power_of, mask_word_code, mask_long_code, mask_by_width, quick_lines, quick_code, elements_by, elements_code}
-use Rattle.c65_mach.specs.declared.rows.Op.TheVariants.{Asl, Bne, Cmp, Cpx, Dey, Lda, Ldx, Ldy, Lsr, Ora, Pla, Sbc, Sec, Sta, Stx, Sty, Tax, Txa}
+use Rattle.c65_mach.specs.declared.rows.Op.TheVariants.{Adc, Asl, Bne, Cmp, Cpx, Dey, Lda, Ldx, Ldy, Lsr, Ora, Pla, Sbc, Sec, Sta, Stx, Sty, Tax, Txa}
 use Rattle.c65_genwide.specs.Lines.{value}
 use Rattle.c65_genload.specs.Words.{sreg, ptr1, tmp1, tmp2, implied, zero_page, by_y, branch}
 use Rattle.c65_genload.specs.Places.{byte_more}
@@ -116,7 +117,7 @@ WellStored n (stores.Single low) = WellByte n low
 WellStored n (stores.Word low high) = WellByte n low × WellByte n high
 WellStored n (stores.Fixed low high) = WellByte n low × WellByte n high
 
-read_bytes_well : (n at : ℕ) (stored : Stored) → at < 2 ^ 8 → WellStored n stored → AllWell n (read_bytes_code at stored)
+pub read_bytes_well : (n at : ℕ) (stored : Stored) → at < 2 ^ 8 → WellStored n stored → AllWell n (read_bytes_code at stored)
 read_bytes_well n at (stores.Single low) few h = well_append n (op_of Lda low) _ (op_well n Lda low h) (record { all = search (rules, few) })
 read_bytes_well n at (stores.Word low high) few h =
     well_append n (op_of Lda low) _ (op_well n Lda low h.0) (well_more n _ _ (tt, tt) (well_append n (op_of Lda high) _ (op_well n Lda high h.1) (record { all = search rules })))
@@ -124,11 +125,6 @@ read_bytes_well n at (stores.Fixed low high) few h =
     let first : AllWell n (value Ldy (byte_more at 1) ∷ by_y Sta ptr1 ∷ implied Tax ∷ []) = record { all = search rules } in
     let last : AllWell n (value Ldy at ∷ by_y Sta ptr1 ∷ []) = record { all = search (rules, few) } in
     well_append n (op_of Lda high) _ (op_well n Lda high h.1) (well_append n (value Ldy (byte_more at 1) ∷ by_y Sta ptr1 ∷ implied Tax ∷ []) _ first (well_append n (op_of Lda low) _ (op_well n Lda low h.0) last))
-
-pub read_store_well : (n at : ℕ) (stored : Stored) → at < 2 ^ 8 → WellStored n stored → AllWell n (read_store_code at stored)
-read_store_well n at stored few h =
-    let to : AllWell n (zero_page Sta ptr1 ∷ zero_page Stx (ptr1 + 1) ∷ []) = record { all = search rules } in
-    well_append n (zero_page Sta ptr1 ∷ zero_page Stx (ptr1 + 1) ∷ []) (read_bytes_code at stored) to (read_bytes_well n at stored few h)
 
 point_well : (n : ℕ) (low high : OperandByte) → WellByte n low → WellByte n high → AllWell n (point_code low high)
 point_well n low high h k =
@@ -182,6 +178,14 @@ pub word_well : (n : ℕ) (op : BinaryOp) (low high : OperandByte) (l : ℕ) →
 word_well n op low high l h k room =
     well_if n (is_number 0 high) _ _ (well_append n (first_byte_code op low) _ (first_byte_well n op low h) (onward_well n op l room))
     (well_if n (is_and op && is_number 255 high) _ _ (first_byte_well n op low h) (well_append n (both_bytes_code op low high) _ (both_bytes_well n op low high h k) (end_well n op l room)))
+
+pub pointer_code_well : (n : ℕ) → AllWell n pointer_code
+pointer_code_well n = record { all = search rules }
+
+pub pointed_sum_well : (n : ℕ) (low high : OperandByte) → WellByte n low → WellByte n high → AllWell n (pointed_sum_code low high)
+pointed_sum_well n low high h k =
+    let last : AllWell n (zero_page Sta (ptr1 + 1) ∷ []) = record { all = search rules } in
+    well_append n (first_byte_code ops.Add low) _ (first_byte_well n ops.Add low h) (well_more n _ _ (tt, omega arith) (well_more n _ _ (tt, tt) (well_append n (op_of Adc high) _ (op_well n Adc high k) last)))
 
 and_right : (a b : Bool) → true ≡ (a && b) → b ≡ true
 and_right true true is = refl
@@ -246,10 +250,19 @@ same_well n (Long d0 d1 d2 d3) to h room =
 end_same : (n : ℕ) (op : Op) (l to : ℕ) → l < 2 ^ 32 → to < 2 ^ 32 → AllWell n (branch op to ∷ Label l ∷ [])
 end_same n op l to room low = record { all = ((tt, low), (room, tt)) }
 
+highest_well : (n : ℕ) (s : Sides) → AllWell n (highest_code s)
+highest_well n (Word low high) = record { all = search rules }
+highest_well n (Long d0 d1 d2 d3) = record { all = search rules }
+
+ordered_well : (n : ℕ) (r : Relation) (signed : Bool) (s : Sides) (l to : ℕ) → WellSides n s → l < 2 ^ 32 → to < 2 ^ 32 → AllWell n (ordered_code r signed s l to)
+ordered_well n r signed s l to h room low =
+    well_if n (is_sign_test r signed s) (highest_code s ++ (Label l ∷ branch (by_sign r) to ∷ [])) _ (well_append n (highest_code s) _ (highest_well n s) (record { all = (room, ((tt, low), tt)) }))
+    (well_append n (difference_code r s) _ (difference_well n r s h) (order_well n r signed l to room low))
+
 pub compare_well : (n : ℕ) (r : Relation) (signed : Bool) (s : Sides) (l to : ℕ) → WellSides n s → l < 2 ^ 32 → to < 2 ^ 32 → AllWell n (compare_code r signed s l to)
 compare_well n relations.Equal signed s l to h room low = well_append n (same_code s l) _ (same_well n s l h room) (end_same n _ l to room low)
 compare_well n relations.Unequal signed s l to h room low = well_append n (same_code s to) _ (same_well n s to h low) (end_same n _ l to room low)
-compare_well n r signed s l to h room low = well_append n (difference_code r s) _ (difference_well n r s h) (order_well n r signed l to room low)
+compare_well n r signed s l to h room low = ordered_well n r signed s l to h room low
 
 byte_end : (n : ℕ) (op : Op) (to : ℕ) → to < 2 ^ 32 → AllWell n (branch op to ∷ [])
 byte_end n op to low = record { all = ((tt, low), tt) }

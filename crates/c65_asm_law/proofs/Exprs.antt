@@ -31,7 +31,7 @@ use Rattle.c65_genload.specs.Stores.{store_code}
 use Rattle.c65_gendirect.specs.declared.direct.Direct.{Direct}
 use Rattle.c65_gendirect.specs.declared.relation.Relation.{Relation}
 use Rattle.c65_gendirect.specs.Compare.{relation_of}
-use Rattle.c65_gendirect.specs.Through.{read_store_code, byte_through_code}
+use Rattle.c65_gendirect.specs.Through.{read_bytes_code, byte_through_code}
 use Rattle.c65_genexpr.specs.declared.storing.Storing.{Storing}
 use Rattle.c65_genexpr.specs.declared.storing.Storing.TheVariants as storing
 use Rattle.c65_genexpr.specs.declared.wanted.Wanted.{Wanted}
@@ -45,6 +45,8 @@ use Rattle.c65_genexpr.specs.declared.operating.Operating.TheVariants as ways
 use Rattle.c65_genexpr.specs.Direct.{kept_at, own_bytes}
 use Rattle.c65_genexpr.specs.Comparing.{relation_by, tested_by, comparing_of, below_side}
 use Rattle.c65_genexpr.specs.Operating.{operating_of, below_operand}
+use Rattle.c65_genexpr.specs.declared.destination.Destination.{Destination}
+use Rattle.c65_genexpr.specs.declared.destination.Destination.TheVariants.{Registers}
 use Rattle.c65_genexpr.specs.declared.operands.Operands.{Operands}
 use Rattle.c65_genexpr.specs.declared.operands.Operands.TheVariants.{Numbers, PointerFirst}
 use Rattle.c65_genexpr.specs.declared.arguments.Passed.{Passed}
@@ -53,7 +55,8 @@ use Rattle.c65_genexpr.specs.Types.{kind_of, outcome_of, kind_in, bare, offset_a
 use Rattle.c65_genexpr.specs.Places.{more, has_base, added_bytes, sum_has_base, object_place, place_of, target_of, object_code, target_code}
 use Rattle.c65_genexpr.specs.Operands.{residue_of, constant_in, operands_of, computes, same_truth, conversion_code, conversion_by}
 use Rattle.c65_genexpr.specs.Held.{keep_code, byte_behind_code}
-use Rattle.c65_genexpr.specs.Storing.{storing_of, below_value, assigned_by}
+use Rattle.c65_genexpr.specs.Destination.{arrived, destination_of}
+use Rattle.c65_genexpr.specs.Storing.{storing_of, below_value, base_for, assigned_by}
 use Rattle.c65_genexpr.specs.Steps.{amount_of, open_code, close_code}
 use Rattle.c65_genexpr.specs.Arguments.{is_fast, is_counted, stays, passed_size, joined, passed_of, argument_bytes, argument_code}
 use Rattle.c65_genexpr.specs.Calls.{named_in, named}
@@ -62,11 +65,12 @@ use Rattle.c65_genfield.specs.Bits.{byte_field}
 use Rattle.c65_genexpr.specs.Code.{width_in, constant_code, tested_load, load_by, behind_open, compound, call_by, expr_code, node_code, base_code, pointer_base_code, args_code, operator_code, comparison_code, joint_code}
 use Rattle.c65_gen_law_lines.proofs.Drops.{sum_uses}
 use Rattle.c65_asm_law.proofs.Well.{AllWell, well_append, well_none, well_more, well_if}
-use Rattle.c65_asm_law.proofs.Loads.{WellPlace, narrow_well, bytes_well, number_well, symbol_well, offset_well, push_well, test_well, hold_well, load_well, store_well, copy_well}
+use Rattle.c65_asm_law.proofs.Loads.{WellPlace, narrow_well, bytes_well, number_well, symbol_well, offset_well, push_well, test_well, hold_well, store_well, copy_well}
 use Rattle.c65_asm_law.proofs.Known.{Knows}
 use Rattle.c65_asm_law.proofs.Places.{place_well, object_well, further_well, spill_well, conversion_well, unary_well, open_well, close_well, named_well, direct_well, pointer_well, argument_well}
-use Rattle.c65_asm_law.proofs.Directs.{WellRead, read_store_well, byte_through_well, word_through_well, zero_test_well, truth_well}
+use Rattle.c65_asm_law.proofs.Directs.{WellRead, read_bytes_well, byte_through_well, word_through_well, zero_test_well, truth_well}
 use Rattle.c65_asm_law.proofs.Steps.{step_well}
+use Rattle.c65_asm_law.proofs.Pointed.{arrived_well, fetch_well}
 use Rattle.c65_asm_law.proofs.Fields.{loaded_test_well}
 use Rattle.c65_asm_law.proofs.Forms.{WellStoring, storing_well, keep_well, byte_behind_well, word_behind_well, kept_well, own_well, comparing_well, comparison_well, operating_well, operator_well}
 
@@ -118,7 +122,7 @@ tested_load_well n (Some d) kind s to base test h aim b k = well_append n base _
 tested_load_well n None kind s to base test h aim b k = well_append n base test b k
 
 load_by_well : (n : ℕ) (w : Wanted) (place : Place) (access : Access) (lines : List Line) → WellPlace n place → WellWanted w → AllWell n lines → AllWell n (load_by w place access lines)
-load_by_well n Value place access lines h aim k = well_append n lines _ k (load_well n place access h)
+load_by_well n Value place access lines h aim k = well_append n lines _ k (fetch_well n place access h)
 load_by_well n (Test to s) place access lines h aim k = tested_load_well n (kept_at place access) (kept.type_in access) s to lines _ (kept_well n place access h) aim k (loaded_test_well n (byte_field access) place access s to h aim)
 
 converted_well : (n : ℕ) (w : Wanted) (same : Bool) (t : Ty) (from : IntType) (lines : List Line) → WellWanted w → AllWell n lines → AllWell n (conversion_by w same t from lines)
@@ -169,7 +173,7 @@ choice_well n lo c a b room hc ha hb =
     well_append n c _ hc (well_append n a _ ha (well_more n _ _ (tt, room) (well_more n _ _ first second)))
 
 assigned_well : (n : ℕ) (how : Storing) (place : Place) (access : Access) (a b : List Line) → WellStoring n how → WellPlace n place → AllWell n a → AllWell n b → AllWell n (assigned_by how place access a b)
-assigned_well n (storing.Left at stored) place access a b k h ha hb = well_append n a _ ha (well_append n (read_store_code at stored) _ (read_store_well n at stored k.0 k.1) (narrow_well n (kept.type_in access)))
+assigned_well n (storing.Left at stored) place access a b k h ha hb = well_append n a _ ha (well_append n (read_bytes_code at stored) _ (read_bytes_well n at stored k.0 k.1) (narrow_well n (kept.type_in access)))
 assigned_well n (storing.RightByte at low high) place access a b k h ha hb = well_append n b _ hb (well_append n (byte_through_code at low high) _ (byte_through_well n at low high k.0 k.1.0 k.1.1) (narrow_well n (kept.type_in access)))
 assigned_well n (storing.RightWord at low high) place access a b k h ha hb = well_append n b _ hb (word_through_well n at low high k.0 k.1)
 assigned_well n (storing.HeldByte at) place access a b k h ha hb =
@@ -222,14 +226,14 @@ tree_handed n f e pushed lo same Value tree few aim room = tree pushed lo Value 
 tree_handed n f e pushed lo true (Test to s) tree few aim room = tree pushed lo (Test to s) few aim room
 tree_handed n f e pushed lo false (Test to s) tree few aim room = tree pushed lo Value few tt room
 
-operator_in : (n : ℕ) (u : UnitTy) (f : Framed) (pushed lo : ℕ) (op : BinaryOp) (a b : Typed) → Knows f u n → IsTyped u a → IsTyped u b → WellTree n f a → WellTree n f b → pushed < 2 ^ 16 → lo + (1 + (uses None a + uses None b)) ≤ 2 ^ 32 → AllWell n (operator_code f pushed lo op a b)
-operator_in n u f pushed lo op a b knows ha hb ta tb few room =
+operator_in : (n : ℕ) (u : UnitTy) (f : Framed) (pushed lo : ℕ) (d : Destination) (op : BinaryOp) (a b : Typed) → Knows f u n → IsTyped u a → IsTyped u b → WellTree n f a → WellTree n f b → pushed < 2 ^ 16 → lo + (1 + (uses None a + uses None b)) ≤ 2 ^ 32 → AllWell n (operator_code f pushed lo d op a b)
+operator_in n u f pushed lo d op a b knows ha hb ta tb few room =
     let operands : Operands = operands_of f (bare a) (bare b) in
     let how : Operating = operating_of f pushed op operands a b in
     let bytes : ℕ = waiting (width_of (computes operands)) in
     let left : AllWell n (expr_code f pushed (lo + 1) Value a) = ta pushed (lo + 1) Value few tt (omega (arith, room)) in
     let right : AllWell n (expr_code f (below_operand how pushed bytes) (lo + 1 + uses None a) Value b) = tb (below_operand how pushed bytes) (lo + 1 + uses None a) Value (below_operand_few how pushed bytes few) tt (omega (arith, room)) in
-    operator_well n how op operands (kind_in b) lo _ _ (operating_well n u f pushed op operands a b knows ha hb) (omega (arith, room)) left right
+    operator_well n d how op operands (kind_in b) lo _ _ (operating_well n u f pushed op operands a b knows ha hb) (omega (arith, room)) left right
 
 comparison_in : (n : ℕ) (u : UnitTy) (f : Framed) (pushed own to : ℕ) (s : Bool) (op : BinaryOp) (r : Relation) (a b : Typed) → Knows f u n → IsTyped u a → IsTyped u b → WellTree n f a → WellTree n f b → pushed < 2 ^ 16 → to < 2 ^ 32 → own + comparison_uses (relation_by s r) a b ≤ 2 ^ 32 → AllWell n (comparison_code f pushed own to s op r a b)
 comparison_in n u f pushed own to s op r a b knows ha hb ta tb few aim room =
@@ -244,11 +248,18 @@ comparison_in n u f pushed own to s op r a b knows ha hb ta tb few aim room =
 -- a comparison, or another operator
 binary_well : (n : ℕ) (u : UnitTy) (f : Framed) (pushed lo : ℕ) (w : Wanted) (width : Width) (m : Option Relation) (op : BinaryOp) (a b : Typed) → Knows f u n → IsTyped u a → IsTyped u b → WellTree n f a → WellTree n f b → pushed < 2 ^ 16 → WellWanted w
     → lo + by_relation m (1 + (uses None a + uses None b)) (λ r. truth_labels (sense_of w) + comparison_uses (relation_by (sense w) r) a b) ≤ 2 ^ 32
-    → AllWell n (by_relation m (wanted w width (operator_code f pushed lo op a b)) (λ r. truth_by w lo (comparison_code f pushed (inner w lo) (aimed w lo) (sense w) op r a b)))
-binary_well n u f pushed lo w width None op a b knows ha hb ta tb few aim room = wanted_well n w width _ aim (operator_in n u f pushed lo op a b knows ha hb ta tb few room)
+    → AllWell n (by_relation m (wanted w width (operator_code f pushed lo Registers op a b)) (λ r. truth_by w lo (comparison_code f pushed (inner w lo) (aimed w lo) (sense w) op r a b)))
+binary_well n u f pushed lo w width None op a b knows ha hb ta tb few aim room = wanted_well n w width _ aim (operator_in n u f pushed lo Registers op a b knows ha hb ta tb few room)
 binary_well n u f pushed lo w width (Some r) op a b knows ha hb ta tb few aim room =
     let to : aimed w lo < 2 ^ 32 = aim_low w lo (comparison_uses (relation_by (sense w) r) a b) aim room in
     truth_by_well n w lo _ (omega (arith, room)) (comparison_in n u f pushed (inner w lo) (aimed w lo) (sense w) op r a b knows ha hb ta tb few to (omega (arith, room)))
+
+-- the same where the result goes elsewhere
+binary_base_well : (n : ℕ) (u : UnitTy) (f : Framed) (pushed lo : ℕ) (d : Destination) (m : Option Relation) (t : QTy) (op : BinaryOp) (a b : Typed) → Knows f u n → IsTyped u a → IsTyped u b → WellTree n f a → WellTree n f b → pushed < 2 ^ 16
+    → lo + by_relation m (1 + (uses None a + uses None b)) (λ r. truth_labels None + comparison_uses (relation_by false r) a b) ≤ 2 ^ 32 → AllWell n (node_code f pushed lo Value t (binary op a b))
+    → AllWell n (by_relation m (operator_code f pushed lo d op a b) (λ r. node_code f pushed lo Value t (binary op a b) ++ arrived d))
+binary_base_well n u f pushed lo d None t op a b knows ha hb ta tb few room whole = operator_in n u f pushed lo d op a b knows ha hb ta tb few room
+binary_base_well n u f pushed lo d (Some r) t op a b knows ha hb ta tb few room whole = well_append n (node_code f pushed lo Value t (binary op a b)) (arrived d) whole (arrived_well n d)
 
 -- `&&` and `||`
 joint_in : (n : ℕ) (f : Framed) (pushed own to : ℕ) (s stop straight : Bool) (a b : Typed) → WellTree n f a → WellTree n f b → pushed < 2 ^ 16 → to < 2 ^ 32 → own + (way_labels straight + (uses (Some stop) a + uses (Some s) b)) ≤ 2 ^ 32
@@ -280,8 +291,8 @@ mutual
   node_well n u f pushed lo w t (deref e) knows h few aim room = wanted_well n w (width_in t) _ aim (expr_well n u f pushed lo Value e knows h.0 few tt room)
   node_well n u f pushed lo w t (member e m) knows h few aim room = wanted_well n w (width_in t) _ aim (well_append n (expr_code f pushed lo Value e) _ (expr_well n u f pushed lo Value e knows h.0 few tt room) (offset_well n (offset_at (types_of f.parts.types) (bare e) m)))
   node_well n u f pushed lo w t (load e) knows h few aim room =
-      let place : Place = place_of f pushed e in
-      load_by_well n w place (access_of (types_of f.parts.types) e) _ (place_well n u f pushed e knows h.0) aim (base_well n u f pushed lo e knows h.0 few room)
+      let access : Access = access_of (types_of f.parts.types) e in
+      load_by_well n w (place_of f pushed e) access _ (place_well n u f pushed e knows h.0) aim (base_well n u f pushed lo (destination_of access) e knows h.0 few room)
   node_well n u f pushed lo w t (address e) knows h few aim room = wanted_well n w (width_in t) _ aim (expr_well n u f pushed lo Value e knows h.0 few tt room)
   node_well n u f pushed lo w t (decay e) knows h few aim room = wanted_well n w (width_in t) _ aim (expr_well n u f pushed lo Value e knows h.0 few tt room)
   node_well n u f pushed lo w t (convert e) knows h few aim room =
@@ -303,15 +314,15 @@ mutual
   node_well n u f pushed lo w t (assign a b) knows h few aim room =
       let place : Place = place_of f pushed a in
       let how : Storing = storing_of f pushed a b in
-      wanted_well n w (width_in t) _ aim (assigned_well n how place (access_of (types_of f.parts.types) a) _ _ (storing_well n u f pushed a b knows h.0 h.1) (place_well n u f pushed a knows h.0) (base_well n u f pushed lo a knows h.0 few (omega (arith, room))) (expr_well n u f (below_value how pushed place) (lo + uses None a) Value b knows h.1 (below_value_few how pushed place few) tt (omega (arith, room))))
+      wanted_well n w (width_in t) _ aim (assigned_well n how place (access_of (types_of f.parts.types) a) _ _ (storing_well n u f pushed a b knows h.0 h.1) (place_well n u f pushed a knows h.0) (base_well n u f pushed lo (base_for how) a knows h.0 few (omega (arith, room))) (expr_well n u f (below_value how pushed place) (lo + uses None a) Value b knows h.1 (below_value_few how pushed place few) tt (omega (arith, room))))
   node_well n u f pushed lo w t (assign_op op k a b) knows h few aim room =
-      wanted_well n w (width_in t) _ aim (compound_well n f pushed op (Numbers k) a b _ _ (place_well n u f pushed a knows h.0) (base_well n u f pushed lo a knows h.0 few (omega (arith, room))) (expr_well n u f (behind_open f pushed (Numbers k) a) (lo + uses None a) Value b knows h.1 (omega arith) tt (omega (arith, room))))
+      wanted_well n w (width_in t) _ aim (compound_well n f pushed op (Numbers k) a b _ _ (place_well n u f pushed a knows h.0) (base_well n u f pushed lo Registers a knows h.0 few (omega (arith, room))) (expr_well n u f (behind_open f pushed (Numbers k) a) (lo + uses None a) Value b knows h.1 (omega arith) tt (omega (arith, room))))
   node_well n u f pushed lo w t (assign_step op a b) knows h few aim room =
       let operands : Operands = PointerFirst (target_bytes f (bare a)) in
-      wanted_well n w (width_in t) _ aim (compound_well n f pushed op operands a b _ _ (place_well n u f pushed a knows h.0) (base_well n u f pushed lo a knows h.0 few (omega (arith, room))) (expr_well n u f (behind_open f pushed operands a) (lo + uses None a) Value b knows h.1 (omega arith) tt (omega (arith, room))))
+      wanted_well n w (width_in t) _ aim (compound_well n f pushed op operands a b _ _ (place_well n u f pushed a knows h.0) (base_well n u f pushed lo Registers a knows h.0 few (omega (arith, room))) (expr_well n u f (behind_open f pushed operands a) (lo + uses None a) Value b knows h.1 (omega arith) tt (omega (arith, room))))
   node_well n u f pushed lo w t (step how e) knows h few aim room =
       let place : Place = place_of f pushed e in
-      wanted_well n w (width_in t) _ aim (well_append n (base_code f pushed (lo + 1) e) _ (base_well n u f pushed (lo + 1) e knows h.0 few (omega (arith, room)))
+      wanted_well n w (width_in t) _ aim (well_append n (base_code f pushed (lo + 1) Registers e) _ (base_well n u f pushed (lo + 1) Registers e knows h.0 few (omega (arith, room)))
       (step_well n how (target_bytes f (bare e)) (amount_of f how (bare e)) place (access_of (types_of f.parts.types) e) lo (place_well n u f pushed e knows h.0) (omega (arith, room))))
   node_well n u f pushed lo w t (copy a b) knows h few aim room =
       wanted_well n w (width_in t) _ aim (well_append n (expr_code f pushed lo Value a) _ (expr_well n u f pushed lo Value a knows h.0 few tt (omega (arith, room))) (well_append n (push_code Ax) _ (push_well n Ax) (well_append n (expr_code f (more pushed 2) (lo + uses None a) Value b) _ (expr_well n u f (more pushed 2) (lo + uses None a) Value b knows h.1 (omega arith) tt (omega (arith, room))) (copy_well n (type_bytes f (type_in t))))))
@@ -325,25 +336,27 @@ mutual
       wanted_well n w (width_in t) _ aim (well_append n (expr_code f pushed lo Value e) _ (called_well n u f pushed lo t e knows h.0 few room) (spill_well n (object_code f pushed i) (extent_by (type_bytes f (type_in t))) (object_well n f pushed i few (knows.objects i (slice_get_within u.objects i h.1.object h.1.there)))))
   node_well n u f pushed lo w t further knows h few aim room = wanted_well n w (width_in t) _ aim (further_well n f pushed few)
 
-  pub base_well : (n : ℕ) (u : UnitTy) (f : Framed) (pushed lo : ℕ) (e : Typed) → Knows f u n → IsTyped u e → pushed < 2 ^ 16 → lo + uses None e ≤ 2 ^ 32 → AllWell n (base_code f pushed lo e)
-  base_well n u f pushed lo (node t (literal i)) knows h few room = well_none n
-  base_well n u f pushed lo (node t (object i)) knows h few room = target_well n (object_place f pushed i) (object_code f pushed i) (object_well n f pushed i few (knows.objects i (slice_get_within u.objects i h.0 h.1)))
-  base_well n u f pushed lo (node t (deref e)) knows h few room = pointer_base_well n u f pushed lo e knows h.0 few room
-  base_well n u f pushed lo (node t (member e m)) knows h few room =
+  pub base_well : (n : ℕ) (u : UnitTy) (f : Framed) (pushed lo : ℕ) (d : Destination) (e : Typed) → Knows f u n → IsTyped u e → pushed < 2 ^ 16 → lo + uses None e ≤ 2 ^ 32 → AllWell n (base_code f pushed lo d e)
+  base_well n u f pushed lo d (node t (literal i)) knows h few room = well_none n
+  base_well n u f pushed lo d (node t (object i)) knows h few room =
+      target_well n (object_place f pushed i) (object_code f pushed i ++ arrived d) (well_append n (object_code f pushed i) (arrived d) (object_well n f pushed i few (knows.objects i (slice_get_within u.objects i h.0 h.1))) (arrived_well n d))
+  base_well n u f pushed lo d (node t (deref e)) knows h few room = pointer_base_well n u f pushed lo d e knows h.0 few room
+  base_well n u f pushed lo d (node t (member e m)) knows h few room =
       let k : ℕ = offset_at (types_of f.parts.types) (bare e) m in
-      well_if n (has_base (place_of f pushed e) k) (base_code f pushed lo e) (expr_code f pushed lo Value e ++ offset_code k) (base_well n u f pushed lo e knows h.0 few room)
-      (well_append n (expr_code f pushed lo Value e) (offset_code k) (expr_well n u f pushed lo Value e knows h.0 few tt room) (offset_well n k))
-  base_well n u f pushed lo (node t e) knows h few room = node_well n u f pushed lo Value t e knows h few tt room
+      well_if n (has_base (place_of f pushed e) k) (base_code f pushed lo d e) (expr_code f pushed lo Value e ++ (offset_code k ++ arrived d)) (base_well n u f pushed lo d e knows h.0 few room)
+      (well_append n (expr_code f pushed lo Value e) _ (expr_well n u f pushed lo Value e knows h.0 few tt room) (well_append n (offset_code k) (arrived d) (offset_well n k) (arrived_well n d)))
+  base_well n u f pushed lo d (node t e) knows h few room = well_append n (node_code f pushed lo Value t e) (arrived d) (node_well n u f pushed lo Value t e knows h few tt room) (arrived_well n d)
 
-  pointer_base_well : (n : ℕ) (u : UnitTy) (f : Framed) (pushed lo : ℕ) (e : Typed) → Knows f u n → IsTyped u e → pushed < 2 ^ 16 → lo + uses None e ≤ 2 ^ 32 → AllWell n (pointer_base_code f pushed lo e)
-  pointer_base_well n u f pushed lo (node t (binary op a b)) knows h few room =
+  pointer_base_well : (n : ℕ) (u : UnitTy) (f : Framed) (pushed lo : ℕ) (d : Destination) (e : Typed) → Knows f u n → IsTyped u e → pushed < 2 ^ 16 → lo + uses None e ≤ 2 ^ 32 → AllWell n (pointer_base_code f pushed lo d e)
+  pointer_base_well n u f pushed lo d (node t (binary op a b)) knows h few room =
       let operands : Operands = operands_of f (bare a) (bare b) in
       let place : Place = target_of f pushed a in
-      sum_well n lo (sum_has_base place (added_bytes op operands (constant_in b))) (pointer_base_code f pushed (lo + 1) a) (node_code f pushed lo Value t (binary op a b)) (λ told. omega (arith, room, sum_uses f place op operands t a b told))
-      (λ told. pointer_base_well n u f pushed (lo + 1) a knows h.0 few (omega (arith, room, sum_uses f place op operands t a b told))) (node_well n u f pushed lo Value t (binary op a b) knows h few tt room)
-  pointer_base_well n u f pushed lo (node t (address e)) knows h few room = base_well n u f pushed lo e knows h.0 few room
-  pointer_base_well n u f pushed lo (node t (decay e)) knows h few room = base_well n u f pushed lo e knows h.0 few room
-  pointer_base_well n u f pushed lo (node t e) knows h few room = node_well n u f pushed lo Value t e knows h few tt room
+      sum_well n lo (sum_has_base place (added_bytes op operands (constant_in b))) (pointer_base_code f pushed (lo + 1) d a) _ (λ told. omega (arith, room, sum_uses f place op operands t a b told))
+      (λ told. pointer_base_well n u f pushed (lo + 1) d a knows h.0 few (omega (arith, room, sum_uses f place op operands t a b told)))
+      (binary_base_well n u f pushed lo d (relation_of op) t op a b knows h.0 h.1 (λ p l v. expr_well n u f p l v a knows h.0) (λ p l v. expr_well n u f p l v b knows h.1) few room (node_well n u f pushed lo Value t (binary op a b) knows h few tt room))
+  pointer_base_well n u f pushed lo d (node t (address e)) knows h few room = base_well n u f pushed lo d e knows h.0 few room
+  pointer_base_well n u f pushed lo d (node t (decay e)) knows h few room = base_well n u f pushed lo d e knows h.0 few room
+  pointer_base_well n u f pushed lo d (node t e) knows h few room = well_append n (node_code f pushed lo Value t e) (arrived d) (node_well n u f pushed lo Value t e knows h few tt room) (arrived_well n d)
 
   -- one that gives a structure
   called_well : (n : ℕ) (u : UnitTy) (f : Framed) (pushed lo : ℕ) (t : QTy) (e : Typed) → Knows f u n → IsCalled u t e → pushed < 2 ^ 16 → lo + uses None e ≤ 2 ^ 32 → AllWell n (expr_code f pushed lo Value e)
@@ -358,7 +371,7 @@ mutual
   pub given_well : (n : ℕ) (u : UnitTy) (f : Framed) (pushed lo : ℕ) (e : Typed) → Knows f u n → IsGiven u e → pushed < 2 ^ 16 → lo + uses None e ≤ 2 ^ 32 → AllWell n (expr_code f pushed lo Value e)
   given_well n u f pushed lo (node t (pack e)) knows h few room =
       let place : Place = place_of f pushed e in
-      well_append n (base_code f pushed lo e) _ (base_well n u f pushed lo e knows h.0 few room) (bytes_well n place (extent_by (type_bytes f (type_in t))) (place_well n u f pushed e knows h.0))
+      well_append n (base_code f pushed lo Registers e) _ (base_well n u f pushed lo Registers e knows h.0 few room) (bytes_well n place (extent_by (type_bytes f (type_in t))) (place_well n u f pushed e knows h.0))
   given_well n u f pushed lo (node t e) knows h few room = node_well n u f pushed lo Value t e knows h.0 few tt room
 
   args_well : (n : ℕ) (u : UnitTy) (f : Framed) (pushed lo : ℕ) (fast : Bool) (es : Nodes) → Knows f u n → AreTyped u es → pushed < 2 ^ 16 → lo + args_uses es ≤ 2 ^ 32 → AllWell n (args_code f pushed lo fast es)

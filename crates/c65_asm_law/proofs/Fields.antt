@@ -1,29 +1,35 @@
 -- The lines that test and set bit-fields are lines that the text can write.
-use Rattle.std.proofs.Common.{ℕ, ◌+◌, ◌-◌, ◌<◌, ◌^◌, ◌/◌, ◌%◌, ◌==◌, Bool, true, false, Option, Some, None, [], ◌∷◌, ◌++◌, arith}
-use Rattle.c65_mach.specs.declared.rows.Op.TheVariants.{And, Asl, Beq, Bne, Lda, Ldy, Lsr, Ora, Ror, Sta}
+use Rattle.std.proofs.Common.{ℕ, ◌-◌, ◌<◌, ◌^◌, ◌/◌, ◌%◌, ◌==◌, Bool, true, false, Option, Some, None, [], ◌∷◌, ◌++◌, arith}
+use Rattle.c65_mach.specs.declared.rows.Op.TheVariants.{Asl, Lda, Lsr, Ror, Sta}
 use Rattle.c65_mach.specs.declared.rows.Mode.TheVariants.{IndirectY}
 use Rattle.c65_code.specs.declared.line.Operand.TheVariants.{Zero}
 use Rattle.c65_genwide.specs.Lines.{value}
 use Rattle.c65_genwide.specs.Wide.{width_of}
+use Rattle.c65_ints.specs.declared.types.IntType.{IntType}
+use Rattle.c65_genload.specs.declared.places.Extent.{Extent}
 use Rattle.c65_genload.specs.declared.places.Extent.TheVariants.{One, Two}
 use Rattle.c65_genload.specs.declared.places.Field.{Field}
 use Rattle.c65_genload.specs.declared.places.Place.{Place}
 use Rattle.c65_genload.specs.declared.places.Place.TheVariants as places
 use Rattle.c65_genload.specs.declared.places.Access.{Access}
-use Rattle.c65_genload.specs.Places.{byte_more, onward, settled, type_in}
+use Rattle.c65_genload.specs.declared.places.Access.TheVariants.{Whole, Part}
+use Rattle.c65_genload.specs.Places.{byte_more, onward, settled, extent_of}
 use Rattle.c65_genload.specs.Numbers.{first, second}
 use Rattle.c65_genload.specs.Fields.{is_in_byte, own_bits, up_code, is_unit}
 use Rattle.c65_genload.specs.Loads.{bytes_code, load_code}
-use Rattle.c65_genload.specs.Stores.{bytes_store, bits_store, unit_set}
+use Rattle.c65_genload.specs.Stores.{bytes_store, unit_set}
 use Rattle.c65_genchange.specs.declared.spots.Spot.{Spot}
 use Rattle.c65_genchange.specs.Spots.{spot_at, reach_code}
 use Rattle.c65_genfield.specs.Bits.{own_bits_code}
 use Rattle.c65_genfield.specs.Setting.{own_word, set_word, clear_code, raise_code, byte_code, part_code, number_code, behind_code, byte_set, set_code}
 use Rattle.c65_genexpr.specs.Held.{ptr2}
 use Rattle.c65_genexpr.specs.Wanted.{branch_code, value_test_code}
-use Rattle.c65_genexpr.specs.Fields.{loaded_test}
+use Rattle.c65_gendirect.specs.Pointed.{behind_pointer_code}
+use Rattle.c65_genexpr.specs.Destination.{fetch_code}
+use Rattle.c65_genexpr.specs.Fields.{byte_test, number_test, loaded_test}
 use Rattle.c65_asm_law.proofs.Well.{AllWell, well_append, well_none, well_more, well_if}
 use Rattle.c65_asm_law.proofs.Loads.{WellPlace, settled_well, onward_well, turned_well, bytes_store_well, unit_set_well, merged_well, bits_well, bytes_well, load_well, test_well}
+use Rattle.c65_asm_law.proofs.Pointed.{behind_pointer_well, fetch_well}
 use Rattle.c65_asm_law.proofs.Changes.{WellSpot, reach_well, again_well}
 
 -- ---- a test
@@ -37,9 +43,20 @@ own_bits_well n place g h =
     let own : own_bits g < 2 ^ 8 = omega arith in
     well_append n (bytes_code (onward place (g.low / 8)) One) _ (bytes_well n (onward place (g.low / 8)) One (onward_well n place (g.low / 8) h)) (record { all = ((tt, own), tt) })
 
+fetched_test : (n : ℕ) (place : Place) (kind : IntType) (s : Bool) (to : ℕ) → WellPlace n place → to < 2 ^ 32 → AllWell n (fetch_code place (Whole kind) ++ value_test_code (width_of kind) s to)
+fetched_test n place kind s to h aim = well_append n (fetch_code place (Whole kind)) _ (fetch_well n place (Whole kind) h) (well_append n _ _ (test_well n (width_of kind)) (branch_well n s to aim))
+
+byte_test_well : (n : ℕ) (place : Place) (kind : IntType) (extent : Extent) (s : Bool) (to : ℕ) → WellPlace n place → to < 2 ^ 32 → AllWell n (byte_test place kind extent s to)
+byte_test_well n (places.Far at) kind One s to h aim = well_append n (behind_pointer_code at One) _ (behind_pointer_well n at One h) (branch_well n s to aim)
+byte_test_well n place kind extent s to h aim = fetched_test n place kind s to h aim
+
+number_test_well : (n : ℕ) (place : Place) (access : Access) (s : Bool) (to : ℕ) → WellPlace n place → to < 2 ^ 32 → AllWell n (number_test place access s to)
+number_test_well n place (Whole kind) s to h aim = byte_test_well n place kind (extent_of kind) s to h aim
+number_test_well n place (Part g) s to h aim = well_append n (load_code place (Part g)) _ (load_well n place (Part g) h) (well_append n _ _ (test_well n (width_of g.kind)) (branch_well n s to aim))
+
 pub loaded_test_well : (n : ℕ) (field : Option Field) (place : Place) (access : Access) (s : Bool) (to : ℕ) → WellPlace n place → to < 2 ^ 32 → AllWell n (loaded_test field place access s to)
 loaded_test_well n (Some g) place access s to h aim = well_append n (own_bits_code place g) _ (own_bits_well n place g h) (branch_well n s to aim)
-loaded_test_well n None place access s to h aim = well_append n (load_code place access) _ (load_well n place access h) (well_append n _ _ (test_well n (width_of (type_in access))) (branch_well n s to aim))
+loaded_test_well n None place access s to h aim = number_test_well n place access s to h aim
 
 -- ---- a number
 

@@ -32,6 +32,9 @@ use Rattle.c65_gendirect.specs.Bytes.{byte_of}
 use Rattle.c65_gendirect.specs.Words.{word_code, taken_from_code}
 use Rattle.c65_gendirect.specs.Compare.{mirrored}
 use Rattle.c65_genshift.specs.Quick.{quick_of, elements_code}
+use Rattle.c65_gendirect.specs.Pointed.{pointer_code}
+use Rattle.c65_genexpr.specs.declared.destination.Destination.{Destination}
+use Rattle.c65_genexpr.specs.declared.destination.Destination.TheVariants.{Registers, Pointer}
 use Rattle.c65_genexpr.specs.declared.operands.Operands.{Operands}
 use Rattle.c65_genexpr.specs.declared.operands.Operands.TheVariants.{Numbers, PointerFirst, PointerLast, Pointers}
 use Rattle.c65_genexpr.specs.declared.storing.Storing.{Storing}
@@ -53,16 +56,17 @@ use Rattle.c65_genexpr.specs.Places.{has_base, place_of, is_plain}
 use Rattle.c65_genexpr.specs.Operands.{residue_of, between_code, behind_code, negative}
 use Rattle.c65_genexpr.specs.Direct.{kept_at, address_at, address_of, takes_bytes, converted_if, direct_of, own_bytes, is_fixed, is_pure, is_byte, both_bytes, all_bytes, sides_of, listed, alone}
 use Rattle.c65_genexpr.specs.Comparing.{tested_by, lowest, is_raised, raised, one_more, range_of, meeting, beside, changes, compared_by, comparing_of, on, low_code, comparison_by, held_by}
-use Rattle.c65_genexpr.specs.Operating.{sum_by, mask_by, number_form, offset_form, constant_form, pair_of, word_in, word_if, element_form, right_form, under_if, left_form, constant_right, direct_right, direct_left, by_left, by_right, operating_of, placed, form_code, waiting_code, stacked_code, operator_by, reading_of, is_light, held_elements, held_form, held_if}
+use Rattle.c65_genexpr.specs.Operating.{sum_by, mask_by, number_form, offset_form, constant_form, pair_of, word_in, word_if, element_form, right_form, under_if, left_form, constant_right, direct_right, direct_left, by_left, by_right, operating_of, placed, value_form, pointed_word, pointed_form, form_code, waiting_code, stacked_code, operator_by, reading_of, is_light, held_elements, held_form, held_if}
 use Rattle.c65_genexpr.specs.Operating as operators
 use Rattle.c65_genexpr.specs.Comparing as comparisons
 use Rattle.c65_genexpr.specs.Held.{held_low, held_high, keep_code, byte_behind_code, word_behind_code}
 use Rattle.c65_genexpr.specs.Wanted.{branch_code}
-use Rattle.c65_asm_law.proofs.Well.{AllWell, well_append, well_none}
+use Rattle.c65_asm_law.proofs.Well.{AllWell, well_append, well_none, well_more}
 use Rattle.c65_asm_law.proofs.Known.{Knows}
 use Rattle.c65_asm_law.proofs.Loads.{WellPlace, push_well, wide_well, divide_well}
 use Rattle.c65_asm_law.proofs.Places.{place_well, between_well, behind_well}
-use Rattle.c65_asm_law.proofs.Directs.{WellStored, read_if, WellByte, WellMaybe, WellDirect, WellRead, byte_well, converted_well, op_well, labelled_well, word_well, add_number_well, taken_from_well, long_mask_well, add_long_well, WellSides, compare_well, compare_byte_well, AreBytes, quick_well, elements_well}
+use Rattle.c65_asm_law.proofs.Directs.{WellStored, read_if, WellByte, WellMaybe, WellDirect, WellRead, byte_well, converted_well, op_well, labelled_well, word_well, pointer_code_well, pointed_sum_well, add_number_well, taken_from_well, long_mask_well, add_long_well, WellSides, compare_well, compare_byte_well, AreBytes, quick_well, elements_well}
+use Rattle.c65_asm_law.proofs.Pointed.{arrived_well}
 use Rattle.std.proofs.lemmas.Option.{slice_get_within}
 
 -- ---- values that are read where they lie
@@ -492,16 +496,29 @@ placed_well n ops.Add l room = well_none n
 placed_well n ops.Sub l room = well_none n
 placed_well n _ l room = record { all = (room, tt) }
 
-form_well : (n : ℕ) (form : Form) (l : ℕ) → WellForm n form → l < 2 ^ 32 → AllWell n (form_code form l)
-form_well n (forms.Sum m) l h room = add_number_well n m l room
-form_well n (forms.LongSum m) l h room = labelled_well n l _ room (add_long_well n m)
-form_well n (forms.Mask op m) l h room = labelled_well n l _ room (long_mask_well n op m)
-form_well n (forms.Constant kind quick) l h room = quick_well n kind quick l room
-form_well n (forms.Word op low high) l h room = well_append n (word_code op low high l) _ (word_well n op low high l h.0 h.1 room) (placed_well n op l room)
-form_well n (forms.Under low high) l h room = labelled_well n l _ room (taken_from_well n low high h.0 h.1)
-form_well n (forms.Indexed size low high) l h room = well_append n (elements_code size) _ (elements_well n size) (word_well n ops.Add low high l h.0 h.1 room)
-form_well n (forms.Distance size low high) l h room = well_append n (word_code ops.Sub low high l) _ (word_well n ops.Sub low high l h.0 h.1 room) (divide_well n size)
-form_well n (forms.DistanceUnder size low high) l h room = labelled_well n l _ room (well_append n (taken_from_code low high) _ (taken_from_well n low high h.0 h.1) (divide_well n size))
+value_well : (n : ℕ) (form : Form) (l : ℕ) → WellForm n form → l < 2 ^ 32 → AllWell n (value_form form l)
+value_well n (forms.Sum m) l h room = add_number_well n m l room
+value_well n (forms.LongSum m) l h room = labelled_well n l _ room (add_long_well n m)
+value_well n (forms.Mask op m) l h room = labelled_well n l _ room (long_mask_well n op m)
+value_well n (forms.Constant kind quick) l h room = quick_well n kind quick l room
+value_well n (forms.Word op low high) l h room = well_append n (word_code op low high l) _ (word_well n op low high l h.0 h.1 room) (placed_well n op l room)
+value_well n (forms.Under low high) l h room = labelled_well n l _ room (taken_from_well n low high h.0 h.1)
+value_well n (forms.Indexed size low high) l h room = well_append n (elements_code size) _ (elements_well n size) (word_well n ops.Add low high l h.0 h.1 room)
+value_well n (forms.Distance size low high) l h room = well_append n (word_code ops.Sub low high l) _ (word_well n ops.Sub low high l h.0 h.1 room) (divide_well n size)
+value_well n (forms.DistanceUnder size low high) l h room = labelled_well n l _ room (well_append n (taken_from_code low high) _ (taken_from_well n low high h.0 h.1) (divide_well n size))
+
+pointed_word_well : (n : ℕ) (op : BinaryOp) (low high : OperandByte) (l : ℕ) → WellByte n low → WellByte n high → l < 2 ^ 32 → AllWell n (pointed_word op low high l)
+pointed_word_well n ops.Add low high l h k room = labelled_well n l _ room (pointed_sum_well n low high h k)
+pointed_word_well n op low high l h k room = well_append n (word_code op low high l) _ (word_well n op low high l h k room) (well_append n (placed op l) pointer_code (placed_well n op l room) (pointer_code_well n))
+
+pointed_form_well : (n : ℕ) (form : Form) (l : ℕ) → WellForm n form → l < 2 ^ 32 → AllWell n (pointed_form form l)
+pointed_form_well n (forms.Word op low high) l h room = pointed_word_well n op low high l h.0 h.1 room
+pointed_form_well n (forms.Indexed size low high) l h room = well_append n (elements_code size) _ (elements_well n size) (pointed_word_well n ops.Add low high l h.0 h.1 room)
+pointed_form_well n form l h room = well_append n (value_form form l) pointer_code (value_well n form l h room) (pointer_code_well n)
+
+form_well : (n : ℕ) (d : Destination) (form : Form) (l : ℕ) → WellForm n form → l < 2 ^ 32 → AllWell n (form_code d form l)
+form_well n Registers form l h room = value_well n form l h room
+form_well n Pointer form l h room = pointed_form_well n form l h room
 
 waiting_well : (n : ℕ) (operands : Operands) → AllWell n (waiting_code operands)
 waiting_well n (PointerLast size) = well_append n (elements_code size) _ (elements_well n size) (push_well n Ax)
@@ -515,8 +532,9 @@ stacked_well n op (Numbers kind) right = behind_well n op (Numbers kind) right
 stacked_well n op (PointerLast size) right = behind_well n op (PointerLast size) right
 stacked_well n op (Pointers size) right = behind_well n op (Pointers size) right
 
-pub operator_well : (n : ℕ) (how : Operating) (op : BinaryOp) (operands : Operands) (right : IntType) (l : ℕ) (a b : List Line) → WellOperating n how → l < 2 ^ 32 → AllWell n a → AllWell n b → AllWell n (operator_by how op operands right l a b)
-operator_well n (ways.Left form) op operands right l a b h room ha hb = well_append n a _ ha (form_well n form l h room)
-operator_well n (ways.Right form) op operands right l a b h room ha hb = well_append n b _ hb (form_well n form l h room)
-operator_well n (ways.Held form) op operands right l a b h room ha hb = well_append n a _ ha (well_append n keep_code _ (keep_well n) (well_append n b _ hb (form_well n form l h room)))
-operator_well n ways.Stacked op operands right l a b h room ha hb = labelled_well n l _ room (well_append n a _ ha (well_append n (waiting_code operands) _ (waiting_well n operands) (well_append n b _ hb (stacked_well n op operands right))))
+pub operator_well : (n : ℕ) (d : Destination) (how : Operating) (op : BinaryOp) (operands : Operands) (right : IntType) (l : ℕ) (a b : List Line) → WellOperating n how → l < 2 ^ 32 → AllWell n a → AllWell n b → AllWell n (operator_by d how op operands right l a b)
+operator_well n d (ways.Left form) op operands right l a b h room ha hb = well_append n a _ ha (form_well n d form l h room)
+operator_well n d (ways.Right form) op operands right l a b h room ha hb = well_append n b _ hb (form_well n d form l h room)
+operator_well n d (ways.Held form) op operands right l a b h room ha hb = well_append n a _ ha (well_append n keep_code _ (keep_well n) (well_append n b _ hb (form_well n d form l h room)))
+operator_well n d ways.Stacked op operands right l a b h room ha hb =
+    well_append n a _ ha (well_append n (waiting_code operands) _ (waiting_well n operands) (well_append n b _ hb (well_append n (stacked_code op operands right) _ (stacked_well n op operands right) (well_more n _ _ room (arrived_well n d)))))

@@ -5,6 +5,7 @@ pub mod Lists
 pub mod Known
 pub mod Places
 pub mod Directs
+pub mod Pointed
 pub mod Forms
 pub mod Changes
 pub mod Fields

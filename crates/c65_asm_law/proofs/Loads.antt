@@ -6,7 +6,7 @@ use Rattle.c65_ints.specs.declared.types.IntType.{IntType}
 use Rattle.c65_ints.specs.declared.types.IntType.TheVariants as ints
 use Rattle.c65_ints.specs.Ranges.{is_signed_of}
 use Rattle.c65_mach.specs.declared.rows.Op.{Op}
-use Rattle.c65_mach.specs.declared.rows.Op.TheVariants.{And, Asl, Lda, Ldy, Lsr, Rol, Ror, Sta, Stx}
+use Rattle.c65_mach.specs.declared.rows.Op.TheVariants.{And, Asl, Ldy, Lsr, Rol, Ror, Sta, Stx}
 use Rattle.c65_mach.specs.declared.rows.Mode.{Mode}
 use Rattle.c65_mach.specs.declared.rows.Mode.TheVariants.{ZeroPage, IndirectY, Absolute}
 use Rattle.c65_code.specs.declared.line.Sym.{Sym}

@@ -8,3 +8,4 @@ mod Writable
 pub mod Sound
 pub mod Renumbered
 pub mod Missing
+pub mod Example

@@ -1,5 +1,6 @@
 -- The machine on the lines of a code is that on the lines of the renumbered code, but for the numbers of functions.
-use Rattle.std.proofs.Common.{◌≡◌, ℕ, zero, suc, ◌+◌, ◌%◌, ◌/◌, ◌==◌, ◌&&◌, not, Bool, true, false, if◌then◌else◌, List, [], ◌∷◌, Option, Some, None, map, length, slice_get, refl, sym, ap, ◌∙◌, subst, nat_lt}
+use Rattle.std.proofs.Common.{◌≡◌, ℕ, zero, suc, ◌+◌, ◌%◌, ◌/◌, ◌==◌, ◌&&◌, ◌||◌, not, Bool, true, false, if◌then◌else◌, List, [], ◌∷◌, Option, Some, None, map, length, slice_get, refl, sym, ap, ◌∙◌, subst, nat_lt}
+use Rattle.std.specs.Prelude.{is_some}
 use Rattle.std.proofs.lemmas.Bool.{eqb-true, ne_eqb, eqb-false, lt-ltb}
 use Rattle.std.proofs.lemmas.Bool.Decides.{Decides-eqb}
 use Rattle.std.proofs.lemmas.Option.{none-some}
@@ -21,7 +22,7 @@ use Rattle.c65_code.specs.declared.code.Symbol.{Symbol}
 use Rattle.c65_code.specs.declared.code.Datum.{Datum}
 use Rattle.c65_code.specs.Segments.{Segment}
 use Rattle.c65_code.specs.Writable.{IsWritable}
-use Rattle.c65_code.specs.Placement.{Placement, located, word_of, segment_of, is_nothing, library_named, library_of, has_datum, is_function_of, IsPlacement, setting_of}
+use Rattle.c65_code.specs.Placement.{Placement, located, word_of, segment_of, is_nothing, library_named, library_of, has_segment, has_datum, has_body, is_function_of, IsPlacement, setting_of}
 use Rattle.c65_code.specs.Forms.{Form, Mark, Run, Through, branch_form, jump_form, move_form, op_form, callee_form, form_of}
 use Rattle.c65_code.specs.Moves.{labelled, settle}
 use Rattle.c65_code.specs.Steady.{HasLines}
@@ -150,6 +151,19 @@ module _ (symbols : List Symbol) (names : List (List ℕ)) where
           let there : ((renamed symbols names d.sym).0 == m) ≡ false = ne_eqb (renamed symbols names d.sym).0 m (λ h. eqb-false d.sym.0 f e (back 0 d refl h)) in
           ap (λ (b : Bool). if b then true else has_datum (map (renamed_datum symbols names) ds) m) there ∙ rest ∙ ap (λ (b : Bool). if b then true else has_datum ds f) (sym e)
 
+  has_same_segment : (fs : List (Sym × Segment)) (f m : ℕ) → ((k : ℕ) (g : Sym × Segment) → slice_get fs k ≡ Some g → (renamed symbols names g.0).0 ≡ m → g.0.0 ≡ f) → ((k : ℕ) (g : Sym × Segment) → slice_get fs k ≡ Some g → g.0.0 ≡ f → (renamed symbols names g.0).0 ≡ m)
+      → has_segment (map (renamed_function symbols names) fs) m ≡ has_segment fs f
+  has_same_segment [] f m back on = refl
+  has_same_segment (g ∷ fs) f m back on = by (g.0.0 == f) refl (has_same_segment fs f m (λ k. back (suc k)) (λ k. on (suc k)))
+    where
+      by : (b : Bool) → (g.0.0 == f) ≡ b → has_segment (map (renamed_function symbols names) fs) m ≡ has_segment fs f → has_segment (map (renamed_function symbols names) (g ∷ fs)) m ≡ has_segment (g ∷ fs) f
+      by true e rest =
+          let there : ((renamed symbols names g.0).0 == m) ≡ true = (Decides-eqb (renamed symbols names g.0).0 m).1 (on 0 g refl (eqb-true g.0.0 f e)) in
+          ap (λ (b : Bool). if b then true else has_segment (map (renamed_function symbols names) fs) m) there ∙ ap (λ (b : Bool). if b then true else has_segment fs f) (sym e)
+      by false e rest =
+          let there : ((renamed symbols names g.0).0 == m) ≡ false = ne_eqb (renamed symbols names g.0).0 m (λ h. eqb-false g.0.0 f e (back 0 g refl h)) in
+          ap (λ (b : Bool). if b then true else has_segment (map (renamed_function symbols names) fs) m) there ∙ rest ∙ ap (λ (b : Bool). if b then true else has_segment fs f) (sym e)
+
 -- the lines of a function are those of one of the code's
 pub record IsLineOf (fs : List (Sym × Segment)) (f k : ℕ) (l : Line) : Type 0 where
   pub place : ℕ
@@ -190,17 +204,27 @@ module _ (code : Code) (w : IsWritable code) where
       datum_same code.symbols (names_of code) code.datums f (number f)
       (λ k d at e. part_same code w d.sym (as_symbol f) (datum k d at refl) known e) (λ k d at e. number_same d.sym f e)
 
-  pub function_new : (f : ℕ) → Known f → is_function_of (renumbered code) (number f) ≡ is_function_of code f
-  function_new f known =
-      let new_inside : nat_lt (number f) (length (symbols_of (names_of code))) ≡ true = lt-ltb (number f) (length (symbols_of (names_of code))) (part_numbered code w (as_symbol f) known) in
-      let inside : nat_lt f (length code.symbols) ≡ true = lt-ltb f (length code.symbols) (part_known code w (as_symbol f) known) in
-      ap (λ (b : Bool). b && not (has_datum (renumbered code).datums (number f))) new_inside ∙ ap (λ (b : Bool). true && not b) (datum_new f known) ∙ ap (λ (b : Bool). b && not (has_datum code.datums f)) (sym inside)
-
   library_new : (f : ℕ) → Known f → library_of (slice_get (renumbered code).symbols (number f)) ≡ library_of (slice_get code.symbols f)
   library_new f known =
       let there = part_there code w (as_symbol f) known in
       let new_there = to_map symbol_of (names_of code) (number f) (sym_text code.symbols (as_symbol f)) (placed code (as_symbol f) known) in
       ap library_of new_there ∙ ap (library_named library_functions) there.text ∙ sym (ap library_of there.at)
+
+  body_new : (f : ℕ) → Known f → has_body (renumbered code) (number f) ≡ has_body code f
+  body_new f known =
+      ap (λ (b : Bool). b || is_some (library_of (slice_get (renumbered code).symbols (number f))))
+      (has_same_segment code.symbols (names_of code) code.functions f (number f)
+      (λ k g at e. part_same code w g.0 (as_symbol f) (function k g at refl) known e) (λ k g at e. number_same g.0 f e))
+      ∙ ap (λ (o : Option Library). has_segment code.functions f || is_some o) (library_new f known)
+
+  pub function_new : (f : ℕ) → Known f → is_function_of (renumbered code) (number f) ≡ is_function_of code f
+  function_new f known =
+      let new_inside : nat_lt (number f) (length (symbols_of (names_of code))) ≡ true = lt-ltb (number f) (length (symbols_of (names_of code))) (part_numbered code w (as_symbol f) known) in
+      let inside : nat_lt f (length code.symbols) ≡ true = lt-ltb f (length code.symbols) (part_known code w (as_symbol f) known) in
+      ap (λ (b : Bool). (b && not (has_datum (renumbered code).datums (number f))) && has_body (renumbered code) (number f)) new_inside
+      ∙ ap (λ (b : Bool). (true && not b) && has_body (renumbered code) (number f)) (datum_new f known)
+      ∙ ap (λ (b : Bool). (true && not (has_datum code.datums f)) && b) (body_new f known)
+      ∙ ap (λ (b : Bool). (b && not (has_datum code.datums f)) && has_body code f) (sym inside)
 
   module _ (place other : Placement) (addressed : (f : ℕ) → Known f → place.address f ≡ other.address (number f)) where
     located_new : (x : Sym) (offset : ℕ) → IsPart code x → located other (renamed code.symbols (names_of code) x) offset ≡ located place x offset

@@ -1,4 +1,4 @@
--- The linker misses nothing of a renumbered code whose symbols had bodies.
+-- The linker misses nothing of a renumbered code in which all that was named had a body.
 use Rattle.std.proofs.Common.{◌≡◌, ℕ, zero, suc, ◌+◌, ◌<◌, ◌==◌, Bool, true, false, if◌then◌else◌, List, [], ◌∷◌, codes, bytes_eq, Option, Some, None, Ok, Err, length, slice_get, slice_set, refl, ap, sym, ◌∙◌, subst, arith, inl, inr}
 use Rattle.std.specs.Prelude.{is_some}
 use Rattle.std.proofs.lemmas.Bool.{eqb-true}
@@ -20,6 +20,7 @@ use Rattle.c65_code.specs.declared.code.Datum.{Datum}
 use Rattle.c65_code.specs.declared.code.DataCell.{DataCell}
 use Rattle.c65_code.specs.declared.code.DataCell.TheVariants.{Byte, Address}
 use Rattle.c65_code.specs.Segments.{Segment}
+use Rattle.c65_code.specs.Named.{OperandNames, LineNames, CellNames, IsNamed, function as by_function, datum as by_datum, by_line, by_cell}
 use Rattle.c65_code.specs.Placement.{library_named, library_of, has_datum}
 use Rattle.c65_code.specs.Starts.{IsMain}
 use Rattle.c65_code.specs.Writable.{IsWritable}
@@ -102,6 +103,32 @@ found (d ∷ ds) n h = by (d.sym.0 == n) refl h (λ g. found ds n g)
     by true e g rest = (0, d, refl, eqb-true d.sym.0 n e)
     by false e g rest = let r = rest g in (suc r.0, r.1, r.2, r.3)
 
+operand_names : (o : Operand) (x : Sym) → operand_symbol o ≡ Some x → OperandNames o x.0
+operand_names (operands.Low y offset) x e = ap (λ (s : Sym). s.0) (same_Some y x e)
+operand_names (operands.High y offset) x e = ap (λ (s : Sym). s.0) (same_Some y x e)
+operand_names (operands.At y offset) x e = ap (λ (s : Sym). s.0) (same_Some y x e)
+operand_names operands.Nothing x e = absurd (none-some x e)
+operand_names (operands.Byte v) x e = absurd (none-some x e)
+operand_names (operands.Zero v) x e = absurd (none-some x e)
+operand_names (operands.To l) x e = absurd (none-some x e)
+
+line_names : (l : Line) (x : Sym) → line_symbol l ≡ Some x → LineNames l x.0
+line_names (lines.Label l) x e = absurd (none-some x e)
+line_names (lines.Do op mode o) x e = operand_names o x e
+line_names (lines.Call (callees.Routine r)) x e = absurd (none-some x e)
+line_names (lines.Call (callees.Function y reads gives)) x e = ap (λ (s : Sym). s.0) (same_Some y x e)
+line_names (lines.Call (callees.Pointer reads gives)) x e = absurd (none-some x e)
+
+cell_names : (c : DataCell) (x : Sym) → cell_symbol c ≡ Some x → CellNames c x.0
+cell_names (Byte v) x e = absurd (none-some x e)
+cell_names (Address y offset) x e = ap (λ (s : Sym). s.0) (same_Some y x e)
+
+mentioned : (code : Code) (x : Sym) → IsPart code x → IsNamed code x.0
+mentioned code x (function k f at e) = by_function k f at (ap (λ (s : Sym). s.0) e)
+mentioned code x (datum k d at e) = by_datum k d at (ap (λ (s : Sym). s.0) e)
+mentioned code x (line k j f l at here e) = by_line k j f l at here (line_names l x e)
+mentioned code x (cell k j d c at here e) = by_cell k j d c at here (cell_names c x e)
+
 module _ (code : Code) (w : IsWritable code) (closed : IsClosed code) where
   abbrev new_targets : List Target
   new_targets = targets_of (renumbered code)
@@ -135,7 +162,7 @@ module _ (code : Code) (w : IsWritable code) (closed : IsClosed code) where
   same_number x y e = ap (λ (n : ℕ). new (record { 0 = n })) e
 
   part_stands : (x : Sym) → IsPart code x → Stands new_targets (new x)
-  part_stands x part = by (closed x.0 there.symbol there.at)
+  part_stands x part = by (closed x.0 there.symbol there.at (mentioned code x part))
     where
       there : IsThere code w x
       there = part_there code w x part
@@ -250,13 +277,13 @@ main_there (s ∷ symbols) at i symbol h e = by (bytes_eq s.spelling (codes "_ma
         let on : at + 1 + r.place ≡ at + suc r.place = omega arith in
         record { place = suc r.place; symbol = r.symbol; found = ap (λ (b : Bool). if b then Some at else main_in symbols (at + 1)) f ∙ r.found ∙ ap Some on; there = r.there; spelled = r.spelled }
 
-module _ (code : Code) (main : ℕ) (w : IsWritable code) (closed : IsClosed code) (m : IsMain code main) where
+module _ (code : Code) (main : ℕ) (w : IsWritable code) (closed : IsClosed code) (m : IsMain code main) (named : IsNamed code main) where
   abbrev main_symbol : Sym
   main_symbol = record { 0 = main }
 
   -- main has lines or a datum, since no function of the library has its name
   main_part : IsPart code main_symbol
-  main_part = by (closed main m.0 m.1)
+  main_part = by (closed main m.0 m.1 named)
     where
       as_symbol : (x : Sym) → x.0 ≡ main → x ≡ main_symbol
       as_symbol x e = ap (λ (n : ℕ). let y : Sym = record { 0 = n } in y) e
@@ -289,7 +316,7 @@ fitted_not true n payload name h = cc
 fitted_not false n payload name h = cc
 
 pub nothing_is_undefined : NothingIsUndefined
-nothing_is_undefined code main name w t closed m h =
+nothing_is_undefined code main name w t closed m named h =
     let r = renumbered code in
-    let e : linked r ≡ placed_code r (targets_of r) (parts_of r (targets_of r)) = ap (named_or_placed r (targets_of r)) (none_missing code main w closed m) in
+    let e : linked r ≡ placed_code r (targets_of r) (parts_of r (targets_of r)) = ap (named_or_placed r (targets_of r)) (none_missing code main w closed m named) in
     fitted_not _ _ _ name (sym e ∙ h)

@@ -1,7 +1,7 @@
--- Placements of a code, from the linker's of the renumbered code: a symbol that nothing names stands in the bytes of the start.
-use Rattle.std.proofs.Common.{◌≡◌, ℕ, zero, suc, ◌+◌, ◌<◌, ◌≤◌, ◌%◌, ◌/◌, not, Bool, true, false, if◌then◌else◌, List, [], ◌∷◌, ◌++◌, Option, Some, None, map, length, slice_get, refl, sym, ap, ◌∙◌, subst, nat_lt, inl, inr, arith, codes, get_or}
+-- Placements of a code, from the linker's of the renumbered code: a function that nothing names stands in the bytes of the start.
+use Rattle.std.proofs.Common.{◌≡◌, ℕ, zero, suc, ◌+◌, ◌<◌, ◌≤◌, ◌%◌, ◌/◌, Bool, true, false, if◌then◌else◌, List, [], ◌∷◌, ◌++◌, Option, Some, None, map, length, slice_get, refl, sym, ap, ◌∙◌, subst, nat_lt, inl, inr, arith, codes, get_or}
 use Rattle.std.specs.Prelude.{◌⊎◌, is_some}
-use Rattle.std.proofs.lemmas.Bool.{and_parts, ltb-true, lt-ltb, ltb-false, leb-true}
+use Rattle.std.proofs.lemmas.Bool.{ltb-true, lt-ltb, ltb-false, leb-true}
 use Rattle.std.proofs.lemmas.Option.{none-some, slice_get-get_or}
 use Rattle.c65_base.specs.Names.{name_of}
 use Rattle.c65_base.proofs.NameLaws.{name_of-at}
@@ -18,7 +18,8 @@ use Rattle.c65_code.specs.declared.routine.Routine.TheVariants.{Start, StartArgs
 use Rattle.c65_code.specs.Writable.{IsWritable}
 use Rattle.c65_code.specs.Starts.{IsStart}
 use Rattle.c65_code.specs.LineState.{State}
-use Rattle.c65_code.specs.Placement.{Placement, program_start, stack_start, library_named, library_of, has_datum, IsFunction, IsDatumOf, IsIn, IsPlacement, cell_bytes, bytes_of_cells, cell_size, cells_size, size_of_datum, initial_byte}
+use Rattle.c65_code.specs.Placement.{Placement, program_start, stack_start, library_named, library_of, has_segment, IsFunction, IsDatumOf, IsIn, IsPlacement, cell_bytes, bytes_of_cells, cell_size, cells_size, size_of_datum, initial_byte}
+use Rattle.c65_code.proofs.FunctionLaws.{segment_found, either_body, function_parts}
 use Rattle.c65_asm.specs.Text.{sym_text, spelling_of}
 use Rattle.c65_asm.specs.Renumbered.{names_of, renamed_cell, renamed_datum, renumbered}
 use Rattle.c65_link.specs.Bodies.{body_of}
@@ -28,10 +29,9 @@ use Rattle.c65_link_law.specs.Placed.{first_address}
 use Rattle.c65_link_law_spots.specs.Places.{place_in, address_in}
 use Rattle.c65_link_law_spots.proofs.Places.{AreBehindStart}
 use Rattle.c65_link_law_spots.proofs.Targets.{spelled}
-use Rattle.c65_asm_law_names.specs.Numbers.{HasBody, IsClosed, number_in}
+use Rattle.c65_asm_law_names.specs.Numbers.{number_in}
 use Rattle.c65_asm_law_names.proofs.Naming.{IsPart, function, datum, cell, names_of_parts, part_named, number_is}
 use Rattle.c65_asm_law_names.proofs.Writable.{to_map, part_there, part_same, old_datum}
-use Rattle.c65_asm_law_names.proofs.Missing.{found}
 use Rattle.c65_asm_law_names.proofs.Machine.{Known, function_new}
 
 -- ---- ten numbers for the functions of the library, one left out
@@ -146,7 +146,7 @@ address_by code out f (Some i) = address_in (renumbered code) i
 abbrev pub placing : Code → ℕ → Placement
 placing code out = record (place_in (renumbered code)) { address = λ f. address_by code out f (name_of (names_of code) (sym_text code.symbols (record { 0 = f }))) }
 
-module _ (code : Code) (w : IsWritable code) (closed : IsClosed code) (own : IsPlacement (renumbered code) (place_in (renumbered code))) (behind : AreBehindStart (renumbered code)) where
+module _ (code : Code) (w : IsWritable code) (own : IsPlacement (renumbered code) (place_in (renumbered code))) (behind : AreBehindStart (renumbered code)) where
   abbrev as_symbol : ℕ → Sym
   as_symbol f = record { 0 = f }
 
@@ -191,7 +191,7 @@ module _ (code : Code) (w : IsWritable code) (closed : IsClosed code) (own : IsP
   unknown_address out f e = ap (address_by code out f) e
 
   pub function_inside : (f : ℕ) → IsFunction code f → f < length code.symbols
-  function_inside f h = ltb-true f (length code.symbols) (and_parts (nat_lt f (length code.symbols)) (not (has_datum code.datums f)) h).0
+  function_inside f h = (function_parts code f h).known
 
   -- a function of the library that nothing names
   pub record IsUnnamed (f : ℕ) : Type 0 where
@@ -207,7 +207,7 @@ module _ (code : Code) (w : IsWritable code) (closed : IsClosed code) (own : IsP
       record { symbol = symbol; at = at; library = library; named = e; index = ap (λ (s : Option Symbol). index_in s (library_of s)) at ∙ ap (index_in (Some symbol)) e }
 
   pub unnamed : (f : ℕ) → IsFunction code f → name_in f ≡ None → IsUnnamed f
-  unnamed f h e = by (closed f symbol at)
+  unnamed f h e = by (either_body code f (function_parts code f h).body)
     where
       none : Symbol
       none = record { spelling = []; literal = false }
@@ -218,10 +218,9 @@ module _ (code : Code) (w : IsWritable code) (closed : IsClosed code) (own : IsP
       at : slice_get code.symbols f ≡ Some symbol
       at = slice_get-get_or code.symbols f none (function_inside f h)
 
-      by : HasBody code f symbol → IsUnnamed f
-      by (inl s) = absurd (not_known f e (function s.at s.unit s.there (to_symbol s.unit.0 f s.is)))
-      by (inr (inl d)) = let g = found code.datums f d in absurd (not_known f e (datum g.0 g.1 g.2 (to_symbol g.1.sym f g.3)))
-      by (inr (inr s)) = some_library f symbol at (library_named library_functions symbol.spelling) refl s
+      by : (has_segment code.functions f ≡ true) ⊎ (is_some (library_of (slice_get code.symbols f)) ≡ true) → IsUnnamed f
+      by (inl s) = let g = segment_found code.functions f s in absurd (not_known f e (function g.0 g.1 g.2 (to_symbol g.1.0 f g.3)))
+      by (inr s) = some_library f symbol at (library_named library_functions symbol.spelling) refl (ap (λ (o : Option Symbol). is_some (library_of o)) (sym at) ∙ s)
 
   pub unnamed_few : (f : ℕ) → IsUnnamed f → unnamed_index code f < 10
   unnamed_few f u = let few = index_few u.library in let e = u.index in omega (arith, few, e)

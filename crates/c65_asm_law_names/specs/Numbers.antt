@@ -5,6 +5,7 @@ use Rattle.c65_code.specs.declared.code.Symbol.{Symbol}
 use Rattle.c65_code.specs.declared.line.Sym.{Sym}
 use Rattle.c65_code.specs.Placement.{has_datum, library_of}
 use Rattle.c65_code.specs.Comes.{Seen}
+use Rattle.c65_code.specs.Named.{IsNamed}
 use Rattle.c65_code.specs.Segments.{Segment}
 use Rattle.c65_asm.specs.Renumbered.{names_of, renamed}
 
@@ -23,8 +24,9 @@ pub record HasSegment (code : Code) (f : ℕ) : Type 0 where
 abbrev pub HasBody : Code → ℕ → Symbol → Type 0
 HasBody code i symbol = HasSegment code i ⊎ (IsTrue (has_datum code.datums i) ⊎ IsSome (library_of (Some symbol)))
 
+-- What lines or data name has a body. A symbol that nothing names may have none, as that of an object in a frame.
 abbrev pub IsClosed : Code → Type 0
-IsClosed code = (i : ℕ) (symbol : Symbol) → slice_get code.symbols i ≡ Some symbol → HasBody code i symbol
+IsClosed code = (i : ℕ) (symbol : Symbol) → slice_get code.symbols i ≡ Some symbol → IsNamed code i → HasBody code i symbol
 
 -- arrivals at the lines of a code, from those of its renumbered form
 abbrev pub by_number : Code → Seen → Seen

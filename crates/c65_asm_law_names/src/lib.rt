@@ -4,4 +4,7 @@
 
 mod laws;
 
-pub use laws::{main_is_numbered, nothing_is_undefined, renumbered_comes, renumbered_is_sound};
+pub use laws::{
+    locals_need_no_body, main_is_numbered, nothing_is_undefined, renumbered_comes,
+    renumbered_is_sound,
+};

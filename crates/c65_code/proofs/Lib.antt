@@ -6,3 +6,4 @@ pub mod WeightLaws
 pub mod StickLaws
 pub mod CopyLaws
 pub mod OpcodeLaws
+pub mod FunctionLaws

@@ -39,7 +39,6 @@ pub data IsNamed (code : Code) (f : ℕ) : Type 0 where
   by_line : (i k : ℕ) (g : Sym × Segment) (l : Line) → slice_get code.functions i ≡ Some g → slice_get g.1.lines k ≡ Some l → LineNames l f → IsNamed code f
   by_cell : (i k : ℕ) (d : Datum) (c : DataCell) → slice_get code.datums i ≡ Some d → slice_get d.cells k ≡ Some c → CellNames c f → IsNamed code f
 
--- To the machine on lines a symbol without a datum is a function's, with an address of its own. The linker gives one only to
--- symbols that are named.
+-- The linker gives an address only to symbols that are named.
 abbrev pub EachNamed : Code → Type 0
 EachNamed code = (f : ℕ) → f < length code.symbols → IsNamed code f

@@ -1,5 +1,5 @@
 -- Where the symbols of a code stand, and what a code is as functions of symbols.
-use Rattle.std.specs.Prelude.{◌≡◌, ℕ, ◌+◌, ◌%◌, ◌/◌, ◌<◌, ◌≤◌, ◌==◌, Bool, true, false, IsTrue, if◌then◌else◌, List, [], ◌∷◌, ◌++◌, Option, Some, None, slice_get, codes, bytes_eq, length, not, nat_lt, ◌&&◌}
+use Rattle.std.specs.Prelude.{◌≡◌, ℕ, ◌+◌, ◌%◌, ◌/◌, ◌<◌, ◌≤◌, ◌==◌, Bool, true, false, IsTrue, if◌then◌else◌, List, [], ◌∷◌, ◌++◌, Option, Some, None, slice_get, codes, bytes_eq, length, not, nat_lt, ◌&&◌, ◌||◌, is_some}
 use Rattle.c65_code.specs.declared.parts.RegSet.{RegSet}
 use Rattle.c65_code.specs.declared.line.Sym.{Sym}
 use Rattle.c65_code.specs.declared.line.Operand.{Operand}
@@ -76,9 +76,18 @@ abbrev pub has_datum : List Datum → ℕ → Bool
 has_datum [] f = false
 has_datum (datum ∷ datums) f = if datum.sym.0 == f then true else has_datum datums f
 
--- a symbol without a datum is that of a function
+abbrev pub has_segment : List (Sym × Segment) → ℕ → Bool
+has_segment [] f = false
+has_segment (g ∷ functions) f = if g.0.0 == f then true else has_segment functions f
+
+-- lines of its own, or the name of a function of the library
+abbrev pub has_body : Code → ℕ → Bool
+has_body code f = has_segment code.functions f || is_some (library_of (slice_get code.symbols f))
+
+-- A symbol with a body and without a datum is that of a function. One with neither, as of an object in a frame, is nothing here
+-- and needs no address.
 abbrev pub is_function_of : Code → ℕ → Bool
-is_function_of code f = nat_lt f (length code.symbols) && not (has_datum code.datums f)
+is_function_of code f = (nat_lt f (length code.symbols) && not (has_datum code.datums f)) && has_body code f
 
 -- the code at a placement
 abbrev pub setting_of : Code → Placement → Setting

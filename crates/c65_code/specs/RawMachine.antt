@@ -58,7 +58,7 @@ write_hook t row =
 abbrev pub args_hook : List (List ℕ) → State → Row → Row
 args_hook args t row =
     let list = sp_of t - 2 * (length args + 1) in
-    record (giving Ax (length args) row) { sp = list - args_size args; writes = arg_writes args list list ++ listed (word_bytes list) (ax_of t) }
+    record (giving Ax (length args) row) { sp = list - args_size args; settled = list - args_size args; writes = arg_writes args list list ++ listed (word_bytes list) (ax_of t) }
 
 abbrev pub hook_row : List (List ℕ) → Routine → State → Option Row
 hook_row args routines.HookOpen t = Some (giving Ax 65535 (record (quiet routines.HookOpen t) { sp = (sp_of t + t.regs.y) % 65536 }))

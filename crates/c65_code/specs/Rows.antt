@@ -1,6 +1,6 @@
 -- What each routine of the runtime does (docs/MACHINE.md, "Routines"): a row of numbers, computed from the state before,
 -- and one relation that gives every row its meaning.
-use Rattle.std.specs.Prelude.{◌≡◌, ℕ, ◌+◌, ◌-◌, ◌*◌, ◌/◌, ◌%◌, ◌<◌, ◌≤◌, ◌⊎◌, Bool, true, false, ◌||◌, if◌then◌else◌, nat_lt, nat_le, List, [], ◌∷◌, ◌++◌, Option, Some, None, length, drop, map}
+use Rattle.std.specs.Prelude.{◌≡◌, ℕ, ◌+◌, ◌-◌, ◌*◌, ◌/◌, ◌%◌, ◌<◌, ◌≤◌, ◌⊎◌, Bool, true, false, ◌||◌, if◌then◌else◌, nat_lt, nat_le, List, [], ◌∷◌, ◌++◌, Option, Some, None, length, drop, map, max}
 use Rattle.std.specs.List.{flat_map}
 use Rattle.c65_code.specs.declared.parts.Part.{Part}
 use Rattle.c65_code.specs.declared.parts.RegSet.{RegSet}
@@ -43,6 +43,8 @@ pub record Row : Type 0 where
   pub out : List ℕ
   pub ends : Option ℕ
   pub room : ℕ
+  -- from where on the row says each byte of memory: a push says what it pushed, and the room that `decsp` makes is open
+  pub settled : ℕ
   -- what it may change at all
   pub changes : RegSet
   -- how many instructions it takes at most
@@ -79,7 +81,7 @@ pub record Meets (r : Row) (t u : State) : Type 0 where
   pub bank : GivesBank r.bank u.zp
   pub kept : (p : Part) → has_part r.changes p ≡ false → Same p t u
   pub high : (i : ℕ) → 26 ≤ i → t.zp i ≡ u.zp i
-  pub mem : (b : ℕ) → (b + r.room < sp_of t) ⊎ ((sp_of t ≤ b) ⊎ (r.sp ≤ b)) → u.mem b ≡ written t.mem r.writes b
+  pub mem : (b : ℕ) → (b + r.room < sp_of t) ⊎ ((sp_of t ≤ b) ⊎ (r.settled ≤ b)) → u.mem b ≡ written t.mem r.writes b
   pub pushed : u.pushed ≡ t.pushed
   pub frames : u.frames ≡ t.frames
   pub input : u.input ≡ drop r.taken t.input
@@ -88,7 +90,7 @@ pub record Meets (r : Row) (t u : State) : Type 0 where
 
 -- a row of the first group that gives nothing and keeps sp, to be changed field by field
 abbrev pub row_by : Routine → State → Row
-row_by r t = record { ready = true; sp = sp_of t; a = None; x = None; sreg = None; pointers = None; bank = None; writes = []; near = []; far = []; taken = 0; out = []; ends = None; room = 64; changes = routine_sets r; cost = 32 }
+row_by r t = record { ready = true; sp = sp_of t; a = None; x = None; sreg = None; pointers = None; bank = None; writes = []; near = []; far = []; taken = 0; out = []; ends = None; room = 64; settled = sp_of t; changes = routine_sets r; cost = 32 }
 
 abbrev pub low_byte : ℕ → ℕ
 low_byte v = v % 256
@@ -142,7 +144,7 @@ giving_if width (Some v) row = giving width v row
 
 -- bytes pushed, popped, read and written at addresses counted from the sp
 abbrev pub pushing : List ℕ → State → Row → Row
-pushing bytes t row = let at = sp_of t - length bytes in record row { sp = at; writes = listed bytes at; near = range_of (length bytes) at }
+pushing bytes t row = let at = sp_of t - length bytes in record row { sp = at; settled = at; writes = listed bytes at; near = range_of (length bytes) at }
 
 abbrev pub popping : ℕ → State → Row → Row
 popping count t row = record row { sp = sp_of t + count; near = range_of count (sp_of t) }
@@ -287,7 +289,7 @@ row_of routines.PopPtrs t = Some (record (popping 4 t (row_by routines.PopPtrs t
 row_of (routines.IncSp count) t = Some (sp_row (routines.IncSp count) (sp_of t + number_of count) t)
 row_of (routines.DecSp count) t = Some (sp_row (routines.DecSp count) (sp_of t - number_of count) t)
 row_of routines.AddYSp t = Some (sp_row routines.AddYSp ((sp_of t + t.regs.y) % 65536) t)
-row_of routines.SubYSp t = Some (sp_row routines.SubYSp (sp_of t - t.regs.y) t)
+row_of routines.SubYSp t = Some (record (sp_row routines.SubYSp (sp_of t - t.regs.y) t) { room = max 64 t.regs.y })
 row_of routines.LdAxYSp t = let at = sp_of t + t.regs.y - 1 in Some (needing (nat_le 1 t.regs.y) (giving Ax (word_at t.mem at) (keeping t (reading 2 at (row_by routines.LdAxYSp t)))))
 row_of routines.LdAx0Sp t = Some (giving Ax (word_at t.mem (sp_of t)) (keeping t (reading 2 (sp_of t) (row_by routines.LdAx0Sp t))))
 row_of routines.LdEaxYSp t = let at = sp_of t + t.regs.y - 3 in Some (needing (nat_le 3 t.regs.y) (giving Eax (long_at t.mem at) (reading 4 at (row_by routines.LdEaxYSp t))))

@@ -1,5 +1,5 @@
 -- Each unit of a linked code stands as rows ask for it.
-use Rattle.std.proofs.Common.{◌≡◌, ℕ, zero, suc, ◌+◌, ◌-◌, ◌<◌, ◌≤◌, ◌==◌, ◌&&◌, not, Bool, true, false, nat_le, nat_lt, if◌then◌else◌, IsTrue, List, [], ◌∷◌, ◌++◌, codes, map, replicate, Option, Some, None, unwrap_or, Ok, length, slice_get, slice_index, refl, ap, sym, ◌∙◌, subst, arith, ltb-true, leb-true, eqb-true}
+use Rattle.std.proofs.Common.{◌≡◌, ℕ, zero, suc, ◌+◌, ◌-◌, ◌<◌, ◌≤◌, ◌==◌, ◌&&◌, Bool, true, false, nat_le, nat_lt, if◌then◌else◌, IsTrue, List, [], ◌∷◌, ◌++◌, map, replicate, Option, Some, None, unwrap_or, Ok, length, slice_get, slice_index, refl, ap, sym, ◌∙◌, subst, arith, ltb-true, leb-true, eqb-true}
 use Rattle.std.specs.List.{list_all}
 use Rattle.std.proofs.lemmas.Bool.{and_parts, and_from, lt-ltb, le-ltb, le-leb, eq-eqb, ne_eqb}
 use Rattle.std.proofs.lemmas.List.{get_or-set_other}
@@ -7,8 +7,7 @@ use Rattle.std.proofs.lemmas.List.Folds.{list_all-append}
 use Rattle.c65_base.specs.declared.options.Cpu.{Cpu}
 use Rattle.c65_base.specs.declared.options.Cpu.TheVariants.{Nmos, Cmos}
 use Rattle.c65_base.specs.declared.library.Library.{Library}
-use Rattle.c65_base.specs.declared.library.Library.TheVariants.{Putchar, Getchar, Puts, Exit, Memcpy, Memset, Strcmp, Strcpy, Strlen, Printf}
-use Rattle.c65_base.specs.Library.{library_name, library_functions}
+use Rattle.c65_base.specs.Library.{library_functions}
 use Rattle.c65_mach.specs.declared.image.Image.{Image}
 use Rattle.c65_mach.specs.State.{read, loaded_memory}
 use Rattle.c65_code.specs.declared.routine.Routine.{Routine}
@@ -22,7 +21,8 @@ use Rattle.c65_code.specs.declared.line.Callee.TheVariants as callees
 use Rattle.c65_code.specs.declared.line.Line.{Line}
 use Rattle.c65_code.specs.declared.line.Line.TheVariants.{Label, Do, Call}
 use Rattle.c65_code.specs.declared.code.Code.{Code}
-use Rattle.c65_code.specs.Placement.{IsPlacement, is_function_of, is_nothing, segment_of, library_named, library_of, has_datum, program_start, stack_start}
+use Rattle.c65_code.specs.Placement.{IsPlacement, is_function_of, is_nothing, segment_of, library_named, library_of, program_start, stack_start}
+use Rattle.c65_code.proofs.FunctionLaws.{named_library, function_parts}
 use Rattle.c65_code.specs.Segments.{Segment, IsSegment, is_fit, labels_of, targets_of, target_of as line_target, is_among}
 use Rattle.c65_code.specs.Processors.{RunsOn, is_nmos_line}
 use Rattle.c65_code.specs.Moves.{labelled}
@@ -125,18 +125,6 @@ no_segment : (fs : List (Sym × Segment)) (f : ℕ) → ((k : ℕ) (g : Sym × S
 no_segment [] f h = refl
 no_segment (g ∷ fs) f h = ap (λ (b : Bool). (if b then g.1 else segment_of fs f).lines) (ne_eqb g.0.0 f (h 0 g refl)) ∙ no_segment fs f (λ k. h (suc k))
 
-named_library : (l : Library) → library_named library_functions (codes "_" ++ library_name l) ≡ Some l
-named_library Putchar = refl
-named_library Getchar = refl
-named_library Puts = refl
-named_library Exit = refl
-named_library Memcpy = refl
-named_library Memset = refl
-named_library Strcmp = refl
-named_library Strcpy = refl
-named_library Strlen = refl
-named_library Printf = refl
-
 closed_lines : (lines : List Line) → IsSegment lines → is_nothing lines ≡ false
 closed_lines [] s = (let z : false ≡ true = s.closed in absurd cc)
 closed_lines (line ∷ lines) s = refl
@@ -162,7 +150,7 @@ leads_in cpu code image m args s linked_is stands = record { functions = lead; r
     by : (f : ℕ) → IsTrue (is_function_of code f) → Has function_number code.functions f → address_in code f ≡ place_at code m (entry_place (raw_in code args) (target_of (raw_in code args) ((raw_in code args).library f) f))
     by f h (found k g here is) =
         let u : IsUnitPlaced code m f = placed f (function k g here is) in
-        let inside : nat_lt f (length code.symbols) ≡ true = (and_parts (nat_lt f (length code.symbols)) (not (has_datum code.datums f)) h).0 in
+        let inside : nat_lt f (length code.symbols) ≡ true = (function_parts code f h).inside in
         let lines_is : lines_in code f ≡ (segment_of code.functions f).lines = ap (λ (b : Bool). if b then (segment_of code.functions f).lines else runtime_lines code (f - length code.symbols)) inside in
         let full : is_nothing (segment_of code.functions f).lines ≡ false = closed_lines (segment_of code.functions f).lines (subst IsSegment lines_is u.segment) in
         let none : (raw_in code args).library f ≡ None =
@@ -210,7 +198,7 @@ library_chosen cpu code image args f l s linked_is h some = by (has function_num
     by : Has function_number code.functions f → IsChosen code (routines.Library l)
     by (found k g here is) =
         let u : IsUnitPlaced code (read (loaded_memory image)) f = units_stand code cpu image (read (loaded_memory image)) s linked_is (data_are_loaded code cpu image s linked_is).file f (function k g here is) in
-        let inside : nat_lt f (length code.symbols) ≡ true = (and_parts (nat_lt f (length code.symbols)) (not (has_datum code.datums f)) h).0 in
+        let inside : nat_lt f (length code.symbols) ≡ true = (function_parts code f h).inside in
         let lines_is : lines_in code f ≡ lines = ap (λ (b : Bool). if b then (segment_of code.functions f).lines else runtime_lines code (f - length code.symbols)) inside in
         absurd (let z : ◌≡◌ {A = Option Library} None (Some l) = asked false (closed_lines lines (subst IsSegment lines_is u.segment)) in cc)
     by (nowhere no_function) = at (stood code it.plain f s it.is it.missing h) no_function

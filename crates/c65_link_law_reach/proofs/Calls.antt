@@ -1,6 +1,6 @@
 -- Calls of functions and of routines.
-use Rattle.std.proofs.Common.{◌≡◌, ℕ, zero, suc, ◌+◌, ◌<◌, ◌≤◌, ◌&&◌, inl, inr, not, Bool, true, false, nat_lt, if◌then◌else◌, IsTrue, List, [], ◌∷◌, All, Option, Some, None, unwrap_or, length, slice_get, refl, ap, sym, ◌∙◌, subst, arith}
-use Rattle.std.proofs.lemmas.Bool.{and_from, lt-ltb, le-ltb, ne_eqb}
+use Rattle.std.proofs.Common.{◌≡◌, ℕ, zero, suc, ◌+◌, ◌<◌, ◌≤◌, ◌&&◌, inl, inr, Bool, true, false, if◌then◌else◌, IsTrue, List, [], ◌∷◌, All, Option, Some, None, unwrap_or, length, slice_get, refl, ap, sym, ◌∙◌, subst, arith}
+use Rattle.std.proofs.lemmas.Bool.{le-ltb, ne_eqb}
 use Rattle.std.proofs.lemmas.List.Elements.{All-nil, All-cons, All-head, All-tail}
 use Rattle.c65_base.specs.declared.options.Cpu.{Cpu}
 use Rattle.c65_base.specs.declared.library.Library.{Library}
@@ -22,6 +22,7 @@ use Rattle.c65_code.specs.declared.code.Datum.{Datum}
 use Rattle.c65_code.specs.Parts.{no_parts}
 use Rattle.c65_code.specs.LineState.{Place, State, Frame, s_of, IsBytes}
 use Rattle.c65_code.specs.Placement.{segment_of, is_function_of, is_nothing, library_of, has_datum}
+use Rattle.c65_code.proofs.FunctionLaws.{has_segment_at, body_of_lines, function_from}
 use Rattle.c65_code.specs.Segments.{Segment}
 use Rattle.c65_code.specs.Forms.{form_of}
 use Rattle.c65_code.specs.Rows.{Row, Meets, row_of}
@@ -143,8 +144,8 @@ function_there code f s has = by ((lines_setting code).lines f) refl has
         let is = it.4 in
         let inside : f < length code.symbols = omega (arith, known, is) in (
           inside,
-          and_from (nat_lt f (length code.symbols)) (not (has_datum code.datums f)) (lt-ltb f (length code.symbols) inside)
-              (ap not (clear it.0 it.1 it.2 it.4 code.datums (λ j d there same. s.writable.apart it.0 j it.1 d it.2 there same))),
+          function_from code f inside (clear it.0 it.1 it.2 it.4 code.datums (λ j d there same. s.writable.apart it.0 j it.1 d it.2 there same))
+              (body_of_lines code f (has_segment_at code.functions it.0 it.1 f it.2 it.4)),
         )
 
 -- a function's first line, where its symbol is called

@@ -20,6 +20,7 @@ use Rattle.c65_code.specs.declared.line.Line.TheVariants.{Label, Do, Call}
 use Rattle.c65_code.specs.declared.code.Code.{Code}
 use Rattle.c65_code.specs.LineState.{Place}
 use Rattle.c65_code.specs.Placement.{is_function_of, segment_of}
+use Rattle.c65_code.proofs.FunctionLaws.{function_parts}
 use Rattle.c65_code.specs.Segments.{labels_of, is_among}
 use Rattle.c65_code.specs.Moves.{labelled, settle}
 use Rattle.c65_code.specs.Forms.{Form, Run, Enter, Through, op_form, move_form, jump_form, branch_form, form_of}
@@ -350,5 +351,5 @@ are_units code args m g at top laid library =
         chosen_unit code r (uses.routine chosen.place p q l r chosen.there here calls lines) (inner_call l r (inner_lines q p l inner here) calls).0
 
     function_by : (f : ℕ) → IsTrue (is_function_of code f) → (o : Option Library) → (raw_in code args).library f ≡ o → IsTrue (units_in code (target_of (raw_in code args) o f))
-    function_by f h None e = function_unit code f (ltb-true f (length code.symbols) (and_parts (nat_lt f (length code.symbols)) _ h).0)
+    function_by f h None e = function_unit code f (function_parts code f h).known
     function_by f h (Some l) e = chosen_unit code (routines.Library l) (library f l h e) (le-ltb (number_of (routines.Library l)) 2 (omega arith))

@@ -200,6 +200,25 @@ met hook t answer to ws near far taken out changes small running = record {
   ended = running;
 }
 
+-- a row that says each byte of memory says so from wherever on
+pub settled_from : (row : Row) (t u : State) (from : ℕ) → ((b : ℕ) → u.mem b ≡ written t.mem row.writes b) → Meets row t u → Meets (record row { settled = from }) t u
+settled_from row t u from all m = record {
+  sp = m.sp;
+  a = m.a;
+  x = m.x;
+  sreg = m.sreg;
+  pointers = m.pointers;
+  bank = m.bank;
+  kept = m.kept;
+  high = m.high;
+  mem = λ b h. all b;
+  pushed = m.pushed;
+  frames = m.frames;
+  input = m.input;
+  output = m.output;
+  ended = m.ended;
+}
+
 -- Bytes
 
 abbrev pub IsByte : ℕ → Type 0

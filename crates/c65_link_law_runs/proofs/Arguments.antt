@@ -17,7 +17,7 @@ use Rattle.c65_code.specs.RawMachine.{RawSetting, quiet, called, arg_writes, arg
 use Rattle.c65_link_law_follow.specs.Agree.{Ground, Agrees}
 use Rattle.c65_link_law_follow.specs.Laid.{IsGround}
 use Rattle.c65_link_law_runs.specs.Follows.{IsSetFor, IsRunning, HasArgumentRoom}
-use Rattle.c65_link_law_runs.proofs.Answers.{turn_there, range_open, on_bytes, on_word, on_sp, sp_there, answered, met, IsByte, IsByteWrite, listed_bytes, answered_bytes, on_both}
+use Rattle.c65_link_law_runs.proofs.Answers.{turn_there, range_open, on_bytes, on_word, on_sp, sp_there, hook_row_by, answered, met, settled_from, IsByte, IsByteWrite, listed_bytes, answered_bytes, on_both}
 use Rattle.c65_link_law_runs.proofs.Hooks.{Served, ends_well, no_output, ax_there, IsMetBy}
 
 -- The arguments, one below the other
@@ -64,7 +64,7 @@ args_state args t = answered t (length args) (list_at args t - args_size args) (
 abbrev pub args_row : List (List ℕ) → State → Row
 args_row args t =
     let list = sp_of t - 2 * (length args + 1) in
-    record (giving Ax (length args) (quiet routines.HookArgs t)) { sp = list - args_size args; writes = arg_writes args list list ++ listed (word_bytes list) (ax_of t) }
+    record (giving Ax (length args) (quiet routines.HookArgs t)) { sp = list - args_size args; settled = list - args_size args; writes = arg_writes args list list ++ listed (word_bytes list) (ax_of t) }
 
 pub args_served : (g : Ground) (s : RawSetting) (setting : Setting) (back : Place) (t : State) (n : Moment) → IsGround g s → IsSetFor s setting → HasArgumentRoom s (Run routines.HookArgs) t → Agrees g 0xFFF8 (called back t) n → g.at back ≤ 65535 → Served g setting back (args_state s.args t) n
 args_served g s setting back t n ground set room a fits =
@@ -115,7 +115,8 @@ args_met s setting t set room r =
     let low = room.0 in let high = room.1 in
     let ws : List (ℕ × ℕ) = arg_writes args list list ++ listed (word_bytes list) (ax_of t) in
     record {
-      meets = met routines.HookArgs t (length args) (list - args_size args) ws [] [] 0 [] refl (omega (arith, low, high)) r.running;
+      meets = settled_from (hook_row_by routines.HookArgs t (length args) (list - args_size args) ws [] [] 0 []) t (args_state s.args t) (list - args_size args) (λ b. refl)
+          (met routines.HookArgs t (length args) (list - args_size args) ws [] [] 0 [] refl (omega (arith, low, high)) r.running);
       bytes = answered_bytes t (length args) (list - args_size args) ws 0 [] r.bytes (omega (arith, low, high)) (omega (arith, high))
           (All-append IsByteWrite (arg_writes args list list) (listed (word_bytes list) (ax_of t)) (args_written args list list set.bytes) (word_listed list (ax_of t)));
       ended = r.running;

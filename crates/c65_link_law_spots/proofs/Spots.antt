@@ -1,6 +1,6 @@
 -- Where each part of a linked code lies.
-use Rattle.std.proofs.Common.{◌≡◌, ℕ, zero, suc, ◌+◌, ◌-◌, ◌<◌, ◌≤◌, ◌^◌, ◌%◌, not, Bool, true, false, ◌||◌, nat_lt, ◌==◌, if◌then◌else◌, List, [], ◌∷◌, ◌++◌, codes, map, take, Some, None, Result, Ok, length, slice_get, slice_index, refl, ap, sym, ◌∙◌, subst, arith, ltb-true}
-use Rattle.std.proofs.lemmas.Bool.{and_parts, not-true, eq-eqb, both_ways}
+use Rattle.std.proofs.Common.{◌≡◌, ℕ, zero, suc, ◌+◌, ◌-◌, ◌<◌, ◌≤◌, ◌^◌, ◌%◌, Bool, true, false, ◌||◌, ◌==◌, if◌then◌else◌, List, [], ◌∷◌, ◌++◌, codes, map, take, Some, None, Result, Ok, length, slice_get, slice_index, refl, ap, sym, ◌∙◌, subst, arith}
+use Rattle.std.proofs.lemmas.Bool.{eq-eqb, both_ways}
 use Rattle.std.proofs.lemmas.List.{length-set, length-replicate, take-map}
 use Rattle.std.proofs.lemmas.Option.{slice_get_within}
 use Rattle.c65_base.specs.declared.library.Library.{Library}
@@ -21,6 +21,7 @@ use Rattle.c65_code.specs.Numbering.{number_of}
 use Rattle.c65_code.specs.Placement.{program_start, has_datum, IsFunction}
 use Rattle.c65_code.specs.Segments.{Segment, IsSegment, closed_by}
 use Rattle.c65_code.specs.Weights.{mode_size}
+use Rattle.c65_code.proofs.FunctionLaws.{function_parts}
 use Rattle.c65_rtl.specs.Routines.{is_narrow, lines_of}
 use Rattle.c65_rtl.proofs.SegmentLaws.{segment_of as narrow_segment}
 use Rattle.c65_rtlwide.specs.Wide.{is_wide, lines_of as wide_lines_of}
@@ -342,9 +343,9 @@ stood_library code image f symbol l linked_is there is no_function none chosen =
 
 pub stood : (code : Code) (image : Image) (f : ℕ) → IsSound code → linked code ≡ Ok image → missing_of code (targets_of code) ≡ None → IsFunction code f → Stood code f
 stood code image f s linked_is missing h =
-    let parts = and_parts (nat_lt f (length code.symbols)) (not (has_datum code.datums f)) h in
-    let it = get_within code.symbols f (ltb-true f (length code.symbols) parts.0) in
-    by it.0 it.1 (no_datum code.datums f (not-true (has_datum code.datums f) parts.1)) (has function_number code.functions f)
+    let parts = function_parts code f h in
+    let it = get_within code.symbols f parts.known in
+    by it.0 it.1 (no_datum code.datums f parts.bare) (has function_number code.functions f)
   where
     by : (symbol : Symbol) → slice_get code.symbols f ≡ Some symbol → ((k : ℕ) (d : Datum) → slice_get code.datums k ≡ Some d → d.sym.0 ≡ f → ⊥) → Has function_number code.functions f → Stood code f
     by symbol there none (found k g here is) = own k g here is
